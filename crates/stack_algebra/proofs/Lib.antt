@@ -1,0 +1,17 @@
+pub mod Integers
+pub mod Order
+pub mod Ring
+pub mod IntegerRing
+pub mod Sums
+pub mod CrossProducts
+pub mod CommonDivisor
+pub mod Fractions
+pub mod Over
+pub mod FractionSigns
+pub mod Ordered
+pub mod OrderedFractions
+pub mod Signs
+pub mod Pivots
+pub mod Combinations
+pub mod FractionField
+pub mod Steps

@@ -1,0 +1,35 @@
+-- A commutative ring with signs and inverses: all that a table needs of its cells.
+use mathlib.Core.Path.{◌≡◌}
+use mathlib.Core.Logic.{◌≢◌}
+use lib.IntN.{pos}
+use Rattle.stack_algebra.proofs.Ring.{Ring}
+
+pub data Sign : Type 0 where
+  minus : Sign
+  nought : Sign
+  plus : Sign
+
+-- the sign of the negated number
+abbrev pub opposite : Sign → Sign
+opposite minus = plus
+opposite nought = nought
+opposite plus = minus
+
+-- the sign of a product
+abbrev pub both : Sign → Sign → Sign
+both minus t = opposite t
+both nought t = nought
+both plus t = t
+
+pub record Ordered : Type 1 where
+  pub ring : Ring
+  pub open ring use *
+  pub sign : ring.C → Sign
+  pub inv : ring.C → ring.C
+  pub zero_by_sign : (x : ring.C) → sign x ≡ nought → x ≡ ring.of (pos 0)
+  pub sign-zero : sign (ring.of (pos 0)) ≡ nought
+  pub sign-one : sign (ring.of (pos 1)) ≡ plus
+  pub sign-neg : (x : ring.C) → sign (ring.neg x) ≡ opposite (sign x)
+  pub sign-mul : (x y : ring.C) → sign (ring.mul x y) ≡ both (sign x) (sign y)
+  pub nonneg-add : (x y : ring.C) → sign x ≢ minus → sign y ≢ minus → sign (ring.add x y) ≢ minus
+  pub inv-mul : (x : ring.C) → sign x ≢ nought → ring.mul (inv x) x ≡ ring.of (pos 1)

@@ -1,0 +1,4 @@
+pub mod Sums
+pub mod Gcd
+pub mod Fraction
+pub mod Steps

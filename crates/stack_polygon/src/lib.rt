@@ -1,0 +1,6 @@
+//! Convex polygons with whole coordinates.
+#![tactic(auto)]
+
+mod point;
+
+pub use point::Point;
