@@ -1,0 +1,4 @@
+pub mod Work
+pub mod Mixtures
+pub mod CertificateLaws
+pub mod Outlines

@@ -31,10 +31,14 @@ pub record IsStill (y : Move) : Type 0 where
   pub v : y.v ≡ pos 0
   pub r : y.r ≡ pos 0
 
+-- a motion of the free bodies alone
+abbrev pub KeepsFixedStill : Scene → (ℕ → Move) → Type 0
+KeepsFixedStill s y = (i : ℕ) → i < s.bodies → (s.body i).free ≡ false → IsStill (y i)
+
 -- fixed bodies are still, and at each bearing q times the opening is at least p times the size of the slide:
 -- no admissible force does negative work on such a motion
 pub record IsUnresisted (s : Scene) (y : ℕ → Move) : Type 0 where
-  pub still : (i : ℕ) → i < s.bodies → (s.body i).free ≡ false → IsStill (y i)
+  pub still : KeepsFixedStill s y
   pub opens : (k : ℕ) → k < s.bearings → (s.bearing k).p *ℤ abs (slide_of s y (s.bearing k)) ≼ (s.bearing k).q *ℤ opening_of s y (s.bearing k)
 
 -- the work of a wrench on a move
