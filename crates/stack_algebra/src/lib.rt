@@ -2,10 +2,10 @@
 #![tactic(auto)]
 
 ghost use Rattle.std.specs.Prelude.{◌≡◌};
+ghost use Rattle.stack_algebra.specs.Fraction.{Fraction};
+ghost use Rattle.stack_algebra.proofs.Fractions.{add};
 
-/// Gives `x` back.
-pub fn echo(x: usize) -> usize
-    ensures { result ≡ x }
-{
-    x
-}
+/// Test.
+pub fn fractions()
+    ensures { (x : Fraction) → (y : Fraction) → add x y ≡ add y x }
+{}

@@ -4,3 +4,4 @@ pub mod Motions
 pub mod Loads
 pub mod Certificates
 pub mod Laws
+pub mod WorkedScenes

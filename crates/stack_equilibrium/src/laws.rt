@@ -1,6 +1,7 @@
 //! The laws of statics, each a clause of a function that does nothing.
 
 ghost use Rattle.stack_equilibrium.specs.Laws.{VirtualWorkIsZero, AnyCornerWeighsTheSame, StandsIsCarried, CollapseExcludesBalance, GreatestIsCarried, GreatestBoundsEveryFactor, UnboundedCarriesAbove, UnboundedCarriesAll};
+ghost use Rattle.stack_equilibrium.specs.WorkedScenes.{TrueOfWorkedScenes, FalseOfWorkedScenes};
 
 /// Balanced forces do no work on a motion of the free bodies. After Livesley (1978).
 pub fn virtual_work()
@@ -21,4 +22,10 @@ pub fn certificate_laws()
 /// A body's weight is the same whichever of its corners is the first.
 pub fn weight_law()
     ensures { AnyCornerWeighsTheSame }
+{}
+
+/// Small structures worked by hand: which certificates are true of them, and which conditions changed copies break.
+pub fn worked_scenes()
+    ensures holds { TrueOfWorkedScenes }
+    ensures fails { FalseOfWorkedScenes }
 {}

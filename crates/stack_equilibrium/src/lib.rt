@@ -3,4 +3,4 @@
 
 mod laws;
 
-pub use laws::{certificate_laws, virtual_work, weight_law};
+pub use laws::{certificate_laws, virtual_work, weight_law, worked_scenes};
