@@ -3,6 +3,8 @@ pub mod Kept
 pub mod ModelView
 pub mod Keys
 pub mod Parts
+pub mod Raw
+pub mod Gives
 pub mod Forms
 pub mod Shape
 pub mod Limits

@@ -3,7 +3,11 @@
 
 mod errors;
 mod faults;
+mod field;
+mod list;
 mod model;
+mod raw;
+mod shape;
 mod types;
 
 pub use errors::ReadError;
