@@ -1,6 +1,6 @@
 -- The content of what a file lists: the structure, or the first fault of content in one order. Materials come first, then
 -- blocks, then loads, each in the order of the file. Which corner lists are outlines is a parameter.
-use Rattle.std.specs.Prelude.{ℕ, ◌+◌, ℤ, pos, Bool, true, false, not, ◌&&◌, List, [], ◌∷◌, ◌++◌, length, get_or, Option, Some, None, Result, Ok, Err, nat_le, nat_lt, position, count_by, if◌then◌else◌, ⊤}
+use Rattle.std.specs.Prelude.{ℕ, ◌+◌, ℤ, pos, Bool, true, false, not, ◌&&◌, List, [], ◌∷◌, ◌++◌, length, map, take, drop, Option, Some, None, Result, Ok, Err, nat_le, nat_lt, position, count_by, if◌then◌else◌, ⊤}
 use Rattle.std.specs.Str.{bytes_eq}
 use Rattle.std.specs.List.{list_any}
 use Rattle.stack_algebra.specs.Steps.{◌>>=◌, steps}
@@ -30,23 +30,30 @@ unless holds fault = if holds then Ok tt else Err fault
 abbrev pub at_most : ℕ → ℕ → What → Result ⊤ Fault
 at_most limit count what = unless (nat_le count limit) (TooMany what)
 
+abbrev pub material_names : List NamedMaterial → List (List ℕ)
+material_names ms = map (λ m. m.name) ms
+
+abbrev pub body_names : List NamedBody → List (List ℕ)
+body_names bs = map (λ b. b.name) bs
+
 -- the number of the item with a name
-abbrev pub material_number : List ℕ → List NamedMaterial → Option ℕ
-material_number name ms = position (λ m. bytes_eq m.name name) ms
+abbrev pub number_of : List ℕ → List (List ℕ) → Option ℕ
+number_of name names = position (bytes_eq name) names
 
-abbrev pub body_number : List ℕ → List NamedBody → Option ℕ
-body_number name bs = position (λ b. bytes_eq b.name name) bs
-
-abbrev pub is_new_material : List ℕ → List NamedMaterial → Bool
-is_new_material name ms = not (list_any (λ m. bytes_eq m.name name) ms)
-
-abbrev pub is_new_body : List ℕ → List NamedBody → Bool
-is_new_body name bs = not (list_any (λ b. bytes_eq b.name name) bs)
+-- no item before has the name
+abbrev pub is_new : List ℕ → List (List ℕ) → Bool
+is_new name names = not (list_any (bytes_eq name) names)
 
 -- the number found, or this fault
 abbrev pub found : Option ℕ → Fault → Result ℕ Fault
 found None fault = Err fault
 found (Some n) fault = Ok n
+
+-- one more material, with a name of its own
+unfoldable pub with_material : Spot → NamedMaterial → List NamedMaterial → Result (List NamedMaterial) Fault
+with_material spot m ms = do
+  new ← unless (is_new m.name (material_names ms)) (SameName spot)
+  Ok (ms ++ m ∷ [])
 
 -- material i, after those before it
 unfoldable pub add_material : ℕ → List NamedMaterial → MaterialPart → Result (List NamedMaterial) Fault
@@ -54,8 +61,7 @@ add_material i ms m = do
   named ← unless (is_name m.name) (Range (spots.Material i) keys.Name)
   weighed ← unless (is_between (pos 0) (pos 1000000) m.weight) (Range (spots.Material i) keys.Weight)
   friction ← ranged (spots.Material i) keys.Friction (friction_of m.friction)
-  new ← unless (is_new_material m.name ms) (SameName (spots.Material i))
-  Ok (ms ++ record { name = m.name; weight = m.weight; p = friction.0; q = friction.1 } ∷ [])
+  with_material (spots.Material i) (record { name = m.name; weight = m.weight; p = friction.0; q = friction.1 }) ms
 
 -- the outline of block i, if its corner list has one
 abbrev pub Outlines : Type 0
@@ -71,11 +77,15 @@ unfoldable pub add_block : Outlines → List NamedMaterial → ℕ → List Name
 add_block outline_of ms i bs b = do
   named ← unless (is_name b.name) (Range (spots.Block i) keys.Name)
   corners ← ranged (spots.Block i) keys.Corners (corners_of b.corners)
-  new ← unless (is_new_body b.name bs) (SameName (spots.Block i))
-  material ← found (material_number b.material ms) (NoMaterial i)
+  new ← unless (is_new b.name (body_names bs)) (SameName (spots.Block i))
+  material ← found (number_of b.material (material_names ms)) (NoMaterial i)
   outline ← outline_of i corners
   room ← has_room b.fixed bs
   Ok (bs ++ record { name = b.name; material = material; fixed = b.fixed; corners = outline } ∷ [])
+
+-- the body with a number isn't fixed
+abbrev pub is_free : ℕ → List NamedBody → Bool
+is_free n bs = list_any (λ b. not b.fixed) (take 1 (drop n bs))
 
 -- load i, after those before it
 unfoldable pub add_load : List NamedBody → ℕ → List Load → LoadPart → Result (List Load) Fault
@@ -83,8 +93,8 @@ add_load bs i ls l = do
   live ← ranged (spots.Load i) keys.Kind (live_of l.kind)
   point ← ranged (spots.Load i) keys.At (point_of l.at)
   force ← ranged (spots.Load i) keys.Force (force_of l.force)
-  body ← found (body_number l.block bs) (NoBlock i)
-  free ← unless (list_any (λ b. bytes_eq b.name l.block && not b.fixed) bs) (LoadOnFixed i)
+  body ← found (number_of l.block (body_names bs)) (NoBlock i)
+  free ← unless (is_free body bs) (LoadOnFixed i)
   Ok (ls ++ record { body = body; live = live; at = point; fx = force.0; fy = force.1 } ∷ [])
 
 unfoldable pub content_of : Outlines → Parts → Result Structure Fault

@@ -4,8 +4,10 @@
 mod errors;
 mod faults;
 mod field;
+mod limits;
 mod list;
 mod model;
+mod names;
 mod raw;
 mod shape;
 mod types;
