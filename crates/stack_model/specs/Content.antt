@@ -72,13 +72,18 @@ abbrev pub has_room : Bool → List NamedBody → Result ⊤ Fault
 has_room true bs = unless (nat_lt (count_by (λ b. b.fixed) bs) 64) (TooMany whats.Fixed)
 has_room false bs = unless (nat_lt (count_by (λ b. not b.fixed) bs) 128) (TooMany whats.Free)
 
+-- what block i is without its outline: the number of its material, where its own name is new
+unfoldable pub numbered : ℕ → List NamedMaterial → List NamedBody → BlockPart → Result ℕ Fault
+numbered i ms bs b = do
+  new ← unless (is_new b.name (body_names bs)) (SameName (spots.Block i))
+  found (number_of b.material (material_names ms)) (NoMaterial i)
+
 -- block i, after those before it
 unfoldable pub add_block : Outlines → List NamedMaterial → ℕ → List NamedBody → BlockPart → Result (List NamedBody) Fault
 add_block outline_of ms i bs b = do
   named ← unless (is_name b.name) (Range (spots.Block i) keys.Name)
   corners ← ranged (spots.Block i) keys.Corners (corners_of b.corners)
-  new ← unless (is_new b.name (body_names bs)) (SameName (spots.Block i))
-  material ← found (number_of b.material (material_names ms)) (NoMaterial i)
+  material ← numbered i ms bs b
   outline ← outline_of i corners
   room ← has_room b.fixed bs
   Ok (bs ++ record { name = b.name; material = material; fixed = b.fixed; corners = outline } ∷ [])

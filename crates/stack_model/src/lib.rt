@@ -6,6 +6,7 @@ mod faults;
 mod field;
 mod limits;
 mod list;
+mod materials;
 mod model;
 mod names;
 mod raw;
