@@ -1,6 +1,7 @@
 //! Surveys of a structure's contacts, the text of certificates, and the check of a certificate against a survey.
 #![tactic(auto)]
 
+mod friction;
 mod rectangle;
 pub mod types;
 
