@@ -1,1 +1,4 @@
 pub mod DivisionSteps
+pub mod Spellings
+pub mod CutLines
+pub mod DigitsSpelled

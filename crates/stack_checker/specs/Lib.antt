@@ -1,4 +1,9 @@
 pub mod Surveyed
-pub mod Certificate
 pub mod RectangleContacts
 pub mod Friction
+pub mod Certificate
+pub mod Numbers
+pub mod Digits
+pub mod Lines
+pub mod CertificateText
+pub mod CertificateOf

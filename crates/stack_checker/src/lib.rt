@@ -2,10 +2,8 @@
 #![tactic(auto)]
 
 mod friction;
+mod line;
+mod number;
 mod rectangle;
+mod split;
 pub mod types;
-
-pub use types::{
-    Axis, Bearing, Certificate, Check, CheckAt, CheckPlace, Cone, Forces, Frame, Part, Reason,
-    Survey, SurveyError, TextError, Touch,
-};
