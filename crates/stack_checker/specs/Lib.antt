@@ -7,3 +7,5 @@ pub mod Digits
 pub mod Lines
 pub mod CertificateText
 pub mod CertificateOf
+pub mod CertificateRead
+pub mod Stages

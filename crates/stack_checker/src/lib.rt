@@ -2,8 +2,14 @@
 #![tactic(auto)]
 
 mod friction;
+mod laws;
 mod line;
 mod number;
+mod reading;
 mod rectangle;
 mod split;
+mod stage;
 pub mod types;
+
+pub use laws::{one_certificate, one_reading, one_text};
+pub use reading::read_certificate;
