@@ -81,6 +81,7 @@ pub fn fan(corners: &[Point]) -> Sums
     ensures area { result.area ≡ fan_of triangle_of corners.now }
     ensures about_y { result.about_y ≡ fan_of moment_about_y_of corners.now }
     ensures about_x { result.about_x ≡ fan_of moment_about_x_of corners.now }
+    ensures size { AreSums 32 result }
 {
     let mut sums = Sums {
         area: 0,

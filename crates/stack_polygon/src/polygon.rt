@@ -6,6 +6,7 @@ ghost use Rattle.stack_polygon.specs.Rectangles.{rectangle_of, StandsFor};
 ghost use Rattle.stack_polygon.specs.Corners.{corner_of, side_of};
 ghost use Rattle.stack_polygon.specs.Limits.{IsInRange, IsPolygon};
 ghost use Rattle.stack_polygon.specs.Area.{twice_area_of, six_moments_of};
+ghost use Rattle.stack_polygon.specs.Sizes.{IsWithin};
 
 use crate::fan::fan;
 use crate::point::Point;
@@ -83,14 +84,17 @@ impl Polygon {
 
     /// Twice the area, in squares of the grid's unit; positive. Takes no memory.
     pub fn twice_area(&self) -> i128
-        ensures { result ≡ twice_area_of self.now }
+        ensures value { result ≡ twice_area_of self.now }
+        ensures size { IsWithin 32 8000000000000 result }
     {
         fan(&self.corners).area
     }
 
     /// Six times the first moments, about the y axis and about the x axis. Takes no memory.
     pub fn six_moments(&self) -> (i128, i128)
-        ensures { result ≡ six_moments_of self.now }
+        ensures value { result ≡ six_moments_of self.now }
+        ensures about_y { IsWithin 32 24000000000000000000 result.0 }
+        ensures about_x { IsWithin 32 24000000000000000000 result.1 }
     {
         let sums = fan(&self.corners);
         (sums.about_y, sums.about_x)
