@@ -1,6 +1,8 @@
+pub mod FreeBlocks
 pub mod Surveyed
 pub mod RectangleContacts
 pub mod Friction
+pub mod SurveyOf
 pub mod Certificate
 pub mod Numbers
 pub mod Digits
