@@ -1,5 +1,5 @@
 -- Lines, taken apart.
-use Rattle.std.proofs.Common.{◌≡◌, ◌≢◌, ℕ, zero, suc, ◌+◌, ◌<◌, ◌≤◌, ◌%◌, ◌/◌, ◌^◌, ℤ, pos, negsuc, List, [], ◌∷◌, ◌++◌, Bool, true, false, not, ◌&&◌, ◌==◌, refl, sym, ap, ◌∙◌, arith, rules}
+use Rattle.std.proofs.Common.{◌≡◌, ◌≢◌, ℕ, suc, ◌+◌, ◌<◌, ◌%◌, ◌^◌, ℤ, pos, negsuc, List, [], ◌∷◌, ◌++◌, true, not, ◌==◌, refl, sym, ◌∙◌, arith}
 use Rattle.std.proofs.Common.{Option, Some, None, IfSome, IfNone, Bor}
 use Rattle.std.specs.Option.{MatchOption}
 use Rattle.std.specs.Fmt.{decimal, signed_decimal}
@@ -7,9 +7,8 @@ use Rattle.std.proofs.lemmas.Fmt.{decimal_by_steps_wide}
 use Rattle.std.proofs.lemmas.List.Folds.{list_all-append}
 use Rattle.std.proofs.lemmas.Bool.Decides.{nat_tests}
 use Rattle.std.proofs.lemmas.Bool.{and_parts}
-use Rattle.std.proofs.lemmas.Grind.{common_steps}
-use Rattle.stack_checker.specs.Numbers.{size, IsSmall, IsNumber}
-use Rattle.stack_checker.specs.Lines.{lacks, IsTwo, two_text}
+use Rattle.stack_checker.specs.Numbers.{IsSmall, IsNumber}
+use Rattle.stack_checker.specs.Lines.{lacks, IsTwo}
 
 lacks_digit : (c n : ℕ) → c < 45 → lacks c ((48 + n) ∷ []) ≡ true
 lacks_digit c n h = grind (arith, nat_tests)

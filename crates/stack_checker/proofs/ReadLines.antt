@@ -1,5 +1,5 @@
 -- The line that some bytes are: line_of finds it, and finds no other.
-use Rattle.std.proofs.Common.{◌≡◌, ℕ, zero, suc, ◌+◌, ◌<◌, ◌≤◌, ◌^◌, ℤ, pos, negsuc, List, [], ◌∷◌, ◌++◌, Bool, true, false, not, ◌&&◌, ◌==◌, cond, get_or, refl, sym, ap, ◌∙◌, append_assoc, arith, rules, Option, Some, None, codes}
+use Rattle.std.proofs.Common.{◌≡◌, ℕ, suc, ℤ, pos, negsuc, List, [], ◌∷◌, ◌++◌, Bool, true, false, not, ◌&&◌, ◌==◌, cond, get_or, refl, sym, ap, ◌∙◌, append_assoc, arith, Option, Some, None}
 use Rattle.std.specs.Prelude.{neg_ℤ}
 use Rattle.std.specs.Fmt.{decimal, signed_decimal}
 use Rattle.std.specs.Str.{bytes_eq}
@@ -11,8 +11,8 @@ use Rattle.std.proofs.lemmas.Bool.{and_parts}
 use Rattle.std.proofs.lemmas.Bool.Decides.{nat_tests}
 use Rattle.stack_checker.specs.declared.line.Line.{Line}
 use Rattle.stack_checker.specs.declared.line.Line.TheVariants.{Stands, Forces, Push, End}
-use Rattle.stack_checker.specs.Numbers.{size, IsSmall, is_small, value_of}
-use Rattle.stack_checker.specs.Lines.{lacks, pair_text, two_text, line_text, LineFits, line_fits, IsLine, before, behind, numbers_to, likely_line, line_of}
+use Rattle.stack_checker.specs.Numbers.{IsSmall, is_small, value_of}
+use Rattle.stack_checker.specs.Lines.{lacks, pair_text, line_text, LineFits, line_fits, IsLine, before, behind, numbers_to, likely_line, line_of}
 use Rattle.stack_checker.proofs.CutLines.{lacks_number}
 use Rattle.stack_checker.proofs.Spellings.{own}
 
@@ -50,12 +50,12 @@ numbers_spelled line a b x y =
     let rest : List ℕ = signed_decimal b ++ 10 ∷ [] in
     let e : pair_text a b ≡ signed_decimal a ++ 32 ∷ rest = append_assoc (signed_decimal a) (32 ∷ signed_decimal b) (10 ∷ []) in
     let first : value_of (before 32 (pair_text a b)) ≡ a =
-        ap (λ bs. value_of (before 32 bs)) e
-        ∙ (ap value_of (before_cut 32 (signed_decimal a) rest (lacks_number 32 a (omega arith) x)) ∙ value_spelled a x) in
+    ap (λ bs. value_of (before 32 bs)) e
+    ∙ (ap value_of (before_cut 32 (signed_decimal a) rest (lacks_number 32 a (omega arith) x)) ∙ value_spelled a x) in
     let second : value_of (before 10 (behind 32 (pair_text a b))) ≡ b =
-        ap (λ bs. value_of (before 10 (behind 32 bs))) e
-        ∙ (ap (λ bs. value_of (before 10 bs)) (behind_cut 32 (signed_decimal a) rest (lacks_number 32 a (omega arith) x))
-        ∙ (ap value_of (before_cut 10 (signed_decimal b) [] (lacks_number 10 b (omega arith) y)) ∙ value_spelled b y)) in
+    ap (λ bs. value_of (before 10 (behind 32 bs))) e
+    ∙ (ap (λ bs. value_of (before 10 bs)) (behind_cut 32 (signed_decimal a) rest (lacks_number 32 a (omega arith) x))
+    ∙ (ap value_of (before_cut 10 (signed_decimal b) [] (lacks_number 10 b (omega arith) y)) ∙ value_spelled b y)) in
     ap (λ z. line z (value_of (before 10 (behind 32 (pair_text a b))))) first ∙ ap (λ z. line a z) second
 
 likely : (line : Line) → LineFits line → likely_line (line_text line) ≡ line
@@ -97,7 +97,7 @@ unfolding line_of
 line_found line bytes is =
     let same : likely_line bytes ≡ line = ap likely_line is.1 ∙ likely line is.0 in
     let text : bytes_eq bytes (line_text (likely_line bytes)) ≡ true =
-        (bytes_eq-Decides bytes (line_text (likely_line bytes))).1 (is.1 ∙ ap line_text (sym same)) in
+    (bytes_eq-Decides bytes (line_text (likely_line bytes))).1 (is.1 ∙ ap line_text (sym same)) in
     let fits : line_fits (likely_line bytes) ≡ true = ap line_fits same ∙ fits_test line is.0 in
     kept (line_fits (likely_line bytes) && bytes_eq bytes (line_text (likely_line bytes))) (likely_line bytes) (rw (fits, text) refl)
     ∙ ap Some same

@@ -1,5 +1,5 @@
 -- A text that was read line by line: what is known at a stage, and why a line that may not come refuses the text.
-use Rattle.std.proofs.Common.{◌≡◌, ℕ, ◌==◌, ℤ, List, [], ◌∷◌, ◌++◌, length, map, Bool, true, false, refl, sym, ap, ◌∙◌, append_assoc, Option, Some, None, arith, rules}
+use Rattle.std.proofs.Common.{◌≡◌, ℕ, ◌==◌, ℤ, List, [], ◌∷◌, ◌++◌, length, map, true, false, refl, sym, ap, ◌∙◌, append_assoc, Option, Some, None, arith}
 use Rattle.std.specs.Option.{option_map, option_and_then}
 use Rattle.std.proofs.lemmas.List.{append-nil}
 use Rattle.std.proofs.lemmas.Bool.Decides.{nat_tests}
@@ -7,8 +7,8 @@ use Rattle.stack_checker.specs.declared.line.Line.{Line}
 use Rattle.stack_checker.specs.declared.line.Line.TheVariants.{Stands, Forces, Push, End}
 use Rattle.stack_checker.specs.declared.stage.Stage.{Stage}
 use Rattle.stack_checker.specs.declared.stage.Stage.TheVariants as stages
-use Rattle.stack_checker.specs.Lines.{IsLine, line_of}
-use Rattle.stack_checker.specs.Certificate.{CertificateValue, forces_view}
+use Rattle.stack_checker.specs.Lines.{IsLine}
+use Rattle.stack_checker.specs.Certificate.{CertificateValue}
 use Rattle.stack_checker.specs.CertificateText.{push_line, push_lines, lines_of}
 use Rattle.stack_checker.specs.CertificateOf.{cut, before_all, all_lines, parts_in, certificate_in, certificate_of}
 use Rattle.stack_checker.specs.Stages.{so_far, can_follow, is_open}

@@ -1,5 +1,5 @@
 -- Bytes cut into lines, lines joined into a text, and the certificate that the lines list.
-use Rattle.std.proofs.Common.{◌≡◌, ℕ, suc, ◌+◌, ◌<◌, ◌≤◌, ℤ, pos, negsuc, List, [], ◌∷◌, ◌++◌, length, take, map, Bool, true, false, cond, not, ◌==◌, refl, sym, ap, ◌∙◌, append_assoc, codes, Option, Some, None, arith, rules}
+use Rattle.std.proofs.Common.{◌≡◌, ℕ, ◌+◌, ◌<◌, ℤ, List, [], ◌∷◌, ◌++◌, length, take, map, Bool, true, false, cond, ◌==◌, refl, sym, ap, ◌∙◌, append_assoc, codes, Option, Some, None, arith}
 use Rattle.std.specs.List.{AllByRecursion}
 use Rattle.std.specs.Option.{option_map, option_and_then}
 use Rattle.std.specs.Fmt.{signed_decimal}
@@ -10,7 +10,7 @@ use Rattle.std.proofs.lemmas.Bool.Decides.{nat_tests}
 use Rattle.stack_checker.specs.declared.line.Line.{Line}
 use Rattle.stack_checker.specs.declared.line.Line.TheVariants.{Stands, Forces, Push, End}
 use Rattle.stack_checker.specs.Numbers.{IsSmall}
-use Rattle.stack_checker.specs.Lines.{lacks, pair_text, two_text, line_text, LineFits, IsLine, line_of}
+use Rattle.stack_checker.specs.Lines.{lacks, pair_text, two_text, line_text, LineFits, line_of}
 use Rattle.stack_checker.specs.Certificate.{CertificateValue}
 use Rattle.stack_checker.specs.CertificateText.{push_line, push_lines, lines_of, text_of, IsCertificateText}
 use Rattle.stack_checker.specs.CertificateOf.{onto_first, cut, before_all, all_lines, parts_in, certificate_in, certificate_of}
@@ -70,7 +70,7 @@ pair_body word a b free x y = (
   word ++ two_text a b,
   sym (append_assoc word (two_text a b) (10 ∷ [])),
   list_all-append _ word (two_text a b)
-    ∙ rw (free, list_all-append _ (signed_decimal a) (32 ∷ signed_decimal b), lacks_number 10 a (omega arith) x, lacks_number 10 b (omega arith) y) refl,
+      ∙ rw (free, list_all-append _ (signed_decimal a) (32 ∷ signed_decimal b), lacks_number 10 a (omega arith) x, lacks_number 10 b (omega arith) y) refl,
 )
 
 line_body : (l : Line) → LineFits l → (body : List ℕ) × (line_text l ≡ body ++ 10 ∷ []) × (lacks 10 body ≡ true)

@@ -12,7 +12,7 @@ use Rattle.stack_checker.specs.declared.types.Survey.{Survey}
 use Rattle.stack_checker.specs.declared.types.SurveyError.{SurveyError}
 use Rattle.stack_checker.specs.declared.types.SurveyError.TheVariants.{Overlap, Memory}
 use Rattle.stack_checker.specs.declared.rectangle.Meeting.{Meeting}
-use Rattle.stack_checker.specs.declared.rectangle.Meeting.TheVariants.{Apart, Overlapping, Joint, Corner}
+use Rattle.stack_checker.specs.declared.rectangle.Meeting.TheVariants.{Overlapping, Joint, Corner}
 use Rattle.stack_checker.specs.Surveyed.{Surveyed, survey_view}
 use Rattle.stack_checker.specs.RectangleContacts.{extent_of, meeting_of}
 use Rattle.stack_checker.specs.Friction.{lesser_of}

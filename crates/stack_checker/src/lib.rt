@@ -4,6 +4,7 @@
 ghost use Rattle.stack_model.specs.ModelView.{model_view};
 ghost use Rattle.stack_checker.specs.SurveyOf.{surveyed_of, Surveys};
 
+mod accessors;
 mod friction;
 mod laws;
 mod line;
@@ -15,14 +16,13 @@ mod split;
 mod stage;
 pub mod types;
 
+pub use laws::{one_certificate, one_reading, one_text, spelled_by_digits};
 use pair::{corner_touches, joint_bearings, joint_friction, meet_bodies};
+pub use reading::read_certificate;
 use rectangle::Meeting;
 use stack_model::Model;
 use std::alloc::Global;
 use types::{Survey, SurveyError};
-
-pub use laws::{one_certificate, one_reading, one_text};
-pub use reading::read_certificate;
 
 /// The contacts of the model's two bodies: where they have a segment in common, a bearing at each of its ends, by x and then
 /// by y, with the segment's tangent and the lesser of the two materials' coefficients of friction; where they have one point

@@ -1,4 +1,4 @@
-use Rattle.std.proofs.Common.{◌≡◌, sym, ap, ◌∙◌, of_z}
+use Rattle.std.proofs.Common.{sym, ap, ◌∙◌, of_z}
 use Rattle.std.specs.Int.{w128}
 use Rattle.stack_checker.proofs.Spellings.{is_text, is_parsed, not_parsed, not_least, differ, spelled_through}
 use Rattle.stack_checker.proofs.number.read_number.Goals as goal

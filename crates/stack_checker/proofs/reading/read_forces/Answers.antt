@@ -1,4 +1,4 @@
-use Rattle.std.proofs.Common.{◌≡◌, sym, ◌∙◌}
+use Rattle.std.proofs.Common.{sym, ◌∙◌}
 use Rattle.stack_checker.proofs.ReadSoFar.{read_on, refused_line, refused_bytes, no_rest, read_whole, read_open}
 use Rattle.stack_checker.proofs.reading.read_forces.Goals as goal
 

@@ -1,5 +1,4 @@
 use Rattle.std.proofs.lemmas.Slice.Eq.{strip_prefix_is}
-use Rattle.std.proofs.Common.{◌≡◌}
 use Rattle.std.proofs.lemmas.Bool.Decides.{Decides-eqb}
 use Rattle.stack_checker.proofs.CutLines.{after_some, after_none}
 use Rattle.stack_checker.proofs.split.after.Goals as goal
