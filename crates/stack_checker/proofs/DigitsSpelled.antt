@@ -18,7 +18,8 @@ le_value_after : (n : ℕ) (ds : List ℕ) → n ≤ digits_value_after 10 n ds
 le_value_after n [] = omega arith
 le_value_after n (c ∷ cs) = omega (arith, le_value_after (n * 10 + digit_value c) cs)
 
-decimal_after : (n : ℕ) (ds : List ℕ) → 0 < n → AllDigits 10 ds → digits_value_after 10 n ds < 10 ^ 64 → decimal (digits_value_after 10 n ds) ≡ decimal n ++ ds
+decimal_after : (n : ℕ) (ds : List ℕ) → 0 < n → AllDigits 10 ds → digits_value_after 10 n ds < 10 ^ 64
+    → decimal (digits_value_after 10 n ds) ≡ decimal n ++ ds
 decimal_after n [] some d small = sym (append-nil (decimal n))
 decimal_after n (c ∷ cs) some d small =
     let m : ℕ = n * 10 + digit_value c in
@@ -26,10 +27,12 @@ decimal_after n (c ∷ cs) some d small =
     let front : m / 10 ≡ n = omega (arith, d.0) in
     let end : 48 + m % 10 ≡ c = omega (arith, d.0) in
     decimal_after m cs (omega arith) d.1 small
-    ∙ ap (λ x. x ++ cs) (decimal_step_wide m (omega arith) (omega (arith, le_value_after m cs)) ∙ (λ i. decimal (front i) ++ (end i ∷ [])))
+    ∙ ap (λ x. x ++ cs)
+    (decimal_step_wide m (omega arith) (omega (arith, le_value_after m cs)) ∙ (λ i. decimal (front i) ++ (end i ∷ [])))
     ∙ append_assoc (decimal n) (c ∷ []) cs
 
-canonical : (ds : List ℕ) → AllDigits 10 ds → 0 < length ds → (get_or ds 0 0 ≡ 48 → length ds ≡ 1) → digits_value 10 ds < 10 ^ 64 → decimal (digits_value 10 ds) ≡ ds
+canonical : (ds : List ℕ) → AllDigits 10 ds → 0 < length ds → (get_or ds 0 0 ≡ 48 → length ds ≡ 1)
+    → digits_value 10 ds < 10 ^ 64 → decimal (digits_value 10 ds) ≡ ds
 canonical [] d some lead small = absurd (omega arith)
 canonical (c ∷ []) d some lead small =
     let k = digit_value_digit c (digit_from_value c d.0) in
@@ -42,8 +45,13 @@ canonical (c ∷ e ∷ cs) d some lead small =
     ∙ ap (λ x. x ++ (e ∷ cs)) (decimal_digit (0 * 10 + digit_value c) (omega (arith, d.0)) ∙ ap (λ x. x ∷ []) is)
 
 first_digit : (n : ℕ) → 0 < n → n < 10 ^ 64 → 48 < get_or (decimal n) 0 0
-first_digit n some small = (decimal_by_steps_wide (λ m ds. (0 < length ds) × (0 < m → 48 < get_or ds 0 0)) (λ m l. (omega arith, λ a. omega arith))
-    (λ m ds l h. (omega (arith, length-append ds ((48 + m % 10) ∷ [])), λ a. omega (arith, get_or-append ds ((48 + m % 10) ∷ []) 0 0 h.0, h.1 (omega arith)))) n small).1 some
+first_digit n some small =
+    let P : ℕ → List ℕ → Type 0 = λ m ds. (0 < length ds) × (0 < m → 48 < get_or ds 0 0) in
+    let more : (m : ℕ) (ds : List ℕ) → 10 ≤ m → P (m / 10) ds → P m (ds ++ ((48 + m % 10) ∷ [])) = λ m ds le h. (
+      omega (arith, length-append ds ((48 + m % 10) ∷ [])),
+      λ a. omega (arith, get_or-append ds ((48 + m % 10) ∷ []) 0 0 h.0, h.1 (omega arith)),
+    ) in
+    (decimal_by_steps_wide P (λ m lt. (omega arith, λ a. omega arith)) more n small).1 some
 
 alone : (n : ℕ) → n < 10 ^ 64 → get_or (decimal n) 0 0 ≡ 48 → length (decimal n) ≡ 1
 alone zero small e = ap length (decimal_digit 0 (omega arith))

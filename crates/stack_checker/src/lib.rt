@@ -48,3 +48,6 @@ pub fn survey(alloc: Global, model: Model) -> Result<Survey, SurveyError>
         touches,
     })
 }
+
+#[cfg(test)]
+mod tests;
