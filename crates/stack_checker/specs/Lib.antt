@@ -1,0 +1,13 @@
+pub mod FreeBlocks
+pub mod Surveyed
+pub mod RectangleContacts
+pub mod Friction
+pub mod SurveyOf
+pub mod Certificate
+pub mod Numbers
+pub mod Digits
+pub mod Lines
+pub mod CertificateText
+pub mod CertificateOf
+pub mod CertificateRead
+pub mod Stages
