@@ -5,10 +5,10 @@ use Rattle.std.specs.Prelude.{if◌then◌else◌}
 use Rattle.std.proofs.Math.Dec.{ltb}
 use Rattle.std.proofs.lemmas.Bool.{ltb-false, le-ltb}
 use Rattle.stack_model.specs.Structure.{Structure}
-use Rattle.stack_model.specs.Reading.{structure_of}
-use Rattle.stack_model.specs.declared.types.ReadError.{ReadError}
+use Rattle.stack_model.specs.Pairs.{structure_of}
+use Rattle.stack_model.specs.declared.errors.ReadError.{ReadError}
 use Rattle.stack_checker.specs.Surveyed.{Surveyed}
-use Rattle.stack_checker.specs.Answers.{surveyed_of}
+use Rattle.stack_checker.specs.SurveyOf.{surveyed_of}
 use Rattle.stack_checker.specs.declared.types.SurveyError.{SurveyError}
 use Rattle.stack_cli.specs.declared.refusal.Input.TheVariants as inputs
 use Rattle.stack_cli.specs.Refusals.{long}

@@ -3,12 +3,14 @@ use Rattle.std.proofs.Common.{◌≡◌, ℕ, List, true, false, Option, Some, N
 use Rattle.std.specs.Bool.{⊤}
 use Rattle.std.specs.Prelude.{nat_lt, if◌then◌else◌}
 use Rattle.stack_model.specs.Structure.{Structure}
-use Rattle.stack_model.specs.Reading.{structure_of}
-use Rattle.stack_model.specs.declared.types.ReadError.{ReadError}
-use Rattle.stack_model.specs.declared.types.ReadError.TheVariants as reads
+use Rattle.stack_model.specs.Pairs.{structure_of}
+use Rattle.stack_model.specs.declared.errors.ReadError.{ReadError}
+use Rattle.stack_model.specs.declared.errors.ReadError.TheVariants as reads
 use Rattle.stack_checker.specs.Surveyed.{Surveyed, survey_view}
 use Rattle.stack_checker.specs.Certificate.{CertificateValue}
-use Rattle.stack_checker.specs.Answers.{surveyed_of, certificate_of, written_check}
+use Rattle.stack_checker.specs.SurveyOf.{surveyed_of}
+use Rattle.stack_checker.specs.CertificateOf.{certificate_of}
+use Rattle.stack_checker.specs.WrittenCheck.{written_check}
 use Rattle.stack_checker.specs.declared.types.SurveyError.{SurveyError}
 use Rattle.stack_checker.specs.declared.types.SurveyError.TheVariants as surveys
 use Rattle.stack_checker.specs.declared.types.Survey.{Survey}

@@ -1,9 +1,9 @@
 -- Which files are models that the program takes: the law on them is proved with the function of this name.
 use Rattle.std.specs.Prelude.{◌≡◌, ℕ, ◌≤◌, List, length, Ok}
 use Rattle.stack_model.specs.Structure.{Structure}
-use Rattle.stack_model.specs.Reading.{structure_of}
+use Rattle.stack_model.specs.Pairs.{structure_of}
 use Rattle.stack_checker.specs.Surveyed.{Surveyed}
-use Rattle.stack_checker.specs.Answers.{surveyed_of}
+use Rattle.stack_checker.specs.SurveyOf.{surveyed_of}
 use Rattle.stack_cli.specs.Outcome.{greatest_file}
 
 -- A file with these bytes is an accepted model, whose survey is this: it isn't too long, it reads to a structure,

@@ -1,8 +1,8 @@
 -- What goes to standard output: the answer of a check, with the status that it has. A further form of words has
 -- further answers.
-use Rattle.std.specs.Prelude.{◌≡◌, ℕ, ◌+◌, List, [], ◌∷◌, ◌++◌, codes, decimal, get_or, length, nat_lt, if◌then◌else◌}
-use Rattle.stack_model.specs.Structure.{Structure, name_at}
-use Rattle.stack_checker.specs.Surveyed.{frees_of}
+use Rattle.std.specs.Prelude.{◌≡◌, ℕ, ◌+◌, List, [], ◌∷◌, ◌++◌, codes, decimal, slice_index, length, nat_lt, if◌then◌else◌}
+use Rattle.stack_model.specs.Structure.{Structure, body_of}
+use Rattle.stack_checker.specs.FreeBlocks.{frees_of}
 use Rattle.stack_checker.specs.declared.types.Part.{Part}
 use Rattle.stack_checker.specs.declared.types.Reason.{Reason}
 use Rattle.stack_checker.specs.declared.types.Reason.TheVariants.{Count, Scale, Factor, Push, Cone, Balance}
@@ -18,7 +18,7 @@ verdict_status Denied = 1
 -- The name of the free block with this number, counted from 0 among the free blocks; empty where there is none.
 abbrev pub block_name : Structure → ℕ → List ℕ
 block_name s block =
-    if nat_lt block (length (frees_of s.bodies)) then name_at s.bodies (get_or (frees_of s.bodies) block 0) else []
+    if nat_lt block (length (frees_of s.bodies)) then (body_of s (slice_index (frees_of s.bodies) block)).name else []
 
 -- Why a certificate is rejected. A bearing is told by its number from 1, a block by its name.
 abbrev pub reason_text : Structure → Reason → List ℕ

@@ -2,12 +2,14 @@
 -- The outcome is the first step that refuses, else the answer.
 use Rattle.std.specs.Prelude.{ℕ, List, [], ◌∷◌, length, Bool, true, false, Option, Some, None, Result, Ok, Err, nat_lt, if◌then◌else◌}
 use Rattle.stack_model.specs.Structure.{Structure}
-use Rattle.stack_model.specs.Reading.{structure_of}
-use Rattle.stack_model.specs.declared.types.ReadError.{ReadError}
-use Rattle.stack_model.specs.declared.types.ReadError.TheVariants as reads
+use Rattle.stack_model.specs.Pairs.{structure_of}
+use Rattle.stack_model.specs.declared.errors.ReadError.{ReadError}
+use Rattle.stack_model.specs.declared.errors.ReadError.TheVariants as reads
 use Rattle.stack_checker.specs.Surveyed.{Surveyed}
 use Rattle.stack_checker.specs.Certificate.{CertificateValue}
-use Rattle.stack_checker.specs.Answers.{surveyed_of, certificate_of, written_check}
+use Rattle.stack_checker.specs.SurveyOf.{surveyed_of}
+use Rattle.stack_checker.specs.CertificateOf.{certificate_of}
+use Rattle.stack_checker.specs.WrittenCheck.{written_check}
 use Rattle.stack_checker.specs.declared.types.SurveyError.{SurveyError}
 use Rattle.stack_checker.specs.declared.types.SurveyError.TheVariants as surveys
 use Rattle.stack_checker.specs.declared.types.Check.{Check}

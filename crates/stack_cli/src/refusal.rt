@@ -5,7 +5,7 @@ ghost use Rattle.stack_cli.specs.Refusals.{input_word, part_word, axis_word, pla
 ghost use Rattle.stack_cli.specs.Outcome.{from_read, from_survey};
 ghost use Rattle.stack_cli.specs.declared.refusal.Refusal.TheVariants.{CertificateRefused, Memory};
 
-use stack_checker::types::{Axis, Part, SurveyError, TextError};
+use stack_checker::types::{Axis, Part, SurveyError};
 use stack_model::ReadError;
 use std::alloc::AllocError;
 use std::fmt;
