@@ -1,12 +1,14 @@
 -- The files that the steps of the work ask for, put together: what each asked for is a front of what is wanted.
-use Rattle.std.proofs.Common.{◌≡◌, ℕ, zero, suc, List, [], ◌∷◌, ◌++◌, take, true, Option, Some, None, Result, Ok, Err, ap, ◌∙◌, append_assoc, arith}
+use Rattle.std.proofs.Common.{◌≡◌, Bool, false, ℕ, zero, suc, List, [], ◌∷◌, ◌++◌, take, true, Option, Some, None, Result, Ok, Err, ap, ◌∙◌, append_assoc, arith}
 use Rattle.stack_checker.specs.declared.types.Survey.{Survey}
 use Rattle.stack_cli.specs.declared.answer.Answer.{Answer}
 use Rattle.stack_cli.specs.declared.refusal.Input.TheVariants as inputs
 use Rattle.stack_cli.specs.declared.refusal.Refusal.{Refusal}
 use Rattle.stack_cli.specs.declared.refusal.Refusal.TheVariants.{File, Memory}
-use Rattle.stack_cli.specs.Outcome.{goes_on, surveyed, check_wanted}
-use Rattle.stack_cli.specs.Progress.{GrewBy, AsksFile, AsksFiles, FailsAt, Fails}
+use Rattle.std.specs.Prelude.{if◌then◌else◌}
+use Rattle.stack_cli.specs.Words.{Form, check, files_of}
+use Rattle.stack_cli.specs.Outcome.{goes_on, surveyed, check_wanted, wanted}
+use Rattle.stack_cli.specs.Progress.{GrewBy, AsksFront, AsksFile, AsksFiles, FailsAt, Fails}
 
 -- The names as they are told before and after.
 abbrev Names : Type 0
@@ -67,3 +69,15 @@ pub both : (result : Result Answer Refusal) (P : Type 0) (old mid new : Names) (
 unfolding check_wanted
 both result P old mid new model certificate holds on before asked fails =
     rw on (second result P old mid new model certificate before asked fails)
+
+-- The files that are wanted are a front of those that the words name.
+named_of : (on : Bool) (old new : Names) (model certificate : List ℕ)
+    → AsksFront old new (model ∷ (if on then certificate ∷ [] else [])) → AsksFront old new (model ∷ certificate ∷ [])
+named_of true old new model certificate h = h
+named_of false old new model certificate h = front_of_one h.0 old new model (certificate ∷ []) h.1
+
+pub named : (form : Option Form) (holds : List ℕ → Option (List ℕ)) (old new : Names)
+    → AsksFront old new (wanted form holds) → AsksFront old new (files_of form)
+unfolding check_wanted
+named None holds old new h = h
+named (Some (check model certificate)) holds old new h = named_of (goes_on (surveyed (holds model))) old new model certificate h

@@ -4,7 +4,7 @@ ghost use Rattle.std.specs.Prelude.{◌≡◌, ◌<◌, ◌≤◌, ◌⊎◌, []
 ghost use Rattle.std.specs.Io.KnownBytes.{Appends};
 ghost use Rattle.stack_outside.specs.Faults.{Rose};
 ghost use Rattle.stack_cli.specs.Refusals.{line_of, refusal_view};
-ghost use Rattle.stack_cli.specs.Words.{form_of, texts};
+ghost use Rattle.stack_cli.specs.Words.{form_of, files_of, texts};
 ghost use Rattle.stack_cli.specs.Outcome.{outcome, wanted};
 ghost use Rattle.stack_cli.specs.Progress.{AsksFront};
 ghost use Rattle.stack_cli.specs.MainTheorem.{Answered, Refused, IsDecided};
@@ -85,6 +85,8 @@ pub fn run<F: Shelf, O: Sink, E: Sink>(
         (Rose (E.faults err.old) (E.faults err.new)) }
     // A front of the files that the order of work wants was asked for.
     ensures asked { AsksFront (F.asked shelf.old) (F.asked shelf.new) (wanted (form_of (texts words.now)) (F.holds shelf.old)) }
+    // So was a front of the files that the words name.
+    ensures named { AsksFront (F.asked shelf.old) (F.asked shelf.new) (files_of (form_of (texts words.now))) }
     // Where neither the shelf nor the output failed, the outcome decides.
     ensures decided { ¬ Rose (F.faults shelf.old) (F.faults shelf.new) → ¬ Rose (O.faults out.old) (O.faults out.new) →
         (result ≡ 11) ⊎ IsDecided result (outcome (form_of (texts words.now)) (F.holds shelf.old))

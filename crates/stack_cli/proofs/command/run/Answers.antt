@@ -1,5 +1,9 @@
 use Rattle.stack_cli.proofs.Consequences as consequence
+use Rattle.stack_cli.proofs.FilesAsked as files
 use Rattle.stack_cli.proofs.command.run.Goals as goal
+
+pub returns-clause-named : goal.returns-clause-named
+returns-clause-named g c = files.named _ _ _ _ c.perform.ensures.asked
 
 pub returns-clause-decided : goal.returns-clause-decided
 returns-clause-decided g c = consequence.decided _ _ _ _ _ _ _ _ _ _ _ c.perform.result c.perform.ensures.answered c.perform.ensures.refused
