@@ -26,12 +26,12 @@ fn shelf(
     Ok(MemoryShelf::new(files, fails))
 }
 
-fn texts(alloc: Global, words: &[&str]) -> Result<Vec<String>, Fail> {
-    let mut texts = Vec::new(alloc);
+fn strings(alloc: Global, words: &[&str]) -> Result<Vec<String>, Fail> {
+    let mut strings = Vec::new(alloc);
     for word in words {
-        texts.push(String::from_str(alloc, word)?)?;
+        strings.push(String::from_str(alloc, word)?)?;
     }
-    Ok(texts)
+    Ok(strings)
 }
 
 /// Runs the program with these words over the shelf, and compares what it answers.
@@ -42,7 +42,7 @@ fn compare(
     words: &[&str],
     said: Said,
 ) -> Result<(), Fail> {
-    let words = texts(alloc, words)?;
+    let words = strings(alloc, words)?;
     let mut out = MemorySink::new(Vec::new(alloc), 100)?;
     let mut err = MemorySink::new(Vec::new(alloc), 100)?;
     let status = run(alloc, words.as_slice(), shelf, &mut out, &mut err);
@@ -221,7 +221,7 @@ fn devices_that_fail_are_told_apart(rt: HostRuntime) -> Result<(), Fail> {
     compare(&rt, alloc, &mut first, &CHECK, NO_MODEL)?;
     let mut second = shelf(alloc, STANDING_POST, UPRIGHT_FORCES, vec![in alloc; 2]?)?;
     compare(&rt, alloc, &mut second, &CHECK, NO_CERTIFICATE)?;
-    let words = texts(alloc, &CHECK)?;
+    let words = strings(alloc, &CHECK)?;
     let mut files = shelf(alloc, STANDING_POST, UPRIGHT_FORCES, Vec::new(alloc))?;
     let mut out = MemorySink::new(vec![in alloc; (1, 3)]?, 100)?;
     let mut err = MemorySink::new(Vec::new(alloc), 100)?;
