@@ -1,0 +1,4 @@
+pub mod Surveyed
+pub mod Certificate
+pub mod RectangleContacts
+pub mod Friction
