@@ -1,1 +1,4 @@
 pub mod DivisionSteps
+pub mod InOrder
+pub mod PlainSums
+pub mod Tests

@@ -1,4 +1,10 @@
 pub mod Surveyed
 pub mod Certificate
-pub mod RectangleContacts
 pub mod Friction
+pub mod FreeBlocks
+pub mod SurveyScene
+pub mod Truth
+pub mod Whole
+pub mod WrittenSums
+pub mod WrittenCheck
+pub mod Verdict
