@@ -1,11 +1,8 @@
 //! Whole numbers, sums, fractions in lowest terms, ordered fields and rows of a table: the laws under every other crate.
 #![tactic(auto)]
 
-ghost use Rattle.std.specs.Prelude.{◌≡◌};
-ghost use Rattle.stack_algebra.specs.Fraction.{Fraction};
-ghost use Rattle.stack_algebra.proofs.Fractions.{add};
+mod laws;
 
-/// Test.
-pub fn fractions()
-    ensures { (x : Fraction) → (y : Fraction) → add x y ≡ add y x }
-{}
+pub use laws::{
+    divisor_law, fraction_laws, polynomial_law, sum_laws, tableau_laws, whole_number_laws,
+};

@@ -19,7 +19,8 @@ stands_is_carried s f h = record {
   parts = part_of f;
   positive = h.scale_positive;
   admissible = h.forces.admissible;
-  balanced = subst₂ (IsBalanced s (part_of f)) (simp expand (omega (arith, sums))) (zero_is f.factor f.scale h.factor_zero) h.forces.balanced;
+  balanced = subst₂ (IsBalanced s (part_of f)) (simp expand (omega (arith, sums)))
+      (zero_is f.factor f.scale h.factor_zero) h.forces.balanced;
 }
   where
     zero_is : (factor scale : ℤ) → factor ≡ pos 0 → factor ≡ scale *ℤ pos 0
@@ -45,7 +46,8 @@ greatest_is_carried s f moves g = record {
   parts = part_of f;
   positive = omega (arith, sums);
   admissible = g.loaded.forces.admissible;
-  balanced = subst₂ (IsBalanced s (part_of f)) (sym (one_times f.scale)) (sym (one_times f.factor)) g.loaded.forces.balanced;
+  balanced = subst₂ (IsBalanced s (part_of f)) (sym (one_times f.scale)) (sym (one_times f.factor))
+      g.loaded.forces.balanced;
 }
 
 -- L * P + D * Q is 0 and k * D' * Q + k * L' * P isn't positive, so L' * D is at most L * D'
@@ -53,14 +55,16 @@ no_more : (L D L' D' k P Q : ℤ) → pos 0 ≺ D → pos 0 ≺ P → pos 0 ≺ 
     k *ℤ D' *ℤ Q +ℤ k *ℤ L' *ℤ P ≼ pos 0 → L *ℤ D' ≺ L' *ℤ D → ⊥
 no_more L D L' D' k P Q hd hp hk e h m =
     let a = mul_pos (k *ℤ P) (L' *ℤ D -ℤ L *ℤ D') (mul_pos k P hk hp) (omega (arith, sums)) in
-    let b = mul_nonneg D (pos 0 -ℤ (k *ℤ D' *ℤ Q +ℤ k *ℤ L' *ℤ P)) (omega (arith, sums)) (omega (arith, sums)) in
+    let b = mul_nonneg D (pos 0 -ℤ (k *ℤ D' *ℤ Q +ℤ k *ℤ L' *ℤ P)) (omega (arith, sums)) (omega (arith, sums))
+    in
     let c = ap (λ t. k *ℤ D' *ℤ t) e in
     omega (arith, sums, simp expand at a, simp expand at b, simp expand at c)
 
 pub greatest_bounds_every_factor : GreatestBoundsEveryFactor
 greatest_bounds_every_factor s f moves proper g L D m c =
     let y = move_of s moves in
-    no_more f.factor f.scale L D c.k (live_power_of s y) (dead_power_of s y) g.loaded.scale_positive g.gains c.positive g.meets
+    no_more f.factor f.scale L D c.k (live_power_of s y) (dead_power_of s y)
+    g.loaded.scale_positive g.gains c.positive g.meets
     (loads_lose s y c.parts (c.k *ℤ D) (c.k *ℤ L) proper c.admissible c.balanced g.motion.unresisted) m
 
 -- rise * D' times the base and D * L' - D' * L times the ray carry L' over D'
@@ -72,7 +76,8 @@ raised s f g D L rise L' D' proper hd hr hd' h af bf ag bg = record {
   parts = mixed m n f g;
   positive = mul_pos D rise hd hr;
   admissible = admissible_mixed s f g m n (λ k l. omega (arith, sums, (proper k l).denominator_positive))
-      (omega (arith, sums, mul_pos rise D' hr hd')) (simp expand (omega (arith, sums, simp expand at h))) af ag;
+      (omega (arith, sums, mul_pos rise D' hr hd')) (simp expand (omega (arith, sums, simp expand at h)))
+      af ag;
   balanced = subst₂ (IsBalanced s (mixed m n f g)) (scale D rise L' D' L) (factor D rise L' D' L)
       (balanced_mixed s f g m n D L (pos 0) rise bf bg);
 }
@@ -90,7 +95,8 @@ raised s f g D L rise L' D' proper hd hr hd' h af bf ag bg = record {
     factor D rise L' D' L = simp expand (omega (arith, sums))
 
 -- a ray of scale 0 balances its live loads alone
-ray_balanced : (s : Scene) (g : Forces) → g.scale ≡ pos 0 → IsBalanced s (part_of g) g.scale g.factor → IsBalanced s (part_of g) (pos 0) g.factor
+ray_balanced : (s : Scene) (g : Forces) → g.scale ≡ pos 0 → IsBalanced s (part_of g) g.scale g.factor →
+    IsBalanced s (part_of g) (pos 0) g.factor
 ray_balanced s g e b = subst₂ (IsBalanced s (part_of g)) e (λ i. g.factor) b
 
 pub unbounded_carries_above : UnboundedCarriesAbove

@@ -1,12 +1,12 @@
 -- The worked scenes, by computation.
-use Rattle.std.proofs.Common.{◌≡◌, refl, ap, ℕ, zero, suc, ◌<◌, ◌+◌, arith, List, [], ◌∷◌, Bool, true, false}
+use Rattle.std.proofs.Common.{◌≡◌, refl, ℕ, zero, suc, ◌<◌, arith, true}
 use lib.IntN.{ℤ, pos, ◌*ℤ◌}
 use Rattle.std.proofs.lemmas.Int.{ints}
 use Rattle.stack_algebra.proofs.Order.{◌≼◌, abs}
-use Rattle.stack_equilibrium.specs.Scene.{Scene, Bearing, Part, Move}
+use Rattle.stack_equilibrium.specs.Scene.{Scene, Bearing, Part}
 use Rattle.stack_equilibrium.specs.Balance.{sum_x_of, sum_y_of, sum_m_of, IsBalancedAt, IsWithinCone}
 use Rattle.stack_equilibrium.specs.Motions.{IsStill}
-use Rattle.stack_equilibrium.specs.Certificates.{still, move_of}
+use Rattle.stack_equilibrium.specs.Certificates.{still}
 use Rattle.stack_equilibrium.specs.WorkedScenes.{TrueOfWorkedScenes, FalseOfWorkedScenes}
 
 -- a fact at each index below 2, 3, 4
@@ -33,7 +33,8 @@ part_holds : {z : Bearing} {f : Part} → pos 0 ≼ f.a → z.q *ℤ abs f.b ≼
 part_holds h k = record { pushes = h; holds = k }
 
 in_balance : {s : Scene} {f : ℕ → Part} {scale factor : ℤ} {i : ℕ} →
-    sum_x_of s f scale factor i ≡ pos 0 → sum_y_of s f scale factor i ≡ pos 0 → sum_m_of s f scale factor i ≡ pos 0 →
+    sum_x_of s f scale factor i ≡ pos 0 → sum_y_of s f scale factor i ≡ pos 0 → sum_m_of s f scale factor i
+    ≡ pos 0 →
     (s.body i).free ≡ true → IsBalancedAt s f scale factor i
 in_balance x y m e = record { along_x = x; along_y = y; about = m }
 
@@ -47,7 +48,8 @@ true_of_worked_scenes = record {
     factor_zero = refl;
     forces = record {
       count = refl;
-      admissible = below_two _ (part_holds (omega (arith, ints)) (omega (arith, ints))) (part_holds (omega (arith, ints)) (omega (arith, ints)));
+      admissible = below_two _ (part_holds (omega (arith, ints)) (omega (arith, ints)))
+          (part_holds (omega (arith, ints)) (omega (arith, ints)));
       balanced = below_two _ (λ e. absurd cc) (in_balance refl refl refl);
     };
   };
@@ -57,7 +59,8 @@ true_of_worked_scenes = record {
       factor_nonneg = omega (arith, ints);
       forces = record {
         count = refl;
-        admissible = below_two _ (part_holds (omega (arith, ints)) (omega (arith, ints))) (part_holds (omega (arith, ints)) (omega (arith, ints)));
+        admissible = below_two _ (part_holds (omega (arith, ints)) (omega (arith, ints)))
+            (part_holds (omega (arith, ints)) (omega (arith, ints)));
         balanced = below_two _ (λ e. absurd cc) (in_balance refl refl refl);
       };
     };
@@ -77,7 +80,8 @@ true_of_worked_scenes = record {
       factor_nonneg = omega (arith, ints);
       forces = record {
         count = refl;
-        admissible = below_two _ (part_holds (omega (arith, ints)) (omega (arith, ints))) (part_holds (omega (arith, ints)) (omega (arith, ints)));
+        admissible = below_two _ (part_holds (omega (arith, ints)) (omega (arith, ints)))
+            (part_holds (omega (arith, ints)) (omega (arith, ints)));
         balanced = below_two _ (λ e. absurd cc) (in_balance refl refl refl);
       };
     };
@@ -96,7 +100,8 @@ true_of_worked_scenes = record {
     factor_zero = refl;
     forces = record {
       count = refl;
-      admissible = below_two _ (part_holds (omega (arith, ints)) (omega (arith, ints))) (part_holds (omega (arith, ints)) (omega (arith, ints)));
+      admissible = below_two _ (part_holds (omega (arith, ints)) (omega (arith, ints)))
+          (part_holds (omega (arith, ints)) (omega (arith, ints)));
       balanced = below_two _ (λ e. absurd cc) (in_balance refl refl refl);
     };
   };
@@ -116,8 +121,10 @@ true_of_worked_scenes = record {
       factor_nonneg = omega (arith, ints);
       forces = record {
         count = refl;
-        admissible = below_four _ (part_holds (omega (arith, ints)) (omega (arith, ints))) (part_holds (omega (arith, ints)) (omega (arith, ints)))
-            (part_holds (omega (arith, ints)) (omega (arith, ints))) (part_holds (omega (arith, ints)) (omega (arith, ints)));
+        admissible = below_four _ (part_holds (omega (arith, ints)) (omega (arith, ints)))
+            (part_holds (omega (arith, ints)) (omega (arith, ints)))
+            (part_holds (omega (arith, ints)) (omega (arith, ints)))
+            (part_holds (omega (arith, ints)) (omega (arith, ints)));
         balanced = below_three _ (λ e. absurd cc) (λ e. absurd cc) (in_balance refl refl refl);
       };
     };
@@ -125,7 +132,8 @@ true_of_worked_scenes = record {
       count = refl;
       unresisted = record {
         still = below_three _ (at_rest) (at_rest) (λ e. absurd cc);
-        opens = below_four _ (omega (arith, ints)) (omega (arith, ints)) (omega (arith, ints)) (omega (arith, ints));
+        opens = below_four _ (omega (arith, ints)) (omega (arith, ints)) (omega (arith, ints))
+            (omega (arith, ints));
       };
     };
     gains = omega (arith, ints);

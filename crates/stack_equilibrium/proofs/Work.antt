@@ -1,4 +1,5 @@
--- The law of virtual work, and what follows: loads gain no power from a motion that no admissible force resists.
+-- The law of virtual work, and what follows: loads gain no power from a motion that no admissible force
+-- resists.
 use mathlib.Core.Path.{◌≡◌, refl, sym, ap, ◌∙◌}
 use mathlib.Core.Bool.{Bool, true, false, cond}
 use Prim.Native.Nat.{ℕ, zero, suc, ◌<◌}
@@ -20,7 +21,8 @@ use Rattle.stack_equilibrium.specs.Laws.{VirtualWorkIsZero}
 gathered : (n : ℕ) (u v r : ℤ) (f g h : ℕ → ℤ) →
     u *ℤ sum_to n f +ℤ v *ℤ sum_to n g +ℤ r *ℤ sum_to n h ≡ sum_to n (λ k. u *ℤ f k +ℤ v *ℤ g k +ℤ r *ℤ h k)
 gathered n u v r f g h =
-    (λ i. sym (sum_scale integers n u f) i +ℤ sym (sum_scale integers n v g) i +ℤ sym (sum_scale integers n r h) i)
+    (λ i. sym (sum_scale integers n u f) i +ℤ sym (sum_scale integers n v g) i +ℤ sym
+    (sum_scale integers n r h) i)
     ∙ (λ i. sym (sum_add integers n (λ k. u *ℤ f k) (λ k. v *ℤ g k)) i +ℤ sum_to n (λ k. r *ℤ h k))
     ∙ sym (sum_add integers n (λ k. u *ℤ f k +ℤ v *ℤ g k) (λ k. r *ℤ h k))
 
@@ -34,7 +36,8 @@ turned s fx fy lx ly u v r = simp expand (omega (arith, sums))
 apart : (u v r scale factor X Y M dx dy dm lx ly lm : ℤ) →
     u *ℤ (X +ℤ scale *ℤ dx +ℤ factor *ℤ lx) +ℤ v *ℤ (Y +ℤ scale *ℤ dy +ℤ factor *ℤ ly)
     +ℤ r *ℤ (M +ℤ scale *ℤ dm +ℤ factor *ℤ lm)
-    ≡ (u *ℤ X +ℤ v *ℤ Y +ℤ r *ℤ M) +ℤ scale *ℤ (u *ℤ dx +ℤ v *ℤ dy +ℤ r *ℤ dm) +ℤ factor *ℤ (u *ℤ lx +ℤ v *ℤ ly +ℤ r *ℤ lm)
+    ≡ (u *ℤ X +ℤ v *ℤ Y +ℤ r *ℤ M) +ℤ scale *ℤ (u *ℤ dx +ℤ v *ℤ dy +ℤ r *ℤ dm) +ℤ factor *ℤ
+    (u *ℤ lx +ℤ v *ℤ ly +ℤ r *ℤ lm)
 apart u v r scale factor X Y M dx dy dm lx ly lm = simp expand (omega (arith, sums))
 
 -- the work of a part on both bodies of its bearing is that of a on the opening and of b on the slide
@@ -58,7 +61,8 @@ side-as_units i x z l = go (eqb i z.second) (eqb i z.first) (eqb→eq i z.second
 
 sum-nonneg : (n : ℕ) (g : ℕ → ℤ) → ((k : ℕ) → k < n → pos 0 ≼ g k) → pos 0 ≼ sum_to n g
 sum-nonneg zero g h = omega (arith, sums)
-sum-nonneg (suc n) g h = both (sum_to n g) (g n) (sum-nonneg n g (λ k l. h k (omega arith))) (h n (omega arith))
+sum-nonneg (suc n) g h = both (sum_to n g) (g n) (sum-nonneg n g (λ k l. h k (omega arith)))
+    (h n (omega arith))
   where
     both : (a b : ℤ) → pos 0 ≼ a → pos 0 ≼ b → pos 0 ≼ a +ℤ b
     both a b h k = omega (arith, sums)
@@ -85,12 +89,14 @@ module _ (s : Scene) (y : ℕ → Move) (f : ℕ → Part) where
       +ℤ scale *ℤ power_of (s.body i).dead (y i) +ℤ factor *ℤ power_of (s.body i).live (y i)
   unfolding work_on work
   work_on-is scale factor i =
-      apart m.u m.v m.r scale factor (sum_to s.bearings along) (sum_to s.bearings across) (sum_to s.bearings about)
+      apart m.u m.v m.r scale factor (sum_to s.bearings along) (sum_to s.bearings across)
+      (sum_to s.bearings about)
       b.dead.fx b.dead.fy b.dead.m b.live.fx b.live.fy b.live.m
       ∙ ap (λ z. z +ℤ scale *ℤ power_of b.dead m +ℤ factor *ℤ power_of b.live m)
       (gathered s.bearings m.u m.v m.r along across about
       ∙ (λ j. sum_to s.bearings (λ k. let z = s.bearing k in
-      turned (side_of i z) (force_x_of z (f k)) (force_y_of z (f k)) (z.px -ℤ b.ox) (z.py -ℤ b.oy) m.u m.v m.r j)))
+      turned (side_of i z) (force_x_of z (f k)) (force_y_of z (f k)) (z.px -ℤ b.ox) (z.py -ℤ b.oy)
+      m.u m.v m.r j)))
     where
       m : Move
       m = y i
@@ -126,11 +132,13 @@ module _ (s : Scene) (y : ℕ → Move) (f : ℕ → Part) where
       go true e =
           let b = balanced i l e in
           (λ j. (y i).u *ℤ b.along_x j +ℤ (y i).v *ℤ b.along_y j +ℤ (y i).r *ℤ b.about j)
-          ∙ ring3 integers (λ u v r. (u ⊗ num (pos 0) ⊕ v ⊗ num (pos 0) ⊕ r ⊗ num (pos 0), num (pos 0))) refl (y i).u (y i).v (y i).r
+          ∙ ring3 integers (λ u v r. (u ⊗ num (pos 0) ⊕ v ⊗ num (pos 0) ⊕ r ⊗ num (pos 0), num (pos 0))) refl
+          (y i).u (y i).v (y i).r
       go false e =
           let k = still i l e in
           (λ j. k.u j *ℤ X +ℤ k.v j *ℤ Y +ℤ k.r j *ℤ M)
-          ∙ ring3 integers (λ u v r. (num (pos 0) ⊗ u ⊕ num (pos 0) ⊗ v ⊕ num (pos 0) ⊗ r, num (pos 0))) refl X Y M
+          ∙ ring3 integers (λ u v r. (num (pos 0) ⊗ u ⊕ num (pos 0) ⊗ v ⊕ num (pos 0) ⊗ r, num (pos 0)))
+          refl X Y M
 
   at-work : (k j i : ℕ) → at integers j (work k i) i ≡ at integers j (work k j) i
   at-work k j i = go (eqb i j) (eqb→eq i j)
@@ -154,7 +162,8 @@ module _ (s : Scene) (y : ℕ → Move) (f : ℕ → Part) where
       ∙ sum_add integers n later (λ i. neg_ℤ (earlier i))
       ∙ ap (λ r. sum_to n later +ℤ r) (sum_neg integers n earlier)
       ∙ (λ j. sum_at integers n z.second (work k z.second) t.second_exists j
-      +ℤ neg_ℤ (sum_at integers n z.first (work k z.first) (omega (arith, t.second_exists, t.first_before_second)) j))
+      +ℤ neg_ℤ (sum_at integers n z.first (work k z.first)
+      (omega (arith, t.second_exists, t.first_before_second)) j))
       ∙ split (f k).a (f k).b z.tx z.ty (velocity_x_of s y z z.second) (velocity_y_of s y z z.second)
       (velocity_x_of s y z z.first) (velocity_y_of s y z z.first)
 
@@ -175,16 +184,19 @@ module _ (s : Scene) (y : ℕ → Move) (f : ℕ → Part) where
       total : sum_to s.bodies (work_on scale factor)
           ≡ sum_to s.bearings power_at +ℤ scale *ℤ sum_to s.bodies dead +ℤ factor *ℤ sum_to s.bodies live
       total = (λ j. sum_to s.bodies (λ i. work_on-is scale factor i j))
-          ∙ sum_add integers s.bodies (λ i. sum_to s.bearings (touch i) +ℤ scale *ℤ dead i) (λ i. factor *ℤ live i)
+          ∙ sum_add integers s.bodies (λ i. sum_to s.bearings (touch i) +ℤ scale *ℤ dead i)
+          (λ i. factor *ℤ live i)
           ∙ (λ j. sum_add integers s.bodies (λ i. sum_to s.bearings (touch i)) (λ i. scale *ℤ dead i) j
           +ℤ sum_scale integers s.bodies factor live j)
           ∙ (λ j. sum_swap integers s.bodies s.bearings touch j +ℤ sum_scale integers s.bodies scale dead j
           +ℤ factor *ℤ sum_to s.bodies live)
           ∙ ap (λ r. r +ℤ scale *ℤ sum_to s.bodies dead +ℤ factor *ℤ sum_to s.bodies live)
-          (sum_same integers s.bearings (λ k. sum_to s.bodies (λ i. touch i k)) power_at (λ k l. works k (proper k l)))
+          (sum_same integers s.bearings (λ k. sum_to s.bodies (λ i. touch i k)) power_at
+          (λ k l. works k (proper k l)))
 
   -- loads gain no power from a motion that no admissible force resists
-  pub loads_lose : (scale factor : ℤ) → IsProper s → IsAdmissible s f → IsBalanced s f scale factor → IsUnresisted s y →
+  pub loads_lose : (scale factor : ℤ) → IsProper s → IsAdmissible s f → IsBalanced s f scale factor →
+      IsUnresisted s y →
       scale *ℤ dead_power_of s y +ℤ factor *ℤ live_power_of s y ≼ pos 0
   loads_lose scale factor proper admissible balanced un =
       rest (sum_to s.bearings power_at) (scale *ℤ dead_power_of s y) (factor *ℤ live_power_of s y)

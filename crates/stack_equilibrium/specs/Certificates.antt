@@ -1,18 +1,21 @@
 -- Certificates as they are held and printed, on lists, and when each is true of a scene.
--- A list of forces has as many parts as the scene has bearings, in their order; a motion has as many moves as it has free
--- bodies, in their order, and its fixed bodies are still. After Livesley (1978): the static and the kinematic theorem.
+-- A list of forces has as many parts as the scene has bearings, in their order; a motion has as many moves as
+-- it has free
+-- bodies, in their order, and its fixed bodies are still. After Livesley (1978): the static and the kinematic
+-- theorem.
 use mathlib.Core.Path.{◌≡◌}
 use mathlib.Core.Bool.{cond}
 use mathlib.Core.List.{List}
 use Prim.Native.Nat.{ℕ, zero, suc, ◌+◌}
 use lib.ListN.{length, get_or}
 use lib.IntN.{ℤ, pos, ◌+ℤ◌, ◌*ℤ◌}
-use Rattle.stack_algebra.proofs.Order.{◌≼◌, ◌≺◌}
+use Rattle.stack_algebra.specs.IntegerOrder.{◌≼◌, ◌≺◌}
 use Rattle.stack_equilibrium.specs.Scene.{Part, Move, Scene}
 use Rattle.stack_equilibrium.specs.Balance.{IsAdmissible, IsBalanced}
 use Rattle.stack_equilibrium.specs.Motions.{IsUnresisted, dead_power_of, live_power_of}
 
--- forces that balance scale times the dead loads and factor times the live loads: the factor carried is factor over scale,
+-- forces that balance scale times the dead loads and factor times the live loads: the factor carried is
+-- factor over scale,
 -- and a real force is its part divided by six times the scale
 pub record Forces : Type 0 where
   pub scale : ℤ
@@ -67,7 +70,8 @@ pub record IsTrueGreatest (s : Scene) (f : Forces) (moves : List Move) : Type 0 
   pub loaded : IsTrueLoaded s f
   pub motion : IsFreeMotion s moves
   pub gains : pos 0 ≺ live_power_of s (move_of s moves)
-  pub meets : f.factor *ℤ live_power_of s (move_of s moves) +ℤ f.scale *ℤ dead_power_of s (move_of s moves) ≡ pos 0
+  pub meets : f.factor *ℤ live_power_of s (move_of s moves) +ℤ f.scale *ℤ dead_power_of s (move_of s moves)
+      ≡ pos 0
 
 -- the live loads alone are carried, so that any multiple may be added
 pub record IsTrueRay (s : Scene) (f : Forces) : Type 0 where

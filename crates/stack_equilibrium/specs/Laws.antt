@@ -5,7 +5,7 @@ use mathlib.Core.List.{List, ◌∷◌, ◌++◌}
 use Prim.Native.Nat.{ℕ}
 use lib.IntN.{ℤ, pos, ◌+ℤ◌, ◌*ℤ◌}
 use Rattle.stack_algebra.specs.Sums.{sum_to}
-use Rattle.stack_algebra.proofs.Order.{◌≼◌, ◌≺◌}
+use Rattle.stack_algebra.specs.IntegerOrder.{◌≼◌, ◌≺◌}
 use Rattle.stack_equilibrium.specs.Scene.{Part, Move, Scene, IsProper}
 use Rattle.stack_equilibrium.specs.Balance.{IsBalanced, Carries}
 use Rattle.stack_equilibrium.specs.Motions.{opening_of, slide_of, KeepsFixedStill, dead_power_of, live_power_of}
@@ -13,7 +13,8 @@ use Rattle.stack_polygon.specs.declared.point.Point.{Point}
 use Rattle.stack_equilibrium.specs.Loads.{weight_of, moved}
 use Rattle.stack_equilibrium.specs.Certificates.{Forces, IsTrueStands, IsTrueCollapse, IsTrueGreatest, IsTrueUnbounded}
 
--- balanced forces do no work on any motion of the free bodies: that of the bearings' forces and of the loads adds up to 0
+-- balanced forces do no work on any motion of the free bodies: that of the bearings' forces and of the loads
+-- adds up to 0
 abbrev pub VirtualWorkIsZero : Type 0
 VirtualWorkIsZero = (s : Scene) (f : ℕ → Part) (scale factor : ℤ) (y : ℕ → Move) →
     IsProper s → IsBalanced s f scale factor → KeepsFixedStill s y →
@@ -31,7 +32,8 @@ CollapseExcludesBalance = (s : Scene) (moves : List Move) (D : ℤ) →
 
 -- the greatest factor is carried
 abbrev pub GreatestIsCarried : Type 0
-GreatestIsCarried = (s : Scene) (f : Forces) (moves : List Move) → IsTrueGreatest s f moves → Carries s f.factor f.scale
+GreatestIsCarried = (s : Scene) (f : Forces) (moves : List Move) → IsTrueGreatest s f moves →
+    Carries s f.factor f.scale
 
 -- and no greater one is, whatever its denominator
 abbrev pub GreatestBoundsEveryFactor : Type 0
@@ -51,7 +53,8 @@ UnboundedCarriesAll = (s : Scene) (base ray : Forces) →
     IsProper s → IsTrueUnbounded s base ray → Carries s (pos 0) (pos 1) →
     (L D : ℤ) → pos 0 ≼ L → pos 0 ≺ D → Carries s L D
 
--- an outline weighs the same whichever corner it is told from: from o by xs to c by ys, or from c by ys to o by xs.
+-- an outline weighs the same whichever corner it is told from: from o by xs to c by ys, or from c by ys to o
+-- by xs.
 -- For any corners at all, convex or not
 abbrev pub AnyCornerWeighsTheSame : Type 0
 AnyCornerWeighsTheSame = (w : ℤ) (o : Point) (xs : List Point) (c : Point) (ys : List Point) →

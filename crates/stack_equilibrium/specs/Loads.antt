@@ -1,5 +1,7 @@
--- The loads of a body, as wrenches about its first corner, in sixths of a unit of force: in sixths every weight is whole.
--- A body's weight is summed over the triangles that its first corner makes with its other edges, with their signs.
+-- The loads of a body, as wrenches about its first corner, in sixths of a unit of force: in sixths every
+-- weight is whole.
+-- A body's weight is summed over the triangles that its first corner makes with its other edges, with their
+-- signs.
 use mathlib.Core.List.{List, [], ◌∷◌}
 use lib.IntN.{ℤ, pos, ◌+ℤ◌, ◌-ℤ◌, ◌*ℤ◌, neg_ℤ}
 use Rattle.stack_polygon.specs.declared.point.Point.{Point}
@@ -19,7 +21,8 @@ sum_of_triangles f o [] = pos 0
 sum_of_triangles f o (p ∷ []) = pos 0
 sum_of_triangles f o (p ∷ q ∷ rest) = f o p q +ℤ sum_of_triangles f o (q ∷ rest)
 
--- six times the moment of a triangle's weight, of one unit per area, about o: its area is half of twice_area_of, and
+-- six times the moment of a triangle's weight, of one unit per area, about o: its area is half of
+-- twice_area_of, and
 -- its centroid lies a third of distances_of right of o
 abbrev pub moment_of_triangle : Point → Point → Point → ℤ
 moment_of_triangle o p q = twice_area_of o p q *ℤ distances_of o p q

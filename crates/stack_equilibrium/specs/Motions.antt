@@ -1,10 +1,11 @@
--- Motions of the bodies: velocities, opening and slide at a bearing, motions that no admissible force resists, and powers.
+-- Motions of the bodies: velocities, opening and slide at a bearing, motions that no admissible force
+-- resists, and powers.
 use mathlib.Core.Path.{◌≡◌}
 use mathlib.Core.Bool.{false}
 use Prim.Native.Nat.{ℕ, ◌<◌}
 use lib.IntN.{ℤ, pos, ◌+ℤ◌, ◌-ℤ◌, ◌*ℤ◌, neg_ℤ}
 use Rattle.stack_algebra.specs.Sums.{sum_to}
-use Rattle.stack_algebra.proofs.Order.{◌≼◌, abs}
+use Rattle.stack_algebra.specs.IntegerOrder.{◌≼◌, abs}
 use Rattle.stack_equilibrium.specs.Scene.{Wrench, Move, Bearing, Scene}
 
 -- the velocity of body i at the point of a bearing
@@ -39,7 +40,8 @@ KeepsFixedStill s y = (i : ℕ) → i < s.bodies → (s.body i).free ≡ false �
 -- no admissible force does negative work on such a motion
 pub record IsUnresisted (s : Scene) (y : ℕ → Move) : Type 0 where
   pub still : KeepsFixedStill s y
-  pub opens : (k : ℕ) → k < s.bearings → (s.bearing k).p *ℤ abs (slide_of s y (s.bearing k)) ≼ (s.bearing k).q *ℤ opening_of s y (s.bearing k)
+  pub opens : (k : ℕ) → k < s.bearings →
+      (s.bearing k).p *ℤ abs (slide_of s y (s.bearing k)) ≼ (s.bearing k).q *ℤ opening_of s y (s.bearing k)
 
 -- the work of a wrench on a move
 abbrev pub power_of : Wrench → Move → ℤ
