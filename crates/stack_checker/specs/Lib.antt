@@ -8,3 +8,9 @@ pub mod Whole
 pub mod WrittenSums
 pub mod WrittenCheck
 pub mod Verdict
+pub mod RectangleContacts
+pub mod Numbers
+pub mod Digits
+pub mod Lines
+pub mod CertificateText
+pub mod CertificateOf

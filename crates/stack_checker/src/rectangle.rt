@@ -1,11 +1,10 @@
 //! What two axis-parallel rectangles have in common.
 
 ghost use Rattle.std.specs.Prelude.{◌≡◌, ◌<◌, length, IsTrue, ◌↔◌};
-ghost use Rattle.stack_checker.specs.RectangleContacts.{range_between, common_of, rectangle_of, level_frame, upright_frame, numbers_in, least, greatest, meeting_in, meeting_of};
+ghost use Rattle.stack_checker.specs.RectangleContacts.{range_between, common_of, extent_of, level_frame, upright_frame, numbers_in, least, greatest, meeting_in, meeting_of};
 
 use crate::types::Frame;
-use stack_model::Polygon;
-use stack_polygon::Point;
+use stack_polygon::{Point, Polygon};
 
 /// The numbers from `low` to `high`: none where `high` is less, one where they are the same.
 #[derive(Clone, Copy, Debug, PartialEq, Eq)]
@@ -22,9 +21,9 @@ pub enum Numbers {
     Many,
 }
 
-/// An axis-parallel rectangle.
+/// The ranges of an axis-parallel rectangle.
 #[derive(Clone, Copy, Debug, PartialEq, Eq)]
-pub struct Rectangle {
+pub struct Extent {
     pub x: Range,
     pub y: Range,
 }
@@ -63,21 +62,21 @@ fn common(a: Range, b: Range) -> Range
     }
 }
 
-/// The rectangle with these corners, from two opposite ones.
-pub fn corners_rectangle(polygon: &Polygon) -> Rectangle
+/// The ranges of a rectangle, from two opposite corners.
+pub fn ranges(polygon: &Polygon) -> Extent
     requires { 2 < length polygon.now }
-    ensures { result ≡ rectangle_of polygon.now }
+    ensures { result ≡ extent_of polygon.now }
 {
     let one = polygon.corner(0);
     let other = polygon.corner(2);
-    Rectangle {
+    Extent {
         x: between(one.x, other.x),
         y: between(one.y, other.y),
     }
 }
 
 /// The tangent of a level joint: to the right where the later rectangle lies above the earlier one, else to the left.
-fn level(earlier: Rectangle, later: Rectangle) -> Frame
+fn level(earlier: Extent, later: Extent) -> Frame
     ensures { result ≡ level_frame earlier later }
 {
     if earlier.y.high <= later.y.low {
@@ -88,7 +87,7 @@ fn level(earlier: Rectangle, later: Rectangle) -> Frame
 }
 
 /// The tangent of an upright joint: downwards where the later rectangle lies right of the earlier one, else upwards.
-fn upright(earlier: Rectangle, later: Rectangle) -> Frame
+fn upright(earlier: Extent, later: Extent) -> Frame
     ensures { result ≡ upright_frame earlier later }
 {
     if earlier.x.high <= later.x.low {
@@ -99,7 +98,7 @@ fn upright(earlier: Rectangle, later: Rectangle) -> Frame
 }
 
 /// How many numbers a range has.
-fn extent(range: Range) -> Numbers
+fn count(range: Range) -> Numbers
     ensures { result ≡ numbers_in range }
 {
     if range.high < range.low {
@@ -112,12 +111,12 @@ fn extent(range: Range) -> Numbers
 }
 
 /// How two rectangles meet that have these ranges in common.
-fn meet_in(x: Range, y: Range, earlier: Rectangle, later: Rectangle) -> Meeting
+fn meet_in(x: Range, y: Range, earlier: Extent, later: Extent) -> Meeting
     ensures { result ≡ meeting_in (numbers_in x) (numbers_in y) (least x y) (greatest x y) earlier later }
 {
     let from = Point { x: x.low, y: y.low };
     let to = Point { x: x.high, y: y.high };
-    match (extent(x), extent(y)) {
+    match (count(x), count(y)) {
         (Numbers::Many, Numbers::Many) => Meeting::Overlapping,
         (Numbers::Many, Numbers::One) => Meeting::Joint { from, to, frame: level(earlier, later) },
         (Numbers::One, Numbers::Many) => Meeting::Joint { from, to, frame: upright(earlier, later) },
@@ -127,7 +126,7 @@ fn meet_in(x: Range, y: Range, earlier: Rectangle, later: Rectangle) -> Meeting
 }
 
 /// How two rectangles meet.
-pub fn meet(earlier: Rectangle, later: Rectangle) -> Meeting
+pub fn meet(earlier: Extent, later: Extent) -> Meeting
     ensures { result ≡ meeting_of earlier later }
 {
     meet_in(common(earlier.x, later.x), common(earlier.y, later.y), earlier, later)
