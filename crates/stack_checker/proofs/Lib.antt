@@ -5,3 +5,7 @@ pub mod Tests
 pub mod Spellings
 pub mod CutLines
 pub mod DigitsSpelled
+pub mod Balances
+pub mod SceneSums
+pub mod Frees
+pub mod Verdicts

@@ -15,7 +15,7 @@ use Rattle.stack_checker.specs.declared.whole.Whole.{Whole}
 use Rattle.stack_checker.specs.declared.block.Push.{Push}
 use Rattle.stack_checker.specs.declared.block.Joint.{Joint}
 use Rattle.stack_checker.specs.declared.block.Block.{Block}
-use Rattle.stack_checker.specs.SurveyScene.{bearing_of, no_bearing}
+use Rattle.stack_checker.specs.SurveyScene.{scene_bearing_of, no_bearing}
 use Rattle.stack_checker.specs.Whole.{made, fits, whole}
 use Rattle.stack_checker.specs.WrittenSums.{push_at, joint_at, written_force_x, written_force_y, written_moment, written_force, with_bearing, load_along, written_sum}
 use Rattle.stack_checker.proofs.InOrder.{bind_ok}
@@ -90,7 +90,7 @@ added force e a r false false is h = same a.value r.value e (cc)
 
 -- a bearing adds its force with the sign of its side
 added_is : (axis : Axis) (block : Block) (f : Push) (a : Whole) (z : Bearing) (r : Whole) → with_bearing axis block f a z ≡ Ok r
-    → r.value ≡ a.value +ℤ side_of block.body (bearing_of z) *ℤ force_along axis (joint_at block.corner z) f
+    → r.value ≡ a.value +ℤ side_of block.body (scene_bearing_of z) *ℤ force_along axis (joint_at block.corner z) f
 unfolding with_bearing
 added_is axis block f a z r h = added (written_force axis (joint_at block.corner z) f) (force_along axis (joint_at block.corner z) f) a r (nat_eq block.body z.second) (nat_eq block.body z.first) (force_is axis (joint_at block.corner z) f) h
 
@@ -118,7 +118,7 @@ steps_sum f g i a (x ∷ xs) d r adds h =
 -- what the bearings bear on a block, along an axis
 abbrev pub borne_along : Axis → Block → List Bearing → List (ℤ × ℤ) → ℤ
 borne_along axis block bearings parts = sum_to (length bearings) (λ k.
-    side_of block.body (bearing_of (get_or bearings k no_bearing))
+    side_of block.body (scene_bearing_of (get_or bearings k no_bearing))
     *ℤ force_along axis (joint_at block.corner (get_or bearings k no_bearing)) (push_at parts k))
 
 pub sum_is : (axis : Axis) (block : Block) (scale factor : Whole) (bearings : List Bearing) (parts : List (ℤ × ℤ)) (r : Whole)
@@ -132,7 +132,7 @@ sum_is axis block scale factor bearings parts r h =
     let q = bind_ok (made (scale.value *ℤ dead)) (λ weight. made (p.value.value +ℤ weight.value) >>= λ standing. made (factor.value *ℤ live) >>= λ drive. made (standing.value +ℤ drive.value)) r p.after in
     let t = bind_ok (made (p.value.value +ℤ q.value.value)) (λ standing. made (factor.value *ℤ live) >>= λ drive. made (standing.value +ℤ drive.value)) r q.after in
     let u = bind_ok (made (factor.value *ℤ live)) (λ drive. made (t.value.value +ℤ drive.value)) r t.after in
-    let borne = steps_sum (λ k so_far z. with_bearing axis block (push_at parts k) so_far z) (λ k z. side_of block.body (bearing_of z) *ℤ force_along axis (joint_at block.corner z) (push_at parts k)) 0 (whole (pos 0)) bearings no_bearing p.value (λ k a z r e. added_is axis block (push_at parts k) a z r e) p.before in
+    let borne = steps_sum (λ k so_far z. with_bearing axis block (push_at parts k) so_far z) (λ k z. side_of block.body (scene_bearing_of z) *ℤ force_along axis (joint_at block.corner z) (push_at parts k)) 0 (whole (pos 0)) bearings no_bearing p.value (λ k a z r e. added_is axis block (push_at parts k) a z r e) p.before in
     made_is (t.value.value +ℤ u.value.value) r u.after
     ∙ (λ i. made_is (p.value.value +ℤ q.value.value) t.value t.before i +ℤ made_is (factor.value *ℤ live) u.value u.before i)
     ∙ (λ i. p.value.value +ℤ made_is (scale.value *ℤ dead) q.value q.before i +ℤ factor.value *ℤ live)
@@ -142,7 +142,7 @@ sum_is axis block scale factor bearings parts r h =
     from_nothing t = omega (arith, sums)
 
     term : ℕ → ℕ → ℤ
-    term k n = side_of block.body (bearing_of (get_or bearings k no_bearing)) *ℤ force_along axis (joint_at block.corner (get_or bearings k no_bearing)) (push_at parts n)
+    term k n = side_of block.body (scene_bearing_of (get_or bearings k no_bearing)) *ℤ force_along axis (joint_at block.corner (get_or bearings k no_bearing)) (push_at parts n)
 
     from_first : sum_to (length bearings) (λ k. term k (0 + k)) ≡ sum_to (length bearings) (λ k. term k k)
     from_first = sum_same integers (length bearings) (λ k. term k (0 + k)) (λ k. term k k) (λ k l. ap (term k) (omega arith))

@@ -1,20 +1,13 @@
 -- The scene of a survey: its bodies with their weights, and its bearings. Used to say which certificates are true.
-use Rattle.std.specs.Prelude.{ℤ, pos, not, List, [], length, get_or, false}
-use Rattle.stack_polygon.specs.declared.point.Point.{Point}
+use Rattle.std.specs.Prelude.{ℤ, pos, not, length, get_or}
 use Rattle.stack_polygon.specs.Corners.{origin, corner_of}
-use Rattle.stack_model.specs.Structure.{NamedMaterial, NamedBody, Structure}
+use Rattle.stack_model.specs.Structure.{NamedBody, Structure, material_of, body_of}
 use Rattle.stack_equilibrium.specs.Scene as scene
 use Rattle.stack_equilibrium.specs.Loads.{weight_of}
 use Rattle.stack_checker.specs.declared.types.Bearing.{Bearing}
 use Rattle.stack_checker.specs.Surveyed.{Surveyed}
 
--- stand-ins for places past the end of a list; no number of a survey's own leads there
-abbrev pub no_material : NamedMaterial
-no_material = record { name = []; weight = pos 0; p = pos 0; q = pos 1 }
-
-abbrev pub no_body : NamedBody
-no_body = record { name = []; material = 0; fixed = false; corners = [] }
-
+-- a stand-in past the end of a list of bearings
 abbrev pub no_bearing : Bearing
 no_bearing = record {
   first = 0;
@@ -26,15 +19,15 @@ no_bearing = record {
 
 -- the weight of a unit of area of a body
 abbrev pub unit_weight_of : Structure → NamedBody → ℤ
-unit_weight_of m b = (get_or m.materials b.material no_material).weight
+unit_weight_of m b = (material_of m b.material).weight
 
 -- no load
 abbrev pub no_load : scene.Wrench
 no_load = record { fx = pos 0; fy = pos 0; m = pos 0 }
 
 -- a body is free or fixed, its moments are taken about its first stored corner, and its weight is its dead load
-abbrev pub body_of : Structure → NamedBody → scene.Body
-body_of m b = record {
+abbrev pub scene_body_of : Structure → NamedBody → scene.Body
+scene_body_of m b = record {
   free = not b.fixed;
   ox = (corner_of b.corners 0).x;
   oy = (corner_of b.corners 0).y;
@@ -42,8 +35,8 @@ body_of m b = record {
   live = no_load;
 }
 
-abbrev pub bearing_of : Bearing → scene.Bearing
-bearing_of z = record {
+abbrev pub scene_bearing_of : Bearing → scene.Bearing
+scene_bearing_of z = record {
   first = z.first;
   second = z.second;
   px = z.at.x;
@@ -57,7 +50,7 @@ bearing_of z = record {
 abbrev pub scene_of : Surveyed → scene.Scene
 scene_of s = record {
   bodies = length s.structure.bodies;
-  body = λ i. body_of s.structure (get_or s.structure.bodies i no_body);
+  body = λ i. scene_body_of s.structure (body_of s.structure i);
   bearings = length s.bearings;
-  bearing = λ k. bearing_of (get_or s.bearings k no_bearing);
+  bearing = λ k. scene_bearing_of (get_or s.bearings k no_bearing);
 }

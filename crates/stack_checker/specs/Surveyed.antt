@@ -1,6 +1,7 @@
 -- A survey as a value: the structure with its bearings and touches. What the contracts see of a Survey.
 use Rattle.std.specs.Prelude.{List}
-use Rattle.stack_model.specs.Structure.{Structure, model_view}
+use Rattle.stack_model.specs.Structure.{Structure}
+use Rattle.stack_model.specs.ModelView.{model_view}
 use Rattle.stack_checker.specs.declared.types.Bearing.{Bearing}
 use Rattle.stack_checker.specs.declared.types.Touch.{Touch}
 use Rattle.stack_checker.specs.declared.types.Survey.{Survey}

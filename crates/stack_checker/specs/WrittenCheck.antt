@@ -1,9 +1,9 @@
 -- The written check of a certificate: its tests and its sums in one order. It ends at the first test that fails or the
 -- first number that passes, whichever comes first. What a true certificate is stands in Truth, apart from this.
-use Rattle.std.specs.Prelude.{ℕ, nat_eq, ℤ, pos, nat_abs, ◌*ℤ◌, int_le, Bool, true, false, List, length, get_or, Result, Ok, Err, ⊤}
+use Rattle.std.specs.Prelude.{ℕ, nat_eq, ℤ, pos, nat_abs, ◌*ℤ◌, int_le, Bool, true, false, List, length, Result, Ok, Err, ⊤}
 use Rattle.stack_algebra.specs.Steps.{◌>>=◌, steps}
 use Rattle.stack_polygon.specs.Corners.{corner_of}
-use Rattle.stack_model.specs.Structure.{NamedBody, Structure}
+use Rattle.stack_model.specs.Structure.{NamedBody, Structure, body_of}
 use Rattle.stack_equilibrium.specs.Scene as scene
 use Rattle.stack_equilibrium.specs.Loads.{weight_of}
 use Rattle.stack_checker.specs.declared.types.Bearing.{Bearing}
@@ -28,7 +28,7 @@ use Rattle.stack_checker.specs.declared.stop.Stop.TheVariants.{Rejected, TooWide
 use Rattle.stack_checker.specs.Surveyed.{Surveyed}
 use Rattle.stack_checker.specs.Certificate.{CertificateValue}
 use Rattle.stack_checker.specs.FreeBlocks.{frees_of}
-use Rattle.stack_checker.specs.SurveyScene.{unit_weight_of, no_load, no_body}
+use Rattle.stack_checker.specs.SurveyScene.{unit_weight_of, no_load}
 use Rattle.stack_checker.specs.Whole.{made, has_sign, whole}
 use Rattle.stack_checker.specs.WrittenSums.{push_at, written_sum}
 
@@ -74,7 +74,7 @@ block_from m i b = record {
 
 -- body i as a block
 abbrev pub block_of : Structure → ℕ → Block
-block_of m i = block_from m i (get_or m.bodies i no_body)
+block_of m i = block_from m i (body_of m i)
 
 -- one list of forces, with what its scale and its factor are tested for
 unfoldable pub written_forces : Sign → Sign → Surveyed → CertificateValue → Result ⊤ Stop
