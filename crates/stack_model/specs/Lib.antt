@@ -1,3 +1,11 @@
 pub mod Structure
 pub mod Kept
 pub mod ModelView
+pub mod Keys
+pub mod Parts
+pub mod Forms
+pub mod Shape
+pub mod Limits
+pub mod Content
+pub mod Reading
+pub mod Pairs

@@ -1,8 +1,12 @@
 //! The model of a structure of rigid blocks: materials, bodies and loads, and its TOML file.
 #![tactic(auto)]
 
+mod errors;
+mod faults;
 mod model;
 mod types;
 
+pub use errors::ReadError;
+pub use faults::{Fault, Key, Spot, What};
 pub use model::Model;
 pub use types::{Body, Load, Material};

@@ -1,0 +1,1 @@
+//! A body's weight.

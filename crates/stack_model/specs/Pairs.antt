@@ -1,0 +1,63 @@
+-- Until models may list more: one material, one fixed body and then one free body, both axis-parallel rectangles, no loads.
+-- Two refusals stand for all faults: every fault but that of a corner list, which comes after all the others.
+use Rattle.std.specs.Prelude.{◌≡◌, ℕ, ◌+◌, Bool, true, false, not, ◌&&◌, List, [], ◌∷◌, Result, Ok, Err, if◌then◌else◌, ⊤}
+use Rattle.stack_algebra.specs.Steps.{◌>>=◌}
+use Rattle.stack_polygon.specs.declared.point.Point.{Point}
+use Rattle.stack_polygon.specs.Rectangles.{is_rectangle, turned}
+use Rattle.stack_model.specs.declared.types.Load.{Load}
+use Rattle.stack_model.specs.declared.faults.Fault.{Fault}
+use Rattle.stack_model.specs.declared.errors.ReadError.{ReadError}
+use Rattle.stack_model.specs.declared.errors.ReadError.TheVariants.{Refused, Slanted, Memory}
+use Rattle.stack_model.specs.Structure.{NamedMaterial, NamedBody, Structure}
+use Rattle.stack_model.specs.Reading.{table_of, model_of}
+
+-- every corner list stands as it is written, so that no fault is that of a corner list
+abbrev pub as_written : ℕ → List Point → Result (List Point) Fault
+as_written i ps = Ok ps
+
+abbrev pub is_one : List NamedMaterial → Bool
+is_one (m ∷ []) = true
+is_one _ = false
+
+abbrev pub is_fixed_then_free : List NamedBody → Bool
+is_fixed_then_free (a ∷ b ∷ []) = a.fixed && not b.fixed
+is_fixed_then_free _ = false
+
+abbrev pub is_none : List Load → Bool
+is_none [] = true
+is_none _ = false
+
+-- one material and two bodies, the first fixed and the second not, and no load
+abbrev pub is_pair : Structure → Bool
+is_pair s = is_one s.materials && is_fixed_then_free s.bodies && is_none s.loads
+
+-- body i with its outline, if its corner list is a rectangle's
+abbrev pub outlined : ℕ → NamedBody → Result NamedBody ReadError
+outlined i b = if is_rectangle b.corners then Ok (record b { corners = turned b.corners }) else Err (Slanted i)
+
+-- the bodies from number i on, up to the first that is slanted
+unfoldable pub all_outlined : ℕ → List NamedBody → Result (List NamedBody) ReadError
+all_outlined i [] = Ok []
+all_outlined i (b ∷ bs) = do
+  first ← outlined i b
+  others ← all_outlined (i + 1) bs
+  Ok (first ∷ others)
+
+unfoldable pub pair_of : Structure → Result Structure ReadError
+pair_of s = do
+  bodies ← all_outlined 0 s.bodies
+  Ok (record s { bodies = bodies })
+
+-- the two refusals
+abbrev pub refusing : Result Structure Fault → Result Structure ReadError
+refusing (Err fault) = Err Refused
+refusing (Ok s) = if is_pair s then pair_of s else Err Refused
+
+-- what the bytes of a model file give: the structure, or the refusal
+unfoldable pub structure_of : List ℕ → Result Structure ReadError
+structure_of bytes = refusing (table_of bytes >>= λ ms. model_of as_written ms)
+
+-- what a reader returned, if memory was not wanting
+abbrev pub Reads : Result Structure ReadError → Result Structure ReadError → Type 0
+Reads (Err Memory) read = ⊤
+Reads result read = result ≡ read
