@@ -9,6 +9,8 @@ use Rattle.stack_polygon.specs.Plane.{triangle_of}
 use Rattle.stack_polygon.specs.Corners.{origin, corner_of}
 use Rattle.stack_polygon.specs.Area.{fan_of, twice_area_of, moment_about_y_of, six_moments_of}
 use Rattle.stack_equilibrium.specs.Loads.{sum_of_triangles, moment_of_triangle, weight_of}
+use Rattle.stack_checker.specs.Whole.{whole}
+use Rattle.stack_checker.specs.Weights.{loads_by, weight_loads}
 
 -- a sum over a chain of corners, by their places
 by_places : (f : Point → Point → Point → ℤ) (o : Point) (rest : List Point) → sum_of_triangles f o rest
@@ -75,3 +77,24 @@ weight_m w (o ∷ rest) = ap (λ t. neg_ℤ (w *ℤ t)) (moved o rest ∙ (λ i.
 pub weight_x : (w : ℤ) (ps : List Point) → (weight_of w ps).fx ≡ pos 0
 weight_x w [] = refl
 weight_x w (o ∷ rest) = refl
+
+-- the two sums of a body give its weight
+pub weighs : (w : ℤ) (ps : List Point) (area moment : ℤ) → area ≡ twice_area_of ps
+    → moment ≡ (six_moments_of ps).0 -ℤ pos 3 *ℤ (corner_of ps 0).x *ℤ twice_area_of ps → loads_by w area moment ≡ weight_loads w ps
+weighs w ps area moment is_area is_moment = λ i. record {
+  fx = whole (along_x i);
+  fy = whole (along_y i);
+  m = whole (turning i);
+}
+  where
+    regroup : (w a : ℤ) → neg_ℤ (w *ℤ (pos 3 *ℤ a)) ≡ neg_ℤ (pos 3 *ℤ (w *ℤ a))
+    regroup w a = simp expand (omega (arith, sums))
+
+    along_x : pos 0 ≡ (weight_of w ps).fx
+    along_x = sym (weight_x w ps)
+
+    along_y : neg_ℤ (w *ℤ (pos 3 *ℤ area)) ≡ (weight_of w ps).fy
+    along_y = regroup w area ∙ ap (λ a. neg_ℤ (pos 3 *ℤ (w *ℤ a))) is_area ∙ sym (weight_y w ps)
+
+    turning : neg_ℤ (w *ℤ moment) ≡ (weight_of w ps).m
+    turning = ap (λ t. neg_ℤ (w *ℤ t)) is_moment ∙ sym (weight_m w ps)

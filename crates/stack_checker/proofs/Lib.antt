@@ -13,3 +13,4 @@ pub mod SceneSums
 pub mod Frees
 pub mod Verdicts
 pub mod FanSums
+pub mod Products

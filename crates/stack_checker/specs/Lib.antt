@@ -15,5 +15,6 @@ pub mod SurveyScene
 pub mod Truth
 pub mod Whole
 pub mod WrittenSums
+pub mod Weights
 pub mod WrittenCheck
 pub mod Verdict

@@ -1,7 +1,7 @@
 //! Whole numbers of at most 2^127 - 1 in size, as the written check makes them.
 
 ghost use Rattle.std.specs.Prelude.{◌≡◌, ◌+ℤ◌, ◌*ℤ◌, ◌-ℤ◌, pos, nat_abs};
-ghost use Rattle.stack_checker.specs.Whole.{made, kept, has_sign};
+ghost use Rattle.stack_checker.specs.Whole.{made, kept, has_sign, whole};
 
 /// A result passes 2^127 - 1 in size.
 #[derive(Clone, Copy, Debug, PartialEq, Eq)]
@@ -37,6 +37,13 @@ fn keep(number: Option<i128>) -> Result<Whole, Wide>
 }
 
 impl Whole {
+    /// A number as it is.
+    pub fn of(value: i128) -> Whole
+        ensures { result ≡ whole value }
+    {
+        Whole { value }
+    }
+
     /// The product of both.
     pub fn product(self, other: Whole) -> Result<Whole, Wide>
         ensures { result ≡ made (self.value *ℤ other.value) }
