@@ -5,3 +5,12 @@ pub mod DigitsSpelled
 pub mod ReadLines
 pub mod TextLines
 pub mod ReadSoFar
+pub mod InOrder
+pub mod PlainSums
+pub mod Tests
+pub mod Balances
+pub mod SceneSums
+pub mod Frees
+pub mod Verdicts
+pub mod FanSums
+pub mod Products

@@ -11,3 +11,10 @@ pub mod CertificateText
 pub mod CertificateOf
 pub mod CertificateRead
 pub mod Stages
+pub mod SurveyScene
+pub mod Truth
+pub mod Whole
+pub mod WrittenSums
+pub mod Weights
+pub mod WrittenCheck
+pub mod Verdict

@@ -5,6 +5,10 @@ ghost use Rattle.stack_model.specs.ModelView.{model_view};
 ghost use Rattle.stack_checker.specs.SurveyOf.{surveyed_of, Surveys};
 
 mod accessors;
+mod balance;
+mod block;
+mod checking;
+mod cones;
 mod friction;
 mod laws;
 mod line;
@@ -14,7 +18,12 @@ mod reading;
 mod rectangle;
 mod split;
 mod stage;
+mod stop;
+mod sums;
 pub mod types;
+mod verdict;
+mod weight;
+mod whole;
 
 pub use laws::{one_certificate, one_reading, one_text, spelled_by_digits};
 use pair::{corner_touches, joint_bearings, joint_friction, meet_bodies};
@@ -23,6 +32,7 @@ use rectangle::Meeting;
 use stack_model::Model;
 use std::alloc::Global;
 use types::{Survey, SurveyError};
+pub use verdict::check_laws;
 
 /// The contacts of the model's two bodies: where they have a segment in common, a bearing at each of its ends, by x and then
 /// by y, with the segment's tangent and the lesser of the two materials' coefficients of friction; where they have one point
