@@ -1,5 +1,5 @@
 -- A step of the division algorithm keeps the greatest common divisor.
-use Rattle.std.proofs.Common.{◌≡◌, ℕ, zero, suc, ◌+◌, ◌%◌, ◌/◌, ◌<◌, ◌≤◌, refl, arith}
+use Rattle.std.proofs.Common.{◌≡◌, ℕ, zero, suc, ◌%◌, ◌<◌, ◌≤◌, refl, arith}
 use Rattle.stack_algebra.specs.Gcd.{gcd, gcd_within}
 
 -- as soon as it suffices, the number of steps that are allowed doesn't matter

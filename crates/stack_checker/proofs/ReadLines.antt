@@ -1,5 +1,5 @@
 -- The line that some bytes are: line_of finds it, and finds no other.
-use Rattle.std.proofs.Common.{◌≡◌, ℕ, zero, suc, ◌+◌, ◌<◌, ◌≤◌, ◌^◌, ℤ, pos, negsuc, List, [], ◌∷◌, ◌++◌, Bool, true, false, not, ◌&&◌, ◌==◌, cond, get_or, refl, sym, ap, ◌∙◌, append_assoc, arith, rules, Option, Some, None, codes}
+use Rattle.std.proofs.Common.{◌≡◌, ℕ, suc, ℤ, pos, negsuc, List, [], ◌∷◌, ◌++◌, Bool, true, false, not, ◌&&◌, ◌==◌, cond, get_or, refl, sym, ap, ◌∙◌, append_assoc, arith, Option, Some, None}
 use Rattle.std.specs.Prelude.{neg_ℤ}
 use Rattle.std.specs.Fmt.{decimal, signed_decimal}
 use Rattle.std.specs.Str.{bytes_eq}
@@ -11,8 +11,8 @@ use Rattle.std.proofs.lemmas.Bool.{and_parts}
 use Rattle.std.proofs.lemmas.Bool.Decides.{nat_tests}
 use Rattle.stack_checker.specs.declared.line.Line.{Line}
 use Rattle.stack_checker.specs.declared.line.Line.TheVariants.{Stands, Forces, Push, End}
-use Rattle.stack_checker.specs.Numbers.{size, IsSmall, is_small, value_of}
-use Rattle.stack_checker.specs.Lines.{lacks, pair_text, two_text, line_text, LineFits, line_fits, IsLine, before, behind, numbers_to, likely_line, line_of}
+use Rattle.stack_checker.specs.Numbers.{IsSmall, is_small, value_of}
+use Rattle.stack_checker.specs.Lines.{lacks, pair_text, line_text, LineFits, line_fits, IsLine, before, behind, numbers_to, likely_line, line_of}
 use Rattle.stack_checker.proofs.CutLines.{lacks_number}
 use Rattle.stack_checker.proofs.Spellings.{own}
 
@@ -45,17 +45,19 @@ value_spelled (negsuc n) small =
     ap (λ m. neg_ℤ (pos m)) numeral.1
 
 -- the numbers of a line
-numbers_spelled : (line : ℤ → ℤ → Line) (a b : ℤ) → IsSmall a → IsSmall b → numbers_to line (pair_text a b) ≡ line a b
+numbers_spelled : (line : ℤ → ℤ → Line) (a b : ℤ) → IsSmall a → IsSmall b
+    → numbers_to line (pair_text a b) ≡ line a b
 numbers_spelled line a b x y =
     let rest : List ℕ = signed_decimal b ++ 10 ∷ [] in
-    let e : pair_text a b ≡ signed_decimal a ++ 32 ∷ rest = append_assoc (signed_decimal a) (32 ∷ signed_decimal b) (10 ∷ []) in
+    let e : pair_text a b ≡ signed_decimal a ++ 32 ∷ rest =
+    append_assoc (signed_decimal a) (32 ∷ signed_decimal b) (10 ∷ []) in
     let first : value_of (before 32 (pair_text a b)) ≡ a =
-        ap (λ bs. value_of (before 32 bs)) e
-        ∙ (ap value_of (before_cut 32 (signed_decimal a) rest (lacks_number 32 a (omega arith) x)) ∙ value_spelled a x) in
+    ap (λ bs. value_of (before 32 bs)) e
+    ∙ (ap value_of (before_cut 32 (signed_decimal a) rest (lacks_number 32 a (omega arith) x)) ∙ value_spelled a x) in
     let second : value_of (before 10 (behind 32 (pair_text a b))) ≡ b =
-        ap (λ bs. value_of (before 10 (behind 32 bs))) e
-        ∙ (ap (λ bs. value_of (before 10 bs)) (behind_cut 32 (signed_decimal a) rest (lacks_number 32 a (omega arith) x))
-        ∙ (ap value_of (before_cut 10 (signed_decimal b) [] (lacks_number 10 b (omega arith) y)) ∙ value_spelled b y)) in
+    ap (λ bs. value_of (before 10 (behind 32 bs))) e
+    ∙ (ap (λ bs. value_of (before 10 bs)) (behind_cut 32 (signed_decimal a) rest (lacks_number 32 a (omega arith) x))
+    ∙ (ap value_of (before_cut 10 (signed_decimal b) [] (lacks_number 10 b (omega arith) y)) ∙ value_spelled b y)) in
     ap (λ z. line z (value_of (before 10 (behind 32 (pair_text a b))))) first ∙ ap (λ z. line a z) second
 
 likely : (line : Line) → LineFits line → likely_line (line_text line) ≡ line
@@ -79,15 +81,18 @@ test_small z test = grind (arith, nat_tests)
 test_fits : (line : Line) → line_fits line ≡ true → LineFits line
 test_fits Stands test = tt
 test_fits End test = tt
-test_fits (Forces s f) test = let p = and_parts (is_small s) (is_small f) test in (test_small s p.0, test_small f p.1)
-test_fits (Push a b) test = let p = and_parts (is_small a) (is_small b) test in (test_small a p.0, test_small b p.1)
+test_fits (Forces s f) test =
+    let p = and_parts (is_small s) (is_small f) test in (test_small s p.0, test_small f p.1)
+test_fits (Push a b) test =
+    let p = and_parts (is_small a) (is_small b) test in (test_small a p.0, test_small b p.1)
 
 -- what a test keeps
 kept : (test : Bool) (line : Line) → test ≡ true → cond test (Some line) None ≡ Some line
 kept true line h = refl
 kept false line h = cc
 
-kept_if : (test : Bool) (line other : Line) → cond test (Some line) None ≡ Some other → (test ≡ true) × (line ≡ other)
+kept_if : (test : Bool) (line other : Line) → cond test (Some line) None ≡ Some other
+    → (test ≡ true) × (line ≡ other)
 kept_if true line other e = (refl, cc)
 kept_if false line other e = cc
 
@@ -95,20 +100,21 @@ kept_if false line other e = cc
 pub line_found : (line : Line) (bytes : List ℕ) → IsLine line bytes → line_of bytes ≡ Some line
 unfolding line_of
 line_found line bytes is =
-    let same : likely_line bytes ≡ line = ap likely_line is.1 ∙ likely line is.0 in
-    let text : bytes_eq bytes (line_text (likely_line bytes)) ≡ true =
-        (bytes_eq-Decides bytes (line_text (likely_line bytes))).1 (is.1 ∙ ap line_text (sym same)) in
-    let fits : line_fits (likely_line bytes) ≡ true = ap line_fits same ∙ fits_test line is.0 in
-    kept (line_fits (likely_line bytes) && bytes_eq bytes (line_text (likely_line bytes))) (likely_line bytes) (rw (fits, text) refl)
-    ∙ ap Some same
+    let guess = likely_line bytes in
+    let same : guess ≡ line = ap likely_line is.1 ∙ likely line is.0 in
+    let text : bytes_eq bytes (line_text guess) ≡ true =
+    (bytes_eq-Decides bytes (line_text guess)).1 (is.1 ∙ ap line_text (sym same)) in
+    let fits : line_fits guess ≡ true = ap line_fits same ∙ fits_test line is.0 in
+    kept (line_fits guess && bytes_eq bytes (line_text guess)) guess (rw (fits, text) refl) ∙ ap Some same
 
 -- and what it finds is the line that the bytes are
 pub found_line : (line : Line) (bytes : List ℕ) → line_of bytes ≡ Some line → IsLine line bytes
 unfolding line_of
 found_line line bytes e =
-    let k = kept_if (line_fits (likely_line bytes) && bytes_eq bytes (line_text (likely_line bytes))) (likely_line bytes) line e in
-    let p = and_parts (line_fits (likely_line bytes)) (bytes_eq bytes (line_text (likely_line bytes))) k.0 in
-    let is : bytes ≡ line_text (likely_line bytes) = (bytes_eq-Decides bytes (line_text (likely_line bytes))).0 p.1 in
+    let guess = likely_line bytes in
+    let k = kept_if (line_fits guess && bytes_eq bytes (line_text guess)) guess line e in
+    let p = and_parts (line_fits guess) (bytes_eq bytes (line_text guess)) k.0 in
+    let is : bytes ≡ line_text guess = (bytes_eq-Decides bytes (line_text guess)).0 p.1 in
     (test_fits line (ap line_fits (sym k.1) ∙ p.0), is ∙ ap line_text k.1)
 
 -- it finds none where they are none

@@ -1,5 +1,5 @@
 -- A text that was read line by line: what is known at a stage, and why a line that may not come refuses the text.
-use Rattle.std.proofs.Common.{◌≡◌, ℕ, ◌==◌, ℤ, List, [], ◌∷◌, ◌++◌, length, map, Bool, true, false, refl, sym, ap, ◌∙◌, append_assoc, Option, Some, None, arith, rules}
+use Rattle.std.proofs.Common.{◌≡◌, ℕ, ◌==◌, ℤ, List, [], ◌∷◌, ◌++◌, length, map, true, false, refl, sym, ap, ◌∙◌, append_assoc, Option, Some, None, arith}
 use Rattle.std.specs.Option.{option_map, option_and_then}
 use Rattle.std.proofs.lemmas.List.{append-nil}
 use Rattle.std.proofs.lemmas.Bool.Decides.{nat_tests}
@@ -7,8 +7,8 @@ use Rattle.stack_checker.specs.declared.line.Line.{Line}
 use Rattle.stack_checker.specs.declared.line.Line.TheVariants.{Stands, Forces, Push, End}
 use Rattle.stack_checker.specs.declared.stage.Stage.{Stage}
 use Rattle.stack_checker.specs.declared.stage.Stage.TheVariants as stages
-use Rattle.stack_checker.specs.Lines.{IsLine, line_of}
-use Rattle.stack_checker.specs.Certificate.{CertificateValue, forces_view}
+use Rattle.stack_checker.specs.Lines.{IsLine}
+use Rattle.stack_checker.specs.Certificate.{CertificateValue}
 use Rattle.stack_checker.specs.CertificateText.{push_line, push_lines, lines_of}
 use Rattle.stack_checker.specs.CertificateOf.{cut, before_all, all_lines, parts_in, certificate_in, certificate_of}
 use Rattle.stack_checker.specs.Stages.{so_far, can_follow, is_open}
@@ -23,25 +23,37 @@ after_those done more = option_map (λ ls. done ++ ls) more
 pub record IsRead (text : List ℕ) (stage : Stage) (rest : List ℕ) : Type 0 where
   pub lines : all_lines (cut text) ≡ after_those (so_far stage) (all_lines (cut rest))
 
-one_more : (done : List Line) (line : Line) (more : Option (List Line)) → after_those done (before_all (Some line) more) ≡ after_those (done ++ line ∷ []) more
+one_more : (done : List Line) (line : Line) (more : Option (List Line))
+    → after_those done (before_all (Some line) more) ≡ after_those (done ++ line ∷ []) more
 one_more done line None = refl
 one_more done line (Some ls) = ap Some (sym (append_assoc done (line ∷ []) ls))
 
+first_line : (rest bytes after : List ℕ) (line : Line) → cut rest ≡ bytes ∷ cut after → IsLine line bytes
+    → all_lines (cut rest) ≡ before_all (Some line) (all_lines (cut after))
+first_line rest bytes after line head found = rw (head, line_found line bytes found) refl
+
 -- a line that may come is read
-pub read_on : (text : List ℕ) (stage next : Stage) (rest bytes after : List ℕ) (line : Line) → IsRead text stage rest → cut rest ≡ bytes ∷ cut after
+pub read_on : (text : List ℕ) (stage next : Stage) (rest bytes after : List ℕ) (line : Line)
+    → IsRead text stage rest → cut rest ≡ bytes ∷ cut after
     → IsLine line bytes → so_far next ≡ so_far stage ++ line ∷ [] → IsRead text next after
 read_on text stage next rest bytes after line is head found grown =
-    let step : all_lines (cut rest) ≡ before_all (Some line) (all_lines (cut after)) = rw (head, line_found line bytes found) refl in
+    let step = first_line rest bytes after line head found in
     record {
-      lines = is.lines ∙ (ap (after_those (so_far stage)) step ∙ (one_more (so_far stage) line (all_lines (cut after)) ∙ ap (λ ls. after_those ls (all_lines (cut after))) (sym grown)));
+      lines =
+          is.lines
+          ∙ (ap (after_those (so_far stage)) step
+          ∙ (one_more (so_far stage) line (all_lines (cut after))
+          ∙ ap (λ ls. after_those ls (all_lines (cut after))) (sym grown)));
     }
 
 -- parts and then a line that may not come are those of no certificate, nor are parts without an end
-parts_barred : (ps : List (ℤ × ℤ)) (line : Line) (more : List Line) → parts_in (line ∷ more) ≡ None → parts_in (map push_line ps ++ line ∷ more) ≡ None
+parts_barred : (ps : List (ℤ × ℤ)) (line : Line) (more : List Line) → parts_in (line ∷ more) ≡ None
+    → parts_in (map push_line ps ++ line ∷ more) ≡ None
 parts_barred [] line more h = h
 parts_barred (p ∷ ps) line more h = rw (parts_barred ps line more h) refl
 
-parts_over : (ps : List (ℤ × ℤ)) (line : Line) (more : List Line) → parts_in (push_lines ps ++ line ∷ more) ≡ None
+parts_over : (ps : List (ℤ × ℤ)) (line : Line) (more : List Line)
+    → parts_in (push_lines ps ++ line ∷ more) ≡ None
 parts_over [] line more = refl
 parts_over (p ∷ ps) line more = rw (parts_over ps line more) refl
 
@@ -49,7 +61,8 @@ parts_unended : (ps : List (ℤ × ℤ)) → parts_in (map push_line ps) ≡ Non
 parts_unended [] = refl
 parts_unended (p ∷ ps) = rw (parts_unended ps) refl
 
-barred : (stage : Stage) (line : Line) (more : List Line) → can_follow stage line ≡ false → certificate_in (so_far stage ++ line ∷ more) ≡ None
+barred : (stage : Stage) (line : Line) (more : List Line) → can_follow stage line ≡ false
+    → certificate_in (so_far stage ++ line ∷ more) ≡ None
 barred stages.Form Stands more h = cc
 barred stages.Form (Forces s f) more h = refl
 barred stages.Form (Push a b) more h = refl
@@ -76,15 +89,18 @@ barred_before stage line None h = refl
 barred_before stage line (Some ls) h = barred stage line ls h
 
 -- a line that may not come
-pub refused_line : (text : List ℕ) (stage : Stage) (rest bytes after : List ℕ) (line : Line) → IsRead text stage rest → cut rest ≡ bytes ∷ cut after
+pub refused_line : (text : List ℕ) (stage : Stage) (rest bytes after : List ℕ) (line : Line)
+    → IsRead text stage rest → cut rest ≡ bytes ∷ cut after
     → IsLine line bytes → can_follow stage line ≡ false → certificate_of text ≡ None
 unfolding certificate_of
 refused_line text stage rest bytes after line is head found barred_here =
-    let step : all_lines (cut rest) ≡ before_all (Some line) (all_lines (cut after)) = rw (head, line_found line bytes found) refl in
-    ap (option_and_then certificate_in) (is.lines ∙ ap (after_those (so_far stage)) step) ∙ barred_before stage line (all_lines (cut after)) barred_here
+    let step = first_line rest bytes after line head found in
+    ap (option_and_then certificate_in) (is.lines ∙ ap (after_those (so_far stage)) step)
+    ∙ barred_before stage line (all_lines (cut after)) barred_here
 
 -- bytes that are no line
-pub refused_bytes : (text : List ℕ) (stage : Stage) (rest bytes after : List ℕ) → IsRead text stage rest → cut rest ≡ bytes ∷ cut after
+pub refused_bytes : (text : List ℕ) (stage : Stage) (rest bytes after : List ℕ) → IsRead text stage rest
+    → cut rest ≡ bytes ∷ cut after
     → ((line : Line) → ¬ IsLine line bytes) → certificate_of text ≡ None
 unfolding certificate_of
 refused_bytes text stage rest bytes after is head none =
@@ -92,13 +108,18 @@ refused_bytes text stage rest bytes after is head none =
     ap (option_and_then certificate_in) (is.lines ∙ ap (after_those (so_far stage)) step)
 
 -- at the end of the text
-pub no_rest : (text : List ℕ) (stage : Stage) (rest : List ℕ) → (length rest == 0) ≡ true → IsRead text stage rest → certificate_of text ≡ certificate_in (so_far stage)
+pub no_rest : (text : List ℕ) (stage : Stage) (rest : List ℕ) → (length rest == 0) ≡ true
+    → IsRead text stage rest → certificate_of text ≡ certificate_in (so_far stage)
 unfolding certificate_of cut
-no_rest text stage [] test is = ap (option_and_then certificate_in) is.lines ∙ ap certificate_in (append-nil (so_far stage))
+no_rest text stage [] test is =
+    ap (option_and_then certificate_in) is.lines ∙ ap certificate_in (append-nil (so_far stage))
 no_rest text stage (b ∷ bs) test is = absurd (grind (arith, nat_tests))
 
-pub read_whole : (text : List ℕ) (stage : Stage) (c : CertificateValue) → certificate_of text ≡ certificate_in (so_far stage) → so_far stage ≡ lines_of c → certificate_of text ≡ Some c
+pub read_whole : (text : List ℕ) (stage : Stage) (c : CertificateValue)
+    → certificate_of text ≡ certificate_in (so_far stage) → so_far stage ≡ lines_of c
+    → certificate_of text ≡ Some c
 read_whole text stage c is same = is ∙ (ap certificate_in same ∙ certificate_found c)
 
-pub read_open : (text : List ℕ) (stage : Stage) → certificate_of text ≡ certificate_in (so_far stage) → is_open stage ≡ true → certificate_of text ≡ None
+pub read_open : (text : List ℕ) (stage : Stage) → certificate_of text ≡ certificate_in (so_far stage)
+    → is_open stage ≡ true → certificate_of text ≡ None
 read_open text stage is h = is ∙ unended stage h

@@ -1,5 +1,5 @@
 -- Bytes cut into lines, lines joined into a text, and the certificate that the lines list.
-use Rattle.std.proofs.Common.{◌≡◌, ℕ, suc, ◌+◌, ◌<◌, ◌≤◌, ℤ, pos, negsuc, List, [], ◌∷◌, ◌++◌, length, take, map, Bool, true, false, cond, not, ◌==◌, refl, sym, ap, ◌∙◌, append_assoc, codes, Option, Some, None, arith, rules}
+use Rattle.std.proofs.Common.{◌≡◌, ℕ, ◌+◌, ◌<◌, ℤ, List, [], ◌∷◌, ◌++◌, length, take, map, Bool, true, false, cond, ◌==◌, refl, sym, ap, ◌∙◌, append_assoc, codes, Option, Some, None, arith}
 use Rattle.std.specs.List.{AllByRecursion}
 use Rattle.std.specs.Option.{option_map, option_and_then}
 use Rattle.std.specs.Fmt.{signed_decimal}
@@ -10,7 +10,7 @@ use Rattle.std.proofs.lemmas.Bool.Decides.{nat_tests}
 use Rattle.stack_checker.specs.declared.line.Line.{Line}
 use Rattle.stack_checker.specs.declared.line.Line.TheVariants.{Stands, Forces, Push, End}
 use Rattle.stack_checker.specs.Numbers.{IsSmall}
-use Rattle.stack_checker.specs.Lines.{lacks, pair_text, two_text, line_text, LineFits, IsLine, line_of}
+use Rattle.stack_checker.specs.Lines.{lacks, pair_text, two_text, line_text, LineFits, line_of}
 use Rattle.stack_checker.specs.Certificate.{CertificateValue}
 use Rattle.stack_checker.specs.CertificateText.{push_line, push_lines, lines_of, text_of, IsCertificateText}
 use Rattle.stack_checker.specs.CertificateOf.{onto_first, cut, before_all, all_lines, parts_in, certificate_in, certificate_of}
@@ -35,7 +35,8 @@ cut_last (b ∷ c ∷ bs) some free =
     let h : (b == 10) ≡ false = grind (arith, nat_tests) in
     rw (h, cut_last (c ∷ bs) (omega arith) p.1) refl
 
-pub cut_some : (bytes line rest : List ℕ) → bytes ≡ line ++ 10 ∷ rest → lacks 10 line ≡ true → cut bytes ≡ take (length line + 1) bytes ∷ cut rest
+pub cut_some : (bytes line rest : List ℕ) → bytes ≡ line ++ 10 ∷ rest → lacks 10 line ≡ true
+    → cut bytes ≡ take (length line + 1) bytes ∷ cut rest
 cut_some bytes line rest is free =
     let t : take (length line + 1) bytes ≡ line ++ 10 ∷ [] = rw is (take-append-add line (10 ∷ rest) 1) in
     rw t (ap cut is ∙ cut_first line rest free)
@@ -70,7 +71,12 @@ pair_body word a b free x y = (
   word ++ two_text a b,
   sym (append_assoc word (two_text a b) (10 ∷ [])),
   list_all-append _ word (two_text a b)
-    ∙ rw (free, list_all-append _ (signed_decimal a) (32 ∷ signed_decimal b), lacks_number 10 a (omega arith) x, lacks_number 10 b (omega arith) y) refl,
+      ∙ rw (
+        free,
+        list_all-append _ (signed_decimal a) (32 ∷ signed_decimal b),
+        lacks_number 10 a (omega arith) x,
+        lacks_number 10 b (omega arith) y,
+      ) refl,
 )
 
 line_body : (l : Line) → LineFits l → (body : List ℕ) × (line_text l ≡ body ++ 10 ∷ []) × (lacks 10 body ≡ true)
@@ -85,7 +91,8 @@ unfolding cut
 cut_text [] fit = refl
 cut_text (l ∷ ls) fit =
     let p = line_body l fit.0 in
-    let t : line_text l ++ text_of ls ≡ p.0 ++ 10 ∷ text_of ls = ap (λ xs. xs ++ text_of ls) p.1 ∙ append_assoc p.0 (10 ∷ []) (text_of ls) in
+    let t : line_text l ++ text_of ls ≡ p.0 ++ 10 ∷ text_of ls =
+    ap (λ xs. xs ++ text_of ls) p.1 ∙ append_assoc p.0 (10 ∷ []) (text_of ls) in
     ap cut t
     ∙ (cut_first p.0 (text_of ls) p.2
     ∙ (ap (λ xs. xs ∷ cut (text_of ls)) (sym p.1) ∙ ap (λ xs. line_text l ∷ xs) (cut_text ls fit.1)))
@@ -100,7 +107,8 @@ pub record AreLines (lines : List Line) (texts : List (List ℕ)) : Type 0 where
   pub are : texts ≡ map line_text lines
 
 found_first : (text : List ℕ) (texts : List (List ℕ)) (line : Option Line) (more : Option (List Line)) (ls : List Line)
-    → line_of text ≡ line → ((ms : List Line) → more ≡ Some ms → AreLines ms texts) → before_all line more ≡ Some ls → AreLines ls (text ∷ texts)
+    → line_of text ≡ line → ((ms : List Line) → more ≡ Some ms → AreLines ms texts) → before_all line more ≡ Some ls
+    → AreLines ls (text ∷ texts)
 found_first text texts None more ls first rest e = cc
 found_first text texts (Some l) None ls first rest e = cc
 found_first text texts (Some l) (Some ms) [] first rest e = cc
@@ -114,7 +122,8 @@ found_first text texts (Some l) (Some ms) (k ∷ ks) first rest e =
 found_lines : (texts : List (List ℕ)) (ls : List Line) → all_lines texts ≡ Some ls → AreLines ls texts
 found_lines [] [] e = record { fit = tt; are = refl }
 found_lines [] (l ∷ ls) e = cc
-found_lines (text ∷ texts) ls e = found_first text texts (line_of text) (all_lines texts) ls refl (λ ms h. found_lines texts ms h) e
+found_lines (text ∷ texts) ls e =
+    found_first text texts (line_of text) (all_lines texts) ls refl (λ ms h. found_lines texts ms h) e
 
 -- a certificate is that of its lines, and of no others
 parts_found : (ps : List (ℤ × ℤ)) → parts_in (push_lines ps) ≡ Some ps
@@ -130,7 +139,8 @@ found_parts (End ∷ []) (p ∷ ps) e = cc
 found_parts (End ∷ l ∷ ls) ps e = cc
 found_parts (Push a b ∷ ls) ps e = pushed (parts_in ls) ps (λ qs is. found_parts ls qs is) refl e
   where
-    pushed : (found : Option (List (ℤ × ℤ))) (ps : List (ℤ × ℤ)) → ((qs : List (ℤ × ℤ)) → parts_in ls ≡ Some qs → ls ≡ push_lines qs)
+    pushed : (found : Option (List (ℤ × ℤ))) (ps : List (ℤ × ℤ))
+        → ((qs : List (ℤ × ℤ)) → parts_in ls ≡ Some qs → ls ≡ push_lines qs)
         → parts_in ls ≡ found → option_map (λ qs. (a, b) ∷ qs) found ≡ Some ps → Push a b ∷ ls ≡ push_lines ps
     pushed None ps rest is e = cc
     pushed (Some qs) [] rest is e = cc
@@ -154,24 +164,29 @@ found_certificate (Stands ∷ End ∷ ls) c e = cc
 found_certificate (Stands ∷ Forces s f ∷ ls) c e = with_forces (parts_in ls) refl e
   where
     with_forces : (found : Option (List (ℤ × ℤ))) → parts_in ls ≡ found
-        → option_map (λ ps. record { scale = s; factor = f; parts = ps }) found ≡ Some c → Stands ∷ Forces s f ∷ ls ≡ lines_of c
+        → option_map (λ ps. record { scale = s; factor = f; parts = ps }) found ≡ Some c
+        → Stands ∷ Forces s f ∷ ls ≡ lines_of c
     with_forces None is e = cc
     with_forces (Some ps) is e =
-        let same : lines_of (record { scale = s; factor = f; parts = ps }) ≡ lines_of c = let h : record { scale = s; factor = f; parts = ps } ≡ c = cc in ap lines_of h in
-        ap (λ more. Stands ∷ Forces s f ∷ more) (found_parts ls ps is) ∙ same
+        let same : record { scale = s; factor = f; parts = ps } ≡ c = cc in
+        ap (λ more. Stands ∷ Forces s f ∷ more) (found_parts ls ps is) ∙ ap lines_of same
 
 -- the certificate of a text, and the text of a certificate
 pub reads : (c : CertificateValue) (bytes : List ℕ) → IsCertificateText c bytes → certificate_of bytes ≡ Some c
 unfolding certificate_of
 reads c bytes is =
-    let lines : all_lines (cut bytes) ≡ Some (lines_of c) = ap (λ bs. all_lines (cut bs)) is.is ∙ (ap all_lines (cut_text (lines_of c) is.fits) ∙ lines_found (lines_of c) is.fits) in
+    let lines : all_lines (cut bytes) ≡ Some (lines_of c) =
+    ap (λ bs. all_lines (cut bs)) is.is
+    ∙ (ap all_lines (cut_text (lines_of c) is.fits) ∙ lines_found (lines_of c) is.fits) in
     ap (option_and_then certificate_in) lines ∙ certificate_found c
 
-pub is_read : (c : CertificateValue) (bytes : List ℕ) → certificate_of bytes ≡ Some c → IsCertificateText c bytes
+pub is_read : (c : CertificateValue) (bytes : List ℕ) → certificate_of bytes ≡ Some c
+    → IsCertificateText c bytes
 unfolding certificate_of
 is_read c bytes e = by_lines (all_lines (cut bytes)) refl e
   where
-    by_lines : (found : Option (List Line)) → all_lines (cut bytes) ≡ found → option_and_then certificate_in found ≡ Some c → IsCertificateText c bytes
+    by_lines : (found : Option (List Line)) → all_lines (cut bytes) ≡ found
+        → option_and_then certificate_in found ≡ Some c → IsCertificateText c bytes
     by_lines None is e = cc
     by_lines (Some ls) is e =
         let are = found_lines (cut bytes) ls is in

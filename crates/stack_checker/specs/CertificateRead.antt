@@ -1,6 +1,6 @@
 -- What reading a certificate answers: the certificate whose text the bytes are, `Refused` exactly where they are the text
 -- of none. `Memory` may come at any time.
-use Rattle.std.specs.Prelude.{◌≡◌, ℕ, List, Option, Some, None, Result, Ok, Err, ⊤}
+use Rattle.std.specs.Prelude.{◌≡◌, ℕ, List, Some, None, Result, Ok, Err, ⊤}
 use Rattle.stack_checker.specs.declared.types.Forces.{Forces}
 use Rattle.stack_checker.specs.declared.types.Certificate.{Certificate}
 use Rattle.stack_checker.specs.declared.types.TextError.{TextError}

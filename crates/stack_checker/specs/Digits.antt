@@ -1,5 +1,5 @@
 -- Whole numbers as digits: 0, or digits of which the first isn't 0. Independent of how a number is printed or read.
-use Rattle.std.specs.Prelude.{◌≡◌, ℕ, suc, ◌+◌, ◌-◌, ◌*◌, ◌<◌, ◌≤◌, ◌^◌, ℤ, pos, negsuc, List, [], ◌∷◌, length, slice_index, ⊤}
+use Rattle.std.specs.Prelude.{◌≡◌, ℕ, suc, ◌+◌, ◌-◌, ◌*◌, ◌<◌, ◌≤◌, ℤ, pos, negsuc, List, [], ◌∷◌, length, slice_index, ⊤}
 
 abbrev pub AreDigits : List ℕ → Type 0
 AreDigits [] = ⊤

@@ -1,5 +1,5 @@
 -- Coefficients of friction. A joint has the lesser one of its two materials, in lowest terms. Used by the survey.
-use Rattle.std.specs.Prelude.{ℕ, ℤ, pos, ◌≤ℤ◌, ◌/◌, ◌*ℤ◌, int_le, unsigned_abs, if◌then◌else◌}
+use Rattle.std.specs.Prelude.{ℕ, pos, ◌≤ℤ◌, ◌/◌, ◌*ℤ◌, int_le, unsigned_abs, if◌then◌else◌}
 use Rattle.stack_algebra.specs.Gcd.{gcd}
 use Rattle.stack_checker.specs.declared.types.Cone.{Cone}
 

@@ -23,7 +23,8 @@ common_of a b = record { low = int_max a.low b.low; high = int_min a.high b.high
 
 -- How many numbers a range has: none where its higher end is less than its lower one, many where it has a length.
 abbrev pub numbers_in : Range → Numbers
-numbers_in a = if int_lt a.high a.low then numbers.None else (if int_lt a.low a.high then numbers.Many else numbers.One)
+numbers_in a =
+    if int_lt a.high a.low then numbers.None else (if int_lt a.low a.high then numbers.Many else numbers.One)
 
 -- A rectangle's corners are listed in order round it, so the first and the third are opposite.
 abbrev pub extent_of : List Point → Extent
@@ -35,12 +36,14 @@ extent_of ps = record {
 -- The tangent of a level joint: to the right where the later rectangle lies above the earlier one, to the left where it
 -- lies below.
 abbrev pub level_frame : Extent → Extent → Frame
-level_frame a b = if int_le a.y.high b.y.low then record { tx = pos 1; ty = pos 0 } else record { tx = negsuc 0; ty = pos 0 }
+level_frame a b =
+    if int_le a.y.high b.y.low then record { tx = pos 1; ty = pos 0 } else record { tx = negsuc 0; ty = pos 0 }
 
 -- The tangent of an upright joint: downwards where the later rectangle lies right of the earlier one, upwards where it
 -- lies left.
 abbrev pub upright_frame : Extent → Extent → Frame
-upright_frame a b = if int_le a.x.high b.x.low then record { tx = pos 0; ty = negsuc 0 } else record { tx = pos 0; ty = pos 1 }
+upright_frame a b =
+    if int_le a.x.high b.x.low then record { tx = pos 0; ty = negsuc 0 } else record { tx = pos 0; ty = pos 1 }
 
 -- The corners of what two ranges span: the least x and y, the greatest x and y.
 abbrev pub least : Range → Range → Point

@@ -12,7 +12,7 @@ use Rattle.stack_checker.specs.declared.types.Survey.{Survey}
 use Rattle.stack_checker.specs.declared.types.SurveyError.{SurveyError}
 use Rattle.stack_checker.specs.declared.types.SurveyError.TheVariants.{Overlap, Memory}
 use Rattle.stack_checker.specs.declared.rectangle.Meeting.{Meeting}
-use Rattle.stack_checker.specs.declared.rectangle.Meeting.TheVariants.{Apart, Overlapping, Joint, Corner}
+use Rattle.stack_checker.specs.declared.rectangle.Meeting.TheVariants.{Overlapping, Joint, Corner}
 use Rattle.stack_checker.specs.Surveyed.{Surveyed, survey_view}
 use Rattle.stack_checker.specs.RectangleContacts.{extent_of, meeting_of}
 use Rattle.stack_checker.specs.Friction.{lesser_of}
@@ -45,7 +45,8 @@ touches_in i j _ = []
 abbrev pub surveyed_in : Structure → ℕ → ℕ → Meeting → Result Surveyed SurveyError
 surveyed_in s i j Overlapping = Err (Overlap i j)
 surveyed_in s i j meeting =
-    Ok (record { structure = s; bearings = bearings_in i j (friction_between s i j) meeting; touches = touches_in i j meeting })
+    let bearings = bearings_in i j (friction_between s i j) meeting in
+    Ok (record { structure = s; bearings = bearings; touches = touches_in i j meeting })
 
 unfoldable pub surveyed_of : Structure → Result Surveyed SurveyError
 surveyed_of s = surveyed_in s 0 1 (meeting_between s 0 1)

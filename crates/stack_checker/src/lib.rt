@@ -4,6 +4,7 @@
 ghost use Rattle.stack_model.specs.ModelView.{model_view};
 ghost use Rattle.stack_checker.specs.SurveyOf.{surveyed_of, Surveys};
 
+mod accessors;
 mod balance;
 mod block;
 mod checking;
@@ -24,15 +25,14 @@ mod verdict;
 mod weight;
 mod whole;
 
+pub use checking::check;
+pub use laws::{one_certificate, one_reading, one_text, spelled_by_digits};
 use pair::{corner_touches, joint_bearings, joint_friction, meet_bodies};
+pub use reading::read_certificate;
 use rectangle::Meeting;
 use stack_model::Model;
 use std::alloc::Global;
 use types::{Survey, SurveyError};
-
-
-pub use laws::{one_certificate, one_reading, one_text};
-pub use reading::read_certificate;
 pub use verdict::check_laws;
 
 /// The contacts of the model's two bodies: where they have a segment in common, a bearing at each of its ends, by x and then
@@ -59,3 +59,6 @@ pub fn survey(alloc: Global, model: Model) -> Result<Survey, SurveyError>
         touches,
     })
 }
+
+#[cfg(test)]
+mod tests;

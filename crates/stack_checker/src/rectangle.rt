@@ -36,9 +36,15 @@ pub enum Meeting {
     /// They have an area in common.
     Overlapping,
     /// They have a segment in common, and the tangent has the later one on its left.
-    Joint { from: Point, to: Point, frame: Frame },
+    Joint {
+        from: Point,
+        to: Point,
+        frame: Frame,
+    },
     /// They have one point in common.
-    Corner { at: Point },
+    Corner {
+        at: Point,
+    },
 }
 
 /// The numbers between `a` and `b`.
@@ -115,11 +121,22 @@ fn meet_in(x: Range, y: Range, earlier: Extent, later: Extent) -> Meeting
     ensures { result ≡ meeting_in (numbers_in x) (numbers_in y) (least x y) (greatest x y) earlier later }
 {
     let from = Point { x: x.low, y: y.low };
-    let to = Point { x: x.high, y: y.high };
+    let to = Point {
+        x: x.high,
+        y: y.high,
+    };
     match (count(x), count(y)) {
         (Numbers::Many, Numbers::Many) => Meeting::Overlapping,
-        (Numbers::Many, Numbers::One) => Meeting::Joint { from, to, frame: level(earlier, later) },
-        (Numbers::One, Numbers::Many) => Meeting::Joint { from, to, frame: upright(earlier, later) },
+        (Numbers::Many, Numbers::One) => Meeting::Joint {
+            from,
+            to,
+            frame: level(earlier, later),
+        },
+        (Numbers::One, Numbers::Many) => Meeting::Joint {
+            from,
+            to,
+            frame: upright(earlier, later),
+        },
         (Numbers::One, Numbers::One) => Meeting::Corner { at: from },
         _ => Meeting::Apart,
     }
@@ -129,5 +146,10 @@ fn meet_in(x: Range, y: Range, earlier: Extent, later: Extent) -> Meeting
 pub fn meet(earlier: Extent, later: Extent) -> Meeting
     ensures { result ≡ meeting_of earlier later }
 {
-    meet_in(common(earlier.x, later.x), common(earlier.y, later.y), earlier, later)
+    meet_in(
+        common(earlier.x, later.x),
+        common(earlier.y, later.y),
+        earlier,
+        later,
+    )
 }

@@ -20,9 +20,8 @@ pub enum Stage {
 
 /// The stage after one more line, if that line may come there.
 pub fn accept(alloc: Global, stage: Stage, line: Line) -> Result<Option<Stage>, AllocError>
-    ensures {
-        IfOk result (λ next. MatchOption next (can_follow stage line ≡ false)
-            (λ s. (can_follow stage line ≡ true) × (so_far s ≡ so_far stage ++ line ∷ []))) }
+    ensures { IfOk result (λ next. MatchOption next (can_follow stage line ≡ false)
+        (λ s. (can_follow stage line ≡ true) × (so_far s ≡ so_far stage ++ line ∷ []))) }
 {
     match stage {
         Stage::Form => match line {
@@ -32,7 +31,11 @@ pub fn accept(alloc: Global, stage: Stage, line: Line) -> Result<Option<Stage>, 
         Stage::List => match line {
             Line::Forces { scale, factor } => {
                 let parts = Vec::new(alloc);
-                Ok(Some(Stage::Parts(Forces { scale, factor, parts })))
+                Ok(Some(Stage::Parts(Forces {
+                    scale,
+                    factor,
+                    parts,
+                })))
             }
             _ => Ok(None),
         },
@@ -42,9 +45,8 @@ pub fn accept(alloc: Global, stage: Stage, line: Line) -> Result<Option<Stage>, 
 }
 
 fn accept_part(mut forces: Forces, line: Line) -> Result<Option<Stage>, AllocError>
-    ensures {
-        IfOk result (λ next. MatchOption next (can_follow (Stage.Parts forces) line ≡ false)
-            (λ s. (can_follow (Stage.Parts forces) line ≡ true) × (so_far s ≡ so_far (Stage.Parts forces) ++ line ∷ []))) }
+    ensures { IfOk result (λ next. MatchOption next (can_follow (Stage.Parts forces) line ≡ false)
+        (λ s. (can_follow (Stage.Parts forces) line ≡ true) × (so_far s ≡ so_far (Stage.Parts forces) ++ line ∷ []))) }
 {
     match line {
         Line::Push { a, b } => {

@@ -1,5 +1,4 @@
-use Rattle.std.proofs.Common.{◌≡◌, ◌∙◌, ap, sym, subst, arith, ◌<◌, ℕ}
-use Rattle.stack_algebra.specs.Gcd.{gcd}
+use Rattle.std.proofs.Common.{◌∙◌, arith}
 use Rattle.stack_algebra.proofs.CommonDivisor.{gcd-pos}
 use Rattle.stack_checker.proofs.DivisionSteps.{gcd-step, gcd-done}
 use Rattle.stack_checker.proofs.friction.common_divisor.Goals as goal

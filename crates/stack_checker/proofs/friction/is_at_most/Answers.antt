@@ -1,4 +1,4 @@
-use Rattle.std.proofs.Common.{◌≡◌, ◌*ℤ◌, SFits, w64, rules}
+use Rattle.std.proofs.Common.{◌*ℤ◌, SFits, w64, rules}
 use Rattle.std.proofs.lemmas.Int.{to_z-of_z}
 use Rattle.stack_checker.proofs.friction.is_at_most.Goals as goal
 

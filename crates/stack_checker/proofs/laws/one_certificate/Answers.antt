@@ -1,5 +1,4 @@
 use Rattle.std.proofs.Common.{◌≡◌, Some, sym, ◌∙◌}
-use Rattle.stack_checker.specs.Certificate.{CertificateValue}
 use Rattle.stack_checker.proofs.TextLines.{reads}
 use Rattle.stack_checker.proofs.laws.one_certificate.Goals as goal
 

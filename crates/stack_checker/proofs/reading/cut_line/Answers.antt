@@ -1,4 +1,3 @@
-use Rattle.std.proofs.Common.{◌≡◌, ap, ◌∙◌, refl}
 use Rattle.stack_checker.specs.CertificateOf.{cut}
 use Rattle.stack_checker.proofs.TextLines.{cut_some, cut_last}
 use Rattle.stack_checker.proofs.reading.cut_line.Goals as goal

@@ -1,4 +1,4 @@
-use Rattle.std.proofs.Common.{◌≡◌, sym, ◌∙◌}
+use Rattle.std.proofs.Common.{sym, ◌∙◌}
 use Rattle.stack_checker.proofs.ReadSoFar.{read_on, refused_line, refused_bytes, no_rest, read_whole, read_open}
 use Rattle.stack_checker.proofs.reading.read_forces.Goals as goal
 
@@ -12,12 +12,15 @@ returns-in_default c = refused_bytes _ _ _ _ _ c.loop-rest.invariant c.cut_line.
 
 pub returns-in-None : goal.returns-in-None
 returns-in-None c =
-    refused_line _ _ _ _ _ c.in-Some.line c.loop-rest.invariant c.cut_line.ensures.cut c.in-Some.ensures.some (rw c.in-None.is at c.in_ok-next.ensures)
+    let barred = rw c.in-None.is at c.in_ok-next.ensures in
+    refused_line _ _ _ _ _ c.in-Some.line c.loop-rest.invariant c.cut_line.ensures.cut c.in-Some.ensures.some barred
 
 pub returns-in-Some-finish : goal.returns-in-Some-finish
 returns-in-Some-finish c =
-    read_whole _ _ _ (no_rest _ _ _ (sym c.is_empty.ensures ∙ c.loop-rest-test.false) c.loop-rest.invariant) c.in-Some-finish.ensures
+    let at_end = no_rest _ _ _ (sym c.is_empty.ensures ∙ c.loop-rest-test.false) c.loop-rest.invariant in
+    read_whole _ _ _ at_end c.in-Some-finish.ensures
 
 pub returns-in-None-finish : goal.returns-in-None-finish
 returns-in-None-finish c =
-    read_open _ c.loop-rest.stage (no_rest _ _ _ (sym c.is_empty.ensures ∙ c.loop-rest-test.false) c.loop-rest.invariant) c.in-None-finish.ensures
+    let at_end = no_rest _ _ _ (sym c.is_empty.ensures ∙ c.loop-rest-test.false) c.loop-rest.invariant in
+    read_open _ c.loop-rest.stage at_end c.in-None-finish.ensures
