@@ -19,6 +19,13 @@ use crate::weight::weight_on;
 use crate::whole::{Sign, Whole};
 use stack_model::Model;
 
+/// What the scale and the factor of a list of forces are tested for.
+#[derive(Clone, Copy, Debug, PartialEq, Eq)]
+struct Signs {
+    scale: Sign,
+    factor: Sign,
+}
+
 /// Body `i` as a block: its weight is its dead load, and it has no live load.
 fn block_at(model: &Model, i: usize) -> Block
     requires { i < length (model_view model.now).bodies }
@@ -62,17 +69,20 @@ fn check_blocks(survey: &Survey, scale: Whole, factor: Whole, parts: &[(i128, i1
 
 /// The tests of a list of forces, with those of its scale and its factor.
 #[tactic(auto, unfolding(crate::specs::WrittenCheck::written_forces))]
-fn check_forces(survey: &Survey, scale: Sign, factor: Sign, forces: &Forces) -> Result<(), Stop>
-    ensures { result ≡ written_forces scale factor (survey_view survey.now) (forces_view forces.now) }
+fn check_numbers(survey: &Survey, signs: Signs, scale: Whole, factor: Whole, parts: &[(i128, i128)]) -> Result<(), Stop>
+    ensures { result ≡ written_forces signs.scale signs.factor (survey_view survey.now) (record { scale = scale.value; factor = factor.value; parts = parts.now }) }
 {
-    let parts = forces.parts.as_slice();
-    let with_scale = Whole::of(forces.scale);
-    let with_factor = Whole::of(forces.factor);
     require(parts.len() == survey.bearings().len(), Reason::Count)?;
-    require(with_scale.is(scale), Reason::Scale)?;
-    require(with_factor.is(factor), Reason::Factor)?;
+    require(scale.is(signs.scale), Reason::Scale)?;
+    require(factor.is(signs.factor), Reason::Factor)?;
     check_cones(survey.bearings(), parts)?;
-    check_blocks(survey, with_scale, with_factor, parts)
+    check_blocks(survey, scale, factor, parts)
+}
+
+fn check_forces(survey: &Survey, signs: Signs, forces: &Forces) -> Result<(), Stop>
+    ensures { result ≡ written_forces signs.scale signs.factor (survey_view survey.now) (forces_view forces.now) }
+{
+    check_numbers(survey, signs, Whole::of(forces.scale), Whole::of(forces.factor), forces.parts.as_slice())
 }
 
 fn answer(part: Part, tested: Result<(), Stop>) -> Check
@@ -89,7 +99,11 @@ fn answer(part: Part, tested: Result<(), Stop>) -> Check
 pub fn check(s: &Survey, c: &Certificate) -> Check
     ensures written { result ≡ written_check (survey_view s.now) (certificate_view c.now) }
 {
+    let signs = Signs {
+        scale: Sign::Positive,
+        factor: Sign::Zero,
+    };
     match c {
-        Certificate::Stands(forces) => answer(Part::First, check_forces(s, Sign::Positive, Sign::Zero, forces)),
+        Certificate::Stands(forces) => answer(Part::First, check_forces(s, signs, forces)),
     }
 }
