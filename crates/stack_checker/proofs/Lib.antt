@@ -14,3 +14,4 @@ pub mod Frees
 pub mod Verdicts
 pub mod FanSums
 pub mod Products
+pub mod Places

@@ -7,6 +7,7 @@ ghost use Rattle.stack_checker.specs.Certificate.{forces_view, certificate_view}
 ghost use Rattle.stack_checker.specs.FreeBlocks.{frees_of};
 ghost use Rattle.stack_checker.specs.Surveyed.{survey_view};
 ghost use Rattle.stack_checker.specs.Truth.{IsTrueCertificate};
+ghost use Rattle.stack_checker.specs.Verdict.{IsRejected, NamesOf};
 ghost use Rattle.stack_checker.specs.Whole.{whole};
 ghost use Rattle.stack_checker.specs.WrittenCheck.{written_balance, block_of, written_forces, answer_of, written_check};
 
@@ -95,9 +96,9 @@ fn answer(part: Part, tested: Result<(), Stop>) -> Check
     }
 }
 
-/// Whether a certificate is true of the survey's model.
-pub fn check(s: &Survey, c: &Certificate) -> Check
-    ensures written { result ≡ written_check (survey_view s.now) (certificate_view c.now) }
+/// The tests of each form of certificate, in its order.
+fn check_form(s: &Survey, c: &Certificate) -> Check
+    ensures { result ≡ written_check (survey_view s.now) (certificate_view c.now) }
 {
     let signs = Signs {
         scale: Sign::Positive,
@@ -106,4 +107,16 @@ pub fn check(s: &Survey, c: &Certificate) -> Check
     match c {
         Certificate::Stands(forces) => answer(Part::First, check_forces(s, signs, forces)),
     }
+}
+
+/// Whether a certificate is true of the survey's model: `Accepted` only where it is, `Rejected` only where it isn't, with the
+/// first test that fails. `TooWide` where a product or a partial result passes `2^127 - 1` in size before a test fails, with
+/// the first such place. Bearings and free blocks are counted from 0. Takes no memory. After Livesley (1978).
+pub fn check(s: &Survey, c: &Certificate) -> Check
+    ensures written { result ≡ written_check (survey_view s.now) (certificate_view c.now) }
+    ensures accepted { result ≡ Check.Accepted → IsTrueCertificate (survey_view s.now) (certificate_view c.now) }
+    ensures rejected { IsRejected result → ¬ (IsTrueCertificate (survey_view s.now) (certificate_view c.now)) }
+    ensures names { NamesOf (survey_view s.now) result }
+{
+    check_form(s, c)
 }
