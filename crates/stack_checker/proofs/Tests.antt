@@ -104,14 +104,14 @@ cone_fails k p q f reason h holds = go (demand_before (int_le (pos 0) f.a.value)
         far (le_along (q.value *ℤ abs f.b.value) (p.value *ℤ f.a.value) least.value most.value (sym (is_least ∙ ap (λ t. q.value *ℤ t) is_size)) (sym is_most) holds.within)
 
     go : (int_le (pos 0) f.a.value ≡ false) ⊎ ((int_le (pos 0) f.a.value ≡ true) × ((
-          made_at (made (p.value *ℤ f.a.value)) (places.Cone k) >>= λ most.
-          made_at (made (pos (nat_abs f.b.value))) (places.Cone k) >>= λ size.
-          made_at (made (q.value *ℤ size.value)) (places.Cone k) >>= λ least.
-          demand (int_le least.value most.value) (reasons.Cone k)) ≡ Err (Rejected reason))) → ⊥
+        made_at (made (p.value *ℤ f.a.value)) (places.Cone k) >>= λ most.
+        made_at (made (pos (nat_abs f.b.value))) (places.Cone k) >>= λ size.
+        made_at (made (q.value *ℤ size.value)) (places.Cone k) >>= λ least.
+        demand (int_le least.value most.value) (reasons.Cone k)) ≡ Err (Rejected reason))) → ⊥
     go (inl e) = not_le_of_false (pos 0) f.a.value e holds.pushes
     go (inr r) =
         let most = made_before (made (p.value *ℤ f.a.value)) (places.Cone k) _ reason r.1 in
         let size = made_before (made (pos (nat_abs f.b.value))) (places.Cone k) _ reason most.after in
         let least = made_before (made (q.value *ℤ size.value.value)) (places.Cone k) _ reason size.after in
         within most.value size.value least.value (made_is _ most.value most.before) (made_is _ size.value size.before) (made_is _ least.value least.before)
-            (not_le_of_false least.value.value most.value.value (demand_unmet _ _ reason least.after))
+        (not_le_of_false least.value.value most.value.value (demand_unmet _ _ reason least.after))

@@ -49,7 +49,13 @@ fn force(axis: Axis, joint: Joint, push: Push) -> Result<Whole, Wide>
 }
 
 #[tactic(auto, unfolding(crate::specs::WrittenSums::with_bearing))]
-fn add_bearing(axis: Axis, block: Block, push: Push, so_far: Whole, z: Bearing) -> Result<Whole, Wide>
+fn add_bearing(
+    axis: Axis,
+    block: Block,
+    push: Push,
+    so_far: Whole,
+    z: Bearing,
+) -> Result<Whole, Wide>
     ensures { result ≡ with_bearing axis block push so_far z }
 {
     let joint = joint_of(block.corner, z);
@@ -64,7 +70,12 @@ fn add_bearing(axis: Axis, block: Block, push: Push, so_far: Whole, z: Bearing) 
     }
 }
 
-fn add_bearings(axis: Axis, block: Block, bearings: &[Bearing], parts: &[(i128, i128)]) -> Result<Whole, Wide>
+fn add_bearings(
+    axis: Axis,
+    block: Block,
+    bearings: &[Bearing],
+    parts: &[(i128, i128)],
+) -> Result<Whole, Wide>
     requires { length bearings.now ≤ length parts.now }
     ensures { result ≡ steps (λ k so_far z. with_bearing axis block (push_at parts.now k) so_far z) 0 (whole (pos 0)) bearings.now }
 {
@@ -77,7 +88,14 @@ fn add_bearings(axis: Axis, block: Block, bearings: &[Bearing], parts: &[(i128, 
 
 /// The sum of a block along an axis.
 #[tactic(auto, unfolding(crate::specs::WrittenSums::written_sum))]
-pub fn sum(axis: Axis, block: Block, scale: Whole, factor: Whole, bearings: &[Bearing], parts: &[(i128, i128)]) -> Result<Whole, Wide>
+pub fn sum(
+    axis: Axis,
+    block: Block,
+    scale: Whole,
+    factor: Whole,
+    bearings: &[Bearing],
+    parts: &[(i128, i128)],
+) -> Result<Whole, Wide>
     requires { length bearings.now ≤ length parts.now }
     ensures { result ≡ written_sum axis block scale factor bearings.now parts.now }
 {

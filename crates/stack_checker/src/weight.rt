@@ -94,5 +94,9 @@ pub fn weight_on(unit: i64, outline: &Polygon) -> Loads
     let _len = outline.len();
     let twice_area = Whole::of(outline.twice_area());
     let about_y = Whole::of(outline.six_moments().0);
-    weight_by(unit, twice_area, about(outline.corner(0).x, about_y, twice_area))
+    weight_by(
+        unit,
+        twice_area,
+        about(outline.corner(0).x, about_y, twice_area),
+    )
 }
