@@ -7,7 +7,8 @@ pub mod TextLines
 pub mod ReadSoFar
 pub mod InOrder
 pub mod PlainSums
-pub mod Tests
+pub mod Demanded
+pub mod ConeTests
 pub mod Balances
 pub mod SceneSums
 pub mod Frees

@@ -33,7 +33,8 @@ use Rattle.stack_checker.specs.WrittenSums.{push_at}
 use Rattle.stack_checker.specs.WrittenCheck.{demand, written_cone, written_balance, written_forces, block_of, answer_of, written_check}
 use Rattle.stack_checker.specs.Verdict.{IsRejected, AcceptedIsTrue, RejectedIsFalse, TrueIsAccepted}
 use Rattle.stack_checker.proofs.InOrder.{bind_ok, bind_err, Follows, each_passes, one_ends, EndsAt}
-use Rattle.stack_checker.proofs.Tests.{demand_met, demand_before, lt_of_true, not_lt_of_false, zero_of_true, not_zero_of_false, Holds, cone_holds, cone_fails}
+use Rattle.stack_checker.proofs.Demanded.{demand_met, demand_before, lt_of_true, not_lt_of_false, zero_of_true, not_zero_of_false}
+use Rattle.stack_checker.proofs.ConeTests.{Holds, cone_holds, cone_fails}
 use Rattle.stack_checker.proofs.Balances.{balance_holds, balance_fails, Balances}
 use Rattle.stack_checker.proofs.SceneSums.{part_is, body_balances, block_balances}
 use Rattle.stack_checker.proofs.Frees.{Listed, free_is_listed, IsFreeAt, listed_is_free}
