@@ -17,7 +17,7 @@ use Rattle.stack_checker.specs.WrittenSums.{load_along, written_sum}
 use Rattle.stack_checker.specs.WrittenCheck.{demand, made_at, written_balance}
 use Rattle.stack_checker.proofs.InOrder.{bind_ok}
 use Rattle.stack_checker.proofs.PlainSums.{borne_along, sum_is}
-use Rattle.stack_checker.proofs.Tests.{demand_met, demand_unmet, demand_before, made_at_ok, made_before, zero_of_true, not_zero_of_false}
+use Rattle.stack_checker.proofs.Demanded.{demand_met, demand_unmet, demand_before, made_at_ok, made_before, zero_of_true, not_zero_of_false}
 
 module _ (block : Block) (scale factor : Whole) (bearings : List Bearing) (parts : List (ℤ × ℤ)) where
   -- the plain sum of a block along an axis

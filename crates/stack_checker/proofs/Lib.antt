@@ -7,10 +7,12 @@ pub mod TextLines
 pub mod ReadSoFar
 pub mod InOrder
 pub mod PlainSums
-pub mod Tests
+pub mod Demanded
+pub mod ConeTests
 pub mod Balances
 pub mod SceneSums
 pub mod Frees
 pub mod Verdicts
 pub mod FanSums
 pub mod Products
+pub mod Places

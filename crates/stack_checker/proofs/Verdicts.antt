@@ -31,9 +31,10 @@ use Rattle.stack_checker.specs.Truth.{part_of, forces_of, IsTrueCertificate}
 use Rattle.stack_checker.specs.Whole.{has_sign, whole}
 use Rattle.stack_checker.specs.WrittenSums.{push_at}
 use Rattle.stack_checker.specs.WrittenCheck.{demand, written_cone, written_balance, written_forces, block_of, answer_of, written_check}
-use Rattle.stack_checker.specs.Verdict.{AcceptedIsTrue, RejectedIsFalse, TrueIsAccepted}
+use Rattle.stack_checker.specs.Verdict.{IsRejected, AcceptedIsTrue, RejectedIsFalse, TrueIsAccepted}
 use Rattle.stack_checker.proofs.InOrder.{bind_ok, bind_err, Follows, each_passes, one_ends, EndsAt}
-use Rattle.stack_checker.proofs.Tests.{demand_met, demand_before, lt_of_true, not_lt_of_false, zero_of_true, not_zero_of_false, Holds, cone_holds, cone_fails}
+use Rattle.stack_checker.proofs.Demanded.{demand_met, demand_before, lt_of_true, not_lt_of_false, zero_of_true, not_zero_of_false}
+use Rattle.stack_checker.proofs.ConeTests.{Holds, cone_holds, cone_fails}
 use Rattle.stack_checker.proofs.Balances.{balance_holds, balance_fails, Balances}
 use Rattle.stack_checker.proofs.SceneSums.{part_is, body_balances, block_balances}
 use Rattle.stack_checker.proofs.Frees.{Listed, free_is_listed, IsFreeAt, listed_is_free}
@@ -196,3 +197,8 @@ true_is_accepted s c h = go (written_check s c) refl
     go answers.Accepted e = inl e
     go (answers.Rejected part reason) e = absurd (rejected_is_false s c part reason e h)
     go (answers.TooWide place) e = inr (place, e)
+
+pub rejected_settles : (s : Surveyed) (c : CertificateValue) (answer : Check) → answer ≡ written_check s c → IsRejected answer → ¬ (IsTrueCertificate s c)
+rejected_settles s c answers.Accepted e h = absurd h
+rejected_settles s c (answers.Rejected part reason) e h = rejected_is_false s c part reason (sym e)
+rejected_settles s c (answers.TooWide place) e h = absurd h

@@ -4,8 +4,6 @@ use Rattle.std.specs.Prelude.{ℕ, nat_eq, ℤ, pos, nat_abs, ◌*ℤ◌, int_le
 use Rattle.stack_algebra.specs.Steps.{◌>>=◌, steps}
 use Rattle.stack_polygon.specs.Corners.{corner_of}
 use Rattle.stack_model.specs.Structure.{NamedBody, Structure, body_of}
-use Rattle.stack_equilibrium.specs.Scene as scene
-use Rattle.stack_equilibrium.specs.Loads.{weight_of}
 use Rattle.stack_checker.specs.declared.types.Bearing.{Bearing}
 use Rattle.stack_checker.specs.declared.types.Axis.TheVariants.{X, Y, M}
 use Rattle.stack_checker.specs.declared.types.Part.{Part}
@@ -21,7 +19,6 @@ use Rattle.stack_checker.specs.declared.whole.Whole.{Whole}
 use Rattle.stack_checker.specs.declared.whole.Sign.{Sign}
 use Rattle.stack_checker.specs.declared.whole.Sign.TheVariants.{Zero, Positive}
 use Rattle.stack_checker.specs.declared.block.Push.{Push}
-use Rattle.stack_checker.specs.declared.block.Loads.{Loads}
 use Rattle.stack_checker.specs.declared.block.Block.{Block}
 use Rattle.stack_checker.specs.declared.stop.Stop.{Stop}
 use Rattle.stack_checker.specs.declared.stop.Stop.TheVariants.{Rejected, TooWide}
@@ -29,6 +26,7 @@ use Rattle.stack_checker.specs.Surveyed.{Surveyed}
 use Rattle.stack_checker.specs.Certificate.{CertificateValue}
 use Rattle.stack_checker.specs.FreeBlocks.{frees_of}
 use Rattle.stack_checker.specs.SurveyScene.{unit_weight_of, no_load}
+use Rattle.stack_checker.specs.Weights.{loads_of, weight_loads}
 use Rattle.stack_checker.specs.Whole.{made, has_sign, whole}
 use Rattle.stack_checker.specs.WrittenSums.{push_at, written_sum}
 
@@ -61,14 +59,11 @@ written_balance b block scale factor bearings parts = do
   along_y ← demand (has_sign Zero y.value) (reasons.Balance b Y)
   demand (has_sign Zero m.value) (reasons.Balance b M)
 
-abbrev pub loads_of : scene.Wrench → Loads
-loads_of w = record { fx = whole w.fx; fy = whole w.fy; m = whole w.m }
-
 abbrev pub block_from : Structure → ℕ → NamedBody → Block
 block_from m i b = record {
   body = i;
   corner = corner_of b.corners 0;
-  dead = loads_of (weight_of (unit_weight_of m b) b.corners);
+  dead = weight_loads (unit_weight_of m b) b.corners;
   live = loads_of no_load;
 }
 

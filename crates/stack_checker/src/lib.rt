@@ -25,6 +25,7 @@ mod verdict;
 mod weight;
 mod whole;
 
+pub use checking::check;
 pub use laws::{one_certificate, one_reading, one_text, spelled_by_digits};
 use pair::{corner_touches, joint_bearings, joint_friction, meet_bodies};
 pub use reading::read_certificate;
