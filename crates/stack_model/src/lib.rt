@@ -1,6 +1,8 @@
 //! The model of a structure of rigid blocks: materials, bodies and loads, and its TOML file.
 #![tactic(auto)]
 
+mod bodies;
+mod drawing;
 mod errors;
 mod faults;
 mod field;

@@ -1,0 +1,7 @@
+-- Bodies with their corner lists as they are written, as the code holds them.
+use Rattle.std.specs.Prelude.{List, map, string_bytes}
+use Rattle.stack_model.specs.declared.drawing.DrawnBody.{DrawnBody}
+use Rattle.stack_model.specs.Structure.{NamedBody}
+
+abbrev pub drawn_view : DrawnBody → NamedBody
+drawn_view b = record { name = string_bytes b.name; material = b.body.material; fixed = b.body.fixed; corners = b.corners.items }
