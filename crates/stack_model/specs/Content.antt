@@ -102,12 +102,18 @@ add_load bs i ls l = do
   free ← unless (is_free body bs) (LoadOnFixed i)
   Ok (ls ++ record { body = body; live = live; at = point; fx = force.0; fy = force.1 } ∷ [])
 
-unfoldable pub content_of : Outlines → Parts → Result Structure Fault
-content_of outline_of parts = do
+-- the materials and the bodies
+unfoldable pub bodies_of : Outlines → Parts → Result (List NamedMaterial × List NamedBody) Fault
+bodies_of outline_of parts = do
   few_materials ← at_most 64 (length parts.materials) whats.Materials
   materials ← steps add_material 0 [] parts.materials
   few_blocks ← at_most 192 (length parts.blocks) whats.Blocks
   bodies ← steps (add_block outline_of materials) 0 [] parts.blocks
+  Ok (materials, bodies)
+
+unfoldable pub content_of : Outlines → Parts → Result Structure Fault
+content_of outline_of parts = do
+  both ← bodies_of outline_of parts
   few_loads ← at_most 256 (length parts.loads) whats.Loads
-  loads ← steps (add_load bodies) 0 [] parts.loads
-  Ok (record { materials = materials; bodies = bodies; loads = loads })
+  loads ← steps (add_load both.1) 0 [] parts.loads
+  Ok (record { materials = both.0; bodies = both.1; loads = loads })

@@ -2,12 +2,14 @@
 #![tactic(auto)]
 
 mod bodies;
+mod content;
 mod drawing;
 mod errors;
 mod faults;
 mod field;
 mod limits;
 mod list;
+mod loads;
 mod materials;
 mod model;
 mod names;
