@@ -1,6 +1,6 @@
 -- The content of what a file lists: the structure, or the first fault of content in one order. Materials come first, then
 -- blocks, then loads, each in the order of the file. Which corner lists are outlines is a parameter.
-use Rattle.std.specs.Prelude.{ℕ, ◌+◌, ℤ, pos, Bool, true, false, not, ◌&&◌, List, [], ◌∷◌, ◌++◌, length, map, take, drop, Option, Some, None, Result, Ok, Err, nat_le, nat_lt, position, count_by, if◌then◌else◌, ⊤}
+use Rattle.std.specs.Prelude.{ℕ, ◌+◌, ℤ, pos, Bool, true, false, not, ◌&&◌, List, [], ◌∷◌, ◌++◌, length, map, Option, Some, None, Result, Ok, Err, nat_le, nat_lt, position, count_by, if◌then◌else◌, ⊤}
 use Rattle.std.specs.Str.{bytes_eq}
 use Rattle.std.specs.List.{list_any}
 use Rattle.stack_algebra.specs.Steps.{◌>>=◌, steps}
@@ -14,7 +14,7 @@ use Rattle.stack_model.specs.declared.faults.What.{What}
 use Rattle.stack_model.specs.declared.faults.What.TheVariants as whats
 use Rattle.stack_model.specs.declared.faults.Fault.{Fault}
 use Rattle.stack_model.specs.declared.faults.Fault.TheVariants.{Range, SameName, NoMaterial, NoBlock, LoadOnFixed, TooMany}
-use Rattle.stack_model.specs.Structure.{NamedMaterial, NamedBody, Structure}
+use Rattle.stack_model.specs.Structure.{NamedMaterial, NamedBody, Structure, body_at}
 use Rattle.stack_model.specs.Parts.{MaterialPart, BlockPart, LoadPart, Parts}
 use Rattle.stack_model.specs.Limits.{is_name, is_between, friction_of, point_of, corners_of, live_of, force_of}
 
@@ -72,25 +72,25 @@ abbrev pub has_room : Bool → List NamedBody → Result ⊤ Fault
 has_room true bs = unless (nat_lt (count_by (λ b. b.fixed) bs) 64) (TooMany whats.Fixed)
 has_room false bs = unless (nat_lt (count_by (λ b. not b.fixed) bs) 128) (TooMany whats.Free)
 
--- what block i is without its outline: the number of its material, where its own name is new
-unfoldable pub numbered : ℕ → List NamedMaterial → List NamedBody → BlockPart → Result ℕ Fault
-numbered i ms bs b = do
-  new ← unless (is_new b.name (body_names bs)) (SameName (spots.Block i))
-  found (number_of b.material (material_names ms)) (NoMaterial i)
+-- one more body, as block i: its name is new, its material is known, its corner list has an outline, there is room for it
+unfoldable pub with_body : Outlines → ℕ → List ℕ → Option ℕ → Bool → List Point → List NamedBody → Result (List NamedBody) Fault
+with_body outline_of i name material fixed corners bs = do
+  new ← unless (is_new name (body_names bs)) (SameName (spots.Block i))
+  number ← found material (NoMaterial i)
+  outline ← outline_of i corners
+  room ← has_room fixed bs
+  Ok (bs ++ record { name = name; material = number; fixed = fixed; corners = outline } ∷ [])
 
 -- block i, after those before it
 unfoldable pub add_block : Outlines → List NamedMaterial → ℕ → List NamedBody → BlockPart → Result (List NamedBody) Fault
 add_block outline_of ms i bs b = do
   named ← unless (is_name b.name) (Range (spots.Block i) keys.Name)
   corners ← ranged (spots.Block i) keys.Corners (corners_of b.corners)
-  material ← numbered i ms bs b
-  outline ← outline_of i corners
-  room ← has_room b.fixed bs
-  Ok (bs ++ record { name = b.name; material = material; fixed = b.fixed; corners = outline } ∷ [])
+  with_body outline_of i b.name (number_of b.material (material_names ms)) b.fixed corners bs
 
 -- the body with a number isn't fixed
 abbrev pub is_free : ℕ → List NamedBody → Bool
-is_free n bs = list_any (λ b. not b.fixed) (take 1 (drop n bs))
+is_free n bs = not (body_at bs n).fixed
 
 -- load i, after those before it
 unfoldable pub add_load : List NamedBody → ℕ → List Load → LoadPart → Result (List Load) Fault
@@ -102,12 +102,18 @@ add_load bs i ls l = do
   free ← unless (is_free body bs) (LoadOnFixed i)
   Ok (ls ++ record { body = body; live = live; at = point; fx = force.0; fy = force.1 } ∷ [])
 
-unfoldable pub content_of : Outlines → Parts → Result Structure Fault
-content_of outline_of parts = do
+-- the materials and the bodies
+unfoldable pub bodies_of : Outlines → Parts → Result (List NamedMaterial × List NamedBody) Fault
+bodies_of outline_of parts = do
   few_materials ← at_most 64 (length parts.materials) whats.Materials
   materials ← steps add_material 0 [] parts.materials
   few_blocks ← at_most 192 (length parts.blocks) whats.Blocks
   bodies ← steps (add_block outline_of materials) 0 [] parts.blocks
+  Ok (materials, bodies)
+
+unfoldable pub content_of : Outlines → Parts → Result Structure Fault
+content_of outline_of parts = do
+  both ← bodies_of outline_of parts
   few_loads ← at_most 256 (length parts.loads) whats.Loads
-  loads ← steps (add_load bodies) 0 [] parts.loads
-  Ok (record { materials = materials; bodies = bodies; loads = loads })
+  loads ← steps (add_load both.1) 0 [] parts.loads
+  Ok (record { materials = both.0; bodies = both.1; loads = loads })

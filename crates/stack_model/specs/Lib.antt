@@ -9,5 +9,7 @@ pub mod Forms
 pub mod Shape
 pub mod Limits
 pub mod Content
+pub mod Drawn
+pub mod AsWritten
 pub mod Reading
 pub mod Pairs

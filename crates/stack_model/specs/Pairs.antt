@@ -9,11 +9,8 @@ use Rattle.stack_model.specs.declared.faults.Fault.{Fault}
 use Rattle.stack_model.specs.declared.errors.ReadError.{ReadError}
 use Rattle.stack_model.specs.declared.errors.ReadError.TheVariants.{Refused, Slanted, Memory}
 use Rattle.stack_model.specs.Structure.{NamedMaterial, NamedBody, Structure}
+use Rattle.stack_model.specs.AsWritten.{as_written}
 use Rattle.stack_model.specs.Reading.{table_of, model_of}
-
--- every corner list stands as it is written, so that no fault is that of a corner list
-abbrev pub as_written : ℕ → List Point → Result (List Point) Fault
-as_written i ps = Ok ps
 
 abbrev pub is_one : List NamedMaterial → Bool
 is_one (m ∷ []) = true

@@ -1,11 +1,15 @@
 //! The model of a structure of rigid blocks: materials, bodies and loads, and its TOML file.
 #![tactic(auto)]
 
+mod bodies;
+mod content;
+mod drawing;
 mod errors;
 mod faults;
 mod field;
 mod limits;
 mod list;
+mod loads;
 mod materials;
 mod model;
 mod names;
