@@ -27,7 +27,8 @@ pub struct RealSink {
 impl RealSink {
     /// The stream, with no fault yet.
     pub fn new(rt: &HostRuntime, stream: Stream) -> RealSink
-        ensures { result.faults ≡ 0 }
+        ensures stream { result.stream ≡ stream }
+        ensures faults { result.faults ≡ 0 }
     {
         RealSink {
             stream,
