@@ -10,7 +10,7 @@ ghost use Rattle.stack_model.specs.Content.{unless as unless_of, ranged, with_ma
 
 use crate::faults::{Fault, Key, Spot};
 use crate::limits::{friction, is_between, is_name};
-use crate::model::KeptMaterial;
+use crate::kept::KeptMaterial;
 use crate::names::Names;
 use crate::raw::RawMaterial;
 use crate::types::Material;

@@ -6,21 +6,9 @@ ghost use Rattle.stack_model.specs.Structure.{material_of, body_of, load_of, IsW
 ghost use Rattle.stack_model.specs.Kept.{material_alone, body_alone};
 ghost use Rattle.stack_model.specs.ModelView.{model_view};
 
+use crate::kept::{KeptBody, KeptMaterial};
 use crate::types::{Body, Load, Material};
 use stack_polygon::Polygon;
-
-#[derive(Debug, Drop)]
-pub struct KeptMaterial {
-    pub name: String,
-    pub material: Material,
-}
-
-#[derive(Debug, Drop)]
-pub struct KeptBody {
-    pub name: String,
-    pub body: Body,
-    pub outline: Polygon,
-}
 
 /// Materials, bodies and loads, each numbered from 0 in the order of the file.
 #[derive(Debug, Drop)]

@@ -1,0 +1,57 @@
+//! The model of a drawing with one material, one fixed body and then one free body, and no loads.
+
+ghost use Rattle.std.specs.Prelude.{◌≡◌, map};
+ghost use Rattle.stack_model.specs.Structure.{Structure};
+ghost use Rattle.stack_model.specs.Kept.{body_view};
+ghost use Rattle.stack_model.specs.Drawn.{drawn_view, drawing_view};
+ghost use Rattle.stack_model.specs.Pairs.{Yields, outlined, all_outlined, is_pair as is_pair_of};
+
+use crate::drawing::{DrawnBody, Drawing};
+use crate::errors::ReadError;
+use crate::kept::KeptBody;
+use std::alloc::Global;
+use stack_polygon::Polygon;
+
+/// The body with its outline.
+fn outline(index: usize, drawn: DrawnBody) -> Result<KeptBody, ReadError>
+    ensures { Yields body_view result (outlined index (drawn_view drawn)) }
+{
+    let DrawnBody {
+        name,
+        body,
+        corners,
+    } = drawn;
+    match Polygon::rectangle(corners) {
+        Some(outline) => Ok(KeptBody {
+            name,
+            body,
+            outline,
+        }),
+        None => Err(ReadError::Slanted { block: index }),
+    }
+}
+
+/// The bodies with their outlines, up to the first that is slanted.
+fn outlines(alloc: Global, drawn: Vec<DrawnBody>) -> Result<Vec<KeptBody>, ReadError>
+    ensures { Yields (λ v. map body_view v.items) result (all_outlined 0 (map drawn_view drawn.items)) }
+{
+    let mut kept = Vec::new(alloc);
+    for body in drawn {
+        let index = kept.len();
+        kept.push(outline(index, body)?)?;
+    }
+    Ok(kept)
+}
+
+/// One material, one fixed body and then one free body, and no loads.
+fn is_pair(drawing: &Drawing) -> bool
+    ensures { result ≡ is_pair_of (drawing_view drawing.now) }
+{
+    if drawing.materials.len() != 1 || !drawing.loads.is_empty() {
+        return false;
+    }
+    match drawing.bodies.as_slice() {
+        [a, b] => a.body.fixed && !b.body.fixed,
+        _ => false,
+    }
+}
