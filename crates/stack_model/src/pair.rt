@@ -6,11 +6,11 @@ ghost use Rattle.stack_model.specs.Kept.{body_view};
 ghost use Rattle.stack_model.specs.Drawn.{drawn_view, drawing_view};
 ghost use Rattle.stack_model.specs.Pairs.{Yields, outlined, all_outlined, is_pair as is_pair_of};
 
-use crate::drawing::{DrawnBody, Drawing};
+use crate::drawing::{Drawing, DrawnBody};
 use crate::errors::ReadError;
 use crate::kept::KeptBody;
-use std::alloc::Global;
 use stack_polygon::Polygon;
+use std::alloc::Global;
 
 /// The body with its outline.
 fn outline(index: usize, drawn: DrawnBody) -> Result<KeptBody, ReadError>
