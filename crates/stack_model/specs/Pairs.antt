@@ -10,7 +10,7 @@ use Rattle.stack_model.specs.declared.errors.ReadError.{ReadError}
 use Rattle.stack_model.specs.declared.errors.ReadError.TheVariants.{Refused, Slanted, Memory}
 use Rattle.stack_model.specs.Structure.{NamedMaterial, NamedBody, Structure}
 use Rattle.stack_model.specs.AsWritten.{as_written}
-use Rattle.stack_model.specs.Reading.{table_of, model_of}
+use Rattle.stack_model.specs.Reading.{bytes_model_of}
 
 abbrev pub is_one : List NamedMaterial → Bool
 is_one (m ∷ []) = true
@@ -60,7 +60,7 @@ refusing (Ok s) = accepted s
 
 -- what the bytes of a model file give: the structure, or the refusal
 unfoldable pub structure_of : List ℕ → Result Structure ReadError
-structure_of bytes = refusing (table_of bytes >>= λ ms. model_of as_written ms)
+structure_of bytes = refusing (bytes_model_of as_written bytes)
 
 -- what a reader returned, seen by view, is what is defined; want of memory alone is free
 abbrev pub Refuses : {Y : Type 0} → ReadError → Result Y ReadError → Type 0

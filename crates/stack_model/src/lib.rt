@@ -16,10 +16,12 @@ mod model;
 mod names;
 mod pair;
 mod raw;
+mod reading;
 mod shape;
 mod types;
 
 pub use errors::ReadError;
 pub use faults::{Fault, Key, Spot, What};
 pub use model::Model;
+pub use reading::read_model;
 pub use types::{Body, Load, Material};

@@ -1,14 +1,16 @@
 //! The model of a drawing with one material, one fixed body and then one free body, and no loads.
 
 ghost use Rattle.std.specs.Prelude.{◌≡◌, map};
-ghost use Rattle.stack_model.specs.Structure.{Structure};
 ghost use Rattle.stack_model.specs.Kept.{body_view};
 ghost use Rattle.stack_model.specs.Drawn.{drawn_view, drawing_view};
-ghost use Rattle.stack_model.specs.Pairs.{Yields, outlined, all_outlined, is_pair as is_pair_of};
+ghost use Rattle.stack_model.specs.ModelView.{model_view};
+ghost use Rattle.stack_model.specs.Laid.{IsLaid};
+ghost use Rattle.stack_model.specs.Pairs.{Yields, outlined, all_outlined, accepted, is_pair as is_pair_of};
 
 use crate::drawing::{Drawing, DrawnBody};
 use crate::errors::ReadError;
 use crate::kept::KeptBody;
+use crate::model::Model;
 use stack_polygon::Polygon;
 use std::alloc::Global;
 
@@ -54,4 +56,22 @@ fn is_pair(drawing: &Drawing) -> bool
         [a, b] => a.body.fixed && !b.body.fixed,
         _ => false,
     }
+}
+
+/// The model of a drawing: refused where it lists more than a pair, slanted at the first body that isn't a rectangle.
+#[tactic(auto, unfolding(crate::specs::Pairs::accepted, crate::specs::Pairs::pair_of))]
+pub fn model_of(alloc: Global, drawing: Drawing) -> Result<Model, ReadError>
+    requires { IsLaid (drawing_view drawing) }
+    ensures { Yields model_view result (accepted (drawing_view drawing)) }
+{
+    if !is_pair(&drawing) {
+        return Err(ReadError::Refused);
+    }
+    let Drawing {
+        materials,
+        bodies,
+        loads,
+    } = drawing;
+    let outlined = outlines(alloc, bodies)?;
+    Ok(Model::of(materials, outlined, loads))
 }
