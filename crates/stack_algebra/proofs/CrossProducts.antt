@@ -18,15 +18,36 @@ pub cancel : (c a b : ℤ) → pos 0 ≺ c → c *ℤ a ≡ c *ℤ b → a ≡ b
 cancel c a b h e = let z = zero_from c (a -ℤ b) h (simp expand (omega (arith, sums))) in omega (arith, sums)
 
 -- x/d and y/e are n/p and m/q, and those have equal cross products
-pub cross_same : (x d y e n p m q : ℤ) → pos 0 ≺ p *ℤ q → x *ℤ p ≡ n *ℤ d → y *ℤ q ≡ m *ℤ e → n *ℤ q ≡ m *ℤ p → x *ℤ e ≡ y *ℤ d
+pub cross_same : (x d y e n p m q : ℤ) → pos 0 ≺ p *ℤ q → x *ℤ p ≡ n *ℤ d → y *ℤ q ≡ m *ℤ e → n *ℤ q
+    ≡ m *ℤ p → x *ℤ e ≡ y *ℤ d
 cross_same x d y e n p m q h i j k = cancel (p *ℤ q) (x *ℤ e) (y *ℤ d) h
-    (simp expand (omega (arith, sums, simp expand at (ap (λ t. t *ℤ (e *ℤ q)) i), simp expand at (ap (λ t. t *ℤ (d *ℤ p)) j), simp expand at (ap (λ t. t *ℤ (d *ℤ e)) k))))
+    (simp expand (omega (
+      arith,
+      sums,
+      simp expand at (ap (λ t. t *ℤ (e *ℤ q)) i),
+      simp expand at (ap (λ t. t *ℤ (d *ℤ p)) j),
+      simp expand at (ap (λ t. t *ℤ (d *ℤ e)) k),
+    )))
 
 -- r/f is the sum of x/d and y/e, which are n/p and m/q
-pub cross_sum : (x d y e n p m q r f : ℤ) → pos 0 ≺ d *ℤ e → x *ℤ p ≡ n *ℤ d → y *ℤ q ≡ m *ℤ e → r *ℤ (d *ℤ e) ≡ (x *ℤ e +ℤ y *ℤ d) *ℤ f → r *ℤ (p *ℤ q) ≡ (n *ℤ q +ℤ m *ℤ p) *ℤ f
+pub cross_sum : (x d y e n p m q r f : ℤ) → pos 0 ≺ d *ℤ e → x *ℤ p ≡ n *ℤ d → y *ℤ q ≡ m *ℤ e → r *ℤ (d *ℤ e)
+    ≡ (x *ℤ e +ℤ y *ℤ d) *ℤ f → r *ℤ (p *ℤ q) ≡ (n *ℤ q +ℤ m *ℤ p) *ℤ f
 cross_sum x d y e n p m q r f h i j k = cancel (d *ℤ e) (r *ℤ (p *ℤ q)) ((n *ℤ q +ℤ m *ℤ p) *ℤ f) h
-    (simp expand (omega (arith, sums, simp expand at (ap (λ t. t *ℤ (e *ℤ q *ℤ f)) i), simp expand at (ap (λ t. t *ℤ (d *ℤ p *ℤ f)) j), simp expand at (ap (λ t. t *ℤ (p *ℤ q)) k))))
+    (simp expand (omega (
+      arith,
+      sums,
+      simp expand at (ap (λ t. t *ℤ (e *ℤ q *ℤ f)) i),
+      simp expand at (ap (λ t. t *ℤ (d *ℤ p *ℤ f)) j),
+      simp expand at (ap (λ t. t *ℤ (p *ℤ q)) k),
+    )))
 
-pub cross_product : (x d y e n p m q r f : ℤ) → pos 0 ≺ d *ℤ e → x *ℤ p ≡ n *ℤ d → y *ℤ q ≡ m *ℤ e → r *ℤ (d *ℤ e) ≡ (x *ℤ y) *ℤ f → r *ℤ (p *ℤ q) ≡ (n *ℤ m) *ℤ f
+pub cross_product : (x d y e n p m q r f : ℤ) → pos 0 ≺ d *ℤ e → x *ℤ p ≡ n *ℤ d → y *ℤ q ≡ m *ℤ e →
+    r *ℤ (d *ℤ e) ≡ (x *ℤ y) *ℤ f → r *ℤ (p *ℤ q) ≡ (n *ℤ m) *ℤ f
 cross_product x d y e n p m q r f h i j k = cancel (d *ℤ e) (r *ℤ (p *ℤ q)) ((n *ℤ m) *ℤ f) h
-    (simp expand (omega (arith, sums, simp expand at (ap (λ t. t *ℤ (y *ℤ q *ℤ f)) i), simp expand at (ap (λ t. t *ℤ (n *ℤ d *ℤ f)) j), simp expand at (ap (λ t. t *ℤ (p *ℤ q)) k))))
+    (simp expand (omega (
+      arith,
+      sums,
+      simp expand at (ap (λ t. t *ℤ (y *ℤ q *ℤ f)) i),
+      simp expand at (ap (λ t. t *ℤ (n *ℤ d *ℤ f)) j),
+      simp expand at (ap (λ t. t *ℤ (p *ℤ q)) k),
+    )))

@@ -7,11 +7,12 @@ pub mod CrossProducts
 pub mod CommonDivisor
 pub mod Fractions
 pub mod Over
+pub mod FractionField
 pub mod FractionSigns
-pub mod Ordered
-pub mod OrderedFractions
 pub mod Signs
+pub mod OrderedFractions
 pub mod Pivots
 pub mod Combinations
-pub mod FractionField
+pub mod Tableaus
 pub mod Steps
+pub mod Search

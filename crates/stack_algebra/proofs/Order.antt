@@ -1,18 +1,10 @@
 -- The order of the integers and products.
 use Prim.Native.Nat.{zero, suc}
 use native.Mathlib.Omega.{arith}
-use lib.IntN.{ℤ, pos, negsuc, ◌+ℤ◌, ◌-ℤ◌, ◌*ℤ◌, neg_ℤ, nat_abs}
-use lib.Signed.{◌≤ℤ◌, ◌<ℤ◌}
+use lib.IntN.{ℤ, pos, negsuc, ◌+ℤ◌, ◌-ℤ◌, ◌*ℤ◌, neg_ℤ}
+pub use Rattle.stack_algebra.specs.IntegerOrder.{◌≼◌, ◌≺◌, abs}
 use Rattle.std.proofs.lemmas.Int.{ints}
 use Rattle.stack_algebra.proofs.Integers.{expand, sums}
-
--- the library's order binds more tightly than a sum; these bind as `≡` does
-infix 4 ◌≼◌ ◌≺◌
-abbrev pub ◌≼◌ : ℤ → ℤ → Type 0
-a ≼ b = ◌≤ℤ◌ a b
-
-abbrev pub ◌≺◌ : ℤ → ℤ → Type 0
-a ≺ b = ◌<ℤ◌ a b
 
 pub mul_nonneg : (a b : ℤ) → pos 0 ≼ a → pos 0 ≼ b → pos 0 ≼ a *ℤ b
 mul_nonneg (pos a) (pos b) h k = omega (arith, ints)
@@ -34,7 +26,8 @@ pub mul_le_left : (c a b : ℤ) → pos 0 ≼ c → a ≼ b → c *ℤ a ≼ c *
 mul_le_left c a b h k = omega (arith, sums, simp expand at (mul_nonneg c (b -ℤ a) h (nonneg-sub a b k)))
 
 pub mul_le_right : (c a b : ℤ) → pos 0 ≼ c → a ≼ b → a *ℤ c ≼ b *ℤ c
-mul_le_right c a b h k = simp expand (omega (arith, sums, simp expand at (mul_nonneg c (b -ℤ a) h (nonneg-sub a b k))))
+mul_le_right c a b h k = simp expand
+    (omega (arith, sums, simp expand at (mul_nonneg c (b -ℤ a) h (nonneg-sub a b k))))
 
 -- a positive factor is dropped
 pub nonneg-cancel : (q x : ℤ) → pos 0 ≺ q → pos 0 ≼ q *ℤ x → pos 0 ≼ x
@@ -50,9 +43,6 @@ mul_pos (pos (suc a)) (pos zero) h k = absurd (omega (arith, ints))
 mul_pos (pos (suc a)) (negsuc b) h k = absurd (omega (arith, ints))
 mul_pos (negsuc a) b h k = absurd (omega (arith, ints))
 
-abbrev pub abs : ℤ → ℤ
-abs z = pos (nat_abs z)
-
 pub abs_bounds : (z : ℤ) → (z ≼ abs z) × (neg_ℤ z ≼ abs z) × (pos 0 ≼ abs z)
 abs_bounds z = omega (arith, ints)
 
@@ -64,12 +54,16 @@ mul-bounds b s B S h₁ h₂ h₃ h₄ =
     omega (arith, sums, simp expand at h, simp expand at k)
 
 -- an admissible part on an opening and a slide that it does not resist has no negative power
-power-bounds : (p q a b o s B S : ℤ) → pos 0 ≺ q → pos 0 ≼ a → pos 0 ≼ S → q *ℤ B ≼ p *ℤ a → p *ℤ S ≼ q *ℤ o → pos 0 ≼ B *ℤ S +ℤ b *ℤ s → pos 0 ≼ a *ℤ o +ℤ b *ℤ s
+power-bounds : (p q a b o s B S : ℤ) → pos 0 ≺ q → pos 0 ≼ a → pos 0 ≼ S → q *ℤ B ≼ p *ℤ a → p *ℤ S ≼ q *ℤ o →
+    pos 0 ≼ B *ℤ S +ℤ b *ℤ s → pos 0 ≼ a *ℤ o +ℤ b *ℤ s
 power-bounds p q a b o s B S hq ha hs h k m =
     let h₁ = mul_nonneg a (q *ℤ o -ℤ p *ℤ S) ha (nonneg-sub _ _ k) in
     let h₂ = mul_nonneg S (p *ℤ a -ℤ q *ℤ B) hs (nonneg-sub _ _ h) in
     let h₃ = mul_nonneg q (B *ℤ S +ℤ b *ℤ s) (omega (arith, sums)) m in
-    nonneg-cancel q _ hq (simp expand (omega (arith, sums, simp expand at h₁, simp expand at h₂, simp expand at h₃)))
+    nonneg-cancel q _ hq (simp expand
+    (omega (arith, sums, simp expand at h₁, simp expand at h₂, simp expand at h₃)))
 
-pub power-nonneg : (p q a b o s : ℤ) → pos 0 ≺ q → pos 0 ≼ a → q *ℤ abs b ≼ p *ℤ a → p *ℤ abs s ≼ q *ℤ o → pos 0 ≼ a *ℤ o +ℤ b *ℤ s
-power-nonneg p q a b o s hq ha h k = power-bounds p q a b o s (abs b) (abs s) hq ha (abs_bounds s).2 h k (mul-bounds b s (abs b) (abs s) (abs_bounds b).0 (abs_bounds b).1 (abs_bounds s).0 (abs_bounds s).1)
+pub power-nonneg : (p q a b o s : ℤ) → pos 0 ≺ q → pos 0 ≼ a → q *ℤ abs b ≼ p *ℤ a → p *ℤ abs s ≼ q *ℤ o →
+    pos 0 ≼ a *ℤ o +ℤ b *ℤ s
+power-nonneg p q a b o s hq ha h k = power-bounds p q a b o s (abs b) (abs s) hq ha (abs_bounds s).2 h k
+    (mul-bounds b s (abs b) (abs s) (abs_bounds b).0 (abs_bounds b).1 (abs_bounds s).0 (abs_bounds s).1)

@@ -12,54 +12,55 @@ use lib.Dec.{T, eqb, eqb→eq, eqb_refl}
 use lib.IntN.{pos, negsuc}
 use Rattle.std.specs.List.{AllByRecursion as ByRecursion}
 use Rattle.std.proofs.lemmas.List.{take_more}
-use Rattle.stack_algebra.specs.Sums.{sum_below, sum_among}
+pub use Rattle.stack_algebra.specs.Sums.{sum, sum_over, at}
 use Rattle.stack_algebra.proofs.Ring.{Ring, add_left_comm, mul_add, add-zero}
 
--- x at the index k, and 0 elsewhere
-abbrev pub at : (R : Ring) → ℕ → R.C → ℕ → R.C
-at R k x i = cond (eqb i k) x (R.of (pos 0))
-
 module _ (R : Ring) where
-  abbrev pub sum : ℕ → (ℕ → R.C) → R.C
-  sum n f = sum_below (R.of (pos 0)) R.add n f
-
-  abbrev pub sum_over : {X : Type 0} → (X → R.C) → List X → R.C
-  sum_over f xs = sum_among (R.of (pos 0)) R.add f xs
-
   four_add : (a b c d : R.C) → R.add (R.add a b) (R.add c d) ≡ R.add (R.add a c) (R.add b d)
-  four_add a b c d = R.add_assoc a b (R.add c d) ∙ ap (λ z. R.add a z) (add_left_comm R b c d) ∙ sym (R.add_assoc a c (R.add b d))
+  four_add a b c d = R.add_assoc a b (R.add c d) ∙ ap (λ z. R.add a z) (add_left_comm R b c d)
+      ∙ sym (R.add_assoc a c (R.add b d))
 
-  pub sum_same : (n : ℕ) (f g : ℕ → R.C) → ((i : ℕ) → i < n → f i ≡ g i) → sum n f ≡ sum n g
+  pub sum_same : (n : ℕ) (f g : ℕ → R.C) → ((i : ℕ) → i < n → f i ≡ g i) → sum R n f ≡ sum R n g
   sum_same zero f g h = refl
   sum_same (suc n) f g h = λ i. R.add (sum_same n f g (λ k l. h k (omega arith)) i) (h n (omega arith) i)
 
-  pub sum_zero : (n : ℕ) (f : ℕ → R.C) → ((i : ℕ) → i < n → f i ≡ R.of (pos 0)) → sum n f ≡ R.of (pos 0)
+  pub sum_zero : (n : ℕ) (f : ℕ → R.C) → ((i : ℕ) → i < n → f i ≡ R.of (pos 0)) → sum R n f ≡ R.of (pos 0)
   sum_zero zero f h = refl
-  sum_zero (suc n) f h = (λ i. R.add (sum_zero n f (λ k l. h k (omega arith)) i) (h n (omega arith) i)) ∙ R.zero_add (R.of (pos 0))
+  sum_zero (suc n) f h = (λ i. R.add (sum_zero n f (λ k l. h k (omega arith)) i) (h n (omega arith) i))
+      ∙ R.zero_add (R.of (pos 0))
 
-  pub sum_add : (n : ℕ) (f g : ℕ → R.C) → sum n (λ i. R.add (f i) (g i)) ≡ R.add (sum n f) (sum n g)
+  pub sum_add : (n : ℕ) (f g : ℕ → R.C) → sum R n (λ i. R.add (f i) (g i)) ≡ R.add (sum R n f) (sum R n g)
   sum_add zero f g = sym (R.zero_add (R.of (pos 0)))
-  sum_add (suc n) f g = ap (λ z. R.add z (R.add (f n) (g n))) (sum_add n f g) ∙ four_add (sum n f) (sum n g) (f n) (g n)
+  sum_add (suc n) f g = ap (λ z. R.add z (R.add (f n) (g n))) (sum_add n f g)
+      ∙ four_add (sum R n f) (sum R n g) (f n) (g n)
 
-  pub sum_scale : (n : ℕ) (c : R.C) (f : ℕ → R.C) → sum n (λ i. R.mul c (f i)) ≡ R.mul c (sum n f)
+  pub sum_scale : (n : ℕ) (c : R.C) (f : ℕ → R.C) → sum R n (λ i. R.mul c (f i)) ≡ R.mul c (sum R n f)
   sum_scale zero c f = sym (R.mul_comm c (R.of (pos 0)) ∙ R.zero_mul c)
-  sum_scale (suc n) c f = ap (λ z. R.add z (R.mul c (f n))) (sum_scale n c f) ∙ sym (mul_add R c (sum n f) (f n))
+  sum_scale (suc n) c f = ap (λ z. R.add z (R.mul c (f n))) (sum_scale n c f)
+      ∙ sym (mul_add R c (sum R n f) (f n))
 
-  pub sum_swap : (n m : ℕ) (f : ℕ → ℕ → R.C) → sum n (λ i. sum m (λ j. f i j)) ≡ sum m (λ j. sum n (λ i. f i j))
+  pub sum_swap : (n m : ℕ) (f : ℕ → ℕ → R.C) → sum R n (λ i. sum R m (λ j. f i j))
+      ≡ sum R m (λ j. sum R n (λ i. f i j))
   sum_swap zero m f = sym (sum_zero m (λ j. R.of (pos 0)) (λ j l. refl))
-  sum_swap (suc n) m f = ap (λ z. R.add z (sum m (λ j. f n j))) (sum_swap n m f) ∙ sym (sum_add m (λ j. sum n (λ i. f i j)) (λ j. f n j))
+  sum_swap (suc n) m f = ap (λ z. R.add z (sum R m (λ j. f n j))) (sum_swap n m f)
+      ∙ sym (sum_add m (λ j. sum R n (λ i. f i j)) (λ j. f n j))
 
-  -- a sum with one term that is not 0
-  pub sum_one : (n k : ℕ) (f : ℕ → R.C) → k < n → ((i : ℕ) → i < n → i ≢ k → f i ≡ R.of (pos 0)) → sum n f ≡ f k
+  -- a sum R with one term that is not 0
+  pub sum_one : (n k : ℕ) (f : ℕ → R.C) → k < n → ((i : ℕ) → i < n → i ≢ k → f i ≡ R.of (pos 0)) → sum R n f
+      ≡ f k
   sum_one zero k f l h = absurd (omega arith)
   sum_one (suc n) k f l h = go (ℕ_discrete n k) (sum_one n k f)
     where
-      go : Dec (n ≡ k) → (k < n → ((i : ℕ) → i < n → i ≢ k → f i ≡ R.of (pos 0)) → sum n f ≡ f k) → sum (suc n) f ≡ f k
-      go (yes e) r = ap (λ z. R.add z (f n)) (sum_zero n f (λ i m. h i (omega arith) (λ p. omega arith))) ∙ R.zero_add (f n) ∙ ap f e
-      go (no e) r = (λ i. R.add (r (omega arith) (λ j m d. h j (omega arith) d) i) (h n (omega arith) e i)) ∙ add-zero R (f k)
+      go : Dec (n ≡ k) → (k < n → ((i : ℕ) → i < n → i ≢ k → f i ≡ R.of (pos 0)) → sum R n f ≡ f k) →
+          sum R (suc n) f ≡ f k
+      go (yes e) r = ap (λ z. R.add z (f n)) (sum_zero n f (λ i m. h i (omega arith) (λ p. omega arith)))
+          ∙ R.zero_add (f n) ∙ ap f e
+      go (no e) r = (λ i. R.add (r (omega arith) (λ j m d. h j (omega arith) d) i) (h n (omega arith) e i))
+          ∙ add-zero R (f k)
 
-  pub sum_neg : (n : ℕ) (f : ℕ → R.C) → sum n (λ i. R.neg (f i)) ≡ R.neg (sum n f)
-  sum_neg n f = sum_same n (λ i. R.neg (f i)) (λ i. R.mul (R.of (negsuc 0)) (f i)) (λ i l. R.neg_is (f i)) ∙ sum_scale n (R.of (negsuc 0)) f ∙ sym (R.neg_is (sum n f))
+  pub sum_neg : (n : ℕ) (f : ℕ → R.C) → sum R n (λ i. R.neg (f i)) ≡ R.neg (sum R n f)
+  sum_neg n f = sum_same n (λ i. R.neg (f i)) (λ i. R.mul (R.of (negsuc 0)) (f i)) (λ i l. R.neg_is (f i))
+      ∙ sum_scale n (R.of (negsuc 0)) f ∙ sym (R.neg_is (sum R n f))
 
   pub at-other : (k i : ℕ) (x : R.C) → i ≢ k → at R k x i ≡ R.of (pos 0)
   at-other k i x d = go (eqb i k) (eqb→eq i k)
@@ -75,48 +76,63 @@ module _ (R : Ring) where
       go true t = refl
       go false t = absurd t
 
-  pub sum_at : (n k : ℕ) (x : R.C) → k < n → sum n (at R k x) ≡ x
+  pub sum_at : (n k : ℕ) (x : R.C) → k < n → sum R n (at R k x) ≡ x
   sum_at n k x l = sum_one n k (at R k x) l (λ i m d. at-other k i x d) ∙ at-same k x
 
   -- over a list
-  pub over_add : {X : Type 0} (f g : X → R.C) (xs : List X) → sum_over (λ x. R.add (f x) (g x)) xs ≡ R.add (sum_over f xs) (sum_over g xs)
+  pub over_add : {X : Type 0} (f g : X → R.C) (xs : List X) → sum_over R (λ x. R.add (f x) (g x)) xs
+      ≡ R.add (sum_over R f xs) (sum_over R g xs)
   over_add f g [] = sym (R.zero_add (R.of (pos 0)))
-  over_add f g (x ∷ xs) = ap (λ z. R.add (R.add (f x) (g x)) z) (over_add f g xs) ∙ four_add (f x) (g x) (sum_over f xs) (sum_over g xs)
+  over_add f g (x ∷ xs) = ap (λ z. R.add (R.add (f x) (g x)) z) (over_add f g xs)
+      ∙ four_add (f x) (g x) (sum_over R f xs) (sum_over R g xs)
 
-  pub over_scale : {X : Type 0} (c : R.C) (f : X → R.C) (xs : List X) → sum_over (λ x. R.mul c (f x)) xs ≡ R.mul c (sum_over f xs)
+  pub over_scale : {X : Type 0} (c : R.C) (f : X → R.C) (xs : List X) → sum_over R (λ x. R.mul c (f x)) xs
+      ≡ R.mul c (sum_over R f xs)
   over_scale c f [] = sym (R.mul_comm c (R.of (pos 0)) ∙ R.zero_mul c)
-  over_scale c f (x ∷ xs) = ap (λ z. R.add (R.mul c (f x)) z) (over_scale c f xs) ∙ sym (mul_add R c (f x) (sum_over f xs))
+  over_scale c f (x ∷ xs) = ap (λ z. R.add (R.mul c (f x)) z) (over_scale c f xs)
+      ∙ sym (mul_add R c (f x) (sum_over R f xs))
 
-  pub over_zero : {X : Type 0} (xs : List X) → sum_over (λ x. R.of (pos 0)) xs ≡ R.of (pos 0)
+  pub over_zero : {X : Type 0} (xs : List X) → sum_over R (λ x. R.of (pos 0)) xs ≡ R.of (pos 0)
   over_zero [] = refl
-  over_zero (x ∷ xs) = R.zero_add (sum_over (λ x. R.of (pos 0)) xs) ∙ over_zero xs
+  over_zero (x ∷ xs) = R.zero_add (sum_over R (λ x. R.of (pos 0)) xs) ∙ over_zero xs
 
-  -- a sum over indices of sums over a list, the other way round
-  pub sum_over-swap : {X : Type 0} (n : ℕ) (f : ℕ → X → R.C) (xs : List X) → sum n (λ i. sum_over (f i) xs) ≡ sum_over (λ x. sum n (λ i. f i x)) xs
+  -- a sum R over indices of sums over a list, the other way round
+  pub sum_over-swap : {X : Type 0} (n : ℕ) (f : ℕ → X → R.C) (xs : List X) →
+      sum R n (λ i. sum_over R (f i) xs) ≡ sum_over R (λ x. sum R n (λ i. f i x)) xs
   sum_over-swap n f [] = sum_zero n (λ i. R.of (pos 0)) (λ i l. refl)
-  sum_over-swap n f (x ∷ xs) = sum_add n (λ i. f i x) (λ i. sum_over (f i) xs) ∙ ap (λ z. R.add (sum n (λ i. f i x)) z) (sum_over-swap n f xs)
+  sum_over-swap n f (x ∷ xs) = sum_add n (λ i. f i x) (λ i. sum_over R (f i) xs)
+      ∙ ap (λ z. R.add (sum R n (λ i. f i x)) z) (sum_over-swap n f xs)
 
-  pub over_same : {X : Type 0} (f g : X → R.C) (xs : List X) → ByRecursion (λ x. f x ≡ g x) xs → sum_over f xs ≡ sum_over g xs
+  pub over_same : {X : Type 0} (f g : X → R.C) (xs : List X) → ByRecursion (λ x. f x ≡ g x) xs →
+      sum_over R f xs ≡ sum_over R g xs
   over_same f g [] h = refl
   over_same f g (x ∷ xs) h = λ i. R.add (h.0 i) (over_same f g xs h.1 i)
 
   -- the first term apart
-  pub sum-first : (n : ℕ) (f : ℕ → R.C) → sum (suc n) f ≡ R.add (f 0) (sum n (λ i. f (suc i)))
+  pub sum-first : (n : ℕ) (f : ℕ → R.C) → sum R (suc n) f ≡ R.add (f 0) (sum R n (λ i. f (suc i)))
   sum-first zero f = R.add_comm (R.of (pos 0)) (f 0)
-  sum-first (suc n) f = ap (λ z. R.add z (f (suc n))) (sum-first n f) ∙ R.add_assoc (f 0) (sum n (λ i. f (suc i))) (f (suc n))
+  sum-first (suc n) f = ap (λ z. R.add z (f (suc n))) (sum-first n f)
+      ∙ R.add_assoc (f 0) (sum R n (λ i. f (suc i))) (f (suc n))
 
   -- as a loop adds a term
-  pub sum_more : (n : ℕ) (f : ℕ → R.C) → sum (n + 1) f ≡ R.add (sum n f) (f n)
-  sum_more n f = ap (λ k. sum k f) (add-one n)
+  pub sum_more : (n : ℕ) (f : ℕ → R.C) → sum R (n + 1) f ≡ R.add (sum R n f) (f n)
+  sum_more n f = ap (λ k. sum R k f) (add-one n)
 
   -- a list's sum, by its indices
-  pub over-index : {X : Type 0} (f : X → R.C) (xs : List X) (d : X) → sum_over f xs ≡ sum (length xs) (λ i. f (get_or xs i d))
+  pub over-index : {X : Type 0} (f : X → R.C) (xs : List X) (d : X) → sum_over R f xs
+      ≡ sum R (length xs) (λ i. f (get_or xs i d))
   over-index f [] d = refl
-  over-index f (x ∷ xs) d = ap (R.add (f x)) (over-index f xs d) ∙ sym (sum-first (length xs) (λ i. f (get_or (x ∷ xs) i d)))
+  over-index f (x ∷ xs) d = ap (R.add (f x)) (over-index f xs d)
+      ∙ sym (sum-first (length xs) (λ i. f (get_or (x ∷ xs) i d)))
 
-  pub over-append : {X : Type 0} (f : X → R.C) (xs ys : List X) → sum_over f (xs ++ ys) ≡ R.add (sum_over f xs) (sum_over f ys)
-  over-append f [] ys = sym (R.zero_add (sum_over f ys))
-  over-append f (x ∷ xs) ys = ap (R.add (f x)) (over-append f xs ys) ∙ sym (R.add_assoc (f x) (sum_over f xs) (sum_over f ys))
+  pub over-append : {X : Type 0} (f : X → R.C) (xs ys : List X) → sum_over R f (xs ++ ys)
+      ≡ R.add (sum_over R f xs) (sum_over R f ys)
+  over-append f [] ys = sym (R.zero_add (sum_over R f ys))
+  over-append f (x ∷ xs) ys = ap (R.add (f x)) (over-append f xs ys)
+      ∙ sym (R.add_assoc (f x) (sum_over R f xs) (sum_over R f ys))
 
-  pub over_more : {X : Type 0} (f : X → R.C) (xs : List X) (i : ℕ) (d : X) → i < length xs → sum_over f (take (i + 1) xs) ≡ R.add (sum_over f (take i xs)) (f (get_or xs i d))
-  over_more f xs i d l = ap (sum_over f) (take_more xs i d l) ∙ over-append f (take i xs) (get_or xs i d ∷ []) ∙ ap (R.add (sum_over f (take i xs))) (add-zero R (f (get_or xs i d)))
+  pub over_more : {X : Type 0} (f : X → R.C) (xs : List X) (i : ℕ) (d : X) → i < length xs →
+      sum_over R f (take (i + 1) xs) ≡ R.add (sum_over R f (take i xs)) (f (get_or xs i d))
+  over_more f xs i d l = ap (sum_over R f) (take_more xs i d l)
+      ∙ over-append f (take i xs) (get_or xs i d ∷ [])
+      ∙ ap (R.add (sum_over R f (take i xs))) (add-zero R (f (get_or xs i d)))

@@ -1,7 +1,8 @@
--- Fractions in lowest terms.
+-- Fractions in lowest terms: one value for each number, so that equal numbers are the same fraction.
 use mathlib.Core.Path.{◌≡◌}
 use Prim.Native.Nat.{ℕ, ◌<◌, ◌/◌}
-use lib.IntN.{ℤ, pos, negsuc, nat_abs, neg_ℤ}
+use lib.IntN.{ℤ, pos, negsuc, ◌*ℤ◌, nat_abs, neg_ℤ}
+use Rattle.stack_algebra.specs.IntegerOrder.{◌≼◌, ◌≺◌}
 use Rattle.stack_algebra.specs.Gcd.{gcd}
 
 -- a numerator and a positive denominator with no common divisor
@@ -10,6 +11,16 @@ pub record Fraction : Type 0 where
   pub den : ℕ
   pub positive : 0 < den
   pub lowest : gcd (nat_abs num) den ≡ 1
+
+-- x is n over d, which need not be in lowest terms
+pub record IsOver (x : Fraction) (n d : ℤ) : Type 0 where
+  pub positive : pos 0 ≺ d
+  pub cross : x.num *ℤ d ≡ n *ℤ pos x.den
+
+-- x is at most y
+infix 4 ◌≤ᶠ◌
+pub record ◌≤ᶠ◌ (x y : Fraction) : Type 0 where
+  pub le : x.num *ℤ pos y.den ≼ y.num *ℤ pos x.den
 
 -- a number with the sign of z and the size n
 abbrev pub signed : ℤ → ℕ → ℤ

@@ -1,4 +1,11 @@
+pub mod IntegerOrder
+pub mod Ring
+pub mod Ordered
+pub mod Polynomial
 pub mod Sums
 pub mod Gcd
 pub mod Fraction
+pub mod Rows
 pub mod Steps
+pub mod Search
+pub mod Laws

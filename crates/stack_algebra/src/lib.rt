@@ -1,11 +1,8 @@
 //! Whole numbers, sums, fractions in lowest terms, ordered fields and rows of a table: the laws under every other crate.
 #![tactic(auto)]
 
-ghost use Rattle.std.specs.Prelude.{◌≡◌};
+mod laws;
 
-/// Gives `x` back.
-pub fn echo(x: usize) -> usize
-    ensures { result ≡ x }
-{
-    x
-}
+pub use laws::{
+    divisor_law, fraction_laws, polynomial_law, sum_laws, tableau_laws, whole_number_laws,
+};

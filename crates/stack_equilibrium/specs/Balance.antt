@@ -5,7 +5,7 @@ use Prim.Native.Nat.{ℕ, ◌<◌}
 use lib.Dec.{eqb}
 use lib.IntN.{ℤ, pos, negsuc, ◌+ℤ◌, ◌-ℤ◌, ◌*ℤ◌, neg_ℤ}
 use Rattle.stack_algebra.specs.Sums.{sum_to}
-use Rattle.stack_algebra.proofs.Order.{◌≼◌, ◌≺◌, abs}
+use Rattle.stack_algebra.specs.IntegerOrder.{◌≼◌, ◌≺◌, abs}
 use Rattle.stack_equilibrium.specs.Scene.{Part, Body, Bearing, Scene}
 
 -- the force of a part on the later body: a times the normal (-ty, tx) plus b times the tangent (tx, ty)
@@ -19,7 +19,8 @@ force_y_of z f = f.a *ℤ z.tx +ℤ f.b *ℤ z.ty
 abbrev pub moment_of : Body → Bearing → Part → ℤ
 moment_of b z f = (z.px -ℤ b.ox) *ℤ force_y_of z f -ℤ (z.py -ℤ b.oy) *ℤ force_x_of z f
 
--- 1 for the later body of a bearing, -1 for the earlier one, on which the opposite force acts, 0 for all others
+-- 1 for the later body of a bearing, -1 for the earlier one, on which the opposite force acts, 0 for all
+-- others
 abbrev pub side_of : ℕ → Bearing → ℤ
 side_of i z = cond (eqb i z.second) (pos 1) (cond (eqb i z.first) (negsuc 0) (pos 0))
 
@@ -46,7 +47,8 @@ pub record IsBalancedAt (s : Scene) (f : ℕ → Part) (scale factor : ℤ) (i :
   pub about : sum_m_of s f scale factor i ≡ pos 0
 
 abbrev pub IsBalanced : Scene → (ℕ → Part) → ℤ → ℤ → Type 0
-IsBalanced s f scale factor = (i : ℕ) → i < s.bodies → (s.body i).free ≡ true → IsBalancedAt s f scale factor i
+IsBalanced s f scale factor = (i : ℕ) → i < s.bodies → (s.body i).free ≡ true →
+    IsBalancedAt s f scale factor i
 
 -- a part pushes and stays within the cone of friction
 pub record IsWithinCone (z : Bearing) (f : Part) : Type 0 where

@@ -1,10 +1,11 @@
--- Motions of the bodies: velocities, opening and slide at a bearing, motions that no admissible force resists, and powers.
+-- Motions of the bodies: velocities, opening and slide at a bearing, motions that no admissible force
+-- resists, and powers.
 use mathlib.Core.Path.{◌≡◌}
 use mathlib.Core.Bool.{false}
 use Prim.Native.Nat.{ℕ, ◌<◌}
 use lib.IntN.{ℤ, pos, ◌+ℤ◌, ◌-ℤ◌, ◌*ℤ◌, neg_ℤ}
 use Rattle.stack_algebra.specs.Sums.{sum_to}
-use Rattle.stack_algebra.proofs.Order.{◌≼◌, abs}
+use Rattle.stack_algebra.specs.IntegerOrder.{◌≼◌, abs}
 use Rattle.stack_equilibrium.specs.Scene.{Wrench, Move, Bearing, Scene}
 
 -- the velocity of body i at the point of a bearing
@@ -31,11 +32,16 @@ pub record IsStill (y : Move) : Type 0 where
   pub v : y.v ≡ pos 0
   pub r : y.r ≡ pos 0
 
+-- a motion of the free bodies alone
+abbrev pub KeepsFixedStill : Scene → (ℕ → Move) → Type 0
+KeepsFixedStill s y = (i : ℕ) → i < s.bodies → (s.body i).free ≡ false → IsStill (y i)
+
 -- fixed bodies are still, and at each bearing q times the opening is at least p times the size of the slide:
 -- no admissible force does negative work on such a motion
 pub record IsUnresisted (s : Scene) (y : ℕ → Move) : Type 0 where
-  pub still : (i : ℕ) → i < s.bodies → (s.body i).free ≡ false → IsStill (y i)
-  pub opens : (k : ℕ) → k < s.bearings → (s.bearing k).p *ℤ abs (slide_of s y (s.bearing k)) ≼ (s.bearing k).q *ℤ opening_of s y (s.bearing k)
+  pub still : KeepsFixedStill s y
+  pub opens : (k : ℕ) → k < s.bearings →
+      (s.bearing k).p *ℤ abs (slide_of s y (s.bearing k)) ≼ (s.bearing k).q *ℤ opening_of s y (s.bearing k)
 
 -- the work of a wrench on a move
 abbrev pub power_of : Wrench → Move → ℤ

@@ -1,11 +1,13 @@
--- A scene: bodies with their loads, and the bearings between them. What statics needs of a drawing, and nothing else.
+-- A scene: bodies with their loads, and the bearings between them. What statics needs of a drawing, and
+-- nothing else.
 -- After Livesley (1978). Bodies and bearings are told by their numbers, from 0. Used by every law of statics.
 use mathlib.Core.Bool.{Bool}
 use Prim.Native.Nat.{ℕ, ◌<◌}
 use lib.IntN.{ℤ, pos}
-use Rattle.stack_algebra.proofs.Order.{◌≺◌}
+use Rattle.stack_algebra.specs.IntegerOrder.{◌≺◌}
 
--- a force and its moment about a body's first corner, counter-clockwise; loads are in sixths of a unit of force
+-- a force and its moment about a body's first corner, counter-clockwise; loads are in sixths of a unit of
+-- force
 pub record Wrench : Type 0 where
   pub fx : ℤ
   pub fy : ℤ
@@ -30,7 +32,8 @@ pub record Body : Type 0 where
   pub dead : Wrench
   pub live : Wrench
 
--- a point where the body `first` and the later body `second` bear on one another: the point, the tangent of the joint,
+-- a point where the body `first` and the later body `second` bear on one another: the point, the tangent of
+-- the joint,
 -- whose normal (-ty, tx) points to the later body, and the coefficient of friction, p over q
 pub record Bearing : Type 0 where
   pub first : ℕ
@@ -48,7 +51,8 @@ pub record Scene : Type 0 where
   pub bearings : ℕ
   pub bearing : ℕ → Bearing
 
--- a bearing lies between an earlier and a later body of the scene, and its coefficient has a positive denominator
+-- a bearing lies between an earlier and a later body of the scene, and its coefficient has a positive
+-- denominator
 pub record IsProperBearing (s : Scene) (z : Bearing) : Type 0 where
   pub second_exists : z.second < s.bodies
   pub first_before_second : z.first < z.second

@@ -1,8 +1,9 @@
--- A commutative ring with signs and inverses: all that a table needs of its cells.
+-- An ordered field: a commutative ring with signs and inverses. All that a table needs of its cells.
 use mathlib.Core.Path.{◌≡◌}
 use mathlib.Core.Logic.{◌≢◌}
-use lib.IntN.{pos}
-use Rattle.stack_algebra.proofs.Ring.{Ring}
+use Prim.Native.Nat.{zero, suc}
+use lib.IntN.{ℤ, pos, negsuc}
+use Rattle.stack_algebra.specs.Ring.{Ring}
 
 pub data Sign : Type 0 where
   minus : Sign
@@ -20,6 +21,12 @@ abbrev pub both : Sign → Sign → Sign
 both minus t = opposite t
 both nought t = nought
 both plus t = t
+
+-- the sign of a whole number
+abbrev pub sign_of : ℤ → Sign
+sign_of (pos zero) = nought
+sign_of (pos (suc n)) = plus
+sign_of (negsuc n) = minus
 
 pub record Ordered : Type 1 where
   pub ring : Ring

@@ -1,0 +1,112 @@
+-- What the least index and the first item are, searches with evidence, and the index after another round a
+-- list.
+use Rattle.std.proofs.Common.{◌≡◌, ◌≢◌, refl, sym, ap, subst, ◌∙◌, ℕ, zero, suc, ◌<◌, ◌≤◌, Bool, true, false, cond, Option, Some, None, arith}
+use mathlib.Core.Logic.{◌⊎◌, inl, inr}
+use native.Mathlib.Decide.{ℕ_discrete}
+use lib.Dec.{T, eqb, eqb→eq, eqb_refl}
+pub use Rattle.stack_algebra.specs.Search.{least, first, or_else, only_if, SomeBelow, AllBelow, next_round}
+
+pub record IsLeast (n : ℕ) (p : ℕ → Bool) (j : ℕ) : Type 0 where
+  pub below : j < n
+  pub has : p j ≡ true
+  pub none_before : (k : ℕ) → k < j → p k ≡ false
+
+-- the first item: none, and found at an index before which there is none (for loops)
+pub first-none : {P : Type 0} (n : ℕ) (f : ℕ → Option P) → first n f ≡ None → (k : ℕ) → k < n → f k ≡ None
+first-none zero f e k l = absurd (omega arith)
+first-none (suc n) f e k l = go (first n f) (ℕ_discrete k n) (first-none n f) e
+  where
+    go : (o : Option _) → Dec (k ≡ n) → (o ≡ None → (k : ℕ) → k < n → f k ≡ None) → or_else o (f n) ≡ None →
+        f k ≡ None
+    go (Some p) d h e = absurd cc
+    go None (yes d) h e = ap f d ∙ e
+    go None (no d) h e = h refl k (omega arith)
+
+pub first_all-none : {P : Type 0} (n : ℕ) (f : ℕ → Option P) → ((k : ℕ) → k < n → f k ≡ None) → first n f
+    ≡ None
+first_all-none zero f h = refl
+first_all-none (suc n) f h = ap (λ o. or_else o (f n)) (first_all-none n f (λ k l. h k (omega arith)))
+    ∙ h n (omega arith)
+
+pub record FoundAt {P : Type 0} (n : ℕ) (f : ℕ → Option P) (p : P) : Type 0 where
+  pub index : ℕ
+  pub below : index < n
+  pub item : f index ≡ Some p
+  pub none_before : first index f ≡ None
+
+pub first-some : {P : Type 0} (n : ℕ) (f : ℕ → Option P) (p : P) → first n f ≡ Some p → FoundAt n f p
+first-some zero f p e = absurd cc
+first-some (suc n) f p e = go (first n f) refl (first-some n f) e
+  where
+    go : (o : Option _) → first n f ≡ o → ((q : _) → first n f ≡ Some q → FoundAt n f q) → or_else o (f n)
+        ≡ Some p → FoundAt (suc n) f p
+    go (Some q) e h d = let s = h p (e ∙ d) in
+        record { index = s.index; below = omega (arith, s.below); item = s.item; none_before = s.none_before }
+    go None e h d = record { index = n; below = omega arith; item = d; none_before = e }
+
+pub first_found : {P : Type 0} (n i : ℕ) (f : ℕ → Option P) (p : P) → i < n → first i f ≡ None → f i
+    ≡ Some p → first n f ≡ Some p
+first_found zero i f p l h e = absurd (omega arith)
+first_found (suc n) i f p l h e = go (ℕ_discrete i n) (first_found n i f p)
+  where
+    go : Dec (i ≡ n) → (i < n → first i f ≡ None → f i ≡ Some p → first n f ≡ Some p) → first (suc n) f
+        ≡ Some p
+    go (yes d) r = ap (λ k. or_else (first k f) (f k)) (sym d) ∙ ap (λ o. or_else o (f i)) h ∙ e
+    go (no d) r = ap (λ o. or_else o (f n)) (r (omega arith) h e)
+
+only_if-none : {P : Type 0} (b : Bool) (x : P) → only_if b x ≡ None → b ≡ false
+only_if-none true x e = absurd cc
+only_if-none false x e = refl
+
+only_if-some : {P : Type 0} (b : Bool) (x y : P) → only_if b x ≡ Some y → (b ≡ true) × (x ≡ y)
+only_if-some true x y e = (refl, cc)
+only_if-some false x y e = absurd cc
+
+pub least-none : (n : ℕ) (p : ℕ → Bool) → least n p ≡ None → (k : ℕ) → k < n → p k ≡ false
+least-none n p e k l = only_if-none (p k) k (first-none n _ e k l)
+
+pub least-some : (n : ℕ) (p : ℕ → Bool) (j : ℕ) → least n p ≡ Some j → IsLeast n p j
+least-some n p j e = let s = first-some n _ j e in let t = only_if-some (p s.index) s.index j s.item in
+    subst (λ i. IsLeast n p i) t.1
+    (record { below = s.below; has = t.0; none_before = least-none s.index p s.none_before })
+
+-- the one of some number below n, or the other of each
+pub search_below : {A B : ℕ → Type 0} (n : ℕ) → AllBelow n (λ i. A i ⊎ B i) → SomeBelow n A ⊎ AllBelow n B
+search_below zero h = inr (λ i l. absurd (omega (arith, l)))
+search_below {A} {B} (suc n) h = go (search_below n (λ i l. h i (omega arith))) (h n (omega arith))
+  where
+    all_more : AllBelow n B → B n → AllBelow (suc n) B
+    all_more r b i l = last (ℕ_discrete i n)
+      where
+        last : Dec (i ≡ n) → B i
+        last (yes e) = subst B (sym e) b
+        last (no d) = r i (omega (arith, l, d))
+
+    go : SomeBelow n A ⊎ AllBelow n B → A n ⊎ B n → SomeBelow (suc n) A ⊎ AllBelow (suc n) B
+    go (inl s) c = inl (record { index = s.index; below = omega (arith, s.below); holds = s.holds })
+    go (inr r) (inl a) = inl (record { index = n; below = omega arith; holds = a })
+    go (inr r) (inr b) = inr (all_more r b)
+
+-- 0 comes after the last index, and one more after each other
+abbrev pub IsAfter : ℕ → ℕ → ℕ → Type 0
+IsAfter n i k = ((suc i ≡ n) × (k ≡ 0)) ⊎ ((suc i < n) × (k ≡ suc i))
+
+pub next_round-cases : (n i : ℕ) → i < n → IsAfter n i (next_round n i)
+next_round-cases n i l = go (eqb (suc i) n) (eqb→eq (suc i) n)
+    (λ e. subst (λ m. T (eqb (suc i) m)) e (eqb_refl (suc i)))
+  where
+    go : (b : Bool) → (T b → suc i ≡ n) → (suc i ≡ n → T b) → IsAfter n i (cond b 0 (suc i))
+    go true e d = inl (e tt, refl)
+    go false e d = let other : suc i ≢ n = d in inr (omega arith, refl)
+
+pub next_round_below : (n i : ℕ) → i < n → next_round n i < n
+next_round_below n i l = omega (arith, next_round-cases n i l)
+
+-- an index, the next and the one after are different, of three or more
+pub next_round_other : (n i : ℕ) → 3 ≤ n → i < n →
+    (next_round n i ≢ i) × (next_round n (next_round n i) ≢ i) ×
+    (next_round n (next_round n i) ≢ next_round n i)
+next_round_other n i three l =
+    let c = next_round-cases n i l in
+    let d = next_round-cases n (next_round n i) (next_round_below n i l) in
+    (λ e. omega (arith, c, e), λ e. omega (arith, c, d, e), λ e. omega (arith, d, e))

@@ -1,0 +1,11 @@
+use Rattle.stack_algebra.proofs.IntegerRing.{integers}
+use Rattle.stack_algebra.proofs.Sums.{sum_add, sum_scale, sum_swap, over-index}
+use Rattle.stack_algebra.proofs.laws.sum_laws.Goals as goal
+
+pub returns : goal.returns
+returns c = record {
+  sum_add = sum_add integers;
+  sum_scale = sum_scale integers;
+  sum_swap = sum_swap integers;
+  over-index = over-index integers;
+}

@@ -1,0 +1,12 @@
+use Rattle.stack_equilibrium.proofs.CertificateLaws.{stands_is_carried, collapse_excludes_balance, greatest_is_carried, greatest_bounds_every_factor, unbounded_carries_above, unbounded_carries_all}
+use Rattle.stack_equilibrium.proofs.laws.certificate_laws.Goals as goal
+
+pub returns : goal.returns
+returns c = record {
+  stands = stands_is_carried;
+  collapse = collapse_excludes_balance;
+  greatest = greatest_is_carried;
+  bound = greatest_bounds_every_factor;
+  above = unbounded_carries_above;
+  all = unbounded_carries_all;
+}

@@ -1,0 +1,61 @@
+-- The laws that tie certificates to what can be carried. With them a true certificate settles its question.
+-- After Livesley (1978): virtual work, and the static and the kinematic theorem of limit analysis.
+use mathlib.Core.Path.{◌≡◌}
+use mathlib.Core.List.{List, ◌∷◌, ◌++◌}
+use Prim.Native.Nat.{ℕ}
+use lib.IntN.{ℤ, pos, ◌+ℤ◌, ◌*ℤ◌}
+use Rattle.stack_algebra.specs.Sums.{sum_to}
+use Rattle.stack_algebra.specs.IntegerOrder.{◌≼◌, ◌≺◌}
+use Rattle.stack_equilibrium.specs.Scene.{Part, Move, Scene, IsProper}
+use Rattle.stack_equilibrium.specs.Balance.{IsBalanced, Carries}
+use Rattle.stack_equilibrium.specs.Motions.{opening_of, slide_of, KeepsFixedStill, dead_power_of, live_power_of}
+use Rattle.stack_polygon.specs.declared.point.Point.{Point}
+use Rattle.stack_equilibrium.specs.Loads.{weight_of, moved}
+use Rattle.stack_equilibrium.specs.Certificates.{Forces, IsTrueStands, IsTrueCollapse, IsTrueGreatest, IsTrueUnbounded}
+
+-- balanced forces do no work on any motion of the free bodies: that of the bearings' forces and of the loads
+-- adds up to 0
+abbrev pub VirtualWorkIsZero : Type 0
+VirtualWorkIsZero = (s : Scene) (f : ℕ → Part) (scale factor : ℤ) (y : ℕ → Move) →
+    IsProper s → IsBalanced s f scale factor → KeepsFixedStill s y →
+    sum_to s.bearings (λ k. (f k).a *ℤ opening_of s y (s.bearing k) +ℤ (f k).b *ℤ slide_of s y (s.bearing k))
+    +ℤ scale *ℤ dead_power_of s y +ℤ factor *ℤ live_power_of s y ≡ pos 0
+
+-- what stands is carried
+abbrev pub StandsIsCarried : Type 0
+StandsIsCarried = (s : Scene) (f : Forces) → IsTrueStands s f → Carries s (pos 0) (pos 1)
+
+-- where a collapse is true, no admissible forces of any scale balance the dead loads
+abbrev pub CollapseExcludesBalance : Type 0
+CollapseExcludesBalance = (s : Scene) (moves : List Move) (D : ℤ) →
+    IsProper s → IsTrueCollapse s moves → pos 0 ≺ D → ¬ (Carries s (pos 0) D)
+
+-- the greatest factor is carried
+abbrev pub GreatestIsCarried : Type 0
+GreatestIsCarried = (s : Scene) (f : Forces) (moves : List Move) → IsTrueGreatest s f moves →
+    Carries s f.factor f.scale
+
+-- and no greater one is, whatever its denominator
+abbrev pub GreatestBoundsEveryFactor : Type 0
+GreatestBoundsEveryFactor = (s : Scene) (f : Forces) (moves : List Move) →
+    IsProper s → IsTrueGreatest s f moves →
+    (L D : ℤ) → f.factor *ℤ D ≺ L *ℤ f.scale → ¬ (Carries s L D)
+
+-- every factor from that of the base up is carried
+abbrev pub UnboundedCarriesAbove : Type 0
+UnboundedCarriesAbove = (s : Scene) (base ray : Forces) →
+    IsProper s → IsTrueUnbounded s base ray →
+    (L D : ℤ) → pos 0 ≺ D → base.factor *ℤ D ≼ L *ℤ base.scale → Carries s L D
+
+-- and where the dead loads stand too, every factor from 0 up
+abbrev pub UnboundedCarriesAll : Type 0
+UnboundedCarriesAll = (s : Scene) (base ray : Forces) →
+    IsProper s → IsTrueUnbounded s base ray → Carries s (pos 0) (pos 1) →
+    (L D : ℤ) → pos 0 ≼ L → pos 0 ≺ D → Carries s L D
+
+-- an outline weighs the same whichever corner it is told from: from o by xs to c by ys, or from c by ys to o
+-- by xs.
+-- For any corners at all, convex or not
+abbrev pub AnyCornerWeighsTheSame : Type 0
+AnyCornerWeighsTheSame = (w : ℤ) (o : Point) (xs : List Point) (c : Point) (ys : List Point) →
+    moved c o (weight_of w (c ∷ ys ++ o ∷ xs)) ≡ weight_of w (o ∷ xs ++ c ∷ ys)

@@ -1,0 +1,31 @@
+//! The laws of statics, each a clause of a function that does nothing.
+
+ghost use Rattle.stack_equilibrium.specs.Laws.{VirtualWorkIsZero, AnyCornerWeighsTheSame, StandsIsCarried, CollapseExcludesBalance, GreatestIsCarried, GreatestBoundsEveryFactor, UnboundedCarriesAbove, UnboundedCarriesAll};
+ghost use Rattle.stack_equilibrium.specs.WorkedScenes.{TrueOfWorkedScenes, FalseOfWorkedScenes};
+
+/// Balanced forces do no work on a motion of the free bodies. After Livesley (1978).
+pub fn virtual_work()
+    ensures { VirtualWorkIsZero }
+{}
+
+/// What each true certificate says of the factors that are carried: the static and the kinematic theorem.
+/// After Livesley (1978).
+pub fn certificate_laws()
+    ensures stands { StandsIsCarried }
+    ensures collapse { CollapseExcludesBalance }
+    ensures greatest { GreatestIsCarried }
+    ensures bound { GreatestBoundsEveryFactor }
+    ensures above { UnboundedCarriesAbove }
+    ensures all { UnboundedCarriesAll }
+{}
+
+/// A body's weight is the same whichever of its corners is the first.
+pub fn weight_law()
+    ensures { AnyCornerWeighsTheSame }
+{}
+
+/// Small structures worked by hand: which certificates are true of them, and which conditions changed copies break.
+pub fn worked_scenes()
+    ensures holds { TrueOfWorkedScenes }
+    ensures fails { FalseOfWorkedScenes }
+{}
