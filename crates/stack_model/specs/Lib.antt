@@ -10,6 +10,7 @@ pub mod Shape
 pub mod Limits
 pub mod Content
 pub mod Drawn
+pub mod Laid
 pub mod AsWritten
 pub mod Reading
 pub mod Pairs

@@ -25,6 +25,9 @@ pub record Structure : Type 0 where
   pub bodies : List NamedBody
   pub loads : List Load
 
+abbrev pub listed : List NamedMaterial → List NamedBody → List Load → Structure
+listed ms bs ls = record { materials = ms; bodies = bs; loads = ls }
+
 -- the items by number; past the end stands an item that means nothing
 abbrev pub material_of : Structure → ℕ → NamedMaterial
 material_of s i = get_or s.materials i (record { name = []; weight = pos 0; p = pos 0; q = pos 1 })

@@ -1,6 +1,6 @@
 //! What the file describes, with its corner lists as they are written.
 
-use crate::model::KeptMaterial;
+use crate::kept::KeptMaterial;
 use crate::types::{Body, Load};
 use stack_polygon::Point;
 

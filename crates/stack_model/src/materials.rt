@@ -9,8 +9,8 @@ ghost use Rattle.stack_algebra.specs.Steps.{steps};
 ghost use Rattle.stack_model.specs.Content.{unless as unless_of, ranged, with_material, add_material, number_of, material_names};
 
 use crate::faults::{Fault, Key, Spot};
+use crate::kept::KeptMaterial;
 use crate::limits::{friction, is_between, is_name};
-use crate::model::KeptMaterial;
 use crate::names::Names;
 use crate::raw::RawMaterial;
 use crate::types::Material;
