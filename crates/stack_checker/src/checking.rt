@@ -48,7 +48,13 @@ fn block_at(model: &Model, i: usize) -> Block
 }
 
 /// Free block `b` is balanced.
-fn check_block(survey: &Survey, b: usize, scale: Whole, factor: Whole, parts: &[(i128, i128)]) -> Result<(), Stop>
+fn check_block(
+    survey: &Survey,
+    b: usize,
+    scale: Whole,
+    factor: Whole,
+    parts: &[(i128, i128)],
+) -> Result<(), Stop>
     requires block { b < length (frees_of (survey_view survey.now).structure.bodies) }
     requires count { length (survey_view survey.now).bearings ≤ length parts.now }
     ensures { result ≡ written_balance b (block_of (survey_view survey.now).structure (get_or (frees_of (survey_view survey.now).structure.bodies) b 0)) scale factor (survey_view survey.now).bearings parts.now }
@@ -58,7 +64,12 @@ fn check_block(survey: &Survey, b: usize, scale: Whole, factor: Whole, parts: &[
 }
 
 /// So is each free block, in order.
-fn check_blocks(survey: &Survey, scale: Whole, factor: Whole, parts: &[(i128, i128)]) -> Result<(), Stop>
+fn check_blocks(
+    survey: &Survey,
+    scale: Whole,
+    factor: Whole,
+    parts: &[(i128, i128)],
+) -> Result<(), Stop>
     requires { length (survey_view survey.now).bearings ≤ length parts.now }
     ensures { result ≡ steps (λ b done i. written_balance b (block_of (survey_view survey.now).structure i) scale factor (survey_view survey.now).bearings parts.now) 0 tt (frees_of (survey_view survey.now).structure.bodies) }
 {
@@ -70,7 +81,13 @@ fn check_blocks(survey: &Survey, scale: Whole, factor: Whole, parts: &[(i128, i1
 
 /// The tests of a list of forces, with those of its scale and its factor.
 #[tactic(auto, unfolding(crate::specs::WrittenCheck::written_forces))]
-fn check_numbers(survey: &Survey, signs: Signs, scale: Whole, factor: Whole, parts: &[(i128, i128)]) -> Result<(), Stop>
+fn check_numbers(
+    survey: &Survey,
+    signs: Signs,
+    scale: Whole,
+    factor: Whole,
+    parts: &[(i128, i128)],
+) -> Result<(), Stop>
     ensures { result ≡ written_forces signs.scale signs.factor (survey_view survey.now) (record { scale = scale.value; factor = factor.value; parts = parts.now }) }
 {
     require(parts.len() == survey.bearings().len(), Reason::Count)?;
@@ -83,7 +100,13 @@ fn check_numbers(survey: &Survey, signs: Signs, scale: Whole, factor: Whole, par
 fn check_forces(survey: &Survey, signs: Signs, forces: &Forces) -> Result<(), Stop>
     ensures { result ≡ written_forces signs.scale signs.factor (survey_view survey.now) (forces_view forces.now) }
 {
-    check_numbers(survey, signs, Whole::of(forces.scale), Whole::of(forces.factor), forces.parts.as_slice())
+    check_numbers(
+        survey,
+        signs,
+        Whole::of(forces.scale),
+        Whole::of(forces.factor),
+        forces.parts.as_slice(),
+    )
 }
 
 fn answer(part: Part, tested: Result<(), Stop>) -> Check
