@@ -33,22 +33,24 @@ pub made_at_ok : (r : Result Whole Wide) (at : CheckAt) (x : Whole) → made_at 
 made_at_ok (Ok y) at x h = cc
 made_at_ok (Err e) at x h = absurd (cc)
 
-made_at_err : (r : Result Whole Wide) (at : CheckAt) (reason : Reason) → made_at r at ≡ Err (Rejected reason) → ⊥
-made_at_err (Ok y) at reason h = cc
-made_at_err (Err e) at reason h = cc
-
 -- a rejection comes from a test, and not from a number that is made before it
-pub record MadeBefore {B : Type 0} (r : Result Whole Wide) (f : Whole → Result B Stop) (reason : Reason) : Type 0 where
+pub record MadeBefore {B : Type 0} (r : Result Whole Wide) (f : Whole → Result B Stop) (reason : Reason) :
+    Type 0 where
   pub value : Whole
   pub before : r ≡ Ok value
   pub after : f value ≡ Err (Rejected reason)
 
-pub made_before : {B : Type 0} (r : Result Whole Wide) (at : CheckAt) (f : Whole → Result B Stop) (reason : Reason) → (made_at r at >>= f) ≡ Err (Rejected reason) → MadeBefore r f reason
+pub made_before : {B : Type 0} (r : Result Whole Wide) (at : CheckAt) (f : Whole → Result B Stop) (reason : Reason) →
+    (made_at r at >>= f) ≡ Err (Rejected reason) → MadeBefore r f reason
 made_before (Ok x) at f reason h = record { value = x; before = refl; after = h }
 made_before (Err e) at f reason h = absurd (cc)
 
 -- the test rejects, or what follows it does
-pub demand_before : {B : Type 0} (b : Bool) (why : Reason) (f : ⊤ → Result B Stop) (reason : Reason) → (demand b why >>= f) ≡ Err (Rejected reason) → (b ≡ false) ⊎ ((b ≡ true) × (f tt ≡ Err (Rejected reason)))
+abbrev pub IsStopped : {B : Type 0} → Bool → Result B Stop → Reason → Type 0
+IsStopped b rest reason = (b ≡ false) ⊎ ((b ≡ true) × (rest ≡ Err (Rejected reason)))
+
+pub demand_before : {B : Type 0} (b : Bool) (why : Reason) (f : ⊤ → Result B Stop) (reason : Reason) →
+    (demand b why >>= f) ≡ Err (Rejected reason) → IsStopped b (f tt) reason
 demand_before true why f reason h = inr (refl, h)
 demand_before false why f reason h = inl refl
 

@@ -17,7 +17,7 @@ use Rattle.stack_checker.specs.declared.block.Joint.{Joint}
 use Rattle.stack_checker.specs.declared.block.Block.{Block}
 use Rattle.stack_checker.specs.SurveyScene.{scene_bearing_of, no_bearing}
 use Rattle.stack_checker.specs.Whole.{made, fits, whole}
-use Rattle.stack_checker.specs.WrittenSums.{push_at, joint_at, written_force_x, written_force_y, written_moment, written_force, with_bearing, load_along, written_sum}
+use Rattle.stack_checker.specs.WrittenSums.{push_at, joint_at, written_force_x, written_force_y, written_moment, written_force, bearing_at, with_bearing, load_along, written_sum}
 use Rattle.stack_checker.proofs.InOrder.{bind_ok}
 
 pub made_is : (z : ℤ) (x : Whole) → made z ≡ Ok x → x.value ≡ z
@@ -136,10 +136,10 @@ with_loads borne total dead live r is h =
 
 -- what the bearings bear, made one bearing after the other
 borne_is : (axis : Axis) (block : Block) (bearings : List Bearing) (parts : List (ℤ × ℤ)) (r : Whole)
-    → steps (λ k so_far z. with_bearing axis block (push_at parts k) so_far z) 0 (whole (pos 0)) bearings ≡ Ok r
+    → steps (bearing_at axis block parts) 0 (whole (pos 0)) bearings ≡ Ok r
     → r.value ≡ borne_along axis block bearings parts
 borne_is axis block bearings parts r h =
-    steps_sum (λ k so_far z. with_bearing axis block (push_at parts k) so_far z)
+    steps_sum (bearing_at axis block parts)
     (λ k z. side_of block.body (scene_bearing_of z) *ℤ force_along axis (joint_at block.corner z) (push_at parts k))
     0 (whole (pos 0)) bearings no_bearing r (λ k a z r e. added_is axis block (push_at parts k) a z r e) h
     ∙ from_nothing (sum_to (length bearings) (λ k. term k (0 + k)))
@@ -161,6 +161,6 @@ pub sum_is : (axis : Axis) (block : Block) (scale factor : Whole) (bearings : Li
     +ℤ factor.value *ℤ (load_along axis block.live).value
 unfolding written_sum
 sum_is axis block scale factor bearings parts r h =
-    with_loads (steps (λ k so_far z. with_bearing axis block (push_at parts k) so_far z) 0 (whole (pos 0)) bearings)
+    with_loads (steps (bearing_at axis block parts) 0 (whole (pos 0)) bearings)
     (borne_along axis block bearings parts) (scale.value *ℤ (load_along axis block.dead).value)
     (factor.value *ℤ (load_along axis block.live).value) r (borne_is axis block bearings parts) h
