@@ -1,5 +1,5 @@
 -- Where the tests of a list of forces pass, the forces are admissible and balanced; where one rejects, they aren't.
-use Rattle.std.proofs.Common.{◌≡◌, refl, sym, ap, ◌∙◌, ℕ, ◌+◌, ◌<◌, ◌⊎◌, inl, inr, ℤ, pos, Bool, true, false, not, List, length, get_or, Result, Ok, Err, subst, arith}
+use Rattle.std.proofs.Common.{◌≡◌, refl, sym, ap, ◌∙◌, ℕ, ◌+◌, ◌<◌, ◌⊎◌, inl, inr, pos, Bool, true, false, not, List, length, get_or, Result, Ok, Err, subst, arith}
 use Rattle.std.specs.Bool.{⊤, nat_eq}
 use Rattle.std.proofs.lemmas.Bool.{eqb-true}
 use Rattle.std.proofs.lemmas.List.{length-map}
@@ -11,7 +11,6 @@ use Rattle.stack_equilibrium.specs.Certificates as certificates
 use Rattle.stack_checker.specs.declared.types.Bearing.{Bearing}
 use Rattle.stack_checker.specs.declared.types.Reason.{Reason}
 use Rattle.stack_checker.specs.declared.types.Reason.TheVariants as reasons
-use Rattle.stack_checker.specs.declared.whole.Whole.{Whole}
 use Rattle.stack_checker.specs.declared.whole.Sign.{Sign}
 use Rattle.stack_checker.specs.declared.stop.Stop.{Stop}
 use Rattle.stack_checker.specs.declared.stop.Stop.TheVariants.{Rejected}
@@ -74,7 +73,7 @@ module _ (s : Surveyed) (c : CertificateValue) where
   admissible : (done : ⊤) → steps (cone_at c.parts) 0 tt s.bearings ≡ Ok done → (k : ℕ) → k < length s.bearings → WithinAt k (part k)
   admissible done h k l =
       let one = ap (λ n. cone_at c.parts n tt (bearing k)) (from_zero k)
-          ∙ each_passes (cone_at c.parts) 0 s.bearings no_bearing h k l in
+      ∙ each_passes (cone_at c.parts) 0 s.bearings no_bearing h k l in
       is_within k (cone_holds k (whole (bearing k).cone.p) (whole (bearing k).cone.q) (push_at c.parts k) tt one)
 
   -- and all the free blocks' tests

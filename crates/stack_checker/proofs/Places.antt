@@ -1,11 +1,10 @@
 -- An answer names a bearing or a free block of the survey.
-use Rattle.std.proofs.Common.{◌≡◌, refl, sym, ap, ◌∙◌, ℕ, ◌+◌, ◌<◌, ◌⊎◌, inl, inr, ℤ, pos, nat_abs, ◌*ℤ◌, Bool, true, false, List, length, get_or, Result, Ok, Err, subst, arith}
+use Rattle.std.proofs.Common.{◌≡◌, refl, ℕ, ◌+◌, ◌<◌, ◌⊎◌, inl, inr, ℤ, pos, nat_abs, ◌*ℤ◌, Bool, true, false, List, length, Result, Ok, Err, subst, arith}
 use Rattle.std.specs.Bool.{⊤, nat_eq}
 use Rattle.std.specs.Prelude.{int_le}
 use Rattle.std.specs.Ordering.{int_eq}
 use Rattle.stack_algebra.specs.Steps.{◌>>=◌, steps}
 use Rattle.stack_checker.specs.declared.types.Bearing.{Bearing}
-use Rattle.stack_checker.specs.declared.types.Axis.{Axis}
 use Rattle.stack_checker.specs.declared.types.Axis.TheVariants.{X, Y, M}
 use Rattle.stack_checker.specs.declared.types.Part.TheVariants.{First}
 use Rattle.stack_checker.specs.declared.types.Reason.{Reason}
@@ -25,10 +24,10 @@ use Rattle.stack_checker.specs.Certificate.{CertificateValue}
 use Rattle.stack_checker.specs.FreeBlocks.{frees_of}
 use Rattle.stack_checker.specs.SurveyScene.{no_bearing}
 use Rattle.stack_checker.specs.Whole.{made, has_sign, whole}
-use Rattle.stack_checker.specs.WrittenSums.{push_at, written_sum}
+use Rattle.stack_checker.specs.WrittenSums.{written_sum}
 use Rattle.stack_checker.specs.WrittenCheck.{demand, made_at, written_cone, cone_at, written_balance, balance_at, written_forces, answer_of, written_check}
 use Rattle.stack_checker.specs.Verdict.{IsReasonOf, IsPlaceOf, NamesOf}
-use Rattle.stack_checker.proofs.InOrder.{bind_err, Follows, one_ends, EndsAt}
+use Rattle.stack_checker.proofs.InOrder.{bind_err, Follows, one_ends}
 
 module _ (s : Surveyed) where
   abbrev Names : Stop → Type 0

@@ -1,5 +1,5 @@
 -- Where no number of a written sum passes, it is the plain sum.
-use Rattle.std.proofs.Common.{◌≡◌, refl, sym, ap, ◌∙◌, ℕ, zero, suc, ◌+◌, ◌<◌, ℤ, pos, negsuc, ◌+ℤ◌, ◌-ℤ◌, ◌*ℤ◌, Bool, true, false, cond, List, [], ◌∷◌, length, get_or, Result, Ok, Err, arith}
+use Rattle.std.proofs.Common.{◌≡◌, sym, ap, ◌∙◌, ℕ, suc, ◌+◌, ℤ, pos, negsuc, ◌+ℤ◌, ◌-ℤ◌, ◌*ℤ◌, Bool, true, false, cond, List, [], ◌∷◌, length, get_or, Result, Ok, Err, arith}
 use Rattle.std.specs.Bool.{if◌then◌else◌, nat_eq}
 use Rattle.stack_algebra.specs.Steps.{◌>>=◌, steps}
 use Rattle.stack_algebra.specs.Sums.{sum_to}

@@ -1,5 +1,5 @@
 -- The sums of a block's balance, each product and each partial result in the written order.
-use Rattle.std.specs.Prelude.{ℕ, ◌+◌, nat_eq, ℤ, pos, ◌+ℤ◌, ◌-ℤ◌, ◌*ℤ◌, List, get_or, Result, Ok, Err, if◌then◌else◌}
+use Rattle.std.specs.Prelude.{ℕ, nat_eq, ℤ, pos, ◌+ℤ◌, ◌-ℤ◌, ◌*ℤ◌, List, get_or, Result, Ok, if◌then◌else◌}
 use Rattle.stack_algebra.specs.Steps.{◌>>=◌, steps}
 use Rattle.stack_polygon.specs.declared.point.Point.{Point}
 use Rattle.stack_checker.specs.declared.types.Bearing.{Bearing}

@@ -5,7 +5,6 @@ ghost use Rattle.stack_algebra.specs.Steps.{steps};
 ghost use Rattle.stack_model.specs.ModelView.{model_view};
 ghost use Rattle.stack_checker.specs.Certificate.{forces_view, certificate_view};
 ghost use Rattle.stack_checker.specs.FreeBlocks.{frees_of, free_of};
-
 ghost use Rattle.stack_checker.specs.Surveyed.{survey_view};
 ghost use Rattle.stack_checker.specs.Truth.{IsTrueCertificate};
 ghost use Rattle.stack_checker.specs.Verdict.{IsRejected, NamesOf};
