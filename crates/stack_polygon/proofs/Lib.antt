@@ -1,0 +1,5 @@
+pub mod Stored
+pub mod Ranges
+pub mod Convexity
+pub mod Turned
+pub mod Fans

@@ -1,0 +1,6 @@
+pub mod Plane
+pub mod Corners
+pub mod Limits
+pub mod Rectangles
+pub mod Area
+pub mod Sizes

@@ -1,6 +1,14 @@
-//! Convex polygons with whole coordinates.
+//! Strictly convex polygons with whole coordinates.
+//!
+//! A `Polygon` is seen as the list of its corners: 3 to 32 of them, counter-clockwise, each strictly left of every edge that
+//! it isn't an end of, with coordinates from -1,000,000 to 1,000,000.
 #![tactic(auto)]
 
+mod fan;
 mod point;
+mod polygon;
+mod rectangle;
+mod turns;
 
 pub use point::Point;
+pub use polygon::Polygon;

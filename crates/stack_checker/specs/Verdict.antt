@@ -1,0 +1,50 @@
+-- The laws that tie the written check to what is true: an accepted certificate is true and a rejected one isn't.
+use Rattle.std.specs.Prelude.{◌≡◌, ◌⊎◌, ◌<◌, length, ⊤}
+use Rattle.stack_checker.specs.declared.types.CheckPlace.{CheckPlace}
+use Rattle.stack_checker.specs.declared.types.Part.{Part}
+use Rattle.stack_checker.specs.declared.types.Reason.{Reason}
+use Rattle.stack_checker.specs.declared.types.Reason.TheVariants as reasons
+use Rattle.stack_checker.specs.declared.types.CheckAt.{CheckAt}
+use Rattle.stack_checker.specs.declared.types.CheckAt.TheVariants as places
+use Rattle.stack_checker.specs.declared.types.Check.{Check}
+use Rattle.stack_checker.specs.declared.types.Check.TheVariants.{Accepted, Rejected, TooWide}
+use Rattle.stack_checker.specs.Surveyed.{Surveyed}
+use Rattle.stack_checker.specs.Certificate.{CertificateValue}
+use Rattle.stack_checker.specs.FreeBlocks.{frees_of}
+use Rattle.stack_checker.specs.Truth.{IsTrueCertificate}
+use Rattle.stack_checker.specs.WrittenCheck.{written_check}
+
+abbrev pub AcceptedIsTrue : Type 0
+AcceptedIsTrue = (s : Surveyed) (c : CertificateValue) → written_check s c ≡ Accepted → IsTrueCertificate s c
+
+abbrev pub RejectedIsFalse : Type 0
+RejectedIsFalse = (s : Surveyed) (c : CertificateValue) (part : Part) (reason : Reason) →
+    written_check s c ≡ Rejected part reason → ¬ (IsTrueCertificate s c)
+
+-- a true certificate is accepted, unless a number passes before the last test
+abbrev pub TrueIsAccepted : Type 0
+TrueIsAccepted = (s : Surveyed) (c : CertificateValue) →
+    IsTrueCertificate s c → (written_check s c ≡ Accepted) ⊎ ((place : CheckPlace) × (written_check s c ≡ TooWide place))
+
+abbrev pub IsRejected : Check → Type 0
+IsRejected Accepted = ⊥
+IsRejected (Rejected part reason) = ⊤
+IsRejected (TooWide place) = ⊥
+
+-- a reason and a place name a bearing or a free block of the survey, both counted from 0
+abbrev pub IsReasonOf : Surveyed → Reason → Type 0
+IsReasonOf s reasons.Count = ⊤
+IsReasonOf s reasons.Scale = ⊤
+IsReasonOf s reasons.Factor = ⊤
+IsReasonOf s (reasons.Push k) = k < length s.bearings
+IsReasonOf s (reasons.Cone k) = k < length s.bearings
+IsReasonOf s (reasons.Balance b axis) = b < length (frees_of s.structure.bodies)
+
+abbrev pub IsPlaceOf : Surveyed → CheckAt → Type 0
+IsPlaceOf s (places.Cone k) = k < length s.bearings
+IsPlaceOf s (places.Balance b axis) = b < length (frees_of s.structure.bodies)
+
+abbrev pub NamesOf : Surveyed → Check → Type 0
+NamesOf s Accepted = ⊤
+NamesOf s (Rejected part reason) = IsReasonOf s reason
+NamesOf s (TooWide place) = IsPlaceOf s place.at

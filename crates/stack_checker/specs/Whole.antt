@@ -1,0 +1,29 @@
+-- Whole numbers as the written check makes them: each product and each partial result is refused where its size
+-- passes 2^127 - 1.
+use Rattle.std.specs.Prelude.{◌^◌, ℤ, pos, nat_abs, int_lt, Bool, nat_lt, Option, Some, None, Result, Ok, Err, if◌then◌else◌}
+use Rattle.std.specs.Ordering.{int_eq}
+use Rattle.stack_checker.specs.declared.whole.Wide.{Wide}
+use Rattle.stack_checker.specs.declared.whole.Whole.{Whole}
+use Rattle.stack_checker.specs.declared.whole.Sign.{Sign}
+use Rattle.stack_checker.specs.declared.whole.Sign.TheVariants.{Zero, Positive}
+
+-- the size is at most 2^127 - 1
+abbrev pub fits : ℤ → Bool
+fits z = nat_lt (nat_abs z) (2 ^ 127)
+
+-- the number, where it doesn't pass
+abbrev pub made : ℤ → Result Whole Wide
+made z = if fits z then Ok (record { value = z }) else Err (record {})
+
+-- the same, of what 128 bits may hold
+abbrev pub kept : Option ℤ → Result Whole Wide
+kept None = Err (record {})
+kept (Some z) = made z
+
+abbrev pub has_sign : Sign → ℤ → Bool
+has_sign Zero z = int_eq z (pos 0)
+has_sign Positive z = int_lt (pos 0) z
+
+-- a number as it is, of which no size is asked
+abbrev pub whole : ℤ → Whole
+whole z = record { value = z }

@@ -1,0 +1,83 @@
+-- The sums of a block's balance, each product and each partial result in the written order.
+use Rattle.std.specs.Prelude.{ℕ, nat_eq, ℤ, pos, ◌+ℤ◌, ◌-ℤ◌, ◌*ℤ◌, List, get_or, Result, Ok, if◌then◌else◌}
+use Rattle.stack_algebra.specs.Steps.{◌>>=◌, steps}
+use Rattle.stack_polygon.specs.declared.point.Point.{Point}
+use Rattle.stack_checker.specs.declared.types.Bearing.{Bearing}
+use Rattle.stack_checker.specs.declared.types.Axis.{Axis}
+use Rattle.stack_checker.specs.declared.types.Axis.TheVariants.{X, Y, M}
+use Rattle.stack_checker.specs.declared.whole.Wide.{Wide}
+use Rattle.stack_checker.specs.declared.whole.Whole.{Whole}
+use Rattle.stack_checker.specs.declared.block.Push.{Push}
+use Rattle.stack_checker.specs.declared.block.Joint.{Joint}
+use Rattle.stack_checker.specs.declared.block.Loads.{Loads}
+use Rattle.stack_checker.specs.declared.block.Block.{Block}
+use Rattle.stack_checker.specs.Whole.{made, whole}
+
+-- what bearing k bears, of a list of such pairs
+abbrev pub push_at : List (ℤ × ℤ) → ℕ → Push
+push_at parts k = let p = get_or parts k (pos 0, pos 0) in record { a = whole p.0; b = whole p.1 }
+
+-- a bearing as a block meets it: its tangent, and its point less the block's first stored corner
+abbrev pub joint_at : Point → Bearing → Joint
+joint_at o z = record {
+  tx = whole z.frame.tx;
+  ty = whole z.frame.ty;
+  lx = whole (z.at.x -ℤ o.x);
+  ly = whole (z.at.y -ℤ o.y);
+}
+
+-- the force on the second body along x: b*tx, a*ty and their difference
+unfoldable pub written_force_x : Joint → Push → Result Whole Wide
+written_force_x z f = do
+  along ← made (f.b.value *ℤ z.tx.value)
+  across ← made (f.a.value *ℤ z.ty.value)
+  made (along.value -ℤ across.value)
+
+-- and along y: a*tx, b*ty and their sum
+unfoldable pub written_force_y : Joint → Push → Result Whole Wide
+written_force_y z f = do
+  across ← made (f.a.value *ℤ z.tx.value)
+  along ← made (f.b.value *ℤ z.ty.value)
+  made (across.value +ℤ along.value)
+
+-- its moment: lx times the force along y, ly times that along x, and their difference
+unfoldable pub written_moment : Joint → Push → Result Whole Wide
+written_moment z f = do
+  x ← written_force_x z f
+  y ← written_force_y z f
+  turned ← made (z.lx.value *ℤ y.value)
+  back ← made (z.ly.value *ℤ x.value)
+  made (turned.value -ℤ back.value)
+
+abbrev pub written_force : Axis → Joint → Push → Result Whole Wide
+written_force X z f = written_force_x z f
+written_force Y z f = written_force_y z f
+written_force M z f = written_moment z f
+
+-- it is added where the block is the second body, subtracted where it is the first, and otherwise not made
+unfoldable pub with_bearing : Axis → Block → Push → Whole → Bearing → Result Whole Wide
+with_bearing axis block f so_far z =
+    if nat_eq block.body z.second then (do
+      force ← written_force axis (joint_at block.corner z) f
+      made (so_far.value +ℤ force.value))
+    else (if nat_eq block.body z.first then (do
+      force ← written_force axis (joint_at block.corner z) f
+      made (so_far.value -ℤ force.value))
+    else Ok so_far)
+
+abbrev pub bearing_at : Axis → Block → List (ℤ × ℤ) → ℕ → Whole → Bearing → Result Whole Wide
+bearing_at axis block parts k so_far z = with_bearing axis block (push_at parts k) so_far z
+
+abbrev pub load_along : Axis → Loads → Whole
+load_along X w = w.fx
+load_along Y w = w.fy
+load_along M w = w.m
+
+-- from 0, the bearings in order; then scale*dead is made and added, then factor*live
+unfoldable pub written_sum : Axis → Block → Whole → Whole → List Bearing → List (ℤ × ℤ) → Result Whole Wide
+written_sum axis block scale factor bearings parts = do
+  borne ← steps (bearing_at axis block parts) 0 (whole (pos 0)) bearings
+  weight ← made (scale.value *ℤ (load_along axis block.dead).value)
+  standing ← made (borne.value +ℤ weight.value)
+  drive ← made (factor.value *ℤ (load_along axis block.live).value)
+  made (standing.value +ℤ drive.value)

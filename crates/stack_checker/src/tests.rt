@@ -1,0 +1,4 @@
+//! Tests.
+
+mod meetings;
+mod texts;

@@ -1,0 +1,29 @@
+-- The forms of words, and the files that each names. A further form of words is a further case of each.
+use Rattle.std.specs.Prelude.{ℕ, List, [], ◌∷◌, map, codes, Option, Some, None, String, string_bytes, if◌then◌else◌}
+use Rattle.std.specs.Str.{bytes_eq}
+use Rattle.std.specs.declared.alloc.Global.{Global}
+use Rattle.stack_cli.specs.declared.words.Form.{Form as CodeForm}
+use Rattle.stack_cli.specs.declared.words.Form.TheVariants as code
+
+-- What the words ask for: `check MODEL CERT`, with any two words as the names of the files.
+pub data Form : Type 0 where
+  check : List ℕ → List ℕ → Form
+
+-- The form that the code holds, by bytes.
+abbrev pub form_view : CodeForm → Form
+form_view (code.Check model certificate) = check model.now certificate.now
+
+-- The words, as bytes.
+abbrev pub texts : List (String Global) → List (List ℕ)
+texts words = map string_bytes words
+
+-- The form of the words, if they have one.
+abbrev pub form_of : List (List ℕ) → Option Form
+form_of (word ∷ model ∷ certificate ∷ []) =
+    if bytes_eq word (codes "check") then Some (check model certificate) else None
+form_of _ = None
+
+-- The files of a form in the order of work.
+abbrev pub files_of : Option Form → List (List ℕ)
+files_of None = []
+files_of (Some (check model certificate)) = model ∷ certificate ∷ []

@@ -1,0 +1,87 @@
+//! The answers of a check, as text.
+
+ghost use Rattle.std.specs.Prelude.{◌≡◌, IfOk, string_bytes};
+ghost use Rattle.stack_checker.specs.Surveyed.{survey_view};
+ghost use Rattle.stack_cli.specs.AnswerText.{verdict_status, block_name as name_of_block, rejected_text};
+ghost use Rattle.stack_cli.specs.Refusals.{place_view};
+ghost use Rattle.stack_cli.specs.Outcome.{place_of};
+
+use crate::refusal::{BlockSum, Place, number, part_text};
+use stack_checker::types::{CheckAt, Part, Reason, Survey};
+use std::alloc::{AllocError, Global};
+
+/// What an answer says.
+#[derive(Clone, Copy, Debug, PartialEq, Eq)]
+pub enum Verdict {
+    /// The certificate is accepted.
+    Affirmed,
+    /// The certificate is rejected.
+    Denied,
+}
+
+impl Verdict {
+    /// The status with which the program ends where the answer is written.
+    pub fn status(self) -> u8
+        ensures { result ≡ verdict_status self }
+    {
+        match self {
+            Verdict::Affirmed => 0,
+            Verdict::Denied => 1,
+        }
+    }
+}
+
+/// A whole answer, before it is written.
+#[derive(Debug, Drop)]
+pub struct Answer {
+    pub verdict: Verdict,
+    pub text: Vec<u8>,
+}
+
+/// The name of a free block, counted from 0 among the free blocks; empty where there is none. Takes no memory.
+pub fn block_name(survey: &Survey, block: usize) -> &str
+    ensures { result.now ≡ name_of_block (survey_view survey.now).structure block }
+{
+    if block < survey.free_count() {
+        survey.model().name(survey.free(block))
+    } else {
+        ""
+    }
+}
+
+/// The line that says why a certificate is rejected, with its line feed.
+pub fn rejection(
+    alloc: Global,
+    survey: &Survey,
+    part: Part,
+    reason: Reason,
+) -> Result<String, AllocError>
+    ensures { IfOk result (λ s. string_bytes s ≡ rejected_text (survey_view survey.now).structure part reason) }
+{
+    let part = part_text(part);
+    match reason {
+        Reason::Count => format!(in alloc; "rejected {part} count\n"),
+        Reason::Scale => format!(in alloc; "rejected {part} scale\n"),
+        Reason::Factor => format!(in alloc; "rejected {part} factor\n"),
+        Reason::Push { k } => format!(in alloc; "rejected {part} push {}\n", number(k)),
+        Reason::Cone { k } => format!(in alloc; "rejected {part} cone {}\n", number(k)),
+        Reason::Balance { block, axis } => {
+            let name = block_name(survey, block);
+            let sum = BlockSum { name, axis };
+            format!(in alloc; "rejected {part} {sum}\n")
+        }
+    }
+}
+
+/// The place of a sum that is too wide, with the block's name.
+pub fn wide_place(alloc: Global, survey: &Survey, at: CheckAt) -> Result<Place, AllocError>
+    ensures { IfOk result (λ p. place_view p ≡ place_of (survey_view survey.now).structure at) }
+{
+    match at {
+        CheckAt::Cone { k } => Ok(Place::Cone { k }),
+        CheckAt::Balance { block, axis } => Ok(Place::Balance {
+            name: String::from_str(alloc, block_name(survey, block))?,
+            axis,
+        }),
+    }
+}

@@ -1,0 +1,193 @@
+//! Why a run refuses, with the status and the line of each refusal.
+
+ghost use Rattle.std.specs.Prelude.{◌≡◌, ◌+◌, Some};
+ghost use Rattle.stack_cli.specs.Refusals.{input_word, part_word, axis_word, place_text, balance_of, place_view, status_of, line_of, refusal_view};
+ghost use Rattle.stack_cli.specs.Outcome.{from_read, from_survey};
+ghost use Rattle.stack_cli.specs.declared.refusal.Refusal.TheVariants.{CertificateRefused, Memory};
+
+use stack_checker::types::{Axis, Part, SurveyError};
+use stack_model::ReadError;
+use std::alloc::AllocError;
+use std::fmt;
+
+/// A file that the words name.
+#[derive(Clone, Copy, Debug, PartialEq, Eq)]
+pub enum Input {
+    /// The model's.
+    Model,
+    /// The certificate's.
+    Certificate,
+}
+
+/// Where a check meets a sum that is too wide.
+#[derive(Debug, Drop)]
+pub enum Place {
+    /// At the cone of a bearing, counted from 0.
+    Cone { k: usize },
+    /// At one of the three sums of the block with this name.
+    Balance { name: String, axis: Axis },
+}
+
+/// Why a run refuses.
+#[derive(Debug, Drop)]
+pub enum Refusal {
+    /// The words are no form.
+    Words,
+    /// The file isn't read.
+    File(Input),
+    /// The file holds more than 262,144 bytes.
+    Long(Input),
+    /// The model's file is no model that the program takes, or two of its blocks overlap.
+    ModelRefused,
+    /// The block, counted from 0, is no axis-parallel rectangle.
+    ModelSlanted { block: usize },
+    /// The certificate's file is no certificate.
+    CertificateRefused,
+    /// A sum of the check is too wide, in this part of the certificate.
+    WideCheck { part: Part, place: Place },
+    /// The answer isn't written.
+    Output,
+    /// Memory is wanting.
+    Memory,
+}
+
+impl Refusal {
+    /// The status with which the program ends.
+    pub fn status(&self) -> u8
+        ensures { result ≡ status_of (refusal_view self.now) }
+    {
+        match self {
+            Refusal::Words => 2,
+            Refusal::File(_) => 3,
+            Refusal::Long(_) => 4,
+            Refusal::ModelRefused | Refusal::ModelSlanted { .. } => 5,
+            Refusal::CertificateRefused => 6,
+            Refusal::WideCheck { .. } => 7,
+            Refusal::Output => 10,
+            Refusal::Memory => 11,
+        }
+    }
+}
+
+/// A number as users count, from 1.
+pub fn number(index: usize) -> u128
+    ensures { result ≡ index + 1 }
+{
+    index as u128 + 1
+}
+
+/// The word for a part of a certificate.
+pub fn part_text(part: Part) -> &'static str
+    ensures { result.now ≡ part_word part }
+{
+    match part {
+        Part::First => "first",
+        Part::Second => "second",
+    }
+}
+
+/// The word for a sum of a block's balance.
+pub fn axis_text(axis: Axis) -> &'static str
+    ensures { result.now ≡ axis_word axis }
+{
+    match axis {
+        Axis::X => "x",
+        Axis::Y => "y",
+        Axis::M => "m",
+    }
+}
+
+impl fmt::Display for Input {
+    ghost output = { λ i. Some (input_word i) };
+
+    fn fmt<W: fmt::Write>(&self, f: &mut fmt::Formatter<W>) -> fmt::Result {
+        f.write_str(match self {
+            Input::Model => "model",
+            Input::Certificate => "certificate",
+        })
+    }
+}
+
+/// One of the three sums of a block, told by the block's name.
+#[derive(Clone, Copy, Debug, PartialEq, Eq)]
+pub struct BlockSum<'a> {
+    pub name: &'a str,
+    pub axis: Axis,
+}
+
+impl fmt::Display for BlockSum<'_> {
+    ghost output = { λ s. Some (place_text (balance_of s.name.now s.axis)) };
+
+    fn fmt<W: fmt::Write>(&self, f: &mut fmt::Formatter<W>) -> fmt::Result {
+        write!(f, "balance {} {}", self.name, axis_text(self.axis))
+    }
+}
+
+impl fmt::Display for Place {
+    ghost output = { λ p. Some (place_text (place_view p)) };
+
+    fn fmt<W: fmt::Write>(&self, f: &mut fmt::Formatter<W>) -> fmt::Result {
+        match self {
+            Place::Cone { k } => write!(f, "cone {}", number(*k)),
+            Place::Balance { name, axis } => {
+                let sum = BlockSum {
+                    name: name.as_str(),
+                    axis: *axis,
+                };
+                write!(f, "{sum}")
+            }
+        }
+    }
+}
+
+/// The line without its line feed.
+impl fmt::Display for Refusal {
+    ghost output = { λ r. Some (line_of (refusal_view r)) };
+
+    fn fmt<W: fmt::Write>(&self, f: &mut fmt::Formatter<W>) -> fmt::Result {
+        match self {
+            Refusal::Words => f.write_str("words"),
+            Refusal::File(input) => write!(f, "file {input}"),
+            Refusal::Long(input) => write!(f, "long {input}"),
+            Refusal::ModelRefused => f.write_str("model refused"),
+            Refusal::ModelSlanted { block } => write!(f, "model slanted block {}", number(*block)),
+            Refusal::CertificateRefused => f.write_str("certificate refused"),
+            Refusal::WideCheck { part, place } => {
+                write!(f, "wide check {} {place}", part_text(*part))
+            }
+            Refusal::Output => f.write_str("output"),
+            Refusal::Memory => f.write_str("memory"),
+        }
+    }
+}
+
+impl From<AllocError> for Refusal {
+    ghost from_gives = { λ _ r. r ≡ Memory };
+
+    fn from(_e: AllocError) -> Refusal {
+        Refusal::Memory
+    }
+}
+
+impl From<ReadError> for Refusal {
+    ghost from_gives = { λ e r. refusal_view r ≡ from_read e };
+
+    fn from(e: ReadError) -> Refusal {
+        match e {
+            ReadError::Refused => Refusal::ModelRefused,
+            ReadError::Slanted { block } => Refusal::ModelSlanted { block },
+            ReadError::Memory => Refusal::Memory,
+        }
+    }
+}
+
+impl From<SurveyError> for Refusal {
+    ghost from_gives = { λ e r. refusal_view r ≡ from_survey e };
+
+    fn from(e: SurveyError) -> Refusal {
+        match e {
+            SurveyError::Overlap { .. } => Refusal::ModelRefused,
+            SurveyError::Memory => Refusal::Memory,
+        }
+    }
+}

@@ -1,0 +1,72 @@
+-- What a model describes: materials, bodies and loads, each a list in the order of the file. Used by every crate above.
+use Rattle.std.specs.Prelude.{◌≡◌, ℕ, ◌<◌, ◌≤◌, ℤ, pos, negsuc, Bool, true, false, List, [], length, get_or}
+use Rattle.stack_algebra.proofs.Order.{◌≼◌}
+use Rattle.stack_polygon.specs.declared.point.Point.{Point}
+use Rattle.stack_polygon.specs.Corners.{origin}
+use Rattle.stack_polygon.specs.Limits.{IsInRange, IsPolygon}
+use Rattle.stack_model.specs.declared.types.Load.{Load}
+
+-- a material: its unit weight, and its coefficient of friction, p over q
+pub record NamedMaterial : Type 0 where
+  pub name : List ℕ
+  pub weight : ℤ
+  pub p : ℤ
+  pub q : ℤ
+
+-- a body: the number of its material, whether it is fixed, and its corners, counter-clockwise
+pub record NamedBody : Type 0 where
+  pub name : List ℕ
+  pub material : ℕ
+  pub fixed : Bool
+  pub corners : List Point
+
+pub record Structure : Type 0 where
+  pub materials : List NamedMaterial
+  pub bodies : List NamedBody
+  pub loads : List Load
+
+abbrev pub listed : List NamedMaterial → List NamedBody → List Load → Structure
+listed ms bs ls = record { materials = ms; bodies = bs; loads = ls }
+
+-- the items by number; past the end stands an item that means nothing
+abbrev pub material_of : Structure → ℕ → NamedMaterial
+material_of s i = get_or s.materials i (record { name = []; weight = pos 0; p = pos 0; q = pos 1 })
+
+abbrev pub body_at : List NamedBody → ℕ → NamedBody
+body_at bs i = get_or bs i (record { name = []; material = 0; fixed = true; corners = [] })
+
+abbrev pub body_of : Structure → ℕ → NamedBody
+body_of s i = body_at s.bodies i
+
+abbrev pub load_of : Structure → ℕ → Load
+load_of s i = get_or s.loads i (record { body = 0; live = false; at = origin; fx = pos 0; fy = pos 0 })
+
+-- The limits of every model.
+-- weight from 0 to 1,000,000, p from 0 to 1,000, q from 1 to 1,000
+pub record IsWithinLimits (m : NamedMaterial) : Type 0 where
+  pub least_weight : pos 0 ≼ m.weight
+  pub most_weight : m.weight ≼ pos 1000000
+  pub least_p : pos 0 ≼ m.p
+  pub most_p : m.p ≼ pos 1000
+  pub least_q : pos 1 ≼ m.q
+  pub most_q : m.q ≼ pos 1000
+
+-- one of so many materials, and the corners of a polygon
+pub record IsPlaced (materials : ℕ) (b : NamedBody) : Type 0 where
+  pub has_material : b.material < materials
+  pub polygon : IsPolygon b.corners
+
+-- on one of so many bodies, in range, and force components of at most 1,000,000,000 in size
+pub record IsCarried (bodies : ℕ) (l : Load) : Type 0 where
+  pub on_body : l.body < bodies
+  pub in_range : IsInRange l.at
+  pub least_fx : negsuc 999999999 ≼ l.fx
+  pub most_fx : l.fx ≼ pos 1000000000
+  pub least_fy : negsuc 999999999 ≼ l.fy
+  pub most_fy : l.fy ≼ pos 1000000000
+
+pub record IsSound (s : Structure) : Type 0 where
+  pub materials : (i : ℕ) → i < length s.materials → IsWithinLimits (material_of s i)
+  pub bodies : (i : ℕ) → i < length s.bodies → IsPlaced (length s.materials) (body_of s i)
+  pub loads : (i : ℕ) → i < length s.loads → IsCarried (length s.bodies) (load_of s i)
+  pub two : length s.bodies ≡ 2

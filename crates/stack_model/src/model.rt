@@ -1,0 +1,119 @@
+//! A model: the lists of its materials, bodies and loads.
+
+ghost use Rattle.std.specs.Prelude.{◌≡◌, ◌<◌, length, map};
+ghost use Rattle.stack_polygon.specs.Limits.{IsPolygon};
+ghost use Rattle.stack_model.specs.Structure.{listed, material_of, body_of, load_of, IsWithinLimits, IsCarried, IsSound};
+ghost use Rattle.stack_model.specs.Kept.{material_view, body_view, material_alone, body_alone};
+ghost use Rattle.stack_model.specs.ModelView.{model_view};
+
+use crate::kept::{KeptBody, KeptMaterial};
+use crate::types::{Body, Load, Material};
+use stack_polygon::Polygon;
+
+/// Materials, bodies and loads, each numbered from 0 in the order of the file.
+#[derive(Debug, Drop)]
+pub struct Model {
+    materials: Vec<KeptMaterial>,
+    bodies: Vec<KeptBody>,
+    loads: Vec<Load>,
+}
+
+impl std::marker::Model for Model {
+    ghost use Rattle.stack_model.specs.Structure.{Structure, IsSound};
+
+    ghost Value = { Structure };
+
+    ghost use Rattle.stack_model.specs.Kept.{inside_view};
+
+    ghost view = { inside_view };
+
+    ghost invariant = { λ m. IsSound (inside_view m) };
+}
+
+impl Model {
+    /// The model of these lists.
+    pub fn of(materials: Vec<KeptMaterial>, bodies: Vec<KeptBody>, loads: Vec<Load>) -> Model
+        requires { IsSound (listed (map material_view materials.items) (map body_view bodies.items) loads.items) }
+        ensures { model_view result ≡ listed (map material_view materials.items) (map body_view bodies.items) loads.items }
+    {
+        Model {
+            materials,
+            bodies,
+            loads,
+        }
+    }
+
+    /// The number of materials.
+    pub fn materials(&self) -> usize
+        ensures { result ≡ length (model_view self.now).materials }
+    {
+        self.materials.len()
+    }
+
+    /// Material `i`.
+    pub fn material(&self, i: usize) -> Material
+        requires { i < length (model_view self.now).materials }
+        ensures value { result ≡ material_alone (material_of (model_view self.now) i) }
+        ensures limits { IsWithinLimits (material_of (model_view self.now) i) }
+    {
+        self.materials[i].material
+    }
+
+    /// The name of material `i`.
+    pub fn material_name(&self, i: usize) -> &str
+        requires { i < length (model_view self.now).materials }
+        ensures { result.now ≡ (material_of (model_view self.now) i).name }
+    {
+        self.materials[i].name.as_str()
+    }
+
+    /// The number of bodies.
+    pub fn bodies(&self) -> usize
+        ensures value { result ≡ length (model_view self.now).bodies }
+        ensures two { result ≡ 2 }
+    {
+        self.bodies.len()
+    }
+
+    /// Body `i`: its material and whether it is fixed.
+    pub fn body(&self, i: usize) -> Body
+        requires { i < length (model_view self.now).bodies }
+        ensures value { result ≡ body_alone (body_of (model_view self.now) i) }
+        ensures has_material { result.material < length (model_view self.now).materials }
+    {
+        self.bodies[i].body
+    }
+
+    /// The name of body `i`.
+    pub fn name(&self, i: usize) -> &str
+        requires { i < length (model_view self.now).bodies }
+        ensures { result.now ≡ (body_of (model_view self.now) i).name }
+    {
+        self.bodies[i].name.as_str()
+    }
+
+    /// The outline of body `i`.
+    pub fn polygon(&self, i: usize) -> &Polygon
+        requires { i < length (model_view self.now).bodies }
+        ensures value { result.now ≡ (body_of (model_view self.now) i).corners }
+        ensures polygon { IsPolygon result.now }
+    {
+        &self.bodies[i].outline
+    }
+
+    /// The number of loads.
+    pub fn loads(&self) -> usize
+        ensures { result ≡ length (model_view self.now).loads }
+    {
+        self.loads.len()
+    }
+
+    /// Load `i`.
+    pub fn load(&self, i: usize) -> Load
+        requires { i < length (model_view self.now).loads }
+        ensures value { result ≡ load_of (model_view self.now) i }
+        ensures carried { IsCarried (length (model_view self.now).bodies) result }
+    {
+        self.loads[i]
+    }
+}

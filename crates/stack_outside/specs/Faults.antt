@@ -1,0 +1,10 @@
+-- Counts of faults, which every contract over a device cites. A count goes up to the greatest u64 and stays there.
+use Rattle.std.specs.Prelude.{ℕ, ◌+◌, ◌-◌, ◌^◌, ◌≤◌, min}
+
+-- The count rose in a call: it is greater after the call than before, or stands at its greatest value.
+abbrev pub Rose : ℕ → ℕ → Type 0
+Rose before after = min (before + 1) (2 ^ 64 - 1) ≤ after
+
+-- One more, up to the greatest value.
+abbrev pub counted : ℕ → ℕ
+counted n = min (n + 1) (2 ^ 64 - 1)

@@ -1,0 +1,24 @@
+//! What a program reads and writes: files by name, and streams, each with a count of its faults.
+//!
+//! A program over the traits `Shelf` and `Sink` is proved and tested over the devices in memory, and runs
+//! over the real ones.
+#![tactic(auto)]
+
+mod error;
+mod memory_shelf;
+mod memory_sink;
+mod real_shelf;
+mod real_sink;
+mod shelf;
+mod sink;
+
+pub use error::{ShelfError, SinkFailed};
+pub use memory_shelf::MemoryShelf;
+pub use memory_sink::MemorySink;
+pub use real_shelf::RealShelf;
+pub use real_sink::{RealSink, Stream};
+pub use shelf::Shelf;
+pub use sink::Sink;
+
+#[cfg(test)]
+mod tests;

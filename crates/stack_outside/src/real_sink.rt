@@ -1,0 +1,75 @@
+//! The standard streams.
+
+ghost use Rattle.std.specs.Prelude.{◌≡◌, ◌<◌, ◌≤◌, None, IfSome, length};
+
+use crate::error::SinkFailed;
+use crate::sink::Sink;
+use std::io::{Print, Stderr, Stdout};
+
+/// Standard output or standard error.
+#[derive(Clone, Copy, Debug, PartialEq, Eq)]
+pub enum Stream {
+    /// Standard output.
+    Output,
+    /// Standard error.
+    Fault,
+}
+
+/// A standard stream. It tells no bytes.
+#[derive(Drop)]
+pub struct RealSink {
+    stream: Stream,
+    stdout: Stdout,
+    stderr: Stderr,
+    faults: u64,
+}
+
+impl RealSink {
+    /// The stream, with no fault yet.
+    pub fn new(rt: &HostRuntime, stream: Stream) -> RealSink
+        ensures stream { result.stream ≡ stream }
+        ensures faults { result.faults ≡ 0 }
+    {
+        RealSink {
+            stream,
+            stdout: rt.stdout(),
+            stderr: rt.stderr(),
+            faults: 0,
+        }
+    }
+
+    /// Writes a front of the piece, and tells its length. None where the stream fails or takes nothing.
+    fn write_some(&self, piece: &[u8]) -> Option<usize>
+        ensures { IfSome result (λ n. (0 < n) × (n ≤ length piece.now)) }
+    {
+        let written = match self.stream {
+            Stream::Output => self.stdout.write_some(piece),
+            Stream::Fault => self.stderr.write_some(piece),
+        };
+        match written {
+            Ok(0) | Err(_) => None,
+            Ok(n) => Some(n),
+        }
+    }
+}
+
+impl Sink for RealSink {
+    ghost written = { λ s. None };
+
+    ghost faults = { λ s. s.faults };
+
+    /// Writes on until the whole piece is written. A write that takes nothing is a fault too.
+    fn put(&mut self, piece: &[u8]) -> Result<(), SinkFailed> {
+        let mut rest = piece;
+        while !rest.is_empty() {
+            match self.write_some(rest) {
+                Some(n) => rest = &rest[n..],
+                None => {
+                    self.faults = self.faults.saturating_add(1);
+                    return Err(SinkFailed);
+                }
+            }
+        }
+        Ok(())
+    }
+}

@@ -1,0 +1,23 @@
+//! Where text goes.
+
+ghost use Rattle.std.specs.Prelude.{◌≡◌, ◌≤◌, ℕ, List, OnErr};
+ghost use Rattle.std.specs.declared.option.Option.{Option};
+ghost use Rattle.stack_outside.specs.Faults.{Rose};
+ghost use Rattle.stack_outside.specs.Sinks.{Puts};
+
+use crate::error::SinkFailed;
+
+/// A device that takes text.
+pub trait Sink {
+    /// The bytes written so far. A device may not tell them.
+    ghost written: { Self → Option (List ℕ) };
+    /// How often the device has failed, up to the greatest u64, where the count stays.
+    ghost faults: { Self → ℕ };
+
+    /// Writes the whole piece. Where the device fails, with its count risen, a front of the piece is
+    /// written. Takes no memory.
+    fn put(&mut self, piece: &[u8]) -> Result<(), SinkFailed>
+        ensures puts { Puts (written self.old) (written self.new) piece.now result }
+        ensures later { faults self.old ≤ faults self.new }
+        ensures cause { OnErr result (Rose (faults self.old) (faults self.new)) };
+}

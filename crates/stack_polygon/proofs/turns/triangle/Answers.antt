@@ -1,0 +1,18 @@
+use Rattle.stack_polygon.proofs.Stored.{is_step, less-fits, less-twice, triangle-stored}
+use Rattle.stack_polygon.proofs.turns.triangle.Goals as goal
+
+pub product-requires-2-clause-x : goal.product-requires-2-clause-x
+product-requires-2-clause-x c = is_step c.args.p.y c.args.o.y c.requires.p.y c.requires.o.y
+
+pub product-requires-2-clause-y : goal.product-requires-2-clause-y
+product-requires-2-clause-y c = is_step c.args.q.x c.args.o.x c.requires.q.x c.requires.o.x
+
+pub overflow_sub-result : goal.overflow_sub-result
+overflow_sub-result c = less-fits c.product.result c.product-2.result c.product.ensures.size c.product-2.ensures.size
+
+pub returns-clause-size : goal.returns-clause-size
+returns-clause-size c = less-twice c.product.result c.product-2.result c.product.ensures.size c.product-2.ensures.size
+
+pub returns-clause-value : goal.returns-clause-value
+returns-clause-value c = triangle-stored c.args.o c.args.p c.args.q c.product.result c.product-2.result c.requires.o c.requires.p c.requires.q
+    c.product.ensures.size c.product-2.ensures.size c.product.ensures.value c.product-2.ensures.value

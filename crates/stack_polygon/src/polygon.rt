@@ -1,0 +1,103 @@
+//! Strictly convex polygons.
+
+ghost use Rattle.std.specs.Prelude.{◌≡◌, ◌<◌, length, IfSome};
+ghost use Rattle.stack_polygon.specs.Plane.{sign_of};
+ghost use Rattle.stack_polygon.specs.Rectangles.{rectangle_of, StandsFor};
+ghost use Rattle.stack_polygon.specs.Corners.{corner_of, side_of};
+ghost use Rattle.stack_polygon.specs.Limits.{IsInRange, IsPolygon};
+ghost use Rattle.stack_polygon.specs.Area.{twice_area_of, six_moments_of};
+ghost use Rattle.stack_polygon.specs.Sizes.{IsWithin};
+
+use crate::fan::fan;
+use crate::point::Point;
+use crate::rectangle::{are_in_range, is_rectangle, turn};
+use crate::turns::{next, triangle};
+use std::marker::Model;
+
+/// Three to 32 corners, counter-clockwise, each strictly left of every edge that it isn't an end of.
+#[derive(Debug, Drop)]
+pub struct Polygon {
+    corners: Vec<Point>,
+}
+
+impl Model for Polygon {
+    ghost use mathlib.Core.List.{List};
+    ghost use Rattle.stack_polygon.specs.declared.point.Point.{Point};
+    ghost use Rattle.stack_polygon.specs.Limits.{IsPolygon};
+
+    ghost Value = { List Point };
+
+    ghost view = { λ p. p.corners.items };
+
+    ghost invariant = { λ p. IsPolygon p.corners.items };
+}
+
+impl Polygon {
+    /// The axis-parallel rectangle with these corners, which may go round it either way: a clockwise list is reversed in
+    /// place, and its first corner stays first. `None` exactly where a coordinate isn't in -1,000,000 to 1,000,000, or the
+    /// list isn't the four corners, in order round, of an axis-parallel rectangle of positive area. Takes no memory.
+    pub fn rectangle(mut corners: Vec<Point>) -> Option<Polygon>
+        ensures value { result ≡ rectangle_of corners.items }
+        ensures stands { IfSome result (λ ps. StandsFor corners.items ps) }
+        ensures polygon { IfSome result (λ ps. IsPolygon ps) }
+    {
+        if !are_in_range(&corners) || !is_rectangle(&corners) {
+            return None;
+        }
+        turn(&mut corners);
+        Some(Polygon { corners })
+    }
+
+    /// The number of corners, 3 to 32.
+    pub fn len(&self) -> usize
+        ensures value { result ≡ length self.now }
+        ensures polygon { IsPolygon self.now }
+    {
+        self.corners.len()
+    }
+
+    /// Corner `i`.
+    pub fn corner(&self, i: usize) -> Point
+        requires { i < length self.now }
+        ensures value { result ≡ corner_of self.now i }
+        ensures range { IsInRange result }
+    {
+        self.corners[i]
+    }
+
+    /// On which side of edge `i`, from corner `i` to the next one, the point lies: 1 on the left, 0 on the edge's line, -1 on
+    /// the right. Takes no memory.
+    pub fn side(&self, i: usize, at: Point) -> i32
+        requires index { i < length self.now }
+        requires range { IsInRange at }
+        ensures { result ≡ sign_of (side_of self.now i at) }
+    {
+        let end = next(self.corners.len(), i);
+        let turn = triangle(self.corners[i], self.corners[end], at);
+        if turn > 0 {
+            1
+        } else if turn < 0 {
+            -1
+        } else {
+            0
+        }
+    }
+
+    /// Twice the area, in squares of the grid's unit; positive. Takes no memory.
+    pub fn twice_area(&self) -> i128
+        ensures value { result ≡ twice_area_of self.now }
+        ensures size { IsWithin 32 8000000000000 result }
+    {
+        fan(&self.corners).area
+    }
+
+    /// Six times the first moments, about the y axis and about the x axis. Takes no memory.
+    pub fn six_moments(&self) -> (i128, i128)
+        ensures value { result ≡ six_moments_of self.now }
+        ensures about_y { IsWithin 32 24000000000000000000 result.0 }
+        ensures about_x { IsWithin 32 24000000000000000000 result.1 }
+    {
+        let sums = fan(&self.corners);
+        (sums.about_y, sums.about_x)
+    }
+}
