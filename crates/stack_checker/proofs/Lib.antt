@@ -16,3 +16,7 @@ pub mod Verdicts
 pub mod FanSums
 pub mod Products
 pub mod Places
+pub mod EdgeSides
+pub mod RectanglePoints
+pub mod RectangleLaws
+pub mod CommonRanges
