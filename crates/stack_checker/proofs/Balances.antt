@@ -1,8 +1,8 @@
 -- What the test of a free block shows where it passes and where it rejects.
-use Rattle.std.proofs.Common.{◌≡◌, refl, sym, ap, ◌∙◌, ℕ, ◌⊎◌, inl, inr, ℤ, pos, ◌+ℤ◌, ◌*ℤ◌, Bool, true, false, List, Result, Ok, Err}
+use Rattle.std.proofs.Common.{◌≡◌, sym, ◌∙◌, ℕ, ◌⊎◌, inl, inr, ℤ, pos, ◌+ℤ◌, ◌*ℤ◌, true, false, List, Ok, Err}
 use Rattle.std.specs.Bool.{⊤}
 use Rattle.std.specs.Ordering.{int_eq}
-use Rattle.stack_algebra.specs.Steps.{◌>>=◌, steps}
+use Rattle.stack_algebra.specs.Steps.{◌>>=◌}
 use Rattle.stack_checker.specs.declared.types.Bearing.{Bearing}
 use Rattle.stack_checker.specs.declared.types.Axis.{Axis}
 use Rattle.stack_checker.specs.declared.types.Axis.TheVariants.{X, Y, M}
@@ -11,8 +11,7 @@ use Rattle.stack_checker.specs.declared.types.Reason.TheVariants as reasons
 use Rattle.stack_checker.specs.declared.types.CheckAt.TheVariants as places
 use Rattle.stack_checker.specs.declared.whole.Whole.{Whole}
 use Rattle.stack_checker.specs.declared.block.Block.{Block}
-use Rattle.stack_checker.specs.declared.stop.Stop.{Stop}
-use Rattle.stack_checker.specs.declared.stop.Stop.TheVariants.{Rejected, TooWide}
+use Rattle.stack_checker.specs.declared.stop.Stop.TheVariants.{Rejected}
 use Rattle.stack_checker.specs.WrittenSums.{load_along, written_sum}
 use Rattle.stack_checker.specs.WrittenCheck.{demand, made_at, written_balance}
 use Rattle.stack_checker.proofs.InOrder.{bind_ok}

@@ -1,24 +1,19 @@
 -- What the test of a bearing shows where it passes and where it rejects.
-use Rattle.std.proofs.Common.{◌≡◌, refl, sym, ap, ◌∙◌, ℕ, ◌⊎◌, inl, inr, ℤ, pos, ◌*ℤ◌, nat_abs, Bool, true, false, Result, Ok, Err, arith}
+use Rattle.std.proofs.Common.{◌≡◌, sym, ap, ◌∙◌, ℕ, ◌⊎◌, inl, inr, ℤ, pos, ◌*ℤ◌, nat_abs, true, false, Ok, Err, arith}
 use Rattle.std.specs.Bool.{⊤}
 use Rattle.std.proofs.lemmas.Int.{ints}
-use Rattle.std.proofs.lemmas.Bool.Decides.{Decides-int_eq}
-use Rattle.std.specs.Prelude.{int_le, int_lt}
-use Rattle.std.specs.Ordering.{int_eq}
-use Rattle.stack_algebra.specs.Steps.{◌>>=◌, steps}
-use Rattle.stack_algebra.proofs.Order.{◌≼◌, ◌≺◌, abs}
+use Rattle.std.specs.Prelude.{int_le}
+use Rattle.stack_algebra.specs.Steps.{◌>>=◌}
+use Rattle.stack_algebra.proofs.Order.{◌≼◌, abs}
 use Rattle.stack_checker.specs.declared.types.Reason.{Reason}
 use Rattle.stack_checker.specs.declared.types.Reason.TheVariants as reasons
-use Rattle.stack_checker.specs.declared.types.CheckAt.{CheckAt}
 use Rattle.stack_checker.specs.declared.types.CheckAt.TheVariants as places
-use Rattle.stack_checker.specs.declared.whole.Wide.{Wide}
 use Rattle.stack_checker.specs.declared.whole.Whole.{Whole}
 use Rattle.stack_checker.specs.declared.block.Push.{Push}
-use Rattle.stack_checker.specs.declared.stop.Stop.{Stop}
-use Rattle.stack_checker.specs.declared.stop.Stop.TheVariants.{Rejected, TooWide}
+use Rattle.stack_checker.specs.declared.stop.Stop.TheVariants.{Rejected}
 use Rattle.stack_checker.specs.Whole.{made}
 use Rattle.stack_checker.specs.WrittenCheck.{demand, made_at, written_cone}
-use Rattle.stack_checker.proofs.InOrder.{bind_ok, bind_err, Passes, Follows}
+use Rattle.stack_checker.proofs.InOrder.{bind_ok}
 use Rattle.stack_checker.proofs.PlainSums.{made_is}
 use Rattle.stack_checker.proofs.Demanded.{demand_met, demand_unmet, demand_before, made_at_ok, made_before, le_of_true, not_le_of_false}
 

@@ -1,25 +1,19 @@
 -- What a test in the written order shows where it passes and where it rejects.
-use Rattle.std.proofs.Common.{◌≡◌, refl, sym, ap, ◌∙◌, ℕ, ◌⊎◌, inl, inr, ℤ, pos, ◌*ℤ◌, nat_abs, Bool, true, false, Result, Ok, Err, arith}
+use Rattle.std.proofs.Common.{◌≡◌, refl, ◌⊎◌, inl, inr, ℤ, pos, Bool, true, false, Result, Ok, Err, arith}
 use Rattle.std.specs.Bool.{⊤}
 use Rattle.std.proofs.lemmas.Int.{ints}
 use Rattle.std.proofs.lemmas.Bool.Decides.{Decides-int_eq}
 use Rattle.std.specs.Prelude.{int_le, int_lt}
 use Rattle.std.specs.Ordering.{int_eq}
-use Rattle.stack_algebra.specs.Steps.{◌>>=◌, steps}
-use Rattle.stack_algebra.proofs.Order.{◌≼◌, ◌≺◌, abs}
+use Rattle.stack_algebra.specs.Steps.{◌>>=◌}
+use Rattle.stack_algebra.proofs.Order.{◌≼◌, ◌≺◌}
 use Rattle.stack_checker.specs.declared.types.Reason.{Reason}
-use Rattle.stack_checker.specs.declared.types.Reason.TheVariants as reasons
 use Rattle.stack_checker.specs.declared.types.CheckAt.{CheckAt}
-use Rattle.stack_checker.specs.declared.types.CheckAt.TheVariants as places
 use Rattle.stack_checker.specs.declared.whole.Wide.{Wide}
 use Rattle.stack_checker.specs.declared.whole.Whole.{Whole}
-use Rattle.stack_checker.specs.declared.block.Push.{Push}
 use Rattle.stack_checker.specs.declared.stop.Stop.{Stop}
-use Rattle.stack_checker.specs.declared.stop.Stop.TheVariants.{Rejected, TooWide}
-use Rattle.stack_checker.specs.Whole.{made}
-use Rattle.stack_checker.specs.WrittenCheck.{demand, made_at, written_cone}
-use Rattle.stack_checker.proofs.InOrder.{bind_ok, bind_err, Passes, Follows}
-use Rattle.stack_checker.proofs.PlainSums.{made_is}
+use Rattle.stack_checker.specs.declared.stop.Stop.TheVariants.{Rejected}
+use Rattle.stack_checker.specs.WrittenCheck.{demand, made_at}
 
 pub demand_met : (b : Bool) (why : Reason) (done : ⊤) → demand b why ≡ Ok done → b ≡ true
 demand_met true why done h = refl
@@ -33,22 +27,24 @@ pub made_at_ok : (r : Result Whole Wide) (at : CheckAt) (x : Whole) → made_at 
 made_at_ok (Ok y) at x h = cc
 made_at_ok (Err e) at x h = absurd (cc)
 
-made_at_err : (r : Result Whole Wide) (at : CheckAt) (reason : Reason) → made_at r at ≡ Err (Rejected reason) → ⊥
-made_at_err (Ok y) at reason h = cc
-made_at_err (Err e) at reason h = cc
-
 -- a rejection comes from a test, and not from a number that is made before it
-pub record MadeBefore {B : Type 0} (r : Result Whole Wide) (f : Whole → Result B Stop) (reason : Reason) : Type 0 where
+pub record MadeBefore {B : Type 0} (r : Result Whole Wide) (f : Whole → Result B Stop) (reason : Reason) :
+    Type 0 where
   pub value : Whole
   pub before : r ≡ Ok value
   pub after : f value ≡ Err (Rejected reason)
 
-pub made_before : {B : Type 0} (r : Result Whole Wide) (at : CheckAt) (f : Whole → Result B Stop) (reason : Reason) → (made_at r at >>= f) ≡ Err (Rejected reason) → MadeBefore r f reason
+pub made_before : {B : Type 0} (r : Result Whole Wide) (at : CheckAt) (f : Whole → Result B Stop) (reason : Reason) →
+    (made_at r at >>= f) ≡ Err (Rejected reason) → MadeBefore r f reason
 made_before (Ok x) at f reason h = record { value = x; before = refl; after = h }
 made_before (Err e) at f reason h = absurd (cc)
 
 -- the test rejects, or what follows it does
-pub demand_before : {B : Type 0} (b : Bool) (why : Reason) (f : ⊤ → Result B Stop) (reason : Reason) → (demand b why >>= f) ≡ Err (Rejected reason) → (b ≡ false) ⊎ ((b ≡ true) × (f tt ≡ Err (Rejected reason)))
+abbrev pub IsStopped : {B : Type 0} → Bool → Result B Stop → Reason → Type 0
+IsStopped b rest reason = (b ≡ false) ⊎ ((b ≡ true) × (rest ≡ Err (Rejected reason)))
+
+pub demand_before : {B : Type 0} (b : Bool) (why : Reason) (f : ⊤ → Result B Stop) (reason : Reason) →
+    (demand b why >>= f) ≡ Err (Rejected reason) → IsStopped b (f tt) reason
 demand_before true why f reason h = inr (refl, h)
 demand_before false why f reason h = inl refl
 

@@ -1,5 +1,5 @@
 -- The free blocks are the bodies that aren't fixed, each of them and no other.
-use Rattle.std.proofs.Common.{◌≡◌, refl, sym, ap, ◌∙◌, ℕ, zero, suc, ◌+◌, ◌<◌, Bool, true, false, List, [], ◌∷◌, length, get_or, arith}
+use Rattle.std.proofs.Common.{◌≡◌, refl, sym, ◌∙◌, ℕ, zero, suc, ◌+◌, ◌<◌, Bool, true, false, List, [], ◌∷◌, length, get_or, arith}
 use Rattle.std.specs.Bool.{if◌then◌else◌}
 use Rattle.stack_model.specs.Structure.{NamedBody}
 use Rattle.stack_checker.specs.FreeBlocks.{frees_from}

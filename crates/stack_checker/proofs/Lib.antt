@@ -12,6 +12,7 @@ pub mod ConeTests
 pub mod Balances
 pub mod SceneSums
 pub mod Frees
+pub mod ForcesInOrder
 pub mod Verdicts
 pub mod FanSums
 pub mod Products

@@ -1,11 +1,10 @@
 -- An answer names a bearing or a free block of the survey.
-use Rattle.std.proofs.Common.{◌≡◌, refl, sym, ap, ◌∙◌, ℕ, ◌+◌, ◌<◌, ◌⊎◌, inl, inr, ℤ, pos, nat_abs, ◌*ℤ◌, Bool, true, false, List, length, get_or, Result, Ok, Err, subst, arith}
+use Rattle.std.proofs.Common.{◌≡◌, refl, ℕ, ◌+◌, ◌<◌, ◌⊎◌, inl, inr, ℤ, pos, nat_abs, ◌*ℤ◌, Bool, true, false, List, length, Result, Ok, Err, subst, arith}
 use Rattle.std.specs.Bool.{⊤, nat_eq}
 use Rattle.std.specs.Prelude.{int_le}
 use Rattle.std.specs.Ordering.{int_eq}
 use Rattle.stack_algebra.specs.Steps.{◌>>=◌, steps}
 use Rattle.stack_checker.specs.declared.types.Bearing.{Bearing}
-use Rattle.stack_checker.specs.declared.types.Axis.{Axis}
 use Rattle.stack_checker.specs.declared.types.Axis.TheVariants.{X, Y, M}
 use Rattle.stack_checker.specs.declared.types.Part.TheVariants.{First}
 use Rattle.stack_checker.specs.declared.types.Reason.{Reason}
@@ -25,10 +24,10 @@ use Rattle.stack_checker.specs.Certificate.{CertificateValue}
 use Rattle.stack_checker.specs.FreeBlocks.{frees_of}
 use Rattle.stack_checker.specs.SurveyScene.{no_bearing}
 use Rattle.stack_checker.specs.Whole.{made, has_sign, whole}
-use Rattle.stack_checker.specs.WrittenSums.{push_at, written_sum}
-use Rattle.stack_checker.specs.WrittenCheck.{demand, made_at, written_cone, written_balance, written_forces, block_of, answer_of, written_check}
+use Rattle.stack_checker.specs.WrittenSums.{written_sum}
+use Rattle.stack_checker.specs.WrittenCheck.{demand, made_at, written_cone, cone_at, written_balance, balance_at, written_forces, answer_of, written_check}
 use Rattle.stack_checker.specs.Verdict.{IsReasonOf, IsPlaceOf, NamesOf}
-use Rattle.stack_checker.proofs.InOrder.{bind_err, Follows, one_ends, EndsAt}
+use Rattle.stack_checker.proofs.InOrder.{bind_err, Follows, one_ends}
 
 module _ (s : Surveyed) where
   abbrev Names : Stop → Type 0
@@ -79,15 +78,15 @@ module _ (s : Surveyed) where
       (demand_then (has_sign scale c.scale) reasons.Scale _ e tt
       (demand_then (has_sign factor c.factor) reasons.Factor _ e tt last)) h
     where
-      last : (steps (λ k done z. written_cone k (whole z.cone.p) (whole z.cone.q) (push_at c.parts k)) 0 tt s.bearings >>= λ held.
-          steps (λ b done i. written_balance b (block_of s.structure i) (whole c.scale) (whole c.factor) s.bearings c.parts) 0 tt (frees_of s.structure.bodies)) ≡ Err e → Names e
-      last h = go (bind_err (steps (λ k done z. written_cone k (whole z.cone.p) (whole z.cone.q) (push_at c.parts k)) 0 tt s.bearings) _ e h)
+      last : (steps (cone_at c.parts) 0 tt s.bearings >>= λ held.
+          steps (balance_at s (whole c.scale) (whole c.factor) c.parts) 0 tt (frees_of s.structure.bodies)) ≡ Err e → Names e
+      last h = go (bind_err (steps (cone_at c.parts) 0 tt s.bearings) _ e h)
         where
-          go : (steps (λ k done z. written_cone k (whole z.cone.p) (whole z.cone.q) (push_at c.parts k)) 0 tt s.bearings ≡ Err e)
-              ⊎ Follows (steps (λ k done z. written_cone k (whole z.cone.p) (whole z.cone.q) (push_at c.parts k)) 0 tt s.bearings) (λ held. steps (λ b done i. written_balance b (block_of s.structure i) (whole c.scale) (whole c.factor) s.bearings c.parts) 0 tt (frees_of s.structure.bodies)) e → Names e
-          go (inl q) = let one = one_ends (λ k done z. written_cone k (whole z.cone.p) (whole z.cone.q) (push_at c.parts k)) 0 s.bearings no_bearing e q in
+          go : (steps (cone_at c.parts) 0 tt s.bearings ≡ Err e)
+              ⊎ Follows (steps (cone_at c.parts) 0 tt s.bearings) (λ held. steps (balance_at s (whole c.scale) (whole c.factor) c.parts) 0 tt (frees_of s.structure.bodies)) e → Names e
+          go (inl q) = let one = one_ends (cone_at c.parts) 0 s.bearings no_bearing e q in
               cone_names (0 + one.k) _ _ _ e (from_zero one.k (length s.bearings) one.within) one.ends
-          go (inr r) = let one = one_ends (λ b done i. written_balance b (block_of s.structure i) (whole c.scale) (whole c.factor) s.bearings c.parts) 0 (frees_of s.structure.bodies) 0 e r.after in
+          go (inr r) = let one = one_ends (balance_at s (whole c.scale) (whole c.factor) c.parts) 0 (frees_of s.structure.bodies) 0 e r.after in
               balance_names (0 + one.k) _ _ _ _ _ e (from_zero one.k (length (frees_of s.structure.bodies)) one.within) one.ends
 
   answer_names : (r : Result ⊤ Stop) → ((e : Stop) → r ≡ Err e → Names e) → NamesOf s (answer_of First r)

@@ -1,5 +1,5 @@
 -- Where no number of a written sum passes, it is the plain sum.
-use Rattle.std.proofs.Common.{◌≡◌, refl, sym, ap, ◌∙◌, ℕ, zero, suc, ◌+◌, ◌<◌, ℤ, pos, negsuc, ◌+ℤ◌, ◌-ℤ◌, ◌*ℤ◌, Bool, true, false, cond, List, [], ◌∷◌, length, get_or, Result, Ok, Err, arith}
+use Rattle.std.proofs.Common.{◌≡◌, sym, ap, ◌∙◌, ℕ, suc, ◌+◌, ℤ, pos, negsuc, ◌+ℤ◌, ◌-ℤ◌, ◌*ℤ◌, Bool, true, false, cond, List, [], ◌∷◌, length, get_or, Result, Ok, Err, arith}
 use Rattle.std.specs.Bool.{if◌then◌else◌, nat_eq}
 use Rattle.stack_algebra.specs.Steps.{◌>>=◌, steps}
 use Rattle.stack_algebra.specs.Sums.{sum_to}
@@ -17,7 +17,7 @@ use Rattle.stack_checker.specs.declared.block.Joint.{Joint}
 use Rattle.stack_checker.specs.declared.block.Block.{Block}
 use Rattle.stack_checker.specs.SurveyScene.{scene_bearing_of, no_bearing}
 use Rattle.stack_checker.specs.Whole.{made, fits, whole}
-use Rattle.stack_checker.specs.WrittenSums.{push_at, joint_at, written_force_x, written_force_y, written_moment, written_force, with_bearing, load_along, written_sum}
+use Rattle.stack_checker.specs.WrittenSums.{push_at, joint_at, written_force_x, written_force_y, written_moment, written_force, bearing_at, with_bearing, load_along, written_sum}
 use Rattle.stack_checker.proofs.InOrder.{bind_ok}
 
 pub made_is : (z : ℤ) (x : Whole) → made z ≡ Ok x → x.value ≡ z
@@ -121,28 +121,46 @@ borne_along axis block bearings parts = sum_to (length bearings) (λ k.
     side_of block.body (scene_bearing_of (get_or bearings k no_bearing))
     *ℤ force_along axis (joint_at block.corner (get_or bearings k no_bearing)) (push_at parts k))
 
-pub sum_is : (axis : Axis) (block : Block) (scale factor : Whole) (bearings : List Bearing) (parts : List (ℤ × ℤ)) (r : Whole)
-    → written_sum axis block scale factor bearings parts ≡ Ok r
-    → r.value ≡ borne_along axis block bearings parts +ℤ scale.value *ℤ (load_along axis block.dead).value +ℤ factor.value *ℤ (load_along axis block.live).value
-unfolding written_sum
-sum_is axis block scale factor bearings parts r h =
-    let dead = (load_along axis block.dead).value in
-    let live = (load_along axis block.live).value in
-    let p = bind_ok (steps (λ k so_far z. with_bearing axis block (push_at parts k) so_far z) 0 (whole (pos 0)) bearings) (λ borne. made (scale.value *ℤ dead) >>= λ weight. made (borne.value +ℤ weight.value) >>= λ standing. made (factor.value *ℤ live) >>= λ drive. made (standing.value +ℤ drive.value)) r h in
-    let q = bind_ok (made (scale.value *ℤ dead)) (λ weight. made (p.value.value +ℤ weight.value) >>= λ standing. made (factor.value *ℤ live) >>= λ drive. made (standing.value +ℤ drive.value)) r p.after in
-    let t = bind_ok (made (p.value.value +ℤ q.value.value)) (λ standing. made (factor.value *ℤ live) >>= λ drive. made (standing.value +ℤ drive.value)) r q.after in
-    let u = bind_ok (made (factor.value *ℤ live)) (λ drive. made (t.value.value +ℤ drive.value)) r t.after in
-    let borne = steps_sum (λ k so_far z. with_bearing axis block (push_at parts k) so_far z) (λ k z. side_of block.body (scene_bearing_of z) *ℤ force_along axis (joint_at block.corner z) (push_at parts k)) 0 (whole (pos 0)) bearings no_bearing p.value (λ k a z r e. added_is axis block (push_at parts k) a z r e) p.before in
+-- with two loads, each of which is made before it is added
+with_loads : (borne : Result Whole Wide) (total dead live : ℤ) (r : Whole) → ((x : Whole) → borne ≡ Ok x → x.value ≡ total)
+    → (borne >>= λ b. made dead >>= λ w. made (b.value +ℤ w.value) >>= λ s. made live >>= λ d. made (s.value +ℤ d.value)) ≡ Ok r
+    → r.value ≡ total +ℤ dead +ℤ live
+with_loads borne total dead live r is h =
+    let p = bind_ok borne (λ b. made dead >>= λ w. made (b.value +ℤ w.value) >>= λ s. made live >>= λ d. made (s.value +ℤ d.value)) r h in
+    let q = bind_ok (made dead) (λ w. made (p.value.value +ℤ w.value) >>= λ s. made live >>= λ d. made (s.value +ℤ d.value)) r p.after in
+    let t = bind_ok (made (p.value.value +ℤ q.value.value)) (λ s. made live >>= λ d. made (s.value +ℤ d.value)) r q.after in
+    let u = bind_ok (made live) (λ d. made (t.value.value +ℤ d.value)) r t.after in
     made_is (t.value.value +ℤ u.value.value) r u.after
-    ∙ (λ i. made_is (p.value.value +ℤ q.value.value) t.value t.before i +ℤ made_is (factor.value *ℤ live) u.value u.before i)
-    ∙ (λ i. p.value.value +ℤ made_is (scale.value *ℤ dead) q.value q.before i +ℤ factor.value *ℤ live)
-    ∙ ap (λ t. t +ℤ scale.value *ℤ dead +ℤ factor.value *ℤ live) (borne ∙ from_nothing _ ∙ from_first)
+    ∙ (λ i. made_is (p.value.value +ℤ q.value.value) t.value t.before i +ℤ made_is live u.value u.before i)
+    ∙ (λ i. is p.value p.before i +ℤ made_is dead q.value q.before i +ℤ live)
+
+-- what the bearings bear, made one bearing after the other
+borne_is : (axis : Axis) (block : Block) (bearings : List Bearing) (parts : List (ℤ × ℤ)) (r : Whole)
+    → steps (bearing_at axis block parts) 0 (whole (pos 0)) bearings ≡ Ok r
+    → r.value ≡ borne_along axis block bearings parts
+borne_is axis block bearings parts r h =
+    steps_sum (bearing_at axis block parts)
+    (λ k z. side_of block.body (scene_bearing_of z) *ℤ force_along axis (joint_at block.corner z) (push_at parts k))
+    0 (whole (pos 0)) bearings no_bearing r (λ k a z r e. added_is axis block (push_at parts k) a z r e) h
+    ∙ from_nothing (sum_to (length bearings) (λ k. term k (0 + k)))
+    ∙ sum_same integers (length bearings) (λ k. term k (0 + k)) (λ k. term k k) (λ k l. ap (term k) (from_zero k))
   where
+    term : ℕ → ℕ → ℤ
+    term k n = side_of block.body (scene_bearing_of (get_or bearings k no_bearing))
+        *ℤ force_along axis (joint_at block.corner (get_or bearings k no_bearing)) (push_at parts n)
+
     from_nothing : (t : ℤ) → pos 0 +ℤ t ≡ t
     from_nothing t = omega (arith, sums)
 
-    term : ℕ → ℕ → ℤ
-    term k n = side_of block.body (scene_bearing_of (get_or bearings k no_bearing)) *ℤ force_along axis (joint_at block.corner (get_or bearings k no_bearing)) (push_at parts n)
+    from_zero : (k : ℕ) → 0 + k ≡ k
+    from_zero k = omega arith
 
-    from_first : sum_to (length bearings) (λ k. term k (0 + k)) ≡ sum_to (length bearings) (λ k. term k k)
-    from_first = sum_same integers (length bearings) (λ k. term k (0 + k)) (λ k. term k k) (λ k l. ap (term k) (omega arith))
+pub sum_is : (axis : Axis) (block : Block) (scale factor : Whole) (bearings : List Bearing) (parts : List (ℤ × ℤ)) (r : Whole)
+    → written_sum axis block scale factor bearings parts ≡ Ok r
+    → r.value ≡ borne_along axis block bearings parts +ℤ scale.value *ℤ (load_along axis block.dead).value
+    +ℤ factor.value *ℤ (load_along axis block.live).value
+unfolding written_sum
+sum_is axis block scale factor bearings parts r h =
+    with_loads (steps (bearing_at axis block parts) 0 (whole (pos 0)) bearings)
+    (borne_along axis block bearings parts) (scale.value *ℤ (load_along axis block.dead).value)
+    (factor.value *ℤ (load_along axis block.live).value) r (borne_is axis block bearings parts) h

@@ -1,5 +1,5 @@
 -- Products that 128 bits hold.
-use Rattle.std.proofs.Common.{◌≡◌, ◌∙◌, ℤ, ◌*ℤ◌, to_z, of_z, SFits, lit<, arith}
+use Rattle.std.proofs.Common.{◌≡◌, ℤ, ◌*ℤ◌, to_z, of_z, SFits, lit<, arith}
 use mir.Syntax.{w128}
 use Rattle.std.proofs.lemmas.Int.{ints, to_z-of_z, fits_signed_mul}
 use Rattle.stack_polygon.specs.Sizes.{IsThree, IsWithin}

@@ -1,12 +1,11 @@
 -- The plain sums of a block are the sums of its body in the survey's scene.
-use Rattle.std.proofs.Common.{◌≡◌, refl, sym, ap, ◌∙◌, ℕ, ◌<◌, ℤ, pos, ◌+ℤ◌, ◌-ℤ◌, ◌*ℤ◌, neg_ℤ, List, length, get_or, map}
+use Rattle.std.proofs.Common.{◌≡◌, sym, ap, ◌∙◌, ℕ, ℤ, pos, ◌+ℤ◌, ◌-ℤ◌, ◌*ℤ◌, neg_ℤ, List, length, get_or, map}
 use Rattle.std.proofs.Math.ListN.{get_or-map}
 use Rattle.stack_algebra.specs.Sums.{sum_to}
 use Rattle.stack_algebra.proofs.Integers.{expand, sums}
 use Rattle.std.proofs.Common.{arith}
 use Rattle.stack_algebra.proofs.IntegerRing.{integers}
 use Rattle.stack_algebra.proofs.Sums.{sum_same}
-use Rattle.stack_model.specs.Structure.{Structure}
 use Rattle.stack_equilibrium.specs.Scene as scene
 use Rattle.stack_equilibrium.specs.Balance.{side_of, force_x_of, force_y_of, sum_x_of, sum_y_of, sum_m_of, IsBalancedAt}
 use Rattle.stack_equilibrium.specs.Certificates as certificates

@@ -1,5 +1,5 @@
 -- When a certificate is true of a survey. Nothing here speaks of how it is checked.
-use Rattle.std.specs.Prelude.{ℤ, List, map}
+use Rattle.std.specs.Prelude.{ℤ, map}
 use Rattle.stack_equilibrium.specs.Scene as scene
 use Rattle.stack_equilibrium.specs.Certificates.{Forces, IsTrueStands}
 use Rattle.stack_checker.specs.Surveyed.{Surveyed}

@@ -49,6 +49,9 @@ written_cone k p q f = do
   least ← made_at (made (q.value *ℤ tangential.value)) (places.Cone k)
   demand (int_le least.value most.value) (reasons.Cone k)
 
+abbrev pub cone_at : List (ℤ × ℤ) → ℕ → ⊤ → Bearing → Result ⊤ Stop
+cone_at parts k done z = written_cone k (whole z.cone.p) (whole z.cone.q) (push_at parts k)
+
 -- free block number b: its three sums are made, and then each is 0
 unfoldable pub written_balance : ℕ → Block → Whole → Whole → List Bearing → List (ℤ × ℤ) → Result ⊤ Stop
 written_balance b block scale factor bearings parts = do
@@ -71,14 +74,17 @@ block_from m i b = record {
 abbrev pub block_of : Structure → ℕ → Block
 block_of m i = block_from m i (body_of m i)
 
+abbrev pub balance_at : Surveyed → Whole → Whole → List (ℤ × ℤ) → ℕ → ⊤ → ℕ → Result ⊤ Stop
+balance_at s scale factor parts b done i = written_balance b (block_of s.structure i) scale factor s.bearings parts
+
 -- one list of forces, with what its scale and its factor are tested for
 unfoldable pub written_forces : Sign → Sign → Surveyed → CertificateValue → Result ⊤ Stop
 written_forces scale factor s f = do
   counted ← demand (nat_eq (length f.parts) (length s.bearings)) reasons.Count
   scaled ← demand (has_sign scale f.scale) reasons.Scale
   driven ← demand (has_sign factor f.factor) reasons.Factor
-  held ← steps (λ k done z. written_cone k (whole z.cone.p) (whole z.cone.q) (push_at f.parts k)) 0 tt s.bearings
-  steps (λ b done i. written_balance b (block_of s.structure i) (whole f.scale) (whole f.factor) s.bearings f.parts) 0 tt (frees_of s.structure.bodies)
+  held ← steps (cone_at f.parts) 0 tt s.bearings
+  steps (balance_at s (whole f.scale) (whole f.factor) f.parts) 0 tt (frees_of s.structure.bodies)
 
 -- the answer, where that part of a certificate is the last
 abbrev pub answer_of : Part → Result ⊤ Stop → Check

@@ -1,5 +1,5 @@
 -- The sums of a block's balance, each product and each partial result in the written order.
-use Rattle.std.specs.Prelude.{ℕ, ◌+◌, nat_eq, ℤ, pos, ◌+ℤ◌, ◌-ℤ◌, ◌*ℤ◌, List, get_or, Result, Ok, Err, if◌then◌else◌}
+use Rattle.std.specs.Prelude.{ℕ, nat_eq, ℤ, pos, ◌+ℤ◌, ◌-ℤ◌, ◌*ℤ◌, List, get_or, Result, Ok, if◌then◌else◌}
 use Rattle.stack_algebra.specs.Steps.{◌>>=◌, steps}
 use Rattle.stack_polygon.specs.declared.point.Point.{Point}
 use Rattle.stack_checker.specs.declared.types.Bearing.{Bearing}
@@ -65,6 +65,9 @@ with_bearing axis block f so_far z =
       made (so_far.value -ℤ force.value))
     else Ok so_far)
 
+abbrev pub bearing_at : Axis → Block → List (ℤ × ℤ) → ℕ → Whole → Bearing → Result Whole Wide
+bearing_at axis block parts k so_far z = with_bearing axis block (push_at parts k) so_far z
+
 abbrev pub load_along : Axis → Loads → Whole
 load_along X w = w.fx
 load_along Y w = w.fy
@@ -73,7 +76,7 @@ load_along M w = w.m
 -- from 0, the bearings in order; then scale*dead is made and added, then factor*live
 unfoldable pub written_sum : Axis → Block → Whole → Whole → List Bearing → List (ℤ × ℤ) → Result Whole Wide
 written_sum axis block scale factor bearings parts = do
-  borne ← steps (λ k so_far z. with_bearing axis block (push_at parts k) so_far z) 0 (whole (pos 0)) bearings
+  borne ← steps (bearing_at axis block parts) 0 (whole (pos 0)) bearings
   weight ← made (scale.value *ℤ (load_along axis block.dead).value)
   standing ← made (borne.value +ℤ weight.value)
   drive ← made (factor.value *ℤ (load_along axis block.live).value)

@@ -1,15 +1,14 @@
 //! The check of a certificate against a survey.
 
-ghost use Rattle.std.specs.Prelude.{◌≡◌, ◌<◌, ◌≤◌, length, get_or, pos};
+ghost use Rattle.std.specs.Prelude.{◌≡◌, ◌<◌, ◌≤◌, length};
 ghost use Rattle.stack_algebra.specs.Steps.{steps};
 ghost use Rattle.stack_model.specs.ModelView.{model_view};
 ghost use Rattle.stack_checker.specs.Certificate.{forces_view, certificate_view};
-ghost use Rattle.stack_checker.specs.FreeBlocks.{frees_of};
+ghost use Rattle.stack_checker.specs.FreeBlocks.{frees_of, free_of};
 ghost use Rattle.stack_checker.specs.Surveyed.{survey_view};
 ghost use Rattle.stack_checker.specs.Truth.{IsTrueCertificate};
 ghost use Rattle.stack_checker.specs.Verdict.{IsRejected, NamesOf};
-ghost use Rattle.stack_checker.specs.Whole.{whole};
-ghost use Rattle.stack_checker.specs.WrittenCheck.{written_balance, block_of, written_forces, answer_of, written_check};
+ghost use Rattle.stack_checker.specs.WrittenCheck.{block_of, balance_at, written_forces, answer_of, written_check};
 
 use crate::balance::check_balance;
 use crate::block::{Block, Loads};
@@ -48,19 +47,30 @@ fn block_at(model: &Model, i: usize) -> Block
 }
 
 /// Free block `b` is balanced.
-fn check_block(survey: &Survey, b: usize, scale: Whole, factor: Whole, parts: &[(i128, i128)]) -> Result<(), Stop>
+fn check_block(
+    survey: &Survey,
+    b: usize,
+    scale: Whole,
+    factor: Whole,
+    parts: &[(i128, i128)],
+) -> Result<(), Stop>
     requires block { b < length (frees_of (survey_view survey.now).structure.bodies) }
     requires count { length (survey_view survey.now).bearings ≤ length parts.now }
-    ensures { result ≡ written_balance b (block_of (survey_view survey.now).structure (get_or (frees_of (survey_view survey.now).structure.bodies) b 0)) scale factor (survey_view survey.now).bearings parts.now }
+    ensures { result ≡ balance_at (survey_view survey.now) scale factor parts.now b tt (free_of (survey_view survey.now).structure.bodies b) }
 {
     let block = block_at(survey.model(), survey.free(b));
     check_balance(b, block, scale, factor, survey.bearings(), parts)
 }
 
 /// So is each free block, in order.
-fn check_blocks(survey: &Survey, scale: Whole, factor: Whole, parts: &[(i128, i128)]) -> Result<(), Stop>
+fn check_blocks(
+    survey: &Survey,
+    scale: Whole,
+    factor: Whole,
+    parts: &[(i128, i128)],
+) -> Result<(), Stop>
     requires { length (survey_view survey.now).bearings ≤ length parts.now }
-    ensures { result ≡ steps (λ b done i. written_balance b (block_of (survey_view survey.now).structure i) scale factor (survey_view survey.now).bearings parts.now) 0 tt (frees_of (survey_view survey.now).structure.bodies) }
+    ensures { result ≡ steps (balance_at (survey_view survey.now) scale factor parts.now) 0 tt (frees_of (survey_view survey.now).structure.bodies) }
 {
     for b in 0..survey.free_count() {
         check_block(survey, b, scale, factor, parts)?;
@@ -70,7 +80,13 @@ fn check_blocks(survey: &Survey, scale: Whole, factor: Whole, parts: &[(i128, i1
 
 /// The tests of a list of forces, with those of its scale and its factor.
 #[tactic(auto, unfolding(crate::specs::WrittenCheck::written_forces))]
-fn check_numbers(survey: &Survey, signs: Signs, scale: Whole, factor: Whole, parts: &[(i128, i128)]) -> Result<(), Stop>
+fn check_numbers(
+    survey: &Survey,
+    signs: Signs,
+    scale: Whole,
+    factor: Whole,
+    parts: &[(i128, i128)],
+) -> Result<(), Stop>
     ensures { result ≡ written_forces signs.scale signs.factor (survey_view survey.now) (record { scale = scale.value; factor = factor.value; parts = parts.now }) }
 {
     require(parts.len() == survey.bearings().len(), Reason::Count)?;
@@ -83,7 +99,13 @@ fn check_numbers(survey: &Survey, signs: Signs, scale: Whole, factor: Whole, par
 fn check_forces(survey: &Survey, signs: Signs, forces: &Forces) -> Result<(), Stop>
     ensures { result ≡ written_forces signs.scale signs.factor (survey_view survey.now) (forces_view forces.now) }
 {
-    check_numbers(survey, signs, Whole::of(forces.scale), Whole::of(forces.factor), forces.parts.as_slice())
+    check_numbers(
+        survey,
+        signs,
+        Whole::of(forces.scale),
+        Whole::of(forces.factor),
+        forces.parts.as_slice(),
+    )
 }
 
 fn answer(part: Part, tested: Result<(), Stop>) -> Check

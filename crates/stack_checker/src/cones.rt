@@ -2,9 +2,7 @@
 
 ghost use Rattle.std.specs.Prelude.{◌≡◌, ◌<◌, ◌≤◌, length};
 ghost use Rattle.stack_algebra.specs.Steps.{steps};
-ghost use Rattle.stack_checker.specs.Whole.{whole};
-ghost use Rattle.stack_checker.specs.WrittenSums.{push_at};
-ghost use Rattle.stack_checker.specs.WrittenCheck.{written_cone};
+ghost use Rattle.stack_checker.specs.WrittenCheck.{written_cone, cone_at};
 
 use crate::block::{Push, push_of, whole_of};
 use crate::stop::{Stop, place, require};
@@ -25,7 +23,7 @@ fn check_cone(k: usize, p: Whole, q: Whole, push: Push) -> Result<(), Stop>
 
 fn check_bearing(k: usize, z: Bearing, parts: &[(i128, i128)]) -> Result<(), Stop>
     requires { k < length parts.now }
-    ensures { result ≡ written_cone k (whole z.cone.p) (whole z.cone.q) (push_at parts.now k) }
+    ensures { result ≡ cone_at parts.now k tt z }
 {
     check_cone(k, whole_of(z.cone.p), whole_of(z.cone.q), push_of(parts, k))
 }
@@ -33,7 +31,7 @@ fn check_bearing(k: usize, z: Bearing, parts: &[(i128, i128)]) -> Result<(), Sto
 /// So does each bearing, in order.
 pub fn check_cones(bearings: &[Bearing], parts: &[(i128, i128)]) -> Result<(), Stop>
     requires { length bearings.now ≤ length parts.now }
-    ensures { result ≡ steps (λ k done z. written_cone k (whole z.cone.p) (whole z.cone.q) (push_at parts.now k)) 0 tt bearings.now }
+    ensures { result ≡ steps (cone_at parts.now) 0 tt bearings.now }
 {
     for (k, bearing) in bearings.iter().enumerate() {
         check_bearing(k, *bearing, parts)?;

@@ -3,7 +3,7 @@
 ghost use Rattle.std.specs.Prelude.{◌≡◌, ◌≤◌, length, pos};
 ghost use Rattle.stack_algebra.specs.Steps.{steps};
 ghost use Rattle.stack_checker.specs.Whole.{whole};
-ghost use Rattle.stack_checker.specs.WrittenSums.{push_at, written_force_x, written_force_y, written_moment, written_force, with_bearing, written_sum};
+ghost use Rattle.stack_checker.specs.WrittenSums.{written_force_x, written_force_y, written_moment, written_force, with_bearing, bearing_at, written_sum};
 
 use crate::block::{Block, Joint, Push, joint_of, push_of};
 use crate::types::{Axis, Bearing};
@@ -77,7 +77,7 @@ fn add_bearings(
     parts: &[(i128, i128)],
 ) -> Result<Whole, Wide>
     requires { length bearings.now ≤ length parts.now }
-    ensures { result ≡ steps (λ k so_far z. with_bearing axis block (push_at parts.now k) so_far z) 0 (whole (pos 0)) bearings.now }
+    ensures { result ≡ steps (bearing_at axis block parts.now) 0 (whole (pos 0)) bearings.now }
 {
     let mut so_far = Whole { value: 0 };
     for (k, bearing) in bearings.iter().enumerate() {

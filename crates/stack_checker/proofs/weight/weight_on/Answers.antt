@@ -1,7 +1,6 @@
-use Rattle.std.proofs.Common.{◌≡◌, rules, ap, SFits, ◌∙◌, ℤ, pos, ◌-ℤ◌, ◌*ℤ◌}
+use Rattle.std.proofs.Common.{◌≡◌, rules, ap, SFits, ◌∙◌, pos, ◌-ℤ◌, ◌*ℤ◌}
 use mir.Syntax.{w64, w128}
 use Rattle.std.proofs.lemmas.Int.{to_z-of_z}
-use Rattle.stack_polygon.specs.Corners.{corner_of}
 use Rattle.stack_polygon.specs.Area.{twice_area_of, six_moments_of}
 use Rattle.stack_checker.specs.declared.whole.Whole.{Whole}
 use Rattle.stack_checker.specs.Weights.{loads_by}
