@@ -1,4 +1,5 @@
 //! Tests.
 
 mod meetings;
+mod surveys;
 mod texts;
