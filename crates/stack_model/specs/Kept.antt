@@ -2,8 +2,8 @@
 use Rattle.std.specs.Prelude.{List, map, string_bytes}
 use Rattle.stack_model.specs.declared.types.Material.{Material}
 use Rattle.stack_model.specs.declared.types.Body.{Body}
-use Rattle.stack_model.specs.declared.model.KeptMaterial.{KeptMaterial}
-use Rattle.stack_model.specs.declared.model.KeptBody.{KeptBody}
+use Rattle.stack_model.specs.declared.kept.KeptMaterial.{KeptMaterial}
+use Rattle.stack_model.specs.declared.kept.KeptBody.{KeptBody}
 use Rattle.stack_model.specs.declared.model.Model.TheInside.{Inside}
 use Rattle.stack_model.specs.Structure.{NamedMaterial, NamedBody, Structure}
 

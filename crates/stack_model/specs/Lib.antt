@@ -3,9 +3,14 @@ pub mod Kept
 pub mod ModelView
 pub mod Keys
 pub mod Parts
+pub mod Raw
+pub mod Gives
 pub mod Forms
 pub mod Shape
 pub mod Limits
 pub mod Content
+pub mod Drawn
+pub mod Laid
+pub mod AsWritten
 pub mod Reading
 pub mod Pairs

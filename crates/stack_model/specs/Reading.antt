@@ -23,3 +23,9 @@ unfoldable pub model_of : Outlines → Members → Result Structure Fault
 model_of outline_of ms = do
   parts ← shape_of ms
   content_of outline_of parts
+
+-- the model of some bytes
+unfoldable pub bytes_model_of : Outlines → List ℕ → Result Structure Fault
+bytes_model_of outline_of bytes = do
+  ms ← table_of bytes
+  model_of outline_of ms

@@ -25,12 +25,18 @@ pub record Structure : Type 0 where
   pub bodies : List NamedBody
   pub loads : List Load
 
+abbrev pub listed : List NamedMaterial → List NamedBody → List Load → Structure
+listed ms bs ls = record { materials = ms; bodies = bs; loads = ls }
+
 -- the items by number; past the end stands an item that means nothing
 abbrev pub material_of : Structure → ℕ → NamedMaterial
 material_of s i = get_or s.materials i (record { name = []; weight = pos 0; p = pos 0; q = pos 1 })
 
+abbrev pub body_at : List NamedBody → ℕ → NamedBody
+body_at bs i = get_or bs i (record { name = []; material = 0; fixed = true; corners = [] })
+
 abbrev pub body_of : Structure → ℕ → NamedBody
-body_of s i = get_or s.bodies i (record { name = []; material = 0; fixed = true; corners = [] })
+body_of s i = body_at s.bodies i
 
 abbrev pub load_of : Structure → ℕ → Load
 load_of s i = get_or s.loads i (record { body = 0; live = false; at = origin; fx = pos 0; fy = pos 0 })

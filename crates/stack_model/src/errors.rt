@@ -1,5 +1,6 @@
 //! Why a model file is refused.
 
+use std::alloc::{AllocError, AllocFailed};
 use thiserror::Error;
 
 /// Why a model file is refused.
@@ -16,4 +17,26 @@ pub enum ReadError {
     /// Memory was wanting.
     #[error("out of memory")]
     Memory,
+}
+
+impl From<AllocError> for ReadError {
+    ghost use Rattle.std.specs.Prelude.{◌≡◌};
+    ghost use Rattle.stack_model.specs.declared.errors.ReadError.TheVariants.{Memory};
+
+    ghost from_gives = { λ _ e. e ≡ Memory };
+
+    fn from(_e: AllocError) -> ReadError {
+        ReadError::Memory
+    }
+}
+
+impl<T: Drop> From<AllocFailed<T>> for ReadError {
+    ghost use Rattle.std.specs.Prelude.{◌≡◌};
+    ghost use Rattle.stack_model.specs.declared.errors.ReadError.TheVariants.{Memory};
+
+    ghost from_gives = { λ _ e. e ≡ Memory };
+
+    fn from(_e: AllocFailed<T>) -> ReadError {
+        ReadError::Memory
+    }
 }

@@ -1,26 +1,14 @@
 //! A model: the lists of its materials, bodies and loads.
 
-ghost use Rattle.std.specs.Prelude.{◌≡◌, ◌<◌, length};
+ghost use Rattle.std.specs.Prelude.{◌≡◌, ◌<◌, length, map};
 ghost use Rattle.stack_polygon.specs.Limits.{IsPolygon};
-ghost use Rattle.stack_model.specs.Structure.{material_of, body_of, load_of, IsWithinLimits, IsPlaced, IsCarried};
-ghost use Rattle.stack_model.specs.Kept.{material_alone, body_alone};
+ghost use Rattle.stack_model.specs.Structure.{listed, material_of, body_of, load_of, IsWithinLimits, IsCarried, IsSound};
+ghost use Rattle.stack_model.specs.Kept.{material_view, body_view, material_alone, body_alone};
 ghost use Rattle.stack_model.specs.ModelView.{model_view};
 
+use crate::kept::{KeptBody, KeptMaterial};
 use crate::types::{Body, Load, Material};
 use stack_polygon::Polygon;
-
-#[derive(Debug, Drop)]
-pub struct KeptMaterial {
-    pub name: String,
-    pub material: Material,
-}
-
-#[derive(Debug, Drop)]
-pub struct KeptBody {
-    pub name: String,
-    pub body: Body,
-    pub outline: Polygon,
-}
 
 /// Materials, bodies and loads, each numbered from 0 in the order of the file.
 #[derive(Debug, Drop)]
@@ -43,6 +31,18 @@ impl std::marker::Model for Model {
 }
 
 impl Model {
+    /// The model of these lists.
+    pub fn of(materials: Vec<KeptMaterial>, bodies: Vec<KeptBody>, loads: Vec<Load>) -> Model
+        requires { IsSound (listed (map material_view materials.items) (map body_view bodies.items) loads.items) }
+        ensures { model_view result ≡ listed (map material_view materials.items) (map body_view bodies.items) loads.items }
+    {
+        Model {
+            materials,
+            bodies,
+            loads,
+        }
+    }
+
     /// The number of materials.
     pub fn materials(&self) -> usize
         ensures { result ≡ length (model_view self.now).materials }

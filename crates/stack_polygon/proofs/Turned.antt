@@ -7,7 +7,7 @@ use Prim.Native.Nat.{ℕ, zero, suc, ◌<◌}
 use native.Mathlib.Omega.{arith}
 use lib.IntN.{ℤ, pos, negsuc, ◌-ℤ◌, ◌*ℤ◌}
 use lib.ListN.{length}
-use Rattle.std.specs.Prelude.{int_lt, if◌then◌else◌}
+use Rattle.std.specs.Prelude.{Option, Some, None, int_lt, if◌then◌else◌}
 use Rattle.std.specs.Ordering.{int_eq}
 use Rattle.std.proofs.lemmas.Int.{ints}
 use Rattle.std.proofs.lemmas.Bool.Decides.{Decides-int_eq}
@@ -16,9 +16,9 @@ use Rattle.stack_algebra.proofs.Order.{◌≼◌, ◌≺◌}
 use Rattle.stack_polygon.specs.declared.point.Point.{Point}
 use Rattle.stack_polygon.specs.Plane.{triangle_of}
 use Rattle.stack_polygon.specs.Corners.{reversed, IsStrictlyConvex}
-use Rattle.stack_polygon.specs.Rectangles.{is_across, is_upright, is_across_first, is_upright_first, is_rectangle, is_clockwise, turned, StandsFor}
-use Rattle.stack_polygon.specs.Limits.{AreInRange, IsPolygon}
-use Rattle.stack_polygon.proofs.Ranges.{length-reversed, range-reversed}
+use Rattle.stack_polygon.specs.Rectangles.{is_across, is_upright, is_across_first, is_upright_first, is_rectangle, is_clockwise, turned, rectangle_of, StandsFor}
+use Rattle.stack_polygon.specs.Limits.{AreInRange, are_in_range, IsPolygon}
+use Rattle.stack_polygon.proofs.Ranges.{length-reversed, range-reversed, all_in_range}
 use Rattle.stack_polygon.proofs.Convexity.{at, HasEight, convex_by_eight, eight_across, eight_upright, product_positive}
 
 -- what the polygon of a list is
@@ -146,3 +146,12 @@ turned_polygon ps new r h n = subst IsPolygon (sym n) (go (is_clockwise ps) refl
 
 pub turned_stands : (old held new : List Point) → held ≡ old → is_rectangle held ≡ true → new ≡ turned old → StandsFor old new
 turned_stands old held new e h n = subst (λ qs. StandsFor old qs) (sym n) (turned_rectangle old (subst (λ qs. is_rectangle qs ≡ true) e h)).stands
+
+-- the polygon of a list
+pub rectangle_is_polygon : (ps qs : List Point) → rectangle_of ps ≡ Some qs → IsPolygon qs
+rectangle_is_polygon ps qs h = go (are_in_range ps) (is_rectangle ps) refl refl h
+  where
+    go : (a b : Bool) → are_in_range ps ≡ a → is_rectangle ps ≡ b → (if a && b then Some (turned ps) else None) ≡ Some qs → IsPolygon qs
+    go true true ea eb e = turned_polygon ps qs (all_in_range ps ea) eb (cc)
+    go true false ea eb e = absurd (cc)
+    go false b ea eb e = absurd (cc)

@@ -39,6 +39,7 @@ impl Polygon {
     pub fn rectangle(mut corners: Vec<Point>) -> Option<Polygon>
         ensures value { result ≡ rectangle_of corners.items }
         ensures stands { IfSome result (λ ps. StandsFor corners.items ps) }
+        ensures polygon { IfSome result (λ ps. IsPolygon ps) }
     {
         if !are_in_range(&corners) || !is_rectangle(&corners) {
             return None;

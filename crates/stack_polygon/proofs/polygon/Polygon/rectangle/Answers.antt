@@ -15,3 +15,6 @@ invariant_of-result c =
 pub returns-clause-stands : goal.returns-clause-stands
 returns-clause-stands c = turned_stands _ _ _ c.deref-else-not-are_in_range.ensures.value
     (sym c.is_rectangle.ensures ∙ c.if-not-is_rectangle.false) c.turn.ensures
+
+pub returns-clause-polygon : goal.returns-clause-polygon
+returns-clause-polygon c = invariant_of-result c

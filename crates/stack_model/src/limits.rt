@@ -1,0 +1,122 @@
+//! What values mean, where they are within their limits.
+
+ghost use Rattle.std.specs.Prelude.{◌≡◌, IfOk, map, option_map};
+ghost use Rattle.std.specs.List.{list_all};
+ghost use Rattle.stack_polygon.specs.Limits.{is_near as is_near_of};
+ghost use Rattle.stack_model.specs.Raw.{numbers_view};
+ghost use Rattle.stack_model.specs.Limits.{is_name_byte as is_name_byte_of, is_name as is_name_of, is_between as is_between_of, friction_of, point_of, points_of, corners_of, live_of, force_of};
+
+use stack_polygon::Point;
+use std::alloc::{AllocError, Global};
+
+fn is_name_byte(b: u8) -> bool
+    ensures { result ≡ is_name_byte_of b }
+{
+    (97 <= b && b <= 122) || (65 <= b && b <= 90) || (48 <= b && b <= 57) || b == 95 || b == 45
+}
+
+fn are_name_bytes(bytes: &[u8]) -> bool
+    ensures { result ≡ list_all is_name_byte_of bytes.now }
+{
+    bytes.iter().all(|b| is_name_byte(*b))
+}
+
+/// 1 to 32 ASCII letters, digits, `_` and `-`.
+pub fn is_name(name: &str) -> bool
+    ensures { result ≡ is_name_of name.now }
+{
+    1 <= name.len() && name.len() <= 32 && are_name_bytes(name.as_bytes())
+}
+
+pub fn is_between(low: i64, high: i64, z: i64) -> bool
+    ensures { result ≡ is_between_of low high z }
+{
+    low <= z && z <= high
+}
+
+/// The numerator from 0 to 1,000 and the denominator from 1 to 1,000.
+pub fn friction(numbers: &[i64]) -> Option<(i64, i64)>
+    ensures { result ≡ friction_of numbers.now }
+{
+    match numbers {
+        [p, q] => {
+            if is_between(0, 1000, *p) && is_between(1, 1000, *q) {
+                Some((*p, *q))
+            } else {
+                None
+            }
+        }
+        _ => None,
+    }
+}
+
+/// Two coordinates from -1,000,000 to 1,000,000.
+pub fn point(numbers: &[i64]) -> Option<Point>
+    ensures { result ≡ point_of numbers.now }
+{
+    match numbers {
+        [x, y] => {
+            if is_between(-1_000_000, 1_000_000, *x) && is_between(-1_000_000, 1_000_000, *y) {
+                Some(Point { x: *x, y: *y })
+            } else {
+                None
+            }
+        }
+        _ => None,
+    }
+}
+
+fn points(alloc: Global, lists: &[Vec<i64>]) -> Result<Option<Vec<Point>>, AllocError>
+    ensures { IfOk result (λ found. option_map (λ v. v.items) found ≡ points_of (map numbers_view lists.now)) }
+{
+    let mut found = Vec::new(alloc);
+    for numbers in lists {
+        match point(numbers.as_slice()) {
+            Some(corner) => found.push(corner)?,
+            None => return Ok(None),
+        }
+    }
+    Ok(Some(found))
+}
+
+/// 3 to 32 points.
+pub fn corners(alloc: Global, lists: &[Vec<i64>]) -> Result<Option<Vec<Point>>, AllocError>
+    ensures { IfOk result (λ found. option_map (λ v. v.items) found ≡ corners_of (map numbers_view lists.now)) }
+{
+    if 3 <= lists.len() && lists.len() <= 32 {
+        points(alloc, lists)
+    } else {
+        Ok(None)
+    }
+}
+
+/// Whether a load is live, by the word of its kind.
+pub fn live(kind: &str) -> Option<bool>
+    ensures { result ≡ live_of kind.now }
+{
+    if kind == "live" {
+        Some(true)
+    } else if kind == "dead" {
+        Some(false)
+    } else {
+        None
+    }
+}
+
+/// Two components of at most 1,000,000,000 in size.
+pub fn force(numbers: &[i64]) -> Option<(i64, i64)>
+    ensures { result ≡ force_of numbers.now }
+{
+    match numbers {
+        [fx, fy] => {
+            if is_between(-1_000_000_000, 1_000_000_000, *fx)
+                && is_between(-1_000_000_000, 1_000_000_000, *fy)
+            {
+                Some((*fx, *fy))
+            } else {
+                None
+            }
+        }
+        _ => None,
+    }
+}

@@ -1,0 +1,155 @@
+//! The materials of a file, checked one after the other.
+
+ghost use Rattle.std.specs.Prelude.{◌≡◌, [], map, pos};
+ghost use Rattle.stack_model.specs.Kept.{material_view};
+ghost use Rattle.stack_model.specs.Raw.{raw_material};
+ghost use Rattle.stack_model.specs.Gives.{Gives};
+ghost use Rattle.stack_model.specs.Limits.{friction_of};
+ghost use Rattle.stack_algebra.specs.Steps.{steps};
+ghost use Rattle.stack_model.specs.Content.{unless as unless_of, ranged, with_material, add_material, number_of, material_names};
+
+use crate::faults::{Fault, Key, Spot};
+use crate::kept::KeptMaterial;
+use crate::limits::{friction, is_between, is_name};
+use crate::names::Names;
+use crate::raw::RawMaterial;
+use crate::types::Material;
+use std::alloc::Global;
+
+/// The materials so far, and their names.
+#[derive(Drop)]
+pub struct Materials {
+    names: Names,
+    kept: Vec<KeptMaterial>,
+}
+
+impl std::marker::Model for Materials {
+    ghost use Rattle.std.specs.Prelude.{◌≡◌, List, map};
+    ghost use Rattle.stack_model.specs.Structure.{NamedMaterial};
+
+    ghost Value = { List NamedMaterial };
+
+    ghost use Rattle.stack_model.specs.Kept.{material_view};
+    ghost use Rattle.stack_model.specs.Content.{material_names};
+
+    ghost view = { λ m. map material_view m.kept.items };
+
+    ghost invariant = { λ m. m.names ≡ material_names (map material_view m.kept.items) };
+}
+
+/// A test that must hold, or else this fault.
+pub fn unless(holds: bool, fault: Fault) -> Result<(), Fault>
+    ensures { Gives (λ x. x) result (unless_of holds fault) }
+{
+    if holds { Ok(()) } else { Err(fault) }
+}
+
+fn friction_at(spot: Spot, numbers: &[i64]) -> Result<(i64, i64), Fault>
+    ensures { Gives (λ x. x) result (ranged spot Key.Friction (friction_of numbers.now)) }
+{
+    match friction(numbers) {
+        Some(terms) => Ok(terms),
+        None => Err(Fault::Range {
+            spot,
+            key: Key::Friction,
+        }),
+    }
+}
+
+impl Materials {
+    pub fn new(alloc: Global) -> Materials
+        ensures { result ≡ [] }
+    {
+        Materials {
+            names: Names::new(alloc),
+            kept: Vec::new(alloc),
+        }
+    }
+
+    /// The number of the material with a name.
+    pub fn number(&self, name: &str) -> Option<usize>
+        ensures { result ≡ number_of name.now (material_names self.now) }
+    {
+        self.names.number(name)
+    }
+
+    /// One more material, with a name of its own.
+    #[tactic(auto, unfolding(crate::specs::Content::with_material))]
+    fn with(
+        self,
+        alloc: Global,
+        spot: Spot,
+        name: &str,
+        material: Material,
+    ) -> Result<Materials, Fault>
+        ensures { Gives (λ m. m) result (with_material spot (record { name = name.now; weight = material.weight; p = material.p; q = material.q }) self) }
+    {
+        let Materials {
+            mut names,
+            mut kept,
+        } = self;
+        if !names.add(alloc, name)? {
+            return Err(Fault::SameName { spot });
+        }
+        kept.push(KeptMaterial {
+            name: String::from_str(alloc, name)?,
+            material,
+        })?;
+        Ok(Materials { names, kept })
+    }
+
+    /// The materials, without taking memory.
+    pub fn into_kept(self) -> Vec<KeptMaterial>
+        ensures { map material_view result.items ≡ self }
+    {
+        let Materials {
+            names: _names,
+            kept,
+        } = self;
+        kept
+    }
+}
+
+#[tactic(auto, unfolding(crate::specs::Content::add_material))]
+fn add(
+    alloc: Global,
+    index: usize,
+    so_far: Materials,
+    raw: &RawMaterial,
+) -> Result<Materials, Fault>
+    ensures { Gives (λ m. m) result (add_material index so_far (raw_material raw.now)) }
+{
+    let spot = Spot::Material(index);
+    unless(
+        is_name(raw.name.as_str()),
+        Fault::Range {
+            spot,
+            key: Key::Name,
+        },
+    )?;
+    unless(
+        is_between(0, 1_000_000, raw.weight),
+        Fault::Range {
+            spot,
+            key: Key::Weight,
+        },
+    )?;
+    let (p, q) = friction_at(spot, raw.friction.as_slice())?;
+    let material = Material {
+        weight: raw.weight,
+        p,
+        q,
+    };
+    so_far.with(alloc, spot, raw.name.as_str(), material)
+}
+
+/// The materials, or the first fault of their content.
+pub fn all_materials(alloc: Global, raws: &[RawMaterial]) -> Result<Materials, Fault>
+    ensures { Gives (λ m. m) result (steps add_material 0 [] (map raw_material raws.now)) }
+{
+    let mut so_far = Materials::new(alloc);
+    for (index, raw) in raws.iter().enumerate() {
+        so_far = add(alloc, index, so_far, raw)?;
+    }
+    Ok(so_far)
+}
