@@ -1,4 +1,5 @@
--- The free blocks of a structure: the bodies that aren't fixed, in order. Blocks are counted among them, from 0.
+-- The free blocks of a structure: the bodies that aren't fixed, in order. Blocks are counted among them, from
+-- 0.
 use Rattle.std.specs.Prelude.{ℕ, ◌+◌, List, [], ◌∷◌, get_or, if◌then◌else◌}
 use Rattle.stack_model.specs.Structure.{NamedBody}
 

@@ -1,4 +1,5 @@
--- The scene of a survey: its bodies with their weights, and its bearings. Used to say which certificates are true.
+-- The scene of a survey: its bodies with their weights, and its bearings. Used to say which certificates are
+-- true.
 use Rattle.std.specs.Prelude.{ℤ, pos, not, length, get_or}
 use Rattle.stack_polygon.specs.Corners.{origin, corner_of}
 use Rattle.stack_model.specs.Structure.{NamedBody, Structure, material_of, body_of}

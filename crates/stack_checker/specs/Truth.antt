@@ -13,6 +13,7 @@ part_of p = record { a = p.0; b = p.1 }
 abbrev pub forces_of : CertificateValue → Forces
 forces_of c = record { scale = c.scale; factor = c.factor; parts = map part_of c.parts }
 
--- as many parts as bearings, a positive scale, the factor 0, each part within its cone, and every free body balanced
+-- as many parts as bearings, a positive scale, the factor 0, each part within its cone, and every free body
+-- balanced
 abbrev pub IsTrueCertificate : Surveyed → CertificateValue → Type 0
 IsTrueCertificate s c = IsTrueStands (scene_of s) (forces_of c)

@@ -1,4 +1,5 @@
--- The laws that tie the written check to what is true: an accepted certificate is true and a rejected one isn't.
+-- The laws that tie the written check to what is true: an accepted certificate is true and a rejected one
+-- isn't.
 use Rattle.std.specs.Prelude.{◌≡◌, ◌⊎◌, ◌<◌, length, ⊤}
 use Rattle.stack_checker.specs.declared.types.CheckPlace.{CheckPlace}
 use Rattle.stack_checker.specs.declared.types.Part.{Part}
@@ -24,7 +25,8 @@ RejectedIsFalse = (s : Surveyed) (c : CertificateValue) (part : Part) (reason : 
 -- a true certificate is accepted, unless a number passes before the last test
 abbrev pub TrueIsAccepted : Type 0
 TrueIsAccepted = (s : Surveyed) (c : CertificateValue) →
-    IsTrueCertificate s c → (written_check s c ≡ Accepted) ⊎ ((place : CheckPlace) × (written_check s c ≡ TooWide place))
+    IsTrueCertificate s c → (written_check s c ≡ Accepted)
+    ⊎ ((place : CheckPlace) × (written_check s c ≡ TooWide place))
 
 abbrev pub IsRejected : Check → Type 0
 IsRejected Accepted = ⊥

@@ -1,4 +1,5 @@
--- The written check of a certificate: its tests and its sums in one order. It ends at the first test that fails or the
+-- The written check of a certificate: its tests and its sums in one order. It ends at the first test that fails
+-- or the
 -- first number that passes, whichever comes first. What a true certificate is stands in Truth, apart from this.
 use Rattle.std.specs.Prelude.{ℕ, nat_eq, ℤ, pos, nat_abs, ◌*ℤ◌, int_le, Bool, true, false, List, length, Result, Ok, Err, ⊤}
 use Rattle.stack_algebra.specs.Steps.{◌>>=◌, steps}
@@ -40,7 +41,8 @@ abbrev pub made_at : Result Whole Wide → CheckAt → Result Whole Stop
 made_at (Ok x) at = Ok x
 made_at (Err e) at = Err (TooWide at)
 
--- bearing k, whose coefficient is p over q: it pushes; then p*a, the size of b and q times it are made; then the cone
+-- bearing k, whose coefficient is p over q: it pushes; then p*a, the size of b and q times it are made; then
+-- the cone
 unfoldable pub written_cone : ℕ → Whole → Whole → Push → Result ⊤ Stop
 written_cone k p q f = do
   pushes ← demand (int_le (pos 0) f.a.value) (reasons.Push k)
@@ -75,7 +77,8 @@ abbrev pub block_of : Structure → ℕ → Block
 block_of m i = block_from m i (body_of m i)
 
 abbrev pub balance_at : Surveyed → Whole → Whole → List (ℤ × ℤ) → ℕ → ⊤ → ℕ → Result ⊤ Stop
-balance_at s scale factor parts b done i = written_balance b (block_of s.structure i) scale factor s.bearings parts
+balance_at s scale factor parts b done i = written_balance b (block_of s.structure i) scale factor s.bearings
+    parts
 
 -- one list of forces, with what its scale and its factor are tested for
 unfoldable pub written_forces : Sign → Sign → Surveyed → CertificateValue → Result ⊤ Stop
