@@ -2,3 +2,4 @@
 
 mod meetings;
 mod texts;
+mod verdicts;
