@@ -3,3 +3,4 @@
 mod meetings;
 mod surveys;
 mod texts;
+mod verdicts;
