@@ -9,7 +9,8 @@ use Rattle.stack_algebra.proofs.Integers.{expand, sums}
 use Rattle.stack_algebra.proofs.Ring.{ring6, num, ◌⊕◌, ◌⊖◌, ◌⊗◌}
 use Rattle.stack_algebra.proofs.IntegerRing.{integers}
 use Rattle.stack_polygon.specs.declared.point.Point.{Point}
-use Rattle.stack_equilibrium.specs.Loads.{twice_area_of, moment_of_triangle, sum_of_triangles}
+use Rattle.stack_polygon.specs.Plane.{triangle_of}
+use Rattle.stack_equilibrium.specs.Loads.{moment_of_triangle, sum_of_triangles}
 use Rattle.stack_equilibrium.specs.Laws.{AnyCornerWeighsTheSame}
 
 -- twice the area of the triangle that an edge makes with the origin
@@ -83,7 +84,7 @@ triangle-moment = ring6 integers (λ ox oy px py qx qy. (
 
 -- the triangles over an open chain of edges
 fan-area : (o p : Point) (rest : List Point) →
-    sum_of_triangles twice_area_of o (p ∷ rest) ≡ edges area p rest +ℤ area o p -ℤ area o (last p rest)
+    sum_of_triangles triangle_of o (p ∷ rest) ≡ edges area p rest +ℤ area o p -ℤ area o (last p rest)
 unfolding edges last
 fan-area o p [] = ends (area o p)
   where
@@ -93,14 +94,14 @@ fan-area o p (q ∷ rest) =
     (λ i. triangle o p q i +ℤ fan-area o q rest i)
     ∙ on (area p q) (area o p) (area o q) (edges area q rest) (area o (last q rest))
   where
-    triangle : (o p q : Point) → twice_area_of o p q ≡ area p q +ℤ area o p -ℤ area o q
+    triangle : (o p q : Point) → triangle_of o p q ≡ area p q +ℤ area o p -ℤ area o q
     triangle o p q = triangle-area o.x o.y p.x p.y q.x q.y
 
     on : (a b c d e : ℤ) → (a +ℤ b -ℤ c) +ℤ (d +ℤ c -ℤ e) ≡ (a +ℤ d) +ℤ b -ℤ e
     on a b c d e = omega (arith, sums)
 
 fan-moment : (o p : Point) (rest : List Point) →
-    sum_of_triangles moment_of_triangle o (p ∷ rest) +ℤ pos 3 *ℤ o.x *ℤ sum_of_triangles twice_area_of o
+    sum_of_triangles moment_of_triangle o (p ∷ rest) +ℤ pos 3 *ℤ o.x *ℤ sum_of_triangles triangle_of o
     (p ∷ rest)
     ≡ edges moment p rest +ℤ moment o p -ℤ moment o (last p rest)
 unfolding edges last
@@ -110,7 +111,7 @@ fan-moment o p [] = ends o.x (moment o p)
     ends x a = simp expand (omega (arith, sums))
 fan-moment o p (q ∷ rest) =
     gather o.x (moment_of_triangle o p q) (sum_of_triangles moment_of_triangle o (q ∷ rest))
-    (twice_area_of o p q) (sum_of_triangles twice_area_of o (q ∷ rest))
+    (triangle_of o p q) (sum_of_triangles triangle_of o (q ∷ rest))
     ∙ (λ i. triangle o p q i +ℤ fan-moment o q rest i)
     ∙ on (moment p q) (moment o p) (moment o q) (edges moment q rest) (moment o (last q rest))
   where
@@ -118,7 +119,7 @@ fan-moment o p (q ∷ rest) =
         ≡ (a +ℤ pos 3 *ℤ x *ℤ c) +ℤ (b +ℤ pos 3 *ℤ x *ℤ d)
     gather x a b c d = simp expand (omega (arith, sums))
 
-    triangle : (o p q : Point) → moment_of_triangle o p q +ℤ pos 3 *ℤ o.x *ℤ twice_area_of o p q
+    triangle : (o p q : Point) → moment_of_triangle o p q +ℤ pos 3 *ℤ o.x *ℤ triangle_of o p q
         ≡ moment p q +ℤ moment o p -ℤ moment o q
     triangle o p q = triangle-moment o.x o.y p.x p.y q.x q.y
 
@@ -126,7 +127,7 @@ fan-moment o p (q ∷ rest) =
     on a b c d e = omega (arith, sums)
 
 -- and over the closed outline
-closed-area : (o : Point) (rest : List Point) → sum_of_triangles twice_area_of o rest ≡ closed area o rest
+closed-area : (o : Point) (rest : List Point) → sum_of_triangles triangle_of o rest ≡ closed area o rest
 unfolding closed edges last
 closed-area o [] = plain o.x o.y
   where
@@ -139,7 +140,7 @@ closed-area o (p ∷ rest) = fan-area o p rest
     turn a b x y u v = simp expand (omega (arith, sums))
 
 closed-moment : (o : Point) (rest : List Point) →
-    sum_of_triangles moment_of_triangle o rest +ℤ pos 3 *ℤ o.x *ℤ sum_of_triangles twice_area_of o rest
+    sum_of_triangles moment_of_triangle o rest +ℤ pos 3 *ℤ o.x *ℤ sum_of_triangles triangle_of o rest
     ≡ closed moment o rest
 unfolding closed edges last
 closed-moment o [] = plain o.x o.y
@@ -171,16 +172,16 @@ pub any_corner_weighs_the_same : AnyCornerWeighsTheSame
 any_corner_weighs_the_same w o xs c ys = λ i. record {
   fx = pos 0;
   fy = same_force w _ _ areas i;
-  m = same_moment w o.x c.x (c.y -ℤ o.y) (sum_of_triangles twice_area_of o (xs ++ c ∷ ys))
-      (sum_of_triangles twice_area_of c (ys ++ o ∷ xs)) _ _ (sym areas) moments i;
+  m = same_moment w o.x c.x (c.y -ℤ o.y) (sum_of_triangles triangle_of o (xs ++ c ∷ ys))
+      (sum_of_triangles triangle_of c (ys ++ o ∷ xs)) _ _ (sym areas) moments i;
 }
   where
-    areas : sum_of_triangles twice_area_of c (ys ++ o ∷ xs) ≡ sum_of_triangles twice_area_of o (xs ++ c ∷ ys)
+    areas : sum_of_triangles triangle_of c (ys ++ o ∷ xs) ≡ sum_of_triangles triangle_of o (xs ++ c ∷ ys)
     areas = closed-area c (ys ++ o ∷ xs) ∙ closed-turned area o c xs ys ∙ sym (closed-area o (xs ++ c ∷ ys))
 
     moments : sum_of_triangles moment_of_triangle c (ys ++ o ∷ xs)
-        +ℤ pos 3 *ℤ c.x *ℤ sum_of_triangles twice_area_of c (ys ++ o ∷ xs)
+        +ℤ pos 3 *ℤ c.x *ℤ sum_of_triangles triangle_of c (ys ++ o ∷ xs)
         ≡ sum_of_triangles moment_of_triangle o (xs ++ c ∷ ys)
-        +ℤ pos 3 *ℤ o.x *ℤ sum_of_triangles twice_area_of o (xs ++ c ∷ ys)
+        +ℤ pos 3 *ℤ o.x *ℤ sum_of_triangles triangle_of o (xs ++ c ∷ ys)
     moments = closed-moment c (ys ++ o ∷ xs) ∙ closed-turned moment o c xs ys
         ∙ sym (closed-moment o (xs ++ c ∷ ys))

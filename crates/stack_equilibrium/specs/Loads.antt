@@ -5,11 +5,8 @@
 use mathlib.Core.List.{List, [], ◌∷◌}
 use lib.IntN.{ℤ, pos, ◌+ℤ◌, ◌-ℤ◌, ◌*ℤ◌, neg_ℤ}
 use Rattle.stack_polygon.specs.declared.point.Point.{Point}
+use Rattle.stack_polygon.specs.Plane.{triangle_of}
 use Rattle.stack_equilibrium.specs.Scene.{Wrench}
-
--- twice the area of the triangle (o, p, q), positive where it runs counter-clockwise
-abbrev pub twice_area_of : Point → Point → Point → ℤ
-twice_area_of o p q = (p.x -ℤ o.x) *ℤ (q.y -ℤ o.y) -ℤ (p.y -ℤ o.y) *ℤ (q.x -ℤ o.x)
 
 -- the x distances of p and q from o
 abbrev pub distances_of : Point → Point → Point → ℤ
@@ -22,17 +19,17 @@ sum_of_triangles f o (p ∷ []) = pos 0
 sum_of_triangles f o (p ∷ q ∷ rest) = f o p q +ℤ sum_of_triangles f o (q ∷ rest)
 
 -- six times the moment of a triangle's weight, of one unit per area, about o: its area is half of
--- twice_area_of, and
+-- triangle_of, and
 -- its centroid lies a third of distances_of right of o
 abbrev pub moment_of_triangle : Point → Point → Point → ℤ
-moment_of_triangle o p q = twice_area_of o p q *ℤ distances_of o p q
+moment_of_triangle o p q = triangle_of o p q *ℤ distances_of o p q
 
 -- the weight of a body with these corners and this weight per unit of area, about its first corner
 abbrev pub weight_of : ℤ → List Point → Wrench
 weight_of w [] = record { fx = pos 0; fy = pos 0; m = pos 0 }
 weight_of w (o ∷ rest) = record {
   fx = pos 0;
-  fy = neg_ℤ (pos 3 *ℤ (w *ℤ sum_of_triangles twice_area_of o rest));
+  fy = neg_ℤ (pos 3 *ℤ (w *ℤ sum_of_triangles triangle_of o rest));
   m = neg_ℤ (w *ℤ sum_of_triangles moment_of_triangle o rest);
 }
 
