@@ -9,7 +9,7 @@ use lib.Dec.{eqb}
 use lib.IntN.{ℤ, pos}
 use lib.ListN.{length, get_or}
 use Rattle.std.specs.Prelude.{reverse}
-use Rattle.stack_algebra.proofs.Order.{◌≼◌, ◌≺◌}
+use Rattle.stack_algebra.specs.IntegerOrder.{◌≼◌, ◌≺◌}
 use Rattle.stack_polygon.specs.declared.point.Point.{Point}
 use Rattle.stack_polygon.specs.Plane.{Place, triangle_of, left_of}
 
