@@ -1,8 +1,7 @@
 -- Lists of corners: edges, strict convexity, the points inside, and the list in the other order.
 -- Edge i runs from corner i to the next one, and the last edge back to corner 0.
-use mathlib.Core.Path.{◌≡◌}
 use mathlib.Core.Logic.{◌≢◌}
-use mathlib.Core.Bool.{Bool, cond}
+use mathlib.Core.Bool.{cond}
 use mathlib.Core.List.{List, [], ◌∷◌}
 use Prim.Native.Nat.{ℕ, suc, ◌<◌}
 use lib.Dec.{eqb}
