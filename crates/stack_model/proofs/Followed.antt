@@ -14,14 +14,17 @@ module _ {A X P : Type 0} (f : ℕ → A → P → Result A Fault) (view : X →
   below : i < length xs → i < length (map view xs)
   below lt = subst (λ n. i < n) (sym (length-map xs view)) lt
 
-  pub follows : (x : X) (a b : A) (total : Result A Fault) → i < length xs → x ≡ get_or xs i x → f i a (view x) ≡ Ok b
+  pub follows : (x : X) (a b : A) (total : Result A Fault) → i < length xs → x ≡ get_or xs i x
+      → f i a (view x) ≡ Ok b
       → steps f i a (drop i (map view xs)) ≡ total → steps f (i + 1) b (drop (i + 1) (map view xs)) ≡ total
   follows x a b total lt is h so_far = step_on f (map view xs) i a b (view x) total (below lt) (ap (f i a) (item x lt is) ∙ h) so_far
 
-  pub stops : (e : Fault) (x : X) (a : A) (total : Result A Fault) → i < length xs → x ≡ get_or xs i x → Fails e (f i a (view x))
+  pub stops : (e : Fault) (x : X) (a : A) (total : Result A Fault) → i < length xs → x ≡ get_or xs i x
+      → Fails e (f i a (view x))
       → steps f i a (drop i (map view xs)) ≡ total → Fails e total
   stops e x a total lt is h so_far = handed_on e (f i a (view x)) total h (λ here.
       sym (step_out f (map view xs) i a (view x) e total (below lt) (ap (f i a) (item x lt is) ∙ here) so_far))
 
-  pub ended : (a : A) (total : Result A Fault) → length xs ≤ i → steps f i a (drop i (map view xs)) ≡ total → total ≡ Ok a
+  pub ended : (a : A) (total : Result A Fault) → length xs ≤ i → steps f i a (drop i (map view xs)) ≡ total
+      → total ≡ Ok a
   ended a total le so_far = sym (steps_done f (map view xs) i a total (subst (λ n. n ≤ i) (sym (length-map xs view)) le) so_far)

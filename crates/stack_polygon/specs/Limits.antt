@@ -1,4 +1,5 @@
--- What holds of every polygon: strictly convex, counter-clockwise, 3 to 32 corners, coordinates of at most 1,000,000 in size.
+-- What holds of every polygon: strictly convex, counter-clockwise, 3 to 32 corners, coordinates of at most
+-- 1,000,000 in size.
 use mathlib.Core.Bool.{Bool, ◌&&◌}
 use mathlib.Core.List.{List}
 use Prim.Native.Nat.{ℕ, ◌<◌, ◌≤◌}
