@@ -25,7 +25,8 @@ pub record Holds (p q a b : ℤ) : Type 0 where
   pub pushes : pos 0 ≼ a
   pub within : q *ℤ abs b ≼ p *ℤ a
 
-pub cone_holds : (k : ℕ) (p q : Whole) (f : Push) (done : ⊤) → written_cone k p q f ≡ Ok done → Holds p.value q.value f.a.value f.b.value
+pub cone_holds : (k : ℕ) (p q : Whole) (f : Push) (done : ⊤) → written_cone k p q f ≡ Ok done →
+    Holds p.value q.value f.a.value f.b.value
 unfolding written_cone
 cone_holds k p q f done h =
     let pushes = bind_ok (demand (int_le (pos 0) f.a.value) (reasons.Push k)) _ done h in
@@ -42,13 +43,16 @@ cone_holds k p q f done h =
           (le_of_true least.value.value most.value.value (demand_met _ _ _ least.after));
     }
 
-pub cone_fails : (k : ℕ) (p q : Whole) (f : Push) (reason : Reason) → written_cone k p q f ≡ Err (Rejected reason) → ¬ (Holds p.value q.value f.a.value f.b.value)
+pub cone_fails : (k : ℕ) (p q : Whole) (f : Push) (reason : Reason) → written_cone k p q f
+    ≡ Err (Rejected reason) → ¬ (Holds p.value q.value f.a.value f.b.value)
 unfolding written_cone
 cone_fails k p q f reason h holds = go (demand_before (int_le (pos 0) f.a.value) (reasons.Push k) _ reason h)
   where
-    within : (most size least : Whole) → most.value ≡ p.value *ℤ f.a.value → size.value ≡ abs f.b.value → least.value ≡ q.value *ℤ size.value → ¬ (least.value ≼ most.value) → ⊥
+    within : (most size least : Whole) → most.value ≡ p.value *ℤ f.a.value → size.value ≡ abs f.b.value →
+        least.value ≡ q.value *ℤ size.value → ¬ (least.value ≼ most.value) → ⊥
     within most size least is_most is_size is_least far =
-        far (le_along (q.value *ℤ abs f.b.value) (p.value *ℤ f.a.value) least.value most.value (sym (is_least ∙ ap (λ t. q.value *ℤ t) is_size)) (sym is_most) holds.within)
+        far (le_along (q.value *ℤ abs f.b.value) (p.value *ℤ f.a.value) least.value most.value
+        (sym (is_least ∙ ap (λ t. q.value *ℤ t) is_size)) (sym is_most) holds.within)
 
     go : (int_le (pos 0) f.a.value ≡ false) ⊎ ((int_le (pos 0) f.a.value ≡ true) × ((
         made_at (made (p.value *ℤ f.a.value)) (places.Cone k) >>= λ most.
@@ -60,5 +64,6 @@ cone_fails k p q f reason h holds = go (demand_before (int_le (pos 0) f.a.value)
         let most = made_before (made (p.value *ℤ f.a.value)) (places.Cone k) _ reason r.1 in
         let size = made_before (made (pos (nat_abs f.b.value))) (places.Cone k) _ reason most.after in
         let least = made_before (made (q.value *ℤ size.value.value)) (places.Cone k) _ reason size.after in
-        within most.value size.value least.value (made_is _ most.value most.before) (made_is _ size.value size.before) (made_is _ least.value least.before)
+        within most.value size.value least.value (made_is _ most.value most.before)
+        (made_is _ size.value size.before) (made_is _ least.value least.before)
         (not_le_of_false least.value.value most.value.value (demand_unmet _ _ reason least.after))

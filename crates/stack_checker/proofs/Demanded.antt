@@ -34,7 +34,8 @@ pub record MadeBefore {B : Type 0} (r : Result Whole Wide) (f : Whole → Result
   pub before : r ≡ Ok value
   pub after : f value ≡ Err (Rejected reason)
 
-pub made_before : {B : Type 0} (r : Result Whole Wide) (at : CheckAt) (f : Whole → Result B Stop) (reason : Reason) →
+pub made_before : {B : Type 0} (r : Result Whole Wide) (at : CheckAt) (f : Whole →
+    Result B Stop) (reason : Reason) →
     (made_at r at >>= f) ≡ Err (Rejected reason) → MadeBefore r f reason
 made_before (Ok x) at f reason h = record { value = x; before = refl; after = h }
 made_before (Err e) at f reason h = absurd (cc)

@@ -1,4 +1,5 @@
--- Where the tests of a list of forces pass, the forces are admissible and balanced; where one rejects, they aren't.
+-- Where the tests of a list of forces pass, the forces are admissible and balanced.
+-- Where one of them rejects, they aren't.
 use Rattle.std.proofs.Common.{◌≡◌, refl, sym, ap, ◌∙◌, ℕ, ◌+◌, ◌<◌, ◌⊎◌, inl, inr, pos, Bool, true, false, not, List, length, get_or, Result, Ok, Err, subst, arith}
 use Rattle.std.specs.Bool.{⊤, nat_eq}
 use Rattle.std.proofs.lemmas.Bool.{eqb-true}
@@ -70,11 +71,13 @@ module _ (s : Surveyed) (c : CertificateValue) where
   BalancesAt i = Balances (block_of s.structure i) (whole c.scale) (whole c.factor) s.bearings c.parts
 
   -- all the bearings' tests passed
-  admissible : (done : ⊤) → steps (cone_at c.parts) 0 tt s.bearings ≡ Ok done → (k : ℕ) → k < length s.bearings → WithinAt k (part k)
+  admissible : (done : ⊤) → steps (cone_at c.parts) 0 tt s.bearings ≡ Ok done → (k : ℕ) →
+      k < length s.bearings → WithinAt k (part k)
   admissible done h k l =
       let one = ap (λ n. cone_at c.parts n tt (bearing k)) (from_zero k)
       ∙ each_passes (cone_at c.parts) 0 s.bearings no_bearing h k l in
-      is_within k (cone_holds k (whole (bearing k).cone.p) (whole (bearing k).cone.q) (push_at c.parts k) tt one)
+      let z = bearing k in
+      is_within k (cone_holds k (whole z.cone.p) (whole z.cone.q) (push_at c.parts k) tt one)
 
   -- and all the free blocks' tests
   balanced : (done : ⊤) → steps balance 0 tt frees ≡ Ok done → (i : ℕ) → i < length s.structure.bodies →
@@ -91,7 +94,8 @@ module _ (s : Surveyed) (c : CertificateValue) where
       is_free false e = refl
 
   -- where the tests of a list of forces pass, it is balanced and admissible
-  pub forces_pass : (scale factor : Sign) (done : ⊤) → written_forces scale factor s c ≡ Ok done → Passes scale factor s c
+  pub forces_pass : (scale factor : Sign) (done : ⊤) → written_forces scale factor s c ≡ Ok done →
+      Passes scale factor s c
   unfolding written_forces
   forces_pass scale factor done h =
       let counted = bind_ok (demand (nat_eq (length c.parts) (length s.bearings)) reasons.Count) _ done h in
@@ -143,10 +147,12 @@ module _ (s : Surveyed) (c : CertificateValue) where
   after_count scale factor = demand (has_sign scale c.scale) reasons.Scale >>= λ scaled. after_scale factor
 
   -- where a test of a list of forces rejects, something that it is tested for is false
-  pub forces_reject : (scale factor : Sign) (reason : Reason) → written_forces scale factor s c ≡ Err (Rejected reason) →
+  pub forces_reject : (scale factor : Sign) (reason : Reason) → written_forces scale factor s c
+      ≡ Err (Rejected reason) →
       ¬ (Passes scale factor s c)
   unfolding written_forces
-  forces_reject scale factor reason h p = counted (demand_before (nat_eq (length c.parts) (length s.bearings)) reasons.Count _ reason h)
+  forces_reject scale factor reason h p =
+      counted (demand_before (nat_eq (length c.parts) (length s.bearings)) reasons.Count _ reason h)
     where
       held : (steps (cone_at c.parts) 0 tt s.bearings ≡ Err (Rejected reason))
           ⊎ Follows (steps (cone_at c.parts) 0 tt s.bearings) (λ held. after_cones) (Rejected reason) → ⊥
@@ -155,7 +161,8 @@ module _ (s : Surveyed) (c : CertificateValue) where
 
       driven : IsStopped (has_sign factor c.factor) after_factor reason → ⊥
       driven (inl e) = let k = p.driven in cc
-      driven (inr r) = held (bind_err (steps (cone_at c.parts) 0 tt s.bearings) (λ held. after_cones) (Rejected reason) r.1)
+      driven (inr r) = held (bind_err (steps (cone_at c.parts) 0 tt s.bearings) (λ held. after_cones)
+          (Rejected reason) r.1)
 
       scaled : IsStopped (has_sign scale c.scale) (after_scale factor) reason → ⊥
       scaled (inl e) = let k = p.scaled in cc
@@ -165,5 +172,6 @@ module _ (s : Surveyed) (c : CertificateValue) where
       not_counted m n e k = grind (arith)
 
       counted : IsStopped (nat_eq (length c.parts) (length s.bearings)) (after_count scale factor) reason → ⊥
-      counted (inl e) = not_counted (length c.parts) (length s.bearings) e (sym (length-map c.parts part_of) ∙ p.forces.count)
+      counted (inl e) = not_counted (length c.parts) (length s.bearings) e (sym (length-map c.parts part_of)
+          ∙ p.forces.count)
       counted (inr r) = scaled (demand_before (has_sign scale c.scale) reasons.Scale _ reason r.1)

@@ -17,3 +17,7 @@ pub mod Verdicts
 pub mod FanSums
 pub mod Products
 pub mod Places
+pub mod EdgeSides
+pub mod RectanglePoints
+pub mod RectangleLaws
+pub mod CommonRanges

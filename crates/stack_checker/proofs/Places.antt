@@ -39,16 +39,19 @@ module _ (s : Surveyed) where
   demand_names false why e is h = let same : Rejected why ≡ e = cc in subst Names same is
 
   -- a test, and what follows it
-  demand_then : {B : Type 0} (b : Bool) (why : Reason) (f : ⊤ → Result B Stop) (e : Stop) → IsReasonOf s why → (f tt ≡ Err e → Names e) → (demand b why >>= f) ≡ Err e → Names e
+  demand_then : {B : Type 0} (b : Bool) (why : Reason) (f : ⊤ → Result B Stop) (e : Stop) → IsReasonOf s why →
+      (f tt ≡ Err e → Names e) → (demand b why >>= f) ≡ Err e → Names e
   demand_then true why f e is next h = next h
   demand_then false why f e is next h = let same : Rejected why ≡ e = cc in subst Names same is
 
   -- a number that is made, and what follows it
-  made_then : {B : Type 0} (r : Result Whole Wide) (at : CheckAt) (f : Whole → Result B Stop) (e : Stop) → IsPlaceOf s at → ((x : Whole) → f x ≡ Err e → Names e) → (made_at r at >>= f) ≡ Err e → Names e
+  made_then : {B : Type 0} (r : Result Whole Wide) (at : CheckAt) (f : Whole → Result B Stop) (e : Stop) →
+      IsPlaceOf s at → ((x : Whole) → f x ≡ Err e → Names e) → (made_at r at >>= f) ≡ Err e → Names e
   made_then (Ok x) at f e is next h = next x h
   made_then (Err d) at f e is next h = let same : TooWide at ≡ e = cc in subst Names same is
 
-  cone_names : (k : ℕ) (p q : Whole) (f : Push) (e : Stop) → k < length s.bearings → written_cone k p q f ≡ Err e → Names e
+  cone_names : (k : ℕ) (p q : Whole) (f : Push) (e : Stop) → k < length s.bearings → written_cone k p q f
+      ≡ Err e → Names e
   unfolding written_cone
   cone_names k p q f e l h =
       demand_then (int_le (pos 0) f.a.value) (reasons.Push k) _ e l
@@ -57,7 +60,8 @@ module _ (s : Surveyed) where
       made_then (made (q.value *ℤ size.value)) (places.Cone k) _ e l (λ least.
       demand_names (int_le least.value most.value) (reasons.Cone k) e l)))) h
 
-  balance_names : (b : ℕ) (block : Block) (scale factor : Whole) (bearings : List Bearing) (parts : List (ℤ × ℤ)) (e : Stop) → b < length (frees_of s.structure.bodies)
+  balance_names : (b : ℕ) (block : Block) (scale factor : Whole) (bearings : List Bearing)
+      (parts : List (ℤ × ℤ)) (e : Stop) → b < length (frees_of s.structure.bodies)
       → written_balance b block scale factor bearings parts ≡ Err e → Names e
   unfolding written_balance
   balance_names b block scale factor bearings parts e l h =
@@ -71,7 +75,8 @@ module _ (s : Surveyed) where
   from_zero : (k n : ℕ) → k < n → 0 + k < n
   from_zero k n l = omega arith
 
-  forces_name : (scale factor : Sign) (c : CertificateValue) (e : Stop) → written_forces scale factor s c ≡ Err e → Names e
+  forces_name : (scale factor : Sign) (c : CertificateValue) (e : Stop) → written_forces scale factor s c
+      ≡ Err e → Names e
   unfolding written_forces
   forces_name scale factor c e h =
       demand_then (nat_eq (length c.parts) (length s.bearings)) reasons.Count _ e tt
@@ -79,15 +84,20 @@ module _ (s : Surveyed) where
       (demand_then (has_sign factor c.factor) reasons.Factor _ e tt last)) h
     where
       last : (steps (cone_at c.parts) 0 tt s.bearings >>= λ held.
-          steps (balance_at s (whole c.scale) (whole c.factor) c.parts) 0 tt (frees_of s.structure.bodies)) ≡ Err e → Names e
+          steps (balance_at s (whole c.scale) (whole c.factor) c.parts) 0 tt (frees_of s.structure.bodies))
+          ≡ Err e → Names e
       last h = go (bind_err (steps (cone_at c.parts) 0 tt s.bearings) _ e h)
         where
           go : (steps (cone_at c.parts) 0 tt s.bearings ≡ Err e)
-              ⊎ Follows (steps (cone_at c.parts) 0 tt s.bearings) (λ held. steps (balance_at s (whole c.scale) (whole c.factor) c.parts) 0 tt (frees_of s.structure.bodies)) e → Names e
+              ⊎ Follows (steps (cone_at c.parts) 0 tt s.bearings)
+              (λ held. steps (balance_at s (whole c.scale) (whole c.factor) c.parts) 0 tt
+              (frees_of s.structure.bodies)) e → Names e
           go (inl q) = let one = one_ends (cone_at c.parts) 0 s.bearings no_bearing e q in
               cone_names (0 + one.k) _ _ _ e (from_zero one.k (length s.bearings) one.within) one.ends
-          go (inr r) = let one = one_ends (balance_at s (whole c.scale) (whole c.factor) c.parts) 0 (frees_of s.structure.bodies) 0 e r.after in
-              balance_names (0 + one.k) _ _ _ _ _ e (from_zero one.k (length (frees_of s.structure.bodies)) one.within) one.ends
+          go (inr r) = let one = one_ends (balance_at s (whole c.scale) (whole c.factor) c.parts) 0
+              (frees_of s.structure.bodies) 0 e r.after in
+              balance_names (0 + one.k) _ _ _ _ _ e (from_zero one.k (length (frees_of s.structure.bodies))
+              one.within) one.ends
 
   answer_names : (r : Result ⊤ Stop) → ((e : Stop) → r ≡ Err e → Names e) → NamesOf s (answer_of First r)
   answer_names (Ok done) h = tt

@@ -23,16 +23,19 @@ use Rattle.stack_checker.proofs.InOrder.{bind_ok}
 pub made_is : (z : ℤ) (x : Whole) → made z ≡ Ok x → x.value ≡ z
 made_is z x h = go (fits z) h
   where
-    go : (b : Bool) → (let r : Result Whole Wide = if b then Ok (whole z) else Err (record {}) in r) ≡ Ok x → x.value ≡ z
+    go : (b : Bool) → (let r : Result Whole Wide = if b then Ok (whole z) else Err (record {}) in r) ≡ Ok x →
+        x.value ≡ z
     go true h = cc
     go false h = absurd (cc)
 
 -- two numbers and what is made of both
-both_is : (op : ℤ → ℤ → ℤ) (u v : ℤ) (r : Whole) → (made u >>= λ x. made v >>= λ y. made (op x.value y.value)) ≡ Ok r → r.value ≡ op u v
+both_is : (op : ℤ → ℤ → ℤ) (u v : ℤ) (r : Whole) → (made u >>= λ x. made v >>= λ y. made (op x.value y.value))
+    ≡ Ok r → r.value ≡ op u v
 both_is op u v r h =
     let p = bind_ok (made u) (λ x. made v >>= λ y. made (op x.value y.value)) r h in
     let q = bind_ok (made v) (λ y. made (op p.value.value y.value)) r p.after in
-    made_is (op p.value.value q.value.value) r q.after ∙ (λ i. op (made_is u p.value p.before i) (made_is v q.value q.before i))
+    made_is (op p.value.value q.value.value) r q.after
+    ∙ (λ i. op (made_is u p.value p.before i) (made_is v q.value q.before i))
 
 -- the force of a push on the second body, along x and along y
 abbrev pub push_x : Joint → Push → ℤ
@@ -57,19 +60,24 @@ force_y_is z f r h = both_is ◌+ℤ◌ (f.a.value *ℤ z.tx.value) (f.b.value *
 moment_is : (z : Joint) (f : Push) (r : Whole) → written_moment z f ≡ Ok r → r.value ≡ force_along M z f
 unfolding written_moment
 moment_is z f r h =
-    let p = bind_ok (written_force_x z f) (λ x. written_force_y z f >>= λ y. made (z.lx.value *ℤ y.value) >>= λ turned. made (z.ly.value *ℤ x.value) >>= λ back. made (turned.value -ℤ back.value)) r h in
-    let q = bind_ok (written_force_y z f) (λ y. made (z.lx.value *ℤ y.value) >>= λ turned. made (z.ly.value *ℤ p.value.value) >>= λ back. made (turned.value -ℤ back.value)) r p.after in
+    let p = bind_ok (written_force_x z f) (λ x. written_force_y z f >>= λ y. made (z.lx.value *ℤ y.value) >>=
+    λ turned. made (z.ly.value *ℤ x.value) >>= λ back. made (turned.value -ℤ back.value)) r h in
+    let q = bind_ok (written_force_y z f) (λ y. made (z.lx.value *ℤ y.value) >>=
+    λ turned. made (z.ly.value *ℤ p.value.value) >>= λ back. made (turned.value -ℤ back.value)) r p.after in
     both_is ◌-ℤ◌ (z.lx.value *ℤ q.value.value) (z.ly.value *ℤ p.value.value) r q.after
     ∙ (λ i. z.lx.value *ℤ force_y_is z f q.value q.before i -ℤ z.ly.value *ℤ force_x_is z f p.value p.before i)
 
-force_is : (axis : Axis) (z : Joint) (f : Push) (r : Whole) → written_force axis z f ≡ Ok r → r.value ≡ force_along axis z f
+force_is : (axis : Axis) (z : Joint) (f : Push) (r : Whole) → written_force axis z f ≡ Ok r → r.value
+    ≡ force_along axis z f
 force_is X z f r h = force_x_is z f r h
 force_is Y z f r h = force_y_is z f r h
 force_is M z f r h = moment_is z f r h
 
 -- a force is added, subtracted or left out
-added : (force : Result Whole Wide) (e : ℤ) (a r : Whole) (s t : Bool) → ((w : Whole) → force ≡ Ok w → w.value ≡ e)
-    → (let all : Result Whole Wide = if s then (force >>= λ w. made (a.value +ℤ w.value)) else (if t then (force >>= λ w. made (a.value -ℤ w.value)) else Ok a) in all) ≡ Ok r
+added : (force : Result Whole Wide) (e : ℤ) (a r : Whole) (s t : Bool) →
+    ((w : Whole) → force ≡ Ok w → w.value ≡ e)
+    → (let all : Result Whole Wide = if s then (force >>= λ w. made (a.value +ℤ w.value)) else
+    (if t then (force >>= λ w. made (a.value -ℤ w.value)) else Ok a) in all) ≡ Ok r
     → r.value ≡ a.value +ℤ cond s (pos 1) (cond t (negsuc 0) (pos 0)) *ℤ e
 added force e a r true t is h =
     let p = bind_ok force (λ w. made (a.value +ℤ w.value)) r h in
@@ -89,13 +97,18 @@ added force e a r false false is h = same a.value r.value e (cc)
     same a r e h = simp expand (omega (arith, sums))
 
 -- a bearing adds its force with the sign of its side
-added_is : (axis : Axis) (block : Block) (f : Push) (a : Whole) (z : Bearing) (r : Whole) → with_bearing axis block f a z ≡ Ok r
-    → r.value ≡ a.value +ℤ side_of block.body (scene_bearing_of z) *ℤ force_along axis (joint_at block.corner z) f
+added_is : (axis : Axis) (block : Block) (f : Push) (a : Whole) (z : Bearing) (r : Whole) →
+    with_bearing axis block f a z ≡ Ok r
+    → r.value ≡ a.value +ℤ side_of block.body (scene_bearing_of z) *ℤ force_along axis (joint_at block.corner z)
+    f
 unfolding with_bearing
-added_is axis block f a z r h = added (written_force axis (joint_at block.corner z) f) (force_along axis (joint_at block.corner z) f) a r (nat_eq block.body z.second) (nat_eq block.body z.first) (force_is axis (joint_at block.corner z) f) h
+added_is axis block f a z r h = added (written_force axis (joint_at block.corner z) f)
+    (force_along axis (joint_at block.corner z) f) a r (nat_eq block.body z.second) (nat_eq block.body z.first)
+    (force_is axis (joint_at block.corner z) f) h
 
 -- a sum that is made one item after the other
-steps_sum : {X : Type 0} (f : ℕ → Whole → X → Result Whole Wide) (g : ℕ → X → ℤ) (i : ℕ) (a : Whole) (xs : List X) (d : X) (r : Whole)
+steps_sum : {X : Type 0} (f : ℕ → Whole → X → Result Whole Wide) (g : ℕ → X →
+    ℤ) (i : ℕ) (a : Whole) (xs : List X) (d : X) (r : Whole)
     → ((k : ℕ) (a : Whole) (x : X) (r : Whole) → f k a x ≡ Ok r → r.value ≡ a.value +ℤ g k x)
     → steps f i a xs ≡ Ok r → r.value ≡ a.value +ℤ sum_to (length xs) (λ k. g (i + k) (get_or xs k d))
 steps_sum f g i a [] d r adds h = ended a.value r.value (cc)
@@ -105,8 +118,10 @@ steps_sum f g i a [] d r adds h = ended a.value r.value (cc)
 steps_sum f g i a (x ∷ xs) d r adds h =
     let p = bind_ok (f i a x) (λ b. steps f (i + 1) b xs) r h in
     steps_sum f g (i + 1) p.value xs d r adds p.after
-    ∙ (λ j. adds i a x p.value p.before j +ℤ sum_same integers (length xs) (λ k. g (i + 1 + k) (get_or xs k d)) (λ k. g (i + suc k) (get_or xs k d)) (λ k l. ap (λ n. g n (get_or xs k d)) (shifted i k)) j)
-    ∙ gathered a.value (g i x) (g (i + 0) x) (sum_to (length xs) (λ k. g (i + suc k) (get_or xs k d))) (ap (λ n. g n x) (omega arith))
+    ∙ (λ j. adds i a x p.value p.before j +ℤ sum_same integers (length xs) (λ k. g (i + 1 + k) (get_or xs k d))
+    (λ k. g (i + suc k) (get_or xs k d)) (λ k l. ap (λ n. g n (get_or xs k d)) (shifted i k)) j)
+    ∙ gathered a.value (g i x) (g (i + 0) x) (sum_to (length xs) (λ k. g (i + suc k) (get_or xs k d)))
+    (ap (λ n. g n x) (omega arith))
     ∙ ap (λ t. a.value +ℤ t) (sym (sum-first integers (length xs) (λ k. g (i + k) (get_or (x ∷ xs) k d))))
   where
     shifted : (i k : ℕ) → i + 1 + k ≡ i + suc k
@@ -122,13 +137,18 @@ borne_along axis block bearings parts = sum_to (length bearings) (λ k.
     *ℤ force_along axis (joint_at block.corner (get_or bearings k no_bearing)) (push_at parts k))
 
 -- with two loads, each of which is made before it is added
-with_loads : (borne : Result Whole Wide) (total dead live : ℤ) (r : Whole) → ((x : Whole) → borne ≡ Ok x → x.value ≡ total)
-    → (borne >>= λ b. made dead >>= λ w. made (b.value +ℤ w.value) >>= λ s. made live >>= λ d. made (s.value +ℤ d.value)) ≡ Ok r
+with_loads : (borne : Result Whole Wide) (total dead live : ℤ) (r : Whole) →
+    ((x : Whole) → borne ≡ Ok x → x.value ≡ total)
+    → (borne >>= λ b. made dead >>= λ w. made (b.value +ℤ w.value) >>= λ s. made live >>=
+    λ d. made (s.value +ℤ d.value)) ≡ Ok r
     → r.value ≡ total +ℤ dead +ℤ live
 with_loads borne total dead live r is h =
-    let p = bind_ok borne (λ b. made dead >>= λ w. made (b.value +ℤ w.value) >>= λ s. made live >>= λ d. made (s.value +ℤ d.value)) r h in
-    let q = bind_ok (made dead) (λ w. made (p.value.value +ℤ w.value) >>= λ s. made live >>= λ d. made (s.value +ℤ d.value)) r p.after in
-    let t = bind_ok (made (p.value.value +ℤ q.value.value)) (λ s. made live >>= λ d. made (s.value +ℤ d.value)) r q.after in
+    let p = bind_ok borne (λ b. made dead >>= λ w. made (b.value +ℤ w.value) >>= λ s. made live >>=
+    λ d. made (s.value +ℤ d.value)) r h in
+    let q = bind_ok (made dead) (λ w. made (p.value.value +ℤ w.value) >>= λ s. made live >>=
+    λ d. made (s.value +ℤ d.value)) r p.after in
+    let t = bind_ok (made (p.value.value +ℤ q.value.value)) (λ s. made live >>= λ d. made (s.value +ℤ d.value))
+    r q.after in
     let u = bind_ok (made live) (λ d. made (t.value.value +ℤ d.value)) r t.after in
     made_is (t.value.value +ℤ u.value.value) r u.after
     ∙ (λ i. made_is (p.value.value +ℤ q.value.value) t.value t.before i +ℤ made_is live u.value u.before i)
@@ -140,10 +160,12 @@ borne_is : (axis : Axis) (block : Block) (bearings : List Bearing) (parts : List
     → r.value ≡ borne_along axis block bearings parts
 borne_is axis block bearings parts r h =
     steps_sum (bearing_at axis block parts)
-    (λ k z. side_of block.body (scene_bearing_of z) *ℤ force_along axis (joint_at block.corner z) (push_at parts k))
+    (λ k z. side_of block.body (scene_bearing_of z) *ℤ force_along axis (joint_at block.corner z)
+    (push_at parts k))
     0 (whole (pos 0)) bearings no_bearing r (λ k a z r e. added_is axis block (push_at parts k) a z r e) h
     ∙ from_nothing (sum_to (length bearings) (λ k. term k (0 + k)))
-    ∙ sum_same integers (length bearings) (λ k. term k (0 + k)) (λ k. term k k) (λ k l. ap (term k) (from_zero k))
+    ∙ sum_same integers (length bearings) (λ k. term k (0 + k)) (λ k. term k k)
+    (λ k l. ap (term k) (from_zero k))
   where
     term : ℕ → ℕ → ℤ
     term k n = side_of block.body (scene_bearing_of (get_or bearings k no_bearing))
@@ -155,7 +177,8 @@ borne_is axis block bearings parts r h =
     from_zero : (k : ℕ) → 0 + k ≡ k
     from_zero k = omega arith
 
-pub sum_is : (axis : Axis) (block : Block) (scale factor : Whole) (bearings : List Bearing) (parts : List (ℤ × ℤ)) (r : Whole)
+pub sum_is : (axis : Axis) (block : Block) (scale factor : Whole) (bearings : List Bearing)
+    (parts : List (ℤ × ℤ)) (r : Whole)
     → written_sum axis block scale factor bearings parts ≡ Ok r
     → r.value ≡ borne_along axis block bearings parts +ℤ scale.value *ℤ (load_along axis block.dead).value
     +ℤ factor.value *ℤ (load_along axis block.live).value

@@ -52,7 +52,12 @@ rejected_stops (Err (TooWide at)) part reason h = absurd (cc)
 pub accepted_is_true : AcceptedIsTrue
 accepted_is_true s c h =
     let p = forces_pass s c Positive Zero tt (accepted_passes (written_forces Positive Zero s c) h) in
-    record { scale_positive = lt_of_true (pos 0) c.scale p.scaled; factor_zero = zero_of_true c.factor p.driven; forces = p.forces }
+    record {
+      scale_positive = lt_of_true (pos 0) c.scale p.scaled;
+      factor_zero =
+          zero_of_true c.factor p.driven;
+      forces = p.forces;
+    }
 
 pub rejected_is_false : RejectedIsFalse
 rejected_is_false s c part reason h true_one =
@@ -63,7 +68,8 @@ pub true_is_accepted : TrueIsAccepted
 true_is_accepted s c h = go (written_check s c) refl
   where
     go : (a : Check) → written_check s c ≡ a →
-        (written_check s c ≡ answers.Accepted) ⊎ ((place : CheckPlace) × (written_check s c ≡ answers.TooWide place))
+        (written_check s c ≡ answers.Accepted)
+        ⊎ ((place : CheckPlace) × (written_check s c ≡ answers.TooWide place))
     go answers.Accepted e = inl e
     go (answers.Rejected part reason) e = absurd (rejected_is_false s c part reason e h)
     go (answers.TooWide place) e = inr (place, e)

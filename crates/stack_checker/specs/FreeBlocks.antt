@@ -1,4 +1,5 @@
--- The free blocks of a structure: the bodies that aren't fixed, in order. Blocks are counted among them, from 0.
+-- The free blocks of a structure: the bodies that aren't fixed, in order. Blocks are counted among them, from
+-- 0.
 use Rattle.std.specs.Prelude.{ℕ, ◌+◌, List, [], ◌∷◌, get_or, if◌then◌else◌}
 use Rattle.stack_model.specs.Structure.{NamedBody}
 
@@ -7,6 +8,7 @@ abbrev pub frees_from : ℕ → List NamedBody → List ℕ
 frees_from i [] = []
 frees_from i (b ∷ bs) = if b.fixed then frees_from (i + 1) bs else i ∷ frees_from (i + 1) bs
 
+-- those of all bodies
 abbrev pub frees_of : List NamedBody → List ℕ
 frees_of bodies = frees_from 0 bodies
 

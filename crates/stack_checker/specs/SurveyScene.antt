@@ -1,4 +1,5 @@
--- The scene of a survey: its bodies with their weights, and its bearings. Used to say which certificates are true.
+-- The scene of a survey: its bodies with their weights, and its bearings. A model lists no loads of its own yet, so
+-- the weight is all that acts on a body. Used to say which certificates are true.
 use Rattle.std.specs.Prelude.{ℤ, pos, not, length, get_or}
 use Rattle.stack_polygon.specs.Corners.{origin, corner_of}
 use Rattle.stack_model.specs.Structure.{NamedBody, Structure, material_of, body_of}
@@ -35,6 +36,7 @@ scene_body_of m b = record {
   live = no_load;
 }
 
+-- a bearing has its point, its tangent and the coefficient of its cone
 abbrev pub scene_bearing_of : Bearing → scene.Bearing
 scene_bearing_of z = record {
   first = z.first;
@@ -47,6 +49,7 @@ scene_bearing_of z = record {
   q = z.cone.q;
 }
 
+-- bodies and bearings keep their numbers
 abbrev pub scene_of : Surveyed → scene.Scene
 scene_of s = record {
   bodies = length s.structure.bodies;

@@ -1,4 +1,4 @@
--- The laws that tie the written check to what is true: an accepted certificate is true and a rejected one isn't.
+-- What the answer of the written check shows. Its laws hold of every survey and certificate, proper or not.
 use Rattle.std.specs.Prelude.{◌≡◌, ◌⊎◌, ◌<◌, length, ⊤}
 use Rattle.stack_checker.specs.declared.types.CheckPlace.{CheckPlace}
 use Rattle.stack_checker.specs.declared.types.Part.{Part}
@@ -14,9 +14,11 @@ use Rattle.stack_checker.specs.FreeBlocks.{frees_of}
 use Rattle.stack_checker.specs.Truth.{IsTrueCertificate}
 use Rattle.stack_checker.specs.WrittenCheck.{written_check}
 
+-- an accepted certificate is true
 abbrev pub AcceptedIsTrue : Type 0
 AcceptedIsTrue = (s : Surveyed) (c : CertificateValue) → written_check s c ≡ Accepted → IsTrueCertificate s c
 
+-- a rejected certificate isn't true
 abbrev pub RejectedIsFalse : Type 0
 RejectedIsFalse = (s : Surveyed) (c : CertificateValue) (part : Part) (reason : Reason) →
     written_check s c ≡ Rejected part reason → ¬ (IsTrueCertificate s c)
@@ -24,14 +26,16 @@ RejectedIsFalse = (s : Surveyed) (c : CertificateValue) (part : Part) (reason : 
 -- a true certificate is accepted, unless a number passes before the last test
 abbrev pub TrueIsAccepted : Type 0
 TrueIsAccepted = (s : Surveyed) (c : CertificateValue) →
-    IsTrueCertificate s c → (written_check s c ≡ Accepted) ⊎ ((place : CheckPlace) × (written_check s c ≡ TooWide place))
+    IsTrueCertificate s c →
+    (written_check s c ≡ Accepted) ⊎ ((place : CheckPlace) × (written_check s c ≡ TooWide place))
 
+-- some test failed
 abbrev pub IsRejected : Check → Type 0
 IsRejected Accepted = ⊥
 IsRejected (Rejected part reason) = ⊤
 IsRejected (TooWide place) = ⊥
 
--- a reason and a place name a bearing or a free block of the survey, both counted from 0
+-- a reason names a bearing or a free block of the survey, both counted from 0
 abbrev pub IsReasonOf : Surveyed → Reason → Type 0
 IsReasonOf s reasons.Count = ⊤
 IsReasonOf s reasons.Scale = ⊤
@@ -40,10 +44,12 @@ IsReasonOf s (reasons.Push k) = k < length s.bearings
 IsReasonOf s (reasons.Cone k) = k < length s.bearings
 IsReasonOf s (reasons.Balance b axis) = b < length (frees_of s.structure.bodies)
 
+-- so does a place
 abbrev pub IsPlaceOf : Surveyed → CheckAt → Type 0
 IsPlaceOf s (places.Cone k) = k < length s.bearings
 IsPlaceOf s (places.Balance b axis) = b < length (frees_of s.structure.bodies)
 
+-- and so does an answer
 abbrev pub NamesOf : Surveyed → Check → Type 0
 NamesOf s Accepted = ⊤
 NamesOf s (Rejected part reason) = IsReasonOf s reason

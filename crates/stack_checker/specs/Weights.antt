@@ -1,4 +1,4 @@
--- The weight of a body as the check makes it.
+-- The weight of a body as the check makes it: from twice its area and six times its first moment.
 use Rattle.std.specs.Prelude.{ℤ, pos, neg_ℤ, ◌*ℤ◌, List}
 use Rattle.stack_algebra.proofs.Order.{◌≼◌}
 use Rattle.stack_polygon.specs.declared.point.Point.{Point}
@@ -12,6 +12,7 @@ pub record IsUnitWeight (w : ℤ) : Type 0 where
   pub least : pos 0 ≼ w
   pub most : w ≼ pos 1000000
 
+-- sums of loads as the check has them
 abbrev pub loads_of : scene.Wrench → Loads
 loads_of w = record { fx = whole w.fx; fy = whole w.fy; m = whole w.m }
 

@@ -1,5 +1,5 @@
--- Whole numbers as the written check makes them: each product and each partial result is refused where its size
--- passes 2^127 - 1.
+-- Whole numbers as the written check makes them: a product or a partial result passes where its size exceeds
+-- 2^127 - 1, and then it is not made. Used by every sum of the written check.
 use Rattle.std.specs.Prelude.{◌^◌, ℤ, pos, nat_abs, int_lt, Bool, nat_lt, Option, Some, None, Result, Ok, Err, if◌then◌else◌}
 use Rattle.std.specs.Ordering.{int_eq}
 use Rattle.stack_checker.specs.declared.whole.Wide.{Wide}
@@ -20,6 +20,7 @@ abbrev pub kept : Option ℤ → Result Whole Wide
 kept None = Err (record {})
 kept (Some z) = made z
 
+-- what a number is tested for
 abbrev pub has_sign : Sign → ℤ → Bool
 has_sign Zero z = int_eq z (pos 0)
 has_sign Positive z = int_lt (pos 0) z

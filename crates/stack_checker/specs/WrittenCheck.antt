@@ -1,5 +1,6 @@
--- The written check of a certificate: its tests and its sums in one order. It ends at the first test that fails or the
--- first number that passes, whichever comes first. What a true certificate is stands in Truth, apart from this.
+-- The written check of a certificate: its tests and its sums in one order. It ends at the first test that fails or
+-- at the first number that passes, whichever comes first. What a true certificate is stands in Truth, apart from
+-- this. Used by the contract of the check and by its laws.
 use Rattle.std.specs.Prelude.{ℕ, nat_eq, ℤ, pos, nat_abs, ◌*ℤ◌, int_le, Bool, true, false, List, length, Result, Ok, Err, ⊤}
 use Rattle.stack_algebra.specs.Steps.{◌>>=◌, steps}
 use Rattle.stack_polygon.specs.Corners.{corner_of}
@@ -40,7 +41,8 @@ abbrev pub made_at : Result Whole Wide → CheckAt → Result Whole Stop
 made_at (Ok x) at = Ok x
 made_at (Err e) at = Err (TooWide at)
 
--- bearing k, whose coefficient is p over q: it pushes; then p*a, the size of b and q times it are made; then the cone
+-- bearing k, whose coefficient is p over q, pushes; then p*a, the size of b and q times that size are made; then
+-- the part is within the cone of friction
 unfoldable pub written_cone : ℕ → Whole → Whole → Push → Result ⊤ Stop
 written_cone k p q f = do
   pushes ← demand (int_le (pos 0) f.a.value) (reasons.Push k)
@@ -49,6 +51,7 @@ written_cone k p q f = do
   least ← made_at (made (q.value *ℤ tangential.value)) (places.Cone k)
   demand (int_le least.value most.value) (reasons.Cone k)
 
+-- the same of a bearing of the survey
 abbrev pub cone_at : List (ℤ × ℤ) → ℕ → ⊤ → Bearing → Result ⊤ Stop
 cone_at parts k done z = written_cone k (whole z.cone.p) (whole z.cone.q) (push_at parts k)
 
@@ -62,6 +65,7 @@ written_balance b block scale factor bearings parts = do
   along_y ← demand (has_sign Zero y.value) (reasons.Balance b Y)
   demand (has_sign Zero m.value) (reasons.Balance b M)
 
+-- a body with its number, as a block
 abbrev pub block_from : Structure → ℕ → NamedBody → Block
 block_from m i b = record {
   body = i;
@@ -70,14 +74,17 @@ block_from m i b = record {
   live = loads_of no_load;
 }
 
--- body i as a block
+-- body i, as a block
 abbrev pub block_of : Structure → ℕ → Block
 block_of m i = block_from m i (body_of m i)
 
+-- free block number b of the survey, which is body i
 abbrev pub balance_at : Surveyed → Whole → Whole → List (ℤ × ℤ) → ℕ → ⊤ → ℕ → Result ⊤ Stop
-balance_at s scale factor parts b done i = written_balance b (block_of s.structure i) scale factor s.bearings parts
+balance_at s scale factor parts b done i =
+    written_balance b (block_of s.structure i) scale factor s.bearings parts
 
--- one list of forces, with what its scale and its factor are tested for
+-- one list of forces, with what its scale and its factor are tested for: the count of its parts, the scale, the
+-- factor, then each bearing, then each free block
 unfoldable pub written_forces : Sign → Sign → Surveyed → CertificateValue → Result ⊤ Stop
 written_forces scale factor s f = do
   counted ← demand (nat_eq (length f.parts) (length s.bearings)) reasons.Count

@@ -1,4 +1,5 @@
--- The sums of a block's balance, each product and each partial result in the written order.
+-- The sums of a block's balance along x, along y and about its first stored corner: each product and each partial
+-- result in the written order, up to the first that passes. Used by the written check.
 use Rattle.std.specs.Prelude.{ℕ, nat_eq, ℤ, pos, ◌+ℤ◌, ◌-ℤ◌, ◌*ℤ◌, List, get_or, Result, Ok, if◌then◌else◌}
 use Rattle.stack_algebra.specs.Steps.{◌>>=◌, steps}
 use Rattle.stack_polygon.specs.declared.point.Point.{Point}
@@ -49,6 +50,7 @@ written_moment z f = do
   back ← made (z.ly.value *ℤ x.value)
   made (turned.value -ℤ back.value)
 
+-- the one that the sum along an axis adds up
 abbrev pub written_force : Axis → Joint → Push → Result Whole Wide
 written_force X z f = written_force_x z f
 written_force Y z f = written_force_y z f
@@ -65,9 +67,11 @@ with_bearing axis block f so_far z =
       made (so_far.value -ℤ force.value))
     else Ok so_far)
 
+-- the same of bearing k, with what a list of pairs gives it to bear
 abbrev pub bearing_at : Axis → Block → List (ℤ × ℤ) → ℕ → Whole → Bearing → Result Whole Wide
 bearing_at axis block parts k so_far z = with_bearing axis block (push_at parts k) so_far z
 
+-- the sum of loads along an axis
 abbrev pub load_along : Axis → Loads → Whole
 load_along X w = w.fx
 load_along Y w = w.fy

@@ -25,7 +25,8 @@ fn sum_at(
     parts: &[(i128, i128)],
 ) -> Result<Whole, Stop>
     requires { length bearings.now ≤ length parts.now }
-    ensures { result ≡ made_at (written_sum axis block scale factor bearings.now parts.now) (places.Balance b axis) }
+    ensures { result ≡ made_at (written_sum axis block scale factor bearings.now parts.now)
+        (places.Balance b axis) }
 {
     let number = sum(axis, block, scale, factor, bearings, parts);
     place(number, CheckAt::Balance { block: b, axis })

@@ -24,7 +24,8 @@ pub struct Joint {
     pub ly: Whole,
 }
 
-/// The sums of loads on a block, in sixths of a unit of force; `m` is about its first stored corner, counter-clockwise.
+/// The sums of loads on a block, in sixths of a unit of force; `m` is about its first stored corner,
+/// counter-clockwise.
 #[derive(Clone, Copy, Debug, PartialEq, Eq)]
 pub struct Loads {
     pub fx: Whole,

@@ -56,7 +56,8 @@ fn check_block(
 ) -> Result<(), Stop>
     requires block { b < length (frees_of (survey_view survey.now).structure.bodies) }
     requires count { length (survey_view survey.now).bearings ≤ length parts.now }
-    ensures { result ≡ balance_at (survey_view survey.now) scale factor parts.now b tt (free_of (survey_view survey.now).structure.bodies b) }
+    ensures { result ≡ balance_at (survey_view survey.now) scale factor parts.now b tt
+        (free_of (survey_view survey.now).structure.bodies b) }
 {
     let block = block_at(survey.model(), survey.free(b));
     check_balance(b, block, scale, factor, survey.bearings(), parts)
@@ -70,7 +71,8 @@ fn check_blocks(
     parts: &[(i128, i128)],
 ) -> Result<(), Stop>
     requires { length (survey_view survey.now).bearings ≤ length parts.now }
-    ensures { result ≡ steps (balance_at (survey_view survey.now) scale factor parts.now) 0 tt (frees_of (survey_view survey.now).structure.bodies) }
+    ensures { result ≡ steps (balance_at (survey_view survey.now) scale factor parts.now) 0 tt
+        (frees_of (survey_view survey.now).structure.bodies) }
 {
     for b in 0..survey.free_count() {
         check_block(survey, b, scale, factor, parts)?;
@@ -87,7 +89,8 @@ fn check_numbers(
     factor: Whole,
     parts: &[(i128, i128)],
 ) -> Result<(), Stop>
-    ensures { result ≡ written_forces signs.scale signs.factor (survey_view survey.now) (record { scale = scale.value; factor = factor.value; parts = parts.now }) }
+    ensures { result ≡ written_forces signs.scale signs.factor (survey_view survey.now)
+        (record { scale = scale.value; factor = factor.value; parts = parts.now }) }
 {
     require(parts.len() == survey.bearings().len(), Reason::Count)?;
     require(scale.is(signs.scale), Reason::Scale)?;
@@ -131,12 +134,15 @@ fn check_form(s: &Survey, c: &Certificate) -> Check
     }
 }
 
-/// Whether a certificate is true of the survey's model: `Accepted` only where it is, `Rejected` only where it isn't, with the
-/// first test that fails. `TooWide` where a product or a partial result passes `2^127 - 1` in size before a test fails, with
+/// Whether a certificate is true of the survey's model: `Accepted` only where it is, `Rejected` only where it
+/// isn't, with the
+/// first test that fails. `TooWide` where a product or a partial result passes `2^127 - 1` in size before a
+/// test fails, with
 /// the first such place. Bearings and free blocks are counted from 0. Takes no memory. After Livesley (1978).
 pub fn check(s: &Survey, c: &Certificate) -> Check
     ensures written { result ≡ written_check (survey_view s.now) (certificate_view c.now) }
-    ensures accepted { result ≡ Check.Accepted → IsTrueCertificate (survey_view s.now) (certificate_view c.now) }
+    ensures accepted { result ≡ Check.Accepted →
+        IsTrueCertificate (survey_view s.now) (certificate_view c.now) }
     ensures rejected { IsRejected result → ¬ (IsTrueCertificate (survey_view s.now) (certificate_view c.now)) }
     ensures names { NamesOf (survey_view s.now) result }
 {

@@ -13,6 +13,7 @@ mod friction;
 mod laws;
 mod line;
 mod number;
+mod overlaps;
 mod pair;
 mod reading;
 mod rectangle;
@@ -27,6 +28,7 @@ mod whole;
 
 pub use checking::check;
 pub use laws::{one_certificate, one_reading, one_text, spelled_by_digits};
+pub use overlaps::{common_points, overlapping_bodies, rectangle_points};
 use pair::{corner_touches, joint_bearings, joint_friction, meet_bodies};
 pub use reading::read_certificate;
 use rectangle::Meeting;

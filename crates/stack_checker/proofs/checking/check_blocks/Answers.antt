@@ -10,16 +10,22 @@ pub returns-in_err-check_block : goal.returns-in_err-check_block
 returns-in_err-check_block c =
     let p = err_from_is_err_and c.from_residual.result c.from_residual.ensures.1 in
     let s = survey_view c.args.survey.now in
-    rw (p.1, p.2) (step_out (balance_at s c.args.scale c.args.factor c.args.parts.now) (frees_of s.structure.bodies) c.loop-b.b tt 0 c.in_err-check_block.field-0.0 _ (omega (arith, c.loop-b.invariant.ends)) (sym c.check_block.ensures ∙ c.in_err-check_block.was) c.loop-b.invariant.so_far)
+    rw (p.1, p.2) (step_out (balance_at s c.args.scale c.args.factor c.args.parts.now)
+    (frees_of s.structure.bodies) c.loop-b.b tt 0 c.in_err-check_block.field-0.0 _
+    (omega (arith, c.loop-b.invariant.ends)) (sym c.check_block.ensures ∙ c.in_err-check_block.was)
+    c.loop-b.invariant.so_far)
 
 pub loop-b-preserved : goal.loop-b-preserved
 loop-b-preserved c =
     let s = survey_view c.args.survey.now in record {
       ends = c.loop-b.invariant.ends;
-      so_far = step_on (balance_at s c.args.scale c.args.factor c.args.parts.now) (frees_of s.structure.bodies) c.loop-b.b tt tt 0 _ (omega (arith, c.loop-b.invariant.ends)) (sym c.check_block.ensures ∙ c.in_ok-check_block.was) c.loop-b.invariant.so_far;
+      so_far = step_on (balance_at s c.args.scale c.args.factor c.args.parts.now) (frees_of s.structure.bodies)
+          c.loop-b.b tt tt 0 _ (omega (arith, c.loop-b.invariant.ends)) (sym c.check_block.ensures
+          ∙ c.in_ok-check_block.was) c.loop-b.invariant.so_far;
     }
 
 pub returns : goal.returns
 returns c =
     let s = survey_view c.args.survey.now in
-    steps_done (balance_at s c.args.scale c.args.factor c.args.parts.now) (frees_of s.structure.bodies) c.loop-b.b tt _ (omega (arith, c.loop-b.invariant.ends)) c.loop-b.invariant.so_far
+    steps_done (balance_at s c.args.scale c.args.factor c.args.parts.now) (frees_of s.structure.bodies)
+    c.loop-b.b tt _ (omega (arith, c.loop-b.invariant.ends)) c.loop-b.invariant.so_far
