@@ -1,20 +1,20 @@
 -- From bytes to a table, and what reading a table gives.
-use Rattle.std.proofs.Common.{◌≡◌, ℕ, Bool, true, false, List, Option, Some, None, Result, Ok, Err, IfOk, refl, sym, ap, ◌∙◌, subst}
+use Rattle.std.proofs.Common.{◌≡◌, ℕ, Bool, true, false, List, Some, None, Result, Ok, Err, IfOk, refl, sym, ap, subst}
 use Rattle.std.specs.Str.{IsUtf8, is_utf8}
 use Rattle.std.proofs.lemmas.Str.{IsUtf8-from_is_utf8, is_utf8-from_IsUtf8}
 use Rattle.toml.specs.Data.{Members}
 use Rattle.toml.specs.Parse.{parse_document}
 use Rattle.stack_algebra.specs.Steps.{◌>>=◌}
 use Rattle.stack_model.specs.declared.faults.Fault.{Fault}
-use Rattle.stack_model.specs.declared.faults.Fault.TheVariants.{NotToml, Memory}
+use Rattle.stack_model.specs.declared.faults.Fault.TheVariants.{NotToml}
 use Rattle.stack_model.specs.declared.drawing.Drawing.{Drawing}
-use Rattle.stack_model.specs.Gives.{Fails, Gives}
+use Rattle.stack_model.specs.Gives.{Gives}
 use Rattle.stack_model.specs.Drawn.{drawing_view}
 use Rattle.stack_model.specs.Laid.{IsLaid}
 use Rattle.stack_model.specs.Shape.{shape_of}
-use Rattle.stack_model.specs.Content.{Outlines, content_of}
+use Rattle.stack_model.specs.Content.{content_of}
 use Rattle.stack_model.specs.AsWritten.{as_written}
-use Rattle.stack_model.specs.Reading.{parsed, table_of, model_of, bytes_model_of}
+use Rattle.stack_model.specs.Reading.{table_of, model_of, bytes_model_of}
 use Rattle.stack_model.proofs.Sound.{went, laid}
 
 table_read : (bytes : List ℕ) (ms : Members) → IsUtf8 bytes × (parse_document bytes ≡ Some ms) → table_of bytes ≡ Ok ms

@@ -1,14 +1,13 @@
 -- The model of a pair: every body is placed, there are two of them, and no load.
-use Rattle.std.proofs.Common.{◌≡◌, ℕ, zero, suc, ◌+◌, ◌<◌, Bool, true, false, ◌&&◌, List, [], ◌∷◌, length, get_or, Option, Some, None, Result, Ok, Err, refl, sym, ap, ◌∙◌, subst, arith}
+use Rattle.std.proofs.Common.{◌≡◌, ℕ, zero, suc, ◌+◌, ◌<◌, Bool, true, false, ◌&&◌, List, [], ◌∷◌, length, Option, Some, None, Result, Ok, Err, refl, ap, ◌∙◌, subst, arith}
 use Rattle.std.specs.List.{All}
 use Rattle.stack_algebra.specs.Steps.{◌>>=◌}
 use Rattle.stack_polygon.specs.declared.point.Point.{Point}
-use Rattle.stack_polygon.specs.Limits.{IsPolygon}
 use Rattle.stack_polygon.specs.Rectangles.{rectangle_of}
 use Rattle.stack_polygon.proofs.Turned.{rectangle_is_polygon}
 use Rattle.stack_model.specs.declared.types.Load.{Load}
 use Rattle.stack_model.specs.declared.errors.ReadError.{ReadError}
-use Rattle.stack_model.specs.Structure.{NamedMaterial, NamedBody, Structure, body_at, body_of, load_of, IsPlaced, IsCarried, IsSound}
+use Rattle.stack_model.specs.Structure.{NamedBody, Structure, body_at, IsPlaced, IsSound}
 use Rattle.stack_model.specs.Laid.{IsLaid}
 use Rattle.stack_model.specs.Pairs.{is_one, is_fixed_then_free, is_none, is_pair, with_outline, outlined, all_outlined}
 

@@ -1,9 +1,9 @@
 -- What was checked holds of the structure: its materials are within the limits, and each body is of one of them.
-use Rattle.std.proofs.Common.{◌≡◌, ℕ, zero, suc, ◌+◌, ◌<◌, ◌≤◌, ℤ, pos, negsuc, Bool, true, false, cond, ◌&&◌, List, [], ◌∷◌, ◌++◌, length, map, get_or, position, Option, Some, None, Result, Ok, Err, refl, sym, ap, ◌∙◌, subst, arith, length-append, nat_lt}
+use Rattle.std.proofs.Common.{◌≡◌, ℕ, zero, suc, ◌+◌, ◌<◌, ℤ, pos, Bool, true, false, ◌&&◌, List, [], ◌∷◌, ◌++◌, length, get_or, position, Option, Some, None, Result, Ok, Err, refl, sym, ap, ◌∙◌, subst, arith}
 use Rattle.std.proofs.lemmas.List.{length-map}
 use Rattle.std.proofs.lemmas.Int.{ints}
 use Rattle.std.specs.Bool.{⊤}
-use Rattle.std.specs.List.{All, position_or_len}
+use Rattle.std.specs.List.{All}
 use Rattle.std.proofs.lemmas.List.Elements.{All-append}
 use Rattle.std.specs.Str.{bytes_eq}
 use Rattle.stack_algebra.specs.Steps.{◌>>=◌, steps}
@@ -13,7 +13,7 @@ use Rattle.stack_model.specs.declared.faults.Key.{Key}
 use Rattle.stack_model.specs.declared.types.Load.{Load}
 use Rattle.stack_model.specs.declared.faults.What.TheVariants as whats
 use Rattle.stack_model.specs.declared.faults.Fault.{Fault}
-use Rattle.stack_model.specs.Structure.{NamedMaterial, NamedBody, Structure, material_of, body_of, IsWithinLimits}
+use Rattle.stack_model.specs.Structure.{NamedMaterial, NamedBody, Structure, IsWithinLimits}
 use Rattle.stack_model.specs.Parts.{MaterialPart, BlockPart, Parts}
 use Rattle.stack_model.specs.Limits.{is_name, is_between, friction_of, corners_of}
 use Rattle.stack_model.specs.Content.{Outlines, unless, ranged, found, is_new, number_of, material_names, body_names, has_room, at_most, add_load, with_material, add_material, with_body, add_block, bodies_of, content_of}

@@ -1,7 +1,7 @@
 -- One triangle more of a fan.
-use mathlib.Core.Path.{◌≡◌, refl, sym, ap, ◌∙◌}
+use mathlib.Core.Path.{◌≡◌, sym, ap, ◌∙◌}
 use mathlib.Core.List.{List}
-use Prim.Native.Nat.{ℕ, suc, ◌+◌}
+use Prim.Native.Nat.{ℕ, ◌+◌}
 use lib.IntN.{ℤ, ◌+ℤ◌}
 use Rattle.std.proofs.Common.{add-one}
 use Rattle.stack_algebra.specs.Sums.{sum_to}

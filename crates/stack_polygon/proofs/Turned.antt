@@ -1,13 +1,12 @@
 -- A rectangle's list, turned, is strictly convex: it stands for itself where it is convex, and otherwise for its reversal.
 use mathlib.Core.Path.{◌≡◌, refl, sym, ap, ◌∙◌, subst}
-use mathlib.Core.Logic.{◌≢◌, ◌⊎◌, inl, inr}
-use mathlib.Core.Bool.{Bool, true, false, not, ◌&&◌, ◌||◌, cond}
+use mathlib.Core.Logic.{◌≢◌, inl, inr}
+use mathlib.Core.Bool.{Bool, true, false, not, ◌&&◌}
 use mathlib.Core.List.{List, [], ◌∷◌}
-use Prim.Native.Nat.{ℕ, zero, suc, ◌<◌}
 use native.Mathlib.Omega.{arith}
-use lib.IntN.{ℤ, pos, negsuc, ◌-ℤ◌, ◌*ℤ◌}
+use lib.IntN.{ℤ, pos, ◌-ℤ◌, ◌*ℤ◌}
 use lib.ListN.{length}
-use Rattle.std.specs.Prelude.{Option, Some, None, int_lt, if◌then◌else◌}
+use Rattle.std.specs.Prelude.{Some, None, int_lt, if◌then◌else◌}
 use Rattle.std.specs.Ordering.{int_eq}
 use Rattle.std.proofs.lemmas.Int.{ints}
 use Rattle.std.proofs.lemmas.Bool.Decides.{Decides-int_eq}
@@ -16,10 +15,10 @@ use Rattle.stack_algebra.proofs.Order.{◌≼◌, ◌≺◌}
 use Rattle.stack_polygon.specs.declared.point.Point.{Point}
 use Rattle.stack_polygon.specs.Plane.{triangle_of}
 use Rattle.stack_polygon.specs.Corners.{reversed, IsStrictlyConvex}
-use Rattle.stack_polygon.specs.Rectangles.{is_across, is_upright, is_across_first, is_upright_first, is_rectangle, is_clockwise, turned, rectangle_of, StandsFor}
+use Rattle.stack_polygon.specs.Rectangles.{is_across_first, is_upright_first, is_rectangle, is_clockwise, turned, rectangle_of, StandsFor}
 use Rattle.stack_polygon.specs.Limits.{AreInRange, are_in_range, IsPolygon}
 use Rattle.stack_polygon.proofs.Ranges.{length-reversed, range-reversed, all_in_range}
-use Rattle.stack_polygon.proofs.Convexity.{at, HasEight, convex_by_eight, eight_across, eight_upright, product_positive}
+use Rattle.stack_polygon.proofs.Convexity.{at, convex_by_eight, eight_across, eight_upright, product_positive}
 
 -- what the polygon of a list is
 pub record IsTurnedTo (ps qs : List Point) : Type 0 where

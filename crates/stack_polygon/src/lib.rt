@@ -12,3 +12,6 @@ mod turns;
 
 pub use point::Point;
 pub use polygon::Polygon;
+
+#[cfg(test)]
+mod tests;
