@@ -1,9 +1,8 @@
 -- What the ranges of a rectangle mean for the points of the plane: the points in it, and those strictly inside. Used by the
 -- law on what two rectangles have in common.
-use Rattle.std.specs.Prelude.{ℤ}
+use Rattle.std.specs.Prelude.{ℤ, ◌*ℤ◌}
 use Rattle.stack_algebra.specs.IntegerOrder.{◌≼◌, ◌≺◌}
 use Rattle.stack_polygon.specs.Plane.{Place}
-use Rattle.std.specs.Prelude.{◌*ℤ◌}
 use Rattle.stack_checker.specs.declared.rectangle.Range.{Range}
 use Rattle.stack_checker.specs.declared.rectangle.Extent.{Extent}
 use Rattle.stack_checker.specs.RectangleContacts.{common_of}

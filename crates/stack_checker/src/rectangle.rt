@@ -1,7 +1,8 @@
 //! What two axis-parallel rectangles have in common.
 
-ghost use Rattle.std.specs.Prelude.{◌≡◌, ◌<◌, length, IsTrue, ◌↔◌};
-ghost use Rattle.stack_checker.specs.RectangleContacts.{range_between, common_of, extent_of, level_frame, upright_frame, numbers_in, least, greatest, meeting_in, meeting_of};
+ghost use Rattle.std.specs.Prelude.{◌≡◌, ◌<◌, length};
+ghost use Rattle.stack_checker.specs.RectangleContacts.{range_between, common_of, extent_of, level_frame, upright_frame};
+ghost use Rattle.stack_checker.specs.RectangleContacts.{numbers_in, least, greatest, meeting_in, meeting_of};
 
 use crate::types::Frame;
 use stack_polygon::{Point, Polygon};

@@ -1,5 +1,6 @@
 //! Tests.
 
 mod meetings;
+mod surveys;
 mod texts;
 mod verdicts;
