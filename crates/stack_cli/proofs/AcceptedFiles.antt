@@ -30,8 +30,8 @@ survey_goes : (r : Result Surveyed SurveyError) (s : Surveyed) → survey_step r
 survey_goes (Ok t) s e = ap (λ step. Ok (value_or s step)) e
 survey_goes (Err _) s e = absurd (subst GoesOn (sym e) tt)
 
-model_goes : (bytes : List ℕ) (r : Result Structure ReadError) (s : Surveyed) → length bytes ≤ greatest_file → structure_of bytes ≡ r
-    → (model_step r >>= λ m. survey_step (surveyed_of m)) ≡ goes s → IsAcceptedModel bytes s
+model_goes : (bytes : List ℕ) (r : Result Structure ReadError) (s : Surveyed) → length bytes ≤ greatest_file
+    → structure_of bytes ≡ r → (model_step r >>= λ m. survey_step (surveyed_of m)) ≡ goes s → IsAcceptedModel bytes s
 model_goes bytes (Ok m) s short reads e = record {
   structure = m;
   is_short = short;
@@ -40,10 +40,12 @@ model_goes bytes (Ok m) s short reads e = record {
 }
 model_goes bytes (Err _) s short reads e = absurd (subst GoesOn (sym e) tt)
 
+-- What the work does with the text of a file that isn't too long.
+abbrev read_and_surveyed : List ℕ → Step Surveyed
+read_and_surveyed text = model_step (structure_of text) >>= λ m. survey_step (surveyed_of m)
+
 file_goes : (b : Bool) (bytes : List ℕ) (s : Surveyed) → ltb greatest_file (length bytes) ≡ b
-    → ((if b then refuses (long inputs.Model) else goes bytes) >>= λ text. model_step (structure_of text) >>= λ m. survey_step (surveyed_of m))
-    ≡ goes s
-    → IsAcceptedModel bytes s
+    → ((if b then refuses (long inputs.Model) else goes bytes) >>= read_and_surveyed) ≡ goes s → IsAcceptedModel bytes s
 file_goes true bytes s is e = absurd (subst GoesOn (sym e) tt)
 file_goes false bytes s is e = model_goes bytes (structure_of bytes) s (ltb-false _ _ is) refl e
 

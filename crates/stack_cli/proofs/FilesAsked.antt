@@ -8,13 +8,10 @@ use Rattle.stack_cli.specs.declared.refusal.Refusal.TheVariants.{File, Memory}
 use Rattle.std.specs.Prelude.{if◌then◌else◌}
 use Rattle.stack_cli.specs.Words.{Form, check, files_of}
 use Rattle.stack_cli.specs.Outcome.{goes_on, surveyed, check_wanted, wanted}
-use Rattle.stack_cli.specs.Progress.{GrewBy, AsksFront, AsksFile, AsksFiles, FailsAt, Fails}
+use Rattle.stack_cli.specs.Progress.{Names, GrewBy, AsksFront, AsksFile, AsksFiles, FailsAt, Fails}
 
--- The names as they are told before and after.
-abbrev Names : Type 0
-Names = Option (List (List ℕ))
-
-grew_more : (old mid new : Names) (xs ys : List (List ℕ)) → GrewBy old mid xs → GrewBy mid new ys → GrewBy old new (xs ++ ys)
+grew_more : (old mid new : Names) (xs ys : List (List ℕ)) → GrewBy old mid xs → GrewBy mid new ys
+    → GrewBy old new (xs ++ ys)
 grew_more None mid new xs ys h k = tt
 grew_more (Some a) None new xs ys h k = absurd h
 grew_more (Some a) (Some b) None xs ys h k = k
@@ -43,7 +40,8 @@ first_only (File input) P old new name rest asked fails =
 first_only Memory P old new name rest asked fails = front_of_one asked.0 old new name rest asked.1
 first_only _ P old new name rest asked fails = (1, asked)
 
-pub first_of_two : (r : Refusal) (P : Type 0) (old new : Names) (model certificate : List ℕ) (holds : List ℕ → Option (List ℕ))
+pub first_of_two : (r : Refusal) (P : Type 0) (old new : Names) (model certificate : List ℕ)
+    (holds : List ℕ → Option (List ℕ))
     → AsksFile {X = Survey} (Err r) old new model → FailsAt {X = Survey} inputs.Model (Err r) P
     → AsksFiles {X = Answer} (Err r) old new (check_wanted model certificate holds)
 unfolding check_wanted
@@ -63,8 +61,9 @@ second (Err Memory) P old mid new model certificate before asked fails =
 second (Err _) P old mid new model certificate before asked fails =
     (2, grew_more old mid new (model ∷ []) (certificate ∷ []) before asked)
 
-pub both : (result : Result Answer Refusal) (P : Type 0) (old mid new : Names) (model certificate : List ℕ) (holds : List ℕ → Option (List ℕ))
-    → goes_on (surveyed (holds model)) ≡ true → GrewBy old mid (model ∷ []) → AsksFile result mid new certificate
+pub both : (result : Result Answer Refusal) (P : Type 0) (old mid new : Names) (model certificate : List ℕ)
+    (holds : List ℕ → Option (List ℕ)) → goes_on (surveyed (holds model)) ≡ true
+    → GrewBy old mid (model ∷ []) → AsksFile result mid new certificate
     → FailsAt inputs.Certificate result P → AsksFiles result old new (check_wanted model certificate holds)
 unfolding check_wanted
 both result P old mid new model certificate holds on before asked fails =
@@ -72,7 +71,8 @@ both result P old mid new model certificate holds on before asked fails =
 
 -- The files that are wanted are a front of those that the words name.
 named_of : (on : Bool) (old new : Names) (model certificate : List ℕ)
-    → AsksFront old new (model ∷ (if on then certificate ∷ [] else [])) → AsksFront old new (model ∷ certificate ∷ [])
+    → AsksFront old new (model ∷ (if on then certificate ∷ [] else []))
+    → AsksFront old new (model ∷ certificate ∷ [])
 named_of true old new model certificate h = h
 named_of false old new model certificate h = front_of_one h.0 old new model (certificate ∷ []) h.1
 
@@ -80,4 +80,5 @@ pub named : (form : Option Form) (holds : List ℕ → Option (List ℕ)) (old n
     → AsksFront old new (wanted form holds) → AsksFront old new (files_of form)
 unfolding check_wanted
 named None holds old new h = h
-named (Some (check model certificate)) holds old new h = named_of (goes_on (surveyed (holds model))) old new model certificate h
+named (Some (check model certificate)) holds old new h =
+    named_of (goes_on (surveyed (holds model))) old new model certificate h

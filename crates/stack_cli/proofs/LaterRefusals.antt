@@ -1,4 +1,4 @@
--- A certificate's steps after a model's, as far as either file is told: they refuse as steps after the model may.
+-- A certificate's steps after a model's: they refuse as steps after the model may, and never for the words.
 use Rattle.std.proofs.Common.{◌≡◌, ℕ, List, true, false, Option, Some, None, Result, Ok, Err, length, subst, sym}
 use Rattle.std.specs.Bool.{⊤}
 use Rattle.std.specs.Prelude.{nat_lt, if◌then◌else◌}
@@ -22,9 +22,11 @@ use Rattle.stack_cli.specs.declared.refusal.Input.TheVariants as inputs
 use Rattle.stack_cli.specs.declared.refusal.Refusal.{Refusal as CodeRefusal}
 use Rattle.stack_cli.specs.declared.refusal.Refusal.TheVariants as code
 use Rattle.stack_cli.specs.Refusals.{words, long, refusal_view}
-use Rattle.stack_cli.specs.AnswerText.{Due, IsAnswer}
-use Rattle.stack_cli.specs.Outcome.{Step, goes, refuses, untold, ◌>>=◌, file_step, model_step, survey_step, certificate_step, check_step, checked, surveyed, check_outcome, greatest_file}
-use Rattle.stack_cli.specs.Progress.{Does, Stops}
+use Rattle.stack_cli.specs.AnswerText.{Due}
+use Rattle.stack_cli.specs.Outcome.{Step, goes, refuses, untold, ◌>>=◌, greatest_file}
+use Rattle.stack_cli.specs.Outcome.{file_step, model_step, survey_step, certificate_step, check_step}
+use Rattle.stack_cli.specs.Outcome.{surveyed, checked, check_outcome}
+use Rattle.stack_cli.specs.Progress.{Does, Answers, Stops}
 
 -- The step doesn't refuse for the words.
 abbrev pub IsPastWords : {A : Type 0} → Step A → Type 0
@@ -36,13 +38,15 @@ abbrev IsOfModel : {A : Type 0} → Step A → Type 0
 IsOfModel (untold inputs.Certificate) = ⊥
 IsOfModel _ = ⊤
 
-past_words : {A B : Type 0} (step : Step A) (f : A → Step B) → IsPastWords step → ((x : A) → IsPastWords (f x)) → IsPastWords (step >>= f)
+past_words : {A B : Type 0} (step : Step A) (f : A → Step B) → IsPastWords step → ((x : A) → IsPastWords (f x))
+    → IsPastWords (step >>= f)
 past_words (goes x) f h k = k x
 past_words (refuses words) f h k = absurd h
 past_words (refuses _) f h k = tt
 past_words (untold input) f h k = tt
 
-of_model : {A B : Type 0} (step : Step A) (f : A → Step B) → IsOfModel step → ((x : A) → IsOfModel (f x)) → IsOfModel (step >>= f)
+of_model : {A B : Type 0} (step : Step A) (f : A → Step B) → IsOfModel step → ((x : A) → IsOfModel (f x))
+    → IsOfModel (step >>= f)
 of_model (goes x) f h k = k x
 of_model (refuses r) f h k = tt
 of_model (untold inputs.Model) f h k = tt
@@ -51,12 +55,14 @@ of_model (untold inputs.Certificate) f h k = absurd h
 file_past_words : (input : Input) (held : Option (List ℕ)) → IsPastWords (file_step input held)
 file_past_words input None = tt
 file_past_words input (Some bytes) =
-    elim (nat_lt greatest_file (length bytes)) as (λ b. IsPastWords (if b then refuses (long input) else goes bytes)) [ true ↦ tt | false ↦ tt ]
+    elim (nat_lt greatest_file (length bytes)) as (λ b. IsPastWords (if b then refuses (long input) else goes bytes))
+    [ true ↦ tt | false ↦ tt ]
 
 file_of_model : (held : Option (List ℕ)) → IsOfModel (file_step inputs.Model held)
 file_of_model None = tt
 file_of_model (Some bytes) =
-    elim (nat_lt greatest_file (length bytes)) as (λ b. IsOfModel (if b then refuses (long inputs.Model) else goes bytes)) [ true ↦ tt | false ↦ tt ]
+    elim (nat_lt greatest_file (length bytes)) as (λ b. IsOfModel (if b then refuses (long inputs.Model) else goes bytes))
+    [ true ↦ tt | false ↦ tt ]
 
 certificate_past_words : (c : Option CertificateValue) → IsPastWords (certificate_step c)
 certificate_past_words (Some c) = tt
@@ -112,7 +118,8 @@ pub check_outcome_past_words : (model certificate : List ℕ) (holds : List ℕ 
     → IsPastWords (check_outcome model certificate holds)
 unfolding check_outcome
 check_outcome_past_words model certificate holds =
-    past_words (surveyed (holds model)) _ (surveyed_past_words (holds model)) (λ survey. checked_past_words (holds certificate) survey)
+    past_words (surveyed (holds model)) _ (surveyed_past_words (holds model))
+    (λ survey. checked_past_words (holds certificate) survey)
 
 pub no_words : (step : Step Due) → IsPastWords step → Stops words step → ⊥
 no_words (goes due) h e = subst IsPastWords e tt
@@ -126,25 +133,23 @@ may_follow code.Words step h e = no_words step h e
 may_follow code.Output step h e = e
 may_follow _ step h e = tt
 
-abbrev IsDue : Answer → Due → Type 0
-IsDue a due = IsAnswer due a.verdict a.text.items
-
 after : (result : Result Answer CodeRefusal) (survey : Survey) (step : Step Surveyed) (held : Option (List ℕ))
     → IsOfModel step → Does (λ s view. view ≡ survey_view s) (Ok survey) step
-    → Does IsDue result (checked held (survey_view survey)) → Does IsDue result (step >>= checked held)
-after result survey (goes view) held h same does = subst (λ v. Does IsDue result (checked held v)) (sym same) does
+    → Answers result (checked held (survey_view survey)) → Answers result (step >>= checked held)
+after result survey (goes view) held h same does = subst (λ v. Answers result (checked held v)) (sym same) does
 after result survey (refuses r) held h same does = absurd same
 after (Ok a) survey (untold inputs.Model) held h same does = tt
-after (Err r) survey (untold inputs.Model) held h same does = may_follow r (checked held (survey_view survey)) (checked_past_words held _) does
+after (Err r) survey (untold inputs.Model) held h same does =
+    may_follow r (checked held (survey_view survey)) (checked_past_words held _) does
 after result survey (untold inputs.Certificate) held h same does = absurd h
 
 -- The check of a certificate after the survey of a model is what the order of work says.
 pub check_follows : (result : Result Answer CodeRefusal) (survey : Survey) (model certificate : List ℕ)
     (holds later : List ℕ → Option (List ℕ)) → later ≡ holds
     → Does (λ s view. view ≡ survey_view s) (Ok survey) (surveyed (holds model))
-    → Does IsDue result (checked (later certificate) (survey_view survey))
-    → Does IsDue result (check_outcome model certificate holds)
+    → Answers result (checked (later certificate) (survey_view survey))
+    → Answers result (check_outcome model certificate holds)
 unfolding check_outcome
 check_follows result survey model certificate holds later same first does =
     after result survey (surveyed (holds model)) (holds certificate) (surveyed_of_model (holds model)) first
-    (subst (λ f. Does IsDue result (checked (f certificate) (survey_view survey))) same does)
+    (subst (λ f. Answers result (checked (f certificate) (survey_view survey))) same does)

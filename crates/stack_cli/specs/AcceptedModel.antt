@@ -6,8 +6,8 @@ use Rattle.stack_checker.specs.Surveyed.{Surveyed}
 use Rattle.stack_checker.specs.SurveyOf.{surveyed_of}
 use Rattle.stack_cli.specs.Outcome.{greatest_file}
 
--- A file with these bytes is an accepted model, whose survey is this: it isn't too long, it reads to a structure,
--- and no two bodies of the structure overlap.
+-- A file with these bytes is an accepted model, with this survey: it isn't too long, it reads to a structure, and no
+-- two bodies of the structure overlap.
 pub record IsAcceptedModel (bytes : List ℕ) (survey : Surveyed) : Type 0 where
   pub structure : Structure
   pub is_short : length bytes ≤ greatest_file

@@ -18,7 +18,8 @@ verdict_status Denied = 1
 -- The name of the free block with this number, counted from 0 among the free blocks; empty where there is none.
 abbrev pub block_name : Structure → ℕ → List ℕ
 block_name s block =
-    if nat_lt block (length (frees_of s.bodies)) then (body_of s (slice_index (frees_of s.bodies) block)).name else []
+    let frees = frees_of s.bodies in
+    if nat_lt block (length frees) then (body_of s (slice_index frees block)).name else []
 
 -- Why a certificate is rejected. A bearing is told by its number from 1, a block by its name.
 abbrev pub reason_text : Structure → Reason → List ℕ
@@ -34,7 +35,8 @@ abbrev pub accepted_text : List ℕ
 accepted_text = codes "accepted" ++ 10 ∷ []
 
 abbrev pub rejected_text : Structure → Part → Reason → List ℕ
-rejected_text s part reason = codes "rejected " ++ part_word part ++ codes " " ++ reason_text s reason ++ 10 ∷ []
+rejected_text s part reason =
+    codes "rejected " ++ part_word part ++ codes " " ++ reason_text s reason ++ 10 ∷ []
 
 -- What is due on standard output: these bytes, with this verdict.
 pub data Due : Type 0 where

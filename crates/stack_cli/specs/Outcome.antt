@@ -1,5 +1,5 @@
--- The order of work: the words; the model's file, its text, its survey; the certificate's file, its text, the check.
--- The outcome is the first step that refuses, else the answer.
+-- The order of work: the words; the model's file, its text, its survey; the certificate's file, its text, the
+-- check. The outcome is the first step that refuses, else the answer.
 use Rattle.std.specs.Prelude.{ℕ, List, [], ◌∷◌, length, Bool, true, false, Option, Some, None, Result, Ok, Err, nat_lt, if◌then◌else◌}
 use Rattle.stack_model.specs.Structure.{Structure}
 use Rattle.stack_model.specs.Pairs.{structure_of}
@@ -17,13 +17,15 @@ use Rattle.stack_checker.specs.declared.types.Check.TheVariants.{Accepted, Rejec
 use Rattle.stack_checker.specs.declared.types.CheckAt.{CheckAt}
 use Rattle.stack_checker.specs.declared.types.CheckAt.TheVariants as spots
 use Rattle.stack_cli.specs.Words.{Form, check}
-use Rattle.stack_cli.specs.Refusals.{Place, cone_at, balance_of, Refusal, words, long, model_refused, model_slanted, certificate_refused, wide_check, memory}
+use Rattle.stack_cli.specs.Refusals.{Place, cone_at, balance_of, Refusal, words, long, model_refused, model_slanted}
+use Rattle.stack_cli.specs.Refusals.{certificate_refused, wide_check, memory}
 use Rattle.stack_cli.specs.AnswerText.{Due, exactly, block_name, accepted_text, rejected_text}
 use Rattle.stack_cli.specs.declared.refusal.Input.{Input}
 use Rattle.stack_cli.specs.declared.refusal.Input.TheVariants as inputs
 use Rattle.stack_cli.specs.declared.answer.Verdict.TheVariants.{Affirmed, Denied}
 
--- What a step of the work comes to: it goes on with a value, it refuses, or it reads a file whose bytes aren't told.
+-- What a step of the work comes to: it goes on with a value, it refuses, or it reads a file whose bytes aren't
+-- told.
 pub data Step (A : Type 0) : Type 0 where
   goes : A → Step A
   refuses : Refusal → Step A

@@ -1,7 +1,9 @@
--- What one function of the order of work leaves: what it returned against a step, and the files that it asked for.
+-- What one function of the order of work leaves: what it returned against a step, and the files it asked for.
 use Rattle.std.specs.Prelude.{◌≡◌, ℕ, ◌≤◌, List, [], ◌∷◌, ◌++◌, take, length, Option, Some, None, Result, Ok, Err, ⊤}
 use Rattle.stack_cli.specs.Refusals.{Refusal, refusal_view, words, file, long, model_refused, model_slanted, output, memory}
+use Rattle.stack_cli.specs.AnswerText.{Due, IsAnswer}
 use Rattle.stack_cli.specs.Outcome.{Step, goes, refuses, untold}
+use Rattle.stack_cli.specs.declared.answer.Answer.{Answer}
 use Rattle.stack_cli.specs.declared.refusal.Input.{Input}
 use Rattle.stack_cli.specs.declared.refusal.Input.TheVariants as inputs
 use Rattle.stack_cli.specs.declared.refusal.Refusal.{Refusal as CodeRefusal}
@@ -15,7 +17,7 @@ MayFollow inputs.Certificate model_refused = ⊥
 MayFollow inputs.Certificate (model_slanted block) = ⊥
 MayFollow input r = ⊤
 
--- A refusal stops the work where the step refuses so. Want of memory and a device's failure say nothing of the step.
+-- A refusal stops the work where the step refuses so. Want of memory and a device's failure say nothing of it.
 abbrev pub Stops : {Y : Type 0} → Refusal → Step Y → Type 0
 Stops output step = ⊥
 Stops memory step = ⊤
@@ -23,21 +25,29 @@ Stops (file input) step = ⊤
 Stops r (untold input) = MayFollow input r
 Stops r step = step ≡ refuses r
 
--- What a function returned is what the step says.
+-- What a function returned is what the step says: a value in this relation to the step's, or its refusal.
 abbrev pub Does : {X Y : Type 0} → (X → Y → Type 0) → Result X CodeRefusal → Step Y → Type 0
 Does R (Err r) step = Stops (refusal_view r) step
 Does R (Ok x) (untold input) = ⊤
 Does R (Ok x) (goes y) = R x y
 Does R (Ok x) (refuses r) = ⊥
 
+-- The same of an answer.
+abbrev pub Answers : Result Answer CodeRefusal → Step Due → Type 0
+Answers result step = Does (λ a due. IsAnswer due a.verdict a.text.items) result step
+
+-- The names of the files that were asked for, where a shelf tells them.
+abbrev pub Names : Type 0
+Names = Option (List (List ℕ))
+
 -- Names that are told stay told, and grow by these.
-abbrev pub GrewBy : Option (List (List ℕ)) → Option (List (List ℕ)) → List (List ℕ) → Type 0
+abbrev pub GrewBy : Names → Names → List (List ℕ) → Type 0
 GrewBy None new names = ⊤
 GrewBy (Some old) None names = ⊥
 GrewBy (Some old) (Some new) names = new ≡ old ++ names
 
 -- A front of these names was asked for.
-abbrev pub AsksFront : Option (List (List ℕ)) → Option (List (List ℕ)) → List (List ℕ) → Type 0
+abbrev pub AsksFront : Names → Names → List (List ℕ) → Type 0
 AsksFront old new names = (k : ℕ) × GrewBy old new (take k names)
 
 -- How many files were asked for where a device failed at one.
@@ -46,16 +56,17 @@ files_asked inputs.Model = 1
 files_asked inputs.Certificate = 2
 
 -- This file is among those that are wanted, and was the last that was asked for.
-abbrev pub AsksUpTo : Input → Option (List (List ℕ)) → Option (List (List ℕ)) → List (List ℕ) → Type 0
-AsksUpTo input old new names = (files_asked input ≤ length names) × GrewBy old new (take (files_asked input) names)
+abbrev pub AsksUpTo : Input → Names → Names → List (List ℕ) → Type 0
+AsksUpTo input old new names =
+    (files_asked input ≤ length names) × GrewBy old new (take (files_asked input) names)
 
 -- The file was asked for, or memory was wanting.
-abbrev pub AsksFile : {X : Type 0} → Result X CodeRefusal → Option (List (List ℕ)) → Option (List (List ℕ)) → List ℕ → Type 0
+abbrev pub AsksFile : {X : Type 0} → Result X CodeRefusal → Names → Names → List ℕ → Type 0
 AsksFile (Err Memory) old new name = AsksFront old new (name ∷ [])
 AsksFile _ old new name = GrewBy old new (name ∷ [])
 
 -- A front of these names was asked for; where a device failed, up to the file of the refusal.
-abbrev pub AsksFiles : {X : Type 0} → Result X CodeRefusal → Option (List (List ℕ)) → Option (List (List ℕ)) → List (List ℕ) → Type 0
+abbrev pub AsksFiles : {X : Type 0} → Result X CodeRefusal → Names → Names → List (List ℕ) → Type 0
 AsksFiles (Err (File input)) old new names = AsksUpTo input old new names
 AsksFiles _ old new names = AsksFront old new names
 

@@ -11,8 +11,8 @@ use Rattle.stack_cli.specs.declared.refusal.Place.TheVariants as code_places
 use Rattle.stack_cli.specs.declared.refusal.Refusal.{Refusal as CodeRefusal}
 use Rattle.stack_cli.specs.declared.refusal.Refusal.TheVariants as code
 
--- Where a check meets a sum that is too wide: at a bearing's cone, by its number from 0, or at one of the three
--- sums of a block, by its name.
+-- Where a check meets a sum that is too wide: at a bearing's cone, by its number from 0, or at one of the three sums
+-- of a block, by its name.
 pub data Place : Type 0 where
   cone_at : ℕ → Place
   balance_of : List ℕ → Axis → Place

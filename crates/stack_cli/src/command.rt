@@ -1,23 +1,25 @@
 //! The top call.
 
-ghost use Rattle.std.specs.Prelude.{◌≡◌, ◌<◌, ◌≤◌, ◌⊎◌, [], ◌∷◌, ◌++◌, None};
+ghost use Rattle.std.specs.Prelude.{◌≡◌, ◌<◌, ◌≤◌, ◌⊎◌};
 ghost use Rattle.std.specs.Io.KnownBytes.{Appends};
 ghost use Rattle.stack_outside.specs.Faults.{Rose};
 ghost use Rattle.stack_cli.specs.Refusals.{line_of, refusal_view};
-ghost use Rattle.stack_cli.specs.Words.{form_of, files_of, texts};
+ghost use Rattle.stack_cli.specs.Words.{form_of, texts};
 ghost use Rattle.stack_cli.specs.Outcome.{outcome, wanted};
 ghost use Rattle.stack_cli.specs.Progress.{AsksFront};
-ghost use Rattle.stack_cli.specs.MainTheorem.{Answered, Refused, IsDecided};
+ghost use Rattle.stack_cli.specs.MainTheorem.{Answered, Refused, RunMeets, with_line_feed};
 
 use crate::refusal::Refusal;
 use crate::work::answer_words;
 use stack_outside::{Shelf, Sink, SinkFailed};
 use std::alloc::Global;
 
-/// Puts the refusal's line on `err`, in one put, and gives the refusal: where memory for the line is wanting, that.
+/// Puts the refusal's line on `err`, in one put, and gives the refusal: where memory for the line is wanting, that
+/// refusal.
 fn say<E: Sink>(alloc: Global, refusal: Refusal, err: &mut E) -> Refusal
     ensures which { (result ≡ refusal) ⊎ (result ≡ Refusal.Memory) }
-    ensures line { ¬ Rose (E.faults err.old) (E.faults err.new) → Appends (E.written err.old) (E.written err.new) (line_of (refusal_view result) ++ 10 ∷ []) }
+    ensures line { ¬ Rose (E.faults err.old) (E.faults err.new) →
+        Appends (E.written err.old) (E.written err.new) (with_line_feed (line_of (refusal_view result))) }
 {
     match format!(in alloc; "{refusal}\n") {
         Ok(line) => {
@@ -74,29 +76,10 @@ pub fn run<F: Shelf, O: Sink, E: Sink>(
     out: &mut O,
     err: &mut E,
 ) -> u8
-    // A status below 2 is an answer, written whole.
-    ensures answered { result < 2 → Answered result (outcome (form_of (texts words.now)) (F.holds shelf.old))
-        (O.written out.old) (O.written out.new) (E.written err.old) (E.written err.new) }
-    // Any other has its cause and its line, and leaves the output as it was unless that failed.
-    ensures refused { 2 ≤ result → Refused result (outcome (form_of (texts words.now)) (F.holds shelf.old))
-        (wanted (form_of (texts words.now)) (F.holds shelf.old)) (F.asked shelf.old) (F.asked shelf.new)
+    ensures { RunMeets result (form_of (texts words.now)) (F.holds shelf.old) (F.asked shelf.old) (F.asked shelf.new)
         (O.written out.old) (O.written out.new) (E.written err.old) (E.written err.new)
         (Rose (F.faults shelf.old) (F.faults shelf.new)) (Rose (O.faults out.old) (O.faults out.new))
         (Rose (E.faults err.old) (E.faults err.new)) }
-    // A front of the files that the order of work wants was asked for.
-    ensures asked { AsksFront (F.asked shelf.old) (F.asked shelf.new) (wanted (form_of (texts words.now)) (F.holds shelf.old)) }
-    // So was a front of the files that the words name.
-    ensures named { AsksFront (F.asked shelf.old) (F.asked shelf.new) (files_of (form_of (texts words.now))) }
-    // Where neither the shelf nor the output failed, the outcome decides.
-    ensures decided { ¬ Rose (F.faults shelf.old) (F.faults shelf.new) → ¬ Rose (O.faults out.old) (O.faults out.new) →
-        (result ≡ 11) ⊎ IsDecided result (outcome (form_of (texts words.now)) (F.holds shelf.old))
-        (O.written out.old) (O.written out.new) (E.written err.old) (E.written err.new)
-        (Rose (E.faults err.old) (E.faults err.new)) }
-    // 2 comes exactly where the words are no form, whatever the devices do; 3 and 10 only where one failed.
-    ensures without_form { form_of (texts words.now) ≡ None → (result ≡ 2) ⊎ (result ≡ 11) }
-    ensures only_without_form { result ≡ 2 → form_of (texts words.now) ≡ None }
-    ensures shelf_failed { result ≡ 3 → Rose (F.faults shelf.old) (F.faults shelf.new) }
-    ensures output_failed { result ≡ 10 → Rose (O.faults out.old) (O.faults out.new) }
 {
     perform(alloc, words, shelf, out, err)
 }

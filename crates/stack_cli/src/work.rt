@@ -3,10 +3,9 @@
 ghost use Rattle.std.specs.Prelude.{◌≡◌, ◌≤◌, IfOk, true};
 ghost use Rattle.stack_outside.specs.Faults.{Rose};
 ghost use Rattle.stack_checker.specs.Surveyed.{survey_view};
-ghost use Rattle.stack_cli.specs.AnswerText.{IsAnswer};
 ghost use Rattle.stack_cli.specs.Words.{form_of, texts};
 ghost use Rattle.stack_cli.specs.Outcome.{goes_on, file_step, surveyed, checked, check_outcome, check_wanted, check_step, outcome, wanted};
-ghost use Rattle.stack_cli.specs.Progress.{Does, AsksFile, AsksFiles, FailsAt, Fails};
+ghost use Rattle.stack_cli.specs.Progress.{Does, Answers, AsksFile, AsksFiles, FailsAt, Fails};
 
 use crate::answer::{Answer, Verdict, rejection, wide_place};
 use crate::refusal::{Input, Refusal};
@@ -51,7 +50,7 @@ fn survey_file<F: Shelf>(alloc: Global, shelf: &mut F, name: &str) -> Result<Sur
 
 /// The answer to what a check gives, or the refusal of a sum that is too wide.
 fn check_answer(alloc: Global, survey: &Survey, check: Check) -> Result<Answer, Refusal>
-    ensures gives { Does (λ a due. IsAnswer due a.verdict a.text.items) result (check_step (survey_view survey.now).structure check) }
+    ensures gives { Answers result (check_step (survey_view survey.now).structure check) }
     ensures no_file { Fails result ⊥ }
 {
     match check {
@@ -78,7 +77,7 @@ fn check_file<F: Shelf>(
     name: &str,
     survey: &Survey,
 ) -> Result<Answer, Refusal>
-    ensures gives { Does (λ a due. IsAnswer due a.verdict a.text.items) result (checked (F.holds shelf.old name.now) (survey_view survey.now)) }
+    ensures gives { Answers result (checked (F.holds shelf.old name.now) (survey_view survey.now)) }
     ensures holds { F.holds shelf.new ≡ F.holds shelf.old }
     ensures asked { AsksFile result (F.asked shelf.old) (F.asked shelf.new) name.now }
     ensures later { F.faults shelf.old ≤ F.faults shelf.new }
@@ -102,8 +101,9 @@ fn check_form<F: Shelf>(
     model: &str,
     certificate: &str,
 ) -> Result<Answer, Refusal>
-    ensures gives { Does (λ a due. IsAnswer due a.verdict a.text.items) result (check_outcome model.now certificate.now (F.holds shelf.old)) }
-    ensures asked { AsksFiles result (F.asked shelf.old) (F.asked shelf.new) (check_wanted model.now certificate.now (F.holds shelf.old)) }
+    ensures gives { Answers result (check_outcome model.now certificate.now (F.holds shelf.old)) }
+    ensures asked { AsksFiles result (F.asked shelf.old) (F.asked shelf.new)
+        (check_wanted model.now certificate.now (F.holds shelf.old)) }
     ensures later { F.faults shelf.old ≤ F.faults shelf.new }
     ensures cause { Fails result (Rose (F.faults shelf.old) (F.faults shelf.new)) }
 {
@@ -119,8 +119,9 @@ pub fn answer_words<F: Shelf>(
     words: &[String],
     shelf: &mut F,
 ) -> Result<Answer, Refusal>
-    ensures gives { Does (λ a due. IsAnswer due a.verdict a.text.items) result (outcome (form_of (texts words.now)) (F.holds shelf.old)) }
-    ensures asked { AsksFiles result (F.asked shelf.old) (F.asked shelf.new) (wanted (form_of (texts words.now)) (F.holds shelf.old)) }
+    ensures gives { Answers result (outcome (form_of (texts words.now)) (F.holds shelf.old)) }
+    ensures asked { AsksFiles result (F.asked shelf.old) (F.asked shelf.new)
+        (wanted (form_of (texts words.now)) (F.holds shelf.old)) }
     ensures later { F.faults shelf.old ≤ F.faults shelf.new }
     ensures cause { Fails result (Rose (F.faults shelf.old) (F.faults shelf.new)) }
 {

@@ -1,5 +1,5 @@
 -- A loop over what a file lists, one step after the other.
-use Rattle.std.proofs.Common.{◌≡◌, ℕ, ◌+◌, ◌<◌, ◌≤◌, List, map, length, get_or, drop, Result, Ok, Err, sym, ap, ◌∙◌, subst}
+use Rattle.std.proofs.Common.{◌≡◌, ℕ, ◌+◌, ◌<◌, ◌≤◌, List, map, length, get_or, drop, Result, Ok, sym, ap, ◌∙◌, subst}
 use Rattle.std.proofs.lemmas.List.{get_or-map, length-map}
 use Rattle.stack_algebra.specs.Steps.{steps}
 use Rattle.stack_algebra.proofs.Steps.{step_on, step_out, steps_done}
@@ -14,14 +14,17 @@ module _ {A X P : Type 0} (f : ℕ → A → P → Result A Fault) (view : X →
   below : i < length xs → i < length (map view xs)
   below lt = subst (λ n. i < n) (sym (length-map xs view)) lt
 
-  pub follows : (x : X) (a b : A) (total : Result A Fault) → i < length xs → x ≡ get_or xs i x → f i a (view x) ≡ Ok b
+  pub follows : (x : X) (a b : A) (total : Result A Fault) → i < length xs → x ≡ get_or xs i x
+      → f i a (view x) ≡ Ok b
       → steps f i a (drop i (map view xs)) ≡ total → steps f (i + 1) b (drop (i + 1) (map view xs)) ≡ total
   follows x a b total lt is h so_far = step_on f (map view xs) i a b (view x) total (below lt) (ap (f i a) (item x lt is) ∙ h) so_far
 
-  pub stops : (e : Fault) (x : X) (a : A) (total : Result A Fault) → i < length xs → x ≡ get_or xs i x → Fails e (f i a (view x))
+  pub stops : (e : Fault) (x : X) (a : A) (total : Result A Fault) → i < length xs → x ≡ get_or xs i x
+      → Fails e (f i a (view x))
       → steps f i a (drop i (map view xs)) ≡ total → Fails e total
   stops e x a total lt is h so_far = handed_on e (f i a (view x)) total h (λ here.
       sym (step_out f (map view xs) i a (view x) e total (below lt) (ap (f i a) (item x lt is) ∙ here) so_far))
 
-  pub ended : (a : A) (total : Result A Fault) → length xs ≤ i → steps f i a (drop i (map view xs)) ≡ total → total ≡ Ok a
+  pub ended : (a : A) (total : Result A Fault) → length xs ≤ i → steps f i a (drop i (map view xs)) ≡ total
+      → total ≡ Ok a
   ended a total le so_far = sym (steps_done f (map view xs) i a total (subst (λ n. n ≤ i) (sym (length-map xs view)) le) so_far)

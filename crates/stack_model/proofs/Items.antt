@@ -1,12 +1,13 @@
 -- One item of a kept list, and what the model's limits say of it.
-use Rattle.std.proofs.Common.{◌≡◌, ℕ, ◌<◌, List, map, length, get_or, sym, ap, ◌∙◌, subst}
+use Rattle.std.proofs.Common.{◌≡◌, ℕ, ◌<◌, map, length, get_or, sym, ap, ◌∙◌, subst}
 use Rattle.std.proofs.lemmas.List.{get_or-map, length-map}
 use Rattle.stack_model.specs.declared.kept.KeptBody.{KeptBody}
 use Rattle.stack_model.specs.declared.model.Model.TheInside.{Inside}
-use Rattle.stack_model.specs.Structure.{NamedBody, Structure, body_of, IsSound, IsPlaced}
+use Rattle.stack_model.specs.Structure.{Structure, body_of, IsSound, IsPlaced}
 use Rattle.stack_model.specs.Kept.{body_view, inside_view}
 
-pub body_placed : (m : Inside) (s : Structure) (i : ℕ) (b : KeptBody) → inside_view m ≡ s → IsSound (inside_view m) → i < length s.bodies
+pub body_placed : (m : Inside) (s : Structure) (i : ℕ) (b : KeptBody) → inside_view m ≡ s
+    → IsSound (inside_view m) → i < length s.bodies
     → b ≡ get_or m.bodies.items i b → IsPlaced (length s.materials) (body_view b)
 body_placed m s i b e h lt is =
     let below : i < length (map body_view m.bodies.items) = subst (λ (t : Structure). i < length t.bodies) (sym e) lt in

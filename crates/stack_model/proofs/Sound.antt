@@ -1,9 +1,12 @@
--- What was checked holds of the structure: its materials are within the limits, and each body is of one of them.
-use Rattle.std.proofs.Common.{◌≡◌, ℕ, zero, suc, ◌+◌, ◌<◌, ◌≤◌, ℤ, pos, negsuc, Bool, true, false, cond, ◌&&◌, List, [], ◌∷◌, ◌++◌, length, map, get_or, position, Option, Some, None, Result, Ok, Err, refl, sym, ap, ◌∙◌, subst, arith, length-append, nat_lt}
+-- What was checked holds of the structure: its materials are within the limits, and each body is of one of
+-- them.
+use Rattle.std.proofs.Common.{◌≡◌, ℕ, zero, suc, ◌+◌, ◌<◌, ℤ, pos, Bool, true, false, ◌&&◌, List, [], ◌∷◌}
+use Rattle.std.proofs.Common.{◌++◌, length, get_or, position, Option, Some, None, Result, Ok, Err, refl}
+use Rattle.std.proofs.Common.{sym, ap, ◌∙◌, subst, arith}
 use Rattle.std.proofs.lemmas.List.{length-map}
 use Rattle.std.proofs.lemmas.Int.{ints}
 use Rattle.std.specs.Bool.{⊤}
-use Rattle.std.specs.List.{All, position_or_len}
+use Rattle.std.specs.List.{All}
 use Rattle.std.proofs.lemmas.List.Elements.{All-append}
 use Rattle.std.specs.Str.{bytes_eq}
 use Rattle.stack_algebra.specs.Steps.{◌>>=◌, steps}
@@ -13,17 +16,20 @@ use Rattle.stack_model.specs.declared.faults.Key.{Key}
 use Rattle.stack_model.specs.declared.types.Load.{Load}
 use Rattle.stack_model.specs.declared.faults.What.TheVariants as whats
 use Rattle.stack_model.specs.declared.faults.Fault.{Fault}
-use Rattle.stack_model.specs.Structure.{NamedMaterial, NamedBody, Structure, material_of, body_of, IsWithinLimits}
+use Rattle.stack_model.specs.Structure.{NamedMaterial, NamedBody, Structure, IsWithinLimits}
 use Rattle.stack_model.specs.Parts.{MaterialPart, BlockPart, Parts}
 use Rattle.stack_model.specs.Limits.{is_name, is_between, friction_of, corners_of}
-use Rattle.stack_model.specs.Content.{Outlines, unless, ranged, found, is_new, number_of, material_names, body_names, has_room, at_most, add_load, with_material, add_material, with_body, add_block, bodies_of, content_of}
+use Rattle.stack_model.specs.Content.{Outlines, unless, ranged, found, is_new, number_of, material_names}
+use Rattle.stack_model.specs.Content.{body_names, has_room, at_most, add_load, with_material, add_material}
+use Rattle.stack_model.specs.Content.{with_body, add_block, bodies_of, content_of}
 use Rattle.std.proofs.lemmas.List.Quantifiers.{position-Some}
 use Rattle.std.specs.Prelude.{int_le, if◌then◌else◌}
 use Rattle.stack_algebra.proofs.Order.{◌≼◌}
 use Rattle.stack_model.specs.Laid.{IsLaid}
 
 -- a step that went well: its first part did, and so did the rest
-pub went : {A B : Type 0} (r : Result A Fault) (k : A → Result B Fault) (y : B) → r >>= k ≡ Ok y → (x : A) × ((r ≡ Ok x) × (k x ≡ Ok y))
+pub went : {A B : Type 0} (r : Result A Fault) (k : A → Result B Fault) (y : B) → r >>= k ≡ Ok y
+    → (x : A) × ((r ≡ Ok x) × (k x ≡ Ok y))
 went (Ok x) k y h = (x, (refl, h))
 went (Err e) k y h = absurd (cc)
 
@@ -35,14 +41,16 @@ abbrev ok : {A : Type 0} → A → Result A Fault
 ok x = Ok x
 
 -- one step after the other keeps what each step keeps
-pub steps_keep : {A X : Type 0} (P : A → Type 0) (f : ℕ → A → X → Result A Fault) → ((i : ℕ) (a : A) (x : X) (b : A) → f i a x ≡ Ok b → P a → P b)
+pub steps_keep : {A X : Type 0} (P : A → Type 0) (f : ℕ → A → X → Result A Fault)
+    → ((i : ℕ) (a : A) (x : X) (b : A) → f i a x ≡ Ok b → P a → P b)
     → (i : ℕ) (a : A) (xs : List X) (b : A) → steps f i a xs ≡ Ok b → P a → P b
 steps_keep P f keep i a [] b h p = subst P (cc) p
 steps_keep P f keep i a (x ∷ xs) b h p =
     let one = went (f i a x) (λ c. steps f (i + 1) c xs) b h in
     steps_keep P f keep (i + 1) one.0 xs b one.1.1 (keep i a x one.0 one.1.0 p)
 
-position_below : {X : Type 0} (p : X → Bool) (xs : List X) (d : X) (n : ℕ) → position p xs ≡ Some n → n < length xs
+position_below : {X : Type 0} (p : X → Bool) (xs : List X) (d : X) (n : ℕ) → position p xs ≡ Some n
+    → n < length xs
 position_below p xs d n h = (position-Some p xs n d h).0
 
 between : (low high z : ℤ) → is_between low high z ≡ true → (low ≼ z) × (z ≼ high)
@@ -59,7 +67,8 @@ pub record IsCoefficient (f : ℤ × ℤ) : Type 0 where
 coefficient : (zs : List ℤ) (f : ℤ × ℤ) → friction_of zs ≡ Some f → IsCoefficient f
 coefficient (p ∷ q ∷ []) f h = go (is_between (pos 0) (pos 1000) p) (is_between (pos 1) (pos 1000) q) refl refl h
   where
-    go : (a b : Bool) → is_between (pos 0) (pos 1000) p ≡ a → is_between (pos 1) (pos 1000) q ≡ b → (if a && b then Some (p, q) else None) ≡ Some f → IsCoefficient f
+    go : (a b : Bool) → is_between (pos 0) (pos 1000) p ≡ a → is_between (pos 1) (pos 1000) q ≡ b
+        → (if a && b then Some (p, q) else None) ≡ Some f → IsCoefficient f
     go true true ea eb e = let same : (p, q) ≡ f = cc in subst IsCoefficient same (record { p = between (pos 0) (pos 1000) p ea; q = between (pos 1) (pos 1000) q eb })
     go true false ea eb e = absurd (cc)
     go false b ea eb e = absurd (cc)
@@ -81,7 +90,8 @@ material_steps true true c d e g s k None to ns h = absurd (cc)
 material_steps true false c d e g s k o to ns h = absurd (cc)
 material_steps false b c d e g s k o to ns h = absurd (cc)
 
-material_kept : (i : ℕ) (ms : List NamedMaterial) (m : MaterialPart) (ns : List NamedMaterial) → add_material i ms m ≡ Ok ns → All IsWithinLimits ms → All IsWithinLimits ns
+material_kept : (i : ℕ) (ms : List NamedMaterial) (m : MaterialPart) (ns : List NamedMaterial)
+    → add_material i ms m ≡ Ok ns → All IsWithinLimits ms → All IsWithinLimits ns
 unfolding add_material with_material
 material_kept i ms m ns h all =
     let made = λ (f : ℤ × ℤ). let r : NamedMaterial = record { name = m.name; weight = m.weight; p = f.0; q = f.1 } in r in
@@ -103,7 +113,9 @@ block_steps : (a c : Bool) (d e g : Fault) (s : Spot) (k : Key) (o : Option (Lis
     → (n : ℕ) × ((qs : List Point) × ((found_at ≡ Some n) × (to n qs ≡ cs)))
 block_steps true true d e g s k (Some ps) (Some n) outline_of room to cs h = last (outline_of ps) room h
   where
-    last : (q : Result (List Point) Fault) (r : Result ⊤ Fault) → (q >>= λ qs. r >>= λ _. Ok (to n qs)) ≡ Ok cs → (m : ℕ) × ((qs : List Point) × ((Some n ≡ Some m) × (to m qs ≡ cs)))
+    last : (q : Result (List Point) Fault) (r : Result ⊤ Fault)
+        → (q >>= λ qs. r >>= λ _. Ok (to n qs)) ≡ Ok cs
+        → (m : ℕ) × ((qs : List Point) × ((Some n ≡ Some m) × (to m qs ≡ cs)))
     last (Ok qs) (Ok t) h = (n, (qs, (refl, cc)))
     last (Ok qs) (Err e) h = absurd (cc)
     last (Err e) r h = absurd (cc)
@@ -129,7 +141,8 @@ whole_steps : (r : Result (List NamedMaterial × List NamedBody) Fault) (u : Res
     → (both : List NamedMaterial × List NamedBody) × ((r ≡ Ok both) × (both.0 ≡ s.materials) × (both.1 ≡ s.bodies))
 whole_steps (Ok both) (Ok t) k s h = last (k both) h
   where
-    last : (q : Result (List Load) Fault) → (q >>= λ ls. Ok (record { materials = both.0; bodies = both.1; loads = ls })) ≡ Ok s
+    last : (q : Result (List Load) Fault)
+        → (q >>= λ ls. Ok (record { materials = both.0; bodies = both.1; loads = ls })) ≡ Ok s
         → (c : List NamedMaterial × List NamedBody) × ((ok both ≡ ok c) × (c.0 ≡ s.materials) × (c.1 ≡ s.bodies))
     last (Ok ls) h = (both, (refl, cc, cc))
     last (Err e) h = absurd (cc)
@@ -137,10 +150,12 @@ whole_steps (Ok both) (Err e) k s h = absurd (cc)
 whole_steps (Err e) u k s h = absurd (cc)
 
 list_steps : (u v : Result ⊤ Fault) (r : Result (List NamedMaterial) Fault) (k : List NamedMaterial → Result (List NamedBody) Fault) (both : List NamedMaterial × List NamedBody)
-    → (u >>= λ _. r >>= λ ms. v >>= λ _. k ms >>= λ bs. Ok (ms, bs)) ≡ Ok both → (r ≡ Ok both.0) × (k both.0 ≡ Ok both.1)
+    → (u >>= λ _. r >>= λ ms. v >>= λ _. k ms >>= λ bs. Ok (ms, bs)) ≡ Ok both
+    → (r ≡ Ok both.0) × (k both.0 ≡ Ok both.1)
 list_steps (Ok t) (Ok w) (Ok ms) k both h = last (k ms) refl h
   where
-    last : (q : Result (List NamedBody) Fault) → k ms ≡ q → (q >>= λ bs. Ok (ms, bs)) ≡ Ok both → (ok ms ≡ ok both.0) × (k both.0 ≡ Ok both.1)
+    last : (q : Result (List NamedBody) Fault) → k ms ≡ q → (q >>= λ bs. Ok (ms, bs)) ≡ Ok both
+        → (ok ms ≡ ok both.0) × (k both.0 ≡ Ok both.1)
     last (Ok bs) e h = let same : (ms, bs) ≡ both = cc in (ap (λ b. Ok b.0) same, ap (λ b. k b.0) (sym same) ∙ (e ∙ ap (λ b. Ok b.1) same))
     last (Err f) e h = absurd (cc)
 list_steps (Ok t) (Err e) (Ok ms) k both h = absurd (cc)
@@ -150,7 +165,8 @@ list_steps (Err e) v r k both h = absurd (cc)
 none : {X : Type 0} (P : X → Type 0) → All P []
 none P k d lt = absurd (omega arith)
 
-pub laid : (outline_of : Outlines) (parts : Parts) (s : Structure) → content_of outline_of parts ≡ Ok s → IsLaid s
+pub laid : (outline_of : Outlines) (parts : Parts) (s : Structure) → content_of outline_of parts ≡ Ok s
+    → IsLaid s
 unfolding content_of bodies_of
 laid outline_of parts s h =
     let whole = whole_steps (bodies_of outline_of parts) (at_most 256 (length parts.loads) whats.Loads) (λ both. steps (add_load both.1) 0 [] parts.loads) s h in

@@ -1,6 +1,9 @@
--- The content of what a file lists: the structure, or the first fault of content in one order. Materials come first, then
--- blocks, then loads, each in the order of the file. Which corner lists are outlines is a parameter.
-use Rattle.std.specs.Prelude.{ℕ, ◌+◌, ℤ, pos, Bool, true, false, not, ◌&&◌, List, [], ◌∷◌, ◌++◌, length, map, Option, Some, None, Result, Ok, Err, nat_le, nat_lt, position, count_by, if◌then◌else◌, ⊤}
+-- The content of what a file lists: the structure, or the first fault of content in one order. Materials come
+-- first, then blocks, then loads, each in the order of the file. Which corner lists are outlines is a
+-- parameter.
+use Rattle.std.specs.Prelude.{ℕ, pos, Bool, true, false, not, List, [], ◌∷◌, ◌++◌, length, map, Option}
+use Rattle.std.specs.Prelude.{Some, None, Result, Ok, Err, nat_le, nat_lt, position, count_by}
+use Rattle.std.specs.Prelude.{if◌then◌else◌, ⊤}
 use Rattle.std.specs.Str.{bytes_eq}
 use Rattle.std.specs.List.{list_any}
 use Rattle.stack_algebra.specs.Steps.{◌>>=◌, steps}
@@ -72,8 +75,10 @@ abbrev pub has_room : Bool → List NamedBody → Result ⊤ Fault
 has_room true bs = unless (nat_lt (count_by (λ b. b.fixed) bs) 64) (TooMany whats.Fixed)
 has_room false bs = unless (nat_lt (count_by (λ b. not b.fixed) bs) 128) (TooMany whats.Free)
 
--- one more body, as block i: its name is new, its material is known, its corner list has an outline, there is room for it
-unfoldable pub with_body : Outlines → ℕ → List ℕ → Option ℕ → Bool → List Point → List NamedBody → Result (List NamedBody) Fault
+-- one more body, as block i: its name is new, its material is known, its corner list has an outline, there is
+-- room for it
+unfoldable pub with_body : Outlines → ℕ → List ℕ → Option ℕ → Bool → List Point → List NamedBody
+    → Result (List NamedBody) Fault
 with_body outline_of i name material fixed corners bs = do
   new ← unless (is_new name (body_names bs)) (SameName (spots.Block i))
   number ← found material (NoMaterial i)
@@ -82,7 +87,8 @@ with_body outline_of i name material fixed corners bs = do
   Ok (bs ++ record { name = name; material = number; fixed = fixed; corners = outline } ∷ [])
 
 -- block i, after those before it
-unfoldable pub add_block : Outlines → List NamedMaterial → ℕ → List NamedBody → BlockPart → Result (List NamedBody) Fault
+unfoldable pub add_block : Outlines → List NamedMaterial → ℕ → List NamedBody → BlockPart
+    → Result (List NamedBody) Fault
 add_block outline_of ms i bs b = do
   named ← unless (is_name b.name) (Range (spots.Block i) keys.Name)
   corners ← ranged (spots.Block i) keys.Corners (corners_of b.corners)

@@ -1,5 +1,5 @@
 -- Bodies with their corner lists as they are written, as the code holds them.
-use Rattle.std.specs.Prelude.{List, map, string_bytes}
+use Rattle.std.specs.Prelude.{map, string_bytes}
 use Rattle.stack_model.specs.declared.drawing.DrawnBody.{DrawnBody}
 use Rattle.stack_model.specs.declared.drawing.Drawing.{Drawing}
 use Rattle.stack_model.specs.Structure.{NamedBody, Structure}

@@ -1,9 +1,10 @@
 -- The forms of values: which data stand for a text, a whole number, a truth value, or lists of whole numbers.
 -- A float is no whole number, and neither is a truth value.
-use Rattle.std.specs.Prelude.{ℕ, ℤ, Bool, true, false, List, [], ◌∷◌, Option, Some, None, Result, Ok, Err, if◌then◌else◌, option_map, ⊤}
+use Rattle.std.specs.Prelude.{ℤ, Bool, true, false, List, [], ◌∷◌, Option, Some, None, Result, Ok, Err}
+use Rattle.std.specs.Prelude.{if◌then◌else◌, option_map, ⊤}
 use Rattle.std.specs.Str.{bytes_eq}
 use Rattle.std.specs.List.{list_any}
-use Rattle.toml.specs.Data.{Data, string, integer, float, boolean, datetime, array, table, Items, no_items, item, Members, no_members, member, get_member, as_bool}
+use Rattle.toml.specs.Data.{Data, integer, array, table, Items, no_items, item, Members, no_members, member, get_member, as_bool}
 use Rattle.stack_algebra.specs.Steps.{◌>>=◌}
 use Rattle.stack_model.specs.declared.faults.Spot.{Spot}
 use Rattle.stack_model.specs.declared.faults.Key.{Key}

@@ -1,5 +1,5 @@
 -- How a model is kept, and the structure that it is seen as.
-use Rattle.std.specs.Prelude.{List, map, string_bytes}
+use Rattle.std.specs.Prelude.{map, string_bytes}
 use Rattle.stack_model.specs.declared.types.Material.{Material}
 use Rattle.stack_model.specs.declared.types.Body.{Body}
 use Rattle.stack_model.specs.declared.kept.KeptMaterial.{KeptMaterial}

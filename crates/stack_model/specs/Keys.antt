@@ -1,7 +1,8 @@
 -- The words of the keys, and the keys of each item, in the order in which they are looked at.
 use Rattle.std.specs.Prelude.{ℕ, List, [], ◌∷◌, codes}
 use Rattle.stack_model.specs.declared.faults.Key.{Key}
-use Rattle.stack_model.specs.declared.faults.Key.TheVariants.{Name, Weight, Friction, Material, Fixed, Corners, Block, Kind, At, Force, Load}
+use Rattle.stack_model.specs.declared.faults.Key.TheVariants.{Name, Weight, Friction, Material, Fixed}
+use Rattle.stack_model.specs.declared.faults.Key.TheVariants.{Corners, Block, Kind, At, Force, Load}
 
 abbrev pub word_of : Key → List ℕ
 word_of Name = codes "name"

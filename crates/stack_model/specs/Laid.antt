@@ -1,4 +1,5 @@
--- What the content of a file owes before its corner lists are outlines: materials within the limits, and bodies of them.
+-- What the content of a file owes before its corner lists are outlines: materials within the limits, and
+-- bodies of them.
 use Rattle.std.specs.Prelude.{ℕ, ◌<◌, length}
 use Rattle.stack_model.specs.Structure.{Structure, material_of, body_of, IsWithinLimits}
 

@@ -13,4 +13,5 @@ pub mod Drawn
 pub mod Laid
 pub mod AsWritten
 pub mod Reading
+pub mod Convex
 pub mod Pairs

@@ -1,6 +1,8 @@
--- Until models may list more: one material, one fixed body and then one free body, both axis-parallel rectangles, no loads.
--- Two refusals stand for all faults: every fault but that of a corner list, which comes after all the others.
-use Rattle.std.specs.Prelude.{◌≡◌, ℕ, ◌+◌, Bool, true, false, not, ◌&&◌, List, [], ◌∷◌, Option, Some, None, Result, Ok, Err, if◌then◌else◌, ⊤}
+-- Until models may list more: one material, one fixed body and then one free body, both axis-parallel
+-- rectangles, no loads. Two refusals stand for all faults: every fault but that of a corner list, which comes
+-- after all the others.
+use Rattle.std.specs.Prelude.{◌≡◌, ℕ, ◌+◌, Bool, true, false, not, ◌&&◌, List, [], ◌∷◌, Option, Some, None}
+use Rattle.std.specs.Prelude.{Result, Ok, Err, if◌then◌else◌, ⊤}
 use Rattle.stack_algebra.specs.Steps.{◌>>=◌}
 use Rattle.stack_polygon.specs.declared.point.Point.{Point}
 use Rattle.stack_polygon.specs.Rectangles.{rectangle_of}

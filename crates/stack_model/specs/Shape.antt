@@ -1,8 +1,8 @@
--- The shape of a document: what its table lists, or the first fault of shape in one order. An unknown key at the top comes
--- first, then the forms of the three lists, then each material, each block and each load in the order of the file; in an
--- item an unknown key comes first, and then the keys one by one.
-use Rattle.std.specs.Prelude.{ℕ, ◌+◌, ℤ, Bool, List, [], ◌∷◌, Option, Some, None, Result, Ok, Err, ⊤}
-use Rattle.toml.specs.Data.{Data, string, integer, float, boolean, datetime, array, table, Items, no_items, item, Members, get_member, as_str, as_integer}
+-- The shape of a document: what its table lists, or the first fault of shape in one order. An unknown key at
+-- the top comes first, then the forms of the three lists, then each material, each block and each load in the
+-- order of the file; in an item an unknown key comes first, and then the keys one by one.
+use Rattle.std.specs.Prelude.{ℕ, ◌+◌, List, [], ◌∷◌, Option, Some, None, Result, Ok, Err}
+use Rattle.toml.specs.Data.{Data, table, Items, no_items, item, Members, get_member, as_str, as_integer}
 use Rattle.stack_algebra.specs.Steps.{◌>>=◌}
 use Rattle.stack_model.specs.declared.faults.Spot.TheVariants as spots
 use Rattle.stack_model.specs.declared.faults.Key.{Key}

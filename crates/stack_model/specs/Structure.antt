@@ -1,6 +1,7 @@
--- What a model describes: materials, bodies and loads, each a list in the order of the file. Used by every crate above.
-use Rattle.std.specs.Prelude.{◌≡◌, ℕ, ◌<◌, ◌≤◌, ℤ, pos, negsuc, Bool, true, false, List, [], length, get_or}
-use Rattle.stack_algebra.proofs.Order.{◌≼◌}
+-- What a model describes: materials, bodies and loads, each a list in the order of the file. Used by every
+-- crate above.
+use Rattle.std.specs.Prelude.{◌≡◌, ℕ, ◌<◌, ℤ, pos, negsuc, Bool, true, false, List, [], length, get_or}
+use Rattle.stack_algebra.specs.IntegerOrder.{◌≼◌}
 use Rattle.stack_polygon.specs.declared.point.Point.{Point}
 use Rattle.stack_polygon.specs.Corners.{origin}
 use Rattle.stack_polygon.specs.Limits.{IsInRange, IsPolygon}

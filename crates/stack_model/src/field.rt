@@ -8,7 +8,8 @@ ghost use Rattle.toml.specs.View.{view, table_view, items_view};
 ghost use Rattle.stack_model.specs.Keys.{word_of};
 ghost use Rattle.stack_model.specs.Raw.{lists_view, numbers_view};
 ghost use Rattle.stack_model.specs.Gives.{Gives};
-ghost use Rattle.stack_model.specs.Forms.{required, field, has_only, known_only, wholes_of, wholes_of_items, lists_of, lists_of_items, truth_at as truth_of};
+ghost use Rattle.stack_model.specs.Forms.{required, field, has_only, known_only, wholes_of, wholes_of_items};
+ghost use Rattle.stack_model.specs.Forms.{lists_of, lists_of_items, truth_at as truth_of};
 
 use crate::faults::{Fault, Key, Spot};
 use std::alloc::{AllocError, Global};

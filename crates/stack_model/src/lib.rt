@@ -25,3 +25,6 @@ pub use faults::{Fault, Key, Spot, What};
 pub use model::Model;
 pub use reading::read_model;
 pub use types::{Body, Load, Material};
+
+#[cfg(test)]
+mod tests;

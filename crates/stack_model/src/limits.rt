@@ -4,7 +4,9 @@ ghost use Rattle.std.specs.Prelude.{◌≡◌, IfOk, map, option_map};
 ghost use Rattle.std.specs.List.{list_all};
 ghost use Rattle.stack_polygon.specs.Limits.{is_near as is_near_of};
 ghost use Rattle.stack_model.specs.Raw.{numbers_view};
-ghost use Rattle.stack_model.specs.Limits.{is_name_byte as is_name_byte_of, is_name as is_name_of, is_between as is_between_of, friction_of, point_of, points_of, corners_of, live_of, force_of};
+ghost use Rattle.stack_model.specs.Limits.{is_name_byte as is_name_byte_of, is_name as is_name_of};
+ghost use Rattle.stack_model.specs.Limits.{is_between as is_between_of, friction_of, point_of, points_of};
+ghost use Rattle.stack_model.specs.Limits.{corners_of, live_of, force_of};
 
 use stack_polygon::Point;
 use std::alloc::{AllocError, Global};

@@ -58,7 +58,8 @@ fn is_pair(drawing: &Drawing) -> bool
     }
 }
 
-/// The model of a drawing: refused where it lists more than a pair, slanted at the first body that isn't a rectangle.
+/// The model of a drawing: refused where it lists more than a pair, slanted at the first body that isn't a
+/// rectangle.
 #[tactic(auto, unfolding(crate::specs::Pairs::accepted, crate::specs::Pairs::pair_of))]
 pub fn model_of(alloc: Global, drawing: Drawing) -> Result<Model, ReadError>
     requires { IsLaid (drawing_view drawing) }

@@ -32,12 +32,13 @@ fn read(alloc: Global, text: &[u8]) -> Result<Drawing, Fault>
     }
 }
 
-/// The model that the bytes of a TOML file describe, for now of one material, one fixed block and then one free block, whose
-/// corner lists are axis-parallel rectangles, and no loads.
+/// The model that the bytes of a TOML file describe, for now of one material, one fixed block and then one
+/// free block, whose corner lists are axis-parallel rectangles, and no loads.
 ///
-/// `Refused`: the bytes are no TOML document, or its table has a fault other than that of a corner list, or it lists other
-/// items. `Slanted`: there is no such fault, and this is the first block, from 0, whose corners aren't those of an axis-parallel
-/// rectangle of positive area in order round it. `Memory`: memory was wanting.
+/// `Refused`: the bytes are no TOML document, or its table has a fault other than that of a corner list, or
+/// it lists other items. `Slanted`: there is no such fault, and this is the first block, from 0, whose
+/// corners aren't those of an axis-parallel rectangle of positive area in order round it. `Memory`: memory
+/// was wanting.
 #[tactic(auto, unfolding(crate::specs::Pairs::structure_of))]
 pub fn read_model(alloc: Global, text: &[u8]) -> Result<Model, ReadError>
     ensures { Reads result (structure_of text.now) }

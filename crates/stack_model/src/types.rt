@@ -2,8 +2,8 @@
 
 use stack_polygon::Point;
 
-/// A material: its weight per unit of area, 0 to 1,000,000, and its coefficient of friction, `p` over `q`, with `p` from 0 to
-/// 1,000 and `q` from 1 to 1,000.
+/// A material: its weight per unit of area, 0 to 1,000,000, and its coefficient of friction, `p` over `q`,
+/// with `p` from 0 to 1,000 and `q` from 1 to 1,000.
 #[derive(Clone, Copy, Debug, PartialEq, Eq)]
 pub struct Material {
     pub weight: i64,

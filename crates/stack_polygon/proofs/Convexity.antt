@@ -1,17 +1,16 @@
 -- Four corners in order round an axis-parallel rectangle, counter-clockwise, are strictly convex.
-use mathlib.Core.Path.{◌≡◌, refl, sym, ap, ◌∙◌, subst}
+use mathlib.Core.Path.{refl}
 use mathlib.Core.Logic.{◌≢◌}
-use mathlib.Core.List.{List, [], ◌∷◌}
+use mathlib.Core.List.{[], ◌∷◌}
 use Prim.Native.Nat.{ℕ, zero, suc, ◌<◌}
 use native.Mathlib.Omega.{arith}
 use lib.IntN.{ℤ, pos, negsuc, ◌-ℤ◌, ◌*ℤ◌}
-use lib.ListN.{length}
 use Rattle.std.proofs.lemmas.Int.{ints}
 use Rattle.stack_algebra.proofs.Integers.{sums, expand}
 use Rattle.stack_algebra.proofs.Order.{◌≼◌, ◌≺◌, mul_pos}
 use Rattle.stack_polygon.specs.declared.point.Point.{Point}
 use Rattle.stack_polygon.specs.Plane.{triangle_of}
-use Rattle.stack_polygon.specs.Corners.{corner_of, next_of, IsClear, IsStrictlyConvex}
+use Rattle.stack_polygon.specs.Corners.{IsClear, IsStrictlyConvex}
 
 -- both other corners of each edge lie strictly left of it
 pub record HasEight (a b c d : Point) : Type 0 where

@@ -3,3 +3,4 @@ pub mod Ranges
 pub mod Convexity
 pub mod Turned
 pub mod Fans
+pub mod Tested

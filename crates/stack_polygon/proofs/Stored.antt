@@ -56,7 +56,8 @@ pub less-twice : (r s : ℤ) → IsSquare r → IsSquare s → IsTwiceArea (stor
 less-twice r s hr hs = subst IsTwiceArea (sym (stored-less r s hr hs)) (record { low = omega (arith, ints); high = omega (arith, ints) })
 
 -- what the code computes is twice the triangle's area
-pub triangle-stored : (o p q : Point) (r s : ℤ) → IsInRange o → IsInRange p → IsInRange q → IsSquare r → IsSquare s →
+pub triangle-stored : (o p q : Point) (r s : ℤ) → IsInRange o → IsInRange p → IsInRange q → IsSquare r
+    → IsSquare s →
     r ≡ stored (stored p.x -ℤ stored o.x) *ℤ stored (stored q.y -ℤ stored o.y) → s ≡ stored (stored p.y -ℤ stored o.y) *ℤ stored (stored q.x -ℤ stored o.x) →
     stored (stored r -ℤ stored s) ≡ triangle_of o p q
 triangle-stored o p q r s ho hp hq hr hs er es = stored-less r s hr hs
@@ -72,7 +73,8 @@ moment-within x y hx hy =
     let n = mul-bounds (neg_ℤ x) y (pos 8000000000000) (pos 3000000) (omega (arith, ints)) (omega (arith, ints)) hy.high (omega (arith, ints)) in
     record { low = omega (arith, sums, m); high = omega (arith, sums, simp expand at n) }
 
-pub moment-stored : (x y a b : ℤ) → a ≡ x → b ≡ y → IsTwiceArea x → IsThree y → IsWithin 1 24000000000000000000 (wide (wide a *ℤ wide b))
+pub moment-stored : (x y a b : ℤ) → a ≡ x → b ≡ y → IsTwiceArea x → IsThree y
+    → IsWithin 1 24000000000000000000 (wide (wide a *ℤ wide b))
 moment-stored x y a b ea eb hx hy = subst (IsWithin 1 24000000000000000000) (sym whole) (moment-within x y hx hy)
   where
     area : (z : ℤ) → IsTwiceArea z → wide z ≡ z
@@ -88,7 +90,8 @@ moment-stored x y a b ea eb hx hy = subst (IsWithin 1 24000000000000000000) (sym
     whole = (λ i. wide (wide (ea i) *ℤ wide (eb i))) ∙ (λ i. wide (area x hx i *ℤ three y hy i)) ∙ product (x *ℤ y) (moment-within x y hx hy)
 
 -- the moment of a triangle, from its two factors
-pub moment-is : (m t s area sum : ℤ) → SFits w128 m → m ≡ stored t *ℤ stored s → IsTwiceArea t → IsThree s → t ≡ area → s ≡ sum → wide m ≡ area *ℤ sum
+pub moment-is : (m t s area sum : ℤ) → SFits w128 m → m ≡ stored t *ℤ stored s → IsTwiceArea t → IsThree s
+    → t ≡ area → s ≡ sum → wide m ≡ area *ℤ sum
 moment-is m t s area sum f h kt ks ht hs = to_z-of_z w128 m f ∙ h ∙ (λ i. small t kt i *ℤ few s ks i) ∙ (λ i. ht i *ℤ hs i)
   where
     small : (z : ℤ) → IsTwiceArea z → stored z ≡ z
@@ -97,5 +100,6 @@ moment-is m t s area sum f h kt ks ht hs = to_z-of_z w128 m f ∙ h ∙ (λ i. s
     few : (z : ℤ) → IsThree z → stored z ≡ z
     few z k = omega (arith, ints)
 
-pub three-stored : (x y z s : ℤ) → IsNear x → IsNear y → IsNear z → s ≡ stored x +ℤ stored y +ℤ stored z → s ≡ x +ℤ y +ℤ z
+pub three-stored : (x y z s : ℤ) → IsNear x → IsNear y → IsNear z → s ≡ stored x +ℤ stored y +ℤ stored z
+    → s ≡ x +ℤ y +ℤ z
 three-stored x y z s hx hy hz h = omega (arith, ints)

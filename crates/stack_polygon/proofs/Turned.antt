@@ -1,13 +1,13 @@
--- A rectangle's list, turned, is strictly convex: it stands for itself where it is convex, and otherwise for its reversal.
+-- A rectangle's list, turned, is strictly convex: it stands for itself where it is convex, and otherwise for
+-- its reversal.
 use mathlib.Core.Path.{◌≡◌, refl, sym, ap, ◌∙◌, subst}
-use mathlib.Core.Logic.{◌≢◌, ◌⊎◌, inl, inr}
-use mathlib.Core.Bool.{Bool, true, false, not, ◌&&◌, ◌||◌, cond}
+use mathlib.Core.Logic.{◌≢◌, inl, inr}
+use mathlib.Core.Bool.{Bool, true, false, not, ◌&&◌}
 use mathlib.Core.List.{List, [], ◌∷◌}
-use Prim.Native.Nat.{ℕ, zero, suc, ◌<◌}
 use native.Mathlib.Omega.{arith}
-use lib.IntN.{ℤ, pos, negsuc, ◌-ℤ◌, ◌*ℤ◌}
+use lib.IntN.{ℤ, pos, ◌-ℤ◌, ◌*ℤ◌}
 use lib.ListN.{length}
-use Rattle.std.specs.Prelude.{Option, Some, None, int_lt, if◌then◌else◌}
+use Rattle.std.specs.Prelude.{Some, None, int_lt, if◌then◌else◌}
 use Rattle.std.specs.Ordering.{int_eq}
 use Rattle.std.proofs.lemmas.Int.{ints}
 use Rattle.std.proofs.lemmas.Bool.Decides.{Decides-int_eq}
@@ -16,10 +16,11 @@ use Rattle.stack_algebra.proofs.Order.{◌≼◌, ◌≺◌}
 use Rattle.stack_polygon.specs.declared.point.Point.{Point}
 use Rattle.stack_polygon.specs.Plane.{triangle_of}
 use Rattle.stack_polygon.specs.Corners.{reversed, IsStrictlyConvex}
-use Rattle.stack_polygon.specs.Rectangles.{is_across, is_upright, is_across_first, is_upright_first, is_rectangle, is_clockwise, turned, rectangle_of, StandsFor}
+use Rattle.stack_polygon.specs.Rectangles.{is_across_first, is_upright_first, is_rectangle, is_clockwise}
+use Rattle.stack_polygon.specs.Rectangles.{turned, rectangle_of, StandsFor}
 use Rattle.stack_polygon.specs.Limits.{AreInRange, are_in_range, IsPolygon}
 use Rattle.stack_polygon.proofs.Ranges.{length-reversed, range-reversed, all_in_range}
-use Rattle.stack_polygon.proofs.Convexity.{at, HasEight, convex_by_eight, eight_across, eight_upright, product_positive}
+use Rattle.stack_polygon.proofs.Convexity.{at, convex_by_eight, eight_across, eight_upright, product_positive}
 
 -- what the polygon of a list is
 pub record IsTurnedTo (ps qs : List Point) : Type 0 where
@@ -44,7 +45,8 @@ by_turn : (a b c d : Point) → (pos 0 ≼ triangle_of a b c → IsStrictlyConve
     → (triangle_of a b c ≺ pos 0 → IsStrictlyConvex (a ∷ d ∷ c ∷ b ∷ [])) → IsTurned (a ∷ b ∷ c ∷ d ∷ [])
 by_turn a b c d left right = go (int_lt (triangle_of a b c) (pos 0)) refl
   where
-    go : (t : Bool) → int_lt (triangle_of a b c) (pos 0) ≡ t → chosen a b c d (int_lt (triangle_of a b c) (pos 0))
+    go : (t : Bool) → int_lt (triangle_of a b c) (pos 0) ≡ t
+        → chosen a b c d (int_lt (triangle_of a b c) (pos 0))
     go true e =
         let low = below_zero (triangle_of a b c) e in
         let bent : ¬ (IsStrictlyConvex (a ∷ b ∷ c ∷ d ∷ [])) = λ h. let z = h 0 (omega arith) 2 (omega arith) (λ q. cc) (λ q. cc) in absurd (omega (arith, ints)) in
@@ -87,7 +89,8 @@ step s t u v h = let p = both (int_eq s t) (not (int_eq u v)) h in
     ((Decides-int_eq s t).0 p.0, λ e. let q = (Decides-int_eq u v).1 e in cc)
 
 -- the corners of four sides, by the coordinates of two
-four : (P : List Point → Type 0) (a b c d : Point) (b2 c2 d2 : Point) → b2 ≡ b → c2 ≡ c → d2 ≡ d → P (a ∷ b2 ∷ c2 ∷ d2 ∷ []) → P (a ∷ b ∷ c ∷ d ∷ [])
+four : (P : List Point → Type 0) (a b c d : Point) (b2 c2 d2 : Point) → b2 ≡ b → c2 ≡ c → d2 ≡ d
+    → P (a ∷ b2 ∷ c2 ∷ d2 ∷ []) → P (a ∷ b ∷ c ∷ d ∷ [])
 four P a b c d b2 c2 d2 hb hc hd h = subst P (λ i. a ∷ hb i ∷ hc i ∷ hd i ∷ []) h
 
 first_across : (a b c d : Point) → is_across_first a b c d ≡ true → IsTurned (a ∷ b ∷ c ∷ d ∷ [])
@@ -131,7 +134,8 @@ abbrev either : List Point → Bool → List Point
 either ps t = if t then reversed ps else ps
 
 -- what the code holds after the turn
-pub turned_polygon : (ps new : List Point) → AreInRange ps → is_rectangle ps ≡ true → new ≡ turned ps → IsPolygon new
+pub turned_polygon : (ps new : List Point) → AreInRange ps → is_rectangle ps ≡ true → new ≡ turned ps
+    → IsPolygon new
 turned_polygon ps new r h n = subst IsPolygon (sym n) (go (is_clockwise ps) refl)
   where
     is : IsTurned ps
@@ -144,14 +148,16 @@ turned_polygon ps new r h n = subst IsPolygon (sym n) (go (is_clockwise ps) refl
     go true w = made (ap (λ t. length (either ps t)) w ∙ length-reversed ps) (subst (λ t. AreInRange (either ps t)) (sym w) (range-reversed ps r))
     go false w = made (ap (λ t. length (either ps t)) w) (subst (λ t. AreInRange (either ps t)) (sym w) r)
 
-pub turned_stands : (old held new : List Point) → held ≡ old → is_rectangle held ≡ true → new ≡ turned old → StandsFor old new
+pub turned_stands : (old held new : List Point) → held ≡ old → is_rectangle held ≡ true → new ≡ turned old
+    → StandsFor old new
 turned_stands old held new e h n = subst (λ qs. StandsFor old qs) (sym n) (turned_rectangle old (subst (λ qs. is_rectangle qs ≡ true) e h)).stands
 
 -- the polygon of a list
 pub rectangle_is_polygon : (ps qs : List Point) → rectangle_of ps ≡ Some qs → IsPolygon qs
 rectangle_is_polygon ps qs h = go (are_in_range ps) (is_rectangle ps) refl refl h
   where
-    go : (a b : Bool) → are_in_range ps ≡ a → is_rectangle ps ≡ b → (if a && b then Some (turned ps) else None) ≡ Some qs → IsPolygon qs
+    go : (a b : Bool) → are_in_range ps ≡ a → is_rectangle ps ≡ b
+        → (if a && b then Some (turned ps) else None) ≡ Some qs → IsPolygon qs
     go true true ea eb e = turned_polygon ps qs (all_in_range ps ea) eb (cc)
     go true false ea eb e = absurd (cc)
     go false b ea eb e = absurd (cc)

@@ -1,6 +1,6 @@
 -- Area and first moments, as sums over the fan of triangles from the first corner.
 use mathlib.Core.List.{List}
-use Prim.Native.Nat.{ℕ, ◌+◌, ◌-◌}
+use Prim.Native.Nat.{◌+◌, ◌-◌}
 use lib.IntN.{ℤ, ◌+ℤ◌, ◌*ℤ◌}
 use lib.ListN.{length}
 use Rattle.stack_algebra.specs.Sums.{sum_to}

@@ -1,15 +1,14 @@
 -- Lists of corners: edges, strict convexity, the points inside, and the list in the other order.
 -- Edge i runs from corner i to the next one, and the last edge back to corner 0.
-use mathlib.Core.Path.{◌≡◌}
 use mathlib.Core.Logic.{◌≢◌}
-use mathlib.Core.Bool.{Bool, cond}
+use mathlib.Core.Bool.{cond}
 use mathlib.Core.List.{List, [], ◌∷◌}
 use Prim.Native.Nat.{ℕ, suc, ◌<◌}
 use lib.Dec.{eqb}
 use lib.IntN.{ℤ, pos}
 use lib.ListN.{length, get_or}
 use Rattle.std.specs.Prelude.{reverse}
-use Rattle.stack_algebra.proofs.Order.{◌≼◌, ◌≺◌}
+use Rattle.stack_algebra.specs.IntegerOrder.{◌≼◌, ◌≺◌}
 use Rattle.stack_polygon.specs.declared.point.Point.{Point}
 use Rattle.stack_polygon.specs.Plane.{Place, triangle_of, left_of}
 

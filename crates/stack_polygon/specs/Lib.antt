@@ -2,5 +2,6 @@ pub mod Plane
 pub mod Corners
 pub mod Limits
 pub mod Rectangles
+pub mod Outlines
 pub mod Area
 pub mod Sizes

@@ -1,12 +1,13 @@
--- What holds of every polygon: strictly convex, counter-clockwise, 3 to 32 corners, coordinates of at most 1,000,000 in size.
-use mathlib.Core.Bool.{Bool, true, false, ◌&&◌}
-use mathlib.Core.List.{List, [], ◌∷◌}
+-- What holds of every polygon: strictly convex, counter-clockwise, 3 to 32 corners, coordinates of at most
+-- 1,000,000 in size.
+use mathlib.Core.Bool.{Bool, ◌&&◌}
+use mathlib.Core.List.{List}
 use Prim.Native.Nat.{ℕ, ◌<◌, ◌≤◌}
 use lib.IntN.{ℤ, pos, negsuc}
 use lib.ListN.{length}
 use Rattle.std.specs.Prelude.{int_le}
 use Rattle.std.specs.List.{list_all}
-use Rattle.stack_algebra.proofs.Order.{◌≼◌}
+use Rattle.stack_algebra.specs.IntegerOrder.{◌≼◌}
 use Rattle.stack_polygon.specs.declared.point.Point.{Point}
 use Rattle.stack_polygon.specs.Corners.{corner_of, IsStrictlyConvex}
 

@@ -3,7 +3,7 @@
 use mathlib.Core.Path.{◌≡◌}
 use Prim.Native.Nat.{zero, suc}
 use lib.IntN.{ℤ, pos, negsuc, ◌-ℤ◌, ◌*ℤ◌}
-use Rattle.stack_algebra.proofs.Order.{◌≺◌}
+use Rattle.stack_algebra.specs.IntegerOrder.{◌≺◌}
 use Rattle.stack_polygon.specs.declared.point.Point.{Point}
 
 -- the point (x/w, y/w)

@@ -1,9 +1,9 @@
 -- Axis-parallel rectangles: four corners in order round, either way, of positive area.
 use mathlib.Core.Path.{◌≡◌}
 use mathlib.Core.Logic.{◌⊎◌}
-use mathlib.Core.Bool.{Bool, true, false, not, ◌&&◌, ◌||◌}
+use mathlib.Core.Bool.{Bool, false, not, ◌&&◌, ◌||◌}
 use mathlib.Core.List.{List, [], ◌∷◌}
-use lib.IntN.{ℤ, pos}
+use lib.IntN.{pos}
 use Rattle.std.specs.Prelude.{Option, Some, None, int_lt, if◌then◌else◌}
 use Rattle.std.specs.Ordering.{int_eq}
 use Rattle.stack_polygon.specs.declared.point.Point.{Point}

@@ -1,7 +1,7 @@
 -- How large differences, their products and sums over a fan can grow within the limits.
 use Prim.Native.Nat.{ℕ, ◌*◌}
 use lib.IntN.{ℤ, pos, negsuc, neg_ℤ}
-use Rattle.stack_algebra.proofs.Order.{◌≼◌}
+use Rattle.stack_algebra.specs.IntegerOrder.{◌≼◌}
 use Rattle.stack_polygon.specs.declared.fan.Sums.{Sums}
 
 -- at most 2,000,000 in size, as a difference of coordinates is

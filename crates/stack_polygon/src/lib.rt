@@ -1,14 +1,19 @@
 //! Strictly convex polygons with whole coordinates.
 //!
-//! A `Polygon` is seen as the list of its corners: 3 to 32 of them, counter-clockwise, each strictly left of every edge that
-//! it isn't an end of, with coordinates from -1,000,000 to 1,000,000.
+//! A `Polygon` is seen as the list of its corners: 3 to 32 of them, counter-clockwise, each strictly left of
+//! every edge that it isn't an end of, with coordinates from -1,000,000 to 1,000,000.
 #![tactic(auto)]
 
 mod fan;
+mod laws;
 mod point;
 mod polygon;
 mod rectangle;
 mod turns;
 
+pub use laws::convexity_by_test;
 pub use point::Point;
 pub use polygon::Polygon;
+
+#[cfg(test)]
+mod tests;

@@ -33,9 +33,10 @@ impl Model for Polygon {
 }
 
 impl Polygon {
-    /// The axis-parallel rectangle with these corners, which may go round it either way: a clockwise list is reversed in
-    /// place, and its first corner stays first. `None` exactly where a coordinate isn't in -1,000,000 to 1,000,000, or the
-    /// list isn't the four corners, in order round, of an axis-parallel rectangle of positive area. Takes no memory.
+    /// The axis-parallel rectangle with these corners, which may go round it either way: a clockwise list is
+    /// reversed in place, and its first corner stays first. `None` exactly where a coordinate isn't in
+    /// -1,000,000 to 1,000,000, or the list isn't the four corners, in order round, of an axis-parallel
+    /// rectangle of positive area. Takes no memory.
     pub fn rectangle(mut corners: Vec<Point>) -> Option<Polygon>
         ensures value { result ≡ rectangle_of corners.items }
         ensures stands { IfSome result (λ ps. StandsFor corners.items ps) }
@@ -65,8 +66,8 @@ impl Polygon {
         self.corners[i]
     }
 
-    /// On which side of edge `i`, from corner `i` to the next one, the point lies: 1 on the left, 0 on the edge's line, -1 on
-    /// the right. Takes no memory.
+    /// On which side of edge `i`, from corner `i` to the next one, the point lies: 1 on the left, 0 on the
+    /// edge's line, -1 on the right. Takes no memory.
     pub fn side(&self, i: usize, at: Point) -> i32
         requires index { i < length self.now }
         requires range { IsInRange at }

@@ -2,8 +2,13 @@
 
 ghost use Rattle.std.specs.Prelude.{◌≡◌, ◌<◌, vec_len, IsTrue};
 ghost use Rattle.stack_polygon.specs.Corners.{reversed};
-ghost use Rattle.stack_polygon.specs.Limits.{AreInRange, are_in_range as are_in_range_of, is_in_range as is_in_range_of, is_near as is_near_of};
-ghost use Rattle.stack_polygon.specs.Rectangles.{is_across as is_across_of, is_upright as is_upright_of, is_across_first as is_across_first_of, is_upright_first as is_upright_first_of, is_rectangle as is_rectangle_of, is_clockwise as is_clockwise_of, turned};
+ghost use Rattle.stack_polygon.specs.Limits.{AreInRange, are_in_range as are_in_range_of};
+ghost use Rattle.stack_polygon.specs.Limits.{is_in_range as is_in_range_of, is_near as is_near_of};
+ghost use Rattle.stack_polygon.specs.Rectangles.{is_across as is_across_of, is_upright as is_upright_of};
+ghost use Rattle.stack_polygon.specs.Rectangles.{is_across_first as is_across_first_of};
+ghost use Rattle.stack_polygon.specs.Rectangles.{is_upright_first as is_upright_first_of};
+ghost use Rattle.stack_polygon.specs.Rectangles.{is_rectangle as is_rectangle_of};
+ghost use Rattle.stack_polygon.specs.Rectangles.{is_clockwise as is_clockwise_of, turned};
 
 use crate::point::Point;
 use crate::turns::triangle;
@@ -56,7 +61,8 @@ fn is_upright_first(a: Point, b: Point, c: Point, d: Point) -> bool
     is_upright(a, b) && is_across(b, c) && is_upright(c, d) && is_across(d, a)
 }
 
-/// Whether the list is the four corners of an axis-parallel rectangle of positive area, in order round it either way.
+/// Whether the list is the four corners of an axis-parallel rectangle of positive area, in order round it
+/// either way.
 pub fn is_rectangle(corners: &[Point]) -> bool
     ensures { result ≡ is_rectangle_of corners.now }
 {

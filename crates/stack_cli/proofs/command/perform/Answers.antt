@@ -8,6 +8,7 @@ returns-in-Ok-clause-refused g c = λ above. record {
   refusal = output;
   is_status = c.status-in-Err-put.ensures;
   cause = c.in-Err-put.ensures.cause;
-  on_output = front _ c.in-Ok.answer _ _ _ _ c.as_slice.ensures.value c.in-Ok.ensures.gives c.in-Err-put.ensures.puts;
+  on_output = front _ c.in-Ok.answer _ _ _ _ c.as_slice.ensures.value c.in-Ok.ensures.gives
+      c.in-Err-put.ensures.puts;
   line = line_put _ _ _ _ _ c.put-in-Err-put.ensures.puts c.put-in-Err-put.ensures.cause;
 }

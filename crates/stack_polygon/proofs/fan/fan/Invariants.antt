@@ -1,7 +1,5 @@
-use Rattle.std.proofs.Common.{◌≡◌, ◌+◌}
-use Rattle.stack_algebra.specs.Sums.{sum_to}
+use Rattle.std.proofs.Common.{◌≡◌}
 use Rattle.stack_polygon.specs.Plane.{triangle_of}
-use Rattle.stack_polygon.specs.Corners.{corner_of}
 use Rattle.stack_polygon.specs.Area.{moment_about_y_of, moment_about_x_of}
 use Rattle.stack_polygon.specs.Sizes.{AreSums}
 use Rattle.stack_polygon.proofs.Fans.{fan_to}

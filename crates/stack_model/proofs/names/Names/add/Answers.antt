@@ -1,4 +1,4 @@
-use Rattle.std.proofs.Common.{◌∙◌, ap, ◌≡◌, not, string_bytes}
+use Rattle.std.proofs.Common.{◌∙◌, ap, not, string_bytes}
 use Rattle.std.specs.List.{list_any}
 use Rattle.std.specs.Str.{bytes_eq}
 use Rattle.stack_model.proofs.Numbering.{new-named}
