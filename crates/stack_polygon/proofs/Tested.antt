@@ -12,7 +12,8 @@ use Rattle.std.proofs.lemmas.Int.{ints}
 use Rattle.std.proofs.lemmas.Bool.Decides.{Decides-eqb}
 use Rattle.stack_algebra.specs.IntegerOrder.{◌≺◌}
 use Rattle.stack_polygon.specs.declared.point.Point.{Point}
-use Rattle.stack_polygon.specs.Corners.{corner_of, next_of, side_of, IsClear, IsStrictlyConvex}
+use Rattle.stack_algebra.specs.Search.{next_round}
+use Rattle.stack_polygon.specs.Corners.{corner_of, side_of, IsClear, IsStrictlyConvex}
 use Rattle.stack_polygon.specs.Outlines.{is_left_or_end, all_below, is_clear, is_convex}
 
 both : (a b : Bool) → a && b ≡ true → (a ≡ true) × (b ≡ true)
@@ -39,26 +40,26 @@ is_left : (z : ℤ) → pos 0 ≺ z → int_lt (pos 0) z ≡ true
 is_left z h = grind (arith, ints)
 
 clear_from : (ps : List Point) (i : ℕ) → is_clear ps i ≡ true → IsClear ps i
-clear_from ps i h j lt n m = left _ (go (j == i) (j == next_of (length ps) i) refl refl (each_below (is_left_or_end ps i) (length ps) h j lt))
+clear_from ps i h j lt n m = left _ (go (j == i) (j == next_round (length ps) i) refl refl (each_below (is_left_or_end ps i) (length ps) h j lt))
   where
-    go : (a b : Bool) → j == i ≡ a → j == next_of (length ps) i ≡ b
+    go : (a b : Bool) → j == i ≡ a → j == next_round (length ps) i ≡ b
         → (a || b) || int_lt (pos 0) (side_of ps i (corner_of ps j)) ≡ true
         → int_lt (pos 0) (side_of ps i (corner_of ps j)) ≡ true
     go true b e f h = absurd (n ((Decides-eqb j i).0 e))
-    go false true e f h = absurd (m ((Decides-eqb j (next_of (length ps) i)).0 f))
+    go false true e f h = absurd (m ((Decides-eqb j (next_round (length ps) i)).0 f))
     go false false e f h = h
 
 to_clear : (ps : List Point) (i : ℕ) → IsClear ps i → is_clear ps i ≡ true
 to_clear ps i h = below_each (is_left_or_end ps i) (length ps) each
   where
-    go : (j : ℕ) → j < length ps → (a b : Bool) → j == i ≡ a → j == next_of (length ps) i ≡ b
+    go : (j : ℕ) → j < length ps → (a b : Bool) → j == i ≡ a → j == next_round (length ps) i ≡ b
         → (a || b) || int_lt (pos 0) (side_of ps i (corner_of ps j)) ≡ true
     go j lt true b e f = refl
     go j lt false true e f = refl
-    go j lt false false e f = is_left _ (h j lt (λ same. let t = (Decides-eqb j i).1 same in cc) (λ same. let t = (Decides-eqb j (next_of (length ps) i)).1 same in cc))
+    go j lt false false e f = is_left _ (h j lt (λ same. let t = (Decides-eqb j i).1 same in cc) (λ same. let t = (Decides-eqb j (next_round (length ps) i)).1 same in cc))
 
     each : (j : ℕ) → j < length ps → is_left_or_end ps i j ≡ true
-    each j lt = go j lt (j == i) (j == next_of (length ps) i) refl refl
+    each j lt = go j lt (j == i) (j == next_round (length ps) i) refl refl
 
 pub convex_from : (ps : List Point) → is_convex ps ≡ true → IsStrictlyConvex ps
 convex_from ps h i lt = clear_from ps i (each_below (is_clear ps) (length ps) h i lt)

@@ -9,6 +9,7 @@ use lib.IntN.{ℤ, pos}
 use lib.ListN.{length, get_or}
 use Rattle.std.specs.Prelude.{reverse}
 use Rattle.stack_algebra.specs.IntegerOrder.{◌≼◌, ◌≺◌}
+use Rattle.stack_algebra.specs.Search.{next_round}
 use Rattle.stack_polygon.specs.declared.point.Point.{Point}
 use Rattle.stack_polygon.specs.Plane.{Place, triangle_of, left_of}
 
@@ -19,13 +20,9 @@ origin = record { x = pos 0; y = pos 0 }
 abbrev pub corner_of : List Point → ℕ → Point
 corner_of ps i = get_or ps i origin
 
--- the number after i, of n in a circle
-abbrev pub next_of : ℕ → ℕ → ℕ
-next_of n i = cond (eqb (suc i) n) 0 (suc i)
-
 -- the corner at which edge i ends
 abbrev pub end_of : List Point → ℕ → Point
-end_of ps i = corner_of ps (next_of (length ps) i)
+end_of ps i = corner_of ps (next_round (length ps) i)
 
 -- twice the area of edge i with a corner: positive where the corner lies strictly left of the edge
 abbrev pub side_of : List Point → ℕ → Point → ℤ
@@ -33,7 +30,7 @@ side_of ps i c = triangle_of (corner_of ps i) (end_of ps i) c
 
 -- every other corner, by its place in the list, lies strictly left of edge i
 abbrev pub IsClear : List Point → ℕ → Type 0
-IsClear ps i = (j : ℕ) → j < length ps → j ≢ i → j ≢ next_of (length ps) i → pos 0 ≺ side_of ps i (corner_of ps j)
+IsClear ps i = (j : ℕ) → j < length ps → j ≢ i → j ≢ next_round (length ps) i → pos 0 ≺ side_of ps i (corner_of ps j)
 
 -- and so for each edge
 abbrev pub IsStrictlyConvex : List Point → Type 0

@@ -8,11 +8,12 @@ use lib.IntN.{pos}
 use lib.ListN.{length}
 use Rattle.std.specs.Prelude.{Option, Some, None, Result, Ok, Err, ◌==◌, int_lt, if◌then◌else◌}
 use Rattle.stack_polygon.specs.declared.point.Point.{Point}
-use Rattle.stack_polygon.specs.Corners.{corner_of, next_of, side_of, reversed}
+use Rattle.stack_algebra.specs.Search.{next_round}
+use Rattle.stack_polygon.specs.Corners.{corner_of, side_of, reversed}
 
 -- corner j is an end of edge i, or lies strictly left of it
 abbrev pub is_left_or_end : List Point → ℕ → ℕ → Bool
-is_left_or_end ps i j = (j == i || j == next_of (length ps) i) || int_lt (pos 0) (side_of ps i (corner_of ps j))
+is_left_or_end ps i j = (j == i || j == next_round (length ps) i) || int_lt (pos 0) (side_of ps i (corner_of ps j))
 
 -- every number below n passes
 abbrev pub all_below : (ℕ → Bool) → ℕ → Bool

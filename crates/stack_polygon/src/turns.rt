@@ -2,7 +2,7 @@
 
 ghost use Rattle.std.specs.Prelude.{◌≡◌, ◌*ℤ◌, ◌<◌};
 ghost use Rattle.stack_polygon.specs.Plane.{triangle_of};
-ghost use Rattle.stack_polygon.specs.Corners.{next_of};
+ghost use Rattle.stack_algebra.specs.Search.{next_round};
 ghost use Rattle.stack_polygon.specs.Limits.{IsInRange};
 ghost use Rattle.stack_polygon.specs.Sizes.{IsStep, IsSquare, IsTwiceArea};
 
@@ -32,7 +32,7 @@ pub fn triangle(o: Point, p: Point, q: Point) -> i64
 /// The number after `i`, of `n` in a circle.
 pub fn next(n: usize, i: usize) -> usize
     requires { i < n }
-    ensures { result ≡ next_of n i }
+    ensures { result ≡ next_round n i }
 {
     if i + 1 == n { 0 } else { i + 1 }
 }
