@@ -9,7 +9,7 @@ use mir.Facts.{to_z-of_z}
 use Rattle.std.specs.Prelude.{Option, Some, None, IfSome}
 use Rattle.std.proofs.lemmas.Int.{fits_signed_from_abs}
 use Rattle.num_traits.specs.Laws.{ChecksSigned}
-use Rattle.stack_rational.specs.Fits.{Within}
+use Rattle.stack_rational.specs.Stored.{Within}
 
 fits-wide : (m v : ℤ) → Within m v → nat_abs m < 2 ^ 127 → SFits w128 v
 fits-wide m v h k = fits_signed_from_abs w128 v (omega (arith, h, k))

@@ -11,7 +11,8 @@ use Rattle.std.specs.Ordering.{MatchOrdering}
 use Rattle.std.proofs.lemmas.Cmp.{int_ranked}
 use Rattle.stack_algebra.specs.Fraction.{Fraction}
 use Rattle.stack_algebra.proofs.Over.{over}
-use Rattle.stack_rational.specs.Fits.{InStep, IsStored, order_of}
+use Rattle.stack_rational.specs.Stored.{InStep, IsStored}
+use Rattle.stack_rational.specs.Order.{order_of}
 use Rattle.stack_rational.proofs.Crosswise.{stored-num, stored-den}
 use Rattle.std.proofs.lemmas.Int.{ints, quot-rem}
 use Rattle.std.specs.Ordering.{int_cmp}

@@ -15,7 +15,7 @@ use Rattle.stack_algebra.specs.Fraction.{Fraction}
 use Rattle.stack_algebra.proofs.CommonDivisor.{gcd-is, gcd-left, gcd-right, gcd-pos, gcd-quotients, gcd-product, gcd-swap, dvd-gcd}
 use Rattle.stack_algebra.proofs.Fractions.{mul, mul-is, same_values}
 use Rattle.stack_algebra.proofs.Over.{over, over-is, over-lowest, IsLowest}
-use Rattle.stack_rational.specs.Fits.{Fits, IsStored, Within}
+use Rattle.stack_rational.specs.Stored.{Fits, IsStored, Within}
 use Rattle.stack_rational.proofs.Steps.{div-abs}
 
 pub exact-part : (z : ℤ) (g : ℕ) → g ∣ nat_abs z → pos g *ℤ quot_z z (pos g) ≡ z

@@ -14,7 +14,7 @@ use Rattle.stack_algebra.specs.Fraction.{Fraction}
 use Rattle.stack_algebra.proofs.CommonDivisor.{gcd-is}
 use Rattle.stack_algebra.proofs.Fractions.{add, add-is, same_values}
 use Rattle.stack_algebra.proofs.Over.{over, over-is, over-lowest, over_own, over-quotients, lowest-over, IsLowest}
-use Rattle.stack_rational.specs.Fits.{IsStored, Within, CommonFits, SumFits}
+use Rattle.stack_rational.specs.Stored.{IsStored, Within, CommonFits, SumFits}
 use Rattle.stack_rational.proofs.Crosswise.{Parts, parts_of, exact-part, positive-part}
 
 pub lowest : (n d g p q : ℤ) → pos 0 ≺ d → pos 0 ≤ℤ g → IsGcd (nat_abs n) (nat_abs d) (nat_abs g) → p ≡ quot_z n g → q ≡ quot_z d g → Parts (over n d) p q

@@ -8,7 +8,7 @@ use Rattle.stack_algebra.specs.Gcd.{gcd}
 use Rattle.stack_algebra.proofs.CommonDivisor.{gcd-unit}
 use Rattle.stack_algebra.proofs.Fractions.{of}
 use Rattle.stack_algebra.proofs.Over.{over, of-over}
-use Rattle.stack_rational.specs.Fits.{IsStored, Within}
+use Rattle.stack_rational.specs.Stored.{IsStored, Within}
 
 pub whole-stored : (m n k d : ℤ) → Within m k × (n ≡ k) → d ≡ pos 1 → 0 < nat_abs m → IsStored m n d
 whole-stored m n k d h e p = record {

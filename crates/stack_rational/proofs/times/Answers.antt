@@ -1,4 +1,0 @@
-use Rattle.stack_rational.proofs.times.Goals as goal
-
-pub returns : goal.returns
-returns g c = c.unless_least.ensures _ (g.met.T.CheckedMul.checked_mul_law _ _ _ c.checked_mul.ensures)
