@@ -27,6 +27,11 @@ over_itself (pos a) d = *ℤ_comm (pos d) (pos a)
 over_itself (negsuc a) zero = omega (arith, ints)
 over_itself (negsuc a) (suc d) = *ℤ_comm (negsuc d) (negsuc a)
 
+-- one over x, with the sign on the numerator
+pub inv-is : (x : Fraction) → 0 < nat_abs x.num → IsOver (inv x) (signed x.num x.den) (pos (nat_abs x.num))
+unfolding inv
+inv-is x h = inv_by-is x (nat_abs x.num) h
+
 pub inv_mul : (x : Fraction) → 0 < nat_abs x.num → mul (inv x) x ≡ of (pos 1)
 unfolding inv
 inv_mul x h = same_values _ _ _ _ _ _ (mul-is _ x _ _ _ _ (inv_by-is x (nat_abs x.num) h) (is_self x))
