@@ -1,10 +1,11 @@
 //! Fractions in lowest terms over one type of integers.
 
-ghost use Rattle.std.specs.Prelude.{◌≡◌, pos, ◌<ℤ◌, IfOk, OnErr};
-ghost use Rattle.stack_algebra.proofs.Fractions.{add, mul, of};
+ghost use Rattle.std.specs.Prelude.{◌≡◌, ◌≢◌, pos, ◌<ℤ◌, IfOk, OnErr};
+ghost use Rattle.stack_algebra.proofs.Fractions.{add, mul, neg, of};
+ghost use Rattle.stack_algebra.proofs.FractionField.{inv};
 ghost use Rattle.stack_algebra.proofs.Over.{over};
 ghost use Rattle.stack_rational.specs.Stored.{Fits, IsStored, SumFits, Within};
-ghost use Rattle.stack_rational.specs.Order.{order_of};
+ghost use Rattle.stack_rational.specs.Order.{order_of, sign_of_whole, is_zero_whole};
 
 use crate::comparing::order_of_parts;
 use crate::divisor::divisor;
@@ -139,6 +140,44 @@ impl<T: Integer> Frac<T> {
         Ok(reduced(num, den))
     }
 
+    /// The number with the other sign.
+    pub fn negated(self) -> Self
+        ensures { result ≡ neg self }
+    {
+        made(opposite(self.num), self.den)
+    }
+
+    /// One by a number that isn't 0.
+    pub fn inverted(self) -> Self
+        requires { self.num ≢ pos 0 }
+        ensures { result ≡ inv self }
+    {
+        if is_minus(self.num) {
+            made(opposite(self.den), opposite(self.num))
+        } else {
+            made(self.den, self.num)
+        }
+    }
+
+    /// The difference, refused as the sum with the other sign.
+    pub fn less(self, other: Self) -> Result<Self, Passed>
+        ensures ok { IfOk result (λ r. r ≡ add self (neg other)) }
+        ensures fits { IfOk result (λ r. SumFits T.MAX self (neg other)) }
+        ensures err { OnErr result (¬ (SumFits T.MAX self (neg other))) }
+    {
+        self.plus(other.negated())
+    }
+
+    /// The quotient by a number that isn't 0, refused exactly where its lowest terms pass the greatest value.
+    pub fn by(self, other: Self) -> Result<Self, Passed>
+        requires { other.num ≢ pos 0 }
+        ensures ok { IfOk result (λ r. r ≡ mul (inv other) self) }
+        ensures fits { IfOk result (λ r. Fits T.MAX (mul (inv other) self)) }
+        ensures err { OnErr result (¬ (Fits T.MAX (mul (inv other) self))) }
+    {
+        other.inverted().times(self)
+    }
+
     /// The order.
     pub fn compare(self, other: Self) -> Ordering
         ensures { result ≡ order_of self other }
@@ -164,5 +203,24 @@ impl<T: Integer> Frac<T> {
     {
         (as_wide(self.num), as_wide(self.den))
     }
-}
 
+    /// Whether the number is 0.
+    pub fn is_nothing(self) -> bool
+        ensures { result ≡ is_zero_whole self.num }
+    {
+        self.num.is_zero()
+    }
+
+    /// -1, 0 or 1.
+    pub fn signum(self) -> i32
+        ensures { result ≡ sign_of_whole self.num }
+    {
+        if self.num.is_zero() {
+            0
+        } else if is_minus(self.num) {
+            -1
+        } else {
+            1
+        }
+    }
+}
