@@ -1,6 +1,6 @@
 //! Exact numbers of one width.
 
-use crate::frac::{Frac, Passed};
+use crate::frac::Frac;
 use crate::integer::Integer;
 use std::cmp::Ordering;
 
@@ -95,4 +95,63 @@ pub trait Exact: Copy {
         ensures num { result.0 ≡ (exact self).num }
         ensures den { result.1 ≡ pos (exact self).den }
         ensures fits { fits MAX (exact self) ≡ true };
+}
+
+impl<T: Integer> Exact for Frac<T> {
+    ghost exact = { λ x. x };
+
+    ghost MAX = { T.MAX };
+
+    const MAX: i128 = T::MAX;
+
+    fn from_whole(n: i128) -> Result<Self, Wide> {
+        match Frac::whole(n) {
+            Ok(x) => Ok(x),
+            Err(_) => Err(Wide { op: Op::Whole }),
+        }
+    }
+
+    fn sum(self, other: Self) -> Result<Self, Wide> {
+        match self.plus(other) {
+            Ok(x) => Ok(x),
+            Err(_) => Err(Wide { op: Op::Sum }),
+        }
+    }
+
+    fn difference(self, other: Self) -> Result<Self, Wide> {
+        match self.less(other) {
+            Ok(x) => Ok(x),
+            Err(_) => Err(Wide { op: Op::Difference }),
+        }
+    }
+
+    fn product(self, other: Self) -> Result<Self, Wide> {
+        match self.times(other) {
+            Ok(x) => Ok(x),
+            Err(_) => Err(Wide { op: Op::Product }),
+        }
+    }
+
+    fn quotient(self, other: Self) -> Result<Self, Wide> {
+        match self.by(other) {
+            Ok(x) => Ok(x),
+            Err(_) => Err(Wide { op: Op::Quotient }),
+        }
+    }
+
+    fn order(self, other: Self) -> Ordering {
+        self.compare(other)
+    }
+
+    fn is_zero(self) -> bool {
+        self.is_nothing()
+    }
+
+    fn sign(self) -> i32 {
+        self.signum()
+    }
+
+    fn parts(self) -> (i128, i128) {
+        self.both()
+    }
 }

@@ -6,7 +6,9 @@ mod divisor;
 mod exact;
 mod frac;
 mod integer;
+mod laws;
 
 pub use exact::{Exact, Op, Wide};
 pub use frac::Frac;
 pub use integer::Integer;
+pub use laws::{order_law, parts_law, wider_law};
