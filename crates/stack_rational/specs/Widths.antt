@@ -9,6 +9,8 @@ use Rattle.std.specs.Int.{Width, cast_signed, cast_unsigned}
 use Rattle.std.proofs.lemmas.Int.{fits_signed_from_abs}
 use Rattle.std.proofs.lemmas.Nat.{pow_pos}
 use Rattle.num_traits.specs.Ints.{signed-bits_of}
+use Rattle.std.proofs.lemmas.Int.{ints}
+use Rattle.stack_rational.specs.Passes.{IsWidth}
 use Rattle.stack_rational.specs.Back.{from_integer, same_integer}
 
 pub signed-keeps : (w : Width) (z : ℤ) → nat_abs z ≤ 2 ^ hbits w - 1 → SFits w z
@@ -26,3 +28,7 @@ signed-lowest w = omega arith
 
 pub signed-back : (w : Width) (x : ℤ) → nat_abs x ≤ 2 ^ hbits w - 1 → from_integer w (cast_signed w) x ≡ x
 signed-back w x h = same_integer w (cast_signed w) (cast_unsigned w) (λ z. z) x (to_z-of_z (signed-keeps w x h)) (signed-bits_of w x (signed-keeps w x h))
+
+-- the bounds of a greatest value
+pub width_of : (m : ℤ) → (0 < nat_abs m) × (nat_abs m < 2 ^ 127) × (m ≡ pos (nat_abs m)) → IsWidth m
+width_of m h = record { some = omega (arith, ints, h.0, h.2); at_most = omega (arith, ints, h.1, h.2) }

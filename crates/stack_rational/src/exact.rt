@@ -30,7 +30,7 @@ pub trait Exact: Copy {
     ghost use Rattle.stack_algebra.specs.Fraction.{Fraction};
     ghost use Rattle.stack_algebra.proofs.Fractions.{of};
     ghost use Rattle.stack_rational.specs.declared.exact.Op.TheVariants as op;
-    ghost use Rattle.stack_rational.specs.Passes.{fits, passes, value_of};
+    ghost use Rattle.stack_rational.specs.Passes.{IsWidth, fits, passes, value_of};
     ghost use Rattle.stack_rational.specs.Order.{order_of, sign_of_whole, is_zero_whole};
 
     // The value.
@@ -95,12 +95,19 @@ pub trait Exact: Copy {
         ensures num { result.0 ≡ (exact self).num }
         ensures den { result.1 ≡ pos (exact self).den }
         ensures fits { fits MAX (exact self) ≡ true };
+
+    // The greatest value lies between 1 and that of 128 bits.
+    ghost max_law: { IsWidth MAX };
 }
 
 impl<T: Integer> Exact for Frac<T> {
     ghost exact = { λ x. x };
 
+    ghost use Rattle.stack_rational.specs.Widths.{width_of};
+
     ghost MAX = { T.MAX };
+
+    ghost max_law = { width_of T.MAX (T.Integer.size_law T.Integral.exact_law) };
 
     const MAX: i128 = T::MAX;
 

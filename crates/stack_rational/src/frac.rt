@@ -1,10 +1,12 @@
 //! Fractions in lowest terms over one type of integers.
 
-ghost use Rattle.std.specs.Prelude.{◌≡◌, ◌≢◌, pos, ◌<ℤ◌, IfOk, OnErr};
+ghost use Rattle.std.specs.Prelude.{◌≡◌, ◌≢◌, pos, ◌<ℤ◌, IfOk, OnErr, unsigned_abs};
 ghost use Rattle.stack_algebra.proofs.Fractions.{add, mul, neg, of};
 ghost use Rattle.stack_algebra.proofs.FractionField.{inv};
 ghost use Rattle.stack_algebra.proofs.Over.{over};
 ghost use Rattle.stack_rational.specs.Stored.{Fits, IsStored, SumFits, Within};
+ghost use Rattle.num_traits.specs.Laws.{Checks};
+ghost use Rattle.stack_rational.specs.CommonScale.{common_multiple};
 ghost use Rattle.stack_rational.specs.Order.{order_of, sign_of_whole, is_zero_whole};
 
 use crate::comparing::order_of_parts;
@@ -222,5 +224,14 @@ impl<T: Integer> Frac<T> {
         } else {
             1
         }
+    }
+
+    /// The least common multiple of a positive number and the denominator, or none where it passes the greatest value.
+    pub fn joined(&self, scale: T) -> Option<T>
+        requires { Within T.MAX (T.value scale) × (pos 0 <ℤ T.value scale) }
+        ensures { Checks T.value (Within T.MAX) (pos (common_multiple (unsigned_abs (T.value scale)) self.now.den)) result }
+    {
+        let g = divisor(scale, self.den);
+        times(part(scale, g), self.den)
     }
 }
