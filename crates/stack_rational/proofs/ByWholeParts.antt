@@ -59,7 +59,8 @@ split a b q r ha hb eq er =
       below = omega (arith, ints, less, hb, low);
     }
 
-less_cross : (q p r s b d : ℤ) → q ≺ p → pos 0 ≼ r → pos 0 ≼ s → r ≺ b → pos 0 ≺ b → pos 0 ≺ d → (q *ℤ b +ℤ r) *ℤ d ≺ (p *ℤ d +ℤ s) *ℤ b
+less_cross : (q p r s b d : ℤ) → q ≺ p → pos 0 ≼ r → pos 0 ≼ s → r ≺ b → pos 0 ≺ b → pos 0 ≺ d →
+    (q *ℤ b +ℤ r) *ℤ d ≺ (p *ℤ d +ℤ s) *ℤ b
 less_cross q p r s b d h hr hs hb pb pd =
     let bd = mul_pos b d pb pd in
     let h₁ = mul_nonneg (p -ℤ q -ℤ pos 1) (b *ℤ d) (omega (arith, sums, h)) (omega (arith, sums, bd)) in
@@ -67,15 +68,19 @@ less_cross q p r s b d h hr hs hb pb pd =
     let h₃ = mul_nonneg s b hs (omega (arith, sums, pb)) in
     simp expand (omega (arith, sums, simp expand at h₁, simp expand at h₂, h₃))
 
-pub less-parts : (a b c d q p r s : ℤ) → Split a b q r → Split c d p s → pos 0 ≺ b → pos 0 ≺ d → q ≺ p → a *ℤ d ≺ c *ℤ b
-less-parts a b c d q p r s u v hb hd h = subst₂ (λ x y. x *ℤ d ≺ y *ℤ b) u.sum v.sum (less_cross q p r s b d h u.low v.low u.below hb hd)
+pub less-parts : (a b c d q p r s : ℤ) → Split a b q r → Split c d p s → pos 0 ≺ b → pos 0 ≺ d → q ≺ p →
+    a *ℤ d ≺ c *ℤ b
+less-parts a b c d q p r s u v hb hd h = subst₂ (λ x y. x *ℤ d ≺ y *ℤ b) u.sum v.sum
+    (less_cross q p r s b d h u.low v.low u.below hb hd)
 
 turn_cross : (q r s b d : ℤ) → (q *ℤ b +ℤ r) *ℤ d +ℤ b *ℤ s ≡ d *ℤ r +ℤ (q *ℤ d +ℤ s) *ℤ b
 turn_cross q r s b d = simp expand (omega (arith, sums))
 
-pub turn : (a b c d q p r s : ℤ) → Split a b q r → Split c d p s → q ≡ p → int_cmp (a *ℤ d) (c *ℤ b) ≡ int_cmp (d *ℤ r) (b *ℤ s)
+pub turn : (a b c d q p r s : ℤ) → Split a b q r → Split c d p s → q ≡ p → int_cmp (a *ℤ d) (c *ℤ b)
+    ≡ int_cmp (d *ℤ r) (b *ℤ s)
 turn a b c d q p r s u v e = cmp-shift (a *ℤ d) (c *ℤ b) (d *ℤ r) (b *ℤ s)
-    (subst₂ (λ x y. x *ℤ d +ℤ b *ℤ s ≡ d *ℤ r +ℤ y *ℤ b) u.sum ((λ i. e i *ℤ d +ℤ s) ∙ v.sum) (turn_cross q r s b d))
+    (subst₂ (λ x y. x *ℤ d +ℤ b *ℤ s ≡ d *ℤ r +ℤ y *ℤ b) u.sum ((λ i. e i *ℤ d +ℤ s) ∙ v.sum)
+    (turn_cross q r s b d))
 
 nought : (d r : ℤ) → r ≡ pos 0 → d *ℤ r ≡ pos 0
 nought d r e = ap (λ z. d *ℤ z) e ∙ omega (arith, ints)
@@ -84,12 +89,14 @@ pub ends-equal : (b d r s : ℤ) → r ≡ pos 0 → s ≡ pos 0 → int_cmp (d 
 ends-equal b d r s e f = cmp-equal _ _ (nought d r e ∙ sym (nought b s f))
 
 pub ends-greater : (b d r s : ℤ) → pos 0 ≺ d → pos 0 ≺ r → s ≡ pos 0 → int_cmp (d *ℤ r) (b *ℤ s) ≡ Greater
-ends-greater b d r s hd hr f = cmp-greater _ _ (subst (λ z. z ≺ d *ℤ r) (sym (nought b s f)) (mul_pos d r hd hr))
+ends-greater b d r s hd hr f = cmp-greater _ _
+    (subst (λ z. z ≺ d *ℤ r) (sym (nought b s f)) (mul_pos d r hd hr))
 
 pub ends-less : (b d r s : ℤ) → pos 0 ≺ b → r ≡ pos 0 → pos 0 ≺ s → int_cmp (d *ℤ r) (b *ℤ s) ≡ Less
 ends-less b d r s hb e hs = cmp-less _ _ (subst (λ z. z ≺ b *ℤ s) (sym (nought d r e)) (mul_pos b s hb hs))
 
-pub next-step : (m a b c d q p r s : ℤ) → InStep m a b c d → Split a b q r → Split c d p s → pos 0 ≺ r → pos 0 ≺ s → InStep m d s b r
+pub next-step : (m a b c d q p r s : ℤ) → InStep m a b c d → Split a b q r → Split c d p s → pos 0 ≺ r →
+    pos 0 ≺ s → InStep m d s b r
 next-step m a b c d q p r s i u v hr hs = record {
   size_a = i.size_d;
   size_b = omega (arith, ints, i.size_d, v.below, hs);
@@ -101,7 +108,8 @@ next-step m a b c d q p r s i u v hr hs = record {
   low_d = hr;
 }
 
-pub smaller-step : (b d r s a c q p : ℤ) → Split a b q r → Split c d p s → pos 0 ≼ r → pos 0 ≼ s → nat_abs s + nat_abs r < nat_abs b + nat_abs d
+pub smaller-step : (b d r s a c q p : ℤ) → Split a b q r → Split c d p s → pos 0 ≼ r → pos 0 ≼ s →
+    nat_abs s + nat_abs r < nat_abs b + nat_abs d
 smaller-step b d r s a c q p u v hr hs = omega (arith, ints, u.below, v.below, hr, hs)
 
 pub yes-less : (x y : ℤ) (r : Bool) → r ≡ int_lt x y → r ≡ true → x ≺ y
@@ -119,14 +127,18 @@ above (pos (suc n)) h k = omega (arith, ints)
 above (negsuc n) h k = absurd (omega (arith, ints, h))
 
 -- the order of what is stored
-pub stored-order : (m a b c d : ℤ) (x y : Fraction) → IsStored m a b → IsStored m c d → over a b ≡ x → over c d ≡ y → int_cmp (a *ℤ d) (c *ℤ b) ≡ order_of x y
-stored-order m a b c d x y s t u v = λ i. int_cmp (stored-num m a b x s u i *ℤ stored-den m c d y t v i) (stored-num m c d y t v i *ℤ stored-den m a b x s u i)
+pub stored-order : (m a b c d : ℤ) (x y : Fraction) → IsStored m a b → IsStored m c d → over a b ≡ x →
+    over c d ≡ y → int_cmp (a *ℤ d) (c *ℤ b) ≡ order_of x y
+stored-order m a b c d x y s t u v = λ i. int_cmp (stored-num m a b x s u i *ℤ stored-den m c d y t v i)
+    (stored-num m c d y t v i *ℤ stored-den m a b x s u i)
 
 opposite_cross : (a b c d : ℤ) → neg_ℤ c *ℤ b +ℤ c *ℤ b ≡ a *ℤ d +ℤ neg_ℤ a *ℤ d
 opposite_cross a b c d = simp expand (omega (arith, sums))
 
-pub opposite-order : (a b c d e f : ℤ) → e ≡ neg_ℤ c → f ≡ neg_ℤ a → int_cmp (e *ℤ b) (f *ℤ d) ≡ int_cmp (a *ℤ d) (c *ℤ b)
-opposite-order a b c d e f p q = cmp-shift (e *ℤ b) (f *ℤ d) (a *ℤ d) (c *ℤ b) (subst₂ (λ u v. u *ℤ b +ℤ c *ℤ b ≡ a *ℤ d +ℤ v *ℤ d) (sym p) (sym q) (opposite_cross a b c d))
+pub opposite-order : (a b c d e f : ℤ) → e ≡ neg_ℤ c → f ≡ neg_ℤ a → int_cmp (e *ℤ b) (f *ℤ d)
+    ≡ int_cmp (a *ℤ d) (c *ℤ b)
+opposite-order a b c d e f p q = cmp-shift (e *ℤ b) (f *ℤ d) (a *ℤ d) (c *ℤ b)
+    (subst₂ (λ u v. u *ℤ b +ℤ c *ℤ b ≡ a *ℤ d +ℤ v *ℤ d) (sym p) (sym q) (opposite_cross a b c d))
 
 pub sign-less : (a b c d : ℤ) → pos 0 ≺ b → pos 0 ≺ d → a ≺ pos 0 → pos 0 ≼ c → a *ℤ d ≺ c *ℤ b
 sign-less a b c d hb hd ha hc =

@@ -1,5 +1,5 @@
 -- The parts of a number with the other sign, and of one by a number.
-use mathlib.Core.Path.{◌≡◌, refl, sym, ap, subst, ◌∙◌}
+use mathlib.Core.Path.{◌≡◌, refl, sym, ap, ◌∙◌}
 use Prim.Native.Nat.{ℕ, zero, suc, ◌<◌}
 use native.Mathlib.Omega.{arith}
 use lib.IntN.{ℤ, pos, negsuc, nat_abs, neg_ℤ, ◌*ℤ◌}
@@ -26,26 +26,31 @@ some_size (pos (suc n)) h = omega arith
 some_size (negsuc n) h = omega (arith, ints)
 
 -- one by x, from a numerator with its sign and a positive denominator
-pub inverse-stored : (m n d : ℤ) (x : Fraction) → Fits m x → ¬ (x.num ≡ pos 0) → n ≡ signed x.num x.den → d ≡ pos (nat_abs x.num) → IsStored m n d
+pub inverse-stored : (m n d : ℤ) (x : Fraction) → Fits m x → ¬ (x.num ≡ pos 0) → n ≡ signed x.num x.den → d
+    ≡ pos (nat_abs x.num) → IsStored m n d
 inverse-stored m n d x f h en ed = record {
   lowest = record {
     positive = omega (arith, ints, some_size x.num h, ed);
-    lowest = (λ i. gcd (nat_abs (en i)) (nat_abs (ed i))) ∙ ap (λ k. gcd k (nat_abs x.num)) (abs_signed x.num x.den)
+    lowest = (λ i. gcd (nat_abs (en i)) (nat_abs (ed i)))
+        ∙ ap (λ k. gcd k (nat_abs x.num)) (abs_signed x.num x.den)
         ∙ gcd-swap x.den (nat_abs x.num) ∙ x.lowest;
   };
   num = omega (arith, ap nat_abs en, abs_signed x.num x.den, f.den);
   den = omega (arith, ap nat_abs ed, f.num);
 }
 
-pub inverse-is : (n d : ℤ) (x : Fraction) → ¬ (x.num ≡ pos 0) → n ≡ signed x.num x.den → d ≡ pos (nat_abs x.num) → over n d ≡ inv x
+pub inverse-is : (n d : ℤ) (x : Fraction) → ¬ (x.num ≡ pos 0) → n ≡ signed x.num x.den → d
+    ≡ pos (nat_abs x.num) → over n d ≡ inv x
 inverse-is n d x h en ed = same_values _ _ n d _ _ (over-is n d (omega (arith, ints, some_size x.num h, ed)))
     (inv-is x (some_size x.num h)) (λ i. en i *ℤ sym ed i)
 
 -- the parts by the sign: below 0 both change theirs
 pub parts-below : (m a b n d : ℤ) (x : Fraction) (t : Bool) → IsStored m a b → over a b ≡ x →
-    t ≡ int_lt a (pos 0) → t ≡ true → n ≡ neg_ℤ b → d ≡ neg_ℤ a → (n ≡ signed x.num x.den) × (d ≡ pos (nat_abs x.num))
+    t ≡ int_lt a (pos 0) → t ≡ true → n ≡ neg_ℤ b → d ≡ neg_ℤ a →
+    (n ≡ signed x.num x.den) × (d ≡ pos (nat_abs x.num))
 parts-below m a b n d x t s e et on en ed = (
-  en ∙ ap neg_ℤ (stored-den m a b x s e) ∙ sym (sign a x.den (yes-less a (pos 0) t et on)) ∙ ap (λ z. signed z x.den) (stored-num m a b x s e),
+  en ∙ ap neg_ℤ (stored-den m a b x s e) ∙ sym (sign a x.den (yes-less a (pos 0) t et on))
+      ∙ ap (λ z. signed z x.den) (stored-num m a b x s e),
   ed ∙ sym (size a (yes-less a (pos 0) t et on)) ∙ ap (λ (z : ℤ). pos (nat_abs z)) (stored-num m a b x s e),
 )
   where
@@ -60,7 +65,8 @@ parts-below m a b n d x t s e et on en ed = (
 pub parts-above : (m a b : ℤ) (x : Fraction) (t : Bool) → IsStored m a b → over a b ≡ x →
     t ≡ int_lt a (pos 0) → t ≡ false → (b ≡ signed x.num x.den) × (a ≡ pos (nat_abs x.num))
 parts-above m a b x t s e et off = (
-  stored-den m a b x s e ∙ sym (sign a x.den (no-less a (pos 0) t et off)) ∙ ap (λ z. signed z x.den) (stored-num m a b x s e),
+  stored-den m a b x s e ∙ sym (sign a x.den (no-less a (pos 0) t et off))
+      ∙ ap (λ z. signed z x.den) (stored-num m a b x s e),
   sym (size a (no-less a (pos 0) t et off)) ∙ ap (λ (z : ℤ). pos (nat_abs z)) (stored-num m a b x s e),
 )
   where

@@ -12,7 +12,11 @@ use Rattle.stack_rational.specs.Stored.{IsStored, Within}
 
 pub whole-stored : (m n k d : ℤ) → Within m k × (n ≡ k) → d ≡ pos 1 → 0 < nat_abs m → IsStored m n d
 whole-stored m n k d h e p = record {
-  lowest = record { positive = omega (arith, ints, e); lowest = ap (gcd (nat_abs n)) (ap nat_abs e) ∙ gcd-unit (nat_abs n) };
+  lowest = record {
+    positive = omega (arith, ints, e);
+    lowest = ap (gcd (nat_abs n)) (ap nat_abs e)
+        ∙ gcd-unit (nat_abs n);
+  };
   num = omega (arith, h.0, ap nat_abs h.1);
   den = omega (arith, ap nat_abs e, p);
 }

@@ -19,11 +19,13 @@ num_of n = ap (λ (x : Fraction). x.num) (sym (of-over n))
 
 pub den_of : (n : ℤ) → (of n).den ≡ 1
 den_of n = ap (λ (x : Fraction). x.den) (sym (of-over n))
-    ∙ ap nat_abs (over-lowest n (pos 1) (record { positive = omega (arith, ints); lowest = gcd-unit (nat_abs n) })).1
+    ∙ ap nat_abs (over-lowest n (pos 1)
+    (record { positive = omega (arith, ints); lowest = gcd-unit (nat_abs n) })).1
 
 -- k is n as the type holds it
 pub whole_fits : (m n k : ℤ) → k ≡ n → Within m k → passes m Whole (of n) (of n) ≡ false
-whole_fits m n k e h = ap not (le-leb (nat_abs (of n).num) (nat_abs m) (subst (λ z. Within m z) (e ∙ sym (num_of n)) h))
+whole_fits m n k e h = ap not (le-leb (nat_abs (of n).num) (nat_abs m)
+    (subst (λ z. Within m z) (e ∙ sym (num_of n)) h))
 
 pub whole_passes : (m n k : ℤ) → k ≡ n → ¬ (Within m k) → passes m Whole (of n) (of n) ≡ true
 whole_passes m n k e h = ap not (lt-leb (nat_abs (of n).num) (nat_abs m)

@@ -1,7 +1,7 @@
 -- A loop that joins one denominator after the other.
 use mathlib.Core.Path.{◌≡◌, refl, sym, ap, subst, ◌∙◌}
 use mathlib.Core.List.{List}
-use Prim.Native.Nat.{ℕ, ◌+◌, ◌-◌, ◌^◌, ◌<◌, ◌≤◌}
+use Prim.Native.Nat.{ℕ, ◌+◌, ◌<◌, ◌≤◌}
 use native.Mathlib.Omega.{arith}
 use native.Mathlib.Decide.{ℕ_discrete}
 use lib.ListN.{take, length, get_or}
@@ -37,23 +37,28 @@ running_within xs i s r = (
 )
 
 -- the multiple that is made next
-next_is : (xs : List Fraction) (i : ℕ) (d : Fraction) (s : ℤ) → i < length xs → d ≡ get_or xs i d → IsRunning xs i s →
+next_is : (xs : List Fraction) (i : ℕ) (d : Fraction) (s : ℤ) → i < length xs → d ≡ get_or xs i d →
+    IsRunning xs i s →
     common_multiple (nat_abs s) d.den ≡ scale_of (take (i + 1) xs)
 next_is xs i d s l is r = ap (λ (z : ℤ). common_multiple (nat_abs z) d.den) r.is
     ∙ ap (λ (x : Fraction). common_multiple (scale_of (take i xs)) x.den) is ∙ sym (scale_of-more xs i d l)
 
-pub running_more : (xs : List Fraction) (i : ℕ) (d : Fraction) (s n : ℤ) → i < length xs → d ≡ get_or xs i d → IsRunning xs i s →
-    Within widest (pos (common_multiple (nat_abs s) d.den)) → n ≡ pos (common_multiple (nat_abs s) d.den) → IsRunning xs (i + 1) n
+pub running_more : (xs : List Fraction) (i : ℕ) (d : Fraction) (s n : ℤ) → i < length xs → d ≡ get_or xs i d →
+    IsRunning xs i s →
+    Within widest (pos (common_multiple (nat_abs s) d.den)) → n ≡ pos (common_multiple (nat_abs s) d.den) →
+    IsRunning xs (i + 1) n
 running_more xs i d s n l is r w en = record {
   is = en ∙ ap pos (next_is xs i d s l is r);
   fits = λ k m. go k m (ℕ_discrete k (i + 1));
 }
   where
     go : (k : ℕ) → k ≤ i + 1 → Dec (k ≡ i + 1) → scale_of (take k xs) ≤ greatest_number
-    go k m (yes q) = subst (λ j. scale_of (take j xs) ≤ greatest_number) (sym q) (omega (arith, w, next_is xs i d s l is r))
+    go k m (yes q) = subst (λ j. scale_of (take j xs) ≤ greatest_number) (sym q)
+        (omega (arith, w, next_is xs i d s l is r))
     go k m (no q) = r.fits k (omega (arith, m, q))
 
-pub running_out : (xs : List Fraction) (i : ℕ) (d : Fraction) (s : ℤ) → i < length xs → d ≡ get_or xs i d → IsRunning xs i s →
+pub running_out : (xs : List Fraction) (i : ℕ) (d : Fraction) (s : ℤ) → i < length xs → d ≡ get_or xs i d →
+    IsRunning xs i s →
     ¬ (Within widest (pos (common_multiple (nat_abs s) d.den))) → IsFirstPassing xs i
 running_out xs i d s l is r w = record {
   below = l;

@@ -24,7 +24,8 @@ pub record IsFirstPassing (xs : List Fraction) (i : ℕ) : Type 0 where
   pub passes : greatest_number < scale_of (take (i + 1) xs)
   pub fits_before : (k : ℕ) → k ≤ i → scale_of (take k xs) ≤ greatest_number
 
--- it is the least common multiple: each denominator divides it, and it divides each number that they all divide
+-- it is the least common multiple: each denominator divides it, and it divides each number that they all
+-- divide
 pub record IsLeastMultiple (xs : List Fraction) (n : ℕ) : Type 0 where
   pub common : AllByRecursion (λ x. x.den ∣ n) xs
   pub least : (m : ℕ) → AllByRecursion (λ x. x.den ∣ m) xs → n ∣ m

@@ -1,6 +1,5 @@
 -- Laws of what passes and of the order.
 use Rattle.std.specs.Prelude.{◌≡◌, ◌↔◌, ℤ, pos, ◌-◌, ◌^◌, true, false, unsigned_abs, ◌≤◌}
-use Rattle.std.specs.declared.cmp.Ordering.{Ordering}
 use Rattle.std.specs.declared.cmp.Ordering.TheVariants.{Less, Equal, Greater}
 use Rattle.stack_algebra.specs.Fraction.{Fraction}
 use Rattle.stack_algebra.proofs.Fractions.{add, neg, of}
@@ -9,7 +8,8 @@ use Rattle.stack_rational.specs.declared.exact.Op.TheVariants.{Whole, Quotient}
 use Rattle.stack_rational.specs.Order.{order_of}
 use Rattle.stack_rational.specs.Passes.{fits, passes, value_of}
 
--- what doesn't pass a greatest value doesn't pass a greater one; the value is the same, since it doesn't depend on either
+-- what doesn't pass a greatest value doesn't pass a greater one; the value is the same, since it doesn't
+-- depend on either
 abbrev pub WiderNeverPasses : Type 0
 WiderNeverPasses = (m n : ℤ) (op : Op) (x y : Fraction) → unsigned_abs m ≤ unsigned_abs n →
     passes m op x y ≡ false → passes n op x y ≡ false

@@ -1,6 +1,7 @@
--- When an operation on exact numbers passes a greatest value, and what it answers: one test and one value for each operation.
+-- When an operation on exact numbers passes a greatest value, and what it answers: one test and one value for
+-- each operation.
 -- Nothing of the way that the code takes is said here. Used by every layer that computes with exact numbers.
-use Rattle.std.specs.Prelude.{ℤ, pos, ◌/◌, ◌-◌, ◌^◌, ◌≤ℤ◌, ◌+ℤ◌, ◌*ℤ◌, Bool, true, false, not, ◌&&◌, nat_le, unsigned_abs}
+use Rattle.std.specs.Prelude.{ℤ, pos, ◌/◌, ◌-◌, ◌^◌, ◌≤ℤ◌, ◌+ℤ◌, ◌*ℤ◌, Bool, not, ◌&&◌, nat_le, unsigned_abs}
 use Rattle.stack_algebra.specs.Gcd.{gcd}
 use Rattle.stack_algebra.specs.Fraction.{Fraction}
 use Rattle.stack_algebra.proofs.Fractions.{add, mul, neg}

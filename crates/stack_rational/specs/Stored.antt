@@ -27,7 +27,9 @@ pub record IsHeld {T : Type 0} (m : ℤ) (value : T → ℤ) (back : ℤ → T) 
   pub num_back : back (value num) ≡ num
   pub den_back : back (value den) ≡ den
 
-pub held : {T : Type 0} (m : ℤ) (value : T → ℤ) (back : ℤ → T) (num den : T) → ((x : T) → nat_abs (value x) ≤ nat_abs m → back (value x) ≡ x) → IsStored m (value num) (value den) → IsHeld m value back num den
+pub held : {T : Type 0} (m : ℤ) (value : T → ℤ) (back : ℤ → T) (num den : T) →
+    ((x : T) → nat_abs (value x) ≤ nat_abs m → back (value x) ≡ x) → IsStored m (value num) (value den) →
+    IsHeld m value back num den
 held m value back num den law s = record { stored = s; num_back = law num s.num; den_back = law den s.den }
 
 -- two fractions that are compared, neither negative
@@ -50,4 +52,5 @@ pub record CommonFits (m a c d p q : ℤ) : Type 0 where
 
 -- the sum over the least common denominator
 abbrev pub SumFits : ℤ → Fraction → Fraction → Type 0
-SumFits m x y = let g = pos (gcd x.den y.den) in CommonFits m x.num y.num (pos y.den) (quot_z (pos x.den) g) (quot_z (pos y.den) g)
+SumFits m x y = let g = pos (gcd x.den y.den) in
+    CommonFits m x.num y.num (pos y.den) (quot_z (pos x.den) g) (quot_z (pos y.den) g)

@@ -46,4 +46,3 @@ pub fn order_of_parts<T: Integer>(a: T, b: T, c: T, d: T) -> Ordering
         b = s;
     }
 }
-

@@ -23,4 +23,3 @@ pub fn divisor<T: Integer>(a: T, b: T) -> T
     }
     x.abs()
 }
-

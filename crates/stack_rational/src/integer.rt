@@ -172,4 +172,3 @@ pub fn as_wide<T: Integer>(x: T) -> i128
         None => 0,
     }
 }
-

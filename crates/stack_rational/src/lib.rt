@@ -12,5 +12,5 @@ mod scale;
 pub use exact::{Exact, Op, Wide};
 pub use frac::Frac;
 pub use integer::Integer;
-pub use scale::{ScaleWide, common_scale, scale_law};
 pub use laws::{order_law, parts_law, wider_law};
+pub use scale::{ScaleWide, common_scale, scale_law};
