@@ -4,7 +4,8 @@ ghost use Rattle.std.specs.Prelude.{◌≡◌, pos, ◌≤ℤ◌, unsigned_abs};
 ghost use Rattle.std.specs.Int.{IsGcd};
 ghost use Rattle.stack_rational.specs.Stored.{Within};
 
-use crate::integer::Integer;
+use crate::halves::divisor_of;
+use crate::integer::{Integer, as_wide};
 
 /// The greatest common divisor of two numbers, of either sign.
 pub fn divisor<T: Integer>(a: T, b: T) -> T
@@ -14,12 +15,12 @@ pub fn divisor<T: Integer>(a: T, b: T) -> T
     ensures gcd { IsGcd (unsigned_abs (T.value a)) (unsigned_abs (T.value b)) (unsigned_abs (T.value result)) }
     ensures positive { pos 0 ≤ℤ T.value result }
 {
-    let mut x = a;
-    let mut y = b;
-    'steps: while !y.is_zero() {
-        let rest = x % y;
-        x = y;
-        y = rest;
+    if b.is_one() {
+        return b;
     }
-    x.abs()
+    let g = divisor_of(as_wide(a).unsigned_abs(), as_wide(b).unsigned_abs());
+    match T::from_u128(g) {
+        Some(d) => d,
+        None => a,
+    }
 }

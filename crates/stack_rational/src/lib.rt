@@ -5,6 +5,7 @@ mod comparing;
 mod divisor;
 mod exact;
 mod frac;
+mod halves;
 mod integer;
 mod laws;
 mod scale;

@@ -1,62 +1,33 @@
-use mathlib.Core.Path.{◌≡◌, refl, ap}
-use Prim.Native.Nat.{◌<◌}
-use native.Mathlib.Omega.{arith}
-use lib.IntN.{pos, nat_abs}
-use Rattle.std.proofs.lemmas.Int.{ints}
-use Rattle.stack_rational.proofs.Steps.{abs_neg, div-size, some_of, rem-step, rem_smaller, last_step}
+use mathlib.Core.Path.{◌≡◌, sym, ap, ◌∙◌}
+use lib.IntN.{nat_abs}
+use Rattle.stack_rational.proofs.AtWide.{recast}
+use Rattle.stack_rational.proofs.Divisors.{some_size, some_gcd, none_fits, one_gcd}
 use Rattle.stack_rational.proofs.divisor.divisor.Goals as goal
 
-pub steps-init : goal.steps-init
-steps-init g c = (c.requires.a, c.requires.b, λ n h. h)
+-- the sizes of both numbers at 128 bits
+size_a : (g : _) (c : goal.In-Some g) → c.unsigned_abs.result ≡ nat_abs (g.T.Number.value c.args.a)
+size_a g c = c.unsigned_abs.ensures.value ∙ ap nat_abs (recast g.T.Integer.MAX c.as_wide.result _ c.as_wide.ensures c.requires.a (g.met.T.Integer.size_law g.met.T.Integral.exact_law).1)
 
-pub rem-rest-requires : goal.rem-rest-requires
-rem-rest-requires g c = g.met.T.Num.can_rem_law c.steps.x c.steps.y
-    (λ e. (
-      c.is_zero.ensures.divisor c.steps-test.true,
-      g.met.T.Integer.keeps_law _ (omega (
-        arith,
-        div-size (g.T.Number.value c.steps.x) (g.T.Number.value c.steps.y),
-        c.steps.invariant.0,
-      )),
-    ))
+size_b : (g : _) (c : goal.In-Some g) → c.unsigned_abs-2.result ≡ nat_abs (g.T.Number.value c.args.b)
+size_b g c = c.unsigned_abs-2.ensures.value ∙ ap nat_abs (recast g.T.Integer.MAX c.as_wide-2.result _ c.as_wide-2.ensures c.requires.b (g.met.T.Integer.size_law g.met.T.Integral.exact_law).1)
 
-some : (g : _) (c : goal.After-rem-rest g) → 0 < nat_abs (g.T.Number.value c.steps.y)
-some g c = some_of (g.T.Number.value c.steps.y)
-    (λ (h : g.T.Number.value c.steps.y ≡ pos 0). cc
-    (rw c.steps-test.true at ((c.is_zero.ensures.value (g.met.T.Integral.exact_law)).1 h)))
+pub returns-in-Some-clause-size : goal.returns-in-Some-clause-size
+returns-in-Some-clause-size g c = some_size g.T.Integer.MAX (g.T.Number.value c.args.a) (g.T.Number.value c.args.b) _ _ _ _ (size_a g c) (size_b g c) c.divisor_of-g.ensures c.requires.a c.requires.b (c.in-Some.ensures.value g.met.T.Integral.exact_law).1
 
-pub steps-smaller : goal.steps-smaller
-steps-smaller g c = rem_smaller (g.T.Number.value c.steps.x) (g.T.Number.value c.steps.y)
-    (g.T.Number.value c.rem-rest.result)
-    (g.met.T.Num.rem_law _ _ _ c.rem-rest.ensures g.met.T.Integral.exact_law) (some g c)
+pub returns-in-Some-clause-gcd : goal.returns-in-Some-clause-gcd
+returns-in-Some-clause-gcd g c = some_gcd (g.T.Number.value c.args.a) (g.T.Number.value c.args.b) _ _ _ _ (size_a g c) (size_b g c) c.divisor_of-g.ensures (c.in-Some.ensures.value g.met.T.Integral.exact_law).1
 
-pub steps-preserved : goal.steps-preserved
-steps-preserved g c =
-    let is = g.met.T.Num.rem_law _ _ _ c.rem-rest.ensures g.met.T.Integral.exact_law in (
-      c.steps.invariant.1,
-      omega (
-        arith,
-        rem_smaller (g.T.Number.value c.steps.x) (g.T.Number.value c.steps.y)
-            (g.T.Number.value c.rem-rest.result) is (some g c),
-        c.steps.invariant.1,
-      ),
-      λ n h. c.steps.invariant.2 n (rem-step (g.T.Number.value c.steps.x)
-          (g.T.Number.value c.steps.y) (g.T.Number.value c.rem-rest.result) is n h),
-    )
+size_a-none : (g : _) (c : goal.In-None g) → c.unsigned_abs.result ≡ nat_abs (g.T.Number.value c.args.a)
+size_a-none g c = c.unsigned_abs.ensures.value ∙ ap nat_abs (recast g.T.Integer.MAX c.as_wide.result _ c.as_wide.ensures c.requires.a (g.met.T.Integer.size_law g.met.T.Integral.exact_law).1)
 
-pub abs-requires : goal.abs-requires
-abs-requires g c e = g.met.T.Integer.keeps_law _
-    (omega (arith, abs_neg (g.T.Number.value c.steps.x), c.steps.invariant.0))
+size_b-none : (g : _) (c : goal.In-None g) → c.unsigned_abs-2.result ≡ nat_abs (g.T.Number.value c.args.b)
+size_b-none g c = c.unsigned_abs-2.ensures.value ∙ ap nat_abs (recast g.T.Integer.MAX c.as_wide-2.result _ c.as_wide-2.ensures c.requires.b (g.met.T.Integer.size_law g.met.T.Integral.exact_law).1)
 
-pub returns-clause-size : goal.returns-clause-size
-returns-clause-size g c = omega
-    (arith, ap nat_abs (c.abs.ensures.value g.met.T.Integral.exact_law), c.steps.invariant.0)
+pub returns-in-None-clause-gcd : goal.returns-in-None-clause-gcd
+returns-in-None-clause-gcd g c = absurd (c.in-None.ensures.value g.met.T.Integral.exact_law (g.met.T.Integer.keeps_law _ (none_fits g.T.Integer.MAX (g.T.Number.value c.args.a) (g.T.Number.value c.args.b) _ _ _ (size_a-none g c) (size_b-none g c) c.divisor_of-g.ensures c.requires.a c.requires.b)))
 
-pub returns-clause-gcd : goal.returns-clause-gcd
-returns-clause-gcd g c = c.steps.invariant.2 _
-    (last_step (g.T.Number.value c.steps.x) (g.T.Number.value c.steps.y) (g.T.Number.value c.abs.result)
-    ((c.is_zero.ensures.value g.met.T.Integral.exact_law).0 (rw c.steps-test.false refl))
-    (c.abs.ensures.value g.met.T.Integral.exact_law))
+pub returns-in-None-clause-positive : goal.returns-in-None-clause-positive
+returns-in-None-clause-positive g c = absurd (c.in-None.ensures.value g.met.T.Integral.exact_law (g.met.T.Integer.keeps_law _ (none_fits g.T.Integer.MAX (g.T.Number.value c.args.a) (g.T.Number.value c.args.b) _ _ _ (size_a-none g c) (size_b-none g c) c.divisor_of-g.ensures c.requires.a c.requires.b)))
 
-pub returns-clause-positive : goal.returns-clause-positive
-returns-clause-positive g c = rw (c.abs.ensures.value g.met.T.Integral.exact_law) (omega (arith, ints))
+pub returns-then-is_one-clause-gcd : goal.returns-then-is_one-clause-gcd
+returns-then-is_one-clause-gcd g c = one_gcd (g.T.Number.value c.args.a) (g.T.Number.value c.args.b) ((c.is_one.ensures.value g.met.T.Integral.exact_law).0 c.if-is_one.true)
