@@ -85,6 +85,13 @@ fn reduced<T: Integer>(num: T, den: T) -> Frac<T>
     made(part(num, g), part(den, g))
 }
 
+/// 0.
+fn nothing<T: Integer>() -> Frac<T>
+    ensures { result ≡ of (pos 0) }
+{
+    made(T::zero(), T::one())
+}
+
 impl<T: Integer> Frac<T> {
     /// A whole number, refused exactly where its size passes the greatest value.
     pub fn whole(n: i128) -> Result<Self, Passed>
@@ -100,6 +107,22 @@ impl<T: Integer> Frac<T> {
 
     /// The product, refused exactly where its lowest terms pass the greatest value.
     pub fn times(self, other: Self) -> Result<Self, Passed>
+        ensures ok { IfOk result (λ r. r ≡ mul self other) }
+        ensures fits { IfOk result (λ r. Fits T.MAX (mul self other)) }
+        ensures err { OnErr result (¬ (Fits T.MAX (mul self other))) }
+    {
+        if self.num.is_zero() {
+            return Ok(nothing());
+        }
+        if other.num.is_zero() {
+            return Ok(nothing());
+        }
+        self.times_crosswise(other)
+    }
+
+    /// The same by parts that are divided crosswise: a/b * c/d = (a/g)(c/h) / ((b/h)(d/g)), with g = gcd(a, d) and
+    /// h = gcd(c, b).
+    fn times_crosswise(self, other: Self) -> Result<Self, Passed>
         ensures ok { IfOk result (λ r. r ≡ mul self other) }
         ensures fits { IfOk result (λ r. Fits T.MAX (mul self other)) }
         ensures err { OnErr result (¬ (Fits T.MAX (mul self other))) }
@@ -120,6 +143,27 @@ impl<T: Integer> Frac<T> {
     /// The sum, refused exactly where, over the least common denominator, that denominator, either
     /// term or the result passes the greatest value.
     pub fn plus(self, other: Self) -> Result<Self, Passed>
+        ensures ok { IfOk result (λ r. r ≡ add self other) }
+        ensures fits { IfOk result (λ r. SumFits T.MAX self other) }
+        ensures err { OnErr result (¬ (SumFits T.MAX self other)) }
+    {
+        if self.num.is_zero() {
+            return Ok(made(other.num, other.den));
+        }
+        if other.num.is_zero() {
+            return Ok(made(self.num, self.den));
+        }
+        if self.den == other.den {
+            return match plus(self.num, other.num) {
+                Some(num) => Ok(reduced(num, self.den)),
+                None => Err(Passed),
+            };
+        }
+        self.plus_over_common(other)
+    }
+
+    /// The same over the least common denominator: with g = gcd(b, d), a/b + c/d = (a(d/g) + c(b/g)) / ((b/g)d).
+    fn plus_over_common(self, other: Self) -> Result<Self, Passed>
         ensures ok { IfOk result (λ r. r ≡ add self other) }
         ensures fits { IfOk result (λ r. SumFits T.MAX self other) }
         ensures err { OnErr result (¬ (SumFits T.MAX self other)) }
