@@ -15,3 +15,6 @@ pub use frac::Frac;
 pub use integer::Integer;
 pub use laws::{order_law, parts_law, wider_law};
 pub use scale::{ScaleWide, common_scale, scale_law};
+
+#[cfg(test)]
+mod tests;
