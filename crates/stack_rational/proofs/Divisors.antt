@@ -1,5 +1,5 @@
 -- The divisor of two numbers from that of their sizes.
-use mathlib.Core.Path.{◌≡◌, sym, ap, subst, ◌∙◌}
+use mathlib.Core.Path.{◌≡◌, sym, ap, subst}
 use Prim.Native.Nat.{ℕ, ◌≤◌, ◌∣◌}
 use native.Mathlib.Nat.{one-dvd, dvd_refl}
 use native.Mathlib.Omega.{arith}

@@ -1,14 +1,14 @@
 -- Divisors of odd numbers, and the greatest common divisor with the factors of 2 taken out.
 use mathlib.Core.Path.{◌≡◌, refl, sym, ap, subst, subst₂, ◌∙◌}
-use Prim.Native.Nat.{ℕ, zero, suc, ◌+◌, ◌-◌, ◌*◌, ◌/◌, ◌%◌, ◌^◌, ◌<◌, ◌≤◌, ◌∣◌, min}
-use native.Mathlib.Nat.{dvd_refl, dvd_trans, dvd-one, dvd-mul_left, dvd-mul_right, dvd-mul_left_of_dvd, dvd-mul_right_of_dvd, dvd-add, dvd-add_iff_right, mod-eq-zero_of_dvd, le_of_dvd, mul-dvd-mul_right, mod-add-div, eq-zero_of_zero-dvd, mod-eq_of_lt}
+use Prim.Native.Nat.{ℕ, zero, suc, ◌+◌, ◌-◌, ◌*◌, ◌/◌, ◌%◌, ◌^◌, ◌<◌, ◌≤◌, ◌∣◌}
+use native.Mathlib.Nat.{dvd_refl, dvd_trans, dvd-one, dvd-mul_right, dvd-mul_right_of_dvd, dvd-add, dvd-add_iff_right, mod-eq-zero_of_dvd, le_of_dvd, mul-dvd-mul_right, mod-add-div, eq-zero_of_zero-dvd, mod-eq_of_lt}
 use native.Mathlib.Omega.{arith}
 use Rattle.std.proofs.Math.Nat.{pow-suc, pow-succ', div-div-eq-div-mul}
 use Rattle.std.proofs.lemmas.Nat.{pow-add}
 use Rattle.std.specs.Int.{IsGcd, bit_at}
 use Rattle.std.proofs.lemmas.Nat.Gcd.{same_from_IsGcd}
 use Rattle.stack_algebra.specs.Gcd.{gcd}
-use Rattle.stack_algebra.proofs.CommonDivisor.{gcd-is, gcd-left, gcd-right, gcd-pos, gcd-product, gcd-scaled, dvd_of_gcd-one}
+use Rattle.stack_algebra.proofs.CommonDivisor.{gcd-is, gcd-left, gcd-right, gcd-product, gcd-scaled, dvd_of_gcd-one}
 
 -- a divisor of an odd number is odd
 odd_divisor : (d n : ℕ) → n % 2 ≡ 1 → d ∣ n → d % 2 ≡ 1

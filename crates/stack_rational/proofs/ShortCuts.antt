@@ -1,16 +1,14 @@
 -- Zeros and equal denominators, which need no common divisor.
-use mathlib.Core.Path.{◌≡◌, refl, sym, ap, subst, subst₂, ◌∙◌}
-use Prim.Native.Nat.{ℕ, zero, suc, ◌/◌, ◌<◌, ◌≤◌, ◌∣◌}
+use mathlib.Core.Path.{◌≡◌, sym, ap, subst, subst₂, ◌∙◌}
+use Prim.Native.Nat.{ℕ, ◌/◌, ◌<◌, ◌≤◌, ◌∣◌}
 use native.Mathlib.Nat.{dvd-zero, dvd_refl, dvd-one, dvd_antisymm, div-one, div_self}
 use native.Mathlib.Omega.{arith}
 use lib.IntN.{ℤ, pos, nat_abs, ◌+ℤ◌, ◌*ℤ◌}
-use lib.Signed.{quot_z}
 use Rattle.std.proofs.lemmas.Int.{ints}
 use Rattle.stack_algebra.specs.Gcd.{gcd}
-use Rattle.stack_algebra.specs.Fraction.{Fraction, IsOver}
+use Rattle.stack_algebra.specs.Fraction.{Fraction}
 use Rattle.stack_algebra.proofs.Integers.{expand, sums}
-use Rattle.stack_algebra.proofs.Order.{◌≺◌}
-use Rattle.stack_algebra.proofs.CommonDivisor.{dvd-gcd, gcd-left, gcd-right, gcd-swap, gcd-unit}
+use Rattle.stack_algebra.proofs.CommonDivisor.{dvd-gcd, gcd-left, gcd-right}
 use Rattle.stack_algebra.proofs.Fractions.{of, of-is, add, add-is, mul, mul-is, is_self, same_values}
 use Rattle.stack_algebra.proofs.Over.{over, over-is}
 use Rattle.stack_rational.specs.Stored.{Within, Fits, IsStored, CommonFits, SumFits}

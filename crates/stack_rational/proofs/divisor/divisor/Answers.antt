@@ -1,4 +1,4 @@
-use mathlib.Core.Path.{◌≡◌, sym, ap, ◌∙◌}
+use mathlib.Core.Path.{◌≡◌, ap, ◌∙◌}
 use lib.IntN.{nat_abs}
 use Rattle.stack_rational.proofs.AtWide.{recast}
 use Rattle.stack_rational.proofs.Divisors.{some_size, some_gcd, none_fits, one_gcd}

@@ -1,7 +1,6 @@
 use native.Mathlib.Omega.{arith}
-use Prim.Native.Nat.{◌<◌}
-use Rattle.std.proofs.Common.{sym, refl}
-use Rattle.std.proofs.lemmas.Nat.Gcd.{IsGcd-swap, IsGcd-from_zero}
+use Rattle.std.proofs.Common.{sym}
+use Rattle.std.proofs.lemmas.Nat.Gcd.{IsGcd-swap}
 use Rattle.stack_rational.proofs.OddDivisors.{odd_step, of_same}
 use Rattle.stack_rational.proofs.halves.divisor_of_odds.Goals as goal
 

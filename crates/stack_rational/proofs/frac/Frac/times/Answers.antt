@@ -1,4 +1,4 @@
-use mathlib.Core.Path.{sym, ◌∙◌}
+use mathlib.Core.Path.{◌∙◌}
 use Rattle.stack_rational.proofs.ShortCuts.{zero_times, times_zero, zero_fits, stored_zero}
 use Rattle.stack_rational.proofs.frac.Frac.times.Goals as goal
 
