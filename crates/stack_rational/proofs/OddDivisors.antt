@@ -1,0 +1,115 @@
+-- Divisors of odd numbers, and the greatest common divisor with the factors of 2 taken out.
+use mathlib.Core.Path.{◌≡◌, refl, sym, ap, subst, subst₂, ◌∙◌}
+use Prim.Native.Nat.{ℕ, zero, suc, ◌+◌, ◌-◌, ◌*◌, ◌/◌, ◌%◌, ◌^◌, ◌<◌, ◌≤◌, ◌∣◌}
+use native.Mathlib.Nat.{dvd_refl, dvd_trans, dvd-one, dvd-mul_right, dvd-mul_right_of_dvd, dvd-add, dvd-add_iff_right, mod-eq-zero_of_dvd, le_of_dvd, mul-dvd-mul_right, mod-add-div, eq-zero_of_zero-dvd, mod-eq_of_lt}
+use native.Mathlib.Omega.{arith}
+use Rattle.std.proofs.Math.Nat.{pow-suc, pow-succ', div-div-eq-div-mul}
+use Rattle.std.proofs.lemmas.Nat.{pow-add}
+use Rattle.std.specs.Int.{IsGcd, bit_at}
+use Rattle.std.proofs.lemmas.Nat.Gcd.{same_from_IsGcd}
+use Rattle.stack_algebra.specs.Gcd.{gcd}
+use Rattle.stack_algebra.proofs.CommonDivisor.{gcd-is, gcd-left, gcd-right, gcd-product, gcd-scaled, dvd_of_gcd-one}
+
+-- a divisor of an odd number is odd
+odd_divisor : (d n : ℕ) → n % 2 ≡ 1 → d ∣ n → d % 2 ≡ 1
+odd_divisor d n o h = go (d % 2) refl (below d)
+  where
+    below : (d : ℕ) → d % 2 < 2
+    below d = omega arith
+
+    go : (r : ℕ) → d % 2 ≡ r → r < 2 → d % 2 ≡ 1
+    go zero e l = absurd (omega (arith, o, mod-eq-zero_of_dvd 2 (dvd_trans 2 (even d e) h)))
+      where
+        even : (d : ℕ) → d % 2 ≡ 0 → 2 ∣ d
+        even d e = subst (λ z. 2 ∣ z) (halves d e) (dvd-mul_right 2 (d / 2))
+          where
+            halves : (d : ℕ) → d % 2 ≡ 0 → 2 * (d / 2) ≡ d
+            halves d e = omega (arith, mod-add-div d 2)
+    go (suc zero) e l = e
+    go (suc (suc r)) e l = absurd (omega arith)
+
+-- it has no divisor with 2, nor with a power of it
+two_apart : (d : ℕ) → d % 2 ≡ 1 → gcd 2 d ≡ 1
+two_apart d o = go (gcd 2 d) (gcd-left 2 d) (gcd-right 2 d)
+  where
+    go : (g : ℕ) → g ∣ 2 → g ∣ d → g ≡ 1
+    go zero h k = absurd (omega (arith, mod-eq-zero_of_dvd 0 h))
+    go (suc zero) h k = refl
+    go (suc (suc zero)) h k = absurd (omega (arith, o, mod-eq-zero_of_dvd 2 k))
+    go (suc (suc (suc g))) h k = absurd (omega (arith, le_of_dvd (omega arith) h))
+
+powers_apart : (k d : ℕ) → d % 2 ≡ 1 → gcd (2 ^ k) d ≡ 1
+powers_apart zero d o = dvd-one.0 (gcd-left 1 d)
+powers_apart (suc k) d o = ap (λ z. gcd z d) (pow-succ' 2 k) ∙ gcd-product 2 (2 ^ k) d (two_apart d o) (powers_apart k d o)
+
+-- factors of 2 don't count beside an odd number
+without_twos : (p q k d : ℕ) → p % 2 ≡ 1 → d ∣ p → d ∣ q * 2 ^ k → d ∣ q
+without_twos p q k d o h m = dvd_of_gcd-one (2 ^ k) d q (powers_apart k d (odd_divisor d p o h)) (subst (λ z. d ∣ z) (turn q (2 ^ k)) m)
+  where
+    turn : (x y : ℕ) → x * y ≡ y * x
+    turn x y = omega arith
+
+-- a step of the loop: y less x without its factors of 2
+pub odd_step : (x y z k n : ℕ) → x % 2 ≡ 1 → x < y → y - x ≡ z * 2 ^ k → IsGcd x z n → IsGcd x y n
+odd_step x y z k n o l e is = (
+  is.0,
+  subst (λ t. n ∣ t) (whole x y l) (dvd-add n is.0 (subst (λ t. n ∣ t) (sym e) (dvd-mul_right_of_dvd n is.1 (2 ^ k)))),
+  λ d h m. is.2 d h (without_twos x z k d o h (subst (λ t. d ∣ t) e ((dvd-add_iff_right d h).1 (subst (λ t. d ∣ t) (sym (whole x y l)) m)))),
+)
+  where
+    whole : (x y : ℕ) → x < y → x + (y - x) ≡ y
+    whole x y l = omega arith
+
+-- and the factors of 2 put back, where the first number has no more of them
+pub with_twos : (p q i j g : ℕ) → p % 2 ≡ 1 → i ≤ j → IsGcd p q g → IsGcd (p * 2 ^ i) (q * 2 ^ j) (g * 2 ^ i)
+with_twos p q i j g o l is = subst (λ t. IsGcd (p * 2 ^ i) t (g * 2 ^ i)) (parted q i j l) (
+  mul-dvd-mul_right g is.0 (2 ^ i),
+  mul-dvd-mul_right g (dvd-mul_right_of_dvd g is.1 (2 ^ (j - i))) (2 ^ i),
+  λ d h m. subst (λ t. d ∣ t * 2 ^ i) same (gcd-scaled p (q * 2 ^ (j - i)) (2 ^ i) d h m),
+)
+  where
+    same : gcd p (q * 2 ^ (j - i)) ≡ g
+    same = same_from_IsGcd p (q * 2 ^ (j - i)) _ g (gcd-is p (q * 2 ^ (j - i)))
+        (is.0, dvd-mul_right_of_dvd g is.1 (2 ^ (j - i)), λ d h m. is.2 d h (without_twos p q (j - i) d o h m))
+
+    parted : (q i j : ℕ) → i ≤ j → q * 2 ^ (j - i) * 2 ^ i ≡ q * 2 ^ j
+    parted q i j l = grouped q (2 ^ (j - i)) (2 ^ i) ∙ ap (λ z. q * z) (sym (pow-add 2 (j - i) i)) ∙ ap (λ k. q * 2 ^ k) (whole i j l)
+      where
+        grouped : (a b c : ℕ) → a * b * c ≡ a * (b * c)
+        grouped a b c = omega arith
+
+        whole : (i j : ℕ) → i ≤ j → j - i + i ≡ j
+        whole i j l = omega arith
+
+-- a number whose lowest k bits are 0 is a multiple of 2 ^ k
+pub multiple_of_power : (k n : ℕ) → ((i : ℕ) → i < k → bit_at n i ≡ 0) → n / 2 ^ k * 2 ^ k ≡ n
+multiple_of_power zero n h = omega arith
+multiple_of_power (suc k) n h = (λ t. n / pow-suc 2 k t * pow-suc 2 k t) ∙ (λ t. sym (div-div-eq-div-mul n (2 ^ k) 2) t * (2 ^ k * 2))
+    ∙ doubled (n / 2 ^ k) (2 ^ k) (h k (omega arith)) ∙ multiple_of_power k n (λ i l. h i (omega arith))
+  where
+    half : (a : ℕ) → a % 2 ≡ 0 → a / 2 * 2 ≡ a
+    half a e = omega (arith, mod-add-div a 2)
+
+    doubled : (a b : ℕ) → a % 2 ≡ 0 → a / 2 * (b * 2) ≡ a * b
+    doubled a b e = omega (arith, ap (λ z. z * b) (half a e))
+
+-- a number is its own divisor
+pub of_same : (x y : ℕ) → x ≡ y → IsGcd x y x
+of_same x y e = (dvd_refl x, subst (λ z. x ∣ z) e (dvd_refl x), λ d h k. h)
+
+-- a shift that loses nothing, since it gives a divisor
+pub shifted_divisor : (a b p q i j g : ℕ) → 0 < a → a < 2 ^ 64 → p * 2 ^ i ≡ a → q * 2 ^ j ≡ b → p % 2 ≡ 1 → i ≤ j → IsGcd p q g →
+    IsGcd a b (g * 2 ^ i % 2 ^ 64)
+shifted_divisor a b p q i j g ha fa ea eb o l is = subst (λ n. IsGcd a b n) (sym (mod-eq_of_lt small)) is-gcd
+  where
+    is-gcd : IsGcd a b (g * 2 ^ i)
+    is-gcd = subst₂ (λ m n. IsGcd m n (g * 2 ^ i)) ea eb (with_twos p q i j g o l is)
+
+    small : g * 2 ^ i < 2 ^ 64
+    small = omega (arith, le_of_dvd ha is-gcd.0, fa)
+
+-- a divisor is no greater than the numbers
+pub divisor_within : (a b n m : ℕ) → IsGcd a b n → a ≤ m → b ≤ m → n ≤ m
+divisor_within zero zero n m is ha hb = omega (arith, eq-zero_of_zero-dvd (is.2 0 (dvd_refl 0) (dvd_refl 0)))
+divisor_within zero (suc b) n m is ha hb = omega (arith, hb, le_of_dvd (omega arith) is.1)
+divisor_within (suc a) b n m is ha hb = omega (arith, ha, le_of_dvd (omega arith) is.0)

@@ -1,0 +1,117 @@
+-- Lowest terms, and a sum over the least common denominator.
+use mathlib.Core.Path.{◌≡◌, sym, ap, subst, subst₂, ◌∙◌}
+use Prim.Native.Nat.{ℕ}
+use native.Mathlib.Omega.{arith}
+use lib.IntN.{ℤ, pos, negsuc, nat_abs, ◌+ℤ◌, ◌*ℤ◌}
+use lib.Signed.{quot_z, ◌≤ℤ◌}
+use Rattle.std.specs.Int.{IsGcd}
+use Rattle.std.proofs.lemmas.Int.{ints}
+use Rattle.std.proofs.lemmas.Nat.Gcd.{same_from_IsGcd}
+use Rattle.stack_algebra.proofs.Integers.{expand, sums}
+use Rattle.stack_algebra.proofs.Order.{◌≺◌, mul_pos}
+use Rattle.stack_algebra.specs.Gcd.{gcd}
+use Rattle.stack_algebra.specs.Fraction.{Fraction}
+use Rattle.stack_algebra.proofs.CommonDivisor.{gcd-is}
+use Rattle.stack_algebra.proofs.Fractions.{add, add-is, same_values}
+use Rattle.stack_algebra.proofs.Over.{over, over-is, over-lowest, over_own, over-quotients, lowest-over, IsLowest}
+use Rattle.stack_rational.specs.Stored.{IsStored, Within, CommonFits, SumFits}
+use Rattle.stack_rational.proofs.Crosswise.{Parts, parts_of, exact-part, positive-part}
+
+pub lowest : (n d g p q : ℤ) → pos 0 ≺ d → pos 0 ≤ℤ g → IsGcd (nat_abs n) (nat_abs d) (nat_abs g) → p
+    ≡ quot_z n g → q ≡ quot_z d g → Parts (over n d) p q
+lowest n (pos d) (pos g) p q hd hg is ep eq =
+    let k = over-quotients n d g (omega (arith, ints, hd)) is in
+    let num : (over n (pos d)).num ≡ p = k.0 ∙ sym ep in
+    let den : pos (over n (pos d)).den ≡ q = ap pos k.1 ∙ sym eq in
+    parts_of (over n (pos d)) p q (subst₂ IsLowest num den (lowest-over (over n (pos d))))
+    (subst₂ (λ u v. over u v ≡ over n (pos d)) num den (over_own (over n (pos d))))
+lowest n (negsuc d) g p q hd hg is ep eq = absurd (omega (arith, ints, hd))
+lowest n (pos d) (negsuc g) p q hd hg is ep eq = absurd (omega (arith, ints, hg))
+
+sum_cross : (a c g p q : ℤ) → (a *ℤ q +ℤ c *ℤ p) *ℤ ((g *ℤ p) *ℤ (g *ℤ q))
+    ≡ (a *ℤ (g *ℤ q) +ℤ c *ℤ (g *ℤ p)) *ℤ (p *ℤ (g *ℤ q))
+sum_cross a c g p q = simp expand (omega (arith, sums))
+
+sum_at : (a b c d p q g : ℤ) → pos 0 ≺ b → pos 0 ≺ d → pos 0 ≺ p → g *ℤ p ≡ b → g *ℤ q ≡ d →
+    over (a *ℤ q +ℤ c *ℤ p) (p *ℤ d) ≡ add (over a b) (over c d)
+sum_at a b c d p q g hb hd hp e f = same_values _ _ _ _ _ _
+    (over-is (a *ℤ q +ℤ c *ℤ p) (p *ℤ d) (mul_pos p d hp hd))
+    (add-is _ _ _ _ _ _ (over-is a b hb) (over-is c d hd))
+    (subst₂ (λ u v. (a *ℤ q +ℤ c *ℤ p) *ℤ (u *ℤ v) ≡ (a *ℤ v +ℤ c *ℤ u) *ℤ (p *ℤ v)) e f
+    (sum_cross a c g p q))
+
+pub record Sum (m a b c d p q : ℤ) (x y : Fraction) : Type 0 where
+  pub value : over (a *ℤ q +ℤ c *ℤ p) (p *ℤ d) ≡ add x y
+  pub positive : pos 0 ≺ p *ℤ d
+  pub fits : CommonFits m a c d p q → SumFits m x y
+  pub at : SumFits m x y → CommonFits m a c d p q
+
+sum_of : (m a b c d p q : ℤ) (g : ℕ) (x y : Fraction) → IsStored m a b → IsStored m c d → over a b ≡ x →
+    over c d ≡ y → IsGcd (nat_abs b) (nat_abs d) g → p ≡ quot_z b (pos g) → q ≡ quot_z d (pos g) →
+    Sum m a b c d p q x y
+sum_of m a b c d p q g x y s t u v is ep eq = record {
+  value = sum_at a b c d p q (pos g) s.lowest.positive t.lowest.positive hp
+      (ap (λ z. pos g *ℤ z) ep ∙ exact-part b g is.0) (ap (λ z. pos g *ℤ z) eq ∙ exact-part d g is.1)
+      ∙ (λ i. add (u i) (v i));
+  positive = mul_pos p d hp t.lowest.positive;
+  fits = λ f. subst (λ (t : ℤ × ℤ × ℤ × ℤ × ℤ). CommonFits m t.0 t.1 t.2 t.3 t.4) same f;
+  at = λ f. subst (λ (t : ℤ × ℤ × ℤ × ℤ × ℤ). CommonFits m t.0 t.1 t.2 t.3 t.4) (sym same) f;
+}
+  where
+    hp : pos 0 ≺ p
+    hp = subst (λ z. pos 0 ≺ z) (sym ep) (positive-part b g s.lowest.positive is.0)
+
+    eb : b ≡ pos x.den
+    eb = sym (over-lowest a b s.lowest).1 ∙ ap (λ (z : Fraction). pos z.den) u
+
+    ed : d ≡ pos y.den
+    ed = sym (over-lowest c d t.lowest).1 ∙ ap (λ (z : Fraction). pos z.den) v
+
+    eg : g ≡ gcd x.den y.den
+    eg = same_from_IsGcd x.den y.den g (gcd x.den y.den)
+        (subst₂ (λ (m n : ℤ). IsGcd (nat_abs m) (nat_abs n) g) eb ed is) (gcd-is x.den y.den)
+
+    same : ◌≡◌ {A = ℤ × ℤ × ℤ × ℤ × ℤ} (a, c, d, p, q) (
+      x.num,
+      y.num,
+      pos y.den,
+      quot_z (pos x.den) (pos (gcd x.den y.den)),
+      quot_z (pos y.den) (pos (gcd x.den y.den)),
+    )
+    same = λ i. (
+      (sym (over-lowest a b s.lowest).0 ∙ ap (λ (z : Fraction). z.num) u) i,
+      (sym (over-lowest c d t.lowest).0 ∙ ap (λ (z : Fraction). z.num) v) i,
+      ed i,
+      (ep ∙ (λ j. quot_z (eb j) (pos (eg j)))) i,
+      (eq ∙ (λ j. quot_z (ed j) (pos (eg j)))) i,
+    )
+
+pub sum : (m a b c d p q g : ℤ) (x y : Fraction) → IsStored m a b → IsStored m c d → over a b ≡ x → over c d
+    ≡ y → pos 0 ≤ℤ g → IsGcd (nat_abs b) (nat_abs d) (nat_abs g) → p ≡ quot_z b g → q ≡ quot_z d g →
+    Sum m a b c d p q x y
+sum m a b c d p q (pos g) x y s t u v hg is ep eq = sum_of m a b c d p q g x y s t u v is ep eq
+sum m a b c d p q (negsuc g) x y s t u v hg is ep eq = absurd (omega (arith, ints, hg))
+
+-- what the code makes of the two terms l and r
+pub total-passes : (m a b c d p q l r : ℤ) (x y : Fraction) → Sum m a b c d p q x y →
+    Within m (a *ℤ q) × (l ≡ a *ℤ q) → Within m (c *ℤ p) × (r ≡ c *ℤ p) → ¬ (Within m (l +ℤ r)) →
+    ¬ (SumFits m x y)
+total-passes m a b c d p q l r x y s el er h f = h
+    (subst (Within m) (λ i. sym el.1 i +ℤ sym er.1 i) (s.at f).total)
+
+pub sum-fits : (m a b c d p q l r n e : ℤ) (x y : Fraction) → Sum m a b c d p q x y →
+    Within m (p *ℤ d) × (e ≡ p *ℤ d) → Within m (a *ℤ q) × (l ≡ a *ℤ q) → Within m (c *ℤ p) × (r ≡ c *ℤ p) →
+    Within m (l +ℤ r) × (n ≡ l +ℤ r) → SumFits m x y
+sum-fits m a b c d p q l r n e x y s ee el er en = s.fits record {
+  den = ee.0;
+  left = el.0;
+  right = er.0;
+  total = subst
+      (Within m) (λ i. el.1 i +ℤ er.1 i) en.0;
+}
+
+pub sum-value : (m a b c d p q l r n e : ℤ) (x y : Fraction) → Sum m a b c d p q x y →
+    Within m (p *ℤ d) × (e ≡ p *ℤ d) → Within m (a *ℤ q) × (l ≡ a *ℤ q) → Within m (c *ℤ p) × (r ≡ c *ℤ p) →
+    Within m (l +ℤ r) × (n ≡ l +ℤ r) → over n e ≡ add x y
+sum-value m a b c d p q l r n e x y s ee el er en = (λ i. over ((en.1 ∙ (λ j. el.1 j +ℤ er.1 j)) i) (ee.1 i))
+    ∙ s.value

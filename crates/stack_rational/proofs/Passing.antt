@@ -1,0 +1,32 @@
+-- When a whole number passes: the numerator of its fraction is the number itself.
+use mathlib.Core.Path.{◌≡◌, sym, ap, subst, ◌∙◌}
+use native.Mathlib.Omega.{arith}
+use lib.IntN.{ℤ, pos, nat_abs}
+use Rattle.std.proofs.lemmas.Int.{ints}
+use Rattle.std.proofs.lemmas.Bool.{le-leb, lt-leb}
+use Rattle.std.specs.Prelude.{true, false, not}
+use Rattle.stack_algebra.specs.Fraction.{Fraction}
+use Rattle.stack_algebra.proofs.Fractions.{of}
+use Rattle.stack_algebra.proofs.CommonDivisor.{gcd-unit}
+use Rattle.stack_algebra.proofs.Over.{over-lowest, of-over}
+use Rattle.stack_rational.specs.declared.exact.Op.TheVariants.{Whole}
+use Rattle.stack_rational.specs.Stored.{Within}
+use Rattle.stack_rational.specs.Passes.{passes}
+
+pub num_of : (n : ℤ) → (of n).num ≡ n
+num_of n = ap (λ (x : Fraction). x.num) (sym (of-over n))
+    ∙ (over-lowest n (pos 1) (record { positive = omega (arith, ints); lowest = gcd-unit (nat_abs n) })).0
+
+pub den_of : (n : ℤ) → (of n).den ≡ 1
+den_of n = ap (λ (x : Fraction). x.den) (sym (of-over n))
+    ∙ ap nat_abs (over-lowest n (pos 1)
+    (record { positive = omega (arith, ints); lowest = gcd-unit (nat_abs n) })).1
+
+-- k is n as the type holds it
+pub whole_fits : (m n k : ℤ) → k ≡ n → Within m k → passes m Whole (of n) (of n) ≡ false
+whole_fits m n k e h = ap not (le-leb (nat_abs (of n).num) (nat_abs m)
+    (subst (λ z. Within m z) (e ∙ sym (num_of n)) h))
+
+pub whole_passes : (m n k : ℤ) → k ≡ n → ¬ (Within m k) → passes m Whole (of n) (of n) ≡ true
+whole_passes m n k e h = ap not (lt-leb (nat_abs (of n).num) (nat_abs m)
+    (omega (arith, λ (w : Within m (of n).num). h (subst (λ z. Within m z) (num_of n ∙ sym e) w))))

@@ -1,0 +1,81 @@
+-- What fits a greatest value fits a greater one; the parts of a number make it again at 128 bits.
+use mathlib.Core.Path.{◌≡◌, refl, ap, subst, ◌∙◌}
+use Prim.Native.Nat.{ℕ, ◌≤◌, ◌<◌}
+use native.Mathlib.Omega.{arith}
+use lib.IntN.{ℤ, pos, nat_abs, ◌+ℤ◌, ◌*ℤ◌}
+use Rattle.std.proofs.lemmas.Bool.{le-leb, leb-true}
+use Rattle.std.specs.Prelude.{Bool, true, false, not, ◌&&◌}
+use Rattle.stack_algebra.specs.Fraction.{Fraction, IsOver, signed}
+use Rattle.stack_algebra.proofs.Integers.{expand, sums}
+use Rattle.stack_algebra.proofs.Fractions.{of, neg, mul, mul-is, of-is, is_self, same_values}
+use Rattle.stack_algebra.proofs.FractionField.{inv, inv-is}
+use Rattle.stack_rational.specs.declared.exact.Op.TheVariants.{Whole, Sum, Difference, Product, Quotient}
+use Rattle.stack_rational.specs.Passes.{is_within, fits, sum_fits, common_denominator, left_term, right_term}
+use Rattle.stack_rational.specs.Laws.{WiderNeverPasses, PartsMakeTheNumber, widest}
+use Rattle.stack_rational.proofs.Passing.{num_of, den_of, whole_fits}
+
+not-false : (b : Bool) → not b ≡ false → b ≡ true
+not-false true h = refl
+not-false false h = absurd cc
+
+left_of : (s t : Bool) → s && t ≡ true → s ≡ true
+left_of true t h = refl
+left_of false t h = absurd cc
+
+right_of : (s t : Bool) → s && t ≡ true → t ≡ true
+right_of true t h = h
+right_of false t h = absurd cc
+
+both : (s t : Bool) → s ≡ true → t ≡ true → s && t ≡ true
+both true t h k = k
+both false t h k = absurd cc
+
+module _ (m n : ℤ) (wider : nat_abs m ≤ nat_abs n) where
+  within : (z : ℤ) → is_within m z ≡ true → is_within n z ≡ true
+  within z h = le-leb (nat_abs z) (nat_abs n) (omega (arith, wider, leb-true (nat_abs z) (nat_abs m) h))
+
+  pub fits_wider : (x : Fraction) → fits m x ≡ true → fits n x ≡ true
+  fits_wider x h = both _ _ (within x.num (left_of _ _ h))
+      (le-leb x.den (nat_abs n) (omega (arith, wider, leb-true x.den (nat_abs m) (right_of _ _ h))))
+
+  sum_fits_wider : (x y : Fraction) → sum_fits m x y ≡ true → sum_fits n x y ≡ true
+  sum_fits_wider x y h =
+      let three = left_of _ _ h in
+      let two = left_of _ _ three in
+      both _ _ (both _ _ (both _ _ (within (common_denominator x y) (left_of _ _ two))
+      (within (left_term x y) (right_of _ _ two)))
+      (within (right_term x y) (right_of _ _ three)))
+      (within (left_term x y +ℤ right_term x y) (right_of _ _ h))
+
+pub wider_never_passes : WiderNeverPasses
+wider_never_passes m n Whole x y w h = ap not (within m n w x.num (not-false _ h))
+wider_never_passes m n Sum x y w h = ap not (sum_fits_wider m n w x y (not-false _ h))
+wider_never_passes m n Difference x y w h = ap not (sum_fits_wider m n w x (neg y) (not-false _ h))
+wider_never_passes m n Product x y w h = ap not (fits_wider m n w (mul x y) (not-false _ h))
+wider_never_passes m n Quotient x y w h = ap not (fits_wider m n w (mul (inv y) x) (not-false _ h))
+
+-- one over a positive whole number
+inv_of-is : (d : ℕ) → 0 < d → IsOver (inv (of (pos d))) (pos 1) (pos d)
+inv_of-is d h = subst (λ (p : ℤ × ℤ). IsOver (inv (of (pos d))) p.0 p.1) same
+    (inv-is (of (pos d)) (omega (arith, ap nat_abs (num_of (pos d)), h)))
+  where
+    same : ◌≡◌ {A = ℤ × ℤ} (signed (of (pos d)).num (of (pos d)).den, pos (nat_abs (of (pos d)).num))
+        (pos 1, pos d)
+    same = λ i. (signed (num_of (pos d) i) (den_of (pos d) i), pos (nat_abs (num_of (pos d) i)))
+
+pub parts_make : (x : Fraction) → mul (inv (of (pos x.den))) (of x.num) ≡ x
+parts_make x = same_values _ _ _ _ _ _ (mul-is _ _ _ _ _ _ (inv_of-is x.den x.positive) (of-is x.num))
+    (is_self x) (cross x.num (pos x.den))
+  where
+    cross : (n d : ℤ) → pos 1 *ℤ n *ℤ d ≡ n *ℤ (d *ℤ pos 1)
+    cross n d = simp expand (omega (arith, sums))
+
+pub parts_make_the_number : PartsMakeTheNumber
+parts_make_the_number m x w h = record {
+  num = whole_fits widest x.num x.num refl
+      (omega (arith, w, leb-true (nat_abs x.num) (nat_abs m) (left_of _ _ h)));
+  den = whole_fits widest (pos x.den) (pos x.den) refl
+      (omega (arith, w, leb-true x.den (nat_abs m) (right_of _ _ h)));
+  quotient = ap not (ap (fits widest) (parts_make x) ∙ fits_wider m widest w x h);
+  value = parts_make x;
+}

@@ -1,0 +1,34 @@
+-- The common scale of a list of fractions: the least common multiple of their denominators.
+use Rattle.std.specs.Prelude.{ℕ, ◌+◌, ◌-◌, ◌*◌, ◌/◌, ◌^◌, ◌<◌, ◌≤◌, List, [], ◌∷◌, length, take}
+use Rattle.std.specs.List.{AllByRecursion}
+use Prim.Native.Nat.{◌∣◌}
+use Rattle.stack_algebra.specs.Gcd.{gcd}
+use Rattle.stack_algebra.specs.Fraction.{Fraction}
+
+-- the least common multiple of two numbers
+abbrev pub common_multiple : ℕ → ℕ → ℕ
+common_multiple a b = a / gcd a b * b
+
+-- and that of all denominators; 1 for the empty list
+unfoldable pub scale_of : List Fraction → ℕ
+scale_of [] = 1
+scale_of (x ∷ xs) = common_multiple x.den (scale_of xs)
+
+-- the greatest number that fits 128 bits
+abbrev pub greatest_number : ℕ
+greatest_number = 2 ^ 127 - 1
+
+-- item i is the first at which the running multiple, that of the items up to it, passes
+pub record IsFirstPassing (xs : List Fraction) (i : ℕ) : Type 0 where
+  pub below : i < length xs
+  pub passes : greatest_number < scale_of (take (i + 1) xs)
+  pub fits_before : (k : ℕ) → k ≤ i → scale_of (take k xs) ≤ greatest_number
+
+-- it is the least common multiple: each denominator divides it, and it divides each number that they all
+-- divide
+pub record IsLeastMultiple (xs : List Fraction) (n : ℕ) : Type 0 where
+  pub common : AllByRecursion (λ x. x.den ∣ n) xs
+  pub least : (m : ℕ) → AllByRecursion (λ x. x.den ∣ m) xs → n ∣ m
+
+abbrev pub ScaleIsLeastMultiple : Type 0
+ScaleIsLeastMultiple = (xs : List Fraction) → IsLeastMultiple xs (scale_of xs)

@@ -1,0 +1,36 @@
+-- Laws of what passes and of the order.
+use Rattle.std.specs.Prelude.{◌≡◌, ◌↔◌, ℤ, pos, ◌-◌, ◌^◌, true, false, unsigned_abs, ◌≤◌}
+use Rattle.std.specs.declared.cmp.Ordering.TheVariants.{Less, Equal, Greater}
+use Rattle.stack_algebra.specs.Fraction.{Fraction}
+use Rattle.stack_algebra.proofs.Fractions.{add, neg, of}
+use Rattle.stack_rational.specs.declared.exact.Op.{Op}
+use Rattle.stack_rational.specs.declared.exact.Op.TheVariants.{Whole, Quotient}
+use Rattle.stack_rational.specs.Order.{order_of}
+use Rattle.stack_rational.specs.Passes.{fits, passes, value_of}
+
+-- what doesn't pass a greatest value doesn't pass a greater one; the value is the same, since it doesn't
+-- depend on either
+abbrev pub WiderNeverPasses : Type 0
+WiderNeverPasses = (m n : ℤ) (op : Op) (x y : Fraction) → unsigned_abs m ≤ unsigned_abs n →
+    passes m op x y ≡ false → passes n op x y ≡ false
+
+-- the greatest value at 128 bits
+abbrev pub widest : ℤ
+widest = pos (2 ^ 127 - 1)
+
+-- the parts of a number of any width make the same number at 128 bits, and nothing passes
+pub record MadeAgain (x : Fraction) : Type 0 where
+  pub num : passes widest Whole (of x.num) (of x.num) ≡ false
+  pub den : passes widest Whole (of (pos x.den)) (of (pos x.den)) ≡ false
+  pub quotient : passes widest Quotient (of x.num) (of (pos x.den)) ≡ false
+  pub value : value_of Quotient (of x.num) (of (pos x.den)) ≡ x
+
+abbrev pub PartsMakeTheNumber : Type 0
+PartsMakeTheNumber = (m : ℤ) (x : Fraction) → unsigned_abs m ≤ 2 ^ 127 - 1 → fits m x ≡ true → MadeAgain x
+
+-- the order is total and that of the values
+pub record OrderLaws : Type 0 where
+  pub equal : (x y : Fraction) → (order_of x y ≡ Equal) ↔ (x ≡ y)
+  pub turned : (x y : Fraction) → (order_of x y ≡ Less) ↔ (order_of y x ≡ Greater)
+  pub transitive : (x y z : Fraction) → order_of x y ≡ Less → order_of y z ≡ Less → order_of x z ≡ Less
+  pub by_difference : (x y : Fraction) → order_of x y ≡ order_of (add x (neg y)) (of (pos 0))

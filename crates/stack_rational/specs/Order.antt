@@ -1,0 +1,20 @@
+-- The order and the sign of exact numbers.
+use Rattle.std.specs.Prelude.{zero, suc, ℤ, pos, negsuc, ◌*ℤ◌, Bool, true, false}
+use Rattle.std.specs.Ordering.{int_cmp}
+use Rattle.std.specs.declared.cmp.Ordering.{Ordering}
+use Rattle.stack_algebra.specs.Fraction.{Fraction}
+
+-- x before, equal to or after y: as their cross products are
+abbrev pub order_of : Fraction → Fraction → Ordering
+order_of x y = int_cmp (x.num *ℤ pos y.den) (y.num *ℤ pos x.den)
+
+-- -1, 0 or 1
+abbrev pub sign_of_whole : ℤ → ℤ
+sign_of_whole (pos zero) = pos 0
+sign_of_whole (pos (suc n)) = pos 1
+sign_of_whole (negsuc n) = negsuc 0
+
+abbrev pub is_zero_whole : ℤ → Bool
+is_zero_whole (pos zero) = true
+is_zero_whole (pos (suc n)) = false
+is_zero_whole (negsuc n) = false

@@ -1,0 +1,164 @@
+//! Exact numbers of one width.
+
+use crate::frac::Frac;
+use crate::integer::Integer;
+use std::cmp::Ordering;
+
+/// An operation on exact numbers.
+#[derive(Clone, Copy, Debug, PartialEq, Eq)]
+pub enum Op {
+    /// A whole number is taken.
+    Whole,
+    Sum,
+    Difference,
+    Product,
+    Quotient,
+}
+
+/// That the answer of an operation would pass the greatest value.
+#[derive(Clone, Copy, Debug, PartialEq, Eq)]
+pub struct Wide {
+    /// The call that was refused.
+    pub op: Op,
+}
+
+/// Exact numbers of one width: fractions in lowest terms whose numerator's size and denominator are at most `MAX`.
+///
+/// Each call gives the exact value, or is refused exactly where `passes` holds. No call takes memory.
+pub trait Exact: Copy {
+    ghost use Rattle.std.specs.Prelude.{◌≡◌, ◌≢◌, ℤ, pos, true, false, IfOk, IfErr};
+    ghost use Rattle.stack_algebra.specs.Fraction.{Fraction};
+    ghost use Rattle.stack_algebra.proofs.Fractions.{of};
+    ghost use Rattle.stack_rational.specs.declared.exact.Op.TheVariants as op;
+    ghost use Rattle.stack_rational.specs.Passes.{IsWidth, fits, passes, value_of};
+    ghost use Rattle.stack_rational.specs.Order.{order_of, sign_of_whole, is_zero_whole};
+
+    // The value.
+    ghost exact: { Self → Fraction };
+
+    // The greatest size of a numerator, and the greatest denominator.
+    ghost MAX: { ℤ };
+
+    const MAX: i128;
+
+    /// A whole number. Refused exactly where its size passes `MAX`.
+    fn from_whole(n: i128) -> Result<Self, Wide>
+        ensures ok { IfOk result (λ r. exact r ≡ of n) }
+        ensures fits { IfOk result (λ r. passes MAX op.Whole (of n) (of n) ≡ false) }
+        ensures wide { IfErr result (λ e. passes MAX op.Whole (of n) (of n) ≡ true) }
+        ensures named { IfErr result (λ e. e.op ≡ op.Whole) };
+
+    /// The sum. Refused exactly where, over the least common denominator, that denominator, either term or the
+    /// result, before it is reduced, passes `MAX`.
+    fn sum(self, other: Self) -> Result<Self, Wide>
+        ensures ok { IfOk result (λ r. exact r ≡ value_of op.Sum (exact self) (exact other)) }
+        ensures fits { IfOk result (λ r. passes MAX op.Sum (exact self) (exact other) ≡ false) }
+        ensures wide { IfErr result (λ e. passes MAX op.Sum (exact self) (exact other) ≡ true) }
+        ensures named { IfErr result (λ e. e.op ≡ op.Sum) };
+
+    /// The difference. Refused as the sum with the other sign.
+    fn difference(self, other: Self) -> Result<Self, Wide>
+        ensures ok { IfOk result (λ r. exact r ≡ value_of op.Difference (exact self) (exact other)) }
+        ensures fits { IfOk result (λ r. passes MAX op.Difference (exact self) (exact other) ≡ false) }
+        ensures wide { IfErr result (λ e. passes MAX op.Difference (exact self) (exact other) ≡ true) }
+        ensures named { IfErr result (λ e. e.op ≡ op.Difference) };
+
+    /// The product. Refused exactly where its lowest terms pass `MAX`.
+    fn product(self, other: Self) -> Result<Self, Wide>
+        ensures ok { IfOk result (λ r. exact r ≡ value_of op.Product (exact self) (exact other)) }
+        ensures fits { IfOk result (λ r. passes MAX op.Product (exact self) (exact other) ≡ false) }
+        ensures wide { IfErr result (λ e. passes MAX op.Product (exact self) (exact other) ≡ true) }
+        ensures named { IfErr result (λ e. e.op ≡ op.Product) };
+
+    /// The quotient by a number that isn't 0. Refused exactly where its lowest terms pass `MAX`.
+    fn quotient(self, other: Self) -> Result<Self, Wide>
+        requires { (exact other).num ≢ pos 0 }
+        ensures ok { IfOk result (λ r. exact r ≡ value_of op.Quotient (exact self) (exact other)) }
+        ensures fits { IfOk result (λ r. passes MAX op.Quotient (exact self) (exact other) ≡ false) }
+        ensures wide { IfErr result (λ e. passes MAX op.Quotient (exact self) (exact other) ≡ true) }
+        ensures named { IfErr result (λ e. e.op ≡ op.Quotient) };
+
+    /// The order of the values. Never refused.
+    fn order(self, other: Self) -> Ordering
+        ensures { result ≡ order_of (exact self) (exact other) };
+
+    /// Whether the value is 0.
+    fn is_zero(self) -> bool
+        ensures { result ≡ is_zero_whole (exact self).num };
+
+    /// -1, 0 or 1.
+    fn sign(self) -> i32
+        ensures { result ≡ sign_of_whole (exact self).num };
+
+    /// The numerator and the denominator, in lowest terms.
+    fn parts(self) -> (i128, i128)
+        ensures num { result.0 ≡ (exact self).num }
+        ensures den { result.1 ≡ pos (exact self).den }
+        ensures fits { fits MAX (exact self) ≡ true };
+
+    // The greatest value lies between 1 and that of 128 bits.
+    ghost max_law: { IsWidth MAX };
+}
+
+impl<T: Integer> Exact for Frac<T> {
+    ghost exact = { λ x. x };
+
+    ghost use Rattle.stack_rational.specs.Widths.{width_of};
+
+    ghost MAX = { T.MAX };
+
+    ghost max_law = { width_of T.MAX (T.Integer.size_law T.Integral.exact_law) };
+
+    const MAX: i128 = T::MAX;
+
+    fn from_whole(n: i128) -> Result<Self, Wide> {
+        match Frac::whole(n) {
+            Ok(x) => Ok(x),
+            Err(_) => Err(Wide { op: Op::Whole }),
+        }
+    }
+
+    fn sum(self, other: Self) -> Result<Self, Wide> {
+        match self.plus(other) {
+            Ok(x) => Ok(x),
+            Err(_) => Err(Wide { op: Op::Sum }),
+        }
+    }
+
+    fn difference(self, other: Self) -> Result<Self, Wide> {
+        match self.less(other) {
+            Ok(x) => Ok(x),
+            Err(_) => Err(Wide { op: Op::Difference }),
+        }
+    }
+
+    fn product(self, other: Self) -> Result<Self, Wide> {
+        match self.times(other) {
+            Ok(x) => Ok(x),
+            Err(_) => Err(Wide { op: Op::Product }),
+        }
+    }
+
+    fn quotient(self, other: Self) -> Result<Self, Wide> {
+        match self.by(other) {
+            Ok(x) => Ok(x),
+            Err(_) => Err(Wide { op: Op::Quotient }),
+        }
+    }
+
+    fn order(self, other: Self) -> Ordering {
+        self.compare(other)
+    }
+
+    fn is_zero(self) -> bool {
+        self.is_nothing()
+    }
+
+    fn sign(self) -> i32 {
+        self.signum()
+    }
+
+    fn parts(self) -> (i128, i128) {
+        self.both()
+    }
+}

@@ -1,0 +1,281 @@
+//! Fractions in lowest terms over one type of integers.
+
+ghost use Rattle.std.specs.Prelude.{◌≡◌, ◌≢◌, pos, ◌<ℤ◌, IfOk, OnErr, unsigned_abs};
+ghost use Rattle.stack_algebra.proofs.Fractions.{add, mul, neg, of};
+ghost use Rattle.stack_algebra.proofs.FractionField.{inv};
+ghost use Rattle.stack_algebra.proofs.Over.{over};
+ghost use Rattle.stack_rational.specs.Stored.{Fits, IsStored, SumFits, Within};
+ghost use Rattle.num_traits.specs.Laws.{Checks};
+ghost use Rattle.stack_rational.specs.CommonScale.{common_multiple};
+ghost use Rattle.stack_rational.specs.Order.{order_of, sign_of_whole, is_zero_whole};
+
+use crate::comparing::order_of_parts;
+use crate::divisor::divisor;
+use crate::integer::{Integer, as_wide, is_minus, opposite, part, plus, times, unless_least};
+use std::alloc::AllocError;
+use std::cmp::Ordering;
+use std::marker::Model;
+
+/// A fraction in lowest terms, its denominator positive.
+#[derive(Copy)]
+pub struct Frac<T: Integer> {
+    num: T,
+    den: T,
+}
+
+impl<T: Integer> Model for Frac<T> {
+    ghost use Rattle.std.specs.Prelude.{pos, unsigned_abs};
+    ghost use Rattle.stack_algebra.specs.Fraction.{Fraction};
+    ghost use Rattle.stack_algebra.proofs.Over.{over, over-lowest, frac_code};
+
+    ghost Value = { Fraction };
+
+    ghost coded = { frac_code };
+
+    ghost use Rattle.stack_rational.specs.Stored.{IsHeld};
+    ghost use Rattle.stack_rational.specs.Back.{from_integer, back_to};
+
+    ghost view = { λ f. over (T.value f.num) (T.value f.den) };
+
+    ghost invariant = { λ f. IsHeld T.MAX T.value (from_integer T.width T.of_bits) f.num f.den };
+
+    ghost inverse = { λ x. record {
+      num = from_integer T.width T.of_bits x.num;
+      den = from_integer T.width T.of_bits (pos x.den);
+    } };
+
+    ghost inverse_ok = { λ a h. λ i. record {
+      num = back_to (from_integer T.width T.of_bits) a.num (over-lowest _ _ h.stored.lowest).0 h.num_back i;
+      den = back_to (from_integer T.width T.of_bits) a.den (over-lowest _ _ h.stored.lowest).1 h.den_back i;
+    } };
+}
+
+impl<T: Integer> Clone for Frac<T> {
+    ghost use Rattle.std.specs.Prelude.{◌≡◌, ⊤};
+
+    ghost is_clone = { λ v w. w ≡ v };
+
+    ghost is_infallible = { λ _. ⊤ };
+
+    fn clone(&self) -> Result<Self, AllocError> {
+        Ok(made(self.num, self.den))
+    }
+}
+
+/// That an answer would pass the greatest value.
+#[derive(Clone, Copy, Debug, PartialEq, Eq, Drop)]
+pub struct Passed;
+
+/// The fraction with these parts, which are in lowest terms.
+fn made<T: Integer>(num: T, den: T) -> Frac<T>
+    requires { IsStored T.MAX (T.value num) (T.value den) }
+    ensures { result ≡ over (T.value num) (T.value den) }
+{
+    Frac { num, den }
+}
+
+/// A numerator over a positive denominator, in lowest terms.
+fn reduced<T: Integer>(num: T, den: T) -> Frac<T>
+    requires num { Within T.MAX (T.value num) }
+    requires den { Within T.MAX (T.value den) }
+    requires positive { pos 0 <ℤ T.value den }
+    ensures { result ≡ over (T.value num) (T.value den) }
+{
+    let g = divisor(num, den);
+    made(part(num, g), part(den, g))
+}
+
+/// 0.
+fn nothing<T: Integer>() -> Frac<T>
+    ensures { result ≡ of (pos 0) }
+{
+    made(T::zero(), T::one())
+}
+
+impl<T: Integer> Frac<T> {
+    /// A whole number, refused exactly where its size passes the greatest value.
+    pub fn whole(n: i128) -> Result<Self, Passed>
+        ensures ok { IfOk result (λ r. r ≡ of n) }
+        ensures fits { IfOk result (λ r. Within T.MAX n) }
+        ensures err { OnErr result (¬ (Within T.MAX n)) }
+    {
+        match unless_least(T::from_i128(n)) {
+            Some(num) => Ok(made(num, T::one())),
+            None => Err(Passed),
+        }
+    }
+
+    /// The product, refused exactly where its lowest terms pass the greatest value.
+    pub fn times(self, other: Self) -> Result<Self, Passed>
+        ensures ok { IfOk result (λ r. r ≡ mul self other) }
+        ensures fits { IfOk result (λ r. Fits T.MAX (mul self other)) }
+        ensures err { OnErr result (¬ (Fits T.MAX (mul self other))) }
+    {
+        if self.num.is_zero() {
+            return Ok(nothing());
+        }
+        if other.num.is_zero() {
+            return Ok(nothing());
+        }
+        self.times_crosswise(other)
+    }
+
+    /// The same by parts that are divided crosswise: a/b * c/d = (a/g)(c/h) / ((b/h)(d/g)), with g = gcd(a, d) and
+    /// h = gcd(c, b).
+    fn times_crosswise(self, other: Self) -> Result<Self, Passed>
+        ensures ok { IfOk result (λ r. r ≡ mul self other) }
+        ensures fits { IfOk result (λ r. Fits T.MAX (mul self other)) }
+        ensures err { OnErr result (¬ (Fits T.MAX (mul self other))) }
+    {
+        let g = divisor(self.num, other.den);
+        let h = divisor(other.num, self.den);
+        let num = times(part(self.num, g), part(other.num, h));
+        let den = times(part(self.den, h), part(other.den, g));
+        match num {
+            Some(num) => match den {
+                Some(den) => Ok(made(num, den)),
+                None => Err(Passed),
+            },
+            None => Err(Passed),
+        }
+    }
+
+    /// The sum, refused exactly where, over the least common denominator, that denominator, either
+    /// term or the result passes the greatest value.
+    pub fn plus(self, other: Self) -> Result<Self, Passed>
+        ensures ok { IfOk result (λ r. r ≡ add self other) }
+        ensures fits { IfOk result (λ r. SumFits T.MAX self other) }
+        ensures err { OnErr result (¬ (SumFits T.MAX self other)) }
+    {
+        if self.num.is_zero() {
+            return Ok(made(other.num, other.den));
+        }
+        if other.num.is_zero() {
+            return Ok(made(self.num, self.den));
+        }
+        if self.den == other.den {
+            return match plus(self.num, other.num) {
+                Some(num) => Ok(reduced(num, self.den)),
+                None => Err(Passed),
+            };
+        }
+        self.plus_over_common(other)
+    }
+
+    /// The same over the least common denominator: with g = gcd(b, d), a/b + c/d = (a(d/g) + c(b/g)) / ((b/g)d).
+    fn plus_over_common(self, other: Self) -> Result<Self, Passed>
+        ensures ok { IfOk result (λ r. r ≡ add self other) }
+        ensures fits { IfOk result (λ r. SumFits T.MAX self other) }
+        ensures err { OnErr result (¬ (SumFits T.MAX self other)) }
+    {
+        let g = divisor(self.den, other.den);
+        let by_left = part(other.den, g);
+        let by_right = part(self.den, g);
+        let Some(den) = times(by_right, other.den) else {
+            return Err(Passed);
+        };
+        let Some(left) = times(self.num, by_left) else {
+            return Err(Passed);
+        };
+        let Some(right) = times(other.num, by_right) else {
+            return Err(Passed);
+        };
+        let Some(num) = plus(left, right) else {
+            return Err(Passed);
+        };
+        Ok(reduced(num, den))
+    }
+
+    /// The number with the other sign.
+    pub fn negated(self) -> Self
+        ensures { result ≡ neg self }
+    {
+        made(opposite(self.num), self.den)
+    }
+
+    /// One by a number that isn't 0.
+    pub fn inverted(self) -> Self
+        requires { self.num ≢ pos 0 }
+        ensures { result ≡ inv self }
+    {
+        if is_minus(self.num) {
+            made(opposite(self.den), opposite(self.num))
+        } else {
+            made(self.den, self.num)
+        }
+    }
+
+    /// The difference, refused as the sum with the other sign.
+    pub fn less(self, other: Self) -> Result<Self, Passed>
+        ensures ok { IfOk result (λ r. r ≡ add self (neg other)) }
+        ensures fits { IfOk result (λ r. SumFits T.MAX self (neg other)) }
+        ensures err { OnErr result (¬ (SumFits T.MAX self (neg other))) }
+    {
+        self.plus(other.negated())
+    }
+
+    /// The quotient by a number that isn't 0, refused exactly where its lowest terms pass the greatest value.
+    pub fn by(self, other: Self) -> Result<Self, Passed>
+        requires { other.num ≢ pos 0 }
+        ensures ok { IfOk result (λ r. r ≡ mul (inv other) self) }
+        ensures fits { IfOk result (λ r. Fits T.MAX (mul (inv other) self)) }
+        ensures err { OnErr result (¬ (Fits T.MAX (mul (inv other) self))) }
+    {
+        other.inverted().times(self)
+    }
+
+    /// The order.
+    pub fn compare(self, other: Self) -> Ordering
+        ensures { result ≡ order_of self other }
+    {
+        if is_minus(self.num) {
+            if is_minus(other.num) {
+                order_of_parts(opposite(other.num), other.den, opposite(self.num), self.den)
+            } else {
+                Ordering::Less
+            }
+        } else if is_minus(other.num) {
+            Ordering::Greater
+        } else {
+            order_of_parts(self.num, self.den, other.num, other.den)
+        }
+    }
+
+    /// The numerator and the denominator.
+    pub fn both(self) -> (i128, i128)
+        ensures num { result.0 ≡ self.num }
+        ensures den { result.1 ≡ pos self.den }
+        ensures fits { Fits T.MAX self }
+    {
+        (as_wide(self.num), as_wide(self.den))
+    }
+
+    /// Whether the number is 0.
+    pub fn is_nothing(self) -> bool
+        ensures { result ≡ is_zero_whole self.num }
+    {
+        self.num.is_zero()
+    }
+
+    /// -1, 0 or 1.
+    pub fn signum(self) -> i32
+        ensures { result ≡ sign_of_whole self.num }
+    {
+        if self.num.is_zero() {
+            0
+        } else if is_minus(self.num) {
+            -1
+        } else {
+            1
+        }
+    }
+
+    /// The least common multiple of a positive number and the denominator, or none where it passes the greatest value.
+    pub fn joined(&self, scale: T) -> Option<T>
+        requires { Within T.MAX (T.value scale) × (pos 0 <ℤ T.value scale) }
+        ensures { Checks T.value (Within T.MAX) (pos (common_multiple (unsigned_abs (T.value scale)) self.now.den)) result }
+    {
+        let g = divisor(scale, self.den);
+        times(part(scale, g), self.den)
+    }
+}

@@ -1,0 +1,80 @@
+//! The greatest common divisor of numbers without a sign. By remainders until both numbers have 64 bits, and then by halves: a remainder costs many
+//! times what a shift does.
+
+ghost use Rattle.std.specs.Prelude.{◌≡◌, ◌<◌, ◌%◌, ◌*◌, ◌^◌};
+ghost use Rattle.std.specs.Int.{IsGcd};
+
+/// A positive number without its factors of 2, and how many they are.
+#[derive(Clone, Copy)]
+struct OddPart {
+    odd: u64,
+    twos: u32,
+}
+
+fn without_twos(n: u64) -> OddPart
+    requires { 0 < n }
+    ensures product { result.odd * 2 ^ result.twos ≡ n }
+    ensures odd { result.odd % 2 ≡ 1 }
+    ensures few { result.twos < 64 }
+{
+    let twos = n.trailing_zeros();
+    OddPart {
+        odd: n >> twos,
+        twos,
+    }
+}
+
+/// The greatest common divisor of two odd numbers.
+fn divisor_of_odds(a: u64, b: u64) -> u64
+    requires a { a % 2 ≡ 1 }
+    requires b { b % 2 ≡ 1 }
+    ensures { IsGcd a b result }
+{
+    let mut x = a;
+    let mut y = b;
+    'steps: while x != y {
+        if x < y {
+            y = without_twos(y - x).odd;
+        } else {
+            x = without_twos(x - y).odd;
+        }
+    }
+    x
+}
+
+/// The greatest common divisor of two numbers of 64 bits; that of 0 and b is b.
+pub fn divisor_of_words(a: u64, b: u64) -> u64
+    ensures { IsGcd a b result }
+{
+    if a == 0 {
+        return b;
+    }
+    if b == 0 {
+        return a;
+    }
+    let left = without_twos(a);
+    let right = without_twos(b);
+    let odd = divisor_of_odds(left.odd, right.odd);
+    if left.twos <= right.twos {
+        odd << left.twos
+    } else {
+        odd << right.twos
+    }
+}
+
+/// The greatest common divisor of two numbers; that of 0 and b is b.
+pub fn divisor_of(a: u128, b: u128) -> u128
+    ensures { IsGcd a b result }
+{
+    let mut x = a;
+    let mut y = b;
+    'steps: while x > u128::from(u64::MAX) || y > u128::from(u64::MAX) {
+        if y == 0 {
+            return x;
+        }
+        let rest = x % y;
+        x = y;
+        y = rest;
+    }
+    u128::from(divisor_of_words(x as u64, y as u64))
+}

@@ -1,0 +1,35 @@
+//! The common scale of a list of fractions.
+
+ghost use Rattle.std.specs.Prelude.{◌≡◌, ℕ, pos, ◌≤◌, IfOk, IfErr, length, take};
+ghost use Rattle.stack_rational.specs.CommonScale.{IsFirstPassing, ScaleIsLeastMultiple, greatest_number, scale_of};
+
+use crate::frac::Frac;
+
+/// That the running multiple passes 2^127 - 1.
+#[derive(Clone, Copy, Debug, PartialEq, Eq)]
+pub struct ScaleWide {
+    /// The first item at which it does.
+    pub index: usize,
+}
+
+/// The least common multiple of the denominators, 1 for the empty list. Refused exactly where the running multiple passes
+/// 2^127 - 1, with the first item at which it does. Takes no memory.
+pub fn common_scale(list: &[Frac<i128>]) -> Result<i128, ScaleWide>
+    ensures ok { IfOk result (λ n. n ≡ pos (scale_of list.now)) }
+    ensures fits { IfOk result (λ n. (k : ℕ) → k ≤ length list.now → scale_of (take k list.now) ≤ greatest_number) }
+    ensures wide { IfErr result (λ e. IsFirstPassing list.now e.index) }
+{
+    let mut scale = 1;
+    for (index, item) in list.iter().enumerate() {
+        match item.joined(scale) {
+            Some(next) => scale = next,
+            None => return Err(ScaleWide { index }),
+        }
+    }
+    Ok(scale)
+}
+
+/// The scale of a list is the least common multiple of its denominators.
+pub fn scale_law()
+    ensures { ScaleIsLeastMultiple }
+{}
