@@ -15,22 +15,20 @@ use stack_outside::{Shelf, Sink, SinkFailed};
 use std::alloc::Global;
 
 /// Puts the refusal's line on `err`, in one put, and gives the refusal: where memory for the line is wanting, that
-/// refusal.
+/// refusal. The line of that one is a constant.
 fn say<E: Sink>(alloc: Global, refusal: Refusal, err: &mut E) -> Refusal
     ensures which { (result ≡ refusal) ⊎ (result ≡ Refusal.Memory) }
     ensures line { ¬ Rose (E.faults err.old) (E.faults err.new) →
         Appends (E.written err.old) (E.written err.new) (with_line_feed (line_of (refusal_view result))) }
 {
-    match format!(in alloc; "{refusal}\n") {
-        Ok(line) => {
+    if !matches!(refusal, Refusal::Memory) {
+        if let Ok(line) = format!(in alloc; "{refusal}\n") {
             let _ = err.put(line.as_bytes());
-            refusal
-        }
-        Err(_) => {
-            let _ = err.put(b"memory\n");
-            Refusal::Memory
+            return refusal;
         }
     }
+    let _ = err.put(b"memory\n");
+    Refusal::Memory
 }
 
 /// Answers or refuses, and gives the status.
