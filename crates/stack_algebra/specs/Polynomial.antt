@@ -1,6 +1,6 @@
 -- Polynomial expressions, their value in a ring, and their normal form: a list of terms, each a coefficient
--- and its sorted
--- variables. The normal form is computed, so an identity is proved by writing both sides as expressions.
+-- and its sorted variables. The normal form is computed, so an identity is proved by writing both sides as
+-- expressions.
 use mathlib.Core.Bool.{Bool, true, false, ◌&&◌}
 use mathlib.Core.List.{List, [], ◌∷◌}
 use Prim.Native.Nat.{ℕ, zero, suc}

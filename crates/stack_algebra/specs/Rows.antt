@@ -1,6 +1,6 @@
 -- The rows of a table as index functions over a ring or an ordered field: the pivot cell by cell,
--- combinations of the first rows,
--- vectors that the rows annul, values spread over basic columns. The right side is a column like the others.
+-- combinations of the first rows, vectors that the rows annul, values spread over basic columns. The right
+-- side is a column like the others.
 use mathlib.Core.Path.{◌≡◌}
 use mathlib.Core.Logic.{◌≢◌}
 use mathlib.Core.Bool.{cond}

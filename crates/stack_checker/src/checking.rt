@@ -135,10 +135,9 @@ fn check_form(s: &Survey, c: &Certificate) -> Check
 }
 
 /// Whether a certificate is true of the survey's model: `Accepted` only where it is, `Rejected` only where it
-/// isn't, with the
-/// first test that fails. `TooWide` where a product or a partial result passes `2^127 - 1` in size before a
-/// test fails, with
-/// the first such place. Bearings and free blocks are counted from 0. Takes no memory. After Livesley (1978).
+/// isn't, with the first test that fails. `TooWide` where a product or a partial result passes `2^127 - 1` in
+/// size before a test fails, with the first such place. Bearings and free blocks are counted from 0. Takes no
+/// memory. After Livesley (1978).
 pub fn check(s: &Survey, c: &Certificate) -> Check
     ensures written { result ≡ written_check (survey_view s.now) (certificate_view c.now) }
     ensures accepted { result ≡ Check.Accepted →

@@ -1,6 +1,5 @@
 -- The weight of an outline doesn't depend on the corner that it is told from: sums over the triangles of a
--- fan are sums over
--- the closed outline, and those can begin anywhere.
+-- fan are sums over the closed outline, and those can begin anywhere.
 use mathlib.Core.Path.{◌≡◌, refl, sym, ap, ◌∙◌}
 use mathlib.Core.List.{List, [], ◌∷◌, ◌++◌}
 use native.Mathlib.Omega.{arith}

@@ -1,7 +1,6 @@
--- Certificates as they are held and printed, on lists, and when each is true of a scene.
--- A list of forces has as many parts as the scene has bearings, in their order; a motion has as many moves as
--- it has free
--- bodies, in their order, and its fixed bodies are still. After Livesley (1978): the static and the kinematic
+-- Certificates as they are held and printed, on lists, and when each is true of a scene. A list of forces has
+-- as many parts as the scene has bearings, in their order; a motion has as many moves as it has free bodies,
+-- in their order, and its fixed bodies are still. After Livesley (1978): the static and the kinematic
 -- theorem.
 use mathlib.Core.Path.{◌≡◌}
 use mathlib.Core.Bool.{cond}
@@ -15,8 +14,7 @@ use Rattle.stack_equilibrium.specs.Balance.{IsAdmissible, IsBalanced}
 use Rattle.stack_equilibrium.specs.Motions.{IsUnresisted, dead_power_of, live_power_of}
 
 -- forces that balance scale times the dead loads and factor times the live loads: the factor carried is
--- factor over scale,
--- and a real force is its part divided by six times the scale
+-- factor over scale, and a real force is its part divided by six times the scale
 pub record Forces : Type 0 where
   pub scale : ℤ
   pub factor : ℤ

@@ -19,8 +19,7 @@ sum_of_triangles f o (p ∷ []) = pos 0
 sum_of_triangles f o (p ∷ q ∷ rest) = f o p q +ℤ sum_of_triangles f o (q ∷ rest)
 
 -- six times the moment of a triangle's weight, of one unit per area, about o: its area is half of
--- triangle_of, and
--- its centroid lies a third of distances_of right of o
+-- triangle_of, and its centroid lies a third of distances_of right of o
 abbrev pub moment_of_triangle : Point → Point → Point → ℤ
 moment_of_triangle o p q = triangle_of o p q *ℤ distances_of o p q
 

@@ -33,8 +33,7 @@ pub record Body : Type 0 where
   pub live : Wrench
 
 -- a point where the body `first` and the later body `second` bear on one another: the point, the tangent of
--- the joint,
--- whose normal (-ty, tx) points to the later body, and the coefficient of friction, p over q
+-- the joint, whose normal (-ty, tx) points to the later body, and the coefficient of friction, p over q
 pub record Bearing : Type 0 where
   pub first : ℕ
   pub second : ℕ
