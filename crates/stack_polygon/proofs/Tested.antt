@@ -1,7 +1,7 @@
 -- The tests of outlines decide the facts.
-use mathlib.Core.Path.{◌≡◌, refl, sym, ap, ◌∙◌}
-use mathlib.Core.Logic.{◌≢◌, ◌⊎◌, inl, inr}
-use mathlib.Core.Bool.{Bool, true, false, not, ◌&&◌, ◌||◌}
+use mathlib.Core.Path.{◌≡◌, refl, ap, ◌∙◌}
+use mathlib.Core.Logic.{◌⊎◌, inl, inr}
+use mathlib.Core.Bool.{Bool, true, false, ◌&&◌, ◌||◌}
 use mathlib.Core.List.{List}
 use Prim.Native.Nat.{ℕ, zero, suc, ◌<◌}
 use native.Mathlib.Omega.{arith}

@@ -1,5 +1,4 @@
 -- What a list of corners becomes: a polygon, or else the first refusal that applies.
-use mathlib.Core.Path.{◌≡◌}
 use mathlib.Core.Bool.{Bool, ◌&&◌}
 use mathlib.Core.List.{List}
 use Prim.Native.Nat.{ℕ, ◌<◌, ◌≤◌}

@@ -1,9 +1,7 @@
 use Rattle.std.proofs.Common.{rules}
-use mathlib.Core.Path.{◌≡◌, refl, sym, ap, subst, ◌∙◌}
-use native.Mathlib.Omega.{arith}
+use mathlib.Core.Path.{refl, subst}
 use lib.ListN.{length}
 use Rattle.stack_polygon.specs.Corners.{IsStrictlyConvex}
-use Rattle.stack_polygon.specs.Limits.{AreInRange, IsPolygon}
 use Rattle.stack_polygon.specs.Admission.{IsCount}
 use Rattle.stack_polygon.proofs.Admitted.{admitted, refused, range-held, count-kept}
 use Rattle.stack_polygon.proofs.polygon.Polygon.new.Goals as goal
