@@ -4,3 +4,4 @@ pub mod Convexity
 pub mod Turned
 pub mod Fans
 pub mod Tested
+pub mod Admitted

@@ -20,8 +20,19 @@ both : (a b : Bool) → a && b ≡ true → (a ≡ true) × (b ≡ true)
 both true b h = (refl, h)
 both false b h = absurd (cc)
 
-in_range : (c : Point) → is_in_range c ≡ true → IsInRange c
+pub in_range : (c : Point) → is_in_range c ≡ true → IsInRange c
 in_range c h = let p = both (is_near c.x) (is_near c.y) h in record { x = near c.x p.0; y = near c.y p.1 }
+
+-- and back
+to_near : (z : ℤ) → IsNear z → is_near z ≡ true
+to_near z h = let low = h.low in let high = h.high in grind (arith, ints)
+
+pub to_range : (c : Point) → IsInRange c → is_in_range c ≡ true
+to_range c h = λ i. to_near c.x h.x i && to_near c.y h.y i
+
+pub to_all_in_range : (ps : List Point) → AreInRange ps → are_in_range ps ≡ true
+to_all_in_range [] h = refl
+to_all_in_range (p ∷ ps) h = λ i. to_range p (h 0 (omega arith)) i && to_all_in_range ps (λ j l. h (suc j) (omega arith)) i
 
 pub all_in_range : (ps : List Point) → are_in_range ps ≡ true → AreInRange ps
 all_in_range ps h i lt = go (is_in_range (corner_of ps i)) refl

@@ -1,7 +1,7 @@
 -- The tests of outlines decide the facts.
-use mathlib.Core.Path.{◌≡◌, refl, sym, ap, ◌∙◌}
-use mathlib.Core.Logic.{◌≢◌, ◌⊎◌, inl, inr}
-use mathlib.Core.Bool.{Bool, true, false, not, ◌&&◌, ◌||◌}
+use mathlib.Core.Path.{◌≡◌, refl, ap, ◌∙◌}
+use mathlib.Core.Logic.{◌⊎◌, inl, inr}
+use mathlib.Core.Bool.{Bool, true, false, ◌&&◌, ◌||◌}
 use mathlib.Core.List.{List}
 use Prim.Native.Nat.{ℕ, zero, suc, ◌<◌}
 use native.Mathlib.Omega.{arith}
@@ -39,7 +39,7 @@ left z h = grind (arith, ints)
 is_left : (z : ℤ) → pos 0 ≺ z → int_lt (pos 0) z ≡ true
 is_left z h = grind (arith, ints)
 
-clear_from : (ps : List Point) (i : ℕ) → is_clear ps i ≡ true → IsClear ps i
+pub clear_from : (ps : List Point) (i : ℕ) → is_clear ps i ≡ true → IsClear ps i
 clear_from ps i h j lt n m = left _ (go (j == i) (j == next_round (length ps) i) refl refl (each_below (is_left_or_end ps i) (length ps) h j lt))
   where
     go : (a b : Bool) → j == i ≡ a → j == next_round (length ps) i ≡ b
@@ -49,7 +49,7 @@ clear_from ps i h j lt n m = left _ (go (j == i) (j == next_round (length ps) i)
     go false true e f h = absurd (m ((Decides-eqb j (next_round (length ps) i)).0 f))
     go false false e f h = h
 
-to_clear : (ps : List Point) (i : ℕ) → IsClear ps i → is_clear ps i ≡ true
+pub to_clear : (ps : List Point) (i : ℕ) → IsClear ps i → is_clear ps i ≡ true
 to_clear ps i h = below_each (is_left_or_end ps i) (length ps) each
   where
     go : (j : ℕ) → j < length ps → (a b : Bool) → j == i ≡ a → j == next_round (length ps) i ≡ b

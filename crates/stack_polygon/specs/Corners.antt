@@ -1,10 +1,8 @@
 -- Lists of corners: edges, strict convexity, the points inside, and the list in the other order.
 -- Edge i runs from corner i to the next one, and the last edge back to corner 0.
 use mathlib.Core.Logic.{◌≢◌}
-use mathlib.Core.Bool.{cond}
 use mathlib.Core.List.{List, [], ◌∷◌}
-use Prim.Native.Nat.{ℕ, suc, ◌<◌}
-use lib.Dec.{eqb}
+use Prim.Native.Nat.{ℕ, ◌<◌}
 use lib.IntN.{ℤ, pos}
 use lib.ListN.{length, get_or}
 use Rattle.std.specs.Prelude.{reverse}

@@ -3,5 +3,6 @@ pub mod Corners
 pub mod Limits
 pub mod Rectangles
 pub mod Outlines
+pub mod Admission
 pub mod Area
 pub mod Sizes

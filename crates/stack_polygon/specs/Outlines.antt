@@ -1,12 +1,12 @@
 -- The outline of a list of corners, by tests: the list where it is strictly convex, or else its reversal
 -- where that is, or else the first edge of the list as it is written that doesn't have every other corner
 -- strictly left of it.
-use mathlib.Core.Bool.{Bool, true, false, not, ◌&&◌, ◌||◌}
+use mathlib.Core.Bool.{Bool, true, ◌&&◌, ◌||◌}
 use mathlib.Core.List.{List}
 use Prim.Native.Nat.{ℕ, zero, suc}
 use lib.IntN.{pos}
 use lib.ListN.{length}
-use Rattle.std.specs.Prelude.{Option, Some, None, Result, Ok, Err, ◌==◌, int_lt, if◌then◌else◌}
+use Rattle.std.specs.Prelude.{Result, Ok, Err, ◌==◌, int_lt, if◌then◌else◌}
 use Rattle.stack_polygon.specs.declared.point.Point.{Point}
 use Rattle.stack_algebra.specs.Search.{next_round}
 use Rattle.stack_polygon.specs.Corners.{corner_of, side_of, reversed}

@@ -4,13 +4,16 @@
 //! every edge that it isn't an end of, with coordinates from -1,000,000 to 1,000,000.
 #![tactic(auto)]
 
+mod errors;
 mod fan;
 mod laws;
+mod lists;
 mod point;
 mod polygon;
 mod rectangle;
 mod turns;
 
+pub use errors::PolygonError;
 pub use laws::convexity_by_test;
 pub use point::Point;
 pub use polygon::Polygon;

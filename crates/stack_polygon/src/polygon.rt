@@ -1,14 +1,17 @@
 //! Strictly convex polygons.
 
-ghost use Rattle.std.specs.Prelude.{◌≡◌, ◌<◌, length, IfSome};
+ghost use Rattle.std.specs.Prelude.{◌≡◌, ◌<◌, length, IfSome, IfOk, MatchResult};
 ghost use Rattle.stack_polygon.specs.Plane.{sign_of};
 ghost use Rattle.stack_polygon.specs.Rectangles.{rectangle_of, StandsFor};
+ghost use Rattle.stack_polygon.specs.Admission.{polygon_of, IsAdmitted, IsRefused};
 ghost use Rattle.stack_polygon.specs.Corners.{corner_of, side_of};
 ghost use Rattle.stack_polygon.specs.Limits.{IsInRange, IsPolygon};
 ghost use Rattle.stack_polygon.specs.Area.{twice_area_of, six_moments_of};
 ghost use Rattle.stack_polygon.specs.Sizes.{IsWithin};
 
+use crate::errors::PolygonError;
 use crate::fan::fan;
+use crate::lists::{first_far, first_unclear, reverse};
 use crate::point::Point;
 use crate::rectangle::{are_in_range, is_rectangle, turn};
 use crate::turns::{next, triangle};
@@ -33,6 +36,34 @@ impl Model for Polygon {
 }
 
 impl Polygon {
+    /// The polygon with these corners, which may go round it either way: a list that isn't strictly convex is
+    /// reversed in place, and its first corner stays first. Strictly convex means that for each edge every
+    /// other corner, by its place in the list, lies strictly left of it. Refused are, in this order: a number
+    /// of corners that isn't from 3 to 32, a coordinate outside -1,000,000 to 1,000,000, and a list that is
+    /// strictly convex neither as it is written nor reversed. Takes no memory.
+    pub fn new(mut corners: Vec<Point>) -> Result<Polygon, PolygonError>
+        ensures value { result ≡ polygon_of corners.items }
+        ensures meaning { MatchResult result (λ ps. IsAdmitted corners.items ps) (λ e. IsRefused corners.items e) }
+        ensures polygon { IfOk result (λ ps. IsPolygon ps) }
+    {
+        if corners.len() < 3 || corners.len() > 32 {
+            return Err(PolygonError::Corners);
+        }
+        if let Some(corner) = first_far(&corners) {
+            return Err(PolygonError::Range { corner });
+        }
+        match first_unclear(&corners) {
+            None => Ok(Polygon { corners }),
+            Some(edge) => {
+                reverse(&mut corners);
+                match first_unclear(&corners) {
+                    None => Ok(Polygon { corners }),
+                    Some(_) => Err(PolygonError::NotConvex { edge }),
+                }
+            }
+        }
+    }
+
     /// The axis-parallel rectangle with these corners, which may go round it either way: a clockwise list is
     /// reversed in place, and its first corner stays first. `None` exactly where a coordinate isn't in
     /// -1,000,000 to 1,000,000, or the list isn't the four corners, in order round, of an axis-parallel

@@ -1,8 +1,7 @@
-//! Tests on lists of corners, and the list in the other order.
+//! Tests on lists of corners, and a clockwise list turned round.
 
-ghost use Rattle.std.specs.Prelude.{◌≡◌, ◌<◌, vec_len, IsTrue};
-ghost use Rattle.stack_polygon.specs.Corners.{reversed};
-ghost use Rattle.stack_polygon.specs.Limits.{AreInRange, are_in_range as are_in_range_of};
+ghost use Rattle.std.specs.Prelude.{◌≡◌, ◌↔◌, IsTrue};
+ghost use Rattle.stack_polygon.specs.Limits.{IsInRange, AreInRange, are_in_range as are_in_range_of};
 ghost use Rattle.stack_polygon.specs.Limits.{is_in_range as is_in_range_of, is_near as is_near_of};
 ghost use Rattle.stack_polygon.specs.Rectangles.{is_across as is_across_of, is_upright as is_upright_of};
 ghost use Rattle.stack_polygon.specs.Rectangles.{is_across_first as is_across_first_of};
@@ -10,6 +9,7 @@ ghost use Rattle.stack_polygon.specs.Rectangles.{is_upright_first as is_upright_
 ghost use Rattle.stack_polygon.specs.Rectangles.{is_rectangle as is_rectangle_of};
 ghost use Rattle.stack_polygon.specs.Rectangles.{is_clockwise as is_clockwise_of, turned};
 
+use crate::lists::reverse;
 use crate::point::Point;
 use crate::turns::triangle;
 
@@ -19,8 +19,10 @@ fn is_near(z: i64) -> bool
     -1_000_000 <= z && z <= 1_000_000
 }
 
-fn is_in_range(c: Point) -> bool
-    ensures { result ≡ is_in_range_of c }
+/// Whether both coordinates are in -1,000,000 to 1,000,000.
+pub fn is_in_range(c: Point) -> bool
+    ensures value { result ≡ is_in_range_of c }
+    ensures fact { IsTrue result ↔ IsInRange c }
 {
     is_near(c.x) && is_near(c.y)
 }
@@ -81,14 +83,6 @@ fn is_clockwise(corners: &[Point]) -> bool
         [a, b, c, ..] => triangle(*a, *b, *c) < 0,
         _ => false,
     }
-}
-
-/// Puts the corners after the first in the other order.
-fn reverse(corners: &mut Vec<Point>)
-    requires { 0 < vec_len corners.old }
-    ensures { corners.new.items ≡ reversed corners.old.items }
-{
-    corners[1..].reverse();
 }
 
 /// Reverses a clockwise list in place, with its first corner kept.
