@@ -1,0 +1,5 @@
+mod DivisionSteps
+mod LowestTerms
+mod FramesOfDirections
+mod LesserCones
+mod MadeNumbers
