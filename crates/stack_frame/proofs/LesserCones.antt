@@ -78,7 +78,7 @@ lowest-is a h = subst (λ x. IsReduced x (lowest a)) whole (reduced p q (gcd p q
     natural : (z : ℤ) → pos 0 ≼ z → pos (nat_abs z) ≡ z
     natural z h = omega (arith, ints)
 
-    whole : Path Cone (record { p = pos p; q = pos q }) a
+    whole : ◌≡◌ {A = Cone} (record { p = pos p; q = pos q }) a
     whole = λ i. record { p = natural a.p h.p_least i; q = natural a.q (least a.q h.q_least) i }
 
 -- the divisor of the code isn't 0
@@ -89,27 +89,30 @@ divisor-positive a p g h e = subst (λ n. 0 < n) (sym e)
     positive : (z : ℤ) → pos 1 ≼ z → z ≼ pos 1000 → 0 < nat_abs (to_z w64 (of_z w64 z))
     positive z h k = omega (arith, ints)
 
--- where a is at most b, and c is a in lowest terms, c is the lesser of a and b
-at_most_by : (a b c : Cone) → IsCoefficient a → IsCoefficient c → IsSame c a → IsAtMost a b → IsAtMost c b
-at_most_by a b c ha hc e h = cross c.p c.q a.p a.q b.p b.q (positive a.q ha.q_least) (least c.q hc.q_least) e h
+-- where a is at most b, and b at most c, a is at most c
+at_most_next : (a b c : Cone) → IsCoefficient a → IsCoefficient b → IsCoefficient c → IsAtMost a b → IsAtMost b c →
+    IsAtMost a c
+at_most_next a b c ha hb hc h k = cross a.p a.q b.p b.q c.p c.q ha.q_least hb.q_least hc.q_least h k
   where
-    positive : (z : ℤ) → pos 1 ≼ z → pos 0 ≺ z
-    positive z h = omega (arith, ints)
-
     least : (z : ℤ) → pos 1 ≼ z → pos 0 ≼ z
     least z h = omega (arith, ints)
 
-    cross : (x y p q u v : ℤ) → pos 0 ≺ q → pos 0 ≼ y → x *ℤ q ≡ p *ℤ y → (p *ℤ v) ≼ (u *ℤ q) → (x *ℤ v) ≼ (u *ℤ y)
-    cross x y p q u v hq hy e h =
-        let m = mul_nonneg y (u *ℤ q -ℤ p *ℤ v) hy (nonneg-sub (p *ℤ v) (u *ℤ q) h) in
-        let k = ap (λ z. z *ℤ v) e in
-        sub-nonneg (x *ℤ v) (u *ℤ y) (nonneg-cancel q (u *ℤ y -ℤ x *ℤ v) hq
-        (simp expand (omega (arith, sums, simp expand at m, simp expand at k))))
+    positive : (z : ℤ) → pos 1 ≼ z → pos 0 ≺ z
+    positive z h = omega (arith, ints)
 
-at_most_same : (a c : Cone) → IsSame c a → IsAtMost c a
-at_most_same a c e = by (c.p *ℤ a.q) (a.p *ℤ c.q) e
+    cross : (x y p q u v : ℤ) → pos 1 ≼ y → pos 1 ≼ q → pos 1 ≼ v → (x *ℤ q) ≼ (p *ℤ y) → (p *ℤ v) ≼ (u *ℤ q) →
+        (x *ℤ v) ≼ (u *ℤ y)
+    cross x y p q u v hy hq hv h k =
+        let m = mul_nonneg v (p *ℤ y -ℤ x *ℤ q) (least v hv) (nonneg-sub (x *ℤ q) (p *ℤ y) h) in
+        let n = mul_nonneg y (u *ℤ q -ℤ p *ℤ v) (least y hy) (nonneg-sub (p *ℤ v) (u *ℤ q) k) in
+        sub-nonneg (x *ℤ v) (u *ℤ y) (nonneg-cancel q (u *ℤ y -ℤ x *ℤ v) (positive q hq)
+        (simp expand (omega (arith, sums, simp expand at m, simp expand at n))))
+
+-- equal coefficients are at most one another
+at_most_same : (a b : Cone) → IsSame a b → IsAtMost a b × IsAtMost b a
+at_most_same a b e = by (a.p *ℤ b.q) (b.p *ℤ a.q) e
   where
-    by : (x y : ℤ) → x ≡ y → x ≼ y
+    by : (x y : ℤ) → x ≡ y → (x ≼ y) × (y ≼ x)
     by x y e = omega (arith, ints)
 
 pub lesser-first : (a b : Cone) → IsCoefficient a → IsCoefficient b → int_le (a.p *ℤ b.q) (b.p *ℤ a.q) ≡ true →
@@ -117,8 +120,9 @@ pub lesser-first : (a b : Cone) → IsCoefficient a → IsCoefficient b → int_
 lesser-first a b ha hb t = let r = lowest-is a ha in record {
   in_limits = r.in_limits;
   one = inl r.same;
-  first = at_most_same a (lowest a) r.same;
-  second = at_most_by a b (lowest a) ha r.in_limits r.same (is (a.p *ℤ b.q) (b.p *ℤ a.q) t);
+  first = (at_most_same (lowest a) a r.same).0;
+  second = at_most_next (lowest a) a b r.in_limits ha hb (at_most_same (lowest a) a r.same).0
+      (is (a.p *ℤ b.q) (b.p *ℤ a.q) t);
   lowest = r.lowest;
 }
   where
@@ -130,8 +134,9 @@ pub lesser-second : (a b : Cone) → IsCoefficient a → IsCoefficient b → int
 lesser-second a b ha hb t = let r = lowest-is b hb in record {
   in_limits = r.in_limits;
   one = inr r.same;
-  first = at_most_by b a (lowest b) hb r.in_limits r.same (is (a.p *ℤ b.q) (b.p *ℤ a.q) t);
-  second = at_most_same b (lowest b) r.same;
+  first = at_most_next (lowest b) b a r.in_limits hb ha (at_most_same (lowest b) b r.same).0
+      (is (a.p *ℤ b.q) (b.p *ℤ a.q) t);
+  second = (at_most_same (lowest b) b r.same).0;
   lowest = r.lowest;
 }
   where
@@ -142,25 +147,9 @@ lesser-second a b ha hb t = let r = lowest-is b hb in record {
 at_most_lesser : (a b c d : Cone) → IsCoefficient a → IsCoefficient b → IsLesser a b c → IsLesser a b d → IsAtMost c d
 at_most_lesser a b c d ha hb h k = go k.one
   where
-    at_most : (a : Cone) → IsCoefficient a → IsSame d a → IsAtMost c a → IsAtMost c d
-    at_most a ha e m = cross c.p c.q d.p d.q a.p a.q (positive a.q ha.q_least) (least d.q k.in_limits.q_least) e m
-      where
-        positive : (z : ℤ) → pos 1 ≼ z → pos 0 ≺ z
-        positive z h = omega (arith, ints)
-
-        least : (z : ℤ) → pos 1 ≼ z → pos 0 ≼ z
-        least z h = omega (arith, ints)
-
-        cross : (x y u v p q : ℤ) → pos 0 ≺ q → pos 0 ≼ v → u *ℤ q ≡ p *ℤ v → (x *ℤ q) ≼ (p *ℤ y) → (x *ℤ v) ≼ (u *ℤ y)
-        cross x y u v p q hq hv e h =
-            let m = mul_nonneg v (p *ℤ y -ℤ x *ℤ q) hv (nonneg-sub (x *ℤ q) (p *ℤ y) h) in
-            let k = ap (λ z. z *ℤ y) e in
-            sub-nonneg (x *ℤ v) (u *ℤ y) (nonneg-cancel q (u *ℤ y -ℤ x *ℤ v) hq
-            (simp expand (omega (arith, sums, simp expand at m, simp expand at k))))
-
     go : IsSame d a ⊎ IsSame d b → IsAtMost c d
-    go (inl e) = at_most a ha e h.first
-    go (inr e) = at_most b hb e h.second
+    go (inl e) = at_most_next c a d h.in_limits ha k.in_limits h.first (at_most_same d a e).1
+    go (inr e) = at_most_next c b d h.in_limits hb k.in_limits h.second (at_most_same d b e).1
 
 -- equal fractions in lowest terms have the same terms
 one-fraction : (x y u v : ℤ) → pos 0 ≼ x → pos 0 ≼ y → pos 0 ≼ u → pos 0 ≼ v → IsLowest x y → IsLowest u v →
