@@ -77,15 +77,15 @@ divisor-of dx dy a b g fx fy hx hy some ea eb e = record {
     size : (0 < g) × (g ≤ 2000000)
     size = both some
 
-pub frame-is : (dx dy : ℤ) (t : Frame) (g : ℕ) → IsDivisor dx dy g → dx ≡ pos g *ℤ t.tx → dy ≡ pos g *ℤ t.ty →
-    IsFrameOf dx dy t
-frame-is dx dy t g h ex ey = record {
+pub frame-is : (dx dy : ℤ) (t : Frame) (g : ℕ) → 0 < g → gcd (nat_abs dx) (nat_abs dy) ≡ g →
+    dx ≡ pos g *ℤ t.tx → dy ≡ pos g *ℤ t.ty → IsFrameOf dx dy t
+frame-is dx dy t g p e ex ey = record {
   times = g;
-  positive = h.positive;
+  positive = p;
   x = ex;
   y = ey;
-  lowest = lowest_of_gcd t.tx t.ty (lowest-parts g (nat_abs t.tx) (nat_abs t.ty) h.positive
-      (sym (λ i. gcd (part dx t.tx ex i) (part dy t.ty ey i)) ∙ h.whole));
+  lowest = lowest_of_gcd t.tx t.ty (lowest-parts g (nat_abs t.tx) (nat_abs t.ty) p
+      (sym (λ i. gcd (part dx t.tx ex i) (part dy t.ty ey i)) ∙ e));
 }
   where
     part : (d z : ℤ) → d ≡ pos g *ℤ z → nat_abs d ≡ g * nat_abs z

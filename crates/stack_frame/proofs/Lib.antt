@@ -3,3 +3,4 @@ mod LowestTerms
 mod FramesOfDirections
 mod LesserCones
 mod MadeNumbers
+mod Senses

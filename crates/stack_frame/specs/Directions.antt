@@ -1,7 +1,7 @@
 -- Directions of the plane in lowest terms, and their quarter turns. A joint has such a direction as its tangent.
-use Rattle.std.specs.Prelude.{◌≡◌, ℕ, ◌<◌, ℤ, pos, negsuc, nat_abs, ◌+ℤ◌, ◌-ℤ◌, ◌*ℤ◌}
+use Rattle.std.specs.Prelude.{◌≡◌, ◌↔◌, ℕ, ◌<◌, ℤ, pos, negsuc, nat_abs, ◌+ℤ◌, ◌-ℤ◌, ◌*ℤ◌}
 use Prim.Native.Nat.{◌∣◌}
-use Rattle.stack_algebra.specs.IntegerOrder.{◌≼◌}
+use Rattle.stack_algebra.specs.IntegerOrder.{◌≼◌, ◌≺◌}
 use Rattle.stack_frame.specs.declared.frame.Frame.{Frame}
 
 -- at most 2,000,000 in size, as a difference of coordinates is
@@ -21,6 +21,11 @@ pub record IsFrameOf (dx dy : ℤ) (t : Frame) : Type 0 where
   pub y : dy ≡ pos times *ℤ t.ty
   pub lowest : IsLowest t.tx t.ty
 
+-- the direction is parallel to t, and has its sense
+pub record IsParallelInSense (dx dy : ℤ) (t : Frame) : Type 0 where
+  pub parallel : dx *ℤ t.ty ≡ dy *ℤ t.tx
+  pub same_sense : pos 0 ≺ dx *ℤ t.tx +ℤ dy *ℤ t.ty
+
 -- the square of a length
 abbrev pub square_of : ℤ → ℤ → ℤ
 square_of x y = x *ℤ x +ℤ y *ℤ y
@@ -35,3 +40,8 @@ pub record IsQuarterTurn (t : Frame) (n : ℤ × ℤ) : Type 0 where
 -- a direction has one frame
 abbrev pub DirectionsHaveOneFrame : Type 0
 DirectionsHaveOneFrame = (dx dy : ℤ) (t u : Frame) → IsFrameOf dx dy t → IsFrameOf dx dy u → t ≡ u
+
+-- told without a multiple: its frame is the one in lowest terms to which it is parallel and whose sense it has
+abbrev pub FramesByParallels : Type 0
+FramesByParallels = (dx dy : ℤ) (t : Frame) →
+    IsFrameOf dx dy t ↔ (IsLowest t.tx t.ty × IsParallelInSense dx dy t)

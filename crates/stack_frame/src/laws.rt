@@ -1,12 +1,13 @@
 //! The laws of this crate, each a clause of a function that does nothing.
 
-ghost use Rattle.stack_frame.specs.Directions.{DirectionsHaveOneFrame};
+ghost use Rattle.stack_frame.specs.Directions.{DirectionsHaveOneFrame, FramesByParallels};
 ghost use Rattle.stack_frame.specs.Cones.{CoefficientsHaveOneLesser};
 ghost use Rattle.stack_frame.specs.Admitted.{SizePassesWithItsProduct};
 
-/// A direction has one frame.
+/// A direction has one frame: that in lowest terms to which it is parallel and whose sense it has.
 pub fn one_frame()
-    ensures { DirectionsHaveOneFrame }
+    ensures one { DirectionsHaveOneFrame }
+    ensures parallel { FramesByParallels }
 {}
 
 /// Two coefficients have one lesser in lowest terms.

@@ -33,7 +33,8 @@ returns-clause-direction c =
     c.unsigned_abs.ensures.value c.unsigned_abs-2.ensures.value c.common_divisor-divisor.ensures in
     let x : SFits w64 c.quotient.result = record { sfits = c.quotient.type_inv } in
     let y : SFits w64 c.quotient-2.result = record { sfits = c.quotient-2.type_inv } in
-    frame-is c.args.dx c.args.dy _ _ d (part-of _ _ _ c.ranges.dx x c.quotient.ensures)
+    frame-is c.args.dx c.args.dy _ _ d.positive d.whole
+    (part-of _ _ _ c.ranges.dx x c.quotient.ensures)
     (part-of _ _ _ c.ranges.dy y c.quotient-2.ensures)
 
 pub returns-clause-tx : goal.returns-clause-tx
