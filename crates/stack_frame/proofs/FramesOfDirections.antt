@@ -15,7 +15,7 @@ use Rattle.stack_algebra.specs.IntegerOrder.{◌≺◌}
 use Rattle.stack_algebra.proofs.CommonDivisor.{gcd-left, gcd-right}
 use Rattle.stack_algebra.proofs.CrossProducts.{cancel}
 use Rattle.stack_frame.specs.declared.frame.Frame.{Frame}
-use Rattle.stack_frame.specs.Directions.{IsStep, IsFrameOf, DirectionsHaveOneFrame}
+use Rattle.stack_frame.specs.Directions.{IsStep, IsDivisor, IsFrameOf, DirectionsHaveOneFrame}
 use Rattle.stack_frame.proofs.LowestTerms.{gcd_of_lowest, lowest_of_gcd, abs-times, quotient-whole, divides-times, lowest-parts}
 
 -- the code's quotient
@@ -28,22 +28,15 @@ quotient-stored z g fits p l d = quotient-whole z g p d ∙ ap (λ q. pos g *ℤ
 abbrev pub stored : ℤ → ℤ
 stored z = to_z w64 (of_z w64 z)
 
--- what is known of the divisor of the two parts
-pub record IsDivisor (dx dy : ℤ) (g : ℕ) : Type 0 where
-  pub positive : 0 < g
-  pub limit : g ≤ 2000000
-  pub left : g ∣ nat_abs (stored dx)
-  pub right : g ∣ nat_abs (stored dy)
-  pub whole : gcd (nat_abs dx) (nat_abs dy) ≡ g
-
 pub divisor-of : (dx dy : ℤ) (a b g : ℕ) → SFits w64 dx → SFits w64 dy → IsStep dx → IsStep dy →
-    (dx ≢ pos 0) ⊎ (dy ≢ pos 0) → a ≡ nat_abs (stored dx) → b ≡ nat_abs (stored dy) → g ≡ gcd a b → IsDivisor dx dy g
+    (dx ≢ pos 0) ⊎ (dy ≢ pos 0) → a ≡ nat_abs (stored dx) → b ≡ nat_abs (stored dy) → g ≡ gcd a b →
+    IsDivisor dx dy g
 divisor-of dx dy a b g fx fy hx hy some ea eb e = record {
   positive = size.0;
   limit = size.1;
-  left = subst (λ n. g ∣ n) ea left;
-  right = subst (λ n. g ∣ n) eb right;
-  whole = sym (e ∙ (λ i. gcd (one i) (two i)));
+  left = subst (λ n. g ∣ n) one left;
+  right = subst (λ n. g ∣ n) two right;
+  greatest = sym (e ∙ (λ i. gcd (one i) (two i)));
 }
   where
     one : a ≡ nat_abs dx
@@ -76,6 +69,10 @@ divisor-of dx dy a b g fx fy hx hy some ea eb e = record {
 
     size : (0 < g) × (g ≤ 2000000)
     size = both some
+
+pub divisor-at : (dx dy : ℤ) (g : ℕ) → SFits w64 dx → SFits w64 dy → IsDivisor (stored dx) (stored dy) g →
+    IsDivisor dx dy g
+divisor-at dx dy g fx fy h = subst (λ z. z) (λ i. IsDivisor (to_z-of_z fx i) (to_z-of_z fy i) g) h
 
 pub frame-is : (dx dy : ℤ) (t : Frame) (g : ℕ) → 0 < g → gcd (nat_abs dx) (nat_abs dy) ≡ g →
     dx ≡ pos g *ℤ t.tx → dy ≡ pos g *ℤ t.ty → IsFrameOf dx dy t

@@ -1,5 +1,5 @@
--- The lesser of two coefficients, divided by the greatest common divisor of its terms, is what it is called, and
--- there is no other one.
+-- The lesser of two coefficients, with its terms divided by their greatest common divisor, is what it is called,
+-- and there is no other one.
 use mathlib.Core.Path.{◌≡◌, sym, ap, subst, ◌∙◌}
 use mathlib.Core.Logic.{◌⊎◌, inl, inr}
 use mathlib.Core.Bool.{true, false}
@@ -49,7 +49,8 @@ reduced p q (suc g) u v h e f l m n k =
     across u g v = omega arith
 
 lowest-is : (a : Cone) → IsCoefficient a → IsReduced a (lowest a)
-lowest-is a h = subst (λ x. IsReduced x (lowest a)) whole (reduced p q (gcd p q) (p / gcd p q) (q / gcd p q) positive
+lowest-is a h = subst (λ x. IsReduced x (lowest a)) whole
+    (reduced p q (gcd p q) (p / gcd p q) (q / gcd p q) positive
     (mul-div_cancel' (gcd p q) (gcd-left p q)) (mul-div_cancel' (gcd p q) (gcd-right p q))
     (most a.p h.p_greatest h.p_least) some (most a.q h.q_greatest (least a.q h.q_least))
     (gcd-quotients p q positive))
@@ -82,7 +83,8 @@ lowest-is a h = subst (λ x. IsReduced x (lowest a)) whole (reduced p q (gcd p q
     whole = λ i. record { p = natural a.p h.p_least i; q = natural a.q (least a.q h.q_least) i }
 
 -- the divisor of the code isn't 0
-pub divisor-positive : (a : Cone) (p g : ℕ) → IsCoefficient a → g ≡ gcd p (nat_abs (to_z w64 (of_z w64 a.q))) → 0 < g
+pub divisor-positive : (a : Cone) (p g : ℕ) → IsCoefficient a →
+    g ≡ gcd p (nat_abs (to_z w64 (of_z w64 a.q))) → 0 < g
 divisor-positive a p g h e = subst (λ n. 0 < n) (sym e)
     (gcd-pos p (nat_abs (to_z w64 (of_z w64 a.q))) (positive a.q h.q_least h.q_greatest))
   where
@@ -90,8 +92,8 @@ divisor-positive a p g h e = subst (λ n. 0 < n) (sym e)
     positive z h k = omega (arith, ints)
 
 -- where a is at most b, and b at most c, a is at most c
-at_most_next : (a b c : Cone) → IsCoefficient a → IsCoefficient b → IsCoefficient c → IsAtMost a b → IsAtMost b c →
-    IsAtMost a c
+at_most_next : (a b c : Cone) → IsCoefficient a → IsCoefficient b → IsCoefficient c →
+    IsAtMost a b → IsAtMost b c → IsAtMost a c
 at_most_next a b c ha hb hc h k = cross a.p a.q b.p b.q c.p c.q ha.q_least hb.q_least hc.q_least h k
   where
     least : (z : ℤ) → pos 1 ≼ z → pos 0 ≼ z
@@ -144,7 +146,8 @@ lesser-second a b ha hb t = let r = lowest-is b hb in record {
     is x y e = grind (arith, ints)
 
 -- a lesser is at most another one, which is the same number as a or b
-at_most_lesser : (a b c d : Cone) → IsCoefficient a → IsCoefficient b → IsLesser a b c → IsLesser a b d → IsAtMost c d
+at_most_lesser : (a b c d : Cone) → IsCoefficient a → IsCoefficient b →
+    IsLesser a b c → IsLesser a b d → IsAtMost c d
 at_most_lesser a b c d ha hb h k = go k.one
   where
     go : IsSame d a ⊎ IsSame d b → IsAtMost c d

@@ -83,8 +83,14 @@ lowest-long x y h = go x y (gcd_of_lowest x y h)
     go (pos zero) (pos zero) h = absurd (omega (arith, h))
     go (pos zero) (pos (suc y)) h = omega (arith, ints)
     go (pos zero) (negsuc y) h = omega (arith, ints)
-    go (pos (suc x)) y h = let k = square_nonneg y in let l : pos 0 ≺ pos (suc x) *ℤ pos (suc x) = omega (arith, ints) in omega (arith, sums)
-    go (negsuc x) y h = let k = square_nonneg y in let l : pos 0 ≺ negsuc x *ℤ negsuc x = omega (arith, ints) in omega (arith, sums)
+    go (pos (suc x)) y h =
+        let k = square_nonneg y in
+        let l : pos 0 ≺ pos (suc x) *ℤ pos (suc x) = omega (arith, ints) in
+        omega (arith, sums)
+    go (negsuc x) y h =
+        let k = square_nonneg y in
+        let l : pos 0 ≺ negsuc x *ℤ negsuc x = omega (arith, ints) in
+        omega (arith, sums)
 
 turn : (g x y : ℤ) → g *ℤ x *ℤ y ≡ g *ℤ y *ℤ x
 turn g x y = simp expand (omega (arith, sums))
@@ -177,4 +183,5 @@ frames-by-parallels dx dy t = (from, to)
     )
 
     to : IsLowest t.tx t.ty × IsParallelInSense dx dy t → IsFrameOf dx dy t
-    to h = by-parallel dx dy t (gcd (nat_abs dx) (nat_abs dy)) (divisor-positive dx dy t.tx t.ty h.1.same_sense) refl h.0 h.1
+    to h = by-parallel dx dy t (gcd (nat_abs dx) (nat_abs dy)) (divisor-positive dx dy t.tx t.ty h.1.same_sense)
+        refl h.0 h.1

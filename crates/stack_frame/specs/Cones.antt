@@ -43,4 +43,5 @@ pub record IsLesser (a b c : Cone) : Type 0 where
 
 -- two coefficients have one lesser in lowest terms
 abbrev pub CoefficientsHaveOneLesser : Type 0
-CoefficientsHaveOneLesser = (a b c d : Cone) → IsCoefficient a → IsCoefficient b → IsLesser a b c → IsLesser a b d → c ≡ d
+CoefficientsHaveOneLesser = (a b c d : Cone) → IsCoefficient a → IsCoefficient b →
+    IsLesser a b c → IsLesser a b d → c ≡ d

@@ -1,6 +1,7 @@
--- Directions of the plane in lowest terms, and their quarter turns. A joint has such a direction as its tangent.
-use Rattle.std.specs.Prelude.{◌≡◌, ◌↔◌, ℕ, ◌<◌, ℤ, pos, negsuc, nat_abs, ◌+ℤ◌, ◌-ℤ◌, ◌*ℤ◌}
+-- Directions of the plane in lowest terms, and their quarter turns. The tangent of a joint is such a direction.
+use Rattle.std.specs.Prelude.{◌≡◌, ◌↔◌, ℕ, ◌<◌, ◌≤◌, ℤ, pos, negsuc, nat_abs, ◌+ℤ◌, ◌-ℤ◌, ◌*ℤ◌}
 use Prim.Native.Nat.{◌∣◌}
+use Rattle.stack_algebra.specs.Gcd.{gcd}
 use Rattle.stack_algebra.specs.IntegerOrder.{◌≼◌, ◌≺◌}
 use Rattle.stack_frame.specs.declared.frame.Frame.{Frame}
 
@@ -21,6 +22,14 @@ pub record IsFrameOf (dx dy : ℤ) (t : Frame) : Type 0 where
   pub y : dy ≡ pos times *ℤ t.ty
   pub lowest : IsLowest t.tx t.ty
 
+-- g is the greatest number that divides both parts of a direction, which aren't both 0
+pub record IsDivisor (dx dy : ℤ) (g : ℕ) : Type 0 where
+  pub positive : 0 < g
+  pub limit : g ≤ 2000000
+  pub left : g ∣ nat_abs dx
+  pub right : g ∣ nat_abs dy
+  pub greatest : gcd (nat_abs dx) (nat_abs dy) ≡ g
+
 -- the direction is parallel to t, and has its sense
 pub record IsParallelInSense (dx dy : ℤ) (t : Frame) : Type 0 where
   pub parallel : dx *ℤ t.ty ≡ dy *ℤ t.tx
@@ -30,8 +39,8 @@ pub record IsParallelInSense (dx dy : ℤ) (t : Frame) : Type 0 where
 abbrev pub square_of : ℤ → ℤ → ℤ
 square_of x y = x *ℤ x +ℤ y *ℤ y
 
--- n has the length of t and stands at a right angle to it, on its left: the parallelogram from t to n has as its
--- area the square of that length
+-- n has the length of t and stands at a right angle to it, on its left: the parallelogram from t to n has the
+-- square of that length as its area
 pub record IsQuarterTurn (t : Frame) (n : ℤ × ℤ) : Type 0 where
   pub same_length : square_of n.0 n.1 ≡ square_of t.tx t.ty
   pub at_right_angle : t.tx *ℤ n.0 +ℤ t.ty *ℤ n.1 ≡ pos 0

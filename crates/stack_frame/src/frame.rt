@@ -2,7 +2,7 @@
 
 ghost use Rattle.std.specs.Prelude.{◌≡◌, ◌≢◌, ◌⊎◌, ◌<◌, ◌≤◌, ◌*ℤ◌, pos, unsigned_abs};
 ghost use Prim.Native.Nat.{◌∣◌};
-ghost use Rattle.stack_frame.specs.Directions.{IsStep, IsFrameOf, IsQuarterTurn};
+ghost use Rattle.stack_frame.specs.Directions.{IsStep, IsFrameOf, IsDivisor, IsQuarterTurn};
 
 use crate::divisor::common_divisor;
 
@@ -27,6 +27,16 @@ impl Frame {
     }
 }
 
+/// The greatest number that divides both parts of a direction.
+fn divisor_of(dx: i64, dy: i64) -> u64
+    requires dx { IsStep dx }
+    requires dy { IsStep dy }
+    requires some { (dx ≢ pos 0) ⊎ (dy ≢ pos 0) }
+    ensures { IsDivisor dx dy result }
+{
+    common_divisor(dx.unsigned_abs(), dy.unsigned_abs())
+}
+
 /// A whole number divided by one of its divisors.
 fn quotient(z: i64, divisor: u64) -> i64
     requires size { IsStep z }
@@ -48,7 +58,7 @@ pub fn frame_of(dx: i64, dy: i64) -> Frame
     ensures tx { IsStep result.tx }
     ensures ty { IsStep result.ty }
 {
-    let divisor = common_divisor(dx.unsigned_abs(), dy.unsigned_abs());
+    let divisor = divisor_of(dx, dy);
     Frame {
         tx: quotient(dx, divisor),
         ty: quotient(dy, divisor),
