@@ -1,0 +1,6 @@
+mod DivisionSteps
+mod LowestTerms
+mod FramesOfDirections
+mod LesserCones
+mod MadeNumbers
+mod Senses

@@ -1,0 +1,47 @@
+-- Coefficients of friction, p over q. A joint has the lesser one of its two materials, in lowest terms.
+use Rattle.std.specs.Prelude.{◌≡◌, ◌⊎◌, ℕ, ℤ, pos, ◌/◌, ◌*ℤ◌, int_le, unsigned_abs, if◌then◌else◌}
+use Rattle.stack_algebra.specs.Gcd.{gcd}
+use Rattle.stack_algebra.specs.IntegerOrder.{◌≼◌}
+use Rattle.stack_frame.specs.declared.cone.Cone.{Cone}
+use Rattle.stack_frame.specs.Directions.{IsLowest}
+
+abbrev pub cone : ℤ → ℤ → Cone
+cone p q = record { p = p; q = q }
+
+-- p over q, with p from 0 to 1,000 and q from 1 to 1,000
+pub record IsCoefficient (c : Cone) : Type 0 where
+  pub p_least : pos 0 ≼ c.p
+  pub p_greatest : c.p ≼ pos 1000
+  pub q_least : pos 1 ≼ c.q
+  pub q_greatest : c.q ≼ pos 1000
+
+-- the same coefficient in lowest terms: 0 over q is 0 over 1
+abbrev pub lowest_of : ℕ → ℕ → Cone
+lowest_of p q = record { p = pos (p / gcd p q); q = pos (q / gcd p q) }
+
+abbrev pub lowest : Cone → Cone
+lowest c = lowest_of (unsigned_abs c.p) (unsigned_abs c.q)
+
+-- the lesser of two coefficients, in lowest terms
+abbrev pub lesser_of : Cone → Cone → Cone
+lesser_of a b = if int_le (a.p *ℤ b.q) (b.p *ℤ a.q) then lowest a else lowest b
+
+-- p over q, told by products, since q isn't negative: a is at most b, and a is the same number as b
+abbrev pub IsAtMost : Cone → Cone → Type 0
+IsAtMost a b = (a.p *ℤ b.q) ≼ (b.p *ℤ a.q)
+
+abbrev pub IsSame : Cone → Cone → Type 0
+IsSame a b = a.p *ℤ b.q ≡ b.p *ℤ a.q
+
+-- c is the lesser of a and b, by meaning: it is one of them, neither is less, and its terms are the lowest
+pub record IsLesser (a b c : Cone) : Type 0 where
+  pub in_limits : IsCoefficient c
+  pub one : IsSame c a ⊎ IsSame c b
+  pub first : IsAtMost c a
+  pub second : IsAtMost c b
+  pub lowest : IsLowest c.p c.q
+
+-- two coefficients have one lesser in lowest terms
+abbrev pub CoefficientsHaveOneLesser : Type 0
+CoefficientsHaveOneLesser = (a b c d : Cone) → IsCoefficient a → IsCoefficient b →
+    IsLesser a b c → IsLesser a b d → c ≡ d

@@ -1,0 +1,3 @@
+pub mod Directions
+pub mod Cones
+pub mod Admitted
