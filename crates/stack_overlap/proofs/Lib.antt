@@ -1,0 +1,12 @@
+pub mod ByForms
+pub mod Identities
+pub mod Support
+pub mod Stretches
+pub mod Edges
+pub mod CommonPoints
+pub mod Pieces
+pub mod Cases
+pub mod Reaches
+pub mod Finding
+pub mod Signs
+pub mod Swaps

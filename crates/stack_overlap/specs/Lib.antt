@@ -1,0 +1,4 @@
+pub mod Separation
+pub mod Forms
+pub mod CommonPoints
+pub mod Marks

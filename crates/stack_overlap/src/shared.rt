@@ -1,0 +1,230 @@
+//! The common points of two polygons that an edge separates.
+
+ghost use Rattle.std.specs.Prelude.{◌≡◌, ◌⊎◌, ◌<◌, ◌↔◌, length, IsTrue, MatchOption};
+ghost use lib.IntN.{pos};
+ghost use Rattle.stack_algebra.specs.IntegerOrder.{◌≺◌};
+ghost use Rattle.stack_polygon.specs.Limits.{IsInRange, IsPolygon};
+ghost use Rattle.stack_overlap.specs.Separation.{Separates, IsSeparatedBy};
+ghost use Rattle.stack_overlap.specs.Forms.{at as value_at, line, along};
+ghost use Rattle.stack_overlap.specs.CommonPoints.{IsBefore, IsCommonOf};
+ghost use Rattle.stack_overlap.specs.Marks.{IsMarked, IsLower, IsHigher, IsReach, NoneOnLine, IsWider, IsClipped, swapped};
+
+use crate::types::{Common, Edge, Which};
+use stack_polygon::{Point, Polygon, advance, next, triangle};
+
+/// A corner on a line, with its place along it.
+#[derive(Clone, Copy)]
+pub struct Mark {
+    pub place: i64,
+    pub at: Point,
+}
+
+/// The first and the last corner on a line.
+#[derive(Clone, Copy)]
+pub struct Reach {
+    pub low: Mark,
+    pub high: Mark,
+}
+
+/// How far `c` lies ahead of `a` on the way to `b`, times their distance.
+fn place_along(a: Point, b: Point, c: Point) -> i64
+    requires a { IsInRange a }
+    requires b { IsInRange b }
+    requires c { IsInRange c }
+    ensures { result ≡ value_at (along a b) c }
+{
+    advance(a, b, c)
+}
+
+/// Positive where `c` lies left of the line from `a` to `b`, 0 on it.
+fn turn(a: Point, b: Point, c: Point) -> i64
+    requires a { IsInRange a }
+    requires b { IsInRange b }
+    requires c { IsInRange c }
+    ensures { result ≡ value_at (line a b) c }
+{
+    triangle(a, b, c)
+}
+
+/// Whether c is on the line from a to b.
+fn is_on_line(a: Point, b: Point, c: Point) -> bool
+    requires a { IsInRange a }
+    requires b { IsInRange b }
+    requires c { IsInRange c }
+    ensures { IsTrue result ↔ (value_at (line a b) c ≡ pos 0) }
+{
+    is_same(turn(a, b, c), 0)
+}
+
+/// Whether two numbers are equal.
+fn is_same(k: i64, n: i64) -> bool
+    ensures { IsTrue result ↔ (k ≡ n) }
+{
+    k <= n && n <= k
+}
+
+/// Whether a mark comes before another.
+fn precedes(a: Mark, b: Mark) -> bool
+    ensures { IsTrue result ↔ (a.place ≺ b.place) }
+{
+    a.place < b.place
+}
+
+/// Whether a mark has the place of one of two others.
+fn is_at_either(m: Mark, a: Mark, b: Mark) -> bool
+    ensures { IsTrue result ↔ ((m.place ≡ a.place) ⊎ (m.place ≡ b.place)) }
+{
+    is_same(m.place, a.place) || is_same(m.place, b.place)
+}
+
+/// A corner with its place along the line from a to b.
+fn mark_of(a: Point, b: Point, at: Point) -> Mark
+    requires a { IsInRange a }
+    requires b { IsInRange b }
+    requires at { IsInRange at }
+    ensures at { result.at ≡ at }
+    ensures place { result.place ≡ value_at (along a b) at }
+{
+    let place = place_along(a, b, at);
+    Mark { place, at }
+}
+
+/// Whether a is before b by x, then y.
+fn is_before(a: Point, b: Point) -> bool
+    ensures { IsTrue result ↔ IsBefore a b }
+{
+    a.x < b.x || a.x == b.x && a.y < b.y
+}
+
+/// The earlier of two marks.
+fn lower(a: Mark, b: Mark) -> Mark
+    ensures { IsLower a b result }
+{
+    if b.place < a.place { b } else { a }
+}
+
+/// The later of two marks.
+fn higher(a: Mark, b: Mark) -> Mark
+    ensures { IsHigher a b result }
+{
+    if a.place < b.place { b } else { a }
+}
+
+/// A reach with one more mark.
+fn wider(best: Option<Reach>, m: Mark) -> Reach
+    ensures { MatchOption best ((result.low ≡ m) × (result.high ≡ m)) (λ r. IsWider r m result) }
+{
+    match best {
+        None => Reach { low: m, high: m },
+        Some(r) => Reach {
+            low: lower(r.low, m),
+            high: higher(r.high, m),
+        },
+    }
+}
+
+/// The first and the last corner of q on the line from a to b.
+fn reach_along(a: Point, b: Point, q: &Polygon) -> Option<Reach>
+    requires a { IsInRange a }
+    requires b { IsInRange b }
+    ensures polygon { IsPolygon q.now }
+    ensures reach { MatchOption result (NoneOnLine a b q.now (length q.now)) (λ r. IsReach a b q.now (length q.now) r) }
+{
+    let mut best: Option<Reach> = None;
+    for j in 0..q.len() {
+        let at = q.corner(j);
+        if is_on_line(a, b, at) {
+            best = Some(wider(best, mark_of(a, b, at)));
+        }
+    }
+    best
+}
+
+/// The part of a reach on the segment from a to b.
+fn clipped(a: Point, b: Point, r: Reach) -> Reach
+    requires a { IsInRange a }
+    requires b { IsInRange b }
+    requires low { IsMarked a b r.low }
+    requires high { IsMarked a b r.high }
+    ensures { IsClipped a b r result }
+{
+    Reach {
+        low: higher(r.low, Mark { place: 0, at: a }),
+        high: lower(r.high, mark_of(a, b, b)),
+    }
+}
+
+/// What edge i of p and q have in common, where the edge separates them.
+fn common_on(p: &Polygon, i: usize, q: &Polygon) -> Common
+    requires { Separates p.now i q.now }
+    ensures { IsCommonOf p.now q.now result }
+{
+    let a = p.corner(i);
+    let b = p.corner(next(p.len(), i));
+    match reach_along(a, b, q) {
+        None => Common::Nothing,
+        Some(r) => {
+            let s = clipped(a, b, r);
+            let start = Mark { place: 0, at: a };
+            let end = mark_of(a, b, b);
+            if precedes(s.high, s.low) {
+                Common::Nothing
+            } else if precedes(s.low, s.high) {
+                if is_before(s.low.at, s.high.at) {
+                    Common::Segment {
+                        from: s.low.at,
+                        to: s.high.at,
+                    }
+                } else {
+                    Common::Segment {
+                        from: s.high.at,
+                        to: s.low.at,
+                    }
+                }
+            } else if is_at_either(s.low, start, end) {
+                Common::Corner(s.low.at)
+            } else {
+                Common::OnEdge {
+                    at: s.low.at,
+                    edge: Edge {
+                        which: Which::First,
+                        index: i,
+                    },
+                }
+            }
+        }
+    }
+}
+
+/// What two bodies have in common, seen from the other one.
+fn swap_common(c: Common) -> Common
+    ensures { result ≡ swapped c }
+{
+    match c {
+        Common::Nothing => Common::Nothing,
+        Common::Corner(at) => Common::Corner(at),
+        Common::OnEdge { at, edge } => Common::OnEdge {
+            at,
+            edge: Edge {
+                which: match edge.which {
+                    Which::First => Which::Second,
+                    Which::Second => Which::First,
+                },
+                index: edge.index,
+            },
+        },
+        Common::Segment { from, to } => Common::Segment { from, to },
+    }
+}
+
+/// The common points of two polygons, where edge `e` separates them: none, a lone corner of both, a lone corner of
+/// one of them strictly within an edge of the other, or a segment. Takes no memory.
+pub fn common(p: &Polygon, q: &Polygon, e: Edge) -> Common
+    requires { IsSeparatedBy p.now q.now e.which e.index }
+    ensures { IsCommonOf p.now q.now result }
+{
+    match e.which {
+        Which::First => common_on(p, e.index, q),
+        Which::Second => swap_common(common_on(q, e.index, p)),
+    }
+}
