@@ -12,9 +12,9 @@ use Rattle.stack_algebra.proofs.Integers.{sums, expand}
 use Rattle.stack_algebra.proofs.Order.{◌≼◌, ◌≺◌}
 use Rattle.stack_polygon.specs.declared.point.Point.{Point}
 use Rattle.stack_polygon.specs.Plane.{Place, triangle_of, left_of, advance_of, ahead_of}
-use Rattle.stack_polygon.specs.Corners.{corner_of, end_of, IsStrictlyConvex, IsInside as IsInsideOf}
+use Rattle.stack_polygon.specs.Corners.{corner_of, end_of, IsStrictlyConvex, IsStrictlyInside, IsInside as IsInsideOf}
 use Rattle.stack_overlap.specs.Forms.{Form, value, at, line, along, square, edge, IsOnStretch, IsBetween}
-use Rattle.stack_overlap.specs.Separation.{IsCommon, Separates}
+use Rattle.stack_overlap.specs.Separation.{IsCommon, Separates, NoneSeparates}
 use Rattle.stack_overlap.specs.CommonPoints.{IsOnSegment, IsStrictlyBetween}
 
 abbrev pub IsConvex : List Point → Type 0
@@ -30,6 +30,16 @@ pub record IsShared (P Q : List Point) (X : Place) : Type 0 where
 pub record IsOuter (P : List Point) (i : ℕ) (Q : List Point) : Type 0 where
   pub is_edge : i < length P
   pub apart : (j : ℕ) → j < length Q → at (edge P i) (corner_of Q j) ≼ pos 0
+
+-- strictly inside one, and some point strictly inside both
+abbrev pub IsDeep : List Point → Place → Type 0
+IsDeep P X = (i : ℕ) → i < length P → pos 0 ≺ value (edge P i) X
+
+abbrev pub Meets : List Point → List Point → Type 0
+Meets P Q = (X : Place) × (IsDeep P X × IsDeep Q X)
+
+abbrev pub NoneOuter : List Point → List Point → Type 0
+NoneOuter P Q = (k : ℕ) → ¬ (IsOuter P k Q)
 
 -- the forms have the values of the definitions
 pub side-form : (a b c : Point) → triangle_of a b c ≡ at (line a b) c
@@ -89,6 +99,18 @@ outer-form P i Q h = record {
   is_edge = h.is_edge;
   apart = λ j hj. subst (λ z. z ≼ pos 0) (side-form (corner_of P i) (end_of P i) (corner_of Q j)) (h.apart j hj);
 }
+
+pub none-outer : (P Q : List Point) → NoneSeparates P Q → NoneOuter P Q
+none-outer P Q h k o = h k (record {
+  is_edge = o.is_edge;
+  apart = λ j hj. subst (λ z. z ≼ pos 0) (sym (side-form (corner_of P k) (end_of P k) (corner_of Q j))) (o.apart j hj);
+})
+
+pub deep-form : (P : List Point) (X : Place) → IsStrictlyInside P X → IsDeep P X
+deep-form P X h i hi = subst (λ z. pos 0 ≺ z) (left-form (corner_of P i) (end_of P i) X) (h i hi)
+
+pub form-deep : (P : List Point) (X : Place) → IsDeep P X → IsStrictlyInside P X
+form-deep P X h i hi = subst (λ z. pos 0 ≺ z) (sym (left-form (corner_of P i) (end_of P i) X)) (h i hi)
 
 pub segment-form : (a b : Point) (X : Place) → IsBetween a b X ↔ IsOnSegment a b X
 segment-form a b X = (

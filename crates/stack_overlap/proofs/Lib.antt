@@ -10,3 +10,8 @@ pub mod Reaches
 pub mod Finding
 pub mod Signs
 pub mod Swaps
+pub mod Radon
+pub mod HalfPlanes
+pub mod Overlapping
+pub mod Apart
+pub mod Separated

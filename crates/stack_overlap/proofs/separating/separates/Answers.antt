@@ -7,8 +7,8 @@ use Rattle.stack_polygon.specs.Corners.{corner_of, side_of}
 use Rattle.stack_overlap.proofs.Signs.{left-and-not, not-left}
 use Rattle.stack_overlap.proofs.separating.separates.Goals as goal
 
-pub returns-then-is_left_of_edge : goal.returns-then-is_left_of_edge
-returns-then-is_left_of_edge c = (
+pub returns-then-is_left_of_edge-clause-value : goal.returns-then-is_left_of_edge-clause-value
+returns-then-is_left_of_edge-clause-value c = (
   λ h. absurd (cc h),
   λ s. absurd (
       let j : c.loop-j.j < length c.args.q.now = search rules in
