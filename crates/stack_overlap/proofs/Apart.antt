@@ -14,7 +14,8 @@ use Rattle.stack_overlap.proofs.Support.{support}
 
 pub apart : (P Q : List Point) → IsConvex Q → 3 ≤ length Q → (i : ℕ) → IsOuter P i Q → ¬ (Meets P Q)
 apart P Q convex three i h (X, (p, q)) = both (p i h.is_edge)
-    (support Q convex three X (λ k hk. weak (q k hk)) (edge P i) (edge P i) h.apart (λ j hj e. none e) (weak (p i h.is_edge)))
+    (support Q convex three X (λ k hk. weak (q k hk)) (edge P i) (edge P i) h.apart (λ j hj e. none e)
+    (weak (p i h.is_edge)))
   where
     weak : {z : ℤ} → pos 0 ≺ z → pos 0 ≼ z
     weak l = omega (arith, sums)

@@ -20,7 +20,8 @@ use Rattle.stack_overlap.specs.Separation.{IsCommon, Separates}
 use Rattle.stack_overlap.specs.CommonPoints.{IsCornerOf, IsBefore, IsCommonOf}
 use Rattle.stack_overlap.specs.Marks.{IsReach, IsCut}
 use Rattle.stack_overlap.specs.declared.shared.Reach.{Reach}
-use Rattle.stack_overlap.proofs.ByForms.{convex-form, outer-form, shared-form, form-shared, within-form, segment-form}
+use Rattle.stack_overlap.proofs.ByForms.{convex-form, outer-form, shared-form, form-shared, within-form}
+use Rattle.stack_overlap.proofs.ByForms.{segment-form}
 use Rattle.stack_overlap.proofs.Identities.{reversed, along-reversed, square-reversed}
 use Rattle.stack_overlap.proofs.Support.{next_below}
 use Rattle.stack_overlap.proofs.Edges.{edge_long, start-mark, end-mark}
@@ -44,7 +45,8 @@ between-reversed a b X h = record {
     greatest : (s r w : ℤ) {y z : ℤ} → y ≡ s *ℤ w -ℤ z → r ≡ s → pos 0 *ℤ w ≼ z → y ≼ r *ℤ w
     greatest s r w e f l = omega (arith, sums, simp expand at l, ap (λ x. x *ℤ w) f)
 
-module _ (P Q : List Point) (convex_p : IsStrictlyConvex P) (three_p : 3 ≤ length P) (convex_q : IsStrictlyConvex Q) (three_q : 3 ≤ length Q) (i : ℕ) (h : Separates P i Q) where
+module _ (P Q : List Point) (convex_p : IsStrictlyConvex P) (three_p : 3 ≤ length P)
+    (convex_q : IsStrictlyConvex Q) (three_q : 3 ≤ length Q) (i : ℕ) (h : Separates P i Q) where
   abbrev a : Point
   a = corner_of P i
 
@@ -54,29 +56,51 @@ module _ (P Q : List Point) (convex_p : IsStrictlyConvex P) (three_p : 3 ≤ len
   long : pos 0 ≺ square a b
   long = edge_long P (convex-form P convex_p) three_p i h.is_edge
 
-  module _ (r : Reach) (reach : IsReach a b Q (length Q) r) (f t : ℤ) (k : IsCut (square a b) r.low.place r.high.place f t) (F G : Point) (from : IsMark a b F f) (to : IsMark a b G t) where
+  module _ (r : Reach) (reach : IsReach a b Q (length Q) r) (f t : ℤ)
+      (k : IsCut (square a b) r.low.place r.high.place f t) (F G : Point) (from : IsMark a b F f)
+      (to : IsMark a b G t) where
     points : (X : Place) → IsCommon P Q X ↔ IsOnStretch a b f t X
-    points X = let s = cut P Q (convex-form P convex_p) three_p (convex-form Q convex_q) three_q i (outer-form P i Q h) r reach f t k.from_low k.from_start k.to_high k.to_end k.from_one k.to_one X in
+    points X = let s = cut P Q (convex-form P convex_p) three_p (convex-form Q convex_q) three_q i
+        (outer-form P i Q h) r reach f t k.from_low k.from_start k.to_high k.to_end k.from_one k.to_one X in
         (λ m. s.0 (shared-form P Q X m), λ p. form-shared P Q X (s.1 p))
 
     pub nothing : t ≺ f → IsCommonOf P Q Nothing
     nothing l X m = empty-stretch a b long f t X l ((points X).0 m)
 
     lone : f ≡ t → (X : Place) → IsCommon P Q X ↔ IsAt X F
-    lone e X = let s = point-stretch a b long f F X from in
-        (λ m. s.0 (subst (λ z. IsOnStretch a b f z X) (sym e) ((points X).0 m)), λ p. (points X).1 (subst (λ z. IsOnStretch a b f z X) e (s.1 p)))
+    lone e X = let s = point-stretch a b long f F X from in (
+      λ m. s.0 (subst (λ z. IsOnStretch a b f z X) (sym e) ((points X).0 m)),
+      λ p. (points X).1
+          (subst (λ z. IsOnStretch a b f z X) e (s.1 p)),
+    )
 
     start_corner : f ≡ pos 0 → IsCornerOf P F
-    start_corner e = (i, (h.is_edge, same-mark a b long a F f (subst (λ z. IsMark a b a z) (sym e) (start-mark P (convex-form P convex_p) three_p i)) from))
+    start_corner e = (
+      i,
+      (
+        h.is_edge,
+        same-mark a b long a F f
+            (subst (λ z. IsMark a b a z) (sym e) (start-mark P (convex-form P convex_p) three_p i)) from,
+      ),
+    )
 
     end_corner : f ≡ square a b → IsCornerOf P F
-    end_corner e = (next_round (length P) i, (next_below (length P) i h.is_edge, same-mark a b long b F f (subst (λ z. IsMark a b b z) (sym e) (end-mark P (convex-form P convex_p) three_p i)) from))
+    end_corner e = (
+      next_round (length P) i,
+      (
+        next_below (length P) i h.is_edge,
+        same-mark a b long b F f
+            (subst (λ z. IsMark a b b z) (sym e) (end-mark P (convex-form P convex_p) three_p i)) from,
+      ),
+    )
 
     low_is : f ≡ r.low.place → IsCornerOf Q F
-    low_is e = subst (λ p. IsCornerOf Q p) (same-mark a b long r.low.at F f (subst (λ z. IsMark a b r.low.at z) (sym e) reach.low) from) reach.low_corner
+    low_is e = subst (λ p. IsCornerOf Q p) (same-mark a b long r.low.at F f
+        (subst (λ z. IsMark a b r.low.at z) (sym e) reach.low) from) reach.low_corner
 
     high_is : f ≡ r.high.place → IsCornerOf Q F
-    high_is e = subst (λ p. IsCornerOf Q p) (same-mark a b long r.high.at F f (subst (λ z. IsMark a b r.high.at z) (sym e) reach.high) from) reach.high_corner
+    high_is e = subst (λ p. IsCornerOf Q p) (same-mark a b long r.high.at F f
+        (subst (λ z. IsMark a b r.high.at z) (sym e) reach.high) from) reach.high_corner
 
     -- a lone common point is a corner of Q
     lone_corner : f ≡ t → IsCornerOf Q F
@@ -91,7 +115,8 @@ module _ (P Q : List Point) (convex_p : IsStrictlyConvex P) (three_p : 3 ≤ len
     pub corner : f ≡ t → (f ≡ pos 0) ⊎ (f ≡ square a b) → IsCommonOf P Q (Corner F)
     corner e s = (elim s [ inl u ↦ start_corner u | inr u ↦ end_corner u ], lone_corner e, lone e)
 
-    pub on_edge : f ≡ t → ¬ (f ≡ pos 0) → ¬ (f ≡ square a b) → IsCommonOf P Q (OnEdge F (record { which = First; index = i }))
+    pub on_edge : f ≡ t → ¬ (f ≡ pos 0) → ¬ (f ≡ square a b)
+        → IsCommonOf P Q (OnEdge F (record { which = First; index = i }))
     on_edge e n m = (
       (
         lone_corner e,
@@ -121,6 +146,9 @@ module _ (P Q : List Point) (convex_p : IsStrictlyConvex P) (three_p : 3 ≤ len
     segment_back l o = (
       o,
       λ X. let s = segment-stretch a b long f t F G from to X l in
-          let g = segment-form G F X in
-          (λ m. g.0 (between-reversed F G X (s.0 ((points X).0 m))), λ p. (points X).1 (s.1 (between-reversed G F X (g.1 p)))),
+          let g = segment-form G F X in (
+            λ m. g.0 (between-reversed F G X (s.0 ((points X).0 m))),
+            λ p. (points X).1
+                (s.1 (between-reversed G F X (g.1 p))),
+          ),
     )

@@ -26,7 +26,8 @@ use Rattle.stack_overlap.proofs.Edges.{corner_inside, edge_long, on_edge, edge_i
 abbrev constant : Form
 constant = record { l = pos 0; m = pos 0; n = pos 1 }
 
-module _ (P Q : List Point) (convex_p : IsConvex P) (three_p : 3 ≤ length P) (convex_q : IsConvex Q) (three_q : 3 ≤ length Q) (i : ℕ) (h : IsOuter P i Q) where
+module _ (P Q : List Point) (convex_p : IsConvex P) (three_p : 3 ≤ length P) (convex_q : IsConvex Q)
+    (three_q : 3 ≤ length Q) (i : ℕ) (h : IsOuter P i Q) where
   abbrev pub a : Point
   a = corner_of P i
 
@@ -34,7 +35,8 @@ module _ (P Q : List Point) (convex_p : IsConvex P) (three_p : 3 ≤ length P) (
   b = corner_of P (next_round (length P) i)
 
   pub common_on_line : (X : Place) → IsShared P Q X → value (line a b) X ≡ pos 0
-  common_on_line X m = both (m.first i h.is_edge) (support Q convex_q three_q X m.second (line a b) (line a b) h.apart (λ j hj e. none e) (m.first i h.is_edge))
+  common_on_line X m = both (m.first i h.is_edge) (support Q convex_q three_q X m.second (line a b)
+      (line a b) h.apart (λ j hj e. none e) (m.first i h.is_edge))
     where
       none : {z : ℤ} → z ≡ pos 0 → z ≼ pos 0
       none e = omega (arith, sums)
@@ -43,8 +45,11 @@ module _ (P Q : List Point) (convex_p : IsConvex P) (three_p : 3 ≤ length P) (
       both l m = omega (arith, sums)
 
   -- with no corner on the line nothing is common
-  pub nothing-common : ((j : ℕ) → j < length Q → at (line a b) (corner_of Q j) ≡ pos 0 → ⊥) → (X : Place) → ¬ (IsShared P Q X)
-  nothing-common none X m = weight X.x X.y X.w X.positive (support Q convex_q three_q X m.second (line a b) constant h.apart (λ j hj e. absurd (none j hj e)) (m.first i h.is_edge))
+  pub nothing-common : ((j : ℕ) → j < length Q → at (line a b) (corner_of Q j) ≡ pos 0 → ⊥) → (X : Place)
+      → ¬ (IsShared P Q X)
+  nothing-common none X m = weight X.x X.y X.w X.positive
+      (support Q convex_q three_q X m.second (line a b) constant h.apart (λ j hj e. absurd (none j hj e))
+      (m.first i h.is_edge))
     where
       weight : (x y w : ℤ) → pos 0 ≺ w → (pos 0 *ℤ x +ℤ pos 0 *ℤ y +ℤ pos 1 *ℤ w) ≼ pos 0 → ⊥
       weight x y w p l = omega (arith, sums, simp expand at l)
@@ -67,9 +72,11 @@ module _ (P Q : List Point) (convex_p : IsConvex P) (three_p : 3 ≤ length P) (
     common_between X m = (
       record {
         on_line = common_on_line X m;
-        above = least (value (along a b) X) lo X.w (value-opposite (less (along a b) lo) X) (value-less (along a b) lo X)
+        above = least (value (along a b) X) lo X.w (value-opposite (less (along a b) lo) X)
+            (value-less (along a b) lo X)
             (support Q convex_q three_q X m.second (line a b) (opposite (less (along a b) lo)) h.apart
-            (λ j hj e. low_at (at-opposite (less (along a b) lo) (corner_of Q j)) (at-less (along a b) lo (corner_of Q j)) (reach.bounds j hj e).0)
+            (λ j hj e. low_at (at-opposite (less (along a b) lo) (corner_of Q j))
+            (at-less (along a b) lo (corner_of Q j)) (reach.bounds j hj e).0)
             (m.first i h.is_edge));
         below = greatest (value (along a b) X) hi X.w (value-less (along a b) hi X)
             (support Q convex_q three_q X m.second (line a b) (less (along a b) hi) h.apart
@@ -95,25 +102,48 @@ module _ (P Q : List Point) (convex_p : IsConvex P) (three_p : 3 ≤ length P) (
     pub between_common : (X : Place) → IsOnStretch a b lo hi X → IsBetween a b X → IsShared P Q X
     between_common X s t = record {
       first = edge_inside P convex_p three_p i h.is_edge X t;
-      second = λ k hk. between (edge Q k) a b c d lo hi X (edge_long P convex_p three_p i h.is_edge) reach.low reach.high s
+      second = λ k hk. between (edge Q k) a b c d lo hi X
+          (edge_long P convex_p three_p i h.is_edge) reach.low reach.high s
           (corner k hk reach.low_corner) (corner k hk reach.high_corner);
     }
       where
         corner : {e : Point} (k : ℕ) → k < length Q → IsCornerOf Q e → pos 0 ≼ at (edge Q k) e
-        corner k hk (j, (hj, e)) = subst (λ p. pos 0 ≼ at (edge Q k) p) e (corner_inside Q convex_q three_q k j hk hj)
+        corner k hk (j, (hj, e)) = subst (λ p. pos 0 ≼ at (edge Q k) p) e
+            (corner_inside Q convex_q three_q k j hk hj)
 
     -- the part between the later of the two beginnings and the earlier of the two ends
-    pub cut : (f t : ℤ) → lo ≼ f → pos 0 ≼ f → t ≼ hi → t ≼ square a b → (f ≡ lo) ⊎ (f ≡ pos 0) → (t ≡ hi) ⊎ (t ≡ square a b) →
+    pub cut : (f t : ℤ) → lo ≼ f → pos 0 ≼ f → t ≼ hi → t ≼ square a b → (f ≡ lo) ⊎ (f ≡ pos 0)
+        → (t ≡ hi) ⊎ (t ≡ square a b) →
         (X : Place) → IsShared P Q X ↔ IsOnStretch a b f t X
     cut f t h₁ h₂ h₃ h₄ e₁ e₂ X = (
       λ m. let r = common_between X m in record {
         on_line = r.0.on_line;
-        above = elim e₁ [ inl e ↦ subst (λ k. k *ℤ X.w ≼ value (along a b) X) (sym e) r.0.above | inr e ↦ subst (λ k. k *ℤ X.w ≼ value (along a b) X) (sym e) r.1.above ];
-        below = elim e₂ [ inl e ↦ subst (λ k. value (along a b) X ≼ k *ℤ X.w) (sym e) r.0.below | inr e ↦ subst (λ k. value (along a b) X ≼ k *ℤ X.w) (sym e) r.1.below ];
+        above = elim e₁ [
+          | inl e ↦ subst (λ k. k *ℤ X.w ≼ value (along a b) X) (sym e) r.0.above
+          | inr e ↦ subst
+              (λ k. k *ℤ X.w ≼ value (along a b) X) (sym e) r.1.above
+        ];
+        below = elim e₂ [
+          | inl e ↦ subst (λ k. value (along a b) X ≼ k *ℤ X.w) (sym e) r.0.below
+          | inr e ↦ subst
+              (λ k. value (along a b) X ≼ k *ℤ X.w) (sym e) r.1.below
+        ];
       },
       λ s. between_common X
-          (record { on_line = s.on_line; above = up lo f X.w (value (along a b) X) X.positive h₁ s.above; below = down t hi X.w (value (along a b) X) X.positive h₃ s.below })
-          (record { on_line = s.on_line; above = up (pos 0) f X.w (value (along a b) X) X.positive h₂ s.above; below = down t (square a b) X.w (value (along a b) X) X.positive h₄ s.below }),
+          (record {
+            on_line = s.on_line;
+            above = up lo f X.w
+                (value (along a b) X) X.positive h₁ s.above;
+            below =
+                down t hi X.w (value (along a b) X) X.positive h₃ s.below;
+          })
+          (record {
+            on_line = s.on_line;
+            above = up (pos 0) f X.w
+                (value (along a b) X) X.positive h₂ s.above;
+            below =
+                down t (square a b) X.w (value (along a b) X) X.positive h₄ s.below;
+          }),
     )
       where
         up : (k f w z : ℤ) → pos 0 ≺ w → k ≼ f → f *ℤ w ≼ z → k *ℤ w ≼ z

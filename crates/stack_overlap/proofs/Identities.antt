@@ -63,7 +63,8 @@ v11 = var 11
 
 -- a form at a point, from its values at three corners
 pub triangle : (f : Form) (a b c : Point) (X : Place) →
-    at (line a b) c *ℤ value f X ≡ value (line b c) X *ℤ at f a +ℤ value (line c a) X *ℤ at f b +ℤ value (line a b) X *ℤ at f c
+    at (line a b) c *ℤ value f X ≡ value (line b c) X *ℤ at f a +ℤ value (line c a) X *ℤ at f b +ℤ value
+    (line a b) X *ℤ at f c
 triangle f a b c X = solve integers
     (nth integers (f.l ∷ f.m ∷ f.n ∷ a.x ∷ a.y ∷ b.x ∷ b.y ∷ c.x ∷ c.y ∷ X.x ∷ X.y ∷ X.w ∷ []))
     (line_at v3 v4 v5 v6 v7 v8 ⊗ form v0 v1 v2 v9 v10 v11)
@@ -92,22 +93,27 @@ along_of ax ay bx by x y w = (bx ⊖ ax) ⊗ x ⊕ (by ⊖ ay) ⊗ y ⊕ ((ax �
 
 -- a form, from a point's place along a line and beside it
 pub by_line : (f : Form) (a b : Point) (X : Place) →
-    square a b *ℤ value f X ≡ value (line a b) X *ℤ aside f a b +ℤ value (along a b) X *ℤ forth f a b +ℤ X.w *ℤ (square a b *ℤ at f a)
+    square a b *ℤ value f X ≡ value (line a b) X *ℤ aside f a b +ℤ value (along a b) X *ℤ forth f a b +ℤ X.w *ℤ
+    (square a b *ℤ at f a)
 by_line f a b X = solve integers
     (nth integers (f.l ∷ f.m ∷ f.n ∷ a.x ∷ a.y ∷ b.x ∷ b.y ∷ X.x ∷ X.y ∷ X.w ∷ []))
     (sq ⊗ form v0 v1 v2 v7 v8 v9)
-    (line_of v3 v4 v5 v6 v7 v8 v9 ⊗ (v1 ⊗ (v5 ⊖ v3) ⊖ v0 ⊗ (v6 ⊖ v4)) ⊕ along_of v3 v4 v5 v6 v7 v8 v9 ⊗ (v0 ⊗ (v5 ⊖ v3) ⊕ v1 ⊗ (v6 ⊖ v4)) ⊕ v9 ⊗ (sq ⊗ form_at v0 v1 v2 v3 v4))
+    (line_of v3 v4 v5 v6 v7 v8 v9 ⊗ (v1 ⊗ (v5 ⊖ v3) ⊖ v0 ⊗ (v6 ⊖ v4)) ⊕ along_of v3 v4 v5 v6 v7 v8 v9 ⊗
+    (v0 ⊗ (v5 ⊖ v3) ⊕ v1 ⊗ (v6 ⊖ v4)) ⊕ v9 ⊗ (sq ⊗ form_at v0 v1 v2 v3 v4))
     refl
   where
     sq : Exp
     sq = (v5 ⊖ v3) ⊗ (v5 ⊖ v3) ⊕ (v6 ⊖ v4) ⊗ (v6 ⊖ v4)
 
 pub by_line_at : (f : Form) (a b c : Point) →
-    square a b *ℤ at f c ≡ at (line a b) c *ℤ aside f a b +ℤ at (along a b) c *ℤ forth f a b +ℤ square a b *ℤ at f a
+    square a b *ℤ at f c ≡ at (line a b) c *ℤ aside f a b +ℤ at
+    (along a b) c *ℤ forth f a b +ℤ square a b *ℤ at f a
 by_line_at f a b c = solve integers
     (nth integers (f.l ∷ f.m ∷ f.n ∷ a.x ∷ a.y ∷ b.x ∷ b.y ∷ c.x ∷ c.y ∷ []))
     (sq ⊗ form_at v0 v1 v2 v7 v8)
-    (line_at v3 v4 v5 v6 v7 v8 ⊗ (v1 ⊗ (v5 ⊖ v3) ⊖ v0 ⊗ (v6 ⊖ v4)) ⊕ ((v5 ⊖ v3) ⊗ v7 ⊕ (v6 ⊖ v4) ⊗ v8 ⊕ ((v3 ⊖ v5) ⊗ v3 ⊕ (v4 ⊖ v6) ⊗ v4)) ⊗ (v0 ⊗ (v5 ⊖ v3) ⊕ v1 ⊗ (v6 ⊖ v4)) ⊕ sq ⊗ form_at v0 v1 v2 v3 v4)
+    (line_at v3 v4 v5 v6 v7 v8 ⊗ (v1 ⊗ (v5 ⊖ v3) ⊖ v0 ⊗ (v6 ⊖ v4)) ⊕
+    ((v5 ⊖ v3) ⊗ v7 ⊕ (v6 ⊖ v4) ⊗ v8 ⊕ ((v3 ⊖ v5) ⊗ v3 ⊕ (v4 ⊖ v6) ⊗ v4)) ⊗
+    (v0 ⊗ (v5 ⊖ v3) ⊕ v1 ⊗ (v6 ⊖ v4)) ⊕ sq ⊗ form_at v0 v1 v2 v3 v4)
     refl
   where
     sq : Exp
@@ -138,16 +144,21 @@ at-opposite f c = solve integers (nth integers (f.l ∷ f.m ∷ f.n ∷ c.x ∷ 
 
 -- the ends of a line
 pub line-start : (a b : Point) → at (line a b) a ≡ pos 0
-line-start a b = solve integers (nth integers (a.x ∷ a.y ∷ b.x ∷ b.y ∷ [])) (line_at v0 v1 v2 v3 v0 v1) (num (pos 0)) refl
+line-start a b = solve integers (nth integers (a.x ∷ a.y ∷ b.x ∷ b.y ∷ [])) (line_at v0 v1 v2 v3 v0 v1)
+    (num (pos 0)) refl
 
 pub line-end : (a b : Point) → at (line a b) b ≡ pos 0
-line-end a b = solve integers (nth integers (a.x ∷ a.y ∷ b.x ∷ b.y ∷ [])) (line_at v0 v1 v2 v3 v2 v3) (num (pos 0)) refl
+line-end a b = solve integers (nth integers (a.x ∷ a.y ∷ b.x ∷ b.y ∷ [])) (line_at v0 v1 v2 v3 v2 v3)
+    (num (pos 0)) refl
 
 pub along-start : (a b : Point) → at (along a b) a ≡ pos 0
-along-start a b = solve integers (nth integers (a.x ∷ a.y ∷ b.x ∷ b.y ∷ [])) ((v2 ⊖ v0) ⊗ v0 ⊕ (v3 ⊖ v1) ⊗ v1 ⊕ ((v0 ⊖ v2) ⊗ v0 ⊕ (v1 ⊖ v3) ⊗ v1)) (num (pos 0)) refl
+along-start a b = solve integers (nth integers (a.x ∷ a.y ∷ b.x ∷ b.y ∷ []))
+    ((v2 ⊖ v0) ⊗ v0 ⊕ (v3 ⊖ v1) ⊗ v1 ⊕ ((v0 ⊖ v2) ⊗ v0 ⊕ (v1 ⊖ v3) ⊗ v1)) (num (pos 0)) refl
 
 pub along-end : (a b : Point) → at (along a b) b ≡ square a b
-along-end a b = solve integers (nth integers (a.x ∷ a.y ∷ b.x ∷ b.y ∷ [])) ((v2 ⊖ v0) ⊗ v2 ⊕ (v3 ⊖ v1) ⊗ v3 ⊕ ((v0 ⊖ v2) ⊗ v0 ⊕ (v1 ⊖ v3) ⊗ v1)) ((v2 ⊖ v0) ⊗ (v2 ⊖ v0) ⊕ (v3 ⊖ v1) ⊗ (v3 ⊖ v1)) refl
+along-end a b = solve integers (nth integers (a.x ∷ a.y ∷ b.x ∷ b.y ∷ []))
+    ((v2 ⊖ v0) ⊗ v2 ⊕ (v3 ⊖ v1) ⊗ v3 ⊕ ((v0 ⊖ v2) ⊗ v0 ⊕ (v1 ⊖ v3) ⊗ v1))
+    ((v2 ⊖ v0) ⊗ (v2 ⊖ v0) ⊕ (v3 ⊖ v1) ⊗ (v3 ⊖ v1)) refl
 
 -- the corner as a triple
 abbrev pub place : Point → Place
@@ -157,7 +168,8 @@ place c = record { x = c.x; y = c.y; w = pos 1; positive = one }
     one = omega (arith, ints)
 
 pub value-place : (f : Form) (c : Point) → value f (place c) ≡ at f c
-value-place f c = solve integers (nth integers (f.l ∷ f.m ∷ f.n ∷ c.x ∷ c.y ∷ [])) (form v0 v1 v2 v3 v4 (num (pos 1))) (form_at v0 v1 v2 v3 v4) refl
+value-place f c = solve integers (nth integers (f.l ∷ f.m ∷ f.n ∷ c.x ∷ c.y ∷ []))
+    (form v0 v1 v2 v3 v4 (num (pos 1))) (form_at v0 v1 v2 v3 v4) refl
 
 -- the directions of two pairs of corners
 abbrev along_at : Exp → Exp → Exp → Exp → Exp → Exp → Exp
@@ -190,4 +202,8 @@ along-reversed a b X = solve integers (nth integers (a.x ∷ a.y ∷ b.x ∷ b.y
     (((v2 ⊖ v0) ⊗ (v2 ⊖ v0) ⊕ (v3 ⊖ v1) ⊗ (v3 ⊖ v1)) ⊗ v6 ⊖ along_of v0 v1 v2 v3 v4 v5 v6) refl
 
 pub square-reversed : (a b : Point) → square b a ≡ square a b
-square-reversed a b = ring4 integers (λ ax ay bx by. ((ax ⊖ bx) ⊗ (ax ⊖ bx) ⊕ (ay ⊖ by) ⊗ (ay ⊖ by), (bx ⊖ ax) ⊗ (bx ⊖ ax) ⊕ (by ⊖ ay) ⊗ (by ⊖ ay))) refl a.x a.y b.x b.y
+square-reversed a b = ring4 integers (λ ax ay bx by. (
+  (ax ⊖ bx) ⊗ (ax ⊖ bx) ⊕ (ay ⊖ by) ⊗ (ay ⊖ by),
+  (bx ⊖ ax) ⊗ (bx ⊖ ax) ⊕ (by ⊖ ay) ⊗
+      (by ⊖ ay),
+)) refl a.x a.y b.x b.y

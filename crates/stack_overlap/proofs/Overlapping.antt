@@ -41,12 +41,14 @@ value-three f a b c = solve integers (nth integers (f.l ∷ f.m ∷ f.n ∷ a.x 
 
 -- n times a corner and a point together
 abbrev drawn : (n : ℤ) → pos 0 ≼ n → Point → Place → Place
-drawn n h c X = record { x = n *ℤ c.x +ℤ X.x; y = n *ℤ c.y +ℤ X.y; w = n +ℤ X.w; positive = more n X.w h X.positive }
+drawn n h c X =
+    record { x = n *ℤ c.x +ℤ X.x; y = n *ℤ c.y +ℤ X.y; w = n +ℤ X.w; positive = more n X.w h X.positive }
   where
     more : (n w : ℤ) → pos 0 ≼ n → pos 0 ≺ w → pos 0 ≺ (n +ℤ w)
     more n w h p = omega (arith, sums)
 
-value-drawn : (f : Form) (n : ℤ) (h : pos 0 ≼ n) (c : Point) (X : Place) → value f (drawn n h c X) ≡ n *ℤ at f c +ℤ value f X
+value-drawn : (f : Form) (n : ℤ) (h : pos 0 ≼ n) (c : Point) (X : Place)
+    → value f (drawn n h c X) ≡ n *ℤ at f c +ℤ value f X
 value-drawn f n h c X = solve integers (nth integers (f.l ∷ f.m ∷ f.n ∷ n ∷ c.x ∷ c.y ∷ X.x ∷ X.y ∷ X.w ∷ []))
     (v 0 ⊗ (v 3 ⊗ v 4 ⊕ v 6) ⊕ v 1 ⊗ (v 3 ⊗ v 5 ⊕ v 7) ⊕ v 2 ⊗ (v 3 ⊕ v 8))
     (v 3 ⊗ (v 0 ⊗ v 4 ⊕ v 1 ⊗ v 5 ⊕ v 2) ⊕ (v 0 ⊗ v 6 ⊕ v 1 ⊗ v 7 ⊕ v 2 ⊗ v 8)) refl
@@ -63,7 +65,8 @@ search_positive (suc n) g = go (search_positive n g) (g n) refl
         by (yes e) = subst (λ m. g m ≼ pos 0) (sym e) k
         by (no d) = let other : j ≡ n → ⊥ = d in h j (omega arith)
 
-    go : ((j : ℕ) → j < n → g j ≼ pos 0) ⊎ ((j : ℕ) × ((j < n) × (pos 0 ≺ g j))) → (z : ℤ) → g n ≡ z → ((j : ℕ) → j < suc n → g j ≼ pos 0) ⊎ ((j : ℕ) × ((j < suc n) × (pos 0 ≺ g j)))
+    go : ((j : ℕ) → j < n → g j ≼ pos 0) ⊎ ((j : ℕ) × ((j < n) × (pos 0 ≺ g j))) → (z : ℤ) → g n ≡ z
+        → ((j : ℕ) → j < suc n → g j ≼ pos 0) ⊎ ((j : ℕ) × ((j < suc n) × (pos 0 ≺ g j)))
     go (inr r) z e = inr (r.0, (omega (arith, r.1.0), r.1.1))
     go (inl h) (pos (suc m)) e = inr (n, (omega arith, subst (λ z. pos 0 ≺ z) (sym e) (omega (arith, ints))))
     go (inl h) (pos zero) e = inl (below h (subst (λ z. z ≼ pos 0) (sym e) (omega (arith, ints))))
@@ -76,9 +79,12 @@ module _ (P : List Point) (convex : IsConvex P) (three : 3 ≤ length P) where
 
   pub middle_inside : IsDeep P middle
   unfolding middle
-  middle_inside i hi = subst (λ z. pos 0 ≺ z) (sym (value-three (edge P i) (corner_of P 0) (corner_of P 1) (corner_of P 2)))
-      (go (corner-cases P convex three i 0 hi (omega arith)) (corner-cases P convex three i 1 hi (omega arith)) (corner-cases P convex three i 2 hi (omega arith))
-      (corner_inside P convex three i 0 hi (omega arith)) (corner_inside P convex three i 1 hi (omega arith)) (corner_inside P convex three i 2 hi (omega arith)))
+  middle_inside i hi = subst (λ z. pos 0 ≺ z) (sym (value-three (edge P i) (corner_of P 0) (corner_of P 1)
+      (corner_of P 2)))
+      (go (corner-cases P convex three i 0 hi (omega arith)) (corner-cases P convex three i 1 hi (omega arith))
+      (corner-cases P convex three i 2 hi (omega arith))
+      (corner_inside P convex three i 0 hi (omega arith)) (corner_inside P convex three i 1 hi (omega arith))
+      (corner_inside P convex three i 2 hi (omega arith)))
     where
       s : ℕ → ℤ
       s j = at (edge P i) (corner_of P j)
@@ -92,7 +98,9 @@ module _ (P : List Point) (convex : IsConvex P) (three : 3 ≤ length P) where
       last : {a b c : ℤ} → pos 0 ≼ a → pos 0 ≼ b → pos 0 ≺ c → pos 0 ≺ (a +ℤ b +ℤ c)
       last p q r = omega (arith, sums)
 
-      go : (0 ≡ i) ⊎ ((0 ≡ next_round (length P) i) ⊎ (pos 0 ≺ s 0)) → (1 ≡ i) ⊎ ((1 ≡ next_round (length P) i) ⊎ (pos 0 ≺ s 1)) → (2 ≡ i) ⊎ ((2 ≡ next_round (length P) i) ⊎ (pos 0 ≺ s 2)) →
+      go : (0 ≡ i) ⊎ ((0 ≡ next_round (length P) i) ⊎ (pos 0 ≺ s 0))
+          → (1 ≡ i) ⊎ ((1 ≡ next_round (length P) i) ⊎ (pos 0 ≺ s 1))
+          → (2 ≡ i) ⊎ ((2 ≡ next_round (length P) i) ⊎ (pos 0 ≺ s 2)) →
           pos 0 ≼ s 0 → pos 0 ≼ s 1 → pos 0 ≼ s 2 → pos 0 ≺ (s 0 +ℤ s 1 +ℤ s 2)
       go (inr (inr l)) y z p q r = one l q r
       go x (inr (inr l)) z p q r = two p l r
@@ -105,12 +113,16 @@ module _ (P : List Point) (convex : IsConvex P) (three : 3 ≤ length P) where
       go x (inr (inl b)) (inr (inl c)) p q r = absurd (omega (arith, b, c))
 
   -- where a half-plane has a corner, it has a point strictly inside
-  pub near_corner : (f : Form) (j : ℕ) → j < length P → pos 0 ≺ at f (corner_of P j) → (X : Place) × (IsDeep P X × (pos 0 ≺ value f X))
+  pub near_corner : (f : Form) (j : ℕ) → j < length P → pos 0 ≺ at f (corner_of P j)
+      → (X : Place) × (IsDeep P X × (pos 0 ≺ value f X))
   near_corner f j hj h = (
     X,
     (
-      λ i hi. subst (λ z. pos 0 ≺ z) (sym (value-drawn (edge P i) n big (corner_of P j) middle)) (inner n (at (edge P i) (corner_of P j)) (value (edge P i) middle) big (corner_inside P convex three i j hi hj) (middle_inside i hi)),
-      subst (λ z. pos 0 ≺ z) (sym (value-drawn f n big (corner_of P j) middle)) (outer n (at f (corner_of P j)) (value f middle) big (past (value f middle)) h),
+      λ i hi. subst (λ z. pos 0 ≺ z) (sym (value-drawn (edge P i) n big (corner_of P j) middle))
+          (inner n (at (edge P i) (corner_of P j)) (value (edge P i) middle) big
+          (corner_inside P convex three i j hi hj) (middle_inside i hi)),
+      subst (λ z. pos 0 ≺ z) (sym (value-drawn f n big (corner_of P j) middle))
+          (outer n (at f (corner_of P j)) (value f middle) big (past (value f middle)) h),
     ),
   )
     where
@@ -130,7 +142,8 @@ module _ (P : List Point) (convex : IsConvex P) (three : 3 ≤ length P) where
       past b = omega (arith, ints)
 
       outer : (n a b : ℤ) → pos 0 ≼ n → neg_ℤ b ≺ n → pos 0 ≺ a → pos 0 ≺ (n *ℤ a +ℤ b)
-      outer n a b hn hb ha = let m = mul_nonneg n (a -ℤ pos 1) hn (omega (arith, sums)) in omega (arith, sums, simp expand at m)
+      outer n a b hn hb ha = let m = mul_nonneg n (a -ℤ pos 1) hn (omega (arith, sums)) in
+          omega (arith, sums, simp expand at m)
 
 -- the edges of P, then those of Q
 abbrev all_edges : List Point → List Point → ℕ → Form
@@ -144,9 +157,12 @@ first-edges P Q i l = go (ltb i (length P)) (lt→ltb i (length P) l)
     go false t = absurd t
 
 later-edges : (P Q : List Point) (k : ℕ) → all_edges P Q (length P + k) ≡ edge Q k
-later-edges P Q k = go (ltb (length P + k) (length P)) (ltb→lt (length P + k) (length P)) ∙ ap (edge Q) (rest (length P) k)
+later-edges P Q k = go (ltb (length P + k) (length P)) (ltb→lt (length P + k) (length P))
+    ∙ ap (edge Q) (rest (length P) k)
   where
-    go : (b : Bool) → (T b → length P + k < length P) → cond b (edge P (length P + k)) (edge Q (length P + k - (length P))) ≡ edge Q (length P + k - (length P))
+    go : (b : Bool) → (T b → length P + k < length P)
+        → cond b (edge P (length P + k)) (edge Q (length P + k - (length P))) ≡ edge Q
+        (length P + k - (length P))
     go true t = let l : length P + k < length P = t tt in absurd (omega arith)
     go false t = refl
 
@@ -154,20 +170,32 @@ later-edges P Q k = go (ltb (length P + k) (length P)) (ltb→lt (length P + k) 
     rest n k = omega arith
 
 -- which edge an index is
-kind : (P Q : List Point) (i : ℕ) → i < length P + length Q → ((i < length P) × (all_edges P Q i ≡ edge P i)) ⊎ ((k : ℕ) × ((k < length Q) × (all_edges P Q i ≡ edge Q k)))
+kind : (P Q : List Point) (i : ℕ) → i < length P + length Q
+    → ((i < length P) × (all_edges P Q i ≡ edge P i)) ⊎
+    ((k : ℕ) × ((k < length Q) × (all_edges P Q i ≡ edge Q k)))
 kind P Q i l = go (ltb i (length P)) (ltb→lt i (length P)) (lt→ltb i (length P))
   where
     high : length P ≤ i → (k : ℕ) × ((k < length Q) × (all_edges P Q i ≡ edge Q k))
-    high m = (i - (length P), (omega arith, ap (all_edges P Q) (again (length P) i m) ∙ later-edges P Q (i - (length P))))
+    high m = (
+      i - (length P),
+      (
+        omega arith,
+        ap (all_edges P Q) (again (length P) i m)
+            ∙ later-edges P Q (i - (length P)),
+      ),
+    )
       where
         again : (n i : ℕ) → n ≤ i → i ≡ n + (i - n)
         again n i m = omega arith
 
-    go : (b : Bool) → (T b → i < length P) → (i < length P → T b) → ((i < length P) × (all_edges P Q i ≡ edge P i)) ⊎ ((k : ℕ) × ((k < length Q) × (all_edges P Q i ≡ edge Q k)))
+    go : (b : Bool) → (T b → i < length P) → (i < length P → T b)
+        → ((i < length P) × (all_edges P Q i ≡ edge P i)) ⊎
+        ((k : ℕ) × ((k < length Q) × (all_edges P Q i ≡ edge Q k)))
     go true t u = inl (t tt, first-edges P Q i (t tt))
     go false t u = let not : i < length P → ⊥ = u in inr (high (omega arith))
 
-module _ (P Q : List Point) (convex_p : IsConvex P) (three_p : 3 ≤ length P) (convex_q : IsConvex Q) (three_q : 3 ≤ length Q) (none_p : NoneOuter P Q) (none_q : NoneOuter Q P) where
+module _ (P Q : List Point) (convex_p : IsConvex P) (three_p : 3 ≤ length P) (convex_q : IsConvex Q)
+    (three_q : 3 ≤ length Q) (none_p : NoneOuter P Q) (none_q : NoneOuter Q P) where
   -- a point strictly inside P and strictly left of an edge of Q
   in-first : (k : ℕ) → k < length Q → (X : Place) × (IsDeep P X × (pos 0 ≺ value (edge Q k) X))
   in-first k hk = elim (search_positive (length P) (λ j. at (edge Q k) (corner_of P j))) [
@@ -185,20 +213,33 @@ module _ (P Q : List Point) (convex_p : IsConvex P) (three_p : 3 ≤ length P) (
   by-threes i j k hi hj hk = go (kind P Q i hi) (kind P Q j hj) (kind P Q k hk)
     where
       Kind : ℕ → Type 0
-      Kind i = ((i < length P) × (all_edges P Q i ≡ edge P i)) ⊎ ((k : ℕ) × ((k < length Q) × (all_edges P Q i ≡ edge Q k)))
+      Kind i = ((i < length P) × (all_edges P Q i ≡ edge P i)) ⊎
+          ((k : ℕ) × ((k < length Q) × (all_edges P Q i ≡ edge Q k)))
 
       to : {f g : Form} (X : Place) → f ≡ g → pos 0 ≺ value g X → pos 0 ≺ value f X
       to X e h = subst (λ f. pos 0 ≺ value f X) (sym e) h
 
-      go : Kind i → Kind j → Kind k → (X : Place) × ((pos 0 ≺ value (all_edges P Q i) X) × (pos 0 ≺ value (all_edges P Q j) X) × (pos 0 ≺ value (all_edges P Q k) X))
-      go (inl a) (inl b) (inl c) = let X = middle P convex_p three_p in let m = middle_inside P convex_p three_p in (X, (to X a.1 (m i a.0), to X b.1 (m j b.0), to X c.1 (m k c.0)))
-      go (inl a) (inl b) (inr (l, c)) = let (X, m) = in-first l c.0 in (X, (to X a.1 (m.0 i a.0), to X b.1 (m.0 j b.0), to X c.1 m.1))
-      go (inl a) (inr (l, b)) (inl c) = let (X, m) = in-first l b.0 in (X, (to X a.1 (m.0 i a.0), to X b.1 m.1, to X c.1 (m.0 k c.0)))
-      go (inr (l, a)) (inl b) (inl c) = let (X, m) = in-first l a.0 in (X, (to X a.1 m.1, to X b.1 (m.0 j b.0), to X c.1 (m.0 k c.0)))
-      go (inl a) (inr (l, b)) (inr (n, c)) = let (X, m) = in-second i a.0 in (X, (to X a.1 m.1, to X b.1 (m.0 l b.0), to X c.1 (m.0 n c.0)))
-      go (inr (l, a)) (inl b) (inr (n, c)) = let (X, m) = in-second j b.0 in (X, (to X a.1 (m.0 l a.0), to X b.1 m.1, to X c.1 (m.0 n c.0)))
-      go (inr (l, a)) (inr (n, b)) (inl c) = let (X, m) = in-second k c.0 in (X, (to X a.1 (m.0 l a.0), to X b.1 (m.0 n b.0), to X c.1 m.1))
-      go (inr (l, a)) (inr (n, b)) (inr (o, c)) = let X = middle Q convex_q three_q in let m = middle_inside Q convex_q three_q in (X, (to X a.1 (m l a.0), to X b.1 (m n b.0), to X c.1 (m o c.0)))
+      go : Kind i → Kind j → Kind k → (X : Place) ×
+          ((pos 0 ≺ value (all_edges P Q i) X) × (pos 0 ≺ value (all_edges P Q j) X) ×
+          (pos 0 ≺ value (all_edges P Q k) X))
+      go (inl a) (inl b) (inl c) = let X = middle P convex_p three_p in
+          let m = middle_inside P convex_p three_p in
+          (X, (to X a.1 (m i a.0), to X b.1 (m j b.0), to X c.1 (m k c.0)))
+      go (inl a) (inl b) (inr (l, c)) = let (X, m) =
+          in-first l c.0 in (X, (to X a.1 (m.0 i a.0), to X b.1 (m.0 j b.0), to X c.1 m.1))
+      go (inl a) (inr (l, b)) (inl c) = let (X, m) =
+          in-first l b.0 in (X, (to X a.1 (m.0 i a.0), to X b.1 m.1, to X c.1 (m.0 k c.0)))
+      go (inr (l, a)) (inl b) (inl c) = let (X, m) =
+          in-first l a.0 in (X, (to X a.1 m.1, to X b.1 (m.0 j b.0), to X c.1 (m.0 k c.0)))
+      go (inl a) (inr (l, b)) (inr (n, c)) = let (X, m) =
+          in-second i a.0 in (X, (to X a.1 m.1, to X b.1 (m.0 l b.0), to X c.1 (m.0 n c.0)))
+      go (inr (l, a)) (inl b) (inr (n, c)) = let (X, m) =
+          in-second j b.0 in (X, (to X a.1 (m.0 l a.0), to X b.1 m.1, to X c.1 (m.0 n c.0)))
+      go (inr (l, a)) (inr (n, b)) (inl c) = let (X, m) =
+          in-second k c.0 in (X, (to X a.1 (m.0 l a.0), to X b.1 (m.0 n b.0), to X c.1 m.1))
+      go (inr (l, a)) (inr (n, b)) (inr (o, c)) = let X = middle Q convex_q three_q in
+          let m = middle_inside Q convex_q three_q in
+          (X, (to X a.1 (m l a.0), to X b.1 (m n b.0), to X c.1 (m o c.0)))
 
   -- a pair with no separating edge overlaps
   pub overlapping : Meets P Q

@@ -10,7 +10,8 @@ use Rattle.stack_polygon.specs.declared.point.Point.{Point}
 use lib.ListN.{length}
 use Rattle.stack_overlap.specs.Forms.{IsMark, Form, IsOnStretch, IsBetween, value, at, line, along, square}
 use Rattle.stack_polygon.specs.Plane.{Place, IsAt}
-use Rattle.stack_overlap.proofs.Identities.{forth, aside, by_line, place, value-place, line-start, along-start, along-end, aside-line, forth-line, aside-along, forth-along}
+use Rattle.stack_overlap.proofs.Identities.{forth, aside, by_line, place, value-place, line-start, along-start}
+use Rattle.stack_overlap.proofs.Identities.{along-end, aside-line, forth-line, aside-along, forth-along}
 use Rattle.stack_overlap.proofs.Stretches.{is-mark, at-mark, x_form, y_form}
 
 -- the values at a triple that is a corner
@@ -79,10 +80,13 @@ module _ (a b : Point) (long : pos 0 ≺ square a b) where
 
   -- a form at a point, from its value at a mark
   pub from-mark : (g : Form) (c : Point) (k : ℤ) (X : Place) → IsMark a b c k →
-      square a b *ℤ value g X ≡ value (line a b) X *ℤ aside g a b +ℤ (value (along a b) X -ℤ k *ℤ X.w) *ℤ forth g a b +ℤ X.w *ℤ (square a b *ℤ at g c)
-  from-mark g c k X hc = go (square a b *ℤ value g X) (value (line a b) X) (aside g a b) (value (along a b) X) (forth g a b) X.w (square a b *ℤ at g a) k (square a b *ℤ at g c) (by_line g a b X) (at-mark g a b c k hc)
+      square a b *ℤ value g X ≡ value (line a b) X *ℤ aside g a b +ℤ
+      (value (along a b) X -ℤ k *ℤ X.w) *ℤ forth g a b +ℤ X.w *ℤ (square a b *ℤ at g c)
+  from-mark g c k X hc = go (square a b *ℤ value g X) (value (line a b) X) (aside g a b) (value (along a b) X)
+      (forth g a b) X.w (square a b *ℤ at g a) k (square a b *ℤ at g c) (by_line g a b X) (at-mark g a b c k hc)
     where
-      go : (A L s t u w v k C : ℤ) → A ≡ L *ℤ s +ℤ t *ℤ u +ℤ w *ℤ v → C ≡ k *ℤ u +ℤ v → A ≡ L *ℤ s +ℤ (t -ℤ k *ℤ w) *ℤ u +ℤ w *ℤ C
+      go : (A L s t u w v k C : ℤ) → A ≡ L *ℤ s +ℤ t *ℤ u +ℤ w *ℤ v → C ≡ k *ℤ u +ℤ v
+          → A ≡ L *ℤ s +ℤ (t -ℤ k *ℤ w) *ℤ u +ℤ w *ℤ C
       go A L s t u w v k C e f = e ∙ mid ∙ ap (λ z. L *ℤ s +ℤ (t -ℤ k *ℤ w) *ℤ u +ℤ w *ℤ z) (sym f)
         where
           mid : L *ℤ s +ℤ t *ℤ u +ℤ w *ℤ v ≡ L *ℤ s +ℤ (t -ℤ k *ℤ w) *ℤ u +ℤ w *ℤ (k *ℤ u +ℤ v)
@@ -103,7 +107,8 @@ module _ (a b : Point) (long : pos 0 ≺ square a b) where
         tidy : (l s v w n : ℤ) → l *ℤ s +ℤ v *ℤ pos 0 +ℤ w *ℤ (n *ℤ pos 0) ≡ s *ℤ l
         tidy l s v w n = simp expand (omega (arith, sums))
 
-    pub along-between : (X : Place) → square a b *ℤ value (along c d) X ≡ (t -ℤ f) *ℤ (value (along a b) X -ℤ f *ℤ X.w)
+    pub along-between : (X : Place) → square a b *ℤ value (along c d) X ≡ (t -ℤ f) *ℤ
+        (value (along a b) X -ℤ f *ℤ X.w)
     along-between X = from-mark (along c d) c f X hc
         ∙ (λ i. value (line a b) X *ℤ (aside-along a b c d ∙ gap hd.on_line hc.on_line) i
         +ℤ (value (along a b) X -ℤ f *ℤ X.w) *ℤ (forth-along a b c d ∙ (λ j. hd.place j -ℤ hc.place j)) i
@@ -114,7 +119,8 @@ module _ (a b : Point) (long : pos 0 ≺ square a b) where
         tidy l s v w n = simp expand (omega (arith, sums))
 
     pub square-between : square a b *ℤ square c d ≡ (t -ℤ f) *ℤ (t -ℤ f)
-    square-between = ap (λ z. square a b *ℤ z) (sym (value-place (along c d) d ∙ along-end c d)) ∙ along-between (place d)
+    square-between = ap (λ z. square a b *ℤ z) (sym (value-place (along c d) d ∙ along-end c d))
+        ∙ along-between (place d)
         ∙ ap (λ z. (t -ℤ f) *ℤ (z -ℤ f *ℤ pos 1)) (value-place (along a b) d ∙ hd.place) ∙ one t f
       where
         one : (t f : ℤ) → (t -ℤ f) *ℤ (t -ℤ f *ℤ pos 1) ≡ (t -ℤ f) *ℤ (t -ℤ f)
@@ -123,18 +129,26 @@ module _ (a b : Point) (long : pos 0 ≺ square a b) where
     pub segment-stretch : (X : Place) → f ≺ t → IsOnStretch a b f t X ↔ IsBetween c d X
     segment-stretch X l = (
       λ s. record {
-        on_line = cancel (square a b) (value (line c d) X) (pos 0) long (line-between X ∙ ap (λ z. (t -ℤ f) *ℤ z) s.on_line ∙ none (t -ℤ f) (square a b));
-        above = at_start (nonneg-cancel (square a b) (value (along c d) X) long (subst (λ z. pos 0 ≼ z) (sym (along-between X)) (mul_nonneg (t -ℤ f) _ (gap' f t l) (after s.above))));
+        on_line = cancel (square a b) (value (line c d) X) (pos 0) long
+            (line-between X ∙ ap (λ z. (t -ℤ f) *ℤ z) s.on_line ∙ none (t -ℤ f) (square a b));
+        above = at_start (nonneg-cancel (square a b) (value (along c d) X) long
+            (subst (λ z. pos 0 ≼ z) (sym (along-between X))
+            (mul_nonneg (t -ℤ f) _ (gap' f t l) (after s.above))));
         below = at_end (nonneg-cancel (square a b) (square c d *ℤ X.w -ℤ value (along c d) X) long
-            (subst (λ z. pos 0 ≼ z) (sym (rest (square a b) (square c d) X.w (value (along c d) X) (t -ℤ f) (value (along a b) X -ℤ f *ℤ X.w) square-between (along-between X)))
+            (subst (λ z. pos 0 ≼ z) (sym (rest (square a b) (square c d) X.w (value (along c d) X) (t -ℤ f)
+            (value (along a b) X -ℤ f *ℤ X.w) square-between (along-between X)))
             (mul_nonneg (t -ℤ f) _ (gap' f t l) (ahead t f X.w (value (along a b) X) s.below))));
       },
       λ s. record {
-        on_line = cancel (t -ℤ f) (value (line a b) X) (pos 0) (far f t l) (sym (line-between X) ∙ ap (λ z. square a b *ℤ z) s.on_line ∙ none (square a b) (t -ℤ f));
+        on_line = cancel (t -ℤ f) (value (line a b) X) (pos 0) (far f t l)
+            (sym (line-between X) ∙ ap (λ z. square a b *ℤ z) s.on_line ∙ none (square a b) (t -ℤ f));
         above = back (nonneg-cancel (t -ℤ f) (value (along a b) X -ℤ f *ℤ X.w) (far f t l)
-            (subst (λ z. pos 0 ≼ z) (along-between X) (mul_nonneg (square a b) (value (along c d) X) (weak long) (from_zero X.w s.above))));
-        below = ahead' t f X.w (value (along a b) X) (nonneg-cancel (t -ℤ f) ((t -ℤ f) *ℤ X.w -ℤ (value (along a b) X -ℤ f *ℤ X.w)) (far f t l)
-            (subst (λ z. pos 0 ≼ z) (rest (square a b) (square c d) X.w (value (along c d) X) (t -ℤ f) (value (along a b) X -ℤ f *ℤ X.w) square-between (along-between X))
+            (subst (λ z. pos 0 ≼ z) (along-between X)
+            (mul_nonneg (square a b) (value (along c d) X) (weak long) (from_zero X.w s.above))));
+        below = ahead' t f X.w (value (along a b) X)
+            (nonneg-cancel (t -ℤ f) ((t -ℤ f) *ℤ X.w -ℤ (value (along a b) X -ℤ f *ℤ X.w)) (far f t l)
+            (subst (λ z. pos 0 ≼ z) (rest (square a b) (square c d) X.w (value (along c d) X) (t -ℤ f)
+            (value (along a b) X -ℤ f *ℤ X.w) square-between (along-between X))
             (mul_nonneg (square a b) (square c d *ℤ X.w -ℤ value (along c d) X) (weak long) (after s.below))));
       },
     )
@@ -168,7 +182,8 @@ module _ (a b : Point) (long : pos 0 ≺ square a b) where
 
         -- how far it is to the end, twice over
         rest : (n m w z s v : ℤ) → n *ℤ m ≡ s *ℤ s → n *ℤ z ≡ s *ℤ v → n *ℤ (m *ℤ w -ℤ z) ≡ s *ℤ (s *ℤ w -ℤ v)
-        rest n m w z s v e f = let e' = ap (λ x. x *ℤ w) e in simp expand (omega (arith, sums, simp expand at e', f))
+        rest n m w z s v e f = let e' = ap (λ x. x *ℤ w) e in
+            simp expand (omega (arith, sums, simp expand at e', f))
 
         ahead : (t f w z : ℤ) → z ≼ t *ℤ w → pos 0 ≼ (t -ℤ f) *ℤ w -ℤ (z -ℤ f *ℤ w)
         ahead t f w z l = simp expand (omega (arith, sums, *ℤ_comm t w))

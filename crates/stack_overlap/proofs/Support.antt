@@ -60,7 +60,12 @@ crossing f (suc n) h l = go (either_side (f (suc (suc n)))) (crossing f n h)
 
 -- one term of three whose sum is not negative, where none is positive
 term : (a f g : ℤ) → pos 0 ≼ a → f ≼ pos 0 → (f ≡ pos 0 → g ≼ pos 0) → pos 0 ≼ a *ℤ f → a *ℤ g ≼ pos 0
-term a (pos zero) g ha hf hg h = omega (arith, sums, simp expand at (mul_nonneg a (neg_ℤ g) ha (let k = hg refl in omega (arith, sums))))
+term a (pos zero) g ha hf hg h = omega (
+  arith,
+  sums,
+  simp expand at
+      (mul_nonneg a (neg_ℤ g) ha (let k = hg refl in omega (arith, sums))),
+)
 term a (pos (suc n)) g ha hf hg h = absurd (omega (arith, ints))
 term (pos zero) (negsuc n) g ha hf hg h = omega (arith, ints)
 term (pos (suc a)) (negsuc n) g ha hf hg h = absurd (omega (arith, ints))
@@ -94,16 +99,24 @@ pub support : (P : List Point) → IsConvex P → 3 ≤ length P → (X : Place)
 support P convex three X inside f g hf hg h =
     let n = length P - 3 in
     let c = corner_of P in
-    let first : pos 0 ≼ value (line (c 0) (c 1)) X = subst (λ i. pos 0 ≼ value (line (c 0) (c i)) X) (next-inner (length P) 0 (omega arith)) (inside 0 (omega arith)) in
+    let first : pos 0 ≼ value (line (c 0) (c 1)) X =
+    subst (λ i. pos 0 ≼ value (line (c 0) (c i)) X) (next-inner (length P) 0 (omega arith))
+    (inside 0 (omega arith)) in
     let last : value (line (c 0) (c (suc (suc n)))) X ≼ pos 0 = closing (suc (suc n)) (omega arith) in
     let s = crossing (λ k. value (line (c 0) (c k)) X) n first last in
     let k = s.0 in
     let below : suc k < length P = omega (arith, s.1.1) in
-    let side : pos 0 ≼ value (line (c k) (c (suc k))) X = subst (λ i. pos 0 ≼ value (line (c k) (c i)) X) (next-inner (length P) k below) (inside k (omega arith)) in
-    let wide : pos 0 ≺ at (line (c k) (c (suc k))) (c 0) = subst (λ i. pos 0 ≺ at (line (c k) (c i)) (c 0)) (next-inner (length P) k below) (convex k 0 (omega arith) (omega arith) (λ e. omega (arith, s.1.0)) (λ e. omega (arith, e, next-inner (length P) k below))) in
+    let side : pos 0 ≼ value (line (c k) (c (suc k))) X =
+    subst (λ i. pos 0 ≼ value (line (c k) (c i)) X) (next-inner (length P) k below)
+    (inside k (omega arith)) in
+    let wide : pos 0 ≺ at (line (c k) (c (suc k))) (c 0) =
+    subst (λ i. pos 0 ≺ at (line (c k) (c i)) (c 0)) (next-inner (length P) k below)
+    (convex k 0 (omega arith) (omega arith) (λ e. omega (arith, s.1.0))
+    (λ e. omega (arith, e, next-inner (length P) k below))) in
     weights (at (line (c 0) (c k)) (c (suc k)))
     (value (line (c k) (c (suc k))) X) (value (line (c (suc k)) (c 0)) X) (value (line (c 0) (c k)) X)
-    (at f (c 0)) (at f (c k)) (at f (c (suc k))) (at g (c 0)) (at g (c k)) (at g (c (suc k))) (value f X) (value g X)
+    (at f (c 0)) (at f (c k)) (at f (c (suc k))) (at g (c 0)) (at g (c k)) (at g (c (suc k))) (value f X)
+    (value g X)
     (subst (λ z. pos 0 ≺ z) (sym (turned (c 0) (c k) (c (suc k)))) wide)
     side
     (subst (λ z. pos 0 ≼ z) (sym (reversed (c 0) (c (suc k)) X)) (flip _ s.1.3))
@@ -122,4 +135,5 @@ support P convex three X inside f g hf hg h =
 
     closing : (m : ℕ) → suc m ≡ length P → value (line (corner_of P 0) (corner_of P m)) X ≼ pos 0
     closing m e = subst (λ z. z ≼ pos 0) (sym (reversed (corner_of P m) (corner_of P 0) X))
-        (back _ (subst (λ i. pos 0 ≼ value (line (corner_of P m) (corner_of P i)) X) (subst (λ n. next_round n m ≡ 0) e (next-last m)) (inside m (omega arith))))
+        (back _ (subst (λ i. pos 0 ≼ value (line (corner_of P m) (corner_of P i)) X)
+        (subst (λ n. next_round n m ≡ 0) e (next-last m)) (inside m (omega arith))))

@@ -26,7 +26,8 @@ pub record IsReach (a b : Point) (Q : List Point) (n : ℕ) (r : Reach) : Type 0
   pub high : IsMarked a b r.high
   pub low_corner : IsCornerOf Q r.low.at
   pub high_corner : IsCornerOf Q r.high.at
-  pub bounds : (j : ℕ) → j < n → at (line a b) (corner_of Q j) ≡ pos 0 → (r.low.place ≼ at (along a b) (corner_of Q j)) × (at (along a b) (corner_of Q j) ≼ r.high.place)
+  pub bounds : (j : ℕ) → j < n → at (line a b) (corner_of Q j) ≡ pos 0
+      → (r.low.place ≼ at (along a b) (corner_of Q j)) × (at (along a b) (corner_of Q j) ≼ r.high.place)
 
 -- no corner below n is on the line from a to b
 abbrev pub NoneOnLine : Point → Point → List Point → ℕ → Type 0

@@ -2,7 +2,8 @@ use Rattle.stack_overlap.proofs.Separated.{overlapping, apart-first, apart-secon
 use Rattle.stack_overlap.proofs.separating.separator.Goals as goal
 
 pub returns-in-None-clause-overlap : goal.returns-in-None-clause-overlap
-returns-in-None-clause-overlap c = overlapping _ _ c.first_separating.ensures.polygon c.first_separating-2.ensures.polygon
+returns-in-None-clause-overlap c =
+    overlapping _ _ c.first_separating.ensures.polygon c.first_separating-2.ensures.polygon
     c.in_default.ensures.first c.in-None.ensures.first
 
 pub returns-in-Some-clause-apart : goal.returns-in-Some-clause-apart

@@ -16,12 +16,16 @@ loop-j-preserved c = elim c.if-is_on_line.branch [
       subst (IsReached c.args.a c.args.b c.args.q.now (c.loop-j.j + 1)) (sym w.best-is)
       (reached-more c.args.a c.args.b c.args.q.now c.loop-j.j c.loop-j.best w.mark_of.result w.wider.result below (marks.at ∙ c.corner-at.ensures.value)
       (record {
-        on_line = ap (λ d. at (line c.args.a c.args.b) d) marks.at ∙ c.is_on_line.ensures.0 w.if-is_on_line.true;
+        on_line = ap (λ d. at (line c.args.a c.args.b) d) marks.at
+            ∙ c.is_on_line.ensures.0 w.if-is_on_line.true;
         place = ap (λ d. at (along c.args.a c.args.b) d) marks.at ∙ sym marks.place;
       }) w.wider.ensures c.loop-j.invariant)
   | else-is_on_line w ↦
       subst (IsReached c.args.a c.args.b c.args.q.now (c.loop-j.j + 1)) (sym w.best-is)
-      (reached-past c.args.a c.args.b c.args.q.now c.loop-j.j c.loop-j.best (λ z. let t : IsTrue c.is_on_line.result = c.is_on_line.ensures.1 (ap (λ d. at (line c.args.a c.args.b) d) c.corner-at.ensures.value ∙ z) in absurd (cc (t, w.if-is_on_line.false))) c.loop-j.invariant)
+      (reached-past c.args.a c.args.b c.args.q.now c.loop-j.j c.loop-j.best
+      (λ z. let t : IsTrue c.is_on_line.result = c.is_on_line.ensures.1
+      (ap (λ d. at (line c.args.a c.args.b) d) c.corner-at.ensures.value ∙ z) in
+      absurd (cc (t, w.if-is_on_line.false))) c.loop-j.invariant)
 ]
 
 pub returns-clause-reach : goal.returns-clause-reach
