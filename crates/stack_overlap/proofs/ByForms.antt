@@ -1,5 +1,5 @@
 -- Convexity, insides and separation in the language of linear forms.
-use mathlib.Core.Path.{◌≡◌, sym, ap, ◌∙◌, subst}
+use mathlib.Core.Path.{◌≡◌, sym, ◌∙◌, subst}
 use mathlib.Core.Logic.{◌≢◌}
 use mathlib.Core.List.{List}
 use Prim.Native.Nat.{ℕ, ◌<◌}
@@ -14,7 +14,7 @@ use Rattle.stack_polygon.specs.declared.point.Point.{Point}
 use Rattle.stack_polygon.specs.Plane.{Place, triangle_of, left_of, advance_of, ahead_of}
 use Rattle.stack_polygon.specs.Corners.{corner_of, end_of, IsStrictlyConvex, IsStrictlyInside}
 use Rattle.stack_polygon.specs.Corners.{IsInside as IsInsideOf}
-use Rattle.stack_overlap.specs.Forms.{Form, value, at, line, along, square, edge, IsOnStretch, IsBetween}
+use Rattle.stack_overlap.specs.Forms.{value, at, line, along, square, edge, IsBetween}
 use Rattle.stack_overlap.specs.Separation.{IsCommon, Separates, NoneSeparates}
 use Rattle.stack_overlap.specs.CommonPoints.{IsOnSegment, IsStrictlyBetween}
 

@@ -19,7 +19,7 @@ use Rattle.stack_polygon.specs.Plane.{Place, IsAt}
 use Rattle.stack_overlap.specs.Separation.{IsCommon, Separates}
 use Rattle.stack_overlap.specs.CommonPoints.{IsCornerOf, IsBefore, IsCommonOf}
 use Rattle.stack_overlap.specs.Marks.{IsReach, IsCut}
-use Rattle.stack_overlap.specs.declared.shared.Reach.{Reach}
+use Rattle.stack_overlap.specs.declared.marks.Reach.{Reach}
 use Rattle.stack_overlap.proofs.ByForms.{convex-form, outer-form, shared-form, form-shared, within-form}
 use Rattle.stack_overlap.proofs.ByForms.{segment-form}
 use Rattle.stack_overlap.proofs.Identities.{reversed, along-reversed, square-reversed}

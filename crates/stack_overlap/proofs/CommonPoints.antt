@@ -17,7 +17,7 @@ use Rattle.stack_overlap.specs.Forms.{Form, IsOnStretch, IsBetween, value, at, l
 use Rattle.stack_overlap.proofs.ByForms.{IsConvex, IsShared, IsOuter}
 use Rattle.stack_overlap.specs.CommonPoints.{IsCornerOf}
 use Rattle.stack_overlap.specs.Marks.{IsReach}
-use Rattle.stack_overlap.specs.declared.shared.Reach.{Reach}
+use Rattle.stack_overlap.specs.declared.marks.Reach.{Reach}
 use Rattle.stack_overlap.proofs.Identities.{less, opposite, value-less, at-less, value-opposite, at-opposite}
 use Rattle.stack_overlap.proofs.Stretches.{between}
 use Rattle.stack_overlap.proofs.Support.{support}

@@ -10,7 +10,7 @@ use Rattle.std.proofs.lemmas.Int.{ints}
 use Rattle.stack_polygon.specs.declared.point.Point.{Point}
 use Rattle.stack_overlap.specs.declared.types.Which.TheVariants.{First}
 use Rattle.stack_overlap.specs.declared.types.Common.TheVariants.{Nothing, Corner, OnEdge, Segment}
-use Rattle.stack_overlap.specs.declared.shared.Reach.{Reach}
+use Rattle.stack_overlap.specs.declared.marks.Reach.{Reach}
 use mathlib.Core.List.{List}
 use lib.ListN.{length}
 use Rattle.stack_algebra.specs.Search.{next_round}

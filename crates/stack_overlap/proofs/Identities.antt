@@ -1,5 +1,5 @@
 -- Identities of forms at points.
-use mathlib.Core.Path.{◌≡◌, refl, ◌∙◌}
+use mathlib.Core.Path.{◌≡◌, refl}
 use mathlib.Core.List.{[], ◌∷◌}
 use lib.IntN.{ℤ, pos, ◌+ℤ◌, ◌-ℤ◌, ◌*ℤ◌, neg_ℤ}
 use native.Mathlib.Omega.{arith}
@@ -8,15 +8,14 @@ use Rattle.stack_algebra.proofs.Order.{◌≺◌}
 use Rattle.std.proofs.lemmas.Int.{ints}
 use Rattle.stack_algebra.proofs.IntegerRing.{integers}
 use Rattle.stack_polygon.specs.declared.point.Point.{Point}
-use mathlib.Core.List.{List}
 use Rattle.stack_polygon.specs.Plane.{Place}
 use Rattle.stack_overlap.specs.Forms.{Form, value, at, line, along, square}
 
 -- forms of expressions
-abbrev form : Exp → Exp → Exp → Exp → Exp → Exp → Exp
+abbrev pub form : Exp → Exp → Exp → Exp → Exp → Exp → Exp
 form l m n x y w = l ⊗ x ⊕ m ⊗ y ⊕ n ⊗ w
 
-abbrev form_at : Exp → Exp → Exp → Exp → Exp → Exp
+abbrev pub form_at : Exp → Exp → Exp → Exp → Exp → Exp
 form_at l m n x y = l ⊗ x ⊕ m ⊗ y ⊕ n
 
 abbrev line_of : Exp → Exp → Exp → Exp → Exp → Exp → Exp → Exp
@@ -25,34 +24,34 @@ line_of ax ay bx by x y w = (ay ⊖ by) ⊗ x ⊕ (bx ⊖ ax) ⊗ y ⊕ (ax ⊗ 
 abbrev line_at : Exp → Exp → Exp → Exp → Exp → Exp → Exp
 line_at ax ay bx by x y = (ay ⊖ by) ⊗ x ⊕ (bx ⊖ ax) ⊗ y ⊕ (ax ⊗ by ⊖ bx ⊗ ay)
 
-abbrev v0 : Exp
+abbrev pub v0 : Exp
 v0 = var 0
 
-abbrev v1 : Exp
+abbrev pub v1 : Exp
 v1 = var 1
 
-abbrev v2 : Exp
+abbrev pub v2 : Exp
 v2 = var 2
 
-abbrev v3 : Exp
+abbrev pub v3 : Exp
 v3 = var 3
 
-abbrev v4 : Exp
+abbrev pub v4 : Exp
 v4 = var 4
 
-abbrev v5 : Exp
+abbrev pub v5 : Exp
 v5 = var 5
 
-abbrev v6 : Exp
+abbrev pub v6 : Exp
 v6 = var 6
 
-abbrev v7 : Exp
+abbrev pub v7 : Exp
 v7 = var 7
 
-abbrev v8 : Exp
+abbrev pub v8 : Exp
 v8 = var 8
 
-abbrev v9 : Exp
+abbrev pub v9 : Exp
 v9 = var 9
 
 abbrev v10 : Exp

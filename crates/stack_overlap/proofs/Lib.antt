@@ -15,3 +15,5 @@ pub mod HalfPlanes
 pub mod Overlapping
 pub mod Apart
 pub mod Separated
+pub mod Midpoints
+pub mod Ends

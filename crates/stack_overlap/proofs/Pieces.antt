@@ -7,7 +7,6 @@ use Rattle.stack_algebra.proofs.Order.{◌≼◌, ◌≺◌, mul_nonneg, mul_pos
 use Rattle.std.proofs.lemmas.Int.{ints}
 use Rattle.std.specs.Prelude.{◌↔◌}
 use Rattle.stack_polygon.specs.declared.point.Point.{Point}
-use lib.ListN.{length}
 use Rattle.stack_overlap.specs.Forms.{IsMark, Form, IsOnStretch, IsBetween, value, at, line, along, square}
 use Rattle.stack_polygon.specs.Plane.{Place, IsAt}
 use Rattle.stack_overlap.proofs.Identities.{forth, aside, by_line, place, value-place, line-start, along-start}

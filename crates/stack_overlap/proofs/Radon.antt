@@ -10,7 +10,6 @@ use Rattle.stack_algebra.proofs.Ring.{Exp, var, ◌⊕◌, ◌⊗◌, solve, nth
 use Rattle.stack_algebra.proofs.IntegerRing.{integers}
 use Rattle.stack_algebra.proofs.Order.{◌≼◌, ◌≺◌, mul_nonneg, mul_pos, square_nonneg}
 use Rattle.std.proofs.lemmas.Int.{ints}
-use mathlib.Core.List.{List}
 use Rattle.stack_polygon.specs.Plane.{Place}
 use Rattle.stack_overlap.specs.Forms.{Form, value}
 

@@ -9,8 +9,8 @@ use Rattle.stack_algebra.proofs.Order.{◌≼◌}
 use Rattle.std.proofs.Common.{below_more, MatchOption, None, Some}
 use Rattle.std.specs.declared.option.Option.{Option}
 use Rattle.stack_polygon.specs.declared.point.Point.{Point}
-use Rattle.stack_overlap.specs.declared.shared.Mark.{Mark}
-use Rattle.stack_overlap.specs.declared.shared.Reach.{Reach}
+use Rattle.stack_overlap.specs.declared.marks.Mark.{Mark}
+use Rattle.stack_overlap.specs.declared.marks.Reach.{Reach}
 use mathlib.Core.List.{List}
 use lib.ListN.{length}
 use Rattle.stack_polygon.specs.Corners.{corner_of}

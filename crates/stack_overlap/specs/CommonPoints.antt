@@ -3,7 +3,7 @@ use mathlib.Core.Path.{◌≡◌}
 use mathlib.Core.Logic.{◌⊎◌}
 use mathlib.Core.List.{List}
 use Prim.Native.Nat.{ℕ, ◌<◌}
-use lib.IntN.{ℤ, pos}
+use lib.IntN.{pos}
 use lib.ListN.{length}
 use Rattle.std.specs.Prelude.{◌↔◌}
 use Rattle.stack_algebra.specs.IntegerOrder.{◌≼◌, ◌≺◌}

@@ -2,3 +2,4 @@ pub mod Separation
 pub mod Forms
 pub mod CommonPoints
 pub mod Marks
+pub mod Ends

@@ -11,8 +11,8 @@ use Rattle.stack_overlap.specs.declared.types.Which.{Which}
 use Rattle.stack_overlap.specs.declared.types.Which.TheVariants.{First, Second}
 use Rattle.stack_overlap.specs.declared.types.Common.{Common}
 use Rattle.stack_overlap.specs.declared.types.Common.TheVariants.{Nothing, Corner, OnEdge, Segment}
-use Rattle.stack_overlap.specs.declared.shared.Mark.{Mark}
-use Rattle.stack_overlap.specs.declared.shared.Reach.{Reach}
+use Rattle.stack_overlap.specs.declared.marks.Mark.{Mark}
+use Rattle.stack_overlap.specs.declared.marks.Reach.{Reach}
 use Rattle.stack_overlap.specs.Forms.{IsMark, at, line, along, square}
 use Rattle.stack_overlap.specs.CommonPoints.{IsCornerOf}
 

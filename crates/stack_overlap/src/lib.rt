@@ -4,6 +4,7 @@
 //! most a segment in common.
 #![tactic(auto)]
 
+mod marks;
 mod separating;
 mod shared;
 pub mod types;

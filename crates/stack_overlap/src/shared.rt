@@ -1,126 +1,24 @@
 //! The common points of two polygons that an edge separates.
 
-ghost use Rattle.std.specs.Prelude.{◌≡◌, ◌⊎◌, ◌<◌, ◌↔◌, length, IsTrue, MatchOption};
-ghost use lib.IntN.{pos};
-ghost use Rattle.stack_algebra.specs.IntegerOrder.{◌≺◌};
+ghost use Rattle.std.specs.Prelude.{◌≡◌, ◌↔◌, length, IsTrue, MatchOption};
+ghost use Rattle.stack_polygon.specs.Plane.{Place};
 ghost use Rattle.stack_polygon.specs.Limits.{IsInRange, IsPolygon};
-ghost use Rattle.stack_overlap.specs.Separation.{Separates, IsSeparatedBy};
-ghost use Rattle.stack_overlap.specs.Forms.{at as value_at, line, along};
+ghost use Rattle.stack_overlap.specs.Separation.{Separates, IsSeparatedBy, IsCommon};
+ghost use Rattle.stack_overlap.specs.Ends.{IsEndOf, IsEndAt};
 ghost use Rattle.stack_overlap.specs.CommonPoints.{IsBefore, IsCommonOf};
-ghost use Rattle.stack_overlap.specs.Marks.{IsMarked, IsLower, IsHigher, IsReach, NoneOnLine, IsWider, IsClipped, swapped};
+ghost use Rattle.stack_overlap.specs.Marks.{IsMarked, IsReach, NoneOnLine, IsClipped, swapped};
 
+use crate::marks::{
+    Mark, Reach, higher, is_at_either, is_on_line, lower, mark_of, precedes, wider,
+};
 use crate::types::{Common, Edge, Which};
-use stack_polygon::{Point, Polygon, advance, next, triangle};
-
-/// A corner on a line, with its place along it.
-#[derive(Clone, Copy)]
-pub struct Mark {
-    pub place: i64,
-    pub at: Point,
-}
-
-/// The first and the last corner on a line.
-#[derive(Clone, Copy)]
-pub struct Reach {
-    pub low: Mark,
-    pub high: Mark,
-}
-
-/// How far `c` lies ahead of `a` on the way to `b`, times their distance.
-fn place_along(a: Point, b: Point, c: Point) -> i64
-    requires a { IsInRange a }
-    requires b { IsInRange b }
-    requires c { IsInRange c }
-    ensures { result ≡ value_at (along a b) c }
-{
-    advance(a, b, c)
-}
-
-/// Positive where `c` lies left of the line from `a` to `b`, 0 on it.
-fn turn(a: Point, b: Point, c: Point) -> i64
-    requires a { IsInRange a }
-    requires b { IsInRange b }
-    requires c { IsInRange c }
-    ensures { result ≡ value_at (line a b) c }
-{
-    triangle(a, b, c)
-}
-
-/// Whether c is on the line from a to b.
-fn is_on_line(a: Point, b: Point, c: Point) -> bool
-    requires a { IsInRange a }
-    requires b { IsInRange b }
-    requires c { IsInRange c }
-    ensures { IsTrue result ↔ (value_at (line a b) c ≡ pos 0) }
-{
-    is_same(turn(a, b, c), 0)
-}
-
-/// Whether two numbers are equal.
-fn is_same(k: i64, n: i64) -> bool
-    ensures { IsTrue result ↔ (k ≡ n) }
-{
-    k <= n && n <= k
-}
-
-/// Whether a mark comes before another.
-fn precedes(a: Mark, b: Mark) -> bool
-    ensures { IsTrue result ↔ (a.place ≺ b.place) }
-{
-    a.place < b.place
-}
-
-/// Whether a mark has the place of one of two others.
-fn is_at_either(m: Mark, a: Mark, b: Mark) -> bool
-    ensures { IsTrue result ↔ ((m.place ≡ a.place) ⊎ (m.place ≡ b.place)) }
-{
-    is_same(m.place, a.place) || is_same(m.place, b.place)
-}
-
-/// A corner with its place along the line from a to b.
-fn mark_of(a: Point, b: Point, at: Point) -> Mark
-    requires a { IsInRange a }
-    requires b { IsInRange b }
-    requires at { IsInRange at }
-    ensures at { result.at ≡ at }
-    ensures place { result.place ≡ value_at (along a b) at }
-{
-    let place = place_along(a, b, at);
-    Mark { place, at }
-}
+use stack_polygon::{Point, Polygon, next};
 
 /// Whether a is before b by x, then y.
 fn is_before(a: Point, b: Point) -> bool
     ensures { IsTrue result ↔ IsBefore a b }
 {
     a.x < b.x || a.x == b.x && a.y < b.y
-}
-
-/// The earlier of two marks.
-fn lower(a: Mark, b: Mark) -> Mark
-    ensures { IsLower a b result }
-{
-    if b.place < a.place { b } else { a }
-}
-
-/// The later of two marks.
-fn higher(a: Mark, b: Mark) -> Mark
-    ensures { IsHigher a b result }
-{
-    if a.place < b.place { b } else { a }
-}
-
-/// A reach with one more mark.
-fn wider(best: Option<Reach>, m: Mark) -> Reach
-    ensures { MatchOption best ((result.low ≡ m) × (result.high ≡ m)) (λ r. IsWider r m result) }
-{
-    match best {
-        None => Reach { low: m, high: m },
-        Some(r) => Reach {
-            low: lower(r.low, m),
-            high: higher(r.high, m),
-        },
-    }
 }
 
 /// The first and the last corner of q on the line from a to b.
@@ -221,7 +119,8 @@ fn swap_common(c: Common) -> Common
 /// one of them strictly within an edge of the other, or a segment. Takes no memory.
 pub fn common(p: &Polygon, q: &Polygon, e: Edge) -> Common
     requires { IsSeparatedBy p.now q.now e.which e.index }
-    ensures { IsCommonOf p.now q.now result }
+    ensures points { IsCommonOf p.now q.now result }
+    ensures ends { (X : Place) → IsEndOf (IsCommon p.now q.now) X ↔ IsEndAt result X }
 {
     match e.which {
         Which::First => common_on(p, e.index, q),
