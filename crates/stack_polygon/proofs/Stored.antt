@@ -8,7 +8,7 @@ use Rattle.std.proofs.lemmas.Int.{ints, to_z-of_z}
 use Rattle.stack_algebra.proofs.Integers.{sums, expand}
 use Rattle.stack_algebra.proofs.Order.{◌≼◌, mul-bounds}
 use Rattle.stack_polygon.specs.declared.point.Point.{Point}
-use Rattle.stack_polygon.specs.Plane.{triangle_of}
+use Rattle.stack_polygon.specs.Plane.{triangle_of, advance_of}
 use Rattle.stack_polygon.specs.Limits.{IsNear, IsInRange}
 use Rattle.stack_polygon.specs.Sizes.{IsStep, IsSquare, IsTwiceArea, IsThree, IsWithin}
 
@@ -63,6 +63,24 @@ pub triangle-stored : (o p q : Point) (r s : ℤ) → IsInRange o → IsInRange 
 triangle-stored o p q r s ho hp hq hr hs er es = stored-less r s hr hs
     ∙ (λ i. er i -ℤ es i)
     ∙ (λ i. near-stored p.x o.x hp.x ho.x i *ℤ near-stored q.y o.y hq.y ho.y i -ℤ near-stored p.y o.y hp.y ho.y i *ℤ near-stored q.x o.x hq.x ho.x i)
+
+-- the sum of two products
+pub sum-fits : (r s : ℤ) → IsSquare r → IsSquare s → SFits w64 (stored r +ℤ stored s)
+sum-fits r s hr hs = subst (λ z. SFits w64 z) (sym (λ i. square-stored r hr i +ℤ square-stored s hs i)) (fits (r +ℤ s) (omega (arith, ints)) (omega (arith, ints)))
+  where
+    fits : (z : ℤ) → negsuc 7999999999999 ≼ z → z ≼ pos 8000000000000 → SFits w64 z
+    fits (pos n) l m = record { sfits = omega (arith, ints, m) }
+    fits (negsuc n) l m = record { sfits = omega (arith, ints, l) }
+
+stored-sum : (r s : ℤ) → IsSquare r → IsSquare s → stored (stored r +ℤ stored s) ≡ r +ℤ s
+stored-sum r s hr hs = omega (arith, ints)
+
+pub advance-stored : (o p q : Point) (r s : ℤ) → IsInRange o → IsInRange p → IsInRange q → IsSquare r → IsSquare s →
+    r ≡ stored (stored p.x -ℤ stored o.x) *ℤ stored (stored q.x -ℤ stored o.x) → s ≡ stored (stored p.y -ℤ stored o.y) *ℤ stored (stored q.y -ℤ stored o.y) →
+    stored (stored r +ℤ stored s) ≡ advance_of o p q
+advance-stored o p q r s ho hp hq hr hs er es = stored-sum r s hr hs
+    ∙ (λ i. er i +ℤ es i)
+    ∙ (λ i. near-stored p.x o.x hp.x ho.x i *ℤ near-stored q.x o.x hq.x ho.x i +ℤ near-stored p.y o.y hp.y ho.y i *ℤ near-stored q.y o.y hq.y ho.y i)
 
 abbrev pub wide : ℤ → ℤ
 wide z = to_z w128 (of_z w128 z)

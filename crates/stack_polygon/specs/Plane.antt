@@ -2,7 +2,7 @@
 -- Used by polygons, contacts and statics.
 use mathlib.Core.Path.{◌≡◌}
 use Prim.Native.Nat.{zero, suc}
-use lib.IntN.{ℤ, pos, negsuc, ◌-ℤ◌, ◌*ℤ◌}
+use lib.IntN.{ℤ, pos, negsuc, ◌+ℤ◌, ◌-ℤ◌, ◌*ℤ◌}
 use Rattle.stack_algebra.specs.IntegerOrder.{◌≺◌}
 use Rattle.stack_polygon.specs.declared.point.Point.{Point}
 
@@ -30,6 +30,14 @@ triangle_of o p q = (p.x -ℤ o.x) *ℤ (q.y -ℤ o.y) -ℤ (p.y -ℤ o.y) *ℤ 
 -- the same for any point X of the plane, times its w
 abbrev pub left_of : Point → Point → Place → ℤ
 left_of o p X = (p.x -ℤ o.x) *ℤ (X.y -ℤ o.y *ℤ X.w) -ℤ (p.y -ℤ o.y) *ℤ (X.x -ℤ o.x *ℤ X.w)
+
+-- how far q lies ahead of o on the way to p, times the distance of o and p
+abbrev pub advance_of : Point → Point → Point → ℤ
+advance_of o p q = (p.x -ℤ o.x) *ℤ (q.x -ℤ o.x) +ℤ (p.y -ℤ o.y) *ℤ (q.y -ℤ o.y)
+
+-- the same for any point X of the plane, times its w
+abbrev pub ahead_of : Point → Point → Place → ℤ
+ahead_of o p X = (p.x -ℤ o.x) *ℤ (X.x -ℤ o.x *ℤ X.w) +ℤ (p.y -ℤ o.y) *ℤ (X.y -ℤ o.y *ℤ X.w)
 
 -- 1, 0 or -1
 abbrev pub sign_of : ℤ → ℤ

@@ -17,6 +17,7 @@ pub use errors::PolygonError;
 pub use laws::convexity_by_test;
 pub use point::Point;
 pub use polygon::Polygon;
+pub use turns::{advance, next, triangle};
 
 #[cfg(test)]
 mod tests;

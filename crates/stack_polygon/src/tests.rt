@@ -1,6 +1,6 @@
 //! Each public call on a post of width 2 and height 4, and lists of corners that are taken and refused.
 
-use super::{Point, Polygon, PolygonError};
+use super::{Point, Polygon, PolygonError, advance, next, triangle};
 use std::alloc::Global;
 use std::test::*;
 
@@ -137,5 +137,19 @@ fn three_to_thirty_two_corners_within_range_are_taken(rt: HostRuntime) -> Result
     );
     let far = polygon(rt.alloc(), &[(0, 0), (1_000_001, 0), (0, -1_000_001)])?;
     assert_eq!(rt; far.err(), Some(PolygonError::Range { corner: 1 }));
+    Ok(())
+}
+
+#[test]
+fn turns_and_ways_along_a_line(rt: HostRuntime) -> Result<(), Fail> {
+    let (o, p, q) = (
+        Point { x: 1, y: 1 },
+        Point { x: 5, y: 4 },
+        Point { x: 2, y: 3 },
+    );
+    assert_eq!(rt; triangle(o, p, q), 5);
+    assert_eq!(rt; advance(o, p, q), 10);
+    assert_eq!(rt; next(3, 1), 2);
+    assert_eq!(rt; next(3, 2), 0);
     Ok(())
 }

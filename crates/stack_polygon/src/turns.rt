@@ -1,7 +1,7 @@
-//! On which side of a line a point lies.
+//! On which side of a line a point lies, and how far ahead.
 
 ghost use Rattle.std.specs.Prelude.{◌≡◌, ◌*ℤ◌, ◌<◌};
-ghost use Rattle.stack_polygon.specs.Plane.{triangle_of};
+ghost use Rattle.stack_polygon.specs.Plane.{triangle_of, advance_of};
 ghost use Rattle.stack_algebra.specs.Search.{next_round};
 ghost use Rattle.stack_polygon.specs.Limits.{IsInRange};
 ghost use Rattle.stack_polygon.specs.Sizes.{IsStep, IsSquare, IsTwiceArea};
@@ -27,6 +27,16 @@ pub fn triangle(o: Point, p: Point, q: Point) -> i64
     ensures size { IsTwiceArea result }
 {
     product(p.x - o.x, q.y - o.y) - product(p.y - o.y, q.x - o.x)
+}
+
+/// How far `q` lies ahead of `o` on the way to `p`, times the distance of `o` and `p`. Takes no memory.
+pub fn advance(o: Point, p: Point, q: Point) -> i64
+    requires o { IsInRange o }
+    requires p { IsInRange p }
+    requires q { IsInRange q }
+    ensures { result ≡ advance_of o p q }
+{
+    product(p.x - o.x, q.x - o.x) + product(p.y - o.y, q.y - o.y)
 }
 
 /// The number after `i`, of `n` in a circle.

@@ -1,0 +1,8 @@
+use Rattle.std.proofs.Common.{◌∙◌, rules}
+use mir.Syntax.{w64}
+use Rattle.std.proofs.lemmas.Int.{to_z-of_z}
+use Rattle.stack_overlap.proofs.ByForms.{side-form}
+use Rattle.stack_overlap.proofs.marks.turn.Goals as goal
+
+pub returns : goal.returns
+returns c = to_z-of_z w64 _ (search rules) ∙ c.triangle.ensures.value ∙ side-form c.args.a c.args.b c.args.c

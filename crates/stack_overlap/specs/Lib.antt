@@ -1,0 +1,5 @@
+pub mod Separation
+pub mod Forms
+pub mod CommonPoints
+pub mod Marks
+pub mod Ends
