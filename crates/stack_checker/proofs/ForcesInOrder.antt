@@ -60,12 +60,12 @@ module _ (s : Surveyed) (c : CertificateValue) where
   WithinAt k p = IsWithinCone (scene_bearing_of (bearing k)) p
 
   is_within : (k : ℕ) → HoldsAt k k → WithinAt k (part k)
-  is_within k h = subst (WithinAt k) (sym (part_is c.parts k)) (record { pushes = h.pushes; holds = h.within })
+  is_within k h = subst (WithinAt k) (sym (part_is c.parts k)) (record { pushes = h.pushes; within = h.within })
 
   holds_at : (k : ℕ) → WithinAt k (part k) → HoldsAt k k
   holds_at k w =
       let h = subst (WithinAt k) (part_is c.parts k) w in
-      record { pushes = h.pushes; within = h.holds }
+      record { pushes = h.pushes; within = h.within }
 
   abbrev BalancesAt : ℕ → Type 0
   BalancesAt i = Balances (block_of s.structure i) (whole c.scale) (whole c.factor) s.bearings c.parts

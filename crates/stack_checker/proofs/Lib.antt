@@ -1,4 +1,3 @@
-pub mod DivisionSteps
 pub mod Spellings
 pub mod CutLines
 pub mod DigitsSpelled

@@ -2,7 +2,6 @@ pub mod FreeBlocks
 pub mod Surveyed
 pub mod RectangleContacts
 pub mod CommonPoints
-pub mod Friction
 pub mod SurveyOf
 pub mod Certificate
 pub mod Numbers

@@ -5,7 +5,7 @@ use Rattle.std.specs.Prelude.{ℤ, pos, negsuc, List, int_lt, int_le, if◌then�
 use Rattle.std.specs.Int.{int_min, int_max}
 use Rattle.stack_polygon.specs.declared.point.Point.{Point}
 use Rattle.stack_polygon.specs.Corners.{corner_of}
-use Rattle.stack_checker.specs.declared.types.Frame.{Frame}
+use Rattle.stack_frame.specs.declared.frame.Frame.{Frame}
 use Rattle.stack_checker.specs.declared.rectangle.Range.{Range}
 use Rattle.stack_checker.specs.declared.rectangle.Numbers.{Numbers}
 use Rattle.stack_checker.specs.declared.rectangle.Numbers.TheVariants as numbers

@@ -4,8 +4,8 @@
 use Rattle.std.specs.Prelude.{◌≡◌, ℕ, List, [], ◌∷◌, Result, Ok, Err, ⊤}
 use Rattle.stack_polygon.specs.declared.point.Point.{Point}
 use Rattle.stack_model.specs.Structure.{Structure, material_of, body_of}
-use Rattle.stack_checker.specs.declared.types.Cone.{Cone}
-use Rattle.stack_checker.specs.declared.types.Frame.{Frame}
+use Rattle.stack_frame.specs.declared.cone.Cone.{Cone}
+use Rattle.stack_frame.specs.declared.frame.Frame.{Frame}
 use Rattle.stack_checker.specs.declared.types.Bearing.{Bearing}
 use Rattle.stack_checker.specs.declared.types.Touch.{Touch}
 use Rattle.stack_checker.specs.declared.types.Survey.{Survey}
@@ -15,7 +15,7 @@ use Rattle.stack_checker.specs.declared.rectangle.Meeting.{Meeting}
 use Rattle.stack_checker.specs.declared.rectangle.Meeting.TheVariants.{Overlapping, Joint, Corner}
 use Rattle.stack_checker.specs.Surveyed.{Surveyed, survey_view}
 use Rattle.stack_checker.specs.RectangleContacts.{extent_of, meeting_of}
-use Rattle.stack_checker.specs.Friction.{lesser_of}
+use Rattle.stack_frame.specs.Cones.{lesser_of}
 
 -- How bodies i and j meet.
 abbrev pub meeting_between : Structure → ℕ → ℕ → Meeting

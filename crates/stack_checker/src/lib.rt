@@ -9,7 +9,6 @@ mod balance;
 mod block;
 mod checking;
 mod cones;
-mod friction;
 mod laws;
 mod line;
 mod number;

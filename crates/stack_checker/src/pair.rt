@@ -3,12 +3,12 @@
 ghost use Rattle.std.specs.Prelude.{◌≡◌, ◌<◌, length, IfOk};
 ghost use Rattle.stack_model.specs.Structure.{body_of};
 ghost use Rattle.stack_model.specs.ModelView.{model_view};
-ghost use Rattle.stack_checker.specs.Friction.{IsCoefficient};
+ghost use Rattle.stack_frame.specs.Cones.{IsCoefficient};
 ghost use Rattle.stack_checker.specs.SurveyOf.{meeting_between, friction_of, friction_between, bearings_in, touches_in};
 
-use crate::friction::lesser_friction;
 use crate::rectangle::{Meeting, meet, ranges};
-use crate::types::{Bearing, Cone, Touch};
+use crate::types::{Bearing, Touch};
+use stack_frame::{Cone, cone_of};
 use stack_model::Model;
 use std::alloc::{AllocError, Global};
 
@@ -42,7 +42,9 @@ pub fn joint_friction(model: &Model, first: usize, second: usize) -> Cone
     requires second { second < length (model_view model.now).bodies }
     ensures { result ≡ friction_between (model_view model.now) first second }
 {
-    lesser_friction(friction(model, first), friction(model, second))
+    let earlier = friction(model, first);
+    let later = friction(model, second);
+    cone_of(earlier.p, earlier.q, later.p, later.q)
 }
 
 /// The bearings of two bodies that meet so.

@@ -4,7 +4,7 @@ ghost use Rattle.std.specs.Prelude.{◌≡◌, ◌<◌, length};
 ghost use Rattle.stack_checker.specs.RectangleContacts.{range_between, common_of, extent_of, level_frame, upright_frame};
 ghost use Rattle.stack_checker.specs.RectangleContacts.{numbers_in, least, greatest, meeting_in, meeting_of};
 
-use crate::types::Frame;
+use stack_frame::Frame;
 use stack_polygon::{Point, Polygon};
 
 /// The numbers from `low` to `high`: none where `high` is less, one where they are the same.

@@ -4,28 +4,10 @@ ghost use Rattle.std.specs.Prelude.{◌≡◌};
 ghost use Rattle.stack_checker.specs.declared.types.SurveyError.TheVariants as survey_error;
 ghost use Rattle.stack_checker.specs.declared.types.TextError.TheVariants as text_error;
 
+use stack_frame::{Cone, Frame};
 use stack_model::Model;
 use stack_polygon::Point;
 use std::alloc::AllocError;
-
-/// The direction of a joint, its tangent in lowest terms. Its normal is `(-ty, tx)`, which points to the later body.
-#[derive(Clone, Copy, Debug, PartialEq, Eq)]
-pub struct Frame {
-    /// To the right.
-    pub tx: i64,
-    /// Upwards.
-    pub ty: i64,
-}
-
-/// A coefficient of friction, `p` over `q` in lowest terms: a bearing holds where `q` times the size of its
-/// tangential part is at most `p` times its normal part.
-#[derive(Clone, Copy, Debug, PartialEq, Eq)]
-pub struct Cone {
-    /// The numerator, 0 to 1,000.
-    pub p: i64,
-    /// The denominator, 1 to 1,000.
-    pub q: i64,
-}
 
 /// A point at which two bodies bear on one another. Bodies are told by their numbers in the model, counted from 0.
 #[derive(Clone, Copy, Debug, PartialEq, Eq)]

@@ -4,7 +4,9 @@ use lib.IntN.{ℤ, pos, ◌*ℤ◌}
 use Rattle.std.proofs.lemmas.Int.{ints}
 use Rattle.stack_algebra.proofs.Order.{◌≼◌, abs}
 use Rattle.stack_equilibrium.specs.Scene.{Scene, Bearing, Part}
-use Rattle.stack_equilibrium.specs.Balance.{sum_x_of, sum_y_of, sum_m_of, IsBalancedAt, IsWithinCone}
+use Rattle.stack_equilibrium.specs.Balance.{sum_x_of, sum_y_of, sum_m_of, IsBalancedAt}
+use Rattle.stack_frame.specs.declared.cone.Cone.{Cone}
+use Rattle.stack_frame.specs.Admitted.{IsAdmitted}
 use Rattle.stack_equilibrium.specs.Motions.{IsStill}
 use Rattle.stack_equilibrium.specs.Certificates.{still}
 use Rattle.stack_equilibrium.specs.WorkedScenes.{TrueOfWorkedScenes, FalseOfWorkedScenes}
@@ -29,8 +31,8 @@ below_four P p q r s (suc (suc (suc zero))) l = s
 below_four P p q r s (suc (suc (suc (suc k)))) l = absurd (omega arith)
 
 -- a part that pushes and holds
-part_holds : {z : Bearing} {f : Part} → pos 0 ≼ f.a → z.q *ℤ abs f.b ≼ z.p *ℤ f.a → IsWithinCone z f
-part_holds h k = record { pushes = h; holds = k }
+part_holds : {c : Cone} {a b : ℤ} → pos 0 ≼ a → c.q *ℤ abs b ≼ c.p *ℤ a → IsAdmitted c a b
+part_holds h k = record { pushes = h; within = k }
 
 in_balance : {s : Scene} {f : ℕ → Part} {scale factor : ℤ} {i : ℕ} →
     sum_x_of s f scale factor i ≡ pos 0 → sum_y_of s f scale factor i ≡ pos 0 → sum_m_of s f scale factor i
@@ -144,13 +146,13 @@ true_of_worked_scenes = record {
 pub false_of_worked_scenes : FalseOfWorkedScenes
 false_of_worked_scenes = record {
   uneven_pushes_are_unbalanced = λ e. absurd (omega (arith, ints));
-  steep_part_leaves_its_cone = λ h. absurd (omega (arith, ints, h.holds));
+  steep_part_leaves_its_cone = λ h. absurd (omega (arith, ints, h.within));
   pull_leaves_its_cone = λ h. absurd (omega (arith, ints, h.pushes));
   standing_has_no_factor = λ e. absurd (omega (arith, ints));
   standing_has_a_scale = λ h. absurd (omega (arith, ints));
   one_part_is_missing = λ e. absurd (omega (arith, ints));
   heavier_part_is_unbalanced = λ e. absurd (omega (arith, ints));
-  steeper_part_leaves_its_cone = λ h. absurd (omega (arith, ints, h.holds));
+  steeper_part_leaves_its_cone = λ h. absurd (omega (arith, ints, h.within));
   pull_of_the_pushed_post_leaves_its_cone = λ h. absurd (omega (arith, ints, h.pushes));
   first_part_is_missing = λ e. absurd (omega (arith, ints));
   greatest_has_a_scale = λ h. absurd (omega (arith, ints));
@@ -159,6 +161,6 @@ false_of_worked_scenes = record {
   standing_forces_do_not_meet = λ e. absurd (omega (arith, ints));
   flat_slide_is_resisted = λ h. absurd (omega (arith, ints));
   slip_is_resisted_on_the_rougher_slope = λ h. absurd (omega (arith, ints));
-  slope_part_leaves_the_slicker_cone = λ h. absurd (omega (arith, ints, h.holds));
+  slope_part_leaves_the_slicker_cone = λ h. absurd (omega (arith, ints, h.within));
   fall_is_resisted_by_the_ground = λ h. absurd (omega (arith, ints));
 }

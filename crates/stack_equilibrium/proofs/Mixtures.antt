@@ -100,8 +100,8 @@ in_cone-mixed : (z : Bearing) (f g : Part) (m n : ℤ) → pos 0 ≼ z.q → pos
     IsWithinCone z (record { a = m *ℤ f.a +ℤ n *ℤ g.a; b = m *ℤ f.b +ℤ n *ℤ g.b })
 in_cone-mixed z f g m n hq hm hn i j = record {
   pushes = pressed_mixed m n f.a g.a hm hn i.pushes j.pushes;
-  holds = held_mixed z.p z.q m n f.a g.a (abs f.b) (abs g.b) (abs (m *ℤ f.b +ℤ n *ℤ g.b))
-      hm hn hq i.holds j.holds
+  within = held_mixed z.p z.q m n f.a g.a (abs f.b) (abs g.b) (abs (m *ℤ f.b +ℤ n *ℤ g.b))
+      hm hn hq i.within j.within
       (abs_mixed m n f.b g.b (abs f.b) (abs g.b) hm hn (abs_bounds f.b).0 (abs_bounds f.b).1
       (abs_bounds g.b).0 (abs_bounds g.b).1);
 }

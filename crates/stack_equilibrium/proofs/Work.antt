@@ -202,7 +202,7 @@ module _ (s : Scene) (y : ℕ → Move) (f : ℕ → Part) where
       rest (sum_to s.bearings power_at) (scale *ℤ dead_power_of s y) (factor *ℤ live_power_of s y)
       (sum-nonneg s.bearings power_at (λ k l. power-nonneg (s.bearing k).p (s.bearing k).q (f k).a (f k).b
       (opening_of s y (s.bearing k)) (slide_of s y (s.bearing k))
-      (proper k l).denominator_positive (admissible k l).pushes (admissible k l).holds (un.opens k l)))
+      (proper k l).denominator_positive (admissible k l).pushes (admissible k l).within (un.opens k l)))
       (work_is_zero scale factor proper balanced un.still)
     where
       rest : (a b c : ℤ) → pos 0 ≼ a → a +ℤ b +ℤ c ≡ pos 0 → b +ℤ c ≼ pos 0

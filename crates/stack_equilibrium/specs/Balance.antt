@@ -5,7 +5,9 @@ use Prim.Native.Nat.{ℕ, ◌<◌}
 use lib.Dec.{eqb}
 use lib.IntN.{ℤ, pos, negsuc, ◌+ℤ◌, ◌-ℤ◌, ◌*ℤ◌, neg_ℤ}
 use Rattle.stack_algebra.specs.Sums.{sum_to}
-use Rattle.stack_algebra.specs.IntegerOrder.{◌≼◌, ◌≺◌, abs}
+use Rattle.stack_algebra.specs.IntegerOrder.{◌≺◌}
+use Rattle.stack_frame.specs.Cones.{cone}
+use Rattle.stack_frame.specs.Admitted.{IsAdmitted}
 use Rattle.stack_equilibrium.specs.Scene.{Part, Body, Bearing, Scene}
 
 -- the force of a part on the later body: a times the normal (-ty, tx) plus b times the tangent (tx, ty)
@@ -51,9 +53,8 @@ IsBalanced s f scale factor = (i : ℕ) → i < s.bodies → (s.body i).free ≡
     IsBalancedAt s f scale factor i
 
 -- a part pushes and stays within the cone of friction
-pub record IsWithinCone (z : Bearing) (f : Part) : Type 0 where
-  pub pushes : pos 0 ≼ f.a
-  pub holds : z.q *ℤ abs f.b ≼ z.p *ℤ f.a
+abbrev pub IsWithinCone : Bearing → Part → Type 0
+IsWithinCone z f = IsAdmitted (cone z.p z.q) f.a f.b
 
 abbrev pub IsAdmissible : Scene → (ℕ → Part) → Type 0
 IsAdmissible s f = (k : ℕ) → k < s.bearings → IsWithinCone (s.bearing k) (f k)

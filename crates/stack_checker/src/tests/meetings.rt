@@ -1,8 +1,7 @@
-//! How rectangles meet, and the friction between them.
+//! How rectangles meet.
 
-use crate::friction::lesser_friction;
 use crate::rectangle::{Extent, Meeting, Range, meet};
-use crate::types::{Cone, Frame};
+use stack_frame::Frame;
 use stack_polygon::Point;
 
 fn extent(x0: i64, x1: i64, y0: i64, y1: i64) -> Extent {
@@ -45,21 +44,4 @@ fn blocks_touch_overlap_or_stand_apart(rt: HostRuntime) {
     assert_eq!(rt; meet(ground, extent(0, 2, -1, 3)), Meeting::Overlapping);
     assert_eq!(rt; meet(ground, extent(0, 2, 1, 3)), Meeting::Apart);
     assert_eq!(rt; meet(ground, extent(11, 12, -1, 3)), Meeting::Apart);
-}
-
-#[test]
-fn the_lesser_friction_is_reduced(rt: HostRuntime) {
-    let three_quarters = Cone { p: 3, q: 4 };
-    let thirty_of_forty = Cone { p: 30, q: 40 };
-    let four_fifths = Cone { p: 4, q: 5 };
-    let none = Cone { p: 0, q: 7 };
-    assert_eq!(rt;
-        lesser_friction(thirty_of_forty, four_fifths),
-        three_quarters
-    );
-    assert_eq!(rt;
-        lesser_friction(four_fifths, thirty_of_forty),
-        three_quarters
-    );
-    assert_eq!(rt; lesser_friction(none, four_fifths), Cone { p: 0, q: 1 });
 }

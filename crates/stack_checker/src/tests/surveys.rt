@@ -1,7 +1,8 @@
 //! Surveys of models.
 
 use crate::survey;
-use crate::types::{Bearing, Cone, Frame, SurveyError, Touch};
+use crate::types::{Bearing, SurveyError, Touch};
+use stack_frame::{Cone, Frame};
 use stack_model::{Model, read_model};
 use stack_polygon::Point;
 use std::alloc::Global;
