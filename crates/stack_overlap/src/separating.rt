@@ -5,7 +5,8 @@ ghost use lib.IntN.{pos};
 ghost use Rattle.stack_algebra.specs.IntegerOrder.{◌≺◌};
 ghost use Rattle.stack_polygon.specs.Corners.{side_of};
 ghost use Rattle.stack_polygon.specs.Limits.{IsInRange, IsPolygon};
-ghost use Rattle.stack_overlap.specs.Separation.{Separates, NoneSeparates, IsFirstSeparating, IsSeparator, IsSeparatedBy, Overlaps};
+ghost use Rattle.stack_overlap.specs.Separation.{Separates, NoneSeparates, IsFirstSeparating};
+ghost use Rattle.stack_overlap.specs.Separation.{IsSeparator, IsSeparatedBy, Overlaps};
 
 use crate::types::{Edge, Which};
 use stack_polygon::{Point, Polygon};
