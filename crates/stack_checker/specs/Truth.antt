@@ -1,20 +1,16 @@
 -- When a certificate is true of a survey. Nothing here speaks of how it is checked.
-use Rattle.std.specs.Prelude.{ℤ, map}
-use Rattle.stack_equilibrium.specs.Scene as scene
-use Rattle.stack_equilibrium.specs.Certificates.{Forces, IsTrueStands}
-use Rattle.stack_checker.specs.Surveyed.{Surveyed}
-use Rattle.stack_checker.specs.Certificate.{CertificateValue}
-use Rattle.stack_checker.specs.SurveyScene.{scene_of}
+use Rattle.stack_contact.specs.Surveyed.{Surveyed}
+use Rattle.stack_certificate.specs.Certificate.{CertificateValue, stands, collapses, greatest, unbounded}
+use Rattle.stack_equilibrium.specs.Certificates as statics
+use Rattle.stack_equilibrium.specs.Held.{forces_of, moves_of}
+use Rattle.stack_equilibrium.specs.SurveyScene.{scene_of}
 
--- the two numbers of a bearing, along its normal and along its tangent
-abbrev pub part_of : ℤ × ℤ → scene.Part
-part_of p = record { a = p.0; b = p.1 }
+-- the certificate as statics sees it
+abbrev pub held : CertificateValue → statics.Certificate
+held (stands f) = statics.stands (forces_of f)
+held (collapses y) = statics.collapses (moves_of y)
+held (greatest f y) = statics.greatest (forces_of f) (moves_of y)
+held (unbounded base ray) = statics.unbounded (forces_of base) (forces_of ray)
 
--- the certificate's list of forces
-abbrev pub forces_of : CertificateValue → Forces
-forces_of c = record { scale = c.scale; factor = c.factor; parts = map part_of c.parts }
-
--- as many parts as bearings, a positive scale, the factor 0, each part within its cone of friction, and every free
--- body in balance
 abbrev pub IsTrueCertificate : Surveyed → CertificateValue → Type 0
-IsTrueCertificate s c = IsTrueStands (scene_of s) (forces_of c)
+IsTrueCertificate s c = statics.Certifies (scene_of s) (held c)

@@ -1,5 +1,8 @@
 -- What the answer of the written check shows. Its laws hold of every survey and certificate, proper or not.
 use Rattle.std.specs.Prelude.{◌≡◌, ◌⊎◌, ◌<◌, length, ⊤}
+use Rattle.stack_contact.specs.Surveyed.{Surveyed}
+use Rattle.stack_contact.specs.FreeBlocks.{frees_of}
+use Rattle.stack_certificate.specs.Certificate.{CertificateValue}
 use Rattle.stack_checker.specs.declared.types.CheckPlace.{CheckPlace}
 use Rattle.stack_checker.specs.declared.types.Part.{Part}
 use Rattle.stack_checker.specs.declared.types.Reason.{Reason}
@@ -8,9 +11,6 @@ use Rattle.stack_checker.specs.declared.types.CheckAt.{CheckAt}
 use Rattle.stack_checker.specs.declared.types.CheckAt.TheVariants as places
 use Rattle.stack_checker.specs.declared.types.Check.{Check}
 use Rattle.stack_checker.specs.declared.types.Check.TheVariants.{Accepted, Rejected, TooWide}
-use Rattle.stack_checker.specs.Surveyed.{Surveyed}
-use Rattle.stack_checker.specs.Certificate.{CertificateValue}
-use Rattle.stack_checker.specs.FreeBlocks.{frees_of}
 use Rattle.stack_checker.specs.Truth.{IsTrueCertificate}
 use Rattle.stack_checker.specs.WrittenCheck.{written_check}
 
@@ -43,11 +43,17 @@ IsReasonOf s reasons.Factor = ⊤
 IsReasonOf s (reasons.Push k) = k < length s.bearings
 IsReasonOf s (reasons.Cone k) = k < length s.bearings
 IsReasonOf s (reasons.Balance b axis) = b < length (frees_of s.structure.bodies)
+IsReasonOf s (reasons.Resisted k) = k < length s.bearings
+IsReasonOf s reasons.NoWork = ⊤
+IsReasonOf s reasons.Apart = ⊤
 
 -- so does a place
 abbrev pub IsPlaceOf : Surveyed → CheckAt → Type 0
 IsPlaceOf s (places.Cone k) = k < length s.bearings
 IsPlaceOf s (places.Balance b axis) = b < length (frees_of s.structure.bodies)
+IsPlaceOf s (places.Resisted k) = k < length s.bearings
+IsPlaceOf s places.Work = ⊤
+IsPlaceOf s places.Apart = ⊤
 
 -- and so does an answer
 abbrev pub NamesOf : Surveyed → Check → Type 0

@@ -1,62 +1,68 @@
-//! The balance of a free block.
+//! The balance of the free blocks.
 
-ghost use Rattle.std.specs.Prelude.{◌≡◌, ◌≤◌, length};
-ghost use Rattle.stack_checker.specs.declared.types.CheckAt.TheVariants as places;
+ghost use Rattle.std.specs.Prelude.{◌≡◌, ◌<◌, length};
+ghost use Rattle.stack_algebra.specs.Steps.{steps};
+ghost use Rattle.stack_contact.specs.FreeBlocks.{frees_of, free_of};
+ghost use Rattle.stack_certificate.specs.Certificate.{forces_view};
 ghost use Rattle.stack_checker.specs.declared.types.Reason.TheVariants as reasons;
-ghost use Rattle.stack_checker.specs.declared.whole.Sign.TheVariants.{Zero};
-ghost use Rattle.stack_checker.specs.Whole.{has_sign};
-ghost use Rattle.stack_checker.specs.WrittenSums.{written_sum};
-ghost use Rattle.stack_checker.specs.WrittenCheck.{demand, made_at, written_balance};
+ghost use Rattle.stack_checker.specs.declared.sign.Sign.TheVariants.{Zero};
+ghost use Rattle.stack_checker.specs.Signs.{has_sign};
+ghost use Rattle.stack_checker.specs.WrittenTests.{demand, sums_at};
+ghost use Rattle.stack_checker.specs.WrittenForces.{written_balance, balance_at};
 
-use crate::block::Block;
-use crate::stop::{Stop, place, require};
-use crate::sums::sum;
-use crate::types::{Axis, Bearing, CheckAt, Reason};
-use crate::whole::{Sign, Whole};
+use crate::sign::Sign;
+use crate::stop::{Stop, require};
+use crate::types::{CheckAt, Reason};
+use stack_certificate::types::Forces;
+use stack_contact::types::Survey;
+use stack_equilibrium::residue;
+use stack_equilibrium::types::{Axis, SumWide, Wrench};
+use stack_equilibrium::whole::Whole;
 
-/// The sum of free block number `b` along an axis, with its place.
-fn sum_at(
-    b: usize,
-    axis: Axis,
-    block: Block,
-    scale: Whole,
-    factor: Whole,
-    bearings: &[Bearing],
-    parts: &[(i128, i128)],
-) -> Result<Whole, Stop>
-    requires { length bearings.now ≤ length parts.now }
-    ensures { result ≡ made_at (written_sum axis block scale factor bearings.now parts.now)
-        (places.Balance b axis) }
+/// The three sums of free block number `b`, with their place.
+fn placed_sums(b: usize, made: Result<Wrench, SumWide>) -> Result<Wrench, Stop>
+    ensures { result ≡ sums_at b made }
 {
-    let number = sum(axis, block, scale, factor, bearings, parts);
-    place(number, CheckAt::Balance { block: b, axis })
+    match made {
+        Ok(wrench) => Ok(wrench),
+        Err(SumWide { axis }) => Err(Stop::TooWide(CheckAt::Balance { block: b, axis })),
+    }
 }
 
-/// That sum is 0.
+/// The sum of free block number `b` along an axis is 0.
 fn require_zero(b: usize, axis: Axis, number: Whole) -> Result<(), Stop>
     ensures { result ≡ demand (has_sign Zero number.value) (reasons.Balance b axis) }
 {
-    let is_zero = number.is(Sign::Zero);
-    require(is_zero, Reason::Balance { block: b, axis })
+    require(Sign::Zero.is_of(number), Reason::Balance { block: b, axis })
 }
 
-/// The three sums of free block number `b` are made, and then each is 0.
-#[tactic(auto, unfolding(crate::specs::WrittenCheck::written_balance))]
-pub fn check_balance(
-    b: usize,
-    block: Block,
-    scale: Whole,
-    factor: Whole,
-    bearings: &[Bearing],
-    parts: &[(i128, i128)],
-) -> Result<(), Stop>
-    requires { length bearings.now ≤ length parts.now }
-    ensures { result ≡ written_balance b block scale factor bearings.now parts.now }
+/// The three sums of free block number `b` are made, and each is 0.
+#[tactic(auto, unfolding(crate::specs::WrittenForces::written_balance))]
+fn check_balance(b: usize, made: Result<Wrench, SumWide>) -> Result<(), Stop>
+    ensures { result ≡ written_balance b made }
 {
-    let x = sum_at(b, Axis::X, block, scale, factor, bearings, parts)?;
-    let y = sum_at(b, Axis::Y, block, scale, factor, bearings, parts)?;
-    let m = sum_at(b, Axis::M, block, scale, factor, bearings, parts)?;
-    require_zero(b, Axis::X, x)?;
-    require_zero(b, Axis::Y, y)?;
-    require_zero(b, Axis::M, m)
+    let wrench = placed_sums(b, made)?;
+    require_zero(b, Axis::X, Whole::of(wrench.fx))?;
+    require_zero(b, Axis::Y, Whole::of(wrench.fy))?;
+    require_zero(b, Axis::M, Whole::of(wrench.m))
+}
+
+/// Free block number `b` of the survey is balanced.
+fn check_block(s: &Survey, forces: &Forces, b: usize) -> Result<(), Stop>
+    requires block { b < length (frees_of s.now.structure.bodies) }
+    requires count { length (forces_view forces.now).parts ≡ length s.now.bearings }
+    ensures { result ≡ balance_at s.now (forces_view forces.now) b tt (free_of s.now.structure.bodies b) }
+{
+    check_balance(b, residue(s, forces, b))
+}
+
+/// So is each free block, in order.
+pub fn check_blocks(s: &Survey, forces: &Forces) -> Result<(), Stop>
+    requires { length (forces_view forces.now).parts ≡ length s.now.bearings }
+    ensures { result ≡ steps (balance_at s.now (forces_view forces.now)) 0 tt (frees_of s.now.structure.bodies) }
+{
+    for b in 0..s.free_count() {
+        check_block(s, forces, b)?;
+    }
+    Ok(())
 }

@@ -2,15 +2,16 @@
 
 ghost use Rattle.std.specs.Prelude.{◌≡◌, ◌<◌, ◌≤◌, length};
 ghost use Rattle.stack_algebra.specs.Steps.{steps};
-ghost use Rattle.stack_checker.specs.WrittenCheck.{written_cone, cone_at};
+ghost use Rattle.stack_checker.specs.WrittenForces.{written_cone, cone_at};
 
-use crate::block::{Push, push_of, whole_of};
 use crate::stop::{Stop, place, require};
-use crate::types::{Bearing, CheckAt, Reason};
-use crate::whole::Whole;
+use crate::types::{CheckAt, Reason};
+use stack_contact::types::Bearing;
+use stack_equilibrium::block::{Push, push_of, whole_of};
+use stack_equilibrium::whole::Whole;
 
 /// Bearing `k` pushes, and stays within its cone of friction, `p` over `q`.
-#[tactic(auto, unfolding(crate::specs::WrittenCheck::written_cone))]
+#[tactic(auto, unfolding(crate::specs::WrittenForces::written_cone))]
 fn check_cone(k: usize, p: Whole, q: Whole, push: Push) -> Result<(), Stop>
     ensures { result ≡ written_cone k p q push }
 {

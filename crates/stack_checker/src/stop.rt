@@ -1,16 +1,24 @@
 //! Why a check ends before its last test.
 
 ghost use Rattle.std.specs.Prelude.{◌≡◌};
-ghost use Rattle.stack_checker.specs.WrittenCheck.{demand, made_at};
+ghost use Rattle.stack_checker.specs.WrittenTests.{demand, made_at};
+ghost use Rattle.stack_checker.specs.WrittenCheck.{in_part, answer_of};
 
-use crate::types::{CheckAt, Reason};
-use crate::whole::{Whole, Wide};
+use crate::types::{Check, CheckAt, CheckPlace, Part, Reason};
+use stack_equilibrium::whole::{Whole, Wide};
 
 /// The first test that fails, or the first number that passes.
 #[derive(Clone, Copy, Debug, PartialEq, Eq)]
 pub enum Stop {
     Rejected(Reason),
     TooWide(CheckAt),
+}
+
+/// The same with the part of the certificate in which it does.
+#[derive(Clone, Copy, Debug, PartialEq, Eq)]
+pub struct PartStop {
+    pub part: Part,
+    pub stop: Stop,
 }
 
 /// A test with its reason.
@@ -31,5 +39,36 @@ pub fn place(number: Result<Whole, Wide>, at: CheckAt) -> Result<Whole, Stop>
     match number {
         Ok(whole) => Ok(whole),
         Err(Wide) => Err(Stop::TooWide(at)),
+    }
+}
+
+/// The tests of a part of a certificate, with that part where they end.
+pub fn in_part(part: Part, tested: Result<(), Stop>) -> Result<(), PartStop>
+    ensures { result ≡ in_part part tested }
+{
+    match tested {
+        Ok(()) => Ok(()),
+        Err(stop) => Err(PartStop { part, stop }),
+    }
+}
+
+/// What the tests of a certificate answer.
+pub fn answer(tested: Result<(), PartStop>) -> Check
+    ensures { result ≡ answer_of tested }
+{
+    match tested {
+        Ok(()) => Check::Accepted,
+        Err(
+            PartStop {
+                part,
+                stop: Stop::Rejected(reason),
+            },
+        ) => Check::Rejected(part, reason),
+        Err(
+            PartStop {
+                part,
+                stop: Stop::TooWide(at),
+            },
+        ) => Check::TooWide(CheckPlace { part, at }),
     }
 }

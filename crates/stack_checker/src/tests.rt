@@ -1,6 +1,460 @@
-//! Tests.
+//! Certificates of structures that were worked by hand: accepted, rejected, and too wide.
 
-mod meetings;
-mod surveys;
-mod texts;
-mod verdicts;
+use crate::check;
+use crate::types::{Check, CheckAt, CheckPlace, Part, Reason};
+use stack_certificate::types::{Certificate, Forces, Motion};
+use stack_contact::survey;
+use stack_equilibrium::types::Axis;
+use stack_model::{Model, Parts, RawBlock, RawLoad, RawMaterial};
+use std::alloc::Global;
+use std::test::Fail;
+
+/// A structure of one stone of weight 1: its friction, its bodies, of which the first is fixed, and the live
+/// loads on its second body, each with its point and its force.
+#[derive(Clone, Copy)]
+struct Drawing {
+    friction: [i64; 2],
+    bodies: &'static [&'static [[i64; 2]]],
+    live: &'static [[[i64; 2]; 2]],
+}
+
+/// A list of forces: its scale, its factor and its parts.
+type Borne = (i128, i128, &'static [(i128, i128)]);
+
+type Moves = &'static [(i128, i128, i128)];
+
+/// A certificate.
+#[derive(Clone, Copy)]
+enum Claim {
+    Stands(Borne),
+    Collapses(Moves),
+    Greatest(Borne, Moves),
+    Unbounded(Borne, Borne),
+}
+
+use Claim::{Collapses, Greatest, Stands, Unbounded};
+
+const GROUND: &[[i64; 2]] = &[[-10, -1], [10, -1], [10, 0], [-10, 0]];
+
+const POST: &[[i64; 2]] = &[[0, 0], [2, 0], [2, 4], [0, 4]];
+
+const SLOPE: &[&[[i64; 2]]] = &[
+    &[[0, 0], [12, 0], [12, 9]],
+    &[[4, 3], [8, 6], [5, 10], [1, 7]],
+];
+
+/// A post, 2 wide and 4 high, on level ground. It weighs 48 sixths.
+const STANDING: Drawing = Drawing {
+    friction: [1, 1],
+    bodies: &[GROUND, POST],
+    live: &[],
+};
+/// The post is pushed to the right at its upper left corner.
+const PUSHED: Drawing = Drawing {
+    live: &[[[0, 4], [1, 0]]],
+    ..STANDING
+};
+/// The same where the post slides before it tips.
+const SLIDING: Drawing = Drawing {
+    friction: [1, 10],
+    ..PUSHED
+};
+/// The post is pressed down in its middle.
+const PRESSED: Drawing = Drawing {
+    live: &[[[1, 4], [0, -1]]],
+    ..STANDING
+};
+/// The post is pushed from both sides.
+const HELD: Drawing = Drawing {
+    live: &[[[0, 4], [1, 0]], [[0, 4], [-1, 0]]],
+    ..STANDING
+};
+/// A post in the air.
+const FALLING: Drawing = Drawing {
+    bodies: &[GROUND, &[[0, 1], [2, 1], [2, 5], [0, 5]]],
+    ..STANDING
+};
+/// A block that touches its base at a corner.
+const TOUCHING: Drawing = Drawing {
+    bodies: &[
+        &[[-4, -4], [0, -4], [0, 0], [-4, 0]],
+        &[[0, 0], [2, 0], [2, 2], [0, 2]],
+    ],
+    ..STANDING
+};
+/// A stone on its point, pushed at its top.
+const POINTED: Drawing = Drawing {
+    bodies: &[GROUND, &[[0, 0], [2, 2], [0, 4], [-2, 2]]],
+    ..PUSHED
+};
+/// A cube on a slope of 3 in 4, just holding.
+const ROUGH_SLOPE: Drawing = Drawing {
+    friction: [3, 4],
+    bodies: SLOPE,
+    live: &[],
+};
+/// The same, sliding.
+const SLICK_SLOPE: Drawing = Drawing {
+    friction: [7, 10],
+    ..ROUGH_SLOPE
+};
+/// Four bricks in stack bond.
+const WALL: Drawing = Drawing {
+    friction: [1, 2],
+    bodies: &[
+        GROUND,
+        &[[0, 0], [2, 0], [2, 1], [0, 1]],
+        &[[2, 0], [4, 0], [4, 1], [2, 1]],
+        &[[0, 1], [2, 1], [2, 2], [0, 2]],
+        &[[2, 1], [4, 1], [4, 2], [2, 2]],
+    ],
+    live: &[],
+};
+
+const MOST: i128 = 170141183460469231731687303715884105727;
+
+const LARGE: i128 = 1000000000000000000000000000000000000;
+
+/// The forces that carry the standing post, and those with which the pushed post tips.
+const UPRIGHT: Borne = (1, 0, &[(24, 0), (24, 0)]);
+
+const TIPPING: Borne = (1, 2, &[(0, 0), (48, -12)]);
+
+const TIPS: Moves = &[(0, 2, -1)];
+
+fn numbers(alloc: Global, list: &[i64]) -> Result<Vec<i64>, Fail> {
+    Ok(list.to_vec(alloc)?)
+}
+
+fn text(alloc: Global, word: &str) -> Result<String, Fail> {
+    Ok(String::from_str(alloc, word)?)
+}
+
+fn stone(alloc: Global, friction: [i64; 2]) -> Result<RawMaterial, Fail> {
+    Ok(RawMaterial {
+        name: text(alloc, "stone")?,
+        weight: 1,
+        friction: numbers(alloc, friction.as_slice())?,
+    })
+}
+
+fn body(alloc: Global, number: usize, outline: &[[i64; 2]]) -> Result<RawBlock, Fail> {
+    let mut corners = Vec::new(alloc);
+    for corner in outline {
+        corners.push(numbers(alloc, corner.as_slice())?)?;
+    }
+    Ok(RawBlock {
+        name: format!(in alloc; "{number}")?,
+        material: text(alloc, "stone")?,
+        fixed: number == 0,
+        corners,
+    })
+}
+
+fn live_load(alloc: Global, load: [[i64; 2]; 2]) -> Result<RawLoad, Fail> {
+    Ok(RawLoad {
+        block: text(alloc, "1")?,
+        kind: text(alloc, "live")?,
+        at: numbers(alloc, load[0].as_slice())?,
+        force: numbers(alloc, load[1].as_slice())?,
+    })
+}
+
+fn model_of(alloc: Global, drawing: Drawing) -> Result<Model, Fail> {
+    let mut materials = Vec::new(alloc);
+    materials.push(stone(alloc, drawing.friction)?)?;
+    let mut blocks = Vec::new(alloc);
+    for (number, outline) in drawing.bodies.iter().enumerate() {
+        blocks.push(body(alloc, number, outline)?)?;
+    }
+    let mut loads = Vec::new(alloc);
+    for load in drawing.live {
+        loads.push(live_load(alloc, *load)?)?;
+    }
+    Ok(Model::new(
+        alloc,
+        Parts {
+            materials,
+            blocks,
+            loads,
+        },
+    )?)
+}
+
+fn forces(alloc: Global, borne: Borne) -> Result<Forces, Fail> {
+    let (scale, factor, parts) = borne;
+    Ok(Forces {
+        scale,
+        factor,
+        parts: parts.to_vec(alloc)?,
+    })
+}
+
+fn motion(alloc: Global, moves: Moves) -> Result<Motion, Fail> {
+    Ok(Motion {
+        moves: moves.to_vec(alloc)?,
+    })
+}
+
+fn certificate(alloc: Global, claim: Claim) -> Result<Certificate, Fail> {
+    Ok(match claim {
+        Stands(borne) => Certificate::Stands(forces(alloc, borne)?),
+        Collapses(moves) => Certificate::Collapses(motion(alloc, moves)?),
+        Greatest(borne, moves) => {
+            Certificate::Greatest(forces(alloc, borne)?, motion(alloc, moves)?)
+        }
+        Unbounded(base, ray) => Certificate::Unbounded(forces(alloc, base)?, forces(alloc, ray)?),
+    })
+}
+
+fn checked(alloc: Global, drawing: Drawing, claim: Claim) -> Result<Check, Fail> {
+    let survey = survey(alloc, model_of(alloc, drawing)?)?;
+    Ok(check(&survey, &certificate(alloc, claim)?))
+}
+
+fn first(reason: Reason) -> Check {
+    Check::Rejected(Part::First, reason)
+}
+
+fn second(reason: Reason) -> Check {
+    Check::Rejected(Part::Second, reason)
+}
+
+fn first_wide(at: CheckAt) -> Check {
+    Check::TooWide(CheckPlace {
+        part: Part::First,
+        at,
+    })
+}
+
+fn second_wide(at: CheckAt) -> Check {
+    Check::TooWide(CheckPlace {
+        part: Part::Second,
+        at,
+    })
+}
+
+fn balance(axis: Axis) -> Reason {
+    Reason::Balance { block: 0, axis }
+}
+
+fn balance_place(axis: Axis) -> CheckAt {
+    CheckAt::Balance { block: 0, axis }
+}
+
+#[test]
+fn true_certificates_are_accepted(rt: HostRuntime) -> Result<(), Fail> {
+    let rows = [
+        (STANDING, Stands(UPRIGHT)),
+        (PUSHED, Greatest(TIPPING, TIPS)),
+        (
+            SLIDING,
+            Greatest((25, 20, &[(360, -36), (840, -84)]), &[(10, 1, 0)]),
+        ),
+        (PRESSED, Unbounded(UPRIGHT, (0, 1, &[(3, 0), (3, 0)]))),
+        (HELD, Unbounded(UPRIGHT, (0, 1, &[(0, 0), (0, 0)]))),
+        (POINTED, Greatest((1, 0, &[(48, 0)]), &[(0, 0, -1)])),
+        (ROUGH_SLOPE, Stands((4, 0, &[(84, 63), (12, 9)]))),
+        (SLICK_SLOPE, Collapses(&[(-61, -2, 0)])),
+        (FALLING, Collapses(&[(0, -1, 0)])),
+        (TOUCHING, Collapses(&[(0, -1, 0)])),
+        (
+            WALL,
+            Stands((
+                1,
+                0,
+                &[
+                    (12, 0),
+                    (12, 0),
+                    (12, 0),
+                    (12, 0),
+                    (0, 0),
+                    (0, 0),
+                    (6, 0),
+                    (6, 0),
+                    (6, 0),
+                    (6, 0),
+                    (0, 0),
+                    (0, 0),
+                ],
+            )),
+        ),
+    ];
+    for (drawing, claim) in rows {
+        assert_eq!(rt; checked(rt.alloc(), drawing, claim)?, Check::Accepted);
+    }
+    Ok(())
+}
+
+#[test]
+fn changed_copies_are_rejected(rt: HostRuntime) -> Result<(), Fail> {
+    let rows = [
+        (
+            PUSHED,
+            Greatest((1, 2, &[(0, 0), (49, -12)]), TIPS),
+            first(balance(Axis::Y)),
+        ),
+        (
+            PUSHED,
+            Greatest((1, 2, &[(0, 0), (48, -49)]), TIPS),
+            first(Reason::Cone { k: 1 }),
+        ),
+        (
+            PUSHED,
+            Greatest((1, 2, &[(-1, 0), (48, -12)]), TIPS),
+            first(Reason::Push { k: 0 }),
+        ),
+        (
+            PUSHED,
+            Greatest((1, 2, &[(48, -12)]), TIPS),
+            first(Reason::Count),
+        ),
+        (
+            PUSHED,
+            Greatest((0, 2, &[(0, 0), (48, -12)]), TIPS),
+            first(Reason::Scale),
+        ),
+        (
+            PUSHED,
+            Greatest((1, -2, &[(0, 0), (48, -12)]), TIPS),
+            first(Reason::Factor),
+        ),
+        (
+            PUSHED,
+            Greatest(TIPPING, &[(0, 0, 0)]),
+            second(Reason::NoWork),
+        ),
+        (PUSHED, Greatest(UPRIGHT, TIPS), second(Reason::Apart)),
+        (PUSHED, Stands(TIPPING), first(Reason::Factor)),
+        (
+            SLIDING,
+            Greatest((25, 20, &[(360, -36), (840, -84)]), &[(1, 0, 0)]),
+            second(Reason::Resisted { k: 0 }),
+        ),
+        (
+            PRESSED,
+            Unbounded(UPRIGHT, (1, 1, &[(3, 0), (3, 0)])),
+            second(Reason::Scale),
+        ),
+        (
+            PRESSED,
+            Unbounded(UPRIGHT, (0, 0, &[(3, 0), (3, 0)])),
+            second(Reason::Factor),
+        ),
+        (
+            SLICK_SLOPE,
+            Stands((4, 0, &[(84, 63), (12, 9)])),
+            first(Reason::Cone { k: 0 }),
+        ),
+        (
+            ROUGH_SLOPE,
+            Collapses(&[(-61, -2, 0)]),
+            first(Reason::Resisted { k: 0 }),
+        ),
+        (
+            STANDING,
+            Collapses(&[(0, -1, 0)]),
+            first(Reason::Resisted { k: 0 }),
+        ),
+        (
+            FALLING,
+            Collapses(&[(0, -1, 0), (0, -1, 0)]),
+            first(Reason::Count),
+        ),
+        (FALLING, Collapses(&[(0, 1, 0)]), first(Reason::NoWork)),
+        (
+            WALL,
+            Stands((
+                1,
+                0,
+                &[
+                    (6, 0),
+                    (6, 0),
+                    (6, 0),
+                    (6, 0),
+                    (0, 0),
+                    (0, 0),
+                    (6, 0),
+                    (6, 0),
+                    (6, 0),
+                    (6, 0),
+                    (0, 0),
+                    (0, 0),
+                ],
+            )),
+            first(balance(Axis::Y)),
+        ),
+    ];
+    for (drawing, claim, answer) in rows {
+        assert_eq!(rt; checked(rt.alloc(), drawing, claim)?, answer);
+    }
+    Ok(())
+}
+
+#[test]
+fn the_first_number_that_is_too_wide_is_told(rt: HostRuntime) -> Result<(), Fail> {
+    let rows = [
+        (
+            ROUGH_SLOPE,
+            Stands((1, 0, &[(MOST, 0), (0, 0)])),
+            first_wide(CheckAt::Cone { k: 0 }),
+        ),
+        (
+            ROUGH_SLOPE,
+            Unbounded((4, 0, &[(84, 63), (12, 9)]), (0, 1, &[(0, 0), (MOST, 0)])),
+            second_wide(CheckAt::Cone { k: 1 }),
+        ),
+        (
+            STANDING,
+            Stands((1, 0, &[(MOST, MOST), (MOST, MOST)])),
+            first_wide(balance_place(Axis::X)),
+        ),
+        (
+            STANDING,
+            Stands((1, 0, &[(MOST, 0), (MOST, 0)])),
+            first_wide(balance_place(Axis::Y)),
+        ),
+        (
+            STANDING,
+            Stands((1, 0, &[(0, 0), (MOST, 1)])),
+            first_wide(balance_place(Axis::M)),
+        ),
+        (
+            PRESSED,
+            Unbounded(UPRIGHT, (0, 1, &[(MOST, 0), (MOST, 0)])),
+            second_wide(balance_place(Axis::Y)),
+        ),
+        (
+            STANDING,
+            Collapses(&[(0, 0, MOST)]),
+            first_wide(CheckAt::Resisted { k: 1 }),
+        ),
+        (
+            PUSHED,
+            Greatest(TIPPING, &[(0, 0, MOST)]),
+            second_wide(CheckAt::Resisted { k: 1 }),
+        ),
+        (
+            FALLING,
+            Collapses(&[(0, MOST, 0)]),
+            first_wide(CheckAt::Work),
+        ),
+        (
+            PUSHED,
+            Greatest(TIPPING, &[(0, MOST, 0)]),
+            second_wide(CheckAt::Work),
+        ),
+        (
+            PUSHED,
+            Greatest(
+                (LARGE, 2 * LARGE, &[(0, 0), (48 * LARGE, -12 * LARGE)]),
+                &[(0, 8, -4)],
+            ),
+            second_wide(CheckAt::Apart),
+        ),
+    ];
+    for (drawing, claim, answer) in rows {
+        assert_eq!(rt; checked(rt.alloc(), drawing, claim)?, answer);
+    }
+    Ok(())
+}

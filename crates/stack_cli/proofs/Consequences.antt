@@ -3,14 +3,14 @@ use Rattle.std.proofs.Common.{◌≡◌, ℕ, zero, suc, ◌<◌, ◌≤◌, ◌
 use Rattle.std.specs.Bool.{⊤}
 use Rattle.std.specs.Io.KnownBytes.{Appends, Keeps}
 use Rattle.stack_cli.specs.declared.refusal.Input.TheVariants as inputs
-use Rattle.stack_cli.specs.Words.{Form, check}
-use Rattle.stack_cli.specs.Refusals.{Refusal, words, file, output, memory, status_of, line_of}
+use Rattle.stack_cli.specs.Words.{Form, check, contacts}
+use Rattle.stack_cli.specs.Refusals.{Refusal, words, file, output, memory, status_of}
 use Rattle.stack_cli.specs.AnswerText.{Due, exactly, verdict_status}
-use Rattle.stack_cli.specs.Outcome.{Step, goes, refuses, untold, outcome, wanted, check_outcome}
-use Rattle.stack_cli.specs.Progress.{Stops, Names, AsksFront}
-use Rattle.stack_cli.specs.MainTheorem.{Bytes, Answered, OutputAfter, Cause, Refused, IsDecided, RunMeets, with_line_feed}
+use Rattle.stack_cli.specs.Outcome.{Step, goes, refuses, untold, Found, IsFoundFor, outcome, wanted, check_outcome, contacts_outcome}
+use Rattle.stack_cli.specs.Progress.{Stops, Names, AsksFront, Bytes, SaysLine}
+use Rattle.stack_cli.specs.MainTheorem.{Answered, OutputAfter, Cause, Refused, IsDecided, RunMeets}
 use Rattle.stack_cli.proofs.FilesAsked.{named}
-use Rattle.stack_cli.proofs.LaterRefusals.{check_outcome_past_words, no_words}
+use Rattle.stack_cli.proofs.LaterRefusals.{check_outcome_past_words, contacts_outcome_past_words, no_words}
 
 -- The refusal of a step that refuses, else this one.
 abbrev refusal_or : Refusal → Step Due → Refusal
@@ -28,10 +28,14 @@ HasNone None = ⊤
 HasNone (Some form) = ⊥
 
 -- Only words without a form are refused for the words.
-no_form_stops : (form : Option Form) (holds : List ℕ → Option (List ℕ)) → Stops words (outcome form holds) → form ≡ None
-no_form_stops None holds stops = refl
-no_form_stops (Some (check model certificate)) holds stops =
-    absurd (no_words (check_outcome model certificate holds) (check_outcome_past_words model certificate holds) stops)
+no_form_stops : (found : Found) (form : Option Form) (holds : List ℕ → Option (List ℕ))
+    → Stops words (outcome found form holds) → form ≡ None
+no_form_stops found None holds stops = refl
+no_form_stops found (Some (check model certificate)) holds stops =
+    absurd (no_words (check_outcome found model certificate holds)
+    (check_outcome_past_words found model certificate holds) stops)
+no_form_stops found (Some (contacts model)) holds stops =
+    absurd (no_words (contacts_outcome found model holds) (contacts_outcome_past_words found model holds) stops)
 
 -- A run with these names and bytes before and after it, whose devices failed or not.
 module _ (asked asked_after : Names) (out out_after err err_after : Bytes) (S O E : Type 0) where
@@ -56,7 +60,7 @@ module _ (asked asked_after : Names) (out out_after err err_after : Bytes) (S O 
 
   -- The line of a refusal, where the error stream didn't fail.
   abbrev Says : Refusal → Type 0
-  Says r = ¬ E → Appends err err_after (with_line_feed (line_of r))
+  Says r = SaysLine r err err_after E
 
   same_refusal : (status : ℕ) (r q : Refusal) → status ≡ status_of r → q ≡ r → Keeps out out_after → Says r
       → Decides status (refuses q)
@@ -108,35 +112,38 @@ module _ (asked asked_after : Names) (out out_after err err_after : Bytes) (S O 
   words_or_memory memory status is cause kept = inr is
   words_or_memory _ status is cause kept = inl (is ∙ ap status_of (sym (ap (refusal_or words) cause)))
 
-  without_form : (form : Option Form) (holds : List ℕ → Option (List ℕ)) (status : ℕ)
-      → (status < 2 → Answers status (outcome form holds))
-      → (2 ≤ status → Refusing status (outcome form holds) (wanted form holds))
+  without_form : (found : Found) (form : Option Form) (holds : List ℕ → Option (List ℕ)) (status : ℕ)
+      → (status < 2 → Answers status (outcome found form holds))
+      → (2 ≤ status → Refusing status (outcome found form holds) (wanted found form holds))
       → form ≡ None → (status ≡ 2) ⊎ (status ≡ 11)
-  without_form (Some form) holds status answered refused none = absurd (subst HasNone (sym none) tt)
-  without_form None holds zero answered refused none = let a = answered (omega arith) in absurd a.is_due
-  without_form None holds (suc zero) answered refused none = let a = answered (omega arith) in absurd a.is_due
-  without_form None holds (suc (suc n)) answered refused none =
+  without_form found (Some form) holds status answered refused none = absurd (subst HasNone (sym none) tt)
+  without_form found None holds zero answered refused none = let a = answered (omega arith) in absurd a.is_due
+  without_form found None holds (suc zero) answered refused none = let a = answered (omega arith) in absurd a.is_due
+  without_form found None holds (suc (suc n)) answered refused none =
       let f = refused (omega arith) in words_or_memory f.refusal _ f.is_status f.cause f.on_output
 
-  pub meets : (form : Option Form) (holds : List ℕ → Option (List ℕ)) (status : ℕ)
-      → (status < 2 → Answers status (outcome form holds))
-      → (2 ≤ status → Refusing status (outcome form holds) (wanted form holds))
-      → AsksFront asked asked_after (wanted form holds)
+  pub meets : (found : Found) (form : Option Form) (holds : List ℕ → Option (List ℕ)) (status : ℕ)
+      → IsFoundFor found form holds
+      → (status < 2 → Answers status (outcome found form holds))
+      → (2 ≤ status → Refusing status (outcome found form holds) (wanted found form holds))
+      → AsksFront asked asked_after (wanted found form holds)
       → RunMeets status form holds asked asked_after out out_after err err_after S O E
-  meets form holds status answered refused asks = record {
+  meets found form holds status is_found answered refused asks = record {
+    found = found;
+    is_found = is_found;
     answered = answered;
     refused = refused;
     asks_wanted = asks;
-    asks_named = named form holds asked asked_after asks;
-    decided = decides status (outcome form holds) (wanted form holds) answered refused;
-    without_form = without_form form holds status answered refused;
+    asks_named = named found form holds asked asked_after asks;
+    decided = decides status (outcome found form holds) (wanted found form holds) answered refused;
+    without_form = without_form found form holds status answered refused;
     only_without_form = λ two.
         let f = refused (omega arith) in
-        no_form_stops form holds (words_of f.refusal _ (wanted form holds) (sym two ∙ f.is_status) f.cause);
+        no_form_stops found form holds (words_of f.refusal _ (wanted found form holds) (sym two ∙ f.is_status) f.cause);
     shelf_failed = λ three.
         let f = refused (omega arith) in
-        shelf_of f.refusal (outcome form holds) (wanted form holds) (sym three ∙ f.is_status) f.cause;
+        shelf_of f.refusal (outcome found form holds) (wanted found form holds) (sym three ∙ f.is_status) f.cause;
     output_failed = λ ten.
         let f = refused (omega arith) in
-        output_of f.refusal (outcome form holds) (wanted form holds) (sym ten ∙ f.is_status) f.cause;
+        output_of f.refusal (outcome found form holds) (wanted found form holds) (sym ten ∙ f.is_status) f.cause;
   }

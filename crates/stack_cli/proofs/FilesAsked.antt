@@ -1,13 +1,13 @@
 -- The files that the steps of the work ask for, put together: what each asked for is a front of what is wanted.
-use Rattle.std.proofs.Common.{◌≡◌, Bool, false, ℕ, zero, suc, List, [], ◌∷◌, ◌++◌, take, true, Option, Some, None, Result, Ok, Err, ap, ◌∙◌, append_assoc, arith}
-use Rattle.stack_checker.specs.declared.types.Survey.{Survey}
+use Rattle.std.proofs.Common.{◌≡◌, Bool, false, ℕ, zero, suc, List, [], ◌∷◌, ◌++◌, take, true, Option, Some, None, Result, Ok, Err, ap, sym, ◌∙◌, append_assoc, append-nil, arith}
+use Rattle.stack_contact.specs.Surveyed.{Surveyed}
 use Rattle.stack_cli.specs.declared.answer.Answer.{Answer}
 use Rattle.stack_cli.specs.declared.refusal.Input.TheVariants as inputs
 use Rattle.stack_cli.specs.declared.refusal.Refusal.{Refusal}
 use Rattle.stack_cli.specs.declared.refusal.Refusal.TheVariants.{File, Memory}
 use Rattle.std.specs.Prelude.{if◌then◌else◌}
-use Rattle.stack_cli.specs.Words.{Form, check, files_of}
-use Rattle.stack_cli.specs.Outcome.{goes_on, surveyed, check_wanted, wanted}
+use Rattle.stack_cli.specs.Words.{Form, check, contacts, files_of}
+use Rattle.stack_cli.specs.Outcome.{Found, goes_on, surveyed, check_wanted, wanted}
 use Rattle.stack_cli.specs.Progress.{Names, GrewBy, AsksFront, AsksFile, AsksFiles, FailsAt, Fails}
 
 grew_more : (old mid new : Names) (xs ys : List (List ℕ)) → GrewBy old mid xs → GrewBy mid new ys
@@ -24,7 +24,7 @@ front_of_one (suc zero) old new name rest h = (1, h)
 front_of_one (suc (suc k)) old new name rest h = (1, h)
 
 -- A file that was read was asked for, whatever came after without another read.
-pub was_asked : (result : Result Answer Refusal) (old new : Names) (name : List ℕ)
+pub was_asked : {X : Type 0} (result : Result X Refusal) (old new : Names) (name : List ℕ)
     → Fails result ⊥ → GrewBy old new (name ∷ []) → AsksFile result old new name
 was_asked (Ok a) old new name none h = h
 was_asked (Err Memory) old new name none h = (1, h)
@@ -33,19 +33,19 @@ was_asked (Err _) old new name none h = h
 
 -- The work refused at its first file.
 pub first_only : (r : Refusal) (P : Type 0) (old new : Names) (name : List ℕ) (rest : List (List ℕ))
-    → AsksFile {X = Survey} (Err r) old new name → FailsAt {X = Survey} inputs.Model (Err r) P
+    → AsksFile {X = Surveyed} (Err r) old new name → FailsAt {X = Surveyed} inputs.Model (Err r) P
     → AsksFiles {X = Answer} (Err r) old new (name ∷ rest)
 first_only (File input) P old new name rest asked fails =
     let e : input ≡ inputs.Model = fails.0 in rw e (omega arith, asked)
 first_only Memory P old new name rest asked fails = front_of_one asked.0 old new name rest asked.1
 first_only _ P old new name rest asked fails = (1, asked)
 
-pub first_of_two : (r : Refusal) (P : Type 0) (old new : Names) (model certificate : List ℕ)
+pub first_of_two : (r : Refusal) (P : Type 0) (old new : Names) (found : Found) (model certificate : List ℕ)
     (holds : List ℕ → Option (List ℕ))
-    → AsksFile {X = Survey} (Err r) old new model → FailsAt {X = Survey} inputs.Model (Err r) P
-    → AsksFiles {X = Answer} (Err r) old new (check_wanted model certificate holds)
+    → AsksFile {X = Surveyed} (Err r) old new model → FailsAt {X = Surveyed} inputs.Model (Err r) P
+    → AsksFiles {X = Answer} (Err r) old new (check_wanted found model certificate holds)
 unfolding check_wanted
-first_of_two r P old new model certificate holds asked fails = first_only r P old new model _ asked fails
+first_of_two r P old new found model certificate holds asked fails = first_only r P old new model _ asked fails
 
 -- The work asked for its second file.
 second : (result : Result Answer Refusal) (P : Type 0) (old mid new : Names) (model certificate : List ℕ)
@@ -61,12 +61,12 @@ second (Err Memory) P old mid new model certificate before asked fails =
 second (Err _) P old mid new model certificate before asked fails =
     (2, grew_more old mid new (model ∷ []) (certificate ∷ []) before asked)
 
-pub both : (result : Result Answer Refusal) (P : Type 0) (old mid new : Names) (model certificate : List ℕ)
-    (holds : List ℕ → Option (List ℕ)) → goes_on (surveyed (holds model)) ≡ true
+pub both : (result : Result Answer Refusal) (P : Type 0) (old mid new : Names) (found : Found)
+    (model certificate : List ℕ) (holds : List ℕ → Option (List ℕ)) → goes_on (surveyed found (holds model)) ≡ true
     → GrewBy old mid (model ∷ []) → AsksFile result mid new certificate
-    → FailsAt inputs.Certificate result P → AsksFiles result old new (check_wanted model certificate holds)
+    → FailsAt inputs.Certificate result P → AsksFiles result old new (check_wanted found model certificate holds)
 unfolding check_wanted
-both result P old mid new model certificate holds on before asked fails =
+both result P old mid new found model certificate holds on before asked fails =
     rw on (second result P old mid new model certificate before asked fails)
 
 -- The files that are wanted are a front of those that the words name.
@@ -76,9 +76,22 @@ named_of : (on : Bool) (old new : Names) (model certificate : List ℕ)
 named_of true old new model certificate h = h
 named_of false old new model certificate h = front_of_one h.0 old new model (certificate ∷ []) h.1
 
-pub named : (form : Option Form) (holds : List ℕ → Option (List ℕ)) (old new : Names)
-    → AsksFront old new (wanted form holds) → AsksFront old new (files_of form)
+pub named : (found : Found) (form : Option Form) (holds : List ℕ → Option (List ℕ)) (old new : Names)
+    → AsksFront old new (wanted found form holds) → AsksFront old new (files_of form)
 unfolding check_wanted
-named None holds old new h = h
-named (Some (check model certificate)) holds old new h =
-    named_of (goes_on (surveyed (holds model))) old new model certificate h
+named found None holds old new h = h
+named found (Some (check model certificate)) holds old new h =
+    named_of (goes_on (surveyed found (holds model))) old new model certificate h
+named found (Some (contacts model)) holds old new h = h
+
+-- A file was read, and nothing after it.
+pub one_asked : (result : Result Answer Refusal) (old new : Names) (name : List ℕ) → Fails result ⊥
+    → GrewBy old new (name ∷ []) → AsksFiles result old new (name ∷ [])
+one_asked (Ok a) old new name none h = (1, h)
+one_asked (Err (File input)) old new name none h = absurd none
+one_asked (Err _) old new name none h = (1, h)
+
+-- Nothing was asked for.
+pub none_asked : (old : Names) → GrewBy old old []
+none_asked None = tt
+none_asked (Some names) = sym (append-nil names)

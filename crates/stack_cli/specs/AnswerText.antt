@@ -1,11 +1,11 @@
--- What goes to standard output: the answer of a check, with the status that it has. A further form of words has
--- further answers.
+-- What goes to standard output: the answer of a check or the table of contacts, with the status that it has. A further
+-- form of words has further answers.
 use Rattle.std.specs.Prelude.{◌≡◌, ℕ, ◌+◌, List, [], ◌∷◌, ◌++◌, codes, decimal, slice_index, length, nat_lt, if◌then◌else◌}
 use Rattle.stack_model.specs.Structure.{Structure, body_of}
-use Rattle.stack_checker.specs.FreeBlocks.{frees_of}
+use Rattle.stack_contact.specs.FreeBlocks.{frees_of}
 use Rattle.stack_checker.specs.declared.types.Part.{Part}
 use Rattle.stack_checker.specs.declared.types.Reason.{Reason}
-use Rattle.stack_checker.specs.declared.types.Reason.TheVariants.{Count, Scale, Factor, Push, Cone, Balance}
+use Rattle.stack_checker.specs.declared.types.Reason.TheVariants as reasons
 use Rattle.stack_cli.specs.Refusals.{part_word, axis_word}
 use Rattle.stack_cli.specs.declared.answer.Verdict.{Verdict}
 use Rattle.stack_cli.specs.declared.answer.Verdict.TheVariants.{Affirmed, Denied}
@@ -23,12 +23,15 @@ block_name s block =
 
 -- Why a certificate is rejected. A bearing is told by its number from 1, a block by its name.
 abbrev pub reason_text : Structure → Reason → List ℕ
-reason_text s Count = codes "count"
-reason_text s Scale = codes "scale"
-reason_text s Factor = codes "factor"
-reason_text s (Push k) = codes "push " ++ decimal (k + 1)
-reason_text s (Cone k) = codes "cone " ++ decimal (k + 1)
-reason_text s (Balance block axis) = codes "balance " ++ block_name s block ++ codes " " ++ axis_word axis
+reason_text s reasons.Count = codes "count"
+reason_text s reasons.Scale = codes "scale"
+reason_text s reasons.Factor = codes "factor"
+reason_text s (reasons.Push k) = codes "push " ++ decimal (k + 1)
+reason_text s (reasons.Cone k) = codes "cone " ++ decimal (k + 1)
+reason_text s (reasons.Balance block axis) = codes "balance " ++ block_name s block ++ codes " " ++ axis_word axis
+reason_text s (reasons.Resisted k) = codes "resisted " ++ decimal (k + 1)
+reason_text s reasons.NoWork = codes "no work"
+reason_text s reasons.Apart = codes "apart"
 
 -- The answers of a check.
 abbrev pub accepted_text : List ℕ

@@ -5,13 +5,15 @@ use Rattle.std.specs.declared.alloc.Global.{Global}
 use Rattle.stack_cli.specs.declared.words.Form.{Form as CodeForm}
 use Rattle.stack_cli.specs.declared.words.Form.TheVariants as code
 
--- What the words ask for: `check MODEL CERT`, with any two words as the names of the files.
+-- What the words ask for: `check MODEL CERT` or `contacts MODEL`, with any words as the names of the files.
 pub data Form : Type 0 where
   check : List ℕ → List ℕ → Form
+  contacts : List ℕ → Form
 
 -- The form that the code holds, by bytes.
 abbrev pub form_view : CodeForm → Form
 form_view (code.Check model certificate) = check model.now certificate.now
+form_view (code.Contacts model) = contacts model.now
 
 -- The words, as bytes.
 abbrev pub texts : List (String Global) → List (List ℕ)
@@ -19,11 +21,17 @@ texts words = map string_bytes words
 
 -- The form of the words, if they have one.
 abbrev pub form_of : List (List ℕ) → Option Form
+form_of (word ∷ model ∷ []) = if bytes_eq word (codes "contacts") then Some (contacts model) else None
 form_of (word ∷ model ∷ certificate ∷ []) =
     if bytes_eq word (codes "check") then Some (check model certificate) else None
 form_of _ = None
 
--- The files of a form in the order of work.
+-- The model's file, which comes first, and all files of a form in the order of work.
+abbrev pub model_of : Form → List ℕ
+model_of (check model certificate) = model
+model_of (contacts model) = model
+
 abbrev pub files_of : Option Form → List (List ℕ)
 files_of None = []
 files_of (Some (check model certificate)) = model ∷ certificate ∷ []
+files_of (Some (contacts model)) = model ∷ []

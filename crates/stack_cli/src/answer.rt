@@ -1,13 +1,14 @@
-//! The answers of a check, as text.
+//! The answers, as text.
 
 ghost use Rattle.std.specs.Prelude.{◌≡◌, IfOk, string_bytes};
-ghost use Rattle.stack_checker.specs.Surveyed.{survey_view};
 ghost use Rattle.stack_cli.specs.AnswerText.{verdict_status, block_name as name_of_block, rejected_text};
 ghost use Rattle.stack_cli.specs.Refusals.{place_view};
 ghost use Rattle.stack_cli.specs.Outcome.{place_of};
 
-use crate::refusal::{BlockSum, Place, number, part_text};
-use stack_checker::types::{CheckAt, Part, Reason, Survey};
+use crate::model_lines::number;
+use crate::refusal::{BlockSum, Place, part_text};
+use stack_checker::types::{CheckAt, Part, Reason};
+use stack_contact::types::Survey;
 use std::alloc::{AllocError, Global};
 
 /// What an answer says.
@@ -40,7 +41,7 @@ pub struct Answer {
 
 /// The name of a free block, counted from 0 among the free blocks; empty where there is none. Takes no memory.
 pub fn block_name(survey: &Survey, block: usize) -> &str
-    ensures { result.now ≡ name_of_block (survey_view survey.now).structure block }
+    ensures { result.now ≡ name_of_block survey.now.structure block }
 {
     if block < survey.free_count() {
         survey.model().name(survey.free(block))
@@ -56,7 +57,7 @@ pub fn rejection(
     part: Part,
     reason: Reason,
 ) -> Result<String, AllocError>
-    ensures { IfOk result (λ s. string_bytes s ≡ rejected_text (survey_view survey.now).structure part reason) }
+    ensures { IfOk result (λ s. string_bytes s ≡ rejected_text survey.now.structure part reason) }
 {
     let part = part_text(part);
     match reason {
@@ -70,12 +71,15 @@ pub fn rejection(
             let sum = BlockSum { name, axis };
             format!(in alloc; "rejected {part} {sum}\n")
         }
+        Reason::Resisted { k } => format!(in alloc; "rejected {part} resisted {}\n", number(k)),
+        Reason::NoWork => format!(in alloc; "rejected {part} no work\n"),
+        Reason::Apart => format!(in alloc; "rejected {part} apart\n"),
     }
 }
 
-/// The place of a sum that is too wide, with the block's name.
+/// The place of a number that is too wide, with the block's name.
 pub fn wide_place(alloc: Global, survey: &Survey, at: CheckAt) -> Result<Place, AllocError>
-    ensures { IfOk result (λ p. place_view p ≡ place_of (survey_view survey.now).structure at) }
+    ensures { IfOk result (λ p. place_view p ≡ place_of survey.now.structure at) }
 {
     match at {
         CheckAt::Cone { k } => Ok(Place::Cone { k }),
@@ -83,5 +87,8 @@ pub fn wide_place(alloc: Global, survey: &Survey, at: CheckAt) -> Result<Place, 
             name: String::from_str(alloc, block_name(survey, block))?,
             axis,
         }),
+        CheckAt::Resisted { k } => Ok(Place::Resisted { k }),
+        CheckAt::Work => Ok(Place::Work),
+        CheckAt::Apart => Ok(Place::Apart),
     }
 }

@@ -1,14 +1,14 @@
 //! The top call.
 
-ghost use Rattle.std.specs.Prelude.{◌≡◌, ◌<◌, ◌≤◌, ◌⊎◌};
+ghost use Rattle.std.specs.Prelude.{◌≡◌, ◌⊎◌};
 ghost use Rattle.std.specs.Io.KnownBytes.{Appends};
 ghost use Rattle.stack_outside.specs.Faults.{Rose};
 ghost use Rattle.stack_cli.specs.Refusals.{line_of, refusal_view};
 ghost use Rattle.stack_cli.specs.Words.{form_of, texts};
-ghost use Rattle.stack_cli.specs.Outcome.{outcome, wanted};
-ghost use Rattle.stack_cli.specs.Progress.{AsksFront};
-ghost use Rattle.stack_cli.specs.MainTheorem.{Answered, Refused, RunMeets, with_line_feed};
+ghost use Rattle.stack_cli.specs.Progress.{Delivers, SaysLine};
+ghost use Rattle.stack_cli.specs.MainTheorem.{RunMeets};
 
+use crate::answer::Answer;
 use crate::refusal::Refusal;
 use crate::work::answer_words;
 use stack_outside::{Shelf, Sink, SinkFailed};
@@ -18,8 +18,8 @@ use std::alloc::Global;
 /// refusal. The line of that one is a constant.
 fn say<E: Sink>(alloc: Global, refusal: Refusal, err: &mut E) -> Refusal
     ensures which { (result ≡ refusal) ⊎ (result ≡ Refusal.Memory) }
-    ensures line { ¬ Rose (E.faults err.old) (E.faults err.new) →
-        Appends (E.written err.old) (E.written err.new) (with_line_feed (line_of (refusal_view result))) }
+    ensures line { SaysLine (refusal_view result) (E.written err.old) (E.written err.new)
+        (Rose (E.faults err.old) (E.faults err.new)) }
 {
     if !matches!(refusal, Refusal::Memory) {
         if let Ok(line) = format!(in alloc; "{refusal}\n") {
@@ -31,27 +31,17 @@ fn say<E: Sink>(alloc: Global, refusal: Refusal, err: &mut E) -> Refusal
     Refusal::Memory
 }
 
-/// Answers or refuses, and gives the status.
-fn perform<F: Shelf, O: Sink, E: Sink>(
+/// Writes the answer in one put on `out`, or the line of the refusal on `err`, and gives the status.
+fn deliver<O: Sink, E: Sink>(
     alloc: Global,
-    words: &[String],
-    shelf: &mut F,
+    worked: Result<Answer, Refusal>,
     out: &mut O,
     err: &mut E,
 ) -> u8
-    // A status below 2 is an answer, written whole.
-    ensures answered { result < 2 → Answered result (outcome (form_of (texts words.now)) (F.holds shelf.old))
-        (O.written out.old) (O.written out.new) (E.written err.old) (E.written err.new) }
-    // Any other has its cause and its line, and leaves the output as it was unless that failed.
-    ensures refused { 2 ≤ result → Refused result (outcome (form_of (texts words.now)) (F.holds shelf.old))
-        (wanted (form_of (texts words.now)) (F.holds shelf.old)) (F.asked shelf.old) (F.asked shelf.new)
-        (O.written out.old) (O.written out.new) (E.written err.old) (E.written err.new)
-        (Rose (F.faults shelf.old) (F.faults shelf.new)) (Rose (O.faults out.old) (O.faults out.new))
-        (Rose (E.faults err.old) (E.faults err.new)) }
-    // A front of the files that the order of work wants was asked for.
-    ensures asked { AsksFront (F.asked shelf.old) (F.asked shelf.new) (wanted (form_of (texts words.now)) (F.holds shelf.old)) }
+    ensures { Delivers worked result (O.written out.old) (O.written out.new) (E.written err.old) (E.written err.new)
+        (Rose (O.faults out.old) (O.faults out.new)) (Rose (E.faults err.old) (E.faults err.new)) }
 {
-    match answer_words(alloc, words, shelf) {
+    match worked {
         Ok(answer) => match out.put(answer.text.as_slice()) {
             Ok(()) => answer.verdict.status(),
             Err(SinkFailed) => {
@@ -79,5 +69,6 @@ pub fn run<F: Shelf, O: Sink, E: Sink>(
         (Rose (F.faults shelf.old) (F.faults shelf.new)) (Rose (O.faults out.old) (O.faults out.new))
         (Rose (E.faults err.old) (E.faults err.new)) }
 {
-    perform(alloc, words, shelf, out, err)
+    let worked = answer_words(alloc, words, shelf);
+    deliver(alloc, worked, out, err)
 }

@@ -1,12 +1,15 @@
 //! Judges plane structures of rigid blocks laid without mortar, after Livesley (1978).
 //!
-//! `stack_cli check MODEL CERT` checks a certificate for a model, and prints `accepted` or why it is rejected.
+//! `stack_cli check MODEL CERT` checks a certificate for a model, and prints `accepted` or why it is rejected;
+//! `stack_cli contacts MODEL` lists where the bodies of a model bear and touch.
 #![tactic(auto)]
 
 pub mod answer;
 pub mod command;
 pub mod laws;
+pub mod model_lines;
 pub mod refusal;
+pub mod surveying;
 pub mod words;
 pub mod work;
 

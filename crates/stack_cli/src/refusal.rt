@@ -1,12 +1,15 @@
 //! Why a run refuses, with the status and the line of each refusal.
 
-ghost use Rattle.std.specs.Prelude.{◌≡◌, ◌+◌, Some};
+ghost use Rattle.std.specs.Prelude.{◌≡◌, Some};
 ghost use Rattle.stack_cli.specs.Refusals.{input_word, part_word, axis_word, place_text, balance_of, place_view, status_of, line_of, refusal_view};
-ghost use Rattle.stack_cli.specs.Outcome.{from_read, from_survey};
-ghost use Rattle.stack_cli.specs.declared.refusal.Refusal.TheVariants.{CertificateRefused, Memory};
+ghost use Rattle.stack_cli.specs.Outcome.{from_read};
+ghost use Rattle.stack_cli.specs.declared.refusal.Refusal.TheVariants.{Memory};
 
-use stack_checker::types::{Axis, Part, SurveyError};
-use stack_model::ReadError;
+use crate::model_lines::{FaultText, number};
+use stack_checker::types::Part;
+use stack_equilibrium::types::Axis;
+use stack_model::ModelError;
+use stack_reader::ReadError;
 use std::alloc::AllocError;
 use std::fmt;
 
@@ -19,13 +22,19 @@ pub enum Input {
     Certificate,
 }
 
-/// Where a check meets a sum that is too wide.
+/// Where a check meets a number that is too wide.
 #[derive(Debug, Drop)]
 pub enum Place {
     /// At the cone of a bearing, counted from 0.
     Cone { k: usize },
     /// At one of the three sums of the block with this name.
     Balance { name: String, axis: Axis },
+    /// At the velocities of a bearing, counted from 0.
+    Resisted { k: usize },
+    /// At the power of the dead or the live loads.
+    Work,
+    /// At the sum of the two powers.
+    Apart,
 }
 
 /// Why a run refuses.
@@ -37,13 +46,15 @@ pub enum Refusal {
     File(Input),
     /// The file holds more than 262,144 bytes.
     Long(Input),
-    /// The model's file is no model that the program takes, or two of its blocks overlap.
-    ModelRefused,
-    /// The block, counted from 0, is no axis-parallel rectangle.
-    ModelSlanted { block: usize },
-    /// The certificate's file is no certificate.
-    CertificateRefused,
-    /// A sum of the check is too wide, in this part of the certificate.
+    /// The model's file has this fault.
+    Fault(ReadError),
+    /// The bodies with these names, not both fixed, overlap: the first such pair.
+    Overlap { first: String, second: String },
+    /// There are more than 1,024 bearings, so many.
+    ManyBearings { count: usize },
+    /// The certificate's file is no certificate: the least number of a line, from 1, up to which it begins none.
+    CertificateLine { number: usize },
+    /// A number of the check is too wide, in this part of the certificate.
     WideCheck { part: Part, place: Place },
     /// The answer isn't written.
     Output,
@@ -60,20 +71,15 @@ impl Refusal {
             Refusal::Words => 2,
             Refusal::File(_) => 3,
             Refusal::Long(_) => 4,
-            Refusal::ModelRefused | Refusal::ModelSlanted { .. } => 5,
-            Refusal::CertificateRefused => 6,
+            Refusal::Fault(_) => 5,
+            Refusal::Overlap { .. } => 5,
+            Refusal::ManyBearings { .. } => 5,
+            Refusal::CertificateLine { .. } => 6,
             Refusal::WideCheck { .. } => 7,
             Refusal::Output => 10,
             Refusal::Memory => 11,
         }
     }
-}
-
-/// A number as users count, from 1.
-pub fn number(index: usize) -> u128
-    ensures { result ≡ index + 1 }
-{
-    index as u128 + 1
 }
 
 /// The word for a part of a certificate.
@@ -136,6 +142,9 @@ impl fmt::Display for Place {
                 };
                 write!(f, "{sum}")
             }
+            Place::Resisted { k } => write!(f, "resisted {}", number(*k)),
+            Place::Work => f.write_str("work"),
+            Place::Apart => f.write_str("apart"),
         }
     }
 }
@@ -149,9 +158,13 @@ impl fmt::Display for Refusal {
             Refusal::Words => f.write_str("words"),
             Refusal::File(input) => write!(f, "file {input}"),
             Refusal::Long(input) => write!(f, "long {input}"),
-            Refusal::ModelRefused => f.write_str("model refused"),
-            Refusal::ModelSlanted { block } => write!(f, "model slanted block {}", number(*block)),
-            Refusal::CertificateRefused => f.write_str("certificate refused"),
+            Refusal::Fault(fault) => {
+                let text = FaultText { fault: *fault };
+                write!(f, "model {text}")
+            }
+            Refusal::Overlap { first, second } => write!(f, "model overlap {first} {second}"),
+            Refusal::ManyBearings { count } => write!(f, "model too many bearings {count}"),
+            Refusal::CertificateLine { number } => write!(f, "certificate line {number}"),
             Refusal::WideCheck { part, place } => {
                 write!(f, "wide check {} {place}", part_text(*part))
             }
@@ -174,20 +187,9 @@ impl From<ReadError> for Refusal {
 
     fn from(e: ReadError) -> Refusal {
         match e {
-            ReadError::Refused => Refusal::ModelRefused,
-            ReadError::Slanted { block } => Refusal::ModelSlanted { block },
             ReadError::Memory => Refusal::Memory,
-        }
-    }
-}
-
-impl From<SurveyError> for Refusal {
-    ghost from_gives = { λ e r. refusal_view r ≡ from_survey e };
-
-    fn from(e: SurveyError) -> Refusal {
-        match e {
-            SurveyError::Overlap { .. } => Refusal::ModelRefused,
-            SurveyError::Memory => Refusal::Memory,
+            ReadError::Model(ModelError::Memory) => Refusal::Memory,
+            _ => Refusal::Fault(e),
         }
     }
 }

@@ -12,6 +12,10 @@ pub enum Form<'a> {
         model: &'a str,
         certificate: &'a str,
     },
+    /// Lists the contacts of a model; the name of its file.
+    Contacts {
+        model: &'a str,
+    },
 }
 
 /// The form of the words, exactly where they have one. Takes no memory.
@@ -19,6 +23,15 @@ pub fn parse_form(words: &[String]) -> Option<Form<'_>>
     ensures { option_map form_view result ≡ form_of (texts words.now) }
 {
     match words {
+        [word, model] => {
+            if word.as_str() == "contacts" {
+                Some(Form::Contacts {
+                    model: model.as_str(),
+                })
+            } else {
+                None
+            }
+        }
         [word, model, certificate] => {
             if word.as_str() == "check" {
                 Some(Form::Check {

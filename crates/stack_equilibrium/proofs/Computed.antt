@@ -3,7 +3,7 @@ use Rattle.std.proofs.Common.{◌≡◌, refl, ℕ, zero, suc, ◌<◌, arith, t
 use lib.IntN.{ℤ, pos, ◌*ℤ◌}
 use Rattle.std.proofs.lemmas.Int.{ints}
 use Rattle.stack_algebra.proofs.Order.{◌≼◌, abs}
-use Rattle.stack_equilibrium.specs.Scene.{Scene, Bearing, Part}
+use Rattle.stack_equilibrium.specs.Scene.{Scene, Part}
 use Rattle.stack_equilibrium.specs.Balance.{sum_x_of, sum_y_of, sum_m_of, IsBalancedAt}
 use Rattle.stack_frame.specs.declared.cone.Cone.{Cone}
 use Rattle.stack_frame.specs.Admitted.{IsAdmitted}

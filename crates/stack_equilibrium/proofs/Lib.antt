@@ -3,3 +3,15 @@ pub mod Mixtures
 pub mod CertificateLaws
 pub mod Outlines
 pub mod Computed
+pub mod InOrder
+pub mod PlainSums
+pub mod SceneSums
+pub mod FanSums
+pub mod Products
+pub mod WeightSizes
+pub mod Totals
+pub mod FreeNumbers
+pub mod ScenePowers
+pub mod SceneRates
+pub mod SurveyBearings
+pub mod BearingSizes

@@ -209,4 +209,5 @@ module _ (s : Scene) (y : ℕ → Move) (f : ℕ → Part) where
       rest a b c h e = omega (arith, sums)
 
 pub virtual_work_is_zero : VirtualWorkIsZero
-virtual_work_is_zero s f scale factor y proper balanced still = work_is_zero s y f scale factor proper balanced still
+virtual_work_is_zero s f scale factor y proper balanced still =
+    work_is_zero s y f scale factor proper balanced still

@@ -5,3 +5,13 @@ pub mod Loads
 pub mod Certificates
 pub mod Laws
 pub mod WorkedScenes
+pub mod Whole
+pub mod Weights
+pub mod SurveyScene
+pub mod Held
+pub mod WrittenSums
+pub mod WrittenVelocities
+pub mod WrittenPowers
+pub mod LoadSizes
+pub mod Columns
+pub mod Answers

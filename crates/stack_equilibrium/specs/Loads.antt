@@ -3,10 +3,27 @@
 -- A body's weight is summed over the triangles that its first corner makes with its other edges, with their
 -- signs.
 use mathlib.Core.List.{List, [], ◌∷◌}
+use Prim.Native.Nat.{ℕ}
 use lib.IntN.{ℤ, pos, ◌+ℤ◌, ◌-ℤ◌, ◌*ℤ◌, neg_ℤ}
+use Rattle.stack_algebra.specs.Sums.{sum_to}
 use Rattle.stack_polygon.specs.declared.point.Point.{Point}
 use Rattle.stack_polygon.specs.Plane.{triangle_of}
-use Rattle.stack_equilibrium.specs.Scene.{Wrench}
+use Rattle.stack_equilibrium.specs.declared.types.Wrench.{Wrench}
+
+abbrev pub no_load : Wrench
+no_load = record { fx = pos 0; fy = pos 0; m = pos 0 }
+
+-- two wrenches together, about one point
+abbrev pub both : Wrench → Wrench → Wrench
+both v w = record { fx = v.fx +ℤ w.fx; fy = v.fy +ℤ w.fy; m = v.m +ℤ w.m }
+
+-- the sum of n wrenches about one point
+abbrev pub total_of : ℕ → (ℕ → Wrench) → Wrench
+total_of n w = record {
+  fx = sum_to n (λ k. (w k).fx);
+  fy = sum_to n (λ k. (w k).fy);
+  m = sum_to n (λ k. (w k).m);
+}
 
 -- the x distances of p and q from o
 abbrev pub distances_of : Point → Point → Point → ℤ
@@ -25,7 +42,7 @@ moment_of_triangle o p q = triangle_of o p q *ℤ distances_of o p q
 
 -- the weight of a body with these corners and this weight per unit of area, about its first corner
 abbrev pub weight_of : ℤ → List Point → Wrench
-weight_of w [] = record { fx = pos 0; fy = pos 0; m = pos 0 }
+weight_of w [] = no_load
 weight_of w (o ∷ rest) = record {
   fx = pos 0;
   fy = neg_ℤ (pos 3 *ℤ (w *ℤ sum_of_triangles triangle_of o rest));

@@ -6,7 +6,8 @@ use Prim.Native.Nat.{ℕ, ◌<◌}
 use lib.IntN.{ℤ, pos, ◌+ℤ◌, ◌-ℤ◌, ◌*ℤ◌, neg_ℤ}
 use Rattle.stack_algebra.specs.Sums.{sum_to}
 use Rattle.stack_algebra.specs.IntegerOrder.{◌≼◌, abs}
-use Rattle.stack_equilibrium.specs.Scene.{Wrench, Move, Bearing, Scene}
+use Rattle.stack_equilibrium.specs.declared.types.Wrench.{Wrench}
+use Rattle.stack_equilibrium.specs.Scene.{Move, Bearing, Scene}
 
 -- the velocity of body i at the point of a bearing
 abbrev pub velocity_x_of : Scene → (ℕ → Move) → Bearing → ℕ → ℤ

@@ -5,13 +5,7 @@ use mathlib.Core.Bool.{Bool}
 use Prim.Native.Nat.{ℕ, ◌<◌}
 use lib.IntN.{ℤ, pos}
 use Rattle.stack_algebra.specs.IntegerOrder.{◌≺◌}
-
--- a force and its moment about a body's first corner, counter-clockwise; loads are in sixths of a unit of
--- force
-pub record Wrench : Type 0 where
-  pub fx : ℤ
-  pub fy : ℤ
-  pub m : ℤ
+use Rattle.stack_equilibrium.specs.declared.types.Wrench.{Wrench}
 
 -- the velocity of a body's first corner, and its turning rate, counter-clockwise
 pub record Move : Type 0 where

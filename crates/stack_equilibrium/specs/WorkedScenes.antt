@@ -4,10 +4,11 @@ use Rattle.std.specs.Prelude.{◌≡◌, ℕ, ℤ, pos, neg_ℤ, List, [], ◌�
 use lib.ListN.{get_or}
 use Rattle.stack_algebra.specs.IntegerOrder.{◌≼◌, ◌≺◌, abs}
 use Rattle.stack_polygon.specs.declared.point.Point.{Point}
-use Rattle.stack_equilibrium.specs.Scene.{Wrench, Move, Part, Body, Bearing, Scene}
+use Rattle.stack_equilibrium.specs.declared.types.Wrench.{Wrench}
+use Rattle.stack_equilibrium.specs.Scene.{Move, Part, Body, Bearing, Scene}
 use Rattle.stack_equilibrium.specs.Balance.{sum_y_of, IsWithinCone}
 use Rattle.stack_equilibrium.specs.Motions.{opening_of, slide_of, dead_power_of, live_power_of}
-use Rattle.stack_equilibrium.specs.Loads.{weight_of, load_of}
+use Rattle.stack_equilibrium.specs.Loads.{no_load, weight_of, load_of}
 use Rattle.stack_equilibrium.specs.Certificates.{Forces, part_of, move_of, IsTrueStands, IsTrueCollapse, IsTrueGreatest}
 
 -- minus n
@@ -16,9 +17,6 @@ minus n = neg_ℤ (pos n)
 
 abbrev pub at_point : ℤ → ℤ → Point
 at_point x y = record { x = x; y = y }
-
-abbrev pub no_load : Wrench
-no_load = record { fx = pos 0; fy = pos 0; m = pos 0 }
 
 -- a body with these corners: its first corner, its weight at one unit per area, and a live load
 abbrev pub body_of : Bool → Point → List Point → Wrench → Body

@@ -24,7 +24,8 @@ pub fn weight_law()
     ensures { AnyCornerWeighsTheSame }
 {}
 
-/// Small structures worked by hand: which certificates are true of them, and which conditions changed copies break.
+/// Small structures worked by hand: which certificates are true of them, and which conditions changed copies
+/// break.
 pub fn worked_scenes()
     ensures holds { TrueOfWorkedScenes }
     ensures fails { FalseOfWorkedScenes }

@@ -1,6 +1,6 @@
-mod DivisionSteps
-mod LowestTerms
-mod FramesOfDirections
-mod LesserCones
-mod MadeNumbers
-mod Senses
+pub mod DivisionSteps
+pub mod LowestTerms
+pub mod FramesOfDirections
+pub mod LesserCones
+pub mod MadeNumbers
+pub mod Senses

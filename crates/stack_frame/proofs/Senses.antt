@@ -75,7 +75,7 @@ positive_part n (negsuc x) h k = absurd (omega (
 ))
 
 -- lowest terms are not both 0
-lowest-long : (x y : ℤ) → IsLowest x y → pos 0 ≺ square_of x y
+pub lowest-long : (x y : ℤ) → IsLowest x y → pos 0 ≺ square_of x y
 unfolding gcd
 lowest-long x y h = go x y (gcd_of_lowest x y h)
   where

@@ -3,14 +3,18 @@ use Rattle.std.proofs.Common.{◌≡◌, ℕ, ◌<◌, map, length, get_or, sym,
 use Rattle.std.proofs.lemmas.List.{get_or-map, length-map}
 use Rattle.stack_model.specs.declared.kept.KeptBody.{KeptBody}
 use Rattle.stack_model.specs.declared.model.Model.TheInside.{Inside}
-use Rattle.stack_model.specs.Structure.{Structure, body_of, IsSound, IsPlaced}
+use Rattle.stack_model.specs.Structure.{Structure, body_of, IsPlaced}
+use Rattle.stack_model.specs.Sound.{IsSound}
 use Rattle.stack_model.specs.Kept.{body_view, inside_view}
 
 pub body_placed : (m : Inside) (s : Structure) (i : ℕ) (b : KeptBody) → inside_view m ≡ s
     → IsSound (inside_view m) → i < length s.bodies
     → b ≡ get_or m.bodies.items i b → IsPlaced (length s.materials) (body_view b)
 body_placed m s i b e h lt is =
-    let below : i < length (map body_view m.bodies.items) = subst (λ (t : Structure). i < length t.bodies) (sym e) lt in
+    let below : i < length (map body_view m.bodies.items) =
+    subst (λ (t : Structure). i < length t.bodies) (sym e) lt in
     let small : i < length m.bodies.items = subst (λ n. i < n) (length-map m.bodies.items body_view) below in
-    let here : body_of (inside_view m) i ≡ body_view b = get_or-map body_view m.bodies.items i b _ small ∙ ap body_view (sym is) in
-    subst (λ (t : Structure). IsPlaced (length t.materials) (body_view b)) e (subst (λ x. IsPlaced (length (inside_view m).materials) x) here (h.bodies i below))
+    let here : body_of (inside_view m) i ≡ body_view b = get_or-map body_view m.bodies.items i b _ small
+    ∙ ap body_view (sym is) in
+    subst (λ (t : Structure). IsPlaced (length t.materials) (body_view b)) e
+    (subst (λ x. IsPlaced (length (inside_view m).materials) x) here (h.bodies i below))

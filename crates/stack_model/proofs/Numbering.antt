@@ -15,7 +15,9 @@ position-map : {X Y : Type 0} (f : X → Y) (p : Y → Bool) (xs : List X)
     → position (λ x. p (f x)) xs ≡ position p (map f xs)
 position-map f p xs =
     let e = prefix-map f (λ y. not (p y)) xs in
-    (λ i. cond (nat_lt (e i) (length xs)) (Some (e i)) None) ∙ ap (λ n. cond (nat_lt (prefix_len (λ y. not (p y)) (map f xs)) n) (Some (prefix_len (λ y. not (p y)) (map f xs))) None) (sym (length-map xs f))
+    (λ i. cond (nat_lt (e i) (length xs)) (Some (e i)) None)
+    ∙ ap (λ n. cond (nat_lt (prefix_len (λ y. not (p y)) (map f xs)) n)
+    (Some (prefix_len (λ y. not (p y)) (map f xs))) None) (sym (length-map xs f))
 
 any-map : {X Y : Type 0} (f : X → Y) (p : Y → Bool) (xs : List X)
     → list_any (λ x. p (f x)) xs ≡ list_any p (map f xs)

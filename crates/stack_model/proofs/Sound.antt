@@ -1,180 +1,387 @@
--- What was checked holds of the structure: its materials are within the limits, and each body is of one of
--- them.
-use Rattle.std.proofs.Common.{◌≡◌, ℕ, zero, suc, ◌+◌, ◌<◌, ℤ, pos, Bool, true, false, ◌&&◌, List, [], ◌∷◌}
-use Rattle.std.proofs.Common.{◌++◌, length, get_or, position, Option, Some, None, Result, Ok, Err, refl}
-use Rattle.std.proofs.Common.{sym, ap, ◌∙◌, subst, arith}
-use Rattle.std.proofs.lemmas.List.{length-map}
-use Rattle.std.proofs.lemmas.Int.{ints}
+-- What was checked holds of the structure.
+use Rattle.std.proofs.Common.{◌≡◌, ℕ, ◌<◌, ◌≤◌, ℤ, pos, Bool, true, false, not, List, [], ◌∷◌, ◌++◌, map}
+use Rattle.std.proofs.Common.{length}
+use Rattle.std.proofs.Common.{Option, Some, None, Result, Ok, Err, refl, sym, ap, ◌∙◌, subst, arith}
+use Rattle.std.specs.Prelude.{nat_le}
 use Rattle.std.specs.Bool.{⊤}
-use Rattle.std.specs.List.{All}
-use Rattle.std.proofs.lemmas.List.Elements.{All-append}
-use Rattle.std.specs.Str.{bytes_eq}
+use Rattle.std.proofs.lemmas.List.{length-map, get_or-map}
+use Rattle.std.proofs.lemmas.Int.{ints}
 use Rattle.stack_algebra.specs.Steps.{◌>>=◌, steps}
 use Rattle.stack_polygon.specs.declared.point.Point.{Point}
-use Rattle.stack_model.specs.declared.faults.Spot.{Spot}
-use Rattle.stack_model.specs.declared.faults.Key.{Key}
 use Rattle.stack_model.specs.declared.types.Load.{Load}
-use Rattle.stack_model.specs.declared.faults.What.TheVariants as whats
-use Rattle.stack_model.specs.declared.faults.Fault.{Fault}
-use Rattle.stack_model.specs.Structure.{NamedMaterial, NamedBody, Structure, IsWithinLimits}
-use Rattle.stack_model.specs.Parts.{MaterialPart, BlockPart, Parts}
-use Rattle.stack_model.specs.Limits.{is_name, is_between, friction_of, corners_of}
-use Rattle.stack_model.specs.Content.{Outlines, unless, ranged, found, is_new, number_of, material_names}
-use Rattle.stack_model.specs.Content.{body_names, has_room, at_most, add_load, with_material, add_material}
-use Rattle.stack_model.specs.Content.{with_body, add_block, bodies_of, content_of}
-use Rattle.std.proofs.lemmas.List.Quantifiers.{position-Some}
-use Rattle.std.specs.Prelude.{int_le, if◌then◌else◌}
-use Rattle.stack_algebra.proofs.Order.{◌≼◌}
-use Rattle.stack_model.specs.Laid.{IsLaid}
+use Rattle.stack_model.specs.declared.places.Spot.{Spot}
+use Rattle.stack_model.specs.declared.places.Key.{Key}
+use Rattle.stack_model.specs.declared.places.What.{What}
+use Rattle.stack_model.specs.declared.places.What.TheVariants as whats
+use Rattle.stack_model.specs.declared.errors.ModelError.{ModelError}
+use Rattle.stack_model.specs.Structure.{NamedMaterial, NamedBody, listed, material_at, body_at}
+use Rattle.stack_model.specs.Structure.{IsWithinLimits, IsPlaced, IsCarried}
+use Rattle.stack_model.specs.Parts.{MaterialPart, BlockPart, LoadPart, PartLists}
+use Rattle.stack_model.specs.Limits.{is_name, is_between, friction_of, point_of, corners_of, live_of, force_of}
+use Rattle.stack_model.specs.Convex.{convex}
+use Rattle.stack_model.specs.Content.{unless, at_most, ranged, found, is_new, is_free, number_of, has_room}
+use Rattle.stack_model.specs.Content.{material_names, body_names, with_material, add_material, with_body}
+use Rattle.stack_model.specs.Content.{add_block, add_load, bodies_of, content_of}
+use Rattle.stack_model.specs.Relisted.{material_listed, body_listed, load_listed}
+use Rattle.stack_model.specs.Sound.{IsSound}
+use Rattle.stack_model.proofs.Points.{corners_taken, corners_again, outlined}
+use Rattle.stack_model.proofs.Limited.{between, coefficient, force, point, kind_again, number_below, named}
+use Rattle.stack_model.proofs.Growth.{Adds, grown}
 
--- a step that went well: its first part did, and so did the rest
-pub went : {A B : Type 0} (r : Result A Fault) (k : A → Result B Fault) (y : B) → r >>= k ≡ Ok y
-    → (x : A) × ((r ≡ Ok x) × (k x ≡ Ok y))
-went (Ok x) k y h = (x, (refl, h))
-went (Err e) k y h = absurd (cc)
+-- a test that held
+held : (b : Bool) (e : ModelError) (x : ⊤) → unless b e ≡ Ok x → b ≡ true
+held true e x h = refl
+held false e x h = absurd (cc)
 
-and_parts : (a b : Bool) → a && b ≡ true → (a ≡ true) × (b ≡ true)
-and_parts true b h = (refl, h)
-and_parts false b h = absurd (cc)
+-- a value that was there
+there : {A : Type 0} (s : Spot) (k : Key) (o : Option A) (x : A) → ranged s k o ≡ Ok x → o ≡ Some x
+there s k (Some y) x h = cc
+there s k None x h = absurd (cc)
 
-abbrev ok : {A : Type 0} → A → Result A Fault
-ok x = Ok x
-
--- one step after the other keeps what each step keeps
-pub steps_keep : {A X : Type 0} (P : A → Type 0) (f : ℕ → A → X → Result A Fault)
-    → ((i : ℕ) (a : A) (x : X) (b : A) → f i a x ≡ Ok b → P a → P b)
-    → (i : ℕ) (a : A) (xs : List X) (b : A) → steps f i a xs ≡ Ok b → P a → P b
-steps_keep P f keep i a [] b h p = subst P (cc) p
-steps_keep P f keep i a (x ∷ xs) b h p =
-    let one = went (f i a x) (λ c. steps f (i + 1) c xs) b h in
-    steps_keep P f keep (i + 1) one.0 xs b one.1.1 (keep i a x one.0 one.1.0 p)
-
-position_below : {X : Type 0} (p : X → Bool) (xs : List X) (d : X) (n : ℕ) → position p xs ≡ Some n
-    → n < length xs
-position_below p xs d n h = (position-Some p xs n d h).0
-
-between : (low high z : ℤ) → is_between low high z ≡ true → (low ≼ z) × (z ≼ high)
-between low high z h = let p = and_parts (int_le low z) (int_le z high) h in (at_least low z p.0, at_least z high p.1)
-  where
-    at_least : (x y : ℤ) → int_le x y ≡ true → x ≼ y
-    at_least x y h = grind (arith, ints)
-
--- a coefficient that was taken
-pub record IsCoefficient (f : ℤ × ℤ) : Type 0 where
-  pub p : (pos 0 ≼ f.0) × (f.0 ≼ pos 1000)
-  pub q : (pos 1 ≼ f.1) × (f.1 ≼ pos 1000)
-
-coefficient : (zs : List ℤ) (f : ℤ × ℤ) → friction_of zs ≡ Some f → IsCoefficient f
-coefficient (p ∷ q ∷ []) f h = go (is_between (pos 0) (pos 1000) p) (is_between (pos 1) (pos 1000) q) refl refl h
-  where
-    go : (a b : Bool) → is_between (pos 0) (pos 1000) p ≡ a → is_between (pos 1) (pos 1000) q ≡ b
-        → (if a && b then Some (p, q) else None) ≡ Some f → IsCoefficient f
-    go true true ea eb e = let same : (p, q) ≡ f = cc in subst IsCoefficient same (record { p = between (pos 0) (pos 1000) p ea; q = between (pos 1) (pos 1000) q eb })
-    go true false ea eb e = absurd (cc)
-    go false b ea eb e = absurd (cc)
-coefficient [] f h = absurd (cc)
-coefficient (p ∷ []) f h = absurd (cc)
-coefficient (p ∷ q ∷ r ∷ zs) f h = absurd (cc)
-
--- one more item at the end
-pushed : {X : Type 0} (P : X → Type 0) (xs : List X) (x : X) → All P xs → P x → All P (xs ++ x ∷ [])
-pushed P xs x h p = All-append P xs (x ∷ []) h (λ k d lt. elim k as (λ k. k < 1 → P (get_or (x ∷ []) k d)) [ zero ↦ λ _. p | suc k ↦ λ lt. absurd (omega arith) ] lt)
+met : (o : Option ℕ) (e : ModelError) (n : ℕ) → found o e ≡ Ok n → o ≡ Some n
+met (Some m) e n h = cc
+met None e n h = absurd (cc)
 
 -- the steps of a material
-material_steps : (a b c : Bool) (d e g : Fault) (s : Spot) (k : Key) (o : Option (ℤ × ℤ)) (to : ℤ × ℤ → List NamedMaterial) (ns : List NamedMaterial)
+record MaterialSteps (a b c : Bool) (o : Option (ℤ × ℤ)) (to : ℤ × ℤ → List NamedMaterial)
+    (ns : List NamedMaterial) : Type 0 where
+  pub named : a ≡ true
+  pub weighed : b ≡ true
+  pub new : c ≡ true
+  pub terms : ℤ × ℤ
+  pub friction : o ≡ Some terms
+  pub is : to terms ≡ ns
+
+material_steps : (a b c : Bool) (d e g : ModelError) (s : Spot) (k : Key) (o : Option (ℤ × ℤ)) (to : ℤ × ℤ
+    → List NamedMaterial) (ns : List NamedMaterial)
     → (unless a d >>= λ _. unless b e >>= λ _. ranged s k o >>= λ f. unless c g >>= λ _. Ok (to f)) ≡ Ok ns
-    → (b ≡ true) × ((f : ℤ × ℤ) × ((o ≡ Some f) × (to f ≡ ns)))
-material_steps true true true d e g s k (Some f) to ns h = (refl, (f, (refl, cc)))
+    → MaterialSteps a b c o to ns
+material_steps true true true d e g s k (Some f) to ns h = record {
+  named = refl;
+  weighed = refl;
+  new = refl;
+  terms = f;
+  friction = refl;
+  is = cc;
+}
 material_steps true true false d e g s k (Some f) to ns h = absurd (cc)
 material_steps true true c d e g s k None to ns h = absurd (cc)
 material_steps true false c d e g s k o to ns h = absurd (cc)
 material_steps false b c d e g s k o to ns h = absurd (cc)
 
-material_kept : (i : ℕ) (ms : List NamedMaterial) (m : MaterialPart) (ns : List NamedMaterial)
-    → add_material i ms m ≡ Ok ns → All IsWithinLimits ms → All IsWithinLimits ns
-unfolding add_material with_material
-material_kept i ms m ns h all =
-    let made = λ (f : ℤ × ℤ). let r : NamedMaterial = record { name = m.name; weight = m.weight; p = f.0; q = f.1 } in r in
-    let steps = material_steps (is_name m.name) (is_between (pos 0) (pos 1000000) m.weight) (is_new m.name (material_names ms)) _ _ _ _ _ (friction_of m.friction)
-    (λ f. ms ++ made f ∷ []) ns h in
-    let w = between (pos 0) (pos 1000000) m.weight steps.0 in
-    let c = coefficient m.friction steps.1.0 steps.1.1.0 in
-    subst (All IsWithinLimits) steps.1.1.1 (pushed IsWithinLimits ms (made steps.1.0) all
-    (record { least_weight = w.0; most_weight = w.1; least_p = c.p.0; most_p = c.p.1; least_q = c.q.0; most_q = c.q.1 }))
+material_runs : (a b c : Bool) (d e g : ModelError) (s : Spot) (k : Key) (o : Option (ℤ × ℤ)) (f : ℤ × ℤ)
+    (to : ℤ × ℤ → List NamedMaterial)
+    → a ≡ true → b ≡ true → c ≡ true → o ≡ Some f
+    → (unless a d >>= λ _. unless b e >>= λ _. ranged s k o >>= λ f. unless c g >>= λ _. Ok (to f)) ≡ Ok (to f)
+material_runs a b c d e g s k o f to ha hb hc ho =
+    λ i. unless (ha i) d >>= λ _. unless (hb i) e >>= λ _. ranged s k (ho i) >>= λ f. unless (hc i) g
+    >>= λ _. Ok (to f)
 
--- of one of so many materials
-abbrev pub IsOf : ℕ → NamedBody → Type 0
-IsOf n b = b.material < n
+material_adds : (i : ℕ) (ms : List NamedMaterial) (m : MaterialPart) (ns : List NamedMaterial)
+    → add_material i ms m ≡ Ok ns → Adds add_material IsWithinLimits material_listed i ms ns
+unfolding add_material with_material
+material_adds i ms m ns h =
+    let made = λ (f : ℤ × ℤ). let r : NamedMaterial = record {
+      name = m.name;
+      weight = m.weight;
+      p = f.0;
+      q = f.1;
+    } in r in
+    let s = material_steps (is_name m.name) (is_between (pos 0) (pos 1000000) m.weight)
+    (is_new m.name (material_names ms)) _ _ _ _ _ (friction_of m.friction)
+    (λ f. ms ++ made f ∷ []) ns h in
+    let w = between (pos 0) (pos 1000000) m.weight s.weighed in
+    let c = coefficient m.friction s.terms s.friction in
+    record {
+      item = made s.terms;
+      is = s.is;
+      keeps = record {
+        least_weight = w.0;
+        most_weight = w.1;
+        least_p = c.p.0;
+        most_p = c.p.1;
+        least_q = c.q.0;
+        most_q = c.q.1;
+      };
+      again = material_runs _ _ _ _ _ _ _ _ _ s.terms
+          (λ f. ms ++ made f ∷ []) s.named s.weighed s.new c.again ∙ ap Ok s.is;
+    }
 
 -- the steps of a block
-block_steps : (a c : Bool) (d e g : Fault) (s : Spot) (k : Key) (o : Option (List Point)) (found_at : Option ℕ) (outline_of : List Point → Result (List Point) Fault) (room : Result ⊤ Fault)
+record BlockSteps (a c : Bool) (o : Option (List Point)) (at : Option ℕ) (outline_of : List Point
+    → Result (List Point) ModelError) (room : Result ⊤ ModelError) (to : ℕ → List Point → List NamedBody)
+    (cs : List NamedBody) : Type 0 where
+  pub named : a ≡ true
+  pub new : c ≡ true
+  pub corners : List Point
+  pub taken : o ≡ Some corners
+  pub number : ℕ
+  pub material : at ≡ Some number
+  pub outline : List Point
+  pub outlined : outline_of corners ≡ Ok outline
+  pub roomy : room ≡ Ok tt
+  pub is : to number outline ≡ cs
+
+block_steps : (a c : Bool) (d e g : ModelError) (s : Spot) (k : Key) (o : Option (List Point))
+    (at : Option ℕ) (outline_of : List Point → Result (List Point) ModelError) (room : Result ⊤ ModelError)
     (to : ℕ → List Point → List NamedBody) (cs : List NamedBody)
-    → (unless a d >>= λ _. ranged s k o >>= λ ps. unless c e >>= λ _. found found_at g >>= λ n. outline_of ps >>= λ qs. room >>= λ _. Ok (to n qs)) ≡ Ok cs
-    → (n : ℕ) × ((qs : List Point) × ((found_at ≡ Some n) × (to n qs ≡ cs)))
-block_steps true true d e g s k (Some ps) (Some n) outline_of room to cs h = last (outline_of ps) room h
+    → (unless a d >>= λ _. ranged s k o >>= λ ps. unless c e >>= λ _. found at g >>= λ n. outline_of ps
+    >>= λ qs. room >>= λ _. Ok (to n qs)) ≡ Ok cs
+    → BlockSteps a c o at outline_of room to cs
+block_steps true true d e g s k (Some ps) (Some n) outline_of room to cs h =
+    last (outline_of ps) room refl refl h
   where
-    last : (q : Result (List Point) Fault) (r : Result ⊤ Fault)
+    last : (q : Result (List Point) ModelError) (r : Result ⊤ ModelError) → outline_of ps ≡ q → room ≡ r
         → (q >>= λ qs. r >>= λ _. Ok (to n qs)) ≡ Ok cs
-        → (m : ℕ) × ((qs : List Point) × ((Some n ≡ Some m) × (to m qs ≡ cs)))
-    last (Ok qs) (Ok t) h = (n, (qs, (refl, cc)))
-    last (Ok qs) (Err e) h = absurd (cc)
-    last (Err e) r h = absurd (cc)
+        → BlockSteps true true (Some ps) (Some n) outline_of room to cs
+    last (Ok qs) (Ok t) e f h = record {
+      named = refl;
+      new = refl;
+      corners = ps;
+      taken = refl;
+      number = n;
+      material = refl;
+      outline = qs;
+      outlined = e;
+      roomy = f;
+      is = cc;
+    }
+    last (Ok qs) (Err x) e f h = absurd (cc)
+    last (Err x) r e f h = absurd (cc)
 block_steps true true d e g s k (Some ps) None outline_of room to cs h = absurd (cc)
 block_steps true false d e g s k (Some ps) n outline_of room to cs h = absurd (cc)
 block_steps true c d e g s k None n outline_of room to cs h = absurd (cc)
 block_steps false c d e g s k o n outline_of room to cs h = absurd (cc)
 
-block_kept : (outline_of : Outlines) (ms : List NamedMaterial) (i : ℕ) (bs : List NamedBody) (b : BlockPart) (cs : List NamedBody)
-    → add_block outline_of ms i bs b ≡ Ok cs → All (IsOf (length ms)) bs → All (IsOf (length ms)) cs
+block_runs : (a c : Bool) (d e g : ModelError) (s : Spot) (k : Key) (o : Option (List Point))
+    (at : Option ℕ) (outline_of : List Point → Result (List Point) ModelError) (room : Result ⊤ ModelError)
+    (to : ℕ → List Point → List NamedBody) (ps : List Point) (n : ℕ) (qs : List Point)
+    → a ≡ true → c ≡ true → o ≡ Some ps → at ≡ Some n → outline_of ps ≡ Ok qs → room ≡ Ok tt
+    → (unless a d >>= λ _. ranged s k o >>= λ ps. unless c e >>= λ _. found at g >>= λ n. outline_of ps
+    >>= λ qs. room >>= λ _. Ok (to n qs)) ≡ Ok (to n qs)
+block_runs a c d e g s k o at outline_of room to ps n qs ha hc ho hn hq hr =
+    (λ i. unless (ha i) d >>= λ _. ranged s k (ho i) >>= λ ps. unless (hc i) e >>= λ _. found (hn i) g
+    >>= λ n. outline_of ps >>= λ qs. hr i >>= λ _. Ok (to n qs))
+    ∙ ap (λ q. q >>= λ qs. Ok (to n qs)) hq
+
+block_adds : (ms : List NamedMaterial) (i : ℕ) (bs : List NamedBody) (b : BlockPart) (cs : List NamedBody)
+    → add_block ms i bs b ≡ Ok cs → Adds (add_block ms) (IsPlaced (length ms)) (body_listed ms) i bs cs
 unfolding add_block with_body
-block_kept outline_of ms i bs b cs h all =
-    let made = λ (n : ℕ) (qs : List Point). let r : NamedBody = record { name = b.name; material = n; fixed = b.fixed; corners = qs } in r in
-    let steps = block_steps (is_name b.name) (is_new b.name (body_names bs)) _ _ _ _ _ (corners_of b.corners) (number_of b.material (material_names ms)) (outline_of i) (has_room b.fixed bs)
+block_adds ms i bs b cs h =
+    let made = λ (n : ℕ) (qs : List Point). let r : NamedBody = record {
+      name = b.name;
+      material = n;
+      fixed = b.fixed;
+      corners = qs;
+    } in r in
+    let s = block_steps (is_name b.name) (is_new b.name (body_names bs)) _ _ _ _ _ (corners_of b.corners)
+    (number_of b.material (material_names ms)) (convex i) (has_room b.fixed bs)
     (λ n qs. bs ++ made n qs ∷ []) cs h in
-    let n = position_below (bytes_eq b.material) (material_names ms) [] steps.0 steps.1.1.0 in
-    let m : steps.0 < length ms = subst (λ l. steps.0 < l) (length-map ms (λ (m : NamedMaterial). m.name)) n in
-    subst (All (IsOf (length ms))) steps.1.1.1 (pushed (IsOf (length ms)) bs (made steps.0 steps.1.0) all m)
+    let o = outlined i s.corners s.outline (corners_taken b.corners s.corners s.taken) s.outlined in
+    let below : s.number < length ms = subst (λ l. s.number < l)
+    (length-map ms (λ (m : NamedMaterial). m.name))
+    (number_below b.material (material_names ms) s.number s.material) in
+    let same : (material_at ms s.number).name ≡ b.material =
+    sym (get_or-map (λ (m : NamedMaterial). m.name) ms s.number _ [] below)
+    ∙ sym (named b.material (material_names ms) s.number s.material) in
+    record {
+      item = made s.number s.outline;
+      is = s.is;
+      keeps = record { has_material = below; polygon = o.polygon };
+      again = block_runs _ _ _ _ _ _ _ _ _ (convex i) _
+          (λ n qs. bs ++ made n qs ∷ []) s.outline s.number s.outline s.named s.new
+          (corners_again s.outline o.corners) (ap (λ name. number_of name (material_names ms)) same
+          ∙ s.material) o.again s.roomy ∙ ap Ok s.is;
+    }
 
--- the steps of the whole
-whole_steps : (r : Result (List NamedMaterial × List NamedBody) Fault) (u : Result ⊤ Fault) (k : List NamedMaterial × List NamedBody → Result (List Load) Fault) (s : Structure)
-    → (r >>= λ both. u >>= λ _. k both >>= λ ls. Ok (record { materials = both.0; bodies = both.1; loads = ls })) ≡ Ok s
-    → (both : List NamedMaterial × List NamedBody) × ((r ≡ Ok both) × (both.0 ≡ s.materials) × (both.1 ≡ s.bodies))
-whole_steps (Ok both) (Ok t) k s h = last (k both) h
+-- the steps of a load
+record LoadSteps (o : Option Bool) (p : Option Point) (q : Option (ℤ × ℤ)) (at : Option ℕ) (is_free_at : ℕ
+    → Bool) (to : Bool → Point → ℤ × ℤ → ℕ → List Load) (ns : List Load) : Type 0 where
+  pub live : Bool
+  pub kind : o ≡ Some live
+  pub point : Point
+  pub place : p ≡ Some point
+  pub parts : ℤ × ℤ
+  pub force : q ≡ Some parts
+  pub number : ℕ
+  pub body : at ≡ Some number
+  pub free : is_free_at number ≡ true
+  pub is : to live point parts number ≡ ns
+
+load_steps : (s : Spot) (j k l : Key) (d e : ModelError) (o : Option Bool) (p : Option Point)
+    (q : Option (ℤ × ℤ)) (at : Option ℕ) (free : ℕ → Bool) (to : Bool → Point → ℤ × ℤ → ℕ → List Load)
+    (ns : List Load)
+    → (ranged s j o >>= λ live. ranged s k p >>= λ c. ranged s l q >>= λ f. found at d
+    >>= λ n. unless (free n) e >>= λ _. Ok (to live c f n)) ≡ Ok ns
+    → LoadSteps o p q at free to ns
+load_steps s j k l d e (Some live) (Some c) (Some f) (Some n) free to ns h = last (free n) refl h
   where
-    last : (q : Result (List Load) Fault)
-        → (q >>= λ ls. Ok (record { materials = both.0; bodies = both.1; loads = ls })) ≡ Ok s
-        → (c : List NamedMaterial × List NamedBody) × ((ok both ≡ ok c) × (c.0 ≡ s.materials) × (c.1 ≡ s.bodies))
-    last (Ok ls) h = (both, (refl, cc, cc))
-    last (Err e) h = absurd (cc)
-whole_steps (Ok both) (Err e) k s h = absurd (cc)
-whole_steps (Err e) u k s h = absurd (cc)
+    last : (b : Bool) → free n ≡ b → (unless b e >>= λ _. Ok (to live c f n)) ≡ Ok ns
+        → LoadSteps (Some live) (Some c) (Some f) (Some n) free to ns
+    last true x h = record {
+      live = live;
+      kind = refl;
+      point = c;
+      place = refl;
+      parts = f;
+      force = refl;
+      number = n;
+      body = refl;
+      free = x;
+      is = cc;
+    }
+    last false x h = absurd (cc)
+load_steps s j k l d e (Some live) (Some c) (Some f) None free to ns h = absurd (cc)
+load_steps s j k l d e (Some live) (Some c) None at free to ns h = absurd (cc)
+load_steps s j k l d e (Some live) None q at free to ns h = absurd (cc)
+load_steps s j k l d e None p q at free to ns h = absurd (cc)
 
-list_steps : (u v : Result ⊤ Fault) (r : Result (List NamedMaterial) Fault) (k : List NamedMaterial → Result (List NamedBody) Fault) (both : List NamedMaterial × List NamedBody)
+load_runs : (s : Spot) (j k l : Key) (d e : ModelError) (o : Option Bool) (p : Option Point)
+    (q : Option (ℤ × ℤ)) (at : Option ℕ) (free : ℕ → Bool) (to : Bool → Point → ℤ × ℤ → ℕ → List Load)
+    (live : Bool) (c : Point) (f : ℤ × ℤ) (n : ℕ)
+    → o ≡ Some live → p ≡ Some c → q ≡ Some f → at ≡ Some n → free n ≡ true
+    → (ranged s j o >>= λ live. ranged s k p >>= λ c. ranged s l q >>= λ f. found at d
+    >>= λ n. unless (free n) e >>= λ _. Ok (to live c f n)) ≡ Ok (to live c f n)
+load_runs s j k l d e o p q at free to live c f n ho hp hq hn hf =
+    (λ i. ranged s j (ho i) >>= λ live. ranged s k (hp i) >>= λ c. ranged s l (hq i) >>= λ f. found (hn i) d
+    >>= λ n. unless (free n) e >>= λ _. Ok (to live c f n))
+    ∙ ap (λ b. unless b e >>= λ _. Ok (to live c f n)) hf
+
+-- on a free body of these
+record IsBorne (bs : List NamedBody) (l : Load) : Type 0 where
+  pub carried : IsCarried (length bs) l
+  pub free : (body_at bs l.body).fixed ≡ false
+
+not_fixed : (b : Bool) → not b ≡ true → b ≡ false
+not_fixed true h = absurd (cc)
+not_fixed false h = refl
+
+load_adds : (bs : List NamedBody) (i : ℕ) (ls : List Load) (l : LoadPart) (ns : List Load)
+    → add_load bs i ls l ≡ Ok ns → Adds (add_load bs) (IsBorne bs) (load_listed bs) i ls ns
+unfolding add_load
+load_adds bs i ls l ns h =
+    let made = λ (live : Bool) (c : Point) (f : ℤ × ℤ) (n : ℕ). let r : Load = record {
+      body = n;
+      live = live;
+      at = c;
+      fx = f.0;
+      fy = f.1;
+    } in r in
+    let s = load_steps _ _ _ _ _ _ (live_of l.kind) (point_of l.at) (force_of l.force)
+    (number_of l.block (body_names bs)) (λ n. is_free n bs)
+    (λ live c f n. ls ++ made live c f n ∷ []) ns h in
+    let c = point l.at s.point s.place in
+    let f = force l.force s.parts s.force in
+    let below : s.number < length bs = subst (λ k. s.number < k) (length-map bs (λ (b : NamedBody). b.name))
+    (number_below l.block (body_names bs) s.number s.body) in
+    let same : (body_at bs s.number).name ≡ l.block =
+    sym (get_or-map (λ (b : NamedBody). b.name) bs s.number _ [] below)
+    ∙ sym (named l.block (body_names bs) s.number s.body) in
+    record {
+      item = made s.live s.point s.parts s.number;
+      is = s.is;
+      keeps = record {
+        carried = record {
+          on_body = below;
+          in_range = c.range;
+          least_fx = f.x.0;
+          most_fx = f.x.1;
+          least_fy = f.y.0;
+          most_fy = f.y.1;
+        };
+        free = not_fixed _ s.free;
+      };
+      again = load_runs _ _ _ _ _ _ _ _ _ _ (λ n. is_free n bs)
+          (λ live c f n. ls ++ made live c f n ∷ []) s.live s.point s.parts s.number
+          (kind_again s.live) c.again f.again (ap (λ name. number_of name (body_names bs)) same
+          ∙ s.body) s.free ∙ ap Ok s.is;
+    }
+
+-- as many as were listed are few where those were
+few : (limit n m : ℕ) (what : What) (x : ⊤) → m ≡ n → at_most limit n what ≡ Ok x
+    → (m ≤ limit) × (at_most limit m what ≡ Ok x)
+few limit n m what x same h =
+    let t : nat_le n limit ≡ true = held (nat_le n limit) _ x h in
+    (subst (λ k. k ≤ limit) (sym same) (grind (arith, ints)), ap (λ k. at_most limit k what) same ∙ h)
+
+abbrev both_lists : List NamedMaterial → List NamedBody
+    → Result (List NamedMaterial × List NamedBody) ModelError
+both_lists ms bs = Ok (ms, bs)
+
+-- the steps of the two lists
+record ListSteps (u v : Result ⊤ ModelError) (r : Result (List NamedMaterial) ModelError)
+    (k : List NamedMaterial → Result (List NamedBody) ModelError) (ms : List NamedMaterial)
+    (bs : List NamedBody) : Type 0 where
+  pub few_materials : u ≡ Ok tt
+  pub few_bodies : v ≡ Ok tt
+  pub materials : r ≡ Ok ms
+  pub bodies : k ms ≡ Ok bs
+
+list_steps : (u v : Result ⊤ ModelError) (r : Result (List NamedMaterial) ModelError)
+    (k : List NamedMaterial → Result (List NamedBody) ModelError) (both : List NamedMaterial × List NamedBody)
     → (u >>= λ _. r >>= λ ms. v >>= λ _. k ms >>= λ bs. Ok (ms, bs)) ≡ Ok both
-    → (r ≡ Ok both.0) × (k both.0 ≡ Ok both.1)
-list_steps (Ok t) (Ok w) (Ok ms) k both h = last (k ms) refl h
+    → ListSteps u v r k both.0 both.1
+list_steps (Ok t) (Ok w) (Ok ns) k both h = last (k ns) refl h
   where
-    last : (q : Result (List NamedBody) Fault) → k ms ≡ q → (q >>= λ bs. Ok (ms, bs)) ≡ Ok both
-        → (ok ms ≡ ok both.0) × (k both.0 ≡ Ok both.1)
-    last (Ok bs) e h = let same : (ms, bs) ≡ both = cc in (ap (λ b. Ok b.0) same, ap (λ b. k b.0) (sym same) ∙ (e ∙ ap (λ b. Ok b.1) same))
+    last : (q : Result (List NamedBody) ModelError) → k ns ≡ q → (q >>= λ cs. Ok (ns, cs)) ≡ Ok both
+        → ListSteps (Ok t) (Ok w) (Ok ns) k both.0 both.1
+    last (Ok cs) e h =
+        let same : (ns, cs) ≡ both = cc in
+        record {
+          few_materials = refl;
+          few_bodies = refl;
+          materials = ap (λ b. Ok b.0) same;
+          bodies = ap (λ b. k b.0) (sym same) ∙ (e ∙ ap (λ b. Ok b.1) same);
+        }
     last (Err f) e h = absurd (cc)
 list_steps (Ok t) (Err e) (Ok ms) k both h = absurd (cc)
 list_steps (Ok t) v (Err e) k both h = absurd (cc)
 list_steps (Err e) v r k both h = absurd (cc)
 
-none : {X : Type 0} (P : X → Type 0) → All P []
-none P k d lt = absurd (omega arith)
+list_runs : (u v : Result ⊤ ModelError) (r : Result (List NamedMaterial) ModelError) (k : List NamedMaterial
+    → Result (List NamedBody) ModelError) (ms : List NamedMaterial) (bs : List NamedBody)
+    → u ≡ Ok tt → v ≡ Ok tt → r ≡ Ok ms → k ms ≡ Ok bs
+    → (u >>= λ _. r >>= λ ms. v >>= λ _. k ms >>= λ bs. both_lists ms bs) ≡ both_lists ms bs
+list_runs u v r k ms bs hu hv hr hk =
+    (λ i. hu i >>= λ _. hr i >>= λ ms. hv i >>= λ _. k ms >>= λ bs. both_lists ms bs)
+    ∙ ap (λ q. q >>= λ bs. both_lists ms bs) hk
 
-pub laid : (outline_of : Outlines) (parts : Parts) (s : Structure) → content_of outline_of parts ≡ Ok s
-    → IsLaid s
+whole_runs : (r : Result (List NamedMaterial × List NamedBody) ModelError) (u : Result ⊤ ModelError)
+    (k : List NamedMaterial × List NamedBody → Result (List Load) ModelError) (ms : List NamedMaterial)
+    (bs : List NamedBody) (ls : List Load)
+    → r ≡ both_lists ms bs → u ≡ Ok tt → k (ms, bs) ≡ Ok ls
+    → (r >>= λ both. u >>= λ _. k both >>= λ ls. Ok (listed both.0 both.1 ls)) ≡ Ok (listed ms bs ls)
+whole_runs r u k ms bs ls hr hu hk =
+    (λ i. hr i >>= λ both. hu i >>= λ _. k both >>= λ ls. Ok (listed both.0 both.1 ls))
+    ∙ ap (λ q. q >>= λ ls. Ok (listed ms bs ls)) hk
+
+-- the structure of parts whose content was taken
+pub sound : (parts : PartLists) (ms : List NamedMaterial) (bs : List NamedBody) (ls : List Load)
+    → bodies_of parts ≡ Ok (ms, bs) → at_most 256 (length parts.loads) whats.Loads ≡ Ok tt
+    → steps (add_load bs) 0 [] parts.loads ≡ Ok ls → IsSound (listed ms bs ls)
 unfolding content_of bodies_of
-laid outline_of parts s h =
-    let whole = whole_steps (bodies_of outline_of parts) (at_most 256 (length parts.loads) whats.Loads) (λ both. steps (add_load both.1) 0 [] parts.loads) s h in
-    let ms = whole.0.0 in
-    let lists = list_steps (at_most 64 (length parts.materials) whats.Materials) (at_most 192 (length parts.blocks) whats.Blocks) (steps add_material 0 [] parts.materials)
-    (λ ms. steps (add_block outline_of ms) 0 [] parts.blocks) whole.0 whole.1.0 in
-    let m : All IsWithinLimits ms = steps_keep (All IsWithinLimits) add_material material_kept 0 [] parts.materials ms lists.0 (none IsWithinLimits) in
-    let b : All (IsOf (length ms)) whole.0.1 = steps_keep (All (IsOf (length ms))) (add_block outline_of ms) (block_kept outline_of ms) 0 [] parts.blocks whole.0.1 lists.1 (none (IsOf (length ms))) in
-    let m2 : All IsWithinLimits s.materials = subst (All IsWithinLimits) whole.1.1 m in
-    let b2 : All (IsOf (length s.materials)) s.bodies = subst (λ bs. All (IsOf (length s.materials)) bs) whole.1.2 (subst (λ (ns : List NamedMaterial). All (IsOf (length ns)) whole.0.1) whole.1.1 b) in
-    record { materials = λ i lt. m2 i _ lt; bodies = λ i lt. b2 i _ lt }
+sound parts ms bs ls h some_loads loads =
+    let s = list_steps (at_most 64 (length parts.materials) whats.Materials)
+    (at_most 192 (length parts.blocks) whats.Blocks) (steps add_material 0 [] parts.materials)
+    (λ ms. steps (add_block ms) 0 [] parts.blocks) (ms, bs) h in
+    let m = grown add_material IsWithinLimits material_listed material_adds parts.materials ms s.materials in
+    let b = grown (add_block ms) (IsPlaced (length ms)) (body_listed ms)
+    (block_adds ms) parts.blocks bs s.bodies in
+    let l = grown (add_load bs) (IsBorne bs) (load_listed bs) (load_adds bs) parts.loads ls loads in
+    let few_m = few 64 _ _ whats.Materials tt m.count s.few_materials in
+    let few_b = few 192 _ _ whats.Blocks tt b.count s.few_bodies in
+    let few_l = few 256 _ _ whats.Loads tt l.count some_loads in
+    let both = list_runs _ _ _ (λ ns. steps (add_block ns) 0 [] (map (body_listed ms) bs)) ms bs
+    (ap (λ n. at_most 64 n whats.Materials) (length-map ms material_listed) ∙ few_m.1)
+    (ap (λ n. at_most 192 n whats.Blocks) (length-map bs (body_listed ms)) ∙ few_b.1) m.again b.again in
+    record {
+      materials = λ i lt. m.keeps i _ lt;
+      bodies = λ i lt. b.keeps i _ lt;
+      loads = λ i lt. (l.keeps i _ lt).carried;
+      free = λ i lt. (l.keeps i _ lt).free;
+      few_materials = few_m.0;
+      few_bodies = few_b.0;
+      few_loads = few_l.0;
+      again = whole_runs _ _ (λ both. steps (add_load both.1) 0 [] (map (load_listed bs) ls)) ms bs ls both
+          (ap (λ n. at_most 256 n whats.Loads) (length-map ls (load_listed bs)) ∙ few_l.1) l.again;
+    }

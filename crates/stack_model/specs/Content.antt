@@ -1,6 +1,5 @@
 -- The content of what a file lists: the structure, or the first fault of content in one order. Materials come
--- first, then blocks, then loads, each in the order of the file. Which corner lists are outlines is a
--- parameter.
+-- first, then blocks, then loads, each in the order of the file.
 use Rattle.std.specs.Prelude.{ℕ, pos, Bool, true, false, not, List, [], ◌∷◌, ◌++◌, length, map, Option}
 use Rattle.std.specs.Prelude.{Some, None, Result, Ok, Err, nat_le, nat_lt, position, count_by}
 use Rattle.std.specs.Prelude.{if◌then◌else◌, ⊤}
@@ -9,28 +8,30 @@ use Rattle.std.specs.List.{list_any}
 use Rattle.stack_algebra.specs.Steps.{◌>>=◌, steps}
 use Rattle.stack_polygon.specs.declared.point.Point.{Point}
 use Rattle.stack_model.specs.declared.types.Load.{Load}
-use Rattle.stack_model.specs.declared.faults.Spot.{Spot}
-use Rattle.stack_model.specs.declared.faults.Spot.TheVariants as spots
-use Rattle.stack_model.specs.declared.faults.Key.{Key}
-use Rattle.stack_model.specs.declared.faults.Key.TheVariants as keys
-use Rattle.stack_model.specs.declared.faults.What.{What}
-use Rattle.stack_model.specs.declared.faults.What.TheVariants as whats
-use Rattle.stack_model.specs.declared.faults.Fault.{Fault}
-use Rattle.stack_model.specs.declared.faults.Fault.TheVariants.{Range, SameName, NoMaterial, NoBlock, LoadOnFixed, TooMany}
+use Rattle.stack_model.specs.declared.places.Spot.{Spot}
+use Rattle.stack_model.specs.declared.places.Spot.TheVariants as spots
+use Rattle.stack_model.specs.declared.places.Key.{Key}
+use Rattle.stack_model.specs.declared.places.Key.TheVariants as keys
+use Rattle.stack_model.specs.declared.places.What.{What}
+use Rattle.stack_model.specs.declared.places.What.TheVariants as whats
+use Rattle.stack_model.specs.declared.errors.ModelError.{ModelError}
+use Rattle.stack_model.specs.declared.errors.ModelError.TheVariants.{Range, SameName, NoMaterial, NoBlock}
+use Rattle.stack_model.specs.declared.errors.ModelError.TheVariants.{LoadOnFixed, TooMany}
 use Rattle.stack_model.specs.Structure.{NamedMaterial, NamedBody, Structure, body_at}
-use Rattle.stack_model.specs.Parts.{MaterialPart, BlockPart, LoadPart, Parts}
+use Rattle.stack_model.specs.Parts.{MaterialPart, BlockPart, LoadPart, PartLists}
 use Rattle.stack_model.specs.Limits.{is_name, is_between, friction_of, point_of, corners_of, live_of, force_of}
+use Rattle.stack_model.specs.Convex.{convex}
 
 -- what a value means, where it is within its limits
-abbrev pub ranged : {A : Type 0} → Spot → Key → Option A → Result A Fault
+abbrev pub ranged : {A : Type 0} → Spot → Key → Option A → Result A ModelError
 ranged spot key None = Err (Range spot key)
 ranged spot key (Some x) = Ok x
 
 -- a test that must hold, or else this fault
-abbrev pub unless : Bool → Fault → Result ⊤ Fault
+abbrev pub unless : Bool → ModelError → Result ⊤ ModelError
 unless holds fault = if holds then Ok tt else Err fault
 
-abbrev pub at_most : ℕ → ℕ → What → Result ⊤ Fault
+abbrev pub at_most : ℕ → ℕ → What → Result ⊤ ModelError
 at_most limit count what = unless (nat_le count limit) (TooMany what)
 
 abbrev pub material_names : List NamedMaterial → List (List ℕ)
@@ -48,58 +49,60 @@ abbrev pub is_new : List ℕ → List (List ℕ) → Bool
 is_new name names = not (list_any (bytes_eq name) names)
 
 -- the number found, or this fault
-abbrev pub found : Option ℕ → Fault → Result ℕ Fault
+abbrev pub found : Option ℕ → ModelError → Result ℕ ModelError
 found None fault = Err fault
 found (Some n) fault = Ok n
 
 -- one more material, with a name of its own
-unfoldable pub with_material : Spot → NamedMaterial → List NamedMaterial → Result (List NamedMaterial) Fault
+unfoldable pub with_material : Spot → NamedMaterial → List NamedMaterial
+    → Result (List NamedMaterial) ModelError
 with_material spot m ms = do
   new ← unless (is_new m.name (material_names ms)) (SameName spot)
   Ok (ms ++ m ∷ [])
 
 -- material i, after those before it
-unfoldable pub add_material : ℕ → List NamedMaterial → MaterialPart → Result (List NamedMaterial) Fault
+unfoldable pub add_material : ℕ → List NamedMaterial → MaterialPart → Result (List NamedMaterial) ModelError
 add_material i ms m = do
   named ← unless (is_name m.name) (Range (spots.Material i) keys.Name)
   weighed ← unless (is_between (pos 0) (pos 1000000) m.weight) (Range (spots.Material i) keys.Weight)
   friction ← ranged (spots.Material i) keys.Friction (friction_of m.friction)
-  with_material (spots.Material i) (record { name = m.name; weight = m.weight; p = friction.0; q = friction.1 }) ms
-
--- the outline of block i, if its corner list has one
-abbrev pub Outlines : Type 0
-Outlines = ℕ → List Point → Result (List Point) Fault
+  with_material (spots.Material i) (record {
+    name = m.name;
+    weight = m.weight;
+    p = friction.0;
+    q = friction.1;
+  }) ms
 
 -- there is room for one more free body among 128, or one more fixed among 64
-abbrev pub has_room : Bool → List NamedBody → Result ⊤ Fault
+abbrev pub has_room : Bool → List NamedBody → Result ⊤ ModelError
 has_room true bs = unless (nat_lt (count_by (λ b. b.fixed) bs) 64) (TooMany whats.Fixed)
 has_room false bs = unless (nat_lt (count_by (λ b. not b.fixed) bs) 128) (TooMany whats.Free)
 
 -- one more body, as block i: its name is new, its material is known, its corner list has an outline, there is
 -- room for it
-unfoldable pub with_body : Outlines → ℕ → List ℕ → Option ℕ → Bool → List Point → List NamedBody
-    → Result (List NamedBody) Fault
-with_body outline_of i name material fixed corners bs = do
+unfoldable pub with_body : ℕ → List ℕ → Option ℕ → Bool → List Point → List NamedBody
+    → Result (List NamedBody) ModelError
+with_body i name material fixed corners bs = do
   new ← unless (is_new name (body_names bs)) (SameName (spots.Block i))
   number ← found material (NoMaterial i)
-  outline ← outline_of i corners
+  outline ← convex i corners
   room ← has_room fixed bs
   Ok (bs ++ record { name = name; material = number; fixed = fixed; corners = outline } ∷ [])
 
 -- block i, after those before it
-unfoldable pub add_block : Outlines → List NamedMaterial → ℕ → List NamedBody → BlockPart
-    → Result (List NamedBody) Fault
-add_block outline_of ms i bs b = do
+unfoldable pub add_block : List NamedMaterial → ℕ → List NamedBody → BlockPart
+    → Result (List NamedBody) ModelError
+add_block ms i bs b = do
   named ← unless (is_name b.name) (Range (spots.Block i) keys.Name)
   corners ← ranged (spots.Block i) keys.Corners (corners_of b.corners)
-  with_body outline_of i b.name (number_of b.material (material_names ms)) b.fixed corners bs
+  with_body i b.name (number_of b.material (material_names ms)) b.fixed corners bs
 
 -- the body with a number isn't fixed
 abbrev pub is_free : ℕ → List NamedBody → Bool
 is_free n bs = not (body_at bs n).fixed
 
 -- load i, after those before it
-unfoldable pub add_load : List NamedBody → ℕ → List Load → LoadPart → Result (List Load) Fault
+unfoldable pub add_load : List NamedBody → ℕ → List Load → LoadPart → Result (List Load) ModelError
 add_load bs i ls l = do
   live ← ranged (spots.Load i) keys.Kind (live_of l.kind)
   point ← ranged (spots.Load i) keys.At (point_of l.at)
@@ -109,17 +112,17 @@ add_load bs i ls l = do
   Ok (ls ++ record { body = body; live = live; at = point; fx = force.0; fy = force.1 } ∷ [])
 
 -- the materials and the bodies
-unfoldable pub bodies_of : Outlines → Parts → Result (List NamedMaterial × List NamedBody) Fault
-bodies_of outline_of parts = do
+unfoldable pub bodies_of : PartLists → Result (List NamedMaterial × List NamedBody) ModelError
+bodies_of parts = do
   few_materials ← at_most 64 (length parts.materials) whats.Materials
   materials ← steps add_material 0 [] parts.materials
   few_blocks ← at_most 192 (length parts.blocks) whats.Blocks
-  bodies ← steps (add_block outline_of materials) 0 [] parts.blocks
+  bodies ← steps (add_block materials) 0 [] parts.blocks
   Ok (materials, bodies)
 
-unfoldable pub content_of : Outlines → Parts → Result Structure Fault
-content_of outline_of parts = do
-  both ← bodies_of outline_of parts
+unfoldable pub content_of : PartLists → Result Structure ModelError
+content_of parts = do
+  both ← bodies_of parts
   few_loads ← at_most 256 (length parts.loads) whats.Loads
   loads ← steps (add_load both.1) 0 [] parts.loads
   Ok (record { materials = both.0; bodies = both.1; loads = loads })

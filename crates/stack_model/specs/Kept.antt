@@ -8,13 +8,27 @@ use Rattle.stack_model.specs.declared.model.Model.TheInside.{Inside}
 use Rattle.stack_model.specs.Structure.{NamedMaterial, NamedBody, Structure}
 
 abbrev pub material_view : KeptMaterial → NamedMaterial
-material_view m = record { name = string_bytes m.name; weight = m.material.weight; p = m.material.p; q = m.material.q }
+material_view m = record {
+  name = string_bytes m.name;
+  weight = m.material.weight;
+  p = m.material.p;
+  q = m.material.q;
+}
 
 abbrev pub body_view : KeptBody → NamedBody
-body_view b = record { name = string_bytes b.name; material = b.body.material; fixed = b.body.fixed; corners = b.outline }
+body_view b = record {
+  name = string_bytes b.name;
+  material = b.body.material;
+  fixed = b.body.fixed;
+  corners = b.outline;
+}
 
 abbrev pub inside_view : Inside → Structure
-inside_view m = record { materials = map material_view m.materials.items; bodies = map body_view m.bodies.items; loads = m.loads.items }
+inside_view m = record {
+  materials = map material_view m.materials.items;
+  bodies = map body_view m.bodies.items;
+  loads = m.loads.items;
+}
 
 -- an item without its name
 abbrev pub material_alone : NamedMaterial → Material

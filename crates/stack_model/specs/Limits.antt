@@ -1,15 +1,16 @@
 -- The limits of names, numbers and lists: what their values mean, where they are within the limits.
 use Rattle.std.specs.Prelude.{ℕ, ℤ, pos, negsuc, Bool, true, false, ◌&&◌, ◌||◌, List, [], ◌∷◌, length}
-use Rattle.std.specs.Prelude.{codes, Option, Some, None, nat_le, ◌==◌, int_le, if◌then◌else◌}
+use Rattle.std.specs.Prelude.{codes, Option, option_map, Some, None, nat_le, ◌==◌, int_le, if◌then◌else◌}
 use Rattle.std.specs.Str.{bytes_eq}
 use Rattle.std.specs.List.{list_all}
 use Rattle.stack_polygon.specs.declared.point.Point.{Point}
 use Rattle.stack_polygon.specs.Limits.{is_near}
-use Rattle.stack_model.specs.Forms.{with_first}
 
 -- an ASCII letter, a digit, `_` or `-`
 abbrev pub is_name_byte : ℕ → Bool
-is_name_byte b = (nat_le 97 b && nat_le b 122) || (nat_le 65 b && nat_le b 90) || (nat_le 48 b && nat_le b 57) || b == 95 || b == 45
+is_name_byte b =
+    (nat_le 97 b && nat_le b 122) || (nat_le 65 b && nat_le b 90) || (nat_le 48 b && nat_le b 57)
+    || b == 95 || b == 45
 
 -- 1 to 32 of these
 abbrev pub is_name : List ℕ → Bool
@@ -20,7 +21,8 @@ is_between low high z = int_le low z && int_le z high
 
 -- p from 0 to 1,000 and q from 1 to 1,000
 abbrev pub friction_of : List ℤ → Option (ℤ × ℤ)
-friction_of (p ∷ q ∷ []) = if is_between (pos 0) (pos 1000) p && is_between (pos 1) (pos 1000) q then Some (p, q) else None
+friction_of (p ∷ q ∷ []) =
+    if is_between (pos 0) (pos 1000) p && is_between (pos 1) (pos 1000) q then Some (p, q) else None
 friction_of _ = None
 
 -- two coordinates in range
@@ -28,20 +30,27 @@ abbrev pub point_of : List ℤ → Option Point
 point_of (x ∷ y ∷ []) = if is_near x && is_near y then Some (record { x = x; y = y }) else None
 point_of _ = None
 
--- 3 to 32 points
+-- one more in front, where both are there
+abbrev pub with_first : {A : Type 0} → Option A → Option (List A) → Option (List A)
+with_first None rest = None
+with_first (Some x) rest = option_map (λ xs. x ∷ xs) rest
+
 abbrev pub points_of : List (List ℤ) → Option (List Point)
 points_of [] = Some []
 points_of (c ∷ cs) = with_first (point_of c) (points_of cs)
 
+-- 3 to 32 points
 abbrev pub corners_of : List (List ℤ) → Option (List Point)
 corners_of cs = if nat_le 3 (length cs) && nat_le (length cs) 32 then points_of cs else None
 
 -- whether a load is live
 abbrev pub live_of : List ℕ → Option Bool
-live_of kind = if bytes_eq kind (codes "live") then Some true else (if bytes_eq kind (codes "dead") then Some false else None)
+live_of kind = if bytes_eq kind (codes "live") then Some true else
+    (if bytes_eq kind (codes "dead") then Some false else None)
 
 -- two components of at most 1,000,000,000 in size
 abbrev pub force_of : List ℤ → Option (ℤ × ℤ)
 force_of (fx ∷ fy ∷ []) =
-    if is_between (negsuc 999999999) (pos 1000000000) fx && is_between (negsuc 999999999) (pos 1000000000) fy then Some (fx, fy) else None
+    if is_between (negsuc 999999999) (pos 1000000000) fx && is_between (negsuc 999999999) (pos 1000000000) fy
+    then Some (fx, fy) else None
 force_of _ = None

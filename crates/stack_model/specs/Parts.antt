@@ -18,7 +18,7 @@ pub record LoadPart : Type 0 where
   pub at : List ℤ
   pub force : List ℤ
 
-pub record Parts : Type 0 where
+pub record PartLists : Type 0 where
   pub materials : List MaterialPart
   pub blocks : List BlockPart
   pub loads : List LoadPart

@@ -4,8 +4,8 @@ use Rattle.std.specs.declared.alloc.Global.{Global}
 use Rattle.stack_model.specs.declared.raw.RawMaterial.{RawMaterial}
 use Rattle.stack_model.specs.declared.raw.RawBlock.{RawBlock}
 use Rattle.stack_model.specs.declared.raw.RawLoad.{RawLoad}
-use Rattle.stack_model.specs.declared.raw.RawParts.{RawParts}
-use Rattle.stack_model.specs.Parts.{MaterialPart, BlockPart, LoadPart, Parts}
+use Rattle.stack_model.specs.declared.raw.Parts.{Parts}
+use Rattle.stack_model.specs.Parts.{MaterialPart, BlockPart, LoadPart, PartLists}
 
 abbrev pub numbers_view : Vec ℤ Global → List ℤ
 numbers_view v = v.items
@@ -17,10 +17,24 @@ abbrev pub raw_material : RawMaterial → MaterialPart
 raw_material m = record { name = string_bytes m.name; weight = m.weight; friction = m.friction.items }
 
 abbrev pub raw_block : RawBlock → BlockPart
-raw_block b = record { name = string_bytes b.name; material = string_bytes b.material; fixed = b.fixed; corners = lists_view b.corners }
+raw_block b = record {
+  name = string_bytes b.name;
+  material = string_bytes b.material;
+  fixed = b.fixed;
+  corners = lists_view b.corners;
+}
 
 abbrev pub raw_load : RawLoad → LoadPart
-raw_load l = record { block = string_bytes l.block; kind = string_bytes l.kind; at = l.at.items; force = l.force.items }
+raw_load l = record {
+  block = string_bytes l.block;
+  kind = string_bytes l.kind;
+  at = l.at.items;
+  force = l.force.items;
+}
 
-abbrev pub raw_parts : RawParts → Parts
-raw_parts p = record { materials = map raw_material p.materials.items; blocks = map raw_block p.blocks.items; loads = map raw_load p.loads.items }
+abbrev pub raw_parts : Parts → PartLists
+raw_parts p = record {
+  materials = map raw_material p.materials.items;
+  blocks = map raw_block p.blocks.items;
+  loads = map raw_load p.loads.items;
+}

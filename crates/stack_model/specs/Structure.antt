@@ -1,6 +1,6 @@
 -- What a model describes: materials, bodies and loads, each a list in the order of the file. Used by every
 -- crate above.
-use Rattle.std.specs.Prelude.{◌≡◌, ℕ, ◌<◌, ℤ, pos, negsuc, Bool, true, false, List, [], length, get_or}
+use Rattle.std.specs.Prelude.{ℕ, ◌<◌, ℤ, pos, negsuc, Bool, true, false, List, [], get_or}
 use Rattle.stack_algebra.specs.IntegerOrder.{◌≼◌}
 use Rattle.stack_polygon.specs.declared.point.Point.{Point}
 use Rattle.stack_polygon.specs.Corners.{origin}
@@ -30,8 +30,11 @@ abbrev pub listed : List NamedMaterial → List NamedBody → List Load → Stru
 listed ms bs ls = record { materials = ms; bodies = bs; loads = ls }
 
 -- the items by number; past the end stands an item that means nothing
+abbrev pub material_at : List NamedMaterial → ℕ → NamedMaterial
+material_at ms i = get_or ms i (record { name = []; weight = pos 0; p = pos 0; q = pos 1 })
+
 abbrev pub material_of : Structure → ℕ → NamedMaterial
-material_of s i = get_or s.materials i (record { name = []; weight = pos 0; p = pos 0; q = pos 1 })
+material_of s i = material_at s.materials i
 
 abbrev pub body_at : List NamedBody → ℕ → NamedBody
 body_at bs i = get_or bs i (record { name = []; material = 0; fixed = true; corners = [] })
@@ -65,9 +68,3 @@ pub record IsCarried (bodies : ℕ) (l : Load) : Type 0 where
   pub most_fx : l.fx ≼ pos 1000000000
   pub least_fy : negsuc 999999999 ≼ l.fy
   pub most_fy : l.fy ≼ pos 1000000000
-
-pub record IsSound (s : Structure) : Type 0 where
-  pub materials : (i : ℕ) → i < length s.materials → IsWithinLimits (material_of s i)
-  pub bodies : (i : ℕ) → i < length s.bodies → IsPlaced (length s.materials) (body_of s i)
-  pub loads : (i : ℕ) → i < length s.loads → IsCarried (length s.bodies) (load_of s i)
-  pub two : length s.bodies ≡ 2

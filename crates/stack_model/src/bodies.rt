@@ -1,21 +1,24 @@
 //! The blocks of a file, checked one after the other.
 
-ghost use Rattle.std.specs.Prelude.{◌≡◌, [], map, not, count_by};
+ghost use Rattle.std.specs.Prelude.{◌≡◌, [], map, not, true, length, IfOk, count_by};
 ghost use Rattle.stack_algebra.specs.Steps.{steps};
+ghost use Rattle.stack_polygon.specs.Limits.{are_in_range};
+ghost use Rattle.stack_polygon.specs.Admission.{is_count};
 ghost use Rattle.stack_model.specs.Raw.{raw_block, numbers_view};
 ghost use Rattle.stack_model.specs.Gives.{Gives};
-ghost use Rattle.stack_model.specs.Drawn.{drawn_view};
+ghost use Rattle.stack_model.specs.Kept.{body_view};
 ghost use Rattle.stack_model.specs.Limits.{corners_of};
 ghost use Rattle.stack_model.specs.Content.{ranged, found as found_of, has_room as has_room_of, with_body};
 ghost use Rattle.stack_model.specs.Content.{add_block, number_of, body_names, material_names};
 ghost use Rattle.stack_model.specs.Content.{is_free as is_free_of};
-ghost use Rattle.stack_model.specs.AsWritten.{as_written};
 
-use crate::drawing::DrawnBody;
-use crate::faults::{Fault, Key, Spot, What};
+use crate::errors::ModelError;
+use crate::kept::KeptBody;
 use crate::limits::{corners, is_name};
 use crate::materials::{Materials, unless};
 use crate::names::Names;
+use crate::outline::outline;
+use crate::places::{Key, Spot, What};
 use crate::raw::RawBlock;
 use crate::types::Body;
 use stack_polygon::Point;
@@ -25,7 +28,7 @@ use std::alloc::Global;
 #[derive(Drop)]
 pub struct Bodies {
     names: Names,
-    drawn: Vec<DrawnBody>,
+    kept: Vec<KeptBody>,
 }
 
 impl std::marker::Model for Bodies {
@@ -34,20 +37,22 @@ impl std::marker::Model for Bodies {
 
     ghost Value = { List NamedBody };
 
-    ghost use Rattle.stack_model.specs.Drawn.{drawn_view};
+    ghost use Rattle.stack_model.specs.Kept.{body_view};
     ghost use Rattle.stack_model.specs.Content.{body_names};
 
-    ghost view = { λ m. map drawn_view m.drawn.items };
+    ghost view = { λ m. map body_view m.kept.items };
 
-    ghost invariant = { λ m. m.names ≡ body_names (map drawn_view m.drawn.items) };
+    ghost invariant = { λ m. m.names ≡ body_names (map body_view m.kept.items) };
 }
 
-fn corners_at(alloc: Global, spot: Spot, lists: &[Vec<i64>]) -> Result<Vec<Point>, Fault>
-    ensures { Gives (λ v. v.items) result (ranged spot Key.Corners (corners_of (map numbers_view lists.now))) }
+fn corners_at(alloc: Global, spot: Spot, lists: &[Vec<i64>]) -> Result<Vec<Point>, ModelError>
+    ensures value { Gives (λ v. v.items) result (ranged spot Key.Corners (corners_of (map numbers_view lists.now))) }
+    ensures count { IfOk result (λ v. is_count (length v.items) ≡ true) }
+    ensures range { IfOk result (λ v. are_in_range v.items ≡ true) }
 {
     match corners(alloc, lists)? {
         Some(points) => Ok(points),
-        None => Err(Fault::Range {
+        None => Err(ModelError::Range {
             spot,
             key: Key::Corners,
         }),
@@ -55,7 +60,7 @@ fn corners_at(alloc: Global, spot: Spot, lists: &[Vec<i64>]) -> Result<Vec<Point
 }
 
 /// The number found, or else this fault.
-pub fn found(number: Option<usize>, fault: Fault) -> Result<usize, Fault>
+pub fn found(number: Option<usize>, fault: ModelError) -> Result<usize, ModelError>
     ensures { Gives (λ n. n) result (found_of number fault) }
 {
     match number {
@@ -64,29 +69,32 @@ pub fn found(number: Option<usize>, fault: Fault) -> Result<usize, Fault>
     }
 }
 
-fn count_fixed(drawn: &[DrawnBody]) -> usize
-    ensures { result ≡ count_by (λ b. b.fixed) (map drawn_view drawn.now) }
+fn count_fixed(kept: &[KeptBody]) -> usize
+    ensures { result ≡ count_by (λ b. b.fixed) (map body_view kept.now) }
 {
-    drawn.iter().filter(|b| b.body.fixed).count()
+    kept.iter().filter(|b| b.body.fixed).count()
 }
 
-fn count_free(drawn: &[DrawnBody]) -> usize
-    ensures { result ≡ count_by (λ b. not b.fixed) (map drawn_view drawn.now) }
+fn count_free(kept: &[KeptBody]) -> usize
+    ensures { result ≡ count_by (λ b. not b.fixed) (map body_view kept.now) }
 {
-    drawn.iter().filter(|b| !b.body.fixed).count()
+    kept.iter().filter(|b| !b.body.fixed).count()
 }
 
 /// Room for one more fixed body among 64, or one more free body among 128.
-fn has_room(fixed: bool, drawn: &[DrawnBody]) -> Result<(), Fault>
-    ensures { Gives (λ x. x) result (has_room_of fixed (map drawn_view drawn.now)) }
+fn has_room(fixed: bool, kept: &[KeptBody]) -> Result<(), ModelError>
+    ensures { Gives (λ x. x) result (has_room_of fixed (map body_view kept.now)) }
 {
     if fixed {
         unless(
-            count_fixed(drawn) < 64,
-            Fault::TooMany { what: What::Fixed },
+            count_fixed(kept) < 64,
+            ModelError::TooMany { what: What::Fixed },
         )
     } else {
-        unless(count_free(drawn) < 128, Fault::TooMany { what: What::Free })
+        unless(
+            count_free(kept) < 128,
+            ModelError::TooMany { what: What::Free },
+        )
     }
 }
 
@@ -96,7 +104,7 @@ impl Bodies {
     {
         Bodies {
             names: Names::new(alloc),
-            drawn: Vec::new(alloc),
+            kept: Vec::new(alloc),
         }
     }
 
@@ -111,7 +119,7 @@ impl Bodies {
     pub fn is_free(&self, n: usize) -> bool
         ensures { result ≡ is_free_of n self.now }
     {
-        match self.drawn.get(n) {
+        match self.kept.get(n) {
             Some(b) => !b.body.fixed,
             None => false,
         }
@@ -127,40 +135,43 @@ impl Bodies {
         material: Option<usize>,
         fixed: bool,
         corners: Vec<Point>,
-    ) -> Result<Bodies, Fault>
-        ensures { Gives (λ m. m) result (with_body as_written index name.now material fixed corners.items self) }
+    ) -> Result<Bodies, ModelError>
+        requires count { is_count (length corners.items) ≡ true }
+        requires range { are_in_range corners.items ≡ true }
+        ensures { Gives (λ m. m) result (with_body index name.now material fixed corners.items self) }
     {
         let Bodies {
             mut names,
-            mut drawn,
+            mut kept,
         } = self;
         if !names.add(alloc, name)? {
-            return Err(Fault::SameName {
+            return Err(ModelError::SameName {
                 spot: Spot::Block(index),
             });
         }
-        let number = found(material, Fault::NoMaterial { block: index })?;
-        has_room(fixed, &drawn)?;
-        drawn.push(DrawnBody {
+        let number = found(material, ModelError::NoMaterial { block: index })?;
+        let outline = outline(index, corners)?;
+        has_room(fixed, &kept)?;
+        kept.push(KeptBody {
             name: String::from_str(alloc, name)?,
             body: Body {
                 material: number,
                 fixed,
             },
-            corners,
+            outline,
         })?;
-        Ok(Bodies { names, drawn })
+        Ok(Bodies { names, kept })
     }
 
     /// The bodies, without taking memory.
-    pub fn into_drawn(self) -> Vec<DrawnBody>
-        ensures { map drawn_view result.items ≡ self }
+    pub fn into_kept(self) -> Vec<KeptBody>
+        ensures { map body_view result.items ≡ self }
     {
         let Bodies {
             names: _names,
-            drawn,
+            kept,
         } = self;
-        drawn
+        kept
     }
 }
 
@@ -171,13 +182,13 @@ fn add(
     so_far: Bodies,
     materials: &Materials,
     raw: &RawBlock,
-) -> Result<Bodies, Fault>
-    ensures { Gives (λ m. m) result (add_block as_written materials.now index so_far (raw_block raw.now)) }
+) -> Result<Bodies, ModelError>
+    ensures { Gives (λ m. m) result (add_block materials.now index so_far (raw_block raw.now)) }
 {
     let spot = Spot::Block(index);
     unless(
         is_name(raw.name.as_str()),
-        Fault::Range {
+        ModelError::Range {
             spot,
             key: Key::Name,
         },
@@ -195,8 +206,12 @@ fn add(
 }
 
 /// The bodies, or the first fault of their content.
-pub fn all_bodies(alloc: Global, materials: &Materials, raws: &[RawBlock]) -> Result<Bodies, Fault>
-    ensures { Gives (λ m. m) result (steps (add_block as_written materials.now) 0 [] (map raw_block raws.now)) }
+pub fn all_bodies(
+    alloc: Global,
+    materials: &Materials,
+    raws: &[RawBlock],
+) -> Result<Bodies, ModelError>
+    ensures { Gives (λ m. m) result (steps (add_block materials.now) 0 [] (map raw_block raws.now)) }
 {
     let mut so_far = Bodies::new(alloc);
     for (index, raw) in raws.iter().enumerate() {

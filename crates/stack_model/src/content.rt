@@ -1,33 +1,29 @@
-//! The content of what a file lists, in the order of its faults.
+//! The content of a model's parts, in the order of its faults.
 
 ghost use Rattle.std.specs.Prelude.{◌≡◌};
-ghost use Rattle.toml.specs.View.{table_view};
 ghost use Rattle.stack_model.specs.Raw.{raw_parts};
 ghost use Rattle.stack_model.specs.Gives.{Gives};
-ghost use Rattle.stack_model.specs.Drawn.{drawing_view};
-ghost use Rattle.stack_model.specs.AsWritten.{as_written};
+ghost use Rattle.stack_model.specs.ModelView.{model_view};
 ghost use Rattle.stack_model.specs.Content.{bodies_of, content_of, at_most as at_most_of};
-ghost use Rattle.stack_model.specs.Reading.{model_of};
 
 use crate::bodies::{Bodies, all_bodies};
-use crate::drawing::Drawing;
-use crate::faults::{Fault, What};
+use crate::errors::ModelError;
 use crate::loads::all_loads;
 use crate::materials::{Materials, all_materials, unless};
-use crate::raw::RawParts;
-use crate::shape::shape;
+use crate::model::Model;
+use crate::places::What;
+use crate::raw::Parts;
 use std::alloc::Global;
-use toml::Table;
 
-fn at_most(limit: usize, count: usize, what: What) -> Result<(), Fault>
+fn at_most(limit: usize, count: usize, what: What) -> Result<(), ModelError>
     ensures { Gives (λ x. x) result (at_most_of limit count what) }
 {
-    unless(count <= limit, Fault::TooMany { what })
+    unless(count <= limit, ModelError::TooMany { what })
 }
 
 #[tactic(auto, unfolding(crate::specs::Content::bodies_of))]
-fn bodies(alloc: Global, parts: &RawParts) -> Result<(Materials, Bodies), Fault>
-    ensures { Gives (λ b. b) result (bodies_of as_written (raw_parts parts.now)) }
+fn bodies(alloc: Global, parts: &Parts) -> Result<(Materials, Bodies), ModelError>
+    ensures { Gives (λ b. b) result (bodies_of (raw_parts parts.now)) }
 {
     at_most(64, parts.materials.len(), What::Materials)?;
     let materials = all_materials(alloc, parts.materials.as_slice())?;
@@ -36,25 +32,15 @@ fn bodies(alloc: Global, parts: &RawParts) -> Result<(Materials, Bodies), Fault>
     Ok((materials, bodies))
 }
 
-#[tactic(auto, unfolding(crate::specs::Content::content_of))]
-fn content(alloc: Global, parts: &RawParts) -> Result<Drawing, Fault>
-    ensures { Gives drawing_view result (content_of as_written (raw_parts parts.now)) }
-{
-    let (materials, bodies) = bodies(alloc, parts)?;
-    at_most(256, parts.loads.len(), What::Loads)?;
-    let loads = all_loads(alloc, &bodies, parts.loads.as_slice())?;
-    Ok(Drawing {
-        materials: materials.into_kept(),
-        bodies: bodies.into_drawn(),
-        loads,
-    })
-}
-
-/// What the table describes, or its first fault.
-#[tactic(auto, unfolding(crate::specs::Reading::model_of))]
-pub fn read_table(alloc: Global, table: &Table) -> Result<Drawing, Fault>
-    ensures { Gives drawing_view result (model_of as_written (table_view table.now)) }
-{
-    let parts = shape(alloc, table)?;
-    content(alloc, &parts)
+impl Model {
+    /// The model of these parts, or the first fault of their content. The parts are consumed, also by a refusal.
+    #[tactic(auto, unfolding(crate::specs::Content::content_of))]
+    pub fn new(alloc: Global, parts: Parts) -> Result<Model, ModelError>
+        ensures { Gives model_view result (content_of (raw_parts parts)) }
+    {
+        let (materials, bodies) = bodies(alloc, &parts)?;
+        at_most(256, parts.loads.len(), What::Loads)?;
+        let loads = all_loads(alloc, &bodies, parts.loads.as_slice())?;
+        Ok(Model::of(materials.into_kept(), bodies.into_kept(), loads))
+    }
 }

@@ -1,42 +1,59 @@
-//! Why a model file is refused.
+//! Why parts make no model.
 
+use crate::places::{Key, Spot, What};
 use std::alloc::{AllocError, AllocFailed};
 use thiserror::Error;
 
-/// Why a model file is refused.
+/// The first fault of the parts' content: materials come first, then blocks, then loads, each in its order, and
+/// in each item the faults in the order in which they stand here, but that the numbers of items come before all
+/// items, and those of free and of fixed blocks last in a block. Items are numbered from 0.
 #[derive(Clone, Copy, Debug, PartialEq, Eq, Error)]
-pub enum ReadError {
-    /// The bytes are no TOML document, or its table has a fault other than that of a corner list, or it
-    /// doesn't list one material and two blocks, the first fixed and the second not, or it lists a load.
-    #[error("the model file is refused")]
-    Refused,
-    /// There is no such fault, and this is the first block, from 0, whose corner list isn't the four corners
-    /// of an axis-parallel rectangle of positive area, in order round it either way.
-    #[error("block {block} is slanted")]
-    Slanted { block: usize },
+pub enum ModelError {
+    /// A name, a number, an array or a word is outside its limits.
+    #[error("{key:?} of {spot:?} is outside its limits")]
+    Range { spot: Spot, key: Key },
+    /// An earlier material, or an earlier block, has the same name.
+    #[error("{spot:?} has the name of an earlier one")]
+    SameName { spot: Spot },
+    /// No material has the name that the block gives.
+    #[error("no material has the name that block {block} gives")]
+    NoMaterial { block: usize },
+    /// No block has the name that the load gives.
+    #[error("no block has the name that load {load} gives")]
+    NoBlock { load: usize },
+    /// The corner list is strictly convex neither as it is written nor reversed, and this edge, from 0, is the
+    /// first as it is written that doesn't have every other corner strictly left of it.
+    #[error("block {block} is not convex at edge {edge}")]
+    NotConvex { block: usize, edge: usize },
+    /// The load's block is fixed.
+    #[error("load {load} is on a fixed block")]
+    LoadOnFixed { load: usize },
+    /// More than 64 materials, 192 blocks, 128 free blocks, 64 fixed blocks or 256 loads.
+    #[error("too many: {what:?}")]
+    TooMany { what: What },
     /// Memory was wanting.
     #[error("out of memory")]
     Memory,
 }
 
-impl From<AllocError> for ReadError {
+impl From<AllocError> for ModelError {
     ghost use Rattle.std.specs.Prelude.{◌≡◌};
-    ghost use Rattle.stack_model.specs.declared.errors.ReadError.TheVariants.{Memory};
+    ghost use Rattle.stack_model.specs.declared.errors.ModelError.TheVariants.{Memory};
 
     ghost from_gives = { λ _ e. e ≡ Memory };
 
-    fn from(_e: AllocError) -> ReadError {
-        ReadError::Memory
+    fn from(_e: AllocError) -> ModelError {
+        ModelError::Memory
     }
 }
 
-impl<T: Drop> From<AllocFailed<T>> for ReadError {
+impl<T: Drop> From<AllocFailed<T>> for ModelError {
     ghost use Rattle.std.specs.Prelude.{◌≡◌};
-    ghost use Rattle.stack_model.specs.declared.errors.ReadError.TheVariants.{Memory};
+    ghost use Rattle.stack_model.specs.declared.errors.ModelError.TheVariants.{Memory};
 
     ghost from_gives = { λ _ e. e ≡ Memory };
 
-    fn from(_e: AllocFailed<T>) -> ReadError {
-        ReadError::Memory
+    fn from(_e: AllocFailed<T>) -> ModelError {
+        ModelError::Memory
     }
 }

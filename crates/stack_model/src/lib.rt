@@ -1,29 +1,24 @@
-//! The model of a structure of rigid blocks: materials, bodies and loads, and its TOML file.
+//! The model of a structure of rigid blocks: materials, bodies and loads, made from parts as a file lists them.
 #![tactic(auto)]
 
 mod bodies;
 mod content;
-mod drawing;
 mod errors;
-mod faults;
-mod field;
 mod kept;
 mod limits;
-mod list;
 mod loads;
 mod materials;
 mod model;
 mod names;
-mod pair;
+mod outline;
+mod places;
 mod raw;
-mod reading;
-mod shape;
 mod types;
 
-pub use errors::ReadError;
-pub use faults::{Fault, Key, Spot, What};
+pub use errors::ModelError;
 pub use model::Model;
-pub use reading::read_model;
+pub use places::{Key, Spot, What};
+pub use raw::{Parts, RawBlock, RawLoad, RawMaterial};
 pub use types::{Body, Load, Material};
 
 #[cfg(test)]

@@ -8,41 +8,42 @@ ghost use Rattle.stack_model.specs.Limits.{live_of, point_of, force_of};
 ghost use Rattle.stack_model.specs.Content.{ranged, add_load};
 
 use crate::bodies::{Bodies, found};
-use crate::faults::{Fault, Key, Spot};
+use crate::errors::ModelError;
 use crate::limits::{force, live, point};
 use crate::materials::unless;
+use crate::places::{Key, Spot};
 use crate::raw::RawLoad;
 use crate::types::Load;
 use stack_polygon::Point;
 use std::alloc::Global;
 
-fn live_at(spot: Spot, kind: &str) -> Result<bool, Fault>
+fn live_at(spot: Spot, kind: &str) -> Result<bool, ModelError>
     ensures { Gives (λ b. b) result (ranged spot Key.Kind (live_of kind.now)) }
 {
     match live(kind) {
         Some(is_live) => Ok(is_live),
-        None => Err(Fault::Range {
+        None => Err(ModelError::Range {
             spot,
             key: Key::Kind,
         }),
     }
 }
 
-fn point_at(spot: Spot, numbers: &[i64]) -> Result<Point, Fault>
+fn point_at(spot: Spot, numbers: &[i64]) -> Result<Point, ModelError>
     ensures { Gives (λ p. p) result (ranged spot Key.At (point_of numbers.now)) }
 {
     match point(numbers) {
         Some(at) => Ok(at),
-        None => Err(Fault::Range { spot, key: Key::At }),
+        None => Err(ModelError::Range { spot, key: Key::At }),
     }
 }
 
-fn force_at(spot: Spot, numbers: &[i64]) -> Result<(i64, i64), Fault>
+fn force_at(spot: Spot, numbers: &[i64]) -> Result<(i64, i64), ModelError>
     ensures { Gives (λ f. f) result (ranged spot Key.Force (force_of numbers.now)) }
 {
     match force(numbers) {
         Some(parts) => Ok(parts),
-        None => Err(Fault::Range {
+        None => Err(ModelError::Range {
             spot,
             key: Key::Force,
         }),
@@ -55,7 +56,7 @@ fn add(
     mut so_far: Vec<Load>,
     bodies: &Bodies,
     raw: &RawLoad,
-) -> Result<Vec<Load>, Fault>
+) -> Result<Vec<Load>, ModelError>
     ensures { Gives (λ v. v.items) result (add_load bodies.now index so_far.items (raw_load raw.now)) }
 {
     let spot = Spot::Load(index);
@@ -64,9 +65,12 @@ fn add(
     let (fx, fy) = force_at(spot, raw.force.as_slice())?;
     let body = found(
         bodies.number(raw.block.as_str()),
-        Fault::NoBlock { load: index },
+        ModelError::NoBlock { load: index },
     )?;
-    unless(bodies.is_free(body), Fault::LoadOnFixed { load: index })?;
+    unless(
+        bodies.is_free(body),
+        ModelError::LoadOnFixed { load: index },
+    )?;
     so_far.push(Load {
         body,
         live,
@@ -78,7 +82,7 @@ fn add(
 }
 
 /// The loads, or the first fault of their content.
-pub fn all_loads(alloc: Global, bodies: &Bodies, raws: &[RawLoad]) -> Result<Vec<Load>, Fault>
+pub fn all_loads(alloc: Global, bodies: &Bodies, raws: &[RawLoad]) -> Result<Vec<Load>, ModelError>
     ensures { Gives (λ v. v.items) result (steps (add_load bodies.now) 0 [] (map raw_load raws.now)) }
 {
     let mut so_far = Vec::new(alloc);

@@ -8,10 +8,11 @@ ghost use Rattle.stack_model.specs.Limits.{friction_of};
 ghost use Rattle.stack_algebra.specs.Steps.{steps};
 ghost use Rattle.stack_model.specs.Content.{unless as unless_of, ranged, with_material, add_material, number_of, material_names};
 
-use crate::faults::{Fault, Key, Spot};
+use crate::errors::ModelError;
 use crate::kept::KeptMaterial;
 use crate::limits::{friction, is_between, is_name};
 use crate::names::Names;
+use crate::places::{Key, Spot};
 use crate::raw::RawMaterial;
 use crate::types::Material;
 use std::alloc::Global;
@@ -38,18 +39,18 @@ impl std::marker::Model for Materials {
 }
 
 /// A test that must hold, or else this fault.
-pub fn unless(holds: bool, fault: Fault) -> Result<(), Fault>
+pub fn unless(holds: bool, fault: ModelError) -> Result<(), ModelError>
     ensures { Gives (λ x. x) result (unless_of holds fault) }
 {
     if holds { Ok(()) } else { Err(fault) }
 }
 
-fn friction_at(spot: Spot, numbers: &[i64]) -> Result<(i64, i64), Fault>
+fn friction_at(spot: Spot, numbers: &[i64]) -> Result<(i64, i64), ModelError>
     ensures { Gives (λ x. x) result (ranged spot Key.Friction (friction_of numbers.now)) }
 {
     match friction(numbers) {
         Some(terms) => Ok(terms),
-        None => Err(Fault::Range {
+        None => Err(ModelError::Range {
             spot,
             key: Key::Friction,
         }),
@@ -81,7 +82,7 @@ impl Materials {
         spot: Spot,
         name: &str,
         material: Material,
-    ) -> Result<Materials, Fault>
+    ) -> Result<Materials, ModelError>
         ensures { Gives (λ m. m) result (with_material spot (record { name = name.now; weight = material.weight; p = material.p; q = material.q }) self) }
     {
         let Materials {
@@ -89,7 +90,7 @@ impl Materials {
             mut kept,
         } = self;
         if !names.add(alloc, name)? {
-            return Err(Fault::SameName { spot });
+            return Err(ModelError::SameName { spot });
         }
         kept.push(KeptMaterial {
             name: String::from_str(alloc, name)?,
@@ -116,20 +117,20 @@ fn add(
     index: usize,
     so_far: Materials,
     raw: &RawMaterial,
-) -> Result<Materials, Fault>
+) -> Result<Materials, ModelError>
     ensures { Gives (λ m. m) result (add_material index so_far (raw_material raw.now)) }
 {
     let spot = Spot::Material(index);
     unless(
         is_name(raw.name.as_str()),
-        Fault::Range {
+        ModelError::Range {
             spot,
             key: Key::Name,
         },
     )?;
     unless(
         is_between(0, 1_000_000, raw.weight),
-        Fault::Range {
+        ModelError::Range {
             spot,
             key: Key::Weight,
         },
@@ -144,7 +145,7 @@ fn add(
 }
 
 /// The materials, or the first fault of their content.
-pub fn all_materials(alloc: Global, raws: &[RawMaterial]) -> Result<Materials, Fault>
+pub fn all_materials(alloc: Global, raws: &[RawMaterial]) -> Result<Materials, ModelError>
     ensures { Gives (λ m. m) result (steps add_material 0 [] (map raw_material raws.now)) }
 {
     let mut so_far = Materials::new(alloc);

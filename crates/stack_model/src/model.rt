@@ -1,8 +1,9 @@
 //! A model: the lists of its materials, bodies and loads.
 
-ghost use Rattle.std.specs.Prelude.{◌≡◌, ◌<◌, length, map};
+ghost use Rattle.std.specs.Prelude.{◌≡◌, ◌<◌, ◌≤◌, false, length, map};
 ghost use Rattle.stack_polygon.specs.Limits.{IsPolygon};
-ghost use Rattle.stack_model.specs.Structure.{listed, material_of, body_of, load_of, IsWithinLimits, IsCarried, IsSound};
+ghost use Rattle.stack_model.specs.Structure.{listed, material_of, body_of, load_of, IsWithinLimits, IsCarried};
+ghost use Rattle.stack_model.specs.Sound.{IsSound};
 ghost use Rattle.stack_model.specs.Kept.{material_view, body_view, material_alone, body_alone};
 ghost use Rattle.stack_model.specs.ModelView.{model_view};
 
@@ -19,7 +20,8 @@ pub struct Model {
 }
 
 impl std::marker::Model for Model {
-    ghost use Rattle.stack_model.specs.Structure.{Structure, IsSound};
+    ghost use Rattle.stack_model.specs.Structure.{Structure};
+    ghost use Rattle.stack_model.specs.Sound.{IsSound};
 
     ghost Value = { Structure };
 
@@ -32,7 +34,7 @@ impl std::marker::Model for Model {
 
 impl Model {
     /// The model of these lists.
-    pub fn of(materials: Vec<KeptMaterial>, bodies: Vec<KeptBody>, loads: Vec<Load>) -> Model
+    pub(crate) fn of(materials: Vec<KeptMaterial>, bodies: Vec<KeptBody>, loads: Vec<Load>) -> Model
         requires { IsSound (listed (map material_view materials.items) (map body_view bodies.items) loads.items) }
         ensures { model_view result ≡ listed (map material_view materials.items) (map body_view bodies.items) loads.items }
     {
@@ -43,9 +45,10 @@ impl Model {
         }
     }
 
-    /// The number of materials.
+    /// The number of materials, at most 64.
     pub fn materials(&self) -> usize
-        ensures { result ≡ length (model_view self.now).materials }
+        ensures value { result ≡ length (model_view self.now).materials }
+        ensures few { result ≤ 64 }
     {
         self.materials.len()
     }
@@ -67,10 +70,11 @@ impl Model {
         self.materials[i].name.as_str()
     }
 
-    /// The number of bodies.
+    /// The number of bodies, at most 192.
     pub fn bodies(&self) -> usize
         ensures value { result ≡ length (model_view self.now).bodies }
-        ensures two { result ≡ 2 }
+        ensures few { result ≤ 192 }
+        ensures sound { IsSound (model_view self.now) }
     {
         self.bodies.len()
     }
@@ -101,18 +105,20 @@ impl Model {
         &self.bodies[i].outline
     }
 
-    /// The number of loads.
+    /// The number of loads, at most 256.
     pub fn loads(&self) -> usize
-        ensures { result ≡ length (model_view self.now).loads }
+        ensures value { result ≡ length (model_view self.now).loads }
+        ensures few { result ≤ 256 }
     {
         self.loads.len()
     }
 
-    /// Load `i`.
+    /// Load `i`; its body isn't fixed.
     pub fn load(&self, i: usize) -> Load
         requires { i < length (model_view self.now).loads }
         ensures value { result ≡ load_of (model_view self.now) i }
         ensures carried { IsCarried (length (model_view self.now).bodies) result }
+        ensures free { (body_of (model_view self.now) result.body).fixed ≡ false }
     {
         self.loads[i]
     }

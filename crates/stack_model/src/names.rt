@@ -3,7 +3,7 @@
 ghost use Rattle.std.specs.Prelude.{◌≡◌, [], ◌∷◌, ◌++◌, IfOk, IfErr, if◌then◌else◌};
 ghost use Rattle.stack_model.specs.Content.{number_of, is_new};
 
-use crate::faults::Fault;
+use crate::errors::ModelError;
 use indexmap::IndexSet;
 use std::alloc::Global;
 
@@ -38,9 +38,9 @@ impl Names {
     }
 
     /// Adds a name, and tells whether it is new; one that isn't changes nothing.
-    pub fn add(&mut self, alloc: Global, name: &str) -> Result<bool, Fault>
+    pub fn add(&mut self, alloc: Global, name: &str) -> Result<bool, ModelError>
         ensures new { IfOk result (λ new. new ≡ is_new name.now self.old) }
-        ensures memory { IfErr result (λ e. e ≡ Fault.Memory) }
+        ensures memory { IfErr result (λ e. e ≡ ModelError.Memory) }
         ensures list { IfOk result (λ new. self.new ≡ (if new then self.old ++ name.now ∷ [] else self.old)) }
     {
         let word = String::from_str(alloc, name)?;

@@ -1,5 +1,6 @@
-//! What a file lists, before its content is looked at.
+//! What a model is made from: names, numbers and lists of numbers as a file has them.
 
+/// A material: its name, its weight per unit of area, and the two terms of its coefficient of friction.
 #[derive(Debug, Drop)]
 pub struct RawMaterial {
     pub name: String,
@@ -7,6 +8,7 @@ pub struct RawMaterial {
     pub friction: Vec<i64>,
 }
 
+/// A block: its name, the name of its material, whether it is fixed, and its corners, two numbers each.
 #[derive(Debug, Drop)]
 pub struct RawBlock {
     pub name: String,
@@ -15,6 +17,7 @@ pub struct RawBlock {
     pub corners: Vec<Vec<i64>>,
 }
 
+/// A load: the name of its block, `dead` or `live`, its point, and its force.
 #[derive(Debug, Drop)]
 pub struct RawLoad {
     pub block: String,
@@ -23,9 +26,9 @@ pub struct RawLoad {
     pub force: Vec<i64>,
 }
 
-/// The lists of a file, each in its order.
+/// Materials, blocks and loads, each in its order.
 #[derive(Debug, Drop)]
-pub struct RawParts {
+pub struct Parts {
     pub materials: Vec<RawMaterial>,
     pub blocks: Vec<RawBlock>,
     pub loads: Vec<RawLoad>,

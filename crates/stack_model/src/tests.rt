@@ -1,112 +1,267 @@
-//! The standing post, read as it is and with its corners clockwise, and files that are refused.
+//! Two materials, the ground and a block with a load: a model, and each fault of content.
 
-use super::{Body, Material, Model, ReadError, read_model};
+use super::*;
 use stack_polygon::Point;
 use std::test::*;
 
-const GROUND: &str = "[[material]]\nname = \"stone\"\nweight = 1\nfriction = [1, 1]\n\n\
-    [[block]]\nname = \"ground\"\nmaterial = \"stone\"\nfixed = true\ncorners = [[-10, -1], [10, -1], [10, 0], [-10, 0]]\n\n";
-
-/// A file with the ground and then this text.
-fn on_ground(rt: &HostRuntime, text: &str) -> Result<String, Fail> {
-    let mut file = String::from_str(rt.alloc(), GROUND)?;
-    file.push_str(text)?;
-    Ok(file)
+/// The second material, the block beside the ground, and the load.
+#[derive(Clone, Copy)]
+struct Case {
+    material: &'static str,
+    weight: i64,
+    friction: &'static [i64],
+    block: &'static str,
+    of: &'static str,
+    fixed: bool,
+    corners: &'static [[i64; 2]],
+    on: &'static str,
+    kind: &'static str,
+    at: &'static [i64],
+    force: &'static [i64],
 }
 
-fn post(corners: &str, rt: &HostRuntime) -> Result<Model, Fail> {
-    let mut text = on_ground(
-        rt,
-        "[[block]]\nname = \"post\"\nmaterial = \"stone\"\ncorners = ",
-    )?;
-    text.push_str(corners)?;
-    read_model(rt.alloc(), text.as_bytes())
-        .map_err(|_| "refused")
-        .map_err(Fail::from)
+const PLAIN: Case = Case {
+    material: "brick",
+    weight: 2,
+    friction: &[3, 4],
+    block: "post",
+    of: "brick",
+    fixed: false,
+    corners: &[[0, 0], [0, 4], [2, 4], [2, 0]],
+    on: "post",
+    kind: "live",
+    at: &[0, 4],
+    force: &[1, -2],
+};
+
+fn numbers(rt: &HostRuntime, list: &[i64]) -> Result<Vec<i64>, Fail> {
+    let mut found = Vec::new(rt.alloc());
+    for number in list {
+        found.push(*number)?;
+    }
+    Ok(found)
+}
+
+fn corners(rt: &HostRuntime, list: &[[i64; 2]]) -> Result<Vec<Vec<i64>>, Fail> {
+    let mut found = Vec::new(rt.alloc());
+    for corner in list {
+        found.push(numbers(rt, corner.as_slice())?)?;
+    }
+    Ok(found)
+}
+
+fn text(rt: &HostRuntime, word: &str) -> Result<String, Fail> {
+    Ok(String::from_str(rt.alloc(), word)?)
+}
+
+fn materials(rt: &HostRuntime, case: Case) -> Result<Vec<RawMaterial>, Fail> {
+    let mut list = Vec::new(rt.alloc());
+    list.push(RawMaterial {
+        name: text(rt, "stone")?,
+        weight: 1,
+        friction: numbers(rt, &[1, 1])?,
+    })?;
+    list.push(RawMaterial {
+        name: text(rt, case.material)?,
+        weight: case.weight,
+        friction: numbers(rt, case.friction)?,
+    })?;
+    Ok(list)
+}
+
+fn blocks(rt: &HostRuntime, case: Case) -> Result<Vec<RawBlock>, Fail> {
+    let mut list = Vec::new(rt.alloc());
+    list.push(RawBlock {
+        name: text(rt, "ground")?,
+        material: text(rt, "stone")?,
+        fixed: true,
+        corners: corners(rt, &[[-10, -1], [10, -1], [10, 0], [-10, 0]])?,
+    })?;
+    list.push(RawBlock {
+        name: text(rt, case.block)?,
+        material: text(rt, case.of)?,
+        fixed: case.fixed,
+        corners: corners(rt, case.corners)?,
+    })?;
+    Ok(list)
+}
+
+fn model(rt: &HostRuntime, case: Case) -> Result<Result<Model, ModelError>, Fail> {
+    let mut loads = Vec::new(rt.alloc());
+    loads.push(RawLoad {
+        block: text(rt, case.on)?,
+        kind: text(rt, case.kind)?,
+        at: numbers(rt, case.at)?,
+        force: numbers(rt, case.force)?,
+    })?;
+    let parts = Parts {
+        materials: materials(rt, case)?,
+        blocks: blocks(rt, case)?,
+        loads,
+    };
+    Ok(Model::new(rt.alloc(), parts))
 }
 
 #[test]
-fn the_standing_post_is_read(rt: HostRuntime) -> Result<(), Fail> {
-    for corners in [
-        "[[0, 0], [2, 0], [2, 4], [0, 4]]",
-        "[[0, 0], [0, 4], [2, 4], [2, 0]]",
-    ] {
-        let model = post(corners, &rt)?;
-        assert_eq!(rt; model.materials(), 1);
-        assert_eq!(rt;
-            model.material(0),
-            Material {
-                weight: 1,
-                p: 1,
-                q: 1
-            }
-        );
-        assert_eq!(rt; model.material_name(0), "stone");
-        assert_eq!(rt; model.bodies(), 2);
-        assert_eq!(rt;
-            model.body(0),
-            Body {
-                material: 0,
-                fixed: true
-            }
-        );
-        assert_eq!(rt;
-            model.body(1),
-            Body {
-                material: 0,
-                fixed: false
-            }
-        );
-        assert_eq!(rt; model.name(0), "ground");
-        assert_eq!(rt; model.name(1), "post");
-        assert_eq!(rt; model.polygon(1).len(), 4);
-        assert_eq!(rt; model.polygon(1).corner(0), Point { x: 0, y: 0 });
-        assert_eq!(rt; model.polygon(1).corner(1), Point { x: 2, y: 0 });
-        assert_eq!(rt; model.loads(), 0);
-    }
+fn parts_without_a_fault_make_a_model(rt: HostRuntime) -> Result<(), Fail> {
+    let model = model(&rt, PLAIN)?
+        .map_err(|_| "refused")
+        .map_err(Fail::from)?;
+    assert_eq!(rt; model.materials(), 2);
+    assert_eq!(rt;
+        model.material(1),
+        Material {
+            weight: 2,
+            p: 3,
+            q: 4
+        }
+    );
+    assert_eq!(rt; model.material_name(1), "brick");
+    assert_eq!(rt; model.bodies(), 2);
+    assert_eq!(rt;
+        model.body(0),
+        Body {
+            material: 0,
+            fixed: true
+        }
+    );
+    assert_eq!(rt;
+        model.body(1),
+        Body {
+            material: 1,
+            fixed: false
+        }
+    );
+    assert_eq!(rt; model.name(1), "post");
+    assert_eq!(rt; model.polygon(1).len(), 4);
+    assert_eq!(rt; model.polygon(1).corner(1), Point { x: 2, y: 0 });
+    assert_eq!(rt; model.loads(), 1);
+    assert_eq!(rt;
+        model.load(0),
+        Load {
+            body: 1,
+            live: true,
+            at: Point { x: 0, y: 4 },
+            fx: 1,
+            fy: -2
+        }
+    );
     Ok(())
 }
 
 #[test]
-fn other_files_are_refused(rt: HostRuntime) -> Result<(), Fail> {
-    let block = "[[block]]\nname = \"post\"\nmaterial = \"stone\"\n";
-    let cases: [(&str, ReadError); 8] = [
+fn each_fault_is_named_with_its_place(rt: HostRuntime) -> Result<(), Fail> {
+    let range = |spot: Spot, key: Key| ModelError::Range { spot, key };
+    let cases: [(Case, ModelError); 14] = [
         (
-            "corners = [[0, 0], [2, 0], [2, 4], [0, 4]]\n[[material",
-            ReadError::Refused,
+            Case {
+                material: "",
+                ..PLAIN
+            },
+            range(Spot::Material(1), Key::Name),
         ),
         (
-            "corners = [[0, 0], [2, 0], [2, 4], [0, 4]]\ncolour = 1",
-            ReadError::Refused,
-        ),
-        ("", ReadError::Refused),
-        (
-            "corners = [[0, 0], [2, 0], [2, 4], [0, 4.0]]",
-            ReadError::Refused,
+            Case {
+                weight: 1_000_001,
+                ..PLAIN
+            },
+            range(Spot::Material(1), Key::Weight),
         ),
         (
-            "corners = [[0, 0], [2, 0], [2, 4], [0, 1000001]]",
-            ReadError::Refused,
+            Case {
+                friction: &[1, 0],
+                ..PLAIN
+            },
+            range(Spot::Material(1), Key::Friction),
         ),
         (
-            "fixed = true\ncorners = [[0, 0], [2, 0], [2, 4], [0, 4]]",
-            ReadError::Refused,
+            Case {
+                material: "stone",
+                ..PLAIN
+            },
+            ModelError::SameName {
+                spot: Spot::Material(1),
+            },
         ),
         (
-            "corners = [[0, 0], [2, 0], [2, 4], [0, 4]]\n[[load]]\nblock = \"post\"\nkind = \"dead\"\nat = [0, 4]\nforce = [1, 0]",
-            ReadError::Refused,
+            Case {
+                block: "a b",
+                ..PLAIN
+            },
+            range(Spot::Block(1), Key::Name),
         ),
         (
-            "corners = [[4, 3], [8, 6], [5, 10], [1, 7]]",
-            ReadError::Slanted { block: 1 },
+            Case {
+                corners: &[[0, 0], [1, 0]],
+                ..PLAIN
+            },
+            range(Spot::Block(1), Key::Corners),
+        ),
+        (
+            Case {
+                block: "ground",
+                of: "clay",
+                ..PLAIN
+            },
+            ModelError::SameName {
+                spot: Spot::Block(1),
+            },
+        ),
+        (
+            Case {
+                of: "clay",
+                ..PLAIN
+            },
+            ModelError::NoMaterial { block: 1 },
+        ),
+        (
+            Case {
+                corners: &[[0, 0], [4, 0], [4, 4], [3, 1]],
+                ..PLAIN
+            },
+            ModelError::NotConvex { block: 1, edge: 2 },
+        ),
+        (
+            Case {
+                kind: "LIVE",
+                ..PLAIN
+            },
+            range(Spot::Load(0), Key::Kind),
+        ),
+        (
+            Case {
+                at: &[0, 4, 0],
+                ..PLAIN
+            },
+            range(Spot::Load(0), Key::At),
+        ),
+        (
+            Case {
+                force: &[0, -1_000_000_001],
+                ..PLAIN
+            },
+            range(Spot::Load(0), Key::Force),
+        ),
+        (
+            Case {
+                on: "roof",
+                ..PLAIN
+            },
+            ModelError::NoBlock { load: 0 },
+        ),
+        (
+            Case {
+                on: "ground",
+                ..PLAIN
+            },
+            ModelError::LoadOnFixed { load: 0 },
         ),
     ];
-    for (text, wanted) in cases {
-        let mut file = on_ground(&rt, block)?;
-        file.push_str(text)?;
+    for (case, wanted) in cases {
         assert!(rt;
-            matches!(read_model(rt.alloc(), file.as_bytes()), Err(e) if e == wanted),
-            "{text}"
+            matches!(model(&rt, case)?, Err(e) if e == wanted),
+            "{}: {wanted}",
+            case.block
         );
     }
     Ok(())

@@ -32,7 +32,7 @@ stored-product x y hx hy = (λ i. stored (same x hx i *ℤ same y hy i)) ∙ squ
     same z h = omega (arith, ints)
 
 -- the difference of two coordinates
-near-stored : (x y : ℤ) → IsNear x → IsNear y → stored (stored x -ℤ stored y) ≡ x -ℤ y
+pub near-stored : (x y : ℤ) → IsNear x → IsNear y → stored (stored x -ℤ stored y) ≡ x -ℤ y
 near-stored x y hx hy = omega (arith, ints)
 
 pub is_step : (x y : ℤ) → IsNear x → IsNear y → IsStep (stored (stored x -ℤ stored y))

@@ -1,7 +1,7 @@
 use Rattle.std.proofs.Common.{sym, ◌∙◌}
 use Rattle.std.proofs.lemmas.Result.{err_from_is_err_and}
 use Rattle.stack_algebra.proofs.Steps.{step_on, step_out}
-use Rattle.stack_checker.specs.WrittenCheck.{cone_at}
+use Rattle.stack_checker.specs.WrittenForces.{cone_at}
 use Rattle.stack_checker.proofs.cones.check_cones.Goals as goal
 
 pub returns-in_err-check_bearing : goal.returns-in_err-check_bearing

@@ -1,6 +1,6 @@
 use Rattle.std.proofs.Common.{◌≡◌, drop}
 use Rattle.stack_algebra.specs.Steps.{steps}
-use Rattle.stack_checker.specs.WrittenCheck.{cone_at}
+use Rattle.stack_checker.specs.WrittenForces.{cone_at}
 use Rattle.stack_checker.proofs.cones.check_cones.Given as goal
 
 abbrev pub invariant-loop-k : goal.invariant-loop-k

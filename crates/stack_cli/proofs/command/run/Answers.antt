@@ -1,6 +1,7 @@
-use Rattle.stack_cli.proofs.Consequences.{meets}
+use Rattle.stack_cli.proofs.LinesPut.{run_meets}
 use Rattle.stack_cli.proofs.command.run.Goals as goal
 
 pub returns : goal.returns
 returns g c =
-    meets _ _ _ _ _ _ _ _ _ _ _ _ c.perform.ensures.answered c.perform.ensures.refused c.perform.ensures.asked
+    run_meets _ _ _ _ _ _ _ _ _ _ _ c.answer_words-worked.result _ c.answer_words-worked.ensures.work
+    c.answer_words-worked.ensures.cause c.deliver.ensures

@@ -5,4 +5,5 @@ use Rattle.stack_model.specs.Content.{add_material}
 use Rattle.stack_model.proofs.materials.all_materials.Given as goal
 
 abbrev pub invariant-loop-index : goal.invariant-loop-index
-invariant-loop-index l = steps add_material l.index l.so_far (drop l.index (map raw_material l.raws)) ≡ steps add_material 0 [] (map raw_material l.raws)
+invariant-loop-index l = steps add_material l.index l.so_far
+    (drop l.index (map raw_material l.raws)) ≡ steps add_material 0 [] (map raw_material l.raws)

@@ -6,5 +6,6 @@ use Rattle.stack_model.proofs.names.Names.add.Goals as goal
 
 pub returns-clause-new : goal.returns-clause-new
 returns-clause-new c = c.in_ok-insert.ensures.added
-    ∙ ap (λ name. not (list_any (λ k. bytes_eq name (string_bytes k)) c.self.inside.set.keys)) (c.in_ok-word.ensures.ok)
+    ∙ ap (λ name. not (list_any (λ k. bytes_eq name (string_bytes k)) c.self.inside.set.keys))
+    (c.in_ok-word.ensures.ok)
     ∙ new-named c.args.name.now c.args.self.now c.self.inside.set.keys c.self.view_is

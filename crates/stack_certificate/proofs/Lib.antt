@@ -1,0 +1,10 @@
+pub mod Spellings
+pub mod CutLines
+pub mod DigitsSpelled
+pub mod ReadLines
+pub mod TextLines
+pub mod FittingLines
+pub mod LineSteps
+pub mod Readings
+pub mod ReadSoFar
+pub mod WrittenLists

@@ -1,0 +1,35 @@
+-- Certificates as values. What the contracts see of a Certificate.
+use Rattle.std.specs.Prelude.{ℤ, List}
+use Rattle.stack_certificate.specs.declared.types.Forces.{Forces}
+use Rattle.stack_certificate.specs.declared.types.Motion.{Motion}
+use Rattle.stack_certificate.specs.declared.types.Certificate.{Certificate}
+use Rattle.stack_certificate.specs.declared.types.Certificate.TheVariants.{Stands, Collapses, Greatest, Unbounded}
+
+-- a scale, a factor, and for each bearing a part along its normal and one along its tangent
+pub record ForcesValue : Type 0 where
+  pub scale : ℤ
+  pub factor : ℤ
+  pub parts : List (ℤ × ℤ)
+
+-- for each free block the velocity of its first corner, along x and along y, and its turning rate
+abbrev pub MotionValue : Type 0
+MotionValue = List (ℤ × ℤ × ℤ)
+
+pub data CertificateValue : Type 0 where
+  stands : ForcesValue → CertificateValue
+  collapses : MotionValue → CertificateValue
+  greatest : ForcesValue → MotionValue → CertificateValue
+  unbounded : ForcesValue → ForcesValue → CertificateValue
+
+-- the values, without where they lie in memory
+abbrev pub forces_view : Forces → ForcesValue
+forces_view f = record { scale = f.scale; factor = f.factor; parts = f.parts.items }
+
+abbrev pub motion_view : Motion → MotionValue
+motion_view m = m.moves.items
+
+abbrev pub certificate_view : Certificate → CertificateValue
+certificate_view (Stands f) = stands (forces_view f)
+certificate_view (Collapses m) = collapses (motion_view m)
+certificate_view (Greatest f m) = greatest (forces_view f) (motion_view m)
+certificate_view (Unbounded f r) = unbounded (forces_view f) (forces_view r)

@@ -1,0 +1,87 @@
+-- The certificate whose text some bytes are, or their faulty line, as a function of the bytes. The law
+-- one_reading ties it to the grammar.
+use Rattle.std.specs.Prelude.{ℕ, suc, ℤ, List, [], ◌∷◌, ◌++◌, Option, Some, None, Result, Ok, Err}
+use Rattle.std.specs.Option.{option_map, option_and_then}
+use Rattle.stack_certificate.specs.declared.line.Form.{Form}
+use Rattle.stack_certificate.specs.declared.line.Form.TheVariants.{Stands, Collapses, Greatest, Unbounded}
+use Rattle.stack_certificate.specs.declared.line.Line.{Line}
+use Rattle.stack_certificate.specs.declared.line.Line.TheVariants as lines
+use Rattle.stack_certificate.specs.Certificate.{ForcesValue, CertificateValue, stands, collapses, greatest, unbounded}
+use Rattle.stack_certificate.specs.FaultLine.{cut}
+use Rattle.stack_certificate.specs.LineOf.{line_of}
+
+-- How far a text has come, by the line that comes next: its form; the first list of the form; a further part
+-- or the next list, behind the forces of `greatest` and the first ones of `unbounded`; a further part or
+-- move, or `end`; none.
+pub data Progress : Type 0 where
+  start : Progress
+  formed : Form → Progress
+  before_motion : ForcesValue → Progress
+  before_ray : ForcesValue → Progress
+  unended : CertificateValue → Progress
+  ended : CertificateValue → Progress
+
+abbrev pub no_parts : ℤ → ℤ → ForcesValue
+no_parts scale factor = record { scale = scale; factor = factor; parts = [] }
+
+abbrev pub with_part : ForcesValue → ℤ × ℤ → ForcesValue
+with_part f part = record { scale = f.scale; factor = f.factor; parts = f.parts ++ part ∷ [] }
+
+abbrev pub with_push : CertificateValue → ℤ × ℤ → Option CertificateValue
+with_push (stands f) part = Some (stands (with_part f part))
+with_push (unbounded f r) part = Some (unbounded f (with_part r part))
+with_push _ part = None
+
+abbrev pub with_move : CertificateValue → ℤ × ℤ × ℤ → Option CertificateValue
+with_move (collapses m) move = Some (collapses (m ++ move ∷ []))
+with_move (greatest f m) move = Some (greatest f (m ++ move ∷ []))
+with_move _ move = None
+
+-- After one more line, if that line may come there.
+abbrev pub begun : Form → Line → Option Progress
+begun Stands (lines.Forces s f) = Some (unended (stands (no_parts s f)))
+begun Collapses lines.Motion = Some (unended (collapses []))
+begun Greatest (lines.Forces s f) = Some (before_motion (no_parts s f))
+begun Unbounded (lines.Forces s f) = Some (before_ray (no_parts s f))
+begun _ _ = None
+
+abbrev pub continued : CertificateValue → Line → Option Progress
+continued c (lines.Push a b) = option_map unended (with_push c (a, b))
+continued c (lines.Move u v r) = option_map unended (with_move c (u, v, r))
+continued c lines.End = Some (ended c)
+continued c _ = None
+
+abbrev pub next : Progress → Line → Option Progress
+next start (lines.Form form) = Some (formed form)
+next (formed form) line = begun form line
+next (before_motion f) (lines.Push a b) = Some (before_motion (with_part f (a, b)))
+next (before_motion f) lines.Motion = Some (unended (greatest f []))
+next (before_ray f) (lines.Push a b) = Some (before_ray (with_part f (a, b)))
+next (before_ray f) (lines.Forces s t) = Some (unended (unbounded f (no_parts s t)))
+next (unended c) line = continued c line
+next _ _ = None
+
+-- After the line that these bytes are, and after all of these.
+abbrev pub step : Progress → List ℕ → Option Progress
+step p bytes = option_and_then (next p) (line_of bytes)
+
+abbrev pub run : Progress → List (List ℕ) → Option Progress
+run p [] = Some p
+run p (bytes ∷ more) = option_and_then (λ q. run q more) (step p bytes)
+
+-- So many of the lines may come, up to the first that may not.
+abbrev pub counted : Option ℕ → ℕ
+counted None = 0
+counted (Some n) = suc n
+
+abbrev pub accepted : Progress → List (List ℕ) → ℕ
+accepted p [] = 0
+accepted p (bytes ∷ more) = counted (option_map (λ q. accepted q more) (step p bytes))
+
+-- The certificate, where its text is whole, or this line.
+abbrev pub finished : Option Progress → ℕ → Result CertificateValue ℕ
+finished (Some (ended c)) n = Ok c
+finished _ n = Err n
+
+unfoldable pub certificate_of : List ℕ → Result CertificateValue ℕ
+certificate_of bytes = finished (run start (cut bytes)) (suc (accepted start (cut bytes)))

@@ -1,0 +1,67 @@
+-- The text of a certificate: the line of its form, its lists, and the line `end`. `stands` has one list of
+-- forces, `collapses` one motion, `greatest` forces and a motion, `unbounded` two lists of forces. A list of
+-- forces is the line `forces SCALE FACTOR` and for each bearing a line `push A B`; a motion is the line
+-- `motion` and for each free block a line `move U V R`.
+use Rattle.std.specs.Prelude.{◌≡◌, ℤ, ℕ, List, [], ◌∷◌, ◌++◌, map}
+use Rattle.std.specs.List.{All}
+use Rattle.stack_certificate.specs.declared.line.Form.TheVariants as forms
+use Rattle.stack_certificate.specs.declared.line.Line.{Line}
+use Rattle.stack_certificate.specs.declared.line.Line.TheVariants as lines
+use Rattle.stack_certificate.specs.Certificate.{ForcesValue, MotionValue, CertificateValue, stands, collapses, greatest, unbounded}
+use Rattle.stack_certificate.specs.Numbers.{IsSmall}
+use Rattle.stack_certificate.specs.Lines.{line_text}
+
+-- The lines of a list.
+abbrev pub push_line : ℤ × ℤ → Line
+push_line part = lines.Push part.0 part.1
+
+abbrev pub forces_lines : ForcesValue → List Line
+forces_lines f = lines.Forces f.scale f.factor ∷ map push_line f.parts
+
+abbrev pub move_line : ℤ × ℤ × ℤ → Line
+move_line move = lines.Move move.0 move.1 move.2
+
+abbrev pub motion_lines : MotionValue → List Line
+motion_lines m = lines.Motion ∷ map move_line m
+
+-- The lines of a certificate, without the last one and with it.
+abbrev pub open_lines : CertificateValue → List Line
+open_lines (stands f) = lines.Form forms.Stands ∷ forces_lines f
+open_lines (collapses m) = lines.Form forms.Collapses ∷ motion_lines m
+open_lines (greatest f m) = lines.Form forms.Greatest ∷ (forces_lines f ++ motion_lines m)
+open_lines (unbounded f r) = lines.Form forms.Unbounded ∷ (forces_lines f ++ forces_lines r)
+
+abbrev pub lines_of : CertificateValue → List Line
+lines_of c = open_lines c ++ lines.End ∷ []
+
+-- The text of some lines, and of a certificate.
+abbrev pub text_of : List Line → List ℕ
+text_of [] = []
+text_of (line ∷ more) = line_text line ++ text_of more
+
+abbrev pub certificate_text : CertificateValue → List ℕ
+certificate_text c = text_of (lines_of c)
+
+-- Every number is at most 2^127 - 1 in size.
+abbrev pub PartFits : ℤ × ℤ → Type 0
+PartFits part = IsSmall part.0 × IsSmall part.1
+
+abbrev pub MoveFits : ℤ × ℤ × ℤ → Type 0
+MoveFits move = IsSmall move.0 × IsSmall move.1 × IsSmall move.2
+
+abbrev pub ForcesFit : ForcesValue → Type 0
+ForcesFit f = IsSmall f.scale × IsSmall f.factor × All PartFits f.parts
+
+abbrev pub MotionFits : MotionValue → Type 0
+MotionFits m = All MoveFits m
+
+abbrev pub CertificateFits : CertificateValue → Type 0
+CertificateFits (stands f) = ForcesFit f
+CertificateFits (collapses m) = MotionFits m
+CertificateFits (greatest f m) = ForcesFit f × MotionFits m
+CertificateFits (unbounded f r) = ForcesFit f × ForcesFit r
+
+-- The bytes are the text of the certificate.
+pub record IsCertificateText (c : CertificateValue) (bytes : List ℕ) : Type 0 where
+  pub fits : CertificateFits c
+  pub is : bytes ≡ certificate_text c

@@ -1,0 +1,10 @@
+pub mod Certificate
+pub mod Numbers
+pub mod Digits
+pub mod Lines
+pub mod CertificateText
+pub mod FaultLine
+pub mod CertificateRead
+pub mod LineOf
+pub mod CertificateOf
+pub mod Stages

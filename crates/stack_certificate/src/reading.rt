@@ -1,0 +1,50 @@
+//! Reading the text of a certificate.
+
+ghost use Rattle.std.specs.Prelude.{◌≡◌, ◌<◌, ◌∷◌, length};
+ghost use Rattle.stack_certificate.specs.FaultLine.{cut};
+ghost use Rattle.stack_certificate.specs.CertificateRead.{ReadsCertificate, GivesCertificate};
+
+use crate::line::parse_line;
+use crate::split::split_once;
+use crate::stage::{Stage, accept, finish};
+use crate::types::{Certificate, TextError};
+use std::alloc::Global;
+
+/// The first line with its line feed, where it has one, and the rest.
+fn cut_line(bytes: &[u8]) -> (&[u8], &[u8])
+    requires { 0 < length bytes.now }
+    ensures cut { cut bytes.now ≡ result.0.now ∷ cut result.1.now }
+    ensures shorter { length result.1.now < length bytes.now }
+{
+    match split_once(bytes, b'\n') {
+        Some((line, rest)) => (&bytes[..line.len() + 1], rest),
+        None => (bytes, &[]),
+    }
+}
+
+/// The certificate whose text the bytes are. `Line` exactly where they are the text of no certificate, with
+/// the number of the faulty line; `Memory` where memory ran out.
+pub fn read_certificate(alloc: Global, text: &[u8]) -> Result<Certificate, TextError>
+    ensures reads { ReadsCertificate result text.now }
+    ensures gives { GivesCertificate result text.now }
+{
+    let mut stage = Stage::Start;
+    let mut rest = text;
+    let mut number = 1;
+    while !rest.is_empty() {
+        let (bytes, after) = cut_line(rest);
+        let Some(line) = parse_line(bytes) else {
+            return Err(TextError::Line { number });
+        };
+        match accept(alloc, stage, line)? {
+            Some(next) => stage = next,
+            None => return Err(TextError::Line { number }),
+        }
+        rest = after;
+        number += 1;
+    }
+    match finish(stage) {
+        Some(certificate) => Ok(certificate),
+        None => Err(TextError::Line { number }),
+    }
+}

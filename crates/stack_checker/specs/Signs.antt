@@ -1,0 +1,23 @@
+-- What the numbers of a certificate are tested for.
+use Rattle.std.specs.Prelude.{ℤ, pos, int_le, int_lt, Bool}
+use Rattle.std.specs.Ordering.{int_eq}
+use Rattle.stack_checker.specs.declared.sign.Sign.{Sign}
+use Rattle.stack_checker.specs.declared.sign.Sign.TheVariants.{Zero, NotNegative, Positive}
+use Rattle.stack_checker.specs.declared.sign.Signs.{Signs}
+
+abbrev pub has_sign : Sign → ℤ → Bool
+has_sign Zero z = int_eq z (pos 0)
+has_sign NotNegative z = int_le (pos 0) z
+has_sign Positive z = int_lt (pos 0) z
+
+-- of the scale and the factor of forces that carry the dead loads alone
+abbrev pub standing : Signs
+standing = record { scale = Positive; factor = Zero }
+
+-- of forces that carry the live loads with a factor
+abbrev pub loaded : Signs
+loaded = record { scale = Positive; factor = NotNegative }
+
+-- of forces that carry the live loads alone
+abbrev pub rising : Signs
+rising = record { scale = Zero; factor = Positive }

@@ -1,0 +1,39 @@
+-- The single steps of the written check: a test with the reason that it gives where it fails, and a number
+-- with the place that it gives where it passes.
+use Rattle.std.specs.Prelude.{ℕ, ℤ, Bool, true, false, Result, Ok, Err, ⊤}
+use Rattle.stack_equilibrium.specs.declared.types.Wrench.{Wrench}
+use Rattle.stack_equilibrium.specs.declared.types.SumWide.{SumWide}
+use Rattle.stack_equilibrium.specs.declared.types.VelocityWide.{VelocityWide}
+use Rattle.stack_equilibrium.specs.declared.types.PowerWide.{PowerWide}
+use Rattle.stack_equilibrium.specs.declared.whole.Wide.{Wide}
+use Rattle.stack_equilibrium.specs.declared.whole.Whole.{Whole}
+use Rattle.stack_equilibrium.specs.Whole.{whole}
+use Rattle.stack_checker.specs.declared.types.Reason.{Reason}
+use Rattle.stack_checker.specs.declared.types.CheckAt.{CheckAt}
+use Rattle.stack_checker.specs.declared.types.CheckAt.TheVariants as places
+use Rattle.stack_checker.specs.declared.stop.Stop.{Stop}
+use Rattle.stack_checker.specs.declared.stop.Stop.TheVariants.{Rejected, TooWide}
+use Rattle.stack_checker.specs.declared.motions.Rates.{Rates}
+
+abbrev pub demand : Bool → Reason → Result ⊤ Stop
+demand true reason = Ok tt
+demand false reason = Err (Rejected reason)
+
+abbrev pub made_at : Result Whole Wide → CheckAt → Result Whole Stop
+made_at (Ok x) at = Ok x
+made_at (Err e) at = Err (TooWide at)
+
+-- the three sums of free block number b
+abbrev pub sums_at : ℕ → Result Wrench SumWide → Result Wrench Stop
+sums_at b (Ok w) = Ok w
+sums_at b (Err e) = Err (TooWide (places.Balance b e.axis))
+
+-- the opening and the slide of bearing k
+abbrev pub rates_at : ℕ → Result (ℤ × ℤ) VelocityWide → Result Rates Stop
+rates_at k (Ok r) = Ok (record { opening = whole r.0; slide = whole r.1 })
+rates_at k (Err e) = Err (TooWide (places.Resisted k))
+
+-- a power
+abbrev pub work_of : Result ℤ PowerWide → Result Whole Stop
+work_of (Ok power) = Ok (whole power)
+work_of (Err e) = Err (TooWide places.Work)

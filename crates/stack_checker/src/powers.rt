@@ -1,0 +1,77 @@
+//! The tests of a motion with its powers.
+
+ghost use Rattle.std.specs.Prelude.{◌≡◌, length};
+ghost use Rattle.stack_contact.specs.FreeBlocks.{frees_of};
+ghost use Rattle.stack_certificate.specs.Certificate.{forces_view, motion_view};
+ghost use Rattle.stack_checker.specs.WrittenTests.{work_of};
+ghost use Rattle.stack_checker.specs.WrittenMotions.{written_collapse, written_powers, written_meeting, written_bound};
+
+use crate::motions::check_motion;
+use crate::sign::Sign;
+use crate::stop::{Stop, place, require};
+use crate::types::{CheckAt, Reason};
+use stack_certificate::types::{Forces, Motion};
+use stack_contact::types::Survey;
+use stack_equilibrium::power;
+use stack_equilibrium::types::{PowerWide, Question};
+use stack_equilibrium::whole::Whole;
+
+/// The work of the live and of the dead loads on a motion, in sixths.
+#[derive(Clone, Copy, Debug, PartialEq, Eq)]
+pub struct Powers {
+    pub live: Whole,
+    pub dead: Whole,
+}
+
+/// A power with its place.
+fn placed_power(made: Result<i128, PowerWide>) -> Result<Whole, Stop>
+    ensures { result ≡ work_of made }
+{
+    match made {
+        Ok(value) => Ok(Whole { value }),
+        Err(PowerWide) => Err(Stop::TooWide(CheckAt::Work)),
+    }
+}
+
+/// A motion that no bearing resists, on which the dead loads gain power.
+#[tactic(auto, unfolding(crate::specs::WrittenMotions::written_collapse))]
+pub fn check_collapse(s: &Survey, motion: &Motion) -> Result<(), Stop>
+    ensures { result ≡ written_collapse s.now (motion_view motion.now) }
+{
+    check_motion(s, motion)?;
+    let dead = placed_power(power(s, motion, Question::Dead))?;
+    require(Sign::Positive.is_of(dead), Reason::NoWork)
+}
+
+#[tactic(auto, unfolding(crate::specs::WrittenMotions::written_powers))]
+fn both_powers(s: &Survey, motion: &Motion) -> Result<Powers, Stop>
+    requires { length (motion_view motion.now) ≡ length (frees_of s.now.structure.bodies) }
+    ensures { result ≡ written_powers s.now (motion_view motion.now) }
+{
+    let live = placed_power(power(s, motion, Question::Live))?;
+    let dead = placed_power(power(s, motion, Question::Dead))?;
+    Ok(Powers { live, dead })
+}
+
+/// The factor times the live power and the scale times the dead power add up to 0.
+#[tactic(auto, unfolding(crate::specs::WrittenMotions::written_meeting))]
+fn check_meeting(scale: Whole, factor: Whole, powers: Powers) -> Result<(), Stop>
+    ensures { result ≡ written_meeting scale factor powers }
+{
+    let driven = place(factor.product(powers.live), CheckAt::Apart)?;
+    let standing = place(scale.product(powers.dead), CheckAt::Apart)?;
+    let total = place(driven.sum(standing), CheckAt::Apart)?;
+    require(Sign::Zero.is_of(total), Reason::Apart)
+}
+
+/// A motion that no bearing resists, on which the live loads gain power, and which forbids a greater factor
+/// than that of the forces.
+#[tactic(auto, unfolding(crate::specs::WrittenMotions::written_bound))]
+pub fn check_bound(s: &Survey, forces: &Forces, motion: &Motion) -> Result<(), Stop>
+    ensures { result ≡ written_bound s.now (forces_view forces.now) (motion_view motion.now) }
+{
+    check_motion(s, motion)?;
+    let powers = both_powers(s, motion)?;
+    require(Sign::Positive.is_of(powers.live), Reason::NoWork)?;
+    check_meeting(Whole::of(forces.scale), Whole::of(forces.factor), powers)
+}

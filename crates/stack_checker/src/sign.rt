@@ -1,0 +1,66 @@
+//! What the numbers of a certificate are tested for.
+
+ghost use Rattle.std.specs.Prelude.{◌≡◌};
+ghost use Rattle.stack_checker.specs.Signs.{has_sign, standing, loaded, rising};
+
+use stack_equilibrium::whole::Whole;
+
+/// What a number is tested for.
+#[derive(Clone, Copy, Debug, PartialEq, Eq)]
+pub enum Sign {
+    Zero,
+    NotNegative,
+    Positive,
+}
+
+impl Sign {
+    /// Whether the number has it.
+    pub fn is_of(self, number: Whole) -> bool
+        ensures { result ≡ has_sign self number.value }
+    {
+        match self {
+            Sign::Zero => number.value == 0,
+            Sign::NotNegative => 0 <= number.value,
+            Sign::Positive => 0 < number.value,
+        }
+    }
+}
+
+/// What the scale and the factor of a list of forces are tested for.
+#[derive(Clone, Copy, Debug, PartialEq, Eq)]
+pub struct Signs {
+    pub scale: Sign,
+    pub factor: Sign,
+}
+
+impl Signs {
+    /// Of forces that carry the dead loads alone.
+    pub fn standing() -> Signs
+        ensures { result ≡ standing }
+    {
+        Signs {
+            scale: Sign::Positive,
+            factor: Sign::Zero,
+        }
+    }
+
+    /// Of forces that carry the live loads with a factor.
+    pub fn loaded() -> Signs
+        ensures { result ≡ loaded }
+    {
+        Signs {
+            scale: Sign::Positive,
+            factor: Sign::NotNegative,
+        }
+    }
+
+    /// Of forces that carry the live loads alone.
+    pub fn rising() -> Signs
+        ensures { result ≡ rising }
+    {
+        Signs {
+            scale: Sign::Zero,
+            factor: Sign::Positive,
+        }
+    }
+}

@@ -1,0 +1,50 @@
+//! The survey of a model, whose refusals tell bodies by their names.
+
+ghost use Rattle.std.specs.Prelude.{◌≡◌, [], map, get_or, IfOk, string_bytes};
+ghost use Rattle.stack_model.specs.ModelView.{model_view};
+ghost use Rattle.stack_cli.specs.Outcome.{body_names};
+ghost use Rattle.stack_cli.specs.Progress.{Fails, SurveysModel};
+
+use crate::refusal::Refusal;
+use stack_contact::survey;
+use stack_contact::types::{Survey, SurveyError};
+use stack_model::Model;
+use std::alloc::{AllocError, Global};
+
+/// The names of all bodies, in order.
+fn names_of(alloc: Global, model: &Model) -> Result<Vec<String>, AllocError>
+    ensures { IfOk result (λ v. map string_bytes v.items ≡ body_names (model_view model.now)) }
+{
+    let mut names = Vec::new(alloc);
+    for i in 0..model.bodies() {
+        names.push(String::from_str(alloc, model.name(i))?)?;
+    }
+    Ok(names)
+}
+
+/// A name by its number; empty where there is none.
+fn name_at(names: &[String], i: usize) -> &str
+    ensures { result.now ≡ get_or (map string_bytes names.now) i [] }
+{
+    match names.get(i) {
+        Some(name) => name.as_str(),
+        None => "",
+    }
+}
+
+/// The survey of a model. The model is consumed, so its names are read before.
+pub fn survey_model(alloc: Global, model: Model) -> Result<Survey, Refusal>
+    ensures gives { SurveysModel (model_view model) result }
+    ensures no_file { Fails result ⊥ }
+{
+    let names = names_of(alloc, &model)?;
+    match survey(alloc, model) {
+        Ok(survey) => Ok(survey),
+        Err(SurveyError::Overlap { first, second }) => Err(Refusal::Overlap {
+            first: String::from_str(alloc, name_at(names.as_slice(), first))?,
+            second: String::from_str(alloc, name_at(names.as_slice(), second))?,
+        }),
+        Err(SurveyError::TooManyBearings { count }) => Err(Refusal::ManyBearings { count }),
+        Err(SurveyError::Memory) => Err(Refusal::Memory),
+    }
+}

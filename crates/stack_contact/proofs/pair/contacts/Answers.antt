@@ -1,0 +1,16 @@
+use mathlib.Core.Logic.{inl, inr}
+use Rattle.stack_contact.proofs.OnePair.{are-contacts}
+use Rattle.stack_contact.proofs.pair.contacts.Goals as goal
+
+pub returns-in-Some-clause-found : goal.returns-in-Some-clause-found
+returns-in-Some-clause-found c = are-contacts c.args.p.now c.args.q.now c.len-first.ensures.polygon
+    c.len-second.ensures.polygon c.in-Some.e.which c.in-Some.e.index c.in-Some.ensures.separates
+    c.common-points.result c.common-points.ensures.points c.tangent_of-tangent.result
+    c.tangent_of-tangent.ensures
+    c.made.result c.made.ensures
+
+pub returns-in-None-clause-separated : goal.returns-in-None-clause-separated
+returns-in-None-clause-separated c h = elim h [
+  | inl a ↦ c.in-None.ensures.first.0 a.0 a.1
+  | inr b ↦ c.in-None.ensures.first.1 b.0 b.1
+]

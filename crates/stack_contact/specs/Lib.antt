@@ -1,0 +1,8 @@
+pub mod OnOutlines
+pub mod Bearings
+pub mod PairContacts
+pub mod ContactLists
+pub mod Surveyed
+pub mod Found
+pub mod FreeBlocks
+pub mod Rectangles

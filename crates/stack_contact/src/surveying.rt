@@ -1,0 +1,84 @@
+//! The survey of a model, and what it tells.
+
+ghost use Rattle.std.specs.Prelude.{◌≡◌, ◌<◌, length, slice_index};
+ghost use Rattle.stack_model.specs.ModelView.{model_view};
+ghost use Rattle.stack_contact.specs.FreeBlocks.{frees_of};
+ghost use Rattle.stack_contact.specs.Surveyed.{Surveys, IsSurvey};
+
+use crate::lists::all_found;
+use crate::types::{Bearing, Survey, SurveyError, Touch};
+use stack_model::Model;
+use std::alloc::Global;
+
+/// The survey of a model: exactly its bearings and its touches. Pairs of two fixed bodies are left out. Refused
+/// are, in this order: a model with a pair that no edge of either body separates, with the least such pair, and
+/// one with more than 1,024 bearings, with their number; want of memory comes at any time.
+pub fn survey(alloc: Global, model: Model) -> Result<Survey, SurveyError>
+    ensures { Surveys (model_view model) result }
+{
+    let found = all_found(alloc, &model)?;
+    let count = found.bearings.len();
+    if count > 1024 {
+        return Err(SurveyError::TooManyBearings { count });
+    }
+    Ok(Survey {
+        model,
+        bearings: found.bearings,
+        touches: found.touches,
+    })
+}
+
+impl Survey {
+    /// The model.
+    pub fn model(&self) -> &Model
+        ensures { model_view result.now ≡ self.now.structure }
+    {
+        &self.model
+    }
+
+    /// The bearings, by first body, second body, x and y.
+    pub fn bearings(&self) -> &[Bearing]
+        ensures value { result.now ≡ self.now.bearings }
+        ensures survey { IsSurvey self.now.structure self.now }
+    {
+        self.bearings.as_slice()
+    }
+
+    /// The touches, by first body, second body, x and y.
+    pub fn touches(&self) -> &[Touch]
+        ensures { result.now ≡ self.now.touches }
+    {
+        self.touches.as_slice()
+    }
+
+    /// The number of free blocks: of bodies that aren't fixed.
+    pub fn free_count(&self) -> usize
+        ensures { result ≡ length (frees_of self.now.structure.bodies) }
+    {
+        let mut count = 0;
+        for i in 0..self.model.bodies() {
+            if !self.model.body(i).fixed {
+                count += 1;
+            }
+        }
+        count
+    }
+
+    /// The number in the model of free block `b`.
+    pub fn free(&self, b: usize) -> usize
+        requires { b < length (frees_of self.now.structure.bodies) }
+        ensures number { result ≡ slice_index (frees_of self.now.structure.bodies) b }
+        ensures body { result < length self.now.structure.bodies }
+    {
+        let mut left = b;
+        for i in 0..self.model.bodies() {
+            if !self.model.body(i).fixed {
+                if left == 0 {
+                    return i;
+                }
+                left -= 1;
+            }
+        }
+        unreachable!()
+    }
+}

@@ -1,0 +1,106 @@
+-- Products that 128 bits hold.
+use Rattle.std.proofs.Common.{◌≡◌, ◌∙◌, ap, sym, subst, ℕ, ◌<◌, ◌^◌, ℤ, pos, negsuc, ◌+ℤ◌, ◌*ℤ◌, neg_ℤ, to_z, of_z, SFits, lit<, arith}
+use mir.Syntax.{w64, w128}
+use Rattle.std.proofs.lemmas.Int.{ints, to_z-of_z, fits_signed_mul}
+use Rattle.stack_algebra.proofs.Integers.{sums, expand}
+use Rattle.stack_algebra.proofs.Order.{mul-bounds}
+use Rattle.stack_frame.specs.Directions.{IsStep}
+use Rattle.stack_polygon.specs.Sizes.{IsThree, IsWithin}
+use Rattle.stack_equilibrium.specs.LoadSizes.{IsForce, IsTurn, IsMoment}
+use Rattle.stack_equilibrium.specs.Columns.{IsRate, IsShare}
+
+abbrev pub wide : ℤ → ℤ
+wide z = to_z w128 (of_z w128 z)
+
+-- a product as it is stored
+stored_product : (a b : ℤ) → SFits w128 a → SFits w128 b → SFits w128 (a *ℤ b) →
+    to_z w128 (of_z w128 (to_z w128 (of_z w128 a) *ℤ to_z w128 (of_z w128 b))) ≡ a *ℤ b
+stored_product a b f g h = rw (to_z-of_z w128 a f, to_z-of_z w128 b g) (to_z-of_z w128 (a *ℤ b) h)
+
+times_fits : (a b : ℤ) → IsThree a → IsWithin 32 8000000000000 b → SFits w128 (a *ℤ b)
+times_fits a b h k = fits_signed_mul w128 a b 3000000 256000000000000 (omega (arith, ints))
+    (omega (arith, ints)) (lit< tt)
+
+pub times_stored : (a b : ℤ) → SFits w128 a → SFits w128 b → IsThree a → IsWithin 32 8000000000000 b
+    → to_z w128 (of_z w128 (to_z w128 (of_z w128 a) *ℤ to_z w128 (of_z w128 b))) ≡ a *ℤ b
+times_stored a b f g h k = stored_product a b f g (times_fits a b h k)
+
+turn_fits : (a b : ℤ) → IsStep a → IsForce b → SFits w128 (a *ℤ b)
+turn_fits a b h k = fits_signed_mul w128 a b 2000000 4000000000 (omega (arith, ints)) (omega (arith, ints))
+    (lit< tt)
+
+pub turn_stored : (a b : ℤ) → SFits w128 a → SFits w128 b → IsStep a → IsForce b
+    → to_z w128 (of_z w128 (to_z w128 (of_z w128 a) *ℤ to_z w128 (of_z w128 b))) ≡ a *ℤ b
+turn_stored a b f g h k = stored_product a b f g (turn_fits a b h k)
+
+turn_within : (a b : ℤ) → IsStep a → IsForce b → IsTurn (a *ℤ b)
+turn_within a b h k =
+    let m = mul-bounds a b (pos 2000000) (pos 4000000000) h.high (omega (arith, ints)) k.high
+    (omega (arith, ints)) in
+    let n = mul-bounds (neg_ℤ a) b (pos 2000000) (pos 4000000000) (omega (arith, ints))
+    (omega (arith, ints)) k.high
+    (omega (arith, ints)) in
+    record { low = omega (arith, sums, m); high = omega (arith, sums, simp expand at n) }
+
+pub turn_is_within : (a b : ℤ) → SFits w128 a → SFits w128 b → IsStep a → IsForce b
+    → IsTurn (to_z w128 (of_z w128 (to_z w128 (of_z w128 a) *ℤ to_z w128 (of_z w128 b))))
+turn_is_within a b f g h k = subst IsTurn (sym (turn_stored a b f g h k)) (turn_within a b h k)
+
+-- six times a number
+pub six_force : (a : ℤ) → IsForce a → wide (pos 6 *ℤ wide a) ≡ pos 6 *ℤ a
+six_force a h = omega (arith, ints)
+
+pub six_moment : (a : ℤ) → IsWithin 1 16000000000000000 a → wide (pos 6 *ℤ wide a) ≡ pos 6 *ℤ a
+six_moment a h = omega (arith, ints)
+
+-- a sum of loads and one more
+pub one_force : (n : ℕ) (a b : ℤ) → n < 2 ^ 64 → IsWithin n 24000000000 a → IsWithin 1 24000000000 b →
+    wide (wide a +ℤ wide b) ≡ a +ℤ b
+one_force n a b l h k = omega (arith, ints)
+
+pub one_moment : (n : ℕ) (a b : ℤ) → n < 2 ^ 64 → IsWithin n 96000000000000000 a →
+    IsWithin 1 96000000000000000 b →
+    wide (wide a +ℤ wide b) ≡ a +ℤ b
+one_moment n a b l h k = omega (arith, ints)
+
+-- a weight and the loads beside it
+pub no_weight : (a b : ℤ) → a ≡ pos 0 → IsWithin 256 24000000000 b → wide (wide a +ℤ wide b) ≡ a +ℤ b
+no_weight a b h k = omega (arith, ints)
+
+pub weight_force : (a b : ℤ) → IsWithin 31 24000000000000000000 a → IsWithin 256 24000000000 b →
+    wide (wide a +ℤ wide b) ≡ a +ℤ b
+weight_force a b h k = omega (arith, ints)
+
+pub weight_moment : (a b : ℤ) → IsWithin 31 32000000000000000000000000 a → IsWithin 256 96000000000000000 b →
+    wide (wide a +ℤ wide b) ≡ a +ℤ b
+weight_moment a b h k = omega (arith, ints)
+
+-- a number of a cone times a step
+share_fits : (a b : ℤ) → IsRate a → IsStep b → SFits w128 (a *ℤ b)
+share_fits a b h k = fits_signed_mul w128 a b 1000 2000000 (omega (arith, ints)) (omega (arith, ints)) (lit< tt)
+
+share_within : (a b : ℤ) → IsRate a → IsStep b → IsShare (a *ℤ b)
+share_within a b h k =
+    let m = mul-bounds a b (pos 1000) (pos 2000000) h.high (omega (arith, ints)) k.high (omega (arith, ints)) in
+    let n = mul-bounds (neg_ℤ a) b (pos 1000) (pos 2000000) (omega (arith, ints)) (omega (arith, ints)) k.high
+    (omega (arith, ints)) in
+    record { low = omega (arith, sums, m); high = omega (arith, sums, simp expand at n) }
+
+pub share_is_within : (a b : ℤ) → SFits w128 a → SFits w128 b → IsRate a → IsStep b →
+    IsShare (wide (wide a *ℤ wide b))
+share_is_within a b f g h k = subst IsShare (sym (stored_product a b f g (share_fits a b h k)))
+    (share_within a b h k)
+
+-- numbers of these sizes are stored as they are
+pub step_stored : (z : ℤ) → IsStep z → to_z w64 (of_z w64 z) ≡ z
+step_stored z h = omega (arith, ints)
+
+pub moment_stored : (z : ℤ) → IsMoment z → wide z ≡ z
+moment_stored z h = omega (arith, ints)
+
+-- the opposite of such a number
+opposite_is : (a : ℤ) → neg_ℤ a ≡ negsuc 0 *ℤ a
+opposite_is a = simp expand (omega (arith, sums))
+
+pub opposite_stored : (a : ℤ) → IsMoment a → neg_ℤ (wide a) ≡ negsuc 0 *ℤ a
+opposite_stored a h = ap neg_ℤ (moment_stored a h) ∙ opposite_is a

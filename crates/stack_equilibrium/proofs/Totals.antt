@@ -1,0 +1,28 @@
+-- Sums of wrenches, one after the other.
+use Rattle.std.proofs.Common.{◌≡◌, ap, ◌∙◌, ℕ, suc, ◌+◌, ◌≤◌, arith}
+use Rattle.std.proofs.lemmas.Int.{ints}
+use Rattle.stack_equilibrium.specs.declared.types.Wrench.{Wrench}
+use Rattle.stack_equilibrium.specs.Loads.{both, total_of}
+use Rattle.stack_equilibrium.specs.LoadSizes.{AreLoads, IsSmall}
+
+pub one_more : (n : ℕ) (f : ℕ → Wrench) (total one w : Wrench) → total ≡ total_of n f → one ≡ f n →
+    w ≡ both total one → w ≡ total_of (n + 1) f
+one_more n f total one w h k e = e ∙ (λ i. both (h i) (k i)) ∙ ap (λ m. total_of m f) next
+  where
+    next : suc n ≡ n + 1
+    next = omega arith
+
+-- within the limits a model has at most 256 loads
+pub within_256 : (n : ℕ) (w : Wrench) → n ≤ 256 → AreLoads n w → AreLoads 256 w
+within_256 n w l h = record {
+  fx = record { low = omega (arith, ints, h.fx.low); high = omega (arith, ints, h.fx.high) };
+  fy = record { low = omega (arith, ints, h.fy.low); high = omega (arith, ints, h.fy.high) };
+  m = record { low = omega (arith, ints, h.m.low); high = omega (arith, ints, h.m.high) };
+}
+
+pub loads_are_small : (w : Wrench) → AreLoads 256 w → IsSmall w
+loads_are_small w h = record {
+  fx = omega (arith, ints, h.fx.low, h.fx.high);
+  fy = omega (arith, ints, h.fy.low, h.fy.high);
+  m = omega (arith, ints, h.m.low, h.m.high);
+}

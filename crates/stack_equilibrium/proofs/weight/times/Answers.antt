@@ -1,0 +1,11 @@
+use Rattle.std.proofs.Common.{rules, ap, SFits}
+use mir.Syntax.{w128}
+use Rattle.stack_equilibrium.specs.Whole.{whole}
+use Rattle.stack_equilibrium.proofs.Products.{times_stored}
+use Rattle.stack_equilibrium.proofs.weight.times.Goals as goal
+
+pub returns : goal.returns
+returns c =
+    let f : SFits w128 c.args.factor.value = search rules in
+    let g : SFits w128 c.args.twice_area.value = search rules in
+    ap whole (times_stored c.args.factor.value c.args.twice_area.value f g c.requires.factor c.requires.area)

@@ -1,0 +1,59 @@
+-- The force along an edge of a bearing's cone of friction, as it is made, and the sizes of its numbers.
+use Rattle.std.specs.Prelude.{ℤ, pos, negsuc, Bool, neg_ℤ, ◌+ℤ◌, ◌*ℤ◌, if◌then◌else◌}
+use Rattle.stack_algebra.specs.IntegerOrder.{◌≼◌}
+use Rattle.stack_polygon.specs.declared.point.Point.{Point}
+use Rattle.stack_polygon.specs.Limits.{IsInRange}
+use Rattle.stack_polygon.specs.Sizes.{IsWithin}
+use Rattle.stack_frame.specs.declared.cone.Cone.{Cone}
+use Rattle.stack_frame.specs.Cones.{IsCoefficient}
+use Rattle.stack_frame.specs.Directions.{IsStep}
+use Rattle.stack_contact.specs.declared.types.Bearing.{Bearing}
+use Rattle.stack_equilibrium.specs.declared.types.Wrench.{Wrench}
+use Rattle.stack_equilibrium.specs.declared.force.Force.{Force}
+use Rattle.stack_equilibrium.specs.Whole.{whole}
+use Rattle.stack_equilibrium.specs.LoadSizes.{IsMoment, arm_between, moment_with}
+
+-- a bearing's point is in range, its tangent is no longer than an edge, and its friction within the limits
+pub record IsBounded (z : Bearing) : Type 0 where
+  pub at : IsInRange z.at
+  pub tx : IsStep z.frame.tx
+  pub ty : IsStep z.frame.ty
+  pub cone : IsCoefficient z.cone
+
+-- a coefficient's numerator or denominator, with a sign
+pub record IsRate (z : ℤ) : Type 0 where
+  pub low : negsuc 999 ≼ z
+  pub high : z ≼ pos 1000
+
+-- a part of the tangent or of the normal, times such a number
+abbrev pub IsShare : ℤ → Type 0
+IsShare z = IsWithin 1 2000000000 z
+
+-- p, or minus p
+abbrev pub lean_of : Cone → Bool → ℤ
+lean_of c plus = if plus then c.p else neg_ℤ c.p
+
+-- q*normal and p*tangent together, or less p*tangent
+abbrev pub edge_force_of : Bearing → Bool → Force
+edge_force_of z plus = record {
+  x = whole (z.cone.q *ℤ neg_ℤ z.frame.ty +ℤ lean_of z.cone plus *ℤ z.frame.tx);
+  y = whole (z.cone.q *ℤ z.frame.tx +ℤ lean_of z.cone plus *ℤ z.frame.ty);
+}
+
+-- its wrench about a corner
+abbrev pub edge_wrench_of : Point → Bearing → Bool → Wrench
+edge_wrench_of o z plus = let f = edge_force_of z plus in record {
+  fx = f.x.value;
+  fy = f.y.value;
+  m = moment_with (arm_between o z.at) f;
+}
+
+-- a wrench times a number
+abbrev pub times : ℤ → Wrench → Wrench
+times c w = record { fx = c *ℤ w.fx; fy = c *ℤ w.fy; m = c *ℤ w.m }
+
+-- the sizes of such a wrench
+pub record IsEdgeWrench (w : Wrench) : Type 0 where
+  pub fx : IsMoment w.fx
+  pub fy : IsMoment w.fy
+  pub m : IsMoment w.m

@@ -1,0 +1,87 @@
+//! A free block and what acts on it.
+
+ghost use Rattle.std.specs.Prelude.{◌≡◌, ◌<◌, ◌-ℤ◌, length};
+ghost use Rattle.stack_equilibrium.specs.Whole.{whole};
+ghost use Rattle.stack_equilibrium.specs.WrittenSums.{push_at, joint_at, along};
+
+use crate::types::{Axis, Wrench};
+use crate::whole::Whole;
+use stack_contact::types::Bearing;
+use stack_polygon::Point;
+
+/// What a bearing bears on its second body: `a` along the normal, `b` along the tangent.
+#[derive(Clone, Copy, Debug, PartialEq, Eq)]
+pub struct Push {
+    pub a: Whole,
+    pub b: Whole,
+}
+
+/// A bearing as a block meets it: its tangent, and its point less the block's first stored corner.
+#[derive(Clone, Copy, Debug, PartialEq, Eq)]
+pub struct Joint {
+    pub tx: Whole,
+    pub ty: Whole,
+    pub lx: Whole,
+    pub ly: Whole,
+}
+
+/// A free block: its number among the bodies, its first stored corner, and its dead and its live loads.
+#[derive(Clone, Copy, Debug, PartialEq, Eq)]
+pub struct Block {
+    pub body: usize,
+    pub corner: Point,
+    pub dead: Wrench,
+    pub live: Wrench,
+}
+
+/// The number of a wrench along an axis.
+pub fn number_along(axis: Axis, wrench: Wrench) -> Whole
+    ensures { result ≡ whole (along axis wrench) }
+{
+    match axis {
+        Axis::X => Whole { value: wrench.fx },
+        Axis::Y => Whole { value: wrench.fy },
+        Axis::M => Whole { value: wrench.m },
+    }
+}
+
+/// A number of the survey.
+pub fn whole_of(value: i64) -> Whole
+    ensures { result ≡ whole value }
+{
+    Whole {
+        value: value as i128,
+    }
+}
+
+fn offset(value: i64, from: i64) -> Whole
+    ensures { result ≡ whole (value -ℤ from) }
+{
+    Whole {
+        value: value as i128 - from as i128,
+    }
+}
+
+/// The joint of a bearing at a block with this first stored corner.
+pub fn joint_of(corner: Point, bearing: Bearing) -> Joint
+    ensures { result ≡ joint_at corner bearing }
+{
+    Joint {
+        tx: whole_of(bearing.frame.tx),
+        ty: whole_of(bearing.frame.ty),
+        lx: offset(bearing.at.x, corner.x),
+        ly: offset(bearing.at.y, corner.y),
+    }
+}
+
+/// What bearing `k` bears.
+pub fn push_of(parts: &[(i128, i128)], k: usize) -> Push
+    requires { k < length parts.now }
+    ensures { result ≡ push_at parts.now k }
+{
+    let (a, b) = parts[k];
+    Push {
+        a: Whole { value: a },
+        b: Whole { value: b },
+    }
+}

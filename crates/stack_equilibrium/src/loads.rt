@@ -1,0 +1,177 @@
+//! The loads of a block.
+
+ghost use Rattle.std.specs.Prelude.{◌≡◌, ◌<◌, ◌+◌, ◌&&◌, length, nat_eq};
+ghost use Rattle.stack_polygon.specs.Limits.{IsInRange};
+ghost use Rattle.stack_model.specs.ModelView.{model_view};
+ghost use Rattle.stack_contact.specs.FreeBlocks.{frees_of};
+ghost use Rattle.stack_equilibrium.specs.declared.types.Question.TheVariants as questions;
+ghost use Rattle.stack_equilibrium.specs.Loads.{both, load_of};
+ghost use Rattle.stack_equilibrium.specs.LoadSizes.{IsSmall, AreForces, IsMoment, IsLimited, AreLoads, IsWeight, force_in, sixfold_of};
+ghost use Rattle.stack_equilibrium.specs.SurveyScene.{is_asked, acting, listed_on, loads_on};
+ghost use Rattle.stack_equilibrium.specs.Answers.{body_in, body_number};
+
+use crate::block::whole_of;
+use crate::force::{Force, arm_of, moment};
+use crate::types::{Question, Wrench};
+use crate::weight::weight_on;
+use crate::whole::Whole;
+use stack_contact::types::Survey;
+use stack_model::{Load, Model};
+use stack_polygon::Point;
+
+/// Whether a load is one of those that are asked about.
+fn is_asked(question: Question, load: Load) -> bool
+    ensures { result ≡ is_asked question load }
+{
+    match question {
+        Question::Dead => !load.live,
+        Question::Live => load.live,
+    }
+}
+
+/// Whether it also acts on body `i`.
+fn acts_on(question: Question, i: usize, load: Load) -> bool
+    ensures { result ≡ (nat_eq load.body i && is_asked question load) }
+{
+    load.body == i && is_asked(question, load)
+}
+
+/// The force of a load.
+fn force_of(load: Load) -> Force
+    requires { IsLimited load }
+    ensures value { result ≡ force_in load }
+    ensures size { AreForces result }
+{
+    Force {
+        x: whole_of(load.fx),
+        y: whole_of(load.fy),
+    }
+}
+
+/// Six times a force and its moment.
+fn sixfold(force: Force, moment: Whole) -> Wrench
+    requires force { AreForces force }
+    requires moment { IsMoment moment.value }
+    ensures value { result ≡ sixfold_of force moment.value }
+    ensures size { AreLoads 1 result }
+{
+    Wrench {
+        fx: 6 * force.x.value,
+        fy: 6 * force.y.value,
+        m: 6 * moment.value,
+    }
+}
+
+/// Six times the wrench of a load about a corner.
+fn wrench_about(corner: Point, load: Load) -> Wrench
+    requires corner { IsInRange corner }
+    requires load { IsLimited load }
+    ensures value { result ≡ load_of corner load.at load.fx load.fy }
+    ensures size { AreLoads 1 result }
+{
+    let force = force_of(load);
+    sixfold(force, moment(arm_of(corner, load.at), force))
+}
+
+/// The same of a load that is asked about and acts on body `i`, and nothing for any other.
+fn acting(question: Question, i: usize, corner: Point, load: Load) -> Wrench
+    requires corner { IsInRange corner }
+    requires load { IsLimited load }
+    ensures value { result ≡ acting question i corner load }
+    ensures size { AreLoads 1 result }
+{
+    if acts_on(question, i, load) {
+        wrench_about(corner, load)
+    } else {
+        Wrench { fx: 0, fy: 0, m: 0 }
+    }
+}
+
+/// The wrenches of so many loads, and one more.
+fn plus(total: Wrench, one: Wrench, count: usize) -> Wrench
+    requires total { AreLoads count total }
+    requires one { AreLoads 1 one }
+    ensures value { result ≡ both total one }
+    ensures size { AreLoads (count + 1) result }
+{
+    Wrench {
+        fx: total.fx + one.fx,
+        fy: total.fy + one.fy,
+        m: total.m + one.m,
+    }
+}
+
+/// The listed loads on body `i`.
+fn listed_on(question: Question, model: &Model, i: usize) -> Wrench
+    requires { i < length (model_view model.now).bodies }
+    ensures value { result ≡ listed_on question (model_view model.now) i }
+    ensures size { AreLoads 256 result }
+{
+    let outline = model.polygon(i);
+    let _corners = outline.len();
+    let corner = outline.corner(0);
+    let mut total = Wrench { fx: 0, fy: 0, m: 0 };
+    for n in 0..model.loads() {
+        let one = acting(question, i, corner, model.load(n));
+        total = plus(total, one, n);
+    }
+    total
+}
+
+/// A weight and the dead loads beside it.
+fn with_weight(weight: Wrench, listed: Wrench) -> Wrench
+    requires weight { IsWeight weight }
+    requires listed { AreLoads 256 listed }
+    ensures value { result ≡ both weight listed }
+    ensures size { IsSmall result }
+{
+    Wrench {
+        fx: weight.fx + listed.fx,
+        fy: weight.fy + listed.fy,
+        m: weight.m + listed.m,
+    }
+}
+
+/// The dead loads of body `i`.
+fn dead_on(model: &Model, i: usize) -> Wrench
+    requires { i < length (model_view model.now).bodies }
+    ensures value { result ≡ loads_on questions.Dead (model_view model.now) i }
+    ensures size { IsSmall result }
+{
+    let outline = model.polygon(i);
+    let unit = model.material(model.body(i).material).weight;
+    let listed = listed_on(Question::Dead, model, i);
+    with_weight(weight_on(unit, outline), listed)
+}
+
+/// The dead or the live loads of body `i`.
+pub fn loads_on(question: Question, model: &Model, i: usize) -> Wrench
+    requires { i < length (model_view model.now).bodies }
+    ensures value { result ≡ loads_on question (model_view model.now) i }
+    ensures size { IsSmall result }
+{
+    match question {
+        Question::Dead => dead_on(model, i),
+        Question::Live => listed_on(Question::Live, model, i),
+    }
+}
+
+/// The dead loads of free block `b`, counted among the free blocks: its weight, and six times each dead load on
+/// it. The moment is about its first stored corner. Takes no memory.
+pub fn dead(s: &Survey, b: usize) -> Wrench
+    requires { b < length (frees_of s.now.structure.bodies) }
+    ensures value { result ≡ (body_in s.now (body_number s.now b)).dead }
+    ensures size { IsSmall result }
+{
+    loads_on(Question::Dead, s.model(), s.free(b))
+}
+
+/// The live loads of free block `b`, counted among the free blocks: six times each live load on it. The moment
+/// is about its first stored corner. Takes no memory.
+pub fn live(s: &Survey, b: usize) -> Wrench
+    requires { b < length (frees_of s.now.structure.bodies) }
+    ensures value { result ≡ (body_in s.now (body_number s.now b)).live }
+    ensures size { IsSmall result }
+{
+    loads_on(Question::Live, s.model(), s.free(b))
+}

@@ -1,0 +1,148 @@
+//! The sums of a block, in the written order.
+
+ghost use Rattle.std.specs.Prelude.{◌≡◌, ◌≤◌, length, pos};
+ghost use Rattle.stack_algebra.specs.Steps.{steps};
+ghost use Rattle.stack_equilibrium.specs.Whole.{whole};
+ghost use Rattle.stack_equilibrium.specs.WrittenSums.{written_force_x, written_force_y, written_moment, written_force, with_bearing, bearing_at, written_sum, on_axis, written_sums};
+
+use crate::block::{Block, Joint, Push, joint_of, number_along, push_of};
+use crate::types::{Axis, SumWide, Wrench};
+use crate::whole::{Whole, Wide};
+use stack_contact::types::Bearing;
+
+#[tactic(auto, unfolding(crate::specs::WrittenSums::written_force_x))]
+fn force_x(joint: Joint, push: Push) -> Result<Whole, Wide>
+    ensures { result ≡ written_force_x joint push }
+{
+    let along = push.b.product(joint.tx)?;
+    let across = push.a.product(joint.ty)?;
+    along.difference(across)
+}
+
+#[tactic(auto, unfolding(crate::specs::WrittenSums::written_force_y))]
+fn force_y(joint: Joint, push: Push) -> Result<Whole, Wide>
+    ensures { result ≡ written_force_y joint push }
+{
+    let across = push.a.product(joint.tx)?;
+    let along = push.b.product(joint.ty)?;
+    across.sum(along)
+}
+
+#[tactic(auto, unfolding(crate::specs::WrittenSums::written_moment))]
+fn moment(joint: Joint, push: Push) -> Result<Whole, Wide>
+    ensures { result ≡ written_moment joint push }
+{
+    let x = force_x(joint, push)?;
+    let y = force_y(joint, push)?;
+    let turned = joint.lx.product(y)?;
+    let back = joint.ly.product(x)?;
+    turned.difference(back)
+}
+
+fn force(axis: Axis, joint: Joint, push: Push) -> Result<Whole, Wide>
+    ensures { result ≡ written_force axis joint push }
+{
+    match axis {
+        Axis::X => force_x(joint, push),
+        Axis::Y => force_y(joint, push),
+        Axis::M => moment(joint, push),
+    }
+}
+
+#[tactic(auto, unfolding(crate::specs::WrittenSums::with_bearing))]
+fn add_bearing(
+    axis: Axis,
+    block: Block,
+    push: Push,
+    so_far: Whole,
+    z: Bearing,
+) -> Result<Whole, Wide>
+    ensures { result ≡ with_bearing axis block push so_far z }
+{
+    let joint = joint_of(block.corner, z);
+    if block.body == z.second {
+        let acting = force(axis, joint, push)?;
+        so_far.sum(acting)
+    } else if block.body == z.first {
+        let acting = force(axis, joint, push)?;
+        so_far.difference(acting)
+    } else {
+        Ok(so_far)
+    }
+}
+
+fn add_bearings(
+    axis: Axis,
+    block: Block,
+    bearings: &[Bearing],
+    parts: &[(i128, i128)],
+) -> Result<Whole, Wide>
+    requires { length bearings.now ≤ length parts.now }
+    ensures { result ≡ steps (bearing_at axis block parts.now) 0 (whole (pos 0)) bearings.now }
+{
+    let mut so_far = Whole { value: 0 };
+    for (k, bearing) in bearings.iter().enumerate() {
+        so_far = add_bearing(axis, block, push_of(parts, k), so_far, *bearing)?;
+    }
+    Ok(so_far)
+}
+
+/// The sum of a block along an axis.
+#[tactic(auto, unfolding(crate::specs::WrittenSums::written_sum))]
+fn sum(
+    axis: Axis,
+    block: Block,
+    scale: Whole,
+    factor: Whole,
+    bearings: &[Bearing],
+    parts: &[(i128, i128)],
+) -> Result<Whole, Wide>
+    requires { length bearings.now ≤ length parts.now }
+    ensures { result ≡ written_sum axis block scale factor bearings.now parts.now }
+{
+    let borne = add_bearings(axis, block, bearings, parts)?;
+    let weight = scale.product(number_along(axis, block.dead))?;
+    let standing = borne.sum(weight)?;
+    let drive = factor.product(number_along(axis, block.live))?;
+    standing.sum(drive)
+}
+
+/// That sum, with its axis where a number passes.
+fn sum_along(
+    axis: Axis,
+    block: Block,
+    scale: Whole,
+    factor: Whole,
+    bearings: &[Bearing],
+    parts: &[(i128, i128)],
+) -> Result<Whole, SumWide>
+    requires { length bearings.now ≤ length parts.now }
+    ensures { result ≡ on_axis axis (written_sum axis block scale factor bearings.now parts.now) }
+{
+    match sum(axis, block, scale, factor, bearings, parts) {
+        Ok(number) => Ok(number),
+        Err(Wide) => Err(SumWide { axis }),
+    }
+}
+
+/// The sums of a block along x, along y and about its first stored corner.
+#[tactic(auto, unfolding(crate::specs::WrittenSums::written_sums))]
+pub fn sums(
+    block: Block,
+    scale: Whole,
+    factor: Whole,
+    bearings: &[Bearing],
+    parts: &[(i128, i128)],
+) -> Result<Wrench, SumWide>
+    requires { length bearings.now ≤ length parts.now }
+    ensures { result ≡ written_sums block scale factor bearings.now parts.now }
+{
+    let x = sum_along(Axis::X, block, scale, factor, bearings, parts)?;
+    let y = sum_along(Axis::Y, block, scale, factor, bearings, parts)?;
+    let m = sum_along(Axis::M, block, scale, factor, bearings, parts)?;
+    Ok(Wrench {
+        fx: x.value,
+        fy: y.value,
+        m: m.value,
+    })
+}

@@ -1,0 +1,247 @@
+//! Small structures worked by hand: their loads, sums, openings, powers and columns.
+
+use crate::types::{Axis, PowerWide, Question, SumWide, VelocityWide, Wrench};
+use crate::{column, dead, live, opening, power, residue};
+use stack_certificate::types::{Forces, Motion};
+use stack_contact::survey;
+use stack_contact::types::Survey;
+use stack_model::{Model, Parts, RawBlock, RawLoad, RawMaterial};
+use std::test::*;
+
+#[derive(Clone, Copy)]
+struct Block {
+    name: &'static str,
+    fixed: bool,
+    corners: &'static [[i64; 2]],
+}
+
+/// A load on the block `post`.
+#[derive(Clone, Copy)]
+struct Acting {
+    kind: &'static str,
+    at: &'static [i64],
+    force: &'static [i64],
+}
+
+const GROUND: Block = Block {
+    name: "ground",
+    fixed: true,
+    corners: &[[-10, -1], [10, -1], [10, 0], [-10, 0]],
+};
+
+const POST: Block = Block {
+    name: "post",
+    fixed: false,
+    corners: &[[0, 0], [2, 0], [2, 4], [0, 4]],
+};
+
+const PUSH: Acting = Acting {
+    kind: "live",
+    at: &[0, 4],
+    force: &[1, 0],
+};
+
+const MOST: i128 = i128::MAX;
+
+fn text(rt: &HostRuntime, word: &str) -> Result<String, Fail> {
+    Ok(String::from_str(rt.alloc(), word)?)
+}
+
+fn numbers(rt: &HostRuntime, list: &[i64]) -> Result<Vec<i64>, Fail> {
+    let mut found = Vec::new(rt.alloc());
+    for number in list {
+        found.push(*number)?;
+    }
+    Ok(found)
+}
+
+fn raw_block(rt: &HostRuntime, block: Block) -> Result<RawBlock, Fail> {
+    let mut corners = Vec::new(rt.alloc());
+    for corner in block.corners {
+        corners.push(numbers(rt, corner.as_slice())?)?;
+    }
+    Ok(RawBlock {
+        name: text(rt, block.name)?,
+        material: text(rt, "stone")?,
+        fixed: block.fixed,
+        corners,
+    })
+}
+
+/// The survey of these blocks, of one stone of unit weight.
+fn surveyed(
+    rt: &HostRuntime,
+    friction: &[i64],
+    blocks: &[Block],
+    acting: &[Acting],
+) -> Result<Survey, Fail> {
+    let mut parts = Parts {
+        materials: Vec::new(rt.alloc()),
+        blocks: Vec::new(rt.alloc()),
+        loads: Vec::new(rt.alloc()),
+    };
+    parts.materials.push(RawMaterial {
+        name: text(rt, "stone")?,
+        weight: 1,
+        friction: numbers(rt, friction)?,
+    })?;
+    for b in blocks {
+        parts.blocks.push(raw_block(rt, *b)?)?;
+    }
+    for load in acting {
+        parts.loads.push(RawLoad {
+            block: text(rt, "post")?,
+            kind: text(rt, load.kind)?,
+            at: numbers(rt, load.at)?,
+            force: numbers(rt, load.force)?,
+        })?;
+    }
+    let model = Model::new(rt.alloc(), parts).ok().ok_or("no model")?;
+    Ok(survey(rt.alloc(), model).ok().ok_or("no survey")?)
+}
+
+/// The residue of the first free block.
+fn residue_of(
+    rt: &HostRuntime,
+    s: &Survey,
+    scale: i128,
+    factor: i128,
+    list: &[(i128, i128)],
+) -> Result<Result<Wrench, SumWide>, Fail> {
+    let mut parts = Vec::new(rt.alloc());
+    for part in list {
+        parts.push(*part)?;
+    }
+    let forces = Forces {
+        scale,
+        factor,
+        parts,
+    };
+    if forces.parts.len() != s.bearings().len() {
+        return Err(Fail::from("another number of parts"));
+    }
+    if s.free_count() == 0 {
+        return Err(Fail::from("no free block"));
+    }
+    Ok(residue(s, &forces, 0))
+}
+
+/// A motion of one block.
+fn motion(rt: &HostRuntime, u: i128, v: i128, r: i128) -> Result<Motion, Fail> {
+    let mut moves = Vec::new(rt.alloc());
+    moves.push((u, v, r))?;
+    Ok(Motion { moves })
+}
+
+fn wrench(fx: i128, fy: i128, m: i128) -> Wrench {
+    Wrench { fx, fy, m }
+}
+
+#[test]
+fn the_pushed_post_tips_at_twice_the_push(rt: HostRuntime) -> Result<(), Fail> {
+    let s = surveyed(&rt, &[1, 1], &[GROUND, POST], &[PUSH])?;
+    assert_eq!(rt; s.free_count(), 1);
+    assert_eq!(rt; s.bearings().len(), 2);
+    assert_eq!(rt; dead(&s, 0), wrench(0, -48, -48));
+    assert_eq!(rt; live(&s, 0), wrench(6, 0, -24));
+    let held = residue_of(&rt, &s, 1, 2, &[(0, 0), (48, -12)])?;
+    assert_eq!(rt; held, Ok(wrench(0, 0, 0)));
+    let heavier = residue_of(&rt, &s, 1, 2, &[(0, 0), (49, -12)])?;
+    assert_eq!(rt; heavier, Ok(wrench(0, 1, 2)));
+    let tips = motion(&rt, 0, 2, -1)?;
+    assert_eq!(rt; tips.moves.len(), 1);
+    assert_eq!(rt; opening(&s, &tips, 0), Ok((2, 0)));
+    assert_eq!(rt; opening(&s, &tips, 1), Ok((0, 0)));
+    assert_eq!(rt; power(&s, &tips, Question::Live), Ok(24));
+    assert_eq!(rt; power(&s, &tips, Question::Dead), Ok(-48));
+    Ok(())
+}
+
+#[test]
+fn a_dead_load_stands_beside_the_weight(rt: HostRuntime) -> Result<(), Fail> {
+    let stone = Acting {
+        kind: "dead",
+        at: &[1, 4],
+        force: &[0, -1],
+    };
+    let s = surveyed(&rt, &[1, 1], &[GROUND, POST], &[stone, PUSH])?;
+    assert_eq!(rt; s.free_count(), 1);
+    assert_eq!(rt; dead(&s, 0), wrench(0, -54, -54));
+    assert_eq!(rt; live(&s, 0), wrench(6, 0, -24));
+    Ok(())
+}
+
+#[test]
+fn the_sliding_post_climbs_its_cone(rt: HostRuntime) -> Result<(), Fail> {
+    let s = surveyed(&rt, &[1, 10], &[GROUND, POST], &[PUSH])?;
+    let held = residue_of(&rt, &s, 25, 20, &[(360, -36), (840, -84)])?;
+    assert_eq!(rt; held, Ok(wrench(0, 0, 0)));
+    let slides = motion(&rt, 10, 1, 0)?;
+    assert_eq!(rt; s.free_count(), 1);
+    assert_eq!(rt; s.bearings().len(), 2);
+    assert_eq!(rt; slides.moves.len(), 1);
+    assert_eq!(rt; opening(&s, &slides, 1), Ok((1, 10)));
+    assert_eq!(rt; power(&s, &slides, Question::Live), Ok(60));
+    assert_eq!(rt; power(&s, &slides, Question::Dead), Ok(-48));
+    Ok(())
+}
+
+#[test]
+fn the_block_on_a_ramp_slips_along_it(rt: HostRuntime) -> Result<(), Fail> {
+    let ramp = Block {
+        name: "ramp",
+        fixed: true,
+        corners: &[[0, 0], [12, 0], [12, 9]],
+    };
+    let cube = Block {
+        name: "cube",
+        fixed: false,
+        corners: &[[4, 3], [8, 6], [5, 10], [1, 7]],
+    };
+    let s = surveyed(&rt, &[3, 4], &[ramp, cube], &[])?;
+    assert_eq!(rt; s.free_count(), 1);
+    assert_eq!(rt; s.bearings().len(), 2);
+    assert_eq!(rt; column(&s, 0, true, 0), wrench(0, 25, 0));
+    assert_eq!(rt; column(&s, 0, false, 0), wrench(-24, 7, 0));
+    assert_eq!(rt; column(&s, 1, true, 0), wrench(0, 25, 100));
+    let slips = motion(&rt, -61, -2, 0)?;
+    assert_eq!(rt; slips.moves.len(), 1);
+    assert_eq!(rt; opening(&s, &slips, 0), Ok((175, -250)));
+    assert_eq!(rt; power(&s, &slips, Question::Dead), Ok(300));
+    Ok(())
+}
+
+#[test]
+fn a_bearing_acts_on_both_bodies_and_on_no_other(rt: HostRuntime) -> Result<(), Fail> {
+    let lower = Block {
+        name: "lower",
+        fixed: false,
+        corners: &[[0, 0], [2, 0], [2, 1], [0, 1]],
+    };
+    let upper = Block {
+        name: "upper",
+        fixed: false,
+        corners: &[[0, 1], [2, 1], [2, 2], [0, 2]],
+    };
+    let s = surveyed(&rt, &[1, 2], &[GROUND, lower, upper], &[])?;
+    assert_eq!(rt; s.free_count(), 2);
+    assert_eq!(rt; s.bearings().len(), 4);
+    assert_eq!(rt; column(&s, 0, true, 1), wrench(0, 0, 0));
+    assert_eq!(rt; column(&s, 2, true, 1), wrench(1, 2, 0));
+    assert_eq!(rt; column(&s, 2, true, 0), wrench(-1, -2, 1));
+    Ok(())
+}
+
+#[test]
+fn numbers_that_pass_are_refused(rt: HostRuntime) -> Result<(), Fail> {
+    let s = surveyed(&rt, &[1, 1], &[GROUND, POST], &[])?;
+    assert_eq!(rt; s.free_count(), 1);
+    assert_eq!(rt; s.bearings().len(), 2);
+    let wide = residue_of(&rt, &s, 1, 0, &[(MOST, 0), (MOST, 0)])?;
+    assert_eq!(rt; wide, Err(SumWide { axis: Axis::Y }));
+    let turns = motion(&rt, 0, 0, MOST)?;
+    assert_eq!(rt; turns.moves.len(), 1);
+    assert_eq!(rt; opening(&s, &turns, 1), Err(VelocityWide));
+    assert_eq!(rt; power(&s, &turns, Question::Dead), Err(PowerWide));
+    Ok(())
+}

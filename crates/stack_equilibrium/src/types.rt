@@ -1,0 +1,44 @@
+//! Wrenches, and the numbers that are too wide.
+
+/// A force and its moment, in sixths of a unit of force. The moment is about a body's first stored corner, and
+/// positive counter-clockwise.
+#[derive(Clone, Copy, Debug, PartialEq, Eq)]
+pub struct Wrench {
+    /// To the right.
+    pub fx: i128,
+    /// Upwards.
+    pub fy: i128,
+    pub m: i128,
+}
+
+/// What a block's sum is along, or about.
+#[derive(Clone, Copy, Debug, PartialEq, Eq)]
+pub enum Axis {
+    X,
+    Y,
+    /// The sum of moments.
+    M,
+}
+
+/// Which loads are asked about.
+#[derive(Clone, Copy, Debug, PartialEq, Eq)]
+pub enum Question {
+    /// The weights and the loads that always act.
+    Dead,
+    /// The loads that are raised by a factor.
+    Live,
+}
+
+/// A number of a block's sum passes 2^127 - 1 in size.
+#[derive(Clone, Copy, Debug, PartialEq, Eq)]
+pub struct SumWide {
+    pub axis: Axis,
+}
+
+/// A number of the velocities at a bearing passes 2^127 - 1 in size.
+#[derive(Clone, Copy, Debug, PartialEq, Eq)]
+pub struct VelocityWide;
+
+/// A number of a power passes 2^127 - 1 in size.
+#[derive(Clone, Copy, Debug, PartialEq, Eq)]
+pub struct PowerWide;

@@ -1,0 +1,105 @@
+//! The weight of a body, in sixths of a unit of force.
+
+ghost use Rattle.std.specs.Prelude.{◌≡◌, ◌*ℤ◌, ◌-ℤ◌, neg_ℤ, pos};
+ghost use Rattle.stack_polygon.specs.Limits.{IsNear};
+ghost use Rattle.stack_polygon.specs.Sizes.{IsThree, IsWithin};
+ghost use Rattle.stack_equilibrium.specs.Whole.{whole};
+ghost use Rattle.stack_equilibrium.specs.Loads.{weight_of};
+ghost use Rattle.stack_equilibrium.specs.LoadSizes.{IsWeight};
+ghost use Rattle.stack_equilibrium.specs.Weights.{IsUnitWeight, weight_by};
+
+use crate::types::Wrench;
+use crate::whole::Whole;
+use stack_polygon::Polygon;
+
+fn thrice(x: i64) -> Whole
+    requires { IsNear x }
+    ensures value { result ≡ whole (pos 3 *ℤ x) }
+    ensures size { IsThree result.value }
+{
+    Whole {
+        value: 3 * i128::from(x),
+    }
+}
+
+fn times(factor: Whole, twice_area: Whole) -> Whole
+    requires factor { IsThree factor.value }
+    requires area { IsWithin 32 8000000000000 twice_area.value }
+    ensures { result ≡ whole (factor.value *ℤ twice_area.value) }
+{
+    Whole {
+        value: factor.value * twice_area.value,
+    }
+}
+
+fn minus(number: Whole, other: Whole) -> Whole
+    requires number { IsWithin 32 24000000000000000000 number.value }
+    requires other { IsWithin 32 24000000000000000000 other.value }
+    ensures value { result ≡ whole (number.value -ℤ other.value) }
+    ensures size { IsWithin 64 24000000000000000000 result.value }
+{
+    Whole {
+        value: number.value - other.value,
+    }
+}
+
+/// Six times the moment about a vertical line through `x`, from that about the y axis.
+fn about(x: i64, about_y: Whole, twice_area: Whole) -> Whole
+    requires x { IsNear x }
+    requires moment { IsWithin 32 24000000000000000000 about_y.value }
+    requires area { IsWithin 32 8000000000000 twice_area.value }
+    ensures value { result ≡ whole (about_y.value -ℤ pos 3 *ℤ x *ℤ twice_area.value) }
+    ensures size { IsWithin 64 24000000000000000000 result.value }
+{
+    minus(about_y, times(thrice(x), twice_area))
+}
+
+/// A number times a unit weight, downwards.
+fn downwards(unit: i64, number: Whole) -> Whole
+    requires unit { IsUnitWeight unit }
+    requires number { IsWithin 64 24000000000000000000 number.value }
+    ensures { result ≡ whole (neg_ℤ (unit *ℤ number.value)) }
+{
+    Whole {
+        value: -(i128::from(unit) * number.value),
+    }
+}
+
+fn threefold(number: Whole) -> Whole
+    requires { IsWithin 32 8000000000000 number.value }
+    ensures { result ≡ whole (pos 3 *ℤ number.value) }
+{
+    Whole {
+        value: 3 * number.value,
+    }
+}
+
+/// The weight by twice the area and six times the moment about the first stored corner.
+fn made_weight(unit: i64, twice_area: Whole, moment: Whole) -> Wrench
+    requires unit { IsUnitWeight unit }
+    requires area { IsWithin 32 8000000000000 twice_area.value }
+    requires moment { IsWithin 64 24000000000000000000 moment.value }
+    ensures { result ≡ weight_by unit twice_area.value moment.value }
+{
+    Wrench {
+        fx: 0,
+        fy: downwards(unit, threefold(twice_area)).value,
+        m: downwards(unit, moment).value,
+    }
+}
+
+/// The weight of a body with this outline: it acts downwards, and its moment is about the first stored corner.
+pub fn weight_on(unit: i64, outline: &Polygon) -> Wrench
+    requires { IsUnitWeight unit }
+    ensures value { result ≡ weight_of unit outline.now }
+    ensures size { IsWeight result }
+{
+    let _len = outline.len();
+    let twice_area = Whole::of(outline.twice_area());
+    let about_y = Whole::of(outline.six_moments().0);
+    made_weight(
+        unit,
+        twice_area,
+        about(outline.corner(0).x, about_y, twice_area),
+    )
+}

@@ -1,0 +1,105 @@
+-- Values within their limits: what the tests say, and that they are taken again.
+use Rattle.std.proofs.Common.{◌≡◌, ℕ, ◌<◌, ℤ, pos, negsuc, Bool, true, false, ◌&&◌, List, [], ◌∷◌, length}
+use Rattle.std.proofs.Common.{get_or}
+use Rattle.std.proofs.Common.{Some, None, refl, subst, arith}
+use Rattle.std.proofs.lemmas.Int.{ints}
+use Rattle.std.specs.Prelude.{int_le, if◌then◌else◌}
+use Rattle.std.specs.Str.{bytes_eq}
+use Rattle.std.proofs.lemmas.Slice.Eq.{bytes_eq-Decides}
+use Rattle.std.proofs.lemmas.List.Quantifiers.{position-Some}
+use Rattle.stack_algebra.proofs.Order.{◌≼◌}
+use Rattle.stack_polygon.specs.declared.point.Point.{Point}
+use Rattle.stack_polygon.specs.Limits.{IsInRange}
+use Rattle.stack_polygon.proofs.Ranges.{in_range}
+use Rattle.stack_model.specs.Limits.{is_between, friction_of, point_of, live_of, force_of}
+use Rattle.stack_model.specs.Content.{number_of}
+use Rattle.stack_model.specs.Relisted.{coordinates, kind_of}
+use Rattle.stack_model.proofs.Points.{point_taken, point_again}
+
+and_parts : (a b : Bool) → a && b ≡ true → (a ≡ true) × (b ≡ true)
+and_parts true b h = (refl, h)
+and_parts false b h = absurd (cc)
+
+pub between : (low high z : ℤ) → is_between low high z ≡ true → (low ≼ z) × (z ≼ high)
+between low high z h = let p = and_parts (int_le low z) (int_le z high) h in
+    (at_least low z p.0, at_least z high p.1)
+  where
+    at_least : (x y : ℤ) → int_le x y ≡ true → x ≼ y
+    at_least x y h = grind (arith, ints)
+
+-- a coefficient that was taken
+pub record IsCoefficient (f : ℤ × ℤ) : Type 0 where
+  pub p : (pos 0 ≼ f.0) × (f.0 ≼ pos 1000)
+  pub q : (pos 1 ≼ f.1) × (f.1 ≼ pos 1000)
+  pub again : friction_of (f.0 ∷ f.1 ∷ []) ≡ Some f
+
+pub coefficient : (zs : List ℤ) (f : ℤ × ℤ) → friction_of zs ≡ Some f → IsCoefficient f
+coefficient (p ∷ q ∷ []) f h = go (is_between (pos 0) (pos 1000) p)
+    (is_between (pos 1) (pos 1000) q) refl refl h
+  where
+    go : (a b : Bool) → is_between (pos 0) (pos 1000) p ≡ a → is_between (pos 1) (pos 1000) q ≡ b
+        → (if a && b then Some (p, q) else None) ≡ Some f → IsCoefficient f
+    go true true ea eb e =
+        let same : (p, q) ≡ f = cc in
+        subst IsCoefficient same
+        (record {
+          p = between (pos 0) (pos 1000) p ea;
+          q = between (pos 1) (pos 1000) q eb;
+          again = λ i. if ea i && eb i then Some (p, q) else None;
+        })
+    go true false ea eb e = absurd (cc)
+    go false b ea eb e = absurd (cc)
+coefficient [] f h = absurd (cc)
+coefficient (p ∷ []) f h = absurd (cc)
+coefficient (p ∷ q ∷ r ∷ zs) f h = absurd (cc)
+
+-- a force that was taken
+pub record IsForce (f : ℤ × ℤ) : Type 0 where
+  pub x : (negsuc 999999999 ≼ f.0) × (f.0 ≼ pos 1000000000)
+  pub y : (negsuc 999999999 ≼ f.1) × (f.1 ≼ pos 1000000000)
+  pub again : force_of (f.0 ∷ f.1 ∷ []) ≡ Some f
+
+abbrev is_part : ℤ → Bool
+is_part z = is_between (negsuc 999999999) (pos 1000000000) z
+
+pub force : (zs : List ℤ) (f : ℤ × ℤ) → force_of zs ≡ Some f → IsForce f
+force (x ∷ y ∷ []) f h = go (is_part x) (is_part y) refl refl h
+  where
+    go : (a b : Bool) → is_part x ≡ a → is_part y ≡ b → (if a && b then Some (x, y) else None) ≡ Some f
+        → IsForce f
+    go true true ea eb e =
+        let same : (x, y) ≡ f = cc in
+        subst IsForce same
+        (record {
+          x = between (negsuc 999999999) (pos 1000000000) x ea;
+          y = between (negsuc 999999999) (pos 1000000000) y eb;
+          again = λ i. if ea i && eb i then Some (x, y) else None;
+        })
+    go true false ea eb e = absurd (cc)
+    go false b ea eb e = absurd (cc)
+force [] f h = absurd (cc)
+force (x ∷ []) f h = absurd (cc)
+force (x ∷ y ∷ z ∷ zs) f h = absurd (cc)
+
+-- a point that was taken
+pub record IsPoint (p : Point) : Type 0 where
+  pub range : IsInRange p
+  pub again : point_of (coordinates p) ≡ Some p
+
+pub point : (zs : List ℤ) (p : Point) → point_of zs ≡ Some p → IsPoint p
+point zs p h = let t = point_taken zs p h in record { range = in_range p t; again = point_again p t }
+
+-- a kind has one word
+pub kind_again : (live : Bool) → live_of (kind_of live) ≡ Some live
+kind_again true = refl
+kind_again false = refl
+
+pub number_below : (name : List ℕ) (names : List (List ℕ)) (n : ℕ) → number_of name names ≡ Some n
+    → n < length names
+number_below name names n h = (position-Some (bytes_eq name) names n [] h).0
+
+-- the name of the item that was found is the name
+pub named : (name : List ℕ) (names : List (List ℕ)) (n : ℕ) → number_of name names ≡ Some n
+    → name ≡ get_or names n []
+named name names n h = (bytes_eq-Decides name (get_or names n [])).0
+    (position-Some (bytes_eq name) names n [] h).1

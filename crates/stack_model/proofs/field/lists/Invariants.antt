@@ -1,9 +1,0 @@
-use Rattle.std.proofs.Common.{◌≡◌, drop}
-use Rattle.toml.specs.View.{items_view}
-use Rattle.stack_model.specs.Forms.{lists_of_items}
-use Rattle.stack_model.specs.Raw.{lists_view}
-use Rattle.stack_model.proofs.Collected.{after}
-use Rattle.stack_model.proofs.field.lists.Given as goal
-
-abbrev pub invariant-loop-item : goal.invariant-loop-item
-invariant-loop-item l = after (lists_view l.found) (lists_of_items (items_view (drop l.item-index l.items))) ≡ lists_of_items (items_view l.items)

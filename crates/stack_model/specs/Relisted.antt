@@ -1,0 +1,42 @@
+-- A structure listed as a file lists it: materials and bodies by their names.
+use Rattle.std.specs.Prelude.{ℤ, Bool, true, false, List, [], ◌∷◌, map, codes, ℕ}
+use Rattle.stack_polygon.specs.declared.point.Point.{Point}
+use Rattle.stack_model.specs.declared.types.Load.{Load}
+use Rattle.stack_model.specs.Parts.{MaterialPart, BlockPart, LoadPart, PartLists}
+use Rattle.stack_model.specs.Structure.{NamedMaterial, NamedBody, Structure, material_at, body_at}
+
+abbrev pub coordinates : Point → List ℤ
+coordinates c = c.x ∷ c.y ∷ []
+
+abbrev pub kind_of : Bool → List ℕ
+kind_of true = codes "live"
+kind_of false = codes "dead"
+
+abbrev pub material_listed : NamedMaterial → MaterialPart
+material_listed m = record { name = m.name; weight = m.weight; friction = m.p ∷ m.q ∷ [] }
+
+abbrev pub body_listed : List NamedMaterial → NamedBody → BlockPart
+body_listed ms b =
+    record {
+      name = b.name;
+      material = (material_at ms b.material).name;
+      fixed = b.fixed;
+      corners = map coordinates b.corners;
+    }
+
+abbrev pub load_listed : List NamedBody → Load → LoadPart
+load_listed bs l =
+    record {
+      block = (body_at bs l.body).name;
+      kind = kind_of l.live;
+      at = coordinates l.at;
+      force = l.fx ∷ l.fy ∷ [];
+    }
+
+abbrev pub relisted : Structure → PartLists
+relisted s =
+    record {
+      materials = map material_listed s.materials;
+      blocks = map (body_listed s.materials) s.bodies;
+      loads = map (load_listed s.bodies) s.loads;
+    }

@@ -1,0 +1,5 @@
+pub mod Collected
+pub mod Documents
+pub mod Written
+pub mod Filled
+pub mod ReadBack

@@ -1,0 +1,9 @@
+use Rattle.std.proofs.Common.{◌≡◌, drop}
+use Rattle.toml.specs.View.{items_view}
+use Rattle.stack_reader.specs.Forms.{wholes_of_items}
+use Rattle.stack_reader.proofs.Collected.{after}
+use Rattle.stack_reader.proofs.field.wholes.Given as goal
+
+abbrev pub invariant-loop-item : goal.invariant-loop-item
+invariant-loop-item l = after l.numbers.items
+    (wholes_of_items (items_view (drop l.item-index l.items))) ≡ wholes_of_items (items_view l.items)

@@ -1,0 +1,158 @@
+//! What a table lists, or its first fault of shape.
+
+ghost use Rattle.std.specs.Prelude.{◌≡◌, map};
+ghost use Rattle.toml.specs.View.{view, table_view, items_view};
+ghost use Rattle.stack_model.specs.Raw.{raw_material, raw_block, raw_load, raw_parts};
+ghost use Rattle.stack_reader.specs.Gives.{Gives};
+ghost use Rattle.stack_reader.specs.Shape.{material_part, block_part, load_part, in_table, each_of, shape_of};
+
+use crate::errors::ReadError;
+use crate::field::{lists_at, refuse_unknown, text_at, truth_at, whole_at, wholes_at};
+use crate::list::list_at;
+use stack_model::{Key, Parts, RawBlock, RawLoad, RawMaterial, Spot};
+use std::alloc::Global;
+use toml::{Table, Value};
+
+#[tactic(auto, unfolding(crate::specs::Shape::material_part))]
+fn material(alloc: Global, index: usize, table: &Table) -> Result<RawMaterial, ReadError>
+    ensures { Gives raw_material result (material_part index (table_view table.now)) }
+{
+    let spot = Spot::Material(index);
+    refuse_unknown(table, spot, &[Key::Name, Key::Weight, Key::Friction])?;
+    let name = text_at(alloc, table, spot, Key::Name)?;
+    let weight = whole_at(table, spot, Key::Weight)?;
+    let friction = wholes_at(alloc, table, spot, Key::Friction)?;
+    Ok(RawMaterial {
+        name,
+        weight,
+        friction,
+    })
+}
+
+#[tactic(auto, unfolding(crate::specs::Shape::block_part))]
+fn block(alloc: Global, index: usize, table: &Table) -> Result<RawBlock, ReadError>
+    ensures { Gives raw_block result (block_part index (table_view table.now)) }
+{
+    let spot = Spot::Block(index);
+    refuse_unknown(
+        table,
+        spot,
+        &[Key::Name, Key::Material, Key::Fixed, Key::Corners],
+    )?;
+    let name = text_at(alloc, table, spot, Key::Name)?;
+    let material = text_at(alloc, table, spot, Key::Material)?;
+    let fixed = truth_at(table, spot, Key::Fixed)?;
+    let corners = lists_at(alloc, table, spot, Key::Corners)?;
+    Ok(RawBlock {
+        name,
+        material,
+        fixed,
+        corners,
+    })
+}
+
+#[tactic(auto, unfolding(crate::specs::Shape::load_part))]
+fn load(alloc: Global, index: usize, table: &Table) -> Result<RawLoad, ReadError>
+    ensures { Gives raw_load result (load_part index (table_view table.now)) }
+{
+    let spot = Spot::Load(index);
+    refuse_unknown(table, spot, &[Key::Block, Key::Kind, Key::At, Key::Force])?;
+    let block = text_at(alloc, table, spot, Key::Block)?;
+    let kind = text_at(alloc, table, spot, Key::Kind)?;
+    let at = wholes_at(alloc, table, spot, Key::At)?;
+    let force = wholes_at(alloc, table, spot, Key::Force)?;
+    Ok(RawLoad {
+        block,
+        kind,
+        at,
+        force,
+    })
+}
+
+fn not_tables(key: Key) -> ReadError
+    ensures { result ≡ ReadError.Kind Spot.Top key }
+{
+    ReadError::Kind {
+        spot: Spot::Top,
+        key,
+    }
+}
+
+#[tactic(auto, unfolding(crate::specs::Shape::in_table))]
+fn material_item(alloc: Global, index: usize, item: &Value) -> Result<RawMaterial, ReadError>
+    ensures { Gives raw_material result (in_table material_part Key.Material index (view item.now)) }
+{
+    match item.as_table() {
+        Some(table) => material(alloc, index, table),
+        None => Err(not_tables(Key::Material)),
+    }
+}
+
+#[tactic(auto, unfolding(crate::specs::Shape::in_table))]
+fn block_item(alloc: Global, index: usize, item: &Value) -> Result<RawBlock, ReadError>
+    ensures { Gives raw_block result (in_table block_part Key.Block index (view item.now)) }
+{
+    match item.as_table() {
+        Some(table) => block(alloc, index, table),
+        None => Err(not_tables(Key::Block)),
+    }
+}
+
+#[tactic(auto, unfolding(crate::specs::Shape::in_table))]
+fn load_item(alloc: Global, index: usize, item: &Value) -> Result<RawLoad, ReadError>
+    ensures { Gives raw_load result (in_table load_part Key.Load index (view item.now)) }
+{
+    match item.as_table() {
+        Some(table) => load(alloc, index, table),
+        None => Err(not_tables(Key::Load)),
+    }
+}
+
+fn materials(alloc: Global, items: &[Value]) -> Result<Vec<RawMaterial>, ReadError>
+    ensures { Gives (λ v. map raw_material v.items) result (each_of (in_table material_part Key.Material) 0 (items_view items.now)) }
+{
+    let mut found = Vec::new(alloc);
+    for (index, item) in items.iter().enumerate() {
+        found.push(material_item(alloc, index, item)?)?;
+    }
+    Ok(found)
+}
+
+fn blocks(alloc: Global, items: &[Value]) -> Result<Vec<RawBlock>, ReadError>
+    ensures { Gives (λ v. map raw_block v.items) result (each_of (in_table block_part Key.Block) 0 (items_view items.now)) }
+{
+    let mut found = Vec::new(alloc);
+    for (index, item) in items.iter().enumerate() {
+        found.push(block_item(alloc, index, item)?)?;
+    }
+    Ok(found)
+}
+
+fn loads(alloc: Global, items: &[Value]) -> Result<Vec<RawLoad>, ReadError>
+    ensures { Gives (λ v. map raw_load v.items) result (each_of (in_table load_part Key.Load) 0 (items_view items.now)) }
+{
+    let mut found = Vec::new(alloc);
+    for (index, item) in items.iter().enumerate() {
+        found.push(load_item(alloc, index, item)?)?;
+    }
+    Ok(found)
+}
+
+/// What the table lists.
+#[tactic(auto, unfolding(crate::specs::Shape::shape_of))]
+pub fn shape(alloc: Global, table: &Table) -> Result<Parts, ReadError>
+    ensures { Gives raw_parts result (shape_of (table_view table.now)) }
+{
+    refuse_unknown(table, Spot::Top, &[Key::Material, Key::Block, Key::Load])?;
+    let material_items = list_at(table, Key::Material)?;
+    let block_items = list_at(table, Key::Block)?;
+    let load_items = list_at(table, Key::Load)?;
+    let materials = materials(alloc, material_items)?;
+    let blocks = blocks(alloc, block_items)?;
+    let loads = loads(alloc, load_items)?;
+    Ok(Parts {
+        materials,
+        blocks,
+        loads,
+    })
+}

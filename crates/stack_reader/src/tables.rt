@@ -1,0 +1,107 @@
+//! The items of a model as tables.
+
+ghost use Rattle.std.specs.Prelude.{◌≡◌, ◌<◌, [], ◌∷◌, IfOk, OnOk, length, map};
+ghost use Rattle.toml.specs.View.{view, table_view, items_view, items_of};
+ghost use Rattle.stack_model.specs.Structure.{material_of, body_of, load_of};
+ghost use Rattle.stack_model.specs.ModelView.{model_view};
+ghost use Rattle.stack_model.specs.Relisted.{coordinates, material_listed, body_listed, load_listed};
+ghost use Rattle.stack_reader.specs.Keys.{word_of};
+ghost use Rattle.stack_reader.specs.Writing.{put_member, wholes_data, material_data, block_data, load_data};
+
+use crate::keys::word;
+use stack_model::{Key, Model};
+use stack_polygon::{Point, Polygon};
+use std::alloc::{AllocError, Global};
+use toml::{Table, Value};
+
+/// Puts a value at a key.
+pub fn put(alloc: Global, table: &mut Table, key: Key, value: Value) -> Result<(), AllocError>
+    ensures { OnOk result (table_view table.new ≡ put_member (word_of key) (view value) (table_view table.old)) }
+{
+    let text = String::from_str(alloc, word(key))?;
+    let _ = table.insert(text, value)?;
+    Ok(())
+}
+
+/// An array of two whole numbers.
+fn pair(alloc: Global, first: i64, second: i64) -> Result<Value, AllocError>
+    ensures { IfOk result (λ v. view v ≡ wholes_data (first ∷ second ∷ [])) }
+{
+    let mut numbers = Vec::new(alloc);
+    numbers.push(Value::Integer(first))?;
+    numbers.push(Value::Integer(second))?;
+    Ok(Value::Array(numbers))
+}
+
+/// The coordinates of a point.
+fn place(alloc: Global, at: Point) -> Result<Value, AllocError>
+    ensures { IfOk result (λ v. view v ≡ wholes_data (coordinates at)) }
+{
+    pair(alloc, at.x, at.y)
+}
+
+/// The corners of an outline.
+fn corners(alloc: Global, outline: &Polygon) -> Result<Vec<Value>, AllocError>
+    ensures { IfOk result (λ v. items_view v.items ≡ items_of (map wholes_data (map coordinates outline.now))) }
+{
+    let mut list = Vec::new(alloc);
+    for i in 0..outline.len() {
+        list.push(place(alloc, outline.corner(i))?)?;
+    }
+    Ok(list)
+}
+
+/// The table of material `i`.
+pub fn material_table(alloc: Global, model: &Model, i: usize) -> Result<Table, AllocError>
+    requires { i < length (model_view model.now).materials }
+    ensures { IfOk result (λ t. table_view t ≡ material_data (material_listed (material_of (model_view model.now) i))) }
+{
+    let material = model.material(i);
+    let name = Value::string(alloc, model.material_name(i))?;
+    let friction = pair(alloc, material.p, material.q)?;
+    let mut table = Table::new(alloc);
+    put(alloc, &mut table, Key::Name, name)?;
+    put(
+        alloc,
+        &mut table,
+        Key::Weight,
+        Value::Integer(material.weight),
+    )?;
+    put(alloc, &mut table, Key::Friction, friction)?;
+    Ok(table)
+}
+
+/// The table of body `i`.
+pub fn block_table(alloc: Global, model: &Model, i: usize) -> Result<Table, AllocError>
+    requires { i < length (model_view model.now).bodies }
+    ensures { IfOk result (λ t. table_view t ≡ block_data (body_listed (model_view model.now).materials (body_of (model_view model.now) i))) }
+{
+    let body = model.body(i);
+    let name = Value::string(alloc, model.name(i))?;
+    let material = Value::string(alloc, model.material_name(body.material))?;
+    let corners = Value::Array(corners(alloc, model.polygon(i))?);
+    let mut table = Table::new(alloc);
+    put(alloc, &mut table, Key::Name, name)?;
+    put(alloc, &mut table, Key::Material, material)?;
+    put(alloc, &mut table, Key::Fixed, Value::Boolean(body.fixed))?;
+    put(alloc, &mut table, Key::Corners, corners)?;
+    Ok(table)
+}
+
+/// The table of load `i`.
+pub fn load_table(alloc: Global, model: &Model, i: usize) -> Result<Table, AllocError>
+    requires { i < length (model_view model.now).loads }
+    ensures { IfOk result (λ t. table_view t ≡ load_data (load_listed (model_view model.now).bodies (load_of (model_view model.now) i))) }
+{
+    let load = model.load(i);
+    let block = Value::string(alloc, model.name(load.body))?;
+    let kind = Value::string(alloc, if load.live { "live" } else { "dead" })?;
+    let at = place(alloc, load.at)?;
+    let force = pair(alloc, load.fx, load.fy)?;
+    let mut table = Table::new(alloc);
+    put(alloc, &mut table, Key::Block, block)?;
+    put(alloc, &mut table, Key::Kind, kind)?;
+    put(alloc, &mut table, Key::At, at)?;
+    put(alloc, &mut table, Key::Force, force)?;
+    Ok(table)
+}

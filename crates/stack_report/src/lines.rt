@@ -1,0 +1,143 @@
+//! The lines of a table, without their line feeds.
+
+ghost use Rattle.std.specs.Prelude.{◌≡◌, ◌+◌, Some};
+ghost use Rattle.stack_model.specs.ModelView.{model_view};
+ghost use Rattle.stack_report.specs.ContactTable.{name_of, pair_text, directions_text, numbers_text, bearing_text, touch_text};
+
+use stack_contact::types::{Bearing, Touch};
+use stack_model::Model;
+use stack_polygon::Point;
+use std::fmt;
+
+/// A number as users count, from 1.
+fn number(index: usize) -> u128
+    ensures { result ≡ index + 1 }
+{
+    index as u128 + 1
+}
+
+/// The name of body `i`; empty where there is none.
+pub fn name(model: &Model, i: usize) -> &str
+    ensures { result.now ≡ name_of (model_view model.now) i }
+{
+    if i < model.bodies() {
+        model.name(i)
+    } else {
+        ""
+    }
+}
+
+/// Two numbers.
+#[derive(Clone, Copy, Debug, PartialEq, Eq)]
+struct Pair {
+    a: i64,
+    b: i64,
+}
+
+/// The coordinates of a point.
+fn point(at: Point) -> Pair
+    ensures { result ≡ record { a = at.x; b = at.y } }
+{
+    Pair { a: at.x, b: at.y }
+}
+
+/// The tangent and the coefficient of friction of a bearing.
+#[derive(Clone, Copy, Debug, PartialEq, Eq)]
+struct Directions {
+    bearing: Bearing,
+}
+
+/// The numbers of a bearing: its point, its tangent and its coefficient of friction.
+#[derive(Clone, Copy, Debug, PartialEq, Eq)]
+struct Numbers {
+    bearing: Bearing,
+}
+
+/// A bearing with its number, from 0, and the names of its bodies.
+#[derive(Clone, Copy, Debug, PartialEq, Eq)]
+pub struct BearingLine<'a> {
+    pub index: usize,
+    pub first: &'a str,
+    pub second: &'a str,
+    pub bearing: Bearing,
+}
+
+/// A touch with its number, from 0, and the names of its bodies.
+#[derive(Clone, Copy, Debug, PartialEq, Eq)]
+pub struct TouchLine<'a> {
+    pub index: usize,
+    pub first: &'a str,
+    pub second: &'a str,
+    pub touch: Touch,
+}
+
+impl fmt::Display for Pair {
+    ghost output = { λ p. Some (pair_text p.a p.b) };
+
+    #[tactic(auto, unfolding(crate::specs::ContactTable::pair_text))]
+    fn fmt<W: fmt::Write>(&self, f: &mut fmt::Formatter<W>) -> fmt::Result {
+        write!(f, "{} {}", self.a, self.b)
+    }
+}
+
+impl fmt::Display for Directions {
+    ghost output = { λ d. Some (directions_text d.bearing) };
+
+    #[tactic(auto, unfolding(crate::specs::ContactTable::directions_text))]
+    fn fmt<W: fmt::Write>(&self, f: &mut fmt::Formatter<W>) -> fmt::Result {
+        let tangent = Pair {
+            a: self.bearing.frame.tx,
+            b: self.bearing.frame.ty,
+        };
+        let friction = Pair {
+            a: self.bearing.cone.p,
+            b: self.bearing.cone.q,
+        };
+        write!(f, "{tangent} {friction}")
+    }
+}
+
+impl fmt::Display for Numbers {
+    ghost output = { λ n. Some (numbers_text n.bearing) };
+
+    #[tactic(auto, unfolding(crate::specs::ContactTable::numbers_text))]
+    fn fmt<W: fmt::Write>(&self, f: &mut fmt::Formatter<W>) -> fmt::Result {
+        let at = point(self.bearing.at);
+        let directions = Directions {
+            bearing: self.bearing,
+        };
+        write!(f, "{at} {directions}")
+    }
+}
+
+impl fmt::Display for BearingLine<'_> {
+    ghost output = { λ l. Some (bearing_text l.index l.first.now l.second.now l.bearing) };
+
+    fn fmt<W: fmt::Write>(&self, f: &mut fmt::Formatter<W>) -> fmt::Result {
+        let numbers = Numbers {
+            bearing: self.bearing,
+        };
+        write!(
+            f,
+            "bearing {} {} {} {numbers}",
+            number(self.index),
+            self.first,
+            self.second
+        )
+    }
+}
+
+impl fmt::Display for TouchLine<'_> {
+    ghost output = { λ l. Some (touch_text l.index l.first.now l.second.now l.touch) };
+
+    fn fmt<W: fmt::Write>(&self, f: &mut fmt::Formatter<W>) -> fmt::Result {
+        let at = point(self.touch.at);
+        write!(
+            f,
+            "touch {} {} {} {at}",
+            number(self.index),
+            self.first,
+            self.second
+        )
+    }
+}
