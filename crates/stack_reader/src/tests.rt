@@ -9,6 +9,12 @@ const POST: &str = "[[material]]\nname = \"stone\"\nweight = 1\nfriction = [1, 2
     [[block]]\nname = \"post\"\nmaterial = \"stone\"\ncorners = [[0, 0], [2, 0], [2, 4], [0, 4]]\n\n\
     [[load]]\nblock = \"post\"\nkind = \"live\"\nat = [0, 4]\nforce = [1, 0]\n";
 
+/// The ground and the head of the post, and the post as the one table of blocks.
+const TWO_BLOCKS: &str = "[[block]]\nname = \"ground\"\nmaterial = \"stone\"\nfixed = true\n\
+    corners = [[-10, -1], [10, -1], [10, 0], [-10, 0]]\n\n[[block]]\nname = \"post\"";
+
+const ONE_BLOCK: &str = "[block]\nname = \"post\"";
+
 const TOP: Spot = Spot::Top;
 
 const STONE: Spot = Spot::Material(0);
@@ -108,6 +114,7 @@ fn each_fault_of_shape_is_named(rt: HostRuntime) -> Result<(), Fail> {
             unknown(TOP),
         ),
         ("[[material]]", "[material]", kind(TOP, Key::Material)),
+        (TWO_BLOCKS, ONE_BLOCK, kind(TOP, Key::Block)),
         ("[[load]]", "[load]", kind(TOP, Key::Load)),
         (
             "[[material]]\nname = \"stone\"\nweight = 1\nfriction = [1, 2]\n",
@@ -135,6 +142,7 @@ fn each_fault_of_shape_is_named(rt: HostRuntime) -> Result<(), Fail> {
         ("fixed = true", "fixd = true", unknown(GROUND)),
         ("fixed = true", "fixed = 1", kind(GROUND, Key::Fixed)),
         ("name = \"post\"\n", "", missing(BLOCK, Key::Name)),
+        ("name = \"post\"", "name = [1]", kind(BLOCK, Key::Name)),
         (
             "name = \"post\"\nmaterial = \"stone\"\n",
             "name = \"post\"\n",
@@ -156,8 +164,12 @@ fn each_fault_of_shape_is_named(rt: HostRuntime) -> Result<(), Fail> {
             kind(BLOCK, Key::Corners),
         ),
         ("block = \"post\"\n", "", missing(LOAD, Key::Block)),
+        ("block = \"post\"", "block = 1", kind(LOAD, Key::Block)),
+        ("kind = \"live\"\n", "", missing(LOAD, Key::Kind)),
         ("kind = \"live\"", "kind = true", kind(LOAD, Key::Kind)),
         ("at = [0, 4]\n", "", missing(LOAD, Key::At)),
+        ("at = [0, 4]", "at = 0", kind(LOAD, Key::At)),
+        ("force = [1, 0]", "", missing(LOAD, Key::Force)),
         ("force = [1, 0]", "force = [[1, 0]]", kind(LOAD, Key::Force)),
         ("force = [1, 0]", "forces = [1, 0]", unknown(LOAD)),
         // shape before content, a block before a load, an unknown key before a missing one
@@ -215,6 +227,16 @@ fn each_fault_of_content_is_named(rt: HostRuntime) -> Result<(), Fail> {
             "friction = [1001, 1]",
             range(STONE, Key::Friction),
         ),
+        (
+            "friction = [1, 2]",
+            "friction = [-1, 1]",
+            range(STONE, Key::Friction),
+        ),
+        (
+            "friction = [1, 2]",
+            "friction = [1, 1001]",
+            range(STONE, Key::Friction),
+        ),
         ("[10, 0]", "[10, 1000001]", range(GROUND, Key::Corners)),
         (
             "[[0, 0], [2, 0], [2, 4], [0, 4]]",
@@ -227,10 +249,23 @@ fn each_fault_of_content_is_named(rt: HostRuntime) -> Result<(), Fail> {
             range(LOAD, Key::Kind),
         ),
         ("at = [0, 4]", "at = [0, -1000001]", range(LOAD, Key::At)),
+        ("at = [0, 4]", "at = [0, 4, 0]", range(LOAD, Key::At)),
+        (
+            "force = [1, 0]",
+            "force = [1, -1000000001]",
+            range(LOAD, Key::Force),
+        ),
         (
             "force = [1, 0]",
             "force = [1000000001, 0]",
             range(LOAD, Key::Force),
+        ),
+        (
+            "[[block]]",
+            "[[material]]\nname = \"stone\"\nweight = 1\nfriction = [1, 2]\n[[block]]",
+            ReadError::Model(ModelError::SameName {
+                spot: Spot::Material(1),
+            }),
         ),
         (
             "name = \"post\"",
@@ -263,6 +298,265 @@ fn each_fault_of_content_is_named(rt: HostRuntime) -> Result<(), Fail> {
         assert!(rt;
             matches!(read_model(rt.alloc(), text.as_bytes()), Err(e) if e == wanted),
             "{to}"
+        );
+    }
+    Ok(())
+}
+
+#[test]
+fn of_two_faults_the_first_in_order_is_named(rt: HostRuntime) -> Result<(), Fail> {
+    // Neighbours in their order: the first text is changed into the second, the third into the fourth, and the
+    // fault of the first change comes.
+    let cases = [
+        // at the top, and on to the materials
+        (
+            "[[material]]",
+            "joint = 1\n[material]",
+            "[[load]]",
+            "[load]",
+            unknown(TOP),
+        ),
+        (
+            "[[material]]",
+            "[material]",
+            TWO_BLOCKS,
+            ONE_BLOCK,
+            kind(TOP, Key::Material),
+        ),
+        (
+            TWO_BLOCKS,
+            ONE_BLOCK,
+            "[[load]]",
+            "[load]",
+            kind(TOP, Key::Block),
+        ),
+        (
+            "[[load]]",
+            "[load]",
+            "weight = 1",
+            "wait = 1",
+            kind(TOP, Key::Load),
+        ),
+        // in a material, and on to the blocks
+        (
+            "weight = 1",
+            "wait = 1",
+            "name = \"stone\"",
+            "name = 1",
+            unknown(STONE),
+        ),
+        (
+            "name = \"stone\"",
+            "name = 1",
+            "weight = 1\n",
+            "",
+            kind(STONE, Key::Name),
+        ),
+        (
+            "weight = 1\n",
+            "",
+            "friction = [1, 2]",
+            "friction = 1",
+            missing(STONE, Key::Weight),
+        ),
+        (
+            "friction = [1, 2]",
+            "friction = 1",
+            "fixed = true",
+            "fixd = true",
+            kind(STONE, Key::Friction),
+        ),
+        // in a block, and on to the loads
+        (
+            "fixed = true",
+            "fixd = true",
+            "name = \"ground\"",
+            "name = 1",
+            unknown(GROUND),
+        ),
+        (
+            "name = \"ground\"",
+            "name = 1",
+            "material = \"stone\"\nfixed",
+            "material = 1\nfixed",
+            kind(GROUND, Key::Name),
+        ),
+        (
+            "material = \"stone\"\nfixed",
+            "material = 1\nfixed",
+            "fixed = true",
+            "fixed = 1",
+            kind(GROUND, Key::Material),
+        ),
+        (
+            "fixed = true",
+            "fixed = 1",
+            "corners = [[-10, -1]",
+            "corners = [-10, [-1]",
+            kind(GROUND, Key::Fixed),
+        ),
+        (
+            "corners = [[-10, -1]",
+            "corners = [-10, [-1]",
+            "name = \"post\"",
+            "nom = \"post\"",
+            kind(GROUND, Key::Corners),
+        ),
+        (
+            "corners = [[0, 0]",
+            "corners = [0, [0]",
+            "kind = \"live\"",
+            "kin = \"live\"",
+            kind(BLOCK, Key::Corners),
+        ),
+        // in a load, and on to the content
+        (
+            "kind = \"live\"",
+            "kin = \"live\"",
+            "block = \"post\"\n",
+            "",
+            unknown(LOAD),
+        ),
+        (
+            "block = \"post\"\n",
+            "",
+            "kind = \"live\"",
+            "kind = 1",
+            missing(LOAD, Key::Block),
+        ),
+        (
+            "kind = \"live\"",
+            "kind = 1",
+            "at = [0, 4]",
+            "at = 0",
+            kind(LOAD, Key::Kind),
+        ),
+        (
+            "at = [0, 4]",
+            "at = 0",
+            "force = [1, 0]",
+            "force = 1",
+            kind(LOAD, Key::At),
+        ),
+        (
+            "force = [1, 0]",
+            "force = 1",
+            "name = \"stone\"",
+            "name = \"\"",
+            kind(LOAD, Key::Force),
+        ),
+        // the content of materials, and on to the blocks
+        (
+            "name = \"stone\"",
+            "name = \"\"",
+            "weight = 1",
+            "weight = -1",
+            range(STONE, Key::Name),
+        ),
+        (
+            "weight = 1",
+            "weight = -1",
+            "friction = [1, 2]",
+            "friction = [1, 0]",
+            range(STONE, Key::Weight),
+        ),
+        (
+            "friction = [1, 2]",
+            "friction = [1, 0]",
+            "name = \"ground\"",
+            "name = \"\"",
+            range(STONE, Key::Friction),
+        ),
+        // of blocks, and on to the loads
+        (
+            "name = \"ground\"",
+            "name = \"\"",
+            "corners = [[-10, -1]",
+            "corners = [[-10]",
+            range(GROUND, Key::Name),
+        ),
+        (
+            "corners = [[0, 0]",
+            "corners = [[0]",
+            "name = \"post\"",
+            "name = \"ground\"",
+            range(BLOCK, Key::Corners),
+        ),
+        (
+            "name = \"post\"",
+            "name = \"ground\"",
+            "name = \"ground\"\nmaterial = \"stone\"\ncorners",
+            "name = \"ground\"\nmaterial = \"clay\"\ncorners",
+            ReadError::Model(ModelError::SameName { spot: BLOCK }),
+        ),
+        (
+            "name = \"post\"\nmaterial = \"stone\"",
+            "name = \"post\"\nmaterial = \"clay\"",
+            "[2, 4], [0, 4]]",
+            "[2, 4], [1, 1]]",
+            ReadError::Model(ModelError::NoMaterial { block: 1 }),
+        ),
+        (
+            "[2, 4], [0, 4]]",
+            "[2, 4], [1, 1]]",
+            "kind = \"live\"",
+            "kind = \"alive\"",
+            ReadError::Model(ModelError::NotConvex { block: 1, edge: 2 }),
+        ),
+    ];
+    for (from, to, other, changed_to, wanted) in cases {
+        let text = changed(&rt, from, to)?.replacen(rt.alloc(), other, changed_to, 1)?;
+        assert!(rt;
+            matches!(read_model(rt.alloc(), text.as_bytes()), Err(e) if e == wanted),
+            "{to} and {changed_to}"
+        );
+    }
+    Ok(())
+}
+
+#[test]
+fn numbers_at_their_limits_are_taken(rt: HostRuntime) -> Result<(), Fail> {
+    let cases = [
+        ("weight = 1", "weight = 0"),
+        ("weight = 1", "weight = 1000000"),
+        ("friction = [1, 2]", "friction = [0, 1]"),
+        ("friction = [1, 2]", "friction = [1000, 1000]"),
+        (
+            "[-10, -1], [10, -1]",
+            "[-1000000, -1000000], [1000000, -1000000]",
+        ),
+        ("at = [0, 4]", "at = [-1000000, 1000000]"),
+        ("force = [1, 0]", "force = [-1000000000, 1000000000]"),
+        ("kind = \"live\"", "kind = \"dead\""),
+    ];
+    for (from, to) in cases {
+        let text = changed(&rt, from, to)?;
+        assert!(rt; read_model(rt.alloc(), text.as_bytes()).is_ok(), "{to}");
+    }
+    Ok(())
+}
+
+/// A file with one block of so many corners, on a parabola.
+fn round(rt: &HostRuntime, corners: u32) -> Result<String, Fail> {
+    let mut text = format!(in rt.alloc();
+        "material = [{{ name = 'stone', weight = 1, friction = [1, 2] }}]\n\
+         block = [{{ name = 'bowl', material = 'stone', corners = ["
+    )?;
+    for i in 0..corners.min(40) {
+        text.push_str(format!(in rt.alloc(); "[{i}, {}], ", i * i)?.as_str())?;
+    }
+    text.push_str("] }]\n")?;
+    Ok(text)
+}
+
+#[test]
+fn blocks_have_3_to_32_corners(rt: HostRuntime) -> Result<(), Fail> {
+    for (corners, is_taken) in [(2, false), (3, true), (32, true), (33, false)] {
+        let text = round(&rt, corners)?;
+        assert_eq!(rt;
+            read_model(rt.alloc(), text.as_bytes()).is_ok(),
+            is_taken,
+            "{corners}"
         );
     }
     Ok(())
@@ -381,7 +675,7 @@ fn model_file(
 
 #[test]
 fn a_written_model_is_read_back(rt: HostRuntime) -> Result<(), Fail> {
-    let cases: [(u32, &str, &[Block], &str); 17] = [
+    let cases: [(u32, &str, &[Block], &str); 18] = [
         (1, "1, 1", &[GROUND_BLOCK, POST_BLOCK], ""),
         (1, "1, 1", &[GROUND_BLOCK, POST_BLOCK], PUSH),
         (1, "1, 10", &[GROUND_BLOCK, POST_BLOCK], PUSH),
@@ -432,6 +726,15 @@ fn a_written_model_is_read_back(rt: HostRuntime) -> Result<(), Fail> {
             &[
                 ("a", false, "[0, 0], [2, 0], [2, 2], [0, 2]"),
                 ("b", false, "[1, 1], [3, 1], [3, 3], [1, 3]"),
+            ],
+            "",
+        ),
+        (
+            1,
+            "1, 1",
+            &[
+                GROUND_BLOCK,
+                ("post", false, "[0, 0], [0, 4], [2, 4], [2, 0]"),
             ],
             "",
         ),
