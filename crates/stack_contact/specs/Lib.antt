@@ -5,4 +5,3 @@ pub mod ContactLists
 pub mod Surveyed
 pub mod Found
 pub mod FreeBlocks
-pub mod Rectangles

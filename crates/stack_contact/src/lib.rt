@@ -1,7 +1,6 @@
 //! The contacts of a structure: where its bodies bear on one another, and where they only touch.
 #![tactic(auto)]
 
-pub mod laws;
 mod lists;
 mod pair;
 mod surveying;

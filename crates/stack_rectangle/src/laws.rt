@@ -1,6 +1,6 @@
 //! Laws of contacts, each a clause of a function that does nothing.
 
-ghost use Rattle.stack_contact.specs.Rectangles.{RangesTellOverlaps, RangesTellSeparation, RangesTellContacts};
+ghost use Rattle.stack_rectangle.specs.Rectangles.{RangesTellOverlaps, RangesTellSeparation, RangesTellContacts};
 
 /// Of two rectangles with level and upright edges the ranges of x and y that they have in common tell all.
 /// Where both have a length they overlap; where one has, they bear at the ends of a segment; where none has,
