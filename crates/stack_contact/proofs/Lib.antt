@@ -13,6 +13,8 @@ pub mod FoundSteps
 pub mod FoundPairs
 pub mod PairCases
 pub mod Frees
+pub mod SameLists
+pub mod OneSurvey
 pub mod LevelEdges
 pub mod Boxes
 pub mod BoxPoints
