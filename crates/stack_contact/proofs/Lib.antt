@@ -13,3 +13,5 @@ pub mod FoundSteps
 pub mod FoundPairs
 pub mod PairCases
 pub mod Frees
+pub mod SameLists
+pub mod OneSurvey

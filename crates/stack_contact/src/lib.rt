@@ -1,6 +1,7 @@
 //! The contacts of a structure: where its bodies bear on one another, and where they only touch.
 #![tactic(auto)]
 
+pub mod laws;
 mod lists;
 mod pair;
 mod surveying;

@@ -1,4 +1,4 @@
-//! Laws of contacts, each a clause of a function that does nothing.
+//! The law, as a clause of a function that does nothing.
 
 ghost use Rattle.stack_rectangle.specs.Rectangles.{RangesTellOverlaps, RangesTellSeparation, RangesTellContacts};
 

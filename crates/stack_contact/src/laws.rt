@@ -1,0 +1,9 @@
+//! Laws of surveys, each a clause of a function that does nothing.
+
+ghost use Rattle.stack_contact.specs.OneSurvey.{StructuresHaveOneSurvey};
+
+/// A structure has one survey: two answers to it are the same, unless memory was wanting. So it has a survey, or
+/// its first overlap, or too many bearings, and no two of these.
+pub fn one_survey()
+    ensures { StructuresHaveOneSurvey }
+{}
