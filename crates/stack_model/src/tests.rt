@@ -136,6 +136,7 @@ fn parts_without_a_fault_make_a_model(rt: HostRuntime) -> Result<(), Fail> {
     assert_eq!(rt; model.polygon(1).len(), 4);
     assert_eq!(rt; model.polygon(1).corner(1), Point { x: 2, y: 0 });
     assert_eq!(rt; model.loads(), 1);
+    assert!(rt; model.has_live());
     assert_eq!(rt;
         model.load(0),
         Load {

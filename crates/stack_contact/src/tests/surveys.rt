@@ -164,6 +164,7 @@ fn pairs_of_fixed_bodies_are_left_out(rt: HostRuntime) -> Result<(), Fail> {
     assert!(rt; survey.touches().is_empty());
     assert_eq!(rt; survey.free_count(), 1);
     assert_eq!(rt; survey.free(0), 4);
+    assert_eq!(rt; survey.free_number(4), 0);
     Ok(())
 }
 

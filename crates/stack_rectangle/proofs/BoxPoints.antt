@@ -9,10 +9,10 @@ use Rattle.stack_polygon.specs.declared.point.Point.{Point}
 use Rattle.stack_polygon.specs.Plane.{Place}
 use Rattle.stack_polygon.specs.Corners.{corner_of, end_of}
 use Rattle.stack_overlap.specs.CommonPoints.{IsCornerOf}
-use Rattle.stack_contact.specs.Rectangles.{Range, Extent}
-use Rattle.stack_contact.proofs.LevelEdges.{pt, Before, IsLeft}
-use Rattle.stack_contact.proofs.LevelEdges.{level_kept, level_turned, upright_kept, upright_turned}
-use Rattle.stack_contact.proofs.Boxes.{HasEdge, IsSide, IsBox, low_left, low_right, high_right, high_left}
+use Rattle.stack_rectangle.specs.Rectangles.{Range, Extent}
+use Rattle.stack_rectangle.proofs.LevelEdges.{pt, Before, IsLeft}
+use Rattle.stack_rectangle.proofs.LevelEdges.{level_kept, level_turned, upright_kept, upright_turned}
+use Rattle.stack_rectangle.proofs.Boxes.{HasEdge, IsSide, IsBox, low_left, low_right, high_right, high_left}
 
 -- z over w lies in a range, or strictly between its ends
 abbrev pub IsBetween : Bool → Range → ℤ → ℤ → Type 0

@@ -8,8 +8,8 @@ use Rattle.stack_algebra.proofs.Integers.{sums, expand}
 use Rattle.stack_polygon.specs.declared.point.Point.{Point}
 use Rattle.stack_polygon.specs.Plane.{triangle_of}
 use Rattle.stack_polygon.specs.Corners.{corner_of, end_of, IsStrictlyConvex}
-use Rattle.stack_contact.specs.Rectangles.{IsRectangle, Extent, range_between, extent_of}
-use Rattle.stack_contact.proofs.LevelEdges.{pt, pos-cancel}
+use Rattle.stack_rectangle.specs.Rectangles.{IsRectangle, Extent, range_between, extent_of}
+use Rattle.stack_rectangle.proofs.LevelEdges.{pt, pos-cancel}
 
 -- the list has an edge from c to d
 abbrev pub HasEdge : List Point → Point → Point → Type 0

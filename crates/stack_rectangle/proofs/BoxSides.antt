@@ -15,10 +15,10 @@ use Rattle.stack_frame.proofs.Senses.{frames-by-parallels}
 use Rattle.stack_overlap.specs.declared.types.Which.TheVariants.{First}
 use Rattle.stack_overlap.specs.Separation.{Separates}
 use Rattle.stack_contact.specs.PairContacts.{IsFrameFrom, IsTangentBy}
-use Rattle.stack_contact.specs.Rectangles.{Extent, level_frame, upright_frame}
-use Rattle.stack_contact.proofs.LevelEdges.{pt}
-use Rattle.stack_contact.proofs.Boxes.{HasEdge, IsBox, low_left, low_right, high_right, high_left}
-use Rattle.stack_contact.proofs.BoxPoints.{corner_within}
+use Rattle.stack_rectangle.specs.Rectangles.{Extent, level_frame, upright_frame}
+use Rattle.stack_rectangle.proofs.LevelEdges.{pt}
+use Rattle.stack_rectangle.proofs.Boxes.{HasEdge, IsBox, low_left, low_right, high_right, high_left}
+use Rattle.stack_rectangle.proofs.BoxPoints.{corner_within}
 
 -- an edge of the first separates the two, and t is the tangent along it
 abbrev pub AreDivided : List Point → List Point → Frame → Type 0

@@ -17,16 +17,16 @@ use Rattle.stack_overlap.proofs.Separated.{apart-first, apart-second}
 use Rattle.stack_contact.specs.declared.types.Contacts.{Contacts}
 use Rattle.stack_contact.specs.PairContacts.{AreContacts, contacts_by}
 use Rattle.stack_contact.specs.Surveyed.{AreSeparated}
-use Rattle.stack_contact.specs.Rectangles.{IsRectangle, Range, Extent, extent_of, common_of, count_of}
-use Rattle.stack_contact.specs.Rectangles.{least, greatest, contacts_in, contacts_by_ranges}
-use Rattle.stack_contact.specs.Rectangles.{level_frame, upright_frame}
+use Rattle.stack_rectangle.specs.Rectangles.{IsRectangle, Range, Extent, extent_of, common_of, count_of}
+use Rattle.stack_rectangle.specs.Rectangles.{least, greatest, contacts_in, contacts_by_ranges}
+use Rattle.stack_rectangle.specs.Rectangles.{level_frame, upright_frame}
 use Rattle.stack_contact.proofs.OnePair.{are-contacts}
-use Rattle.stack_contact.proofs.Boxes.{IsBox, boxed}
-use Rattle.stack_contact.proofs.BoxPoints.{IsBetween, points, corner_at}
-use Rattle.stack_contact.proofs.BoxSides.{AreDivided, divided_by_x, divided_by_y}
-use Rattle.stack_contact.proofs.BoxCommons.{commons, level_segment, upright_segment, one_point}
-use Rattle.stack_contact.proofs.CommonRanges.{of_common, Sized, empty, single, many, sized}
-use Rattle.stack_contact.proofs.CommonRanges.{no_number, beside, ends}
+use Rattle.stack_rectangle.proofs.Boxes.{IsBox, boxed}
+use Rattle.stack_rectangle.proofs.BoxPoints.{IsBetween, points, corner_at}
+use Rattle.stack_rectangle.proofs.BoxSides.{AreDivided, divided_by_x, divided_by_y}
+use Rattle.stack_rectangle.proofs.BoxCommons.{commons, level_segment, upright_segment, one_point}
+use Rattle.stack_rectangle.proofs.CommonRanges.{of_common, Sized, empty, single, many, sized}
+use Rattle.stack_rectangle.proofs.CommonRanges.{no_number, beside, ends}
 
 -- the two overlap, or these are their contacts
 pub record Tells (ps qs : List Point) (o : Option Contacts) : Type 0 where

@@ -6,9 +6,9 @@ use Rattle.std.proofs.lemmas.Int.{ints}
 use Rattle.stack_algebra.specs.IntegerOrder.{◌≼◌, ◌≺◌}
 use Rattle.stack_algebra.proofs.Integers.{sums, expand}
 use Rattle.stack_algebra.proofs.Order.{mul_le_right, mul_pos}
-use Rattle.stack_contact.specs.Rectangles.{Range, Empty, Single, Many, common_of, count_of}
-use Rattle.stack_contact.proofs.LevelEdges.{Before}
-use Rattle.stack_contact.proofs.BoxPoints.{IsBetween, IsEnd}
+use Rattle.stack_rectangle.specs.Rectangles.{Range, Empty, Single, Many, common_of, count_of}
+use Rattle.stack_rectangle.proofs.LevelEdges.{Before}
+use Rattle.stack_rectangle.proofs.BoxPoints.{IsBetween, IsEnd}
 
 before_more : (strict : Bool) (a b c : ℤ) → a ≼ b → Before strict b c → Before strict a c
 before_more true a b c h p = omega (arith, sums)

@@ -1,5 +1,5 @@
-use Rattle.stack_contact.proofs.RectangleContacts.{tells}
-use Rattle.stack_contact.proofs.laws.rectangles_by_ranges.Goals as goal
+use Rattle.stack_rectangle.proofs.RectangleContacts.{tells}
+use Rattle.stack_rectangle.proofs.laws.rectangles_by_ranges.Goals as goal
 
 pub returns-clause-overlaps : goal.returns-clause-overlaps
 returns-clause-overlaps _ = λ ps qs h k. (tells ps qs h k).overlaps

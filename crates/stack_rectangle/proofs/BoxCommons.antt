@@ -9,11 +9,11 @@ use Rattle.stack_polygon.specs.declared.point.Point.{Point}
 use Rattle.stack_polygon.specs.Plane.{Place, IsAt}
 use Rattle.stack_overlap.specs.Separation.{IsCommon}
 use Rattle.stack_overlap.specs.CommonPoints.{IsOnSegment}
-use Rattle.stack_contact.specs.Rectangles.{Extent, common_of}
-use Rattle.stack_contact.proofs.LevelEdges.{pt}
-use Rattle.stack_contact.proofs.Boxes.{IsBox}
-use Rattle.stack_contact.proofs.BoxPoints.{IsWithin, points}
-use Rattle.stack_contact.proofs.CommonRanges.{to_common, of_common}
+use Rattle.stack_rectangle.specs.Rectangles.{Extent, common_of}
+use Rattle.stack_rectangle.proofs.LevelEdges.{pt}
+use Rattle.stack_rectangle.proofs.Boxes.{IsBox}
+use Rattle.stack_rectangle.proofs.BoxPoints.{IsWithin, points}
+use Rattle.stack_rectangle.proofs.CommonRanges.{to_common, of_common}
 
 abbrev pub common_extent : Extent → Extent → Extent
 common_extent a b = record { x = common_of a.x b.x; y = common_of a.y b.y }
