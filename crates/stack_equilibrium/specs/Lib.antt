@@ -9,6 +9,7 @@ pub mod Whole
 pub mod Weights
 pub mod SurveyScene
 pub mod Held
+pub mod Truth
 pub mod WrittenSums
 pub mod WrittenVelocities
 pub mod WrittenPowers
