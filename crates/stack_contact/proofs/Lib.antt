@@ -15,10 +15,3 @@ pub mod PairCases
 pub mod Frees
 pub mod SameLists
 pub mod OneSurvey
-pub mod LevelEdges
-pub mod Boxes
-pub mod BoxPoints
-pub mod CommonRanges
-pub mod BoxSides
-pub mod BoxCommons
-pub mod RectangleContacts

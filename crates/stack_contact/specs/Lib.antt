@@ -6,4 +6,3 @@ pub mod Surveyed
 pub mod OneSurvey
 pub mod Found
 pub mod FreeBlocks
-pub mod Rectangles

@@ -1,0 +1,71 @@
+//! Whole numbers of at most 2^127 - 1 in size.
+
+ghost use Rattle.std.specs.Prelude.{◌≡◌, ◌+ℤ◌, ◌*ℤ◌, ◌-ℤ◌, pos, nat_abs};
+ghost use Rattle.stack_whole.specs.Whole.{made, kept, whole};
+
+/// A result passes 2^127 - 1 in size.
+#[derive(Clone, Copy, Debug, PartialEq, Eq)]
+pub struct Wide;
+
+/// A whole number that was made.
+#[derive(Clone, Copy, Debug, PartialEq, Eq)]
+pub struct Whole {
+    pub value: i128,
+}
+
+/// The number, unless it passes; the least number of 128 bits does.
+fn keep(number: Option<i128>) -> Result<Whole, Wide>
+    ensures { result ≡ kept number }
+{
+    match number {
+        Some(value) => {
+            if value == i128::MIN {
+                Err(Wide)
+            } else {
+                Ok(Whole { value })
+            }
+        }
+        None => Err(Wide),
+    }
+}
+
+impl Whole {
+    /// A number as it is.
+    pub fn of(value: i128) -> Whole
+        ensures { result ≡ whole value }
+    {
+        Whole { value }
+    }
+
+    /// The product of both.
+    pub fn product(self, other: Whole) -> Result<Whole, Wide>
+        ensures { result ≡ made (self.value *ℤ other.value) }
+    {
+        keep(self.value.checked_mul(other.value))
+    }
+
+    /// The sum of both.
+    pub fn sum(self, other: Whole) -> Result<Whole, Wide>
+        ensures { result ≡ made (self.value +ℤ other.value) }
+    {
+        keep(self.value.checked_add(other.value))
+    }
+
+    /// This number less the other.
+    pub fn difference(self, other: Whole) -> Result<Whole, Wide>
+        ensures { result ≡ made (self.value -ℤ other.value) }
+    {
+        keep(self.value.checked_sub(other.value))
+    }
+
+    /// Its size.
+    pub fn size(self) -> Result<Whole, Wide>
+        ensures { result ≡ made (pos (nat_abs self.value)) }
+    {
+        if self.value < 0 {
+            keep(self.value.checked_neg())
+        } else {
+            keep(Some(self.value))
+        }
+    }
+}
