@@ -171,6 +171,9 @@ fn faults_are_named_with_their_place(rt: HostRuntime) -> Result<(), Fail> {
             ..PLAIN
         },
     )?;
-    assert_eq!(rt; dented.err(), Some(ModelError::NotConvex { block: 1, edge: 2 }));
+    assert_eq!(rt;
+        dented.err(),
+        Some(ModelError::NotConvex { block: 1, edge: 2 })
+    );
     Ok(())
 }
