@@ -26,11 +26,7 @@ form_of (word ∷ model ∷ certificate ∷ []) =
     if bytes_eq word (codes "check") then Some (check model certificate) else None
 form_of _ = None
 
--- The model's file, which comes first, and all files of a form in the order of work.
-abbrev pub model_of : Form → List ℕ
-model_of (check model certificate) = model
-model_of (contacts model) = model
-
+-- The files that the words name, in the order of work.
 abbrev pub files_of : Option Form → List (List ℕ)
 files_of None = []
 files_of (Some (check model certificate)) = model ∷ certificate ∷ []

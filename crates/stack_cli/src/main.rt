@@ -6,12 +6,13 @@
 
 pub mod answer;
 pub mod command;
+pub mod forms;
 pub mod laws;
 pub mod model_lines;
+pub mod reading;
 pub mod refusal;
 pub mod surveying;
 pub mod words;
-pub mod work;
 
 use refusal::Refusal;
 use stack_outside::{RealShelf, RealSink, Sink, Stream};

@@ -1,19 +1,11 @@
--- What goes to standard output: the answer of a check or the table of contacts, with the status that it has. A further
--- form of words has further answers.
-use Rattle.std.specs.Prelude.{◌≡◌, ℕ, ◌+◌, List, [], ◌∷◌, ◌++◌, codes, decimal, slice_index, length, nat_lt, if◌then◌else◌}
+-- What a check answers, as text: accepted, or why the certificate is rejected.
+use Rattle.std.specs.Prelude.{ℕ, ◌+◌, List, [], ◌∷◌, ◌++◌, codes, decimal, slice_index, length, nat_lt, if◌then◌else◌}
 use Rattle.stack_model.specs.Structure.{Structure, body_of}
 use Rattle.stack_contact.specs.FreeBlocks.{frees_of}
 use Rattle.stack_checker.specs.declared.types.Part.{Part}
 use Rattle.stack_checker.specs.declared.types.Reason.{Reason}
 use Rattle.stack_checker.specs.declared.types.Reason.TheVariants as reasons
 use Rattle.stack_cli.specs.Refusals.{part_word, axis_word}
-use Rattle.stack_cli.specs.declared.answer.Verdict.{Verdict}
-use Rattle.stack_cli.specs.declared.answer.Verdict.TheVariants.{Affirmed, Denied}
-
--- An affirmed question has status 0, a denied one status 1.
-abbrev pub verdict_status : Verdict → ℕ
-verdict_status Affirmed = 0
-verdict_status Denied = 1
 
 -- The name of the free block with this number, counted from 0 among the free blocks; empty where there is none.
 abbrev pub block_name : Structure → ℕ → List ℕ
@@ -40,11 +32,3 @@ accepted_text = codes "accepted" ++ 10 ∷ []
 abbrev pub rejected_text : Structure → Part → Reason → List ℕ
 rejected_text s part reason =
     codes "rejected " ++ part_word part ++ codes " " ++ reason_text s reason ++ 10 ∷ []
-
--- What is due on standard output: these bytes, with this verdict.
-pub data Due : Type 0 where
-  exactly : Verdict → List ℕ → Due
-
--- A verdict and bytes are what is due.
-abbrev pub IsAnswer : Due → Verdict → List ℕ → Type 0
-IsAnswer (exactly v t) verdict text = (verdict ≡ v) × (text ≡ t)
