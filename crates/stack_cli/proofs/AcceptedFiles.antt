@@ -58,6 +58,12 @@ only_accepted holds name bytes v (n ∷ ns) told (same, inr p) =
 pub all_accepted : (holds : Holds) (name bytes : List ℕ) (v : Surveyed) → holds name ≡ Some bytes
     → IsAcceptedModel bytes v → Ends holds (surveyed name) (name ∷ []) (Ok v)
 unfolding surveyed modelled
-all_accepted holds name bytes v told h =
-    (refl, inr (bytes, rw told refl, rw (le-ltb greatest_file (length bytes) h.is_short, h.reads_to)
-    (inr (Ok v, h.is_surveyed, (refl, refl)))))
+all_accepted holds name bytes v told h = (
+  refl,
+  inr (
+    bytes,
+    rw told refl,
+    rw (le-ltb greatest_file (length bytes) h.is_short, h.reads_to)
+        (inr (Ok v, h.is_surveyed, (refl, refl))),
+  ),
+)

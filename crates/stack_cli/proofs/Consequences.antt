@@ -17,6 +17,7 @@ use Rattle.stack_cli.specs.Work.{Work, gives, refuses, reads, surveys, Holds, En
 use Rattle.stack_cli.specs.Forms.{work_of}
 use Rattle.stack_cli.specs.Progress.{Names, GrewBy, Returns, Answers, Fails, Way, Works, Bytes, SaysLine, Delivers}
 use Rattle.stack_cli.proofs.FilesNamed.{asked_named}
+use Rattle.stack_cli.proofs.Steps.{none_asked}
 use Rattle.stack_cli.specs.MainTheorem.{Answered, OutputAfter, Cause, Refused, IsGivenOut, RunMeets}
 
 -- An error stream that didn't fail took the whole line.
@@ -320,3 +321,17 @@ module _ (asked asked_after : Names) (out out_after err err_after : Bytes) (S O 
             let f = refusals (omega arith) in
             output_of holds form w.names out out_after err err_after S O E f.refusal (sym ten ∙ f.is_status) f.cause;
       }
+
+-- There were no words to read: nothing was asked for, and one line was said.
+pub unread_meets : (holds : Holds) (asked : Names) (out err err_after : Bytes) (S O E : Type 0) (told : Refusal)
+    (status : ℕ) → (told ≡ words) ⊎ (told ≡ faulty memory) → status ≡ status_of told → SaysLine told err err_after E
+    → RunMeets status None holds asked asked out out err err_after S O E
+unread_meets holds asked out err err_after S O E told status which is line =
+    run_meets asked asked out out err err_after S O E None holds (Err code.Words) status (none_asked asked, refl) tt
+    (record {
+      told = told;
+      which = which;
+      is_status = is;
+      is_kept = kept_same out;
+      line = line;
+    })

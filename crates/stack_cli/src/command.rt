@@ -8,8 +8,8 @@ ghost use Rattle.stack_cli.specs.Progress.{Delivers, SaysLine};
 ghost use Rattle.stack_cli.specs.MainTheorem.{RunMeets};
 
 use crate::answer::Answer;
-use crate::refusal::Refusal;
 use crate::forms::answer_words;
+use crate::refusal::Refusal;
 use stack_outside::{Shelf, Sink, SinkFailed};
 use std::alloc::Global;
 
