@@ -4,3 +4,8 @@ pub mod Listed
 pub mod RowSteps
 pub mod Parts
 pub mod PivotSteps
+pub mod Numbers
+pub mod Growing
+pub mod FirstObjective
+pub mod RowByRow
+pub mod AtWidest

@@ -1,6 +1,7 @@
 //! The exact table of a problem as one flat block of cells, and its pivot.
 #![tactic(auto)]
 
+mod building;
 mod objective;
 mod pivoting;
 pub mod problem;
