@@ -14,9 +14,10 @@ use Rattle.stack_table.specs.declared.problem.BuildError.{BuildError}
 use Rattle.stack_table.specs.declared.problem.BuildError.TheVariants.{Wide, Memory}
 use Rattle.stack_table.specs.declared.problem.Problem.{Problem as Lent}
 use Rattle.stack_table.specs.Table.{width}
-use Rattle.stack_table.specs.Lent.{IsSmall, IsAmple, IsProblem, Tells, shape_of_problem, problem_of}
+use Rattle.stack_table.specs.Lent.{IsAmple, IsProblem, Tells, shape_of_problem, problem_of}
+use Rattle.stack_whole.specs.Limits.{IsBelowBound}
 use Rattle.stack_table.specs.WrittenTable.{less_all, partial_place, is_artificial, objective_place, objective_places, first_row, number_at, number_place, row_place, wide_place}
-use Rattle.stack_table.proofs.Fitting.{sum_fits-of}
+use Rattle.stack_rational.proofs.Fitting.{sum_fits-of}
 use Rattle.stack_table.proofs.Numbers.{number_small}
 
 -- 0 less the first n whole numbers
@@ -35,18 +36,18 @@ less_all-of g (suc n) = (λ z. add (less_all-of g n z) (neg-of (g n) z))
 opposite_size : (b : ℤ) → nat_abs (negsuc 0 *ℤ b) ≡ nat_abs b
 opposite_size b = omega (arith, ints)
 
-total_size : (g : ℕ → ℤ) (n : ℕ) → ((i : ℕ) → IsSmall (g i)) → nat_abs (total g n) ≤ n * 2 ^ 90
+total_size : (g : ℕ → ℤ) (n : ℕ) → ((i : ℕ) → IsBelowBound (g i)) → nat_abs (total g n) ≤ n * 2 ^ 90
 total_size g zero h = omega arith
 total_size g (suc n) h = next (total g n) (g n) (total_size g n h) (h n)
   where
-    next : (a b : ℤ) → nat_abs a ≤ n * 2 ^ 90 → IsSmall b → nat_abs (a +ℤ negsuc 0 *ℤ b) ≤ suc n * 2 ^ 90
+    next : (a b : ℤ) → nat_abs a ≤ n * 2 ^ 90 → IsBelowBound b → nat_abs (a +ℤ negsuc 0 *ℤ b) ≤ suc n * 2 ^ 90
     next a b k l = omega (arith, ints, k, l)
 
 module _ (m : ℤ) (ample : IsAmple m) where
   whole_record : (z : ℤ) → nat_abs z ≤ nat_abs m → Fits m (of z)
   whole_record z h = record { num = omega (arith, ap nat_abs (num_of z), h); den = omega (arith, den_of z, ample) }
 
-  difference : (a b : ℤ) → nat_abs a ≤ 384 * 2 ^ 90 → IsSmall b → passes m Difference (of a) (of b) ≡ false
+  difference : (a b : ℤ) → nat_abs a ≤ 384 * 2 ^ 90 → IsBelowBound b → passes m Difference (of a) (of b) ≡ false
   difference a b h k = ap not (sum_fits-of m (of a) (neg (of b)) (subst (λ y. SumFits m (of a) y) (sym (neg-of b))
       (same_den_fits m (of a) (of (negsuc 0 *ℤ b)) (whole_record a (omega (arith, h, ample)))
       (whole_record (negsuc 0 *ℤ b) (omega (arith, opposite_size b, k, ample)))

@@ -13,7 +13,7 @@ use Rattle.stack_table.specs.declared.problem.BuildError.{BuildError}
 use Rattle.stack_table.specs.declared.problem.BuildError.TheVariants.{Wide}
 use Rattle.stack_table.specs.Table.{Shape, plain, columns}
 use Rattle.stack_table.specs.WrittenTable.{less_all, partial_place, is_artificial, objective_over, objective_place}
-use Rattle.stack_table.proofs.Listed.{first_same}
+use Rattle.stack_algebra.proofs.Search.{first_same}
 
 -- which columns are artificial
 pub artificial_yes : (S : Shape) (j : ℕ) → plain S ≤ j → j < columns S → is_artificial S j ≡ true

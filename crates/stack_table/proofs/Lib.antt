@@ -1,4 +1,3 @@
-pub mod Fitting
 pub mod Blocks
 pub mod Listed
 pub mod RowSteps

@@ -15,15 +15,16 @@ use Rattle.stack_table.specs.declared.problem.Column.{Column}
 use Rattle.stack_table.specs.declared.problem.Problem.{Problem as Lent}
 use Rattle.stack_table.specs.Table.{plain, columns}
 use Rattle.stack_table.specs.Problem.{Problem, is_below_zero, flipped, turned}
-use Rattle.stack_table.specs.Lent.{IsSmall, IsColumn, IsProblem, entry_in, entries_at, factor_entries, shape_of_problem, problem_of}
+use Rattle.stack_table.specs.Lent.{IsColumn, IsProblem, entry_in, entries_at, factor_entries, shape_of_problem, problem_of}
+use Rattle.stack_whole.specs.Limits.{IsBelowBound}
 use Rattle.stack_table.specs.WrittenTable.{number_at}
 
 -- an entry is small, and there is none past the rows
-entry_small : (xs : List Entry) (i : ℕ) → AllByRecursion (λ x. IsSmall x.value) xs → IsSmall (entry_in xs i)
+entry_small : (xs : List Entry) (i : ℕ) → AllByRecursion (λ x. IsBelowBound x.value) xs → IsBelowBound (entry_in xs i)
 entry_small [] i h = omega arith
 entry_small (x ∷ xs) i h = go (eqb x.row i) (entry_small xs i h.1)
   where
-    go : (b : Bool) → IsSmall (entry_in xs i) → IsSmall (cond b x.value (entry_in xs i))
+    go : (b : Bool) → IsBelowBound (entry_in xs i) → IsBelowBound (cond b x.value (entry_in xs i))
     go true k = h.0
     go false k = k
 
@@ -33,7 +34,7 @@ entry_past rows [] i h l = refl
 entry_past rows (x ∷ xs) i h l = ap (λ b. cond b x.value (entry_in xs i)) (ne_eqb x.row i (λ e. omega (arith, h.0, l, e)))
     ∙ entry_past rows xs i h.1 l
 
-pub right_small : (xs : List ℤ) (i : ℕ) → AllByRecursion IsSmall xs → IsSmall (get_or xs i (pos 0))
+pub right_small : (xs : List ℤ) (i : ℕ) → AllByRecursion IsBelowBound xs → IsBelowBound (get_or xs i (pos 0))
 right_small [] i h = omega arith
 right_small (x ∷ xs) zero h = h.0
 right_small (x ∷ xs) (suc i) h = right_small xs i h.1
@@ -60,11 +61,11 @@ column_of P h j = either_column P.rows (ltb j (length P.contact.items)) _ _
     (no_entries P.rows))
 
 -- all numbers of the table are small
-either : (b : Bool) (x y : ℤ) → IsSmall x → IsSmall y → IsSmall (cond b x y)
+either : (b : Bool) (x y : ℤ) → IsBelowBound x → IsBelowBound y → IsBelowBound (cond b x y)
 either true x y h k = h
 either false x y h k = k
 
-turned_small : (b : Bool) (z : ℤ) → IsSmall z → IsSmall (turned b z)
+turned_small : (b : Bool) (z : ℤ) → IsBelowBound z → IsBelowBound (turned b z)
 turned_small true z h = omega (arith, ints, h)
 turned_small false z h = h
 
@@ -80,13 +81,13 @@ cond_false : (b : Bool) (x y : ℤ) → b ≡ false → cond b x y ≡ y
 cond_false b x y e = ap (λ a. cond a x y) e
 
 module _ (P : Lent) (h : IsProblem P) (i : ℕ) where
-  pub entry_is_small : (j : ℕ) → IsSmall ((problem_of P).entry i j)
+  pub entry_is_small : (j : ℕ) → IsBelowBound ((problem_of P).entry i j)
   entry_is_small j = entry_small (entries_at P j) i (column_of P h j).small
 
-  pub load_is_small : IsSmall ((problem_of P).load i)
+  pub load_is_small : IsBelowBound ((problem_of P).load i)
   load_is_small = right_small P.right.items i h.right_small
 
-  pub number_small : (j : ℕ) → IsSmall (number_at (problem_of P) i j)
+  pub number_small : (j : ℕ) → IsBelowBound (number_at (problem_of P) i j)
   number_small j = let S = shape_of_problem P in let b = flipped (problem_of P) i in
       either (ltb j (plain S)) (turned b ((problem_of P).entry i j)) _
       (turned_small b ((problem_of P).entry i j) (entry_is_small j))
@@ -118,8 +119,8 @@ number_beyond P i j l = cond_false (ltb j (plain P.shape)) _ _ (le-ltb j (plain 
     ∙ cond_false (ltb j (columns P.shape)) _ _ (le-ltb j (columns P.shape) (omega (arith, l)))
     ∙ cond_false (eqb j (columns P.shape)) _ _ (ne_eqb j (columns P.shape) (λ e. omega (arith, l, e)))
 
-pub small_fits : (z : ℤ) → IsSmall z → SFits w128 z
+pub small_fits : (z : ℤ) → IsBelowBound z → SFits w128 z
 small_fits z h = fits_signed_from_abs w128 z (omega (arith, h))
 
-pub small_back : (z v : ℤ) → z ≡ v → IsSmall v → to_z w128 (of_z w128 z) ≡ v
+pub small_back : (z v : ℤ) → z ≡ v → IsBelowBound v → to_z w128 (of_z w128 z) ≡ v
 small_back z v e h = ap (λ t. to_z w128 (of_z w128 t)) e ∙ to_z-of_z (small_fits v h)

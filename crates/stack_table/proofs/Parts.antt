@@ -13,8 +13,9 @@ use Rattle.stack_algebra.proofs.Fractions.{of}
 use Rattle.stack_algebra.specs.Rows.{changed}
 use Rattle.stack_algebra.proofs.Pivots.{changed-same, changed-other}
 use Rattle.stack_rational.specs.Passes.{fits}
-use Rattle.stack_table.specs.Block.{is_zero, value_at, mark_at, cell_of, IsBlock}
-use Rattle.stack_table.proofs.Fitting.{is_zero-of}
+use Rattle.stack_table.specs.Block.{value_at, mark_at, cell_of, IsBlock}
+use Rattle.stack_rational.specs.Order.{is_zero}
+use Rattle.stack_rational.proofs.Fitting.{is_zero-of}
 use Rattle.stack_table.proofs.Blocks.{value_at-past, value_at-index}
 
 -- a row of a block of n rows

@@ -17,7 +17,7 @@ use Rattle.stack_algebra.proofs.Fractions.{of, add, neg, fractions}
 use Rattle.stack_algebra.proofs.OrderedFractions.{ordered_fractions}
 use Rattle.stack_algebra.proofs.Pivots.{changed-same, changed-other}
 use Rattle.stack_algebra.proofs.Ring.{Exp, num, ◌⊕◌, ring1}
-use Rattle.stack_algebra.proofs.Search.{first, or_else, first_found}
+use Rattle.stack_algebra.proofs.Search.{first, or_else, first_found, first_same}
 use Rattle.stack_rational.specs.Passes.{IsWidth, passes}
 use Rattle.stack_table.specs.declared.problem.BuildError.{BuildError}
 use Rattle.stack_table.specs.declared.problem.BuildError.TheVariants.{Wide, Memory}
@@ -27,8 +27,7 @@ use Rattle.stack_table.specs.Block.{value_at, cell_of, tabled, IsBlock, Grows}
 use Rattle.stack_table.specs.Problem.{Problem, is_below_zero, flipped}
 use Rattle.stack_table.specs.Lent.{IsProblem, shape_of_problem, problem_of, Tells}
 use Rattle.stack_table.specs.WrittenTable.{less_all, objective_over, objective_place, objective_places, first_row, first_objective, first_basic, row_place, wide_place, written_table}
-use Rattle.stack_table.proofs.Fitting.{is_zero-of, zero_fits}
-use Rattle.stack_table.proofs.Listed.{first_same}
+use Rattle.stack_rational.proofs.Fitting.{is_zero-of, zero_fits}
 use Rattle.stack_table.proofs.Numbers.{small_back, load_is_small, no_load, number_past, number_beyond}
 use Rattle.stack_table.proofs.FirstObjective.{artificial_not, objective_same, place_same}
 use Rattle.stack_table.proofs.Growing.{earlier_cells, next_cells}

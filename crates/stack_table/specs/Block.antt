@@ -3,12 +3,9 @@
 use Rattle.std.specs.Prelude.{◌≡◌, ℕ, ◌+◌, ◌*◌, ◌<◌, Bool, true, cond, ltb, List, map, length, get_or, ℤ, pos}
 use Rattle.stack_algebra.specs.Fraction.{Fraction}
 use Rattle.stack_algebra.proofs.Fractions.{of}
-use Rattle.stack_rational.specs.Order.{is_zero_whole}
+use Rattle.stack_rational.specs.Order.{is_zero}
 use Rattle.stack_rational.specs.Passes.{fits}
 use Rattle.stack_table.specs.Table.{Shape, Tabled, width}
-
-abbrev pub is_zero : Fraction → Bool
-is_zero x = is_zero_whole x.num
 
 -- the value of item k
 abbrev pub value_at : {V : Type 0} → (V → Fraction) → List V → ℕ → Fraction

@@ -8,13 +8,12 @@ ghost use Rattle.stack_rational.specs.Passes.{fits, passes};
 ghost use Rattle.stack_table.specs.Table.{plain, width};
 ghost use Rattle.stack_table.specs.Block.{cell_of, IsBlock, Grows};
 ghost use Rattle.stack_table.specs.Problem.{turned};
-ghost use Rattle.stack_table.specs.Lent.{entry_in, IsSmall, IsProblem, shape_of_problem, problem_of, Tells};
-ghost use Rattle.stack_table.specs.WrittenTable.{number_at, first_row, row_place, less_all, partial_place};
-ghost use Rattle.stack_table.specs.WrittenTable.{is_artificial, objective_over, objective_place, objective_places};
+ghost use Rattle.stack_table.specs.Lent.{entry_in, IsProblem, shape_of_problem, problem_of, Tells};
+ghost use Rattle.stack_whole.specs.Limits.{IsBelowBound};
+ghost use Rattle.stack_table.specs.WrittenTable.{number_at, first_row, row_place, less_all, partial_place, is_artificial, objective_over, objective_place, objective_places};
 ghost use Rattle.stack_table.specs.declared.problem.BuildError.TheVariants.{Wide as AtPlace};
 
 use crate::problem::{BuildError, Entry, Problem};
-use crate::whole::zero;
 use stack_rational::{Exact, Wide};
 use std::alloc::AllocError;
 
@@ -68,7 +67,7 @@ fn entry(p: &Problem, i: usize, j: usize) -> i128
 
 /// A number of a row that is flipped, or isn't.
 fn turned(flipped: bool, number: i128) -> i128
-    requires { IsSmall number }
+    requires { IsBelowBound number }
     ensures { result ≡ turned flipped number }
 {
     if flipped { -number } else { number }
@@ -149,7 +148,7 @@ fn less_column<S: Exact>(cells: &[S], rows: usize, width: usize, column: usize) 
     ensures wide { OnErr result (first rows (partial_place ordered_fractions (passes S.MAX) (AtPlace rows column)
         (λ i. cell_of S.exact width cells.now i column)) ≡ Some (AtPlace rows column)) }
 {
-    let mut sum: S = zero();
+    let mut sum = S::zero();
     for i in 0..rows {
         sum = sum.difference(cells[i * width + column])?;
     }
@@ -176,7 +175,7 @@ fn objective_cell<S: Exact>(
         (cell_of S.exact (width (shape_of_problem p.now)) cells.now) column ≡ Some (AtPlace p.now.rows column)) }
 {
     if is_artificial(p, artificial, column) {
-        return Ok(zero());
+        return Ok(S::zero());
     }
     let cell = less_column(cells, p.rows, artificial + p.rows + 1, column)?;
     Ok(cell)

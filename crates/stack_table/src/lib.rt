@@ -8,6 +8,5 @@ pub mod problem;
 mod rows;
 pub mod table;
 pub mod types;
-mod whole;
 
 pub use table::Table;

@@ -42,8 +42,9 @@ impl<S: Exact> Table<S> {
     ghost use Rattle.std.specs.Prelude.{◌≢◌, ◌+◌, ◌≤◌, pos, cond, true, OnOk, IfOk, IfErr, MatchResult, Some, None};
     ghost use Rattle.stack_algebra.proofs.OrderedFractions.{ordered_fractions};
     ghost use Rattle.stack_rational.specs.Passes.{passes};
+    ghost use Rattle.stack_rational.specs.Order.{is_zero};
     ghost use Rattle.stack_table.specs.Table.{pivoted_at, clear_objective, set_factor_objective};
-    ghost use Rattle.stack_table.specs.Block.{mark_at, is_zero, value_at};
+    ghost use Rattle.stack_table.specs.Block.{mark_at, value_at};
     ghost use Rattle.stack_table.specs.Spots.{pivot_spot};
     ghost use Rattle.stack_table.specs.Problem.{flipped};
     ghost use Rattle.stack_table.specs.Lent.{IsProblem, IsAmple, shape_of_problem, problem_of, Tells};

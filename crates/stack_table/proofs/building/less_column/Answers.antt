@@ -3,21 +3,20 @@ use Rattle.std.proofs.lemmas.Result.{err_from_is_err_and}
 use Rattle.stack_algebra.specs.Fraction.{Fraction}
 use Rattle.stack_algebra.proofs.Fractions.{add, neg}
 use Rattle.stack_algebra.proofs.OrderedFractions.{ordered_fractions}
-use Rattle.stack_algebra.proofs.Search.{only_if, first_found}
+use Rattle.stack_algebra.proofs.Search.{only_if, first_found, first_more}
 use Rattle.stack_rational.specs.declared.exact.Op.TheVariants.{Difference}
 use Rattle.stack_rational.specs.Passes.{fits, passes}
 use Rattle.stack_table.specs.declared.problem.BuildError.TheVariants.{Wide}
 use Rattle.stack_table.specs.Block.{cell_of}
 use Rattle.stack_table.specs.WrittenTable.{less_all, partial_place}
-use Rattle.stack_table.proofs.Fitting.{answer_fits}
-use Rattle.stack_table.proofs.Listed.{first_more}
+use Rattle.stack_rational.proofs.Fitting.{answer_fits, zero_fits}
 use Rattle.stack_table.proofs.Parts.{cell_read}
 use Rattle.stack_table.proofs.building.less_column.Goals as goal
 
 pub loop-i-init : goal.loop-i-init
 loop-i-init g c = record {
-  value = c.zero-sum.ensures.value;
-  fitting = c.zero-sum.ensures.fits;
+  value = c.zero-sum.ensures;
+  fitting = ap (fits g.S.Exact.MAX) c.zero-sum.ensures ∙ zero_fits g.S.Exact.MAX g.met.S.Exact.max_law;
   none = refl;
 }
 

@@ -2,7 +2,8 @@ use Rattle.std.proofs.Common.{◌≡◌, sym, ap, ◌∙◌, ◌+◌, false, con
 use Rattle.std.proofs.lemmas.Result.{err_from_is_err_and}
 use Rattle.stack_algebra.proofs.OrderedFractions.{ordered_fractions}
 use Rattle.stack_algebra.specs.Search.{first}
-use Rattle.stack_rational.specs.Passes.{passes}
+use Rattle.stack_rational.specs.Passes.{fits, passes}
+use Rattle.stack_rational.proofs.Fitting.{zero_fits}
 use Rattle.stack_table.specs.declared.problem.BuildError.{BuildError}
 use Rattle.stack_table.specs.declared.problem.BuildError.TheVariants.{Wide}
 use Rattle.stack_table.specs.Table.{width}
@@ -31,3 +32,7 @@ returns-clause-none g c =
     (λ z. cond (plain z) None (first a.p.now.rows (partial_place ordered_fractions
     (passes g.S.Exact.MAX) (Wide a.p.now.rows a.column) (λ i. cell_of g.S.Exact.exact (w z) a.cells.now i a.column))))
     ∙ c.in_ok-cell.ensures.none
+
+pub returns-then-is_artificial-clause-fits : goal.returns-then-is_artificial-clause-fits
+returns-then-is_artificial-clause-fits g c = ap (fits g.S.Exact.MAX) c.zero.ensures
+    ∙ zero_fits g.S.Exact.MAX g.met.S.Exact.max_law

@@ -1,14 +1,13 @@
 use Rattle.std.proofs.Common.{◌≡◌, sym, ap, ◌∙◌, ℕ, ◌<◌, length, arith}
 use Rattle.stack_algebra.specs.Fraction.{Fraction}
 use Rattle.stack_algebra.proofs.OrderedFractions.{ordered_fractions}
-use Rattle.stack_algebra.proofs.Search.{first_found}
+use Rattle.stack_algebra.proofs.Search.{first_found, first_more}
 use Rattle.stack_algebra.specs.Search.{first}
 use Rattle.stack_rational.specs.Passes.{passes}
 use Rattle.stack_table.specs.Table.{width}
 use Rattle.stack_table.specs.Block.{cell_of}
 use Rattle.stack_table.specs.Lent.{shape_of_problem}
 use Rattle.stack_table.specs.WrittenTable.{objective_over, objective_place}
-use Rattle.stack_table.proofs.Listed.{first_more}
 use Rattle.stack_table.proofs.Growing.{grown_more, earlier_cells}
 use Rattle.stack_table.proofs.FirstObjective.{objective_same, place_same}
 use Rattle.stack_table.proofs.building.push_objective.Goals as goal

@@ -1,16 +1,15 @@
 use Rattle.std.proofs.Common.{◌≡◌, sym, ap, ◌∙◌, ℕ, length, arith}
 use Rattle.stack_algebra.proofs.Fractions.{of}
 use Rattle.stack_algebra.proofs.OrderedFractions.{ordered_fractions}
-use Rattle.stack_algebra.proofs.Search.{first, only_if, first_found}
+use Rattle.stack_algebra.proofs.Search.{first, only_if, first_found, first_more}
 use Rattle.stack_rational.specs.declared.exact.Op.TheVariants.{Whole}
 use Rattle.stack_rational.specs.Passes.{fits, passes}
 use Rattle.stack_table.specs.declared.problem.BuildError.TheVariants.{Wide}
 use Rattle.stack_table.specs.Table.{width}
 use Rattle.stack_table.specs.Lent.{problem_of, shape_of_problem}
 use Rattle.stack_table.specs.WrittenTable.{number_at, number_place}
-use Rattle.stack_table.proofs.Fitting.{whole_answers}
+use Rattle.stack_rational.proofs.Fitting.{whole_answers}
 use Rattle.stack_table.proofs.Growing.{grown_more}
-use Rattle.stack_table.proofs.Listed.{first_more}
 use Rattle.stack_table.proofs.Numbers.{number_small, small_back}
 use Rattle.stack_table.proofs.building.push_row.Goals as goal
 

@@ -14,7 +14,7 @@ use Rattle.stack_table.specs.Block.{cell_of, tabled}
 use Rattle.stack_table.specs.Problem.{flipped}
 use Rattle.stack_table.specs.Lent.{factor_count, shape_of_problem, problem_of}
 use Rattle.stack_table.specs.WrittenTable.{first_row, row_place}
-use Rattle.stack_table.proofs.Listed.{first_more}
+use Rattle.stack_algebra.proofs.Search.{first_more}
 use Rattle.stack_table.proofs.Growing.{pushed_all, earlier_cells, next_cells}
 use Rattle.stack_table.proofs.RowByRow.{empty_block, flip_is, flips_are, tells_row, tells_objective, place_is, table_is}
 use Rattle.stack_table.proofs.AtWidest.{only_memory}
