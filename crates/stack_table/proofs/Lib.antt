@@ -8,3 +8,4 @@ pub mod Growing
 pub mod FirstObjective
 pub mod RowByRow
 pub mod AtWidest
+pub mod SoundProblem

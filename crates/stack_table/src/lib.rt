@@ -6,6 +6,7 @@ mod objective;
 mod pivoting;
 pub mod problem;
 mod rows;
+mod sound;
 pub mod table;
 pub mod types;
 
