@@ -6,8 +6,8 @@ use Rattle.stack_table.specs.Seen.{table_of}
 use Rattle.stack_bland.specs.Choice.{is_minus}
 use Rattle.stack_bland.proofs.entering_column.entering.Goals as goal
 
-pub returns-then-is_negative : goal.returns-then-is_negative
-returns-then-is_negative g c =
+pub returns-then-is_negative-clause-value : goal.returns-then-is_negative-clause-value
+returns-then-is_negative-clause-value g c =
     let t = c.args.t.now in
     let j = c.loop-j.j in
     let cell = ap (λ i. (table_of t).cell i j) (sym c.rows-objective.ensures) ∙ sym c.cell.ensures in
