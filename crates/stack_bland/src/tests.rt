@@ -8,7 +8,11 @@ use std::alloc::{AllocError, Global};
 use std::test::Fail;
 
 /// A problem of two contact columns and two rows.
-fn problem(alloc: Global, contact: &[[i128; 2]; 2], right: [i128; 2]) -> Result<Problem, AllocError> {
+fn problem(
+    alloc: Global,
+    contact: &[[i128; 2]; 2],
+    right: [i128; 2],
+) -> Result<Problem, AllocError> {
     let mut columns: Vec<Column> = Vec::new(alloc);
     for k in 0..2 {
         let mut entries: Vec<Entry> = Vec::new(alloc);
@@ -30,7 +34,11 @@ fn problem(alloc: Global, contact: &[[i128; 2]; 2], right: [i128; 2]) -> Result<
 }
 
 /// The table of a problem that is sound, after a pivot in column 0.
-fn pivoted<S: Exact>(alloc: Global, p: &Problem, row: usize) -> Result<Option<Table<S>>, BuildError> {
+fn pivoted<S: Exact>(
+    alloc: Global,
+    p: &Problem,
+    row: usize,
+) -> Result<Option<Table<S>>, BuildError> {
     if !p.is_sound() {
         return Ok(None);
     }

@@ -1,8 +1,8 @@
 //! Tables worked by hand: built, pivoted and given new objectives at each width, and their refusals.
 
+use crate::Table;
 use crate::problem::{BuildError, Column, Entry, Problem};
 use crate::types::{PivotWide, Step};
-use crate::Table;
 use stack_rational::{Exact, Frac};
 use std::alloc::{AllocError, Global};
 use std::test::Fail;
@@ -150,15 +150,35 @@ fn objectives_are_set_with_the_factor_basic_or_not(rt: HostRuntime) -> Result<()
     let built = table::<Frac<i8>>(alloc, &p);
     assert!(rt; built.is_ok());
     if let Ok(mut t) = built {
-        assert!(rt; holds(&t, &[0, 1, -1, 1, 0, 1, 1, 1, 0, 0, 1, 1, -1, -2, 1, 0, 0, -2]));
+        assert!(rt;
+            holds(
+                &t,
+                &[0, 1, -1, 1, 0, 1, 1, 1, 0, 0, 1, 1, -1, -2, 1, 0, 0, -2]
+            )
+        );
         t.clear_objective();
         assert!(rt; holds(&t, &[0, 1, -1, 1, 0, 1, 1, 1, 0, 0, 1, 1, 0, 0, 0, 0, 0, 0]));
         assert!(rt; take_factor_objective(&mut t));
-        assert!(rt; holds(&t, &[0, 1, -1, 1, 0, 1, 1, 1, 0, 0, 1, 1, 0, 0, -1, 0, 0, 0]));
+        assert!(rt;
+            holds(
+                &t,
+                &[0, 1, -1, 1, 0, 1, 1, 1, 0, 0, 1, 1, 0, 0, -1, 0, 0, 0]
+            )
+        );
         assert!(rt; pivot(&mut t, 0, 2) == Some(Ok(())));
-        assert!(rt; holds(&t, &[0, -1, 1, -1, 0, -1, 1, 1, 0, 0, 1, 1, 0, -1, 0, -1, 0, -1]));
+        assert!(rt;
+            holds(
+                &t,
+                &[0, -1, 1, -1, 0, -1, 1, 1, 0, 0, 1, 1, 0, -1, 0, -1, 0, -1]
+            )
+        );
         assert!(rt; take_factor_objective(&mut t));
-        assert!(rt; holds(&t, &[0, -1, 1, -1, 0, -1, 1, 1, 0, 0, 1, 1, 0, -1, 0, -1, 0, -1]));
+        assert!(rt;
+            holds(
+                &t,
+                &[0, -1, 1, -1, 0, -1, 1, 1, 0, 0, 1, 1, 0, -1, 0, -1, 0, -1]
+            )
+        );
     }
     Ok(())
 }
@@ -167,14 +187,23 @@ fn objectives_are_set_with_the_factor_basic_or_not(rt: HostRuntime) -> Result<()
 #[test]
 fn a_table_that_is_too_wide_names_its_first_place(rt: HostRuntime) -> Result<(), Fail> {
     let alloc = rt.alloc();
-    let post = problem(alloc, &[[1, 1, 0], [-1, 1, 0], [1, 1, 2], [-1, 1, 2]], None, &[0, 96, 96])?;
+    let post = problem(
+        alloc,
+        &[[1, 1, 0], [-1, 1, 0], [1, 1, 2], [-1, 1, 2]],
+        None,
+        &[0, 96, 96],
+    )?;
     let narrow = table::<Frac<i8>>(alloc, &post);
     assert!(rt; narrow.is_err());
     if let Err(e) = narrow {
         assert!(rt; e == BuildError::Wide { row: 3, column: 7 });
     }
     assert!(rt; table::<Frac<i128>>(alloc, &post).is_ok());
-    let right = [0, 24_000_000_000_000_000_000, 24_000_000_000_000_000_000_000_000];
+    let right = [
+        0,
+        24_000_000_000_000_000_000,
+        24_000_000_000_000_000_000_000_000,
+    ];
     let block = problem(alloc, &[], None, &right)?;
     let middle = table::<Frac<i64>>(alloc, &block);
     assert!(rt; middle.is_err());
