@@ -31,6 +31,12 @@ pub record Tabled (C : Type 0) : Type 0 where
   pub cell : ℕ → ℕ → C
   pub basic : ℕ → ℕ
 
+-- the objective of the third phase, by the row in which the factor is basic: that row, but 0 in the factor's column;
+-- without such a row, -1 in the factor's column alone
+abbrev pub factor_row : (F : Ordered) → (ℕ → ℕ → F.C) → (column : ℕ) → Option ℕ → ℕ → F.C
+factor_row F cell column (Some r) j = cond (eqb j column) (F.of (pos 0)) (cell r j)
+factor_row F cell column None j = at F.ring column (F.of (negsuc 0)) j
+
 module _ (F : Ordered) (S : Shape) where
   -- the right side of a row
   abbrev pub right : Tabled F.C → ℕ → F.C
@@ -48,11 +54,9 @@ module _ (F : Ordered) (S : Shape) where
   abbrev pub with_objective : Tabled F.C → (ℕ → F.C) → Tabled F.C
   with_objective T o = record { cell = changed T.cell S.rows o; basic = T.basic }
 
-  -- the objective of the third phase, by the row in which the factor is basic: that row, but 0 in the factor's
-  -- column; without such a row, -1 in the factor's column alone
+  -- that of the third phase
   abbrev pub factor_objective : Tabled F.C → Option ℕ → ℕ → F.C
-  factor_objective T (Some r) j = cond (eqb j S.contacts) (F.of (pos 0)) (T.cell r j)
-  factor_objective T None j = at F.ring S.contacts (F.of (negsuc 0)) j
+  factor_objective T row = factor_row F T.cell S.contacts row
 
   -- the objective row of the second phase is 0
   abbrev pub clear_objective : Tabled F.C → Tabled F.C

@@ -4,10 +4,10 @@ ghost use Rattle.std.specs.Prelude.{◌≡◌, ℕ, suc, ◌*◌, ◌<◌, lengt
 ghost use Rattle.stack_table.specs.Table.{width, columns};
 ghost use Rattle.stack_table.specs.Block.{shape_of, IsBlock};
 
-use crate::problem::{BuildError, Problem};
+use crate::objective::{clear_last, row_with, set_last};
+use crate::pivoting::pivot_block;
 use crate::types::PivotWide;
 use stack_rational::Exact;
-use std::alloc::Global;
 
 /// The exact table of a run, in one flat block. Row `rows` is the objective row, column `columns` the right side.
 ///
@@ -36,17 +36,13 @@ pub struct Table<S: Exact> {
 }
 
 impl<S: Exact> Table<S> {
-    ghost use Rattle.std.specs.Prelude.{◌≢◌, ◌≤◌, pos, true, IfOk, IfErr, MatchResult, Some, None, unsigned_abs};
+    ghost use Rattle.std.specs.Prelude.{◌≢◌, ◌+◌, ◌≤◌, pos, cond, true, OnOk, IfOk, IfErr, MatchResult, Some, None};
     ghost use Rattle.stack_algebra.proofs.OrderedFractions.{ordered_fractions};
     ghost use Rattle.stack_rational.specs.Passes.{passes};
-    ghost use Rattle.stack_table.specs.Table.{Shape, pivoted_at, clear_objective, set_factor_objective};
+    ghost use Rattle.stack_table.specs.Table.{pivoted_at, clear_objective, set_factor_objective};
     ghost use Rattle.stack_table.specs.Block.{mark_at, is_zero, value_at};
-    ghost use Rattle.stack_table.specs.Problem.{flipped};
-    ghost use Rattle.stack_table.specs.WrittenTable.{written_table, wide_place};
-    ghost use Rattle.stack_table.specs.Lent.{IsProblem, IsAmple, shape_of_problem, problem_of, Tells};
     ghost use Rattle.stack_table.specs.Spots.{pivot_spot};
     ghost use Rattle.stack_table.specs.Seen.{shape_of_table, table_of, flips_of};
-    ghost use Rattle.stack_table.specs.declared.problem.BuildError.TheVariants as build_error;
 
     pub fn rows(&self) -> usize
         ensures { result ≡ (shape_of_table self.now).rows }
@@ -54,25 +50,129 @@ impl<S: Exact> Table<S> {
         self.rows
     }
 
-    /// 1
-    pub fn basic(&self, i: usize) -> usize
-        requires { i < self.now.rows }
-        ensures { result ≡ (table_of self.now).basic i }
-    {
-        self.basic[i]
-    }
-
+    /// All columns but the right side.
     pub fn columns(&self) -> usize
         ensures { result ≡ columns (shape_of_table self.now) }
     {
         self.listed.len() - 1
     }
 
+    pub fn contacts(&self) -> usize
+        ensures { result ≡ (shape_of_table self.now).contacts }
+    {
+        self.contacts
+    }
+
+    pub fn has_factor(&self) -> bool
+        ensures { (shape_of_table self.now).factors ≡ cond result 1 0 }
+    {
+        self.has_factor
+    }
+
     pub fn cell(&self, i: usize, j: usize) -> S
-        requires i_in { i ≤ self.now.rows }
+        requires i_in { i ≤ (shape_of_table self.now).rows }
         requires j_in { j ≤ columns (shape_of_table self.now) }
         ensures { S.exact result ≡ (table_of self.now).cell i j }
     {
         self.cells[i * self.listed.len() + j]
+    }
+
+    /// The basic column of a row.
+    pub fn basic(&self, i: usize) -> usize
+        requires { i < (shape_of_table self.now).rows }
+        ensures value { result ≡ (table_of self.now).basic i }
+        ensures below { result < columns (shape_of_table self.now) }
+    {
+        self.basic[i]
+    }
+
+    /// Whether a row was flipped.
+    pub fn flipped(&self, i: usize) -> bool
+        requires { i < (shape_of_table self.now).rows }
+        ensures { result ≡ flips_of self.now i }
+    {
+        self.flipped[i]
+    }
+
+    /// All cells, row by row, the objective row last; each row by rising column, the right side last.
+    pub fn block(&self) -> &[S]
+        ensures whole { length result.now ≡ suc (shape_of_table self.now).rows * width (shape_of_table self.now) }
+        ensures cells { (i j : ℕ) → j < width (shape_of_table self.now) →
+            value_at S.exact result.now (i * width (shape_of_table self.now) + j) ≡ (table_of self.now).cell i j }
+    {
+        self.cells.as_slice()
+    }
+
+    /// A mark for each cell, in the same order: on exactly where the cell is 0.
+    pub fn marks(&self) -> &[bool]
+        ensures whole { length result.now ≡ suc (shape_of_table self.now).rows * width (shape_of_table self.now) }
+        ensures marked { (i j : ℕ) → j < width (shape_of_table self.now) →
+            mark_at result.now (i * width (shape_of_table self.now) + j) ≡ is_zero ((table_of self.now).cell i j) }
+    {
+        self.marks.as_slice()
+    }
+
+    /// A pivot at a row and a column whose cell isn't 0.
+    ///
+    /// Refused at the first operation that passes, in the written order; the table is spent then.
+    pub fn pivot(&mut self, row: usize, column: usize) -> Result<(), PivotWide>
+        requires row_in { row < (shape_of_table self.old).rows }
+        requires column_in { column < columns (shape_of_table self.old) }
+        requires cell { ((table_of self.old).cell row column).num ≢ pos 0 }
+        ensures shape { OnOk result (shape_of_table self.new ≡ shape_of_table self.old) }
+        ensures flips { OnOk result (flips_of self.new ≡ flips_of self.old) }
+        ensures ok { OnOk result (table_of self.new
+            ≡ pivoted_at ordered_fractions (shape_of_table self.old) (table_of self.old) row column) }
+        ensures passed { MatchResult result
+            (λ _. pivot_spot ordered_fractions (passes S.MAX) (shape_of_table self.old) (table_of self.old) row column
+            ≡ None)
+            (λ e. pivot_spot ordered_fractions (passes S.MAX) (shape_of_table self.old) (table_of self.old) row column
+            ≡ Some e) }
+    {
+        pivot_block(
+            self.cells.as_mut_slice(),
+            self.marks.as_mut_slice(),
+            self.listed.as_mut_slice(),
+            self.rows,
+            row,
+            column,
+        )?;
+        self.basic[row] = column;
+        Ok(())
+    }
+
+    /// Sets the objective row to 0, its right side too.
+    pub fn clear_objective(&mut self)
+        ensures shape { shape_of_table self.new ≡ shape_of_table self.old }
+        ensures flips { flips_of self.new ≡ flips_of self.old }
+        ensures ok { table_of self.new
+            ≡ clear_objective ordered_fractions (shape_of_table self.old) (table_of self.old) }
+    {
+        clear_last(
+            self.cells.as_mut_slice(),
+            self.marks.as_mut_slice(),
+            self.rows,
+            self.listed.len(),
+        );
+    }
+
+    /// Sets the objective row to that of the factor: the row in which it is basic without its own cell, and where it
+    /// isn't basic -1 in its column alone.
+    pub fn set_factor_objective(&mut self)
+        requires { (shape_of_table self.old).factors ≡ 1 }
+        ensures shape { shape_of_table self.new ≡ shape_of_table self.old }
+        ensures flips { flips_of self.new ≡ flips_of self.old }
+        ensures ok { table_of self.new
+            ≡ set_factor_objective ordered_fractions (shape_of_table self.old) (table_of self.old) }
+    {
+        let row = row_with(self.basic.as_slice(), self.contacts);
+        set_last(
+            self.cells.as_mut_slice(),
+            self.marks.as_mut_slice(),
+            self.rows,
+            self.listed.len(),
+            self.contacts,
+            row,
+        );
     }
 }

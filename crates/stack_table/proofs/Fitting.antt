@@ -1,0 +1,221 @@
+-- What is 0 never passes, and what doesn't pass fits.
+use mathlib.Core.Path.{◌≡◌, refl, sym, ap, ◌∙◌}
+use mathlib.Core.Logic.{◌≢◌}
+use Prim.Native.Nat.{zero, suc, ◌/◌}
+use native.Mathlib.Omega.{arith}
+use lib.IntN.{ℤ, pos, negsuc, nat_abs, ◌+ℤ◌, ◌*ℤ◌}
+use Rattle.std.proofs.lemmas.Int.{ints}
+use Rattle.std.proofs.lemmas.Bool.{le-leb, leb-true}
+use Rattle.std.proofs.Math.Nat.{div-le_self}
+use Rattle.std.specs.Prelude.{Bool, true, false, not, ◌&&◌}
+use Rattle.stack_algebra.specs.Ordered.{Sign, minus, nought, plus, both, sign_of}
+use Rattle.stack_algebra.specs.Fraction.{Fraction, low_num, low_den}
+use Rattle.stack_algebra.specs.Gcd.{gcd}
+use Rattle.stack_algebra.proofs.Order.{◌≺◌, mul_pos}
+use Rattle.stack_algebra.proofs.Integers.{expand, sums}
+use Rattle.stack_algebra.proofs.CommonDivisor.{gcd-left, gcd-right, gcd-pos}
+use Rattle.stack_algebra.proofs.Fractions.{add, mul, neg, of, zero_mul, mul_comm, abs_signed, den_pos}
+use Rattle.stack_algebra.proofs.FractionField.{inv}
+use Rattle.stack_algebra.proofs.OrderedFractions.{ordered_fractions}
+use Rattle.stack_algebra.proofs.Over.{over, over-parts, over_own, add-common}
+use Rattle.stack_rational.specs.Stored.{Fits, SumFits}
+use Rattle.stack_rational.specs.declared.exact.Op.{Op}
+use Rattle.stack_rational.specs.declared.exact.Op.TheVariants.{Whole, Sum, Difference, Product, Quotient}
+use Rattle.stack_rational.specs.Order.{is_zero_whole}
+use Rattle.stack_rational.specs.Passes.{IsWidth, is_within, fits, sum_fits, passes, value_of, common_denominator, left_term, right_term}
+use Rattle.stack_rational.proofs.Crosswise.{exact-part, positive-part}
+use Rattle.stack_rational.proofs.Passing.{num_of, den_of}
+use Rattle.stack_rational.proofs.ShortCuts.{plus_zero, plus_zero_fits}
+use Rattle.stack_table.specs.Block.{is_zero}
+
+pub not-false : (b : Bool) → not b ≡ false → b ≡ true
+not-false true h = refl
+not-false false h = absurd cc
+
+left_of : (s t : Bool) → s && t ≡ true → s ≡ true
+left_of true t h = refl
+left_of false t h = absurd cc
+
+right_of : (s t : Bool) → s && t ≡ true → t ≡ true
+right_of true t h = h
+right_of false t h = absurd cc
+
+and : (s t : Bool) → s ≡ true → t ≡ true → s && t ≡ true
+and true t h k = k
+and false t h k = absurd cc
+
+-- zero
+is_zero_whole-sign : (z : ℤ) → is_zero_whole z ≡ true → sign_of z ≡ nought
+is_zero_whole-sign (pos zero) h = refl
+is_zero_whole-sign (pos (suc n)) h = absurd cc
+is_zero_whole-sign (negsuc n) h = absurd cc
+
+pub is_zero_whole-num : (z : ℤ) → is_zero_whole z ≡ true → z ≡ pos 0
+is_zero_whole-num (pos zero) h = refl
+is_zero_whole-num (pos (suc n)) h = absurd cc
+is_zero_whole-num (negsuc n) h = absurd cc
+
+pub zero_is : (x : Fraction) → is_zero x ≡ true → x ≡ of (pos 0)
+zero_is x h = ordered_fractions.zero_by_sign x (is_zero_whole-sign x.num h)
+
+pub is_zero-of : is_zero (of (pos 0)) ≡ true
+is_zero-of = ap is_zero_whole (num_of (pos 0))
+
+-- a quotient is 0 only where the number is
+not_nought : (z : ℤ) → is_zero_whole z ≡ false → sign_of z ≢ nought
+not_nought (pos zero) h e = cc
+not_nought (pos (suc n)) h e = cc
+not_nought (negsuc n) h e = cc
+
+is_zero_whole-not : (z : ℤ) → sign_of z ≢ nought → is_zero_whole z ≡ false
+is_zero_whole-not (pos zero) h = absurd (h refl)
+is_zero_whole-not (pos (suc n)) h = refl
+is_zero_whole-not (negsuc n) h = refl
+
+both-not : (s t : Sign) → s ≢ nought → t ≢ nought → both s t ≢ nought
+both-not minus minus h k e = cc
+both-not minus nought h k e = k refl
+both-not minus plus h k e = cc
+both-not nought t h k e = h refl
+both-not plus t h k e = k e
+
+pub sign-not : (z : ℤ) → z ≢ pos 0 → sign_of z ≢ nought
+sign-not (pos zero) h e = h refl
+sign-not (pos (suc n)) h e = cc
+sign-not (negsuc n) h e = cc
+
+inv-not : (y : Fraction) → sign_of y.num ≢ nought → sign_of (inv y).num ≢ nought
+inv-not y h e = go (ordered_fractions.sign-mul (inv y) y) (ap ordered_fractions.sign (ordered_fractions.inv-mul y h) ∙ ordered_fractions.sign-one)
+  where
+    go : sign_of (mul (inv y) y).num ≡ both (sign_of (inv y).num) (sign_of y.num) → sign_of (mul (inv y) y).num ≡ plus → ⊥
+    go p q = let r : plus ≡ nought = sym q ∙ p ∙ ap (λ s. both s (sign_of y.num)) e in cc
+
+pub quotient_not-zero : (x y : Fraction) → is_zero x ≡ false → y.num ≢ pos 0 → is_zero (mul (inv y) x) ≡ false
+quotient_not-zero x y h k = is_zero_whole-not (mul (inv y) x).num
+    (λ e. both-not (sign_of (inv y).num) (sign_of x.num) (inv-not y (sign-not y.num k)) (not_nought x.num h)
+    (sym (ordered_fractions.sign-mul (inv y) x) ∙ e))
+
+-- what fits, as a record
+pub Fits-of : (m : ℤ) (x : Fraction) → fits m x ≡ true → Fits m x
+Fits-of m x h = record {
+  num = leb-true (nat_abs x.num) (nat_abs m) (left_of _ _ h);
+  den = leb-true x.den (nat_abs m) (right_of _ _ h);
+}
+
+fits-of : (m : ℤ) (x : Fraction) → Fits m x → fits m x ≡ true
+fits-of m x f = and _ _ (le-leb (nat_abs x.num) (nat_abs m) f.num) (le-leb x.den (nat_abs m) f.den)
+
+pub sum_fits-of : (m : ℤ) (x y : Fraction) → SumFits m x y → sum_fits m x y ≡ true
+sum_fits-of m x y f = and _ _ (and _ _ (and _ _ (le-leb _ (nat_abs m) f.den) (le-leb _ (nat_abs m) f.left))
+    (le-leb _ (nat_abs m) f.right)) (le-leb _ (nat_abs m) f.total)
+
+module _ (m : ℤ) (w : IsWidth m) where
+  pub zero_fits : fits m (of (pos 0)) ≡ true
+  zero_fits = fits-of m (of (pos 0)) (record {
+    num = omega (arith, ap nat_abs (num_of (pos 0)));
+    den = omega (arith, ints, den_of (pos 0), w.some);
+  })
+
+  pub quotient_of_zero : (x y : Fraction) → is_zero x ≡ true → (mul (inv y) x ≡ x) × (passes m Quotient x y ≡ false)
+  quotient_of_zero x y h = (e ∙ sym (zero_is x h), ap not (ap (fits m) e ∙ zero_fits))
+    where
+      e : mul (inv y) x ≡ of (pos 0)
+      e = ap (mul (inv y)) (zero_is x h) ∙ mul_comm (inv y) (of (pos 0)) ∙ zero_mul (inv y)
+
+  pub product_of_zero : (x y : Fraction) → mul x y ≡ of (pos 0) → passes m Product x y ≡ false
+  product_of_zero x y e = ap not (ap (fits m) e ∙ zero_fits)
+
+  pub difference_of_zero : (x y : Fraction) → fits m x ≡ true → y ≡ of (pos 0) →
+      (add x (neg y) ≡ x) × (passes m Difference x y ≡ false)
+  difference_of_zero x y f h = (sym (plus_zero x (neg y) none), ap not (sum_fits-of m x (neg y) (plus_zero_fits m x (neg y) (Fits-of m x f) none)))
+    where
+      none : (neg y).num ≡ pos 0
+      none = is_zero_whole-num (neg y).num (ap is_zero_whole (ap (λ (z : Fraction). (neg z).num) h) ∙ at_zero)
+        where
+          nought_is : (z : ℤ) → sign_of z ≡ nought → is_zero_whole z ≡ true
+          nought_is (pos zero) e = refl
+          nought_is (pos (suc n)) e = absurd cc
+          nought_is (negsuc n) e = absurd cc
+
+          at_zero : is_zero_whole (neg (of (pos 0))).num ≡ true
+          at_zero = nought_is (neg (of (pos 0))).num (ordered_fractions.sign-neg (of (pos 0))
+              ∙ (λ i. opposite_of (ordered_fractions.sign-zero i)))
+            where
+              opposite_of : Sign → Sign
+              opposite_of minus = plus
+              opposite_of nought = nought
+              opposite_of plus = minus
+
+-- the reduced fraction is no greater than its parts
+over_fits : (m z d : ℤ) → pos 0 ≺ d → is_within m z ≡ true → is_within m d ≡ true → fits m (over z d) ≡ true
+over_fits m z d l hz hd = fits-of m (over z d) (record {
+  num = omega (arith, ap nat_abs p.0, abs_signed z (nat_abs z / gcd (nat_abs z) (nat_abs d)), div-le_self (nat_abs z) (gcd (nat_abs z) (nat_abs d)), leb-true (nat_abs z) (nat_abs m) hz);
+  den = omega (arith, p.1, div-le_self (nat_abs d) (gcd (nat_abs z) (nat_abs d)), leb-true (nat_abs d) (nat_abs m) hd);
+})
+  where
+    p : ((over z d).num ≡ low_num z (nat_abs d)) × ((over z d).den ≡ low_den z (nat_abs d))
+    p = over-parts z d l
+
+-- a sum that doesn't pass fits
+sum_is : (x y : Fraction) → add x y ≡ over (left_term x y +ℤ right_term x y) (common_denominator x y)
+sum_is x y = (λ i. add (own x b eb i) (own y e ee i)) ∙ add-common x.num b y.num e g hg hb he
+    ∙ ap (over (left_term x y +ℤ right_term x y)) (turned g b e ∙ ap (λ t. b *ℤ t) ee)
+  where
+    g : ℤ
+    g = pos (gcd x.den y.den)
+
+    b : ℤ
+    b = pos (x.den / gcd x.den y.den)
+
+    e : ℤ
+    e = pos (y.den / gcd x.den y.den)
+
+    eb : g *ℤ b ≡ pos x.den
+    eb = exact-part (pos x.den) (gcd x.den y.den) (gcd-left x.den y.den)
+
+    ee : g *ℤ e ≡ pos y.den
+    ee = exact-part (pos y.den) (gcd x.den y.den) (gcd-right x.den y.den)
+
+    hg : pos 0 ≺ g
+    hg = omega (arith, ints, gcd-pos x.den y.den y.positive)
+
+    hb : pos 0 ≺ b
+    hb = positive-part (pos x.den) (gcd x.den y.den) (den_pos x) (gcd-left x.den y.den)
+
+    he : pos 0 ≺ e
+    he = positive-part (pos y.den) (gcd x.den y.den) (den_pos y) (gcd-right x.den y.den)
+
+    own : (z : Fraction) (p : ℤ) → g *ℤ p ≡ pos z.den → z ≡ over z.num (g *ℤ p)
+    own z p h = sym (ap (over z.num) h ∙ over_own z)
+
+    turned : (g b e : ℤ) → g *ℤ b *ℤ e ≡ b *ℤ (g *ℤ e)
+    turned g b e = simp expand (omega (arith, sums))
+
+sum_answers : (m : ℤ) (x y : Fraction) → sum_fits m x y ≡ true → fits m (add x y) ≡ true
+sum_answers m x y h = ap (fits m) (sum_is x y)
+    ∙ over_fits m (left_term x y +ℤ right_term x y) (common_denominator x y) positive (right_of _ _ h)
+    (left_of _ _ (left_of _ _ (left_of _ _ h)))
+  where
+    positive : pos 0 ≺ common_denominator x y
+    positive = mul_pos (pos (x.den / gcd x.den y.den)) (pos y.den)
+        (positive-part (pos x.den) (gcd x.den y.den) (den_pos x) (gcd-left x.den y.den)) (den_pos y)
+
+-- the answer of an operation that doesn't pass fits
+pub answer_fits : (m : ℤ) (op : Op) (x y : Fraction) → fits m x ≡ true → passes m op x y ≡ false →
+    fits m (value_of op x y) ≡ true
+answer_fits m Whole x y f h = f
+answer_fits m Sum x y f h = sum_answers m x y (not-false _ h)
+answer_fits m Difference x y f h = sum_answers m x (neg y) (not-false _ h)
+answer_fits m Product x y f h = not-false _ h
+answer_fits m Quotient x y f h = not-false _ h
+
+-- whole numbers
+pub whole_zero : (m : ℤ) → IsWidth m → passes m Whole (of (pos 0)) (of (pos 0)) ≡ false
+whole_zero m w = ap not (left_of _ _ (zero_fits m w))
+
+pub whole_answers : (m : ℤ) → IsWidth m → (n : ℤ) → passes m Whole (of n) (of n) ≡ false → fits m (of n) ≡ true
+whole_answers m w n h = and _ _ (not-false _ h) (le-leb (of n).den (nat_abs m) (omega (arith, ints, den_of n, w.some)))
+
+-- -1 never passes
+pub minus_one-fits : (m : ℤ) → IsWidth m → passes m Whole (of (negsuc 0)) (of (negsuc 0)) ≡ false
+minus_one-fits m w = ap not (le-leb (nat_abs (of (negsuc 0)).num) (nat_abs m) (omega (arith, ints, ap nat_abs (num_of (negsuc 0)), w.some)))
