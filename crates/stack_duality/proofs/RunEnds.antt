@@ -79,7 +79,7 @@ module _ (F : Ordered) (S : Shape) (A : ℕ → ℕ → F.C) where
         at_spot left c (Some s) k = tt
         at_spot left c None k = k
 
-        at_column : w ≤ T.basic r → (left : ℕ) (o : Option ℕ) → driven_column F S passes T r ≡ o →
+        at_column : w ≤ T.basic r → (left : ℕ) (o : Option ℕ) → driven_column F S T r ≡ o →
             Settled (Second F S A (suc r)) (drive_at F S passes left done T r o)
         at_column b left None e = second_skips F S A T r
             (λ j _ lj. F.zero_by_sign _ (sign-nought _
@@ -92,9 +92,9 @@ module _ (F : Ordered) (S : Shape) (A : ℕ → ℕ → F.C) where
 
         go : (b : Bool) → leb w (T.basic r) ≡ b →
             Settled (Second F S A (suc r))
-            (cond b (drive_at F S passes left done T r (driven_column F S passes T r))
+            (cond b (drive_at F S passes left done T r (driven_column F S T r))
             (settled left done T))
-        go true e = at_column (leb-true _ _ e) left (driven_column F S passes T r) refl
+        go true e = at_column (leb-true _ _ e) left (driven_column F S T r) refl
         go false e = second_skips F S A T r (λ j b _. absurd (let p = leb-false _ _ e in omega arith)) h
 
     pub drives_keep : (k : ℕ) → k ≤ m → (left done : ℕ) (T : Tabled F.C) → Second F S A 0 T →
@@ -120,7 +120,7 @@ module _ (F : Ordered) (S : Shape) (A : ℕ → ℕ → F.C) where
     }
 
     third_gives : FirstRows F m w A → S.contacts < w → Stands F m w n A S.contacts → (x : Stop F.C) →
-        Stopped F S (IsThird F S A) w x → EndOverRows (third_end F S passes x)
+        Stopped F S (IsThird F S A) w x → EndOverRows (third_end x)
     third_gives a lg z (settled left done T) h = record {
       raised = raised_at lg z T h.0;
       bounds = optimal_bounds F m w A T.cell T.basic S.contacts lg h.0.tableau a
@@ -138,7 +138,7 @@ module _ (F : Ordered) (S : Shape) (A : ℕ → ℕ → F.C) where
 
     after_second : FirstRows F m w A → S.contacts < w → Stands F m w n A S.contacts → (x : Stop F.C) →
         Settled (Second F S A m) x → EndOverRows
-        (third_end F S passes (after x (λ l d U. turns F S passes 3 w l d (set_factor_objective F S U))))
+        (third_end (after x (λ l d U. turns F S passes 3 w l d (set_factor_objective F S U))))
     after_second a lg z (settled left done T) h =
         third_gives a lg z _ (turns_keep F S passes (IsThird F S A) 3 w (third_step F S A) left done
         (set_factor_objective F S T)

@@ -16,8 +16,8 @@ module _ (F : Ordered) (S : Shape) (passes : Op → F.C → F.C → Bool) where
 
   choice_by : (T : Tabled F.C) (among c : ℕ) (i r : Option ℕ) → entering F S T among ≡ Some c →
       ratio_row F S passes T c ≡ i → leaving F S T c ≡ r →
-      choose F S passes T among ≡ chosen_at F S passes c i r
-  choice_by T among c i r e p q = choose_by T among (Some c) e ∙ (λ z. chosen_at F S passes c (p z) (q z))
+      choose F S passes T among ≡ chosen_at c i r
+  choice_by T among c i r e p q = choose_by T among (Some c) e ∙ (λ z. chosen_at c (p z) (q z))
 
   -- what a phase does after a pivot
   abbrev goes_on : (phase among left done : ℕ) → Tabled F.C → ℕ → ℕ → Stop F.C
@@ -86,24 +86,24 @@ module _ (F : Ordered) (S : Shape) (passes : Op → F.C → F.C → Bool) where
     pub row_stays : (left done : ℕ) → leb (plain S) (T.basic i) ≡ false →
         drive_row F S passes left done T i ≡ settled left done T
     row_stays left done e =
-        ap (λ b. cond b (drive_at F S passes left done T i (driven_column F S passes T i))
+        ap (λ b. cond b (drive_at F S passes left done T i (driven_column F S T i))
         (settled left done T)) e
 
     artificial_row : (left done : ℕ) (o : Option ℕ) → leb (plain S) (T.basic i) ≡ true →
-        driven_column F S passes T i ≡ o → drive_row F S passes left done T i
+        driven_column F S T i ≡ o → drive_row F S passes left done T i
         ≡ drive_at F S passes left done T i o
     artificial_row left done o e d =
-        ap (λ b. cond b (drive_at F S passes left done T i (driven_column F S passes T i))
+        ap (λ b. cond b (drive_at F S passes left done T i (driven_column F S T i))
         (settled left done T)) e
         ∙ ap (drive_at F S passes left done T i) d
 
     -- no column of it has a cell that isn't 0
-    pub row_left : (left done : ℕ) → leb (plain S) (T.basic i) ≡ true → driven_column F S passes T i ≡ None →
+    pub row_left : (left done : ℕ) → leb (plain S) (T.basic i) ≡ true → driven_column F S T i ≡ None →
         drive_row F S passes left done T i ≡ settled left done T
     row_left left done e d = artificial_row left done None e d
 
     -- a pivot is due
-    module _ (c : ℕ) (artificial : leb (plain S) (T.basic i) ≡ true) (column : driven_column F S passes T i
+    module _ (c : ℕ) (artificial : leb (plain S) (T.basic i) ≡ true) (column : driven_column F S T i
         ≡ Some c)
       where
         pub row_spent : (left done : ℕ) → left ≡ 0 → drive_row F S passes left done T i ≡ spent

@@ -36,7 +36,7 @@ module _ (F : Ordered) (S : Shape) where
 
 module _ (F : Ordered) (S : Shape) (passes : Op → F.C → F.C → Bool) where
   says_at : (T : Tabled F.C) (among c : ℕ) → IsLeast among (λ j. is_minus (F.sign (objective F S T j))) c →
-      (x y : Option ℕ) → leaving F S T c ≡ y → Chosen F S T among (chosen_at F S passes c x y)
+      (x y : Option ℕ) → leaving F S T c ≡ y → Chosen F S T among (chosen_at c x y)
   says_at T among c h (Some i) y e = tt
   says_at T among c h None None e = record {
     enters = h;

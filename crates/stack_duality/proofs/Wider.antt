@@ -101,10 +101,10 @@ module _ (F : Ordered) (S : Shape) (narrow broad : Op → F.C → F.C → Bool)
 
   -- choices
   chosen_at-same : (c : ℕ) (i i' r : Option ℕ) → SameSpot i i' →
-      SameChoice (chosen_at F S narrow c i r) (chosen_at F S broad c i' r)
+      SameChoice (chosen_at c i r) (chosen_at c i' r)
   chosen_at-same c (Some i) i' r h = tt
-  chosen_at-same c None i' None h = ap (λ i. chosen_at F S broad c i None) h
-  chosen_at-same c None i' (Some r) h = ap (λ i. chosen_at F S broad c i (Some r)) h
+  chosen_at-same c None i' None h = ap (λ i. chosen_at c i None) h
+  chosen_at-same c None i' (Some r) h = ap (λ i. chosen_at c i (Some r)) h
 
   choose-same : (T : Tabled F.C) (among : ℕ) → SameChoice (choose F S narrow T among) (choose F S broad T among)
   choose-same T among = go (entering F S T among)
@@ -159,9 +159,9 @@ module _ (F : Ordered) (S : Shape) (narrow broad : Op → F.C → F.C → Bool)
   drive_row-same left done T i = go (leb (plain S) (T.basic i))
     where
       go : (b : Bool) → SameStop
-          (cond b (drive_at F S narrow left done T i (driven_column F S narrow T i)) (settled left done T))
-          (cond b (drive_at F S broad left done T i (driven_column F S broad T i)) (settled left done T))
-      go true = drive_at-same left done T i (driven_column F S narrow T i)
+          (cond b (drive_at F S narrow left done T i (driven_column F S T i)) (settled left done T))
+          (cond b (drive_at F S broad left done T i (driven_column F S T i)) (settled left done T))
+      go true = drive_at-same left done T i (driven_column F S T i)
       go false = refl
 
   after-same : (x y : Stop F.C) (next next' : ℕ → ℕ → Tabled F.C → Stop F.C) → SameStop x y →
@@ -179,11 +179,11 @@ module _ (F : Ordered) (S : Shape) (narrow broad : Op → F.C → F.C → Bool)
       after-same _ _ _ _ (drives-same n left done T) (λ l d U. drive_row-same l d U n)
 
   -- ends
-  third_end-same : (x y : Stop F.C) → SameStop x y → SameEnd (third_end F S narrow x) (third_end F S broad y)
+  third_end-same : (x y : Stop F.C) → SameStop x y → SameEnd (third_end x) (third_end y)
   third_end-same (passing p k s) y h = tt
-  third_end-same (settled l d T) y h = ap (third_end F S broad) h
-  third_end-same (unlimited T c) y h = ap (third_end F S broad) h
-  third_end-same spent y h = ap (third_end F S broad) h
+  third_end-same (settled l d T) y h = ap (third_end) h
+  third_end-same (unlimited T c) y h = ap (third_end) h
+  third_end-same spent y h = ap (third_end) h
 
   past_first-same : (left done : ℕ) (T : Tabled F.C) (k : ℕ) →
       SameEnd (past_first F S narrow left done T k) (past_first F S broad left done T k)

@@ -55,12 +55,26 @@ on_choice phase left done T pivot (rises c) = unlimited T c
 on_choice phase left done T pivot (due r c) = pivot r c
 on_choice phase left done T pivot (refused s) = passing phase (suc done) s
 
-module _ (F : Ordered) (S : Shape) (passes : Op → F.C → F.C → Bool) where
-  abbrev pub chosen_at : ℕ → Option ℕ → Option ℕ → Choice
-  chosen_at c (Some i) r = refused (record { row = i; column = c; step = Ratio })
-  chosen_at c None None = rises c
-  chosen_at c None (Some r) = due r c
+-- the choice with the entering column c, by the row whose ratio passes and by the row that leaves
+abbrev pub chosen_at : (c : ℕ) → Option ℕ → Option ℕ → Choice
+chosen_at c (Some i) r = refused (record { row = i; column = c; step = Ratio })
+chosen_at c None None = rises c
+chosen_at c None (Some r) = due r c
 
+-- the end of a run that comes to phase 3
+abbrev pub third_end : {C : Type 0} → Stop C → End C
+third_end (settled left done T) = optimal T
+third_end (unlimited T c) = ray T c
+third_end (passing p k s) = wide p k s
+third_end spent = over
+
+module _ (F : Ordered) (S : Shape) where
+  -- the least column before the artificial ones with a cell that isn't 0 in row i
+  abbrev pub driven_column : Tabled F.C → ℕ → Option ℕ
+  driven_column T i = least (plain S) (λ j. not (is_nought (F.sign (T.cell i j))))
+
+module _ (F : Ordered) (S : Shape) (passes : Op → F.C → F.C → Bool) where
+  -- by the entering column
   abbrev pub chosen_in : Tabled F.C → Option ℕ → Choice
   chosen_in T None = stays
   chosen_in T (Some c) = chosen_at c (ratio_row F S passes T c) (leaving F S T c)
@@ -77,10 +91,6 @@ module _ (F : Ordered) (S : Shape) (passes : Op → F.C → F.C → Bool) where
       (pivot_spot F passes S T r c))
       (choose T among)
 
-  -- the least column before the artificial ones with a cell that isn't 0 in row i
-  abbrev pub driven_column : Tabled F.C → ℕ → Option ℕ
-  driven_column T i = least (plain S) (λ j. not (is_nought (F.sign (T.cell i j))))
-
   -- phase 2 at a row whose basic column is artificial
   abbrev pub drive_at : (left done : ℕ) → Tabled F.C → ℕ → Option ℕ → Stop F.C
   drive_at left done T i None = settled left done T
@@ -90,20 +100,13 @@ module _ (F : Ordered) (S : Shape) (passes : Op → F.C → F.C → Bool) where
 
   -- phase 2 at row i
   abbrev pub drive_row : (left done : ℕ) → Tabled F.C → ℕ → Stop F.C
-  drive_row left done T i = cond (leb (plain S) (T.basic i)) (drive_at left done T i (driven_column T i))
+  drive_row left done T i = cond (leb (plain S) (T.basic i)) (drive_at left done T i (driven_column F S T i))
       (settled left done T)
 
   -- phase 2 at the rows below n
   abbrev pub drives : ℕ → (left done : ℕ) → Tabled F.C → Stop F.C
   drives zero left done T = settled left done T
   drives (suc n) left done T = after (drives n left done T) (λ l d U. drive_row l d U n)
-
-  -- the end of a run that comes to phase 3
-  abbrev pub third_end : Stop F.C → End F.C
-  third_end (settled left done T) = optimal T
-  third_end (unlimited T c) = ray T c
-  third_end (passing p k s) = wide p k s
-  third_end spent = over
 
   -- phases 2 and 3
   abbrev pub raise : (left done : ℕ) → Tabled F.C → Stop F.C

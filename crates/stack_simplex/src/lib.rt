@@ -1,0 +1,10 @@
+//! The simplex run over exact numbers: three phases from a written table to one of four ends.
+#![tactic(auto)]
+
+mod ended;
+mod pivots;
+mod refusal;
+mod turn;
+
+pub use ended::Ended;
+pub use refusal::{Place, RunError};
