@@ -1,2 +1,3 @@
 mod Choices
 mod Turns
+mod SecondPhase

@@ -43,3 +43,8 @@ turn_answer max S phase among T (Err e) = refusal_of e
 abbrev pub HasFewer : Pivots → Turn → Type 0
 HasFewer before (Stops x) = ⊤
 HasFewer before (GoesOn k) = k.left < before.left
+
+-- and that of phase 2
+abbrev pub pivots_answer : Tabled Fraction → Result Pivots RunError → Stop Fraction
+pivots_answer T (Ok k) = settled k.left k.done T
+pivots_answer T (Err e) = refusal_of e

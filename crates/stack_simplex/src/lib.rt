@@ -4,6 +4,7 @@
 mod ended;
 mod pivots;
 mod refusal;
+mod second_phase;
 mod turn;
 
 pub use ended::Ended;
