@@ -1,3 +1,4 @@
 mod Choices
 mod Turns
 mod SecondPhase
+mod RunPhases
