@@ -3,6 +3,8 @@ pub mod Order
 pub mod Ring
 pub mod IntegerRing
 pub mod Sums
+pub mod Listed
+pub mod Indices
 pub mod CrossProducts
 pub mod CommonDivisor
 pub mod Fractions

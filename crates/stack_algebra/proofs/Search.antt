@@ -1,8 +1,8 @@
 -- What the least index and the first item are, searches with evidence, and the index after another round a
 -- list.
-use Rattle.std.proofs.Common.{◌≡◌, ◌≢◌, refl, sym, ap, subst, ◌∙◌, ℕ, zero, suc, ◌<◌, ◌≤◌, Bool, true, false, cond, Option, Some, None, arith}
+use Rattle.std.proofs.Common.{◌≡◌, ◌≢◌, refl, sym, ap, subst, ◌∙◌, ℕ, zero, suc, ◌<◌, ◌≤◌, ◌+◌, Bool, true, false, cond, Option, Some, None, arith, add-one}
 use mathlib.Core.Logic.{◌⊎◌, inl, inr}
-use native.Mathlib.Decide.{ℕ_discrete}
+use native.Mathlib.Decide.{ℕ_discrete, dec_lt}
 use lib.Dec.{T, eqb, eqb→eq, eqb_refl}
 pub use Rattle.stack_algebra.specs.Search.{least, first, or_else, only_if, SomeBelow, AllBelow, next_round}
 
@@ -54,11 +54,47 @@ first_found (suc n) i f p l h e = go (ℕ_discrete i n) (first_found n i f p)
     go (yes d) r = ap (λ k. or_else (first k f) (f k)) (sym d) ∙ ap (λ o. or_else o (f i)) h ∙ e
     go (no d) r = ap (λ o. or_else o (f n)) (r (omega arith) h e)
 
-only_if-none : {P : Type 0} (b : Bool) (x : P) → only_if b x ≡ None → b ≡ false
+-- neither of two
+pub or_none : {P : Type 0} (a b : Option P) → or_else a b ≡ None → (a ≡ None) × (b ≡ None)
+or_none None b h = (refl, h)
+or_none (Some p) b h = absurd cc
+
+-- the first of equal items
+pub first_same : {P : Type 0} (n : ℕ) (f g : ℕ → Option P) → ((i : ℕ) → i < n → f i ≡ g i) →
+    first n f ≡ first n g
+first_same zero f g h = refl
+first_same (suc n) f g h = λ z. or_else (first_same n f g (λ i l. h i (omega (arith, l))) z) (h n (omega arith) z)
+
+-- as a loop goes on by one, and over a gap
+pub first_more : {P : Type 0} (i : ℕ) (f : ℕ → Option P) → first i f ≡ None → f i ≡ None →
+    first (i + 1) f ≡ None
+first_more i f h k = ap (λ n. first n f) (add-one i) ∙ ap (λ o. or_else o (f i)) h ∙ k
+
+pub first_over : {P : Type 0} (a b : ℕ) (f : ℕ → Option P) → first a f ≡ None →
+    ((i : ℕ) → a ≤ i → i < b → f i ≡ None) → first b f ≡ None
+first_over a b f h k = first_all-none b f (λ i l. go i l (dec_lt i a))
+  where
+    go : (i : ℕ) → i < b → Dec (i < a) → f i ≡ None
+    go i l (yes d) = first-none a f h i d
+    go i l (no d) = k i (omega (arith, d)) l
+
+-- of two stretches where the first has none, and one that was found earlier
+pub first_join : {P : Type 0} (a b : ℕ) (f : ℕ → Option P) → first a f ≡ None →
+    first (a + b) f ≡ first b (λ k. f (a + k))
+first_join a zero f h = let e : a + 0 ≡ a = omega arith in ap (λ n. first n f) e ∙ h
+first_join a (suc b) f h = let e : a + suc b ≡ suc (a + b) = omega arith in
+    ap (λ n. first n f) e ∙ ap (λ o. or_else o (f (a + b))) (first_join a b f h)
+
+pub first_further : {P : Type 0} (a n : ℕ) (f : ℕ → Option P) (p : P) → a ≤ n → first a f ≡ Some p →
+    first n f ≡ Some p
+first_further a n f p l h = let s = first-some a f p h in
+    first_found n s.index f p (omega (arith, s.below, l)) s.none_before s.item
+
+pub only_if-none : {P : Type 0} (b : Bool) (x : P) → only_if b x ≡ None → b ≡ false
 only_if-none true x e = absurd cc
 only_if-none false x e = refl
 
-only_if-some : {P : Type 0} (b : Bool) (x y : P) → only_if b x ≡ Some y → (b ≡ true) × (x ≡ y)
+pub only_if-some : {P : Type 0} (b : Bool) (x y : P) → only_if b x ≡ Some y → (b ≡ true) × (x ≡ y)
 only_if-some true x y e = (refl, cc)
 only_if-some false x y e = absurd cc
 

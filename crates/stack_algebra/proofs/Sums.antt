@@ -114,6 +114,14 @@ module _ (R : Ring) where
   sum-first (suc n) f = ap (λ z. R.add z (f (suc n))) (sum-first n f)
       ∙ R.add_assoc (f 0) (sum R n (λ i. f (suc i))) (f (suc n))
 
+  -- the first w terms, and the m after them
+  pub sum_plus : (w m : ℕ) (f : ℕ → R.C) → sum R (w + m) f ≡ R.add (sum R w f) (sum R m (λ k. f (w + k)))
+  sum_plus w zero f = let e : w + zero ≡ w = omega arith in
+      ap (λ k. sum R k f) e ∙ sym (add-zero R (sum R w f))
+  sum_plus w (suc m) f = let e : w + suc m ≡ suc (w + m) = omega arith in
+      ap (λ k. sum R k f) e ∙ ap (λ z. R.add z (f (w + m))) (sum_plus w m f)
+      ∙ R.add_assoc (sum R w f) (sum R m (λ k. f (w + k))) (f (w + m))
+
   -- as a loop adds a term
   pub sum_more : (n : ℕ) (f : ℕ → R.C) → sum R (n + 1) f ≡ R.add (sum R n f) (f n)
   sum_more n f = ap (λ k. sum R k f) (add-one n)

@@ -2,7 +2,7 @@
 use mathlib.Core.Path.{◌≡◌}
 use mathlib.Core.Logic.{◌≢◌}
 use mathlib.Core.List.{List}
-use Prim.Native.Nat.{ℕ, ◌<◌}
+use Prim.Native.Nat.{ℕ, ◌<◌, ◌+◌, ◌*◌}
 use lib.ListN.{length, get_or}
 use lib.IntN.{ℤ, pos, negsuc, ◌+ℤ◌, ◌*ℤ◌, neg_ℤ}
 use Rattle.std.specs.Int.{IsGcd}
@@ -66,6 +66,10 @@ pub record SumLaws : Type 0 where
       ≡ sum_to m (λ j. sum_to n (λ i. f i j))
   pub over-index : (f : ℤ → ℤ) (xs : List ℤ) (d : ℤ) → sum_of f xs
       ≡ sum_to (length xs) (λ i. f (get_or xs i d))
+  pub sum_plus : (w m : ℕ) (f : ℕ → ℤ) → sum_to (w + m) f ≡ sum_to w f +ℤ sum_to m (λ k. f (w + k))
+  pub sum_pairs : (n : ℕ) (f : ℕ → ℤ) → sum_to (2 * n) f ≡ sum_to n (λ k. f (2 * k) +ℤ f (2 * k + 1))
+  pub sum_threes : (n : ℕ) (f : ℕ → ℤ) → sum_to (3 * n) f
+      ≡ sum_to n (λ k. f (3 * k) +ℤ f (3 * k + 1) +ℤ f (3 * k + 2))
 
 -- the greatest common divisor divides both, and each common divisor divides it
 abbrev pub GcdIsGreatest : Type 0

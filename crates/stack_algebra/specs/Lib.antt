@@ -3,6 +3,7 @@ pub mod Ring
 pub mod Ordered
 pub mod Polynomial
 pub mod Sums
+pub mod Listed
 pub mod Gcd
 pub mod Fraction
 pub mod Rows

@@ -1,11 +1,12 @@
 //! Bland's choices: the entering column and the leaving row.
+//!
+//! After Bland (1977): of the columns that may enter, and of the rows that may leave, the least is taken, so that
+//! no basis comes twice. No call takes memory.
 #![tactic(auto)]
 
-ghost use Rattle.std.specs.Prelude.{◌≡◌};
-ghost use Rattle.stack_bland.specs.Choice.{entering, leaving, ratio_row, is_nought};
+mod entering_column;
+mod leaving_row;
+mod signs;
 
-/// The first row with a positive cell whose ratio passes.
-#[derive(Clone, Copy, Debug, PartialEq, Eq, Drop)]
-pub struct RatioWide {
-    pub row: usize,
-}
+pub use entering_column::entering;
+pub use leaving_row::{RatioWide, leaving};

@@ -7,7 +7,8 @@ use Rattle.std.proofs.lemmas.Fmt.{decimal_by_steps_wide}
 use Rattle.std.proofs.lemmas.List.Folds.{list_all-append}
 use Rattle.std.proofs.lemmas.Bool.Decides.{nat_tests}
 use Rattle.std.proofs.lemmas.Bool.{and_parts}
-use Rattle.stack_certificate.specs.Numbers.{IsSmall, IsNumber}
+use Rattle.stack_whole.specs.Whole.{IsFitting}
+use Rattle.stack_certificate.specs.Numbers.{IsNumber}
 use Rattle.stack_certificate.specs.Lines.{lacks, two_text, IsTwo, IsThree}
 
 lacks_digit : (c n : ℕ) → c < 45 → lacks c ((48 + n) ∷ []) ≡ true
@@ -22,7 +23,7 @@ lacks_decimal c n h small = decimal_by_steps_wide (λ n ds. lacks c ds ≡ true)
 lacks_more : (c b : ℕ) (bs : List ℕ) → c < b → lacks c bs ≡ true → lacks c (b ∷ bs) ≡ true
 lacks_more c b bs lt h = grind (arith, nat_tests)
 
-pub lacks_number : (c : ℕ) (z : ℤ) → c < 45 → IsSmall z → lacks c (signed_decimal z) ≡ true
+pub lacks_number : (c : ℕ) (z : ℤ) → c < 45 → IsFitting z → lacks c (signed_decimal z) ≡ true
 lacks_number c (pos n) h small = lacks_decimal c n h (omega arith)
 lacks_number c (negsuc n) h small =
     lacks_more c 45 (decimal (suc n)) h (lacks_decimal c (suc n) h (omega arith))

@@ -9,7 +9,7 @@ use lib.ListN.{get_or-append}
 use Rattle.std.proofs.lemmas.Str.{digit_value_digit}
 use Rattle.std.proofs.lemmas.Str.Parse.{IsNumeralModel, numerals_by_fold, digit_from_value}
 use Rattle.stack_certificate.specs.Digits.{AreDigits, value_after, IsNatural, IsWritten}
-use Rattle.stack_certificate.specs.Numbers.{IsSmall}
+use Rattle.stack_whole.specs.Whole.{IsFitting}
 
 ours : IsNumeralModel AreDigits (value_after 0)
 ours = numerals_by_fold _ (search rules) value_after (search rules)
@@ -75,10 +75,10 @@ decimal_natural n small =
     }
 
 -- bytes that write a number are its spelling, and its spelling writes it
-pub written : (z : ℤ) (bytes : List ℕ) → IsSmall z → IsWritten z bytes → bytes ≡ signed_decimal z
+pub written : (z : ℤ) (bytes : List ℕ) → IsFitting z → IsWritten z bytes → bytes ≡ signed_decimal z
 written (pos n) bytes small is = natural n bytes small is
 written (negsuc n) bytes small is = is.1 ∙ ap (λ ds. 45 ∷ ds) (natural (suc n) is.0 small is.2)
 
-pub spelling_written : (z : ℤ) → IsSmall z → IsWritten z (signed_decimal z)
+pub spelling_written : (z : ℤ) → IsFitting z → IsWritten z (signed_decimal z)
 spelling_written (pos n) small = decimal_natural n small
 spelling_written (negsuc n) small = (decimal (suc n), refl, decimal_natural (suc n) small)

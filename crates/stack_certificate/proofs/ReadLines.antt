@@ -13,7 +13,8 @@ use Rattle.std.proofs.lemmas.Bool.Decides.{nat_tests}
 use Rattle.stack_certificate.specs.declared.line.Form.TheVariants.{Stands, Collapses, Greatest, Unbounded}
 use Rattle.stack_certificate.specs.declared.line.Line.{Line}
 use Rattle.stack_certificate.specs.declared.line.Line.TheVariants as lines
-use Rattle.stack_certificate.specs.Numbers.{IsSmall, is_small, value_of}
+use Rattle.stack_whole.specs.Whole.{IsFitting, fits}
+use Rattle.stack_certificate.specs.Numbers.{value_of}
 use Rattle.stack_certificate.specs.Lines.{lacks, two_text, three_text, body_text, line_text, LineFits, IsLine}
 use Rattle.stack_certificate.specs.LineOf.{line_fits, before, behind, two_to, three_to, line_with, likely_line, line_of}
 use Rattle.stack_certificate.proofs.CutLines.{lacks_number}
@@ -38,7 +39,7 @@ value_plain : (bs : List ℕ) (n : ℕ) → digits_value 10 bs ≡ n → (get_or
 value_plain [] n is no_sign = ap pos is
 value_plain (b ∷ bs) n is no_sign = let h : (b == 45) ≡ false = grind (arith, nat_tests) in rw h (ap pos is)
 
-value_spelled : (z : ℤ) → IsSmall z → value_of (signed_decimal z) ≡ z
+value_spelled : (z : ℤ) → IsFitting z → value_of (signed_decimal z) ≡ z
 value_spelled (pos n) small =
     let numeral = decimal_is_IsNumeral_wide n (omega arith) in
     let no_sign = not_in_digits own (decimal n) 45 numeral.0.1 (λ h. omega (arith, h)) 0 numeral.0.0 in
@@ -48,31 +49,31 @@ value_spelled (negsuc n) small =
     ap (λ m. neg_ℤ (pos m)) numeral.1
 
 -- the numbers of a line
-first_spelled : (a : ℤ) (rest : List ℕ) → IsSmall a → value_of (before 32 (signed_decimal a ++ 32 ∷ rest)) ≡ a
+first_spelled : (a : ℤ) (rest : List ℕ) → IsFitting a → value_of (before 32 (signed_decimal a ++ 32 ∷ rest)) ≡ a
 first_spelled a rest x =
     ap value_of (before_cut 32 (signed_decimal a) rest (lacks_number 32 a (omega arith) x)) ∙ value_spelled a x
 
-rest_spelled : (a : ℤ) (rest : List ℕ) → IsSmall a → behind 32 (signed_decimal a ++ 32 ∷ rest) ≡ rest
+rest_spelled : (a : ℤ) (rest : List ℕ) → IsFitting a → behind 32 (signed_decimal a ++ 32 ∷ rest) ≡ rest
 rest_spelled a rest x = behind_cut 32 (signed_decimal a) rest (lacks_number 32 a (omega arith) x)
 
-two_spelled : (line : ℤ → ℤ → Line) (a b : ℤ) → IsSmall a → IsSmall b → two_to line (two_text a b) ≡ line a b
+two_spelled : (line : ℤ → ℤ → Line) (a b : ℤ) → IsFitting a → IsFitting b → two_to line (two_text a b) ≡ line a b
 two_spelled line a b x y =
     ap (λ z. line z (value_of (behind 32 (two_text a b)))) (first_spelled a (signed_decimal b) x)
     ∙ ap (λ z. line a z) (ap value_of (rest_spelled a (signed_decimal b) x) ∙ value_spelled b y)
 
-three_spelled : (line : ℤ → ℤ → ℤ → Line) (a b c : ℤ) → IsSmall a → IsSmall b → IsSmall c
+three_spelled : (line : ℤ → ℤ → ℤ → Line) (a b c : ℤ) → IsFitting a → IsFitting b → IsFitting c
     → three_to line (three_text a b c) ≡ line a b c
 three_spelled line a b c x y z =
     ap (λ n. two_to (line n) (behind 32 (three_text a b c))) (first_spelled a (two_text b c) x)
     ∙ (ap (two_to (line a)) (rest_spelled a (two_text b c) x) ∙ two_spelled (line a) b c y z)
 
 -- a line has no line feed but its last byte
-two_free : (a b : ℤ) → IsSmall a → IsSmall b → lacks 10 (two_text a b) ≡ true
+two_free : (a b : ℤ) → IsFitting a → IsFitting b → lacks 10 (two_text a b) ≡ true
 two_free a b x y =
     list_all-append _ (signed_decimal a) (32 ∷ signed_decimal b)
     ∙ rw (lacks_number 10 a (omega arith) x, lacks_number 10 b (omega arith) y) refl
 
-three_free : (a b c : ℤ) → IsSmall a → IsSmall b → IsSmall c → lacks 10 (three_text a b c) ≡ true
+three_free : (a b c : ℤ) → IsFitting a → IsFitting b → IsFitting c → lacks 10 (three_text a b c) ≡ true
 three_free a b c x y z =
     list_all-append _ (signed_decimal a) (32 ∷ two_text b c)
     ∙ rw (lacks_number 10 a (omega arith) x, two_free b c y z) refl
@@ -110,7 +111,7 @@ likely line fits =
     (before_cut 10 (body_text line) [] (body_free line fits))
     ∙ likely_body line fits
 
-small_test : (z : ℤ) → IsSmall z → is_small z ≡ true
+small_test : (z : ℤ) → IsFitting z → fits z ≡ true
 small_test z small = grind (arith, nat_tests)
 
 fits_test : (line : Line) → LineFits line → line_fits line ≡ true
@@ -121,11 +122,11 @@ fits_test lines.Motion fits = refl
 fits_test (lines.Move u v r) fits = rw (small_test u fits.0, small_test v fits.1, small_test r fits.2) refl
 fits_test lines.End fits = refl
 
-test_small : (z : ℤ) → is_small z ≡ true → IsSmall z
+test_small : (z : ℤ) → fits z ≡ true → IsFitting z
 test_small z test = grind (arith, nat_tests)
 
-test_two : (a b : ℤ) → (is_small a && is_small b) ≡ true → IsSmall a × IsSmall b
-test_two a b test = let p = and_parts (is_small a) (is_small b) test in (test_small a p.0, test_small b p.1)
+test_two : (a b : ℤ) → (fits a && fits b) ≡ true → IsFitting a × IsFitting b
+test_two a b test = let p = and_parts (fits a) (fits b) test in (test_small a p.0, test_small b p.1)
 
 test_fits : (line : Line) → line_fits line ≡ true → LineFits line
 test_fits (lines.Form form) test = tt
@@ -133,7 +134,7 @@ test_fits (lines.Forces s f) test = test_two s f test
 test_fits (lines.Push a b) test = test_two a b test
 test_fits lines.Motion test = tt
 test_fits (lines.Move u v r) test =
-    let p = and_parts (is_small u && is_small v) (is_small r) test in
+    let p = and_parts (fits u && fits v) (fits r) test in
     let q = test_two u v p.0 in
     (q.0, q.1, test_small r p.1)
 test_fits lines.End test = tt

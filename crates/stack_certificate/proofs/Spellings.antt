@@ -14,7 +14,8 @@ use Rattle.std.proofs.lemmas.Int.{to_z-of_z, ints}
 use Rattle.std.proofs.Common.{SFits}
 use Rattle.std.specs.Str.{bytes_eq}
 use Rattle.std.proofs.lemmas.Slice.Eq.{bytes_eq-Decides}
-use Rattle.stack_certificate.specs.Numbers.{IsSmall, IsNumber}
+use Rattle.stack_whole.specs.Whole.{IsFitting}
+use Rattle.stack_certificate.specs.Numbers.{IsNumber}
 
 pub own : IsNumeralModel (AllDigits 10) (digits_value 10)
 own = numerals_by_value (AllDigits 10) tells_digits
@@ -50,7 +51,7 @@ ascii_more : (c : ℕ) (bs : List ℕ) → c < 128 → IsAscii bs → IsAscii (c
 ascii_more c bs h more zero = h
 ascii_more c bs h more (suc i) = more i
 
-pub is_ascii : (z : ℤ) → IsSmall z → IsAscii (signed_decimal z)
+pub is_ascii : (z : ℤ) → IsFitting z → IsAscii (signed_decimal z)
 is_ascii (pos n) small = IsAscii-decimal_wide n (omega arith)
 is_ascii (negsuc n) small =
     ascii_more 45 (decimal (suc n)) (omega arith) (IsAscii-decimal_wide (suc n) (omega arith))
@@ -68,17 +69,17 @@ pub not_parsed : {E : Type 0} (z : ℤ) (e : E) (bs text : List ℕ) (r : Result
 not_parsed z e bs text r same h err is = let ok : r ≡ Ok z = spelled_parses z text r (is.0, same ∙ is.1) h in cc
 
 -- no small number is the least of 128 bits
-pub not_least : (z : ℤ) → IsSmall z → of_z w128 z ≡ 2 ^ 127 → ⊥
+pub not_least : (z : ℤ) → IsFitting z → of_z w128 z ≡ 2 ^ 127 → ⊥
 not_least (pos n) small e = omega arith
 not_least (negsuc n) small e = omega arith
 
 pub differ : (xs ys : List ℕ) (b : Bool) → b ≡ bytes_eq xs ys → b ≡ false → xs ≡ ys → ⊥
 differ xs ys b tested isnt same = let h : bytes_eq xs ys ≡ true = (bytes_eq-Decides xs ys).1 same in cc
 
-pub small_fits : (z : ℤ) → IsSmall z → SFits w128 z
+pub small_fits : (z : ℤ) → IsFitting z → SFits w128 z
 small_fits (pos n) small = omega (arith, ints)
 small_fits (negsuc n) small = omega (arith, ints)
 
-pub spelled_through : (y z : ℤ) → IsSmall z → y ≡ z
+pub spelled_through : (y z : ℤ) → IsFitting z → y ≡ z
     → signed_decimal (to_z w128 (of_z w128 y)) ≡ signed_decimal z
 spelled_through y z small same = rw same (ap signed_decimal (to_z-of_z w128 z (small_fits z small)))

@@ -8,7 +8,7 @@ use Rattle.stack_certificate.specs.declared.line.Form.TheVariants as forms
 use Rattle.stack_certificate.specs.declared.line.Line.{Line}
 use Rattle.stack_certificate.specs.declared.line.Line.TheVariants as lines
 use Rattle.stack_certificate.specs.Certificate.{ForcesValue, MotionValue, CertificateValue, stands, collapses, greatest, unbounded}
-use Rattle.stack_certificate.specs.Numbers.{IsSmall}
+use Rattle.stack_whole.specs.Whole.{IsFitting}
 use Rattle.stack_certificate.specs.Lines.{line_text}
 
 -- The lines of a list.
@@ -44,13 +44,13 @@ certificate_text c = text_of (lines_of c)
 
 -- Every number is at most 2^127 - 1 in size.
 abbrev pub PartFits : ℤ × ℤ → Type 0
-PartFits part = IsSmall part.0 × IsSmall part.1
+PartFits part = IsFitting part.0 × IsFitting part.1
 
 abbrev pub MoveFits : ℤ × ℤ × ℤ → Type 0
-MoveFits move = IsSmall move.0 × IsSmall move.1 × IsSmall move.2
+MoveFits move = IsFitting move.0 × IsFitting move.1 × IsFitting move.2
 
 abbrev pub ForcesFit : ForcesValue → Type 0
-ForcesFit f = IsSmall f.scale × IsSmall f.factor × All PartFits f.parts
+ForcesFit f = IsFitting f.scale × IsFitting f.factor × All PartFits f.parts
 
 abbrev pub MotionFits : MotionValue → Type 0
 MotionFits m = All MoveFits m

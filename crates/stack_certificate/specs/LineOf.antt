@@ -4,16 +4,17 @@ use Rattle.std.specs.Str.{bytes_eq}
 use Rattle.stack_certificate.specs.declared.line.Form.TheVariants.{Stands, Collapses, Greatest, Unbounded}
 use Rattle.stack_certificate.specs.declared.line.Line.{Line}
 use Rattle.stack_certificate.specs.declared.line.Line.TheVariants as lines
-use Rattle.stack_certificate.specs.Numbers.{is_small, value_of}
+use Rattle.stack_whole.specs.Whole.{fits}
+use Rattle.stack_certificate.specs.Numbers.{value_of}
 use Rattle.stack_certificate.specs.Lines.{line_text}
 
 -- Its numbers are at most 2^127 - 1 in size, as a test.
 abbrev pub line_fits : Line → Bool
 line_fits (lines.Form form) = true
-line_fits (lines.Forces scale factor) = is_small scale && is_small factor
-line_fits (lines.Push a b) = is_small a && is_small b
+line_fits (lines.Forces scale factor) = fits scale && fits factor
+line_fits (lines.Push a b) = fits a && fits b
 line_fits lines.Motion = true
-line_fits (lines.Move u v r) = is_small u && is_small v && is_small r
+line_fits (lines.Move u v r) = fits u && fits v && fits r
 line_fits lines.End = true
 
 -- The bytes before the first such byte, and those behind it.

@@ -7,7 +7,7 @@ use Rattle.stack_certificate.specs.declared.line.Form.{Form}
 use Rattle.stack_certificate.specs.declared.line.Form.TheVariants.{Stands, Collapses, Greatest, Unbounded}
 use Rattle.stack_certificate.specs.declared.line.Line.{Line}
 use Rattle.stack_certificate.specs.declared.line.Line.TheVariants as lines
-use Rattle.stack_certificate.specs.Numbers.{IsSmall}
+use Rattle.stack_whole.specs.Whole.{IsFitting}
 
 abbrev pub lacks : ℕ → List ℕ → Bool
 lacks byte bytes = list_all (λ b. not (b == byte)) bytes
@@ -20,10 +20,10 @@ abbrev pub three_text : ℤ → ℤ → ℤ → List ℕ
 three_text a b c = signed_decimal a ++ 32 ∷ two_text b c
 
 abbrev pub IsTwo : ℤ → ℤ → List ℕ → Type 0
-IsTwo a b bytes = IsSmall a × IsSmall b × (bytes ≡ two_text a b)
+IsTwo a b bytes = IsFitting a × IsFitting b × (bytes ≡ two_text a b)
 
 abbrev pub IsThree : ℤ → ℤ → ℤ → List ℕ → Type 0
-IsThree a b c bytes = IsSmall a × IsSmall b × IsSmall c × (bytes ≡ three_text a b c)
+IsThree a b c bytes = IsFitting a × IsFitting b × IsFitting c × (bytes ≡ three_text a b c)
 
 -- The word of a form.
 abbrev pub form_text : Form → List ℕ
@@ -47,10 +47,10 @@ line_text line = body_text line ++ 10 ∷ []
 -- Its numbers are at most 2^127 - 1 in size.
 abbrev pub LineFits : Line → Type 0
 LineFits (lines.Form form) = ⊤
-LineFits (lines.Forces scale factor) = IsSmall scale × IsSmall factor
-LineFits (lines.Push a b) = IsSmall a × IsSmall b
+LineFits (lines.Forces scale factor) = IsFitting scale × IsFitting factor
+LineFits (lines.Push a b) = IsFitting a × IsFitting b
 LineFits lines.Motion = ⊤
-LineFits (lines.Move u v r) = IsSmall u × IsSmall v × IsSmall r
+LineFits (lines.Move u v r) = IsFitting u × IsFitting v × IsFitting r
 LineFits lines.End = ⊤
 
 -- The bytes are the line, without its line feed and with it.

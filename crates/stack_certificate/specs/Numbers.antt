@@ -1,23 +1,13 @@
 -- A number of a certificate's text and its one spelling.
-use Rattle.std.specs.Prelude.{◌≡◌, ℕ, suc, ◌^◌, ◌<◌, ℤ, pos, negsuc, neg_ℤ, List, [], ◌∷◌, Bool, nat_lt, ◌==◌, if◌then◌else◌}
+use Rattle.std.specs.Prelude.{◌≡◌, ℕ, ℤ, pos, neg_ℤ, List, [], ◌∷◌, ◌==◌, if◌then◌else◌}
 use Rattle.std.specs.Fmt.{signed_decimal}
 use Rattle.std.specs.Str.Parse.{digits_value}
-
-abbrev pub size : ℤ → ℕ
-size (pos n) = n
-size (negsuc n) = suc n
-
--- At most 2^127 - 1 in size, as a fact and as a test.
-abbrev pub IsSmall : ℤ → Type 0
-IsSmall z = size z < 2 ^ 127
-
-abbrev pub is_small : ℤ → Bool
-is_small z = nat_lt (size z) (2 ^ 127)
+use Rattle.stack_whole.specs.Whole.{IsFitting}
 
 -- The bytes spell the number: 0, or digits of which the first isn't 0, behind a - where it is negative. What
 -- this says byte by byte stands in Digits.
 abbrev pub IsNumber : ℤ → List ℕ → Type 0
-IsNumber z bytes = IsSmall z × (bytes ≡ signed_decimal z)
+IsNumber z bytes = IsFitting z × (bytes ≡ signed_decimal z)
 
 -- The number that the bytes spell if they spell one: that of the digits, negative behind a -.
 abbrev pub value_of : List ℕ → ℤ

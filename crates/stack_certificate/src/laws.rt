@@ -7,7 +7,7 @@ ghost use Rattle.stack_certificate.specs.CertificateText.{CertificateFits, certi
 ghost use Rattle.stack_certificate.specs.CertificateOf.{certificate_of};
 ghost use Rattle.stack_certificate.specs.FaultLine.{IsFaultLine};
 ghost use Rattle.stack_certificate.specs.Digits.{IsWritten};
-ghost use Rattle.stack_certificate.specs.Numbers.{IsSmall};
+ghost use Rattle.stack_whole.specs.Whole.{IsFitting};
 
 /// The function of the bytes gives a certificate exactly where they are its text, and a line exactly where
 /// it's their faulty one.
@@ -32,6 +32,6 @@ pub fn one_text()
 /// The spelling of a number is 0, or digits of which the first isn't 0, behind a - where it is negative, and
 /// no other.
 pub fn spelled_by_digits()
-    ensures one { (z : ℤ) (bytes : List ℕ) → IsSmall z → IsWritten z bytes → bytes ≡ signed_decimal z }
-    ensures is { (z : ℤ) → IsSmall z → IsWritten z (signed_decimal z) }
+    ensures one { (z : ℤ) (bytes : List ℕ) → IsFitting z → IsWritten z bytes → bytes ≡ signed_decimal z }
+    ensures is { (z : ℤ) → IsFitting z → IsWritten z (signed_decimal z) }
 {}

@@ -15,13 +15,13 @@ use Rattle.stack_contact.specs.FreeBlocks.{frees_of, free_of}
 use Rattle.stack_contact.proofs.Frees.{free_is_listed, listed_is_free}
 use Rattle.stack_certificate.specs.Certificate.{ForcesValue}
 use Rattle.stack_equilibrium.specs.declared.types.Axis.TheVariants.{X, Y, M}
-use Rattle.stack_equilibrium.specs.declared.whole.Whole.{Whole}
+use Rattle.stack_whole.specs.declared.whole.Whole.{Whole}
 use Rattle.stack_equilibrium.specs.declared.block.Push.{Push}
 use Rattle.stack_equilibrium.specs.Balance.{IsWithinCone, IsAdmissible, IsBalancedAt, IsBalanced}
 use Rattle.stack_equilibrium.specs.Certificates.{AreBalanced}
 use Rattle.stack_equilibrium.specs.SurveyScene.{no_bearing, bearing_of, scene_bearing_of, scene_of}
 use Rattle.stack_equilibrium.specs.Held.{part_of_pair, forces_of, part_at}
-use Rattle.stack_equilibrium.specs.Whole.{whole}
+use Rattle.stack_whole.specs.Whole.{whole}
 use Rattle.stack_equilibrium.specs.WrittenSums.{push_at, written_sums_at}
 use Rattle.stack_equilibrium.proofs.SceneSums.{part_is, sums_are}
 use Rattle.stack_checker.specs.declared.types.Reason.TheVariants as reasons

@@ -13,13 +13,13 @@ use Rattle.stack_contact.specs.FreeBlocks.{frees_of}
 use Rattle.stack_certificate.specs.Certificate.{ForcesValue, MotionValue}
 use Rattle.stack_equilibrium.specs.declared.types.PowerWide.{PowerWide}
 use Rattle.stack_equilibrium.specs.declared.types.Question.TheVariants.{Dead, Live}
-use Rattle.stack_equilibrium.specs.declared.whole.Whole.{Whole}
+use Rattle.stack_whole.specs.declared.whole.Whole.{Whole}
 use Rattle.stack_equilibrium.specs.Motions.{opening_of, slide_of, IsStill, KeepsFixedStill, dead_power_of}
 use Rattle.stack_equilibrium.specs.Motions.{live_power_of}
 use Rattle.stack_equilibrium.specs.Certificates.{free_before, still, IsFreeMotion, IsTrueCollapse}
 use Rattle.stack_equilibrium.specs.SurveyScene.{no_bearing, bearing_of, scene_of}
 use Rattle.stack_equilibrium.specs.Held.{move_of_triple, moves_of, move_at}
-use Rattle.stack_equilibrium.specs.Whole.{whole}
+use Rattle.stack_whole.specs.Whole.{whole}
 use Rattle.stack_equilibrium.specs.Answers.{AreRates}
 use Rattle.stack_equilibrium.specs.WrittenVelocities.{written_opening}
 use Rattle.stack_equilibrium.specs.WrittenPowers.{written_power}

@@ -9,9 +9,9 @@ use Rattle.stack_certificate.specs.Certificate.{ForcesValue}
 use Rattle.stack_equilibrium.specs.declared.types.Wrench.{Wrench}
 use Rattle.stack_equilibrium.specs.declared.types.SumWide.{SumWide}
 use Rattle.stack_equilibrium.specs.declared.types.Axis.TheVariants.{X, Y, M}
-use Rattle.stack_equilibrium.specs.declared.whole.Whole.{Whole}
+use Rattle.stack_whole.specs.declared.whole.Whole.{Whole}
 use Rattle.stack_equilibrium.specs.declared.block.Push.{Push}
-use Rattle.stack_equilibrium.specs.Whole.{made, whole}
+use Rattle.stack_whole.specs.Whole.{made, whole}
 use Rattle.stack_equilibrium.specs.WrittenSums.{push_at, written_sums_at}
 use Rattle.stack_checker.specs.declared.types.Reason.TheVariants as reasons
 use Rattle.stack_checker.specs.declared.types.CheckAt.TheVariants as places

@@ -7,8 +7,8 @@ use Rattle.stack_contact.specs.Surveyed.{Surveyed}
 use Rattle.stack_contact.specs.FreeBlocks.{frees_of}
 use Rattle.stack_certificate.specs.Certificate.{ForcesValue, MotionValue}
 use Rattle.stack_equilibrium.specs.declared.types.Question.TheVariants.{Dead, Live}
-use Rattle.stack_equilibrium.specs.declared.whole.Whole.{Whole}
-use Rattle.stack_equilibrium.specs.Whole.{made, whole}
+use Rattle.stack_whole.specs.declared.whole.Whole.{Whole}
+use Rattle.stack_whole.specs.Whole.{made, whole}
 use Rattle.stack_equilibrium.specs.WrittenVelocities.{written_opening}
 use Rattle.stack_equilibrium.specs.WrittenPowers.{written_power}
 use Rattle.stack_checker.specs.declared.types.Reason.TheVariants as reasons

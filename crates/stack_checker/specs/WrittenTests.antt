@@ -5,9 +5,9 @@ use Rattle.stack_equilibrium.specs.declared.types.Wrench.{Wrench}
 use Rattle.stack_equilibrium.specs.declared.types.SumWide.{SumWide}
 use Rattle.stack_equilibrium.specs.declared.types.VelocityWide.{VelocityWide}
 use Rattle.stack_equilibrium.specs.declared.types.PowerWide.{PowerWide}
-use Rattle.stack_equilibrium.specs.declared.whole.Wide.{Wide}
-use Rattle.stack_equilibrium.specs.declared.whole.Whole.{Whole}
-use Rattle.stack_equilibrium.specs.Whole.{whole}
+use Rattle.stack_whole.specs.declared.whole.Wide.{Wide}
+use Rattle.stack_whole.specs.declared.whole.Whole.{Whole}
+use Rattle.stack_whole.specs.Whole.{whole}
 use Rattle.stack_checker.specs.declared.types.Reason.{Reason}
 use Rattle.stack_checker.specs.declared.types.CheckAt.{CheckAt}
 use Rattle.stack_checker.specs.declared.types.CheckAt.TheVariants as places

@@ -17,7 +17,7 @@ use stack_certificate::types::Forces;
 use stack_contact::types::Survey;
 use stack_equilibrium::residue;
 use stack_equilibrium::types::{Axis, SumWide, Wrench};
-use stack_equilibrium::whole::Whole;
+use stack_whole::Whole;
 
 /// The three sums of free block number `b`, with their place.
 fn placed_sums(b: usize, made: Result<Wrench, SumWide>) -> Result<Wrench, Stop>

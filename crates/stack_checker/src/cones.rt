@@ -8,7 +8,7 @@ use crate::stop::{Stop, place, require};
 use crate::types::{CheckAt, Reason};
 use stack_contact::types::Bearing;
 use stack_equilibrium::block::{Push, push_of, whole_of};
-use stack_equilibrium::whole::Whole;
+use stack_whole::Whole;
 
 /// Bearing `k` pushes, and stays within its cone of friction, `p` over `q`.
 #[tactic(auto, unfolding(crate::specs::WrittenForces::written_cone))]

@@ -11,7 +11,7 @@ use crate::stop::{Stop, require};
 use crate::types::Reason;
 use stack_certificate::types::Forces;
 use stack_contact::types::Survey;
-use stack_equilibrium::whole::Whole;
+use stack_whole::Whole;
 
 /// A part for each bearing, a scale and a factor with these signs, forces that push within their cones of
 /// friction, and free blocks in balance.

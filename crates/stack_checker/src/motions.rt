@@ -14,7 +14,7 @@ use stack_contact::types::{Bearing, Survey};
 use stack_equilibrium::block::whole_of;
 use stack_equilibrium::opening;
 use stack_equilibrium::types::VelocityWide;
-use stack_equilibrium::whole::Whole;
+use stack_whole::Whole;
 
 /// How a bearing opens along its normal and slides along its tangent.
 #[derive(Clone, Copy, Debug, PartialEq, Eq)]

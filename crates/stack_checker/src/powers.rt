@@ -14,7 +14,7 @@ use stack_certificate::types::{Forces, Motion};
 use stack_contact::types::Survey;
 use stack_equilibrium::power;
 use stack_equilibrium::types::{PowerWide, Question};
-use stack_equilibrium::whole::Whole;
+use stack_whole::Whole;
 
 /// The work of the live and of the dead loads on a motion, in sixths.
 #[derive(Clone, Copy, Debug, PartialEq, Eq)]

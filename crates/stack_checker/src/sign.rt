@@ -3,7 +3,7 @@
 ghost use Rattle.std.specs.Prelude.{◌≡◌};
 ghost use Rattle.stack_checker.specs.Signs.{has_sign, standing, loaded, rising};
 
-use stack_equilibrium::whole::Whole;
+use stack_whole::Whole;
 
 /// What a number is tested for.
 #[derive(Clone, Copy, Debug, PartialEq, Eq)]

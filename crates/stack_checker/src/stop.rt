@@ -5,7 +5,7 @@ ghost use Rattle.stack_checker.specs.WrittenTests.{demand, made_at};
 ghost use Rattle.stack_checker.specs.WrittenCheck.{in_part, answer_of};
 
 use crate::types::{Check, CheckAt, CheckPlace, Part, Reason};
-use stack_equilibrium::whole::{Whole, Wide};
+use stack_whole::{Whole, Wide};
 
 /// The first test that fails, or the first number that passes.
 #[derive(Clone, Copy, Debug, PartialEq, Eq)]

@@ -1,6 +1,7 @@
 -- The survey of a structure: its contacts, or why it has none. A pair that no edge separates is refused, the
 -- least one; then more than 1,024 bearings are.
 use Rattle.std.specs.Prelude.{◌≡◌, ℕ, ◌<◌, ◌≤◌, ◌⊎◌, List, length, Result, Ok, Err, ⊤}
+use Rattle.stack_whole.specs.Limits.{most_bearings}
 use Rattle.stack_polygon.specs.declared.point.Point.{Point}
 use Rattle.stack_model.specs.Structure.{Structure}
 use Rattle.stack_contact.specs.declared.types.Bearing.{Bearing}
@@ -47,7 +48,7 @@ pub record AreTooMany (s : Structure) (count : ℕ) : Type 0 where
   pub bearings : List Bearing
   pub are_all : AreBearings s bearings
   pub counted : length bearings ≡ count
-  pub many : 1024 < count
+  pub many : most_bearings < count
 
 -- the survey of the structure
 pub record IsSurvey (s : Structure) (v : Surveyed) : Type 0 where
@@ -55,7 +56,7 @@ pub record IsSurvey (s : Structure) (v : Surveyed) : Type 0 where
   pub apart : AllApart s
   pub clear : NoneOverlap s
   pub bearings : AreBearings s v.bearings
-  pub few : length v.bearings ≤ 1024
+  pub few : length v.bearings ≤ most_bearings
   pub touches : AreTouches s v.touches
 
 -- what surveying a structure answers. `Memory` may come at any time; of the other answers one holds.

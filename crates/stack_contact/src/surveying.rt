@@ -8,6 +8,7 @@ ghost use Rattle.stack_contact.specs.Surveyed.{Surveys, IsSurvey};
 use crate::lists::all_found;
 use crate::types::{Bearing, Survey, SurveyError, Touch};
 use stack_model::Model;
+use stack_whole::limits::MOST_BEARINGS;
 use std::alloc::Global;
 
 /// The survey of a model: exactly its bearings and its touches. Pairs of two fixed bodies are left out. Refused
@@ -18,7 +19,7 @@ pub fn survey(alloc: Global, model: Model) -> Result<Survey, SurveyError>
 {
     let found = all_found(alloc, &model)?;
     let count = found.bearings.len();
-    if count > 1024 {
+    if count > MOST_BEARINGS {
         return Err(SurveyError::TooManyBearings { count });
     }
     Ok(Survey {

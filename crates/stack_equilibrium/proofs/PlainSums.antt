@@ -10,13 +10,13 @@ use Rattle.stack_equilibrium.specs.Balance.{side_of}
 use Rattle.stack_contact.specs.declared.types.Bearing.{Bearing}
 use Rattle.stack_equilibrium.specs.declared.types.Axis.{Axis}
 use Rattle.stack_equilibrium.specs.declared.types.Axis.TheVariants.{X, Y, M}
-use Rattle.stack_equilibrium.specs.declared.whole.Wide.{Wide}
-use Rattle.stack_equilibrium.specs.declared.whole.Whole.{Whole}
+use Rattle.stack_whole.specs.declared.whole.Wide.{Wide}
+use Rattle.stack_whole.specs.declared.whole.Whole.{Whole}
 use Rattle.stack_equilibrium.specs.declared.block.Push.{Push}
 use Rattle.stack_equilibrium.specs.declared.block.Joint.{Joint}
 use Rattle.stack_equilibrium.specs.declared.block.Block.{Block}
 use Rattle.stack_equilibrium.specs.SurveyScene.{scene_bearing_of, no_bearing}
-use Rattle.stack_equilibrium.specs.Whole.{made, fits, whole}
+use Rattle.stack_whole.specs.Whole.{made, fits, whole}
 use Rattle.stack_equilibrium.specs.WrittenSums.{push_at, joint_at, written_force_x, written_force_y, written_moment, written_force, bearing_at, with_bearing, along, written_sum}
 use Rattle.stack_equilibrium.proofs.InOrder.{bind_ok}
 

@@ -15,14 +15,14 @@ use Rattle.stack_equilibrium.specs.declared.types.Wrench.{Wrench}
 use Rattle.stack_equilibrium.specs.declared.types.Question.{Question}
 use Rattle.stack_equilibrium.specs.declared.types.Question.TheVariants.{Dead, Live}
 use Rattle.stack_equilibrium.specs.declared.types.PowerWide.{PowerWide}
-use Rattle.stack_equilibrium.specs.declared.whole.Wide.{Wide}
-use Rattle.stack_equilibrium.specs.declared.whole.Whole.{Whole}
+use Rattle.stack_whole.specs.declared.whole.Wide.{Wide}
+use Rattle.stack_whole.specs.declared.whole.Whole.{Whole}
 use Rattle.stack_equilibrium.specs.declared.velocity.BlockMove.{BlockMove}
 use Rattle.stack_equilibrium.specs.Motions as motions
 use Rattle.stack_equilibrium.specs.Certificates.{still}
 use Rattle.stack_equilibrium.specs.SurveyScene.{scene_of, loads_on}
 use Rattle.stack_equilibrium.specs.Held.{move_of_triple, moves_of, move_at}
-use Rattle.stack_equilibrium.specs.Whole.{made, whole}
+use Rattle.stack_whole.specs.Whole.{made, whole}
 use Rattle.stack_equilibrium.specs.WrittenVelocities.{block_move_at}
 use Rattle.stack_equilibrium.specs.WrittenPowers.{with_product, with_work, with_block, summed_power, told_power, written_power}
 use Rattle.stack_equilibrium.specs.Answers.{power_of}

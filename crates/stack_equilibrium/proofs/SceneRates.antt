@@ -9,8 +9,8 @@ use Rattle.stack_contact.specs.declared.types.Bearing.{Bearing}
 use Rattle.stack_contact.specs.Surveyed.{Surveyed}
 use Rattle.stack_certificate.specs.Certificate.{MotionValue}
 use Rattle.stack_equilibrium.specs.declared.types.VelocityWide.{VelocityWide}
-use Rattle.stack_equilibrium.specs.declared.whole.Wide.{Wide}
-use Rattle.stack_equilibrium.specs.declared.whole.Whole.{Whole}
+use Rattle.stack_whole.specs.declared.whole.Wide.{Wide}
+use Rattle.stack_whole.specs.declared.whole.Whole.{Whole}
 use Rattle.stack_equilibrium.specs.declared.block.Joint.{Joint}
 use Rattle.stack_equilibrium.specs.declared.velocity.BlockMove.{BlockMove}
 use Rattle.stack_equilibrium.specs.declared.velocity.Velocity.{Velocity}
@@ -20,7 +20,7 @@ use Rattle.stack_equilibrium.specs.Motions.{velocity_x_of, velocity_y_of, openin
 use Rattle.stack_equilibrium.specs.Certificates.{still, free_before}
 use Rattle.stack_equilibrium.specs.SurveyScene.{first_corner_of, bearing_of, scene_bearing_of, scene_of}
 use Rattle.stack_equilibrium.specs.Held.{move_of_triple, moves_of, move_at}
-use Rattle.stack_equilibrium.specs.Whole.{made, whole}
+use Rattle.stack_whole.specs.Whole.{made, whole}
 use Rattle.stack_equilibrium.specs.WrittenSums.{joint_at}
 use Rattle.stack_equilibrium.specs.WrittenVelocities.{block_move_at, at_rest, written_velocity, velocity_at, written_difference, written_normal, written_tangential, written_gap, gap_at, told_gap, written_opening}
 use Rattle.stack_equilibrium.specs.Answers.{AreRates}

@@ -13,14 +13,14 @@ use Rattle.stack_equilibrium.specs.declared.types.Wrench.{Wrench}
 use Rattle.stack_equilibrium.specs.declared.types.SumWide.{SumWide}
 use Rattle.stack_equilibrium.specs.declared.types.Axis.{Axis}
 use Rattle.stack_equilibrium.specs.declared.types.Axis.TheVariants.{X, Y, M}
-use Rattle.stack_equilibrium.specs.declared.whole.Wide.{Wide}
-use Rattle.stack_equilibrium.specs.declared.whole.Whole.{Whole}
+use Rattle.stack_whole.specs.declared.whole.Wide.{Wide}
+use Rattle.stack_whole.specs.declared.whole.Whole.{Whole}
 use Rattle.stack_equilibrium.specs.declared.block.Joint.{Joint}
 use Rattle.stack_equilibrium.specs.Scene as scene
 use Rattle.stack_equilibrium.specs.Balance.{side_of, force_x_of, force_y_of}
 use Rattle.stack_equilibrium.specs.SurveyScene.{no_bearing, first_corner_of, scene_bearing_of}
 use Rattle.stack_equilibrium.specs.Held.{part_of_pair, part_at}
-use Rattle.stack_equilibrium.specs.Whole.{whole}
+use Rattle.stack_whole.specs.Whole.{whole}
 use Rattle.stack_equilibrium.specs.WrittenSums.{push_at, joint_at, along, written_sum, written_sums, written_sums_at, written_residue, on_axis, block_of}
 use Rattle.stack_equilibrium.specs.Answers.{AreSums, body_number}
 use Rattle.stack_equilibrium.proofs.InOrder.{bind_ok}

@@ -10,7 +10,7 @@ use Rattle.stack_frame.specs.Directions.{IsStep}
 use Rattle.stack_contact.specs.declared.types.Bearing.{Bearing}
 use Rattle.stack_equilibrium.specs.declared.types.Wrench.{Wrench}
 use Rattle.stack_equilibrium.specs.declared.force.Force.{Force}
-use Rattle.stack_equilibrium.specs.Whole.{whole}
+use Rattle.stack_whole.specs.Whole.{whole}
 use Rattle.stack_equilibrium.specs.LoadSizes.{IsMoment, arm_between, moment_with}
 
 -- a bearing's point is in range, its tangent is no longer than an edge, and its friction within the limits

@@ -5,7 +5,6 @@ pub mod Loads
 pub mod Certificates
 pub mod Laws
 pub mod WorkedScenes
-pub mod Whole
 pub mod Weights
 pub mod SurveyScene
 pub mod Held

@@ -1,5 +1,5 @@
 -- How large the loads of a block can grow within the limits of a model.
-use Rattle.std.specs.Prelude.{◌≡◌, ◌<◌, ◌^◌, ℕ, ℤ, pos, nat_abs, ◌-ℤ◌, ◌*ℤ◌}
+use Rattle.std.specs.Prelude.{◌≡◌, ℕ, ℤ, pos, ◌-ℤ◌, ◌*ℤ◌}
 use Rattle.stack_frame.specs.Directions.{IsStep}
 use Rattle.stack_polygon.specs.declared.point.Point.{Point}
 use Rattle.stack_polygon.specs.Limits.{IsInRange}
@@ -8,16 +8,14 @@ use Rattle.stack_model.specs.declared.types.Load.{Load}
 use Rattle.stack_equilibrium.specs.declared.types.Wrench.{Wrench}
 use Rattle.stack_equilibrium.specs.declared.force.Arm.{Arm}
 use Rattle.stack_equilibrium.specs.declared.force.Force.{Force}
-use Rattle.stack_equilibrium.specs.Whole.{whole}
+use Rattle.stack_whole.specs.Whole.{whole}
+use Rattle.stack_whole.specs.Limits.{IsBelowBound}
 
--- below 2^90 in size
-abbrev pub IsBelow : ℤ → Type 0
-IsBelow z = nat_abs z < 2 ^ 90
-
+-- each of the three is below the bound of loads
 pub record IsSmall (w : Wrench) : Type 0 where
-  pub fx : IsBelow w.fx
-  pub fy : IsBelow w.fy
-  pub m : IsBelow w.m
+  pub fx : IsBelowBound w.fx
+  pub fy : IsBelowBound w.fy
+  pub m : IsBelowBound w.m
 
 -- at most 4,000,000,000 in size, as the force along an edge of a cone is
 abbrev pub IsForce : ℤ → Type 0

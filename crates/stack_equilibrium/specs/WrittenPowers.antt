@@ -8,10 +8,10 @@ use Rattle.stack_certificate.specs.Certificate.{MotionValue}
 use Rattle.stack_equilibrium.specs.declared.types.Wrench.{Wrench}
 use Rattle.stack_equilibrium.specs.declared.types.Question.{Question}
 use Rattle.stack_equilibrium.specs.declared.types.PowerWide.{PowerWide}
-use Rattle.stack_equilibrium.specs.declared.whole.Wide.{Wide}
-use Rattle.stack_equilibrium.specs.declared.whole.Whole.{Whole}
+use Rattle.stack_whole.specs.declared.whole.Wide.{Wide}
+use Rattle.stack_whole.specs.declared.whole.Whole.{Whole}
 use Rattle.stack_equilibrium.specs.declared.velocity.BlockMove.{BlockMove}
-use Rattle.stack_equilibrium.specs.Whole.{made, whole}
+use Rattle.stack_whole.specs.Whole.{made, whole}
 use Rattle.stack_equilibrium.specs.SurveyScene.{loads_on}
 use Rattle.stack_equilibrium.specs.WrittenVelocities.{block_move_at}
 

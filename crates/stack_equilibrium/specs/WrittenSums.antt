@@ -13,12 +13,12 @@ use Rattle.stack_equilibrium.specs.declared.types.SumWide.{SumWide}
 use Rattle.stack_equilibrium.specs.declared.types.Question.TheVariants.{Dead, Live}
 use Rattle.stack_equilibrium.specs.declared.types.Axis.{Axis}
 use Rattle.stack_equilibrium.specs.declared.types.Axis.TheVariants.{X, Y, M}
-use Rattle.stack_equilibrium.specs.declared.whole.Wide.{Wide}
-use Rattle.stack_equilibrium.specs.declared.whole.Whole.{Whole}
+use Rattle.stack_whole.specs.declared.whole.Wide.{Wide}
+use Rattle.stack_whole.specs.declared.whole.Whole.{Whole}
 use Rattle.stack_equilibrium.specs.declared.block.Push.{Push}
 use Rattle.stack_equilibrium.specs.declared.block.Joint.{Joint}
 use Rattle.stack_equilibrium.specs.declared.block.Block.{Block}
-use Rattle.stack_equilibrium.specs.Whole.{made, whole}
+use Rattle.stack_whole.specs.Whole.{made, whole}
 use Rattle.stack_equilibrium.specs.SurveyScene.{first_corner_of, loads_on}
 
 -- what bearing k bears, of a list of such pairs

@@ -7,13 +7,13 @@ use Rattle.stack_contact.specs.declared.types.Bearing.{Bearing}
 use Rattle.stack_contact.specs.Surveyed.{Surveyed}
 use Rattle.stack_certificate.specs.Certificate.{MotionValue}
 use Rattle.stack_equilibrium.specs.declared.types.VelocityWide.{VelocityWide}
-use Rattle.stack_equilibrium.specs.declared.whole.Wide.{Wide}
-use Rattle.stack_equilibrium.specs.declared.whole.Whole.{Whole}
+use Rattle.stack_whole.specs.declared.whole.Wide.{Wide}
+use Rattle.stack_whole.specs.declared.whole.Whole.{Whole}
 use Rattle.stack_equilibrium.specs.declared.block.Joint.{Joint}
 use Rattle.stack_equilibrium.specs.declared.velocity.BlockMove.{BlockMove}
 use Rattle.stack_equilibrium.specs.declared.velocity.Velocity.{Velocity}
 use Rattle.stack_equilibrium.specs.declared.velocity.Gap.{Gap}
-use Rattle.stack_equilibrium.specs.Whole.{made, whole}
+use Rattle.stack_whole.specs.Whole.{made, whole}
 use Rattle.stack_equilibrium.specs.Certificates.{free_before}
 use Rattle.stack_equilibrium.specs.SurveyScene.{first_corner_of, bearing_of, scene_of}
 use Rattle.stack_equilibrium.specs.WrittenSums.{joint_at}

@@ -1,13 +1,13 @@
 //! A free block and what acts on it.
 
 ghost use Rattle.std.specs.Prelude.{◌≡◌, ◌<◌, ◌-ℤ◌, length};
-ghost use Rattle.stack_equilibrium.specs.Whole.{whole};
+ghost use Rattle.stack_whole.specs.Whole.{whole};
 ghost use Rattle.stack_equilibrium.specs.WrittenSums.{push_at, joint_at, along};
 
 use crate::types::{Axis, Wrench};
-use crate::whole::Whole;
 use stack_contact::types::Bearing;
 use stack_polygon::Point;
+use stack_whole::Whole;
 
 /// What a bearing bears on its second body: `a` along the normal, `b` along the tangent.
 #[derive(Clone, Copy, Debug, PartialEq, Eq)]

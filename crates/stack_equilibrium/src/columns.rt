@@ -7,7 +7,7 @@ ghost use Rattle.stack_polygon.specs.Limits.{IsInRange};
 ghost use Rattle.stack_contact.specs.FreeBlocks.{frees_of};
 ghost use Rattle.stack_equilibrium.specs.Balance.{side_of};
 ghost use Rattle.stack_equilibrium.specs.SurveyScene.{bearing_of, scene_bearing_of};
-ghost use Rattle.stack_equilibrium.specs.Whole.{whole};
+ghost use Rattle.stack_whole.specs.Whole.{whole};
 ghost use Rattle.stack_equilibrium.specs.LoadSizes.{AreForces, IsForce, IsMoment, IsSmall};
 ghost use Rattle.stack_equilibrium.specs.Columns.{IsBounded, IsRate, IsShare, IsEdgeWrench, lean_of, edge_force_of, edge_wrench_of, times};
 ghost use Rattle.stack_equilibrium.specs.Answers.{body_number, column_of};
@@ -16,10 +16,10 @@ use crate::block::whole_of;
 use crate::force::{Force, arm_of, moment};
 use crate::openings::bearing_at;
 use crate::types::Wrench;
-use crate::whole::Whole;
 use stack_contact::types::{Bearing, Survey};
 use stack_frame::Cone;
 use stack_polygon::Point;
+use stack_whole::Whole;
 
 /// The numerator of a cone, or minus it.
 fn lean(cone: Cone, plus: bool) -> Whole

@@ -3,11 +3,11 @@
 ghost use Rattle.std.specs.Prelude.{◌≡◌, ◌*ℤ◌, ◌-ℤ◌};
 ghost use Rattle.stack_frame.specs.Directions.{IsStep};
 ghost use Rattle.stack_polygon.specs.Limits.{IsInRange, IsNear};
-ghost use Rattle.stack_equilibrium.specs.Whole.{whole};
+ghost use Rattle.stack_whole.specs.Whole.{whole};
 ghost use Rattle.stack_equilibrium.specs.LoadSizes.{IsForce, AreForces, AreSteps, IsTurn, IsMoment, arm_between, moment_with};
 
-use crate::whole::Whole;
 use stack_polygon::Point;
+use stack_whole::Whole;
 
 /// A force, to the right and upwards.
 #[derive(Clone, Copy, Debug, PartialEq, Eq)]

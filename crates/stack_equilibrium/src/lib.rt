@@ -15,7 +15,6 @@ mod surveys;
 pub mod types;
 mod velocity;
 mod weight;
-pub mod whole;
 
 pub use columns::column;
 pub use laws::{certificate_laws, virtual_work, weight_law, worked_scenes};

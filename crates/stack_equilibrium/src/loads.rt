@@ -14,10 +14,10 @@ use crate::block::whole_of;
 use crate::force::{Force, arm_of, moment};
 use crate::types::{Question, Wrench};
 use crate::weight::weight_on;
-use crate::whole::Whole;
 use stack_contact::types::Survey;
 use stack_model::{Load, Model};
 use stack_polygon::Point;
+use stack_whole::Whole;
 
 /// Whether a load is one of those that are asked about.
 fn is_asked(question: Question, load: Load) -> bool

@@ -13,9 +13,9 @@ ghost use Rattle.stack_equilibrium.specs.Answers.{AreRates};
 use crate::block::joint_of;
 use crate::types::VelocityWide;
 use crate::velocity::{BlockMove, Gap, Velocity, difference, gap_of, rest, velocity_of};
-use crate::whole::{Whole, Wide};
 use stack_certificate::types::Motion;
 use stack_contact::types::{Bearing, Survey};
+use stack_whole::{Whole, Wide};
 
 /// The move of free block `b`, of a list of moves.
 pub fn block_move(moves: &[(i128, i128, i128)], b: usize) -> BlockMove

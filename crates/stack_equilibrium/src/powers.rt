@@ -5,7 +5,7 @@ ghost use Rattle.stack_contact.specs.FreeBlocks.{frees_of, free_of};
 ghost use Rattle.stack_certificate.specs.Certificate.{motion_view};
 ghost use Rattle.stack_equilibrium.specs.SurveyScene.{scene_of};
 ghost use Rattle.stack_equilibrium.specs.Held.{move_at};
-ghost use Rattle.stack_equilibrium.specs.Whole.{whole};
+ghost use Rattle.stack_whole.specs.Whole.{whole};
 ghost use Rattle.stack_equilibrium.specs.WrittenPowers.{with_product, with_work, with_block, summed_power, told_power, written_power};
 ghost use Rattle.stack_equilibrium.specs.Answers.{power_of};
 
@@ -13,9 +13,9 @@ use crate::loads::loads_on;
 use crate::openings::block_move;
 use crate::types::{PowerWide, Question, Wrench};
 use crate::velocity::BlockMove;
-use crate::whole::{Whole, Wide};
 use stack_certificate::types::Motion;
 use stack_contact::types::Survey;
+use stack_whole::{Whole, Wide};
 
 #[tactic(auto, unfolding(crate::specs::WrittenPowers::with_product))]
 fn add_product(so_far: Whole, rate: Whole, force: Whole) -> Result<Whole, Wide>

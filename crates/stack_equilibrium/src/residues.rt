@@ -10,9 +10,9 @@ use crate::block::Block;
 use crate::loads::loads_on;
 use crate::sums::sums;
 use crate::types::{Question, SumWide, Wrench};
-use crate::whole::Whole;
 use stack_certificate::types::Forces;
 use stack_contact::types::Survey;
+use stack_whole::Whole;
 
 /// Free block `b` with its loads.
 fn block_at(s: &Survey, b: usize) -> Block

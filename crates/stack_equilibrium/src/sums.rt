@@ -2,13 +2,13 @@
 
 ghost use Rattle.std.specs.Prelude.{◌≡◌, ◌≤◌, length, pos};
 ghost use Rattle.stack_algebra.specs.Steps.{steps};
-ghost use Rattle.stack_equilibrium.specs.Whole.{whole};
+ghost use Rattle.stack_whole.specs.Whole.{whole};
 ghost use Rattle.stack_equilibrium.specs.WrittenSums.{written_force_x, written_force_y, written_moment, written_force, with_bearing, bearing_at, written_sum, on_axis, written_sums};
 
 use crate::block::{Block, Joint, Push, joint_of, number_along, push_of};
 use crate::types::{Axis, SumWide, Wrench};
-use crate::whole::{Whole, Wide};
 use stack_contact::types::Bearing;
+use stack_whole::{Whole, Wide};
 
 #[tactic(auto, unfolding(crate::specs::WrittenSums::written_force_x))]
 fn force_x(joint: Joint, push: Push) -> Result<Whole, Wide>

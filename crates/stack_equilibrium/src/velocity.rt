@@ -1,12 +1,12 @@
 //! Velocities at a bearing.
 
 ghost use Rattle.std.specs.Prelude.{◌≡◌};
-ghost use Rattle.stack_equilibrium.specs.Whole.{whole};
+ghost use Rattle.stack_whole.specs.Whole.{whole};
 ghost use Rattle.stack_equilibrium.specs.WrittenVelocities.{written_velocity, written_difference, written_normal, written_tangential, written_gap, at_rest};
 
 use crate::block::{Joint, whole_of};
-use crate::whole::{Whole, Wide};
 use stack_contact::types::Bearing;
+use stack_whole::{Whole, Wide};
 
 /// How a free block moves: the velocity of its first stored corner to the right and upwards, and its turning
 /// rate, counter-clockwise.

@@ -3,14 +3,14 @@
 ghost use Rattle.std.specs.Prelude.{◌≡◌, ◌*ℤ◌, ◌-ℤ◌, neg_ℤ, pos};
 ghost use Rattle.stack_polygon.specs.Limits.{IsNear};
 ghost use Rattle.stack_polygon.specs.Sizes.{IsThree, IsWithin};
-ghost use Rattle.stack_equilibrium.specs.Whole.{whole};
+ghost use Rattle.stack_whole.specs.Whole.{whole};
 ghost use Rattle.stack_equilibrium.specs.Loads.{weight_of};
 ghost use Rattle.stack_equilibrium.specs.LoadSizes.{IsWeight};
 ghost use Rattle.stack_equilibrium.specs.Weights.{IsUnitWeight, weight_by};
 
 use crate::types::Wrench;
-use crate::whole::Whole;
 use stack_polygon::Polygon;
+use stack_whole::Whole;
 
 fn thrice(x: i64) -> Whole
     requires { IsNear x }

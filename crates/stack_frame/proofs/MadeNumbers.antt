@@ -10,8 +10,9 @@ use mir.Facts.{to_z-of_z}
 use Rattle.std.specs.Prelude.{false, int_le, int_lt, IsTrue, ◌↔◌}
 use Rattle.std.proofs.lemmas.Int.{ints}
 use Rattle.stack_algebra.specs.IntegerOrder.{◌≼◌, abs}
+use Rattle.stack_whole.specs.Whole.{Passes}
 use Rattle.stack_frame.specs.declared.cone.Cone.{Cone}
-use Rattle.stack_frame.specs.Admitted.{IsAdmitted, IsTooWide, Passes, SizePassesWithItsProduct}
+use Rattle.stack_frame.specs.Admitted.{IsAdmitted, IsTooWide, SizePassesWithItsProduct}
 
 pub narrow : {z : ℤ} → SFits w64 z → to_z w128 (of_z w128 (to_z w64 (of_z w64 z))) ≡ z
 narrow h = omega (arith, ints, h.sfits)

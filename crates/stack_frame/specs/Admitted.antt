@@ -1,6 +1,7 @@
 -- The forces that a cone of friction admits, and the numbers of the test that are too wide for 128 bits.
-use Rattle.std.specs.Prelude.{◌≡◌, ◌⊎◌, ◌<◌, ◌≤◌, ◌^◌, ℤ, pos, nat_abs, ◌*ℤ◌, Result, Ok, Err}
+use Rattle.std.specs.Prelude.{◌≡◌, ◌⊎◌, ℤ, pos, ◌*ℤ◌, Result, Ok, Err}
 use Rattle.stack_algebra.specs.IntegerOrder.{◌≼◌, abs}
+use Rattle.stack_whole.specs.Whole.{IsFitting, Passes}
 use Rattle.stack_frame.specs.declared.cone.Cone.{Cone}
 use Rattle.stack_frame.specs.declared.cone.ConeWide.{ConeWide}
 use Rattle.stack_frame.specs.Cones.{IsCoefficient}
@@ -9,10 +10,6 @@ use Rattle.stack_frame.specs.Cones.{IsCoefficient}
 pub record IsAdmitted (c : Cone) (a b : ℤ) : Type 0 where
   pub pushes : pos 0 ≼ a
   pub within : c.q *ℤ abs b ≼ c.p *ℤ a
-
--- a number passes where its size is more than 2^127 - 1
-abbrev pub Passes : ℤ → Type 0
-Passes z = 2 ^ 127 ≤ nat_abs z
 
 -- the force pushes, and a number of the test passes
 pub record IsTooWide (c : Cone) (a b : ℤ) : Type 0 where
@@ -26,5 +23,5 @@ SizePassesWithItsProduct = (c : Cone) (a b : ℤ) → IsCoefficient c → IsTooW
 
 -- the number, unless it passes
 abbrev pub Makes : ℤ → Result ℤ ConeWide → Type 0
-Makes z (Ok x) = (x ≡ z) × (nat_abs z < 2 ^ 127)
+Makes z (Ok x) = (x ≡ z) × IsFitting z
 Makes z (Err e) = Passes z

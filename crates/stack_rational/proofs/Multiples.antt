@@ -1,5 +1,5 @@
 -- The least common multiple of denominators, and the running multiple of a loop.
-use mathlib.Core.Path.{◌≡◌, ap, subst, ◌∙◌}
+use mathlib.Core.Path.{◌≡◌, sym, ap, subst, ◌∙◌}
 use mathlib.Core.List.{List, [], ◌∷◌, ◌++◌}
 use Prim.Native.Nat.{ℕ, zero, suc, ◌+◌, ◌*◌, ◌/◌, ◌<◌, ◌∣◌}
 use native.Mathlib.Nat.{dvd_trans, dvd_antisymm, dvd-mul_left, dvd-mul_right, mul-div_cancel', mul-dvd-mul_left, dvd_of_mul-dvd-mul_left, one-dvd}
@@ -15,8 +15,10 @@ use Rattle.std.specs.List.{AllByRecursion}
 use Rattle.std.proofs.lemmas.List.{take_more}
 use Rattle.stack_algebra.specs.Gcd.{gcd}
 use Rattle.stack_algebra.specs.Fraction.{Fraction}
+use Rattle.stack_algebra.proofs.Integers.{expand, sums}
+use Rattle.stack_algebra.proofs.Fractions.{of, of-is, mul-is, is_self, same_values}
 use Rattle.stack_algebra.proofs.CommonDivisor.{gcd-is, gcd-left, gcd-right, gcd-scaled, gcd-pos}
-use Rattle.stack_rational.specs.CommonScale.{common_multiple, scale_of, ScaleIsLeastMultiple}
+use Rattle.stack_rational.specs.CommonScale.{common_multiple, scale_of, times_scale, ScaleIsLeastMultiple, TimesScaleIsWhole}
 
 -- two numbers divide their common multiple
 pub divides_left : (a b : ℕ) → a ∣ common_multiple a b
@@ -123,3 +125,21 @@ pub joined-is : (a b g p : ℤ) (d : ℕ) → pos 0 ≺ a → pos 0 ≺ b → po
     b ≡ pos d → p *ℤ b ≡ pos (common_multiple (nat_abs a) d)
 joined-is a b g p d ha hb hg is e eb = joined-by a b g p ha hb hg is e
     ∙ ap (λ (z : ℤ). pos (common_multiple (nat_abs a) (nat_abs z))) eb
+
+-- a number times a multiple of its denominator is whole
+pub times_scale-is : TimesScaleIsWhole
+times_scale-is m x d = same_values _ _ _ _ _ _ (mul-is (of (pos m)) x _ _ _ _ (of-is (pos m)) (is_self x))
+    (of-is (times_scale m x))
+    (crossed (pos m) x.num (pos x.den) (pos (m / x.den)) (ap pos (sym (mul-div_cancel' x.den d))))
+  where
+    crossed : (m n d e : ℤ) → m ≡ d *ℤ e → m *ℤ n *ℤ pos 1 ≡ n *ℤ e *ℤ (pos 1 *ℤ d)
+    crossed m n d e p = ap (λ t. t *ℤ n *ℤ pos 1) p ∙ same d e n
+      where
+        same : (d e n : ℤ) → d *ℤ e *ℤ n *ℤ pos 1 ≡ n *ℤ e *ℤ (pos 1 *ℤ d)
+        same d e n = simp expand (omega (arith, sums))
+
+-- the numerator times the scale's part
+pub scaled-is : (s a b p : ℤ) (x : Fraction) → pos 0 ≺ s → a ≡ x.num → b ≡ pos x.den → p ≡ quot_z s b →
+    a *ℤ p ≡ times_scale (nat_abs s) x
+scaled-is (pos s) a b p x h ea eb ep = λ i. ea i *ℤ (ep ∙ ap (quot_z (pos s)) eb) i
+scaled-is (negsuc s) a b p x h ea eb ep = absurd (omega (arith, ints, h))

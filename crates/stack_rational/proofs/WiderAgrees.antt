@@ -4,7 +4,7 @@ use Prim.Native.Nat.{ℕ, ◌≤◌, ◌<◌}
 use native.Mathlib.Omega.{arith}
 use lib.IntN.{ℤ, pos, nat_abs, ◌+ℤ◌, ◌*ℤ◌}
 use Rattle.std.proofs.lemmas.Bool.{le-leb, leb-true}
-use Rattle.std.specs.Prelude.{Bool, true, false, not, ◌&&◌}
+use Rattle.std.specs.Prelude.{true, not}
 use Rattle.stack_algebra.specs.Fraction.{Fraction, IsOver, signed}
 use Rattle.stack_algebra.proofs.Integers.{expand, sums}
 use Rattle.stack_algebra.proofs.Fractions.{of, neg, mul, mul-is, of-is, is_self, same_values}
@@ -12,23 +12,8 @@ use Rattle.stack_algebra.proofs.FractionField.{inv, inv-is}
 use Rattle.stack_rational.specs.declared.exact.Op.TheVariants.{Whole, Sum, Difference, Product, Quotient}
 use Rattle.stack_rational.specs.Passes.{is_within, fits, sum_fits, common_denominator, left_term, right_term}
 use Rattle.stack_rational.specs.Laws.{WiderNeverPasses, PartsMakeTheNumber, widest}
+use Rattle.stack_rational.proofs.Conjunctions.{not-false, left_of, right_of, both}
 use Rattle.stack_rational.proofs.Passing.{num_of, den_of, whole_fits}
-
-not-false : (b : Bool) → not b ≡ false → b ≡ true
-not-false true h = refl
-not-false false h = absurd cc
-
-left_of : (s t : Bool) → s && t ≡ true → s ≡ true
-left_of true t h = refl
-left_of false t h = absurd cc
-
-right_of : (s t : Bool) → s && t ≡ true → t ≡ true
-right_of true t h = h
-right_of false t h = absurd cc
-
-both : (s t : Bool) → s ≡ true → t ≡ true → s && t ≡ true
-both true t h k = k
-both false t h k = absurd cc
 
 module _ (m n : ℤ) (wider : nat_abs m ≤ nat_abs n) where
   within : (z : ℤ) → is_within m z ≡ true → is_within n z ≡ true

@@ -1,9 +1,10 @@
 -- The common scale of a list of fractions: the least common multiple of their denominators.
-use Rattle.std.specs.Prelude.{ℕ, ◌+◌, ◌-◌, ◌*◌, ◌/◌, ◌^◌, ◌<◌, ◌≤◌, List, [], ◌∷◌, length, take}
+use Rattle.std.specs.Prelude.{◌≡◌, ℤ, pos, ◌*ℤ◌, ℕ, ◌+◌, ◌-◌, ◌*◌, ◌/◌, ◌^◌, ◌<◌, ◌≤◌, List, [], ◌∷◌, length, take}
 use Rattle.std.specs.List.{AllByRecursion}
 use Prim.Native.Nat.{◌∣◌}
 use Rattle.stack_algebra.specs.Gcd.{gcd}
 use Rattle.stack_algebra.specs.Fraction.{Fraction}
+use Rattle.stack_algebra.proofs.Fractions.{mul, of}
 
 -- the least common multiple of two numbers
 abbrev pub common_multiple : ℕ → ℕ → ℕ
@@ -13,6 +14,10 @@ common_multiple a b = a / gcd a b * b
 unfoldable pub scale_of : List Fraction → ℕ
 scale_of [] = 1
 scale_of (x ∷ xs) = common_multiple x.den (scale_of xs)
+
+-- a number times a scale that its denominator divides
+abbrev pub times_scale : ℕ → Fraction → ℤ
+times_scale S x = x.num *ℤ pos (S / x.den)
 
 -- the greatest number that fits 128 bits
 abbrev pub greatest_number : ℕ
@@ -29,6 +34,9 @@ pub record IsFirstPassing (xs : List Fraction) (i : ℕ) : Type 0 where
 pub record IsLeastMultiple (xs : List Fraction) (n : ℕ) : Type 0 where
   pub common : AllByRecursion (λ x. x.den ∣ n) xs
   pub least : (m : ℕ) → AllByRecursion (λ x. x.den ∣ m) xs → n ∣ m
+
+abbrev pub TimesScaleIsWhole : Type 0
+TimesScaleIsWhole = (S : ℕ) (x : Fraction) → x.den ∣ S → mul (of (pos S)) x ≡ of (times_scale S x)
 
 abbrev pub ScaleIsLeastMultiple : Type 0
 ScaleIsLeastMultiple = (xs : List Fraction) → IsLeastMultiple xs (scale_of xs)

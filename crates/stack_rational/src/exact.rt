@@ -31,7 +31,7 @@ pub trait Exact: Copy {
     ghost use Rattle.stack_algebra.proofs.Fractions.{of};
     ghost use Rattle.stack_rational.specs.declared.exact.Op.TheVariants as op;
     ghost use Rattle.stack_rational.specs.Passes.{IsWidth, fits, passes, value_of};
-    ghost use Rattle.stack_rational.specs.Order.{order_of, sign_of_whole, is_zero_whole};
+    ghost use Rattle.stack_rational.specs.Order.{order_of, sign_of_whole, is_zero};
 
     // The value.
     ghost exact: { Self → Fraction };
@@ -40,6 +40,14 @@ pub trait Exact: Copy {
     ghost MAX: { ℤ };
 
     const MAX: i128;
+
+    /// 0. Never refused.
+    fn zero() -> Self
+        ensures { exact result ≡ of (pos 0) };
+
+    /// 1. Never refused.
+    fn one() -> Self
+        ensures { exact result ≡ of (pos 1) };
 
     /// A whole number. Refused exactly where its size passes `MAX`.
     fn from_whole(n: i128) -> Result<Self, Wide>
@@ -84,7 +92,7 @@ pub trait Exact: Copy {
 
     /// Whether the value is 0.
     fn is_zero(self) -> bool
-        ensures { result ≡ is_zero_whole (exact self).num };
+        ensures { result ≡ is_zero (exact self) };
 
     /// -1, 0 or 1.
     fn sign(self) -> i32
@@ -110,6 +118,14 @@ impl<T: Integer> Exact for Frac<T> {
     ghost max_law = { width_of T.MAX (T.Integer.size_law T.Integral.exact_law) };
 
     const MAX: i128 = T::MAX;
+
+    fn zero() -> Self {
+        Frac::nothing()
+    }
+
+    fn one() -> Self {
+        Frac::unit()
+    }
 
     fn from_whole(n: i128) -> Result<Self, Wide> {
         match Frac::whole(n) {

@@ -6,7 +6,7 @@ ghost use Rattle.stack_algebra.proofs.FractionField.{inv};
 ghost use Rattle.stack_algebra.proofs.Over.{over};
 ghost use Rattle.stack_rational.specs.Stored.{Fits, IsStored, SumFits, Within};
 ghost use Rattle.num_traits.specs.Laws.{Checks};
-ghost use Rattle.stack_rational.specs.CommonScale.{common_multiple};
+ghost use Rattle.stack_rational.specs.CommonScale.{common_multiple, times_scale};
 ghost use Rattle.stack_rational.specs.Order.{order_of, sign_of_whole, is_zero_whole};
 
 use crate::comparing::order_of_parts;
@@ -85,14 +85,21 @@ fn reduced<T: Integer>(num: T, den: T) -> Frac<T>
     made(part(num, g), part(den, g))
 }
 
-/// 0.
-fn nothing<T: Integer>() -> Frac<T>
-    ensures { result ≡ of (pos 0) }
-{
-    made(T::zero(), T::one())
-}
-
 impl<T: Integer> Frac<T> {
+    /// 0.
+    pub fn nothing() -> Self
+        ensures { result ≡ of (pos 0) }
+    {
+        made(T::zero(), T::one())
+    }
+
+    /// 1.
+    pub fn unit() -> Self
+        ensures { result ≡ of (pos 1) }
+    {
+        made(T::one(), T::one())
+    }
+
     /// A whole number, refused exactly where its size passes the greatest value.
     pub fn whole(n: i128) -> Result<Self, Passed>
         ensures ok { IfOk result (λ r. r ≡ of n) }
@@ -112,10 +119,10 @@ impl<T: Integer> Frac<T> {
         ensures err { OnErr result (¬ (Fits T.MAX (mul self other))) }
     {
         if self.num.is_zero() {
-            return Ok(nothing());
+            return Ok(Frac::nothing());
         }
         if other.num.is_zero() {
-            return Ok(nothing());
+            return Ok(Frac::nothing());
         }
         self.times_crosswise(other)
     }
@@ -277,5 +284,13 @@ impl<T: Integer> Frac<T> {
     {
         let g = divisor(scale, self.den);
         times(part(scale, g), self.den)
+    }
+
+    /// The number times a scale that its denominator divides, or none where that passes the greatest value.
+    pub fn scaled(&self, scale: T) -> Option<T>
+        requires { Within T.MAX (T.value scale) × (pos 0 <ℤ T.value scale) }
+        ensures { Checks T.value (Within T.MAX) (times_scale (unsigned_abs (T.value scale)) self.now) result }
+    {
+        times(self.num, part(scale, self.den))
     }
 }

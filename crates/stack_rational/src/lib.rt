@@ -13,7 +13,7 @@ mod scale;
 pub use exact::{Exact, Op, Wide};
 pub use frac::Frac;
 pub use integer::Integer;
-pub use laws::{order_law, parts_law, wider_law};
+pub use laws::{fitting_law, order_law, parts_law, wider_law};
 pub use scale::{ScaleWide, common_scale, scale_law};
 
 #[cfg(test)]

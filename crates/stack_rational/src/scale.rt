@@ -1,7 +1,7 @@
 //! The common scale of a list of fractions.
 
 ghost use Rattle.std.specs.Prelude.{◌≡◌, ℕ, pos, ◌≤◌, IfOk, IfErr, length, take};
-ghost use Rattle.stack_rational.specs.CommonScale.{IsFirstPassing, ScaleIsLeastMultiple, greatest_number, scale_of};
+ghost use Rattle.stack_rational.specs.CommonScale.{IsFirstPassing, ScaleIsLeastMultiple, TimesScaleIsWhole, greatest_number, scale_of};
 
 use crate::frac::Frac;
 
@@ -29,7 +29,9 @@ pub fn common_scale(list: &[Frac<i128>]) -> Result<i128, ScaleWide>
     Ok(scale)
 }
 
-/// The scale of a list is the least common multiple of its denominators.
+/// The scale of a list is the least common multiple of its denominators, and a number times a multiple of its denominator is
+/// the whole number that `times_scale` says.
 pub fn scale_law()
-    ensures { ScaleIsLeastMultiple }
+    ensures least { ScaleIsLeastMultiple }
+    ensures whole { TimesScaleIsWhole }
 {}

@@ -6,7 +6,8 @@ use lib.IntN.{ℤ, pos}
 use Rattle.stack_algebra.specs.Fraction.{Fraction}
 use Rattle.stack_algebra.proofs.Fractions.{of}
 use Rattle.stack_rational.specs.Passes.{fits}
-use Rattle.stack_table.specs.Block.{is_zero, value_at, mark_at, IsBlock}
+use Rattle.stack_table.specs.Block.{value_at, mark_at, IsBlock}
+use Rattle.stack_rational.specs.Order.{is_zero}
 
 module _ {V : Type 0} (e : V → Fraction) where
   pub value_at-past : (xs : List V) (j : ℕ) → length xs ≤ j → value_at e xs j ≡ of (pos 0)

@@ -89,27 +89,3 @@ listed_take p xs n bound h = record {
   reached = omega (arith, reach_take xs n n (omega arith), h.reached);
   after = λ j a b. h.after j (omega (arith, reach_take xs n n (omega arith), a)) b;
 }
-
--- the first item, over a gap and on by one
-pub first_over : {P : Type 0} (a b : ℕ) (f : ℕ → Option P) → first a f ≡ None → ((i : ℕ) → a ≤ i → i < b → f i ≡ None) → first b f ≡ None
-first_over a b f h k = first_all-none b f (λ i l. go i l (dec_lt i a))
-  where
-    go : (i : ℕ) → i < b → Dec (i < a) → f i ≡ None
-    go i l (yes d) = first-none a f h i d
-    go i l (no d) = k i (omega (arith, d)) l
-
-pub first_more : {P : Type 0} (i : ℕ) (f : ℕ → Option P) → first i f ≡ None → f i ≡ None → first (i + 1) f ≡ None
-first_more i f h k = ap (λ n. first n f) (add-one i) ∙ ap (λ o. or_else o (f i)) h ∙ k
-
--- the first item of two stretches, of equal items, and one that was found earlier
-pub first_same : {P : Type 0} (n : ℕ) (f g : ℕ → Option P) → ((i : ℕ) → i < n → f i ≡ g i) → first n f ≡ first n g
-first_same zero f g h = refl
-first_same (suc n) f g h = λ z. or_else (first_same n f g (λ i l. h i (omega (arith, l))) z) (h n (omega arith) z)
-
-pub first_join : {P : Type 0} (a b : ℕ) (f : ℕ → Option P) → first a f ≡ None → first (a + b) f ≡ first b (λ k. f (a + k))
-first_join a zero f h = let e : a + 0 ≡ a = omega arith in ap (λ n. first n f) e ∙ h
-first_join a (suc b) f h = let e : a + suc b ≡ suc (a + b) = omega arith in
-    ap (λ n. first n f) e ∙ ap (λ o. or_else o (f (a + b))) (first_join a b f h)
-
-pub first_further : {P : Type 0} (a n : ℕ) (f : ℕ → Option P) (p : P) → a ≤ n → first a f ≡ Some p → first n f ≡ Some p
-first_further a n f p l h = let s = first-some a f p h in first_found n s.index f p (omega (arith, s.below, l)) s.none_before s.item

@@ -13,9 +13,10 @@ use Rattle.stack_algebra.proofs.Fractions.{of}
 use Rattle.stack_algebra.specs.Rows.{changed}
 use Rattle.stack_algebra.proofs.Pivots.{changed-same, changed-other}
 use Rattle.stack_rational.specs.Passes.{fits}
-use Rattle.stack_table.specs.Block.{is_zero, value_at, mark_at, cell_of, IsBlock}
-use Rattle.stack_table.proofs.Fitting.{is_zero-of}
-use Rattle.stack_table.proofs.Blocks.{value_at-past}
+use Rattle.stack_table.specs.Block.{value_at, mark_at, cell_of, IsBlock}
+use Rattle.stack_rational.specs.Order.{is_zero}
+use Rattle.stack_rational.proofs.Fitting.{is_zero-of}
+use Rattle.stack_table.proofs.Blocks.{value_at-past, value_at-index}
 
 -- a row of a block of n rows
 pub row_in : (i n w size : ℕ) → i < n → size ≡ n * w → i * w + w ≤ size
@@ -50,6 +51,12 @@ module _ {V : Type 0} (e : V → Fraction) where
       go : Dec (j < w) → cell_of e w xs i j ≡ of (pos 0)
       go (yes k) = cell_in w xs i j k ∙ value_at-past e xs (i * w + j) (omega (arith, h, mul-le n w i w l (omega arith)))
       go (no k) = cell_past w xs i j (omega (arith, k))
+
+  -- a cell that is read, of n rows
+  pub cell_read : (w n : ℕ) (xs : List V) (i j : ℕ) (x : V) → i < n → n * w ≤ length xs → j < w →
+      x ≡ get_or xs (i * w + j) x → cell_of e w xs i j ≡ e x
+  cell_read w n xs i j x l room k is = cell_in w xs i j k
+      ∙ value_at-index e xs (i * w + j) x (omega (arith, row_in i n w (n * w) l refl, room, k)) is
 
   module _ (w r : ℕ) (above own below : List V) (la : length above ≡ r * w) (lo : length own ≡ w) where
     pub cell_above : (i j : ℕ) → i < r → cell_of e w (above ++ (own ++ below)) i j ≡ cell_of e w above i j

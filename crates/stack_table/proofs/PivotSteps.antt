@@ -9,13 +9,12 @@ use Rattle.stack_algebra.proofs.Fractions.{fractions}
 use Rattle.stack_algebra.proofs.FractionField.{inv}
 use Rattle.stack_algebra.proofs.Pivots.{pivoted-own, pivoted-other}
 use Rattle.stack_algebra.proofs.OrderedFractions.{ordered_fractions}
-use Rattle.stack_algebra.proofs.Search.{first, or_else}
+use Rattle.stack_algebra.proofs.Search.{first, or_else, first_more, first_same, first_join, first_further}
 use Rattle.stack_rational.specs.Passes.{passes}
 use Rattle.stack_table.specs.declared.types.PivotWide.{PivotWide}
 use Rattle.stack_table.specs.Block.{value_at, cell_of}
 use Rattle.stack_table.specs.Spots.{divided, reduced, divide_spot, reduce_spot, rows_spot, row_spot, cells_spot}
 use Rattle.stack_table.proofs.Blocks.{value_at-index}
-use Rattle.stack_table.proofs.Listed.{first_more, first_same, first_join, first_further}
 use Rattle.stack_table.proofs.Parts.{cell_above, cell_own, cell_below}
 use Rattle.stack_table.proofs.RowSteps.{divide_same, reduce_same, reduced_same, divided_same}
 

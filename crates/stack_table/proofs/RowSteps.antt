@@ -9,9 +9,9 @@ use Rattle.stack_algebra.proofs.Search.{first_all-none}
 use Rattle.stack_rational.specs.declared.exact.Op.TheVariants.{Difference, Product, Quotient}
 use Rattle.stack_rational.specs.Passes.{IsWidth, fits, passes, value_of}
 use Rattle.stack_table.specs.declared.types.Step.TheVariants.{Divide, Multiply, Subtract}
-use Rattle.stack_table.specs.Block.{is_zero}
+use Rattle.stack_rational.specs.Order.{is_zero}
 use Rattle.stack_table.specs.Spots.{divided, reduced, divide_item, reduce_item, divide_spot, reduce_spot}
-use Rattle.stack_table.proofs.Fitting.{zero_is, quotient_of_zero, product_of_zero, difference_of_zero}
+use Rattle.stack_rational.proofs.Fitting.{zero_is, quotient_of_zero, product_of_zero, difference_of_zero}
 
 module _ (m : ℤ) (f : ℕ → Fraction) (d : Fraction) (row j : ℕ) where
   pub divide_skips : IsWidth m → is_zero (f j) ≡ true →

@@ -1,14 +1,11 @@
 -- Cells in one flat block with a mark for each, by the fractions that they hold. Outside all cells are 0 and all
 -- marks are on.
-use Rattle.std.specs.Prelude.{◌≡◌, ℕ, ◌+◌, ◌*◌, Bool, true, cond, ltb, List, map, length, get_or, ℤ, pos}
+use Rattle.std.specs.Prelude.{◌≡◌, ℕ, ◌+◌, ◌*◌, ◌<◌, Bool, true, cond, ltb, List, map, length, get_or, ℤ, pos}
 use Rattle.stack_algebra.specs.Fraction.{Fraction}
 use Rattle.stack_algebra.proofs.Fractions.{of}
-use Rattle.stack_rational.specs.Order.{is_zero_whole}
+use Rattle.stack_rational.specs.Order.{is_zero}
 use Rattle.stack_rational.specs.Passes.{fits}
 use Rattle.stack_table.specs.Table.{Shape, Tabled, width}
-
-abbrev pub is_zero : Fraction → Bool
-is_zero x = is_zero_whole x.num
 
 -- the value of item k
 abbrev pub value_at : {V : Type 0} → (V → Fraction) → List V → ℕ → Fraction
@@ -27,6 +24,12 @@ pub record IsBlock {V : Type 0} (m : ℤ) (exact : V → Fraction) (cells : List
   pub same : length marks ≡ length cells
   pub marked : (k : ℕ) → mark_at marks k ≡ is_zero (value_at exact cells k)
   pub fitting : (k : ℕ) → fits m (value_at exact cells k) ≡ true
+
+-- n cells more, with the values of f
+pub record Grows {V : Type 0} (exact : V → Fraction) (before after : List V) (n : ℕ) (f : ℕ → Fraction) : Type 0 where
+  pub longer : length after ≡ length before + n
+  pub kept : (k : ℕ) → k < length before → value_at exact after k ≡ value_at exact before k
+  pub put : (k : ℕ) → k < n → value_at exact after (length before + k) ≡ f k
 
 -- the shape by its numbers
 abbrev pub shape_of : ℕ → ℕ → Bool → Shape

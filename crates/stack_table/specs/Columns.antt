@@ -1,7 +1,8 @@
 -- A list of the columns in which a row isn't 0, made once a pivot.
 use Rattle.std.specs.Prelude.{◌≡◌, ℕ, zero, suc, ◌<◌, ◌≤◌, Bool, true, List, get_or}
 use Rattle.stack_algebra.specs.Fraction.{Fraction}
-use Rattle.stack_table.specs.Block.{is_zero, value_at}
+use Rattle.stack_table.specs.Block.{value_at}
+use Rattle.stack_rational.specs.Order.{is_zero}
 
 -- one past the last of the first k items, 0 where there is none
 abbrev pub reach : List ℕ → ℕ → ℕ

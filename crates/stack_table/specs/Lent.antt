@@ -2,6 +2,7 @@
 use Rattle.std.specs.Prelude.{◌≡◌, ℕ, ◌^◌, ◌<◌, ◌≤◌, cond, eqb, ltb, Option, Some, None, List, [], ◌∷◌, map, length, get_or, ℤ, pos, unsigned_abs}
 use Rattle.std.specs.List.{AllByRecursion}
 use Rattle.std.specs.List.Sorted.{IsStrictlyIncreasing}
+use Rattle.stack_whole.specs.Limits.{IsBelowBound}
 use Rattle.stack_table.specs.declared.problem.Entry.{Entry}
 use Rattle.stack_table.specs.declared.problem.Column.{Column}
 use Rattle.stack_table.specs.declared.problem.Problem.{Problem as Lent}
@@ -44,18 +45,11 @@ problem_of P = record {
   load = λ i. get_or P.right.items i (pos 0);
 }
 
--- all numbers of a problem are below this one in size
-abbrev pub number_bound : ℕ
-number_bound = 2 ^ 90
-
-abbrev pub IsSmall : ℤ → Type 0
-IsSmall z = unsigned_abs z < number_bound
-
 -- entries in rows below `rows` that rise strictly, with small values
 pub record IsColumn (rows : ℕ) (entries : List Entry) : Type 0 where
   pub below : AllByRecursion (λ x. x.row < rows) entries
   pub rising : IsStrictlyIncreasing (map (λ x. x.row) entries)
-  pub small : AllByRecursion (λ x. IsSmall x.value) entries
+  pub small : AllByRecursion (λ x. IsBelowBound x.value) entries
 
 -- the condition of a table
 pub record IsProblem (P : Lent) : Type 0 where
@@ -64,7 +58,7 @@ pub record IsProblem (P : Lent) : Type 0 where
   pub contact_columns : AllByRecursion (λ c. IsColumn P.rows c.entries.items) P.contact.items
   pub factor_column : IsColumn P.rows (factor_entries P.factor)
   pub right_long : length P.right.items ≡ P.rows
-  pub right_small : AllByRecursion IsSmall P.right.items
+  pub right_small : AllByRecursion IsBelowBound P.right.items
 
 -- what an error of `build` tells of the first place that passes
 abbrev pub Tells : BuildError → Option BuildError → Type 0

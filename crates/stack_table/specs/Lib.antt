@@ -6,3 +6,4 @@ pub mod Lent
 pub mod Block
 pub mod Columns
 pub mod Seen
+pub mod Sound

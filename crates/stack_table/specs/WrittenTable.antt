@@ -22,6 +22,10 @@ number_at P i j = cond (ltb j (plain P.shape)) (turned (flipped P i) (P.entry i 
 abbrev pub is_artificial : Shape → ℕ → Bool
 is_artificial S j = leb (plain S) j && ltb j (columns S)
 
+-- the basic column of a row is its artificial column; 0 past the last row
+abbrev pub first_basic : Problem → ℕ → ℕ
+first_basic P i = cond (ltb i P.shape.rows) (plain P.shape + i) 0
+
 module _ (F : Ordered) where
   -- 0 less the first n numbers, in rising order
   abbrev pub less_all : ℕ → (ℕ → F.C) → F.C
@@ -40,14 +44,11 @@ module _ (F : Ordered) (P : Problem) where
   abbrev pub first_objective : ℕ → F.C
   first_objective = objective_over F P.shape first_row
 
-  -- the basic column of a row is its artificial column; 0 past the last row
-  abbrev pub first_basic : ℕ → ℕ
-  first_basic i = cond (ltb i P.shape.rows) (plain P.shape + i) 0
-
+  -- the table
   abbrev pub written_table : Tabled F.C
   written_table = record {
     cell = changed first_row P.shape.rows first_objective;
-    basic = first_basic;
+    basic = first_basic P;
   }
 
 module _ (F : Ordered) (passes : Op → F.C → F.C → Bool) where

@@ -1,6 +1,6 @@
 //! The later objective rows, written over the last row of a block.
 
-ghost use Rattle.std.specs.Prelude.{◌≡◌, ℕ, suc, ◌*◌, ◌<◌, length, pos, cond, eqb, get_or, true, IfSome};
+ghost use Rattle.std.specs.Prelude.{◌≡◌, ℕ, suc, ◌*◌, ◌<◌, length, pos, negsuc, cond, eqb, get_or, true, IfSome};
 ghost use Rattle.stack_algebra.proofs.Fractions.{of};
 ghost use Rattle.stack_algebra.proofs.OrderedFractions.{ordered_fractions};
 ghost use Rattle.stack_algebra.specs.Rows.{changed};
@@ -9,8 +9,18 @@ ghost use Rattle.stack_rational.specs.Passes.{fits};
 ghost use Rattle.stack_table.specs.Table.{factor_row};
 ghost use Rattle.stack_table.specs.Block.{cell_of, value_at, IsBlock};
 
-use crate::whole::{minus_one, zero};
 use stack_rational::Exact;
+
+/// -1.
+fn minus_one<S: Exact>() -> S
+    ensures value { S.exact result ≡ of (negsuc 0) }
+    ensures fits { fits S.MAX (S.exact result) ≡ true }
+{
+    match S::from_whole(-1) {
+        Ok(number) => number,
+        Err(_) => unreachable!(),
+    }
+}
 
 /// Sets each cell of a row to 0.
 fn clear_row<S: Exact>(cells: &mut [S], marks: &mut [bool])
@@ -18,9 +28,9 @@ fn clear_row<S: Exact>(cells: &mut [S], marks: &mut [bool])
     ensures block { IsBlock S.MAX S.exact cells.new marks.new }
     ensures ok { (j : ℕ) → value_at S.exact cells.new j ≡ of (pos 0) }
 {
-    let nothing: S = zero();
+    let zero = S::zero();
     for j in 0..cells.len() {
-        cells[j] = nothing;
+        cells[j] = zero;
         marks[j] = true;
     }
 }
@@ -90,7 +100,7 @@ pub fn set_last<S: Exact>(
             let from = r * width;
             last.copy_from_slice(&above[from..from + width]);
             last_marks.copy_from_slice(&marks_above[from..from + width]);
-            set_cell(last, last_marks, column, zero());
+            set_cell(last, last_marks, column, S::zero());
         }
         None => {
             clear_row(last, last_marks);

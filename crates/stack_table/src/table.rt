@@ -4,10 +4,13 @@ ghost use Rattle.std.specs.Prelude.{◌≡◌, ℕ, suc, ◌*◌, ◌<◌, lengt
 ghost use Rattle.stack_table.specs.Table.{width, columns};
 ghost use Rattle.stack_table.specs.Block.{shape_of, IsBlock};
 
+use crate::building::{artificial, push_objective, push_row};
 use crate::objective::{clear_last, row_with, set_last};
 use crate::pivoting::pivot_block;
+use crate::problem::{BuildError, Problem};
 use crate::types::PivotWide;
 use stack_rational::Exact;
+use std::alloc::Global;
 
 /// The exact table of a run, in one flat block. Row `rows` is the objective row, column `columns` the right side.
 ///
@@ -39,10 +42,54 @@ impl<S: Exact> Table<S> {
     ghost use Rattle.std.specs.Prelude.{◌≢◌, ◌+◌, ◌≤◌, pos, cond, true, OnOk, IfOk, IfErr, MatchResult, Some, None};
     ghost use Rattle.stack_algebra.proofs.OrderedFractions.{ordered_fractions};
     ghost use Rattle.stack_rational.specs.Passes.{passes};
+    ghost use Rattle.stack_rational.specs.Order.{is_zero};
     ghost use Rattle.stack_table.specs.Table.{pivoted_at, clear_objective, set_factor_objective};
-    ghost use Rattle.stack_table.specs.Block.{mark_at, is_zero, value_at};
+    ghost use Rattle.stack_table.specs.Block.{mark_at, value_at};
     ghost use Rattle.stack_table.specs.Spots.{pivot_spot};
+    ghost use Rattle.stack_table.specs.Problem.{flipped};
+    ghost use Rattle.stack_table.specs.Lent.{IsProblem, IsAmple, shape_of_problem, problem_of, Tells};
+    ghost use Rattle.stack_table.specs.WrittenTable.{written_table, wide_place};
+    ghost use Rattle.stack_table.specs.declared.problem.BuildError.TheVariants as build_error;
     ghost use Rattle.stack_table.specs.Seen.{shape_of_table, table_of, flips_of};
+
+    /// The written table of a problem.
+    ///
+    /// Refused at the first number, or partial difference of the objective row, that passes, in the written order;
+    /// never at 128 bits. All memory of a run is taken here.
+    pub fn build(alloc: Global, p: &Problem) -> Result<Table<S>, BuildError>
+        requires { IsProblem p.now }
+        ensures shape { IfOk result (λ t. shape_of_table t ≡ shape_of_problem p.now) }
+        ensures ok { IfOk result (λ t. table_of t ≡ written_table ordered_fractions (problem_of p.now)) }
+        ensures flips { IfOk result (λ t. flips_of t ≡ flipped (problem_of p.now)) }
+        ensures fits { OnOk result (wide_place ordered_fractions (passes S.MAX) (problem_of p.now) ≡ None) }
+        ensures wide { IfErr result (λ e. Tells e (wide_place ordered_fractions (passes S.MAX) (problem_of p.now))) }
+        ensures never_wide { IsAmple S.MAX → IfErr result (λ e. e ≡ build_error.Memory) }
+    {
+        let artificial = artificial(p);
+        let width = artificial + p.rows + 1;
+        let size = (p.rows + 1) * width;
+        let mut cells: Vec<S> = Vec::with_capacity(alloc, size)?;
+        let mut marks: Vec<bool> = Vec::with_capacity(alloc, size)?;
+        let listed: Vec<usize> = Vec::from_elem(alloc, 0, width)?;
+        let mut basic: Vec<usize> = Vec::with_capacity(alloc, p.rows)?;
+        let mut flipped: Vec<bool> = Vec::with_capacity(alloc, p.rows)?;
+        for i in 0..p.rows {
+            push_row(&mut cells, &mut marks, p, artificial, i)?;
+            basic.push(artificial + i)?;
+            flipped.push(p.right[i] < 0)?;
+        }
+        push_objective(&mut cells, &mut marks, p, artificial)?;
+        Ok(Table {
+            cells,
+            marks,
+            basic,
+            flipped,
+            listed,
+            rows: p.rows,
+            contacts: p.contact.len(),
+            has_factor: p.factor.is_some(),
+        })
+    }
 
     pub fn rows(&self) -> usize
         ensures { result ≡ (shape_of_table self.now).rows }

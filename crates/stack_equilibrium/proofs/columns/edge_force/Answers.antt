@@ -1,5 +1,5 @@
 use Rattle.std.proofs.Common.{ap, ◌∙◌, ◌+ℤ◌, ◌*ℤ◌, neg_ℤ}
-use Rattle.stack_equilibrium.specs.Whole.{whole}
+use Rattle.stack_whole.specs.Whole.{whole}
 use Rattle.stack_equilibrium.specs.Columns.{lean_of}
 use Rattle.stack_equilibrium.proofs.Products.{step_stored}
 use Rattle.stack_equilibrium.proofs.columns.edge_force.Goals as goal

@@ -1,6 +1,6 @@
 use Rattle.std.proofs.Common.{◌≡◌, pos, drop}
 use Rattle.stack_algebra.specs.Steps.{steps}
-use Rattle.stack_equilibrium.specs.Whole.{whole}
+use Rattle.stack_whole.specs.Whole.{whole}
 use Rattle.stack_equilibrium.specs.WrittenSums.{bearing_at}
 use Rattle.stack_equilibrium.proofs.sums.add_bearings.Given as goal
 

@@ -1,6 +1,6 @@
 use Rattle.std.proofs.Common.{rules, ap, SFits}
 use mir.Syntax.{w128}
-use Rattle.stack_equilibrium.specs.Whole.{whole}
+use Rattle.stack_whole.specs.Whole.{whole}
 use Rattle.stack_equilibrium.proofs.Products.{times_stored}
 use Rattle.stack_equilibrium.proofs.weight.times.Goals as goal
 

@@ -2,7 +2,7 @@ use Rattle.std.proofs.Common.{◌≡◌, rules, ap, sym, subst, SFits, ◌∙◌
 use mir.Syntax.{w64, w128}
 use Rattle.std.proofs.lemmas.Int.{to_z-of_z}
 use Rattle.stack_polygon.specs.Area.{twice_area_of, six_moments_of}
-use Rattle.stack_equilibrium.specs.declared.whole.Whole.{Whole}
+use Rattle.stack_whole.specs.declared.whole.Whole.{Whole}
 use Rattle.stack_equilibrium.specs.LoadSizes.{IsWeight}
 use Rattle.stack_equilibrium.specs.Weights.{weight_by}
 use Rattle.stack_equilibrium.proofs.FanSums.{weighs}

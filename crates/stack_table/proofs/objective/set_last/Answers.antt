@@ -3,6 +3,8 @@ use Rattle.std.specs.Prelude.{IfSome}
 use Rattle.std.proofs.Math.Nat.{suc-mul}
 use lib.IntN.{pos, negsuc}
 use Rattle.stack_algebra.proofs.Fractions.{of}
+use Rattle.stack_rational.specs.Passes.{fits}
+use Rattle.stack_rational.proofs.Fitting.{zero_fits}
 use Rattle.stack_table.specs.Block.{value_at, cell_of}
 use Rattle.stack_table.proofs.Parts.{row_in, two_parts, last_length, last_changed, first_rows, block_join, part_block, part_value}
 use Rattle.stack_table.proofs.objective.set_last.Goals as goal
@@ -17,6 +19,10 @@ set_cell-requires-clause-block g c =
     rw (c.copy_from_slice.ensures.after, c.copy_from_slice-in-Some.ensures.after)
     (part_block g.S.Exact.exact g.S.Exact.MAX c.args.width c.in-Some.r c.split_at_mut-above.result.0.now c.split_at_mut-marks_above.result.0.now p.0
     (row_in c.in-Some.r c.args.rows c.args.width (length c.split_at_mut-above.result.0.now) l c.split_at_mut-above.ensures.front_len))
+
+pub set_cell-requires-clause-fits : goal.set_cell-requires-clause-fits
+set_cell-requires-clause-fits g c = ap (fits g.S.Exact.MAX) c.zero.ensures
+    ∙ zero_fits g.S.Exact.MAX g.met.S.Exact.max_law
 
 pub clear_row-requires : goal.clear_row-requires
 clear_row-requires g c = record {
@@ -52,7 +58,7 @@ returns-in-Some-clause-ok g c =
     c.split_at_mut-above.ensures.value c.split_at_mut-above.ensures.front_len
     (last_length c.args.rows c.args.width (length c.args.cells.now) (length c.split_at_mut-above.result.1.now) c.requires.whole c.split_at_mut-above.ensures.back_len)
     c.set_cell.new.cells (λ j. cond (eqb j c.args.column) (of (pos 0)) (cell_of e w c.args.cells.now r j)) (c.set_cell.auto.cells ∙ c.copy_from_slice.ensures.len)
-    (λ j. c.set_cell.ensures.ok j ∙ (λ z. cond (eqb j c.args.column) (c.zero.ensures.value z) (copied j z))))
+    (λ j. c.set_cell.ensures.ok j ∙ (λ z. cond (eqb j c.args.column) (c.zero.ensures z) (copied j z))))
 
 pub returns-in-None-clause-block : goal.returns-in-None-clause-block
 returns-in-None-clause-block g c = block_join g.S.Exact.exact g.S.Exact.MAX _ _ _ _ (two_parts g.S.Exact.exact g.S.Exact.MAX c.args.cells.now c.args.marks.now (c.args.rows * c.args.width)

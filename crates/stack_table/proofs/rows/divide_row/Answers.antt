@@ -5,14 +5,16 @@ use Rattle.stack_algebra.specs.Fraction.{Fraction}
 use Rattle.stack_algebra.proofs.Fractions.{mul}
 use Rattle.stack_algebra.proofs.FractionField.{inv}
 use Rattle.stack_algebra.proofs.OrderedFractions.{ordered_fractions}
-use Rattle.stack_algebra.proofs.Search.{first_found}
+use Rattle.stack_algebra.proofs.Search.{first_found, first_more}
 use Rattle.stack_rational.specs.declared.exact.Op.TheVariants.{Quotient}
 use Rattle.stack_rational.specs.Passes.{passes, fits}
-use Rattle.stack_table.specs.Block.{is_zero, value_at, mark_at}
+use Rattle.stack_table.specs.Block.{value_at, mark_at}
+use Rattle.stack_rational.specs.Order.{is_zero}
 use Rattle.stack_table.specs.Spots.{divided, divide_item}
-use Rattle.stack_table.proofs.Fitting.{not-false, is_zero-of, quotient_not-zero}
+use Rattle.stack_rational.proofs.Conjunctions.{not-false}
+use Rattle.stack_rational.proofs.Fitting.{is_zero-of, quotient_not-zero}
 use Rattle.stack_table.proofs.Blocks.{value_at-past, value_at-index, value_at-set_same, value_at-set_other, block_kept, written_done, written_rest}
-use Rattle.stack_table.proofs.Listed.{listed_skip, listed_more, first_more}
+use Rattle.stack_table.proofs.Listed.{listed_skip, listed_more}
 use Rattle.stack_table.proofs.RowSteps.{divide_skips, divide_passes, divide_goes}
 use Rattle.stack_table.proofs.rows.divide_row.Goals as goal
 use Rattle.stack_table.proofs.rows.divide_row.Goals.{then-not-marks-j+in-Ok, else-not-marks-j}

@@ -3,15 +3,15 @@ use native.Mathlib.Decide.{dec_lt}
 use Rattle.stack_algebra.specs.Fraction.{Fraction}
 use Rattle.stack_algebra.proofs.Fractions.{mul}
 use Rattle.stack_algebra.proofs.OrderedFractions.{ordered_fractions}
-use Rattle.stack_algebra.proofs.Search.{first, or_else, first_found}
+use Rattle.stack_algebra.proofs.Search.{first, or_else, first_found, first_over}
 use Rattle.stack_rational.specs.declared.exact.Op.TheVariants.{Product, Difference}
 use Rattle.stack_rational.specs.Passes.{passes, fits}
-use Rattle.stack_table.specs.Block.{is_zero, value_at}
+use Rattle.stack_table.specs.Block.{value_at}
+use Rattle.stack_rational.specs.Order.{is_zero}
 use Rattle.stack_table.specs.Columns.{reach}
 use Rattle.stack_table.specs.Spots.{reduced, reduce_item}
-use Rattle.stack_table.proofs.Fitting.{answer_fits, is_zero-of}
+use Rattle.stack_rational.proofs.Fitting.{answer_fits, is_zero-of}
 use Rattle.stack_table.proofs.Blocks.{value_at-past, value_at-index, value_at-set_same, value_at-set_other, block_set, written_done, written_rest}
-use Rattle.stack_table.proofs.Listed.{first_over}
 use Rattle.stack_table.proofs.RowSteps.{column_skips, product_passes, difference_passes, neither_passes, reduced_here}
 use Rattle.stack_table.proofs.rows.reduce_row.Goals as goal
 

@@ -5,12 +5,12 @@ use borrow.Rule.Slice.PartMut.{put_mid}
 use native.Mathlib.Decide.{ℕ_discrete, dec_lt}
 use Rattle.stack_algebra.specs.Fraction.{Fraction}
 use Rattle.stack_algebra.proofs.OrderedFractions.{ordered_fractions}
-use Rattle.stack_algebra.proofs.Search.{first_found}
+use Rattle.stack_algebra.proofs.Search.{first_found, first_more}
 use Rattle.stack_rational.specs.Passes.{passes}
-use Rattle.stack_table.specs.Block.{is_zero, value_at, mark_at, cell_of}
+use Rattle.stack_table.specs.Block.{value_at, mark_at, cell_of}
+use Rattle.stack_rational.specs.Order.{is_zero}
 use Rattle.stack_table.specs.Spots.{reduced, reduce_spot}
-use Rattle.stack_table.proofs.Fitting.{is_zero-of}
-use Rattle.stack_table.proofs.Listed.{first_more}
+use Rattle.stack_rational.proofs.Fitting.{is_zero-of}
 use Rattle.stack_table.proofs.Parts.{row_in, cell_in, cell_outside, fits_cell, part_block, part_length, part_value, put_block, put_own, put_other}
 use Rattle.stack_table.proofs.RowSteps.{row_skips, row_none, reduce_same, reduced_same}
 use Rattle.stack_table.proofs.rows.reduce_rows.Goals as goal

@@ -2,7 +2,7 @@ use mathlib.Core.Path.{◌≡◌, ap, ◌∙◌}
 use native.Mathlib.Omega.{arith}
 use lib.IntN.{pos}
 use Rattle.stack_rational.proofs.OverOne.{whole-stored, whole-is}
-use Rattle.stack_rational.proofs.frac.nothing.Goals as goal
+use Rattle.stack_rational.proofs.frac.Frac.nothing.Goals as goal
 
 one : (g : _) (c : goal.After-one g) → g.T.Number.value c.one.result ≡ pos 1
 one g c = ap g.T.Number.value c.one.ensures ∙ g.met.T.One.one_law g.met.T.Integral.exact_law

@@ -1,14 +1,14 @@
--- What is 0 never passes, and what doesn't pass fits.
+-- What doesn't pass fits, and what is 0 never passes.
 use mathlib.Core.Path.{◌≡◌, refl, sym, ap, ◌∙◌}
 use mathlib.Core.Logic.{◌≢◌}
-use Prim.Native.Nat.{zero, suc, ◌/◌}
+use Prim.Native.Nat.{zero, suc, ◌/◌, ◌≤◌}
 use native.Mathlib.Omega.{arith}
 use lib.IntN.{ℤ, pos, negsuc, nat_abs, ◌+ℤ◌, ◌*ℤ◌}
 use Rattle.std.proofs.lemmas.Int.{ints}
 use Rattle.std.proofs.lemmas.Bool.{le-leb, leb-true}
 use Rattle.std.proofs.Math.Nat.{div-le_self}
-use Rattle.std.specs.Prelude.{Bool, true, false, not, ◌&&◌}
-use Rattle.stack_algebra.specs.Ordered.{Sign, minus, nought, plus, both, sign_of}
+use Rattle.std.specs.Prelude.{true, false, not}
+use Rattle.stack_algebra.specs.Ordered.{Sign, minus, nought, plus, opposite, both as product_sign, sign_of}
 use Rattle.stack_algebra.specs.Fraction.{Fraction, low_num, low_den}
 use Rattle.stack_algebra.specs.Gcd.{gcd}
 use Rattle.stack_algebra.proofs.Order.{◌≺◌, mul_pos}
@@ -19,36 +19,25 @@ use Rattle.stack_algebra.proofs.FractionField.{inv}
 use Rattle.stack_algebra.proofs.OrderedFractions.{ordered_fractions}
 use Rattle.stack_algebra.proofs.Over.{over, over-parts, over_own, add-common}
 use Rattle.stack_rational.specs.Stored.{Fits, SumFits}
-use Rattle.stack_rational.specs.declared.exact.Op.{Op}
 use Rattle.stack_rational.specs.declared.exact.Op.TheVariants.{Whole, Sum, Difference, Product, Quotient}
-use Rattle.stack_rational.specs.Order.{is_zero_whole}
-use Rattle.stack_rational.specs.Passes.{IsWidth, is_within, fits, sum_fits, passes, value_of, common_denominator, left_term, right_term}
+use Rattle.stack_rational.specs.Order.{is_zero_whole, is_zero}
+use Rattle.stack_rational.specs.Passes.{IsWidth, is_within, fits, sum_fits, passes, common_denominator, left_term, right_term}
+use Rattle.stack_rational.specs.Laws.{AnswersFit, SmallFits}
+use Rattle.stack_rational.proofs.Conjunctions.{not-false, left_of, right_of, both}
 use Rattle.stack_rational.proofs.Crosswise.{exact-part, positive-part}
 use Rattle.stack_rational.proofs.Passing.{num_of, den_of}
 use Rattle.stack_rational.proofs.ShortCuts.{plus_zero, plus_zero_fits}
-use Rattle.stack_table.specs.Block.{is_zero}
-
-pub not-false : (b : Bool) → not b ≡ false → b ≡ true
-not-false true h = refl
-not-false false h = absurd cc
-
-left_of : (s t : Bool) → s && t ≡ true → s ≡ true
-left_of true t h = refl
-left_of false t h = absurd cc
-
-right_of : (s t : Bool) → s && t ≡ true → t ≡ true
-right_of true t h = h
-right_of false t h = absurd cc
-
-and : (s t : Bool) → s ≡ true → t ≡ true → s && t ≡ true
-and true t h k = k
-and false t h k = absurd cc
 
 -- zero
 is_zero_whole-sign : (z : ℤ) → is_zero_whole z ≡ true → sign_of z ≡ nought
 is_zero_whole-sign (pos zero) h = refl
 is_zero_whole-sign (pos (suc n)) h = absurd cc
 is_zero_whole-sign (negsuc n) h = absurd cc
+
+nought_is : (z : ℤ) → sign_of z ≡ nought → is_zero_whole z ≡ true
+nought_is (pos zero) e = refl
+nought_is (pos (suc n)) e = absurd cc
+nought_is (negsuc n) e = absurd cc
 
 pub is_zero_whole-num : (z : ℤ) → is_zero_whole z ≡ true → z ≡ pos 0
 is_zero_whole-num (pos zero) h = refl
@@ -72,12 +61,12 @@ is_zero_whole-not (pos zero) h = absurd (h refl)
 is_zero_whole-not (pos (suc n)) h = refl
 is_zero_whole-not (negsuc n) h = refl
 
-both-not : (s t : Sign) → s ≢ nought → t ≢ nought → both s t ≢ nought
-both-not minus minus h k e = cc
-both-not minus nought h k e = k refl
-both-not minus plus h k e = cc
-both-not nought t h k e = h refl
-both-not plus t h k e = k e
+product_sign-not : (s t : Sign) → s ≢ nought → t ≢ nought → product_sign s t ≢ nought
+product_sign-not minus minus h k e = cc
+product_sign-not minus nought h k e = k refl
+product_sign-not minus plus h k e = cc
+product_sign-not nought t h k e = h refl
+product_sign-not plus t h k e = k e
 
 pub sign-not : (z : ℤ) → z ≢ pos 0 → sign_of z ≢ nought
 sign-not (pos zero) h e = h refl
@@ -85,28 +74,30 @@ sign-not (pos (suc n)) h e = cc
 sign-not (negsuc n) h e = cc
 
 inv-not : (y : Fraction) → sign_of y.num ≢ nought → sign_of (inv y).num ≢ nought
-inv-not y h e = go (ordered_fractions.sign-mul (inv y) y) (ap ordered_fractions.sign (ordered_fractions.inv-mul y h) ∙ ordered_fractions.sign-one)
+inv-not y h e = go (ordered_fractions.sign-mul (inv y) y)
+    (ap ordered_fractions.sign (ordered_fractions.inv-mul y h) ∙ ordered_fractions.sign-one)
   where
-    go : sign_of (mul (inv y) y).num ≡ both (sign_of (inv y).num) (sign_of y.num) → sign_of (mul (inv y) y).num ≡ plus → ⊥
-    go p q = let r : plus ≡ nought = sym q ∙ p ∙ ap (λ s. both s (sign_of y.num)) e in cc
+    go : sign_of (mul (inv y) y).num ≡ product_sign (sign_of (inv y).num) (sign_of y.num) →
+        sign_of (mul (inv y) y).num ≡ plus → ⊥
+    go p q = let r : plus ≡ nought = sym q ∙ p ∙ ap (λ s. product_sign s (sign_of y.num)) e in cc
 
 pub quotient_not-zero : (x y : Fraction) → is_zero x ≡ false → y.num ≢ pos 0 → is_zero (mul (inv y) x) ≡ false
 quotient_not-zero x y h k = is_zero_whole-not (mul (inv y) x).num
-    (λ e. both-not (sign_of (inv y).num) (sign_of x.num) (inv-not y (sign-not y.num k)) (not_nought x.num h)
-    (sym (ordered_fractions.sign-mul (inv y) x) ∙ e))
+    (λ e. product_sign-not (sign_of (inv y).num) (sign_of x.num) (inv-not y (sign-not y.num k))
+    (not_nought x.num h) (sym (ordered_fractions.sign-mul (inv y) x) ∙ e))
 
--- what fits, as a record
+-- what fits, as a record and as a test
 pub Fits-of : (m : ℤ) (x : Fraction) → fits m x ≡ true → Fits m x
 Fits-of m x h = record {
   num = leb-true (nat_abs x.num) (nat_abs m) (left_of _ _ h);
   den = leb-true x.den (nat_abs m) (right_of _ _ h);
 }
 
-fits-of : (m : ℤ) (x : Fraction) → Fits m x → fits m x ≡ true
-fits-of m x f = and _ _ (le-leb (nat_abs x.num) (nat_abs m) f.num) (le-leb x.den (nat_abs m) f.den)
+pub fits-of : (m : ℤ) (x : Fraction) → Fits m x → fits m x ≡ true
+fits-of m x f = both _ _ (le-leb (nat_abs x.num) (nat_abs m) f.num) (le-leb x.den (nat_abs m) f.den)
 
 pub sum_fits-of : (m : ℤ) (x y : Fraction) → SumFits m x y → sum_fits m x y ≡ true
-sum_fits-of m x y f = and _ _ (and _ _ (and _ _ (le-leb _ (nat_abs m) f.den) (le-leb _ (nat_abs m) f.left))
+sum_fits-of m x y f = both _ _ (both _ _ (both _ _ (le-leb _ (nat_abs m) f.den) (le-leb _ (nat_abs m) f.left))
     (le-leb _ (nat_abs m) f.right)) (le-leb _ (nat_abs m) f.total)
 
 module _ (m : ℤ) (w : IsWidth m) where
@@ -116,7 +107,8 @@ module _ (m : ℤ) (w : IsWidth m) where
     den = omega (arith, ints, den_of (pos 0), w.some);
   })
 
-  pub quotient_of_zero : (x y : Fraction) → is_zero x ≡ true → (mul (inv y) x ≡ x) × (passes m Quotient x y ≡ false)
+  pub quotient_of_zero : (x y : Fraction) → is_zero x ≡ true →
+      (mul (inv y) x ≡ x) × (passes m Quotient x y ≡ false)
   quotient_of_zero x y h = (e ∙ sym (zero_is x h), ap not (ap (fits m) e ∙ zero_fits))
     where
       e : mul (inv y) x ≡ of (pos 0)
@@ -127,36 +119,62 @@ module _ (m : ℤ) (w : IsWidth m) where
 
   pub difference_of_zero : (x y : Fraction) → fits m x ≡ true → y ≡ of (pos 0) →
       (add x (neg y) ≡ x) × (passes m Difference x y ≡ false)
-  difference_of_zero x y f h = (sym (plus_zero x (neg y) none), ap not (sum_fits-of m x (neg y) (plus_zero_fits m x (neg y) (Fits-of m x f) none)))
+  difference_of_zero x y f h = (
+    sym (plus_zero x (neg y) none),
+    ap not (sum_fits-of m x (neg y) (plus_zero_fits m x (neg y) (Fits-of m x f) none)),
+  )
     where
       none : (neg y).num ≡ pos 0
-      none = is_zero_whole-num (neg y).num (ap is_zero_whole (ap (λ (z : Fraction). (neg z).num) h) ∙ at_zero)
-        where
-          nought_is : (z : ℤ) → sign_of z ≡ nought → is_zero_whole z ≡ true
-          nought_is (pos zero) e = refl
-          nought_is (pos (suc n)) e = absurd cc
-          nought_is (negsuc n) e = absurd cc
+      none = is_zero_whole-num (neg y).num (ap (λ (z : Fraction). is_zero (neg z)) h
+          ∙ nought_is (neg (of (pos 0))).num (ordered_fractions.sign-neg (of (pos 0))
+          ∙ ap opposite ordered_fractions.sign-zero))
 
-          at_zero : is_zero_whole (neg (of (pos 0))).num ≡ true
-          at_zero = nought_is (neg (of (pos 0))).num (ordered_fractions.sign-neg (of (pos 0))
-              ∙ (λ i. opposite_of (ordered_fractions.sign-zero i)))
-            where
-              opposite_of : Sign → Sign
-              opposite_of minus = plus
-              opposite_of nought = nought
-              opposite_of plus = minus
+  -- whole numbers
+  pub whole_answers : (n : ℤ) → passes m Whole (of n) (of n) ≡ false → fits m (of n) ≡ true
+  whole_answers n h = both _ _ (not-false _ h)
+      (le-leb (of n).den (nat_abs m) (omega (arith, ints, den_of n, w.some)))
+
+  pub small_whole : (n : ℤ) → nat_abs n ≤ 1 → passes m Whole (of n) (of n) ≡ false
+  small_whole n h = ap not (le-leb (nat_abs (of n).num) (nat_abs m)
+      (omega (arith, ints, ap nat_abs (num_of n), w.some, h)))
+
+  pub whole_zero : passes m Whole (of (pos 0)) (of (pos 0)) ≡ false
+  whole_zero = small_whole (pos 0) (omega arith)
+
+  pub minus_one-fits : passes m Whole (of (negsuc 0)) (of (negsuc 0)) ≡ false
+  minus_one-fits = small_whole (negsuc 0) (omega arith)
+
+pub small_fits : SmallFits
+small_fits m w = record {
+  whole_fits = whole_answers m w;
+  small = small_whole m w;
+  difference = λ x y f h. difference_of_zero m w x y f (zero_is y h);
+  product = λ x y h. product_of_zero m w x y (zero_is (mul x y) h);
+  quotient = quotient_of_zero m w;
+}
 
 -- the reduced fraction is no greater than its parts
 over_fits : (m z d : ℤ) → pos 0 ≺ d → is_within m z ≡ true → is_within m d ≡ true → fits m (over z d) ≡ true
 over_fits m z d l hz hd = fits-of m (over z d) (record {
-  num = omega (arith, ap nat_abs p.0, abs_signed z (nat_abs z / gcd (nat_abs z) (nat_abs d)), div-le_self (nat_abs z) (gcd (nat_abs z) (nat_abs d)), leb-true (nat_abs z) (nat_abs m) hz);
-  den = omega (arith, p.1, div-le_self (nat_abs d) (gcd (nat_abs z) (nat_abs d)), leb-true (nat_abs d) (nat_abs m) hd);
+  num = omega (
+    arith,
+    ap nat_abs p.0,
+    abs_signed z (nat_abs z / gcd (nat_abs z) (nat_abs d)),
+    div-le_self (nat_abs z) (gcd (nat_abs z) (nat_abs d)),
+    leb-true (nat_abs z) (nat_abs m) hz,
+  );
+  den = omega (
+    arith,
+    p.1,
+    div-le_self (nat_abs d) (gcd (nat_abs z) (nat_abs d)),
+    leb-true (nat_abs d) (nat_abs m) hd,
+  );
 })
   where
     p : ((over z d).num ≡ low_num z (nat_abs d)) × ((over z d).den ≡ low_den z (nat_abs d))
     p = over-parts z d l
 
--- a sum that doesn't pass fits
+-- a sum is the fraction of its terms over the least common denominator
 sum_is : (x y : Fraction) → add x y ≡ over (left_term x y +ℤ right_term x y) (common_denominator x y)
 sum_is x y = (λ i. add (own x b eb i) (own y e ee i)) ∙ add-common x.num b y.num e g hg hb he
     ∙ ap (over (left_term x y +ℤ right_term x y)) (turned g b e ∙ ap (λ t. b *ℤ t) ee)
@@ -201,21 +219,9 @@ sum_answers m x y h = ap (fits m) (sum_is x y)
         (positive-part (pos x.den) (gcd x.den y.den) (den_pos x) (gcd-left x.den y.den)) (den_pos y)
 
 -- the answer of an operation that doesn't pass fits
-pub answer_fits : (m : ℤ) (op : Op) (x y : Fraction) → fits m x ≡ true → passes m op x y ≡ false →
-    fits m (value_of op x y) ≡ true
+pub answer_fits : AnswersFit
 answer_fits m Whole x y f h = f
 answer_fits m Sum x y f h = sum_answers m x y (not-false _ h)
 answer_fits m Difference x y f h = sum_answers m x (neg y) (not-false _ h)
 answer_fits m Product x y f h = not-false _ h
 answer_fits m Quotient x y f h = not-false _ h
-
--- whole numbers
-pub whole_zero : (m : ℤ) → IsWidth m → passes m Whole (of (pos 0)) (of (pos 0)) ≡ false
-whole_zero m w = ap not (left_of _ _ (zero_fits m w))
-
-pub whole_answers : (m : ℤ) → IsWidth m → (n : ℤ) → passes m Whole (of n) (of n) ≡ false → fits m (of n) ≡ true
-whole_answers m w n h = and _ _ (not-false _ h) (le-leb (of n).den (nat_abs m) (omega (arith, ints, den_of n, w.some)))
-
--- -1 never passes
-pub minus_one-fits : (m : ℤ) → IsWidth m → passes m Whole (of (negsuc 0)) (of (negsuc 0)) ≡ false
-minus_one-fits m w = ap not (le-leb (nat_abs (of (negsuc 0)).num) (nat_abs m) (omega (arith, ints, ap nat_abs (num_of (negsuc 0)), w.some)))

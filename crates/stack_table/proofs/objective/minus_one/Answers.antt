@@ -1,7 +1,7 @@
 use Rattle.std.proofs.Common.{ap, ◌∙◌}
 use Rattle.stack_rational.specs.Passes.{fits}
-use Rattle.stack_table.proofs.Fitting.{minus_one-fits, whole_answers}
-use Rattle.stack_table.proofs.whole.minus_one.Goals as goal
+use Rattle.stack_rational.proofs.Fitting.{minus_one-fits, whole_answers}
+use Rattle.stack_table.proofs.objective.minus_one.Goals as goal
 
 pub unreachable-requires : goal.unreachable-requires
 unreachable-requires g c = let h = minus_one-fits g.S.Exact.MAX g.met.S.Exact.max_law in let k = c.in-Err.ensures.wide in cc

@@ -1,7 +1,7 @@
-//! Whole numbers of at most 2^127 - 1 in size, as the written check makes them.
+//! Whole numbers of at most 2^127 - 1 in size.
 
 ghost use Rattle.std.specs.Prelude.{◌≡◌, ◌+ℤ◌, ◌*ℤ◌, ◌-ℤ◌, pos, nat_abs};
-ghost use Rattle.stack_equilibrium.specs.Whole.{made, kept, whole};
+ghost use Rattle.stack_whole.specs.Whole.{made, kept, whole};
 
 /// A result passes 2^127 - 1 in size.
 #[derive(Clone, Copy, Debug, PartialEq, Eq)]

@@ -1,0 +1,8 @@
+use Rattle.stack_rational.proofs.Fitting.{answer_fits, small_fits}
+use Rattle.stack_rational.proofs.laws.fitting_law.Goals as goal
+
+pub returns-clause-answers : goal.returns-clause-answers
+returns-clause-answers c = answer_fits
+
+pub returns-clause-small : goal.returns-clause-small
+returns-clause-small c = small_fits

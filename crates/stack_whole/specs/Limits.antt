@@ -1,0 +1,13 @@
+-- Limits that more than one crate needs.
+use Rattle.std.specs.Prelude.{ℕ, ◌<◌, ◌^◌, ℤ, nat_abs}
+
+-- a survey's bearings, and so a certificate's parts
+abbrev pub most_bearings : ℕ
+most_bearings = 1024
+
+-- loads and columns are below this in size, within the limits of a model
+abbrev pub load_bound : ℕ
+load_bound = 2 ^ 90
+
+abbrev pub IsBelowBound : ℤ → Type 0
+IsBelowBound z = nat_abs z < load_bound

@@ -1,0 +1,34 @@
+-- Whole numbers of 128 bits: a number passes where its size is more than 2^127 - 1, and then it is not made. Here this is said
+-- once, for each number that is read, written, tested or computed.
+use Rattle.std.specs.Prelude.{◌≡◌, ◌<◌, ◌≤◌, ◌^◌, ℤ, nat_abs, Bool, nat_lt, Option, Some, None, Result, Ok, Err, if◌then◌else◌}
+use Rattle.stack_whole.specs.declared.whole.Wide.{Wide}
+use Rattle.stack_whole.specs.declared.whole.Whole.{Whole}
+
+-- the size is at most 2^127 - 1, as a fact and as a test
+abbrev pub IsFitting : ℤ → Type 0
+IsFitting z = nat_abs z < 2 ^ 127
+
+abbrev pub fits : ℤ → Bool
+fits z = nat_lt (nat_abs z) (2 ^ 127)
+
+-- it is more
+abbrev pub Passes : ℤ → Type 0
+Passes z = 2 ^ 127 ≤ nat_abs z
+
+-- the number, where it doesn't pass
+abbrev pub made : ℤ → Result Whole Wide
+made z = if fits z then Ok (record { value = z }) else Err (record {})
+
+-- the same, of what 128 bits may hold
+abbrev pub kept : Option ℤ → Result Whole Wide
+kept None = Err (record {})
+kept (Some z) = made z
+
+-- a number as it is, of which no size is asked
+abbrev pub whole : ℤ → Whole
+whole z = record { value = z }
+
+-- what making a number shows
+abbrev pub Makes : ℤ → Result Whole Wide → Type 0
+Makes z (Ok w) = (w ≡ whole z) × IsFitting z
+Makes z (Err e) = Passes z
