@@ -67,7 +67,7 @@ module _ (F : Ordered) (P : Problem) where
   same_row i l = changed-other A m (first_objective F P) i (λ e. omega arith)
 
   -- the basic column of a row is its artificial column
-  pub basic_is : (i : ℕ) → i < m → first_basic F P i ≡ w + i
+  pub basic_is : (i : ℕ) → i < m → first_basic P i ≡ w + i
   basic_is i l = cond_true _ _ (lt-ltb i m l)
 
   nonneg_of : (k : ℕ) → NonNeg F (F.of (pos k))
