@@ -1,0 +1,2 @@
+pub mod OrderBySign
+pub mod BestSoFar

@@ -1,0 +1,59 @@
+-- A block that grows within its room: what is there keeps its value.
+use Rattle.std.proofs.Common.{◌≡◌, refl, sym, ap, ◌∙◌, ℕ, ◌+◌, ◌*◌, ◌<◌, List, [], ◌∷◌, ◌++◌, length, get_or, arith, length-append}
+use Rattle.std.proofs.lemmas.List.{get_or_append_left, get_or_push}
+use native.Mathlib.Decide.{ℕ_discrete, dec_lt}
+use lib.IntN.{ℤ}
+use Rattle.stack_algebra.specs.Fraction.{Fraction}
+use Rattle.stack_table.specs.Block.{value_at, cell_of, Grows}
+use Rattle.stack_table.proofs.Parts.{row_in, cell_in, cell_past, value_at-left, pushed_last}
+
+module _ {V : Type 0} (e : V → Fraction) where
+  pub grown_none : (xs : List V) (f : ℕ → Fraction) → Grows e xs xs 0 f
+  grown_none xs f = record {
+    longer = omega arith;
+    kept = λ k l. refl;
+    put = λ k l. absurd (omega (arith, l));
+  }
+
+  -- one cell more
+  pub grown_more : (m : ℤ) (old xs ys : List V) (j : ℕ) (f : ℕ → Fraction) (x : V) → Grows e old xs j f →
+      ys ≡ xs ++ x ∷ [] → e x ≡ f j → Grows e old ys (j + 1) f
+  grown_more m old xs ys j f x h new here = record {
+    longer = omega (arith, ap length new, length-append xs (x ∷ []), h.longer);
+    kept = λ k l. left k (omega (arith, l, h.longer)) ∙ h.kept k l;
+    put = λ k l. put k l (ℕ_discrete k j);
+  }
+    where
+      left : (k : ℕ) → k < length xs → value_at e ys k ≡ value_at e xs k
+      left k l = ap (λ zs. value_at e zs k) new ∙ value_at-left e xs (x ∷ []) k l
+
+      put : (k : ℕ) → k < j + 1 → Dec (k ≡ j) → value_at e ys (length old + k) ≡ f k
+      put k l (yes d) = ap (λ z. value_at e ys (length old + z)) d ∙ ap (λ zs. value_at e zs (length old + j)) new
+          ∙ pushed_last e m xs x (length old + j) h.longer ∙ here ∙ ap f (sym d)
+      put k l (no d) = left (length old + k) (omega (arith, l, d, h.longer)) ∙ h.put k (omega (arith, l, d))
+
+  -- the rows that are there, of n rows of w cells
+  pub earlier_cells : (w n size : ℕ) (f : ℕ → Fraction) (xs ys : List V) → length xs ≡ n * w → Grows e xs ys size f →
+      (i j : ℕ) → i < n → cell_of e w ys i j ≡ cell_of e w xs i j
+  earlier_cells w n size f xs ys l h i j k = go (dec_lt j w)
+    where
+      go : Dec (j < w) → cell_of e w ys i j ≡ cell_of e w xs i j
+      go (yes d) = cell_in e w ys i j d ∙ h.kept (i * w + j) (omega (arith, row_in i n w (length xs) k l, d))
+          ∙ sym (cell_in e w xs i j d)
+      go (no d) = cell_past e w ys i j (omega (arith, d)) ∙ sym (cell_past e w xs i j (omega (arith, d)))
+
+  -- the row after them
+  pub next_cells : (w n : ℕ) (f : ℕ → Fraction) (xs ys : List V) → length xs ≡ n * w → Grows e xs ys w f →
+      (j : ℕ) → j < w → cell_of e w ys n j ≡ f j
+  next_cells w n f xs ys l h j d = cell_in e w ys n j d ∙ ap (λ z. value_at e ys (z + j)) (sym l) ∙ h.put j d
+
+-- a list that grows by the values of f
+pub pushed_all : {X : Type 0} (f : ℕ → X) (xs ys : List X) (x d : X) (i : ℕ) → ys ≡ xs ++ x ∷ [] → length xs ≡ i →
+    ((k : ℕ) → k < i → get_or xs k d ≡ f k) → x ≡ f i → (k : ℕ) → k < i + 1 → get_or ys k d ≡ f k
+pushed_all f xs ys x d i e l h here k b = go (ℕ_discrete k i)
+  where
+    go : Dec (k ≡ i) → get_or ys k d ≡ f k
+    go (yes p) = ap (λ zs. get_or zs k d) e ∙ ap (λ n. get_or (xs ++ x ∷ []) n d) p ∙ get_or_push xs x d i l ∙ here
+        ∙ ap f (sym p)
+    go (no p) = ap (λ zs. get_or zs k d) e ∙ get_or_append_left xs (x ∷ []) d k (omega (arith, l, b, p))
+        ∙ h k (omega (arith, b, p))

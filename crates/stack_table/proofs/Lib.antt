@@ -1,0 +1,11 @@
+pub mod Blocks
+pub mod Listed
+pub mod RowSteps
+pub mod Parts
+pub mod PivotSteps
+pub mod Numbers
+pub mod Growing
+pub mod FirstObjective
+pub mod RowByRow
+pub mod AtWidest
+pub mod SoundProblem

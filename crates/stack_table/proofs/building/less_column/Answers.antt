@@ -1,0 +1,52 @@
+use Rattle.std.proofs.Common.{◌≡◌, refl, sym, ap, ◌∙◌, ℕ, ◌+◌, ◌*◌, ◌<◌, List, length, add-one, arith}
+use Rattle.std.proofs.lemmas.Result.{err_from_is_err_and}
+use Rattle.stack_algebra.specs.Fraction.{Fraction}
+use Rattle.stack_algebra.proofs.Fractions.{add, neg}
+use Rattle.stack_algebra.proofs.OrderedFractions.{ordered_fractions}
+use Rattle.stack_algebra.proofs.Search.{only_if, first_found, first_more}
+use Rattle.stack_rational.specs.declared.exact.Op.TheVariants.{Difference}
+use Rattle.stack_rational.specs.Passes.{fits, passes}
+use Rattle.stack_table.specs.declared.problem.BuildError.TheVariants.{Wide}
+use Rattle.stack_table.specs.Block.{cell_of}
+use Rattle.stack_table.specs.WrittenTable.{less_all, partial_place}
+use Rattle.stack_rational.proofs.Fitting.{answer_fits, zero_fits}
+use Rattle.stack_table.proofs.Parts.{cell_read}
+use Rattle.stack_table.proofs.building.less_column.Goals as goal
+
+pub loop-i-init : goal.loop-i-init
+loop-i-init g c = record {
+  value = c.zero-sum.ensures;
+  fitting = ap (fits g.S.Exact.MAX) c.zero-sum.ensures ∙ zero_fits g.S.Exact.MAX g.met.S.Exact.max_law;
+  none = refl;
+}
+
+pub returns-in_err-sum-clause-wide : goal.returns-in_err-sum-clause-wide
+returns-in_err-sum-clause-wide g c =
+    let a = c.args in
+    let m = g.S.Exact.MAX in
+    let f : ℕ → Fraction = λ i. cell_of g.S.Exact.exact a.width a.cells.now i a.column in
+    let x = cell_read g.S.Exact.exact a.width a.rows a.cells.now c.loop-i.i a.column c.index-cells-i.result
+    c.loop-i-test.true c.requires.room c.requires.column_in c.index-cells-i.is in
+    let p = err_from_is_err_and c.from_residual.result c.from_residual.ensures.1 in
+    rw p.1 (first_found a.rows c.loop-i.i (partial_place ordered_fractions (passes m) (Wide a.rows a.column) f) _
+    c.loop-i-test.true c.loop-i.invariant.none (ap (λ b. only_if b (Wide a.rows a.column))
+    ((λ z. passes m Difference (sym c.loop-i.invariant.value z) (x z)) ∙ c.in_err-sum.ensures.wide)))
+
+pub loop-i-preserved : goal.loop-i-preserved
+loop-i-preserved g c =
+    let a = c.args in
+    let e = g.S.Exact.exact in
+    let m = g.S.Exact.MAX in
+    let f : ℕ → Fraction = λ i. cell_of e a.width a.cells.now i a.column in
+    let x = cell_read g.S.Exact.exact a.width a.rows a.cells.now c.loop-i.i a.column c.index-cells-i.result
+    c.loop-i-test.true c.requires.room c.requires.column_in c.index-cells-i.is in
+    record {
+      value = c.in_ok-sum.ensures.ok ∙ (λ z. add (c.loop-i.invariant.value z) (neg (sym x z)))
+          ∙ sym (ap (λ n. less_all ordered_fractions n f) (add-one c.loop-i.i));
+      fitting = ap (fits m) c.in_ok-sum.ensures.ok
+          ∙ answer_fits m Difference (e c.loop-i.sum) (e c.index-cells-i.result) c.loop-i.invariant.fitting
+          c.in_ok-sum.ensures.fits;
+      none = first_more c.loop-i.i (partial_place ordered_fractions (passes m) (Wide a.rows a.column) f)
+          c.loop-i.invariant.none (ap (λ b. only_if b (Wide a.rows a.column))
+          ((λ z. passes m Difference (sym c.loop-i.invariant.value z) (x z)) ∙ c.in_ok-sum.ensures.fits));
+    }

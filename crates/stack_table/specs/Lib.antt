@@ -1,0 +1,9 @@
+pub mod Table
+pub mod Spots
+pub mod Problem
+pub mod WrittenTable
+pub mod Lent
+pub mod Block
+pub mod Columns
+pub mod Seen
+pub mod Sound

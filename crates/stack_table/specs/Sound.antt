@@ -1,0 +1,29 @@
+-- The condition of a table as a test of the problem that is lent.
+use Rattle.std.specs.Prelude.{◌≡◌, ℕ, suc, Bool, true, ◌&&◌, nat_eq, nat_lt, nat_le, List, [], ◌∷◌, length, ℤ, unsigned_abs}
+use Rattle.stack_whole.specs.Limits.{load_bound}
+use Rattle.stack_table.specs.declared.problem.Entry.{Entry}
+use Rattle.stack_table.specs.declared.problem.Column.{Column}
+use Rattle.stack_table.specs.declared.problem.Problem.{Problem as Lent}
+use Rattle.stack_table.specs.Lent.{IsProblem, factor_entries}
+
+abbrev pub is_small : ℤ → Bool
+is_small z = nat_lt (unsigned_abs z) load_bound
+
+-- small entries in rising rows, from row `from` on and below `rows`
+abbrev pub is_column : (rows from : ℕ) → List Entry → Bool
+is_column rows from [] = true
+is_column rows from (x ∷ xs) =
+    nat_le from x.row && (nat_lt x.row rows && (is_small x.value && is_column rows (suc x.row) xs))
+
+abbrev pub are_columns : ℕ → List Column → Bool
+are_columns rows [] = true
+are_columns rows (c ∷ cs) = is_column rows 0 c.entries.items && are_columns rows cs
+
+abbrev pub are_small : List ℤ → Bool
+are_small [] = true
+are_small (z ∷ zs) = is_small z && are_small zs
+
+abbrev pub is_sound : Lent → Bool
+is_sound P = nat_le P.rows 384 && (nat_le (length P.contact.items) 2048
+    && (nat_eq (length P.right.items) P.rows && (are_small P.right.items
+    && (are_columns P.rows P.contact.items && is_column P.rows 0 (factor_entries P.factor)))))

@@ -1,0 +1,110 @@
+//! The later objective rows, written over the last row of a block.
+
+ghost use Rattle.std.specs.Prelude.{◌≡◌, ℕ, suc, ◌*◌, ◌<◌, length, pos, negsuc, cond, eqb, get_or, true, IfSome};
+ghost use Rattle.stack_algebra.proofs.Fractions.{of};
+ghost use Rattle.stack_algebra.proofs.OrderedFractions.{ordered_fractions};
+ghost use Rattle.stack_algebra.specs.Rows.{changed};
+ghost use Rattle.stack_algebra.specs.Search.{least};
+ghost use Rattle.stack_rational.specs.Passes.{fits};
+ghost use Rattle.stack_table.specs.Table.{factor_row};
+ghost use Rattle.stack_table.specs.Block.{cell_of, value_at, IsBlock};
+
+use stack_rational::Exact;
+
+/// -1.
+fn minus_one<S: Exact>() -> S
+    ensures value { S.exact result ≡ of (negsuc 0) }
+    ensures fits { fits S.MAX (S.exact result) ≡ true }
+{
+    match S::from_whole(-1) {
+        Ok(number) => number,
+        Err(_) => unreachable!(),
+    }
+}
+
+/// Sets each cell of a row to 0.
+fn clear_row<S: Exact>(cells: &mut [S], marks: &mut [bool])
+    requires block { IsBlock S.MAX S.exact cells.old marks.old }
+    ensures block { IsBlock S.MAX S.exact cells.new marks.new }
+    ensures ok { (j : ℕ) → value_at S.exact cells.new j ≡ of (pos 0) }
+{
+    let zero = S::zero();
+    for j in 0..cells.len() {
+        cells[j] = zero;
+        marks[j] = true;
+    }
+}
+
+/// Sets one cell of a row.
+fn set_cell<S: Exact>(cells: &mut [S], marks: &mut [bool], column: usize, cell: S)
+    requires column_in { column < length cells.old }
+    requires fits { fits S.MAX (S.exact cell) ≡ true }
+    requires block { IsBlock S.MAX S.exact cells.old marks.old }
+    ensures block { IsBlock S.MAX S.exact cells.new marks.new }
+    ensures ok { (j : ℕ) → value_at S.exact cells.new j
+        ≡ cond (eqb j column) (S.exact cell) (value_at S.exact cells.old j) }
+{
+    cells[column] = cell;
+    marks[column] = cell.is_zero();
+}
+
+/// The first row whose basic column is this one.
+pub fn row_with(basic: &[usize], column: usize) -> Option<usize>
+    ensures { result ≡ least (length basic.now) (λ r. eqb (get_or basic.now r 0) column) }
+{
+    for r in 0..basic.len() {
+        if basic[r] == column {
+            return Some(r);
+        }
+    }
+    None
+}
+
+/// Sets the objective row to 0.
+pub fn clear_last<S: Exact>(cells: &mut [S], marks: &mut [bool], rows: usize, width: usize)
+    requires whole { length cells.old ≡ suc rows * width }
+    requires block { IsBlock S.MAX S.exact cells.old marks.old }
+    ensures block { IsBlock S.MAX S.exact cells.new marks.new }
+    ensures ok { (i j : ℕ) → cell_of S.exact width cells.new i j
+        ≡ changed (cell_of S.exact width cells.old) rows (λ _. of (pos 0)) i j }
+{
+    let start = rows * width;
+    let (_, last) = cells.split_at_mut(start);
+    let (_, last_marks) = marks.split_at_mut(start);
+    clear_row(last, last_marks);
+}
+
+/// Sets the objective row to a row without its cell in the column; without a row, to -1 in the column alone.
+pub fn set_last<S: Exact>(
+    cells: &mut [S],
+    marks: &mut [bool],
+    rows: usize,
+    width: usize,
+    column: usize,
+    row: Option<usize>,
+)
+    requires whole { length cells.old ≡ suc rows * width }
+    requires column_in { column < width }
+    requires row_in { IfSome row (λ r. r < rows) }
+    requires block { IsBlock S.MAX S.exact cells.old marks.old }
+    ensures block { IsBlock S.MAX S.exact cells.new marks.new }
+    ensures ok { (i j : ℕ) → cell_of S.exact width cells.new i j
+        ≡ changed (cell_of S.exact width cells.old) rows
+        (factor_row ordered_fractions (cell_of S.exact width cells.old) column row) i j }
+{
+    let start = rows * width;
+    let (above, last) = cells.split_at_mut(start);
+    let (marks_above, last_marks) = marks.split_at_mut(start);
+    match row {
+        Some(r) => {
+            let from = r * width;
+            last.copy_from_slice(&above[from..from + width]);
+            last_marks.copy_from_slice(&marks_above[from..from + width]);
+            set_cell(last, last_marks, column, S::zero());
+        }
+        None => {
+            clear_row(last, last_marks);
+            set_cell(last, last_marks, column, minus_one());
+        }
+    }
+}
