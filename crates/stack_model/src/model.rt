@@ -3,7 +3,8 @@
 ghost use Rattle.std.specs.Prelude.{◌≡◌, ◌↔◌, ◌<◌, ◌≤◌, IsTrue, false, length, map};
 ghost use Rattle.std.specs.List.{list_any};
 ghost use Rattle.stack_polygon.specs.Limits.{IsPolygon};
-ghost use Rattle.stack_model.specs.Structure.{listed, material_of, body_of, load_of, IsWithinLimits, IsCarried, HasLive};
+ghost use Rattle.stack_model.specs.Structure.{listed, material_of, body_of, load_of, IsWithinLimits};
+ghost use Rattle.stack_model.specs.Structure.{IsCarried, HasLive};
 ghost use Rattle.stack_model.specs.Sound.{IsSound};
 ghost use Rattle.stack_model.specs.Kept.{material_view, body_view, material_alone, body_alone};
 ghost use Rattle.stack_model.specs.ModelView.{model_view};
