@@ -1,13 +1,10 @@
 //! Laws on the definitions, as contracts of functions that do nothing.
 
 ghost use Rattle.std.specs.Prelude.{◌≡◌, ℕ, List, [], ◌∷◌, Some, Ok};
-ghost use Rattle.std.specs.declared.result.Result.{Result};
 ghost use Rattle.stack_contact.specs.Surveyed.{Surveyed};
-ghost use Rattle.stack_cli.specs.Answers.{Due};
-ghost use Rattle.stack_cli.specs.Refusals.{Refusal};
-ghost use Rattle.stack_cli.specs.Work.{Work, Holds, Ends};
+ghost use Rattle.stack_cli.specs.Work.{Holds, Ends};
 ghost use Rattle.stack_cli.specs.Surveying.{surveyed};
-ghost use Rattle.stack_cli.specs.OneEnd.{AreTold, IsSettled, HaveOneSurvey};
+ghost use Rattle.stack_cli.specs.OneEnd.{WordsHaveOneEnd};
 ghost use Rattle.stack_cli.specs.AcceptedModel.{IsAcceptedModel};
 
 /// The order of work comes to a survey exactly for the files that are accepted models, and to each survey that such a
@@ -19,9 +16,8 @@ pub fn goes_on_with_accepted_models()
         → IsAcceptedModel bytes v → Ends holds (surveyed name) (name ∷ []) (Ok v) }
 {}
 
-/// Work over files that are told has one end, unless memory is wanting or a device fails.
-pub fn work_has_one_end()
-    ensures { (holds : Holds) (w : Work Due) (names more : List (List ℕ)) (end last : Result Due Refusal)
-        → HaveOneSurvey → AreTold holds names → Ends holds w names end → Ends holds w more last → IsSettled end
-        → IsSettled last → (names ≡ more) × (end ≡ last) }
+/// The work on words over files that are told has one end, unless memory is wanting or a device fails: one answer that is
+/// due, or one refusal.
+pub fn words_have_one_end()
+    ensures { WordsHaveOneEnd }
 {}
