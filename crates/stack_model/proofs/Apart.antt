@@ -1,7 +1,7 @@
 -- Names that are each new where they come are different, and bodies that come where there is room are few.
-use Rattle.std.proofs.Common.{◌≡◌, refl, sym, ap, ◌∙◌, subst, ℕ, ◌+◌, ◌<◌, ◌≤◌, Bool, true, false, not}
+use Rattle.std.proofs.Common.{◌≡◌, sym, ◌∙◌, subst, ℕ, ◌+◌, ◌<◌, ◌≤◌, Bool, true, false, not}
 use Rattle.std.proofs.Common.{cond, inl, inr}
-use Rattle.std.proofs.Common.{List, [], ◌∷◌, ◌++◌, map, length, get_or, arith}
+use Rattle.std.proofs.Common.{List, [], ◌∷◌, ◌++◌, length, get_or, arith}
 use Rattle.std.specs.Prelude.{count_by}
 use Rattle.std.proofs.lemmas.Bool.{cases_lt}
 use Rattle.std.specs.Str.{bytes_eq}
