@@ -1,0 +1,14 @@
+pub mod RowEnds
+pub mod BestRow
+pub mod Solutions
+pub mod Duality
+pub mod TurnsKeep
+pub mod ThreePhases
+pub mod RunEnds
+pub mod WrittenRows
+pub mod Begins
+pub mod Unflipped
+pub mod Values
+pub mod FourEnds
+pub mod Turn
+pub mod Wider

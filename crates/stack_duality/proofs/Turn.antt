@@ -1,0 +1,150 @@
+-- A turn of a phase and a row of phase 2, as the loops take them.
+use Rattle.std.proofs.Common.{◌≡◌, refl, sym, ap, ◌∙◌, ℕ, zero, suc, ◌+◌, ◌<◌, ◌≤◌, Bool, true, false, cond, leb, Option, Some, None, arith}
+use Rattle.stack_algebra.specs.Ordered.{Ordered}
+use Rattle.stack_rational.specs.declared.exact.Op.{Op}
+use Rattle.stack_table.specs.declared.types.PivotWide.{PivotWide}
+use Rattle.stack_table.specs.declared.types.Step.TheVariants.{Ratio}
+use Rattle.stack_table.specs.Table.{Shape, Tabled, plain, pivoted_at}
+use Rattle.stack_table.specs.Spots.{pivot_spot}
+use Rattle.stack_bland.specs.Choice.{entering, leaving, ratio_row}
+use Rattle.stack_duality.specs.WrittenRun.{Choice, stays, rises, due, refused, Stop, settled, unlimited, passing, spent, after, on_spot, on_choice, chosen_at, chosen_in, choose, turns, driven_column, drive_at, drive_row, drives}
+
+module _ (F : Ordered) (S : Shape) (passes : Op → F.C → F.C → Bool) where
+  choose_by : (T : Tabled F.C) (among : ℕ) (o : Option ℕ) → entering F S T among ≡ o →
+      choose F S passes T among ≡ chosen_in F S passes T o
+  choose_by T among o e = ap (chosen_in F S passes T) e
+
+  choice_by : (T : Tabled F.C) (among c : ℕ) (i r : Option ℕ) → entering F S T among ≡ Some c →
+      ratio_row F S passes T c ≡ i → leaving F S T c ≡ r →
+      choose F S passes T among ≡ chosen_at c i r
+  choice_by T among c i r e p q = choose_by T among (Some c) e ∙ (λ z. chosen_at c (p z) (q z))
+
+  -- what a phase does after a pivot
+  abbrev goes_on : (phase among left done : ℕ) → Tabled F.C → ℕ → ℕ → Stop F.C
+  goes_on phase among left done T r c =
+      on_spot phase done (turns F S passes phase among left (suc done)) (pivoted_at F S T r c)
+      (pivot_spot F passes S T r c)
+
+  module _ (phase among left done : ℕ) (T : Tabled F.C) where
+    abbrev result : Stop F.C
+    result = turns F S passes phase among left done T
+
+    -- a turn whose choice has no pivot doesn't look at the budget
+    by_choice : (left : ℕ) (x : Choice) → choose F S passes T among ≡ x →
+        ((p : ℕ → ℕ → Stop F.C) →
+        on_choice phase left done T p x ≡ on_choice phase left done T (λ r c. spent) x) →
+        turns F S passes phase among left done T ≡ on_choice phase left done T (λ r c. spent) x
+    by_choice zero x e h = ap (on_choice phase zero done T (λ r c. spent)) e
+    by_choice (suc left) x e h = ap (on_choice phase (suc left) done T (goes_on phase among left done T)) e
+        ∙ h _
+
+    -- no column enters
+    pub turn_settled : entering F S T among ≡ None → result ≡ settled left done T
+    turn_settled e = by_choice left stays (choose_by T among None e) (λ p. refl)
+
+    -- no row leaves
+    pub turn_unlimited : (c : ℕ) → entering F S T among ≡ Some c → ratio_row F S passes T c ≡ None →
+        leaving F S T c ≡ None → result ≡ unlimited T c
+    turn_unlimited c e p q = by_choice left (rises c) (choice_by T among c None None e p q) (λ p. refl)
+
+    -- a ratio passes
+    pub turn_refused : (c i : ℕ) → entering F S T among ≡ Some c → ratio_row F S passes T c ≡ Some i →
+        result ≡ passing phase (suc done) (record { row = i; column = c; step = Ratio })
+    turn_refused c i e p = by_choice left (refused (record { row = i; column = c; step = Ratio }))
+        (choice_by T among c (Some i) (leaving F S T c) e p refl) (λ p. refl)
+
+  -- a pivot is due
+  module _ (phase among : ℕ) (T : Tabled F.C) (r c : ℕ) (enters : entering F S T among ≡ Some c)
+      (ratios : ratio_row F S passes T c ≡ None) (leaves : leaving F S T c ≡ Some r) where
+    is_due : choose F S passes T among ≡ due r c
+    is_due = choice_by T among c None (Some r) enters ratios leaves
+
+    pub turn_spent : (left done : ℕ) → left ≡ 0 → turns F S passes phase among left done T ≡ spent
+    turn_spent zero done e = ap (on_choice phase zero done T (λ r c. spent)) is_due
+    turn_spent (suc left) done e = absurd (omega arith)
+
+    at_pivot : (left done : ℕ) (o : Option PivotWide) → pivot_spot F passes S T r c ≡ o →
+        turns F S passes phase among (suc left) done T
+        ≡ on_spot phase done (turns F S passes phase among left (suc done)) (pivoted_at F S T r c) o
+    at_pivot left done o e = ap (on_choice phase (suc left) done T (goes_on phase among left done T)) is_due
+        ∙ ap (on_spot phase done (turns F S passes phase among left (suc done)) (pivoted_at F S T r c)) e
+
+    pub turn_passing : (left done : ℕ) (s : PivotWide) → 0 < left → pivot_spot F passes S T r c ≡ Some s →
+        turns F S passes phase among left done T ≡ passing phase (suc done) s
+    turn_passing zero done s l e = absurd (omega arith)
+    turn_passing (suc left) done s l e = at_pivot left done (Some s) e
+
+    pub turn_pivots : (left left' done done' : ℕ) (U : Tabled F.C) → left ≡ suc left' → done' ≡ suc done →
+        pivot_spot F passes S T r c ≡ None → U ≡ pivoted_at F S T r c →
+        turns F S passes phase among left done T ≡ turns F S passes phase among left' done' U
+    turn_pivots left left' done done' U l d e u = ap (λ k. turns F S passes phase among k done T) l
+        ∙ at_pivot left' done None e ∙ (λ z. turns F S passes phase among left' (sym d z) (sym u z))
+
+  -- a row of phase 2
+  module _ (T : Tabled F.C) (i : ℕ) where
+    -- its basic column isn't artificial
+    pub row_stays : (left done : ℕ) → leb (plain S) (T.basic i) ≡ false →
+        drive_row F S passes left done T i ≡ settled left done T
+    row_stays left done e =
+        ap (λ b. cond b (drive_at F S passes left done T i (driven_column F S T i))
+        (settled left done T)) e
+
+    artificial_row : (left done : ℕ) (o : Option ℕ) → leb (plain S) (T.basic i) ≡ true →
+        driven_column F S T i ≡ o → drive_row F S passes left done T i
+        ≡ drive_at F S passes left done T i o
+    artificial_row left done o e d =
+        ap (λ b. cond b (drive_at F S passes left done T i (driven_column F S T i))
+        (settled left done T)) e
+        ∙ ap (drive_at F S passes left done T i) d
+
+    -- no column of it has a cell that isn't 0
+    pub row_left : (left done : ℕ) → leb (plain S) (T.basic i) ≡ true → driven_column F S T i ≡ None →
+        drive_row F S passes left done T i ≡ settled left done T
+    row_left left done e d = artificial_row left done None e d
+
+    -- a pivot is due
+    module _ (c : ℕ) (artificial : leb (plain S) (T.basic i) ≡ true) (column : driven_column F S T i
+        ≡ Some c)
+      where
+        pub row_spent : (left done : ℕ) → left ≡ 0 → drive_row F S passes left done T i ≡ spent
+        row_spent zero done e = artificial_row zero done (Some c) artificial column
+        row_spent (suc left) done e = absurd (omega arith)
+
+        pub row_passing : (left done : ℕ) (s : PivotWide) → 0 < left → pivot_spot F passes S T i c ≡ Some s →
+            drive_row F S passes left done T i ≡ passing 2 (suc done) s
+        row_passing zero done s l e = absurd (omega arith)
+        row_passing (suc left) done s l e = artificial_row (suc left) done (Some c) artificial column
+            ∙ ap (on_spot 2 done (settled left (suc done)) (pivoted_at F S T i c)) e
+
+        pub row_pivots : (left left' done done' : ℕ) (U : Tabled F.C) → left ≡ suc left' → done' ≡ suc done →
+            pivot_spot F passes S T i c ≡ None → U ≡ pivoted_at F S T i c →
+            drive_row F S passes left done T i ≡ settled left' done' U
+        row_pivots left left' done done' U l d e u = ap (λ k. drive_row F S passes k done T i) l
+            ∙ artificial_row (suc left') done (Some c) artificial column
+            ∙ ap (on_spot 2 done (settled left' (suc done)) (pivoted_at F S T i c)) e
+            ∙ (λ z. settled left' (sym d z) (sym u z))
+
+  -- phase 2 goes on with the next row where it has settled the rows before
+  pub drives_on : (k left done left' done' : ℕ) (T U : Tabled F.C) →
+      drives F S passes k left done T ≡ settled left' done' U →
+      drives F S passes (suc k) left done T ≡ drive_row F S passes left' done' U k
+  drives_on k left done left' done' T U e = ap (λ x. after x (λ l d V. drive_row F S passes l d V k)) e
+
+  -- and ends where a row refuses
+  pub drives_passing : (n k left done phase pivot : ℕ) (T : Tabled F.C) (s : PivotWide) →
+      drives F S passes k left done T ≡ passing phase pivot s →
+      drives F S passes (k + n) left done T ≡ passing phase pivot s
+  drives_passing zero k left done phase pivot T s e =
+      let z : k + zero ≡ k = omega arith in ap (λ i. drives F S passes i left done T) z ∙ e
+  drives_passing (suc n) k left done phase pivot T s e =
+      let z : k + suc n ≡ suc (k + n) = omega arith in ap (λ i. drives F S passes i left done T) z
+      ∙ ap (λ x. after x (λ l d V. drive_row F S passes l d V (k + n)))
+      (drives_passing n k left done phase pivot T s e)
+
+  pub drives_spent : (n k left done : ℕ) (T : Tabled F.C) → drives F S passes k left done T ≡ spent →
+      drives F S passes (k + n) left done T ≡ spent
+  drives_spent zero k left done T e =
+      let z : k + zero ≡ k = omega arith in ap (λ i. drives F S passes i left done T) z ∙ e
+  drives_spent (suc n) k left done T e =
+      let z : k + suc n ≡ suc (k + n) = omega arith in ap (λ i. drives F S passes i left done T) z
+      ∙ ap (λ x. after x (λ l d V. drive_row F S passes l d V (k + n))) (drives_spent n k left done T e)

@@ -1,0 +1,45 @@
+-- The numbers that a last table shows: the value of each column, its rate on a ray, and multipliers of the problem's rows.
+use Rattle.std.specs.Prelude.{ℕ, ◌+◌, Bool, cond, eqb, Option, Some, None}
+use lib.IntN.{pos}
+use Rattle.stack_algebra.specs.Ordered.{Ordered}
+use Rattle.stack_algebra.specs.Rows.{less}
+use Rattle.stack_algebra.specs.Search.{least}
+use Rattle.stack_table.specs.Table.{Shape, Tabled, plain, right, objective}
+use Rattle.stack_table.specs.Problem.{Problem, flipped}
+
+module _ (F : Ordered) (S : Shape) (T : Tabled F.C) where
+  -- the row in which a column is basic
+  abbrev pub basic_row : ℕ → Option ℕ
+  basic_row j = least S.rows (λ i. eqb (T.basic i) j)
+
+  -- the value of a column: the right side of that row, and 0 without one
+  abbrev pub value_in : Option ℕ → F.C
+  value_in None = F.of (pos 0)
+  value_in (Some i) = right F S T i
+
+  abbrev pub value : ℕ → F.C
+  value j = value_in (basic_row j)
+
+  -- the rate of a column on the ray of column c: 1 for c, less the row's cell in c for a basic column, else 0
+  abbrev pub rate_in : ℕ → Option ℕ → F.C
+  rate_in c None = F.of (pos 0)
+  rate_in c (Some i) = F.neg (T.cell i c)
+
+  abbrev pub rate : ℕ → ℕ → F.C
+  rate c j = cond (eqb j c) (F.of (pos 1)) (rate_in c (basic_row j))
+
+module _ (F : Ordered) where
+  -- a number with the other sign, or as it is
+  abbrev pub signed : Bool → F.C → F.C
+  signed b x = cond b (F.neg x) x
+
+  module _ (P : Problem) (T : Tabled F.C) where
+    -- multipliers of the problem's rows, at the end of phase 3: the objective cell of each row's artificial column,
+    -- with the other sign where the row is flipped
+    abbrev pub bound_multiplier : ℕ → F.C
+    bound_multiplier k = signed (flipped P k) (objective F P.shape T (plain P.shape + k))
+
+    -- at the end of phase 1: the same of that cell less 1
+    abbrev pub collapse_multiplier : ℕ → F.C
+    collapse_multiplier k =
+        signed (flipped P k) (less F (objective F P.shape T (plain P.shape + k)) (F.of (pos 1)))

@@ -1,0 +1,47 @@
+-- The laws of the written run of a problem.
+use Rattle.std.specs.Prelude.{◌≡◌, ◌≢◌, ℕ, ◌≤◌, ℤ, Bool, ⊤, unsigned_abs}
+use Rattle.stack_algebra.specs.Fraction.{Fraction}
+use Rattle.stack_algebra.proofs.OrderedFractions.{ordered_fractions}
+use Rattle.stack_rational.specs.declared.exact.Op.{Op}
+use Rattle.stack_rational.specs.Passes.{passes}
+use Rattle.stack_table.specs.Table.{Tabled}
+use Rattle.stack_table.specs.Problem.{Problem}
+use Rattle.stack_table.specs.WrittenTable.{written_table}
+use Rattle.stack_duality.specs.WrittenRun.{Stop, unlimited, End, infeasible, feasible, optimal, ray, wide, over, turns, written_run}
+use Rattle.stack_duality.specs.FourEnds.{EndGives}
+
+-- a rule of what passes
+abbrev pub Rule : Type 0
+Rule = Op → Fraction → Fraction → Bool
+
+-- the written run of a problem
+abbrev pub run_of : (P : Problem) → Rule → (budget : ℕ) → End Fraction
+run_of P rule budget = written_run ordered_fractions P.shape rule budget (written_table ordered_fractions P)
+
+-- and at a greatest value
+abbrev pub run_at : ℤ → (P : Problem) → (budget : ℕ) → End Fraction
+run_at max P budget = run_of P (passes max) budget
+
+-- whatever the rule and the budget, its end gives what it should
+abbrev pub EndsGive : Type 0
+EndsGive = (P : Problem) (rule : Rule) (budget : ℕ) → EndGives ordered_fractions P (run_of P rule budget)
+
+-- in phase 1 some row leaves wherever a column enters. So a run is over only where a pivot is due and the budget's pivots
+-- are done
+abbrev pub SomeRowLeaves : Type 0
+SomeRowLeaves = (P : Problem) (rule : Rule) (budget : ℕ) (T : Tabled Fraction) (c : ℕ) →
+    turns ordered_fractions P.shape rule 1 P.shape.contacts budget 0
+    (written_table ordered_fractions P) ≢ unlimited T c
+
+abbrev pub PassesNowhere : {C : Type 0} → End C → Type 0
+PassesNowhere (infeasible T) = ⊤
+PassesNowhere (feasible T) = ⊤
+PassesNowhere (optimal T) = ⊤
+PassesNowhere (ray T c) = ⊤
+PassesNowhere (wide p k s) = ⊥
+PassesNowhere over = ⊤
+
+-- a run that passes nowhere at a greatest value is the same run at a greater one
+abbrev pub WiderRunIsSame : Type 0
+WiderRunIsSame = (m n : ℤ) (P : Problem) (budget : ℕ) → unsigned_abs m ≤ unsigned_abs n →
+    PassesNowhere (run_at m P budget) → run_at n P budget ≡ run_at m P budget

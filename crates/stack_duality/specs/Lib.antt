@@ -1,0 +1,6 @@
+pub mod WrittenRun
+pub mod EndNumbers
+pub mod Balance
+pub mod PhaseTables
+pub mod FourEnds
+pub mod Laws

@@ -1,0 +1,4 @@
+mod Choices
+mod Turns
+mod SecondPhase
+mod RunPhases

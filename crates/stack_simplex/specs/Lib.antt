@@ -1,0 +1,4 @@
+pub mod Stops
+pub mod Phases
+pub mod Written
+pub mod Ends

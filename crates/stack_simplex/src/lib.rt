@@ -1,0 +1,75 @@
+//! The simplex run over exact numbers: three phases from a written table to one of four ends.
+//!
+//! Phase 1 drives the artificial columns to 0, phase 2 takes them out of the basic columns, and phase 3 raises the factor.
+//! A turn chooses its entering column and its leaving row by Bland's rule (1977), and then pivots.
+#![tactic(auto)]
+
+ghost use Rattle.std.specs.Prelude.{◌≡◌, ◌≢◌, IfOk};
+ghost use Rattle.stack_algebra.proofs.OrderedFractions.{ordered_fractions};
+ghost use Rattle.stack_rational.specs.Passes.{passes};
+ghost use Rattle.stack_table.specs.Problem.{Problem};
+ghost use Rattle.stack_table.specs.Seen.{shape_of_table, table_of, flips_of};
+ghost use Rattle.stack_duality.specs.WrittenRun.{written_run};
+ghost use Rattle.stack_duality.specs.FourEnds.{EndGives};
+ghost use Rattle.stack_simplex.specs.Written.{IsTableOf, IsWritten};
+ghost use Rattle.stack_simplex.specs.Ends.{last_of, end_of};
+
+mod ended;
+mod first_phase;
+mod pivots;
+mod refusal;
+mod second_phase;
+mod third_phase;
+mod turn;
+
+use first_phase::{falls_short, first_phase};
+use second_phase::second_phase;
+use stack_duality::run_laws;
+use stack_rational::Exact;
+use stack_table::Table;
+use third_phase::third_phase;
+use turn::PhaseEnd;
+
+pub use ended::Ended;
+pub use refusal::{Place, RunError};
+
+/// The three phases.
+fn run_phases<S: Exact>(t: Table<S>, budget: u32) -> Result<Ended<S>, RunError>
+    requires { IsWritten (shape_of_table t) (table_of t) }
+    ensures shape { IfOk result (λ e. shape_of_table (last_of e) ≡ shape_of_table t) }
+    ensures flips { IfOk result (λ e. flips_of (last_of e) ≡ flips_of t) }
+    ensures value { end_of result
+        ≡ written_run ordered_fractions (shape_of_table t) (passes S.MAX) budget (table_of t) }
+{
+    let mut t = t;
+    let pivots = first_phase(&mut t, budget)?;
+    if falls_short(&t) {
+        return Ok(Ended::Infeasible(t));
+    }
+    if !t.has_factor() {
+        return Ok(Ended::Feasible(t));
+    }
+    let pivots = second_phase(&mut t, pivots)?;
+    match third_phase(&mut t, pivots)? {
+        PhaseEnd::Settled(_) => Ok(Ended::Optimal(t)),
+        PhaseEnd::Unlimited(column) => Ok(Ended::Ray { table: t, column }),
+    }
+}
+
+/// The run of a written table within a budget of pivots: exactly the value of the written run at the width of its numbers.
+///
+/// Refused at the first operation that passes, or where a pivot is due and the budget's pivots are done, whichever comes
+/// first; the table is dropped then. Takes no memory. After Bland (1977).
+pub fn run<S: Exact>(t: Table<S>, budget: u32) -> Result<Ended<S>, RunError>
+    requires written { IsWritten (shape_of_table t) (table_of t) }
+    requires some { budget ≢ 0 }
+    ensures shape { IfOk result (λ e. shape_of_table (last_of e) ≡ shape_of_table t) }
+    ensures flips { IfOk result (λ e. flips_of (last_of e) ≡ flips_of t) }
+    ensures value { end_of result
+        ≡ written_run ordered_fractions (shape_of_table t) (passes S.MAX) budget (table_of t) }
+    ensures ends { (P : Problem) → IsTableOf P (shape_of_table t) (table_of t) →
+        EndGives ordered_fractions P (end_of result) }
+{
+    run_laws();
+    run_phases(t, budget)
+}

@@ -1,0 +1,22 @@
+//! Why a run has no end.
+
+use stack_table::types::Step;
+
+/// The first operation that passes: in which phase, in which pivot of the run, counted from 1, and where.
+#[derive(Clone, Copy, Debug, PartialEq, Eq, Drop)]
+pub struct Place {
+    pub phase: u8,
+    pub pivot: u64,
+    pub row: usize,
+    pub column: usize,
+    pub step: Step,
+}
+
+/// Why a run has no end.
+#[derive(Clone, Copy, Debug, PartialEq, Eq, Drop)]
+pub enum RunError {
+    /// An operation passes the greatest value.
+    TooWide(Place),
+    /// A pivot is due, and the budget's pivots are done.
+    Spent,
+}
