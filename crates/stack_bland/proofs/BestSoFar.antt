@@ -9,7 +9,8 @@ use Rattle.stack_bland.specs.declared.leaving_row.Candidate.{Candidate}
 use Rattle.stack_bland.specs.Choice.{is_plus, goes_first, better, best}
 
 -- what the loop holds over the rows below n: the best row so far, with its ratio
-abbrev pub HoldsBest : {V : Type 0} → (V → Fraction) → (ℕ → Fraction) → ℕ → Option (Candidate V) → Option ℕ → Type 0
+abbrev pub HoldsBest : {V : Type 0} → (V → Fraction) → (ℕ → Fraction) → ℕ → Option (Candidate V) → Option ℕ →
+    Type 0
 HoldsBest exact ratios n None o = o ≡ None
 HoldsBest exact ratios n (Some b) o = (o ≡ Some b.row) × (exact b.ratio ≡ ratios b.row) × (b.row < n)
 
@@ -26,8 +27,10 @@ module _ {V : Type 0} (e : V → Fraction) (cell ratios : ℕ → Fraction) (bas
   more b p = ap best_at (add-one i)
       ∙ ap (λ t. cond t (better ordered_fractions ratios basic i (best_at i)) (best_at i)) p
 
-  pub held_positive : (o : Option (Candidate V)) (r : Candidate V) (v : V) → HoldsBest e ratios i o (best_at i) →
-      is_plus (sign_of (cell i).num) ≡ true → e v ≡ ratios i → (o ≡ None → r ≡ record { row = i; ratio = v }) →
+  pub held_positive : (o : Option (Candidate V)) (r : Candidate V) (v : V) →
+      HoldsBest e ratios i o (best_at i) →
+      is_plus (sign_of (cell i).num) ≡ true → e v ≡ ratios i →
+          (o ≡ None → r ≡ record { row = i; ratio = v }) →
       IfSome o (λ b. r ≡ cond (before (e v) (e b.ratio) b.row) (record { row = i; ratio = v }) b) →
       HoldsBest e ratios (i + 1) (Some r) (best_at (i + 1))
   held_positive None r v h p ev none some =

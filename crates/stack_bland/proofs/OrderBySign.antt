@@ -30,5 +30,7 @@ nought_left z = simp expand (omega (arith, sums))
 
 pub order_sign : (x y : Fraction) → order_of x y ≡ by_sign (sign_of (less ordered_fractions x y).num)
 order_sign x y = order_laws.by_difference x y
-    ∙ (λ i. int_cmp ((add x (neg y)).num *ℤ pos (den_of (pos 0) i)) (num_of (pos 0) i *ℤ pos (add x (neg y)).den))
-    ∙ (λ i. int_cmp (one_right (add x (neg y)).num i) (nought_left (pos (add x (neg y)).den) i)) ∙ cmp_zero (add x (neg y)).num
+    ∙ (λ i. int_cmp ((add x (neg y)).num *ℤ pos (den_of (pos 0) i))
+    (num_of (pos 0) i *ℤ pos (add x (neg y)).den))
+    ∙ (λ i. int_cmp (one_right (add x (neg y)).num i) (nought_left (pos (add x (neg y)).den) i))
+    ∙ cmp_zero (add x (neg y)).num

@@ -1,6 +1,6 @@
 //! The entering column.
 
-ghost use Rattle.std.specs.Prelude.{◌≡◌, ◌≤◌};
+ghost use Rattle.std.specs.Prelude.{◌≡◌, ◌<◌, ◌≤◌, IfSome};
 ghost use Rattle.stack_algebra.proofs.OrderedFractions.{ordered_fractions};
 ghost use Rattle.stack_table.specs.Table.{columns};
 ghost use Rattle.stack_table.specs.Seen.{shape_of_table, table_of};
@@ -13,7 +13,8 @@ use stack_table::Table;
 /// The least column below `among` with a negative objective cell.
 pub fn entering<S: Exact>(t: &Table<S>, among: usize) -> Option<usize>
     requires { among ≤ columns (shape_of_table t.now) }
-    ensures { result ≡ entering ordered_fractions (shape_of_table t.now) (table_of t.now) among }
+    ensures value { result ≡ entering ordered_fractions (shape_of_table t.now) (table_of t.now) among }
+    ensures below { IfSome result (λ j. j < among) }
 {
     let objective = t.rows();
     for j in 0..among {

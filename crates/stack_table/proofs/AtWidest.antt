@@ -1,5 +1,5 @@
 -- Nothing of a written table passes an ample greatest value.
-use Rattle.std.proofs.Common.{◌≡◌, refl, sym, ap, subst, ◌∙◌, ℕ, zero, suc, ◌+◌, ◌*◌, ◌^◌, ◌≤◌, Bool, true, false, not, cond, Option, None, arith}
+use Rattle.std.proofs.Common.{◌≡◌, refl, sym, ap, subst, ◌∙◌, ℕ, zero, suc, ◌*◌, ◌^◌, ◌≤◌, Bool, true, false, not, cond, None, arith}
 use Rattle.std.proofs.lemmas.Int.{ints}
 use lib.IntN.{ℤ, pos, negsuc, nat_abs, ◌+ℤ◌, ◌*ℤ◌}
 use Rattle.stack_algebra.proofs.Fractions.{of, add, neg, neg_is, of_add, of_mul}
@@ -45,10 +45,13 @@ total_size g (suc n) h = next (total g n) (g n) (total_size g n h) (h n)
 
 module _ (m : ℤ) (ample : IsAmple m) where
   whole_record : (z : ℤ) → nat_abs z ≤ nat_abs m → Fits m (of z)
-  whole_record z h = record { num = omega (arith, ap nat_abs (num_of z), h); den = omega (arith, den_of z, ample) }
+  whole_record z h = record { num = omega (arith, ap nat_abs (num_of z), h); den =
+      omega (arith, den_of z, ample) }
 
-  difference : (a b : ℤ) → nat_abs a ≤ 384 * 2 ^ 90 → IsBelowBound b → passes m Difference (of a) (of b) ≡ false
-  difference a b h k = ap not (sum_fits-of m (of a) (neg (of b)) (subst (λ y. SumFits m (of a) y) (sym (neg-of b))
+  difference : (a b : ℤ) → nat_abs a ≤ 384 * 2 ^ 90 → IsBelowBound b →
+      passes m Difference (of a) (of b) ≡ false
+  difference a b h k =
+      ap not (sum_fits-of m (of a) (neg (of b)) (subst (λ y. SumFits m (of a) y) (sym (neg-of b))
       (same_den_fits m (of a) (of (negsuc 0 *ℤ b)) (whole_record a (omega (arith, h, ample)))
       (whole_record (negsuc 0 *ℤ b) (omega (arith, opposite_size b, k, ample)))
       (den_of a ∙ sym (den_of (negsuc 0 *ℤ b)))
@@ -62,7 +65,8 @@ module _ (m : ℤ) (ample : IsAmple m) where
     number = number_at (problem_of P)
 
     row_none : (i : ℕ) → row_place ordered_fractions (passes m) (problem_of P) i ≡ None
-    row_none i = first_all-none (width (shape_of_problem P)) (number_place ordered_fractions (passes m) (problem_of P) i)
+    row_none i = first_all-none (width (shape_of_problem P))
+        (number_place ordered_fractions (passes m) (problem_of P) i)
         (λ j l. ap (λ b. only_if b (Wide i j)) (whole_fits m (number i j) (number i j) refl
         (omega (arith, number_small P h i j, ample))))
 
@@ -70,15 +74,18 @@ module _ (m : ℤ) (ample : IsAmple m) where
         (first_row ordered_fractions (problem_of P)) j ≡ None
     column_none j = go (is_artificial (shape_of_problem P) j)
       where
-        each : first P.rows (partial_place ordered_fractions (passes m) (Wide P.rows j) (λ i. of (number i j))) ≡ None
-        each = first_all-none P.rows (partial_place ordered_fractions (passes m) (Wide P.rows j) (λ i. of (number i j)))
+        each : first P.rows (partial_place ordered_fractions (passes m) (Wide P.rows j)
+            (λ i. of (number i j))) ≡ None
+        each = first_all-none P.rows
+            (partial_place ordered_fractions (passes m) (Wide P.rows j) (λ i. of (number i j)))
             (λ i l. ap (λ b. only_if b (Wide P.rows j))
             (ap (λ x. passes m Difference x (of (number i j))) (less_all-of (λ k. number k j) i)
             ∙ difference (total (λ k. number k j) i) (number i j)
             (omega (arith, l, h.rows_few, total_size (λ k. number k j) i (λ k. number_small P h k j)))
             (number_small P h i j)))
 
-        go : (b : Bool) → cond b None (first P.rows (partial_place ordered_fractions (passes m) (Wide P.rows j)
+        go : (b : Bool) → cond b None
+            (first P.rows (partial_place ordered_fractions (passes m) (Wide P.rows j)
             (λ i. of (number i j)))) ≡ None
         go true = refl
         go false = each
@@ -87,10 +94,12 @@ module _ (m : ℤ) (ample : IsAmple m) where
     never = ap (λ o. or_else o (objective_places ordered_fractions (passes m) (shape_of_problem P)
         (first_row ordered_fractions (problem_of P))))
         (first_all-none P.rows (row_place ordered_fractions (passes m) (problem_of P)) (λ i l. row_none i))
-        ∙ first_all-none (width (shape_of_problem P)) (objective_place ordered_fractions (passes m) (shape_of_problem P)
+        ∙ first_all-none (width (shape_of_problem P))
+        (objective_place ordered_fractions (passes m) (shape_of_problem P)
         (first_row ordered_fractions (problem_of P))) (λ j l. column_none j)
 
     -- so the error is want of memory
-    pub only_memory : (e : BuildError) → Tells e (wide_place ordered_fractions (passes m) (problem_of P)) → e ≡ Memory
+    pub only_memory : (e : BuildError) → Tells e (wide_place ordered_fractions (passes m) (problem_of P)) →
+        e ≡ Memory
     only_memory (Wide i j) t = absurd (let k = sym never ∙ t in cc)
     only_memory Memory t = refl

@@ -13,20 +13,23 @@ module _ {V : Type 0} (e : V → Fraction) where
   pub value_at-past : (xs : List V) (j : ℕ) → length xs ≤ j → value_at e xs j ≡ of (pos 0)
   value_at-past xs j l = get_or_past (map e xs) j (of (pos 0)) (omega (arith, length-map xs e))
 
-  pub value_at-index : (xs : List V) (j : ℕ) (x : V) → j < length xs → x ≡ get_or xs j x → value_at e xs j ≡ e x
+  pub value_at-index : (xs : List V) (j : ℕ) (x : V) → j < length xs → x ≡ get_or xs j x →
+      value_at e xs j ≡ e x
   value_at-index xs j x l h = get_or-map e xs j x (of (pos 0)) l ∙ ap e (sym h)
 
   pub value_at-set_same : (xs : List V) (j : ℕ) (x : V) → j < length xs → value_at e (set xs j x) j ≡ e x
   value_at-set_same xs j x l = ap (λ ys. get_or ys j (of (pos 0))) (map-set e xs j x)
       ∙ get_or-set_same (map e xs) j (e x) (of (pos 0)) (omega (arith, length-map xs e))
 
-  pub value_at-set_other : (xs : List V) (j k : ℕ) (x : V) → k ≢ j → value_at e (set xs j x) k ≡ value_at e xs k
+  pub value_at-set_other : (xs : List V) (j k : ℕ) (x : V) → k ≢ j →
+      value_at e (set xs j x) k ≡ value_at e xs k
   value_at-set_other xs j k x d = ap (λ ys. get_or ys k (of (pos 0))) (map-set e xs j x)
       ∙ get_or-set_other (map e xs) j k (e x) (of (pos 0)) d
 
   -- an item is written, and its mark, or a mark that still holds
   pub block_set : (m : ℤ) (cells : List V) (marks : List Bool) (j : ℕ) (x : V) (b : Bool) → j < length cells →
-      IsBlock m e cells marks → b ≡ is_zero (e x) → fits m (e x) ≡ true → IsBlock m e (set cells j x) (set marks j b)
+      IsBlock m e cells marks → b ≡ is_zero (e x) → fits m (e x) ≡ true →
+          IsBlock m e (set cells j x) (set marks j b)
   block_set m cells marks j x b l h eb f = record {
     same = length-set marks j b ∙ h.same ∙ sym (length-set cells j x);
     marked = λ k. mark k (ℕ_discrete k j);
@@ -34,7 +37,8 @@ module _ {V : Type 0} (e : V → Fraction) where
   }
     where
       mark : (k : ℕ) → Dec (k ≡ j) → mark_at (set marks j b) k ≡ is_zero (value_at e (set cells j x) k)
-      mark k (yes p) = ap (mark_at (set marks j b)) p ∙ get_or-set_same marks j b true (omega (arith, l, h.same)) ∙ eb
+      mark k (yes p) = ap (mark_at (set marks j b)) p
+          ∙ get_or-set_same marks j b true (omega (arith, l, h.same)) ∙ eb
           ∙ ap is_zero (sym (value_at-set_same cells j x l) ∙ ap (value_at e (set cells j x)) (sym p))
       mark k (no p) = get_or-set_other marks j k b true p ∙ h.marked k
           ∙ ap is_zero (sym (value_at-set_other cells j k x p))

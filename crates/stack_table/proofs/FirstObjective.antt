@@ -1,5 +1,5 @@
 -- The first objective row, column by column: it depends on the rows alone.
-use Rattle.std.proofs.Common.{◌≡◌, refl, ap, ◌∙◌, ℕ, zero, suc, ◌<◌, ◌≤◌, Bool, true, false, cond, leb, ltb, ◌&&◌, Option, Some, None, arith}
+use Rattle.std.proofs.Common.{◌≡◌, refl, ap, ℕ, zero, suc, ◌<◌, ◌≤◌, true, false, cond, leb, ltb, ◌&&◌, Option, None, arith}
 use Rattle.std.proofs.lemmas.Bool.{lt-ltb, le-ltb, le-leb, lt-leb}
 use native.Mathlib.Decide.{dec_le}
 use lib.IntN.{ℤ, pos}
@@ -37,11 +37,13 @@ partial_same : (m : ℤ) (place : BuildError) (n : ℕ) (f g : ℕ → Fraction)
     ≡ first n (partial_place ordered_fractions (passes m) place g)
 partial_same m place n f g h = first_same n (partial_place ordered_fractions (passes m) place f)
     (partial_place ordered_fractions (passes m) place g)
-    (λ i l. λ z. only_if (passes m Difference (less_all-same i f g (λ k q. h k (omega (arith, l, q))) z) (h i l z)) place)
+    (λ i l. λ z. only_if
+        (passes m Difference (less_all-same i f g (λ k q. h k (omega (arith, l, q))) z) (h i l z)) place)
 
 module _ (S : Shape) (j : ℕ) (f g : ℕ → ℕ → Fraction) (same : (i : ℕ) → i < S.rows → f i j ≡ g i j) where
   pub objective_same : objective_over ordered_fractions S f j ≡ objective_over ordered_fractions S g j
-  objective_same = ap (λ x. cond (is_artificial S j) (of (pos 0)) x) (less_all-same S.rows (λ i. f i j) (λ i. g i j) same)
+  objective_same = ap (λ x. cond (is_artificial S j) (of (pos 0)) x)
+      (less_all-same S.rows (λ i. f i j) (λ i. g i j) same)
 
   pub place_same : (m : ℤ) →
       objective_place ordered_fractions (passes m) S f j ≡ objective_place ordered_fractions (passes m) S g j

@@ -28,12 +28,14 @@ module _ {V : Type 0} (e : V → Fraction) where
       left k l = ap (λ zs. value_at e zs k) new ∙ value_at-left e xs (x ∷ []) k l
 
       put : (k : ℕ) → k < j + 1 → Dec (k ≡ j) → value_at e ys (length old + k) ≡ f k
-      put k l (yes d) = ap (λ z. value_at e ys (length old + z)) d ∙ ap (λ zs. value_at e zs (length old + j)) new
+      put k l (yes d) = ap (λ z. value_at e ys (length old + z)) d
+          ∙ ap (λ zs. value_at e zs (length old + j)) new
           ∙ pushed_last e m xs x (length old + j) h.longer ∙ here ∙ ap f (sym d)
       put k l (no d) = left (length old + k) (omega (arith, l, d, h.longer)) ∙ h.put k (omega (arith, l, d))
 
   -- the rows that are there, of n rows of w cells
-  pub earlier_cells : (w n size : ℕ) (f : ℕ → Fraction) (xs ys : List V) → length xs ≡ n * w → Grows e xs ys size f →
+  pub earlier_cells : (w n size : ℕ) (f : ℕ → Fraction) (xs ys : List V) → length xs ≡ n * w →
+      Grows e xs ys size f →
       (i j : ℕ) → i < n → cell_of e w ys i j ≡ cell_of e w xs i j
   earlier_cells w n size f xs ys l h i j k = go (dec_lt j w)
     where
@@ -48,12 +50,14 @@ module _ {V : Type 0} (e : V → Fraction) where
   next_cells w n f xs ys l h j d = cell_in e w ys n j d ∙ ap (λ z. value_at e ys (z + j)) (sym l) ∙ h.put j d
 
 -- a list that grows by the values of f
-pub pushed_all : {X : Type 0} (f : ℕ → X) (xs ys : List X) (x d : X) (i : ℕ) → ys ≡ xs ++ x ∷ [] → length xs ≡ i →
+pub pushed_all : {X : Type 0} (f : ℕ → X) (xs ys : List X) (x d : X) (i : ℕ) → ys ≡ xs ++ x ∷ [] →
+    length xs ≡ i →
     ((k : ℕ) → k < i → get_or xs k d ≡ f k) → x ≡ f i → (k : ℕ) → k < i + 1 → get_or ys k d ≡ f k
 pushed_all f xs ys x d i e l h here k b = go (ℕ_discrete k i)
   where
     go : Dec (k ≡ i) → get_or ys k d ≡ f k
-    go (yes p) = ap (λ zs. get_or zs k d) e ∙ ap (λ n. get_or (xs ++ x ∷ []) n d) p ∙ get_or_push xs x d i l ∙ here
+    go (yes p) = ap (λ zs. get_or zs k d) e ∙ ap (λ n. get_or (xs ++ x ∷ []) n d) p ∙ get_or_push xs x d i l
+        ∙ here
         ∙ ap f (sym p)
     go (no p) = ap (λ zs. get_or zs k d) e ∙ get_or_append_left xs (x ∷ []) d k (omega (arith, l, b, p))
         ∙ h k (omega (arith, b, p))

@@ -1,8 +1,7 @@
 -- A list of the columns that aren't 0, as it grows.
-use Rattle.std.proofs.Common.{◌≡◌, ◌≢◌, refl, sym, ap, ◌∙◌, ℕ, zero, suc, ◌<◌, ◌≤◌, ◌+◌, List, length, get_or, set, take, arith, Bool, true, Option, Some, None, add-one, get_or-set_same, get_or-set_other}
+use Rattle.std.proofs.Common.{◌≡◌, ◌≢◌, refl, sym, ap, ◌∙◌, ℕ, zero, suc, ◌<◌, ◌≤◌, ◌+◌, List, length, get_or, set, take, arith, Bool, true, add-one, get_or-set_same, get_or-set_other}
 use Rattle.std.proofs.lemmas.List.{get_or-take}
-use native.Mathlib.Decide.{ℕ_discrete, dec_lt}
-use Rattle.stack_algebra.proofs.Search.{first, or_else, first-none, first_all-none, first-some, first_found}
+use native.Mathlib.Decide.{ℕ_discrete}
 use Rattle.stack_table.specs.Columns.{reach, Lists}
 
 reach_set : (xs : List ℕ) (n y k : ℕ) → k ≤ n → reach (set xs n y) k ≡ reach xs k
@@ -31,7 +30,8 @@ listed_skip p xs n j h e = record {
     go i a l (yes d) = ap p d ∙ e
     go i a l (no d) = h.after i a (omega (arith, l, d))
 
-pub listed_more : (p : ℕ → Bool) (xs : List ℕ) (n j : ℕ) → n < length xs → Lists p xs n j → Lists p (set xs n j) (n + 1) (j + 1)
+pub listed_more : (p : ℕ → Bool) (xs : List ℕ) (n j : ℕ) → n < length xs → Lists p xs n j →
+    Lists p (set xs n j) (n + 1) (j + 1)
 listed_more p xs n j room h = record {
   below = λ k l. below k l (ℕ_discrete k n);
   rises = λ k l. rises k l (ℕ_discrete k n);
@@ -63,12 +63,16 @@ listed_more p xs n j room h = record {
     rises k l (yes d) = omega (arith, same k l, ap (reach xs) d, at k d, h.reached)
     rises k l (no d) = omega (arith, same k l, other k d, h.rises k (omega (arith, l, d)))
 
-    between : (k : ℕ) → k < n + 1 → (i : ℕ) → reach (set xs n j) k ≤ i → i < get_or (set xs n j) k 0 → Dec (k ≡ n) → p i ≡ true
-    between k l i a b (yes d) = h.after i (omega (arith, same k l, ap (reach xs) d, a)) (omega (arith, at k d, b))
-    between k l i a b (no d) = h.between k (omega (arith, l, d)) i (omega (arith, same k l, a)) (omega (arith, other k d, b))
+    between : (k : ℕ) → k < n + 1 → (i : ℕ) → reach (set xs n j) k ≤ i → i < get_or (set xs n j) k 0 →
+        Dec (k ≡ n) → p i ≡ true
+    between k l i a b (yes d) =
+        h.after i (omega (arith, same k l, ap (reach xs) d, a)) (omega (arith, at k d, b))
+    between k l i a b (no d) =
+        h.between k (omega (arith, l, d)) i (omega (arith, same k l, a)) (omega (arith, other k d, b))
 
 -- the same list of the same columns
-pub listed_same : (p q : ℕ → Bool) (xs : List ℕ) (n bound : ℕ) → ((j : ℕ) → p j ≡ q j) → Lists p xs n bound → Lists q xs n bound
+pub listed_same : (p q : ℕ → Bool) (xs : List ℕ) (n bound : ℕ) → ((j : ℕ) → p j ≡ q j) → Lists p xs n bound →
+    Lists q xs n bound
 listed_same p q xs n bound e h = record {
   below = h.below;
   rises = h.rises;
@@ -81,11 +85,13 @@ reach_take : (xs : List ℕ) (n k : ℕ) → k ≤ n → reach (take n xs) k ≡
 reach_take xs n zero l = refl
 reach_take xs n (suc k) l = ap suc (get_or-take n xs k 0 (omega (arith, l)))
 
-pub listed_take : (p : ℕ → Bool) (xs : List ℕ) (n bound : ℕ) → Lists p xs n bound → Lists p (take n xs) n bound
+pub listed_take : (p : ℕ → Bool) (xs : List ℕ) (n bound : ℕ) → Lists p xs n bound →
+    Lists p (take n xs) n bound
 listed_take p xs n bound h = record {
   below = λ k l. omega (arith, get_or-take n xs k 0 l, h.below k l);
   rises = λ k l. omega (arith, get_or-take n xs k 0 l, reach_take xs n k (omega (arith, l)), h.rises k l);
-  between = λ k l j a b. h.between k l j (omega (arith, reach_take xs n k (omega (arith, l)), a)) (omega (arith, get_or-take n xs k 0 l, b));
+  between = λ k l j a b. h.between k l j (omega (arith, reach_take xs n k (omega (arith, l)), a))
+      (omega (arith, get_or-take n xs k 0 l, b));
   reached = omega (arith, reach_take xs n n (omega arith), h.reached);
   after = λ j a b. h.after j (omega (arith, reach_take xs n n (omega arith), a)) b;
 }

@@ -1,15 +1,13 @@
 -- The numbers of a problem: below the bound in size, and 0 past its rows and columns.
-use Rattle.std.proofs.Common.{◌≡◌, refl, sym, ap, ◌∙◌, ℕ, zero, suc, ◌+◌, ◌<◌, ◌≤◌, Bool, true, false, cond, eqb, ltb, List, [], ◌∷◌, map, length, get_or, arith}
-use Rattle.std.specs.Prelude.{Option, Some, None, neg_ℤ}
+use Rattle.std.proofs.Common.{◌≡◌, refl, ap, ◌∙◌, ℕ, zero, suc, ◌+◌, ◌<◌, ◌≤◌, Bool, true, false, cond, eqb, ltb, List, [], ◌∷◌, map, length, get_or, arith}
 use Rattle.std.specs.List.{AllByRecursion}
 use Rattle.std.proofs.lemmas.Bool.{ltb-true, le-ltb, ne_eqb}
 use Rattle.std.proofs.lemmas.Int.{ints, fits_signed_from_abs}
 use Rattle.std.proofs.lemmas.List.{get_or_past}
-use native.Mathlib.Decide.{dec_lt}
 use mir.Syntax.{w128}
 use mir.Val.{SFits, to_z, of_z}
 use mir.Facts.{to_z-of_z}
-use lib.IntN.{ℤ, pos, negsuc}
+use lib.IntN.{ℤ, pos}
 use Rattle.stack_table.specs.declared.problem.Entry.{Entry}
 use Rattle.stack_table.specs.declared.problem.Column.{Column}
 use Rattle.stack_table.specs.declared.problem.Problem.{Problem as Lent}
@@ -20,7 +18,8 @@ use Rattle.stack_whole.specs.Limits.{IsBelowBound}
 use Rattle.stack_table.specs.WrittenTable.{number_at}
 
 -- an entry is small, and there is none past the rows
-entry_small : (xs : List Entry) (i : ℕ) → AllByRecursion (λ x. IsBelowBound x.value) xs → IsBelowBound (entry_in xs i)
+entry_small : (xs : List Entry) (i : ℕ) → AllByRecursion (λ x. IsBelowBound x.value) xs →
+    IsBelowBound (entry_in xs i)
 entry_small [] i h = omega arith
 entry_small (x ∷ xs) i h = go (eqb x.row i) (entry_small xs i h.1)
   where
@@ -31,7 +30,8 @@ entry_small (x ∷ xs) i h = go (eqb x.row i) (entry_small xs i h.1)
 entry_past : (rows : ℕ) (xs : List Entry) (i : ℕ) → AllByRecursion (λ x. x.row < rows) xs → rows ≤ i →
     entry_in xs i ≡ pos 0
 entry_past rows [] i h l = refl
-entry_past rows (x ∷ xs) i h l = ap (λ b. cond b x.value (entry_in xs i)) (ne_eqb x.row i (λ e. omega (arith, h.0, l, e)))
+entry_past rows (x ∷ xs) i h l =
+    ap (λ b. cond b x.value (entry_in xs i)) (ne_eqb x.row i (λ e. omega (arith, h.0, l, e)))
     ∙ entry_past rows xs i h.1 l
 
 pub right_small : (xs : List ℤ) (i : ℕ) → AllByRecursion IsBelowBound xs → IsBelowBound (get_or xs i (pos 0))
@@ -102,15 +102,18 @@ module _ (P : Lent) (h : IsProblem P) (i : ℕ) where
     no_load = get_or_past P.right.items i (pos 0) (omega (arith, h.right_long, past))
 
     turned_none : (z : ℤ) → z ≡ pos 0 → turned (flipped (problem_of P) i) z ≡ pos 0
-    turned_none z e = ap (turned (flipped (problem_of P) i)) e ∙ ap (λ v. turned (is_below_zero v) (pos 0)) no_load
+    turned_none z e = ap (turned (flipped (problem_of P) i)) e
+        ∙ ap (λ v. turned (is_below_zero v) (pos 0)) no_load
 
     pub number_past : (j : ℕ) → number_at (problem_of P) i j ≡ pos 0
     number_past j = let S = shape_of_problem P in
         all_zero (ltb j (plain S)) (ltb j (columns S)) (eqb j (columns S))
-        (turned (flipped (problem_of P) i) ((problem_of P).entry i j)) (cond (eqb j (plain S + i)) (pos 1) (pos 0))
+        (turned (flipped (problem_of P) i) ((problem_of P).entry i j))
+            (cond (eqb j (plain S + i)) (pos 1) (pos 0))
         (turned (flipped (problem_of P) i) ((problem_of P).load i))
         (turned_none _ (entry_past P.rows (entries_at P j) i (column_of P h j).below past))
-        (λ e. ap (λ b. cond b (pos 1) (pos 0)) (ne_eqb j (plain S + i) (λ d. let l = ltb-true j (columns S) e in
+        (λ e. ap (λ b. cond b (pos 1) (pos 0))
+            (ne_eqb j (plain S + i) (λ d. let l = ltb-true j (columns S) e in
         omega (arith, past, d, l)))) (turned_none _ no_load)
 
 -- past the columns

@@ -27,16 +27,19 @@ module _ {V : Type 0} (e : V → Fraction) where
   value_at-left xs ys k l = ap (λ zs. get_or zs k (of (pos 0))) (map-append e xs ys)
       ∙ get_or_append_left (map e xs) (map e ys) (of (pos 0)) k (omega (arith, l, length-map xs e))
 
-  pub value_at-right : (xs ys : List V) (n k : ℕ) → length xs ≡ n → value_at e (xs ++ ys) (n + k) ≡ value_at e ys k
+  pub value_at-right : (xs ys : List V) (n k : ℕ) → length xs ≡ n →
+      value_at e (xs ++ ys) (n + k) ≡ value_at e ys k
   value_at-right xs ys n k l = ap (λ zs. get_or zs (n + k) (of (pos 0))) (map-append e xs ys)
       ∙ ap (λ z. get_or (map e xs ++ map e ys) (z + k) (of (pos 0))) (sym l ∙ sym (length-map xs e))
       ∙ get_or-append-add (map e xs) (map e ys) k (of (pos 0))
 
   value_at-take : (n : ℕ) (xs : List V) (k : ℕ) → k < n → value_at e (take n xs) k ≡ value_at e xs k
-  value_at-take n xs k l = ap (λ zs. get_or zs k (of (pos 0))) (sym (take-map e n xs)) ∙ get_or-take n (map e xs) k (of (pos 0)) l
+  value_at-take n xs k l = ap (λ zs. get_or zs k (of (pos 0))) (sym (take-map e n xs))
+      ∙ get_or-take n (map e xs) k (of (pos 0)) l
 
   value_at-drop : (n : ℕ) (xs : List V) (k : ℕ) → value_at e (drop n xs) k ≡ value_at e xs (n + k)
-  value_at-drop n xs k = ap (λ zs. get_or zs k (of (pos 0))) (sym (drop-map e n xs)) ∙ get_or-drop n (map e xs) k (of (pos 0))
+  value_at-drop n xs k = ap (λ zs. get_or zs k (of (pos 0))) (sym (drop-map e n xs))
+      ∙ get_or-drop n (map e xs) k (of (pos 0))
 
   -- a cell within a row's width, and past it
   pub cell_in : (w : ℕ) (xs : List V) (i j : ℕ) → j < w → cell_of e w xs i j ≡ value_at e xs (i * w + j)
@@ -45,11 +48,13 @@ module _ {V : Type 0} (e : V → Fraction) where
   pub cell_past : (w : ℕ) (xs : List V) (i j : ℕ) → w ≤ j → cell_of e w xs i j ≡ of (pos 0)
   cell_past w xs i j l = ap (λ b. cond b (value_at e xs (i * w + j)) (of (pos 0))) (le-ltb j w l)
 
-  pub cell_outside : (w n : ℕ) (xs : List V) (i j : ℕ) → length xs ≡ n * w → n ≤ i → cell_of e w xs i j ≡ of (pos 0)
+  pub cell_outside : (w n : ℕ) (xs : List V) (i j : ℕ) → length xs ≡ n * w → n ≤ i →
+      cell_of e w xs i j ≡ of (pos 0)
   cell_outside w n xs i j h l = go (dec_lt j w)
     where
       go : Dec (j < w) → cell_of e w xs i j ≡ of (pos 0)
-      go (yes k) = cell_in w xs i j k ∙ value_at-past e xs (i * w + j) (omega (arith, h, mul-le n w i w l (omega arith)))
+      go (yes k) = cell_in w xs i j k
+          ∙ value_at-past e xs (i * w + j) (omega (arith, h, mul-le n w i w l (omega arith)))
       go (no k) = cell_past w xs i j (omega (arith, k))
 
   -- a cell that is read, of n rows
@@ -63,14 +68,17 @@ module _ {V : Type 0} (e : V → Fraction) where
     cell_above i j l = go (dec_lt j w)
       where
         go : Dec (j < w) → cell_of e w (above ++ (own ++ below)) i j ≡ cell_of e w above i j
-        go (yes k) = cell_in w _ i j k ∙ value_at-left above (own ++ below) (i * w + j) (omega (arith, la, row_in i r w (r * w) l refl, k)) ∙ sym (cell_in w above i j k)
+        go (yes k) = cell_in w _ i j k
+            ∙ value_at-left above (own ++ below) (i * w + j)
+            (omega (arith, la, row_in i r w (r * w) l refl, k)) ∙ sym (cell_in w above i j k)
         go (no k) = cell_past w _ i j (omega (arith, k)) ∙ sym (cell_past w above i j (omega (arith, k)))
 
     pub cell_own : (j : ℕ) → cell_of e w (above ++ (own ++ below)) r j ≡ value_at e own j
     cell_own j = go (dec_lt j w)
       where
         go : Dec (j < w) → cell_of e w (above ++ (own ++ below)) r j ≡ value_at e own j
-        go (yes k) = cell_in w _ r j k ∙ value_at-right above (own ++ below) (r * w) j la ∙ value_at-left own below j (omega (arith, lo, k))
+        go (yes k) = cell_in w _ r j k ∙ value_at-right above (own ++ below) (r * w) j la
+            ∙ value_at-left own below j (omega (arith, lo, k))
         go (no k) = cell_past w _ r j (omega (arith, k)) ∙ sym (value_at-past e own j (omega (arith, lo, k)))
 
     pub cell_below : (i j : ℕ) → cell_of e w (above ++ (own ++ below)) (r + 1 + i) j ≡ cell_of e w below i j
@@ -83,34 +91,45 @@ module _ {V : Type 0} (e : V → Fraction) where
         go (yes k) = cell_in w _ (r + 1 + i) j k ∙ ap (value_at e (above ++ (own ++ below))) place
             ∙ value_at-right above (own ++ below) (r * w) (w + (i * w + j)) la
             ∙ value_at-right own below w (i * w + j) lo ∙ sym (cell_in w below i j k)
-        go (no k) = cell_past w _ (r + 1 + i) j (omega (arith, k)) ∙ sym (cell_past w below i j (omega (arith, k)))
+        go (no k) = cell_past w _ (r + 1 + i) j (omega (arith, k))
+            ∙ sym (cell_past w below i j (omega (arith, k)))
 
   -- another row in the place of one
-  pub other_kept : (w r : ℕ) (above own new below : List V) → length above ≡ r * w → length own ≡ w → length new ≡ w → (i j : ℕ) → i ≢ r →
+  pub other_kept : (w r : ℕ) (above own new below : List V) → length above ≡ r * w → length own ≡ w →
+      length new ≡ w → (i j : ℕ) → i ≢ r →
       cell_of e w (above ++ (new ++ below)) i j ≡ cell_of e w (above ++ (own ++ below)) i j
   other_kept w r above own new below la lo ln i j d = go (dec_lt i r)
     where
       go : Dec (i < r) → cell_of e w (above ++ (new ++ below)) i j ≡ cell_of e w (above ++ (own ++ below)) i j
-      go (yes l) = cell_above w r above new below la ln i j l ∙ sym (cell_above w r above own below la lo i j l)
+      go (yes l) = cell_above w r above new below la ln i j l
+          ∙ sym (cell_above w r above own below la lo i j l)
       go (no l) = let k : i ≡ r + 1 + (i - (r + 1)) = omega (arith, l, d) in
           ap (λ z. cell_of e w (above ++ (new ++ below)) z j) k
-          ∙ cell_below w r above new below la ln (i - (r + 1)) j ∙ sym (cell_below w r above own below la lo (i - (r + 1)) j)
+          ∙ cell_below w r above new below la ln (i - (r + 1)) j
+          ∙ sym (cell_below w r above own below la lo (i - (r + 1)) j)
           ∙ ap (λ z. cell_of e w (above ++ (own ++ below)) z j) (sym k)
 
   -- the last row
-  pub last_own : (w r : ℕ) (above last : List V) → length above ≡ r * w → length last ≡ w → (j : ℕ) → cell_of e w (above ++ last) r j ≡ value_at e last j
-  last_own w r above last la ll j = ap (λ ys. cell_of e w (above ++ ys) r j) (sym (append-nil last)) ∙ cell_own w r above last [] la ll j
+  pub last_own : (w r : ℕ) (above last : List V) → length above ≡ r * w → length last ≡ w → (j : ℕ) →
+      cell_of e w (above ++ last) r j ≡ value_at e last j
+  last_own w r above last la ll j = ap (λ ys. cell_of e w (above ++ ys) r j) (sym (append-nil last))
+      ∙ cell_own w r above last [] la ll j
 
-  pub last_kept : (w r : ℕ) (above last new : List V) → length above ≡ r * w → length last ≡ w → length new ≡ w → (i j : ℕ) → i ≢ r →
+  pub last_kept : (w r : ℕ) (above last new : List V) → length above ≡ r * w → length last ≡ w →
+      length new ≡ w → (i j : ℕ) → i ≢ r →
       cell_of e w (above ++ new) i j ≡ cell_of e w (above ++ last) i j
-  last_kept w r above last new la ll ln i j d = ap (λ ys. cell_of e w (above ++ ys) i j) (sym (append-nil new))
-      ∙ other_kept w r above last new [] la ll ln i j d ∙ ap (λ ys. cell_of e w (above ++ ys) i j) (append-nil last)
+  last_kept w r above last new la ll ln i j d =
+      ap (λ ys. cell_of e w (above ++ ys) i j) (sym (append-nil new))
+      ∙ other_kept w r above last new [] la ll ln i j d
+      ∙ ap (λ ys. cell_of e w (above ++ ys) i j) (append-nil last)
 
   module _ (m : ℤ) where
     zero_fits : (cells : List V) (marks : List Bool) → IsBlock m e cells marks → fits m (of (pos 0)) ≡ true
-    zero_fits cells marks h = ap (fits m) (sym (value_at-past e cells (length cells) (omega arith))) ∙ h.fitting (length cells)
+    zero_fits cells marks h = ap (fits m) (sym (value_at-past e cells (length cells) (omega arith)))
+        ∙ h.fitting (length cells)
 
-    pub block_join : (xs ys : List V) (ms ns : List Bool) → IsBlock m e xs ms → IsBlock m e ys ns → IsBlock m e (xs ++ ys) (ms ++ ns)
+    pub block_join : (xs ys : List V) (ms ns : List Bool) → IsBlock m e xs ms → IsBlock m e ys ns →
+        IsBlock m e (xs ++ ys) (ms ++ ns)
     block_join xs ys ms ns h k = record {
       same = omega (arith, length-append ms ns, length-append xs ys, h.same, k.same);
       marked = λ i. mark i (dec_lt i (length xs));
@@ -118,17 +137,23 @@ module _ {V : Type 0} (e : V → Fraction) where
     }
       where
         mark : (i : ℕ) → Dec (i < length xs) → mark_at (ms ++ ns) i ≡ is_zero (value_at e (xs ++ ys) i)
-        mark i (yes l) = get_or_append_left ms ns true i (omega (arith, l, h.same)) ∙ h.marked i ∙ ap is_zero (sym (value_at-left xs ys i l))
+        mark i (yes l) = get_or_append_left ms ns true i (omega (arith, l, h.same)) ∙ h.marked i
+            ∙ ap is_zero (sym (value_at-left xs ys i l))
         mark i (no l) = let p : i ≡ length xs + (i - length xs) = omega (arith, l) in
-            ap (mark_at (ms ++ ns)) (p ∙ ap (λ z. z + (i - length xs)) (sym h.same)) ∙ get_or-append-add ms ns (i - length xs) true
-            ∙ k.marked (i - length xs) ∙ ap is_zero (sym (ap (value_at e (xs ++ ys)) p ∙ value_at-right xs ys (length xs) (i - length xs) refl))
+            ap (mark_at (ms ++ ns)) (p ∙ ap (λ z. z + (i - length xs)) (sym h.same))
+                ∙ get_or-append-add ms ns (i - length xs) true
+            ∙ k.marked (i - length xs)
+            ∙ ap is_zero (sym (ap (value_at e (xs ++ ys)) p
+            ∙ value_at-right xs ys (length xs) (i - length xs) refl))
 
         fit : (i : ℕ) → Dec (i < length xs) → fits m (value_at e (xs ++ ys) i) ≡ true
         fit i (yes l) = ap (fits m) (value_at-left xs ys i l) ∙ h.fitting i
         fit i (no l) = let p : i ≡ length xs + (i - length xs) = omega (arith, l) in
-            ap (fits m) (ap (value_at e (xs ++ ys)) p ∙ value_at-right xs ys (length xs) (i - length xs) refl) ∙ k.fitting (i - length xs)
+            ap (fits m) (ap (value_at e (xs ++ ys)) p ∙ value_at-right xs ys (length xs) (i - length xs) refl)
+                ∙ k.fitting (i - length xs)
 
-    pub block_take : (n : ℕ) (xs : List V) (ms : List Bool) → n ≤ length xs → IsBlock m e xs ms → IsBlock m e (take n xs) (take n ms)
+    pub block_take : (n : ℕ) (xs : List V) (ms : List Bool) → n ≤ length xs → IsBlock m e xs ms →
+        IsBlock m e (take n xs) (take n ms)
     block_take n xs ms r h = record {
       same = length-take-le n ms (omega (arith, r, h.same)) ∙ sym (length-take-le n xs r);
       marked = λ i. mark i (dec_lt i n);
@@ -140,14 +165,16 @@ module _ {V : Type 0} (e : V → Fraction) where
 
         mark : (i : ℕ) → Dec (i < n) → mark_at (take n ms) i ≡ is_zero (value_at e (take n xs) i)
         mark i (yes l) = get_or-take n ms i true l ∙ h.marked i ∙ ap is_zero (sym (value_at-take n xs i l))
-        mark i (no l) = get_or_past (take n ms) i true (omega (arith, length-take-le n ms (omega (arith, r, h.same)), l))
+        mark i (no l) = get_or_past (take n ms) i true
+            (omega (arith, length-take-le n ms (omega (arith, r, h.same)), l))
             ∙ sym (ap is_zero (past i (omega (arith, l))) ∙ is_zero-of)
 
         fit : (i : ℕ) → Dec (i < n) → fits m (value_at e (take n xs) i) ≡ true
         fit i (yes l) = ap (fits m) (value_at-take n xs i l) ∙ h.fitting i
         fit i (no l) = ap (fits m) (past i (omega (arith, l))) ∙ zero_fits xs ms h
 
-    pub block_drop : (n : ℕ) (xs : List V) (ms : List Bool) → IsBlock m e xs ms → IsBlock m e (drop n xs) (drop n ms)
+    pub block_drop : (n : ℕ) (xs : List V) (ms : List Bool) → IsBlock m e xs ms →
+        IsBlock m e (drop n xs) (drop n ms)
     block_drop n xs ms h = record {
       same = omega (arith, length-drop n xs, length-drop n ms, h.same);
       marked = λ i. get_or-drop n ms i true ∙ h.marked (n + i) ∙ ap is_zero (sym (value_at-drop n xs i));
@@ -155,7 +182,8 @@ module _ {V : Type 0} (e : V → Fraction) where
     }
 
     -- every cell fits
-    pub fits_cell : (w : ℕ) (xs : List V) (ms : List Bool) (i j : ℕ) → IsBlock m e xs ms → fits m (cell_of e w xs i j) ≡ true
+    pub fits_cell : (w : ℕ) (xs : List V) (ms : List Bool) (i j : ℕ) → IsBlock m e xs ms →
+        fits m (cell_of e w xs i j) ≡ true
     fits_cell w xs ms i j h = go (dec_lt j w)
       where
         go : Dec (j < w) → fits m (cell_of e w xs i j) ≡ true
@@ -163,7 +191,8 @@ module _ {V : Type 0} (e : V → Fraction) where
         go (no l) = ap (fits m) (cell_past w xs i j (omega (arith, l))) ∙ zero_fits xs ms h
 
     -- row i of a block, lent as a slice, and written back
-    module _ (w i : ℕ) (xs : List V) (ms : List Bool) (h : IsBlock m e xs ms) (l : i * w + w ≤ length xs) where
+    module _ (w i : ℕ) (xs : List V) (ms : List Bool) (h : IsBlock m e xs ms)
+        (l : i * w + w ≤ length xs) where
       many : i * w + w - i * w ≡ w
       many = omega arith
 
@@ -171,59 +200,83 @@ module _ {V : Type 0} (e : V → Fraction) where
       la = length-take-le (i * w) xs (omega (arith, l))
 
       pub part_length : length (take (i * w + w - i * w) (drop (i * w) xs)) ≡ w
-      part_length = length-take-le (i * w + w - i * w) (drop (i * w) xs) (omega (arith, length-drop (i * w) xs, l)) ∙ many
+      part_length = length-take-le (i * w + w - i * w) (drop (i * w) xs)
+          (omega (arith, length-drop (i * w) xs, l)) ∙ many
 
-      pub part_block : IsBlock m e (take (i * w + w - i * w) (drop (i * w) xs)) (take (i * w + w - i * w) (drop (i * w) ms))
-      part_block = block_take (i * w + w - i * w) (drop (i * w) xs) (drop (i * w) ms) (omega (arith, length-drop (i * w) xs, l)) (block_drop (i * w) xs ms h)
+      pub part_block : IsBlock m e (take (i * w + w - i * w) (drop (i * w) xs))
+          (take (i * w + w - i * w) (drop (i * w) ms))
+      part_block = block_take (i * w + w - i * w) (drop (i * w) xs) (drop (i * w) ms)
+          (omega (arith, length-drop (i * w) xs, l)) (block_drop (i * w) xs ms h)
 
-      apart : xs ≡ take (i * w) xs ++ (take (i * w + w - i * w) (drop (i * w) xs) ++ drop (i * w + w - i * w) (drop (i * w) xs))
-      apart = sym (ap (λ ys. take (i * w) xs ++ ys) (take-append-drop (i * w + w - i * w) (drop (i * w) xs)) ∙ take-append-drop (i * w) xs)
+      apart : xs ≡ take (i * w) xs ++
+          (take (i * w + w - i * w) (drop (i * w) xs) ++ drop (i * w + w - i * w) (drop (i * w) xs))
+      apart = sym (ap (λ ys. take (i * w) xs ++ ys) (take-append-drop (i * w + w - i * w) (drop (i * w) xs))
+          ∙ take-append-drop (i * w) xs)
 
-      pub part_value : (j : ℕ) → value_at e (take (i * w + w - i * w) (drop (i * w) xs)) j ≡ cell_of e w xs i j
-      part_value j = sym (ap (λ ys. cell_of e w ys i j) apart ∙ cell_own w i (take (i * w) xs) _ _ la part_length j)
+      pub part_value : (j : ℕ) →
+          value_at e (take (i * w + w - i * w) (drop (i * w) xs)) j ≡ cell_of e w xs i j
+      part_value j = sym (ap (λ ys. cell_of e w ys i j) apart
+          ∙ cell_own w i (take (i * w) xs) _ _ la part_length j)
 
       pub put_block : (ys : List V) (ns : List Bool) → IsBlock m e ys ns →
           IsBlock m e (put_mid (i * w) (i * w + w - i * w) xs ys) (put_mid (i * w) (i * w + w - i * w) ms ns)
       put_block ys ns k = block_join _ _ _ _ (block_take (i * w) xs ms (omega (arith, l)) h)
-          (block_join _ _ _ _ k (block_drop (i * w + w - i * w) (drop (i * w) xs) (drop (i * w) ms) (block_drop (i * w) xs ms h)))
+          (block_join _ _ _ _ k
+              (block_drop (i * w + w - i * w) (drop (i * w) xs) (drop (i * w) ms)
+              (block_drop (i * w) xs ms h)))
 
-      pub put_own : (ys : List V) (j : ℕ) → length ys ≡ w → cell_of e w (put_mid (i * w) (i * w + w - i * w) xs ys) i j ≡ value_at e ys j
+      pub put_own : (ys : List V) (j : ℕ) → length ys ≡ w →
+          cell_of e w (put_mid (i * w) (i * w + w - i * w) xs ys) i j ≡ value_at e ys j
       put_own ys j n = cell_own w i (take (i * w) xs) ys (drop (i * w + w - i * w) (drop (i * w) xs)) la n j
 
-      pub put_other : (ys : List V) (k j : ℕ) → length ys ≡ w → k ≢ i → cell_of e w (put_mid (i * w) (i * w + w - i * w) xs ys) k j ≡ cell_of e w xs k j
-      put_other ys k j n d = other_kept w i (take (i * w) xs) (take (i * w + w - i * w) (drop (i * w) xs)) ys (drop (i * w + w - i * w) (drop (i * w) xs)) la part_length n k j d
+      pub put_other : (ys : List V) (k j : ℕ) → length ys ≡ w → k ≢ i →
+          cell_of e w (put_mid (i * w) (i * w + w - i * w) xs ys) k j ≡ cell_of e w xs k j
+      put_other ys k j n d = other_kept w i (take (i * w) xs) (take (i * w + w - i * w) (drop (i * w) xs)) ys
+          (drop (i * w + w - i * w) (drop (i * w) xs)) la part_length n k j d
           ∙ ap (λ zs. cell_of e w zs k j) (sym apart)
 
 -- the blocks of three parts, lent by two splits
-pub record Parted {V : Type 0} (m : ℤ) (e : V → Fraction) (above own below : List V) (ms os bs : List Bool) : Type 0 where
+pub record Parted {V : Type 0} (m : ℤ) (e : V → Fraction) (above own below : List V)
+    (ms os bs : List Bool) : Type 0 where
   pub above_is : IsBlock m e above ms
   pub own_is : IsBlock m e own os
   pub below_is : IsBlock m e below bs
 
 module _ {V : Type 0} (e : V → Fraction) (m : ℤ) where
-  pub parted : (cells : List V) (marks : List Bool) (n w : ℕ) → n + w ≤ length cells → IsBlock m e cells marks →
+  pub parted : (cells : List V) (marks : List Bool) (n w : ℕ) → n + w ≤ length cells →
+      IsBlock m e cells marks →
       (above rest own below : List V) (ms ts os bs : List Bool) → above ≡ take n cells → rest ≡ drop n cells →
-      own ≡ take w rest → below ≡ drop w rest → ms ≡ take n marks → ts ≡ drop n marks → os ≡ take w ts → bs ≡ drop w ts →
+      own ≡ take w rest → below ≡ drop w rest → ms ≡ take n marks → ts ≡ drop n marks → os ≡ take w ts →
+          bs ≡ drop w ts →
       Parted m e above own below ms os bs
   parted cells marks n w l h above rest own below ms ts os bs ea er eo eb fa fr fo fb = record {
-    above_is = subst₂ (λ (xs : List V) (ns : List Bool). IsBlock m e xs ns) (sym ea) (sym fa) (block_take e m n cells marks (omega (arith, l)) h);
-    own_is = subst₂ (λ (xs : List V) (ns : List Bool). IsBlock m e xs ns) (ap (take w) (sym er) ∙ sym eo) (ap (take w) (sym fr) ∙ sym fo)
-        (block_take e m w (drop n cells) (drop n marks) (omega (arith, l, length-drop n cells)) (block_drop e m n cells marks h));
-    below_is = subst₂ (λ (xs : List V) (ns : List Bool). IsBlock m e xs ns) (ap (drop w) (sym er) ∙ sym eb) (ap (drop w) (sym fr) ∙ sym fb)
+    above_is = subst₂ (λ (xs : List V) (ns : List Bool). IsBlock m e xs ns) (sym ea) (sym fa)
+        (block_take e m n cells marks (omega (arith, l)) h);
+    own_is = subst₂ (λ (xs : List V) (ns : List Bool). IsBlock m e xs ns) (ap (take w) (sym er) ∙ sym eo)
+        (ap (take w) (sym fr) ∙ sym fo)
+        (block_take e m w (drop n cells) (drop n marks) (omega (arith, l, length-drop n cells))
+            (block_drop e m n cells marks h));
+    below_is = subst₂ (λ (xs : List V) (ns : List Bool). IsBlock m e xs ns) (ap (drop w) (sym er) ∙ sym eb)
+        (ap (drop w) (sym fr) ∙ sym fb)
         (block_drop e m w (drop n cells) (drop n marks) (block_drop e m n cells marks h));
   }
 
-  pub block_three : (above own below : List V) (ms os bs : List Bool) → IsBlock m e above ms → IsBlock m e own os → IsBlock m e below bs →
+  pub block_three : (above own below : List V) (ms os bs : List Bool) → IsBlock m e above ms →
+      IsBlock m e own os → IsBlock m e below bs →
       IsBlock m e (above ++ (own ++ below)) (ms ++ (os ++ bs))
-  block_three above own below ms os bs h k l = block_join e m above (own ++ below) ms (os ++ bs) h (block_join e m own below os bs k l)
+  block_three above own below ms os bs h k l =
+      block_join e m above (own ++ below) ms (os ++ bs) h (block_join e m own below os bs k l)
 
   -- one more cell
   pub pushed_last : (xs : List V) (x : V) (n : ℕ) → length xs ≡ n → value_at e (xs ++ x ∷ []) n ≡ e x
-  pushed_last xs x n l = let z : n ≡ n + 0 = omega arith in ap (value_at e (xs ++ x ∷ [])) z ∙ value_at-right e xs (x ∷ []) n 0 l
+  pushed_last xs x n l = let z : n ≡ n + 0 = omega arith in ap (value_at e (xs ++ x ∷ [])) z
+      ∙ value_at-right e xs (x ∷ []) n 0 l
 
-  pub block_push : (xs : List V) (ms : List Bool) (x : V) (b : Bool) → IsBlock m e xs ms → b ≡ is_zero (e x) → fits m (e x) ≡ true →
+  pub block_push : (xs : List V) (ms : List Bool) (x : V) (b : Bool) → IsBlock m e xs ms → b ≡ is_zero (e x) →
+      fits m (e x) ≡ true →
       IsBlock m e (xs ++ x ∷ []) (ms ++ b ∷ [])
-  block_push xs ms x b h eb f = block_join e m xs (x ∷ []) ms (b ∷ []) h (record { same = refl; marked = mark; fitting = fit })
+  block_push xs ms x b h eb f =
+      block_join e m xs (x ∷ []) ms (b ∷ []) h (record { same = refl; marked = mark; fitting = fit })
     where
       mark : (k : ℕ) → mark_at (b ∷ []) k ≡ is_zero (value_at e (x ∷ []) k)
       mark zero = eb
@@ -237,25 +290,34 @@ module _ {V : Type 0} (e : V → Fraction) (m : ℤ) where
 module _ {V : Type 0} (e : V → Fraction) (w r : ℕ) (cells above last : List V) (whole : cells ≡ above ++ last)
     (la : length above ≡ r * w) (ll : length last ≡ w) where
   pub first_rows : (i j : ℕ) → i < r → cell_of e w above i j ≡ cell_of e w cells i j
-  first_rows i j l = sym (ap (λ ys. cell_of e w ys i j) whole ∙ ap (λ ys. cell_of e w (above ++ ys) i j) (sym (append-nil last)) ∙ cell_above e w r above last [] la ll i j l)
+  first_rows i j l = sym (ap (λ ys. cell_of e w ys i j) whole
+      ∙ ap (λ ys. cell_of e w (above ++ ys) i j) (sym (append-nil last))
+      ∙ cell_above e w r above last [] la ll i j l)
 
   -- another last row
-  pub last_changed : (new : List V) (o : ℕ → Fraction) → length new ≡ length last → ((j : ℕ) → value_at e new j ≡ o j) →
+  pub last_changed : (new : List V) (o : ℕ → Fraction) → length new ≡ length last →
+      ((j : ℕ) → value_at e new j ≡ o j) →
       (i j : ℕ) → cell_of e w (above ++ new) i j ≡ changed (cell_of e w cells) r o i j
   last_changed new o ln h i j = go (ℕ_discrete i r)
     where
       go : Dec (i ≡ r) → cell_of e w (above ++ new) i j ≡ changed (cell_of e w cells) r o i j
       go (yes d) = ap (λ z. cell_of e w (above ++ new) z j) d ∙ last_own e w r above new la (ln ∙ ll) j ∙ h j
-          ∙ sym (ap (λ z. changed (cell_of e w cells) r o z j) d ∙ ap (λ (f : ℕ → Fraction). f j) (changed-same (cell_of e w cells) r o))
-      go (no d) = last_kept e w r above last new la ll (ln ∙ ll) i j d ∙ ap (λ ys. cell_of e w ys i j) (sym whole)
+          ∙ sym (ap (λ z. changed (cell_of e w cells) r o z j) d
+          ∙ ap (λ (f : ℕ → Fraction). f j) (changed-same (cell_of e w cells) r o))
+      go (no d) = last_kept e w r above last new la ll (ln ∙ ll) i j d
+          ∙ ap (λ ys. cell_of e w ys i j) (sym whole)
           ∙ sym (ap (λ (f : ℕ → Fraction). f j) (changed-other (cell_of e w cells) r o i d))
 
-pub two_parts : {V : Type 0} (e : V → Fraction) (m : ℤ) (cells : List V) (marks : List Bool) (n : ℕ) → n ≤ length cells → IsBlock m e cells marks →
-    (above last : List V) (ms ns : List Bool) → above ≡ take n cells → last ≡ drop n cells → ms ≡ take n marks → ns ≡ drop n marks →
+pub two_parts : {V : Type 0} (e : V → Fraction) (m : ℤ) (cells : List V) (marks : List Bool) (n : ℕ) →
+    n ≤ length cells → IsBlock m e cells marks →
+    (above last : List V) (ms ns : List Bool) → above ≡ take n cells → last ≡ drop n cells →
+        ms ≡ take n marks → ns ≡ drop n marks →
     IsBlock m e above ms × IsBlock m e last ns
 two_parts e m cells marks n l h above last ms ns ea el fa fl = (
-  subst₂ (λ (xs : List _) (bs : List Bool). IsBlock m e xs bs) (sym ea) (sym fa) (block_take e m n cells marks l h),
-  subst₂ (λ (xs : List _) (bs : List Bool). IsBlock m e xs bs) (sym el) (sym fl) (block_drop e m n cells marks h),
+  subst₂ (λ (xs : List _) (bs : List Bool). IsBlock m e xs bs) (sym ea) (sym fa)
+      (block_take e m n cells marks l h),
+  subst₂ (λ (xs : List _) (bs : List Bool). IsBlock m e xs bs) (sym el) (sym fl)
+      (block_drop e m n cells marks h),
 )
 
 -- the length of the last row

@@ -20,7 +20,8 @@ use Rattle.stack_table.proofs.RowSteps.{divide_same, reduce_same, reduced_same, 
 
 -- row by row
 module _ (m : ℤ) (width : ℕ) (cell : ℕ → ℕ → Fraction) (r c : ℕ) where
-  pub pivot_row : (j : ℕ) → next ordered_fractions cell r c r j ≡ divided ordered_fractions (cell r) (cell r c) j
+  pub pivot_row : (j : ℕ) → next ordered_fractions cell r c r j ≡ divided ordered_fractions (cell r)
+      (cell r c) j
   pivot_row j = ap (λ (f : ℕ → Fraction). f j) (pivoted-own fractions cell (inv (cell r c)) r c)
 
   pub other_row : (i j : ℕ) → i ≢ r → next ordered_fractions cell r c i j
@@ -28,15 +29,21 @@ module _ (m : ℤ) (width : ℕ) (cell : ℕ → ℕ → Fraction) (r c : ℕ) w
   other_row i j d = ap (λ (f : ℕ → Fraction). f j) (pivoted-other fractions cell (inv (cell r c)) r c i d)
 
   pub spot_own : (i : ℕ) → i ≡ r → row_spot ordered_fractions (passes m) width cell r c i ≡ None
-  spot_own i e = ap (λ b. cond b None (reduce_spot ordered_fractions (passes m) width (cell i) (divided ordered_fractions (cell r) (cell r c)) (cell i c) i)) (eq-eqb i r e)
+  spot_own i e = ap (λ b. cond b None
+      (reduce_spot ordered_fractions (passes m) width (cell i) (divided ordered_fractions (cell r) (cell r c))
+      (cell i c) i)) (eq-eqb i r e)
 
   pub spot_other : (i : ℕ) → i ≢ r → row_spot ordered_fractions (passes m) width cell r c i
-      ≡ reduce_spot ordered_fractions (passes m) width (cell i) (divided ordered_fractions (cell r) (cell r c)) (cell i c) i
-  spot_other i d = ap (λ b. cond b None (reduce_spot ordered_fractions (passes m) width (cell i) (divided ordered_fractions (cell r) (cell r c)) (cell i c) i)) (ne_eqb i r d)
+      ≡ reduce_spot ordered_fractions (passes m) width (cell i)
+          (divided ordered_fractions (cell r) (cell r c)) (cell i c) i
+  spot_other i d = ap (λ b. cond b None
+      (reduce_spot ordered_fractions (passes m) width (cell i) (divided ordered_fractions (cell r) (cell r c))
+      (cell i c) i)) (ne_eqb i r d)
 
 -- the three parts of a block, and the pivot's divisor x
 module _ {V : Type 0} (e : V → Fraction) (m : ℤ) (w r c : ℕ) (cells above own below : List V)
-    (whole : cells ≡ above ++ (own ++ below)) (la : length above ≡ r * w) (lo : length own ≡ w) (x : V) (lc : c < w)
+    (whole : cells ≡ above ++ (own ++ below)) (la : length above ≡ r * w) (lo : length own ≡ w) (x : V)
+        (lc : c < w)
     (is : x ≡ get_or own c x) where
   abbrev old : ℕ → ℕ → Fraction
   old = cell_of e w cells
@@ -51,7 +58,8 @@ module _ {V : Type 0} (e : V → Fraction) (m : ℤ) (w r c : ℕ) (cells above 
   above_is i j l = sym (ap (λ ys. cell_of e w ys i j) whole ∙ cell_above e w r above own below la lo i j l)
 
   below_is : (i j : ℕ) → cell_of e w below i j ≡ old (r + 1 + i) j
-  below_is i j = sym (ap (λ ys. cell_of e w ys (r + 1 + i) j) whole ∙ cell_below e w r above own below la lo i j)
+  below_is i j = sym (ap (λ ys. cell_of e w ys (r + 1 + i) j) whole
+      ∙ cell_below e w r above own below la lo i j)
 
   divide_is : divide_spot ordered_fractions (passes m) (length own) (value_at e own) (e x) r
       ≡ divide_spot ordered_fractions (passes m) w (old r) (old r c) r
@@ -60,7 +68,8 @@ module _ {V : Type 0} (e : V → Fraction) (m : ℤ) (w r c : ℕ) (cells above 
   pub spot_dividing : (h : ℕ) (s : PivotWide) →
       divide_spot ordered_fractions (passes m) (length own) (value_at e own) (e x) r ≡ Some s →
       cells_spot ordered_fractions (passes m) h w old r c ≡ Some s
-  spot_dividing h s k = ap (λ o. or_else o (first h (row_spot ordered_fractions (passes m) w old r c))) (sym divide_is ∙ k)
+  spot_dividing h s k = ap (λ o. or_else o (first h (row_spot ordered_fractions (passes m) w old r c)))
+      (sym divide_is ∙ k)
 
   -- once the row is divided
   module _ (new : List V) (ln : length new ≡ length own)
@@ -72,42 +81,58 @@ module _ {V : Type 0} (e : V → Fraction) (m : ℤ) (w r c : ℕ) (cells above 
     wide : length new ≡ w
     wide = ln ∙ lo
 
-    rest : (h : ℕ) → cells_spot ordered_fractions (passes m) h w old r c ≡ first h (row_spot ordered_fractions (passes m) w old r c)
-    rest h = ap (λ o. or_else o (first h (row_spot ordered_fractions (passes m) w old r c))) (sym divide_is ∙ nd)
+    rest : (h : ℕ) → cells_spot ordered_fractions (passes m) h w old r c ≡ first h
+        (row_spot ordered_fractions (passes m) w old r c)
+    rest h = ap (λ o. or_else o (first h (row_spot ordered_fractions (passes m) w old r c)))
+        (sym divide_is ∙ nd)
 
     row_is : (i row : ℕ) (p : ℕ → Fraction) → i ≢ r → row ≡ i → ((j : ℕ) → p j ≡ old i j) →
-        reduce_spot ordered_fractions (passes m) w p (value_at e new) (p c) row ≡ row_spot ordered_fractions (passes m) w old r c i
+        reduce_spot ordered_fractions (passes m) w p (value_at e new) (p c) row ≡ row_spot ordered_fractions
+            (passes m) w old r c i
     row_is i row p d k h = ap (reduce_spot ordered_fractions (passes m) w p (value_at e new) (p c)) k
-        ∙ reduce_same m i w w p (old i) (value_at e new) (divided ordered_fractions (old r) (old r c)) (p c) (old i c) refl h new_is (h c)
+        ∙ reduce_same m i w w p (old i) (value_at e new) (divided ordered_fractions (old r) (old r c)) (p c)
+        (old i c) refl h new_is (h c)
         ∙ sym (spot_other m w old r c i d)
 
-    above_spot : rows_spot ordered_fractions (passes m) r (length new) (cell_of e (length new) above) (value_at e new) c 0
+    above_spot : rows_spot ordered_fractions (passes m) r (length new) (cell_of e (length new) above)
+        (value_at e new) c 0
         ≡ first r (row_spot ordered_fractions (passes m) w old r c)
-    above_spot = ap (λ n. rows_spot ordered_fractions (passes m) r n (cell_of e n above) (value_at e new) c 0) wide
+    above_spot = ap (λ n. rows_spot ordered_fractions (passes m) r n (cell_of e n above) (value_at e new) c 0)
+        wide
         ∙ first_same r _ (row_spot ordered_fractions (passes m) w old r c)
-        (λ i l. row_is i (0 + i) (cell_of e w above i) (λ d. omega (arith, l, d)) (omega arith) (λ j. above_is i j l))
+        (λ i l. row_is i (0 + i) (cell_of e w above i) (λ d. omega (arith, l, d)) (omega arith)
+            (λ j. above_is i j l))
 
     pub spot_above : (h : ℕ) (s : PivotWide) → r ≤ h →
-        rows_spot ordered_fractions (passes m) r (length new) (cell_of e (length new) above) (value_at e new) c 0 ≡ Some s →
+        rows_spot ordered_fractions (passes m) r (length new) (cell_of e (length new) above)
+            (value_at e new) c 0 ≡ Some s →
         cells_spot ordered_fractions (passes m) h w old r c ≡ Some s
-    spot_above h s l k = rest h ∙ first_further r h (row_spot ordered_fractions (passes m) w old r c) s l (sym above_spot ∙ k)
+    spot_above h s l k = rest h
+        ∙ first_further r h (row_spot ordered_fractions (passes m) w old r c) s l (sym above_spot ∙ k)
 
     pub spot_below : (h : ℕ) (o : Option PivotWide) → r ≤ h →
-        rows_spot ordered_fractions (passes m) r (length new) (cell_of e (length new) above) (value_at e new) c 0 ≡ None →
-        rows_spot ordered_fractions (passes m) (h - r) (length new) (cell_of e (length new) below) (value_at e new) c (r + 1) ≡ o →
+        rows_spot ordered_fractions (passes m) r (length new) (cell_of e (length new) above)
+            (value_at e new) c 0 ≡ None →
+        rows_spot ordered_fractions (passes m) (h - r) (length new) (cell_of e (length new) below)
+            (value_at e new) c (r + 1) ≡ o →
         cells_spot ordered_fractions (passes m) (suc h) w old r c ≡ o
     spot_below h o l n k = let many : suc h ≡ r + 1 + (h - r) = omega (arith, l) in
         rest (suc h) ∙ ap (λ z. first z (row_spot ordered_fractions (passes m) w old r c)) many
         ∙ first_join (r + 1) (h - r) (row_spot ordered_fractions (passes m) w old r c)
-        (first_more r (row_spot ordered_fractions (passes m) w old r c) (sym above_spot ∙ n) (spot_own m w old r c r refl))
+        (first_more r (row_spot ordered_fractions (passes m) w old r c) (sym above_spot ∙ n)
+            (spot_own m w old r c r refl))
         ∙ sym (first_same (h - r) _ (λ k. row_spot ordered_fractions (passes m) w old r c (r + 1 + k))
-        (λ i l. row_is (r + 1 + i) (r + 1 + i) (cell_of e w below i) (λ d. omega (arith, d)) refl (below_is i)))
-        ∙ sym (ap (λ n. rows_spot ordered_fractions (passes m) (h - r) n (cell_of e n below) (value_at e new) c (r + 1)) wide) ∙ k
+        (λ i l. row_is (r + 1 + i) (r + 1 + i) (cell_of e w below i) (λ d. omega (arith, d)) refl
+            (below_is i)))
+        ∙ sym (ap (λ n. rows_spot ordered_fractions (passes m) (h - r) n (cell_of e n below)
+        (value_at e new) c (r + 1)) wide) ∙ k
 
     -- and the other rows are reduced
     pub after : (above' below' : List V) → length above' ≡ length above →
-        ((i j : ℕ) → cell_of e (length new) above' i j ≡ reduced ordered_fractions (cell_of e (length new) above i) (value_at e new) (cell_of e (length new) above i c) j) →
-        ((i j : ℕ) → cell_of e (length new) below' i j ≡ reduced ordered_fractions (cell_of e (length new) below i) (value_at e new) (cell_of e (length new) below i c) j) →
+        ((i j : ℕ) → cell_of e (length new) above' i j ≡ reduced ordered_fractions
+            (cell_of e (length new) above i) (value_at e new) (cell_of e (length new) above i c) j) →
+        ((i j : ℕ) → cell_of e (length new) below' i j ≡ reduced ordered_fractions
+            (cell_of e (length new) below i) (value_at e new) (cell_of e (length new) below i c) j) →
         (i j : ℕ) → cell_of e w (above' ++ (new ++ below')) i j ≡ next ordered_fractions old r c i j
     after above' below' ls ha hb i j = go (ℕ_discrete i r) (dec_lt i r)
       where
@@ -116,19 +141,26 @@ module _ {V : Type 0} (e : V → Fraction) (m : ℤ) (w r c : ℕ) (cells above 
 
         value : (i : ℕ) (p : ℕ → Fraction) → i ≢ r → ((j : ℕ) → p j ≡ old i j) →
             reduced ordered_fractions p (value_at e new) (p c) j ≡ next ordered_fractions old r c i j
-        value i p d h = reduced_same p (old i) (value_at e new) (divided ordered_fractions (old r) (old r c)) (p c) (old i c) j (h j) (new_is j) (h c)
+        value i p d h = reduced_same p (old i) (value_at e new) (divided ordered_fractions (old r) (old r c))
+            (p c) (old i c) j (h j) (new_is j) (h c)
             ∙ sym (other_row m w old r c i j d)
 
-        go : Dec (i ≡ r) → Dec (i < r) → cell_of e w (above' ++ (new ++ below')) i j ≡ next ordered_fractions old r c i j
-        go (yes d) k = ap (λ z. cell_of e w (above' ++ (new ++ below')) z j) d ∙ cell_own e w r above' new below' la' wide j
+        go : Dec (i ≡ r) → Dec (i < r) →
+            cell_of e w (above' ++ (new ++ below')) i j ≡ next ordered_fractions old r c i j
+        go (yes d) k = ap (λ z. cell_of e w (above' ++ (new ++ below')) z j) d
+            ∙ cell_own e w r above' new below' la' wide j
             ∙ new_is j ∙ sym (pivot_row m w old r c j) ∙ ap (λ z. next ordered_fractions old r c z j) (sym d)
         go (no d) (yes l) = cell_above e w r above' new below' la' wide i j l
             ∙ sym (ap (λ n. cell_of e n above' i j) wide) ∙ ha i j
-            ∙ ap (λ n. reduced ordered_fractions (cell_of e n above i) (value_at e new) (cell_of e n above i c) j) wide
+            ∙ ap (λ n. reduced ordered_fractions (cell_of e n above i) (value_at e new)
+            (cell_of e n above i c) j) wide
             ∙ value i (cell_of e w above i) d (λ j. above_is i j l)
         go (no d) (no l) = let k : i ≡ r + 1 + (i - (r + 1)) = omega (arith, d, l) in
-            ap (λ z. cell_of e w (above' ++ (new ++ below')) z j) k ∙ cell_below e w r above' new below' la' wide (i - (r + 1)) j
+            ap (λ z. cell_of e w (above' ++ (new ++ below')) z j) k
+                ∙ cell_below e w r above' new below' la' wide (i - (r + 1)) j
             ∙ sym (ap (λ n. cell_of e n below' (i - (r + 1)) j) wide) ∙ hb (i - (r + 1)) j
-            ∙ ap (λ n. reduced ordered_fractions (cell_of e n below (i - (r + 1))) (value_at e new) (cell_of e n below (i - (r + 1)) c) j) wide
-            ∙ value (r + 1 + (i - (r + 1))) (cell_of e w below (i - (r + 1))) (λ p. omega (arith, p)) (below_is (i - (r + 1)))
+            ∙ ap (λ n. reduced ordered_fractions (cell_of e n below (i - (r + 1))) (value_at e new)
+            (cell_of e n below (i - (r + 1)) c) j) wide
+            ∙ value (r + 1 + (i - (r + 1))) (cell_of e w below (i - (r + 1))) (λ p. omega (arith, p))
+            (below_is (i - (r + 1)))
             ∙ ap (λ z. next ordered_fractions old r c z j) (sym k)

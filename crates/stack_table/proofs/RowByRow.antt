@@ -1,5 +1,5 @@
 -- The written table, row by row and then the objective row.
-use Rattle.std.proofs.Common.{◌≡◌, ◌≢◌, refl, sym, ap, subst, ◌∙◌, ℕ, zero, suc, ◌+◌, ◌*◌, ◌<◌, ◌≤◌, Bool, true, false, not, cond, eqb, ltb, List, [], length, get_or, Option, Some, None, arith}
+use Rattle.std.proofs.Common.{◌≡◌, ◌≢◌, refl, sym, ap, subst, ◌∙◌, ℕ, zero, suc, ◌+◌, ◌*◌, ◌<◌, Bool, true, false, not, cond, List, [], length, get_or, Option, Some, None, arith}
 use Rattle.std.proofs.lemmas.List.{get_or_past}
 use Rattle.std.proofs.lemmas.Bool.{lt-ltb, le-ltb}
 use Rattle.std.proofs.lemmas.Int.{ints}
@@ -12,7 +12,6 @@ use lib.Signed.{lt_z, lt_z_yes, lt_z_no, ◌<ℤ◌, ◌≤ℤ◌}
 use mir.Syntax.{w128}
 use mir.Val.{to_z, of_z}
 use Rattle.stack_algebra.specs.Fraction.{Fraction}
-use Rattle.stack_algebra.specs.Rows.{changed}
 use Rattle.stack_algebra.proofs.Fractions.{of, add, neg, fractions}
 use Rattle.stack_algebra.proofs.OrderedFractions.{ordered_fractions}
 use Rattle.stack_algebra.proofs.Pivots.{changed-same, changed-other}
@@ -23,7 +22,7 @@ use Rattle.stack_table.specs.declared.problem.BuildError.{BuildError}
 use Rattle.stack_table.specs.declared.problem.BuildError.TheVariants.{Wide, Memory}
 use Rattle.stack_table.specs.declared.problem.Problem.{Problem as Lent}
 use Rattle.stack_table.specs.Table.{Shape, plain, columns, width}
-use Rattle.stack_table.specs.Block.{value_at, cell_of, tabled, IsBlock, Grows}
+use Rattle.stack_table.specs.Block.{cell_of, tabled, IsBlock, Grows}
 use Rattle.stack_table.specs.Problem.{Problem, is_below_zero, flipped}
 use Rattle.stack_table.specs.Lent.{IsProblem, shape_of_problem, problem_of, Tells}
 use Rattle.stack_table.specs.WrittenTable.{less_all, objective_over, objective_place, objective_places, first_row, first_objective, first_basic, row_place, wide_place, written_table}
@@ -33,7 +32,8 @@ use Rattle.stack_table.proofs.FirstObjective.{artificial_not, objective_same, pl
 use Rattle.stack_table.proofs.Growing.{earlier_cells, next_cells}
 use Rattle.stack_table.proofs.Parts.{cell_past, cell_outside}
 
-pub empty_block : {V : Type 0} (e : V → Fraction) (m : ℤ) → IsWidth m → (xs : List V) (ms : List Bool) → xs ≡ [] →
+pub empty_block : {V : Type 0} (e : V → Fraction) (m : ℤ) → IsWidth m → (xs : List V) (ms : List Bool) →
+    xs ≡ [] →
     ms ≡ [] → IsBlock m e xs ms
 empty_block e m w xs ms ex em = subst₂ (λ (ys : List _) (ns : List Bool). IsBlock m e ys ns) (sym ex) (sym em)
     (record { same = refl; marked = λ k. sym is_zero-of; fitting = λ k. zero_fits m w })
@@ -69,7 +69,8 @@ flips_are P h fs l each i = go (dec_lt i P.rows)
         ∙ sym (ap is_below_zero (no_load P h i (omega (arith, d))))
 
 -- what an error tells further up
-tells : (e : BuildError) (o u : Option BuildError) → ((p : BuildError) → o ≡ Some p → u ≡ Some p) → Tells e o →
+tells : (e : BuildError) (o u : Option BuildError) → ((p : BuildError) → o ≡ Some p → u ≡ Some p) →
+    Tells e o →
     Tells e u
 tells (Wide i j) o u h t = h (Wide i j) t
 tells Memory o u h t = tt
@@ -77,8 +78,10 @@ tells Memory o u h t = tt
 pub tells_row : (m : ℤ) (P : Problem) (i : ℕ) (e : BuildError) → i < P.shape.rows →
     first i (row_place ordered_fractions (passes m) P) ≡ None →
     Tells e (row_place ordered_fractions (passes m) P i) → Tells e (wide_place ordered_fractions (passes m) P)
-tells_row m P i e l n = tells e (row_place ordered_fractions (passes m) P i) (wide_place ordered_fractions (passes m) P)
-    (λ p h. ap (λ o. or_else o (objective_places ordered_fractions (passes m) P.shape (first_row ordered_fractions P)))
+tells_row m P i e l n =
+    tells e (row_place ordered_fractions (passes m) P i) (wide_place ordered_fractions (passes m) P)
+    (λ p h. ap (λ o. or_else o
+        (objective_places ordered_fractions (passes m) P.shape (first_row ordered_fractions P)))
     (first_found P.shape.rows i (row_place ordered_fractions (passes m) P) p l n h))
 
 -- 0 less zeros
@@ -128,7 +131,8 @@ module _ {V : Type 0} (e : V → Fraction) (P : Lent) (xs : List V)
 
     objective_is : (j : ℕ) → Dec (j < width S) →
         cell_of e (width S) ys P.rows j ≡ first_objective ordered_fractions (problem_of P) j
-    objective_is j (yes l) = next_cells e (width S) P.rows (objective_over ordered_fractions S over) xs ys long grown j l
+    objective_is j (yes l) =
+        next_cells e (width S) P.rows (objective_over ordered_fractions S over) xs ys long grown j l
         ∙ objective_same S j over (first_row ordered_fractions (problem_of P)) (λ i d. cells i j d l)
     objective_is j (no l) = cell_past e (width S) ys P.rows j (omega (arith, l))
         ∙ sym (objective_beyond (problem_of P) j (omega (arith, l)))
@@ -149,7 +153,8 @@ module _ {V : Type 0} (e : V → Fraction) (P : Lent) (xs : List V)
         ∙ ap (λ (f : ℕ → Fraction). f j) (changed-same (first_row ordered_fractions (problem_of P)) P.rows
         (first_objective ordered_fractions (problem_of P))))
     cell_is i j (no d) = row_is i j d (dec_lt i P.rows) (dec_lt j (width S))
-        ∙ sym (ap (λ (f : ℕ → Fraction). f j) (changed-other (first_row ordered_fractions (problem_of P)) P.rows
+        ∙ sym (ap (λ (f : ℕ → Fraction). f j)
+        (changed-other (first_row ordered_fractions (problem_of P)) P.rows
         (first_objective ordered_fractions (problem_of P)) i d))
 
     module _ (bs : List ℕ) (lb : length bs ≡ P.rows)

@@ -20,48 +20,59 @@ module _ (m : ℤ) (f : ℕ → Fraction) (d : Fraction) (row j : ℕ) where
       (e.0, ap (λ b. only_if b (record { row = row; column = j; step = Divide })) e.1)
 
   pub divide_passes : passes m Quotient (f j) d ≡ true →
-      divide_item ordered_fractions (passes m) f d row j ≡ Some (record { row = row; column = j; step = Divide })
+      divide_item ordered_fractions (passes m) f d row j ≡ Some
+          (record { row = row; column = j; step = Divide })
   divide_passes h = ap (λ b. only_if b (record { row = row; column = j; step = Divide })) h
 
-  pub divide_goes : passes m Quotient (f j) d ≡ false → divide_item ordered_fractions (passes m) f d row j ≡ None
+  pub divide_goes : passes m Quotient (f j) d ≡ false →
+      divide_item ordered_fractions (passes m) f d row j ≡ None
   divide_goes h = ap (λ b. only_if b (record { row = row; column = j; step = Divide })) h
 
 module _ (m : ℤ) (f g : ℕ → Fraction) (k : Fraction) (row j : ℕ) where
   -- where the product is 0
   kept : IsWidth m → fits m (f j) ≡ true → mul k (g j) ≡ of (pos 0) →
-      (reduced ordered_fractions f g k j ≡ f j) × (reduce_item ordered_fractions (passes m) f g k row j ≡ None)
+      (reduced ordered_fractions f g k j ≡ f j) ×
+          (reduce_item ordered_fractions (passes m) f g k row j ≡ None)
   kept w h e = let q = difference_of_zero m w (f j) (mul k (g j)) h e in (
     q.0,
-    (λ i. or_else (only_if (product_of_zero m w k (g j) e i) (record { row = row; column = j; step = Multiply }))
+    (λ i. or_else (only_if (product_of_zero m w k (g j) e i)
+        (record { row = row; column = j; step = Multiply }))
         (only_if (q.1 i) (record { row = row; column = j; step = Subtract }))),
   )
 
   pub column_skips : IsWidth m → fits m (f j) ≡ true → is_zero (g j) ≡ true →
-      (reduced ordered_fractions f g k j ≡ f j) × (reduce_item ordered_fractions (passes m) f g k row j ≡ None)
+      (reduced ordered_fractions f g k j ≡ f j) ×
+          (reduce_item ordered_fractions (passes m) f g k row j ≡ None)
   column_skips w h e = kept w h (ap (mul k) (zero_is (g j) e) ∙ mul_comm k (of (pos 0)) ∙ zero_mul k)
 
   pub row_skips : IsWidth m → fits m (f j) ≡ true → is_zero k ≡ true →
-      (reduced ordered_fractions f g k j ≡ f j) × (reduce_item ordered_fractions (passes m) f g k row j ≡ None)
+      (reduced ordered_fractions f g k j ≡ f j) ×
+          (reduce_item ordered_fractions (passes m) f g k row j ≡ None)
   row_skips w h e = kept w h (ap (λ z. mul z (g j)) (zero_is k e) ∙ zero_mul (g j))
 
   -- the product passes, the difference passes, or neither
   module _ (x y p : Fraction) (fj : f j ≡ x) (gj : g j ≡ y) where
     pub product_passes : passes m Product k y ≡ true →
-        reduce_item ordered_fractions (passes m) f g k row j ≡ Some (record { row = row; column = j; step = Multiply })
+        reduce_item ordered_fractions (passes m) f g k row j ≡ Some
+            (record { row = row; column = j; step = Multiply })
     product_passes h = ap (λ b. or_else (only_if b (record { row = row; column = j; step = Multiply }))
-        (only_if (passes m Difference (f j) (mul k (g j))) (record { row = row; column = j; step = Subtract })))
+        (only_if (passes m Difference (f j) (mul k (g j)))
+            (record { row = row; column = j; step = Subtract })))
         (ap (passes m Product k) gj ∙ h)
 
     only_difference : passes m Product k y ≡ false → p ≡ mul k y → (b : Bool) → passes m Difference x p ≡ b →
-        reduce_item ordered_fractions (passes m) f g k row j ≡ only_if b (record { row = row; column = j; step = Subtract })
+        reduce_item ordered_fractions (passes m) f g k row j ≡ only_if b
+            (record { row = row; column = j; step = Subtract })
     only_difference h e b d = ap (λ c. or_else (only_if c (record { row = row; column = j; step = Multiply }))
-        (only_if (passes m Difference (f j) (mul k (g j))) (record { row = row; column = j; step = Subtract })))
+        (only_if (passes m Difference (f j) (mul k (g j)))
+            (record { row = row; column = j; step = Subtract })))
         (ap (passes m Product k) gj ∙ h)
         ∙ ap (λ c. only_if c (record { row = row; column = j; step = Subtract }))
         ((λ i. passes m Difference (fj i) ((ap (mul k) gj ∙ sym e) i)) ∙ d)
 
     pub difference_passes : passes m Product k y ≡ false → p ≡ mul k y → passes m Difference x p ≡ true →
-        reduce_item ordered_fractions (passes m) f g k row j ≡ Some (record { row = row; column = j; step = Subtract })
+        reduce_item ordered_fractions (passes m) f g k row j ≡ Some
+            (record { row = row; column = j; step = Subtract })
     difference_passes h e d = only_difference h e true d
 
     pub neither_passes : passes m Product k y ≡ false → p ≡ mul k y → passes m Difference x p ≡ false →
@@ -73,14 +84,19 @@ module _ (m : ℤ) (f g : ℕ → Fraction) (k : Fraction) (row j : ℕ) where
     reduced_here z e d = d ∙ (λ i. value_of Difference (sym fj i) ((e ∙ ap (mul k) (sym gj)) i))
 
 -- the same for equal counts, rows and numbers
-pub divide_same : (m : ℤ) (row n n' : ℕ) (f f' : ℕ → Fraction) (d d' : Fraction) → n ≡ n' → ((j : ℕ) → f j ≡ f' j) → d ≡ d' →
+pub divide_same : (m : ℤ) (row n n' : ℕ) (f f' : ℕ → Fraction) (d d' : Fraction) → n ≡ n' →
+    ((j : ℕ) → f j ≡ f' j) → d ≡ d' →
     divide_spot ordered_fractions (passes m) n f d row ≡ divide_spot ordered_fractions (passes m) n' f' d' row
-divide_same m row n n' f f' d d' en ef ed = λ z. divide_spot ordered_fractions (passes m) (en z) (λ j. ef j z) (ed z) row
+divide_same m row n n' f f' d d' en ef ed = λ z. divide_spot ordered_fractions (passes m) (en z) (λ j. ef j z)
+    (ed z) row
 
-pub reduce_same : (m : ℤ) (row n n' : ℕ) (f f' h h' : ℕ → Fraction) (d d' : Fraction) → n ≡ n' → ((j : ℕ) → f j ≡ f' j) →
+pub reduce_same : (m : ℤ) (row n n' : ℕ) (f f' h h' : ℕ → Fraction) (d d' : Fraction) → n ≡ n' →
+    ((j : ℕ) → f j ≡ f' j) →
     ((j : ℕ) → h j ≡ h' j) → d ≡ d' →
-    reduce_spot ordered_fractions (passes m) n f h d row ≡ reduce_spot ordered_fractions (passes m) n' f' h' d' row
-reduce_same m row n n' f f' h h' d d' en ef eh ed = λ z. reduce_spot ordered_fractions (passes m) (en z) (λ j. ef j z) (λ j. eh j z) (ed z) row
+    reduce_spot ordered_fractions (passes m) n f h d row ≡ reduce_spot ordered_fractions
+        (passes m) n' f' h' d' row
+reduce_same m row n n' f f' h h' d d' en ef eh ed =
+    λ z. reduce_spot ordered_fractions (passes m) (en z) (λ j. ef j z) (λ j. eh j z) (ed z) row
 
 pub reduced_same : (f f' h h' : ℕ → Fraction) (d d' : Fraction) (j : ℕ) → f j ≡ f' j → h j ≡ h' j → d ≡ d' →
     reduced ordered_fractions f h d j ≡ reduced ordered_fractions f' h' d' j
@@ -91,6 +107,8 @@ pub divided_same : (f f' : ℕ → Fraction) (d d' : Fraction) (j : ℕ) → f j
 divided_same f f' d d' j ef ed = λ z. value_of Quotient (ef z) (ed z)
 
 -- a row whose cell in the pivot's column is 0
-pub row_none : (m : ℤ) (n : ℕ) (f g : ℕ → Fraction) (k : Fraction) (row : ℕ) → IsWidth m → ((j : ℕ) → fits m (f j) ≡ true) →
+pub row_none : (m : ℤ) (n : ℕ) (f g : ℕ → Fraction) (k : Fraction) (row : ℕ) → IsWidth m →
+    ((j : ℕ) → fits m (f j) ≡ true) →
     is_zero k ≡ true → reduce_spot ordered_fractions (passes m) n f g k row ≡ None
-row_none m n f g k row w h z = first_all-none n (reduce_item ordered_fractions (passes m) f g k row) (λ j l. (row_skips m f g k row j w (h j) z).1)
+row_none m n f g k row w h z = first_all-none n (reduce_item ordered_fractions (passes m) f g k row)
+    (λ j l. (row_skips m f g k row j w (h j) z).1)

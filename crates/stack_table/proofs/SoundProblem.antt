@@ -1,5 +1,5 @@
 -- What the test of a problem tells.
-use Rattle.std.proofs.Common.{◌≡◌, refl, sym, subst, ℕ, zero, suc, ◌+◌, ◌<◌, Bool, true, false, ◌&&◌, List, [], ◌∷◌, map, length, add-one, arith}
+use Rattle.std.proofs.Common.{◌≡◌, refl, sym, subst, ℕ, zero, suc, ◌<◌, Bool, true, false, ◌&&◌, List, [], ◌∷◌, map, length, add-one, arith}
 use Rattle.std.specs.Prelude.{nat_le, nat_lt}
 use Rattle.std.specs.List.{slice_index}
 use Rattle.std.proofs.lemmas.List.{length-map}
@@ -34,7 +34,8 @@ first_of_column : (rows from : ℕ) (x : Entry) (xs : List Entry) → is_column 
 first_of_column rows from x xs h =
     all_four (nat_le from x.row) (nat_lt x.row rows) (is_small x.value) (is_column rows (suc x.row) xs) h
 
-below : (rows from : ℕ) (xs : List Entry) → is_column rows from xs ≡ true → AllByRecursion (λ x. x.row < rows) xs
+below : (rows from : ℕ) (xs : List Entry) → is_column rows from xs ≡ true →
+    AllByRecursion (λ x. x.row < rows) xs
 below rows from [] h = tt
 below rows from (x ∷ xs) h = let p = first_of_column rows from x xs h in
     (ltb-true x.row rows p.1, below rows (suc x.row) xs p.3)
@@ -70,4 +71,5 @@ column_is rows xs h = record {
 pub columns_are : (rows : ℕ) (cs : List Column) → are_columns rows cs ≡ true →
     AllByRecursion (λ c. IsColumn rows c.entries.items) cs
 columns_are rows [] h = tt
-columns_are rows (c ∷ cs) h = (column_is rows c.entries.items (left_of _ _ h), columns_are rows cs (right_of _ _ h))
+columns_are rows (c ∷ cs) h =
+    (column_is rows c.entries.items (left_of _ _ h), columns_are rows cs (right_of _ _ h))

@@ -1,10 +1,10 @@
 -- The condition of a table as a test of the problem that is lent.
-use Rattle.std.specs.Prelude.{◌≡◌, ℕ, suc, Bool, true, ◌&&◌, nat_eq, nat_lt, nat_le, List, [], ◌∷◌, length, ℤ, unsigned_abs}
+use Rattle.std.specs.Prelude.{ℕ, suc, Bool, true, ◌&&◌, nat_eq, nat_lt, nat_le, List, [], ◌∷◌, length, ℤ, unsigned_abs}
 use Rattle.stack_whole.specs.Limits.{load_bound}
 use Rattle.stack_table.specs.declared.problem.Entry.{Entry}
 use Rattle.stack_table.specs.declared.problem.Column.{Column}
 use Rattle.stack_table.specs.declared.problem.Problem.{Problem as Lent}
-use Rattle.stack_table.specs.Lent.{IsProblem, factor_entries}
+use Rattle.stack_table.specs.Lent.{factor_entries}
 
 abbrev pub is_small : ℤ → Bool
 is_small z = nat_lt (unsigned_abs z) load_bound

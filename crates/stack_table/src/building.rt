@@ -83,14 +83,12 @@ fn number(p: &Problem, artificial: usize, i: usize, j: usize) -> i128
 {
     let flipped = p.right[i] < 0;
     if j < artificial {
-        turned(flipped, entry(p, i, j))
-    } else if j == artificial + p.rows {
-        turned(flipped, p.right[i])
-    } else if j == artificial + i {
-        1
-    } else {
-        0
+        return turned(flipped, entry(p, i, j));
     }
+    if j < artificial + p.rows {
+        return if j == artificial + i { 1 } else { 0 };
+    }
+    turned(flipped, p.right[i])
 }
 
 /// Puts a cell and its mark.

@@ -11,3 +11,6 @@ pub mod table;
 pub mod types;
 
 pub use table::Table;
+
+#[cfg(test)]
+mod tests;

@@ -22,7 +22,8 @@ item m S T c i x y b ex ey p h =
     (λ z. cond (is_plus (sign_of (ex z).num)) (only_if (passes m Quotient (ey z) (ex z)) i) None)
     ∙ ap (λ t. cond t (only_if (passes m Quotient y x) i) None) p ∙ ap (λ t. only_if t i) h
 
-other_item : (m : ℤ) (S : Shape) (T : Tabled Fraction) (c i : ℕ) → is_plus (sign_of (T.cell i c).num) ≡ false →
+other_item : (m : ℤ) (S : Shape) (T : Tabled Fraction) (c i : ℕ) →
+    is_plus (sign_of (T.cell i c).num) ≡ false →
     ratio_item ordered_fractions S (passes m) T c i ≡ None
 other_item m S T c i p =
     ap (λ b. cond b (only_if (passes m Quotient (T.cell i (columns S)) (T.cell i c)) i) None) p
@@ -54,9 +55,11 @@ loop-i-preserved g c = elim c.if-is_positive.branch [
       let positive = sym c.is_positive.ensures ∙ w.if-is_positive.true in
       rw w.best-is (record {
         none = first_more i (ratio_item ordered_fractions S (passes m) T k) c.loop-i.invariant.none
-            (item m S T k i (e c.cell-cell.result) (e w.cell.result) false (sym c.cell-cell.ensures) y positive
+            (item m S T k i (e c.cell-cell.result) (e w.cell.result) false
+                (sym c.cell-cell.ensures) y positive
             w.in-Ok.ensures.fits);
-        held = held_positive e (λ i. T.cell i k) (ratio ordered_fractions S T k) T.basic i c.loop-i.best w.better.result
+        held = held_positive e (λ i. T.cell i k)
+            (ratio ordered_fractions S T k) T.basic i c.loop-i.best w.better.result
             w.in-Ok.ratio c.loop-i.invariant.held
             (ap (λ (v : Fraction). is_plus (sign_of v.num)) (sym c.cell-cell.ensures) ∙ positive)
             (w.in-Ok.ensures.ok ∙ (λ z. quotient ordered_fractions (sym y z) (c.cell-cell.ensures z)))
@@ -67,12 +70,15 @@ loop-i-preserved g c = elim c.if-is_positive.branch [
       let T = table_of c.args.t.now in
       let i = c.loop-i.i in
       let k = c.args.column in
-      let p = ap (λ (v : Fraction). is_plus (sign_of v.num)) (sym c.cell-cell.ensures) ∙ sym c.is_positive.ensures
+      let p = ap (λ (v : Fraction). is_plus (sign_of v.num)) (sym c.cell-cell.ensures)
+          ∙ sym c.is_positive.ensures
       ∙ w.if-is_positive.false in
       rw w.best-is (record {
-        none = first_more i (ratio_item ordered_fractions S (passes g.S.Exact.MAX) T k) c.loop-i.invariant.none
+        none = first_more i (ratio_item ordered_fractions S (passes g.S.Exact.MAX) T k)
+            c.loop-i.invariant.none
             (other_item g.S.Exact.MAX S T k i p);
-        held = held_other g.S.Exact.exact (λ i. T.cell i k) (ratio ordered_fractions S T k) T.basic i c.loop-i.best
+        held = held_other g.S.Exact.exact (λ i. T.cell i k)
+            (ratio ordered_fractions S T k) T.basic i c.loop-i.best
             c.loop-i.invariant.held p;
       })
 ]

@@ -1,4 +1,4 @@
-use Rattle.std.proofs.Common.{◌≡◌, sym, ap, ◌∙◌, ℕ, ◌<◌, length, arith}
+use Rattle.std.proofs.Common.{◌≡◌, sym, ap, ◌∙◌, ℕ, ◌<◌, arith}
 use Rattle.stack_algebra.specs.Fraction.{Fraction}
 use Rattle.stack_algebra.proofs.OrderedFractions.{ordered_fractions}
 use Rattle.stack_algebra.proofs.Search.{first_found, first_more}
@@ -7,7 +7,7 @@ use Rattle.stack_rational.specs.Passes.{passes}
 use Rattle.stack_table.specs.Table.{width}
 use Rattle.stack_table.specs.Block.{cell_of}
 use Rattle.stack_table.specs.Lent.{shape_of_problem}
-use Rattle.stack_table.specs.WrittenTable.{objective_over, objective_place}
+use Rattle.stack_table.specs.WrittenTable.{objective_place}
 use Rattle.stack_table.proofs.Growing.{grown_more, earlier_cells}
 use Rattle.stack_table.proofs.FirstObjective.{objective_same, place_same}
 use Rattle.stack_table.proofs.building.push_objective.Goals as goal
@@ -22,8 +22,10 @@ returns-in-Err-clause-wide g c =
     let old : ℕ → ℕ → Fraction = cell_of e w c.args.cells.now.items in
     let same : (i : ℕ) → i < S.rows → cell_of e w c.as_slice.result.now i j ≡ old i j
     = λ i l. ap (λ ys. cell_of e w ys i j) c.as_slice.ensures.value
-    ∙ earlier_cells e w S.rows j _ c.args.cells.now.items c.loop-j.cells.items c.requires.long c.loop-j.invariant.grown i j l in
-    first_found w j (objective_place ordered_fractions (passes m) S old) _ (omega (arith, c.loop-j-test.true, c.requires.artificial))
+    ∙ earlier_cells e w S.rows j _ c.args.cells.now.items c.loop-j.cells.items c.requires.long
+    c.loop-j.invariant.grown i j l in
+    first_found w j (objective_place ordered_fractions (passes m) S old) _
+        (omega (arith, c.loop-j-test.true, c.requires.artificial))
     c.loop-j.invariant.none
     (sym (place_same S j (cell_of e w c.as_slice.result.now) old same m) ∙ c.in-Err.ensures.wide)
 
@@ -38,10 +40,12 @@ loop-j-preserved g c =
     let old : ℕ → ℕ → Fraction = cell_of e w c.args.cells.now.items in
     let same : (i : ℕ) → i < S.rows → cell_of e w c.as_slice.result.now i j ≡ old i j
     = λ i l. ap (λ ys. cell_of e w ys i j) c.as_slice.ensures.value
-    ∙ earlier_cells e w S.rows j _ c.args.cells.now.items c.loop-j.cells.items c.requires.long c.loop-j.invariant.grown i j l in
+    ∙ earlier_cells e w S.rows j _ c.args.cells.now.items c.loop-j.cells.items c.requires.long
+    c.loop-j.invariant.grown i j l in
     record {
       block = c.in-Ok-push_cell.ensures.block;
-      grown = grown_more e m c.args.cells.now.items c.loop-j.cells.items c.push_cell.new.cells.items j _ c.in-Ok.cell i.grown
+      grown = grown_more e m c.args.cells.now.items c.loop-j.cells.items c.push_cell.new.cells.items j _
+          c.in-Ok.cell i.grown
           c.in-Ok-push_cell.ensures.ok
           (c.in-Ok.ensures.ok ∙ objective_same S j (cell_of e w c.as_slice.result.now) old same);
       none = first_more j (objective_place ordered_fractions (passes m) S old) i.none
@@ -51,6 +55,7 @@ loop-j-preserved g c =
 pub returns-clause-fits : goal.returns-clause-fits
 returns-clause-fits g c =
     let S = shape_of_problem c.args.p.now in
-    let end : width S ≡ c.loop-j.j = omega (arith, c.loop-j-test.false, c.loop-j.auto.j-end, c.requires.artificial) in
+    let end : width S ≡ c.loop-j.j =
+        omega (arith, c.loop-j-test.false, c.loop-j.auto.j-end, c.requires.artificial) in
     ap (λ n. first n (objective_place ordered_fractions (passes g.S.Exact.MAX) S
     (cell_of g.S.Exact.exact (width S) c.args.cells.now.items))) end ∙ c.loop-j.invariant.none

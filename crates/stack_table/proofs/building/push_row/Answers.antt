@@ -1,4 +1,4 @@
-use Rattle.std.proofs.Common.{◌≡◌, sym, ap, ◌∙◌, ℕ, length, arith}
+use Rattle.std.proofs.Common.{◌≡◌, sym, ap, ◌∙◌, arith}
 use Rattle.stack_algebra.proofs.Fractions.{of}
 use Rattle.stack_algebra.proofs.OrderedFractions.{ordered_fractions}
 use Rattle.stack_algebra.proofs.Search.{first, only_if, first_found, first_more}
@@ -6,7 +6,7 @@ use Rattle.stack_rational.specs.declared.exact.Op.TheVariants.{Whole}
 use Rattle.stack_rational.specs.Passes.{fits, passes}
 use Rattle.stack_table.specs.declared.problem.BuildError.TheVariants.{Wide}
 use Rattle.stack_table.specs.Table.{width}
-use Rattle.stack_table.specs.Lent.{problem_of, shape_of_problem}
+use Rattle.stack_table.specs.Lent.{problem_of}
 use Rattle.stack_table.specs.WrittenTable.{number_at, number_place}
 use Rattle.stack_rational.proofs.Fitting.{whole_answers}
 use Rattle.stack_table.proofs.Growing.{grown_more}
@@ -39,14 +39,18 @@ loop-j-preserved g c =
     (number_small c.args.p.now c.requires.problem i j) in
     record {
       block = c.in-Ok-push_cell.ensures.block;
-      grown = grown_more g.S.Exact.exact m c.args.cells.now.items c.loop-j.cells.items c.push_cell.new.cells.items j _
+      grown = grown_more g.S.Exact.exact m c.args.cells.now.items c.loop-j.cells.items
+          c.push_cell.new.cells.items j _
           c.in-Ok.cell c.loop-j.invariant.grown c.in-Ok-push_cell.ensures.ok (c.in-Ok.ensures.ok ∙ ap of n);
       none = first_more j (number_place ordered_fractions (passes m) P i) c.loop-j.invariant.none
-          (ap (λ b. only_if b (Wide i j)) (ap (λ z. passes m Whole (of z) (of z)) (sym n) ∙ c.in-Ok.ensures.fits));
+          (ap (λ b. only_if b (Wide i j)) (ap (λ z. passes m Whole (of z) (of z)) (sym n)
+              ∙ c.in-Ok.ensures.fits));
     }
 
 pub returns-clause-fits : goal.returns-clause-fits
 returns-clause-fits g c =
     let P = problem_of c.args.p.now in
-    let end : width P.shape ≡ c.loop-j.j = omega (arith, c.loop-j-test.false, c.loop-j.auto.j-end, c.requires.artificial) in
-    ap (λ n. first n (number_place ordered_fractions (passes g.S.Exact.MAX) P c.args.i)) end ∙ c.loop-j.invariant.none
+    let end : width P.shape ≡ c.loop-j.j =
+        omega (arith, c.loop-j-test.false, c.loop-j.auto.j-end, c.requires.artificial) in
+    ap (λ n. first n (number_place ordered_fractions (passes g.S.Exact.MAX) P c.args.i)) end
+        ∙ c.loop-j.invariant.none

@@ -10,6 +10,7 @@ use Rattle.stack_table.proofs.building.push_row.Given as goal
 abbrev pub invariant-loop-j : goal.invariant-loop-j
 invariant-loop-j g l = record {
   block : IsBlock g.S.Exact.MAX g.S.Exact.exact l.cells.items l.marks.items;
-  grown : Grows g.S.Exact.exact l.fn.cells.items l.cells.items l.j (first_row ordered_fractions (problem_of l.p) l.i);
+  grown : Grows g.S.Exact.exact l.fn.cells.items l.cells.items l.j
+      (first_row ordered_fractions (problem_of l.p) l.i);
   none : first l.j (number_place ordered_fractions (passes g.S.Exact.MAX) (problem_of l.p) l.i) ≡ None;
 }

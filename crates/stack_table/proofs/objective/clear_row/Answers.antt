@@ -17,9 +17,11 @@ loop-j-preserved g c =
     let lt : j < length c.loop-j.cells = omega (arith, c.loop-j-test.true, c.loop-j.auto.cells) in
     record {
       block = block_set e g.S.Exact.MAX c.loop-j.cells c.loop-j.marks j x true lt c.loop-j.invariant.block
-          (sym (ap is_zero c.zero-zero.ensures ∙ is_zero-of)) (ap (fits g.S.Exact.MAX) c.zero-zero.ensures ∙ zero_fits g.S.Exact.MAX g.met.S.Exact.max_law);
+          (sym (ap is_zero c.zero-zero.ensures ∙ is_zero-of)) (ap (fits g.S.Exact.MAX) c.zero-zero.ensures
+              ∙ zero_fits g.S.Exact.MAX g.met.S.Exact.max_law);
       done = λ k l. elim (ℕ_discrete k j) [
-        | yes d ↦ ap (value_at e (set c.loop-j.cells j x)) d ∙ value_at-set_same e c.loop-j.cells j x lt ∙ c.zero-zero.ensures
+        | yes d ↦ ap (value_at e (set c.loop-j.cells j x)) d ∙ value_at-set_same e c.loop-j.cells j x lt
+            ∙ c.zero-zero.ensures
         | no d ↦ value_at-set_other e c.loop-j.cells j k x d ∙ c.loop-j.invariant.done k (omega (arith, l, d))
       ];
     }
@@ -29,4 +31,5 @@ returns-clause-ok g c = λ k. go k (dec_lt k c.loop-j.j)
   where
     go : (k : ℕ) → Dec (k < c.loop-j.j) → value_at g.S.Exact.exact c.loop-j.cells k ≡ of (pos 0)
     go k (yes l) = c.loop-j.invariant.done k l
-    go k (no l) = value_at-past g.S.Exact.exact c.loop-j.cells k (omega (arith, l, c.loop-j.auto.cells, c.loop-j-test.false))
+    go k (no l) = value_at-past g.S.Exact.exact c.loop-j.cells k
+        (omega (arith, l, c.loop-j.auto.cells, c.loop-j-test.false))

@@ -6,16 +6,22 @@ use Rattle.stack_table.proofs.Blocks.{value_at-set_same, value_at-set_other, blo
 use Rattle.stack_table.proofs.objective.set_cell.Goals as goal
 
 pub returns-clause-block : goal.returns-clause-block
-returns-clause-block g c = block_set g.S.Exact.exact g.S.Exact.MAX c.args.cells.now c.args.marks.now c.args.column c.args.cell c.is_zero.result
+returns-clause-block g c =
+    block_set g.S.Exact.exact g.S.Exact.MAX c.args.cells.now c.args.marks.now c.args.column c.args.cell
+    c.is_zero.result
     c.requires.column_in c.requires.block c.is_zero.ensures c.requires.fits
 
 pub returns-clause-ok : goal.returns-clause-ok
 returns-clause-ok g c = λ j. go j (ℕ_discrete j c.args.column)
   where
-    go : (j : ℕ) → Dec (j ≡ c.args.column) → value_at g.S.Exact.exact (set c.args.cells.now c.args.column c.args.cell) j
-        ≡ cond (eqb j c.args.column) (g.S.Exact.exact c.args.cell) (value_at g.S.Exact.exact c.args.cells.now j)
+    go : (j : ℕ) → Dec (j ≡ c.args.column) →
+        value_at g.S.Exact.exact (set c.args.cells.now c.args.column c.args.cell) j
+        ≡ cond (eqb j c.args.column) (g.S.Exact.exact c.args.cell)
+            (value_at g.S.Exact.exact c.args.cells.now j)
     go j (yes d) = ap (value_at g.S.Exact.exact (set c.args.cells.now c.args.column c.args.cell)) d
         ∙ value_at-set_same g.S.Exact.exact c.args.cells.now c.args.column c.args.cell c.requires.column_in
-        ∙ sym (ap (λ b. cond b (g.S.Exact.exact c.args.cell) (value_at g.S.Exact.exact c.args.cells.now j)) (eq-eqb j c.args.column d))
+        ∙ sym (ap (λ b. cond b (g.S.Exact.exact c.args.cell) (value_at g.S.Exact.exact c.args.cells.now j))
+        (eq-eqb j c.args.column d))
     go j (no d) = value_at-set_other g.S.Exact.exact c.args.cells.now c.args.column j c.args.cell d
-        ∙ sym (ap (λ b. cond b (g.S.Exact.exact c.args.cell) (value_at g.S.Exact.exact c.args.cells.now j)) (ne_eqb j c.args.column d))
+        ∙ sym (ap (λ b. cond b (g.S.Exact.exact c.args.cell) (value_at g.S.Exact.exact c.args.cells.now j))
+        (ne_eqb j c.args.column d))

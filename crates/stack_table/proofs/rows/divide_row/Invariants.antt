@@ -10,8 +10,11 @@ abbrev pub invariant-loop-j : goal.invariant-loop-j
 invariant-loop-j g l = record {
   count : l.count ≤ l.j;
   block : IsBlock g.S.Exact.MAX g.S.Exact.exact l.cells l.marks;
-  done : (k : ℕ) → k < l.j → value_at g.S.Exact.exact l.cells k ≡ divided ordered_fractions (value_at g.S.Exact.exact l.fn.cells) (g.S.Exact.exact l.divisor) k;
+  done : (k : ℕ) → k < l.j →
+      value_at g.S.Exact.exact l.cells k ≡ divided ordered_fractions (value_at g.S.Exact.exact l.fn.cells)
+      (g.S.Exact.exact l.divisor) k;
   rest : (k : ℕ) → l.j ≤ k → value_at g.S.Exact.exact l.cells k ≡ value_at g.S.Exact.exact l.fn.cells k;
-  none : divide_spot ordered_fractions (passes g.S.Exact.MAX) l.j (value_at g.S.Exact.exact l.fn.cells) (g.S.Exact.exact l.divisor) l.row ≡ None;
+  none : divide_spot ordered_fractions (passes g.S.Exact.MAX) l.j (value_at g.S.Exact.exact l.fn.cells)
+      (g.S.Exact.exact l.divisor) l.row ≡ None;
   listed : Lists (mark_at l.marks) l.columns l.count l.j;
 }

@@ -40,13 +40,15 @@ loop-i-init g c = record {
 
 pub returns-in_err-push_row-clause-wide : goal.returns-in_err-push_row-clause-wide
 returns-in_err-push_row-clause-wide g c =
-    let p = err_from_is_err_and c.from_residual-in_err-push_row.result c.from_residual-in_err-push_row.ensures.1 in
+    let p = err_from_is_err_and c.from_residual-in_err-push_row.result
+        c.from_residual-in_err-push_row.ensures.1 in
     rw (p.1, p.2) (tells_row g.S.Exact.MAX (problem_of c.args.p.now) c.loop-i.i c.in_err-push_row.field-0.0
     c.loop-i-test.true c.loop-i.invariant.none c.in_err-push_row.ensures.wide)
 
 pub returns-in_err-push_row-clause-never_wide : goal.returns-in_err-push_row-clause-never_wide
 returns-in_err-push_row-clause-never_wide g c = λ ample.
-    let p = err_from_is_err_and c.from_residual-in_err-push_row.result c.from_residual-in_err-push_row.ensures.1 in
+    let p = err_from_is_err_and c.from_residual-in_err-push_row.result
+        c.from_residual-in_err-push_row.ensures.1 in
     rw (p.1, p.2) (only_memory g.S.Exact.MAX ample c.args.p.now c.requires c.in_err-push_row.field-0.0
     (tells_row g.S.Exact.MAX (problem_of c.args.p.now) c.loop-i.i c.in_err-push_row.field-0.0
     c.loop-i-test.true c.loop-i.invariant.none c.in_err-push_row.ensures.wide))
@@ -66,23 +68,28 @@ loop-i-preserved g c =
       block = c.in_ok-push_row.ensures.block;
       long = omega (arith, c.in_ok-push_row.ensures.grown.longer, v.long, add-mul i 1 w);
       cells = λ k j l h. elim (ℕ_discrete k i) [
-        | yes d ↦ ap (λ z. cell_of e w new z j) d ∙ next_cells e w i row old new v.long c.in_ok-push_row.ensures.grown j h
+        | yes d ↦ ap (λ z. cell_of e w new z j) d
+            ∙ next_cells e w i row old new v.long c.in_ok-push_row.ensures.grown j h
             ∙ ap (λ z. first_row ordered_fractions (problem_of P) z j) (sym d)
-        | no d ↦ earlier_cells e w i w row old new v.long c.in_ok-push_row.ensures.grown k j (omega (arith, l, d))
+        | no d ↦ earlier_cells e w i w row old new v.long c.in_ok-push_row.ensures.grown k j
+            (omega (arith, l, d))
             ∙ v.cells k j (omega (arith, l, d)) h
       ];
       none = first_more i (row_place ordered_fractions (passes g.S.Exact.MAX) (problem_of P)) v.none
           c.in_ok-push_row.ensures.fits;
-      basic_long = ap length c.in_ok-push.ensures.items ∙ length_push c.loop-i.basic.items _ ∙ ap (λ n. n + 1) v.basic_long;
+      basic_long = ap length c.in_ok-push.ensures.items ∙ length_push c.loop-i.basic.items _
+          ∙ ap (λ n. n + 1) v.basic_long;
       basics = λ k l. pushed_all (λ k. plain S + k) c.loop-i.basic.items c.push.new.self.items
           (c.artificial-artificial.result + i) 0 i c.in_ok-push.ensures.items v.basic_long v.basics
           (ap (λ a. a + i) c.artificial-artificial.ensures) k l;
       flipped_long = ap length c.in_ok-push-2.ensures.items ∙ length_push c.loop-i.flipped.items _
           ∙ ap (λ n. n + 1) v.flipped_long;
-      flips_are = λ k l. pushed_all (flipped (problem_of P)) c.loop-i.flipped.items c.push-in-loop-i.new.self.items _ _ i
+      flips_are = λ k l. pushed_all
+          (flipped (problem_of P)) c.loop-i.flipped.items c.push-in-loop-i.new.self.items _ _ i
           c.in_ok-push-2.ensures.items v.flipped_long v.flips_are
           (flip_is P c.requires i c.index.result.now (c.index.ensures
-          ∙ get_or_default P.right.items i c.index.result.now (pos 0) (omega (arith, c.loop-i-test.true, c.requires.right_long)))) k l;
+          ∙ get_or_default P.right.items i c.index.result.now (pos 0)
+          (omega (arith, c.loop-i-test.true, c.requires.right_long)))) k l;
     }
 
 pub returns-in_err-push_objective-clause-wide : goal.returns-in_err-push_objective-clause-wide
@@ -91,8 +98,10 @@ returns-in_err-push_objective-clause-wide g c =
     let m = g.S.Exact.MAX in
     let v = c.loop-i.invariant in
     let end : c.loop-i.i ≡ P.rows = omega (arith, c.loop-i-test.false, c.loop-i.auto.i-end) in
-    let p = err_from_is_err_and c.from_residual-in_err-push_objective.result c.from_residual-in_err-push_objective.ensures.1 in
-    rw (p.1, p.2) (tells_objective g.S.Exact.exact P c.loop-i.cells.items (v.long ∙ ap (λ n. n * width (shape_of_problem P)) end)
+    let p = err_from_is_err_and c.from_residual-in_err-push_objective.result
+        c.from_residual-in_err-push_objective.ensures.1 in
+    rw (p.1, p.2) (tells_objective g.S.Exact.exact P c.loop-i.cells.items
+        (v.long ∙ ap (λ n. n * width (shape_of_problem P)) end)
     (λ i j l k. v.cells i j (omega (arith, l, end)) k) m
     (ap (λ n. first n (row_place ordered_fractions (passes m) (problem_of P))) (sym end) ∙ v.none)
     c.in_err-push_objective.field-0.0 c.in_err-push_objective.ensures.wide)
@@ -103,9 +112,11 @@ returns-in_err-push_objective-clause-never_wide g c = λ ample.
     let m = g.S.Exact.MAX in
     let v = c.loop-i.invariant in
     let end : c.loop-i.i ≡ P.rows = omega (arith, c.loop-i-test.false, c.loop-i.auto.i-end) in
-    let p = err_from_is_err_and c.from_residual-in_err-push_objective.result c.from_residual-in_err-push_objective.ensures.1 in
+    let p = err_from_is_err_and c.from_residual-in_err-push_objective.result
+        c.from_residual-in_err-push_objective.ensures.1 in
     rw (p.1, p.2) (only_memory m ample P c.requires c.in_err-push_objective.field-0.0
-    (tells_objective g.S.Exact.exact P c.loop-i.cells.items (v.long ∙ ap (λ n. n * width (shape_of_problem P)) end)
+    (tells_objective g.S.Exact.exact P c.loop-i.cells.items
+        (v.long ∙ ap (λ n. n * width (shape_of_problem P)) end)
     (λ i j l k. v.cells i j (omega (arith, l, end)) k) m
     (ap (λ n. first n (row_place ordered_fractions (passes m) (problem_of P))) (sym end) ∙ v.none)
     c.in_err-push_objective.field-0.0 c.in_err-push_objective.ensures.wide))
@@ -126,7 +137,8 @@ returns-clause-ok g c =
     let end : c.loop-i.i ≡ P.rows = omega (arith, c.loop-i-test.false, c.loop-i.auto.i-end) in
     let contacts : c.len.result ≡ length P.contact.items = c.len.ensures ∙ P.contact.ok.0 in
     let factors = ap (λ b. cond b 1 0) c.is_some.ensures ∙ factor_is P.factor in
-    (λ z. tabled e (record { rows = P.rows; contacts = contacts z; factors = factors z }) c.push_objective.new.cells.items
+    (λ z. tabled e (record { rows = P.rows; contacts = contacts z; factors = factors z })
+        c.push_objective.new.cells.items
     c.loop-i.basic.items)
     ∙ table_is e P c.loop-i.cells.items (v.long ∙ ap (λ n. n * width (shape_of_problem P)) end)
     (λ i j l k. v.cells i j (omega (arith, l, end)) k) c.requires c.push_objective.new.cells.items
