@@ -30,7 +30,7 @@ module _ {V : Type 0} (e : V → Fraction) (cell ratios : ℕ → Fraction) (bas
   pub held_positive : (o : Option (Candidate V)) (r : Candidate V) (v : V) →
       HoldsBest e ratios i o (best_at i) →
       is_plus (sign_of (cell i).num) ≡ true → e v ≡ ratios i →
-          (o ≡ None → r ≡ record { row = i; ratio = v }) →
+      (o ≡ None → r ≡ record { row = i; ratio = v }) →
       IfSome o (λ b. r ≡ cond (before (e v) (e b.ratio) b.row) (record { row = i; ratio = v }) b) →
       HoldsBest e ratios (i + 1) (Some r) (best_at (i + 1))
   held_positive None r v h p ev none some =

@@ -1,17 +1,15 @@
 -- The sign of a whole number as code tests it, and the order of two fractions by the sign of their difference.
-use Rattle.std.proofs.Common.{◌≡◌, ◌≢◌, refl, sym, ap, subst, ◌∙◌, zero, suc, Bool, true, false, arith}
+use Rattle.std.proofs.Common.{◌≡◌, refl, ◌∙◌, zero, suc, arith}
 use Rattle.std.proofs.lemmas.Int.{ints}
 use lib.IntN.{ℤ, pos, negsuc, ◌*ℤ◌}
 use Rattle.std.specs.Ordering.{int_cmp}
-use Rattle.std.specs.declared.cmp.Ordering.{Ordering}
-use Rattle.std.specs.declared.cmp.Ordering.TheVariants.{Less, Equal, Greater}
 use Rattle.stack_algebra.specs.Fraction.{Fraction}
-use Rattle.stack_algebra.specs.Ordered.{Sign, minus, nought, plus, sign_of}
+use Rattle.stack_algebra.specs.Ordered.{sign_of}
 use Rattle.stack_algebra.specs.Rows.{less}
 use Rattle.stack_algebra.proofs.Integers.{expand, sums}
-use Rattle.stack_algebra.proofs.Fractions.{of, add, neg}
+use Rattle.stack_algebra.proofs.Fractions.{add, neg}
 use Rattle.stack_algebra.proofs.OrderedFractions.{ordered_fractions}
-use Rattle.stack_rational.specs.Order.{order_of, sign_of_whole}
+use Rattle.stack_rational.specs.Order.{order_of}
 use Rattle.stack_rational.proofs.Passing.{num_of, den_of}
 use Rattle.stack_rational.proofs.ByWholeParts.{cmp-less, cmp-equal, cmp-greater}
 use Rattle.stack_rational.proofs.TotalOrder.{order_laws}

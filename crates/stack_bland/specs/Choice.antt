@@ -36,8 +36,8 @@ module _ (F : Ordered) where
   better ratio basic n (Some r) = Some
       (cond (goes_first (F.sign (less F (ratio n) (ratio r))) (basic n) (basic r)) n r)
 
-  -- among the rows below n with a positive cell, the one with the least ratio; among equal ratios, with the least
-  -- basic column
+  -- among the rows below n with a positive cell, the one with the least ratio; among equal ratios, with the
+  -- least basic column
   abbrev pub best : (cell ratio : ℕ → F.C) (basic : ℕ → ℕ) → ℕ → Option ℕ
   best cell ratio basic zero = None
   best cell ratio basic (suc n) = cond (is_plus (F.sign (cell n)))

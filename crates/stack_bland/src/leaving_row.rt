@@ -49,17 +49,19 @@ fn better<S: Exact>(t: &Table<S>, best: Option<Candidate<S>>, next: Candidate<S>
     }
 }
 
-/// Among the rows with a positive cell in the column, the one with the least ratio of right side to cell; among equal
-/// ratios, the one with the least basic column. The objective row isn't one of them.
+/// Among the rows with a positive cell in the column, the one with the least ratio of right side to cell; among
+/// equal ratios, the one with the least basic column. The objective row isn't one of them.
 ///
 /// Refused at the first ratio that passes, by rising rows.
 pub fn leaving<S: Exact>(t: &Table<S>, column: usize) -> Result<Option<usize>, RatioWide>
     requires { column < columns (shape_of_table t.now) }
-    ensures ok { IfOk result (λ r. r ≡ leaving ordered_fractions (shape_of_table t.now) (table_of t.now) column) }
+    ensures ok { IfOk result (λ r.
+        r ≡ leaving ordered_fractions (shape_of_table t.now) (table_of t.now) column) }
     ensures fits { OnOk result
         (ratio_row ordered_fractions (shape_of_table t.now) (passes S.MAX) (table_of t.now) column ≡ None) }
     ensures wide { IfErr result (λ e.
-        ratio_row ordered_fractions (shape_of_table t.now) (passes S.MAX) (table_of t.now) column ≡ Some e.row) }
+        ratio_row ordered_fractions (shape_of_table t.now) (passes S.MAX) (table_of t.now) column
+        ≡ Some e.row) }
 {
     let right = t.columns();
     let mut best: Option<Candidate<S>> = None;

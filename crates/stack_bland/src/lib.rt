@@ -1,7 +1,7 @@
 //! Bland's choices: the entering column and the leaving row.
 //!
-//! After Bland (1977): of the columns that may enter, and of the rows that may leave, the least is taken, so that
-//! no basis comes twice. No call takes memory.
+//! After Bland (1977): of the columns that may enter, and of the rows that may leave, the least is taken, so
+//! that no basis comes twice. No call takes memory.
 #![tactic(auto)]
 
 mod entering_column;

@@ -8,3 +8,4 @@ pub mod LineSteps
 pub mod Readings
 pub mod ReadSoFar
 pub mod WrittenLists
+pub mod TextSizes

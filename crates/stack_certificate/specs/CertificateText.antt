@@ -2,13 +2,14 @@
 -- forces, `collapses` one motion, `greatest` forces and a motion, `unbounded` two lists of forces. A list of
 -- forces is the line `forces SCALE FACTOR` and for each bearing a line `push A B`; a motion is the line
 -- `motion` and for each free block a line `move U V R`.
-use Rattle.std.specs.Prelude.{◌≡◌, ℤ, ℕ, List, [], ◌∷◌, ◌++◌, map}
+use Rattle.std.specs.Prelude.{◌≡◌, ◌<◌, ◌≤◌, ℤ, ℕ, List, [], ◌∷◌, ◌++◌, map, length}
 use Rattle.std.specs.List.{All}
 use Rattle.stack_certificate.specs.declared.line.Form.TheVariants as forms
 use Rattle.stack_certificate.specs.declared.line.Line.{Line}
 use Rattle.stack_certificate.specs.declared.line.Line.TheVariants as lines
 use Rattle.stack_certificate.specs.Certificate.{ForcesValue, MotionValue, CertificateValue, stands, collapses, greatest, unbounded}
 use Rattle.stack_whole.specs.Whole.{IsFitting}
+use Rattle.stack_whole.specs.Limits.{most_bearings, most_free}
 use Rattle.stack_certificate.specs.Lines.{line_text}
 
 -- The lines of a list.
@@ -65,3 +66,23 @@ CertificateFits (unbounded f r) = ForcesFit f × ForcesFit r
 pub record IsCertificateText (c : CertificateValue) (bytes : List ℕ) : Type 0 where
   pub fits : CertificateFits c
   pub is : bytes ≡ certificate_text c
+
+-- No list is longer than a survey or a model may be.
+abbrev pub ForcesAreFew : ForcesValue → Type 0
+ForcesAreFew f = length f.parts ≤ most_bearings
+
+abbrev pub MotionIsFew : MotionValue → Type 0
+MotionIsFew m = length m ≤ most_free
+
+abbrev pub IsFew : CertificateValue → Type 0
+IsFew (stands f) = ForcesAreFew f
+IsFew (collapses m) = MotionIsFew m
+IsFew (greatest f m) = ForcesAreFew f × MotionIsFew m
+IsFew (unbounded f r) = ForcesAreFew f × ForcesAreFew r
+
+-- Then the text has fewer bytes than this.
+abbrev pub text_bound : ℕ
+text_bound = 180000
+
+abbrev pub FewHaveShortTexts : Type 0
+FewHaveShortTexts = (c : CertificateValue) → CertificateFits c → IsFew c → length (certificate_text c) < text_bound

@@ -3,7 +3,7 @@
 ghost use Rattle.std.specs.Prelude.{◌≡◌, List, ℕ, ℤ};
 ghost use Rattle.std.specs.Fmt.{signed_decimal};
 ghost use Rattle.stack_certificate.specs.Certificate.{CertificateValue};
-ghost use Rattle.stack_certificate.specs.CertificateText.{CertificateFits, certificate_text, IsCertificateText};
+ghost use Rattle.stack_certificate.specs.CertificateText.{CertificateFits, certificate_text, IsCertificateText, FewHaveShortTexts};
 ghost use Rattle.stack_certificate.specs.CertificateOf.{certificate_of};
 ghost use Rattle.stack_certificate.specs.FaultLine.{IsFaultLine};
 ghost use Rattle.stack_certificate.specs.Digits.{IsWritten};
@@ -27,6 +27,12 @@ pub fn one_certificate()
 pub fn one_text()
     ensures some { (c : CertificateValue) → CertificateFits c → IsCertificateText c (certificate_text c) }
     ensures one { (c : CertificateValue) (a b : List ℕ) → IsCertificateText c a → IsCertificateText c b → a ≡ b }
+{}
+
+/// The text of a certificate whose numbers fit, with at most 1,024 parts in each list of forces and 128 moves in a motion, has
+/// fewer than 180,000 bytes.
+pub fn short_text()
+    ensures { FewHaveShortTexts }
 {}
 
 /// The spelling of a number is 0, or digits of which the first isn't 0, behind a - where it is negative, and

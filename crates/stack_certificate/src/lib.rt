@@ -10,7 +10,7 @@ mod stage;
 pub mod types;
 mod writing;
 
-pub use laws::{one_certificate, one_reading, one_text, spelled_by_digits};
+pub use laws::{one_certificate, one_reading, one_text, short_text, spelled_by_digits};
 pub use reading::read_certificate;
 pub use writing::write_certificate;
 

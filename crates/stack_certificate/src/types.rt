@@ -8,7 +8,7 @@ use std::alloc::AllocError;
 /// Forces at the bearings: a part along the normal and a part along the tangent for each, on the later body, in
 /// sixths of a unit of force, all of them `scale` times as great as the real ones. The real factor of the live
 /// loads is `factor` over `scale`.
-#[derive(Debug, Drop)]
+#[derive(Debug, PartialEq, Eq, Drop)]
 pub struct Forces {
     pub scale: i128,
     pub factor: i128,
@@ -17,13 +17,13 @@ pub struct Forces {
 
 /// A motion of the free blocks: for each the velocity of its first stored corner to the right and upwards,
 /// and its turning rate, counter-clockwise.
-#[derive(Debug, Drop)]
+#[derive(Debug, PartialEq, Eq, Drop)]
 pub struct Motion {
     pub moves: Vec<(i128, i128, i128)>,
 }
 
 /// What shows whether a structure stands, or what it bears.
-#[derive(Debug, Drop)]
+#[derive(Debug, PartialEq, Eq, Drop)]
 pub enum Certificate {
     /// Forces that carry the dead loads.
     Stands(Forces),

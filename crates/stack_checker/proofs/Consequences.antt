@@ -7,7 +7,7 @@ use Rattle.stack_equilibrium.specs.Held.{forces_of, moves_of}
 use Rattle.stack_equilibrium.proofs.CertificateLaws.{stands_is_carried, collapse_excludes_balance}
 use Rattle.stack_equilibrium.proofs.CertificateLaws.{greatest_is_carried, greatest_bounds_every_factor}
 use Rattle.stack_equilibrium.proofs.CertificateLaws.{unbounded_carries_above, unbounded_carries_all}
-use Rattle.stack_checker.specs.Truth.{IsTrueCertificate}
+use Rattle.stack_equilibrium.specs.Truth.{IsTrueCertificate}
 use Rattle.stack_checker.specs.Shown.{DeadLoadsStand, DeadLoadsFall, FactorIsCarried, NoGreaterIsCarried}
 use Rattle.stack_checker.specs.Shown.{AllAboveAreCarried, AllAreCarried}
 

@@ -1,4 +1,5 @@
 pub mod Settled
+pub mod ConeTests
 pub mod SignTests
 pub mod ForcesSettled
 pub mod MotionsSettled

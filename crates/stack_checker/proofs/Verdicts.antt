@@ -12,7 +12,7 @@ use Rattle.stack_checker.specs.declared.types.Check.TheVariants as answers
 use Rattle.stack_checker.specs.declared.stop.Stop.{Stop}
 use Rattle.stack_checker.specs.declared.stop.Stop.TheVariants.{Rejected, TooWide}
 use Rattle.stack_checker.specs.Signs.{standing, loaded, rising}
-use Rattle.stack_checker.specs.Truth.{IsTrueCertificate}
+use Rattle.stack_equilibrium.specs.Truth.{IsTrueCertificate}
 use Rattle.stack_checker.specs.WrittenForces.{written_forces}
 use Rattle.stack_checker.specs.WrittenMotions.{written_collapse, written_bound}
 use Rattle.stack_checker.specs.WrittenCheck.{in_part, tests_of, answer_of, written_check}

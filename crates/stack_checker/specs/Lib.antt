@@ -3,6 +3,5 @@ pub mod WrittenTests
 pub mod WrittenForces
 pub mod WrittenMotions
 pub mod WrittenCheck
-pub mod Truth
 pub mod Shown
 pub mod Verdict

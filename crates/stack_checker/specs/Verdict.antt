@@ -11,7 +11,7 @@ use Rattle.stack_checker.specs.declared.types.CheckAt.{CheckAt}
 use Rattle.stack_checker.specs.declared.types.CheckAt.TheVariants as places
 use Rattle.stack_checker.specs.declared.types.Check.{Check}
 use Rattle.stack_checker.specs.declared.types.Check.TheVariants.{Accepted, Rejected, TooWide}
-use Rattle.stack_checker.specs.Truth.{IsTrueCertificate}
+use Rattle.stack_equilibrium.specs.Truth.{IsTrueCertificate}
 use Rattle.stack_checker.specs.WrittenCheck.{written_check}
 
 -- an accepted certificate is true

@@ -2,7 +2,7 @@
 
 ghost use Rattle.std.specs.Prelude.{◌≡◌};
 ghost use Rattle.stack_certificate.specs.Certificate.{certificate_view};
-ghost use Rattle.stack_checker.specs.Truth.{IsTrueCertificate};
+ghost use Rattle.stack_equilibrium.specs.Truth.{IsTrueCertificate};
 ghost use Rattle.stack_checker.specs.Verdict.{IsRejected, NamesOf};
 ghost use Rattle.stack_checker.specs.Shown.{DeadLoadsStand, DeadLoadsFall, FactorIsCarried, NoGreaterIsCarried, AllAboveAreCarried, AllAreCarried};
 ghost use Rattle.stack_checker.specs.WrittenCheck.{tests_of, written_check};

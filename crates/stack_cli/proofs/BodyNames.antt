@@ -4,7 +4,7 @@ use Rattle.std.specs.Prelude.{String, string_bytes}
 use Rattle.std.specs.declared.alloc.Global.{Global}
 use Rattle.std.proofs.lemmas.List.{take_more, take_all, get_or-map, length-map, map-append}
 use Rattle.stack_model.specs.Structure.{NamedBody, Structure, body_of}
-use Rattle.stack_cli.specs.Outcome.{body_names}
+use Rattle.stack_cli.specs.Surveying.{body_names}
 
 abbrev name_in : NamedBody → List ℕ
 name_in b = b.name

@@ -1,149 +1,337 @@
--- The theorem on the top call out of its three facts: what is answered, what is refused, and which files are asked for.
-use Rattle.std.proofs.Common.{◌≡◌, ℕ, zero, suc, ◌<◌, ◌≤◌, ◌⊎◌, inl, inr, List, [], Option, Some, None, subst, sym, ap, ◌∙◌, refl, arith}
+-- The theorem on the top call, out of what the work leaves and what is given out.
+use Rattle.std.proofs.Common.{◌≡◌, ℕ, zero, suc, ◌<◌, ◌≤◌, ◌⊎◌, inl, inr, List, [], ◌∷◌, Option, Some, None, Result, Ok, Err, OnErr, subst, sym, ap, ◌∙◌, refl, arith}
 use Rattle.std.specs.Bool.{⊤}
 use Rattle.std.specs.Io.KnownBytes.{Appends, Keeps}
-use Rattle.stack_cli.specs.declared.refusal.Input.TheVariants as inputs
-use Rattle.stack_cli.specs.Words.{Form, check, contacts}
-use Rattle.stack_cli.specs.Refusals.{Refusal, words, file, output, memory, status_of}
-use Rattle.stack_cli.specs.AnswerText.{Due, exactly, verdict_status}
-use Rattle.stack_cli.specs.Outcome.{Step, goes, refuses, untold, Found, IsFoundFor, outcome, wanted, check_outcome, contacts_outcome}
-use Rattle.stack_cli.specs.Progress.{Stops, Names, AsksFront, Bytes, SaysLine}
-use Rattle.stack_cli.specs.MainTheorem.{Answered, OutputAfter, Cause, Refused, IsDecided, RunMeets}
-use Rattle.stack_cli.proofs.FilesAsked.{named}
-use Rattle.stack_cli.proofs.LaterRefusals.{check_outcome_past_words, contacts_outcome_past_words, no_words}
+use Rattle.stack_outside.specs.declared.error.SinkFailed.{SinkFailed}
+use Rattle.stack_outside.specs.Sinks.{Puts}
+use Rattle.stack_cli.specs.declared.answer.Answer.{Answer}
+use Rattle.stack_cli.specs.declared.answer.Verdict.{Verdict}
+use Rattle.stack_cli.specs.declared.answer.Verdict.TheVariants.{Affirmed, Denied}
+use Rattle.stack_cli.specs.declared.refusal.Refusal.{Refusal as CodeRefusal}
+use Rattle.stack_cli.specs.declared.refusal.Refusal.TheVariants as code
+use Rattle.stack_cli.specs.Words.{Form}
+use Rattle.stack_cli.specs.Refusals.{Refusal, words, file, faulty, output, refusal_view, status_of}
+use Rattle.stack_cli.specs.Refusals.{Fault, long, content, overlap, many_bearings, certificate_line, wide_check, memory}
+use Rattle.stack_cli.specs.Answers.{Due, verdict_status}
+use Rattle.stack_cli.specs.Work.{Work, gives, refuses, reads, surveys, Holds, Ends}
+use Rattle.stack_cli.specs.Forms.{work_of}
+use Rattle.stack_cli.specs.Progress.{Names, GrewBy, Returns, Answers, Fails, Way, Works, Bytes, SaysLine, Delivers}
+use Rattle.stack_cli.proofs.FilesNamed.{asked_named}
+use Rattle.stack_cli.proofs.Steps.{none_asked}
+use Rattle.stack_cli.specs.MainTheorem.{Answered, OutputAfter, Cause, Refused, IsGivenOut, RunMeets}
 
--- The refusal of a step that refuses, else this one.
-abbrev refusal_or : Refusal → Step Due → Refusal
-refusal_or r (refuses q) = q
-refusal_or r (goes due) = r
-refusal_or r (untold input) = r
+-- An error stream that didn't fail took the whole line.
+pub line_put : (old new : Bytes) (piece : List ℕ) (result : Result ⊤ SinkFailed) (P : Type 0)
+    → Puts old new piece result → OnErr result P → ¬ P → Appends old new piece
+line_put old new piece (Ok done) P puts cause not = puts
+line_put old new piece (Err e) P puts cause not = absurd (not cause)
 
-abbrev Refuses : Step Due → Type 0
-Refuses (refuses r) = ⊤
-Refuses (goes due) = ⊥
-Refuses (untold input) = ⊥
+-- A refusal was told, or memory for its line was wanting.
+told_as : (r q : CodeRefusal) → (q ≡ r) ⊎ (q ≡ code.Memory)
+    → (refusal_view q ≡ refusal_view r) ⊎ (refusal_view q ≡ faulty memory)
+told_as r q (inl same) = inl (ap refusal_view same)
+told_as r q (inr same) = inr (ap refusal_view same)
 
-abbrev HasNone : Option Form → Type 0
-HasNone None = ⊤
-HasNone (Some form) = ⊥
+kept_same : (b : Bytes) → Keeps b b
+kept_same None = tt
+kept_same (Some bytes) = refl
 
--- Only words without a form are refused for the words.
-no_form_stops : (found : Found) (form : Option Form) (holds : List ℕ → Option (List ℕ))
-    → Stops words (outcome found form holds) → form ≡ None
-no_form_stops found None holds stops = refl
-no_form_stops found (Some (check model certificate)) holds stops =
-    absurd (no_words (check_outcome found model certificate holds)
-    (check_outcome_past_words found model certificate holds) stops)
-no_form_stops found (Some (contacts model)) holds stops =
-    absurd (no_words (contacts_outcome found model holds) (contacts_outcome_past_words found model holds) stops)
+pub refusal_told : (worked : Result Answer CodeRefusal) (r q : CodeRefusal) (status : ℕ) (out err err_after : Bytes) (O E : Type 0)
+    → worked ≡ Err r → (q ≡ r) ⊎ (q ≡ code.Memory) → status ≡ status_of (refusal_view q)
+    → SaysLine (refusal_view q) err err_after E → Delivers worked status out out err err_after O E
+refusal_told worked r q status out err err_after O E is which status_is line =
+    subst (λ w. Delivers w status out out err err_after O E) (sym is) (record {
+      told = refusal_view q;
+      which = told_as r q which;
+      is_status = status_is;
+      is_kept = kept_same out;
+      line = line;
+    })
 
--- A run with these names and bytes before and after it, whose devices failed or not.
-module _ (asked asked_after : Names) (out out_after err err_after : Bytes) (S O E : Type 0) where
-  abbrev Answers : ℕ → Step Due → Type 0
-  Answers status step = Answered status step out out_after err err_after
+-- Refusals that work can come to.
+abbrev IsOfWork : Refusal → Type 0
+IsOfWork words = ⊥
+IsOfWork output = ⊥
+IsOfWork _ = ⊤
 
-  abbrev Refusing : ℕ → Step Due → List (List ℕ) → Type 0
-  Refusing status step names = Refused status step names asked asked_after out out_after err err_after S O E
+of_work : {A : Type 0} (holds : Holds) (w : Work A) (names : List (List ℕ)) (r : Refusal) → Ends holds w names (Err r)
+    → IsOfWork r
+of_work holds (gives x) names r p = subst IsOfWork (sym p.1) tt
+of_work holds (refuses q) names r (none, inl same) = subst IsOfWork (sym same) tt
+of_work holds (refuses q) names r (none, inr same) = subst IsOfWork (sym same) tt
+of_work holds (reads input name k) [] r p = subst IsOfWork (sym p) tt
+of_work holds (reads input name k) (n ∷ ns) r (same, inl h) = subst IsOfWork (sym h.1) tt
+of_work holds (reads input name k) (n ∷ ns) r (same, inr h) = of_work holds (k h.0) ns r h.2
+of_work holds (surveys s k) names r (inl h) = subst IsOfWork (sym h.1) tt
+of_work holds (surveys s k) names r (inr h) = of_work holds (k h.0) names r h.2
 
-  abbrev Decides : ℕ → Step Due → Type 0
-  Decides status step = IsDecided status step out out_after err err_after E
+abbrev refusal_or : Refusal → Result Due Refusal → Refusal
+refusal_or r (Ok due) = r
+refusal_or r (Err q) = q
 
-  abbrev Causes : Refusal → Step Due → List (List ℕ) → Type 0
-  Causes r step names = Cause r step names asked asked_after S O
+abbrev IsWords : Result Due Refusal → Type 0
+IsWords (Err words) = ⊤
+IsWords _ = ⊥
 
-  -- An answer is the one that is due.
-  answer_is_due : (status : ℕ) (step : Step Due) → Answers status step → Decides status step
-  answer_is_due status (goes (exactly verdict text)) a =
-      (a.is_status ∙ ap verdict_status a.is_due.0, subst (Appends out out_after) a.is_due.1 a.is_written, a.is_silent)
-  answer_is_due status (refuses r) a = absurd a.is_due
-  answer_is_due status (untold input) a = tt
+not_output : (holds : Holds) (form : Option Form) (names : List (List ℕ)) → Way holds form names (Err output) → ⊥
+not_output holds None names way = subst IsWords (sym way.1) tt
+not_output holds (Some form) names way = of_work holds (work_of form) names output way
 
-  -- The line of a refusal, where the error stream didn't fail.
+only_none : (holds : Holds) (form : Option Form) (names : List (List ℕ)) → Way holds form names (Err words)
+    → form ≡ None
+only_none holds None names way = refl
+only_none holds (Some form) names way = absurd (of_work holds (work_of form) names words way)
+
+below_two : (v : Verdict) → verdict_status v < 2
+below_two Affirmed = omega arith
+below_two Denied = omega arith
+
+fault_above : (f : Fault) → 4 ≤ status_of (faulty f)
+fault_above (long input) = omega arith
+fault_above (content e) = omega arith
+fault_above (overlap first second) = omega arith
+fault_above (many_bearings count) = omega arith
+fault_above (certificate_line number) = omega arith
+fault_above (wide_check part place) = omega arith
+fault_above memory = omega arith
+
+fault_past_output : (f : Fault) → 10 ≡ status_of (faulty f) → ⊥
+fault_past_output (long input) is = omega arith
+fault_past_output (content e) is = omega arith
+fault_past_output (overlap first second) is = omega arith
+fault_past_output (many_bearings count) is = omega arith
+fault_past_output (certificate_line number) is = omega arith
+fault_past_output (wide_check part place) is = omega arith
+fault_past_output memory is = omega arith
+
+from_two : (r : Refusal) → 2 ≤ status_of r
+from_two words = omega arith
+from_two (file input) = omega arith
+from_two (faulty f) = let h = fault_above f in omega (arith, h)
+from_two output = omega arith
+
+-- What the work returned, against the ways through it.
+abbrev Reaches : Holds → Option Form → List (List ℕ) → Result Answer CodeRefusal → Type 0
+Reaches holds form names (Ok a) = (due : Due) × Answers a due × Way holds form names (Ok due)
+Reaches holds form names (Err r) = Way holds form names (Err (refusal_view r))
+
+reached : (holds : Holds) (form : Form) (names : List (List ℕ)) (result : Result Answer CodeRefusal)
+    → Returns Answers holds (work_of form) names result → Reaches holds (Some form) names result
+reached holds form names (Ok a) h = h
+reached holds form names (Err r) h = h
+
+record Reached (holds : Holds) (form : Option Form) (old new : Names) (result : Result Answer CodeRefusal) : Type 0 where
+  names : List (List ℕ)
+  asks : GrewBy old new names
+  way : Reaches holds form names result
+
+works_reach : (holds : Holds) (form : Option Form) (old new : Names) (result : Result Answer CodeRefusal)
+    → Works holds form old new result → Reached holds form old new result
+works_reach holds None old new result w = record {
+  names = [];
+  asks = w.0;
+  way = subst (Reaches holds None []) (sym w.1) (refl, refl);
+}
+works_reach holds (Some form) old new result w = record {
+  names = w.names;
+  asks = w.asks;
+  way = reached holds form w.names result w.comes;
+}
+
+-- A run with these words and files, whose work asked for these names, and whose devices failed or not.
+module _ (holds : Holds) (form : Option Form) (names : List (List ℕ)) (out out_after err err_after : Bytes)
+    (S O E : Type 0) where
+  abbrev Answering : ℕ → Type 0
+  Answering status = Answered status holds form names out out_after err err_after
+
+  abbrev Refusing : ℕ → Type 0
+  Refusing status = Refused status holds form names out out_after err err_after S O E
+
+  abbrev Causes : Refusal → Type 0
+  Causes r = Cause r holds form names S O
+
+  abbrev Leaves : Refusal → Type 0
+  Leaves r = OutputAfter r holds form names out out_after
+
   abbrev Says : Refusal → Type 0
   Says r = SaysLine r err err_after E
 
-  same_refusal : (status : ℕ) (r q : Refusal) → status ≡ status_of r → q ≡ r → Keeps out out_after → Says r
-      → Decides status (refuses q)
-  same_refusal status r q is same kept line = (is ∙ ap status_of (sym same), kept, subst Says (sym same) line)
+  abbrev Decides : ℕ → Type 0
+  Decides status = (end : Result Due Refusal) × Way holds form names end
+      × IsGivenOut end status out out_after err err_after E
 
-  -- A refusal is that of the outcome, unless memory was wanting.
-  refusal_is_due : (r : Refusal) (status : ℕ) (step : Step Due) (names : List (List ℕ)) → status ≡ status_of r
-      → Causes r step names → OutputAfter r step out out_after → Says r → ¬ S → ¬ O
-      → (status ≡ 11) ⊎ Decides status step
-  refusal_is_due (file input) status step names is cause kept line no_shelf no_output = absurd (no_shelf cause.0)
-  refusal_is_due output status step names is cause kept line no_shelf no_output = absurd (no_output cause)
-  refusal_is_due memory status step names is cause kept line no_shelf no_output = inl is
-  refusal_is_due r status (goes due) names is cause kept line no_shelf no_output =
-      absurd (subst Refuses (sym cause) tt)
-  refusal_is_due r status (refuses q) names is cause kept line no_shelf no_output =
-      inr (same_refusal status r q is (ap (refusal_or r) cause) kept line)
-  refusal_is_due r status (untold input) names is cause kept line no_shelf no_output = inr tt
-
-  -- Where neither the shelf nor the output failed, the outcome decides.
-  decides : (status : ℕ) (step : Step Due) (names : List (List ℕ)) → (status < 2 → Answers status step)
-      → (2 ≤ status → Refusing status step names) → ¬ S → ¬ O → (status ≡ 11) ⊎ Decides status step
-  decides zero step names answered refused no_shelf no_output = inr (answer_is_due 0 step (answered (omega arith)))
-  decides (suc zero) step names answered refused no_shelf no_output =
-      inr (answer_is_due 1 step (answered (omega arith)))
-  decides (suc (suc n)) step names answered refused no_shelf no_output =
-      let f = refused (omega arith) in
-      refusal_is_due f.refusal _ step names f.is_status f.cause f.on_output f.line no_shelf no_output
-
-  -- The causes that go with the statuses 2, 3 and 10.
-  words_of : (r : Refusal) (step : Step Due) (names : List (List ℕ)) → 2 ≡ status_of r → Causes r step names
-      → Stops words step
-  words_of words step names is cause = cause
-  words_of _ step names is cause = absurd (omega arith)
-
-  shelf_of : (r : Refusal) (step : Step Due) (names : List (List ℕ)) → 3 ≡ status_of r → Causes r step names → S
-  shelf_of (file input) step names is cause = cause.0
-  shelf_of _ step names is cause = absurd (omega arith)
-
-  output_of : (r : Refusal) (step : Step Due) (names : List (List ℕ)) → 10 ≡ status_of r → Causes r step names → O
-  output_of output step names is cause = cause
-  output_of _ step names is cause = absurd (omega arith)
-
-  -- Words without a form are refused for the words, unless memory was wanting.
-  words_or_memory : (r : Refusal) (status : ℕ) → status ≡ status_of r → Causes r (refuses words) []
-      → OutputAfter r (refuses words) out out_after → (status ≡ 2) ⊎ (status ≡ 11)
-  words_or_memory (file inputs.Model) status is cause kept = let h : 1 ≤ 0 = cause.1.0 in absurd (omega arith)
-  words_or_memory (file inputs.Certificate) status is cause kept = let h : 2 ≤ 0 = cause.1.0 in absurd (omega arith)
-  words_or_memory output status is cause kept = absurd kept.3
-  words_or_memory memory status is cause kept = inr is
-  words_or_memory _ status is cause kept = inl (is ∙ ap status_of (sym (ap (refusal_or words) cause)))
-
-  without_form : (found : Found) (form : Option Form) (holds : List ℕ → Option (List ℕ)) (status : ℕ)
-      → (status < 2 → Answers status (outcome found form holds))
-      → (2 ≤ status → Refusing status (outcome found form holds) (wanted found form holds))
-      → form ≡ None → (status ≡ 2) ⊎ (status ≡ 11)
-  without_form found (Some form) holds status answered refused none = absurd (subst HasNone (sym none) tt)
-  without_form found None holds zero answered refused none = let a = answered (omega arith) in absurd a.is_due
-  without_form found None holds (suc zero) answered refused none = let a = answered (omega arith) in absurd a.is_due
-  without_form found None holds (suc (suc n)) answered refused none =
-      let f = refused (omega arith) in words_or_memory f.refusal _ f.is_status f.cause f.on_output
-
-  pub meets : (found : Found) (form : Option Form) (holds : List ℕ → Option (List ℕ)) (status : ℕ)
-      → IsFoundFor found form holds
-      → (status < 2 → Answers status (outcome found form holds))
-      → (2 ≤ status → Refusing status (outcome found form holds) (wanted found form holds))
-      → AsksFront asked asked_after (wanted found form holds)
-      → RunMeets status form holds asked asked_after out out_after err err_after S O E
-  meets found form holds status is_found answered refused asks = record {
-    found = found;
-    is_found = is_found;
-    answered = answered;
-    refused = refused;
-    asks_wanted = asks;
-    asks_named = named found form holds asked asked_after asks;
-    decided = decides status (outcome found form holds) (wanted found form holds) answered refused;
-    without_form = without_form found form holds status answered refused;
-    only_without_form = λ two.
-        let f = refused (omega arith) in
-        no_form_stops found form holds (words_of f.refusal _ (wanted found form holds) (sym two ∙ f.is_status) f.cause);
-    shelf_failed = λ three.
-        let f = refused (omega arith) in
-        shelf_of f.refusal (outcome found form holds) (wanted found form holds) (sym three ∙ f.is_status) f.cause;
-    output_failed = λ ten.
-        let f = refused (omega arith) in
-        output_of f.refusal (outcome found form holds) (wanted found form holds) (sym ten ∙ f.is_status) f.cause;
+  answered : (worked : Result Answer CodeRefusal) (status : ℕ) → Reaches holds form names worked
+      → Delivers worked status out out_after err err_after O E → status < 2 → Answering status
+  answered (Ok a) status way (inl w) low = record {
+    due = way.0;
+    way = way.2;
+    verdict = a.verdict;
+    text = a.text.items;
+    is_due = way.1;
+    is_status = w.is_status;
+    is_written = w.is_written;
+    is_silent = w.is_silent;
   }
+  answered (Ok a) status way (inr f) low = let h = f.is_status in absurd (omega (arith, h, low))
+  answered (Err r) status way t low =
+      let h = t.is_status in let k = from_two t.told in absurd (omega (arith, h, k, low))
+
+  caused : (r : CodeRefusal) → Way holds form names (Err (refusal_view r)) → Fails {X = Answer} (Err r) S
+      → Causes (refusal_view r)
+  caused (code.File input) way fails = (fails, way)
+  caused code.Output way fails = absurd (not_output holds form names way)
+  caused code.Memory way fails = tt
+  caused _ way fails = way
+
+  kept : (r : CodeRefusal) → Way holds form names (Err (refusal_view r)) → Keeps out out_after
+      → Leaves (refusal_view r)
+  kept code.Output way h = absurd (not_output holds form names way)
+  kept _ way h = h
+
+  refusing : (r : CodeRefusal) (status : ℕ) → Way holds form names (Err (refusal_view r))
+      → Fails {X = Answer} (Err r) S → (told : Refusal) → (told ≡ refusal_view r) ⊎ (told ≡ faulty memory)
+      → status ≡ status_of told → Keeps out out_after → Says told → Refusing status
+  refusing r status way fails told (inl same) is keeps line = record {
+    refusal = refusal_view r;
+    is_status = is ∙ ap status_of same;
+    cause = caused r way fails;
+    on_output = kept r way keeps;
+    line = subst Says same line;
+  }
+  refusing r status way fails told (inr same) is keeps line = record {
+    refusal = faulty memory;
+    is_status = is ∙ ap status_of same;
+    cause = tt;
+    on_output = keeps;
+    line = subst Says same line;
+  }
+
+  refused : (worked : Result Answer CodeRefusal) (status : ℕ) → Reaches holds form names worked → Fails worked S
+      → Delivers worked status out out_after err err_after O E → 2 ≤ status → Refusing status
+  refused (Ok a) status way fails (inl w) high =
+      let h = w.is_status in let k = below_two a.verdict in absurd (omega (arith, h, k, high))
+  refused (Ok a) status way fails (inr f) high = record {
+    refusal = output;
+    is_status = f.is_status;
+    cause = f.cause;
+    on_output = record {
+      due = way.0;
+      way = way.2;
+      verdict = a.verdict;
+      text = a.text.items;
+      is_due = way.1;
+      kept = f.kept;
+      is_written = f.is_written;
+    };
+    line = f.line;
+  }
+  refused (Err r) status way fails t high =
+      refusing r status way fails t.told t.which t.is_status t.is_kept t.line
+
+  answer_decides : (status : ℕ) → Answering status → Decides status
+  answer_decides status a =
+      (Ok a.due, a.way, (a.verdict, a.text, a.is_due, a.is_status, a.is_written, a.is_silent))
+
+  refusal_decides : (r : Refusal) (status : ℕ) → status ≡ status_of r → Causes r → Leaves r → Says r → ¬ S → ¬ O
+      → (status ≡ 11) ⊎ Decides status
+  refusal_decides (file input) status is cause leaves line no_shelf no_output = absurd (no_shelf cause.0)
+  refusal_decides output status is cause leaves line no_shelf no_output = absurd (no_output cause)
+  refusal_decides (faulty memory) status is cause leaves line no_shelf no_output = inl is
+  refusal_decides r status is cause leaves line no_shelf no_output = inr (Err r, cause, (is, leaves, line))
+
+  decides : (status : ℕ) → (status < 2 → Answering status) → (2 ≤ status → Refusing status) → ¬ S → ¬ O
+      → (status ≡ 11) ⊎ Decides status
+  decides zero answers refusals no_shelf no_output = inr (answer_decides 0 (answers (omega arith)))
+  decides (suc zero) answers refusals no_shelf no_output = inr (answer_decides 1 (answers (omega arith)))
+  decides (suc (suc n)) answers refusals no_shelf no_output =
+      let f = refusals (omega arith) in
+      refusal_decides f.refusal _ f.is_status f.cause f.on_output f.line no_shelf no_output
+
+  words_of : (r : Refusal) → 2 ≡ status_of r → Causes r → form ≡ None
+  words_of words is cause = only_none holds form names cause
+  words_of (faulty f) is cause = let h = fault_above f in absurd (omega (arith, h))
+  words_of _ is cause = absurd (omega arith)
+
+  shelf_of : (r : Refusal) → 3 ≡ status_of r → Causes r → S
+  shelf_of (file input) is cause = cause.0
+  shelf_of (faulty f) is cause = let h = fault_above f in absurd (omega (arith, h))
+  shelf_of _ is cause = absurd (omega arith)
+
+  output_of : (r : Refusal) → 10 ≡ status_of r → Causes r → O
+  output_of output is cause = cause
+  output_of (faulty f) is cause = absurd (fault_past_output f is)
+  output_of _ is cause = absurd (omega arith)
+
+  -- The only ends of words without a form.
+  none_ends : (end : Result Due Refusal) → form ≡ None → Way holds form names end → end ≡ Err words
+  none_ends end none way = (subst (λ f. Way holds f names end) none way).1
+
+  is_words : (r : Refusal) (status : ℕ) → form ≡ None → status ≡ status_of r → Way holds form names (Err r) → status ≡ 2
+  is_words r status none is way = is ∙ ap (λ end. status_of (refusal_or words end)) (none_ends (Err r) none way)
+
+  words_or_memory : (r : Refusal) (status : ℕ) → form ≡ None → status ≡ status_of r → Causes r → Leaves r
+      → (status ≡ 2) ⊎ (status ≡ 11)
+  words_or_memory (file input) status none is cause leaves = inl (is_words (file input) status none is cause.1)
+  words_or_memory output status none is cause leaves =
+      absurd (subst IsWords (sym (none_ends (Ok leaves.due) none leaves.way)) tt)
+  words_or_memory (faulty memory) status none is cause leaves = inr is
+  words_or_memory r status none is cause leaves = inl (is_words r status none is cause)
+
+  without_form : (status : ℕ) → (status < 2 → Answering status) → (2 ≤ status → Refusing status) → form ≡ None
+      → (status ≡ 2) ⊎ (status ≡ 11)
+  without_form zero answers refusals none =
+      let a = answers (omega arith) in absurd (subst IsWords (sym (none_ends (Ok a.due) none a.way)) tt)
+  without_form (suc zero) answers refusals none =
+      let a = answers (omega arith) in absurd (subst IsWords (sym (none_ends (Ok a.due) none a.way)) tt)
+  without_form (suc (suc n)) answers refusals none =
+      let f = refusals (omega arith) in words_or_memory f.refusal _ none f.is_status f.cause f.on_output
+
+some_end : (holds : Holds) (form : Option Form) (names : List (List ℕ)) (worked : Result Answer CodeRefusal)
+    → Reaches holds form names worked → (end : Result Due Refusal) × Way holds form names end
+some_end holds form names (Ok a) way = (Ok way.0, way.2)
+some_end holds form names (Err r) way = (Err (refusal_view r), way)
+
+module _ (asked asked_after : Names) (out out_after err err_after : Bytes) (S O E : Type 0) where
+  pub run_meets : (form : Option Form) (holds : Holds) (worked : Result Answer CodeRefusal) (status : ℕ)
+      → Works holds form asked asked_after worked → Fails worked S
+      → Delivers worked status out out_after err err_after O E
+      → RunMeets status form holds asked asked_after out out_after err err_after S O E
+  run_meets form holds worked status works fails d =
+      let w = works_reach holds form asked asked_after worked works in
+      let answers = answered holds form w.names out out_after err err_after S O E worked status w.way d in
+      let refusals = refused holds form w.names out out_after err err_after S O E worked status w.way fails d in
+      record {
+        names = w.names;
+        asks = w.asks;
+        asks_named =
+            let e = some_end holds form w.names worked w.way in
+            asked_named holds form w.names e.0 asked asked_after e.1 w.asks;
+        wanted = some_end holds form w.names worked w.way;
+        answered = answers;
+        refused = refusals;
+        decided = decides holds form w.names out out_after err err_after S O E status answers refusals;
+        without_form = without_form holds form w.names out out_after err err_after S O E status answers refusals;
+        only_without_form = λ two.
+            let f = refusals (omega arith) in
+            words_of holds form w.names out out_after err err_after S O E f.refusal (sym two ∙ f.is_status) f.cause;
+        shelf_failed = λ three.
+            let f = refusals (omega arith) in
+            shelf_of holds form w.names out out_after err err_after S O E f.refusal (sym three ∙ f.is_status) f.cause;
+        output_failed = λ ten.
+            let f = refusals (omega arith) in
+            output_of holds form w.names out out_after err err_after S O E f.refusal (sym ten ∙ f.is_status) f.cause;
+      }
+
+-- There were no words to read: nothing was asked for, and one line was said.
+pub unread_meets : (holds : Holds) (asked : Names) (out err err_after : Bytes) (S O E : Type 0) (told : Refusal)
+    (status : ℕ) → (told ≡ words) ⊎ (told ≡ faulty memory) → status ≡ status_of told → SaysLine told err err_after E
+    → RunMeets status None holds asked asked out out err err_after S O E
+unread_meets holds asked out err err_after S O E told status which is line =
+    run_meets asked asked out out err err_after S O E None holds (Err code.Words) status (none_asked asked, refl) tt
+    (record {
+      told = told;
+      which = which;
+      is_status = is;
+      is_kept = kept_same out;
+      line = line;
+    })

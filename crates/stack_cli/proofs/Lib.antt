@@ -1,7 +1,9 @@
-pub mod FilesAsked
-pub mod LaterRefusals
-pub mod SurveyFollows
-pub mod Consequences
-pub mod LinesPut
-pub mod AcceptedFiles
-pub mod BodyNames
+mod Ways
+mod Steps
+mod FileRead
+mod OneEnd
+mod FilesNamed
+mod CertificateChecked
+mod Consequences
+mod AcceptedFiles
+mod BodyNames

@@ -3,7 +3,7 @@ use Rattle.std.specs.Prelude.{◌≡◌, ℕ, ◌≤◌, List, length, Ok}
 use Rattle.stack_model.specs.Structure.{Structure}
 use Rattle.stack_reader.specs.Reading.{structure_of}
 use Rattle.stack_contact.specs.Surveyed.{Surveyed, IsSurvey}
-use Rattle.stack_cli.specs.Outcome.{greatest_file}
+use Rattle.stack_cli.specs.Surveying.{greatest_file}
 
 -- A file with these bytes is an accepted model, with this survey: it isn't too long, it reads to a structure, no two
 -- bodies of the structure overlap that aren't both fixed, and it has at most 1,024 bearings, which the survey lists.

@@ -1,9 +1,14 @@
--- What the program answers: words, refusals, answers, the order of work, and the theorem on the top call.
 pub mod Words
 pub mod ModelLines
 pub mod Refusals
-pub mod AnswerText
-pub mod Outcome
-pub mod AcceptedModel
+pub mod Answers
+pub mod CheckText
+pub mod Work
+pub mod Surveying
+pub mod Checking
+pub mod Listing
+pub mod Forms
 pub mod Progress
+pub mod OneEnd
+pub mod AcceptedModel
 pub mod MainTheorem

@@ -22,20 +22,24 @@ pub data Place : Type 0 where
   work : Place
   apart : Place
 
--- The words are no form; a file isn't read, or is too long; the model's file has a fault; two bodies overlap, told by
--- their names; the bearings are too many; the certificate's text ends to be one at a line, from 1; a number of the
--- check is too wide; the answer isn't written; memory is wanting.
+-- Why the work on a form refuses: a file is too long; the model's file has a fault; two bodies overlap, told by their
+-- names; the bearings are too many; the certificate's text ends to be one at a line, from 1; a number of the check is
+-- too wide; memory is wanting.
+pub data Fault : Type 0 where
+  long : Input → Fault
+  content : ReadError → Fault
+  overlap : List ℕ → List ℕ → Fault
+  many_bearings : ℕ → Fault
+  certificate_line : ℕ → Fault
+  wide_check : Part → Place → Fault
+  memory : Fault
+
+-- Why a run refuses: the words are no form; a file isn't read; the work has a fault; the answer isn't written.
 pub data Refusal : Type 0 where
   words : Refusal
   file : Input → Refusal
-  long : Input → Refusal
-  fault : ReadError → Refusal
-  overlap : List ℕ → List ℕ → Refusal
-  many_bearings : ℕ → Refusal
-  certificate_line : ℕ → Refusal
-  wide_check : Part → Place → Refusal
+  faulty : Fault → Refusal
   output : Refusal
-  memory : Refusal
 
 -- The place, and the refusal, that the code holds.
 abbrev pub place_view : CodePlace → Place
@@ -48,27 +52,30 @@ place_view code_places.Apart = apart
 abbrev pub refusal_view : CodeRefusal → Refusal
 refusal_view code.Words = words
 refusal_view (code.File input) = file input
-refusal_view (code.Long input) = long input
-refusal_view (code.Fault e) = fault e
-refusal_view (code.Overlap first second) = overlap (string_bytes first) (string_bytes second)
-refusal_view (code.ManyBearings count) = many_bearings count
-refusal_view (code.CertificateLine number) = certificate_line number
-refusal_view (code.WideCheck part place) = wide_check part (place_view place)
+refusal_view (code.Long input) = faulty (long input)
+refusal_view (code.Fault e) = faulty (content e)
+refusal_view (code.Overlap first second) = faulty (overlap (string_bytes first) (string_bytes second))
+refusal_view (code.ManyBearings count) = faulty (many_bearings count)
+refusal_view (code.CertificateLine number) = faulty (certificate_line number)
+refusal_view (code.WideCheck part place) = faulty (wide_check part (place_view place))
 refusal_view code.Output = output
-refusal_view code.Memory = memory
+refusal_view code.Memory = faulty memory
 
 -- The status with which the program ends.
+abbrev pub fault_status : Fault → ℕ
+fault_status (long input) = 4
+fault_status (content e) = 5
+fault_status (overlap first second) = 5
+fault_status (many_bearings count) = 5
+fault_status (certificate_line number) = 6
+fault_status (wide_check part place) = 7
+fault_status memory = 11
+
 abbrev pub status_of : Refusal → ℕ
 status_of words = 2
 status_of (file input) = 3
-status_of (long input) = 4
-status_of (fault e) = 5
-status_of (overlap first second) = 5
-status_of (many_bearings count) = 5
-status_of (certificate_line number) = 6
-status_of (wide_check part place) = 7
+status_of (faulty f) = fault_status f
 status_of output = 10
-status_of memory = 11
 
 abbrev pub input_word : Input → List ℕ
 input_word inputs.Model = codes "model"
@@ -92,14 +99,17 @@ place_text work = codes "work"
 place_text apart = codes "apart"
 
 -- The line.
+abbrev pub fault_line : Fault → List ℕ
+fault_line (long input) = codes "long " ++ input_word input
+fault_line (content e) = codes "model " ++ fault_text e
+fault_line (overlap first second) = codes "model overlap " ++ first ++ codes " " ++ second
+fault_line (many_bearings count) = codes "model too many bearings " ++ decimal count
+fault_line (certificate_line number) = codes "certificate line " ++ decimal number
+fault_line (wide_check part place) = codes "wide check " ++ part_word part ++ codes " " ++ place_text place
+fault_line memory = codes "memory"
+
 abbrev pub line_of : Refusal → List ℕ
 line_of words = codes "words"
 line_of (file input) = codes "file " ++ input_word input
-line_of (long input) = codes "long " ++ input_word input
-line_of (fault e) = codes "model " ++ fault_text e
-line_of (overlap first second) = codes "model overlap " ++ first ++ codes " " ++ second
-line_of (many_bearings count) = codes "model too many bearings " ++ decimal count
-line_of (certificate_line number) = codes "certificate line " ++ decimal number
-line_of (wide_check part place) = codes "wide check " ++ part_word part ++ codes " " ++ place_text place
+line_of (faulty f) = fault_line f
 line_of output = codes "output"
-line_of memory = codes "memory"

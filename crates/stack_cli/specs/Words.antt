@@ -4,6 +4,8 @@ use Rattle.std.specs.Str.{bytes_eq}
 use Rattle.std.specs.declared.alloc.Global.{Global}
 use Rattle.stack_cli.specs.declared.words.Form.{Form as CodeForm}
 use Rattle.stack_cli.specs.declared.words.Form.TheVariants as code
+use Rattle.stack_cli.specs.declared.given.Given.{Given as CodeGiven}
+use Rattle.stack_cli.specs.declared.given.Given.TheVariants as given
 
 -- What the words ask for: `check MODEL CERT` or `contacts MODEL`, with any words as the names of the files.
 pub data Form : Type 0 where
@@ -26,11 +28,13 @@ form_of (word ∷ model ∷ certificate ∷ []) =
     if bytes_eq word (codes "check") then Some (check model certificate) else None
 form_of _ = None
 
--- The model's file, which comes first, and all files of a form in the order of work.
-abbrev pub model_of : Form → List ℕ
-model_of (check model certificate) = model
-model_of (contacts model) = model
+-- The words that the runtime gave: where one of them can't be read, or there is no memory for them, they are no form.
+abbrev pub form_of_given : CodeGiven → Option Form
+form_of_given (given.Words words) = form_of (texts words.items)
+form_of_given given.Unreadable = None
+form_of_given given.Memory = None
 
+-- The files that the words name, in the order of work.
 abbrev pub files_of : Option Form → List (List ℕ)
 files_of None = []
 files_of (Some (check model certificate)) = model ∷ certificate ∷ []

@@ -1,9 +1,10 @@
 //! The answers, as text.
 
 ghost use Rattle.std.specs.Prelude.{◌≡◌, IfOk, string_bytes};
-ghost use Rattle.stack_cli.specs.AnswerText.{verdict_status, block_name as name_of_block, rejected_text};
+ghost use Rattle.stack_cli.specs.Answers.{verdict_status};
+ghost use Rattle.stack_cli.specs.CheckText.{block_name as name_of_block, rejected_text};
 ghost use Rattle.stack_cli.specs.Refusals.{place_view};
-ghost use Rattle.stack_cli.specs.Outcome.{place_of};
+ghost use Rattle.stack_cli.specs.Checking.{place_of};
 
 use crate::model_lines::number;
 use crate::refusal::{BlockSum, Place, part_text};

@@ -1,25 +1,26 @@
 //! The top call.
 
-ghost use Rattle.std.specs.Prelude.{◌≡◌, ◌⊎◌};
-ghost use Rattle.std.specs.Io.KnownBytes.{Appends};
+ghost use Rattle.std.specs.Prelude.{◌≡◌, ◌≤◌, ◌⊎◌};
 ghost use Rattle.stack_outside.specs.Faults.{Rose};
-ghost use Rattle.stack_cli.specs.Refusals.{line_of, refusal_view};
+ghost use Rattle.stack_cli.specs.Refusals.{refusal_view};
 ghost use Rattle.stack_cli.specs.Words.{form_of, texts};
 ghost use Rattle.stack_cli.specs.Progress.{Delivers, SaysLine};
 ghost use Rattle.stack_cli.specs.MainTheorem.{RunMeets};
 
 use crate::answer::Answer;
+use crate::forms::answer_words;
 use crate::refusal::Refusal;
-use crate::work::answer_words;
 use stack_outside::{Shelf, Sink, SinkFailed};
 use std::alloc::Global;
 
 /// Puts the refusal's line on `err`, in one put, and gives the refusal: where memory for the line is wanting, that
 /// refusal. The line of that one is a constant.
+#[tactic(auto, using(crate::proofs::Consequences::line_put))]
 fn say<E: Sink>(alloc: Global, refusal: Refusal, err: &mut E) -> Refusal
     ensures which { (result ≡ refusal) ⊎ (result ≡ Refusal.Memory) }
     ensures line { SaysLine (refusal_view result) (E.written err.old) (E.written err.new)
         (Rose (E.faults err.old) (E.faults err.new)) }
+    ensures later { E.faults err.old ≤ E.faults err.new }
 {
     if !matches!(refusal, Refusal::Memory) {
         if let Ok(line) = format!(in alloc; "{refusal}\n") {
@@ -32,14 +33,17 @@ fn say<E: Sink>(alloc: Global, refusal: Refusal, err: &mut E) -> Refusal
 }
 
 /// Writes the answer in one put on `out`, or the line of the refusal on `err`, and gives the status.
+#[tactic(auto, using(crate::proofs::Consequences::line_put))]
 fn deliver<O: Sink, E: Sink>(
     alloc: Global,
     worked: Result<Answer, Refusal>,
     out: &mut O,
     err: &mut E,
 ) -> u8
-    ensures { Delivers worked result (O.written out.old) (O.written out.new) (E.written err.old) (E.written err.new)
-        (Rose (O.faults out.old) (O.faults out.new)) (Rose (E.faults err.old) (E.faults err.new)) }
+    ensures delivers { Delivers worked result (O.written out.old) (O.written out.new) (E.written err.old)
+        (E.written err.new) (Rose (O.faults out.old) (O.faults out.new)) (Rose (E.faults err.old) (E.faults err.new)) }
+    ensures out_later { O.faults out.old ≤ O.faults out.new }
+    ensures err_later { E.faults err.old ≤ E.faults err.new }
 {
     match worked {
         Ok(answer) => match out.put(answer.text.as_slice()) {
@@ -64,10 +68,14 @@ pub fn run<F: Shelf, O: Sink, E: Sink>(
     out: &mut O,
     err: &mut E,
 ) -> u8
-    ensures { RunMeets result (form_of (texts words.now)) (F.holds shelf.old) (F.asked shelf.old) (F.asked shelf.new)
-        (O.written out.old) (O.written out.new) (E.written err.old) (E.written err.new)
+    ensures meets { RunMeets result (form_of (texts words.now)) (F.holds shelf.old) (F.asked shelf.old)
+        (F.asked shelf.new) (O.written out.old) (O.written out.new) (E.written err.old) (E.written err.new)
         (Rose (F.faults shelf.old) (F.faults shelf.new)) (Rose (O.faults out.old) (O.faults out.new))
         (Rose (E.faults err.old) (E.faults err.new)) }
+    ensures holds { F.holds shelf.new ≡ F.holds shelf.old }
+    ensures shelf_later { F.faults shelf.old ≤ F.faults shelf.new }
+    ensures out_later { O.faults out.old ≤ O.faults out.new }
+    ensures err_later { E.faults err.old ≤ E.faults err.new }
 {
     let worked = answer_words(alloc, words, shelf);
     deliver(alloc, worked, out, err)

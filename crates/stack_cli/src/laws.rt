@@ -1,14 +1,23 @@
 //! Laws on the definitions, as contracts of functions that do nothing.
 
-ghost use Rattle.std.specs.Prelude.{◌≡◌, ℕ, List, Some, Ok};
+ghost use Rattle.std.specs.Prelude.{◌≡◌, ℕ, List, [], ◌∷◌, Some, Ok};
 ghost use Rattle.stack_contact.specs.Surveyed.{Surveyed};
-ghost use Rattle.stack_cli.specs.Outcome.{Found, IsFound, surveyed, goes};
+ghost use Rattle.stack_cli.specs.Work.{Holds, Ends};
+ghost use Rattle.stack_cli.specs.Surveying.{surveyed};
+ghost use Rattle.stack_cli.specs.OneEnd.{WordsHaveOneEnd};
 ghost use Rattle.stack_cli.specs.AcceptedModel.{IsAcceptedModel};
 
-/// The order of work goes on after the survey exactly with the files that are accepted models.
+/// The order of work comes to a survey exactly for the files that are accepted models, and to each survey that such a
+/// file has.
 pub fn goes_on_with_accepted_models()
-    ensures only { (found : Found) (bytes : List ℕ) (v : Surveyed) → IsFound found (Some bytes)
-        → surveyed found (Some bytes) ≡ goes v → IsAcceptedModel bytes v }
-    ensures all { (bytes : List ℕ) (v : Surveyed) → IsAcceptedModel bytes v → surveyed (Ok v) (Some bytes) ≡ goes v }
-    ensures found { (bytes : List ℕ) (v : Surveyed) → IsAcceptedModel bytes v → IsFound (Ok v) (Some bytes) }
+    ensures only { (holds : Holds) (name bytes : List ℕ) (v : Surveyed) (names : List (List ℕ)) → holds name ≡ Some bytes
+        → Ends holds (surveyed name) names (Ok v) → IsAcceptedModel bytes v }
+    ensures all { (holds : Holds) (name bytes : List ℕ) (v : Surveyed) → holds name ≡ Some bytes
+        → IsAcceptedModel bytes v → Ends holds (surveyed name) (name ∷ []) (Ok v) }
+{}
+
+/// The work on words over files that are told has one end, unless memory is wanting or a device fails: one answer that is
+/// due, or one refusal.
+pub fn words_have_one_end()
+    ensures { WordsHaveOneEnd }
 {}

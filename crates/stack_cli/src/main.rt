@@ -6,44 +6,37 @@
 
 pub mod answer;
 pub mod command;
+pub mod forms;
+pub mod given;
 pub mod laws;
 pub mod model_lines;
+pub mod reading;
 pub mod refusal;
 pub mod surveying;
 pub mod words;
-pub mod work;
 
-use refusal::Refusal;
-use stack_outside::{RealShelf, RealSink, Sink, Stream};
+use given::{Given, run_given};
+use stack_outside::{RealShelf, RealSink, Stream};
 use std::env;
 use std::io::ErrorKind;
 use std::process::ExitCode;
 
 /// The program over the real devices: its words after its own name, files by their paths, standard output and
-/// standard error. A word that isn't UTF-8 makes the words no form.
+/// standard error.
 fn main(rt: HostRuntime) -> ExitCode {
     let alloc = rt.alloc();
-    let mut out = RealSink::new(&rt, Stream::Output);
-    let mut err = RealSink::new(&rt, Stream::Fault);
-    let args = match env::args(&rt) {
-        Ok(args) => args,
-        Err(e) if e.kind() == ErrorKind::OutOfMemory => return refuse(&mut err, Refusal::Memory),
-        Err(_) => return refuse(&mut err, Refusal::Words),
-    };
-    let Ok(words) = args.skip(1).collect::<Vec<String>>(alloc) else {
-        return refuse(&mut err, Refusal::Memory);
+    let given = match env::args(&rt) {
+        Ok(args) => match args.skip(1).collect::<Vec<String>>(alloc) {
+            Ok(words) => Given::Words(words),
+            Err(_) => Given::Memory,
+        },
+        Err(e) if e.kind() == ErrorKind::OutOfMemory => Given::Memory,
+        Err(_) => Given::Unreadable,
     };
     let mut shelf = RealShelf::new(&rt, alloc);
-    ExitCode::from(command::run(alloc, words.as_slice(), &mut shelf, &mut out, &mut err))
-}
-
-/// Ends before the words are known: with the refusal's status, and its line on standard error.
-fn refuse(err: &mut RealSink, refusal: Refusal) -> ExitCode {
-    let _ = err.put(match refusal {
-        Refusal::Memory => b"memory\n",
-        _ => b"words\n",
-    });
-    ExitCode::from(refusal.status())
+    let mut out = RealSink::new(&rt, Stream::Output);
+    let mut err = RealSink::new(&rt, Stream::Fault);
+    ExitCode::from(run_given(alloc, given, &mut shelf, &mut out, &mut err))
 }
 
 #[cfg(test)]

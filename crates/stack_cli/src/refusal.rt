@@ -1,8 +1,8 @@
 //! Why a run refuses, with the status and the line of each refusal.
 
 ghost use Rattle.std.specs.Prelude.{◌≡◌, Some};
-ghost use Rattle.stack_cli.specs.Refusals.{input_word, part_word, axis_word, place_text, balance_of, place_view, status_of, line_of, refusal_view};
-ghost use Rattle.stack_cli.specs.Outcome.{from_read};
+ghost use Rattle.stack_cli.specs.Refusals.{input_word, part_word, axis_word, place_text, balance_of, place_view, status_of, line_of, refusal_view, faulty};
+ghost use Rattle.stack_cli.specs.Surveying.{from_read};
 ghost use Rattle.stack_cli.specs.declared.refusal.Refusal.TheVariants.{Memory};
 
 use crate::model_lines::{FaultText, number};
@@ -183,7 +183,7 @@ impl From<AllocError> for Refusal {
 }
 
 impl From<ReadError> for Refusal {
-    ghost from_gives = { λ e r. refusal_view r ≡ from_read e };
+    ghost from_gives = { λ e r. refusal_view r ≡ faulty (from_read e) };
 
     fn from(e: ReadError) -> Refusal {
         match e {

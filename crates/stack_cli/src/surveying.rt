@@ -1,14 +1,18 @@
-//! The survey of a model, whose refusals tell bodies by their names.
+//! The survey of the model in a file, whose refusals tell bodies by their names.
 
-ghost use Rattle.std.specs.Prelude.{◌≡◌, [], map, get_or, IfOk, string_bytes};
+ghost use Rattle.std.specs.Prelude.{◌≡◌, ◌≤◌, [], map, get_or, IfOk, string_bytes};
+ghost use Rattle.stack_outside.specs.Faults.{Rose};
 ghost use Rattle.stack_model.specs.ModelView.{model_view};
-ghost use Rattle.stack_cli.specs.Outcome.{body_names};
-ghost use Rattle.stack_cli.specs.Progress.{Fails, SurveysModel};
+ghost use Rattle.stack_cli.specs.Work.{surveys};
+ghost use Rattle.stack_cli.specs.Surveying.{body_names, survey_step, surveyed};
+ghost use Rattle.stack_cli.specs.Progress.{Does, DoesAlone, IsSeenSurvey, Fails};
 
+use crate::reading::model_file;
 use crate::refusal::Refusal;
 use stack_contact::survey;
 use stack_contact::types::{Survey, SurveyError};
 use stack_model::Model;
+use stack_outside::Shelf;
 use std::alloc::{AllocError, Global};
 
 /// The names of all bodies, in order.
@@ -33,8 +37,8 @@ fn name_at(names: &[String], i: usize) -> &str
 }
 
 /// The survey of a model. The model is consumed, so its names are read before.
-pub fn survey_model(alloc: Global, model: Model) -> Result<Survey, Refusal>
-    ensures gives { SurveysModel (model_view model) result }
+fn survey_model(alloc: Global, model: Model) -> Result<Survey, Refusal>
+    ensures does { DoesAlone IsSeenSurvey (surveys (model_view model) (survey_step (model_view model))) result }
     ensures no_file { Fails result ⊥ }
 {
     let names = names_of(alloc, &model)?;
@@ -46,5 +50,18 @@ pub fn survey_model(alloc: Global, model: Model) -> Result<Survey, Refusal>
         }),
         Err(SurveyError::TooManyBearings { count }) => Err(Refusal::ManyBearings { count }),
         Err(SurveyError::Memory) => Err(Refusal::Memory),
+    }
+}
+
+/// The survey of the model in a file.
+pub fn survey_file<F: Shelf>(alloc: Global, shelf: &mut F, name: &str) -> Result<Survey, Refusal>
+    ensures does { Does IsSeenSurvey (F.holds shelf.old) (surveyed name.now) (F.asked shelf.old) (F.asked shelf.new) result }
+    ensures holds { F.holds shelf.new ≡ F.holds shelf.old }
+    ensures later { F.faults shelf.old ≤ F.faults shelf.new }
+    ensures cause { Fails result (Rose (F.faults shelf.old) (F.faults shelf.new)) }
+{
+    match model_file(alloc, shelf, name) {
+        Ok(model) => survey_model(alloc, model),
+        Err(refusal) => Err(refusal),
     }
 }

@@ -1,25 +1,48 @@
-//! The program over devices in memory.
-
-mod texts;
+//! The program over devices in memory: each form once, the words as the runtime gives them, and devices that fail. All
+//! other rows are run on the real disk by the examples.
 
 use super::command::run;
+use super::given::{Given, run_given};
 use stack_outside::{MemoryShelf, MemorySink};
 use std::alloc::Global;
 use std::process::Abort;
 use std::test::*;
-use texts::*;
 
-/// A shelf with these two files under `model` and `certificate`, whose listed reads fail.
-fn shelf(
-    alloc: Global,
-    model: &str,
-    certificate: &str,
-    fails: Vec<u64>,
-) -> Result<MemoryShelf, Fail> {
+/// A post on level ground.
+const POST: &str = r#"[[material]]
+name = "stone"
+weight = 1
+friction = [1, 1]
+
+[[block]]
+name = "ground"
+material = "stone"
+fixed = true
+corners = [[-10, -1], [10, -1], [10, 0], [-10, 0]]
+
+[[block]]
+name = "post"
+material = "stone"
+corners = [[0, 0], [2, 0], [2, 4], [0, 4]]
+"#;
+
+/// Forces that carry it.
+const FORCES: &str = "stands\nforces 1 0\npush 24 0\npush 24 0\nend\n";
+
+/// Its contacts, as they are listed.
+const TABLE: &str =
+    "bearings 2\nbearing 1 ground post 0 0 1 0 1 1\nbearing 2 ground post 2 0 1 0 1 1\ntouches 0\n";
+
+const CHECK: [&str; 3] = ["check", "model", "certificate"];
+
+const CONTACTS: [&str; 2] = ["contacts", "model"];
+
+/// A shelf with the post under `model` and this text under `certificate`, whose listed reads fail.
+fn shelf(alloc: Global, certificate: &str, fails: Vec<u64>) -> Result<MemoryShelf, Fail> {
     let mut files = Vec::new(alloc);
     files.push((
         String::from_str(alloc, "model")?,
-        model.as_bytes().to_vec(alloc)?,
+        POST.as_bytes().to_vec(alloc)?,
     ))?;
     let name = String::from_str(alloc, "certificate")?;
     files.push((name, certificate.as_bytes().to_vec(alloc)?))?;
@@ -34,13 +57,13 @@ fn strings(alloc: Global, words: &[&str]) -> Result<Vec<String>, Fail> {
     Ok(strings)
 }
 
-/// Runs the program with these words over the shelf, and compares what it answers.
+/// Runs the program with these words over the shelf, and compares its status, its output and its error line.
 fn compare(
     rt: &impl Abort,
     alloc: Global,
     shelf: &mut MemoryShelf,
     words: &[&str],
-    said: Said,
+    said: (u8, &str, &str),
 ) -> Result<(), Fail> {
     let words = strings(alloc, words)?;
     let mut out = MemorySink::new(Vec::new(alloc), 1000)?;
@@ -52,155 +75,79 @@ fn compare(
     Ok(())
 }
 
-/// Runs `check model certificate` on these two files, and compares what it answers.
-fn judge(
-    rt: &impl Abort,
-    alloc: Global,
-    model: &str,
-    certificate: &str,
-    said: Said,
-) -> Result<(), Fail> {
-    let mut files = shelf(alloc, model, certificate, Vec::new(alloc))?;
-    compare(rt, alloc, &mut files, &CHECK, said)
-}
-
 #[test]
-fn certificates_of_posts_are_judged(rt: HostRuntime) -> Result<(), Fail> {
+fn each_form_is_answered(rt: HostRuntime) -> Result<(), Fail> {
     let alloc = rt.alloc();
-    for (certificate, said) in OF_STANDING_POST {
-        judge(&rt, alloc, STANDING_POST, certificate, said)?;
-    }
-    let pushed = format!(in alloc; "{STANDING_POST}{SIDE_LOAD}")?;
-    for (from, to, said) in OF_PUSHED_POST {
-        let certificate = TIPPING.replacen(alloc, from, to, 1)?;
-        judge(&rt, alloc, pushed.as_str(), certificate.as_str(), said)?;
-    }
-    let pressed = format!(in alloc; "{STANDING_POST}{LOAD_FROM_ABOVE}")?;
-    judge(&rt, alloc, pressed.as_str(), PRESSED, ACCEPTED)?;
-    let laden = format!(in alloc; "{STANDING_POST}{DEAD_LOADS}")?;
-    judge(&rt, alloc, laden.as_str(), LADEN, ACCEPTED)
-}
-
-#[test]
-fn certificates_of_a_block_on_a_slope_are_judged(rt: HostRuntime) -> Result<(), Fail> {
-    let alloc = rt.alloc();
-    for (friction, certificate, said) in OF_SLOPE {
-        let model = BLOCK_ON_SLOPE.replacen(alloc, "[3, 4]", friction, 1)?;
-        judge(&rt, alloc, model.as_str(), certificate, said)?;
-    }
-    Ok(())
-}
-
-#[test]
-fn contacts_are_listed(rt: HostRuntime) -> Result<(), Fail> {
-    let alloc = rt.alloc();
-    let mut bond = shelf(alloc, STACK_BOND, "", Vec::new(alloc))?;
-    compare(
-        &rt,
+    let mut files = shelf(alloc, FORCES, Vec::new(alloc))?;
+    compare(&rt, alloc, &mut files, &CHECK, (0, "accepted\n", ""))?;
+    assert_eq!(rt; files.asked().len(), 2);
+    compare(&rt, alloc, &mut files, &CONTACTS, (0, TABLE, ""))?;
+    assert_eq!(rt; files.asked().len(), 3);
+    let mut pulled = shelf(
         alloc,
-        &mut bond,
-        &CONTACTS,
-        (0, STACK_BOND_CONTACTS, ""),
+        "stands\nforces 1 0\npush -1 0\npush 24 0\nend\n",
+        Vec::new(alloc),
     )?;
-    let mut slope = shelf(alloc, BLOCK_ON_SLOPE, "", Vec::new(alloc))?;
-    compare(&rt, alloc, &mut slope, &CONTACTS, (0, SLOPE_CONTACTS, ""))?;
-    assert_eq!(rt; slope.asked().len(), 1);
-    let mut nothing = shelf(alloc, "", "", Vec::new(alloc))?;
     compare(
         &rt,
         alloc,
-        &mut nothing,
-        &CONTACTS,
-        (0, "bearings 0\ntouches 0\n", ""),
+        &mut pulled,
+        &CHECK,
+        (1, "rejected first push 1\n", ""),
     )
 }
 
 #[test]
-fn faults_of_the_model_are_told(rt: HostRuntime) -> Result<(), Fail> {
+fn words_without_a_form_ask_for_no_file(rt: HostRuntime) -> Result<(), Fail> {
     let alloc = rt.alloc();
-    for (from, to, said) in MODEL_FAULTS {
-        let model = STANDING_POST.replacen(alloc, from, to, 1)?;
-        judge(&rt, alloc, model.as_str(), UPRIGHT_FORCES, said)?;
-        let mut files = shelf(alloc, model.as_str(), "", Vec::new(alloc))?;
-        compare(&rt, alloc, &mut files, &CONTACTS, said)?;
-    }
-    Ok(())
-}
-
-#[test]
-fn words_and_absent_files_are_refused(rt: HostRuntime) -> Result<(), Fail> {
-    let alloc = rt.alloc();
-    let mut files = shelf(alloc, STANDING_POST, UPRIGHT_FORCES, Vec::new(alloc))?;
-    compare(&rt, alloc, &mut files, &[], WORDS)?;
-    compare(&rt, alloc, &mut files, &["help"], WORDS)?;
-    compare(&rt, alloc, &mut files, &["check", "model"], WORDS)?;
-    compare(&rt, alloc, &mut files, &["stand", "model"], WORDS)?;
-    compare(
-        &rt,
-        alloc,
-        &mut files,
-        &["contacts", "model", "more"],
-        WORDS,
-    )?;
-    compare(
-        &rt,
-        alloc,
-        &mut files,
+    let mut files = shelf(alloc, FORCES, Vec::new(alloc))?;
+    for words in [
+        &[] as &[&str],
+        &["check", "model"],
         &["check", "model", "certificate", "more"],
-        WORDS,
-    )?;
+    ] {
+        compare(&rt, alloc, &mut files, words, (2, "", "words\n"))?;
+    }
     assert_eq!(rt; files.asked().len(), 0);
-    compare(
-        &rt,
-        alloc,
-        &mut files,
-        &["check", "absent", "certificate"],
-        NO_MODEL,
-    )?;
-    assert_eq!(rt; files.asked().len(), 1);
-    compare(
-        &rt,
-        alloc,
-        &mut files,
-        &["check", "model", "absent"],
-        NO_CERTIFICATE,
-    )?;
-    assert_eq!(rt; files.asked().len(), 3);
     Ok(())
 }
 
 #[test]
-fn long_files_are_refused(rt: HostRuntime) -> Result<(), Fail> {
+fn words_are_taken_as_the_runtime_gives_them(rt: HostRuntime) -> Result<(), Fail> {
     let alloc = rt.alloc();
-    let long = "a".repeat(alloc, 262_145)?;
-    judge(
-        &rt,
-        alloc,
-        long.as_str(),
-        UPRIGHT_FORCES,
-        (4, "", "long model\n"),
-    )?;
-    judge(
-        &rt,
-        alloc,
-        STANDING_POST,
-        long.as_str(),
-        (4, "", "long certificate\n"),
-    )?;
-    let comment = "#".repeat(alloc, 262_144 - STANDING_POST.len())?;
-    let full = format!(in alloc; "{STANDING_POST}{comment}")?;
-    judge(&rt, alloc, full.as_str(), UPRIGHT_FORCES, ACCEPTED)
+    let mut files = shelf(alloc, FORCES, Vec::new(alloc))?;
+    let mut out = MemorySink::new(Vec::new(alloc), 100)?;
+    let mut err = MemorySink::new(Vec::new(alloc), 100)?;
+    let words = Given::Words(strings(alloc, &CHECK)?);
+    assert_eq!(rt; run_given(alloc, words, &mut files, &mut out, &mut err), 0);
+    assert_eq!(rt;
+        run_given(alloc, Given::Unreadable, &mut files, &mut out, &mut err),
+        2
+    );
+    assert_eq!(rt;
+        run_given(alloc, Given::Memory, &mut files, &mut out, &mut err),
+        11
+    );
+    assert_eq!(rt; out.written(), b"accepted\n".as_slice());
+    assert_eq!(rt; err.written(), b"words\nmemory\n".as_slice());
+    Ok(())
 }
 
 #[test]
 fn devices_that_fail_are_told_apart(rt: HostRuntime) -> Result<(), Fail> {
     let alloc = rt.alloc();
-    let mut first = shelf(alloc, STANDING_POST, UPRIGHT_FORCES, vec![in alloc; 1]?)?;
-    compare(&rt, alloc, &mut first, &CHECK, NO_MODEL)?;
-    let mut second = shelf(alloc, STANDING_POST, UPRIGHT_FORCES, vec![in alloc; 2]?)?;
-    compare(&rt, alloc, &mut second, &CHECK, NO_CERTIFICATE)?;
+    let mut first = shelf(alloc, FORCES, vec![in alloc; 1]?)?;
+    compare(&rt, alloc, &mut first, &CHECK, (3, "", "file model\n"))?;
+    let mut second = shelf(alloc, FORCES, vec![in alloc; 2]?)?;
+    compare(
+        &rt,
+        alloc,
+        &mut second,
+        &CHECK,
+        (3, "", "file certificate\n"),
+    )?;
     let words = strings(alloc, &CHECK)?;
-    let mut files = shelf(alloc, STANDING_POST, UPRIGHT_FORCES, Vec::new(alloc))?;
+    let mut files = shelf(alloc, FORCES, Vec::new(alloc))?;
     let mut out = MemorySink::new(vec![in alloc; (1, 3)]?, 100)?;
     let mut err = MemorySink::new(Vec::new(alloc), 100)?;
     assert_eq!(rt;

@@ -13,10 +13,5 @@ pub mod FoundSteps
 pub mod FoundPairs
 pub mod PairCases
 pub mod Frees
-pub mod LevelEdges
-pub mod Boxes
-pub mod BoxPoints
-pub mod CommonRanges
-pub mod BoxSides
-pub mod BoxCommons
-pub mod RectangleContacts
+pub mod SameLists
+pub mod OneSurvey

@@ -1,8 +1,9 @@
 //! The survey of a model, and what it tells.
 
-ghost use Rattle.std.specs.Prelude.{◌≡◌, ◌<◌, length, slice_index};
+ghost use Rattle.std.specs.Prelude.{◌≡◌, ◌<◌, ◌≤◌, false, length, slice_index};
+ghost use Rattle.stack_model.specs.Structure.{body_of};
 ghost use Rattle.stack_model.specs.ModelView.{model_view};
-ghost use Rattle.stack_contact.specs.FreeBlocks.{frees_of};
+ghost use Rattle.stack_contact.specs.FreeBlocks.{frees_of, free_of, frees_before};
 ghost use Rattle.stack_contact.specs.Surveyed.{Surveys, IsSurvey};
 
 use crate::lists::all_found;
@@ -52,9 +53,10 @@ impl Survey {
         self.touches.as_slice()
     }
 
-    /// The number of free blocks: of bodies that aren't fixed.
+    /// The number of free blocks: of bodies that aren't fixed. At most 128.
     pub fn free_count(&self) -> usize
-        ensures { result ≡ length (frees_of self.now.structure.bodies) }
+        ensures value { result ≡ length (frees_of self.now.structure.bodies) }
+        ensures few { result ≤ 128 }
     {
         let mut count = 0;
         for i in 0..self.model.bodies() {
@@ -70,6 +72,8 @@ impl Survey {
         requires { b < length (frees_of self.now.structure.bodies) }
         ensures number { result ≡ slice_index (frees_of self.now.structure.bodies) b }
         ensures body { result < length self.now.structure.bodies }
+        ensures free { (body_of self.now.structure result).fixed ≡ false }
+        ensures back { frees_before self.now.structure.bodies result ≡ b }
     {
         let mut left = b;
         for i in 0..self.model.bodies() {
@@ -81,5 +85,22 @@ impl Survey {
             }
         }
         unreachable!()
+    }
+
+    /// The number among the free blocks of body `i`, which isn't fixed.
+    pub fn free_number(&self, i: usize) -> usize
+        requires is_body { i < length self.now.structure.bodies }
+        requires free { (body_of self.now.structure i).fixed ≡ false }
+        ensures value { result ≡ frees_before self.now.structure.bodies i }
+        ensures within { result < length (frees_of self.now.structure.bodies) }
+        ensures back { free_of self.now.structure.bodies result ≡ i }
+    {
+        let mut count = 0;
+        for j in 0..i {
+            if !self.model.body(j).fixed {
+                count += 1;
+            }
+        }
+        count
     }
 }

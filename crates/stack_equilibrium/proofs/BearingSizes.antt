@@ -248,6 +248,7 @@ survey_proper s sound survey k l =
       second_exists = z.pair.is_body;
       first_before_second = z.pair.in_order;
       denominator_positive = positive (bearing_of s k).cone.q f.q_least;
+      numerator_nonneg = f.p_least;
     }
   where
     positive : (q : ℤ) → pos 1 ≼ q → pos 0 ≺ q

@@ -1,77 +1,25 @@
 -- The numbers of the free blocks: how many come before a body, and sums over them.
-use Rattle.std.proofs.Common.{◌≡◌, refl, sym, ap, ◌∙◌, ℕ, zero, suc, ◌+◌, ◌<◌, ℤ, pos, ◌+ℤ◌, Bool, true, false, cond, not, List, [], ◌∷◌, length, get_or, arith}
+use Rattle.std.proofs.Common.{◌≡◌, refl, sym, ap, ◌∙◌, ℕ, zero, suc, ◌+◌, ℤ, pos, ◌+ℤ◌, Bool, true, false, cond, not, List, [], ◌∷◌, length, get_or, arith}
 use Rattle.std.specs.Bool.{if◌then◌else◌}
 use Rattle.stack_algebra.specs.Sums.{sum_to}
 use Rattle.stack_algebra.proofs.Integers.{sums}
 use Rattle.stack_algebra.proofs.IntegerRing.{integers}
 use Rattle.stack_algebra.proofs.Sums.{sum_same, sum-first}
 use Rattle.stack_model.specs.Structure.{NamedBody, body_at}
-use Rattle.stack_contact.specs.FreeBlocks.{frees_from, frees_of}
+use Rattle.stack_contact.specs.FreeBlocks.{frees_from, frees_of, frees_before}
 use Rattle.stack_contact.specs.Surveyed.{Surveyed}
+use Rattle.stack_contact.proofs.Frees as contact
+use Rattle.stack_contact.proofs.Frees.{counted, counted_all}
 use Rattle.stack_equilibrium.specs.Certificates.{free_before}
 use Rattle.stack_equilibrium.specs.SurveyScene.{scene_of}
 
--- 1 for a free body
-abbrev pub one_if_free : NamedBody → ℕ
-one_if_free b = cond (not b.fixed) 1 0
-
--- how many of the first i are free
-abbrev pub counted : List NamedBody → ℕ → ℕ
-counted [] i = 0
-counted (b ∷ bs) zero = 0
-counted (b ∷ bs) (suc i) = one_if_free b + counted bs i
-
-counted_more : (bs : List NamedBody) (i : ℕ) → counted bs (suc i) ≡ counted bs i + one_if_free (body_at bs i)
-counted_more [] i = refl
-counted_more (b ∷ []) zero = omega arith
-counted_more (b ∷ c ∷ bs) zero = omega arith
-counted_more (b ∷ bs) (suc i) = ap (λ n. one_if_free b + n) (counted_more bs i)
-    ∙ moved (one_if_free b) (counted bs i) (one_if_free (body_at bs i))
-  where
-    moved : (a b c : ℕ) → a + (b + c) ≡ a + b + c
-    moved a b c = omega arith
+-- before a body of a survey are as many free ones as its structure lists before it
+pub before_is : (s : Surveyed) (i : ℕ) → free_before (scene_of s) i ≡ frees_before s.structure.bodies i
+before_is s zero = refl
+before_is s (suc i) = ap (λ n. n + cond (not (body_at s.structure.bodies i).fixed) 1 0) (before_is s i)
 
 pub before_is_counted : (s : Surveyed) (i : ℕ) → free_before (scene_of s) i ≡ counted s.structure.bodies i
-before_is_counted s zero = go s.structure.bodies
-  where
-    go : (bs : List NamedBody) → 0 ≡ counted bs 0
-    go [] = refl
-    go (b ∷ bs) = refl
-before_is_counted s (suc i) = ap (λ n. n + one_if_free (body_at s.structure.bodies i)) (before_is_counted s i)
-    ∙ sym (counted_more s.structure.bodies i)
-
--- a free body comes before the end of the list of free blocks
-counted_within : (bs : List NamedBody) (k i : ℕ) → i < length bs → (body_at bs i).fixed ≡ false →
-    counted bs i < length (frees_from k bs)
-counted_within [] k i l h = absurd (omega arith)
-counted_within (b ∷ bs) k zero l h = go b.fixed h
-  where
-    go : (f : Bool) → f ≡ false → 0 < length (if f then frees_from (k + 1) bs else k ∷ frees_from (k + 1) bs)
-    go true e = absurd (cc)
-    go false e = omega arith
-counted_within (b ∷ bs) k (suc i) l h = go b.fixed (counted_within bs (k + 1) i (omega arith) h)
-  where
-    go : (f : Bool) → counted bs i < length (frees_from (k + 1) bs) →
-        cond (not f) 1 0 + counted bs i < length
-        (if f then frees_from (k + 1) bs else k ∷ frees_from (k + 1) bs)
-    go true m = omega (arith, m)
-    go false m = omega (arith, m)
-
-pub before_is_within : (s : Surveyed) (i : ℕ) → i < length s.structure.bodies →
-    (body_at s.structure.bodies i).fixed ≡ false →
-    free_before (scene_of s) i < length (frees_of s.structure.bodies)
-before_is_within s i l h = rw (before_is_counted s i) (counted_within s.structure.bodies 0 i l h)
-
--- all of them are listed
-counted_all : (bs : List NamedBody) (k : ℕ) → counted bs (length bs) ≡ length (frees_from k bs)
-counted_all [] k = refl
-counted_all (b ∷ bs) k = go b.fixed (counted_all bs (k + 1))
-  where
-    go : (f : Bool) → counted bs (length bs) ≡ length (frees_from (k + 1) bs) →
-        cond (not f) 1 0 + counted bs (length bs)
-        ≡ length (if f then frees_from (k + 1) bs else k ∷ frees_from (k + 1) bs)
-    go true e = omega (arith, e)
-    go false e = omega (arith, e)
+before_is_counted s i = before_is s i ∙ contact.before_is_counted s.structure.bodies i
 
 pub all_before : (s : Surveyed) → free_before (scene_of s) (length s.structure.bodies)
     ≡ length (frees_of s.structure.bodies)

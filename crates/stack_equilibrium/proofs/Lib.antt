@@ -1,3 +1,4 @@
+pub mod BearingWork
 pub mod Work
 pub mod Mixtures
 pub mod CertificateLaws

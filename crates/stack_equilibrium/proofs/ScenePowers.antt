@@ -28,7 +28,8 @@ use Rattle.stack_equilibrium.specs.WrittenPowers.{with_product, with_work, with_
 use Rattle.stack_equilibrium.specs.Answers.{power_of}
 use Rattle.stack_equilibrium.proofs.InOrder.{bind_ok}
 use Rattle.stack_equilibrium.proofs.PlainSums.{made_is, steps_sum}
-use Rattle.stack_equilibrium.proofs.FreeNumbers.{counted, before_is_counted, over_bodies}
+use Rattle.stack_equilibrium.proofs.FreeNumbers.{before_is_counted, over_bodies}
+use Rattle.stack_contact.proofs.Frees.{counted}
 
 product_is : (so_far rate : Whole) (force : ℤ) (r : Whole) → with_product so_far rate force ≡ Ok r →
     r.value ≡ so_far.value +ℤ rate.value *ℤ force

@@ -6,6 +6,7 @@ use Rattle.std.proofs.Math.ListN.{get_or-map}
 use Rattle.stack_algebra.proofs.Integers.{expand, sums}
 use Rattle.stack_model.specs.Structure.{body_of}
 use Rattle.stack_contact.specs.declared.types.Bearing.{Bearing}
+use Rattle.stack_contact.specs.FreeBlocks.{frees_before}
 use Rattle.stack_contact.specs.Surveyed.{Surveyed}
 use Rattle.stack_certificate.specs.Certificate.{MotionValue}
 use Rattle.stack_equilibrium.specs.declared.types.VelocityWide.{VelocityWide}
@@ -24,6 +25,7 @@ use Rattle.stack_whole.specs.Whole.{made, whole}
 use Rattle.stack_equilibrium.specs.WrittenSums.{joint_at}
 use Rattle.stack_equilibrium.specs.WrittenVelocities.{block_move_at, at_rest, written_velocity, velocity_at, written_difference, written_normal, written_tangential, written_gap, gap_at, told_gap, written_opening}
 use Rattle.stack_equilibrium.specs.Answers.{AreRates}
+use Rattle.stack_equilibrium.proofs.FreeNumbers.{before_is}
 use Rattle.stack_equilibrium.proofs.InOrder.{bind_ok}
 use Rattle.stack_equilibrium.proofs.PlainSums.{made_is, both_is}
 
@@ -70,13 +72,14 @@ module _ (s : Surveyed) (y : MotionValue) (z : Bearing) where
       resting_y : (l : ℤ) → pos 0 ≡ pos 0 +ℤ pos 0 *ℤ l
       resting_y l = simp expand (omega (arith, sums))
 
-      told : move_of_triple (get_or y (free_before (scene_of s) i) (pos 0, pos 0, pos 0))
+      told : move_of_triple (get_or y (frees_before s.structure.bodies i) (pos 0, pos 0, pos 0))
           ≡ get_or (moves_of y) (free_before (scene_of s) i) still
-      told = sym (get_or-map move_of_triple y (free_before (scene_of s) i) (pos 0, pos 0, pos 0))
+      told = sym (get_or-map move_of_triple y (frees_before s.structure.bodies i) (pos 0, pos 0, pos 0))
+          ∙ ap (λ n. get_or (moves_of y) n still) (sym (before_is s i))
 
       go : (f : Bool) →
           (let r : Result Velocity Wide = if f then Ok at_rest
-          else written_velocity (block_move_at y (free_before (scene_of s) i))
+          else written_velocity (block_move_at y (frees_before s.structure.bodies i))
           (joint_at (first_corner_of s.structure i) z) in r) ≡ Ok v →
           Is v (along_x i (cond (not f) (get_or (moves_of y) (free_before (scene_of s) i) still) still))
           (along_y i (cond (not f) (get_or (moves_of y) (free_before (scene_of s) i) still) still))
@@ -89,7 +92,7 @@ module _ (s : Surveyed) (y : MotionValue) (z : Bearing) where
                 ∙ resting_y (z.at.x -ℤ (first_corner_of s.structure i).x);
           }
       go false e =
-          let k = block_velocity (block_move_at y (free_before (scene_of s) i))
+          let k = block_velocity (block_move_at y (frees_before s.structure.bodies i))
           (joint_at (first_corner_of s.structure i) z) v e in
           record { is_x = k.is_x ∙ ap (along_x i) told; is_y = k.is_y ∙ ap (along_y i) told }
 

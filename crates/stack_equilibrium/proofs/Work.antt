@@ -1,21 +1,21 @@
 -- The law of virtual work, and what follows: loads gain no power from a motion that no admissible force
 -- resists.
 use mathlib.Core.Path.{◌≡◌, refl, sym, ap, ◌∙◌}
-use mathlib.Core.Bool.{Bool, true, false, cond}
+use mathlib.Core.Bool.{Bool, true, false}
 use Prim.Native.Nat.{ℕ, zero, suc, ◌<◌}
 use native.Mathlib.Omega.{arith}
-use lib.Dec.{T, eqb, eqb→eq}
-use lib.IntN.{ℤ, pos, negsuc, ◌+ℤ◌, ◌-ℤ◌, ◌*ℤ◌, neg_ℤ}
+use lib.IntN.{ℤ, pos, ◌+ℤ◌, ◌*ℤ◌}
 use Rattle.stack_algebra.specs.Sums.{sum_to}
 use Rattle.stack_algebra.proofs.Integers.{expand, sums}
 use Rattle.stack_algebra.proofs.Order.{◌≼◌, power-nonneg}
 use Rattle.stack_algebra.proofs.Ring.{ring3, num, ◌⊕◌, ◌⊗◌}
 use Rattle.stack_algebra.proofs.IntegerRing.{integers}
-use Rattle.stack_algebra.proofs.Sums.{at, sum_same, sum_zero, sum_add, sum_scale, sum_at, sum_swap, sum_neg}
-use Rattle.stack_equilibrium.specs.Scene.{Move, Part, Body, Bearing, Scene, IsProperBearing, IsProper}
-use Rattle.stack_equilibrium.specs.Balance.{force_x_of, force_y_of, moment_of, side_of, sum_x_of, sum_y_of, sum_m_of, IsBalanced, IsAdmissible}
-use Rattle.stack_equilibrium.specs.Motions.{velocity_x_of, velocity_y_of, opening_of, slide_of, power_of, dead_power_of, live_power_of, KeepsFixedStill, IsUnresisted}
+use Rattle.stack_algebra.proofs.Sums.{sum_same, sum_zero, sum_add, sum_scale, sum_swap}
+use Rattle.stack_equilibrium.specs.Scene.{Move, Part, Body, Scene, IsProper}
+use Rattle.stack_equilibrium.specs.Balance.{force_x_of, force_y_of, moment_of, side_of, exerted_on, sum_x_of, sum_y_of, sum_m_of, IsBalanced, IsAdmissible}
+use Rattle.stack_equilibrium.specs.Motions.{opening_of, slide_of, power_of, dead_power_of, live_power_of, KeepsFixedStill, IsUnresisted}
 use Rattle.stack_equilibrium.specs.Laws.{VirtualWorkIsZero}
+use Rattle.stack_equilibrium.proofs.BearingWork.{exerted_power}
 
 -- three sums against a move, as one sum
 gathered : (n : ℕ) (u v r : ℤ) (f g h : ℕ → ℤ) →
@@ -26,12 +26,6 @@ gathered n u v r f g h =
     ∙ (λ i. sym (sum_add integers n (λ k. u *ℤ f k) (λ k. v *ℤ g k)) i +ℤ sum_to n (λ k. r *ℤ h k))
     ∙ sym (sum_add integers n (λ k. u *ℤ f k +ℤ v *ℤ g k) (λ k. r *ℤ h k))
 
--- a wrench against a move is the force against the velocity at its point
-turned : (s fx fy lx ly u v r : ℤ) →
-    u *ℤ (s *ℤ fx) +ℤ v *ℤ (s *ℤ fy) +ℤ r *ℤ (s *ℤ (lx *ℤ fy -ℤ ly *ℤ fx))
-    ≡ s *ℤ (fx *ℤ (u -ℤ r *ℤ ly) +ℤ fy *ℤ (v +ℤ r *ℤ lx))
-turned s fx fy lx ly u v r = simp expand (omega (arith, sums))
-
 -- the three sums of a body against its move: contact, dead and live loads apart
 apart : (u v r scale factor X Y M dx dy dm lx ly lm : ℤ) →
     u *ℤ (X +ℤ scale *ℤ dx +ℤ factor *ℤ lx) +ℤ v *ℤ (Y +ℤ scale *ℤ dy +ℤ factor *ℤ ly)
@@ -39,25 +33,6 @@ apart : (u v r scale factor X Y M dx dy dm lx ly lm : ℤ) →
     ≡ (u *ℤ X +ℤ v *ℤ Y +ℤ r *ℤ M) +ℤ scale *ℤ (u *ℤ dx +ℤ v *ℤ dy +ℤ r *ℤ dm) +ℤ factor *ℤ
     (u *ℤ lx +ℤ v *ℤ ly +ℤ r *ℤ lm)
 apart u v r scale factor X Y M dx dy dm lx ly lm = simp expand (omega (arith, sums))
-
--- the work of a part on both bodies of its bearing is that of a on the opening and of b on the slide
-split : (a b tx ty sx sy ex ey : ℤ) →
-    ((a *ℤ neg_ℤ ty +ℤ b *ℤ tx) *ℤ sx +ℤ (a *ℤ tx +ℤ b *ℤ ty) *ℤ sy)
-    +ℤ neg_ℤ ((a *ℤ neg_ℤ ty +ℤ b *ℤ tx) *ℤ ex +ℤ (a *ℤ tx +ℤ b *ℤ ty) *ℤ ey)
-    ≡ a *ℤ (neg_ℤ ty *ℤ (sx -ℤ ex) +ℤ tx *ℤ (sy -ℤ ey)) +ℤ b *ℤ (tx *ℤ (sx -ℤ ex) +ℤ ty *ℤ (sy -ℤ ey))
-split a b tx ty sx sy ex ey = simp expand (omega (arith, sums))
-
--- the side of a bearing as two unit numbers
-side-as_units : (i : ℕ) (x : ℤ) (z : Bearing) → z.first < z.second →
-    side_of i z *ℤ x ≡ at integers z.second x i +ℤ neg_ℤ (at integers z.first x i)
-side-as_units i x z l = go (eqb i z.second) (eqb i z.first) (eqb→eq i z.second) (eqb→eq i z.first)
-  where
-    go : (a b : Bool) → (T a → i ≡ z.second) → (T b → i ≡ z.first) →
-        cond a (pos 1) (cond b (negsuc 0) (pos 0)) *ℤ x ≡ cond a x (pos 0) +ℤ neg_ℤ (cond b x (pos 0))
-    go true true h g = absurd (omega (arith, l, h tt, g tt))
-    go true false h g = simp expand (omega (arith, sums))
-    go false true h g = simp expand (omega (arith, sums))
-    go false false h g = simp expand (omega (arith, sums))
 
 sum-nonneg : (n : ℕ) (g : ℕ → ℤ) → ((k : ℕ) → k < n → pos 0 ≼ g k) → pos 0 ≼ sum_to n g
 sum-nonneg zero g h = omega (arith, sums)
@@ -68,13 +43,7 @@ sum-nonneg (suc n) g h = both (sum_to n g) (g n) (sum-nonneg n g (λ k l. h k (o
     both a b h k = omega (arith, sums)
 
 module _ (s : Scene) (y : ℕ → Move) (f : ℕ → Part) where
-  -- the power of the part at bearing k on body i, taken as the later one
-  work : ℕ → ℕ → ℤ
-  work k i =
-      force_x_of (s.bearing k) (f k) *ℤ velocity_x_of s y (s.bearing k) i
-      +ℤ force_y_of (s.bearing k) (f k) *ℤ velocity_y_of s y (s.bearing k) i
-
-  -- and on both bodies
+  -- the power of the part at bearing k
   abbrev power_at : ℕ → ℤ
   power_at k = (f k).a *ℤ opening_of s y (s.bearing k) +ℤ (f k).b *ℤ slide_of s y (s.bearing k)
 
@@ -85,18 +54,15 @@ module _ (s : Scene) (y : ℕ → Move) (f : ℕ → Part) where
       +ℤ (y i).r *ℤ sum_m_of s f scale factor i
 
   work_on-is : (scale factor : ℤ) (i : ℕ) → work_on scale factor i
-      ≡ sum_to s.bearings (λ k. side_of i (s.bearing k) *ℤ work k i)
+      ≡ sum_to s.bearings (λ k. power_of (exerted_on s i (s.bearing k) (f k)) (y i))
       +ℤ scale *ℤ power_of (s.body i).dead (y i) +ℤ factor *ℤ power_of (s.body i).live (y i)
-  unfolding work_on work
+  unfolding work_on
   work_on-is scale factor i =
       apart m.u m.v m.r scale factor (sum_to s.bearings along) (sum_to s.bearings across)
       (sum_to s.bearings about)
       b.dead.fx b.dead.fy b.dead.m b.live.fx b.live.fy b.live.m
       ∙ ap (λ z. z +ℤ scale *ℤ power_of b.dead m +ℤ factor *ℤ power_of b.live m)
-      (gathered s.bearings m.u m.v m.r along across about
-      ∙ (λ j. sum_to s.bearings (λ k. let z = s.bearing k in
-      turned (side_of i z) (force_x_of z (f k)) (force_y_of z (f k)) (z.px -ℤ b.ox) (z.py -ℤ b.oy)
-      m.u m.v m.r j)))
+      (gathered s.bearings m.u m.v m.r along across about)
     where
       m : Move
       m = y i
@@ -140,33 +106,6 @@ module _ (s : Scene) (y : ℕ → Move) (f : ℕ → Part) where
           ∙ ring3 integers (λ u v r. (num (pos 0) ⊗ u ⊕ num (pos 0) ⊗ v ⊕ num (pos 0) ⊗ r, num (pos 0)))
           refl X Y M
 
-  at-work : (k j i : ℕ) → at integers j (work k i) i ≡ at integers j (work k j) i
-  at-work k j i = go (eqb i j) (eqb→eq i j)
-    where
-      go : (b : Bool) → (T b → i ≡ j) → cond b (work k i) (pos 0) ≡ cond b (work k j) (pos 0)
-      go true e = ap (work k) (e tt)
-      go false e = refl
-
-  -- what bearing k does on all bodies it does on its two
-  works : (k : ℕ) → IsProperBearing s (s.bearing k) →
-      sum_to s.bodies (λ i. side_of i (s.bearing k) *ℤ work k i) ≡ power_at k
-  unfolding work
-  works k t =
-      let z = s.bearing k in
-      let n = s.bodies in
-      let later = at integers z.second (work k z.second) in
-      let earlier = at integers z.first (work k z.first) in
-      sum_same integers n (λ i. side_of i z *ℤ work k i) (λ i. later i +ℤ neg_ℤ (earlier i))
-      (λ i l. side-as_units i (work k i) z t.first_before_second
-      ∙ (λ j. at-work k z.second i j +ℤ neg_ℤ (at-work k z.first i j)))
-      ∙ sum_add integers n later (λ i. neg_ℤ (earlier i))
-      ∙ ap (λ r. sum_to n later +ℤ r) (sum_neg integers n earlier)
-      ∙ (λ j. sum_at integers n z.second (work k z.second) t.second_exists j
-      +ℤ neg_ℤ (sum_at integers n z.first (work k z.first)
-      (omega (arith, t.second_exists, t.first_before_second)) j))
-      ∙ split (f k).a (f k).b z.tx z.ty (velocity_x_of s y z z.second) (velocity_y_of s y z z.second)
-      (velocity_x_of s y z z.first) (velocity_y_of s y z z.first)
-
   work_is_zero : (scale factor : ℤ) → IsProper s → IsBalanced s f scale factor → KeepsFixedStill s y →
       sum_to s.bearings power_at +ℤ scale *ℤ dead_power_of s y +ℤ factor *ℤ live_power_of s y ≡ pos 0
   work_is_zero scale factor proper balanced still =
@@ -179,7 +118,7 @@ module _ (s : Scene) (y : ℕ → Move) (f : ℕ → Part) where
       live i = power_of (s.body i).live (y i)
 
       touch : ℕ → ℕ → ℤ
-      touch i k = side_of i (s.bearing k) *ℤ work k i
+      touch i k = power_of (exerted_on s i (s.bearing k) (f k)) (y i)
 
       total : sum_to s.bodies (work_on scale factor)
           ≡ sum_to s.bearings power_at +ℤ scale *ℤ sum_to s.bodies dead +ℤ factor *ℤ sum_to s.bodies live
@@ -192,7 +131,7 @@ module _ (s : Scene) (y : ℕ → Move) (f : ℕ → Part) where
           +ℤ factor *ℤ sum_to s.bodies live)
           ∙ ap (λ r. r +ℤ scale *ℤ sum_to s.bodies dead +ℤ factor *ℤ sum_to s.bodies live)
           (sum_same integers s.bearings (λ k. sum_to s.bodies (λ i. touch i k)) power_at
-          (λ k l. works k (proper k l)))
+          (λ k l. exerted_power s y (s.bearing k) (f k) (proper k l)))
 
   -- loads gain no power from a motion that no admissible force resists
   pub loads_lose : (scale factor : ℤ) → IsProper s → IsAdmissible s f → IsBalanced s f scale factor →

@@ -1,14 +1,14 @@
 -- What the functions of a survey give, by the survey's scene. Free blocks are told by their numbers among the
 -- free ones, counted from 0.
-use Rattle.std.specs.Prelude.{◌≡◌, ℕ, ℤ, neg_ℤ, Bool, Ok, if◌then◌else◌, ◌*ℤ◌}
+use Rattle.std.specs.Prelude.{◌≡◌, ℕ, ℤ, Bool, Ok}
 use Rattle.stack_contact.specs.Surveyed.{Surveyed}
 use Rattle.stack_contact.specs.FreeBlocks.{free_of}
 use Rattle.stack_certificate.specs.Certificate.{ForcesValue, MotionValue}
 use Rattle.stack_equilibrium.specs.declared.types.Wrench.{Wrench}
 use Rattle.stack_equilibrium.specs.declared.types.Question.{Question}
 use Rattle.stack_equilibrium.specs.declared.types.Question.TheVariants.{Dead, Live}
-use Rattle.stack_equilibrium.specs.Scene.{Part, Move, Body, Bearing, Scene}
-use Rattle.stack_equilibrium.specs.Balance.{side_of, force_x_of, force_y_of, moment_of, sum_x_of, sum_y_of, sum_m_of}
+use Rattle.stack_equilibrium.specs.Scene.{Move, Body, Scene}
+use Rattle.stack_equilibrium.specs.Balance.{sum_x_of, sum_y_of, sum_m_of, edge_of_cone, exerted_on}
 use Rattle.stack_equilibrium.specs.Motions.{opening_of, slide_of, dead_power_of, live_power_of}
 use Rattle.stack_equilibrium.specs.SurveyScene.{scene_of}
 use Rattle.stack_equilibrium.specs.Held.{part_at, move_at}
@@ -29,18 +29,6 @@ pub record AreSums (s : Surveyed) (f : ForcesValue) (i : ℕ) (w : Wrench) : Typ
   pub x : w.fx ≡ sum_x_of (scene_of s) (part_at f) f.scale f.factor i
   pub y : w.fy ≡ sum_y_of (scene_of s) (part_at f) f.scale f.factor i
   pub m : w.m ≡ sum_m_of (scene_of s) (part_at f) f.scale f.factor i
-
--- the force q*normal + p*tangent, or q*normal - p*tangent
-abbrev pub edge_of_cone : Bearing → Bool → Part
-edge_of_cone z plus = record { a = z.q; b = if plus then z.p else neg_ℤ z.p }
-
--- what a part at a bearing exerts on body i: its opposite on the earlier body, and nothing on any other
-abbrev pub exerted_on : Scene → ℕ → Bearing → Part → Wrench
-exerted_on s i z f = record {
-  fx = side_of i z *ℤ force_x_of z f;
-  fy = side_of i z *ℤ force_y_of z f;
-  m = side_of i z *ℤ moment_of (s.body i) z f;
-}
 
 -- what an edge of the cone of bearing k exerts on body i
 abbrev pub column_of : Surveyed → ℕ → Bool → ℕ → Wrench

@@ -1,6 +1,6 @@
 -- Forces at the bearings: when they are admissible, and when they balance every free body.
 use mathlib.Core.Path.{◌≡◌}
-use mathlib.Core.Bool.{true, cond}
+use mathlib.Core.Bool.{Bool, true, cond}
 use Prim.Native.Nat.{ℕ, ◌<◌}
 use lib.Dec.{eqb}
 use lib.IntN.{ℤ, pos, negsuc, ◌+ℤ◌, ◌-ℤ◌, ◌*ℤ◌, neg_ℤ}
@@ -8,6 +8,7 @@ use Rattle.stack_algebra.specs.Sums.{sum_to}
 use Rattle.stack_algebra.specs.IntegerOrder.{◌≺◌}
 use Rattle.stack_frame.specs.Cones.{cone}
 use Rattle.stack_frame.specs.Admitted.{IsAdmitted}
+use Rattle.stack_equilibrium.specs.declared.types.Wrench.{Wrench}
 use Rattle.stack_equilibrium.specs.Scene.{Part, Body, Bearing, Scene}
 
 -- the force of a part on the later body: a times the normal (-ty, tx) plus b times the tangent (tx, ty)
@@ -41,6 +42,18 @@ abbrev pub sum_m_of : Scene → (ℕ → Part) → ℤ → ℤ → ℕ → ℤ
 sum_m_of s f scale factor i =
     sum_to s.bearings (λ k. side_of i (s.bearing k) *ℤ moment_of (s.body i) (s.bearing k) (f k))
     +ℤ scale *ℤ (s.body i).dead.m +ℤ factor *ℤ (s.body i).live.m
+
+-- the force q*normal + p*tangent, or q*normal - p*tangent
+abbrev pub edge_of_cone : Bearing → Bool → Part
+edge_of_cone z plus = record { a = z.q; b = cond plus z.p (neg_ℤ z.p) }
+
+-- what a part at a bearing exerts on body i: its opposite on the earlier body, and nothing on any other
+abbrev pub exerted_on : Scene → ℕ → Bearing → Part → Wrench
+exerted_on s i z f = record {
+  fx = side_of i z *ℤ force_x_of z f;
+  fy = side_of i z *ℤ force_y_of z f;
+  m = side_of i z *ℤ moment_of (s.body i) z f;
+}
 
 -- body i is in equilibrium: two sums of force and one of moment are 0
 pub record IsBalancedAt (s : Scene) (f : ℕ → Part) (scale factor : ℤ) (i : ℕ) : Type 0 where

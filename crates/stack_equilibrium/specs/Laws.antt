@@ -6,9 +6,9 @@ use Prim.Native.Nat.{ℕ}
 use lib.IntN.{ℤ, pos, ◌+ℤ◌, ◌*ℤ◌}
 use Rattle.stack_algebra.specs.Sums.{sum_to}
 use Rattle.stack_algebra.specs.IntegerOrder.{◌≼◌, ◌≺◌}
-use Rattle.stack_equilibrium.specs.Scene.{Part, Move, Scene, IsProper}
-use Rattle.stack_equilibrium.specs.Balance.{IsBalanced, Carries}
-use Rattle.stack_equilibrium.specs.Motions.{opening_of, slide_of, KeepsFixedStill, dead_power_of, live_power_of}
+use Rattle.stack_equilibrium.specs.Scene.{Part, Move, Bearing, Scene, IsProperBearing, IsProper}
+use Rattle.stack_equilibrium.specs.Balance.{exerted_on, IsBalanced, Carries}
+use Rattle.stack_equilibrium.specs.Motions.{opening_of, slide_of, KeepsFixedStill, power_of, dead_power_of, live_power_of}
 use Rattle.stack_polygon.specs.declared.point.Point.{Point}
 use Rattle.stack_equilibrium.specs.Loads.{weight_of, moved}
 use Rattle.stack_equilibrium.specs.Certificates.{Forces, IsTrueStands, IsTrueCollapse, IsTrueGreatest, IsTrueUnbounded}
@@ -20,6 +20,12 @@ VirtualWorkIsZero = (s : Scene) (f : ℕ → Part) (scale factor : ℤ) (y : ℕ
     IsProper s → IsBalanced s f scale factor → KeepsFixedStill s y →
     sum_to s.bearings (λ k. (f k).a *ℤ opening_of s y (s.bearing k) +ℤ (f k).b *ℤ slide_of s y (s.bearing k))
     +ℤ scale *ℤ dead_power_of s y +ℤ factor *ℤ live_power_of s y ≡ pos 0
+
+-- the force of a part does on a motion of both bodies of its bearing what a does on the opening and b on the slide,
+-- whether forces balance or not
+abbrev pub BearingsWork : Type 0
+BearingsWork = (s : Scene) (y : ℕ → Move) (z : Bearing) (f : Part) → IsProperBearing s z →
+    sum_to s.bodies (λ i. power_of (exerted_on s i z f) (y i)) ≡ f.a *ℤ opening_of s y z +ℤ f.b *ℤ slide_of s y z
 
 -- what stands is carried
 abbrev pub StandsIsCarried : Type 0

@@ -8,6 +8,7 @@ pub mod WorkedScenes
 pub mod Weights
 pub mod SurveyScene
 pub mod Held
+pub mod Truth
 pub mod WrittenSums
 pub mod WrittenVelocities
 pub mod WrittenPowers

@@ -4,7 +4,7 @@
 use mathlib.Core.Bool.{Bool}
 use Prim.Native.Nat.{ℕ, ◌<◌}
 use lib.IntN.{ℤ, pos}
-use Rattle.stack_algebra.specs.IntegerOrder.{◌≺◌}
+use Rattle.stack_algebra.specs.IntegerOrder.{◌≼◌, ◌≺◌}
 use Rattle.stack_equilibrium.specs.declared.types.Wrench.{Wrench}
 
 -- the velocity of a body's first corner, and its turning rate, counter-clockwise
@@ -45,11 +45,12 @@ pub record Scene : Type 0 where
   pub bearing : ℕ → Bearing
 
 -- a bearing lies between an earlier and a later body of the scene, and its coefficient has a positive
--- denominator
+-- denominator and no negative numerator
 pub record IsProperBearing (s : Scene) (z : Bearing) : Type 0 where
   pub second_exists : z.second < s.bodies
   pub first_before_second : z.first < z.second
   pub denominator_positive : pos 0 ≺ z.q
+  pub numerator_nonneg : pos 0 ≼ z.p
 
 -- what the laws need of a scene; every survey meets it
 abbrev pub IsProper : Scene → Type 0

@@ -4,6 +4,7 @@ use Rattle.std.specs.Prelude.{ℕ, ℤ, pos, ◌+ℤ◌, ◌-ℤ◌, ◌*ℤ◌,
 use Rattle.stack_algebra.specs.Steps.{◌>>=◌}
 use Rattle.stack_model.specs.Structure.{body_of}
 use Rattle.stack_contact.specs.declared.types.Bearing.{Bearing}
+use Rattle.stack_contact.specs.FreeBlocks.{frees_before}
 use Rattle.stack_contact.specs.Surveyed.{Surveyed}
 use Rattle.stack_certificate.specs.Certificate.{MotionValue}
 use Rattle.stack_equilibrium.specs.declared.types.VelocityWide.{VelocityWide}
@@ -14,8 +15,7 @@ use Rattle.stack_equilibrium.specs.declared.velocity.BlockMove.{BlockMove}
 use Rattle.stack_equilibrium.specs.declared.velocity.Velocity.{Velocity}
 use Rattle.stack_equilibrium.specs.declared.velocity.Gap.{Gap}
 use Rattle.stack_whole.specs.Whole.{made, whole}
-use Rattle.stack_equilibrium.specs.Certificates.{free_before}
-use Rattle.stack_equilibrium.specs.SurveyScene.{first_corner_of, bearing_of, scene_of}
+use Rattle.stack_equilibrium.specs.SurveyScene.{first_corner_of, bearing_of}
 use Rattle.stack_equilibrium.specs.WrittenSums.{joint_at}
 
 -- the move of free block number b
@@ -42,7 +42,7 @@ at_rest = record { x = whole (pos 0); y = whole (pos 0) }
 abbrev pub velocity_at : Surveyed → MotionValue → Bearing → ℕ → Result Velocity Wide
 velocity_at s y z i =
     if (body_of s.structure i).fixed then Ok at_rest
-    else written_velocity (block_move_at y (free_before (scene_of s) i))
+    else written_velocity (block_move_at y (frees_before s.structure.bodies i))
     (joint_at (first_corner_of s.structure i) z)
 
 -- the later body's velocity less the earlier's, along x and then along y

@@ -1,11 +1,13 @@
 //! The laws of statics, each a clause of a function that does nothing.
 
-ghost use Rattle.stack_equilibrium.specs.Laws.{VirtualWorkIsZero, AnyCornerWeighsTheSame, StandsIsCarried, CollapseExcludesBalance, GreatestIsCarried, GreatestBoundsEveryFactor, UnboundedCarriesAbove, UnboundedCarriesAll};
+ghost use Rattle.stack_equilibrium.specs.Laws.{BearingsWork, VirtualWorkIsZero, AnyCornerWeighsTheSame, StandsIsCarried, CollapseExcludesBalance, GreatestIsCarried, GreatestBoundsEveryFactor, UnboundedCarriesAbove, UnboundedCarriesAll};
 ghost use Rattle.stack_equilibrium.specs.WorkedScenes.{TrueOfWorkedScenes, FalseOfWorkedScenes};
 
-/// Balanced forces do no work on a motion of the free bodies. After Livesley (1978).
+/// A bearing's force does on a motion of both its bodies what its parts do on the opening and the slide, and
+/// balanced forces do no work on a motion of the free bodies. After Livesley (1978).
 pub fn virtual_work()
-    ensures { VirtualWorkIsZero }
+    ensures bearings { BearingsWork }
+    ensures balanced { VirtualWorkIsZero }
 {}
 
 /// What each true certificate says of the factors that are carried: the static and the kinematic theorem.

@@ -1,12 +1,10 @@
 //! How the bearings of a survey open and slide on a motion.
 
-ghost use Rattle.std.specs.Prelude.{◌≡◌, ◌<◌, length, IfOk, false};
-ghost use Rattle.stack_model.specs.Structure.{body_of};
+ghost use Rattle.std.specs.Prelude.{◌≡◌, ◌<◌, length, IfOk};
 ghost use Rattle.stack_contact.specs.ContactLists.{IsBearing};
 ghost use Rattle.stack_contact.specs.FreeBlocks.{frees_of};
 ghost use Rattle.stack_certificate.specs.Certificate.{motion_view};
-ghost use Rattle.stack_equilibrium.specs.Certificates.{free_before};
-ghost use Rattle.stack_equilibrium.specs.SurveyScene.{bearing_of, scene_of};
+ghost use Rattle.stack_equilibrium.specs.SurveyScene.{bearing_of};
 ghost use Rattle.stack_equilibrium.specs.WrittenVelocities.{block_move_at, velocity_at, gap_at, told_gap, written_opening};
 ghost use Rattle.stack_equilibrium.specs.Answers.{AreRates};
 
@@ -30,22 +28,6 @@ pub fn block_move(moves: &[(i128, i128, i128)], b: usize) -> BlockMove
     }
 }
 
-/// The number among the free blocks of body `i`, which is free.
-fn free_number(s: &Survey, i: usize) -> usize
-    requires is_body { i < length s.now.structure.bodies }
-    requires free { (body_of s.now.structure i).fixed ≡ false }
-    ensures value { result ≡ free_before (scene_of s.now) i }
-    ensures within { result < length (frees_of s.now.structure.bodies) }
-{
-    let mut count = 0;
-    for j in 0..i {
-        if !s.model().body(j).fixed {
-            count += 1;
-        }
-    }
-    count
-}
-
 /// The velocity of body `i` at a bearing.
 fn velocity_at(
     s: &Survey,
@@ -63,7 +45,7 @@ fn velocity_at(
     let outline = s.model().polygon(i);
     let _corners = outline.len();
     let joint = joint_of(outline.corner(0), z);
-    velocity_of(joint, block_move(moves, free_number(s, i)))
+    velocity_of(joint, block_move(moves, s.free_number(i)))
 }
 
 /// How a bearing of the survey opens and slides.

@@ -7,7 +7,7 @@ ghost use Rattle.stack_equilibrium.specs.Answers.{SumsAreThoseOfTheScene, RatesA
 use stack_contact::types::Survey;
 
 /// Each survey's scene meets the premise of the laws of certificates: each bearing lies between an earlier and
-/// a later body, and its coefficient has a positive denominator. Does nothing.
+/// a later body, and its coefficient has a positive denominator and no negative numerator. Does nothing.
 pub fn proper(s: &Survey)
     ensures { IsProper (scene_of s.now) }
 {

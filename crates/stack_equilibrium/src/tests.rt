@@ -1,6 +1,6 @@
 //! Small structures worked by hand: their loads, sums, openings, powers and columns.
 
-use crate::types::{Axis, PowerWide, Question, SumWide, VelocityWide, Wrench};
+use crate::types::{Question, SumWide, Wrench};
 use crate::{column, dead, live, opening, power, residue};
 use stack_certificate::types::{Forces, Motion};
 use stack_contact::survey;
@@ -40,8 +40,6 @@ const PUSH: Acting = Acting {
     at: &[0, 4],
     force: &[1, 0],
 };
-
-const MOST: i128 = i128::MAX;
 
 fn text(rt: &HostRuntime, word: &str) -> Result<String, Fail> {
     Ok(String::from_str(rt.alloc(), word)?)
@@ -158,60 +156,6 @@ fn the_pushed_post_tips_at_twice_the_push(rt: HostRuntime) -> Result<(), Fail> {
 }
 
 #[test]
-fn a_dead_load_stands_beside_the_weight(rt: HostRuntime) -> Result<(), Fail> {
-    let stone = Acting {
-        kind: "dead",
-        at: &[1, 4],
-        force: &[0, -1],
-    };
-    let s = surveyed(&rt, &[1, 1], &[GROUND, POST], &[stone, PUSH])?;
-    assert_eq!(rt; s.free_count(), 1);
-    assert_eq!(rt; dead(&s, 0), wrench(0, -54, -54));
-    assert_eq!(rt; live(&s, 0), wrench(6, 0, -24));
-    Ok(())
-}
-
-#[test]
-fn the_sliding_post_climbs_its_cone(rt: HostRuntime) -> Result<(), Fail> {
-    let s = surveyed(&rt, &[1, 10], &[GROUND, POST], &[PUSH])?;
-    let held = residue_of(&rt, &s, 25, 20, &[(360, -36), (840, -84)])?;
-    assert_eq!(rt; held, Ok(wrench(0, 0, 0)));
-    let slides = motion(&rt, 10, 1, 0)?;
-    assert_eq!(rt; s.free_count(), 1);
-    assert_eq!(rt; s.bearings().len(), 2);
-    assert_eq!(rt; slides.moves.len(), 1);
-    assert_eq!(rt; opening(&s, &slides, 1), Ok((1, 10)));
-    assert_eq!(rt; power(&s, &slides, Question::Live), Ok(60));
-    assert_eq!(rt; power(&s, &slides, Question::Dead), Ok(-48));
-    Ok(())
-}
-
-#[test]
-fn the_block_on_a_ramp_slips_along_it(rt: HostRuntime) -> Result<(), Fail> {
-    let ramp = Block {
-        name: "ramp",
-        fixed: true,
-        corners: &[[0, 0], [12, 0], [12, 9]],
-    };
-    let cube = Block {
-        name: "cube",
-        fixed: false,
-        corners: &[[4, 3], [8, 6], [5, 10], [1, 7]],
-    };
-    let s = surveyed(&rt, &[3, 4], &[ramp, cube], &[])?;
-    assert_eq!(rt; s.free_count(), 1);
-    assert_eq!(rt; s.bearings().len(), 2);
-    assert_eq!(rt; column(&s, 0, true, 0), wrench(0, 25, 0));
-    assert_eq!(rt; column(&s, 0, false, 0), wrench(-24, 7, 0));
-    assert_eq!(rt; column(&s, 1, true, 0), wrench(0, 25, 100));
-    let slips = motion(&rt, -61, -2, 0)?;
-    assert_eq!(rt; slips.moves.len(), 1);
-    assert_eq!(rt; opening(&s, &slips, 0), Ok((175, -250)));
-    assert_eq!(rt; power(&s, &slips, Question::Dead), Ok(300));
-    Ok(())
-}
-
-#[test]
 fn a_bearing_acts_on_both_bodies_and_on_no_other(rt: HostRuntime) -> Result<(), Fail> {
     let lower = Block {
         name: "lower",
@@ -229,19 +173,5 @@ fn a_bearing_acts_on_both_bodies_and_on_no_other(rt: HostRuntime) -> Result<(), 
     assert_eq!(rt; column(&s, 0, true, 1), wrench(0, 0, 0));
     assert_eq!(rt; column(&s, 2, true, 1), wrench(1, 2, 0));
     assert_eq!(rt; column(&s, 2, true, 0), wrench(-1, -2, 1));
-    Ok(())
-}
-
-#[test]
-fn numbers_that_pass_are_refused(rt: HostRuntime) -> Result<(), Fail> {
-    let s = surveyed(&rt, &[1, 1], &[GROUND, POST], &[])?;
-    assert_eq!(rt; s.free_count(), 1);
-    assert_eq!(rt; s.bearings().len(), 2);
-    let wide = residue_of(&rt, &s, 1, 0, &[(MOST, 0), (MOST, 0)])?;
-    assert_eq!(rt; wide, Err(SumWide { axis: Axis::Y }));
-    let turns = motion(&rt, 0, 0, MOST)?;
-    assert_eq!(rt; turns.moves.len(), 1);
-    assert_eq!(rt; opening(&s, &turns, 1), Err(VelocityWide));
-    assert_eq!(rt; power(&s, &turns, Question::Dead), Err(PowerWide));
     Ok(())
 }

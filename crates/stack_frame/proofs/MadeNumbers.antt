@@ -1,53 +1,22 @@
 -- What the numbers of a test against a cone show.
-use mathlib.Core.Path.{◌≡◌, sym, ap, subst, ◌∙◌}
+use mathlib.Core.Path.{◌≡◌, refl, sym, ap, subst, ◌∙◌}
 use mathlib.Core.Logic.{◌⊎◌, inl, inr}
-use Prim.Native.Nat.{zero, suc, ◌<◌, ◌≤◌, ◌^◌}
+use Prim.Native.Nat.{zero, suc, ◌≤◌, ◌^◌}
 use native.Mathlib.Omega.{arith}
 use lib.IntN.{ℤ, pos, negsuc, ◌*ℤ◌, nat_abs}
-use mir.Syntax.{w64, w128}
-use mir.Val.{SFits, to_z, of_z}
-use mir.Facts.{to_z-of_z}
-use Rattle.std.specs.Prelude.{false, int_le, int_lt, IsTrue, ◌↔◌}
+use Rattle.std.specs.Prelude.{Bool, false, int_le, int_lt, IsTrue, IfOk, IsErr, ◌↔◌, Result, Ok, Err}
 use Rattle.std.proofs.lemmas.Int.{ints}
 use Rattle.stack_algebra.specs.IntegerOrder.{◌≼◌, abs}
-use Rattle.stack_whole.specs.Whole.{Passes}
+use Rattle.stack_algebra.specs.Steps.{◌>>=◌}
+use Rattle.stack_whole.specs.declared.whole.Wide.{Wide}
+use Rattle.stack_whole.specs.declared.whole.Whole.{Whole}
+use Rattle.stack_whole.specs.Whole.{IsFitting, Passes, Makes, made}
+use Rattle.stack_whole.proofs.Making.{made-is}
 use Rattle.stack_frame.specs.declared.cone.Cone.{Cone}
-use Rattle.stack_frame.specs.Admitted.{IsAdmitted, IsTooWide, SizePassesWithItsProduct}
-
-pub narrow : {z : ℤ} → SFits w64 z → to_z w128 (of_z w128 (to_z w64 (of_z w64 z))) ≡ z
-narrow h = omega (arith, ints, h.sfits)
-
-pub not-negative : {z : ℤ} → SFits w128 z → int_lt (to_z w128 (of_z w128 z)) (pos 0) ≡ false → pos 0 ≼ z
-not-negative {z} f h = go z (ap (λ x. int_lt x (pos 0)) (sym (to_z-of_z f)) ∙ h)
-  where
-    go : (z : ℤ) → int_lt z (pos 0) ≡ false → pos 0 ≼ z
-    go z h = grind (arith, ints)
-
-pub within : {x y : ℤ} → x ≡ y → nat_abs y < 2 ^ 127 → nat_abs x < 2 ^ 127
-within e h = let k = ap nat_abs e in omega (arith, k)
-
--- the last number passes
-pub least-passes : (c : Cone) (a b q z : ℤ) → pos 0 ≼ a → q ≡ c.q → z ≡ abs b → Passes (q *ℤ z) → IsTooWide c a b
-least-passes c a b q z h eq ez p = record {
-  pushes = h;
-  passes = inr (inr (subst (λ n. n) (λ i. Passes (eq i *ℤ ez i)) p));
-}
-
--- no number passes
-pub none-passes : (c : Cone) (a b p q a' z : ℤ) → p ≡ c.p → q ≡ c.q → a' ≡ a → z ≡ abs b →
-    nat_abs (p *ℤ a') < 2 ^ 127 → nat_abs z < 2 ^ 127 → nat_abs (q *ℤ z) < 2 ^ 127 → ¬ (IsTooWide c a b)
-none-passes c a b p q a' z ep eq ea ez one two three h = go h.passes
-  where
-    not : (x y : ℤ) → x ≡ y → nat_abs x < 2 ^ 127 → Passes y → ⊥
-    not x y e h k = let m = ap nat_abs e in omega (arith, m)
-
-    go : Passes (c.p *ℤ a) ⊎ (Passes (abs b) ⊎ Passes (c.q *ℤ abs b)) → ⊥
-    go (inl h) = not (p *ℤ a') (c.p *ℤ a) (λ i. ep i *ℤ ea i) one h
-    go (inr (inl h)) = not z (abs b) ez two h
-    go (inr (inr h)) = not (q *ℤ z) (c.q *ℤ abs b) (λ i. eq i *ℤ ez i) three h
+use Rattle.stack_frame.specs.Admitted.{IsAdmitted, IsTooWide, SizePassesWithItsProduct, written_test}
 
 -- the test of the numbers
-pub test-is : (c : Cone) (a b u v : ℤ) → pos 0 ≼ a → u ≡ c.q *ℤ abs b → v ≡ c.p *ℤ a →
+test-is : (c : Cone) (a b u v : ℤ) → pos 0 ≼ a → u ≡ c.q *ℤ abs b → v ≡ c.p *ℤ a →
     IsTrue (int_le u v) ↔ IsAdmitted c a b
 test-is c a b u v h left right =
     (λ t. record { pushes = h; within = along (is u v t) }, λ k. test u v (back k.within))
@@ -66,6 +35,63 @@ test-is c a b u v h left right =
 
     back : c.q *ℤ abs b ≼ c.p *ℤ a → u ≼ v
     back h = equal (c.q *ℤ abs b) (c.p *ℤ a) u v (sym left) (sym right) h
+
+-- a number that fits doesn't pass
+not-both : (x y : ℤ) → x ≡ y → IsFitting x → ¬ (Passes y)
+not-both x y e h k = let m = ap nat_abs e in omega (arith, m)
+
+-- what an answer says of the force
+pub record Decides (c : Cone) (a b : ℤ) (r : Result Bool Wide) : Type 0 where
+  pub admits : IfOk r (λ holds. IsTrue holds ↔ IsAdmitted c a b)
+  pub wide : IsErr r ↔ IsTooWide c a b
+
+module _ (c : Cone) (a b : ℤ) (push : pos 0 ≼ a) where
+  too_wide : Passes (c.p *ℤ a) ⊎ (Passes (abs b) ⊎ Passes (c.q *ℤ abs b)) → (e : Wide) → Decides c a b (Err e)
+  too_wide p e = record { admits = tt; wide = (λ t. record { pushes = push; passes = p }, λ w. refl) }
+
+  third : (most tangential : Whole) → (most.value ≡ c.p *ℤ a) × IsFitting (c.p *ℤ a) →
+      (tangential.value ≡ abs b) × IsFitting (abs b) → (m : Result Whole Wide) → Makes (c.q *ℤ tangential.value) m →
+      Decides c a b (m >>= λ least. Ok (int_le least.value most.value))
+  third most tangential f s (Ok least) t = record {
+    admits = test-is c a b least.value most.value push (value t.0 ∙ ap (λ z. c.q *ℤ z) s.0) f.0;
+    wide = (λ e. absurd cc, λ w. absurd (go w.passes));
+  }
+    where
+      value : {z : ℤ} → least ≡ record { value = z } → least.value ≡ z
+      value e = ap (λ (w : Whole). w.value) e
+
+      go : Passes (c.p *ℤ a) ⊎ (Passes (abs b) ⊎ Passes (c.q *ℤ abs b)) → ⊥
+      go (inl h) = not-both (c.p *ℤ a) (c.p *ℤ a) refl f.1 h
+      go (inr (inl h)) = not-both (abs b) (abs b) refl s.1 h
+      go (inr (inr h)) = not-both (c.q *ℤ tangential.value) (c.q *ℤ abs b) (ap (λ z. c.q *ℤ z) s.0) t.1 h
+  third most tangential f s (Err e) p = too_wide (inr (inr (subst (λ z. Passes (c.q *ℤ z)) s.0 p))) e
+
+  second : (most : Whole) → (most.value ≡ c.p *ℤ a) × IsFitting (c.p *ℤ a) → (m : Result Whole Wide) →
+      Makes (abs b) m →
+      Decides c a b (m >>= λ tangential. (made (c.q *ℤ tangential.value) >>= λ least.
+      Ok (int_le least.value most.value)))
+  second most f (Ok tangential) t = third most tangential f (ap (λ (w : Whole). w.value) t.0, t.1)
+      (made (c.q *ℤ tangential.value)) (made-is (c.q *ℤ tangential.value))
+  second most f (Err e) p = too_wide (inr (inl p)) e
+
+  first : (m : Result Whole Wide) → Makes (c.p *ℤ a) m →
+      Decides c a b (m >>= λ most. (made (abs b) >>= λ tangential. (made (c.q *ℤ tangential.value) >>= λ least.
+      Ok (int_le least.value most.value))))
+  first (Ok most) t = second most (ap (λ (w : Whole). w.value) t.0, t.1) (made (abs b)) (made-is (abs b))
+  first (Err e) p = too_wide (inl p) e
+
+  test_decides : Decides c a b (written_test c a b)
+  unfolding written_test
+  test_decides = first (made (c.p *ℤ a)) (made-is (c.p *ℤ a))
+
+-- the answer of the test, where a is read as n
+pub decided : (c : Cone) (a b n : ℤ) (r : Result Bool Wide) → n ≡ a → int_lt n (pos 0) ≡ false → r ≡ written_test c a b →
+    Decides c a b r
+decided c a b n r e f is = subst (Decides c a b) (sym is)
+    (test_decides c a b (above a (ap (λ z. int_lt z (pos 0)) (sym e) ∙ f)))
+  where
+    above : (a : ℤ) → int_lt a (pos 0) ≡ false → pos 0 ≼ a
+    above a e = grind (arith, ints)
 
 pub size-passes : SizePassesWithItsProduct
 size-passes c a b h w = go w.passes

@@ -1,9 +1,10 @@
 -- The forces that a cone of friction admits, and the numbers of the test that are too wide for 128 bits.
-use Rattle.std.specs.Prelude.{◌≡◌, ◌⊎◌, ℤ, pos, ◌*ℤ◌, Result, Ok, Err}
+use Rattle.std.specs.Prelude.{◌⊎◌, ℤ, pos, ◌*ℤ◌, int_le, int_lt, Bool, false, Result, Ok, if◌then◌else◌}
 use Rattle.stack_algebra.specs.IntegerOrder.{◌≼◌, abs}
-use Rattle.stack_whole.specs.Whole.{IsFitting, Passes}
+use Rattle.stack_algebra.specs.Steps.{◌>>=◌}
+use Rattle.stack_whole.specs.declared.whole.Wide.{Wide}
+use Rattle.stack_whole.specs.Whole.{Passes, made}
 use Rattle.stack_frame.specs.declared.cone.Cone.{Cone}
-use Rattle.stack_frame.specs.declared.cone.ConeWide.{ConeWide}
 use Rattle.stack_frame.specs.Cones.{IsCoefficient}
 
 -- the force pushes with a along the normal, and stays within the cone with b along the tangent
@@ -21,7 +22,14 @@ abbrev pub SizePassesWithItsProduct : Type 0
 SizePassesWithItsProduct = (c : Cone) (a b : ℤ) → IsCoefficient c → IsTooWide c a b →
     Passes (c.p *ℤ a) ⊎ Passes (c.q *ℤ abs b)
 
--- the number, unless it passes
-abbrev pub Makes : ℤ → Result ℤ ConeWide → Type 0
-Makes z (Ok x) = (x ≡ z) × IsFitting z
-Makes z (Err e) = Passes z
+-- the numbers of the test in their order, and the test
+unfoldable pub written_test : Cone → ℤ → ℤ → Result Bool Wide
+written_test c a b = do
+  most ← made (c.p *ℤ a)
+  tangential ← made (abs b)
+  least ← made (c.q *ℤ tangential.value)
+  Ok (int_le least.value most.value)
+
+-- no number is made of a force that pulls
+abbrev pub written_admission : Cone → ℤ → ℤ → Result Bool Wide
+written_admission c a b = if int_lt a (pos 0) then Ok false else written_test c a b

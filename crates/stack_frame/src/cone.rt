@@ -1,11 +1,11 @@
 //! Cones of friction.
 
 ghost use Rattle.std.specs.Prelude.{◌≡◌, ◌↔◌, ◌*ℤ◌, int_le, IsTrue, IfOk, IsErr};
-ghost use Rattle.stack_algebra.specs.IntegerOrder.{abs};
 ghost use Rattle.stack_frame.specs.Cones.{IsCoefficient, IsLesser, cone, lesser_of, lowest};
-ghost use Rattle.stack_frame.specs.Admitted.{IsAdmitted, IsTooWide, Makes};
+ghost use Rattle.stack_frame.specs.Admitted.{IsAdmitted, IsTooWide, written_admission, written_test};
 
 use crate::divisor::common_divisor;
+use stack_whole::{Whole, Wide};
 
 /// A coefficient of friction, `p` over `q` in lowest terms.
 #[derive(Clone, Copy, Debug, PartialEq, Eq)]
@@ -16,45 +16,30 @@ pub struct Cone {
     pub q: i64,
 }
 
-/// A number of a test against a cone passes 2^127 - 1 in size.
-#[derive(Clone, Copy, Debug, PartialEq, Eq)]
-pub struct ConeWide;
-
 impl Cone {
     /// Whether a force with the part `a` along the normal and the part `b` along the tangent pushes and stays
-    /// within the cone: `a >= 0`, and `q` times the size of `b` is at most `p` times `a`. `ConeWide` exactly where
+    /// within the cone: `a >= 0`, and `q` times the size of `b` is at most `p` times `a`. `Wide` exactly where
     /// `a >= 0` and `p` times `a`, the size of `b` or `q` times that size passes 2^127 - 1 in size.
-    pub fn admits(self, a: i128, b: i128) -> Result<bool, ConeWide>
-        ensures admits { IfOk result (λ holds. IsTrue holds ↔ IsAdmitted self a b) }
-        ensures wide { IsErr result ↔ IsTooWide self a b }
+    pub fn admits(self, a: Whole, b: Whole) -> Result<bool, Wide>
+        ensures value { result ≡ written_admission self a.value b.value }
+        ensures admits { IfOk result (λ holds. IsTrue holds ↔ IsAdmitted self a.value b.value) }
+        ensures wide { IsErr result ↔ IsTooWide self a.value b.value }
     {
-        if a < 0 {
+        if a.value < 0 {
             return Ok(false);
         }
-        let most = product(self.p as i128, a)?;
-        let tangential = size(b)?;
-        let least = product(self.q as i128, tangential)?;
-        Ok(least <= most)
+        self.holds(a, b)
     }
-}
 
-/// The product of both.
-fn product(x: i128, y: i128) -> Result<i128, ConeWide>
-    ensures { Makes (x *ℤ y) result }
-{
-    match x.checked_mul(y) {
-        Some(z) => { if z == i128::MIN { Err(ConeWide) } else { Ok(z) } }
-        None => Err(ConeWide),
-    }
-}
-
-/// The size of a number.
-fn size(z: i128) -> Result<i128, ConeWide>
-    ensures { Makes (abs z) result }
-{
-    match z.checked_abs() {
-        Some(size) => Ok(size),
-        None => Err(ConeWide),
+    /// The same of a force that pushes.
+    #[tactic(auto, unfolding(crate::specs::Admitted::written_test))]
+    fn holds(self, a: Whole, b: Whole) -> Result<bool, Wide>
+        ensures { result ≡ written_test self a.value b.value }
+    {
+        let most = Whole::widened(self.p).product(a)?;
+        let tangential = b.size()?;
+        let least = Whole::widened(self.q).product(tangential)?;
+        Ok(least.value <= most.value)
     }
 }
 

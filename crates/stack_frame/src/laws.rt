@@ -15,7 +15,7 @@ pub fn one_cone()
     ensures { CoefficientsHaveOneLesser }
 {}
 
-/// Within the limits of a coefficient, `ConeWide` comes exactly of the two products.
+/// Within the limits of a coefficient, `Wide` comes exactly of the two products.
 pub fn wide_by_products()
     ensures { SizePassesWithItsProduct }
 {}

@@ -8,7 +8,7 @@ mod divisor;
 mod frame;
 mod laws;
 
-pub use cone::{Cone, ConeWide, cone_of};
+pub use cone::{Cone, cone_of};
 pub use frame::{Frame, frame_of};
 pub use laws::{one_cone, one_frame, wide_by_products};
 

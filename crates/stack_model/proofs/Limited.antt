@@ -3,7 +3,8 @@ use Rattle.std.proofs.Common.{◌≡◌, ℕ, ◌<◌, ℤ, pos, negsuc, Bool, t
 use Rattle.std.proofs.Common.{get_or}
 use Rattle.std.proofs.Common.{Some, None, refl, subst, arith}
 use Rattle.std.proofs.lemmas.Int.{ints}
-use Rattle.std.specs.Prelude.{int_le, if◌then◌else◌}
+use Rattle.std.specs.Prelude.{◌≤◌, int_le, nat_le, if◌then◌else◌}
+use Rattle.std.specs.List.{list_all}
 use Rattle.std.specs.Str.{bytes_eq}
 use Rattle.std.proofs.lemmas.Slice.Eq.{bytes_eq-Decides}
 use Rattle.std.proofs.lemmas.List.Quantifiers.{position-Some}
@@ -11,7 +12,7 @@ use Rattle.stack_algebra.proofs.Order.{◌≼◌}
 use Rattle.stack_polygon.specs.declared.point.Point.{Point}
 use Rattle.stack_polygon.specs.Limits.{IsInRange}
 use Rattle.stack_polygon.proofs.Ranges.{in_range}
-use Rattle.stack_model.specs.Limits.{is_between, friction_of, point_of, live_of, force_of}
+use Rattle.stack_model.specs.Limits.{IsName, is_name, is_name_byte, is_between, friction_of, point_of, live_of, force_of}
 use Rattle.stack_model.specs.Content.{number_of}
 use Rattle.stack_model.specs.Relisted.{coordinates, kind_of}
 use Rattle.stack_model.proofs.Points.{point_taken, point_again}
@@ -103,3 +104,13 @@ pub named : (name : List ℕ) (names : List (List ℕ)) (n : ℕ) → number_of 
     → name ≡ get_or names n []
 named name names n h = (bytes_eq-Decides name (get_or names n [])).0
     (position-Some (bytes_eq name) names n [] h).1
+
+-- a name that was taken
+pub is_a_name : (name : List ℕ) → is_name name ≡ true → IsName name
+is_a_name name h =
+    let a = and_parts (nat_le 1 (length name) && nat_le (length name) 32) (list_all is_name_byte name) h in
+    let b = and_parts (nat_le 1 (length name)) (nat_le (length name) 32) a.0 in
+    record { least = below 1 (length name) b.0; most = below (length name) 32 b.1; letters = a.1 }
+  where
+    below : (m n : ℕ) → nat_le m n ≡ true → m ≤ n
+    below m n h = grind (arith, ints)

@@ -2,7 +2,7 @@
 use Rattle.std.proofs.Common.{◌≡◌, ℕ, ◌<◌, ◌≤◌, ℤ, pos, Bool, true, false, not, List, [], ◌∷◌, ◌++◌, map}
 use Rattle.std.proofs.Common.{length}
 use Rattle.std.proofs.Common.{Option, Some, None, Result, Ok, Err, refl, sym, ap, ◌∙◌, subst, arith}
-use Rattle.std.specs.Prelude.{nat_le}
+use Rattle.std.specs.Prelude.{nat_le, nat_lt}
 use Rattle.std.specs.Bool.{⊤}
 use Rattle.std.proofs.lemmas.List.{length-map, get_or-map}
 use Rattle.std.proofs.lemmas.Int.{ints}
@@ -23,9 +23,10 @@ use Rattle.stack_model.specs.Content.{unless, at_most, ranged, found, is_new, is
 use Rattle.stack_model.specs.Content.{material_names, body_names, with_material, add_material, with_body}
 use Rattle.stack_model.specs.Content.{add_block, add_load, bodies_of, content_of}
 use Rattle.stack_model.specs.Relisted.{material_listed, body_listed, load_listed}
-use Rattle.stack_model.specs.Sound.{IsSound}
+use Rattle.stack_model.specs.Sound.{IsSound, AreDifferent, fixed_among, free_among}
+use Rattle.stack_model.proofs.Apart.{AreApart, HasRoom, no_names, no_bodies, one_more_material, one_more_body}
 use Rattle.stack_model.proofs.Points.{corners_taken, corners_again, outlined}
-use Rattle.stack_model.proofs.Limited.{between, coefficient, force, point, kind_again, number_below, named}
+use Rattle.stack_model.proofs.Limited.{between, coefficient, force, point, kind_again, number_below, named, is_a_name}
 use Rattle.stack_model.proofs.Growth.{Adds, grown}
 
 -- a test that held
@@ -78,7 +79,8 @@ material_runs a b c d e g s k o f to ha hb hc ho =
     >>= λ _. Ok (to f)
 
 material_adds : (i : ℕ) (ms : List NamedMaterial) (m : MaterialPart) (ns : List NamedMaterial)
-    → add_material i ms m ≡ Ok ns → Adds add_material IsWithinLimits material_listed i ms ns
+    → add_material i ms m ≡ Ok ns → Adds add_material IsWithinLimits (λ ms. AreDifferent (material_names ms))
+    material_listed i ms ns
 unfolding add_material with_material
 material_adds i ms m ns h =
     let made = λ (f : ℤ × ℤ). let r : NamedMaterial = record {
@@ -96,6 +98,7 @@ material_adds i ms m ns h =
       item = made s.terms;
       is = s.is;
       keeps = record {
+        named = is_a_name m.name s.named;
         least_weight = w.0;
         most_weight = w.1;
         least_p = c.p.0;
@@ -103,9 +106,16 @@ material_adds i ms m ns h =
         least_q = c.q.0;
         most_q = c.q.1;
       };
+      stays = λ h. subst (λ ms. AreDifferent (material_names ms)) s.is
+          (one_more_material ms (made s.terms) s.new h);
       again = material_runs _ _ _ _ _ _ _ _ _ s.terms
           (λ f. ms ++ made f ∷ []) s.named s.weighed s.new c.again ∙ ap Ok s.is;
     }
+
+-- there was room for one more body
+roomy : (fixed : Bool) (bs : List NamedBody) → has_room fixed bs ≡ Ok tt → HasRoom fixed bs
+roomy true bs h = let t = held (nat_lt (fixed_among bs) 64) _ tt h in grind (arith, ints)
+roomy false bs h = let t = held (nat_lt (free_among bs) 128) _ tt h in grind (arith, ints)
 
 -- the steps of a block
 record BlockSteps (a c : Bool) (o : Option (List Point)) (at : Option ℕ) (outline_of : List Point
@@ -165,7 +175,8 @@ block_runs a c d e g s k o at outline_of room to ps n qs ha hc ho hn hq hr =
     ∙ ap (λ q. q >>= λ qs. Ok (to n qs)) hq
 
 block_adds : (ms : List NamedMaterial) (i : ℕ) (bs : List NamedBody) (b : BlockPart) (cs : List NamedBody)
-    → add_block ms i bs b ≡ Ok cs → Adds (add_block ms) (IsPlaced (length ms)) (body_listed ms) i bs cs
+    → add_block ms i bs b ≡ Ok cs → Adds (add_block ms) (IsPlaced (length ms)) AreApart
+    (body_listed ms) i bs cs
 unfolding add_block with_body
 block_adds ms i bs b cs h =
     let made = λ (n : ℕ) (qs : List Point). let r : NamedBody = record {
@@ -187,7 +198,9 @@ block_adds ms i bs b cs h =
     record {
       item = made s.number s.outline;
       is = s.is;
-      keeps = record { has_material = below; polygon = o.polygon };
+      keeps = record { named = is_a_name b.name s.named; has_material = below; polygon = o.polygon };
+      stays = λ h. subst AreApart s.is
+          (one_more_body bs (made s.number s.outline) s.new (roomy b.fixed bs s.roomy) h);
       again = block_runs _ _ _ _ _ _ _ _ _ (convex i) _
           (λ n qs. bs ++ made n qs ∷ []) s.outline s.number s.outline s.named s.new
           (corners_again s.outline o.corners) (ap (λ name. number_of name (material_names ms)) same
@@ -257,7 +270,7 @@ not_fixed true h = absurd (cc)
 not_fixed false h = refl
 
 load_adds : (bs : List NamedBody) (i : ℕ) (ls : List Load) (l : LoadPart) (ns : List Load)
-    → add_load bs i ls l ≡ Ok ns → Adds (add_load bs) (IsBorne bs) (load_listed bs) i ls ns
+    → add_load bs i ls l ≡ Ok ns → Adds (add_load bs) (IsBorne bs) (λ _. ⊤) (load_listed bs) i ls ns
 unfolding add_load
 load_adds bs i ls l ns h =
     let made = λ (live : Bool) (c : Point) (f : ℤ × ℤ) (n : ℕ). let r : Load = record {
@@ -291,6 +304,7 @@ load_adds bs i ls l ns h =
         };
         free = not_fixed _ s.free;
       };
+      stays = λ _. tt;
       again = load_runs _ _ _ _ _ _ _ _ _ _ (λ n. is_free n bs)
           (λ live c f n. ls ++ made live c f n ∷ []) s.live s.point s.parts s.number
           (kind_again s.live) c.again f.again (ap (λ name. number_of name (body_names bs)) same
@@ -364,10 +378,11 @@ sound parts ms bs ls h some_loads loads =
     let s = list_steps (at_most 64 (length parts.materials) whats.Materials)
     (at_most 192 (length parts.blocks) whats.Blocks) (steps add_material 0 [] parts.materials)
     (λ ms. steps (add_block ms) 0 [] parts.blocks) (ms, bs) h in
-    let m = grown add_material IsWithinLimits material_listed material_adds parts.materials ms s.materials in
-    let b = grown (add_block ms) (IsPlaced (length ms)) (body_listed ms)
-    (block_adds ms) parts.blocks bs s.bodies in
-    let l = grown (add_load bs) (IsBorne bs) (load_listed bs) (load_adds bs) parts.loads ls loads in
+    let m = grown add_material IsWithinLimits (λ ms. AreDifferent (material_names ms)) material_listed
+    material_adds no_names parts.materials ms s.materials in
+    let b = grown (add_block ms) (IsPlaced (length ms)) AreApart (body_listed ms)
+    (block_adds ms) no_bodies parts.blocks bs s.bodies in
+    let l = grown (add_load bs) (IsBorne bs) (λ _. ⊤) (load_listed bs) (load_adds bs) tt parts.loads ls loads in
     let few_m = few 64 _ _ whats.Materials tt m.count s.few_materials in
     let few_b = few 192 _ _ whats.Blocks tt b.count s.few_bodies in
     let few_l = few 256 _ _ whats.Loads tt l.count some_loads in
@@ -381,7 +396,11 @@ sound parts ms bs ls h some_loads loads =
       free = λ i lt. (l.keeps i _ lt).free;
       few_materials = few_m.0;
       few_bodies = few_b.0;
+      few_free = (b.stays).few_free;
+      few_fixed = (b.stays).few_fixed;
       few_loads = few_l.0;
+      different_materials = m.stays;
+      different_bodies = (b.stays).different;
       again = whole_runs _ _ (λ both. steps (add_load both.1) 0 [] (map (load_listed bs) ls)) ms bs ls both
           (ap (λ n. at_most 256 n whats.Loads) (length-map ls (load_listed bs)) ∙ few_l.1) l.again;
     }

@@ -1,5 +1,5 @@
 -- The limits of names, numbers and lists: what their values mean, where they are within the limits.
-use Rattle.std.specs.Prelude.{ℕ, ℤ, pos, negsuc, Bool, true, false, ◌&&◌, ◌||◌, List, [], ◌∷◌, length}
+use Rattle.std.specs.Prelude.{◌≡◌, ℕ, ◌≤◌, ℤ, pos, negsuc, Bool, true, false, ◌&&◌, ◌||◌, List, [], ◌∷◌, length}
 use Rattle.std.specs.Prelude.{codes, Option, option_map, Some, None, nat_le, ◌==◌, int_le, if◌then◌else◌}
 use Rattle.std.specs.Str.{bytes_eq}
 use Rattle.std.specs.List.{list_all}
@@ -15,6 +15,11 @@ is_name_byte b =
 -- 1 to 32 of these
 abbrev pub is_name : List ℕ → Bool
 is_name bytes = nat_le 1 (length bytes) && nat_le (length bytes) 32 && list_all is_name_byte bytes
+
+pub record IsName (name : List ℕ) : Type 0 where
+  pub least : 1 ≤ length name
+  pub most : length name ≤ 32
+  pub letters : list_all is_name_byte name ≡ true
 
 abbrev pub is_between : ℤ → ℤ → ℤ → Bool
 is_between low high z = int_le low z && int_le z high

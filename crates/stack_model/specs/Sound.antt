@@ -1,9 +1,20 @@
 -- What holds of the structure of every model.
-use Rattle.std.specs.Prelude.{◌≡◌, ℕ, ◌<◌, ◌≤◌, false, length, Ok}
-use Rattle.stack_model.specs.Structure.{Structure, material_of, body_of, load_of}
+use Rattle.std.specs.Prelude.{◌≡◌, ℕ, ◌<◌, ◌≤◌, false, not, List, [], length, get_or, count_by, Ok}
+use Rattle.stack_model.specs.Structure.{NamedBody, Structure, material_of, body_of, load_of}
 use Rattle.stack_model.specs.Structure.{IsWithinLimits, IsPlaced, IsCarried}
-use Rattle.stack_model.specs.Content.{content_of}
+use Rattle.stack_model.specs.Content.{content_of, material_names, body_names}
 use Rattle.stack_model.specs.Relisted.{relisted}
+
+-- no two of these names are the same
+abbrev pub AreDifferent : List (List ℕ) → Type 0
+AreDifferent names = (i j : ℕ) → i < j → j < length names → ¬ (get_or names i [] ≡ get_or names j [])
+
+-- how many of these bodies are fixed, and how many are free
+abbrev pub fixed_among : List NamedBody → ℕ
+fixed_among bs = count_by (λ b. b.fixed) bs
+
+abbrev pub free_among : List NamedBody → ℕ
+free_among bs = count_by (λ b. not b.fixed) bs
 
 pub record IsSound (s : Structure) : Type 0 where
   pub materials : (i : ℕ) → i < length s.materials → IsWithinLimits (material_of s i)
@@ -13,6 +24,11 @@ pub record IsSound (s : Structure) : Type 0 where
   pub free : (i : ℕ) → i < length s.loads → (body_of s (load_of s i).body).fixed ≡ false
   pub few_materials : length s.materials ≤ 64
   pub few_bodies : length s.bodies ≤ 192
+  pub few_free : free_among s.bodies ≤ 128
+  pub few_fixed : fixed_among s.bodies ≤ 64
   pub few_loads : length s.loads ≤ 256
+  -- materials have different names, and so have bodies
+  pub different_materials : AreDifferent (material_names s.materials)
+  pub different_bodies : AreDifferent (body_names s.bodies)
   -- listed as a file lists it, it is taken without a fault and is the same
   pub again : content_of (relisted s) ≡ Ok s

@@ -1,11 +1,12 @@
 -- What a model describes: materials, bodies and loads, each a list in the order of the file. Used by every
 -- crate above.
-use Rattle.std.specs.Prelude.{ℕ, ◌<◌, ℤ, pos, negsuc, Bool, true, false, List, [], get_or}
+use Rattle.std.specs.Prelude.{◌≡◌, ℕ, ◌<◌, ℤ, pos, negsuc, Bool, true, false, List, [], get_or, length}
 use Rattle.stack_algebra.specs.IntegerOrder.{◌≼◌}
 use Rattle.stack_polygon.specs.declared.point.Point.{Point}
 use Rattle.stack_polygon.specs.Corners.{origin}
 use Rattle.stack_polygon.specs.Limits.{IsInRange, IsPolygon}
 use Rattle.stack_model.specs.declared.types.Load.{Load}
+use Rattle.stack_model.specs.Limits.{IsName}
 
 -- a material: its unit weight, and its coefficient of friction, p over q
 pub record NamedMaterial : Type 0 where
@@ -46,8 +47,9 @@ abbrev pub load_of : Structure → ℕ → Load
 load_of s i = get_or s.loads i (record { body = 0; live = false; at = origin; fx = pos 0; fy = pos 0 })
 
 -- The limits of every model.
--- weight from 0 to 1,000,000, p from 0 to 1,000, q from 1 to 1,000
+-- a name of 1 to 32 letters, digits, `_` and `-`, weight from 0 to 1,000,000, p from 0 to 1,000, q from 1 to 1,000
 pub record IsWithinLimits (m : NamedMaterial) : Type 0 where
+  pub named : IsName m.name
   pub least_weight : pos 0 ≼ m.weight
   pub most_weight : m.weight ≼ pos 1000000
   pub least_p : pos 0 ≼ m.p
@@ -55,8 +57,9 @@ pub record IsWithinLimits (m : NamedMaterial) : Type 0 where
   pub least_q : pos 1 ≼ m.q
   pub most_q : m.q ≼ pos 1000
 
--- one of so many materials, and the corners of a polygon
+-- such a name, one of so many materials, and the corners of a polygon
 pub record IsPlaced (materials : ℕ) (b : NamedBody) : Type 0 where
+  pub named : IsName b.name
   pub has_material : b.material < materials
   pub polygon : IsPolygon b.corners
 
@@ -68,3 +71,7 @@ pub record IsCarried (bodies : ℕ) (l : Load) : Type 0 where
   pub most_fx : l.fx ≼ pos 1000000000
   pub least_fy : negsuc 999999999 ≼ l.fy
   pub most_fy : l.fy ≼ pos 1000000000
+
+-- a load of kind `live` is listed
+abbrev pub HasLive : Structure → Type 0
+HasLive s = (i : ℕ) × ((i < length s.loads) × ((load_of s i).live ≡ true))

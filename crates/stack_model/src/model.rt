@@ -1,8 +1,9 @@
 //! A model: the lists of its materials, bodies and loads.
 
-ghost use Rattle.std.specs.Prelude.{◌≡◌, ◌<◌, ◌≤◌, false, length, map};
+ghost use Rattle.std.specs.Prelude.{◌≡◌, ◌↔◌, ◌<◌, ◌≤◌, IsTrue, false, length, map};
+ghost use Rattle.std.specs.List.{list_any};
 ghost use Rattle.stack_polygon.specs.Limits.{IsPolygon};
-ghost use Rattle.stack_model.specs.Structure.{listed, material_of, body_of, load_of, IsWithinLimits, IsCarried};
+ghost use Rattle.stack_model.specs.Structure.{listed, material_of, body_of, load_of, IsWithinLimits, IsCarried, HasLive};
 ghost use Rattle.stack_model.specs.Sound.{IsSound};
 ghost use Rattle.stack_model.specs.Kept.{material_view, body_view, material_alone, body_alone};
 ghost use Rattle.stack_model.specs.ModelView.{model_view};
@@ -30,6 +31,12 @@ impl std::marker::Model for Model {
     ghost view = { inside_view };
 
     ghost invariant = { λ m. IsSound (inside_view m) };
+}
+
+fn any_live(loads: &[Load]) -> bool
+    ensures { result ≡ list_any (λ l. l.live) loads.now }
+{
+    loads.iter().any(|load| load.live)
 }
 
 impl Model {
@@ -111,6 +118,13 @@ impl Model {
         ensures few { result ≤ 256 }
     {
         self.loads.len()
+    }
+
+    /// Whether a live load is listed.
+    pub fn has_live(&self) -> bool
+        ensures { IsTrue result ↔ HasLive (model_view self.now) }
+    {
+        any_live(self.loads.as_slice())
     }
 
     /// Load `i`; its body isn't fixed.

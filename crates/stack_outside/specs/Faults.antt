@@ -8,3 +8,7 @@ Rose before after = min (before + 1) (2 ^ 64 - 1) ≤ after
 -- One more, up to the greatest value.
 abbrev pub counted : ℕ → ℕ
 counted n = min (n + 1) (2 ^ 64 - 1)
+
+-- A count that was within its type stays there; a new device's is 0.
+abbrev pub StaysCounted : ℕ → ℕ → Type 0
+StaysCounted before after = before ≤ 2 ^ 64 - 1 → after ≤ 2 ^ 64 - 1

@@ -3,7 +3,7 @@
 ghost use Rattle.std.specs.Prelude.{◌≡◌, ◌≤◌, ◌==◌, Some, [], if◌then◌else◌};
 ghost use Rattle.std.specs.Option.{option_map};
 ghost use Rattle.std.specs.List.{list_any};
-ghost use Rattle.stack_outside.specs.Faults.{Rose, counted};
+ghost use Rattle.stack_outside.specs.Faults.{Rose, counted, StaysCounted};
 ghost use Rattle.stack_outside.specs.Held.{held_of, names_of};
 ghost use Rattle.stack_outside.specs.Shelves.{ReadGives, Records};
 
@@ -100,6 +100,7 @@ impl Shelf for MemoryShelf {
         ensures holds { shelf_holds self.new ≡ shelf_holds self.old }
         ensures asked { Records (Some (shelf_asked self.old)) (Some (shelf_asked self.new)) name.now result }
         ensures later { shelf_faults self.old ≤ shelf_faults self.new }
+        ensures bounded { StaysCounted (shelf_faults self.old) (shelf_faults self.new) }
         ensures cause { result ≡ Err ShelfError.Failed → Rose (shelf_faults self.old) (shelf_faults self.new) }
         // Which answer it is, unless memory is wanting.
         ensures exact { let listed = list_any (λ call. call == counted (shelf_calls self.old)) (shelf_fails self.old) in

@@ -1,7 +1,7 @@
 //! A sink in memory, whose listed calls fail.
 
 ghost use Rattle.std.specs.Prelude.{◌≡◌, ◌≤◌, ◌-◌, ◌++◌, Some, IfOk, OnErr, is_err, [], length, take, vec_capacity, if◌then◌else◌};
-ghost use Rattle.stack_outside.specs.Faults.{Rose, counted};
+ghost use Rattle.stack_outside.specs.Faults.{Rose, counted, StaysCounted};
 ghost use Rattle.stack_outside.specs.Held.{kept_of};
 ghost use Rattle.stack_outside.specs.Sinks.{Puts};
 
@@ -82,6 +82,7 @@ impl Sink for MemorySink {
     fn put(&mut self, piece: &[u8]) -> Result<(), SinkFailed>
         ensures puts { Puts (Some (sink_written self.old)) (Some (sink_written self.new)) piece.now result }
         ensures later { sink_faults self.old ≤ sink_faults self.new }
+        ensures bounded { StaysCounted (sink_faults self.old) (sink_faults self.new) }
         ensures cause { OnErr result (Rose (sink_faults self.old) (sink_faults self.new)) }
         // How many bytes it keeps, and whether it fails.
         ensures exact { let free = sink_room self.old - length (sink_written self.old) in

@@ -1,7 +1,9 @@
 //! The files of the system.
 
-ghost use Rattle.std.specs.Prelude.{◌≡◌, None};
-ghost use Rattle.stack_outside.specs.Faults.{counted};
+ghost use Rattle.std.specs.Prelude.{◌≡◌, ◌≤◌, ◌<◌, None, Err, if◌then◌else◌};
+ghost use Rattle.stack_outside.specs.Faults.{Rose, counted, StaysCounted};
+ghost use Rattle.stack_outside.specs.Shelves.{ReadGives, Records};
+ghost use Rattle.stack_outside.specs.Memory.{has_failed};
 
 use crate::error::ShelfError;
 use crate::shelf::Shelf;
@@ -51,7 +53,16 @@ impl<'a, R: Files> Shelf for RealShelf<'a, R> {
     ghost faults = { λ s. s.faults };
 
     /// Ends at the end of the file or after `most + 1` bytes. Each error of the system is a fault.
-    fn read(&mut self, name: &str, most: usize) -> Result<Vec<u8>, ShelfError> {
+    fn read(&mut self, name: &str, most: usize) -> Result<Vec<u8>, ShelfError>
+        requires { most < usize.MAX }
+        ensures gives { ReadGives None most result }
+        ensures asked { Records None None name.now result }
+        ensures later { self.old.faults ≤ self.new.faults }
+        ensures bounded { StaysCounted self.old.faults self.new.faults }
+        ensures cause { result ≡ Err ShelfError.Failed → Rose self.old.faults self.new.faults }
+        // The count rises exactly where the read fails.
+        ensures count { self.new.faults ≡ (if has_failed result then counted self.old.faults else self.old.faults) }
+    {
         let Ok(mut file) = fs::open(self.rt, name) else {
             return Err(self.fail());
         };

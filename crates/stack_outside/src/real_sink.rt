@@ -1,6 +1,8 @@
 //! The standard streams.
 
-ghost use Rattle.std.specs.Prelude.{◌≡◌, ◌<◌, ◌≤◌, None, IfSome, length};
+ghost use Rattle.std.specs.Prelude.{◌≡◌, ◌<◌, ◌≤◌, None, IfSome, OnErr, is_err, length, if◌then◌else◌};
+ghost use Rattle.stack_outside.specs.Faults.{Rose, counted, StaysCounted};
+ghost use Rattle.stack_outside.specs.Sinks.{Puts};
 
 use crate::error::SinkFailed;
 use crate::sink::Sink;
@@ -59,7 +61,14 @@ impl Sink for RealSink {
     ghost faults = { λ s. s.faults };
 
     /// Writes on until the whole piece is written. A write that takes nothing is a fault too.
-    fn put(&mut self, piece: &[u8]) -> Result<(), SinkFailed> {
+    fn put(&mut self, piece: &[u8]) -> Result<(), SinkFailed>
+        ensures puts { Puts None None piece.now result }
+        ensures later { self.old.faults ≤ self.new.faults }
+        ensures bounded { StaysCounted self.old.faults self.new.faults }
+        ensures cause { OnErr result (Rose self.old.faults self.new.faults) }
+        // The count rises exactly where the put fails.
+        ensures count { self.new.faults ≡ (if is_err result then counted self.old.faults else self.old.faults) }
+    {
         let mut rest = piece;
         while !rest.is_empty() {
             match self.write_some(rest) {

@@ -2,7 +2,7 @@
 
 ghost use Rattle.std.specs.Prelude.{◌≡◌, ◌<◌, ◌≤◌, ℕ, List};
 ghost use Rattle.std.specs.declared.option.Option.{Option};
-ghost use Rattle.stack_outside.specs.Faults.{Rose};
+ghost use Rattle.stack_outside.specs.Faults.{Rose, StaysCounted};
 ghost use Rattle.stack_outside.specs.Shelves.{ReadGives, Records};
 
 use crate::error::ShelfError;
@@ -24,5 +24,6 @@ pub trait Shelf {
         ensures holds { holds self.new ≡ holds self.old }
         ensures asked { Records (asked self.old) (asked self.new) name.now result }
         ensures later { faults self.old ≤ faults self.new }
+        ensures bounded { StaysCounted (faults self.old) (faults self.new) }
         ensures cause { result ≡ Err ShelfError.Failed → Rose (faults self.old) (faults self.new) };
 }

@@ -2,7 +2,7 @@
 
 ghost use Rattle.std.specs.Prelude.{◌≡◌, ◌≤◌, ℕ, List, OnErr};
 ghost use Rattle.std.specs.declared.option.Option.{Option};
-ghost use Rattle.stack_outside.specs.Faults.{Rose};
+ghost use Rattle.stack_outside.specs.Faults.{Rose, StaysCounted};
 ghost use Rattle.stack_outside.specs.Sinks.{Puts};
 
 use crate::error::SinkFailed;
@@ -19,5 +19,6 @@ pub trait Sink {
     fn put(&mut self, piece: &[u8]) -> Result<(), SinkFailed>
         ensures puts { Puts (written self.old) (written self.new) piece.now result }
         ensures later { faults self.old ≤ faults self.new }
+        ensures bounded { StaysCounted (faults self.old) (faults self.new) }
         ensures cause { OnErr result (Rose (faults self.old) (faults self.new)) };
 }

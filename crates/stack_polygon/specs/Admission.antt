@@ -7,9 +7,8 @@ use Rattle.std.specs.Prelude.{Result, Ok, Err, nat_le, if◌then◌else◌}
 use Rattle.stack_polygon.specs.declared.point.Point.{Point}
 use Rattle.stack_polygon.specs.declared.errors.PolygonError.{PolygonError}
 use Rattle.stack_polygon.specs.declared.errors.PolygonError.TheVariants.{Corners, Range, NotConvex}
-use Rattle.stack_polygon.specs.Corners.{corner_of, reversed, IsClear, IsStrictlyConvex}
+use Rattle.stack_polygon.specs.Corners.{corner_of, reversed, IsClear, IsStrictlyConvex, StandsFor}
 use Rattle.stack_polygon.specs.Limits.{IsInRange, AreInRange, is_in_range, are_in_range}
-use Rattle.stack_polygon.specs.Rectangles.{StandsFor}
 use Rattle.stack_polygon.specs.Outlines.{first_failing, outline_of}
 
 -- as many as a polygon has

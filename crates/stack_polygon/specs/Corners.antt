@@ -1,6 +1,7 @@
 -- Lists of corners: edges, strict convexity, the points inside, and the list in the other order.
 -- Edge i runs from corner i to the next one, and the last edge back to corner 0.
-use mathlib.Core.Logic.{◌≢◌}
+use mathlib.Core.Path.{◌≡◌}
+use mathlib.Core.Logic.{◌≢◌, ◌⊎◌}
 use mathlib.Core.List.{List, [], ◌∷◌}
 use Prim.Native.Nat.{ℕ, ◌<◌}
 use lib.IntN.{ℤ, pos}
@@ -46,3 +47,7 @@ IsStrictlyInside ps X = (i : ℕ) → i < length ps → pos 0 ≺ left_of (corne
 abbrev pub reversed : List Point → List Point
 reversed [] = []
 reversed (p ∷ ps) = p ∷ reverse ps
+
+-- a list stands for itself where it is strictly convex, and otherwise for its reversal
+abbrev pub StandsFor : List Point → List Point → Type 0
+StandsFor ps qs = (IsStrictlyConvex ps × (qs ≡ ps)) ⊎ ((¬ (IsStrictlyConvex ps)) × (qs ≡ reversed ps))

@@ -1,7 +1,6 @@
 pub mod Plane
 pub mod Corners
 pub mod Limits
-pub mod Rectangles
 pub mod Outlines
 pub mod Admission
 pub mod Area

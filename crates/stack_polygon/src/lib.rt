@@ -10,7 +10,6 @@ mod laws;
 mod lists;
 mod point;
 mod polygon;
-mod rectangle;
 mod turns;
 
 pub use errors::PolygonError;

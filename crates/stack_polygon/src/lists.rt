@@ -1,4 +1,4 @@
-//! Which lists of corners are strictly convex, and the list in the other order.
+//! Which lists of corners are strictly convex and in range, and the list in the other order.
 
 ghost use Rattle.std.specs.Prelude.{◌≡◌, ◌≤◌, ◌<◌, ◌↔◌, length, vec_len, IsTrue, MatchOption};
 ghost use Rattle.stack_algebra.specs.IntegerOrder.{◌≺◌};
@@ -6,10 +6,10 @@ ghost use lib.IntN.{pos};
 ghost use Rattle.stack_polygon.specs.Plane.{triangle_of};
 ghost use Rattle.stack_polygon.specs.Corners.{reversed, IsClear, IsStrictlyConvex};
 ghost use Rattle.stack_polygon.specs.Limits.{IsInRange, AreInRange};
+ghost use Rattle.stack_polygon.specs.Limits.{is_in_range as is_in_range_of, is_near as is_near_of};
 ghost use Rattle.stack_polygon.specs.Admission.{IsFirstFar, IsFirstUnclear};
 
 use crate::point::Point;
-use crate::rectangle::is_in_range;
 use crate::turns::{next, triangle};
 
 /// Whether `c` lies strictly left of the line from `a` to `b`.
@@ -52,6 +52,20 @@ pub fn first_unclear(corners: &[Point]) -> Option<usize>
         }
     }
     None
+}
+
+fn is_near(z: i64) -> bool
+    ensures { result ≡ is_near_of z }
+{
+    -1_000_000 <= z && z <= 1_000_000
+}
+
+/// Whether both coordinates are in -1,000,000 to 1,000,000.
+fn is_in_range(c: Point) -> bool
+    ensures value { result ≡ is_in_range_of c }
+    ensures fact { IsTrue result ↔ IsInRange c }
+{
+    is_near(c.x) && is_near(c.y)
 }
 
 /// The first corner that is out of range.

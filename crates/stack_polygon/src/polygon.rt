@@ -1,8 +1,7 @@
 //! Strictly convex polygons.
 
-ghost use Rattle.std.specs.Prelude.{◌≡◌, ◌<◌, length, IfSome, IfOk, MatchResult};
+ghost use Rattle.std.specs.Prelude.{◌≡◌, ◌<◌, length, IfOk, MatchResult};
 ghost use Rattle.stack_polygon.specs.Plane.{sign_of};
-ghost use Rattle.stack_polygon.specs.Rectangles.{rectangle_of, StandsFor};
 ghost use Rattle.stack_polygon.specs.Admission.{polygon_of, IsAdmitted, IsRefused};
 ghost use Rattle.stack_polygon.specs.Corners.{corner_of, side_of};
 ghost use Rattle.stack_polygon.specs.Limits.{IsInRange, IsPolygon};
@@ -13,7 +12,6 @@ use crate::errors::PolygonError;
 use crate::fan::fan;
 use crate::lists::{first_far, first_unclear, reverse};
 use crate::point::Point;
-use crate::rectangle::{are_in_range, is_rectangle, turn};
 use crate::turns::{next, triangle};
 use std::marker::Model;
 
@@ -62,22 +60,6 @@ impl Polygon {
                 }
             }
         }
-    }
-
-    /// The axis-parallel rectangle with these corners, which may go round it either way: a clockwise list is
-    /// reversed in place, and its first corner stays first. `None` exactly where a coordinate isn't in
-    /// -1,000,000 to 1,000,000, or the list isn't the four corners, in order round, of an axis-parallel
-    /// rectangle of positive area. Takes no memory.
-    pub fn rectangle(mut corners: Vec<Point>) -> Option<Polygon>
-        ensures value { result ≡ rectangle_of corners.items }
-        ensures stands { IfSome result (λ ps. StandsFor corners.items ps) }
-        ensures polygon { IfSome result (λ ps. IsPolygon ps) }
-    {
-        if !are_in_range(&corners) || !is_rectangle(&corners) {
-            return None;
-        }
-        turn(&mut corners);
-        Some(Polygon { corners })
     }
 
     /// The number of corners, 3 to 32.

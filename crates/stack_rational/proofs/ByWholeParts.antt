@@ -5,13 +5,13 @@ use native.Mathlib.Omega.{arith}
 use lib.IntN.{ℤ, pos, negsuc, nat_abs, neg_ℤ, ◌+ℤ◌, ◌-ℤ◌, ◌*ℤ◌}
 use lib.Signed.{quot_z, rem_z, lt_z_yes, lt_z_no}
 use mathlib.Core.Bool.{Bool, true, false, not}
-use Rattle.std.specs.Prelude.{int_lt, T}
+use Rattle.std.specs.Prelude.{int_lt, T, ◌↔◌}
 use Rattle.std.specs.declared.cmp.Ordering.{Ordering}
 use Rattle.std.specs.Ordering.{MatchOrdering}
 use Rattle.std.proofs.lemmas.Cmp.{int_ranked}
 use Rattle.stack_algebra.specs.Fraction.{Fraction}
 use Rattle.stack_algebra.proofs.Over.{over}
-use Rattle.stack_rational.specs.Stored.{InStep, IsStored}
+use Rattle.stack_rational.specs.Stored.{Split, InStep, IsStored}
 use Rattle.stack_rational.specs.Order.{order_of}
 use Rattle.stack_rational.proofs.Crosswise.{stored-num, stored-den}
 use Rattle.std.proofs.lemmas.Int.{ints, quot-rem}
@@ -37,12 +37,6 @@ cmp-shift x y u v h = go (int_cmp x y) (int_ranked x y (int_cmp x y) refl)
     go Less k = sym (cmp-less u v (omega (arith, sums, h, k)))
     go Equal k = sym (cmp-equal u v (omega (arith, sums, h, k)))
     go Greater k = sym (cmp-greater u v (omega (arith, sums, h, k)))
-
--- a is q times b and r, which is from 0 up and below b
-pub record Split (a b q r : ℤ) : Type 0 where
-  pub sum : q *ℤ b +ℤ r ≡ a
-  pub low : pos 0 ≼ r
-  pub below : r ≺ b
 
 rem-low : (a b : ℤ) → pos 0 ≼ a → pos 0 ≼ rem_z a b
 rem-low (pos a) b h = omega (arith, ints)
@@ -108,9 +102,9 @@ next-step m a b c d q p r s i u v hr hs = record {
   low_d = hr;
 }
 
-pub smaller-step : (b d r s a c q p : ℤ) → Split a b q r → Split c d p s → pos 0 ≼ r → pos 0 ≼ s →
+pub smaller-step : (b d r s a c q p : ℤ) → Split a b q r → Split c d p s →
     nat_abs s + nat_abs r < nat_abs b + nat_abs d
-smaller-step b d r s a c q p u v hr hs = omega (arith, ints, u.below, v.below, hr, hs)
+smaller-step b d r s a c q p u v = omega (arith, ints, u.below, v.below, u.low, v.low)
 
 pub yes-less : (x y : ℤ) (r : Bool) → r ≡ int_lt x y → r ≡ true → x ≺ y
 yes-less x y r e t = lt_z_yes (subst T (sym t ∙ e) tt)
@@ -118,13 +112,24 @@ yes-less x y r e t = lt_z_yes (subst T (sym t ∙ e) tt)
 pub no-less : (x y : ℤ) (r : Bool) → r ≡ int_lt x y → r ≡ false → y ≼ x
 no-less x y r e t = lt_z_no (subst (λ b. T (not b)) (sym t ∙ e) tt)
 
-pub both : (x y : ℤ) → y ≼ x → x ≼ y → x ≡ y
-both x y h k = omega (arith, ints, h, k)
+-- neither is less
+pub level : (x y : ℤ) (r t : Bool) → r ≡ int_lt x y → r ≡ false → t ≡ int_lt y x → t ≡ false → x ≡ y
+level x y r t e h f k = let a = no-less x y r e h in let b = no-less y x t f k in omega (arith, ints, a, b)
 
-pub above : (r : ℤ) → pos 0 ≼ r → ¬ (r ≡ pos 0) → pos 0 ≺ r
+-- so the rests are compared the other way round
+pub rests : (a b c d q p r s : ℤ) (o : Ordering) (t u : Bool) → int_cmp (a *ℤ d) (c *ℤ b) ≡ o →
+    Split a b q r → Split c d p s →
+    t ≡ int_lt q p → t ≡ false → u ≡ int_lt p q → u ≡ false → o ≡ int_cmp (d *ℤ r) (b *ℤ s)
+rests a b c d q p r s o t u is v w et nt eu nu = sym is ∙ turn a b c d q p r s v w (level q p t u et nt eu nu)
+
+above : (r : ℤ) → pos 0 ≼ r → ¬ (r ≡ pos 0) → pos 0 ≺ r
 above (pos zero) h k = absurd (k refl)
 above (pos (suc n)) h k = omega (arith, ints)
 above (negsuc n) h k = absurd (omega (arith, ints, h))
+
+-- a test for 0 that is false
+pub above-by : (r : ℤ) (b : Bool) → pos 0 ≼ r → (b ≡ true) ↔ (r ≡ pos 0) → b ≡ false → pos 0 ≺ r
+above-by r b l is e = above r l (λ z. let t = sym (is.1 z) ∙ e in cc)
 
 -- the order of what is stored
 pub stored-order : (m a b c d : ℤ) (x y : Fraction) → IsStored m a b → IsStored m c d → over a b ≡ x →

@@ -15,7 +15,7 @@ use Rattle.stack_algebra.specs.Fraction.{Fraction}
 use Rattle.stack_algebra.proofs.CommonDivisor.{gcd-is, gcd-left, gcd-right, gcd-pos, gcd-quotients, gcd-product, gcd-swap, dvd-gcd}
 use Rattle.stack_algebra.proofs.Fractions.{mul, mul-is, same_values}
 use Rattle.stack_algebra.proofs.Over.{over, over-is, over-lowest, IsLowest}
-use Rattle.stack_rational.specs.Stored.{Fits, IsStored, Within}
+use Rattle.stack_rational.specs.Stored.{Fits, IsStored, IsShared, Parts, Within}
 use Rattle.stack_rational.proofs.Steps.{div-abs}
 
 pub exact-part : (z : ℤ) (g : ℕ) → g ∣ nat_abs z → pos g *ℤ quot_z z (pos g) ≡ z
@@ -32,7 +32,7 @@ positive-part (pos n) g p h = go (n / g) (mul-div_cancel' g h)
 positive-part (negsuc n) g p h = absurd (omega (arith, ints, p))
 
 -- parts of numbers with no common divisor have none
-coprime-parts : (a b c d : ℕ) → c ∣ a → d ∣ b → gcd a b ≡ 1 → gcd c d ≡ 1
+pub coprime-parts : (a b c d : ℕ) → c ∣ a → d ∣ b → gcd a b ≡ 1 → gcd c d ≡ 1
 coprime-parts a b c d h k e = dvd-one.0
     (subst (λ x. gcd c d ∣ x) e (dvd-gcd a b (gcd c d) (dvd_trans (gcd c d) (gcd-left c d) h)
     (dvd_trans (gcd c d) (gcd-right c d) k)))
@@ -40,7 +40,7 @@ coprime-parts a b c d h k e = dvd-one.0
 part-divides : (a g : ℕ) → g ∣ a → a / g ∣ a
 part-divides a g h = subst (λ x. a / g ∣ x) (mul-div_cancel' g h) (dvd-mul_left (a / g) g)
 
-quotients : (a d g : ℕ) → 0 < d → IsGcd a d g → gcd (a / g) (d / g) ≡ 1
+pub quotients : (a d g : ℕ) → 0 < d → IsGcd a d g → gcd (a / g) (d / g) ≡ 1
 quotients a d g h is = let e = same_from_IsGcd a d (gcd a d) g (gcd-is a d) is in
     ap (λ k. gcd (a / k) (d / k)) (sym e) ∙ gcd-quotients a d (gcd-pos a d h)
 
@@ -56,13 +56,6 @@ crosswise a b c d g h a' b' c' d' p q r s = (λ i. (a' *ℤ c') *ℤ (sym q i *�
   where
     move : (a' *ℤ c') *ℤ ((h *ℤ b') *ℤ (g *ℤ d')) ≡ ((g *ℤ a') *ℤ (h *ℤ c')) *ℤ (b' *ℤ d')
     move = simp expand (omega (arith, sums))
-
--- the fraction x is N over D, in lowest terms
-pub record Parts (x : Fraction) (N D : ℤ) : Type 0 where
-  pub lowest : IsLowest N D
-  pub value : over N D ≡ x
-  pub num : x.num ≡ N
-  pub den : pos x.den ≡ D
 
 pub parts_of : (x : Fraction) (N D : ℤ) → IsLowest N D → over N D ≡ x → Parts x N D
 parts_of x N D low value = record {
@@ -124,38 +117,37 @@ product_by a b c d (pos g) (pos h) p q s t is js = product_of a b c d g h s t is
 product_by a b c d (negsuc g) h p q s t is js = absurd (omega (arith, ints, p))
 product_by a b c d (pos g) (negsuc h) p q s t is js = absurd (omega (arith, ints, q))
 
-pub product : (m a b c d g h p q r s : ℤ) (x y : Fraction) → IsStored m a b → IsStored m c d → over a b ≡ x →
-    over c d ≡ y → pos 0 ≤ℤ g → pos 0 ≤ℤ h → IsGcd (nat_abs a) (nat_abs d) (nat_abs g) →
-    IsGcd (nat_abs c) (nat_abs b) (nat_abs h) → p ≡ quot_z a g → q ≡ quot_z c h → r ≡ quot_z b h → s
-    ≡ quot_z d g → Parts (mul x y) (p *ℤ q) (r *ℤ s)
-product m a b c d g h p q r s x y u v k l hg hh is js ep eq er es = subst₂
-    (λ x y. Parts (mul x y) (p *ℤ q) (r *ℤ s)) k l
-    (subst₂ (Parts (mul (over a b) (over c d))) (λ i. sym ep i *ℤ sym eq i) (λ i. sym er i *ℤ sym es i)
-    (product_by a b c d g h hg hh u.lowest v.lowest is js))
+pub product : {m a b c d g h p q r s : ℤ} {x y : Fraction} → IsStored m a b → IsStored m c d → over a b ≡ x →
+    over c d ≡ y → IsShared m a d g p s → IsShared m c b h q r → Parts (mul x y) (p *ℤ q) (r *ℤ s)
+product {m} {a} {b} {c} {d} {g} {h} {p} {q} {r} {s} {x} {y} u v k l t w = subst₂ (λ x y. Parts (mul x y) (p *ℤ q) (r *ℤ s)) k l
+    (subst₂ (Parts (mul (over a b) (over c d))) (λ i. sym t.left i *ℤ sym w.left i)
+    (λ i. sym w.right i *ℤ sym t.right i)
+    (product_by a b c d g h (omega (arith, ints, t.positive)) (omega (arith, ints, w.positive)) u.lowest v.lowest
+    t.gcd w.gcd))
 
 -- what is stored where the parts fit, and what does not fit where one of them does not
-pub parts-stored : (m n d N D : ℤ) (x : Fraction) → Parts x N D → Within m N × (n ≡ N) → Within m D
+pub parts-stored : {m n d N D : ℤ} {x : Fraction} → Parts x N D → Within m N × (n ≡ N) → Within m D
     × (d ≡ D) → IsStored m n d
-parts-stored m n d N D x p u v = subst₂ (IsStored m) (sym u.1) (sym v.1)
+parts-stored {m} {n} {d} {N} {D} {x} p u v = subst₂ (IsStored m) (sym u.1) (sym v.1)
     record { lowest = p.lowest; num = u.0; den = v.0 }
 
-pub parts-value : (m n d N D : ℤ) (x : Fraction) → Parts x N D → Within m N × (n ≡ N) → Within m D × (d ≡ D) →
+pub parts-value : (m : ℤ) {n d N D : ℤ} {x : Fraction} → Parts x N D → Within m N × (n ≡ N) → Within m D × (d ≡ D) →
     over n d ≡ x
-parts-value m n d N D x p u v = (λ i. over (u.1 i) (v.1 i)) ∙ p.value
+parts-value m {n} {d} {N} {D} {x} p u v = (λ i. over (u.1 i) (v.1 i)) ∙ p.value
 
-pub parts-fit : (m n d N D : ℤ) (x : Fraction) → Parts x N D → Within m N × (n ≡ N) → Within m D × (d ≡ D) →
+pub parts-fit : {m n d N D : ℤ} {x : Fraction} → Parts x N D → Within m N × (n ≡ N) → Within m D × (d ≡ D) →
     Fits m x
-parts-fit m n d N D x p u v = record {
+parts-fit {m} {n} {d} {N} {D} {x} p u v = record {
   num = omega (arith, u.0, ap nat_abs p.num);
   den = omega
       (arith, v.0, ap nat_abs p.den);
 }
 
-pub num-passes : (m N D : ℤ) (x : Fraction) → Parts x N D → ¬ (Within m N) → ¬ (Fits m x)
-num-passes m N D x p h f = h (omega (arith, f.num, ap nat_abs p.num))
+pub num-passes : {m N D : ℤ} {x : Fraction} → Parts x N D → ¬ (Within m N) → ¬ (Fits m x)
+num-passes {m} {N} {D} {x} p h f = h (omega (arith, f.num, ap nat_abs p.num))
 
-pub den-passes : (m N D : ℤ) (x : Fraction) → Parts x N D → ¬ (Within m D) → ¬ (Fits m x)
-den-passes m N D x p h f = h (omega (arith, f.den, ap nat_abs p.den))
+pub den-passes : {m N D : ℤ} {x : Fraction} → Parts x N D → ¬ (Within m D) → ¬ (Fits m x)
+den-passes {m} {N} {D} {x} p h f = h (omega (arith, f.den, ap nat_abs p.den))
 
 -- a divisor of a positive number is positive
 pub positive-divisor : (a d g : ℤ) → pos 0 ≤ℤ g → pos 0 ≺ d → IsGcd (nat_abs a) (nat_abs d) (nat_abs g) →

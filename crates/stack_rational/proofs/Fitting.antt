@@ -7,7 +7,8 @@ use lib.IntN.{ℤ, pos, negsuc, nat_abs, ◌+ℤ◌, ◌*ℤ◌}
 use Rattle.std.proofs.lemmas.Int.{ints}
 use Rattle.std.proofs.lemmas.Bool.{le-leb, leb-true}
 use Rattle.std.proofs.Math.Nat.{div-le_self}
-use Rattle.std.specs.Prelude.{true, false, not}
+use Rattle.std.specs.Prelude.{ℕ, ◌^◌, true, false, not, nat_le, nat_lt}
+use Rattle.stack_whole.specs.Whole.{greatest_number}
 use Rattle.stack_algebra.specs.Ordered.{Sign, minus, nought, plus, opposite, both as product_sign, sign_of}
 use Rattle.stack_algebra.specs.Fraction.{Fraction, low_num, low_den}
 use Rattle.stack_algebra.specs.Gcd.{gcd}
@@ -22,7 +23,7 @@ use Rattle.stack_rational.specs.Stored.{Fits, SumFits}
 use Rattle.stack_rational.specs.declared.exact.Op.TheVariants.{Whole, Sum, Difference, Product, Quotient}
 use Rattle.stack_rational.specs.Order.{is_zero_whole, is_zero}
 use Rattle.stack_rational.specs.Passes.{IsWidth, is_within, fits, sum_fits, passes, common_denominator, left_term, right_term}
-use Rattle.stack_rational.specs.Laws.{AnswersFit, SmallFits}
+use Rattle.stack_rational.specs.Laws.{AnswersFit, SmallFits, WholePassesAtWidest}
 use Rattle.stack_rational.proofs.Conjunctions.{not-false, left_of, right_of, both}
 use Rattle.stack_rational.proofs.Crosswise.{exact-part, positive-part}
 use Rattle.stack_rational.proofs.Passing.{num_of, den_of}
@@ -225,3 +226,10 @@ answer_fits m Sum x y f h = sum_answers m x y (not-false _ h)
 answer_fits m Difference x y f h = sum_answers m x (neg y) (not-false _ h)
 answer_fits m Product x y f h = not-false _ h
 answer_fits m Quotient x y f h = not-false _ h
+
+-- at 128 bits: at most the greatest number, or below the next
+pub whole_passes_at_widest : WholePassesAtWidest
+whole_passes_at_widest n = ap (λ z. not (nat_le (nat_abs z) greatest_number)) (num_of n) ∙ ap not (same (nat_abs n))
+  where
+    same : (k : ℕ) → nat_le k greatest_number ≡ nat_lt k (2 ^ 127)
+    same k = grind arith

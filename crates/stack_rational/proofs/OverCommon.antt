@@ -1,11 +1,12 @@
 -- Lowest terms, and a sum over the least common denominator.
 use mathlib.Core.Path.{◌≡◌, sym, ap, subst, subst₂, ◌∙◌}
-use Prim.Native.Nat.{ℕ}
+use Prim.Native.Nat.{ℕ, ◌∣◌}
+use native.Mathlib.Nat.{dvd_trans, dvd-mul_left}
 use native.Mathlib.Omega.{arith}
 use lib.IntN.{ℤ, pos, negsuc, nat_abs, ◌+ℤ◌, ◌*ℤ◌}
-use lib.Signed.{quot_z, ◌≤ℤ◌}
+use lib.Signed.{quot_z}
 use Rattle.std.specs.Int.{IsGcd}
-use Rattle.std.proofs.lemmas.Int.{ints}
+use Rattle.std.proofs.lemmas.Int.{ints, unsigned_abs-mul}
 use Rattle.std.proofs.lemmas.Nat.Gcd.{same_from_IsGcd}
 use Rattle.stack_algebra.proofs.Integers.{expand, sums}
 use Rattle.stack_algebra.proofs.Order.{◌≺◌, mul_pos}
@@ -14,19 +15,33 @@ use Rattle.stack_algebra.specs.Fraction.{Fraction}
 use Rattle.stack_algebra.proofs.CommonDivisor.{gcd-is}
 use Rattle.stack_algebra.proofs.Fractions.{add, add-is, same_values}
 use Rattle.stack_algebra.proofs.Over.{over, over-is, over-lowest, over_own, over-quotients, lowest-over, IsLowest}
-use Rattle.stack_rational.specs.Stored.{IsStored, Within, CommonFits, SumFits}
-use Rattle.stack_rational.proofs.Crosswise.{Parts, parts_of, exact-part, positive-part}
+use Rattle.stack_rational.specs.Stored.{IsStored, IsShared, Parts, Within, CommonFits, SumFits}
+use Rattle.stack_rational.proofs.Crosswise.{parts_of, exact-part, positive-part}
+use Rattle.stack_rational.proofs.SharedDivisors.{shared_divides}
 
-pub lowest : (n d g p q : ℤ) → pos 0 ≺ d → pos 0 ≤ℤ g → IsGcd (nat_abs n) (nat_abs d) (nat_abs g) → p
-    ≡ quot_z n g → q ≡ quot_z d g → Parts (over n d) p q
-lowest n (pos d) (pos g) p q hd hg is ep eq =
-    let k = over-quotients n d g (omega (arith, ints, hd)) is in
-    let num : (over n (pos d)).num ≡ p = k.0 ∙ sym ep in
-    let den : pos (over n (pos d)).den ≡ q = ap pos k.1 ∙ sym eq in
+pub lowest : (m n d g p q : ℤ) → pos 0 ≺ d → IsShared m n d g p q → Parts (over n d) p q
+lowest m n (pos d) (pos g) p q hd s =
+    let k = over-quotients n d g (omega (arith, ints, hd)) s.gcd in
+    let num : (over n (pos d)).num ≡ p = k.0 ∙ sym s.left in
+    let den : pos (over n (pos d)).den ≡ q = ap pos k.1 ∙ sym s.right in
     parts_of (over n (pos d)) p q (subst₂ IsLowest num den (lowest-over (over n (pos d))))
     (subst₂ (λ u v. over u v ≡ over n (pos d)) num den (over_own (over n (pos d))))
-lowest n (negsuc d) g p q hd hg is ep eq = absurd (omega (arith, ints, hd))
-lowest n (pos d) (negsuc g) p q hd hg is ep eq = absurd (omega (arith, ints, hg))
+lowest m n (negsuc d) g p q hd s = absurd (omega (arith, ints, hd))
+lowest m n (pos d) (negsuc g) p q hd s = absurd (let h = s.positive in omega (arith, ints))
+
+-- a divisor of the numerator and of g, which divides the denominator and which each common divisor divides
+pub shared_by : (m n d g h p q : ℤ) → nat_abs g ∣ nat_abs d → ((e : ℕ) → e ∣ nat_abs n → e ∣ nat_abs d → e ∣ nat_abs g) →
+    IsGcd (nat_abs n) (nat_abs g) (nat_abs h) → pos 0 ≺ h → Within m h →
+    (p ≡ quot_z n h) × Within m p → (q ≡ quot_z d h) × Within m q → IsShared m n d h p q
+shared_by m n d g h p q inner outer is positive size ep eq = record {
+  gcd = (is.0, dvd_trans (nat_abs h) is.1 inner, λ e u v. is.2 e u (outer e u v));
+  positive = positive;
+  size = size;
+  left = ep.0;
+  right = eq.0;
+  left_size = ep.1;
+  right_size = eq.1;
+}
 
 sum_cross : (a c g p q : ℤ) → (a *ℤ q +ℤ c *ℤ p) *ℤ ((g *ℤ p) *ℤ (g *ℤ q))
     ≡ (a *ℤ (g *ℤ q) +ℤ c *ℤ (g *ℤ p)) *ℤ (p *ℤ (g *ℤ q))
@@ -40,7 +55,9 @@ sum_at a b c d p q g hb hd hp e f = same_values _ _ _ _ _ _
     (subst₂ (λ u v. (a *ℤ q +ℤ c *ℤ p) *ℤ (u *ℤ v) ≡ (a *ℤ v +ℤ c *ℤ u) *ℤ (p *ℤ v)) e f
     (sum_cross a c g p q))
 
-pub record Sum (m a b c d p q : ℤ) (x y : Fraction) : Type 0 where
+pub record Sum (m a b c d g p q : ℤ) (x y : Fraction) : Type 0 where
+  pub inner : nat_abs g ∣ nat_abs (p *ℤ d)
+  pub outer : (e : ℕ) → e ∣ nat_abs (a *ℤ q +ℤ c *ℤ p) → e ∣ nat_abs (p *ℤ d) → e ∣ nat_abs g
   pub value : over (a *ℤ q +ℤ c *ℤ p) (p *ℤ d) ≡ add x y
   pub positive : pos 0 ≺ p *ℤ d
   pub fits : CommonFits m a c d p q → SumFits m x y
@@ -48,8 +65,10 @@ pub record Sum (m a b c d p q : ℤ) (x y : Fraction) : Type 0 where
 
 sum_of : (m a b c d p q : ℤ) (g : ℕ) (x y : Fraction) → IsStored m a b → IsStored m c d → over a b ≡ x →
     over c d ≡ y → IsGcd (nat_abs b) (nat_abs d) g → p ≡ quot_z b (pos g) → q ≡ quot_z d (pos g) →
-    Sum m a b c d p q x y
+    Sum m a b c d (pos g) p q x y
 sum_of m a b c d p q g x y s t u v is ep eq = record {
+  inner = dvd_trans g is.1 (subst (λ n. nat_abs d ∣ n) (sym (unsigned_abs-mul p d)) (dvd-mul_left (nat_abs d) (nat_abs p)));
+  outer = shared_divides a b c d p q g s.lowest t.lowest is ep eq;
   value = sum_at a b c d p q (pos g) s.lowest.positive t.lowest.positive hp
       (ap (λ z. pos g *ℤ z) ep ∙ exact-part b g is.0) (ap (λ z. pos g *ℤ z) eq ∙ exact-part d g is.1)
       ∙ (λ i. add (u i) (v i));
@@ -86,23 +105,22 @@ sum_of m a b c d p q g x y s t u v is ep eq = record {
       (eq ∙ (λ j. quot_z (ed j) (pos (eg j)))) i,
     )
 
-pub sum : (m a b c d p q g : ℤ) (x y : Fraction) → IsStored m a b → IsStored m c d → over a b ≡ x → over c d
-    ≡ y → pos 0 ≤ℤ g → IsGcd (nat_abs b) (nat_abs d) (nat_abs g) → p ≡ quot_z b g → q ≡ quot_z d g →
-    Sum m a b c d p q x y
-sum m a b c d p q (pos g) x y s t u v hg is ep eq = sum_of m a b c d p q g x y s t u v is ep eq
-sum m a b c d p q (negsuc g) x y s t u v hg is ep eq = absurd (omega (arith, ints, hg))
+pub sum : {m a b c d g p q : ℤ} {x y : Fraction} → IsStored m a b → IsStored m c d → over a b ≡ x → over c d ≡ y →
+    IsShared m b d g p q → Sum m a b c d g p q x y
+sum {m} {a} {b} {c} {d} {g = pos g} {p} {q} {x} {y} s t u v h = sum_of m a b c d p q g x y s t u v h.gcd h.left h.right
+sum {m} {a} {b} {c} {d} {g = negsuc g} {p} {q} {x} {y} s t u v h = absurd (let k = h.positive in omega (arith, ints))
 
 -- what the code makes of the two terms l and r
-pub total-passes : (m a b c d p q l r : ℤ) (x y : Fraction) → Sum m a b c d p q x y →
+pub total-passes : {m a b c d g p q l r : ℤ} {x y : Fraction} → Sum m a b c d g p q x y →
     Within m (a *ℤ q) × (l ≡ a *ℤ q) → Within m (c *ℤ p) × (r ≡ c *ℤ p) → ¬ (Within m (l +ℤ r)) →
     ¬ (SumFits m x y)
-total-passes m a b c d p q l r x y s el er h f = h
+total-passes {m} {a} {b} {c} {d} {g} {p} {q} {l} {r} {x} {y} s el er h f = h
     (subst (Within m) (λ i. sym el.1 i +ℤ sym er.1 i) (s.at f).total)
 
-pub sum-fits : (m a b c d p q l r n e : ℤ) (x y : Fraction) → Sum m a b c d p q x y →
+pub sum-fits : {m a b c d g p q l r n e : ℤ} {x y : Fraction} → Sum m a b c d g p q x y →
     Within m (p *ℤ d) × (e ≡ p *ℤ d) → Within m (a *ℤ q) × (l ≡ a *ℤ q) → Within m (c *ℤ p) × (r ≡ c *ℤ p) →
     Within m (l +ℤ r) × (n ≡ l +ℤ r) → SumFits m x y
-sum-fits m a b c d p q l r n e x y s ee el er en = s.fits record {
+sum-fits {m} {a} {b} {c} {d} {g} {p} {q} {l} {r} {n} {e} {x} {y} s ee el er en = s.fits record {
   den = ee.0;
   left = el.0;
   right = er.0;
@@ -110,8 +128,19 @@ sum-fits m a b c d p q l r n e x y s ee el er en = s.fits record {
       (Within m) (λ i. el.1 i +ℤ er.1 i) en.0;
 }
 
-pub sum-value : (m a b c d p q l r n e : ℤ) (x y : Fraction) → Sum m a b c d p q x y →
+pub sum-value : {m a b c d g p q l r n e : ℤ} {x y : Fraction} → Sum m a b c d g p q x y →
     Within m (p *ℤ d) × (e ≡ p *ℤ d) → Within m (a *ℤ q) × (l ≡ a *ℤ q) → Within m (c *ℤ p) × (r ≡ c *ℤ p) →
     Within m (l +ℤ r) × (n ≡ l +ℤ r) → over n e ≡ add x y
-sum-value m a b c d p q l r n e x y s ee el er en = (λ i. over ((en.1 ∙ (λ j. el.1 j +ℤ er.1 j)) i) (ee.1 i))
+sum-value {m} {a} {b} {c} {d} {g} {p} {q} {l} {r} {n} {e} {x} {y} s ee el er en = (λ i. over ((en.1 ∙ (λ j. el.1 j +ℤ er.1 j)) i) (ee.1 i))
     ∙ s.value
+
+-- the numerator and the denominator that the code makes, for their common divisor
+pub total-inner : {m a b c d g p q e : ℤ} {x y : Fraction} → Sum m a b c d g p q x y → Within m (p *ℤ d) × (e ≡ p *ℤ d) →
+    (pos 0 ≺ e) × (nat_abs g ∣ nat_abs e)
+total-inner {m} {a} {b} {c} {d} {g} {p} {q} {e} {x} {y} s ee = subst (λ z. (pos 0 ≺ z) × (nat_abs g ∣ nat_abs z)) (sym ee.1) (s.positive, s.inner)
+
+pub total-outer : {m a b c d g p q l r n e : ℤ} {x y : Fraction} → Sum m a b c d g p q x y →
+    Within m (p *ℤ d) × (e ≡ p *ℤ d) → Within m (a *ℤ q) × (l ≡ a *ℤ q) → Within m (c *ℤ p) × (r ≡ c *ℤ p) →
+    Within m (l +ℤ r) × (n ≡ l +ℤ r) → (k : ℕ) → k ∣ nat_abs n → k ∣ nat_abs e → k ∣ nat_abs g
+total-outer {m} {a} {b} {c} {d} {g} {p} {q} {l} {r} {n} {e} {x} {y} s ee el er en k h i = s.outer k
+    (subst (λ z. k ∣ nat_abs z) (en.1 ∙ (λ j. el.1 j +ℤ er.1 j)) h) (subst (λ z. k ∣ nat_abs z) ee.1 i)

@@ -15,7 +15,8 @@ use Rattle.stack_algebra.specs.IntegerOrder.{◌≺◌}
 use Rattle.stack_algebra.specs.Fraction.{Fraction}
 use Rattle.stack_rational.specs.Stored.{Within}
 use Rattle.stack_rational.specs.Laws.{widest}
-use Rattle.stack_rational.specs.CommonScale.{common_multiple, scale_of, greatest_number, IsFirstPassing}
+use Rattle.stack_whole.specs.Whole.{greatest_number}
+use Rattle.stack_rational.specs.CommonScale.{common_multiple, scale_of, IsFirstPassing}
 use Rattle.stack_rational.proofs.Multiples.{scale_of-more, scale_positive}
 
 -- s is the scale of the first i items, and none before passed

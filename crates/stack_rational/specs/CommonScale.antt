@@ -1,7 +1,8 @@
 -- The common scale of a list of fractions: the least common multiple of their denominators.
-use Rattle.std.specs.Prelude.{◌≡◌, ℤ, pos, ◌*ℤ◌, ℕ, ◌+◌, ◌-◌, ◌*◌, ◌/◌, ◌^◌, ◌<◌, ◌≤◌, List, [], ◌∷◌, length, take}
+use Rattle.std.specs.Prelude.{◌≡◌, ℤ, pos, ◌*ℤ◌, ℕ, ◌+◌, ◌*◌, ◌/◌, ◌<◌, ◌≤◌, List, [], ◌∷◌, length, take}
 use Rattle.std.specs.List.{AllByRecursion}
 use Prim.Native.Nat.{◌∣◌}
+use Rattle.stack_whole.specs.Whole.{greatest_number}
 use Rattle.stack_algebra.specs.Gcd.{gcd}
 use Rattle.stack_algebra.specs.Fraction.{Fraction}
 use Rattle.stack_algebra.proofs.Fractions.{mul, of}
@@ -18,10 +19,6 @@ scale_of (x ∷ xs) = common_multiple x.den (scale_of xs)
 -- a number times a scale that its denominator divides
 abbrev pub times_scale : ℕ → Fraction → ℤ
 times_scale S x = x.num *ℤ pos (S / x.den)
-
--- the greatest number that fits 128 bits
-abbrev pub greatest_number : ℕ
-greatest_number = 2 ^ 127 - 1
 
 -- item i is the first at which the running multiple, that of the items up to it, passes
 pub record IsFirstPassing (xs : List Fraction) (i : ℕ) : Type 0 where

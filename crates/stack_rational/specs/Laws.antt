@@ -1,6 +1,7 @@
 -- Laws of what passes and of the order.
-use Rattle.std.specs.Prelude.{◌≡◌, ◌↔◌, ℤ, pos, ◌-◌, ◌^◌, true, false, unsigned_abs, ◌≤◌}
+use Rattle.std.specs.Prelude.{◌≡◌, ◌↔◌, ℤ, pos, true, false, not, unsigned_abs, ◌≤◌}
 use Rattle.std.specs.declared.cmp.Ordering.TheVariants.{Less, Equal, Greater}
+use Rattle.stack_whole.specs.Whole.{greatest_number, fits as fits_whole}
 use Rattle.stack_algebra.specs.Fraction.{Fraction}
 use Rattle.stack_algebra.proofs.Fractions.{add, neg, of}
 use Rattle.stack_rational.specs.declared.exact.Op.{Op}
@@ -16,7 +17,11 @@ WiderNeverPasses = (m n : ℤ) (op : Op) (x y : Fraction) → unsigned_abs m ≤
 
 -- the greatest value at 128 bits
 abbrev pub widest : ℤ
-widest = pos (2 ^ 127 - 1)
+widest = pos greatest_number
+
+-- there a whole number passes exactly where it doesn't fit
+abbrev pub WholePassesAtWidest : Type 0
+WholePassesAtWidest = (n : ℤ) → passes widest Whole (of n) (of n) ≡ not (fits_whole n)
 
 -- the parts of a number of any width make the same number at 128 bits, and nothing passes
 pub record MadeAgain (x : Fraction) : Type 0 where
@@ -26,7 +31,7 @@ pub record MadeAgain (x : Fraction) : Type 0 where
   pub value : value_of Quotient (of x.num) (of (pos x.den)) ≡ x
 
 abbrev pub PartsMakeTheNumber : Type 0
-PartsMakeTheNumber = (m : ℤ) (x : Fraction) → unsigned_abs m ≤ 2 ^ 127 - 1 → fits m x ≡ true → MadeAgain x
+PartsMakeTheNumber = (m : ℤ) (x : Fraction) → unsigned_abs m ≤ greatest_number → fits m x ≡ true → MadeAgain x
 
 -- the answer of an operation that doesn't pass fits
 abbrev pub AnswersFit : Type 0

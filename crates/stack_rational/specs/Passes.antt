@@ -1,7 +1,8 @@
 -- When an operation on exact numbers passes a greatest value, and what it answers: one test and one value for
 -- each operation.
 -- Nothing of the way that the code takes is said here. Used by every layer that computes with exact numbers.
-use Rattle.std.specs.Prelude.{ℤ, pos, ◌/◌, ◌-◌, ◌^◌, ◌≤ℤ◌, ◌+ℤ◌, ◌*ℤ◌, Bool, not, ◌&&◌, nat_le, unsigned_abs}
+use Rattle.std.specs.Prelude.{ℤ, pos, ◌/◌, ◌≤ℤ◌, ◌+ℤ◌, ◌*ℤ◌, Bool, not, ◌&&◌, nat_le, unsigned_abs}
+use Rattle.stack_whole.specs.Whole.{greatest_number}
 use Rattle.stack_algebra.specs.Gcd.{gcd}
 use Rattle.stack_algebra.specs.Fraction.{Fraction}
 use Rattle.stack_algebra.proofs.Fractions.{add, mul, neg}
@@ -12,7 +13,7 @@ use Rattle.stack_rational.specs.declared.exact.Op.TheVariants.{Whole, Sum, Diffe
 -- a greatest value: from 1 to that of 128 bits
 pub record IsWidth (m : ℤ) : Type 0 where
   pub some : pos 1 ≤ℤ m
-  pub at_most : m ≤ℤ pos (2 ^ 127 - 1)
+  pub at_most : m ≤ℤ pos greatest_number
 
 -- the size of z is at most that of m
 abbrev pub is_within : ℤ → ℤ → Bool

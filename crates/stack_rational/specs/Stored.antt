@@ -3,8 +3,10 @@ use mathlib.Core.Path.{◌≡◌}
 use Prim.Native.Nat.{◌≤◌}
 use lib.IntN.{ℤ, pos, nat_abs, ◌+ℤ◌, ◌*ℤ◌}
 use lib.Signed.{quot_z, ◌≤ℤ◌, ◌<ℤ◌}
-use Rattle.stack_algebra.proofs.Over.{IsLowest}
+use Rattle.std.specs.Int.{IsGcd}
+use Rattle.stack_algebra.proofs.Over.{over, IsLowest}
 use Rattle.stack_algebra.specs.Gcd.{gcd}
+use Rattle.stack_algebra.specs.IntegerOrder.{◌≼◌, ◌≺◌}
 use Rattle.stack_algebra.specs.Fraction.{Fraction}
 
 -- the size of z is at most that of m
@@ -31,6 +33,29 @@ pub held : {T : Type 0} (m : ℤ) (value : T → ℤ) (back : ℤ → T) (num de
     ((x : T) → nat_abs (value x) ≤ nat_abs m → back (value x) ≡ x) → IsStored m (value num) (value den) →
     IsHeld m value back num den
 held m value back num den law s = record { stored = s; num_back = law num s.num; den_back = law den s.den }
+
+-- a fraction's parts n over d
+pub record Parts (x : Fraction) (n d : ℤ) : Type 0 where
+  pub lowest : IsLowest n d
+  pub value : over n d ≡ x
+  pub num : x.num ≡ n
+  pub den : pos x.den ≡ d
+
+-- g is the greatest common divisor of a and d, and p and q are both divided by it
+pub record IsShared (m a d g p q : ℤ) : Type 0 where
+  pub gcd : IsGcd (nat_abs a) (nat_abs d) (nat_abs g)
+  pub positive : pos 0 ≺ g
+  pub size : Within m g
+  pub left : p ≡ quot_z a g
+  pub right : q ≡ quot_z d g
+  pub left_size : Within m p
+  pub right_size : Within m q
+
+-- a is q times b and r, which is from 0 up and below b
+pub record Split (a b q r : ℤ) : Type 0 where
+  pub sum : q *ℤ b +ℤ r ≡ a
+  pub low : pos 0 ≼ r
+  pub below : r ≺ b
 
 -- two fractions that are compared, neither negative
 pub record InStep (m a b c d : ℤ) : Type 0 where

@@ -18,6 +18,9 @@ pub fn divisor<T: Integer>(a: T, b: T) -> T
     if b.is_one() {
         return b;
     }
+    if a.is_one() {
+        return a;
+    }
     let g = divisor_of(as_wide(a).unsigned_abs(), as_wide(b).unsigned_abs());
     match T::from_u128(g) {
         Some(d) => d,

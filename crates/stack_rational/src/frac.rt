@@ -1,10 +1,11 @@
 //! Fractions in lowest terms over one type of integers.
 
-ghost use Rattle.std.specs.Prelude.{◌≡◌, ◌≢◌, pos, ◌<ℤ◌, IfOk, OnErr, unsigned_abs};
+ghost use Rattle.std.specs.Prelude.{◌≡◌, ◌≢◌, ℕ, pos, ◌<ℤ◌, IfOk, OnErr, unsigned_abs};
+ghost use Prim.Native.Nat.{◌∣◌};
 ghost use Rattle.stack_algebra.proofs.Fractions.{add, mul, neg, of};
 ghost use Rattle.stack_algebra.proofs.FractionField.{inv};
 ghost use Rattle.stack_algebra.proofs.Over.{over};
-ghost use Rattle.stack_rational.specs.Stored.{Fits, IsStored, SumFits, Within};
+ghost use Rattle.stack_rational.specs.Stored.{Fits, IsShared, IsStored, SumFits, Within};
 ghost use Rattle.num_traits.specs.Laws.{Checks};
 ghost use Rattle.stack_rational.specs.CommonScale.{common_multiple, times_scale};
 ghost use Rattle.stack_rational.specs.Order.{order_of, sign_of_whole, is_zero_whole};
@@ -74,6 +75,16 @@ fn made<T: Integer>(num: T, den: T) -> Frac<T>
     Frac { num, den }
 }
 
+/// The greatest common divisor of two numbers, and both divided by it.
+fn shared<T: Integer>(a: T, d: T) -> (T, T, T)
+    requires a { Within T.MAX (T.value a) }
+    requires d { Within T.MAX (T.value d) × (pos 0 <ℤ T.value d) }
+    ensures { IsShared T.MAX (T.value a) (T.value d) (T.value result.0) (T.value result.1) (T.value result.2) }
+{
+    let g = divisor(a, d);
+    (g, part(a, g), part(d, g))
+}
+
 /// A numerator over a positive denominator, in lowest terms.
 fn reduced<T: Integer>(num: T, den: T) -> Frac<T>
     requires num { Within T.MAX (T.value num) }
@@ -81,8 +92,21 @@ fn reduced<T: Integer>(num: T, den: T) -> Frac<T>
     requires positive { pos 0 <ℤ T.value den }
     ensures { result ≡ over (T.value num) (T.value den) }
 {
-    let g = divisor(num, den);
-    made(part(num, g), part(den, g))
+    let (_, n, d) = shared(num, den);
+    made(n, d)
+}
+
+/// The same, where the denominator is a multiple of g and each common divisor divides g: a divisor with g is found sooner.
+fn reduced_by<T: Integer>(num: T, den: T, g: T) -> Frac<T>
+    requires num { Within T.MAX (T.value num) }
+    requires den { Within T.MAX (T.value den) }
+    requires by { Within T.MAX (T.value g) × (pos 0 <ℤ T.value g) }
+    requires inner { (pos 0 <ℤ T.value den) × (unsigned_abs (T.value g) ∣ unsigned_abs (T.value den)) }
+    requires outer { (e : ℕ) → e ∣ unsigned_abs (T.value num) → e ∣ unsigned_abs (T.value den) → e ∣ unsigned_abs (T.value g) }
+    ensures { result ≡ over (T.value num) (T.value den) }
+{
+    let h = divisor(num, g);
+    made(part(num, h), part(den, h))
 }
 
 impl<T: Integer> Frac<T> {
@@ -134,10 +158,10 @@ impl<T: Integer> Frac<T> {
         ensures fits { IfOk result (λ r. Fits T.MAX (mul self other)) }
         ensures err { OnErr result (¬ (Fits T.MAX (mul self other))) }
     {
-        let g = divisor(self.num, other.den);
-        let h = divisor(other.num, self.den);
-        let num = times(part(self.num, g), part(other.num, h));
-        let den = times(part(self.den, h), part(other.den, g));
+        let (_, a, d) = shared(self.num, other.den);
+        let (_, c, b) = shared(other.num, self.den);
+        let num = times(a, c);
+        let den = times(b, d);
         match num {
             Some(num) => match den {
                 Some(den) => Ok(made(num, den)),
@@ -169,15 +193,14 @@ impl<T: Integer> Frac<T> {
         self.plus_over_common(other)
     }
 
-    /// The same over the least common denominator: with g = gcd(b, d), a/b + c/d = (a(d/g) + c(b/g)) / ((b/g)d).
+    /// The same over the least common denominator: with g = gcd(b, d), a/b + c/d = (a(d/g) + c(b/g)) / ((b/g)d),
+    /// where only divisors of g can be left in common.
     fn plus_over_common(self, other: Self) -> Result<Self, Passed>
         ensures ok { IfOk result (λ r. r ≡ add self other) }
         ensures fits { IfOk result (λ r. SumFits T.MAX self other) }
         ensures err { OnErr result (¬ (SumFits T.MAX self other)) }
     {
-        let g = divisor(self.den, other.den);
-        let by_left = part(other.den, g);
-        let by_right = part(self.den, g);
+        let (g, by_right, by_left) = shared(self.den, other.den);
         let Some(den) = times(by_right, other.den) else {
             return Err(Passed);
         };
@@ -190,7 +213,7 @@ impl<T: Integer> Frac<T> {
         let Some(num) = plus(left, right) else {
             return Err(Passed);
         };
-        Ok(reduced(num, den))
+        Ok(reduced_by(num, den, g))
     }
 
     /// The number with the other sign.

@@ -1,7 +1,8 @@
 //! The common scale of a list of fractions.
 
 ghost use Rattle.std.specs.Prelude.{◌≡◌, ℕ, pos, ◌≤◌, IfOk, IfErr, length, take};
-ghost use Rattle.stack_rational.specs.CommonScale.{IsFirstPassing, ScaleIsLeastMultiple, TimesScaleIsWhole, greatest_number, scale_of};
+ghost use Rattle.stack_whole.specs.Whole.{greatest_number};
+ghost use Rattle.stack_rational.specs.CommonScale.{IsFirstPassing, ScaleIsLeastMultiple, TimesScaleIsWhole, scale_of};
 
 use crate::frac::Frac;
 

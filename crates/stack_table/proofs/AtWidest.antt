@@ -45,8 +45,11 @@ total_size g (suc n) h = next (total g n) (g n) (total_size g n h) (h n)
 
 module _ (m : ℤ) (ample : IsAmple m) where
   whole_record : (z : ℤ) → nat_abs z ≤ nat_abs m → Fits m (of z)
-  whole_record z h = record { num = omega (arith, ap nat_abs (num_of z), h); den =
-      omega (arith, den_of z, ample) }
+  whole_record z h = record {
+    num = omega (arith, ap nat_abs (num_of z), h);
+    den =
+        omega (arith, den_of z, ample);
+  }
 
   difference : (a b : ℤ) → nat_abs a ≤ 384 * 2 ^ 90 → IsBelowBound b →
       passes m Difference (of a) (of b) ≡ false

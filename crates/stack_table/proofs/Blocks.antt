@@ -29,7 +29,7 @@ module _ {V : Type 0} (e : V → Fraction) where
   -- an item is written, and its mark, or a mark that still holds
   pub block_set : (m : ℤ) (cells : List V) (marks : List Bool) (j : ℕ) (x : V) (b : Bool) → j < length cells →
       IsBlock m e cells marks → b ≡ is_zero (e x) → fits m (e x) ≡ true →
-          IsBlock m e (set cells j x) (set marks j b)
+      IsBlock m e (set cells j x) (set marks j b)
   block_set m cells marks j x b l h eb f = record {
     same = length-set marks j b ∙ h.same ∙ sym (length-set cells j x);
     marked = λ k. mark k (ℕ_discrete k j);

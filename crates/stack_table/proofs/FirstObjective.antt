@@ -38,7 +38,7 @@ partial_same : (m : ℤ) (place : BuildError) (n : ℕ) (f g : ℕ → Fraction)
 partial_same m place n f g h = first_same n (partial_place ordered_fractions (passes m) place f)
     (partial_place ordered_fractions (passes m) place g)
     (λ i l. λ z. only_if
-        (passes m Difference (less_all-same i f g (λ k q. h k (omega (arith, l, q))) z) (h i l z)) place)
+    (passes m Difference (less_all-same i f g (λ k q. h k (omega (arith, l, q))) z) (h i l z)) place)
 
 module _ (S : Shape) (j : ℕ) (f g : ℕ → ℕ → Fraction) (same : (i : ℕ) → i < S.rows → f i j ≡ g i j) where
   pub objective_same : objective_over ordered_fractions S f j ≡ objective_over ordered_fractions S g j

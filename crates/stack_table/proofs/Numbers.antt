@@ -109,11 +109,11 @@ module _ (P : Lent) (h : IsProblem P) (i : ℕ) where
     number_past j = let S = shape_of_problem P in
         all_zero (ltb j (plain S)) (ltb j (columns S)) (eqb j (columns S))
         (turned (flipped (problem_of P) i) ((problem_of P).entry i j))
-            (cond (eqb j (plain S + i)) (pos 1) (pos 0))
+        (cond (eqb j (plain S + i)) (pos 1) (pos 0))
         (turned (flipped (problem_of P) i) ((problem_of P).load i))
         (turned_none _ (entry_past P.rows (entries_at P j) i (column_of P h j).below past))
         (λ e. ap (λ b. cond b (pos 1) (pos 0))
-            (ne_eqb j (plain S + i) (λ d. let l = ltb-true j (columns S) e in
+        (ne_eqb j (plain S + i) (λ d. let l = ltb-true j (columns S) e in
         omega (arith, past, d, l)))) (turned_none _ no_load)
 
 -- past the columns

@@ -141,7 +141,7 @@ module _ {V : Type 0} (e : V → Fraction) where
             ∙ ap is_zero (sym (value_at-left xs ys i l))
         mark i (no l) = let p : i ≡ length xs + (i - length xs) = omega (arith, l) in
             ap (mark_at (ms ++ ns)) (p ∙ ap (λ z. z + (i - length xs)) (sym h.same))
-                ∙ get_or-append-add ms ns (i - length xs) true
+            ∙ get_or-append-add ms ns (i - length xs) true
             ∙ k.marked (i - length xs)
             ∙ ap is_zero (sym (ap (value_at e (xs ++ ys)) p
             ∙ value_at-right xs ys (length xs) (i - length xs) refl))
@@ -150,7 +150,7 @@ module _ {V : Type 0} (e : V → Fraction) where
         fit i (yes l) = ap (fits m) (value_at-left xs ys i l) ∙ h.fitting i
         fit i (no l) = let p : i ≡ length xs + (i - length xs) = omega (arith, l) in
             ap (fits m) (ap (value_at e (xs ++ ys)) p ∙ value_at-right xs ys (length xs) (i - length xs) refl)
-                ∙ k.fitting (i - length xs)
+            ∙ k.fitting (i - length xs)
 
     pub block_take : (n : ℕ) (xs : List V) (ms : List Bool) → n ≤ length xs → IsBlock m e xs ms →
         IsBlock m e (take n xs) (take n ms)
@@ -222,8 +222,8 @@ module _ {V : Type 0} (e : V → Fraction) where
           IsBlock m e (put_mid (i * w) (i * w + w - i * w) xs ys) (put_mid (i * w) (i * w + w - i * w) ms ns)
       put_block ys ns k = block_join _ _ _ _ (block_take (i * w) xs ms (omega (arith, l)) h)
           (block_join _ _ _ _ k
-              (block_drop (i * w + w - i * w) (drop (i * w) xs) (drop (i * w) ms)
-              (block_drop (i * w) xs ms h)))
+          (block_drop (i * w + w - i * w) (drop (i * w) xs) (drop (i * w) ms)
+          (block_drop (i * w) xs ms h)))
 
       pub put_own : (ys : List V) (j : ℕ) → length ys ≡ w →
           cell_of e w (put_mid (i * w) (i * w + w - i * w) xs ys) i j ≡ value_at e ys j
@@ -247,7 +247,7 @@ module _ {V : Type 0} (e : V → Fraction) (m : ℤ) where
       IsBlock m e cells marks →
       (above rest own below : List V) (ms ts os bs : List Bool) → above ≡ take n cells → rest ≡ drop n cells →
       own ≡ take w rest → below ≡ drop w rest → ms ≡ take n marks → ts ≡ drop n marks → os ≡ take w ts →
-          bs ≡ drop w ts →
+      bs ≡ drop w ts →
       Parted m e above own below ms os bs
   parted cells marks n w l h above rest own below ms ts os bs ea er eo eb fa fr fo fb = record {
     above_is = subst₂ (λ (xs : List V) (ns : List Bool). IsBlock m e xs ns) (sym ea) (sym fa)
@@ -255,7 +255,7 @@ module _ {V : Type 0} (e : V → Fraction) (m : ℤ) where
     own_is = subst₂ (λ (xs : List V) (ns : List Bool). IsBlock m e xs ns) (ap (take w) (sym er) ∙ sym eo)
         (ap (take w) (sym fr) ∙ sym fo)
         (block_take e m w (drop n cells) (drop n marks) (omega (arith, l, length-drop n cells))
-            (block_drop e m n cells marks h));
+        (block_drop e m n cells marks h));
     below_is = subst₂ (λ (xs : List V) (ns : List Bool). IsBlock m e xs ns) (ap (drop w) (sym er) ∙ sym eb)
         (ap (drop w) (sym fr) ∙ sym fb)
         (block_drop e m w (drop n cells) (drop n marks) (block_drop e m n cells marks h));
@@ -311,7 +311,7 @@ module _ {V : Type 0} (e : V → Fraction) (w r : ℕ) (cells above last : List 
 pub two_parts : {V : Type 0} (e : V → Fraction) (m : ℤ) (cells : List V) (marks : List Bool) (n : ℕ) →
     n ≤ length cells → IsBlock m e cells marks →
     (above last : List V) (ms ns : List Bool) → above ≡ take n cells → last ≡ drop n cells →
-        ms ≡ take n marks → ns ≡ drop n marks →
+    ms ≡ take n marks → ns ≡ drop n marks →
     IsBlock m e above ms × IsBlock m e last ns
 two_parts e m cells marks n l h above last ms ns ea el fa fl = (
   subst₂ (λ (xs : List _) (bs : List Bool). IsBlock m e xs bs) (sym ea) (sym fa)

@@ -35,7 +35,7 @@ module _ (m : ℤ) (width : ℕ) (cell : ℕ → ℕ → Fraction) (r c : ℕ) w
 
   pub spot_other : (i : ℕ) → i ≢ r → row_spot ordered_fractions (passes m) width cell r c i
       ≡ reduce_spot ordered_fractions (passes m) width (cell i)
-          (divided ordered_fractions (cell r) (cell r c)) (cell i c) i
+      (divided ordered_fractions (cell r) (cell r c)) (cell i c) i
   spot_other i d = ap (λ b. cond b None
       (reduce_spot ordered_fractions (passes m) width (cell i) (divided ordered_fractions (cell r) (cell r c))
       (cell i c) i)) (ne_eqb i r d)
@@ -43,7 +43,7 @@ module _ (m : ℤ) (width : ℕ) (cell : ℕ → ℕ → Fraction) (r c : ℕ) w
 -- the three parts of a block, and the pivot's divisor x
 module _ {V : Type 0} (e : V → Fraction) (m : ℤ) (w r c : ℕ) (cells above own below : List V)
     (whole : cells ≡ above ++ (own ++ below)) (la : length above ≡ r * w) (lo : length own ≡ w) (x : V)
-        (lc : c < w)
+    (lc : c < w)
     (is : x ≡ get_or own c x) where
   abbrev old : ℕ → ℕ → Fraction
   old = cell_of e w cells
@@ -88,7 +88,7 @@ module _ {V : Type 0} (e : V → Fraction) (m : ℤ) (w r c : ℕ) (cells above 
 
     row_is : (i row : ℕ) (p : ℕ → Fraction) → i ≢ r → row ≡ i → ((j : ℕ) → p j ≡ old i j) →
         reduce_spot ordered_fractions (passes m) w p (value_at e new) (p c) row ≡ row_spot ordered_fractions
-            (passes m) w old r c i
+        (passes m) w old r c i
     row_is i row p d k h = ap (reduce_spot ordered_fractions (passes m) w p (value_at e new) (p c)) k
         ∙ reduce_same m i w w p (old i) (value_at e new) (divided ordered_fractions (old r) (old r c)) (p c)
         (old i c) refl h new_is (h c)
@@ -101,38 +101,38 @@ module _ {V : Type 0} (e : V → Fraction) (m : ℤ) (w r c : ℕ) (cells above 
         wide
         ∙ first_same r _ (row_spot ordered_fractions (passes m) w old r c)
         (λ i l. row_is i (0 + i) (cell_of e w above i) (λ d. omega (arith, l, d)) (omega arith)
-            (λ j. above_is i j l))
+        (λ j. above_is i j l))
 
     pub spot_above : (h : ℕ) (s : PivotWide) → r ≤ h →
         rows_spot ordered_fractions (passes m) r (length new) (cell_of e (length new) above)
-            (value_at e new) c 0 ≡ Some s →
+        (value_at e new) c 0 ≡ Some s →
         cells_spot ordered_fractions (passes m) h w old r c ≡ Some s
     spot_above h s l k = rest h
         ∙ first_further r h (row_spot ordered_fractions (passes m) w old r c) s l (sym above_spot ∙ k)
 
     pub spot_below : (h : ℕ) (o : Option PivotWide) → r ≤ h →
         rows_spot ordered_fractions (passes m) r (length new) (cell_of e (length new) above)
-            (value_at e new) c 0 ≡ None →
+        (value_at e new) c 0 ≡ None →
         rows_spot ordered_fractions (passes m) (h - r) (length new) (cell_of e (length new) below)
-            (value_at e new) c (r + 1) ≡ o →
+        (value_at e new) c (r + 1) ≡ o →
         cells_spot ordered_fractions (passes m) (suc h) w old r c ≡ o
     spot_below h o l n k = let many : suc h ≡ r + 1 + (h - r) = omega (arith, l) in
         rest (suc h) ∙ ap (λ z. first z (row_spot ordered_fractions (passes m) w old r c)) many
         ∙ first_join (r + 1) (h - r) (row_spot ordered_fractions (passes m) w old r c)
         (first_more r (row_spot ordered_fractions (passes m) w old r c) (sym above_spot ∙ n)
-            (spot_own m w old r c r refl))
+        (spot_own m w old r c r refl))
         ∙ sym (first_same (h - r) _ (λ k. row_spot ordered_fractions (passes m) w old r c (r + 1 + k))
         (λ i l. row_is (r + 1 + i) (r + 1 + i) (cell_of e w below i) (λ d. omega (arith, d)) refl
-            (below_is i)))
+        (below_is i)))
         ∙ sym (ap (λ n. rows_spot ordered_fractions (passes m) (h - r) n (cell_of e n below)
         (value_at e new) c (r + 1)) wide) ∙ k
 
     -- and the other rows are reduced
     pub after : (above' below' : List V) → length above' ≡ length above →
         ((i j : ℕ) → cell_of e (length new) above' i j ≡ reduced ordered_fractions
-            (cell_of e (length new) above i) (value_at e new) (cell_of e (length new) above i c) j) →
+        (cell_of e (length new) above i) (value_at e new) (cell_of e (length new) above i c) j) →
         ((i j : ℕ) → cell_of e (length new) below' i j ≡ reduced ordered_fractions
-            (cell_of e (length new) below i) (value_at e new) (cell_of e (length new) below i c) j) →
+        (cell_of e (length new) below i) (value_at e new) (cell_of e (length new) below i c) j) →
         (i j : ℕ) → cell_of e w (above' ++ (new ++ below')) i j ≡ next ordered_fractions old r c i j
     after above' below' ls ha hb i j = go (ℕ_discrete i r) (dec_lt i r)
       where
@@ -157,7 +157,7 @@ module _ {V : Type 0} (e : V → Fraction) (m : ℤ) (w r c : ℕ) (cells above 
             ∙ value i (cell_of e w above i) d (λ j. above_is i j l)
         go (no d) (no l) = let k : i ≡ r + 1 + (i - (r + 1)) = omega (arith, d, l) in
             ap (λ z. cell_of e w (above' ++ (new ++ below')) z j) k
-                ∙ cell_below e w r above' new below' la' wide (i - (r + 1)) j
+            ∙ cell_below e w r above' new below' la' wide (i - (r + 1)) j
             ∙ sym (ap (λ n. cell_of e n below' (i - (r + 1)) j) wide) ∙ hb (i - (r + 1)) j
             ∙ ap (λ n. reduced ordered_fractions (cell_of e n below (i - (r + 1))) (value_at e new)
             (cell_of e n below (i - (r + 1)) c) j) wide

@@ -81,7 +81,7 @@ pub tells_row : (m : ℤ) (P : Problem) (i : ℕ) (e : BuildError) → i < P.sha
 tells_row m P i e l n =
     tells e (row_place ordered_fractions (passes m) P i) (wide_place ordered_fractions (passes m) P)
     (λ p h. ap (λ o. or_else o
-        (objective_places ordered_fractions (passes m) P.shape (first_row ordered_fractions P)))
+    (objective_places ordered_fractions (passes m) P.shape (first_row ordered_fractions P)))
     (first_found P.shape.rows i (row_place ordered_fractions (passes m) P) p l n h))
 
 -- 0 less zeros

@@ -21,7 +21,7 @@ module _ (m : ℤ) (f : ℕ → Fraction) (d : Fraction) (row j : ℕ) where
 
   pub divide_passes : passes m Quotient (f j) d ≡ true →
       divide_item ordered_fractions (passes m) f d row j ≡ Some
-          (record { row = row; column = j; step = Divide })
+      (record { row = row; column = j; step = Divide })
   divide_passes h = ap (λ b. only_if b (record { row = row; column = j; step = Divide })) h
 
   pub divide_goes : passes m Quotient (f j) d ≡ false →
@@ -32,7 +32,7 @@ module _ (m : ℤ) (f g : ℕ → Fraction) (k : Fraction) (row j : ℕ) where
   -- where the product is 0
   kept : IsWidth m → fits m (f j) ≡ true → mul k (g j) ≡ of (pos 0) →
       (reduced ordered_fractions f g k j ≡ f j) ×
-          (reduce_item ordered_fractions (passes m) f g k row j ≡ None)
+      (reduce_item ordered_fractions (passes m) f g k row j ≡ None)
   kept w h e = let q = difference_of_zero m w (f j) (mul k (g j)) h e in (
     q.0,
     (λ i. or_else (only_if (product_of_zero m w k (g j) e i)
@@ -42,37 +42,37 @@ module _ (m : ℤ) (f g : ℕ → Fraction) (k : Fraction) (row j : ℕ) where
 
   pub column_skips : IsWidth m → fits m (f j) ≡ true → is_zero (g j) ≡ true →
       (reduced ordered_fractions f g k j ≡ f j) ×
-          (reduce_item ordered_fractions (passes m) f g k row j ≡ None)
+      (reduce_item ordered_fractions (passes m) f g k row j ≡ None)
   column_skips w h e = kept w h (ap (mul k) (zero_is (g j) e) ∙ mul_comm k (of (pos 0)) ∙ zero_mul k)
 
   pub row_skips : IsWidth m → fits m (f j) ≡ true → is_zero k ≡ true →
       (reduced ordered_fractions f g k j ≡ f j) ×
-          (reduce_item ordered_fractions (passes m) f g k row j ≡ None)
+      (reduce_item ordered_fractions (passes m) f g k row j ≡ None)
   row_skips w h e = kept w h (ap (λ z. mul z (g j)) (zero_is k e) ∙ zero_mul (g j))
 
   -- the product passes, the difference passes, or neither
   module _ (x y p : Fraction) (fj : f j ≡ x) (gj : g j ≡ y) where
     pub product_passes : passes m Product k y ≡ true →
         reduce_item ordered_fractions (passes m) f g k row j ≡ Some
-            (record { row = row; column = j; step = Multiply })
+        (record { row = row; column = j; step = Multiply })
     product_passes h = ap (λ b. or_else (only_if b (record { row = row; column = j; step = Multiply }))
         (only_if (passes m Difference (f j) (mul k (g j)))
-            (record { row = row; column = j; step = Subtract })))
+        (record { row = row; column = j; step = Subtract })))
         (ap (passes m Product k) gj ∙ h)
 
     only_difference : passes m Product k y ≡ false → p ≡ mul k y → (b : Bool) → passes m Difference x p ≡ b →
         reduce_item ordered_fractions (passes m) f g k row j ≡ only_if b
-            (record { row = row; column = j; step = Subtract })
+        (record { row = row; column = j; step = Subtract })
     only_difference h e b d = ap (λ c. or_else (only_if c (record { row = row; column = j; step = Multiply }))
         (only_if (passes m Difference (f j) (mul k (g j)))
-            (record { row = row; column = j; step = Subtract })))
+        (record { row = row; column = j; step = Subtract })))
         (ap (passes m Product k) gj ∙ h)
         ∙ ap (λ c. only_if c (record { row = row; column = j; step = Subtract }))
         ((λ i. passes m Difference (fj i) ((ap (mul k) gj ∙ sym e) i)) ∙ d)
 
     pub difference_passes : passes m Product k y ≡ false → p ≡ mul k y → passes m Difference x p ≡ true →
         reduce_item ordered_fractions (passes m) f g k row j ≡ Some
-            (record { row = row; column = j; step = Subtract })
+        (record { row = row; column = j; step = Subtract })
     difference_passes h e d = only_difference h e true d
 
     pub neither_passes : passes m Product k y ≡ false → p ≡ mul k y → passes m Difference x p ≡ false →
@@ -94,7 +94,7 @@ pub reduce_same : (m : ℤ) (row n n' : ℕ) (f f' h h' : ℕ → Fraction) (d d
     ((j : ℕ) → f j ≡ f' j) →
     ((j : ℕ) → h j ≡ h' j) → d ≡ d' →
     reduce_spot ordered_fractions (passes m) n f h d row ≡ reduce_spot ordered_fractions
-        (passes m) n' f' h' d' row
+    (passes m) n' f' h' d' row
 reduce_same m row n n' f f' h h' d d' en ef eh ed =
     λ z. reduce_spot ordered_fractions (passes m) (en z) (λ j. ef j z) (λ j. eh j z) (ed z) row
 

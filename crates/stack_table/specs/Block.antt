@@ -1,4 +1,4 @@
--- Cells in one flat block with a mark for each, by the fractions that they hold. Outside all cells are 0 and all
+-- Cells in one flat block with a mark for each, by the fractions that they hold. Outside it cells are 0 and
 -- marks are on.
 use Rattle.std.specs.Prelude.{◌≡◌, ℕ, ◌+◌, ◌*◌, ◌<◌, Bool, true, cond, ltb, List, map, length, get_or, ℤ, pos}
 use Rattle.stack_algebra.specs.Fraction.{Fraction}
@@ -20,13 +20,15 @@ abbrev pub cell_of : {V : Type 0} → (V → Fraction) → ℕ → List V → �
 cell_of exact width cells i j = cond (ltb j width) (value_at exact cells (i * width + j)) (of (pos 0))
 
 -- cells that fit the greatest value m, each marked exactly where it is 0
-pub record IsBlock {V : Type 0} (m : ℤ) (exact : V → Fraction) (cells : List V) (marks : List Bool) : Type 0 where
+pub record IsBlock {V : Type 0} (m : ℤ) (exact : V → Fraction) (cells : List V) (marks : List Bool)
+    : Type 0 where
   pub same : length marks ≡ length cells
   pub marked : (k : ℕ) → mark_at marks k ≡ is_zero (value_at exact cells k)
   pub fitting : (k : ℕ) → fits m (value_at exact cells k) ≡ true
 
 -- n cells more, with the values of f
-pub record Grows {V : Type 0} (exact : V → Fraction) (before after : List V) (n : ℕ) (f : ℕ → Fraction) : Type 0 where
+pub record Grows {V : Type 0} (exact : V → Fraction) (before after : List V) (n : ℕ) (f : ℕ → Fraction)
+    : Type 0 where
   pub longer : length after ≡ length before + n
   pub kept : (k : ℕ) → k < length before → value_at exact after k ≡ value_at exact before k
   pub put : (k : ℕ) → k < n → value_at exact after (length before + k) ≡ f k

@@ -27,7 +27,8 @@ factor_entries (Some c) = c.entries.items
 
 -- the entries of column j: the contact columns, then the factor
 abbrev pub entries_at : Lent → ℕ → List Entry
-entries_at P j = cond (ltb j (length P.contact.items)) (get_or (map (λ c. c.entries.items) P.contact.items) j [])
+entries_at P j = cond (ltb j (length P.contact.items))
+    (get_or (map (λ c. c.entries.items) P.contact.items) j [])
     (cond (eqb j (length P.contact.items)) (factor_entries P.factor) [])
 
 abbrev pub shape_of_problem : Lent → Shape

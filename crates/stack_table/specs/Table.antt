@@ -31,8 +31,8 @@ pub record Tabled (C : Type 0) : Type 0 where
   pub cell : ℕ → ℕ → C
   pub basic : ℕ → ℕ
 
--- the objective of the third phase, by the row in which the factor is basic: that row, but 0 in the factor's column;
--- without such a row, -1 in the factor's column alone
+-- the objective of the third phase, by the row in which the factor is basic: that row, but 0 in the factor's
+-- column; without such a row, -1 in the factor's column alone
 abbrev pub factor_row : (F : Ordered) → (ℕ → ℕ → F.C) → (column : ℕ) → Option ℕ → ℕ → F.C
 factor_row F cell column (Some r) j = cond (eqb j column) (F.of (pos 0)) (cell r j)
 factor_row F cell column None j = at F.ring column (F.of (negsuc 0)) j

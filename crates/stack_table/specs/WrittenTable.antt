@@ -11,8 +11,8 @@ use Rattle.stack_table.specs.declared.problem.BuildError.TheVariants.{Wide}
 use Rattle.stack_table.specs.Table.{Shape, Tabled, plain, columns, width}
 use Rattle.stack_table.specs.Problem.{Problem, flipped, turned}
 
--- the number in row i and column j: plain columns, artificial columns, the right side. An artificial column has 1
--- in its own row, and isn't flipped
+-- the number in row i and column j: plain columns, artificial columns, the right side. An artificial column has
+-- 1 in its own row, and isn't flipped
 abbrev pub number_at : Problem → ℕ → ℕ → ℤ
 number_at P i j = cond (ltb j (plain P.shape)) (turned (flipped P i) (P.entry i j))
     (cond (ltb j (columns P.shape)) (cond (eqb j (plain P.shape + i)) (pos 1) (pos 0))
@@ -32,7 +32,8 @@ module _ (F : Ordered) where
   less_all zero f = F.of (pos 0)
   less_all (suc n) f = less F (less_all n f) (f n)
 
-  -- the objective row over given cells: 0 in the artificial columns, elsewhere 0 less row 0, less row 1, and so on
+  -- the objective row over given cells: 0 in the artificial columns, elsewhere 0 less row 0, less row 1 and so
+  -- on
   abbrev pub objective_over : Shape → (ℕ → ℕ → F.C) → ℕ → F.C
   objective_over S cell j = cond (is_artificial S j) (F.of (pos 0)) (less_all S.rows (λ i. cell i j))
 

@@ -1,6 +1,7 @@
 //! The written table of a problem, cell by cell.
 
-ghost use Rattle.std.specs.Prelude.{◌≡◌, ◌++◌, ◌∷◌, [], ◌*◌, ◌<◌, ◌≤◌, length, true, IfOk, IfErr, OnOk, OnErr, None, Some};
+ghost use Rattle.std.specs.Prelude.{◌≡◌, ◌++◌, ◌∷◌, [], ◌*◌, ◌<◌, ◌≤◌, length, true, IfOk, IfErr, OnOk, OnErr};
+ghost use Rattle.std.specs.Prelude.{None, Some};
 ghost use Rattle.stack_algebra.proofs.Fractions.{of};
 ghost use Rattle.stack_algebra.proofs.OrderedFractions.{ordered_fractions};
 ghost use Rattle.stack_algebra.specs.Search.{first};
@@ -119,7 +120,8 @@ pub fn push_row<S: Exact>(
     ensures grown { OnOk result (Grows S.exact cells.old.items cells.new.items (width (shape_of_problem p.now))
         (first_row ordered_fractions (problem_of p.now) i)) }
     ensures fits { OnOk result (row_place ordered_fractions (passes S.MAX) (problem_of p.now) i ≡ None) }
-    ensures wide { IfErr result (λ e. Tells e (row_place ordered_fractions (passes S.MAX) (problem_of p.now) i)) }
+    ensures wide { IfErr result (λ e.
+        Tells e (row_place ordered_fractions (passes S.MAX) (problem_of p.now) i)) }
 {
     for j in 0..artificial + p.rows + 1 {
         let cell = match S::from_whole(number(p, artificial, i, j)) {
@@ -141,10 +143,10 @@ fn less_column<S: Exact>(cells: &[S], rows: usize, width: usize, column: usize) 
     ensures ok { IfOk result (λ r. S.exact r
         ≡ less_all ordered_fractions rows (λ i. cell_of S.exact width cells.now i column)) }
     ensures fits { IfOk result (λ r. fits S.MAX (S.exact r) ≡ true) }
-    ensures none { OnOk result (first rows (partial_place ordered_fractions (passes S.MAX) (AtPlace rows column)
-        (λ i. cell_of S.exact width cells.now i column)) ≡ None) }
-    ensures wide { OnErr result (first rows (partial_place ordered_fractions (passes S.MAX) (AtPlace rows column)
-        (λ i. cell_of S.exact width cells.now i column)) ≡ Some (AtPlace rows column)) }
+    ensures none { OnOk result (first rows (partial_place ordered_fractions (passes S.MAX)
+        (AtPlace rows column) (λ i. cell_of S.exact width cells.now i column)) ≡ None) }
+    ensures wide { OnErr result (first rows (partial_place ordered_fractions (passes S.MAX)
+        (AtPlace rows column) (λ i. cell_of S.exact width cells.now i column)) ≡ Some (AtPlace rows column)) }
 {
     let mut sum = S::zero();
     for i in 0..rows {
@@ -170,7 +172,8 @@ fn objective_cell<S: Exact>(
     ensures none { OnOk result (objective_place ordered_fractions (passes S.MAX) (shape_of_problem p.now)
         (cell_of S.exact (width (shape_of_problem p.now)) cells.now) column ≡ None) }
     ensures wide { OnErr result (objective_place ordered_fractions (passes S.MAX) (shape_of_problem p.now)
-        (cell_of S.exact (width (shape_of_problem p.now)) cells.now) column ≡ Some (AtPlace p.now.rows column)) }
+        (cell_of S.exact (width (shape_of_problem p.now)) cells.now) column
+        ≡ Some (AtPlace p.now.rows column)) }
 {
     if is_artificial(p, artificial, column) {
         return Ok(S::zero());

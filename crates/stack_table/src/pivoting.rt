@@ -1,6 +1,6 @@
 //! A pivot over the whole block.
 
-ghost use Rattle.std.specs.Prelude.{◌≡◌, ◌≢◌, ℕ, suc, ◌*◌, ◌<◌, length, pos, IfOk, MatchResult, Some, None};
+ghost use Rattle.std.specs.Prelude.{◌≡◌, ◌≢◌, ℕ, suc, ◌*◌, ◌<◌, length, pos, OnOk, MatchResult, Some, None};
 ghost use Rattle.stack_algebra.proofs.OrderedFractions.{ordered_fractions};
 ghost use Rattle.stack_algebra.specs.Rows.{next};
 ghost use Rattle.stack_rational.specs.Passes.{passes};
@@ -11,8 +11,8 @@ use crate::rows::{divide_row, reduce_rows};
 use crate::types::PivotWide;
 use stack_rational::Exact;
 
-/// A pivot at a row and a column of a block whose objective row has the number `rows`. The row is divided, each other
-/// row is reduced. `columns` is room for the columns in which the row isn't 0, one for each column of the block.
+/// A pivot at a row and a column of a block whose objective row has the number `rows`: the row is divided, each
+/// other row is reduced. `columns` is room for the columns in which the row isn't 0, one for each column.
 pub fn pivot_block<S: Exact>(
     cells: &mut [S],
     marks: &mut [bool],
@@ -27,8 +27,13 @@ pub fn pivot_block<S: Exact>(
     requires block { IsBlock S.MAX S.exact cells.old marks.old }
     requires cell { (cell_of S.exact (length columns.old) cells.old row column).num ≢ pos 0 }
     ensures block { IsBlock S.MAX S.exact cells.new marks.new }
-    ensures ok { IfOk result (λ _. (i j : ℕ) → cell_of S.exact (length columns.old) cells.new i j ≡ next ordered_fractions (cell_of S.exact (length columns.old) cells.old) row column i j) }
-    ensures passed { MatchResult result (λ _. cells_spot ordered_fractions (passes S.MAX) (suc rows) (length columns.old) (cell_of S.exact (length columns.old) cells.old) row column ≡ None) (λ e. cells_spot ordered_fractions (passes S.MAX) (suc rows) (length columns.old) (cell_of S.exact (length columns.old) cells.old) row column ≡ Some e) }
+    ensures ok { OnOk result ((i j : ℕ) → cell_of S.exact (length columns.old) cells.new i j
+        ≡ next ordered_fractions (cell_of S.exact (length columns.old) cells.old) row column i j) }
+    ensures passed { MatchResult result
+        (λ _. cells_spot ordered_fractions (passes S.MAX) (suc rows) (length columns.old)
+        (cell_of S.exact (length columns.old) cells.old) row column ≡ None)
+        (λ e. cells_spot ordered_fractions (passes S.MAX) (suc rows) (length columns.old)
+        (cell_of S.exact (length columns.old) cells.old) row column ≡ Some e) }
 {
     let width = columns.len();
     let start = row * width;

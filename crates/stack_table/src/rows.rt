@@ -1,6 +1,7 @@
 //! A pivot row by row: the pivot row is divided, each other row is reduced. A cell of 0 is skipped by its mark.
 
-ghost use Rattle.std.specs.Prelude.{◌≡◌, ◌≢◌, ℕ, ◌+◌, ◌*◌, ◌<◌, ◌≤◌, length, pos, IfOk, MatchResult, Some, None, true};
+ghost use Rattle.std.specs.Prelude.{◌≡◌, ◌≢◌, ℕ, ◌+◌, ◌*◌, ◌<◌, ◌≤◌, length, pos, OnOk, IfOk, MatchResult};
+ghost use Rattle.std.specs.Prelude.{Some, None, true};
 ghost use Rattle.stack_algebra.proofs.OrderedFractions.{ordered_fractions};
 ghost use Rattle.stack_algebra.specs.Search.{first};
 ghost use Rattle.stack_rational.specs.Passes.{passes};
@@ -23,9 +24,15 @@ pub fn divide_row<S: Exact>(
     requires divisor { (S.exact divisor).num ≢ pos 0 }
     requires block { IsBlock S.MAX S.exact cells.old marks.now }
     ensures block { IsBlock S.MAX S.exact cells.new marks.now }
-    ensures ok { IfOk result (λ _. (j : ℕ) → value_at S.exact cells.new j ≡ divided ordered_fractions (value_at S.exact cells.old) (S.exact divisor) j) }
-    ensures listed { IfOk result (λ n. (n ≤ length columns.new) × Lists (zero_in S.exact cells.new) columns.new n (length cells.new)) }
-    ensures passed { MatchResult result (λ _. divide_spot ordered_fractions (passes S.MAX) (length cells.old) (value_at S.exact cells.old) (S.exact divisor) row ≡ None) (λ e. divide_spot ordered_fractions (passes S.MAX) (length cells.old) (value_at S.exact cells.old) (S.exact divisor) row ≡ Some e) }
+    ensures ok { OnOk result ((j : ℕ) → value_at S.exact cells.new j
+        ≡ divided ordered_fractions (value_at S.exact cells.old) (S.exact divisor) j) }
+    ensures listed { IfOk result (λ n. (n ≤ length columns.new)
+        × Lists (zero_in S.exact cells.new) columns.new n (length cells.new)) }
+    ensures passed { MatchResult result
+        (λ _. divide_spot ordered_fractions (passes S.MAX) (length cells.old) (value_at S.exact cells.old)
+        (S.exact divisor) row ≡ None)
+        (λ e. divide_spot ordered_fractions (passes S.MAX) (length cells.old) (value_at S.exact cells.old)
+        (S.exact divisor) row ≡ Some e) }
 {
     let mut count = 0;
     for j in 0..cells.len() {
@@ -61,8 +68,14 @@ pub fn reduce_row<S: Exact>(
     requires block { IsBlock S.MAX S.exact cells.old marks.old }
     requires listed { Lists (zero_in S.exact pivot.now) columns.now (length columns.now) (length cells.old) }
     ensures block { IsBlock S.MAX S.exact cells.new marks.new }
-    ensures ok { IfOk result (λ _. (j : ℕ) → value_at S.exact cells.new j ≡ reduced ordered_fractions (value_at S.exact cells.old) (value_at S.exact pivot.now) (value_at S.exact cells.old column) j) }
-    ensures passed { MatchResult result (λ _. reduce_spot ordered_fractions (passes S.MAX) (length cells.old) (value_at S.exact cells.old) (value_at S.exact pivot.now) (value_at S.exact cells.old column) row ≡ None) (λ e. reduce_spot ordered_fractions (passes S.MAX) (length cells.old) (value_at S.exact cells.old) (value_at S.exact pivot.now) (value_at S.exact cells.old column) row ≡ Some e) }
+    ensures ok { OnOk result ((j : ℕ) → value_at S.exact cells.new j
+        ≡ reduced ordered_fractions (value_at S.exact cells.old) (value_at S.exact pivot.now)
+        (value_at S.exact cells.old column) j) }
+    ensures passed { MatchResult result
+        (λ _. reduce_spot ordered_fractions (passes S.MAX) (length cells.old) (value_at S.exact cells.old)
+        (value_at S.exact pivot.now) (value_at S.exact cells.old column) row ≡ None)
+        (λ e. reduce_spot ordered_fractions (passes S.MAX) (length cells.old) (value_at S.exact cells.old)
+        (value_at S.exact pivot.now) (value_at S.exact cells.old column) row ≡ Some e) }
 {
     let factor = cells[column];
     for k in 0..columns.len() {
@@ -110,8 +123,14 @@ pub fn reduce_rows<S: Exact>(
     requires block { IsBlock S.MAX S.exact cells.old marks.old }
     requires listed { Lists (zero_in S.exact pivot.now) columns.now (length columns.now) (length pivot.now) }
     ensures block { IsBlock S.MAX S.exact cells.new marks.new }
-    ensures ok { IfOk result (λ _. (i j : ℕ) → cell_of S.exact (length pivot.now) cells.new i j ≡ reduced ordered_fractions (cell_of S.exact (length pivot.now) cells.old i) (value_at S.exact pivot.now) (cell_of S.exact (length pivot.now) cells.old i column) j) }
-    ensures passed { MatchResult result (λ _. rows_spot ordered_fractions (passes S.MAX) count (length pivot.now) (cell_of S.exact (length pivot.now) cells.old) (value_at S.exact pivot.now) column first ≡ None) (λ e. rows_spot ordered_fractions (passes S.MAX) count (length pivot.now) (cell_of S.exact (length pivot.now) cells.old) (value_at S.exact pivot.now) column first ≡ Some e) }
+    ensures ok { OnOk result ((i j : ℕ) → cell_of S.exact (length pivot.now) cells.new i j
+        ≡ reduced ordered_fractions (cell_of S.exact (length pivot.now) cells.old i)
+        (value_at S.exact pivot.now) (cell_of S.exact (length pivot.now) cells.old i column) j) }
+    ensures passed { MatchResult result
+        (λ _. rows_spot ordered_fractions (passes S.MAX) count (length pivot.now)
+        (cell_of S.exact (length pivot.now) cells.old) (value_at S.exact pivot.now) column first ≡ None)
+        (λ e. rows_spot ordered_fractions (passes S.MAX) count (length pivot.now)
+        (cell_of S.exact (length pivot.now) cells.old) (value_at S.exact pivot.now) column first ≡ Some e) }
 {
     let width = pivot.len();
     for i in 0..count {

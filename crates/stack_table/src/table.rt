@@ -12,7 +12,8 @@ use crate::types::PivotWide;
 use stack_rational::Exact;
 use std::alloc::Global;
 
-/// The exact table of a run, in one flat block. Row `rows` is the objective row, column `columns` the right side.
+/// The exact table of a run, in one flat block. Row `rows` is the objective row, column `columns` the right
+/// side.
 ///
 /// All memory is taken by `build`; no other call takes any.
 #[derive(Drop)]
@@ -34,12 +35,13 @@ pub struct Table<S: Exact> {
     ghost whole: { length cells.items ≡ suc rows * length listed.items },
     ghost block: { IsBlock S.MAX S.exact cells.items marks.items },
     ghost basics: { length basic.items ≡ rows },
-    ghost basics_in: { (i : ℕ) → i < rows → get_or basic.items i 0 < columns (shape_of rows contacts has_factor) },
+    ghost basics_in: { (i : ℕ) → i < rows →
+        get_or basic.items i 0 < columns (shape_of rows contacts has_factor) },
     ghost flips: { length flipped.items ≡ rows },
 }
 
 impl<S: Exact> Table<S> {
-    ghost use Rattle.std.specs.Prelude.{◌≢◌, ◌+◌, ◌≤◌, pos, cond, true, OnOk, IfOk, IfErr, MatchResult, Some, None};
+    ghost use Rattle.std.specs.Prelude.{◌≢◌, ◌+◌, ◌≤◌, pos, cond, OnOk, IfOk, IfErr, MatchResult, Some, None};
     ghost use Rattle.stack_algebra.proofs.OrderedFractions.{ordered_fractions};
     ghost use Rattle.stack_rational.specs.Passes.{passes};
     ghost use Rattle.stack_rational.specs.Order.{is_zero};
@@ -54,15 +56,16 @@ impl<S: Exact> Table<S> {
 
     /// The written table of a problem.
     ///
-    /// Refused at the first number, or partial difference of the objective row, that passes, in the written order;
-    /// never at 128 bits. All memory of a run is taken here.
+    /// Refused at the first number, or partial difference of the objective row, that passes, in the written
+    /// order; never at 128 bits. All memory of a run is taken here.
     pub fn build(alloc: Global, p: &Problem) -> Result<Table<S>, BuildError>
         requires { IsProblem p.now }
         ensures shape { IfOk result (λ t. shape_of_table t ≡ shape_of_problem p.now) }
         ensures ok { IfOk result (λ t. table_of t ≡ written_table ordered_fractions (problem_of p.now)) }
         ensures flips { IfOk result (λ t. flips_of t ≡ flipped (problem_of p.now)) }
         ensures fits { OnOk result (wide_place ordered_fractions (passes S.MAX) (problem_of p.now) ≡ None) }
-        ensures wide { IfErr result (λ e. Tells e (wide_place ordered_fractions (passes S.MAX) (problem_of p.now))) }
+        ensures wide { IfErr result (λ e.
+            Tells e (wide_place ordered_fractions (passes S.MAX) (problem_of p.now))) }
         ensures never_wide { IsAmple S.MAX → IfErr result (λ e. e ≡ build_error.Memory) }
     {
         let artificial = artificial(p);
@@ -143,18 +146,22 @@ impl<S: Exact> Table<S> {
 
     /// All cells, row by row, the objective row last; each row by rising column, the right side last.
     pub fn block(&self) -> &[S]
-        ensures whole { length result.now ≡ suc (shape_of_table self.now).rows * width (shape_of_table self.now) }
+        ensures whole { length result.now
+            ≡ suc (shape_of_table self.now).rows * width (shape_of_table self.now) }
         ensures cells { (i j : ℕ) → j < width (shape_of_table self.now) →
-            value_at S.exact result.now (i * width (shape_of_table self.now) + j) ≡ (table_of self.now).cell i j }
+            value_at S.exact result.now (i * width (shape_of_table self.now) + j)
+            ≡ (table_of self.now).cell i j }
     {
         self.cells.as_slice()
     }
 
     /// A mark for each cell, in the same order: on exactly where the cell is 0.
     pub fn marks(&self) -> &[bool]
-        ensures whole { length result.now ≡ suc (shape_of_table self.now).rows * width (shape_of_table self.now) }
+        ensures whole { length result.now
+            ≡ suc (shape_of_table self.now).rows * width (shape_of_table self.now) }
         ensures marked { (i j : ℕ) → j < width (shape_of_table self.now) →
-            mark_at result.now (i * width (shape_of_table self.now) + j) ≡ is_zero ((table_of self.now).cell i j) }
+            mark_at result.now (i * width (shape_of_table self.now) + j)
+            ≡ is_zero ((table_of self.now).cell i j) }
     {
         self.marks.as_slice()
     }
@@ -171,10 +178,10 @@ impl<S: Exact> Table<S> {
         ensures ok { OnOk result (table_of self.new
             ≡ pivoted_at ordered_fractions (shape_of_table self.old) (table_of self.old) row column) }
         ensures passed { MatchResult result
-            (λ _. pivot_spot ordered_fractions (passes S.MAX) (shape_of_table self.old) (table_of self.old) row column
-            ≡ None)
-            (λ e. pivot_spot ordered_fractions (passes S.MAX) (shape_of_table self.old) (table_of self.old) row column
-            ≡ Some e) }
+            (λ _. pivot_spot ordered_fractions (passes S.MAX) (shape_of_table self.old) (table_of self.old)
+            row column ≡ None)
+            (λ e. pivot_spot ordered_fractions (passes S.MAX) (shape_of_table self.old) (table_of self.old)
+            row column ≡ Some e) }
     {
         pivot_block(
             self.cells.as_mut_slice(),
@@ -203,8 +210,8 @@ impl<S: Exact> Table<S> {
         );
     }
 
-    /// Sets the objective row to that of the factor: the row in which it is basic without its own cell, and where it
-    /// isn't basic -1 in its column alone.
+    /// Sets the objective row to that of the factor: the row in which it is basic without its own cell, and
+    /// where it isn't basic -1 in its column alone.
     pub fn set_factor_objective(&mut self)
         requires { (shape_of_table self.old).factors ≡ 1 }
         ensures shape { shape_of_table self.new ≡ shape_of_table self.old }

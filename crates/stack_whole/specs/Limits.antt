@@ -5,6 +5,10 @@ use Rattle.std.specs.Prelude.{ℕ, ◌<◌, ◌^◌, ℤ, nat_abs}
 abbrev pub most_bearings : ℕ
 most_bearings = 1024
 
+-- a model's free blocks, and so a motion's moves
+abbrev pub most_free : ℕ
+most_free = 128
+
 -- loads and columns are below this in size, within the limits of a model
 abbrev pub load_bound : ℕ
 load_bound = 2 ^ 90

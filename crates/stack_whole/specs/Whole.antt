@@ -1,10 +1,14 @@
 -- Whole numbers of 128 bits: a number passes where its size is more than 2^127 - 1, and then it is not made. Here this is said
 -- once, for each number that is read, written, tested or computed.
-use Rattle.std.specs.Prelude.{◌≡◌, ◌<◌, ◌≤◌, ◌^◌, ℤ, nat_abs, Bool, nat_lt, Option, Some, None, Result, Ok, Err, if◌then◌else◌}
+use Rattle.std.specs.Prelude.{◌≡◌, ℕ, ◌<◌, ◌≤◌, ◌-◌, ◌^◌, ℤ, nat_abs, Bool, nat_lt, Option, Some, None, Result, Ok, Err, if◌then◌else◌}
 use Rattle.stack_whole.specs.declared.whole.Wide.{Wide}
 use Rattle.stack_whole.specs.declared.whole.Whole.{Whole}
 
--- the size is at most 2^127 - 1, as a fact and as a test
+-- the greatest size that a number may have
+abbrev pub greatest_number : ℕ
+greatest_number = 2 ^ 127 - 1
+
+-- the size is at most that, as a fact and as a test
 abbrev pub IsFitting : ℤ → Type 0
 IsFitting z = nat_abs z < 2 ^ 127
 

@@ -37,6 +37,15 @@ impl Whole {
         Whole { value }
     }
 
+    /// A number of 64 bits as it is.
+    pub fn widened(value: i64) -> Whole
+        ensures { result ≡ whole value }
+    {
+        Whole {
+            value: value as i128,
+        }
+    }
+
     /// The product of both.
     pub fn product(self, other: Whole) -> Result<Whole, Wide>
         ensures { result ≡ made (self.value *ℤ other.value) }

@@ -91,79 +91,28 @@ fn ground(alloc: Global) -> Result<Blocks, Fail> {
 }
 
 #[test]
-fn a_stack_of_four_bears_at_12_points_and_touches_at_two(rt: HostRuntime) -> Result<(), Fail> {
-    let mut blocks = ground(rt.alloc())?;
-    blocks.add_box(rt.alloc(), false, at(0, 0), at(2, 1))?;
-    blocks.add_box(rt.alloc(), false, at(2, 0), at(4, 1))?;
-    blocks.add_box(rt.alloc(), false, at(0, 1), at(2, 2))?;
-    blocks.add_box(rt.alloc(), false, at(2, 1), at(4, 2))?;
-    let survey = blocks.survey(rt.alloc())??;
-    let bearings = [
-        bearing(0, 1, at(0, 0), 1, 0),
-        bearing(0, 1, at(2, 0), 1, 0),
-        bearing(0, 2, at(2, 0), 1, 0),
-        bearing(0, 2, at(4, 0), 1, 0),
-        bearing(1, 2, at(2, 0), 0, -1),
-        bearing(1, 2, at(2, 1), 0, -1),
-        bearing(1, 3, at(0, 1), 1, 0),
-        bearing(1, 3, at(2, 1), 1, 0),
-        bearing(2, 4, at(2, 1), 1, 0),
-        bearing(2, 4, at(4, 1), 1, 0),
-        bearing(3, 4, at(2, 1), 0, -1),
-        bearing(3, 4, at(2, 2), 0, -1),
-    ];
-    let touches = [
-        Touch {
-            first: 1,
-            second: 4,
-            at: at(2, 1),
-        },
-        Touch {
-            first: 2,
-            second: 3,
-            at: at(2, 1),
-        },
-    ];
-    assert_eq!(rt; survey.bearings(), bearings.as_slice());
-    assert_eq!(rt; survey.touches(), touches.as_slice());
-    assert_eq!(rt; survey.model().bodies(), 5);
-    Ok(())
-}
-
-#[test]
-fn a_keystone_bears_on_both_abutments(rt: HostRuntime) -> Result<(), Fail> {
-    let alloc = rt.alloc();
-    let mut blocks = Blocks::new(alloc);
-    blocks.add(alloc, true, &[[-10, 0], [-1, 0], [-2, 4], [-10, 4]])?;
-    blocks.add(alloc, true, &[[1, 0], [10, 0], [10, 4], [2, 4]])?;
-    blocks.add(alloc, false, &[[-1, 0], [1, 0], [2, 4], [-2, 4]])?;
-    let survey = blocks.survey(alloc)??;
-    let bearings = [
-        bearing(0, 2, at(-2, 4), 1, -4),
-        bearing(0, 2, at(-1, 0), 1, -4),
-        bearing(1, 2, at(1, 0), 1, 4),
-        bearing(1, 2, at(2, 4), 1, 4),
-    ];
-    assert_eq!(rt; survey.bearings(), bearings.as_slice());
-    assert!(rt; survey.touches().is_empty());
-    Ok(())
-}
-
-#[test]
-fn pairs_of_fixed_bodies_are_left_out(rt: HostRuntime) -> Result<(), Fail> {
+fn a_survey_lists_bearings_touches_and_free_blocks(rt: HostRuntime) -> Result<(), Fail> {
     let alloc = rt.alloc();
     let mut blocks = ground(alloc)?;
-    // It overlaps the ground, the next one bears on it, and the last touches it.
+    // It overlaps the ground, the next one bears on it, and the one after touches it: all are fixed.
     blocks.add_box(alloc, true, at(5, -1), at(15, 0))?;
     blocks.add_box(alloc, true, at(-12, -1), at(-10, 0))?;
     blocks.add_box(alloc, true, at(-12, 0), at(-10, 1))?;
     blocks.add_box(alloc, false, at(0, 0), at(2, 4))?;
+    blocks.add_box(alloc, false, at(2, 4), at(4, 6))?;
     let survey = blocks.survey(alloc)??;
     let bearings = [bearing(0, 4, at(0, 0), 1, 0), bearing(0, 4, at(2, 0), 1, 0)];
+    let touch = Touch {
+        first: 4,
+        second: 5,
+        at: at(2, 4),
+    };
     assert_eq!(rt; survey.bearings(), bearings.as_slice());
-    assert!(rt; survey.touches().is_empty());
-    assert_eq!(rt; survey.free_count(), 1);
-    assert_eq!(rt; survey.free(0), 4);
+    assert_eq!(rt; survey.touches(), [touch].as_slice());
+    assert_eq!(rt; survey.model().bodies(), 6);
+    assert_eq!(rt; survey.free_count(), 2);
+    assert_eq!(rt; survey.free(1), 5);
+    assert_eq!(rt; survey.free_number(5), 1);
     Ok(())
 }
 
@@ -179,43 +128,5 @@ fn the_first_pair_that_overlaps_is_named(rt: HostRuntime) -> Result<(), Fail> {
         second: 3,
     };
     assert_eq!(rt; blocks.survey(alloc)?.err(), Some(overlap));
-    Ok(())
-}
-
-#[test]
-fn a_wall_of_192_bricks_has_too_many_bearings(rt: HostRuntime) -> Result<(), Fail> {
-    let mut blocks = Blocks::new(rt.alloc());
-    for place in 0..192 {
-        let course = place / 12;
-        let shift = course % 2;
-        let brick = place % 12;
-        let x = 20 * brick + 10 * shift;
-        let y = 10 * course;
-        let fixed = (brick + 2 * shift) % 3 == 0;
-        blocks.add_box(rt.alloc(), fixed, at(x, y), at(x + 20, y + 10))?;
-    }
-    let many = SurveyError::TooManyBearings { count: 1042 };
-    assert_eq!(rt; blocks.survey(rt.alloc())?.err(), Some(many));
-    Ok(())
-}
-
-#[test]
-fn a_column_of_192_bodies_bears_at_256_points(rt: HostRuntime) -> Result<(), Fail> {
-    let mut blocks = Blocks::new(rt.alloc());
-    for y in 0..192 {
-        blocks.add_box(rt.alloc(), y < 64, at(0, y), at(2, y + 1))?;
-    }
-    let survey = blocks.survey(rt.alloc())??;
-    assert_eq!(rt; survey.bearings().len(), 256);
-    assert_eq!(rt;
-        survey.bearings().first().copied(),
-        Some(bearing(63, 64, at(0, 64), 1, 0))
-    );
-    assert_eq!(rt;
-        survey.bearings().last().copied(),
-        Some(bearing(190, 191, at(2, 191), 1, 0))
-    );
-    assert_eq!(rt; survey.free_count(), 128);
-    assert_eq!(rt; survey.free(127), 191);
     Ok(())
 }

@@ -101,14 +101,22 @@ fn all_agree(left: Frac<i8>, right: Frac<i8>) -> bool {
         && agrees(Op::Quotient, left, right)
 }
 
+/// Both against one another; where one can't be made they don't agree.
+fn agree(left: (i8, i8), right: (i8, i8)) -> bool {
+    let left = fraction::<Frac<i8>>(i128::from(left.0), i128::from(left.1));
+    let right = fraction::<Frac<i8>>(i128::from(right.0), i128::from(right.1));
+    match (left, right) {
+        (Some(left), Some(right)) => all_agree(left, right),
+        _ => false,
+    }
+}
+
 /// One fraction against all with a numerator from -12 to 12 and a denominator from 1 to 12.
-fn agrees_with_small(left: Frac<i8>) -> bool {
+fn agrees_with_small(left: (i8, i8)) -> bool {
     for n in -12i8..13 {
         for d in 1i8..13 {
-            if let Some(right) = fraction::<Frac<i8>>(i128::from(n), i128::from(d)) {
-                if !all_agree(left, right) {
-                    return false;
-                }
+            if !agree(left, (n, d)) {
+                return false;
             }
         }
     }
@@ -119,9 +127,7 @@ fn agrees_with_small(left: Frac<i8>) -> bool {
 fn small_fractions_agree_with_plain_arithmetic(rt: HostRuntime) {
     for n in -12i8..13 {
         for d in 1i8..13 {
-            if let Some(left) = fraction::<Frac<i8>>(i128::from(n), i128::from(d)) {
-                assert!(rt; agrees_with_small(left));
-            }
+            assert!(rt; agrees_with_small((n, d)));
         }
     }
 }
@@ -130,12 +136,8 @@ fn small_fractions_agree_with_plain_arithmetic(rt: HostRuntime) {
 fn fractions_near_127_agree_with_plain_arithmetic(rt: HostRuntime) {
     for n in 119i8..127 {
         for d in 119i8..127 {
-            if let Some(left) = fraction::<Frac<i8>>(i128::from(n), i128::from(d)) {
-                assert!(rt; agrees_with_small(left));
-            }
-            if let Some(left) = fraction::<Frac<i8>>(i128::from(n).wrapping_neg(), i128::from(d)) {
-                assert!(rt; agrees_with_small(left));
-            }
+            assert!(rt; agrees_with_small((n, d)));
+            assert!(rt; agrees_with_small((n.wrapping_neg(), d)));
         }
     }
 }

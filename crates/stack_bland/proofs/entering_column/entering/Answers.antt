@@ -14,7 +14,7 @@ returns-then-is_negative-clause-value g c =
     sym (first_found c.args.among j (λ j. only_if (is_minus (sign_of ((table_of t).cell t.rows j).num)) j) j
     c.loop-j-test.true c.loop-j.invariant (ap (λ b. only_if b j)
     (ap (λ (v : Fraction). is_minus (sign_of v.num)) cell ∙ sym c.is_negative.ensures
-        ∙ c.if-is_negative.true)))
+    ∙ c.if-is_negative.true)))
 
 pub loop-j-preserved : goal.loop-j-preserved
 loop-j-preserved g c =
@@ -24,4 +24,4 @@ loop-j-preserved g c =
     first_more j (λ j. only_if (is_minus (sign_of ((table_of t).cell t.rows j).num)) j) c.loop-j.invariant
     (ap (λ b. only_if b j)
     (ap (λ (v : Fraction). is_minus (sign_of v.num)) cell ∙ sym c.is_negative.ensures
-        ∙ c.if-is_negative.false))
+    ∙ c.if-is_negative.false))

@@ -56,7 +56,7 @@ loop-i-preserved g c = elim c.if-is_positive.branch [
       rw w.best-is (record {
         none = first_more i (ratio_item ordered_fractions S (passes m) T k) c.loop-i.invariant.none
             (item m S T k i (e c.cell-cell.result) (e w.cell.result) false
-                (sym c.cell-cell.ensures) y positive
+            (sym c.cell-cell.ensures) y positive
             w.in-Ok.ensures.fits);
         held = held_positive e (λ i. T.cell i k)
             (ratio ordered_fractions S T k) T.basic i c.loop-i.best w.better.result
@@ -71,7 +71,7 @@ loop-i-preserved g c = elim c.if-is_positive.branch [
       let i = c.loop-i.i in
       let k = c.args.column in
       let p = ap (λ (v : Fraction). is_plus (sign_of v.num)) (sym c.cell-cell.ensures)
-          ∙ sym c.is_positive.ensures
+      ∙ sym c.is_positive.ensures
       ∙ w.if-is_positive.false in
       rw w.best-is (record {
         none = first_more i (ratio_item ordered_fractions S (passes g.S.Exact.MAX) T k)

@@ -15,5 +15,5 @@ invariant-loop-i g l =
       none : first l.i (ratio_item ordered_fractions S (passes g.S.Exact.MAX) T l.column) ≡ None;
       held : HoldsBest g.S.Exact.exact (ratio ordered_fractions S T l.column) l.i l.best
           (best ordered_fractions (λ i. T.cell i l.column)
-              (ratio ordered_fractions S T l.column) T.basic l.i);
+          (ratio ordered_fractions S T l.column) T.basic l.i);
     }

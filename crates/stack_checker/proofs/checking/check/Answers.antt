@@ -1,7 +1,7 @@
 use Rattle.std.proofs.Common.{◌≡◌, sym, ◌∙◌, subst}
 use Rattle.stack_certificate.specs.Certificate.{certificate_view}
 use Rattle.stack_checker.specs.declared.types.Check.TheVariants.{Accepted}
-use Rattle.stack_checker.specs.Truth.{IsTrueCertificate}
+use Rattle.stack_equilibrium.specs.Truth.{IsTrueCertificate}
 use Rattle.stack_checker.specs.Verdict.{NamesOf}
 use Rattle.stack_checker.specs.WrittenCheck.{answer_of, written_check}
 use Rattle.stack_checker.proofs.Verdicts.{accepted_is_true, rejected_settles, check_names}

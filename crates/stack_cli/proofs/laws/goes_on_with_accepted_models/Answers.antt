@@ -1,4 +1,4 @@
-use Rattle.stack_cli.proofs.AcceptedFiles.{only_accepted, all_accepted, accepted_found}
+use Rattle.stack_cli.proofs.AcceptedFiles.{only_accepted, all_accepted}
 use Rattle.stack_cli.proofs.laws.goes_on_with_accepted_models.Goals as goal
 
 pub returns-clause-only : goal.returns-clause-only
@@ -6,6 +6,3 @@ returns-clause-only c = only_accepted
 
 pub returns-clause-all : goal.returns-clause-all
 returns-clause-all c = all_accepted
-
-pub returns-clause-found : goal.returns-clause-found
-returns-clause-found c = accepted_found

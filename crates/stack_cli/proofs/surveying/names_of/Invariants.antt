@@ -1,5 +1,5 @@
 use Rattle.std.proofs.Common.{◌≡◌, map, take, string_bytes}
-use Rattle.stack_cli.specs.Outcome.{body_names}
+use Rattle.stack_cli.specs.Surveying.{body_names}
 use Rattle.stack_cli.proofs.surveying.names_of.Given as goal
 
 abbrev pub invariant-loop-i : goal.invariant-loop-i

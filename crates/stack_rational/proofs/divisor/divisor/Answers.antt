@@ -1,5 +1,6 @@
 use mathlib.Core.Path.{◌≡◌, ap, ◌∙◌}
 use lib.IntN.{nat_abs}
+use Rattle.std.proofs.lemmas.Nat.Gcd.{IsGcd-swap}
 use Rattle.stack_rational.proofs.AtWide.{recast}
 use Rattle.stack_rational.proofs.Divisors.{some_size, some_gcd, none_fits, one_gcd}
 use Rattle.stack_rational.proofs.divisor.divisor.Goals as goal
@@ -31,3 +32,8 @@ returns-in-None-clause-positive g c = absurd (c.in-None.ensures.value g.met.T.In
 
 pub returns-then-is_one-clause-gcd : goal.returns-then-is_one-clause-gcd
 returns-then-is_one-clause-gcd g c = one_gcd (g.T.Number.value c.args.a) (g.T.Number.value c.args.b) ((c.is_one.ensures.value g.met.T.Integral.exact_law).0 c.if-is_one.true)
+
+pub returns-then-is_one-2-clause-gcd : goal.returns-then-is_one-2-clause-gcd
+returns-then-is_one-2-clause-gcd g c = IsGcd-swap (nat_abs (g.T.Number.value c.args.b)) (nat_abs (g.T.Number.value c.args.a)) _
+    (one_gcd (g.T.Number.value c.args.b) (g.T.Number.value c.args.a)
+    ((c.is_one-2.ensures.value g.met.T.Integral.exact_law).0 c.if-is_one-2.true))

@@ -29,7 +29,7 @@ returns-in_err-sum-clause-wide g c =
     c.loop-i-test.true c.requires.room c.requires.column_in c.index-cells-i.is in
     let p = err_from_is_err_and c.from_residual.result c.from_residual.ensures.1 in
     rw p.1 (first_found a.rows c.loop-i.i
-        (partial_place ordered_fractions (passes m) (Wide a.rows a.column) f) _
+    (partial_place ordered_fractions (passes m) (Wide a.rows a.column) f) _
     c.loop-i-test.true c.loop-i.invariant.none (ap (λ b. only_if b (Wide a.rows a.column))
     ((λ z. passes m Difference (sym c.loop-i.invariant.value z) (x z)) ∙ c.in_err-sum.ensures.wide)))
 

@@ -20,7 +20,7 @@ returns-in_err-cell-clause-wide g c =
     let p = err_from_is_err_and c.from_residual.result c.from_residual.ensures.1 in
     rw p.1 ((λ z. cond (plain z) None (first a.p.now.rows (partial_place ordered_fractions
     (passes g.S.Exact.MAX) (Wide a.p.now.rows a.column)
-        (λ i. cell_of g.S.Exact.exact (w z) a.cells.now i a.column))))
+    (λ i. cell_of g.S.Exact.exact (w z) a.cells.now i a.column))))
     ∙ c.in_err-cell.ensures.wide)
 
 pub returns-clause-none : goal.returns-clause-none
@@ -31,7 +31,7 @@ returns-clause-none g c =
     let plain : is_artificial S a.column ≡ false = sym c.is_artificial.ensures ∙ c.if-is_artificial.false in
     (λ z. cond (plain z) None (first a.p.now.rows (partial_place ordered_fractions
     (passes g.S.Exact.MAX) (Wide a.p.now.rows a.column)
-        (λ i. cell_of g.S.Exact.exact (w z) a.cells.now i a.column))))
+    (λ i. cell_of g.S.Exact.exact (w z) a.cells.now i a.column))))
     ∙ c.in_ok-cell.ensures.none
 
 pub returns-then-is_artificial-clause-fits : goal.returns-then-is_artificial-clause-fits

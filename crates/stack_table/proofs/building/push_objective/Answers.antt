@@ -25,7 +25,7 @@ returns-in-Err-clause-wide g c =
     ∙ earlier_cells e w S.rows j _ c.args.cells.now.items c.loop-j.cells.items c.requires.long
     c.loop-j.invariant.grown i j l in
     first_found w j (objective_place ordered_fractions (passes m) S old) _
-        (omega (arith, c.loop-j-test.true, c.requires.artificial))
+    (omega (arith, c.loop-j-test.true, c.requires.artificial))
     c.loop-j.invariant.none
     (sym (place_same S j (cell_of e w c.as_slice.result.now) old same m) ∙ c.in-Err.ensures.wide)
 
@@ -56,6 +56,6 @@ pub returns-clause-fits : goal.returns-clause-fits
 returns-clause-fits g c =
     let S = shape_of_problem c.args.p.now in
     let end : width S ≡ c.loop-j.j =
-        omega (arith, c.loop-j-test.false, c.loop-j.auto.j-end, c.requires.artificial) in
+    omega (arith, c.loop-j-test.false, c.loop-j.auto.j-end, c.requires.artificial) in
     ap (λ n. first n (objective_place ordered_fractions (passes g.S.Exact.MAX) S
     (cell_of g.S.Exact.exact (width S) c.args.cells.now.items))) end ∙ c.loop-j.invariant.none

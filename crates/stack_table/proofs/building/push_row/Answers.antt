@@ -44,13 +44,13 @@ loop-j-preserved g c =
           c.in-Ok.cell c.loop-j.invariant.grown c.in-Ok-push_cell.ensures.ok (c.in-Ok.ensures.ok ∙ ap of n);
       none = first_more j (number_place ordered_fractions (passes m) P i) c.loop-j.invariant.none
           (ap (λ b. only_if b (Wide i j)) (ap (λ z. passes m Whole (of z) (of z)) (sym n)
-              ∙ c.in-Ok.ensures.fits));
+          ∙ c.in-Ok.ensures.fits));
     }
 
 pub returns-clause-fits : goal.returns-clause-fits
 returns-clause-fits g c =
     let P = problem_of c.args.p.now in
     let end : width P.shape ≡ c.loop-j.j =
-        omega (arith, c.loop-j-test.false, c.loop-j.auto.j-end, c.requires.artificial) in
+    omega (arith, c.loop-j-test.false, c.loop-j.auto.j-end, c.requires.artificial) in
     ap (λ n. first n (number_place ordered_fractions (passes g.S.Exact.MAX) P c.args.i)) end
-        ∙ c.loop-j.invariant.none
+    ∙ c.loop-j.invariant.none

@@ -18,7 +18,7 @@ loop-j-preserved g c =
     record {
       block = block_set e g.S.Exact.MAX c.loop-j.cells c.loop-j.marks j x true lt c.loop-j.invariant.block
           (sym (ap is_zero c.zero-zero.ensures ∙ is_zero-of)) (ap (fits g.S.Exact.MAX) c.zero-zero.ensures
-              ∙ zero_fits g.S.Exact.MAX g.met.S.Exact.max_law);
+          ∙ zero_fits g.S.Exact.MAX g.met.S.Exact.max_law);
       done = λ k l. elim (ℕ_discrete k j) [
         | yes d ↦ ap (value_at e (set c.loop-j.cells j x)) d ∙ value_at-set_same e c.loop-j.cells j x lt
             ∙ c.zero-zero.ensures

@@ -17,7 +17,7 @@ returns-clause-ok g c = λ j. go j (ℕ_discrete j c.args.column)
     go : (j : ℕ) → Dec (j ≡ c.args.column) →
         value_at g.S.Exact.exact (set c.args.cells.now c.args.column c.args.cell) j
         ≡ cond (eqb j c.args.column) (g.S.Exact.exact c.args.cell)
-            (value_at g.S.Exact.exact c.args.cells.now j)
+        (value_at g.S.Exact.exact c.args.cells.now j)
     go j (yes d) = ap (value_at g.S.Exact.exact (set c.args.cells.now c.args.column c.args.cell)) d
         ∙ value_at-set_same g.S.Exact.exact c.args.cells.now c.args.column c.args.cell c.requires.column_in
         ∙ sym (ap (λ b. cond b (g.S.Exact.exact c.args.cell) (value_at g.S.Exact.exact c.args.cells.now j))

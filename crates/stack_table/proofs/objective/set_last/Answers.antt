@@ -12,19 +12,19 @@ use Rattle.stack_table.proofs.objective.set_last.Goals as goal
 pub set_cell-requires-clause-block : goal.set_cell-requires-clause-block
 set_cell-requires-clause-block g c =
     let p = two_parts g.S.Exact.exact g.S.Exact.MAX c.args.cells.now c.args.marks.now
-        (c.args.rows * c.args.width)
+    (c.args.rows * c.args.width)
     (omega (arith, c.requires.whole, suc-mul c.args.rows c.args.width)) c.requires.block
     c.split_at_mut-above.result.0.now c.split_at_mut-above.result.1.now
-        c.split_at_mut-marks_above.result.0.now c.split_at_mut-marks_above.result.1.now
+    c.split_at_mut-marks_above.result.0.now c.split_at_mut-marks_above.result.1.now
     c.split_at_mut-above.ensures.front c.split_at_mut-above.ensures.back
-        c.split_at_mut-marks_above.ensures.front c.split_at_mut-marks_above.ensures.back in
+    c.split_at_mut-marks_above.ensures.front c.split_at_mut-marks_above.ensures.back in
     let l : c.in-Some.r < c.args.rows =
-        subst (λ o. IfSome o (λ r. r < c.args.rows)) c.in-Some.is c.requires.row_in in
+    subst (λ o. IfSome o (λ r. r < c.args.rows)) c.in-Some.is c.requires.row_in in
     rw (c.copy_from_slice.ensures.after, c.copy_from_slice-in-Some.ensures.after)
     (part_block g.S.Exact.exact g.S.Exact.MAX c.args.width c.in-Some.r c.split_at_mut-above.result.0.now
-        c.split_at_mut-marks_above.result.0.now p.0
+    c.split_at_mut-marks_above.result.0.now p.0
     (row_in c.in-Some.r c.args.rows c.args.width
-        (length c.split_at_mut-above.result.0.now) l c.split_at_mut-above.ensures.front_len))
+    (length c.split_at_mut-above.result.0.now) l c.split_at_mut-above.ensures.front_len))
 
 pub set_cell-requires-clause-fits : goal.set_cell-requires-clause-fits
 set_cell-requires-clause-fits g c = ap (fits g.S.Exact.MAX) c.zero.ensures
@@ -36,9 +36,9 @@ clear_row-requires g c = record {
       (c.args.rows * c.args.width)
       (omega (arith, c.requires.whole, suc-mul c.args.rows c.args.width)) c.requires.block
       c.split_at_mut-above.result.0.now c.split_at_mut-above.result.1.now
-          c.split_at_mut-marks_above.result.0.now c.split_at_mut-marks_above.result.1.now
+      c.split_at_mut-marks_above.result.0.now c.split_at_mut-marks_above.result.1.now
       c.split_at_mut-above.ensures.front c.split_at_mut-above.ensures.back
-          c.split_at_mut-marks_above.ensures.front c.split_at_mut-marks_above.ensures.back).1;
+      c.split_at_mut-marks_above.ensures.front c.split_at_mut-marks_above.ensures.back).1;
 }
 
 pub returns-in-Some-clause-block : goal.returns-in-Some-clause-block
@@ -47,10 +47,10 @@ returns-in-Some-clause-block g c =
     (two_parts g.S.Exact.exact g.S.Exact.MAX c.args.cells.now c.args.marks.now (c.args.rows * c.args.width)
     (omega (arith, c.requires.whole, suc-mul c.args.rows c.args.width)) c.requires.block
     c.split_at_mut-above.result.0.now c.split_at_mut-above.result.1.now
-        c.split_at_mut-marks_above.result.0.now c.split_at_mut-marks_above.result.1.now
+    c.split_at_mut-marks_above.result.0.now c.split_at_mut-marks_above.result.1.now
     c.split_at_mut-above.ensures.front c.split_at_mut-above.ensures.back
-        c.split_at_mut-marks_above.ensures.front c.split_at_mut-marks_above.ensures.back).0
-        c.set_cell.ensures.block
+    c.split_at_mut-marks_above.ensures.front c.split_at_mut-marks_above.ensures.back).0
+    c.set_cell.ensures.block
 
 pub returns-in-Some-clause-ok : goal.returns-in-Some-clause-ok
 returns-in-Some-clause-ok g c =
@@ -58,32 +58,32 @@ returns-in-Some-clause-ok g c =
     let w = c.args.width in
     let r = c.in-Some.r in
     let p = two_parts g.S.Exact.exact g.S.Exact.MAX c.args.cells.now c.args.marks.now
-        (c.args.rows * c.args.width)
+    (c.args.rows * c.args.width)
     (omega (arith, c.requires.whole, suc-mul c.args.rows c.args.width)) c.requires.block
     c.split_at_mut-above.result.0.now c.split_at_mut-above.result.1.now
-        c.split_at_mut-marks_above.result.0.now c.split_at_mut-marks_above.result.1.now
+    c.split_at_mut-marks_above.result.0.now c.split_at_mut-marks_above.result.1.now
     c.split_at_mut-above.ensures.front c.split_at_mut-above.ensures.back
-        c.split_at_mut-marks_above.ensures.front c.split_at_mut-marks_above.ensures.back in
+    c.split_at_mut-marks_above.ensures.front c.split_at_mut-marks_above.ensures.back in
     let l : r < c.args.rows = subst (λ o. IfSome o (λ r. r < c.args.rows)) c.in-Some.is c.requires.row_in in
     let room = row_in r c.args.rows w
-        (length c.split_at_mut-above.result.0.now) l c.split_at_mut-above.ensures.front_len in
+    (length c.split_at_mut-above.result.0.now) l c.split_at_mut-above.ensures.front_len in
     let copied : (j : ℕ) → value_at e c.copy_from_slice.new.self j ≡ cell_of e w c.args.cells.now r j =
-        λ j. ap (λ ys. value_at e ys j) c.copy_from_slice.ensures.after
+    λ j. ap (λ ys. value_at e ys j) c.copy_from_slice.ensures.after
     ∙ part_value e g.S.Exact.MAX w r c.split_at_mut-above.result.0.now c.split_at_mut-marks_above.result.0.now
     p.0 room j
     ∙ first_rows g.S.Exact.exact c.args.width c.args.rows c.args.cells.now c.split_at_mut-above.result.0.now
     c.split_at_mut-above.result.1.now
     c.split_at_mut-above.ensures.value c.split_at_mut-above.ensures.front_len
     (last_length c.args.rows c.args.width (length c.args.cells.now)
-        (length c.split_at_mut-above.result.1.now) c.requires.whole c.split_at_mut-above.ensures.back_len) r j
-        l in
+    (length c.split_at_mut-above.result.1.now) c.requires.whole c.split_at_mut-above.ensures.back_len) r j
+    l in
     rw c.in-Some.is (last_changed g.S.Exact.exact c.args.width c.args.rows c.args.cells.now
-        c.split_at_mut-above.result.0.now c.split_at_mut-above.result.1.now
+    c.split_at_mut-above.result.0.now c.split_at_mut-above.result.1.now
     c.split_at_mut-above.ensures.value c.split_at_mut-above.ensures.front_len
     (last_length c.args.rows c.args.width (length c.args.cells.now)
-        (length c.split_at_mut-above.result.1.now) c.requires.whole c.split_at_mut-above.ensures.back_len)
+    (length c.split_at_mut-above.result.1.now) c.requires.whole c.split_at_mut-above.ensures.back_len)
     c.set_cell.new.cells (λ j. cond (eqb j c.args.column) (of (pos 0)) (cell_of e w c.args.cells.now r j))
-        (c.set_cell.auto.cells ∙ c.copy_from_slice.ensures.len)
+    (c.set_cell.auto.cells ∙ c.copy_from_slice.ensures.len)
     (λ j. c.set_cell.ensures.ok j ∙ (λ z. cond (eqb j c.args.column) (c.zero.ensures z) (copied j z))))
 
 pub returns-in-None-clause-block : goal.returns-in-None-clause-block
@@ -92,10 +92,10 @@ returns-in-None-clause-block g c =
     (two_parts g.S.Exact.exact g.S.Exact.MAX c.args.cells.now c.args.marks.now (c.args.rows * c.args.width)
     (omega (arith, c.requires.whole, suc-mul c.args.rows c.args.width)) c.requires.block
     c.split_at_mut-above.result.0.now c.split_at_mut-above.result.1.now
-        c.split_at_mut-marks_above.result.0.now c.split_at_mut-marks_above.result.1.now
+    c.split_at_mut-marks_above.result.0.now c.split_at_mut-marks_above.result.1.now
     c.split_at_mut-above.ensures.front c.split_at_mut-above.ensures.back
-        c.split_at_mut-marks_above.ensures.front c.split_at_mut-marks_above.ensures.back).0
-        c.set_cell-in-None.ensures.block
+    c.split_at_mut-marks_above.ensures.front c.split_at_mut-marks_above.ensures.back).0
+    c.set_cell-in-None.ensures.block
 
 pub returns-in-None-clause-ok : goal.returns-in-None-clause-ok
 returns-in-None-clause-ok g c =
@@ -103,8 +103,8 @@ returns-in-None-clause-ok g c =
     c.split_at_mut-above.result.0.now c.split_at_mut-above.result.1.now
     c.split_at_mut-above.ensures.value c.split_at_mut-above.ensures.front_len
     (last_length c.args.rows c.args.width (length c.args.cells.now)
-        (length c.split_at_mut-above.result.1.now) c.requires.whole c.split_at_mut-above.ensures.back_len)
+    (length c.split_at_mut-above.result.1.now) c.requires.whole c.split_at_mut-above.ensures.back_len)
     c.set_cell-in-None.new.cells (λ j. cond (eqb j c.args.column) (of (negsuc 0)) (of (pos 0)))
-        (c.set_cell-in-None.auto.cells ∙ c.clear_row.auto.cells)
+    (c.set_cell-in-None.auto.cells ∙ c.clear_row.auto.cells)
     (λ j. c.set_cell-in-None.ensures.ok j
-        ∙ (λ z. cond (eqb j c.args.column) (c.minus_one.ensures.value z) (c.clear_row.ensures.ok j z))))
+    ∙ (λ z. cond (eqb j c.args.column) (c.minus_one.ensures.value z) (c.clear_row.ensures.ok j z))))

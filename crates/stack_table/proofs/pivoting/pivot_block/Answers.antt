@@ -17,51 +17,51 @@ divide_row-requires-clause-divisor g c =
     (length c.args.columns.now) c.args.row c.args.column c.args.cells.now
     c.split_at_mut-above.result.0.now c.split_at_mut-own.result.0.now c.split_at_mut-own.result.1.now
     (c.split_at_mut-above.ensures.value
-        ∙ ap (λ ys. c.split_at_mut-above.result.0.now ++ ys) c.split_at_mut-own.ensures.value)
+    ∙ ap (λ ys. c.split_at_mut-above.result.0.now ++ ys) c.split_at_mut-own.ensures.value)
     c.split_at_mut-above.ensures.front_len c.split_at_mut-own.ensures.front_len c.index-own-column.result
-        c.requires.column_in c.index-own-column.is)) ∙ z)
+    c.requires.column_in c.index-own-column.is)) ∙ z)
 
 pub divide_row-requires-clause-block : goal.divide_row-requires-clause-block
 divide_row-requires-clause-block g c =
     (parted g.S.Exact.exact g.S.Exact.MAX c.args.cells.now c.args.marks.now
     (c.args.row * length c.args.columns.now) (length c.args.columns.now)
     (row_in c.args.row (suc c.args.rows) (length c.args.columns.now) (length c.args.cells.now)
-        (omega (arith, c.requires.row_in)) c.requires.whole) c.requires.block
+    (omega (arith, c.requires.row_in)) c.requires.whole) c.requires.block
     c.split_at_mut-above.result.0.now c.split_at_mut-above.result.1.now c.split_at_mut-own.result.0.now
-        c.split_at_mut-own.result.1.now
+    c.split_at_mut-own.result.1.now
     c.split_at_mut-marks_above.result.0.now c.split_at_mut-marks_above.result.1.now
-        c.split_at_mut-own_marks.result.0.now c.split_at_mut-own_marks.result.1.now
+    c.split_at_mut-own_marks.result.0.now c.split_at_mut-own_marks.result.1.now
     c.split_at_mut-above.ensures.front c.split_at_mut-above.ensures.back c.split_at_mut-own.ensures.front
-        c.split_at_mut-own.ensures.back
+    c.split_at_mut-own.ensures.back
     c.split_at_mut-marks_above.ensures.front c.split_at_mut-marks_above.ensures.back
-        c.split_at_mut-own_marks.ensures.front c.split_at_mut-own_marks.ensures.back).own_is
+    c.split_at_mut-own_marks.ensures.front c.split_at_mut-own_marks.ensures.back).own_is
 
 pub returns-in_err-count-clause-block : goal.returns-in_err-count-clause-block
 returns-in_err-count-clause-block g c = let p =
     parted g.S.Exact.exact g.S.Exact.MAX c.args.cells.now c.args.marks.now
     (c.args.row * length c.args.columns.now) (length c.args.columns.now)
     (row_in c.args.row (suc c.args.rows) (length c.args.columns.now) (length c.args.cells.now)
-        (omega (arith, c.requires.row_in)) c.requires.whole) c.requires.block
+    (omega (arith, c.requires.row_in)) c.requires.whole) c.requires.block
     c.split_at_mut-above.result.0.now c.split_at_mut-above.result.1.now c.split_at_mut-own.result.0.now
-        c.split_at_mut-own.result.1.now
+    c.split_at_mut-own.result.1.now
     c.split_at_mut-marks_above.result.0.now c.split_at_mut-marks_above.result.1.now
-        c.split_at_mut-own_marks.result.0.now c.split_at_mut-own_marks.result.1.now
+    c.split_at_mut-own_marks.result.0.now c.split_at_mut-own_marks.result.1.now
     c.split_at_mut-above.ensures.front c.split_at_mut-above.ensures.back c.split_at_mut-own.ensures.front
-        c.split_at_mut-own.ensures.back
+    c.split_at_mut-own.ensures.back
     c.split_at_mut-marks_above.ensures.front c.split_at_mut-marks_above.ensures.back
-        c.split_at_mut-own_marks.ensures.front c.split_at_mut-own_marks.ensures.back in
+    c.split_at_mut-own_marks.ensures.front c.split_at_mut-own_marks.ensures.back in
     block_three g.S.Exact.exact g.S.Exact.MAX _ _ _ _ _ _ p.above_is c.in_err-count.ensures.block p.below_is
 
 pub returns-in_err-count-clause-passed : goal.returns-in_err-count-clause-passed
 returns-in_err-count-clause-passed g c = let p =
     err_from_is_err_and c.from_residual.result c.from_residual.ensures.1 in
     rw (p.1, p.2) (spot_dividing g.S.Exact.exact g.S.Exact.MAX
-        (length c.args.columns.now) c.args.row c.args.column c.args.cells.now
+    (length c.args.columns.now) c.args.row c.args.column c.args.cells.now
     c.split_at_mut-above.result.0.now c.split_at_mut-own.result.0.now c.split_at_mut-own.result.1.now
     (c.split_at_mut-above.ensures.value
-        ∙ ap (λ ys. c.split_at_mut-above.result.0.now ++ ys) c.split_at_mut-own.ensures.value)
+    ∙ ap (λ ys. c.split_at_mut-above.result.0.now ++ ys) c.split_at_mut-own.ensures.value)
     c.split_at_mut-above.ensures.front_len c.split_at_mut-own.ensures.front_len c.index-own-column.result
-        c.requires.column_in c.index-own-column.is
+    c.requires.column_in c.index-own-column.is
     (suc c.args.rows) _ c.in_err-count.ensures.passed)
 
 pub reduce_rows-requires-clause-block : goal.reduce_rows-requires-clause-block
@@ -69,62 +69,62 @@ reduce_rows-requires-clause-block g c =
     (parted g.S.Exact.exact g.S.Exact.MAX c.args.cells.now c.args.marks.now
     (c.args.row * length c.args.columns.now) (length c.args.columns.now)
     (row_in c.args.row (suc c.args.rows) (length c.args.columns.now) (length c.args.cells.now)
-        (omega (arith, c.requires.row_in)) c.requires.whole) c.requires.block
+    (omega (arith, c.requires.row_in)) c.requires.whole) c.requires.block
     c.split_at_mut-above.result.0.now c.split_at_mut-above.result.1.now c.split_at_mut-own.result.0.now
-        c.split_at_mut-own.result.1.now
+    c.split_at_mut-own.result.1.now
     c.split_at_mut-marks_above.result.0.now c.split_at_mut-marks_above.result.1.now
-        c.split_at_mut-own_marks.result.0.now c.split_at_mut-own_marks.result.1.now
+    c.split_at_mut-own_marks.result.0.now c.split_at_mut-own_marks.result.1.now
     c.split_at_mut-above.ensures.front c.split_at_mut-above.ensures.back c.split_at_mut-own.ensures.front
-        c.split_at_mut-own.ensures.back
+    c.split_at_mut-own.ensures.back
     c.split_at_mut-marks_above.ensures.front c.split_at_mut-marks_above.ensures.back
-        c.split_at_mut-own_marks.ensures.front c.split_at_mut-own_marks.ensures.back).above_is
+    c.split_at_mut-own_marks.ensures.front c.split_at_mut-own_marks.ensures.back).above_is
 
 pub reduce_rows-requires-clause-listed : goal.reduce_rows-requires-clause-listed
 reduce_rows-requires-clause-listed g c =
     let l : length (take c.in_ok-count.count c.divide_row.new.columns) ≡ c.in_ok-count.count =
     length-take-le c.in_ok-count.count c.divide_row.new.columns c.in_ok-count.ensures.listed.0 in
     subst (λ n. Lists (zero_in g.S.Exact.exact c.divide_row.new.cells)
-        (take c.in_ok-count.count c.divide_row.new.columns) n (length c.divide_row.new.cells)) (sym l)
+    (take c.in_ok-count.count c.divide_row.new.columns) n (length c.divide_row.new.cells)) (sym l)
     (listed_take (zero_in g.S.Exact.exact c.divide_row.new.cells) c.divide_row.new.columns c.in_ok-count.count
-        (length c.divide_row.new.cells) c.in_ok-count.ensures.listed.1)
+    (length c.divide_row.new.cells) c.in_ok-count.ensures.listed.1)
 
 pub returns-in_err-reduce_rows-clause-block : goal.returns-in_err-reduce_rows-clause-block
 returns-in_err-reduce_rows-clause-block g c = let p =
     parted g.S.Exact.exact g.S.Exact.MAX c.args.cells.now c.args.marks.now
     (c.args.row * length c.args.columns.now) (length c.args.columns.now)
     (row_in c.args.row (suc c.args.rows) (length c.args.columns.now) (length c.args.cells.now)
-        (omega (arith, c.requires.row_in)) c.requires.whole) c.requires.block
+    (omega (arith, c.requires.row_in)) c.requires.whole) c.requires.block
     c.split_at_mut-above.result.0.now c.split_at_mut-above.result.1.now c.split_at_mut-own.result.0.now
-        c.split_at_mut-own.result.1.now
+    c.split_at_mut-own.result.1.now
     c.split_at_mut-marks_above.result.0.now c.split_at_mut-marks_above.result.1.now
-        c.split_at_mut-own_marks.result.0.now c.split_at_mut-own_marks.result.1.now
+    c.split_at_mut-own_marks.result.0.now c.split_at_mut-own_marks.result.1.now
     c.split_at_mut-above.ensures.front c.split_at_mut-above.ensures.back c.split_at_mut-own.ensures.front
-        c.split_at_mut-own.ensures.back
+    c.split_at_mut-own.ensures.back
     c.split_at_mut-marks_above.ensures.front c.split_at_mut-marks_above.ensures.back
-        c.split_at_mut-own_marks.ensures.front c.split_at_mut-own_marks.ensures.back in
+    c.split_at_mut-own_marks.ensures.front c.split_at_mut-own_marks.ensures.back in
     block_three g.S.Exact.exact g.S.Exact.MAX _ _ _ _ _ _ c.in_err-reduce_rows.ensures.block
-        c.in_ok-count.ensures.block p.below_is
+    c.in_ok-count.ensures.block p.below_is
 
 pub returns-in_err-reduce_rows-clause-passed : goal.returns-in_err-reduce_rows-clause-passed
 returns-in_err-reduce_rows-clause-passed g c = let p =
     err_from_is_err_and c.from_residual-in_err-reduce_rows.result c.from_residual-in_err-reduce_rows.ensures.1
     in
     rw (p.1, p.2) (spot_above g.S.Exact.exact g.S.Exact.MAX
-        (length c.args.columns.now) c.args.row c.args.column c.args.cells.now
+    (length c.args.columns.now) c.args.row c.args.column c.args.cells.now
     c.split_at_mut-above.result.0.now c.split_at_mut-own.result.0.now c.split_at_mut-own.result.1.now
     (c.split_at_mut-above.ensures.value
-        ∙ ap (λ ys. c.split_at_mut-above.result.0.now ++ ys) c.split_at_mut-own.ensures.value)
+    ∙ ap (λ ys. c.split_at_mut-above.result.0.now ++ ys) c.split_at_mut-own.ensures.value)
     c.split_at_mut-above.ensures.front_len c.split_at_mut-own.ensures.front_len c.index-own-column.result
-        c.requires.column_in c.index-own-column.is
+    c.requires.column_in c.index-own-column.is
     c.divide_row.new.cells c.divide_row.auto.cells c.in_ok-count.ensures.ok c.in_ok-count.ensures.passed
-        (suc c.args.rows) _ (omega (arith, c.requires.row_in)) c.in_err-reduce_rows.ensures.passed)
+    (suc c.args.rows) _ (omega (arith, c.requires.row_in)) c.in_err-reduce_rows.ensures.passed)
 
 pub reduce_rows-requires-2-clause-whole : goal.reduce_rows-requires-2-clause-whole
 reduce_rows-requires-2-clause-whole g c = let w = length c.args.columns.now in
     let s : length c.divide_row.new.cells ≡ w = c.divide_row.auto.cells
-        ∙ c.split_at_mut-own.ensures.front_len in
+    ∙ c.split_at_mut-own.ensures.front_len in
     let many : suc c.args.rows ≡ c.args.row + (1 + (c.args.rows - c.args.row)) =
-        omega (arith, c.requires.row_in) in
+    omega (arith, c.requires.row_in) in
     let all = c.requires.whole ∙ ap (λ n. n * w) many in
     omega (
       arith,
@@ -143,24 +143,24 @@ reduce_rows-requires-2-clause-block g c =
     (parted g.S.Exact.exact g.S.Exact.MAX c.args.cells.now c.args.marks.now
     (c.args.row * length c.args.columns.now) (length c.args.columns.now)
     (row_in c.args.row (suc c.args.rows) (length c.args.columns.now) (length c.args.cells.now)
-        (omega (arith, c.requires.row_in)) c.requires.whole) c.requires.block
+    (omega (arith, c.requires.row_in)) c.requires.whole) c.requires.block
     c.split_at_mut-above.result.0.now c.split_at_mut-above.result.1.now c.split_at_mut-own.result.0.now
-        c.split_at_mut-own.result.1.now
+    c.split_at_mut-own.result.1.now
     c.split_at_mut-marks_above.result.0.now c.split_at_mut-marks_above.result.1.now
-        c.split_at_mut-own_marks.result.0.now c.split_at_mut-own_marks.result.1.now
+    c.split_at_mut-own_marks.result.0.now c.split_at_mut-own_marks.result.1.now
     c.split_at_mut-above.ensures.front c.split_at_mut-above.ensures.back c.split_at_mut-own.ensures.front
-        c.split_at_mut-own.ensures.back
+    c.split_at_mut-own.ensures.back
     c.split_at_mut-marks_above.ensures.front c.split_at_mut-marks_above.ensures.back
-        c.split_at_mut-own_marks.ensures.front c.split_at_mut-own_marks.ensures.back).below_is
+    c.split_at_mut-own_marks.ensures.front c.split_at_mut-own_marks.ensures.back).below_is
 
 pub reduce_rows-requires-2-clause-listed : goal.reduce_rows-requires-2-clause-listed
 reduce_rows-requires-2-clause-listed g c =
     let l : length (take c.in_ok-count.count c.divide_row.new.columns) ≡ c.in_ok-count.count =
     length-take-le c.in_ok-count.count c.divide_row.new.columns c.in_ok-count.ensures.listed.0 in
     subst (λ n. Lists (zero_in g.S.Exact.exact c.divide_row.new.cells)
-        (take c.in_ok-count.count c.divide_row.new.columns) n (length c.divide_row.new.cells)) (sym l)
+    (take c.in_ok-count.count c.divide_row.new.columns) n (length c.divide_row.new.cells)) (sym l)
     (listed_take (zero_in g.S.Exact.exact c.divide_row.new.cells) c.divide_row.new.columns c.in_ok-count.count
-        (length c.divide_row.new.cells) c.in_ok-count.ensures.listed.1)
+    (length c.divide_row.new.cells) c.in_ok-count.ensures.listed.1)
 
 pub returns-in_err-reduce_rows-2-clause-block : goal.returns-in_err-reduce_rows-2-clause-block
 returns-in_err-reduce_rows-2-clause-block g c =
@@ -172,15 +172,15 @@ returns-in_err-reduce_rows-2-clause-passed g c = let p =
     err_from_is_err_and c.from_residual-in_err-reduce_rows-2.result
     c.from_residual-in_err-reduce_rows-2.ensures.1 in
     rw (p.1, p.2) (spot_below g.S.Exact.exact g.S.Exact.MAX
-        (length c.args.columns.now) c.args.row c.args.column c.args.cells.now
+    (length c.args.columns.now) c.args.row c.args.column c.args.cells.now
     c.split_at_mut-above.result.0.now c.split_at_mut-own.result.0.now c.split_at_mut-own.result.1.now
     (c.split_at_mut-above.ensures.value
-        ∙ ap (λ ys. c.split_at_mut-above.result.0.now ++ ys) c.split_at_mut-own.ensures.value)
+    ∙ ap (λ ys. c.split_at_mut-above.result.0.now ++ ys) c.split_at_mut-own.ensures.value)
     c.split_at_mut-above.ensures.front_len c.split_at_mut-own.ensures.front_len c.index-own-column.result
-        c.requires.column_in c.index-own-column.is
+    c.requires.column_in c.index-own-column.is
     c.divide_row.new.cells c.divide_row.auto.cells c.in_ok-count.ensures.ok c.in_ok-count.ensures.passed
-        c.args.rows _ (omega (arith, c.requires.row_in)) c.in_ok-reduce_rows.ensures.passed
-        c.in_err-reduce_rows-2.ensures.passed)
+    c.args.rows _ (omega (arith, c.requires.row_in)) c.in_ok-reduce_rows.ensures.passed
+    c.in_err-reduce_rows-2.ensures.passed)
 
 pub returns-clause-block : goal.returns-clause-block
 returns-clause-block g c =
@@ -192,12 +192,12 @@ returns-clause-ok g c =
     after g.S.Exact.exact g.S.Exact.MAX (length c.args.columns.now) c.args.row c.args.column c.args.cells.now
     c.split_at_mut-above.result.0.now c.split_at_mut-own.result.0.now c.split_at_mut-own.result.1.now
     (c.split_at_mut-above.ensures.value
-        ∙ ap (λ ys. c.split_at_mut-above.result.0.now ++ ys) c.split_at_mut-own.ensures.value)
+    ∙ ap (λ ys. c.split_at_mut-above.result.0.now ++ ys) c.split_at_mut-own.ensures.value)
     c.split_at_mut-above.ensures.front_len c.split_at_mut-own.ensures.front_len c.index-own-column.result
-        c.requires.column_in c.index-own-column.is
+    c.requires.column_in c.index-own-column.is
     c.divide_row.new.cells c.divide_row.auto.cells c.in_ok-count.ensures.ok c.in_ok-count.ensures.passed
-        c.reduce_rows.new.cells c.reduce_rows-2.new.cells c.reduce_rows.auto.cells
-        c.in_ok-reduce_rows.ensures.ok c.in_ok-reduce_rows-2.ensures.ok
+    c.reduce_rows.new.cells c.reduce_rows-2.new.cells c.reduce_rows.auto.cells
+    c.in_ok-reduce_rows.ensures.ok c.in_ok-reduce_rows-2.ensures.ok
 
 pub returns-clause-passed : goal.returns-clause-passed
 returns-clause-passed g c =
@@ -205,9 +205,9 @@ returns-clause-passed g c =
     (length c.args.columns.now) c.args.row c.args.column c.args.cells.now
     c.split_at_mut-above.result.0.now c.split_at_mut-own.result.0.now c.split_at_mut-own.result.1.now
     (c.split_at_mut-above.ensures.value
-        ∙ ap (λ ys. c.split_at_mut-above.result.0.now ++ ys) c.split_at_mut-own.ensures.value)
+    ∙ ap (λ ys. c.split_at_mut-above.result.0.now ++ ys) c.split_at_mut-own.ensures.value)
     c.split_at_mut-above.ensures.front_len c.split_at_mut-own.ensures.front_len c.index-own-column.result
-        c.requires.column_in c.index-own-column.is
+    c.requires.column_in c.index-own-column.is
     c.divide_row.new.cells c.divide_row.auto.cells c.in_ok-count.ensures.ok c.in_ok-count.ensures.passed
-        c.args.rows _ (omega (arith, c.requires.row_in)) c.in_ok-reduce_rows.ensures.passed
-        c.in_ok-reduce_rows-2.ensures.passed
+    c.args.rows _ (omega (arith, c.requires.row_in)) c.in_ok-reduce_rows.ensures.passed
+    c.in_ok-reduce_rows-2.ensures.passed

@@ -28,10 +28,10 @@ returns-in-Err-clause-passed g c =
     let j = c.loop-j.j in
     let lt : j < length c.loop-j.cells = omega (arith, c.loop-j.auto.cells, c.loop-j-test.true) in
     let cell = sym (c.loop-j.invariant.rest j (omega arith))
-        ∙ value_at-index e c.loop-j.cells j c.index-cells-j.result lt c.index-cells-j.is in
+    ∙ value_at-index e c.loop-j.cells j c.index-cells-j.result lt c.index-cells-j.is in
     first_found (length c.args.cells.now) j
-        (divide_item ordered_fractions (passes m) old d c.args.row) _ c.loop-j-test.true
-        c.loop-j.invariant.none
+    (divide_item ordered_fractions (passes m) old d c.args.row) _ c.loop-j-test.true
+    c.loop-j.invariant.none
     (divide_passes m old d c.args.row j (ap (λ v. passes m Quotient v d) cell ∙ c.in-Err.ensures.wide))
 
 pub loop-j-preserved : goal.loop-j-preserved
@@ -49,30 +49,30 @@ loop-j-preserved g c = elim c.if-not-marks-j.branch [
       let cell = value_at-index e c.loop-j.cells j x lt w.index-cells-j.is in
       let first_cell = sym (i.rest j (omega arith)) ∙ cell in
       let mark : mark_at c.args.marks.now j ≡ false =
-          get_or_default c.args.marks.now j true false (omega (arith, lt, i.block.same))
-          ∙ w.if-not-marks-j.true in
+      get_or_default c.args.marks.now j true false (omega (arith, lt, i.block.same))
+      ∙ w.if-not-marks-j.true in
       rw (w.cells-is, w.columns-is, w.count-is) (record {
         count = omega (arith, i.count);
         block = block_kept e m c.loop-j.cells c.args.marks.now j y lt i.block
             (mark ∙ sym (ap is_zero w.in-Ok.ensures.ok
-                ∙ quotient_not-zero (e x) d (ap is_zero (sym cell) ∙ sym (i.block.marked j)
-                ∙ mark) c.requires.divisor))
+            ∙ quotient_not-zero (e x) d (ap is_zero (sym cell) ∙ sym (i.block.marked j)
+            ∙ mark) c.requires.divisor))
             (ap (fits m) w.in-Ok.ensures.ok ∙ not-false _ w.in-Ok.ensures.fits);
         done = λ k l. written_done (divided ordered_fractions old d) old (value_at e c.loop-j.cells)
             (value_at e (set c.loop-j.cells j y)) j j i.done i.rest
             (λ k a b. absurd (omega (arith, a, b)))
             (value_at-set_same e c.loop-j.cells j y lt ∙ w.in-Ok.ensures.ok
-                ∙ ap (mul (inv d)) (sym first_cell))
+            ∙ ap (mul (inv d)) (sym first_cell))
             (λ k n. value_at-set_other e c.loop-j.cells j k y n) k (omega (arith, l));
         rest = λ k l. written_rest old (value_at e c.loop-j.cells)
             (value_at e (set c.loop-j.cells j y)) j j i.rest (omega arith)
             (λ k n. value_at-set_other e c.loop-j.cells j k y n) k (omega (arith, l));
         none = first_more j (divide_item ordered_fractions (passes m) old d c.args.row) i.none
             (divide_goes m old d c.args.row j (ap (λ v. passes m Quotient v d) first_cell
-                ∙ w.in-Ok.ensures.fits));
+            ∙ w.in-Ok.ensures.fits));
         listed = listed_more (mark_at c.args.marks.now) c.loop-j.columns c.loop-j.count j
             (omega (arith, i.count, lt, c.loop-j.auto.cells, c.loop-j.auto.columns, c.requires.room))
-                i.listed;
+            i.listed;
       })
   | else-not-marks-j w ↦
       let e = g.S.Exact.exact in
@@ -83,16 +83,16 @@ loop-j-preserved g c = elim c.if-not-marks-j.branch [
       let i = c.loop-j.invariant in
       let lt : j < length c.args.marks.now = omega (arith, c.loop-j-test.true, c.requires.block.same) in
       let mark : mark_at c.args.marks.now j ≡ true = get_or_default c.args.marks.now j true false lt
-          ∙ w.if-not-marks-j.false in
+      ∙ w.if-not-marks-j.false in
       let s = divide_skips m old d c.args.row j g.met.S.Exact.max_law
-          (ap is_zero (sym (i.rest j (omega arith))) ∙ sym (i.block.marked j) ∙ mark) in
+      (ap is_zero (sym (i.rest j (omega arith))) ∙ sym (i.block.marked j) ∙ mark) in
       rw (w.cells-is, w.columns-is, w.count-is) (record {
         count = omega (arith, i.count);
         block = i.block;
         done = λ k l. written_done (divided ordered_fractions old d) old (value_at e c.loop-j.cells)
             (value_at e c.loop-j.cells) j j i.done i.rest
             (λ k a b. absurd (omega (arith, a, b))) (i.rest j (omega arith) ∙ sym s.0) (λ k n. refl) k
-                (omega (arith, l));
+            (omega (arith, l));
         rest = λ k l. i.rest k (omega (arith, l));
         none = first_more j (divide_item ordered_fractions (passes m) old d c.args.row) i.none s.1;
         listed = listed_skip (mark_at c.args.marks.now) c.loop-j.columns c.loop-j.count j i.listed mark;

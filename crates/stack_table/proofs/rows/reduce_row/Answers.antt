@@ -25,17 +25,17 @@ returns-in-Err-clause-passed g c =
     let j = get_or c.args.columns.now c.loop-k.k 0 in
     let below = c.requires.listed.below c.loop-k.k c.loop-k-test.true in
     let factor = value_at-index e c.args.cells.now c.args.column c.index-cells-column.result
-        c.requires.column_in c.index-cells-column.is in
+    c.requires.column_in c.index-cells-column.is in
     let y = value_at-index e c.args.pivot.now j c.index-pivot-j.result
-        (omega (arith, below, c.requires.width)) c.index-pivot-j.is in
+    (omega (arith, below, c.requires.width)) c.index-pivot-j.is in
     let before = first_over (reach c.args.columns.now c.loop-k.k) j
-        (reduce_item ordered_fractions (passes m) old piv k c.args.row) c.loop-k.invariant.none
+    (reduce_item ordered_fractions (passes m) old piv k c.args.row) c.loop-k.invariant.none
     (λ i a b. (column_skips m old piv k c.args.row i g.met.S.Exact.max_law (c.requires.block.fitting i)
-        (c.requires.listed.between c.loop-k.k c.loop-k-test.true i a b)).1) in
+    (c.requires.listed.between c.loop-k.k c.loop-k-test.true i a b)).1) in
     first_found (length c.args.cells.now) j
-        (reduce_item ordered_fractions (passes m) old piv k c.args.row) _ below before
+    (reduce_item ordered_fractions (passes m) old piv k c.args.row) _ below before
     (product_passes m old piv k c.args.row j (old j) (e c.index-pivot-j.result)
-        (mul k (e c.index-pivot-j.result)) refl y
+    (mul k (e c.index-pivot-j.result)) refl y
     (ap (λ z. passes m Product z (e c.index-pivot-j.result)) factor ∙ c.in-Err.ensures.wide))
 
 pub returns-in-Err-difference-clause-passed : goal.returns-in-Err-difference-clause-passed
@@ -48,23 +48,23 @@ returns-in-Err-difference-clause-passed g c =
     let j = get_or c.args.columns.now c.loop-k.k 0 in
     let below = c.requires.listed.below c.loop-k.k c.loop-k-test.true in
     let factor = value_at-index e c.args.cells.now c.args.column c.index-cells-column.result
-        c.requires.column_in c.index-cells-column.is in
+    c.requires.column_in c.index-cells-column.is in
     let y = value_at-index e c.args.pivot.now j c.index-pivot-j.result
-        (omega (arith, below, c.requires.width)) c.index-pivot-j.is in
+    (omega (arith, below, c.requires.width)) c.index-pivot-j.is in
     let x = sym (c.loop-k.invariant.rest j (c.requires.listed.rises c.loop-k.k c.loop-k-test.true))
     ∙ value_at-index e c.loop-k.cells j c.index-cells-j.result
     (omega (arith, below, c.loop-k.auto.cells)) c.index-cells-j.is in
     let before = first_over (reach c.args.columns.now c.loop-k.k) j
-        (reduce_item ordered_fractions (passes m) old piv k c.args.row) c.loop-k.invariant.none
+    (reduce_item ordered_fractions (passes m) old piv k c.args.row) c.loop-k.invariant.none
     (λ i a b. (column_skips m old piv k c.args.row i g.met.S.Exact.max_law (c.requires.block.fitting i)
-        (c.requires.listed.between c.loop-k.k c.loop-k-test.true i a b)).1) in
+    (c.requires.listed.between c.loop-k.k c.loop-k-test.true i a b)).1) in
     first_found (length c.args.cells.now) j
-        (reduce_item ordered_fractions (passes m) old piv k c.args.row) _ below before
+    (reduce_item ordered_fractions (passes m) old piv k c.args.row) _ below before
     (difference_passes m old piv k c.args.row j (e c.index-cells-j.result) (e c.index-pivot-j.result)
-        (e c.in-Ok.product) x y
+    (e c.in-Ok.product) x y
     (ap (λ z. passes m Product z (e c.index-pivot-j.result)) factor ∙ c.in-Ok.ensures.fits)
     (c.in-Ok.ensures.ok ∙ ap (λ z. mul z (e c.index-pivot-j.result)) (sym factor))
-        c.in-Err-difference.ensures.wide)
+    c.in-Err-difference.ensures.wide)
 
 pub loop-k-preserved : goal.loop-k-preserved
 loop-k-preserved g c =
@@ -81,25 +81,25 @@ loop-k-preserved g c =
     let rises = c.requires.listed.rises c.loop-k.k c.loop-k-test.true in
     let lt : j < length c.loop-k.cells = omega (arith, below, c.loop-k.auto.cells) in
     let factor = value_at-index e c.args.cells.now c.args.column c.index-cells-column.result
-        c.requires.column_in c.index-cells-column.is in
+    c.requires.column_in c.index-cells-column.is in
     let y = value_at-index e c.args.pivot.now j c.index-pivot-j.result
-        (omega (arith, below, c.requires.width)) c.index-pivot-j.is in
+    (omega (arith, below, c.requires.width)) c.index-pivot-j.is in
     let x = sym (i.rest j rises)
-        ∙ value_at-index e c.loop-k.cells j c.index-cells-j.result lt c.index-cells-j.is in
+    ∙ value_at-index e c.loop-k.cells j c.index-cells-j.result lt c.index-cells-j.is in
     let skips : (n : ℕ) → reach xs c.loop-k.k ≤ n → n < j →
     (reduced ordered_fractions old piv k n ≡ old n) ×
-        (reduce_item ordered_fractions (passes m) old piv k c.args.row n ≡ None)
+    (reduce_item ordered_fractions (passes m) old piv k c.args.row n ≡ None)
     = λ n a b. column_skips m old piv k c.args.row n g.met.S.Exact.max_law (c.requires.block.fitting n)
-        (c.requires.listed.between c.loop-k.k c.loop-k-test.true n a b) in
+    (c.requires.listed.between c.loop-k.k c.loop-k-test.true n a b) in
     let product = c.in-Ok.ensures.ok ∙ ap (λ z. mul z (e c.index-pivot-j.result)) (sym factor) in
     let fits_product = ap (λ z. passes m Product z (e c.index-pivot-j.result)) factor
-        ∙ c.in-Ok.ensures.fits in
+    ∙ c.in-Ok.ensures.fits in
     let item = reduce_item ordered_fractions (passes m) old piv k c.args.row in
     let next : reach xs (c.loop-k.k + 1) ≡ suc j = ap (reach xs) (add-one c.loop-k.k) in
     record {
       block = block_set e m c.loop-k.cells c.loop-k.marks j cell c.is_zero.result lt i.block c.is_zero.ensures
           (ap (fits m) c.in-Ok-difference.ensures.ok
-              ∙ answer_fits m Difference (e c.index-cells-j.result) (e c.in-Ok.product)
+          ∙ answer_fits m Difference (e c.index-cells-j.result) (e c.in-Ok.product)
           (ap (fits m) (sym x) ∙ c.requires.block.fitting j) c.in-Ok-difference.ensures.fits);
       done = λ n l. written_done (reduced ordered_fractions old piv k) old (value_at e c.loop-k.cells)
           (value_at e (set c.loop-k.cells j cell)) (reach xs c.loop-k.k) j
@@ -154,8 +154,8 @@ returns-clause-passed g c =
     let piv = value_at e c.args.pivot.now in
     let k = value_at e c.args.cells.now c.args.column in
     let end : c.loop-k.k ≡ length c.args.columns.now =
-        omega (arith, c.loop-k-test.false, c.loop-k.auto.k-end) in
+    omega (arith, c.loop-k-test.false, c.loop-k.auto.k-end) in
     first_over (reach c.args.columns.now c.loop-k.k) (length c.args.cells.now)
-        (reduce_item ordered_fractions (passes m) old piv k c.args.row) c.loop-k.invariant.none
+    (reduce_item ordered_fractions (passes m) old piv k c.args.row) c.loop-k.invariant.none
     (λ i a b. (column_skips m old piv k c.args.row i g.met.S.Exact.max_law (c.requires.block.fitting i)
     (c.requires.listed.after i (omega (arith, ap (reach c.args.columns.now) end, a)) b)).1)

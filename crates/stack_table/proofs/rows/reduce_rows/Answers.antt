@@ -21,14 +21,14 @@ reduce_row-requires-clause-block g c =
     part_block g.S.Exact.exact g.S.Exact.MAX
     (length c.args.pivot.now) c.loop-i.i c.loop-i.cells c.loop-i.marks c.loop-i.invariant.block
     (row_in c.loop-i.i c.args.count (length c.args.pivot.now) (length c.loop-i.cells) c.loop-i-test.true
-        (c.loop-i.auto.cells ∙ c.requires.whole))
+    (c.loop-i.auto.cells ∙ c.requires.whole))
 
 pub returns-in_err-reduce_row-clause-block : goal.returns-in_err-reduce_row-clause-block
 returns-in_err-reduce_row-clause-block g c =
     put_block g.S.Exact.exact g.S.Exact.MAX (length c.args.pivot.now) c.loop-i.i c.loop-i.cells c.loop-i.marks
     c.loop-i.invariant.block
     (row_in c.loop-i.i c.args.count (length c.args.pivot.now) (length c.loop-i.cells) c.loop-i-test.true
-        (c.loop-i.auto.cells ∙ c.requires.whole))
+    (c.loop-i.auto.cells ∙ c.requires.whole))
     c.reduce_row.new.cells c.reduce_row.new.marks c.in_err-reduce_row.ensures.block
 
 pub returns-in_err-reduce_row-clause-passed : goal.returns-in_err-reduce_row-clause-passed
@@ -39,18 +39,18 @@ returns-in_err-reduce_row-clause-passed g c =
     let i = c.loop-i.i in
     let old = cell_of e w c.args.cells.now in
     let room = row_in i c.args.count w (length c.loop-i.cells) c.loop-i-test.true
-        (c.loop-i.auto.cells ∙ c.requires.whole) in
+    (c.loop-i.auto.cells ∙ c.requires.whole) in
     let row : (j : ℕ) → old i j ≡ value_at e _ j =
-        λ j. sym (part_value e m w i c.loop-i.cells c.loop-i.marks c.loop-i.invariant.block room j
-        ∙ c.loop-i.invariant.rest i j (omega arith)) in
+    λ j. sym (part_value e m w i c.loop-i.cells c.loop-i.marks c.loop-i.invariant.block room j
+    ∙ c.loop-i.invariant.rest i j (omega arith)) in
     let p = err_from_is_err_and c.from_residual.result c.from_residual.ensures.1 in
     rw (p.1, p.2) (first_found c.args.count i
-        (λ k. reduce_spot ordered_fractions (passes m) w (old k) (value_at e c.args.pivot.now)
-        (old k c.args.column) (c.args.first + k)) _
+    (λ k. reduce_spot ordered_fractions (passes m) w (old k) (value_at e c.args.pivot.now)
+    (old k c.args.column) (c.args.first + k)) _
     c.loop-i-test.true c.loop-i.invariant.none
     (reduce_same m (c.args.first + i) _ _ _ _ _ _ _ _
-        (sym (part_length e m w i c.loop-i.cells c.loop-i.marks c.loop-i.invariant.block room)) row
-        (λ j. refl) (row c.args.column)
+    (sym (part_length e m w i c.loop-i.cells c.loop-i.marks c.loop-i.invariant.block room)) row
+    (λ j. refl) (row c.args.column)
     ∙ c.in_err-reduce_row.ensures.passed))
 
 pub loop-i-preserved : goal.loop-i-preserved
@@ -63,13 +63,13 @@ loop-i-preserved g c = elim c.if-not-marks-start.branch [
       let old = cell_of e n c.args.cells.now in
       let piv = value_at e c.args.pivot.now in
       let room = row_in i c.args.count n (length c.loop-i.cells) c.loop-i-test.true
-          (c.loop-i.auto.cells ∙ c.requires.whole) in
+      (c.loop-i.auto.cells ∙ c.requires.whole) in
       let part = part_length e m n i c.loop-i.cells c.loop-i.marks c.loop-i.invariant.block room in
       let long : length w.reduce_row.new.cells ≡ n = w.reduce_row.auto.cells ∙ part in
       let lent : ℕ → Fraction = value_at e (take (i * n + n - i * n) (drop (i * n) c.loop-i.cells)) in
       let row : (j : ℕ) → old i j ≡ lent j =
-          λ j. sym (part_value e m n i c.loop-i.cells c.loop-i.marks c.loop-i.invariant.block room j
-          ∙ c.loop-i.invariant.rest i j (omega arith)) in
+      λ j. sym (part_value e m n i c.loop-i.cells c.loop-i.marks c.loop-i.invariant.block room j
+      ∙ c.loop-i.invariant.rest i j (omega arith)) in
       rw (w.cells-is, w.marks-is) (record {
         block = put_block e m n i c.loop-i.cells c.loop-i.marks c.loop-i.invariant.block room
             w.reduce_row.new.cells w.reduce_row.new.marks w.in_ok-reduce_row.ensures.block;
@@ -92,7 +92,7 @@ loop-i-preserved g c = elim c.if-not-marks-start.branch [
         none = first_more i (λ k. reduce_spot ordered_fractions (passes m) n (old k) piv (old k c.args.column)
             (c.args.first + k)) c.loop-i.invariant.none
             (reduce_same m (c.args.first + i) _ _ _ _ _ _ _ _ (sym part) row (λ j. refl) (row c.args.column)
-                ∙ w.in_ok-reduce_row.ensures.passed);
+            ∙ w.in_ok-reduce_row.ensures.passed);
       })
   | else-not-marks-start w ↦
       let e = g.S.Exact.exact in
@@ -102,14 +102,14 @@ loop-i-preserved g c = elim c.if-not-marks-start.branch [
       let old = cell_of e n c.args.cells.now in
       let piv = value_at e c.args.pivot.now in
       let room = row_in i c.args.count n (length c.loop-i.cells) c.loop-i-test.true
-          (c.loop-i.auto.cells ∙ c.requires.whole) in
+      (c.loop-i.auto.cells ∙ c.requires.whole) in
       let mark : mark_at c.loop-i.marks (i * n + c.args.column) ≡ true =
-          get_or_default c.loop-i.marks (i * n + c.args.column) true false
+      get_or_default c.loop-i.marks (i * n + c.args.column) true false
       (omega (arith, room, c.requires.column_in, c.loop-i.invariant.block.same))
-          ∙ w.if-not-marks-start.false in
+      ∙ w.if-not-marks-start.false in
       let none : is_zero (old i c.args.column) ≡ true =
-          ap is_zero (sym (c.loop-i.invariant.rest i c.args.column (omega arith))
-          ∙ cell_in e n c.loop-i.cells i c.args.column c.requires.column_in)
+      ap is_zero (sym (c.loop-i.invariant.rest i c.args.column (omega arith))
+      ∙ cell_in e n c.loop-i.cells i c.args.column c.requires.column_in)
       ∙ sym (c.loop-i.invariant.block.marked (i * n + c.args.column)) ∙ mark in
       let fit : (j : ℕ) → _ = λ j. fits_cell e m n c.args.cells.now c.args.marks.now i j c.requires.block in
       rw (w.cells-is, w.marks-is) (record {
@@ -124,7 +124,7 @@ loop-i-preserved g c = elim c.if-not-marks-start.branch [
         none = first_more i (λ k. reduce_spot ordered_fractions (passes m) n (old k) piv (old k c.args.column)
             (c.args.first + k)) c.loop-i.invariant.none
             (row_none m n (old i) piv (old i c.args.column)
-                (c.args.first + i) g.met.S.Exact.max_law fit none);
+            (c.args.first + i) g.met.S.Exact.max_law fit none);
       })
 ]
 
@@ -137,13 +137,13 @@ returns-clause-ok g c = λ i j. go i j (dec_lt i c.loop-i.i)
     go : (i j : ℕ) → Dec (i < c.loop-i.i) →
         cell_of g.S.Exact.exact (length c.args.pivot.now) c.loop-i.cells i j
         ≡ reduced ordered_fractions (old i) (value_at g.S.Exact.exact c.args.pivot.now)
-            (old i c.args.column) j
+        (old i c.args.column) j
     go i j (yes l) = c.loop-i.invariant.done i j l
     go i j (no l) = c.loop-i.invariant.rest i j (omega (arith, l))
         ∙ sym (row_skips g.S.Exact.MAX (old i) (value_at g.S.Exact.exact c.args.pivot.now)
         (old i c.args.column) i j g.met.S.Exact.max_law
         (fits_cell g.S.Exact.exact g.S.Exact.MAX
-            (length c.args.pivot.now) c.args.cells.now c.args.marks.now i j c.requires.block)
+        (length c.args.pivot.now) c.args.cells.now c.args.marks.now i j c.requires.block)
         (ap is_zero (cell_outside g.S.Exact.exact
-            (length c.args.pivot.now) c.args.count c.args.cells.now i c.args.column c.requires.whole
-            (omega (arith, l, c.loop-i-test.false))) ∙ is_zero-of)).0
+        (length c.args.pivot.now) c.args.count c.args.cells.now i c.args.column c.requires.whole
+        (omega (arith, l, c.loop-i-test.false))) ∙ is_zero-of)).0

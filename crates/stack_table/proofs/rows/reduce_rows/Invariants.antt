@@ -10,8 +10,8 @@ invariant-loop-i g l = record {
   block : IsBlock g.S.Exact.MAX g.S.Exact.exact l.cells l.marks;
   done : (k j : ℕ) → k < l.i → cell_of g.S.Exact.exact (length l.pivot) l.cells k j
       ≡ reduced ordered_fractions (cell_of g.S.Exact.exact (length l.pivot) l.fn.cells k)
-          (value_at g.S.Exact.exact l.pivot)
-          (cell_of g.S.Exact.exact (length l.pivot) l.fn.cells k l.column) j;
+      (value_at g.S.Exact.exact l.pivot)
+      (cell_of g.S.Exact.exact (length l.pivot) l.fn.cells k l.column) j;
   rest : (k j : ℕ) → l.i ≤ k → cell_of g.S.Exact.exact (length l.pivot) l.cells k j ≡ cell_of g.S.Exact.exact
       (length l.pivot) l.fn.cells k j;
   none : rows_spot ordered_fractions (passes g.S.Exact.MAX) l.i (length l.pivot)

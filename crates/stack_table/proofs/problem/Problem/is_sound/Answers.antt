@@ -10,7 +10,7 @@ returns-clause-meaning c = λ h. let P = c.args.self.now in record {
   contacts_few = omega (arith, c.if-len-gt2048.false, c.len.ensures, P.contact.ok.0);
   contact_columns = columns_are P.rows P.contact.items
       (ap (are_columns P.rows) (sym c.as_slice-2.ensures.value) ∙ sym c.are_columns.ensures
-          ∙ c.if-not-are_columns.false);
+      ∙ c.if-not-are_columns.false);
   factor_column = column_is P.rows (factor_entries P.factor) (sym c.is_factor.ensures ∙ h);
   right_long = sym P.right.ok.0 ∙ sym c.len-2.ensures ∙ c.if-len-self.false;
   right_small = numbers_small P.right.items

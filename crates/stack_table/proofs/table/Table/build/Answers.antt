@@ -41,14 +41,14 @@ loop-i-init g c = record {
 pub returns-in_err-push_row-clause-wide : goal.returns-in_err-push_row-clause-wide
 returns-in_err-push_row-clause-wide g c =
     let p = err_from_is_err_and c.from_residual-in_err-push_row.result
-        c.from_residual-in_err-push_row.ensures.1 in
+    c.from_residual-in_err-push_row.ensures.1 in
     rw (p.1, p.2) (tells_row g.S.Exact.MAX (problem_of c.args.p.now) c.loop-i.i c.in_err-push_row.field-0.0
     c.loop-i-test.true c.loop-i.invariant.none c.in_err-push_row.ensures.wide)
 
 pub returns-in_err-push_row-clause-never_wide : goal.returns-in_err-push_row-clause-never_wide
 returns-in_err-push_row-clause-never_wide g c = λ ample.
     let p = err_from_is_err_and c.from_residual-in_err-push_row.result
-        c.from_residual-in_err-push_row.ensures.1 in
+    c.from_residual-in_err-push_row.ensures.1 in
     rw (p.1, p.2) (only_memory g.S.Exact.MAX ample c.args.p.now c.requires c.in_err-push_row.field-0.0
     (tells_row g.S.Exact.MAX (problem_of c.args.p.now) c.loop-i.i c.in_err-push_row.field-0.0
     c.loop-i-test.true c.loop-i.invariant.none c.in_err-push_row.ensures.wide))
@@ -99,9 +99,9 @@ returns-in_err-push_objective-clause-wide g c =
     let v = c.loop-i.invariant in
     let end : c.loop-i.i ≡ P.rows = omega (arith, c.loop-i-test.false, c.loop-i.auto.i-end) in
     let p = err_from_is_err_and c.from_residual-in_err-push_objective.result
-        c.from_residual-in_err-push_objective.ensures.1 in
+    c.from_residual-in_err-push_objective.ensures.1 in
     rw (p.1, p.2) (tells_objective g.S.Exact.exact P c.loop-i.cells.items
-        (v.long ∙ ap (λ n. n * width (shape_of_problem P)) end)
+    (v.long ∙ ap (λ n. n * width (shape_of_problem P)) end)
     (λ i j l k. v.cells i j (omega (arith, l, end)) k) m
     (ap (λ n. first n (row_place ordered_fractions (passes m) (problem_of P))) (sym end) ∙ v.none)
     c.in_err-push_objective.field-0.0 c.in_err-push_objective.ensures.wide)
@@ -113,10 +113,10 @@ returns-in_err-push_objective-clause-never_wide g c = λ ample.
     let v = c.loop-i.invariant in
     let end : c.loop-i.i ≡ P.rows = omega (arith, c.loop-i-test.false, c.loop-i.auto.i-end) in
     let p = err_from_is_err_and c.from_residual-in_err-push_objective.result
-        c.from_residual-in_err-push_objective.ensures.1 in
+    c.from_residual-in_err-push_objective.ensures.1 in
     rw (p.1, p.2) (only_memory m ample P c.requires c.in_err-push_objective.field-0.0
     (tells_objective g.S.Exact.exact P c.loop-i.cells.items
-        (v.long ∙ ap (λ n. n * width (shape_of_problem P)) end)
+    (v.long ∙ ap (λ n. n * width (shape_of_problem P)) end)
     (λ i j l k. v.cells i j (omega (arith, l, end)) k) m
     (ap (λ n. first n (row_place ordered_fractions (passes m) (problem_of P))) (sym end) ∙ v.none)
     c.in_err-push_objective.field-0.0 c.in_err-push_objective.ensures.wide))
@@ -138,7 +138,7 @@ returns-clause-ok g c =
     let contacts : c.len.result ≡ length P.contact.items = c.len.ensures ∙ P.contact.ok.0 in
     let factors = ap (λ b. cond b 1 0) c.is_some.ensures ∙ factor_is P.factor in
     (λ z. tabled e (record { rows = P.rows; contacts = contacts z; factors = factors z })
-        c.push_objective.new.cells.items
+    c.push_objective.new.cells.items
     c.loop-i.basic.items)
     ∙ table_is e P c.loop-i.cells.items (v.long ∙ ap (λ n. n * width (shape_of_problem P)) end)
     (λ i j l k. v.cells i j (omega (arith, l, end)) k) c.requires c.push_objective.new.cells.items

@@ -15,11 +15,11 @@ returns-clause-ok g c =
     let w = width (shape_of s.rows s.contacts s.has_factor) in
     let q : c.len.result ≡ w = c.len.ensures ∙ s.listed.ok.0 ∙ s.wide in
     let items : (with_items s.cells c.clear_last.new.cells).items ≡ c.clear_last.new.cells =
-        with_items_is s.cells c.clear_last.new.cells
+    with_items_is s.cells c.clear_last.new.cells
     (c.clear_last.auto.cells ∙ ap length c.as_mut_slice.ensures.value ∙ sym s.cells.ok.0) in
     let cells : (i j : ℕ) → cell_of e w (with_items s.cells c.clear_last.new.cells).items i j ≡ changed
-        (cell_of e w s.cells.items) s.rows (λ _. of (pos 0)) i j
+    (cell_of e w s.cells.items) s.rows (λ _. of (pos 0)) i j
     = λ i j. ap (λ ys. cell_of e w ys i j) items ∙ sym (λ z. cell_of e (q z) c.clear_last.new.cells i j)
-        ∙ c.clear_last.ensures.ok i j
+    ∙ c.clear_last.ensures.ok i j
     ∙ (λ z. changed (cell_of e (q z) (c.as_mut_slice.ensures.value z)) s.rows (λ _. of (pos 0)) i j) in
     λ z. record { cell = λ i j. cells i j z; basic = λ i. get_or s.basic.items i 0 }

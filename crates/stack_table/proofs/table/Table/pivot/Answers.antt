@@ -49,7 +49,7 @@ invariant_of-self-2-clause-block g c =
     subst₂ (λ (xs : List g.row.S.Denot) (ms : List Bool). IsBlock g.S.Exact.MAX g.S.Exact.exact xs ms)
     (sym (with_items_is s.cells c.pivot_block.new.cells (cells ∙ sym s.cells.ok.0)))
     (sym (with_items_is s.marks c.pivot_block.new.marks (marks ∙ sym s.marks.ok.0)))
-        c.pivot_block.ensures.block
+    c.pivot_block.ensures.block
 
 pub invariant_of-self-2-clause-basics : goal.invariant_of-self-2-clause-basics
 invariant_of-self-2-clause-basics g c = length-set c.args.self.now.basic.items c.args.row c.args.column
@@ -59,27 +59,27 @@ pub invariant_of-self-2-clause-basics_in : goal.invariant_of-self-2-clause-basic
 invariant_of-self-2-clause-basics_in g c =
     let s = c.args.self.now in
     basic_below s.basic.items c.args.row c.args.column s.rows
-        (columns (shape_of s.rows s.contacts s.has_factor))
+    (columns (shape_of s.rows s.contacts s.has_factor))
     (omega (arith, s.basics, c.requires.row_in)) c.requires.column_in s.basics_in
 
 pub returns-in_err-pivot_block-clause-passed : goal.returns-in_err-pivot_block-clause-passed
 returns-in_err-pivot_block-clause-passed g c =
     let s = c.args.self.now in
     let q : length c.as_mut_slice-3.result.now ≡ width (shape_of s.rows s.contacts s.has_factor) =
-        ap length c.as_mut_slice-3.ensures.value ∙ s.wide in
+    ap length c.as_mut_slice-3.ensures.value ∙ s.wide in
     let p = err_from_is_err_and c.from_residual.result c.from_residual.ensures.1 in
     rw (p.1, p.2) (sym (λ z. cells_spot ordered_fractions (passes g.S.Exact.MAX) (suc s.rows) (q z)
     (cell_of g.S.Exact.exact (q z) (c.as_mut_slice.ensures.value z)) c.args.row c.args.column)
-        ∙ c.in_err-pivot_block.ensures.passed)
+    ∙ c.in_err-pivot_block.ensures.passed)
 
 pub returns-clause-passed : goal.returns-clause-passed
 returns-clause-passed g c =
     let s = c.args.self.now in
     let q : length c.as_mut_slice-3.result.now ≡ width (shape_of s.rows s.contacts s.has_factor) =
-        ap length c.as_mut_slice-3.ensures.value ∙ s.wide in
+    ap length c.as_mut_slice-3.ensures.value ∙ s.wide in
     sym (λ z. cells_spot ordered_fractions (passes g.S.Exact.MAX) (suc s.rows) (q z)
     (cell_of g.S.Exact.exact (q z) (c.as_mut_slice.ensures.value z)) c.args.row c.args.column)
-        ∙ c.in_ok-pivot_block.ensures.passed
+    ∙ c.in_ok-pivot_block.ensures.passed
 
 pub returns-clause-ok : goal.returns-clause-ok
 returns-clause-ok g c =
@@ -88,18 +88,18 @@ returns-clause-ok g c =
     let w = width (shape_of s.rows s.contacts s.has_factor) in
     let q : length c.as_mut_slice-3.result.now ≡ w = ap length c.as_mut_slice-3.ensures.value ∙ s.wide in
     let items : (with_items s.cells c.pivot_block.new.cells).items ≡ c.pivot_block.new.cells =
-        with_items_is s.cells c.pivot_block.new.cells
+    with_items_is s.cells c.pivot_block.new.cells
     (c.pivot_block.auto.cells ∙ ap length c.as_mut_slice.ensures.value ∙ sym s.cells.ok.0) in
     let cells : (i j : ℕ) →
-        cell_of e w (with_items s.cells c.pivot_block.new.cells).items i j ≡ next ordered_fractions
-        (cell_of e w s.cells.items) c.args.row c.args.column i j
+    cell_of e w (with_items s.cells c.pivot_block.new.cells).items i j ≡ next ordered_fractions
+    (cell_of e w s.cells.items) c.args.row c.args.column i j
     = λ i j. ap (λ ys. cell_of e w ys i j) items ∙ sym (λ z. cell_of e (q z) c.pivot_block.new.cells i j)
-        ∙ c.in_ok-pivot_block.ensures.ok i j
+    ∙ c.in_ok-pivot_block.ensures.ok i j
     ∙ (λ z. next ordered_fractions (cell_of e (q z) (c.as_mut_slice.ensures.value z)) c.args.row c.args.column
     i j) in
     let basics : (i : ℕ) →
-        get_or (set s.basic.items c.args.row c.args.column) i 0 ≡ changed
-        (λ k. get_or s.basic.items k 0) c.args.row c.args.column i
+    get_or (set s.basic.items c.args.row c.args.column) i 0 ≡ changed
+    (λ k. get_or s.basic.items k 0) c.args.row c.args.column i
     = λ i. basic_changed s.basic.items c.args.row c.args.column i
-        (omega (arith, s.basics, c.requires.row_in)) in
+    (omega (arith, s.basics, c.requires.row_in)) in
     λ z. record { cell = λ i j. cells i j z; basic = λ i. basics i z }

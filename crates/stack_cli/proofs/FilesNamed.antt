@@ -1,0 +1,109 @@
+-- The work on a form asks for no files but those that its words name, in their order.
+use Rattle.std.proofs.Common.{◌≡◌, ℕ, suc, true, false, List, [], ◌∷◌, ◌++◌, take, inl, inr, Option, Some, None, Result, Ok, Err, length, subst, sym, refl, ◌∙◌, ap}
+use Rattle.std.specs.Bool.{⊤}
+use Rattle.std.specs.Prelude.{nat_lt, if◌then◌else◌}
+use Rattle.stack_model.specs.Structure.{Structure}
+use Rattle.stack_reader.specs.declared.errors.ReadError.{ReadError}
+use Rattle.stack_reader.specs.Reading.{structure_of}
+use Rattle.stack_contact.specs.Surveyed.{Surveyed}
+use Rattle.stack_certificate.specs.Certificate.{CertificateValue}
+use Rattle.stack_certificate.specs.CertificateOf.{certificate_of}
+use Rattle.stack_checker.specs.declared.types.Check.{Check}
+use Rattle.stack_checker.specs.declared.types.Check.TheVariants.{Accepted, Rejected, TooWide}
+use Rattle.stack_checker.specs.WrittenCheck.{written_check}
+use Rattle.stack_cli.specs.declared.refusal.Input.{Input}
+use Rattle.stack_cli.specs.declared.refusal.Input.TheVariants as inputs
+use Rattle.stack_cli.specs.Words.{Form, check, contacts, files_of}
+use Rattle.stack_cli.specs.Refusals.{Refusal, long}
+use Rattle.stack_cli.specs.Answers.{Due}
+use Rattle.stack_cli.specs.Work.{Work, gives, refuses, reads, surveys, ◌>>=◌, Found, Holds, Ends}
+use Rattle.stack_cli.specs.Surveying.{greatest_file, read, model_step, survey_step, modelled, surveyed}
+use Rattle.stack_cli.specs.Checking.{certificate_step, check_step, certified, checked, check_work}
+use Rattle.stack_cli.specs.Listing.{contacts_work}
+use Rattle.stack_cli.specs.Forms.{work_of}
+use Rattle.stack_cli.specs.Progress.{Names, GrewBy, Way}
+
+-- The work asks for no files but these, in order, and for all of them where it gives a value.
+abbrev AsksOnly : {A : Type 0} → Work A → List (List ℕ) → Type 0
+AsksOnly (gives x) all = all ≡ []
+AsksOnly (refuses q) all = ⊤
+AsksOnly (reads input name k) [] = ⊥
+AsksOnly (reads input name k) (first ∷ rest) = (name ≡ first) × ((bytes : List ℕ) → AsksOnly (k bytes) rest)
+AsksOnly (surveys s k) all = (found : Found) → AsksOnly (k found) all
+
+-- A front of them is asked for.
+front_of : {A : Type 0} (holds : Holds) (w : Work A) (all names : List (List ℕ)) (end : Result A Refusal)
+    → AsksOnly w all → Ends holds w names end → (n : ℕ) × (names ≡ take n all)
+front_of holds (gives x) all names end h p = (0, p.0)
+front_of holds (refuses q) all names end h p = (0, p.0)
+front_of holds (reads input name k) all [] end h p = (0, refl)
+front_of holds (reads input name k) [] (n ∷ ns) end h p = absurd h
+front_of holds (reads input name k) (first ∷ rest) (n ∷ ns) end h (same, inl p) =
+    (1, ap (λ x. x ∷ ns) (same ∙ h.0) ∙ ap (λ xs. first ∷ xs) p.0)
+front_of holds (reads input name k) (first ∷ rest) (n ∷ ns) end h (same, inr p) =
+    let more = front_of holds (k p.0) rest ns end (h.1 p.0) p.2 in
+    (suc more.0, ap (λ x. x ∷ ns) (same ∙ h.0) ∙ ap (λ xs. first ∷ xs) more.1)
+front_of holds (surveys s k) all names end h (inl p) = (0, p.0)
+front_of holds (surveys s k) all names end h (inr p) = front_of holds (k p.0) all names end (h p.0) p.2
+
+asks_then : {A B : Type 0} (w : Work A) (f : A → Work B) (front rest : List (List ℕ)) → AsksOnly w front
+    → ((a : A) → AsksOnly (f a) rest) → AsksOnly (w >>= f) (front ++ rest)
+asks_then (gives x) f front rest h g = subst (λ names. AsksOnly (f x) (names ++ rest)) (sym h) (g x)
+asks_then (refuses q) f front rest h g = tt
+asks_then (reads input name k) f [] rest h g = absurd h
+asks_then (reads input name k) f (first ∷ front) rest h g =
+    (h.0, λ bytes. asks_then (k bytes) f front rest (h.1 bytes) g)
+asks_then (surveys s k) f front rest h g = λ found. asks_then (k found) f front rest (h found) g
+
+read_asks : (input : Input) (name : List ℕ) → AsksOnly (read input name) (name ∷ [])
+read_asks input name = (
+  refl,
+  λ bytes. elim (nat_lt greatest_file (length bytes)) as (λ b. AsksOnly (if b then refuses (long input) else gives bytes) [])
+      [ true ↦ tt | false ↦ refl ],
+)
+
+model_asks : (m : Result Structure ReadError) → AsksOnly (model_step m) []
+model_asks (Ok s) = refl
+model_asks (Err e) = tt
+
+survey_asks : (s : Structure) (found : Found) → AsksOnly (survey_step s found) []
+survey_asks s (Ok v) = refl
+survey_asks s (Err e) = tt
+
+certificate_asks : (c : Result CertificateValue ℕ) → AsksOnly (certificate_step c) []
+certificate_asks (Ok c) = refl
+certificate_asks (Err number) = tt
+
+check_asks : (s : Structure) (c : Check) → AsksOnly (check_step s c) []
+check_asks s Accepted = refl
+check_asks s (Rejected part reason) = refl
+check_asks s (TooWide place) = tt
+
+surveyed_asks : (name : List ℕ) → AsksOnly (surveyed name) (name ∷ [])
+unfolding surveyed modelled
+surveyed_asks name =
+    asks_then (modelled name) _ (name ∷ []) []
+    (asks_then (read inputs.Model name) _ (name ∷ []) [] (read_asks inputs.Model name) (λ text. model_asks (structure_of text)))
+    (λ s found. survey_asks s found)
+
+checked_asks : (name : List ℕ) (v : Surveyed) → AsksOnly (checked name v) (name ∷ [])
+unfolding checked
+checked_asks name v =
+    asks_then (read inputs.Certificate name) _ (name ∷ []) [] (read_asks inputs.Certificate name)
+    (λ text. asks_then (certificate_step (certificate_of text)) _ [] [] (certificate_asks (certificate_of text))
+    (λ c. check_asks v.structure (written_check v c)))
+
+-- Each form: one clause.
+form_asks : (form : Form) → AsksOnly (work_of form) (files_of (Some form))
+unfolding check_work contacts_work
+form_asks (check model certificate) =
+    asks_then (surveyed model) _ (model ∷ []) (certificate ∷ []) (surveyed_asks model) (checked_asks certificate)
+form_asks (contacts model) = asks_then (surveyed model) _ (model ∷ []) [] (surveyed_asks model) (λ v. refl)
+
+pub asked_named : (holds : Holds) (form : Option Form) (names : List (List ℕ)) (end : Result Due Refusal)
+    (old new : Names) → Way holds form names end → GrewBy old new names
+    → (n : ℕ) × GrewBy old new (take n (files_of form))
+asked_named holds None names end old new way grew = (0, subst (GrewBy old new) way.0 grew)
+asked_named holds (Some form) names end old new way grew =
+    let front = front_of holds (work_of form) (files_of (Some form)) names end (form_asks form) way in
+    (front.0, subst (GrewBy old new) front.1 grew)

@@ -1,0 +1,74 @@
+-- One function of the order of work after another.
+use Rattle.std.proofs.Common.{◌≡◌, ℕ, List, [], ◌++◌, Option, Some, None, Result, Ok, Err, subst, sym, refl, ◌∙◌, ap, append_assoc, append-nil}
+use Rattle.stack_cli.specs.declared.refusal.Refusal.{Refusal as CodeRefusal}
+use Rattle.stack_cli.specs.Refusals.{refusal_view}
+use Rattle.stack_cli.specs.Work.{Work, ◌>>=◌, Holds, Ends}
+use Rattle.stack_cli.specs.declared.answer.Answer.{Answer}
+use Rattle.stack_cli.specs.Words.{Form}
+use Rattle.stack_cli.specs.Forms.{work_of}
+use Rattle.stack_cli.specs.Progress.{Answers, Works, Names, GrewBy, Returns, Does, DoesAlone}
+use Rattle.stack_cli.proofs.Ways.{goes_on, stops}
+
+grew_more : (old mid new : Names) (xs ys : List (List ℕ)) → GrewBy old mid xs → GrewBy mid new ys
+    → GrewBy old new (xs ++ ys)
+grew_more None mid new xs ys h k = tt
+grew_more (Some a) None new xs ys h k = absurd h
+grew_more (Some a) (Some b) None xs ys h k = k
+grew_more (Some a) (Some b) (Some c) xs ys h k = k ∙ (ap (λ zs. zs ++ ys) h ∙ append_assoc a xs ys)
+
+-- Nothing was asked for.
+pub none_asked : (old : Names) → GrewBy old old []
+none_asked None = tt
+none_asked (Some names) = sym (append-nil names)
+
+-- Values that the program holds, by what contracts see of them.
+abbrev pub IsSeen : {X A : Type 0} → (X → A) → X → A → Type 0
+IsSeen view x a = a ≡ view x
+
+comes_on : {A B X Y : Type 0} (R : Y → B → Type 0) (view : X → A) (holds : Holds) (w : Work A) (f : A → Work B)
+    (names more : List (List ℕ)) (x : X) (result : Result Y CodeRefusal) → Returns (IsSeen view) holds w names (Ok x)
+    → Returns R holds (f (view x)) more result → Returns R holds (w >>= f) (names ++ more) result
+comes_on R view holds w f names more x (Ok y) p q =
+    (q.0, q.1, goes_on holds w f names more (view x) (Ok q.0) (subst (λ a. Ends holds w names (Ok a)) p.1 p.2) q.2)
+comes_on R view holds w f names more x (Err r) p q =
+    goes_on holds w f names more (view x) (Err (refusal_view r)) (subst (λ a. Ends holds w names (Ok a)) p.1 p.2) q
+
+-- A function went on with a value, and one for the work after it followed.
+pub then : {A B X Y : Type 0} (R : Y → B → Type 0) (view : X → A) (holds later : Holds) (w : Work A) (f : A → Work B)
+    (old mid new : Names) (x : X) (result : Result Y CodeRefusal) → Does (IsSeen view) holds w old mid (Ok x)
+    → later ≡ holds → Does R later (f (view x)) mid new result → Does R holds (w >>= f) old new result
+then R view holds later w f old mid new x result p same q = record {
+  names = p.names ++ q.names;
+  asks = grew_more old mid new p.names q.names p.asks q.asks;
+  comes = comes_on R view holds w f p.names q.names x result p.comes
+      (subst (λ h. Returns R h (f (view x)) q.names result) same q.comes);
+}
+
+-- A function without a shelf, as one with it.
+pub alone : {A X : Type 0} (R : X → A → Type 0) (holds : Holds) (w : Work A) (old : Names) (result : Result X CodeRefusal)
+    → DoesAlone R w result → Does R holds w old old result
+alone R holds w old result p = record { names = []; asks = none_asked old; comes = p holds }
+
+-- One without a shelf followed.
+pub then_alone : {A B X Y : Type 0} (R : Y → B → Type 0) (view : X → A) (holds : Holds) (w : Work A) (f : A → Work B)
+    (old new : Names) (x : X) (result : Result Y CodeRefusal) → Does (IsSeen view) holds w old new (Ok x)
+    → DoesAlone R (f (view x)) result → Does R holds (w >>= f) old new result
+then_alone R view holds w f old new x result p q =
+    then R view holds holds w f old new new x result p refl (alone R holds (f (view x)) new result q)
+
+-- A function refused, so nothing followed.
+pub refused : {A B X Y : Type 0} (S : X → A → Type 0) (R : Y → B → Type 0) (holds : Holds) (w : Work A)
+    (f : A → Work B) (old new : Names) (r : CodeRefusal) → Does S holds w old new (Err r)
+    → Does R holds (w >>= f) old new (Err r)
+refused S R holds w f old new r p = record {
+  names = p.names;
+  asks = p.asks;
+  comes = stops holds w f p.names (refusal_view r) p.comes;
+}
+
+-- The work on a form whose function has no shelf.
+pub works_alone : (holds : Holds) (form : Form) (of_words : Option Form) (old : Names)
+    (result : Result Answer CodeRefusal) → Some form ≡ of_words → DoesAlone Answers (work_of form) result
+    → Works holds of_words old old result
+works_alone holds form of_words old result same p =
+    subst (λ f. Works holds f old old result) same (alone Answers holds (work_of form) old result p)

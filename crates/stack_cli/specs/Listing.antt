@@ -1,0 +1,17 @@
+-- The work on `contacts MODEL`: the survey of the model, and its table.
+use Rattle.std.specs.Prelude.{ℕ, List}
+use Rattle.stack_contact.specs.Surveyed.{Surveyed}
+use Rattle.stack_report.specs.ContactTable.{contacts_text}
+use Rattle.stack_cli.specs.declared.answer.Verdict.TheVariants.{Affirmed}
+use Rattle.stack_cli.specs.Answers.{Due, exactly}
+use Rattle.stack_cli.specs.Work.{Work, gives, ◌>>=◌}
+use Rattle.stack_cli.specs.Surveying.{surveyed}
+
+-- The table of contacts.
+abbrev pub listed : Surveyed → Work Due
+listed survey = gives (exactly Affirmed (contacts_text survey))
+
+unfoldable pub contacts_work : List ℕ → Work Due
+contacts_work model = do
+  survey ← surveyed model
+  listed survey

@@ -1,0 +1,35 @@
+//! The answer to the words: a module for each form or family of forms.
+
+ghost use Rattle.std.specs.Prelude.{◌≡◌, ◌≤◌};
+ghost use Rattle.stack_outside.specs.Faults.{Rose};
+ghost use Rattle.stack_cli.specs.Words.{form_of, texts};
+ghost use Rattle.stack_cli.specs.Progress.{Fails, Works};
+
+pub mod checking;
+pub mod listing;
+
+use crate::answer::Answer;
+use crate::refusal::Refusal;
+use crate::words::{Form, parse_form};
+use checking::check_form;
+use listing::contacts_form;
+use stack_outside::Shelf;
+use std::alloc::Global;
+
+/// The answer to the words, or the first step of the order of work that refuses.
+pub fn answer_words<F: Shelf>(
+    alloc: Global,
+    words: &[String],
+    shelf: &mut F,
+) -> Result<Answer, Refusal>
+    ensures works { Works (F.holds shelf.old) (form_of (texts words.now)) (F.asked shelf.old) (F.asked shelf.new) result }
+    ensures holds { F.holds shelf.new ≡ F.holds shelf.old }
+    ensures later { F.faults shelf.old ≤ F.faults shelf.new }
+    ensures cause { Fails result (Rose (F.faults shelf.old) (F.faults shelf.new)) }
+{
+    match parse_form(words) {
+        Some(Form::Check { model, certificate }) => check_form(alloc, shelf, model, certificate),
+        Some(Form::Contacts { model }) => contacts_form(alloc, shelf, model),
+        None => Err(Refusal::Words),
+    }
+}

@@ -1,0 +1,5 @@
+pub mod FreeBodies
+pub mod EdgeSums
+pub mod Solutions
+pub mod Moves
+pub mod ByNumber

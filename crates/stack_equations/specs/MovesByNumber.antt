@@ -1,0 +1,31 @@
+-- Motions by a move for each number of a free body, and what their powers are.
+use Rattle.std.specs.Prelude.{◌≡◌, ℕ, ◌<◌, ℤ, pos, List, Bool}
+use Rattle.stack_algebra.specs.Sums.{sum_to}
+use Rattle.stack_algebra.specs.IntegerOrder.{◌≼◌}
+use Rattle.stack_algebra.specs.Listed.{listed}
+use Rattle.stack_equilibrium.specs.declared.types.Wrench.{Wrench}
+use Rattle.stack_equilibrium.specs.Scene.{Move, Scene, IsProper}
+use Rattle.stack_equilibrium.specs.Motions.{power_of}
+use Rattle.stack_equilibrium.specs.Certificates.{move_of, IsFreeMotion}
+use Rattle.stack_equations.specs.FreeBodies.{free_at, free_count}
+use Rattle.stack_equations.specs.Edges.{edge_on}
+
+abbrev pub moves_from : Scene → (ℕ → Move) → List Move
+moves_from s y = listed (free_count s) y
+
+-- the work of a wrench on each free body
+abbrev pub power_by : Scene → (ℕ → Move) → (ℕ → Wrench) → ℤ
+power_by s y w = sum_to (free_count s) (λ b. power_of (w (free_at s b)) (y b))
+
+-- it is that on all bodies, since fixed ones are still
+abbrev pub PowersAreByNumber : Type 0
+PowersAreByNumber = (s : Scene) (y : ℕ → Move) (w : ℕ → Wrench) →
+    power_by s y w ≡ sum_to s.bodies (λ i. power_of (w i) (move_of s (moves_from s y) i))
+
+-- no edge of a cone does negative work
+abbrev pub AreUnopposed : Scene → (ℕ → Move) → Type 0
+AreUnopposed s y = (k : ℕ) → k < s.bearings → (plus : Bool) → pos 0 ≼ power_by s y (edge_on s plus k)
+
+abbrev pub UnopposedMovesAreMotions : Type 0
+UnopposedMovesAreMotions = (s : Scene) (y : ℕ → Move) → IsProper s → AreUnopposed s y →
+    IsFreeMotion s (moves_from s y)

@@ -1,0 +1,7 @@
+mod LevelEdges
+mod Boxes
+mod BoxPoints
+mod CommonRanges
+mod BoxSides
+mod BoxCommons
+mod RectangleContacts
