@@ -1,4 +1,4 @@
--- The written table begins phase 1.
+-- The written table is a table of phase 1, so the run of a problem gives what its end says over the first rows.
 use Rattle.std.proofs.Common.{◌≡◌, ◌≢◌, refl, sym, ap, subst, ◌∙◌, ℕ, zero, suc, ◌<◌, ◌≤◌, ◌+◌, ◌-◌, Bool, true, false, cond, ltb, leb, ◌&&◌, inr, arith}
 use Rattle.std.proofs.lemmas.Bool.{ltb-true, lt-ltb, leb-true, le-leb}
 use native.Mathlib.Decide.{dec_le, dec_lt}
@@ -6,7 +6,7 @@ use lib.IntN.{pos, negsuc}
 use Rattle.stack_algebra.specs.Ordered.{Ordered}
 use Rattle.stack_algebra.specs.Rows.{none, dot, Combination}
 use Rattle.stack_algebra.proofs.Ring.{num, ◌⊕◌, ◌⊗◌, ring1, mul-zero}
-use Rattle.stack_algebra.proofs.Sums.{sum, sum_one, sum_zero, at, at-other, at-same}
+use Rattle.stack_algebra.proofs.Sums.{sum, sum_one, sum_zero, at-other, at-same}
 use Rattle.stack_algebra.proofs.Signs.{nonneg_by}
 use Rattle.stack_algebra.proofs.Combinations.{combination_first}
 use Rattle.stack_algebra.proofs.Pivots.{changed-same}
@@ -32,10 +32,12 @@ module _ (F : Ordered) (P : Problem) where
   abbrev A : ℕ → ℕ → F.C
   A = first_row F P
 
+  -- 0 less some numbers, as a sum
   less_all-is : (k : ℕ) (f : ℕ → F.C) → less_all F k f ≡ sum F.ring k (λ i. F.mul (F.of (negsuc 0)) (f i))
   less_all-is zero f = refl
   less_all-is (suc k) f = ap (λ z. F.add z (F.neg (f k))) (less_all-is k f) ∙ ap (F.add _) (F.neg_is (f k))
 
+  -- the own cells of phase 1
   own-elsewhere : (j : ℕ) → ((k : ℕ) → k < m → j ≢ w + k) → own_first F m w j ≡ F.of (pos 0)
   own-elsewhere j h = sum_zero F.ring m _ (λ k l. at-other F.ring (w + k) j (F.of (pos 1)) (h k l))
 
@@ -43,6 +45,7 @@ module _ (F : Ordered) (P : Problem) where
   own-artificial k l = sum_one F.ring m k _ l (λ i _ d. at-other F.ring (w + i) (w + k) (F.of (pos 1))
       (λ e. d (omega arith))) ∙ at-same F.ring (w + k) (F.of (pos 1))
 
+  -- the first objective row, in an artificial column and elsewhere
   objective_artificial : (k : ℕ) → k < m → first_objective F P (w + k) ≡ F.of (pos 0)
   objective_artificial k l = (λ z. cond (le-leb w (w + k) (omega arith) z && lt-ltb (w + k) n (omega arith) z)
       (F.of (pos 0)) (less_all F m (λ i. A i (w + k))))
@@ -58,6 +61,7 @@ module _ (F : Ordered) (P : Problem) where
       go true e true f = absurd (let x = leb-true w j e in let y = ltb-true j n f in
           h (j - w) (omega arith) (omega arith))
 
+  -- it is a combination of the first rows, with its own cells
   objective_cell : (j : ℕ) → (h : Dec ((w ≤ j) × (j < n))) →
       first_objective F P j ≡ F.add (own_first F m w j) (sum F.ring m (λ i. F.mul (F.of (negsuc 0)) (A i j)))
   objective_cell j (yes h) = let k = j - w in let e : j ≡ w + k = omega (arith, h.0) in let l : k < m =
@@ -79,6 +83,7 @@ module _ (F : Ordered) (P : Problem) where
       out : (k : ℕ) → k < m → j ≢ w + k
       out k l e = h (omega arith, omega arith)
 
+  -- whether a column is artificial
   dec_between : (j : ℕ) → Dec ((w ≤ j) × (j < n))
   dec_between j = go (dec_le w j) (dec_lt j n)
     where
@@ -87,6 +92,7 @@ module _ (F : Ordered) (P : Problem) where
       go (yes a) (no b) = no (λ h. b h.1)
       go (no a) b = no (λ h. a h.0)
 
+  -- the written table is a table of phase 1
   pub first_table : IsFirst F P.shape A (written_table F P)
   first_table = record {
     no_factor = λ i l. let e = basic_is F P i l in inr (omega (arith, e));

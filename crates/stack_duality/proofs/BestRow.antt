@@ -1,4 +1,4 @@
--- What the least index, the first item and the best row are.
+-- The row found as best: none has a lesser ratio, and none of the same ratio a lesser basic column.
 use Rattle.std.proofs.Common.{◌≡◌, ◌≢◌, refl, sym, ap, subst, ◌∙◌, ℕ, zero, suc, ◌<◌, ◌≤◌, Bool, true, false, cond, ltb, Option, Some, None, arith}
 use Rattle.std.proofs.lemmas.Bool.{ltb-true, ltb-false}
 use native.Mathlib.Decide.{ℕ_discrete}
@@ -7,9 +7,10 @@ use Rattle.stack_algebra.proofs.Ring.{Exp, num, ◌⊕◌, ◌⊖◌, ring1, rin
 use Rattle.stack_algebra.specs.Ordered.{Ordered, Sign, minus, nought, plus}
 use Rattle.stack_algebra.specs.Rows.{less}
 use Rattle.stack_algebra.specs.Rows.{NonNeg}
-use Rattle.stack_algebra.proofs.Signs.{nonneg_add, nonneg_neg, nonneg_neg-minus, nonneg_by}
+use Rattle.stack_algebra.proofs.Signs.{nonneg_zero, zero_between, nonneg_add, nonneg_neg, nonneg_by}
 use Rattle.stack_bland.specs.Choice.{is_plus, goes_first, better, best}
 
+-- the item of Some
 some_same : {P : Type 0} {x y : P} → Some x ≡ Some y → x ≡ y
 some_same e = cc
 
@@ -19,19 +20,22 @@ module _ (F : Ordered) where
     pub no_greater : NonNeg F (less F (ratio i) (ratio r))
     pub tied : ratio i ≡ ratio r → basic r ≤ basic i
 
+  -- row r has the best ratio among the rows below n with a positive cell
   pub record IsBest (cell ratio : ℕ → F.C) (basic : ℕ → ℕ) (n r : ℕ) : Type 0 where
     pub below : r < n
     pub positive : F.sign (cell r) ≡ plus
     pub no_worse : (i : ℕ) → i < n → F.sign (cell i) ≡ plus → NoWorse ratio basic r i
 
+  -- no worse than itself, and than what a row that is no worse is no worse than
   no_worse-self : (ratio : ℕ → F.C) (basic : ℕ → ℕ) (r : ℕ) → NoWorse ratio basic r r
   no_worse-self ratio basic r = record {
     no_greater = nonneg_by F (F.of (pos 0)) (less F (ratio r) (ratio r))
         (sym (ring1 F.ring (λ x. (x ⊖ x, num (pos 0))) refl (ratio r)))
-        (Rattle.stack_algebra.proofs.Signs.nonneg_zero F);
+        (nonneg_zero F);
     tied = λ e. omega arith;
   }
 
+  -- differences
   less-zero : (x y : F.C) → less F x y ≡ F.of (pos 0) → x ≡ y
   less-zero x y e = ring2 F.ring (λ x y. (x, (x ⊖ y) ⊕ y)) refl x y ∙ ap (λ z. F.add z y) e ∙ F.zero_add y
 
@@ -45,7 +49,7 @@ module _ (F : Ordered) where
         refl (ratio a) (ratio b) (ratio c)) (nonneg_add F _ _ k.no_greater h.no_greater);
     tied = λ e.
         let same : ratio b ≡ ratio a =
-        less-zero (ratio b) (ratio a) (Rattle.stack_algebra.proofs.Signs.zero_between F _ h.no_greater
+        less-zero (ratio b) (ratio a) (zero_between F _ h.no_greater
         (nonneg_by F _ _ (ap (λ z. less F z (ratio b)) e ∙ sym (less-swap (ratio b) (ratio a))) k.no_greater))
         in
         omega (arith, h.tied same, k.tied (e ∙ sym same));
@@ -57,10 +61,12 @@ module _ (F : Ordered) where
   different ratio n r s e d = sym e ∙ ap (λ z. F.sign (less F z (ratio r))) d
       ∙ ap F.sign (ring1 F.ring (λ x. (x ⊖ x, num (pos 0))) refl (ratio r)) ∙ F.sign-zero
 
+  -- a difference the other way round
   swapped : (ratio : ℕ → F.C) (n r : ℕ) → F.sign (less F (ratio n) (ratio r)) ≢ plus →
       NonNeg F (less F (ratio r) (ratio n))
   swapped ratio n r d = nonneg_by F _ _ (less-swap (ratio n) (ratio r)) (nonneg_neg F _ d)
 
+  -- what the test of two rows says
   compared : (ratio : ℕ → F.C) (basic : ℕ → ℕ) (n r : ℕ) (s : Sign) (t : Bool) →
       F.sign (less F (ratio n) (ratio r)) ≡ s → ltb (basic n) (basic r) ≡ t →
       (goes_first s (basic n) (basic r) ≡ true → NoWorse ratio basic n r)
@@ -86,6 +92,7 @@ module _ (F : Ordered) where
     },
   )
 
+  -- the best row so far and one row more
   best_more : (cell ratio : ℕ → F.C) (basic : ℕ → ℕ) (n : ℕ) (o : Option ℕ) (r : ℕ) → F.sign (cell n) ≡ plus →
       (o ≡ None → (i : ℕ) → i < n → F.sign (cell i) ≢ plus) →
       ((q : ℕ) → o ≡ Some q → IsBest cell ratio basic n q) →
@@ -119,6 +126,7 @@ module _ (F : Ordered) where
           each i l q (yes d) = subst (λ k. NoWorse ratio basic b k) (sym d) (w.1 refl)
           each i l q (no d) = s.no_worse i (omega arith) q
 
+  -- no row has a positive cell
   pub best-none : (cell ratio : ℕ → F.C) (basic : ℕ → ℕ) (n : ℕ) → best F cell ratio basic n ≡ None → (i : ℕ) →
       i < n → F.sign (cell i) ≢ plus
   best-none cell ratio basic zero e i l p = absurd (omega arith)
@@ -135,6 +143,7 @@ module _ (F : Ordered) where
       go nought q o h e (yes d) = let t = sym q ∙ ap (λ k. F.sign (cell k)) (sym d) ∙ p in cc
       go nought q o h e (no d) = h e i (omega arith) p
 
+  -- and a row that is found is the best
   pub best-some : (cell ratio : ℕ → F.C) (basic : ℕ → ℕ) (n r : ℕ) → best F cell ratio basic n ≡ Some r →
       IsBest cell ratio basic n r
   best-some cell ratio basic zero r e = absurd cc

@@ -1,9 +1,10 @@
--- The four ends' tables give what they should: with each first row 1 in its own artificial column w + k and 0 in the others.
+-- The four ends' tables give what they should: with each first row 1 in its own artificial column w + k and 0
+-- in the others.
 use Rattle.std.proofs.Common.{◌≡◌, ◌≢◌, refl, sym, ap, ◌∙◌, ℕ, zero, suc, ◌<◌, ◌≤◌, ◌+◌, ◌-◌, arith}
 use native.Mathlib.Decide.{ℕ_discrete}
 use lib.IntN.{pos, negsuc}
 use Rattle.stack_algebra.proofs.Ring.{Ring, Exp, num, ◌⊕◌, ◌⊖◌, ◌⊗◌, ring1, ring2, ring3, mul-zero, add-zero}
-use Rattle.stack_algebra.proofs.Sums.{sum, sum_same, sum_one, sum_zero, sum_neg, sum_add, at, at-other, at-same}
+use Rattle.stack_algebra.proofs.Sums.{sum, sum_same, sum_zero, sum_scale, at, at-other, at-same}
 use Rattle.stack_algebra.specs.Ordered.{Ordered, minus, plus, opposite}
 use Rattle.stack_algebra.specs.Rows.{NonNeg}
 use Rattle.stack_algebra.proofs.Signs.{nonneg_add, nonneg_mul, nonneg_neg, nonneg_by, nonneg_plus, nonneg_sum, zero_between, zero_parts, plus_add}
@@ -14,6 +15,7 @@ use Rattle.stack_duality.specs.PhaseTables.{own_first, own_third}
 use Rattle.stack_duality.proofs.RowEnds.{Balances, work, Refutes, Bounds, Rises}
 use Rattle.stack_duality.proofs.Solutions.{dot_at, dot_comm, solution, ray_of, solution_annulled, ray_annulled, own_on_solution, own_on_ray, nonneg_at, nonneg_spread}
 
+-- a sum in two parts
 pub sum_plus : (R : Ring) (w m : ℕ) (f : ℕ → R.C) →
     sum R (w + m) f ≡ R.add (sum R w f) (sum R m (λ k. f (w + k)))
 sum_plus R w zero f = let e : w + zero ≡ w = omega arith in ap (λ k. sum R k f) e ∙ sym (add-zero R (sum R w f))
@@ -27,6 +29,7 @@ module _ (F : Ordered) where
   motion m w own cell k = F.add (cell m (w + k)) (F.neg (own (w + k)))
 
 module _ (F : Ordered) (m w : ℕ) (A : ℕ → ℕ → F.C) where
+  -- row l has 1 in its artificial column and 0 in the others
   abbrev pub FirstRows : Type 0
   FirstRows = (l k : ℕ) → k < m → A l (w + k) ≡ at F.ring k (F.of (pos 1)) l
 
@@ -51,6 +54,7 @@ module _ (F : Ordered) (m w : ℕ) (A : ℕ → ℕ → F.C) where
   }
 
   module _ (cell : ℕ → ℕ → F.C) (basic : ℕ → ℕ) where
+    -- the values, and a ray
     abbrev x : ℕ → F.C
     x = solution F m (w + m) cell basic
 
@@ -60,10 +64,12 @@ module _ (F : Ordered) (m w : ℕ) (A : ℕ → ℕ → F.C) where
     abbrev ray : ℕ → ℕ → F.C
     ray c = ray_of F m (w + m) cell basic c
 
+    -- the solution before the right side
     solution_is : (j : ℕ) → j < w + m → x j ≡ value j
     solution_is j l = ap (F.add (value j)) (at-other F.ring (w + m) j (F.of (negsuc 0)) (λ e. omega arith))
         ∙ add-zero F.ring (value j)
 
+    -- the first rows in an objective's multipliers: its cells less its own
     work_is : (own : ℕ → F.C) → FirstRows → Combination F.ring m A own (cell m) → (j : ℕ) →
         work F m w (w + m) A (motion F m w own cell) j ≡ F.add (cell m j) (F.neg (own j))
     work_is own a h j = sum_same F.ring m _ _
@@ -72,6 +78,7 @@ module _ (F : Ordered) (m w : ℕ) (A : ℕ → ℕ → F.C) where
         (sum F.ring m (λ k. F.mul (h.multiplier k) (A k j)))
         ∙ ap (λ y. F.add y (F.neg (own j))) (sym (h.cell j))
 
+    -- a spread where no basic column of a number that is not 0 stands
     spread_outside : (v : ℕ → F.C) (j : ℕ) → ((i : ℕ) → i < m → basic i ≡ j → v i ≡ F.of (pos 0)) →
         spread F.ring m basic v j ≡ F.of (pos 0)
     spread_outside v j h = sum_zero F.ring m (λ i. at F.ring (basic i) (v i) j)
@@ -87,9 +94,11 @@ module _ (F : Ordered) (m w : ℕ) (A : ℕ → ℕ → F.C) where
     value_outside j l h = solution_is j l ∙ spread_outside (λ i. cell i (w + m)) j (λ i k e. absurd (h i k e))
 
     module _ (own : ℕ → F.C) (t : Tableau F m (w + m) A own cell basic) where
+      -- values are not negative
       nonneg_value : (j : ℕ) → NonNeg F (value j)
       nonneg_value j = nonneg_spread F m basic (λ i. cell i (w + m)) j t.feasible
 
+      -- the solution at the right side
       solution_right : x (w + m) ≡ F.neg (F.of (pos 1))
       solution_right = ap (λ y. F.add y (at F.ring (w + m) (F.of (negsuc 0)) (w + m)))
           (spread_outside (λ i. cell i (w + m)) (w + m) (λ i l e. absurd (omega (arith, t.basic_below i l))))
@@ -107,11 +116,13 @@ module _ (F : Ordered) (m w : ℕ) (A : ℕ → ℕ → F.C) where
 
     -- phase 1
     module _ (t : Tableau F m (w + m) A (own_first F m w) cell basic) where
+      -- the own cells of phase 1 count the artificial columns' amounts
       artificial_sum : (x : ℕ → F.C) → dot F.ring (suc (w + m)) (own_first F m w) x
           ≡ sum F.ring m (λ k. F.mul (x (w + k)) (F.of (pos 1)))
       artificial_sum x = dot_comm F.ring (suc (w + m)) (own_first F m w) x
           ∙ dot_spread F.ring m (suc (w + m)) (λ k. w + k) x (λ k. F.of (pos 1)) (λ k l. omega arith)
 
+      -- they are 0 in the plain columns and on the right
       own-plain : (j : ℕ) → j < w → (own_first F m w) j ≡ F.of (pos 0)
       own-plain j l = sum_zero F.ring m (λ k. at F.ring (w + k) (F.of (pos 1)) j)
           (λ k _. at-other F.ring (w + k) j (F.of (pos 1)) (λ e. omega arith))
@@ -120,6 +131,7 @@ module _ (F : Ordered) (m w : ℕ) (A : ℕ → ℕ → F.C) where
       own-right = sum_zero F.ring m (λ k. at F.ring (w + k) (F.of (pos 1)) (w + m))
           (λ k l. at-other F.ring (w + k) (w + m) (F.of (pos 1)) (λ e. omega arith))
 
+      -- a negative right side of the objective refutes that anything balances
       pub infeasible_refutes : FirstRows → (contacts : ℕ) → contacts ≤ w →
           ((j : ℕ) → j < contacts → NonNeg F (cell m j)) → F.sign (cell m (w + m)) ≡ minus →
           Refutes F m w (w + m) A contacts (motion F m w (own_first F m w) cell)
@@ -174,18 +186,21 @@ module _ (F : Ordered) (m w : ℕ) (A : ℕ → ℕ → F.C) where
           at-zero : cell i (w + m) ≡ at F.ring (basic i) (cell i (w + m)) (basic i)
           at-zero = sym (at-same F.ring (basic i) (cell i (w + m)))
 
+      -- and so the values balance
       pub feasible_balances : F.sign (cell m (w + m)) ≢ minus → Balances F m w (w + m) A x (F.of (pos 1))
       feasible_balances h = values_balance (own_first F m w) t (artificial_values h)
 
     -- phase 3
     module _ (g : ℕ) (below : g < w) (t : Tableau F m (w + m) A (own_third F g) cell basic) where
+      -- the own cells of phase 3 count the factor's amount
       factor_sum : (x : ℕ → F.C) → dot F.ring (suc (w + m)) (own_third F g) x ≡ F.neg (x g)
       factor_sum x = dot_comm F.ring (suc (w + m)) (own_third F g) x
           ∙ dot_at F.ring (suc (w + m)) g x (F.of (negsuc 0)) (omega arith)
           ∙ ring1 F.ring (λ y. (y ⊗ num (negsuc 0), Exp.neg y)) refl (x g)
 
+      -- an objective cell or the value of its column is 0
       complementary : (j : ℕ) → F.mul (cell m j) (value j) ≡ F.of (pos 0)
-      complementary j = sym (Rattle.stack_algebra.proofs.Sums.sum_scale F.ring m (cell m j)
+      complementary j = sym (sum_scale F.ring m (cell m j)
           (λ i. at F.ring (basic i) (cell i (w + m)) j))
           ∙ sum_zero F.ring m _ (λ i l. go i l (ℕ_discrete j (basic i)))
         where
@@ -202,6 +217,7 @@ module _ (F : Ordered) (m w : ℕ) (A : ℕ → ℕ → F.C) where
           ∙ ap F.neg (sym (factor_sum x) ∙ own_on_solution F m (w + m) A (own_third F g) cell basic t)
           ∙ ring1 F.ring (λ y. (Exp.neg (Exp.neg y), y)) refl (cell m (w + m))
 
+      -- an objective row without a negative cell bounds the factor by its value
       pub optimal_bounds : FirstRows → ((j : ℕ) → j < w → NonNeg F (cell m j)) →
           Bounds F m w (w + m) A g x (motion F m w (own_third F g) cell)
       optimal_bounds a h = record {
@@ -226,6 +242,7 @@ module _ (F : Ordered) (m w : ℕ) (A : ℕ → ℕ → F.C) where
               ∙ ap (λ y. F.add (cell m g) (F.neg y)) (at-same F.ring g (F.of (negsuc 0)))
               ∙ ring1 F.ring (λ y. (y ⊖ num (negsuc 0), y ⊕ num (pos 1))) refl (cell m g)
 
+      -- an entering column that no row limits raises the factor
       pub ray_rises : (c : ℕ) → c < w → F.sign (cell m c) ≡ minus →
           ((i : ℕ) → i < m → F.sign (cell i c) ≢ plus) →
           ((i : ℕ) → i < m → w ≤ basic i → cell i c ≡ F.of (pos 0)) →

@@ -1,19 +1,18 @@
 -- The ends of the written run of a problem give what they should, in the problem's own rows.
-use Rattle.std.proofs.Common.{◌≡◌, refl, sym, ap, subst, ◌∙◌, ℕ, ◌+◌, ◌<◌, arith}
+use Rattle.std.proofs.Common.{◌≡◌, refl, sym, ap, ◌∙◌, ℕ, ◌+◌, ◌<◌, arith}
 use lib.IntN.{pos, negsuc}
 use Rattle.stack_algebra.specs.Ordered.{Ordered}
 use Rattle.stack_algebra.specs.Rows.{less, none, Combination, Tableau}
 use Rattle.stack_algebra.proofs.Ring.{num, ◌⊖◌, ring1}
-use Rattle.stack_algebra.proofs.Sums.{sum, sum_same, at-other}
+use Rattle.stack_algebra.proofs.Sums.{sum_same, at-other}
 use Rattle.stack_algebra.proofs.Combinations.{multiplier_is}
 use Rattle.stack_algebra.proofs.OrderedFractions.{ordered_fractions}
-use Rattle.stack_rational.specs.declared.exact.Op.{Op}
-use Rattle.stack_table.specs.Table.{Tabled, plain, columns, objective}
+use Rattle.stack_table.specs.Table.{Tabled, plain, columns}
 use Rattle.stack_table.specs.Problem.{Problem, flipped}
 use Rattle.stack_table.specs.WrittenTable.{first_row, written_table}
-use Rattle.stack_duality.specs.WrittenRun.{End, infeasible, feasible, optimal, ray, wide, over, written_run}
+use Rattle.stack_duality.specs.WrittenRun.{End, infeasible, feasible, optimal, ray, wide, over}
 use Rattle.stack_duality.specs.EndNumbers.{signed, value, rate, bound_multiplier, collapse_multiplier}
-use Rattle.stack_duality.specs.PhaseTables.{own_first, own_third, IsFirst, IsThird, ShowsMultipliers}
+use Rattle.stack_duality.specs.PhaseTables.{own_first, own_third, IsFirst, ShowsMultipliers}
 use Rattle.stack_duality.specs.FourEnds.{IsFirstEnd, IsThirdEnd, EndGives}
 use Rattle.stack_duality.specs.Laws.{EndsGive, SomeRowLeaves}
 use Rattle.stack_duality.proofs.Solutions.{solution}
@@ -42,9 +41,11 @@ module _ (F : Ordered) (P : Problem) where
       less F (t (w + k)) (own (w + k)) ≡ c.multiplier k
   row_multiplier own t c k l = sym (multiplier_is F.ring m w A own t (first_rows F P) c k l)
 
+  -- a number less 0
   less_none : (x : F.C) → less F x (F.of (pos 0)) ≡ x
   less_none = ring1 F.ring (λ x. (x ⊖ num (pos 0), x)) refl
 
+  -- rows and objective by their artificial cells
   multipliers : (own : ℕ → F.C) (T : Tabled F.C) → Tableau F m n A own T.cell T.basic →
       ShowsMultipliers F P.shape A own T
   multipliers own T t = record {
@@ -61,12 +62,14 @@ module _ (F : Ordered) (P : Problem) where
   collapsing T k l = ap (λ y. signed F (flipped P k) (less F (T.cell m (w + k)) y))
       (sym (own-artificial F P k l))
 
+  -- in phase 3
   bounding : (T : Tabled F.C) → P.shape.contacts < w → (k : ℕ) → k < m →
       bound_multiplier F P T k ≡ unflipped F P (motion F m w (own_third F P.shape.contacts) T.cell) k
   bounding T g k l = ap (signed F (flipped P k)) (sym (less_none (T.cell m (w + k)))
       ∙ ap (less F (T.cell m (w + k))) (sym (at-other F.ring P.shape.contacts (w + k) (F.of (negsuc 0))
       (λ e. omega (arith, g, e)))))
 
+  -- the last table of phase 1, and of phase 3
   first_end : (T : Tabled F.C) → IsFirst F P.shape A T → IsFirstEnd F P T
   first_end T h = record { table = h; shows = multipliers (own_first F m w) T h.tableau }
 
@@ -81,6 +84,7 @@ module _ (F : Ordered) (P : Problem) where
         h.balances;
   }
 
+  -- the four ends
   end_of_rows : (x : End F.C) → EndOverRows F P.shape A x → EndGives F P x
   end_of_rows (infeasible T) h = record {
     first = first_end T h.first;
@@ -112,6 +116,7 @@ module _ (F : Ordered) (P : Problem) where
   end_of_rows (wide p k s) h = tt
   end_of_rows over h = tt
 
+-- the two laws
 pub ends_give : EndsGive
 ends_give P rule budget = end_of_rows ordered_fractions P _ (written_run-gives ordered_fractions P rule budget)
 

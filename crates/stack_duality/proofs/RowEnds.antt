@@ -1,4 +1,5 @@
--- What the four ends give over the first rows A: m rows, the columns below w that may enter, the right side in column n.
+-- What the four ends give over the first rows A: m rows, the columns below w that may enter, the right side in
+-- column n.
 use Rattle.std.specs.Prelude.{◌≡◌, ◌≢◌, ℕ, ◌<◌}
 use lib.IntN.{pos}
 use Rattle.stack_algebra.specs.Sums.{sum}

@@ -1,5 +1,5 @@
 -- The three phases keep what they should, and so the ends of a run give over the first rows what they should.
-use Rattle.std.proofs.Common.{◌≡◌, ◌≢◌, refl, ap, subst, ℕ, zero, suc, ◌<◌, ◌≤◌, Bool, true, false, cond, leb, not, arith, Option, Some, None}
+use Rattle.std.proofs.Common.{◌≡◌, ◌≢◌, refl, subst, ℕ, zero, suc, ◌<◌, ◌≤◌, Bool, true, false, cond, leb, not, arith, Option, Some, None}
 use Rattle.std.proofs.lemmas.Bool.{leb-true, leb-false}
 use lib.IntN.{pos}
 use Rattle.stack_algebra.specs.Ordered.{Ordered, Sign, minus, nought, plus}
@@ -54,6 +54,7 @@ module _ (F : Ordered) (S : Shape) (A : ℕ → ℕ → F.C) where
     pub enters : F.sign (objective F S T c) ≡ minus
     pub rises : Rises F m w n A S.contacts (ray_of F m n T.cell T.basic c)
 
+  -- by the end
   abbrev pub EndOverRows : End F.C → Type 0
   EndOverRows (infeasible T) = Infeasible T
   EndOverRows (feasible T) = Feasible T
@@ -62,6 +63,7 @@ module _ (F : Ordered) (S : Shape) (A : ℕ → ℕ → F.C) where
   EndOverRows (wide p k s) = Unit {0}
   EndOverRows over = Unit {0}
 
+  -- how phase 2 stops on tables with P: it is never unlimited
   abbrev pub Settled : (Tabled F.C → Type 0) → Stop F.C → Type 0
   Settled P (settled left done T) = P T
   Settled P (unlimited T c) = ⊥
@@ -97,6 +99,7 @@ module _ (F : Ordered) (S : Shape) (A : ℕ → ℕ → F.C) where
         go true e = at_column (leb-true _ _ e) left (driven_column F S T r) refl
         go false e = second_skips F S A T r (λ j b _. absurd (let p = leb-false _ _ e in omega arith)) h
 
+    -- over the rows below k
     pub drives_keep : (k : ℕ) → k ≤ m → (left done : ℕ) (T : Tabled F.C) → Second F S A 0 T →
         Settled (Second F S A k) (drives F S passes k left done T)
     drives_keep zero l left done T h = h
@@ -119,6 +122,7 @@ module _ (F : Ordered) (S : Shape) (A : ℕ → ℕ → F.C) where
       balances = values_balance F m w A T.cell T.basic (own_third F S.contacts) h.tableau h.zero_value;
     }
 
+    -- by how phase 3 stops, phase 2, and phase 1
     third_gives : FirstRows F m w A → S.contacts < w → Stands F m w n A S.contacts → (x : Stop F.C) →
         Stopped F S (IsThird F S A) w x → EndOverRows (third_end x)
     third_gives a lg z (settled left done T) h = record {
@@ -159,6 +163,7 @@ module _ (F : Ordered) (S : Shape) (A : ℕ → ℕ → F.C) where
         after_second a (omega (arith, e)) (first_stands F S A T h (omega (arith, e)) d) _
         (drives_keep m (omega arith) left done (clear_objective F S T) (second_begins F S A T h d))
 
+    -- no column of phase 1 is unlimited
     limited : FirstRows F m w A → (T : Tabled F.C) (c : ℕ) →
         ¬ Stopped F S (IsFirst F S A) S.contacts (unlimited T c)
     limited a T c h = some_row_leaves F m w A T.cell T.basic h.0.tableau c (omega (arith, h.1.enters.below))
@@ -181,6 +186,7 @@ module _ (F : Ordered) (S : Shape) (A : ℕ → ℕ → F.C) where
     first_gives a (passing p k s) h = tt
     first_gives a spent h = tt
 
+    -- phase 1 stops on a table of phase 1
     first_stops : (budget : ℕ) (T : Tabled F.C) → IsFirst F S A T →
         Stopped F S (IsFirst F S A) S.contacts (turns F S passes 1 S.contacts budget 0 T)
     first_stops budget T h =

@@ -1,4 +1,4 @@
--- What an end's table gives.
+-- Values and rays as vectors that the first rows annul, and what an objective counts on them.
 use Rattle.std.proofs.Common.{◌≡◌, refl, sym, ap, ◌∙◌, ℕ, suc, ◌<◌, Bool, true, false, cond, eqb, arith}
 use lib.IntN.{pos, negsuc}
 use Rattle.stack_algebra.proofs.Ring.{Ring, Exp, num, ◌⊕◌, ◌⊖◌, ◌⊗◌, ring1, ring3, mul-zero}
@@ -11,6 +11,7 @@ use Rattle.stack_algebra.proofs.Combinations.{dot_own_cells, dot_spread}
 use Rattle.stack_algebra.specs.Rows.{Tableau}
 
 module _ (R : Ring) where
+  -- products with sums, with one item, and the other way round
   pub dot_add : (n : ℕ) (f x y : ℕ → R.C) → dot R n f (λ j. R.add (x j) (y j))
       ≡ R.add (dot R n f x) (dot R n f y)
   dot_add n f x y = (λ i. sum R n (λ j. ring3 R (λ f x y. (f ⊗ (x ⊕ y), f ⊗ x ⊕ f ⊗ y)) refl (f j) (x j)
@@ -23,6 +24,7 @@ module _ (R : Ring) where
   pub dot_comm : (n : ℕ) (f x : ℕ → R.C) → dot R n f x ≡ dot R n x f
   dot_comm n f x = λ i. sum R n (λ j. R.mul_comm (f j) (x j) i)
 
+  -- a sum over unit cells, and over cells that are 0
   unit_sum : (m i : ℕ) (u v : ℕ → R.C) → i < m → ((s : ℕ) → s < m → u s ≡ at R s (R.of (pos 1)) i) →
       sum R m (λ s. R.mul (u s) (v s)) ≡ v i
   unit_sum m i u v l h = sum_one R m i (λ s. R.mul (u s) (v s)) l (λ s k d. ap (λ z. R.mul z (v s)) (h s k
@@ -45,6 +47,7 @@ module _ (F : Ordered) (m n : ℕ) where
 
 module _ (F : Ordered) (m n : ℕ) (A : ℕ → ℕ → F.C) where
   module _ (own : ℕ → F.C) (cell : ℕ → ℕ → F.C) (basic : ℕ → ℕ) (t : Tableau F m n A own cell basic) where
+    -- a row on the solution, and on a ray
     pub on_solution : (f : ℕ → F.C) → dot F.ring (suc n) f (solution F m n cell basic)
         ≡ F.add (sum F.ring m (λ s. F.mul (f (basic s)) (cell s n))) (F.mul (f n) (F.of (negsuc 0)))
     on_solution f = dot_add F.ring (suc n) f (spread F.ring m basic (λ i. cell i n))
@@ -68,6 +71,7 @@ module _ (F : Ordered) (m n : ℕ) (A : ℕ → ℕ → F.C) where
         (unit_sum F.ring m i (λ s. cell i (basic s)) (λ s. cell s n) l (λ s k. t.unit i s l k))
         ∙ ring1 F.ring (λ v. (v ⊕ v ⊗ num (negsuc 0), num (pos 0))) refl (cell i n))
 
+    -- and a ray
     pub ray_annulled : (c : ℕ) → c < n → Annuls F.ring m (suc n) A (ray_of F m n cell basic c)
     ray_annulled c lc = t.back (ray_of F m n cell basic c) (λ i l. on_ray c lc (cell i)
         ∙ ap (F.add (F.mul (cell i c) (F.of (pos 1))))
@@ -82,6 +86,7 @@ module _ (F : Ordered) (m n : ℕ) (A : ℕ → ℕ → F.C) where
         (zero_sum F.ring m (λ s. cell m (basic s)) (λ s. cell s n) t.objective_unit)
         ∙ ring1 F.ring (λ v. (num (pos 0) ⊕ v ⊗ num (negsuc 0), Exp.neg v)) refl (cell m n)
 
+    -- and on a ray
     pub own_on_ray : (c : ℕ) → c < n → dot F.ring (suc n) own (ray_of F m n cell basic c) ≡ cell m c
     own_on_ray c lc = sym (dot_own_cells F.ring m (suc n) A own (cell m) (ray_of F m n cell basic c) t.objective
         (ray_annulled c lc)) ∙ on_ray c lc (cell m)
@@ -98,6 +103,7 @@ module _ (F : Ordered) where
       go true = h
       go false = nonneg_zero F
 
+  -- and at every index
   pub nonneg_spread : (m : ℕ) (basic : ℕ → ℕ) (v : ℕ → F.C) (j : ℕ) → ((i : ℕ) → i < m → NonNeg F (v i)) →
       NonNeg F (spread F.ring m basic v j)
   nonneg_spread m basic v j h = nonneg_sum F m (λ i. at F.ring (basic i) (v i) j)

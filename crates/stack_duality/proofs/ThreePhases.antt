@@ -1,6 +1,6 @@
--- What the tables of each phase are, and what the run's ends give.
-use Rattle.std.proofs.Common.{◌≡◌, ◌≢◌, refl, sym, ap, subst, ◌∙◌, ℕ, zero, suc, ◌<◌, ◌≤◌, ◌⊎◌, inl, inr, Bool, true, false, cond, eqb, leb, not, arith, Option, Some, None}
-use Rattle.std.proofs.lemmas.Bool.{leb-true, leb-false, eqb-true, eqb-false}
+-- The tables of the three phases: each turn keeps them, and each phase begins with one.
+use Rattle.std.proofs.Common.{◌≡◌, ◌≢◌, refl, sym, ap, subst, ◌∙◌, ℕ, suc, ◌<◌, ◌≤◌, ◌⊎◌, inl, inr, true, false, eqb, not, arith, Option, Some, None}
+use Rattle.std.proofs.lemmas.Bool.{eqb-true, eqb-false}
 use native.Mathlib.Decide.{ℕ_discrete}
 use lib.IntN.{pos, negsuc}
 use Rattle.stack_algebra.proofs.Ring.{num, ◌⊕◌, ◌⊖◌, ◌⊗◌, ring1, ring2, add-zero}
@@ -14,18 +14,15 @@ use Rattle.stack_algebra.specs.Rows.{none, dot, Combination}
 use Rattle.stack_algebra.specs.Rows.{changed, Tableau, next}
 use Rattle.stack_algebra.proofs.Pivots.{changed-same, changed-other}
 use Rattle.stack_algebra.proofs.Tableaus.{tableau_after, right_sides}
-use Rattle.stack_rational.specs.declared.exact.Op.{Op}
-use Rattle.stack_table.specs.declared.types.PivotWide.{PivotWide}
 use Rattle.stack_table.specs.Table.{Shape, Tabled, plain, columns, right, pivoted_at, with_objective, factor_objective, clear_objective, set_factor_objective}
-use Rattle.stack_table.specs.Spots.{pivot_spot}
 use Rattle.stack_bland.specs.Choice.{is_minus, is_nought}
-use Rattle.stack_duality.specs.WrittenRun.{Stop, settled, unlimited, passing, spent, End, infeasible, feasible, optimal, ray, wide, over, after, on_spot, turns, driven_column, drive_at, drive_row, drives, third_end, past_first, first_end, written_run}
 use Rattle.stack_duality.specs.PhaseTables.{own_first, own_third, IsFirst, IsThird}
-use Rattle.stack_duality.proofs.RowEnds.{Balances, Refutes, Bounds, Rises, Stands}
-use Rattle.stack_duality.proofs.Solutions.{solution, ray_of}
-use Rattle.stack_duality.proofs.Duality.{motion, FirstRows, infeasible_refutes, feasible_balances, artificial_values, some_row_leaves, value_outside, values_balance, optimal_bounds, ray_rises}
-use Rattle.stack_duality.proofs.TurnsKeep.{Due, Stopped, turns_keep}
+use Rattle.stack_duality.proofs.RowEnds.{Stands}
+use Rattle.stack_duality.proofs.Solutions.{solution}
+use Rattle.stack_duality.proofs.Duality.{feasible_balances, artificial_values, value_outside}
+use Rattle.stack_duality.proofs.TurnsKeep.{Due}
 
+-- signs by their tests
 pub sign-minus : (s : Sign) → is_minus s ≡ true → s ≡ minus
 sign-minus minus e = refl
 sign-minus nought e = absurd cc
@@ -60,6 +57,7 @@ module _ (F : Ordered) (S : Shape) (A : ℕ → ℕ → F.C) where
       ∙ ring2 F.ring (λ t s. (t ⊖ num (pos 0) ⊗ s, t)) refl (T.cell i j)
       (F.mul (F.inv (T.cell r c)) (T.cell r j))
 
+  -- tables of phase 1 and of phase 3
   abbrev pub First : Tabled F.C → Type 0
   First T = IsFirst F S A T
 
@@ -72,6 +70,7 @@ module _ (F : Ordered) (S : Shape) (A : ℕ → ℕ → F.C) where
     pub zero_value : (i : ℕ) → i < m → w ≤ T.basic i → right F S T i ≡ F.of (pos 0)
     pub driven : (i j : ℕ) → i < k → w ≤ T.basic i → j < w → T.cell i j ≡ F.of (pos 0)
 
+  -- a due pivot keeps a tableau
   pub due_tableau : (own : ℕ → F.C) (among : ℕ) → among ≤ w → (T : Tabled F.C) (r c : ℕ) →
       Tableau F m n A own T.cell T.basic → Due F S T among r c →
       Tableau F m n A own (pivoted_at F S T r c).cell (pivoted_at F S T r c).basic
@@ -83,6 +82,7 @@ module _ (F : Ordered) (S : Shape) (A : ℕ → ℕ → F.C) where
         least = λ i l e. (d.leaves.no_worse i l e).no_greater;
       }) t.feasible) t
 
+  -- and a table of phase 1
   pub first_step : (T : Tabled F.C) (r c : ℕ) → First T → Due F S T S.contacts r c →
       First (pivoted_at F S T r c)
   first_step T r c h d = record {
@@ -111,6 +111,7 @@ module _ (F : Ordered) (S : Shape) (A : ℕ → ℕ → F.C) where
       go i (inl k) e = omega arith
       go i (inr k) e = omega arith
 
+  -- a due pivot keeps a table of phase 3
   pub third_step : (T : Tabled F.C) (r c : ℕ) → Third T → Due F S T w r c → Third (pivoted_at F S T r c)
   third_step T r c h d = record {
     tableau = due_tableau (own_third F S.contacts) w (omega arith) T r c h.tableau d;
@@ -142,12 +143,14 @@ module _ (F : Ordered) (S : Shape) (A : ℕ → ℕ → F.C) where
       same : (i : ℕ) → i < m → ◌≡◌ {A = ℕ → F.C} (changed T.cell m o i) (T.cell i)
       same i l = changed-other T.cell m o i (λ e. omega arith)
 
+  -- an objective row of 0
   nothing : Combination F.ring m A (none F.ring) (none F.ring)
   nothing = record {
     multiplier = λ k. F.of (pos 0);
     cell = λ j. sym (F.zero_add _ ∙ sum_zero F.ring m _ (λ k l. F.zero_mul (A k j)));
   }
 
+  -- phase 2 begins
   pub second_begins : (T : Tabled F.C) → First T → F.sign (right F S T m) ≢ minus →
       Second 0 (clear_objective F S T)
   second_begins T h d = record {
@@ -180,6 +183,7 @@ module _ (F : Ordered) (S : Shape) (A : ℕ → ℕ → F.C) where
       rows i j l b lj e = let k = still i b e in let d = k.0 in
           row_kept T r c i j d (h.driven i c (omega arith) k.1 lc) ∙ h.driven i j (omega arith) k.1 lj
 
+  -- a row of phase 2 that is left as it is
   pub second_skips : (T : Tabled F.C) (r : ℕ) → ((j : ℕ) → w ≤ T.basic r → j < w → T.cell r j ≡ F.of (pos 0)) →
       Second r T → Second (suc r) T
   second_skips T r z h = record {
@@ -192,6 +196,7 @@ module _ (F : Ordered) (S : Shape) (A : ℕ → ℕ → F.C) where
       go i j l b lj (yes e) = ap (λ k. T.cell k j) e ∙ z j (subst (λ k. w ≤ T.basic k) e b) lj
       go i j l b lj (no d) = h.driven i j (omega arith) b lj
 
+  -- phase 3 begins
   pub third_begins : (T : Tabled F.C) → S.contacts < w → Second m T → Third (set_factor_objective F S T)
   third_begins T lg h = record {
     tableau = go (least m (λ r. eqb (T.basic r) g)) refl;

@@ -1,5 +1,5 @@
 -- A turn of a phase and a row of phase 2, as the loops take them.
-use Rattle.std.proofs.Common.{◌≡◌, refl, sym, ap, ◌∙◌, ℕ, zero, suc, ◌+◌, ◌<◌, ◌≤◌, Bool, true, false, cond, leb, Option, Some, None, arith}
+use Rattle.std.proofs.Common.{◌≡◌, refl, sym, ap, ◌∙◌, ℕ, zero, suc, ◌+◌, ◌<◌, Bool, true, false, cond, leb, Option, Some, None, arith}
 use Rattle.stack_algebra.specs.Ordered.{Ordered}
 use Rattle.stack_rational.specs.declared.exact.Op.{Op}
 use Rattle.stack_table.specs.declared.types.PivotWide.{PivotWide}
@@ -10,6 +10,7 @@ use Rattle.stack_bland.specs.Choice.{entering, leaving, ratio_row}
 use Rattle.stack_duality.specs.WrittenRun.{Choice, stays, rises, due, refused, Stop, settled, unlimited, passing, spent, after, on_spot, on_choice, chosen_at, chosen_in, choose, turns, driven_column, drive_at, drive_row, drives}
 
 module _ (F : Ordered) (S : Shape) (passes : Op → F.C → F.C → Bool) where
+  -- the choice by what is found: the column; the passing ratio and the leaving row
   choose_by : (T : Tabled F.C) (among : ℕ) (o : Option ℕ) → entering F S T among ≡ o →
       choose F S passes T among ≡ chosen_in F S passes T o
   choose_by T among o e = ap (chosen_in F S passes T) e
@@ -26,6 +27,7 @@ module _ (F : Ordered) (S : Shape) (passes : Op → F.C → F.C → Bool) where
       (pivot_spot F passes S T r c)
 
   module _ (phase among left done : ℕ) (T : Tabled F.C) where
+    -- the phase from here on
     abbrev result : Stop F.C
     result = turns F S passes phase among left done T
 
@@ -56,24 +58,29 @@ module _ (F : Ordered) (S : Shape) (passes : Op → F.C → F.C → Bool) where
   -- a pivot is due
   module _ (phase among : ℕ) (T : Tabled F.C) (r c : ℕ) (enters : entering F S T among ≡ Some c)
       (ratios : ratio_row F S passes T c ≡ None) (leaves : leaving F S T c ≡ Some r) where
+    -- so the choice is this pivot
     is_due : choose F S passes T among ≡ due r c
     is_due = choice_by T among c None (Some r) enters ratios leaves
 
+    -- no pivot is left
     pub turn_spent : (left done : ℕ) → left ≡ 0 → turns F S passes phase among left done T ≡ spent
     turn_spent zero done e = ap (on_choice phase zero done T (λ r c. spent)) is_due
     turn_spent (suc left) done e = absurd (omega arith)
 
+    -- one is left: by its spot
     at_pivot : (left done : ℕ) (o : Option PivotWide) → pivot_spot F passes S T r c ≡ o →
         turns F S passes phase among (suc left) done T
         ≡ on_spot phase done (turns F S passes phase among left (suc done)) (pivoted_at F S T r c) o
     at_pivot left done o e = ap (on_choice phase (suc left) done T (goes_on phase among left done T)) is_due
         ∙ ap (on_spot phase done (turns F S passes phase among left (suc done)) (pivoted_at F S T r c)) e
 
+    -- the pivot passes
     pub turn_passing : (left done : ℕ) (s : PivotWide) → 0 < left → pivot_spot F passes S T r c ≡ Some s →
         turns F S passes phase among left done T ≡ passing phase (suc done) s
     turn_passing zero done s l e = absurd (omega arith)
     turn_passing (suc left) done s l e = at_pivot left done (Some s) e
 
+    -- the pivot is done, and the phase goes on
     pub turn_pivots : (left left' done done' : ℕ) (U : Tabled F.C) → left ≡ suc left' → done' ≡ suc done →
         pivot_spot F passes S T r c ≡ None → U ≡ pivoted_at F S T r c →
         turns F S passes phase among left done T ≡ turns F S passes phase among left' done' U
@@ -89,6 +96,7 @@ module _ (F : Ordered) (S : Shape) (passes : Op → F.C → F.C → Bool) where
         ap (λ b. cond b (drive_at F S passes left done T i (driven_column F S T i))
         (settled left done T)) e
 
+    -- its basic column is artificial: by the column to bring in
     artificial_row : (left done : ℕ) (o : Option ℕ) → leb (plain S) (T.basic i) ≡ true →
         driven_column F S T i ≡ o → drive_row F S passes left done T i
         ≡ drive_at F S passes left done T i o
@@ -106,16 +114,19 @@ module _ (F : Ordered) (S : Shape) (passes : Op → F.C → F.C → Bool) where
     module _ (c : ℕ) (artificial : leb (plain S) (T.basic i) ≡ true) (column : driven_column F S T i
         ≡ Some c)
       where
+        -- no pivot is left
         pub row_spent : (left done : ℕ) → left ≡ 0 → drive_row F S passes left done T i ≡ spent
         row_spent zero done e = artificial_row zero done (Some c) artificial column
         row_spent (suc left) done e = absurd (omega arith)
 
+        -- the pivot passes
         pub row_passing : (left done : ℕ) (s : PivotWide) → 0 < left → pivot_spot F passes S T i c ≡ Some s →
             drive_row F S passes left done T i ≡ passing 2 (suc done) s
         row_passing zero done s l e = absurd (omega arith)
         row_passing (suc left) done s l e = artificial_row (suc left) done (Some c) artificial column
             ∙ ap (on_spot 2 done (settled left (suc done)) (pivoted_at F S T i c)) e
 
+        -- the pivot is done
         pub row_pivots : (left left' done done' : ℕ) (U : Tabled F.C) → left ≡ suc left' → done' ≡ suc done →
             pivot_spot F passes S T i c ≡ None → U ≡ pivoted_at F S T i c →
             drive_row F S passes left done T i ≡ settled left' done' U
@@ -141,6 +152,7 @@ module _ (F : Ordered) (S : Shape) (passes : Op → F.C → F.C → Bool) where
       ∙ ap (λ x. after x (λ l d V. drive_row F S passes l d V (k + n)))
       (drives_passing n k left done phase pivot T s e)
 
+  -- or is over the budget
   pub drives_spent : (n k left done : ℕ) (T : Tabled F.C) → drives F S passes k left done T ≡ spent →
       drives F S passes (k + n) left done T ≡ spent
   drives_spent zero k left done T e =

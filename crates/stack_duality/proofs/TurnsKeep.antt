@@ -1,4 +1,4 @@
--- What each turn of the run keeps, and what the run's ends give.
+-- What a choice says of its table, and that a phase keeps what each due pivot keeps.
 use Rattle.std.proofs.Common.{◌≡◌, ◌≢◌, refl, ℕ, zero, suc, ◌<◌, Bool, false, Option, Some, None}
 use Rattle.stack_algebra.specs.Ordered.{Ordered, plus}
 use Rattle.stack_algebra.specs.Rows.{quotient}
@@ -21,6 +21,7 @@ module _ (F : Ordered) (S : Shape) where
     pub enters : IsLeast among (λ j. is_minus (F.sign (objective F S T j))) c
     pub no_row : (i : ℕ) → i < S.rows → F.sign (T.cell i c) ≢ plus
 
+  -- what a choice says of its table
   abbrev pub Chosen : Tabled F.C → ℕ → Choice → Type 0
   Chosen T among stays = (j : ℕ) → j < among → is_minus (F.sign (objective F S T j)) ≡ false
   Chosen T among (rises c) = Unlimited T among c
@@ -35,6 +36,7 @@ module _ (F : Ordered) (S : Shape) where
   Stopped P among spent = Unit {0}
 
 module _ (F : Ordered) (S : Shape) (passes : Op → F.C → F.C → Bool) where
+  -- by the column, the passing ratio and the leaving row; by the column
   says_at : (T : Tabled F.C) (among c : ℕ) → IsLeast among (λ j. is_minus (F.sign (objective F S T j))) c →
       (x y : Option ℕ) → leaving F S T c ≡ y → Chosen F S T among (chosen_at c x y)
   says_at T among c h (Some i) y e = tt
@@ -61,6 +63,7 @@ module _ (F : Ordered) (S : Shape) (passes : Op → F.C → F.C → Bool) where
   -- what each due pivot keeps, a phase keeps
   module _ (P : Tabled F.C → Type 0) (phase among : ℕ) (step : (T : Tabled F.C) (r c : ℕ) → P T →
       Due F S T among r c → P (pivoted_at F S T r c)) where
+    -- so it holds of the table at which the phase stops
     pub turns_keep : (left done : ℕ) (T : Tabled F.C) → P T →
         Stopped F S P among (turns F S passes phase among left done T)
     turns_keep zero done T p = go (choose F S passes T among) (chosen T among)

@@ -1,7 +1,7 @@
 -- From the flipped first rows back to the rows of the problem.
 use Rattle.std.proofs.Common.{◌≡◌, ◌≢◌, refl, sym, ap, subst, ◌∙◌, ℕ, ◌<◌, Bool, true, false, cond, arith}
 use lib.IntN.{ℤ, pos, negsuc}
-use Rattle.stack_algebra.specs.Ordered.{Ordered, minus, plus}
+use Rattle.stack_algebra.specs.Ordered.{Ordered, minus}
 use Rattle.stack_algebra.proofs.Integers.{neg_is_mul}
 use Rattle.stack_algebra.proofs.Ring.{num, Exp, ◌⊗◌, ring1, ring2, ring3}
 use Rattle.stack_algebra.proofs.Sums.{sum, sum_same, sum_scale}
@@ -18,10 +18,12 @@ module _ (F : Ordered) where
   abbrev turn : Bool → F.C
   turn b = cond b (F.of (negsuc 0)) (F.of (pos 1))
 
+  -- a turned number
   of_turned : (b : Bool) (z : ℤ) → F.of (turned b z) ≡ F.mul (turn b) (F.of z)
   of_turned true z = ap F.of (neg_is_mul z) ∙ F.of_mul (negsuc 0) z
   of_turned false z = sym (F.one_mul (F.of z))
 
+  -- turned twice
   turn_twice : (b : Bool) (x : F.C) → F.mul (turn b) (F.mul (turn b) x) ≡ x
   turn_twice true x = ring1 F.ring (λ x. (num (negsuc 0) ⊗ (num (negsuc 0) ⊗ x), x)) refl x
   turn_twice false x = ring1 F.ring (λ x. (num (pos 1) ⊗ (num (pos 1) ⊗ x), x)) refl x
@@ -47,6 +49,8 @@ module _ (F : Ordered) (P : Problem) where
   unflipped y k = signed F (flipped P k) (y k)
 
   module _ (y z : ℕ → F.C) (h : (k : ℕ) → k < m → z k ≡ unflipped y k) where
+    -- the products of the first rows and of the rows with their multipliers are the same, in a column and on
+    -- the right
     work-plain : (j : ℕ) → j < w → rows.work F m w n (first_row F P) y j ≡ column_work F P z j
     work-plain j l = sum_same F.ring m _ _ (λ k b. ap (F.mul (y k)) (plain_cell F P k j l)
         ∙ moved F (flipped P k) (y k) (P.entry k j) ∙ ap (λ x. F.mul x (F.of (P.entry k j))) (sym (h k b)))
@@ -55,12 +59,14 @@ module _ (F : Ordered) (P : Problem) where
     work-load = sum_same F.ring m _ _ (λ k b. ap (F.mul (y k)) (right_cell F P k)
         ∙ moved F (flipped P k) (y k) (P.load k) ∙ ap (λ x. F.mul x (F.of (P.load k))) (sym (h k b)))
 
+    -- so what the first rows refute, bound, balance and raise, the rows do
     pub refute : rows.Refutes F m w n (first_row F P) P.shape.contacts y → Refutes F P z
     refute r = record {
       unresisted = λ j l. subst (λ x. F.sign x ≢ minus) (work-plain j (omega (arith, l))) (r.unresisted j l);
       driven = ap F.sign (sym work-load) ∙ r.driven;
     }
 
+    -- bound
     pub bound : (x v : ℕ → F.C) → P.shape.contacts < w → v P.shape.contacts ≡ x P.shape.contacts →
         rows.Bounds F m w n (first_row F P) P.shape.contacts x y → Bounds F P v z
     bound x v g e b = record {
@@ -92,6 +98,7 @@ module _ (F : Ordered) (P : Problem) where
         ∙ balanced_row x scale b i l;
   }
 
+  -- raise
   pub rise : (x v : ℕ → F.C) → P.shape.contacts < w → ((j : ℕ) → j < w → v j ≡ x j) →
       rows.Rises F m w n (first_row F P) P.shape.contacts x → Rises F P v
   rise x v g h r = record {
@@ -99,6 +106,7 @@ module _ (F : Ordered) (P : Problem) where
     factor = ap F.sign (h P.shape.contacts g) ∙ r.factor;
   }
 
+  -- and stand
   pub stand : rows.Stands F m w n (first_row F P) P.shape.contacts → Stands F P
   stand s = record {
     amounts = s.amounts;

@@ -3,7 +3,7 @@ use Rattle.std.proofs.Common.{◌≡◌, ◌≢◌, refl, sym, ap, ◌∙◌, �
 use Rattle.std.proofs.lemmas.Bool.{eqb-true, eqb-false}
 use native.Mathlib.Decide.{ℕ_discrete}
 use lib.IntN.{pos, negsuc}
-use Rattle.stack_algebra.specs.Ordered.{Ordered, minus, nought, plus}
+use Rattle.stack_algebra.specs.Ordered.{Ordered, minus}
 use Rattle.stack_algebra.specs.Rows.{spread, Tableau}
 use Rattle.stack_algebra.proofs.Ring.{add-zero}
 use Rattle.stack_algebra.proofs.Sums.{sum_one, sum_zero, at, at-other, at-same}
@@ -23,6 +23,7 @@ module _ (F : Ordered) (S : Shape) (A : ℕ → ℕ → F.C) (own : ℕ → F.C)
       ∙ ap F.sign (sym (at-same F.ring i (F.of (pos 1))) ∙ sym (t.unit i i li li) ∙ ap (T.cell i) e
       ∙ t.unit i s li ls ∙ at-other F.ring s i (F.of (pos 1)) d) ∙ F.sign-zero in cc
 
+  -- a spread at a basic column, and at another
   spread_basic : (v : ℕ → F.C) (i j : ℕ) → i < m → T.basic i ≡ j → spread F.ring m T.basic v j ≡ v i
   spread_basic v i j l e = sum_one F.ring m i (λ s. at F.ring (T.basic s) (v s) j) l
       (λ s k d. at-other F.ring (T.basic s) j (v s) (λ p. different s i k l d (sym p ∙ sym e)))
@@ -33,6 +34,7 @@ module _ (F : Ordered) (S : Shape) (A : ℕ → ℕ → F.C) (own : ℕ → F.C)
   spread_none v j h = sum_zero F.ring m (λ i. at F.ring (T.basic i) (v i) j)
       (λ i l. at-other F.ring (T.basic i) j (v i) (λ p. h i l (sym p)))
 
+  -- a column without a row
   not_basic : (j : ℕ) → basic_row F S T j ≡ None → (i : ℕ) → i < m → T.basic i ≢ j
   not_basic j e i l = eqb-false (T.basic i) j (least-none m (λ i. eqb (T.basic i) j) e i l)
 
@@ -54,6 +56,7 @@ module _ (F : Ordered) (S : Shape) (A : ℕ → ℕ → F.C) (own : ℕ → F.C)
     entering_not_basic i l e = let z = sym enters ∙ ap (λ k. F.sign (T.cell m k)) (sym e)
         ∙ ap F.sign (t.objective_unit i l) ∙ F.sign-zero in cc
 
+    -- so the rates are those of the ray
     pub rate-is : (j : ℕ) → rate F S T c j ≡ ray_of F m (columns S) T.cell T.basic c j
     rate-is j = go (ℕ_discrete j c) (eqb j c) refl
       where

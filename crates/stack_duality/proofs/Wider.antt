@@ -2,7 +2,6 @@
 use Rattle.std.proofs.Common.{◌≡◌, refl, sym, ap, subst, ◌∙◌, ℕ, zero, suc, Bool, true, false, cond, leb, Option, Some, None}
 use Rattle.stack_algebra.specs.Ordered.{Ordered}
 use Rattle.stack_algebra.specs.Search.{first, or_else, only_if}
-use Rattle.stack_algebra.specs.Rows.{quotient}
 use Rattle.stack_algebra.proofs.OrderedFractions.{ordered_fractions}
 use Rattle.stack_rational.specs.declared.exact.Op.{Op}
 use Rattle.stack_rational.specs.declared.exact.Op.TheVariants.{Difference, Product, Quotient}
@@ -23,18 +22,21 @@ abbrev SameSpot : {P : Type 0} → Option P → Option P → Type 0
 SameSpot (Some s) y = Unit {0}
 SameSpot None y = y ≡ None
 
+-- choices
 abbrev SameChoice : Choice → Choice → Type 0
 SameChoice (refused s) y = Unit {0}
 SameChoice stays y = y ≡ stays
 SameChoice (rises c) y = y ≡ rises c
 SameChoice (due r c) y = y ≡ due r c
 
+-- stops
 abbrev SameStop : {C : Type 0} → Stop C → Stop C → Type 0
 SameStop (passing p k s) y = Unit {0}
 SameStop (settled l d T) y = y ≡ settled l d T
 SameStop (unlimited T c) y = y ≡ unlimited T c
 SameStop spent y = y ≡ spent
 
+-- ends
 abbrev SameEnd : {C : Type 0} → End C → End C → Type 0
 SameEnd (wide p k s) y = Unit {0}
 SameEnd (infeasible T) y = y ≡ infeasible T
@@ -50,11 +52,13 @@ or_else-same (Some s) x' y y' h k = tt
 or_else-same None x' (Some s) y' h k = tt
 or_else-same None x' None y' h k = ap (λ o. or_else o y') h ∙ k
 
+-- the first item
 first-same : {P : Type 0} (n : ℕ) (f f' : ℕ → Option P) → ((i : ℕ) → SameSpot (f i) (f' i)) →
     SameSpot (first n f) (first n f')
 first-same zero f f' h = refl
 first-same (suc n) f f' h = or_else-same (first n f) (first n f') (f n) (f' n) (first-same n f f' h) (h n)
 
+-- under a test
 where_true : {P : Type 0} (b : Bool) (x x' : Option P) → SameSpot x x' →
     SameSpot (cond b x None) (cond b x' None)
 where_true true x x' h = h
@@ -77,10 +81,12 @@ module _ (F : Ordered) (S : Shape) (narrow broad : Op → F.C → F.C → Bool)
       SameSpot (spot_if F narrow o s x y i j) (spot_if F broad o s x y i j)
   spot_if-same o s x y i j = only_if-same (narrow o x y) (broad o x y) _ (less_passes o x y)
 
+  -- the passing ratio
   ratio_row-same : (T : Tabled F.C) (c : ℕ) → SameSpot (ratio_row F S narrow T c) (ratio_row F S broad T c)
   ratio_row-same T c = first-same S.rows _ _ (λ i. where_true (is_plus (F.sign (T.cell i c))) _ _
       (only_if-same _ _ i (less_passes Quotient (right F S T i) (T.cell i c))))
 
+  -- the spot of a pivot
   pivot_spot-same : (T : Tabled F.C) (r c : ℕ) →
       SameSpot (pivot_spot F narrow S T r c) (pivot_spot F broad S T r c)
   pivot_spot-same T r c = or_else-same _ _ _ _
@@ -106,6 +112,7 @@ module _ (F : Ordered) (S : Shape) (narrow broad : Op → F.C → F.C → Bool)
   chosen_at-same c None i' None h = ap (λ i. chosen_at c i None) h
   chosen_at-same c None i' (Some r) h = ap (λ i. chosen_at c i (Some r)) h
 
+  -- the choice
   choose-same : (T : Tabled F.C) (among : ℕ) → SameChoice (choose F S narrow T among) (choose F S broad T among)
   choose-same T among = go (entering F S T among)
     where
@@ -135,6 +142,7 @@ module _ (F : Ordered) (S : Shape) (narrow broad : Op → F.C → F.C → Bool)
   on_choice-same phase left done T pivot pivot' (due r c) y h k =
       by_equal _ (pivot' r c) _ (ap (on_choice phase left done T pivot') h) (k r c)
 
+  -- a phase
   turns-same : (phase among left done : ℕ) (T : Tabled F.C) →
       SameStop (turns F S narrow phase among left done T) (turns F S broad phase among left done T)
   turns-same phase among zero done T =
@@ -154,6 +162,7 @@ module _ (F : Ordered) (S : Shape) (narrow broad : Op → F.C → F.C → Bool)
       (settled left (suc done))
       (pivoted_at F S T i c) _ _ (pivot_spot-same T i c) refl
 
+  -- at a row
   drive_row-same : (left done : ℕ) (T : Tabled F.C) (i : ℕ) →
       SameStop (drive_row F S narrow left done T i) (drive_row F S broad left done T i)
   drive_row-same left done T i = go (leb (plain S) (T.basic i))
@@ -164,6 +173,7 @@ module _ (F : Ordered) (S : Shape) (narrow broad : Op → F.C → F.C → Bool)
       go true = drive_at-same left done T i (driven_column F S T i)
       go false = refl
 
+  -- one phase after another
   after-same : (x y : Stop F.C) (next next' : ℕ → ℕ → Tabled F.C → Stop F.C) → SameStop x y →
       ((l d : ℕ) (T : Tabled F.C) → SameStop (next l d T) (next' l d T)) →
       SameStop (after x next) (after y next')
@@ -172,6 +182,7 @@ module _ (F : Ordered) (S : Shape) (narrow broad : Op → F.C → F.C → Bool)
   after-same (unlimited T c) y next next' h g = ap (λ z. after z next') h
   after-same spent y next next' h g = ap (λ z. after z next') h
 
+  -- all rows
   drives-same : (n left done : ℕ) (T : Tabled F.C) →
       SameStop (drives F S narrow n left done T) (drives F S broad n left done T)
   drives-same zero left done T = refl
@@ -185,6 +196,7 @@ module _ (F : Ordered) (S : Shape) (narrow broad : Op → F.C → F.C → Bool)
   third_end-same (unlimited T c) y h = ap (third_end) h
   third_end-same spent y h = ap (third_end) h
 
+  -- past phase 1
   past_first-same : (left done : ℕ) (T : Tabled F.C) (k : ℕ) →
       SameEnd (past_first F S narrow left done T k) (past_first F S broad left done T k)
   past_first-same left done T zero = refl
@@ -192,6 +204,7 @@ module _ (F : Ordered) (S : Shape) (narrow broad : Op → F.C → F.C → Bool)
       (after-same _ _ _ _ (drives-same S.rows left done (clear_objective F S T))
       (λ l d U. turns-same 3 (plain S) l d (set_factor_objective F S U)))
 
+  -- by phase 1
   end_by_equal : (x y z : End F.C) → z ≡ y → SameEnd x y → SameEnd x z
   end_by_equal x y z e h = subst (λ z. SameEnd x z) (sym e) h
 
@@ -207,10 +220,12 @@ module _ (F : Ordered) (S : Shape) (narrow broad : Op → F.C → F.C → Bool)
   first_end-same (unlimited T c) y h = ap (first_end F S broad) h
   first_end-same spent y h = ap (first_end F S broad) h
 
+  -- the run
   pub written_run-same : (budget : ℕ) (T : Tabled F.C) →
       SameEnd (written_run F S narrow budget T) (written_run F S broad budget T)
   written_run-same budget T = first_end-same _ _ (turns-same 1 S.contacts budget 0 T)
 
+-- an end that is no refusal
 same_end : {C : Type 0} (x y : End C) → PassesNowhere x → SameEnd x y → y ≡ x
 same_end (wide p k s) y n h = absurd n
 same_end (infeasible T) y n h = h

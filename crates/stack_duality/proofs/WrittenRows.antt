@@ -1,5 +1,5 @@
 -- The rows of a written table: plain columns, artificial unit columns, right sides that aren't negative.
-use Rattle.std.proofs.Common.{◌≡◌, ◌≢◌, refl, sym, ap, ◌∙◌, ℕ, zero, suc, ◌<◌, ◌≤◌, ◌+◌, Bool, true, false, cond, eqb, arith}
+use Rattle.std.proofs.Common.{◌≡◌, refl, sym, ap, ◌∙◌, ℕ, zero, suc, ◌<◌, ◌≤◌, ◌+◌, Bool, true, false, cond, eqb, arith}
 use Rattle.std.proofs.lemmas.Bool.{lt-ltb, le-ltb, eq-eqb}
 use native.Mathlib.Decide.{ℕ_discrete}
 use lib.IntN.{ℤ, pos, negsuc}
@@ -14,6 +14,7 @@ use Rattle.stack_table.specs.Problem.{Problem, flipped, turned, is_below_zero}
 use Rattle.stack_table.specs.WrittenTable.{first_row, first_objective, first_basic, written_table}
 use Rattle.stack_duality.proofs.Duality.{FirstRows}
 
+-- a choice whose test is known
 cond_true : {X : Type 0} (x y : X) {b : Bool} → b ≡ true → cond b x y ≡ x
 cond_true x y e = ap (λ b. cond b x y) e
 
@@ -37,6 +38,7 @@ module _ (F : Ordered) (P : Problem) where
   pub plain_cell : (i j : ℕ) → j < w → A i j ≡ F.of (turned (flipped P i) (P.entry i j))
   plain_cell i j l = ap F.of (cond_true _ _ (lt-ltb j w l))
 
+  -- the cells of the artificial columns, and the right side
   of_unit : (b : Bool) → F.of (cond b (pos 1) (pos 0)) ≡ cond b (F.of (pos 1)) (F.of (pos 0))
   of_unit true = refl
   of_unit false = refl
@@ -45,6 +47,7 @@ module _ (F : Ordered) (P : Problem) where
   artificial_cell i j l k = ap F.of (cond_false _ _ (le-ltb j w l) ∙ cond_true _ _ (lt-ltb j n k))
       ∙ of_unit (eqb j (w + i))
 
+  -- the right side
   pub right_cell : (i : ℕ) → A i n ≡ F.of (turned (flipped P i) (P.load i))
   right_cell i = ap F.of (cond_false _ _ (le-ltb n w (omega arith)) ∙ cond_false _ _ (le-ltb n n (omega arith))
       ∙ cond_true _ _ (eq-eqb n n refl))
@@ -59,6 +62,7 @@ module _ (F : Ordered) (P : Problem) where
       go (no d) = at-other F.ring (w + l) (w + k) (F.of (pos 1)) (λ e. d (omega arith))
           ∙ sym (at-other F.ring k l (F.of (pos 1)) d)
 
+  -- and each first row has 1 in its own
   pub first_rows : FirstRows F m w A
   first_rows l k h = artificial_cell l (w + k) (omega arith) (omega arith) ∙ at-moved l k
 
@@ -70,6 +74,7 @@ module _ (F : Ordered) (P : Problem) where
   pub basic_is : (i : ℕ) → i < m → first_basic P i ≡ w + i
   basic_is i l = cond_true _ _ (lt-ltb i m l)
 
+  -- natural numbers and turned right sides are not negative
   nonneg_of : (k : ℕ) → NonNeg F (F.of (pos k))
   nonneg_of zero = nonneg_zero F
   nonneg_of (suc k) = let e : 1 + k ≡ suc k = omega arith in nonneg_by F _ _ (sym (F.of_add (pos 1) (pos k))

@@ -1,5 +1,5 @@
--- What amounts of a problem's columns and multipliers of its rows may do, in the problem's own rows: nothing is flipped.
--- The plain columns are the contact columns and, with the number `contacts`, the factor's.
+-- What amounts of a problem's columns and multipliers of its rows may do, in the problem's own rows: nothing is
+-- flipped. The plain columns are the contact columns and, with the number `contacts`, the factor's.
 use Rattle.std.specs.Prelude.{◌≡◌, ◌≢◌, ℕ, ◌<◌}
 use lib.IntN.{pos}
 use Rattle.stack_algebra.specs.Ordered.{Ordered, minus, plus}
@@ -21,7 +21,8 @@ module _ (F : Ordered) (P : Problem) where
   abbrev pub load_work : (ℕ → F.C) → F.C
   load_work y = sum F.ring P.shape.rows (λ k. F.mul (y k) (F.of (P.load k)))
 
-  -- multipliers with a product of at least 0 in each contact column and of less than 0 on the right: no amounts balance
+  -- multipliers with a product of at least 0 in each contact column and of less than 0 on the right: no amounts
+  -- balance
   pub record Refutes (y : ℕ → F.C) : Type 0 where
     pub unresisted : (j : ℕ) → j < P.shape.contacts → F.sign (column_work y j) ≢ minus
     pub driven : F.sign (load_work y) ≡ minus

@@ -1,4 +1,5 @@
--- The numbers that a last table shows: the value of each column, its rate on a ray, and multipliers of the problem's rows.
+-- The numbers that a last table shows: the value of each column, its rate on a ray, and multipliers of the
+-- problem's rows.
 use Rattle.std.specs.Prelude.{ℕ, ◌+◌, Bool, cond, eqb, Option, Some, None}
 use lib.IntN.{pos}
 use Rattle.stack_algebra.specs.Ordered.{Ordered}
@@ -34,8 +35,8 @@ module _ (F : Ordered) where
   signed b x = cond b (F.neg x) x
 
   module _ (P : Problem) (T : Tabled F.C) where
-    -- multipliers of the problem's rows, at the end of phase 3: the objective cell of each row's artificial column,
-    -- with the other sign where the row is flipped
+    -- multipliers of the problem's rows, at the end of phase 3: the objective cell of each row's artificial
+    -- column, with the other sign where the row is flipped
     abbrev pub bound_multiplier : ℕ → F.C
     bound_multiplier k = signed (flipped P k) (objective F P.shape T (plain P.shape + k))
 

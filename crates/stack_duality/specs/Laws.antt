@@ -7,7 +7,7 @@ use Rattle.stack_rational.specs.Passes.{passes}
 use Rattle.stack_table.specs.Table.{Tabled}
 use Rattle.stack_table.specs.Problem.{Problem}
 use Rattle.stack_table.specs.WrittenTable.{written_table}
-use Rattle.stack_duality.specs.WrittenRun.{Stop, unlimited, End, infeasible, feasible, optimal, ray, wide, over, turns, written_run}
+use Rattle.stack_duality.specs.WrittenRun.{unlimited, End, infeasible, feasible, optimal, ray, wide, over, turns, written_run}
 use Rattle.stack_duality.specs.FourEnds.{EndGives}
 
 -- a rule of what passes
@@ -26,8 +26,8 @@ run_at max P budget = run_of P (passes max) budget
 abbrev pub EndsGive : Type 0
 EndsGive = (P : Problem) (rule : Rule) (budget : ℕ) → EndGives ordered_fractions P (run_of P rule budget)
 
--- in phase 1 some row leaves wherever a column enters. So a run is over only where a pivot is due and the budget's pivots
--- are done
+-- in phase 1 some row leaves wherever a column enters. So a run is over only where a pivot is due and the
+-- budget's pivots are done
 abbrev pub SomeRowLeaves : Type 0
 SomeRowLeaves = (P : Problem) (rule : Rule) (budget : ℕ) (T : Tabled Fraction) (c : ℕ) →
     turns ordered_fractions P.shape rule 1 P.shape.contacts budget 0

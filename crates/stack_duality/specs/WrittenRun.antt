@@ -1,6 +1,6 @@
--- The written run of a table with a budget of pivots, under any rule of what passes: three phases, each turn after turn.
--- A turn makes its choice first and then looks at the budget. The value is an end with the last table, or the place of
--- the first operation that passes, or that the run is over its budget.
+-- The written run of a table with a budget of pivots, under any rule of what passes: three phases, each turn
+-- after turn. A turn makes its choice first and then looks at the budget. The value is an end with the last
+-- table, or the place of the first operation that passes, or that the run is over its budget.
 use Rattle.std.specs.Prelude.{ℕ, zero, suc, Bool, cond, not, leb, Option, Some, None}
 use Rattle.stack_algebra.specs.Ordered.{Ordered}
 use Rattle.stack_algebra.specs.Search.{least}
@@ -11,15 +11,16 @@ use Rattle.stack_table.specs.Table.{Shape, Tabled, plain, right, pivoted_at, cle
 use Rattle.stack_table.specs.Spots.{pivot_spot}
 use Rattle.stack_bland.specs.Choice.{is_minus, is_nought, entering, leaving, ratio_row}
 
--- the choice of a turn: no column enters; column c enters and no row leaves; a pivot at (r, c) is due; a ratio passes
+-- the choice of a turn: no column enters; column c enters and no row leaves; a pivot at (r, c) is due; a ratio
+-- passes
 pub data Choice : Type 0 where
   stays : Choice
   rises : (c : ℕ) → Choice
   due : (r c : ℕ) → Choice
   refused : PivotWide → Choice
 
--- how a phase stops: settled, with pivots left and done; at a column that no row limits; in a pivot, at an operation
--- that passes; over the budget
+-- how a phase stops: settled, with pivots left and done; at a column that no row limits; in a pivot, at an
+-- operation that passes; over the budget
 pub data Stop (C : Type 0) : Type 0 where
   settled : (left done : ℕ) → Tabled C → Stop C
   unlimited : Tabled C → (c : ℕ) → Stop C

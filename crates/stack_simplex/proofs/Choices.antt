@@ -1,4 +1,4 @@
--- What a turn's choice says of its column and its row.
+-- What a turn's choice says of its row, and the search for the column of a row of phase 2.
 use Rattle.std.proofs.Common.{◌≡◌, ◌≢◌, refl, sym, ap, ◌∙◌, ℕ, ◌+◌, ◌<◌, Bool, not, Option, Some, None, add-one}
 use lib.IntN.{pos}
 use Rattle.stack_algebra.specs.Fraction.{Fraction}
@@ -12,11 +12,6 @@ use Rattle.stack_duality.specs.WrittenRun.{driven_column}
 use Rattle.stack_duality.proofs.BestRow.{best-some}
 
 module _ (S : Shape) (T : Tabled Fraction) where
-  -- the entering column is one of those that may enter
-  pub entering_below : (among c : ℕ) → Some c ≡ entering ordered_fractions S T among → c < among
-  entering_below among c e =
-      (least-some among (λ j. is_minus (ordered_fractions.sign (objective ordered_fractions S T j))) c (sym e)).below
-
   -- the leaving row is a row, and its cell isn't 0
   pub leaving_below : (c r : ℕ) → Some r ≡ leaving ordered_fractions S T c → r < S.rows
   leaving_below c r e =

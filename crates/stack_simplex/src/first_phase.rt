@@ -33,10 +33,7 @@ pub fn falls_short<S: Exact>(t: &Table<S>) -> bool
 }
 
 /// Phase 1 of a written table, within a budget.
-pub fn first_phase<S: Exact>(
-    t: &mut Table<S>,
-    budget: u32,
-) -> Result<Pivots, RunError>
+pub fn first_phase<S: Exact>(t: &mut Table<S>, budget: u32) -> Result<Pivots, RunError>
     requires { IsWritten (shape_of_table t.old) (table_of t.old) }
     ensures shape { OnOk result (shape_of_table t.new ≡ shape_of_table t.old) }
     ensures flips { OnOk result (flips_of t.new ≡ flips_of t.old) }

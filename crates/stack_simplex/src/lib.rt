@@ -22,16 +22,15 @@ mod second_phase;
 mod third_phase;
 mod turn;
 
+pub use ended::Ended;
 use first_phase::{falls_short, first_phase};
+pub use refusal::{Place, RunError};
 use second_phase::second_phase;
 use stack_duality::run_laws;
 use stack_rational::Exact;
 use stack_table::Table;
 use third_phase::third_phase;
 use turn::PhaseEnd;
-
-pub use ended::Ended;
-pub use refusal::{Place, RunError};
 
 /// The three phases.
 fn run_phases<S: Exact>(t: Table<S>, budget: u32) -> Result<Ended<S>, RunError>
@@ -73,3 +72,6 @@ pub fn run<S: Exact>(t: Table<S>, budget: u32) -> Result<Ended<S>, RunError>
     run_laws();
     run_phases(t, budget)
 }
+
+#[cfg(test)]
+mod tests;

@@ -43,11 +43,7 @@ fn driven_column<S: Exact>(t: &Table<S>, row: usize) -> Option<usize>
 }
 
 /// A pivot that takes the row's artificial column out, where there is a column to bring in.
-fn drive_row<S: Exact>(
-    t: &mut Table<S>,
-    pivots: Pivots,
-    row: usize,
-) -> Result<Pivots, RunError>
+fn drive_row<S: Exact>(t: &mut Table<S>, pivots: Pivots, row: usize) -> Result<Pivots, RunError>
     requires { row < (shape_of_table t.old).rows }
     ensures shape { OnOk result (shape_of_table t.new ≡ shape_of_table t.old) }
     ensures flips { OnOk result (flips_of t.new ≡ flips_of t.old) }
@@ -64,10 +60,7 @@ fn drive_row<S: Exact>(
 }
 
 /// Phase 2.
-pub fn second_phase<S: Exact>(
-    t: &mut Table<S>,
-    pivots: Pivots,
-) -> Result<Pivots, RunError>
+pub fn second_phase<S: Exact>(t: &mut Table<S>, pivots: Pivots) -> Result<Pivots, RunError>
     ensures shape { OnOk result (shape_of_table t.new ≡ shape_of_table t.old) }
     ensures flips { OnOk result (flips_of t.new ≡ flips_of t.old) }
     ensures answer { pivots_answer (table_of t.new) result

@@ -16,10 +16,7 @@ use stack_rational::Exact;
 use stack_table::Table;
 
 /// Phase 3, with the factor's objective.
-pub fn third_phase<S: Exact>(
-    t: &mut Table<S>,
-    pivots: Pivots,
-) -> Result<PhaseEnd, RunError>
+pub fn third_phase<S: Exact>(t: &mut Table<S>, pivots: Pivots) -> Result<PhaseEnd, RunError>
     requires { (shape_of_table t.old).factors ≡ 1 }
     ensures shape { OnOk result (shape_of_table t.new ≡ shape_of_table t.old) }
     ensures flips { OnOk result (flips_of t.new ≡ flips_of t.old) }

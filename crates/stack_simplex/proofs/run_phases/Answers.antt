@@ -20,7 +20,7 @@ returns-in_err-third_phase-clause-value g c =
     let t = c.first_phase.new.t in
     let u = c.second_phase.new.t in
     let p = err_from_is_err_and c.from_residual-in_err-third_phase.result
-        c.from_residual-in_err-third_phase.ensures.1 in
+    c.from_residual-in_err-third_phase.ensures.1 in
     rw (p.1, p.2) (third_refuses g.S.Exact.MAX (shape_of_table c.args.t) (shape_of_table t) (table_of c.args.t)
     (table_of t) c.args.budget c.in_ok-pivots.pivots c.in_ok-pivots.ensures.shape c.in_ok-pivots.ensures.answer
     (sym c.falls_short.ensures ∙ c.if-falls_short.false)

@@ -1,0 +1,208 @@
+//! Runs worked by hand, at each width.
+
+use crate::{Ended, Place, RunError, run};
+use stack_rational::{Exact, Frac};
+use stack_table::Table;
+use stack_table::problem::{Column, Entry, Problem};
+use stack_table::types::Step;
+use std::alloc::{AllocError, Global};
+use std::test::Fail;
+
+/// A column by its numbers, row by row.
+fn column(alloc: Global, numbers: &[i128]) -> Result<Column, AllocError> {
+    let mut entries: Vec<Entry> = Vec::new(alloc);
+    for row in 0..numbers.len() {
+        if numbers[row] != 0 {
+            let entry = Entry {
+                row,
+                value: numbers[row],
+            };
+            entries.push(entry)?;
+        }
+    }
+    Ok(Column { entries })
+}
+
+/// A problem by its contact columns, its factor column and its right sides.
+fn problem(
+    alloc: Global,
+    contact: &[[i128; 3]],
+    factor: Option<Column>,
+    right: &[i128],
+) -> Result<Problem, AllocError> {
+    let mut columns: Vec<Column> = Vec::new(alloc);
+    for k in 0..contact.len() {
+        columns.push(column(alloc, &contact[k])?)?;
+    }
+    let mut list: Vec<i128> = Vec::new(alloc);
+    for k in 0..right.len() {
+        list.push(right[k])?;
+    }
+    Ok(Problem {
+        rows: right.len(),
+        contact: columns,
+        factor,
+        right: list,
+    })
+}
+
+/// The run of a sound problem that has a table.
+fn run_of<S: Exact>(alloc: Global, p: &Problem, budget: u32) -> Option<Result<Ended<S>, RunError>> {
+    if budget == 0 {
+        return None;
+    }
+    if !p.is_sound() {
+        return None;
+    }
+    match Table::<S>::build(alloc, p) {
+        Ok(t) => Some(run(t, budget)),
+        Err(_) => None,
+    }
+}
+
+/// What a run tells, without its table.
+#[derive(Clone, Copy, Debug, PartialEq, Eq)]
+enum Outcome {
+    NoTable,
+    Infeasible,
+    Feasible,
+    Optimal,
+    Ray(usize),
+    Refused(RunError),
+}
+
+fn told<S: Exact>(alloc: Global, p: &Problem, budget: u32) -> Outcome {
+    match run_of::<S>(alloc, p, budget) {
+        None => Outcome::NoTable,
+        Some(Ok(Ended::Infeasible(_))) => Outcome::Infeasible,
+        Some(Ok(Ended::Feasible(_))) => Outcome::Feasible,
+        Some(Ok(Ended::Optimal(_))) => Outcome::Optimal,
+        Some(Ok(Ended::Ray { column, .. })) => Outcome::Ray(column),
+        Some(Err(e)) => Outcome::Refused(e),
+    }
+}
+
+/// The basic columns of a last table, and the numerators of their values.
+fn rests_on<S: Exact>(t: &Table<S>, basic: &[usize], values: &[i128]) -> bool {
+    if basic.len() != t.rows() {
+        return false;
+    }
+    if values.len() != t.rows() {
+        return false;
+    }
+    for i in 0..t.rows() {
+        if t.basic(i) != basic[i] {
+            return false;
+        }
+        if t.cell(i, t.columns()).parts().0 != values[i] {
+            return false;
+        }
+    }
+    true
+}
+
+fn last_rests_on<S: Exact>(
+    alloc: Global,
+    p: &Problem,
+    budget: u32,
+    basic: &[usize],
+    values: &[i128],
+) -> bool {
+    match run_of::<S>(alloc, p, budget) {
+        Some(Ok(Ended::Infeasible(t))) => rests_on(&t, basic, values),
+        Some(Ok(Ended::Feasible(t))) => rests_on(&t, basic, values),
+        Some(Ok(Ended::Optimal(t))) => rests_on(&t, basic, values),
+        Some(Ok(Ended::Ray { table, .. })) => rests_on(&table, basic, values),
+        _ => false,
+    }
+}
+
+/// Two rows whose ratios are equal in pivot 2, without a factor and with one that phase 2 and phase 3 bring in and
+/// leave at 0.
+fn two_rows_hold<S: Exact>(alloc: Global, dead: &Problem, live: &Problem) -> bool {
+    told::<S>(alloc, dead, 1) == Outcome::Refused(RunError::Spent)
+        && told::<S>(alloc, dead, 2) == Outcome::Feasible
+        && last_rests_on::<S>(alloc, dead, 2, &[2, 1], &[0, 1])
+        && told::<S>(alloc, live, 3) == Outcome::Refused(RunError::Spent)
+        && told::<S>(alloc, live, 4) == Outcome::Optimal
+        && last_rests_on::<S>(alloc, live, 4, &[2, 1], &[0, 1])
+}
+
+#[test]
+fn one_body_holds_at_8_64_and_128_bits(rt: HostRuntime) -> Result<(), Fail> {
+    let alloc = rt.alloc();
+    let contact = [[0, 1, 0], [1, 1, 0]];
+    let dead = problem(alloc, &contact, None, &[1, 1])?;
+    let factor = column(alloc, &[-1, 0])?;
+    let live = problem(alloc, &contact, Some(factor), &[1, 1])?;
+    assert!(rt; two_rows_hold::<Frac<i8>>(alloc, &dead, &live));
+    assert!(rt; two_rows_hold::<Frac<i64>>(alloc, &dead, &live));
+    assert!(rt; two_rows_hold::<Frac<i128>>(alloc, &dead, &live));
+    Ok(())
+}
+
+/// The post of the first example, 2 wide and 4 high.
+#[test]
+fn a_post_stands_after_four_pivots(rt: HostRuntime) -> Result<(), Fail> {
+    let alloc = rt.alloc();
+    let contact = [[1, 1, 0], [-1, 1, 0], [1, 1, 2], [-1, 1, 2]];
+    let post = problem(alloc, &contact, None, &[0, 48, 48])?;
+    assert!(rt; told::<Frac<i64>>(alloc, &post, 3) == Outcome::Refused(RunError::Spent));
+    assert!(rt; told::<Frac<i64>>(alloc, &post, 4) == Outcome::Feasible);
+    assert!(rt; last_rests_on::<Frac<i128>>(alloc, &post, 4, &[2, 1, 3], &[24, 24, 0]));
+    Ok(())
+}
+
+#[test]
+fn a_slender_post_is_too_wide_for_8_bits(rt: HostRuntime) -> Result<(), Fail> {
+    let alloc = rt.alloc();
+    let contact = [[1, 50, 0], [-1, 50, 0], [1, 50, 50], [-1, 50, 50]];
+    let slender = problem(alloc, &contact, None, &[0, 24, 12])?;
+    let place = Place {
+        phase: 1,
+        pivot: 1,
+        row: 3,
+        column: 3,
+        step: Step::Subtract,
+    };
+    assert!(rt; told::<Frac<i8>>(alloc, &slender, 9) == Outcome::Refused(RunError::TooWide(place)));
+    assert!(rt; told::<Frac<i64>>(alloc, &slender, 9) == Outcome::Feasible);
+    assert!(rt; told::<Frac<i128>>(alloc, &slender, 9) == Outcome::Feasible);
+    Ok(())
+}
+
+#[test]
+fn a_ratio_passes_before_the_budget_is_looked_at(rt: HostRuntime) -> Result<(), Fail> {
+    let alloc = rt.alloc();
+    let p = problem(alloc, &[[2, 1, 0], [1, 1, 0]], None, &[0, 100])?;
+    let place = Place {
+        phase: 1,
+        pivot: 2,
+        row: 1,
+        column: 1,
+        step: Step::Ratio,
+    };
+    assert!(rt; told::<Frac<i8>>(alloc, &p, 1) == Outcome::Refused(RunError::TooWide(place)));
+    assert!(rt; told::<Frac<i64>>(alloc, &p, 1) == Outcome::Refused(RunError::Spent));
+    Ok(())
+}
+
+/// A right side that no column makes, a factor that no row limits, a row that phase 2 leaves as it is, no rows at all.
+#[test]
+fn the_other_ends_are_told(rt: HostRuntime) -> Result<(), Fail> {
+    let alloc = rt.alloc();
+    let pulled = problem(alloc, &[[-1, 0, 0]], None, &[1])?;
+    assert!(rt; told::<Frac<i8>>(alloc, &pulled, 1) == Outcome::Infeasible);
+    let bare = problem(alloc, &[], None, &[5])?;
+    assert!(rt; told::<Frac<i8>>(alloc, &bare, 1) == Outcome::Infeasible);
+    let push = column(alloc, &[-1])?;
+    let pressed = problem(alloc, &[[1, 0, 0]], Some(push), &[1])?;
+    assert!(rt; told::<Frac<i64>>(alloc, &pressed, 1) == Outcome::Ray(1));
+    let nothing = column(alloc, &[])?;
+    let doubled = problem(alloc, &[[1, 1, 0]], Some(nothing), &[1, 1])?;
+    assert!(rt; told::<Frac<i64>>(alloc, &doubled, 1) == Outcome::Ray(1));
+    assert!(rt; last_rests_on::<Frac<i64>>(alloc, &doubled, 1, &[0, 3], &[1, 0]));
+    let empty = problem(alloc, &[], None, &[])?;
+    assert!(rt; told::<Frac<i128>>(alloc, &empty, 1) == Outcome::Feasible);
+    Ok(())
+}
