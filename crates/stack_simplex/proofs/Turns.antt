@@ -36,9 +36,11 @@ module _ (max : ℤ) (S : Shape) (phase among : ℕ) (T : Tabled Fraction) (r c 
 
   -- and done
   pub turn_goes_on : (k l : Pivots) (U : Tabled Fraction) →
-      IsPivoted k l (pivot_spot ordered_fractions (passes max) S T r c) → U ≡ pivoted_at ordered_fractions S T r c →
+      IsPivoted k l (pivot_spot ordered_fractions (passes max) S T r c) →
+      U ≡ pivoted_at ordered_fractions S T r c →
       phase_from max S phase among l U ≡ phase_from max S phase among k T
-  turn_goes_on k l U h u = sym (turn_pivots ordered_fractions S (passes max) phase among T r c enters ratios leaves
+  turn_goes_on k l U h u = sym (turn_pivots ordered_fractions S
+      (passes max) phase among T r c enters ratios leaves
       k.left l.left k.done l.done U h.left h.done h.passes_nowhere u)
 
 -- a turn of the loop, whose table has the shape of the first

@@ -20,7 +20,8 @@ returns-in-Stops-clause-answer g c = let t = c.loop-end.t in
 
 pub loop-end-preserved : goal.loop-end-preserved
 loop-end-preserved g c = let t = c.loop-end.t in record {
-  among = subst (λ (S : Shape). c.args.among ≤ columns S) (sym c.in_ok-end.ensures.shape) c.loop-end.invariant.among;
+  among = subst (λ (S : Shape). c.args.among ≤ columns S)
+      (sym c.in_ok-end.ensures.shape) c.loop-end.invariant.among;
   shape = c.in_ok-end.ensures.shape ∙ c.loop-end.invariant.shape;
   flips = c.in_ok-end.ensures.flips ∙ c.loop-end.invariant.flips;
   phase = loop_goes_on g.S.Exact.MAX (shape_of_table c.args.t.now) (shape_of_table t) c.args.phase
