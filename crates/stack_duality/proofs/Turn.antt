@@ -1,13 +1,13 @@
 -- A turn of a phase and the rows of phase 2, as the loops take them.
-use Rattle.std.proofs.Common.{◌≡◌, refl, sym, ap, ◌∙◌, ℕ, zero, suc, ◌+◌, ◌<◌, Bool, true, false, cond, leb, Option, Some, None, arith}
+use Rattle.std.proofs.Common.{◌≡◌, refl, sym, ap, ◌∙◌, ℕ, zero, suc, ◌+◌, ◌<◌, Bool, Option, Some, None, arith}
 use Rattle.stack_algebra.specs.Ordered.{Ordered}
 use Rattle.stack_rational.specs.declared.exact.Op.{Op}
 use Rattle.stack_table.specs.declared.types.PivotWide.{PivotWide}
 use Rattle.stack_table.specs.declared.types.Step.TheVariants.{Ratio}
-use Rattle.stack_table.specs.Table.{Shape, Tabled, plain, pivoted_at}
+use Rattle.stack_table.specs.Table.{Shape, Tabled, pivoted_at}
 use Rattle.stack_table.specs.Spots.{pivot_spot}
 use Rattle.stack_bland.specs.Choice.{entering, leaving, ratio_row}
-use Rattle.stack_duality.specs.WrittenRun.{Choice, stays, rises, due, refused, Stop, settled, unlimited, passing, spent, after, on_spot, on_choice, chosen_at, chosen_in, choose, turns, driven_column, drive_at, drive_row, drives}
+use Rattle.stack_duality.specs.WrittenRun.{Choice, stays, rises, due, refused, Stop, settled, unlimited, passing, spent, after, on_spot, on_choice, chosen_at, chosen_in, choose, turns, drive_row, drives}
 
 module _ (F : Ordered) (S : Shape) (passes : Op → F.C → F.C → Bool) where
   -- the choice by what is found: the column; the passing ratio and the leaving row

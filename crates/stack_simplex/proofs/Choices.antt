@@ -1,13 +1,13 @@
 -- What a turn's choice says of its row, and the search for the column of a row of phase 2.
-use Rattle.std.proofs.Common.{◌≡◌, ◌≢◌, refl, sym, ap, ◌∙◌, ℕ, ◌+◌, ◌<◌, Bool, not, Option, Some, None, add-one}
+use Rattle.std.proofs.Common.{◌≡◌, ◌≢◌, sym, ap, ◌∙◌, ℕ, ◌+◌, ◌<◌, Bool, not, Option, Some, None, add-one}
 use lib.IntN.{pos}
 use Rattle.stack_algebra.specs.Fraction.{Fraction}
-use Rattle.stack_algebra.specs.Ordered.{sign_of, plus}
+use Rattle.stack_algebra.specs.Ordered.{sign_of}
 use Rattle.stack_algebra.specs.Search.{first, or_else, only_if}
 use Rattle.stack_algebra.proofs.OrderedFractions.{ordered_fractions}
 use Rattle.stack_algebra.proofs.Search.{least-some}
-use Rattle.stack_table.specs.Table.{Shape, Tabled, plain, objective}
-use Rattle.stack_bland.specs.Choice.{is_minus, is_nought, ratio, entering, leaving}
+use Rattle.stack_table.specs.Table.{Shape, Tabled, plain}
+use Rattle.stack_bland.specs.Choice.{is_nought, ratio, leaving}
 use Rattle.stack_duality.specs.WrittenRun.{driven_column}
 use Rattle.stack_duality.proofs.BestRow.{best-some}
 

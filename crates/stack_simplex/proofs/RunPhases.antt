@@ -1,22 +1,20 @@
 -- The answers of the three phases tell the written run.
-use Rattle.std.proofs.Common.{◌≡◌, refl, sym, ap, subst, ◌∙◌, ℕ, suc, Bool, true, false, cond}
+use Rattle.std.proofs.Common.{◌≡◌, refl, sym, ap, subst, ◌∙◌, ℕ, false, cond}
 use lib.IntN.{ℤ}
 use Rattle.stack_algebra.specs.Fraction.{Fraction}
 use Rattle.stack_algebra.proofs.OrderedFractions.{ordered_fractions}
 use Rattle.stack_rational.specs.Passes.{passes}
 use Rattle.stack_table.specs.Table.{Shape, Tabled, plain, right, clear_objective, set_factor_objective}
 use Rattle.stack_table.specs.Problem.{Problem}
-use Rattle.stack_table.specs.WrittenTable.{written_table}
 use Rattle.stack_table.specs.Lent.{problem_of}
 use Rattle.stack_bland.specs.Choice.{is_minus}
-use Rattle.stack_duality.specs.WrittenRun.{Stop, settled, unlimited, spent, End, infeasible, feasible, optimal, ray, after, turns, drives, raise, third_end, past_first, first_end, written_run}
+use Rattle.stack_duality.specs.WrittenRun.{Stop, settled, unlimited, End, infeasible, after, turns, drives, raise, third_end, past_first, first_end, written_run}
 use Rattle.stack_duality.specs.FourEnds.{EndGives}
 use Rattle.stack_duality.specs.Laws.{EndsGive, SomeRowLeaves}
 use Rattle.stack_simplex.specs.declared.pivots.Pivots.{Pivots}
 use Rattle.stack_simplex.specs.declared.refusal.RunError.{RunError}
 use Rattle.stack_simplex.specs.declared.refusal.RunError.TheVariants.{TooWide, Spent}
 use Rattle.stack_simplex.specs.declared.turn.PhaseEnd.{PhaseEnd}
-use Rattle.stack_simplex.specs.declared.turn.PhaseEnd.TheVariants.{Settled, Unlimited}
 use Rattle.stack_simplex.specs.Phases.{refusal_of, stop_of}
 use Rattle.stack_simplex.specs.Written.{IsTableOf, IsWritten}
 use Rattle.stack_simplex.specs.Ends.{refused_as}

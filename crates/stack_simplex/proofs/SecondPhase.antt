@@ -1,19 +1,17 @@
 -- The answers on the rows of phase 2 tell the phase.
-use Rattle.std.proofs.Common.{◌≡◌, refl, sym, ap, ◌∙◌, ℕ, suc, ◌+◌, ◌-◌, ◌<◌, Bool, true, false, leb, Option, Some, None, Result, Ok, Err, arith, add-one}
-use Rattle.std.specs.Prelude.{OnOk, MatchResult}
+use Rattle.std.proofs.Common.{◌≡◌, sym, ap, ◌∙◌, ℕ, suc, ◌+◌, ◌-◌, ◌<◌, arith, add-one}
 use lib.IntN.{ℤ}
 use Rattle.stack_algebra.specs.Fraction.{Fraction}
 use Rattle.stack_algebra.proofs.OrderedFractions.{ordered_fractions}
 use Rattle.stack_rational.specs.Passes.{passes}
-use Rattle.stack_table.specs.Table.{Shape, Tabled, plain, pivoted_at}
-use Rattle.stack_table.specs.Spots.{pivot_spot}
-use Rattle.stack_duality.specs.WrittenRun.{Stop, settled, passing, spent, driven_column, drive_row, drives}
+use Rattle.stack_table.specs.Table.{Shape, Tabled}
+use Rattle.stack_duality.specs.WrittenRun.{settled, drive_row, drives}
 use Rattle.stack_duality.proofs.Turn.{drives_on, drives_passing, drives_spent}
 use Rattle.stack_simplex.specs.declared.pivots.Pivots.{Pivots}
 use Rattle.stack_simplex.specs.declared.refusal.RunError.{RunError}
 use Rattle.stack_simplex.specs.declared.refusal.RunError.TheVariants.{TooWide, Spent}
-use Rattle.stack_simplex.specs.Stops.{spot_of, IsPivoted, IsRefused}
-use Rattle.stack_simplex.specs.Phases.{refusal_of, pivots_answer}
+use Rattle.stack_simplex.specs.Stops.{spot_of}
+use Rattle.stack_simplex.specs.Phases.{refusal_of}
 
 -- the rows after row i, where the rows before it left the table U and the pivots k
 module _ (max : ℤ) (S S' : Shape) (T U : Tabled Fraction) (n i : ℕ) (first k : Pivots) (same : S' ≡ S)

@@ -1,4 +1,4 @@
-use Rattle.std.proofs.Common.{◌≡◌, sym, ap, ◌∙◌, cond}
+use Rattle.std.proofs.Common.{sym, ap, ◌∙◌, cond}
 use Rattle.std.proofs.lemmas.Result.{err_from_is_err_and}
 use Rattle.stack_table.specs.Seen.{shape_of_table, table_of}
 use Rattle.stack_simplex.specs.declared.turn.PhaseEnd.TheVariants.{Settled, Unlimited}

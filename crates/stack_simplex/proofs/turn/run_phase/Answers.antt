@@ -1,8 +1,8 @@
-use Rattle.std.proofs.Common.{◌≡◌, sym, ap, subst, ◌∙◌, ◌≤◌}
+use Rattle.std.proofs.Common.{sym, subst, ◌∙◌, ◌≤◌}
 use Rattle.std.proofs.lemmas.Result.{err_from_is_err_and}
 use Rattle.stack_table.specs.Table.{Shape, columns}
 use Rattle.stack_table.specs.Seen.{shape_of_table, table_of}
-use Rattle.stack_simplex.proofs.Turns.{loop_refuses, loop_stops, loop_goes_on, has_fewer}
+use Rattle.stack_simplex.proofs.Turns.{loop_refuses, loop_stops, loop_goes_on}
 use Rattle.stack_simplex.proofs.turn.run_phase.Goals as goal
 
 pub returns-in_err-end-clause-answer : goal.returns-in_err-end-clause-answer

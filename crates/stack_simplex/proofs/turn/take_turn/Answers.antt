@@ -1,4 +1,4 @@
-use Rattle.std.proofs.Common.{◌≡◌, sym, ap, ◌∙◌, ℕ, ◌+◌, ◌^◌, ◌<◌, arith, add-one, rules}
+use Rattle.std.proofs.Common.{sym, ap, ◌∙◌, ℕ, ◌+◌, ◌^◌, ◌<◌, arith, add-one, rules}
 use Rattle.std.proofs.lemmas.Result.{err_from_is_err_and}
 use Rattle.stack_table.specs.declared.types.Step.TheVariants.{Ratio}
 use Rattle.stack_table.specs.declared.types.PivotWide.{PivotWide}
@@ -7,7 +7,6 @@ use Rattle.stack_rational.specs.Passes.{passes}
 use Rattle.stack_table.specs.Seen.{shape_of_table, table_of}
 use Rattle.stack_duality.proofs.Turn.{turn_refused}
 use Rattle.stack_duality.specs.WrittenRun.{passing}
-use Rattle.stack_simplex.specs.Stops.{spot_of}
 use Rattle.stack_simplex.proofs.Choices.{leaving_below, leaving_nonzero}
 use Rattle.stack_simplex.proofs.Turns.{turn_refuses, turn_goes_on}
 use Rattle.stack_simplex.proofs.turn.take_turn.Goals as goal
