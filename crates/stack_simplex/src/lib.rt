@@ -55,11 +55,11 @@ fn run_phases<S: Exact>(t: Table<S>, budget: u32) -> Result<Ended<S>, RunError>
     }
 }
 
-/// The run of a written table within a budget of pivots: exactly the value of the written run at the width of its
-/// numbers.
+/// The run of a written table within a budget of pivots: exactly the value of the written run at the width of
+/// its numbers.
 ///
-/// Refused at the first operation that passes, or where a pivot is due and the budget's pivots are done, whichever
-/// comes first; the table is dropped then. Takes no memory. After Bland (1977).
+/// Refused at the first operation that passes, or where a pivot is due and the budget's pivots are done,
+/// whichever comes first; the table is dropped then. Takes no memory. After Bland (1977).
 pub fn run<S: Exact>(t: Table<S>, budget: u32) -> Result<Ended<S>, RunError>
     requires written { IsWritten (shape_of_table t) (table_of t) }
     requires some { budget ≢ 0 }
