@@ -1,0 +1,2 @@
+pub mod Posed
+pub mod PosedSurvey
