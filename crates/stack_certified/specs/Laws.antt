@@ -29,7 +29,7 @@ abbrev pub DeadLoadsStand : Surveyed → CertificateValue → Type 0
 DeadLoadsStand v (stands f) = ⊤
 DeadLoadsStand v (collapses y) = ⊤
 DeadLoadsStand v (greatest f y) = Carries (scene_of v) (pos 0) (pos 1)
-DeadLoadsStand v (unbounded base ray) = Carries (scene_of v) (pos 0) (pos 1)
+DeadLoadsStand v (unbounded base rise) = Carries (scene_of v) (pos 0) (pos 1)
 
 -- a true certificate of the question
 pub record IsCertified (q : Question) (v : Surveyed) (c : CertificateValue) : Type 0 where
