@@ -1,6 +1,6 @@
 -- The laws of the certificates of ends: they are true and answer the question, and where live loads are carried the dead
 -- loads stand.
-use Rattle.std.specs.Prelude.{◌≡◌, ◌≢◌, ℕ, pos, Some, ⊤}
+use Rattle.std.specs.Prelude.{◌≡◌, ℕ, pos, Some, ⊤}
 use Rattle.stack_algebra.specs.Fraction.{Fraction}
 use Rattle.stack_contact.specs.Surveyed.{Surveyed}
 use Rattle.stack_certificate.specs.Certificate.{CertificateValue, stands, collapses, greatest, unbounded}
@@ -10,7 +10,6 @@ use Rattle.stack_equilibrium.specs.Scene.{IsProper}
 use Rattle.stack_equilibrium.specs.Balance.{Carries}
 use Rattle.stack_equilibrium.specs.SurveyScene.{scene_of}
 use Rattle.stack_equilibrium.specs.Truth.{IsTrueCertificate, IsOfQuestion}
-use Rattle.stack_table.specs.Table.{Tabled}
 use Rattle.stack_duality.specs.WrittenRun.{End, infeasible, feasible, optimal, ray, wide, over}
 use Rattle.stack_duality.specs.Laws.{Rule, run_of}
 use Rattle.stack_posing.specs.Posed.{posed, posed_shape}
