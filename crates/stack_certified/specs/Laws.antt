@@ -1,5 +1,5 @@
--- The laws of the certificates of ends: they are true and answer the question, and where live loads are carried the dead
--- loads stand.
+-- The laws of the certificates of ends: they are true and answer the question, and where live loads are carried
+-- the dead loads stand.
 use Rattle.std.specs.Prelude.{◌≡◌, ℕ, pos, Some, ⊤}
 use Rattle.stack_algebra.specs.Fraction.{Fraction}
 use Rattle.stack_contact.specs.Surveyed.{Surveyed}
@@ -38,8 +38,8 @@ pub record IsCertified (q : Question) (v : Surveyed) (c : CertificateValue) : Ty
 
 -- each end that has a certificate has such a one
 abbrev pub EndsAreCertified : Type 0
-EndsAreCertified = (q : Question) (v : Surveyed) (x : End Fraction) (c : CertificateValue) → IsProper (scene_of v) →
-    IsEndOfRun q v x → certificate_of q v x ≡ Some c → IsCertified q v c
+EndsAreCertified = (q : Question) (v : Surveyed) (x : End Fraction) (c : CertificateValue) →
+    IsProper (scene_of v) → IsEndOfRun q v x → certificate_of q v x ≡ Some c → IsCertified q v c
 
 -- an end is one of its question's
 abbrev pub IsEndOf : Question → End Fraction → Type 0
