@@ -1,14 +1,18 @@
--- The certificate of each end is true, and of the question; where live loads are carried the dead loads stand; no
--- amount is negative.
+-- The certificate of each end is true, and of the question, and decides whether the dead loads stand; no amount is
+-- negative.
 use Rattle.std.proofs.Common.{subst, ◌≤◌, Option, Some, None, List, arith}
-use lib.IntN.{ℤ}
+use lib.IntN.{ℤ, pos}
+use Rattle.std.proofs.lemmas.Int.{ints}
 use Rattle.stack_algebra.specs.Fraction.{Fraction}
 use Rattle.stack_contact.specs.Surveyed.{Surveyed}
-use Rattle.stack_certificate.specs.Certificate.{CertificateValue}
+use Rattle.stack_certificate.specs.Certificate.{CertificateValue, stands, collapses}
 use Rattle.stack_equilibrium.specs.declared.types.Question.{Question}
 use Rattle.stack_equilibrium.specs.declared.types.Question.TheVariants.{Dead, Live}
 use Rattle.stack_equilibrium.specs.Scene.{Scene, IsProper}
+use Rattle.stack_equilibrium.specs.Balance.{Carries}
 use Rattle.stack_equilibrium.specs.SurveyScene.{scene_of}
+use Rattle.stack_equilibrium.specs.Truth.{IsTrueCertificate, IsOfQuestion}
+use Rattle.stack_equilibrium.proofs.CertificateLaws.{stands_is_carried, collapse_excludes_balance}
 use Rattle.stack_table.specs.Table.{Tabled}
 use Rattle.stack_duality.specs.WrittenRun.{End, infeasible, feasible, optimal, ray, wide, over}
 use Rattle.stack_posing.specs.Posed.{posed, posed_shape}
@@ -16,7 +20,7 @@ use Rattle.stack_amounts.specs.WrittenLists.{forces_list, ray_list, bound_list, 
 use Rattle.stack_amounts.specs.WholeLists.{whole_list}
 use Rattle.stack_amounts.specs.WholeEnds.{EndIsWhole}
 use Rattle.stack_amounts.proofs.WholeEnds.{ends_are_whole}
-use Rattle.stack_certified.specs.Certified.{certificate_of}
+use Rattle.stack_certified.specs.Certified.{end_forces, end_collapse, certificate_of}
 use Rattle.stack_certified.specs.Laws.{IsEndOfRun, IsCertified, EndsAreCertified, IsEndOf, EndsAreOfTheQuestion}
 use Rattle.stack_certified.specs.Laws.{EndPushes, EndsPush}
 use Rattle.stack_certified.proofs.HeldCertificates.{stands_of, collapse_of, greatest_of, unbounded_of, dead_loads_of}
@@ -42,27 +46,30 @@ module _ (v : Surveyed) (proper : IsProper (scene_of v)) where
   forces q T = whole_list (forces_list (posed_shape q (scene_of v)) T)
 
   -- a collapse, of either question
-  collapse : (q : Question) (T : Tabled Fraction) → EndIsWhole (posed q (scene_of v)) (infeasible T) →
-      HasCertificate q v (certificate_of q v (infeasible T))
-  collapse Dead T h = record {
-    holds = collapse_of v proper Dead (whole_list (collapse_list (posed_shape Dead (scene_of v)) T)) h;
-    form = tt;
-    dead_loads = tt;
-  }
-  collapse Live T h = record {
-    holds = collapse_of v proper Live (whole_list (collapse_list (posed_shape Live (scene_of v)) T)) h;
-    form = tt;
-    dead_loads = tt;
-  }
+  collapsed : (q : Question) (T : Tabled Fraction) → IsOfQuestion q (collapses (end_collapse q v T)) →
+      EndIsWhole (posed q (scene_of v)) (infeasible T) → HasCertificate q v (certificate_of q v (infeasible T))
+  collapsed q T form h = record { holds = true_one; form = form; dead_loads = excluded }
+    where
+      true_one : IsTrueCertificate v (collapses (end_collapse q v T))
+      true_one = collapse_of v proper q (whole_list (collapse_list (posed_shape q (scene_of v)) T)) h
+
+      excluded : ¬ (Carries (scene_of v) (pos 0) (pos 1))
+      excluded = collapse_excludes_balance (scene_of v) _ (pos 1) proper true_one (omega (arith, ints))
+
+  -- forces that stand
+  standing : (T : Tabled Fraction) → EndIsWhole (posed Dead (scene_of v)) (feasible T) →
+      IsTrueCertificate v (stands (end_forces Dead v T))
+  standing T h = stands_of v proper _ (forces Dead T) h.forces.balances h.forces.positive h.no_factor
 
   -- each end
   certified : (q : Question) (x : End Fraction) → EndIsWhole (posed q (scene_of v)) x →
       HasCertificate q v (certificate_of q v x)
-  certified q (infeasible T) h = collapse q T h
+  certified Dead (infeasible T) h = collapsed Dead T tt h
+  certified Live (infeasible T) h = collapsed Live T tt h
   certified Dead (feasible T) h = record {
-    holds = stands_of v proper _ (forces Dead T) h.forces.balances h.forces.positive h.no_factor;
+    holds = standing T h;
     form = tt;
-    dead_loads = tt;
+    dead_loads = stands_is_carried (scene_of v) _ (standing T h);
   }
   certified Live (feasible T) h = absurd (let e = h.without_factor in omega (arith, e))
   certified Dead (optimal T) h = absurd (let l = h.loaded.with_factor in omega (arith, l))
