@@ -26,7 +26,7 @@ pub pair_second : (k : ℕ) → ((2 * k + 1) / 2 ≡ k) × ((2 * k + 1) % 2 ≡ 
 pair_second k = (omega arith, omega arith)
 
 module _ (v : Surveyed) where
-  counted : free_count (scene_of v) ≡ length (frees_of v.structure.bodies)
+  pub counted : free_count (scene_of v) ≡ length (frees_of v.structure.bodies)
   counted = (free_numbers_are_those_of_surveys v).count
 
   within : (b a : ℕ) → b < length (frees_of v.structure.bodies) → a < 3 → 3 * b + a < 3 * free_count (scene_of v)

@@ -44,10 +44,14 @@ column_on q s j i = cond (ltb j (2 * s.bearings)) (edge_on s (eqb (j % 2) 0) (j 
 abbrev pub posed_shape : Question → Scene → Shape
 posed_shape q s = record { rows = 3 * free_count s; contacts = 2 * s.bearings; factors = factors_of q }
 
+-- a right side: minus the share of the dead loads
+abbrev pub right_share : Scene → ℕ → ℤ
+right_share s i = neg_ℤ (row_share s (dead_on s) i)
+
 -- the problem
 abbrev pub posed : Question → Scene → Problem
 posed q s = record {
   shape = posed_shape q s;
   entry = λ i j. cond (ltb i (3 * free_count s)) (row_share s (column_on q s j) i) (pos 0);
-  load = λ i. cond (ltb i (3 * free_count s)) (neg_ℤ (row_share s (dead_on s) i)) (pos 0);
+  load = λ i. cond (ltb i (3 * free_count s)) (right_share s i) (pos 0);
 }
