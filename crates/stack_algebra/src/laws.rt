@@ -28,7 +28,8 @@ pub fn fraction_laws()
     ensures field { FractionField }
 {}
 
-/// What a pivot keeps: rows are combinations of the first rows, basic columns are unit columns, right sides aren't negative.
+/// What a pivot keeps: rows are combinations of the first rows, basic columns are unit columns, right sides aren't
+/// negative.
 pub fn tableau_laws()
     ensures pivots { PivotsKeepTableaus }
     ensures right_sides { LeastRatioKeepsRightSides }

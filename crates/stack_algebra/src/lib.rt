@@ -1,4 +1,5 @@
-//! Whole numbers, sums, fractions in lowest terms, ordered fields and rows of a table: the laws under every other crate.
+//! Whole numbers, sums, fractions in lowest terms, ordered fields and rows of a table: the laws under every other
+//! crate.
 #![tactic(auto)]
 
 mod laws;

@@ -29,8 +29,8 @@ pub fn one_text()
     ensures one { (c : CertificateValue) (a b : List ℕ) → IsCertificateText c a → IsCertificateText c b → a ≡ b }
 {}
 
-/// The text of a certificate whose numbers fit, with at most 1,024 parts in each list of forces and 128 moves in a motion, has
-/// fewer than 180,000 bytes.
+/// The text of a certificate whose numbers fit, with at most 1,024 parts in each list of forces and 128 moves in a
+/// motion, has fewer than 180,000 bytes.
 pub fn short_text()
     ensures { FewHaveShortTexts }
 {}

@@ -3,6 +3,7 @@
 ghost use Rattle.std.specs.Prelude.{◌≡◌, ◌<◌, ◌≤◌, false, length, slice_index};
 ghost use Rattle.stack_model.specs.Structure.{body_of};
 ghost use Rattle.stack_model.specs.ModelView.{model_view};
+ghost use Rattle.stack_whole.specs.Limits.{most_free};
 ghost use Rattle.stack_contact.specs.FreeBlocks.{frees_of, free_of, frees_before};
 ghost use Rattle.stack_contact.specs.Surveyed.{Surveys, IsSurvey};
 
@@ -56,7 +57,7 @@ impl Survey {
     /// The number of free blocks: of bodies that aren't fixed. At most 128.
     pub fn free_count(&self) -> usize
         ensures value { result ≡ length (frees_of self.now.structure.bodies) }
-        ensures few { result ≤ 128 }
+        ensures few { result ≤ most_free }
     {
         let mut count = 0;
         for i in 0..self.model.bodies() {

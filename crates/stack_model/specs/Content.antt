@@ -19,6 +19,8 @@ use Rattle.stack_model.specs.declared.errors.ModelError.TheVariants.{Range, Same
 use Rattle.stack_model.specs.declared.errors.ModelError.TheVariants.{LoadOnFixed, TooMany}
 use Rattle.stack_model.specs.Structure.{NamedMaterial, NamedBody, Structure, body_at}
 use Rattle.stack_model.specs.Parts.{MaterialPart, BlockPart, LoadPart, PartLists}
+use Rattle.stack_whole.specs.Limits.{most_free}
+use Rattle.stack_model.specs.Limits.{most_materials, most_blocks, most_fixed, most_loads}
 use Rattle.stack_model.specs.Limits.{is_name, is_between, friction_of, point_of, corners_of, live_of, force_of}
 use Rattle.stack_model.specs.Convex.{convex}
 
@@ -73,10 +75,10 @@ add_material i ms m = do
     q = friction.1;
   }) ms
 
--- there is room for one more free body among 128, or one more fixed among 64
+-- there is room for one more free body, or one more fixed
 abbrev pub has_room : Bool → List NamedBody → Result ⊤ ModelError
-has_room true bs = unless (nat_lt (count_by (λ b. b.fixed) bs) 64) (TooMany whats.Fixed)
-has_room false bs = unless (nat_lt (count_by (λ b. not b.fixed) bs) 128) (TooMany whats.Free)
+has_room true bs = unless (nat_lt (count_by (λ b. b.fixed) bs) most_fixed) (TooMany whats.Fixed)
+has_room false bs = unless (nat_lt (count_by (λ b. not b.fixed) bs) most_free) (TooMany whats.Free)
 
 -- one more body, as block i: its name is new, its material is known, its corner list has an outline, there is
 -- room for it
@@ -114,15 +116,15 @@ add_load bs i ls l = do
 -- the materials and the bodies
 unfoldable pub bodies_of : PartLists → Result (List NamedMaterial × List NamedBody) ModelError
 bodies_of parts = do
-  few_materials ← at_most 64 (length parts.materials) whats.Materials
+  few_materials ← at_most most_materials (length parts.materials) whats.Materials
   materials ← steps add_material 0 [] parts.materials
-  few_blocks ← at_most 192 (length parts.blocks) whats.Blocks
+  few_blocks ← at_most most_blocks (length parts.blocks) whats.Blocks
   bodies ← steps (add_block materials) 0 [] parts.blocks
   Ok (materials, bodies)
 
 unfoldable pub content_of : PartLists → Result Structure ModelError
 content_of parts = do
   both ← bodies_of parts
-  few_loads ← at_most 256 (length parts.loads) whats.Loads
+  few_loads ← at_most most_loads (length parts.loads) whats.Loads
   loads ← steps (add_load both.1) 0 [] parts.loads
   Ok (record { materials = both.0; bodies = both.1; loads = loads })

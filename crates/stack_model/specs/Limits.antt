@@ -6,6 +6,19 @@ use Rattle.std.specs.List.{list_all}
 use Rattle.stack_polygon.specs.declared.point.Point.{Point}
 use Rattle.stack_polygon.specs.Limits.{is_near}
 
+-- how many materials, blocks, fixed bodies and loads there may be; the limit of free ones is most_free
+abbrev pub most_materials : ℕ
+most_materials = 64
+
+abbrev pub most_blocks : ℕ
+most_blocks = 192
+
+abbrev pub most_fixed : ℕ
+most_fixed = 64
+
+abbrev pub most_loads : ℕ
+most_loads = 256
+
 -- an ASCII letter, a digit, `_` or `-`
 abbrev pub is_name_byte : ℕ → Bool
 is_name_byte b =

@@ -1,5 +1,7 @@
 -- What holds of the structure of every model.
 use Rattle.std.specs.Prelude.{◌≡◌, ℕ, ◌<◌, ◌≤◌, false, not, List, [], length, get_or, count_by, Ok}
+use Rattle.stack_whole.specs.Limits.{most_free}
+use Rattle.stack_model.specs.Limits.{most_materials, most_blocks, most_fixed, most_loads}
 use Rattle.stack_model.specs.Structure.{NamedBody, Structure, material_of, body_of, load_of}
 use Rattle.stack_model.specs.Structure.{IsWithinLimits, IsPlaced, IsCarried}
 use Rattle.stack_model.specs.Content.{content_of, material_names, body_names}
@@ -22,11 +24,11 @@ pub record IsSound (s : Structure) : Type 0 where
   pub loads : (i : ℕ) → i < length s.loads → IsCarried (length s.bodies) (load_of s i)
   -- no load is on a fixed body
   pub free : (i : ℕ) → i < length s.loads → (body_of s (load_of s i).body).fixed ≡ false
-  pub few_materials : length s.materials ≤ 64
-  pub few_bodies : length s.bodies ≤ 192
-  pub few_free : free_among s.bodies ≤ 128
-  pub few_fixed : fixed_among s.bodies ≤ 64
-  pub few_loads : length s.loads ≤ 256
+  pub few_materials : length s.materials ≤ most_materials
+  pub few_bodies : length s.bodies ≤ most_blocks
+  pub few_free : free_among s.bodies ≤ most_free
+  pub few_fixed : fixed_among s.bodies ≤ most_fixed
+  pub few_loads : length s.loads ≤ most_loads
   -- materials have different names, and so have bodies
   pub different_materials : AreDifferent (material_names s.materials)
   pub different_bodies : AreDifferent (body_names s.bodies)

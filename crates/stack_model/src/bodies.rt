@@ -14,7 +14,7 @@ ghost use Rattle.stack_model.specs.Content.{is_free as is_free_of};
 
 use crate::errors::ModelError;
 use crate::kept::KeptBody;
-use crate::limits::{corners, is_name};
+use crate::limits::{MOST_FIXED, corners, is_name};
 use crate::materials::{Materials, unless};
 use crate::names::Names;
 use crate::outline::outline;
@@ -22,6 +22,7 @@ use crate::places::{Key, Spot, What};
 use crate::raw::RawBlock;
 use crate::types::Body;
 use stack_polygon::Point;
+use stack_whole::limits::MOST_FREE;
 use std::alloc::Global;
 
 /// The bodies so far, and their names.
@@ -81,18 +82,18 @@ fn count_free(kept: &[KeptBody]) -> usize
     kept.iter().filter(|b| !b.body.fixed).count()
 }
 
-/// Room for one more fixed body among 64, or one more free body among 128.
+/// Room for one more fixed body, or one more free body.
 fn has_room(fixed: bool, kept: &[KeptBody]) -> Result<(), ModelError>
     ensures { Gives (λ x. x) result (has_room_of fixed (map body_view kept.now)) }
 {
     if fixed {
         unless(
-            count_fixed(kept) < 64,
+            count_fixed(kept) < MOST_FIXED,
             ModelError::TooMany { what: What::Fixed },
         )
     } else {
         unless(
-            count_free(kept) < 128,
+            count_free(kept) < MOST_FREE,
             ModelError::TooMany { what: What::Free },
         )
     }

@@ -8,6 +8,7 @@ ghost use Rattle.stack_model.specs.Content.{bodies_of, content_of, at_most as at
 
 use crate::bodies::{Bodies, all_bodies};
 use crate::errors::ModelError;
+use crate::limits::{MOST_BLOCKS, MOST_LOADS, MOST_MATERIALS};
 use crate::loads::all_loads;
 use crate::materials::{Materials, all_materials, unless};
 use crate::model::Model;
@@ -25,9 +26,9 @@ fn at_most(limit: usize, count: usize, what: What) -> Result<(), ModelError>
 fn bodies(alloc: Global, parts: &Parts) -> Result<(Materials, Bodies), ModelError>
     ensures { Gives (λ b. b) result (bodies_of (raw_parts parts.now)) }
 {
-    at_most(64, parts.materials.len(), What::Materials)?;
+    at_most(MOST_MATERIALS, parts.materials.len(), What::Materials)?;
     let materials = all_materials(alloc, parts.materials.as_slice())?;
-    at_most(192, parts.blocks.len(), What::Blocks)?;
+    at_most(MOST_BLOCKS, parts.blocks.len(), What::Blocks)?;
     let bodies = all_bodies(alloc, &materials, parts.blocks.as_slice())?;
     Ok((materials, bodies))
 }
@@ -39,7 +40,7 @@ impl Model {
         ensures { Gives model_view result (content_of (raw_parts parts)) }
     {
         let (materials, bodies) = bodies(alloc, &parts)?;
-        at_most(256, parts.loads.len(), What::Loads)?;
+        at_most(MOST_LOADS, parts.loads.len(), What::Loads)?;
         let loads = all_loads(alloc, &bodies, parts.loads.as_slice())?;
         Ok(Model::of(materials.into_kept(), bodies.into_kept(), loads))
     }

@@ -11,6 +11,18 @@ ghost use Rattle.stack_model.specs.Limits.{corners_of, live_of, force_of};
 use stack_polygon::Point;
 use std::alloc::{AllocError, Global};
 
+/// A model has at most this many materials.
+pub const MOST_MATERIALS: usize = 64;
+
+/// And this many bodies.
+pub const MOST_BLOCKS: usize = 192;
+
+/// Of them at most this many are fixed.
+pub const MOST_FIXED: usize = 64;
+
+/// And this many loads.
+pub const MOST_LOADS: usize = 256;
+
 fn is_name_byte(b: u8) -> bool
     ensures { result ≡ is_name_byte_of b }
 {

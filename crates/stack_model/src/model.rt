@@ -3,6 +3,7 @@
 ghost use Rattle.std.specs.Prelude.{◌≡◌, ◌↔◌, ◌<◌, ◌≤◌, IsTrue, false, length, map};
 ghost use Rattle.std.specs.List.{list_any};
 ghost use Rattle.stack_polygon.specs.Limits.{IsPolygon};
+ghost use Rattle.stack_model.specs.Limits.{most_materials, most_blocks, most_loads};
 ghost use Rattle.stack_model.specs.Structure.{listed, material_of, body_of, load_of, IsWithinLimits, IsCarried, HasLive};
 ghost use Rattle.stack_model.specs.Sound.{IsSound};
 ghost use Rattle.stack_model.specs.Kept.{material_view, body_view, material_alone, body_alone};
@@ -55,7 +56,7 @@ impl Model {
     /// The number of materials, at most 64.
     pub fn materials(&self) -> usize
         ensures value { result ≡ length (model_view self.now).materials }
-        ensures few { result ≤ 64 }
+        ensures few { result ≤ most_materials }
     {
         self.materials.len()
     }
@@ -80,7 +81,7 @@ impl Model {
     /// The number of bodies, at most 192.
     pub fn bodies(&self) -> usize
         ensures value { result ≡ length (model_view self.now).bodies }
-        ensures few { result ≤ 192 }
+        ensures few { result ≤ most_blocks }
         ensures sound { IsSound (model_view self.now) }
     {
         self.bodies.len()
@@ -115,7 +116,7 @@ impl Model {
     /// The number of loads, at most 256.
     pub fn loads(&self) -> usize
         ensures value { result ≡ length (model_view self.now).loads }
-        ensures few { result ≤ 256 }
+        ensures few { result ≤ most_loads }
     {
         self.loads.len()
     }

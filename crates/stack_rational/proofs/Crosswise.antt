@@ -119,7 +119,8 @@ product_by a b c d (pos g) (negsuc h) p q s t is js = absurd (omega (arith, ints
 
 pub product : {m a b c d g h p q r s : ℤ} {x y : Fraction} → IsStored m a b → IsStored m c d → over a b ≡ x →
     over c d ≡ y → IsShared m a d g p s → IsShared m c b h q r → Parts (mul x y) (p *ℤ q) (r *ℤ s)
-product {m} {a} {b} {c} {d} {g} {h} {p} {q} {r} {s} {x} {y} u v k l t w = subst₂ (λ x y. Parts (mul x y) (p *ℤ q) (r *ℤ s)) k l
+product {m} {a} {b} {c} {d} {g} {h} {p} {q} {r} {s} {x} {y} u v k l t w = subst₂
+    (λ x y. Parts (mul x y) (p *ℤ q) (r *ℤ s)) k l
     (subst₂ (Parts (mul (over a b) (over c d))) (λ i. sym t.left i *ℤ sym w.left i)
     (λ i. sym w.right i *ℤ sym t.right i)
     (product_by a b c d g h (omega (arith, ints, t.positive)) (omega (arith, ints, w.positive)) u.lowest v.lowest

@@ -9,13 +9,17 @@ use Rattle.stack_rational.specs.Stored.{Within}
 use Rattle.stack_rational.proofs.OddDivisors.{divisor_within}
 
 -- a divisor of the sizes u and v of a and b, as the value d of a type
-pub none_fits : (m a b : ℤ) (u v n : ℕ) → u ≡ nat_abs a → v ≡ nat_abs b → IsGcd u v n → Within m a → Within m b → nat_abs (pos n) ≤ nat_abs m
-none_fits m a b u v n eu ev is wa wb = divisor_within u v n (nat_abs m) is (omega (arith, eu, wa)) (omega (arith, ev, wb))
+pub none_fits : (m a b : ℤ) (u v n : ℕ) → u ≡ nat_abs a → v ≡ nat_abs b → IsGcd u v n → Within m a →
+    Within m b → nat_abs (pos n) ≤ nat_abs m
+none_fits m a b u v n eu ev is wa wb = divisor_within u v n (nat_abs m) is (omega (arith, eu, wa))
+    (omega (arith, ev, wb))
 
-pub some_size : (m a b d : ℤ) (u v n : ℕ) → u ≡ nat_abs a → v ≡ nat_abs b → IsGcd u v n → Within m a → Within m b → d ≡ pos n → Within m d
+pub some_size : (m a b d : ℤ) (u v n : ℕ) → u ≡ nat_abs a → v ≡ nat_abs b → IsGcd u v n → Within m a →
+    Within m b → d ≡ pos n → Within m d
 some_size m a b d u v n eu ev is wa wb e = subst (λ z. Within m z) (sym e) (none_fits m a b u v n eu ev is wa wb)
 
-pub some_gcd : (a b d : ℤ) (u v n : ℕ) → u ≡ nat_abs a → v ≡ nat_abs b → IsGcd u v n → d ≡ pos n → IsGcd (nat_abs a) (nat_abs b) (nat_abs d)
+pub some_gcd : (a b d : ℤ) (u v n : ℕ) → u ≡ nat_abs a → v ≡ nat_abs b → IsGcd u v n → d ≡ pos n →
+    IsGcd (nat_abs a) (nat_abs b) (nat_abs d)
 some_gcd a b d u v n eu ev is e = subst (λ (t : ℕ × ℕ × ℕ). IsGcd t.0 t.1 t.2) same is
   where
     same : ◌≡◌ {A = ℕ × ℕ × ℕ} (u, v, n) (nat_abs a, nat_abs b, nat_abs d)

@@ -40,11 +40,13 @@ two_apart d o = go (gcd 2 d) (gcd-left 2 d) (gcd-right 2 d)
 
 powers_apart : (k d : ℕ) → d % 2 ≡ 1 → gcd (2 ^ k) d ≡ 1
 powers_apart zero d o = dvd-one.0 (gcd-left 1 d)
-powers_apart (suc k) d o = ap (λ z. gcd z d) (pow-succ' 2 k) ∙ gcd-product 2 (2 ^ k) d (two_apart d o) (powers_apart k d o)
+powers_apart (suc k) d o = ap (λ z. gcd z d) (pow-succ' 2 k)
+    ∙ gcd-product 2 (2 ^ k) d (two_apart d o) (powers_apart k d o)
 
 -- factors of 2 don't count beside an odd number
 without_twos : (p q k d : ℕ) → p % 2 ≡ 1 → d ∣ p → d ∣ q * 2 ^ k → d ∣ q
-without_twos p q k d o h m = dvd_of_gcd-one (2 ^ k) d q (powers_apart k d (odd_divisor d p o h)) (subst (λ z. d ∣ z) (turn q (2 ^ k)) m)
+without_twos p q k d o h m = dvd_of_gcd-one (2 ^ k) d q (powers_apart k d (odd_divisor d p o h))
+    (subst (λ z. d ∣ z) (turn q (2 ^ k)) m)
   where
     turn : (x y : ℕ) → x * y ≡ y * x
     turn x y = omega arith
@@ -54,7 +56,8 @@ pub odd_step : (x y z k n : ℕ) → x % 2 ≡ 1 → x < y → y - x ≡ z * 2 ^
 odd_step x y z k n o l e is = (
   is.0,
   subst (λ t. n ∣ t) (whole x y l) (dvd-add n is.0 (subst (λ t. n ∣ t) (sym e) (dvd-mul_right_of_dvd n is.1 (2 ^ k)))),
-  λ d h m. is.2 d h (without_twos x z k d o h (subst (λ t. d ∣ t) e ((dvd-add_iff_right d h).1 (subst (λ t. d ∣ t) (sym (whole x y l)) m)))),
+  λ d h m. is.2 d h (without_twos x z k d o h
+      (subst (λ t. d ∣ t) e ((dvd-add_iff_right d h).1 (subst (λ t. d ∣ t) (sym (whole x y l)) m)))),
 )
   where
     whole : (x y : ℕ) → x < y → x + (y - x) ≡ y
@@ -73,7 +76,8 @@ with_twos p q i j g o l is = subst (λ t. IsGcd (p * 2 ^ i) t (g * 2 ^ i)) (part
         (is.0, dvd-mul_right_of_dvd g is.1 (2 ^ (j - i)), λ d h m. is.2 d h (without_twos p q (j - i) d o h m))
 
     parted : (q i j : ℕ) → i ≤ j → q * 2 ^ (j - i) * 2 ^ i ≡ q * 2 ^ j
-    parted q i j l = grouped q (2 ^ (j - i)) (2 ^ i) ∙ ap (λ z. q * z) (sym (pow-add 2 (j - i) i)) ∙ ap (λ k. q * 2 ^ k) (whole i j l)
+    parted q i j l = grouped q (2 ^ (j - i)) (2 ^ i) ∙ ap (λ z. q * z) (sym (pow-add 2 (j - i) i))
+        ∙ ap (λ k. q * 2 ^ k) (whole i j l)
       where
         grouped : (a b c : ℕ) → a * b * c ≡ a * (b * c)
         grouped a b c = omega arith
@@ -84,7 +88,8 @@ with_twos p q i j g o l is = subst (λ t. IsGcd (p * 2 ^ i) t (g * 2 ^ i)) (part
 -- a number whose lowest k bits are 0 is a multiple of 2 ^ k
 pub multiple_of_power : (k n : ℕ) → ((i : ℕ) → i < k → bit_at n i ≡ 0) → n / 2 ^ k * 2 ^ k ≡ n
 multiple_of_power zero n h = omega arith
-multiple_of_power (suc k) n h = (λ t. n / pow-suc 2 k t * pow-suc 2 k t) ∙ (λ t. sym (div-div-eq-div-mul n (2 ^ k) 2) t * (2 ^ k * 2))
+multiple_of_power (suc k) n h = (λ t. n / pow-suc 2 k t * pow-suc 2 k t)
+    ∙ (λ t. sym (div-div-eq-div-mul n (2 ^ k) 2) t * (2 ^ k * 2))
     ∙ doubled (n / 2 ^ k) (2 ^ k) (h k (omega arith)) ∙ multiple_of_power k n (λ i l. h i (omega arith))
   where
     half : (a : ℕ) → a % 2 ≡ 0 → a / 2 * 2 ≡ a
@@ -98,7 +103,8 @@ pub of_same : (x y : ℕ) → x ≡ y → IsGcd x y x
 of_same x y e = (dvd_refl x, subst (λ z. x ∣ z) e (dvd_refl x), λ d h k. h)
 
 -- a shift that loses nothing, since it gives a divisor
-pub shifted_divisor : (a b p q i j g : ℕ) → 0 < a → a < 2 ^ 64 → p * 2 ^ i ≡ a → q * 2 ^ j ≡ b → p % 2 ≡ 1 → i ≤ j → IsGcd p q g →
+pub shifted_divisor : (a b p q i j g : ℕ) → 0 < a → a < 2 ^ 64 → p * 2 ^ i ≡ a → q * 2 ^ j ≡ b → p % 2 ≡ 1 →
+    i ≤ j → IsGcd p q g →
     IsGcd a b (g * 2 ^ i % 2 ^ 64)
 shifted_divisor a b p q i j g ha fa ea eb o l is = subst (λ n. IsGcd a b n) (sym (mod-eq_of_lt small)) is-gcd
   where

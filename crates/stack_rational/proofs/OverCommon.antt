@@ -30,7 +30,8 @@ lowest m n (negsuc d) g p q hd s = absurd (omega (arith, ints, hd))
 lowest m n (pos d) (negsuc g) p q hd s = absurd (let h = s.positive in omega (arith, ints))
 
 -- a divisor of the numerator and of g, which divides the denominator and which each common divisor divides
-pub shared_by : (m n d g h p q : ℤ) → nat_abs g ∣ nat_abs d → ((e : ℕ) → e ∣ nat_abs n → e ∣ nat_abs d → e ∣ nat_abs g) →
+pub shared_by : (m n d g h p q : ℤ) → nat_abs g ∣ nat_abs d →
+    ((e : ℕ) → e ∣ nat_abs n → e ∣ nat_abs d → e ∣ nat_abs g) →
     IsGcd (nat_abs n) (nat_abs g) (nat_abs h) → pos 0 ≺ h → Within m h →
     (p ≡ quot_z n h) × Within m p → (q ≡ quot_z d h) × Within m q → IsShared m n d h p q
 shared_by m n d g h p q inner outer is positive size ep eq = record {
@@ -67,7 +68,8 @@ sum_of : (m a b c d p q : ℤ) (g : ℕ) (x y : Fraction) → IsStored m a b →
     over c d ≡ y → IsGcd (nat_abs b) (nat_abs d) g → p ≡ quot_z b (pos g) → q ≡ quot_z d (pos g) →
     Sum m a b c d (pos g) p q x y
 sum_of m a b c d p q g x y s t u v is ep eq = record {
-  inner = dvd_trans g is.1 (subst (λ n. nat_abs d ∣ n) (sym (unsigned_abs-mul p d)) (dvd-mul_left (nat_abs d) (nat_abs p)));
+  inner = dvd_trans g is.1
+      (subst (λ n. nat_abs d ∣ n) (sym (unsigned_abs-mul p d)) (dvd-mul_left (nat_abs d) (nat_abs p)));
   outer = shared_divides a b c d p q g s.lowest t.lowest is ep eq;
   value = sum_at a b c d p q (pos g) s.lowest.positive t.lowest.positive hp
       (ap (λ z. pos g *ℤ z) ep ∙ exact-part b g is.0) (ap (λ z. pos g *ℤ z) eq ∙ exact-part d g is.1)
@@ -131,13 +133,16 @@ sum-fits {m} {a} {b} {c} {d} {g} {p} {q} {l} {r} {n} {e} {x} {y} s ee el er en =
 pub sum-value : {m a b c d g p q l r n e : ℤ} {x y : Fraction} → Sum m a b c d g p q x y →
     Within m (p *ℤ d) × (e ≡ p *ℤ d) → Within m (a *ℤ q) × (l ≡ a *ℤ q) → Within m (c *ℤ p) × (r ≡ c *ℤ p) →
     Within m (l +ℤ r) × (n ≡ l +ℤ r) → over n e ≡ add x y
-sum-value {m} {a} {b} {c} {d} {g} {p} {q} {l} {r} {n} {e} {x} {y} s ee el er en = (λ i. over ((en.1 ∙ (λ j. el.1 j +ℤ er.1 j)) i) (ee.1 i))
+sum-value {m} {a} {b} {c} {d} {g} {p} {q} {l} {r} {n} {e} {x} {y} s ee el er en =
+    (λ i. over ((en.1 ∙ (λ j. el.1 j +ℤ er.1 j)) i) (ee.1 i))
     ∙ s.value
 
 -- the numerator and the denominator that the code makes, for their common divisor
-pub total-inner : {m a b c d g p q e : ℤ} {x y : Fraction} → Sum m a b c d g p q x y → Within m (p *ℤ d) × (e ≡ p *ℤ d) →
+pub total-inner : {m a b c d g p q e : ℤ} {x y : Fraction} → Sum m a b c d g p q x y →
+    Within m (p *ℤ d) × (e ≡ p *ℤ d) →
     (pos 0 ≺ e) × (nat_abs g ∣ nat_abs e)
-total-inner {m} {a} {b} {c} {d} {g} {p} {q} {e} {x} {y} s ee = subst (λ z. (pos 0 ≺ z) × (nat_abs g ∣ nat_abs z)) (sym ee.1) (s.positive, s.inner)
+total-inner {m} {a} {b} {c} {d} {g} {p} {q} {e} {x} {y} s ee = subst
+    (λ z. (pos 0 ≺ z) × (nat_abs g ∣ nat_abs z)) (sym ee.1) (s.positive, s.inner)
 
 pub total-outer : {m a b c d g p q l r n e : ℤ} {x y : Fraction} → Sum m a b c d g p q x y →
     Within m (p *ℤ d) × (e ≡ p *ℤ d) → Within m (a *ℤ q) × (l ≡ a *ℤ q) → Within m (c *ℤ p) × (r ≡ c *ℤ p) →

@@ -17,33 +17,40 @@ use Rattle.stack_rational.proofs.Crosswise.{stored-num, stored-den, stored-fits}
 
 -- 0 has the denominator 1
 den_of_zero : (x : Fraction) → x.num ≡ pos 0 → x.den ≡ 1
-den_of_zero x e = dvd-one.0 (subst (λ d. x.den ∣ d) (ap (λ (z : ℤ). gcd (nat_abs z) x.den) (sym e) ∙ x.lowest) (dvd-gcd 0 x.den x.den (dvd-zero x.den) (dvd_refl x.den)))
+den_of_zero x e = dvd-one.0
+    (subst (λ d. x.den ∣ d) (ap (λ (z : ℤ). gcd (nat_abs z) x.den) (sym e)
+    ∙ x.lowest) (dvd-gcd 0 x.den x.den (dvd-zero x.den) (dvd_refl x.den)))
 
 -- products
 pub zero_times : (x y : Fraction) → x.num ≡ pos 0 → of (pos 0) ≡ mul x y
-zero_times x y e = same_values _ _ _ _ _ _ (of-is (pos 0)) (mul-is x y _ _ _ _ (is_self x) (is_self y)) (cross x.num (pos x.den) y.num (pos y.den) e)
+zero_times x y e = same_values _ _ _ _ _ _ (of-is (pos 0)) (mul-is x y _ _ _ _ (is_self x) (is_self y))
+    (cross x.num (pos x.den) y.num (pos y.den) e)
   where
     cross : (a b c d : ℤ) → a ≡ pos 0 → pos 0 *ℤ (b *ℤ d) ≡ a *ℤ c *ℤ pos 1
     cross a b c d e = simp expand (omega (arith, sums, simp expand at (ap (λ t. t *ℤ c) e)))
 
 pub times_zero : (x y : Fraction) → y.num ≡ pos 0 → of (pos 0) ≡ mul x y
-times_zero x y e = same_values _ _ _ _ _ _ (of-is (pos 0)) (mul-is x y _ _ _ _ (is_self x) (is_self y)) (cross x.num (pos x.den) y.num (pos y.den) e)
+times_zero x y e = same_values _ _ _ _ _ _ (of-is (pos 0)) (mul-is x y _ _ _ _ (is_self x) (is_self y))
+    (cross x.num (pos x.den) y.num (pos y.den) e)
   where
     cross : (a b c d : ℤ) → c ≡ pos 0 → pos 0 *ℤ (b *ℤ d) ≡ a *ℤ c *ℤ pos 1
     cross a b c d e = simp expand (omega (arith, sums, simp expand at (ap (λ t. a *ℤ t) e)))
 
 pub zero_fits : (m : ℤ) (x : Fraction) → 0 < nat_abs m → of (pos 0) ≡ x → Fits m x
-zero_fits m x h e = subst (Fits m) e (record { num = omega (arith, ap nat_abs (num_of (pos 0))); den = omega (arith, den_of (pos 0), h) })
+zero_fits m x h e = subst (Fits m) e
+    (record { num = omega (arith, ap nat_abs (num_of (pos 0))); den = omega (arith, den_of (pos 0), h) })
 
 -- sums with 0
 pub zero_plus : (x y : Fraction) → x.num ≡ pos 0 → y ≡ add x y
-zero_plus x y e = same_values _ _ _ _ _ _ (is_self y) (add-is x y _ _ _ _ (is_self x) (is_self y)) (cross x.num (pos x.den) y.num (pos y.den) e)
+zero_plus x y e = same_values _ _ _ _ _ _ (is_self y) (add-is x y _ _ _ _ (is_self x) (is_self y))
+    (cross x.num (pos x.den) y.num (pos y.den) e)
   where
     cross : (a b c d : ℤ) → a ≡ pos 0 → c *ℤ (b *ℤ d) ≡ (a *ℤ d +ℤ c *ℤ b) *ℤ d
     cross a b c d e = simp expand (omega (arith, sums, simp expand at (ap (λ t. t *ℤ d *ℤ d) e)))
 
 pub plus_zero : (x y : Fraction) → y.num ≡ pos 0 → x ≡ add x y
-plus_zero x y e = same_values _ _ _ _ _ _ (is_self x) (add-is x y _ _ _ _ (is_self x) (is_self y)) (cross x.num (pos x.den) y.num (pos y.den) e)
+plus_zero x y e = same_values _ _ _ _ _ _ (is_self x) (add-is x y _ _ _ _ (is_self x) (is_self y))
+    (cross x.num (pos x.den) y.num (pos y.den) e)
   where
     cross : (a b c d : ℤ) → c ≡ pos 0 → a *ℤ (b *ℤ d) ≡ (a *ℤ d +ℤ c *ℤ b) *ℤ b
     cross a b c d e = simp expand (omega (arith, sums, simp expand at (ap (λ t. t *ℤ b *ℤ b) e)))
@@ -122,12 +129,14 @@ same_part : (x y : Fraction) → x.den ≡ y.den → (1 ≡ x.den / gcd x.den y.
 same_part x y e = (own ∙ (λ i. x.den / sym g i), own ∙ (λ i. e i / sym g i))
   where
     g : gcd x.den y.den ≡ x.den
-    g = ap (λ d. gcd x.den d) (sym e) ∙ dvd_antisymm (gcd-left x.den x.den) (dvd-gcd x.den x.den x.den (dvd_refl x.den) (dvd_refl x.den))
+    g = ap (λ d. gcd x.den d) (sym e)
+        ∙ dvd_antisymm (gcd-left x.den x.den) (dvd-gcd x.den x.den x.den (dvd_refl x.den) (dvd_refl x.den))
 
     own : 1 ≡ x.den / x.den
     own = sym (div_self x.positive)
 
-pub same_den_fits : (m : ℤ) (x y : Fraction) → Fits m x → Fits m y → x.den ≡ y.den → Within m (x.num +ℤ y.num) → SumFits m x y
+pub same_den_fits : (m : ℤ) (x y : Fraction) → Fits m x → Fits m y → x.den ≡ y.den → Within m (x.num +ℤ y.num) →
+    SumFits m x y
 same_den_fits m x y f h e w = common_at m x y 1 1 (same_part x y e).0 (same_part x y e).1
     (record {
       den = within_by m _ (pos y.den) (one_left (pos y.den)) h.den;
@@ -138,23 +147,31 @@ same_den_fits m x y f h e w = common_at m x y 1 1 (same_part x y e).0 (same_part
 
 pub same_den_passes : (m : ℤ) (x y : Fraction) → x.den ≡ y.den → ¬ (Within m (x.num +ℤ y.num)) → ¬ (SumFits m x y)
 same_den_passes m x y e h f = h (subst (λ t. Within m t) (λ i. one_right x.num i +ℤ one_right y.num i)
-    (subst₂ (λ (u v : ℕ). Within m (x.num *ℤ pos v +ℤ y.num *ℤ pos u)) (sym (same_part x y e).0) (sym (same_part x y e).1) f.total))
+    (subst₂ (λ (u v : ℕ). Within m (x.num *ℤ pos v +ℤ y.num *ℤ pos u)) (sym (same_part x y e).0)
+    (sym (same_part x y e).1) f.total))
 
 -- the same of what is stored
 pub stored_zero : (m a b : ℤ) (x : Fraction) → IsStored m a b → over a b ≡ x → a ≡ pos 0 → x.num ≡ pos 0
 stored_zero m a b x s e z = sym (stored-num m a b x s e) ∙ z
 
-pub stored_same : (m a b c d : ℤ) (x y : Fraction) → IsStored m a b → IsStored m c d → over a b ≡ x → over c d ≡ y → b ≡ d → x.den ≡ y.den
+pub stored_same : (m a b c d : ℤ) (x y : Fraction) → IsStored m a b → IsStored m c d → over a b ≡ x →
+    over c d ≡ y → b ≡ d → x.den ≡ y.den
 stored_same m a b c d x y s t e f h = ap nat_abs (sym (stored-den m a b x s e) ∙ h ∙ stored-den m c d y t f)
 
-pub stored_sum : (m a b c d n : ℤ) (x y : Fraction) → IsStored m a b → IsStored m c d → over a b ≡ x → over c d ≡ y → b ≡ d → n ≡ a +ℤ c → over n b ≡ add x y
-stored_sum m a b c d n x y s t e f h en = (λ i. over ((en ∙ (λ j. stored-num m a b x s e j +ℤ stored-num m c d y t f j)) i) (stored-den m a b x s e i))
+pub stored_sum : (m a b c d n : ℤ) (x y : Fraction) → IsStored m a b → IsStored m c d → over a b ≡ x →
+    over c d ≡ y → b ≡ d → n ≡ a +ℤ c → over n b ≡ add x y
+stored_sum m a b c d n x y s t e f h en =
+    (λ i. over ((en ∙ (λ j. stored-num m a b x s e j +ℤ stored-num m c d y t f j)) i)
+    (stored-den m a b x s e i))
     ∙ same_den_sum x y (stored_same m a b c d x y s t e f h)
 
-pub stored_sum_fits : (m a b c d : ℤ) (x y : Fraction) → IsStored m a b → IsStored m c d → over a b ≡ x → over c d ≡ y → b ≡ d → Within m (a +ℤ c) → SumFits m x y
-stored_sum_fits m a b c d x y s t e f h w = same_den_fits m x y (stored-fits m a b x s e) (stored-fits m c d y t f) (stored_same m a b c d x y s t e f h)
+pub stored_sum_fits : (m a b c d : ℤ) (x y : Fraction) → IsStored m a b → IsStored m c d → over a b ≡ x →
+    over c d ≡ y → b ≡ d → Within m (a +ℤ c) → SumFits m x y
+stored_sum_fits m a b c d x y s t e f h w = same_den_fits m x y (stored-fits m a b x s e)
+    (stored-fits m c d y t f) (stored_same m a b c d x y s t e f h)
     (subst (Within m) (λ j. stored-num m a b x s e j +ℤ stored-num m c d y t f j) w)
 
-pub stored_sum_passes : (m a b c d : ℤ) (x y : Fraction) → IsStored m a b → IsStored m c d → over a b ≡ x → over c d ≡ y → b ≡ d → ¬ (Within m (a +ℤ c)) → ¬ (SumFits m x y)
+pub stored_sum_passes : (m a b c d : ℤ) (x y : Fraction) → IsStored m a b → IsStored m c d → over a b ≡ x →
+    over c d ≡ y → b ≡ d → ¬ (Within m (a +ℤ c)) → ¬ (SumFits m x y)
 stored_sum_passes m a b c d x y s t e f h w = same_den_passes m x y (stored_same m a b c d x y s t e f h)
     (λ k. w (subst (Within m) (sym (λ j. stored-num m a b x s e j +ℤ stored-num m c d y t f j)) k))

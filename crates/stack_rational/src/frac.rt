@@ -96,13 +96,15 @@ fn reduced<T: Integer>(num: T, den: T) -> Frac<T>
     made(n, d)
 }
 
-/// The same, where the denominator is a multiple of g and each common divisor divides g: a divisor with g is found sooner.
+/// The same, where the denominator is a multiple of g and each common divisor divides g: a divisor with g is
+/// found sooner.
 fn reduced_by<T: Integer>(num: T, den: T, g: T) -> Frac<T>
     requires num { Within T.MAX (T.value num) }
     requires den { Within T.MAX (T.value den) }
     requires by { Within T.MAX (T.value g) × (pos 0 <ℤ T.value g) }
     requires inner { (pos 0 <ℤ T.value den) × (unsigned_abs (T.value g) ∣ unsigned_abs (T.value den)) }
-    requires outer { (e : ℕ) → e ∣ unsigned_abs (T.value num) → e ∣ unsigned_abs (T.value den) → e ∣ unsigned_abs (T.value g) }
+    requires outer { (e : ℕ) → e ∣ unsigned_abs (T.value num) → e ∣ unsigned_abs (T.value den) →
+        e ∣ unsigned_abs (T.value g) }
     ensures { result ≡ over (T.value num) (T.value den) }
 {
     let h = divisor(num, g);
@@ -300,7 +302,8 @@ impl<T: Integer> Frac<T> {
         }
     }
 
-    /// The least common multiple of a positive number and the denominator, or none where it passes the greatest value.
+    /// The least common multiple of a positive number and the denominator, or none where it passes the greatest
+    /// value.
     pub fn joined(&self, scale: T) -> Option<T>
         requires { Within T.MAX (T.value scale) × (pos 0 <ℤ T.value scale) }
         ensures { Checks T.value (Within T.MAX) (pos (common_multiple (unsigned_abs (T.value scale)) self.now.den)) result }

@@ -1,5 +1,5 @@
-//! The greatest common divisor of numbers without a sign. By remainders until both numbers have 64 bits, and then by halves: a remainder costs many
-//! times what a shift does.
+//! The greatest common divisor of numbers without a sign. By remainders until both numbers have 64 bits, and then
+//! by halves: a remainder costs many times what a shift does.
 
 ghost use Rattle.std.specs.Prelude.{◌≡◌, ◌<◌, ◌%◌, ◌*◌, ◌^◌};
 ghost use Rattle.std.specs.Int.{IsGcd};

@@ -12,8 +12,8 @@ pub fn parts_law()
     ensures { PartsMakeTheNumber }
 {}
 
-/// An answer that isn't refused fits; nothing is refused of 0, 1 and -1; at 128 bits a whole number is refused exactly where
-/// it isn't one of stack_whole.
+/// An answer that isn't refused fits; nothing is refused of 0, 1 and -1; at 128 bits a whole number is refused
+/// exactly where it isn't one of stack_whole.
 pub fn fitting_law()
     ensures answers { AnswersFit }
     ensures small { SmallFits }

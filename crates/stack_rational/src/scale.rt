@@ -13,8 +13,8 @@ pub struct ScaleWide {
     pub index: usize,
 }
 
-/// The least common multiple of the denominators, 1 for the empty list. Refused exactly where the running multiple passes
-/// 2^127 - 1, with the first item at which it does. Takes no memory.
+/// The least common multiple of the denominators, 1 for the empty list. Refused exactly where the running multiple
+/// passes 2^127 - 1, with the first item at which it does. Takes no memory.
 pub fn common_scale(list: &[Frac<i128>]) -> Result<i128, ScaleWide>
     ensures ok { IfOk result (λ n. n ≡ pos (scale_of list.now)) }
     ensures fits { IfOk result (λ n. (k : ℕ) → k ≤ length list.now → scale_of (take k list.now) ≤ greatest_number) }
@@ -30,8 +30,8 @@ pub fn common_scale(list: &[Frac<i128>]) -> Result<i128, ScaleWide>
     Ok(scale)
 }
 
-/// The scale of a list is the least common multiple of its denominators, and a number times a multiple of its denominator is
-/// the whole number that `times_scale` says.
+/// The scale of a list is the least common multiple of its denominators, and a number times a multiple of its
+/// denominator is the whole number that `times_scale` says.
 pub fn scale_law()
     ensures least { ScaleIsLeastMultiple }
     ensures whole { TimesScaleIsWhole }

@@ -1,5 +1,5 @@
--- Whole numbers of 128 bits: a number passes where its size is more than 2^127 - 1, and then it is not made. Here this is said
--- once, for each number that is read, written, tested or computed.
+-- Whole numbers of 128 bits: a number passes where its size is more than 2^127 - 1, and then it is not made.
+-- Here this is said once, for each number that is read, written, tested or computed.
 use Rattle.std.specs.Prelude.{◌≡◌, ℕ, ◌<◌, ◌≤◌, ◌-◌, ◌^◌, ℤ, nat_abs, Bool, nat_lt, Option, Some, None, Result, Ok, Err, if◌then◌else◌}
 use Rattle.stack_whole.specs.declared.whole.Wide.{Wide}
 use Rattle.stack_whole.specs.declared.whole.Whole.{Whole}

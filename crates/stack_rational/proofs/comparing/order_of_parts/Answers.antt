@@ -30,20 +30,24 @@ returns-then-is_less-2 g c = sym (sym c.steps.invariant.1 ∙ cmp-greater _ _ (l
 
 -- neither is, and one rest or both are 0
 pub returns-then-is_zero-2 : goal.returns-then-is_zero-2
-returns-then-is_zero-2 g c = sym (rests _ _ _ _ _ _ _ _ _ _ _ c.steps.invariant.1 c.divided-q.ensures c.divided-p.ensures
+returns-then-is_zero-2 g c = sym
+    (rests _ _ _ _ _ _ _ _ _ _ _ c.steps.invariant.1 c.divided-q.ensures c.divided-p.ensures
     c.is_less.ensures c.if-is_less.false c.is_less-in-steps.ensures c.if-is_less-2.false
     ∙ ends-equal _ _ _ _ ((c.is_zero-then-is_zero.ensures.value g.met.T.Integral.exact_law).0 c.if-is_zero-2.true)
     ((c.is_zero.ensures.value g.met.T.Integral.exact_law).0 c.if-is_zero.true))
 
 pub returns-else-is_zero-2 : goal.returns-else-is_zero-2
-returns-else-is_zero-2 g c = sym (rests _ _ _ _ _ _ _ _ _ _ _ c.steps.invariant.1 c.divided-q.ensures c.divided-p.ensures
+returns-else-is_zero-2 g c = sym
+    (rests _ _ _ _ _ _ _ _ _ _ _ c.steps.invariant.1 c.divided-q.ensures c.divided-p.ensures
     c.is_less.ensures c.if-is_less.false c.is_less-in-steps.ensures c.if-is_less-2.false
     ∙ ends-greater _ _ _ _ c.steps.invariant.0.low_d
-    (above-by _ _ c.divided-q.ensures.low (c.is_zero-then-is_zero.ensures.value g.met.T.Integral.exact_law) c.if-is_zero-2.false)
+    (above-by _ _ c.divided-q.ensures.low
+    (c.is_zero-then-is_zero.ensures.value g.met.T.Integral.exact_law) c.if-is_zero-2.false)
     ((c.is_zero.ensures.value g.met.T.Integral.exact_law).0 c.if-is_zero.true))
 
 pub returns-then-is_zero-3 : goal.returns-then-is_zero-3
-returns-then-is_zero-3 g c = sym (rests _ _ _ _ _ _ _ _ _ _ _ c.steps.invariant.1 c.divided-q.ensures c.divided-p.ensures
+returns-then-is_zero-3 g c = sym
+    (rests _ _ _ _ _ _ _ _ _ _ _ c.steps.invariant.1 c.divided-q.ensures c.divided-p.ensures
     c.is_less.ensures c.if-is_less.false c.is_less-in-steps.ensures c.if-is_less-2.false
     ∙ ends-less _ _ _ _ c.steps.invariant.0.low_b
     ((c.is_zero-in-steps.ensures.value g.met.T.Integral.exact_law).0 c.if-is_zero-3.true)

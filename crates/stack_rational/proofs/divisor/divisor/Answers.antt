@@ -7,33 +7,55 @@ use Rattle.stack_rational.proofs.divisor.divisor.Goals as goal
 
 -- the sizes of both numbers at 128 bits
 size_a : (g : _) (c : goal.In-Some g) → c.unsigned_abs.result ≡ nat_abs (g.T.Number.value c.args.a)
-size_a g c = c.unsigned_abs.ensures.value ∙ ap nat_abs (recast g.T.Integer.MAX c.as_wide.result _ c.as_wide.ensures c.requires.a (g.met.T.Integer.size_law g.met.T.Integral.exact_law).1)
+size_a g c = c.unsigned_abs.ensures.value
+    ∙ ap nat_abs (recast g.T.Integer.MAX c.as_wide.result _ c.as_wide.ensures c.requires.a
+    (g.met.T.Integer.size_law g.met.T.Integral.exact_law).1)
 
 size_b : (g : _) (c : goal.In-Some g) → c.unsigned_abs-2.result ≡ nat_abs (g.T.Number.value c.args.b)
-size_b g c = c.unsigned_abs-2.ensures.value ∙ ap nat_abs (recast g.T.Integer.MAX c.as_wide-2.result _ c.as_wide-2.ensures c.requires.b (g.met.T.Integer.size_law g.met.T.Integral.exact_law).1)
+size_b g c = c.unsigned_abs-2.ensures.value
+    ∙ ap nat_abs (recast g.T.Integer.MAX c.as_wide-2.result _ c.as_wide-2.ensures c.requires.b
+    (g.met.T.Integer.size_law g.met.T.Integral.exact_law).1)
 
 pub returns-in-Some-clause-size : goal.returns-in-Some-clause-size
-returns-in-Some-clause-size g c = some_size g.T.Integer.MAX (g.T.Number.value c.args.a) (g.T.Number.value c.args.b) _ _ _ _ (size_a g c) (size_b g c) c.divisor_of-g.ensures c.requires.a c.requires.b (c.in-Some.ensures.value g.met.T.Integral.exact_law).1
+returns-in-Some-clause-size g c = some_size g.T.Integer.MAX (g.T.Number.value c.args.a)
+    (g.T.Number.value c.args.b) _ _ _ _ (size_a g c)
+    (size_b g c) c.divisor_of-g.ensures c.requires.a c.requires.b
+    (c.in-Some.ensures.value g.met.T.Integral.exact_law).1
 
 pub returns-in-Some-clause-gcd : goal.returns-in-Some-clause-gcd
-returns-in-Some-clause-gcd g c = some_gcd (g.T.Number.value c.args.a) (g.T.Number.value c.args.b) _ _ _ _ (size_a g c) (size_b g c) c.divisor_of-g.ensures (c.in-Some.ensures.value g.met.T.Integral.exact_law).1
+returns-in-Some-clause-gcd g c = some_gcd (g.T.Number.value c.args.a) (g.T.Number.value c.args.b) _ _ _ _
+    (size_a g c) (size_b g c) c.divisor_of-g.ensures (c.in-Some.ensures.value g.met.T.Integral.exact_law).1
 
 size_a-none : (g : _) (c : goal.In-None g) → c.unsigned_abs.result ≡ nat_abs (g.T.Number.value c.args.a)
-size_a-none g c = c.unsigned_abs.ensures.value ∙ ap nat_abs (recast g.T.Integer.MAX c.as_wide.result _ c.as_wide.ensures c.requires.a (g.met.T.Integer.size_law g.met.T.Integral.exact_law).1)
+size_a-none g c = c.unsigned_abs.ensures.value
+    ∙ ap nat_abs (recast g.T.Integer.MAX c.as_wide.result _ c.as_wide.ensures c.requires.a
+    (g.met.T.Integer.size_law g.met.T.Integral.exact_law).1)
 
 size_b-none : (g : _) (c : goal.In-None g) → c.unsigned_abs-2.result ≡ nat_abs (g.T.Number.value c.args.b)
-size_b-none g c = c.unsigned_abs-2.ensures.value ∙ ap nat_abs (recast g.T.Integer.MAX c.as_wide-2.result _ c.as_wide-2.ensures c.requires.b (g.met.T.Integer.size_law g.met.T.Integral.exact_law).1)
+size_b-none g c = c.unsigned_abs-2.ensures.value
+    ∙ ap nat_abs (recast g.T.Integer.MAX c.as_wide-2.result _ c.as_wide-2.ensures c.requires.b
+    (g.met.T.Integer.size_law g.met.T.Integral.exact_law).1)
 
 pub returns-in-None-clause-gcd : goal.returns-in-None-clause-gcd
-returns-in-None-clause-gcd g c = absurd (c.in-None.ensures.value g.met.T.Integral.exact_law (g.met.T.Integer.keeps_law _ (none_fits g.T.Integer.MAX (g.T.Number.value c.args.a) (g.T.Number.value c.args.b) _ _ _ (size_a-none g c) (size_b-none g c) c.divisor_of-g.ensures c.requires.a c.requires.b)))
+returns-in-None-clause-gcd g c = absurd
+    (c.in-None.ensures.value g.met.T.Integral.exact_law
+    (g.met.T.Integer.keeps_law _
+    (none_fits g.T.Integer.MAX (g.T.Number.value c.args.a) (g.T.Number.value c.args.b) _ _ _ (size_a-none g c)
+    (size_b-none g c) c.divisor_of-g.ensures c.requires.a c.requires.b)))
 
 pub returns-in-None-clause-positive : goal.returns-in-None-clause-positive
-returns-in-None-clause-positive g c = absurd (c.in-None.ensures.value g.met.T.Integral.exact_law (g.met.T.Integer.keeps_law _ (none_fits g.T.Integer.MAX (g.T.Number.value c.args.a) (g.T.Number.value c.args.b) _ _ _ (size_a-none g c) (size_b-none g c) c.divisor_of-g.ensures c.requires.a c.requires.b)))
+returns-in-None-clause-positive g c = absurd
+    (c.in-None.ensures.value g.met.T.Integral.exact_law
+    (g.met.T.Integer.keeps_law _
+    (none_fits g.T.Integer.MAX (g.T.Number.value c.args.a) (g.T.Number.value c.args.b) _ _ _ (size_a-none g c)
+    (size_b-none g c) c.divisor_of-g.ensures c.requires.a c.requires.b)))
 
 pub returns-then-is_one-clause-gcd : goal.returns-then-is_one-clause-gcd
-returns-then-is_one-clause-gcd g c = one_gcd (g.T.Number.value c.args.a) (g.T.Number.value c.args.b) ((c.is_one.ensures.value g.met.T.Integral.exact_law).0 c.if-is_one.true)
+returns-then-is_one-clause-gcd g c = one_gcd (g.T.Number.value c.args.a) (g.T.Number.value c.args.b)
+    ((c.is_one.ensures.value g.met.T.Integral.exact_law).0 c.if-is_one.true)
 
 pub returns-then-is_one-2-clause-gcd : goal.returns-then-is_one-2-clause-gcd
-returns-then-is_one-2-clause-gcd g c = IsGcd-swap (nat_abs (g.T.Number.value c.args.b)) (nat_abs (g.T.Number.value c.args.a)) _
+returns-then-is_one-2-clause-gcd g c = IsGcd-swap (nat_abs (g.T.Number.value c.args.b))
+    (nat_abs (g.T.Number.value c.args.a)) _
     (one_gcd (g.T.Number.value c.args.b) (g.T.Number.value c.args.a)
     ((c.is_one-2.ensures.value g.met.T.Integral.exact_law).0 c.if-is_one-2.true))

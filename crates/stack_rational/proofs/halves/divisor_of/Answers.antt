@@ -11,4 +11,5 @@ pub steps-preserved : goal.steps-preserved
 steps-preserved c = λ n is. c.steps.invariant n (IsGcd-from_mod c.steps.x c.steps.y n is)
 
 pub returns : goal.returns
-returns c = c.steps.invariant c.from-2.result (subst (λ (n : ℕ). IsGcd c.steps.x c.steps.y n) (sym c.from-2.ensures) c.divisor_of_words.ensures)
+returns c = c.steps.invariant c.from-2.result
+    (subst (λ (n : ℕ). IsGcd c.steps.x c.steps.y n) (sym c.from-2.ensures) c.divisor_of_words.ensures)

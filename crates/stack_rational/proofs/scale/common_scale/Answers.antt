@@ -8,8 +8,10 @@ pub joined-requires : goal.joined-requires
 joined-requires c = running_within _ _ _ c.loop-index.invariant
 
 pub returns-in-None-clause-wide : goal.returns-in-None-clause-wide
-returns-in-None-clause-wide c = running_out _ _ c.index-list-index.result _ c.loop-index-test.true c.index-list-index.is c.loop-index.invariant c.in-None.ensures
+returns-in-None-clause-wide c = running_out _ _ c.index-list-index.result _ c.loop-index-test.true
+    c.index-list-index.is c.loop-index.invariant c.in-None.ensures
 
 pub loop-index-preserved : goal.loop-index-preserved
-loop-index-preserved c = running_more _ _ c.index-list-index.result _ _ c.loop-index-test.true c.index-list-index.is c.loop-index.invariant c.in-Some.ensures.0
+loop-index-preserved c = running_more _ _ c.index-list-index.result _ _ c.loop-index-test.true
+    c.index-list-index.is c.loop-index.invariant c.in-Some.ensures.0
     (held _ c.in-Some.next c.in-Some.ensures.0 c.in-Some.ensures.1)

@@ -8,11 +8,13 @@ returns-in_default-clause-err g c = λ f. c.in_default.ensures ((sum c.self.inva
     c.self.view_is c.other.view_is c.shared.ensures).at f).den
 
 pub returns-in_default-times-clause-err : goal.returns-in_default-times-clause-err
-returns-in_default-times-clause-err g c = λ f. c.in_default-times.ensures ((sum c.self.invariant.stored c.other.invariant.stored
+returns-in_default-times-clause-err g c = λ f. c.in_default-times.ensures
+    ((sum c.self.invariant.stored c.other.invariant.stored
     c.self.view_is c.other.view_is c.shared.ensures).at f).left
 
 pub returns-in_default-times-2-clause-err : goal.returns-in_default-times-2-clause-err
-returns-in_default-times-2-clause-err g c = λ f. c.in_default-times-2.ensures ((sum c.self.invariant.stored c.other.invariant.stored
+returns-in_default-times-2-clause-err g c = λ f. c.in_default-times-2.ensures
+    ((sum c.self.invariant.stored c.other.invariant.stored
     c.self.view_is c.other.view_is c.shared.ensures).at f).right
 
 pub returns-in_default-plus-clause-err : goal.returns-in_default-plus-clause-err
