@@ -1,5 +1,6 @@
 -- The free blocks are the bodies that aren't fixed, each of them and no other, and their numbers tell them.
-use Rattle.std.proofs.Common.{◌≡◌, refl, sym, ap, subst, ◌∙◌, ℕ, zero, suc, ◌+◌, ◌<◌, ◌≤◌, Bool, true, false, not, cond}
+use Rattle.std.proofs.Common.{◌≡◌, refl, sym, ap, subst, ◌∙◌, ℕ, zero, suc, ◌+◌, ◌<◌, Bool, true}
+use Rattle.std.proofs.Common.{false, not, cond}
 use Rattle.std.proofs.Common.{List, [], ◌∷◌, length, get_or, drop, arith}
 use Rattle.std.proofs.lemmas.List.Sums.{sum_by-cons}
 use Rattle.std.specs.Bool.{if◌then◌else◌}
@@ -123,7 +124,8 @@ found_at (b ∷ bs) k zero l h = go b.fixed h
 found_at (b ∷ bs) k (suc i) l h = go b.fixed (found_at bs (k + 1) i (omega arith) h)
   where
     go : (f : Bool) → get_or (frees_from (k + 1) bs) (counted bs i) 0 ≡ k + 1 + i →
-        get_or (if f then frees_from (k + 1) bs else k ∷ frees_from (k + 1) bs) (cond (not f) 1 0 + counted bs i) 0
+        get_or (if f then frees_from (k + 1) bs else k ∷ frees_from (k + 1) bs)
+        (cond (not f) 1 0 + counted bs i) 0
         ≡ k + suc i
     go true e = ap (λ n. get_or (frees_from (k + 1) bs) n 0) (from_zero (counted bs i)) ∙ e ∙ shifted k i
       where
@@ -212,7 +214,8 @@ pub first_from : (bs : List NamedBody) (k i : ℕ) → i < length bs → (body_a
 first_from [] k i l h = absurd (omega arith)
 first_from (b ∷ bs) k zero l h = go b.fixed h
   where
-    go : (f : Bool) → f ≡ false → get_or (if f then frees_from (k + 1) bs else k ∷ frees_from (k + 1) bs) 0 0 ≡ k
+    go : (f : Bool) → f ≡ false →
+        get_or (if f then frees_from (k + 1) bs else k ∷ frees_from (k + 1) bs) 0 0 ≡ k
     go true e = absurd (cc)
     go false e = refl
 first_from (b ∷ bs) k (suc i) l h = first_from bs k i (omega arith) h

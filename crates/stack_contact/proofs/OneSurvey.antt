@@ -6,7 +6,7 @@ use Prim.Native.Nat.{ℕ, zero, suc, ◌<◌, ◌≤◌}
 use native.Mathlib.Omega.{arith}
 use lib.IntN.{ℤ, pos, ◌*ℤ◌}
 use lib.ListN.{length}
-use Rattle.std.specs.Prelude.{Some, slice_get, Result, Ok, Err}
+use Rattle.std.specs.Prelude.{Some, slice_get, Ok, Err}
 use Rattle.std.proofs.lemmas.Int.{ints}
 use Rattle.stack_polygon.specs.declared.point.Point.{Point}
 use Rattle.stack_polygon.specs.Plane.{IsAt}
@@ -14,12 +14,11 @@ use Rattle.stack_overlap.proofs.Identities.{place}
 use Rattle.stack_model.specs.Structure.{Structure}
 use Rattle.stack_contact.specs.declared.types.Bearing.{Bearing}
 use Rattle.stack_contact.specs.declared.types.Touch.{Touch}
-use Rattle.stack_contact.specs.declared.types.SurveyError.{SurveyError}
 use Rattle.stack_contact.specs.declared.types.SurveyError.TheVariants.{Overlap, TooManyBearings, Memory}
 use Rattle.stack_contact.specs.ContactLists.{friction_between, PairBefore, AreBearings, AreTouches}
-use Rattle.stack_contact.specs.Surveyed.{Surveyed, Surveys, IsFirstOverlap, AreTooMany}
+use Rattle.stack_contact.specs.Surveyed.{IsFirstOverlap}
 use Rattle.stack_contact.specs.OneSurvey.{StructuresHaveOneSurvey}
-use Rattle.stack_contact.proofs.SameLists.{Within, same-list, never-both-pairs}
+use Rattle.stack_contact.proofs.SameLists.{same-list}
 
 place-at : (c : Point) → IsAt (place c) c
 place-at c = record { x = one c.x; y = one c.y }

@@ -2,8 +2,8 @@
 
 ghost use Rattle.stack_contact.specs.OneSurvey.{StructuresHaveOneSurvey};
 
-/// A structure has one survey: two answers to it are the same, unless memory was wanting. So it has a survey, or
-/// its first overlap, or too many bearings, and no two of these.
+/// A structure has one survey: two answers to it are the same, unless memory was wanting. So it has a survey,
+/// or its first overlap, or too many bearings, and no two of these.
 pub fn one_survey()
     ensures { StructuresHaveOneSurvey }
 {}

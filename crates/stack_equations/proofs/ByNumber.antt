@@ -6,7 +6,8 @@ use Rattle.stack_equilibrium.specs.Scene.{Scene, IsProper}
 use Rattle.stack_equilibrium.specs.Certificates.{IsTrueLoaded}
 use Rattle.stack_equations.specs.Edges.{Amounts}
 use Rattle.stack_equations.specs.Equations.{IsSolution, forces_from}
-use Rattle.stack_equations.specs.ByNumber.{dead_on, live_on, StandsBySolution, CollapsesByMoves, GreatestByBoth, UnboundedBySolutions}
+use Rattle.stack_equations.specs.ByNumber.{dead_on, live_on, StandsBySolution, CollapsesByMoves}
+use Rattle.stack_equations.specs.ByNumber.{GreatestByBoth, UnboundedBySolutions}
 use Rattle.stack_equations.proofs.Solutions.{solutions_are_forces}
 use Rattle.stack_equations.proofs.Moves.{powers_are_by_number, unopposed_moves_are_motions}
 
@@ -23,8 +24,8 @@ collapses_by_moves s y proper h gains = record {
   gains = subst (λ t. pos 0 ≺ t) (powers_are_by_number s y (dead_on s)) gains;
 }
 
-loaded : (s : Scene) (scale factor : ℤ) (x : Amounts) → IsProper s → IsSolution s scale factor x → pos 0 ≺ scale →
-    pos 0 ≼ factor → IsTrueLoaded s (forces_from s scale factor x)
+loaded : (s : Scene) (scale factor : ℤ) (x : Amounts) → IsProper s → IsSolution s scale factor x →
+    pos 0 ≺ scale → pos 0 ≼ factor → IsTrueLoaded s (forces_from s scale factor x)
 loaded s scale factor x proper h p n = record {
   scale_positive = p;
   factor_nonneg = n;

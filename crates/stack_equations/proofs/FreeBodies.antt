@@ -1,5 +1,6 @@
 -- The free bodies of a scene by their numbers, and sums over them.
-use Rattle.std.proofs.Common.{◌≡◌, refl, sym, ap, ◌∙◌, ℕ, zero, suc, ◌+◌, ◌<◌, Bool, true, false, not, cond, ◌&&◌, eqb, arith}
+use Rattle.std.proofs.Common.{◌≡◌, refl, sym, ap, ◌∙◌, ℕ, zero, suc, ◌+◌, ◌<◌, Bool, true, false, not}
+use Rattle.std.proofs.Common.{cond, ◌&&◌, eqb, arith}
 use Rattle.std.proofs.lemmas.Bool.{eq-eqb}
 use native.Mathlib.Decide.{ℕ_discrete}
 use lib.Dec.{T, eqb→eq}
@@ -14,7 +15,8 @@ use Rattle.stack_equilibrium.specs.SurveyScene.{scene_of}
 use Rattle.stack_equilibrium.proofs.FreeNumbers.{before_is, all_before}
 use Rattle.stack_contact.specs.FreeBlocks.{free_of}
 use Rattle.stack_contact.proofs.Frees.{free_block}
-use Rattle.stack_equations.specs.FreeBodies.{free_below, free_at, FreeBodiesAreFound, FreeNumbersAreThoseOfSurveys}
+use Rattle.stack_equations.specs.FreeBodies.{free_below, free_at, FreeBodiesAreFound}
+use Rattle.stack_equations.specs.FreeBodies.{FreeNumbersAreThoseOfSurveys}
 
 pub eqb-other : (a b : ℕ) → (a ≡ b → ⊥) → eqb a b ≡ false
 eqb-other a b d = go (eqb a b) (eqb→eq a b)
@@ -38,7 +40,8 @@ module _ (s : Scene) where
 
       go : Dec (i ≡ n) → (i < n → (s.body i).free ≡ true → free_before s i < free_before s n) →
           free_before s i < free_before s n + cond (s.body n).free 1 0
-      go (yes e) r = let h : free_before s i + cond (s.body i).free 1 0 ≡ free_before s n + cond (s.body n).free 1 0 =
+      go (yes e) r =
+          let h : free_before s i + cond (s.body i).free 1 0 ≡ free_before s n + cond (s.body n).free 1 0 =
           ap (λ k. free_before s k + cond (s.body k).free 1 0) e in omega (arith, one, h)
       go (no d) r = more (s.body n).free (r (omega (arith, l, d)) f)
 
@@ -85,7 +88,8 @@ module _ (s : Scene) where
       go true r = sum_more integers (free_before s n) _
           ∙ (λ j. sum_same integers (free_before s n)
           (λ b. h b (cond (eqb b (free_before s n)) n (free_below s n b))) (λ b. h b (free_below s n b))
-          (λ b l i. h b (cond (eqb-other b (free_before s n) (λ p. omega (arith, p, l)) i) n (free_below s n b)))
+          (λ b l i. h b (cond (eqb-other b (free_before s n) (λ p. omega (arith, p, l)) i) n
+          (free_below s n b)))
           j +ℤ h (free_before s n) (at_end j))
           ∙ ap (λ z. z +ℤ h (free_before s n) n) r
       go false r = (let e : free_before s n + 0 ≡ free_before s n = omega arith in

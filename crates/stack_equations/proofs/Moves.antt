@@ -15,7 +15,8 @@ use Rattle.stack_equilibrium.specs.Certificates.{still, free_before, move_of}
 use Rattle.stack_equilibrium.proofs.BearingWork.{exerted_power}
 use Rattle.stack_equations.specs.FreeBodies.{free_count}
 use Rattle.stack_equations.specs.Edges.{edge_on}
-use Rattle.stack_equations.specs.MovesByNumber.{moves_from, power_by, PowersAreByNumber, UnopposedMovesAreMotions}
+use Rattle.stack_equations.specs.MovesByNumber.{moves_from, power_by, PowersAreByNumber}
+use Rattle.stack_equations.specs.MovesByNumber.{UnopposedMovesAreMotions}
 use Rattle.stack_equations.proofs.FreeBodies.{before_less, over_free}
 
 at_rest : (x y m : ℤ) → pos 0 ≡ pos 0 *ℤ x +ℤ pos 0 *ℤ y +ℤ pos 0 *ℤ m

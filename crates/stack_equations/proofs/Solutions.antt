@@ -6,7 +6,8 @@ use Rattle.stack_algebra.proofs.IntegerRing.{integers}
 use Rattle.stack_algebra.proofs.Sums.{sum_same}
 use Rattle.stack_algebra.proofs.Listed.{length_listed, listed_item}
 use Rattle.stack_equilibrium.specs.Scene.{Part, Bearing, Scene, IsProper}
-use Rattle.stack_equilibrium.specs.Balance.{force_x_of, force_y_of, moment_of, side_of, IsWithinCone, IsAdmissible, IsBalanced}
+use Rattle.stack_equilibrium.specs.Balance.{force_x_of, force_y_of, moment_of, side_of, IsWithinCone}
+use Rattle.stack_equilibrium.specs.Balance.{IsAdmissible, IsBalanced}
 use Rattle.stack_equilibrium.specs.Certificates.{part_of, free_before}
 use Rattle.stack_equations.specs.Edges.{Amounts, part_from}
 use Rattle.stack_equations.specs.Equations.{IsSolvedAt, IsSolution, forces_from, SolutionsAreForces}

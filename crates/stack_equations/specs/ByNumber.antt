@@ -20,8 +20,8 @@ StandsBySolution = (s : Scene) (scale : ℤ) (x : Amounts) → IsProper s → Is
     pos 0 ≺ scale → IsTrueStands s (forces_from s scale (pos 0) x)
 
 abbrev pub CollapsesByMoves : Type 0
-CollapsesByMoves = (s : Scene) (y : ℕ → Move) → IsProper s → AreUnopposed s y → pos 0 ≺ power_by s y (dead_on s) →
-    IsTrueCollapse s (moves_from s y)
+CollapsesByMoves = (s : Scene) (y : ℕ → Move) → IsProper s → AreUnopposed s y →
+    pos 0 ≺ power_by s y (dead_on s) → IsTrueCollapse s (moves_from s y)
 
 -- the moves bound the factor that the solution carries: both meet
 abbrev pub GreatestByBoth : Type 0

@@ -4,7 +4,8 @@ use Rattle.stack_algebra.specs.Sums.{sum_to}
 use Rattle.stack_algebra.specs.IntegerOrder.{◌≼◌}
 use Rattle.stack_equilibrium.specs.declared.types.Wrench.{Wrench}
 use Rattle.stack_equilibrium.specs.Scene.{Bearing, Part, Scene, IsProper}
-use Rattle.stack_equilibrium.specs.Balance.{side_of, force_x_of, force_y_of, moment_of, edge_of_cone, exerted_on, IsAdmissible}
+use Rattle.stack_equilibrium.specs.Balance.{side_of, force_x_of, force_y_of, moment_of, edge_of_cone}
+use Rattle.stack_equilibrium.specs.Balance.{exerted_on, IsAdmissible}
 
 -- an amount of each edge at each bearing
 pub record Amounts : Type 0 where

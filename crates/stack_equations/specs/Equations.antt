@@ -8,8 +8,10 @@ use Rattle.stack_equations.specs.Edges.{Amounts, ArePushes, edges_sum, part_from
 
 -- the equations of body i, with scale times its dead loads and factor times its live loads
 pub record IsSolvedAt (s : Scene) (scale factor : ℤ) (x : Amounts) (i : ℕ) : Type 0 where
-  pub along_x : edges_sum (λ w. w.fx) s x i +ℤ scale *ℤ (s.body i).dead.fx +ℤ factor *ℤ (s.body i).live.fx ≡ pos 0
-  pub along_y : edges_sum (λ w. w.fy) s x i +ℤ scale *ℤ (s.body i).dead.fy +ℤ factor *ℤ (s.body i).live.fy ≡ pos 0
+  pub along_x : edges_sum (λ w. w.fx) s x i +ℤ scale *ℤ (s.body i).dead.fx +ℤ factor *ℤ (s.body i).live.fx
+      ≡ pos 0
+  pub along_y : edges_sum (λ w. w.fy) s x i +ℤ scale *ℤ (s.body i).dead.fy +ℤ factor *ℤ (s.body i).live.fy
+      ≡ pos 0
   pub about : edges_sum (λ w. w.m) s x i +ℤ scale *ℤ (s.body i).dead.m +ℤ factor *ℤ (s.body i).live.m ≡ pos 0
 
 -- those of each number of a free body, in amounts that aren't negative

@@ -4,7 +4,8 @@ ghost use Rattle.stack_equations.specs.FreeBodies.{FreeBodiesAreFound, FreeNumbe
 ghost use Rattle.stack_equations.specs.Edges.{EdgesExertTheirPart, PartsBetweenEdgesAreAdmissible};
 ghost use Rattle.stack_equations.specs.Equations.{SolutionsAreForces};
 ghost use Rattle.stack_equations.specs.MovesByNumber.{PowersAreByNumber, UnopposedMovesAreMotions};
-ghost use Rattle.stack_equations.specs.ByNumber.{StandsBySolution, CollapsesByMoves, GreatestByBoth, UnboundedBySolutions};
+ghost use Rattle.stack_equations.specs.ByNumber.{StandsBySolution, CollapsesByMoves, GreatestByBoth};
+ghost use Rattle.stack_equations.specs.ByNumber.{UnboundedBySolutions};
 
 /// The free body with a number is the free block of a survey with this number, and each free body has one.
 pub fn free_body_laws()
@@ -12,22 +13,22 @@ pub fn free_body_laws()
     ensures surveys { FreeNumbersAreThoseOfSurveys }
 {}
 
-/// Amounts of the two edges of each bearing's cone exert what one part exerts, which lies in the cone where neither
-/// amount is negative.
+/// Amounts of the two edges of each bearing's cone exert what one part exerts, which lies in the cone where
+/// neither amount is negative.
 pub fn edge_laws()
     ensures exert { EdgesExertTheirPart }
     ensures admissible { PartsBetweenEdgesAreAdmissible }
 {}
 
-/// A move for each number of a free body is a motion; its powers are sums over these numbers, and where it gains no
-/// negative power from an edge, no admissible force resists it.
+/// A move for each number of a free body is a motion; its powers are sums over these numbers, and where it
+/// gains no negative power from an edge, no admissible force resists it.
 pub fn motion_laws()
     ensures powers { PowersAreByNumber }
     ensures unresisted { UnopposedMovesAreMotions }
 {}
 
-/// What solves the equations of all free bodies is balanced forces; with moves that no edge opposes it makes each of
-/// the four certificates true. After Livesley (1978).
+/// What solves the equations of all free bodies is balanced forces; with moves that no edge opposes it makes
+/// each of the four certificates true. After Livesley (1978).
 pub fn certificate_laws()
     ensures forces { SolutionsAreForces }
     ensures stands { StandsBySolution }

@@ -12,8 +12,10 @@ use Rattle.stack_algebra.proofs.Ring.{ring3, num, ◌⊕◌, ◌⊗◌}
 use Rattle.stack_algebra.proofs.IntegerRing.{integers}
 use Rattle.stack_algebra.proofs.Sums.{sum_same, sum_zero, sum_add, sum_scale, sum_swap}
 use Rattle.stack_equilibrium.specs.Scene.{Move, Part, Body, Scene, IsProper}
-use Rattle.stack_equilibrium.specs.Balance.{force_x_of, force_y_of, moment_of, side_of, exerted_on, sum_x_of, sum_y_of, sum_m_of, IsBalanced, IsAdmissible}
-use Rattle.stack_equilibrium.specs.Motions.{opening_of, slide_of, power_of, dead_power_of, live_power_of, KeepsFixedStill, IsUnresisted}
+use Rattle.stack_equilibrium.specs.Balance.{force_x_of, force_y_of, moment_of, side_of, exerted_on}
+use Rattle.stack_equilibrium.specs.Balance.{sum_x_of, sum_y_of, sum_m_of, IsBalanced, IsAdmissible}
+use Rattle.stack_equilibrium.specs.Motions.{opening_of, slide_of, power_of, dead_power_of, live_power_of}
+use Rattle.stack_equilibrium.specs.Motions.{KeepsFixedStill, IsUnresisted}
 use Rattle.stack_equilibrium.specs.Laws.{VirtualWorkIsZero}
 use Rattle.stack_equilibrium.proofs.BearingWork.{exerted_power}
 

@@ -8,10 +8,12 @@ use Rattle.stack_algebra.specs.Sums.{sum_to}
 use Rattle.stack_algebra.specs.IntegerOrder.{◌≼◌, ◌≺◌}
 use Rattle.stack_equilibrium.specs.Scene.{Part, Move, Bearing, Scene, IsProperBearing, IsProper}
 use Rattle.stack_equilibrium.specs.Balance.{exerted_on, IsBalanced, Carries}
-use Rattle.stack_equilibrium.specs.Motions.{opening_of, slide_of, KeepsFixedStill, power_of, dead_power_of, live_power_of}
+use Rattle.stack_equilibrium.specs.Motions.{opening_of, slide_of, KeepsFixedStill, power_of, dead_power_of}
+use Rattle.stack_equilibrium.specs.Motions.{live_power_of}
 use Rattle.stack_polygon.specs.declared.point.Point.{Point}
 use Rattle.stack_equilibrium.specs.Loads.{weight_of, moved}
-use Rattle.stack_equilibrium.specs.Certificates.{Forces, IsTrueStands, IsTrueCollapse, IsTrueGreatest, IsTrueUnbounded}
+use Rattle.stack_equilibrium.specs.Certificates.{Forces, IsTrueStands, IsTrueCollapse, IsTrueGreatest}
+use Rattle.stack_equilibrium.specs.Certificates.{IsTrueUnbounded}
 
 -- balanced forces do no work on any motion of the free bodies: that of the bearings' forces and of the loads
 -- adds up to 0
@@ -21,11 +23,12 @@ VirtualWorkIsZero = (s : Scene) (f : ℕ → Part) (scale factor : ℤ) (y : ℕ
     sum_to s.bearings (λ k. (f k).a *ℤ opening_of s y (s.bearing k) +ℤ (f k).b *ℤ slide_of s y (s.bearing k))
     +ℤ scale *ℤ dead_power_of s y +ℤ factor *ℤ live_power_of s y ≡ pos 0
 
--- the force of a part does on a motion of both bodies of its bearing what a does on the opening and b on the slide,
--- whether forces balance or not
+-- the force of a part does on a motion of both bodies of its bearing what a does on the opening and b on the
+-- slide, whether forces balance or not
 abbrev pub BearingsWork : Type 0
 BearingsWork = (s : Scene) (y : ℕ → Move) (z : Bearing) (f : Part) → IsProperBearing s z →
-    sum_to s.bodies (λ i. power_of (exerted_on s i z f) (y i)) ≡ f.a *ℤ opening_of s y z +ℤ f.b *ℤ slide_of s y z
+    sum_to s.bodies (λ i. power_of (exerted_on s i z f) (y i))
+    ≡ f.a *ℤ opening_of s y z +ℤ f.b *ℤ slide_of s y z
 
 -- what stands is carried
 abbrev pub StandsIsCarried : Type 0

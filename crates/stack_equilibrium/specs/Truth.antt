@@ -1,5 +1,5 @@
--- When a certificate is true of a survey, and which question it answers. Nothing here speaks of how it is found or
--- checked.
+-- When a certificate is true of a survey, and which question it answers. Nothing here speaks of how it is
+-- found or checked.
 use Rattle.std.specs.Prelude.{⊤}
 use Rattle.stack_contact.specs.Surveyed.{Surveyed}
 use Rattle.stack_certificate.specs.Certificate.{CertificateValue, stands, collapses, greatest, unbounded}
@@ -19,8 +19,8 @@ held (unbounded base ray) = statics.unbounded (forces_of base) (forces_of ray)
 abbrev pub IsTrueCertificate : Surveyed → CertificateValue → Type 0
 IsTrueCertificate s c = statics.Certifies (scene_of s) (held c)
 
--- whether the dead loads stand is answered by forces or by a collapse; how far the live loads can be raised, by a
--- collapse, by a greatest factor or by factors without end
+-- whether the dead loads stand is answered by forces or by a collapse; how far the live loads can be raised,
+-- by a collapse, by a greatest factor or by factors without end
 abbrev pub IsOfQuestion : Question → CertificateValue → Type 0
 IsOfQuestion Dead (stands f) = ⊤
 IsOfQuestion Dead (collapses y) = ⊤

@@ -1,6 +1,7 @@
 -- Names that are each new where they come are different, and bodies that come where there is room are few.
-use Rattle.std.proofs.Common.{◌≡◌, refl, sym, ap, ◌∙◌, subst, ℕ, ◌+◌, ◌<◌, ◌≤◌, Bool, true, false, not, cond, inl, inr}
-use Rattle.std.proofs.Common.{List, [], ◌∷◌, ◌++◌, map, length, get_or, arith}
+use Rattle.std.proofs.Common.{◌≡◌, sym, ◌∙◌, subst, ℕ, ◌+◌, ◌<◌, ◌≤◌, Bool, true, false, not}
+use Rattle.std.proofs.Common.{cond, inl, inr}
+use Rattle.std.proofs.Common.{List, [], ◌∷◌, ◌++◌, length, get_or, arith}
 use Rattle.std.specs.Prelude.{count_by}
 use Rattle.std.proofs.lemmas.Bool.{cases_lt}
 use Rattle.std.specs.Str.{bytes_eq}
@@ -38,7 +39,8 @@ one_more_name names name new different i j lt within = elim (cases_lt j (length 
     left k l = get_or_append_left names (name ∷ []) [] k l
 
     at_end : (k : ℕ) → k ≡ length names → get_or (names ++ name ∷ []) k [] ≡ name
-    at_end k e = subst (λ n. get_or (names ++ name ∷ []) n [] ≡ name) (sym e) (get_or-append_seam names name [] [])
+    at_end k e = subst (λ n. get_or (names ++ name ∷ []) n [] ≡ name) (sym e)
+        (get_or-append_seam names name [] [])
 
 -- the names of one more material, and of one more body
 pub one_more_material : (ms : List NamedMaterial) (m : NamedMaterial) → is_new m.name (material_names ms) ≡ true

@@ -1,5 +1,5 @@
--- A list that grows by one item a step: what each item has, what the list keeps at each step, and that the list,
--- listed again, grows the same.
+-- A list that grows by one item a step: what each item has, what the list keeps at each step, and that the
+-- list, listed again, grows the same.
 use Rattle.std.proofs.Common.{◌≡◌, ℕ, zero, suc, ◌+◌, List, [], ◌∷◌, ◌++◌, map, length, Result, Ok, Err, refl}
 use Rattle.std.proofs.Common.{ap, ◌∙◌, subst, arith, append_assoc}
 use Rattle.std.proofs.lemmas.List.{append-nil}
@@ -54,7 +54,14 @@ module _ {X P : Type 0} (f : ℕ → List X → P → Result (List X) ModelError
       → Grows f Q I back i (length ps) xs ys
   grows adds i xs [] ys h =
       let same : xs ≡ ys = cc in
-      record { items = []; is = append-nil xs ∙ same; count = refl; keeps = none Q; stays = subst I same; again = h }
+      record {
+        items = [];
+        is = append-nil xs ∙ same;
+        count = refl;
+        keeps = none Q;
+        stays = subst I same;
+        again = h;
+      }
   grows adds i xs (p ∷ ps) ys h =
       let one = went (f i xs p) (λ b. steps f (i + 1) b ps) ys h in
       let a = adds i xs p one.0 one.1.0 in

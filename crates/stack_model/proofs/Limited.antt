@@ -12,7 +12,8 @@ use Rattle.stack_algebra.proofs.Order.{◌≼◌}
 use Rattle.stack_polygon.specs.declared.point.Point.{Point}
 use Rattle.stack_polygon.specs.Limits.{IsInRange}
 use Rattle.stack_polygon.proofs.Ranges.{in_range}
-use Rattle.stack_model.specs.Limits.{IsName, is_name, is_name_byte, is_between, friction_of, point_of, live_of, force_of}
+use Rattle.stack_model.specs.Limits.{IsName, is_name, is_name_byte, is_between, friction_of, point_of}
+use Rattle.stack_model.specs.Limits.{live_of, force_of}
 use Rattle.stack_model.specs.Content.{number_of}
 use Rattle.stack_model.specs.Relisted.{coordinates, kind_of}
 use Rattle.stack_model.proofs.Points.{point_taken, point_again}

@@ -46,8 +46,8 @@ body_of s i = body_at s.bodies i
 abbrev pub load_of : Structure → ℕ → Load
 load_of s i = get_or s.loads i (record { body = 0; live = false; at = origin; fx = pos 0; fy = pos 0 })
 
--- The limits of every model.
--- a name of 1 to 32 letters, digits, `_` and `-`, weight from 0 to 1,000,000, p from 0 to 1,000, q from 1 to 1,000
+-- The limits of every model. a name of 1 to 32 letters, digits, `_` and `-`, weight from 0 to 1,000,000, p
+-- from 0 to 1,000, q from 1 to 1,000
 pub record IsWithinLimits (m : NamedMaterial) : Type 0 where
   pub named : IsName m.name
   pub least_weight : pos 0 ≼ m.weight

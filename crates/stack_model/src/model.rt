@@ -4,7 +4,8 @@ ghost use Rattle.std.specs.Prelude.{◌≡◌, ◌↔◌, ◌<◌, ◌≤◌, Is
 ghost use Rattle.std.specs.List.{list_any};
 ghost use Rattle.stack_polygon.specs.Limits.{IsPolygon};
 ghost use Rattle.stack_model.specs.Limits.{most_materials, most_blocks, most_loads};
-ghost use Rattle.stack_model.specs.Structure.{listed, material_of, body_of, load_of, IsWithinLimits, IsCarried, HasLive};
+ghost use Rattle.stack_model.specs.Structure.{listed, material_of, body_of, load_of, IsWithinLimits};
+ghost use Rattle.stack_model.specs.Structure.{IsCarried, HasLive};
 ghost use Rattle.stack_model.specs.Sound.{IsSound};
 ghost use Rattle.stack_model.specs.Kept.{material_view, body_view, material_alone, body_alone};
 ghost use Rattle.stack_model.specs.ModelView.{model_view};

@@ -1,4 +1,4 @@
-use Rattle.std.proofs.Common.{◌≤◌, ap, subst, length, arith}
+use Rattle.std.proofs.Common.{ap, subst, arith}
 use Rattle.stack_model.specs.Sound.{IsSound}
 use Rattle.stack_contact.specs.Surveyed.{Surveyed}
 use Rattle.stack_contact.proofs.Frees.{as_many}
