@@ -1,0 +1,4 @@
+pub mod SurveyEntries
+mod GrowingEntries
+mod PosedParts
+mod WholeProblem

@@ -1,0 +1,4 @@
+pub mod Posed
+pub mod PosedSurvey
+pub mod Entries
+pub mod Columns
