@@ -1,0 +1,3 @@
+pub mod Wholes
+pub mod ScaledLists
+pub mod WholeEnds

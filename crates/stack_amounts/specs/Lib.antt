@@ -1,0 +1,4 @@
+pub mod WrittenLists
+pub mod WholeLists
+pub mod WholeBalance
+pub mod WholeEnds

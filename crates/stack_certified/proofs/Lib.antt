@@ -1,0 +1,2 @@
+pub mod PosedSums
+pub mod EndCertificates
