@@ -1,0 +1,3 @@
+mod MadeWider
+mod TableReads
+mod WrittenPlaces
