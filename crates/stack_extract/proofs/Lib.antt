@@ -1,3 +1,4 @@
 mod MadeWider
 mod TableReads
 mod WrittenPlaces
+mod PartPlaces
