@@ -37,6 +37,10 @@ abbrev pub Tells : ExtractError → Option ExtractPlace → Type 0
 Tells (TooWide p) o = o ≡ Some p
 Tells Memory o = ⊤
 
+-- the sum of a bearing's two amounts, q times it and p times their difference fit
+abbrev pub part_fits : Bearing → ℤ → ℤ → Bool
+part_fits z w v = fits (w +ℤ v) && (fits (z.cone.q *ℤ (w +ℤ v)) && fits (z.cone.p *ℤ (w -ℤ v)))
+
 module _ (l : Numbers) where
   -- the common scale of the items up to item i passes
   abbrev pub scale_spot : List Fraction → ℕ → Option ExtractPlace
@@ -55,10 +59,6 @@ module _ (l : Numbers) where
     pub fits : list_place xs ≡ None
     pub scale_is : scale ≡ pos (scale_of xs)
     pub numbers : zs ≡ whole_list xs
-
-  -- the sum of a bearing's two amounts, q times it and p times their difference fit
-  abbrev pub part_fits : Bearing → ℤ → ℤ → Bool
-  part_fits z w v = fits (w +ℤ v) && (fits (z.cone.q *ℤ (w +ℤ v)) && fits (z.cone.p *ℤ (w -ℤ v)))
 
   -- one of them passes at bearing k
   abbrev pub part_spot : List Bearing → List ℤ → ℕ → Option ExtractPlace
