@@ -2,3 +2,4 @@ mod MadeWider
 mod TableReads
 mod WrittenPlaces
 mod PartPlaces
+mod Made
