@@ -35,7 +35,8 @@ use Rattle.stack_simplex.specs.Ends.{ended_as, last_of}
 use Rattle.stack_amounts.specs.WrittenLists.{forces_list, ray_list, bound_list, collapse_list}
 use Rattle.stack_amounts.specs.WrittenLists.{forces_number, ray_number, bound_number, collapse_number}
 use Rattle.stack_amounts.specs.WholeLists.{whole_list, amount, NonePulls}
-use Rattle.stack_certified.specs.Certified.{forces_value, pair_at, triple_at}
+use Rattle.stack_equations.specs.FreeBodies.{free_count}
+use Rattle.stack_certified.specs.Certified.{forces_value, pair_at, triple_at, motion_value}
 use Rattle.stack_certified.specs.Laws.{EndPushes, EndsPush}
 use Rattle.stack_extract.specs.declared.types.Numbers.{Numbers}
 use Rattle.stack_extract.specs.declared.types.Numbers.TheVariants.{Forces, Motion, Ray}
@@ -190,3 +191,99 @@ module _ (q : Question) (v : Surveyed) (T : Tabled Fraction) where
   pub ray_passes : (c : ℕ) (xs : List Fraction) → xs ≡ ray_list (posed_shape q (scene_of v)) T c →
       (x : ExtractError) → Tells x (push_place Ray v.bearings xs) → Tells x (ray_place q v T c)
   ray_passes c xs e x h = subst (λ xs. Tells x (push_place Ray v.bearings xs)) e h
+
+-- moves from a list
+not_passing : (b : Bool) (p : ExtractPlace) → only_if (not b) p ≡ None → b ≡ true
+not_passing true p h = refl
+not_passing false p h = absurd cc
+
+-- where no number passes, each whole number fits
+pub each_fits : (l : Numbers) (xs : List Fraction) (scale : ℤ) (zs : List ℤ) → AreWhole l xs scale zs → (k : ℕ) →
+    k < length zs → fits (amount zs k) ≡ true
+each_fits l xs scale zs h k m = let n = ap length h.numbers ∙ length_map (times_scale (scale_of xs)) xs in
+    ap (λ us. fits (amount us k)) h.numbers
+    ∙ not_passing (fits (amount (whole_list xs) k)) (place l Whole k)
+    (first-none (length xs) (whole_spot l xs) (or_none (first (length xs) (scale_spot l xs))
+    (first (length xs) (whole_spot l xs)) h.fits).1 k (omega (arith, m, n)))
+
+pub as_many : (l : Numbers) (xs : List Fraction) (scale : ℤ) (zs : List ℤ) → AreWhole l xs scale zs →
+    length zs ≡ length xs
+as_many l xs scale zs h = ap length h.numbers ∙ length_map (times_scale (scale_of xs)) xs
+
+pub motion_is_made : (l : Numbers) (xs : List Fraction) (scale : ℤ) (zs : List ℤ) (m n : ℕ) (flips : ℕ → Bool)
+    (ms : MotionValue) → AreWhole l xs scale zs → m ≡ n → ms ≡ moves_by m flips zs →
+    IsMotionFrom n flips xs (list_place l xs) ms
+motion_is_made l xs scale zs m n flips ms w e g = record {
+  fits = w.fits;
+  moves = g ∙ (λ i. moves_by (e i) flips (w.numbers i));
+}
+
+-- after the differences of phase 1
+module _ (S : Shape) (T : Tabled Fraction) (xs : List Fraction) (e : xs ≡ collapse_list S T) where
+  pub shifted : (n : ℕ) (flips : ℕ → Bool) → shift_place S T ≡ None → (r : Result Moves ExtractError) →
+      IfOk r (λ y. IsMotionFrom n flips xs (list_place Motion xs) (motion_view y)) →
+      IfOk r (λ y. IsMotionFrom n flips (collapse_list S T) (shifted_place S T) (motion_view y))
+  shifted n flips s (Ok y) h = record {
+    fits = ap (λ o. or_else o (list_place Motion (collapse_list S T))) s ∙ ap (list_place Motion) (sym e) ∙ h.fits;
+    moves = h.moves ∙ ap (λ xs. moves_by n flips (whole_list xs)) e;
+  }
+  shifted n flips s (Err x) h = tt
+
+  pub shifted_passes : shift_place S T ≡ None → (r : Result Moves ExtractError) →
+      IfErr r (λ x. Tells x (list_place Motion xs)) → IfErr r (λ x. Tells x (shifted_place S T))
+  shifted_passes s (Ok y) h = tt
+  shifted_passes s (Err x) h = tells_second x (shift_place S T) (list_place Motion (collapse_list S T)) s
+      (subst (λ xs. Tells x (list_place Motion xs)) e h)
+
+pub shift_passes_first : (S : Shape) (T : Tabled Fraction) (x : ExtractError) → Tells x (shift_place S T) →
+    Tells x (shifted_place S T)
+shift_passes_first S T x h = tells_first x (shift_place S T) (list_place Motion (collapse_list S T)) h
+
+-- the moves of a survey
+moves_are : (v : Surveyed) (q : Question) (flips : ℕ → Bool) → flips ≡ flipped (posed q (scene_of v)) →
+    (zs us : List ℤ) → zs ≡ us → moves_by (length (frees_of v.structure.bodies)) flips zs
+    ≡ motion_value (free_count (scene_of v)) (posed q (scene_of v)) us
+moves_are v q flips h zs us e = λ i. listed (sym (all_before v) i) (triple_at (λ k. turned (h i k) (amount (e i) k)))
+
+-- the motion of a survey's last table
+module _ {V : Type 0} {number : Ghosts V} (v : Surveyed) where
+  pub rows_are : (e : Ended V number) → IsEndOfSome v e →
+      (shape_of_table (last_of e)).rows ≡ 3 * length (frees_of v.structure.bodies)
+  rows_are e h = ap (λ (S : Shape). S.rows) h.1.shape ∙ ap (λ n. 3 * n) (all_before v)
+
+  pub is_collapse : (q : Question) (t : Table V number) → IsEndOfSurvey {number = number} q v (Infeasible t) →
+      (y : MotionValue) → IsMotionFrom (length (frees_of v.structure.bodies)) (flips_of t)
+      (collapse_list (shape_of_table t) (table_of t)) (shifted_place (shape_of_table t) (table_of t)) y →
+      IsMotionOf q v (infeasible (table_of t)) y
+  is_collapse q t h y g = record {
+    fits = ap (λ S. shifted_place S (table_of t)) (sym h.shape) ∙ g.fits;
+    motion = g.moves ∙ moves_are v q (flips_of t) h.flips _ _ (ap (λ S. whole_list (collapse_list S (table_of t))) h.shape);
+  }
+
+  pub is_bound : (q : Question) (t : Table V number) → IsEndOfSurvey {number = number} q v (Optimal t) →
+      (y : MotionValue) → IsMotionFrom (length (frees_of v.structure.bodies)) (flips_of t)
+      (bound_list (shape_of_table t) (table_of t)) (list_place Motion (bound_list (shape_of_table t) (table_of t))) y →
+      IsMotionOf q v (optimal (table_of t)) y
+  is_bound q t h y g = record {
+    fits = ap (λ S. list_place Motion (bound_list S (table_of t))) (sym h.shape) ∙ g.fits;
+    motion = g.moves ∙ moves_are v q (flips_of t) h.flips _ _ (ap (λ S. whole_list (bound_list S (table_of t))) h.shape);
+  }
+
+  -- of an answer
+  pub answer_is_collapse : (e : Ended V number) (t : Table V number) → e ≡ Infeasible t →
+      (r : Result Moves ExtractError) →
+      IfOk r (λ y. IsMotionFrom (length (frees_of v.structure.bodies)) (flips_of t)
+      (collapse_list (shape_of_table t) (table_of t)) (shifted_place (shape_of_table t) (table_of t)) (motion_view y)) →
+      (q : Question) → IsEndOfSurvey q v e → IfOk r (λ y. IsMotionOf q v (ended_as e) (motion_view y))
+  answer_is_collapse e t p (Ok y) g q h = subst (λ (e : Ended V number). IsMotionOf q v (ended_as e) (motion_view y))
+      (sym p) (is_collapse q t (subst (IsEndOfSurvey q v) p h) (motion_view y) g)
+  answer_is_collapse e t p (Err x) g q h = tt
+
+  pub answer_is_bound : (e : Ended V number) (t : Table V number) → e ≡ Optimal t → (r : Result Moves ExtractError) →
+      IfOk r (λ y. IsMotionFrom (length (frees_of v.structure.bodies)) (flips_of t)
+      (bound_list (shape_of_table t) (table_of t)) (list_place Motion (bound_list (shape_of_table t) (table_of t)))
+      (motion_view y)) → (q : Question) → IsEndOfSurvey q v e →
+      IfOk r (λ y. IsMotionOf q v (ended_as e) (motion_view y))
+  answer_is_bound e t p (Ok y) g q h = subst (λ (e : Ended V number). IsMotionOf q v (ended_as e) (motion_view y))
+      (sym p) (is_bound q t (subst (IsEndOfSurvey q v) p h) (motion_view y) g)
+  answer_is_bound e t p (Err x) g q h = tt
