@@ -3,3 +3,4 @@ mod TableReads
 mod WrittenPlaces
 mod PartPlaces
 mod Made
+pub mod EndOfSurvey

@@ -26,3 +26,7 @@ row_within basic n j i o e h = (least-some n (λ i. eqb (basic i) j) i (sym e �
 pub grown : {X : Type 0} (f : ℕ → X) (j : ℕ) (x : X) (xs ys : List X) → x ≡ f j → xs ≡ listed j f →
     ys ≡ xs ++ x ∷ [] → ys ≡ listed (j + 1) f
 grown f j x xs ys e h g = g ∙ (λ i. h i ++ e i ∷ []) ∙ sym (listed_more j f) ∙ ap (λ n. listed n f) (sym (add-one j))
+
+-- and is whole
+pub whole : {X : Type 0} (f : ℕ → X) (j n : ℕ) (xs : List X) → xs ≡ listed j f → j ≡ n → xs ≡ listed n f
+whole f j n xs h e = h ∙ ap (λ n. listed n f) e

@@ -7,8 +7,16 @@ ghost use Rattle.stack_amounts.specs.WholeLists.{whole_list, NonePulls};
 ghost use Rattle.stack_simplex.specs.Ends.{ended_as, last_of};
 ghost use Rattle.stack_table.specs.Seen.{table_of};
 ghost use Rattle.stack_extract.specs.Places.{Tells, push_place, forces_place, ray_place};
-ghost use Rattle.stack_extract.specs.Ends.{AreForcesFrom, IsEndOfSurvey, IsEndOfSome, HasForces, HasRay, AreForcesOf,
-    IsRayOf, entering_of};
+ghost use Rattle.stack_extract.specs.Ends.{
+  AreForcesFrom,
+  IsEndOfSurvey,
+  IsEndOfSome,
+  HasForces,
+  HasRay,
+  AreForcesOf,
+  IsRayOf,
+  entering_of,
+};
 
 use crate::numbers::{forces_numbers, ray_numbers};
 use crate::parts::force_parts;

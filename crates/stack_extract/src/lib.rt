@@ -14,3 +14,6 @@ pub use forces::{forces_of, ray_of};
 pub use motions::motion_of;
 pub use stack_posing::pose;
 pub use types::{EndStep, ExtractError, ExtractPlace, Numbers};
+
+#[cfg(test)]
+mod tests;

@@ -14,8 +14,15 @@ ghost use Rattle.stack_certified.specs.Certified.{triple_at};
 ghost use Rattle.stack_simplex.specs.Ends.{ended_as};
 ghost use Rattle.stack_extract.specs.declared.types.Numbers.TheVariants as numbers;
 ghost use Rattle.stack_extract.specs.Places.{Tells, list_place, shifted_place};
-ghost use Rattle.stack_extract.specs.Ends.{moves_by, IsMotionFrom, IsEndOfSurvey, IsEndOfSome, HasMotion, IsMotionOf,
-    motion_place};
+ghost use Rattle.stack_extract.specs.Ends.{
+  moves_by,
+  IsMotionFrom,
+  IsEndOfSurvey,
+  IsEndOfSome,
+  HasMotion,
+  IsMotionOf,
+  motion_place,
+};
 
 use crate::numbers::{bound_numbers, collapse_numbers};
 use crate::types::{ExtractError, Numbers};

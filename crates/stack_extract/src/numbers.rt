@@ -5,8 +5,15 @@ ghost use Rattle.stack_algebra.proofs.OrderedFractions.{ordered_fractions};
 ghost use Rattle.stack_table.specs.Table.{plain, columns};
 ghost use Rattle.stack_table.specs.Seen.{shape_of_table, table_of};
 ghost use Rattle.stack_duality.specs.EndNumbers.{basic_row, value, rate};
-ghost use Rattle.stack_amounts.specs.WrittenLists.{forces_number, forces_list, ray_number, ray_list,
-    bound_number, bound_list, collapse_list};
+ghost use Rattle.stack_amounts.specs.WrittenLists.{
+  forces_number,
+  forces_list,
+  ray_number,
+  ray_list,
+  bound_number,
+  bound_list,
+  collapse_list,
+};
 ghost use Rattle.stack_extract.specs.Places.{Tells, shift_place};
 
 use crate::types::{EndStep, ExtractError, Numbers, too_wide};
@@ -90,7 +97,10 @@ fn bound_number<S: Exact>(t: &Table<S>, row: usize) -> Frac<i128>
 }
 
 /// The values of the contact columns, and then of the factor.
-pub(crate) fn forces_numbers<S: Exact>(alloc: Global, t: &Table<S>) -> Result<Vec<Frac<i128>>, AllocError>
+pub(crate) fn forces_numbers<S: Exact>(
+    alloc: Global,
+    t: &Table<S>,
+) -> Result<Vec<Frac<i128>>, AllocError>
     requires { (shape_of_table t.now).contacts ≤ 2048 }
     ensures { IfOk result (λ r. r.items ≡ forces_list (shape_of_table t.now) (table_of t.now)) }
 {
@@ -119,7 +129,10 @@ pub(crate) fn ray_numbers<S: Exact>(
 }
 
 /// The objective cells of the artificial columns.
-pub(crate) fn bound_numbers<S: Exact>(alloc: Global, t: &Table<S>) -> Result<Vec<Frac<i128>>, AllocError>
+pub(crate) fn bound_numbers<S: Exact>(
+    alloc: Global,
+    t: &Table<S>,
+) -> Result<Vec<Frac<i128>>, AllocError>
     ensures { IfOk result (λ r. r.items ≡ bound_list (shape_of_table t.now) (table_of t.now)) }
 {
     let mut numbers = Vec::new(alloc);

@@ -70,7 +70,11 @@ pub(crate) fn force_parts(
 {
     let mut parts = Vec::new(alloc);
     for (k, bearing) in bearings.iter().enumerate() {
-        match part(bearing.cone, amount(numbers, 2 * k), amount(numbers, 2 * k + 1)) {
+        match part(
+            bearing.cone,
+            amount(numbers, 2 * k),
+            amount(numbers, 2 * k + 1),
+        ) {
             Ok(push) => parts = longer(parts, push)?,
             Err(Wide) => return Err(too_wide(which, EndStep::Part, k)),
         }

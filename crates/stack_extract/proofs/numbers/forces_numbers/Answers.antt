@@ -1,8 +1,7 @@
-use Rattle.std.proofs.Common.{◌≡◌, suc, ap, ◌∙◌, arith}
-use Rattle.stack_algebra.specs.Listed.{listed}
+use Rattle.std.proofs.Common.{suc, arith}
 use Rattle.stack_table.specs.Seen.{shape_of_table, table_of}
 use Rattle.stack_amounts.specs.WrittenLists.{forces_number}
-use Rattle.stack_extract.proofs.TableReads.{grown}
+use Rattle.stack_extract.proofs.TableReads.{grown, whole}
 use Rattle.stack_extract.proofs.numbers.forces_numbers.Goals as goal
 
 pub loop-column-preserved : goal.loop-column-preserved
@@ -11,7 +10,6 @@ loop-column-preserved g c = grown (forces_number (shape_of_table c.args.t.now) (
     c.loop-column.invariant c.in_ok-push.ensures.items
 
 pub returns : goal.returns
-returns g c = let e : c.loop-column.column ≡ suc (shape_of_table c.args.t.now).contacts =
-    omega (arith, c.loop-column-test.false, c.loop-column.auto, c.contacts-column-end.ensures) in
-    c.loop-column.invariant
-    ∙ ap (λ n. listed n (forces_number (shape_of_table c.args.t.now) (table_of c.args.t.now))) e
+returns g c = whole (forces_number (shape_of_table c.args.t.now) (table_of c.args.t.now))
+    c.loop-column.column (suc (shape_of_table c.args.t.now).contacts) c.loop-column.numbers.items
+    c.loop-column.invariant (omega (arith, c.loop-column-test.false, c.loop-column.auto, c.contacts-column-end.ensures))
