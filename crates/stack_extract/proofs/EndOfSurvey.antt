@@ -1,7 +1,6 @@
 -- The end of a run of the problem that is posed for a survey, as its calls tell it.
 use Rattle.std.proofs.Common.{◌≡◌, sym, ap, ◌∙◌, ℕ}
 use lib.IntN.{ℤ}
-use Rattle.stack_algebra.specs.Fraction.{Fraction}
 use Rattle.stack_algebra.proofs.OrderedFractions.{ordered_fractions}
 use Rattle.stack_rational.specs.declared.exact.Exact.{Ghosts}
 use Rattle.stack_rational.specs.Passes.{passes}
@@ -10,7 +9,6 @@ use Rattle.stack_equilibrium.specs.declared.types.Question.{Question}
 use Rattle.stack_equilibrium.specs.SurveyScene.{scene_of}
 use Rattle.stack_table.specs.declared.problem.Problem.{Problem as Lent}
 use Rattle.stack_table.specs.declared.table.Table.{Table}
-use Rattle.stack_table.specs.Table.{Shape}
 use Rattle.stack_table.specs.Problem.{Problem, flipped}
 use Rattle.stack_table.specs.WrittenTable.{written_table}
 use Rattle.stack_table.specs.Seen.{shape_of_table, table_of, flips_of}

@@ -1,6 +1,6 @@
 -- From a list of numbers to forces and moves, and from an end to its lists.
-use Rattle.std.proofs.Common.{◌≡◌, refl, sym, ap, subst, ◌∙◌, ℕ, zero, suc, ◌+◌, ◌*◌, ◌<◌, ◌≤◌, Bool, true, false, not}
-use Rattle.std.proofs.Common.{List, [], ◌∷◌, map, length, get_or, Option, Some, None, Result, Ok, Err, arith}
+use Rattle.std.proofs.Common.{◌≡◌, refl, sym, ap, subst, ◌∙◌, ℕ, suc, ◌*◌, ◌<◌, ◌≤◌, Bool, true, false, not}
+use Rattle.std.proofs.Common.{List, [], ◌∷◌, map, length, Option, None, Result, Ok, Err, arith}
 use Rattle.std.specs.Prelude.{IfOk, IfErr}
 use lib.IntN.{ℤ, pos}
 use Rattle.stack_algebra.specs.Fraction.{Fraction}
@@ -23,7 +23,7 @@ use Rattle.stack_equilibrium.specs.SurveyScene.{scene_of}
 use Rattle.stack_equilibrium.proofs.FreeNumbers.{all_before}
 use Rattle.stack_table.specs.declared.table.Table.{Table}
 use Rattle.stack_table.specs.Table.{Shape, Tabled, plain, columns}
-use Rattle.stack_table.specs.Problem.{Problem, flipped, turned}
+use Rattle.stack_table.specs.Problem.{flipped, turned}
 use Rattle.stack_table.specs.Seen.{shape_of_table, table_of, flips_of}
 use Rattle.stack_duality.specs.WrittenRun.{End, infeasible, feasible, optimal, ray, wide, over}
 use Rattle.stack_duality.specs.FourEnds.{EndGives}
@@ -33,7 +33,7 @@ use Rattle.stack_simplex.specs.declared.ended.Ended.{Ended}
 use Rattle.stack_simplex.specs.declared.ended.Ended.TheVariants.{Infeasible, Feasible, Optimal, Ray as Rises}
 use Rattle.stack_simplex.specs.Ends.{ended_as, last_of}
 use Rattle.stack_amounts.specs.WrittenLists.{forces_list, ray_list, bound_list, collapse_list}
-use Rattle.stack_amounts.specs.WrittenLists.{forces_number, ray_number, bound_number, collapse_number}
+use Rattle.stack_amounts.specs.WrittenLists.{forces_number, ray_number}
 use Rattle.stack_amounts.specs.WholeLists.{whole_list, amount, NonePulls}
 use Rattle.stack_equations.specs.FreeBodies.{free_count}
 use Rattle.stack_certified.specs.Certified.{forces_value, pair_at, triple_at, motion_value}
@@ -45,9 +45,9 @@ use Rattle.stack_extract.specs.declared.types.ExtractPlace.{ExtractPlace}
 use Rattle.stack_extract.specs.declared.types.ExtractError.{ExtractError}
 use Rattle.stack_extract.specs.declared.types.ExtractError.TheVariants.{TooWide, Memory}
 use Rattle.stack_extract.specs.Places.{place, Tells, scale_spot, whole_spot, list_place, AreWhole, part_place, AreParts, push_place}
-use Rattle.stack_extract.specs.Places.{shift_place, shifted_place, forces_place, ray_place, collapse_place, bound_place}
-use Rattle.stack_extract.specs.Ends.{IsEndOfSurvey, IsEndOfSome, HasForces, HasMotion, HasRay, entering_of, AreForcesFrom}
-use Rattle.stack_extract.specs.Ends.{moves_by, IsMotionFrom, AreForcesOf, IsRayOf, IsMotionOf, motion_place}
+use Rattle.stack_extract.specs.Places.{shift_place, shifted_place, forces_place, ray_place}
+use Rattle.stack_extract.specs.Ends.{IsEndOfSurvey, IsEndOfSome, HasForces, HasRay, entering_of, AreForcesFrom}
+use Rattle.stack_extract.specs.Ends.{moves_by, IsMotionFrom, AreForcesOf, IsRayOf, IsMotionOf}
 
 length_map : {X Y : Type 0} (g : X → Y) (xs : List X) → length (map g xs) ≡ length xs
 length_map g [] = refl

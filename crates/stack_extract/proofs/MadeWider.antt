@@ -1,15 +1,13 @@
 -- A number of any width makes the same number at 128 bits.
-use Rattle.std.proofs.Common.{◌≡◌, ◌≢◌, sym, ap, subst, ◌∙◌, ℕ, ◌≤◌, Bool, true, false, arith}
+use Rattle.std.proofs.Common.{◌≡◌, ◌≢◌, sym, ap, subst, ◌∙◌, true, false, arith}
 use Rattle.std.specs.Prelude.{unsigned_abs}
 use Rattle.std.proofs.lemmas.Bool.{leb-true}
 use Rattle.std.proofs.lemmas.Int.{ints}
 use lib.IntN.{ℤ, pos, nat_abs}
 use mir.Syntax.{w128}
 use mir.Val.{to_z, of_z}
-use Rattle.stack_algebra.specs.IntegerOrder.{◌≺◌}
 use Rattle.stack_algebra.specs.Fraction.{Fraction}
 use Rattle.stack_algebra.proofs.Fractions.{of}
-use Rattle.stack_whole.specs.Whole.{greatest_number}
 use Rattle.stack_rational.specs.declared.exact.Op.TheVariants.{Whole, Quotient}
 use Rattle.stack_rational.specs.Laws.{widest, MadeAgain, PartsMakeTheNumber}
 use Rattle.stack_rational.specs.Passes.{IsWidth, fits, passes, value_of}

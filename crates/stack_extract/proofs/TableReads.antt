@@ -1,7 +1,7 @@
 -- Reading a table: a search for the row of a basic column, and lists that grow.
-use Rattle.std.proofs.Common.{◌≡◌, refl, sym, ap, ◌∙◌, ℕ, zero, suc, ◌+◌, ◌<◌, ◌≤◌, Bool, true, false, List, [], ◌∷◌, ◌++◌}
+use Rattle.std.proofs.Common.{◌≡◌, sym, ap, ◌∙◌, ℕ, ◌+◌, ◌<◌, ◌≤◌, true, false, List, [], ◌∷◌, ◌++◌}
 use Rattle.std.proofs.Common.{eqb, Option, Some, None, arith, add-one}
-use Rattle.stack_algebra.specs.Search.{first, or_else, only_if, least}
+use Rattle.stack_algebra.specs.Search.{first, only_if, least}
 use Rattle.stack_algebra.proofs.Search.{first_found, first_more, least-some}
 use Rattle.stack_algebra.proofs.Listed.{listed, listed_more}
 

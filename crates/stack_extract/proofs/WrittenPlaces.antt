@@ -1,5 +1,5 @@
 -- The first place that passes, as a loop finds it.
-use Rattle.std.proofs.Common.{◌≡◌, refl, sym, ap, subst, ◌∙◌, ℕ, zero, suc, ◌+◌, ◌^◌, ◌<◌, ◌≤◌, Bool, true, false, not}
+use Rattle.std.proofs.Common.{◌≡◌, refl, sym, ap, subst, ◌∙◌, ℕ, zero, suc, ◌+◌, ◌^◌, ◌<◌, ◌≤◌, true, false, not}
 use Rattle.std.proofs.Common.{List, [], ◌∷◌, ◌++◌, map, length, get_or, take, Option, Some, None, arith}
 use Rattle.std.specs.Prelude.{nat_le, nat_lt, unsigned_abs}
 use Rattle.std.proofs.lemmas.Bool.{lt-ltb, le-ltb, le-leb, lt-leb}
@@ -29,7 +29,7 @@ use Rattle.stack_extract.specs.declared.types.Numbers.TheVariants.{Motion}
 use Rattle.stack_extract.specs.declared.types.EndStep.TheVariants.{Shift, Scale, Whole}
 use Rattle.stack_extract.specs.declared.types.ExtractPlace.{ExtractPlace}
 use Rattle.stack_extract.specs.declared.types.ExtractError.{ExtractError}
-use Rattle.stack_extract.specs.declared.types.ExtractError.TheVariants.{TooWide, Memory}
+use Rattle.stack_extract.specs.declared.types.ExtractError.TheVariants.{TooWide}
 use Rattle.stack_extract.specs.Places.{place, Tells, scale_spot, whole_spot, list_place, AreWhole, shift_spot, shift_place}
 
 -- an error at a place tells it

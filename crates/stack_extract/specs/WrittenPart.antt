@@ -1,5 +1,5 @@
 -- The parts of a bearing's force as they are made of the amounts of its two columns.
-use Rattle.std.specs.Prelude.{◌+ℤ◌, ◌-ℤ◌, ◌*ℤ◌, Result, Ok, Err}
+use Rattle.std.specs.Prelude.{◌+ℤ◌, ◌-ℤ◌, ◌*ℤ◌, Result, Ok}
 use Rattle.stack_algebra.specs.Steps.{◌>>=◌}
 use Rattle.stack_frame.specs.declared.cone.Cone.{Cone}
 use Rattle.stack_whole.specs.Whole.{made}

@@ -1,7 +1,7 @@
 use Rattle.std.proofs.Common.{length, sym, ap, subst, ◌∙◌, List}
 use Rattle.stack_algebra.specs.Fraction.{Fraction}
 use Rattle.stack_amounts.specs.WholeLists.{whole_list, NonePulls}
-use Rattle.stack_extract.proofs.Made.{few_contacts, forces_list_is, forces_length, forces_push, are_forces, forces_pass}
+use Rattle.stack_extract.proofs.Made.{few_contacts, forces_list_is, forces_length, forces_push}
 use Rattle.stack_extract.proofs.forces.forces_of.Goals as goal
 
 pub forces_numbers-requires : goal.forces_numbers-requires

@@ -1,7 +1,7 @@
 use Rattle.std.proofs.Common.{length, sym, ap, subst, ◌∙◌, List}
 use Rattle.stack_algebra.specs.Fraction.{Fraction}
 use Rattle.stack_amounts.specs.WholeLists.{whole_list, NonePulls}
-use Rattle.stack_extract.proofs.Made.{few_contacts, ray_list_is, ray_length, rates_push, entering_below, is_ray, ray_passes}
+use Rattle.stack_extract.proofs.Made.{few_contacts, ray_list_is, ray_length, rates_push, entering_below}
 use Rattle.stack_extract.proofs.forces.ray_of.Goals as goal
 
 pub ray_numbers-requires-clause-few : goal.ray_numbers-requires-clause-few

@@ -1,4 +1,4 @@
-use Rattle.std.proofs.Common.{◌≡◌, ℕ, ◌*◌, ◌<◌, length, true, List, ap, ◌∙◌, arith}
+use Rattle.std.proofs.Common.{List, ap, ◌∙◌, arith}
 use lib.IntN.{ℤ}
 use Rattle.stack_whole.specs.Whole.{fits}
 use Rattle.stack_amounts.specs.WholeLists.{amount}

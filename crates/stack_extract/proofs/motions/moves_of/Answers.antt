@@ -1,7 +1,5 @@
-use Rattle.std.proofs.Common.{◌≡◌}
 use Rattle.stack_table.specs.Problem.{turned}
 use Rattle.stack_table.specs.Seen.{flips_of}
-use Rattle.stack_whole.specs.declared.whole.Whole.{Whole}
 use Rattle.stack_amounts.specs.WholeLists.{amount}
 use Rattle.stack_certified.specs.Certified.{triple_at}
 use Rattle.stack_extract.proofs.TableReads.{grown}

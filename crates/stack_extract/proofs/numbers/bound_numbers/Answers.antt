@@ -1,5 +1,3 @@
-use Rattle.std.proofs.Common.{◌≡◌, ap, ◌∙◌, arith}
-use Rattle.stack_algebra.specs.Listed.{listed}
 use Rattle.stack_table.specs.Seen.{shape_of_table, table_of}
 use Rattle.stack_amounts.specs.WrittenLists.{bound_number}
 use Rattle.stack_extract.proofs.TableReads.{grown}

@@ -1,4 +1,4 @@
-use Rattle.std.proofs.Common.{◌≡◌, ap, ◌∙◌, arith}
+use Rattle.std.proofs.Common.{◌∙◌, arith}
 use Rattle.stack_algebra.proofs.Fractions.{add, neg}
 use Rattle.stack_table.specs.Seen.{shape_of_table, table_of}
 use Rattle.stack_amounts.specs.WrittenLists.{collapse_number}

@@ -1,4 +1,4 @@
-use Rattle.std.proofs.Common.{◌≡◌, ℕ, refl, sym, ◌∙◌, ◌+◌, ◌<◌, ◌≤◌, length, get_or, arith}
+use Rattle.std.proofs.Common.{ℕ, refl, sym, ◌∙◌, ◌+◌, ◌<◌, ◌≤◌, get_or, arith}
 use Rattle.stack_equilibrium.specs.SurveyScene.{no_bearing}
 use Rattle.stack_extract.proofs.WrittenPlaces.{told}
 use Rattle.stack_extract.proofs.PartPlaces.{one_part, part_passes}

@@ -1,4 +1,4 @@
-use Rattle.stack_extract.proofs.EndOfSurvey.{is_written, is_end_of_survey}
+use Rattle.stack_extract.proofs.EndOfSurvey.{is_written}
 use Rattle.stack_extract.proofs.tests.ended.Goals as goal
 
 pub run-requires-clause-written : goal.run-requires-clause-written
