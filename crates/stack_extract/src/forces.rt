@@ -78,8 +78,8 @@ fn entering<S: Exact>(e: &Ended<S>) -> usize
 }
 
 /// The forces of the end of a survey's run, in whole numbers of 128 bits whatever the width of the run: the
-/// values of the columns at their common scale, and for each bearing `q` times the sum of its two along the normal
-/// and `p` times their difference along the tangent, in sixths of a unit of force.
+/// values of the columns at their common scale, and for each bearing `q` times the sum of its two along the
+/// normal and `p` times their difference along the tangent, in sixths of a unit of force.
 ///
 /// Refused exactly where one of these passes 2^127 - 1, with the first that does, or where memory is wanting.
 pub fn forces_of<S: Exact>(alloc: Global, s: &Survey, e: &Ended<S>) -> Result<Forces, ExtractError>
