@@ -17,19 +17,21 @@ use Rattle.stack_amounts.specs.WholeLists.{whole_list, amount, NonePulls}
 use Rattle.stack_amounts.proofs.Wholes.{IsWhole, whole_nonneg}
 
 -- each denominator divides the scale
-divides_each : (n : ℕ) (f : ℕ → Fraction) (m : ℕ) → AllByRecursion (λ x. x.den ∣ m) (listed n f) → (j : ℕ) → j < n →
-    (f j).den ∣ m
+divides_each : (n : ℕ) (f : ℕ → Fraction) (m : ℕ) → AllByRecursion (λ x. x.den ∣ m) (listed n f) → (j : ℕ) →
+    j < n → (f j).den ∣ m
 divides_each zero f m h j l = absurd (omega arith)
 divides_each (suc n) f m h zero l = h.0
 divides_each (suc n) f m h (suc j) l = divides_each n (λ k. f (suc k)) m h.1 j (omega arith)
 
+-- the scale is more than 0
 pub scale_above : (xs : List Fraction) → pos 0 ≺ pos (scale_of xs)
 scale_above xs = let l = scale_positive xs in omega (arith, ints, l)
 
 -- the whole number at an index
 pub scaled-is : (n : ℕ) (f : ℕ → Fraction) (j : ℕ) → j < n →
     IsWhole (pos (scale_of (listed n f))) (f j) (amount (whole_list (listed n f)) j)
-scaled-is n f j l = times_scale-is m (f j) (divides_each n f m (scale_is_least_multiple (listed n f)).common j l)
+scaled-is n f j l = times_scale-is m (f j)
+    (divides_each n f m (scale_is_least_multiple (listed n f)).common j l)
     ∙ ap of (sym (ap (λ zs. get_or zs j (pos 0)) (map_listed (times_scale m) n f)
     ∙ listed_item n (λ k. times_scale m (f k)) j (pos 0) l))
   where
@@ -52,6 +54,6 @@ none_pulls n f h j = go (dec_lt j n)
         ∙ length_listed n (λ k. times_scale (scale_of (listed n f)) (f k))
 
     go : Dec (j < n) → pos 0 ≼ amount (whole_list (listed n f)) j
-    go (yes l) = whole_nonneg (pos (scale_of (listed n f))) (f j) _ (scale_above (listed n f)) (scaled-is n f j l)
-        (h j l)
+    go (yes l) = whole_nonneg (pos (scale_of (listed n f))) (f j) _ (scale_above (listed n f))
+        (scaled-is n f j l) (h j l)
     go (no l) = let e = count in past (whole_list (listed n f)) j (omega (arith, e, l))

@@ -27,6 +27,7 @@ use Rattle.stack_amounts.specs.WholeEnds.{AreForces, AreLoaded, EndIsWhole, Ends
 use Rattle.stack_amounts.proofs.Wholes.{IsWhole, of_same, whole_nonneg, whole_positive, whole_negative, whole_sum, whole_dot, whole_turned}
 use Rattle.stack_amounts.proofs.ScaledLists.{scale_above, scaled-is, none_pulls}
 
+-- a scale times 1, and times 0
 once : (c : ℤ) → c *ℤ pos 1 ≡ c
 once c = simp expand (omega (arith, sums))
 
@@ -64,19 +65,23 @@ module _ (P : Problem) where
     sums = λ i l. of_same _ _ (sym (whole_sum w c (P.entry i) v z h)
         ∙ ap (mul (of c)) (b.sums i l)
         ∙ sym (fractions.mul_assoc (of c) (of t) (of (P.load i)))
-        ∙ ap (λ s. mul s (of (P.load i))) (sym (fractions.of_mul c t)) ∙ sym (fractions.of_mul (c *ℤ t) (P.load i)));
+        ∙ ap (λ s. mul s (of (P.load i))) (sym (fractions.of_mul c t))
+        ∙ sym (fractions.of_mul (c *ℤ t) (P.load i)));
   }
 
   -- the dead loads stand
   stands_of : fractional.Stands ordered_fractions P → P.shape.contacts < w → StandsInWhole P
   stands_of s l = record {
-    scale = pos (scale_of (listed w s.amounts));
-    amounts = amount (whole_list (listed w s.amounts));
-    positive = scale_above (listed w s.amounts);
-    balances = subst (AreAmounts P (amount (whole_list (listed w s.amounts)))) (once (pos (scale_of (listed w s.amounts))))
-        (amounts_of (pos 1) _ s.amounts _ (scale_above (listed w s.amounts)) (scaled-is w s.amounts) s.balances);
+    scale = pos (scale_of xs);
+    amounts = amount (whole_list xs);
+    positive = scale_above xs;
+    balances = subst (AreAmounts P (amount (whole_list xs))) (once (pos (scale_of xs)))
+        (amounts_of (pos 1) (pos (scale_of xs)) s.amounts _ (scale_above xs) (scaled-is w s.amounts) s.balances);
     no_factor = nothing _ _ _ (scaled-is w s.amounts P.shape.contacts l) s.no_factor;
   }
+    where
+      xs : List Fraction
+      xs = listed w s.amounts
 
   -- multipliers of the rows from the numbers of a list, with the signs of flipped rows
   module _ (f v : ℕ → Fraction) (e : (k : ℕ) → k < m → v k ≡ signed ordered_fractions (flipped P k) (f k)) where
@@ -86,6 +91,7 @@ module _ (P : Problem) where
     abbrev y : ℕ → ℤ
     y = multiplier P (whole_list (listed m f))
 
+    -- they are whole, and so is their work in a column and on the right
     are_whole : Wholes m c v y
     are_whole k l = ap (mul (of c)) (e k l) ∙ whole_turned c (flipped P k) (f k) _ (scaled-is m f k l)
 
@@ -95,6 +101,7 @@ module _ (P : Problem) where
     load_whole : IsWhole c (fractional.load_work ordered_fractions P v) (load_work P y)
     load_whole = whole_dot m c P.load v y are_whole
 
+    -- so they refute and bound
     unresisted : ((j : ℕ) → j < P.shape.contacts →
         ordered_fractions.sign (fractional.column_work ordered_fractions P v j) ≢ minus) → AreUnresisted P y
     unresisted h j l = whole_nonneg c _ _ (scale_above (listed m f)) (work_whole j) (h j l)
@@ -121,12 +128,14 @@ module _ (P : Problem) where
     abbrev xs : List Fraction
     xs = listed (suc P.shape.contacts) number
 
+    -- the number of a plain column, and of no column
     plain_number : (j : ℕ) → j < w → number j ≡ v j
     plain_number j l = ap (λ b. cond b (v j) (of (pos 0))) (lt-ltb j w l)
 
     no_number : (j : ℕ) → w ≤ j → number j ≡ of (pos 0)
     no_number j l = ap (λ b. cond b (v j) (of (pos 0))) (le-ltb j w l)
 
+    -- so the amounts balance
     column_whole : Wholes w (pos (scale_of xs)) v (amount (whole_list xs))
     column_whole j l = ap (mul (of (pos (scale_of xs)))) (sym (plain_number j l))
         ∙ scaled-is (suc P.shape.contacts) number j (omega (arith, few, l))
@@ -135,6 +144,7 @@ module _ (P : Problem) where
         AreAmounts P (amount (whole_list xs)) (pos (scale_of xs) *ℤ t)
     balancing t b = amounts_of t (pos (scale_of xs)) v _ (scale_above xs) column_whole b
 
+    -- and none is negative
     pushes : (t : ℤ) → fractional.Balances ordered_fractions P v (of t) → NonePulls (whole_list xs)
     pushes t b = none_pulls (suc P.shape.contacts) number (λ j l. go j (dec_lt j w))
       where
@@ -144,8 +154,9 @@ module _ (P : Problem) where
             ∙ ap ordered_fractions.sign (sym (no_number j (omega (arith, l)))) ∙ e in cc
 
   module _ (few : P.shape.factors ≤ 1) where
-    forces_of : (T : Tabled Fraction) → fractional.Balances ordered_fractions P (value ordered_fractions P.shape T)
-        (of (pos 1)) → AreForces P T
+    -- the forces of a last table
+    forces_of : (T : Tabled Fraction) →
+        fractional.Balances ordered_fractions P (value ordered_fractions P.shape T) (of (pos 1)) → AreForces P T
     forces_of T b = record {
       positive = scale_above (forces_list P.shape T);
       balances = subst (AreAmounts P (amount (whole_list (forces_list P.shape T)))) (once _)
@@ -160,9 +171,10 @@ module _ (P : Problem) where
       forces = forces_of T h.balances;
     }
 
+    -- the four ends
     end_is_whole : (x : End Fraction) → EndGives ordered_fractions P x → EndIsWhole P x
-    end_is_whole (infeasible T) h = refuting (collapse_number P.shape T) (collapse_multiplier ordered_fractions P T)
-        (λ k l. refl) h.refutes
+    end_is_whole (infeasible T) h = refuting (collapse_number P.shape T)
+        (collapse_multiplier ordered_fractions P T) (λ k l. refl) h.refutes
     end_is_whole (feasible T) h = record {
       without_factor = h.without_factor;
       forces = forces_of T h.balances;
@@ -182,7 +194,8 @@ module _ (P : Problem) where
           (never (pos (scale_of (ray_list P.shape T c))))
           (balancing few (rate ordered_fractions P.shape T c) (pos 0) h.rises.balances);
       factor = whole_positive _ _ _ (scale_above (ray_list P.shape T c))
-          (column_whole few (rate ordered_fractions P.shape T c) P.shape.contacts h.third.with_factor) h.rises.factor;
+          (column_whole few (rate ordered_fractions P.shape T c) P.shape.contacts h.third.with_factor)
+          h.rises.factor;
       pushes = pushes few (rate ordered_fractions P.shape T c) (pos 0) h.rises.balances;
     }
     end_is_whole (wide p k s) h = tt

@@ -11,8 +11,7 @@ use Rattle.stack_algebra.proofs.CrossProducts.{cancel}
 use Rattle.stack_algebra.proofs.Ring.{left_comm}
 use Rattle.stack_algebra.proofs.IntegerRing.{integers}
 use Rattle.stack_algebra.proofs.Sums.{sum, sum_same, sum_scale}
-use Rattle.stack_algebra.proofs.Fractions.{of, of-is, mul, den_pos, neg_is}
-use Rattle.stack_algebra.proofs.Fractions.{fractions}
+use Rattle.stack_algebra.proofs.Fractions.{of, of-is, mul, den_pos, neg_is, fractions}
 use Rattle.stack_algebra.proofs.OrderedFractions.{ordered_fractions, sign_is, is_plus, not_below}
 use Rattle.stack_table.specs.Problem.{turned}
 use Rattle.stack_duality.specs.EndNumbers.{signed}
@@ -23,7 +22,8 @@ IsWhole c x z = mul (of c) x ≡ of z
 
 -- equal whole numbers
 pub of_same : (a b : ℤ) → of a ≡ of b → a ≡ b
-of_same a b e = cancel (pos (of b).den) a b (den_pos (of b)) (go a b (of b).num (pos (of b).den) left (of-is b).cross)
+of_same a b e = cancel (pos (of b).den) a b (den_pos (of b))
+    (go a b (of b).num (pos (of b).den) left (of-is b).cross)
   where
     left : (of b).num *ℤ pos 1 ≡ a *ℤ pos (of b).den
     left = subst (λ (x : Fraction). x.num *ℤ pos 1 ≡ a *ℤ pos x.den) e (of-is a).cross
@@ -37,13 +37,16 @@ sign_of-of z = sign_is (of z) z (pos 1) (of-is z)
 
 -- a whole number has the sign of what it is made of
 same_sign : (c : ℤ) (x : Fraction) (z : ℤ) → pos 0 ≺ c → IsWhole c x z → sign_of z ≡ ordered_fractions.sign x
-same_sign c x z p e = sym (sign_of-of z) ∙ ap ordered_fractions.sign (sym e) ∙ ordered_fractions.sign-mul (of c) x
+same_sign c x z p e = sym (sign_of-of z) ∙ ap ordered_fractions.sign (sym e)
+    ∙ ordered_fractions.sign-mul (of c) x
     ∙ ap (λ s. both s (ordered_fractions.sign x)) (sign_of-of c ∙ is_plus c p)
 
+-- so it is no less than 0, more than 0 or less than 0 where that is
 pub whole_nonneg : (c : ℤ) (x : Fraction) (z : ℤ) → pos 0 ≺ c → IsWhole c x z →
     ordered_fractions.sign x ≢ minus → pos 0 ≼ z
 whole_nonneg c x z p e h = not_below z (λ d. h (sym (same_sign c x z p e) ∙ d))
 
+-- a sign of a whole number says where it lies
 plus_is : (z : ℤ) → sign_of z ≡ plus → pos 0 ≺ z
 plus_is (pos zero) e = absurd cc
 plus_is (pos (suc n)) e = omega (arith, ints)
@@ -62,6 +65,7 @@ pub whole_negative : (c : ℤ) (x : Fraction) (z : ℤ) → pos 0 ≺ c → IsWh
     ordered_fractions.sign x ≡ minus → z ≺ pos 0
 whole_negative c x z p e h = minus_is z (same_sign c x z p e ∙ h)
 
+-- a sum of whole numbers' fractions
 sum_of_wholes : (n : ℕ) (f : ℕ → ℤ) → sum fractions n (λ j. of (f j)) ≡ of (sum_to n f)
 sum_of_wholes zero f = refl
 sum_of_wholes (suc n) f = ap (λ z. fractions.add z (of (f n))) (sum_of_wholes n f)

@@ -15,7 +15,8 @@ module _ (P : Problem) where
   -- the forces of a table balance at their common scale
   pub record AreForces (T : Tabled Fraction) : Type 0 where
     pub positive : pos 0 ≺ pos (scale_of (forces_list P.shape T))
-    pub balances : AreAmounts P (amount (whole_list (forces_list P.shape T))) (pos (scale_of (forces_list P.shape T)))
+    pub balances : AreAmounts P (amount (whole_list (forces_list P.shape T)))
+        (pos (scale_of (forces_list P.shape T)))
     pub pushes : NonePulls (whole_list (forces_list P.shape T))
 
   -- without a factor
@@ -53,4 +54,5 @@ module _ (P : Problem) where
 
 -- whatever passes, and whatever the budget
 abbrev pub EndsAreWhole : Type 0
-EndsAreWhole = (P : Problem) → P.shape.factors ≤ 1 → (rule : Rule) (budget : ℕ) → EndIsWhole P (run_of P rule budget)
+EndsAreWhole = (P : Problem) → P.shape.factors ≤ 1 → (rule : Rule) (budget : ℕ) →
+    EndIsWhole P (run_of P rule budget)

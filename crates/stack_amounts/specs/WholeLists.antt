@@ -1,4 +1,4 @@
--- The whole numbers of a list of fractions: each times the list's common scale. What stands at an index of them.
+-- The whole numbers of a list of fractions: each times the list's common scale. What stands at an index.
 use Rattle.std.specs.Prelude.{ℕ, ℤ, pos, List, map, get_or}
 use Rattle.stack_algebra.specs.Fraction.{Fraction}
 use Rattle.stack_algebra.specs.IntegerOrder.{◌≼◌}

@@ -1,4 +1,5 @@
--- The lists of numbers that each end is read from, in the written order and with their signs as the last table has them.
+-- The lists of numbers that each end is read from, in the written order, with the signs that they have in the
+-- last table.
 use Rattle.std.specs.Prelude.{ℕ, suc, ◌+◌, cond, ltb, List}
 use lib.IntN.{pos}
 use Rattle.stack_algebra.specs.Listed.{listed}

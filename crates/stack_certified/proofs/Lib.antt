@@ -1,2 +1,3 @@
 pub mod PosedSums
+pub mod HeldCertificates
 pub mod EndCertificates

@@ -1,5 +1,5 @@
--- The problem of a scene by pairs of columns and threes of rows: what balances its rows solves the equations of the free
--- bodies, and what its columns do to multipliers of the rows is the power of edges and loads on moves.
+-- The problem of a scene by pairs of columns and threes of rows: what balances its rows solves the equations of
+-- the free bodies, and multipliers of its rows are moves, whose products are the powers of edges and loads.
 use Rattle.std.proofs.Common.{◌≡◌, refl, sym, ap, subst, ◌∙◌, ℕ, ◌+◌, ◌*◌, ◌/◌, ◌%◌, ◌<◌, true, false, cond, eqb, ltb, arith}
 use Rattle.std.proofs.lemmas.Bool.{lt-ltb, le-ltb, eq-eqb}
 use lib.IntN.{ℤ, pos, ◌+ℤ◌, ◌*ℤ◌, neg_ℤ}
@@ -98,8 +98,8 @@ module _ (q : Question) (s : Scene) where
     solved : (i b a : ℕ) → i < 3 * free_count s → i / 3 ≡ b → i % 3 ≡ a →
         edges_sum (share a) s (amounts x) (free_at s b) +ℤ scale *ℤ share a (dead_on s (free_at s b))
         +ℤ factor_in q s x *ℤ share a (live_on s (free_at s b)) ≡ pos 0
-    solved i b a l e f = closed (edges_sum (share a) s (amounts x) at) (factor_in q s x *ℤ share a (live_on s at)) scale
-        (share a (dead_on s at))
+    solved i b a l e f = closed (edges_sum (share a) s (amounts x) at)
+        (factor_in q s x *ℤ share a (live_on s at)) scale (share a (dead_on s at))
         ((λ n. sym (edge_columns q s x a at) n +ℤ sym (factor_columns q s x a at) n)
         ∙ sym (sum_plus integers (2 * s.bearings) (factors_of q) (λ j. share a (column_on q s j at) *ℤ x j))
         ∙ sym (sum_same integers (2 * s.bearings + factors_of q) _ _
@@ -129,26 +129,30 @@ module _ (q : Question) (s : Scene) where
     -- the rows of a wrench on each body, times their multipliers
     rows_of : (g : ℤ → ℤ) (w : ℕ → Wrench) →
         sum_to (3 * free_count s) (λ k. y k *ℤ cond (ltb k (3 * free_count s)) (g (row_share s w k)) (pos 0))
-        ≡ sum_to (free_count s) (λ b. y (3 * b) *ℤ g (w (free_at s b)).fx +ℤ y (3 * b + 1) *ℤ g (w (free_at s b)).fy
-        +ℤ y (3 * b + 2) *ℤ g (w (free_at s b)).m)
+        ≡ sum_to (free_count s) (λ b. y (3 * b) *ℤ g (w (free_at s b)).fx
+        +ℤ y (3 * b + 1) *ℤ g (w (free_at s b)).fy +ℤ y (3 * b + 2) *ℤ g (w (free_at s b)).m)
     rows_of g w = sum_threes (free_count s)
         (λ k. y k *ℤ cond (ltb k (3 * free_count s)) (g (row_share s w k)) (pos 0))
         ∙ sum_same integers (free_count s) _ _ (λ b l. λ n.
         y (3 * b) *ℤ row_at q s g w (3 * b) b 0 (omega (arith, l)) (three_first b).0 (three_first b).1 n
-        +ℤ y (3 * b + 1) *ℤ row_at q s g w (3 * b + 1) b 1 (omega (arith, l)) (three_second b).0 (three_second b).1 n
-        +ℤ y (3 * b + 2) *ℤ row_at q s g w (3 * b + 2) b 2 (omega (arith, l)) (three_third b).0 (three_third b).1 n)
+        +ℤ y (3 * b + 1)
+        *ℤ row_at q s g w (3 * b + 1) b 1 (omega (arith, l)) (three_second b).0 (three_second b).1 n
+        +ℤ y (3 * b + 2)
+        *ℤ row_at q s g w (3 * b + 2) b 2 (omega (arith, l)) (three_third b).0 (three_third b).1 n)
 
+    -- a column
     column_is : (j : ℕ) → column_work (posed q s) y j ≡ power_by s (moves y) (column_on q s j)
     column_is j = rows_of (λ z. z) (column_on q s j)
 
-    -- the loads
+    -- the right side, and the factor's column
     pub load_is : load_work (posed q s) y ≡ neg_ℤ (power_by s (moves y) (dead_on s))
     load_is = rows_of neg_ℤ (dead_on s)
         ∙ sum_same integers (free_count s) _ _ (λ b l. negated (y (3 * b)) (y (3 * b + 1)) (y (3 * b + 2))
         (dead_on s (free_at s b)).fx (dead_on s (free_at s b)).fy (dead_on s (free_at s b)).m)
         ∙ sum_neg integers (free_count s) (λ b. power_of (dead_on s (free_at s b)) (moves y b))
       where
-        negated : (u v r x y m : ℤ) → u *ℤ neg_ℤ x +ℤ v *ℤ neg_ℤ y +ℤ r *ℤ neg_ℤ m ≡ neg_ℤ (u *ℤ x +ℤ v *ℤ y +ℤ r *ℤ m)
+        negated : (u v r x y m : ℤ) →
+            u *ℤ neg_ℤ x +ℤ v *ℤ neg_ℤ y +ℤ r *ℤ neg_ℤ m ≡ neg_ℤ (u *ℤ x +ℤ v *ℤ y +ℤ r *ℤ m)
         negated u v r x y m = simp expand (omega (arith, sums))
 
     pub factor_work : column_work (posed q s) y (2 * s.bearings) ≡ power_by s (moves y) (factor_on q s)

@@ -1,12 +1,13 @@
--- The certificate of each end of a run of a survey's problem, as it is held and printed: made of the whole numbers of the
--- end's lists.
+-- The certificate of each end of a run of a survey's problem, as it is held and printed: made of the whole
+-- numbers of the end's lists.
 use Rattle.std.specs.Prelude.{ℕ, ◌+◌, ◌*◌, ℤ, pos, ◌+ℤ◌, ◌-ℤ◌, ◌*ℤ◌, Option, Some, None, List, length, get_or}
 use Rattle.stack_algebra.specs.Listed.{listed}
 use Rattle.stack_algebra.specs.Fraction.{Fraction}
 use Rattle.stack_rational.specs.CommonScale.{scale_of}
 use Rattle.stack_contact.specs.declared.types.Bearing.{Bearing}
 use Rattle.stack_contact.specs.Surveyed.{Surveyed}
-use Rattle.stack_certificate.specs.Certificate.{ForcesValue, MotionValue, CertificateValue, stands, collapses, greatest, unbounded}
+use Rattle.stack_certificate.specs.Certificate.{ForcesValue, MotionValue, CertificateValue}
+use Rattle.stack_certificate.specs.Certificate.{stands, collapses, greatest, unbounded}
 use Rattle.stack_equilibrium.specs.declared.types.Question.{Question}
 use Rattle.stack_equilibrium.specs.SurveyScene.{no_bearing, scene_of}
 use Rattle.stack_equations.specs.FreeBodies.{free_count}

@@ -1,5 +1,4 @@
--- The laws of the certificates of ends: they are true and answer the question, and where live loads are carried the dead
--- loads stand.
+-- The laws of the certificates of ends: they are true, answer the question and tell whether the dead loads stand.
 use Rattle.std.specs.Prelude.{◌≡◌, ℕ, pos, Some, ⊤}
 use Rattle.stack_algebra.specs.Fraction.{Fraction}
 use Rattle.stack_contact.specs.Surveyed.{Surveyed}
@@ -23,23 +22,23 @@ pub record IsEndOfRun (q : Question) (v : Surveyed) (x : End Fraction) : Type 0 
   pub budget : ℕ
   pub run : run_of (posed q (scene_of v)) rule budget ≡ x
 
--- where a certificate says that live loads are carried, the dead loads stand
-abbrev pub DeadLoadsStand : Surveyed → CertificateValue → Type 0
-DeadLoadsStand v (stands f) = ⊤
-DeadLoadsStand v (collapses y) = ⊤
-DeadLoadsStand v (greatest f y) = Carries (scene_of v) (pos 0) (pos 1)
-DeadLoadsStand v (unbounded base rise) = Carries (scene_of v) (pos 0) (pos 1)
+-- the dead loads stand exactly where it isn't a collapse
+abbrev pub TellsOfDeadLoads : Surveyed → CertificateValue → Type 0
+TellsOfDeadLoads v (stands f) = Carries (scene_of v) (pos 0) (pos 1)
+TellsOfDeadLoads v (collapses y) = ¬ (Carries (scene_of v) (pos 0) (pos 1))
+TellsOfDeadLoads v (greatest f y) = Carries (scene_of v) (pos 0) (pos 1)
+TellsOfDeadLoads v (unbounded base rise) = Carries (scene_of v) (pos 0) (pos 1)
 
--- a true certificate of the question
+-- a true certificate of the question, which tells whether the dead loads stand
 pub record IsCertified (q : Question) (v : Surveyed) (c : CertificateValue) : Type 0 where
   pub holds : IsTrueCertificate v c
   pub form : IsOfQuestion q c
-  pub dead_loads : DeadLoadsStand v c
+  pub dead_loads : TellsOfDeadLoads v c
 
 -- each end that has a certificate has such a one
 abbrev pub EndsAreCertified : Type 0
-EndsAreCertified = (q : Question) (v : Surveyed) (x : End Fraction) (c : CertificateValue) → IsProper (scene_of v) →
-    IsEndOfRun q v x → certificate_of q v x ≡ Some c → IsCertified q v c
+EndsAreCertified = (q : Question) (v : Surveyed) (x : End Fraction) (c : CertificateValue) →
+    IsProper (scene_of v) → IsEndOfRun q v x → certificate_of q v x ≡ Some c → IsCertified q v c
 
 -- an end is one of its question's
 abbrev pub IsEndOf : Question → End Fraction → Type 0

@@ -1,13 +1,13 @@
--- A turn of a phase and a row of phase 2, as the loops take them.
-use Rattle.std.proofs.Common.{◌≡◌, refl, sym, ap, ◌∙◌, ℕ, zero, suc, ◌+◌, ◌<◌, Bool, true, false, cond, leb, Option, Some, None, arith}
+-- A turn of a phase and the rows of phase 2, as the loops take them.
+use Rattle.std.proofs.Common.{◌≡◌, refl, sym, ap, ◌∙◌, ℕ, zero, suc, ◌+◌, ◌<◌, Bool, Option, Some, None, arith}
 use Rattle.stack_algebra.specs.Ordered.{Ordered}
 use Rattle.stack_rational.specs.declared.exact.Op.{Op}
 use Rattle.stack_table.specs.declared.types.PivotWide.{PivotWide}
 use Rattle.stack_table.specs.declared.types.Step.TheVariants.{Ratio}
-use Rattle.stack_table.specs.Table.{Shape, Tabled, plain, pivoted_at}
+use Rattle.stack_table.specs.Table.{Shape, Tabled, pivoted_at}
 use Rattle.stack_table.specs.Spots.{pivot_spot}
 use Rattle.stack_bland.specs.Choice.{entering, leaving, ratio_row}
-use Rattle.stack_duality.specs.WrittenRun.{Choice, stays, rises, due, refused, Stop, settled, unlimited, passing, spent, after, on_spot, on_choice, chosen_at, chosen_in, choose, turns, driven_column, drive_at, drive_row, drives}
+use Rattle.stack_duality.specs.WrittenRun.{Choice, stays, rises, due, refused, Stop, settled, unlimited, passing, spent, after, on_spot, on_choice, chosen_at, chosen_in, choose, turns, drive_row, drives}
 
 module _ (F : Ordered) (S : Shape) (passes : Op → F.C → F.C → Bool) where
   -- the choice by what is found: the column; the passing ratio and the leaving row
@@ -86,54 +86,6 @@ module _ (F : Ordered) (S : Shape) (passes : Op → F.C → F.C → Bool) where
         turns F S passes phase among left done T ≡ turns F S passes phase among left' done' U
     turn_pivots left left' done done' U l d e u = ap (λ k. turns F S passes phase among k done T) l
         ∙ at_pivot left' done None e ∙ (λ z. turns F S passes phase among left' (sym d z) (sym u z))
-
-  -- a row of phase 2
-  module _ (T : Tabled F.C) (i : ℕ) where
-    -- its basic column isn't artificial
-    pub row_stays : (left done : ℕ) → leb (plain S) (T.basic i) ≡ false →
-        drive_row F S passes left done T i ≡ settled left done T
-    row_stays left done e =
-        ap (λ b. cond b (drive_at F S passes left done T i (driven_column F S T i))
-        (settled left done T)) e
-
-    -- its basic column is artificial: by the column to bring in
-    artificial_row : (left done : ℕ) (o : Option ℕ) → leb (plain S) (T.basic i) ≡ true →
-        driven_column F S T i ≡ o → drive_row F S passes left done T i
-        ≡ drive_at F S passes left done T i o
-    artificial_row left done o e d =
-        ap (λ b. cond b (drive_at F S passes left done T i (driven_column F S T i))
-        (settled left done T)) e
-        ∙ ap (drive_at F S passes left done T i) d
-
-    -- no column of it has a cell that isn't 0
-    pub row_left : (left done : ℕ) → leb (plain S) (T.basic i) ≡ true → driven_column F S T i ≡ None →
-        drive_row F S passes left done T i ≡ settled left done T
-    row_left left done e d = artificial_row left done None e d
-
-    -- a pivot is due
-    module _ (c : ℕ) (artificial : leb (plain S) (T.basic i) ≡ true) (column : driven_column F S T i
-        ≡ Some c)
-      where
-        -- no pivot is left
-        pub row_spent : (left done : ℕ) → left ≡ 0 → drive_row F S passes left done T i ≡ spent
-        row_spent zero done e = artificial_row zero done (Some c) artificial column
-        row_spent (suc left) done e = absurd (omega arith)
-
-        -- the pivot passes
-        pub row_passing : (left done : ℕ) (s : PivotWide) → 0 < left → pivot_spot F passes S T i c ≡ Some s →
-            drive_row F S passes left done T i ≡ passing 2 (suc done) s
-        row_passing zero done s l e = absurd (omega arith)
-        row_passing (suc left) done s l e = artificial_row (suc left) done (Some c) artificial column
-            ∙ ap (on_spot 2 done (settled left (suc done)) (pivoted_at F S T i c)) e
-
-        -- the pivot is done
-        pub row_pivots : (left left' done done' : ℕ) (U : Tabled F.C) → left ≡ suc left' → done' ≡ suc done →
-            pivot_spot F passes S T i c ≡ None → U ≡ pivoted_at F S T i c →
-            drive_row F S passes left done T i ≡ settled left' done' U
-        row_pivots left left' done done' U l d e u = ap (λ k. drive_row F S passes k done T i) l
-            ∙ artificial_row (suc left') done (Some c) artificial column
-            ∙ ap (on_spot 2 done (settled left' (suc done)) (pivoted_at F S T i c)) e
-            ∙ (λ z. settled left' (sym d z) (sym u z))
 
   -- phase 2 goes on with the next row where it has settled the rows before
   pub drives_on : (k left done left' done' : ℕ) (T U : Tabled F.C) →

@@ -2,8 +2,8 @@
 
 ghost use Rattle.stack_duality.specs.Laws.{EndsGive, SomeRowLeaves, WiderRunIsSame};
 
-/// What the four ends of a run give, for any problem, any budget and any rule of what passes; and that a row leaves
-/// wherever a column enters in phase 1. After the duality of linear programs.
+/// What the four ends of a run give, for any problem, any budget and any rule of what passes; and that a row
+/// leaves wherever a column enters in phase 1. After the duality of linear programs.
 pub fn run_laws()
     ensures ends { EndsGive }
     ensures leaving { SomeRowLeaves }

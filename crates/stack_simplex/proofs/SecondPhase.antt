@@ -1,49 +1,35 @@
--- Phase 2's answers tell its rows and itself.
-use Rattle.std.proofs.Common.{◌≡◌, refl, sym, ap, ◌∙◌, ℕ, suc, ◌+◌, ◌-◌, ◌<◌, Bool, true, false, leb, Option, Some, None, Result, Ok, Err, arith, add-one}
-use Rattle.std.specs.Prelude.{OnOk, MatchResult}
+-- The answers on the rows of phase 2 tell the phase.
+use Rattle.std.proofs.Common.{◌≡◌, sym, ap, ◌∙◌, ℕ, suc, ◌+◌, ◌-◌, ◌<◌, arith, add-one}
 use lib.IntN.{ℤ}
 use Rattle.stack_algebra.specs.Fraction.{Fraction}
 use Rattle.stack_algebra.proofs.OrderedFractions.{ordered_fractions}
 use Rattle.stack_rational.specs.Passes.{passes}
-use Rattle.stack_table.specs.Table.{Shape, Tabled, plain, pivoted_at}
-use Rattle.stack_table.specs.Spots.{pivot_spot}
-use Rattle.stack_duality.specs.WrittenRun.{Stop, settled, passing, spent, driven_column, drive_row, drives}
-use Rattle.stack_duality.proofs.Turn.{row_spent, row_passing, row_pivots, drives_on, drives_passing, drives_spent}
+use Rattle.stack_table.specs.Table.{Shape, Tabled}
+use Rattle.stack_duality.specs.WrittenRun.{settled, drive_row, drives}
+use Rattle.stack_duality.proofs.Turn.{drives_on, drives_passing, drives_spent}
 use Rattle.stack_simplex.specs.declared.pivots.Pivots.{Pivots}
 use Rattle.stack_simplex.specs.declared.refusal.RunError.{RunError}
 use Rattle.stack_simplex.specs.declared.refusal.RunError.TheVariants.{TooWide, Spent}
-use Rattle.stack_simplex.specs.Stops.{spot_of, IsPivoted, IsRefused}
-use Rattle.stack_simplex.specs.Phases.{refusal_of, pivots_answer}
-
--- row i, where a pivot in column c is due
-module _ (max : ℤ) (S : Shape) (T U : Tabled Fraction) (i c : ℕ) (k : Pivots)
-    (artificial : leb (plain S) (T.basic i) ≡ true) (column : Some c ≡ driven_column ordered_fractions S T i) where
-  pub row_answers : (r : Result Pivots RunError) → OnOk r (U ≡ pivoted_at ordered_fractions S T i c) →
-      MatchResult r (λ l. IsPivoted k l (pivot_spot ordered_fractions (passes max) S T i c))
-      (λ e. IsRefused 2 k e (pivot_spot ordered_fractions (passes max) S T i c)) →
-      pivots_answer U r ≡ drive_row ordered_fractions S (passes max) k.left k.done T i
-  row_answers (Ok l) u h = sym (row_pivots ordered_fractions S (passes max) T i c artificial (sym column)
-      k.left l.left k.done l.done U h.left h.done h.passes_nowhere u)
-  row_answers (Err (TooWide p)) u h = (λ z. passing (h.in_phase z) (h.next_pivot z) (spot_of p))
-      ∙ sym (row_passing ordered_fractions S (passes max) T i c artificial (sym column) k.left k.done (spot_of p)
-      h.some_left h.first)
-  row_answers (Err Spent) u h =
-      sym (row_spent ordered_fractions S (passes max) T i c artificial (sym column) k.left k.done h)
+use Rattle.stack_simplex.specs.Stops.{spot_of}
+use Rattle.stack_simplex.specs.Phases.{refusal_of}
 
 -- the rows after row i, where the rows before it left the table U and the pivots k
 module _ (max : ℤ) (S S' : Shape) (T U : Tabled Fraction) (n i : ℕ) (first k : Pivots) (same : S' ≡ S)
     (before : drives ordered_fractions S (passes max) i first.left first.done T ≡ settled k.left k.done U) where
+  -- row i is next
   up_to_row : drives ordered_fractions S (passes max) (suc i) first.left first.done T
       ≡ drive_row ordered_fractions S' (passes max) k.left k.done U i
   up_to_row = drives_on ordered_fractions S (passes max) i first.left first.done k.left k.done T U before
       ∙ ap (λ (S : Shape). drive_row ordered_fractions S (passes max) k.left k.done U i) (sym same)
 
+  -- the row refuses
   pub row_refuses : (e : RunError) → i < n →
       refusal_of e ≡ drive_row ordered_fractions S' (passes max) k.left k.done U i →
       refusal_of e ≡ drives ordered_fractions S (passes max) n first.left first.done T
   row_refuses (TooWide p) l h = let m = n - suc i in let z : suc i + m ≡ n = omega arith in
       sym (ap (λ n. drives ordered_fractions S (passes max) n first.left first.done T) (sym z)
-      ∙ drives_passing ordered_fractions S (passes max) m (suc i) first.left first.done p.phase p.pivot T (spot_of p)
+      ∙ drives_passing ordered_fractions S (passes max) m (suc i) first.left first.done p.phase p.pivot T
+      (spot_of p)
       (up_to_row ∙ sym h))
   row_refuses Spent l h = let m = n - suc i in let z : suc i + m ≡ n = omega arith in
       sym (ap (λ n. drives ordered_fractions S (passes max) n first.left first.done T) (sym z)

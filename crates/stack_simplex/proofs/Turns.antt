@@ -1,10 +1,9 @@
 -- A turn's answer tells the phase of the written run.
-use Rattle.std.proofs.Common.{◌≡◌, refl, sym, ap, subst, ◌∙◌, ℕ, suc, ◌<◌, Option, Some, None, Ok}
+use Rattle.std.proofs.Common.{◌≡◌, sym, ap, subst, ◌∙◌, ℕ, ◌<◌, Some, None, Ok}
 use lib.IntN.{ℤ}
 use Rattle.stack_algebra.specs.Fraction.{Fraction}
 use Rattle.stack_algebra.proofs.OrderedFractions.{ordered_fractions}
 use Rattle.stack_rational.specs.Passes.{passes}
-use Rattle.stack_table.specs.declared.types.PivotWide.{PivotWide}
 use Rattle.stack_table.specs.Table.{Shape, Tabled, pivoted_at}
 use Rattle.stack_table.specs.Spots.{pivot_spot}
 use Rattle.stack_bland.specs.Choice.{entering, leaving, ratio_row}
@@ -36,9 +35,11 @@ module _ (max : ℤ) (S : Shape) (phase among : ℕ) (T : Tabled Fraction) (r c 
 
   -- and done
   pub turn_goes_on : (k l : Pivots) (U : Tabled Fraction) →
-      IsPivoted k l (pivot_spot ordered_fractions (passes max) S T r c) → U ≡ pivoted_at ordered_fractions S T r c →
+      IsPivoted k l (pivot_spot ordered_fractions (passes max) S T r c) →
+      U ≡ pivoted_at ordered_fractions S T r c →
       phase_from max S phase among l U ≡ phase_from max S phase among k T
-  turn_goes_on k l U h u = sym (turn_pivots ordered_fractions S (passes max) phase among T r c enters ratios leaves
+  turn_goes_on k l U h u = sym (turn_pivots ordered_fractions S
+      (passes max) phase among T r c enters ratios leaves
       k.left l.left k.done l.done U h.left h.done h.passes_nowhere u)
 
 -- a turn of the loop, whose table has the shape of the first

@@ -38,8 +38,8 @@ pub fn first_phase<S: Exact>(t: &mut Table<S>, budget: u32) -> Result<Pivots, Ru
     ensures shape { OnOk result (shape_of_table t.new ≡ shape_of_table t.old) }
     ensures flips { OnOk result (flips_of t.new ≡ flips_of t.old) }
     ensures answer { pivots_answer (table_of t.new) result
-        ≡ turns ordered_fractions (shape_of_table t.old) (passes S.MAX) 1 (shape_of_table t.old).contacts budget 0
-        (table_of t.old) }
+        ≡ turns ordered_fractions (shape_of_table t.old) (passes S.MAX) 1 (shape_of_table t.old).contacts
+        budget 0 (table_of t.old) }
 {
     run_laws();
     let contacts = t.contacts();

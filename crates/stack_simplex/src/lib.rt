@@ -1,7 +1,7 @@
 //! The simplex run over exact numbers: three phases from a written table to one of four ends.
 //!
-//! Phase 1 drives the artificial columns to 0, phase 2 takes them out of the basic columns, and phase 3 raises the factor.
-//! A turn chooses its entering column and its leaving row by Bland's rule (1977), and then pivots.
+//! Phase 1 drives the artificial columns to 0, phase 2 takes them out of the basic columns, and phase 3 raises
+//! the factor. A turn chooses its entering column and its leaving row by Bland's rule (1977), and then pivots.
 #![tactic(auto)]
 
 ghost use Rattle.std.specs.Prelude.{◌≡◌, ◌≢◌, IfOk};
@@ -55,10 +55,11 @@ fn run_phases<S: Exact>(t: Table<S>, budget: u32) -> Result<Ended<S>, RunError>
     }
 }
 
-/// The run of a written table within a budget of pivots: exactly the value of the written run at the width of its numbers.
+/// The run of a written table within a budget of pivots: exactly the value of the written run at the width of
+/// its numbers.
 ///
-/// Refused at the first operation that passes, or where a pivot is due and the budget's pivots are done, whichever comes
-/// first; the table is dropped then. Takes no memory. After Bland (1977).
+/// Refused at the first operation that passes, or where a pivot is due and the budget's pivots are done,
+/// whichever comes first; the table is dropped then. Takes no memory. After Bland (1977).
 pub fn run<S: Exact>(t: Table<S>, budget: u32) -> Result<Ended<S>, RunError>
     requires written { IsWritten (shape_of_table t) (table_of t) }
     requires some { budget ≢ 0 }

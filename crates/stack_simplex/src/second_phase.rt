@@ -48,7 +48,8 @@ fn drive_row<S: Exact>(t: &mut Table<S>, pivots: Pivots, row: usize) -> Result<P
     ensures shape { OnOk result (shape_of_table t.new ≡ shape_of_table t.old) }
     ensures flips { OnOk result (flips_of t.new ≡ flips_of t.old) }
     ensures answer { pivots_answer (table_of t.new) result
-        ≡ drive_row ordered_fractions (shape_of_table t.old) (passes S.MAX) pivots.left pivots.done (table_of t.old) row }
+        ≡ drive_row ordered_fractions (shape_of_table t.old) (passes S.MAX) pivots.left pivots.done (table_of t.old)
+        row }
 {
     if t.basic(row) < plain_columns(t) {
         return Ok(pivots);
@@ -64,8 +65,8 @@ pub fn second_phase<S: Exact>(t: &mut Table<S>, pivots: Pivots) -> Result<Pivots
     ensures shape { OnOk result (shape_of_table t.new ≡ shape_of_table t.old) }
     ensures flips { OnOk result (flips_of t.new ≡ flips_of t.old) }
     ensures answer { pivots_answer (table_of t.new) result
-        ≡ drives ordered_fractions (shape_of_table t.old) (passes S.MAX) (shape_of_table t.old).rows pivots.left pivots.done
-        (clear_objective ordered_fractions (shape_of_table t.old) (table_of t.old)) }
+        ≡ drives ordered_fractions (shape_of_table t.old) (passes S.MAX) (shape_of_table t.old).rows pivots.left
+        pivots.done (clear_objective ordered_fractions (shape_of_table t.old) (table_of t.old)) }
 {
     t.clear_objective();
     let mut pivots = pivots;

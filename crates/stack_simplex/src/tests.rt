@@ -117,8 +117,7 @@ fn last_rests_on<S: Exact>(
     }
 }
 
-/// Two rows whose ratios are equal in pivot 2, without a factor and with one that phase 2 and phase 3 bring in and
-/// leave at 0.
+/// Two rows whose ratios are equal in pivot 2, without a factor, and with one that comes in and stays at 0.
 fn two_rows_hold<S: Exact>(alloc: Global, dead: &Problem, live: &Problem) -> bool {
     told::<S>(alloc, dead, 1) == Outcome::Refused(RunError::Spent)
         && told::<S>(alloc, dead, 2) == Outcome::Feasible
@@ -141,15 +140,20 @@ fn one_body_holds_at_8_64_and_128_bits(rt: HostRuntime) -> Result<(), Fail> {
     Ok(())
 }
 
-/// The post of the first example, 2 wide and 4 high.
+/// A post 2 wide and 4 high. A push of one unit at its upper left corner is borne up to the factor 2.
 #[test]
-fn a_post_stands_after_four_pivots(rt: HostRuntime) -> Result<(), Fail> {
+fn a_post_stands_after_four_pivots_and_bears_twice_its_push(rt: HostRuntime) -> Result<(), Fail> {
     let alloc = rt.alloc();
     let contact = [[1, 1, 0], [-1, 1, 0], [1, 1, 2], [-1, 1, 2]];
     let post = problem(alloc, &contact, None, &[0, 48, 48])?;
     assert!(rt; told::<Frac<i64>>(alloc, &post, 3) == Outcome::Refused(RunError::Spent));
     assert!(rt; told::<Frac<i64>>(alloc, &post, 4) == Outcome::Feasible);
     assert!(rt; last_rests_on::<Frac<i128>>(alloc, &post, 4, &[2, 1, 3], &[24, 24, 0]));
+    let push = column(alloc, &[6, 0, -24])?;
+    let pushed = problem(alloc, &contact, Some(push), &[0, 48, 48])?;
+    assert!(rt; told::<Frac<i64>>(alloc, &pushed, 4) == Outcome::Refused(RunError::Spent));
+    assert!(rt; told::<Frac<i64>>(alloc, &pushed, 5) == Outcome::Optimal);
+    assert!(rt; last_rests_on::<Frac<i64>>(alloc, &pushed, 5, &[2, 4, 3], &[18, 2, 30]));
     Ok(())
 }
 
@@ -187,7 +191,7 @@ fn a_ratio_passes_before_the_budget_is_looked_at(rt: HostRuntime) -> Result<(), 
     Ok(())
 }
 
-/// A right side that no column makes, a factor that no row limits, a row that phase 2 leaves as it is, no rows at all.
+/// A right side that no column makes, a factor that no row limits, a row that phase 2 leaves as it is, no rows.
 #[test]
 fn the_other_ends_are_told(rt: HostRuntime) -> Result<(), Fail> {
     let alloc = rt.alloc();

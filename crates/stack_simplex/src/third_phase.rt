@@ -21,8 +21,8 @@ pub fn third_phase<S: Exact>(t: &mut Table<S>, pivots: Pivots) -> Result<PhaseEn
     ensures shape { OnOk result (shape_of_table t.new ≡ shape_of_table t.old) }
     ensures flips { OnOk result (flips_of t.new ≡ flips_of t.old) }
     ensures answer { phase_answer (table_of t.new) result
-        ≡ turns ordered_fractions (shape_of_table t.old) (passes S.MAX) 3 (plain (shape_of_table t.old)) pivots.left
-        pivots.done (set_factor_objective ordered_fractions (shape_of_table t.old) (table_of t.old)) }
+        ≡ turns ordered_fractions (shape_of_table t.old) (passes S.MAX) 3 (plain (shape_of_table t.old))
+        pivots.left pivots.done (set_factor_objective ordered_fractions (shape_of_table t.old) (table_of t.old)) }
 {
     t.set_factor_objective();
     let among = plain_columns(t);

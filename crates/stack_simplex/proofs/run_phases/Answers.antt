@@ -1,4 +1,4 @@
-use Rattle.std.proofs.Common.{◌≡◌, sym, ap, ◌∙◌, cond}
+use Rattle.std.proofs.Common.{sym, ap, ◌∙◌, cond}
 use Rattle.std.proofs.lemmas.Result.{err_from_is_err_and}
 use Rattle.stack_table.specs.Seen.{shape_of_table, table_of}
 use Rattle.stack_simplex.specs.declared.turn.PhaseEnd.TheVariants.{Settled, Unlimited}
@@ -8,7 +8,8 @@ use Rattle.stack_simplex.proofs.run_phases.Goals as goal
 pub returns-in_err-pivots-2-clause-value : goal.returns-in_err-pivots-2-clause-value
 returns-in_err-pivots-2-clause-value g c =
     let t = c.first_phase.new.t in
-    let p = err_from_is_err_and c.from_residual-in_err-pivots-2.result c.from_residual-in_err-pivots-2.ensures.1 in
+    let p = err_from_is_err_and c.from_residual-in_err-pivots-2.result c.from_residual-in_err-pivots-2.ensures.1
+    in
     rw (p.1, p.2) (second_refuses g.S.Exact.MAX (shape_of_table c.args.t) (shape_of_table t) (table_of c.args.t)
     (table_of t) c.args.budget c.in_ok-pivots.pivots c.in_ok-pivots.ensures.shape c.in_ok-pivots.ensures.answer
     (sym c.falls_short.ensures ∙ c.if-falls_short.false)

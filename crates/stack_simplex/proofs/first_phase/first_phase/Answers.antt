@@ -1,4 +1,4 @@
-use Rattle.std.proofs.Common.{◌≡◌, sym, ap, ◌∙◌}
+use Rattle.std.proofs.Common.{sym, ap, ◌∙◌}
 use Rattle.stack_algebra.proofs.OrderedFractions.{ordered_fractions}
 use Rattle.stack_rational.specs.Passes.{passes}
 use Rattle.stack_table.specs.Seen.{shape_of_table, table_of}
@@ -14,6 +14,7 @@ returns-in-Unlimited-clause-answer g c =
     let T = table_of c.args.t.now in
     let U = table_of c.run_phase.new.t in
     absurd (never_unlimited g.S.Exact.MAX S T c.args.budget c.run_laws.ensures.leaving c.requires U
-    c.in-Unlimited.field-0 (ap (λ (x : PhaseEnd). stop_of U x) (sym c.in-Unlimited.is) ∙ c.in_ok-pivots.ensures.answer
+    c.in-Unlimited.field-0 (ap (λ (x : PhaseEnd). stop_of U x) (sym c.in-Unlimited.is)
+    ∙ c.in_ok-pivots.ensures.answer
     ∙ (λ i. turns ordered_fractions S (passes g.S.Exact.MAX) 1 (c.contacts-contacts.ensures i)
     (c.within.ensures.left i) (c.within.ensures.done i) T)))

@@ -1,4 +1,4 @@
-use Rattle.std.proofs.Common.{◌≡◌, sym, ap, subst, ◌∙◌, ◌<◌, ◌≤◌, arith}
+use Rattle.std.proofs.Common.{arith}
 use Rattle.stack_table.specs.Seen.{shape_of_table, table_of}
 use Rattle.stack_simplex.proofs.Choices.{driven_below, driven_nonzero}
 use Rattle.stack_simplex.proofs.second_phase.drive_row.Goals as goal

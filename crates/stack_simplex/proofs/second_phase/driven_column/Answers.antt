@@ -1,5 +1,5 @@
-use Rattle.std.proofs.Common.{sym, ap, subst, ◌∙◌, ◌<◌, not, ℕ}
-use Rattle.stack_algebra.specs.Search.{first, only_if}
+use Rattle.std.proofs.Common.{sym, ap, subst, ◌∙◌, ◌<◌, not}
+use Rattle.stack_algebra.specs.Search.{only_if}
 use Rattle.stack_algebra.proofs.Search.{first_found}
 use Rattle.stack_table.specs.Table.{plain}
 use Rattle.stack_table.specs.Seen.{shape_of_table, table_of}

@@ -1,4 +1,4 @@
-use Rattle.std.proofs.Common.{◌≡◌, ap, ◌∙◌, ◌<◌, arith}
+use Rattle.std.proofs.Common.{ap, ◌∙◌, arith}
 use Rattle.std.proofs.lemmas.Result.{err_from_is_err_and}
 use Rattle.stack_algebra.proofs.OrderedFractions.{ordered_fractions}
 use Rattle.stack_table.specs.Table.{Shape, clear_objective}
@@ -13,7 +13,8 @@ returns-in_err-pivots-clause-answer g c =
     let rows = ap (λ (S : Shape). S.rows) c.clear_objective.ensures.shape in
     let p = err_from_is_err_and c.from_residual.result c.from_residual.ensures.1 in
     rw (p.1, p.2) (row_refuses g.S.Exact.MAX S (shape_of_table t)
-    (clear_objective ordered_fractions S (table_of c.args.t.now)) (table_of t) S.rows c.loop-row.row c.args.pivots
+    (clear_objective ordered_fractions S (table_of c.args.t.now))
+    (table_of t) S.rows c.loop-row.row c.args.pivots
     c.loop-row.pivots c.loop-row.invariant.shape c.loop-row.invariant.rows c.in_err-pivots.field-0.0
     (omega (arith, c.loop-row-test.true, c.rows-row-end.ensures, rows)) c.in_err-pivots.ensures.answer)
 

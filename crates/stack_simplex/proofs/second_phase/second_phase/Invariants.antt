@@ -12,5 +12,6 @@ invariant-loop-row g l = let S = shape_of_table l.fn.t in record {
   shape : shape_of_table l.t ≡ S;
   flips : flips_of l.t ≡ flips_of l.fn.t;
   rows : drives ordered_fractions S (passes g.S.Exact.MAX) l.row l.fn.pivots.left l.fn.pivots.done
-      (clear_objective ordered_fractions S (table_of l.fn.t)) ≡ settled l.pivots.left l.pivots.done (table_of l.t);
+      (clear_objective ordered_fractions S (table_of l.fn.t)) ≡ settled l.pivots.left l.pivots.done
+      (table_of l.t);
 }

@@ -1,7 +1,7 @@
-use Rattle.std.proofs.Common.{◌≡◌, ap, ◌∙◌}
+use Rattle.std.proofs.Common.{ap, ◌∙◌}
 use Rattle.stack_algebra.proofs.OrderedFractions.{ordered_fractions}
 use Rattle.stack_rational.specs.Passes.{passes}
-use Rattle.stack_table.specs.Table.{Shape, plain}
+use Rattle.stack_table.specs.Table.{plain}
 use Rattle.stack_duality.specs.WrittenRun.{turns}
 use Rattle.stack_simplex.proofs.third_phase.third_phase.Goals as goal
 

@@ -1,8 +1,8 @@
-use Rattle.std.proofs.Common.{◌≡◌, sym, ap, subst, ◌∙◌, ◌≤◌}
+use Rattle.std.proofs.Common.{sym, subst, ◌∙◌, ◌≤◌}
 use Rattle.std.proofs.lemmas.Result.{err_from_is_err_and}
 use Rattle.stack_table.specs.Table.{Shape, columns}
 use Rattle.stack_table.specs.Seen.{shape_of_table, table_of}
-use Rattle.stack_simplex.proofs.Turns.{loop_refuses, loop_stops, loop_goes_on, has_fewer}
+use Rattle.stack_simplex.proofs.Turns.{loop_refuses, loop_stops, loop_goes_on}
 use Rattle.stack_simplex.proofs.turn.run_phase.Goals as goal
 
 pub returns-in_err-end-clause-answer : goal.returns-in_err-end-clause-answer
@@ -20,7 +20,8 @@ returns-in-Stops-clause-answer g c = let t = c.loop-end.t in
 
 pub loop-end-preserved : goal.loop-end-preserved
 loop-end-preserved g c = let t = c.loop-end.t in record {
-  among = subst (λ (S : Shape). c.args.among ≤ columns S) (sym c.in_ok-end.ensures.shape) c.loop-end.invariant.among;
+  among = subst (λ (S : Shape). c.args.among ≤ columns S)
+      (sym c.in_ok-end.ensures.shape) c.loop-end.invariant.among;
   shape = c.in_ok-end.ensures.shape ∙ c.loop-end.invariant.shape;
   flips = c.in_ok-end.ensures.flips ∙ c.loop-end.invariant.flips;
   phase = loop_goes_on g.S.Exact.MAX (shape_of_table c.args.t.now) (shape_of_table t) c.args.phase

@@ -1,4 +1,4 @@
-use Rattle.std.proofs.Common.{◌≡◌, sym, ap, ◌∙◌, ℕ, ◌+◌, ◌^◌, ◌<◌, arith, add-one, rules}
+use Rattle.std.proofs.Common.{sym, ap, ◌∙◌, ℕ, ◌+◌, ◌^◌, ◌<◌, arith, add-one, rules}
 use Rattle.std.proofs.lemmas.Result.{err_from_is_err_and}
 use Rattle.stack_table.specs.declared.types.Step.TheVariants.{Ratio}
 use Rattle.stack_table.specs.declared.types.PivotWide.{PivotWide}
@@ -7,7 +7,6 @@ use Rattle.stack_rational.specs.Passes.{passes}
 use Rattle.stack_table.specs.Seen.{shape_of_table, table_of}
 use Rattle.stack_duality.proofs.Turn.{turn_refused}
 use Rattle.stack_duality.specs.WrittenRun.{passing}
-use Rattle.stack_simplex.specs.Stops.{spot_of}
 use Rattle.stack_simplex.proofs.Choices.{leaving_below, leaving_nonzero}
 use Rattle.stack_simplex.proofs.Turns.{turn_refuses, turn_goes_on}
 use Rattle.stack_simplex.proofs.turn.take_turn.Goals as goal
@@ -16,14 +15,16 @@ pub leaving-requires : goal.leaving-requires
 leaving-requires g c = omega (arith, c.in-Some.ensures.below, c.requires)
 
 pub overflow_add-result : goal.overflow_add-result
-overflow_add-result g c = let s : c.args.pivots.done + c.args.pivots.left < 2 ^ 32 = c.args.pivots.small in search rules
+overflow_add-result g c = let s : c.args.pivots.done + c.args.pivots.left < 2 ^ 32 = c.args.pivots.small in
+    search rules
 
 pub returns-in-Err-clause-answer : goal.returns-in-Err-clause-answer
 returns-in-Err-clause-answer g c = let t = c.args.t.now in
     let s : PivotWide = record { row = c.in-Err.e.row; column = c.in-Some.column; step = Ratio } in
     ap (λ (k : ℕ). passing c.args.phase k s) (add-one c.args.pivots.done)
     ∙ sym (turn_refused ordered_fractions (shape_of_table t) (passes g.S.Exact.MAX) c.args.phase c.args.among
-    c.args.pivots.left c.args.pivots.done (table_of t) c.in-Some.column c.in-Err.e.row (sym c.in-Some.ensures.value)
+    c.args.pivots.left c.args.pivots.done (table_of t) c.in-Some.column c.in-Err.e.row
+    (sym c.in-Some.ensures.value)
     c.in-Err.ensures.wide)
 
 pub due_pivot-requires-clause-row_in : goal.due_pivot-requires-clause-row_in
