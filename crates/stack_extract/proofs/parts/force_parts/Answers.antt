@@ -1,0 +1,25 @@
+use Rattle.std.proofs.Common.{ℕ, refl, sym, ◌∙◌, ◌+◌, ◌<◌, ◌≤◌, get_or, arith}
+use Rattle.stack_equilibrium.specs.SurveyScene.{no_bearing}
+use Rattle.stack_extract.proofs.WrittenPlaces.{told}
+use Rattle.stack_extract.proofs.PartPlaces.{one_part, part_passes}
+use Rattle.stack_extract.proofs.parts.force_parts.Goals as goal
+
+next : (i n : ℕ) → i < n → i + 1 ≤ n
+next i n l = omega (arith, l)
+
+pub returns-in-Err-clause-wide : goal.returns-in-Err-clause-wide
+returns-in-Err-clause-wide c = told c.too_wide.result _ _ c.too_wide.ensures
+    (part_passes c.args.which c.args.bearings.now c.args.numbers.now c.loop-k.k
+    (get_or c.args.bearings.now c.loop-k.k no_bearing) c.amount.result c.amount-in-loop-k.result c.loop-k.parts.items
+    (record { within = c.loop-k-test.true; bearing = refl; first = c.amount.ensures; second = c.amount-in-loop-k.ensures })
+    c.loop-k.invariant.0 c.in-Err.field-0 (sym c.part.ensures ∙ c.in-Err.is))
+
+pub loop-k-preserved : goal.loop-k-preserved
+loop-k-preserved c = (
+  one_part c.args.which c.args.bearings.now c.args.numbers.now c.loop-k.k
+      (get_or c.args.bearings.now c.loop-k.k no_bearing) c.amount.result c.amount-in-loop-k.result c.loop-k.parts.items
+      (record { within = c.loop-k-test.true; bearing = refl; first = c.amount.ensures; second = c.amount-in-loop-k.ensures })
+      c.loop-k.invariant.0 c.in_ok-parts-in-Ok.parts.items c.in-Ok.push (sym c.part.ensures ∙ c.in-Ok.is)
+      c.in_ok-parts-in-Ok.ensures,
+  next c.loop-k.k _ c.loop-k-test.true,
+)

@@ -1,0 +1,120 @@
+//! Forces from the last table of a run.
+
+ghost use Rattle.std.specs.Prelude.{◌≡◌, suc, ◌*◌, length, IfOk, IfErr};
+ghost use Rattle.stack_certificate.specs.Certificate.{forces_view};
+ghost use Rattle.stack_equilibrium.specs.declared.types.Question.{Question};
+ghost use Rattle.stack_amounts.specs.WholeLists.{whole_list, NonePulls};
+ghost use Rattle.stack_simplex.specs.Ends.{ended_as, last_of};
+ghost use Rattle.stack_table.specs.Seen.{table_of};
+ghost use Rattle.stack_extract.specs.Places.{Tells, push_place, forces_place, ray_place};
+ghost use Rattle.stack_extract.specs.Ends.{
+  AreForcesFrom,
+  IsEndOfSurvey,
+  IsEndOfSome,
+  HasForces,
+  HasRay,
+  AreForcesOf,
+  IsRayOf,
+  entering_of,
+};
+
+use crate::numbers::{forces_numbers, ray_numbers};
+use crate::parts::force_parts;
+use crate::types::{ExtractError, Numbers};
+use crate::wholes::whole_numbers;
+use stack_certificate::types::Forces;
+use stack_certified::certified_laws;
+use stack_contact::types::Survey;
+use stack_duality::run_laws;
+use stack_rational::{Exact, Frac};
+use stack_simplex::Ended;
+use stack_table::Table;
+use std::alloc::Global;
+
+/// Forces from the numbers of the contact columns and of the factor, at their common scale.
+fn from_list(
+    alloc: Global,
+    which: Numbers,
+    s: &Survey,
+    list: &[Frac<i128>],
+) -> Result<Forces, ExtractError>
+    requires count { length list.now ≡ suc (2 * length s.now.bearings) }
+    requires pushes { NonePulls (whole_list list.now) }
+    ensures ok { IfOk result (λ f. AreForcesFrom which s.now.bearings list.now (forces_view f)) }
+    ensures wide { IfErr result (λ e. Tells e (push_place which s.now.bearings list.now)) }
+{
+    let bearings = s.bearings();
+    let whole = whole_numbers(alloc, which, list)?;
+    let factor = whole.numbers[2 * bearings.len()];
+    let parts = force_parts(alloc, which, bearings, &whole.numbers)?;
+    Ok(Forces {
+        scale: whole.scale,
+        factor,
+        parts,
+    })
+}
+
+/// The last table.
+pub(crate) fn last_table<S: Exact>(e: &Ended<S>) -> &Table<S>
+    ensures { result.now ≡ last_of e.now }
+{
+    match e {
+        Ended::Infeasible(t) => t,
+        Ended::Feasible(t) => t,
+        Ended::Optimal(t) => t,
+        Ended::Ray { table, .. } => table,
+    }
+}
+
+/// The column that rises without limit.
+fn entering<S: Exact>(e: &Ended<S>) -> usize
+    requires { HasRay (ended_as e.now) }
+    ensures { result ≡ entering_of (ended_as e.now) }
+{
+    match e {
+        Ended::Ray { column, .. } => *column,
+        _ => unreachable!(),
+    }
+}
+
+/// The forces of the end of a survey's run, in whole numbers of 128 bits whatever the width of the run: the values of the
+/// columns at their common scale, and of each bearing `q` times the sum of its two and `p` times their difference.
+///
+/// Refused exactly where one of these passes 2^127 - 1, with the first that does, or where memory is wanting.
+pub fn forces_of<S: Exact>(alloc: Global, s: &Survey, e: &Ended<S>) -> Result<Forces, ExtractError>
+    requires end { IsEndOfSome s.now e.now }
+    requires forces { HasForces (ended_as e.now) }
+    ensures ok { (q : Question) → IsEndOfSurvey q s.now e.now →
+        IfOk result (λ f. AreForcesOf q s.now (table_of (last_of e.now)) (forces_view f)) }
+    ensures wide { (q : Question) → IsEndOfSurvey q s.now e.now →
+        IfErr result (λ x. Tells x (forces_place q s.now (table_of (last_of e.now)))) }
+{
+    certified_laws();
+    let _bearings = s.bearings();
+    let list = forces_numbers(alloc, last_table(e))?;
+    from_list(alloc, Numbers::Forces, s, &list)
+}
+
+/// The forces that the end of a survey's run adds without end, in whole numbers: 1 for the column that enters, less the
+/// cells of that column for the basic ones, all at their common scale. They balance no dead loads, so their scale is 0.
+///
+/// Refused as `forces_of`.
+pub fn ray_of<S: Exact>(alloc: Global, s: &Survey, e: &Ended<S>) -> Result<Forces, ExtractError>
+    requires end { IsEndOfSome s.now e.now }
+    requires ray { HasRay (ended_as e.now) }
+    ensures ok { (q : Question) → IsEndOfSurvey q s.now e.now →
+        IfOk result (λ f. IsRayOf q s.now (table_of (last_of e.now)) (entering_of (ended_as e.now)) (forces_view f)) }
+    ensures wide { (q : Question) → IsEndOfSurvey q s.now e.now → IfErr result (λ x.
+        Tells x (ray_place q s.now (table_of (last_of e.now)) (entering_of (ended_as e.now)))) }
+{
+    certified_laws();
+    run_laws();
+    let _bearings = s.bearings();
+    let list = ray_numbers(alloc, last_table(e), entering(e))?;
+    let forces = from_list(alloc, Numbers::Ray, s, &list)?;
+    Ok(Forces {
+        scale: 0,
+        factor: forces.factor,
+        parts: forces.parts,
+    })
+}

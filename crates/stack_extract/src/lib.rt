@@ -1,0 +1,19 @@
+//! From the end of a run to the parts of its certificate: the forces, the ray or the motion of the last table, in whole
+//! numbers of 128 bits, whatever the width of the run.
+#![tactic(auto)]
+
+mod forces;
+mod motions;
+mod numbers;
+mod parts;
+mod types;
+mod wholes;
+mod widened;
+
+pub use forces::{forces_of, ray_of};
+pub use motions::motion_of;
+pub use stack_posing::pose;
+pub use types::{EndStep, ExtractError, ExtractPlace, Numbers};
+
+#[cfg(test)]
+mod tests;
