@@ -7,3 +7,6 @@ mod types;
 
 pub use judging::judge;
 pub use types::{JudgeError, JudgePlace};
+
+#[cfg(test)]
+mod tests;
