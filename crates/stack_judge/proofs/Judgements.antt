@@ -1,5 +1,5 @@
 -- The judgement of a survey by what was made of its run.
-use Rattle.std.proofs.Common.{◌≡◌, refl, sym, ap, subst, ◌∙◌, ℕ, Bool, true, false, Option, Some, None, Result, Ok, Err}
+use Rattle.std.proofs.Common.{◌≡◌, refl, sym, ap, ◌∙◌, ℕ, Bool, true, false, Result, Ok, Err}
 use Rattle.std.specs.Prelude.{◌↔◌, IsTrue}
 use Rattle.stack_algebra.specs.Fraction.{Fraction}
 use Rattle.stack_algebra.proofs.OrderedFractions.{ordered_fractions}
@@ -19,9 +19,8 @@ use Rattle.stack_simplex.specs.Ends as ended
 use Rattle.stack_extract.specs.Ends.{IsEndOfSurvey}
 use Rattle.stack_contact.specs.Surveyed.{Surveyed}
 use Rattle.stack_certificate.specs.declared.types.Certificate.{Certificate}
-use Rattle.stack_certificate.specs.Certificate.{certificate_view}
 use Rattle.stack_equilibrium.specs.declared.types.Question.{Question}
-use Rattle.stack_duality.specs.WrittenRun.{End, infeasible, feasible, optimal, ray, wide, over, written_run}
+use Rattle.stack_duality.specs.WrittenRun.{End, written_run}
 use Rattle.stack_certified.specs.Certified.{certificate_of}
 use Rattle.stack_rational.specs.declared.exact.Exact.{Ghosts}
 use Rattle.stack_simplex.specs.declared.ended.Ended.{Ended}
@@ -30,7 +29,7 @@ use Rattle.stack_simplex.specs.Ends.{ended_as, last_of}
 use Rattle.stack_judge.specs.declared.types.JudgeError.{JudgeError}
 use Rattle.stack_judge.specs.declared.types.JudgeError.TheVariants as errors
 use Rattle.stack_judge.specs.EndPlace.{end_place}
-use Rattle.stack_judge.specs.Judgement.{Judgement, judged_by, judgement_of, survey_run, LacksLive, Judges}
+use Rattle.stack_judge.specs.Judgement.{judged_by, judgement_of, survey_run, LacksLive, Judges}
 use Rattle.stack_judge.specs.Certifying.{Gives, IsTableOfSurvey, refused_as}
 
 -- an end is judged by its places and its certificate

@@ -1,16 +1,14 @@
 -- Where no number of an end's lists passes, all numbers of its certificate fit; and its lists are no longer than a survey's.
-use Rattle.std.proofs.Common.{◌≡◌, refl, sym, ap, subst, ◌∙◌, ℕ, zero, suc, ◌+◌, ◌*◌, ◌<◌, ◌≤◌, Bool, true, false, not, List, [], ◌∷◌}
-use Rattle.std.proofs.Common.{length, get_or, take, Option, Some, None, arith, ltb, ◌&&◌}
-use Rattle.std.specs.Prelude.{nat_lt}
+use Rattle.std.proofs.Common.{◌≡◌, refl, sym, ap, subst, ℕ, zero, suc, ◌+◌, ◌*◌, ◌<◌, ◌≤◌, Bool, true, false, not, List, [], ◌∷◌}
+use Rattle.std.proofs.Common.{length, get_or, take, Option, Some, None, arith, ◌&&◌}
 use Rattle.std.specs.List.{All}
 use Rattle.std.specs.Bool.{⊤}
 use Rattle.std.proofs.lemmas.Bool.{ltb-true, ltb-false}
 use Rattle.std.proofs.lemmas.List.{take_all, get_or_past, length-map}
 use native.Mathlib.Decide.{dec_le}
-use lib.IntN.{ℤ, pos, negsuc, neg_ℤ, ◌+ℤ◌, ◌-ℤ◌, ◌*ℤ◌}
+use lib.IntN.{ℤ, pos, negsuc, ◌+ℤ◌, ◌-ℤ◌, ◌*ℤ◌}
 use Rattle.stack_algebra.specs.Fraction.{Fraction}
 use Rattle.stack_algebra.specs.Listed.{listed}
-use Rattle.stack_algebra.specs.Search.{first, or_else, only_if}
 use Rattle.stack_algebra.proofs.Listed.{length_listed, listed_item}
 use Rattle.stack_algebra.proofs.Search.{first-none, or_none, only_if-none}
 use Rattle.stack_whole.specs.Whole.{greatest_number, IsFitting, fits}
@@ -18,7 +16,7 @@ use Rattle.stack_rational.specs.CommonScale.{scale_of, times_scale}
 use Rattle.stack_contact.specs.declared.types.Bearing.{Bearing}
 use Rattle.stack_contact.specs.FreeBlocks.{frees_of}
 use Rattle.stack_contact.specs.Surveyed.{Surveyed}
-use Rattle.stack_certificate.specs.Certificate.{ForcesValue, MotionValue, CertificateValue, stands, collapses, greatest, unbounded}
+use Rattle.stack_certificate.specs.Certificate.{CertificateValue}
 use Rattle.stack_certificate.specs.CertificateText.{PartFits, MoveFits, ForcesFit, MotionFits, CertificateFits, ForcesAreFew, MotionIsFew, IsFew}
 use Rattle.stack_equilibrium.specs.declared.types.Question.{Question}
 use Rattle.stack_equilibrium.specs.SurveyScene.{scene_of, no_bearing}
@@ -36,7 +34,6 @@ use Rattle.stack_extract.specs.declared.types.Numbers.TheVariants.{Forces, Motio
 use Rattle.stack_extract.specs.declared.types.EndStep.TheVariants.{Part}
 use Rattle.stack_extract.specs.declared.types.ExtractPlace.{ExtractPlace}
 use Rattle.stack_extract.specs.Places.{place, scale_spot, whole_spot, list_place, part_fits, part_spot, part_place, push_place, forces_place, ray_place, collapse_place, bound_place, shift_place}
-use Rattle.stack_judge.specs.declared.types.JudgePlace.{JudgePlace}
 use Rattle.stack_judge.specs.EndPlace.{in_end, lists_place}
 use Rattle.stack_rational.proofs.Conjunctions.{left_of, right_of}
 

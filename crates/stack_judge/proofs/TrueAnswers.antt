@@ -1,5 +1,5 @@
 -- What is given out of the end of a survey's run is judged: true, of its question, of numbers that fit, accepted.
-use Rattle.std.proofs.Common.{◌≡◌, sym, ℕ, ◌≤◌, Option, Some, None, length}
+use Rattle.std.proofs.Common.{◌≡◌, ◌≤◌, Some, None, length}
 use Rattle.stack_algebra.specs.Fraction.{Fraction}
 use Rattle.stack_contact.specs.FreeBlocks.{frees_of}
 use Rattle.stack_contact.specs.Surveyed.{Surveyed}

@@ -2,13 +2,6 @@
 
 ghost use Rattle.std.specs.Prelude.{◌≡◌, ◌≢◌, ◌↔◌, IfOk, IsTrue};
 ghost use Rattle.stack_certificate.specs.Certificate.{certificate_view};
-ghost use Rattle.stack_equilibrium.specs.SurveyScene.{scene_of};
-ghost use Rattle.stack_algebra.proofs.OrderedFractions.{ordered_fractions};
-ghost use Rattle.stack_table.specs.Seen.{shape_of_table, table_of, flips_of};
-ghost use Rattle.stack_table.specs.Problem.{flipped};
-ghost use Rattle.stack_table.specs.WrittenTable.{written_table};
-ghost use Rattle.stack_simplex.specs.Written.{IsWritten};
-ghost use Rattle.stack_posing.specs.Posed.{posed, posed_shape};
 ghost use Rattle.stack_judge.specs.Judgement.{LacksLive, Judges};
 ghost use Rattle.stack_judge.specs.Judged.{IsJudged};
 ghost use Rattle.stack_judge.specs.Certifying.{IsTableOfSurvey, refused_as};

@@ -1,4 +1,4 @@
-use Rattle.std.proofs.Common.{sym, ap, subst, ◌∙◌, ◌≤◌}
+use Rattle.std.proofs.Common.{sym, subst, ◌≤◌}
 use Rattle.stack_certificate.specs.Certificate.{certificate_view}
 use Rattle.stack_simplex.specs.Ends.{ended_as}
 use Rattle.stack_judge.proofs.TrueAnswers.{judged}
