@@ -1,5 +1,6 @@
 -- Where no number of an end's lists passes, all numbers of its certificate fit; and its lists are no longer than a survey's.
-use Rattle.std.proofs.Common.{◌≡◌, refl, sym, ap, subst, ℕ, zero, suc, ◌+◌, ◌*◌, ◌<◌, ◌≤◌, Bool, true, false, not, List, [], ◌∷◌}
+use Rattle.std.proofs.Common.{◌≡◌, refl, sym, ap, subst, ℕ, zero, suc, ◌+◌, ◌*◌, ◌<◌, ◌≤◌, Bool, true, false}
+use Rattle.std.proofs.Common.{not, List, [], ◌∷◌}
 use Rattle.std.proofs.Common.{length, get_or, take, Option, Some, None, arith, ◌&&◌}
 use Rattle.std.specs.List.{All}
 use Rattle.std.specs.Bool.{⊤}
@@ -17,7 +18,8 @@ use Rattle.stack_contact.specs.declared.types.Bearing.{Bearing}
 use Rattle.stack_contact.specs.FreeBlocks.{frees_of}
 use Rattle.stack_contact.specs.Surveyed.{Surveyed}
 use Rattle.stack_certificate.specs.Certificate.{CertificateValue}
-use Rattle.stack_certificate.specs.CertificateText.{PartFits, MoveFits, ForcesFit, MotionFits, CertificateFits, ForcesAreFew, MotionIsFew, IsFew}
+use Rattle.stack_certificate.specs.CertificateText.{PartFits, MoveFits, ForcesFit, MotionFits, CertificateFits}
+use Rattle.stack_certificate.specs.CertificateText.{ForcesAreFew, MotionIsFew, IsFew}
 use Rattle.stack_equilibrium.specs.declared.types.Question.{Question}
 use Rattle.stack_equilibrium.specs.SurveyScene.{scene_of, no_bearing}
 use Rattle.stack_equations.specs.FreeBodies.{free_count}
@@ -28,12 +30,15 @@ use Rattle.stack_duality.specs.WrittenRun.{End, infeasible, feasible, optimal, r
 use Rattle.stack_posing.specs.Posed.{posed, posed_shape}
 use Rattle.stack_amounts.specs.WrittenLists.{forces_list, ray_list, bound_list, collapse_list}
 use Rattle.stack_amounts.specs.WholeLists.{whole_list, amount, multiplier}
-use Rattle.stack_certified.specs.Certified.{pair_between, pair_at, forces_value, triple_at, motion_value, end_forces, end_ray, end_collapse, end_bound, certificate_of}
+use Rattle.stack_certified.specs.Certified.{pair_between, pair_at, forces_value, triple_at, motion_value}
+use Rattle.stack_certified.specs.Certified.{end_forces, end_ray, end_collapse, end_bound, certificate_of}
 use Rattle.stack_extract.specs.declared.types.Numbers.{Numbers}
 use Rattle.stack_extract.specs.declared.types.Numbers.TheVariants.{Forces, Motion, Ray}
 use Rattle.stack_extract.specs.declared.types.EndStep.TheVariants.{Part}
 use Rattle.stack_extract.specs.declared.types.ExtractPlace.{ExtractPlace}
-use Rattle.stack_extract.specs.Places.{place, scale_spot, whole_spot, list_place, part_fits, part_spot, part_place, push_place, forces_place, ray_place, collapse_place, bound_place, shift_place}
+use Rattle.stack_extract.specs.Places.{place, scale_spot, whole_spot, list_place, part_fits, part_spot}
+use Rattle.stack_extract.specs.Places.{part_place, push_place, forces_place, ray_place, collapse_place}
+use Rattle.stack_extract.specs.Places.{bound_place, shift_place}
 use Rattle.stack_judge.specs.EndPlace.{in_end, lists_place}
 use Rattle.stack_rational.proofs.Conjunctions.{left_of, right_of}
 
