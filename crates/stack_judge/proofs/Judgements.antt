@@ -1,0 +1,100 @@
+-- The judgement of a survey by what was made of its run.
+use Rattle.std.proofs.Common.{◌≡◌, refl, sym, ap, ◌∙◌, ℕ, Bool, true, false, Result, Ok, Err}
+use Rattle.std.specs.Prelude.{◌↔◌, IsTrue}
+use Rattle.stack_algebra.specs.Fraction.{Fraction}
+use Rattle.stack_algebra.proofs.OrderedFractions.{ordered_fractions}
+use Rattle.stack_rational.specs.Laws.{widest}
+use Rattle.stack_rational.specs.Passes.{passes}
+use Rattle.stack_equilibrium.specs.SurveyScene.{scene_of}
+use Rattle.stack_table.specs.declared.problem.Problem.{Problem as Lent}
+use Rattle.stack_table.specs.declared.table.Table.{Table}
+use Rattle.stack_table.specs.Lent.{IsProblem, problem_of}
+use Rattle.stack_table.specs.Problem.{Problem, flipped}
+use Rattle.stack_table.specs.Seen.{shape_of_table, table_of, flips_of}
+use Rattle.stack_table.specs.WrittenTable.{written_table}
+use Rattle.stack_posing.specs.Posed.{posed}
+use Rattle.stack_simplex.specs.declared.refusal.RunError.{RunError}
+use Rattle.stack_simplex.specs.declared.refusal.RunError.TheVariants as runs
+use Rattle.stack_simplex.specs.Ends as ended
+use Rattle.stack_extract.specs.Ends.{IsEndOfSurvey}
+use Rattle.stack_contact.specs.Surveyed.{Surveyed}
+use Rattle.stack_certificate.specs.declared.types.Certificate.{Certificate}
+use Rattle.stack_equilibrium.specs.declared.types.Question.{Question}
+use Rattle.stack_duality.specs.WrittenRun.{End, written_run}
+use Rattle.stack_certified.specs.Certified.{certificate_of}
+use Rattle.stack_rational.specs.declared.exact.Exact.{Ghosts}
+use Rattle.stack_simplex.specs.declared.ended.Ended.{Ended}
+use Rattle.stack_simplex.specs.declared.ended.Ended.TheVariants as ends
+use Rattle.stack_simplex.specs.Ends.{ended_as, last_of}
+use Rattle.stack_judge.specs.declared.types.JudgeError.{JudgeError}
+use Rattle.stack_judge.specs.declared.types.JudgeError.TheVariants as errors
+use Rattle.stack_judge.specs.EndPlace.{end_place}
+use Rattle.stack_judge.specs.Judgement.{judged_by, judgement_of, survey_run, LacksLive, Judges}
+use Rattle.stack_judge.specs.Certifying.{Gives, IsTableOfSurvey, refused_as}
+
+-- an end is judged by its places and its certificate
+of_end : {V : Type 0} {number : Ghosts V} (q : Question) (v : Surveyed) (e : Ended V number)
+    → judgement_of q v (ended_as e) ≡ judged_by (end_place q v (ended_as e)) (certificate_of q v (ended_as e))
+of_end q v (ends.Infeasible t) = refl
+of_end q v (ends.Feasible t) = refl
+of_end q v (ends.Optimal t) = refl
+of_end q v (ends.Ray t c) = refl
+
+-- what was given of the end is the judgement
+pub ended_judges : {V : Type 0} {number : Ghosts V} (q : Question) (v : Surveyed) (budget : ℕ) (e : Ended V number)
+    (result : Result Certificate JudgeError) → ¬ (LacksLive q v) → survey_run q v budget ≡ ended_as e
+    → Gives result q v (ended_as e) → Judges result q v budget
+ended_judges q v budget e (Ok c) live run h =
+    (live, ap (judgement_of q v) run ∙ of_end q v e ∙ (λ i. judged_by (h.0 i) (h.1 i)))
+ended_judges q v budget e (Err (errors.TooWide p)) live run h =
+    (live, ap (judgement_of q v) run ∙ of_end q v e ∙ ap (λ o. judged_by o (certificate_of q v (ended_as e))) h)
+ended_judges q v budget e (Err (errors.Spent n)) live run h = absurd h
+ended_judges q v budget e (Err errors.NoLive) live run h = absurd h
+ended_judges q v budget e (Err errors.Memory) live run h = tt
+
+-- a live load is listed where the test says so
+pub has_some : {P : Type 0} (b : Bool) → b ≡ false → IsTrue b ↔ P → ¬ P
+has_some b f h l = let e : true ≡ false = sym (h.1 l) ∙ f in absurd cc
+
+-- the written table of the problem that was posed
+pub table_of_posed : {V : Type 0} {number : Ghosts V} (q : Question) (v : Surveyed) (p : Lent) (t : Table V number)
+    → IsProblem p → problem_of p ≡ posed q (scene_of v) → shape_of_table t ≡ (problem_of p).shape
+    → table_of t ≡ written_table ordered_fractions (problem_of p) → flips_of t ≡ flipped (problem_of p)
+    → IsTableOfSurvey q v t
+table_of_posed q v p t condition is shape table flips = record {
+  written = record {
+    problem = p;
+    condition = condition;
+    is_its_table = record { shape = sym shape; table = sym table };
+  };
+  posed_table = record {
+    shape = ap (λ (P : Problem). P.shape) (sym is) ∙ sym shape;
+    table = ap (written_table ordered_fractions) (sym is) ∙ sym table;
+  };
+  flips = flips ∙ ap flipped is;
+}
+
+module _ {V : Type 0} {number : Ghosts V} (q : Question) (v : Surveyed) (budget : ℕ) (t : Table V number)
+    (h : IsTableOfSurvey q v t) where
+  -- the run of that table is the survey's
+  pub runs_survey : (x : End Fraction)
+      → x ≡ written_run ordered_fractions (shape_of_table t) (passes widest) budget (table_of t)
+      → survey_run q v budget ≡ x
+  runs_survey x e =
+      (λ i. written_run ordered_fractions (h.posed_table.shape i) (passes widest) budget (h.posed_table.table i))
+      ∙ sym e
+
+  pub end_of_survey : (e : Ended V number)
+      → ended_as e ≡ written_run ordered_fractions (shape_of_table t) (passes widest) budget (table_of t)
+      → shape_of_table (last_of e) ≡ shape_of_table t → flips_of (last_of e) ≡ flips_of t → IsEndOfSurvey q v e
+  end_of_survey e run shape flips = record {
+    run = record { rule = passes widest; budget = budget; run = runs_survey (ended_as e) run };
+    shape = shape ∙ sym h.posed_table.shape;
+    flips = flips ∙ h.flips;
+  }
+
+-- a run without an end
+pub run_refused : (q : Question) (v : Surveyed) (budget : ℕ) (e : RunError) → ¬ (LacksLive q v)
+    → survey_run q v budget ≡ ended.refused_as e → Judges (Err (refused_as e budget)) q v budget
+run_refused q v budget (runs.TooWide p) live run = (live, ap (judgement_of q v) run)
+run_refused q v budget runs.Spent live run = (live, ap (judgement_of q v) run, refl)

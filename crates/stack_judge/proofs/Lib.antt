@@ -1,0 +1,3 @@
+mod NumbersFit
+mod TrueAnswers
+mod Judgements

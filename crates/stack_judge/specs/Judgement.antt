@@ -1,0 +1,67 @@
+-- The judgement of a survey: the certificate of the end of its written run at 128 bits, the place of the first number that
+-- passes, or that the budget is spent. Before it comes that a question about live loads wants one.
+use Rattle.std.specs.Prelude.{◌≡◌, ℕ, Option, Some, None, Result, Ok, Err, ⊤}
+use Rattle.stack_algebra.specs.Fraction.{Fraction}
+use Rattle.stack_rational.specs.Laws.{widest}
+use Rattle.stack_model.specs.Structure.{HasLive}
+use Rattle.stack_contact.specs.Surveyed.{Surveyed}
+use Rattle.stack_certificate.specs.declared.types.Certificate.{Certificate}
+use Rattle.stack_certificate.specs.Certificate.{CertificateValue, certificate_view}
+use Rattle.stack_equilibrium.specs.declared.types.Question.{Question}
+use Rattle.stack_equilibrium.specs.declared.types.Question.TheVariants.{Dead, Live}
+use Rattle.stack_equilibrium.specs.SurveyScene.{scene_of}
+use Rattle.stack_table.specs.declared.types.PivotWide.{PivotWide}
+use Rattle.stack_duality.specs.WrittenRun.{End, infeasible, feasible, optimal, ray, wide, over}
+use Rattle.stack_duality.specs.Laws.{run_at}
+use Rattle.stack_simplex.specs.declared.refusal.Place.{Place}
+use Rattle.stack_posing.specs.Posed.{posed}
+use Rattle.stack_certified.specs.Certified.{certificate_of}
+use Rattle.stack_judge.specs.declared.types.JudgePlace.{JudgePlace}
+use Rattle.stack_judge.specs.declared.types.JudgePlace.TheVariants as places
+use Rattle.stack_judge.specs.declared.types.JudgeError.{JudgeError}
+use Rattle.stack_judge.specs.declared.types.JudgeError.TheVariants as errors
+use Rattle.stack_judge.specs.EndPlace.{end_place}
+
+pub data Judgement : Type 0 where
+  certified : CertificateValue → Judgement
+  too_wide : JudgePlace → Judgement
+  spent : Judgement
+
+-- the place of a run
+abbrev pub run_place : (phase pivot : ℕ) → PivotWide → Place
+run_place p k s = record { phase = p; pivot = k; row = s.row; column = s.column; step = s.step }
+
+-- an end by the first place that passes, and by its certificate. Each end has one
+abbrev pub judged_by : Option JudgePlace → Option CertificateValue → Judgement
+judged_by (Some p) c = too_wide p
+judged_by None (Some c) = certified c
+judged_by None None = spent
+
+-- the judgement of the value of a run
+abbrev pub judgement_of : Question → Surveyed → End Fraction → Judgement
+judgement_of q v (wide p k s) = too_wide (places.Run (run_place p k s))
+judgement_of q v over = spent
+judgement_of q v (infeasible T) = judged_by (end_place q v (infeasible T)) (certificate_of q v (infeasible T))
+judgement_of q v (feasible T) = judged_by (end_place q v (feasible T)) (certificate_of q v (feasible T))
+judgement_of q v (optimal T) = judged_by (end_place q v (optimal T)) (certificate_of q v (optimal T))
+judgement_of q v (ray T c) = judged_by (end_place q v (ray T c)) (certificate_of q v (ray T c))
+
+-- the written run of a survey's problem, at 128 bits
+abbrev pub survey_run : Question → Surveyed → (budget : ℕ) → End Fraction
+survey_run q v budget = run_at widest (posed q (scene_of v)) budget
+
+abbrev pub judgement : Question → Surveyed → (budget : ℕ) → Judgement
+judgement q v budget = judgement_of q v (survey_run q v budget)
+
+-- the question is about live loads, and none is listed
+abbrev pub LacksLive : Question → Surveyed → Type 0
+LacksLive Dead v = ⊥
+LacksLive Live v = ¬ (HasLive v.structure)
+
+-- what is answered: exactly the judgement, unless no live load is listed. `Memory` may come at any time
+abbrev pub Judges : Result Certificate JudgeError → Question → Surveyed → (budget : ℕ) → Type 0
+Judges (Ok c) q v budget = (¬ (LacksLive q v)) × (judgement q v budget ≡ certified (certificate_view c))
+Judges (Err (errors.TooWide p)) q v budget = (¬ (LacksLive q v)) × (judgement q v budget ≡ too_wide p)
+Judges (Err (errors.Spent n)) q v budget = (¬ (LacksLive q v)) × (judgement q v budget ≡ spent) × (n ≡ budget)
+Judges (Err errors.NoLive) q v budget = LacksLive q v
+Judges (Err errors.Memory) q v budget = ⊤

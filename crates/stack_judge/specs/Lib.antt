@@ -1,0 +1,4 @@
+pub mod EndPlace
+pub mod Judgement
+pub mod Judged
+pub mod Certifying

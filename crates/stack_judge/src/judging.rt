@@ -1,0 +1,73 @@
+//! The judgement.
+
+ghost use Rattle.std.specs.Prelude.{◌≡◌, ◌≢◌, ◌↔◌, IfOk, IsTrue};
+ghost use Rattle.stack_certificate.specs.Certificate.{certificate_view};
+ghost use Rattle.stack_judge.specs.Judgement.{LacksLive, Judges};
+ghost use Rattle.stack_judge.specs.Judged.{IsJudged};
+ghost use Rattle.stack_judge.specs.Certifying.{IsTableOfSurvey, refused_as};
+
+use crate::certifying::certify;
+use crate::types::{JudgeError, JudgePlace};
+use stack_certificate::types::Certificate;
+use stack_contact::types::Survey;
+use stack_equilibrium::proper;
+use stack_equilibrium::types::Question;
+use stack_extract::pose;
+use stack_rational::Frac;
+use stack_simplex::{RunError, run};
+use stack_table::Table;
+use stack_table::problem::BuildError;
+use std::alloc::{AllocError, Global};
+
+/// Whether the question is about live loads and none is listed.
+fn lacks_live(s: &Survey, q: Question) -> bool
+    ensures { IsTrue result ↔ LacksLive q s.now }
+{
+    match q {
+        Question::Dead => false,
+        Question::Live => !s.model().has_live(),
+    }
+}
+
+/// The written table of a survey's problem. At 128 bits nothing of it passes.
+fn table_of_survey(alloc: Global, s: &Survey, q: Question) -> Result<Table<Frac<i128>>, AllocError>
+    ensures { IfOk result (λ t. IsTableOfSurvey q s.now t) }
+{
+    let problem = pose(alloc, s, q)?;
+    match Table::build(alloc, &problem) {
+        Ok(table) => Ok(table),
+        Err(BuildError::Memory) => Err(AllocError),
+        Err(BuildError::Wide { .. }) => unreachable!(),
+    }
+}
+
+/// Why there is no judgement where a run has no end.
+fn refused(error: RunError, budget: u32) -> JudgeError
+    ensures { result ≡ refused_as error budget }
+{
+    match error {
+        RunError::TooWide(place) => JudgeError::TooWide(JudgePlace::Run(place)),
+        RunError::Spent => JudgeError::Spent { budget },
+    }
+}
+
+/// Judges the dead or the live loads of a survey: a true certificate of the question whose numbers all fit 128 bits and
+/// which the check accepts, by the exact simplex run after Bland (1977) within a budget of pivots.
+///
+/// Refused are, in this order: a question about live loads where none is listed; the first number of the run, of the numbers
+/// that are made of its end, or of the check that passes 2^127 - 1, with its place; a run in which a pivot is due when the
+/// budget's are done. Want of memory comes at any time. After Livesley (1978).
+pub fn judge(alloc: Global, s: &Survey, q: Question, budget: u32) -> Result<Certificate, JudgeError>
+    requires { budget ≢ 0 }
+    ensures judges { Judges result q s.now budget }
+    ensures judged { IfOk result (λ c. IsJudged q s.now (certificate_view c)) }
+{
+    if lacks_live(s, q) {
+        return Err(JudgeError::NoLive);
+    }
+    let table = table_of_survey(alloc, s, q)?;
+    match run(table, budget) {
+        Ok(ended) => certify(alloc, s, &ended),
+        Err(error) => Err(refused(error, budget)),
+    }
+}

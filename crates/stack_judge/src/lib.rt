@@ -1,0 +1,12 @@
+//! The judgement of a survey: a true certificate of its question, or an exact refusal.
+#![tactic(auto)]
+
+mod certifying;
+mod judging;
+mod types;
+
+pub use judging::judge;
+pub use types::{JudgeError, JudgePlace};
+
+#[cfg(test)]
+mod tests;

@@ -1,0 +1,88 @@
+//! The judgement of a post that is pushed at its head, worked by hand.
+
+use crate::{JudgeError, judge};
+use stack_certificate::types::Certificate;
+use stack_contact::survey;
+use stack_contact::types::Survey;
+use stack_equilibrium::types::Question;
+use stack_model::{Model, Parts, RawBlock, RawLoad, RawMaterial};
+use std::alloc::Global;
+use std::test::*;
+
+fn list(alloc: Global, numbers: &[i64]) -> Result<Vec<i64>, Fail> {
+    Ok(numbers.to_vec(alloc)?)
+}
+
+fn block(alloc: Global, name: &str, fixed: bool, corners: &[[i64; 2]]) -> Result<RawBlock, Fail> {
+    let mut lists = Vec::new(alloc);
+    for corner in corners {
+        lists.push(list(alloc, corner.as_slice())?)?;
+    }
+    Ok(RawBlock {
+        name: String::from_str(alloc, name)?,
+        material: String::from_str(alloc, "stone")?,
+        fixed,
+        corners: lists,
+    })
+}
+
+/// A post 2 wide and 4 high on level ground, pushed to the right at its upper left corner.
+fn pushed_post(alloc: Global) -> Result<Survey, Fail> {
+    let mut parts = Parts {
+        materials: Vec::new(alloc),
+        blocks: Vec::new(alloc),
+        loads: Vec::new(alloc),
+    };
+    parts.materials.push(RawMaterial {
+        name: String::from_str(alloc, "stone")?,
+        weight: 1,
+        friction: list(alloc, &[1, 1])?,
+    })?;
+    parts.blocks.push(block(
+        alloc,
+        "ground",
+        true,
+        &[[-10, -1], [10, -1], [10, 0], [-10, 0]],
+    )?)?;
+    parts.blocks.push(block(alloc, "post", false, &[[0, 0], [2, 0], [2, 4], [0, 4]])?)?;
+    parts.loads.push(RawLoad {
+        block: String::from_str(alloc, "post")?,
+        kind: String::from_str(alloc, "live")?,
+        at: list(alloc, &[0, 4])?,
+        force: list(alloc, &[1, 0])?,
+    })?;
+    let model = Model::new(alloc, parts).ok().ok_or("no model")?;
+    Ok(survey(alloc, model).ok().ok_or("no survey")?)
+}
+
+#[test]
+fn a_pushed_post_bears_twice_the_push(rt: HostRuntime) -> Result<(), Fail> {
+    let alloc = rt.alloc();
+    let s = pushed_post(alloc)?;
+    let judged = judge(alloc, &s, Question::Live, 100).ok();
+    match judged.ok_or("no judgement")? {
+        Certificate::Greatest(forces, _) => {
+            assert!(rt; forces.scale > 0);
+            assert!(rt; forces.scale < 1000);
+            assert_eq!(rt; forces.factor, 2 * forces.scale);
+            Ok(())
+        }
+        _ => Err(Fail::from("another form")),
+    }
+}
+
+/// Its dead loads take four pivots.
+#[test]
+fn a_post_stands_at_the_fourth_pivot(rt: HostRuntime) -> Result<(), Fail> {
+    let alloc = rt.alloc();
+    let s = pushed_post(alloc)?;
+    assert_eq!(rt;
+        judge(alloc, &s, Question::Dead, 3).err(),
+        Some(JudgeError::Spent { budget: 3 })
+    );
+    let judged = judge(alloc, &s, Question::Dead, 4).ok();
+    match judged.ok_or("no judgement")? {
+        Certificate::Stands(_) => Ok(()),
+        _ => Err(Fail::from("another form")),
+    }
+}

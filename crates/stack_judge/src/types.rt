@@ -1,0 +1,41 @@
+//! Why there is no judgement.
+
+ghost use Rattle.std.specs.Prelude.{◌≡◌};
+ghost use Rattle.stack_judge.specs.declared.types.JudgeError.TheVariants as judge_error;
+
+use stack_checker::types::CheckPlace;
+use stack_extract::ExtractPlace;
+use stack_simplex::Place;
+use std::alloc::AllocError;
+
+/// Where a number passes 2^127 - 1.
+#[derive(Clone, Copy, Debug, PartialEq, Eq)]
+pub enum JudgePlace {
+    /// In the run.
+    Run(Place),
+    /// In the numbers that are made of its end.
+    End(ExtractPlace),
+    /// In the check of the certificate that these are.
+    Check(CheckPlace),
+}
+
+/// Why a question has no answer.
+#[derive(Clone, Copy, Debug, PartialEq, Eq)]
+pub enum JudgeError {
+    /// The first number that passes 2^127 - 1.
+    TooWide(JudgePlace),
+    /// A pivot is due, and this many are done.
+    Spent { budget: u32 },
+    /// The question is about live loads, and none is listed.
+    NoLive,
+    /// Memory ran out.
+    Memory,
+}
+
+impl From<AllocError> for JudgeError {
+    ghost from_gives = { λ _ e. e ≡ judge_error.Memory };
+
+    fn from(_e: AllocError) -> JudgeError {
+        JudgeError::Memory
+    }
+}
