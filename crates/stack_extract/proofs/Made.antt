@@ -44,7 +44,8 @@ use Rattle.stack_extract.specs.declared.types.EndStep.TheVariants.{Whole}
 use Rattle.stack_extract.specs.declared.types.ExtractPlace.{ExtractPlace}
 use Rattle.stack_extract.specs.declared.types.ExtractError.{ExtractError}
 use Rattle.stack_extract.specs.declared.types.ExtractError.TheVariants.{TooWide, Memory}
-use Rattle.stack_extract.specs.Places.{place, Tells, scale_spot, whole_spot, list_place, AreWhole, part_place, AreParts, push_place}
+use Rattle.stack_extract.specs.Places.{place, Tells, scale_spot, whole_spot, list_place, AreWhole, part_place}
+use Rattle.stack_extract.specs.Places.{AreParts, push_place}
 use Rattle.stack_extract.specs.Places.{shift_place, shifted_place, forces_place, ray_place}
 use Rattle.stack_extract.specs.Ends.{IsEndOfSurvey, IsEndOfSome, HasForces, HasRay, entering_of, AreForcesFrom}
 use Rattle.stack_extract.specs.Ends.{moves_by, IsMotionFrom, AreForcesOf, IsRayOf, IsMotionOf}
@@ -64,7 +65,8 @@ tells_second Memory a b n h = tt
 
 -- forces from a list
 module _ (l : Numbers) (bs : List Bearing) (xs : List Fraction) where
-  pub enough : (zs : List ℤ) → zs ≡ whole_list xs → length xs ≡ suc (2 * length bs) → length zs ≡ suc (2 * length bs)
+  pub enough : (zs : List ℤ) → zs ≡ whole_list xs → length xs ≡ suc (2 * length bs) → length zs ≡ suc
+      (2 * length bs)
   enough zs e n = ap length e ∙ length_map (times_scale (scale_of xs)) xs ∙ n
 
   pub forces_are_made : (scale factor : ℤ) (zs : List ℤ) (ps : List (ℤ × ℤ)) → AreWhole l xs scale zs →
@@ -116,7 +118,8 @@ module _ {V : Type 0} {number : Ghosts V} (q : Question) (v : Surveyed) (e : End
       ∙ (λ i. ray_list (shape_of_table (k i)) (table_of (k i)) (m i))
       ∙ ap (λ S. ray_list S (table_of (last_of e)) (entering_of (ended_as e))) h.shape
 
-  pub ray_length : length (ray_list (posed_shape q (scene_of v)) (table_of (last_of e)) (entering_of (ended_as e)))
+  pub ray_length : length (ray_list (posed_shape q (scene_of v)) (table_of (last_of e))
+      (entering_of (ended_as e)))
       ≡ suc (2 * length v.bearings)
   ray_length = length_listed (suc (2 * length v.bearings))
       (ray_number (posed_shape q (scene_of v)) (table_of (last_of e)) (entering_of (ended_as e)))
@@ -152,11 +155,13 @@ module _ {V : Type 0} {number : Ghosts V} (q : Question) (v : Surveyed) where
       go (Rises t c) p f = p.0
 
   pub rates_push : (e : Ended V number) → EndsPush → IsEndOfSurvey q v e → HasRay (ended_as e) →
-      NonePulls (whole_list (ray_list (posed_shape q (scene_of v)) (table_of (last_of e)) (entering_of (ended_as e))))
+      NonePulls (whole_list (ray_list (posed_shape q (scene_of v)) (table_of (last_of e))
+      (entering_of (ended_as e))))
   rates_push e law h f = go e (law q v (ended_as e) h.run) f
     where
       go : (e : Ended V number) → EndPushes q v (ended_as e) → HasRay (ended_as e) →
-          NonePulls (whole_list (ray_list (posed_shape q (scene_of v)) (table_of (last_of e)) (entering_of (ended_as e))))
+          NonePulls (whole_list (ray_list (posed_shape q (scene_of v)) (table_of (last_of e))
+          (entering_of (ended_as e))))
       go (Infeasible t) p f = absurd f
       go (Feasible t) p f = absurd f
       go (Optimal t) p f = absurd f
@@ -179,7 +184,8 @@ module _ (q : Question) (v : Surveyed) (T : Tabled Fraction) where
   forces_pass xs e (Ok f) h = tt
   forces_pass xs e (Err x) h = subst (λ xs. Tells x (push_place Forces v.bearings xs)) e h
 
-  pub is_ray : (c : ℕ) (xs : List Fraction) → xs ≡ ray_list (posed_shape q (scene_of v)) T c → (f : ForcesValue) →
+  pub is_ray : (c : ℕ) (xs : List Fraction) → xs ≡ ray_list (posed_shape q (scene_of v)) T c →
+      (f : ForcesValue) →
       AreForcesFrom Ray v.bearings xs f →
       IsRayOf q v T c (record { scale = pos 0; factor = f.factor; parts = f.parts })
   is_ray c xs e f h = record {
@@ -198,7 +204,8 @@ not_passing true p h = refl
 not_passing false p h = absurd cc
 
 -- where no number passes, each whole number fits
-pub each_fits : (l : Numbers) (xs : List Fraction) (scale : ℤ) (zs : List ℤ) → AreWhole l xs scale zs → (k : ℕ) →
+pub each_fits : (l : Numbers) (xs : List Fraction) (scale : ℤ) (zs : List ℤ) → AreWhole l xs scale zs →
+    (k : ℕ) →
     k < length zs → fits (amount zs k) ≡ true
 each_fits l xs scale zs h k m = let n = ap length h.numbers ∙ length_map (times_scale (scale_of xs)) xs in
     ap (λ us. fits (amount us k)) h.numbers
@@ -224,7 +231,8 @@ module _ (S : Shape) (T : Tabled Fraction) (xs : List Fraction) (e : xs ≡ coll
       IfOk r (λ y. IsMotionFrom n flips xs (list_place Motion xs) (motion_view y)) →
       IfOk r (λ y. IsMotionFrom n flips (collapse_list S T) (shifted_place S T) (motion_view y))
   shifted n flips s (Ok y) h = record {
-    fits = ap (λ o. or_else o (list_place Motion (collapse_list S T))) s ∙ ap (list_place Motion) (sym e) ∙ h.fits;
+    fits = ap (λ o. or_else o (list_place Motion (collapse_list S T))) s ∙ ap (list_place Motion) (sym e)
+        ∙ h.fits;
     moves = h.moves ∙ ap (λ xs. moves_by n flips (whole_list xs)) e;
   }
   shifted n flips s (Err x) h = tt
@@ -243,7 +251,8 @@ shift_passes_first S T x h = tells_first x (shift_place S T) (list_place Motion 
 moves_are : (v : Surveyed) (q : Question) (flips : ℕ → Bool) → flips ≡ flipped (posed q (scene_of v)) →
     (zs us : List ℤ) → zs ≡ us → moves_by (length (frees_of v.structure.bodies)) flips zs
     ≡ motion_value (free_count (scene_of v)) (posed q (scene_of v)) us
-moves_are v q flips h zs us e = λ i. listed (sym (all_before v) i) (triple_at (λ k. turned (h i k) (amount (e i) k)))
+moves_are v q flips h zs us e = λ i. listed (sym (all_before v) i)
+    (triple_at (λ k. turned (h i k) (amount (e i) k)))
 
 -- the motion of a survey's last table
 module _ {V : Type 0} {number : Ghosts V} (v : Surveyed) where
@@ -257,33 +266,41 @@ module _ {V : Type 0} {number : Ghosts V} (v : Surveyed) where
       IsMotionOf q v (infeasible (table_of t)) y
   is_collapse q t h y g = record {
     fits = ap (λ S. shifted_place S (table_of t)) (sym h.shape) ∙ g.fits;
-    motion = g.moves ∙ moves_are v q (flips_of t) h.flips _ _ (ap (λ S. whole_list (collapse_list S (table_of t))) h.shape);
+    motion = g.moves ∙ moves_are v q (flips_of t) h.flips _ _
+        (ap (λ S. whole_list (collapse_list S (table_of t))) h.shape);
   }
 
   pub is_bound : (q : Question) (t : Table V number) → IsEndOfSurvey {number = number} q v (Optimal t) →
       (y : MotionValue) → IsMotionFrom (length (frees_of v.structure.bodies)) (flips_of t)
-      (bound_list (shape_of_table t) (table_of t)) (list_place Motion (bound_list (shape_of_table t) (table_of t))) y →
+      (bound_list (shape_of_table t) (table_of t))
+      (list_place Motion (bound_list (shape_of_table t) (table_of t))) y →
       IsMotionOf q v (optimal (table_of t)) y
   is_bound q t h y g = record {
     fits = ap (λ S. list_place Motion (bound_list S (table_of t))) (sym h.shape) ∙ g.fits;
-    motion = g.moves ∙ moves_are v q (flips_of t) h.flips _ _ (ap (λ S. whole_list (bound_list S (table_of t))) h.shape);
+    motion = g.moves ∙ moves_are v q (flips_of t) h.flips _ _
+        (ap (λ S. whole_list (bound_list S (table_of t))) h.shape);
   }
 
   -- of an answer
   pub answer_is_collapse : (e : Ended V number) (t : Table V number) → e ≡ Infeasible t →
       (r : Result Moves ExtractError) →
       IfOk r (λ y. IsMotionFrom (length (frees_of v.structure.bodies)) (flips_of t)
-      (collapse_list (shape_of_table t) (table_of t)) (shifted_place (shape_of_table t) (table_of t)) (motion_view y)) →
+      (collapse_list (shape_of_table t) (table_of t)) (shifted_place (shape_of_table t) (table_of t))
+      (motion_view y)) →
       (q : Question) → IsEndOfSurvey q v e → IfOk r (λ y. IsMotionOf q v (ended_as e) (motion_view y))
-  answer_is_collapse e t p (Ok y) g q h = subst (λ (e : Ended V number). IsMotionOf q v (ended_as e) (motion_view y))
+  answer_is_collapse e t p (Ok y) g q h = subst (λ (e : Ended V number). IsMotionOf q v (ended_as e)
+      (motion_view y))
       (sym p) (is_collapse q t (subst (IsEndOfSurvey q v) p h) (motion_view y) g)
   answer_is_collapse e t p (Err x) g q h = tt
 
-  pub answer_is_bound : (e : Ended V number) (t : Table V number) → e ≡ Optimal t → (r : Result Moves ExtractError) →
+  pub answer_is_bound : (e : Ended V number) (t : Table V number) → e ≡ Optimal t →
+      (r : Result Moves ExtractError) →
       IfOk r (λ y. IsMotionFrom (length (frees_of v.structure.bodies)) (flips_of t)
-      (bound_list (shape_of_table t) (table_of t)) (list_place Motion (bound_list (shape_of_table t) (table_of t)))
+      (bound_list (shape_of_table t) (table_of t))
+      (list_place Motion (bound_list (shape_of_table t) (table_of t)))
       (motion_view y)) → (q : Question) → IsEndOfSurvey q v e →
       IfOk r (λ y. IsMotionOf q v (ended_as e) (motion_view y))
-  answer_is_bound e t p (Ok y) g q h = subst (λ (e : Ended V number). IsMotionOf q v (ended_as e) (motion_view y))
+  answer_is_bound e t p (Ok y) g q h = subst (λ (e : Ended V number). IsMotionOf q v (ended_as e)
+      (motion_view y))
       (sym p) (is_bound q t (subst (IsEndOfSurvey q v) p h) (motion_view y) g)
   answer_is_bound e t p (Err x) g q h = tt

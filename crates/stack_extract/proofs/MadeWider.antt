@@ -33,9 +33,11 @@ module _ (law : PartsMakeTheNumber) (m : ℤ) (x : Fraction) (w : IsWidth m) (f 
 
   pub denominator_passes : (d : ℤ) → d ≡ pos x.den →
       passes widest Whole (of (to_z w128 (of_z w128 d))) (of (to_z w128 (of_z w128 d))) ≡ false
-  denominator_passes d e = subst (λ z. passes widest Whole (of z) (of z) ≡ false) (sym (denominator_held d e)) again.den
+  denominator_passes d e = subst (λ z. passes widest Whole (of z) (of z) ≡ false)
+      (sym (denominator_held d e)) again.den
 
-  pub denominator_some : (a : Fraction) (d : ℤ) → d ≡ pos x.den → a ≡ of (to_z w128 (of_z w128 d)) → a.num ≢ pos 0
+  pub denominator_some : (a : Fraction) (d : ℤ) → d ≡ pos x.den → a ≡ of (to_z w128 (of_z w128 d)) →
+      a.num ≢ pos 0
   denominator_some a d e p g = let num = ap (λ (a : Fraction). a.num) p
       ∙ num_of (to_z w128 (of_z w128 d)) ∙ denominator_held d e in
       omega (arith, ints, x.positive, sym num ∙ g)
@@ -43,9 +45,11 @@ module _ (law : PartsMakeTheNumber) (m : ℤ) (x : Fraction) (w : IsWidth m) (f 
   module _ (a b : Fraction) (n d : ℤ) (p : a ≡ of (to_z w128 (of_z w128 n))) (q : n ≡ x.num)
       (r : b ≡ of (to_z w128 (of_z w128 d))) (s : d ≡ pos x.den) where
     pub quotient_passes : passes widest Quotient a b ≡ false
-    quotient_passes = (λ i. passes widest Quotient ((p ∙ ap of (numerator_held n q)) i) ((r ∙ ap of (denominator_held d s)) i))
+    quotient_passes = (λ i. passes widest Quotient ((p ∙ ap of (numerator_held n q)) i)
+        ((r ∙ ap of (denominator_held d s)) i))
         ∙ again.quotient
 
     pub quotient_is : (c : Fraction) → c ≡ value_of Quotient a b → c ≡ x
-    quotient_is c e = e ∙ (λ i. value_of Quotient ((p ∙ ap of (numerator_held n q)) i) ((r ∙ ap of (denominator_held d s)) i))
+    quotient_is c e = e ∙ (λ i. value_of Quotient ((p ∙ ap of (numerator_held n q)) i)
+        ((r ∙ ap of (denominator_held d s)) i))
         ∙ again.value

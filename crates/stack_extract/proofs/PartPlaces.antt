@@ -51,7 +51,8 @@ each_true true false c h = absurd cc
 each_true false b c h = absurd cc
 
 -- the parts that are made of a bearing
-pub part_ok : (z : Bearing) (w v : Number) (r : Push) → written_part z.cone w v ≡ Ok r → IsPart z w.value v.value r
+pub part_ok : (z : Bearing) (w v : Number) (r : Push) → written_part z.cone w v ≡ Ok r →
+    IsPart z w.value v.value r
 unfolding written_part
 part_ok z w v r h =
     let c = z.cone in
@@ -59,26 +60,35 @@ part_ok z w v r h =
     made (c.p *ℤ (w.value -ℤ v.value)) >>= λ b. Ok (record { a = a; b = b })) r h in
     let two = bind_ok (made (c.q *ℤ one.value.value)) (λ a.
     made (c.p *ℤ (w.value -ℤ v.value)) >>= λ b. Ok (record { a = a; b = b })) r one.after in
-    let three = bind_ok (made (c.p *ℤ (w.value -ℤ v.value))) (λ b. Ok (record { a = two.value; b = b })) r two.after in
-    told z w.value v.value one.value two.value three.value r (made_fits (w.value +ℤ v.value) one.value one.before)
+    let three = bind_ok (made (c.p *ℤ (w.value -ℤ v.value)))
+    (λ b. Ok (record { a = two.value; b = b })) r two.after in
+    told z w.value v.value one.value two.value three.value r
+    (made_fits (w.value +ℤ v.value) one.value one.before)
     (made_fits (c.q *ℤ one.value.value) two.value two.before)
     (made_fits (c.p *ℤ (w.value -ℤ v.value)) three.value three.before) three.after
   where
-    told : (z : Bearing) (w v : ℤ) (sum a b : Number) (r : Push) → (fits (w +ℤ v) ≡ true) × (sum.value ≡ w +ℤ v) →
+    told : (z : Bearing) (w v : ℤ) (sum a b : Number) (r : Push) → (fits (w +ℤ v) ≡ true) ×
+        (sum.value ≡ w +ℤ v) →
         (fits (z.cone.q *ℤ sum.value) ≡ true) × (a.value ≡ z.cone.q *ℤ sum.value) →
         (fits (z.cone.p *ℤ (w -ℤ v)) ≡ true) × (b.value ≡ z.cone.p *ℤ (w -ℤ v)) →
         ◌≡◌ {A = Result Push Wide} (Ok (record { a = a; b = b })) (Ok r) → IsPart z w v r
     told z w v sum a b r p q t e = record {
       fits = all_true _ _ _ p.0 (ap (λ y. fits (z.cone.q *ℤ y)) (sym p.1) ∙ q.0) t.0;
-      pair = sym (λ i. ((same i).a.value, (same i).b.value)) ∙ (λ i. ((q.1 ∙ ap (λ y. z.cone.q *ℤ y) p.1) i, t.1 i));
+      pair = sym (λ i. ((same i).a.value, (same i).b.value)) ∙
+          (λ i. ((q.1 ∙ ap (λ y. z.cone.q *ℤ y) p.1) i, t.1 i));
     }
       where
         same : ◌≡◌ {A = Push} (record { a = a; b = b }) r
         same = cc
 
-all_made : (c : Cone) (w v : Number) → fits (w.value +ℤ v.value) ≡ true → fits (c.q *ℤ (w.value +ℤ v.value)) ≡ true →
+all_made : (c : Cone) (w v : Number) → fits (w.value +ℤ v.value) ≡ true → fits
+    (c.q *ℤ (w.value +ℤ v.value)) ≡ true →
     fits (c.p *ℤ (w.value -ℤ v.value)) ≡ true →
-    written_part c w v ≡ Ok (record { a = whole (c.q *ℤ (w.value +ℤ v.value)); b = whole (c.p *ℤ (w.value -ℤ v.value)) })
+    written_part c w v ≡ Ok (record {
+      a = whole (c.q *ℤ (w.value +ℤ v.value));
+      b = whole
+          (c.p *ℤ (w.value -ℤ v.value));
+    })
 unfolding written_part
 all_made c w v p q t =
     (λ i. is_made (w.value +ℤ v.value) p i >>= λ sum. made (c.q *ℤ sum.value) >>= λ a.
@@ -132,7 +142,8 @@ module _ (l : Numbers) (bs : List Bearing) (zs : List ℤ) where
     part_passes x e = first_found (length bs) k (part_spot l bs zs) (place l Part k) h.within f.fit
         (spot_is false (part_wide z w v x e))
 
-  pub all_parts : (k : ℕ) (ps : List (ℤ × ℤ)) → length bs ≤ k → k ≤ length bs → PartsSoFar k ps → AreParts l bs zs ps
+  pub all_parts : (k : ℕ) (ps : List (ℤ × ℤ)) → length bs ≤ k → k ≤ length bs → PartsSoFar k ps →
+      AreParts l bs zs ps
   all_parts k ps a b f = let end : length bs ≡ k = omega (arith, a, b) in record {
     fits = ap (λ n. first n (part_spot l bs zs)) end ∙ f.fit;
     parts = f.parts ∙ ap (λ n. listed n (pair_at bs zs)) (sym end);

@@ -1,5 +1,6 @@
 -- The first place that passes, as a loop finds it.
-use Rattle.std.proofs.Common.{◌≡◌, refl, sym, ap, subst, ◌∙◌, ℕ, zero, suc, ◌+◌, ◌^◌, ◌<◌, ◌≤◌, true, false, not}
+use Rattle.std.proofs.Common.{◌≡◌, refl, sym, ap, subst, ◌∙◌, ℕ, zero, suc, ◌+◌, ◌^◌, ◌<◌, ◌≤◌, true, false}
+use Rattle.std.proofs.Common.{not}
 use Rattle.std.proofs.Common.{List, [], ◌∷◌, ◌++◌, map, length, get_or, take, Option, Some, None, arith}
 use Rattle.std.specs.Prelude.{nat_le, nat_lt, unsigned_abs}
 use Rattle.std.proofs.lemmas.Bool.{lt-ltb, le-ltb, le-leb, lt-leb}
@@ -30,10 +31,12 @@ use Rattle.stack_extract.specs.declared.types.EndStep.TheVariants.{Shift, Scale,
 use Rattle.stack_extract.specs.declared.types.ExtractPlace.{ExtractPlace}
 use Rattle.stack_extract.specs.declared.types.ExtractError.{ExtractError}
 use Rattle.stack_extract.specs.declared.types.ExtractError.TheVariants.{TooWide}
-use Rattle.stack_extract.specs.Places.{place, Tells, scale_spot, whole_spot, list_place, AreWhole, shift_spot, shift_place}
+use Rattle.stack_extract.specs.Places.{place, Tells, scale_spot, whole_spot, list_place, AreWhole, shift_spot}
+use Rattle.stack_extract.specs.Places.{shift_place}
 
 -- an error at a place tells it
-pub told : (e : ExtractError) (p : ExtractPlace) (o : Option ExtractPlace) → e ≡ TooWide p → o ≡ Some p → Tells e o
+pub told : (e : ExtractError) (p : ExtractPlace) (o : Option ExtractPlace) → e ≡ TooWide p → o ≡ Some p →
+    Tells e o
 told e p o h g = subst (λ e. Tells e o) (sym h) g
 
 -- what is within the greatest number fits, and nothing else
@@ -55,14 +58,16 @@ module _ (S : Shape) (T : Tabled Fraction) where
       (ap (λ b. only_if b (place Motion Shift k)) (sym (λ i. passes widest Difference (e i) (f i)) ∙ p))
 
   pub shift_fits : (k : ℕ) (x y : Fraction) → x ≡ bound_number S T k → y ≡ of (pos 1) →
-      passes widest Difference x y ≡ false → first k (shift_spot S T) ≡ None → first (k + 1) (shift_spot S T) ≡ None
+      passes widest Difference x y ≡ false → first k (shift_spot S T) ≡ None → first (k + 1)
+      (shift_spot S T) ≡ None
   shift_fits k x y e f p h = first_more k (shift_spot S T) h
       (ap (λ b. only_if b (place Motion Shift k)) (sym (λ i. passes widest Difference (e i) (f i)) ∙ p))
 
 module _ (l : Numbers) (xs : List Fraction) where
   -- the common scale
   no_scale_spot : (i : ℕ) → scale_of (take (i + 1) xs) ≤ greatest_number → scale_spot l xs i ≡ None
-  no_scale_spot i h = ap (λ b. only_if b (place l Scale i)) (le-ltb greatest_number (scale_of (take (i + 1) xs)) h)
+  no_scale_spot i h = ap (λ b. only_if b (place l Scale i))
+      (le-ltb greatest_number (scale_of (take (i + 1) xs)) h)
 
   pub scale_passes : (i : ℕ) → IsFirstPassing xs i → list_place l xs ≡ Some (place l Scale i)
   scale_passes i h = ap (λ o. or_else o (first (length xs) (whole_spot l xs)))
@@ -118,7 +123,8 @@ module _ (l : Numbers) (xs : List Fraction) where
   none_yet = record { numbers = refl; fit = refl }
 
   pub one_more : (i : ℕ) (zs us : List ℤ) (x : Fraction) (s n : ℤ) → i < length xs → x ≡ get_or xs i x →
-      s ≡ pos (scale_of xs) → Within widest (times_scale (unsigned_abs s) x) → n ≡ times_scale (unsigned_abs s) x →
+      s ≡ pos (scale_of xs) → Within widest (times_scale (unsigned_abs s) x) → n ≡ times_scale
+      (unsigned_abs s) x →
       us ≡ zs ++ n ∷ [] → AreSoFar i zs → AreSoFar (i + 1) us
   one_more i zs us x s n m e h w v u f = record {
     numbers = u ∙ (λ j. f.numbers j ++ (v ∙ number_is i x s m e h ∙ mapped xs i x m) j ∷ [])
@@ -136,7 +142,8 @@ module _ (l : Numbers) (xs : List Fraction) where
       (ap (λ b. only_if (not b) (place l Whole i))
       (sym (ap fits (number_is i x s m e h)) ∙ passing_fits (times_scale (unsigned_abs s) x) w))
 
-  pub all_whole : (i : ℕ) (zs : List ℤ) (n : ℤ) → length xs ≤ i → i ≤ length xs → n ≡ pos (scale_of xs) → ScaleFits →
+  pub all_whole : (i : ℕ) (zs : List ℤ) (n : ℤ) → length xs ≤ i → i ≤ length xs → n ≡ pos (scale_of xs) →
+      ScaleFits →
       AreSoFar i zs → AreWhole l xs n zs
   all_whole i zs n a b e h f = let end : length xs ≡ i = omega (arith, a, b) in record {
     fits = scale_fits h ∙ ap (λ k. first k (whole_spot l xs)) end ∙ f.fit;

@@ -17,7 +17,8 @@ use Rattle.stack_posing.specs.Posed.{posed, posed_shape}
 use Rattle.stack_simplex.specs.declared.ended.Ended.{Ended}
 use Rattle.stack_simplex.specs.Ends.{ended_as, last_of}
 use Rattle.stack_amounts.specs.WholeLists.{whole_list, amount}
-use Rattle.stack_certified.specs.Certified.{forces_value, triple_at, end_forces, end_ray, end_collapse, end_bound}
+use Rattle.stack_certified.specs.Certified.{forces_value, triple_at, end_forces, end_ray, end_collapse}
+use Rattle.stack_certified.specs.Certified.{end_bound}
 use Rattle.stack_certified.specs.Laws.{IsEndOfRun}
 use Rattle.stack_extract.specs.declared.types.Numbers.{Numbers}
 use Rattle.stack_extract.specs.declared.types.ExtractPlace.{ExtractPlace}

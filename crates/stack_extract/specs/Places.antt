@@ -1,6 +1,6 @@
--- The first number that passes 2^127 - 1 among those that are made of an end, in their order: where it is a motion of
--- phase 1, an objective cell less 1; the common scale of the list; a whole number; where it is forces or a ray, the parts
--- of a bearing.
+-- The first number that passes 2^127 - 1 among those that are made of an end, in their order: where it is a
+-- motion of phase 1, an objective cell less 1; the common scale of the list; a whole number; where it is forces
+-- or a ray, the parts of a bearing.
 use Rattle.std.specs.Prelude.{◌≡◌, ℕ, ◌+◌, ◌*◌, ℤ, pos, ◌+ℤ◌, ◌-ℤ◌, ◌*ℤ◌, not, ◌&&◌, ltb, Option, Some, None}
 use Rattle.std.specs.Prelude.{List, length, get_or, take, Bool, ⊤}
 use Rattle.stack_algebra.specs.Listed.{listed}

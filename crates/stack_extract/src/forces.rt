@@ -77,8 +77,9 @@ fn entering<S: Exact>(e: &Ended<S>) -> usize
     }
 }
 
-/// The forces of the end of a survey's run, in whole numbers of 128 bits whatever the width of the run: the values of the
-/// columns at their common scale, and of each bearing `q` times the sum of its two and `p` times their difference.
+/// The forces of the end of a survey's run, in whole numbers of 128 bits whatever the width of the run: the
+/// values of the columns at their common scale, and for each bearing `q` times the sum of its two along the
+/// normal and `p` times their difference along the tangent, in sixths of a unit of force.
 ///
 /// Refused exactly where one of these passes 2^127 - 1, with the first that does, or where memory is wanting.
 pub fn forces_of<S: Exact>(alloc: Global, s: &Survey, e: &Ended<S>) -> Result<Forces, ExtractError>
@@ -95,15 +96,17 @@ pub fn forces_of<S: Exact>(alloc: Global, s: &Survey, e: &Ended<S>) -> Result<Fo
     from_list(alloc, Numbers::Forces, s, &list)
 }
 
-/// The forces that the end of a survey's run adds without end, in whole numbers: 1 for the column that enters, less the
-/// cells of that column for the basic ones, all at their common scale. They balance no dead loads, so their scale is 0.
+/// The forces that the end of a survey's run adds without end, in whole numbers: 1 for the column that enters,
+/// minus the cells of that column for the basic ones, all at their common scale. They balance no dead loads, so
+/// their scale is 0.
 ///
 /// Refused as `forces_of`.
 pub fn ray_of<S: Exact>(alloc: Global, s: &Survey, e: &Ended<S>) -> Result<Forces, ExtractError>
     requires end { IsEndOfSome s.now e.now }
     requires ray { HasRay (ended_as e.now) }
     ensures ok { (q : Question) → IsEndOfSurvey q s.now e.now →
-        IfOk result (λ f. IsRayOf q s.now (table_of (last_of e.now)) (entering_of (ended_as e.now)) (forces_view f)) }
+        IfOk result (λ f.
+        IsRayOf q s.now (table_of (last_of e.now)) (entering_of (ended_as e.now)) (forces_view f)) }
     ensures wide { (q : Question) → IsEndOfSurvey q s.now e.now → IfErr result (λ x.
         Tells x (ray_place q s.now (table_of (last_of e.now)) (entering_of (ended_as e.now)))) }
 {

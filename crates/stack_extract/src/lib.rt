@@ -1,5 +1,5 @@
-//! From the end of a run to the parts of its certificate: the forces, the ray or the motion of the last table, in whole
-//! numbers of 128 bits, whatever the width of the run.
+//! From the end of a run to the parts of its certificate: the forces, the ray or the motion of the last
+//! table, in whole numbers of 128 bits, whatever the width of the run.
 #![tactic(auto)]
 
 mod forces;

@@ -97,8 +97,8 @@ fn from_list<S: Exact>(
 ) -> Result<Motion, ExtractError>
     requires rows { (shape_of_table t.now).rows ≡ 3 * length (frees_of s.now.structure.bodies) }
     requires listed { length list.now ≡ 3 * length (frees_of s.now.structure.bodies) }
-    ensures ok { IfOk result (λ y. IsMotionFrom (length (frees_of s.now.structure.bodies)) (flips_of t.now) list.now
-        (list_place numbers.Motion list.now) (motion_view y)) }
+    ensures ok { IfOk result (λ y. IsMotionFrom (length (frees_of s.now.structure.bodies)) (flips_of t.now)
+        list.now (list_place numbers.Motion list.now) (motion_view y)) }
     ensures wide { IfErr result (λ e. Tells e (list_place numbers.Motion list.now)) }
 {
     let whole = whole_numbers(alloc, Numbers::Motion, list)?;
@@ -110,8 +110,8 @@ fn from_list<S: Exact>(
 fn collapse_of<S: Exact>(alloc: Global, s: &Survey, t: &Table<S>) -> Result<Motion, ExtractError>
     requires { (shape_of_table t.now).rows ≡ 3 * length (frees_of s.now.structure.bodies) }
     ensures ok { IfOk result (λ y. IsMotionFrom (length (frees_of s.now.structure.bodies)) (flips_of t.now)
-        (collapse_list (shape_of_table t.now) (table_of t.now)) (shifted_place (shape_of_table t.now) (table_of t.now))
-        (motion_view y)) }
+        (collapse_list (shape_of_table t.now) (table_of t.now))
+        (shifted_place (shape_of_table t.now) (table_of t.now)) (motion_view y)) }
     ensures wide { IfErr result (λ e. Tells e (shifted_place (shape_of_table t.now) (table_of t.now))) }
 {
     let list = collapse_numbers(alloc, t)?;
@@ -131,9 +131,9 @@ fn bound_of<S: Exact>(alloc: Global, s: &Survey, t: &Table<S>) -> Result<Motion,
     from_list(alloc, s, t, &list)
 }
 
-/// The motion of the end of a survey's run, in whole numbers of 128 bits whatever the width of the run: the objective
-/// cells of the artificial columns, less 1 where no amounts balance, at their common scale, with the other sign in
-/// flipped rows; three for each free block.
+/// The motion of the end of a survey's run, in whole numbers of 128 bits whatever the width of the run: the
+/// objective cells of the artificial columns, less 1 where no amounts balance, at their common scale, with the
+/// other sign in flipped rows; three for each free block.
 ///
 /// Refused exactly where one of these passes 2^127 - 1, with the first that does, or where memory is wanting.
 pub fn motion_of<S: Exact>(alloc: Global, s: &Survey, e: &Ended<S>) -> Result<Motion, ExtractError>

@@ -55,8 +55,8 @@ fn longer(mut parts: Vec<(i128, i128)>, push: Push) -> Result<Vec<(i128, i128)>,
     Ok(parts)
 }
 
-/// The parts of all bearings from the amounts of the columns, none negative. Refused at the first bearing at which a
-/// number passes.
+/// The parts of all bearings from the amounts of the columns, none negative. Refused at the first bearing at
+/// which a number passes.
 pub(crate) fn force_parts(
     alloc: Global,
     which: Numbers,

@@ -14,8 +14,8 @@ pub(crate) struct WholeNumbers {
     pub numbers: Vec<i128>,
 }
 
-/// The common scale of a list, and each of its numbers times that. Refused at the first item at which the running
-/// scale passes, or else at the first whole number that does.
+/// The common scale of a list, and each of its numbers times that. Refused at the first item at which the
+/// running scale passes, or else at the first whole number that does.
 pub(crate) fn whole_numbers(
     alloc: Global,
     which: Numbers,

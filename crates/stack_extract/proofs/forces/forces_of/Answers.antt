@@ -10,7 +10,8 @@ forces_numbers-requires g c = few_contacts c.requires.end.0 c.args.s.now c.args.
 
 pub from_list-requires-clause-count : goal.from_list-requires-clause-count
 from_list-requires-clause-count g c =
-    ap length (forces_list_is c.requires.end.0 c.args.s.now c.args.e.now c.requires.end.1 c.last_table.result.now
+    ap length (forces_list_is c.requires.end.0 c.args.s.now c.args.e.now c.requires.end.1
+    c.last_table.result.now
     c.last_table.ensures c.deref.result.now (c.deref.ensures.value ∙ c.in_ok-list.ensures))
     ∙ forces_length c.requires.end.0 c.args.s.now c.args.e.now c.requires.end.1
 

@@ -6,5 +6,6 @@ use Rattle.stack_extract.proofs.motions.bound_of.Goals as goal
 
 pub from_list-requires-clause-listed : goal.from_list-requires-clause-listed
 from_list-requires-clause-listed g c = ap length (c.deref.ensures.value ∙ c.in_ok-list.ensures)
-    ∙ length_listed (shape_of_table c.args.t.now).rows (bound_number (shape_of_table c.args.t.now) (table_of c.args.t.now))
+    ∙ length_listed (shape_of_table c.args.t.now).rows
+    (bound_number (shape_of_table c.args.t.now) (table_of c.args.t.now))
     ∙ c.requires

@@ -12,4 +12,9 @@ loop-column-preserved g c = grown (forces_number (shape_of_table c.args.t.now) (
 pub returns : goal.returns
 returns g c = whole (forces_number (shape_of_table c.args.t.now) (table_of c.args.t.now))
     c.loop-column.column (suc (shape_of_table c.args.t.now).contacts) c.loop-column.numbers.items
-    c.loop-column.invariant (omega (arith, c.loop-column-test.false, c.loop-column.auto, c.contacts-column-end.ensures))
+    c.loop-column.invariant (omega (
+      arith,
+      c.loop-column-test.false,
+      c.loop-column.auto,
+      c.contacts-column-end.ensures,
+    ))

@@ -5,4 +5,5 @@ use Rattle.stack_amounts.specs.WrittenLists.{forces_number}
 use Rattle.stack_extract.proofs.numbers.forces_numbers.Given as goal
 
 abbrev pub invariant-loop-column : goal.invariant-loop-column
-invariant-loop-column g l = l.numbers.items ≡ listed l.column (forces_number (shape_of_table l.t) (table_of l.t))
+invariant-loop-column g l = l.numbers.items ≡ listed l.column
+    (forces_number (shape_of_table l.t) (table_of l.t))

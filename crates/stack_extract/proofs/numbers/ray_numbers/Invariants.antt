@@ -5,4 +5,5 @@ use Rattle.stack_amounts.specs.WrittenLists.{ray_number}
 use Rattle.stack_extract.proofs.numbers.ray_numbers.Given as goal
 
 abbrev pub invariant-loop-column : goal.invariant-loop-column
-invariant-loop-column g l = l.numbers.items ≡ listed l.column (ray_number (shape_of_table l.t) (table_of l.t) l.entering)
+invariant-loop-column g l = l.numbers.items ≡ listed l.column
+    (ray_number (shape_of_table l.t) (table_of l.t) l.entering)

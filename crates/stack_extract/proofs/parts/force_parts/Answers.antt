@@ -10,15 +10,29 @@ next i n l = omega (arith, l)
 pub returns-in-Err-clause-wide : goal.returns-in-Err-clause-wide
 returns-in-Err-clause-wide c = told c.too_wide.result _ _ c.too_wide.ensures
     (part_passes c.args.which c.args.bearings.now c.args.numbers.now c.loop-k.k
-    (get_or c.args.bearings.now c.loop-k.k no_bearing) c.amount.result c.amount-in-loop-k.result c.loop-k.parts.items
-    (record { within = c.loop-k-test.true; bearing = refl; first = c.amount.ensures; second = c.amount-in-loop-k.ensures })
+    (get_or c.args.bearings.now c.loop-k.k no_bearing) c.amount.result c.amount-in-loop-k.result
+    c.loop-k.parts.items
+    (record {
+      within = c.loop-k-test.true;
+      bearing = refl;
+      first = c.amount.ensures;
+      second =
+          c.amount-in-loop-k.ensures;
+    })
     c.loop-k.invariant.0 c.in-Err.field-0 (sym c.part.ensures ∙ c.in-Err.is))
 
 pub loop-k-preserved : goal.loop-k-preserved
 loop-k-preserved c = (
   one_part c.args.which c.args.bearings.now c.args.numbers.now c.loop-k.k
-      (get_or c.args.bearings.now c.loop-k.k no_bearing) c.amount.result c.amount-in-loop-k.result c.loop-k.parts.items
-      (record { within = c.loop-k-test.true; bearing = refl; first = c.amount.ensures; second = c.amount-in-loop-k.ensures })
+      (get_or c.args.bearings.now c.loop-k.k no_bearing) c.amount.result c.amount-in-loop-k.result
+      c.loop-k.parts.items
+      (record {
+        within = c.loop-k-test.true;
+        bearing = refl;
+        first = c.amount.ensures;
+        second =
+            c.amount-in-loop-k.ensures;
+      })
       c.loop-k.invariant.0 c.in_ok-parts-in-Ok.parts.items c.in-Ok.push (sym c.part.ensures ∙ c.in-Ok.is)
       c.in_ok-parts-in-Ok.ensures,
   next c.loop-k.k _ c.loop-k-test.true,
