@@ -7,3 +7,5 @@ mod CertificateChecked
 mod Consequences
 mod AcceptedFiles
 mod BodyNames
+mod Budgets
+mod JudgementEnds

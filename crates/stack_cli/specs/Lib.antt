@@ -7,6 +7,7 @@ pub mod Work
 pub mod Surveying
 pub mod Checking
 pub mod Listing
+pub mod Judging
 pub mod Forms
 pub mod Progress
 pub mod OneEnd
