@@ -16,7 +16,7 @@ use Rattle.stack_cli.specs.Answers.{Due, certificate}
 use Rattle.stack_cli.specs.Work.{Work, refuses, Holds, Ends}
 use Rattle.stack_cli.specs.Judging.{lacks_live, wide_fault, judged_step, judged}
 
-lists_some : (s : Structure) → list_any (λ l. l.live) s.loads ≡ true → HasLive s
+pub lists_some : (s : Structure) → list_any (λ l. l.live) s.loads ≡ true → HasLive s
 lists_some s h = let a = Any-from_list_any (λ l. l.live) s.loads h in
     (a.0, (a.2, subst (λ l. l.live ≡ true) (sym (get_or_default s.loads a.0 _ a.1 a.2 ∙ a.3)) a.4))
 

@@ -9,3 +9,4 @@ mod AcceptedFiles
 mod BodyNames
 mod Budgets
 mod JudgementEnds
+mod HeadlineHolds

@@ -13,3 +13,4 @@ pub mod Progress
 pub mod OneEnd
 pub mod AcceptedModel
 pub mod MainTheorem
+pub mod Headline
