@@ -11,15 +11,18 @@ use Rattle.stack_certificate.specs.CertificateOf.{certificate_of}
 use Rattle.stack_checker.specs.declared.types.Check.{Check}
 use Rattle.stack_checker.specs.declared.types.Check.TheVariants.{Accepted, Rejected, TooWide}
 use Rattle.stack_checker.specs.WrittenCheck.{written_check}
+use Rattle.stack_equilibrium.specs.declared.types.Question.{Question}
+use Rattle.stack_judge.specs.Judgement.{Judgement, certified as is_certified, too_wide, spent, judgement}
 use Rattle.stack_cli.specs.declared.refusal.Input.{Input}
 use Rattle.stack_cli.specs.declared.refusal.Input.TheVariants as inputs
-use Rattle.stack_cli.specs.Words.{Form, check, contacts, files_of}
-use Rattle.stack_cli.specs.Refusals.{Refusal, long}
+use Rattle.stack_cli.specs.Words.{Form, check, contacts, judges, files_of}
+use Rattle.stack_cli.specs.Refusals.{Refusal, long, no_live}
 use Rattle.stack_cli.specs.Answers.{Due}
 use Rattle.stack_cli.specs.Work.{Work, gives, refuses, reads, surveys, ◌>>=◌, Found, Holds, Ends}
 use Rattle.stack_cli.specs.Surveying.{greatest_file, read, model_step, survey_step, modelled, surveyed}
 use Rattle.stack_cli.specs.Checking.{certificate_step, check_step, certified, checked, check_work}
 use Rattle.stack_cli.specs.Listing.{contacts_work}
+use Rattle.stack_cli.specs.Judging.{lacks_live, judged_step, judged, judge_work}
 use Rattle.stack_cli.specs.Forms.{work_of}
 use Rattle.stack_cli.specs.Progress.{Names, GrewBy, Way}
 
@@ -93,11 +96,23 @@ checked_asks name v =
     (λ text. asks_then (certificate_step (certificate_of text)) _ [] [] (certificate_asks (certificate_of text))
     (λ c. check_asks v.structure (written_check v c)))
 
+judgement_asks : (q : Question) (budget : ℕ) (v : Surveyed) (j : Judgement) → AsksOnly (judged_step q budget v j) []
+judgement_asks q budget v (is_certified c) = refl
+judgement_asks q budget v (too_wide p) = tt
+judgement_asks q budget v spent = tt
+
+judged_asks : (q : Question) (budget : ℕ) (v : Surveyed) → AsksOnly (judged q budget v) []
+judged_asks q budget v = elim (lacks_live q v.structure)
+    as (λ b. AsksOnly (if b then refuses no_live else judged_step q budget v (judgement q v budget)) [])
+    [ true ↦ tt | false ↦ judgement_asks q budget v (judgement q v budget) ]
+
 -- Each form: one clause.
 form_asks : (form : Form) → AsksOnly (work_of form) (files_of (Some form))
-unfolding check_work contacts_work
+unfolding check_work contacts_work judge_work
 form_asks (check model certificate) =
     asks_then (surveyed model) _ (model ∷ []) (certificate ∷ []) (surveyed_asks model) (checked_asks certificate)
+form_asks (judges question model budget) = asks_then (surveyed model) _ (model ∷ []) [] (surveyed_asks model)
+    (λ v. judged_asks question budget v)
 form_asks (contacts model) = asks_then (surveyed model) _ (model ∷ []) [] (surveyed_asks model) (λ v. refl)
 
 pub asked_named : (holds : Holds) (form : Option Form) (names : List (List ℕ)) (end : Result Due Refusal)

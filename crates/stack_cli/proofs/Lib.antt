@@ -7,3 +7,6 @@ mod CertificateChecked
 mod Consequences
 mod AcceptedFiles
 mod BodyNames
+mod Budgets
+mod JudgementEnds
+mod HeadlineHolds

@@ -1,6 +1,11 @@
 -- What is due on standard output, by its meaning, and which bytes are that answer, with which verdict. A further kind of
 -- answer is a further case of both.
 use Rattle.std.specs.Prelude.{◌≡◌, ℕ, List}
+use Rattle.stack_contact.specs.Surveyed.{Surveyed}
+use Rattle.stack_certificate.specs.Certificate.{CertificateValue, stands, collapses, greatest, unbounded}
+use Rattle.stack_certificate.specs.CertificateText.{IsCertificateText}
+use Rattle.stack_equilibrium.specs.declared.types.Question.{Question}
+use Rattle.stack_judge.specs.Judged.{IsJudged}
 use Rattle.stack_cli.specs.declared.answer.Verdict.{Verdict}
 use Rattle.stack_cli.specs.declared.answer.Verdict.TheVariants.{Affirmed, Denied}
 
@@ -9,10 +14,26 @@ abbrev pub verdict_status : Verdict → ℕ
 verdict_status Affirmed = 0
 verdict_status Denied = 1
 
--- Exactly these bytes, with this verdict.
+-- A certificate that isn't a collapse affirms its question.
+abbrev pub verdict_of : CertificateValue → Verdict
+verdict_of (stands f) = Affirmed
+verdict_of (collapses y) = Denied
+verdict_of (greatest f y) = Affirmed
+verdict_of (unbounded base rise) = Affirmed
+
+-- Exactly these bytes, with this verdict; or the certificate of this question of this survey.
 pub data Due : Type 0 where
   exactly : Verdict → List ℕ → Due
+  certificate : Question → Surveyed → CertificateValue → Due
+
+-- It is true, and the bytes are its text.
+pub record IsCertificateOf (q : Question) (v : Surveyed) (c : CertificateValue) (verdict : Verdict) (text : List ℕ)
+    : Type 0 where
+  pub judged : IsJudged q v c
+  pub is_verdict : verdict ≡ verdict_of c
+  pub is_text : IsCertificateText c text
 
 -- A verdict and bytes are what is due.
 abbrev pub IsAnswer : Due → Verdict → List ℕ → Type 0
 IsAnswer (exactly v t) verdict text = (verdict ≡ v) × (text ≡ t)
+IsAnswer (certificate q v c) verdict text = IsCertificateOf q v c verdict text

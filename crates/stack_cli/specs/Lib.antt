@@ -7,8 +7,10 @@ pub mod Work
 pub mod Surveying
 pub mod Checking
 pub mod Listing
+pub mod Judging
 pub mod Forms
 pub mod Progress
 pub mod OneEnd
 pub mod AcceptedModel
 pub mod MainTheorem
+pub mod Headline

@@ -5,6 +5,14 @@ use Rattle.stack_equilibrium.specs.declared.types.Axis.TheVariants as axes
 use Rattle.stack_checker.specs.declared.types.Part.{Part}
 use Rattle.stack_checker.specs.declared.types.Part.TheVariants as parts
 use Rattle.stack_reader.specs.declared.errors.ReadError.{ReadError}
+use Rattle.stack_table.specs.declared.types.Step.{Step}
+use Rattle.stack_table.specs.declared.types.Step.TheVariants as steps
+use Rattle.stack_simplex.specs.declared.refusal.Place.{Place as RunPlace}
+use Rattle.stack_extract.specs.declared.types.Numbers.{Numbers}
+use Rattle.stack_extract.specs.declared.types.Numbers.TheVariants as numbers
+use Rattle.stack_extract.specs.declared.types.EndStep.{EndStep}
+use Rattle.stack_extract.specs.declared.types.EndStep.TheVariants as end_steps
+use Rattle.stack_extract.specs.declared.types.ExtractPlace.{ExtractPlace}
 use Rattle.stack_cli.specs.declared.refusal.Input.{Input}
 use Rattle.stack_cli.specs.declared.refusal.Input.TheVariants as inputs
 use Rattle.stack_cli.specs.declared.refusal.Place.{Place as CodePlace}
@@ -23,8 +31,9 @@ pub data Place : Type 0 where
   apart : Place
 
 -- Why the work on a form refuses: a file is too long; the model's file has a fault; two bodies overlap, told by their
--- names; the bearings are too many; the certificate's text ends to be one at a line, from 1; a number of the check is
--- too wide; memory is wanting.
+-- names; the bearings are too many; the certificate's text ends to be one at a line, from 1; a number of the check, of the
+-- run or of what is made of its end is too wide; a pivot is due when the budget's are done; no live load is listed; memory
+-- is wanting.
 pub data Fault : Type 0 where
   long : Input → Fault
   content : ReadError → Fault
@@ -32,6 +41,10 @@ pub data Fault : Type 0 where
   many_bearings : ℕ → Fault
   certificate_line : ℕ → Fault
   wide_check : Part → Place → Fault
+  wide_run : RunPlace → Fault
+  wide_end : ExtractPlace → Fault
+  over_budget : ℕ → Fault
+  no_live : Fault
   memory : Fault
 
 -- Why a run refuses: the words are no form; a file isn't read; the work has a fault; the answer isn't written.
@@ -58,6 +71,10 @@ refusal_view (code.Overlap first second) = faulty (overlap (string_bytes first) 
 refusal_view (code.ManyBearings count) = faulty (many_bearings count)
 refusal_view (code.CertificateLine number) = faulty (certificate_line number)
 refusal_view (code.WideCheck part place) = faulty (wide_check part (place_view place))
+refusal_view (code.WideRun place) = faulty (wide_run place)
+refusal_view (code.WideEnd place) = faulty (wide_end place)
+refusal_view (code.Spent budget) = faulty (over_budget budget)
+refusal_view code.NoLive = faulty no_live
 refusal_view code.Output = output
 refusal_view code.Memory = faulty memory
 
@@ -69,6 +86,10 @@ fault_status (overlap first second) = 5
 fault_status (many_bearings count) = 5
 fault_status (certificate_line number) = 6
 fault_status (wide_check part place) = 7
+fault_status (wide_run place) = 7
+fault_status (wide_end place) = 7
+fault_status (over_budget budget) = 8
+fault_status no_live = 9
 fault_status memory = 11
 
 abbrev pub status_of : Refusal → ℕ
@@ -90,6 +111,33 @@ axis_word axes.X = codes "x"
 axis_word axes.Y = codes "y"
 axis_word axes.M = codes "m"
 
+abbrev pub step_word : Step → List ℕ
+step_word steps.Ratio = codes "ratio"
+step_word steps.Divide = codes "divide"
+step_word steps.Multiply = codes "multiply"
+step_word steps.Subtract = codes "subtract"
+
+abbrev pub numbers_word : Numbers → List ℕ
+numbers_word numbers.Forces = codes "forces"
+numbers_word numbers.Motion = codes "motion"
+numbers_word numbers.Ray = codes "ray"
+
+abbrev pub end_step_word : EndStep → List ℕ
+end_step_word end_steps.Shift = codes "shift"
+end_step_word end_steps.Scale = codes "scale"
+end_step_word end_steps.Whole = codes "whole"
+end_step_word end_steps.Part = codes "part"
+
+-- The place of a number in a run, and in what is made of its end, as they are counted there.
+abbrev pub spot_text : RunPlace → List ℕ
+spot_text p = decimal p.row ++ codes " " ++ decimal p.column ++ codes " " ++ step_word p.step
+
+abbrev pub run_text : RunPlace → List ℕ
+run_text p = decimal p.phase ++ codes " " ++ decimal p.pivot ++ codes " " ++ spot_text p
+
+abbrev pub end_text : ExtractPlace → List ℕ
+end_text p = numbers_word p.list ++ codes " " ++ end_step_word p.step ++ codes " " ++ decimal p.index
+
 -- A bearing is told by its number from 1.
 abbrev pub place_text : Place → List ℕ
 place_text (cone_at k) = codes "cone " ++ decimal (k + 1)
@@ -106,6 +154,10 @@ fault_line (overlap first second) = codes "model overlap " ++ first ++ codes " "
 fault_line (many_bearings count) = codes "model too many bearings " ++ decimal count
 fault_line (certificate_line number) = codes "certificate line " ++ decimal number
 fault_line (wide_check part place) = codes "wide check " ++ part_word part ++ codes " " ++ place_text place
+fault_line (wide_run place) = codes "wide run " ++ run_text place
+fault_line (wide_end place) = codes "wide end " ++ end_text place
+fault_line (over_budget budget) = codes "spent " ++ decimal budget
+fault_line no_live = codes "no live load"
 fault_line memory = codes "memory"
 
 abbrev pub line_of : Refusal → List ℕ

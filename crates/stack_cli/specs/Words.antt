@@ -1,31 +1,62 @@
 -- The forms of words, and the files that each names. A further form of words is a further case of each.
-use Rattle.std.specs.Prelude.{ℕ, List, [], ◌∷◌, map, codes, Option, Some, None, String, string_bytes, if◌then◌else◌}
+use Rattle.std.specs.Prelude.{◌≢◌, ⊤, ℕ, ◌^◌, List, [], ◌∷◌, map, codes, decimal, ◌&&◌, nat_lt, Option, Some, None, String, string_bytes, if◌then◌else◌}
+use Rattle.std.specs.Str.Parse.{digits_value}
 use Rattle.std.specs.Str.{bytes_eq}
 use Rattle.std.specs.declared.alloc.Global.{Global}
+use Rattle.stack_equilibrium.specs.declared.types.Question.{Question}
+use Rattle.stack_equilibrium.specs.declared.types.Question.TheVariants.{Dead, Live}
 use Rattle.stack_cli.specs.declared.words.Form.{Form as CodeForm}
 use Rattle.stack_cli.specs.declared.words.Form.TheVariants as code
 use Rattle.stack_cli.specs.declared.given.Given.{Given as CodeGiven}
 use Rattle.stack_cli.specs.declared.given.Given.TheVariants as given
 
--- What the words ask for: `check MODEL CERT` or `contacts MODEL`, with any words as the names of the files.
+-- What the words ask for: `check MODEL CERT`, `contacts MODEL`, or a judgement of a model within a budget of pivots, with any
+-- words as the names of the files.
 pub data Form : Type 0 where
   check : List ℕ → List ℕ → Form
   contacts : List ℕ → Form
+  judges : Question → List ℕ → ℕ → Form
 
 -- The form that the code holds, by bytes.
 abbrev pub form_view : CodeForm → Form
 form_view (code.Check model certificate) = check model.now certificate.now
 form_view (code.Contacts model) = contacts model.now
+form_view (code.Judge question model budget) = judges question model.now budget
+
+-- A budget isn't 0.
+abbrev pub HasBudget : CodeForm → Type 0
+HasBudget (code.Check model certificate) = ⊤
+HasBudget (code.Contacts model) = ⊤
+HasBudget (code.Judge question model budget) = budget ≢ 0
 
 -- The words, as bytes.
 abbrev pub texts : List (String Global) → List (List ℕ)
 texts words = map string_bytes words
 
+-- The question about the dead loads is `stand`, that about the live loads `load`.
+abbrev pub question_of : List ℕ → Option Question
+question_of word = if bytes_eq word (codes "stand") then Some Dead
+    else (if bytes_eq word (codes "load") then Some Live else None)
+
+-- A budget that isn't given.
+abbrev pub default_budget : ℕ
+default_budget = 20000
+
+-- The budget that a word spells: a number from 1 to 2^32 - 1 in decimal, without sign or leading zeros.
+abbrev pub budget_of : List ℕ → Option ℕ
+budget_of word = let n = digits_value 10 word in
+    if nat_lt 0 n && (nat_lt n (2 ^ 32) && bytes_eq (decimal n) word) then Some n else None
+
+abbrev pub judging : Option Question → List ℕ → Option ℕ → Option Form
+judging (Some question) model (Some budget) = Some (judges question model budget)
+judging _ model budget = None
+
 -- The form of the words, if they have one.
 abbrev pub form_of : List (List ℕ) → Option Form
-form_of (word ∷ model ∷ []) = if bytes_eq word (codes "contacts") then Some (contacts model) else None
-form_of (word ∷ model ∷ certificate ∷ []) =
-    if bytes_eq word (codes "check") then Some (check model certificate) else None
+form_of (word ∷ model ∷ []) = if bytes_eq word (codes "contacts") then Some (contacts model)
+    else judging (question_of word) model (Some default_budget)
+form_of (word ∷ model ∷ last ∷ []) = if bytes_eq word (codes "check") then Some (check model last)
+    else judging (question_of word) model (budget_of last)
 form_of _ = None
 
 -- The words that the runtime gave: where one of them can't be read, or there is no memory for them, they are no form.
@@ -39,3 +70,4 @@ abbrev pub files_of : Option Form → List (List ℕ)
 files_of None = []
 files_of (Some (check model certificate)) = model ∷ certificate ∷ []
 files_of (Some (contacts model)) = model ∷ []
+files_of (Some (judges question model budget)) = model ∷ []

@@ -1,9 +1,13 @@
 //! The top call.
 
-ghost use Rattle.std.specs.Prelude.{◌≡◌, ◌≤◌, ◌⊎◌};
+ghost use Rattle.std.specs.Prelude.{◌≡◌, ℕ, ◌≤◌, ◌⊎◌, List, Some};
+ghost use Rattle.stack_contact.specs.Surveyed.{Surveyed};
+ghost use Rattle.stack_equilibrium.specs.declared.types.Question.{Question};
 ghost use Rattle.stack_outside.specs.Faults.{Rose};
 ghost use Rattle.stack_cli.specs.Refusals.{refusal_view};
-ghost use Rattle.stack_cli.specs.Words.{form_of, texts};
+ghost use Rattle.stack_cli.specs.Words.{form_of, texts, judges};
+ghost use Rattle.stack_cli.specs.AcceptedModel.{IsAcceptedModel};
+ghost use Rattle.stack_cli.specs.Headline.{Judging};
 ghost use Rattle.stack_cli.specs.Progress.{Delivers, SaysLine};
 ghost use Rattle.stack_cli.specs.MainTheorem.{RunMeets};
 
@@ -61,6 +65,9 @@ fn deliver<O: Sink, E: Sink>(
 ///
 /// The whole answer is built before it is written, in one put on `out`. A refusal puts one line on `err`, and nothing
 /// on `out` unless `out` failed; where `err` fails the status stays. Where memory is wanting the status is 11.
+///
+/// The clause `headline`: for words of the form `stand` or `load` and an accepted model, where neither the shelf nor `out`
+/// failed, a true certificate of the question is printed, or the cause of the refusal holds, and each cause has its refusal.
 pub fn run<F: Shelf, O: Sink, E: Sink>(
     alloc: Global,
     words: &[String],
@@ -72,6 +79,11 @@ pub fn run<F: Shelf, O: Sink, E: Sink>(
         (F.asked shelf.new) (O.written out.old) (O.written out.new) (E.written err.old) (E.written err.new)
         (Rose (F.faults shelf.old) (F.faults shelf.new)) (Rose (O.faults out.old) (O.faults out.new))
         (Rose (E.faults err.old) (E.faults err.new)) }
+    ensures headline { (q : Question) (model : List ℕ) (budget : ℕ) (bytes : List ℕ) (v : Surveyed) →
+        form_of (texts words.now) ≡ Some (judges q model budget) → F.holds shelf.old model ≡ Some bytes →
+        IsAcceptedModel bytes v → ¬ (Rose (F.faults shelf.old) (F.faults shelf.new)) →
+        ¬ (Rose (O.faults out.old) (O.faults out.new)) →
+        Judging q v budget result (O.written out.old) (O.written out.new) }
     ensures holds { F.holds shelf.new ≡ F.holds shelf.old }
     ensures shelf_later { F.faults shelf.old ≤ F.faults shelf.new }
     ensures out_later { O.faults out.old ≤ O.faults out.new }

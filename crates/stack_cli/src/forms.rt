@@ -6,12 +6,14 @@ ghost use Rattle.stack_cli.specs.Words.{form_of, texts};
 ghost use Rattle.stack_cli.specs.Progress.{Fails, Works};
 
 pub mod checking;
+pub mod judging;
 pub mod listing;
 
 use crate::answer::Answer;
 use crate::refusal::Refusal;
 use crate::words::{Form, parse_form};
 use checking::check_form;
+use judging::judge_form;
 use listing::contacts_form;
 use stack_outside::Shelf;
 use std::alloc::Global;
@@ -30,6 +32,11 @@ pub fn answer_words<F: Shelf>(
     match parse_form(words) {
         Some(Form::Check { model, certificate }) => check_form(alloc, shelf, model, certificate),
         Some(Form::Contacts { model }) => contacts_form(alloc, shelf, model),
+        Some(Form::Judge {
+            question,
+            model,
+            budget,
+        }) => judge_form(alloc, shelf, question, model, budget),
         None => Err(Refusal::Words),
     }
 }

@@ -1,15 +1,18 @@
 //! Why a run refuses, with the status and the line of each refusal.
 
 ghost use Rattle.std.specs.Prelude.{◌≡◌, Some};
-ghost use Rattle.stack_cli.specs.Refusals.{input_word, part_word, axis_word, place_text, balance_of, place_view, status_of, line_of, refusal_view, faulty};
+ghost use Rattle.stack_cli.specs.Refusals.{input_word, part_word, axis_word, step_word, spot_text, numbers_word, end_step_word, place_text, balance_of, place_view, status_of, line_of, refusal_view, faulty};
 ghost use Rattle.stack_cli.specs.Surveying.{from_read};
 ghost use Rattle.stack_cli.specs.declared.refusal.Refusal.TheVariants.{Memory};
 
 use crate::model_lines::{FaultText, number};
 use stack_checker::types::Part;
 use stack_equilibrium::types::Axis;
+use stack_extract::{EndStep, ExtractPlace, Numbers};
 use stack_model::ModelError;
 use stack_reader::ReadError;
+use stack_simplex::Place as RunPlace;
+use stack_table::types::Step;
 use std::alloc::AllocError;
 use std::fmt;
 
@@ -56,6 +59,14 @@ pub enum Refusal {
     CertificateLine { number: usize },
     /// A number of the check is too wide, in this part of the certificate.
     WideCheck { part: Part, place: Place },
+    /// A number of the run passes.
+    WideRun { place: RunPlace },
+    /// A number that is made of the end of the run passes.
+    WideEnd { place: ExtractPlace },
+    /// A pivot is due, and this many are done.
+    Spent { budget: u32 },
+    /// No live load is listed.
+    NoLive,
     /// The answer isn't written.
     Output,
     /// Memory is wanting.
@@ -76,6 +87,10 @@ impl Refusal {
             Refusal::ManyBearings { .. } => 5,
             Refusal::CertificateLine { .. } => 6,
             Refusal::WideCheck { .. } => 7,
+            Refusal::WideRun { .. } => 7,
+            Refusal::WideEnd { .. } => 7,
+            Refusal::Spent { .. } => 8,
+            Refusal::NoLive => 9,
             Refusal::Output => 10,
             Refusal::Memory => 11,
         }
@@ -100,6 +115,41 @@ pub fn axis_text(axis: Axis) -> &'static str
         Axis::X => "x",
         Axis::Y => "y",
         Axis::M => "m",
+    }
+}
+
+/// The word for an operation of a pivot.
+pub fn step_text(step: Step) -> &'static str
+    ensures { result.now ≡ step_word step }
+{
+    match step {
+        Step::Ratio => "ratio",
+        Step::Divide => "divide",
+        Step::Multiply => "multiply",
+        Step::Subtract => "subtract",
+    }
+}
+
+/// The word for a list of numbers that is made of the end of a run.
+pub fn numbers_text(numbers: Numbers) -> &'static str
+    ensures { result.now ≡ numbers_word numbers }
+{
+    match numbers {
+        Numbers::Forces => "forces",
+        Numbers::Motion => "motion",
+        Numbers::Ray => "ray",
+    }
+}
+
+/// The word for a step from a list to the numbers of a certificate.
+pub fn end_step_text(step: EndStep) -> &'static str
+    ensures { result.now ≡ end_step_word step }
+{
+    match step {
+        EndStep::Shift => "shift",
+        EndStep::Scale => "scale",
+        EndStep::Whole => "whole",
+        EndStep::Part => "part",
     }
 }
 
@@ -149,6 +199,22 @@ impl fmt::Display for Place {
     }
 }
 
+/// The cell of a table at which a run meets a number that passes, and the operation.
+#[derive(Clone, Copy, Debug, PartialEq, Eq)]
+struct RunSpot {
+    place: RunPlace,
+}
+
+impl fmt::Display for RunSpot {
+    ghost output = { λ s. Some (spot_text s.place) };
+
+    fn fmt<W: fmt::Write>(&self, f: &mut fmt::Formatter<W>) -> fmt::Result {
+        let place = self.place;
+        let step = step_text(place.step);
+        write!(f, "{} {} {step}", place.row, place.column)
+    }
+}
+
 /// The line without its line feed.
 impl fmt::Display for Refusal {
     ghost output = { λ r. Some (line_of (refusal_view r)) };
@@ -168,6 +234,17 @@ impl fmt::Display for Refusal {
             Refusal::WideCheck { part, place } => {
                 write!(f, "wide check {} {place}", part_text(*part))
             }
+            Refusal::WideRun { place } => {
+                let spot = RunSpot { place: *place };
+                write!(f, "wide run {} {} {spot}", place.phase, place.pivot)
+            }
+            Refusal::WideEnd { place } => {
+                let list = numbers_text(place.list);
+                let step = end_step_text(place.step);
+                write!(f, "wide end {list} {step} {}", place.index)
+            }
+            Refusal::Spent { budget } => write!(f, "spent {budget}"),
+            Refusal::NoLive => f.write_str("no live load"),
             Refusal::Output => f.write_str("output"),
             Refusal::Memory => f.write_str("memory"),
         }

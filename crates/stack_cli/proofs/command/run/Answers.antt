@@ -1,7 +1,11 @@
 use Rattle.stack_cli.proofs.Consequences.{run_meets}
+use Rattle.stack_cli.proofs.HeadlineHolds.{headline_of}
 use Rattle.stack_cli.proofs.command.run.Goals as goal
 
 pub returns-clause-meets : goal.returns-clause-meets
 returns-clause-meets g c =
     run_meets _ _ _ _ _ _ _ _ _ _ _ c.answer_words-worked.result _ c.answer_words-worked.ensures.works
     c.answer_words-worked.ensures.cause c.deliver.ensures.delivers
+
+pub returns-clause-headline : goal.returns-clause-headline
+returns-clause-headline g c = headline_of (returns-clause-meets g c)

@@ -1,0 +1,199 @@
+-- The five cases of `stand` and `load`, out of the theorem on the top call and of the one end of their work.
+use Rattle.std.proofs.Common.{◌≡◌, refl, sym, subst, ap, ◌∙◌, ℕ, ◌≤◌, Bool, true, false, not, List, [], ◌∷◌, Option, Some, None, Result, Ok, Err, inl, inr, ◌⊎◌, arith}
+use Rattle.std.specs.List.{list_any}
+use Rattle.std.specs.Io.KnownBytes.{Keeps}
+use Rattle.std.proofs.lemmas.List.Folds.{list_any_at}
+use Rattle.stack_algebra.specs.Fraction.{Fraction}
+use Rattle.stack_model.specs.Structure.{Structure, HasLive}
+use Rattle.stack_contact.specs.Surveyed.{Surveyed}
+use Rattle.stack_certificate.specs.Certificate.{CertificateValue}
+use Rattle.stack_equilibrium.specs.declared.types.Question.{Question}
+use Rattle.stack_equilibrium.specs.declared.types.Question.TheVariants.{Dead, Live}
+use Rattle.stack_duality.specs.WrittenRun.{End, infeasible, feasible, optimal, ray, wide, over}
+use Rattle.stack_certified.specs.Certified.{certificate_of}
+use Rattle.stack_judge.specs.declared.types.JudgePlace.{JudgePlace}
+use Rattle.stack_judge.specs.declared.types.JudgePlace.TheVariants as places
+use Rattle.stack_judge.specs.EndPlace.{end_place}
+use Rattle.stack_judge.specs.Judgement.{Judgement, certified, too_wide, spent, judged_by, judgement_of, judgement, survey_run, LacksLive}
+use Rattle.stack_cli.specs.Refusals.{Refusal, words, file, faulty, output, memory, over_budget, no_live, status_of}
+use Rattle.stack_cli.specs.Words.{Form, judges}
+use Rattle.stack_cli.specs.Answers.{Due, certificate, verdict_status}
+use Rattle.stack_cli.specs.Work.{Holds, Ends}
+use Rattle.stack_cli.specs.Surveying.{surveyed}
+use Rattle.stack_cli.specs.Judging.{lacks_live, wide_fault, judged, judge_work}
+use Rattle.stack_cli.specs.AcceptedModel.{IsAcceptedModel}
+use Rattle.stack_cli.specs.OneEnd.{IsSettled, IsSettledRefusal}
+use Rattle.stack_cli.specs.Progress.{Names, Bytes, Way}
+use Rattle.stack_cli.specs.MainTheorem.{OutputAfter, IsGivenOut, RunMeets}
+use Rattle.stack_cli.specs.Headline.{Prints, Leaves, IsWide, IsOver, Judging}
+use Rattle.stack_cli.proofs.Ways.{goes_on}
+use Rattle.stack_cli.proofs.OneEnd.{one_end}
+use Rattle.stack_cli.proofs.AcceptedFiles.{all_accepted}
+use Rattle.stack_cli.proofs.JudgementEnds.{lists_some, certificate_ends, wide_ends, spent_ends, no_live_ends}
+
+-- what the test for a live load says
+lists_nothing : (s : Structure) → not (list_any (λ l. l.live) s.loads) ≡ true → ¬ (HasLive s)
+lists_nothing s h one = let t = list_any_at (λ l. l.live) s.loads one.0 _ one.1.0 one.1.1 in
+    let f = subst (λ b. not b ≡ true) t h in absurd cc
+
+not_false : (b : Bool) → not b ≡ false → b ≡ true
+not_false true h = refl
+not_false false h = absurd cc
+
+has_one : (q : Question) (v : Surveyed) → lacks_live q v.structure ≡ false → ¬ (LacksLive q v)
+has_one Dead v h none = none
+has_one Live v h none = none (lists_some v.structure (not_false (list_any (λ l. l.live) v.structure.loads) h))
+
+lacks : (q : Question) (v : Surveyed) → lacks_live q v.structure ≡ true → LacksLive q v
+lacks Dead v h = absurd cc
+lacks Live v h = lists_nothing v.structure h
+
+-- a judgement is spent only where the run is over
+not_spent : (o : Option JudgePlace) (c : CertificateValue) → judged_by o (Some c) ≡ spent → ⊥
+not_spent None c h = cc
+not_spent (Some p) c h = cc
+
+spent_only : (q : Question) (v : Surveyed) (x : End Fraction) → judgement_of q v x ≡ spent → x ≡ over
+spent_only q v (infeasible T) h = absurd (not_spent (end_place q v (infeasible T)) _ h)
+spent_only q v (feasible T) h = absurd (not_spent (end_place q v (feasible T)) _ h)
+spent_only q v (optimal T) h = absurd (not_spent (end_place q v (optimal T)) _ h)
+spent_only q v (ray T c) h = absurd (not_spent (end_place q v (ray T c)) _ h)
+spent_only q v (wide p k s) h = absurd cc
+spent_only q v over h = refl
+
+wide_status : (s : Structure) (p : JudgePlace) → status_of (faulty (wide_fault s p)) ≡ 7
+wide_status s (places.Run p) = refl
+wide_status s (places.End p) = refl
+wide_status s (places.Check p) = refl
+
+kept_for_memory : (r : Refusal) (holds : Holds) (form : Option Form) (names : List (List ℕ)) (out out_after : Bytes)
+    → 11 ≡ status_of r → OutputAfter r holds form names out out_after → Keeps out out_after
+kept_for_memory output holds form names out out_after is h = absurd (omega arith)
+kept_for_memory _ holds form names out out_after is h = h
+
+module _ (q : Question) (model : List ℕ) (budget : ℕ) (bytes : List ℕ) (v : Surveyed) (holds : Holds)
+    (told : holds model ≡ Some bytes) (accepted : IsAcceptedModel bytes v) (status : ℕ) (asked asked_after : Names)
+    (out out_after err err_after : Bytes) (S O E : Type 0)
+    (m : RunMeets status (Some (judges q model budget)) holds asked asked_after out out_after err err_after S O E)
+    (no_shelf : ¬ S) (no_output : ¬ O) where
+  abbrev Given : Result Due Refusal → Type 0
+  Given end = IsGivenOut end status out out_after err err_after E
+
+  work_ends : (end : Result Due Refusal) → Ends holds (judged q budget v) [] end
+      → Ends holds (judge_work q model budget) (model ∷ []) end
+  unfolding judge_work
+  work_ends end h =
+      goes_on holds (surveyed model) (judged q budget) (model ∷ []) [] v end (all_accepted holds model bytes v told accepted) h
+
+  -- the end that is known is the one that was given out, unless memory is wanting
+  settles : (known end : Result Due Refusal) (names : List (List ℕ)) → IsSettled known → IsSettled end
+      → Ends holds (judged q budget v) [] known → Ends holds (judge_work q model budget) names end → Given end
+      → Given known
+  settles known end names is_known is_settled h way given = subst Given
+      (sym (one_end holds (judge_work q model budget) (model ∷ []) names known end ((bytes, told), tt) (work_ends known h)
+      way is_known is_settled).1) given
+
+  given_as : (known end : Result Due Refusal) (names : List (List ℕ)) → IsSettled known
+      → Ends holds (judged q budget v) [] known → Ends holds (judge_work q model budget) names end → Given end
+      → (status ≡ 11) ⊎ Given known
+  given_as known (Ok due) names is h way given = inr (settles known (Ok due) names is tt h way given)
+  given_as known (Err (file input)) names is h way given = absurd (no_shelf (m.shelf_failed given.0))
+  given_as known (Err (faulty memory)) names is h way given = inl given.0
+  given_as known (Err r) names is h way given = inr (settles known (Err r) names is tt h way given)
+
+  given_or_memory : (known : Result Due Refusal) → IsSettled known → Ends holds (judged q budget v) [] known
+      → (status ≡ 11) ⊎ Given known
+  given_or_memory known is h = go (m.decided no_shelf no_output)
+    where
+      go : (status ≡ 11) ⊎ ((end : Result Due Refusal) × Way holds (Some (judges q model budget)) m.names end × Given end)
+          → (status ≡ 11) ⊎ Given known
+      go (inl eleven) = inl eleven
+      go (inr d) = given_as known d.0 m.names is h d.1 d.2
+
+  for_memory : status ≡ 11 → Leaves status 11 out out_after
+  for_memory eleven = let r = m.refused (omega (arith, eleven)) in record {
+    is_status = eleven;
+    is_kept = kept_for_memory r.refusal holds (Some (judges q model budget)) m.names out out_after
+        (sym eleven ∙ r.is_status) r.on_output;
+  }
+
+  abbrev Cases : Type 0
+  Cases = Prints q v status out out_after
+      ⊎ ((IsWide q v budget × Leaves status 7 out out_after)
+      ⊎ ((IsOver q v budget × Leaves status 8 out out_after)
+      ⊎ ((LacksLive q v × Leaves status 9 out out_after)
+      ⊎ Leaves status 11 out out_after)))
+
+  without_memory : status ≡ 11 → Cases
+  without_memory eleven = inr (inr (inr (inr (for_memory eleven))))
+
+  printed : (c : CertificateValue) → (status ≡ 11) ⊎ Given (Ok (certificate q v c)) → Cases
+  printed c (inl eleven) = without_memory eleven
+  printed c (inr g) = inl (record {
+    certificate = c;
+    judged = g.2.judged;
+    text = g.1;
+    is_text = g.2.is_text;
+    is_written = g.4;
+    is_status = g.3 ∙ ap verdict_status g.2.is_verdict;
+  })
+
+  widely : (p : JudgePlace) → judgement q v budget ≡ too_wide p
+      → (status ≡ 11) ⊎ Given (Err (faulty (wide_fault v.structure p))) → Cases
+  widely p is (inl eleven) = without_memory eleven
+  widely p is (inr g) = inr (inl ((p, is), record { is_status = g.0 ∙ wide_status v.structure p; is_kept = g.1; }))
+
+  overly : IsOver q v budget → (status ≡ 11) ⊎ Given (Err (faulty (over_budget budget))) → Cases
+  overly is (inl eleven) = without_memory eleven
+  overly is (inr g) = inr (inr (inl (is, record { is_status = g.0; is_kept = g.1; })))
+
+  deadly : LacksLive q v → (status ≡ 11) ⊎ Given (Err (faulty no_live)) → Cases
+  deadly none (inl eleven) = without_memory eleven
+  deadly none (inr g) = inr (inr (inr (inl (none, record { is_status = g.0; is_kept = g.1; }))))
+
+  settled_wide : (p : JudgePlace) → IsSettledRefusal (faulty (wide_fault v.structure p))
+  settled_wide (places.Run p) = tt
+  settled_wide (places.End p) = tt
+  settled_wide (places.Check p) = tt
+
+  of_judgement : ¬ (LacksLive q v) → (j : Judgement) → judgement q v budget ≡ j → Cases
+  of_judgement live (certified c) is = printed c (given_or_memory (Ok (certificate q v c)) tt
+      (certificate_ends q v budget holds c live is))
+  of_judgement live (too_wide p) is = widely p is (given_or_memory (Err (faulty (wide_fault v.structure p)))
+      (settled_wide p) (wide_ends q v budget holds p live is))
+  of_judgement live spent is = overly (spent_only q v (survey_run q v budget) is)
+      (given_or_memory (Err (faulty (over_budget budget))) tt (spent_ends q v budget holds live is))
+
+  lacking_ends : LacksLive q v → (status ≡ 11) ⊎ Given (Err (faulty no_live))
+  lacking_ends none = given_or_memory (Err (faulty no_live)) tt (no_live_ends q v budget holds none)
+
+  by_loads : (b : Bool) → lacks_live q v.structure ≡ b → Cases
+  by_loads true is = deadly (lacks q v is) (lacking_ends (lacks q v is))
+  by_loads false is = of_judgement (has_one q v is) (judgement q v budget) refl
+
+  -- a refusal's status, or memory is wanting
+  has_status : (n : ℕ) (r : Refusal) → status_of r ≡ n → (status ≡ 11) ⊎ Given (Err r) → (status ≡ n) ⊎ (status ≡ 11)
+  has_status n r e (inl eleven) = inr eleven
+  has_status n r e (inr g) = inl (g.0 ∙ e)
+
+  headline : Judging q v budget status out out_after
+  headline = record {
+    cases = by_loads (lacks_live q v.structure) refl;
+    without_live = λ none. has_status 9 (faulty no_live) refl (lacking_ends none);
+    wide = λ live w. has_status 7 (faulty (wide_fault v.structure w.0)) (wide_status v.structure w.0)
+        (given_or_memory (Err (faulty (wide_fault v.structure w.0))) (settled_wide w.0)
+        (wide_ends q v budget holds w.0 live w.1));
+    over_budget = λ live o. has_status 8 (faulty (over_budget budget)) refl
+        (given_or_memory (Err (faulty (over_budget budget))) tt
+        (spent_ends q v budget holds live (ap (judgement_of q v) o)));
+  }
+
+pub headline_of : {status : ℕ} {form : Option Form} {holds : Holds} {asked asked_after : Names}
+    {out out_after err err_after : Bytes} {S O E : Type 0}
+    → RunMeets status form holds asked asked_after out out_after err err_after S O E
+    → (q : Question) (model : List ℕ) (budget : ℕ) (bytes : List ℕ) (v : Surveyed) → form ≡ Some (judges q model budget)
+    → holds model ≡ Some bytes → IsAcceptedModel bytes v → ¬ S → ¬ O → Judging q v budget status out out_after
+headline_of {status} {form} {holds} {asked} {asked_after} {out} {out_after} {err} {err_after} {S} {O} {E} m q model budget
+    bytes v is told accepted no_shelf no_output =
+    headline q model budget bytes v holds told accepted status asked asked_after out out_after err err_after S O E
+    (subst (λ f. RunMeets status f holds asked asked_after out out_after err err_after S O E) is m) no_shelf no_output

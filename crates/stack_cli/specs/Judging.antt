@@ -1,0 +1,39 @@
+-- The work on `stand MODEL [PIVOTS]` and `load MODEL [PIVOTS]`: the survey of the model, for `load` the test for a live
+-- load, the judgement.
+use Rattle.std.specs.Prelude.{ℕ, List, Bool, false, not, if◌then◌else◌}
+use Rattle.std.specs.List.{list_any}
+use Rattle.stack_model.specs.Structure.{Structure}
+use Rattle.stack_contact.specs.Surveyed.{Surveyed}
+use Rattle.stack_equilibrium.specs.declared.types.Question.{Question}
+use Rattle.stack_equilibrium.specs.declared.types.Question.TheVariants.{Dead, Live}
+use Rattle.stack_judge.specs.declared.types.JudgePlace.{JudgePlace}
+use Rattle.stack_judge.specs.declared.types.JudgePlace.TheVariants as places
+use Rattle.stack_judge.specs.Judgement.{Judgement, certified, too_wide, spent, judgement}
+use Rattle.stack_cli.specs.Refusals.{Fault, wide_check, wide_run, wide_end, over_budget, no_live}
+use Rattle.stack_cli.specs.Answers.{Due, certificate}
+use Rattle.stack_cli.specs.Checking.{place_of}
+use Rattle.stack_cli.specs.Work.{Work, gives, refuses, ◌>>=◌}
+use Rattle.stack_cli.specs.Surveying.{surveyed}
+
+-- The question is about live loads, and none is listed.
+abbrev pub lacks_live : Question → Structure → Bool
+lacks_live Dead s = false
+lacks_live Live s = not (list_any (λ l. l.live) s.loads)
+
+abbrev pub wide_fault : Structure → JudgePlace → Fault
+wide_fault s (places.Run p) = wide_run p
+wide_fault s (places.End p) = wide_end p
+wide_fault s (places.Check p) = wide_check p.part (place_of s p.at)
+
+abbrev pub judged_step : Question → (budget : ℕ) → Surveyed → Judgement → Work Due
+judged_step q budget v (certified c) = gives (certificate q v c)
+judged_step q budget v (too_wide p) = refuses (wide_fault v.structure p)
+judged_step q budget v spent = refuses (over_budget budget)
+
+abbrev pub judged : Question → (budget : ℕ) → Surveyed → Work Due
+judged q budget v = if lacks_live q v.structure then refuses no_live else judged_step q budget v (judgement q v budget)
+
+unfoldable pub judge_work : Question → List ℕ → (budget : ℕ) → Work Due
+judge_work q model budget = do
+  survey ← surveyed model
+  judged q budget survey
