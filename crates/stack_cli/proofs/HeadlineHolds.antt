@@ -141,15 +141,15 @@ module _ (q : Question) (model : List ℕ) (budget : ℕ) (bytes : List ℕ) (v 
   widely : (p : JudgePlace) → judgement q v budget ≡ too_wide p
       → (status ≡ 11) ⊎ Given (Err (faulty (wide_fault v.structure p))) → Cases
   widely p is (inl eleven) = without_memory eleven
-  widely p is (inr g) = inr (inl ((p, is), record { is_status = g.0 ∙ wide_status v.structure p; is_kept = g.1; }))
+  widely p is (inr g) = inr (inl ((p, is), record { is_status = g.0 ∙ wide_status v.structure p; is_kept = g.1 }))
 
   overly : IsOver q v budget → (status ≡ 11) ⊎ Given (Err (faulty (over_budget budget))) → Cases
   overly is (inl eleven) = without_memory eleven
-  overly is (inr g) = inr (inr (inl (is, record { is_status = g.0; is_kept = g.1; })))
+  overly is (inr g) = inr (inr (inl (is, record { is_status = g.0; is_kept = g.1 })))
 
   deadly : LacksLive q v → (status ≡ 11) ⊎ Given (Err (faulty no_live)) → Cases
   deadly none (inl eleven) = without_memory eleven
-  deadly none (inr g) = inr (inr (inr (inl (none, record { is_status = g.0; is_kept = g.1; }))))
+  deadly none (inr g) = inr (inr (inr (inl (none, record { is_status = g.0; is_kept = g.1 }))))
 
   settled_wide : (p : JudgePlace) → IsSettledRefusal (faulty (wide_fault v.structure p))
   settled_wide (places.Run p) = tt

@@ -32,11 +32,13 @@ pub fn answer_words<F: Shelf>(
     match parse_form(words) {
         Some(Form::Check { model, certificate }) => check_form(alloc, shelf, model, certificate),
         Some(Form::Contacts { model }) => contacts_form(alloc, shelf, model),
-        Some(Form::Judge {
-            question,
-            model,
-            budget,
-        }) => judge_form(alloc, shelf, question, model, budget),
+        Some(
+            Form::Judge {
+                question,
+                model,
+                budget,
+            },
+        ) => judge_form(alloc, shelf, question, model, budget),
         None => Err(Refusal::Words),
     }
 }

@@ -98,6 +98,26 @@ fn each_form_is_answered(rt: HostRuntime) -> Result<(), Fail> {
 }
 
 #[test]
+fn the_post_is_judged(rt: HostRuntime) -> Result<(), Fail> {
+    let alloc = rt.alloc();
+    let mut files = shelf(alloc, FORCES, Vec::new(alloc))?;
+    let few = ["stand", "model", "3"];
+    compare(&rt, alloc, &mut files, &few, (8, "", "spent 3\n"))?;
+    let live = ["load", "model"];
+    compare(&rt, alloc, &mut files, &live, (9, "", "no live load\n"))?;
+    let words = strings(alloc, &["stand", "model", "4"])?;
+    let mut out = MemorySink::new(Vec::new(alloc), 1000)?;
+    let mut err = MemorySink::new(Vec::new(alloc), 100)?;
+    assert_eq!(rt;
+        run(alloc, words.as_slice(), &mut files, &mut out, &mut err),
+        0
+    );
+    assert!(rt; out.written().starts_with(b"stands\n"));
+    assert_eq!(rt; files.asked().len(), 3);
+    Ok(())
+}
+
+#[test]
 fn words_without_a_form_ask_for_no_file(rt: HostRuntime) -> Result<(), Fail> {
     let alloc = rt.alloc();
     let mut files = shelf(alloc, FORCES, Vec::new(alloc))?;

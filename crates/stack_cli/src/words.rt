@@ -88,7 +88,11 @@ pub fn parse_form(words: &[String]) -> Option<Form<'_>>
                     model: model.as_str(),
                 })
             } else {
-                judging(question_of(word.as_str()), model.as_str(), Some(DEFAULT_BUDGET))
+                judging(
+                    question_of(word.as_str()),
+                    model.as_str(),
+                    Some(DEFAULT_BUDGET),
+                )
             }
         }
         [word, model, last] => {
@@ -98,7 +102,11 @@ pub fn parse_form(words: &[String]) -> Option<Form<'_>>
                     certificate: last.as_str(),
                 })
             } else {
-                judging(question_of(word.as_str()), model.as_str(), budget_of(last.as_str()))
+                judging(
+                    question_of(word.as_str()),
+                    model.as_str(),
+                    budget_of(last.as_str()),
+                )
             }
         }
         _ => None,

@@ -15,9 +15,9 @@ returns-then-eq-clause-is c = is_budget c.args.word.now c.in-Ok.budget c.if-budg
 
 pub returns-else-budget-gt0-clause-is : goal.returns-else-budget-gt0-clause-is
 returns-else-budget-gt0-clause-is c = elim c.else-budget-gt0.branch [
-    else-budget-gt0-via-then-budget-gt0+else-eq w ↦ parsed_other c.args.word.now c.parse.result c.parse.ensures.value.0
-        c.in-Ok.budget c.in-Ok.is
-        (subst (λ t. bytes_eq t c.args.word.now ≡ false) w.format.ensures.text (sym w.eq.ensures ∙ w.if-eq.false))
+  | else-budget-gt0-via-then-budget-gt0+else-eq w ↦ parsed_other c.args.word.now c.parse.result c.parse.ensures.value.0
+      c.in-Ok.budget c.in-Ok.is
+      (subst (λ t. bytes_eq t c.args.word.now ≡ false) w.format.ensures.text (sym w.eq.ensures ∙ w.if-eq.false))
   | else-budget-gt0-via-else-budget-gt0 w ↦ parsed_zero c.args.word.now c.parse.result c.parse.ensures.value.0
-        c.in-Ok.budget c.in-Ok.is (let h = w.if-budget-gt0.false in omega (arith, h))
-  ]
+      c.in-Ok.budget c.in-Ok.is (let h = w.if-budget-gt0.false in omega (arith, h))
+]

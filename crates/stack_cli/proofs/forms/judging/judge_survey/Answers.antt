@@ -23,7 +23,7 @@ returns-in_ok-write_certificate-in-Ok-clause-does c holds = (
 pub returns-in-Err-Spent-clause-does : goal.returns-in-Err-Spent-clause-does
 returns-in-Err-Spent-clause-does c holds =
     let h = subst (λ e. Judges (Err e) c.args.question c.args.survey.now c.args.budget) c.in-Err-Spent.field-0-is
-        c.in-Err-Spent.ensures.judges in
+    c.in-Err-Spent.ensures.judges in
     subst (λ n. Ends holds (judged c.args.question c.args.budget c.args.survey.now) [] (Err (faulty (over_budget n))))
     (sym h.2) (spent_ends c.args.question c.args.survey.now c.args.budget holds h.0 h.1)
 
