@@ -1,5 +1,5 @@
--- What is due on standard output, by its meaning, and which bytes are that answer, with which verdict. A further kind of
--- answer is a further case of both.
+-- What is due on standard output, by its meaning, and which bytes are that answer, with which verdict. A further kind
+-- of answer is a further case of both.
 use Rattle.std.specs.Prelude.{◌≡◌, ℕ, List}
 use Rattle.stack_contact.specs.Surveyed.{Surveyed}
 use Rattle.stack_certificate.specs.Certificate.{CertificateValue, stands, collapses, greatest, unbounded}

@@ -1,5 +1,6 @@
--- What `stand` and `load` come to on an accepted model, where neither the shelf nor the output failed. Of five cases exactly
--- one holds, since their statuses differ: a true certificate was printed; a number passes 128 bits; the budget is exceeded;
+-- What `stand` and `load` come to on an accepted model, where neither the shelf nor the output failed. Of five cases
+-- exactly one holds, since their statuses differ: a true certificate was printed; a number passes 128 bits; the
+-- budget is exceeded;
 -- `load` finds no live load; memory is wanting.
 use Rattle.std.specs.Prelude.{◌≡◌, ℕ, ◌⊎◌, List, Option}
 use Rattle.std.specs.Io.KnownBytes.{Appends, Keeps}
@@ -14,8 +15,8 @@ use Rattle.stack_judge.specs.Judged.{IsJudged}
 use Rattle.stack_cli.specs.Answers.{verdict_of, verdict_status}
 use Rattle.stack_cli.specs.Progress.{Bytes}
 
--- A certificate that is true, of the question and accepted by the check, and tells whether the dead loads stand: the output
--- grew by exactly its text, and the status is 1 exactly for a collapse.
+-- A certificate that is true, of the question and accepted by the check, and tells whether the dead loads stand: the
+-- output grew by exactly its text, and the status is 1 exactly for a collapse.
 pub record Prints (q : Question) (v : Surveyed) (status : ℕ) (out out_after : Bytes) : Type 0 where
   pub certificate : CertificateValue
   pub judged : IsJudged q v certificate
@@ -38,8 +39,8 @@ module _ (q : Question) (v : Surveyed) (budget : ℕ) where
   abbrev pub IsOver : Type 0
   IsOver = survey_run q v budget ≡ over
 
--- The five cases, and that each cause of a refusal has its status, unless memory is wanting. The live load is looked for
--- first.
+-- The five cases, and that each cause of a refusal has its status, unless memory is wanting. The live load is looked
+-- for first.
 pub record Judging (q : Question) (v : Surveyed) (budget status : ℕ) (out out_after : Bytes) : Type 0 where
   pub cases : Prints q v status out out_after
       ⊎ ((IsWide q v budget × Leaves status 7 out out_after)

@@ -56,7 +56,8 @@ pub record Refused (status : ℕ) (holds : Holds) (form : Option Form) (names : 
   pub on_output : OutputAfter refusal holds form names out out_after
   pub line : SaysLine refusal err err_after err_rose
 
--- Exactly what an end of the work says was given out: the status and the whole answer, or the status and the one line.
+-- Exactly what an end of the work says was given out: the status and the whole answer, or the status and the one
+-- line.
 abbrev pub IsGivenOut : Result Due Refusal → ℕ → Bytes → Bytes → Bytes → Bytes → Type 0 → Type 0
 IsGivenOut (Ok due) status out out_after err err_after err_rose =
     (verdict : Verdict) × (text : List ℕ) × IsAnswer due verdict text × (status ≡ verdict_status verdict)

@@ -1,4 +1,5 @@
--- When the work on words has one end only: where its files are told. A structure has one survey, so nothing is chosen freely.
+-- When the work on words has one end only: where its files are told. A structure has one survey, so nothing is chosen
+-- freely.
 use Rattle.std.specs.Prelude.{◌≡◌, ℕ, List, [], ◌∷◌, Option, Some, Result, Ok, Err, ⊤}
 use Rattle.stack_cli.specs.Refusals.{Refusal, file, faulty, memory}
 use Rattle.stack_cli.specs.Words.{Form}

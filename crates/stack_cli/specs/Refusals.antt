@@ -21,8 +21,8 @@ use Rattle.stack_cli.specs.declared.refusal.Refusal.{Refusal as CodeRefusal}
 use Rattle.stack_cli.specs.declared.refusal.Refusal.TheVariants as code
 use Rattle.stack_cli.specs.ModelLines.{fault_text}
 
--- Where a check meets a number that is too wide: at a bearing's cone, by its number from 0; at one of the three sums of
--- a block, by its name; at a bearing's velocities; at a power; at the sum of the two powers.
+-- Where a check meets a number that is too wide: at a bearing's cone, by its number from 0; at one of the three sums
+-- of a block, by its name; at a bearing's velocities; at a power; at the sum of the two powers.
 pub data Place : Type 0 where
   cone_at : ℕ → Place
   balance_of : List ℕ → Axis → Place
@@ -31,9 +31,9 @@ pub data Place : Type 0 where
   apart : Place
 
 -- Why the work on a form refuses: a file is too long; the model's file has a fault; two bodies overlap, told by their
--- names; the bearings are too many; the certificate's text ends to be one at a line, from 1; a number of the check, of the
--- run or of what is made of its end is too wide; a pivot is due when the budget's are done; no live load is listed; memory
--- is wanting.
+-- names; the bearings are too many; the certificate's text ends to be one at a line, from 1; a number of the check,
+-- of the run or of what is made of its end is too wide; a pivot is due when the budget's are done; no live load is
+-- listed; memory is wanting.
 pub data Fault : Type 0 where
   long : Input → Fault
   content : ReadError → Fault

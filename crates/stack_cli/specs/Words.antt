@@ -10,8 +10,8 @@ use Rattle.stack_cli.specs.declared.words.Form.TheVariants as code
 use Rattle.stack_cli.specs.declared.given.Given.{Given as CodeGiven}
 use Rattle.stack_cli.specs.declared.given.Given.TheVariants as given
 
--- What the words ask for: `check MODEL CERT`, `contacts MODEL`, or a judgement of a model within a budget of pivots, with any
--- words as the names of the files.
+-- What the words ask for: `check MODEL CERT`, `contacts MODEL`, or a judgement of a model within a budget of pivots,
+-- with any words as the names of the files.
 pub data Form : Type 0 where
   check : List ℕ → List ℕ → Form
   contacts : List ℕ → Form

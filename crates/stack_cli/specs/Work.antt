@@ -1,6 +1,6 @@
--- The order of work as a tree: it gives a value, it refuses, it reads a file and goes on with its bytes, or it surveys a
--- structure and goes on with what the survey came to. `Ends` says what may come of it: over what a shelf tells, with
--- memory that may be wanting and devices that may fail. It is written once, for all forms of words.
+-- The order of work as a tree: it gives a value, it refuses, it reads a file and goes on with its bytes, or it
+-- surveys a structure and goes on with what the survey came to. `Ends` says what may come of it: over what a shelf
+-- tells, with memory that may be wanting and devices that may fail. It is written once, for all forms of words.
 use Rattle.std.specs.Prelude.{◌≡◌, ℕ, ◌⊎◌, List, [], ◌∷◌, Option, Some, None, Result, Ok, Err, ⊤}
 use Rattle.stack_cli.specs.declared.refusal.Input.{Input}
 use Rattle.stack_model.specs.Structure.{Structure}

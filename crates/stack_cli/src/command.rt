@@ -66,8 +66,9 @@ fn deliver<O: Sink, E: Sink>(
 /// The whole answer is built before it is written, in one put on `out`. A refusal puts one line on `err`, and nothing
 /// on `out` unless `out` failed; where `err` fails the status stays. Where memory is wanting the status is 11.
 ///
-/// The clause `headline`: for words of the form `stand` or `load` and an accepted model, where neither the shelf nor `out`
-/// failed, a true certificate of the question is printed, or the cause of the refusal holds, and each cause has its refusal.
+/// The clause `headline`: for words of the form `stand` or `load` and an accepted model, where neither the shelf nor
+/// `out` failed, a true certificate of the question is printed, or the cause of the refusal holds, and each cause has
+/// its refusal.
 pub fn run<F: Shelf, O: Sink, E: Sink>(
     alloc: Global,
     words: &[String],

@@ -16,8 +16,8 @@ pub fn goes_on_with_accepted_models()
         → IsAcceptedModel bytes v → Ends holds (surveyed name) (name ∷ []) (Ok v) }
 {}
 
-/// The work on words over files that are told has one end, unless memory is wanting or a device fails: one answer that is
-/// due, or one refusal.
+/// The work on words over files that are told has one end, unless memory is wanting or a device fails: one answer
+/// that is due, or one refusal.
 pub fn words_have_one_end()
     ensures { WordsHaveOneEnd }
 {}

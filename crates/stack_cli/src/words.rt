@@ -43,8 +43,8 @@ fn question_of(word: &str) -> Option<Question>
     }
 }
 
-/// The budget that a word spells: a decimal number from 1 to 4,294,967,295 without sign or leading zeros. A number has one
-/// such spelling, so it's printed again and compared.
+/// The budget that a word spells: a decimal number from 1 to 4,294,967,295 without sign or leading zeros. A number
+/// has one such spelling, so it's printed again and compared.
 fn budget_of(word: &str) -> Option<u32>
     ensures is { result ≡ budget_of_word word.now }
     ensures some { IfSome result (λ n. n ≢ 0) }

@@ -1,4 +1,5 @@
--- Where no number of an end's lists passes, all numbers of its certificate fit; and its lists are no longer than a survey's.
+-- Where no number of an end's lists passes, all numbers of its certificate fit; and its lists are no longer than a
+-- survey's.
 use Rattle.std.proofs.Common.{◌≡◌, refl, sym, ap, subst, ℕ, zero, suc, ◌+◌, ◌*◌, ◌<◌, ◌≤◌, Bool, true, false}
 use Rattle.std.proofs.Common.{not, List, [], ◌∷◌}
 use Rattle.std.proofs.Common.{length, get_or, take, Option, Some, None, arith, ◌&&◌}

@@ -1,5 +1,5 @@
--- The first number that passes in what is made of the end of a run, and then in the written check of the certificate that
--- it is: an end's lists in their order, and the check last.
+-- The first number that passes in what is made of the end of a run, and then in the written check of the certificate
+-- that it is: an end's lists in their order, and the check last.
 use Rattle.std.specs.Prelude.{Option, Some, None}
 use Rattle.stack_algebra.specs.Fraction.{Fraction}
 use Rattle.stack_algebra.specs.Search.{or_else}

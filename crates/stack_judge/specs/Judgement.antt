@@ -1,5 +1,5 @@
--- The judgement of a survey: the certificate of the end of its written run at 128 bits, the place of the first number that
--- passes, or that the budget is spent. Before it comes that a question about live loads wants one.
+-- The judgement of a survey: the certificate of the end of its written run at 128 bits, the place of the first number
+-- that passes, or that the budget is spent. Before it comes that a question about live loads wants one.
 use Rattle.std.specs.Prelude.{◌≡◌, ℕ, Option, Some, None, Result, Ok, Err, ⊤}
 use Rattle.stack_algebra.specs.Fraction.{Fraction}
 use Rattle.stack_rational.specs.Laws.{widest}

@@ -51,12 +51,12 @@ fn refused(error: RunError, budget: u32) -> JudgeError
     }
 }
 
-/// Judges the dead or the live loads of a survey: a true certificate of the question whose numbers all fit 128 bits and
-/// which the check accepts, by the exact simplex run after Bland (1977) within a budget of pivots.
+/// Judges the dead or the live loads of a survey: a true certificate of the question whose numbers all fit 128 bits
+/// and which the check accepts, by the exact simplex run after Bland (1977) within a budget of pivots.
 ///
-/// Refused are, in this order: a question about live loads where none is listed; the first number of the run, of the numbers
-/// that are made of its end, or of the check that passes 2^127 - 1, with its place; a run in which a pivot is due when the
-/// budget's are done. Want of memory comes at any time. After Livesley (1978).
+/// Refused are, in this order: a question about live loads where none is listed; the first number of the run, of the
+/// numbers that are made of its end, or of the check that passes 2^127 - 1, with its place; a run in which a pivot is
+/// due when the budget's are done. Want of memory comes at any time. After Livesley (1978).
 pub fn judge(alloc: Global, s: &Survey, q: Question, budget: u32) -> Result<Certificate, JudgeError>
     requires { budget ≢ 0 }
     ensures judges { Judges result q s.now budget }
