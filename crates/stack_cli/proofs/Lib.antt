@@ -10,3 +10,4 @@ mod BodyNames
 mod Budgets
 mod JudgementEnds
 mod HeadlineHolds
+mod PrintedAccepted

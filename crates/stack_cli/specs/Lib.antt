@@ -14,3 +14,4 @@ pub mod OneEnd
 pub mod AcceptedModel
 pub mod MainTheorem
 pub mod Headline
+pub mod Printed

@@ -6,6 +6,9 @@ ghost use Rattle.stack_cli.specs.Work.{Holds, Ends};
 ghost use Rattle.stack_cli.specs.Surveying.{surveyed};
 ghost use Rattle.stack_cli.specs.OneEnd.{WordsHaveOneEnd};
 ghost use Rattle.stack_cli.specs.AcceptedModel.{IsAcceptedModel};
+ghost use Rattle.stack_cli.specs.Printed.{PrintedIsAccepted, PrintedIsShort};
+
+use stack_certificate::{one_reading, short_text};
 
 /// The order of work comes to a survey exactly for the files that are accepted models, and to each survey that such a
 /// file has.
@@ -21,3 +24,13 @@ pub fn goes_on_with_accepted_models()
 pub fn words_have_one_end()
     ensures { WordsHaveOneEnd }
 {}
+
+/// What `stand` and `load` print under a model is accepted by `check` with that model, and has fewer than 180,000
+/// bytes, so that it is read.
+pub fn printed_is_accepted()
+    ensures accepted { PrintedIsAccepted }
+    ensures short { PrintedIsShort }
+{
+    one_reading();
+    short_text();
+}

@@ -1,0 +1,30 @@
+-- What `stand` and `load` print is accepted: `check` of the printed text with the same model comes to that answer, and to no
+-- other but for want of memory and devices that fail. And it is short enough to be read.
+use Rattle.std.specs.Prelude.{◌≡◌, ℕ, ◌<◌, List, [], ◌∷◌, Some, Result, Ok, length}
+use Rattle.stack_contact.specs.Surveyed.{Surveyed}
+use Rattle.stack_certificate.specs.Certificate.{CertificateValue}
+use Rattle.stack_certificate.specs.CertificateText.{IsCertificateText, text_bound}
+use Rattle.stack_equilibrium.specs.declared.types.Question.{Question}
+use Rattle.stack_judge.specs.Judged.{IsJudged}
+use Rattle.stack_cli.specs.declared.answer.Verdict.TheVariants.{Affirmed}
+use Rattle.stack_cli.specs.Refusals.{Refusal}
+use Rattle.stack_cli.specs.Answers.{Due, exactly}
+use Rattle.stack_cli.specs.CheckText.{accepted_text}
+use Rattle.stack_cli.specs.Work.{Holds, Ends}
+use Rattle.stack_cli.specs.Checking.{check_work}
+use Rattle.stack_cli.specs.AcceptedModel.{IsAcceptedModel}
+use Rattle.stack_cli.specs.OneEnd.{IsSettled}
+
+abbrev pub acceptance : Result Due Refusal
+acceptance = Ok (exactly Affirmed accepted_text)
+
+abbrev pub PrintedIsAccepted : Type 0
+PrintedIsAccepted = (q : Question) (v : Surveyed) (c : CertificateValue) (holds : Holds) (model name bytes text : List ℕ)
+    → holds model ≡ Some bytes → IsAcceptedModel bytes v → IsJudged q v c → IsCertificateText c text
+    → holds name ≡ Some text → Ends holds (check_work model name) (model ∷ name ∷ []) acceptance
+    × ((names : List (List ℕ)) (end : Result Due Refusal) → Ends holds (check_work model name) names end → IsSettled end
+    → end ≡ acceptance)
+
+abbrev pub PrintedIsShort : Type 0
+PrintedIsShort = (q : Question) (v : Surveyed) (c : CertificateValue) (text : List ℕ) → IsJudged q v c
+    → IsCertificateText c text → length text < text_bound
