@@ -118,6 +118,23 @@ fn the_post_is_judged(rt: HostRuntime) -> Result<(), Fail> {
 }
 
 #[test]
+fn a_certificate_that_is_kept_whole_stands(rt: HostRuntime) -> Result<(), Fail> {
+    let alloc = rt.alloc();
+    let words = strings(alloc, &["stand", "model"])?;
+    let mut files = shelf(alloc, FORCES, Vec::new(alloc))?;
+    let mut out = MemorySink::new(vec![in alloc; (1, 1000)]?, 1000)?;
+    let mut err = MemorySink::new(Vec::new(alloc), 100)?;
+    assert_eq!(rt;
+        run(alloc, words.as_slice(), &mut files, &mut out, &mut err),
+        10
+    );
+    assert!(rt; out.written().starts_with(b"stands\n"));
+    assert!(rt; out.written().ends_with(b"end\n"));
+    assert_eq!(rt; err.written(), b"output\n".as_slice());
+    Ok(())
+}
+
+#[test]
 fn words_without_a_form_ask_for_no_file(rt: HostRuntime) -> Result<(), Fail> {
     let alloc = rt.alloc();
     let mut files = shelf(alloc, FORCES, Vec::new(alloc))?;
