@@ -1,6 +1,7 @@
 //! A sink in memory, whose listed calls fail.
 
 ghost use Rattle.std.specs.Prelude.{◌≡◌, ◌≤◌, ◌-◌, ◌++◌, Some, IfOk, OnErr, is_err, [], length, take, vec_capacity, if◌then◌else◌};
+ghost use Rattle.std.specs.Option.{option_map};
 ghost use Rattle.stack_outside.specs.Faults.{Rose, counted, StaysCounted};
 ghost use Rattle.stack_outside.specs.Held.{kept_of};
 ghost use Rattle.stack_outside.specs.Sinks.{Puts};
@@ -52,6 +53,13 @@ impl MemorySink {
         self.bytes.as_slice()
     }
 
+    /// How often `put` was called, up to the greatest u64. Takes no memory.
+    pub fn calls(&self) -> u64
+        ensures { result ≡ sink_calls self.now }
+    {
+        self.calls
+    }
+
     /// How often a call has failed, up to the greatest u64.
     pub fn faults(&self) -> u64
         ensures { result ≡ sink_faults self.now }
@@ -79,6 +87,8 @@ impl Sink for MemorySink {
 
     ghost faults = { λ s. s.faults };
 
+    ghost calls = { λ s. Some s.calls };
+
     fn put(&mut self, piece: &[u8]) -> Result<(), SinkFailed>
         ensures puts { Puts (Some (sink_written self.old)) (Some (sink_written self.new)) piece.now result }
         ensures later { sink_faults self.old ≤ sink_faults self.new }
@@ -90,7 +100,7 @@ impl Sink for MemorySink {
             let kept = memory_put free pair (length piece.now) in
             (sink_written self.new ≡ sink_written self.old ++ take kept.0 piece.now) × (is_err result ≡ kept.1) }
         ensures count { sink_faults self.new ≡ (if is_err result then counted (sink_faults self.old) else sink_faults self.old) }
-        ensures call { sink_calls self.new ≡ counted (sink_calls self.old) }
+        ensures call { Some (sink_calls self.new) ≡ option_map counted (Some (sink_calls self.old)) }
         ensures fails { sink_fails self.new ≡ sink_fails self.old }
         ensures room { sink_room self.new ≡ sink_room self.old }
     {

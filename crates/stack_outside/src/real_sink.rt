@@ -17,7 +17,7 @@ pub enum Stream {
     Fault,
 }
 
-/// A standard stream. It tells no bytes.
+/// A standard stream. It tells neither bytes nor calls.
 #[derive(Drop)]
 pub struct RealSink {
     stream: Stream,
@@ -59,6 +59,8 @@ impl Sink for RealSink {
     ghost written = { λ s. None };
 
     ghost faults = { λ s. s.faults };
+
+    ghost calls = { λ s. None };
 
     /// Writes on until the whole piece is written. A write that takes nothing is a fault too.
     fn put(&mut self, piece: &[u8]) -> Result<(), SinkFailed>

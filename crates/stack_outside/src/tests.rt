@@ -34,6 +34,7 @@ fn a_sink_in_memory_fails_at_listed_calls_and_where_room_is_wanting(
     assert!(rt; sink.put(b"ef").is_ok());
     assert_eq!(rt; sink.written(), b"abcef".as_slice());
     assert_eq!(rt; sink.faults(), 3);
+    assert_eq!(rt; sink.calls(), 5);
     Ok(())
 }
 
