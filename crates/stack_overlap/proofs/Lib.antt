@@ -13,7 +13,8 @@ pub mod Swaps
 pub mod Radon
 pub mod HalfPlanes
 pub mod Overlapping
-pub mod Apart
+pub mod NoneInside
 pub mod Separated
 pub mod Midpoints
 pub mod Ends
+pub mod SpanPoints

@@ -54,7 +54,7 @@ value-drawn f n h c X = solve integers (nth integers (f.l ∷ f.m ∷ f.n ∷ n 
     (v 3 ⊗ (v 0 ⊗ v 4 ⊕ v 1 ⊗ v 5 ⊕ v 2) ⊕ (v 0 ⊗ v 6 ⊕ v 1 ⊗ v 7 ⊕ v 2 ⊗ v 8)) refl
 
 -- an index at which a number is positive, if there is one
-search_positive : (n : ℕ) (g : ℕ → ℤ) → ((j : ℕ) → j < n → g j ≼ pos 0) ⊎ ((j : ℕ) × ((j < n) × (pos 0 ≺ g j)))
+pub search_positive : (n : ℕ) (g : ℕ → ℤ) → ((j : ℕ) → j < n → g j ≼ pos 0) ⊎ ((j : ℕ) × ((j < n) × (pos 0 ≺ g j)))
 search_positive zero g = inl (λ j l. absurd (omega arith))
 search_positive (suc n) g = go (search_positive n g) (g n) refl
   where

@@ -137,3 +137,16 @@ support P convex three X inside f g hf hg h =
     closing m e = subst (λ z. z ≼ pos 0) (sym (reversed (corner_of P m) (corner_of P 0) X))
         (back _ (subst (λ i. pos 0 ≼ value (line (corner_of P m) (corner_of P i)) X)
         (subst (λ n. next_round n m ≡ 0) e (next-last m)) (inside m (omega arith))))
+
+-- a form that is nowhere positive at the corners is not positive at a point inside
+pub below-inside : (P : List Point) → IsConvex P → 3 ≤ length P → (X : Place) → IsInside P X → (g : Form) →
+    ((j : ℕ) → j < length P → at g (corner_of P j) ≼ pos 0) → value g X ≼ pos 0
+below-inside P convex three X inside g h = support P convex three X inside
+    (record { l = pos 0; m = pos 0; n = pos 0 }) g (λ j l. nothing (corner_of P j).x (corner_of P j).y)
+    (λ j l e. h j l) (nothing_there X.x X.y X.w)
+  where
+    nothing : (x y : ℤ) → (pos 0 *ℤ x +ℤ pos 0 *ℤ y +ℤ pos 0) ≼ pos 0
+    nothing x y = omega (arith, ints)
+
+    nothing_there : (x y w : ℤ) → pos 0 ≼ (pos 0 *ℤ x +ℤ pos 0 *ℤ y +ℤ pos 0 *ℤ w)
+    nothing_there x y w = omega (arith, ints)

@@ -3,3 +3,4 @@ pub mod Forms
 pub mod CommonPoints
 pub mod Marks
 pub mod Ends
+pub mod Boxes

@@ -1,8 +1,8 @@
 //! Separating edges and common points, worked by hand.
 
 use crate::types::{Common, Edge, Which};
-use crate::{common, separator};
-use stack_polygon::{Point, Polygon};
+use crate::{apart, common, separator};
+use stack_polygon::{Point, Polygon, Span};
 use std::alloc::Global;
 use std::test::*;
 
@@ -113,5 +113,20 @@ fn far_corners_fit(rt: HostRuntime) -> Result<(), Fail> {
         pair(rt.alloc(), &left, &right)?,
         Some((edge(Which::First, 1), shared))
     );
+    Ok(())
+}
+
+fn span(x0: i64, y0: i64, x1: i64, y1: i64) -> Span {
+    Span { x0, y0, x1, y1 }
+}
+
+#[test]
+fn boxes_that_touch_are_not_apart(rt: HostRuntime) -> Result<(), Fail> {
+    let base = span(0, 0, 10, 2);
+    assert!(rt; !apart(base, span(10, 2, 12, 4)));
+    assert!(rt; apart(base, span(11, 0, 12, 2)));
+    assert!(rt; apart(base, span(4, 3, 6, 5)));
+    // It has no point, since its bounds are the wrong way round.
+    assert!(rt; apart(base, span(5, 0, 4, 2)));
     Ok(())
 }

@@ -3,3 +3,4 @@ pub mod Ranges
 pub mod Fans
 pub mod Tested
 pub mod Admitted
+pub mod SpanSteps

@@ -5,3 +5,4 @@ pub mod Outlines
 pub mod Admission
 pub mod Area
 pub mod Sizes
+pub mod Spans

@@ -10,11 +10,12 @@ mod laws;
 mod lists;
 mod point;
 mod polygon;
+mod spans;
 mod turns;
 
 pub use errors::PolygonError;
 pub use laws::convexity_by_test;
-pub use point::Point;
+pub use point::{Point, Span};
 pub use polygon::Polygon;
 pub use turns::{advance, next, triangle};
 

@@ -7,11 +7,13 @@ ghost use Rattle.stack_polygon.specs.Corners.{corner_of, side_of};
 ghost use Rattle.stack_polygon.specs.Limits.{IsInRange, IsPolygon};
 ghost use Rattle.stack_polygon.specs.Area.{twice_area_of, six_moments_of};
 ghost use Rattle.stack_polygon.specs.Sizes.{IsWithin};
+ghost use Rattle.stack_polygon.specs.Spans.{IsSpanOf};
 
 use crate::errors::PolygonError;
 use crate::fan::fan;
 use crate::lists::{first_far, first_unclear, reverse};
-use crate::point::Point;
+use crate::point::{Point, Span};
+use crate::spans::span_of;
 use crate::turns::{next, triangle};
 use std::marker::Model;
 
@@ -95,6 +97,15 @@ impl Polygon {
         } else {
             0
         }
+    }
+
+    /// The least and the greatest coordinates: each corner lies within, and each bound is a corner's. Takes no
+    /// memory.
+    pub fn span(&self) -> Span
+        ensures span { IsSpanOf self.now result }
+        ensures polygon { IsPolygon self.now }
+    {
+        span_of(&self.corners)
     }
 
     /// Twice the area, in squares of the grid's unit; positive. Takes no memory.

@@ -1,6 +1,6 @@
 //! Each public call on a post of width 2 and height 4, and lists of corners that are taken and refused.
 
-use super::{Point, Polygon, PolygonError, advance, next, triangle};
+use super::{Point, Polygon, PolygonError, Span, advance, next, triangle};
 use std::alloc::Global;
 use std::test::*;
 
@@ -25,6 +25,21 @@ fn a_post_is_its_corners_with_its_sides_area_and_moments(rt: HostRuntime) -> Res
     assert_eq!(rt; post.side(0, Point { x: 1, y: -1 }), -1);
     assert_eq!(rt; post.twice_area(), 16);
     assert_eq!(rt; post.six_moments(), (48, 96));
+    Ok(())
+}
+
+#[test]
+fn a_span_has_the_least_and_the_greatest_coordinates(rt: HostRuntime) -> Result<(), Fail> {
+    let tilted = polygon(rt.alloc(), &[(3, 1), (4, 5), (-2, 6), (-7, 2)])?
+        .ok()
+        .ok_or("no polygon")?;
+    let span = Span {
+        x0: -7,
+        y0: 1,
+        x1: 4,
+        y1: 6,
+    };
+    assert_eq!(rt; tilted.span(), span);
     Ok(())
 }
 
