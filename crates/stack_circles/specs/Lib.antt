@@ -1,0 +1,4 @@
+pub mod BasicSets
+pub mod Reached
+pub mod Enough
+pub mod Laws
