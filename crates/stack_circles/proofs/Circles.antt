@@ -12,10 +12,12 @@ use Rattle.stack_duality.proofs.ThreePhases.{Second, first_step, second_begins, 
 use Rattle.stack_duality.proofs.RunEnds.{Settled, drives_keep}
 use Rattle.stack_circles.specs.BasicSets.{SameSet, SameList}
 use Rattle.stack_circles.specs.Reached.{ReachesInFirst, Phase, phase_1, phase_2, phase_3, after_turns, ComesToSecond, ReachesInSecond, ReachesInThird, ReachesIn}
-use Rattle.stack_circles.proofs.Reach.{tables, no_set, few, below_power}
+use Rattle.stack_circles.proofs.SetNumbers.{below_power}
+use Rattle.stack_circles.proofs.FewPivots.{tables, no_set, few}
 use Rattle.stack_circles.proofs.SecondPhase.{settled-left, settled-done, settled-table, RowDone, row_between, Passed, passed, drives_few, other_set}
 use Rattle.stack_circles.proofs.Turning.{Due_to, due_to}
 
+-- the same list is the same set
 pub same_list : (m : ℕ) (b c : ℕ → ℕ) → SameList m b c → SameSet m b c
 same_list m b c h j = (
   λ x. record { row = x.row; below = x.below; there = sym (h x.row x.below) ∙ x.there },
@@ -37,6 +39,7 @@ module _ (F : Ordered) (S : Shape) (passes : Op → F.C → F.C → Bool) (A : �
             (subst (λ W. SameSet S.rows (tables F S passes A own phase among within V a).basic W.basic)
             (sym y.table) (subst (λ W. SameSet S.rows W.basic U.basic) (sym x.table) h))
 
+    -- and they are few
     turns_few : (b : ℕ) (U : Tabled F.C) → after_turns F S passes among V b ≡ Some U → b < 2 ^ columns S
     turns_few b U q = few F S passes A own phase among within V start b
         (due_to F S passes A own phase among within V b U q).all
@@ -47,27 +50,29 @@ module _ (F : Ordered) (S : Shape) (passes : Op → F.C → F.C → Bool) (A : �
         ComesToSecond F S passes budget T0 l' d' V' → settled l d V ≡ settled l' d' V'
     one_way l d l' d' V V' h k = sym h.settles ∙ k.settles
 
+    -- so phase 2 begins with the same table
     drives_same : (n l d l' d' : ℕ) (V V' : Tabled F.C) → settled l d V ≡ settled l' d' V' →
         drives F S passes n l d (clear_objective F S V) ≡ drives F S passes n l' d' (clear_objective F S V')
     drives_same n l d l' d' V V' e = (λ z. drives F S passes n (settled-left e z) (settled-done e z)
         (clear_objective F S (settled-table e z)))
 
     -- what is known where phase 2 begins, and after each row
-    pub begins : (l d : ℕ) (V : Tabled F.C) → ComesToSecond F S passes budget T0 l d V → Second F S A 0
-        (clear_objective F S V)
-    begins l d V h = go (turns F S passes 1 S.contacts budget 0 T0) h.settles (turns_keep F S passes
-        (IsFirst F S A) 1 S.contacts (first_step F S A) budget 0 T0 first)
+    pub begins : (l d : ℕ) (V : Tabled F.C) → ComesToSecond F S passes budget T0 l d V →
+        Second F S A 0 (clear_objective F S V)
+    begins l d V h = go (turns F S passes 1 S.contacts budget 0 T0) h.settles
+        (turns_keep F S passes (IsFirst F S A) 1 S.contacts (first_step F S A) budget 0 T0 first)
       where
         at_last : (U : Tabled F.C) → U ≡ V → IsFirst F S A U → Second F S A 0 (clear_objective F S V)
         at_last U e k = second_begins F S A V (subst (IsFirst F S A) e k) h.not_below
 
-        go : (x : Stop F.C) → x ≡ settled l d V → Stopped F S (IsFirst F S A) S.contacts x → Second F S A 0
-            (clear_objective F S V)
+        go : (x : Stop F.C) → x ≡ settled l d V → Stopped F S (IsFirst F S A) S.contacts x →
+            Second F S A 0 (clear_objective F S V)
         go (settled l1 d1 U) e k = at_last U (settled-table e) k.0
         go (unlimited U c) e k = absurd cc
         go (passing p j s) e k = absurd cc
         go spent e k = absurd cc
 
+    -- the tables of phase 2
     in_second : (row d : ℕ) (U : Tabled F.C) → ReachesInSecond F S passes budget T0 row d U →
         Second F S A row U
     in_second row d U s = go (drives F S passes row s.left_before s.done_before
@@ -84,13 +89,14 @@ module _ (F : Ordered) (S : Shape) (passes : Op → F.C → F.C → Bool) (A : �
     -- two tables of phase 2
     second_between : (a b d e : ℕ) (T U : Tabled F.C) → a ≤ b → ReachesInSecond F S passes budget T0 a d T →
         ReachesInSecond F S passes budget T0 b e U → Passed F S passes b d T e U
-    second_between a b d e T U l s t = let z : a + (b - a) ≡ b = omega arith in subst
-        (λ n. Passed F S passes n d T e U) z
+    second_between a b d e T U l s t = let z : a + (b - a) ≡ b = omega arith in
+        subst (λ n. Passed F S passes n d T e U) z
         (passed F S passes s.left_before s.done_before (clear_objective F S s.last) a
         (b - a) s.left d T t.left e U s.there
         (ap (λ n. drives F S passes n s.left_before s.done_before (clear_objective F S s.last)) z
         ∙ drives_same b _ _ _ _ _ _ (one_way _ _ _ _ _ _ s.comes t.comes) ∙ t.there))
 
+    -- more pivots come with a later row
     in_order : (a b d e : ℕ) (T U : Tabled F.C) → ReachesInSecond F S passes budget T0 a d T →
         ReachesInSecond F S passes budget T0 b e U → d < e → a ≤ b
     in_order a b d e T U s t l = go (dec_le a b)
@@ -102,6 +108,7 @@ module _ (F : Ordered) (S : Shape) (passes : Op → F.C → F.C → Bool) (A : �
         go (yes k) = k
         go (no k) = absurd (backward (second_between b a e d U T (omega arith) t s))
 
+    -- no set recurs in phase 2
     second_recurs : (a b d e : ℕ) (T U : Tabled F.C) → ReachesInSecond F S passes budget T0 a d T →
         ReachesInSecond F S passes budget T0 b e U → d < e → SameSet S.rows T.basic U.basic → ⊥
     second_recurs a b d e T U s t l h = other_set F S passes A b t.row_within d e T U
@@ -114,8 +121,9 @@ module _ (F : Ordered) (S : Shape) (passes : Op → F.C → F.C → Bool) (A : �
         (clear_objective F S s.last) r s.left d T t.left e U s.there
         (drives_same (suc r) _ _ _ _ _ _ (one_way _ _ _ _ _ _ s.comes t.comes) ∙ t.there)
 
-    in_third : (d : ℕ) (U : Tabled F.C) → (s : ReachesInThird F S passes budget T0 d U) → IsThird F S A
-        (set_factor_objective F S s.last)
+    -- the first table of phase 3, and that there is one
+    in_third : (d : ℕ) (U : Tabled F.C) → (s : ReachesInThird F S passes budget T0 d U) →
+        IsThird F S A (set_factor_objective F S s.last)
     in_third d U s = third_begins F S A s.last (let f = s.second.comes.factor in omega arith)
         (in_second S.rows s.done_before s.last s.second)
 
@@ -129,16 +137,19 @@ module _ (F : Ordered) (S : Shape) (passes : Op → F.C → F.C → Bool) (A : �
         (t : ReachesInThird F S passes budget T0 e U) → s.done_before ≡ t.done_before
     third_start d e T U s t = settled-done (third_same d e T U s t)
 
+    -- nor in phase 3
     third_recurs : (d e : ℕ) (T U : Tabled F.C) → ReachesInThird F S passes budget T0 d T →
         ReachesInThird F S passes budget T0 e U → d < e → SameSet S.rows T.basic U.basic → ⊥
     third_recurs d e T U s t l h = turns_recur (own_third F S.contacts) 3 (plain S) (omega arith)
         (set_factor_objective F S s.last) (in_third d T s).tableau s.turns_done t.turns_done T U
-        (omega (arith, l, s.total, t.total, settled-done same)) s.there (ap (λ V. after_turns F S passes
-        (plain S) (set_factor_objective F S V) t.turns_done) (settled-table same) ∙ t.there) h
+        (omega (arith, l, s.total, t.total, settled-done same)) s.there
+        (ap (λ V. after_turns F S passes (plain S) (set_factor_objective F S V) t.turns_done)
+        (settled-table same) ∙ t.there) h
       where
         same : settled s.second.left s.done_before s.last ≡ settled t.second.left t.done_before t.last
         same = third_same d e T U s t
 
+    -- nor in any
     pub set_recurs : (p : Phase) (d e : ℕ) (T U : Tabled F.C) → ReachesIn F S passes budget T0 p d T →
         ReachesIn F S passes budget T0 p e U → d < e → SameSet S.rows T.basic U.basic → ⊥
     set_recurs phase_1 d e T U s t l h = turns_recur (own_first F S.rows (plain S)) 1 S.contacts
@@ -153,6 +164,7 @@ module _ (F : Ordered) (S : Shape) (passes : Op → F.C → F.C → Bool) (A : �
         (clear_objective F S s.last) row
         s.left d U s.there
 
+    -- which come after those of phase 1
     second_least : (row d : ℕ) (U : Tabled F.C) (s : ReachesInSecond F S passes budget T0 row d U) →
         s.done_before ≤ d
     second_least row d U s = at_least (passed F S passes s.left_before s.done_before
@@ -186,7 +198,12 @@ module _ (F : Ordered) (S : Shape) (passes : Op → F.C → F.C → Bool) (A : �
     pub short : (p : Phase) (d e : ℕ) (T U : Tabled F.C) → ReachesIn F S passes budget T0 p d T →
         ReachesIn F S passes budget T0 p e U → e < d + 2 ^ columns S
     short phase_1 d e T U s t = omega (arith, first_few e U t)
-    short phase_2 d e T U s t = omega (arith, t.reaches.row_within, second_total t.row e U t.reaches,
-        second_least s.row d T s.reaches, second_start s.row t.row d e T U s.reaches t.reaches,
-        below_power (columns S))
+    short phase_2 d e T U s t = omega (
+      arith,
+      t.reaches.row_within,
+      second_total t.row e U t.reaches,
+      second_least s.row d T s.reaches,
+      second_start s.row t.row d e T U s.reaches t.reaches,
+      below_power (columns S),
+    )
     short phase_3 d e T U s t = omega (arith, s.total, t.total, third_start d e T U s t, third_few e U t)

@@ -12,22 +12,22 @@ use Rattle.stack_duality.proofs.ThreePhases.{Second}
 use Rattle.stack_duality.proofs.RunEnds.{Settled, drives_keep}
 use Rattle.stack_circles.specs.Reached.{then_on, unrefused, turned_by, after_turns, ComesToSecond, ReachesInFirst, ReachesInThird, Phase, phase_1, phase_2, phase_3, ReachesIn, SomeDone, LastReached}
 use Rattle.stack_circles.proofs.Turning.{Before, before}
-use Rattle.stack_circles.proofs.Reach.{below_power}
+use Rattle.stack_circles.proofs.SetNumbers.{below_power}
 use Rattle.stack_circles.proofs.SecondPhase.{settled-done}
 use Rattle.stack_circles.proofs.Circles.{begins, first_few, second_total, third_few}
 
 module _ (F : Ordered) (S : Shape) (passes : Op → F.C → F.C → Bool) where
   -- a turn, and then k more
-  turn_first : (among : ℕ) (T V : Tabled F.C) (k : ℕ) (U : Tabled F.C) → turned_by F S passes T
-      (choose F S passes T among) ≡ Some V → after_turns F S passes among V k ≡ Some U →
-      after_turns F S passes among T (suc k) ≡ Some U
+  turn_first : (among : ℕ) (T V : Tabled F.C) (k : ℕ) (U : Tabled F.C) →
+      turned_by F S passes T (choose F S passes T among) ≡ Some V →
+      after_turns F S passes among V k ≡ Some U → after_turns F S passes among T (suc k) ≡ Some U
   turn_first among T V zero U e f = e ∙ f
   turn_first among T V (suc k) U e f = go (before F S passes among V k U f) (turn_first among T V k)
     where
-      go : Before F S passes among V k U → ((W : Tabled F.C) → turned_by F S passes T
-          (choose F S passes T among) ≡ Some V → after_turns F S passes among V k ≡ Some W →
-          after_turns F S passes among T (suc k) ≡ Some W) → after_turns F S passes among T (suc
-          (suc k)) ≡ Some U
+      go : Before F S passes among V k U → ((W : Tabled F.C) →
+          turned_by F S passes T (choose F S passes T among) ≡ Some V →
+          after_turns F S passes among V k ≡ Some W → after_turns F S passes among T (suc k) ≡ Some W) →
+          after_turns F S passes among T (suc (suc k)) ≡ Some U
       go b h = ap (λ o. then_on o (λ W. turned_by F S passes W (choose F S passes W among)))
           (h b.table e b.there ∙ sym b.there) ∙ f
 
@@ -39,24 +39,32 @@ module _ (F : Ordered) (S : Shape) (passes : Op → F.C → F.C → Bool) where
     pub total : d ≡ done + count
     pub there : after_turns F S passes among T count ≡ Some U
 
+  -- with some numbers of pivots
   pub record TurnedTo (among left done : ℕ) (T U : Tabled F.C) : Type 0 where
     pub left_then : ℕ
     pub done_then : ℕ
     pub turned : Turned among left done T left_then done_then U
 
+  -- by the stop
   abbrev pub Stopped : (among left done : ℕ) → Tabled F.C → Stop F.C → Type 0
   Stopped among left done T (settled l d U) = Turned among left done T l d U
   Stopped among left done T (unlimited U c) = TurnedTo among left done T U
   Stopped among left done T (passing p k s) = Unit {0}
   Stopped among left done T spent = Unit {0}
 
+  -- after no turn, and after one more
   none_turned : (among left done : ℕ) (T : Tabled F.C) → Turned among left done T left done T
-  none_turned among left done T = record { count = 0; within = omega arith; rest = omega arith; total =
-      omega arith; there = refl }
+  none_turned among left done T = record {
+    count = 0;
+    within = omega arith;
+    rest = omega arith;
+    total = omega arith;
+    there = refl;
+  }
 
-  one_more : (among left done : ℕ) (T V : Tabled F.C) (l d : ℕ) (U : Tabled F.C) → turned_by F S passes T
-      (choose F S passes T among) ≡ Some V → Turned among left (suc done) V l d U → Turned among
-      (suc left) done T l d U
+  one_more : (among left done : ℕ) (T V : Tabled F.C) (l d : ℕ) (U : Tabled F.C) →
+      turned_by F S passes T (choose F S passes T among) ≡ Some V → Turned among left (suc done) V l d U →
+      Turned among (suc left) done T l d U
   one_more among left done T V l d U e h = record {
     count = suc h.count;
     within = omega (arith, h.within);
@@ -65,18 +73,22 @@ module _ (F : Ordered) (S : Shape) (passes : Op → F.C → F.C → Bool) where
     there = turn_first among T V h.count U e h.there;
   }
 
-  more : (among left done : ℕ) (T V : Tabled F.C) (x : Stop F.C) → turned_by F S passes T
-      (choose F S passes T among) ≡ Some V → Stopped among left (suc done) V x → Stopped among
-      (suc left) done T x
+  -- the same of a stop
+  more : (among left done : ℕ) (T V : Tabled F.C) (x : Stop F.C) →
+      turned_by F S passes T (choose F S passes T among) ≡ Some V → Stopped among left (suc done) V x →
+      Stopped among (suc left) done T x
   more among left done T V (settled l d U) e h = one_more among left done T V l d U e h
-  more among left done T V
-      (unlimited U c) e h = record { left_then = h.left_then; done_then = h.done_then; turned = one_more
-      among left done T V h.left_then h.done_then U e h.turned }
+  more among left done T V (unlimited U c) e h = record {
+    left_then = h.left_then;
+    done_then = h.done_then;
+    turned = one_more among left done T V h.left_then h.done_then U e h.turned;
+  }
   more among left done T V (passing p k s) e h = tt
   more among left done T V spent e h = tt
 
-  pub turns_stop : (phase among left done : ℕ) (T : Tabled F.C) → Stopped among left done T
-      (turns F S passes phase among left done T)
+  -- so a phase stops at a table that its turns reach
+  pub turns_stop : (phase among left done : ℕ) (T : Tabled F.C) →
+      Stopped among left done T (turns F S passes phase among left done T)
   turns_stop phase among zero done T = go (choose F S passes T among)
     where
       go : (x : Choice) → Stopped among zero done T (on_choice phase zero done T (λ r c. spent) x)
@@ -88,23 +100,27 @@ module _ (F : Ordered) (S : Shape) (passes : Op → F.C → F.C → Bool) where
       (turns_stop phase among left (suc done))
     where
       at_spot : (r c : ℕ) → choose F S passes T among ≡ due r c → (o : Option PivotWide) →
-          pivot_spot F passes S T r c ≡ o → ((V : Tabled F.C) → Stopped among left (suc done) V
-          (turns F S passes phase among left (suc done) V)) →
+          pivot_spot F passes S T r c ≡ o → ((V : Tabled F.C) →
+          Stopped among left (suc done) V (turns F S passes phase among left (suc done) V)) →
           Stopped among (suc left) done T (on_spot phase done (turns F S passes phase among left (suc done))
-              (pivoted_at F S T r c) o)
+          (pivoted_at F S T r c) o)
       at_spot r c p (Some s) q h = tt
       at_spot r c p None q h = more among left done T (pivoted_at F S T r c)
           (turns F S passes phase among left (suc done) (pivoted_at F S T r c))
           (ap (turned_by F S passes T) p ∙ ap (unrefused (pivoted_at F S T r c)) q) (h (pivoted_at F S T r c))
 
-      go : (x : Choice) → choose F S passes T among ≡ x → ((V : Tabled F.C) → Stopped among left
-          (suc done) V (turns F S passes phase among left (suc done) V)) →
-          Stopped among (suc left) done T (on_choice phase (suc left) done T (λ r c. on_spot phase done
-              (turns F S passes phase among left (suc done)) (pivoted_at F S T r c)
-              (pivot_spot F passes S T r c)) x)
+      go : (x : Choice) → choose F S passes T among ≡ x →
+          ((V : Tabled F.C) → Stopped among left (suc done) V
+          (turns F S passes phase among left (suc done) V)) →
+          Stopped among (suc left) done T (on_choice phase (suc left) done T
+          (λ r c. on_spot phase done (turns F S passes phase among left (suc done))
+          (pivoted_at F S T r c) (pivot_spot F passes S T r c)) x)
       go stays p h = none_turned among (suc left) done T
-      go (rises c) p h = record { left_then = suc left; done_then = done; turned = none_turned among
-          (suc left) done T }
+      go (rises c) p h = record {
+        left_then = suc left;
+        done_then = done;
+        turned = none_turned among (suc left) done T;
+      }
       go (due r c) p h = at_spot r c p (pivot_spot F passes S T r c) refl h
       go (refused s) p h = tt
 
@@ -112,19 +128,27 @@ module _ (F : Ordered) (S : Shape) (passes : Op → F.C → F.C → Bool) where
     abbrev Last : End F.C → Type 0
     Last = LastReached F S passes budget T
 
+    -- a table of phase 3
     in_third : (left done l d : ℕ) (V W U : Tabled F.C) (left' done' : ℕ) →
-        ComesToSecond F S passes budget T left done V → drives F S passes S.rows left done
-        (clear_objective F S V) ≡ settled l d W →
-        Turned (plain S) l d (set_factor_objective F S W) left' done' U → SomeDone
-            (λ k. ReachesInThird F S passes budget T k U)
+        ComesToSecond F S passes budget T left done V →
+        drives F S passes S.rows left done (clear_objective F S V) ≡ settled l d W →
+        Turned (plain S) l d (set_factor_objective F S W) left' done' U →
+        SomeDone (λ k. ReachesInThird F S passes budget T k U)
     in_third left done l d V W U left' done' h e t = record {
       done = d + t.count;
       holds = record {
         left_before = l;
         done_before = d;
         last = W;
-        second = record { left_before = left; done_before = done; last = V; comes = h; row_within = omega
-            arith; left = l; there = e };
+        second = record {
+          left_before = left;
+          done_before = done;
+          last = V;
+          comes = h;
+          row_within = omega arith;
+          left = l;
+          there = e;
+        };
         before = refl;
         turns_done = t.count;
         within = t.within;
@@ -133,33 +157,37 @@ module _ (F : Ordered) (S : Shape) (passes : Op → F.C → F.C → Bool) where
       };
     }
 
+    -- by how phase 3 stops
     at_third : (left done l d : ℕ) (V W : Tabled F.C) → ComesToSecond F S passes budget T left done V →
         drives F S passes S.rows left done (clear_objective F S V) ≡ settled l d W →
         (x : Stop F.C) → Stopped (plain S) l d (set_factor_objective F S W) x → Last (third_end x)
     at_third left done l d V W h e (settled l' d' U) t = in_third left done l d V W U l' d' h e t
-    at_third left done l d V W h e
-        (unlimited U c) t = in_third left done l d V W U t.left_then t.done_then h e t.turned
+    at_third left done l d V W h e (unlimited U c) t =
+        in_third left done l d V W U t.left_then t.done_then h e t.turned
     at_third left done l d V W h e (passing p k s) t = tt
     at_third left done l d V W h e spent t = tt
 
+    -- by how phase 2 stops
     at_second : (left done : ℕ) (V : Tabled F.C) → ComesToSecond F S passes budget T left done V →
-        (x : Stop F.C) → drives F S passes S.rows left done (clear_objective F S V) ≡ x → Settled F S A
-        (Second F S A S.rows) x →
+        (x : Stop F.C) → drives F S passes S.rows left done (clear_objective F S V) ≡ x →
+        Settled F S A (Second F S A S.rows) x →
         Last (third_end (after x (λ l d U. turns F S passes 3 (plain S) l d (set_factor_objective F S U))))
-    at_second left done V h (settled l d W) e k = at_third left done l d V W h e _ (turns_stop 3
-        (plain S) l d (set_factor_objective F S W))
+    at_second left done V h (settled l d W) e k = at_third left done l d V W h e _
+        (turns_stop 3 (plain S) l d (set_factor_objective F S W))
     at_second left done V h (unlimited W c) e k = absurd k
     at_second left done V h (passing p j s) e k = tt
     at_second left done V h spent e k = tt
 
-    in_first : (left done : ℕ) (V : Tabled F.C) → Turned S.contacts budget 0 T left done V → SomeDone
-        (λ d. ReachesInFirst F S passes budget T d V)
+    -- a table of phase 1
+    in_first : (left done : ℕ) (V : Tabled F.C) → Turned S.contacts budget 0 T left done V →
+        SomeDone (λ d. ReachesInFirst F S passes budget T d V)
     in_first left done V t = record { done = t.count; holds = record { within = t.within; there = t.there } }
 
+    -- past phase 1, by the number of factor columns
     by_factors : (left done : ℕ) (V : Tabled F.C) (k : ℕ) → S.factors ≡ k →
-        turns F S passes 1 S.contacts budget 0 T ≡ settled left done V → F.sign
-        (right F S V S.rows) ≢ minus → Turned S.contacts budget 0 T left done V → Last
-        (past_first F S passes left done V k)
+        turns F S passes 1 S.contacts budget 0 T ≡ settled left done V →
+        F.sign (right F S V S.rows) ≢ minus → Turned S.contacts budget 0 T left done V →
+        Last (past_first F S passes left done V k)
     by_factors left done V zero f e n t = in_first left done V t
     by_factors left done V (suc k) f e n t = at_second left done V comes _ refl
         (drives_keep F S A passes S.rows (omega arith) left done (clear_objective F S V)
@@ -168,6 +196,7 @@ module _ (F : Ordered) (S : Shape) (passes : Op → F.C → F.C → Bool) where
         comes : ComesToSecond F S passes budget T left done V
         comes = record { settles = e; not_below = n; factor = omega (arith, f) }
 
+    -- the last table is one that the run reaches
     pub last_reached : Last (written_run F S passes budget T)
     last_reached = go (turns F S passes 1 S.contacts budget 0 T) refl (turns_stop 1 S.contacts budget 0 T)
       where
@@ -193,9 +222,13 @@ module _ (F : Ordered) (S : Shape) (passes : Op → F.C → F.C → Bool) where
         (turns_stop 1 S.contacts budget 0 T)
       where
         go : (x : Stop F.C) → x ≡ settled left done V → Stopped S.contacts budget 0 T x → done < 2 ^ columns S
-        go (settled l d U) e t = omega (arith, t.total, settled-done e,
-            first_few F S passes A budget T begins_run
-            t.count U (record { within = t.within; there = t.there }))
+        go (settled l d U) e t = omega (
+          arith,
+          t.total,
+          settled-done e,
+          first_few F S passes A budget T begins_run
+              t.count U (record { within = t.within; there = t.there }),
+        )
         go (unlimited U c) e t = absurd cc
         go (passing p k s) e t = absurd cc
         go spent e t = absurd cc
@@ -204,10 +237,18 @@ module _ (F : Ordered) (S : Shape) (passes : Op → F.C → F.C → Bool) where
     pub run_short : (p : Phase) (d : ℕ) (U : Tabled F.C) → ReachesIn F S passes budget T p d U →
         d < 3 * 2 ^ columns S
     run_short phase_1 d U s = omega (arith, first_few F S passes A budget T begins_run d U s)
-    run_short phase_2 d U s = let r = s.reaches in omega (arith, r.row_within, below_power (columns S),
-        second_total F S passes A budget T begins_run s.row d U r,
-        first_before r.left_before r.done_before r.last r.comes)
-    run_short phase_3 d U s = let r = s.second in omega (arith, s.total, below_power (columns S),
-        second_total F S passes A budget T begins_run S.rows s.done_before s.last r,
-        first_before r.left_before r.done_before r.last r.comes,
-        third_few F S passes A budget T begins_run d U s)
+    run_short phase_2 d U s = let r = s.reaches in omega (
+      arith,
+      r.row_within,
+      below_power (columns S),
+      second_total F S passes A budget T begins_run s.row d U r,
+      first_before r.left_before r.done_before r.last r.comes,
+    )
+    run_short phase_3 d U s = let r = s.second in omega (
+      arith,
+      s.total,
+      below_power (columns S),
+      second_total F S passes A budget T begins_run S.rows s.done_before s.last r,
+      first_before r.left_before r.done_before r.last r.comes,
+      third_few F S passes A budget T begins_run d U s,
+    )

@@ -1,6 +1,7 @@
 pub mod NoBasisRecurs
 pub mod Pigeonhole
-pub mod Reach
+pub mod SetNumbers
+pub mod FewPivots
 pub mod SecondPhase
 pub mod Turning
 pub mod Circles

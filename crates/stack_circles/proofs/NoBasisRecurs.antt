@@ -21,28 +21,39 @@ pub record Greatest (n : ℕ) (c : ℕ → ℕ) : Type 0 where
   pub below : index < n
   pub most : (k : ℕ) → k < n → c k ≤ c index
 
+-- there is one
 pub greatest : (n : ℕ) (c : ℕ → ℕ) → 0 < n → Greatest n c
 greatest zero c h = absurd (omega arith)
-greatest (suc zero) c h = record { index = 0; below = omega arith; most = λ k l. let e : k ≡ 0 = omega arith
-    in omega (arith, ap c e) }
-greatest (suc (suc n)) c h = go (greatest (suc n) c (omega arith)) (dec_le (c (greatest (suc n) c
-    (omega arith)).index) (c (suc n)))
+greatest (suc zero) c h = record {
+  index = 0;
+  below = omega arith;
+  most = λ k l. let e : k ≡ 0 = omega arith in omega (arith, ap c e);
+}
+greatest (suc (suc n)) c h = go (greatest (suc n) c (omega arith))
+    (dec_le (c (greatest (suc n) c (omega arith)).index) (c (suc n)))
   where
     go : (g : Greatest (suc n) c) → Dec (c g.index ≤ c (suc n)) → Greatest (suc (suc n)) c
-    go g (yes l) = record { index = suc n; below = omega arith; most = λ k m. each k m (ℕ_discrete k
-        (suc n)) }
+    go g (yes l) = record {
+      index = suc n;
+      below = omega arith;
+      most = λ k m. each k m (ℕ_discrete k (suc n));
+    }
       where
         each : (k : ℕ) → k < suc (suc n) → Dec (k ≡ suc n) → c k ≤ c (suc n)
         each k m (yes e) = omega (arith, ap c e)
         each k m (no d) = omega (arith, g.most k (omega arith))
-    go g (no l) = record { index = g.index; below = omega (arith, g.below); most = λ k m. each k m
-        (ℕ_discrete k (suc n)) }
+    go g (no l) = record {
+      index = g.index;
+      below = omega (arith, g.below);
+      most = λ k m. each k m (ℕ_discrete k (suc n));
+    }
       where
         each : (k : ℕ) → k < suc (suc n) → Dec (k ≡ suc n) → c k ≤ c g.index
         each k m (yes e) = omega (arith, ap c e)
         each k m (no d) = g.most k (omega arith)
 
 module _ (F : Ordered) where
+  -- what is 0 times a positive number is 0
   zero_factor : (x y : F.C) → F.sign x ≡ plus → F.mul x y ≡ F.of (pos 0) → y ≡ F.of (pos 0)
   zero_factor x y h e = F.zero_by_sign y (go (F.sign x) h (sym (F.sign-mul x y) ∙ ap F.sign e ∙ F.sign-zero))
     where
@@ -63,9 +74,10 @@ module _ (F : Ordered) (m n : ℕ) (A : ℕ → ℕ → F.C) (own : ℕ → F.C)
       ∙ sym (dot_own_cells F.ring m (suc n) A own (cell' m) (ray_of F m n cell basic s) t'.objective
       (ray_annulled F m n A own cell basic t s l))
       ∙ on_ray F m n A own cell basic t s l (cell' m)
-      ∙ ap (λ z. F.add z (sum F.ring m (λ i. F.mul (cell' m (basic i)) (F.neg (cell i s))))) (ring1 F.ring
-      (λ x. (x ⊗ num (pos 1), x)) refl (cell' m s))
+      ∙ ap (λ z. F.add z (sum F.ring m (λ i. F.mul (cell' m (basic i)) (F.neg (cell i s)))))
+      (ring1 F.ring (λ x. (x ⊗ num (pos 1), x)) refl (cell' m s))
 
+  -- a basic column has the objective cell 0
   unit_in : (cell : ℕ → ℕ → F.C) (basic : ℕ → ℕ) → Tableau F m n A own cell basic → (j : ℕ) →
       IsBasic m basic j → cell m j ≡ F.of (pos 0)
   unit_in cell basic t j h = ap (cell m) (sym h.there) ∙ t.objective_unit h.row h.below
@@ -78,6 +90,7 @@ module _ (F : Ordered) (m n : ℕ) (A : ℕ → ℕ → F.C) (own : ℕ → F.C)
       (unit_in cell' basic' t' (basic i) ((h (basic i)).0 (record { row = i; below = k; there = refl })))
       ∙ F.zero_mul _)) ∙ add-zero F.ring _
 
+  -- and so are their right sides
   pub same_value : (cell cell' : ℕ → ℕ → F.C) (basic basic' : ℕ → ℕ) → Tableau F m n A own cell basic →
       Tableau F m n A own cell' basic' → SameSet m basic basic' → cell m n ≡ cell' m n
   same_value cell cell' basic basic' t t' h = ring1 F.ring (λ y. (y, Exp.neg (Exp.neg y))) refl (cell m n)
@@ -85,11 +98,13 @@ module _ (F : Ordered) (m n : ℕ) (A : ℕ → ℕ → F.C) (own : ℕ → F.C)
       ∙ sym (dot_own_cells F.ring m (suc n) A own (cell' m) (solution F m n cell basic) t'.objective
       (solution_annulled F m n A own cell basic t))
       ∙ on_solution F m n A own cell basic t (cell' m)
-      ∙ ap (λ z. F.add z (F.mul (cell' m n) (F.of (negsuc 0)))) (sum_zero F.ring m _ (λ i k. ap
-      (λ z. F.mul z (cell i n)) (unit_in cell' basic' t' (basic i) ((h (basic i)).0
-      (record { row = i; below = k; there = refl }))) ∙ F.zero_mul _)))
+      ∙ ap (λ z. F.add z (F.mul (cell' m n) (F.of (negsuc 0))))
+      (sum_zero F.ring m _ (λ i k. ap (λ z. F.mul z (cell i n))
+      (unit_in cell' basic' t' (basic i) ((h (basic i)).0 (record { row = i; below = k; there = refl })))
+      ∙ F.zero_mul _)))
       ∙ ring1 F.ring (λ y. (Exp.neg (num (pos 0) ⊕ y ⊗ num (negsuc 0)), y)) refl (cell' m n)
 
+  -- no column is basic in two rows
   pub distinct : (cell : ℕ → ℕ → F.C) (basic : ℕ → ℕ) → Tableau F m n A own cell basic → (i k : ℕ) → i < m →
       k < m → basic i ≡ basic k → i ≡ k
   distinct cell basic t i k li lk e = go (ℕ_discrete i k)
@@ -108,6 +123,7 @@ module _ (F : Ordered) (S : Shape) (A : ℕ → ℕ → F.C) (own : ℕ → F.C)
   abbrev n : ℕ
   n = columns S
 
+  -- as far as L pivots
   pub record Turns : Type 0 where
     pub among_columns : among ≤ n
     pub tableau : (k : ℕ) → k ≤ L → Tableau F m n A own (T k).cell (T k).basic
@@ -115,54 +131,72 @@ module _ (F : Ordered) (S : Shape) (A : ℕ → ℕ → F.C) (own : ℕ → F.C)
     pub step : (k : ℕ) → k < L → T (suc k) ≡ pivoted_at F S (T k) (r k) (c k)
 
   module _ (h : Turns) where
+    -- the table after a pivot
     basic_after : (k i : ℕ) → k < L → (T (suc k)).basic i ≡ changed (T k).basic (r k) (c k) i
     basic_after k i l = ap (λ (U : Tabled F.C). U.basic i) (h.step k l)
 
     cell_after : (k i j : ℕ) → k < L → (T (suc k)).cell i j ≡ next F (T k).cell (r k) (c k) i j
     cell_after k i j l = ap (λ (U : Tabled F.C). U.cell i j) (h.step k l)
 
+    -- a column is basic in table k
     abbrev Basic : ℕ → ℕ → Type 0
     Basic k j = IsBasic m (T k).basic j
 
+    -- the entering column is basic after the pivot
     entered : (k : ℕ) → k < L → Basic (suc k) (c k)
-    entered k l = record { row = r k; below = (h.due k l).leaves.below; there = basic_after k (r k) l
-        ∙ changed-same (T k).basic (r k) (c k) }
+    entered k l = record {
+      row = r k;
+      below = (h.due k l).leaves.below;
+      there = basic_after k (r k) l ∙ changed-same (T k).basic (r k) (c k);
+    }
 
+    -- a basic column stays, unless it leaves
     stays_in_once : (k j : ℕ) → k < L → (T k).basic (r k) ≢ j → Basic k j → Basic (suc k) j
-    stays_in_once k j l d b = record { row = b.row; below = b.below; there = basic_after k b.row l
-        ∙ changed-other (T k).basic (r k) (c k) b.row (λ e. d (ap (T k).basic (sym e) ∙ b.there)) ∙ b.there }
+    stays_in_once k j l d b = record {
+      row = b.row;
+      below = b.below;
+      there = basic_after k b.row l ∙ changed-other (T k).basic (r k) (c k) b.row
+          (λ e. d (ap (T k).basic (sym e) ∙ b.there)) ∙ b.there;
+    }
 
+    -- and was there before, unless it entered
     came_in_once : (k j : ℕ) → k < L → c k ≢ j → Basic (suc k) j → Basic k j
     came_in_once k j l d b = go (ℕ_discrete b.row (r k))
       where
         go : Dec (b.row ≡ r k) → Basic k j
-        go (yes e) = absurd (d (sym (changed-same (T k).basic (r k) (c k)) ∙ ap (changed (T k).basic (r k)
-            (c k)) (sym e) ∙ sym (basic_after k b.row l) ∙ b.there))
-        go (no e) = record { row = b.row; below = b.below; there = sym (changed-other (T k).basic (r k)
-            (c k) b.row e) ∙ sym (basic_after k b.row l) ∙ b.there }
+        go (yes e) = absurd (d (sym (changed-same (T k).basic (r k) (c k))
+            ∙ ap (changed (T k).basic (r k) (c k)) (sym e) ∙ sym (basic_after k b.row l) ∙ b.there))
+        go (no e) = record {
+          row = b.row;
+          below = b.below;
+          there = sym (changed-other (T k).basic (r k) (c k) b.row e) ∙ sym (basic_after k b.row l) ∙ b.there;
+        }
 
     -- a column that does not leave stays; one that does not enter was there before
     stays_in : (j : ℕ) → ((k : ℕ) → k < L → (T k).basic (r k) ≢ j) → (a d : ℕ) → a + d ≤ L → Basic a j →
         Basic (a + d) j
     stays_in j f a zero l b = let e : a ≡ a + zero = omega arith in subst (λ k. Basic k j) e b
-    stays_in j f a (suc d) l b = let e : suc (a + d) ≡ a + suc d = omega arith in subst (λ k. Basic k j) e
-        (stays_in_once (a + d) j (omega arith) (f (a + d) (omega arith)) (stays_in j f a d (omega arith) b))
+    stays_in j f a (suc d) l b = let e : suc (a + d) ≡ a + suc d = omega arith in
+        subst (λ k. Basic k j) e (stays_in_once (a + d) j (omega arith) (f (a + d) (omega arith))
+        (stays_in j f a d (omega arith) b))
 
     was_in : (j : ℕ) → ((k : ℕ) → k < L → c k ≢ j) → (a d : ℕ) → a + d ≤ L → Basic (a + d) j → Basic a j
     was_in j f a zero l b = let e : a + zero ≡ a = omega arith in subst (λ k. Basic k j) e b
-    was_in j f a (suc d) l b = let e : a + suc d ≡ suc (a + d) = omega arith in was_in j f a d (omega arith)
-        (came_in_once (a + d) j (omega arith) (f (a + d) (omega arith)) (subst (λ k. Basic k j) e b))
+    was_in j f a (suc d) l b = let e : a + suc d ≡ suc (a + d) = omega arith in
+        was_in j f a d (omega arith) (came_in_once (a + d) j (omega arith) (f (a + d) (omega arith))
+        (subst (λ k. Basic k j) e b))
 
     -- the entering column is not basic
     not_basic-entering : (k : ℕ) → k < L → Basic k (c k) → ⊥
-    not_basic-entering k l b = let e = unit_in F m n A own (T k).cell (T k).basic (h.tableau k
-        (omega arith)) (c k) b in
+    not_basic-entering k l b = let e = unit_in F m n A own (T k).cell (T k).basic (h.tableau k (omega arith))
+        (c k) b in
         let z = ap is_minus (ap F.sign e ∙ F.sign-zero) in let q = (h.due k l).enters.has in cc
 
     -- the objective's right side
     abbrev gain : ℕ → F.C
     gain k = F.mul (F.neg ((T k).cell m (c k))) (quotient F (right F S (T k) (r k)) ((T k).cell (r k) (c k)))
 
+    -- it grows by the gain of each pivot
     value_after : (k : ℕ) → k < L → (T (suc k)).cell m n ≡ F.add ((T k).cell m n) (gain k)
     value_after k l = cell_after k m n l
         ∙ ap (λ (f : ℕ → F.C). f n) (pivoted-other F.ring (T k).cell (F.inv ((T k).cell (r k) (c k))) (r k)
@@ -175,6 +209,7 @@ module _ (F : Ordered) (S : Shape) (A : ℕ → ℕ → F.C) (own : ℕ → F.C)
     value_is (suc k) l = value_after k l ∙ ap (λ z. F.add z (gain k)) (value_is k (omega arith))
         ∙ F.add_assoc _ _ _
 
+    -- the entering column has a negative objective cell
     entering-minus : (k : ℕ) → k < L → F.sign ((T k).cell m (c k)) ≡ minus
     entering-minus k l = go (F.sign ((T k).cell m (c k))) (h.due k l).enters.has
       where
@@ -186,26 +221,28 @@ module _ (F : Ordered) (S : Shape) (A : ℕ → ℕ → F.C) (own : ℕ → F.C)
     pivot_inv-plus : (k : ℕ) → k < L → F.sign (F.inv ((T k).cell (r k) (c k))) ≡ plus
     pivot_inv-plus k l = inv-plus F _ (h.due k l).leaves.positive
 
+    -- and no gain is negative
     gain-nonneg : (k : ℕ) → k < L → NonNeg F (gain k)
     gain-nonneg k l = nonneg_mul F _ _ (nonneg_neg-minus F _ (entering-minus k l))
-        (nonneg_mul F _ _ (nonneg_plus F _ (pivot_inv-plus k l)) ((h.tableau k (omega arith)).feasible (r k)
-        (h.due k l).leaves.below))
+        (nonneg_mul F _ _ (nonneg_plus F _ (pivot_inv-plus k l))
+        ((h.tableau k (omega arith)).feasible (r k) (h.due k l).leaves.below))
 
     -- the set of basic columns recurs
     module _ (some : 0 < L) (same : SameSet m (T 0).basic (T L).basic) where
+      -- so no pivot gains anything
       no_gain : (k : ℕ) → k < L → gain k ≡ F.of (pos 0)
       no_gain = zero_parts F L gain gain-nonneg
           (ring2 F.ring (λ x s. (s, (x ⊕ s) ⊖ x)) refl ((T 0).cell m n) (sum F.ring L gain)
-          ∙ ap (λ z. F.add z (F.neg ((T 0).cell m n))) (sym (value_is L (omega arith)) ∙ sym
-          (same_value F m n A own (T 0).cell (T L).cell (T 0).basic (T L).basic (h.tableau 0 (omega arith))
-          (h.tableau L (omega arith)) same))
+          ∙ ap (λ z. F.add z (F.neg ((T 0).cell m n))) (sym (value_is L (omega arith))
+          ∙ sym (same_value F m n A own (T 0).cell (T L).cell (T 0).basic (T L).basic
+          (h.tableau 0 (omega arith)) (h.tableau L (omega arith)) same))
           ∙ ring1 F.ring (λ x. (x ⊖ x, num (pos 0))) refl ((T 0).cell m n))
 
       -- the ratio of each pivot is 0, and so is the right side of its row
-      zero_ratio : (k : ℕ) → k < L → quotient F (right F S (T k) (r k)) ((T k).cell (r k) (c k)) ≡ F.of
-          (pos 0)
-      zero_ratio k l = zero_factor F (F.neg ((T k).cell m (c k))) _ (F.sign-neg _ ∙ ap opposite
-          (entering-minus k l)) (no_gain k l)
+      zero_ratio : (k : ℕ) → k < L → quotient F (right F S (T k) (r k)) ((T k).cell (r k) (c k))
+          ≡ F.of (pos 0)
+      zero_ratio k l = zero_factor F (F.neg ((T k).cell m (c k))) _
+          (F.sign-neg _ ∙ ap opposite (entering-minus k l)) (no_gain k l)
 
       zero_right : (k : ℕ) → k < L → (T k).cell (r k) n ≡ F.of (pos 0)
       zero_right k l = zero_factor F (F.inv ((T k).cell (r k) (c k))) _ (pivot_inv-plus k l) (zero_ratio k l)
@@ -213,24 +250,29 @@ module _ (F : Ordered) (S : Shape) (A : ℕ → ℕ → F.C) (own : ℕ → F.C)
       -- no right side changes
       right_is : (k i : ℕ) → k ≤ L → (T k).cell i n ≡ (T 0).cell i n
       right_is zero i l = refl
-      right_is (suc k) i l = cell_after k i n l ∙ column_kept F.ring (T k).cell (F.inv ((T k).cell (r k)
-          (c k))) (r k) (c k) i n (zero_right k l) ∙ right_is k i (omega arith)
+      right_is (suc k) i l = cell_after k i n l ∙ column_kept F.ring (T k).cell
+          (F.inv ((T k).cell (r k) (c k))) (r k) (c k) i n (zero_right k l) ∙ right_is k i (omega arith)
 
       -- a row whose right side is not 0 keeps its basic column
-      basic_is : (i : ℕ) → ((T 0).cell i n ≡ F.of (pos 0) → ⊥) → (k : ℕ) → k ≤ L → (T k).basic i ≡
-          (T 0).basic i
+      basic_is : (i : ℕ) → ((T 0).cell i n ≡ F.of (pos 0) → ⊥) → (k : ℕ) → k ≤ L →
+          (T k).basic i ≡ (T 0).basic i
       basic_is i d zero l = refl
-      basic_is i d (suc k) l = basic_after k i l ∙ changed-other (T k).basic (r k) (c k) i (λ e. d (sym
-          (right_is k i (omega arith)) ∙ ap (λ z. (T k).cell z n) e ∙ zero_right k l)) ∙ basic_is i d k
-          (omega arith)
+      basic_is i d (suc k) l = basic_after k i l ∙ changed-other (T k).basic (r k) (c k) i
+          (λ e. d (sym (right_is k i (omega arith)) ∙ ap (λ z. (T k).cell z n) e ∙ zero_right k l))
+          ∙ basic_is i d k (omega arith)
 
+      -- a row whose basic column of one turn isn't basic in another has the right side 0
       zero_there : (p q i : ℕ) → p < L → q < L → i < m → (Basic q ((T p).basic i) → ⊥) →
           (T p).cell i n ≡ F.of (pos 0)
       zero_there p q i lp lq li out = right_is p i (omega arith) ∙ go (F.sign ((T 0).cell i n)) refl
         where
           other : ((T 0).cell i n ≡ F.of (pos 0) → ⊥) → ⊥
-          other d = out (record { row = i; below = li; there = basic_is i d q (omega arith) ∙ sym
-              (basic_is i d p (omega arith)) })
+          other d = out (record {
+            row = i;
+            below = li;
+            there = basic_is i d q (omega arith)
+                ∙ sym (basic_is i d p (omega arith));
+          })
 
           go : (s : Sign) → F.sign ((T 0).cell i n) ≡ s → (T 0).cell i n ≡ F.of (pos 0)
           go nought e = F.zero_by_sign _ e
@@ -252,17 +294,18 @@ module _ (F : Ordered) (S : Shape) (A : ℕ → ℕ → F.C) (own : ℕ → F.C)
           back_to = was_in j not_entering
 
           go : Dec (q ≤ p) → Basic q j
-          go (yes l) = let e : p ≡ q + (p - q) = omega arith in back_to q (p - q) (omega arith) (subst
-              (λ k. Basic k j) e b)
+          go (yes l) = let e : p ≡ q + (p - q) = omega arith in
+              back_to q (p - q) (omega arith) (subst (λ k. Basic k j) e b)
           go (no l) = let at_start : Basic 0 j = back_to 0 p (omega arith) (subst (λ k. Basic k j) start b) in
-              let e : L ≡ q + (L - q) = omega arith in back_to q (L - q) (omega arith) (subst
-                  (λ k. Basic k j) e ((same j).0 at_start))
+              let e : L ≡ q + (L - q) = omega arith in
+              back_to q (L - q) (omega arith) (subst (λ k. Basic k j) e ((same j).0 at_start))
             where
               start : p ≡ 0 + p
               start = omega arith
 
       -- t leaves in the turn p: that cannot be
       module _ (p : ℕ) (lp : p < L) (leaves_t : (T p).basic (r p) ≡ c g.index) where
+        -- the tables and the pivots of both turns
         tp : Tableau F m n A own (T p).cell (T p).basic
         tp = h.tableau p (omega arith)
 
@@ -286,28 +329,31 @@ module _ (F : Ordered) (S : Shape) (A : ℕ → ℕ → F.C) (own : ℕ → F.C)
 
         -- below t no objective cell of the turn q is negative
         below-nonneg : (j : ℕ) → j < c g.index → NonNeg F ((T g.index).cell m j)
-        below-nonneg j l = record { fact = λ e. let z = ap is_minus e in
-            let y = dq.enters.none_before j l in cc }
+        below-nonneg j l = record {
+          fact = λ e. let z = ap is_minus e in let y = dq.enters.none_before j l in cc;
+        }
 
         -- a column whose objective cell is not 0 in the turn q is not basic there
         not_basic : (j : ℕ) → F.sign ((T g.index).cell m j) ≢ nought → Basic g.index j → ⊥
         not_basic j d b = d (ap F.sign (unit_in F m n A own (T g.index).cell (T g.index).basic tq j b)
             ∙ F.sign-zero)
 
+        -- so it is t or below
         at_most : (i : ℕ) → i < m → F.sign ((T g.index).cell m ((T p).basic i)) ≢ nought →
             (T p).basic i ≤ c g.index
         at_most i l d = go (dec_le ((T p).basic i) (c g.index))
           where
             go : Dec ((T p).basic i ≤ c g.index) → (T p).basic i ≤ c g.index
             go (yes k) = k
-            go (no k) = absurd (not_basic ((T p).basic i) d (above_stays ((T p).basic i)
-                (omega arith) p g.index lp g.below (record { row = i; below = l; there = refl })))
+            go (no k) = absurd (not_basic ((T p).basic i) d
+                (above_stays ((T p).basic i) (omega arith) p g.index lp g.below
+                (record { row = i; below = l; there = refl })))
 
         -- a row whose product is positive would have left in place of t
-        tie : (i : ℕ) → i < m → (T p).basic i < c g.index → F.sign ((T g.index).cell m
-            ((T p).basic i)) ≡ plus → F.sign ((T p).cell i (c p)) ≡ plus → ⊥
-        tie i l lt e f = let k = (dp.leaves.no_worse i l f).tied (ratio_i ∙ sym (zero_ratio p lp)) in omega
-            (arith, k, leaves_t, lt)
+        tie : (i : ℕ) → i < m → (T p).basic i < c g.index →
+            F.sign ((T g.index).cell m ((T p).basic i)) ≡ plus → F.sign ((T p).cell i (c p)) ≡ plus → ⊥
+        tie i l lt e f = let k = (dp.leaves.no_worse i l f).tied (ratio_i ∙ sym (zero_ratio p lp)) in
+            omega (arith, k, leaves_t, lt)
           where
             zero_i : (T p).cell i n ≡ F.of (pos 0)
             zero_i = zero_there p g.index i lp g.below l (not_basic ((T p).basic i) (λ z. cc))
@@ -315,12 +361,13 @@ module _ (F : Ordered) (S : Shape) (A : ℕ → ℕ → F.C) (own : ℕ → F.C)
             ratio_i : quotient F (right F S (T p) i) ((T p).cell i (c p)) ≡ F.of (pos 0)
             ratio_i = ap (F.mul (F.inv ((T p).cell i (c p)))) zero_i ∙ mul-zero F.ring _
 
-        term-nonneg : (i : ℕ) → i < m → NonNeg F (F.mul ((T g.index).cell m ((T p).basic i)) (F.neg
-            ((T p).cell i (c p))))
+        -- no product is negative
+        term-nonneg : (i : ℕ) → i < m → NonNeg F (F.mul ((T g.index).cell m ((T p).basic i))
+            (F.neg ((T p).cell i (c p))))
         term-nonneg i l = record {
           fact = λ e. go (F.sign ((T g.index).cell m ((T p).basic i))) (F.sign ((T p).cell i (c p))) refl refl
-              (sym (F.sign-mul _ _ ∙ ap (both (F.sign ((T g.index).cell m ((T p).basic i)))) (F.sign-neg
-              ((T p).cell i (c p)))) ∙ e);
+              (sym (F.sign-mul _ _ ∙ ap (both (F.sign ((T g.index).cell m ((T p).basic i))))
+              (F.sign-neg ((T p).cell i (c p)))) ∙ e);
         }
           where
             equal_or_less : (T p).basic i ≤ c g.index → (((T p).basic i ≡ c g.index) → ⊥) →
@@ -328,16 +375,17 @@ module _ (F : Ordered) (S : Shape) (A : ℕ → ℕ → F.C) (own : ℕ → F.C)
             equal_or_less l d = omega arith
 
             at_t : (T p).basic i ≡ c g.index → i ≡ r p
-            at_t e = distinct F m n A own (T p).cell (T p).basic tp i (r p) l dp.leaves.below (e
-                ∙ sym leaves_t)
+            at_t e = distinct F m n A own (T p).cell (T p).basic tp i (r p) l dp.leaves.below
+                (e ∙ sym leaves_t)
 
-            go : (a d : Sign) → F.sign ((T g.index).cell m ((T p).basic i)) ≡ a → F.sign ((T p).cell i
-                (c p)) ≡ d → both a (opposite d) ≢ minus
+            go : (a d : Sign) → F.sign ((T g.index).cell m ((T p).basic i)) ≡ a →
+                F.sign ((T p).cell i (c p)) ≡ d → both a (opposite d) ≢ minus
             go nought d e f z = cc
             go plus minus e f z = cc
             go plus nought e f z = cc
-            go plus plus e f z = tie i l (equal_or_less (at_most i l (λ y. cc)) (λ y. let k = sym e ∙ ap
-                (λ j. F.sign ((T g.index).cell m j)) y ∙ entering-minus g.index g.below in cc)) e f
+            go plus plus e f z = tie i l (equal_or_less (at_most i l (λ y. cc))
+                (λ y. let k = sym e ∙ ap (λ j. F.sign ((T g.index).cell m j)) y
+                ∙ entering-minus g.index g.below in cc)) e f
             go minus plus e f z = cc
             go minus nought e f z = cc
             go minus minus e f z = finish (ℕ_discrete ((T p).basic i) (c g.index))
@@ -345,18 +393,21 @@ module _ (F : Ordered) (S : Shape) (A : ℕ → ℕ → F.C) (own : ℕ → F.C)
                 finish : Dec ((T p).basic i ≡ c g.index) → ⊥
                 finish (yes y) = let k = sym f ∙ ap (λ j. F.sign ((T p).cell j (c p))) (at_t y)
                     ∙ dp.leaves.positive in cc
-                finish (no y) = (below-nonneg ((T p).basic i) (equal_or_less (at_most i l
-                    (λ x. cc)) y)).fact e
+                finish (no y) = (below-nonneg ((T p).basic i)
+                    (equal_or_less (at_most i l (λ x. cc)) y)).fact e
 
+        -- so the objective cell of s in the turn p isn't negative, but it is
         impossible : ⊥
         impossible = (nonneg_by F _ _ (sym (objective_between F m n A own (T p).cell (T g.index).cell
             (T p).basic (T g.index).basic tp tq (c p) (omega (arith, dp.enters.below, h.among_columns))))
             (nonneg_add F _ _ (below-nonneg (c p) s_below) (nonneg_sum F m _ term-nonneg))).fact
             (entering-minus p lp)
 
+      -- so t never leaves, and stays basic: it can't enter
       pub cannot_recur : ⊥
-      cannot_recur = not_basic-entering g.index g.below (subst (λ k. Basic k (c g.index)) start (stays_in
-          (c g.index) not_leaving 0 g.index (omega (arith, g.below)) at_start))
+      cannot_recur = not_basic-entering g.index g.below
+          (subst (λ k. Basic k (c g.index)) start (stays_in (c g.index) not_leaving 0 g.index
+          (omega (arith, g.below)) at_start))
         where
           not_leaving : (k : ℕ) → k < L → (T k).basic (r k) ≢ c g.index
           not_leaving k l e = impossible k l e
@@ -364,7 +415,7 @@ module _ (F : Ordered) (S : Shape) (A : ℕ → ℕ → F.C) (own : ℕ → F.C)
           at_end : Basic L (c g.index)
           at_end = let b = g.below in let e : suc g.index + (L - suc g.index) ≡ L = omega arith in
               subst (λ k. Basic k (c g.index)) e (stays_in (c g.index) not_leaving (suc g.index)
-                  (L - suc g.index) (omega arith) (entered g.index g.below))
+              (L - suc g.index) (omega arith) (entered g.index g.below))
 
           at_start : Basic 0 (c g.index)
           at_start = (same (c g.index)).1 at_end

@@ -16,6 +16,7 @@ use Rattle.stack_circles.specs.BasicSets.{IsBasic, SameSet}
 use Rattle.stack_circles.specs.Reached.{TakesArtificialOut}
 use Rattle.stack_circles.proofs.NoBasisRecurs.{distinct}
 
+-- what two equal stops have in common
 pub settled-left : {C : Type 0} {l d l' d' : ℕ} {T T' : Tabled C} → settled l d T ≡ settled l' d' T' → l ≡ l'
 settled-left e = cc
 
@@ -30,6 +31,7 @@ module _ (F : Ordered) (S : Shape) (passes : Op → F.C → F.C → Bool) where
   abbrev pub RowDone : ℕ → ℕ → Tabled F.C → ℕ → Tabled F.C → Type 0
   RowDone row d T e U = ((e ≡ d) × (U ≡ T)) ⊎ ((e ≡ suc d) × TakesArtificialOut S row T U)
 
+  -- this is what it does
   pub row_done : (left done : ℕ) (T : Tabled F.C) (i l d : ℕ) (U : Tabled F.C) →
       drive_row F S passes left done T i ≡ settled l d U → RowDone i done T d U
   row_done left done T i l d U e = go (leb (plain S) (T.basic i)) refl e
@@ -37,8 +39,8 @@ module _ (F : Ordered) (S : Shape) (passes : Op → F.C → F.C → Bool) where
       stays : (k : ℕ) → settled k done T ≡ settled l d U → RowDone i done T d U
       stays k e = inl (sym (settled-done e), sym (settled-table e))
 
-      pivots : (k c : ℕ) → plain S ≤ T.basic i → c < plain S → settled k (suc done)
-          (pivoted_at F S T i c) ≡ settled l d U → RowDone i done T d U
+      pivots : (k c : ℕ) → plain S ≤ T.basic i → c < plain S →
+          settled k (suc done) (pivoted_at F S T i c) ≡ settled l d U → RowDone i done T d U
       pivots k c b lc e = inr (
         sym (settled-done e),
         subst (λ V. TakesArtificialOut S i T V) (settled-table e) (record {
@@ -48,8 +50,9 @@ module _ (F : Ordered) (S : Shape) (passes : Op → F.C → F.C → Bool) where
         }),
       )
 
-      at_spot : (k c : ℕ) → plain S ≤ T.basic i → c < plain S → (o : Option PivotWide) → on_spot 2 done
-          (settled k (suc done)) (pivoted_at F S T i c) o ≡ settled l d U → RowDone i done T d U
+      at_spot : (k c : ℕ) → plain S ≤ T.basic i → c < plain S → (o : Option PivotWide) →
+          on_spot 2 done (settled k (suc done)) (pivoted_at F S T i c) o ≡ settled l d U →
+          RowDone i done T d U
       at_spot k c b lc (Some s) e = absurd cc
       at_spot k c b lc None e = pivots k c b lc e
 
@@ -57,11 +60,13 @@ module _ (F : Ordered) (S : Shape) (passes : Op → F.C → F.C → Bool) where
           drive_at F S passes k done T i o ≡ settled l d U → RowDone i done T d U
       at_column b k None p e = stays k e
       at_column b zero (Some c) p e = absurd cc
-      at_column b (suc k) (Some c) p e = at_spot k c b (least-some (plain S) (λ j. not (is_nought (F.sign
-          (T.cell i j)))) c p).below (pivot_spot F passes S T i c) e
+      at_column b (suc k) (Some c) p e = at_spot k c b
+          (least-some (plain S) (λ j. not (is_nought (F.sign (T.cell i j)))) c p).below
+          (pivot_spot F passes S T i c) e
 
-      go : (b : Bool) → leb (plain S) (T.basic i) ≡ b → cond b (drive_at F S passes left done T i
-          (driven_column F S T i)) (settled left done T) ≡ settled l d U → RowDone i done T d U
+      go : (b : Bool) → leb (plain S) (T.basic i) ≡ b → cond b
+          (drive_at F S passes left done T i (driven_column F S T i)) (settled left done T) ≡ settled l d U →
+          RowDone i done T d U
       go true p e = at_column (leb-true _ _ p) left (driven_column F S T i) refl e
       go false p e = stays left e
 
@@ -77,21 +82,35 @@ module _ (F : Ordered) (S : Shape) (passes : Op → F.C → F.C → Bool) where
     pub kept : (i : ℕ) → (U.basic i ≡ T.basic i) ⊎ (U.basic i < plain S)
     pub moved : ((e ≡ d) × (U ≡ T)) ⊎ ((d < e) × Out n T U)
 
+  -- one row more
   passed_on : (r d : ℕ) (T : Tabled F.C) (x : ℕ) (V : Tabled F.C) (e : ℕ) (U : Tabled F.C) →
       Passed r d T x V → RowDone r x V e U → Passed (suc r) d T e U
   passed_on r d T x V e U h (inl k) = record {
     kept = λ i. subst (λ W. (W.basic i ≡ T.basic i) ⊎ (W.basic i < plain S)) (sym k.1) (h.kept i);
     moved = elim h.moved [
       | inl z ↦ inl (k.0 ∙ z.0, k.1 ∙ z.1)
-      | inr z ↦ inr (omega (arith, k.0, z.0), record { row = z.1.row; below = omega (arith,
-          z.1.below); leaves = z.1.leaves; enters = subst (λ W. W.basic z.1.row < plain S)
-          (sym k.1) z.1.enters })
+      | inr z ↦ inr (
+        omega (arith, k.0, z.0),
+        record {
+          row = z.1.row;
+          below = omega (arith, z.1.below);
+          leaves = z.1.leaves;
+          enters = subst (λ W. W.basic z.1.row < plain S) (sym k.1) z.1.enters;
+        },
+      )
     ];
   }
   passed_on r d T x V e U h (inr k) = record {
     kept = λ i. keep i (ℕ_discrete i r) (h.kept i);
-    moved = inr (later h.moved, record { row = r; below = omega arith; leaves = was
-        (h.kept r); enters = k.1.enters });
+    moved = inr (
+      later h.moved,
+      record {
+        row = r;
+        below = omega arith;
+        leaves = was (h.kept r);
+        enters = k.1.enters;
+      },
+    );
   }
     where
       keep : (i : ℕ) → Dec (i ≡ r) → (V.basic i ≡ T.basic i) ⊎ (V.basic i < plain S) →
@@ -111,16 +130,19 @@ module _ (F : Ordered) (S : Shape) (passes : Op → F.C → F.C → Bool) where
   module _ (left done : ℕ) (V : Tabled F.C) where
     -- the row after which
     pub row_between : (r l d : ℕ) (T : Tabled F.C) (l' e : ℕ) (U : Tabled F.C) →
-        drives F S passes r left done V ≡ settled l d T → drives F S passes
-        (suc r) left done V ≡ settled l' e U → RowDone r d T e U
-    row_between r l d T l' e U p q = row_done l d T r l' e U (sym (ap (λ x. after x
-        (λ l d W. drive_row F S passes l d W r)) p) ∙ q)
+        drives F S passes r left done V ≡ settled l d T →
+        drives F S passes (suc r) left done V ≡ settled l' e U → RowDone r d T e U
+    row_between r l d T l' e U p q = row_done l d T r l' e U
+        (sym (ap (λ x. after x (λ l d W. drive_row F S passes l d W r)) p) ∙ q)
 
+    -- two tables of phase 2 with some rows between them
     pub passed : (a k l d : ℕ) (T : Tabled F.C) (l' e : ℕ) (U : Tabled F.C) →
-        drives F S passes a left done V ≡ settled l d T → drives F S passes
-        (a + k) left done V ≡ settled l' e U → Passed (a + k) d T e U
-    passed a zero l d T l' e U p q = record { kept = λ i. inl (ap (λ
-        (W : Tabled F.C). W.basic i) same); moved = inl (sym (settled-done both), same) }
+        drives F S passes a left done V ≡ settled l d T →
+        drives F S passes (a + k) left done V ≡ settled l' e U → Passed (a + k) d T e U
+    passed a zero l d T l' e U p q = record {
+      kept = λ i. inl (ap (λ (W : Tabled F.C). W.basic i) same);
+      moved = inl (sym (settled-done both), same);
+    }
       where
         start : a + zero ≡ a
         start = omega arith
@@ -132,14 +154,15 @@ module _ (F : Ordered) (S : Shape) (passes : Op → F.C → F.C → Bool) where
         same = sym (settled-table both)
     passed a (suc k) l d T l' e U p q = let z : suc (a + k) ≡ a + suc k = omega arith in
         subst (λ n. Passed n d T e U) z (go (drives F S passes (a + k) left done V) refl
-            (λ l' e U q. passed a k l d T l' e U p q) (ap (λ n. drives F S passes n left done V) z ∙ q))
+        (λ l' e U q. passed a k l d T l' e U p q) (ap (λ n. drives F S passes n left done V) z ∙ q))
       where
-        go : (x : Stop F.C) → drives F S passes (a + k) left done V ≡ x → ((l' e : ℕ) (U : Tabled F.C) →
-            drives F S passes (a + k) left done V ≡ settled l' e U → Passed (a + k) d T e U) →
-            after x (λ l d W. drive_row F S passes l d W (a + k)) ≡ settled l' e U → Passed (suc
-                (a + k)) d T e U
-        go (settled l1 d1 W) x h q = passed_on (a + k) d T d1 W e U (h l1 d1 W x) (row_done l1 d1 W
-            (a + k) l' e U q)
+        go : (x : Stop F.C) → drives F S passes (a + k) left done V ≡ x →
+            ((l' e : ℕ) (U : Tabled F.C) → drives F S passes (a + k) left done V ≡ settled l' e U →
+            Passed (a + k) d T e U) →
+            after x (λ l d W. drive_row F S passes l d W (a + k)) ≡ settled l' e U →
+            Passed (suc (a + k)) d T e U
+        go (settled l1 d1 W) x h q = passed_on (a + k) d T d1 W e U (h l1 d1 W x)
+            (row_done l1 d1 W (a + k) l' e U q)
         go (unlimited W c) x h q = absurd cc
         go (passing p k s) x h q = absurd cc
         go spent x h q = absurd cc
@@ -154,8 +177,8 @@ module _ (F : Ordered) (S : Shape) (passes : Op → F.C → F.C → Bool) where
         at_row d W h (inl z) = omega (arith, h, z.0)
         at_row d W h (inr z) = omega (arith, h, z.0)
 
-        go : (x : Stop F.C) → drives F S passes k left done V ≡ x → ((l e : ℕ) (U : Tabled F.C) →
-            drives F S passes k left done V ≡ settled l e U → e ≤ done + k) →
+        go : (x : Stop F.C) → drives F S passes k left done V ≡ x →
+            ((l e : ℕ) (U : Tabled F.C) → drives F S passes k left done V ≡ settled l e U → e ≤ done + k) →
             after x (λ l d W. drive_row F S passes l d W k) ≡ settled l e U → e ≤ done + suc k
         go (settled l1 d1 W) x h q = at_row d1 W (h l1 d1 W x) (row_done l1 d1 W k l e U q)
         go (unlimited W c) x h q = absurd cc
@@ -163,13 +186,13 @@ module _ (F : Ordered) (S : Shape) (passes : Op → F.C → F.C → Bool) where
         go spent x h q = absurd cc
 
   -- where a pivot is between them, the two tables have different sets
-  pub other_set : (A : ℕ → ℕ → F.C) (n : ℕ) → n ≤ S.rows → (d e : ℕ) (T U : Tabled F.C) → Tableau F S.rows
-      (columns S) A (none F.ring) T.cell T.basic → Passed n d T e U → d < e →
+  pub other_set : (A : ℕ → ℕ → F.C) (n : ℕ) → n ≤ S.rows → (d e : ℕ) (T U : Tabled F.C) →
+      Tableau F S.rows (columns S) A (none F.ring) T.cell T.basic → Passed n d T e U → d < e →
       SameSet S.rows T.basic U.basic → ⊥
   other_set A n w d e T U t h l same = elim h.moved [
     | inl z ↦ let k = z.0 in omega arith
-    | inr z ↦ found z.1 ((same (T.basic z.1.row)).0 (record { row = z.1.row; below = omega (arith,
-        z.1.below); there = refl }))
+    | inr z ↦ found z.1 ((same (T.basic z.1.row)).0
+        (record { row = z.1.row; below = omega (arith, z.1.below); there = refl }))
   ]
     where
       found : (o : Out n T U) → IsBasic S.rows U.basic (T.basic o.row) → ⊥

@@ -1,16 +1,18 @@
 -- The answers of the three phases tell the written run.
-use Rattle.std.proofs.Common.{◌≡◌, refl, sym, ap, subst, ◌∙◌, ℕ, false, cond}
+use Rattle.std.proofs.Common.{◌≡◌, refl, sym, ap, subst, ◌∙◌, ℕ, ◌≤◌, false, cond, Some}
 use lib.IntN.{ℤ}
 use Rattle.stack_algebra.specs.Fraction.{Fraction}
 use Rattle.stack_algebra.proofs.OrderedFractions.{ordered_fractions}
 use Rattle.stack_rational.specs.Passes.{passes}
-use Rattle.stack_table.specs.Table.{Shape, Tabled, plain, right, clear_objective, set_factor_objective}
+use Rattle.stack_table.specs.Table.{Shape, Tabled, plain, columns, right, clear_objective, set_factor_objective}
 use Rattle.stack_table.specs.Problem.{Problem}
 use Rattle.stack_table.specs.Lent.{problem_of}
 use Rattle.stack_bland.specs.Choice.{is_minus}
-use Rattle.stack_duality.specs.WrittenRun.{Stop, settled, unlimited, End, infeasible, after, turns, drives, raise, third_end, past_first, first_end, written_run}
+use Rattle.stack_duality.specs.WrittenRun.{Stop, settled, unlimited, End, infeasible, over, after, turns, drives, raise, third_end, past_first, first_end, written_run}
 use Rattle.stack_duality.specs.FourEnds.{EndGives}
 use Rattle.stack_duality.specs.Laws.{EndsGive, SomeRowLeaves}
+use Rattle.stack_circles.specs.Enough.{enough_of}
+use Rattle.stack_circles.specs.Laws.{EnoughSuffices}
 use Rattle.stack_simplex.specs.declared.pivots.Pivots.{Pivots}
 use Rattle.stack_simplex.specs.declared.refusal.RunError.{RunError}
 use Rattle.stack_simplex.specs.declared.refusal.RunError.TheVariants.{TooWide, Spent}
@@ -103,3 +105,10 @@ module _ (max : ℤ) (S : Shape) (T : Tabled Fraction) (budget : ℕ) where
   gives law P h x e = subst (λ y. EndGives ordered_fractions P y)
       ((λ i. written_run ordered_fractions (h.shape i) (passes max) budget (h.table i)) ∙ sym e)
       (law P (passes max) budget)
+
+  -- a budget that is enough for its columns is never spent
+  pub never_spent : EnoughSuffices → IsWritten S T → (b : ℕ) → enough_of (columns S) ≡ Some b → b ≤ budget →
+      over ≡ written_run ordered_fractions S (passes max) budget T → ⊥
+  never_spent law w b e l p = let h = w.is_its_table in law (problem_of w.problem) (passes max) budget b
+      (ap (λ (S : Shape). enough_of (columns S)) h.shape ∙ e) l
+      ((λ i. written_run ordered_fractions (h.shape i) (passes max) budget (h.table i)) ∙ sym p)

@@ -4,16 +4,20 @@
 //! the factor. A turn chooses its entering column and its leaving row by Bland's rule (1977), and then pivots.
 #![tactic(auto)]
 
-ghost use Rattle.std.specs.Prelude.{◌≡◌, ◌≢◌, IfOk};
+ghost use Rattle.std.specs.Prelude.{◌≡◌, ◌≢◌, ℕ, ◌≤◌, Some, Err, IfOk};
 ghost use Rattle.stack_algebra.proofs.OrderedFractions.{ordered_fractions};
 ghost use Rattle.stack_rational.specs.Passes.{passes};
+ghost use Rattle.stack_table.specs.Table.{columns};
 ghost use Rattle.stack_table.specs.Problem.{Problem};
 ghost use Rattle.stack_table.specs.Seen.{shape_of_table, table_of, flips_of};
 ghost use Rattle.stack_duality.specs.WrittenRun.{written_run};
 ghost use Rattle.stack_duality.specs.FourEnds.{EndGives};
+ghost use Rattle.stack_circles.specs.Enough.{enough_of};
+ghost use Rattle.stack_simplex.specs.declared.refusal.RunError.TheVariants.{Spent};
 ghost use Rattle.stack_simplex.specs.Written.{IsTableOf, IsWritten};
 ghost use Rattle.stack_simplex.specs.Ends.{last_of, end_of};
 
+mod budget;
 mod ended;
 mod first_phase;
 mod pivots;
@@ -22,10 +26,12 @@ mod second_phase;
 mod third_phase;
 mod turn;
 
+pub use budget::enough;
 pub use ended::Ended;
 use first_phase::{falls_short, first_phase};
 pub use refusal::{Place, RunError};
 use second_phase::second_phase;
+use stack_circles::budget_law;
 use stack_duality::run_laws;
 use stack_rational::Exact;
 use stack_table::Table;
@@ -59,7 +65,8 @@ fn run_phases<S: Exact>(t: Table<S>, budget: u32) -> Result<Ended<S>, RunError>
 /// its numbers.
 ///
 /// Refused at the first operation that passes, or where a pivot is due and the budget's pivots are done,
-/// whichever comes first; the table is dropped then. Takes no memory. After Bland (1977).
+/// whichever comes first; the table is dropped then. A budget that is `enough` for the table's columns is never
+/// spent. Takes no memory. After Bland (1977).
 pub fn run<S: Exact>(t: Table<S>, budget: u32) -> Result<Ended<S>, RunError>
     requires written { IsWritten (shape_of_table t) (table_of t) }
     requires some { budget ≢ 0 }
@@ -69,8 +76,11 @@ pub fn run<S: Exact>(t: Table<S>, budget: u32) -> Result<Ended<S>, RunError>
         ≡ written_run ordered_fractions (shape_of_table t) (passes S.MAX) budget (table_of t) }
     ensures ends { (P : Problem) → IsTableOf P (shape_of_table t) (table_of t) →
         EndGives ordered_fractions P (end_of result) }
+    ensures suffices { (b : ℕ) → enough_of (columns (shape_of_table t)) ≡ Some b → b ≤ budget →
+        result ≢ Err Spent }
 {
     run_laws();
+    budget_law();
     run_phases(t, budget)
 }
 

@@ -1,6 +1,6 @@
 //! Runs worked by hand, at each width.
 
-use crate::{Ended, Place, RunError, run};
+use crate::{Ended, Place, RunError, enough, run};
 use stack_rational::{Exact, Frac};
 use stack_table::Table;
 use stack_table::problem::{Column, Entry, Problem};
@@ -26,7 +26,7 @@ fn column(alloc: Global, numbers: &[i128]) -> Result<Column, AllocError> {
 /// A problem by its contact columns, its factor column and its right sides.
 fn problem(
     alloc: Global,
-    contact: &[[i128; 3]],
+    contact: &[[i128; 4]],
     factor: Option<Column>,
     right: &[i128],
 ) -> Result<Problem, AllocError> {
@@ -130,7 +130,7 @@ fn two_rows_hold<S: Exact>(alloc: Global, dead: &Problem, live: &Problem) -> boo
 #[test]
 fn one_body_holds_at_8_64_and_128_bits(rt: HostRuntime) -> Result<(), Fail> {
     let alloc = rt.alloc();
-    let contact = [[0, 1, 0], [1, 1, 0]];
+    let contact = [[0, 1, 0, 0], [1, 1, 0, 0]];
     let dead = problem(alloc, &contact, None, &[1, 1])?;
     let factor = column(alloc, &[-1, 0])?;
     let live = problem(alloc, &contact, Some(factor), &[1, 1])?;
@@ -144,7 +144,7 @@ fn one_body_holds_at_8_64_and_128_bits(rt: HostRuntime) -> Result<(), Fail> {
 #[test]
 fn a_post_stands_after_four_pivots_and_bears_twice_its_push(rt: HostRuntime) -> Result<(), Fail> {
     let alloc = rt.alloc();
-    let contact = [[1, 1, 0], [-1, 1, 0], [1, 1, 2], [-1, 1, 2]];
+    let contact = [[1, 1, 0, 0], [-1, 1, 0, 0], [1, 1, 2, 0], [-1, 1, 2, 0]];
     let post = problem(alloc, &contact, None, &[0, 48, 48])?;
     assert!(rt; told::<Frac<i64>>(alloc, &post, 3) == Outcome::Refused(RunError::Spent));
     assert!(rt; told::<Frac<i64>>(alloc, &post, 4) == Outcome::Feasible);
@@ -160,7 +160,7 @@ fn a_post_stands_after_four_pivots_and_bears_twice_its_push(rt: HostRuntime) -> 
 #[test]
 fn a_slender_post_is_too_wide_for_8_bits(rt: HostRuntime) -> Result<(), Fail> {
     let alloc = rt.alloc();
-    let contact = [[1, 50, 0], [-1, 50, 0], [1, 50, 50], [-1, 50, 50]];
+    let contact = [[1, 50, 0, 0], [-1, 50, 0, 0], [1, 50, 50, 0], [-1, 50, 50, 0]];
     let slender = problem(alloc, &contact, None, &[0, 24, 12])?;
     let place = Place {
         phase: 1,
@@ -178,7 +178,7 @@ fn a_slender_post_is_too_wide_for_8_bits(rt: HostRuntime) -> Result<(), Fail> {
 #[test]
 fn a_ratio_passes_before_the_budget_is_looked_at(rt: HostRuntime) -> Result<(), Fail> {
     let alloc = rt.alloc();
-    let p = problem(alloc, &[[2, 1, 0], [1, 1, 0]], None, &[0, 100])?;
+    let p = problem(alloc, &[[2, 1, 0, 0], [1, 1, 0, 0]], None, &[0, 100])?;
     let place = Place {
         phase: 1,
         pivot: 2,
@@ -195,18 +195,47 @@ fn a_ratio_passes_before_the_budget_is_looked_at(rt: HostRuntime) -> Result<(), 
 #[test]
 fn the_other_ends_are_told(rt: HostRuntime) -> Result<(), Fail> {
     let alloc = rt.alloc();
-    let pulled = problem(alloc, &[[-1, 0, 0]], None, &[1])?;
+    let pulled = problem(alloc, &[[-1, 0, 0, 0]], None, &[1])?;
     assert!(rt; told::<Frac<i8>>(alloc, &pulled, 1) == Outcome::Infeasible);
     let bare = problem(alloc, &[], None, &[5])?;
     assert!(rt; told::<Frac<i8>>(alloc, &bare, 1) == Outcome::Infeasible);
     let push = column(alloc, &[-1])?;
-    let pressed = problem(alloc, &[[1, 0, 0]], Some(push), &[1])?;
+    let pressed = problem(alloc, &[[1, 0, 0, 0]], Some(push), &[1])?;
     assert!(rt; told::<Frac<i64>>(alloc, &pressed, 1) == Outcome::Ray(1));
     let nothing = column(alloc, &[])?;
-    let doubled = problem(alloc, &[[1, 1, 0]], Some(nothing), &[1, 1])?;
+    let doubled = problem(alloc, &[[1, 1, 0, 0]], Some(nothing), &[1, 1])?;
     assert!(rt; told::<Frac<i64>>(alloc, &doubled, 1) == Outcome::Ray(1));
     assert!(rt; last_rests_on::<Frac<i64>>(alloc, &doubled, 1, &[0, 3], &[1, 0]));
     let empty = problem(alloc, &[], None, &[])?;
     assert!(rt; told::<Frac<i128>>(alloc, &empty, 1) == Outcome::Feasible);
     Ok(())
+}
+
+/// The example of Beale (1955), its rows in whole numbers, with its objective as the factor: Dantzig's rule of the
+/// most negative objective cell comes back to the same basic columns every six pivots.
+#[test]
+fn beales_example_ends(rt: HostRuntime) -> Result<(), Fail> {
+    let alloc = rt.alloc();
+    let contact = [
+        [100, 0, 0, 0],
+        [0, 100, 0, 0],
+        [0, 0, 1, 0],
+        [25, 50, 0, -75],
+        [-6000, -9000, 0, 15000],
+        [-4, -2, 1, -2],
+        [900, 300, 0, 600],
+    ];
+    let factor = column(alloc, &[0, 0, 0, 100])?;
+    let example = problem(alloc, &contact, Some(factor), &[0, 0, 1, 0])?;
+    assert!(rt; told::<Frac<i128>>(alloc, &example, 9) == Outcome::Refused(RunError::Spent));
+    assert!(rt; last_rests_on::<Frac<i128>>(alloc, &example, 10, &[7, 5, 3, 0], &[1, 1, 1, 3]));
+    Ok(())
+}
+
+#[test]
+fn a_budget_suffices_by_its_columns(rt: HostRuntime) {
+    assert!(rt; enough(7) == Some(384));
+    assert!(rt; enough(8) == Some(768));
+    assert!(rt; enough(30) == Some(3221225472));
+    assert!(rt; enough(31).is_none());
 }

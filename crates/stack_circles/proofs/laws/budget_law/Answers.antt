@@ -5,7 +5,7 @@ use Rattle.stack_table.specs.WrittenTable.{first_row, written_table}
 use Rattle.stack_duality.proofs.Begins.{first_table}
 use Rattle.stack_circles.proofs.Circles.{short}
 use Rattle.stack_circles.proofs.LastTables.{run_short}
-use Rattle.stack_circles.proofs.Reach.{enough}
+use Rattle.stack_circles.proofs.FewPivots.{enough}
 use Rattle.stack_circles.proofs.Budgets.{enough-is}
 use Rattle.stack_circles.proofs.laws.budget_law.Goals as goal
 
