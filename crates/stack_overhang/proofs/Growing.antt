@@ -1,0 +1,26 @@
+-- A list that a loop fills, one item a turn.
+use Rattle.std.proofs.Common.{◌≡◌, ℕ, ◌+◌, ◌≤◌, List, [], ◌∷◌, ◌++◌, refl, sym, ap, ◌∙◌, subst, arith, add-one, append_assoc}
+use Rattle.stack_algebra.proofs.Listed.{listed, listed_more}
+
+module _ {X : Type 0} (f : ℕ → X) where
+  longer : (i : ℕ) → listed i f ++ f i ∷ [] ≡ listed (i + 1) f
+  longer i = sym (listed_more i f) ∙ ap (λ n. listed n f) (sym (add-one i))
+
+  pub one_more : (xs next : List X) (i : ℕ) (x : X) → next ≡ xs ++ x ∷ [] → x ≡ f i → xs ≡ listed i f
+      → next ≡ listed (i + 1) f
+  one_more xs next i x h is so_far =
+      h ∙ (λ j. so_far j ++ is j ∷ []) ∙ longer i
+
+  -- the same after the items that were there
+  pub one_more_after : (front xs next : List X) (i : ℕ) (x : X) → next ≡ xs ++ x ∷ [] → x ≡ f i
+      → xs ≡ front ++ listed i f → next ≡ front ++ listed (i + 1) f
+  one_more_after front xs next i x h is so_far =
+      h ∙ (λ j. so_far j ++ is j ∷ []) ∙ append_assoc front (listed i f) (f i ∷ []) ∙ ap (λ ys. front ++ ys) (longer i)
+
+  -- all of them
+  pub no_more : (xs : List X) (i n : ℕ) → i ≤ n → n ≤ i → xs ≡ listed i f → xs ≡ listed n f
+  no_more xs i n le ge so_far = so_far ∙ ap (λ k. listed k f) (omega arith)
+
+  pub no_more_after : (front xs : List X) (i n : ℕ) → i ≤ n → n ≤ i → xs ≡ front ++ listed i f
+      → xs ≡ front ++ listed n f
+  no_more_after front xs i n le ge so_far = so_far ∙ ap (λ k. front ++ listed k f) (omega arith)

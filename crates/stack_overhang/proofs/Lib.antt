@@ -1,0 +1,9 @@
+pub mod Growing
+pub mod Reaches
+pub mod SlabLayers
+pub mod Rectangles
+pub mod Rows
+pub mod Names
+pub mod Taken
+pub mod Laid
+pub mod Made

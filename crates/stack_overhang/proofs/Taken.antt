@@ -1,0 +1,209 @@
+-- The parts of a built-in model are taken without a fault, and make its structure.
+use Rattle.std.proofs.Common.{◌≡◌, ℕ, zero, suc, ◌+◌, ◌<◌, ◌≤◌, ℤ, pos, Bool, true, false, not, List, [], ◌∷◌, ◌++◌, map, length, get_or, Option, Some, None, Result, Ok, Err, refl, sym, ap, ◌∙◌, subst, arith, add-one}
+use Rattle.std.specs.Prelude.{nat_le, nat_lt, codes, count_by, cond}
+use Rattle.std.specs.Bool.{⊤}
+use Rattle.std.proofs.lemmas.Int.{ints}
+use Rattle.std.proofs.lemmas.List.Sums.{sum_by-append}
+use Rattle.stack_algebra.specs.Steps.{◌>>=◌, steps}
+use Rattle.stack_algebra.proofs.Listed.{listed, length_listed, listed_item, listed_more, map_listed}
+use Rattle.stack_polygon.specs.declared.point.Point.{Point}
+use Rattle.stack_model.specs.declared.types.Load.{Load}
+use Rattle.stack_model.specs.declared.places.Spot.{Spot}
+use Rattle.stack_model.specs.declared.places.Key.{Key}
+use Rattle.stack_model.specs.declared.places.What.{What}
+use Rattle.stack_model.specs.declared.places.What.TheVariants as whats
+use Rattle.stack_model.specs.declared.places.Key.TheVariants as keys
+use Rattle.stack_model.specs.declared.errors.ModelError.{ModelError}
+use Rattle.stack_model.specs.declared.errors.ModelError.TheVariants.{NoMaterial, TooMany}
+use Rattle.stack_model.specs.Structure.{NamedMaterial, NamedBody, Structure, listed as structure, body_at}
+use Rattle.stack_model.specs.Parts.{BlockPart, LoadPart, PartLists}
+use Rattle.stack_polygon.specs.Limits.{is_in_range}
+use Rattle.stack_model.specs.Limits.{is_name, friction_of, point_of}
+use Rattle.stack_model.specs.Convex.{convex}
+use Rattle.stack_model.specs.Content.{unless, at_most, ranged, found, is_new, is_free, number_of, has_room}
+use Rattle.stack_model.specs.Content.{material_names, body_names, with_material, add_material, with_body}
+use Rattle.stack_model.specs.Content.{add_block, add_load, bodies_of, content_of}
+use Rattle.stack_model.specs.Relisted.{material_listed, coordinates}
+use Rattle.stack_model.proofs.Points.{point_again}
+use Rattle.stack_overhang.specs.declared.types.Rectangle.{Rectangle}
+use Rattle.stack_overhang.specs.Bricks.{corners_of, brick_at, brick_name}
+use Rattle.stack_overhang.specs.Built.{brick_material, base_body, brick_body, brick_bodies, built_bodies, built}
+use Rattle.stack_overhang.specs.Listing.{block_of, brick_block, blocks_of, push_listed}
+use Rattle.stack_overhang.proofs.Rectangles.{IsTaken}
+use Rattle.stack_overhang.proofs.Names.{IsApart, is_a_brick_name, fresh, numbered}
+
+-- a list that is taken item by item
+steps_listed : {A X E : Type 0} (f : ℕ → A → X → Result A E) (n i : ℕ) (after : ℕ → A) (item : ℕ → X)
+    → ((j k : ℕ) → k < n → f j (after k) (item k) ≡ Ok (after (suc k)))
+    → steps f i (after 0) (listed n item) ≡ Ok (after n)
+steps_listed f zero i after item each = refl
+steps_listed f (suc n) i after item each =
+    ap (λ r. r >>= λ b. steps f (i + 1) b (listed n (λ k. item (suc k)))) (each i 0 (omega arith))
+    ∙ steps_listed f n (i + 1) (λ k. after (suc k)) (λ k. item (suc k)) (λ j k lt. each j (suc k) (omega (arith, lt)))
+
+-- the steps of a block, where each went well
+block_runs : (a c : Bool) (d e g : ModelError) (s : Spot) (k : Key) (o : Option (List Point))
+    (at : Option ℕ) (outline_of : List Point → Result (List Point) ModelError) (room : Result ⊤ ModelError)
+    (to : ℕ → List Point → List NamedBody) (ps : List Point) (n : ℕ) (qs : List Point)
+    → a ≡ true → c ≡ true → o ≡ Some ps → at ≡ Some n → outline_of ps ≡ Ok qs → room ≡ Ok tt
+    → (unless a d >>= λ _. ranged s k o >>= λ ps. unless c e >>= λ _. found at g >>= λ n. outline_of ps
+    >>= λ qs. room >>= λ _. Ok (to n qs)) ≡ Ok (to n qs)
+block_runs a c d e g s k o at outline_of room to ps n qs ha hc ho hn hq hr =
+    (λ i. unless (ha i) d >>= λ _. ranged s k (ho i) >>= λ ps. unless (hc i) e >>= λ _. found (hn i) g
+    >>= λ n. outline_of ps >>= λ qs. hr i >>= λ _. Ok (to n qs))
+    ∙ ap (λ q. q >>= λ qs. Ok (to n qs)) hq
+
+abbrev body : List ℕ → Bool → Rectangle → NamedBody
+body name fixed r = record { name = name; material = 0; fixed = fixed; corners = corners_of r }
+
+module _ (p q : ℤ) where
+  abbrev materials : List NamedMaterial
+  materials = brick_material p q ∷ []
+
+  material_taken : friction_of (p ∷ q ∷ []) ≡ Some (p, q)
+      → steps add_material 0 [] (map material_listed materials) ≡ Ok materials
+  unfolding add_material with_material
+  material_taken h = rw h refl
+
+  block_taken : (i : ℕ) (bs : List NamedBody) (name : List ℕ) (fixed : Bool) (r : Rectangle)
+      → is_name name ≡ true → is_new name (body_names bs) ≡ true → IsTaken r → has_room fixed bs ≡ Ok tt
+      → add_block materials i bs (block_of name fixed r) ≡ Ok (bs ++ body name fixed r ∷ [])
+  unfolding add_block with_body
+  block_taken i bs name fixed r named new t room =
+      block_runs (is_name name) (is_new name (body_names bs)) _ _ (NoMaterial i) _ _ _
+      (number_of (codes "brick") (material_names materials)) (convex i) (has_room fixed bs)
+      (λ n qs. bs ++ record { name = name; material = n; fixed = fixed; corners = qs } ∷ []) (corners_of r) 0
+      (corners_of r) named new t.corners refl (t.outline i) room
+
+-- a base and bricks on it that each are taken
+pub record AreTaken (name : List ℕ) (base : Rectangle) (bricks : List Rectangle) : Type 0 where
+  pub named : is_name name ≡ true
+  pub apart : IsApart name
+  pub under : IsTaken base
+  pub each : (k : ℕ) → k < length bricks → IsTaken (brick_at bricks k)
+  pub few : length bricks ≤ 128
+
+module _ (name : List ℕ) (base : Rectangle) (bricks : List Rectangle) where
+  -- the bodies when so many bricks have been taken
+  abbrev bodies : ℕ → List NamedBody
+  bodies k = base_body name base ∷ brick_bodies bricks k
+
+  names : (k : ℕ) → body_names (bodies k) ≡ name ∷ listed k brick_name
+  names k = ap (λ ns. name ∷ ns) (map_listed (λ (b : NamedBody). b.name) k (λ j. brick_body j (brick_at bricks j)))
+
+  free_bricks : (k : ℕ) → count_by (λ (b : NamedBody). not b.fixed) (brick_bodies bricks k) ≡ k
+  free_bricks zero = refl
+  free_bricks (suc k) =
+      let one = brick_body k (brick_at bricks k) in
+      let more = ap (count_by (λ (b : NamedBody). not b.fixed)) (listed_more k (λ j. brick_body j (brick_at bricks j))) in
+      let split = sum_by-append (λ (b : NamedBody). cond (not b.fixed) 1 0) (brick_bodies bricks k) (one ∷ []) in
+      omega (arith, more, split, free_bricks k)
+
+  room : (k : ℕ) → k < 128 → has_room false (bodies k) ≡ Ok tt
+  room k lt = ap (λ n. unless (nat_lt n 128) (TooMany whats.Free)) (free_bricks k)
+      ∙ ap (λ b. unless b (TooMany whats.Free)) (is_less k 128 lt)
+    where
+      is_less : (i m : ℕ) → i < m → nat_lt i m ≡ true
+      is_less i m l = grind (arith, ints)
+
+  bodies_taken : (p q : ℤ) → AreTaken name base bricks
+      → steps (add_block (materials p q)) 0 [] (blocks_of name base bricks)
+      ≡ Ok (built_bodies name base bricks)
+  bodies_taken p q t =
+      ap (λ r. r >>= λ b. steps (add_block (materials p q)) (0 + 1) b (listed (length bricks)
+      (λ k. brick_block k (brick_at bricks k)))) (block_taken p q 0 [] name true base t.named refl t.under refl)
+      ∙ steps_listed (add_block (materials p q)) (length bricks) (0 + 1) bodies (λ k. brick_block k (brick_at bricks k))
+      (λ j k lt. block_taken p q j (bodies k) (brick_name k) false (brick_at bricks k)
+      (is_a_brick_name k (omega (arith, lt, t.few)))
+      (ap (is_new (brick_name k)) (names k) ∙ fresh name k t.apart (omega (arith, lt, t.few)))
+      (t.each k lt) (room k (omega (arith, lt, t.few)))
+      ∙ ap (λ bs. Ok (base_body name base ∷ bs)) (sym (listed_more k (λ j. brick_body j (brick_at bricks j)))))
+
+abbrev both_lists : List NamedMaterial → List NamedBody → Result (List NamedMaterial × List NamedBody) ModelError
+both_lists ms bs = Ok (ms, bs)
+
+-- the steps of the lists
+lists_run : (v : Result ⊤ ModelError) (r : Result (List NamedMaterial) ModelError)
+    (k : List NamedMaterial → Result (List NamedBody) ModelError) (ms : List NamedMaterial) (bs : List NamedBody)
+    → r ≡ Ok ms → v ≡ Ok tt → k ms ≡ Ok bs
+    → (r >>= λ ms. v >>= λ _. k ms >>= λ bs. both_lists ms bs) ≡ both_lists ms bs
+lists_run v r k ms bs hr hv hk =
+    (λ i. hr i >>= λ ms. hv i >>= λ _. k ms >>= λ bs. both_lists ms bs) ∙ ap (λ q. q >>= λ bs. both_lists ms bs) hk
+
+whole_runs : (r : Result (List NamedMaterial × List NamedBody) ModelError) (u : Result ⊤ ModelError)
+    (k : List NamedMaterial × List NamedBody → Result (List Load) ModelError) (ms : List NamedMaterial)
+    (bs : List NamedBody) (ls : List Load)
+    → r ≡ both_lists ms bs → u ≡ Ok tt → k (ms, bs) ≡ Ok ls
+    → (r >>= λ both. u >>= λ _. k both >>= λ ls. Ok (structure both.0 both.1 ls)) ≡ Ok (structure ms bs ls)
+whole_runs r u k ms bs ls hr hu hk =
+    (λ i. hr i >>= λ both. hu i >>= λ _. k both >>= λ ls. Ok (structure both.0 both.1 ls))
+    ∙ ap (λ q. q >>= λ ls. Ok (structure ms bs ls)) hk
+
+pub all_taken : (p q : ℤ) (name : List ℕ) (base : Rectangle) (bricks : List Rectangle) (parts : PartLists)
+    (ls : List Load)
+    → friction_of (p ∷ q ∷ []) ≡ Some (p, q) → AreTaken name base bricks
+    → parts.materials ≡ material_listed (brick_material p q) ∷ []
+    → parts.blocks ≡ blocks_of name base bricks
+    → at_most 256 (length parts.loads) whats.Loads ≡ Ok tt
+    → steps (add_load (built_bodies name base bricks)) 0 [] parts.loads ≡ Ok ls
+    → content_of parts ≡ Ok (built p q name base bricks ls)
+unfolding content_of bodies_of
+all_taken p q name base bricks parts ls rough t ms bs few loads =
+    let some : nat_le (length parts.blocks) 192 ≡ true =
+    at_most_of (length parts.blocks) 192 (omega (
+      arith,
+      ap length bs,
+      t.few,
+      length_listed (length bricks)
+          (λ k. brick_block k (brick_at bricks k)),
+    )) in
+    whole_runs (bodies_of parts) _ (λ both. steps (add_load both.1) 0 [] parts.loads) (materials p q)
+    (built_bodies name base bricks) ls
+    ((λ i. at_most 64 (length (ms i)) whats.Materials >>= λ _. steps add_material 0 [] (ms i) >>= λ ms.
+    at_most 192 (length parts.blocks) whats.Blocks >>= λ _. steps (add_block ms) 0 [] (bs i) >>= λ bs. both_lists ms bs)
+    ∙ lists_run _ _ (λ ms. steps (add_block ms) 0 [] (blocks_of name base bricks)) (materials p q) (built_bodies name base bricks)
+    (material_taken p q rough) (ap (λ b. unless b (TooMany whats.Blocks)) some) (bodies_taken name base bricks p q t)) few loads
+  where
+    at_most_of : (n m : ℕ) → n ≤ m → nat_le n m ≡ true
+    at_most_of n m h = grind (arith, ints)
+
+-- the steps of a load, where each went well
+load_runs : (s : Spot) (j k l : Key) (d e : ModelError) (o : Option Bool) (p : Option Point)
+    (q : Option (ℤ × ℤ)) (at : Option ℕ) (free : ℕ → Bool) (to : Bool → Point → ℤ × ℤ → ℕ → List Load)
+    (live : Bool) (c : Point) (f : ℤ × ℤ) (n : ℕ)
+    → o ≡ Some live → p ≡ Some c → q ≡ Some f → at ≡ Some n → free n ≡ true
+    → (ranged s j o >>= λ live. ranged s k p >>= λ c. ranged s l q >>= λ f. found at d
+    >>= λ n. unless (free n) e >>= λ _. Ok (to live c f n)) ≡ Ok (to live c f n)
+load_runs s j k l d e o p q at free to live c f n ho hp hq hn hf =
+    (λ i. ranged s j (ho i) >>= λ live. ranged s k (hp i) >>= λ c. ranged s l (hq i) >>= λ f. found (hn i) d
+    >>= λ n. unless (free n) e >>= λ _. Ok (to live c f n))
+    ∙ ap (λ b. unless b e >>= λ _. Ok (to live c f n)) hf
+
+-- on the upper left corner of brick k
+abbrev pub push_at : ℕ → Rectangle → Load
+push_at k r = record {
+  body = k + 1;
+  live = true;
+  at = record { x = r.left; y = r.top };
+  fx = pos 1;
+  fy = pos 0;
+}
+
+pub push_taken : (name : List ℕ) (base : Rectangle) (bricks : List Rectangle) (k : ℕ) (r : Rectangle)
+    → IsApart name → k < length bricks → length bricks ≤ 128 → is_in_range (record { x = r.left; y = r.top }) ≡ true
+    → steps (add_load (built_bodies name base bricks)) 0 [] (push_listed k r ∷ []) ≡ Ok (push_at k r ∷ [])
+unfolding add_load
+push_taken name base bricks k r apart lt few near =
+    let bs = built_bodies name base bricks in
+    let corner : Point = record { x = r.left; y = r.top } in
+    let number : number_of (brick_name k) (body_names bs) ≡ Some (k + 1) =
+    ap (number_of (brick_name k)) (names name base bricks (length bricks)) ∙ numbered name (length bricks) k apart lt few in
+    ap (λ r. r >>= λ b. steps (add_load bs) (0 + 1) b [])
+    (load_runs _ keys.Kind keys.At keys.Force _ _ _ (point_of (coordinates corner)) _ (number_of (brick_name k) (body_names bs))
+    (λ n. is_free n bs) (λ live c f n. record { body = n; live = live; at = c; fx = f.0; fy = f.1 } ∷ []) true corner
+    (pos 1, pos 0) (k + 1) refl (point_again corner near) refl number free)
+  where
+    free : is_free (k + 1) (built_bodies name base bricks) ≡ true
+    free = subst (λ n. is_free n (built_bodies name base bricks) ≡ true) (sym (add-one k))
+        (ap (λ (b : NamedBody). not b.fixed)
+        (listed_item (length bricks) (λ j. brick_body j (brick_at bricks j)) k _ lt))

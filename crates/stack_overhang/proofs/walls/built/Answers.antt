@@ -1,0 +1,51 @@
+use Rattle.std.proofs.Common.{◌≡◌, ℕ, ◌≤◌, pos, [], ◌∷◌, length, refl, ap, sym, ◌∙◌, subst, arith, w64, to_z}
+use Rattle.std.proofs.lemmas.Int.{to_z_pos}
+use Rattle.stack_model.specs.Raw.{raw_parts}
+use Rattle.stack_model.specs.Relisted.{material_listed}
+use Rattle.stack_overhang.specs.Bricks.{bricks_of, brick_of}
+use Rattle.stack_overhang.specs.Built.{brick_material}
+use Rattle.stack_overhang.specs.Wall.{courses_of, structure_of}
+use Rattle.stack_overhang.specs.Limits.{are_rows}
+use Rattle.stack_overhang.proofs.Rectangles.{both}
+use Rattle.stack_overhang.proofs.Laid.{wall_laid}
+use Rattle.stack_overhang.proofs.Made.{has_none, made, wall_taken}
+use Rattle.stack_overhang.proofs.walls.built.Goals as goal
+
+pub bricks-requires : goal.bricks-requires
+bricks-requires c = ap are_rows (c.deref.ensures.value ∙ c.in_ok-rows.ensures)
+    ∙ (both (are_rows (courses_of c.args.w)) _ (wall_laid c.args.w c.requires).rows).0
+
+pub blocks-requires : goal.blocks-requires
+blocks-requires c =
+    let bricks : c.deref-2.result.now ≡ bricks_of (courses_of c.args.w) = c.deref-2.ensures.value
+    ∙ c.in_ok-bricks.ensures ∙ ap bricks_of (c.deref.ensures.value ∙ c.in_ok-rows.ensures) in
+    subst (λ bricks. length bricks ≤ 128) (sym bricks) (wall_laid c.args.w c.requires).few
+
+-- the friction as it is passed
+friction : (t : ℕ) → t ≤ 7 → material_listed (brick_material (to_z w64 t) (pos 10)) ∷ []
+    ≡ material_listed (brick_material (pos t) (pos 10)) ∷ []
+friction t h = ap (λ p. material_listed (brick_material p (pos 10)) ∷ []) (to_z_pos w64 t (omega (arith, h)))
+
+pub model-requires : goal.model-requires
+model-requires c = has_none _ (structure_of c.args.w)
+    (wall_taken c.args.w c.deref-2.result.now _ c.brick.result (raw_parts (record {
+      materials = c.in_ok-materials.materials;
+      blocks = c.in_ok-blocks.blocks;
+      loads = c.in_ok-loads.loads;
+    })) c.requires (c.deref-2.ensures.value ∙ c.in_ok-bricks.ensures
+    ∙ ap bricks_of (c.deref.ensures.value ∙ c.in_ok-rows.ensures)) refl
+    (c.brick.ensures ∙ ap (λ r. brick_of r 0) c.course.ensures)
+    (c.in_ok-materials.ensures ∙ friction c.args.w.tenths c.requires.most_tenths) c.in_ok-blocks.ensures
+    c.in_ok-loads.ensures)
+
+pub returns-clause-ok : goal.returns-clause-ok
+returns-clause-ok c = made c.model.result _ (structure_of c.args.w)
+    (wall_taken c.args.w c.deref-2.result.now _ c.brick.result (raw_parts (record {
+      materials = c.in_ok-materials.materials;
+      blocks = c.in_ok-blocks.blocks;
+      loads = c.in_ok-loads.loads;
+    })) c.requires (c.deref-2.ensures.value ∙ c.in_ok-bricks.ensures
+    ∙ ap bricks_of (c.deref.ensures.value ∙ c.in_ok-rows.ensures)) refl
+    (c.brick.ensures ∙ ap (λ r. brick_of r 0) c.course.ensures)
+    (c.in_ok-materials.ensures ∙ friction c.args.w.tenths c.requires.most_tenths) c.in_ok-blocks.ensures
+    c.in_ok-loads.ensures) c.model.ensures.ok

@@ -1,0 +1,33 @@
+-- The structure of a built-in model: one material, one fixed body, and bricks.
+use Rattle.std.specs.Prelude.{ℕ, ℤ, pos, true, false, List, [], ◌∷◌, length, codes}
+use Rattle.stack_algebra.specs.Listed.{listed}
+use Rattle.stack_model.specs.declared.types.Load.{Load}
+use Rattle.stack_model.specs.Structure.{NamedMaterial, NamedBody, Structure}
+use Rattle.stack_overhang.specs.declared.types.Rectangle.{Rectangle}
+use Rattle.stack_overhang.specs.Bricks.{corners_of, brick_at, brick_name}
+
+-- with the coefficient of friction p over q
+abbrev pub brick_material : ℤ → ℤ → NamedMaterial
+brick_material p q = record { name = codes "brick"; weight = pos 1; p = p; q = q }
+
+-- what the bricks stand on
+abbrev pub base_body : List ℕ → Rectangle → NamedBody
+base_body name r = record { name = name; material = 0; fixed = true; corners = corners_of r }
+
+-- brick k, from 0
+abbrev pub brick_body : ℕ → Rectangle → NamedBody
+brick_body k r = record { name = brick_name k; material = 0; fixed = false; corners = corners_of r }
+
+abbrev pub brick_bodies : List Rectangle → ℕ → List NamedBody
+brick_bodies bricks n = listed n (λ k. brick_body k (brick_at bricks k))
+
+-- the fixed body comes first
+abbrev pub built_bodies : List ℕ → Rectangle → List Rectangle → List NamedBody
+built_bodies name base bricks = base_body name base ∷ brick_bodies bricks (length bricks)
+
+abbrev pub built : ℤ → ℤ → List ℕ → Rectangle → List Rectangle → List Load → Structure
+built p q name base bricks loads = record {
+  materials = brick_material p q ∷ [];
+  bodies = built_bodies name base bricks;
+  loads = loads;
+}

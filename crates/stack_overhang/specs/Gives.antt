@@ -1,0 +1,18 @@
+-- What a call returned, against the model that it is to make, where its size is within the limits.
+use Rattle.std.specs.Prelude.{◌≡◌, ℕ, Bool, ◌&&◌, Result, Ok, Err, IsOk, nat_le, if◌then◌else◌}
+use Rattle.stack_model.specs.Structure.{Structure}
+use Rattle.stack_overhang.specs.declared.error.StackError.{StackError}
+use Rattle.stack_overhang.specs.declared.error.StackError.TheVariants.{Size, Memory}
+
+abbrev pub is_size : ℕ → ℕ → ℕ → Bool
+is_size least most n = nat_le least n && nat_le n most
+
+-- the structure for a size from least to most
+abbrev pub within : ℕ → ℕ → ℕ → Structure → Result Structure StackError
+within least most n s = if is_size least most n then Ok s else Err Size
+
+-- want of memory may be answered only where the size is within its limits
+abbrev pub Gives : Result Structure StackError → Result Structure StackError → Type 0
+Gives (Ok s) made = made ≡ Ok s
+Gives (Err Size) made = made ≡ Err Size
+Gives (Err Memory) made = IsOk made

@@ -1,0 +1,64 @@
+-- Walls drawn by number: courses of bricks 20 long and 10 high on the ground, the even ones shifted, with a live load
+-- that pushes to the right at the top.
+use Rattle.std.specs.Prelude.{ℕ, ◌+◌, ◌-◌, ◌*◌, ◌/◌, ◌%◌, ◌^◌, ◌==◌, pos, negsuc, ◌*ℤ◌, true, List, [], ◌∷◌, codes}
+use Rattle.std.specs.Prelude.{if◌then◌else◌}
+use Rattle.stack_algebra.specs.Listed.{listed}
+use Rattle.stack_model.specs.declared.types.Load.{Load}
+use Rattle.stack_model.specs.Structure.{Structure}
+use Rattle.stack_overhang.specs.declared.types.Rectangle.{Rectangle}
+use Rattle.stack_overhang.specs.declared.types.Row.{Row}
+use Rattle.stack_overhang.specs.declared.types.Wall.{Wall}
+use Rattle.stack_overhang.specs.Bricks.{bricks_of, brick_of}
+use Rattle.stack_overhang.specs.Built.{built}
+
+-- one step of a linear congruential generator
+abbrev pub drawn : ℕ → ℕ
+drawn seed = (1103515245 * seed + 12345) % 2 ^ 31
+
+-- wall number n: its shape by the number, its friction by the first step, its shift by the second
+abbrev pub wall_by : ℕ → Wall
+wall_by n = record {
+  courses = 2 + n % 9;
+  bricks = 2 + n / 9 % 9;
+  tenths = 3 + drawn n / 65536 % 5;
+  shift = 4 + drawn (drawn n) / 65536 % 7;
+}
+
+-- course i, from 1 at the bottom
+abbrev pub course_of : Wall → ℕ → Row
+course_of w i = record {
+  left = (if i % 2 == 0 then pos w.shift else pos 0);
+  bottom = pos 10 *ℤ pos (i - 1);
+  count = w.bricks;
+  long = pos 20;
+  high = pos 10;
+}
+
+abbrev pub courses_of : Wall → List Row
+courses_of w = listed w.courses (λ k. course_of w (k + 1))
+
+-- the first brick of the top course, and its number from 0 among the bricks
+abbrev pub top_brick : Wall → Rectangle
+top_brick w = brick_of (course_of w w.courses) 0
+
+abbrev pub top_number : Wall → ℕ
+top_number w = (w.courses - 1) * w.bricks
+
+-- on that brick's upper left corner; the ground is body 0
+abbrev pub push_on : Wall → Load
+push_on w = record {
+  body = top_number w + 1;
+  live = true;
+  at = record { x = (top_brick w).left; y = (top_brick w).top };
+  fx = pos 1;
+  fy = pos 0;
+}
+
+abbrev pub ground : Rectangle
+ground = record { left = negsuc 999; bottom = negsuc 9; right = pos 1000; top = pos 0 }
+
+abbrev pub structure_of : Wall → Structure
+structure_of w = built (pos w.tenths) (pos 10) (codes "ground") ground (bricks_of (courses_of w)) (push_on w ∷ [])
+
+abbrev pub wall_of : ℕ → Structure
+wall_of n = structure_of (wall_by n)

@@ -1,0 +1,100 @@
+//! The parts of a model, as a file would list them.
+
+ghost use Rattle.std.specs.Prelude.{◌≡◌, ◌<◌, ◌≤◌, ◌∷◌, [], IfOk, map, length, string_bytes};
+ghost use Rattle.stack_model.specs.Raw.{raw_material, raw_block, raw_load, lists_view};
+ghost use Rattle.stack_model.specs.Relisted.{coordinates, material_listed};
+ghost use Rattle.stack_overhang.specs.Bricks.{corners_of, brick_name};
+ghost use Rattle.stack_overhang.specs.Built.{brick_material};
+ghost use Rattle.stack_overhang.specs.Listing.{block_of, blocks_of, push_listed};
+
+use crate::types::Rectangle;
+use stack_model::{RawBlock, RawLoad, RawMaterial};
+use std::alloc::{AllocError, Global};
+
+/// Two numbers.
+fn pair(alloc: Global, first: i64, second: i64) -> Result<Vec<i64>, AllocError>
+    ensures { IfOk result (λ v. v.items ≡ first ∷ second ∷ []) }
+{
+    let mut numbers = Vec::new(alloc);
+    numbers.push(first)?;
+    numbers.push(second)?;
+    Ok(numbers)
+}
+
+/// The corners of a rectangle.
+fn corners(alloc: Global, r: Rectangle) -> Result<Vec<Vec<i64>>, AllocError>
+    ensures { IfOk result (λ v. lists_view v ≡ map coordinates (corners_of r)) }
+{
+    let mut list = Vec::new(alloc);
+    list.push(pair(alloc, r.left, r.bottom)?)?;
+    list.push(pair(alloc, r.right, r.bottom)?)?;
+    list.push(pair(alloc, r.right, r.top)?)?;
+    list.push(pair(alloc, r.left, r.top)?)?;
+    Ok(list)
+}
+
+/// The one material, of weight 1, with the coefficient of friction `p` over `q`.
+pub fn materials(alloc: Global, p: i64, q: i64) -> Result<Vec<RawMaterial>, AllocError>
+    ensures { IfOk result (λ v. map raw_material v.items ≡ material_listed (brick_material p q) ∷ []) }
+{
+    let mut list = Vec::new(alloc);
+    list.push(RawMaterial {
+        name: String::from_str(alloc, "brick")?,
+        weight: 1,
+        friction: pair(alloc, p, q)?,
+    })?;
+    Ok(list)
+}
+
+/// A rectangle of that material.
+fn block(alloc: Global, name: String, fixed: bool, r: Rectangle) -> Result<RawBlock, AllocError>
+    ensures { IfOk result (λ b. raw_block b ≡ block_of (string_bytes name) fixed r) }
+{
+    Ok(RawBlock {
+        name,
+        material: String::from_str(alloc, "brick")?,
+        fixed,
+        corners: corners(alloc, r)?,
+    })
+}
+
+/// The name of brick `k`, from 0.
+fn name(alloc: Global, k: usize) -> Result<String, AllocError>
+    requires { k < 128 }
+    ensures { IfOk result (λ s. string_bytes s ≡ brick_name k) }
+{
+    format!(in alloc; "b{}", k + 1)
+}
+
+/// The fixed body with this name, and the bricks in their order.
+pub fn blocks(
+    alloc: Global,
+    base_name: &str,
+    base: Rectangle,
+    bricks: &[Rectangle],
+) -> Result<Vec<RawBlock>, AllocError>
+    requires { length bricks.now ≤ 128 }
+    ensures { IfOk result (λ v. map raw_block v.items ≡ blocks_of base_name.now base bricks.now) }
+{
+    let mut list = Vec::new(alloc);
+    list.push(block(alloc, String::from_str(alloc, base_name)?, true, base)?)?;
+    for (k, brick) in bricks.iter().enumerate() {
+        list.push(block(alloc, name(alloc, k)?, false, *brick)?)?;
+    }
+    Ok(list)
+}
+
+/// One live load, of force 1 to the right, on the upper left corner of brick `k`.
+pub fn push_right(alloc: Global, k: usize, brick: Rectangle) -> Result<Vec<RawLoad>, AllocError>
+    requires { k < 128 }
+    ensures { IfOk result (λ v. map raw_load v.items ≡ push_listed k brick ∷ []) }
+{
+    let mut list = Vec::new(alloc);
+    list.push(RawLoad {
+        block: name(alloc, k)?,
+        kind: String::from_str(alloc, "live")?,
+        at: pair(alloc, brick.left, brick.top)?,
+        force: pair(alloc, 1, 0)?,
+    })?;
+    Ok(list)
+}
