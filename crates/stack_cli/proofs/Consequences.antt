@@ -83,7 +83,7 @@ only_none : (holds : Holds) (form : Option Form) (names : List (List ℕ)) → W
 only_none holds None names way = refl
 only_none holds (Some form) names way = absurd (of_work holds (work_of form) names words way)
 
-below_two : (v : Verdict) → verdict_status v < 2
+pub below_two : (v : Verdict) → verdict_status v < 2
 below_two Affirmed = omega arith
 below_two Denied = omega arith
 
@@ -113,7 +113,7 @@ fault_past_output (over_budget budget) is = omega arith
 fault_past_output no_live is = omega arith
 fault_past_output memory is = omega arith
 
-from_two : (r : Refusal) → 2 ≤ status_of r
+pub from_two : (r : Refusal) → 2 ≤ status_of r
 from_two words = omega arith
 from_two (file input) = omega arith
 from_two (faulty f) = let h = fault_above f in omega (arith, h)

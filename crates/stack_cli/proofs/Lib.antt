@@ -5,6 +5,7 @@ mod OneEnd
 mod FilesNamed
 mod CertificateChecked
 mod Consequences
+mod Called
 mod AcceptedFiles
 mod BodyNames
 mod Budgets

@@ -11,6 +11,7 @@ pub mod Judging
 pub mod Forms
 pub mod Progress
 pub mod OneEnd
+pub mod OnePut
 pub mod AcceptedModel
 pub mod MainTheorem
 pub mod Headline

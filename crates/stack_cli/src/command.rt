@@ -1,14 +1,16 @@
 //! The top call.
 
 ghost use Rattle.std.specs.Prelude.{◌≡◌, ℕ, ◌≤◌, ◌⊎◌, List, Some};
+ghost use Rattle.std.specs.Option.{option_map};
 ghost use Rattle.stack_contact.specs.Surveyed.{Surveyed};
 ghost use Rattle.stack_equilibrium.specs.declared.types.Question.{Question};
-ghost use Rattle.stack_outside.specs.Faults.{Rose};
+ghost use Rattle.stack_outside.specs.Faults.{Rose, counted};
 ghost use Rattle.stack_cli.specs.Refusals.{refusal_view};
 ghost use Rattle.stack_cli.specs.Words.{form_of, texts, judges};
 ghost use Rattle.stack_cli.specs.AcceptedModel.{IsAcceptedModel};
 ghost use Rattle.stack_cli.specs.Headline.{Judging};
 ghost use Rattle.stack_cli.specs.Progress.{Delivers, SaysLine};
+ghost use Rattle.stack_cli.specs.OnePut.{PutsAnswer, PutsLine};
 ghost use Rattle.stack_cli.specs.MainTheorem.{RunMeets};
 
 use crate::answer::Answer;
@@ -24,6 +26,7 @@ fn say<E: Sink>(alloc: Global, refusal: Refusal, err: &mut E) -> Refusal
     ensures which { (result ≡ refusal) ⊎ (result ≡ Refusal.Memory) }
     ensures line { SaysLine (refusal_view result) (E.written err.old) (E.written err.new)
         (Rose (E.faults err.old) (E.faults err.new)) }
+    ensures call { E.calls err.new ≡ option_map counted (E.calls err.old) }
     ensures later { E.faults err.old ≤ E.faults err.new }
 {
     if !matches!(refusal, Refusal::Memory) {
@@ -46,6 +49,8 @@ fn deliver<O: Sink, E: Sink>(
 ) -> u8
     ensures delivers { Delivers worked result (O.written out.old) (O.written out.new) (E.written err.old)
         (E.written err.new) (Rose (O.faults out.old) (O.faults out.new)) (Rose (E.faults err.old) (E.faults err.new)) }
+    ensures one_put { PutsAnswer result (O.calls out.old) (O.calls out.new) }
+    ensures one_line { PutsLine result (E.calls err.old) (E.calls err.new) }
     ensures out_later { O.faults out.old ≤ O.faults out.new }
     ensures err_later { E.faults err.old ≤ E.faults err.new }
 {
@@ -68,7 +73,8 @@ fn deliver<O: Sink, E: Sink>(
 ///
 /// The clause `headline`: for words of the form `stand` or `load` and an accepted model, where neither the shelf nor
 /// `out` failed, a true certificate of the question is printed, or the cause of the refusal holds, and each cause has
-/// its refusal.
+/// its refusal. The clauses `one_put` and `one_line`: `out` is called once for an answer and never for a refusal, and
+/// `err` once for a refusal and never for an answer.
 pub fn run<F: Shelf, O: Sink, E: Sink>(
     alloc: Global,
     words: &[String],
@@ -85,6 +91,8 @@ pub fn run<F: Shelf, O: Sink, E: Sink>(
         IsAcceptedModel bytes v → ¬ (Rose (F.faults shelf.old) (F.faults shelf.new)) →
         ¬ (Rose (O.faults out.old) (O.faults out.new)) →
         Judging q v budget result (O.written out.old) (O.written out.new) }
+    ensures one_put { PutsAnswer result (O.calls out.old) (O.calls out.new) }
+    ensures one_line { PutsLine result (E.calls err.old) (E.calls err.new) }
     ensures holds { F.holds shelf.new ≡ F.holds shelf.old }
     ensures shelf_later { F.faults shelf.old ≤ F.faults shelf.new }
     ensures out_later { O.faults out.old ≤ O.faults out.new }

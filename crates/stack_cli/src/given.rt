@@ -1,10 +1,12 @@
 //! The words as the runtime gives them.
 
 ghost use Rattle.std.specs.Prelude.{◌≡◌, ◌≤◌};
-ghost use Rattle.stack_outside.specs.Faults.{Rose};
+ghost use Rattle.std.specs.Option.{option_map};
+ghost use Rattle.stack_outside.specs.Faults.{Rose, counted};
 ghost use Rattle.stack_cli.specs.Words.{form_of_given};
 ghost use Rattle.stack_cli.specs.Refusals.{words, faulty, memory};
 ghost use Rattle.stack_cli.specs.Progress.{SaysLine};
+ghost use Rattle.stack_cli.specs.OnePut.{PutsAnswer, PutsLine};
 ghost use Rattle.stack_cli.specs.MainTheorem.{RunMeets};
 
 use crate::command::run;
@@ -35,6 +37,8 @@ pub fn run_given<F: Shelf, O: Sink, E: Sink>(
         (F.asked shelf.new) (O.written out.old) (O.written out.new) (E.written err.old) (E.written err.new)
         (Rose (F.faults shelf.old) (F.faults shelf.new)) (Rose (O.faults out.old) (O.faults out.new))
         (Rose (E.faults err.old) (E.faults err.new)) }
+    ensures one_put { PutsAnswer result (O.calls out.old) (O.calls out.new) }
+    ensures one_line { PutsLine result (E.calls err.old) (E.calls err.new) }
     ensures unreadable { given ≡ Given.Unreadable → result ≡ 2 }
     ensures memory { given ≡ Given.Memory → result ≡ 11 }
     ensures holds { F.holds shelf.new ≡ F.holds shelf.old }
@@ -54,6 +58,7 @@ pub fn run_given<F: Shelf, O: Sink, E: Sink>(
 fn refuse_words<E: Sink>(err: &mut E) -> u8
     ensures status { result ≡ 2 }
     ensures line { SaysLine words (E.written err.old) (E.written err.new) (Rose (E.faults err.old) (E.faults err.new)) }
+    ensures call { E.calls err.new ≡ option_map counted (E.calls err.old) }
     ensures later { E.faults err.old ≤ E.faults err.new }
 {
     let _ = err.put(b"words\n");
@@ -66,6 +71,7 @@ fn refuse_for_memory<E: Sink>(err: &mut E) -> u8
     ensures status { result ≡ 11 }
     ensures line { SaysLine (faulty memory) (E.written err.old) (E.written err.new)
         (Rose (E.faults err.old) (E.faults err.new)) }
+    ensures call { E.calls err.new ≡ option_map counted (E.calls err.old) }
     ensures later { E.faults err.old ≤ E.faults err.new }
 {
     let _ = err.put(b"memory\n");

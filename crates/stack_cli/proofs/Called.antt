@@ -1,0 +1,44 @@
+-- A run's puts, counted.
+use Rattle.std.proofs.Common.{◌≡◌, ℕ, ◌+◌, ◌-◌, ◌^◌, ◌<◌, ◌≤◌, ◌⊎◌, inl, inr, min, Option, Some, None, subst, sym, ap, ◌∙◌, refl, arith}
+use Rattle.std.specs.Option.{option_map}
+use Rattle.std.proofs.lemmas.Bool.{lt-ltb, le-ltb}
+use Rattle.stack_outside.specs.Faults.{counted}
+use Rattle.stack_cli.specs.declared.answer.Verdict.{Verdict}
+use Rattle.stack_cli.specs.declared.refusal.Refusal.{Refusal as CodeRefusal}
+use Rattle.stack_cli.specs.Refusals.{refusal_view, status_of}
+use Rattle.stack_cli.specs.Answers.{verdict_status}
+use Rattle.stack_cli.specs.OnePut.{greatest_start, PutsAnswer, PutsLine}
+use Rattle.stack_cli.proofs.Consequences.{below_two, from_two}
+
+one_more : (n : ℕ) → n ≤ greatest_start → counted n ≡ n + 1
+one_more n low = omega arith
+
+-- A call more, where the calls are told.
+more : (before after : Option ℕ) (n : ℕ) → after ≡ option_map counted before → before ≡ Some n → n ≤ greatest_start
+    → after ≡ Some (n + 1)
+more before after n call told low = call ∙ ap (option_map counted) told ∙ ap Some (one_more n low)
+
+-- The answer was put, or the output failed as it was.
+pub answer_put : (status : ℕ) (before after : Option ℕ) → (status < 2) ⊎ (status ≡ 10)
+    → after ≡ option_map counted before → PutsAnswer status before after
+answer_put status before after which call n told low = inl (more before after n call told low, which)
+
+-- A refusal puts nothing on the output.
+pub nothing_put : (status : ℕ) (before after : Option ℕ) → 2 ≤ status → after ≡ before → PutsAnswer status before after
+nothing_put status before after high same n told low = inr (same ∙ told, high)
+
+-- An answer says nothing on the error stream.
+pub no_line : (status : ℕ) (before after : Option ℕ) → status < 2 → after ≡ before → PutsLine status before after
+no_line status before after low same n told start = rw (lt-ltb status 2 low) (same ∙ told)
+
+-- A refusal puts its line.
+pub line_put_once : (status : ℕ) (before after : Option ℕ) → 2 ≤ status → after ≡ option_map counted before
+    → PutsLine status before after
+line_put_once status before after high call n told start =
+    rw (le-ltb status 2 high) (more before after n call told start)
+
+pub verdict_low : (v : Verdict) → verdict_status v < 2
+verdict_low v = below_two v
+
+pub refusal_high : (r : CodeRefusal) → 2 ≤ status_of (refusal_view r)
+refusal_high r = from_two (refusal_view r)
