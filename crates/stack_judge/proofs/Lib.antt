@@ -1,3 +1,4 @@
 mod NumbersFit
 mod TrueAnswers
 mod Judgements
+mod Budgets

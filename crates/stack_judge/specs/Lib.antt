@@ -2,3 +2,4 @@ pub mod EndPlace
 pub mod Judgement
 pub mod Judged
 pub mod Certifying
+pub mod ProblemColumns

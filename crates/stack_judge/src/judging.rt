@@ -1,12 +1,16 @@
 //! The judgement.
 
-ghost use Rattle.std.specs.Prelude.{◌≡◌, ◌≢◌, ◌↔◌, IfOk, IsTrue};
+ghost use Rattle.std.specs.Prelude.{◌≡◌, ◌≢◌, ◌↔◌, ℕ, ◌≤◌, Some, Err, IfOk, IsTrue};
 ghost use Rattle.stack_certificate.specs.Certificate.{certificate_view};
+ghost use Rattle.stack_circles.specs.Enough.{enough_of};
+ghost use Rattle.stack_judge.specs.declared.types.JudgeError.TheVariants as judge_error;
+ghost use Rattle.stack_judge.specs.ProblemColumns.{problem_columns};
 ghost use Rattle.stack_judge.specs.Judgement.{LacksLive, Judges};
 ghost use Rattle.stack_judge.specs.Judged.{IsJudged};
 ghost use Rattle.stack_judge.specs.Certifying.{IsTableOfSurvey, refused_as};
 
 use crate::certifying::certify;
+use crate::laws::columns_law;
 use crate::types::{JudgeError, JudgePlace};
 use stack_certificate::types::Certificate;
 use stack_contact::types::Survey;
@@ -56,12 +60,16 @@ fn refused(error: RunError, budget: u32) -> JudgeError
 ///
 /// Refused are, in this order: a question about live loads where none is listed; the first number of the run, of the
 /// numbers that are made of its end, or of the check that passes 2^127 - 1, with its place; a run in which a pivot is
-/// due when the budget's are done. Want of memory comes at any time. After Livesley (1978).
+/// due when the budget's are done, which doesn't come where the budget is `enough` for the columns of the survey's
+/// problem. Want of memory comes at any time. After Livesley (1978).
 pub fn judge(alloc: Global, s: &Survey, q: Question, budget: u32) -> Result<Certificate, JudgeError>
     requires { budget ≢ 0 }
     ensures judges { Judges result q s.now budget }
     ensures judged { IfOk result (λ c. IsJudged q s.now (certificate_view c)) }
+    ensures suffices { (b n : ℕ) → enough_of (problem_columns q s.now) ≡ Some b → b ≤ budget →
+        result ≢ Err (judge_error.Spent n) }
 {
+    columns_law();
     if lacks_live(s, q) {
         return Err(JudgeError::NoLive);
     }

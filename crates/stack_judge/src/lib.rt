@@ -3,9 +3,11 @@
 
 mod certifying;
 mod judging;
+mod laws;
 mod types;
 
 pub use judging::judge;
+pub use laws::columns_law;
 pub use types::{JudgeError, JudgePlace};
 
 #[cfg(test)]

@@ -1,0 +1,13 @@
+//! The law of a survey's budget, as a clause of a function that does nothing.
+
+ghost use Rattle.stack_judge.specs.ProblemColumns.{TablesHaveThese};
+
+use stack_equations::free_body_laws;
+
+/// The table of a survey's problem has two columns for each bearing, one for the live loads where these are asked
+/// about, and three for each free block, beside the right side.
+pub fn columns_law()
+    ensures { TablesHaveThese }
+{
+    free_body_laws();
+}
