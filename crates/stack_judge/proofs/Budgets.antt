@@ -1,20 +1,24 @@
 -- The columns of the table of a survey's problem, and that a budget which is enough for them is never spent.
-use Rattle.std.proofs.Common.{◌≡◌, refl, sym, ap, ◌∙◌, ℕ, ◌+◌, ◌*◌, length, Some, Result, Err}
-use Rattle.stack_rational.specs.declared.exact.Exact.{Ghosts}
+use Rattle.std.proofs.Common.{◌≡◌, refl, ap, subst, ◌∙◌, ℕ, ◌+◌, ◌*◌, ◌≤◌, length, Option, Some, None, Result, Err}
+use Rattle.stack_algebra.specs.Fraction.{Fraction}
+use Rattle.stack_rational.specs.Laws.{widest}
+use Rattle.stack_rational.specs.Passes.{passes}
 use Rattle.stack_contact.specs.Surveyed.{Surveyed}
 use Rattle.stack_certificate.specs.declared.types.Certificate.{Certificate}
+use Rattle.stack_certificate.specs.Certificate.{CertificateValue}
 use Rattle.stack_equilibrium.specs.declared.types.Question.{Question}
 use Rattle.stack_equilibrium.specs.declared.types.Question.TheVariants.{Dead, Live}
+use Rattle.stack_equilibrium.specs.SurveyScene.{scene_of}
 use Rattle.stack_equations.specs.FreeBodies.{FreeNumbersAreThoseOfSurveys}
-use Rattle.stack_table.specs.Table.{columns}
-use Rattle.stack_table.specs.declared.table.Table.{Table}
-use Rattle.stack_table.specs.Seen.{shape_of_table}
+use Rattle.stack_duality.specs.WrittenRun.{End, infeasible, feasible, optimal, ray, wide, over}
 use Rattle.stack_circles.specs.Enough.{enough_of}
-use Rattle.stack_simplex.specs.declared.refusal.RunError.{RunError}
-use Rattle.stack_simplex.specs.declared.refusal.RunError.TheVariants as runs
+use Rattle.stack_circles.specs.Laws.{EnoughSuffices}
+use Rattle.stack_posing.specs.Posed.{posed}
+use Rattle.stack_judge.specs.declared.types.JudgePlace.{JudgePlace}
 use Rattle.stack_judge.specs.declared.types.JudgeError.{JudgeError}
 use Rattle.stack_judge.specs.declared.types.JudgeError.TheVariants as errors
-use Rattle.stack_judge.specs.Certifying.{IsTableOfSurvey, refused_as}
+use Rattle.stack_judge.specs.EndPlace.{end_place}
+use Rattle.stack_judge.specs.Judgement.{spent, judged_by, judgement_of, survey_run, Judges}
 use Rattle.stack_judge.specs.ProblemColumns.{problem_columns, TablesHaveThese}
 
 -- three rows for each free block
@@ -22,15 +26,24 @@ pub tables_have_these : FreeNumbersAreThoseOfSurveys → TablesHaveThese
 tables_have_these law Dead v = ap (λ n. 2 * length v.bearings + 0 + 3 * n) (law v).count
 tables_have_these law Live v = ap (λ n. 2 * length v.bearings + 1 + 3 * n) (law v).count
 
--- so what is enough for the problem is enough for its table
-pub enough_for_table : TablesHaveThese → {V : Type 0} {number : Ghosts V} (q : Question) (v : Surveyed)
-    (t : Table V number) → IsTableOfSurvey q v t → (b : ℕ) → enough_of (problem_columns q v) ≡ Some b →
-    enough_of (columns (shape_of_table t)) ≡ Some b
-enough_for_table law q v t h b e = ap enough_of (ap columns (sym h.posed_table.shape) ∙ law q v) ∙ e
+-- a judgement is spent only where the run is over
+given_end : (o : Option JudgePlace) (c : CertificateValue) → judged_by o (Some c) ≡ spent → ⊥
+given_end None c h = cc
+given_end (Some p) c h = cc
 
--- a run that isn't spent
-pub not_spent : {X : Type 0} (e : RunError) (budget n : ℕ) →
-    ¬ (◌≡◌ {A = Result X RunError} (Err e) (Err runs.Spent)) →
-    ¬ (◌≡◌ {A = Result Certificate JudgeError} (Err (refused_as e budget)) (Err (errors.Spent n)))
-not_spent (runs.TooWide p) budget n h e = cc
-not_spent runs.Spent budget n h e = h refl
+pub spent_only : (q : Question) (v : Surveyed) (x : End Fraction) → judgement_of q v x ≡ spent → x ≡ over
+spent_only q v (infeasible T) h = absurd (given_end (end_place q v (infeasible T)) _ h)
+spent_only q v (feasible T) h = absurd (given_end (end_place q v (feasible T)) _ h)
+spent_only q v (optimal T) h = absurd (given_end (end_place q v (optimal T)) _ h)
+spent_only q v (ray T c) h = absurd (given_end (end_place q v (ray T c)) _ h)
+spent_only q v (wide p k s) h = absurd cc
+spent_only q v over h = refl
+
+-- so where the budget is enough for the problem's columns, no answer is that it is spent
+pub suffices : EnoughSuffices → TablesHaveThese → (q : Question) (v : Surveyed) (budget : ℕ)
+    (r : Result Certificate JudgeError) → Judges r q v budget → (b n : ℕ) → enough_of (problem_columns q v) ≡ Some b
+    → b ≤ budget → ¬ (r ≡ Err (errors.Spent n))
+suffices law have q v budget r h b n e l is =
+    let j = subst (λ a. Judges a q v budget) is h in
+    law (posed q (scene_of v)) (passes widest) budget b (ap enough_of (have q v) ∙ e) l
+    (spent_only q v (survey_run q v budget) j.1)

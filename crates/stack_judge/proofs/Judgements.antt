@@ -1,9 +1,9 @@
 -- The judgement of a survey by what was made of its run.
 use Rattle.std.proofs.Common.{◌≡◌, refl, sym, ap, ◌∙◌, ℕ, Bool, true, false, Result, Ok, Err}
 use Rattle.std.specs.Prelude.{◌↔◌, IsTrue}
+use lib.IntN.{ℤ}
 use Rattle.stack_algebra.specs.Fraction.{Fraction}
 use Rattle.stack_algebra.proofs.OrderedFractions.{ordered_fractions}
-use Rattle.stack_rational.specs.Laws.{widest}
 use Rattle.stack_rational.specs.Passes.{passes}
 use Rattle.stack_equilibrium.specs.SurveyScene.{scene_of}
 use Rattle.stack_table.specs.declared.problem.Problem.{Problem as Lent}
@@ -21,6 +21,7 @@ use Rattle.stack_contact.specs.Surveyed.{Surveyed}
 use Rattle.stack_certificate.specs.declared.types.Certificate.{Certificate}
 use Rattle.stack_equilibrium.specs.declared.types.Question.{Question}
 use Rattle.stack_duality.specs.WrittenRun.{End, written_run}
+use Rattle.stack_duality.specs.Laws.{run_at}
 use Rattle.stack_certified.specs.Certified.{certificate_of}
 use Rattle.stack_rational.specs.declared.exact.Exact.{Ghosts}
 use Rattle.stack_simplex.specs.declared.ended.Ended.{Ended}
@@ -76,19 +77,19 @@ table_of_posed q v p t condition is shape table flips = record {
 
 module _ {V : Type 0} {number : Ghosts V} (q : Question) (v : Surveyed) (budget : ℕ) (t : Table V number)
     (h : IsTableOfSurvey q v t) where
-  -- the run of that table is the survey's
-  pub runs_survey : (x : End Fraction)
-      → x ≡ written_run ordered_fractions (shape_of_table t) (passes widest) budget (table_of t)
-      → survey_run q v budget ≡ x
-  runs_survey x e =
-      (λ i. written_run ordered_fractions (h.posed_table.shape i) (passes widest) budget (h.posed_table.table i))
+  -- the run of that table is the survey's, at each width
+  pub runs_survey : (m : ℤ) (x : End Fraction)
+      → x ≡ written_run ordered_fractions (shape_of_table t) (passes m) budget (table_of t)
+      → run_at m (posed q (scene_of v)) budget ≡ x
+  runs_survey m x e =
+      (λ i. written_run ordered_fractions (h.posed_table.shape i) (passes m) budget (h.posed_table.table i))
       ∙ sym e
 
-  pub end_of_survey : (e : Ended V number)
-      → ended_as e ≡ written_run ordered_fractions (shape_of_table t) (passes widest) budget (table_of t)
+  pub end_of_survey : (m : ℤ) (e : Ended V number)
+      → ended_as e ≡ written_run ordered_fractions (shape_of_table t) (passes m) budget (table_of t)
       → shape_of_table (last_of e) ≡ shape_of_table t → flips_of (last_of e) ≡ flips_of t → IsEndOfSurvey q v e
-  end_of_survey e run shape flips = record {
-    run = record { rule = passes widest; budget = budget; run = runs_survey (ended_as e) run };
+  end_of_survey m e run shape flips = record {
+    run = record { rule = passes m; budget = budget; run = runs_survey m (ended_as e) run };
     shape = shape ∙ sym h.posed_table.shape;
     flips = flips ∙ h.flips;
   }

@@ -1,4 +1,5 @@
 mod NumbersFit
 mod TrueAnswers
 mod Judgements
+mod NarrowRuns
 mod Budgets

@@ -3,3 +3,4 @@ pub mod Judgement
 pub mod Judged
 pub mod Certifying
 pub mod ProblemColumns
+pub mod NarrowWork

@@ -8,11 +8,14 @@ ghost use Rattle.stack_judge.specs.ProblemColumns.{problem_columns};
 ghost use Rattle.stack_judge.specs.Judgement.{LacksLive, Judges};
 ghost use Rattle.stack_judge.specs.Judged.{IsJudged};
 ghost use Rattle.stack_judge.specs.Certifying.{IsTableOfSurvey, refused_as};
+ghost use Rattle.stack_judge.specs.NarrowWork.{is_narrow, without_mark};
 
 use crate::certifying::certify;
 use crate::laws::columns_law;
+use crate::narrow::judge_narrow;
 use crate::types::{JudgeError, JudgePlace};
 use stack_certificate::types::Certificate;
+use stack_circles::budget_law;
 use stack_contact::types::Survey;
 use stack_equilibrium::proper;
 use stack_equilibrium::types::Question;
@@ -55,6 +58,70 @@ fn refused(error: RunError, budget: u32) -> JudgeError
     }
 }
 
+/// The judgement by the run at 128 bits.
+pub fn judge_wide(
+    alloc: Global,
+    s: &Survey,
+    q: Question,
+    budget: u32,
+) -> Result<Certificate, JudgeError>
+    requires some { budget ≢ 0 }
+    requires live { ¬ (LacksLive q s.now) }
+    ensures judges { Judges result q s.now budget }
+    ensures judged { IfOk result (λ c. IsJudged q s.now (certificate_view c)) }
+{
+    let table = table_of_survey(alloc, s, q)?;
+    match run(table, budget) {
+        Ok(ended) => certify(alloc, s, &ended),
+        Err(error) => Err(refused(error, budget)),
+    }
+}
+
+/// The judgement by the run at 64 bits or, where a number passes there, at 128; and whether none does.
+fn judge_by_width(
+    alloc: Global,
+    s: &Survey,
+    q: Question,
+    budget: u32,
+) -> Result<(Certificate, bool), JudgeError>
+    requires { budget ≢ 0 }
+    ensures judges { Judges (without_mark result) q s.now budget }
+    ensures narrow { IfOk result (λ r. r.1 ≡ is_narrow q s.now budget) }
+    ensures judged { IfOk result (λ r. IsJudged q s.now (certificate_view r.0)) }
+{
+    if lacks_live(s, q) {
+        return Err(JudgeError::NoLive);
+    }
+    match judge_narrow(alloc, s, q, budget) {
+        Some(Ok(certificate)) => Ok((certificate, true)),
+        Some(Err(error)) => Err(error),
+        None => match judge_wide(alloc, s, q, budget) {
+            Ok(certificate) => Ok((certificate, false)),
+            Err(error) => Err(error),
+        },
+    }
+}
+
+/// Judges as `judge` does, with the same refusals, and tells whether no number of the table or of the run passes
+/// 2^63 - 1: then all of the run was done at 64 bits. Else its table is dropped, and the work done at 128.
+pub fn judge_marked(
+    alloc: Global,
+    s: &Survey,
+    q: Question,
+    budget: u32,
+) -> Result<(Certificate, bool), JudgeError>
+    requires { budget ≢ 0 }
+    ensures judges { Judges (without_mark result) q s.now budget }
+    ensures narrow { IfOk result (λ r. r.1 ≡ is_narrow q s.now budget) }
+    ensures judged { IfOk result (λ r. IsJudged q s.now (certificate_view r.0)) }
+    ensures suffices { (b n : ℕ) → enough_of (problem_columns q s.now) ≡ Some b → b ≤ budget →
+        without_mark result ≢ Err (judge_error.Spent n) }
+{
+    budget_law();
+    columns_law();
+    judge_by_width(alloc, s, q, budget)
+}
+
 /// Judges the dead or the live loads of a survey: a true certificate of the question whose numbers all fit 128 bits
 /// and which the check accepts, by the exact simplex run after Bland (1977) within a budget of pivots.
 ///
@@ -69,13 +136,8 @@ pub fn judge(alloc: Global, s: &Survey, q: Question, budget: u32) -> Result<Cert
     ensures suffices { (b n : ℕ) → enough_of (problem_columns q s.now) ≡ Some b → b ≤ budget →
         result ≢ Err (judge_error.Spent n) }
 {
-    columns_law();
-    if lacks_live(s, q) {
-        return Err(JudgeError::NoLive);
-    }
-    let table = table_of_survey(alloc, s, q)?;
-    match run(table, budget) {
-        Ok(ended) => certify(alloc, s, &ended),
-        Err(error) => Err(refused(error, budget)),
+    match judge_marked(alloc, s, q, budget) {
+        Ok((certificate, _)) => Ok(certificate),
+        Err(error) => Err(error),
     }
 }

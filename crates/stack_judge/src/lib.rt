@@ -4,9 +4,10 @@
 mod certifying;
 mod judging;
 mod laws;
+mod narrow;
 mod types;
 
-pub use judging::judge;
+pub use judging::{judge, judge_marked};
 pub use laws::columns_law;
 pub use types::{JudgeError, JudgePlace};
 

@@ -1,6 +1,6 @@
-//! The judgement of a post that is pushed at its head, worked by hand.
+//! The judgement of a post that is pushed at its head, and of the greatest block, worked by hand.
 
-use crate::{JudgeError, judge};
+use crate::{JudgeError, judge, judge_marked};
 use stack_certificate::types::Certificate;
 use stack_contact::survey;
 use stack_contact::types::Survey;
@@ -85,4 +85,44 @@ fn a_post_stands_at_the_fourth_pivot(rt: HostRuntime) -> Result<(), Fail> {
         Certificate::Stands(_) => Ok(()),
         _ => Err(Fail::from("another form")),
     }
+}
+
+/// The greatest and heaviest block, with nothing below it. Six times its weight is 24 million million million, past 64
+/// bits.
+fn greatest_block(alloc: Global) -> Result<Survey, Fail> {
+    let mut parts = Parts {
+        materials: Vec::new(alloc),
+        blocks: Vec::new(alloc),
+        loads: Vec::new(alloc),
+    };
+    parts.materials.push(RawMaterial {
+        name: String::from_str(alloc, "stone")?,
+        weight: 1_000_000,
+        friction: list(alloc, &[1, 1])?,
+    })?;
+    parts.blocks.push(block(
+        alloc,
+        "block",
+        false,
+        &[
+            [-1_000_000, -1_000_000],
+            [1_000_000, -1_000_000],
+            [1_000_000, 1_000_000],
+            [-1_000_000, 1_000_000],
+        ],
+    )?)?;
+    let model = Model::new(alloc, parts).ok().ok_or("no model")?;
+    Ok(survey(alloc, model).ok().ok_or("no survey")?)
+}
+
+#[test]
+fn a_post_is_narrow_and_the_greatest_block_is_not(rt: HostRuntime) -> Result<(), Fail> {
+    let alloc = rt.alloc();
+    let post = pushed_post(alloc)?;
+    let stands = judge_marked(alloc, &post, Question::Dead, 20_000).ok();
+    assert!(rt; matches!(stands, Some((Certificate::Stands(_), true))));
+    let block = greatest_block(alloc)?;
+    let falls = judge_marked(alloc, &block, Question::Dead, 20_000).ok();
+    assert!(rt; matches!(falls, Some((Certificate::Collapses(_), false))));
+    Ok(())
 }

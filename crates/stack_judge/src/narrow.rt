@@ -1,0 +1,66 @@
+//! The judgement at 64 bits, where no number passes.
+
+ghost use Rattle.std.specs.Prelude.{◌≡◌, ◌≢◌, IfOk, IfSome, None, is_some, true, false};
+ghost use Rattle.stack_certificate.specs.Certificate.{certificate_view};
+ghost use Rattle.stack_judge.specs.Judgement.{LacksLive, Judges};
+ghost use Rattle.stack_judge.specs.Judged.{IsJudged};
+ghost use Rattle.stack_judge.specs.Certifying.{IsTableOfSurvey};
+ghost use Rattle.stack_judge.specs.NarrowWork.{narrow_place, has_no_place, is_narrow};
+
+use crate::certifying::certify;
+use crate::types::JudgeError;
+use stack_certificate::types::Certificate;
+use stack_contact::types::Survey;
+use stack_duality::wider_run_law;
+use stack_equilibrium::types::Question;
+use stack_extract::pose;
+use stack_rational::Frac;
+use stack_simplex::{RunError, run};
+use stack_table::Table;
+use stack_table::problem::BuildError;
+use std::alloc::{AllocError, Global};
+
+/// The written table of a survey's problem at 64 bits, where nothing of it passes.
+fn narrow_table(
+    alloc: Global,
+    s: &Survey,
+    q: Question,
+) -> Result<Option<Table<Frac<i64>>>, AllocError>
+    ensures some { IfOk result (λ o. IfSome o (λ t. IsTableOfSurvey q s.now t)) }
+    ensures place { IfOk result (λ o. is_some o ≡ has_no_place (narrow_place q s.now)) }
+{
+    let problem = pose(alloc, s, q)?;
+    match Table::build(alloc, &problem) {
+        Ok(table) => Ok(Some(table)),
+        Err(BuildError::Memory) => Err(AllocError),
+        Err(BuildError::Wide { .. }) => Ok(None),
+    }
+}
+
+/// The judgement by a run at 64 bits; None exactly where a number of its table or of the run passes. A run there that
+/// passes nowhere is the run at 128 bits.
+pub fn judge_narrow(
+    alloc: Global,
+    s: &Survey,
+    q: Question,
+    budget: u32,
+) -> Option<Result<Certificate, JudgeError>>
+    requires some { budget ≢ 0 }
+    requires live { ¬ (LacksLive q s.now) }
+    ensures none { result ≡ None → is_narrow q s.now budget ≡ false }
+    ensures judges { IfSome result (λ r. Judges r q s.now budget) }
+    ensures narrow { IfSome result (λ r. IfOk r (λ c. is_narrow q s.now budget ≡ true)) }
+    ensures judged { IfSome result (λ r. IfOk r (λ c. IsJudged q s.now (certificate_view c))) }
+{
+    wider_run_law();
+    let table = match narrow_table(alloc, s, q) {
+        Ok(Some(table)) => table,
+        Ok(None) => return None,
+        Err(_) => return Some(Err(JudgeError::Memory)),
+    };
+    match run(table, budget) {
+        Ok(ended) => Some(certify(alloc, s, &ended)),
+        Err(RunError::TooWide(_)) => None,
+        Err(RunError::Spent) => Some(Err(JudgeError::Spent { budget })),
+    }
+}
