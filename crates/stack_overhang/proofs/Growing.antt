@@ -15,7 +15,8 @@ module _ {X : Type 0} (f : ℕ → X) where
   pub one_more_after : (front xs next : List X) (i : ℕ) (x : X) → next ≡ xs ++ x ∷ [] → x ≡ f i
       → xs ≡ front ++ listed i f → next ≡ front ++ listed (i + 1) f
   one_more_after front xs next i x h is so_far =
-      h ∙ (λ j. so_far j ++ is j ∷ []) ∙ append_assoc front (listed i f) (f i ∷ []) ∙ ap (λ ys. front ++ ys) (longer i)
+      h ∙ (λ j. so_far j ++ is j ∷ []) ∙ append_assoc front (listed i f) (f i ∷ [])
+      ∙ ap (λ ys. front ++ ys) (longer i)
 
   -- all of them
   pub no_more : (xs : List X) (i n : ℕ) → i ≤ n → n ≤ i → xs ≡ listed i f → xs ≡ listed n f

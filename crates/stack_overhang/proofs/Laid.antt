@@ -1,4 +1,4 @@
--- The rows of each built-in model are within the limits: by computation for each size, and for each shape of a wall.
+-- The rows of each built-in model are within the limits: by computation, for each size and each shape of a wall.
 use Rattle.std.proofs.Common.{◌≡◌, ℕ, zero, suc, ◌+◌, ◌-◌, ◌<◌, ◌≤◌, Bool, true, false, ◌&&◌, List, [], ◌∷◌, ◌++◌, length, get_or, refl, sym, ap, ◌∙◌, subst, arith}
 use Rattle.std.specs.Prelude.{nat_le, nat_lt}
 use Rattle.std.specs.List.{list_all}
@@ -60,7 +60,8 @@ laid name base rows named apart under h =
       named = named;
       apart = apart;
       under = taken base under;
-      each = λ k lt. taken (brick_at (bricks_of rows) k) (placed_at (bricks_of rows) k (all_placed rows parts.0) lt);
+      each = λ k lt. taken (brick_at (bricks_of rows) k)
+          (placed_at (bricks_of rows) k (all_placed rows parts.0) lt);
       few = at_most (length (bricks_of rows)) 128 parts.1;
     }
 
@@ -93,12 +94,15 @@ course_row w i least most few near =
     let tests = λ (i b s : ℕ). is_row (course_of (shaped 0 b 0 s) i) in
     let all : all_below (λ k. all_below (λ b. all_below (tests (k + 1) b) 11) 11) 10 ≡ true = refl in
     each_below (tests i w.bricks) 11 (each_below (λ b. all_below (tests i b) 11) 11
-    (from_one (λ i. all_below (λ b. all_below (tests i b) 11) 11) 10 all i least most) w.bricks (omega (arith, few)))
+    (from_one (λ i. all_below (λ b. all_below (tests i b) 11) 11) 10 all i least most)
+    w.bricks (omega (arith, few)))
     w.shift (omega (arith, near))
 
 -- how many bricks there are, whatever the shift is
 abbrev is_counted : Wall → Bool
-is_counted w = nat_lt (top_number w) (length (bricks_of (courses_of w))) && nat_le (length (bricks_of (courses_of w))) 128
+is_counted w =
+    let count = length (bricks_of (courses_of w)) in
+    nat_lt (top_number w) count && nat_le count 128
 
 counted : (t s c b : ℕ) → 1 ≤ c → c ≤ 10 → 1 ≤ b → b ≤ 10 → is_counted (shaped c b t s) ≡ true
 counted t s c b least most some few =
@@ -122,7 +126,8 @@ corner_in_range r h =
 pub wall_laid : (w : Wall) → IsWall w → IsLaid w
 wall_laid w h =
     let bricks = bricks_of (courses_of w) in
-    let count : (nat_lt (top_number w) (length bricks) ≡ true) × (nat_le (length bricks) 128 ≡ true) = both _ _ (counted w.tenths w.shift w.courses w.bricks (omega (arith, h.least_courses)) h.most_courses
+    let count : (nat_lt (top_number w) (length bricks) ≡ true) × (nat_le (length bricks) 128 ≡ true) =
+    both _ _ (counted w.tenths w.shift w.courses w.bricks (omega (arith, h.least_courses)) h.most_courses
     (omega (arith, h.least_bricks)) h.most_bricks) in
     let row = λ (i : ℕ) (least : 1 ≤ i) (most : i ≤ 10). course_row w i least most h.most_bricks h.most_shift in
     let rows = all_listed is_row w.courses (λ k. course_of w (k + 1))

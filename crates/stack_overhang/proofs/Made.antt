@@ -1,12 +1,12 @@
 -- The model that is made of parts without a fault is the built-in one.
-use Rattle.std.proofs.Common.{◌≡◌, ℕ, ◌+◌, ◌*◌, ◌-◌, ◌<◌, ◌≤◌, ℤ, pos, Bool, true, ◌&&◌, List, [], ◌∷◌, length, Some, None, Result, Ok, Err, IfOk, refl, sym, ap, ◌∙◌, arith}
+use Rattle.std.proofs.Common.{◌≡◌, ℕ, ◌+◌, ◌*◌, ◌-◌, ◌<◌, ◌≤◌, ℤ, pos, Bool, true, ◌&&◌, List, [], ◌∷◌, length, Some, None, Result, Ok, Err, IfOk, refl, sym, ap, ◌∙◌, subst, arith}
 use Rattle.std.specs.Prelude.{codes, if◌then◌else◌, IsOk, is_ok}
 use Rattle.stack_algebra.specs.Listed.{listed}
 use Rattle.stack_algebra.specs.Steps.{steps}
 use Rattle.stack_polygon.proofs.Tested.{each_below}
 use Rattle.stack_model.specs.declared.places.What.TheVariants as whats
 use Rattle.stack_model.specs.declared.errors.ModelError.{ModelError}
-use Rattle.stack_model.specs.Structure.{Structure}
+use Rattle.stack_model.specs.Structure.{Structure, HasLive}
 use Rattle.stack_model.specs.Parts.{PartLists}
 use Rattle.stack_model.specs.Limits.{is_between, friction_of}
 use Rattle.stack_model.specs.Content.{at_most, add_load, content_of}
@@ -68,9 +68,17 @@ wall_taken w bricks k top parts h same first corner ms bs ls =
     let l = wall_laid w h in
     let push : parts.loads ≡ push_listed (top_number w) (top_brick w) ∷ [] =
     ls ∙ (λ i. push_listed (first i) (corner i) ∷ []) in
-    all_taken (pos w.tenths) (pos 10) (codes "ground") ground (bricks_of rows) parts _ (tenths w.tenths h.most_tenths)
+    all_taken (pos w.tenths) (pos 10) (codes "ground") ground (bricks_of rows) parts _
+    (tenths w.tenths h.most_tenths)
     (laid (codes "ground") ground rows refl (λ k. refl) refl l.rows) ms
     (bs ∙ ap (blocks_of (codes "ground") ground) same)
     (ap (λ ls. at_most 256 (length ls) whats.Loads) push)
     (ap (steps (add_load (built_bodies (codes "ground") ground (bricks_of rows))) 0 []) push
-    ∙ push_taken (codes "ground") ground (bricks_of rows) (top_number w) (top_brick w) (λ k. refl) l.top l.few l.corner)
+    ∙ push_taken (codes "ground") ground (bricks_of rows) (top_number w) (top_brick w) (λ k. refl) l.top l.few
+    l.corner)
+
+-- a wall has its live load
+pub wall_has_live : (r : Result Structure StackError) (w : Wall) → IfOk r (λ m. m ≡ structure_of w)
+    → IfOk r (λ m. HasLive m)
+wall_has_live (Ok m) w e = subst HasLive (sym e) (0, (omega arith, refl))
+wall_has_live (Err e) w h = tt

@@ -28,11 +28,13 @@ other_name j k hj hk differ = go (bytes_eq (brick_name j) (brick_name k)) refl
     go false e = refl
     go true e =
         let same = (bytes_eq-Decides (brick_name j) (brick_name k)).0 e in
-        let numbers : j + 1 ≡ k + 1 = decimal_injective (j + 1) (k + 1) (omega arith) (omega arith) (ap (drop 1) same) in
+        let numbers : j + 1 ≡ k + 1 =
+        decimal_injective (j + 1) (k + 1) (omega arith) (omega arith) (ap (drop 1) same) in
         absurd (differ (omega arith))
 
 -- none of the first n names is that of brick k
-none_before : (k n : ℕ) → k < 128 → n ≤ k → All (λ name. bytes_eq (brick_name k) name ≡ false) (listed n brick_name)
+none_before : (k n : ℕ) → k < 128 → n ≤ k
+    → All (λ name. bytes_eq (brick_name k) name ≡ false) (listed n brick_name)
 none_before k n hk le i d lt =
     let below : i < n = subst (λ m. i < m) (length_listed n brick_name) lt in
     subst (λ name. bytes_eq (brick_name k) name ≡ false) (sym (listed_item n brick_name i d below))
@@ -43,9 +45,11 @@ abbrev pub IsApart : List ℕ → Type 0
 IsApart base = (k : ℕ) → bytes_eq (brick_name k) base ≡ false
 
 -- the name of brick k is new after the base and the bricks before it
-pub fresh : (base : List ℕ) (k : ℕ) → IsApart base → k < 128 → is_new (brick_name k) (base ∷ listed k brick_name) ≡ true
+pub fresh : (base : List ℕ) (k : ℕ) → IsApart base → k < 128
+    → is_new (brick_name k) (base ∷ listed k brick_name) ≡ true
 fresh base k apart hk =
-    (λ i. not (apart k i || list_any_none (bytes_eq (brick_name k)) (listed k brick_name) (none_before k k hk (omega arith)) i))
+    let none = list_any_none (bytes_eq (brick_name k)) (listed k brick_name) (none_before k k hk (omega arith)) in
+    λ i. not (apart k i || none i)
 
 -- and is found there
 pub numbered : (base : List ℕ) (n k : ℕ) → IsApart base → k < n → n ≤ 128
@@ -68,4 +72,5 @@ numbered base n k apart lt few =
     before : (i : ℕ) → i < k + 1 → bytes_eq (brick_name k) (get_or (base ∷ listed n brick_name) i []) ≡ false
     before zero l = apart k
     before (suc i) l = subst (λ name. bytes_eq (brick_name k) name ≡ false)
-        (sym (listed_item n brick_name i [] (omega arith))) (other_name k i (omega arith) (omega arith) (omega arith))
+        (sym (listed_item n brick_name i [] (omega arith)))
+        (other_name k i (omega arith) (omega arith) (omega arith))

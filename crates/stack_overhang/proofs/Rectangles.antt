@@ -68,18 +68,22 @@ is_convex_rectangle r h k =
     let wide : pos 0 ≺ r.right -ℤ r.left = omega (arith, sums) in
     let tall : pos 0 ≺ r.top -ℤ r.bottom = omega (arith, sums) in
     let a = mul_pos (r.right -ℤ r.left) (r.top -ℤ r.bottom) wide tall in
-    let clear = λ (i : ℕ) (each : (j : ℕ) → j < 4 → is_left_or_end ps i j ≡ true). below_each (is_left_or_end ps i) 4 each in
+    let clear = λ (i : ℕ) (each : (j : ℕ) → j < 4 → is_left_or_end ps i j ≡ true).
+    below_each (is_left_or_end ps i) 4 each in
     below_each (is_clear ps) 4 (below_four (λ i. is_clear ps i ≡ true)
     (clear 0 (below_four (λ j. is_left_or_end ps 0 j ≡ true) refl refl
-    (is_left _ _ a (below_right r.left r.right r.bottom r.top)) (is_left _ _ a (below_left r.left r.right r.bottom r.top))))
+    (is_left _ _ a (below_right r.left r.right r.bottom r.top))
+    (is_left _ _ a (below_left r.left r.right r.bottom r.top))))
     (clear 1 (below_four (λ j. is_left_or_end ps 1 j ≡ true)
     (is_left _ _ a (right_low r.left r.right r.bottom r.top)) refl refl
     (is_left _ _ a (right_high r.left r.right r.bottom r.top))))
     (clear 2 (below_four (λ j. is_left_or_end ps 2 j ≡ true)
-    (is_left _ _ a (above_left r.left r.right r.bottom r.top)) (is_left _ _ a (above_right r.left r.right r.bottom r.top))
+    (is_left _ _ a (above_left r.left r.right r.bottom r.top))
+    (is_left _ _ a (above_right r.left r.right r.bottom r.top))
     refl refl))
     (clear 3 (below_four (λ j. is_left_or_end ps 3 j ≡ true) refl
-    (is_left _ _ a (left_low r.left r.right r.bottom r.top)) (is_left _ _ a (left_high r.left r.right r.bottom r.top))
+    (is_left _ _ a (left_low r.left r.right r.bottom r.top))
+    (is_left _ _ a (left_high r.left r.right r.bottom r.top))
     refl)))
 
 -- its corners are taken as they are listed, and are an outline
@@ -94,8 +98,8 @@ taken r h =
     let near = both (is_near r.left && is_near r.right) _ parts.1 in
     let x = both (is_near r.left) (is_near r.right) near.0 in
     let y = both (is_near r.bottom) (is_near r.top) near.1 in
-    let range : are_in_range (corners_of r) ≡ true = λ i. (x.0 i && y.0 i) && ((x.1 i && y.0 i) && ((x.1 i && y.1 i)
-    && ((x.0 i && y.1 i) && true))) in
+    let range : are_in_range (corners_of r) ≡ true = λ i. (x.0 i && y.0 i) && ((x.1 i && y.0 i)
+    && ((x.1 i && y.1 i) && ((x.0 i && y.1 i) && true))) in
     let straight = is_convex_rectangle r (less _ _ sizes.0) (less _ _ sizes.1) in
     record {
       corners = corners_again (corners_of r) (record { count = refl; range = range });

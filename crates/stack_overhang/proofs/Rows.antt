@@ -83,8 +83,9 @@ sums_of l g n a b c d e = record {
   right = omega (arith, ints);
 }
 
-pub begins : (r : Row) (j : ℕ) → j < 2 ^ 32 → IsWithin r j → Begins r j
-begins r j small w =
+pub begins : (r : Row) (j : ℕ) → j < 2 ^ 32 → is_row r ≡ true → j < r.count → Begins r j
+begins r j small laid lt =
+    let w = within_it r j laid lt in
     let g = r.long *ℤ pos j in
     let low = w.left.low in let high = w.left.high in let on = w.on in let end = w.end in let some = w.long in
     let under = w.bottom.low in let over = w.bottom.high in let crown = w.top.high in let tall = w.high in
@@ -94,14 +95,16 @@ begins r j small w =
     let s = sums_of r.left g r.long low high on end some in
     record {
       fits = subst (λ z. FitsSigned w64 (stored r.left +ℤ stored z)) inner s.fits;
-      end_fits = subst (λ z. FitsSigned w64 (stored (stored r.left +ℤ stored z) +ℤ stored r.long)) inner s.end_fits;
+      end_fits = subst (λ z. FitsSigned w64 (stored (stored r.left +ℤ stored z) +ℤ stored r.long)) inner
+          s.end_fits;
       left = ap (λ z. stored (stored r.left +ℤ stored z)) (sym inner) ∙ s.left;
       right = ap (λ z. stored (stored (stored r.left +ℤ stored z) +ℤ stored r.long)) (sym inner) ∙ s.right;
       bottom = omega (arith, ints);
       top = omega (arith, ints);
     }
   where
-    spread_long : (l g n : ℤ) → negsuc 999999 ≼ l → pos 0 ≼ g → l +ℤ g +ℤ n ≼ pos 1000000 → pos 0 ≺ n → stored n ≡ n
+    spread_long : (l g n : ℤ) → negsuc 999999 ≼ l → pos 0 ≼ g → l +ℤ g +ℤ n ≼ pos 1000000 → pos 0 ≺ n
+        → stored n ≡ n
     spread_long l g n a b c d = omega (arith, ints)
 
 -- its brick lies where the row says
@@ -111,8 +114,10 @@ is_placed_brick r j h lt =
     let g = r.long *ℤ pos j in
     let low = w.left.low in let on = w.on in let end = w.end in let some = w.long in let tall = w.high in
     let under = w.bottom.low in let over = w.bottom.high in let foot = w.top.low in let crown = w.top.high in
-    let wide : int_lt (r.left +ℤ g) (r.left +ℤ g +ℤ r.long) ≡ true = is_less (r.left +ℤ g) (r.left +ℤ g +ℤ r.long) (omega (arith, ints)) in
-    let high : int_lt r.bottom (r.bottom +ℤ r.high) ≡ true = is_less r.bottom (r.bottom +ℤ r.high) (omega (arith, ints)) in
+    let wide : int_lt (r.left +ℤ g) (r.left +ℤ g +ℤ r.long) ≡ true =
+    is_less (r.left +ℤ g) (r.left +ℤ g +ℤ r.long) (omega (arith, ints)) in
+    let high : int_lt r.bottom (r.bottom +ℤ r.high) ≡ true =
+    is_less r.bottom (r.bottom +ℤ r.high) (omega (arith, ints)) in
     let left : is_near (r.left +ℤ g) ≡ true = to_near (r.left +ℤ g) (omega (arith, ints)) (omega (arith, ints)) in
     let right : is_near (r.left +ℤ g +ℤ r.long) ≡ true = to_near (r.left +ℤ g +ℤ r.long) (omega (arith, ints))
     (omega (arith, ints)) in

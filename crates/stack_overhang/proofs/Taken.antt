@@ -39,7 +39,8 @@ steps_listed : {A X E : Type 0} (f : ℕ → A → X → Result A E) (n i : ℕ)
 steps_listed f zero i after item each = refl
 steps_listed f (suc n) i after item each =
     ap (λ r. r >>= λ b. steps f (i + 1) b (listed n (λ k. item (suc k)))) (each i 0 (omega arith))
-    ∙ steps_listed f n (i + 1) (λ k. after (suc k)) (λ k. item (suc k)) (λ j k lt. each j (suc k) (omega (arith, lt)))
+    ∙ steps_listed f n (i + 1) (λ k. after (suc k)) (λ k. item (suc k))
+    (λ j k lt. each j (suc k) (omega (arith, lt)))
 
 -- the steps of a block, where each went well
 block_runs : (a c : Bool) (d e g : ModelError) (s : Spot) (k : Key) (o : Option (List Point))
@@ -89,13 +90,15 @@ module _ (name : List ℕ) (base : Rectangle) (bricks : List Rectangle) where
   bodies k = base_body name base ∷ brick_bodies bricks k
 
   names : (k : ℕ) → body_names (bodies k) ≡ name ∷ listed k brick_name
-  names k = ap (λ ns. name ∷ ns) (map_listed (λ (b : NamedBody). b.name) k (λ j. brick_body j (brick_at bricks j)))
+  names k = ap (λ ns. name ∷ ns)
+      (map_listed (λ (b : NamedBody). b.name) k (λ j. brick_body j (brick_at bricks j)))
 
   free_bricks : (k : ℕ) → count_by (λ (b : NamedBody). not b.fixed) (brick_bodies bricks k) ≡ k
   free_bricks zero = refl
   free_bricks (suc k) =
       let one = brick_body k (brick_at bricks k) in
-      let more = ap (count_by (λ (b : NamedBody). not b.fixed)) (listed_more k (λ j. brick_body j (brick_at bricks j))) in
+      let more = ap (count_by (λ (b : NamedBody). not b.fixed))
+      (listed_more k (λ j. brick_body j (brick_at bricks j))) in
       let split = sum_by-append (λ (b : NamedBody). cond (not b.fixed) 1 0) (brick_bodies bricks k) (one ∷ []) in
       omega (arith, more, split, free_bricks k)
 
@@ -112,7 +115,8 @@ module _ (name : List ℕ) (base : Rectangle) (bricks : List Rectangle) where
   bodies_taken p q t =
       ap (λ r. r >>= λ b. steps (add_block (materials p q)) (0 + 1) b (listed (length bricks)
       (λ k. brick_block k (brick_at bricks k)))) (block_taken p q 0 [] name true base t.named refl t.under refl)
-      ∙ steps_listed (add_block (materials p q)) (length bricks) (0 + 1) bodies (λ k. brick_block k (brick_at bricks k))
+      ∙ steps_listed (add_block (materials p q)) (length bricks) (0 + 1) bodies
+      (λ k. brick_block k (brick_at bricks k))
       (λ j k lt. block_taken p q j (bodies k) (brick_name k) false (brick_at bricks k)
       (is_a_brick_name k (omega (arith, lt, t.few)))
       (ap (is_new (brick_name k)) (names k) ∙ fresh name k t.apart (omega (arith, lt, t.few)))
@@ -128,7 +132,8 @@ lists_run : (v : Result ⊤ ModelError) (r : Result (List NamedMaterial) ModelEr
     → r ≡ Ok ms → v ≡ Ok tt → k ms ≡ Ok bs
     → (r >>= λ ms. v >>= λ _. k ms >>= λ bs. both_lists ms bs) ≡ both_lists ms bs
 lists_run v r k ms bs hr hv hk =
-    (λ i. hr i >>= λ ms. hv i >>= λ _. k ms >>= λ bs. both_lists ms bs) ∙ ap (λ q. q >>= λ bs. both_lists ms bs) hk
+    (λ i. hr i >>= λ ms. hv i >>= λ _. k ms >>= λ bs. both_lists ms bs)
+    ∙ ap (λ q. q >>= λ bs. both_lists ms bs) hk
 
 whole_runs : (r : Result (List NamedMaterial × List NamedBody) ModelError) (u : Result ⊤ ModelError)
     (k : List NamedMaterial × List NamedBody → Result (List Load) ModelError) (ms : List NamedMaterial)
@@ -160,9 +165,11 @@ all_taken p q name base bricks parts ls rough t ms bs few loads =
     whole_runs (bodies_of parts) _ (λ both. steps (add_load both.1) 0 [] parts.loads) (materials p q)
     (built_bodies name base bricks) ls
     ((λ i. at_most 64 (length (ms i)) whats.Materials >>= λ _. steps add_material 0 [] (ms i) >>= λ ms.
-    at_most 192 (length parts.blocks) whats.Blocks >>= λ _. steps (add_block ms) 0 [] (bs i) >>= λ bs. both_lists ms bs)
-    ∙ lists_run _ _ (λ ms. steps (add_block ms) 0 [] (blocks_of name base bricks)) (materials p q) (built_bodies name base bricks)
-    (material_taken p q rough) (ap (λ b. unless b (TooMany whats.Blocks)) some) (bodies_taken name base bricks p q t)) few loads
+    at_most 192 (length parts.blocks) whats.Blocks >>= λ _. steps (add_block ms) 0 [] (bs i)
+    >>= λ bs. both_lists ms bs)
+    ∙ lists_run _ _ (λ ms. steps (add_block ms) 0 [] (blocks_of name base bricks)) (materials p q)
+    (built_bodies name base bricks) (material_taken p q rough) (ap (λ b. unless b (TooMany whats.Blocks)) some)
+    (bodies_taken name base bricks p q t)) few loads
   where
     at_most_of : (n m : ℕ) → n ≤ m → nat_le n m ≡ true
     at_most_of n m h = grind (arith, ints)
@@ -190,17 +197,20 @@ push_at k r = record {
 }
 
 pub push_taken : (name : List ℕ) (base : Rectangle) (bricks : List Rectangle) (k : ℕ) (r : Rectangle)
-    → IsApart name → k < length bricks → length bricks ≤ 128 → is_in_range (record { x = r.left; y = r.top }) ≡ true
+    → IsApart name → k < length bricks → length bricks ≤ 128
+    → is_in_range (record { x = r.left; y = r.top }) ≡ true
     → steps (add_load (built_bodies name base bricks)) 0 [] (push_listed k r ∷ []) ≡ Ok (push_at k r ∷ [])
 unfolding add_load
 push_taken name base bricks k r apart lt few near =
     let bs = built_bodies name base bricks in
     let corner : Point = record { x = r.left; y = r.top } in
     let number : number_of (brick_name k) (body_names bs) ≡ Some (k + 1) =
-    ap (number_of (brick_name k)) (names name base bricks (length bricks)) ∙ numbered name (length bricks) k apart lt few in
+    ap (number_of (brick_name k)) (names name base bricks (length bricks))
+    ∙ numbered name (length bricks) k apart lt few in
     ap (λ r. r >>= λ b. steps (add_load bs) (0 + 1) b [])
-    (load_runs _ keys.Kind keys.At keys.Force _ _ _ (point_of (coordinates corner)) _ (number_of (brick_name k) (body_names bs))
-    (λ n. is_free n bs) (λ live c f n. record { body = n; live = live; at = c; fx = f.0; fy = f.1 } ∷ []) true corner
+    (load_runs _ keys.Kind keys.At keys.Force _ _ _ (point_of (coordinates corner)) _
+    (number_of (brick_name k) (body_names bs)) (λ n. is_free n bs)
+    (λ live c f n. record { body = n; live = live; at = c; fx = f.0; fy = f.1 } ∷ []) true corner
     (pos 1, pos 0) (k + 1) refl (point_again corner near) refl number free)
   where
     free : is_free (k + 1) (built_bodies name base bricks) ≡ true

@@ -1,7 +1,7 @@
--- Harmonic stacks, inverted triangles and slabs, after Paterson and Zwick, "Overhang" (2009). Bricks without friction on
--- the right end of a table, at 0.
-use Rattle.std.specs.Prelude.{ℕ, ◌+◌, ◌-◌, ◌*◌, ◌/◌, ◌%◌, ℤ, pos, negsuc, ◌-ℤ◌, ◌*ℤ◌, neg_ℤ, List, [], ◌∷◌, length, get_or}
-use Rattle.std.specs.Prelude.{flat_map, codes}
+-- Harmonic stacks, inverted triangles and slabs, after Paterson and Zwick, "Overhang" (2009). Bricks without friction
+-- on a table whose right end is at 0.
+use Rattle.std.specs.Prelude.{ℕ, ◌+◌, ◌-◌, ◌*◌, ◌/◌, ◌%◌, ℤ, pos, negsuc, ◌-ℤ◌, ◌*ℤ◌, neg_ℤ, List, [], ◌∷◌}
+use Rattle.std.specs.Prelude.{length, get_or, flat_map, codes}
 use Rattle.stack_algebra.specs.Sums.{sum_to}
 use Rattle.stack_algebra.specs.Listed.{listed}
 use Rattle.stack_model.specs.Structure.{Structure}
@@ -14,8 +14,8 @@ use Rattle.stack_overhang.specs.Built.{built}
 abbrev pub stack_of : Rectangle → List Row → Structure
 stack_of table rows = built (pos 0) (pos 1) (codes "table") table (bricks_of rows) []
 
--- A harmonic stack of n bricks. the right end of brick i, from 1 at the bottom: the sum of 2520/k for k from n down to
--- n - i + 1
+-- Of a harmonic stack of n bricks, the right end of brick i, from 1 at the bottom: the sum of 2520/k for k from n down
+-- to n - i + 1
 abbrev pub reach_of : ℕ → ℕ → ℤ
 reach_of n i = sum_to i (λ j. pos (2520 / (n - j)))
 

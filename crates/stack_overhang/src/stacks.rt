@@ -54,7 +54,7 @@ fn stack(alloc: Global, table: Rectangle, rows: &[Row]) -> Result<Model, StackEr
 
 /// The harmonic stack of `n` bricks, 1 to 10, each 5,040 long and 1,000 high, on a table that ends at 0. The right end
 /// of brick i, from 1 at the bottom, is the sum of 2520/k for k from n - i + 1 to n, so that the overhang is half the
-/// sum of 1/1 to 1/n in brick lengths. Refused is any other size.
+/// sum of 1/1 to 1/n in brick lengths. Refused with `Size` is exactly any other size.
 pub fn harmonic(alloc: Global, n: u32) -> Result<Model, StackError>
     ensures { Gives result (within 1 10 n (harmonic_of n)) }
 {
@@ -69,7 +69,7 @@ pub fn harmonic(alloc: Global, n: u32) -> Result<Model, StackError>
 }
 
 /// The inverted triangle of `m` rows, 1 to 10: row i, from 1 at the bottom, has i bricks, each 2 long and 1 high, and
-/// its middle is the end of the table, at 0. Refused is any other size.
+/// its middle is the end of the table, at 0. Refused with `Size` is exactly any other size.
 pub fn triangle(alloc: Global, m: u32) -> Result<Model, StackError>
     ensures { Gives result (within 1 10 m (triangle_of m)) }
 {
@@ -84,8 +84,8 @@ pub fn triangle(alloc: Global, m: u32) -> Result<Model, StackError>
 }
 
 /// The slab of depth `d`, 1 to 6: a row of one brick, and for each r from 2 to d the 2r - 3 rows of r, r - 1, r, .. r
-/// bricks, from the bottom; bricks and table are those of a triangle. Refused is any other size. After Paterson and
-/// Zwick, "Overhang" (2009).
+/// bricks, from the bottom; bricks and table are those of a triangle. Refused with `Size` is exactly any other size.
+/// After Paterson and Zwick, "Overhang" (2009).
 pub fn slab(alloc: Global, d: u32) -> Result<Model, StackError>
     ensures { Gives result (within 1 6 d (slab_of d)) }
 {

@@ -2,6 +2,7 @@
 
 ghost use Rattle.std.specs.Prelude.{◌≡◌, ◌<◌, ◌≤◌, ◌^◌, true, IfOk, IfErr};
 ghost use Rattle.stack_model.specs.ModelView.{model_view};
+ghost use Rattle.stack_model.specs.Structure.{HasLive};
 ghost use Rattle.stack_overhang.specs.Gives.{Gives, within};
 ghost use Rattle.stack_overhang.specs.Wall.{drawn, wall_by, course_of, courses_of, structure_of, wall_of};
 ghost use Rattle.stack_overhang.specs.Limits.{IsWall};
@@ -96,13 +97,15 @@ fn built(alloc: Global, w: Wall) -> Result<Model, StackError>
     )
 }
 
-/// Wall `number`, 0 to 999,999: 2 + number mod 9 courses of 2 + (number div 9) mod 9 bricks, each 20 long and 10 high, on
-/// fixed ground whose top is at 0. A linear congruential generator modulo 2^31 draws two numbers from `number`: the
-/// first, divided by 65,536 and taken modulo 5, gives the friction, 3 to 7 tenths; the second, so divided and taken modulo
-/// 7, how far the even courses are shifted to the right, 4 to 10. A live load of 1 pushes to the right on the first
-/// brick of the top course, at its upper left corner. Refused is any other number.
+/// Wall `number`, 0 to 999,999: 2 + number mod 9 courses of 2 + (number div 9) mod 9 bricks, each 20 long and 10 high,
+/// on fixed ground whose top is at 0. A linear congruential generator modulo 2^31 draws two numbers from `number`: the
+/// first, divided by 65,536 and taken modulo 5, gives the friction, 3 to 7 tenths; the second, so divided and taken
+/// modulo 7, how far the even courses are shifted to the right, 4 to 10. A live load of 1 pushes to the right on the
+/// first brick of the top course, at its upper left corner. Weights are 1 for a square of the grid's unit. Refused with
+/// `Size` is exactly any other number.
 pub fn wall(alloc: Global, number: u32) -> Result<Model, StackError>
-    ensures { Gives result (within 0 999999 number (wall_of number)) }
+    ensures gives { Gives result (within 0 999999 number (wall_of number)) }
+    ensures live { IfOk result (λ m. HasLive (model_view m)) }
 {
     if number > 999_999 {
         return Err(StackError::Size);

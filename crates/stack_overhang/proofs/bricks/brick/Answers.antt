@@ -1,11 +1,15 @@
-use Rattle.stack_overhang.proofs.Rows.{within_it, begins}
+use Rattle.stack_overhang.proofs.Rows.{begins}
 use Rattle.stack_overhang.proofs.bricks.brick.Goals as goal
 
 pub overflow_add-left : goal.overflow_add-left
-overflow_add-left c = (begins c.args.row c.args.j c.ranges.j.fits (within_it c.args.row c.args.j c.requires.laid c.requires.below)).fits
+overflow_add-left c =
+    (begins c.args.row c.args.j c.ranges.j.fits c.requires.laid c.requires.below).fits
 
 pub overflow_add-result : goal.overflow_add-result
-overflow_add-result c = (begins c.args.row c.args.j c.ranges.j.fits (within_it c.args.row c.args.j c.requires.laid c.requires.below)).end_fits
+overflow_add-result c =
+    (begins c.args.row c.args.j c.ranges.j.fits c.requires.laid c.requires.below).end_fits
 
 pub returns : goal.returns
-returns c = let b = begins c.args.row c.args.j c.ranges.j.fits (within_it c.args.row c.args.j c.requires.laid c.requires.below) in λ i. record { left = b.left i; bottom = b.bottom i; right = b.right i; top = b.top i }
+returns c =
+    let b = begins c.args.row c.args.j c.ranges.j.fits c.requires.laid c.requires.below in
+    λ i. record { left = b.left i; bottom = b.bottom i; right = b.right i; top = b.top i }

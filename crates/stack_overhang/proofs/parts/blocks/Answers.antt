@@ -11,5 +11,6 @@ loop-k-preserved c =
     one_more_after (λ k. brick_block k (brick_at c.args.bricks.now k))
     (block_of c.args.base_name.now true c.args.base ∷ []) (map raw_block c.loop-k.list.items) _ c.loop-k.k _
     (ap (map raw_block) c.in_ok-push-2.ensures.items ∙ map-append raw_block c.loop-k.list.items _)
-    (c.in_ok-block-2.ensures ∙ ap (λ name. block_of name false (brick_at c.args.bricks.now c.loop-k.k)) c.in_ok-name.ensures)
+    (c.in_ok-block-2.ensures
+    ∙ ap (λ name. block_of name false (brick_at c.args.bricks.now c.loop-k.k)) c.in_ok-name.ensures)
     c.loop-k.invariant
