@@ -1,33 +1,47 @@
 -- What is found grows pair by pair.
-use mathlib.Core.Path.{◌≡◌, subst}
+use mathlib.Core.Path.{◌≡◌}
 use mathlib.Core.Logic.{◌⊎◌, inl, inr}
 use mathlib.Core.List.{List, []}
-use Prim.Native.Nat.{ℕ, suc, ◌+◌, ◌<◌, ◌≤◌}
+use Prim.Native.Nat.{ℕ, suc, ◌<◌, ◌≤◌}
 use native.Mathlib.Omega.{arith}
 use native.Mathlib.Decide.{ℕ_discrete}
 use lib.ListN.{length}
+use Rattle.stack_polygon.specs.Limits.{IsPolygon}
 use Rattle.stack_model.specs.Structure.{Structure}
 use Rattle.stack_contact.specs.declared.types.Bearing.{Bearing}
 use Rattle.stack_contact.specs.declared.types.Touch.{Touch}
-use Rattle.stack_contact.specs.ContactLists.{IsPair, PairBefore}
+use Rattle.stack_contact.specs.ContactLists.{corners_of, IsPair, PairBefore}
 use Rattle.stack_contact.specs.Found.{AreFound, AreAllFound}
+use Rattle.stack_contact.specs.NearPairs.{AreFar}
+use Rattle.stack_contact.proofs.FarBodies.{far-separated, far-clear}
 
--- to another place with the same pairs before it
-pub moved : (s : Structure) (k l m n : ℕ) → ((i j : ℕ) → IsPair s i j → PairBefore i j k l → PairBefore i j m n)
-    → ((i j : ℕ) → IsPair s i j → PairBefore i j m n → PairBefore i j k l)
+-- to another place: each pair before it was done, or has nothing in common
+pub skipped : (s : Structure) → ((i : ℕ) → i < length s.bodies → IsPolygon (corners_of s i)) → (k l m n : ℕ)
+    → ((i j : ℕ) → IsPair s i j → PairBefore i j k l → PairBefore i j m n)
+    → ((i j : ℕ) → IsPair s i j → PairBefore i j m n → PairBefore i j k l ⊎ AreFar s i j)
     → (zs : List Bearing) (ts : List Touch)
     → AreFound s k l zs ts → AreFound s m n zs ts
-moved s k l m n there back zs ts h = record {
-  apart = λ i j p b. h.apart i j p (back i j p b);
-  clear = λ i j p b. h.clear i j p (back i j p b);
+skipped s polygons k l m n there back zs ts h = record {
+  apart = λ i j p b. elim (back i j p b) [
+    | inl d ↦ h.apart i j p d
+    | inr f ↦ far-separated s i j (polygons i (let o = p.in_order in let w = p.is_body in omega arith))
+        (polygons j p.is_body) f
+  ];
+  clear = λ i j p b. elim (back i j p b) [ inl d ↦ h.clear i j p d | inr f ↦ far-clear s i j f ];
   bearings = record {
     each = λ a z e. let r = h.bearings.each a z e in (r.0, there z.first z.second r.0.pair r.1);
-    all = λ i j t X p b c. h.bearings.all i j t X p (back i j p b) c;
+    all = λ i j t X p b c. elim (back i j p b) [
+      | inl d ↦ h.bearings.all i j t X p d c
+      | inr f ↦ absurd (f X c.is_end.is_in)
+    ];
     in_order = h.bearings.in_order;
   };
   touches = record {
     each = λ a z e. let r = h.touches.each a z e in (r.0, there z.first z.second r.0.pair r.1);
-    all = λ i j X p b c. h.touches.all i j X p (back i j p b) c;
+    all = λ i j X p b c. elim (back i j p b) [
+      | inl d ↦ h.touches.all i j X p d c
+      | inr f ↦ absurd (f X c.lone.common)
+    ];
     in_order = h.touches.in_order;
   };
 }
@@ -50,34 +64,6 @@ later a b i j (inr (e, l)) = inr (e, omega arith)
 
 pub this : (a b i j : ℕ) → a ≡ i → b ≡ j → PairBefore a b i (suc j)
 this a b i j e f = inr (e, omega (arith, f))
-
--- two fixed bodies are no pair
-pub passed : (s : Structure) (i j : ℕ) → ¬ (IsPair s i j) → (zs : List Bearing) (ts : List Touch)
-    → AreFound s i j zs ts → AreFound s i (suc j) zs ts
-passed s i j none zs ts h = moved s i j i (suc j) (λ a b p. later a b i j) back zs ts h
-  where
-    back : (a b : ℕ) → IsPair s a b → PairBefore a b i (suc j) → PairBefore a b i j
-    back a b p m = elim (before-next a b i j m) [
-      | inl l ↦ l
-      | inr r ↦ absurd (none (subst (λ k. IsPair s k j) r.0 (subst (λ k. IsPair s a k) r.1 p)))
-    ]
-
--- after the last body of a row comes the next row
-pub next-row : (s : Structure) (i : ℕ) (zs : List Bearing) (ts : List Touch)
-    → AreFound s i (length s.bodies) zs ts
-    → AreFound s (suc i) (suc (suc i)) zs ts
-next-row s i zs ts h = moved s i (length s.bodies) (suc i) (suc (suc i)) there back zs ts h
-  where
-    there : (a b : ℕ) → IsPair s a b → PairBefore a b i (length s.bodies) → PairBefore a b (suc i) (suc (suc i))
-    there a b p (inl l) = inl (omega arith)
-    there a b p (inr (e, l)) = inl (omega arith)
-
-    back : (a b : ℕ) → IsPair s a b → PairBefore a b (suc i) (suc (suc i)) → PairBefore a b i (length s.bodies)
-    back a b p (inl l) = elim (ℕ_discrete a i) [
-      | yes e ↦ inr (e, p.is_body)
-      | no n ↦ inl (omega (arith, n))
-    ]
-    back a b p (inr (e, l)) = let o = p.in_order in absurd (omega arith)
 
 -- at first nothing is found
 pub start-found : (s : Structure) → AreFound s 0 1 [] []
@@ -121,19 +107,3 @@ all-found s k l n g m zs ts h = record {
   where
     before : (i j : ℕ) → IsPair s i j → PairBefore i j k l
     before i j p = let o = p.in_order in let w = p.is_body in inl (omega (arith, m))
-
--- the places of the loop over a row
-pub next-found : (s : Structure) (i j n : ℕ) (zs : List Bearing) (ts : List Touch) → i < j → j < n
-    → AreFound s i (suc j) zs ts → (i < j + 1) × (j + 1 ≤ n) × AreFound s i (j + 1) zs ts
-next-found s i j n zs ts l m h = (
-  omega arith,
-  omega (arith, m),
-  subst (λ k. AreFound s i k zs ts)
-      (omega arith) h,
-)
-
--- at the end of the row all pairs of body i are done
-pub row-end : (s : Structure) (i j n : ℕ) → n ≡ length s.bodies → n ≤ j → j ≤ n
-    → (zs : List Bearing) (ts : List Touch)
-    → AreFound s i j zs ts → AreFound s (suc i) (suc (suc i)) zs ts
-row-end s i j n e l m zs ts h = next-row s i zs ts (subst (λ k. AreFound s i k zs ts) (omega (arith, l)) h)

@@ -9,9 +9,14 @@ pub mod PairTouches
 pub mod OnePair
 pub mod StoredDirections
 pub mod Appended
+pub mod FarBodies
 pub mod FoundSteps
 pub mod FoundPairs
 pub mod PairCases
+pub mod SweepSteps
+pub mod FromLeft
+pub mod ListedPairs
+pub mod PairOrder
 pub mod Frees
 pub mod SameLists
 pub mod OneSurvey

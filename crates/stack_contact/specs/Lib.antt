@@ -3,6 +3,7 @@ pub mod Bearings
 pub mod PairContacts
 pub mod ContactLists
 pub mod Surveyed
+pub mod NearPairs
 pub mod OneSurvey
 pub mod Found
 pub mod FreeBlocks

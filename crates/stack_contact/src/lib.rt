@@ -5,6 +5,7 @@ pub mod laws;
 mod lists;
 mod pair;
 mod surveying;
+mod sweeping;
 pub mod types;
 
 pub use pair::contacts;

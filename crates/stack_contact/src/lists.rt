@@ -1,13 +1,14 @@
 //! The contacts of all pairs, pair by pair.
 
-ghost use Rattle.std.specs.Prelude.{◌≡◌, ◌&&◌, ◌<◌, suc, length, ◌++◌, IfOk, MatchResult};
-ghost use Rattle.stack_model.specs.Structure.{body_of};
+ghost use Rattle.std.specs.Prelude.{◌≡◌, ◌<◌, suc, length, ◌++◌, IfOk, MatchResult};
 ghost use Rattle.stack_model.specs.ModelView.{model_view};
 ghost use Rattle.stack_frame.specs.Cones.{IsCoefficient};
-ghost use Rattle.stack_contact.specs.ContactLists.{friction_of, friction_between};
+ghost use Rattle.stack_contact.specs.ContactLists.{friction_of, friction_between, IsPair};
+ghost use Rattle.stack_contact.specs.NearPairs.{AreNearPairs, IsOrdered};
 ghost use Rattle.stack_contact.specs.Found.{bearings_in, touches_in, AreFound, AreAllFound, Stops};
 
 use crate::pair::contacts;
+use crate::sweeping::{Pair, near_pairs};
 use crate::types::{Bearing, Contacts, SurveyError, Touch};
 use stack_frame::{Cone, cone_of};
 use stack_model::Model;
@@ -42,17 +43,6 @@ fn joint_friction(model: &Model, first: usize, second: usize) -> Cone
     let a = friction(model, first);
     let b = friction(model, second);
     cone_of(a.p, a.q, b.p, b.q)
-}
-
-/// Whether two bodies are fixed, both of them.
-fn are_fixed(model: &Model, i: usize, j: usize) -> bool
-    requires i { i < length (model_view model.now).bodies }
-    requires j { j < length (model_view model.now).bodies }
-    ensures { result ≡ ((body_of (model_view model.now) i).fixed && (body_of (model_view model.now) j).fixed) }
-{
-    let first = model.body(i).fixed;
-    let second = model.body(j).fixed;
-    first && second
 }
 
 /// The lists with the contacts of one more pair.
@@ -104,46 +94,42 @@ fn longer(
     }
 }
 
-/// The lists with the contacts of bodies `i` and `j`, from those of the pairs before.
-fn with_pair(model: &Model, lists: Lists, i: usize, j: usize) -> Result<Lists, SurveyError>
-    requires order { i < j }
-    requires body { j < length (model_view model.now).bodies }
-    requires found { AreFound (model_view model.now) i j lists.bearings.items lists.touches.items }
+/// The lists with the contacts of a pair, from those of the pairs before.
+fn with_pair(model: &Model, lists: Lists, pair: Pair) -> Result<Lists, SurveyError>
+    requires pair { IsPair (model_view model.now) pair.first pair.second }
+    requires found { AreFound (model_view model.now) pair.first pair.second lists.bearings.items lists.touches.items }
     ensures { MatchResult result
-        (λ r. AreFound (model_view model.now) i (suc j) r.bearings.items r.touches.items)
+        (λ r. AreFound (model_view model.now) pair.first (suc pair.second) r.bearings.items r.touches.items)
         (λ e. Stops (model_view model.now) e) }
 {
-    if are_fixed(model, i, j) {
-        return Ok(lists);
-    }
-    let cone = joint_friction(model, i, j);
-    match contacts(model.polygon(i), model.polygon(j)) {
+    let cone = joint_friction(model, pair.first, pair.second);
+    match contacts(model.polygon(pair.first), model.polygon(pair.second)) {
         None => Err(SurveyError::Overlap {
-            first: i,
-            second: j,
+            first: pair.first,
+            second: pair.second,
         }),
         Some(found) => {
-            let more = longer(lists, i, j, cone, found)?;
+            let more = longer(lists, pair.first, pair.second, cone, found)?;
             Ok(more)
         }
     }
 }
 
-/// The lists with the contacts of body `i` and each later one, from those of the pairs before.
-fn with_row(model: &Model, start: Lists, i: usize) -> Result<Lists, SurveyError>
-    requires body { i < length (model_view model.now).bodies }
-    requires found { AreFound (model_view model.now) i (suc i) start.bearings.items start.touches.items }
-    ensures { MatchResult result
-        (λ r. AreFound (model_view model.now) (suc i) (suc (suc i)) r.bearings.items r.touches.items)
+/// The contacts of the near pairs, which are those of all pairs.
+fn found_in(alloc: Global, model: &Model, pairs: &[Pair]) -> Result<Lists, SurveyError>
+    requires near { AreNearPairs (model_view model.now) pairs.now }
+    requires ordered { IsOrdered pairs.now }
+    ensures { MatchResult result (λ r. AreAllFound (model_view model.now) r.bearings.items r.touches.items)
         (λ e. Stops (model_view model.now) e) }
 {
-    let count = model.bodies();
-    let mut lists = start;
-    let mut j = i + 1;
-    while j < count {
-        let more = with_pair(model, lists, i, j)?;
+    let _count = model.bodies();
+    let mut lists = Lists {
+        bearings: Vec::new(alloc),
+        touches: Vec::new(alloc),
+    };
+    for n in 0..pairs.len() {
+        let more = with_pair(model, lists, pairs[n])?;
         lists = more;
-        j += 1;
     }
     Ok(lists)
 }
@@ -153,16 +139,7 @@ pub fn all_found(alloc: Global, model: &Model) -> Result<Lists, SurveyError>
     ensures { MatchResult result (λ r. AreAllFound (model_view model.now) r.bearings.items r.touches.items)
         (λ e. Stops (model_view model.now) e) }
 {
-    let count = model.bodies();
-    let mut lists = Lists {
-        bearings: Vec::new(alloc),
-        touches: Vec::new(alloc),
-    };
-    let mut i = 0;
-    while i < count {
-        let more = with_row(model, lists, i)?;
-        lists = more;
-        i += 1;
-    }
+    let pairs = near_pairs(alloc, model)?;
+    let lists = found_in(alloc, model, pairs.as_slice())?;
     Ok(lists)
 }

@@ -130,3 +130,19 @@ fn the_first_pair_that_overlaps_is_named(rt: HostRuntime) -> Result<(), Fail> {
     assert_eq!(rt; blocks.survey(alloc)?.err(), Some(overlap));
     Ok(())
 }
+
+#[test]
+fn the_first_pair_is_named_where_another_lies_further_left(rt: HostRuntime) -> Result<(), Fail> {
+    let alloc = rt.alloc();
+    let mut blocks = Blocks::new(alloc);
+    blocks.add_box(alloc, false, at(10, 0), at(12, 2))?;
+    blocks.add_box(alloc, false, at(11, 1), at(13, 3))?;
+    blocks.add_box(alloc, false, at(0, 0), at(2, 2))?;
+    blocks.add_box(alloc, false, at(1, 1), at(3, 3))?;
+    let overlap = SurveyError::Overlap {
+        first: 0,
+        second: 1,
+    };
+    assert_eq!(rt; blocks.survey(alloc)?.err(), Some(overlap));
+    Ok(())
+}
