@@ -1,1 +1,5 @@
 pub mod LineByLine
+pub mod LowestTerms
+pub mod ForcesMade
+pub mod Accepted
+pub mod Pieces

@@ -1,1 +1,4 @@
 pub mod ContactTable
+pub mod ForceNumbers
+pub mod ForceTable
+pub mod Tabling

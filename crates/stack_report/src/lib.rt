@@ -1,10 +1,17 @@
-//! Tables of a survey, as text.
+//! Tables of a survey and of a certificate, as text.
 #![tactic(auto)]
 
 mod contacts;
+mod errors;
+mod force;
+mod force_lines;
+mod forces;
 mod lines;
+mod ratio;
 
 pub use contacts::contact_table;
+pub use errors::ReportError;
+pub use forces::force_table;
 
 #[cfg(test)]
 mod tests;

@@ -2,7 +2,8 @@
 
 ghost use Rattle.std.specs.Prelude.{◌≡◌, ◌+◌, Some};
 ghost use Rattle.stack_model.specs.ModelView.{model_view};
-ghost use Rattle.stack_report.specs.ContactTable.{name_of, pair_text, directions_text, numbers_text, bearing_text, touch_text};
+ghost use Rattle.stack_report.specs.ContactTable.{name_of, pair_text, directions_text, numbers_text, bearing_text};
+ghost use Rattle.stack_report.specs.ContactTable.{touch_text};
 
 use stack_contact::types::{Bearing, Touch};
 use stack_model::Model;
@@ -10,7 +11,7 @@ use stack_polygon::Point;
 use std::fmt;
 
 /// A number as users count, from 1.
-fn number(index: usize) -> u128
+pub fn number(index: usize) -> u128
     ensures { result ≡ index + 1 }
 {
     index as u128 + 1

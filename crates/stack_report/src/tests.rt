@@ -1,8 +1,12 @@
-//! The table of a wall in stack bond.
+//! The contacts of a wall in stack bond, and the forces of a post that tips.
 
-use crate::contact_table;
+use crate::{ReportError, contact_table, force_table};
+use stack_certificate::types::{Certificate, Forces, Motion};
+use stack_checker::check;
+use stack_checker::types::Check;
 use stack_contact::survey;
-use stack_model::{Model, Parts, RawBlock, RawMaterial};
+use stack_contact::types::Survey;
+use stack_model::{Model, Parts, RawBlock, RawLoad, RawMaterial};
 use std::alloc::Global;
 use std::test::*;
 
@@ -58,30 +62,104 @@ touch 1 a d 2 1
 touch 2 b c 2 1
 ";
 
+/// The survey of some blocks of one stone. The live loads are unit pushes to the right, each on a block at a point.
+fn surveyed(
+    alloc: Global,
+    friction: &[i64; 2],
+    blocks: &[(&str, bool, [[i64; 2]; 4])],
+    pushes: &[(&str, [i64; 2])],
+) -> Result<Survey, Fail> {
+    let mut parts = Parts {
+        materials: Vec::new(alloc),
+        blocks: Vec::new(alloc),
+        loads: Vec::new(alloc),
+    };
+    parts.materials.push(RawMaterial {
+        name: String::from_str(alloc, "stone")?,
+        weight: 1,
+        friction: numbers(alloc, friction)?,
+    })?;
+    for (name, fixed, corners) in blocks {
+        parts.blocks.push(block(alloc, name, *fixed, corners)?)?;
+    }
+    for (name, at) in pushes {
+        parts.loads.push(RawLoad {
+            block: String::from_str(alloc, name)?,
+            kind: String::from_str(alloc, "live")?,
+            at: numbers(alloc, at)?,
+            force: numbers(alloc, &[1, 0])?,
+        })?;
+    }
+    let model = Model::new(alloc, parts)?;
+    Ok(survey(alloc, model).ok().ok_or("no survey")?)
+}
+
 #[test]
 fn the_contacts_of_a_wall_in_stack_bond_are_listed(rt: HostRuntime) -> Result<(), Fail> {
     let alloc = rt.alloc();
-    let mut materials = Vec::new(alloc);
-    materials.push(RawMaterial {
-        name: String::from_str(alloc, "stone")?,
-        weight: 1,
-        friction: numbers(alloc, &[1, 2])?,
-    })?;
-    let mut blocks = Vec::new(alloc);
-    for (name, fixed, corners) in BLOCKS {
-        blocks.push(block(alloc, name, fixed, &corners)?)?;
-    }
-    let loads = Vec::new(alloc);
-    let model = Model::new(
-        alloc,
-        Parts {
-            materials,
-            blocks,
-            loads,
-        },
-    )?;
-    let survey = survey(alloc, model).ok().ok_or("no survey")?;
+    let survey = surveyed(alloc, &[1, 2], BLOCKS.as_slice(), &[])?;
     let table = contact_table(alloc, &survey)?;
     assert_eq!(rt; table.as_slice(), TABLE.as_bytes());
+    Ok(())
+}
+
+/// A post 2 wide and 4 high on level ground.
+const POST: [(&str, bool, [[i64; 2]; 4]); 2] = [
+    ("ground", true, [[-10, -1], [10, -1], [10, 0], [-10, 0]]),
+    ("post", false, [[0, 0], [2, 0], [2, 4], [0, 4]]),
+];
+
+fn forces(alloc: Global, scale: i128, factor: i128, list: &[(i128, i128)]) -> Result<Forces, Fail> {
+    Ok(Forces {
+        scale,
+        factor,
+        parts: list.to_vec(alloc)?,
+    })
+}
+
+/// The table of a certificate that the check accepts.
+fn accepted(
+    alloc: Global,
+    s: &Survey,
+    c: &Certificate,
+) -> Result<Result<Vec<u8>, ReportError>, Fail> {
+    match check(s, c) {
+        Check::Accepted => Ok(force_table(alloc, s, c)),
+        _ => Err(Fail::from("not accepted")),
+    }
+}
+
+const FORCES: &str = "greatest
+factor 2/1
+force 1 0/1 0/1
+force 2 -2/1 8/1
+move post 0 2 -1
+";
+
+#[test]
+fn the_forces_of_a_post_that_tips_are_told(rt: HostRuntime) -> Result<(), Fail> {
+    let alloc = rt.alloc();
+    let s = surveyed(alloc, &[1, 1], POST.as_slice(), &[("post", [0, 4])])?;
+    let carried = forces(alloc, 1, 2, &[(0, 0), (48, -12)])?;
+    let mut moves = Vec::new(alloc);
+    moves.push((0, 2, -1))?;
+    let c = Certificate::Greatest(carried, Motion { moves });
+    let table = accepted(alloc, &s, &c)?.ok().ok_or("no table")?;
+    assert_eq!(rt; table.as_slice(), FORCES.as_bytes());
+    Ok(())
+}
+
+/// Without live loads any factor is carried, also one of which six times is too wide.
+#[test]
+fn six_times_a_great_factor_is_too_wide(rt: HostRuntime) -> Result<(), Fail> {
+    let alloc = rt.alloc();
+    let s = surveyed(alloc, &[1, 1], POST.as_slice(), &[])?;
+    let base = forces(alloc, 1, 0, &[(24, 0), (24, 0)])?;
+    let ray = forces(alloc, 0, 1 << 125, &[(0, 0), (0, 0)])?;
+    let c = Certificate::Unbounded(base, ray);
+    assert_eq!(rt;
+        accepted(alloc, &s, &c)?.err(),
+        Some(ReportError::TooWide { index: 3 })
+    );
     Ok(())
 }

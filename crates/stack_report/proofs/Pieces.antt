@@ -1,0 +1,85 @@
+-- Lines that are added to a table, and the first number of them that passes.
+use Rattle.std.proofs.Common.{◌≡◌, sym, ap, subst, ◌∙◌, ℕ, ◌+◌, ◌<◌, not, List, [], ◌∷◌}
+use Rattle.std.proofs.Common.{◌++◌, length, get_or, drop, Option, Some, None, Result, Ok, Err}
+use Rattle.std.specs.Prelude.{String, string_bytes}
+use Rattle.std.specs.declared.alloc.Global.{Global}
+use lib.IntN.{ℤ, pos}
+use Rattle.stack_algebra.specs.Search.{first, only_if}
+use Rattle.stack_algebra.proofs.Search.{first_found, first_more}
+use Rattle.std.proofs.lemmas.List.{get_or_default}
+use Rattle.stack_whole.specs.declared.whole.Wide.{Wide}
+use Rattle.stack_contact.specs.declared.types.Bearing.{Bearing}
+use Rattle.stack_equilibrium.specs.declared.block.Push.{Push}
+use Rattle.stack_report.specs.declared.force.Force.{Force}
+use Rattle.stack_report.specs.declared.errors.ReportError.{ReportError}
+use Rattle.stack_report.specs.declared.errors.ReportError.TheVariants.{TooWide, Memory}
+use Rattle.stack_equilibrium.specs.SurveyScene.{no_bearing}
+use Rattle.stack_equilibrium.specs.WrittenSums.{push_at}
+use Rattle.stack_model.specs.Structure.{Structure}
+use Rattle.stack_certificate.specs.Certificate.{MotionValue}
+use Rattle.stack_report.specs.ContactTable.{name_of, lines_from}
+use Rattle.stack_report.specs.ForceNumbers.{one_spot, force_spot, written_force}
+use Rattle.stack_report.specs.ForceTable.{lowest, force_text, force_line, move_text, move_line}
+use Rattle.stack_report.specs.Tabling.{Adds}
+use Rattle.stack_report.proofs.ForcesMade.{force_ok, force_err}
+use Rattle.stack_report.proofs.LineByLine.{one_more}
+
+-- the line of a bearing whose numbers fit, and none where one passes
+pub one_line : (i : ℕ) (z : Bearing) (f : Push) (r : Force) (d : ℤ) (k : ℕ) (text : List ℕ) (t : String Global) →
+    written_force z f ≡ Ok r →
+    string_bytes t ≡ text ++ (force_text k (lowest r.x.value d) (lowest r.y.value d) ++ 10 ∷ []) →
+    Adds (Ok t) text (one_spot i z f) (force_line d k z f)
+one_line i z f r d k text t h e = let m = force_ok z f r h in (
+  ap (λ b. only_if (not b) i) m.fits,
+  e ∙ (λ j. text ++ (force_text k (lowest (m.x j) d) (lowest (m.y j) d) ++ 10 ∷ [])),
+)
+
+pub none_made : (i : ℕ) (z : Bearing) (f : Push) (w : Wide) → written_force z f ≡ Err w → one_spot i z f ≡ Some i
+none_made i z f w h = ap (λ b. only_if (not b) i) (force_err z f w h)
+
+-- what stops the lines of a list at an item stops them all
+pub stops : (e : ReportError) (n k : ℕ) (spot : ℕ → Option ℕ) (text more before after : List ℕ) → k < n →
+    first k spot ≡ None → Adds (Err e) text (spot k) more → Adds (Err e) before (first n spot) after
+stops (TooWide i) n k spot text more before after l none h = first_found n k spot i l none h
+stops Memory n k spot text more before after l none h = tt
+
+-- the lines of the bearings of a list, up to one that stops them
+module _ (d : ℤ) (i k : ℕ) (bs : List Bearing) (parts : List (ℤ × ℤ)) (f : Push) (is : f ≡ push_at parts k)
+    (l : k < length bs) (none : first k (force_spot i bs parts) ≡ None) where
+  abbrev own : Bearing
+  own = get_or bs k no_bearing
+
+  abbrev Line : Result (String Global) ReportError → List ℕ → Type 0
+  Line r text = Adds r text (one_spot (i + k) own f) (force_line d k own f)
+
+  pub bearing_stops : (e : ReportError) (text before after : List ℕ) → Line (Err e) text →
+      Adds (Err e) before (first (length bs) (force_spot i bs parts)) after
+  bearing_stops e text before after h = stops e (length bs) k (force_spot i bs parts) text
+      (force_line d k own (push_at parts k)) before after l none
+      (subst (λ f. Adds (Err e) text (one_spot (i + k) own f) (force_line d k own f)) is h)
+
+  abbrev line : ℕ → Bearing → List ℕ
+  line k z = force_line d k z (push_at parts k)
+
+  pub bearing_fits : (t : String Global) (text : List ℕ) → Line (Ok t) text →
+      first (k + 1) (force_spot i bs parts) ≡ None
+  bearing_fits t text h = first_more k (force_spot i bs parts) none (ap (one_spot (i + k) own) (sym is) ∙ h.0)
+
+  pub bearing_added : (t : String Global) (text whole : List ℕ) → Line (Ok t) text →
+      text ++ lines_from line k (drop k bs) ≡ whole →
+      string_bytes t ++ lines_from line (k + 1) (drop (k + 1) bs) ≡ whole
+  bearing_added t text whole h so_far = one_more line bs k own text (string_bytes t) whole l
+      (get_or_default bs k no_bearing own l) (h.1 ∙ ap (λ f. text ++ force_line d k own f) is) so_far
+
+-- the line of free block number b, which is body i
+pub move_added : (s : Structure) (y : MotionValue) (b : ℕ) (frees : List ℕ) (i : ℕ) (name : List ℕ)
+    (t : String Global) (text whole : List ℕ) → b < length frees → i ≡ get_or frees b 0 → name ≡ name_of s i →
+    string_bytes t ≡ text ++ (move_text name (get_or y b (pos 0, pos 0, pos 0)) ++ 10 ∷ []) →
+    text ++ lines_from (move_line s y) b (drop b frees) ≡ whole →
+    string_bytes t ++ lines_from (move_line s y) (b + 1) (drop (b + 1) frees) ≡ whole
+move_added s y b frees i name t text whole l number named e so_far =
+    one_more (move_line s y) frees b (get_or frees b 0) text (string_bytes t) whole l
+    (get_or_default frees b 0 (get_or frees b 0) l)
+    (e ∙ (λ j. text ++ (move_text ((named ∙ ap (name_of s) number) j) (get_or y b (pos 0, pos 0, pos 0))
+    ++ 10 ∷ [])))
+    so_far

@@ -1,0 +1,41 @@
+//! The lines of a table of forces, without their line feeds.
+
+ghost use Rattle.std.specs.Prelude.{Some};
+ghost use Rattle.stack_report.specs.ForceTable.{force_text, move_text};
+
+use crate::lines::number;
+use crate::ratio::Ratio;
+use std::fmt;
+
+/// The force of the bearing with this number, from 0, to the right and upwards.
+#[derive(Clone, Copy, Debug, PartialEq, Eq)]
+pub struct ForceLine {
+    pub index: usize,
+    pub x: Ratio,
+    pub y: Ratio,
+}
+
+/// The move of the block with this name: the velocity of its first stored corner and its turning rate.
+#[derive(Clone, Copy, Debug, PartialEq, Eq)]
+pub struct MoveLine<'a> {
+    pub name: &'a str,
+    pub u: i128,
+    pub v: i128,
+    pub r: i128,
+}
+
+impl fmt::Display for ForceLine {
+    ghost output = { λ l. Some (force_text l.index l.x l.y) };
+
+    fn fmt<W: fmt::Write>(&self, f: &mut fmt::Formatter<W>) -> fmt::Result {
+        write!(f, "force {} {} {}", number(self.index), self.x, self.y)
+    }
+}
+
+impl fmt::Display for MoveLine<'_> {
+    ghost output = { λ l. Some (move_text l.name.now (l.u, l.v, l.r)) };
+
+    fn fmt<W: fmt::Write>(&self, f: &mut fmt::Formatter<W>) -> fmt::Result {
+        write!(f, "move {} {} {} {}", self.name, self.u, self.v, self.r)
+    }
+}
