@@ -160,7 +160,12 @@ fn a_post_stands_after_four_pivots_and_bears_twice_its_push(rt: HostRuntime) -> 
 #[test]
 fn a_slender_post_is_too_wide_for_8_bits(rt: HostRuntime) -> Result<(), Fail> {
     let alloc = rt.alloc();
-    let contact = [[1, 50, 0, 0], [-1, 50, 0, 0], [1, 50, 50, 0], [-1, 50, 50, 0]];
+    let contact = [
+        [1, 50, 0, 0],
+        [-1, 50, 0, 0],
+        [1, 50, 50, 0],
+        [-1, 50, 50, 0],
+    ];
     let slender = problem(alloc, &contact, None, &[0, 24, 12])?;
     let place = Place {
         phase: 1,
