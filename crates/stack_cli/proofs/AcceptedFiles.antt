@@ -1,5 +1,6 @@
 -- The work up to the survey comes to one exactly for the files that are accepted models.
-use Rattle.std.proofs.Common.{◌≡◌, ℕ, ◌≤◌, List, [], ◌∷◌, Bool, true, false, Option, Some, Result, Ok, Err, inl, inr, length}
+use Rattle.std.proofs.Common.{◌≡◌, ℕ, ◌≤◌, List, [], ◌∷◌, Bool, true, false, Option, Some, None, Result, Ok, Err, inl}
+use Rattle.std.proofs.Common.{inr, length}
 use Rattle.std.proofs.Common.{subst, sym, ap, ◌∙◌, refl}
 use Rattle.std.proofs.lemmas.Option.{same_Some}
 use Rattle.std.specs.Prelude.{if◌then◌else◌, nat_lt}
@@ -14,6 +15,7 @@ use Rattle.stack_cli.specs.declared.refusal.Input.TheVariants as inputs
 use Rattle.stack_cli.specs.Refusals.{long}
 use Rattle.stack_cli.specs.Work.{Work, gives, refuses, ◌>>=◌, surveys, Found, Holds, MayHold, MayFind, Ends}
 use Rattle.stack_cli.specs.Surveying.{model_step, survey_step, modelled, surveyed, greatest_file}
+use Rattle.stack_cli.specs.Progress.{DoesAlone, IsSeenSurvey}
 use Rattle.stack_cli.specs.AcceptedModel.{IsAcceptedModel}
 
 survey_ends : (holds : Holds) (s : Structure) (found : Found) (v : Surveyed) (names : List (List ℕ)) → MayFind s found
@@ -67,3 +69,16 @@ all_accepted holds name bytes v told h = (
         (inr (Ok v, h.is_surveyed, (refl, refl))),
   ),
 )
+
+-- What the survey of a structure gives is its survey.
+surveyed_of : (holds : Holds) (s : Structure) (v : Surveyed) → Ends holds (surveys s (survey_step s)) [] (Ok v)
+    → IsSurvey s v
+surveyed_of holds s v (inl p) = absurd p.1
+surveyed_of holds s v (inr p) = survey_ends holds s p.0 v [] p.1 p.2
+
+-- So its structure is that one.
+pub same_structure : (s : Structure) (x : Surveyed) → DoesAlone IsSeenSurvey (surveys s (survey_step s)) (Ok x)
+    → x.structure ≡ s
+same_structure s x done =
+    let r = done (λ name. None) in
+    sym (ap (λ (v : Surveyed). v.structure) r.1) ∙ (surveyed_of (λ name. None) s r.0 r.2).structure

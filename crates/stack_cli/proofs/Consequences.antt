@@ -1,5 +1,6 @@
 -- The theorem on the top call, out of what the work leaves and what is given out.
-use Rattle.std.proofs.Common.{◌≡◌, ℕ, zero, suc, ◌<◌, ◌≤◌, ◌⊎◌, inl, inr, List, [], ◌∷◌, Option, Some, None, Result, Ok, Err, OnErr, subst, sym, ap, ◌∙◌, refl, arith}
+use Rattle.std.proofs.Common.{◌≡◌, ℕ, zero, suc, ◌<◌, ◌≤◌, ◌⊎◌, inl, inr, List, [], ◌∷◌, Option, Some, None, Result}
+use Rattle.std.proofs.Common.{Ok, Err, OnErr, subst, sym, ap, ◌∙◌, refl, arith}
 use Rattle.std.specs.Bool.{⊤}
 use Rattle.std.specs.Io.KnownBytes.{Appends, Keeps}
 use Rattle.stack_outside.specs.declared.error.SinkFailed.{SinkFailed}
@@ -12,7 +13,7 @@ use Rattle.stack_cli.specs.declared.refusal.Refusal.TheVariants as code
 use Rattle.stack_cli.specs.Words.{Form}
 use Rattle.stack_cli.specs.Refusals.{Refusal, words, file, faulty, output, refusal_view, status_of}
 use Rattle.stack_cli.specs.Refusals.{Fault, long, content, overlap, many_bearings, certificate_line, wide_check, memory}
-use Rattle.stack_cli.specs.Refusals.{wide_run, wide_end, over_budget, no_live}
+use Rattle.stack_cli.specs.Refusals.{size, wide_run, wide_end, wide_table, over_budget, no_live}
 use Rattle.stack_cli.specs.Answers.{Due, verdict_status}
 use Rattle.stack_cli.specs.Work.{Work, gives, refuses, reads, surveys, Holds, Ends}
 use Rattle.stack_cli.specs.Forms.{work_of}
@@ -92,10 +93,12 @@ fault_above (long input) = omega arith
 fault_above (content e) = omega arith
 fault_above (overlap first second) = omega arith
 fault_above (many_bearings count) = omega arith
+fault_above size = omega arith
 fault_above (certificate_line number) = omega arith
 fault_above (wide_check part place) = omega arith
 fault_above (wide_run place) = omega arith
 fault_above (wide_end place) = omega arith
+fault_above (wide_table index) = omega arith
 fault_above (over_budget budget) = omega arith
 fault_above no_live = omega arith
 fault_above memory = omega arith
@@ -105,10 +108,12 @@ fault_past_output (long input) is = omega arith
 fault_past_output (content e) is = omega arith
 fault_past_output (overlap first second) is = omega arith
 fault_past_output (many_bearings count) is = omega arith
+fault_past_output size is = omega arith
 fault_past_output (certificate_line number) is = omega arith
 fault_past_output (wide_check part place) is = omega arith
 fault_past_output (wide_run place) is = omega arith
 fault_past_output (wide_end place) is = omega arith
+fault_past_output (wide_table index) is = omega arith
 fault_past_output (over_budget budget) is = omega arith
 fault_past_output no_live is = omega arith
 fault_past_output memory is = omega arith

@@ -1,5 +1,6 @@
 -- A file that was read, or not, as the work of reading it.
-use Rattle.std.proofs.Common.{◌≡◌, ℕ, suc, ◌<◌, ◌≤◌, List, [], ◌∷◌, inl, inr, length, replicate, Option, Some, None, Result, Ok, Err, Vec, subst, sym, refl, ◌∙◌, append-nil, arith}
+use Rattle.std.proofs.Common.{◌≡◌, ℕ, suc, ◌<◌, ◌≤◌, List, [], ◌∷◌, inl, inr, length, replicate, Option, Some, None}
+use Rattle.std.proofs.Common.{Result, Ok, Err, Vec, subst, sym, refl, ◌∙◌, append-nil, arith}
 use Rattle.std.specs.Bool.{⊤}
 use Rattle.std.specs.declared.alloc.Global.{Global}
 use Rattle.std.specs.Prelude.{IfSome}

@@ -1,5 +1,6 @@
 -- The work on a form asks for no files but those that its words name, in their order.
-use Rattle.std.proofs.Common.{◌≡◌, ℕ, suc, true, false, List, [], ◌∷◌, ◌++◌, take, inl, inr, Option, Some, None, Result, Ok, Err, length, subst, sym, refl, ◌∙◌, ap}
+use Rattle.std.proofs.Common.{◌≡◌, ℕ, suc, true, false, List, [], ◌∷◌, ◌++◌, take, inl, inr, Option, Some, None}
+use Rattle.std.proofs.Common.{Result, Ok, Err, length, subst, sym, refl, ◌∙◌, ap}
 use Rattle.std.specs.Bool.{⊤}
 use Rattle.std.specs.Prelude.{nat_lt, if◌then◌else◌}
 use Rattle.stack_model.specs.Structure.{Structure}
@@ -12,16 +13,22 @@ use Rattle.stack_checker.specs.declared.types.Check.{Check}
 use Rattle.stack_checker.specs.declared.types.Check.TheVariants.{Accepted, Rejected, TooWide}
 use Rattle.stack_checker.specs.WrittenCheck.{written_check}
 use Rattle.stack_equilibrium.specs.declared.types.Question.{Question}
+use Rattle.stack_equilibrium.specs.declared.types.Question.TheVariants.{Live}
 use Rattle.stack_judge.specs.Judgement.{Judgement, certified as is_certified, too_wide, spent, judgement}
 use Rattle.stack_cli.specs.declared.refusal.Input.{Input}
 use Rattle.stack_cli.specs.declared.refusal.Input.TheVariants as inputs
-use Rattle.stack_cli.specs.Words.{Form, check, contacts, judges, files_of}
+use Rattle.stack_cli.specs.Words.{Form, check, contacts, judges, tables, stack, sample, default_budget, files_of}
 use Rattle.stack_cli.specs.Refusals.{Refusal, long, no_live}
 use Rattle.stack_cli.specs.Answers.{Due}
 use Rattle.stack_cli.specs.Work.{Work, gives, refuses, reads, surveys, ◌>>=◌, Found, Holds, Ends}
 use Rattle.stack_cli.specs.Surveying.{greatest_file, read, model_step, survey_step, modelled, surveyed}
 use Rattle.stack_cli.specs.Checking.{certificate_step, check_step, certified, checked, check_work}
 use Rattle.stack_cli.specs.Listing.{contacts_work}
+use Rattle.stack_cli.specs.Tables.{tabled_by, table_step, tabled_file, table_work}
+use Rattle.stack_cli.specs.Stacking.{stack_of, built_step, stack_work}
+use Rattle.stack_cli.specs.Sampling.{sample_of, sample_step, wall_sampled, sample_work}
+use Rattle.stack_report.specs.ForceNumbers.{wide_index}
+use Rattle.stack_overhang.specs.declared.error.StackError.{StackError}
 use Rattle.stack_cli.specs.Judging.{lacks_live, judged_step, judged, judge_work}
 use Rattle.stack_cli.specs.Forms.{work_of}
 use Rattle.stack_cli.specs.Progress.{Names, GrewBy, Way}
@@ -106,13 +113,46 @@ judged_asks q budget v = elim (lacks_live q v.structure)
     as (λ b. AsksOnly (if b then refuses no_live else judged_step q budget v (judgement q v budget)) [])
     [ true ↦ tt | false ↦ judgement_asks q budget v (judgement q v budget) ]
 
+tables_asks : (v : Surveyed) (c : CertificateValue) (o : Option ℕ) → AsksOnly (tabled_by v c o) []
+tables_asks v c None = refl
+tables_asks v c (Some index) = tt
+
+table_asks : (v : Surveyed) (c : CertificateValue) (k : Check) → AsksOnly (table_step v c k) []
+table_asks v c Accepted = tables_asks v c (wide_index v c)
+table_asks v c (Rejected part reason) = refl
+table_asks v c (TooWide place) = tt
+
+tabled_asks : (name : List ℕ) (v : Surveyed) → AsksOnly (tabled_file name v) (name ∷ [])
+unfolding tabled_file
+tabled_asks name v =
+    asks_then (read inputs.Certificate name) _ (name ∷ []) [] (read_asks inputs.Certificate name)
+    (λ text. asks_then (certificate_step (certificate_of text)) _ [] [] (certificate_asks (certificate_of text))
+    (λ c. table_asks v c (written_check v c)))
+
+built_asks : (r : Result Structure StackError) → AsksOnly (built_step r) []
+built_asks (Ok s) = refl
+built_asks (Err e) = tt
+
+sample_asks : (number : ℕ) (v : Surveyed) (j : Judgement) → AsksOnly (sample_step number v j) []
+sample_asks number v (is_certified c) = refl
+sample_asks number v (too_wide p) = tt
+sample_asks number v spent = tt
+
+wall_asks : (number : ℕ) (s : Structure) → AsksOnly (wall_sampled number s) []
+wall_asks number s = asks_then (surveys s (survey_step s)) _ [] [] (λ found. survey_asks s found)
+    (λ v. sample_asks number v (judgement Live v default_budget))
+
 -- Each form: one clause.
 form_asks : (form : Form) → AsksOnly (work_of form) (files_of (Some form))
-unfolding check_work contacts_work judge_work
+unfolding check_work contacts_work judge_work table_work stack_work sample_work
 form_asks (check model certificate) =
     asks_then (surveyed model) _ (model ∷ []) (certificate ∷ []) (surveyed_asks model) (checked_asks certificate)
 form_asks (judges question model budget) = asks_then (surveyed model) _ (model ∷ []) [] (surveyed_asks model)
     (λ v. judged_asks question budget v)
+form_asks (tables model certificate) =
+    asks_then (surveyed model) _ (model ∷ []) (certificate ∷ []) (surveyed_asks model) (tabled_asks certificate)
+form_asks (stack kind n) = asks_then (built_step (stack_of kind n)) _ [] [] (built_asks (stack_of kind n)) (λ s. refl)
+form_asks (sample n) = asks_then (built_step (sample_of n)) _ [] [] (built_asks (sample_of n)) (wall_asks n)
 form_asks (contacts model) = asks_then (surveyed model) _ (model ∷ []) [] (surveyed_asks model) (λ v. refl)
 
 pub asked_named : (holds : Holds) (form : Option Form) (names : List (List ℕ)) (end : Result Due Refusal)

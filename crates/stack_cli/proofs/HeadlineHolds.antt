@@ -1,5 +1,6 @@
 -- The five cases of `stand` and `load`, out of the theorem on the top call and of the one end of their work.
-use Rattle.std.proofs.Common.{◌≡◌, refl, sym, subst, ap, ◌∙◌, ℕ, ◌≤◌, Bool, true, false, not, List, [], ◌∷◌, Option, Some, None, Result, Ok, Err, inl, inr, ◌⊎◌, arith}
+use Rattle.std.proofs.Common.{◌≡◌, refl, sym, subst, ap, ◌∙◌, ℕ, ◌≤◌, Bool, true, false, not, List, [], ◌∷◌, Option}
+use Rattle.std.proofs.Common.{Some, None, Result, Ok, Err, inl, inr, ◌⊎◌, arith}
 use Rattle.std.specs.List.{list_any}
 use Rattle.std.specs.Io.KnownBytes.{Keeps}
 use Rattle.std.proofs.lemmas.List.Folds.{list_any_at}
@@ -14,7 +15,8 @@ use Rattle.stack_certified.specs.Certified.{certificate_of}
 use Rattle.stack_judge.specs.declared.types.JudgePlace.{JudgePlace}
 use Rattle.stack_judge.specs.declared.types.JudgePlace.TheVariants as places
 use Rattle.stack_judge.specs.EndPlace.{end_place}
-use Rattle.stack_judge.specs.Judgement.{Judgement, certified, too_wide, spent, judged_by, judgement_of, judgement, survey_run, LacksLive}
+use Rattle.stack_judge.specs.Judgement.{Judgement, certified, too_wide, spent, judged_by, judgement_of, judgement}
+use Rattle.stack_judge.specs.Judgement.{survey_run, LacksLive}
 use Rattle.stack_cli.specs.Refusals.{Refusal, words, file, faulty, output, memory, over_budget, no_live, status_of}
 use Rattle.stack_cli.specs.Words.{Form, judges}
 use Rattle.stack_cli.specs.Answers.{Due, certificate, verdict_status}

@@ -1,5 +1,6 @@
 -- The ends of the work on a judgement.
-use Rattle.std.proofs.Common.{◌≡◌, refl, sym, subst, ◌∙◌, ℕ, ◌<◌, Bool, true, false, not, List, [], Option, Result, Ok, Err, inl, inr, ◌⊎◌, length}
+use Rattle.std.proofs.Common.{◌≡◌, refl, sym, subst, ◌∙◌, ℕ, ◌<◌, Bool, true, false, not, List, [], Option, Result}
+use Rattle.std.proofs.Common.{Ok, Err, inl, inr, ◌⊎◌, length}
 use Rattle.std.specs.Prelude.{if◌then◌else◌}
 use Rattle.std.specs.List.{list_any}
 use Rattle.std.proofs.lemmas.List.{get_or_default}

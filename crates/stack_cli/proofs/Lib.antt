@@ -4,11 +4,13 @@ mod FileRead
 mod OneEnd
 mod FilesNamed
 mod CertificateChecked
+mod CertificateTabled
+mod SampleEnds
 mod Consequences
 mod Called
 mod AcceptedFiles
 mod BodyNames
-mod Budgets
+mod WordNumbers
 mod JudgementEnds
 mod HeadlineHolds
 mod PrintedAccepted

@@ -1,5 +1,6 @@
 -- Two settled ends of the same work, over files that are told, are the same, and ask for the same files.
-use Rattle.std.proofs.Common.{◌≡◌, ℕ, List, [], ◌∷◌, ◌⊎◌, inl, inr, Option, Some, None, Result, Ok, Err, subst, sym, ◌∙◌, ap}
+use Rattle.std.proofs.Common.{◌≡◌, ℕ, List, [], ◌∷◌, ◌⊎◌, inl, inr, Option, Some, None, Result, Ok, Err, subst, sym}
+use Rattle.std.proofs.Common.{◌∙◌, ap}
 use Rattle.stack_cli.specs.declared.refusal.Input.{Input}
 use Rattle.std.specs.Bool.{⊤}
 use Rattle.stack_model.specs.Structure.{Structure}
@@ -11,7 +12,8 @@ use Rattle.stack_cli.specs.Answers.{Due}
 use Rattle.stack_cli.specs.Forms.{work_of}
 use Rattle.stack_cli.specs.Progress.{Way}
 use Rattle.stack_cli.specs.Refusals.{Refusal, file, faulty, memory}
-use Rattle.stack_cli.specs.Work.{Work, gives, refuses, reads, surveys, Found, Holds, MayHold, MayFind, Ends, EndsGiving, EndsWith}
+use Rattle.stack_cli.specs.Work.{Work, gives, refuses, reads, surveys, Found, Holds, MayHold, MayFind, Ends}
+use Rattle.stack_cli.specs.Work.{EndsGiving, EndsWith}
 use Rattle.stack_cli.specs.OneEnd.{AreTold, IsSettledRefusal, IsSettled, WordsHaveOneEnd}
 
 -- What the survey of a structure comes to is one, where memory isn't wanting.

@@ -1,5 +1,6 @@
 -- One function of the order of work after another.
-use Rattle.std.proofs.Common.{◌≡◌, ℕ, List, [], ◌++◌, Option, Some, None, Result, Ok, Err, subst, sym, refl, ◌∙◌, ap, append_assoc, append-nil}
+use Rattle.std.proofs.Common.{◌≡◌, ℕ, List, [], ◌++◌, Option, Some, None, Result, Ok, Err, subst, sym, refl, ◌∙◌, ap}
+use Rattle.std.proofs.Common.{append_assoc, append-nil}
 use Rattle.stack_cli.specs.declared.refusal.Refusal.{Refusal as CodeRefusal}
 use Rattle.stack_cli.specs.Refusals.{refusal_view}
 use Rattle.stack_cli.specs.Work.{Work, ◌>>=◌, Holds, Ends}
@@ -72,3 +73,13 @@ pub works_alone : (holds : Holds) (form : Form) (of_words : Option Form) (old : 
     → Works holds of_words old old result
 works_alone holds form of_words old result same p =
     subst (λ f. Works holds f old old result) same (alone Answers holds (work_of form) old result p)
+
+-- Two functions without a shelf, one after the other, and where the first refused.
+pub alone_then : {A B X Y : Type 0} (R : Y → B → Type 0) (view : X → A) (w : Work A) (f : A → Work B) (x : X)
+    (result : Result Y CodeRefusal) → DoesAlone (IsSeen view) w (Ok x) → DoesAlone R (f (view x)) result
+    → DoesAlone R (w >>= f) result
+alone_then R view w f x result p q = λ holds. comes_on R view holds w f [] [] x result (p holds) (q holds)
+
+pub alone_refused : {A B X Y : Type 0} (S : X → A → Type 0) (R : Y → B → Type 0) (w : Work A) (f : A → Work B)
+    (r : CodeRefusal) → DoesAlone S w (Err r) → DoesAlone R (w >>= f) (Err r)
+alone_refused S R w f r p = λ holds. stops holds w f [] (refusal_view r) (p holds)

@@ -1,12 +1,18 @@
 -- The work on each form of words. A further form is a further case.
-use Rattle.stack_cli.specs.Words.{Form, check, contacts, judges}
+use Rattle.stack_cli.specs.Words.{Form, check, contacts, judges, tables, stack, sample}
 use Rattle.stack_cli.specs.Answers.{Due}
 use Rattle.stack_cli.specs.Work.{Work}
 use Rattle.stack_cli.specs.Checking.{check_work}
 use Rattle.stack_cli.specs.Listing.{contacts_work}
 use Rattle.stack_cli.specs.Judging.{judge_work}
+use Rattle.stack_cli.specs.Tables.{table_work}
+use Rattle.stack_cli.specs.Stacking.{stack_work}
+use Rattle.stack_cli.specs.Sampling.{sample_work}
 
 abbrev pub work_of : Form → Work Due
 work_of (check model certificate) = check_work model certificate
 work_of (contacts model) = contacts_work model
 work_of (judges question model budget) = judge_work question model budget
+work_of (tables model certificate) = table_work model certificate
+work_of (stack kind n) = stack_work kind n
+work_of (sample n) = sample_work n

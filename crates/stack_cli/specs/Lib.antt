@@ -8,6 +8,9 @@ pub mod Surveying
 pub mod Checking
 pub mod Listing
 pub mod Judging
+pub mod Tables
+pub mod Stacking
+pub mod Sampling
 pub mod Forms
 pub mod Progress
 pub mod OneEnd

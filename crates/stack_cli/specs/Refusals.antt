@@ -31,18 +31,20 @@ pub data Place : Type 0 where
   apart : Place
 
 -- Why the work on a form refuses: a file is too long; the model's file has a fault; two bodies overlap, told by their
--- names; the bearings are too many; the certificate's text ends to be one at a line, from 1; a number of the check,
--- of the run or of what is made of its end is too wide; a pivot is due when the budget's are done; no live load is
--- listed; memory is wanting.
+-- names; the bearings are too many; a built-in model has no such size; the certificate's text ends to be one at a line,
+-- from 1; a number of the check, of the run, of what is made of its end or of the table of forces is too wide; a pivot is
+-- due when the budget's are done; no live load is listed; memory is wanting.
 pub data Fault : Type 0 where
   long : Input → Fault
   content : ReadError → Fault
   overlap : List ℕ → List ℕ → Fault
   many_bearings : ℕ → Fault
+  size : Fault
   certificate_line : ℕ → Fault
   wide_check : Part → Place → Fault
   wide_run : RunPlace → Fault
   wide_end : ExtractPlace → Fault
+  wide_table : ℕ → Fault
   over_budget : ℕ → Fault
   no_live : Fault
   memory : Fault
@@ -69,10 +71,12 @@ refusal_view (code.Long input) = faulty (long input)
 refusal_view (code.Fault e) = faulty (content e)
 refusal_view (code.Overlap first second) = faulty (overlap (string_bytes first) (string_bytes second))
 refusal_view (code.ManyBearings count) = faulty (many_bearings count)
+refusal_view code.Size = faulty size
 refusal_view (code.CertificateLine number) = faulty (certificate_line number)
 refusal_view (code.WideCheck part place) = faulty (wide_check part (place_view place))
 refusal_view (code.WideRun place) = faulty (wide_run place)
 refusal_view (code.WideEnd place) = faulty (wide_end place)
+refusal_view (code.WideTable index) = faulty (wide_table index)
 refusal_view (code.Spent budget) = faulty (over_budget budget)
 refusal_view code.NoLive = faulty no_live
 refusal_view code.Output = output
@@ -84,10 +88,12 @@ fault_status (long input) = 4
 fault_status (content e) = 5
 fault_status (overlap first second) = 5
 fault_status (many_bearings count) = 5
+fault_status size = 5
 fault_status (certificate_line number) = 6
 fault_status (wide_check part place) = 7
 fault_status (wide_run place) = 7
 fault_status (wide_end place) = 7
+fault_status (wide_table index) = 7
 fault_status (over_budget budget) = 8
 fault_status no_live = 9
 fault_status memory = 11
@@ -152,10 +158,12 @@ fault_line (long input) = codes "long " ++ input_word input
 fault_line (content e) = codes "model " ++ fault_text e
 fault_line (overlap first second) = codes "model overlap " ++ first ++ codes " " ++ second
 fault_line (many_bearings count) = codes "model too many bearings " ++ decimal count
+fault_line size = codes "model size"
 fault_line (certificate_line number) = codes "certificate line " ++ decimal number
 fault_line (wide_check part place) = codes "wide check " ++ part_word part ++ codes " " ++ place_text place
 fault_line (wide_run place) = codes "wide run " ++ run_text place
 fault_line (wide_end place) = codes "wide end " ++ end_text place
+fault_line (wide_table index) = codes "wide table " ++ decimal index
 fault_line (over_budget budget) = codes "spent " ++ decimal budget
 fault_line no_live = codes "no live load"
 fault_line memory = codes "memory"

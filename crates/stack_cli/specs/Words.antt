@@ -1,5 +1,7 @@
 -- The forms of words, and the files that each names. A further form of words is a further case of each.
-use Rattle.std.specs.Prelude.{◌≢◌, ⊤, ℕ, ◌^◌, List, [], ◌∷◌, map, codes, decimal, ◌&&◌, nat_lt, Option, Some, None, String, string_bytes, if◌then◌else◌}
+use Rattle.std.specs.Prelude.{◌≢◌, ⊤, ℕ, ◌^◌, List, [], ◌∷◌, map, codes, decimal, ◌&&◌, nat_lt, Option, Some, None}
+use Rattle.std.specs.Prelude.{String, string_bytes, if◌then◌else◌}
+use Rattle.std.specs.Option.{option_map}
 use Rattle.std.specs.Str.Parse.{digits_value}
 use Rattle.std.specs.Str.{bytes_eq}
 use Rattle.std.specs.declared.alloc.Global.{Global}
@@ -7,27 +9,34 @@ use Rattle.stack_equilibrium.specs.declared.types.Question.{Question}
 use Rattle.stack_equilibrium.specs.declared.types.Question.TheVariants.{Dead, Live}
 use Rattle.stack_cli.specs.declared.words.Form.{Form as CodeForm}
 use Rattle.stack_cli.specs.declared.words.Form.TheVariants as code
+use Rattle.stack_cli.specs.declared.words.Kind.{Kind}
+use Rattle.stack_cli.specs.declared.words.Kind.TheVariants.{Harmonic, Triangle, Slab}
 use Rattle.stack_cli.specs.declared.given.Given.{Given as CodeGiven}
 use Rattle.stack_cli.specs.declared.given.Given.TheVariants as given
 
--- What the words ask for: `check MODEL CERT`, `contacts MODEL`, or a judgement of a model within a budget of pivots,
--- with any words as the names of the files.
+-- What the words ask for: `check MODEL CERT`, `table MODEL CERT`, `contacts MODEL`, or a judgement of a model within a
+-- budget of pivots, with any words as the names of the files; `stack KIND N`, or `sample N`, which read none.
 pub data Form : Type 0 where
   check : List ℕ → List ℕ → Form
   contacts : List ℕ → Form
   judges : Question → List ℕ → ℕ → Form
+  tables : List ℕ → List ℕ → Form
+  stack : Kind → ℕ → Form
+  sample : ℕ → Form
 
 -- The form that the code holds, by bytes.
 abbrev pub form_view : CodeForm → Form
 form_view (code.Check model certificate) = check model.now certificate.now
 form_view (code.Contacts model) = contacts model.now
 form_view (code.Judge question model budget) = judges question model.now budget
+form_view (code.Table model certificate) = tables model.now certificate.now
+form_view (code.Stack kind size) = stack kind size
+form_view (code.Sample number) = sample number
 
 -- A budget isn't 0.
 abbrev pub HasBudget : CodeForm → Type 0
-HasBudget (code.Check model certificate) = ⊤
-HasBudget (code.Contacts model) = ⊤
 HasBudget (code.Judge question model budget) = budget ≢ 0
+HasBudget _ = ⊤
 
 -- The words, as bytes.
 abbrev pub texts : List (String Global) → List (List ℕ)
@@ -42,21 +51,50 @@ question_of word = if bytes_eq word (codes "stand") then Some Dead
 abbrev pub default_budget : ℕ
 default_budget = 20000
 
--- The budget that a word spells: a number from 1 to 2^32 - 1 in decimal, without sign or leading zeros.
+-- The number that a word spells: from 0 to 2^32 - 1 in decimal, without sign or leading zeros.
+abbrev pub number_of : List ℕ → Option ℕ
+number_of word = let n = digits_value 10 word in
+    if nat_lt n (2 ^ 32) && bytes_eq (decimal n) word then Some n else None
+
+-- A budget isn't 0.
+abbrev pub unless_zero : Option ℕ → Option ℕ
+unless_zero None = None
+unless_zero (Some n) = if nat_lt 0 n then Some n else None
+
+-- The budget that a word spells.
 abbrev pub budget_of : List ℕ → Option ℕ
-budget_of word = let n = digits_value 10 word in
-    if nat_lt 0 n && (nat_lt n (2 ^ 32) && bytes_eq (decimal n) word) then Some n else None
+budget_of word = unless_zero (number_of word)
 
 abbrev pub judging : Option Question → List ℕ → Option ℕ → Option Form
 judging (Some question) model (Some budget) = Some (judges question model budget)
 judging _ model budget = None
 
+-- The kind of a built-in stack.
+abbrev pub kind_of : List ℕ → Option Kind
+kind_of word = if bytes_eq word (codes "harmonic") then Some Harmonic
+    else (if bytes_eq word (codes "triangle") then Some Triangle
+    else (if bytes_eq word (codes "slab") then Some Slab else None))
+
+abbrev pub stacking : Option Kind → Option ℕ → Option Form
+stacking (Some kind) (Some n) = Some (stack kind n)
+stacking _ n = None
+
+-- The form of a word before one more, and before two more.
+abbrev pub form_of_two : List ℕ → List ℕ → Option Form
+form_of_two word last = if bytes_eq word (codes "contacts") then Some (contacts last)
+    else (if bytes_eq word (codes "sample") then option_map sample (number_of last)
+    else judging (question_of word) last (Some default_budget))
+
+abbrev pub form_of_three : List ℕ → List ℕ → List ℕ → Option Form
+form_of_three word next last = if bytes_eq word (codes "check") then Some (check next last)
+    else (if bytes_eq word (codes "table") then Some (tables next last)
+    else (if bytes_eq word (codes "stack") then stacking (kind_of next) (number_of last)
+    else judging (question_of word) next (budget_of last)))
+
 -- The form of the words, if they have one.
 abbrev pub form_of : List (List ℕ) → Option Form
-form_of (word ∷ model ∷ []) = if bytes_eq word (codes "contacts") then Some (contacts model)
-    else judging (question_of word) model (Some default_budget)
-form_of (word ∷ model ∷ last ∷ []) = if bytes_eq word (codes "check") then Some (check model last)
-    else judging (question_of word) model (budget_of last)
+form_of (word ∷ last ∷ []) = form_of_two word last
+form_of (word ∷ next ∷ last ∷ []) = form_of_three word next last
 form_of _ = None
 
 -- The words that the runtime gave: where one of them can't be read, or there is no memory for them, they are no form.
@@ -71,3 +109,6 @@ files_of None = []
 files_of (Some (check model certificate)) = model ∷ certificate ∷ []
 files_of (Some (contacts model)) = model ∷ []
 files_of (Some (judges question model budget)) = model ∷ []
+files_of (Some (tables model certificate)) = model ∷ certificate ∷ []
+files_of (Some (stack kind n)) = []
+files_of (Some (sample n)) = []

@@ -8,6 +8,9 @@ ghost use Rattle.stack_cli.specs.Progress.{Fails, Works};
 pub mod checking;
 pub mod judging;
 pub mod listing;
+pub mod sampling;
+pub mod stacking;
+pub mod tabling;
 
 use crate::answer::Answer;
 use crate::refusal::Refusal;
@@ -15,8 +18,11 @@ use crate::words::{Form, parse_form};
 use checking::check_form;
 use judging::judge_form;
 use listing::contacts_form;
+use sampling::sample_form;
 use stack_outside::Shelf;
+use stacking::stack_form;
 use std::alloc::Global;
+use tabling::table_form;
 
 /// The answer to the words, or the first step of the order of work that refuses.
 pub fn answer_words<F: Shelf>(
@@ -39,6 +45,9 @@ pub fn answer_words<F: Shelf>(
                 budget,
             },
         ) => judge_form(alloc, shelf, question, model, budget),
+        Some(Form::Table { model, certificate }) => table_form(alloc, shelf, model, certificate),
+        Some(Form::Stack { kind, size }) => stack_form(alloc, kind, size),
+        Some(Form::Sample { number }) => sample_form(alloc, number),
         None => Err(Refusal::Words),
     }
 }

@@ -1,8 +1,11 @@
 //! Why a run refuses, with the status and the line of each refusal.
 
 ghost use Rattle.std.specs.Prelude.{◌≡◌, Some};
-ghost use Rattle.stack_cli.specs.Refusals.{input_word, part_word, axis_word, step_word, spot_text, numbers_word, end_step_word, place_text, balance_of, place_view, status_of, line_of, refusal_view, faulty};
+ghost use Rattle.stack_cli.specs.Refusals.{input_word, part_word, axis_word, step_word, spot_text, numbers_word};
+ghost use Rattle.stack_cli.specs.Refusals.{end_step_word, place_text, balance_of, place_view, status_of, line_of};
+ghost use Rattle.stack_cli.specs.Refusals.{refusal_view, faulty};
 ghost use Rattle.stack_cli.specs.Surveying.{from_read};
+ghost use Rattle.stack_cli.specs.Stacking.{built_fault};
 ghost use Rattle.stack_cli.specs.declared.refusal.Refusal.TheVariants.{Memory};
 
 use crate::model_lines::{FaultText, number};
@@ -10,6 +13,7 @@ use stack_checker::types::Part;
 use stack_equilibrium::types::Axis;
 use stack_extract::{EndStep, ExtractPlace, Numbers};
 use stack_model::ModelError;
+use stack_overhang::StackError;
 use stack_reader::ReadError;
 use stack_simplex::Place as RunPlace;
 use stack_table::types::Step;
@@ -55,6 +59,8 @@ pub enum Refusal {
     Overlap { first: String, second: String },
     /// There are more than 1,024 bearings, so many.
     ManyBearings { count: usize },
+    /// There is no built-in model of this size.
+    Size,
     /// The certificate's file is no certificate: the least number of a line, from 1, up to which it begins none.
     CertificateLine { number: usize },
     /// A number of the check is too wide, in this part of the certificate.
@@ -63,6 +69,8 @@ pub enum Refusal {
     WideRun { place: RunPlace },
     /// A number that is made of the end of the run passes.
     WideEnd { place: ExtractPlace },
+    /// A number of the table of forces passes, the first one with this index in the order in which they are made.
+    WideTable { index: usize },
     /// A pivot is due, and this many are done.
     Spent { budget: u32 },
     /// No live load is listed.
@@ -85,10 +93,12 @@ impl Refusal {
             Refusal::Fault(_) => 5,
             Refusal::Overlap { .. } => 5,
             Refusal::ManyBearings { .. } => 5,
+            Refusal::Size => 5,
             Refusal::CertificateLine { .. } => 6,
             Refusal::WideCheck { .. } => 7,
             Refusal::WideRun { .. } => 7,
             Refusal::WideEnd { .. } => 7,
+            Refusal::WideTable { .. } => 7,
             Refusal::Spent { .. } => 8,
             Refusal::NoLive => 9,
             Refusal::Output => 10,
@@ -230,6 +240,7 @@ impl fmt::Display for Refusal {
             }
             Refusal::Overlap { first, second } => write!(f, "model overlap {first} {second}"),
             Refusal::ManyBearings { count } => write!(f, "model too many bearings {count}"),
+            Refusal::Size => f.write_str("model size"),
             Refusal::CertificateLine { number } => write!(f, "certificate line {number}"),
             Refusal::WideCheck { part, place } => {
                 write!(f, "wide check {} {place}", part_text(*part))
@@ -243,6 +254,7 @@ impl fmt::Display for Refusal {
                 let step = end_step_text(place.step);
                 write!(f, "wide end {list} {step} {}", place.index)
             }
+            Refusal::WideTable { index } => write!(f, "wide table {index}"),
             Refusal::Spent { budget } => write!(f, "spent {budget}"),
             Refusal::NoLive => f.write_str("no live load"),
             Refusal::Output => f.write_str("output"),
@@ -267,6 +279,17 @@ impl From<ReadError> for Refusal {
             ReadError::Memory => Refusal::Memory,
             ReadError::Model(ModelError::Memory) => Refusal::Memory,
             _ => Refusal::Fault(e),
+        }
+    }
+}
+
+impl From<StackError> for Refusal {
+    ghost from_gives = { λ e r. refusal_view r ≡ faulty (built_fault e) };
+
+    fn from(e: StackError) -> Refusal {
+        match e {
+            StackError::Size => Refusal::Size,
+            StackError::Memory => Refusal::Memory,
         }
     }
 }

@@ -37,7 +37,7 @@ fn name_at(names: &[String], i: usize) -> &str
 }
 
 /// The survey of a model. The model is consumed, so its names are read before.
-fn survey_model(alloc: Global, model: Model) -> Result<Survey, Refusal>
+pub fn survey_model(alloc: Global, model: Model) -> Result<Survey, Refusal>
     ensures does { DoesAlone IsSeenSurvey (surveys (model_view model) (survey_step (model_view model))) result }
     ensures no_file { Fails result ⊥ }
 {

@@ -33,6 +33,27 @@ const FORCES: &str = "stands\nforces 1 0\npush 24 0\npush 24 0\nend\n";
 const TABLE: &str =
     "bearings 2\nbearing 1 ground post 0 0 1 0 1 1\nbearing 2 ground post 2 0 1 0 1 1\ntouches 0\n";
 
+/// The same with the forces of FORCES.
+const TABLES: &str = "bearings 2
+bearing 1 ground post 0 0 1 0 1 1
+bearing 2 ground post 2 0 1 0 1 1
+touches 0
+stands
+factor 0/1
+force 1 0/1 4/1
+force 2 0/1 4/1
+";
+
+/// The summary of the first wall.
+const SAMPLE: &str = "sample 0
+blocks 4
+bearings 14
+touches 0
+verdict greatest
+factor 120/1
+narrow yes
+";
+
 const CHECK: [&str; 3] = ["check", "model", "certificate"];
 
 const CONTACTS: [&str; 2] = ["contacts", "model"];
@@ -98,6 +119,19 @@ fn each_form_is_answered(rt: HostRuntime) -> Result<(), Fail> {
 }
 
 #[test]
+fn tables_and_built_in_models_are_answered(rt: HostRuntime) -> Result<(), Fail> {
+    let alloc = rt.alloc();
+    let mut files = shelf(alloc, FORCES, Vec::new(alloc))?;
+    let table = ["table", "model", "certificate"];
+    compare(&rt, alloc, &mut files, &table, (0, TABLES, ""))?;
+    compare(&rt, alloc, &mut files, &["sample", "0"], (0, SAMPLE, ""))?;
+    let slab = ["stack", "slab", "7"];
+    compare(&rt, alloc, &mut files, &slab, (5, "", "model size\n"))?;
+    assert_eq!(rt; files.asked().len(), 2);
+    Ok(())
+}
+
+#[test]
 fn the_post_is_judged(rt: HostRuntime) -> Result<(), Fail> {
     let alloc = rt.alloc();
     let mut files = shelf(alloc, FORCES, Vec::new(alloc))?;
@@ -130,6 +164,7 @@ fn a_certificate_that_is_kept_whole_stands(rt: HostRuntime) -> Result<(), Fail> 
     );
     assert!(rt; out.written().starts_with(b"stands\n"));
     assert!(rt; out.written().ends_with(b"end\n"));
+    assert_eq!(rt; out.calls() + err.calls(), 2);
     assert_eq!(rt; err.written(), b"output\n".as_slice());
     Ok(())
 }
@@ -201,5 +236,13 @@ fn devices_that_fail_are_told_apart(rt: HostRuntime) -> Result<(), Fail> {
         3
     );
     assert_eq!(rt; idle.written().len() + silent.written().len(), 0);
+    assert_eq!(rt; idle.calls() + silent.calls(), 1);
+    let words = strings(alloc, &CONTACTS)?;
+    let mut narrow = MemorySink::new(Vec::new(alloc), 10)?;
+    assert_eq!(rt;
+        run(alloc, words.as_slice(), &mut files, &mut narrow, &mut err),
+        10
+    );
+    assert_eq!(rt; narrow.written().len(), 0);
     Ok(())
 }

@@ -2,10 +2,24 @@
 
 ghost use Rattle.std.specs.Prelude.{◌≡◌, ◌≢◌, IfSome};
 ghost use Rattle.std.specs.Option.{option_map};
-ghost use Rattle.stack_cli.specs.Words.{form_of, form_view, HasBudget, texts, question_of as question_of_word, budget_of as budget_of_word, judging as judging_of};
+ghost use Rattle.stack_cli.specs.Words.{form_of, form_view, HasBudget, texts, question_of as question_of_word};
+ghost use Rattle.stack_cli.specs.Words.{number_of as number_of_word, budget_of as budget_of_word};
+ghost use Rattle.stack_cli.specs.Words.{judging as judging_of, kind_of as kind_of_word, stacking as stacking_of};
+ghost use Rattle.stack_cli.specs.Words.{form_of_two as form_of_two_words, form_of_three as form_of_three_words};
 
 use itoa::Buffer;
 use stack_equilibrium::types::Question;
+
+/// A kind of built-in stack.
+#[derive(Clone, Copy, Debug, PartialEq, Eq)]
+pub enum Kind {
+    /// Bricks of which each is moved by half a brick over its number from the top.
+    Harmonic,
+    /// An inverted triangle.
+    Triangle,
+    /// A slab of rows of two lengths.
+    Slab,
+}
 
 /// What the words ask for.
 #[derive(Clone, Copy, Debug, PartialEq, Eq)]
@@ -25,10 +39,24 @@ pub enum Form<'a> {
         model: &'a str,
         budget: u32,
     },
+    /// Lists the contacts of a model and the forces of an accepted certificate; the names of their files.
+    Table {
+        model: &'a str,
+        certificate: &'a str,
+    },
+    /// Prints a built-in stack.
+    Stack {
+        kind: Kind,
+        size: u32,
+    },
+    /// Judges the live load of a built-in wall.
+    Sample {
+        number: u32,
+    },
 }
 
 /// The budget of pivots that isn't given.
-const DEFAULT_BUDGET: u32 = 20_000;
+pub const DEFAULT_BUDGET: u32 = 20_000;
 
 /// The question that a word asks: `stand` about the dead loads, `load` about the live loads.
 fn question_of(word: &str) -> Option<Question>
@@ -43,20 +71,30 @@ fn question_of(word: &str) -> Option<Question>
     }
 }
 
-/// The budget that a word spells: a decimal number from 1 to 4,294,967,295 without sign or leading zeros. A number
-/// has one such spelling, so it's printed again and compared.
+/// The number that a word spells: decimal, from 0 to 4,294,967,295, without sign or leading zeros. A number has one
+/// such spelling, so it's printed again and compared.
+fn number_of(word: &str) -> Option<u32>
+    ensures { result ≡ number_of_word word.now }
+{
+    let Ok(number) = word.parse::<u32>() else {
+        return None;
+    };
+    let mut buffer = Buffer::new();
+    if buffer.format(number) == word {
+        Some(number)
+    } else {
+        None
+    }
+}
+
+/// The budget that a word spells: such a number, but not 0.
 fn budget_of(word: &str) -> Option<u32>
     ensures is { result ≡ budget_of_word word.now }
     ensures some { IfSome result (λ n. n ≢ 0) }
 {
-    let Ok(budget) = word.parse::<u32>() else {
-        return None;
-    };
-    let mut buffer = Buffer::new();
-    if budget > 0 && buffer.format(budget) == word {
-        Some(budget)
-    } else {
-        None
+    match number_of(word) {
+        Some(budget) if budget > 0 => Some(budget),
+        _ => None,
     }
 }
 
@@ -76,39 +114,77 @@ fn judging<'a>(question: Option<Question>, model: &'a str, budget: Option<u32>) 
     }
 }
 
+/// The kind of stack that a word names.
+fn kind_of(word: &str) -> Option<Kind>
+    ensures { result ≡ kind_of_word word.now }
+{
+    if word == "harmonic" {
+        Some(Kind::Harmonic)
+    } else if word == "triangle" {
+        Some(Kind::Triangle)
+    } else if word == "slab" {
+        Some(Kind::Slab)
+    } else {
+        None
+    }
+}
+
+/// The form of a built-in stack, where the word names a kind and the size is a number.
+fn stacking<'a>(kind: Option<Kind>, size: Option<u32>) -> Option<Form<'a>>
+    ensures is { option_map form_view result ≡ stacking_of kind size }
+    ensures budget { IfSome result HasBudget }
+{
+    match (kind, size) {
+        (Some(kind), Some(size)) => Some(Form::Stack { kind, size }),
+        _ => None,
+    }
+}
+
+/// The form of a word before one more.
+fn form_of_two<'a>(word: &str, last: &'a str) -> Option<Form<'a>>
+    ensures is { option_map form_view result ≡ form_of_two_words word.now last.now }
+    ensures budget { IfSome result HasBudget }
+{
+    if word == "contacts" {
+        return Some(Form::Contacts { model: last });
+    }
+    if word == "sample" {
+        return number_of(last).map(|number| Form::Sample { number });
+    }
+    judging(question_of(word), last, Some(DEFAULT_BUDGET))
+}
+
+/// The form of a word before two more.
+fn form_of_three<'a>(word: &str, next: &'a str, last: &'a str) -> Option<Form<'a>>
+    ensures is { option_map form_view result ≡ form_of_three_words word.now next.now last.now }
+    ensures budget { IfSome result HasBudget }
+{
+    if word == "check" {
+        return Some(Form::Check {
+            model: next,
+            certificate: last,
+        });
+    }
+    if word == "table" {
+        return Some(Form::Table {
+            model: next,
+            certificate: last,
+        });
+    }
+    if word == "stack" {
+        return stacking(kind_of(next), number_of(last));
+    }
+    judging(question_of(word), next, budget_of(last))
+}
+
 /// The form of the words, exactly where they have one. Takes no memory.
 pub fn parse_form(words: &[String]) -> Option<Form<'_>>
     ensures is { option_map form_view result ≡ form_of (texts words.now) }
     ensures budget { IfSome result HasBudget }
 {
     match words {
-        [word, model] => {
-            if word.as_str() == "contacts" {
-                Some(Form::Contacts {
-                    model: model.as_str(),
-                })
-            } else {
-                judging(
-                    question_of(word.as_str()),
-                    model.as_str(),
-                    Some(DEFAULT_BUDGET),
-                )
-            }
-        }
-        [word, model, last] => {
-            if word.as_str() == "check" {
-                Some(Form::Check {
-                    model: model.as_str(),
-                    certificate: last.as_str(),
-                })
-            } else {
-                judging(
-                    question_of(word.as_str()),
-                    model.as_str(),
-                    budget_of(last.as_str()),
-                )
-            }
-        }
+        [word, last] => form_of_two(word.as_str(), last.as_str()),
+        [word, next, last] => form_of_three(word.as_str(), next.as_str(), last.as_str()),
         _ => None,
     }
 }

@@ -2,3 +2,4 @@ pub mod ContactTable
 pub mod ForceNumbers
 pub mod ForceTable
 pub mod Tabling
+pub mod Summary

@@ -27,7 +27,7 @@ use std::alloc::{AllocError, Global};
 use std::fmt::Write;
 
 /// The text with the line of the factor.
-fn with_factor(mut text: String, f: &Forces) -> Result<String, AllocError>
+pub fn with_factor(mut text: String, f: &Forces) -> Result<String, AllocError>
     requires scale { pos 0 ≺ (forces_view f.now).scale }
     requires factor { pos 0 ≼ (forces_view f.now).factor }
     ensures { IfOk result (λ t. string_bytes t ≡ string_bytes text ++ factor_line (forces_view f.now)) }

@@ -8,10 +8,12 @@ mod force_lines;
 mod forces;
 mod lines;
 mod ratio;
+mod summary;
 
 pub use contacts::contact_table;
 pub use errors::ReportError;
 pub use forces::force_table;
+pub use summary::sample_summary;
 
 #[cfg(test)]
 mod tests;

@@ -1,6 +1,6 @@
 //! The contacts of a wall in stack bond, and the forces of a post that tips.
 
-use crate::{ReportError, contact_table, force_table};
+use crate::{ReportError, contact_table, force_table, sample_summary};
 use stack_certificate::types::{Certificate, Forces, Motion};
 use stack_checker::check;
 use stack_checker::types::Check;
@@ -129,6 +129,14 @@ fn accepted(
     }
 }
 
+/// Of the post, pushed at its upper left corner.
+fn tipping(alloc: Global) -> Result<Certificate, Fail> {
+    let carried = forces(alloc, 1, 2, &[(0, 0), (48, -12)])?;
+    let mut moves = Vec::new(alloc);
+    moves.push((0, 2, -1))?;
+    Ok(Certificate::Greatest(carried, Motion { moves }))
+}
+
 const FORCES: &str = "greatest
 factor 2/1
 force 1 0/1 0/1
@@ -140,10 +148,7 @@ move post 0 2 -1
 fn the_forces_of_a_post_that_tips_are_told(rt: HostRuntime) -> Result<(), Fail> {
     let alloc = rt.alloc();
     let s = surveyed(alloc, &[1, 1], POST.as_slice(), &[("post", [0, 4])])?;
-    let carried = forces(alloc, 1, 2, &[(0, 0), (48, -12)])?;
-    let mut moves = Vec::new(alloc);
-    moves.push((0, 2, -1))?;
-    let c = Certificate::Greatest(carried, Motion { moves });
+    let c = tipping(alloc)?;
     let table = accepted(alloc, &s, &c)?.ok().ok_or("no table")?;
     assert_eq!(rt; table.as_slice(), FORCES.as_bytes());
     Ok(())
@@ -161,5 +166,25 @@ fn six_times_a_great_factor_is_too_wide(rt: HostRuntime) -> Result<(), Fail> {
         accepted(alloc, &s, &c)?.err(),
         Some(ReportError::TooWide { index: 3 })
     );
+    Ok(())
+}
+
+/// The summary of a certificate that the check accepts.
+fn summed(alloc: Global, s: &Survey, c: &Certificate) -> Result<Vec<u8>, Fail> {
+    match check(s, c) {
+        Check::Accepted => Ok(sample_summary(alloc, 7, s, c, true)?),
+        _ => Err(Fail::from("not accepted")),
+    }
+}
+
+const SUMMARY: &str =
+    "sample 7\nblocks 1\nbearings 2\ntouches 0\nverdict greatest\nfactor 2/1\nnarrow yes\n";
+
+#[test]
+fn a_summary_tells_the_greatest_factor(rt: HostRuntime) -> Result<(), Fail> {
+    let alloc = rt.alloc();
+    let s = surveyed(alloc, &[1, 1], POST.as_slice(), &[("post", [0, 4])])?;
+    let summary = summed(alloc, &s, &tipping(alloc)?)?;
+    assert_eq!(rt; summary.as_slice(), SUMMARY.as_bytes());
     Ok(())
 }

@@ -16,7 +16,7 @@ use stack_outside::Shelf;
 use std::alloc::Global;
 
 /// The answer to what a check gives, or the refusal of a sum that is too wide.
-fn check_answer(alloc: Global, survey: &Survey, check: Check) -> Result<Answer, Refusal>
+pub fn check_answer(alloc: Global, survey: &Survey, check: Check) -> Result<Answer, Refusal>
     ensures does { DoesAlone Answers (check_step survey.now.structure check) result }
     ensures no_file { Fails result ⊥ }
 {

@@ -30,7 +30,7 @@ fn verdict_of(certificate: &Certificate) -> Verdict
 }
 
 /// The refusal of a number that passes.
-fn wide(alloc: Global, survey: &Survey, place: JudgePlace) -> Refusal
+pub fn wide(alloc: Global, survey: &Survey, place: JudgePlace) -> Refusal
     ensures { (refusal_view result ≡ faulty (wide_fault survey.now.structure place)) ⊎ (result ≡ Refusal.Memory) }
 {
     match place {

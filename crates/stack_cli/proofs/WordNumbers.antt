@@ -1,12 +1,13 @@
--- The budget that a word spells.
-use Rattle.std.proofs.Common.{◌≡◌, refl, sym, subst, ◌∙◌, ℕ, ◌<◌, ◌^◌, Bool, true, false, List, Option, Some, None, Result, Ok, Err, arith, ◌&&◌}
+-- The number that a word spells, and the budget.
+use Rattle.std.proofs.Common.{◌≡◌, refl, sym, subst, ◌∙◌, ℕ, ◌<◌, ◌^◌, Bool, true, false, List, Option, Some, None}
+use Rattle.std.proofs.Common.{Result, Ok, Err, arith, ◌&&◌}
 use Rattle.std.specs.Prelude.{decimal, nat_lt, if◌then◌else◌}
 use Rattle.std.specs.Str.{bytes_eq}
 use Rattle.std.specs.Str.Parse.{digits_value, ParsesUnsigned}
 use Rattle.std.proofs.lemmas.Bool.{ltb-true, lt-ltb}
 use Rattle.std.proofs.lemmas.Fmt.{parse-decimal, decimal_is_IsNumeral}
 use Rattle.std.proofs.lemmas.Slice.Eq.{bytes_eq-Decides}
-use Rattle.stack_cli.specs.Words.{budget_of}
+use Rattle.stack_cli.specs.Words.{number_of}
 
 left : (s t : Bool) → s && t ≡ true → s ≡ true
 left true t h = refl
@@ -30,32 +31,28 @@ not_chosen false n h = refl
 
 -- the test of a number against the word that should spell it
 abbrev spells : ℕ → List ℕ → Bool
-spells n word = nat_lt 0 n && (nat_lt n (2 ^ 32) && bytes_eq (decimal n) word)
+spells n word = nat_lt n (2 ^ 32) && bytes_eq (decimal n) word
 
-spelled : (n : ℕ) → 0 < n → n < 2 ^ 32 → budget_of (decimal n) ≡ Some n
-spelled n some low =
+spelled : (n : ℕ) → n < 2 ^ 32 → number_of (decimal n) ≡ Some n
+spelled n low =
     let value = (decimal_is_IsNumeral n (omega (arith, low))).1 in
     subst (λ m. (if spells m (decimal n) then Some m else None) ≡ Some n) (sym value)
     (chosen (spells n (decimal n)) n
-    (both (nat_lt 0 n) (nat_lt n (2 ^ 32) && bytes_eq (decimal n) (decimal n)) (lt-ltb _ _ some)
     (both (nat_lt n (2 ^ 32)) (bytes_eq (decimal n) (decimal n)) (lt-ltb _ _ low)
-    ((bytes_eq-Decides (decimal n) (decimal n)).1 refl))))
+    ((bytes_eq-Decides (decimal n) (decimal n)).1 refl)))
 
--- a number that is printed as the word is its budget
-pub is_budget : (word : List ℕ) (n : ℕ) → 0 < n → n < 2 ^ 32 → bytes_eq (decimal n) word ≡ true
-    → Some n ≡ budget_of word
-is_budget word n some low same =
-    sym (subst (λ w. budget_of w ≡ Some n) ((bytes_eq-Decides (decimal n) word).0 same) (spelled n some low))
+-- a number that is printed as the word is its number
+pub is_number : (word : List ℕ) (n : ℕ) → n < 2 ^ 32 → bytes_eq (decimal n) word ≡ true → Some n ≡ number_of word
+is_number word n low same =
+    sym (subst (λ w. number_of w ≡ Some n) ((bytes_eq-Decides (decimal n) word).0 same) (spelled n low))
 
 -- no number is
-none_is : (word : List ℕ) → ((n : ℕ) → 0 < n → n < 2 ^ 32 → bytes_eq (decimal n) word ≡ true → ⊥) → None ≡ budget_of word
+none_is : (word : List ℕ) → ((n : ℕ) → n < 2 ^ 32 → bytes_eq (decimal n) word ≡ true → ⊥) → None ≡ number_of word
 none_is word h =
     let n = digits_value 10 word in
     sym (not_chosen (spells n word) n (λ all.
-    let rest = right (nat_lt 0 n) (nat_lt n (2 ^ 32) && bytes_eq (decimal n) word) all in
-    h n (ltb-true _ _ (left (nat_lt 0 n) (nat_lt n (2 ^ 32) && bytes_eq (decimal n) word) all))
-    (ltb-true _ _ (left (nat_lt n (2 ^ 32)) (bytes_eq (decimal n) word) rest))
-    (right (nat_lt n (2 ^ 32)) (bytes_eq (decimal n) word) rest)))
+    h n (ltb-true _ _ (left (nat_lt n (2 ^ 32)) (bytes_eq (decimal n) word) all))
+    (right (nat_lt n (2 ^ 32)) (bytes_eq (decimal n) word) all)))
 
 module _ {E : Type 0} (word : List ℕ) (r : Result ℕ E) (p : ParsesUnsigned 32 10 word r) where
   pub fits : (m : ℕ) → r ≡ Ok m → m < 2 ^ 32
@@ -67,8 +64,8 @@ module _ {E : Type 0} (word : List ℕ) (r : Result ℕ E) (p : ParsesUnsigned 3
   parsed n low same = parse-decimal 32 n word r low (omega (arith, low))
       (sym ((bytes_eq-Decides (decimal n) word).0 same)) p
 
-  pub unparsed : (e : E) → r ≡ Err e → None ≡ budget_of word
-  unparsed e is = none_is word (λ n some low same. let k = sym is ∙ parsed n low same in absurd cc)
+  pub unparsed : (e : E) → r ≡ Err e → None ≡ number_of word
+  unparsed e is = none_is word (λ n low same. let k = sym is ∙ parsed n low same in absurd cc)
 
   abbrev or_zero : Result ℕ E → ℕ
   or_zero (Ok n) = n
@@ -77,11 +74,7 @@ module _ {E : Type 0} (word : List ℕ) (r : Result ℕ E) (p : ParsesUnsigned 3
   same_number : (m n : ℕ) → r ≡ Ok m → r ≡ Ok n → m ≡ n
   same_number m n h k = λ i. or_zero ((sym h ∙ k) i)
 
-  pub parsed_zero : (m : ℕ) → r ≡ Ok m → m ≡ 0 → None ≡ budget_of word
-  parsed_zero m is zero = none_is word (λ n some low same.
-      let e = same_number m n is (parsed n low same) in absurd (omega (arith, zero, some, e)))
-
-  pub parsed_other : (m : ℕ) → r ≡ Ok m → bytes_eq (decimal m) word ≡ false → None ≡ budget_of word
-  parsed_other m is other = none_is word (λ n some low same.
+  pub parsed_other : (m : ℕ) → r ≡ Ok m → bytes_eq (decimal m) word ≡ false → None ≡ number_of word
+  parsed_other m is other = none_is word (λ n low same.
       let e = same_number m n is (parsed n low same) in
       let f = sym (subst (λ k. bytes_eq (decimal k) word ≡ true) (sym e) same) ∙ other in absurd cc)
