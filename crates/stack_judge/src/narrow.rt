@@ -21,7 +21,7 @@ use stack_table::problem::BuildError;
 use std::alloc::{AllocError, Global};
 
 /// The written table of a survey's problem at 64 bits, where nothing of it passes.
-fn narrow_table(
+pub fn narrow_table(
     alloc: Global,
     s: &Survey,
     q: Question,

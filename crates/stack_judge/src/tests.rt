@@ -1,11 +1,14 @@
-//! The judgement of a post that is pushed at its head, and of the greatest block, worked by hand.
+//! The judgement of a post that is pushed at its head, and of the greatest block, worked by hand; and the mark of a wall.
 
+use crate::narrow::narrow_table;
 use crate::{JudgeError, judge, judge_marked};
 use stack_certificate::types::Certificate;
 use stack_contact::survey;
 use stack_contact::types::Survey;
 use stack_equilibrium::types::Question;
 use stack_model::{Model, Parts, RawBlock, RawLoad, RawMaterial};
+use stack_overhang::wall;
+use stack_simplex::run;
 use std::alloc::Global;
 use std::test::*;
 
@@ -125,4 +128,24 @@ fn a_post_is_narrow_and_the_greatest_block_is_not(rt: HostRuntime) -> Result<(),
     let falls = judge_marked(alloc, &block, Question::Dead, 20_000).ok();
     assert!(rt; matches!(falls, Some((Certificate::Collapses(_), false))));
     Ok(())
+}
+
+/// The mark of the first built-in wall is what a plain run at 64 bits tells.
+#[test]
+fn a_wall_is_narrow_where_a_run_at_64_bits_ends(rt: HostRuntime) -> Result<(), Fail> {
+    let alloc = rt.alloc();
+    let model = wall(alloc, 0).ok().ok_or("no wall")?;
+    let s = survey(alloc, model).ok().ok_or("no survey")?;
+    let Ok(Some(table)) = narrow_table(alloc, &s, Question::Live) else {
+        return Err(Fail::from("no table at 64 bits"));
+    };
+    let ends = run(table, 20_000).is_ok();
+    let marked = judge_marked(alloc, &s, Question::Live, 20_000).ok();
+    match marked.ok_or("no judgement")? {
+        (Certificate::Greatest(..), narrow) => {
+            assert_eq!(rt; narrow, ends);
+            Ok(())
+        }
+        _ => Err(Fail::from("another form")),
+    }
 }
