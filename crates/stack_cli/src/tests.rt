@@ -164,7 +164,8 @@ fn a_certificate_that_is_kept_whole_stands(rt: HostRuntime) -> Result<(), Fail> 
     );
     assert!(rt; out.written().starts_with(b"stands\n"));
     assert!(rt; out.written().ends_with(b"end\n"));
-    assert_eq!(rt; out.calls() + err.calls(), 2);
+    assert_eq!(rt; out.calls(), 1);
+    assert_eq!(rt; err.calls(), 1);
     assert_eq!(rt; err.written(), b"output\n".as_slice());
     Ok(())
 }
@@ -236,7 +237,8 @@ fn devices_that_fail_are_told_apart(rt: HostRuntime) -> Result<(), Fail> {
         3
     );
     assert_eq!(rt; idle.written().len() + silent.written().len(), 0);
-    assert_eq!(rt; idle.calls() + silent.calls(), 1);
+    assert_eq!(rt; idle.calls(), 0);
+    assert_eq!(rt; silent.calls(), 1);
     let words = strings(alloc, &CONTACTS)?;
     let mut narrow = MemorySink::new(Vec::new(alloc), 10)?;
     assert_eq!(rt;
