@@ -4,7 +4,8 @@ use Rattle.std.proofs.Common.{◌≡◌, ◌≢◌, refl, sym, ap, subst, ◌∙
 use native.Mathlib.Decide.{ℕ_discrete}
 use lib.IntN.{pos}
 use Rattle.stack_algebra.proofs.Ring.{Ring, Exp, num, ◌⊕◌, ◌⊖◌, ◌⊗◌, ring2, ring3, ring4, ring5, mul-zero, add-zero}
-use Rattle.stack_algebra.proofs.Sums.{sum, sum_same, sum_add, sum_scale, sum_swap, sum_one, sum_zero, at, at-other, at-same}
+use Rattle.stack_algebra.proofs.Sums.{sum, sum_same, sum_add, sum_scale, sum_swap, sum_one, sum_zero, at, at-other}
+use Rattle.stack_algebra.proofs.Sums.{at-same}
 use Rattle.stack_algebra.specs.Rows.{pivoted, dot, none, Annuls, Combination, spread}
 use Rattle.stack_algebra.proofs.Pivots.{pivoted-own, pivoted-other}
 

@@ -1,7 +1,9 @@
 -- Laws of the greatest common divisor.
 use mathlib.Core.Path.{◌≡◌, sym, ap, subst, ◌∙◌}
 use Prim.Native.Nat.{ℕ, zero, suc, ◌+◌, ◌*◌, ◌/◌, ◌%◌, ◌<◌, ◌∣◌}
-use native.Mathlib.Nat.{dvd_refl, dvd-zero, dvd-mod_iff, dvd-add_iff_right, dvd-mul_right_of_dvd, mod-add-div, mul-one, one-mul, dvd-one, mul-div_cancel', mul-dvd-mul_left, dvd_of_mul-dvd-mul_left, pos_of_dvd_of_pos, dvd_trans, dvd_antisymm}
+use native.Mathlib.Nat.{dvd_refl, dvd-zero, dvd-mod_iff, dvd-add_iff_right, dvd-mul_right_of_dvd, mod-add-div}
+use native.Mathlib.Nat.{mul-one, one-mul, dvd-one, mul-div_cancel', mul-dvd-mul_left, dvd_of_mul-dvd-mul_left}
+use native.Mathlib.Nat.{pos_of_dvd_of_pos, dvd_trans, dvd_antisymm}
 use native.Mathlib.Omega.{arith}
 use Rattle.std.specs.Int.{IsGcd}
 use Rattle.stack_algebra.specs.Gcd.{gcd, gcd_within}

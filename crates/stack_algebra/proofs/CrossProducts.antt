@@ -5,7 +5,7 @@ use native.Mathlib.Omega.{arith}
 use lib.IntN.{ℤ, pos, negsuc, ◌+ℤ◌, ◌-ℤ◌, ◌*ℤ◌}
 use Rattle.std.proofs.lemmas.Int.{ints}
 use Rattle.stack_algebra.proofs.Integers.{expand, sums}
-use Rattle.stack_algebra.proofs.Order.{◌≺◌}
+use Rattle.stack_algebra.proofs.Order.{◌≺◌, mul_pos}
 
 zero_from : (c x : ℤ) → pos 0 ≺ c → c *ℤ x ≡ pos 0 → x ≡ pos 0
 zero_from (pos zero) x h e = absurd (omega (arith, ints))
@@ -16,6 +16,15 @@ zero_from (negsuc c) x h e = absurd (omega (arith, ints))
 
 pub cancel : (c a b : ℤ) → pos 0 ≺ c → c *ℤ a ≡ c *ℤ b → a ≡ b
 cancel c a b h e = let z = zero_from c (a -ℤ b) h (simp expand (omega (arith, sums))) in omega (arith, sums)
+
+-- a product with a positive number has the sign of the other one
+pub positive_cancel : (c x : ℤ) → pos 0 ≺ c → pos 0 ≺ c *ℤ x → pos 0 ≺ x
+positive_cancel c (pos (suc n)) h p = omega (arith, ints)
+positive_cancel (pos m) (pos zero) h p = absurd (omega (arith, ints))
+positive_cancel (negsuc m) (pos zero) h p = absurd (omega (arith, ints))
+positive_cancel c (negsuc n) h p =
+    let m = mul_pos c (pos (suc n)) h (omega (arith, ints)) in
+    absurd (omega (arith, sums, simp expand at m, simp expand at p))
 
 -- x/d and y/e are n/p and m/q, and those have equal cross products
 pub cross_same : (x d y e n p m q : ℤ) → pos 0 ≺ p *ℤ q → x *ℤ p ≡ n *ℤ d → y *ℤ q ≡ m *ℤ e → n *ℤ q

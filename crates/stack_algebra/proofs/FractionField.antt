@@ -7,7 +7,8 @@ use Rattle.std.proofs.lemmas.Int.{ints}
 use Rattle.stack_algebra.proofs.Integers.{expand, sums}
 use Rattle.stack_algebra.proofs.Order.{◌≺◌, ◌≼◌, mul_pos, mul_nonneg, nonneg-sub, sub-nonneg, nonneg-cancel}
 use Rattle.stack_algebra.specs.Fraction.{Fraction, ◌≤ᶠ◌, signed}
-use Rattle.stack_algebra.proofs.Fractions.{IsOver, is_self, reduce, reduce_is, same_values, add, add-is, mul, mul-is, of, of-is, den_pos}
+use Rattle.stack_algebra.proofs.Fractions.{IsOver, is_self, reduce, reduce_is, same_values, add, add-is, mul, mul-is}
+use Rattle.stack_algebra.proofs.Fractions.{of, of-is, den_pos}
 
 -- 0 at 0
 pub inv_by : (x : Fraction) (n : ℕ) → Fraction

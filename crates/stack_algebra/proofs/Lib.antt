@@ -18,3 +18,4 @@ pub mod Combinations
 pub mod Tableaus
 pub mod Steps
 pub mod Search
+pub mod Conjunctions

@@ -7,7 +7,7 @@ use Rattle.stack_algebra.specs.Fraction.{Fraction}
 use Rattle.stack_algebra.proofs.Fractions.{IsOver, is_self, same_values, mul-is, of-is, neg_own, fractions, den_pos}
 use Rattle.stack_algebra.proofs.FractionField.{inv, inv_mul}
 use Rattle.stack_algebra.proofs.FractionSigns.{nonneg_add as not_below-add}
-use Rattle.stack_algebra.specs.Ordered.{Ordered, Sign, minus, nought, plus, opposite, both, sign_of}
+use Rattle.stack_algebra.specs.Ordered.{Ordered, Sign, minus, nought, plus, opposite, product_sign, sign_of}
 
 pub is_plus : (z : ℤ) → pos 0 ≺ z → sign_of z ≡ plus
 is_plus (pos zero) h = absurd (omega (arith, ints))
@@ -18,7 +18,7 @@ pub is_minus : (z : ℤ) → z ≺ pos 0 → sign_of z ≡ minus
 is_minus (pos n) h = absurd (omega (arith, ints))
 is_minus (negsuc n) h = refl
 
-pub sign_of-mul : (a b : ℤ) → sign_of (a *ℤ b) ≡ both (sign_of a) (sign_of b)
+pub sign_of-mul : (a b : ℤ) → sign_of (a *ℤ b) ≡ product_sign (sign_of a) (sign_of b)
 sign_of-mul (pos zero) b = ap sign_of (zero-*ℤ b)
 sign_of-mul (pos (suc a)) (pos zero) = ap sign_of (*ℤ_comm (pos (suc a)) (pos 0) ∙ zero-*ℤ (pos (suc a)))
 sign_of-mul (pos (suc a)) (pos (suc b)) = is_plus _
@@ -33,13 +33,13 @@ sign_of-neg (pos zero) = refl
 sign_of-neg (pos (suc a)) = refl
 sign_of-neg (negsuc a) = refl
 
-pub both-plus : (s : Sign) → both s plus ≡ s
+pub both-plus : (s : Sign) → product_sign s plus ≡ s
 both-plus minus = refl
 both-plus nought = refl
 both-plus plus = refl
 
 pub scaled : (a d : ℤ) → pos 0 ≺ d → sign_of (a *ℤ d) ≡ sign_of a
-scaled a d h = sign_of-mul a d ∙ ap (both (sign_of a)) (is_plus d h) ∙ both-plus (sign_of a)
+scaled a d h = sign_of-mul a d ∙ ap (product_sign (sign_of a)) (is_plus d h) ∙ both-plus (sign_of a)
 
 pub sign_is : (x : Fraction) (n d : ℤ) → IsOver x n d → sign_of x.num ≡ sign_of n
 sign_is x n d i = sym (scaled x.num d i.positive) ∙ ap sign_of i.cross ∙ scaled n (pos x.den) (den_pos x)

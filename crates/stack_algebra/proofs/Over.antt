@@ -13,7 +13,8 @@ use Rattle.stack_algebra.proofs.Integers.{expand, sums}
 use Rattle.stack_algebra.proofs.Order.{◌≺◌, mul_pos}
 use Rattle.stack_algebra.specs.Gcd.{gcd}
 use Rattle.stack_algebra.specs.Fraction.{Fraction, signed, low_num, low_den}
-use Rattle.stack_algebra.proofs.Fractions.{IsOver, is_self, reduce, reduce_is, same_values, of, of-is, add, mul, add-is, mul-is}
+use Rattle.stack_algebra.proofs.Fractions.{IsOver, is_self, reduce, reduce_is, same_values, of, of-is, add, mul}
+use Rattle.stack_algebra.proofs.Fractions.{add-is, mul-is}
 
 -- 0 where the denominator is not positive
 pub over : ℤ → ℤ → Fraction

@@ -1,6 +1,7 @@
 -- What the least index and the first item are, searches with evidence, and the index after another round a
 -- list.
-use Rattle.std.proofs.Common.{◌≡◌, ◌≢◌, refl, sym, ap, subst, ◌∙◌, ℕ, zero, suc, ◌<◌, ◌≤◌, ◌+◌, Bool, true, false, cond, Option, Some, None, arith, add-one}
+use Rattle.std.proofs.Common.{◌≡◌, ◌≢◌, refl, sym, ap, subst, ◌∙◌, ℕ, zero, suc, ◌<◌, ◌≤◌, ◌+◌, Bool, true, false}
+use Rattle.std.proofs.Common.{cond, Option, Some, None, arith, add-one}
 use mathlib.Core.Logic.{◌⊎◌, inl, inr}
 use native.Mathlib.Decide.{ℕ_discrete, dec_lt}
 use lib.Dec.{T, eqb, eqb→eq, eqb_refl}

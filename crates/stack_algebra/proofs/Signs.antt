@@ -5,7 +5,7 @@ use lib.IntN.{pos}
 use Rattle.stack_algebra.proofs.Ring.{◌⊕◌, ◌⊖◌, ring2}
 use Rattle.stack_algebra.specs.Sums.{sum}
 use Rattle.stack_algebra.specs.Rows.{NonNeg}
-use Rattle.stack_algebra.specs.Ordered.{Ordered, Sign, minus, nought, plus, opposite, both}
+use Rattle.stack_algebra.specs.Ordered.{Ordered, Sign, minus, nought, plus, opposite, product_sign}
 
 module _ (F : Ordered) where
   pub nonneg_zero : NonNeg F (F.of (pos 0))
@@ -17,7 +17,7 @@ module _ (F : Ordered) where
   pub nonneg_add : (x y : F.C) → NonNeg F x → NonNeg F y → NonNeg F (F.add x y)
   nonneg_add x y h k = record { fact = F.nonneg-add x y h.fact k.fact }
 
-  both_not : (s t : Sign) → s ≢ minus → t ≢ minus → both s t ≢ minus
+  both_not : (s t : Sign) → s ≢ minus → t ≢ minus → product_sign s t ≢ minus
   both_not minus t h k e = h refl
   both_not nought t h k e = cc
   both_not plus t h k e = k e
@@ -84,7 +84,7 @@ module _ (F : Ordered) where
       go (no d) r = r i (omega arith)
 
   -- the inverse of a positive number is positive
-  same_sign : (s t : Sign) → both s t ≡ plus → t ≡ plus → s ≡ plus
+  same_sign : (s t : Sign) → product_sign s t ≡ plus → t ≡ plus → s ≡ plus
   same_sign minus t e h = absurd (let k = sym e ∙ ap opposite h in cc)
   same_sign nought t e h = absurd cc
   same_sign plus t e h = refl

@@ -7,7 +7,8 @@ use Rattle.stack_algebra.specs.Sums.{at}
 use Rattle.stack_algebra.specs.Rows.{changed, next, none, Tableau, HasLeastRatio, NonNeg}
 use Rattle.stack_algebra.proofs.Ring.{Exp, num, ◌⊕◌, ◌⊖◌, ◌⊗◌, ring4, ring5}
 use Rattle.stack_algebra.proofs.Sums.{at-other}
-use Rattle.stack_algebra.proofs.Pivots.{changed-same, changed-other, pivoted-own, pivoted-other, column_of_pivot, column_kept}
+use Rattle.stack_algebra.proofs.Pivots.{changed-same, changed-other, pivoted-own, pivoted-other, column_of_pivot}
+use Rattle.stack_algebra.proofs.Pivots.{column_kept}
 use Rattle.stack_algebra.proofs.Signs.{nonneg_add, nonneg_mul, nonneg_neg, nonneg_by, nonneg_plus, inv-plus}
 use Rattle.stack_algebra.proofs.Combinations.{annuls_before, combination_pivoted}
 

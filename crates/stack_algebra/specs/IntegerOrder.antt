@@ -1,5 +1,6 @@
 -- The order and the size of whole numbers.
-use lib.IntN.{ℤ, pos, nat_abs}
+use Prim.Native.Nat.{zero, suc}
+use lib.IntN.{ℤ, pos, negsuc, nat_abs}
 use lib.Signed.{◌≤ℤ◌, ◌<ℤ◌}
 
 -- the library's order binds more tightly than a sum; these bind as `≡` does
@@ -12,3 +13,9 @@ a ≺ b = ◌<ℤ◌ a b
 
 abbrev pub abs : ℤ → ℤ
 abs z = pos (nat_abs z)
+
+-- 1, 0 or -1, as the number is positive, 0 or negative
+abbrev pub signum : ℤ → ℤ
+signum (pos zero) = pos 0
+signum (pos (suc n)) = pos 1
+signum (negsuc n) = negsuc 0

@@ -8,8 +8,8 @@ use lib.IntN.{ℤ, pos, negsuc, ◌+ℤ◌, ◌*ℤ◌, neg_ℤ}
 use Rattle.std.specs.Int.{IsGcd}
 use Rattle.stack_algebra.specs.IntegerOrder.{◌≼◌, ◌≺◌, abs}
 use Rattle.stack_algebra.specs.Ring.{Ring}
-use Rattle.stack_algebra.specs.Ordered.{Ordered, Sign, minus, nought, plus, opposite, both, sign_of}
-use Rattle.stack_algebra.specs.Polynomial.{Exp, normal, eval}
+use Rattle.stack_algebra.specs.Ordered.{Ordered, Sign, minus, nought, plus, opposite, product_sign, sign_of}
+use Rattle.stack_algebra.specs.Polynomial.{Exp, normal_form, eval}
 use Rattle.stack_algebra.specs.Sums.{sum_to, sum_of}
 use Rattle.stack_algebra.specs.Gcd.{gcd}
 use Rattle.stack_algebra.specs.Fraction.{Fraction, IsOver}
@@ -55,7 +55,7 @@ whole_numbers w = record {
 
 -- two expressions with one normal form have one value
 abbrev pub NormalFormsDecide : Type 0
-NormalFormsDecide = (w : WholeNumberLaws) (ρ : ℕ → ℤ) (e f : Exp) → normal e ≡ normal f →
+NormalFormsDecide = (w : WholeNumberLaws) (ρ : ℕ → ℤ) (e f : Exp) → normal_form e ≡ normal_form f →
     eval (whole_numbers w) ρ e ≡ eval (whole_numbers w) ρ f
 
 -- sums of whole numbers
@@ -109,7 +109,7 @@ pub record FractionField : Type 0 where
   pub sign-zero : sign (of (pos 0)) ≡ nought
   pub sign-one : sign (of (pos 1)) ≡ plus
   pub sign-neg : (x : Fraction) → sign (neg x) ≡ opposite (sign x)
-  pub sign-mul : (x y : Fraction) → sign (mul x y) ≡ both (sign x) (sign y)
+  pub sign-mul : (x y : Fraction) → sign (mul x y) ≡ product_sign (sign x) (sign y)
   pub nonneg-add : (x y : Fraction) → sign x ≢ minus → sign y ≢ minus → sign (add x y) ≢ minus
   pub inv-mul : (x : Fraction) → sign x ≢ nought → mul (inv x) x ≡ of (pos 1)
 

@@ -17,10 +17,10 @@ opposite nought = nought
 opposite plus = minus
 
 -- the sign of a product
-abbrev pub both : Sign → Sign → Sign
-both minus t = opposite t
-both nought t = nought
-both plus t = t
+abbrev pub product_sign : Sign → Sign → Sign
+product_sign minus t = opposite t
+product_sign nought t = nought
+product_sign plus t = t
 
 -- the sign of a whole number
 abbrev pub sign_of : ℤ → Sign
@@ -37,6 +37,6 @@ pub record Ordered : Type 1 where
   pub sign-zero : sign (ring.of (pos 0)) ≡ nought
   pub sign-one : sign (ring.of (pos 1)) ≡ plus
   pub sign-neg : (x : ring.C) → sign (ring.neg x) ≡ opposite (sign x)
-  pub sign-mul : (x y : ring.C) → sign (ring.mul x y) ≡ both (sign x) (sign y)
+  pub sign-mul : (x y : ring.C) → sign (ring.mul x y) ≡ product_sign (sign x) (sign y)
   pub nonneg-add : (x y : ring.C) → sign x ≢ minus → sign y ≢ minus → sign (ring.add x y) ≢ minus
   pub inv-mul : (x : ring.C) → sign x ≢ nought → ring.mul (inv x) x ≡ ring.of (pos 1)

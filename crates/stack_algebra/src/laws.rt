@@ -1,6 +1,8 @@
 //! The laws of this crate, each a clause of a function that does nothing.
 
-ghost use Rattle.stack_algebra.specs.Laws.{WholeNumberLaws, NormalFormsDecide, SumLaws, GcdIsGreatest, FractionsAreValues, FractionField, PivotsKeepTableaus, LeastRatioKeepsRightSides};
+ghost use Rattle.stack_algebra.specs.Laws.{WholeNumberLaws, NormalFormsDecide, SumLaws, GcdIsGreatest};
+ghost use Rattle.stack_algebra.specs.Laws.{FractionsAreValues, FractionField, PivotsKeepTableaus};
+ghost use Rattle.stack_algebra.specs.Laws.{LeastRatioKeepsRightSides};
 
 /// Whole numbers are a commutative ring, and products keep their order.
 pub fn whole_number_laws()

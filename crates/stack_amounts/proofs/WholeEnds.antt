@@ -22,9 +22,11 @@ use Rattle.stack_duality.specs.FourEnds.{EndGives, IsThirdEnd}
 use Rattle.stack_duality.proofs.FourEnds.{ends_give}
 use Rattle.stack_amounts.specs.WrittenLists.{forces_number, forces_list, ray_list, bound_number, collapse_number}
 use Rattle.stack_amounts.specs.WholeLists.{whole_list, amount, multiplier, NonePulls}
-use Rattle.stack_amounts.specs.WholeBalance.{AreAmounts, column_work, load_work, AreUnresisted, AreRefuting, AreBounding, StandsInWhole}
+use Rattle.stack_amounts.specs.WholeBalance.{AreAmounts, column_work, load_work, AreUnresisted, AreRefuting}
+use Rattle.stack_amounts.specs.WholeBalance.{AreBounding, StandsInWhole}
 use Rattle.stack_amounts.specs.WholeEnds.{AreForces, AreLoaded, EndIsWhole, EndsAreWhole}
-use Rattle.stack_amounts.proofs.Wholes.{IsWhole, of_same, whole_nonneg, whole_positive, whole_negative, whole_sum, whole_dot, whole_turned}
+use Rattle.stack_amounts.proofs.Wholes.{IsWhole, of_same, whole_nonneg, whole_positive, whole_negative, whole_sum}
+use Rattle.stack_amounts.proofs.Wholes.{whole_dot, whole_turned}
 use Rattle.stack_amounts.proofs.ScaledLists.{scale_above, scaled-is, none_pulls}
 
 -- a scale times 1, and times 0

@@ -4,7 +4,7 @@ use lib.IntN.{ℤ, pos, negsuc, ◌*ℤ◌}
 use Rattle.std.proofs.lemmas.Int.{ints}
 use Rattle.stack_algebra.specs.IntegerOrder.{◌≼◌, ◌≺◌}
 use Rattle.stack_algebra.specs.Sums.{sum_to}
-use Rattle.stack_algebra.specs.Ordered.{minus, plus, both, sign_of}
+use Rattle.stack_algebra.specs.Ordered.{minus, plus, product_sign, sign_of}
 use Rattle.stack_algebra.specs.Fraction.{Fraction}
 use Rattle.stack_algebra.proofs.Integers.{expand, sums, neg_is_mul}
 use Rattle.stack_algebra.proofs.CrossProducts.{cancel}
@@ -39,7 +39,7 @@ sign_of-of z = sign_is (of z) z (pos 1) (of-is z)
 same_sign : (c : ℤ) (x : Fraction) (z : ℤ) → pos 0 ≺ c → IsWhole c x z → sign_of z ≡ ordered_fractions.sign x
 same_sign c x z p e = sym (sign_of-of z) ∙ ap ordered_fractions.sign (sym e)
     ∙ ordered_fractions.sign-mul (of c) x
-    ∙ ap (λ s. both s (ordered_fractions.sign x)) (sign_of-of c ∙ is_plus c p)
+    ∙ ap (λ s. product_sign s (ordered_fractions.sign x)) (sign_of-of c ∙ is_plus c p)
 
 -- so it is no less than 0, more than 0 or less than 0 where that is
 pub whole_nonneg : (c : ℤ) (x : Fraction) (z : ℤ) → pos 0 ≺ c → IsWhole c x z →

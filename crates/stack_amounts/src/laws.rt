@@ -2,7 +2,7 @@
 
 ghost use Rattle.stack_amounts.specs.WholeEnds.{EndsAreWhole};
 
-/// What the whole numbers of each end do to the problem, whatever passes in its run and whatever the budget:
+/// What the whole numbers of each end do to the problem, whatever is too wide in its run and whatever the budget:
 /// they are multipliers that refute any balance, amounts that balance, or such amounts with multipliers that
 /// bound the factor or with a ray that raises it. No amount is negative.
 pub fn end_law()

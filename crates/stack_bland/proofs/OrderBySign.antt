@@ -10,7 +10,7 @@ use Rattle.stack_algebra.proofs.Integers.{expand, sums}
 use Rattle.stack_algebra.proofs.Fractions.{add, neg}
 use Rattle.stack_algebra.proofs.OrderedFractions.{ordered_fractions}
 use Rattle.stack_rational.specs.Order.{order_of}
-use Rattle.stack_rational.proofs.Passing.{num_of, den_of}
+use Rattle.stack_rational.proofs.WideWholes.{num_of, den_of}
 use Rattle.stack_rational.proofs.ByWholeParts.{cmp-less, cmp-equal, cmp-greater}
 use Rattle.stack_rational.proofs.TotalOrder.{order_laws}
 use Rattle.stack_bland.specs.BySign.{by_sign}

@@ -1,5 +1,5 @@
 -- Bland's choices over an ordered field: the entering column, the leaving row, and the first row whose ratio
--- passes. The run and its laws stand on these words.
+-- is too wide. The run and its laws stand on these words.
 use Rattle.std.specs.Prelude.{ℕ, zero, suc, Bool, true, false, cond, ltb, Option, Some, None}
 use Rattle.stack_algebra.specs.Ordered.{Ordered, Sign, minus, nought, plus}
 use Rattle.stack_algebra.specs.Rows.{less, quotient}
@@ -8,10 +8,10 @@ use Rattle.stack_rational.specs.declared.exact.Op.{Op}
 use Rattle.stack_rational.specs.declared.exact.Op.TheVariants.{Quotient}
 use Rattle.stack_table.specs.Table.{Shape, Tabled, right, objective}
 
-abbrev pub is_minus : Sign → Bool
-is_minus minus = true
-is_minus nought = false
-is_minus plus = false
+abbrev pub is_negative_sign : Sign → Bool
+is_negative_sign minus = true
+is_negative_sign nought = false
+is_negative_sign plus = false
 
 abbrev pub is_nought : Sign → Bool
 is_nought minus = false
@@ -46,7 +46,7 @@ module _ (F : Ordered) where
 module _ (F : Ordered) (S : Shape) where
   -- the least column below `among` with a negative objective cell
   abbrev pub entering : Tabled F.C → ℕ → Option ℕ
-  entering T among = least among (λ j. is_minus (F.sign (objective F S T j)))
+  entering T among = least among (λ j. is_negative_sign (F.sign (objective F S T j)))
 
   -- the right side of row i by its cell in column c
   abbrev pub ratio : Tabled F.C → ℕ → ℕ → F.C
@@ -56,11 +56,11 @@ module _ (F : Ordered) (S : Shape) where
   abbrev pub leaving : Tabled F.C → ℕ → Option ℕ
   leaving T c = best F (λ i. T.cell i c) (ratio T c) T.basic S.rows
 
-  -- row i, where it has a positive cell in column c and its ratio passes
+  -- row i, where it has a positive cell in column c and its ratio is too wide
   abbrev pub ratio_item : (Op → F.C → F.C → Bool) → Tabled F.C → ℕ → ℕ → Option ℕ
-  ratio_item passes T c i = cond (is_plus (F.sign (T.cell i c)))
-      (only_if (passes Quotient (right F S T i) (T.cell i c)) i) None
+  ratio_item is_too_wide T c i = cond (is_plus (F.sign (T.cell i c)))
+      (only_if (is_too_wide Quotient (right F S T i) (T.cell i c)) i) None
 
   -- the first such row
   abbrev pub ratio_row : (Op → F.C → F.C → Bool) → Tabled F.C → ℕ → Option ℕ
-  ratio_row passes T c = first S.rows (ratio_item passes T c)
+  ratio_row is_too_wide T c = first S.rows (ratio_item is_too_wide T c)

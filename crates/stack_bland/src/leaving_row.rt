@@ -4,7 +4,7 @@ ghost use Rattle.std.specs.Prelude.{◌≡◌, ◌<◌, cond, None, Some, OnOk, 
 ghost use Rattle.stack_algebra.proofs.OrderedFractions.{ordered_fractions};
 ghost use Rattle.stack_algebra.specs.Ordered.{sign_of};
 ghost use Rattle.stack_algebra.specs.Rows.{less};
-ghost use Rattle.stack_rational.specs.Passes.{passes};
+ghost use Rattle.stack_rational.specs.TooWide.{is_too_wide};
 ghost use Rattle.stack_table.specs.Table.{columns};
 ghost use Rattle.stack_table.specs.Seen.{shape_of_table, table_of};
 ghost use Rattle.stack_bland.specs.Choice.{goes_first, leaving, ratio_row};
@@ -14,7 +14,7 @@ use stack_rational::Exact;
 use stack_table::Table;
 use std::cmp::Ordering;
 
-/// The first row with a positive cell whose ratio passes.
+/// The first row with a positive cell whose ratio is too wide.
 #[derive(Clone, Copy, Debug, PartialEq, Eq, Drop)]
 pub struct RatioWide {
     pub row: usize,
@@ -52,15 +52,15 @@ fn better<S: Exact>(t: &Table<S>, best: Option<Candidate<S>>, next: Candidate<S>
 /// Among the rows with a positive cell in the column, the one with the least ratio of right side to cell; among
 /// equal ratios, the one with the least basic column. The objective row isn't one of them.
 ///
-/// Refused at the first ratio that passes, by rising rows.
+/// Refused at the first ratio that is too wide, by rising rows.
 pub fn leaving<S: Exact>(t: &Table<S>, column: usize) -> Result<Option<usize>, RatioWide>
     requires { column < columns (shape_of_table t.now) }
     ensures ok { IfOk result (λ r.
         r ≡ leaving ordered_fractions (shape_of_table t.now) (table_of t.now) column) }
     ensures fits { OnOk result
-        (ratio_row ordered_fractions (shape_of_table t.now) (passes S.MAX) (table_of t.now) column ≡ None) }
+        (ratio_row ordered_fractions (shape_of_table t.now) (is_too_wide S.MAX) (table_of t.now) column ≡ None) }
     ensures wide { IfErr result (λ e.
-        ratio_row ordered_fractions (shape_of_table t.now) (passes S.MAX) (table_of t.now) column
+        ratio_row ordered_fractions (shape_of_table t.now) (is_too_wide S.MAX) (table_of t.now) column
         ≡ Some e.row) }
 {
     let right = t.columns();

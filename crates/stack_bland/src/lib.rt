@@ -2,6 +2,11 @@
 //!
 //! After Bland (1977): of the columns that may enter, and of the rows that may leave, the least is taken, so
 //! that no basis comes twice. No call takes memory.
+//!
+//! ```text
+//! let column = entering(&table, among)?; // the least column whose objective cell is negative
+//! let row = leaving(&table, column)?; // of the rows with the least ratio that of the least basic column
+//! ```
 #![tactic(auto)]
 
 mod entering_column;

@@ -4,14 +4,14 @@ ghost use Rattle.std.specs.Prelude.{◌≡◌};
 ghost use Rattle.stack_algebra.proofs.OrderedFractions.{ordered_fractions};
 ghost use Rattle.stack_algebra.specs.Ordered.{sign_of};
 ghost use Rattle.stack_algebra.specs.Rows.{less};
-ghost use Rattle.stack_bland.specs.Choice.{is_minus, is_plus};
+ghost use Rattle.stack_bland.specs.Choice.{is_negative_sign, is_plus};
 ghost use Rattle.stack_bland.specs.BySign.{by_sign};
 
 use stack_rational::Exact;
 use std::cmp::Ordering;
 
 pub fn is_negative<S: Exact>(x: S) -> bool
-    ensures { result ≡ is_minus (sign_of (S.exact x).num) }
+    ensures { result ≡ is_negative_sign (sign_of (S.exact x).num) }
 {
     x.sign() < 0
 }

@@ -1,5 +1,6 @@
 -- Lines, taken apart.
-use Rattle.std.proofs.Common.{◌≡◌, ◌≢◌, ℕ, suc, ◌+◌, ◌<◌, ◌%◌, ◌^◌, ℤ, pos, negsuc, List, [], ◌∷◌, ◌++◌, true, not, ◌==◌, refl, sym, ◌∙◌, arith}
+use Rattle.std.proofs.Common.{◌≡◌, ◌≢◌, ℕ, suc, ◌+◌, ◌<◌, ◌%◌, ◌^◌, ℤ, pos, negsuc, List, [], ◌∷◌, ◌++◌, true, not}
+use Rattle.std.proofs.Common.{◌==◌, refl, sym, ◌∙◌, arith}
 use Rattle.std.proofs.Common.{Option, Some, None, IfSome, IfNone, Bor}
 use Rattle.std.specs.Option.{MatchOption}
 use Rattle.std.specs.Fmt.{decimal, signed_decimal}
@@ -9,7 +10,7 @@ use Rattle.std.proofs.lemmas.Bool.Decides.{nat_tests}
 use Rattle.std.proofs.lemmas.Bool.{and_parts}
 use Rattle.stack_whole.specs.Whole.{IsFitting}
 use Rattle.stack_certificate.specs.Numbers.{IsNumber}
-use Rattle.stack_certificate.specs.Lines.{lacks, two_text, IsTwo, IsThree}
+use Rattle.stack_certificate.specs.Lines.{lacks, two_text, IsTwo, IsThreeNumbers}
 
 lacks_digit : (c n : ℕ) → c < 45 → lacks c ((48 + n) ∷ []) ≡ true
 lacks_digit c n h = grind (arith, nat_tests)
@@ -50,7 +51,7 @@ two_parts a b bytes first second e free is =
     ((is.0, r.0), (is.1, r.1))
 
 pub three_parts : (a b c : ℤ) (bytes first rest : List ℕ) → bytes ≡ first ++ 32 ∷ rest → lacks 32 first ≡ true
-    → IsThree a b c bytes → IsNumber a first × IsTwo b c rest
+    → IsThreeNumbers a b c bytes → IsNumber a first × IsTwo b c rest
 three_parts a b c bytes first rest e free is =
     let free_of_spaces = lacks_number 32 a (omega arith) is.0 in
     let r = cut_once 32 first rest (signed_decimal a) (two_text b c) free free_of_spaces (sym e ∙ is.3) in

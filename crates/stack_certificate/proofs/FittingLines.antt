@@ -4,9 +4,12 @@ use Rattle.std.specs.List.{AllByRecursion}
 use Rattle.std.proofs.lemmas.List.Elements.{All-from_recursion, recursion_from_All}
 use Rattle.stack_certificate.specs.declared.line.Line.{Line}
 use Rattle.stack_certificate.specs.declared.line.Line.TheVariants as lines
-use Rattle.stack_certificate.specs.Certificate.{ForcesValue, MotionValue, CertificateValue, stands, collapses, greatest, unbounded}
+use Rattle.stack_certificate.specs.Certificate.{ForcesValue, MotionValue, CertificateValue, stands, collapses}
+use Rattle.stack_certificate.specs.Certificate.{greatest, unbounded}
 use Rattle.stack_certificate.specs.Lines.{LineFits}
-use Rattle.stack_certificate.specs.CertificateText.{push_line, forces_lines, move_line, motion_lines, open_lines, lines_of, PartFits, MoveFits, ForcesFit, MotionFits, CertificateFits}
+use Rattle.stack_certificate.specs.CertificateText.{push_line, forces_lines, move_line, motion_lines, open_lines}
+use Rattle.stack_certificate.specs.CertificateText.{lines_of, PartFits, MoveFits, ForcesFit, MotionFits}
+use Rattle.stack_certificate.specs.CertificateText.{CertificateFits}
 
 -- of lists one after the other
 pub both_fit : (xs ys : List Line) → AllByRecursion LineFits xs → AllByRecursion LineFits ys

@@ -1,16 +1,18 @@
 -- A text that is read line by line: what is known on the way, and what it comes to.
-use Rattle.std.proofs.Common.{◌≡◌, ℕ, suc, ◌+◌, ◌==◌, List, [], ◌∷◌, length, true, refl, sym, ap, ◌∙◌, arith, Some, None, Err}
+use Rattle.std.proofs.Common.{◌≡◌, ℕ, suc, ◌+◌, ◌==◌, List, [], ◌∷◌, length, true, refl, sym, ap, ◌∙◌, arith, Some}
+use Rattle.std.proofs.Common.{None, Err}
 use Rattle.std.specs.Option.{option_and_then}
 use Rattle.std.proofs.lemmas.Bool.Decides.{nat_tests}
 use Rattle.stack_certificate.specs.declared.line.Line.{Line}
 use Rattle.stack_certificate.specs.Lines.{IsLine}
 use Rattle.stack_certificate.specs.FaultLine.{cut}
-use Rattle.stack_certificate.specs.CertificateOf.{Progress, start, next, step, run, accepted, finished, certificate_of}
+use Rattle.stack_certificate.specs.CertificateOf.{Progress, start, progress_after, step, progress_over, accepted}
+use Rattle.stack_certificate.specs.CertificateOf.{finished, certificate_of}
 use Rattle.stack_certificate.proofs.ReadLines.{line_found, no_line_found}
 
 -- what the rest comes to is what the text comes to; the next line has this number
 pub record IsRead (text : List ℕ) (p : Progress) (rest : List ℕ) (number : ℕ) : Type 0 where
-  pub runs : run start (cut text) ≡ run p (cut rest)
+  pub runs : progress_over start (cut text) ≡ progress_over p (cut rest)
   pub counts : suc (accepted start (cut text)) ≡ number + accepted p (cut rest)
 
 pub nothing_read : (text : List ℕ) → IsRead text start text 1
@@ -18,10 +20,10 @@ nothing_read text = record { runs = refl; counts = omega arith }
 
 -- a line that may come
 pub read_on : (text : List ℕ) (p q : Progress) (rest bytes after : List ℕ) (line : Line) (number : ℕ)
-    → IsRead text p rest number → cut rest ≡ bytes ∷ cut after → IsLine line bytes → Some q ≡ next p line
+    → IsRead text p rest number → cut rest ≡ bytes ∷ cut after → IsLine line bytes → Some q ≡ progress_after p line
     → IsRead text q after (number + 1)
 read_on text p q rest bytes after line number is head found may =
-    let s : step p bytes ≡ Some q = ap (option_and_then (next p)) (line_found line bytes found) ∙ sym may in
+    let s : step p bytes ≡ Some q = ap (option_and_then (progress_after p)) (line_found line bytes found) ∙ sym may in
     let count : accepted p (cut rest) ≡ suc (accepted q (cut after)) = rw (head, s) refl in
     record { runs = is.runs ∙ rw (head, s) refl; counts = omega (arith, count, is.counts) }
 
@@ -31,17 +33,17 @@ pub stopped : (text : List ℕ) (p : Progress) (rest bytes after : List ℕ) (nu
     → certificate_of text ≡ Err number
 unfolding certificate_of
 stopped text p rest bytes after number is head none =
-    let runs : run start (cut text) ≡ None = is.runs ∙ rw (head, none) refl in
+    let runs : progress_over start (cut text) ≡ None = is.runs ∙ rw (head, none) refl in
     let count : accepted p (cut rest) ≡ 0 = rw (head, none) refl in
     let line : suc (accepted start (cut text)) ≡ number = omega (arith, count, is.counts) in
     rw (runs, line) refl
 
 pub no_line : (p : Progress) (bytes : List ℕ) → ((line : Line) → ¬ IsLine line bytes) → step p bytes ≡ None
-no_line p bytes none = ap (option_and_then (next p)) (no_line_found bytes none)
+no_line p bytes none = ap (option_and_then (progress_after p)) (no_line_found bytes none)
 
-pub other_line : (p : Progress) (bytes : List ℕ) (line : Line) → IsLine line bytes → None ≡ next p line
+pub other_line : (p : Progress) (bytes : List ℕ) (line : Line) → IsLine line bytes → None ≡ progress_after p line
     → step p bytes ≡ None
-other_line p bytes line found not = ap (option_and_then (next p)) (line_found line bytes found) ∙ sym not
+other_line p bytes line found not = ap (option_and_then (progress_after p)) (line_found line bytes found) ∙ sym not
 
 -- the end of the text
 pub closed : (text : List ℕ) (p : Progress) (rest : List ℕ) (number : ℕ) → (length rest == 0) ≡ true

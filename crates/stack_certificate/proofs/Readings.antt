@@ -1,5 +1,6 @@
 -- The function of the bytes gives what the grammar says: the certificate of a text, or the faulty line.
-use Rattle.std.proofs.Common.{◌≡◌, ℕ, zero, suc, ◌+◌, ◌<◌, ◌≤◌, ◌⊎◌, inl, inr, List, [], ◌∷◌, ◌++◌, length, take, map, refl, sym, ap, ◌∙◌, append_assoc, pos, arith, Option, Some, None, Result, Ok, Err}
+use Rattle.std.proofs.Common.{◌≡◌, ℕ, zero, suc, ◌+◌, ◌<◌, ◌≤◌, ◌⊎◌, inl, inr, List, [], ◌∷◌, ◌++◌, length, take, map}
+use Rattle.std.proofs.Common.{refl, sym, ap, ◌∙◌, append_assoc, pos, arith, Option, Some, None, Result, Ok, Err}
 use Rattle.std.specs.List.{AllByRecursion}
 use Rattle.std.specs.Option.{option_map, option_and_then}
 use Rattle.std.proofs.lemmas.List.{append-nil, map-append, take_all}
@@ -10,7 +11,9 @@ use Rattle.stack_certificate.specs.Certificate.{ForcesValue, CertificateValue, s
 use Rattle.stack_certificate.specs.Lines.{line_text, LineFits}
 use Rattle.stack_certificate.specs.CertificateText.{forces_lines, lines_of, certificate_text, IsCertificateText}
 use Rattle.stack_certificate.specs.FaultLine.{cut, Begins, IsFaultLine}
-use Rattle.stack_certificate.specs.CertificateOf.{Progress, start, formed, before_motion, before_ray, unended, ended, no_parts, step, run, counted, accepted, finished, certificate_of}
+use Rattle.stack_certificate.specs.CertificateOf.{Progress, start, formed, before_motion, before_ray, unended, ended}
+use Rattle.stack_certificate.specs.CertificateOf.{no_parts, step, progress_over, lines_counted, accepted, finished}
+use Rattle.stack_certificate.specs.CertificateOf.{certificate_of}
 use Rattle.stack_certificate.proofs.TextLines.{text_from, cut_text}
 use Rattle.stack_certificate.proofs.FittingLines.{both_fit, lines_fit, certificate_fits}
 use Rattle.stack_certificate.proofs.LineSteps.{so_far, Reached, run_reaches, run_append, whole_run}
@@ -21,13 +24,13 @@ text_cut : (c : CertificateValue) (bytes : List ℕ) → IsCertificateText c byt
 text_cut c bytes is = ap cut is.is ∙ cut_text (lines_of c) (lines_fit c is.fits)
 
 text_runs : (c : CertificateValue) (bytes : List ℕ) → IsCertificateText c bytes
-    → run start (cut bytes) ≡ Some (ended c)
-text_runs c bytes is = ap (run start) (text_cut c bytes is) ∙ whole_run c is.fits
+    → progress_over start (cut bytes) ≡ Some (ended c)
+text_runs c bytes is = ap (progress_over start) (text_cut c bytes is) ∙ whole_run c is.fits
 
-reached_from_start : (p : Progress) (texts : List (List ℕ)) → run start texts ≡ Some p → Reached p texts
+reached_from_start : (p : Progress) (texts : List (List ℕ)) → progress_over start texts ≡ Some p → Reached p texts
 reached_from_start p texts e = run_reaches start p [] texts (record { are = refl; fit = tt }) e
 
-runs_text : (c : CertificateValue) (bytes : List ℕ) → run start (cut bytes) ≡ Some (ended c)
+runs_text : (c : CertificateValue) (bytes : List ℕ) → progress_over start (cut bytes) ≡ Some (ended c)
     → IsCertificateText c bytes
 runs_text c bytes e =
     let reached = reached_from_start (ended c) (cut bytes) e in
@@ -101,7 +104,7 @@ completed (unended c) = record { certificate = c; more = lines.End ∷ []; fit =
 completed (ended c) = record { certificate = c; more = []; fit = tt; are = sym (append-nil (lines_of c)) }
 
 -- lines begin a text exactly where each of them may come
-run_begins : (p : Progress) (front : List (List ℕ)) → run start front ≡ Some p → Begins front
+run_begins : (p : Progress) (front : List (List ℕ)) → progress_over start front ≡ Some p → Begins front
 run_begins p front e =
     let reached = reached_from_start p front e in
     let whole = completed p in
@@ -120,37 +123,38 @@ run_begins p front e =
           ∙ ap (λ ls. ls ++ map line_text whole.more) (sym reached.are)));
     }
 
-begins_run : (front : List (List ℕ)) → Begins front → run start front ≡ None → ⊥
+begins_run : (front : List (List ℕ)) → Begins front → progress_over start front ≡ None → ⊥
 begins_run front begins e =
-    let whole : run start (front ++ begins.rest) ≡ Some (ended begins.certificate) =
-    ap (run start) (sym begins.starts) ∙ text_runs begins.certificate begins.text begins.is in
-    let none : run start (front ++ begins.rest) ≡ None = run_append start front begins.rest ∙ rw e refl in
+    let whole : progress_over start (front ++ begins.rest) ≡ Some (ended begins.certificate) =
+    ap (progress_over start) (sym begins.starts) ∙ text_runs begins.certificate begins.text begins.is in
+    let none : progress_over start (front ++ begins.rest) ≡ None = run_append start front begins.rest ∙ rw e refl in
     cc
 
 -- so many lines may come
 accepts : (p : Progress) (texts : List (List ℕ)) (k : ℕ) → k ≤ accepted p texts
-    → (q : Progress) × (run p (take k texts) ≡ Some q)
+    → (q : Progress) × (progress_over p (take k texts) ≡ Some q)
 accepts p texts zero le = (p, refl)
 accepts p [] (suc k) le = absurd (omega arith)
 accepts p (bytes ∷ more) (suc k) le = by_step (λ q. accepts q more k) (step p bytes) le
   where
-    by_step : ((q : Progress) → k ≤ accepted q more → (r : Progress) × (run q (take k more) ≡ Some r))
-        → (s : Option Progress) → suc k ≤ counted (option_map (λ q. accepted q more) s)
-        → (r : Progress) × (option_and_then (λ q. run q (take k more)) s ≡ Some r)
+    by_step : ((q : Progress) → k ≤ accepted q more → (r : Progress) × (progress_over q (take k more) ≡ Some r))
+        → (s : Option Progress) → suc k ≤ lines_counted (option_map (λ q. accepted q more) s)
+        → (r : Progress) × (option_and_then (λ q. progress_over q (take k more)) s ≡ Some r)
     by_step rest None h = absurd (omega arith)
     by_step rest (Some q) h = rest q (omega arith)
 
 -- and the next one may not, where there is one
 abbrev Stops : Progress → List (List ℕ) → Type 0
-Stops p texts = (run p (take (suc (accepted p texts)) texts) ≡ None) ⊎ (accepted p texts ≡ length texts)
+Stops p texts = (progress_over p (take (suc (accepted p texts)) texts) ≡ None) ⊎ (accepted p texts ≡ length texts)
 
 stops : (p : Progress) (texts : List (List ℕ)) → Stops p texts
 stops p [] = inr refl
 stops p (bytes ∷ more) = by_step (λ q. stops q more) (step p bytes)
   where
     by_step : ((q : Progress) → Stops q more) → (s : Option Progress)
-        → (option_and_then (λ q. run q (take (counted (option_map (λ q. accepted q more) s)) more)) s ≡ None)
-        ⊎ (counted (option_map (λ q. accepted q more) s) ≡ length (bytes ∷ more))
+        → (option_and_then (λ q. progress_over q (take (lines_counted
+        (option_map (λ q. accepted q more) s)) more)) s ≡ None)
+        ⊎ (lines_counted (option_map (λ q. accepted q more) s) ≡ length (bytes ∷ more))
     by_step rest None = inl refl
     by_step rest (Some q) = elim (rest q) [ inl none ↦ inl none | inr all ↦ inr (omega (arith, all)) ]
 
@@ -170,13 +174,13 @@ reads c bytes is = rw (text_runs c bytes is) refl
 
 pub is_read : (c : CertificateValue) (bytes : List ℕ) → certificate_of bytes ≡ Ok c → IsCertificateText c bytes
 unfolding certificate_of
-is_read c bytes e = runs_text c bytes (is_whole (run start (cut bytes)) c _ e)
+is_read c bytes e = runs_text c bytes (is_whole (progress_over start (cut bytes)) c _ e)
 
 -- the faulty line
 pub faulty : (n : ℕ) (bytes : List ℕ) → certificate_of bytes ≡ Err n → IsFaultLine n bytes
 unfolding certificate_of
 faulty n bytes e =
-    let open_text = not_whole (run start (cut bytes)) n _ e in
+    let open_text = not_whole (progress_over start (cut bytes)) n _ e in
     let count : suc (accepted start (cut bytes)) ≡ n = open_text.0 in
     record {
       none = λ c is. open_text.1 c (text_runs c bytes is);

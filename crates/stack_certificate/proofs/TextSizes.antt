@@ -11,7 +11,9 @@ use Rattle.stack_certificate.specs.declared.line.Line.TheVariants as lines
 use Rattle.stack_certificate.specs.declared.line.Form.TheVariants as forms
 use Rattle.stack_certificate.specs.Certificate.{ForcesValue, MotionValue, stands, collapses, greatest, unbounded}
 use Rattle.stack_certificate.specs.Lines.{two_text, three_text, line_text}
-use Rattle.stack_certificate.specs.CertificateText.{push_line, forces_lines, move_line, motion_lines, open_lines, text_of, PartFits, MoveFits, ForcesFit, MotionFits, FewHaveShortTexts}
+use Rattle.stack_certificate.specs.CertificateText.{push_line, forces_lines, move_line, motion_lines, open_lines}
+use Rattle.stack_certificate.specs.CertificateText.{text_of, PartFits, MoveFits, ForcesFit, MotionFits}
+use Rattle.stack_certificate.specs.CertificateText.{FewHaveShortTexts}
 use Rattle.stack_certificate.proofs.Spellings.{small_fits}
 
 -- a number has at most 40 bytes, 39 digits and a sign

@@ -51,32 +51,32 @@ continued c (lines.Move u v r) = option_map unended (with_move c (u, v, r))
 continued c lines.End = Some (ended c)
 continued c _ = None
 
-abbrev pub next : Progress → Line → Option Progress
-next start (lines.Form form) = Some (formed form)
-next (formed form) line = begun form line
-next (before_motion f) (lines.Push a b) = Some (before_motion (with_part f (a, b)))
-next (before_motion f) lines.Motion = Some (unended (greatest f []))
-next (before_ray f) (lines.Push a b) = Some (before_ray (with_part f (a, b)))
-next (before_ray f) (lines.Forces s t) = Some (unended (unbounded f (no_parts s t)))
-next (unended c) line = continued c line
-next _ _ = None
+abbrev pub progress_after : Progress → Line → Option Progress
+progress_after start (lines.Form form) = Some (formed form)
+progress_after (formed form) line = begun form line
+progress_after (before_motion f) (lines.Push a b) = Some (before_motion (with_part f (a, b)))
+progress_after (before_motion f) lines.Motion = Some (unended (greatest f []))
+progress_after (before_ray f) (lines.Push a b) = Some (before_ray (with_part f (a, b)))
+progress_after (before_ray f) (lines.Forces s t) = Some (unended (unbounded f (no_parts s t)))
+progress_after (unended c) line = continued c line
+progress_after _ _ = None
 
 -- After the line that these bytes are, and after all of these.
 abbrev pub step : Progress → List ℕ → Option Progress
-step p bytes = option_and_then (next p) (line_of bytes)
+step p bytes = option_and_then (progress_after p) (line_of bytes)
 
-abbrev pub run : Progress → List (List ℕ) → Option Progress
-run p [] = Some p
-run p (bytes ∷ more) = option_and_then (λ q. run q more) (step p bytes)
+abbrev pub progress_over : Progress → List (List ℕ) → Option Progress
+progress_over p [] = Some p
+progress_over p (bytes ∷ more) = option_and_then (λ q. progress_over q more) (step p bytes)
 
 -- So many of the lines may come, up to the first that may not.
-abbrev pub counted : Option ℕ → ℕ
-counted None = 0
-counted (Some n) = suc n
+abbrev pub lines_counted : Option ℕ → ℕ
+lines_counted None = 0
+lines_counted (Some n) = suc n
 
 abbrev pub accepted : Progress → List (List ℕ) → ℕ
 accepted p [] = 0
-accepted p (bytes ∷ more) = counted (option_map (λ q. accepted q more) (step p bytes))
+accepted p (bytes ∷ more) = lines_counted (option_map (λ q. accepted q more) (step p bytes))
 
 -- The certificate, where its text is whole, or this line.
 abbrev pub finished : Option Progress → ℕ → Result CertificateValue ℕ
@@ -84,4 +84,4 @@ finished (Some (ended c)) n = Ok c
 finished _ n = Err n
 
 unfoldable pub certificate_of : List ℕ → Result CertificateValue ℕ
-certificate_of bytes = finished (run start (cut bytes)) (suc (accepted start (cut bytes)))
+certificate_of bytes = finished (progress_over start (cut bytes)) (suc (accepted start (cut bytes)))

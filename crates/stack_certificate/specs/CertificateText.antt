@@ -7,7 +7,8 @@ use Rattle.std.specs.List.{All}
 use Rattle.stack_certificate.specs.declared.line.Form.TheVariants as forms
 use Rattle.stack_certificate.specs.declared.line.Line.{Line}
 use Rattle.stack_certificate.specs.declared.line.Line.TheVariants as lines
-use Rattle.stack_certificate.specs.Certificate.{ForcesValue, MotionValue, CertificateValue, stands, collapses, greatest, unbounded}
+use Rattle.stack_certificate.specs.Certificate.{ForcesValue, MotionValue, CertificateValue, stands, collapses}
+use Rattle.stack_certificate.specs.Certificate.{greatest, unbounded}
 use Rattle.stack_whole.specs.Whole.{IsFitting}
 use Rattle.stack_whole.specs.Limits.{most_bearings, most_free}
 use Rattle.stack_certificate.specs.Lines.{line_text}

@@ -1,6 +1,7 @@
 -- Whole numbers as digits: 0, or digits of which the first isn't 0. Independent of how a number is printed or
 -- read.
-use Rattle.std.specs.Prelude.{◌≡◌, ℕ, suc, ◌+◌, ◌-◌, ◌*◌, ◌<◌, ◌≤◌, ℤ, pos, negsuc, List, [], ◌∷◌, length, slice_index, ⊤}
+use Rattle.std.specs.Prelude.{◌≡◌, ℕ, suc, ◌+◌, ◌-◌, ◌*◌, ◌<◌, ◌≤◌, ℤ, pos, negsuc, List, [], ◌∷◌, length}
+use Rattle.std.specs.Prelude.{slice_index, ⊤}
 
 abbrev pub AreDigits : List ℕ → Type 0
 AreDigits [] = ⊤

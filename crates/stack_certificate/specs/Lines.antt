@@ -22,8 +22,8 @@ three_text a b c = signed_decimal a ++ 32 ∷ two_text b c
 abbrev pub IsTwo : ℤ → ℤ → List ℕ → Type 0
 IsTwo a b bytes = IsFitting a × IsFitting b × (bytes ≡ two_text a b)
 
-abbrev pub IsThree : ℤ → ℤ → ℤ → List ℕ → Type 0
-IsThree a b c bytes = IsFitting a × IsFitting b × IsFitting c × (bytes ≡ three_text a b c)
+abbrev pub IsThreeNumbers : ℤ → ℤ → ℤ → List ℕ → Type 0
+IsThreeNumbers a b c bytes = IsFitting a × IsFitting b × IsFitting c × (bytes ≡ three_text a b c)
 
 -- The word of a form.
 abbrev pub form_text : Form → List ℕ

@@ -1,10 +1,11 @@
--- How far a text has been read. Used by the reader alone.
+-- What a stage of reading means: how far a text has been read. Used by the reader alone.
 use Rattle.std.specs.Prelude.{◌≡◌, ℕ, Option, Some, None, Err}
 use Rattle.stack_certificate.specs.declared.types.Certificate.{Certificate}
 use Rattle.stack_certificate.specs.declared.stage.Stage.{Stage}
 use Rattle.stack_certificate.specs.declared.stage.Stage.TheVariants as stages
 use Rattle.stack_certificate.specs.Certificate.{forces_view, certificate_view}
-use Rattle.stack_certificate.specs.CertificateOf.{Progress, start, formed, before_motion, before_ray, unended, ended, finished}
+use Rattle.stack_certificate.specs.CertificateOf.{Progress, start, formed, before_motion, before_ray, unended, ended}
+use Rattle.stack_certificate.specs.CertificateOf.{finished}
 
 abbrev pub stage_view : Stage → Progress
 stage_view stages.Start = start

@@ -3,7 +3,8 @@
 ghost use Rattle.std.specs.Prelude.{◌≡◌, List, ℕ, ℤ};
 ghost use Rattle.std.specs.Fmt.{signed_decimal};
 ghost use Rattle.stack_certificate.specs.Certificate.{CertificateValue};
-ghost use Rattle.stack_certificate.specs.CertificateText.{CertificateFits, certificate_text, IsCertificateText, FewHaveShortTexts};
+ghost use Rattle.stack_certificate.specs.CertificateText.{CertificateFits, certificate_text, IsCertificateText};
+ghost use Rattle.stack_certificate.specs.CertificateText.{FewHaveShortTexts};
 ghost use Rattle.stack_certificate.specs.CertificateOf.{certificate_of};
 ghost use Rattle.stack_certificate.specs.FaultLine.{IsFaultLine};
 ghost use Rattle.stack_certificate.specs.Digits.{IsWritten};
@@ -20,7 +21,8 @@ pub fn one_reading()
 
 /// Two different certificates have different texts.
 pub fn one_certificate()
-    ensures { (c d : CertificateValue) (bytes : List ℕ) → IsCertificateText c bytes → IsCertificateText d bytes → c ≡ d }
+    ensures { (c d : CertificateValue) (bytes : List ℕ) → IsCertificateText c bytes → IsCertificateText d bytes → c
+        ≡ d }
 {}
 
 /// A certificate whose numbers fit has exactly one text.

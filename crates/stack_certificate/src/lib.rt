@@ -1,4 +1,9 @@
 //! Certificates and their text.
+//!
+//! ```text
+//! let certificate = read_certificate(alloc, b"stands\nforces 1 0\npush 24 0\npush 24 0\nend\n")?;
+//! write_certificate(alloc, &certificate)? // the same bytes
+//! ```
 #![tactic(auto)]
 
 mod laws;

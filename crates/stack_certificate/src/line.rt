@@ -3,7 +3,7 @@
 ghost use Rattle.std.specs.Prelude.{◌≡◌, ◌≢◌, IfSome, IfNone, ℤ};
 ghost use Rattle.stack_certificate.specs.declared.line.Form.{Form};
 ghost use Rattle.stack_certificate.specs.declared.line.Line.{Line};
-ghost use Rattle.stack_certificate.specs.Lines.{form_text, IsTwo, IsThree, IsBody, IsLine};
+ghost use Rattle.stack_certificate.specs.Lines.{form_text, IsTwo, IsThreeNumbers, IsBody, IsLine};
 
 use crate::number::read_number;
 use crate::split::{after, split_once};
@@ -47,8 +47,8 @@ fn read_two(bytes: &[u8]) -> Option<(i128, i128)>
 
 /// The three numbers that the bytes spell, with one space between them.
 fn read_three(bytes: &[u8]) -> Option<(i128, i128, i128)>
-    ensures some { IfSome result (λ r. IsThree r.0 r.1 r.2 bytes.now) }
-    ensures none { IfNone result ((a b c : ℤ) → ¬ IsThree a b c bytes.now) }
+    ensures some { IfSome result (λ r. IsThreeNumbers r.0 r.1 r.2 bytes.now) }
+    ensures none { IfNone result ((a b c : ℤ) → ¬ IsThreeNumbers a b c bytes.now) }
 {
     let Some((first, rest)) = split_once(bytes, b' ') else {
         return None;

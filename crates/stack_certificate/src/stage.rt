@@ -3,7 +3,8 @@
 ghost use Rattle.std.specs.Prelude.{◌≡◌, IfOk};
 ghost use Rattle.std.specs.Option.{option_map};
 ghost use Rattle.stack_certificate.specs.Certificate.{forces_view, certificate_view};
-ghost use Rattle.stack_certificate.specs.CertificateOf.{no_parts, with_push, with_move, begun, continued, next};
+ghost use Rattle.stack_certificate.specs.CertificateOf.{no_parts, with_push, with_move, begun, continued};
+ghost use Rattle.stack_certificate.specs.CertificateOf.{progress_after};
 ghost use Rattle.stack_certificate.specs.CertificateOf.{before_motion, before_ray, unended};
 ghost use Rattle.stack_certificate.specs.Stages.{stage_view, Finishes};
 
@@ -30,7 +31,7 @@ pub enum Stage {
 
 /// The stage after one more line, if that line may come there.
 pub fn accept(alloc: Global, stage: Stage, line: Line) -> Result<Option<Stage>, AllocError>
-    ensures { IfOk result (λ s. option_map stage_view s ≡ next (stage_view stage) line) }
+    ensures { IfOk result (λ s. option_map stage_view s ≡ progress_after (stage_view stage) line) }
 {
     match stage {
         Stage::Start => match line {
@@ -84,7 +85,7 @@ fn part_or_motion(
     mut forces: Forces,
     line: Line,
 ) -> Result<Option<Stage>, AllocError>
-    ensures { IfOk result (λ s. option_map stage_view s ≡ next (before_motion (forces_view forces)) line) }
+    ensures { IfOk result (λ s. option_map stage_view s ≡ progress_after (before_motion (forces_view forces)) line) }
 {
     match line {
         Line::Push { a, b } => {
@@ -101,7 +102,7 @@ fn part_or_motion(
 
 /// The first forces of an unbounded factor go on, or the further ones begin.
 fn part_or_ray(alloc: Global, mut forces: Forces, line: Line) -> Result<Option<Stage>, AllocError>
-    ensures { IfOk result (λ s. option_map stage_view s ≡ next (before_ray (forces_view forces)) line) }
+    ensures { IfOk result (λ s. option_map stage_view s ≡ progress_after (before_ray (forces_view forces)) line) }
 {
     match line {
         Line::Push { a, b } => {
@@ -130,7 +131,8 @@ fn go_on(certificate: Certificate, line: Line) -> Result<Option<Stage>, AllocErr
 
 /// A further part of the last list, if that is forces.
 fn add_push(certificate: Certificate, a: i128, b: i128) -> Result<Option<Stage>, AllocError>
-    ensures { IfOk result (λ s. option_map stage_view s ≡ option_map unended (with_push (certificate_view certificate) (a, b))) }
+    ensures { IfOk result (λ s. option_map stage_view s ≡ option_map unended
+        (with_push (certificate_view certificate) (a, b))) }
 {
     match certificate {
         Certificate::Stands(mut forces) => {
@@ -152,7 +154,8 @@ fn add_move(
     v: i128,
     r: i128,
 ) -> Result<Option<Stage>, AllocError>
-    ensures { IfOk result (λ s. option_map stage_view s ≡ option_map unended (with_move (certificate_view certificate) (u, v, r))) }
+    ensures { IfOk result (λ s. option_map stage_view s ≡ option_map unended
+        (with_move (certificate_view certificate) (u, v, r))) }
 {
     match certificate {
         Certificate::Collapses(mut motion) => {

@@ -20,7 +20,7 @@ use Rattle.stack_amounts.specs.WrittenLists.{forces_list, ray_list, bound_list, 
 use Rattle.stack_amounts.specs.WholeLists.{whole_list}
 use Rattle.stack_amounts.specs.WholeEnds.{EndIsWhole}
 use Rattle.stack_amounts.proofs.WholeEnds.{ends_are_whole}
-use Rattle.stack_certified.specs.Certified.{end_forces, end_collapse, certificate_of}
+use Rattle.stack_certified.specs.Certified.{end_forces, end_collapse, end_certificate}
 use Rattle.stack_certified.specs.Laws.{IsEndOfRun, IsCertified, EndsAreCertified, IsEndOf, EndsAreOfTheQuestion}
 use Rattle.stack_certified.specs.Laws.{EndPushes, EndsPush}
 use Rattle.stack_certified.proofs.HeldCertificates.{stands_of, collapse_of, greatest_of, unbounded_of, dead_loads_of}
@@ -47,7 +47,7 @@ module _ (v : Surveyed) (proper : IsProper (scene_of v)) where
 
   -- a collapse, of either question
   collapsed : (q : Question) (T : Tabled Fraction) → IsOfQuestion q (collapses (end_collapse q v T)) →
-      EndIsWhole (posed q (scene_of v)) (infeasible T) → HasCertificate q v (certificate_of q v (infeasible T))
+      EndIsWhole (posed q (scene_of v)) (infeasible T) → HasCertificate q v (end_certificate q v (infeasible T))
   collapsed q T form h = record { holds = true_one; form = form; dead_loads = excluded }
     where
       true_one : IsTrueCertificate v (collapses (end_collapse q v T))
@@ -63,7 +63,7 @@ module _ (v : Surveyed) (proper : IsProper (scene_of v)) where
 
   -- each end
   certified : (q : Question) (x : End Fraction) → EndIsWhole (posed q (scene_of v)) x →
-      HasCertificate q v (certificate_of q v x)
+      HasCertificate q v (end_certificate q v x)
   certified Dead (infeasible T) h = collapsed Dead T tt h
   certified Live (infeasible T) h = collapsed Live T tt h
   certified Dead (feasible T) h = record {

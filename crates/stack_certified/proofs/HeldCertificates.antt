@@ -9,11 +9,12 @@ use Rattle.stack_equilibrium.specs.declared.types.Question.{Question}
 use Rattle.stack_equilibrium.specs.declared.types.Question.TheVariants.{Dead, Live}
 use Rattle.stack_equilibrium.specs.Scene.{Move, Scene, IsProper}
 use Rattle.stack_equilibrium.specs.Balance.{Carries}
-use Rattle.stack_equilibrium.specs.Certificates.{Forces, IsTrueStands, IsTrueCollapse, IsTrueGreatest, IsTrueUnbounded}
+use Rattle.stack_equilibrium.specs.Certificates.{SceneForces, IsTrueStands, IsTrueCollapse, IsTrueGreatest}
+use Rattle.stack_equilibrium.specs.Certificates.{IsTrueUnbounded}
 use Rattle.stack_equilibrium.specs.Held.{part_of_pair, forces_of, move_of_triple, moves_of}
 use Rattle.stack_equilibrium.specs.SurveyScene.{scene_of}
 use Rattle.stack_equilibrium.proofs.CertificateLaws.{stands_is_carried}
-use Rattle.stack_equations.specs.FreeBodies.{free_count}
+use Rattle.stack_equations.specs.FreeBodies.{free_bodies}
 use Rattle.stack_equations.specs.Equations.{IsSolution, forces_from}
 use Rattle.stack_equations.specs.MovesByNumber.{moves_from, power_by}
 use Rattle.stack_equations.specs.ByNumber.{dead_on, live_on}
@@ -32,14 +33,14 @@ module _ (v : Surveyed) where
   factor zs = amount zs (2 * s.bearings)
 
   -- the forces and the motion as they are held, and as the equations speak of them
-  abbrev pub held : ℤ → List ℤ → Forces
+  abbrev pub held : ℤ → List ℤ → SceneForces
   held scale zs = forces_of (forces_value v.bearings scale zs)
 
-  abbrev told : ℤ → List ℤ → Forces
+  abbrev told : ℤ → List ℤ → SceneForces
   told scale zs = forces_from s scale (factor zs) (amounts (amount zs))
 
   abbrev pub held_moves : Question → List ℤ → List Move
-  held_moves q zs = moves_of (motion_value (free_count s) (posed q s) zs)
+  held_moves q zs = moves_of (motion_value (free_bodies s) (posed q s) zs)
 
   abbrev told_moves : Question → List ℤ → List Move
   told_moves q zs = moves_from s (moves (multiplier (posed q s) zs))
@@ -53,7 +54,7 @@ module _ (v : Surveyed) where
   }
 
   same_moves : (q : Question) (zs : List ℤ) → told_moves q zs ≡ held_moves q zs
-  same_moves q zs = sym (map_listed move_of_triple (free_count s) (triple_at (multiplier (posed q s) zs)))
+  same_moves q zs = sym (map_listed move_of_triple (free_bodies s) (triple_at (multiplier (posed q s) zs)))
 
   module _ (proper : IsProper s) where
     -- the four certificates
@@ -100,7 +101,8 @@ module _ (v : Surveyed) where
     unbounded_of scale xs rs h p r g = subst (λ f. IsTrueUnbounded s f (held (pos 0) rs)) (same_forces scale xs)
         (subst (IsTrueUnbounded s (told scale xs)) (same_forces (pos 0) rs)
         (by_number.unbounded_by_solutions s scale (factor xs) (amounts (amount xs)) (factor rs)
-        (amounts (amount rs)) proper (are_solution Live s (amount xs) scale h) p (h.parts (2 * s.bearings) (omega arith))
+        (amounts (amount rs)) proper (are_solution Live s (amount xs) scale h) p
+        (h.parts (2 * s.bearings) (omega arith))
         (are_solution Live s (amount rs) (pos 0) r) g))
 
     -- amounts with the factor 0 carry the dead loads alone

@@ -1,6 +1,7 @@
 -- The problem of a scene by pairs of columns and threes of rows: what balances its rows solves the equations of
 -- the free bodies, and multipliers of its rows are moves, whose products are the powers of edges and loads.
-use Rattle.std.proofs.Common.{◌≡◌, refl, sym, ap, subst, ◌∙◌, ℕ, ◌+◌, ◌*◌, ◌/◌, ◌%◌, ◌<◌, true, false, cond, eqb, ltb, arith}
+use Rattle.std.proofs.Common.{◌≡◌, refl, sym, ap, subst, ◌∙◌, ℕ, ◌+◌, ◌*◌, ◌/◌, ◌%◌, ◌<◌, true, false, cond, eqb, ltb}
+use Rattle.std.proofs.Common.{arith}
 use Rattle.std.proofs.lemmas.Bool.{lt-ltb, le-ltb, eq-eqb}
 use lib.IntN.{ℤ, pos, ◌+ℤ◌, ◌*ℤ◌, neg_ℤ}
 use Rattle.stack_algebra.specs.IntegerOrder.{◌≼◌}
@@ -8,14 +9,15 @@ use Rattle.stack_algebra.specs.Sums.{sum_to}
 use Rattle.stack_algebra.proofs.Integers.{expand, sums}
 use Rattle.stack_algebra.proofs.IntegerRing.{integers}
 use Rattle.stack_algebra.proofs.Sums.{sum_same, sum_plus, sum_neg}
-use Rattle.stack_algebra.proofs.Indices.{pair_first, pair_second, three_first, three_second, three_third, sum_pairs, sum_threes}
+use Rattle.stack_algebra.proofs.Indices.{pair_first, pair_second, three_first, three_second, three_third, sum_pairs}
+use Rattle.stack_algebra.proofs.Indices.{sum_threes}
 use Rattle.stack_equilibrium.specs.declared.types.Wrench.{Wrench}
 use Rattle.stack_equilibrium.specs.declared.types.Question.{Question}
 use Rattle.stack_equilibrium.specs.declared.types.Question.TheVariants.{Dead, Live}
 use Rattle.stack_equilibrium.specs.Scene.{Move, Scene}
 use Rattle.stack_equilibrium.specs.Motions.{power_of}
 use Rattle.stack_equilibrium.specs.Held.{move_of_triple}
-use Rattle.stack_equations.specs.FreeBodies.{free_at, free_count}
+use Rattle.stack_equations.specs.FreeBodies.{free_at, free_bodies}
 use Rattle.stack_equations.specs.Edges.{Amounts, edge_on, edges_sum}
 use Rattle.stack_equations.specs.Equations.{IsSolution}
 use Rattle.stack_equations.specs.MovesByNumber.{power_by, AreUnopposed}
@@ -57,9 +59,9 @@ module _ (q : Question) (s : Scene) where
       (cond (eq-eqb (2 * s.bearings) (2 * s.bearings) refl n) (factor_on q s i) no_wrench))
 
   -- row a of free body b, of a function of a wrench on each body
-  row_at : (g : ℤ → ℤ) (w : ℕ → Wrench) (i b a : ℕ) → i < 3 * free_count s → i / 3 ≡ b → i % 3 ≡ a →
-      cond (ltb i (3 * free_count s)) (g (row_share s w i)) (pos 0) ≡ g (share a (w (free_at s b)))
-  row_at g w i b a l e f = ap (λ t. cond t (g (row_share s w i)) (pos 0)) (lt-ltb i (3 * free_count s) l)
+  row_at : (g : ℤ → ℤ) (w : ℕ → Wrench) (i b a : ℕ) → i < 3 * free_bodies s → i / 3 ≡ b → i % 3 ≡ a →
+      cond (ltb i (3 * free_bodies s)) (g (row_share s w i)) (pos 0) ≡ g (share a (w (free_at s b)))
+  row_at g w i b a l e f = ap (λ t. cond t (g (row_share s w i)) (pos 0)) (lt-ltb i (3 * free_bodies s) l)
       ∙ (λ n. g (share (f n) (w (free_at s (e n)))))
 
   module _ (x : ℕ → ℤ) where
@@ -95,7 +97,7 @@ factor_columns Live s x a i = (λ n. pos 0 +ℤ share a (column_on Live s (last 
 module _ (q : Question) (s : Scene) where
   -- what balances the rows solves the equations
   module _ (x : ℕ → ℤ) (scale : ℤ) (h : AreAmounts (posed q s) x scale) where
-    solved : (i b a : ℕ) → i < 3 * free_count s → i / 3 ≡ b → i % 3 ≡ a →
+    solved : (i b a : ℕ) → i < 3 * free_bodies s → i / 3 ≡ b → i % 3 ≡ a →
         edges_sum (share a) s (amounts x) (free_at s b) +ℤ scale *ℤ share a (dead_on s (free_at s b))
         +ℤ factor_in q s x *ℤ share a (live_on s (free_at s b)) ≡ pos 0
     solved i b a l e f = closed (edges_sum (share a) s (amounts x) at)
@@ -128,12 +130,12 @@ module _ (q : Question) (s : Scene) where
   module _ (y : ℕ → ℤ) where
     -- the rows of a wrench on each body, times their multipliers
     rows_of : (g : ℤ → ℤ) (w : ℕ → Wrench) →
-        sum_to (3 * free_count s) (λ k. y k *ℤ cond (ltb k (3 * free_count s)) (g (row_share s w k)) (pos 0))
-        ≡ sum_to (free_count s) (λ b. y (3 * b) *ℤ g (w (free_at s b)).fx
+        sum_to (3 * free_bodies s) (λ k. y k *ℤ cond (ltb k (3 * free_bodies s)) (g (row_share s w k)) (pos 0))
+        ≡ sum_to (free_bodies s) (λ b. y (3 * b) *ℤ g (w (free_at s b)).fx
         +ℤ y (3 * b + 1) *ℤ g (w (free_at s b)).fy +ℤ y (3 * b + 2) *ℤ g (w (free_at s b)).m)
-    rows_of g w = sum_threes (free_count s)
-        (λ k. y k *ℤ cond (ltb k (3 * free_count s)) (g (row_share s w k)) (pos 0))
-        ∙ sum_same integers (free_count s) _ _ (λ b l. λ n.
+    rows_of g w = sum_threes (free_bodies s)
+        (λ k. y k *ℤ cond (ltb k (3 * free_bodies s)) (g (row_share s w k)) (pos 0))
+        ∙ sum_same integers (free_bodies s) _ _ (λ b l. λ n.
         y (3 * b) *ℤ row_at q s g w (3 * b) b 0 (omega (arith, l)) (three_first b).0 (three_first b).1 n
         +ℤ y (3 * b + 1)
         *ℤ row_at q s g w (3 * b + 1) b 1 (omega (arith, l)) (three_second b).0 (three_second b).1 n
@@ -147,9 +149,9 @@ module _ (q : Question) (s : Scene) where
     -- the right side, and the factor's column
     pub load_is : load_work (posed q s) y ≡ neg_ℤ (power_by s (moves y) (dead_on s))
     load_is = rows_of neg_ℤ (dead_on s)
-        ∙ sum_same integers (free_count s) _ _ (λ b l. negated (y (3 * b)) (y (3 * b + 1)) (y (3 * b + 2))
+        ∙ sum_same integers (free_bodies s) _ _ (λ b l. negated (y (3 * b)) (y (3 * b + 1)) (y (3 * b + 2))
         (dead_on s (free_at s b)).fx (dead_on s (free_at s b)).fy (dead_on s (free_at s b)).m)
-        ∙ sum_neg integers (free_count s) (λ b. power_of (dead_on s (free_at s b)) (moves y b))
+        ∙ sum_neg integers (free_bodies s) (λ b. power_of (dead_on s (free_at s b)) (moves y b))
       where
         negated : (u v r x y m : ℤ) →
             u *ℤ neg_ℤ x +ℤ v *ℤ neg_ℤ y +ℤ r *ℤ neg_ℤ m ≡ neg_ℤ (u *ℤ x +ℤ v *ℤ y +ℤ r *ℤ m)

@@ -10,7 +10,7 @@ use Rattle.stack_certificate.specs.Certificate.{ForcesValue, MotionValue, Certif
 use Rattle.stack_certificate.specs.Certificate.{stands, collapses, greatest, unbounded}
 use Rattle.stack_equilibrium.specs.declared.types.Question.{Question}
 use Rattle.stack_equilibrium.specs.SurveyScene.{no_bearing, scene_of}
-use Rattle.stack_equations.specs.FreeBodies.{free_count}
+use Rattle.stack_equations.specs.FreeBodies.{free_bodies}
 use Rattle.stack_table.specs.Table.{Tabled}
 use Rattle.stack_table.specs.Problem.{Problem}
 use Rattle.stack_duality.specs.WrittenRun.{End, infeasible, feasible, optimal, ray, wide, over}
@@ -54,18 +54,18 @@ module _ (q : Question) (v : Surveyed) (T : Tabled Fraction) where
 
   -- the motion of a last table of phase 1, and of phase 3
   abbrev pub end_collapse : MotionValue
-  end_collapse = motion_value (free_count (scene_of v)) (posed q (scene_of v))
+  end_collapse = motion_value (free_bodies (scene_of v)) (posed q (scene_of v))
       (whole_list (collapse_list (posed_shape q (scene_of v)) T))
 
   abbrev pub end_bound : MotionValue
-  end_bound = motion_value (free_count (scene_of v)) (posed q (scene_of v))
+  end_bound = motion_value (free_bodies (scene_of v)) (posed q (scene_of v))
       (whole_list (bound_list (posed_shape q (scene_of v)) T))
 
--- the certificate of an end; none where a number passes or the run is over its budget
-abbrev pub certificate_of : Question → Surveyed → End Fraction → Option CertificateValue
-certificate_of q v (infeasible T) = Some (collapses (end_collapse q v T))
-certificate_of q v (feasible T) = Some (stands (end_forces q v T))
-certificate_of q v (optimal T) = Some (greatest (end_forces q v T) (end_bound q v T))
-certificate_of q v (ray T c) = Some (unbounded (end_forces q v T) (end_ray q v T c))
-certificate_of q v (wide p k s) = None
-certificate_of q v over = None
+-- the certificate of an end; none where a number is too wide or the run is over its budget
+abbrev pub end_certificate : Question → Surveyed → End Fraction → Option CertificateValue
+end_certificate q v (infeasible T) = Some (collapses (end_collapse q v T))
+end_certificate q v (feasible T) = Some (stands (end_forces q v T))
+end_certificate q v (optimal T) = Some (greatest (end_forces q v T) (end_bound q v T))
+end_certificate q v (ray T c) = Some (unbounded (end_forces q v T) (end_ray q v T c))
+end_certificate q v (wide p k s) = None
+end_certificate q v over = None

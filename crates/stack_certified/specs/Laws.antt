@@ -14,9 +14,9 @@ use Rattle.stack_duality.specs.Laws.{Rule, run_of}
 use Rattle.stack_posing.specs.Posed.{posed, posed_shape}
 use Rattle.stack_amounts.specs.WrittenLists.{forces_list, ray_list}
 use Rattle.stack_amounts.specs.WholeLists.{whole_list, NonePulls}
-use Rattle.stack_certified.specs.Certified.{certificate_of}
+use Rattle.stack_certified.specs.Certified.{end_certificate}
 
--- an end of the run of a survey's problem, under some rule of what passes and with some budget
+-- an end of the run of a survey's problem, under some rule of what is too wide and with some budget
 pub record IsEndOfRun (q : Question) (v : Surveyed) (x : End Fraction) : Type 0 where
   pub rule : Rule
   pub budget : ℕ
@@ -38,7 +38,7 @@ pub record IsCertified (q : Question) (v : Surveyed) (c : CertificateValue) : Ty
 -- each end that has a certificate has such a one
 abbrev pub EndsAreCertified : Type 0
 EndsAreCertified = (q : Question) (v : Surveyed) (x : End Fraction) (c : CertificateValue) →
-    IsProper (scene_of v) → IsEndOfRun q v x → certificate_of q v x ≡ Some c → IsCertified q v c
+    IsProper (scene_of v) → IsEndOfRun q v x → end_certificate q v x ≡ Some c → IsCertified q v c
 
 -- an end is one of its question's
 abbrev pub IsEndOf : Question → End Fraction → Type 0

@@ -50,7 +50,8 @@ module _ (k : ℕ) (c : Cone) (f : Push) where
   told-test = told-made k (made (c.p *ℤ f.a.value)) _
       ∙ (λ i. made_at (made (c.p *ℤ f.a.value)) (places.Cone k) >>= λ most. inner most i)
     where
-      inner : (most : Whole) → told k (made (abs f.b.value) >>= λ tangential. (made (c.q *ℤ tangential.value) >>= λ least.
+      inner : (most : Whole) → told k (made (abs f.b.value) >>= λ tangential.
+          (made (c.q *ℤ tangential.value) >>= λ least.
           Ok (int_le least.value most.value)))
           ≡ (made_at (made (abs f.b.value)) (places.Cone k) >>= λ tangential.
           (made_at (made (c.q *ℤ tangential.value)) (places.Cone k) >>= λ least.
@@ -60,11 +61,13 @@ module _ (k : ℕ) (c : Cone) (f : Push) where
           told-made k (made (c.q *ℤ tangential.value)) (λ least. Ok (int_le least.value most.value)) i)
 
   -- a bearing that pulls is rejected, and any other has the answer of its cone
-  pub cone_pulls : int_le (pos 0) f.a.value ≡ false → Err (Rejected (reasons.Push k)) ≡ written_cone k (whole c.p) (whole c.q) f
+  pub cone_pulls : int_le (pos 0) f.a.value ≡ false → Err (Rejected (reasons.Push k))
+      ≡ written_cone k (whole c.p) (whole c.q) f
   unfolding written_cone
   cone_pulls e = rw e refl
 
-  pub cone_told : (r : Result Bool Wide) → int_le (pos 0) f.a.value ≡ true → r ≡ written_admission c f.a.value f.b.value →
+  pub cone_told : (r : Result Bool Wide) → int_le (pos 0) f.a.value ≡ true → r
+      ≡ written_admission c f.a.value f.b.value →
       told k r ≡ written_cone k (whole c.p) (whole c.q) f
   unfolding written_cone
   cone_told r e is = ap (told k) is

@@ -26,7 +26,7 @@ use Rattle.stack_equilibrium.specs.WrittenSums.{push_at, written_sums_at}
 use Rattle.stack_equilibrium.proofs.SceneSums.{part_is, sums_are}
 use Rattle.stack_checker.specs.declared.types.Reason.TheVariants as reasons
 use Rattle.stack_checker.specs.declared.types.CheckAt.TheVariants as places
-use Rattle.stack_checker.specs.declared.sign.Sign.TheVariants.{Zero}
+use Rattle.stack_checker.specs.declared.sign.WantedSign.TheVariants.{Zero}
 use Rattle.stack_checker.specs.declared.sign.Signs.{Signs}
 use Rattle.stack_checker.specs.Signs.{has_sign}
 use Rattle.stack_checker.specs.WrittenTests.{demand}
@@ -126,7 +126,7 @@ module _ (s : Surveyed) (f : ForcesValue) where
   cones_settle = settled_each s WithinAt (cone_at f.parts) s.bearings no_bearing bearing_settles
 
 -- what a list of forces is tested for
-pub record Passes (signs : Signs) (s : Surveyed) (f : ForcesValue) : Type 0 where
+pub record IsTooWide (signs : Signs) (s : Surveyed) (f : ForcesValue) : Type 0 where
   pub scaled : HasSign signs.scale f.scale
   pub driven : HasSign signs.factor f.factor
   pub forces : AreBalanced (scene_of s) (forces_of f)
@@ -138,7 +138,7 @@ Tested signs s f = (length f.parts ≡ length s.bearings) × (HasSign signs.scal
     × (IsAdmissible (scene_of s) (part_at f) × IsBalanced (scene_of s) (part_at f) f.scale f.factor)))
 
 pub forces_settle : (signs : Signs) (s : Surveyed) (f : ForcesValue) →
-    Settled s (Passes signs s f) (written_forces signs s f)
+    Settled s (IsTooWide signs s f) (written_forces signs s f)
 unfolding written_forces
 forces_settle signs s f =
     settled_as s _ to from
@@ -152,7 +152,7 @@ forces_settle signs s f =
     (λ driven. settled_both s (steps (cone_at f.parts) 0 tt s.bearings) _ (cones_settle s f)
     (λ held. blocks_settle s f)))))
   where
-    to : Tested signs s f → Passes signs s f
+    to : Tested signs s f → IsTooWide signs s f
     to h = record {
       scaled = h.1.0;
       driven = h.1.1.0;
@@ -163,7 +163,7 @@ forces_settle signs s f =
       };
     }
 
-    from : Passes signs s f → Tested signs s f
+    from : IsTooWide signs s f → Tested signs s f
     from p = (
       sym (length-map f.parts part_of_pair) ∙ p.forces.count,
       (

@@ -25,12 +25,12 @@ use Rattle.stack_equilibrium.specs.WrittenVelocities.{written_opening}
 use Rattle.stack_equilibrium.specs.WrittenPowers.{written_power}
 use Rattle.stack_checker.specs.declared.types.Reason.TheVariants as reasons
 use Rattle.stack_checker.specs.declared.types.CheckAt.TheVariants as places
-use Rattle.stack_checker.specs.declared.sign.Sign.TheVariants.{Zero, Positive}
+use Rattle.stack_checker.specs.declared.sign.WantedSign.TheVariants.{Zero, Positive}
 use Rattle.stack_checker.specs.declared.stop.Stop.{Stop}
 use Rattle.stack_checker.specs.declared.motions.Rates.{Rates}
 use Rattle.stack_checker.specs.declared.powers.Powers.{Powers}
 use Rattle.stack_checker.specs.Signs.{has_sign}
-use Rattle.stack_checker.specs.WrittenTests.{demand, work_of}
+use Rattle.stack_checker.specs.WrittenTests.{demand, power_or_stop}
 use Rattle.stack_checker.specs.WrittenMotions.{written_resistance, resistance_at, written_motion}
 use Rattle.stack_checker.specs.WrittenMotions.{written_collapse, written_powers, written_meeting, written_bound}
 use Rattle.stack_checker.proofs.Settled.{Settled, settled_as, settled_demand, settled_both, settled_made}
@@ -148,7 +148,8 @@ module _ (s : Surveyed) (y : MotionValue) where
       go : (live dead : Result ℤ PowerWide) →
           ((x z : ℤ) → live ≡ Ok x → dead ≡ Ok z →
           Settled s P (f (record { live = whole x; dead = whole z }))) →
-          Settled s P ((work_of live >>= λ x. work_of dead >>= λ z. Ok (record { live = x; dead = z })) >>= f)
+          Settled s P ((power_or_stop live >>= λ x. power_or_stop dead >>= λ z. Ok
+          (record { live = x; dead = z })) >>= f)
       go (Ok x) (Ok z) h = h x z refl refl
       go (Ok x) (Err e) h = record { is = tt }
       go (Err e) dead h = record { is = tt }

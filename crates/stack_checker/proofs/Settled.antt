@@ -19,7 +19,7 @@ use Rattle.stack_checker.specs.declared.types.CheckAt.{CheckAt}
 use Rattle.stack_checker.specs.declared.stop.Stop.{Stop}
 use Rattle.stack_checker.specs.declared.stop.Stop.TheVariants.{Rejected, TooWide}
 use Rattle.stack_checker.specs.declared.motions.Rates.{Rates}
-use Rattle.stack_checker.specs.WrittenTests.{demand, made_at, sums_at, rates_at, work_of}
+use Rattle.stack_checker.specs.WrittenTests.{demand, made_at, sums_at, rates_at, power_or_stop}
 use Rattle.stack_checker.specs.Verdict.{IsReasonOf, IsPlaceOf}
 
 module _ (s : Surveyed) where
@@ -77,7 +77,7 @@ module _ (s : Surveyed) where
 
   -- after a power
   pub settled_work : {P : Type 0} (r : Result ℤ PowerWide) (f : Whole → Result ⊤ Stop) →
-      ((x : ℤ) → r ≡ Ok x → Settled P (f (whole x))) → Settled P (work_of r >>= f)
+      ((x : ℤ) → r ≡ Ok x → Settled P (f (whole x))) → Settled P (power_or_stop r >>= f)
   settled_work (Ok x) f h = h x refl
   settled_work (Err e) f h = record { is = tt }
 

@@ -5,8 +5,8 @@ use Rattle.std.specs.Prelude.{int_le, int_lt}
 use Rattle.std.proofs.lemmas.Int.{ints}
 use Rattle.std.proofs.lemmas.Bool.Decides.{Decides-eqb, Decides-int_eq}
 use Rattle.stack_algebra.proofs.Order.{◌≼◌, ◌≺◌}
-use Rattle.stack_checker.specs.declared.sign.Sign.{Sign}
-use Rattle.stack_checker.specs.declared.sign.Sign.TheVariants.{Zero, NotNegative, Positive}
+use Rattle.stack_checker.specs.declared.sign.WantedSign.{WantedSign}
+use Rattle.stack_checker.specs.declared.sign.WantedSign.TheVariants.{Zero, NotNegative, Positive}
 use Rattle.stack_checker.specs.Signs.{has_sign}
 
 pub le_decides : (a b : ℤ) → Decides (int_le a b) (a ≼ b)
@@ -21,12 +21,12 @@ zero_decides z = Decides-int_eq z (pos 0)
 pub same_decides : (m n : ℕ) → Decides (nat_eq m n) (m ≡ n)
 same_decides m n = Decides-eqb m n
 
-abbrev pub HasSign : Sign → ℤ → Type 0
+abbrev pub HasSign : WantedSign → ℤ → Type 0
 HasSign Zero z = z ≡ pos 0
 HasSign NotNegative z = pos 0 ≼ z
 HasSign Positive z = pos 0 ≺ z
 
-pub sign_decides : (sign : Sign) (z : ℤ) → Decides (has_sign sign z) (HasSign sign z)
+pub sign_decides : (sign : WantedSign) (z : ℤ) → Decides (has_sign sign z) (HasSign sign z)
 sign_decides Zero z = zero_decides z
 sign_decides NotNegative z = le_decides (pos 0) z
 sign_decides Positive z = lt_decides (pos 0) z

@@ -1,11 +1,11 @@
--- What the numbers of a certificate are tested for.
+-- When a number has the sign that it is tested for.
 use Rattle.std.specs.Prelude.{ℤ, pos, int_le, int_lt, Bool}
 use Rattle.std.specs.Ordering.{int_eq}
-use Rattle.stack_checker.specs.declared.sign.Sign.{Sign}
-use Rattle.stack_checker.specs.declared.sign.Sign.TheVariants.{Zero, NotNegative, Positive}
+use Rattle.stack_checker.specs.declared.sign.WantedSign.{WantedSign}
+use Rattle.stack_checker.specs.declared.sign.WantedSign.TheVariants.{Zero, NotNegative, Positive}
 use Rattle.stack_checker.specs.declared.sign.Signs.{Signs}
 
-abbrev pub has_sign : Sign → ℤ → Bool
+abbrev pub has_sign : WantedSign → ℤ → Bool
 has_sign Zero z = int_eq z (pos 0)
 has_sign NotNegative z = int_le (pos 0) z
 has_sign Positive z = int_lt (pos 0) z

@@ -23,7 +23,7 @@ abbrev pub RejectedIsFalse : Type 0
 RejectedIsFalse = (s : Surveyed) (c : CertificateValue) (part : Part) (reason : Reason) →
     written_check s c ≡ Rejected part reason → ¬ (IsTrueCertificate s c)
 
--- a true certificate is accepted, unless a number passes before the last test
+-- a true certificate is accepted, unless a number is too wide before the last test
 abbrev pub TrueIsAccepted : Type 0
 TrueIsAccepted = (s : Surveyed) (c : CertificateValue) →
     IsTrueCertificate s c →

@@ -1,5 +1,5 @@
 -- The written check of a certificate: its tests and its numbers in one order. It ends at the first test that
--- fails or at the first number that passes, whichever comes first. What a true certificate is stands in
+-- fails or at the first number that is too wide, whichever comes first. What a true certificate is stands in
 -- Truth, apart from this. Used by the contract of the check and by its laws.
 use Rattle.std.specs.Prelude.{Result, Ok, Err, ⊤}
 use Rattle.stack_algebra.specs.Steps.{◌>>=◌}

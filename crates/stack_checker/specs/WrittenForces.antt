@@ -15,7 +15,7 @@ use Rattle.stack_whole.specs.Whole.{made, whole}
 use Rattle.stack_equilibrium.specs.WrittenSums.{push_at, written_sums_at}
 use Rattle.stack_checker.specs.declared.types.Reason.TheVariants as reasons
 use Rattle.stack_checker.specs.declared.types.CheckAt.TheVariants as places
-use Rattle.stack_checker.specs.declared.sign.Sign.TheVariants.{Zero}
+use Rattle.stack_checker.specs.declared.sign.WantedSign.TheVariants.{Zero}
 use Rattle.stack_checker.specs.declared.sign.Signs.{Signs}
 use Rattle.stack_checker.specs.declared.stop.Stop.{Stop}
 use Rattle.stack_checker.specs.Signs.{has_sign}

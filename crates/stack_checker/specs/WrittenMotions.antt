@@ -13,12 +13,12 @@ use Rattle.stack_equilibrium.specs.WrittenVelocities.{written_opening}
 use Rattle.stack_equilibrium.specs.WrittenPowers.{written_power}
 use Rattle.stack_checker.specs.declared.types.Reason.TheVariants as reasons
 use Rattle.stack_checker.specs.declared.types.CheckAt.TheVariants as places
-use Rattle.stack_checker.specs.declared.sign.Sign.TheVariants.{Zero, Positive}
+use Rattle.stack_checker.specs.declared.sign.WantedSign.TheVariants.{Zero, Positive}
 use Rattle.stack_checker.specs.declared.stop.Stop.{Stop}
 use Rattle.stack_checker.specs.declared.motions.Rates.{Rates}
 use Rattle.stack_checker.specs.declared.powers.Powers.{Powers}
 use Rattle.stack_checker.specs.Signs.{has_sign}
-use Rattle.stack_checker.specs.WrittenTests.{demand, made_at, rates_at, work_of}
+use Rattle.stack_checker.specs.WrittenTests.{demand, made_at, rates_at, power_or_stop}
 
 -- bearing k, whose coefficient is p over q: q times the opening, the size of the slide and p times that size
 -- are made; then the first is at least the last
@@ -45,14 +45,14 @@ written_motion s y = do
 unfoldable pub written_collapse : Surveyed → MotionValue → Result ⊤ Stop
 written_collapse s y = do
   unresisted ← written_motion s y
-  dead ← work_of (written_power Dead s y)
+  dead ← power_or_stop (written_power Dead s y)
   demand (has_sign Positive dead.value) reasons.NoWork
 
 -- the live power is made, and then the dead one
 unfoldable pub written_powers : Surveyed → MotionValue → Result Powers Stop
 written_powers s y = do
-  live ← work_of (written_power Live s y)
-  dead ← work_of (written_power Dead s y)
+  live ← power_or_stop (written_power Live s y)
+  dead ← power_or_stop (written_power Dead s y)
   Ok (record { live = live; dead = dead })
 
 -- factor times the live power, scale times the dead power and their sum are made, and then it is 0

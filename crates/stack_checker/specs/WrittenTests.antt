@@ -1,5 +1,5 @@
 -- The single steps of the written check: a test with the reason that it gives where it fails, and a number
--- with the place that it gives where it passes.
+-- with the place that it gives where it is too wide.
 use Rattle.std.specs.Prelude.{ℕ, ℤ, Bool, true, false, Result, Ok, Err, ⊤}
 use Rattle.stack_equilibrium.specs.declared.types.Wrench.{Wrench}
 use Rattle.stack_equilibrium.specs.declared.types.SumWide.{SumWide}
@@ -34,6 +34,6 @@ rates_at k (Ok r) = Ok (record { opening = whole r.0; slide = whole r.1 })
 rates_at k (Err e) = Err (TooWide (places.Resisted k))
 
 -- a power
-abbrev pub work_of : Result ℤ PowerWide → Result Whole Stop
-work_of (Ok power) = Ok (whole power)
-work_of (Err e) = Err (TooWide places.Work)
+abbrev pub power_or_stop : Result ℤ PowerWide → Result Whole Stop
+power_or_stop (Ok power) = Ok (whole power)
+power_or_stop (Err e) = Err (TooWide places.Work)

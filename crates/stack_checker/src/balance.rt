@@ -5,12 +5,12 @@ ghost use Rattle.stack_algebra.specs.Steps.{steps};
 ghost use Rattle.stack_contact.specs.FreeBlocks.{frees_of, free_of};
 ghost use Rattle.stack_certificate.specs.Certificate.{forces_view};
 ghost use Rattle.stack_checker.specs.declared.types.Reason.TheVariants as reasons;
-ghost use Rattle.stack_checker.specs.declared.sign.Sign.TheVariants.{Zero};
+ghost use Rattle.stack_checker.specs.declared.sign.WantedSign.TheVariants.{Zero};
 ghost use Rattle.stack_checker.specs.Signs.{has_sign};
 ghost use Rattle.stack_checker.specs.WrittenTests.{demand, sums_at};
 ghost use Rattle.stack_checker.specs.WrittenForces.{written_balance, balance_at};
 
-use crate::sign::Sign;
+use crate::sign::WantedSign;
 use crate::stop::{Stop, require};
 use crate::types::{CheckAt, Reason};
 use stack_certificate::types::Forces;
@@ -33,7 +33,10 @@ fn placed_sums(b: usize, made: Result<Wrench, SumWide>) -> Result<Wrench, Stop>
 fn require_zero(b: usize, axis: Axis, number: Whole) -> Result<(), Stop>
     ensures { result ≡ demand (has_sign Zero number.value) (reasons.Balance b axis) }
 {
-    require(Sign::Zero.is_of(number), Reason::Balance { block: b, axis })
+    require(
+        WantedSign::Zero.is_of(number),
+        Reason::Balance { block: b, axis },
+    )
 }
 
 /// The three sums of free block number `b` are made, and each is 0.

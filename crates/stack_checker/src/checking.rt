@@ -4,7 +4,8 @@ ghost use Rattle.std.specs.Prelude.{◌≡◌};
 ghost use Rattle.stack_certificate.specs.Certificate.{certificate_view};
 ghost use Rattle.stack_equilibrium.specs.Truth.{IsTrueCertificate};
 ghost use Rattle.stack_checker.specs.Verdict.{IsRejected, NamesOf};
-ghost use Rattle.stack_checker.specs.Shown.{DeadLoadsStand, DeadLoadsFall, FactorIsCarried, NoGreaterIsCarried, AllAboveAreCarried, AllAreCarried};
+ghost use Rattle.stack_checker.specs.Shown.{DeadLoadsStand, DeadLoadsFall, FactorIsCarried, NoGreaterIsCarried};
+ghost use Rattle.stack_checker.specs.Shown.{AllAboveAreCarried, AllAreCarried};
 ghost use Rattle.stack_checker.specs.WrittenCheck.{tests_of, written_check};
 
 use crate::forces::check_forces;
@@ -38,7 +39,7 @@ fn check_form(s: &Survey, c: &Certificate) -> Result<(), PartStop>
 }
 
 /// Whether a certificate is true of the survey's model: `Accepted` only where it is, `Rejected` only where it
-/// isn't, with the first test that fails. `TooWide` where a product or a partial result passes `2^127 - 1` in
+/// isn't, with the first test that fails. `TooWide` where a product or a partial result is more than `2^127 - 1` in
 /// size before a test fails, with the first such place. Bearings and free blocks are counted from 0. Takes no
 /// memory. After Livesley (1978).
 ///

@@ -1,4 +1,9 @@
 //! The check of certificates against surveys: an independent judge of what others claim of a structure.
+//!
+//! ```text
+//! check(&survey, &certificate) == Check::Accepted // then it is true of the survey
+//! check(&survey, &other) == Check::Rejected { .. } // then it is false; the first test that fails is named
+//! ```
 #![tactic(auto)]
 
 mod balance;

@@ -36,6 +36,11 @@ fn placed_rates(k: usize, made: Result<(i128, i128), VelocityWide>) -> Result<Ra
     }
 }
 
+// Why a motion that passes bounds every factor: a force within its cone has a >= 0 and q*|b| <= p*a, so its work
+// a*opening + b*slide on this motion isn't negative where p*|slide| <= q*opening. Balanced forces do no work in all,
+// so scale times the dead power and factor times the live power are at most 0 together, for each factor that is
+// carried. That is the kinematic theorem (`certificate_laws` of stack_equilibrium).
+
 /// Bearing `k`, with the coefficient `p` over `q`, opens at least as much as its slide asks for.
 #[tactic(auto, unfolding(crate::specs::WrittenMotions::written_resistance))]
 fn check_resistance(k: usize, p: Whole, q: Whole, rates: Rates) -> Result<(), Stop>

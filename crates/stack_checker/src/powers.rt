@@ -3,11 +3,11 @@
 ghost use Rattle.std.specs.Prelude.{◌≡◌, length};
 ghost use Rattle.stack_contact.specs.FreeBlocks.{frees_of};
 ghost use Rattle.stack_certificate.specs.Certificate.{forces_view, motion_view};
-ghost use Rattle.stack_checker.specs.WrittenTests.{work_of};
+ghost use Rattle.stack_checker.specs.WrittenTests.{power_or_stop};
 ghost use Rattle.stack_checker.specs.WrittenMotions.{written_collapse, written_powers, written_meeting, written_bound};
 
 use crate::motions::check_motion;
-use crate::sign::Sign;
+use crate::sign::WantedSign;
 use crate::stop::{Stop, place, require};
 use crate::types::{CheckAt, Reason};
 use stack_certificate::types::{Forces, Motion};
@@ -25,7 +25,7 @@ pub struct Powers {
 
 /// A power with its place.
 fn placed_power(made: Result<i128, PowerWide>) -> Result<Whole, Stop>
-    ensures { result ≡ work_of made }
+    ensures { result ≡ power_or_stop made }
 {
     match made {
         Ok(value) => Ok(Whole { value }),
@@ -40,7 +40,7 @@ pub fn check_collapse(s: &Survey, motion: &Motion) -> Result<(), Stop>
 {
     check_motion(s, motion)?;
     let dead = placed_power(power(s, motion, Question::Dead))?;
-    require(Sign::Positive.is_of(dead), Reason::NoWork)
+    require(WantedSign::Positive.is_of(dead), Reason::NoWork)
 }
 
 #[tactic(auto, unfolding(crate::specs::WrittenMotions::written_powers))]
@@ -61,7 +61,7 @@ fn check_meeting(scale: Whole, factor: Whole, powers: Powers) -> Result<(), Stop
     let driven = place(factor.product(powers.live), CheckAt::Apart)?;
     let standing = place(scale.product(powers.dead), CheckAt::Apart)?;
     let total = place(driven.sum(standing), CheckAt::Apart)?;
-    require(Sign::Zero.is_of(total), Reason::Apart)
+    require(WantedSign::Zero.is_of(total), Reason::Apart)
 }
 
 /// A motion that no bearing resists, on which the live loads gain power, and which forbids a greater factor
@@ -72,6 +72,6 @@ pub fn check_bound(s: &Survey, forces: &Forces, motion: &Motion) -> Result<(), S
 {
     check_motion(s, motion)?;
     let powers = both_powers(s, motion)?;
-    require(Sign::Positive.is_of(powers.live), Reason::NoWork)?;
+    require(WantedSign::Positive.is_of(powers.live), Reason::NoWork)?;
     check_meeting(Whole::of(forces.scale), Whole::of(forces.factor), powers)
 }

@@ -7,21 +7,21 @@ use stack_whole::Whole;
 
 /// What a number is tested for.
 #[derive(Clone, Copy, Debug, PartialEq, Eq)]
-pub enum Sign {
+pub enum WantedSign {
     Zero,
     NotNegative,
     Positive,
 }
 
-impl Sign {
+impl WantedSign {
     /// Whether the number has it.
     pub fn is_of(self, number: Whole) -> bool
         ensures { result ≡ has_sign self number.value }
     {
         match self {
-            Sign::Zero => number.value == 0,
-            Sign::NotNegative => 0 <= number.value,
-            Sign::Positive => 0 < number.value,
+            WantedSign::Zero => number.value == 0,
+            WantedSign::NotNegative => 0 <= number.value,
+            WantedSign::Positive => 0 < number.value,
         }
     }
 }
@@ -29,8 +29,8 @@ impl Sign {
 /// What the scale and the factor of a list of forces are tested for.
 #[derive(Clone, Copy, Debug, PartialEq, Eq)]
 pub struct Signs {
-    pub scale: Sign,
-    pub factor: Sign,
+    pub scale: WantedSign,
+    pub factor: WantedSign,
 }
 
 impl Signs {
@@ -39,8 +39,8 @@ impl Signs {
         ensures { result ≡ standing }
     {
         Signs {
-            scale: Sign::Positive,
-            factor: Sign::Zero,
+            scale: WantedSign::Positive,
+            factor: WantedSign::Zero,
         }
     }
 
@@ -49,8 +49,8 @@ impl Signs {
         ensures { result ≡ loaded }
     {
         Signs {
-            scale: Sign::Positive,
-            factor: Sign::NotNegative,
+            scale: WantedSign::Positive,
+            factor: WantedSign::NotNegative,
         }
     }
 
@@ -59,8 +59,8 @@ impl Signs {
         ensures { result ≡ rising }
     {
         Signs {
-            scale: Sign::Zero,
-            factor: Sign::Positive,
+            scale: WantedSign::Zero,
+            factor: WantedSign::Positive,
         }
     }
 }

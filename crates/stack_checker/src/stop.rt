@@ -7,7 +7,7 @@ ghost use Rattle.stack_checker.specs.WrittenCheck.{in_part, answer_of};
 use crate::types::{Check, CheckAt, CheckPlace, Part, Reason};
 use stack_whole::{Whole, Wide};
 
-/// The first test that fails, or the first number that passes.
+/// The first test that fails, or the first number that is too wide.
 #[derive(Clone, Copy, Debug, PartialEq, Eq)]
 pub enum Stop {
     Rejected(Reason),

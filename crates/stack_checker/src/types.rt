@@ -9,7 +9,7 @@ pub enum Check {
     Accepted,
     /// The first test that fails, and the part of the certificate in which it does.
     Rejected(Part, Reason),
-    /// The first number that passes `2^127 - 1` in size, before any test fails.
+    /// The first number that is more than `2^127 - 1` in size, before any test fails.
     TooWide(CheckPlace),
 }
 

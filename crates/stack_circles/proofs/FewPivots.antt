@@ -1,265 +1,60 @@
--- A phase has fewer pivots than there are sets of columns, so none is over a budget of 2^columns, and no run over
--- one of 3*2^columns.
-use Rattle.std.proofs.Common.{◌≡◌, ◌≢◌, refl, sym, ap, subst, ℕ, zero, suc, ◌<◌, ◌≤◌, ◌+◌, ◌-◌, ◌*◌, ◌^◌, Bool, true, false, cond, leb, arith, Option, Some, None}
-use native.Mathlib.Decide.{ℕ_discrete, dec_le}
+-- A run has fewer pivots than three times the number of sets of columns, so none is over a budget of 3*2^columns.
+use Rattle.std.proofs.Common.{◌≡◌, ◌≢◌, refl, ℕ, zero, suc, ◌≤◌, ◌+◌, ◌-◌, ◌*◌, ◌^◌, Bool, true}
+use Rattle.std.proofs.Common.{false, cond, leb, arith, Option, Some, None}
 use Rattle.stack_algebra.specs.Ordered.{Ordered, Sign, minus, nought, plus}
-use Rattle.stack_algebra.specs.Rows.{Tableau}
 use Rattle.stack_rational.specs.declared.exact.Op.{Op}
 use Rattle.stack_table.specs.declared.types.PivotWide.{PivotWide}
-use Rattle.stack_table.specs.Table.{Shape, Tabled, plain, columns, right, pivoted_at, clear_objective, set_factor_objective}
+use Rattle.stack_table.specs.Table.{Shape, Tabled, plain, columns, right, pivoted_at, clear_objective}
+use Rattle.stack_table.specs.Table.{set_factor_objective}
 use Rattle.stack_table.specs.Spots.{pivot_spot}
-use Rattle.stack_bland.specs.Choice.{is_minus}
-use Rattle.stack_duality.specs.WrittenRun.{Choice, stays, rises, due, refused, choose, Stop, settled, unlimited, passing, spent, infeasible, over, on_spot, on_choice, turns, after, driven_column, drive_at, drive_row, drives, third_end, past_first, first_end, written_run}
+use Rattle.stack_bland.specs.Choice.{is_negative_sign}
+use Rattle.stack_duality.specs.WrittenRun.{PhaseStop, settled, unlimited}
+use Rattle.stack_duality.specs.WrittenRun.{wide_at, spent, infeasible, over, on_spot, turns, after_phase}
+use Rattle.stack_duality.specs.WrittenRun.{driven_column, drive_at, drive_row, drives, third_end, past_first}
+use Rattle.stack_duality.specs.WrittenRun.{first_end, written_run}
 use Rattle.stack_duality.specs.PhaseTables.{own_first, own_third, IsFirst, IsThird}
 use Rattle.stack_duality.proofs.Duality.{some_row_leaves}
-use Rattle.stack_duality.proofs.TurnsKeep.{Due, Chosen, chosen, Stopped, turns_keep}
-use Rattle.stack_duality.proofs.ThreePhases.{due_tableau, sign-minus, Second, first_step, second_begins, third_begins}
+use Rattle.stack_duality.proofs.TurnsKeep.{Stopped, turns_keep}
+use Rattle.stack_duality.proofs.ThreePhases.{sign-minus, Second, first_step, second_begins, third_begins}
 use Rattle.stack_duality.proofs.RunEnds.{Settled, drives_keep}
-use Rattle.stack_circles.proofs.Pigeonhole.{pigeonhole}
-use Rattle.stack_circles.proofs.SetNumbers.{code, code-below, has, same_set, below_power}
-use Rattle.stack_circles.proofs.NoBasisRecurs.{Turns, cannot_recur}
-use Rattle.stack_circles.specs.BasicSets.{SameSet}
-
--- whether a pivot is due, and where
-abbrev pub IsDue : Choice → Type 0
-IsDue stays = ⊥
-IsDue (rises c) = ⊥
-IsDue (due r c) = Unit {0}
-IsDue (refused s) = ⊥
-
-abbrev pub row_of : Choice → ℕ
-row_of stays = 0
-row_of (rises c) = 0
-row_of (due r c) = r
-row_of (refused s) = 0
-
-abbrev pub column_of : Choice → ℕ
-column_of stays = 0
-column_of (rises c) = 0
-column_of (due r c) = c
-column_of (refused s) = 0
-
-module _ (F : Ordered) (S : Shape) (passes : Op → F.C → F.C → Bool) (A : ℕ → ℕ → F.C) (own : ℕ → F.C)
-    (phase among : ℕ) (within : among ≤ plain S) where
-  abbrev pub moved : Tabled F.C → Tabled F.C
-  moved T = pivoted_at F S T (row_of (choose F S passes T among)) (column_of (choose F S passes T among))
-
-  -- the tables of the phase, as far as pivots are due
-  abbrev pub tables : Tabled F.C → ℕ → Tabled F.C
-  tables T zero = T
-  tables T (suc k) = moved (tables T k)
-
-  -- a table of the phase is one of the phase from the next table on
-  shifted : (T : Tabled F.C) (k : ℕ) → tables T (suc k) ≡ tables (moved T) k
-  shifted T zero = refl
-  shifted T (suc k) = ap moved (shifted T k)
-
-  -- due now and then
-  due_then : (T : Tabled F.C) (left : ℕ) → IsDue (choose F S passes T among) →
-      ((k : ℕ) → k ≤ left → IsDue (choose F S passes (tables (moved T) k) among)) →
-      (k : ℕ) → k ≤ suc left → IsDue (choose F S passes (tables T k) among)
-  due_then T left h r zero l = h
-  due_then T left h r (suc k) l = subst (λ U. IsDue (choose F S passes U among)) (sym (shifted T k))
-      (r k (omega arith))
-
-  -- a phase that is over its budget: a pivot was due each time
-  spent_due : (left done : ℕ) (T : Tabled F.C) → turns F S passes phase among left done T ≡ spent → (k : ℕ) →
-      k ≤ left → IsDue (choose F S passes (tables T k) among)
-  spent_due zero done T e = λ k l. let z : 0 ≡ k = omega arith in
-      subst (λ k. IsDue (choose F S passes (tables T k) among)) z (go (choose F S passes T among) e)
-    where
-      go : (x : Choice) → on_choice phase zero done T (λ r c. spent) x ≡ spent → IsDue x
-      go stays e = absurd cc
-      go (rises c) e = absurd cc
-      go (due r c) e = tt
-      go (refused s) e = absurd cc
-  spent_due (suc left) done T e = go (choose F S passes T among) refl e (λ U. spent_due left (suc done) U)
-    where
-      at_spot : (r c : ℕ) (o : Option PivotWide) → on_spot phase done
-          (turns F S passes phase among left (suc done)) (pivoted_at F S T r c) o ≡ spent →
-          turns F S passes phase among left (suc done) (pivoted_at F S T r c) ≡ spent
-      at_spot r c (Some s) e = absurd cc
-      at_spot r c None e = e
-
-      go : (x : Choice) → choose F S passes T among ≡ x → on_choice phase (suc left) done T
-          (λ r c. on_spot phase done (turns F S passes phase among left (suc done)) (pivoted_at F S T r c)
-          (pivot_spot F passes S T r c)) x ≡ spent →
-          ((U : Tabled F.C) → turns F S passes phase among left (suc done) U ≡ spent → (k : ℕ) → k ≤ left →
-          IsDue (choose F S passes (tables U k) among)) →
-          (k : ℕ) → k ≤ suc left → IsDue (choose F S passes (tables T k) among)
-      go stays p e h = absurd cc
-      go (rises c) p e h = absurd cc
-      go (refused s) p e h = absurd cc
-      go (due r c) p e h = due_then T left (subst IsDue (sym p) tt)
-          (h (moved T) (subst (λ x. turns F S passes phase among left (suc done)
-          (pivoted_at F S T (row_of x) (column_of x)) ≡ spent) (sym p)
-          (at_spot r c (pivot_spot F passes S T r c) e)))
-
-  -- what a due pivot says of its table
-  due_is : (T : Tabled F.C) (x : Choice) → Chosen F S T among x → IsDue x →
-      Due F S T among (row_of x) (column_of x)
-  due_is T stays h d = absurd d
-  due_is T (rises c) h d = absurd d
-  due_is T (due r c) h d = h
-  due_is T (refused s) h d = absurd d
-
-  module _ (T : Tabled F.C) (start : Tableau F S.rows (columns S) A own T.cell T.basic) (B : ℕ)
-      (all : (k : ℕ) → k < B → IsDue (choose F S passes (tables T k) among)) where
-    -- each pivot is due
-    due_at : (k : ℕ) → k < B → Due F S (tables T k) among (row_of (choose F S passes (tables T k) among))
-        (column_of (choose F S passes (tables T k) among))
-    due_at k l = due_is (tables T k) _ (chosen F S passes (tables T k) among) (all k l)
-
-    -- and each table is a tableau
-    pub tableau_at : (k : ℕ) → k ≤ B → Tableau F S.rows (columns S) A own (tables T k).cell (tables T k).basic
-    tableau_at zero l = start
-    tableau_at (suc k) l = due_tableau F S A own among within (tables T k) _ _ (tableau_at k (omega arith))
-        (due_at k (omega arith))
-
-    -- so they are a sequence as Bland's rule makes it
-    turns_from : (a d : ℕ) → a + d ≤ B → Turns F S A own among (λ k. tables T (a + k))
-        (λ k. row_of (choose F S passes (tables T (a + k)) among))
-        (λ k. column_of (choose F S passes (tables T (a + k)) among)) d
-    turns_from a d l = record {
-      among_columns = omega arith;
-      tableau = λ k p. tableau_at (a + k) (omega arith);
-      due = λ k p. due_at (a + k) (omega arith);
-      step = λ k p. let e : a + suc k ≡ suc (a + k) = omega arith in ap (tables T) e;
-    }
-
-    -- no set of basic columns recurs
-    pub no_set : (a b : ℕ) → a < b → b ≤ B → SameSet S.rows (tables T a).basic (tables T b).basic → ⊥
-    no_set a b l k h = cannot_recur F S A own among _ _ _ (b - a) (turns_from a (b - a) (omega arith))
-        (omega arith)
-        (let x : a ≡ a + 0 = omega arith in let y : b ≡ a + (b - a) = omega arith in
-        subst (λ z. SameSet S.rows (tables T (a + 0)).basic (tables T z).basic) y
-        (subst (λ z. SameSet S.rows (tables T z).basic (tables T b).basic) x h))
-
-    -- nor a number of a set
-    no_repeat : (a b : ℕ) → a < b → b ≤ B → code (columns S) (has S.rows (tables T a).basic)
-        ≡ code (columns S) (has S.rows (tables T b).basic) → ⊥
-    no_repeat a b l k e = no_set a b l k (same_set S.rows (columns S) _ _
-        (λ i p. (tableau_at a (omega arith)).basic_below i p) (λ i p. (tableau_at b k).basic_below i p) e)
-
-    -- so the pivots are fewer than the sets
-    pub few : suc B ≤ 2 ^ columns S
-    few = pigeonhole (suc B) (2 ^ columns S) (λ k. code (columns S) (has S.rows (tables T k).basic))
-        (λ k l. code-below (columns S) (has S.rows (tables T k).basic)) one_to_one
-      where
-        one_to_one : (a b : ℕ) → a < suc B → b < suc B →
-            code (columns S) (has S.rows (tables T a).basic)
-            ≡ code (columns S) (has S.rows (tables T b).basic) → a ≡ b
-        one_to_one a b la lb e = go (ℕ_discrete a b) (dec_le a b)
-          where
-            go : Dec (a ≡ b) → Dec (a ≤ b) → a ≡ b
-            go (yes d) o = d
-            go (no d) (yes o) = absurd (no_repeat a b (omega arith) (omega arith) e)
-            go (no d) (no o) = absurd (no_repeat b a (omega arith) (omega arith) (sym e))
-
-  -- with a budget of 2^columns a phase is never over it
-  pub never_spent : (left done : ℕ) (T : Tabled F.C) → Tableau F S.rows (columns S) A own T.cell T.basic →
-      2 ^ columns S ≤ left → turns F S passes phase among left done T ≢ spent
-  never_spent left done T t l e = let k = few T t (suc left)
-      (λ k p. spent_due left done T e k (omega arith)) in omega arith
-
-  -- the pivots of a phase that settles
-  pub record Used (T : Tabled F.C) (left l : ℕ) : Type 0 where
-    pub count : ℕ
-    pub total : l + count ≡ left
-    pub all : (k : ℕ) → k < count → IsDue (choose F S passes (tables T k) among)
-
-  -- all of them were due
-  settled_used : (left done : ℕ) (T : Tabled F.C) (l d : ℕ) (U : Tabled F.C) →
-      turns F S passes phase among left done T ≡ settled l d U → Used T left l
-  settled_used zero done T l d U e = go (choose F S passes T among) e
-    where
-      go : (x : Choice) → on_choice phase zero done T (λ r c. spent) x ≡ settled l d U → Used T zero l
-      go stays e = record {
-        count = 0;
-        total = let z : 0 ≡ l = cc in omega arith;
-        all = λ k p. absurd (omega arith);
-      }
-      go (rises c) e = absurd cc
-      go (due r c) e = absurd cc
-      go (refused s) e = absurd cc
-  settled_used (suc left) done T l d U e = go (choose F S passes T among) refl e
-      (λ V. settled_used left (suc done) V l d U)
-    where
-      at_spot : (r c : ℕ) (o : Option PivotWide) → on_spot phase done
-          (turns F S passes phase among left (suc done)) (pivoted_at F S T r c) o ≡ settled l d U →
-          turns F S passes phase among left (suc done) (pivoted_at F S T r c) ≡ settled l d U
-      at_spot r c (Some s) e = absurd cc
-      at_spot r c None e = e
-
-      more : IsDue (choose F S passes T among) → Used (moved T) left l → Used T (suc left) l
-      more h u = record { count = suc u.count; total = omega (arith, u.total); all = λ k p. each k p }
-        where
-          each : (k : ℕ) → k < suc u.count → IsDue (choose F S passes (tables T k) among)
-          each zero p = h
-          each (suc k) p = subst (λ V. IsDue (choose F S passes V among)) (sym (shifted T k))
-              (u.all k (omega arith))
-
-      go : (x : Choice) → choose F S passes T among ≡ x → on_choice phase (suc left) done T
-          (λ r c. on_spot phase done (turns F S passes phase among left (suc done)) (pivoted_at F S T r c)
-          (pivot_spot F passes S T r c)) x ≡ settled l d U →
-          ((V : Tabled F.C) → turns F S passes phase among left (suc done) V ≡ settled l d U →
-          Used V left l) → Used T (suc left) l
-      go stays p e h = record {
-        count = 0;
-        total = let z : suc left ≡ l = cc in omega arith;
-        all = λ k p. absurd (omega arith);
-      }
-      go (rises c) p e h = absurd cc
-      go (refused s) p e h = absurd cc
-      go (due r c) p e h = more (subst IsDue (sym p) tt) (h (moved T)
-          (subst (λ x. turns F S passes phase among left (suc done)
-          (pivoted_at F S T (row_of x) (column_of x)) ≡ settled l d U) (sym p)
-          (at_spot r c (pivot_spot F passes S T r c) e)))
-
-  -- so they are fewer than 2^columns
-  pub settled_few : (left done : ℕ) (T : Tabled F.C) (l d : ℕ) (U : Tabled F.C) →
-      Tableau F S.rows (columns S) A own T.cell T.basic →
-      turns F S passes phase among left done T ≡ settled l d U → left < l + 2 ^ columns S
-  settled_few left done T l d U t e = go (settled_used left done T l d U e)
-    where
-      go : Used T left l → left < l + 2 ^ columns S
-      go u = omega (arith, u.total, few T t u.count u.all)
+use Rattle.stack_circles.proofs.SetNumbers.{below_power}
+use Rattle.stack_circles.proofs.PhaseBudgets.{never_spent, settled_few}
 
 -- the whole run
-module _ (F : Ordered) (S : Shape) (passes : Op → F.C → F.C → Bool) (A : ℕ → ℕ → F.C) where
+module _ (F : Ordered) (S : Shape) (is_too_wide : Op → F.C → F.C → Bool) (A : ℕ → ℕ → F.C) where
   -- a stop with at least b pivots left, where it settles
-  abbrev Leaves : ℕ → Stop F.C → Type 0
+  abbrev Leaves : ℕ → PhaseStop F.C → Type 0
   Leaves b (settled l d T) = b ≤ l
   Leaves b (unlimited T c) = Unit {0}
-  Leaves b (passing p k s) = Unit {0}
+  Leaves b (wide_at p k s) = Unit {0}
   Leaves b spent = ⊥
 
   -- what phase 1 leaves
   first_leaves : (b left done : ℕ) (T : Tabled F.C) → IsFirst F S A T → b + 2 ^ columns S ≤ left →
-      Leaves b (turns F S passes 1 S.contacts left done T)
-  first_leaves b left done T h l = go (turns F S passes 1 S.contacts left done T) refl
+      Leaves b (turns F S is_too_wide 1 S.contacts left done T)
+  first_leaves b left done T h l = go (turns F S is_too_wide 1 S.contacts left done T) refl
     where
-      go : (x : Stop F.C) → turns F S passes 1 S.contacts left done T ≡ x → Leaves b x
+      go : (x : PhaseStop F.C) → turns F S is_too_wide 1 S.contacts left done T ≡ x → Leaves b x
       go (settled k d U) e = omega (
         arith,
         l,
-        settled_few F S passes A
+        settled_few F S is_too_wide A
             (own_first F S.rows (plain S)) 1 S.contacts (omega arith) left done T k d U h.tableau e,
       )
       go (unlimited U c) e = tt
-      go (passing p k s) e = tt
-      go spent e = never_spent F S passes A (own_first F S.rows (plain S)) 1 S.contacts
+      go (wide_at p k s) e = tt
+      go spent e = never_spent F S is_too_wide A (own_first F S.rows (plain S)) 1 S.contacts
           (omega arith) left done T h.tableau (omega arith) e
 
   -- phase 3 isn't spent
   third_leaves : (left done : ℕ) (T : Tabled F.C) → IsThird F S A T → 2 ^ columns S ≤ left →
-      turns F S passes 3 (plain S) left done T ≢ spent
-  third_leaves left done T h l = never_spent F S passes A (own_third F S.contacts) 3 (plain S)
+      turns F S is_too_wide 3 (plain S) left done T ≢ spent
+  third_leaves left done T h l = never_spent F S is_too_wide A (own_third F S.contacts) 3 (plain S)
       (omega arith) left done T h.tableau l
 
   -- a row of phase 2 uses at most one pivot
   drive_leaves : (b left done : ℕ) (T : Tabled F.C) (i : ℕ) → b + 1 ≤ left →
-      Leaves b (drive_row F S passes left done T i)
+      Leaves b (drive_row F S is_too_wide left done T i)
   drive_leaves b left done T i l = go (leb (plain S) (T.basic i)) left (driven_column F S T i) l
     where
       at_spot : (left c : ℕ) (o : Option PivotWide) → b ≤ left →
@@ -268,68 +63,69 @@ module _ (F : Ordered) (S : Shape) (passes : Op → F.C → F.C → Bool) (A : �
       at_spot left c None l = l
 
       go : (x : Bool) (left : ℕ) (o : Option ℕ) → b + 1 ≤ left →
-          Leaves b (cond x (drive_at F S passes left done T i o) (settled left done T))
+          Leaves b (cond x (drive_at F S is_too_wide left done T i o) (settled left done T))
       go false left o l = omega arith
       go true left None l = omega arith
       go true zero (Some c) l = absurd (omega arith)
-      go true (suc left) (Some c) l = at_spot left c (pivot_spot F passes S T i c) (omega arith)
+      go true (suc left) (Some c) l = at_spot left c (pivot_spot F is_too_wide S T i c) (omega arith)
 
   -- and all rows at most as many as they are
   drives_leave : (k b left done : ℕ) (T : Tabled F.C) → b + k ≤ left →
-      Leaves b (drives F S passes k left done T)
+      Leaves b (drives F S is_too_wide k left done T)
   drives_leave zero b left done T l = omega arith
-  drives_leave (suc k) b left done T l = go (drives F S passes k left done T)
+  drives_leave (suc k) b left done T l = go (drives F S is_too_wide k left done T)
       (drives_leave k (b + 1) left done T (omega arith))
     where
-      go : (x : Stop F.C) → Leaves (b + 1) x → Leaves b (after x (λ l d U. drive_row F S passes l d U k))
+      go : (x : PhaseStop F.C) → Leaves (b + 1) x → Leaves b (after_phase x
+          (λ l d U. drive_row F S is_too_wide l d U k))
       go (settled l d U) h = drive_leaves b l d U k h
       go (unlimited U c) h = tt
-      go (passing p k s) h = tt
+      go (wide_at p k s) h = tt
       go spent h = absurd h
 
   -- a run past phase 1 is over only where a phase is spent
-  third_over : (x : Stop F.C) → third_end x ≡ over → x ≡ spent
+  third_over : (x : PhaseStop F.C) → third_end x ≡ over → x ≡ spent
   third_over (settled l d T) e = absurd cc
   third_over (unlimited T c) e = absurd cc
-  third_over (passing p k s) e = absurd cc
+  third_over (wide_at p k s) e = absurd cc
   third_over spent e = refl
 
   -- past phase 1
   second_enough : (l d : ℕ) (T : Tabled F.C) (k : ℕ) → S.factors ≡ k → IsFirst F S A T →
-      F.sign (right F S T S.rows) ≢ minus → 2 * 2 ^ columns S ≤ l → past_first F S passes l d T k ≢ over
+      F.sign (right F S T S.rows) ≢ minus → 2 * 2 ^ columns S ≤ l → past_first F S is_too_wide l d T k ≢ over
   second_enough l d T zero f h s b e = absurd cc
-  second_enough l d T (suc k) f h s b e = go (drives F S passes S.rows l d (clear_objective F S T))
+  second_enough l d T (suc k) f h s b e = go (drives F S is_too_wide S.rows l d (clear_objective F S T))
       (drives_leave S.rows (2 ^ columns S) l d (clear_objective F S T)
       (omega (arith, b, below_power (columns S))))
-      (drives_keep F S A passes S.rows (omega arith) l d (clear_objective F S T) (second_begins F S A T h s))
+      (drives_keep F S A is_too_wide S.rows (omega arith) l d (clear_objective F S T) (second_begins F S A T h s))
       (third_over _ e)
     where
-      go : (x : Stop F.C) → Leaves (2 ^ columns S) x → Settled F S A (Second F S A S.rows) x →
-          after x (λ l d U. turns F S passes 3 (plain S) l d (set_factor_objective F S U)) ≡ spent → ⊥
+      go : (x : PhaseStop F.C) → Leaves (2 ^ columns S) x → Settled F S A (Second F S A S.rows) x →
+          after_phase x (λ l d U. turns F S is_too_wide 3 (plain S) l d (set_factor_objective F S U)) ≡ spent → ⊥
       go (settled l d U) b h e = third_leaves l d (set_factor_objective F S U)
           (third_begins F S A U (omega (arith, f)) h) b e
       go (unlimited U c) b h e = cc
-      go (passing p k s) b h e = cc
+      go (wide_at p k s) b h e = cc
       go spent b h e = b
 
   -- a budget of 3 * 2^columns is never spent
   pub enough : (budget : ℕ) (T : Tabled F.C) → IsFirst F S A T → 3 * 2 ^ columns S ≤ budget →
-      written_run F S passes budget T ≢ over
-  enough budget T h b e = go (turns F S passes 1 S.contacts budget 0 T)
+      written_run F S is_too_wide budget T ≢ over
+  enough budget T h b e = go (turns F S is_too_wide 1 S.contacts budget 0 T)
       (first_leaves (2 * 2 ^ columns S) budget 0 T h (omega arith))
-      (turns_keep F S passes (IsFirst F S A) 1 S.contacts (first_step F S A) budget 0 T h) e
+      (turns_keep F S is_too_wide (IsFirst F S A) 1 S.contacts (first_step F S A) budget 0 T h) e
     where
       at_sign : (s : Sign) (l d : ℕ) (U : Tabled F.C) → F.sign (right F S U S.rows) ≡ s → IsFirst F S A U →
-          2 * 2 ^ columns S ≤ l → cond (is_minus s) (infeasible U) (past_first F S passes l d U S.factors)
+          2 * 2 ^ columns S ≤ l → cond (is_negative_sign s) (infeasible U) (past_first F S is_too_wide l d U S.factors)
           ≡ over → ⊥
       at_sign minus l d U p h b e = cc
       at_sign nought l d U p h b e = second_enough l d U S.factors refl h (λ q. cc) b e
       at_sign plus l d U p h b e = second_enough l d U S.factors refl h (λ q. cc) b e
 
-      go : (x : Stop F.C) → Leaves (2 * 2 ^ columns S) x → Stopped F S (IsFirst F S A) S.contacts x →
-          first_end F S passes x ≡ over → ⊥
+      go : (x : PhaseStop F.C) → Leaves (2 * 2 ^ columns S) x → Stopped F S (IsFirst F S A) S.contacts x →
+          first_end F S is_too_wide x ≡ over → ⊥
       go (settled l d U) b h e = at_sign (F.sign (right F S U S.rows)) l d U refl h.0 b e
       go (unlimited U c) b h e = some_row_leaves F S.rows (plain S) A U.cell U.basic h.0.tableau c
           (omega (arith, h.1.enters.below)) (sign-minus _ h.1.enters.has) h.1.no_row
-      go (passing p k s) b h e = cc
+      go (wide_at p k s) b h e = cc
       go spent b h e = b

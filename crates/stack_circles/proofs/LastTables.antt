@@ -1,34 +1,40 @@
 -- The last table of a run is one at which it stands.
-use Rattle.std.proofs.Common.{◌≡◌, ◌≢◌, refl, sym, ap, ◌∙◌, ℕ, zero, suc, ◌≤◌, ◌<◌, ◌+◌, ◌*◌, ◌^◌, Bool, cond, arith, Option, Some, None}
+use Rattle.std.proofs.Common.{◌≡◌, ◌≢◌, refl, sym, ap, ◌∙◌, ℕ, zero, suc, ◌≤◌, ◌<◌, ◌+◌, ◌*◌, ◌^◌, Bool, cond, arith}
+use Rattle.std.proofs.Common.{Option, Some, None}
 use Rattle.stack_algebra.specs.Ordered.{Ordered, Sign, minus, nought, plus}
 use Rattle.stack_rational.specs.declared.exact.Op.{Op}
 use Rattle.stack_table.specs.declared.types.PivotWide.{PivotWide}
-use Rattle.stack_table.specs.Table.{Shape, Tabled, plain, columns, right, pivoted_at, clear_objective, set_factor_objective}
+use Rattle.stack_table.specs.Table.{Shape, Tabled, plain, columns, right, pivoted_at, clear_objective}
+use Rattle.stack_table.specs.Table.{set_factor_objective}
 use Rattle.stack_table.specs.Spots.{pivot_spot}
-use Rattle.stack_bland.specs.Choice.{is_minus}
-use Rattle.stack_duality.specs.WrittenRun.{Choice, stays, rises, due, refused, choose, Stop, settled, unlimited, passing, spent, End, infeasible, after, on_spot, on_choice, turns, drives, third_end, past_first, first_end, written_run}
+use Rattle.stack_bland.specs.Choice.{is_negative_sign}
+use Rattle.stack_duality.specs.WrittenRun.{Choice, stays, rises, due, refused, choose, PhaseStop, settled, unlimited}
+use Rattle.stack_duality.specs.WrittenRun.{wide_at, spent, End, infeasible, after_phase, on_spot, on_choice, turns}
+use Rattle.stack_duality.specs.WrittenRun.{drives, third_end, past_first, first_end, written_run}
 use Rattle.stack_duality.specs.PhaseTables.{IsFirst}
 use Rattle.stack_duality.proofs.ThreePhases.{Second}
 use Rattle.stack_duality.proofs.RunEnds.{Settled, drives_keep}
-use Rattle.stack_circles.specs.Reached.{then_on, unrefused, turned_by, after_turns, ComesToSecond, ReachesInFirst, ReachesInThird, Phase, phase_1, phase_2, phase_3, ReachesIn, SomeDone, LastReached}
+use Rattle.stack_circles.specs.Reached.{then_on, unrefused, turned_by, after_turns, ComesToSecond, ReachesInFirst}
+use Rattle.stack_circles.specs.Reached.{ReachesInThird, Phase, phase_1, phase_2, phase_3, ReachesIn, SomeDone}
+use Rattle.stack_circles.specs.Reached.{LastReached}
 use Rattle.stack_circles.proofs.Turning.{Before, before}
 use Rattle.stack_circles.proofs.SetNumbers.{below_power}
 use Rattle.stack_circles.proofs.SecondPhase.{settled-done}
 use Rattle.stack_circles.proofs.Circles.{begins, first_few, second_total, third_few}
 
-module _ (F : Ordered) (S : Shape) (passes : Op → F.C → F.C → Bool) where
+module _ (F : Ordered) (S : Shape) (is_too_wide : Op → F.C → F.C → Bool) where
   -- a turn, and then k more
   turn_first : (among : ℕ) (T V : Tabled F.C) (k : ℕ) (U : Tabled F.C) →
-      turned_by F S passes T (choose F S passes T among) ≡ Some V →
-      after_turns F S passes among V k ≡ Some U → after_turns F S passes among T (suc k) ≡ Some U
+      turned_by F S is_too_wide T (choose F S is_too_wide T among) ≡ Some V →
+      after_turns F S is_too_wide among V k ≡ Some U → after_turns F S is_too_wide among T (suc k) ≡ Some U
   turn_first among T V zero U e f = e ∙ f
-  turn_first among T V (suc k) U e f = go (before F S passes among V k U f) (turn_first among T V k)
+  turn_first among T V (suc k) U e f = go (before F S is_too_wide among V k U f) (turn_first among T V k)
     where
-      go : Before F S passes among V k U → ((W : Tabled F.C) →
-          turned_by F S passes T (choose F S passes T among) ≡ Some V →
-          after_turns F S passes among V k ≡ Some W → after_turns F S passes among T (suc k) ≡ Some W) →
-          after_turns F S passes among T (suc (suc k)) ≡ Some U
-      go b h = ap (λ o. then_on o (λ W. turned_by F S passes W (choose F S passes W among)))
+      go : Before F S is_too_wide among V k U → ((W : Tabled F.C) →
+          turned_by F S is_too_wide T (choose F S is_too_wide T among) ≡ Some V →
+          after_turns F S is_too_wide among V k ≡ Some W → after_turns F S is_too_wide among T (suc k) ≡ Some W) →
+          after_turns F S is_too_wide among T (suc (suc k)) ≡ Some U
+      go b h = ap (λ o. then_on o (λ W. turned_by F S is_too_wide W (choose F S is_too_wide W among)))
           (h b.table e b.there ∙ sym b.there) ∙ f
 
   -- how a phase stops at a table: after so many turns
@@ -37,7 +43,7 @@ module _ (F : Ordered) (S : Shape) (passes : Op → F.C → F.C → Bool) where
     pub within : count ≤ left
     pub rest : l + count ≡ left
     pub total : d ≡ done + count
-    pub there : after_turns F S passes among T count ≡ Some U
+    pub there : after_turns F S is_too_wide among T count ≡ Some U
 
   -- with some numbers of pivots
   pub record TurnedTo (among left done : ℕ) (T U : Tabled F.C) : Type 0 where
@@ -46,10 +52,10 @@ module _ (F : Ordered) (S : Shape) (passes : Op → F.C → F.C → Bool) where
     pub turned : Turned among left done T left_then done_then U
 
   -- by the stop
-  abbrev pub Stopped : (among left done : ℕ) → Tabled F.C → Stop F.C → Type 0
+  abbrev pub Stopped : (among left done : ℕ) → Tabled F.C → PhaseStop F.C → Type 0
   Stopped among left done T (settled l d U) = Turned among left done T l d U
   Stopped among left done T (unlimited U c) = TurnedTo among left done T U
-  Stopped among left done T (passing p k s) = Unit {0}
+  Stopped among left done T (wide_at p k s) = Unit {0}
   Stopped among left done T spent = Unit {0}
 
   -- after no turn, and after one more
@@ -63,7 +69,7 @@ module _ (F : Ordered) (S : Shape) (passes : Op → F.C → F.C → Bool) where
   }
 
   one_more : (among left done : ℕ) (T V : Tabled F.C) (l d : ℕ) (U : Tabled F.C) →
-      turned_by F S passes T (choose F S passes T among) ≡ Some V → Turned among left (suc done) V l d U →
+      turned_by F S is_too_wide T (choose F S is_too_wide T among) ≡ Some V → Turned among left (suc done) V l d U →
       Turned among (suc left) done T l d U
   one_more among left done T V l d U e h = record {
     count = suc h.count;
@@ -74,8 +80,8 @@ module _ (F : Ordered) (S : Shape) (passes : Op → F.C → F.C → Bool) where
   }
 
   -- the same of a stop
-  more : (among left done : ℕ) (T V : Tabled F.C) (x : Stop F.C) →
-      turned_by F S passes T (choose F S passes T among) ≡ Some V → Stopped among left (suc done) V x →
+  more : (among left done : ℕ) (T V : Tabled F.C) (x : PhaseStop F.C) →
+      turned_by F S is_too_wide T (choose F S is_too_wide T among) ≡ Some V → Stopped among left (suc done) V x →
       Stopped among (suc left) done T x
   more among left done T V (settled l d U) e h = one_more among left done T V l d U e h
   more among left done T V (unlimited U c) e h = record {
@@ -83,57 +89,57 @@ module _ (F : Ordered) (S : Shape) (passes : Op → F.C → F.C → Bool) where
     done_then = h.done_then;
     turned = one_more among left done T V h.left_then h.done_then U e h.turned;
   }
-  more among left done T V (passing p k s) e h = tt
+  more among left done T V (wide_at p k s) e h = tt
   more among left done T V spent e h = tt
 
   -- so a phase stops at a table that its turns reach
   pub turns_stop : (phase among left done : ℕ) (T : Tabled F.C) →
-      Stopped among left done T (turns F S passes phase among left done T)
-  turns_stop phase among zero done T = go (choose F S passes T among)
+      Stopped among left done T (turns F S is_too_wide phase among left done T)
+  turns_stop phase among zero done T = go (choose F S is_too_wide T among)
     where
       go : (x : Choice) → Stopped among zero done T (on_choice phase zero done T (λ r c. spent) x)
       go stays = none_turned among zero done T
       go (rises c) = record { left_then = zero; done_then = done; turned = none_turned among zero done T }
       go (due r c) = tt
       go (refused s) = tt
-  turns_stop phase among (suc left) done T = go (choose F S passes T among) refl
+  turns_stop phase among (suc left) done T = go (choose F S is_too_wide T among) refl
       (turns_stop phase among left (suc done))
     where
-      at_spot : (r c : ℕ) → choose F S passes T among ≡ due r c → (o : Option PivotWide) →
-          pivot_spot F passes S T r c ≡ o → ((V : Tabled F.C) →
-          Stopped among left (suc done) V (turns F S passes phase among left (suc done) V)) →
-          Stopped among (suc left) done T (on_spot phase done (turns F S passes phase among left (suc done))
+      at_spot : (r c : ℕ) → choose F S is_too_wide T among ≡ due r c → (o : Option PivotWide) →
+          pivot_spot F is_too_wide S T r c ≡ o → ((V : Tabled F.C) →
+          Stopped among left (suc done) V (turns F S is_too_wide phase among left (suc done) V)) →
+          Stopped among (suc left) done T (on_spot phase done (turns F S is_too_wide phase among left (suc done))
           (pivoted_at F S T r c) o)
       at_spot r c p (Some s) q h = tt
       at_spot r c p None q h = more among left done T (pivoted_at F S T r c)
-          (turns F S passes phase among left (suc done) (pivoted_at F S T r c))
-          (ap (turned_by F S passes T) p ∙ ap (unrefused (pivoted_at F S T r c)) q) (h (pivoted_at F S T r c))
+          (turns F S is_too_wide phase among left (suc done) (pivoted_at F S T r c))
+          (ap (turned_by F S is_too_wide T) p ∙ ap (unrefused (pivoted_at F S T r c)) q) (h (pivoted_at F S T r c))
 
-      go : (x : Choice) → choose F S passes T among ≡ x →
+      go : (x : Choice) → choose F S is_too_wide T among ≡ x →
           ((V : Tabled F.C) → Stopped among left (suc done) V
-          (turns F S passes phase among left (suc done) V)) →
+          (turns F S is_too_wide phase among left (suc done) V)) →
           Stopped among (suc left) done T (on_choice phase (suc left) done T
-          (λ r c. on_spot phase done (turns F S passes phase among left (suc done))
-          (pivoted_at F S T r c) (pivot_spot F passes S T r c)) x)
+          (λ r c. on_spot phase done (turns F S is_too_wide phase among left (suc done))
+          (pivoted_at F S T r c) (pivot_spot F is_too_wide S T r c)) x)
       go stays p h = none_turned among (suc left) done T
       go (rises c) p h = record {
         left_then = suc left;
         done_then = done;
         turned = none_turned among (suc left) done T;
       }
-      go (due r c) p h = at_spot r c p (pivot_spot F passes S T r c) refl h
+      go (due r c) p h = at_spot r c p (pivot_spot F is_too_wide S T r c) refl h
       go (refused s) p h = tt
 
   module _ (A : ℕ → ℕ → F.C) (budget : ℕ) (T : Tabled F.C) (begins_run : IsFirst F S A T) where
     abbrev Last : End F.C → Type 0
-    Last = LastReached F S passes budget T
+    Last = LastReached F S is_too_wide budget T
 
     -- a table of phase 3
     in_third : (left done l d : ℕ) (V W U : Tabled F.C) (left' done' : ℕ) →
-        ComesToSecond F S passes budget T left done V →
-        drives F S passes S.rows left done (clear_objective F S V) ≡ settled l d W →
+        ComesToSecond F S is_too_wide budget T left done V →
+        drives F S is_too_wide S.rows left done (clear_objective F S V) ≡ settled l d W →
         Turned (plain S) l d (set_factor_objective F S W) left' done' U →
-        SomeDone (λ k. ReachesInThird F S passes budget T k U)
+        SomeDone (λ k. ReachesInThird F S is_too_wide budget T k U)
     in_third left done l d V W U left' done' h e t = record {
       done = d + t.count;
       holds = record {
@@ -158,97 +164,97 @@ module _ (F : Ordered) (S : Shape) (passes : Op → F.C → F.C → Bool) where
     }
 
     -- by how phase 3 stops
-    at_third : (left done l d : ℕ) (V W : Tabled F.C) → ComesToSecond F S passes budget T left done V →
-        drives F S passes S.rows left done (clear_objective F S V) ≡ settled l d W →
-        (x : Stop F.C) → Stopped (plain S) l d (set_factor_objective F S W) x → Last (third_end x)
+    at_third : (left done l d : ℕ) (V W : Tabled F.C) → ComesToSecond F S is_too_wide budget T left done V →
+        drives F S is_too_wide S.rows left done (clear_objective F S V) ≡ settled l d W →
+        (x : PhaseStop F.C) → Stopped (plain S) l d (set_factor_objective F S W) x → Last (third_end x)
     at_third left done l d V W h e (settled l' d' U) t = in_third left done l d V W U l' d' h e t
     at_third left done l d V W h e (unlimited U c) t =
         in_third left done l d V W U t.left_then t.done_then h e t.turned
-    at_third left done l d V W h e (passing p k s) t = tt
+    at_third left done l d V W h e (wide_at p k s) t = tt
     at_third left done l d V W h e spent t = tt
 
     -- by how phase 2 stops
-    at_second : (left done : ℕ) (V : Tabled F.C) → ComesToSecond F S passes budget T left done V →
-        (x : Stop F.C) → drives F S passes S.rows left done (clear_objective F S V) ≡ x →
+    at_second : (left done : ℕ) (V : Tabled F.C) → ComesToSecond F S is_too_wide budget T left done V →
+        (x : PhaseStop F.C) → drives F S is_too_wide S.rows left done (clear_objective F S V) ≡ x →
         Settled F S A (Second F S A S.rows) x →
-        Last (third_end (after x (λ l d U. turns F S passes 3 (plain S) l d (set_factor_objective F S U))))
+        Last (third_end (after_phase x (λ l d U. turns F S is_too_wide 3 (plain S) l d (set_factor_objective F S U))))
     at_second left done V h (settled l d W) e k = at_third left done l d V W h e _
         (turns_stop 3 (plain S) l d (set_factor_objective F S W))
     at_second left done V h (unlimited W c) e k = absurd k
-    at_second left done V h (passing p j s) e k = tt
+    at_second left done V h (wide_at p j s) e k = tt
     at_second left done V h spent e k = tt
 
     -- a table of phase 1
     in_first : (left done : ℕ) (V : Tabled F.C) → Turned S.contacts budget 0 T left done V →
-        SomeDone (λ d. ReachesInFirst F S passes budget T d V)
+        SomeDone (λ d. ReachesInFirst F S is_too_wide budget T d V)
     in_first left done V t = record { done = t.count; holds = record { within = t.within; there = t.there } }
 
     -- past phase 1, by the number of factor columns
     by_factors : (left done : ℕ) (V : Tabled F.C) (k : ℕ) → S.factors ≡ k →
-        turns F S passes 1 S.contacts budget 0 T ≡ settled left done V →
+        turns F S is_too_wide 1 S.contacts budget 0 T ≡ settled left done V →
         F.sign (right F S V S.rows) ≢ minus → Turned S.contacts budget 0 T left done V →
-        Last (past_first F S passes left done V k)
+        Last (past_first F S is_too_wide left done V k)
     by_factors left done V zero f e n t = in_first left done V t
     by_factors left done V (suc k) f e n t = at_second left done V comes _ refl
-        (drives_keep F S A passes S.rows (omega arith) left done (clear_objective F S V)
-        (begins F S passes A budget T begins_run left done V comes))
+        (drives_keep F S A is_too_wide S.rows (omega arith) left done (clear_objective F S V)
+        (begins F S is_too_wide A budget T begins_run left done V comes))
       where
-        comes : ComesToSecond F S passes budget T left done V
+        comes : ComesToSecond F S is_too_wide budget T left done V
         comes = record { settles = e; not_below = n; factor = omega (arith, f) }
 
     -- the last table is one that the run reaches
-    pub last_reached : Last (written_run F S passes budget T)
-    last_reached = go (turns F S passes 1 S.contacts budget 0 T) refl (turns_stop 1 S.contacts budget 0 T)
+    pub last_reached : Last (written_run F S is_too_wide budget T)
+    last_reached = go (turns F S is_too_wide 1 S.contacts budget 0 T) refl (turns_stop 1 S.contacts budget 0 T)
       where
         at_sign : (left done : ℕ) (V : Tabled F.C) (s : Sign) → F.sign (right F S V S.rows) ≡ s →
-            turns F S passes 1 S.contacts budget 0 T ≡ settled left done V →
+            turns F S is_too_wide 1 S.contacts budget 0 T ≡ settled left done V →
             Turned S.contacts budget 0 T left done V →
-            Last (cond (is_minus s) (infeasible V) (past_first F S passes left done V S.factors))
+            Last (cond (is_negative_sign s) (infeasible V) (past_first F S is_too_wide left done V S.factors))
         at_sign left done V minus p e t = in_first left done V t
         at_sign left done V nought p e t = by_factors left done V S.factors refl e (λ q. cc) t
         at_sign left done V plus p e t = by_factors left done V S.factors refl e (λ q. cc) t
 
-        go : (x : Stop F.C) → turns F S passes 1 S.contacts budget 0 T ≡ x →
-            Stopped S.contacts budget 0 T x → Last (first_end F S passes x)
+        go : (x : PhaseStop F.C) → turns F S is_too_wide 1 S.contacts budget 0 T ≡ x →
+            Stopped S.contacts budget 0 T x → Last (first_end F S is_too_wide x)
         go (settled left done V) e t = at_sign left done V (F.sign (right F S V S.rows)) refl e t
         go (unlimited V c) e t = tt
-        go (passing p k s) e t = tt
+        go (wide_at p k s) e t = tt
         go spent e t = tt
 
     -- the pivots of phase 1, where phase 2 comes
-    first_before : (left done : ℕ) (V : Tabled F.C) → ComesToSecond F S passes budget T left done V →
+    first_before : (left done : ℕ) (V : Tabled F.C) → ComesToSecond F S is_too_wide budget T left done V →
         done < 2 ^ columns S
-    first_before left done V h = go (turns F S passes 1 S.contacts budget 0 T) h.settles
+    first_before left done V h = go (turns F S is_too_wide 1 S.contacts budget 0 T) h.settles
         (turns_stop 1 S.contacts budget 0 T)
       where
-        go : (x : Stop F.C) → x ≡ settled left done V → Stopped S.contacts budget 0 T x → done < 2 ^ columns S
+        go : (x : PhaseStop F.C) → x ≡ settled left done V → Stopped S.contacts budget 0 T x → done < 2 ^ columns S
         go (settled l d U) e t = omega (
           arith,
           t.total,
           settled-done e,
-          first_few F S passes A budget T begins_run
+          first_few F S is_too_wide A budget T begins_run
               t.count U (record { within = t.within; there = t.there }),
         )
         go (unlimited U c) e t = absurd cc
-        go (passing p k s) e t = absurd cc
+        go (wide_at p k s) e t = absurd cc
         go spent e t = absurd cc
 
     -- a run has fewer than 3*2^columns pivots
-    pub run_short : (p : Phase) (d : ℕ) (U : Tabled F.C) → ReachesIn F S passes budget T p d U →
+    pub run_short : (p : Phase) (d : ℕ) (U : Tabled F.C) → ReachesIn F S is_too_wide budget T p d U →
         d < 3 * 2 ^ columns S
-    run_short phase_1 d U s = omega (arith, first_few F S passes A budget T begins_run d U s)
+    run_short phase_1 d U s = omega (arith, first_few F S is_too_wide A budget T begins_run d U s)
     run_short phase_2 d U s = let r = s.reaches in omega (
       arith,
       r.row_within,
       below_power (columns S),
-      second_total F S passes A budget T begins_run s.row d U r,
+      second_total F S is_too_wide A budget T begins_run s.row d U r,
       first_before r.left_before r.done_before r.last r.comes,
     )
     run_short phase_3 d U s = let r = s.second in omega (
       arith,
       s.total,
       below_power (columns S),
-      second_total F S passes A budget T begins_run S.rows s.done_before s.last r,
+      second_total F S is_too_wide A budget T begins_run S.rows s.done_before s.last r,
       first_before r.left_before r.done_before r.last r.comes,
-      third_few F S passes A budget T begins_run d U s,
+      third_few F S is_too_wide A budget T begins_run d U s,
     )

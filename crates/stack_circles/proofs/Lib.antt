@@ -1,6 +1,7 @@
 pub mod NoBasisRecurs
 pub mod Pigeonhole
 pub mod SetNumbers
+pub mod PhaseBudgets
 pub mod FewPivots
 pub mod SecondPhase
 pub mod Turning

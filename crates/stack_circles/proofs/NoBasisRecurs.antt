@@ -5,13 +5,15 @@ use lib.IntN.{pos, negsuc}
 use Rattle.stack_algebra.proofs.Ring.{Exp, num, ◌⊕◌, ◌⊖◌, ◌⊗◌, ring1, ring2, ring3, mul-zero, add-zero}
 use Rattle.stack_algebra.proofs.Sums.{sum, sum_zero, at-other, at-same}
 use Rattle.stack_algebra.proofs.Pivots.{pivoted-other, column_kept, changed-same, changed-other}
-use Rattle.stack_algebra.specs.Ordered.{Ordered, Sign, minus, nought, plus, opposite, both}
+use Rattle.stack_algebra.specs.Ordered.{Ordered, Sign, minus, nought, plus, opposite, product_sign}
 use Rattle.stack_algebra.specs.Rows.{NonNeg, quotient, changed, Tableau, next}
-use Rattle.stack_algebra.proofs.Signs.{nonneg_plus, nonneg_by, nonneg_sum, nonneg_add, nonneg_mul, nonneg_neg-minus, zero_parts, inv-plus}
+use Rattle.stack_algebra.proofs.Signs.{nonneg_plus, nonneg_by, nonneg_sum, nonneg_add, nonneg_mul, nonneg_neg-minus}
+use Rattle.stack_algebra.proofs.Signs.{zero_parts, inv-plus}
 use Rattle.stack_algebra.proofs.Combinations.{dot_own_cells}
 use Rattle.stack_table.specs.Table.{Shape, Tabled, columns, right, pivoted_at}
-use Rattle.stack_bland.specs.Choice.{is_minus}
-use Rattle.stack_duality.proofs.Solutions.{solution, ray_of, on_solution, on_ray, solution_annulled, ray_annulled, own_on_solution, own_on_ray}
+use Rattle.stack_bland.specs.Choice.{is_negative_sign}
+use Rattle.stack_duality.proofs.Solutions.{solution, ray_of, on_solution, on_ray, solution_annulled, ray_annulled}
+use Rattle.stack_duality.proofs.Solutions.{own_on_solution, own_on_ray}
 use Rattle.stack_duality.proofs.TurnsKeep.{Due}
 use Rattle.stack_circles.specs.BasicSets.{IsBasic, SameSet}
 
@@ -57,7 +59,7 @@ module _ (F : Ordered) where
   zero_factor : (x y : F.C) → F.sign x ≡ plus → F.mul x y ≡ F.of (pos 0) → y ≡ F.of (pos 0)
   zero_factor x y h e = F.zero_by_sign y (go (F.sign x) h (sym (F.sign-mul x y) ∙ ap F.sign e ∙ F.sign-zero))
     where
-      go : (s : Sign) → s ≡ plus → both s (F.sign y) ≡ nought → F.sign y ≡ nought
+      go : (s : Sign) → s ≡ plus → product_sign s (F.sign y) ≡ nought → F.sign y ≡ nought
       go minus h e = absurd cc
       go nought h e = absurd cc
       go plus h e = e
@@ -190,7 +192,7 @@ module _ (F : Ordered) (S : Shape) (A : ℕ → ℕ → F.C) (own : ℕ → F.C)
     not_basic-entering : (k : ℕ) → k < L → Basic k (c k) → ⊥
     not_basic-entering k l b = let e = unit_in F m n A own (T k).cell (T k).basic (h.tableau k (omega arith))
         (c k) b in
-        let z = ap is_minus (ap F.sign e ∙ F.sign-zero) in let q = (h.due k l).enters.has in cc
+        let z = ap is_negative_sign (ap F.sign e ∙ F.sign-zero) in let q = (h.due k l).enters.has in cc
 
     -- the objective's right side
     abbrev gain : ℕ → F.C
@@ -213,7 +215,7 @@ module _ (F : Ordered) (S : Shape) (A : ℕ → ℕ → F.C) (own : ℕ → F.C)
     entering-minus : (k : ℕ) → k < L → F.sign ((T k).cell m (c k)) ≡ minus
     entering-minus k l = go (F.sign ((T k).cell m (c k))) (h.due k l).enters.has
       where
-        go : (s : Sign) → is_minus s ≡ true → s ≡ minus
+        go : (s : Sign) → is_negative_sign s ≡ true → s ≡ minus
         go minus e = refl
         go nought e = absurd cc
         go plus e = absurd cc
@@ -330,7 +332,7 @@ module _ (F : Ordered) (S : Shape) (A : ℕ → ℕ → F.C) (own : ℕ → F.C)
         -- below t no objective cell of the turn q is negative
         below-nonneg : (j : ℕ) → j < c g.index → NonNeg F ((T g.index).cell m j)
         below-nonneg j l = record {
-          fact = λ e. let z = ap is_minus e in let y = dq.enters.none_before j l in cc;
+          fact = λ e. let z = ap is_negative_sign e in let y = dq.enters.none_before j l in cc;
         }
 
         -- a column whose objective cell is not 0 in the turn q is not basic there
@@ -366,7 +368,7 @@ module _ (F : Ordered) (S : Shape) (A : ℕ → ℕ → F.C) (own : ℕ → F.C)
             (F.neg ((T p).cell i (c p))))
         term-nonneg i l = record {
           fact = λ e. go (F.sign ((T g.index).cell m ((T p).basic i))) (F.sign ((T p).cell i (c p))) refl refl
-              (sym (F.sign-mul _ _ ∙ ap (both (F.sign ((T g.index).cell m ((T p).basic i))))
+              (sym (F.sign-mul _ _ ∙ ap (product_sign (F.sign ((T g.index).cell m ((T p).basic i))))
               (F.sign-neg ((T p).cell i (c p)))) ∙ e);
         }
           where
@@ -379,7 +381,7 @@ module _ (F : Ordered) (S : Shape) (A : ℕ → ℕ → F.C) (own : ℕ → F.C)
                 (e ∙ sym leaves_t)
 
             go : (a d : Sign) → F.sign ((T g.index).cell m ((T p).basic i)) ≡ a →
-                F.sign ((T p).cell i (c p)) ≡ d → both a (opposite d) ≢ minus
+                F.sign ((T p).cell i (c p)) ≡ d → product_sign a (opposite d) ≢ minus
             go nought d e f z = cc
             go plus minus e f z = cc
             go plus nought e f z = cc

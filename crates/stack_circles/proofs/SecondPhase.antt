@@ -1,5 +1,6 @@
 -- Phase 2: each pivot takes an artificial column out, so no set of basic columns recurs.
-use Rattle.std.proofs.Common.{◌≡◌, refl, sym, ap, subst, ◌∙◌, ℕ, zero, suc, ◌<◌, ◌≤◌, ◌+◌, ◌⊎◌, inl, inr, Bool, true, false, cond, leb, not, arith, Option, Some, None}
+use Rattle.std.proofs.Common.{◌≡◌, refl, sym, ap, subst, ◌∙◌, ℕ, zero, suc, ◌<◌, ◌≤◌, ◌+◌, ◌⊎◌, inl, inr, Bool, true}
+use Rattle.std.proofs.Common.{false, cond, leb, not, arith, Option, Some, None}
 use Rattle.std.proofs.lemmas.Bool.{leb-true}
 use native.Mathlib.Decide.{ℕ_discrete}
 use Rattle.stack_algebra.specs.Ordered.{Ordered}
@@ -11,7 +12,8 @@ use Rattle.stack_table.specs.declared.types.PivotWide.{PivotWide}
 use Rattle.stack_table.specs.Table.{Shape, Tabled, plain, columns, pivoted_at}
 use Rattle.stack_table.specs.Spots.{pivot_spot}
 use Rattle.stack_bland.specs.Choice.{is_nought}
-use Rattle.stack_duality.specs.WrittenRun.{Stop, settled, unlimited, passing, spent, after, on_spot, driven_column, drive_at, drive_row, drives}
+use Rattle.stack_duality.specs.WrittenRun.{PhaseStop, settled, unlimited, wide_at, spent, after_phase, on_spot}
+use Rattle.stack_duality.specs.WrittenRun.{driven_column, drive_at, drive_row, drives}
 use Rattle.stack_circles.specs.BasicSets.{IsBasic, SameSet}
 use Rattle.stack_circles.specs.Reached.{TakesArtificialOut}
 use Rattle.stack_circles.proofs.NoBasisRecurs.{distinct}
@@ -26,14 +28,14 @@ settled-done e = cc
 pub settled-table : {C : Type 0} {l d l' d' : ℕ} {T T' : Tabled C} → settled l d T ≡ settled l' d' T' → T ≡ T'
 settled-table e = cc
 
-module _ (F : Ordered) (S : Shape) (passes : Op → F.C → F.C → Bool) where
+module _ (F : Ordered) (S : Shape) (is_too_wide : Op → F.C → F.C → Bool) where
   -- what phase 2 makes of a row
   abbrev pub RowDone : ℕ → ℕ → Tabled F.C → ℕ → Tabled F.C → Type 0
   RowDone row d T e U = ((e ≡ d) × (U ≡ T)) ⊎ ((e ≡ suc d) × TakesArtificialOut S row T U)
 
   -- this is what it does
   pub row_done : (left done : ℕ) (T : Tabled F.C) (i l d : ℕ) (U : Tabled F.C) →
-      drive_row F S passes left done T i ≡ settled l d U → RowDone i done T d U
+      drive_row F S is_too_wide left done T i ≡ settled l d U → RowDone i done T d U
   row_done left done T i l d U e = go (leb (plain S) (T.basic i)) refl e
     where
       stays : (k : ℕ) → settled k done T ≡ settled l d U → RowDone i done T d U
@@ -57,15 +59,15 @@ module _ (F : Ordered) (S : Shape) (passes : Op → F.C → F.C → Bool) where
       at_spot k c b lc None e = pivots k c b lc e
 
       at_column : plain S ≤ T.basic i → (k : ℕ) (o : Option ℕ) → driven_column F S T i ≡ o →
-          drive_at F S passes k done T i o ≡ settled l d U → RowDone i done T d U
+          drive_at F S is_too_wide k done T i o ≡ settled l d U → RowDone i done T d U
       at_column b k None p e = stays k e
       at_column b zero (Some c) p e = absurd cc
       at_column b (suc k) (Some c) p e = at_spot k c b
           (least-some (plain S) (λ j. not (is_nought (F.sign (T.cell i j)))) c p).below
-          (pivot_spot F passes S T i c) e
+          (pivot_spot F is_too_wide S T i c) e
 
       go : (b : Bool) → leb (plain S) (T.basic i) ≡ b → cond b
-          (drive_at F S passes left done T i (driven_column F S T i)) (settled left done T) ≡ settled l d U →
+          (drive_at F S is_too_wide left done T i (driven_column F S T i)) (settled left done T) ≡ settled l d U →
           RowDone i done T d U
       go true p e = at_column (leb-true _ _ p) left (driven_column F S T i) refl e
       go false p e = stays left e
@@ -130,15 +132,15 @@ module _ (F : Ordered) (S : Shape) (passes : Op → F.C → F.C → Bool) where
   module _ (left done : ℕ) (V : Tabled F.C) where
     -- the row after which
     pub row_between : (r l d : ℕ) (T : Tabled F.C) (l' e : ℕ) (U : Tabled F.C) →
-        drives F S passes r left done V ≡ settled l d T →
-        drives F S passes (suc r) left done V ≡ settled l' e U → RowDone r d T e U
+        drives F S is_too_wide r left done V ≡ settled l d T →
+        drives F S is_too_wide (suc r) left done V ≡ settled l' e U → RowDone r d T e U
     row_between r l d T l' e U p q = row_done l d T r l' e U
-        (sym (ap (λ x. after x (λ l d W. drive_row F S passes l d W r)) p) ∙ q)
+        (sym (ap (λ x. after_phase x (λ l d W. drive_row F S is_too_wide l d W r)) p) ∙ q)
 
     -- two tables of phase 2 with some rows between them
     pub passed : (a k l d : ℕ) (T : Tabled F.C) (l' e : ℕ) (U : Tabled F.C) →
-        drives F S passes a left done V ≡ settled l d T →
-        drives F S passes (a + k) left done V ≡ settled l' e U → Passed (a + k) d T e U
+        drives F S is_too_wide a left done V ≡ settled l d T →
+        drives F S is_too_wide (a + k) left done V ≡ settled l' e U → Passed (a + k) d T e U
     passed a zero l d T l' e U p q = record {
       kept = λ i. inl (ap (λ (W : Tabled F.C). W.basic i) same);
       moved = inl (sym (settled-done both), same);
@@ -148,41 +150,41 @@ module _ (F : Ordered) (S : Shape) (passes : Op → F.C → F.C → Bool) where
         start = omega arith
 
         both : settled l d T ≡ settled l' e U
-        both = sym p ∙ sym (ap (λ z. drives F S passes z left done V) start) ∙ q
+        both = sym p ∙ sym (ap (λ z. drives F S is_too_wide z left done V) start) ∙ q
 
         same : U ≡ T
         same = sym (settled-table both)
     passed a (suc k) l d T l' e U p q = let z : suc (a + k) ≡ a + suc k = omega arith in
-        subst (λ n. Passed n d T e U) z (go (drives F S passes (a + k) left done V) refl
-        (λ l' e U q. passed a k l d T l' e U p q) (ap (λ n. drives F S passes n left done V) z ∙ q))
+        subst (λ n. Passed n d T e U) z (go (drives F S is_too_wide (a + k) left done V) refl
+        (λ l' e U q. passed a k l d T l' e U p q) (ap (λ n. drives F S is_too_wide n left done V) z ∙ q))
       where
-        go : (x : Stop F.C) → drives F S passes (a + k) left done V ≡ x →
-            ((l' e : ℕ) (U : Tabled F.C) → drives F S passes (a + k) left done V ≡ settled l' e U →
+        go : (x : PhaseStop F.C) → drives F S is_too_wide (a + k) left done V ≡ x →
+            ((l' e : ℕ) (U : Tabled F.C) → drives F S is_too_wide (a + k) left done V ≡ settled l' e U →
             Passed (a + k) d T e U) →
-            after x (λ l d W. drive_row F S passes l d W (a + k)) ≡ settled l' e U →
+            after_phase x (λ l d W. drive_row F S is_too_wide l d W (a + k)) ≡ settled l' e U →
             Passed (suc (a + k)) d T e U
         go (settled l1 d1 W) x h q = passed_on (a + k) d T d1 W e U (h l1 d1 W x)
             (row_done l1 d1 W (a + k) l' e U q)
         go (unlimited W c) x h q = absurd cc
-        go (passing p k s) x h q = absurd cc
+        go (wide_at p k s) x h q = absurd cc
         go spent x h q = absurd cc
 
     -- at most one pivot a row
-    pub drives_few : (k l e : ℕ) (U : Tabled F.C) → drives F S passes k left done V ≡ settled l e U →
+    pub drives_few : (k l e : ℕ) (U : Tabled F.C) → drives F S is_too_wide k left done V ≡ settled l e U →
         e ≤ done + k
     drives_few zero l e U q = let z = settled-done q in omega arith
-    drives_few (suc k) l e U q = go (drives F S passes k left done V) refl (drives_few k) q
+    drives_few (suc k) l e U q = go (drives F S is_too_wide k left done V) refl (drives_few k) q
       where
         at_row : (d : ℕ) (W : Tabled F.C) → d ≤ done + k → RowDone k d W e U → e ≤ done + suc k
         at_row d W h (inl z) = omega (arith, h, z.0)
         at_row d W h (inr z) = omega (arith, h, z.0)
 
-        go : (x : Stop F.C) → drives F S passes k left done V ≡ x →
-            ((l e : ℕ) (U : Tabled F.C) → drives F S passes k left done V ≡ settled l e U → e ≤ done + k) →
-            after x (λ l d W. drive_row F S passes l d W k) ≡ settled l e U → e ≤ done + suc k
+        go : (x : PhaseStop F.C) → drives F S is_too_wide k left done V ≡ x →
+            ((l e : ℕ) (U : Tabled F.C) → drives F S is_too_wide k left done V ≡ settled l e U → e ≤ done + k) →
+            after_phase x (λ l d W. drive_row F S is_too_wide l d W k) ≡ settled l e U → e ≤ done + suc k
         go (settled l1 d1 W) x h q = at_row d1 W (h l1 d1 W x) (row_done l1 d1 W k l e U q)
         go (unlimited W c) x h q = absurd cc
-        go (passing p k s) x h q = absurd cc
+        go (wide_at p k s) x h q = absurd cc
         go spent x h q = absurd cc
 
   -- where a pivot is between them, the two tables have different sets

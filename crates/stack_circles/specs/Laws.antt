@@ -21,7 +21,7 @@ abbrev pub ReachesRow : (P : Problem) → Rule → (budget row done : ℕ) → T
 ReachesRow P rule budget row done T = ReachesInSecond ordered_fractions P.shape rule budget
     (written_table ordered_fractions P) row done T
 
--- within a phase, with any budget and any rule of what passes, no set of basic columns recurs
+-- within a phase, with any budget and any rule of what is too wide, no set of basic columns recurs
 abbrev pub NoSetRecurs : Type 0
 NoSetRecurs = (P : Problem) (rule : Rule) (budget : ℕ) (p : Phase) (d e : ℕ) (T U : Tabled Fraction) →
     Reaches P rule budget p d T → Reaches P rule budget p e U → d < e → ¬ SameSet P.shape.rows T.basic U.basic

@@ -5,7 +5,9 @@ use Rattle.stack_rational.specs.declared.exact.Op.{Op}
 use Rattle.stack_table.specs.declared.types.PivotWide.{PivotWide}
 use Rattle.stack_table.specs.Table.{Shape, Tabled, plain, right, pivoted_at, clear_objective, set_factor_objective}
 use Rattle.stack_table.specs.Spots.{pivot_spot}
-use Rattle.stack_duality.specs.WrittenRun.{Choice, stays, rises, due, refused, Stop, settled, End, infeasible, feasible, optimal, ray, wide, over, after, choose, turns, drive_row, drives, third_end, first_end, written_run}
+use Rattle.stack_duality.specs.WrittenRun.{Choice, stays, rises, due, refused, PhaseStop, settled, End, infeasible}
+use Rattle.stack_duality.specs.WrittenRun.{feasible, optimal, ray, wide, over, after_phase, choose, turns, drive_row}
+use Rattle.stack_duality.specs.WrittenRun.{drives, third_end, first_end, written_run}
 
 pub data Phase : Type 0 where
   phase_1 : Phase
@@ -17,7 +19,7 @@ abbrev pub then_on : {C : Type 0} → Option (Tabled C) → (Tabled C → Option
 then_on None f = None
 then_on (Some T) f = f T
 
--- a table, unless a spot passes
+-- a table, unless a spot is too wide
 abbrev pub unrefused : {C : Type 0} → Tabled C → Option PivotWide → Option (Tabled C)
 unrefused T None = Some T
 unrefused T (Some s) = None
@@ -28,24 +30,24 @@ pub record TakesArtificialOut {C : Type 0} (S : Shape) (row : ℕ) (T U : Tabled
   pub enters : U.basic row < plain S
   pub others : (i : ℕ) → i ≢ row → U.basic i ≡ T.basic i
 
-module _ (F : Ordered) (S : Shape) (passes : Op → F.C → F.C → Bool) where
-  -- the table after a turn, where a pivot is due and nothing of it passes
+module _ (F : Ordered) (S : Shape) (is_too_wide : Op → F.C → F.C → Bool) where
+  -- the table after a turn, where a pivot is due and nothing of it is too wide
   abbrev pub turned_by : Tabled F.C → Choice → Option (Tabled F.C)
   turned_by T stays = None
   turned_by T (rises c) = None
-  turned_by T (due r c) = unrefused (pivoted_at F S T r c) (pivot_spot F passes S T r c)
+  turned_by T (due r c) = unrefused (pivoted_at F S T r c) (pivot_spot F is_too_wide S T r c)
   turned_by T (refused s) = None
 
   -- the table after k turns from T
   abbrev pub after_turns : (among : ℕ) → Tabled F.C → ℕ → Option (Tabled F.C)
   after_turns among T zero = Some T
   after_turns among T (suc k) = then_on (after_turns among T k)
-      (λ U. turned_by U (choose F S passes U among))
+      (λ U. turned_by U (choose F S is_too_wide U among))
 
   -- from the first table T a run with a budget comes to phase 2 with V: phase 1 settles, its objective's right
   -- side isn't negative, and there is a factor
   pub record ComesToSecond (budget : ℕ) (T : Tabled F.C) (left done : ℕ) (V : Tabled F.C) : Type 0 where
-    pub settles : turns F S passes 1 S.contacts budget 0 T ≡ settled left done V
+    pub settles : turns F S is_too_wide 1 S.contacts budget 0 T ≡ settled left done V
     pub not_below : F.sign (right F S V S.rows) ≢ minus
     pub factor : 0 < S.factors
 
@@ -63,7 +65,7 @@ module _ (F : Ordered) (S : Shape) (passes : Op → F.C → F.C → Bool) where
       pub comes : ComesToSecond budget T left_before done_before last
       pub row_within : row ≤ S.rows
       pub left : ℕ
-      pub there : drives F S passes row left_before done_before (clear_objective F S last) ≡ settled left done U
+      pub there : drives F S is_too_wide row left_before done_before (clear_objective F S last) ≡ settled left done U
 
     -- in phase 3
     pub record ReachesInThird (done : ℕ) (U : Tabled F.C) : Type 0 where
@@ -89,42 +91,42 @@ module _ (F : Ordered) (S : Shape) (passes : Op → F.C → F.C → Bool) where
     ReachesIn phase_3 done U = ReachesInThird done U
 
   -- what is left of phase 2: k rows from `row` on
-  abbrev pub drives_from : (k row left done : ℕ) → Tabled F.C → Stop F.C
+  abbrev pub drives_from : (k row left done : ℕ) → Tabled F.C → PhaseStop F.C
   drives_from zero row left done U = settled left done U
-  drives_from (suc k) row left done U = after (drives_from k row left done U)
-      (λ l d V. drive_row F S passes l d V (row + k))
+  drives_from (suc k) row left done U = after_phase (drives_from k row left done U)
+      (λ l d V. drive_row F S is_too_wide l d V (row + k))
 
   -- what the run makes of a table that it reaches
   abbrev pub third_from : (left done : ℕ) → Tabled F.C → End F.C
-  third_from left done U = third_end (turns F S passes 3 (plain S) left done U)
+  third_from left done U = third_end (turns F S is_too_wide 3 (plain S) left done U)
 
   abbrev pub second_from : (row left done : ℕ) → Tabled F.C → End F.C
-  second_from row left done U = third_end (after (drives_from (S.rows - row) row left done U)
-      (λ l d V. turns F S passes 3 (plain S) l d (set_factor_objective F S V)))
+  second_from row left done U = third_end (after_phase (drives_from (S.rows - row) row left done U)
+      (λ l d V. turns F S is_too_wide 3 (plain S) l d (set_factor_objective F S V)))
 
   abbrev pub first_from : (left done : ℕ) → Tabled F.C → End F.C
-  first_from left done U = first_end F S passes (turns F S passes 1 S.contacts left done U)
+  first_from left done U = first_end F S is_too_wide (turns F S is_too_wide 1 S.contacts left done U)
 
   -- the run goes on from each table that it reaches
   pub record GoesOn (budget : ℕ) (T : Tabled F.C) : Type 0 where
     pub from_first : (d : ℕ) (U : Tabled F.C) → ReachesInFirst budget T d U →
-        written_run F S passes budget T ≡ first_from (budget - d) d U
+        written_run F S is_too_wide budget T ≡ first_from (budget - d) d U
     pub from_second : (row d : ℕ) (U : Tabled F.C) → (s : ReachesInSecond budget T row d U) →
-        written_run F S passes budget T ≡ second_from row s.left d U
+        written_run F S is_too_wide budget T ≡ second_from row s.left d U
     pub from_third : (d : ℕ) (U : Tabled F.C) → (s : ReachesInThird budget T d U) →
-        written_run F S passes budget T ≡ third_from (s.left_before - s.turns_done) d U
+        written_run F S is_too_wide budget T ≡ third_from (s.left_before - s.turns_done) d U
 
 -- P holds with some number of pivots done
 pub record SomeDone (P : ℕ → Type 0) : Type 0 where
   pub done : ℕ
   pub holds : P done
 
-module _ (F : Ordered) (S : Shape) (passes : Op → F.C → F.C → Bool) (budget : ℕ) (T : Tabled F.C) where
+module _ (F : Ordered) (S : Shape) (is_too_wide : Op → F.C → F.C → Bool) (budget : ℕ) (T : Tabled F.C) where
   -- the last table of an end is one that the run reaches
   abbrev pub LastReached : End F.C → Type 0
-  LastReached (infeasible U) = SomeDone (λ d. ReachesInFirst F S passes budget T d U)
-  LastReached (feasible U) = SomeDone (λ d. ReachesInFirst F S passes budget T d U)
-  LastReached (optimal U) = SomeDone (λ d. ReachesInThird F S passes budget T d U)
-  LastReached (ray U c) = SomeDone (λ d. ReachesInThird F S passes budget T d U)
+  LastReached (infeasible U) = SomeDone (λ d. ReachesInFirst F S is_too_wide budget T d U)
+  LastReached (feasible U) = SomeDone (λ d. ReachesInFirst F S is_too_wide budget T d U)
+  LastReached (optimal U) = SomeDone (λ d. ReachesInThird F S is_too_wide budget T d U)
+  LastReached (ray U c) = SomeDone (λ d. ReachesInThird F S is_too_wide budget T d U)
   LastReached (wide p k s) = ⊤
   LastReached over = ⊤

@@ -1,9 +1,11 @@
 //! The laws of the written run, each a clause of a function that does nothing.
 
-ghost use Rattle.stack_circles.specs.Laws.{NoSetRecurs, NoListRecurs, RunGoesOn, LastTableReached, ArtificialColumnsLeave, PhasesAreShort, RunsAreShort, BudgetSuffices, EnoughSuffices};
+ghost use Rattle.stack_circles.specs.Laws.{NoSetRecurs, NoListRecurs, RunGoesOn, LastTableReached};
+ghost use Rattle.stack_circles.specs.Laws.{ArtificialColumnsLeave, PhasesAreShort, RunsAreShort, BudgetSuffices};
+ghost use Rattle.stack_circles.specs.Laws.{EnoughSuffices};
 
 /// Within a phase of the written run no set of basic columns recurs, and so no list does, whatever the budget
-/// and the rule of what passes. The tables spoken of are those of the run: it goes on from each, and ends at one.
+/// and the rule of what is too wide. The tables spoken of are those of the run: it goes on from each, and ends at one.
 /// After Bland (1977).
 pub fn circles_law()
     ensures sets { NoSetRecurs }

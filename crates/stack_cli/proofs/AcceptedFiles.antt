@@ -14,7 +14,7 @@ use Rattle.stack_contact.specs.declared.types.SurveyError.TheVariants.{Memory}
 use Rattle.stack_cli.specs.declared.refusal.Input.TheVariants as inputs
 use Rattle.stack_cli.specs.Refusals.{long}
 use Rattle.stack_cli.specs.Work.{Work, gives, refuses, ◌>>=◌, surveys, Found, Holds, MayHold, MayFind, Ends}
-use Rattle.stack_cli.specs.Surveying.{model_step, survey_step, modelled, surveyed, greatest_file}
+use Rattle.stack_cli.specs.Surveying.{model_step, survey_step, modelled, surveyed_file, greatest_file}
 use Rattle.stack_cli.specs.Progress.{DoesAlone, IsSeenSurvey}
 use Rattle.stack_cli.specs.AcceptedModel.{IsAcceptedModel}
 
@@ -49,8 +49,8 @@ told_bytes : (held : Option (List ℕ)) (told bytes : List ℕ) → held ≡ Som
 told_bytes held told bytes e h = subst (λ d. MayHold d bytes) e h
 
 pub only_accepted : (holds : Holds) (name bytes : List ℕ) (v : Surveyed) (names : List (List ℕ))
-    → holds name ≡ Some bytes → Ends holds (surveyed name) names (Ok v) → IsAcceptedModel bytes v
-unfolding surveyed modelled
+    → holds name ≡ Some bytes → Ends holds (surveyed_file name) names (Ok v) → IsAcceptedModel bytes v
+unfolding surveyed_file modelled
 only_accepted holds name bytes v [] told p = absurd p
 only_accepted holds name bytes v (n ∷ ns) told (same, inl p) = absurd p.1
 only_accepted holds name bytes v (n ∷ ns) told (same, inr p) =
@@ -58,8 +58,8 @@ only_accepted holds name bytes v (n ∷ ns) told (same, inr p) =
     (file_ends holds (ltb greatest_file (length p.0)) p.0 v ns refl p.2)
 
 pub all_accepted : (holds : Holds) (name bytes : List ℕ) (v : Surveyed) → holds name ≡ Some bytes
-    → IsAcceptedModel bytes v → Ends holds (surveyed name) (name ∷ []) (Ok v)
-unfolding surveyed modelled
+    → IsAcceptedModel bytes v → Ends holds (surveyed_file name) (name ∷ []) (Ok v)
+unfolding surveyed_file modelled
 all_accepted holds name bytes v told h = (
   refl,
   inr (

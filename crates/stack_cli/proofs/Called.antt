@@ -9,7 +9,7 @@ use Rattle.stack_cli.specs.declared.refusal.Refusal.{Refusal as CodeRefusal}
 use Rattle.stack_cli.specs.Refusals.{refusal_view, status_of}
 use Rattle.stack_cli.specs.Answers.{verdict_status}
 use Rattle.stack_cli.specs.OnePut.{greatest_start, PutsAnswer, PutsLine}
-use Rattle.stack_cli.proofs.Consequences.{below_two, from_two}
+use Rattle.stack_cli.proofs.Outcomes.{below_two, from_two}
 
 one_more : (n : ℕ) → n ≤ greatest_start → counted n ≡ n + 1
 one_more n low = omega arith

@@ -9,11 +9,12 @@ use Rattle.stack_cli.specs.declared.answer.Answer.{Answer}
 use Rattle.stack_cli.specs.declared.refusal.Refusal.{Refusal}
 use Rattle.stack_cli.specs.Work.{◌>>=◌}
 use Rattle.stack_cli.specs.Checking.{certificate_step, check_step, certified}
-use Rattle.stack_cli.specs.Progress.{Returns, DoesAlone, Answers}
+use Rattle.stack_cli.specs.Progress.{Returns, DoesAlone, AnswersDue}
 
 pub certificate_checked : (v : Surveyed) (text : List ℕ) (c : CertificateValue) (k : Check)
     (result : Result Answer Refusal) → certificate_of text ≡ Ok c → k ≡ written_check v c
-    → DoesAlone Answers (check_step v.structure k) result → DoesAlone Answers (certified v text) result
+    → DoesAlone AnswersDue (check_step v.structure k) result → DoesAlone AnswersDue (certified v text) result
 certificate_checked v text c k result reads is done holds =
-    subst (λ r. Returns Answers holds (certificate_step r >>= λ d. check_step v.structure (written_check v d)) [] result)
-    (sym reads) (subst (λ d. Returns Answers holds (check_step v.structure d) [] result) is (done holds))
+    subst (λ r. Returns AnswersDue holds (certificate_step r >>= λ d. check_step v.structure
+    (written_check v d)) [] result)
+    (sym reads) (subst (λ d. Returns AnswersDue holds (check_step v.structure d) [] result) is (done holds))

@@ -10,16 +10,16 @@ use Rattle.stack_cli.specs.declared.refusal.Refusal.{Refusal}
 use Rattle.stack_cli.specs.Work.{◌>>=◌}
 use Rattle.stack_cli.specs.Checking.{certificate_step}
 use Rattle.stack_cli.specs.Tables.{table_step, tabled_text}
-use Rattle.stack_cli.specs.Progress.{Returns, DoesAlone, Answers}
+use Rattle.stack_cli.specs.Progress.{Returns, DoesAlone, AnswersDue}
 
 pub by_check : (v : Surveyed) (c : CertificateValue) (k : Check) (result : Result Answer Refusal)
-    → k ≡ written_check v c → DoesAlone Answers (table_step v c k) result
-    → DoesAlone Answers (table_step v c (written_check v c)) result
-by_check v c k result is done holds = subst (λ d. Returns Answers holds (table_step v c d) [] result) is (done holds)
+    → k ≡ written_check v c → DoesAlone AnswersDue (table_step v c k) result
+    → DoesAlone AnswersDue (table_step v c (written_check v c)) result
+by_check v c k result is done holds = subst (λ d. Returns AnswersDue holds (table_step v c d) [] result) is (done holds)
 
 pub certificate_tabled : (v : Surveyed) (text : List ℕ) (c : CertificateValue) (result : Result Answer Refusal)
-    → certificate_of text ≡ Ok c → DoesAlone Answers (table_step v c (written_check v c)) result
-    → DoesAlone Answers (tabled_text v text) result
+    → certificate_of text ≡ Ok c → DoesAlone AnswersDue (table_step v c (written_check v c)) result
+    → DoesAlone AnswersDue (tabled_text v text) result
 certificate_tabled v text c result reads done holds =
-    subst (λ r. Returns Answers holds (certificate_step r >>= λ d. table_step v d (written_check v d)) [] result)
+    subst (λ r. Returns AnswersDue holds (certificate_step r >>= λ d. table_step v d (written_check v d)) [] result)
     (sym reads) (done holds)

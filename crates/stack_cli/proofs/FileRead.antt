@@ -14,7 +14,7 @@ use Rattle.stack_cli.specs.declared.refusal.Refusal.TheVariants as code
 use Rattle.stack_cli.specs.Refusals.{faulty, long}
 use Rattle.stack_cli.specs.Work.{Holds, MayHold, Ends}
 use Rattle.stack_cli.specs.Surveying.{greatest_file, unless_long, read}
-use Rattle.stack_cli.specs.Progress.{Names, GrewBy, Does, AreBytes}
+use Rattle.stack_cli.specs.Progress.{ToldNames, GrewBy, Does, AreBytes}
 use Rattle.stack_cli.proofs.Ways.{wanting}
 
 abbrev PastMemory : Result (Vec ℕ Global) ShelfError → Type 0
@@ -22,7 +22,7 @@ PastMemory (Err shelf.Memory) = ⊥
 PastMemory _ = ⊤
 
 -- The file was asked for.
-grew : (old new : Names) (name : List ℕ) (result : Result (Vec ℕ Global) ShelfError) → PastMemory result
+grew : (old new : ToldNames) (name : List ℕ) (result : Result (Vec ℕ Global) ShelfError) → PastMemory result
     → Records old new name result → GrewBy old new (name ∷ [])
 grew None new name result past h = tt
 grew (Some a) None name result past h = h
@@ -54,7 +54,7 @@ long_bytes : (held : Option (List ℕ)) → IfSome held (λ bytes. greatest_file
 long_bytes None h = let m = more_than greatest_file in (m.0, tt, m.1)
 long_bytes (Some told) h = (told, refl, h)
 
-module _ (holds : Holds) (old new : Names) (name : List ℕ) (input : Input) where
+module _ (holds : Holds) (old new : ToldNames) (name : List ℕ) (input : Input) where
   pub gave : (v : Vec ℕ Global) → ReadGives (holds name) greatest_file (Ok v) → Records old new name (Ok v)
       → Does AreBytes holds (read input name) old new (Ok v)
   gave v h asked = record {
@@ -81,7 +81,7 @@ module _ (holds : Holds) (old new : Names) (name : List ℕ) (input : Input) whe
         comes = (refl, inr (b.0, b.1, too_long holds input b.0 b.2));
       }
 
-pub asked_or_not : (holds : Holds) (old new : Names) (name : List ℕ) (input : Input)
+pub asked_or_not : (holds : Holds) (old new : ToldNames) (name : List ℕ) (input : Input)
     → Records old new name (Err shelf.Memory)
     → Does AreBytes holds (read input name) old new (Err code.Memory)
 asked_or_not holds None new name input asked = record { names = []; asks = tt; comes = refl }

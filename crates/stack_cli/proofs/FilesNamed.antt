@@ -21,7 +21,7 @@ use Rattle.stack_cli.specs.Words.{Form, check, contacts, judges, tables, stack, 
 use Rattle.stack_cli.specs.Refusals.{Refusal, long, no_live}
 use Rattle.stack_cli.specs.Answers.{Due}
 use Rattle.stack_cli.specs.Work.{Work, gives, refuses, reads, surveys, ◌>>=◌, Found, Holds, Ends}
-use Rattle.stack_cli.specs.Surveying.{greatest_file, read, model_step, survey_step, modelled, surveyed}
+use Rattle.stack_cli.specs.Surveying.{greatest_file, read, model_step, survey_step, modelled, surveyed_file}
 use Rattle.stack_cli.specs.Checking.{certificate_step, check_step, certified, checked, check_work}
 use Rattle.stack_cli.specs.Listing.{contacts_work}
 use Rattle.stack_cli.specs.Tables.{tabled_by, table_step, tabled_file, table_work}
@@ -31,7 +31,7 @@ use Rattle.stack_report.specs.ForceNumbers.{wide_index}
 use Rattle.stack_overhang.specs.declared.error.StackError.{StackError}
 use Rattle.stack_cli.specs.Judging.{lacks_live, judged_step, judged, judge_work}
 use Rattle.stack_cli.specs.Forms.{work_of}
-use Rattle.stack_cli.specs.Progress.{Names, GrewBy, Way}
+use Rattle.stack_cli.specs.Progress.{ToldNames, GrewBy, Way}
 
 -- The work asks for no files but these, in order, and for all of them where it gives a value.
 abbrev AsksOnly : {A : Type 0} → Work A → List (List ℕ) → Type 0
@@ -68,7 +68,8 @@ asks_then (surveys s k) f front rest h g = λ found. asks_then (k found) f front
 read_asks : (input : Input) (name : List ℕ) → AsksOnly (read input name) (name ∷ [])
 read_asks input name = (
   refl,
-  λ bytes. elim (nat_lt greatest_file (length bytes)) as (λ b. AsksOnly (if b then refuses (long input) else gives bytes) [])
+  λ bytes. elim (nat_lt greatest_file (length bytes)) as (λ b. AsksOnly
+      (if b then refuses (long input) else gives bytes) [])
       [ true ↦ tt | false ↦ refl ],
 )
 
@@ -89,11 +90,12 @@ check_asks s Accepted = refl
 check_asks s (Rejected part reason) = refl
 check_asks s (TooWide place) = tt
 
-surveyed_asks : (name : List ℕ) → AsksOnly (surveyed name) (name ∷ [])
-unfolding surveyed modelled
+surveyed_asks : (name : List ℕ) → AsksOnly (surveyed_file name) (name ∷ [])
+unfolding surveyed_file modelled
 surveyed_asks name =
     asks_then (modelled name) _ (name ∷ []) []
-    (asks_then (read inputs.Model name) _ (name ∷ []) [] (read_asks inputs.Model name) (λ text. model_asks (structure_of text)))
+    (asks_then (read inputs.Model name) _ (name ∷ []) [] (read_asks inputs.Model name)
+    (λ text. model_asks (structure_of text)))
     (λ s found. survey_asks s found)
 
 checked_asks : (name : List ℕ) (v : Surveyed) → AsksOnly (checked name v) (name ∷ [])
@@ -146,17 +148,17 @@ wall_asks number s = asks_then (surveys s (survey_step s)) _ [] [] (λ found. su
 form_asks : (form : Form) → AsksOnly (work_of form) (files_of (Some form))
 unfolding check_work contacts_work judge_work table_work stack_work sample_work
 form_asks (check model certificate) =
-    asks_then (surveyed model) _ (model ∷ []) (certificate ∷ []) (surveyed_asks model) (checked_asks certificate)
-form_asks (judges question model budget) = asks_then (surveyed model) _ (model ∷ []) [] (surveyed_asks model)
+    asks_then (surveyed_file model) _ (model ∷ []) (certificate ∷ []) (surveyed_asks model) (checked_asks certificate)
+form_asks (judges question model budget) = asks_then (surveyed_file model) _ (model ∷ []) [] (surveyed_asks model)
     (λ v. judged_asks question budget v)
 form_asks (tables model certificate) =
-    asks_then (surveyed model) _ (model ∷ []) (certificate ∷ []) (surveyed_asks model) (tabled_asks certificate)
+    asks_then (surveyed_file model) _ (model ∷ []) (certificate ∷ []) (surveyed_asks model) (tabled_asks certificate)
 form_asks (stack kind n) = asks_then (built_step (stack_of kind n)) _ [] [] (built_asks (stack_of kind n)) (λ s. refl)
 form_asks (sample n) = asks_then (built_step (sample_of n)) _ [] [] (built_asks (sample_of n)) (wall_asks n)
-form_asks (contacts model) = asks_then (surveyed model) _ (model ∷ []) [] (surveyed_asks model) (λ v. refl)
+form_asks (contacts model) = asks_then (surveyed_file model) _ (model ∷ []) [] (surveyed_asks model) (λ v. refl)
 
 pub asked_named : (holds : Holds) (form : Option Form) (names : List (List ℕ)) (end : Result Due Refusal)
-    (old new : Names) → Way holds form names end → GrewBy old new names
+    (old new : ToldNames) → Way holds form names end → GrewBy old new names
     → (n : ℕ) × GrewBy old new (take n (files_of form))
 asked_named holds None names end old new way grew = (0, subst (GrewBy old new) way.0 grew)
 asked_named holds (Some form) names end old new way grew =

@@ -11,7 +11,7 @@ use Rattle.stack_certificate.specs.Certificate.{CertificateValue}
 use Rattle.stack_equilibrium.specs.declared.types.Question.{Question}
 use Rattle.stack_equilibrium.specs.declared.types.Question.TheVariants.{Dead, Live}
 use Rattle.stack_duality.specs.WrittenRun.{End, infeasible, feasible, optimal, ray, wide, over}
-use Rattle.stack_certified.specs.Certified.{certificate_of}
+use Rattle.stack_certified.specs.Certified.{end_certificate}
 use Rattle.stack_judge.specs.declared.types.JudgePlace.{JudgePlace}
 use Rattle.stack_judge.specs.declared.types.JudgePlace.TheVariants as places
 use Rattle.stack_judge.specs.EndPlace.{end_place}
@@ -21,11 +21,11 @@ use Rattle.stack_cli.specs.Refusals.{Refusal, words, file, faulty, output, memor
 use Rattle.stack_cli.specs.Words.{Form, judges}
 use Rattle.stack_cli.specs.Answers.{Due, certificate, verdict_status}
 use Rattle.stack_cli.specs.Work.{Holds, Ends}
-use Rattle.stack_cli.specs.Surveying.{surveyed}
+use Rattle.stack_cli.specs.Surveying.{surveyed_file}
 use Rattle.stack_cli.specs.Judging.{lacks_live, wide_fault, judged, judge_work}
 use Rattle.stack_cli.specs.AcceptedModel.{IsAcceptedModel}
 use Rattle.stack_cli.specs.OneEnd.{IsSettled, IsSettledRefusal}
-use Rattle.stack_cli.specs.Progress.{Names, Bytes, Way}
+use Rattle.stack_cli.specs.Progress.{ToldNames, Bytes, Way}
 use Rattle.stack_cli.specs.MainTheorem.{OutputAfter, IsGivenOut, RunMeets}
 use Rattle.stack_cli.specs.Headline.{Prints, Leaves, IsWide, IsOver, Judging}
 use Rattle.stack_cli.proofs.Ways.{goes_on}
@@ -74,7 +74,7 @@ kept_for_memory output holds form names out out_after is h = absurd (omega arith
 kept_for_memory _ holds form names out out_after is h = h
 
 module _ (q : Question) (model : List ℕ) (budget : ℕ) (bytes : List ℕ) (v : Surveyed) (holds : Holds)
-    (told : holds model ≡ Some bytes) (accepted : IsAcceptedModel bytes v) (status : ℕ) (asked asked_after : Names)
+    (told : holds model ≡ Some bytes) (accepted : IsAcceptedModel bytes v) (status : ℕ) (asked asked_after : ToldNames)
     (out out_after err err_after : Bytes) (S O E : Type 0)
     (m : RunMeets status (Some (judges q model budget)) holds asked asked_after out out_after err err_after S O E)
     (no_shelf : ¬ S) (no_output : ¬ O) where
@@ -85,14 +85,16 @@ module _ (q : Question) (model : List ℕ) (budget : ℕ) (bytes : List ℕ) (v 
       → Ends holds (judge_work q model budget) (model ∷ []) end
   unfolding judge_work
   work_ends end h =
-      goes_on holds (surveyed model) (judged q budget) (model ∷ []) [] v end (all_accepted holds model bytes v told accepted) h
+      goes_on holds (surveyed_file model) (judged q budget) (model ∷ []) [] v end
+      (all_accepted holds model bytes v told accepted) h
 
   -- the end that is known is the one that was given out, unless memory is wanting
   settles : (known end : Result Due Refusal) (names : List (List ℕ)) → IsSettled known → IsSettled end
       → Ends holds (judged q budget v) [] known → Ends holds (judge_work q model budget) names end → Given end
       → Given known
   settles known end names is_known is_settled h way given = subst Given
-      (sym (one_end holds (judge_work q model budget) (model ∷ []) names known end ((bytes, told), tt) (work_ends known h)
+      (sym (one_end holds (judge_work q model budget) (model ∷ []) names known end ((bytes, told), tt)
+      (work_ends known h)
       way is_known is_settled).1) given
 
   given_as : (known end : Result Due Refusal) (names : List (List ℕ)) → IsSettled known
@@ -107,7 +109,8 @@ module _ (q : Question) (model : List ℕ) (budget : ℕ) (bytes : List ℕ) (v 
       → (status ≡ 11) ⊎ Given known
   given_or_memory known is h = go (m.decided no_shelf no_output)
     where
-      go : (status ≡ 11) ⊎ ((end : Result Due Refusal) × Way holds (Some (judges q model budget)) m.names end × Given end)
+      go : (status ≡ 11) ⊎ ((end : Result Due Refusal) × Way holds (Some (judges q model budget)) m.names end
+          × Given end)
           → (status ≡ 11) ⊎ Given known
       go (inl eleven) = inl eleven
       go (inr d) = given_as known d.0 m.names is h d.1 d.2
@@ -190,12 +193,13 @@ module _ (q : Question) (model : List ℕ) (budget : ℕ) (bytes : List ℕ) (v 
         (spent_ends q v budget holds live (ap (judgement_of q v) o)));
   }
 
-pub headline_of : {status : ℕ} {form : Option Form} {holds : Holds} {asked asked_after : Names}
+pub headline_of : {status : ℕ} {form : Option Form} {holds : Holds} {asked asked_after : ToldNames}
     {out out_after err err_after : Bytes} {S O E : Type 0}
     → RunMeets status form holds asked asked_after out out_after err err_after S O E
     → (q : Question) (model : List ℕ) (budget : ℕ) (bytes : List ℕ) (v : Surveyed) → form ≡ Some (judges q model budget)
     → holds model ≡ Some bytes → IsAcceptedModel bytes v → ¬ S → ¬ O → Judging q v budget status out out_after
-headline_of {status} {form} {holds} {asked} {asked_after} {out} {out_after} {err} {err_after} {S} {O} {E} m q model budget
+headline_of {status} {form} {holds} {asked} {asked_after} {out} {out_after} {err} {err_after} {S} {O} {E} m q model
+    budget
     bytes v is told accepted no_shelf no_output =
     headline q model budget bytes v holds told accepted status asked asked_after out out_after err err_after S O E
     (subst (λ f. RunMeets status f holds asked asked_after out out_after err err_after S O E) is m) no_shelf no_output

@@ -27,7 +27,8 @@ lists_none s false is none = refl
 
 lists_one : (s : Structure) (b : Bool) → list_any (λ l. l.live) s.loads ≡ b → ¬ (¬ (HasLive s)) → not b ≡ false
 lists_one s true is some = refl
-lists_one s false is some = absurd (some (λ h. let t = sym (list_any_at (λ l. l.live) s.loads h.0 _ h.1.0 h.1.1) ∙ is in cc))
+lists_one s false is some = absurd (some (λ h. let t = sym (list_any_at (λ l. l.live) s.loads h.0 _ h.1.0 h.1.1)
+    ∙ is in cc))
 
 -- the test for a live load
 pub lacking : (q : Question) (v : Surveyed) → LacksLive q v → lacks_live q v.structure ≡ true

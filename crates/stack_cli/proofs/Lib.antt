@@ -6,6 +6,7 @@ mod FilesNamed
 mod CertificateChecked
 mod CertificateTabled
 mod SampleEnds
+mod Outcomes
 mod Consequences
 mod Called
 mod AcceptedFiles

@@ -98,4 +98,5 @@ one_end holds (surveys c k) names more end last told (inr h) (inr g) s t =
 -- The same of the work on words.
 pub words_end : WordsHaveOneEnd
 words_end holds None names more end last told p q s t = (p.0 ∙ sym q.0, p.1 ∙ sym q.1)
-words_end holds (Some form) names more end last told p q s t = one_end holds (work_of form) names more end last told p q s t
+words_end holds (Some form) names more end last told p q s t = one_end holds
+    (work_of form) names more end last told p q s t

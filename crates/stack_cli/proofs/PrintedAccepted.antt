@@ -9,7 +9,7 @@ use Rattle.stack_certificate.specs.CertificateText.{IsCertificateText, FewHaveSh
 use Rattle.stack_equilibrium.specs.declared.types.Question.{Question}
 use Rattle.stack_judge.specs.Judged.{IsJudged}
 use Rattle.stack_cli.specs.Work.{Holds, Ends}
-use Rattle.stack_cli.specs.Surveying.{greatest_file, surveyed}
+use Rattle.stack_cli.specs.Surveying.{greatest_file, surveyed_file}
 use Rattle.stack_cli.specs.Checking.{checked, check_work}
 use Rattle.stack_cli.specs.Printed.{acceptance, PrintedIsAccepted, PrintedIsShort}
 use Rattle.stack_cli.proofs.Ways.{goes_on}
@@ -17,7 +17,8 @@ use Rattle.stack_cli.proofs.OneEnd.{one_end}
 use Rattle.stack_cli.proofs.AcceptedFiles.{all_accepted}
 
 pub printed_short : FewHaveShortTexts → PrintedIsShort
-printed_short short q v c text judged is = subst (λ t. length t < text_bound) (sym is.is) (short c judged.fits judged.few)
+printed_short short q v c text judged is = subst (λ t. length t < text_bound) (sym is.is)
+    (short c judged.fits judged.few)
 
 checked_ends : (q : Question) (v : Surveyed) (c : CertificateValue) (holds : Holds) (name text : List ℕ)
     → length text ≤ greatest_file → certificate_of text ≡ Ok c → IsJudged q v c → holds name ≡ Some text
@@ -28,12 +29,13 @@ checked_ends q v c holds name text short reads judged told = (
   inr (text, rw told refl, rw (le-ltb greatest_file (length text) short, reads, judged.accepted) (refl, refl)),
 )
 
-pub printed_accepted : ((c : CertificateValue) (bytes : List ℕ) → IsCertificateText c bytes → certificate_of bytes ≡ Ok c)
+pub printed_accepted : ((c : CertificateValue) (bytes : List ℕ) → IsCertificateText c bytes → certificate_of bytes
+    ≡ Ok c)
     → FewHaveShortTexts → PrintedIsAccepted
 unfolding check_work
 printed_accepted reads short q v c holds model name bytes text told accepted judged is held =
     let fewer = printed_short short q v c text judged is in
-    let way = goes_on holds (surveyed model) (checked name) (model ∷ []) (name ∷ []) v acceptance
+    let way = goes_on holds (surveyed_file model) (checked name) (model ∷ []) (name ∷ []) v acceptance
     (all_accepted holds model bytes v told accepted)
     (checked_ends q v c holds name text (omega (arith, fewer)) (reads c text is) judged held) in (
       way,

@@ -7,10 +7,10 @@ use Rattle.stack_cli.specs.Work.{Work, ◌>>=◌, Holds, Ends}
 use Rattle.stack_cli.specs.declared.answer.Answer.{Answer}
 use Rattle.stack_cli.specs.Words.{Form}
 use Rattle.stack_cli.specs.Forms.{work_of}
-use Rattle.stack_cli.specs.Progress.{Answers, Works, Names, GrewBy, Returns, Does, DoesAlone}
+use Rattle.stack_cli.specs.Progress.{AnswersDue, Works, ToldNames, GrewBy, Returns, Does, DoesAlone}
 use Rattle.stack_cli.proofs.Ways.{goes_on, stops}
 
-grew_more : (old mid new : Names) (xs ys : List (List ℕ)) → GrewBy old mid xs → GrewBy mid new ys
+grew_more : (old mid new : ToldNames) (xs ys : List (List ℕ)) → GrewBy old mid xs → GrewBy mid new ys
     → GrewBy old new (xs ++ ys)
 grew_more None mid new xs ys h k = tt
 grew_more (Some a) None new xs ys h k = absurd h
@@ -18,7 +18,7 @@ grew_more (Some a) (Some b) None xs ys h k = k
 grew_more (Some a) (Some b) (Some c) xs ys h k = k ∙ (ap (λ zs. zs ++ ys) h ∙ append_assoc a xs ys)
 
 -- Nothing was asked for.
-pub none_asked : (old : Names) → GrewBy old old []
+pub none_asked : (old : ToldNames) → GrewBy old old []
 none_asked None = tt
 none_asked (Some names) = sym (append-nil names)
 
@@ -36,7 +36,7 @@ comes_on R view holds w f names more x (Err r) p q =
 
 -- A function went on with a value, and one for the work after it followed.
 pub then : {A B X Y : Type 0} (R : Y → B → Type 0) (view : X → A) (holds later : Holds) (w : Work A) (f : A → Work B)
-    (old mid new : Names) (x : X) (result : Result Y CodeRefusal) → Does (IsSeen view) holds w old mid (Ok x)
+    (old mid new : ToldNames) (x : X) (result : Result Y CodeRefusal) → Does (IsSeen view) holds w old mid (Ok x)
     → later ≡ holds → Does R later (f (view x)) mid new result → Does R holds (w >>= f) old new result
 then R view holds later w f old mid new x result p same q = record {
   names = p.names ++ q.names;
@@ -46,20 +46,21 @@ then R view holds later w f old mid new x result p same q = record {
 }
 
 -- A function without a shelf, as one with it.
-pub alone : {A X : Type 0} (R : X → A → Type 0) (holds : Holds) (w : Work A) (old : Names) (result : Result X CodeRefusal)
+pub alone : {A X : Type 0} (R : X → A → Type 0) (holds : Holds) (w : Work A) (old : ToldNames)
+    (result : Result X CodeRefusal)
     → DoesAlone R w result → Does R holds w old old result
 alone R holds w old result p = record { names = []; asks = none_asked old; comes = p holds }
 
 -- One without a shelf followed.
 pub then_alone : {A B X Y : Type 0} (R : Y → B → Type 0) (view : X → A) (holds : Holds) (w : Work A) (f : A → Work B)
-    (old new : Names) (x : X) (result : Result Y CodeRefusal) → Does (IsSeen view) holds w old new (Ok x)
+    (old new : ToldNames) (x : X) (result : Result Y CodeRefusal) → Does (IsSeen view) holds w old new (Ok x)
     → DoesAlone R (f (view x)) result → Does R holds (w >>= f) old new result
 then_alone R view holds w f old new x result p q =
     then R view holds holds w f old new new x result p refl (alone R holds (f (view x)) new result q)
 
 -- A function refused, so nothing followed.
 pub refused : {A B X Y : Type 0} (S : X → A → Type 0) (R : Y → B → Type 0) (holds : Holds) (w : Work A)
-    (f : A → Work B) (old new : Names) (r : CodeRefusal) → Does S holds w old new (Err r)
+    (f : A → Work B) (old new : ToldNames) (r : CodeRefusal) → Does S holds w old new (Err r)
     → Does R holds (w >>= f) old new (Err r)
 refused S R holds w f old new r p = record {
   names = p.names;
@@ -68,11 +69,11 @@ refused S R holds w f old new r p = record {
 }
 
 -- The work on a form whose function has no shelf.
-pub works_alone : (holds : Holds) (form : Form) (of_words : Option Form) (old : Names)
-    (result : Result Answer CodeRefusal) → Some form ≡ of_words → DoesAlone Answers (work_of form) result
+pub works_alone : (holds : Holds) (form : Form) (of_words : Option Form) (old : ToldNames)
+    (result : Result Answer CodeRefusal) → Some form ≡ of_words → DoesAlone AnswersDue (work_of form) result
     → Works holds of_words old old result
 works_alone holds form of_words old result same p =
-    subst (λ f. Works holds f old old result) same (alone Answers holds (work_of form) old result p)
+    subst (λ f. Works holds f old old result) same (alone AnswersDue holds (work_of form) old result p)
 
 -- Two functions without a shelf, one after the other, and where the first refused.
 pub alone_then : {A B X Y : Type 0} (R : Y → B → Type 0) (view : X → A) (w : Work A) (f : A → Work B) (x : X)

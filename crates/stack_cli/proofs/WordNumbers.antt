@@ -1,4 +1,5 @@
 -- The number that a word spells, and the budget.
+use Rattle.stack_algebra.proofs.Conjunctions.{left_true, right_true}
 use Rattle.std.proofs.Common.{◌≡◌, refl, sym, subst, ◌∙◌, ℕ, ◌<◌, ◌^◌, Bool, true, false, List, Option, Some, None}
 use Rattle.std.proofs.Common.{Result, Ok, Err, arith, ◌&&◌}
 use Rattle.std.specs.Prelude.{decimal, nat_lt, if◌then◌else◌}
@@ -7,15 +8,7 @@ use Rattle.std.specs.Str.Parse.{digits_value, ParsesUnsigned}
 use Rattle.std.proofs.lemmas.Bool.{ltb-true, lt-ltb}
 use Rattle.std.proofs.lemmas.Fmt.{parse-decimal, decimal_is_IsNumeral}
 use Rattle.std.proofs.lemmas.Slice.Eq.{bytes_eq-Decides}
-use Rattle.stack_cli.specs.Words.{number_of}
-
-left : (s t : Bool) → s && t ≡ true → s ≡ true
-left true t h = refl
-left false t h = absurd cc
-
-right : (s t : Bool) → s && t ≡ true → t ≡ true
-right true t h = h
-right false t h = absurd cc
+use Rattle.stack_cli.specs.Words.{number_spelled}
 
 both : (s t : Bool) → s ≡ true → t ≡ true → s && t ≡ true
 both true t h k = k
@@ -33,7 +26,7 @@ not_chosen false n h = refl
 abbrev spells : ℕ → List ℕ → Bool
 spells n word = nat_lt n (2 ^ 32) && bytes_eq (decimal n) word
 
-spelled : (n : ℕ) → n < 2 ^ 32 → number_of (decimal n) ≡ Some n
+spelled : (n : ℕ) → n < 2 ^ 32 → number_spelled (decimal n) ≡ Some n
 spelled n low =
     let value = (decimal_is_IsNumeral n (omega (arith, low))).1 in
     subst (λ m. (if spells m (decimal n) then Some m else None) ≡ Some n) (sym value)
@@ -42,17 +35,17 @@ spelled n low =
     ((bytes_eq-Decides (decimal n) (decimal n)).1 refl)))
 
 -- a number that is printed as the word is its number
-pub is_number : (word : List ℕ) (n : ℕ) → n < 2 ^ 32 → bytes_eq (decimal n) word ≡ true → Some n ≡ number_of word
+pub is_number : (word : List ℕ) (n : ℕ) → n < 2 ^ 32 → bytes_eq (decimal n) word ≡ true → Some n ≡ number_spelled word
 is_number word n low same =
-    sym (subst (λ w. number_of w ≡ Some n) ((bytes_eq-Decides (decimal n) word).0 same) (spelled n low))
+    sym (subst (λ w. number_spelled w ≡ Some n) ((bytes_eq-Decides (decimal n) word).0 same) (spelled n low))
 
 -- no number is
-none_is : (word : List ℕ) → ((n : ℕ) → n < 2 ^ 32 → bytes_eq (decimal n) word ≡ true → ⊥) → None ≡ number_of word
+none_is : (word : List ℕ) → ((n : ℕ) → n < 2 ^ 32 → bytes_eq (decimal n) word ≡ true → ⊥) → None ≡ number_spelled word
 none_is word h =
     let n = digits_value 10 word in
     sym (not_chosen (spells n word) n (λ all.
-    h n (ltb-true _ _ (left (nat_lt n (2 ^ 32)) (bytes_eq (decimal n) word) all))
-    (right (nat_lt n (2 ^ 32)) (bytes_eq (decimal n) word) all)))
+    h n (ltb-true _ _ (left_true (nat_lt n (2 ^ 32)) (bytes_eq (decimal n) word) all))
+    (right_true (nat_lt n (2 ^ 32)) (bytes_eq (decimal n) word) all)))
 
 module _ {E : Type 0} (word : List ℕ) (r : Result ℕ E) (p : ParsesUnsigned 32 10 word r) where
   pub fits : (m : ℕ) → r ≡ Ok m → m < 2 ^ 32
@@ -64,7 +57,7 @@ module _ {E : Type 0} (word : List ℕ) (r : Result ℕ E) (p : ParsesUnsigned 3
   parsed n low same = parse-decimal 32 n word r low (omega (arith, low))
       (sym ((bytes_eq-Decides (decimal n) word).0 same)) p
 
-  pub unparsed : (e : E) → r ≡ Err e → None ≡ number_of word
+  pub unparsed : (e : E) → r ≡ Err e → None ≡ number_spelled word
   unparsed e is = none_is word (λ n low same. let k = sym is ∙ parsed n low same in absurd cc)
 
   abbrev or_zero : Result ℕ E → ℕ
@@ -74,7 +67,7 @@ module _ {E : Type 0} (word : List ℕ) (r : Result ℕ E) (p : ParsesUnsigned 3
   same_number : (m n : ℕ) → r ≡ Ok m → r ≡ Ok n → m ≡ n
   same_number m n h k = λ i. or_zero ((sym h ∙ k) i)
 
-  pub parsed_other : (m : ℕ) → r ≡ Ok m → bytes_eq (decimal m) word ≡ false → None ≡ number_of word
+  pub parsed_other : (m : ℕ) → r ≡ Ok m → bytes_eq (decimal m) word ≡ false → None ≡ number_spelled word
   parsed_other m is other = none_is word (λ n low same.
       let e = same_number m n is (parsed n low same) in
       let f = sym (subst (λ k. bytes_eq (decimal k) word ≡ true) (sym e) same) ∙ other in absurd cc)

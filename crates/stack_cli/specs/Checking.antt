@@ -15,7 +15,7 @@ use Rattle.stack_cli.specs.Refusals.{Place, cone_at, balance_of, resisted_at, wo
 use Rattle.stack_cli.specs.Answers.{Due, exactly}
 use Rattle.stack_cli.specs.CheckText.{block_name, accepted_text, rejected_text}
 use Rattle.stack_cli.specs.Work.{Work, gives, refuses, ◌>>=◌}
-use Rattle.stack_cli.specs.Surveying.{read, surveyed}
+use Rattle.stack_cli.specs.Surveying.{read, surveyed_file}
 
 -- The text of a certificate.
 abbrev pub certificate_step : Result CertificateValue ℕ → Work CertificateValue
@@ -48,5 +48,5 @@ checked name survey = do
 
 unfoldable pub check_work : List ℕ → List ℕ → Work Due
 check_work model certificate = do
-  survey ← surveyed model
+  survey ← surveyed_file model
   checked certificate survey

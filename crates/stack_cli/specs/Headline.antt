@@ -1,6 +1,6 @@
 -- What `stand` and `load` come to on an accepted model, where neither the shelf nor the output failed. Of five cases
--- exactly one holds, since their statuses differ: a true certificate was printed; a number passes 128 bits; the
--- budget is exceeded;
+-- exactly one holds, since their statuses differ: a true certificate was printed; a number is too wide for 128
+-- bits; the budget is exceeded;
 -- `load` finds no live load; memory is wanting.
 use Rattle.std.specs.Prelude.{◌≡◌, ℕ, ◌⊎◌, List, Option}
 use Rattle.std.specs.Io.KnownBytes.{Appends, Keeps}
@@ -31,7 +31,7 @@ pub record Leaves (status n : ℕ) (out out_after : Bytes) : Type 0 where
   pub is_kept : Keeps out out_after
 
 module _ (q : Question) (v : Surveyed) (budget : ℕ) where
-  -- The written run passes 128 bits, or what is made of its end, or the check of that.
+  -- The written run is too wide for 128 bits, or what is made of its end, or the check of that.
   abbrev pub IsWide : Type 0
   IsWide = (p : JudgePlace) × (judgement q v budget ≡ too_wide p)
 

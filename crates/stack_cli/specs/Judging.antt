@@ -13,7 +13,7 @@ use Rattle.stack_cli.specs.Refusals.{Fault, wide_check, wide_run, wide_end, over
 use Rattle.stack_cli.specs.Answers.{Due, certificate}
 use Rattle.stack_cli.specs.Checking.{place_of}
 use Rattle.stack_cli.specs.Work.{Work, gives, refuses, ◌>>=◌}
-use Rattle.stack_cli.specs.Surveying.{surveyed}
+use Rattle.stack_cli.specs.Surveying.{surveyed_file}
 
 -- The question is about live loads, and none is listed.
 abbrev pub lacks_live : Question → Structure → Bool
@@ -35,5 +35,5 @@ judged q budget v = if lacks_live q v.structure then refuses no_live else judged
 
 unfoldable pub judge_work : Question → List ℕ → (budget : ℕ) → Work Due
 judge_work q model budget = do
-  survey ← surveyed model
+  survey ← surveyed_file model
   judged q budget survey

@@ -5,13 +5,13 @@ use Rattle.stack_report.specs.ContactTable.{contacts_text}
 use Rattle.stack_cli.specs.declared.answer.Verdict.TheVariants.{Affirmed}
 use Rattle.stack_cli.specs.Answers.{Due, exactly}
 use Rattle.stack_cli.specs.Work.{Work, gives, ◌>>=◌}
-use Rattle.stack_cli.specs.Surveying.{surveyed}
+use Rattle.stack_cli.specs.Surveying.{surveyed_file}
 
 -- The table of contacts.
-abbrev pub listed : Surveyed → Work Due
-listed survey = gives (exactly Affirmed (contacts_text survey))
+abbrev pub contacts_due : Surveyed → Work Due
+contacts_due survey = gives (exactly Affirmed (contacts_text survey))
 
 unfoldable pub contacts_work : List ℕ → Work Due
 contacts_work model = do
-  survey ← surveyed model
-  listed survey
+  survey ← surveyed_file model
+  contacts_due survey

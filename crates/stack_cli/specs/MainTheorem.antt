@@ -8,7 +8,7 @@ use Rattle.stack_cli.specs.Words.{Form, files_of}
 use Rattle.stack_cli.specs.Refusals.{Refusal, file, faulty, memory, output, status_of}
 use Rattle.stack_cli.specs.Answers.{Due, IsAnswer, verdict_status}
 use Rattle.stack_cli.specs.Work.{Holds}
-use Rattle.stack_cli.specs.Progress.{Names, GrewBy, Way, Bytes, SaysLine}
+use Rattle.stack_cli.specs.Progress.{ToldNames, GrewBy, Way, Bytes, SaysLine}
 
 -- A way through the work gives what is due, the whole of it was written on the output, and nothing on the error
 -- stream.
@@ -24,7 +24,8 @@ pub record Answered (status : ℕ) (holds : Holds) (form : Option Form) (names :
   pub is_silent : Keeps err err_after
 
 -- A front of an answer was written.
-pub record WritesFront (holds : Holds) (form : Option Form) (names : List (List ℕ)) (out out_after : Bytes) : Type 0 where
+pub record WritesFront (holds : Holds) (form : Option Form) (names : List (List ℕ))
+    (out out_after : Bytes) : Type 0 where
   pub due : Due
   pub way : Way holds form names (Ok due)
   pub verdict : Verdict
@@ -68,7 +69,7 @@ IsGivenOut (Err r) status out out_after err err_after err_rose =
 -- The theorem. A run ends with this status; its words have this form, if any; the shelf holds these files; before
 -- and after it stand the names asked for and the bytes on the output and on the error stream; and the counts of
 -- faults of the three devices rose in it. All its fields speak of ways through the work that ask for the same files.
-pub record RunMeets (status : ℕ) (form : Option Form) (holds : Holds) (asked asked_after : Names)
+pub record RunMeets (status : ℕ) (form : Option Form) (holds : Holds) (asked asked_after : ToldNames)
     (out out_after err err_after : Bytes) (shelf_rose out_rose err_rose : Type 0) : Type 0 where
   pub names : List (List ℕ)
   -- exactly the files of a way through the work were asked for, in its order

@@ -1,5 +1,5 @@
--- How often one run puts on its streams, where these tell it: an answer goes out in one piece, and so does the line of a
--- refusal. So nothing is put twice, in pieces or tried again.
+-- How often one run puts on its streams, where these tell it: an answer goes out in one piece, and so does the line
+-- of a refusal. So nothing is put twice, in pieces or tried again.
 use Rattle.std.specs.Prelude.{◌≡◌, ℕ, ◌+◌, ◌^◌, ◌-◌, ◌<◌, ◌≤◌, ◌⊎◌, Option, Some, nat_lt, if◌then◌else◌}
 
 -- A count up to here still tells each call of a run.

@@ -1,5 +1,5 @@
--- What `stand` and `load` print is accepted: `check` of the printed text with the same model comes to that answer, and to no
--- other but for want of memory and devices that fail. And it is short enough to be read.
+-- What `stand` and `load` print is accepted: `check` of the printed text with the same model comes to that answer,
+-- and to no other but for want of memory and devices that fail. And it is short enough to be read.
 use Rattle.std.specs.Prelude.{◌≡◌, ℕ, ◌<◌, List, [], ◌∷◌, Some, Result, Ok, length}
 use Rattle.stack_contact.specs.Surveyed.{Surveyed}
 use Rattle.stack_certificate.specs.Certificate.{CertificateValue}
@@ -19,7 +19,8 @@ abbrev pub acceptance : Result Due Refusal
 acceptance = Ok (exactly Affirmed accepted_text)
 
 abbrev pub PrintedIsAccepted : Type 0
-PrintedIsAccepted = (q : Question) (v : Surveyed) (c : CertificateValue) (holds : Holds) (model name bytes text : List ℕ)
+PrintedIsAccepted = (q : Question) (v : Surveyed) (c : CertificateValue) (holds : Holds)
+    (model name bytes text : List ℕ)
     → holds model ≡ Some bytes → IsAcceptedModel bytes v → IsJudged q v c → IsCertificateText c text
     → holds name ≡ Some text → Ends holds (check_work model name) (model ∷ name ∷ []) acceptance
     × ((names : List (List ℕ)) (end : Result Due Refusal) → Ends holds (check_work model name) names end → IsSettled end

@@ -9,18 +9,18 @@ use Rattle.stack_model.specs.ModelView.{model_view}
 use Rattle.stack_contact.specs.Surveyed.{Surveyed}
 use Rattle.stack_cli.specs.declared.refusal.Refusal.{Refusal as CodeRefusal}
 use Rattle.stack_cli.specs.declared.refusal.Refusal.TheVariants as code
-use Rattle.stack_cli.specs.Refusals.{Refusal, refusal_view, words, faulty, memory, output, status_of, line_of}
+use Rattle.stack_cli.specs.Refusals.{Refusal, refusal_view, words, faulty, memory, output, status_of, refusal_line}
 use Rattle.stack_cli.specs.Words.{Form}
 use Rattle.stack_cli.specs.Answers.{Due, IsAnswer, verdict_status}
 use Rattle.stack_cli.specs.Work.{Work, Holds, Ends}
 use Rattle.stack_cli.specs.Forms.{work_of}
 
 -- The names of the files that were asked for, where a shelf tells them.
-abbrev pub Names : Type 0
-Names = Option (List (List ℕ))
+abbrev pub ToldNames : Type 0
+ToldNames = Option (List (List ℕ))
 
--- Names that are told stay told, and grow by these.
-abbrev pub GrewBy : Names → Names → List (List ℕ) → Type 0
+-- ToldNames that are told stay told, and grow by these.
+abbrev pub GrewBy : ToldNames → ToldNames → List (List ℕ) → Type 0
 GrewBy None new names = ⊤
 GrewBy (Some old) None names = ⊥
 GrewBy (Some old) (Some new) names = new ≡ old ++ names
@@ -32,7 +32,7 @@ Returns {A} R holds w names (Ok x) = (a : A) × R x a × Ends holds w names (Ok 
 Returns R holds w names (Err r) = Ends holds w names (Err (refusal_view r))
 
 -- The same of a function that may read files.
-pub record Does {A X : Type 0} (R : X → A → Type 0) (holds : Holds) (w : Work A) (old new : Names)
+pub record Does {A X : Type 0} (R : X → A → Type 0) (holds : Holds) (w : Work A) (old new : ToldNames)
     (result : Result X CodeRefusal) : Type 0 where
   pub names : List (List ℕ)
   pub asks : GrewBy old new names
@@ -52,13 +52,13 @@ IsModel m s = s ≡ model_view m
 abbrev pub IsSeenSurvey : Surveyed → Surveyed → Type 0
 IsSeenSurvey s v = v ≡ s
 
-abbrev pub Answers : Answer → Due → Type 0
-Answers a due = IsAnswer due a.verdict a.text.items
+abbrev pub AnswersDue : Answer → Due → Type 0
+AnswersDue a due = IsAnswer due a.verdict a.text.items
 
 -- A device's failure has this cause.
-abbrev pub Fails : {X : Type 0} → Result X CodeRefusal → Type 0 → Type 0
-Fails (Err (code.File input)) P = P
-Fails _ P = ⊤
+abbrev pub IsCausedBy : {X : Type 0} → Result X CodeRefusal → Type 0 → Type 0
+IsCausedBy (Err (code.File input)) P = P
+IsCausedBy _ P = ⊤
 
 -- A way through the work on words: words without a form are refused at once.
 abbrev pub Way : Holds → Option Form → List (List ℕ) → Result Due Refusal → Type 0
@@ -66,9 +66,9 @@ Way holds None names end = (names ≡ []) × (end ≡ Err words)
 Way holds (Some form) names end = Ends holds (work_of form) names end
 
 -- What the work on words leaves.
-abbrev pub Works : Holds → Option Form → Names → Names → Result Answer CodeRefusal → Type 0
+abbrev pub Works : Holds → Option Form → ToldNames → ToldNames → Result Answer CodeRefusal → Type 0
 Works holds None old new result = GrewBy old new [] × (result ≡ Err code.Words)
-Works holds (Some form) old new result = Does Answers holds (work_of form) old new result
+Works holds (Some form) old new result = Does AnswersDue holds (work_of form) old new result
 
 -- What stands on a stream, where it tells that.
 abbrev pub Bytes : Type 0
@@ -80,7 +80,7 @@ with_line_feed line = line ++ 10 ∷ []
 
 -- The line of a refusal was written, where the error stream didn't fail.
 abbrev pub SaysLine : Refusal → Bytes → Bytes → Type 0 → Type 0
-SaysLine r err err_after err_rose = ¬ err_rose → Appends err err_after (with_line_feed (line_of r))
+SaysLine r err err_after err_rose = ¬ err_rose → Appends err err_after (with_line_feed (refusal_line r))
 
 -- The answer was written whole, with its status.
 pub record WritesAnswer (a : Answer) (status : ℕ) (out out_after err err_after : Bytes) : Type 0 where
@@ -98,7 +98,8 @@ pub record FailsToWrite (a : Answer) (status : ℕ) (out out_after err err_after
   pub line : SaysLine output err err_after err_rose
 
 -- The refusal was told, or memory for its line was wanting.
-pub record Tells (r : Refusal) (status : ℕ) (out out_after err err_after : Bytes) (err_rose : Type 0) : Type 0 where
+pub record TellsRefusal (r : Refusal) (status : ℕ) (out out_after err err_after : Bytes)
+    (err_rose : Type 0) : Type 0 where
   pub told : Refusal
   pub which : (told ≡ r) ⊎ (told ≡ faulty memory)
   pub is_status : status ≡ status_of told
@@ -111,4 +112,4 @@ Delivers (Ok a) status out out_after err err_after out_rose err_rose =
     WritesAnswer a status out out_after err err_after
     ⊎ FailsToWrite a status out out_after err err_after out_rose err_rose
 Delivers (Err r) status out out_after err err_after out_rose err_rose =
-    Tells (refusal_view r) status out out_after err err_after err_rose
+    TellsRefusal (refusal_view r) status out out_after err err_after err_rose

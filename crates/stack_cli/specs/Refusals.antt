@@ -1,4 +1,5 @@
--- Why a run refuses, with the status and the line of each refusal. The line stands without its line feed.
+-- The refusals as the theorem sees them: why a run refuses, with the status and the line of each refusal. The line
+-- stands without its line feed.
 use Rattle.std.specs.Prelude.{ℕ, ◌+◌, List, ◌++◌, codes, decimal, string_bytes}
 use Rattle.stack_equilibrium.specs.declared.types.Axis.{Axis}
 use Rattle.stack_equilibrium.specs.declared.types.Axis.TheVariants as axes
@@ -7,7 +8,7 @@ use Rattle.stack_checker.specs.declared.types.Part.TheVariants as parts
 use Rattle.stack_reader.specs.declared.errors.ReadError.{ReadError}
 use Rattle.stack_table.specs.declared.types.Step.{Step}
 use Rattle.stack_table.specs.declared.types.Step.TheVariants as steps
-use Rattle.stack_simplex.specs.declared.refusal.Place.{Place as RunPlace}
+use Rattle.stack_simplex.specs.declared.refusal.RunPlace.{RunPlace}
 use Rattle.stack_extract.specs.declared.types.Numbers.{Numbers}
 use Rattle.stack_extract.specs.declared.types.Numbers.TheVariants as numbers
 use Rattle.stack_extract.specs.declared.types.EndStep.{EndStep}
@@ -32,8 +33,8 @@ pub data Place : Type 0 where
 
 -- Why the work on a form refuses: a file is too long; the model's file has a fault; two bodies overlap, told by their
 -- names; the bearings are too many; a built-in model has no such size; the certificate's text ends to be one at a line,
--- from 1; a number of the check, of the run, of what is made of its end or of the table of forces is too wide; a pivot is
--- due when the budget's are done; no live load is listed; memory is wanting.
+-- from 1; a number of the check, of the run, of what is made of its end or of the table of forces is too wide; a
+-- pivot is due when the budget's are done; no live load is listed; memory is wanting.
 pub data Fault : Type 0 where
   long : Input → Fault
   content : ReadError → Fault
@@ -168,8 +169,8 @@ fault_line (over_budget budget) = codes "spent " ++ decimal budget
 fault_line no_live = codes "no live load"
 fault_line memory = codes "memory"
 
-abbrev pub line_of : Refusal → List ℕ
-line_of words = codes "words"
-line_of (file input) = codes "file " ++ input_word input
-line_of (faulty f) = fault_line f
-line_of output = codes "output"
+abbrev pub refusal_line : Refusal → List ℕ
+refusal_line words = codes "words"
+refusal_line (file input) = codes "file " ++ input_word input
+refusal_line (faulty f) = fault_line f
+refusal_line output = codes "output"

@@ -6,7 +6,7 @@ use Rattle.stack_equilibrium.specs.declared.types.Question.TheVariants.{Live}
 use Rattle.stack_judge.specs.Judgement.{Judgement, certified, too_wide, spent, judgement}
 use Rattle.stack_judge.specs.NarrowWork.{is_narrow}
 use Rattle.stack_overhang.specs.declared.error.StackError.{StackError}
-use Rattle.stack_overhang.specs.Gives.{within}
+use Rattle.stack_overhang.specs.Gives.{sized}
 use Rattle.stack_overhang.specs.Wall.{wall_of}
 use Rattle.stack_cli.specs.Words.{default_budget}
 use Rattle.stack_cli.specs.Refusals.{over_budget}
@@ -18,7 +18,7 @@ use Rattle.stack_cli.specs.Surveying.{survey_step}
 
 -- The structure of a wall with a number within its limits.
 abbrev pub sample_of : ℕ → Result Structure StackError
-sample_of number = within 0 999999 number (wall_of number)
+sample_of number = sized 0 999999 number (wall_of number)
 
 abbrev pub sample_step : ℕ → Surveyed → Judgement → Work Due
 sample_step number v (certified c) = gives (summary number v c (is_narrow Live v default_budget))

@@ -3,8 +3,8 @@ use Rattle.std.specs.Prelude.{ℕ, Result, Ok, Err}
 use Rattle.stack_model.specs.Structure.{Structure}
 use Rattle.stack_overhang.specs.declared.error.StackError.{StackError}
 use Rattle.stack_overhang.specs.declared.error.StackError.TheVariants as built
-use Rattle.stack_overhang.specs.Gives.{within}
-use Rattle.stack_overhang.specs.Stacks.{harmonic_of, triangle_of, slab_of}
+use Rattle.stack_overhang.specs.Gives.{sized}
+use Rattle.stack_overhang.specs.Stacks.{harmonic_of, triangle_stack, slab_of}
 use Rattle.stack_cli.specs.declared.words.Kind.{Kind}
 use Rattle.stack_cli.specs.declared.words.Kind.TheVariants.{Harmonic, Triangle, Slab}
 use Rattle.stack_cli.specs.Refusals.{Fault, size, memory}
@@ -13,9 +13,9 @@ use Rattle.stack_cli.specs.Work.{Work, gives, refuses, ◌>>=◌}
 
 -- The structure of a kind and a size within its limits.
 abbrev pub stack_of : Kind → ℕ → Result Structure StackError
-stack_of Harmonic n = within 1 10 n (harmonic_of n)
-stack_of Triangle m = within 1 10 m (triangle_of m)
-stack_of Slab d = within 1 6 d (slab_of d)
+stack_of Harmonic n = sized 1 10 n (harmonic_of n)
+stack_of Triangle m = sized 1 10 m (triangle_stack m)
+stack_of Slab d = sized 1 6 d (slab_of d)
 
 abbrev pub built_fault : StackError → Fault
 built_fault built.Size = size

@@ -33,8 +33,8 @@ abbrev pub model_step : Result Structure ReadError → Work Structure
 model_step (Ok s) = gives s
 model_step (Err e) = refuses (from_read e)
 
-abbrev pub body_names : Structure → List (List ℕ)
-body_names s = map (λ b. b.name) s.bodies
+abbrev pub structure_names : Structure → List (List ℕ)
+structure_names s = map (λ b. b.name) s.bodies
 
 -- The survey of a structure. Bodies that overlap are told by their names.
 abbrev pub from_survey : Structure → SurveyError → Fault
@@ -52,7 +52,7 @@ modelled name = do
   text ← read inputs.Model name
   model_step (structure_of text)
 
-unfoldable pub surveyed : List ℕ → Work Surveyed
-surveyed name = do
+unfoldable pub surveyed_file : List ℕ → Work Surveyed
+surveyed_file name = do
   s ← modelled name
   surveys s (survey_step s)

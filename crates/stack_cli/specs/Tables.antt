@@ -1,4 +1,5 @@
--- The work on `table MODEL CERT`: that of a check, and for an accepted certificate the tables of its contacts and forces.
+-- The work on `table MODEL CERT`: that of a check, and for an accepted certificate the tables of its contacts and
+-- forces.
 use Rattle.std.specs.Prelude.{ℕ, List, ◌++◌, Option, Some, None}
 use Rattle.stack_contact.specs.Surveyed.{Surveyed}
 use Rattle.stack_certificate.specs.Certificate.{CertificateValue}
@@ -16,22 +17,22 @@ use Rattle.stack_cli.specs.Answers.{Due, exactly}
 use Rattle.stack_cli.specs.CheckText.{rejected_text}
 use Rattle.stack_cli.specs.Checking.{place_of, certificate_step}
 use Rattle.stack_cli.specs.Work.{Work, gives, refuses, ◌>>=◌}
-use Rattle.stack_cli.specs.Surveying.{read, surveyed}
+use Rattle.stack_cli.specs.Surveying.{read, surveyed_file}
 
 abbrev pub tables_text : Surveyed → CertificateValue → List ℕ
 tables_text v c = contacts_text v ++ forces_text v c
 
--- The two tables, unless a number of the second passes.
+-- The two tables, unless a number of the second is too wide.
 abbrev pub tabled_by : Surveyed → CertificateValue → Option ℕ → Work Due
 tabled_by v c None = gives (exactly Affirmed (tables_text v c))
 tabled_by v c (Some index) = refuses (wide_table index)
 
-abbrev pub tabled : Surveyed → CertificateValue → Work Due
-tabled v c = tabled_by v c (wide_index v c)
+abbrev pub table_due : Surveyed → CertificateValue → Work Due
+table_due v c = tabled_by v c (wide_index v c)
 
 -- By the check.
 abbrev pub table_step : Surveyed → CertificateValue → Check → Work Due
-table_step v c Accepted = tabled v c
+table_step v c Accepted = table_due v c
 table_step v c (Rejected part reason) = gives (exactly Denied (rejected_text v.structure part reason))
 table_step v c (TooWide place) = refuses (wide_check place.part (place_of v.structure place.at))
 
@@ -47,5 +48,5 @@ tabled_file name survey = do
 
 unfoldable pub table_work : List ℕ → List ℕ → Work Due
 table_work model certificate = do
-  survey ← surveyed model
+  survey ← surveyed_file model
   tabled_file certificate survey

@@ -52,8 +52,8 @@ abbrev pub default_budget : ℕ
 default_budget = 20000
 
 -- The number that a word spells: from 0 to 2^32 - 1 in decimal, without sign or leading zeros.
-abbrev pub number_of : List ℕ → Option ℕ
-number_of word = let n = digits_value 10 word in
+abbrev pub number_spelled : List ℕ → Option ℕ
+number_spelled word = let n = digits_value 10 word in
     if nat_lt n (2 ^ 32) && bytes_eq (decimal n) word then Some n else None
 
 -- A budget isn't 0.
@@ -63,7 +63,7 @@ unless_zero (Some n) = if nat_lt 0 n then Some n else None
 
 -- The budget that a word spells.
 abbrev pub budget_of : List ℕ → Option ℕ
-budget_of word = unless_zero (number_of word)
+budget_of word = unless_zero (number_spelled word)
 
 abbrev pub judging : Option Question → List ℕ → Option ℕ → Option Form
 judging (Some question) model (Some budget) = Some (judges question model budget)
@@ -82,13 +82,13 @@ stacking _ n = None
 -- The form of a word before one more, and before two more.
 abbrev pub form_of_two : List ℕ → List ℕ → Option Form
 form_of_two word last = if bytes_eq word (codes "contacts") then Some (contacts last)
-    else (if bytes_eq word (codes "sample") then option_map sample (number_of last)
+    else (if bytes_eq word (codes "sample") then option_map sample (number_spelled last)
     else judging (question_of word) last (Some default_budget))
 
 abbrev pub form_of_three : List ℕ → List ℕ → List ℕ → Option Form
 form_of_three word next last = if bytes_eq word (codes "check") then Some (check next last)
     else (if bytes_eq word (codes "table") then Some (tables next last)
-    else (if bytes_eq word (codes "stack") then stacking (kind_of next) (number_of last)
+    else (if bytes_eq word (codes "stack") then stacking (kind_of next) (number_spelled last)
     else judging (question_of word) next (budget_of last)))
 
 -- The form of the words, if they have one.

@@ -21,7 +21,7 @@ use std::alloc::Global;
 
 /// Puts the refusal's line on `err`, in one put, and gives the refusal: where memory for the line is wanting, that
 /// refusal. The line of that one is a constant.
-#[tactic(auto, using(crate::proofs::Consequences::line_put))]
+#[tactic(auto, using(crate::proofs::Outcomes::line_put))]
 fn say<E: Sink>(alloc: Global, refusal: Refusal, err: &mut E) -> Refusal
     ensures which { (result ≡ refusal) ⊎ (result ≡ Refusal.Memory) }
     ensures line { SaysLine (refusal_view result) (E.written err.old) (E.written err.new)
@@ -40,7 +40,7 @@ fn say<E: Sink>(alloc: Global, refusal: Refusal, err: &mut E) -> Refusal
 }
 
 /// Writes the answer in one put on `out`, or the line of the refusal on `err`, and gives the status.
-#[tactic(auto, using(crate::proofs::Consequences::line_put))]
+#[tactic(auto, using(crate::proofs::Outcomes::line_put))]
 fn deliver<O: Sink, E: Sink>(
     alloc: Global,
     worked: Result<Answer, Refusal>,

@@ -3,7 +3,7 @@
 ghost use Rattle.std.specs.Prelude.{◌≡◌, ◌≤◌};
 ghost use Rattle.stack_outside.specs.Faults.{Rose};
 ghost use Rattle.stack_cli.specs.Words.{form_of, texts};
-ghost use Rattle.stack_cli.specs.Progress.{Fails, Works};
+ghost use Rattle.stack_cli.specs.Progress.{IsCausedBy, Works};
 
 pub mod checking;
 pub mod judging;
@@ -30,10 +30,11 @@ pub fn answer_words<F: Shelf>(
     words: &[String],
     shelf: &mut F,
 ) -> Result<Answer, Refusal>
-    ensures works { Works (F.holds shelf.old) (form_of (texts words.now)) (F.asked shelf.old) (F.asked shelf.new) result }
+    ensures works { Works (F.holds shelf.old) (form_of (texts words.now)) (F.asked shelf.old)
+        (F.asked shelf.new) result }
     ensures holds { F.holds shelf.new ≡ F.holds shelf.old }
     ensures later { F.faults shelf.old ≤ F.faults shelf.new }
-    ensures cause { Fails result (Rose (F.faults shelf.old) (F.faults shelf.new)) }
+    ensures cause { IsCausedBy result (Rose (F.faults shelf.old) (F.faults shelf.new)) }
 {
     match parse_form(words) {
         Some(Form::Check { model, certificate }) => check_form(alloc, shelf, model, certificate),

@@ -54,7 +54,7 @@ pub fn run_given<F: Shelf, O: Sink, E: Sink>(
 }
 
 /// Says that the words are no form, and gives the status.
-#[tactic(auto, using(crate::proofs::Consequences::line_put))]
+#[tactic(auto, using(crate::proofs::Outcomes::line_put))]
 fn refuse_words<E: Sink>(err: &mut E) -> u8
     ensures status { result ≡ 2 }
     ensures line { SaysLine words (E.written err.old) (E.written err.new) (Rose (E.faults err.old) (E.faults err.new)) }
@@ -66,7 +66,7 @@ fn refuse_words<E: Sink>(err: &mut E) -> u8
 }
 
 /// Says that memory is wanting, and gives the status.
-#[tactic(auto, using(crate::proofs::Consequences::line_put))]
+#[tactic(auto, using(crate::proofs::Outcomes::line_put))]
 fn refuse_for_memory<E: Sink>(err: &mut E) -> u8
     ensures status { result ≡ 11 }
     ensures line { SaysLine (faulty memory) (E.written err.old) (E.written err.new)

@@ -3,7 +3,7 @@
 ghost use Rattle.std.specs.Prelude.{◌≡◌, ℕ, List, [], ◌∷◌, Some, Ok};
 ghost use Rattle.stack_contact.specs.Surveyed.{Surveyed};
 ghost use Rattle.stack_cli.specs.Work.{Holds, Ends};
-ghost use Rattle.stack_cli.specs.Surveying.{surveyed};
+ghost use Rattle.stack_cli.specs.Surveying.{surveyed_file};
 ghost use Rattle.stack_cli.specs.OneEnd.{WordsHaveOneEnd};
 ghost use Rattle.stack_cli.specs.AcceptedModel.{IsAcceptedModel};
 ghost use Rattle.stack_cli.specs.Printed.{PrintedIsAccepted, PrintedIsShort};
@@ -13,10 +13,11 @@ use stack_certificate::{one_reading, short_text};
 /// The order of work comes to a survey exactly for the files that are accepted models, and to each survey that such a
 /// file has.
 pub fn goes_on_with_accepted_models()
-    ensures only { (holds : Holds) (name bytes : List ℕ) (v : Surveyed) (names : List (List ℕ)) → holds name ≡ Some bytes
-        → Ends holds (surveyed name) names (Ok v) → IsAcceptedModel bytes v }
+    ensures only { (holds : Holds) (name bytes : List ℕ) (v : Surveyed) (names : List (List ℕ)) → holds name
+        ≡ Some bytes
+        → Ends holds (surveyed_file name) names (Ok v) → IsAcceptedModel bytes v }
     ensures all { (holds : Holds) (name bytes : List ℕ) (v : Surveyed) → holds name ≡ Some bytes
-        → IsAcceptedModel bytes v → Ends holds (surveyed name) (name ∷ []) (Ok v) }
+        → IsAcceptedModel bytes v → Ends holds (surveyed_file name) (name ∷ []) (Ok v) }
 {}
 
 /// The work on words over files that are told has one end, unless memory is wanting or a device fails: one answer

@@ -1,9 +1,9 @@
 //! Judges plane structures of rigid blocks laid without mortar, after Livesley (1978).
 //!
-//! `stand MODEL [PIVOTS]` and `load MODEL [PIVOTS]` judge the dead and the live loads of a model, and print a certificate;
-//! `check MODEL CERT` checks one, and prints `accepted` or why it is rejected; `contacts MODEL` lists where bodies bear and
-//! touch, `table MODEL CERT` also the forces of an accepted certificate; `stack KIND N` prints a built-in stack, and `sample
-//! N` sums up the judgement of a built-in wall.
+//! `stand MODEL [PIVOTS]` and `load MODEL [PIVOTS]` judge the dead and the live loads of a model, and print a
+//! certificate; `check MODEL CERT` checks one, and prints `accepted` or why it is rejected; `contacts MODEL` lists
+//! where bodies bear and touch, `table MODEL CERT` also the forces of an accepted certificate; `stack KIND N`
+//! prints a built-in stack, and `sample N` sums up the judgement of a built-in wall.
 #![tactic(auto)]
 
 pub mod answer;

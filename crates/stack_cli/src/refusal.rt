@@ -2,7 +2,7 @@
 
 ghost use Rattle.std.specs.Prelude.{◌≡◌, Some};
 ghost use Rattle.stack_cli.specs.Refusals.{input_word, part_word, axis_word, step_word, spot_text, numbers_word};
-ghost use Rattle.stack_cli.specs.Refusals.{end_step_word, place_text, balance_of, place_view, status_of, line_of};
+ghost use Rattle.stack_cli.specs.Refusals.{end_step_word, place_text, balance_of, place_view, status_of, refusal_line};
 ghost use Rattle.stack_cli.specs.Refusals.{refusal_view, faulty};
 ghost use Rattle.stack_cli.specs.Surveying.{from_read};
 ghost use Rattle.stack_cli.specs.Stacking.{built_fault};
@@ -15,7 +15,7 @@ use stack_extract::{EndStep, ExtractPlace, Numbers};
 use stack_model::ModelError;
 use stack_overhang::StackError;
 use stack_reader::ReadError;
-use stack_simplex::Place as RunPlace;
+use stack_simplex::RunPlace;
 use stack_table::types::Step;
 use std::alloc::AllocError;
 use std::fmt;
@@ -65,11 +65,11 @@ pub enum Refusal {
     CertificateLine { number: usize },
     /// A number of the check is too wide, in this part of the certificate.
     WideCheck { part: Part, place: Place },
-    /// A number of the run passes.
+    /// A number of the run is too wide.
     WideRun { place: RunPlace },
-    /// A number that is made of the end of the run passes.
+    /// A number that is made of the end of the run is too wide.
     WideEnd { place: ExtractPlace },
-    /// A number of the table of forces passes, the first one with this index in the order in which they are made.
+    /// A number of the table of forces is too wide, the first one with this index in the order in which they are made.
     WideTable { index: usize },
     /// A pivot is due, and this many are done.
     Spent { budget: u32 },
@@ -209,7 +209,7 @@ impl fmt::Display for Place {
     }
 }
 
-/// The cell of a table at which a run meets a number that passes, and the operation.
+/// The cell of a table at which a run meets a number that is too wide, and the operation.
 #[derive(Clone, Copy, Debug, PartialEq, Eq)]
 struct RunSpot {
     place: RunPlace,
@@ -227,7 +227,7 @@ impl fmt::Display for RunSpot {
 
 /// The line without its line feed.
 impl fmt::Display for Refusal {
-    ghost output = { λ r. Some (line_of (refusal_view r)) };
+    ghost output = { λ r. Some (refusal_line (refusal_view r)) };
 
     fn fmt<W: fmt::Write>(&self, f: &mut fmt::Formatter<W>) -> fmt::Result {
         match self {

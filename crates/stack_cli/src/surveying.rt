@@ -4,8 +4,8 @@ ghost use Rattle.std.specs.Prelude.{◌≡◌, ◌≤◌, [], map, get_or, IfOk,
 ghost use Rattle.stack_outside.specs.Faults.{Rose};
 ghost use Rattle.stack_model.specs.ModelView.{model_view};
 ghost use Rattle.stack_cli.specs.Work.{surveys};
-ghost use Rattle.stack_cli.specs.Surveying.{body_names, survey_step, surveyed};
-ghost use Rattle.stack_cli.specs.Progress.{Does, DoesAlone, IsSeenSurvey, Fails};
+ghost use Rattle.stack_cli.specs.Surveying.{structure_names, survey_step, surveyed_file};
+ghost use Rattle.stack_cli.specs.Progress.{Does, DoesAlone, IsSeenSurvey, IsCausedBy};
 
 use crate::reading::model_file;
 use crate::refusal::Refusal;
@@ -17,7 +17,7 @@ use std::alloc::{AllocError, Global};
 
 /// The names of all bodies, in order.
 fn names_of(alloc: Global, model: &Model) -> Result<Vec<String>, AllocError>
-    ensures { IfOk result (λ v. map string_bytes v.items ≡ body_names (model_view model.now)) }
+    ensures { IfOk result (λ v. map string_bytes v.items ≡ structure_names (model_view model.now)) }
 {
     let mut names = Vec::new(alloc);
     for i in 0..model.bodies() {
@@ -39,7 +39,7 @@ fn name_at(names: &[String], i: usize) -> &str
 /// The survey of a model. The model is consumed, so its names are read before.
 pub fn survey_model(alloc: Global, model: Model) -> Result<Survey, Refusal>
     ensures does { DoesAlone IsSeenSurvey (surveys (model_view model) (survey_step (model_view model))) result }
-    ensures no_file { Fails result ⊥ }
+    ensures no_file { IsCausedBy result ⊥ }
 {
     let names = names_of(alloc, &model)?;
     match survey(alloc, model) {
@@ -55,10 +55,11 @@ pub fn survey_model(alloc: Global, model: Model) -> Result<Survey, Refusal>
 
 /// The survey of the model in a file.
 pub fn survey_file<F: Shelf>(alloc: Global, shelf: &mut F, name: &str) -> Result<Survey, Refusal>
-    ensures does { Does IsSeenSurvey (F.holds shelf.old) (surveyed name.now) (F.asked shelf.old) (F.asked shelf.new) result }
+    ensures does { Does IsSeenSurvey (F.holds shelf.old) (surveyed_file name.now) (F.asked shelf.old)
+        (F.asked shelf.new) result }
     ensures holds { F.holds shelf.new ≡ F.holds shelf.old }
     ensures later { F.faults shelf.old ≤ F.faults shelf.new }
-    ensures cause { Fails result (Rose (F.faults shelf.old) (F.faults shelf.new)) }
+    ensures cause { IsCausedBy result (Rose (F.faults shelf.old) (F.faults shelf.new)) }
 {
     match model_file(alloc, shelf, name) {
         Ok(model) => survey_model(alloc, model),

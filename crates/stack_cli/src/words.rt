@@ -3,7 +3,7 @@
 ghost use Rattle.std.specs.Prelude.{◌≡◌, ◌≢◌, IfSome};
 ghost use Rattle.std.specs.Option.{option_map};
 ghost use Rattle.stack_cli.specs.Words.{form_of, form_view, HasBudget, texts, question_of as question_of_word};
-ghost use Rattle.stack_cli.specs.Words.{number_of as number_of_word, budget_of as budget_of_word};
+ghost use Rattle.stack_cli.specs.Words.{number_spelled as number_of_word, budget_of as budget_of_word};
 ghost use Rattle.stack_cli.specs.Words.{judging as judging_of, kind_of as kind_of_word, stacking as stacking_of};
 ghost use Rattle.stack_cli.specs.Words.{form_of_two as form_of_two_words, form_of_three as form_of_three_words};
 

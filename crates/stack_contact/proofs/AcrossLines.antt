@@ -8,12 +8,12 @@ use Rattle.std.proofs.lemmas.Int.{ints}
 use Rattle.stack_algebra.proofs.Integers.{sums, expand}
 use Rattle.stack_algebra.proofs.Order.{◌≼◌, ◌≺◌, mul_nonneg, mul_pos, nonneg-cancel}
 use Rattle.stack_polygon.specs.declared.point.Point.{Point}
-use Rattle.stack_polygon.specs.Plane.{Place}
+use Rattle.stack_polygon.specs.Plane.{Triple}
 use Rattle.stack_frame.specs.declared.frame.Frame.{Frame}
 use Rattle.stack_frame.specs.Directions.{IsLowest}
-use Rattle.stack_overlap.specs.Forms.{Form, value, at, line, along, square}
+use Rattle.stack_overlap.specs.Forms.{LinearForm, value, at_corner, line, along, square}
 use Rattle.stack_overlap.proofs.Identities.{by_line, forth}
-use Rattle.stack_overlap.proofs.Pieces.{cancel}
+use Rattle.stack_algebra.proofs.CrossProducts.{cancel}
 use Rattle.stack_contact.specs.Bearings.{IsParallel, left_along}
 use Rattle.stack_algebra.proofs.Ring.{Exp, var, ◌⊕◌, ◌⊖◌, ◌⊗◌, solve, nth}
 use Rattle.stack_algebra.proofs.IntegerRing.{integers}
@@ -35,9 +35,9 @@ abbrev v : ℕ → Exp
 v k = var k
 
 -- the line through X along t, at a corner
-pub at-through : (a b c : Point) (X : Place) (t : Frame) →
-    square a b *ℤ left_along t X c ≡ dot a b t *ℤ (at (line a b) c *ℤ X.w -ℤ value
-    (line a b) X) -ℤ cross a b t *ℤ (at (along a b) c *ℤ X.w -ℤ value (along a b) X)
+pub at-through : (a b c : Point) (X : Triple) (t : Frame) →
+    square a b *ℤ left_along t X c ≡ dot a b t *ℤ (at_corner (line a b) c *ℤ X.w -ℤ value
+    (line a b) X) -ℤ cross a b t *ℤ (at_corner (along a b) c *ℤ X.w -ℤ value (along a b) X)
 at-through a b c X t = solve integers (nth integers
     (a.x ∷ a.y ∷ b.x ∷ b.y ∷ c.x ∷ c.y ∷ X.x ∷ X.y ∷ X.w ∷ t.tx ∷ t.ty ∷ []))
     ((dx ⊗ dx ⊕ dy ⊗ dy) ⊗ (v 9 ⊗ (v 5 ⊗ v 8 ⊖ v 7) ⊖ v 10 ⊗ (v 4 ⊗ v 8 ⊖ v 6)))
@@ -54,7 +54,7 @@ at-through a b c X t = solve integers (nth integers
     dy = v 3 ⊖ v 1
 
 -- a step between two points, across t
-pub step-across : (a b : Point) (X Y : Place) (t : Frame) →
+pub step-across : (a b : Point) (X Y : Triple) (t : Frame) →
     square a b *ℤ ((Y.x *ℤ X.w -ℤ X.x *ℤ Y.w) *ℤ t.ty -ℤ (Y.y *ℤ X.w -ℤ X.y *ℤ Y.w) *ℤ t.tx)
     ≡ (value (along a b) Y *ℤ X.w -ℤ value (along a b) X *ℤ Y.w) *ℤ cross a b t -ℤ (value
     (line a b) Y *ℤ X.w -ℤ value (line a b) X *ℤ Y.w) *ℤ dot a b t
@@ -103,7 +103,7 @@ senses dx dy ux uy long lu e l = go (dx *ℤ ux +ℤ dy *ℤ uy) refl l
         absurd (omega (arith, sums, simp expand at m, simp expand at p', simp expand at e', simp expand at e''))
 
 -- a form on a step is the difference of its values
-pub forth-is : (f : Form) (c d : Point) → forth f c d ≡ at f d -ℤ at f c
+pub forth-is : (f : LinearForm) (c d : Point) → forth f c d ≡ at_corner f d -ℤ at_corner f c
 forth-is f c d = go f.l f.m f.n c.x c.y d.x d.y
   where
     go : (l m n cx cy dx dy : ℤ) → l *ℤ (dx -ℤ cx) +ℤ m *ℤ (dy -ℤ cy) ≡ l *ℤ dx +ℤ m *ℤ dy +ℤ n -ℤ
@@ -111,12 +111,13 @@ forth-is f c d = go f.l f.m f.n c.x c.y d.x d.y
     go l m n cx cy dx dy = simp expand (omega (arith, sums))
 
 -- a form that is 0 strictly between two corners at which it isn't negative is 0 at both
-pub flat : (f : Form) (c d : Point) (X : Place) → pos 0 ≺ square c d → value (line c d) X ≡ pos 0
+pub flat : (f : LinearForm) (c d : Point) (X : Triple) → pos 0 ≺ square c d → value (line c d) X ≡ pos 0
     → pos 0 ≺ value (along c d) X → value (along c d) X ≺ square c d *ℤ X.w →
-    pos 0 ≼ at f c → pos 0 ≼ at f d → value f X ≡ pos 0 → (at f c ≡ pos 0) × (at f d ≡ pos 0)
+    pos 0 ≼ at_corner f c → pos 0 ≼ at_corner f d → value f X ≡ pos 0 → (at_corner f c ≡ pos 0)
+    × (at_corner f d ≡ pos 0)
 flat f c d X long on after before hc hd e =
-    go (square c d) (value f X) (value (line c d) X) _ (value (along c d) X) (forth f c d) X.w (at f c)
-    (at f d) (by_line f c d X) on e (forth-is f c d) after before hc hd
+    go (square c d) (value f X) (value (line c d) X) _ (value (along c d) X) (forth f c d) X.w (at_corner f c)
+    (at_corner f d) (by_line f c d X) on e (forth-is f c d) after before hc hd
   where
     go : (s F L z t u w p q : ℤ) → s *ℤ F ≡ L *ℤ z +ℤ t *ℤ u +ℤ w *ℤ (s *ℤ p) → L ≡ pos 0 → F ≡ pos 0
         → u ≡ q -ℤ p →

@@ -6,7 +6,7 @@ use Rattle.stack_algebra.proofs.Integers.{sums, expand}
 use Rattle.stack_algebra.proofs.Order.{mul_pos}
 use Rattle.stack_polygon.specs.declared.point.Point.{Point}
 use Rattle.stack_polygon.specs.declared.point.Span.{Span}
-use Rattle.stack_polygon.specs.Plane.{Place}
+use Rattle.stack_polygon.specs.Plane.{Triple}
 use Rattle.stack_polygon.specs.Corners.{corner_of, IsInside}
 use Rattle.stack_polygon.specs.Limits.{IsPolygon}
 use Rattle.stack_polygon.specs.Spans.{IsLeast, IsSpanOf}
@@ -23,7 +23,7 @@ use Rattle.stack_contact.specs.NearPairs.{AreFar}
 
 -- a point inside a polygon lies past the least x of its corners
 past-least : (Q : List Point) → IsPolygon Q → (z : ℤ) → IsLeast (length Q) (λ j. (corner_of Q j).x) z
-    → (X : Place) → IsInside Q X → z *ℤ X.w ≼ X.x
+    → (X : Triple) → IsInside Q X → z *ℤ X.w ≼ X.x
 past-least Q polygon z h X inside = least X.x X.y X.w (below-inside Q (convex-form Q polygon.convex)
     polygon.least X (inside-form Q X inside) (record { l = negsuc 0; m = pos 0; n = z })
     (λ j l. corner (corner_of Q j).x (corner_of Q j).y (h.within j l)))
@@ -38,7 +38,7 @@ crossed : (l h z w : ℤ) → pos 0 ≺ w → h ≺ l → l *ℤ w ≼ z → z �
 crossed l h z w p e a b = let m = mul_pos (l -ℤ h) w (omega (arith, sums)) p in
     omega (arith, sums, simp expand at m)
 
-swap : (P Q : List Point) (X : Place) → IsCommon P Q X → IsCommon Q P X
+swap : (P Q : List Point) (X : Triple) → IsCommon P Q X → IsCommon Q P X
 swap P Q X c = record { first = c.second; second = c.first }
 
 module _ (s : Structure) (i j : ℕ) where
@@ -47,7 +47,7 @@ module _ (s : Structure) (i j : ℕ) where
 
   pub far-apart : (P Q : List Point) → P ≡ corners_of s i → Q ≡ corners_of s j → IsPolygon P → IsPolygon Q
       → (a b : Span) → IsSpanOf P a → IsSpanOf Q b → AreDisjoint a b → AreFar s i j
-  far-apart P Q e f p q a b h k d = subst₂ (λ P Q. (X : Place) → ¬ (IsCommon P Q X)) e f
+  far-apart P Q e f p q a b h k d = subst₂ (λ P Q. (X : Triple) → ¬ (IsCommon P Q X)) e f
       (none-common P Q p q a b h k d)
 
   -- one begins beyond the other's end

@@ -6,7 +6,7 @@ use Prim.Native.Nat.{ℕ, zero, suc}
 use native.Mathlib.Omega.{arith}
 use Rattle.std.specs.Prelude.{◌++◌, Some, slice_get}
 use Rattle.std.proofs.lemmas.Option.{same_Some}
-use Rattle.stack_polygon.specs.Plane.{Place, IsAt}
+use Rattle.stack_polygon.specs.Plane.{Triple, IsAt}
 use Rattle.stack_frame.specs.declared.frame.Frame.{Frame}
 use Rattle.stack_frame.specs.declared.cone.Cone.{Cone}
 use Rattle.stack_overlap.specs.Separation.{Overlaps}
@@ -29,12 +29,12 @@ record IsMade (i j : ℕ) (f : Cone) (c : Contacts) (z : Bearing) : Type 0 where
   first : z.first ≡ i
   second : z.second ≡ j
   friction : z.cone ≡ f
-  bears : (X : Place) → IsAt X z.at → IsBearingAt c z.frame X
+  bears : (X : Triple) → IsAt X z.at → IsBearingAt c z.frame X
 
 record IsMadeTouch (i j : ℕ) (c : Contacts) (z : Touch) : Type 0 where
   first : z.first ≡ i
   second : z.second ≡ j
-  touches : (X : Place) → IsAt X z.at → IsTouchAt c X
+  touches : (X : Triple) → IsAt X z.at → IsTouchAt c X
 
 module _ (i j : ℕ) (f : Cone) where
   made-bearing : (c : Contacts) (n : ℕ) (z : Bearing) → slice_get (bearings_in i j f c) n ≡ Some z
@@ -50,7 +50,7 @@ module _ (i j : ℕ) (f : Cone) where
       (record { first = refl; second = refl; friction = refl; bears = λ X h. (inr h, refl) })
   made-bearing (AtTwo c d t) (suc (suc n)) z e = absurd (cc e)
 
-  find-bearing : (c : Contacts) (t : Frame) (X : Place) → IsBearingAt c t X
+  find-bearing : (c : Contacts) (t : Frame) (X : Triple) → IsBearingAt c t X
       → (n : ℕ) × (z : Bearing) × ((slice_get (bearings_in i j f c) n ≡ Some z) × IsBearingOf i j t X z)
   find-bearing Free t X h = absurd h
   find-bearing (Touching c) t X h = absurd h
@@ -92,7 +92,7 @@ module _ (i j : ℕ) (f : Cone) where
   made-touch (AtOne c t) n z e = absurd (cc e)
   made-touch (AtTwo c d t) n z e = absurd (cc e)
 
-  find-touch : (c : Contacts) (X : Place) → IsTouchAt c X
+  find-touch : (c : Contacts) (X : Triple) → IsTouchAt c X
       → (n : ℕ) × (z : Touch) × ((slice_get (touches_in i j c) n ≡ Some z) × IsTouchOf i j X z)
   find-touch Free X h = absurd h
   find-touch (Touching c) X h = (
@@ -116,10 +116,10 @@ module _ (s : Structure) (i j : ℕ) (p : IsPair s i j) (c : Contacts) (k : AreC
   this-bearing : (z : Bearing) → IsMade i j (friction_between s i j) c z → IsBearing s z
   this-bearing z h = record { pair = r.0; bears = r.1.0; friction = r.1.1 }
     where
-      r : IsPair s z.first z.second × (((X : Place) → IsAt X z.at
+      r : IsPair s z.first z.second × (((X : Triple) → IsAt X z.at
           → Bears (corners_of s z.first) (corners_of s z.second) z.frame X)
           × (z.cone ≡ friction_between s z.first z.second))
-      r = subst₂ (λ a b. IsPair s a b × (((X : Place) → IsAt X z.at
+      r = subst₂ (λ a b. IsPair s a b × (((X : Triple) → IsAt X z.at
           → Bears (corners_of s a) (corners_of s b) z.frame X)
           × (z.cone ≡ friction_between s a b))) (sym h.first) (sym h.second)
           (p, ((λ X e. (k.bearings z.frame X).1 (h.bears X e)), h.friction))
@@ -127,9 +127,9 @@ module _ (s : Structure) (i j : ℕ) (p : IsPair s i j) (c : Contacts) (k : AreC
   this-touch : (z : Touch) → IsMadeTouch i j c z → IsTouch s z
   this-touch z h = record { pair = r.0; touches = r.1 }
     where
-      r : IsPair s z.first z.second × ((X : Place) → IsAt X z.at
+      r : IsPair s z.first z.second × ((X : Triple) → IsAt X z.at
           → Touches (corners_of s z.first) (corners_of s z.second) X)
-      r = subst₂ (λ a b. IsPair s a b × ((X : Place) → IsAt X z.at
+      r = subst₂ (λ a b. IsPair s a b × ((X : Triple) → IsAt X z.at
           → Touches (corners_of s a) (corners_of s b) X))
           (sym h.first) (sym h.second) (p, λ X e. (k.touches X).1 (h.touches X e))
 
@@ -153,14 +153,14 @@ module _ (s : Structure) (i j : ℕ) (p : IsPair s i j) (c : Contacts) (k : AreC
       ys : List Bearing
       ys = bearings_in i j (friction_between s i j) c
 
-      Found : ℕ → ℕ → Frame → Place → Type 0
+      Found : ℕ → ℕ → Frame → Triple → Type 0
       Found a b t X = (n : ℕ) × (z : Bearing) × ((slice_get (zs ++ ys) n ≡ Some z) × IsBearingOf a b t X z)
 
-      here : (t : Frame) (X : Place) → Bears (corners_of s i) (corners_of s j) t X → Found i j t X
+      here : (t : Frame) (X : Triple) → Bears (corners_of s i) (corners_of s j) t X → Found i j t X
       here t X r = let w = find-bearing i j (friction_between s i j) c t X ((k.bearings t X).0 r) in
           let g = get-right zs ys w.0 w.1 w.2.0 in (g.0, w.1, (g.1, w.2.1))
 
-      fresh : (a b : ℕ) (t : Frame) (X : Place) → a ≡ i → b ≡ j → Bears (corners_of s a) (corners_of s b) t X
+      fresh : (a b : ℕ) (t : Frame) (X : Triple) → a ≡ i → b ≡ j → Bears (corners_of s a) (corners_of s b) t X
           → Found a b t X
       fresh a b t X e f r = subst₂ (λ a b. Bears (corners_of s a) (corners_of s b) t X
           → Found a b t X) (sym e) (sym f) (here t X) r
@@ -184,14 +184,14 @@ module _ (s : Structure) (i j : ℕ) (p : IsPair s i j) (c : Contacts) (k : AreC
       ys : List Touch
       ys = touches_in i j c
 
-      Found : ℕ → ℕ → Place → Type 0
+      Found : ℕ → ℕ → Triple → Type 0
       Found a b X = (n : ℕ) × (z : Touch) × ((slice_get (zs ++ ys) n ≡ Some z) × IsTouchOf a b X z)
 
-      here : (X : Place) → Touches (corners_of s i) (corners_of s j) X → Found i j X
+      here : (X : Triple) → Touches (corners_of s i) (corners_of s j) X → Found i j X
       here X r = let w = find-touch i j (friction_between s i j) c X ((k.touches X).0 r) in
           let g = get-right zs ys w.0 w.1 w.2.0 in (g.0, w.1, (g.1, w.2.1))
 
-      fresh : (a b : ℕ) (X : Place) → a ≡ i → b ≡ j → Touches (corners_of s a) (corners_of s b) X → Found a b X
+      fresh : (a b : ℕ) (X : Triple) → a ≡ i → b ≡ j → Touches (corners_of s a) (corners_of s b) X → Found a b X
       fresh a b X e f r = subst₂ (λ a b. Touches (corners_of s a) (corners_of s b) X
           → Found a b X) (sym e) (sym f) (here X) r
 

@@ -20,22 +20,22 @@ use Rattle.stack_polygon.specs.Spans.{IsLeast, IsSpanOf}
 use Rattle.stack_model.specs.Structure.{Structure}
 use Rattle.stack_contact.specs.declared.sweeping.Placed.{Placed}
 use Rattle.stack_contact.specs.ContactLists.{corners_of}
-use Rattle.stack_contact.specs.NearPairs.{IsPlaced, placed_at, AreFromLeft}
+use Rattle.stack_contact.specs.NearPairs.{IsPlacedBody, placed_at, AreFromLeft}
 
 abbrev IsLeastX : List Point → ℤ → Type 0
 IsLeastX P z = IsLeast (length P) (λ j. (corner_of P j).x) z
 
 -- the bodies below n stand in the list
 pub record ArePlacedTo (s : Structure) (n : ℕ) (bs : List Placed) : Type 0 where
-  pub each : All (IsPlaced s) bs
+  pub each : All (IsPlacedBody s) bs
   pub all : (i : ℕ) → i < n → (b : Placed) × (Contains bs b × (b.body ≡ i))
 
 module _ (s : Structure) where
   pub none-placed : ArePlacedTo s 0 []
-  none-placed = record { each = All-nil (IsPlaced s); all = λ i l. absurd (omega arith) }
+  none-placed = record { each = All-nil (IsPlacedBody s); all = λ i l. absurd (omega arith) }
 
   pub one-placed : (i : ℕ) (P : List Point) (a : Span) (b : Placed) → i < length s.bodies → P ≡ corners_of s i
-      → IsPolygon P → IsSpanOf P a → b.x0 ≡ a.x0 → b.body ≡ i → IsPlaced s b
+      → IsPolygon P → IsSpanOf P a → b.x0 ≡ a.x0 → b.body ≡ i → IsPlacedBody s b
   one-placed i P a b l e p h x f = record {
     is_body = subst (λ i. i < length s.bodies) (sym f) l;
     polygon = subst IsPolygon same p;
@@ -45,10 +45,10 @@ module _ (s : Structure) where
       same : P ≡ corners_of s b.body
       same = e ∙ ap (corners_of s) (sym f)
 
-  pub more-placed : (n : ℕ) (bs : List Placed) (b : Placed) → IsPlaced s b → b.body ≡ n → ArePlacedTo s n bs
+  pub more-placed : (n : ℕ) (bs : List Placed) (b : Placed) → IsPlacedBody s b → b.body ≡ n → ArePlacedTo s n bs
       → ArePlacedTo s (n + 1) (bs ++ b ∷ [])
   more-placed n bs b p e h = record {
-    each = All-push (IsPlaced s) bs b h.each p;
+    each = All-push (IsPlacedBody s) bs b h.each p;
     all = λ i l. go i (before i l);
   }
     where
@@ -73,7 +73,7 @@ not-less a b e = grind (arith, ints)
 pub sorted-bodies : (s : Structure) (n : ℕ) (bs cs : List Placed) → n ≡ length s.bodies → ArePlacedTo s n bs
     → IsPermutation bs cs → IsSorted by_x0 cs → AreFromLeft s cs
 sorted-bodies s n bs cs e h p up = record {
-  each = All-permutation (IsPlaced s) bs cs p h.each;
+  each = All-permutation (IsPlacedBody s) bs cs p h.each;
   all = λ i l. let r = h.all i (omega (arith, l, e)) in
       let c = Contains-permutation bs cs r.0 p r.1.0 in
       (c.0, (c.1, ap (λ (b : Placed). b.body) (get_or_default cs c.0 _ r.0 c.1 ∙ c.2) ∙ r.1.1));

@@ -11,7 +11,7 @@ use Rattle.std.proofs.lemmas.Int.{ints}
 use Rattle.stack_algebra.proofs.Integers.{sums, expand}
 use Rattle.stack_algebra.proofs.Order.{◌≼◌, ◌≺◌}
 use Rattle.stack_polygon.specs.declared.point.Point.{Point}
-use Rattle.stack_polygon.specs.Plane.{Place}
+use Rattle.stack_polygon.specs.Plane.{Triple}
 use Rattle.stack_polygon.specs.Corners.{corner_of, end_of}
 use Rattle.stack_frame.specs.declared.frame.Frame.{Frame}
 use Rattle.stack_frame.specs.Directions.{IsLowest}
@@ -30,7 +30,7 @@ use Rattle.stack_contact.proofs.EarlierEdge.{BearsBy, earlier-edge}
 abbrev pub opposite_way : Frame → Frame
 opposite_way t = record { tx = neg_ℤ t.tx; ty = neg_ℤ t.ty }
 
-common-swapped : (P Q : List Point) (X : Place) → IsCommon P Q X → IsCommon Q P X
+common-swapped : (P Q : List Point) (X : Triple) → IsCommon P Q X → IsCommon Q P X
 common-swapped P Q X m = record { first = m.second; second = m.first }
 
 abs-neg : (z : ℤ) → nat_abs (neg_ℤ z) ≡ nat_abs z
@@ -45,20 +45,20 @@ parallel-back c d u e = go (d.x -ℤ c.x) (d.y -ℤ c.y) u.tx u.ty e
     go : (x y ux uy : ℤ) → x *ℤ uy ≡ y *ℤ ux → x *ℤ neg_ℤ uy ≡ y *ℤ neg_ℤ ux
     go x y ux uy e = simp expand (omega (arith, sums, e))
 
-step-back : (X Y : Place) (u : Frame) → IsAlong u X Y → IsAlong (opposite_way u) X Y
+step-back : (X Y : Triple) (u : Frame) → IsAlong u X Y → IsAlong (opposite_way u) X Y
 step-back X Y u e = go _ _ u.tx u.ty e
   where
     go : (x y ux uy : ℤ) → x *ℤ uy ≡ y *ℤ ux → x *ℤ neg_ℤ uy ≡ y *ℤ neg_ℤ ux
     go x y ux uy e = simp expand (omega (arith, sums, e))
 
-through-back : (X : Place) (u : Frame) (c : Point) → left_along (opposite_way u) X c ≡ neg_ℤ (left_along u X c)
+through-back : (X : Triple) (u : Frame) (c : Point) → left_along (opposite_way u) X c ≡ neg_ℤ (left_along u X c)
 through-back X u c = go X.x X.y X.w u.tx u.ty c.x c.y
   where
     go : (x y w tx ty cx cy : ℤ) → neg_ℤ tx *ℤ (cy *ℤ w -ℤ y) -ℤ neg_ℤ ty *ℤ (cx *ℤ w -ℤ x) ≡ neg_ℤ (tx *ℤ
         (cy *ℤ w -ℤ y) -ℤ ty *ℤ (cx *ℤ w -ℤ x))
     go x y w tx ty cx cy = simp expand (omega (arith, sums))
 
-corner_on-back : (P Q : List Point) (X : Place) (u : Frame) → IsCornerOnEdge P Q u X
+corner_on-back : (P Q : List Point) (X : Triple) (u : Frame) → IsCornerOnEdge P Q u X
     → IsCornerOnEdge P Q (opposite_way u) X
 corner_on-back P Q X u r = record {
   corner = r.corner;
@@ -69,7 +69,7 @@ corner_on-back P Q X u r = record {
   ) = r.on_edge in (k, (m, parallel-back (corner_of Q k) (end_of Q k) u p));
 }
 
-pub bears-swapped : (P Q : List Point) (X : Place) (u : Frame) → Bears P Q u X → Bears Q P (opposite_way u) X
+pub bears-swapped : (P Q : List Point) (X : Triple) (u : Frame) → Bears P Q u X → Bears Q P (opposite_way u) X
 bears-swapped P Q X u r = record {
   is_end = record {
     is_in = common-swapped P Q X r.is_end.is_in;
@@ -117,14 +117,14 @@ tangent-back a b u k = record {
         → pos 0 ≺ ((ax -ℤ bx) *ℤ neg_ℤ ux +ℤ (ay -ℤ by) *ℤ neg_ℤ uy)
     sense ax ay bx by ux uy l = simp expand (omega (arith, sums, simp expand at l))
 
-by-swapped : (v : Common) (a b : Point) (X : Place) (u : Frame) → BearsBy v a b X u
+by-swapped : (v : Common) (a b : Point) (X : Triple) (u : Frame) → BearsBy v a b X u
     → BearsBy (swapped v) b a X (opposite_way u)
 by-swapped Nothing a b X u r = r
 by-swapped (Corner c) a b X u r = r
 by-swapped (OnEdge c e) a b X u r = (r.0, tangent-back a b u r.1)
 by-swapped (Segment c d) a b X u r = (r.0, tangent-back a b u r.1)
 
-swapped-twice : (v : Common) (a b : Point) (X : Place) (u : Frame) → BearsBy (swapped (swapped v)) a b X u
+swapped-twice : (v : Common) (a b : Point) (X : Triple) (u : Frame) → BearsBy (swapped (swapped v)) a b X u
     → BearsBy v a b X u
 swapped-twice Nothing a b X u r = r
 swapped-twice (Corner c) a b X u r = r
@@ -140,7 +140,7 @@ back-twice u = λ i. record { tx = neg-neg u.tx i; ty = neg-neg u.ty i }
 -- the edge is the later body's
 pub later-edge : (P Q : List Point) (convex_p : IsConvex P) (three_p : 3 ≤ length P) (convex_q : IsConvex Q)
     (three_q : 3 ≤ length Q) (i : ℕ) (h : IsOuter Q i P) →
-    (v : Common) → IsCommonOf P Q v → (X : Place) (u : Frame) → Bears P Q u X
+    (v : Common) → IsCommonOf P Q v → (X : Triple) (u : Frame) → Bears P Q u X
     ↔ BearsBy v (corner_of Q i) (end_of Q i) X u
 later-edge P Q convex_p three_p convex_q three_q i h v m X u =
     let r = earlier-edge Q P convex_q three_q convex_p three_p i h (swapped v) (of-swapped P Q v m) X

@@ -11,24 +11,24 @@ use Rattle.stack_algebra.specs.Search.{next_round}
 use Rattle.stack_algebra.proofs.Integers.{sums, expand}
 use Rattle.stack_algebra.proofs.Order.{◌≼◌, ◌≺◌}
 use Rattle.stack_polygon.specs.declared.point.Point.{Point}
-use Rattle.stack_polygon.specs.Plane.{Place, IsSame, IsAt}
+use Rattle.stack_polygon.specs.Plane.{Triple, IsSamePoint, IsAt}
 use Rattle.stack_polygon.specs.Corners.{corner_of, end_of}
-use Rattle.stack_overlap.specs.Forms.{Form, IsBetween, value, at, line, along, square}
+use Rattle.stack_overlap.specs.Forms.{LinearForm, IsBetween, value, at_corner, line, along, square}
 use Rattle.stack_overlap.specs.CommonPoints.{IsCornerOf, IsStrictlyBetween, IsWithinEdge}
 use Rattle.stack_overlap.proofs.ByForms.{IsConvex, side-form, advance-form, back-advance}
 use Rattle.stack_overlap.proofs.Identities.{along-start, along-end}
 use Rattle.stack_overlap.proofs.Stretches.{is-mark, on-line, x_form, y_form}
 use Rattle.stack_overlap.proofs.Support.{next_below}
 use Rattle.stack_overlap.proofs.Edges.{edge_long, on-edge, start-mark, end-mark}
-use Rattle.stack_overlap.proofs.Pieces.{cancel}
+use Rattle.stack_algebra.proofs.CrossProducts.{cancel}
 use Rattle.stack_contact.specs.OnOutlines.{IsCorner}
 use Rattle.stack_contact.proofs.AcrossLines.{flat}
 
 -- strictly between two corners, by forms
 pub record IsStrictlyOn (a b c : Point) : Type 0 where
-  pub on_line : at (line a b) c ≡ pos 0
-  pub after : pos 0 ≺ at (along a b) c
-  pub before : at (along a b) c ≺ square a b
+  pub on_line : at_corner (line a b) c ≡ pos 0
+  pub after : pos 0 ≺ at_corner (along a b) c
+  pub before : at_corner (along a b) c ≺ square a b
 
 pub form-within : (a b c : Point) → IsStrictlyBetween a b c → IsStrictlyOn a b c
 form-within a b c h = record {
@@ -49,9 +49,9 @@ zero-product (negsuc s) (pos (suc c)) e = absurd (omega (arith, ints, e))
 zero-product (negsuc s) (negsuc c) e = absurd (omega (arith, ints, e))
 
 -- two points of a line with one place along it
-pub same-place : (a b : Point) (X Y : Place) → pos 0 ≺ square a b → value (line a b) X ≡ pos 0
+pub same-place : (a b : Point) (X Y : Triple) → pos 0 ≺ square a b → value (line a b) X ≡ pos 0
     → value (line a b) Y ≡ pos 0 →
-    value (along a b) Y *ℤ X.w ≡ value (along a b) X *ℤ Y.w → IsSame X Y
+    value (along a b) Y *ℤ X.w ≡ value (along a b) X *ℤ Y.w → IsSamePoint X Y
 same-place a b X Y long hx hy e = record {
   x = sym (ap (λ z. z *ℤ Y.w) (first X.x X.y X.w)) ∙ go (square a b) (value x_form X) (value x_form Y) X.w Y.w
       (value (along a b) X) (value (along a b) Y) _ _ long (on-line x_form a b X hx)
@@ -77,10 +77,10 @@ same-place a b X Y long hx hy e = record {
         (arith, sums, simp expand at e', simp expand at f', simp expand at g'))
 
 -- a corner at a corner's place
-pub corner-at : (R : List Point) (X : Place) (c : Point) → IsAt X c → IsCornerOf R c → IsCorner R X
+pub corner-at : (R : List Point) (X : Triple) (c : Point) → IsAt X c → IsCornerOf R c → IsCorner R X
 corner-at R X c h (j, (hj, e)) = (j, (hj, subst (λ p. IsAt X p) (sym e) h))
 
-pub at-corner : (R : List Point) (X : Place) (c : Point) → IsAt X c → IsCorner R X → IsCornerOf R c
+pub at-corner : (R : List Point) (X : Triple) (c : Point) → IsAt X c → IsCorner R X → IsCornerOf R c
 at-corner R X c h (j, (hj, k)) = (
   j,
   (hj, λ i. record { x = go X.w X.positive k.x h.x i; y = go X.w X.positive k.y h.y i }),
@@ -93,11 +93,11 @@ at-corner R X c h (j, (hj, k)) = (
 pub within-no-corner : (R : List Point) (convex : IsConvex R) (three : 3 ≤ length R) (k : ℕ) (c : Point)
     → IsWithinEdge R k c → IsCornerOf R c → ⊥
 within-no-corner R convex three k c (hk, n) (j, (hj, e)) = let w = form-within (corner_of R k)
-    (end_of R k) c n in elim (on-edge R convex three k j hk hj (none (ap (at (line (corner_of R k)
+    (end_of R k) c n in elim (on-edge R convex three k j hk hj (none (ap (at_corner (line (corner_of R k)
     (end_of R k))) e ∙ w.on_line))) [
-      | inl s ↦ start (sym (ap (λ p. at (along (corner_of R k) (end_of R k)) p) (sym (ap (corner_of R) s) ∙ e))
+      | inl s ↦ start (sym (ap (λ p. at_corner (along (corner_of R k) (end_of R k)) p) (sym (ap (corner_of R) s) ∙ e))
           ∙ along-start (corner_of R k) (end_of R k)) w.after
-      | inr s ↦ end (sym (ap (λ p. at (along (corner_of R k) (end_of R k)) p) (sym (ap (corner_of R) s) ∙ e))
+      | inr s ↦ end (sym (ap (λ p. at_corner (along (corner_of R k) (end_of R k)) p) (sym (ap (corner_of R) s) ∙ e))
           ∙ along-end (corner_of R k) (end_of R k)) w.before
     ]
   where
@@ -112,9 +112,9 @@ within-no-corner R convex three k c (hk, n) (j, (hj, e)) = let w = form-within (
 
 -- a form from 0 up at the corners that is 0 at a point of an edge that is no corner is 0 along the edge
 pub flat-edge : (R : List Point) (convex : IsConvex R) (three : 3 ≤ length R) (k : ℕ) → k < length R
-    → (X : Place) → IsBetween (corner_of R k) (end_of R k) X → ¬ (IsCorner R X) →
-    (g : Form) → ((j : ℕ) → j < length R → pos 0 ≼ at g (corner_of R j)) → value g X ≡ pos 0
-    → (at g (corner_of R k) ≡ pos 0) × (at g (end_of R k) ≡ pos 0)
+    → (X : Triple) → IsBetween (corner_of R k) (end_of R k) X → ¬ (IsCorner R X) →
+    (g : LinearForm) → ((j : ℕ) → j < length R → pos 0 ≼ at_corner g (corner_of R j)) → value g X ≡ pos 0
+    → (at_corner g (corner_of R k) ≡ pos 0) × (at_corner g (end_of R k) ≡ pos 0)
 flat-edge R convex three k hk X m alone g hg e =
     flat g c d X long m.on_line (after X.w m.above (λ s. alone (
       k,

@@ -5,7 +5,7 @@ use mathlib.Core.Path.{◌≡◌, sym, subst}
 use Prim.Native.Nat.{ℕ}
 use Rattle.std.specs.Prelude.{◌↔◌}
 use Rattle.stack_polygon.specs.declared.point.Point.{Point}
-use Rattle.stack_polygon.specs.Plane.{Place}
+use Rattle.stack_polygon.specs.Plane.{Triple}
 use Rattle.stack_polygon.specs.Corners.{corner_of, end_of}
 use Rattle.stack_frame.specs.declared.frame.Frame.{Frame}
 use Rattle.stack_overlap.specs.declared.types.Which.{Which}
@@ -42,7 +42,7 @@ to-frame a b t h = (frames-by-parallels (b.x -ℤ a.x) (b.y -ℤ a.y) t).1
 one-tangent : (a b : Point) (t u : Frame) → IsTangent a b t → IsFrameFrom a b u → t ≡ u
 one-tangent a b t u h k = one-frame (b.x -ℤ a.x) (b.y -ℤ a.y) t u (to-frame a b t h) k
 
-by-frame : (a b : Point) (u : Frame) → IsFrameFrom a b u → (v : Common) (X : Place) (t : Frame)
+by-frame : (a b : Point) (u : Frame) → IsFrameFrom a b u → (v : Common) (X : Triple) (t : Frame)
     → BearsBy v a b X t ↔ IsBearingAt (contacts_by v u) t X
 by-frame a b u k Nothing X t = (λ h. h, λ h. h)
 by-frame a b u k (Corner c) X t = (λ h. h, λ h. h)
@@ -58,7 +58,7 @@ by-frame a b u k (Segment c d) X t = (
 -- exactly the bearings
 bearings-by : (P Q : List Point) → IsPolygon P → IsPolygon Q → (w : Which) (i : ℕ) → IsSeparatedBy P Q w i
     → (v : Common)
-    → IsCommonOf P Q v → (u : Frame) → IsTangentBy P Q w i u → (t : Frame) (X : Place)
+    → IsCommonOf P Q v → (u : Frame) → IsTangentBy P Q w i u → (t : Frame) (X : Triple)
     → Bears P Q t X ↔ IsBearingAt (contacts_by v u) t X
 bearings-by P Q p q First i h v m u k t X = joined
     (earlier-edge P Q (convex-form P p.convex) p.least (convex-form Q q.convex) q.least i

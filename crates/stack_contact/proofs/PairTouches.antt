@@ -9,7 +9,7 @@ use Rattle.std.specs.Prelude.{◌↔◌}
 use Rattle.std.proofs.lemmas.Int.{ints}
 use Rattle.stack_algebra.proofs.Order.{◌≺◌}
 use Rattle.stack_polygon.specs.declared.point.Point.{Point}
-use Rattle.stack_polygon.specs.Plane.{Place, IsSame, IsAt}
+use Rattle.stack_polygon.specs.Plane.{Triple, IsSamePoint, IsAt}
 use Rattle.stack_frame.specs.declared.frame.Frame.{Frame}
 use Rattle.stack_overlap.specs.Separation.{IsCommon}
 use Rattle.stack_overlap.specs.declared.types.Which.{Which}
@@ -19,25 +19,25 @@ use Rattle.stack_overlap.specs.declared.types.Common.TheVariants.{Nothing, Corne
 use Rattle.stack_overlap.specs.CommonPoints.{IsCornerOf, IsOnOther, IsBefore, IsCommonOf}
 use Rattle.stack_overlap.proofs.ByForms.{IsConvex, segment-form}
 use Rattle.stack_overlap.proofs.Identities.{place}
-use Rattle.stack_overlap.proofs.Pieces.{cancel}
+use Rattle.stack_algebra.proofs.CrossProducts.{cancel}
 use Rattle.stack_overlap.proofs.Ends.{same-at}
 use Rattle.stack_contact.specs.Bearings.{Touches}
 use Rattle.stack_contact.proofs.OnCorners.{corner-at, at-corner, within-no-corner}
 use Rattle.stack_contact.proofs.EarlierEdge.{before-apart, start-between, end-between}
 use Rattle.stack_contact.specs.PairContacts.{IsTouchAt, contacts_by}
 
-nothing-touches : (P Q : List Point) → ((X : Place) → ¬ (IsCommon P Q X)) → (X : Place) → ¬ (Touches P Q X)
+nothing-touches : (P Q : List Point) → ((X : Triple) → ¬ (IsCommon P Q X)) → (X : Triple) → ¬ (Touches P Q X)
 nothing-touches P Q n X r = n X r.lone.common
 
 -- a triple that means the corner of another
-same-corner : (X : Place) (c : Point) → IsSame X (place c) → IsAt X c
+same-corner : (X : Triple) (c : Point) → IsSamePoint X (place c) → IsAt X c
 same-corner X c s = record { x = one X.x ∙ s.x; y = one X.y ∙ s.y }
   where
     one : (x : ℤ) → x ≡ x *ℤ pos 1
     one x = omega (arith, ints)
 
 -- a point at two corners, of which one is before the other
-at-two : (X : Place) (c d : Point) → IsBefore c d → IsAt X c → IsAt X d → ⊥
+at-two : (X : Triple) (c d : Point) → IsBefore c d → IsAt X c → IsAt X d → ⊥
 at-two X c d b h k = before-apart c d b
     (λ i. record { x = one X.w X.positive h.x k.x i; y = one X.w X.positive h.y k.y i })
   where
@@ -54,7 +54,7 @@ on-other P Q convex_p three_p convex_q three_q c Second k o m n = within-no-corn
 -- exactly the touches
 pub touches-by : (P Q : List Point) (convex_p : IsConvex P) (three_p : 3 ≤ length P) (convex_q : IsConvex Q)
     (three_q : 3 ≤ length Q)
-    (v : Common) → IsCommonOf P Q v → (u : Frame) (X : Place) → Touches P Q X ↔ IsTouchAt (contacts_by v u) X
+    (v : Common) → IsCommonOf P Q v → (u : Frame) (X : Triple) → Touches P Q X ↔ IsTouchAt (contacts_by v u) X
 touches-by P Q cp tp cq tq Nothing m u X = (nothing-touches P Q m X, λ z. absurd z)
 touches-by P Q cp tp cq tq (Corner c) m u X = (
   λ r. (m.2 X).0 r.lone.common,

@@ -11,12 +11,12 @@ use Rattle.std.proofs.lemmas.Int.{ints}
 use Rattle.stack_algebra.proofs.Integers.{sums, expand}
 use Rattle.stack_algebra.proofs.Order.{◌≼◌, ◌≺◌, mul_pos, mul_le_right}
 use Rattle.stack_polygon.specs.declared.point.Point.{Point}
-use Rattle.stack_polygon.specs.Plane.{Place, IsSame, IsAt}
+use Rattle.stack_polygon.specs.Plane.{Triple, IsSamePoint, IsAt}
 use Rattle.stack_polygon.specs.Corners.{corner_of, end_of}
 use Rattle.stack_frame.specs.declared.frame.Frame.{Frame}
 use Rattle.stack_overlap.specs.Separation.{IsCommon}
 use Rattle.stack_overlap.specs.Forms.{IsMark, IsOnStretch, value, line, along, square}
-use Rattle.stack_overlap.specs.Ends.{IsEndOf}
+use Rattle.stack_overlap.specs.Ends.{IsExtremeIn}
 use Rattle.stack_overlap.proofs.ByForms.{IsConvex, IsOuter}
 use Rattle.stack_overlap.proofs.Identities.{place}
 use Rattle.stack_overlap.proofs.Edges.{edge_long}
@@ -39,8 +39,8 @@ module _ (P Q : List Point) (convex_p : IsConvex P) (three_p : 3 ≤ length P) (
 
   -- a segment bears at its two ends, along the edge
   module _ (f t : ℤ) (F G : Point) (from : IsMark a b F f) (to : IsMark a b G t) (l : f ≺ t) (points :
-      (X : Place) → IsCommon P Q X ↔ IsOnStretch a b f t X) where
-    at-end : (X : Place) (c : Point) (k : ℤ) → IsMark a b c k → IsAt X c → value (along a b) X ≡ k *ℤ X.w
+      (X : Triple) → IsCommon P Q X ↔ IsOnStretch a b f t X) where
+    at-end : (X : Triple) (c : Point) (k : ℤ) → IsMark a b c k → IsAt X c → value (along a b) X ≡ k *ℤ X.w
     at-end X c k m e = value-at (along a b) c X e ∙ ap (λ z. z *ℤ X.w) m.place
 
     self : (z : ℤ) → z ≼ z
@@ -49,7 +49,7 @@ module _ (P Q : List Point) (convex_p : IsConvex P) (three_p : 3 ≤ length P) (
     weak : f ≼ t
     weak = omega (arith, sums)
 
-    common_at : (X : Place) (c : Point) (k : ℤ) → IsMark a b c k → f ≼ k → k ≼ t → IsAt X c → IsCommon P Q X
+    common_at : (X : Triple) (c : Point) (k : ℤ) → IsMark a b c k → f ≼ k → k ≼ t → IsAt X c → IsCommon P Q X
     common_at X c k m p q e = (points X).1 (record {
       on_line = value-at (line a b) c X e ∙ ap (λ z. z *ℤ X.w) m.on_line ∙ none X.w;
       above = subst (λ z. f *ℤ X.w ≼ z) (sym (at-end X c k m e)) (mul_le_right X.w f k (positive X.positive) p);
@@ -62,7 +62,7 @@ module _ (P Q : List Point) (convex_p : IsConvex P) (three_p : 3 ≤ length P) (
         positive : {z : ℤ} → pos 0 ≺ z → pos 0 ≼ z
         positive l = omega (arith, sums)
 
-    not-both : (X : Place) → IsAt X F → IsAt X G → ⊥
+    not-both : (X : Triple) → IsAt X F → IsAt X G → ⊥
     not-both X p q = go f t X.w X.positive l (sym (at-end X F f from p) ∙ at-end X G t to q)
       where
         go : (f t w : ℤ) → pos 0 ≺ w → f ≺ t → f *ℤ w ≡ t *ℤ w → ⊥
@@ -75,13 +75,13 @@ module _ (P Q : List Point) (convex_p : IsConvex P) (three_p : 3 ≤ length P) (
         one x = omega (arith, ints)
 
     -- a triple that means the corner of another
-    same-corner : (X : Place) (c : Point) → IsSame X (place c) → IsAt X c
+    same-corner : (X : Triple) (c : Point) → IsSamePoint X (place c) → IsAt X c
     same-corner X c s = record { x = one X.x ∙ s.x; y = one X.y ∙ s.y }
       where
         one : (x : ℤ) → x ≡ x *ℤ pos 1
         one x = omega (arith, ints)
 
-    pub segment-bears : (X : Place) (u : Frame) → Bears P Q u X ↔ ((IsAt X F ⊎ IsAt X G) × IsTangent b a u)
+    pub segment-bears : (X : Triple) (u : Frame) → Bears P Q u X ↔ ((IsAt X F ⊎ IsAt X G) × IsTangent b a u)
     segment-bears X u = (there, back)
       where
         there : Bears P Q u X → (IsAt X F ⊎ IsAt X G) × IsTangent b a u
@@ -98,7 +98,7 @@ module _ (P Q : List Point) (convex_p : IsConvex P) (three_p : 3 ≤ length P) (
               ]) r.lowest r.earlier_right,
         )
 
-        whole : IsCommon P Q X → IsEndOf (IsCommon P Q) X → (Y : Place) → IsCommon P Q Y → ¬ (IsSame X Y)
+        whole : IsCommon P Q X → IsExtremeIn (IsCommon P Q) X → (Y : Triple) → IsCommon P Q Y → ¬ (IsSamePoint X Y)
             → IsTangent b a u → Bears P Q u X
         whole m e Y my n k = record {
           is_end = e;

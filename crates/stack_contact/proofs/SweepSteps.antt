@@ -16,7 +16,7 @@ use Rattle.stack_model.specs.Structure.{Structure, body_of}
 use Rattle.stack_contact.specs.declared.sweeping.Placed.{Placed}
 use Rattle.stack_contact.specs.declared.sweeping.Pair.{Pair}
 use Rattle.stack_contact.specs.ContactLists.{corners_of, IsPair, PairBefore}
-use Rattle.stack_contact.specs.NearPairs.{placed_at, body_at, AreFromLeft, AreFar, IsPairOf, pair, IsListed}
+use Rattle.stack_contact.specs.NearPairs.{placed_at, placed_body, AreFromLeft, AreFar, IsPairOf, pair, IsListed}
 use Rattle.stack_contact.specs.NearPairs.{IsSwept, AreSwept, AreNearPairs}
 use Rattle.stack_contact.proofs.FoundSteps.{before-next}
 use Rattle.stack_contact.proofs.FarBodies.{far-back, far-apart, far-beyond}
@@ -44,7 +44,8 @@ module _ (s : Structure) (one other : ℕ) (ps : List Pair) where
       same (λ p. inl far) (λ p. inl (far-back s one other far))
 
   pub with-itself : one ≡ other → IsSwept s one other ps ps
-  with-itself e = same (λ p. let o = p.in_order in absurd (omega arith)) (λ p. let o = p.in_order in absurd (omega arith))
+  with-itself e = same (λ p. let o = p.in_order in absurd (omega arith))
+      (λ p. let o = p.in_order in absurd (omega arith))
 
   pub added : (p : Pair) → IsPairOf one other p → one < length s.bodies → other < length s.bodies
       → ((body_of s one).fixed && (body_of s other).fixed) ≡ false → IsSwept s one other ps (ps ++ p ∷ [])
@@ -85,14 +86,14 @@ module _ (s : Structure) (one other : ℕ) (ps : List Pair) where
 module _ (s : Structure) (bs : List Placed) where
   -- to another place: the pairs before it were looked at, or their bodies are far
   moved-swept : (k m n o : ℕ) → ((a b : ℕ) → a < b → b < length bs → PairBefore a b n o
-      → PairBefore a b k m ⊎ AreFar s (body_at bs a) (body_at bs b))
+      → PairBefore a b k m ⊎ AreFar s (placed_body bs a) (placed_body bs b))
       → (ps : List Pair) → AreSwept s bs k m ps → AreSwept s bs n o ps
   moved-swept k m n o back ps h = record {
     pairs = h.pairs;
     forth = λ a b l o p. elim (back a b l o p) [ inl g ↦ h.forth a b l o g | inr f ↦ λ q. inl f ];
     back = λ a b l o p. elim (back a b l o p) [
       | inl g ↦ h.back a b l o g
-      | inr f ↦ λ q. inl (far-back s (body_at bs a) (body_at bs b) f)
+      | inr f ↦ λ q. inl (far-back s (placed_body bs a) (placed_body bs b) f)
     ];
   }
 
@@ -108,16 +109,16 @@ module _ (s : Structure) (bs : List Placed) where
       none a b l (inr (e, m)) = omega arith
 
   pub next-swept : (k m : ℕ) (ps qs : List Pair) → AreSwept s bs k m ps
-      → IsSwept s (body_at bs k) (body_at bs m) ps qs → AreSwept s bs k (m + 1) qs
+      → IsSwept s (placed_body bs k) (placed_body bs m) ps qs → AreSwept s bs k (m + 1) qs
   next-swept k m ps qs h w = subst (λ n. AreSwept s bs k n qs) (one-more m) (record {
     pairs = w.pairs h.pairs;
     forth = λ a b l o p. elim (before-next a b k m p) [
-      | inl g ↦ kept (body_at bs a) (body_at bs b) (h.forth a b l o g)
-      | inr g ↦ subst₂ (λ a b. IsListed s qs (body_at bs a) (body_at bs b)) (sym g.0) (sym g.1) w.forth
+      | inl g ↦ kept (placed_body bs a) (placed_body bs b) (h.forth a b l o g)
+      | inr g ↦ subst₂ (λ a b. IsListed s qs (placed_body bs a) (placed_body bs b)) (sym g.0) (sym g.1) w.forth
     ];
     back = λ a b l o p. elim (before-next a b k m p) [
-      | inl g ↦ kept (body_at bs b) (body_at bs a) (h.back a b l o g)
-      | inr g ↦ subst₂ (λ a b. IsListed s qs (body_at bs b) (body_at bs a)) (sym g.0) (sym g.1) w.back
+      | inl g ↦ kept (placed_body bs b) (placed_body bs a) (h.back a b l o g)
+      | inr g ↦ subst₂ (λ a b. IsListed s qs (placed_body bs b) (placed_body bs a)) (sym g.0) (sym g.1) w.back
     ];
   })
     where
@@ -141,7 +142,7 @@ module _ (s : Structure) (bs : List Placed) where
 
   -- the sweep of a body stops at the first one that begins beyond its end
   pub row-stopped : AreFromLeft s bs → (k m : ℕ) → m < length bs → (P : List Point)
-      → P ≡ corners_of s (body_at bs k) → IsPolygon P → (a : Span) → IsSpanOf P a → a.x1 ≺ (placed_at bs m).x0
+      → P ≡ corners_of s (placed_body bs k) → IsPolygon P → (a : Span) → IsSpanOf P a → a.x1 ≺ (placed_at bs m).x0
       → (ps : List Pair) → AreSwept s bs k m ps → AreSwept s bs (suc k) (suc (suc k)) ps
   row-stopped order k m within P e p a h l ps w = moved-swept k m (suc k) (suc (suc k))
       (λ a b o n p. elim (in-row k a b o p) [ inl g ↦ inl (inl g) | inr e ↦ later a b n e (which b m) ]) ps w
@@ -155,12 +156,12 @@ module _ (s : Structure) (bs : List Placed) where
       past l m = omega (arith, sums)
 
       later : (c b : ℕ) → b < length bs → c ≡ k → (b < m) ⊎ (m ≤ b)
-          → PairBefore c b k m ⊎ AreFar s (body_at bs c) (body_at bs b)
+          → PairBefore c b k m ⊎ AreFar s (placed_body bs c) (placed_body bs b)
       later c b n d (inl g) = inl (inr (d, g))
       later c b n d (inr g) =
           let placed = order.each b (record { x0 = _; body = _ }) n in
-          inr (subst (λ c. AreFar s (body_at bs c) (body_at bs b)) (sym d)
-          (far-beyond s (body_at bs k) (body_at bs b) P e p a h placed.polygon (placed_at bs b).x0 placed.begins
+          inr (subst (λ c. AreFar s (placed_body bs c) (placed_body bs b)) (sym d)
+          (far-beyond s (placed_body bs k) (placed_body bs b) P e p a h placed.polygon (placed_at bs b).x0 placed.begins
           (past l (order.rising m b g n))))
 
   -- past the last body all pairs were looked at
@@ -185,11 +186,11 @@ module _ (s : Structure) (bs : List Placed) where
         | inr (inr e) ↦ inr (inr (ap suc e))
       ]
 
-      settled : (i j a b : ℕ) → a < length bs → body_at bs a ≡ i → b < length bs → body_at bs b ≡ j → i < j
+      settled : (i j a b : ℕ) → a < length bs → placed_body bs a ≡ i → b < length bs → placed_body bs b ≡ j → i < j
           → (a < b) ⊎ ((b < a) ⊎ (a ≡ b)) → IsListed s ps i j
       settled i j a b la ea lb eb o (inl g) = subst₂ (IsListed s ps) ea eb
           (h.forth a b g lb (inl (omega arith)))
       settled i j a b la ea lb eb o (inr (inl g)) = subst₂ (IsListed s ps) ea eb
           (h.back b a g la (inl (omega arith)))
       settled i j a b la ea lb eb o (inr (inr g)) =
-          let e : i ≡ j = sym ea ∙ ap (body_at bs) g ∙ eb in absurd (omega arith)
+          let e : i ≡ j = sym ea ∙ ap (placed_body bs) g ∙ eb in absurd (omega arith)

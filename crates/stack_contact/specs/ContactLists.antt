@@ -1,7 +1,7 @@
 -- The bearings and the touches of a structure, each as the one list that has all of them in order.
 use Rattle.std.specs.Prelude.{◌≡◌, ℕ, ◌<◌, ◌⊎◌, ◌&&◌, false, List, length, Some, slice_get}
 use Rattle.stack_polygon.specs.declared.point.Point.{Point}
-use Rattle.stack_polygon.specs.Plane.{Place, IsAt}
+use Rattle.stack_polygon.specs.Plane.{Triple, IsAt}
 use Rattle.stack_frame.specs.declared.frame.Frame.{Frame}
 use Rattle.stack_frame.specs.declared.cone.Cone.{Cone}
 use Rattle.stack_frame.specs.Cones.{cone, lesser_of}
@@ -21,11 +21,11 @@ pub record IsPair (s : Structure) (i j : ℕ) : Type 0 where
   pub not_both_fixed : ((body_of s i).fixed && (body_of s j).fixed) ≡ false
 
 -- the friction of a body's material, and the lesser one of two bodies
-abbrev pub friction_of : Structure → ℕ → Cone
-friction_of s i = let m = material_of s (body_of s i).material in cone m.p m.q
+abbrev pub body_friction : Structure → ℕ → Cone
+body_friction s i = let m = material_of s (body_of s i).material in cone m.p m.q
 
 abbrev pub friction_between : Structure → ℕ → ℕ → Cone
-friction_between s i j = lesser_of (friction_of s i) (friction_of s j)
+friction_between s i j = lesser_of (body_friction s i) (body_friction s j)
 
 -- the pair i, j comes before the pair k, l
 abbrev pub PairBefore : ℕ → ℕ → ℕ → ℕ → Type 0
@@ -38,11 +38,11 @@ ComesBefore i j a k l b = PairBefore i j k l ⊎ ((i ≡ k) × (j ≡ l) × IsBe
 -- the pair bears there, with the lesser friction
 pub record IsBearing (s : Structure) (z : Bearing) : Type 0 where
   pub pair : IsPair s z.first z.second
-  pub bears : (X : Place) → IsAt X z.at → Bears (corners_of s z.first) (corners_of s z.second) z.frame X
+  pub bears : (X : Triple) → IsAt X z.at → Bears (corners_of s z.first) (corners_of s z.second) z.frame X
   pub friction : z.cone ≡ friction_between s z.first z.second
 
 -- the bearing is that of bodies i and j at X along t
-pub record IsBearingOf (i j : ℕ) (t : Frame) (X : Place) (z : Bearing) : Type 0 where
+pub record IsBearingOf (i j : ℕ) (t : Frame) (X : Triple) (z : Bearing) : Type 0 where
   pub first : z.first ≡ i
   pub second : z.second ≡ j
   pub along : z.frame ≡ t
@@ -51,7 +51,7 @@ pub record IsBearingOf (i j : ℕ) (t : Frame) (X : Place) (z : Bearing) : Type 
 -- the list of all bearings, in order, each once: also of those at points of the plane that are no whole points
 pub record AreBearings (s : Structure) (zs : List Bearing) : Type 0 where
   pub each : (k : ℕ) (z : Bearing) → slice_get zs k ≡ Some z → IsBearing s z
-  pub all : (i j : ℕ) (t : Frame) (X : Place) → IsPair s i j → Bears (corners_of s i) (corners_of s j) t X →
+  pub all : (i j : ℕ) (t : Frame) (X : Triple) → IsPair s i j → Bears (corners_of s i) (corners_of s j) t X →
       (k : ℕ) × (z : Bearing) × ((slice_get zs k ≡ Some z) × IsBearingOf i j t X z)
   pub in_order : (k l : ℕ) (y z : Bearing) → k < l → slice_get zs k ≡ Some y → slice_get zs l ≡ Some z →
       ComesBefore y.first y.second y.at z.first z.second z.at
@@ -59,10 +59,10 @@ pub record AreBearings (s : Structure) (zs : List Bearing) : Type 0 where
 -- the pair touches there
 pub record IsTouch (s : Structure) (z : Touch) : Type 0 where
   pub pair : IsPair s z.first z.second
-  pub touches : (X : Place) → IsAt X z.at → Touches (corners_of s z.first) (corners_of s z.second) X
+  pub touches : (X : Triple) → IsAt X z.at → Touches (corners_of s z.first) (corners_of s z.second) X
 
 -- the touch is that of bodies i and j at X
-pub record IsTouchOf (i j : ℕ) (X : Place) (z : Touch) : Type 0 where
+pub record IsTouchOf (i j : ℕ) (X : Triple) (z : Touch) : Type 0 where
   pub first : z.first ≡ i
   pub second : z.second ≡ j
   pub at : IsAt X z.at
@@ -70,7 +70,7 @@ pub record IsTouchOf (i j : ℕ) (X : Place) (z : Touch) : Type 0 where
 -- the list of all touches, in order, each once
 pub record AreTouches (s : Structure) (zs : List Touch) : Type 0 where
   pub each : (k : ℕ) (z : Touch) → slice_get zs k ≡ Some z → IsTouch s z
-  pub all : (i j : ℕ) (X : Place) → IsPair s i j → Touches (corners_of s i) (corners_of s j) X →
+  pub all : (i j : ℕ) (X : Triple) → IsPair s i j → Touches (corners_of s i) (corners_of s j) X →
       (k : ℕ) × (z : Touch) × ((slice_get zs k ≡ Some z) × IsTouchOf i j X z)
   pub in_order : (k l : ℕ) (y z : Touch) → k < l → slice_get zs k ≡ Some y → slice_get zs l ≡ Some z →
       ComesBefore y.first y.second y.at z.first z.second z.at

@@ -1,6 +1,6 @@
 -- The contacts of the pairs that come before a given one, as the survey finds them pair by pair.
 use Rattle.std.specs.Prelude.{◌≡◌, ℕ, ◌<◌, List, [], ◌∷◌, Some, ⊤, slice_get}
-use Rattle.stack_polygon.specs.Plane.{Place}
+use Rattle.stack_polygon.specs.Plane.{Triple}
 use Rattle.stack_frame.specs.declared.frame.Frame.{Frame}
 use Rattle.stack_frame.specs.declared.cone.Cone.{Cone}
 use Rattle.stack_overlap.specs.Separation.{Overlaps}
@@ -33,7 +33,7 @@ touches_in i j (AtTwo c d t) = []
 -- all bearings of the pairs before k, l, in order
 pub record AreBearingsTo (s : Structure) (k l : ℕ) (zs : List Bearing) : Type 0 where
   pub each : (n : ℕ) (z : Bearing) → slice_get zs n ≡ Some z → IsBearing s z × PairBefore z.first z.second k l
-  pub all : (i j : ℕ) (t : Frame) (X : Place) → IsPair s i j → PairBefore i j k l
+  pub all : (i j : ℕ) (t : Frame) (X : Triple) → IsPair s i j → PairBefore i j k l
       → Bears (corners_of s i) (corners_of s j) t X
       → (n : ℕ) × (z : Bearing) × ((slice_get zs n ≡ Some z) × IsBearingOf i j t X z)
   pub in_order : (m n : ℕ) (y z : Bearing) → m < n → slice_get zs m ≡ Some y → slice_get zs n ≡ Some z
@@ -42,7 +42,7 @@ pub record AreBearingsTo (s : Structure) (k l : ℕ) (zs : List Bearing) : Type 
 -- all touches of the pairs before k, l, in order
 pub record AreTouchesTo (s : Structure) (k l : ℕ) (zs : List Touch) : Type 0 where
   pub each : (n : ℕ) (z : Touch) → slice_get zs n ≡ Some z → IsTouch s z × PairBefore z.first z.second k l
-  pub all : (i j : ℕ) (X : Place) → IsPair s i j → PairBefore i j k l
+  pub all : (i j : ℕ) (X : Triple) → IsPair s i j → PairBefore i j k l
       → Touches (corners_of s i) (corners_of s j) X
       → (n : ℕ) × (z : Touch) × ((slice_get zs n ≡ Some z) × IsTouchOf i j X z)
   pub in_order : (m n : ℕ) (y z : Touch) → m < n → slice_get zs m ≡ Some y → slice_get zs n ≡ Some z

@@ -2,7 +2,7 @@
 use Rattle.std.specs.Prelude.{◌≡◌, ℕ, ◌<◌, ◌≤◌, ◌⊎◌, pos, List, length, get_or}
 use Rattle.std.specs.List.{All, Contains}
 use Rattle.stack_algebra.specs.IntegerOrder.{◌≼◌}
-use Rattle.stack_polygon.specs.Plane.{Place}
+use Rattle.stack_polygon.specs.Plane.{Triple}
 use Rattle.stack_polygon.specs.Corners.{corner_of}
 use Rattle.stack_polygon.specs.Limits.{IsPolygon}
 use Rattle.stack_polygon.specs.Spans.{IsLeast}
@@ -13,7 +13,7 @@ use Rattle.stack_contact.specs.declared.sweeping.Pair.{Pair}
 use Rattle.stack_contact.specs.ContactLists.{corners_of, IsPair, PairBefore}
 
 -- a body with the least x of its corners
-pub record IsPlaced (s : Structure) (b : Placed) : Type 0 where
+pub record IsPlacedBody (s : Structure) (b : Placed) : Type 0 where
   pub is_body : b.body < length s.bodies
   pub polygon : IsPolygon (corners_of s b.body)
   pub begins : IsLeast (length (corners_of s b.body)) (λ j. (corner_of (corners_of s b.body) j).x) b.x0
@@ -21,18 +21,18 @@ pub record IsPlaced (s : Structure) (b : Placed) : Type 0 where
 abbrev pub placed_at : List Placed → ℕ → Placed
 placed_at bs k = get_or bs k (record { x0 = pos 0; body = 0 })
 
-abbrev pub body_at : List Placed → ℕ → ℕ
-body_at bs k = (placed_at bs k).body
+abbrev pub placed_body : List Placed → ℕ → ℕ
+placed_body bs k = (placed_at bs k).body
 
 -- all bodies, by the least x of their corners
 pub record AreFromLeft (s : Structure) (bs : List Placed) : Type 0 where
-  pub each : All (IsPlaced s) bs
-  pub all : (i : ℕ) → i < length s.bodies → (k : ℕ) × ((k < length bs) × (body_at bs k ≡ i))
+  pub each : All (IsPlacedBody s) bs
+  pub all : (i : ℕ) → i < length s.bodies → (k : ℕ) × ((k < length bs) × (placed_body bs k ≡ i))
   pub rising : (k m : ℕ) → k ≤ m → m < length bs → (placed_at bs k).x0 ≼ (placed_at bs m).x0
 
 -- no point is common to two bodies
 abbrev pub AreFar : Structure → ℕ → ℕ → Type 0
-AreFar s i j = (X : Place) → ¬ (IsCommon (corners_of s i) (corners_of s j) X)
+AreFar s i j = (X : Triple) → ¬ (IsCommon (corners_of s i) (corners_of s j) X)
 
 -- a pair of two bodies, in order
 pub record IsPairOf (one other : ℕ) (p : Pair) : Type 0 where
@@ -59,8 +59,10 @@ pub record IsSwept (s : Structure) (one other : ℕ) (ps qs : List Pair) : Type 
 -- the sweep has looked at the bodies a, b from the left with a below k, or a = k and b below m
 pub record AreSwept (s : Structure) (bs : List Placed) (k m : ℕ) (ps : List Pair) : Type 0 where
   pub pairs : ArePairs s ps
-  pub forth : (a b : ℕ) → a < b → b < length bs → PairBefore a b k m → IsListed s ps (body_at bs a) (body_at bs b)
-  pub back : (a b : ℕ) → a < b → b < length bs → PairBefore a b k m → IsListed s ps (body_at bs b) (body_at bs a)
+  pub forth : (a b : ℕ) → a < b → b < length bs → PairBefore a b k m
+      → IsListed s ps (placed_body bs a) (placed_body bs b)
+  pub back : (a b : ℕ) → a < b → b < length bs → PairBefore a b k m
+      → IsListed s ps (placed_body bs b) (placed_body bs a)
 
 -- all pairs but those that have nothing in common
 pub record AreNearPairs (s : Structure) (ps : List Pair) : Type 0 where

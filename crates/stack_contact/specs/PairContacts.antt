@@ -1,7 +1,7 @@
 -- The contacts of one pair of polygons, as the survey finds them: by an edge that separates the two.
 use Rattle.std.specs.Prelude.{◌≡◌, ◌↔◌, ℕ, ◌-ℤ◌, ◌⊎◌, List, ⊤}
 use Rattle.stack_polygon.specs.declared.point.Point.{Point}
-use Rattle.stack_polygon.specs.Plane.{Place, IsAt}
+use Rattle.stack_polygon.specs.Plane.{Triple, IsAt}
 use Rattle.stack_polygon.specs.Corners.{corner_of, end_of}
 use Rattle.stack_frame.specs.declared.frame.Frame.{Frame}
 use Rattle.stack_frame.specs.Directions.{IsFrameOf}
@@ -31,14 +31,14 @@ contacts_by (OnEdge c e) t = AtOne c t
 contacts_by (Segment c d) t = AtTwo c d t
 
 -- the answer has a bearing at X along t
-abbrev pub IsBearingAt : Contacts → Frame → Place → Type 0
+abbrev pub IsBearingAt : Contacts → Frame → Triple → Type 0
 IsBearingAt Free t X = ⊥
 IsBearingAt (Touching c) t X = ⊥
 IsBearingAt (AtOne c u) t X = IsAt X c × (t ≡ u)
 IsBearingAt (AtTwo c d u) t X = (IsAt X c ⊎ IsAt X d) × (t ≡ u)
 
 -- the answer has a touch at X
-abbrev pub IsTouchAt : Contacts → Place → Type 0
+abbrev pub IsTouchAt : Contacts → Triple → Type 0
 IsTouchAt Free X = ⊥
 IsTouchAt (Touching c) X = IsAt X c
 IsTouchAt (AtOne c u) X = ⊥
@@ -53,6 +53,6 @@ IsInOrder (AtTwo c d u) = IsBefore c d
 
 -- exactly the bearings and the touches of the pair, in order
 pub record AreContacts (ps qs : List Point) (c : Contacts) : Type 0 where
-  pub bearings : (t : Frame) (X : Place) → Bears ps qs t X ↔ IsBearingAt c t X
-  pub touches : (X : Place) → Touches ps qs X ↔ IsTouchAt c X
+  pub bearings : (t : Frame) (X : Triple) → Bears ps qs t X ↔ IsBearingAt c t X
+  pub touches : (X : Triple) → Touches ps qs X ↔ IsTouchAt c X
   pub in_order : IsInOrder c

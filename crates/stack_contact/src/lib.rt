@@ -1,4 +1,10 @@
 //! The contacts of a structure: where its bodies bear on one another, and where they only touch.
+//!
+//! ```text
+//! let survey = survey(alloc, model)?; // a post 2 wide and 4 high on the ground
+//! survey.bearings().len() == 2 // at the ends of its foot
+//! survey.touches().len() == 0
+//! ```
 #![tactic(auto)]
 
 pub mod laws;

@@ -3,7 +3,7 @@
 ghost use Rattle.std.specs.Prelude.{◌≡◌, ◌<◌, suc, length, ◌++◌, IfOk, MatchResult};
 ghost use Rattle.stack_model.specs.ModelView.{model_view};
 ghost use Rattle.stack_frame.specs.Cones.{IsCoefficient};
-ghost use Rattle.stack_contact.specs.ContactLists.{friction_of, friction_between, IsPair};
+ghost use Rattle.stack_contact.specs.ContactLists.{body_friction, friction_between, IsPair};
 ghost use Rattle.stack_contact.specs.NearPairs.{AreNearPairs, IsOrdered};
 ghost use Rattle.stack_contact.specs.Found.{bearings_in, touches_in, AreFound, AreAllFound, Stops};
 
@@ -24,7 +24,7 @@ pub struct Lists {
 /// The coefficient of a body's material.
 fn friction(model: &Model, body: usize) -> Cone
     requires { body < length (model_view model.now).bodies }
-    ensures is { result ≡ friction_of (model_view model.now) body }
+    ensures is { result ≡ body_friction (model_view model.now) body }
     ensures within { IsCoefficient result }
 {
     let material = model.material(model.body(body).material);

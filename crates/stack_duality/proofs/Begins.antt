@@ -1,5 +1,6 @@
 -- The written table is a table of phase 1, so the run of a problem gives what its end says over the first rows.
-use Rattle.std.proofs.Common.{◌≡◌, ◌≢◌, refl, sym, ap, subst, ◌∙◌, ℕ, zero, suc, ◌<◌, ◌≤◌, ◌+◌, ◌-◌, Bool, true, false, cond, ltb, leb, ◌&&◌, inr, arith}
+use Rattle.std.proofs.Common.{◌≡◌, ◌≢◌, refl, sym, ap, subst, ◌∙◌, ℕ, zero, suc, ◌<◌, ◌≤◌, ◌+◌, ◌-◌, Bool, true}
+use Rattle.std.proofs.Common.{false, cond, ltb, leb, ◌&&◌, inr, arith}
 use Rattle.std.proofs.lemmas.Bool.{ltb-true, lt-ltb, leb-true, le-leb}
 use native.Mathlib.Decide.{dec_le, dec_lt}
 use lib.IntN.{pos, negsuc}
@@ -114,7 +115,7 @@ module _ (F : Ordered) (P : Problem) where
   }
 
   -- the written run of a problem gives over the first rows what its end says
-  pub written_run-gives : (passes : Op → F.C → F.C → Bool) (budget : ℕ) →
-      EndOverRows F P.shape (first_row F P) (written_run F P.shape passes budget (written_table F P))
-  written_run-gives passes budget =
-      run_gives F P.shape A passes (first_rows F P) budget (written_table F P) first_table
+  pub written_run-gives : (is_too_wide : Op → F.C → F.C → Bool) (budget : ℕ) →
+      EndOverRows F P.shape (first_row F P) (written_run F P.shape is_too_wide budget (written_table F P))
+  written_run-gives is_too_wide budget =
+      run_gives F P.shape A is_too_wide (first_rows F P) budget (written_table F P) first_table

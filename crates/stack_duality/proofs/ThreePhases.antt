@@ -1,5 +1,6 @@
 -- The tables of the three phases: each turn keeps them, and each phase begins with one.
-use Rattle.std.proofs.Common.{◌≡◌, ◌≢◌, refl, sym, ap, subst, ◌∙◌, ℕ, suc, ◌<◌, ◌≤◌, ◌⊎◌, inl, inr, true, false, eqb, not, arith, Option, Some, None}
+use Rattle.std.proofs.Common.{◌≡◌, ◌≢◌, refl, sym, ap, subst, ◌∙◌, ℕ, suc, ◌<◌, ◌≤◌, ◌⊎◌, inl, inr, true, false, eqb}
+use Rattle.std.proofs.Common.{not, arith, Option, Some, None}
 use Rattle.std.proofs.lemmas.Bool.{eqb-true, eqb-false}
 use native.Mathlib.Decide.{ℕ_discrete}
 use lib.IntN.{pos, negsuc}
@@ -14,8 +15,9 @@ use Rattle.stack_algebra.specs.Rows.{none, dot, Combination}
 use Rattle.stack_algebra.specs.Rows.{changed, Tableau, next}
 use Rattle.stack_algebra.proofs.Pivots.{changed-same, changed-other}
 use Rattle.stack_algebra.proofs.Tableaus.{tableau_after, right_sides}
-use Rattle.stack_table.specs.Table.{Shape, Tabled, plain, columns, right, pivoted_at, with_objective, factor_objective, clear_objective, set_factor_objective}
-use Rattle.stack_bland.specs.Choice.{is_minus, is_nought}
+use Rattle.stack_table.specs.Table.{Shape, Tabled, plain, columns, right, pivoted_at, with_objective}
+use Rattle.stack_table.specs.Table.{factor_objective, clear_objective, set_factor_objective}
+use Rattle.stack_bland.specs.Choice.{is_negative_sign, is_nought}
 use Rattle.stack_duality.specs.PhaseTables.{own_first, own_third, IsFirst, IsThird}
 use Rattle.stack_duality.proofs.RowEnds.{Stands}
 use Rattle.stack_duality.proofs.Solutions.{solution}
@@ -23,13 +25,13 @@ use Rattle.stack_duality.proofs.Duality.{feasible_balances, artificial_values, v
 use Rattle.stack_duality.proofs.TurnsKeep.{Due}
 
 -- signs by their tests
-pub sign-minus : (s : Sign) → is_minus s ≡ true → s ≡ minus
+pub sign-minus : (s : Sign) → is_negative_sign s ≡ true → s ≡ minus
 sign-minus minus e = refl
 sign-minus nought e = absurd cc
 sign-minus plus e = absurd cc
 
-pub sign_not-minus : (s : Sign) → is_minus s ≡ false → s ≢ minus
-sign_not-minus s e d = let h = sym e ∙ ap is_minus d in cc
+pub sign_not-minus : (s : Sign) → is_negative_sign s ≡ false → s ≢ minus
+sign_not-minus s e d = let h = sym e ∙ ap is_negative_sign d in cc
 
 pub sign-nought : (s : Sign) → not (is_nought s) ≡ false → s ≡ nought
 sign-nought minus e = absurd cc

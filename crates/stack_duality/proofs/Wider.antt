@@ -1,21 +1,26 @@
--- A run under a rule that lets pass less is the same run, unless the stricter one is refused.
-use Rattle.std.proofs.Common.{◌≡◌, refl, sym, ap, subst, ◌∙◌, ℕ, zero, suc, Bool, true, false, cond, leb, Option, Some, None}
+-- A run under a rule that finds less too wide is the same run, unless the stricter one is refused.
+use Rattle.std.proofs.Common.{◌≡◌, refl, sym, ap, subst, ◌∙◌, ℕ, zero, suc, Bool, true, false, cond, leb, Option}
+use Rattle.std.proofs.Common.{Some, None}
 use Rattle.stack_algebra.specs.Ordered.{Ordered}
 use Rattle.stack_algebra.specs.Search.{first, or_else, only_if}
 use Rattle.stack_algebra.proofs.OrderedFractions.{ordered_fractions}
 use Rattle.stack_rational.specs.declared.exact.Op.{Op}
 use Rattle.stack_rational.specs.declared.exact.Op.TheVariants.{Difference, Product, Quotient}
-use Rattle.stack_rational.specs.Passes.{passes}
-use Rattle.stack_rational.proofs.WiderAgrees.{wider_never_passes}
+use Rattle.stack_rational.specs.TooWide.{is_too_wide}
+use Rattle.stack_rational.proofs.WiderAgrees.{wider_is_never_too_wide}
 use Rattle.stack_table.specs.declared.types.PivotWide.{PivotWide}
 use Rattle.stack_table.specs.declared.types.Step.{Step}
 use Rattle.stack_table.specs.declared.types.Step.TheVariants.{Divide, Multiply, Subtract}
-use Rattle.stack_table.specs.Table.{Shape, Tabled, plain, width, right, pivoted_at, clear_objective, set_factor_objective}
+use Rattle.stack_table.specs.Table.{Shape, Tabled, plain, width, right, pivoted_at, clear_objective}
+use Rattle.stack_table.specs.Table.{set_factor_objective}
 use Rattle.stack_table.specs.Spots.{divided, spot_if, pivot_spot}
 use Rattle.stack_table.specs.WrittenTable.{written_table}
-use Rattle.stack_bland.specs.Choice.{is_minus, is_plus, entering, leaving, ratio_row}
-use Rattle.stack_duality.specs.WrittenRun.{Choice, stays, rises, due, refused, Stop, settled, unlimited, passing, spent, End, infeasible, feasible, optimal, ray, wide, over, after, on_spot, on_choice, chosen_at, chosen_in, choose, turns, driven_column, drive_at, drive_row, drives, third_end, past_first, first_end, written_run}
-use Rattle.stack_duality.specs.Laws.{run_at, PassesNowhere, WiderRunIsSame}
+use Rattle.stack_bland.specs.Choice.{is_negative_sign, is_plus, entering, leaving, ratio_row}
+use Rattle.stack_duality.specs.WrittenRun.{Choice, stays, rises, due, refused, PhaseStop, settled, unlimited, wide_at}
+use Rattle.stack_duality.specs.WrittenRun.{spent, End, infeasible, feasible, optimal, ray, wide, over, after_phase}
+use Rattle.stack_duality.specs.WrittenRun.{on_spot, on_choice, chosen_at, chosen_in, choose, turns, driven_column}
+use Rattle.stack_duality.specs.WrittenRun.{drive_at, drive_row, drives, third_end, past_first, first_end, written_run}
+use Rattle.stack_duality.specs.Laws.{run_at, IsNowhereTooWide, WiderRunIsSame}
 
 -- y is x, unless x is refused: for spots, choices, stops and ends
 abbrev SameSpot : {P : Type 0} → Option P → Option P → Type 0
@@ -30,8 +35,8 @@ SameChoice (rises c) y = y ≡ rises c
 SameChoice (due r c) y = y ≡ due r c
 
 -- stops
-abbrev SameStop : {C : Type 0} → Stop C → Stop C → Type 0
-SameStop (passing p k s) y = Unit {0}
+abbrev SameStop : {C : Type 0} → PhaseStop C → PhaseStop C → Type 0
+SameStop (wide_at p k s) y = Unit {0}
 SameStop (settled l d T) y = y ≡ settled l d T
 SameStop (unlimited T c) y = y ≡ unlimited T c
 SameStop spent y = y ≡ spent
@@ -75,16 +80,16 @@ only_if-same true b s h = tt
 only_if-same false b s h = ap (λ b. only_if b s) (h refl)
 
 module _ (F : Ordered) (S : Shape) (narrow broad : Op → F.C → F.C → Bool)
-    (less_passes : (o : Op) (x y : F.C) → narrow o x y ≡ false → broad o x y ≡ false) where
+    (less_too_wide : (o : Op) (x y : F.C) → narrow o x y ≡ false → broad o x y ≡ false) where
   -- spots of a turn
   spot_if-same : (o : Op) (s : Step) (x y : F.C) (i j : ℕ) →
       SameSpot (spot_if F narrow o s x y i j) (spot_if F broad o s x y i j)
-  spot_if-same o s x y i j = only_if-same (narrow o x y) (broad o x y) _ (less_passes o x y)
+  spot_if-same o s x y i j = only_if-same (narrow o x y) (broad o x y) _ (less_too_wide o x y)
 
-  -- the passing ratio
+  -- the ratio that is too wide
   ratio_row-same : (T : Tabled F.C) (c : ℕ) → SameSpot (ratio_row F S narrow T c) (ratio_row F S broad T c)
   ratio_row-same T c = first-same S.rows _ _ (λ i. where_true (is_plus (F.sign (T.cell i c))) _ _
-      (only_if-same _ _ i (less_passes Quotient (right F S T i) (T.cell i c))))
+      (only_if-same _ _ i (less_too_wide Quotient (right F S T i) (T.cell i c))))
 
   -- the spot of a pivot
   pivot_spot-same : (T : Tabled F.C) (r c : ℕ) →
@@ -122,10 +127,10 @@ module _ (F : Ordered) (S : Shape) (narrow broad : Op → F.C → F.C → Bool)
           (ratio_row-same T c)
 
   -- stops
-  by_equal : (x y z : Stop F.C) → z ≡ y → SameStop x y → SameStop x z
+  by_equal : (x y z : PhaseStop F.C) → z ≡ y → SameStop x y → SameStop x z
   by_equal x y z e h = subst (λ z. SameStop x z) (sym e) h
 
-  on_spot-same : (phase done : ℕ) (next next' : Tabled F.C → Stop F.C) (T : Tabled F.C)
+  on_spot-same : (phase done : ℕ) (next next' : Tabled F.C → PhaseStop F.C) (T : Tabled F.C)
       (s s' : Option PivotWide) →
       SameSpot s s' → SameStop (next T) (next' T) →
       SameStop (on_spot phase done next T s) (on_spot phase done next' T s')
@@ -133,7 +138,7 @@ module _ (F : Ordered) (S : Shape) (narrow broad : Op → F.C → F.C → Bool)
   on_spot-same phase done next next' T None s' h k =
       by_equal _ (next' T) _ (ap (on_spot phase done next' T) h) k
 
-  on_choice-same : (phase left done : ℕ) (T : Tabled F.C) (pivot pivot' : ℕ → ℕ → Stop F.C) (x y : Choice) →
+  on_choice-same : (phase left done : ℕ) (T : Tabled F.C) (pivot pivot' : ℕ → ℕ → PhaseStop F.C) (x y : Choice) →
       SameChoice x y → ((r c : ℕ) → SameStop (pivot r c) (pivot' r c)) →
       SameStop (on_choice phase left done T pivot x) (on_choice phase left done T pivot' y)
   on_choice-same phase left done T pivot pivot' (refused s) y h k = tt
@@ -174,13 +179,13 @@ module _ (F : Ordered) (S : Shape) (narrow broad : Op → F.C → F.C → Bool)
       go false = refl
 
   -- one phase after another
-  after-same : (x y : Stop F.C) (next next' : ℕ → ℕ → Tabled F.C → Stop F.C) → SameStop x y →
+  after-same : (x y : PhaseStop F.C) (next next' : ℕ → ℕ → Tabled F.C → PhaseStop F.C) → SameStop x y →
       ((l d : ℕ) (T : Tabled F.C) → SameStop (next l d T) (next' l d T)) →
-      SameStop (after x next) (after y next')
-  after-same (passing p k s) y next next' h g = tt
-  after-same (settled l d T) y next next' h g = by_equal _ (next' l d T) _ (ap (λ z. after z next') h) (g l d T)
-  after-same (unlimited T c) y next next' h g = ap (λ z. after z next') h
-  after-same spent y next next' h g = ap (λ z. after z next') h
+      SameStop (after_phase x next) (after_phase y next')
+  after-same (wide_at p k s) y next next' h g = tt
+  after-same (settled l d T) y next next' h g = by_equal _ (next' l d T) _ (ap (λ z. after_phase z next') h) (g l d T)
+  after-same (unlimited T c) y next next' h g = ap (λ z. after_phase z next') h
+  after-same spent y next next' h g = ap (λ z. after_phase z next') h
 
   -- all rows
   drives-same : (n left done : ℕ) (T : Tabled F.C) →
@@ -190,8 +195,8 @@ module _ (F : Ordered) (S : Shape) (narrow broad : Op → F.C → F.C → Bool)
       after-same _ _ _ _ (drives-same n left done T) (λ l d U. drive_row-same l d U n)
 
   -- ends
-  third_end-same : (x y : Stop F.C) → SameStop x y → SameEnd (third_end x) (third_end y)
-  third_end-same (passing p k s) y h = tt
+  third_end-same : (x y : PhaseStop F.C) → SameStop x y → SameEnd (third_end x) (third_end y)
+  third_end-same (wide_at p k s) y h = tt
   third_end-same (settled l d T) y h = ap (third_end) h
   third_end-same (unlimited T c) y h = ap (third_end) h
   third_end-same spent y h = ap (third_end) h
@@ -208,10 +213,10 @@ module _ (F : Ordered) (S : Shape) (narrow broad : Op → F.C → F.C → Bool)
   end_by_equal : (x y z : End F.C) → z ≡ y → SameEnd x y → SameEnd x z
   end_by_equal x y z e h = subst (λ z. SameEnd x z) (sym e) h
 
-  first_end-same : (x y : Stop F.C) → SameStop x y → SameEnd (first_end F S narrow x) (first_end F S broad y)
-  first_end-same (passing p k s) y h = tt
+  first_end-same : (x y : PhaseStop F.C) → SameStop x y → SameEnd (first_end F S narrow x) (first_end F S broad y)
+  first_end-same (wide_at p k s) y h = tt
   first_end-same (settled l d T) y h = end_by_equal _ (first_end F S broad (settled l d T)) _
-      (ap (first_end F S broad) h) (go (is_minus (F.sign (right F S T S.rows))))
+      (ap (first_end F S broad) h) (go (is_negative_sign (F.sign (right F S T S.rows))))
     where
       go : (b : Bool) → SameEnd (cond b (infeasible T) (past_first F S narrow l d T S.factors))
           (cond b (infeasible T) (past_first F S broad l d T S.factors))
@@ -226,7 +231,7 @@ module _ (F : Ordered) (S : Shape) (narrow broad : Op → F.C → F.C → Bool)
   written_run-same budget T = first_end-same _ _ (turns-same 1 S.contacts budget 0 T)
 
 -- an end that is no refusal
-same_end : {C : Type 0} (x y : End C) → PassesNowhere x → SameEnd x y → y ≡ x
+same_end : {C : Type 0} (x y : End C) → IsNowhereTooWide x → SameEnd x y → y ≡ x
 same_end (wide p k s) y n h = absurd n
 same_end (infeasible T) y n h = h
 same_end (feasible T) y n h = h
@@ -237,5 +242,5 @@ same_end over y n h = h
 -- at widths
 pub wider_run_is_same : WiderRunIsSame
 wider_run_is_same m n P budget w h = same_end (run_at m P budget) (run_at n P budget) h
-    (written_run-same ordered_fractions P.shape (passes m) (passes n)
-    (λ o x y. wider_never_passes m n o x y w) budget (written_table ordered_fractions P))
+    (written_run-same ordered_fractions P.shape (is_too_wide m) (is_too_wide n)
+    (λ o x y. wider_is_never_too_wide m n o x y w) budget (written_table ordered_fractions P))

@@ -3,14 +3,15 @@ use Rattle.std.specs.Prelude.{◌≡◌, ◌≢◌, ℕ, ◌≤◌, ℤ, Bool, �
 use Rattle.stack_algebra.specs.Fraction.{Fraction}
 use Rattle.stack_algebra.proofs.OrderedFractions.{ordered_fractions}
 use Rattle.stack_rational.specs.declared.exact.Op.{Op}
-use Rattle.stack_rational.specs.Passes.{passes}
+use Rattle.stack_rational.specs.TooWide.{is_too_wide}
 use Rattle.stack_table.specs.Table.{Tabled}
 use Rattle.stack_table.specs.Problem.{Problem}
 use Rattle.stack_table.specs.WrittenTable.{written_table}
-use Rattle.stack_duality.specs.WrittenRun.{unlimited, End, infeasible, feasible, optimal, ray, wide, over, turns, written_run}
+use Rattle.stack_duality.specs.WrittenRun.{unlimited, End, infeasible, feasible, optimal, ray, wide, over, turns}
+use Rattle.stack_duality.specs.WrittenRun.{written_run}
 use Rattle.stack_duality.specs.FourEnds.{EndGives}
 
--- a rule of what passes
+-- a rule of what is too wide
 abbrev pub Rule : Type 0
 Rule = Op → Fraction → Fraction → Bool
 
@@ -20,7 +21,7 @@ run_of P rule budget = written_run ordered_fractions P.shape rule budget (writte
 
 -- and at a greatest value
 abbrev pub run_at : ℤ → (P : Problem) → (budget : ℕ) → End Fraction
-run_at max P budget = run_of P (passes max) budget
+run_at max P budget = run_of P (is_too_wide max) budget
 
 -- whatever the rule and the budget, its end gives what it should
 abbrev pub EndsGive : Type 0
@@ -33,15 +34,15 @@ SomeRowLeaves = (P : Problem) (rule : Rule) (budget : ℕ) (T : Tabled Fraction)
     turns ordered_fractions P.shape rule 1 P.shape.contacts budget 0
     (written_table ordered_fractions P) ≢ unlimited T c
 
-abbrev pub PassesNowhere : {C : Type 0} → End C → Type 0
-PassesNowhere (infeasible T) = ⊤
-PassesNowhere (feasible T) = ⊤
-PassesNowhere (optimal T) = ⊤
-PassesNowhere (ray T c) = ⊤
-PassesNowhere (wide p k s) = ⊥
-PassesNowhere over = ⊤
+abbrev pub IsNowhereTooWide : {C : Type 0} → End C → Type 0
+IsNowhereTooWide (infeasible T) = ⊤
+IsNowhereTooWide (feasible T) = ⊤
+IsNowhereTooWide (optimal T) = ⊤
+IsNowhereTooWide (ray T c) = ⊤
+IsNowhereTooWide (wide p k s) = ⊥
+IsNowhereTooWide over = ⊤
 
--- a run that passes nowhere at a greatest value is the same run at a greater one
+-- a run that is nowhere too wide at a greatest value is the same run at a greater one
 abbrev pub WiderRunIsSame : Type 0
 WiderRunIsSame = (m n : ℤ) (P : Problem) (budget : ℕ) → unsigned_abs m ≤ unsigned_abs n →
-    PassesNowhere (run_at m P budget) → run_at n P budget ≡ run_at m P budget
+    IsNowhereTooWide (run_at m P budget) → run_at n P budget ≡ run_at m P budget

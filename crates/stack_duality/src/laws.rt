@@ -2,14 +2,14 @@
 
 ghost use Rattle.stack_duality.specs.Laws.{EndsGive, SomeRowLeaves, WiderRunIsSame};
 
-/// What the four ends of a run give, for any problem, any budget and any rule of what passes; and that a row
+/// What the four ends of a run give, for any problem, any budget and any rule of what is too wide; and that a row
 /// leaves wherever a column enters in phase 1. After the duality of linear programs.
 pub fn run_laws()
     ensures ends { EndsGive }
     ensures leaving { SomeRowLeaves }
 {}
 
-/// A run that passes nowhere at a greatest value is the same run at a greater one.
+/// A run that is nowhere too wide at a greatest value is the same run at a greater one.
 pub fn wider_run_law()
     ensures { WiderRunIsSame }
 {}

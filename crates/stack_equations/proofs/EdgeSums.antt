@@ -7,8 +7,8 @@ use Rattle.stack_algebra.proofs.Integers.{expand, sums}
 use Rattle.stack_algebra.proofs.Order.{mul_nonneg, nonneg-sub}
 use Rattle.stack_algebra.proofs.IntegerRing.{integers}
 use Rattle.stack_algebra.proofs.Sums.{sum_same}
-use Rattle.stack_equilibrium.specs.Scene.{Bearing}
-use Rattle.stack_equilibrium.specs.Balance.{side_of, IsWithinCone}
+use Rattle.stack_equilibrium.specs.Scene.{SceneBearing}
+use Rattle.stack_equilibrium.specs.Balance.{bearing_side, IsWithinCone}
 use Rattle.stack_equations.specs.Edges.{part_between, EdgesExertTheirPart, PartsBetweenEdgesAreAdmissible}
 
 -- a part between the edges of its cone stays in the cone
@@ -34,7 +34,7 @@ within p q w v hp hq hw hv = within_by p q (w +ℤ v) (abs (p *ℤ (w -ℤ v)))
     (nonneg-sub (abs (p *ℤ (w -ℤ v))) (p *ℤ (w +ℤ v))
     (size_below p w v (mul_nonneg p w hp hw) (mul_nonneg p v hp hv))))
 
-between : (z : Bearing) (w v : ℤ) → pos 0 ≼ z.p → pos 0 ≺ z.q → pos 0 ≼ w → pos 0 ≼ v →
+between : (z : SceneBearing) (w v : ℤ) → pos 0 ≼ z.p → pos 0 ≺ z.q → pos 0 ≼ w → pos 0 ≼ v →
     IsWithinCone z (part_between z w v)
 between z w v hp hq hw hv = record {
   pushes = mul_nonneg z.q (w +ℤ v) (omega (arith, sums)) (omega (arith, sums));
@@ -67,10 +67,10 @@ edges_m s p q w v tx ty lx ly = simp expand (omega (arith, sums))
 pub edges_exert_their_part : EdgesExertTheirPart
 edges_exert_their_part s x i = record {
   along_x = sum_same integers s.bearings _ _ (λ k l. let z = s.bearing k in
-      edges_x (side_of i z) z.p z.q (x.plus k) (x.minus k) z.tx z.ty);
+      edges_x (bearing_side i z) z.p z.q (x.plus k) (x.minus k) z.tx z.ty);
   along_y = sum_same integers s.bearings _ _ (λ k l. let z = s.bearing k in
-      edges_y (side_of i z) z.p z.q (x.plus k) (x.minus k) z.tx z.ty);
+      edges_y (bearing_side i z) z.p z.q (x.plus k) (x.minus k) z.tx z.ty);
   about = sum_same integers s.bearings _ _ (λ k l. let z = s.bearing k in
-      edges_m (side_of i z) z.p z.q (x.plus k) (x.minus k) z.tx z.ty (z.px -ℤ (s.body i).ox)
+      edges_m (bearing_side i z) z.p z.q (x.plus k) (x.minus k) z.tx z.ty (z.px -ℤ (s.body i).ox)
       (z.py -ℤ (s.body i).oy));
 }

@@ -13,7 +13,7 @@ use Rattle.stack_equilibrium.specs.Balance.{edge_of_cone}
 use Rattle.stack_equilibrium.specs.Motions.{opening_of, slide_of, power_of, KeepsFixedStill}
 use Rattle.stack_equilibrium.specs.Certificates.{still, free_before, move_of}
 use Rattle.stack_equilibrium.proofs.BearingWork.{exerted_power}
-use Rattle.stack_equations.specs.FreeBodies.{free_count}
+use Rattle.stack_equations.specs.FreeBodies.{free_bodies}
 use Rattle.stack_equations.specs.Edges.{edge_on}
 use Rattle.stack_equations.specs.MovesByNumber.{moves_from, power_by, PowersAreByNumber}
 use Rattle.stack_equations.specs.MovesByNumber.{UnopposedMovesAreMotions}
@@ -39,7 +39,7 @@ module _ (s : Scene) (y : ℕ → Move) where
       go : (t : Bool) → (s.body i).free ≡ t → cond t (power_of w (y (free_before s i))) (pos 0)
           ≡ power_of w (cond t (get_or (moves_from s y) (free_before s i) still) still)
       go true e = ap (power_of w)
-          (sym (listed_item (free_count s) y (free_before s i) still (before_less s s.bodies i l e)))
+          (sym (listed_item (free_bodies s) y (free_before s i) still (before_less s s.bodies i l e)))
       go false e = at_rest w.fx w.fy w.m
 
   powers : (w : ℕ → Wrench) → power_by s y w ≡ sum_to s.bodies (λ i. power_of (w i) (motion i))
@@ -69,7 +69,7 @@ powers_are_by_number = powers
 
 pub unopposed_moves_are_motions : UnopposedMovesAreMotions
 unopposed_moves_are_motions s y proper h = record {
-  count = length_listed (free_count s) y;
+  count = length_listed (free_bodies s) y;
   unresisted = record {
     still = fixed_still s y;
     opens = λ k l. both_signs (s.bearing k).p ((s.bearing k).q *ℤ opening_of s (motion s y) (s.bearing k))

@@ -5,8 +5,8 @@ use Rattle.stack_algebra.specs.Sums.{sum_to}
 use Rattle.stack_algebra.proofs.IntegerRing.{integers}
 use Rattle.stack_algebra.proofs.Sums.{sum_same}
 use Rattle.stack_algebra.proofs.Listed.{length_listed, listed_item}
-use Rattle.stack_equilibrium.specs.Scene.{Part, Bearing, Scene, IsProper}
-use Rattle.stack_equilibrium.specs.Balance.{force_x_of, force_y_of, moment_of, side_of, IsWithinCone}
+use Rattle.stack_equilibrium.specs.Scene.{BearingPart, SceneBearing, Scene, IsProper}
+use Rattle.stack_equilibrium.specs.Balance.{force_x_of, force_y_of, moment_of, bearing_side, IsWithinCone}
 use Rattle.stack_equilibrium.specs.Balance.{IsAdmissible, IsBalanced}
 use Rattle.stack_equilibrium.specs.Certificates.{part_of, free_before}
 use Rattle.stack_equations.specs.Edges.{Amounts, part_from}
@@ -15,14 +15,14 @@ use Rattle.stack_equations.proofs.FreeBodies.{before_less, free_found}
 use Rattle.stack_equations.proofs.EdgeSums.{edges_exert_their_part, parts_between_edges_are_admissible}
 
 module _ (s : Scene) (scale factor : ℤ) (x : Amounts) where
-  abbrev parts : ℕ → Part
+  abbrev parts : ℕ → BearingPart
   parts = part_of (forces_from s scale factor x)
 
   part_is : (k : ℕ) → k < s.bearings → parts k ≡ part_from s x k
   part_is k l = listed_item s.bearings (part_from s x) k (record { a = pos 0; b = pos 0 }) l
 
   -- a sum over the listed parts
-  over_parts : (g : Bearing → Part → ℤ) (sum d v : ℤ) →
+  over_parts : (g : SceneBearing → BearingPart → ℤ) (sum d v : ℤ) →
       sum ≡ sum_to s.bearings (λ k. g (s.bearing k) (part_from s x k)) →
       sum +ℤ scale *ℤ d +ℤ factor *ℤ v ≡ pos 0 →
       sum_to s.bearings (λ k. g (s.bearing k) (parts k)) +ℤ scale *ℤ d +ℤ factor *ℤ v ≡ pos 0
@@ -35,9 +35,9 @@ module _ (s : Scene) (scale factor : ℤ) (x : Amounts) where
       (h.equations (free_before s i) (before_less s s.bodies i l f)) in
       let one = edges_exert_their_part s x i in
       record {
-        along_x = over_parts (λ z p. side_of i z *ℤ force_x_of z p) _ _ _ one.along_x e.along_x;
-        along_y = over_parts (λ z p. side_of i z *ℤ force_y_of z p) _ _ _ one.along_y e.along_y;
-        about = over_parts (λ z p. side_of i z *ℤ moment_of (s.body i) z p) _ _ _ one.about e.about;
+        along_x = over_parts (λ z p. bearing_side i z *ℤ force_x_of z p) _ _ _ one.along_x e.along_x;
+        along_y = over_parts (λ z p. bearing_side i z *ℤ force_y_of z p) _ _ _ one.along_y e.along_y;
+        about = over_parts (λ z p. bearing_side i z *ℤ moment_of (s.body i) z p) _ _ _ one.about e.about;
       }
 
   admissible : IsProper s → IsSolution s scale factor x → IsAdmissible s parts

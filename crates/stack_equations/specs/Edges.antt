@@ -3,8 +3,8 @@ use Rattle.std.specs.Prelude.{◌≡◌, ℕ, ◌<◌, ℤ, pos, ◌+ℤ◌, ◌
 use Rattle.stack_algebra.specs.Sums.{sum_to}
 use Rattle.stack_algebra.specs.IntegerOrder.{◌≼◌}
 use Rattle.stack_equilibrium.specs.declared.types.Wrench.{Wrench}
-use Rattle.stack_equilibrium.specs.Scene.{Bearing, Part, Scene, IsProper}
-use Rattle.stack_equilibrium.specs.Balance.{side_of, force_x_of, force_y_of, moment_of, edge_of_cone}
+use Rattle.stack_equilibrium.specs.Scene.{SceneBearing, BearingPart, Scene, IsProper}
+use Rattle.stack_equilibrium.specs.Balance.{bearing_side, force_x_of, force_y_of, moment_of, edge_of_cone}
 use Rattle.stack_equilibrium.specs.Balance.{exerted_on, IsAdmissible}
 
 -- an amount of each edge at each bearing
@@ -27,20 +27,20 @@ edges_sum share s x i = sum_to s.bearings
     (λ k. x.plus k *ℤ share (edge_on s true k i) +ℤ x.minus k *ℤ share (edge_on s false k i))
 
 -- w of the one edge and v of the other together
-abbrev pub part_between : Bearing → ℤ → ℤ → Part
+abbrev pub part_between : SceneBearing → ℤ → ℤ → BearingPart
 part_between z w v = record { a = z.q *ℤ (w +ℤ v); b = z.p *ℤ (w -ℤ v) }
 
-abbrev pub part_from : Scene → Amounts → ℕ → Part
+abbrev pub part_from : Scene → Amounts → ℕ → BearingPart
 part_from s x k = part_between (s.bearing k) (x.plus k) (x.minus k)
 
 -- the sums of the edges are the contact part of the three sums of body i, for the parts between them
 pub record IsExerted (s : Scene) (x : Amounts) (i : ℕ) : Type 0 where
   pub along_x : edges_sum (λ w. w.fx) s x i
-      ≡ sum_to s.bearings (λ k. side_of i (s.bearing k) *ℤ force_x_of (s.bearing k) (part_from s x k))
+      ≡ sum_to s.bearings (λ k. bearing_side i (s.bearing k) *ℤ force_x_of (s.bearing k) (part_from s x k))
   pub along_y : edges_sum (λ w. w.fy) s x i
-      ≡ sum_to s.bearings (λ k. side_of i (s.bearing k) *ℤ force_y_of (s.bearing k) (part_from s x k))
+      ≡ sum_to s.bearings (λ k. bearing_side i (s.bearing k) *ℤ force_y_of (s.bearing k) (part_from s x k))
   pub about : edges_sum (λ w. w.m) s x i
-      ≡ sum_to s.bearings (λ k. side_of i (s.bearing k) *ℤ moment_of (s.body i) (s.bearing k) (part_from s x k))
+      ≡ sum_to s.bearings (λ k. bearing_side i (s.bearing k) *ℤ moment_of (s.body i) (s.bearing k) (part_from s x k))
 
 abbrev pub EdgesExertTheirPart : Type 0
 EdgesExertTheirPart = (s : Scene) (x : Amounts) (i : ℕ) → IsExerted s x i

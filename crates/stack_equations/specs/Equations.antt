@@ -2,8 +2,8 @@
 use Rattle.std.specs.Prelude.{◌≡◌, ℕ, ◌<◌, ℤ, pos, ◌+ℤ◌, ◌*ℤ◌}
 use Rattle.stack_algebra.specs.Listed.{listed}
 use Rattle.stack_equilibrium.specs.Scene.{Scene, IsProper}
-use Rattle.stack_equilibrium.specs.Certificates.{Forces, AreBalanced}
-use Rattle.stack_equations.specs.FreeBodies.{free_at, free_count}
+use Rattle.stack_equilibrium.specs.Certificates.{SceneForces, AreBalanced}
+use Rattle.stack_equations.specs.FreeBodies.{free_at, free_bodies}
 use Rattle.stack_equations.specs.Edges.{Amounts, ArePushes, edges_sum, part_from}
 
 -- the equations of body i, with scale times its dead loads and factor times its live loads
@@ -17,10 +17,10 @@ pub record IsSolvedAt (s : Scene) (scale factor : ℤ) (x : Amounts) (i : ℕ) :
 -- those of each number of a free body, in amounts that aren't negative
 pub record IsSolution (s : Scene) (scale factor : ℤ) (x : Amounts) : Type 0 where
   pub pushes : ArePushes s x
-  pub equations : (b : ℕ) → b < free_count s → IsSolvedAt s scale factor x (free_at s b)
+  pub equations : (b : ℕ) → b < free_bodies s → IsSolvedAt s scale factor x (free_at s b)
 
 -- the forces between the edges
-abbrev pub forces_from : Scene → ℤ → ℤ → Amounts → Forces
+abbrev pub forces_from : Scene → ℤ → ℤ → Amounts → SceneForces
 forces_from s scale factor x = record {
   scale = scale;
   factor = factor;

@@ -17,12 +17,12 @@ abbrev pub free_at : Scene → ℕ → ℕ
 free_at s b = free_below s s.bodies b
 
 -- how many are free
-abbrev pub free_count : Scene → ℕ
-free_count s = free_before s s.bodies
+abbrev pub free_bodies : Scene → ℕ
+free_bodies s = free_before s s.bodies
 
 -- each free body has a number below their count, and is the body with this number
 pub record IsFound (s : Scene) (i : ℕ) : Type 0 where
-  pub numbered : free_before s i < free_count s
+  pub numbered : free_before s i < free_bodies s
   pub found : free_at s (free_before s i) ≡ i
 
 abbrev pub FreeBodiesAreFound : Type 0
@@ -30,7 +30,7 @@ FreeBodiesAreFound = (s : Scene) (i : ℕ) → i < s.bodies → (s.body i).free 
 
 -- in the scene of a survey they are its free blocks
 pub record AreFreeBlocks (v : Surveyed) : Type 0 where
-  pub count : free_count (scene_of v) ≡ length (frees_of v.structure.bodies)
+  pub count : free_bodies (scene_of v) ≡ length (frees_of v.structure.bodies)
   pub body : (b : ℕ) → b < length (frees_of v.structure.bodies) → free_at (scene_of v) b ≡ body_number v b
 
 abbrev pub FreeNumbersAreThoseOfSurveys : Type 0

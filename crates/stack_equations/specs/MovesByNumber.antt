@@ -7,15 +7,15 @@ use Rattle.stack_equilibrium.specs.declared.types.Wrench.{Wrench}
 use Rattle.stack_equilibrium.specs.Scene.{Move, Scene, IsProper}
 use Rattle.stack_equilibrium.specs.Motions.{power_of}
 use Rattle.stack_equilibrium.specs.Certificates.{move_of, IsFreeMotion}
-use Rattle.stack_equations.specs.FreeBodies.{free_at, free_count}
+use Rattle.stack_equations.specs.FreeBodies.{free_at, free_bodies}
 use Rattle.stack_equations.specs.Edges.{edge_on}
 
 abbrev pub moves_from : Scene → (ℕ → Move) → List Move
-moves_from s y = listed (free_count s) y
+moves_from s y = listed (free_bodies s) y
 
 -- the work of a wrench on each free body
 abbrev pub power_by : Scene → (ℕ → Move) → (ℕ → Wrench) → ℤ
-power_by s y w = sum_to (free_count s) (λ b. power_of (w (free_at s b)) (y b))
+power_by s y w = sum_to (free_bodies s) (λ b. power_of (w (free_at s b)) (y b))
 
 -- it is that on all bodies, since fixed ones are still
 abbrev pub PowersAreByNumber : Type 0

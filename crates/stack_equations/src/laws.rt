@@ -29,7 +29,7 @@ pub fn motion_laws()
 
 /// What solves the equations of all free bodies is balanced forces; with moves that no edge opposes it makes
 /// each of the four certificates true. After Livesley (1978).
-pub fn certificate_laws()
+pub fn solution_laws()
     ensures forces { SolutionsAreForces }
     ensures stands { StandsBySolution }
     ensures collapse { CollapsesByMoves }

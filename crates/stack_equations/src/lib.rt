@@ -4,4 +4,4 @@
 
 mod laws;
 
-pub use laws::{certificate_laws, edge_laws, free_body_laws, motion_laws};
+pub use laws::{edge_laws, free_body_laws, motion_laws, solution_laws};

@@ -1,24 +1,26 @@
 -- The bearings of a survey are within the limits: their points lie in polygons, their tangents run along edges,
 -- and their friction is that of a material.
-use Rattle.std.proofs.Common.{◌≡◌, refl, sym, ap, subst, ◌∙◌, ℕ, zero, suc, ◌*◌, ◌<◌, ◌≤◌, ℤ, pos, negsuc, ◌+ℤ◌, ◌-ℤ◌, ◌*ℤ◌, nat_abs, List, length, ◌⊎◌, inl, inr, Bool, true, false, arith}
+use Rattle.std.proofs.Common.{◌≡◌, refl, sym, ap, subst, ◌∙◌, ℕ, zero, suc, ◌*◌, ◌<◌, ◌≤◌, ℤ, pos, negsuc, ◌+ℤ◌, ◌-ℤ◌}
+use Rattle.std.proofs.Common.{◌*ℤ◌, nat_abs, List, length, ◌⊎◌, inl, inr, Bool, true, false, arith}
 use Rattle.std.specs.Prelude.{int_le, if◌then◌else◌}
 use Rattle.std.proofs.lemmas.Int.{ints}
 use Rattle.std.proofs.Math.Nat.{le-mul_of_pos_right}
 use Rattle.stack_algebra.proofs.Integers.{sums, expand}
 use Rattle.stack_algebra.proofs.Order.{◌≼◌, ◌≺◌}
 use Rattle.stack_polygon.specs.declared.point.Point.{Point}
-use Rattle.stack_polygon.specs.Plane.{Place, IsSame, IsAt}
+use Rattle.stack_polygon.specs.Plane.{Triple, IsSamePoint, IsAt}
 use Rattle.stack_polygon.specs.Corners.{corner_of, end_of}
 use Rattle.stack_polygon.specs.Limits.{IsNear, IsInRange, IsPolygon}
 use Rattle.stack_frame.specs.declared.frame.Frame.{Frame}
 use Rattle.stack_frame.specs.declared.cone.Cone.{Cone}
-use Rattle.stack_frame.specs.Directions.{IsStep, IsLowest, IsFrameOf, IsParallelInSense}
+use Rattle.stack_polygon.specs.Sizes.{IsStep}
+use Rattle.stack_frame.specs.Directions.{IsLowest, IsFrameOf, IsParallelInSense}
 use Rattle.stack_frame.specs.Cones.{IsCoefficient, lesser_of, lowest}
 use Rattle.stack_frame.proofs.LowestTerms.{abs-times}
 use Rattle.stack_frame.proofs.LesserCones.{lesser-first, lesser-second}
 use Rattle.stack_frame.proofs.Senses.{frames-by-parallels, lowest-long}
 use Rattle.stack_overlap.specs.Separation.{IsCommon, Separates}
-use Rattle.stack_overlap.specs.Forms.{Form, value, at, square}
+use Rattle.stack_overlap.specs.Forms.{LinearForm, value, at_corner, square}
 use Rattle.stack_overlap.proofs.ByForms.{IsConvex, IsInside, convex-form, inside-form, outer-form}
 use Rattle.stack_overlap.proofs.Edges.{edge_long}
 use Rattle.stack_overlap.proofs.Support.{support, next_below}
@@ -26,7 +28,7 @@ use Rattle.stack_model.specs.Structure.{Structure, body_of}
 use Rattle.stack_model.specs.Sound.{IsSound}
 use Rattle.stack_contact.specs.declared.types.Bearing.{Bearing}
 use Rattle.stack_contact.specs.Bearings.{IsParallel, IsAlong, Bears, HasSecond, IsCornerOnEdge, IsLoneCorner}
-use Rattle.stack_contact.specs.ContactLists.{IsPair, IsBearing, corners_of, friction_of}
+use Rattle.stack_contact.specs.ContactLists.{IsPair, IsBearing, corners_of, body_friction}
 use Rattle.stack_contact.specs.Surveyed.{Surveyed, IsSurvey, AreSeparated}
 use Rattle.stack_contact.proofs.AcrossLines.{senses}
 use Rattle.stack_contact.proofs.AlongEdge.{step-parallel}
@@ -36,7 +38,7 @@ use Rattle.stack_equilibrium.specs.Columns.{IsBounded}
 use Rattle.stack_equilibrium.proofs.SurveyBearings.{bearing_is}
 
 -- a point with whole coordinates
-abbrev place_of : Point → Place
+abbrev place_of : Point → Triple
 place_of c = record { x = c.x; y = c.y; w = pos 1; positive = omega (arith, ints) }
 
 at_place : (c : Point) → IsAt (place_of c) c
@@ -89,8 +91,8 @@ inside_near P polygon c below = record {
     corner_high_y x y h = omega (arith, ints, h.high)
 
 -- a form that is at most 0 at each corner is at most 0 at a point inside
-below_inside : (P : List Point) → IsConvex P → 3 ≤ length P → (X : Place) → IsInside P X → (g : Form) →
-    ((j : ℕ) → j < length P → at g (corner_of P j) ≼ pos 0) → value g X ≼ pos 0
+below_inside : (P : List Point) → IsConvex P → 3 ≤ length P → (X : Triple) → IsInside P X → (g : LinearForm) →
+    ((j : ℕ) → j < length P → at_corner g (corner_of P j) ≼ pos 0) → value g X ≼ pos 0
 below_inside P convex three X inside g h = support P convex three X inside
     (record { l = pos 0; m = pos 0; n = pos 0 }) g (λ j l. nothing (corner_of P j).x (corner_of P j).y)
     (λ j l e. h j l) (nothing_there X.x X.y X.w)
@@ -163,17 +165,17 @@ polygon_edge P polygon t low i l par = along_edge t (corner_of P i) (end_of P i)
     (edge_long P (convex-form P polygon.convex) polygon.least i l) par
 
 -- the tangent at a bearing of two polygons that an edge of one separates
-tangent_step : (P Q : List Point) → IsPolygon P → IsPolygon Q → AreSeparated P Q → (t : Frame) (X : Place) →
+tangent_step : (P Q : List Point) → IsPolygon P → IsPolygon Q → AreSeparated P Q → (t : Frame) (X : Triple) →
     Bears P Q t X → IsStep t.tx × IsStep t.ty
 tangent_step P Q hp hq apart t X h = go apart h.way
   where
-    one : (i : ℕ) → Separates P i Q → (Y : Place) → IsCommon P Q Y → ¬ (IsSame X Y) → IsAlong t X Y →
+    one : (i : ℕ) → Separates P i Q → (Y : Triple) → IsCommon P Q Y → ¬ (IsSamePoint X Y) → IsAlong t X Y →
         IsStep t.tx × IsStep t.ty
     one i s Y common apart along = polygon_edge P hp t h.lowest i s.is_edge
         (step-parallel P Q (convex-form P hp.convex) hp.least (convex-form Q hq.convex) hq.least i
         (outer-form P i Q s) X Y t h.is_end.is_in common apart along)
 
-    other : (j : ℕ) → Separates Q j P → (Y : Place) → IsCommon P Q Y → ¬ (IsSame X Y) → IsAlong t X Y →
+    other : (j : ℕ) → Separates Q j P → (Y : Triple) → IsCommon P Q Y → ¬ (IsSamePoint X Y) → IsAlong t X Y →
         IsStep t.tx × IsStep t.ty
     other j s Y common apart along = polygon_edge Q hq t h.lowest j s.is_edge
         (step-parallel Q P (convex-form Q hq.convex) hq.least (convex-form P hp.convex) hp.least j
@@ -198,7 +200,7 @@ lesser_limits a b ha hb = go (int_le (a.p *ℤ b.q) (b.p *ℤ a.q)) refl
     go false e = (lesser-second a b ha hb e).in_limits
 
 module _ (s : Structure) (sound : IsSound s) where
-  body_limits : (i : ℕ) → i < length s.bodies → IsCoefficient (friction_of s i)
+  body_limits : (i : ℕ) → i < length s.bodies → IsCoefficient (body_friction s i)
   body_limits i l = let m = sound.materials (body_of s i).material (sound.bodies i l).has_material in record {
     p_least = m.least_p;
     p_greatest = m.most_p;
@@ -210,8 +212,8 @@ module _ (s : Structure) (sound : IsSound s) where
   first_is_body z h = omega (arith, h.pair.in_order, h.pair.is_body)
 
   friction_limits : (z : Bearing) → IsBearing s z → IsCoefficient z.cone
-  friction_limits z h = subst IsCoefficient (sym h.friction) (lesser_limits (friction_of s z.first)
-      (friction_of s z.second) (body_limits z.first (first_is_body z h)) (body_limits z.second h.pair.is_body))
+  friction_limits z h = subst IsCoefficient (sym h.friction) (lesser_limits (body_friction s z.first)
+      (body_friction s z.second) (body_limits z.first (first_is_body z h)) (body_limits z.second h.pair.is_body))
 
   polygon : (i : ℕ) → i < length s.bodies → IsPolygon (corners_of s i)
   polygon i l = (sound.bodies i l).polygon

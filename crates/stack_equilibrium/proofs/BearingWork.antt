@@ -9,8 +9,8 @@ use Rattle.stack_algebra.specs.Sums.{sum_to}
 use Rattle.stack_algebra.proofs.Integers.{expand, sums}
 use Rattle.stack_algebra.proofs.IntegerRing.{integers}
 use Rattle.stack_algebra.proofs.Sums.{at, sum_same, sum_add, sum_at, sum_neg}
-use Rattle.stack_equilibrium.specs.Scene.{Move, Part, Bearing, Scene, IsProperBearing}
-use Rattle.stack_equilibrium.specs.Balance.{force_x_of, force_y_of, side_of, exerted_on}
+use Rattle.stack_equilibrium.specs.Scene.{Move, BearingPart, SceneBearing, Scene, IsProperBearing}
+use Rattle.stack_equilibrium.specs.Balance.{force_x_of, force_y_of, bearing_side, exerted_on}
 use Rattle.stack_equilibrium.specs.Motions.{velocity_x_of, velocity_y_of, opening_of, slide_of, power_of}
 
 -- a wrench against a move is the force against the velocity at its point
@@ -27,8 +27,8 @@ split : (a b tx ty sx sy ex ey : ℤ) →
 split a b tx ty sx sy ex ey = simp expand (omega (arith, sums))
 
 -- the side of a bearing as two unit numbers
-side-as_units : (i : ℕ) (x : ℤ) (z : Bearing) → z.first < z.second →
-    side_of i z *ℤ x ≡ at integers z.second x i +ℤ neg_ℤ (at integers z.first x i)
+side-as_units : (i : ℕ) (x : ℤ) (z : SceneBearing) → z.first < z.second →
+    bearing_side i z *ℤ x ≡ at integers z.second x i +ℤ neg_ℤ (at integers z.first x i)
 side-as_units i x z l = go (eqb i z.second) (eqb i z.first) (eqb→eq i z.second) (eqb→eq i z.first)
   where
     go : (a b : Bool) → (T a → i ≡ z.second) → (T b → i ≡ z.first) →
@@ -38,7 +38,7 @@ side-as_units i x z l = go (eqb i z.second) (eqb i z.first) (eqb→eq i z.second
     go false true h g = simp expand (omega (arith, sums))
     go false false h g = simp expand (omega (arith, sums))
 
-module _ (s : Scene) (y : ℕ → Move) (z : Bearing) (f : Part) where
+module _ (s : Scene) (y : ℕ → Move) (z : SceneBearing) (f : BearingPart) where
   -- the power of the part on body i, taken as the later one
   work : ℕ → ℤ
   work i = force_x_of z f *ℤ velocity_x_of s y z i +ℤ force_y_of z f *ℤ velocity_y_of s y z i
@@ -50,9 +50,9 @@ module _ (s : Scene) (y : ℕ → Move) (z : Bearing) (f : Part) where
       go true e = ap work (e tt)
       go false e = refl
 
-  exerted_work : (i : ℕ) → power_of (exerted_on s i z f) (y i) ≡ side_of i z *ℤ work i
+  exerted_work : (i : ℕ) → power_of (exerted_on s i z f) (y i) ≡ bearing_side i z *ℤ work i
   unfolding work
-  exerted_work i = turned (side_of i z) (force_x_of z f) (force_y_of z f) (z.px -ℤ (s.body i).ox)
+  exerted_work i = turned (bearing_side i z) (force_x_of z f) (force_y_of z f) (z.px -ℤ (s.body i).ox)
       (z.py -ℤ (s.body i).oy) (y i).u (y i).v (y i).r
 
   pub exerted_power : IsProperBearing s z → sum_to s.bodies (λ i. power_of (exerted_on s i z f) (y i))

@@ -5,11 +5,12 @@ use native.Mathlib.Omega.{arith}
 use lib.IntN.{ℤ, pos, ◌+ℤ◌, ◌-ℤ◌, ◌*ℤ◌}
 use Rattle.stack_algebra.proofs.Integers.{expand, sums}
 use Rattle.stack_algebra.proofs.Order.{◌≼◌, ◌≺◌, mul_pos, mul_nonneg}
-use Rattle.stack_equilibrium.specs.Scene.{Part, Scene, IsProper}
+use Rattle.stack_equilibrium.specs.Scene.{BearingPart, Scene, IsProper}
 use Rattle.stack_equilibrium.specs.Balance.{IsBalanced, IsAdmissible, Carries}
 use Rattle.stack_equilibrium.specs.Motions.{dead_power_of, live_power_of}
-use Rattle.stack_equilibrium.specs.Certificates.{Forces, part_of, move_of}
-use Rattle.stack_equilibrium.specs.Laws.{StandsIsCarried, CollapseExcludesBalance, GreatestIsCarried, GreatestBoundsEveryFactor, UnboundedCarriesAbove, UnboundedCarriesAll}
+use Rattle.stack_equilibrium.specs.Certificates.{SceneForces, part_of, move_of}
+use Rattle.stack_equilibrium.specs.Laws.{StandsIsCarried, CollapseExcludesBalance, GreatestIsCarried}
+use Rattle.stack_equilibrium.specs.Laws.{GreatestBoundsEveryFactor, UnboundedCarriesAbove, UnboundedCarriesAll}
 use Rattle.stack_equilibrium.proofs.Work.{loads_lose}
 use Rattle.stack_equilibrium.proofs.Mixtures.{mixed, balanced_mixed, admissible_mixed}
 
@@ -68,7 +69,7 @@ greatest_bounds_every_factor s f moves proper g L D m c =
     (loads_lose s y c.parts (c.k *ℤ D) (c.k *ℤ L) proper c.admissible c.balanced g.motion.unresisted) m
 
 -- rise * D' times the base and D * L' - D' * L times the ray carry L' over D'
-raised : (s : Scene) (f g : ℕ → Part) (D L rise L' D' : ℤ) → IsProper s →
+raised : (s : Scene) (f g : ℕ → BearingPart) (D L rise L' D' : ℤ) → IsProper s →
     pos 0 ≺ D → pos 0 ≺ rise → pos 0 ≺ D' → L *ℤ D' ≼ L' *ℤ D →
     IsAdmissible s f → IsBalanced s f D L → IsAdmissible s g → IsBalanced s g (pos 0) rise → Carries s L' D'
 raised s f g D L rise L' D' proper hd hr hd' h af bf ag bg = record {
@@ -95,7 +96,7 @@ raised s f g D L rise L' D' proper hd hr hd' h af bf ag bg = record {
     factor D rise L' D' L = simp expand (omega (arith, sums))
 
 -- a ray of scale 0 balances its live loads alone
-ray_balanced : (s : Scene) (g : Forces) → g.scale ≡ pos 0 → IsBalanced s (part_of g) g.scale g.factor →
+ray_balanced : (s : Scene) (g : SceneForces) → g.scale ≡ pos 0 → IsBalanced s (part_of g) g.scale g.factor →
     IsBalanced s (part_of g) (pos 0) g.factor
 ray_balanced s g e b = subst₂ (IsBalanced s (part_of g)) e (λ i. g.factor) b
 

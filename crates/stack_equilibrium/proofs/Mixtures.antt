@@ -9,11 +9,12 @@ use Rattle.stack_algebra.proofs.Integers.{expand, sums}
 use Rattle.stack_algebra.proofs.Order.{◌≼◌, abs, abs_bounds, mul_nonneg}
 use Rattle.stack_algebra.proofs.IntegerRing.{integers}
 use Rattle.stack_algebra.proofs.Sums.{sum_same, sum_add, sum_scale}
-use Rattle.stack_equilibrium.specs.Scene.{Bearing, Part, Scene}
-use Rattle.stack_equilibrium.specs.Balance.{force_x_of, force_y_of, moment_of, side_of, IsBalanced, IsWithinCone, IsAdmissible}
+use Rattle.stack_equilibrium.specs.Scene.{SceneBearing, BearingPart, Scene}
+use Rattle.stack_equilibrium.specs.Balance.{force_x_of, force_y_of, moment_of, bearing_side, IsBalanced, IsWithinCone}
+use Rattle.stack_equilibrium.specs.Balance.{IsAdmissible}
 
 -- m times f and n times g
-abbrev pub mixed : ℤ → ℤ → (ℕ → Part) → (ℕ → Part) → ℕ → Part
+abbrev pub mixed : ℤ → ℤ → (ℕ → BearingPart) → (ℕ → BearingPart) → ℕ → BearingPart
 mixed m n f g k = record { a = m *ℤ (f k).a +ℤ n *ℤ (g k).a; b = m *ℤ (f k).b +ℤ n *ℤ (g k).b }
 
 -- a sum of mixtures is a mixture of the sums
@@ -51,21 +52,21 @@ mixed_m : (s m n a b c d tx ty lx ly : ℤ) →
     (s *ℤ (lx *ℤ (c *ℤ tx +ℤ d *ℤ ty) -ℤ ly *ℤ (c *ℤ neg_ℤ ty +ℤ d *ℤ tx)))
 mixed_m s m n a b c d tx ty lx ly = simp expand (omega (arith, sums))
 
-pub balanced_mixed : (s : Scene) (f g : ℕ → Part) (m n a b d e : ℤ) → IsBalanced s f a b →
+pub balanced_mixed : (s : Scene) (f g : ℕ → BearingPart) (m n a b d e : ℤ) → IsBalanced s f a b →
     IsBalanced s g d e → IsBalanced s (mixed m n f g) (m *ℤ a +ℤ n *ℤ d) (m *ℤ b +ℤ n *ℤ e)
 balanced_mixed s f g m n a b d e p q i l t = record {
-  along_x = mixed_sum m n s.bearings _ (λ k. side_of i (s.bearing k) *ℤ force_x_of (s.bearing k) (f k))
-      (λ k. side_of i (s.bearing k) *ℤ force_x_of (s.bearing k) (g k))
-      (λ k. mixed_x (side_of i (s.bearing k)) m n (f k).a (f k).b (g k).a (g k).b (s.bearing k).tx
+  along_x = mixed_sum m n s.bearings _ (λ k. bearing_side i (s.bearing k) *ℤ force_x_of (s.bearing k) (f k))
+      (λ k. bearing_side i (s.bearing k) *ℤ force_x_of (s.bearing k) (g k))
+      (λ k. mixed_x (bearing_side i (s.bearing k)) m n (f k).a (f k).b (g k).a (g k).b (s.bearing k).tx
       (s.bearing k).ty) a b d e (s.body i).dead.fx (s.body i).live.fx (p i l t).along_x (q i l t).along_x;
-  along_y = mixed_sum m n s.bearings _ (λ k. side_of i (s.bearing k) *ℤ force_y_of (s.bearing k) (f k))
-      (λ k. side_of i (s.bearing k) *ℤ force_y_of (s.bearing k) (g k))
-      (λ k. mixed_y (side_of i (s.bearing k)) m n (f k).a (f k).b (g k).a (g k).b (s.bearing k).tx
+  along_y = mixed_sum m n s.bearings _ (λ k. bearing_side i (s.bearing k) *ℤ force_y_of (s.bearing k) (f k))
+      (λ k. bearing_side i (s.bearing k) *ℤ force_y_of (s.bearing k) (g k))
+      (λ k. mixed_y (bearing_side i (s.bearing k)) m n (f k).a (f k).b (g k).a (g k).b (s.bearing k).tx
       (s.bearing k).ty) a b d e (s.body i).dead.fy (s.body i).live.fy (p i l t).along_y (q i l t).along_y;
   about = mixed_sum m n s.bearings _
-      (λ k. side_of i (s.bearing k) *ℤ moment_of (s.body i) (s.bearing k) (f k))
-      (λ k. side_of i (s.bearing k) *ℤ moment_of (s.body i) (s.bearing k) (g k))
-      (λ k. mixed_m (side_of i (s.bearing k)) m n (f k).a (f k).b (g k).a (g k).b (s.bearing k).tx
+      (λ k. bearing_side i (s.bearing k) *ℤ moment_of (s.body i) (s.bearing k) (f k))
+      (λ k. bearing_side i (s.bearing k) *ℤ moment_of (s.body i) (s.bearing k) (g k))
+      (λ k. mixed_m (bearing_side i (s.bearing k)) m n (f k).a (f k).b (g k).a (g k).b (s.bearing k).tx
       (s.bearing k).ty ((s.bearing k).px -ℤ (s.body i).ox) ((s.bearing k).py -ℤ (s.body i).oy)) a b d e
       (s.body i).dead.m (s.body i).live.m (p i l t).about (q i l t).about;
 }
@@ -95,7 +96,7 @@ held_mixed p q m n a c B D S hm hn hq h k l =
 pressed_mixed : (m n a c : ℤ) → pos 0 ≼ m → pos 0 ≼ n → pos 0 ≼ a → pos 0 ≼ c → pos 0 ≼ m *ℤ a +ℤ n *ℤ c
 pressed_mixed m n a c hm hn h k = omega (arith, sums, mul_nonneg m a hm h, mul_nonneg n c hn k)
 
-in_cone-mixed : (z : Bearing) (f g : Part) (m n : ℤ) → pos 0 ≼ z.q → pos 0 ≼ m → pos 0 ≼ n →
+in_cone-mixed : (z : SceneBearing) (f g : BearingPart) (m n : ℤ) → pos 0 ≼ z.q → pos 0 ≼ m → pos 0 ≼ n →
     IsWithinCone z f → IsWithinCone z g →
     IsWithinCone z (record { a = m *ℤ f.a +ℤ n *ℤ g.a; b = m *ℤ f.b +ℤ n *ℤ g.b })
 in_cone-mixed z f g m n hq hm hn i j = record {
@@ -106,7 +107,7 @@ in_cone-mixed z f g m n hq hm hn i j = record {
       (abs_bounds g.b).0 (abs_bounds g.b).1);
 }
 
-pub admissible_mixed : (s : Scene) (f g : ℕ → Part) (m n : ℤ) →
+pub admissible_mixed : (s : Scene) (f g : ℕ → BearingPart) (m n : ℤ) →
     ((k : ℕ) → k < s.bearings → pos 0 ≼ (s.bearing k).q) → pos 0 ≼ m → pos 0 ≼ n → IsAdmissible s f →
     IsAdmissible s g → IsAdmissible s (mixed m n f g)
 admissible_mixed s f g m n hq hm hn p q k l = in_cone-mixed (s.bearing k) (f k) (g k) m n (hq k l) hm hn

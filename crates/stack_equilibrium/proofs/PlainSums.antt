@@ -1,12 +1,13 @@
--- Where no number of a written sum passes, it is the plain sum.
-use Rattle.std.proofs.Common.{◌≡◌, sym, ap, ◌∙◌, ℕ, suc, ◌+◌, ℤ, pos, negsuc, ◌+ℤ◌, ◌-ℤ◌, ◌*ℤ◌, Bool, true, false, cond, List, [], ◌∷◌, length, get_or, Result, Ok, Err, arith}
+-- Where no number of a written sum is too wide, it is the plain sum.
+use Rattle.std.proofs.Common.{◌≡◌, sym, ap, ◌∙◌, ℕ, suc, ◌+◌, ℤ, pos, negsuc, ◌+ℤ◌, ◌-ℤ◌, ◌*ℤ◌, Bool, true, false}
+use Rattle.std.proofs.Common.{cond, List, [], ◌∷◌, length, get_or, Result, Ok, Err, arith}
 use Rattle.std.specs.Bool.{if◌then◌else◌, nat_eq}
 use Rattle.stack_algebra.specs.Steps.{◌>>=◌, steps}
 use Rattle.stack_algebra.specs.Sums.{sum_to}
 use Rattle.stack_algebra.proofs.Integers.{expand, sums}
 use Rattle.stack_algebra.proofs.IntegerRing.{integers}
 use Rattle.stack_algebra.proofs.Sums.{sum_same, sum-first}
-use Rattle.stack_equilibrium.specs.Balance.{side_of}
+use Rattle.stack_equilibrium.specs.Balance.{bearing_side}
 use Rattle.stack_contact.specs.declared.types.Bearing.{Bearing}
 use Rattle.stack_equilibrium.specs.declared.types.Axis.{Axis}
 use Rattle.stack_equilibrium.specs.declared.types.Axis.TheVariants.{X, Y, M}
@@ -17,7 +18,8 @@ use Rattle.stack_equilibrium.specs.declared.block.Joint.{Joint}
 use Rattle.stack_equilibrium.specs.declared.block.Block.{Block}
 use Rattle.stack_equilibrium.specs.SurveyScene.{scene_bearing_of, no_bearing}
 use Rattle.stack_whole.specs.Whole.{made, fits, whole}
-use Rattle.stack_equilibrium.specs.WrittenSums.{push_at, joint_at, written_force_x, written_force_y, written_moment, written_force, bearing_at, with_bearing, along, written_sum}
+use Rattle.stack_equilibrium.specs.WrittenSums.{push_at, joint_at, written_force_x, written_force_y, written_moment}
+use Rattle.stack_equilibrium.specs.WrittenSums.{written_force, bearing_at, with_bearing, axis_part, written_sum}
 use Rattle.stack_equilibrium.proofs.InOrder.{bind_ok}
 
 pub made_is : (z : ℤ) (x : Whole) → made z ≡ Ok x → x.value ≡ z
@@ -100,7 +102,7 @@ added force e a r false false is h = same a.value r.value e (cc)
 -- a bearing adds its force with the sign of its side
 added_is : (axis : Axis) (block : Block) (f : Push) (a : Whole) (z : Bearing) (r : Whole) →
     with_bearing axis block f a z ≡ Ok r
-    → r.value ≡ a.value +ℤ side_of block.body (scene_bearing_of z) *ℤ force_along axis (joint_at block.corner z)
+    → r.value ≡ a.value +ℤ bearing_side block.body (scene_bearing_of z) *ℤ force_along axis (joint_at block.corner z)
     f
 unfolding with_bearing
 added_is axis block f a z r h = added (written_force axis (joint_at block.corner z) f)
@@ -134,7 +136,7 @@ steps_sum f g i a (x ∷ xs) d r adds h =
 -- what the bearings bear on a block, along an axis
 abbrev pub borne_along : Axis → Block → List Bearing → List (ℤ × ℤ) → ℤ
 borne_along axis block bearings parts = sum_to (length bearings) (λ k.
-    side_of block.body (scene_bearing_of (get_or bearings k no_bearing))
+    bearing_side block.body (scene_bearing_of (get_or bearings k no_bearing))
     *ℤ force_along axis (joint_at block.corner (get_or bearings k no_bearing)) (push_at parts k))
 
 -- with two loads, each of which is made before it is added
@@ -165,7 +167,7 @@ borne_is : (axis : Axis) (block : Block) (bearings : List Bearing) (parts : List
     → r.value ≡ borne_along axis block bearings parts
 borne_is axis block bearings parts r h =
     steps_sum (bearing_at axis block parts)
-    (λ k z. side_of block.body (scene_bearing_of z) *ℤ force_along axis (joint_at block.corner z)
+    (λ k z. bearing_side block.body (scene_bearing_of z) *ℤ force_along axis (joint_at block.corner z)
     (push_at parts k))
     0 (whole (pos 0)) bearings no_bearing r (λ k a z r e. added_is axis block (push_at parts k) a z r e) h
     ∙ from_nothing (sum_to (length bearings) (λ k. term k (0 + k)))
@@ -173,7 +175,7 @@ borne_is axis block bearings parts r h =
     (λ k l. ap (term k) (from_zero k))
   where
     term : ℕ → ℕ → ℤ
-    term k n = side_of block.body (scene_bearing_of (get_or bearings k no_bearing))
+    term k n = bearing_side block.body (scene_bearing_of (get_or bearings k no_bearing))
         *ℤ force_along axis (joint_at block.corner (get_or bearings k no_bearing)) (push_at parts n)
 
     from_nothing : (t : ℤ) → pos 0 +ℤ t ≡ t
@@ -185,10 +187,10 @@ borne_is axis block bearings parts r h =
 pub sum_is : (axis : Axis) (block : Block) (scale factor : Whole) (bearings : List Bearing)
     (parts : List (ℤ × ℤ)) (r : Whole)
     → written_sum axis block scale factor bearings parts ≡ Ok r
-    → r.value ≡ borne_along axis block bearings parts +ℤ scale.value *ℤ along axis block.dead
-    +ℤ factor.value *ℤ along axis block.live
+    → r.value ≡ borne_along axis block bearings parts +ℤ scale.value *ℤ axis_part axis block.dead
+    +ℤ factor.value *ℤ axis_part axis block.live
 unfolding written_sum
 sum_is axis block scale factor bearings parts r h =
     with_loads (steps (bearing_at axis block parts) 0 (whole (pos 0)) bearings)
-    (borne_along axis block bearings parts) (scale.value *ℤ along axis block.dead)
-    (factor.value *ℤ along axis block.live) r (borne_is axis block bearings parts) h
+    (borne_along axis block bearings parts) (scale.value *ℤ axis_part axis block.dead)
+    (factor.value *ℤ axis_part axis block.live) r (borne_is axis block bearings parts) h

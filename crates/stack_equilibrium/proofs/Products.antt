@@ -1,11 +1,12 @@
 -- Products that 128 bits hold.
-use Rattle.std.proofs.Common.{◌≡◌, ◌∙◌, ap, sym, subst, ℕ, ◌<◌, ◌^◌, ℤ, pos, negsuc, ◌+ℤ◌, ◌*ℤ◌, neg_ℤ, to_z, of_z, SFits, lit<, arith}
+use Rattle.std.proofs.Common.{◌≡◌, ◌∙◌, ap, sym, subst, ℕ, ◌<◌, ◌^◌, ℤ, pos, negsuc, ◌+ℤ◌, ◌*ℤ◌, neg_ℤ, to_z, of_z}
+use Rattle.std.proofs.Common.{SFits, lit<, arith}
 use mir.Syntax.{w64, w128}
 use Rattle.std.proofs.lemmas.Int.{ints, to_z-of_z, fits_signed_mul}
 use Rattle.stack_algebra.proofs.Integers.{sums, expand}
 use Rattle.stack_algebra.proofs.Order.{mul-bounds}
-use Rattle.stack_frame.specs.Directions.{IsStep}
-use Rattle.stack_polygon.specs.Sizes.{IsThree, IsWithin}
+use Rattle.stack_polygon.specs.Sizes.{IsStep}
+use Rattle.stack_polygon.specs.Sizes.{IsThreeCoordinates, IsWithin}
 use Rattle.stack_equilibrium.specs.LoadSizes.{IsForce, IsTurn, IsMoment}
 use Rattle.stack_equilibrium.specs.Columns.{IsRate, IsShare}
 
@@ -17,11 +18,11 @@ stored_product : (a b : ℤ) → SFits w128 a → SFits w128 b → SFits w128 (a
     to_z w128 (of_z w128 (to_z w128 (of_z w128 a) *ℤ to_z w128 (of_z w128 b))) ≡ a *ℤ b
 stored_product a b f g h = rw (to_z-of_z w128 a f, to_z-of_z w128 b g) (to_z-of_z w128 (a *ℤ b) h)
 
-times_fits : (a b : ℤ) → IsThree a → IsWithin 32 8000000000000 b → SFits w128 (a *ℤ b)
+times_fits : (a b : ℤ) → IsThreeCoordinates a → IsWithin 32 8000000000000 b → SFits w128 (a *ℤ b)
 times_fits a b h k = fits_signed_mul w128 a b 3000000 256000000000000 (omega (arith, ints))
     (omega (arith, ints)) (lit< tt)
 
-pub times_stored : (a b : ℤ) → SFits w128 a → SFits w128 b → IsThree a → IsWithin 32 8000000000000 b
+pub times_stored : (a b : ℤ) → SFits w128 a → SFits w128 b → IsThreeCoordinates a → IsWithin 32 8000000000000 b
     → to_z w128 (of_z w128 (to_z w128 (of_z w128 a) *ℤ to_z w128 (of_z w128 b))) ≡ a *ℤ b
 times_stored a b f g h k = stored_product a b f g (times_fits a b h k)
 

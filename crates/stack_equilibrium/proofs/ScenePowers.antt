@@ -1,5 +1,6 @@
--- Where no number of a written power passes, it is the work of the scene's loads.
-use Rattle.std.proofs.Common.{◌≡◌, refl, sym, ap, ◌∙◌, ℕ, ◌+◌, ℤ, pos, ◌+ℤ◌, ◌*ℤ◌, Bool, true, false, cond, not, length, get_or, Result, Ok, Err, arith}
+-- Where no number of a written power is too wide, it is the work of the scene's loads.
+use Rattle.std.proofs.Common.{◌≡◌, refl, sym, ap, ◌∙◌, ℕ, ◌+◌, ℤ, pos, ◌+ℤ◌, ◌*ℤ◌, Bool, true, false, cond, not}
+use Rattle.std.proofs.Common.{length, get_or, Result, Ok, Err, arith}
 use Rattle.std.specs.Prelude.{IfOk}
 use Rattle.std.proofs.Math.ListN.{get_or-map}
 use Rattle.stack_algebra.specs.Steps.{◌>>=◌}
@@ -24,7 +25,8 @@ use Rattle.stack_equilibrium.specs.SurveyScene.{scene_of, loads_on}
 use Rattle.stack_equilibrium.specs.Held.{move_of_triple, moves_of, move_at}
 use Rattle.stack_whole.specs.Whole.{made, whole}
 use Rattle.stack_equilibrium.specs.WrittenVelocities.{block_move_at}
-use Rattle.stack_equilibrium.specs.WrittenPowers.{with_product, with_work, with_block, summed_power, told_power, written_power}
+use Rattle.stack_equilibrium.specs.WrittenPowers.{with_product, with_work, with_block, summed_power, told_power}
+use Rattle.stack_equilibrium.specs.WrittenPowers.{written_power}
 use Rattle.stack_equilibrium.specs.Answers.{power_of}
 use Rattle.stack_equilibrium.proofs.InOrder.{bind_ok}
 use Rattle.stack_equilibrium.proofs.PlainSums.{made_is, steps_sum}

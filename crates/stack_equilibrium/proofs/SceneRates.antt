@@ -1,5 +1,6 @@
--- Where no number of the written velocities passes, they are those of the scene.
-use Rattle.std.proofs.Common.{◌≡◌, refl, sym, ap, ◌∙◌, ℕ, ℤ, pos, ◌+ℤ◌, ◌-ℤ◌, ◌*ℤ◌, neg_ℤ, Bool, true, false, cond, not, get_or, Result, Ok, Err, arith}
+-- Where no number of the written velocities is too wide, they are those of the scene.
+use Rattle.std.proofs.Common.{◌≡◌, refl, sym, ap, ◌∙◌, ℕ, ℤ, pos, ◌+ℤ◌, ◌-ℤ◌, ◌*ℤ◌, neg_ℤ, Bool, true, false, cond}
+use Rattle.std.proofs.Common.{not, get_or, Result, Ok, Err, arith}
 use Rattle.std.specs.Prelude.{IfOk}
 use Rattle.std.specs.Bool.{if◌then◌else◌}
 use Rattle.std.proofs.Math.ListN.{get_or-map}
@@ -23,7 +24,9 @@ use Rattle.stack_equilibrium.specs.SurveyScene.{first_corner_of, bearing_of, sce
 use Rattle.stack_equilibrium.specs.Held.{move_of_triple, moves_of, move_at}
 use Rattle.stack_whole.specs.Whole.{made, whole}
 use Rattle.stack_equilibrium.specs.WrittenSums.{joint_at}
-use Rattle.stack_equilibrium.specs.WrittenVelocities.{block_move_at, at_rest, written_velocity, velocity_at, written_difference, written_normal, written_tangential, written_gap, gap_at, told_gap, written_opening}
+use Rattle.stack_equilibrium.specs.WrittenVelocities.{block_move_at, at_rest, written_velocity, velocity_at}
+use Rattle.stack_equilibrium.specs.WrittenVelocities.{written_difference, written_normal, written_tangential}
+use Rattle.stack_equilibrium.specs.WrittenVelocities.{written_gap, gap_at, told_gap, written_opening}
 use Rattle.stack_equilibrium.specs.Answers.{AreRates}
 use Rattle.stack_equilibrium.proofs.FreeNumbers.{before_is}
 use Rattle.stack_equilibrium.proofs.InOrder.{bind_ok}

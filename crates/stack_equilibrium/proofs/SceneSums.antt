@@ -1,5 +1,6 @@
 -- The plain sums of a block are the sums of its body in the survey's scene.
-use Rattle.std.proofs.Common.{◌≡◌, sym, ap, ◌∙◌, ℕ, ℤ, pos, ◌+ℤ◌, ◌-ℤ◌, ◌*ℤ◌, neg_ℤ, List, length, get_or, map, Result, Ok, Err, arith}
+use Rattle.std.proofs.Common.{◌≡◌, sym, ap, ◌∙◌, ℕ, ℤ, pos, ◌+ℤ◌, ◌-ℤ◌, ◌*ℤ◌, neg_ℤ, List, length, get_or, map}
+use Rattle.std.proofs.Common.{Result, Ok, Err, arith}
 use Rattle.std.specs.Prelude.{IfOk}
 use Rattle.std.proofs.Math.ListN.{get_or-map}
 use Rattle.stack_algebra.specs.Sums.{sum_to}
@@ -17,11 +18,12 @@ use Rattle.stack_whole.specs.declared.whole.Wide.{Wide}
 use Rattle.stack_whole.specs.declared.whole.Whole.{Whole}
 use Rattle.stack_equilibrium.specs.declared.block.Joint.{Joint}
 use Rattle.stack_equilibrium.specs.Scene as scene
-use Rattle.stack_equilibrium.specs.Balance.{side_of, force_x_of, force_y_of}
+use Rattle.stack_equilibrium.specs.Balance.{bearing_side, force_x_of, force_y_of}
 use Rattle.stack_equilibrium.specs.SurveyScene.{no_bearing, first_corner_of, scene_bearing_of}
 use Rattle.stack_equilibrium.specs.Held.{part_of_pair, part_at}
 use Rattle.stack_whole.specs.Whole.{whole}
-use Rattle.stack_equilibrium.specs.WrittenSums.{push_at, joint_at, along, written_sum, written_sums, written_sums_at, written_residue, on_axis, block_of}
+use Rattle.stack_equilibrium.specs.WrittenSums.{push_at, joint_at, axis_part, written_sum, written_sums}
+use Rattle.stack_equilibrium.specs.WrittenSums.{written_sums_at, written_residue, on_axis, block_of}
 use Rattle.stack_equilibrium.specs.Answers.{AreSums, body_number}
 use Rattle.stack_equilibrium.proofs.InOrder.{bind_ok}
 use Rattle.stack_equilibrium.proofs.PlainSums.{force_along, push_x, push_y, borne_along, sum_is}
@@ -35,13 +37,13 @@ part_is parts k = get_or-map part_of_pair parts k (pos 0, pos 0)
 turned : (a b tx ty : ℤ) → b *ℤ tx -ℤ a *ℤ ty ≡ a *ℤ neg_ℤ ty +ℤ b *ℤ tx
 turned a b tx ty = simp expand (omega (arith, sums))
 
--- the axis is told only where a number passes
+-- the axis is told only where a number is too wide
 on_axis_ok : (axis : Axis) (r : Result Whole Wide) (x : Whole) → on_axis axis r ≡ Ok x → r ≡ Ok x
 on_axis_ok axis (Ok y) x h = cc
 on_axis_ok axis (Err e) x h = absurd (cc)
 
 module _ (s : Surveyed) (f : ForcesValue) (i : ℕ) where
-  abbrev part : ℕ → scene.Part
+  abbrev part : ℕ → scene.BearingPart
   part k = part_at f k
 
   abbrev bearing : ℕ → Bearing
@@ -60,7 +62,7 @@ module _ (s : Surveyed) (f : ForcesValue) (i : ℕ) where
   along_y k = ap (force_y_of (scene_bearing_of (bearing k))) (sym (part_is f.parts k))
 
   abbrev side : ℕ → ℤ
-  side k = side_of i (scene_bearing_of (bearing k))
+  side k = bearing_side i (scene_bearing_of (bearing k))
 
   abbrev joint : ℕ → Joint
   joint k = joint_at (first_corner_of s.structure i) (bearing k)
@@ -99,12 +101,12 @@ module _ (s : Surveyed) (f : ForcesValue) (i : ℕ) where
   -- with its loads
   loaded : (axis : Axis) (borne : ℤ) (x : Whole) → written axis ≡ Ok x →
       borne_along axis (block_of s.structure i) s.bearings f.parts ≡ borne →
-      x.value ≡ borne +ℤ f.scale *ℤ along axis (block_of s.structure i).dead
-      +ℤ f.factor *ℤ along axis (block_of s.structure i).live
+      x.value ≡ borne +ℤ f.scale *ℤ axis_part axis (block_of s.structure i).dead
+      +ℤ f.factor *ℤ axis_part axis (block_of s.structure i).live
   loaded axis borne x h e = sum_is axis (block_of s.structure i) (whole f.scale) (whole f.factor) s.bearings
       f.parts x h
-      ∙ ap (λ t. t +ℤ f.scale *ℤ along axis (block_of s.structure i).dead
-      +ℤ f.factor *ℤ along axis (block_of s.structure i).live) e
+      ∙ ap (λ t. t +ℤ f.scale *ℤ axis_part axis (block_of s.structure i).dead
+      +ℤ f.factor *ℤ axis_part axis (block_of s.structure i).live) e
 
   -- the three of them
   told : (w : Wrench) → written_sums_at s f i ≡ Ok w → AreSums s f i w

@@ -2,12 +2,12 @@
 use Rattle.std.proofs.Common.{◌≡◌, ap, ◌∙◌, ℕ, suc, ◌+◌, ◌≤◌, arith}
 use Rattle.std.proofs.lemmas.Int.{ints}
 use Rattle.stack_equilibrium.specs.declared.types.Wrench.{Wrench}
-use Rattle.stack_equilibrium.specs.Loads.{both, total_of}
+use Rattle.stack_equilibrium.specs.Loads.{wrench_sum, total_of}
 use Rattle.stack_equilibrium.specs.LoadSizes.{AreLoads, IsSmall}
 
 pub one_more : (n : ℕ) (f : ℕ → Wrench) (total one w : Wrench) → total ≡ total_of n f → one ≡ f n →
-    w ≡ both total one → w ≡ total_of (n + 1) f
-one_more n f total one w h k e = e ∙ (λ i. both (h i) (k i)) ∙ ap (λ m. total_of m f) next
+    w ≡ wrench_sum total one → w ≡ total_of (n + 1) f
+one_more n f total one w h k e = e ∙ (λ i. wrench_sum (h i) (k i)) ∙ ap (λ m. total_of m f) next
   where
     next : suc n ≡ n + 1
     next = omega arith

@@ -11,8 +11,8 @@ use Rattle.stack_algebra.proofs.Order.{◌≼◌, power-nonneg}
 use Rattle.stack_algebra.proofs.Ring.{ring3, num, ◌⊕◌, ◌⊗◌}
 use Rattle.stack_algebra.proofs.IntegerRing.{integers}
 use Rattle.stack_algebra.proofs.Sums.{sum_same, sum_zero, sum_add, sum_scale, sum_swap}
-use Rattle.stack_equilibrium.specs.Scene.{Move, Part, Body, Scene, IsProper}
-use Rattle.stack_equilibrium.specs.Balance.{force_x_of, force_y_of, moment_of, side_of, exerted_on}
+use Rattle.stack_equilibrium.specs.Scene.{Move, BearingPart, SceneBody, Scene, IsProper}
+use Rattle.stack_equilibrium.specs.Balance.{force_x_of, force_y_of, moment_of, bearing_side, exerted_on}
 use Rattle.stack_equilibrium.specs.Balance.{sum_x_of, sum_y_of, sum_m_of, IsBalanced, IsAdmissible}
 use Rattle.stack_equilibrium.specs.Motions.{opening_of, slide_of, power_of, dead_power_of, live_power_of}
 use Rattle.stack_equilibrium.specs.Motions.{KeepsFixedStill, IsUnresisted}
@@ -44,7 +44,7 @@ sum-nonneg (suc n) g h = both (sum_to n g) (g n) (sum-nonneg n g (λ k l. h k (o
     both : (a b : ℤ) → pos 0 ≼ a → pos 0 ≼ b → pos 0 ≼ a +ℤ b
     both a b h k = omega (arith, sums)
 
-module _ (s : Scene) (y : ℕ → Move) (f : ℕ → Part) where
+module _ (s : Scene) (y : ℕ → Move) (f : ℕ → BearingPart) where
   -- the power of the part at bearing k
   abbrev power_at : ℕ → ℤ
   power_at k = (f k).a *ℤ opening_of s y (s.bearing k) +ℤ (f k).b *ℤ slide_of s y (s.bearing k)
@@ -69,17 +69,17 @@ module _ (s : Scene) (y : ℕ → Move) (f : ℕ → Part) where
       m : Move
       m = y i
 
-      b : Body
+      b : SceneBody
       b = s.body i
 
       along : ℕ → ℤ
-      along k = side_of i (s.bearing k) *ℤ force_x_of (s.bearing k) (f k)
+      along k = bearing_side i (s.bearing k) *ℤ force_x_of (s.bearing k) (f k)
 
       across : ℕ → ℤ
-      across k = side_of i (s.bearing k) *ℤ force_y_of (s.bearing k) (f k)
+      across k = bearing_side i (s.bearing k) *ℤ force_y_of (s.bearing k) (f k)
 
       about : ℕ → ℤ
-      about k = side_of i (s.bearing k) *ℤ moment_of (s.body i) (s.bearing k) (f k)
+      about k = bearing_side i (s.bearing k) *ℤ moment_of (s.body i) (s.bearing k) (f k)
 
   -- a free body is balanced, and a fixed one still
   work_on-zero : (scale factor : ℤ) → IsBalanced s f scale factor → KeepsFixedStill s y →

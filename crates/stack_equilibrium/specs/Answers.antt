@@ -7,7 +7,7 @@ use Rattle.stack_certificate.specs.Certificate.{ForcesValue, MotionValue}
 use Rattle.stack_equilibrium.specs.declared.types.Wrench.{Wrench}
 use Rattle.stack_equilibrium.specs.declared.types.Question.{Question}
 use Rattle.stack_equilibrium.specs.declared.types.Question.TheVariants.{Dead, Live}
-use Rattle.stack_equilibrium.specs.Scene.{Move, Body, Scene}
+use Rattle.stack_equilibrium.specs.Scene.{Move, SceneBody, Scene}
 use Rattle.stack_equilibrium.specs.Balance.{sum_x_of, sum_y_of, sum_m_of, edge_of_cone, exerted_on}
 use Rattle.stack_equilibrium.specs.Motions.{opening_of, slide_of, dead_power_of, live_power_of}
 use Rattle.stack_equilibrium.specs.SurveyScene.{scene_of}
@@ -17,7 +17,7 @@ use Rattle.stack_equilibrium.specs.WrittenVelocities.{written_opening}
 use Rattle.stack_equilibrium.specs.WrittenPowers.{written_power}
 
 -- body i with its loads, as the scene has it
-abbrev pub body_in : Surveyed → ℕ → Body
+abbrev pub body_in : Surveyed → ℕ → SceneBody
 body_in s i = (scene_of s).body i
 
 -- that is free block number b
@@ -44,7 +44,7 @@ abbrev pub power_of : Question → Scene → (ℕ → Move) → ℤ
 power_of Dead s y = dead_power_of s y
 power_of Live s y = live_power_of s y
 
--- where no written number passes, they are the scene's, of any bodies and bearings
+-- where no written number is too wide, they are the scene's, of any bodies and bearings
 abbrev pub SumsAreThoseOfTheScene : Type 0
 SumsAreThoseOfTheScene = (s : Surveyed) (f : ForcesValue) (i : ℕ) (w : Wrench) → written_sums_at s f i ≡ Ok w →
     AreSums s f i w

@@ -9,18 +9,18 @@ use Prim.Native.Nat.{ℕ, zero, suc, ◌+◌}
 use lib.ListN.{length, get_or}
 use lib.IntN.{ℤ, pos, ◌+ℤ◌, ◌*ℤ◌}
 use Rattle.stack_algebra.specs.IntegerOrder.{◌≼◌, ◌≺◌}
-use Rattle.stack_equilibrium.specs.Scene.{Part, Move, Scene}
+use Rattle.stack_equilibrium.specs.Scene.{BearingPart, Move, Scene}
 use Rattle.stack_equilibrium.specs.Balance.{IsAdmissible, IsBalanced}
 use Rattle.stack_equilibrium.specs.Motions.{IsUnresisted, dead_power_of, live_power_of}
 
 -- forces that balance scale times the dead loads and factor times the live loads: the factor carried is
 -- factor over scale, and a real force is its part divided by six times the scale times the tangent's length
-pub record Forces : Type 0 where
+pub record SceneForces : Type 0 where
   pub scale : ℤ
   pub factor : ℤ
-  pub parts : List Part
+  pub parts : List BearingPart
 
-abbrev pub part_of : Forces → ℕ → Part
+abbrev pub part_of : SceneForces → ℕ → BearingPart
 part_of f k = get_or f.parts k (record { a = pos 0; b = pos 0 })
 
 abbrev pub still : Move
@@ -36,7 +36,7 @@ abbrev pub move_of : Scene → List Move → ℕ → Move
 move_of s moves i = cond (s.body i).free (get_or moves (free_before s i) still) still
 
 -- forces with as many parts as bearings, admissible and balanced
-pub record AreBalanced (s : Scene) (f : Forces) : Type 0 where
+pub record AreBalanced (s : Scene) (f : SceneForces) : Type 0 where
   pub count : length f.parts ≡ s.bearings
   pub admissible : IsAdmissible s (part_of f)
   pub balanced : IsBalanced s (part_of f) f.scale f.factor
@@ -47,7 +47,7 @@ pub record IsFreeMotion (s : Scene) (moves : List Move) : Type 0 where
   pub unresisted : IsUnresisted s (move_of s moves)
 
 -- the dead loads stand
-pub record IsTrueStands (s : Scene) (f : Forces) : Type 0 where
+pub record IsTrueStands (s : Scene) (f : SceneForces) : Type 0 where
   pub scale_positive : pos 0 ≺ f.scale
   pub factor_zero : f.factor ≡ pos 0
   pub forces : AreBalanced s f
@@ -58,13 +58,13 @@ pub record IsTrueCollapse (s : Scene) (moves : List Move) : Type 0 where
   pub gains : pos 0 ≺ dead_power_of s (move_of s moves)
 
 -- the live loads are carried with a factor of at least 0
-pub record IsTrueLoaded (s : Scene) (f : Forces) : Type 0 where
+pub record IsTrueLoaded (s : Scene) (f : SceneForces) : Type 0 where
   pub scale_positive : pos 0 ≺ f.scale
   pub factor_nonneg : pos 0 ≼ f.factor
   pub forces : AreBalanced s f
 
 -- a factor is carried, and a motion on which the live loads gain power forbids more: both meet at this factor
-pub record IsTrueGreatest (s : Scene) (f : Forces) (moves : List Move) : Type 0 where
+pub record IsTrueGreatest (s : Scene) (f : SceneForces) (moves : List Move) : Type 0 where
   pub loaded : IsTrueLoaded s f
   pub motion : IsFreeMotion s moves
   pub gains : pos 0 ≺ live_power_of s (move_of s moves)
@@ -72,23 +72,23 @@ pub record IsTrueGreatest (s : Scene) (f : Forces) (moves : List Move) : Type 0 
       ≡ pos 0
 
 -- the live loads alone are carried, so that any multiple may be added
-pub record IsTrueRay (s : Scene) (f : Forces) : Type 0 where
+pub record IsTrueRay (s : Scene) (f : SceneForces) : Type 0 where
   pub scale_zero : f.scale ≡ pos 0
   pub factor_positive : pos 0 ≺ f.factor
   pub forces : AreBalanced s f
 
-pub record IsTrueUnbounded (s : Scene) (base ray : Forces) : Type 0 where
+pub record IsTrueUnbounded (s : Scene) (base ray : SceneForces) : Type 0 where
   pub loaded : IsTrueLoaded s base
   pub rises : IsTrueRay s ray
 
-pub data Certificate : Type 0 where
-  stands : Forces → Certificate
-  collapses : List Move → Certificate
-  greatest : Forces → List Move → Certificate
-  unbounded : Forces → Forces → Certificate
+pub data SceneCertificate : Type 0 where
+  stands : SceneForces → SceneCertificate
+  collapses : List Move → SceneCertificate
+  greatest : SceneForces → List Move → SceneCertificate
+  unbounded : SceneForces → SceneForces → SceneCertificate
 
 -- a certificate is true of a scene
-abbrev pub Certifies : Scene → Certificate → Type 0
+abbrev pub Certifies : Scene → SceneCertificate → Type 0
 Certifies s (stands f) = IsTrueStands s f
 Certifies s (collapses moves) = IsTrueCollapse s moves
 Certifies s (greatest f moves) = IsTrueGreatest s f moves

@@ -6,7 +6,7 @@ use Rattle.stack_polygon.specs.Limits.{IsInRange}
 use Rattle.stack_polygon.specs.Sizes.{IsWithin}
 use Rattle.stack_frame.specs.declared.cone.Cone.{Cone}
 use Rattle.stack_frame.specs.Cones.{IsCoefficient}
-use Rattle.stack_frame.specs.Directions.{IsStep}
+use Rattle.stack_polygon.specs.Sizes.{IsStep}
 use Rattle.stack_contact.specs.declared.types.Bearing.{Bearing}
 use Rattle.stack_equilibrium.specs.declared.types.Wrench.{Wrench}
 use Rattle.stack_equilibrium.specs.declared.force.Force.{Force}
@@ -49,8 +49,8 @@ edge_wrench_of o z plus = let f = edge_force_of z plus in record {
 }
 
 -- a wrench times a number
-abbrev pub times : ℤ → Wrench → Wrench
-times c w = record { fx = c *ℤ w.fx; fy = c *ℤ w.fy; m = c *ℤ w.m }
+abbrev pub wrench_times : ℤ → Wrench → Wrench
+wrench_times c w = record { fx = c *ℤ w.fx; fy = c *ℤ w.fy; m = c *ℤ w.m }
 
 -- the sizes of such a wrench
 pub record IsEdgeWrench (w : Wrench) : Type 0 where

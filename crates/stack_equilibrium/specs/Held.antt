@@ -2,15 +2,15 @@
 use Rattle.std.specs.Prelude.{ℕ, ℤ, List, map}
 use Rattle.stack_contact.specs.Surveyed.{Surveyed}
 use Rattle.stack_certificate.specs.Certificate.{ForcesValue, MotionValue}
-use Rattle.stack_equilibrium.specs.Scene.{Part, Move}
-use Rattle.stack_equilibrium.specs.Certificates.{Forces, part_of, move_of}
+use Rattle.stack_equilibrium.specs.Scene.{BearingPart, Move}
+use Rattle.stack_equilibrium.specs.Certificates.{SceneForces, part_of, move_of}
 use Rattle.stack_equilibrium.specs.SurveyScene.{scene_of}
 
 -- along the normal and along the tangent
-abbrev pub part_of_pair : ℤ × ℤ → Part
+abbrev pub part_of_pair : ℤ × ℤ → BearingPart
 part_of_pair p = record { a = p.0; b = p.1 }
 
-abbrev pub forces_of : ForcesValue → Forces
+abbrev pub forces_of : ForcesValue → SceneForces
 forces_of f = record { scale = f.scale; factor = f.factor; parts = map part_of_pair f.parts }
 
 -- the velocity along x and along y, and the turning rate
@@ -21,7 +21,7 @@ abbrev pub moves_of : MotionValue → List Move
 moves_of y = map move_of_triple y
 
 -- what bearing k bears
-abbrev pub part_at : ForcesValue → ℕ → Part
+abbrev pub part_at : ForcesValue → ℕ → BearingPart
 part_at f k = part_of (forces_of f) k
 
 -- how body i of a survey moves: the moves are those of its free blocks, in order

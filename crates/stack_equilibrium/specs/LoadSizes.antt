@@ -1,6 +1,6 @@
 -- How large the loads of a block can grow within the limits of a model.
 use Rattle.std.specs.Prelude.{◌≡◌, ℕ, ℤ, pos, ◌-ℤ◌, ◌*ℤ◌}
-use Rattle.stack_frame.specs.Directions.{IsStep}
+use Rattle.stack_polygon.specs.Sizes.{IsStep}
 use Rattle.stack_polygon.specs.declared.point.Point.{Point}
 use Rattle.stack_polygon.specs.Limits.{IsInRange}
 use Rattle.stack_polygon.specs.Sizes.{IsWithin}

@@ -14,8 +14,8 @@ abbrev pub no_load : Wrench
 no_load = record { fx = pos 0; fy = pos 0; m = pos 0 }
 
 -- two wrenches together, about one point
-abbrev pub both : Wrench → Wrench → Wrench
-both v w = record { fx = v.fx +ℤ w.fx; fy = v.fy +ℤ w.fy; m = v.m +ℤ w.m }
+abbrev pub wrench_sum : Wrench → Wrench → Wrench
+wrench_sum v w = record { fx = v.fx +ℤ w.fx; fy = v.fy +ℤ w.fy; m = v.m +ℤ w.m }
 
 -- the sum of n wrenches about one point
 abbrev pub total_of : ℕ → (ℕ → Wrench) → Wrench
@@ -50,8 +50,8 @@ weight_of w (o ∷ rest) = record {
 }
 
 -- six times the wrench about o of the force (f, g) at a point
-abbrev pub load_of : Point → Point → ℤ → ℤ → Wrench
-load_of o at f g = record {
+abbrev pub load_wrench : Point → Point → ℤ → ℤ → Wrench
+load_wrench o at f g = record {
   fx = pos 6 *ℤ f;
   fy = pos 6 *ℤ g;
   m = pos 6 *ℤ ((at.x -ℤ o.x) *ℤ g -ℤ (at.y -ℤ o.y) *ℤ f);

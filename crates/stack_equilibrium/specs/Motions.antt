@@ -7,23 +7,23 @@ use lib.IntN.{ℤ, pos, ◌+ℤ◌, ◌-ℤ◌, ◌*ℤ◌, neg_ℤ}
 use Rattle.stack_algebra.specs.Sums.{sum_to}
 use Rattle.stack_algebra.specs.IntegerOrder.{◌≼◌, abs}
 use Rattle.stack_equilibrium.specs.declared.types.Wrench.{Wrench}
-use Rattle.stack_equilibrium.specs.Scene.{Move, Bearing, Scene}
+use Rattle.stack_equilibrium.specs.Scene.{Move, SceneBearing, Scene}
 
 -- the velocity of body i at the point of a bearing
-abbrev pub velocity_x_of : Scene → (ℕ → Move) → Bearing → ℕ → ℤ
+abbrev pub velocity_x_of : Scene → (ℕ → Move) → SceneBearing → ℕ → ℤ
 velocity_x_of s y z i = (y i).u -ℤ (y i).r *ℤ (z.py -ℤ (s.body i).oy)
 
-abbrev pub velocity_y_of : Scene → (ℕ → Move) → Bearing → ℕ → ℤ
+abbrev pub velocity_y_of : Scene → (ℕ → Move) → SceneBearing → ℕ → ℤ
 velocity_y_of s y z i = (y i).v +ℤ (y i).r *ℤ (z.px -ℤ (s.body i).ox)
 
 -- the later body's velocity less the earlier's, along the normal (-ty, tx)
-abbrev pub opening_of : Scene → (ℕ → Move) → Bearing → ℤ
+abbrev pub opening_of : Scene → (ℕ → Move) → SceneBearing → ℤ
 opening_of s y z =
     neg_ℤ z.ty *ℤ (velocity_x_of s y z z.second -ℤ velocity_x_of s y z z.first)
     +ℤ z.tx *ℤ (velocity_y_of s y z z.second -ℤ velocity_y_of s y z z.first)
 
 -- and along the tangent (tx, ty)
-abbrev pub slide_of : Scene → (ℕ → Move) → Bearing → ℤ
+abbrev pub slide_of : Scene → (ℕ → Move) → SceneBearing → ℤ
 slide_of s y z =
     z.tx *ℤ (velocity_x_of s y z z.second -ℤ velocity_x_of s y z z.first)
     +ℤ z.ty *ℤ (velocity_y_of s y z z.second -ℤ velocity_y_of s y z z.first)

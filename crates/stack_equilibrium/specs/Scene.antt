@@ -14,12 +14,12 @@ pub record Move : Type 0 where
   pub r : ℤ
 
 -- what a bearing bears on the later body: a along its normal, b along its tangent
-pub record Part : Type 0 where
+pub record BearingPart : Type 0 where
   pub a : ℤ
   pub b : ℤ
 
 -- a body: whether it is free, its first corner, and the sums of its dead and of its live loads
-pub record Body : Type 0 where
+pub record SceneBody : Type 0 where
   pub free : Bool
   pub ox : ℤ
   pub oy : ℤ
@@ -28,7 +28,7 @@ pub record Body : Type 0 where
 
 -- a point where the body `first` and the later body `second` bear on one another: the point, the tangent of
 -- the joint, whose normal (-ty, tx) points to the later body, and the coefficient of friction, p over q
-pub record Bearing : Type 0 where
+pub record SceneBearing : Type 0 where
   pub first : ℕ
   pub second : ℕ
   pub px : ℤ
@@ -40,13 +40,13 @@ pub record Bearing : Type 0 where
 
 pub record Scene : Type 0 where
   pub bodies : ℕ
-  pub body : ℕ → Body
+  pub body : ℕ → SceneBody
   pub bearings : ℕ
-  pub bearing : ℕ → Bearing
+  pub bearing : ℕ → SceneBearing
 
 -- a bearing lies between an earlier and a later body of the scene, and its coefficient has a positive
 -- denominator and no negative numerator
-pub record IsProperBearing (s : Scene) (z : Bearing) : Type 0 where
+pub record IsProperBearing (s : Scene) (z : SceneBearing) : Type 0 where
   pub second_exists : z.second < s.bodies
   pub first_before_second : z.first < z.second
   pub denominator_positive : pos 0 ≺ z.q

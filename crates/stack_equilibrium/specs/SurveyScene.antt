@@ -11,7 +11,7 @@ use Rattle.stack_equilibrium.specs.declared.types.Wrench.{Wrench}
 use Rattle.stack_equilibrium.specs.declared.types.Question.{Question}
 use Rattle.stack_equilibrium.specs.declared.types.Question.TheVariants.{Dead, Live}
 use Rattle.stack_equilibrium.specs.Scene as scene
-use Rattle.stack_equilibrium.specs.Loads.{no_load, both, total_of, weight_of, load_of}
+use Rattle.stack_equilibrium.specs.Loads.{no_load, wrench_sum, total_of, weight_of, load_wrench}
 
 -- the first stored corner of body i
 abbrev pub first_corner_of : model.Structure → ℕ → Point
@@ -31,7 +31,7 @@ is_asked Live l = l.live
 
 -- six times its wrench about o, where it is and acts on body i
 abbrev pub acting : Question → ℕ → Point → Load → Wrench
-acting q i o l = if nat_eq l.body i && is_asked q l then load_of o l.at l.fx l.fy else no_load
+acting q i o l = if nat_eq l.body i && is_asked q l then load_wrench o l.at l.fx l.fy else no_load
 
 -- the listed loads on body i
 abbrev pub listed_on : Question → model.Structure → ℕ → Wrench
@@ -39,11 +39,11 @@ listed_on q s i = total_of (length s.loads) (λ n. acting q i (first_corner_of s
 
 -- all loads on body i: its weight is a dead one
 abbrev pub loads_on : Question → model.Structure → ℕ → Wrench
-loads_on Dead s i = both (weight_at s i) (listed_on Dead s i)
+loads_on Dead s i = wrench_sum (weight_at s i) (listed_on Dead s i)
 loads_on Live s i = listed_on Live s i
 
 -- a body is free or fixed, and its moments are taken about its first stored corner
-abbrev pub scene_body_of : model.Structure → ℕ → scene.Body
+abbrev pub scene_body_of : model.Structure → ℕ → scene.SceneBody
 scene_body_of s i = record {
   free = not (model.body_of s i).fixed;
   ox = (first_corner_of s i).x;
@@ -53,7 +53,7 @@ scene_body_of s i = record {
 }
 
 -- a bearing has its point, its tangent and the coefficient of its cone
-abbrev pub scene_bearing_of : Bearing → scene.Bearing
+abbrev pub scene_bearing_of : Bearing → scene.SceneBearing
 scene_bearing_of z = record {
   first = z.first;
   second = z.second;

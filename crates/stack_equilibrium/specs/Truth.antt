@@ -10,7 +10,7 @@ use Rattle.stack_equilibrium.specs.Held.{forces_of, moves_of}
 use Rattle.stack_equilibrium.specs.SurveyScene.{scene_of}
 
 -- the certificate as statics sees it
-abbrev pub held : CertificateValue → statics.Certificate
+abbrev pub held : CertificateValue → statics.SceneCertificate
 held (stands f) = statics.stands (forces_of f)
 held (collapses y) = statics.collapses (moves_of y)
 held (greatest f y) = statics.greatest (forces_of f) (moves_of y)

@@ -5,11 +5,12 @@ use lib.ListN.{get_or}
 use Rattle.stack_algebra.specs.IntegerOrder.{◌≼◌, ◌≺◌, abs}
 use Rattle.stack_polygon.specs.declared.point.Point.{Point}
 use Rattle.stack_equilibrium.specs.declared.types.Wrench.{Wrench}
-use Rattle.stack_equilibrium.specs.Scene.{Move, Part, Body, Bearing, Scene}
+use Rattle.stack_equilibrium.specs.Scene.{Move, BearingPart, SceneBody, SceneBearing, Scene}
 use Rattle.stack_equilibrium.specs.Balance.{sum_y_of, IsWithinCone}
 use Rattle.stack_equilibrium.specs.Motions.{opening_of, slide_of, dead_power_of, live_power_of}
-use Rattle.stack_equilibrium.specs.Loads.{no_load, weight_of, load_of}
-use Rattle.stack_equilibrium.specs.Certificates.{Forces, part_of, move_of, IsTrueStands, IsTrueCollapse, IsTrueGreatest}
+use Rattle.stack_equilibrium.specs.Loads.{no_load, weight_of, load_wrench}
+use Rattle.stack_equilibrium.specs.Certificates.{SceneForces, part_of, move_of, IsTrueStands, IsTrueCollapse}
+use Rattle.stack_equilibrium.specs.Certificates.{IsTrueGreatest}
 
 -- minus n
 abbrev pub minus : ℕ → ℤ
@@ -19,7 +20,7 @@ abbrev pub at_point : ℤ → ℤ → Point
 at_point x y = record { x = x; y = y }
 
 -- a body with these corners: its first corner, its weight at one unit per area, and a live load
-abbrev pub body_of : Bool → Point → List Point → Wrench → Body
+abbrev pub body_of : Bool → Point → List Point → Wrench → SceneBody
 body_of free o rest live = record {
   free = free;
   ox = o.x;
@@ -30,7 +31,7 @@ body_of free o rest live = record {
 }
 
 -- a bearing between two bodies, at a point, with its tangent and its friction p over q
-abbrev pub bearing_of : ℕ → ℕ → Point → ℤ → ℤ → ℤ → ℤ → Bearing
+abbrev pub bearing_of : ℕ → ℕ → Point → ℤ → ℤ → ℤ → ℤ → SceneBearing
 bearing_of first second at tx ty p q = record {
   first = first;
   second = second;
@@ -42,7 +43,7 @@ bearing_of first second at tx ty p q = record {
   q = q;
 }
 
-abbrev pub scene_of_lists : List Body → List Bearing → Scene
+abbrev pub scene_of_lists : List SceneBody → List SceneBearing → Scene
 scene_of_lists bodies bearings = record {
   bodies = length bodies;
   body = λ i. get_or bodies i (body_of false (at_point (pos 0) (pos 0)) [] no_load);
@@ -51,17 +52,17 @@ scene_of_lists bodies bearings = record {
       (bearing_of 0 0 (at_point (pos 0) (pos 0)) (pos 1) (pos 0) (pos 0) (pos 1));
 }
 
-abbrev pub forces_of : ℤ → ℤ → List Part → Forces
+abbrev pub forces_of : ℤ → ℤ → List BearingPart → SceneForces
 forces_of scale factor parts = record { scale = scale; factor = factor; parts = parts }
 
-abbrev pub part : ℤ → ℤ → Part
+abbrev pub part : ℤ → ℤ → BearingPart
 part a b = record { a = a; b = b }
 
 abbrev pub move : ℤ → ℤ → ℤ → Move
 move u v r = record { u = u; v = v; r = r }
 
 -- the ground, from (-10, -1) to (10, 0)
-abbrev pub ground : Body
+abbrev pub ground : SceneBody
 ground = body_of false (at_point (minus 10) (minus 1))
     (at_point (pos 10) (minus 1) ∷ at_point (pos 10) (pos 0) ∷ at_point (minus 10) (pos 0) ∷ []) no_load
 
@@ -75,7 +76,7 @@ post_scene p q live = scene_of_lists
 
 -- a push of one unit to the right at the post's upper left corner
 abbrev pub push : Wrench
-push = load_of (at_point (pos 0) (pos 0)) (at_point (pos 0) (pos 4)) (pos 1) (pos 0)
+push = load_wrench (at_point (pos 0) (pos 0)) (at_point (pos 0) (pos 4)) (pos 1) (pos 0)
 
 abbrev pub standing_post : Scene
 standing_post = post_scene (pos 1) (pos 1) no_load
@@ -111,24 +112,24 @@ smooth_keystone = scene_of_lists
     (at_point (pos 10) (pos 0) ∷ at_point (pos 10) (pos 4) ∷ at_point (pos 2) (pos 4) ∷ []) no_load
     ∷ body_of true (at_point (minus 1) (pos 0))
     (at_point (pos 1) (pos 0) ∷ at_point (pos 2) (pos 4) ∷ at_point (minus 2) (pos 4) ∷ [])
-    (load_of (at_point (minus 1) (pos 0)) (at_point (pos 0) (pos 4)) (pos 0) (pos 1)) ∷ [])
+    (load_wrench (at_point (minus 1) (pos 0)) (at_point (pos 0) (pos 4)) (pos 0) (pos 1)) ∷ [])
     (bearing_of 0 2 (at_point (minus 2) (pos 4)) (pos 1) (minus 4) (pos 0) (pos 1)
     ∷ bearing_of 0 2 (at_point (minus 1) (pos 0)) (pos 1) (minus 4) (pos 0) (pos 1)
     ∷ bearing_of 1 2 (at_point (pos 1) (pos 0)) (pos 1) (pos 4) (pos 0) (pos 1)
     ∷ bearing_of 1 2 (at_point (pos 2) (pos 4)) (pos 1) (pos 4) (pos 0) (pos 1) ∷ [])
 
 -- the parts that hold the pushed post as it tips, and its motion
-abbrev pub tipping_parts : List Part
+abbrev pub tipping_parts : List BearingPart
 tipping_parts = part (pos 0) (pos 0) ∷ part (pos 48) (minus 12) ∷ []
 
-abbrev pub tipping_parts_without_the_first : List Part
+abbrev pub tipping_parts_without_the_first : List BearingPart
 tipping_parts_without_the_first = part (pos 48) (minus 12) ∷ []
 
 abbrev pub tipping_move : List Move
 tipping_move = move (pos 0) (pos 2) (minus 1) ∷ []
 
 -- what the slope bears where its friction just holds, and the motion of the block where it doesn't
-abbrev pub slope_parts : List Part
+abbrev pub slope_parts : List BearingPart
 slope_parts = part (pos 84) (pos 63) ∷ part (pos 12) (pos 9) ∷ []
 
 abbrev pub slipping_move : List Move
@@ -155,10 +156,10 @@ IsResisted s moves k = ¬ ((s.bearing k).p *ℤ abs (slide_of s (move_of s moves
     (s.bearing k).q *ℤ opening_of s (move_of s moves) (s.bearing k))
 
 -- the sum along y of the post, number 1
-abbrev pub post_sum_y_of : Scene → Forces → ℤ
+abbrev pub post_sum_y_of : Scene → SceneForces → ℤ
 post_sum_y_of s f = sum_y_of s (part_of f) f.scale f.factor 1
 
-abbrev pub standing_forces : List Part → Forces
+abbrev pub standing_forces : List BearingPart → SceneForces
 standing_forces parts = forces_of (pos 1) (pos 0) parts
 
 -- changed copies, each with the condition that it breaks

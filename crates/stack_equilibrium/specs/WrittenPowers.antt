@@ -1,5 +1,5 @@
 -- The work of the dead or the live loads on a motion: each product and each partial sum in the written order,
--- up to the first that passes.
+-- up to the first that is too wide.
 use Rattle.std.specs.Prelude.{ℕ, ℤ, pos, ◌+ℤ◌, ◌*ℤ◌, Result, Ok, Err}
 use Rattle.stack_algebra.specs.Steps.{◌>>=◌, steps}
 use Rattle.stack_contact.specs.Surveyed.{Surveyed}

@@ -1,5 +1,5 @@
 -- The sums of a block's balance along x, along y and about its first stored corner: each product and each
--- partial result in the written order, up to the first that passes.
+-- partial result in the written order, up to the first that is too wide.
 use Rattle.std.specs.Prelude.{ℕ, nat_eq, ℤ, pos, ◌+ℤ◌, ◌-ℤ◌, ◌*ℤ◌, List, get_or, Result, Ok, Err, if◌then◌else◌}
 use Rattle.stack_algebra.specs.Steps.{◌>>=◌, steps}
 use Rattle.stack_polygon.specs.declared.point.Point.{Point}
@@ -37,16 +37,16 @@ joint_at o z = record {
 -- the force on the second body along x: b*tx, a*ty and their difference
 unfoldable pub written_force_x : Joint → Push → Result Whole Wide
 written_force_x z f = do
-  along ← made (f.b.value *ℤ z.tx.value)
+  axis_part ← made (f.b.value *ℤ z.tx.value)
   across ← made (f.a.value *ℤ z.ty.value)
-  made (along.value -ℤ across.value)
+  made (axis_part.value -ℤ across.value)
 
 -- and along y: a*tx, b*ty and their sum
 unfoldable pub written_force_y : Joint → Push → Result Whole Wide
 written_force_y z f = do
   across ← made (f.a.value *ℤ z.tx.value)
-  along ← made (f.b.value *ℤ z.ty.value)
-  made (across.value +ℤ along.value)
+  axis_part ← made (f.b.value *ℤ z.ty.value)
+  made (across.value +ℤ axis_part.value)
 
 -- its moment: lx times the force along y, ly times that along x, and their difference
 unfoldable pub written_moment : Joint → Push → Result Whole Wide
@@ -79,18 +79,18 @@ abbrev pub bearing_at : Axis → Block → List (ℤ × ℤ) → ℕ → Whole �
 bearing_at axis block parts k so_far z = with_bearing axis block (push_at parts k) so_far z
 
 -- the number of a wrench along an axis
-abbrev pub along : Axis → Wrench → ℤ
-along X w = w.fx
-along Y w = w.fy
-along M w = w.m
+abbrev pub axis_part : Axis → Wrench → ℤ
+axis_part X w = w.fx
+axis_part Y w = w.fy
+axis_part M w = w.m
 
 -- from 0, the bearings in order; then scale*dead is made and added, then factor*live
 unfoldable pub written_sum : Axis → Block → Whole → Whole → List Bearing → List (ℤ × ℤ) → Result Whole Wide
 written_sum axis block scale factor bearings parts = do
   borne ← steps (bearing_at axis block parts) 0 (whole (pos 0)) bearings
-  weight ← made (scale.value *ℤ along axis block.dead)
+  weight ← made (scale.value *ℤ axis_part axis block.dead)
   standing ← made (borne.value +ℤ weight.value)
-  drive ← made (factor.value *ℤ along axis block.live)
+  drive ← made (factor.value *ℤ axis_part axis block.live)
   made (standing.value +ℤ drive.value)
 
 -- a number with the axis whose sum it is

@@ -1,5 +1,5 @@
 -- The opening and the slide of a bearing: each product and each difference in the written order, up to the
--- first that passes.
+-- first that is too wide.
 use Rattle.std.specs.Prelude.{ℕ, ℤ, pos, ◌+ℤ◌, ◌-ℤ◌, ◌*ℤ◌, get_or, Result, Ok, Err, if◌then◌else◌}
 use Rattle.stack_algebra.specs.Steps.{◌>>=◌}
 use Rattle.stack_model.specs.Structure.{body_of}

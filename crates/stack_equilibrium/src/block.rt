@@ -2,7 +2,7 @@
 
 ghost use Rattle.std.specs.Prelude.{◌≡◌, ◌<◌, ◌-ℤ◌, length};
 ghost use Rattle.stack_whole.specs.Whole.{whole};
-ghost use Rattle.stack_equilibrium.specs.WrittenSums.{push_at, joint_at, along};
+ghost use Rattle.stack_equilibrium.specs.WrittenSums.{push_at, joint_at, axis_part};
 
 use crate::types::{Axis, Wrench};
 use stack_contact::types::Bearing;
@@ -36,7 +36,7 @@ pub struct Block {
 
 /// The number of a wrench along an axis.
 pub fn number_along(axis: Axis, wrench: Wrench) -> Whole
-    ensures { result ≡ whole (along axis wrench) }
+    ensures { result ≡ whole (axis_part axis wrench) }
 {
     match axis {
         Axis::X => Whole { value: wrench.fx },

@@ -2,14 +2,15 @@
 
 ghost use Rattle.std.specs.Prelude.{◌≡◌, ◌<◌, ◌*ℤ◌, ◌+ℤ◌, neg_ℤ, pos, negsuc, length};
 ghost use Rattle.stack_frame.specs.Cones.{IsCoefficient};
-ghost use Rattle.stack_frame.specs.Directions.{IsStep};
+ghost use Rattle.stack_polygon.specs.Sizes.{IsStep};
 ghost use Rattle.stack_polygon.specs.Limits.{IsInRange};
 ghost use Rattle.stack_contact.specs.FreeBlocks.{frees_of};
-ghost use Rattle.stack_equilibrium.specs.Balance.{side_of};
+ghost use Rattle.stack_equilibrium.specs.Balance.{bearing_side};
 ghost use Rattle.stack_equilibrium.specs.SurveyScene.{bearing_of, scene_bearing_of};
 ghost use Rattle.stack_whole.specs.Whole.{whole};
 ghost use Rattle.stack_equilibrium.specs.LoadSizes.{AreForces, IsForce, IsMoment, IsSmall};
-ghost use Rattle.stack_equilibrium.specs.Columns.{IsBounded, IsRate, IsShare, IsEdgeWrench, lean_of, edge_force_of, edge_wrench_of, times};
+ghost use Rattle.stack_equilibrium.specs.Columns.{IsBounded, IsRate, IsShare, IsEdgeWrench, lean_of, edge_force_of};
+ghost use Rattle.stack_equilibrium.specs.Columns.{edge_wrench_of, wrench_times};
 ghost use Rattle.stack_equilibrium.specs.Answers.{body_number, column_of};
 
 use crate::block::whole_of;
@@ -131,7 +132,7 @@ fn against(number: Whole) -> Whole
 /// The wrench on the other body.
 fn reaction(wrench: Wrench) -> Wrench
     requires { IsEdgeWrench wrench }
-    ensures value { result ≡ times (negsuc 0) wrench }
+    ensures value { result ≡ wrench_times (negsuc 0) wrench }
     ensures size { IsEdgeWrench result }
 {
     Wrench {
@@ -144,7 +145,7 @@ fn reaction(wrench: Wrench) -> Wrench
 /// What a wrench on the second body is to body `i`.
 fn exerted(i: usize, z: Bearing, wrench: Wrench) -> Wrench
     requires { IsEdgeWrench wrench }
-    ensures value { result ≡ times (side_of i (scene_bearing_of z)) wrench }
+    ensures value { result ≡ wrench_times (bearing_side i (scene_bearing_of z)) wrench }
     ensures size { IsSmall result }
 {
     if i == z.second {

@@ -1,10 +1,11 @@
 //! Forces at the ends of arms.
 
 ghost use Rattle.std.specs.Prelude.{◌≡◌, ◌*ℤ◌, ◌-ℤ◌};
-ghost use Rattle.stack_frame.specs.Directions.{IsStep};
+ghost use Rattle.stack_polygon.specs.Sizes.{IsStep};
 ghost use Rattle.stack_polygon.specs.Limits.{IsInRange, IsNear};
 ghost use Rattle.stack_whole.specs.Whole.{whole};
-ghost use Rattle.stack_equilibrium.specs.LoadSizes.{IsForce, AreForces, AreSteps, IsTurn, IsMoment, arm_between, moment_with};
+ghost use Rattle.stack_equilibrium.specs.LoadSizes.{IsForce, AreForces, AreSteps, IsTurn, IsMoment, arm_between};
+ghost use Rattle.stack_equilibrium.specs.LoadSizes.{moment_with};
 
 use stack_polygon::Point;
 use stack_whole::Whole;

@@ -1,6 +1,8 @@
 //! The laws of statics, each a clause of a function that does nothing.
 
-ghost use Rattle.stack_equilibrium.specs.Laws.{BearingsWork, VirtualWorkIsZero, AnyCornerWeighsTheSame, StandsIsCarried, CollapseExcludesBalance, GreatestIsCarried, GreatestBoundsEveryFactor, UnboundedCarriesAbove, UnboundedCarriesAll};
+ghost use Rattle.stack_equilibrium.specs.Laws.{BearingsWork, VirtualWorkIsZero, AnyCornerWeighsTheSame};
+ghost use Rattle.stack_equilibrium.specs.Laws.{StandsIsCarried, CollapseExcludesBalance, GreatestIsCarried};
+ghost use Rattle.stack_equilibrium.specs.Laws.{GreatestBoundsEveryFactor, UnboundedCarriesAbove, UnboundedCarriesAll};
 ghost use Rattle.stack_equilibrium.specs.WorkedScenes.{TrueOfWorkedScenes, FalseOfWorkedScenes};
 
 /// A bearing's force does on a motion of both its bodies what its parts do on the opening and the slide, and

@@ -1,5 +1,12 @@
 //! Statics of rigid blocks: what forces, motions and certificates mean, the laws that tie them, and the sums of
 //! a survey.
+//!
+//! ```text
+//! // A post 2 wide and 4 high, its upper left corner pushed to the right with one unit of force.
+//! dead(&survey, 0) == Wrench { fx: 0, fy: -48, m: -48 }
+//! live(&survey, 0) == Wrench { fx: 6, fy: 0, m: -24 }
+//! residue(&survey, &forces, 0) // all 0 where the forces balance the post
+//! ```
 #![tactic(auto)]
 
 pub mod block;

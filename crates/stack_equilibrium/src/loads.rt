@@ -5,8 +5,9 @@ ghost use Rattle.stack_polygon.specs.Limits.{IsInRange};
 ghost use Rattle.stack_model.specs.ModelView.{model_view};
 ghost use Rattle.stack_contact.specs.FreeBlocks.{frees_of};
 ghost use Rattle.stack_equilibrium.specs.declared.types.Question.TheVariants as questions;
-ghost use Rattle.stack_equilibrium.specs.Loads.{both, load_of};
-ghost use Rattle.stack_equilibrium.specs.LoadSizes.{IsSmall, AreForces, IsMoment, IsLimited, AreLoads, IsWeight, force_in, sixfold_of};
+ghost use Rattle.stack_equilibrium.specs.Loads.{wrench_sum, load_wrench};
+ghost use Rattle.stack_equilibrium.specs.LoadSizes.{IsSmall, AreForces, IsMoment, IsLimited, AreLoads, IsWeight};
+ghost use Rattle.stack_equilibrium.specs.LoadSizes.{force_in, sixfold_of};
 ghost use Rattle.stack_equilibrium.specs.SurveyScene.{is_asked, acting, listed_on, loads_on};
 ghost use Rattle.stack_equilibrium.specs.Answers.{body_in, body_number};
 
@@ -66,7 +67,7 @@ fn sixfold(force: Force, moment: Whole) -> Wrench
 fn wrench_about(corner: Point, load: Load) -> Wrench
     requires corner { IsInRange corner }
     requires load { IsLimited load }
-    ensures value { result ≡ load_of corner load.at load.fx load.fy }
+    ensures value { result ≡ load_wrench corner load.at load.fx load.fy }
     ensures size { AreLoads 1 result }
 {
     let force = force_of(load);
@@ -91,7 +92,7 @@ fn acting(question: Question, i: usize, corner: Point, load: Load) -> Wrench
 fn plus(total: Wrench, one: Wrench, count: usize) -> Wrench
     requires total { AreLoads count total }
     requires one { AreLoads 1 one }
-    ensures value { result ≡ both total one }
+    ensures value { result ≡ wrench_sum total one }
     ensures size { AreLoads (count + 1) result }
 {
     Wrench {
@@ -122,7 +123,7 @@ fn listed_on(question: Question, model: &Model, i: usize) -> Wrench
 fn with_weight(weight: Wrench, listed: Wrench) -> Wrench
     requires weight { IsWeight weight }
     requires listed { AreLoads 256 listed }
-    ensures value { result ≡ both weight listed }
+    ensures value { result ≡ wrench_sum weight listed }
     ensures size { IsSmall result }
 {
     Wrench {

@@ -5,7 +5,8 @@ ghost use Rattle.stack_contact.specs.ContactLists.{IsBearing};
 ghost use Rattle.stack_contact.specs.FreeBlocks.{frees_of};
 ghost use Rattle.stack_certificate.specs.Certificate.{motion_view};
 ghost use Rattle.stack_equilibrium.specs.SurveyScene.{bearing_of};
-ghost use Rattle.stack_equilibrium.specs.WrittenVelocities.{block_move_at, velocity_at, gap_at, told_gap, written_opening};
+ghost use Rattle.stack_equilibrium.specs.WrittenVelocities.{block_move_at, velocity_at, gap_at, told_gap};
+ghost use Rattle.stack_equilibrium.specs.WrittenVelocities.{written_opening};
 ghost use Rattle.stack_equilibrium.specs.Answers.{AreRates};
 
 use crate::block::joint_of;
@@ -92,7 +93,7 @@ fn told(gap: Result<Gap, Wide>) -> Result<(i128, i128), VelocityWide>
 
 /// The opening and the slide of bearing `k`: the later body's velocity less the earlier's, as dot products with
 /// the bearing's normal and with its tangent. Fixed bodies are at rest, and there is a move for each free
-/// block. `VelocityWide` exactly where a number of the written order passes 2^127 - 1 in size. Takes no memory.
+/// block. `VelocityWide` exactly where a number of the written order is more than 2^127 - 1 in size. Takes no memory.
 pub fn opening(s: &Survey, y: &Motion, k: usize) -> Result<(i128, i128), VelocityWide>
     requires bearing { k < length s.now.bearings }
     requires count { length (motion_view y.now) ≡ length (frees_of s.now.structure.bodies) }

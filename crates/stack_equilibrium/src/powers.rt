@@ -6,7 +6,8 @@ ghost use Rattle.stack_certificate.specs.Certificate.{motion_view};
 ghost use Rattle.stack_equilibrium.specs.SurveyScene.{scene_of};
 ghost use Rattle.stack_equilibrium.specs.Held.{move_at};
 ghost use Rattle.stack_whole.specs.Whole.{whole};
-ghost use Rattle.stack_equilibrium.specs.WrittenPowers.{with_product, with_work, with_block, summed_power, told_power, written_power};
+ghost use Rattle.stack_equilibrium.specs.WrittenPowers.{with_product, with_work, with_block, summed_power};
+ghost use Rattle.stack_equilibrium.specs.WrittenPowers.{told_power, written_power};
 ghost use Rattle.stack_equilibrium.specs.Answers.{power_of};
 
 use crate::loads::loads_on;
@@ -78,7 +79,7 @@ fn told(work: Result<Whole, Wide>) -> Result<i128, PowerWide>
 
 /// The work of the dead or the live loads on a motion, in sixths of a unit: over the free blocks, `u` times the
 /// force to the right, `v` times the force upwards and `r` times the moment. There is a move for each free
-/// block. `PowerWide` exactly where a number of the written order passes 2^127 - 1 in size. Takes no memory.
+/// block. `PowerWide` exactly where a number of the written order is more than 2^127 - 1 in size. Takes no memory.
 pub fn power(s: &Survey, y: &Motion, q: Question) -> Result<i128, PowerWide>
     requires { length (motion_view y.now) ≡ length (frees_of s.now.structure.bodies) }
     ensures written { result ≡ written_power q s.now (motion_view y.now) }

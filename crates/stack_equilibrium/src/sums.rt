@@ -3,7 +3,9 @@
 ghost use Rattle.std.specs.Prelude.{◌≡◌, ◌≤◌, length, pos};
 ghost use Rattle.stack_algebra.specs.Steps.{steps};
 ghost use Rattle.stack_whole.specs.Whole.{whole};
-ghost use Rattle.stack_equilibrium.specs.WrittenSums.{written_force_x, written_force_y, written_moment, written_force, with_bearing, bearing_at, written_sum, on_axis, written_sums};
+ghost use Rattle.stack_equilibrium.specs.WrittenSums.{written_force_x, written_force_y, written_moment};
+ghost use Rattle.stack_equilibrium.specs.WrittenSums.{written_force, with_bearing, bearing_at, written_sum, on_axis};
+ghost use Rattle.stack_equilibrium.specs.WrittenSums.{written_sums};
 
 use crate::block::{Block, Joint, Push, joint_of, number_along, push_of};
 use crate::types::{Axis, SumWide, Wrench};
@@ -107,7 +109,7 @@ fn sum(
     standing.sum(drive)
 }
 
-/// That sum, with its axis where a number passes.
+/// That sum, with its axis where a number is too wide.
 fn sum_along(
     axis: Axis,
     block: Block,

@@ -2,7 +2,8 @@
 
 ghost use Rattle.stack_equilibrium.specs.Scene.{IsProper};
 ghost use Rattle.stack_equilibrium.specs.SurveyScene.{scene_of};
-ghost use Rattle.stack_equilibrium.specs.Answers.{SumsAreThoseOfTheScene, RatesAreThoseOfTheScene, PowersAreThoseOfTheScene};
+ghost use Rattle.stack_equilibrium.specs.Answers.{SumsAreThoseOfTheScene, RatesAreThoseOfTheScene};
+ghost use Rattle.stack_equilibrium.specs.Answers.{PowersAreThoseOfTheScene};
 
 use stack_contact::types::Survey;
 
@@ -15,7 +16,7 @@ pub fn proper(s: &Survey)
     let _bodies = s.model().bodies();
 }
 
-/// Where no number of the written order passes, the sums, the openings and the powers are those of the scene.
+/// Where no number of the written order is too wide, the sums, the openings and the powers are those of the scene.
 /// Does nothing.
 pub fn written_laws()
     ensures sums { SumsAreThoseOfTheScene }

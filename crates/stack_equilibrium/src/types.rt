@@ -29,16 +29,16 @@ pub enum Question {
     Live,
 }
 
-/// A number of a block's sum passes 2^127 - 1 in size.
+/// A number of a block's sum is more than 2^127 - 1 in size.
 #[derive(Clone, Copy, Debug, PartialEq, Eq)]
 pub struct SumWide {
     pub axis: Axis,
 }
 
-/// A number of the velocities at a bearing passes 2^127 - 1 in size.
+/// A number of the velocities at a bearing is more than 2^127 - 1 in size.
 #[derive(Clone, Copy, Debug, PartialEq, Eq)]
 pub struct VelocityWide;
 
-/// A number of a power passes 2^127 - 1 in size.
+/// A number of a power is more than 2^127 - 1 in size.
 #[derive(Clone, Copy, Debug, PartialEq, Eq)]
 pub struct PowerWide;

@@ -2,7 +2,8 @@
 
 ghost use Rattle.std.specs.Prelude.{◌≡◌};
 ghost use Rattle.stack_whole.specs.Whole.{whole};
-ghost use Rattle.stack_equilibrium.specs.WrittenVelocities.{written_velocity, written_difference, written_normal, written_tangential, written_gap, at_rest};
+ghost use Rattle.stack_equilibrium.specs.WrittenVelocities.{written_velocity, written_difference, written_normal};
+ghost use Rattle.stack_equilibrium.specs.WrittenVelocities.{written_tangential, written_gap, at_rest};
 
 use crate::block::{Joint, whole_of};
 use stack_contact::types::Bearing;

@@ -2,7 +2,7 @@
 
 ghost use Rattle.std.specs.Prelude.{◌≡◌, ◌*ℤ◌, ◌-ℤ◌, neg_ℤ, pos};
 ghost use Rattle.stack_polygon.specs.Limits.{IsNear};
-ghost use Rattle.stack_polygon.specs.Sizes.{IsThree, IsWithin};
+ghost use Rattle.stack_polygon.specs.Sizes.{IsThreeCoordinates, IsWithin};
 ghost use Rattle.stack_whole.specs.Whole.{whole};
 ghost use Rattle.stack_equilibrium.specs.Loads.{weight_of};
 ghost use Rattle.stack_equilibrium.specs.LoadSizes.{IsWeight};
@@ -15,7 +15,7 @@ use stack_whole::Whole;
 fn thrice(x: i64) -> Whole
     requires { IsNear x }
     ensures value { result ≡ whole (pos 3 *ℤ x) }
-    ensures size { IsThree result.value }
+    ensures size { IsThreeCoordinates result.value }
 {
     Whole {
         value: 3 * i128::from(x),
@@ -23,7 +23,7 @@ fn thrice(x: i64) -> Whole
 }
 
 fn times(factor: Whole, twice_area: Whole) -> Whole
-    requires factor { IsThree factor.value }
+    requires factor { IsThreeCoordinates factor.value }
     requires area { IsWithin 32 8000000000000 twice_area.value }
     ensures { result ≡ whole (factor.value *ℤ twice_area.value) }
 {
@@ -87,6 +87,10 @@ fn made_weight(unit: i64, twice_area: Whole, moment: Whole) -> Wrench
         m: downwards(unit, moment).value,
     }
 }
+
+// Which corner is the first doesn't matter: area and moment about the y axis are sums over the triangles of a fan,
+// which are those of the outline whichever corner the fan starts at, and the moment is then taken about the corner
+// that is stored first. `weight_law` says that with another first corner the weight is the same force.
 
 /// The weight of a body with this outline: it acts downwards, and its moment is about the first stored corner.
 pub fn weight_on(unit: i64, outline: &Polygon) -> Wrench

@@ -3,7 +3,7 @@ use Rattle.std.proofs.Common.{◌≡◌, sym, ap, ◌∙◌, ℕ}
 use lib.IntN.{ℤ}
 use Rattle.stack_algebra.proofs.OrderedFractions.{ordered_fractions}
 use Rattle.stack_rational.specs.declared.exact.Exact.{Ghosts}
-use Rattle.stack_rational.specs.Passes.{passes}
+use Rattle.stack_rational.specs.TooWide.{is_too_wide}
 use Rattle.stack_contact.specs.Surveyed.{Surveyed}
 use Rattle.stack_equilibrium.specs.declared.types.Question.{Question}
 use Rattle.stack_equilibrium.specs.SurveyScene.{scene_of}
@@ -17,14 +17,14 @@ use Rattle.stack_duality.specs.WrittenRun.{written_run}
 use Rattle.stack_posing.specs.Posed.{posed}
 use Rattle.stack_simplex.specs.declared.ended.Ended.{Ended}
 use Rattle.stack_simplex.specs.Ends.{ended_as, last_of}
-use Rattle.stack_simplex.specs.Written.{IsWritten}
+use Rattle.stack_simplex.specs.Written.{IsWrittenTable}
 use Rattle.stack_extract.specs.Ends.{IsEndOfSurvey}
 
 module _ {V : Type 0} {number : Ghosts V} (p : Lent) (t : Table V number)
     (shape : shape_of_table t ≡ shape_of_problem p)
     (table : table_of t ≡ written_table ordered_fractions (problem_of p)) where
   -- the run takes the table that is built
-  pub is_written : IsProblem p → IsWritten (shape_of_table t) (table_of t)
+  pub is_written : IsProblem p → IsWrittenTable (shape_of_table t) (table_of t)
   is_written h = record {
     problem = p;
     condition = h;
@@ -35,15 +35,15 @@ module _ {V : Type 0} {number : Ghosts V} (p : Lent) (t : Table V number)
   pub is_end_of_survey : (q : Question) (v : Surveyed) (e : Ended V number) (max : ℤ) (budget : ℕ) →
       problem_of p ≡ posed q (scene_of v) → flips_of t ≡ flipped (problem_of p) →
       shape_of_table (last_of e) ≡ shape_of_table t → flips_of (last_of e) ≡ flips_of t →
-      ended_as e ≡ written_run ordered_fractions (shape_of_table t) (passes max) budget (table_of t) →
+      ended_as e ≡ written_run ordered_fractions (shape_of_table t) (is_too_wide max) budget (table_of t) →
       IsEndOfSurvey q v e
   is_end_of_survey q v e max budget posed_as flips last_shape last_flips run = record {
     run = record {
-      rule = passes max;
+      rule = is_too_wide max;
       budget = budget;
       run = sym (run
-          ∙ (λ i. written_run ordered_fractions (shape i) (passes max) budget (table i))
-          ∙ ap (λ (P : Problem). written_run ordered_fractions P.shape (passes max) budget
+          ∙ (λ i. written_run ordered_fractions (shape i) (is_too_wide max) budget (table i))
+          ∙ ap (λ (P : Problem). written_run ordered_fractions P.shape (is_too_wide max) budget
           (written_table ordered_fractions P)) posed_as);
     };
     shape = last_shape ∙ shape ∙ ap (λ (P : Problem). P.shape) posed_as;

@@ -35,7 +35,7 @@ use Rattle.stack_simplex.specs.Ends.{ended_as, last_of}
 use Rattle.stack_amounts.specs.WrittenLists.{forces_list, ray_list, bound_list, collapse_list}
 use Rattle.stack_amounts.specs.WrittenLists.{forces_number, ray_number}
 use Rattle.stack_amounts.specs.WholeLists.{whole_list, amount, NonePulls}
-use Rattle.stack_equations.specs.FreeBodies.{free_count}
+use Rattle.stack_equations.specs.FreeBodies.{free_bodies}
 use Rattle.stack_certified.specs.Certified.{forces_value, pair_at, triple_at, motion_value}
 use Rattle.stack_certified.specs.Laws.{EndPushes, EndsPush}
 use Rattle.stack_extract.specs.declared.types.Numbers.{Numbers}
@@ -44,7 +44,8 @@ use Rattle.stack_extract.specs.declared.types.EndStep.TheVariants.{Whole}
 use Rattle.stack_extract.specs.declared.types.ExtractPlace.{ExtractPlace}
 use Rattle.stack_extract.specs.declared.types.ExtractError.{ExtractError}
 use Rattle.stack_extract.specs.declared.types.ExtractError.TheVariants.{TooWide, Memory}
-use Rattle.stack_extract.specs.Places.{place, Tells, scale_spot, whole_spot, list_place, AreWhole, part_place}
+use Rattle.stack_extract.specs.Places.{extract_place, TellsPlace, scale_spot, whole_spot, list_place, AreWhole}
+use Rattle.stack_extract.specs.Places.{part_place}
 use Rattle.stack_extract.specs.Places.{AreParts, push_place}
 use Rattle.stack_extract.specs.Places.{shift_place, shifted_place, forces_place, ray_place}
 use Rattle.stack_extract.specs.Ends.{IsEndOfSurvey, IsEndOfSome, HasForces, HasRay, entering_of, AreForcesFrom}
@@ -55,11 +56,11 @@ length_map g [] = refl
 length_map g (x ∷ xs) = ap suc (length_map g xs)
 
 -- the first of two places, and the second where there is no first
-tells_first : (e : ExtractError) (a b : Option ExtractPlace) → Tells e a → Tells e (or_else a b)
+tells_first : (e : ExtractError) (a b : Option ExtractPlace) → TellsPlace e a → TellsPlace e (or_else a b)
 tells_first (TooWide p) a b h = ap (λ o. or_else o b) h
 tells_first Memory a b h = tt
 
-tells_second : (e : ExtractError) (a b : Option ExtractPlace) → a ≡ None → Tells e b → Tells e (or_else a b)
+tells_second : (e : ExtractError) (a b : Option ExtractPlace) → a ≡ None → TellsPlace e b → TellsPlace e (or_else a b)
 tells_second (TooWide p) a b n h = ap (λ o. or_else o b) n ∙ h
 tells_second Memory a b n h = tt
 
@@ -82,13 +83,13 @@ module _ (l : Numbers) (bs : List Bearing) (xs : List Fraction) where
     };
   }
 
-  pub first_passes : (e : ExtractError) → Tells e (list_place l xs) → Tells e (push_place l bs xs)
-  first_passes e h = tells_first e (list_place l xs) (part_place l bs (whole_list xs)) h
+  pub first_too_wide : (e : ExtractError) → TellsPlace e (list_place l xs) → TellsPlace e (push_place l bs xs)
+  first_too_wide e h = tells_first e (list_place l xs) (part_place l bs (whole_list xs)) h
 
-  pub part_passes_first : (scale : ℤ) (zs : List ℤ) (e : ExtractError) → AreWhole l xs scale zs →
-      Tells e (part_place l bs zs) → Tells e (push_place l bs xs)
-  part_passes_first scale zs e w h = tells_second e (list_place l xs) (part_place l bs (whole_list xs)) w.fits
-      (subst (λ us. Tells e (part_place l bs us)) w.numbers h)
+  pub part_too_wide_first : (scale : ℤ) (zs : List ℤ) (e : ExtractError) → AreWhole l xs scale zs →
+      TellsPlace e (part_place l bs zs) → TellsPlace e (push_place l bs xs)
+  part_too_wide_first scale zs e w h = tells_second e (list_place l xs) (part_place l bs (whole_list xs)) w.fits
+      (subst (λ us. TellsPlace e (part_place l bs us)) w.numbers h)
 
 -- the end of a survey's run
 module _ {V : Type 0} {number : Ghosts V} (q : Question) (v : Surveyed) (e : Ended V number)
@@ -179,10 +180,10 @@ module _ (q : Question) (v : Surveyed) (T : Tabled Fraction) where
   are_forces xs e (Err x) h = tt
 
   pub forces_pass : (xs : List Fraction) → xs ≡ forces_list (posed_shape q (scene_of v)) T →
-      (r : Result Pushes ExtractError) → IfErr r (λ x. Tells x (push_place Forces v.bearings xs)) →
-      IfErr r (λ x. Tells x (forces_place q v T))
+      (r : Result Pushes ExtractError) → IfErr r (λ x. TellsPlace x (push_place Forces v.bearings xs)) →
+      IfErr r (λ x. TellsPlace x (forces_place q v T))
   forces_pass xs e (Ok f) h = tt
-  forces_pass xs e (Err x) h = subst (λ xs. Tells x (push_place Forces v.bearings xs)) e h
+  forces_pass xs e (Err x) h = subst (λ xs. TellsPlace x (push_place Forces v.bearings xs)) e h
 
   pub is_ray : (c : ℕ) (xs : List Fraction) → xs ≡ ray_list (posed_shape q (scene_of v)) T c →
       (f : ForcesValue) →
@@ -194,22 +195,22 @@ module _ (q : Question) (v : Surveyed) (T : Tabled Fraction) where
         ∙ ap (λ xs. forces_value v.bearings (pos 0) (whole_list xs)) e;
   }
 
-  pub ray_passes : (c : ℕ) (xs : List Fraction) → xs ≡ ray_list (posed_shape q (scene_of v)) T c →
-      (x : ExtractError) → Tells x (push_place Ray v.bearings xs) → Tells x (ray_place q v T c)
-  ray_passes c xs e x h = subst (λ xs. Tells x (push_place Ray v.bearings xs)) e h
+  pub ray_too_wide : (c : ℕ) (xs : List Fraction) → xs ≡ ray_list (posed_shape q (scene_of v)) T c →
+      (x : ExtractError) → TellsPlace x (push_place Ray v.bearings xs) → TellsPlace x (ray_place q v T c)
+  ray_too_wide c xs e x h = subst (λ xs. TellsPlace x (push_place Ray v.bearings xs)) e h
 
 -- moves from a list
 not_passing : (b : Bool) (p : ExtractPlace) → only_if (not b) p ≡ None → b ≡ true
 not_passing true p h = refl
 not_passing false p h = absurd cc
 
--- where no number passes, each whole number fits
+-- where no number is too wide, each whole number fits
 pub each_fits : (l : Numbers) (xs : List Fraction) (scale : ℤ) (zs : List ℤ) → AreWhole l xs scale zs →
     (k : ℕ) →
     k < length zs → fits (amount zs k) ≡ true
 each_fits l xs scale zs h k m = let n = ap length h.numbers ∙ length_map (times_scale (scale_of xs)) xs in
     ap (λ us. fits (amount us k)) h.numbers
-    ∙ not_passing (fits (amount (whole_list xs) k)) (place l Whole k)
+    ∙ not_passing (fits (amount (whole_list xs) k)) (extract_place l Whole k)
     (first-none (length xs) (whole_spot l xs) (or_none (first (length xs) (scale_spot l xs))
     (first (length xs) (whole_spot l xs)) h.fits).1 k (omega (arith, m, n)))
 
@@ -237,20 +238,20 @@ module _ (S : Shape) (T : Tabled Fraction) (xs : List Fraction) (e : xs ≡ coll
   }
   shifted n flips s (Err x) h = tt
 
-  pub shifted_passes : shift_place S T ≡ None → (r : Result Moves ExtractError) →
-      IfErr r (λ x. Tells x (list_place Motion xs)) → IfErr r (λ x. Tells x (shifted_place S T))
-  shifted_passes s (Ok y) h = tt
-  shifted_passes s (Err x) h = tells_second x (shift_place S T) (list_place Motion (collapse_list S T)) s
-      (subst (λ xs. Tells x (list_place Motion xs)) e h)
+  pub shifted_too_wide : shift_place S T ≡ None → (r : Result Moves ExtractError) →
+      IfErr r (λ x. TellsPlace x (list_place Motion xs)) → IfErr r (λ x. TellsPlace x (shifted_place S T))
+  shifted_too_wide s (Ok y) h = tt
+  shifted_too_wide s (Err x) h = tells_second x (shift_place S T) (list_place Motion (collapse_list S T)) s
+      (subst (λ xs. TellsPlace x (list_place Motion xs)) e h)
 
-pub shift_passes_first : (S : Shape) (T : Tabled Fraction) (x : ExtractError) → Tells x (shift_place S T) →
-    Tells x (shifted_place S T)
-shift_passes_first S T x h = tells_first x (shift_place S T) (list_place Motion (collapse_list S T)) h
+pub shift_too_wide_first : (S : Shape) (T : Tabled Fraction) (x : ExtractError) → TellsPlace x (shift_place S T) →
+    TellsPlace x (shifted_place S T)
+shift_too_wide_first S T x h = tells_first x (shift_place S T) (list_place Motion (collapse_list S T)) h
 
 -- the moves of a survey
 moves_are : (v : Surveyed) (q : Question) (flips : ℕ → Bool) → flips ≡ flipped (posed q (scene_of v)) →
     (zs us : List ℤ) → zs ≡ us → moves_by (length (frees_of v.structure.bodies)) flips zs
-    ≡ motion_value (free_count (scene_of v)) (posed q (scene_of v)) us
+    ≡ motion_value (free_bodies (scene_of v)) (posed q (scene_of v)) us
 moves_are v q flips h zs us e = λ i. listed (sym (all_before v) i)
     (triple_at (λ k. turned (h i k) (amount (e i) k)))
 

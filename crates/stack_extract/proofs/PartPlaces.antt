@@ -1,4 +1,4 @@
--- The first bearing whose parts pass, as a loop finds it.
+-- The first bearing whose parts are too wide, as a loop finds it.
 use Rattle.std.proofs.Common.{◌≡◌, refl, sym, ap, ◌∙◌, ℕ, ◌+◌, ◌*◌, ◌<◌, ◌≤◌, Bool, true, false, not}
 use Rattle.std.proofs.Common.{◌&&◌, List, [], ◌∷◌, ◌++◌, length, get_or, Some, None, Result, Ok, Err, arith}
 use Rattle.std.specs.Prelude.{if◌then◌else◌}
@@ -19,7 +19,7 @@ use Rattle.stack_amounts.specs.WholeLists.{amount}
 use Rattle.stack_certified.specs.Certified.{pair_between, pair_at}
 use Rattle.stack_extract.specs.declared.types.Numbers.{Numbers}
 use Rattle.stack_extract.specs.declared.types.EndStep.TheVariants.{Part}
-use Rattle.stack_extract.specs.Places.{place, part_fits, part_spot, part_place, AreParts}
+use Rattle.stack_extract.specs.Places.{extract_place, part_fits, part_spot, part_place, AreParts}
 use Rattle.stack_extract.specs.WrittenPart.{written_part}
 use Rattle.stack_extract.proofs.TableReads.{grown}
 
@@ -114,7 +114,7 @@ pub record IsBearingAt (bs : List Bearing) (zs : List ℤ) (k : ℕ) (z : Bearin
   pub first : w ≡ whole (amount zs (2 * k))
   pub second : v ≡ whole (amount zs (2 * k + 1))
 
--- the parts of the first k bearings, and none of them passes
+-- the parts of the first k bearings, and none of them is too wide
 module _ (l : Numbers) (bs : List Bearing) (zs : List ℤ) where
   pub record PartsSoFar (k : ℕ) (ps : List (ℤ × ℤ)) : Type 0 where
     pub parts : ps ≡ listed k (pair_at bs zs)
@@ -126,8 +126,8 @@ module _ (l : Numbers) (bs : List Bearing) (zs : List ℤ) where
   module _ (k : ℕ) (z : Bearing) (w v : Number) (ps : List (ℤ × ℤ)) (h : IsBearingAt bs zs k z w v)
       (f : PartsSoFar k ps) where
     spot_is : (b : Bool) → part_fits z w.value v.value ≡ b →
-        part_spot l bs zs k ≡ only_if (not b) (place l Part k)
-    spot_is b e = ap (λ b. only_if (not b) (place l Part k))
+        part_spot l bs zs k ≡ only_if (not b) (extract_place l Part k)
+    spot_is b e = ap (λ b. only_if (not b) (extract_place l Part k))
         (sym (λ i. part_fits (h.bearing i) (h.first i).value (h.second i).value) ∙ e)
 
     pub one_part : (us : List (ℤ × ℤ)) (r : Push) → written_part z.cone w v ≡ Ok r →
@@ -138,8 +138,9 @@ module _ (l : Numbers) (bs : List Bearing) (zs : List ℤ) where
       fit = first_more k (part_spot l bs zs) f.fit (spot_is true t.fits);
     }
 
-    pub part_passes : (x : Wide) → written_part z.cone w v ≡ Err x → part_place l bs zs ≡ Some (place l Part k)
-    part_passes x e = first_found (length bs) k (part_spot l bs zs) (place l Part k) h.within f.fit
+    pub part_too_wide : (x : Wide) → written_part z.cone w v ≡ Err x → part_place l bs zs
+        ≡ Some (extract_place l Part k)
+    part_too_wide x e = first_found (length bs) k (part_spot l bs zs) (extract_place l Part k) h.within f.fit
         (spot_is false (part_wide z w v x e))
 
   pub all_parts : (k : ℕ) (ps : List (ℤ × ℤ)) → length bs ≤ k → k ≤ length bs → PartsSoFar k ps →

@@ -1,4 +1,4 @@
--- The first place that passes, as a loop finds it.
+-- The first place that is too wide, as a loop finds it.
 use Rattle.std.proofs.Common.{◌≡◌, refl, sym, ap, subst, ◌∙◌, ℕ, zero, suc, ◌+◌, ◌^◌, ◌<◌, ◌≤◌, true, false}
 use Rattle.std.proofs.Common.{not}
 use Rattle.std.proofs.Common.{List, [], ◌∷◌, ◌++◌, map, length, get_or, take, Option, Some, None, arith}
@@ -16,10 +16,10 @@ use Rattle.stack_algebra.proofs.Search.{first_found, first_all-none, first_more}
 use Rattle.stack_algebra.proofs.Fractions.{of}
 use Rattle.stack_whole.specs.Whole.{greatest_number, fits}
 use Rattle.stack_rational.specs.declared.exact.Op.TheVariants.{Difference}
-use Rattle.stack_rational.specs.Passes.{passes}
+use Rattle.stack_rational.specs.TooWide.{is_too_wide}
 use Rattle.stack_rational.specs.Stored.{Within}
 use Rattle.stack_rational.specs.Laws.{widest}
-use Rattle.stack_rational.specs.CommonScale.{scale_of, times_scale, IsFirstPassing}
+use Rattle.stack_rational.specs.CommonScale.{scale_of, times_scale, IsFirstTooWide}
 use Rattle.stack_rational.proofs.Multiples.{scale_positive}
 use Rattle.stack_rational.proofs.RunningMultiple.{held}
 use Rattle.stack_table.specs.Table.{Shape, Tabled}
@@ -31,13 +31,14 @@ use Rattle.stack_extract.specs.declared.types.EndStep.TheVariants.{Shift, Scale,
 use Rattle.stack_extract.specs.declared.types.ExtractPlace.{ExtractPlace}
 use Rattle.stack_extract.specs.declared.types.ExtractError.{ExtractError}
 use Rattle.stack_extract.specs.declared.types.ExtractError.TheVariants.{TooWide}
-use Rattle.stack_extract.specs.Places.{place, Tells, scale_spot, whole_spot, list_place, AreWhole, shift_spot}
+use Rattle.stack_extract.specs.Places.{extract_place, TellsPlace, scale_spot, whole_spot, list_place, AreWhole}
+use Rattle.stack_extract.specs.Places.{shift_spot}
 use Rattle.stack_extract.specs.Places.{shift_place}
 
 -- an error at a place tells it
 pub told : (e : ExtractError) (p : ExtractPlace) (o : Option ExtractPlace) → e ≡ TooWide p → o ≡ Some p →
-    Tells e o
-told e p o h g = subst (λ e. Tells e o) (sym h) g
+    TellsPlace e o
+told e p o h g = subst (λ e. TellsPlace e o) (sym h) g
 
 -- what is within the greatest number fits, and nothing else
 same_test : (k : ℕ) → nat_le k greatest_number ≡ nat_lt k (2 ^ 127)
@@ -51,29 +52,30 @@ passing_fits z h = sym (same_test (nat_abs z)) ∙ lt-leb (nat_abs z) greatest_n
 
 -- an objective cell less 1
 module _ (S : Shape) (T : Tabled Fraction) where
-  pub shift_passes : (k : ℕ) (x y : Fraction) → k < S.rows → x ≡ bound_number S T k → y ≡ of (pos 1) →
-      passes widest Difference x y ≡ true → first k (shift_spot S T) ≡ None →
-      shift_place S T ≡ Some (place Motion Shift k)
-  shift_passes k x y l e f p h = first_found S.rows k (shift_spot S T) (place Motion Shift k) l h
-      (ap (λ b. only_if b (place Motion Shift k)) (sym (λ i. passes widest Difference (e i) (f i)) ∙ p))
+  pub shift_too_wide : (k : ℕ) (x y : Fraction) → k < S.rows → x ≡ bound_number S T k → y ≡ of (pos 1) →
+      is_too_wide widest Difference x y ≡ true → first k (shift_spot S T) ≡ None →
+      shift_place S T ≡ Some (extract_place Motion Shift k)
+  shift_too_wide k x y l e f p h = first_found S.rows k (shift_spot S T) (extract_place Motion Shift k) l h
+      (ap (λ b. only_if b (extract_place Motion Shift k)) (sym (λ i. is_too_wide widest Difference (e i) (f i)) ∙ p))
 
   pub shift_fits : (k : ℕ) (x y : Fraction) → x ≡ bound_number S T k → y ≡ of (pos 1) →
-      passes widest Difference x y ≡ false → first k (shift_spot S T) ≡ None → first (k + 1)
+      is_too_wide widest Difference x y ≡ false → first k (shift_spot S T) ≡ None → first (k + 1)
       (shift_spot S T) ≡ None
   shift_fits k x y e f p h = first_more k (shift_spot S T) h
-      (ap (λ b. only_if b (place Motion Shift k)) (sym (λ i. passes widest Difference (e i) (f i)) ∙ p))
+      (ap (λ b. only_if b (extract_place Motion Shift k)) (sym (λ i. is_too_wide widest Difference (e i) (f i)) ∙ p))
 
 module _ (l : Numbers) (xs : List Fraction) where
   -- the common scale
   no_scale_spot : (i : ℕ) → scale_of (take (i + 1) xs) ≤ greatest_number → scale_spot l xs i ≡ None
-  no_scale_spot i h = ap (λ b. only_if b (place l Scale i))
+  no_scale_spot i h = ap (λ b. only_if b (extract_place l Scale i))
       (le-ltb greatest_number (scale_of (take (i + 1) xs)) h)
 
-  pub scale_passes : (i : ℕ) → IsFirstPassing xs i → list_place l xs ≡ Some (place l Scale i)
-  scale_passes i h = ap (λ o. or_else o (first (length xs) (whole_spot l xs)))
-      (first_found (length xs) i (scale_spot l xs) (place l Scale i) h.below
+  pub scale_too_wide : (i : ℕ) → IsFirstTooWide xs i → list_place l xs ≡ Some (extract_place l Scale i)
+  scale_too_wide i h = ap (λ o. or_else o (first (length xs) (whole_spot l xs)))
+      (first_found (length xs) i (scale_spot l xs) (extract_place l Scale i) h.below
       (first_all-none i (scale_spot l xs) (λ k m. no_scale_spot k (h.fits_before (k + 1) (omega (arith, m)))))
-      (ap (λ b. only_if b (place l Scale i)) (lt-ltb greatest_number (scale_of (take (i + 1) xs)) h.passes)))
+      (ap (λ b. only_if b (extract_place l Scale i)) (lt-ltb greatest_number
+      (scale_of (take (i + 1) xs)) h.is_too_wide)))
 
   -- it fits
   abbrev pub ScaleFits : Type 0
@@ -114,7 +116,7 @@ module _ (l : Numbers) (xs : List Fraction) where
     omega (arith, ints, e, scale_positive xs),
   )
 
-  -- the whole numbers of the first i items, and none of them passes
+  -- the whole numbers of the first i items, and none of them is too wide
   pub record AreSoFar (i : ℕ) (zs : List ℤ) : Type 0 where
     pub numbers : zs ≡ map (times_scale (scale_of xs)) (take i xs)
     pub fit : first i (whole_spot l xs) ≡ None
@@ -130,16 +132,16 @@ module _ (l : Numbers) (xs : List Fraction) where
     numbers = u ∙ (λ j. f.numbers j ++ (v ∙ number_is i x s m e h ∙ mapped xs i x m) j ∷ [])
         ∙ sym (ap (map (times_scale (scale_of xs))) (take_more xs i x m)
         ∙ map_more (take i xs) (get_or xs i x ∷ []));
-    fit = first_more i (whole_spot l xs) f.fit (ap (λ b. only_if (not b) (place l Whole i))
+    fit = first_more i (whole_spot l xs) f.fit (ap (λ b. only_if (not b) (extract_place l Whole i))
         (sym (ap fits (number_is i x s m e h)) ∙ within_fits (times_scale (unsigned_abs s) x) w));
   }
 
   pub passes_here : (i : ℕ) (zs : List ℤ) (x : Fraction) (s : ℤ) → i < length xs → x ≡ get_or xs i x →
       s ≡ pos (scale_of xs) → ¬ (Within widest (times_scale (unsigned_abs s) x)) → ScaleFits → AreSoFar i zs →
-      list_place l xs ≡ Some (place l Whole i)
+      list_place l xs ≡ Some (extract_place l Whole i)
   passes_here i zs x s m e h w k f = scale_fits k
-      ∙ first_found (length xs) i (whole_spot l xs) (place l Whole i) m f.fit
-      (ap (λ b. only_if (not b) (place l Whole i))
+      ∙ first_found (length xs) i (whole_spot l xs) (extract_place l Whole i) m f.fit
+      (ap (λ b. only_if (not b) (extract_place l Whole i))
       (sym (ap fits (number_is i x s m e h)) ∙ passing_fits (times_scale (unsigned_abs s) x) w))
 
   pub all_whole : (i : ℕ) (zs : List ℤ) (n : ℤ) → length xs ≤ i → i ≤ length xs → n ≡ pos (scale_of xs) →

@@ -24,7 +24,7 @@ use Rattle.stack_extract.specs.declared.types.Numbers.{Numbers}
 use Rattle.stack_extract.specs.declared.types.ExtractPlace.{ExtractPlace}
 use Rattle.stack_extract.specs.Places.{push_place, forces_place, ray_place, collapse_place, bound_place}
 
--- the value of the written run of the survey's problem, under some rule of what passes and with some budget
+-- the value of the written run of the survey's problem, under some rule of what is too wide and with some budget
 pub record IsEndOfSurvey {V : Type 0} {number : Ghosts V} (q : Question) (v : Surveyed) (e : Ended V number)
     : Type 0 where
   pub run : IsEndOfRun q v (ended_as e)
@@ -69,7 +69,7 @@ entering_of (ray T c) = c
 entering_of (wide p k s) = 0
 entering_of over = 0
 
--- forces of a list of which no number passes
+-- forces of a list of which no number is too wide
 pub record AreForcesFrom (l : Numbers) (bs : List Bearing) (xs : List Fraction) (f : ForcesValue) : Type 0 where
   pub fits : push_place l bs xs ≡ None
   pub forces : f ≡ forces_value bs (pos (scale_of xs)) (whole_list xs)
@@ -85,7 +85,7 @@ pub record IsMotionFrom (n : ℕ) (flips : ℕ → Bool) (xs : List Fraction) (p
   pub moves : y ≡ moves_by n flips (whole_list xs)
 
 module _ (q : Question) (v : Surveyed) where
-  -- exactly the forces of a last table, of which no number passes
+  -- exactly the forces of a last table, of which no number is too wide
   pub record AreForcesOf (T : Tabled Fraction) (f : ForcesValue) : Type 0 where
     pub fits : forces_place q v T ≡ None
     pub forces : f ≡ end_forces q v T
@@ -112,7 +112,7 @@ module _ (q : Question) (v : Surveyed) where
   end_motion (wide p k s) = []
   end_motion over = []
 
-  -- exactly the motion of an end, of which no number passes
+  -- exactly the motion of an end, of which no number is too wide
   pub record IsMotionOf (x : End Fraction) (y : MotionValue) : Type 0 where
     pub fits : motion_place x ≡ None
     pub motion : y ≡ end_motion x

@@ -1,6 +1,6 @@
--- The first number that passes 2^127 - 1 among those that are made of an end, in their order: where it is a
--- motion of phase 1, an objective cell less 1; the common scale of the list; a whole number; where it is forces
--- or a ray, the parts of a bearing.
+-- The first number that is more than 2^127 - 1 in size among those that are made of an end, in their order: where
+-- it is a motion of phase 1, an objective cell less 1; the common scale of the list; a whole number; where it is
+-- forces or a ray, the parts of a bearing.
 use Rattle.std.specs.Prelude.{◌≡◌, ℕ, ◌+◌, ◌*◌, ℤ, pos, ◌+ℤ◌, ◌-ℤ◌, ◌*ℤ◌, not, ◌&&◌, ltb, Option, Some, None}
 use Rattle.std.specs.Prelude.{List, length, get_or, take, Bool, ⊤}
 use Rattle.stack_algebra.specs.Listed.{listed}
@@ -9,7 +9,7 @@ use Rattle.stack_algebra.specs.Fraction.{Fraction}
 use Rattle.stack_algebra.proofs.Fractions.{of}
 use Rattle.stack_rational.specs.declared.exact.Op.TheVariants.{Difference}
 use Rattle.stack_rational.specs.Laws.{widest}
-use Rattle.stack_rational.specs.Passes.{passes}
+use Rattle.stack_rational.specs.TooWide.{is_too_wide}
 use Rattle.stack_rational.specs.CommonScale.{scale_of}
 use Rattle.stack_whole.specs.Whole.{greatest_number, fits}
 use Rattle.stack_contact.specs.declared.types.Bearing.{Bearing}
@@ -29,46 +29,46 @@ use Rattle.stack_extract.specs.declared.types.ExtractPlace.{ExtractPlace}
 use Rattle.stack_extract.specs.declared.types.ExtractError.{ExtractError}
 use Rattle.stack_extract.specs.declared.types.ExtractError.TheVariants.{TooWide, Memory}
 
-abbrev pub place : Numbers → EndStep → ℕ → ExtractPlace
-place l s i = record { list = l; step = s; index = i }
+abbrev pub extract_place : Numbers → EndStep → ℕ → ExtractPlace
+extract_place l s i = record { list = l; step = s; index = i }
 
 -- an error other than want of memory tells the first place
-abbrev pub Tells : ExtractError → Option ExtractPlace → Type 0
-Tells (TooWide p) o = o ≡ Some p
-Tells Memory o = ⊤
+abbrev pub TellsPlace : ExtractError → Option ExtractPlace → Type 0
+TellsPlace (TooWide p) o = o ≡ Some p
+TellsPlace Memory o = ⊤
 
 -- the sum of a bearing's two amounts, q times it and p times their difference fit
 abbrev pub part_fits : Bearing → ℤ → ℤ → Bool
 part_fits z w v = fits (w +ℤ v) && (fits (z.cone.q *ℤ (w +ℤ v)) && fits (z.cone.p *ℤ (w -ℤ v)))
 
 module _ (l : Numbers) where
-  -- the common scale of the items up to item i passes
+  -- the common scale of the items up to item i is too wide
   abbrev pub scale_spot : List Fraction → ℕ → Option ExtractPlace
-  scale_spot xs i = only_if (ltb greatest_number (scale_of (take (i + 1) xs))) (place l Scale i)
+  scale_spot xs i = only_if (ltb greatest_number (scale_of (take (i + 1) xs))) (extract_place l Scale i)
 
-  -- whole number i passes
+  -- whole number i is too wide
   abbrev pub whole_spot : List Fraction → ℕ → Option ExtractPlace
-  whole_spot xs i = only_if (not (fits (amount (whole_list xs) i))) (place l Whole i)
+  whole_spot xs i = only_if (not (fits (amount (whole_list xs) i))) (extract_place l Whole i)
 
   -- of a list
   abbrev pub list_place : List Fraction → Option ExtractPlace
   list_place xs = or_else (first (length xs) (scale_spot xs)) (first (length xs) (whole_spot xs))
 
-  -- none passes, and these are the scale and the whole numbers
+  -- none is too wide, and these are the scale and the whole numbers
   pub record AreWhole (xs : List Fraction) (scale : ℤ) (zs : List ℤ) : Type 0 where
     pub fits : list_place xs ≡ None
     pub scale_is : scale ≡ pos (scale_of xs)
     pub numbers : zs ≡ whole_list xs
 
-  -- one of them passes at bearing k
+  -- one of them is too wide at bearing k
   abbrev pub part_spot : List Bearing → List ℤ → ℕ → Option ExtractPlace
   part_spot bs zs k = only_if
-      (not (part_fits (get_or bs k no_bearing) (amount zs (2 * k)) (amount zs (2 * k + 1)))) (place l Part k)
+      (not (part_fits (get_or bs k no_bearing) (amount zs (2 * k)) (amount zs (2 * k + 1)))) (extract_place l Part k)
 
   abbrev pub part_place : List Bearing → List ℤ → Option ExtractPlace
   part_place bs zs = first (length bs) (part_spot bs zs)
 
-  -- none passes, and these are the parts
+  -- none is too wide, and these are the parts
   pub record AreParts (bs : List Bearing) (zs : List ℤ) (ps : List (ℤ × ℤ)) : Type 0 where
     pub fits : part_place bs zs ≡ None
     pub parts : ps ≡ listed (length bs) (pair_at bs zs)
@@ -78,9 +78,10 @@ module _ (l : Numbers) where
   push_place bs xs = or_else (list_place xs) (part_place bs (whole_list xs))
 
 module _ (S : Shape) (T : Tabled Fraction) where
-  -- the objective cell of a row's artificial column less 1 passes
+  -- the objective cell of a row's artificial column less 1 is too wide
   abbrev pub shift_spot : ℕ → Option ExtractPlace
-  shift_spot k = only_if (passes widest Difference (bound_number S T k) (of (pos 1))) (place Motion Shift k)
+  shift_spot k = only_if (is_too_wide widest Difference (bound_number S T k) (of (pos 1)))
+      (extract_place Motion Shift k)
 
   abbrev pub shift_place : Option ExtractPlace
   shift_place = first S.rows shift_spot

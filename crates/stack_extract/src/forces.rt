@@ -6,7 +6,7 @@ ghost use Rattle.stack_equilibrium.specs.declared.types.Question.{Question};
 ghost use Rattle.stack_amounts.specs.WholeLists.{whole_list, NonePulls};
 ghost use Rattle.stack_simplex.specs.Ends.{ended_as, last_of};
 ghost use Rattle.stack_table.specs.Seen.{table_of};
-ghost use Rattle.stack_extract.specs.Places.{Tells, push_place, forces_place, ray_place};
+ghost use Rattle.stack_extract.specs.Places.{TellsPlace, push_place, forces_place, ray_place};
 ghost use Rattle.stack_extract.specs.Ends.{
   AreForcesFrom,
   IsEndOfSurvey,
@@ -41,7 +41,7 @@ fn from_list(
     requires count { length list.now ≡ suc (2 * length s.now.bearings) }
     requires pushes { NonePulls (whole_list list.now) }
     ensures ok { IfOk result (λ f. AreForcesFrom which s.now.bearings list.now (forces_view f)) }
-    ensures wide { IfErr result (λ e. Tells e (push_place which s.now.bearings list.now)) }
+    ensures wide { IfErr result (λ e. TellsPlace e (push_place which s.now.bearings list.now)) }
 {
     let bearings = s.bearings();
     let whole = whole_numbers(alloc, which, list)?;
@@ -81,14 +81,15 @@ fn entering<S: Exact>(e: &Ended<S>) -> usize
 /// values of the columns at their common scale, and for each bearing `q` times the sum of its two along the
 /// normal and `p` times their difference along the tangent, in sixths of a unit of force.
 ///
-/// Refused exactly where one of these passes 2^127 - 1, with the first that does, or where memory is wanting.
+/// Refused exactly where one of these is more than 2^127 - 1 in size, with the first that is, or where memory is
+/// wanting.
 pub fn forces_of<S: Exact>(alloc: Global, s: &Survey, e: &Ended<S>) -> Result<Forces, ExtractError>
     requires end { IsEndOfSome s.now e.now }
     requires forces { HasForces (ended_as e.now) }
     ensures ok { (q : Question) → IsEndOfSurvey q s.now e.now →
         IfOk result (λ f. AreForcesOf q s.now (table_of (last_of e.now)) (forces_view f)) }
     ensures wide { (q : Question) → IsEndOfSurvey q s.now e.now →
-        IfErr result (λ x. Tells x (forces_place q s.now (table_of (last_of e.now)))) }
+        IfErr result (λ x. TellsPlace x (forces_place q s.now (table_of (last_of e.now)))) }
 {
     certified_laws();
     let _bearings = s.bearings();
@@ -108,7 +109,7 @@ pub fn ray_of<S: Exact>(alloc: Global, s: &Survey, e: &Ended<S>) -> Result<Force
         IfOk result (λ f.
         IsRayOf q s.now (table_of (last_of e.now)) (entering_of (ended_as e.now)) (forces_view f)) }
     ensures wide { (q : Question) → IsEndOfSurvey q s.now e.now → IfErr result (λ x.
-        Tells x (ray_place q s.now (table_of (last_of e.now)) (entering_of (ended_as e.now)))) }
+        TellsPlace x (ray_place q s.now (table_of (last_of e.now)) (entering_of (ended_as e.now)))) }
 {
     certified_laws();
     run_laws();

@@ -1,5 +1,11 @@
 //! From the end of a run to the parts of its certificate: the forces, the ray or the motion of the last
 //! table, in whole numbers of 128 bits, whatever the width of the run.
+//!
+//! ```text
+//! // The end of the run of a survey's problem; a post on the ground stands.
+//! let forces = forces_of(alloc, &survey, &ended)?; // in whole numbers, or the first that is too wide
+//! forces.factor == 0
+//! ```
 #![tactic(auto)]
 
 mod forces;

@@ -13,7 +13,7 @@ ghost use Rattle.stack_amounts.specs.WholeLists.{amount};
 ghost use Rattle.stack_certified.specs.Certified.{triple_at};
 ghost use Rattle.stack_simplex.specs.Ends.{ended_as};
 ghost use Rattle.stack_extract.specs.declared.types.Numbers.TheVariants as numbers;
-ghost use Rattle.stack_extract.specs.Places.{Tells, list_place, shifted_place};
+ghost use Rattle.stack_extract.specs.Places.{TellsPlace, list_place, shifted_place};
 ghost use Rattle.stack_extract.specs.Ends.{
   moves_by,
   IsMotionFrom,
@@ -99,7 +99,7 @@ fn from_list<S: Exact>(
     requires listed { length list.now ≡ 3 * length (frees_of s.now.structure.bodies) }
     ensures ok { IfOk result (λ y. IsMotionFrom (length (frees_of s.now.structure.bodies)) (flips_of t.now)
         list.now (list_place numbers.Motion list.now) (motion_view y)) }
-    ensures wide { IfErr result (λ e. Tells e (list_place numbers.Motion list.now)) }
+    ensures wide { IfErr result (λ e. TellsPlace e (list_place numbers.Motion list.now)) }
 {
     let whole = whole_numbers(alloc, Numbers::Motion, list)?;
     let moves = moves_of(alloc, t, s.free_count(), &whole.numbers)?;
@@ -112,7 +112,7 @@ fn collapse_of<S: Exact>(alloc: Global, s: &Survey, t: &Table<S>) -> Result<Moti
     ensures ok { IfOk result (λ y. IsMotionFrom (length (frees_of s.now.structure.bodies)) (flips_of t.now)
         (collapse_list (shape_of_table t.now) (table_of t.now))
         (shifted_place (shape_of_table t.now) (table_of t.now)) (motion_view y)) }
-    ensures wide { IfErr result (λ e. Tells e (shifted_place (shape_of_table t.now) (table_of t.now))) }
+    ensures wide { IfErr result (λ e. TellsPlace e (shifted_place (shape_of_table t.now) (table_of t.now))) }
 {
     let list = collapse_numbers(alloc, t)?;
     from_list(alloc, s, t, &list)
@@ -125,7 +125,7 @@ fn bound_of<S: Exact>(alloc: Global, s: &Survey, t: &Table<S>) -> Result<Motion,
         (bound_list (shape_of_table t.now) (table_of t.now))
         (list_place numbers.Motion (bound_list (shape_of_table t.now) (table_of t.now))) (motion_view y)) }
     ensures wide { IfErr result (λ e.
-        Tells e (list_place numbers.Motion (bound_list (shape_of_table t.now) (table_of t.now)))) }
+        TellsPlace e (list_place numbers.Motion (bound_list (shape_of_table t.now) (table_of t.now)))) }
 {
     let list = bound_numbers(alloc, t)?;
     from_list(alloc, s, t, &list)
@@ -135,14 +135,15 @@ fn bound_of<S: Exact>(alloc: Global, s: &Survey, t: &Table<S>) -> Result<Motion,
 /// objective cells of the artificial columns, less 1 where no amounts balance, at their common scale, with the
 /// other sign in flipped rows; three for each free block.
 ///
-/// Refused exactly where one of these passes 2^127 - 1, with the first that does, or where memory is wanting.
+/// Refused exactly where one of these is more than 2^127 - 1 in size, with the first that is, or where memory is
+/// wanting.
 pub fn motion_of<S: Exact>(alloc: Global, s: &Survey, e: &Ended<S>) -> Result<Motion, ExtractError>
     requires end { IsEndOfSome s.now e.now }
     requires motion { HasMotion (ended_as e.now) }
     ensures ok { (q : Question) → IsEndOfSurvey q s.now e.now →
         IfOk result (λ y. IsMotionOf q s.now (ended_as e.now) (motion_view y)) }
     ensures wide { (q : Question) → IsEndOfSurvey q s.now e.now →
-        IfErr result (λ x. Tells x (motion_place q s.now (ended_as e.now))) }
+        IfErr result (λ x. TellsPlace x (motion_place q s.now (ended_as e.now))) }
 {
     match e {
         Ended::Infeasible(t) => collapse_of(alloc, s, t),

@@ -14,7 +14,7 @@ ghost use Rattle.stack_amounts.specs.WrittenLists.{
   bound_list,
   collapse_list,
 };
-ghost use Rattle.stack_extract.specs.Places.{Tells, shift_place};
+ghost use Rattle.stack_extract.specs.Places.{TellsPlace, shift_place};
 
 use crate::types::{EndStep, ExtractError, Numbers, too_wide};
 use crate::widened::widened;
@@ -150,14 +150,14 @@ fn longer(mut numbers: Vec<Frac<i128>>, number: Frac<i128>) -> Result<Vec<Frac<i
     Ok(numbers)
 }
 
-/// The objective cells of the artificial columns, each less 1. Refused at the first difference that passes.
+/// The objective cells of the artificial columns, each less 1. Refused at the first difference that is too wide.
 pub(crate) fn collapse_numbers<S: Exact>(
     alloc: Global,
     t: &Table<S>,
 ) -> Result<Vec<Frac<i128>>, ExtractError>
     ensures ok { IfOk result (λ r. r.items ≡ collapse_list (shape_of_table t.now) (table_of t.now)) }
     ensures fits { OnOk result (shift_place (shape_of_table t.now) (table_of t.now) ≡ None) }
-    ensures wide { IfErr result (λ e. Tells e (shift_place (shape_of_table t.now) (table_of t.now))) }
+    ensures wide { IfErr result (λ e. TellsPlace e (shift_place (shape_of_table t.now) (table_of t.now))) }
 {
     let mut numbers = Vec::new(alloc);
     for row in 0..t.rows() {

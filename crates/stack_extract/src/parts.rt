@@ -3,7 +3,7 @@
 ghost use Rattle.std.specs.Prelude.{◌≡◌, pos, ◌*◌, ◌≤◌, ◌<◌, ◌≤ℤ◌, ◌-ℤ◌, ◌++◌, ◌∷◌, [], length, IfOk, IfErr};
 ghost use Rattle.stack_whole.specs.Whole.{whole};
 ghost use Rattle.stack_amounts.specs.WholeLists.{amount, NonePulls};
-ghost use Rattle.stack_extract.specs.Places.{AreParts, Tells, part_place};
+ghost use Rattle.stack_extract.specs.Places.{AreParts, TellsPlace, part_place};
 ghost use Rattle.stack_extract.specs.WrittenPart.{written_part};
 
 use crate::types::{EndStep, ExtractError, Numbers, too_wide};
@@ -56,7 +56,7 @@ fn longer(mut parts: Vec<(i128, i128)>, push: Push) -> Result<Vec<(i128, i128)>,
 }
 
 /// The parts of all bearings from the amounts of the columns, none negative. Refused at the first bearing at
-/// which a number passes.
+/// which a number is too wide.
 pub(crate) fn force_parts(
     alloc: Global,
     which: Numbers,
@@ -66,7 +66,7 @@ pub(crate) fn force_parts(
     requires count { 2 * length bearings.now ≤ length numbers.now }
     requires pushes { NonePulls numbers.now }
     ensures ok { IfOk result (λ r. AreParts which bearings.now numbers.now r.items) }
-    ensures wide { IfErr result (λ e. Tells e (part_place which bearings.now numbers.now)) }
+    ensures wide { IfErr result (λ e. TellsPlace e (part_place which bearings.now numbers.now)) }
 {
     let mut parts = Vec::new(alloc);
     for (k, bearing) in bearings.iter().enumerate() {

@@ -1,8 +1,8 @@
-//! Where the numbers of an end pass.
+//! Where the numbers of an end are too wide.
 
 ghost use Rattle.std.specs.Prelude.{◌≡◌};
 ghost use Rattle.stack_extract.specs.declared.types.ExtractError.TheVariants as extract_error;
-ghost use Rattle.stack_extract.specs.Places.{place};
+ghost use Rattle.stack_extract.specs.Places.{extract_place};
 
 use std::alloc::AllocError;
 
@@ -30,7 +30,7 @@ pub enum EndStep {
     Part,
 }
 
-/// A number that passes 2^127 - 1.
+/// A number that is more than 2^127 - 1 in size.
 #[derive(Clone, Copy, Debug, PartialEq, Eq)]
 pub struct ExtractPlace {
     pub list: Numbers,
@@ -41,7 +41,7 @@ pub struct ExtractPlace {
 /// Why an end gives no numbers of 128 bits.
 #[derive(Clone, Copy, Debug, PartialEq, Eq)]
 pub enum ExtractError {
-    /// The first number that passes.
+    /// The first number that is too wide.
     TooWide(ExtractPlace),
     /// Memory ran out.
     Memory,
@@ -57,7 +57,7 @@ impl From<AllocError> for ExtractError {
 
 /// The refusal at a place.
 pub(crate) fn too_wide(list: Numbers, step: EndStep, index: usize) -> ExtractError
-    ensures { result ≡ extract_error.TooWide (place list step index) }
+    ensures { result ≡ extract_error.TooWide (extract_place list step index) }
 {
     ExtractError::TooWide(ExtractPlace { list, step, index })
 }

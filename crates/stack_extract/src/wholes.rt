@@ -1,7 +1,7 @@
 //! Whole numbers from fractions.
 
 ghost use Rattle.std.specs.Prelude.{◌≡◌, ◌++◌, ◌∷◌, [], IfOk, IfErr};
-ghost use Rattle.stack_extract.specs.Places.{AreWhole, Tells, list_place};
+ghost use Rattle.stack_extract.specs.Places.{AreWhole, TellsPlace, list_place};
 
 use crate::types::{EndStep, ExtractError, Numbers, too_wide};
 use stack_rational::{Frac, common_scale};
@@ -15,14 +15,14 @@ pub(crate) struct WholeNumbers {
 }
 
 /// The common scale of a list, and each of its numbers times that. Refused at the first item at which the
-/// running scale passes, or else at the first whole number that does.
+/// running scale is too wide, or else at the first whole number that does.
 pub(crate) fn whole_numbers(
     alloc: Global,
     which: Numbers,
     list: &[Frac<i128>],
 ) -> Result<WholeNumbers, ExtractError>
     ensures ok { IfOk result (λ r. AreWhole which list.now r.scale r.numbers.items) }
-    ensures wide { IfErr result (λ e. Tells e (list_place which list.now)) }
+    ensures wide { IfErr result (λ e. TellsPlace e (list_place which list.now)) }
 {
     let scale = match common_scale(list) {
         Ok(scale) => scale,

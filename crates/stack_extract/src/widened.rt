@@ -4,13 +4,13 @@ ghost use Rattle.std.specs.Prelude.{◌≡◌, ◌≢◌, pos, false};
 ghost use Rattle.stack_algebra.proofs.Fractions.{of};
 ghost use Rattle.stack_rational.specs.declared.exact.Op.TheVariants as op;
 ghost use Rattle.stack_rational.specs.Laws.{widest};
-ghost use Rattle.stack_rational.specs.Passes.{passes, value_of};
+ghost use Rattle.stack_rational.specs.TooWide.{is_too_wide, op_value};
 
 use stack_rational::{Exact, Frac, parts_law};
 
-/// A whole number that doesn't pass.
+/// A whole number that isn't too wide.
 fn whole(number: i128) -> Frac<i128>
-    requires { passes widest op.Whole (of number) (of number) ≡ false }
+    requires { is_too_wide widest op.Whole (of number) (of number) ≡ false }
     ensures { result ≡ of number }
 {
     match Frac::from_whole(number) {
@@ -19,11 +19,11 @@ fn whole(number: i128) -> Frac<i128>
     }
 }
 
-/// A quotient that doesn't pass.
+/// A quotient that isn't too wide.
 fn quotient(a: Frac<i128>, b: Frac<i128>) -> Frac<i128>
     requires some { b.num ≢ pos 0 }
-    requires fits { passes widest op.Quotient a b ≡ false }
-    ensures { result ≡ value_of op.Quotient a b }
+    requires fits { is_too_wide widest op.Quotient a b ≡ false }
+    ensures { result ≡ op_value op.Quotient a b }
 {
     match a.quotient(b) {
         Ok(quotient) => quotient,

@@ -15,8 +15,10 @@ use Rattle.stack_algebra.specs.IntegerOrder.{◌≺◌}
 use Rattle.stack_algebra.proofs.CommonDivisor.{gcd-left, gcd-right}
 use Rattle.stack_algebra.proofs.CrossProducts.{cancel}
 use Rattle.stack_frame.specs.declared.frame.Frame.{Frame}
-use Rattle.stack_frame.specs.Directions.{IsStep, IsDivisor, IsFrameOf, DirectionsHaveOneFrame}
-use Rattle.stack_frame.proofs.LowestTerms.{gcd_of_lowest, lowest_of_gcd, abs-times, quotient-whole, divides-times, lowest-parts}
+use Rattle.stack_polygon.specs.Sizes.{IsStep}
+use Rattle.stack_frame.specs.Directions.{IsGreatestDivisor, IsFrameOf, DirectionsHaveOneFrame}
+use Rattle.stack_frame.proofs.LowestTerms.{gcd_of_lowest, lowest_of_gcd, abs-times, quotient-whole, divides-times}
+use Rattle.stack_frame.proofs.LowestTerms.{lowest-parts}
 
 -- the code's quotient
 pub quotient-stored : (z : ℤ) (g : ℕ) → SFits w64 z → 0 < g → g ≤ 2000000 → g ∣ nat_abs z →
@@ -30,7 +32,7 @@ stored z = to_z w64 (of_z w64 z)
 
 pub divisor-of : (dx dy : ℤ) (a b g : ℕ) → SFits w64 dx → SFits w64 dy → IsStep dx → IsStep dy →
     (dx ≢ pos 0) ⊎ (dy ≢ pos 0) → a ≡ nat_abs (stored dx) → b ≡ nat_abs (stored dy) → g ≡ gcd a b →
-    IsDivisor dx dy g
+    IsGreatestDivisor dx dy g
 divisor-of dx dy a b g fx fy hx hy some ea eb e = record {
   positive = size.0;
   limit = size.1;
@@ -70,9 +72,9 @@ divisor-of dx dy a b g fx fy hx hy some ea eb e = record {
     size : (0 < g) × (g ≤ 2000000)
     size = both some
 
-pub divisor-at : (dx dy : ℤ) (g : ℕ) → SFits w64 dx → SFits w64 dy → IsDivisor (stored dx) (stored dy) g →
-    IsDivisor dx dy g
-divisor-at dx dy g fx fy h = subst (λ z. z) (λ i. IsDivisor (to_z-of_z fx i) (to_z-of_z fy i) g) h
+pub divisor-at : (dx dy : ℤ) (g : ℕ) → SFits w64 dx → SFits w64 dy → IsGreatestDivisor (stored dx) (stored dy) g →
+    IsGreatestDivisor dx dy g
+divisor-at dx dy g fx fy h = subst (λ z. z) (λ i. IsGreatestDivisor (to_z-of_z fx i) (to_z-of_z fy i) g) h
 
 pub frame-is : (dx dy : ℤ) (t : Frame) (g : ℕ) → 0 < g → gcd (nat_abs dx) (nat_abs dy) ≡ g →
     dx ≡ pos g *ℤ t.tx → dy ≡ pos g *ℤ t.ty → IsFrameOf dx dy t

@@ -18,13 +18,13 @@ use Rattle.stack_algebra.proofs.Order.{mul_nonneg, nonneg-sub, sub-nonneg, nonne
 use Rattle.stack_algebra.proofs.CommonDivisor.{gcd-left, gcd-right, gcd-pos, gcd-swap, gcd-quotients}
 use Rattle.stack_frame.specs.declared.cone.Cone.{Cone}
 use Rattle.stack_frame.specs.Directions.{IsLowest}
-use Rattle.stack_frame.specs.Cones.{IsCoefficient, IsAtMost, IsSame, IsLesser, lowest, CoefficientsHaveOneLesser}
+use Rattle.stack_frame.specs.Cones.{IsCoefficient, IsAtMost, IsSameCone, IsLesser, lowest, CoefficientsHaveOneLesser}
 use Rattle.stack_frame.proofs.LowestTerms.{gcd_of_lowest, lowest_of_gcd, one-numerator}
 
 -- c is the same coefficient in lowest terms
 record IsReduced (a c : Cone) : Type 0 where
   pub in_limits : IsCoefficient c
-  pub same : IsSame c a
+  pub same : IsSameCone c a
   pub lowest : IsLowest c.p c.q
 
 reduced : (p q g u v : ℕ) → 0 < g → g * u ≡ p → g * v ≡ q → p ≤ 1000 → 0 < q → q ≤ 1000 → gcd u v ≡ 1 →
@@ -111,7 +111,7 @@ at_most_next a b c ha hb hc h k = cross a.p a.q b.p b.q c.p c.q ha.q_least hb.q_
         (simp expand (omega (arith, sums, simp expand at m, simp expand at n))))
 
 -- equal coefficients are at most one another
-at_most_same : (a b : Cone) → IsSame a b → IsAtMost a b × IsAtMost b a
+at_most_same : (a b : Cone) → IsSameCone a b → IsAtMost a b × IsAtMost b a
 at_most_same a b e = by (a.p *ℤ b.q) (b.p *ℤ a.q) e
   where
     by : (x y : ℤ) → x ≡ y → (x ≼ y) × (y ≼ x)
@@ -150,7 +150,7 @@ at_most_lesser : (a b c d : Cone) → IsCoefficient a → IsCoefficient b →
     IsLesser a b c → IsLesser a b d → IsAtMost c d
 at_most_lesser a b c d ha hb h k = go k.one
   where
-    go : IsSame d a ⊎ IsSame d b → IsAtMost c d
+    go : IsSameCone d a ⊎ IsSameCone d b → IsAtMost c d
     go (inl e) = at_most_next c a d h.in_limits ha k.in_limits h.first (at_most_same d a e).1
     go (inr e) = at_most_next c b d h.in_limits hb k.in_limits h.second (at_most_same d b e).1
 

@@ -1,7 +1,8 @@
 -- Pairs of numbers in lowest terms, and what they are multiplied by.
 use mathlib.Core.Path.{◌≡◌, refl, sym, ap, subst, ◌∙◌}
 use Prim.Native.Nat.{ℕ, zero, suc, ◌*◌, ◌/◌, ◌<◌, ◌∣◌}
-use native.Mathlib.Nat.{dvd_refl, dvd-mul_right_of_dvd, dvd_antisymm, dvd-one, one-mul, mul-one, mul_comm, mul-div_cancel', mul-dvd-mul_left, dvd_of_mul-dvd-mul_left}
+use native.Mathlib.Nat.{dvd_refl, dvd-mul_right_of_dvd, dvd_antisymm, dvd-one, one-mul, mul-one, mul_comm}
+use native.Mathlib.Nat.{mul-div_cancel', mul-dvd-mul_left, dvd_of_mul-dvd-mul_left}
 use native.Mathlib.Omega.{arith}
 use lib.IntN.{ℤ, pos, negsuc, ◌*ℤ◌, neg_ℤ, nat_abs}
 use lib.Signed.{quot_z}

@@ -10,10 +10,10 @@ use Rattle.stack_algebra.specs.IntegerOrder.{◌≼◌, abs}
 use Rattle.stack_algebra.specs.Steps.{◌>>=◌}
 use Rattle.stack_whole.specs.declared.whole.Wide.{Wide}
 use Rattle.stack_whole.specs.declared.whole.Whole.{Whole}
-use Rattle.stack_whole.specs.Whole.{IsFitting, Passes, Makes, made}
+use Rattle.stack_whole.specs.Whole.{IsFitting, IsTooWide, Makes, made}
 use Rattle.stack_whole.proofs.Making.{made-is}
 use Rattle.stack_frame.specs.declared.cone.Cone.{Cone}
-use Rattle.stack_frame.specs.Admitted.{IsAdmitted, IsTooWide, SizePassesWithItsProduct, written_test}
+use Rattle.stack_frame.specs.Admitted.{IsAdmitted, IsTestTooWide, SizeIsTooWideWithItsProduct, written_test}
 
 -- the test of the numbers
 test-is : (c : Cone) (a b u v : ℤ) → pos 0 ≼ a → u ≡ c.q *ℤ abs b → v ≡ c.p *ℤ a →
@@ -36,35 +36,35 @@ test-is c a b u v h left right =
     back : c.q *ℤ abs b ≼ c.p *ℤ a → u ≼ v
     back h = equal (c.q *ℤ abs b) (c.p *ℤ a) u v (sym left) (sym right) h
 
--- a number that fits doesn't pass
-not-both : (x y : ℤ) → x ≡ y → IsFitting x → ¬ (Passes y)
+-- a number that fits isn't too wide
+not-both : (x y : ℤ) → x ≡ y → IsFitting x → ¬ (IsTooWide y)
 not-both x y e h k = let m = ap nat_abs e in omega (arith, m)
 
 -- what an answer says of the force
 pub record Decides (c : Cone) (a b : ℤ) (r : Result Bool Wide) : Type 0 where
   pub admits : IfOk r (λ holds. IsTrue holds ↔ IsAdmitted c a b)
-  pub wide : IsErr r ↔ IsTooWide c a b
+  pub wide : IsErr r ↔ IsTestTooWide c a b
 
 module _ (c : Cone) (a b : ℤ) (push : pos 0 ≼ a) where
-  too_wide : Passes (c.p *ℤ a) ⊎ (Passes (abs b) ⊎ Passes (c.q *ℤ abs b)) → (e : Wide) → Decides c a b (Err e)
-  too_wide p e = record { admits = tt; wide = (λ t. record { pushes = push; passes = p }, λ w. refl) }
+  too_wide : IsTooWide (c.p *ℤ a) ⊎ (IsTooWide (abs b) ⊎ IsTooWide (c.q *ℤ abs b)) → (e : Wide) → Decides c a b (Err e)
+  too_wide p e = record { admits = tt; wide = (λ t. record { pushes = push; is_too_wide = p }, λ w. refl) }
 
   third : (most tangential : Whole) → (most.value ≡ c.p *ℤ a) × IsFitting (c.p *ℤ a) →
       (tangential.value ≡ abs b) × IsFitting (abs b) → (m : Result Whole Wide) → Makes (c.q *ℤ tangential.value) m →
       Decides c a b (m >>= λ least. Ok (int_le least.value most.value))
   third most tangential f s (Ok least) t = record {
     admits = test-is c a b least.value most.value push (value t.0 ∙ ap (λ z. c.q *ℤ z) s.0) f.0;
-    wide = (λ e. absurd cc, λ w. absurd (go w.passes));
+    wide = (λ e. absurd cc, λ w. absurd (go w.is_too_wide));
   }
     where
       value : {z : ℤ} → least ≡ record { value = z } → least.value ≡ z
       value e = ap (λ (w : Whole). w.value) e
 
-      go : Passes (c.p *ℤ a) ⊎ (Passes (abs b) ⊎ Passes (c.q *ℤ abs b)) → ⊥
+      go : IsTooWide (c.p *ℤ a) ⊎ (IsTooWide (abs b) ⊎ IsTooWide (c.q *ℤ abs b)) → ⊥
       go (inl h) = not-both (c.p *ℤ a) (c.p *ℤ a) refl f.1 h
       go (inr (inl h)) = not-both (abs b) (abs b) refl s.1 h
       go (inr (inr h)) = not-both (c.q *ℤ tangential.value) (c.q *ℤ abs b) (ap (λ z. c.q *ℤ z) s.0) t.1 h
-  third most tangential f s (Err e) p = too_wide (inr (inr (subst (λ z. Passes (c.q *ℤ z)) s.0 p))) e
+  third most tangential f s (Err e) p = too_wide (inr (inr (subst (λ z. IsTooWide (c.q *ℤ z)) s.0 p))) e
 
   second : (most : Whole) → (most.value ≡ c.p *ℤ a) × IsFitting (c.p *ℤ a) → (m : Result Whole Wide) →
       Makes (abs b) m →
@@ -85,7 +85,8 @@ module _ (c : Cone) (a b : ℤ) (push : pos 0 ≼ a) where
   test_decides = first (made (c.p *ℤ a)) (made-is (c.p *ℤ a))
 
 -- the answer of the test, where a is read as n
-pub decided : (c : Cone) (a b n : ℤ) (r : Result Bool Wide) → n ≡ a → int_lt n (pos 0) ≡ false → r ≡ written_test c a b →
+pub decided : (c : Cone) (a b n : ℤ) (r : Result Bool Wide) → n ≡ a → int_lt n (pos 0) ≡ false → r
+    ≡ written_test c a b →
     Decides c a b r
 decided c a b n r e f is = subst (Decides c a b) (sym is)
     (test_decides c a b (above a (ap (λ z. int_lt z (pos 0)) (sym e) ∙ f)))
@@ -93,8 +94,8 @@ decided c a b n r e f is = subst (Decides c a b) (sym is)
     above : (a : ℤ) → int_lt a (pos 0) ≡ false → pos 0 ≼ a
     above a e = grind (arith, ints)
 
-pub size-passes : SizePassesWithItsProduct
-size-passes c a b h w = go w.passes
+pub size-too_wide : SizeIsTooWideWithItsProduct
+size-too_wide c a b h w = go w.is_too_wide
   where
     more : (n z : ℤ) → pos 1 ≼ n → 2 ^ 127 ≤ nat_abs z → 2 ^ 127 ≤ nat_abs (n *ℤ z)
     more (pos zero) z h k = absurd (omega (arith, ints))
@@ -102,7 +103,8 @@ size-passes c a b h w = go w.passes
     more (pos (suc n)) (negsuc m) h k = omega (arith, ints)
     more (negsuc n) z h k = absurd (omega (arith, ints))
 
-    go : Passes (c.p *ℤ a) ⊎ (Passes (abs b) ⊎ Passes (c.q *ℤ abs b)) → Passes (c.p *ℤ a) ⊎ Passes (c.q *ℤ abs b)
+    go : IsTooWide (c.p *ℤ a) ⊎ (IsTooWide (abs b) ⊎ IsTooWide (c.q *ℤ abs b)) → IsTooWide (c.p *ℤ a)
+        ⊎ IsTooWide (c.q *ℤ abs b)
     go (inl p) = inl p
     go (inr (inl p)) = inr (more c.q (abs b) h.q_least p)
     go (inr (inr p)) = inr p

@@ -11,7 +11,7 @@ use Rattle.stack_algebra.specs.IntegerOrder.{◌≼◌, ◌≺◌}
 use Rattle.stack_algebra.proofs.Integers.{sums, expand}
 use Rattle.stack_algebra.proofs.Order.{mul_nonneg, mul_pos, square_nonneg}
 use Rattle.stack_algebra.proofs.CommonDivisor.{gcd-left, gcd-right, gcd-swap}
-use Rattle.stack_algebra.proofs.CrossProducts.{cancel}
+use Rattle.stack_algebra.proofs.CrossProducts.{cancel, positive_cancel}
 use Rattle.stack_frame.specs.declared.frame.Frame.{Frame}
 use Rattle.stack_frame.specs.Directions.{IsLowest, IsFrameOf, IsParallelInSense, square_of, FramesByParallels}
 use Rattle.stack_frame.proofs.LowestTerms.{gcd_of_lowest, quotient-whole, one-numerator}
@@ -63,16 +63,6 @@ same-direction t₁ t₂ u₁ u₂ long cross e₁ e₂ dot =
       where
         meet : {x y : ℤ} → x -ℤ y ≡ pos 0 → x ≡ y
         meet e = omega (arith, sums)
-
-positive_part : (n x : ℤ) → pos 0 ≺ n → pos 0 ≺ n *ℤ x → pos 0 ≺ x
-positive_part n (pos (suc x)) h k = omega (arith, ints)
-positive_part n (pos zero) h k = absurd (omega (arith, ints, k))
-positive_part n (negsuc x) h k = absurd (omega (
-  arith,
-  sums,
-  simp expand at (mul_nonneg n (pos x) (omega (arith, sums)) (omega (arith, ints))),
-  simp expand at k,
-))
 
 -- lowest terms are not both 0
 pub lowest-long : (x y : ℤ) → IsLowest x y → pos 0 ≺ square_of x y
@@ -165,7 +155,7 @@ by-parallel dx dy t g p e h k = subst (IsFrameOf dx dy) (sym (same-lowest t u h 
         (factor (pos g) u.tx u.ty t.tx t.ty ((λ i. sym x i *ℤ t.ty) ∙ k.parallel ∙ (λ i. y i *ℤ t.tx)))
 
     dot : pos 0 ≺ t.tx *ℤ u.tx +ℤ t.ty *ℤ u.ty
-    dot = swap u.tx u.ty t.tx t.ty (positive_part (pos g) (u.tx *ℤ t.tx +ℤ u.ty *ℤ t.ty) (some g p)
+    dot = swap u.tx u.ty t.tx t.ty (positive_cancel (pos g) (u.tx *ℤ t.tx +ℤ u.ty *ℤ t.ty) (some g p)
         (subst (λ z. pos 0 ≺ z) ((λ i. x i *ℤ t.tx +ℤ y i *ℤ t.ty) ∙ gather (pos g) u.tx u.ty t.tx t.ty) k.same_sense))
 
 pub frames-by-parallels : FramesByParallels

@@ -3,7 +3,7 @@ use Rattle.std.specs.Prelude.{◌⊎◌, ℤ, pos, ◌*ℤ◌, int_le, int_lt, B
 use Rattle.stack_algebra.specs.IntegerOrder.{◌≼◌, abs}
 use Rattle.stack_algebra.specs.Steps.{◌>>=◌}
 use Rattle.stack_whole.specs.declared.whole.Wide.{Wide}
-use Rattle.stack_whole.specs.Whole.{Passes, made}
+use Rattle.stack_whole.specs.Whole.{IsTooWide, made}
 use Rattle.stack_frame.specs.declared.cone.Cone.{Cone}
 use Rattle.stack_frame.specs.Cones.{IsCoefficient}
 
@@ -12,15 +12,15 @@ pub record IsAdmitted (c : Cone) (a b : ℤ) : Type 0 where
   pub pushes : pos 0 ≼ a
   pub within : c.q *ℤ abs b ≼ c.p *ℤ a
 
--- the force pushes, and a number of the test passes
-pub record IsTooWide (c : Cone) (a b : ℤ) : Type 0 where
+-- the force pushes, and a number of the test is too wide
+pub record IsTestTooWide (c : Cone) (a b : ℤ) : Type 0 where
   pub pushes : pos 0 ≼ a
-  pub passes : Passes (c.p *ℤ a) ⊎ (Passes (abs b) ⊎ Passes (c.q *ℤ abs b))
+  pub is_too_wide : IsTooWide (c.p *ℤ a) ⊎ (IsTooWide (abs b) ⊎ IsTooWide (c.q *ℤ abs b))
 
--- where the coefficient is within its limits, q is at least 1, and the size of b passes only with q times it
-abbrev pub SizePassesWithItsProduct : Type 0
-SizePassesWithItsProduct = (c : Cone) (a b : ℤ) → IsCoefficient c → IsTooWide c a b →
-    Passes (c.p *ℤ a) ⊎ Passes (c.q *ℤ abs b)
+-- where the coefficient is within its limits, q is at least 1, and the size of b is too wide only with q times it
+abbrev pub SizeIsTooWideWithItsProduct : Type 0
+SizeIsTooWideWithItsProduct = (c : Cone) (a b : ℤ) → IsCoefficient c → IsTestTooWide c a b →
+    IsTooWide (c.p *ℤ a) ⊎ IsTooWide (c.q *ℤ abs b)
 
 -- the numbers of the test in their order, and the test
 unfoldable pub written_test : Cone → ℤ → ℤ → Result Bool Wide

@@ -30,13 +30,13 @@ lesser_of a b = if int_le (a.p *ℤ b.q) (b.p *ℤ a.q) then lowest a else lowes
 abbrev pub IsAtMost : Cone → Cone → Type 0
 IsAtMost a b = (a.p *ℤ b.q) ≼ (b.p *ℤ a.q)
 
-abbrev pub IsSame : Cone → Cone → Type 0
-IsSame a b = a.p *ℤ b.q ≡ b.p *ℤ a.q
+abbrev pub IsSameCone : Cone → Cone → Type 0
+IsSameCone a b = a.p *ℤ b.q ≡ b.p *ℤ a.q
 
 -- c is the lesser of a and b, by meaning: it is one of them, neither is less, and its terms are the lowest
 pub record IsLesser (a b c : Cone) : Type 0 where
   pub in_limits : IsCoefficient c
-  pub one : IsSame c a ⊎ IsSame c b
+  pub one : IsSameCone c a ⊎ IsSameCone c b
   pub first : IsAtMost c a
   pub second : IsAtMost c b
   pub lowest : IsLowest c.p c.q

@@ -1,14 +1,9 @@
 -- Directions of the plane in lowest terms, and their quarter turns. The tangent of a joint is such a direction.
-use Rattle.std.specs.Prelude.{◌≡◌, ◌↔◌, ℕ, ◌<◌, ◌≤◌, ℤ, pos, negsuc, nat_abs, ◌+ℤ◌, ◌-ℤ◌, ◌*ℤ◌}
+use Rattle.std.specs.Prelude.{◌≡◌, ◌↔◌, ℕ, ◌<◌, ◌≤◌, ℤ, pos, nat_abs, ◌+ℤ◌, ◌-ℤ◌, ◌*ℤ◌}
 use Prim.Native.Nat.{◌∣◌}
 use Rattle.stack_algebra.specs.Gcd.{gcd}
-use Rattle.stack_algebra.specs.IntegerOrder.{◌≼◌, ◌≺◌}
+use Rattle.stack_algebra.specs.IntegerOrder.{◌≺◌}
 use Rattle.stack_frame.specs.declared.frame.Frame.{Frame}
-
--- at most 2,000,000 in size, as a difference of coordinates is
-pub record IsStep (z : ℤ) : Type 0 where
-  pub low : negsuc 1999999 ≼ z
-  pub high : z ≼ pos 2000000
 
 -- no number but 1 divides both, so they aren't both 0
 abbrev pub IsLowest : ℤ → ℤ → Type 0
@@ -23,7 +18,7 @@ pub record IsFrameOf (dx dy : ℤ) (t : Frame) : Type 0 where
   pub lowest : IsLowest t.tx t.ty
 
 -- g is the greatest number that divides both parts of a direction, which aren't both 0
-pub record IsDivisor (dx dy : ℤ) (g : ℕ) : Type 0 where
+pub record IsGreatestDivisor (dx dy : ℤ) (g : ℕ) : Type 0 where
   pub positive : 0 < g
   pub limit : g ≤ 2000000
   pub left : g ∣ nat_abs dx

@@ -2,7 +2,7 @@
 
 ghost use Rattle.std.specs.Prelude.{◌≡◌, ◌↔◌, ◌*ℤ◌, int_le, IsTrue, IfOk, IsErr};
 ghost use Rattle.stack_frame.specs.Cones.{IsCoefficient, IsLesser, cone, lesser_of, lowest};
-ghost use Rattle.stack_frame.specs.Admitted.{IsAdmitted, IsTooWide, written_admission, written_test};
+ghost use Rattle.stack_frame.specs.Admitted.{IsAdmitted, IsTestTooWide, written_admission, written_test};
 
 use crate::divisor::common_divisor;
 use stack_whole::{Whole, Wide};
@@ -19,11 +19,11 @@ pub struct Cone {
 impl Cone {
     /// Whether a force with the part `a` along the normal and the part `b` along the tangent pushes and stays
     /// within the cone: `a >= 0`, and `q` times the size of `b` is at most `p` times `a`. `Wide` exactly where
-    /// `a >= 0` and `p` times `a`, the size of `b` or `q` times that size passes 2^127 - 1 in size.
+    /// `a >= 0` and `p` times `a`, the size of `b` or `q` times that size is more than 2^127 - 1 in size.
     pub fn admits(self, a: Whole, b: Whole) -> Result<bool, Wide>
         ensures value { result ≡ written_admission self a.value b.value }
         ensures admits { IfOk result (λ holds. IsTrue holds ↔ IsAdmitted self a.value b.value) }
-        ensures wide { IsErr result ↔ IsTooWide self a.value b.value }
+        ensures wide { IsErr result ↔ IsTestTooWide self a.value b.value }
     {
         if a.value < 0 {
             return Ok(false);

@@ -2,7 +2,8 @@
 
 ghost use Rattle.std.specs.Prelude.{◌≡◌, ◌≢◌, ◌⊎◌, ◌<◌, ◌≤◌, ◌*ℤ◌, pos, unsigned_abs};
 ghost use Prim.Native.Nat.{◌∣◌};
-ghost use Rattle.stack_frame.specs.Directions.{IsStep, IsFrameOf, IsDivisor, IsQuarterTurn};
+ghost use Rattle.stack_polygon.specs.Sizes.{IsStep};
+ghost use Rattle.stack_frame.specs.Directions.{IsFrameOf, IsGreatestDivisor, IsQuarterTurn};
 
 use crate::divisor::common_divisor;
 
@@ -32,7 +33,7 @@ fn divisor_of(dx: i64, dy: i64) -> u64
     requires dx { IsStep dx }
     requires dy { IsStep dy }
     requires some { (dx ≢ pos 0) ⊎ (dy ≢ pos 0) }
-    ensures { IsDivisor dx dy result }
+    ensures { IsGreatestDivisor dx dy result }
 {
     common_divisor(dx.unsigned_abs(), dy.unsigned_abs())
 }

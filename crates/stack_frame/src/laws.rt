@@ -2,7 +2,7 @@
 
 ghost use Rattle.stack_frame.specs.Directions.{DirectionsHaveOneFrame, FramesByParallels};
 ghost use Rattle.stack_frame.specs.Cones.{CoefficientsHaveOneLesser};
-ghost use Rattle.stack_frame.specs.Admitted.{SizePassesWithItsProduct};
+ghost use Rattle.stack_frame.specs.Admitted.{SizeIsTooWideWithItsProduct};
 
 /// A direction has one frame: that in lowest terms to which it is parallel and whose sense it has.
 pub fn one_frame()
@@ -17,5 +17,5 @@ pub fn one_cone()
 
 /// Within the limits of a coefficient, `Wide` comes exactly of the two products.
 pub fn wide_by_products()
-    ensures { SizePassesWithItsProduct }
+    ensures { SizeIsTooWideWithItsProduct }
 {}

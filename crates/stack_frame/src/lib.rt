@@ -1,6 +1,12 @@
 //! The frame of a joint, its tangent and its normal, and its cone of friction, each in lowest terms.
 //!
 //! No call takes memory.
+//!
+//! ```text
+//! frame_of(6, -4) == Frame { tx: 3, ty: -2 }
+//! Frame { tx: 4, ty: 3 }.normal() == (-3, 4)
+//! cone_of(3, 4, 700, 1000) == Cone { p: 7, q: 10 }
+//! ```
 #![tactic(auto)]
 
 mod cone;

@@ -2,7 +2,7 @@
 use Rattle.std.proofs.Common.{◌≡◌, refl, ap, subst, ◌∙◌, ℕ, ◌+◌, ◌*◌, ◌≤◌, length, Option, Some, None, Result, Err}
 use Rattle.stack_algebra.specs.Fraction.{Fraction}
 use Rattle.stack_rational.specs.Laws.{widest}
-use Rattle.stack_rational.specs.Passes.{passes}
+use Rattle.stack_rational.specs.TooWide.{is_too_wide}
 use Rattle.stack_contact.specs.Surveyed.{Surveyed}
 use Rattle.stack_certificate.specs.declared.types.Certificate.{Certificate}
 use Rattle.stack_certificate.specs.Certificate.{CertificateValue}
@@ -45,5 +45,5 @@ pub suffices : EnoughSuffices → TablesHaveThese → (q : Question) (v : Survey
     → b ≤ budget → ¬ (r ≡ Err (errors.Spent n))
 suffices law have q v budget r h b n e l is =
     let j = subst (λ a. Judges a q v budget) is h in
-    law (posed q (scene_of v)) (passes widest) budget b (ap enough_of (have q v) ∙ e) l
+    law (posed q (scene_of v)) (is_too_wide widest) budget b (ap enough_of (have q v) ∙ e) l
     (spent_only q v (survey_run q v budget) j.1)

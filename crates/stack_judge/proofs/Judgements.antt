@@ -4,7 +4,7 @@ use Rattle.std.specs.Prelude.{◌↔◌, IsTrue}
 use lib.IntN.{ℤ}
 use Rattle.stack_algebra.specs.Fraction.{Fraction}
 use Rattle.stack_algebra.proofs.OrderedFractions.{ordered_fractions}
-use Rattle.stack_rational.specs.Passes.{passes}
+use Rattle.stack_rational.specs.TooWide.{is_too_wide}
 use Rattle.stack_equilibrium.specs.SurveyScene.{scene_of}
 use Rattle.stack_table.specs.declared.problem.Problem.{Problem as Lent}
 use Rattle.stack_table.specs.declared.table.Table.{Table}
@@ -22,7 +22,7 @@ use Rattle.stack_certificate.specs.declared.types.Certificate.{Certificate}
 use Rattle.stack_equilibrium.specs.declared.types.Question.{Question}
 use Rattle.stack_duality.specs.WrittenRun.{End, written_run}
 use Rattle.stack_duality.specs.Laws.{run_at}
-use Rattle.stack_certified.specs.Certified.{certificate_of}
+use Rattle.stack_certified.specs.Certified.{end_certificate}
 use Rattle.stack_rational.specs.declared.exact.Exact.{Ghosts}
 use Rattle.stack_simplex.specs.declared.ended.Ended.{Ended}
 use Rattle.stack_simplex.specs.declared.ended.Ended.TheVariants as ends
@@ -31,11 +31,11 @@ use Rattle.stack_judge.specs.declared.types.JudgeError.{JudgeError}
 use Rattle.stack_judge.specs.declared.types.JudgeError.TheVariants as errors
 use Rattle.stack_judge.specs.EndPlace.{end_place}
 use Rattle.stack_judge.specs.Judgement.{judged_by, judgement_of, survey_run, LacksLive, Judges}
-use Rattle.stack_judge.specs.Certifying.{Gives, IsTableOfSurvey, refused_as}
+use Rattle.stack_judge.specs.Certifying.{GivesChecked, IsTableOfSurvey, unjudged_as}
 
 -- an end is judged by its places and its certificate
 of_end : {V : Type 0} {number : Ghosts V} (q : Question) (v : Surveyed) (e : Ended V number)
-    → judgement_of q v (ended_as e) ≡ judged_by (end_place q v (ended_as e)) (certificate_of q v (ended_as e))
+    → judgement_of q v (ended_as e) ≡ judged_by (end_place q v (ended_as e)) (end_certificate q v (ended_as e))
 of_end q v (ends.Infeasible t) = refl
 of_end q v (ends.Feasible t) = refl
 of_end q v (ends.Optimal t) = refl
@@ -44,11 +44,11 @@ of_end q v (ends.Ray t c) = refl
 -- what was given of the end is the judgement
 pub ended_judges : {V : Type 0} {number : Ghosts V} (q : Question) (v : Surveyed) (budget : ℕ) (e : Ended V number)
     (result : Result Certificate JudgeError) → ¬ (LacksLive q v) → survey_run q v budget ≡ ended_as e
-    → Gives result q v (ended_as e) → Judges result q v budget
+    → GivesChecked result q v (ended_as e) → Judges result q v budget
 ended_judges q v budget e (Ok c) live run h =
     (live, ap (judgement_of q v) run ∙ of_end q v e ∙ (λ i. judged_by (h.0 i) (h.1 i)))
 ended_judges q v budget e (Err (errors.TooWide p)) live run h =
-    (live, ap (judgement_of q v) run ∙ of_end q v e ∙ ap (λ o. judged_by o (certificate_of q v (ended_as e))) h)
+    (live, ap (judgement_of q v) run ∙ of_end q v e ∙ ap (λ o. judged_by o (end_certificate q v (ended_as e))) h)
 ended_judges q v budget e (Err (errors.Spent n)) live run h = absurd h
 ended_judges q v budget e (Err errors.NoLive) live run h = absurd h
 ended_judges q v budget e (Err errors.Memory) live run h = tt
@@ -79,23 +79,23 @@ module _ {V : Type 0} {number : Ghosts V} (q : Question) (v : Surveyed) (budget 
     (h : IsTableOfSurvey q v t) where
   -- the run of that table is the survey's, at each width
   pub runs_survey : (m : ℤ) (x : End Fraction)
-      → x ≡ written_run ordered_fractions (shape_of_table t) (passes m) budget (table_of t)
+      → x ≡ written_run ordered_fractions (shape_of_table t) (is_too_wide m) budget (table_of t)
       → run_at m (posed q (scene_of v)) budget ≡ x
   runs_survey m x e =
-      (λ i. written_run ordered_fractions (h.posed_table.shape i) (passes m) budget (h.posed_table.table i))
+      (λ i. written_run ordered_fractions (h.posed_table.shape i) (is_too_wide m) budget (h.posed_table.table i))
       ∙ sym e
 
   pub end_of_survey : (m : ℤ) (e : Ended V number)
-      → ended_as e ≡ written_run ordered_fractions (shape_of_table t) (passes m) budget (table_of t)
+      → ended_as e ≡ written_run ordered_fractions (shape_of_table t) (is_too_wide m) budget (table_of t)
       → shape_of_table (last_of e) ≡ shape_of_table t → flips_of (last_of e) ≡ flips_of t → IsEndOfSurvey q v e
   end_of_survey m e run shape flips = record {
-    run = record { rule = passes m; budget = budget; run = runs_survey m (ended_as e) run };
+    run = record { rule = is_too_wide m; budget = budget; run = runs_survey m (ended_as e) run };
     shape = shape ∙ sym h.posed_table.shape;
     flips = flips ∙ h.flips;
   }
 
 -- a run without an end
 pub run_refused : (q : Question) (v : Surveyed) (budget : ℕ) (e : RunError) → ¬ (LacksLive q v)
-    → survey_run q v budget ≡ ended.refused_as e → Judges (Err (refused_as e budget)) q v budget
+    → survey_run q v budget ≡ ended.refused_as e → Judges (Err (unjudged_as e budget)) q v budget
 run_refused q v budget (runs.TooWide p) live run = (live, ap (judgement_of q v) run)
 run_refused q v budget runs.Spent live run = (live, ap (judgement_of q v) run, refl)

@@ -1,10 +1,11 @@
--- A run at 64 bits that passes nowhere is the survey's, and what it comes to is the judgement.
-use Rattle.std.proofs.Common.{◌≡◌, refl, sym, ap, subst, ◌∙◌, ℕ, ◌≤◌, Bool, true, false, ◌&&◌, Some, None, Result, Ok, Err, arith}
+-- A run at 64 bits that is nowhere too wide is the survey's, and what it comes to is the judgement.
+use Rattle.std.proofs.Common.{◌≡◌, refl, sym, ap, subst, ◌∙◌, ℕ, ◌≤◌, Bool, true, false, ◌&&◌, Some, None, Result, Ok}
+use Rattle.std.proofs.Common.{Err, arith}
 use Rattle.std.specs.Prelude.{unsigned_abs, IfOk}
 use Rattle.stack_algebra.specs.Fraction.{Fraction}
 use Rattle.stack_algebra.proofs.OrderedFractions.{ordered_fractions}
 use Rattle.stack_rational.specs.Laws.{widest}
-use Rattle.stack_rational.specs.Passes.{passes}
+use Rattle.stack_rational.specs.TooWide.{is_too_wide}
 use Rattle.stack_rational.specs.declared.exact.Exact.{Ghosts}
 use Rattle.stack_contact.specs.Surveyed.{Surveyed}
 use Rattle.stack_equilibrium.specs.declared.types.Question.{Question}
@@ -13,24 +14,24 @@ use Rattle.stack_table.specs.declared.problem.BuildError.{BuildError}
 use Rattle.stack_table.specs.Problem.{Problem}
 use Rattle.stack_table.specs.WrittenTable.{wide_place}
 use Rattle.stack_duality.specs.WrittenRun.{End, infeasible, feasible, optimal, ray, wide, over}
-use Rattle.stack_duality.specs.Laws.{PassesNowhere, WiderRunIsSame}
+use Rattle.stack_duality.specs.Laws.{IsNowhereTooWide, WiderRunIsSame}
 use Rattle.stack_posing.specs.Posed.{posed}
 use Rattle.stack_simplex.specs.declared.ended.Ended.{Ended}
 use Rattle.stack_simplex.specs.declared.ended.Ended.TheVariants as ends
-use Rattle.stack_simplex.specs.declared.refusal.Place.{Place}
+use Rattle.stack_simplex.specs.declared.refusal.RunPlace.{RunPlace}
 use Rattle.stack_simplex.specs.declared.refusal.RunError.TheVariants as runs
 use Rattle.stack_simplex.specs.Ends.{ended_as, refused_as}
 use Rattle.stack_judge.specs.Judgement.{survey_run}
-use Rattle.stack_judge.specs.NarrowWork.{narrow, narrow_place, has_no_place, narrow_run, passes_nowhere, is_narrow}
+use Rattle.stack_judge.specs.NarrowWork.{narrow, narrow_place, has_no_place, narrow_run, is_nowhere_too_wide, is_narrow}
 
--- an end passes nowhere
-pub nowhere : {V : Type 0} {number : Ghosts V} (e : Ended V number) → passes_nowhere (ended_as e) ≡ true
+-- an end is nowhere too wide
+pub nowhere : {V : Type 0} {number : Ghosts V} (e : Ended V number) → is_nowhere_too_wide (ended_as e) ≡ true
 nowhere (ends.Infeasible t) = refl
 nowhere (ends.Feasible t) = refl
 nowhere (ends.Optimal t) = refl
 nowhere (ends.Ray t c) = refl
 
-passes_not : (x : End Fraction) → passes_nowhere x ≡ true → PassesNowhere x
+passes_not : (x : End Fraction) → is_nowhere_too_wide x ≡ true → IsNowhereTooWide x
 passes_not (infeasible T) h = tt
 passes_not (feasible T) h = tt
 passes_not (optimal T) h = tt
@@ -60,31 +61,31 @@ each (Err e) P h = tt
 
 -- the table of the problem that was posed
 pub no_place : (q : Question) (v : Surveyed) (P : Problem) → P ≡ posed q (scene_of v)
-    → wide_place ordered_fractions (passes narrow) P ≡ None → true ≡ has_no_place (narrow_place q v)
-no_place q v P is h = sym (ap (λ R. has_no_place (wide_place ordered_fractions (passes narrow) R)) (sym is)
+    → wide_place ordered_fractions (is_too_wide narrow) P ≡ None → true ≡ has_no_place (narrow_place q v)
+no_place q v P is h = sym (ap (λ R. has_no_place (wide_place ordered_fractions (is_too_wide narrow) R)) (sym is)
     ∙ ap has_no_place h)
 
 pub some_place : (q : Question) (v : Surveyed) (P : Problem) (e : BuildError) → P ≡ posed q (scene_of v)
-    → wide_place ordered_fractions (passes narrow) P ≡ Some e → false ≡ has_no_place (narrow_place q v)
-some_place q v P e is h = sym (ap (λ R. has_no_place (wide_place ordered_fractions (passes narrow) R)) (sym is)
+    → wide_place ordered_fractions (is_too_wide narrow) P ≡ Some e → false ≡ has_no_place (narrow_place q v)
+some_place q v P e is h = sym (ap (λ R. has_no_place (wide_place ordered_fractions (is_too_wide narrow) R)) (sym is)
     ∙ ap has_no_place h)
 
--- where the table passes, so does the work
+-- where the table is too wide, so does the work
 pub wide_table : (q : Question) (v : Surveyed) (budget : ℕ) → has_no_place (narrow_place q v) ≡ false
     → is_narrow q v budget ≡ false
-wide_table q v budget h = not_first (has_no_place (narrow_place q v)) (passes_nowhere (narrow_run q v budget)) h
+wide_table q v budget h = not_first (has_no_place (narrow_place q v)) (is_nowhere_too_wide (narrow_run q v budget)) h
 
 module _ (q : Question) (v : Surveyed) (budget : ℕ) (x : End Fraction) (run : narrow_run q v budget ≡ x) where
   -- the run of the survey
-  pub same_run : WiderRunIsSame → passes_nowhere x ≡ true → survey_run q v budget ≡ x
+  pub same_run : WiderRunIsSame → is_nowhere_too_wide x ≡ true → survey_run q v budget ≡ x
   same_run law free =
       law narrow widest (posed q (scene_of v)) budget narrower
-      (subst PassesNowhere (sym run) (passes_not x free)) ∙ run
+      (subst IsNowhereTooWide (sym run) (passes_not x free)) ∙ run
 
-  pub free_run : has_no_place (narrow_place q v) ≡ true → passes_nowhere x ≡ true → is_narrow q v budget ≡ true
-  free_run table free = both (has_no_place (narrow_place q v)) (passes_nowhere (narrow_run q v budget)) table
-      (ap passes_nowhere run ∙ free)
+  pub free_run : has_no_place (narrow_place q v) ≡ true → is_nowhere_too_wide x ≡ true → is_narrow q v budget ≡ true
+  free_run table free = both (has_no_place (narrow_place q v)) (is_nowhere_too_wide (narrow_run q v budget)) table
+      (ap is_nowhere_too_wide run ∙ free)
 
-  pub wide_run : (p : Place) → x ≡ refused_as (runs.TooWide p) → is_narrow q v budget ≡ false
-  wide_run p is = not_second (has_no_place (narrow_place q v)) (passes_nowhere (narrow_run q v budget))
-      (ap passes_nowhere (run ∙ is))
+  pub wide_run : (p : RunPlace) → x ≡ refused_as (runs.TooWide p) → is_narrow q v budget ≡ false
+  wide_run p is = not_second (has_no_place (narrow_place q v)) (is_nowhere_too_wide (narrow_run q v budget))
+      (ap is_nowhere_too_wide (run ∙ is))

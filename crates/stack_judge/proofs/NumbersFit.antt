@@ -1,4 +1,4 @@
--- Where no number of an end's lists passes, all numbers of its certificate fit; and its lists are no longer than a
+-- Where no number of an end's lists is too wide, all numbers of its certificate fit; and its lists are no longer than a
 -- survey's.
 use Rattle.std.proofs.Common.{◌≡◌, refl, sym, ap, subst, ℕ, zero, suc, ◌+◌, ◌*◌, ◌<◌, ◌≤◌, Bool, true, false}
 use Rattle.std.proofs.Common.{not, List, [], ◌∷◌}
@@ -23,7 +23,7 @@ use Rattle.stack_certificate.specs.CertificateText.{PartFits, MoveFits, ForcesFi
 use Rattle.stack_certificate.specs.CertificateText.{ForcesAreFew, MotionIsFew, IsFew}
 use Rattle.stack_equilibrium.specs.declared.types.Question.{Question}
 use Rattle.stack_equilibrium.specs.SurveyScene.{scene_of, no_bearing}
-use Rattle.stack_equations.specs.FreeBodies.{free_count}
+use Rattle.stack_equations.specs.FreeBodies.{free_bodies}
 use Rattle.stack_equations.proofs.FreeBodies.{free_numbers_are_those_of_surveys}
 use Rattle.stack_table.specs.Table.{Tabled}
 use Rattle.stack_table.specs.Problem.{Problem, flipped, turned}
@@ -32,16 +32,16 @@ use Rattle.stack_posing.specs.Posed.{posed, posed_shape}
 use Rattle.stack_amounts.specs.WrittenLists.{forces_list, ray_list, bound_list, collapse_list}
 use Rattle.stack_amounts.specs.WholeLists.{whole_list, amount, multiplier}
 use Rattle.stack_certified.specs.Certified.{pair_between, pair_at, forces_value, triple_at, motion_value}
-use Rattle.stack_certified.specs.Certified.{end_forces, end_ray, end_collapse, end_bound, certificate_of}
+use Rattle.stack_certified.specs.Certified.{end_forces, end_ray, end_collapse, end_bound, end_certificate}
 use Rattle.stack_extract.specs.declared.types.Numbers.{Numbers}
 use Rattle.stack_extract.specs.declared.types.Numbers.TheVariants.{Forces, Motion, Ray}
 use Rattle.stack_extract.specs.declared.types.EndStep.TheVariants.{Part}
 use Rattle.stack_extract.specs.declared.types.ExtractPlace.{ExtractPlace}
-use Rattle.stack_extract.specs.Places.{place, scale_spot, whole_spot, list_place, part_fits, part_spot}
+use Rattle.stack_extract.specs.Places.{extract_place, scale_spot, whole_spot, list_place, part_fits, part_spot}
 use Rattle.stack_extract.specs.Places.{part_place, push_place, forces_place, ray_place, collapse_place}
 use Rattle.stack_extract.specs.Places.{bound_place, shift_place}
 use Rattle.stack_judge.specs.EndPlace.{in_end, lists_place}
-use Rattle.stack_rational.proofs.Conjunctions.{left_of, right_of}
+use Rattle.stack_algebra.proofs.Conjunctions.{left_true, right_true}
 
 -- the test says that the number fits
 pub fitting : (z : ℤ) → fits z ≡ true → IsFitting z
@@ -70,7 +70,8 @@ scale_fits l (x ∷ xs) h =
     omega (arith, below, all)
 
 -- and so do its whole numbers
-pub whole_fits : (l : Numbers) (xs : List Fraction) → list_place l xs ≡ None → (j : ℕ) → IsFitting (amount (whole_list xs) j)
+pub whole_fits : (l : Numbers) (xs : List Fraction) → list_place l xs ≡ None → (j : ℕ)
+    → IsFitting (amount (whole_list xs) j)
 whole_fits l xs h j = go (dec_le (suc j) (length xs))
   where
     go : Dec (suc j ≤ length xs) → IsFitting (amount (whole_list xs) j)
@@ -84,16 +85,16 @@ whole_fits l xs h j = go (dec_le (suc j) (length xs))
 -- the parts of a bearing
 pair_fits : (z : Bearing) (w v : ℤ) → part_fits z w v ≡ true → PartFits (pair_between z w v)
 pair_fits z w v t =
-    let s = right_of (fits (w +ℤ v)) (fits (z.cone.q *ℤ (w +ℤ v)) && fits (z.cone.p *ℤ (w -ℤ v))) t in (
-      fitting (z.cone.q *ℤ (w +ℤ v)) (left_of (fits (z.cone.q *ℤ (w +ℤ v))) (fits (z.cone.p *ℤ (w -ℤ v))) s),
-      fitting (z.cone.p *ℤ (w -ℤ v)) (right_of (fits (z.cone.q *ℤ (w +ℤ v))) (fits (z.cone.p *ℤ (w -ℤ v))) s),
+    let s = right_true (fits (w +ℤ v)) (fits (z.cone.q *ℤ (w +ℤ v)) && fits (z.cone.p *ℤ (w -ℤ v))) t in (
+      fitting (z.cone.q *ℤ (w +ℤ v)) (left_true (fits (z.cone.q *ℤ (w +ℤ v))) (fits (z.cone.p *ℤ (w -ℤ v))) s),
+      fitting (z.cone.p *ℤ (w -ℤ v)) (right_true (fits (z.cone.q *ℤ (w +ℤ v))) (fits (z.cone.p *ℤ (w -ℤ v))) s),
     )
 
 pub parts_fit : (l : Numbers) (bs : List Bearing) (zs : List ℤ) → part_place l bs zs ≡ None
     → (k : ℕ) → k < length bs → PartFits (pair_at bs zs k)
 parts_fit l bs zs h k m =
     let t = only_if-none (not (part_fits (get_or bs k no_bearing) (amount zs (2 * k)) (amount zs (2 * k + 1))))
-    (place l Part k) (first-none (length bs) (part_spot l bs zs) h k m) in
+    (extract_place l Part k) (first-none (length bs) (part_spot l bs zs) h k m) in
     pair_fits (get_or bs k no_bearing) (amount zs (2 * k)) (amount zs (2 * k + 1))
     (not_true (part_fits (get_or bs k no_bearing) (amount zs (2 * k)) (amount zs (2 * k + 1))) t)
 
@@ -138,19 +139,19 @@ module _ (q : Question) (v : Surveyed) (T : Tabled Fraction) where
   end_collapse_fits h =
       let xs = collapse_list (posed_shape q (scene_of v)) T in
       let both = or_none (shift_place (posed_shape q (scene_of v)) T) (list_place Motion xs) h in
-      motion_fits (free_count (scene_of v)) (posed q (scene_of v)) Motion xs both.1
+      motion_fits (free_bodies (scene_of v)) (posed q (scene_of v)) Motion xs both.1
 
   end_bound_fits : bound_place q v T ≡ None → MotionFits (end_bound q v T)
-  end_bound_fits h = motion_fits (free_count (scene_of v)) (posed q (scene_of v)) Motion
+  end_bound_fits h = motion_fits (free_bodies (scene_of v)) (posed q (scene_of v)) Motion
       (bound_list (posed_shape q (scene_of v)) T) h
 
 abbrev FitsIf : Option CertificateValue → Type 0
 FitsIf None = ⊤
 FitsIf (Some c) = CertificateFits c
 
--- the certificate of an end of which no number passes
+-- the certificate of an end of which no number is too wide
 pub certificate_fits : (q : Question) (v : Surveyed) (x : End Fraction) → lists_place q v x ≡ None
-    → FitsIf (certificate_of q v x)
+    → FitsIf (end_certificate q v x)
 certificate_fits q v (infeasible T) h = end_collapse_fits q v T (in_end_none (collapse_place q v T) h)
 certificate_fits q v (feasible T) h = end_forces_fit q v T (in_end_none (forces_place q v T) h)
 certificate_fits q v (optimal T) h =
@@ -174,15 +175,15 @@ module _ (v : Surveyed) (bearings : length v.bearings ≤ 1024) (frees : length 
   few_parts : (scale : ℤ) (zs : List ℤ) → ForcesAreFew (forces_value v.bearings scale zs)
   few_parts scale zs = let n = length_listed (length v.bearings) (pair_at v.bearings zs) in omega (arith, n, bearings)
 
-  few_moves : (P : Problem) (zs : List ℤ) → MotionIsFew (motion_value (free_count (scene_of v)) P zs)
+  few_moves : (P : Problem) (zs : List ℤ) → MotionIsFew (motion_value (free_bodies (scene_of v)) P zs)
   few_moves P zs =
-      let n = length_listed (free_count (scene_of v)) (triple_at (multiplier P zs)) in
+      let n = length_listed (free_bodies (scene_of v)) (triple_at (multiplier P zs)) in
       let c = (free_numbers_are_those_of_surveys v).count in omega (arith, n, c, frees)
 
   few_forces : (q : Question) (T : Tabled Fraction) → ForcesAreFew (end_forces q v T)
   few_forces q T = let xs = forces_list (posed_shape q (scene_of v)) T in few_parts (pos (scale_of xs)) (whole_list xs)
 
-  pub certificate_few : (q : Question) (x : End Fraction) → FewIf (certificate_of q v x)
+  pub certificate_few : (q : Question) (x : End Fraction) → FewIf (end_certificate q v x)
   certificate_few q (infeasible T) = few_moves (posed q (scene_of v))
       (whole_list (collapse_list (posed_shape q (scene_of v)) T))
   certificate_few q (feasible T) = few_forces q T
@@ -191,7 +192,11 @@ module _ (v : Surveyed) (bearings : length v.bearings ≤ 1024) (frees : length 
     few_moves (posed q (scene_of v))
         (whole_list (bound_list (posed_shape q (scene_of v)) T)),
   )
-  certificate_few q (ray T c) = (few_forces q T, few_parts (pos 0) (whole_list (ray_list (posed_shape q (scene_of v)) T c)))
+  certificate_few q (ray T c) = (
+    few_forces q T,
+    few_parts (pos 0)
+        (whole_list (ray_list (posed_shape q (scene_of v)) T c)),
+  )
   certificate_few q (wide p k s) = tt
   certificate_few q over = tt
 

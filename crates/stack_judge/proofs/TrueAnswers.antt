@@ -10,7 +10,7 @@ use Rattle.stack_equilibrium.specs.SurveyScene.{scene_of}
 use Rattle.stack_checker.specs.declared.types.Check.TheVariants.{Accepted}
 use Rattle.stack_checker.specs.WrittenCheck.{written_check}
 use Rattle.stack_duality.specs.WrittenRun.{End}
-use Rattle.stack_certified.specs.Certified.{certificate_of}
+use Rattle.stack_certified.specs.Certified.{end_certificate}
 use Rattle.stack_certified.specs.Laws.{IsEndOfRun, EndsAreCertified}
 use Rattle.stack_judge.specs.Judged.{IsJudged}
 use Rattle.stack_judge.specs.EndPlace.{lists_place}
@@ -18,13 +18,13 @@ use Rattle.stack_judge.proofs.NumbersFit.{certificate_fits, certificate_few, fit
 
 pub judged : EndsAreCertified → (q : Question) (v : Surveyed) (x : End Fraction) (c : CertificateValue)
     → IsProper (scene_of v) → length v.bearings ≤ 1024 → length (frees_of v.structure.bodies) ≤ 128
-    → IsEndOfRun q v x → lists_place q v x ≡ None → certificate_of q v x ≡ Some c → written_check v c ≡ Accepted
+    → IsEndOfRun q v x → lists_place q v x ≡ None → end_certificate q v x ≡ Some c → written_check v c ≡ Accepted
     → IsJudged q v c
 judged certified q v x c proper bearings frees run fit is check = let d = certified q v x c proper run is in record {
   holds = d.holds;
   form = d.form;
   dead_loads = d.dead_loads;
-  fits = fits_if c (certificate_of q v x) is (certificate_fits q v x fit);
-  few = few_if c (certificate_of q v x) is (certificate_few v bearings frees q x);
+  fits = fits_if c (end_certificate q v x) is (certificate_fits q v x fit);
+  few = few_if c (end_certificate q v x) is (certificate_few v bearings frees q x);
   accepted = check;
 }

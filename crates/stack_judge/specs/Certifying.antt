@@ -15,9 +15,9 @@ use Rattle.stack_table.specs.Seen.{shape_of_table, table_of, flips_of}
 use Rattle.stack_duality.specs.WrittenRun.{End}
 use Rattle.stack_simplex.specs.declared.refusal.RunError.{RunError}
 use Rattle.stack_simplex.specs.declared.refusal.RunError.TheVariants as runs
-use Rattle.stack_simplex.specs.Written.{IsTableOf, IsWritten}
+use Rattle.stack_simplex.specs.Written.{IsTableOf, IsWrittenTable}
 use Rattle.stack_posing.specs.Posed.{posed}
-use Rattle.stack_certified.specs.Certified.{certificate_of}
+use Rattle.stack_certified.specs.Certified.{end_certificate}
 use Rattle.stack_extract.specs.declared.types.ExtractError.{ExtractError}
 use Rattle.stack_extract.specs.declared.types.ExtractError.TheVariants as extract
 use Rattle.stack_judge.specs.declared.types.JudgeError.{JudgeError}
@@ -26,28 +26,28 @@ use Rattle.stack_judge.specs.declared.types.JudgePlace.TheVariants as places
 use Rattle.stack_judge.specs.EndPlace.{lists_place, end_place}
 
 -- the certificate of an end, or the first place of its lists
-abbrev pub Makes : Result Certificate ExtractError → Question → Surveyed → End Fraction → Type 0
-Makes (Ok c) q v x = (lists_place q v x ≡ None) × (certificate_of q v x ≡ Some (certificate_view c))
-Makes (Err (extract.TooWide p)) q v x = lists_place q v x ≡ Some (places.End p)
-Makes (Err extract.Memory) q v x = ⊤
+abbrev pub MakesCertificate : Result Certificate ExtractError → Question → Surveyed → End Fraction → Type 0
+MakesCertificate (Ok c) q v x = (lists_place q v x ≡ None) × (end_certificate q v x ≡ Some (certificate_view c))
+MakesCertificate (Err (extract.TooWide p)) q v x = lists_place q v x ≡ Some (places.End p)
+MakesCertificate (Err extract.Memory) q v x = ⊤
 
 -- the same with its check, which accepts it
-abbrev pub Gives : Result Certificate JudgeError → Question → Surveyed → End Fraction → Type 0
-Gives (Ok c) q v x = (end_place q v x ≡ None) × (certificate_of q v x ≡ Some (certificate_view c))
+abbrev pub GivesChecked : Result Certificate JudgeError → Question → Surveyed → End Fraction → Type 0
+GivesChecked (Ok c) q v x = (end_place q v x ≡ None) × (end_certificate q v x ≡ Some (certificate_view c))
     × (written_check v (certificate_view c) ≡ Accepted)
-Gives (Err (errors.TooWide p)) q v x = end_place q v x ≡ Some p
-Gives (Err (errors.Spent n)) q v x = ⊥
-Gives (Err errors.NoLive) q v x = ⊥
-Gives (Err errors.Memory) q v x = ⊤
+GivesChecked (Err (errors.TooWide p)) q v x = end_place q v x ≡ Some p
+GivesChecked (Err (errors.Spent n)) q v x = ⊥
+GivesChecked (Err errors.NoLive) q v x = ⊥
+GivesChecked (Err errors.Memory) q v x = ⊤
 
 -- why there is no judgement where a run within a budget has no end
-abbrev pub refused_as : RunError → (budget : ℕ) → JudgeError
-refused_as (runs.TooWide p) budget = errors.TooWide (places.Run p)
-refused_as runs.Spent budget = errors.Spent budget
+abbrev pub unjudged_as : RunError → (budget : ℕ) → JudgeError
+unjudged_as (runs.TooWide p) budget = errors.TooWide (places.Run p)
+unjudged_as runs.Spent budget = errors.Spent budget
 
 -- a table is that of a survey's problem
 pub record IsTableOfSurvey {V : Type 0} {number : Ghosts V} (q : Question) (v : Surveyed) (t : Table V number)
     : Type 0 where
-  pub written : IsWritten (shape_of_table t) (table_of t)
+  pub written : IsWrittenTable (shape_of_table t) (table_of t)
   pub posed_table : IsTableOf (posed q (scene_of v)) (shape_of_table t) (table_of t)
   pub flips : flips_of t ≡ flipped (posed q (scene_of v))

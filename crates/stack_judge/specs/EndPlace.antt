@@ -1,5 +1,5 @@
--- The first number that passes in what is made of the end of a run, and then in the written check of the certificate
--- that it is: an end's lists in their order, and the check last.
+-- The first number that is too wide in what is made of the end of a run, and then in the written check of the
+-- certificate that it is: an end's lists in their order, and the check last.
 use Rattle.std.specs.Prelude.{Option, Some, None}
 use Rattle.stack_algebra.specs.Fraction.{Fraction}
 use Rattle.stack_algebra.specs.Search.{or_else}
@@ -10,7 +10,7 @@ use Rattle.stack_checker.specs.declared.types.Check.{Check}
 use Rattle.stack_checker.specs.declared.types.Check.TheVariants as checks
 use Rattle.stack_checker.specs.WrittenCheck.{written_check}
 use Rattle.stack_duality.specs.WrittenRun.{End, infeasible, feasible, optimal, ray, wide, over}
-use Rattle.stack_certified.specs.Certified.{certificate_of}
+use Rattle.stack_certified.specs.Certified.{end_certificate}
 use Rattle.stack_extract.specs.declared.types.ExtractPlace.{ExtractPlace}
 use Rattle.stack_extract.specs.Places.{forces_place, ray_place, collapse_place, bound_place}
 use Rattle.stack_judge.specs.declared.types.JudgePlace.{JudgePlace}
@@ -42,4 +42,4 @@ check_place v (Some c) = in_check (written_check v c)
 
 -- of both
 abbrev pub end_place : Question → Surveyed → End Fraction → Option JudgePlace
-end_place q v x = or_else (lists_place q v x) (check_place v (certificate_of q v x))
+end_place q v x = or_else (lists_place q v x) (check_place v (end_certificate q v x))

@@ -1,5 +1,5 @@
 -- The judgement of a survey: the certificate of the end of its written run at 128 bits, the place of the first number
--- that passes, or that the budget is spent. Before it comes that a question about live loads wants one.
+-- that is too wide, or that the budget is spent. Before it comes that a question about live loads wants one.
 use Rattle.std.specs.Prelude.{◌≡◌, ℕ, Option, Some, None, Result, Ok, Err, ⊤}
 use Rattle.stack_algebra.specs.Fraction.{Fraction}
 use Rattle.stack_rational.specs.Laws.{widest}
@@ -13,9 +13,9 @@ use Rattle.stack_equilibrium.specs.SurveyScene.{scene_of}
 use Rattle.stack_table.specs.declared.types.PivotWide.{PivotWide}
 use Rattle.stack_duality.specs.WrittenRun.{End, infeasible, feasible, optimal, ray, wide, over}
 use Rattle.stack_duality.specs.Laws.{run_at}
-use Rattle.stack_simplex.specs.declared.refusal.Place.{Place}
+use Rattle.stack_simplex.specs.declared.refusal.RunPlace.{RunPlace}
 use Rattle.stack_posing.specs.Posed.{posed}
-use Rattle.stack_certified.specs.Certified.{certificate_of}
+use Rattle.stack_certified.specs.Certified.{end_certificate}
 use Rattle.stack_judge.specs.declared.types.JudgePlace.{JudgePlace}
 use Rattle.stack_judge.specs.declared.types.JudgePlace.TheVariants as places
 use Rattle.stack_judge.specs.declared.types.JudgeError.{JudgeError}
@@ -28,10 +28,10 @@ pub data Judgement : Type 0 where
   spent : Judgement
 
 -- the place of a run
-abbrev pub run_place : (phase pivot : ℕ) → PivotWide → Place
+abbrev pub run_place : (phase pivot : ℕ) → PivotWide → RunPlace
 run_place p k s = record { phase = p; pivot = k; row = s.row; column = s.column; step = s.step }
 
--- an end by the first place that passes, and by its certificate. Each end has one
+-- an end by the first place that is too wide, and by its certificate. Each end has one
 abbrev pub judged_by : Option JudgePlace → Option CertificateValue → Judgement
 judged_by (Some p) c = too_wide p
 judged_by None (Some c) = certified c
@@ -41,10 +41,10 @@ judged_by None None = spent
 abbrev pub judgement_of : Question → Surveyed → End Fraction → Judgement
 judgement_of q v (wide p k s) = too_wide (places.Run (run_place p k s))
 judgement_of q v over = spent
-judgement_of q v (infeasible T) = judged_by (end_place q v (infeasible T)) (certificate_of q v (infeasible T))
-judgement_of q v (feasible T) = judged_by (end_place q v (feasible T)) (certificate_of q v (feasible T))
-judgement_of q v (optimal T) = judged_by (end_place q v (optimal T)) (certificate_of q v (optimal T))
-judgement_of q v (ray T c) = judged_by (end_place q v (ray T c)) (certificate_of q v (ray T c))
+judgement_of q v (infeasible T) = judged_by (end_place q v (infeasible T)) (end_certificate q v (infeasible T))
+judgement_of q v (feasible T) = judged_by (end_place q v (feasible T)) (end_certificate q v (feasible T))
+judgement_of q v (optimal T) = judged_by (end_place q v (optimal T)) (end_certificate q v (optimal T))
+judgement_of q v (ray T c) = judged_by (end_place q v (ray T c)) (end_certificate q v (ray T c))
 
 -- the written run of a survey's problem, at 128 bits
 abbrev pub survey_run : Question → Surveyed → (budget : ℕ) → End Fraction

@@ -1,9 +1,10 @@
--- Whether the work on a question of a survey passes nowhere at 64 bits: neither its written table nor its written run.
+-- Whether the work on a question of a survey is nowhere too wide at 64 bits: neither its written table nor its
+-- written run.
 use Rattle.std.specs.Prelude.{ℕ, ◌^◌, ◌-◌, Bool, true, false, ◌&&◌, Option, Some, None, Result, Ok, Err}
 use lib.IntN.{ℤ, pos}
 use Rattle.stack_algebra.specs.Fraction.{Fraction}
 use Rattle.stack_algebra.proofs.OrderedFractions.{ordered_fractions}
-use Rattle.stack_rational.specs.Passes.{passes}
+use Rattle.stack_rational.specs.TooWide.{is_too_wide}
 use Rattle.stack_contact.specs.Surveyed.{Surveyed}
 use Rattle.stack_certificate.specs.declared.types.Certificate.{Certificate}
 use Rattle.stack_equilibrium.specs.declared.types.Question.{Question}
@@ -19,9 +20,9 @@ use Rattle.stack_judge.specs.declared.types.JudgeError.{JudgeError}
 abbrev pub narrow : ℤ
 narrow = pos (2 ^ 63 - 1)
 
--- the first place of the table at which a number passes there
+-- the first place of the table at which a number is too wide there
 abbrev pub narrow_place : Question → Surveyed → Option BuildError
-narrow_place q v = wide_place ordered_fractions (passes narrow) (posed q (scene_of v))
+narrow_place q v = wide_place ordered_fractions (is_too_wide narrow) (posed q (scene_of v))
 
 abbrev pub has_no_place : Option BuildError → Bool
 has_no_place None = true
@@ -31,16 +32,16 @@ has_no_place (Some p) = false
 abbrev pub narrow_run : Question → Surveyed → (budget : ℕ) → End Fraction
 narrow_run q v budget = run_at narrow (posed q (scene_of v)) budget
 
-abbrev pub passes_nowhere : End Fraction → Bool
-passes_nowhere (infeasible T) = true
-passes_nowhere (feasible T) = true
-passes_nowhere (optimal T) = true
-passes_nowhere (ray T c) = true
-passes_nowhere (wide p k s) = false
-passes_nowhere over = true
+abbrev pub is_nowhere_too_wide : End Fraction → Bool
+is_nowhere_too_wide (infeasible T) = true
+is_nowhere_too_wide (feasible T) = true
+is_nowhere_too_wide (optimal T) = true
+is_nowhere_too_wide (ray T c) = true
+is_nowhere_too_wide (wide p k s) = false
+is_nowhere_too_wide over = true
 
 abbrev pub is_narrow : Question → Surveyed → (budget : ℕ) → Bool
-is_narrow q v budget = has_no_place (narrow_place q v) && passes_nowhere (narrow_run q v budget)
+is_narrow q v budget = has_no_place (narrow_place q v) && is_nowhere_too_wide (narrow_run q v budget)
 
 -- an answer without its mark
 abbrev pub without_mark : Result (Certificate × Bool) JudgeError → Result Certificate JudgeError

@@ -6,7 +6,7 @@ ghost use Rattle.stack_equilibrium.specs.declared.types.Question.{Question};
 ghost use Rattle.stack_simplex.specs.Ends.{ended_as};
 ghost use Rattle.stack_extract.specs.Ends.{IsEndOfSurvey, IsEndOfSome};
 ghost use Rattle.stack_judge.specs.Judged.{IsJudged};
-ghost use Rattle.stack_judge.specs.Certifying.{Makes, Gives};
+ghost use Rattle.stack_judge.specs.Certifying.{MakesCertificate, GivesChecked};
 
 use crate::types::{JudgeError, JudgePlace};
 use stack_certificate::types::Certificate;
@@ -23,7 +23,7 @@ use std::alloc::Global;
 /// The certificate that the end of a survey's run is.
 fn make<S: Exact>(alloc: Global, s: &Survey, e: &Ended<S>) -> Result<Certificate, ExtractError>
     requires { IsEndOfSome s.now e.now }
-    ensures { (q : Question) → IsEndOfSurvey q s.now e.now → Makes result q s.now (ended_as e.now) }
+    ensures { (q : Question) → IsEndOfSurvey q s.now e.now → MakesCertificate result q s.now (ended_as e.now) }
 {
     match e {
         Ended::Infeasible(_) => Ok(Certificate::Collapses(motion_of(alloc, s, e)?)),
@@ -39,12 +39,13 @@ fn make<S: Exact>(alloc: Global, s: &Survey, e: &Ended<S>) -> Result<Certificate
     }
 }
 
-/// The certificate of the end of a survey's run, where no number of it passes, nor one of its check. The check never
-/// rejects it.
+/// The certificate of the end of a survey's run, where no number of it is too wide, nor one of its check. The check
+/// never rejects it.
 pub fn certify<S: Exact>(alloc: Global, s: &Survey, e: &Ended<S>) -> Result<Certificate, JudgeError>
     requires { IsEndOfSome s.now e.now }
-    ensures gives { (q : Question) → IsEndOfSurvey q s.now e.now → Gives result q s.now (ended_as e.now) }
-    ensures judged { (q : Question) → IsEndOfSurvey q s.now e.now → IfOk result (λ c. IsJudged q s.now (certificate_view c)) }
+    ensures gives { (q : Question) → IsEndOfSurvey q s.now e.now → GivesChecked result q s.now (ended_as e.now) }
+    ensures judged { (q : Question) → IsEndOfSurvey q s.now e.now
+        → IfOk result (λ c. IsJudged q s.now (certificate_view c)) }
 {
     // laws of surveys, on which the last clause stands
     proper(s);

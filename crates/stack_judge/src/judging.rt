@@ -7,7 +7,7 @@ ghost use Rattle.stack_judge.specs.declared.types.JudgeError.TheVariants as judg
 ghost use Rattle.stack_judge.specs.ProblemColumns.{problem_columns};
 ghost use Rattle.stack_judge.specs.Judgement.{LacksLive, Judges};
 ghost use Rattle.stack_judge.specs.Judged.{IsJudged};
-ghost use Rattle.stack_judge.specs.Certifying.{IsTableOfSurvey, refused_as};
+ghost use Rattle.stack_judge.specs.Certifying.{IsTableOfSurvey, unjudged_as};
 ghost use Rattle.stack_judge.specs.NarrowWork.{is_narrow, without_mark};
 
 use crate::certifying::certify;
@@ -36,7 +36,7 @@ fn lacks_live(s: &Survey, q: Question) -> bool
     }
 }
 
-/// The written table of a survey's problem. At 128 bits nothing of it passes.
+/// The written table of a survey's problem. At 128 bits nothing of it is too wide.
 fn table_of_survey(alloc: Global, s: &Survey, q: Question) -> Result<Table<Frac<i128>>, AllocError>
     ensures { IfOk result (λ t. IsTableOfSurvey q s.now t) }
 {
@@ -50,7 +50,7 @@ fn table_of_survey(alloc: Global, s: &Survey, q: Question) -> Result<Table<Frac<
 
 /// Why there is no judgement where a run has no end.
 fn refused(error: RunError, budget: u32) -> JudgeError
-    ensures { result ≡ refused_as error budget }
+    ensures { result ≡ unjudged_as error budget }
 {
     match error {
         RunError::TooWide(place) => JudgeError::TooWide(JudgePlace::Run(place)),
@@ -77,7 +77,7 @@ pub fn judge_wide(
     }
 }
 
-/// The judgement by the run at 64 bits or, where a number passes there, at 128; and whether none does.
+/// The judgement by the run at 64 bits or, where a number is too wide there, at 128; and whether none is.
 fn judge_by_width(
     alloc: Global,
     s: &Survey,
@@ -102,7 +102,7 @@ fn judge_by_width(
     }
 }
 
-/// Judges as `judge` does, with the same refusals, and tells whether no number of the table or of the run passes
+/// Judges as `judge` does, with the same refusals, and tells whether no number of the table or of the run is too wide
 /// 2^63 - 1: then all of the run was done at 64 bits. Else its table is dropped, and the work done at 128.
 pub fn judge_marked(
     alloc: Global,
@@ -126,9 +126,9 @@ pub fn judge_marked(
 /// and which the check accepts, by the exact simplex run after Bland (1977) within a budget of pivots.
 ///
 /// Refused are, in this order: a question about live loads where none is listed; the first number of the run, of the
-/// numbers that are made of its end, or of the check that passes 2^127 - 1, with its place; a run in which a pivot is
-/// due when the budget's are done, which doesn't come where the budget is `enough` for the columns of the survey's
-/// problem. Want of memory comes at any time. After Livesley (1978).
+/// numbers that are made of its end, or of the check that is more than 2^127 - 1 in size, with its place; a run in
+/// which a pivot is due when the budget's are done, which doesn't come where the budget is `enough` for the columns
+/// of the survey's problem. Want of memory comes at any time. After Livesley (1978).
 pub fn judge(alloc: Global, s: &Survey, q: Question, budget: u32) -> Result<Certificate, JudgeError>
     requires { budget ≢ 0 }
     ensures judges { Judges result q s.now budget }

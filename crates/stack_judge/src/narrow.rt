@@ -1,4 +1,4 @@
-//! The judgement at 64 bits, where no number passes.
+//! The judgement at 64 bits, where no number is too wide.
 
 ghost use Rattle.std.specs.Prelude.{◌≡◌, ◌≢◌, IfOk, IfSome, None, is_some, true, false};
 ghost use Rattle.stack_certificate.specs.Certificate.{certificate_view};
@@ -20,7 +20,7 @@ use stack_table::Table;
 use stack_table::problem::BuildError;
 use std::alloc::{AllocError, Global};
 
-/// The written table of a survey's problem at 64 bits, where nothing of it passes.
+/// The written table of a survey's problem at 64 bits, where nothing of it is too wide.
 pub fn narrow_table(
     alloc: Global,
     s: &Survey,
@@ -37,8 +37,8 @@ pub fn narrow_table(
     }
 }
 
-/// The judgement by a run at 64 bits; None exactly where a number of its table or of the run passes. A run there that
-/// passes nowhere is the run at 128 bits.
+/// The judgement by a run at 64 bits; None exactly where a number of its table or of the run is too wide. A run
+/// there that is nowhere too wide is the run at 128 bits.
 pub fn judge_narrow(
     alloc: Global,
     s: &Survey,

@@ -1,4 +1,5 @@
-//! The judgement of a post that is pushed at its head, and of the greatest block, worked by hand; and the mark of a wall.
+//! The judgement of a post that is pushed at its head, and of the greatest block, worked by hand; and the mark of a
+//! wall.
 
 use crate::narrow::narrow_table;
 use crate::{JudgeError, judge, judge_marked};

@@ -5,14 +5,14 @@ ghost use Rattle.stack_judge.specs.declared.types.JudgeError.TheVariants as judg
 
 use stack_checker::types::CheckPlace;
 use stack_extract::ExtractPlace;
-use stack_simplex::Place;
+use stack_simplex::RunPlace;
 use std::alloc::AllocError;
 
-/// Where a number passes 2^127 - 1.
+/// Where a number is more than 2^127 - 1 in size.
 #[derive(Clone, Copy, Debug, PartialEq, Eq)]
 pub enum JudgePlace {
     /// In the run.
-    Run(Place),
+    Run(RunPlace),
     /// In the numbers that are made of its end.
     End(ExtractPlace),
     /// In the check of the certificate that these are.
@@ -22,7 +22,7 @@ pub enum JudgePlace {
 /// Why a question has no answer.
 #[derive(Clone, Copy, Debug, PartialEq, Eq)]
 pub enum JudgeError {
-    /// The first number that passes 2^127 - 1.
+    /// The first number that is more than 2^127 - 1 in size.
     TooWide(JudgePlace),
     /// A pivot is due, and this many are done.
     Spent { budget: u32 },

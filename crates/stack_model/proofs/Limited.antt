@@ -1,4 +1,5 @@
 -- Values within their limits: what the tests say, and that they are taken again.
+use Rattle.stack_algebra.proofs.Conjunctions.{both_true}
 use Rattle.std.proofs.Common.{◌≡◌, ℕ, ◌<◌, ℤ, pos, negsuc, Bool, true, false, ◌&&◌, List, [], ◌∷◌, length}
 use Rattle.std.proofs.Common.{get_or}
 use Rattle.std.proofs.Common.{Some, None, refl, subst, arith}
@@ -15,15 +16,11 @@ use Rattle.stack_polygon.proofs.Ranges.{in_range}
 use Rattle.stack_model.specs.Limits.{IsName, is_name, is_name_byte, is_between, friction_of, point_of}
 use Rattle.stack_model.specs.Limits.{live_of, force_of}
 use Rattle.stack_model.specs.Content.{number_of}
-use Rattle.stack_model.specs.Relisted.{coordinates, kind_of}
+use Rattle.stack_model.specs.Relisted.{coordinates, kind_word}
 use Rattle.stack_model.proofs.Points.{point_taken, point_again}
 
-and_parts : (a b : Bool) → a && b ≡ true → (a ≡ true) × (b ≡ true)
-and_parts true b h = (refl, h)
-and_parts false b h = absurd (cc)
-
 pub between : (low high z : ℤ) → is_between low high z ≡ true → (low ≼ z) × (z ≼ high)
-between low high z h = let p = and_parts (int_le low z) (int_le z high) h in
+between low high z h = let p = both_true (int_le low z) (int_le z high) h in
     (at_least low z p.0, at_least z high p.1)
   where
     at_least : (x y : ℤ) → int_le x y ≡ true → x ≼ y
@@ -92,7 +89,7 @@ pub point : (zs : List ℤ) (p : Point) → point_of zs ≡ Some p → IsPoint p
 point zs p h = let t = point_taken zs p h in record { range = in_range p t; again = point_again p t }
 
 -- a kind has one word
-pub kind_again : (live : Bool) → live_of (kind_of live) ≡ Some live
+pub kind_again : (live : Bool) → live_of (kind_word live) ≡ Some live
 kind_again true = refl
 kind_again false = refl
 
@@ -109,8 +106,8 @@ named name names n h = (bytes_eq-Decides name (get_or names n [])).0
 -- a name that was taken
 pub is_a_name : (name : List ℕ) → is_name name ≡ true → IsName name
 is_a_name name h =
-    let a = and_parts (nat_le 1 (length name) && nat_le (length name) 32) (list_all is_name_byte name) h in
-    let b = and_parts (nat_le 1 (length name)) (nat_le (length name) 32) a.0 in
+    let a = both_true (nat_le 1 (length name) && nat_le (length name) 32) (list_all is_name_byte name) h in
+    let b = both_true (nat_le 1 (length name)) (nat_le (length name) 32) a.0 in
     record { least = below 1 (length name) b.0; most = below (length name) 32 b.1; letters = a.1 }
   where
     below : (m n : ℕ) → nat_le m n ≡ true → m ≤ n

@@ -1,4 +1,5 @@
 -- Corner lists within the limits, the lists of numbers that they stand for, and their outlines.
+use Rattle.stack_algebra.proofs.Conjunctions.{both_true}
 use Rattle.std.proofs.Common.{◌≡◌, ℕ, suc, ◌≤◌, ℤ, Bool, true, false, ◌&&◌, List, [], ◌∷◌, map, length, Option}
 use Rattle.std.proofs.Common.{Some, None, Ok, Err, refl, ap, ◌∙◌, subst, arith}
 use Rattle.std.specs.Prelude.{if◌then◌else◌}
@@ -11,13 +12,9 @@ use Rattle.stack_polygon.specs.Outlines.{is_convex, is_clear, first_failing}
 use Rattle.stack_polygon.specs.Admission.{is_count}
 use Rattle.stack_polygon.proofs.Ranges.{all_in_range, to_all_in_range, length-reversed, range-reversed}
 use Rattle.stack_polygon.proofs.Tested.{convex_from}
-use Rattle.stack_model.specs.Limits.{point_of, with_first, points_of, corners_of}
+use Rattle.stack_model.specs.Limits.{point_of, with_first, points_of, corner_list_of}
 use Rattle.stack_model.specs.Convex.{at_block, convex}
 use Rattle.stack_model.specs.Relisted.{coordinates}
-
-both : (a b : Bool) → a && b ≡ true → (a ≡ true) × (b ≡ true)
-both true b h = (refl, h)
-both false b h = absurd (cc)
 
 pub point_taken : (c : List ℤ) (p : Point) → point_of c ≡ Some p → is_in_range p ≡ true
 point_taken (x ∷ y ∷ []) p h = go (is_near x) (is_near y) refl refl h
@@ -61,7 +58,7 @@ pub record AreCorners (ps : List Point) : Type 0 where
   pub count : is_count (length ps) ≡ true
   pub range : are_in_range ps ≡ true
 
-pub corners_taken : (cs : List (List ℤ)) (ps : List Point) → corners_of cs ≡ Some ps → AreCorners ps
+pub corners_taken : (cs : List (List ℤ)) (ps : List Point) → corner_list_of cs ≡ Some ps → AreCorners ps
 corners_taken cs ps h = go (is_count (length cs)) refl h
   where
     go : (b : Bool) → is_count (length cs) ≡ b → (if b then points_of cs else None) ≡ Some ps → AreCorners ps
@@ -71,10 +68,10 @@ corners_taken cs ps h = go (is_count (length cs)) refl h
 points_again : (ps : List Point) → are_in_range ps ≡ true → points_of (map coordinates ps) ≡ Some ps
 points_again [] h = refl
 points_again (p ∷ ps) h =
-    let q = both (is_in_range p) (are_in_range ps) h in
+    let q = both_true (is_in_range p) (are_in_range ps) h in
     λ i. with_first (point_again p q.0 i) (points_again ps q.1 i)
 
-pub corners_again : (ps : List Point) → AreCorners ps → corners_of (map coordinates ps) ≡ Some ps
+pub corners_again : (ps : List Point) → AreCorners ps → corner_list_of (map coordinates ps) ≡ Some ps
 corners_again ps h =
     (λ i. if (ap is_count (length-map ps coordinates) ∙ h.count) i
     then points_of (map coordinates ps) else None)

@@ -1,264 +1,30 @@
 -- What was checked holds of the structure.
-use Rattle.std.proofs.Common.{◌≡◌, ℕ, ◌<◌, ◌≤◌, ℤ, pos, Bool, true, false, not, List, [], ◌∷◌, ◌++◌, map}
+use Rattle.std.proofs.Common.{◌≡◌, ℕ, ◌<◌, ◌≤◌, ℤ, Bool, true, false, not, List, [], ◌∷◌, ◌++◌, map}
 use Rattle.std.proofs.Common.{length}
-use Rattle.std.proofs.Common.{Option, Some, None, Result, Ok, Err, refl, sym, ap, ◌∙◌, subst, arith}
-use Rattle.std.specs.Prelude.{nat_le, nat_lt}
+use Rattle.std.proofs.Common.{Result, Ok, Err, refl, sym, ap, ◌∙◌, subst, arith}
+use Rattle.std.specs.Prelude.{nat_le}
 use Rattle.std.specs.Bool.{⊤}
 use Rattle.std.proofs.lemmas.List.{length-map, get_or-map}
 use Rattle.std.proofs.lemmas.Int.{ints}
 use Rattle.stack_algebra.specs.Steps.{◌>>=◌, steps}
 use Rattle.stack_polygon.specs.declared.point.Point.{Point}
 use Rattle.stack_model.specs.declared.types.Load.{Load}
-use Rattle.stack_model.specs.declared.places.Spot.{Spot}
-use Rattle.stack_model.specs.declared.places.Key.{Key}
 use Rattle.stack_model.specs.declared.places.What.{What}
 use Rattle.stack_model.specs.declared.places.What.TheVariants as whats
 use Rattle.stack_model.specs.declared.errors.ModelError.{ModelError}
-use Rattle.stack_model.specs.Structure.{NamedMaterial, NamedBody, listed, material_at, body_at}
+use Rattle.stack_model.specs.Structure.{NamedMaterial, NamedBody, structure_with, body_at}
 use Rattle.stack_model.specs.Structure.{IsWithinLimits, IsPlaced, IsCarried}
-use Rattle.stack_model.specs.Parts.{MaterialPart, BlockPart, LoadPart, PartLists}
-use Rattle.stack_model.specs.Limits.{is_name, is_between, friction_of, point_of, corners_of, live_of, force_of}
-use Rattle.stack_model.specs.Convex.{convex}
-use Rattle.stack_model.specs.Content.{unless, at_most, ranged, found, is_new, is_free, number_of, has_room}
-use Rattle.stack_model.specs.Content.{material_names, body_names, with_material, add_material, with_body}
+use Rattle.stack_model.specs.Parts.{LoadPart, PartLists}
+use Rattle.stack_model.specs.Limits.{point_of, live_of, force_of}
+use Rattle.stack_model.specs.Content.{at_most, is_free, number_of}
+use Rattle.stack_model.specs.Content.{material_names, body_names, add_material}
 use Rattle.stack_model.specs.Content.{add_block, add_load, bodies_of, content_of}
 use Rattle.stack_model.specs.Relisted.{material_listed, body_listed, load_listed}
-use Rattle.stack_model.specs.Sound.{IsSound, AreDifferent, fixed_among, free_among}
-use Rattle.stack_model.proofs.Apart.{AreApart, HasRoom, no_names, no_bodies, one_more_material, one_more_body}
-use Rattle.stack_model.proofs.Points.{corners_taken, corners_again, outlined}
-use Rattle.stack_model.proofs.Limited.{between, coefficient, force, point, kind_again, number_below, named, is_a_name}
+use Rattle.stack_model.specs.Sound.{IsSound, AreDifferent}
+use Rattle.stack_model.proofs.Apart.{AreApart, no_names, no_bodies}
+use Rattle.stack_model.proofs.Limited.{force, point, kind_again, number_below, named}
 use Rattle.stack_model.proofs.Growth.{Adds, grown}
-
--- a test that held
-held : (b : Bool) (e : ModelError) (x : ⊤) → unless b e ≡ Ok x → b ≡ true
-held true e x h = refl
-held false e x h = absurd (cc)
-
--- a value that was there
-there : {A : Type 0} (s : Spot) (k : Key) (o : Option A) (x : A) → ranged s k o ≡ Ok x → o ≡ Some x
-there s k (Some y) x h = cc
-there s k None x h = absurd (cc)
-
-met : (o : Option ℕ) (e : ModelError) (n : ℕ) → found o e ≡ Ok n → o ≡ Some n
-met (Some m) e n h = cc
-met None e n h = absurd (cc)
-
--- the steps of a material
-record MaterialSteps (a b c : Bool) (o : Option (ℤ × ℤ)) (to : ℤ × ℤ → List NamedMaterial)
-    (ns : List NamedMaterial) : Type 0 where
-  pub named : a ≡ true
-  pub weighed : b ≡ true
-  pub new : c ≡ true
-  pub terms : ℤ × ℤ
-  pub friction : o ≡ Some terms
-  pub is : to terms ≡ ns
-
-material_steps : (a b c : Bool) (d e g : ModelError) (s : Spot) (k : Key) (o : Option (ℤ × ℤ)) (to : ℤ × ℤ
-    → List NamedMaterial) (ns : List NamedMaterial)
-    → (unless a d >>= λ _. unless b e >>= λ _. ranged s k o >>= λ f. unless c g >>= λ _. Ok (to f)) ≡ Ok ns
-    → MaterialSteps a b c o to ns
-material_steps true true true d e g s k (Some f) to ns h = record {
-  named = refl;
-  weighed = refl;
-  new = refl;
-  terms = f;
-  friction = refl;
-  is = cc;
-}
-material_steps true true false d e g s k (Some f) to ns h = absurd (cc)
-material_steps true true c d e g s k None to ns h = absurd (cc)
-material_steps true false c d e g s k o to ns h = absurd (cc)
-material_steps false b c d e g s k o to ns h = absurd (cc)
-
-material_runs : (a b c : Bool) (d e g : ModelError) (s : Spot) (k : Key) (o : Option (ℤ × ℤ)) (f : ℤ × ℤ)
-    (to : ℤ × ℤ → List NamedMaterial)
-    → a ≡ true → b ≡ true → c ≡ true → o ≡ Some f
-    → (unless a d >>= λ _. unless b e >>= λ _. ranged s k o >>= λ f. unless c g >>= λ _. Ok (to f)) ≡ Ok (to f)
-material_runs a b c d e g s k o f to ha hb hc ho =
-    λ i. unless (ha i) d >>= λ _. unless (hb i) e >>= λ _. ranged s k (ho i) >>= λ f. unless (hc i) g
-    >>= λ _. Ok (to f)
-
-material_adds : (i : ℕ) (ms : List NamedMaterial) (m : MaterialPart) (ns : List NamedMaterial)
-    → add_material i ms m ≡ Ok ns → Adds add_material IsWithinLimits (λ ms. AreDifferent (material_names ms))
-    material_listed i ms ns
-unfolding add_material with_material
-material_adds i ms m ns h =
-    let made = λ (f : ℤ × ℤ). let r : NamedMaterial = record {
-      name = m.name;
-      weight = m.weight;
-      p = f.0;
-      q = f.1;
-    } in r in
-    let s = material_steps (is_name m.name) (is_between (pos 0) (pos 1000000) m.weight)
-    (is_new m.name (material_names ms)) _ _ _ _ _ (friction_of m.friction)
-    (λ f. ms ++ made f ∷ []) ns h in
-    let w = between (pos 0) (pos 1000000) m.weight s.weighed in
-    let c = coefficient m.friction s.terms s.friction in
-    record {
-      item = made s.terms;
-      is = s.is;
-      keeps = record {
-        named = is_a_name m.name s.named;
-        least_weight = w.0;
-        most_weight = w.1;
-        least_p = c.p.0;
-        most_p = c.p.1;
-        least_q = c.q.0;
-        most_q = c.q.1;
-      };
-      stays = λ h. subst (λ ms. AreDifferent (material_names ms)) s.is
-          (one_more_material ms (made s.terms) s.new h);
-      again = material_runs _ _ _ _ _ _ _ _ _ s.terms
-          (λ f. ms ++ made f ∷ []) s.named s.weighed s.new c.again ∙ ap Ok s.is;
-    }
-
--- there was room for one more body
-roomy : (fixed : Bool) (bs : List NamedBody) → has_room fixed bs ≡ Ok tt → HasRoom fixed bs
-roomy true bs h = let t = held (nat_lt (fixed_among bs) 64) _ tt h in grind (arith, ints)
-roomy false bs h = let t = held (nat_lt (free_among bs) 128) _ tt h in grind (arith, ints)
-
--- the steps of a block
-record BlockSteps (a c : Bool) (o : Option (List Point)) (at : Option ℕ) (outline_of : List Point
-    → Result (List Point) ModelError) (room : Result ⊤ ModelError) (to : ℕ → List Point → List NamedBody)
-    (cs : List NamedBody) : Type 0 where
-  pub named : a ≡ true
-  pub new : c ≡ true
-  pub corners : List Point
-  pub taken : o ≡ Some corners
-  pub number : ℕ
-  pub material : at ≡ Some number
-  pub outline : List Point
-  pub outlined : outline_of corners ≡ Ok outline
-  pub roomy : room ≡ Ok tt
-  pub is : to number outline ≡ cs
-
-block_steps : (a c : Bool) (d e g : ModelError) (s : Spot) (k : Key) (o : Option (List Point))
-    (at : Option ℕ) (outline_of : List Point → Result (List Point) ModelError) (room : Result ⊤ ModelError)
-    (to : ℕ → List Point → List NamedBody) (cs : List NamedBody)
-    → (unless a d >>= λ _. ranged s k o >>= λ ps. unless c e >>= λ _. found at g >>= λ n. outline_of ps
-    >>= λ qs. room >>= λ _. Ok (to n qs)) ≡ Ok cs
-    → BlockSteps a c o at outline_of room to cs
-block_steps true true d e g s k (Some ps) (Some n) outline_of room to cs h =
-    last (outline_of ps) room refl refl h
-  where
-    last : (q : Result (List Point) ModelError) (r : Result ⊤ ModelError) → outline_of ps ≡ q → room ≡ r
-        → (q >>= λ qs. r >>= λ _. Ok (to n qs)) ≡ Ok cs
-        → BlockSteps true true (Some ps) (Some n) outline_of room to cs
-    last (Ok qs) (Ok t) e f h = record {
-      named = refl;
-      new = refl;
-      corners = ps;
-      taken = refl;
-      number = n;
-      material = refl;
-      outline = qs;
-      outlined = e;
-      roomy = f;
-      is = cc;
-    }
-    last (Ok qs) (Err x) e f h = absurd (cc)
-    last (Err x) r e f h = absurd (cc)
-block_steps true true d e g s k (Some ps) None outline_of room to cs h = absurd (cc)
-block_steps true false d e g s k (Some ps) n outline_of room to cs h = absurd (cc)
-block_steps true c d e g s k None n outline_of room to cs h = absurd (cc)
-block_steps false c d e g s k o n outline_of room to cs h = absurd (cc)
-
-block_runs : (a c : Bool) (d e g : ModelError) (s : Spot) (k : Key) (o : Option (List Point))
-    (at : Option ℕ) (outline_of : List Point → Result (List Point) ModelError) (room : Result ⊤ ModelError)
-    (to : ℕ → List Point → List NamedBody) (ps : List Point) (n : ℕ) (qs : List Point)
-    → a ≡ true → c ≡ true → o ≡ Some ps → at ≡ Some n → outline_of ps ≡ Ok qs → room ≡ Ok tt
-    → (unless a d >>= λ _. ranged s k o >>= λ ps. unless c e >>= λ _. found at g >>= λ n. outline_of ps
-    >>= λ qs. room >>= λ _. Ok (to n qs)) ≡ Ok (to n qs)
-block_runs a c d e g s k o at outline_of room to ps n qs ha hc ho hn hq hr =
-    (λ i. unless (ha i) d >>= λ _. ranged s k (ho i) >>= λ ps. unless (hc i) e >>= λ _. found (hn i) g
-    >>= λ n. outline_of ps >>= λ qs. hr i >>= λ _. Ok (to n qs))
-    ∙ ap (λ q. q >>= λ qs. Ok (to n qs)) hq
-
-block_adds : (ms : List NamedMaterial) (i : ℕ) (bs : List NamedBody) (b : BlockPart) (cs : List NamedBody)
-    → add_block ms i bs b ≡ Ok cs → Adds (add_block ms) (IsPlaced (length ms)) AreApart
-    (body_listed ms) i bs cs
-unfolding add_block with_body
-block_adds ms i bs b cs h =
-    let made = λ (n : ℕ) (qs : List Point). let r : NamedBody = record {
-      name = b.name;
-      material = n;
-      fixed = b.fixed;
-      corners = qs;
-    } in r in
-    let s = block_steps (is_name b.name) (is_new b.name (body_names bs)) _ _ _ _ _ (corners_of b.corners)
-    (number_of b.material (material_names ms)) (convex i) (has_room b.fixed bs)
-    (λ n qs. bs ++ made n qs ∷ []) cs h in
-    let o = outlined i s.corners s.outline (corners_taken b.corners s.corners s.taken) s.outlined in
-    let below : s.number < length ms = subst (λ l. s.number < l)
-    (length-map ms (λ (m : NamedMaterial). m.name))
-    (number_below b.material (material_names ms) s.number s.material) in
-    let same : (material_at ms s.number).name ≡ b.material =
-    sym (get_or-map (λ (m : NamedMaterial). m.name) ms s.number _ [] below)
-    ∙ sym (named b.material (material_names ms) s.number s.material) in
-    record {
-      item = made s.number s.outline;
-      is = s.is;
-      keeps = record { named = is_a_name b.name s.named; has_material = below; polygon = o.polygon };
-      stays = λ h. subst AreApart s.is
-          (one_more_body bs (made s.number s.outline) s.new (roomy b.fixed bs s.roomy) h);
-      again = block_runs _ _ _ _ _ _ _ _ _ (convex i) _
-          (λ n qs. bs ++ made n qs ∷ []) s.outline s.number s.outline s.named s.new
-          (corners_again s.outline o.corners) (ap (λ name. number_of name (material_names ms)) same
-          ∙ s.material) o.again s.roomy ∙ ap Ok s.is;
-    }
-
--- the steps of a load
-record LoadSteps (o : Option Bool) (p : Option Point) (q : Option (ℤ × ℤ)) (at : Option ℕ) (is_free_at : ℕ
-    → Bool) (to : Bool → Point → ℤ × ℤ → ℕ → List Load) (ns : List Load) : Type 0 where
-  pub live : Bool
-  pub kind : o ≡ Some live
-  pub point : Point
-  pub place : p ≡ Some point
-  pub parts : ℤ × ℤ
-  pub force : q ≡ Some parts
-  pub number : ℕ
-  pub body : at ≡ Some number
-  pub free : is_free_at number ≡ true
-  pub is : to live point parts number ≡ ns
-
-load_steps : (s : Spot) (j k l : Key) (d e : ModelError) (o : Option Bool) (p : Option Point)
-    (q : Option (ℤ × ℤ)) (at : Option ℕ) (free : ℕ → Bool) (to : Bool → Point → ℤ × ℤ → ℕ → List Load)
-    (ns : List Load)
-    → (ranged s j o >>= λ live. ranged s k p >>= λ c. ranged s l q >>= λ f. found at d
-    >>= λ n. unless (free n) e >>= λ _. Ok (to live c f n)) ≡ Ok ns
-    → LoadSteps o p q at free to ns
-load_steps s j k l d e (Some live) (Some c) (Some f) (Some n) free to ns h = last (free n) refl h
-  where
-    last : (b : Bool) → free n ≡ b → (unless b e >>= λ _. Ok (to live c f n)) ≡ Ok ns
-        → LoadSteps (Some live) (Some c) (Some f) (Some n) free to ns
-    last true x h = record {
-      live = live;
-      kind = refl;
-      point = c;
-      place = refl;
-      parts = f;
-      force = refl;
-      number = n;
-      body = refl;
-      free = x;
-      is = cc;
-    }
-    last false x h = absurd (cc)
-load_steps s j k l d e (Some live) (Some c) (Some f) None free to ns h = absurd (cc)
-load_steps s j k l d e (Some live) (Some c) None at free to ns h = absurd (cc)
-load_steps s j k l d e (Some live) None q at free to ns h = absurd (cc)
-load_steps s j k l d e None p q at free to ns h = absurd (cc)
-
-load_runs : (s : Spot) (j k l : Key) (d e : ModelError) (o : Option Bool) (p : Option Point)
-    (q : Option (ℤ × ℤ)) (at : Option ℕ) (free : ℕ → Bool) (to : Bool → Point → ℤ × ℤ → ℕ → List Load)
-    (live : Bool) (c : Point) (f : ℤ × ℤ) (n : ℕ)
-    → o ≡ Some live → p ≡ Some c → q ≡ Some f → at ≡ Some n → free n ≡ true
-    → (ranged s j o >>= λ live. ranged s k p >>= λ c. ranged s l q >>= λ f. found at d
-    >>= λ n. unless (free n) e >>= λ _. Ok (to live c f n)) ≡ Ok (to live c f n)
-load_runs s j k l d e o p q at free to live c f n ho hp hq hn hf =
-    (λ i. ranged s j (ho i) >>= λ live. ranged s k (hp i) >>= λ c. ranged s l (hq i) >>= λ f. found (hn i) d
-    >>= λ n. unless (free n) e >>= λ _. Ok (to live c f n))
-    ∙ ap (λ b. unless b e >>= λ _. Ok (to live c f n)) hf
+use Rattle.stack_model.proofs.TakenItems.{held, material_adds, block_adds, load_steps, load_runs}
 
 -- on a free body of these
 record IsBorne (bs : List NamedBody) (l : Load) : Type 0 where
@@ -364,15 +130,15 @@ whole_runs : (r : Result (List NamedMaterial × List NamedBody) ModelError) (u :
     (k : List NamedMaterial × List NamedBody → Result (List Load) ModelError) (ms : List NamedMaterial)
     (bs : List NamedBody) (ls : List Load)
     → r ≡ both_lists ms bs → u ≡ Ok tt → k (ms, bs) ≡ Ok ls
-    → (r >>= λ both. u >>= λ _. k both >>= λ ls. Ok (listed both.0 both.1 ls)) ≡ Ok (listed ms bs ls)
+    → (r >>= λ both. u >>= λ _. k both >>= λ ls. Ok (structure_with both.0 both.1 ls)) ≡ Ok (structure_with ms bs ls)
 whole_runs r u k ms bs ls hr hu hk =
-    (λ i. hr i >>= λ both. hu i >>= λ _. k both >>= λ ls. Ok (listed both.0 both.1 ls))
-    ∙ ap (λ q. q >>= λ ls. Ok (listed ms bs ls)) hk
+    (λ i. hr i >>= λ both. hu i >>= λ _. k both >>= λ ls. Ok (structure_with both.0 both.1 ls))
+    ∙ ap (λ q. q >>= λ ls. Ok (structure_with ms bs ls)) hk
 
 -- the structure of parts whose content was taken
 pub sound : (parts : PartLists) (ms : List NamedMaterial) (bs : List NamedBody) (ls : List Load)
     → bodies_of parts ≡ Ok (ms, bs) → at_most 256 (length parts.loads) whats.Loads ≡ Ok tt
-    → steps (add_load bs) 0 [] parts.loads ≡ Ok ls → IsSound (listed ms bs ls)
+    → steps (add_load bs) 0 [] parts.loads ≡ Ok ls → IsSound (structure_with ms bs ls)
 unfolding content_of bodies_of
 sound parts ms bs ls h some_loads loads =
     let s = list_steps (at_most 64 (length parts.materials) whats.Materials)

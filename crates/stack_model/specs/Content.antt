@@ -20,8 +20,8 @@ use Rattle.stack_model.specs.declared.errors.ModelError.TheVariants.{LoadOnFixed
 use Rattle.stack_model.specs.Structure.{NamedMaterial, NamedBody, Structure, body_at}
 use Rattle.stack_model.specs.Parts.{MaterialPart, BlockPart, LoadPart, PartLists}
 use Rattle.stack_whole.specs.Limits.{most_free}
-use Rattle.stack_model.specs.Limits.{most_materials, most_blocks, most_fixed, most_loads}
-use Rattle.stack_model.specs.Limits.{is_name, is_between, friction_of, point_of, corners_of, live_of, force_of}
+use Rattle.stack_model.specs.Limits.{most_materials, most_bodies, most_fixed, most_loads}
+use Rattle.stack_model.specs.Limits.{is_name, is_between, friction_of, point_of, corner_list_of, live_of, force_of}
 use Rattle.stack_model.specs.Convex.{convex}
 
 -- what a value means, where it is within its limits
@@ -96,7 +96,7 @@ unfoldable pub add_block : List NamedMaterial → ℕ → List NamedBody → Blo
     → Result (List NamedBody) ModelError
 add_block ms i bs b = do
   named ← unless (is_name b.name) (Range (spots.Block i) keys.Name)
-  corners ← ranged (spots.Block i) keys.Corners (corners_of b.corners)
+  corners ← ranged (spots.Block i) keys.Corners (corner_list_of b.corners)
   with_body i b.name (number_of b.material (material_names ms)) b.fixed corners bs
 
 -- the body with a number isn't fixed
@@ -118,7 +118,7 @@ unfoldable pub bodies_of : PartLists → Result (List NamedMaterial × List Name
 bodies_of parts = do
   few_materials ← at_most most_materials (length parts.materials) whats.Materials
   materials ← steps add_material 0 [] parts.materials
-  few_blocks ← at_most most_blocks (length parts.blocks) whats.Blocks
+  few_blocks ← at_most most_bodies (length parts.blocks) whats.Blocks
   bodies ← steps (add_block materials) 0 [] parts.blocks
   Ok (materials, bodies)
 

@@ -7,9 +7,11 @@ use Rattle.stack_polygon.specs.Outlines.{outline_of}
 use Rattle.stack_model.specs.declared.errors.ModelError.{ModelError}
 use Rattle.stack_model.specs.declared.errors.ModelError.TheVariants.{NotConvex}
 
+-- an outline, or the edge that isn't clear as a fault of block i
 abbrev pub at_block : ℕ → Result (List Point) ℕ → Result (List Point) ModelError
 at_block i (Ok corners) = Ok corners
 at_block i (Err edge) = Err (NotConvex i edge)
 
+-- the outline of block i, from its corner list
 abbrev pub convex : ℕ → List Point → Result (List Point) ModelError
 convex i ps = at_block i (outline_of ps)

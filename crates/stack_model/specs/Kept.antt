@@ -7,6 +7,7 @@ use Rattle.stack_model.specs.declared.kept.KeptBody.{KeptBody}
 use Rattle.stack_model.specs.declared.model.Model.TheInside.{Inside}
 use Rattle.stack_model.specs.Structure.{NamedMaterial, NamedBody, Structure}
 
+-- a material with its name
 abbrev pub material_view : KeptMaterial → NamedMaterial
 material_view m = record {
   name = string_bytes m.name;
@@ -15,6 +16,7 @@ material_view m = record {
   q = m.material.q;
 }
 
+-- a body with its name and its outline
 abbrev pub body_view : KeptBody → NamedBody
 body_view b = record {
   name = string_bytes b.name;
@@ -23,6 +25,7 @@ body_view b = record {
   corners = b.outline;
 }
 
+-- the three lists of a model
 abbrev pub inside_view : Inside → Structure
 inside_view m = record {
   materials = map material_view m.materials.items;

@@ -10,8 +10,8 @@ use Rattle.stack_polygon.specs.Limits.{is_near}
 abbrev pub most_materials : ℕ
 most_materials = 64
 
-abbrev pub most_blocks : ℕ
-most_blocks = 192
+abbrev pub most_bodies : ℕ
+most_bodies = 192
 
 abbrev pub most_fixed : ℕ
 most_fixed = 64
@@ -58,8 +58,8 @@ points_of [] = Some []
 points_of (c ∷ cs) = with_first (point_of c) (points_of cs)
 
 -- 3 to 32 points
-abbrev pub corners_of : List (List ℤ) → Option (List Point)
-corners_of cs = if nat_le 3 (length cs) && nat_le (length cs) 32 then points_of cs else None
+abbrev pub corner_list_of : List (List ℤ) → Option (List Point)
+corner_list_of cs = if nat_le 3 (length cs) && nat_le (length cs) 32 then points_of cs else None
 
 -- whether a load is live
 abbrev pub live_of : List ℕ → Option Bool

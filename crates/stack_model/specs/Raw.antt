@@ -7,15 +7,19 @@ use Rattle.stack_model.specs.declared.raw.RawLoad.{RawLoad}
 use Rattle.stack_model.specs.declared.raw.Parts.{Parts}
 use Rattle.stack_model.specs.Parts.{MaterialPart, BlockPart, LoadPart, PartLists}
 
+-- an array of numbers
 abbrev pub numbers_view : Vec ℤ Global → List ℤ
 numbers_view v = v.items
 
+-- an array of such arrays
 abbrev pub lists_view : Vec (Vec ℤ Global) Global → List (List ℤ)
 lists_view v = map numbers_view v.items
 
+-- a material as the file lists it
 abbrev pub raw_material : RawMaterial → MaterialPart
 raw_material m = record { name = string_bytes m.name; weight = m.weight; friction = m.friction.items }
 
+-- a block as the file lists it
 abbrev pub raw_block : RawBlock → BlockPart
 raw_block b = record {
   name = string_bytes b.name;
@@ -24,6 +28,7 @@ raw_block b = record {
   corners = lists_view b.corners;
 }
 
+-- a load as the file lists it
 abbrev pub raw_load : RawLoad → LoadPart
 raw_load l = record {
   block = string_bytes l.block;
@@ -32,6 +37,7 @@ raw_load l = record {
   force = l.force.items;
 }
 
+-- all that the file lists
 abbrev pub raw_parts : Parts → PartLists
 raw_parts p = record {
   materials = map raw_material p.materials.items;

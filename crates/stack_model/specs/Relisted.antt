@@ -5,16 +5,20 @@ use Rattle.stack_model.specs.declared.types.Load.{Load}
 use Rattle.stack_model.specs.Parts.{MaterialPart, BlockPart, LoadPart, PartLists}
 use Rattle.stack_model.specs.Structure.{NamedMaterial, NamedBody, Structure, material_at, body_at}
 
+-- a point as an array of two numbers
 abbrev pub coordinates : Point → List ℤ
 coordinates c = c.x ∷ c.y ∷ []
 
-abbrev pub kind_of : Bool → List ℕ
-kind_of true = codes "live"
-kind_of false = codes "dead"
+-- the word of a load's kind
+abbrev pub kind_word : Bool → List ℕ
+kind_word true = codes "live"
+kind_word false = codes "dead"
 
+-- a material, its friction as an array
 abbrev pub material_listed : NamedMaterial → MaterialPart
 material_listed m = record { name = m.name; weight = m.weight; friction = m.p ∷ m.q ∷ [] }
 
+-- a body as a block, with the name of its material
 abbrev pub body_listed : List NamedMaterial → NamedBody → BlockPart
 body_listed ms b =
     record {
@@ -24,15 +28,17 @@ body_listed ms b =
       corners = map coordinates b.corners;
     }
 
+-- a load, with the name of its block
 abbrev pub load_listed : List NamedBody → Load → LoadPart
 load_listed bs l =
     record {
       block = (body_at bs l.body).name;
-      kind = kind_of l.live;
+      kind = kind_word l.live;
       at = coordinates l.at;
       force = l.fx ∷ l.fy ∷ [];
     }
 
+-- the three lists of a structure
 abbrev pub relisted : Structure → PartLists
 relisted s =
     record {

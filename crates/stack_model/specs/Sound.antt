@@ -1,7 +1,7 @@
 -- What holds of the structure of every model.
 use Rattle.std.specs.Prelude.{◌≡◌, ℕ, ◌<◌, ◌≤◌, false, not, List, [], length, get_or, count_by, Ok}
 use Rattle.stack_whole.specs.Limits.{most_free}
-use Rattle.stack_model.specs.Limits.{most_materials, most_blocks, most_fixed, most_loads}
+use Rattle.stack_model.specs.Limits.{most_materials, most_bodies, most_fixed, most_loads}
 use Rattle.stack_model.specs.Structure.{NamedBody, Structure, material_of, body_of, load_of}
 use Rattle.stack_model.specs.Structure.{IsWithinLimits, IsPlaced, IsCarried}
 use Rattle.stack_model.specs.Content.{content_of, material_names, body_names}
@@ -25,7 +25,7 @@ pub record IsSound (s : Structure) : Type 0 where
   -- no load is on a fixed body
   pub free : (i : ℕ) → i < length s.loads → (body_of s (load_of s i).body).fixed ≡ false
   pub few_materials : length s.materials ≤ most_materials
-  pub few_bodies : length s.bodies ≤ most_blocks
+  pub few_bodies : length s.bodies ≤ most_bodies
   pub few_free : free_among s.bodies ≤ most_free
   pub few_fixed : fixed_among s.bodies ≤ most_fixed
   pub few_loads : length s.loads ≤ most_loads

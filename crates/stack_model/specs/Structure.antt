@@ -27,8 +27,8 @@ pub record Structure : Type 0 where
   pub bodies : List NamedBody
   pub loads : List Load
 
-abbrev pub listed : List NamedMaterial → List NamedBody → List Load → Structure
-listed ms bs ls = record { materials = ms; bodies = bs; loads = ls }
+abbrev pub structure_with : List NamedMaterial → List NamedBody → List Load → Structure
+structure_with ms bs ls = record { materials = ms; bodies = bs; loads = ls }
 
 -- the items by number; past the end stands an item that means nothing
 abbrev pub material_at : List NamedMaterial → ℕ → NamedMaterial

@@ -7,7 +7,7 @@ ghost use Rattle.stack_polygon.specs.Admission.{is_count};
 ghost use Rattle.stack_model.specs.Raw.{raw_block, numbers_view};
 ghost use Rattle.stack_model.specs.Gives.{Gives};
 ghost use Rattle.stack_model.specs.Kept.{body_view};
-ghost use Rattle.stack_model.specs.Limits.{corners_of};
+ghost use Rattle.stack_model.specs.Limits.{corner_list_of};
 ghost use Rattle.stack_model.specs.Content.{ranged, found as found_of, has_room as has_room_of, with_body};
 ghost use Rattle.stack_model.specs.Content.{add_block, number_of, body_names, material_names};
 ghost use Rattle.stack_model.specs.Content.{is_free as is_free_of};
@@ -17,7 +17,7 @@ use crate::kept::KeptBody;
 use crate::limits::{MOST_FIXED, corners, is_name};
 use crate::materials::{Materials, unless};
 use crate::names::Names;
-use crate::outline::outline;
+use crate::outlines::outline;
 use crate::places::{Key, Spot, What};
 use crate::raw::RawBlock;
 use crate::types::Body;
@@ -47,7 +47,8 @@ impl std::marker::Model for Bodies {
 }
 
 fn corners_at(alloc: Global, spot: Spot, lists: &[Vec<i64>]) -> Result<Vec<Point>, ModelError>
-    ensures value { Gives (λ v. v.items) result (ranged spot Key.Corners (corners_of (map numbers_view lists.now))) }
+    ensures value { Gives (λ v. v.items) result (ranged spot Key.Corners
+        (corner_list_of (map numbers_view lists.now))) }
     ensures count { IfOk result (λ v. is_count (length v.items) ≡ true) }
     ensures range { IfOk result (λ v. are_in_range v.items ≡ true) }
 {

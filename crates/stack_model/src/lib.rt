@@ -1,4 +1,10 @@
 //! The model of a structure of rigid blocks: materials, bodies and loads, made from parts as a file lists them.
+//!
+//! ```text
+//! let model = Model::new(alloc, parts)?; // a ground and a post, or the first fault of the parts
+//! model.name(1) == "post"
+//! model.polygon(1).corner(0) == Point { x: 0, y: 0 }
+//! ```
 #![tactic(auto)]
 
 mod bodies;
@@ -10,7 +16,7 @@ mod loads;
 mod materials;
 mod model;
 mod names;
-mod outline;
+mod outlines;
 mod places;
 mod raw;
 mod types;

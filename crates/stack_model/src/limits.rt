@@ -6,7 +6,7 @@ ghost use Rattle.stack_polygon.specs.Limits.{is_near as is_near_of};
 ghost use Rattle.stack_model.specs.Raw.{numbers_view};
 ghost use Rattle.stack_model.specs.Limits.{is_name_byte as is_name_byte_of, is_name as is_name_of};
 ghost use Rattle.stack_model.specs.Limits.{is_between as is_between_of, friction_of, point_of, points_of};
-ghost use Rattle.stack_model.specs.Limits.{corners_of, live_of, force_of};
+ghost use Rattle.stack_model.specs.Limits.{corner_list_of, live_of, force_of};
 
 use stack_polygon::Point;
 use std::alloc::{AllocError, Global};
@@ -15,7 +15,7 @@ use std::alloc::{AllocError, Global};
 pub const MOST_MATERIALS: usize = 64;
 
 /// And this many bodies.
-pub const MOST_BLOCKS: usize = 192;
+pub const MOST_BODIES: usize = 192;
 
 /// Of them at most this many are fixed.
 pub const MOST_FIXED: usize = 64;
@@ -95,7 +95,7 @@ fn points(alloc: Global, lists: &[Vec<i64>]) -> Result<Option<Vec<Point>>, Alloc
 
 /// 3 to 32 points.
 pub fn corners(alloc: Global, lists: &[Vec<i64>]) -> Result<Option<Vec<Point>>, AllocError>
-    ensures { IfOk result (λ found. option_map (λ v. v.items) found ≡ corners_of (map numbers_view lists.now)) }
+    ensures { IfOk result (λ found. option_map (λ v. v.items) found ≡ corner_list_of (map numbers_view lists.now)) }
 {
     if 3 <= lists.len() && lists.len() <= 32 {
         points(alloc, lists)

@@ -6,7 +6,8 @@ ghost use Rattle.stack_model.specs.Raw.{raw_material};
 ghost use Rattle.stack_model.specs.Gives.{Gives};
 ghost use Rattle.stack_model.specs.Limits.{friction_of};
 ghost use Rattle.stack_algebra.specs.Steps.{steps};
-ghost use Rattle.stack_model.specs.Content.{unless as unless_of, ranged, with_material, add_material, number_of, material_names};
+ghost use Rattle.stack_model.specs.Content.{unless as unless_of, ranged, with_material, add_material, number_of};
+ghost use Rattle.stack_model.specs.Content.{material_names};
 
 use crate::errors::ModelError;
 use crate::kept::KeptMaterial;
@@ -83,7 +84,12 @@ impl Materials {
         name: &str,
         material: Material,
     ) -> Result<Materials, ModelError>
-        ensures { Gives (λ m. m) result (with_material spot (record { name = name.now; weight = material.weight; p = material.p; q = material.q }) self) }
+        ensures { Gives (λ m. m) result (with_material spot (record {
+          name = name.now;
+          weight = material.weight;
+          p = material.p;
+          q = material.q;
+        }) self) }
     {
         let Materials {
             mut names,

@@ -3,16 +3,26 @@
 ghost use Rattle.std.specs.Prelude.{◌≡◌, ◌↔◌, ◌<◌, ◌≤◌, IsTrue, false, length, map};
 ghost use Rattle.std.specs.List.{list_any};
 ghost use Rattle.stack_polygon.specs.Limits.{IsPolygon};
-ghost use Rattle.stack_model.specs.Limits.{most_materials, most_blocks, most_loads};
-ghost use Rattle.stack_model.specs.Structure.{listed, material_of, body_of, load_of, IsWithinLimits};
+ghost use Rattle.stack_model.specs.Limits.{most_materials, most_bodies, most_loads};
+ghost use Rattle.stack_model.specs.Structure.{structure_with, material_of, body_of, load_of, IsWithinLimits};
 ghost use Rattle.stack_model.specs.Structure.{IsCarried, HasLive};
 ghost use Rattle.stack_model.specs.Sound.{IsSound};
+ghost use Rattle.stack_model.specs.Raw.{raw_parts};
+ghost use Rattle.stack_model.specs.Gives.{Gives};
+ghost use Rattle.stack_model.specs.Content.{content_of};
 ghost use Rattle.stack_model.specs.Kept.{material_view, body_view, material_alone, body_alone};
 ghost use Rattle.stack_model.specs.ModelView.{model_view};
 
+use crate::content::{at_most, bodies};
+use crate::errors::ModelError;
 use crate::kept::{KeptBody, KeptMaterial};
+use crate::limits::MOST_LOADS;
+use crate::loads::all_loads;
+use crate::places::What;
+use crate::raw::Parts;
 use crate::types::{Body, Load, Material};
 use stack_polygon::Polygon;
+use std::alloc::Global;
 
 /// Materials, bodies and loads, each numbered from 0 in the order of the file.
 #[derive(Debug, Drop)]
@@ -42,10 +52,23 @@ fn any_live(loads: &[Load]) -> bool
 }
 
 impl Model {
+    /// The model of these parts, or the first fault of their content. The parts are consumed, also by a refusal.
+    #[tactic(auto, unfolding(crate::specs::Content::content_of))]
+    pub fn new(alloc: Global, parts: Parts) -> Result<Model, ModelError>
+        ensures { Gives model_view result (content_of (raw_parts parts)) }
+    {
+        let (materials, bodies) = bodies(alloc, &parts)?;
+        at_most(MOST_LOADS, parts.loads.len(), What::Loads)?;
+        let loads = all_loads(alloc, &bodies, parts.loads.as_slice())?;
+        Ok(Model::of(materials.into_kept(), bodies.into_kept(), loads))
+    }
+
     /// The model of these lists.
     pub(crate) fn of(materials: Vec<KeptMaterial>, bodies: Vec<KeptBody>, loads: Vec<Load>) -> Model
-        requires { IsSound (listed (map material_view materials.items) (map body_view bodies.items) loads.items) }
-        ensures { model_view result ≡ listed (map material_view materials.items) (map body_view bodies.items) loads.items }
+        requires { IsSound (structure_with (map material_view materials.items)
+            (map body_view bodies.items) loads.items) }
+        ensures { model_view result ≡ structure_with (map material_view materials.items)
+            (map body_view bodies.items) loads.items }
     {
         Model {
             materials,
@@ -82,7 +105,7 @@ impl Model {
     /// The number of bodies, at most 192.
     pub fn bodies(&self) -> usize
         ensures value { result ≡ length (model_view self.now).bodies }
-        ensures few { result ≤ most_blocks }
+        ensures few { result ≤ most_bodies }
         ensures sound { IsSound (model_view self.now) }
     {
         self.bodies.len()

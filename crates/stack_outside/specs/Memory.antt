@@ -1,5 +1,6 @@
 -- What the devices in memory hold, have done and answer. Their contracts say it beside what the traits say.
-use Rattle.std.specs.Prelude.{◌≡◌, ℕ, List, Bool, true, false, Option, Some, None, Result, Ok, Err, Vec, ⊤, length, min, nat_lt, if◌then◌else◌}
+use Rattle.std.specs.Prelude.{◌≡◌, ℕ, List, Bool, true, false, Option, Some, None, Result, Ok, Err, Vec, ⊤, length}
+use Rattle.std.specs.Prelude.{min, nat_lt, if◌then◌else◌}
 use Rattle.std.specs.declared.alloc.Global.{Global}
 use Rattle.stack_outside.specs.declared.error.ShelfError.{ShelfError}
 use Rattle.stack_outside.specs.declared.error.ShelfError.TheVariants.{Failed, TooLong, Memory}

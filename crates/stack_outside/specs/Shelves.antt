@@ -1,5 +1,6 @@
 -- What a read of a shelf answers.
-use Rattle.std.specs.Prelude.{◌≡◌, ℕ, ◌≤◌, ◌<◌, List, [], ◌∷◌, ◌++◌, length, Option, Some, None, Result, Ok, Err, IfSome, Vec, ⊤, ◌⊎◌}
+use Rattle.std.specs.Prelude.{◌≡◌, ℕ, ◌≤◌, ◌<◌, List, [], ◌∷◌, ◌++◌, length, Option, Some, None, Result, Ok, Err}
+use Rattle.std.specs.Prelude.{IfSome, Vec, ⊤, ◌⊎◌}
 use Rattle.std.specs.declared.alloc.Global.{Global}
 use Rattle.stack_outside.specs.declared.error.ShelfError.{ShelfError}
 use Rattle.stack_outside.specs.declared.error.ShelfError.TheVariants.{Failed, TooLong, Memory}
@@ -12,7 +13,8 @@ ReadGives held most (Err TooLong) = IfSome held (λ bytes. most < length bytes)
 ReadGives held most (Err Memory) = ⊤
 
 -- Told names stay told, and grow by the name of the read. A read that answers Memory may leave them.
-abbrev pub Records : Option (List (List ℕ)) → Option (List (List ℕ)) → List ℕ → Result (Vec ℕ Global) ShelfError → Type 0
+abbrev pub Records : Option (List (List ℕ)) → Option (List (List ℕ)) → List ℕ → Result (Vec ℕ Global) ShelfError
+    → Type 0
 Records None after name result = ⊤
 Records (Some old) None name result = ⊥
 Records (Some old) (Some new) name result = (new ≡ old ++ name ∷ []) ⊎ ((result ≡ Err Memory) × (new ≡ old))

@@ -2,6 +2,13 @@
 //!
 //! A program over the traits `Shelf` and `Sink` is proved and tested over the devices in memory, and runs
 //! over the real ones.
+//!
+//! ```text
+//! let mut shelf = MemoryShelf::new(files, fails); // "plan" holds "abc"; no read is to fail
+//! shelf.read("plan", 3) // "abc"
+//! shelf.read("plan", 2) // Err(TooLong)
+//! shelf.read("absent", 2) // Err(Failed), and `faults` counts one more
+//! ```
 #![tactic(auto)]
 
 mod error;

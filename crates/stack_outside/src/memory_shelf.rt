@@ -85,7 +85,8 @@ fn find<'a>(files: &'a [(String, Vec<u8>)], name: &str) -> Option<&'a [u8]>
 }
 
 impl Shelf for MemoryShelf {
-    ghost use Rattle.stack_outside.specs.Memory.{shelf_holds, shelf_asked, shelf_faults, shelf_calls, shelf_fails, memory_read, Answers, has_failed};
+    ghost use Rattle.stack_outside.specs.Memory.{shelf_holds, shelf_asked, shelf_faults, shelf_calls, shelf_fails};
+    ghost use Rattle.stack_outside.specs.Memory.{memory_read, Answers, has_failed};
 
     ghost holds = { λ s. held_of s.files.items };
 

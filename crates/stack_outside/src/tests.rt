@@ -1,3 +1,5 @@
+//! Shelves and sinks in memory, with their faults.
+
 use super::*;
 use std::fs;
 use std::test::*;

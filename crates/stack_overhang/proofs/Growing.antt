@@ -1,5 +1,6 @@
 -- A list that a loop fills, one item a turn.
-use Rattle.std.proofs.Common.{◌≡◌, ℕ, ◌+◌, ◌≤◌, List, [], ◌∷◌, ◌++◌, refl, sym, ap, ◌∙◌, subst, arith, add-one, append_assoc}
+use Rattle.std.proofs.Common.{◌≡◌, ℕ, ◌+◌, ◌≤◌, List, [], ◌∷◌, ◌++◌, refl, sym, ap, ◌∙◌, subst, arith, add-one}
+use Rattle.std.proofs.Common.{append_assoc}
 use Rattle.stack_algebra.proofs.Listed.{listed, listed_more}
 
 module _ {X : Type 0} (f : ℕ → X) where

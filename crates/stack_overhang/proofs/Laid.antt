@@ -1,5 +1,6 @@
 -- The rows of each built-in model are within the limits: by computation, for each size and each shape of a wall.
-use Rattle.std.proofs.Common.{◌≡◌, ℕ, zero, suc, ◌+◌, ◌-◌, ◌<◌, ◌≤◌, Bool, true, false, ◌&&◌, List, [], ◌∷◌, ◌++◌, length, get_or, refl, sym, ap, ◌∙◌, subst, arith}
+use Rattle.std.proofs.Common.{◌≡◌, ℕ, zero, suc, ◌+◌, ◌-◌, ◌<◌, ◌≤◌, Bool, true, false, ◌&&◌, List, [], ◌∷◌, ◌++◌}
+use Rattle.std.proofs.Common.{length, get_or, refl, sym, ap, ◌∙◌, subst, arith}
 use Rattle.std.specs.Prelude.{nat_le, nat_lt}
 use Rattle.std.specs.List.{list_all}
 use Rattle.std.proofs.lemmas.Int.{ints}
@@ -13,10 +14,11 @@ use Rattle.stack_overhang.specs.declared.types.Rectangle.{Rectangle}
 use Rattle.stack_overhang.specs.declared.types.Row.{Row}
 use Rattle.stack_overhang.specs.declared.types.Wall.{Wall}
 use Rattle.stack_overhang.specs.Bricks.{brick_of, bricks_in, bricks_of, brick_at}
-use Rattle.stack_overhang.specs.Stacks.{harmonic_rows, rows_of, triangle_counts, slab_counts}
+use Rattle.stack_overhang.specs.Stacks.{harmonic_rows, brick_rows, triangle_counts, slab_counts}
 use Rattle.stack_overhang.specs.Wall.{course_of, courses_of, top_brick, top_number}
 use Rattle.stack_overhang.specs.Limits.{is_placed, is_row, are_rows, are_laid, IsWall}
-use Rattle.stack_overhang.proofs.Rectangles.{both, taken}
+use Rattle.stack_algebra.proofs.Conjunctions.{both_true}
+use Rattle.stack_overhang.proofs.Rectangles.{taken}
 use Rattle.stack_overhang.proofs.Rows.{is_placed_brick}
 use Rattle.stack_overhang.proofs.Names.{IsApart}
 use Rattle.stack_overhang.proofs.Taken.{AreTaken}
@@ -30,7 +32,7 @@ all_listed p (suc n) f each = λ i. each 0 (omega arith) i
 all_placed : (rows : List Row) → are_rows rows ≡ true → list_all is_placed (bricks_of rows) ≡ true
 all_placed [] h = refl
 all_placed (r ∷ rows) h =
-    let parts = both (is_row r) (are_rows rows) h in
+    let parts = both_true (is_row r) (are_rows rows) h in
     list_all-append is_placed (bricks_in r) (bricks_of rows)
     ∙ (λ i. all_listed is_placed r.count (brick_of r) (λ j lt. is_placed_brick r j parts.0 lt) i
     && all_placed rows parts.1 i)
@@ -55,7 +57,7 @@ below n m h = grind (arith, ints)
 pub laid : (name : List ℕ) (base : Rectangle) (rows : List Row) → is_name name ≡ true → IsApart name
     → is_placed base ≡ true → are_laid rows ≡ true → AreTaken name base (bricks_of rows)
 laid name base rows named apart under h =
-    let parts = both (are_rows rows) _ h in
+    let parts = both_true (are_rows rows) _ h in
     record {
       named = named;
       apart = apart;
@@ -77,11 +79,11 @@ from_one test n h m least most = subst (λ k. test k ≡ true) (back m least)
 pub harmonic_laid : (n : ℕ) → 1 ≤ n → n ≤ 10 → are_laid (harmonic_rows n) ≡ true
 harmonic_laid n least most = from_one (λ n. are_laid (harmonic_rows n)) 10 refl n least most
 
-pub triangle_laid : (m : ℕ) → 1 ≤ m → m ≤ 10 → are_laid (rows_of (triangle_counts m)) ≡ true
-triangle_laid m least most = from_one (λ m. are_laid (rows_of (triangle_counts m))) 10 refl m least most
+pub triangle_laid : (m : ℕ) → 1 ≤ m → m ≤ 10 → are_laid (brick_rows (triangle_counts m)) ≡ true
+triangle_laid m least most = from_one (λ m. are_laid (brick_rows (triangle_counts m))) 10 refl m least most
 
-pub slab_laid : (d : ℕ) → 1 ≤ d → d ≤ 6 → are_laid (rows_of (slab_counts d)) ≡ true
-slab_laid d least most = from_one (λ d. are_laid (rows_of (slab_counts d))) 6 refl d least most
+pub slab_laid : (d : ℕ) → 1 ≤ d → d ≤ 6 → are_laid (brick_rows (slab_counts d)) ≡ true
+slab_laid d least most = from_one (λ d. are_laid (brick_rows (slab_counts d))) 6 refl d least most
 
 -- a wall of any shape
 abbrev shaped : ℕ → ℕ → ℕ → ℕ → Wall
@@ -118,16 +120,16 @@ pub record IsLaid (w : Wall) : Type 0 where
 
 corner_in_range : (r : Rectangle) → is_placed r ≡ true → is_in_range (record { x = r.left; y = r.top }) ≡ true
 corner_in_range r h =
-    let near = both (is_near r.left && is_near r.right) _ (both _ _ h).1 in
-    let x = both (is_near r.left) (is_near r.right) near.0 in
-    let y = both (is_near r.bottom) (is_near r.top) near.1 in
+    let near = both_true (is_near r.left && is_near r.right) _ (both_true _ _ h).1 in
+    let x = both_true (is_near r.left) (is_near r.right) near.0 in
+    let y = both_true (is_near r.bottom) (is_near r.top) near.1 in
     λ i. x.0 i && y.1 i
 
 pub wall_laid : (w : Wall) → IsWall w → IsLaid w
 wall_laid w h =
     let bricks = bricks_of (courses_of w) in
     let count : (nat_lt (top_number w) (length bricks) ≡ true) × (nat_le (length bricks) 128 ≡ true) =
-    both _ _ (counted w.tenths w.shift w.courses w.bricks (omega (arith, h.least_courses)) h.most_courses
+    both_true _ _ (counted w.tenths w.shift w.courses w.bricks (omega (arith, h.least_courses)) h.most_courses
     (omega (arith, h.least_bricks)) h.most_bricks) in
     let row = λ (i : ℕ) (least : 1 ≤ i) (most : i ≤ 10). course_row w i least most h.most_bricks h.most_shift in
     let rows = all_listed is_row w.courses (λ k. course_of w (k + 1))

@@ -1,5 +1,6 @@
 -- The model that is made of parts without a fault is the built-in one.
-use Rattle.std.proofs.Common.{◌≡◌, ℕ, ◌+◌, ◌*◌, ◌-◌, ◌<◌, ◌≤◌, ℤ, pos, Bool, true, ◌&&◌, List, [], ◌∷◌, length, Some, None, Result, Ok, Err, IfOk, refl, sym, ap, ◌∙◌, subst, arith}
+use Rattle.std.proofs.Common.{◌≡◌, ℕ, ◌+◌, ◌*◌, ◌-◌, ◌<◌, ◌≤◌, ℤ, pos, Bool, true, ◌&&◌, List, [], ◌∷◌, length, Some}
+use Rattle.std.proofs.Common.{None, Result, Ok, Err, IfOk, refl, sym, ap, ◌∙◌, subst, arith}
 use Rattle.std.specs.Prelude.{codes, if◌then◌else◌, IsOk, is_ok}
 use Rattle.stack_algebra.specs.Listed.{listed}
 use Rattle.stack_algebra.specs.Steps.{steps}
@@ -18,8 +19,8 @@ use Rattle.stack_overhang.specs.declared.types.Wall.{Wall}
 use Rattle.stack_overhang.specs.Bricks.{bricks_of}
 use Rattle.stack_overhang.specs.Built.{brick_material, built_bodies}
 use Rattle.stack_overhang.specs.Listing.{blocks_of, push_listed}
-use Rattle.stack_overhang.specs.Stacks.{stack_of}
-use Rattle.stack_overhang.specs.Wall.{courses_of, top_brick, top_number, ground, structure_of}
+use Rattle.stack_overhang.specs.Stacks.{stack_on}
+use Rattle.stack_overhang.specs.Wall.{courses_of, top_brick, top_number, ground_rectangle, wall_structure}
 use Rattle.stack_overhang.specs.Limits.{is_placed, are_laid, IsWall}
 use Rattle.stack_overhang.proofs.Laid.{laid, wall_laid}
 use Rattle.stack_overhang.proofs.Taken.{all_taken, push_taken}
@@ -44,7 +45,7 @@ pub stack_taken : (table : Rectangle) (rows : List Row) (bricks : List Rectangle
     → is_placed table ≡ true → are_laid rows ≡ true → bricks ≡ bricks_of rows
     → parts.materials ≡ material_listed (brick_material (pos 0) (pos 1)) ∷ []
     → parts.blocks ≡ blocks_of (codes "table") table bricks
-    → parts.loads ≡ [] → content_of parts ≡ Ok (stack_of table rows)
+    → parts.loads ≡ [] → content_of parts ≡ Ok (stack_on table rows)
 stack_taken table rows bricks parts under h same ms bs ls =
     all_taken (pos 0) (pos 1) (codes "table") table (bricks_of rows) parts [] refl
     (laid (codes "table") table rows refl (λ k. refl) under h) ms
@@ -61,24 +62,24 @@ tenths t h =
 pub wall_taken : (w : Wall) (bricks : List Rectangle) (k : ℕ) (top : Rectangle) (parts : PartLists)
     → IsWall w → bricks ≡ bricks_of (courses_of w) → k ≡ top_number w → top ≡ top_brick w
     → parts.materials ≡ material_listed (brick_material (pos w.tenths) (pos 10)) ∷ []
-    → parts.blocks ≡ blocks_of (codes "ground") ground bricks
-    → parts.loads ≡ push_listed k top ∷ [] → content_of parts ≡ Ok (structure_of w)
+    → parts.blocks ≡ blocks_of (codes "ground") ground_rectangle bricks
+    → parts.loads ≡ push_listed k top ∷ [] → content_of parts ≡ Ok (wall_structure w)
 wall_taken w bricks k top parts h same first corner ms bs ls =
     let rows = courses_of w in
     let l = wall_laid w h in
     let push : parts.loads ≡ push_listed (top_number w) (top_brick w) ∷ [] =
     ls ∙ (λ i. push_listed (first i) (corner i) ∷ []) in
-    all_taken (pos w.tenths) (pos 10) (codes "ground") ground (bricks_of rows) parts _
+    all_taken (pos w.tenths) (pos 10) (codes "ground") ground_rectangle (bricks_of rows) parts _
     (tenths w.tenths h.most_tenths)
-    (laid (codes "ground") ground rows refl (λ k. refl) refl l.rows) ms
-    (bs ∙ ap (blocks_of (codes "ground") ground) same)
+    (laid (codes "ground") ground_rectangle rows refl (λ k. refl) refl l.rows) ms
+    (bs ∙ ap (blocks_of (codes "ground") ground_rectangle) same)
     (ap (λ ls. at_most 256 (length ls) whats.Loads) push)
-    (ap (steps (add_load (built_bodies (codes "ground") ground (bricks_of rows))) 0 []) push
-    ∙ push_taken (codes "ground") ground (bricks_of rows) (top_number w) (top_brick w) (λ k. refl) l.top l.few
+    (ap (steps (add_load (built_bodies (codes "ground") ground_rectangle (bricks_of rows))) 0 []) push
+    ∙ push_taken (codes "ground") ground_rectangle (bricks_of rows) (top_number w) (top_brick w) (λ k. refl) l.top l.few
     l.corner)
 
 -- a wall has its live load
-pub wall_has_live : (r : Result Structure StackError) (w : Wall) → IfOk r (λ m. m ≡ structure_of w)
+pub wall_has_live : (r : Result Structure StackError) (w : Wall) → IfOk r (λ m. m ≡ wall_structure w)
     → IfOk r (λ m. HasLive m)
 wall_has_live (Ok m) w e = subst HasLive (sym e) (0, (omega arith, refl))
 wall_has_live (Err e) w h = tt

@@ -1,5 +1,7 @@
 -- A rectangle with an area, within the limits of coordinates: its corner list is taken, and is its own outline.
-use Rattle.std.proofs.Common.{◌≡◌, ℕ, zero, suc, ◌<◌, ℤ, pos, ◌-ℤ◌, ◌*ℤ◌, Bool, true, false, ◌&&◌, map, Some, Ok, refl, arith}
+use Rattle.stack_algebra.proofs.Conjunctions.{both_true}
+use Rattle.std.proofs.Common.{◌≡◌, ℕ, zero, suc, ◌<◌, ℤ, pos, ◌-ℤ◌, ◌*ℤ◌, Bool, true, false, ◌&&◌, map, Some, Ok}
+use Rattle.std.proofs.Common.{refl, arith}
 use Rattle.std.specs.Prelude.{int_lt}
 use Rattle.std.proofs.lemmas.Int.{ints}
 use Rattle.stack_algebra.proofs.Integers.{expand, sums}
@@ -7,17 +9,13 @@ use Rattle.stack_algebra.proofs.Order.{◌≺◌, mul_pos}
 use Rattle.stack_polygon.specs.Limits.{is_near, are_in_range}
 use Rattle.stack_polygon.specs.Outlines.{is_clear, is_left_or_end, is_convex}
 use Rattle.stack_polygon.proofs.Tested.{below_each}
-use Rattle.stack_model.specs.Limits.{corners_of as corner_points}
+use Rattle.stack_model.specs.Limits.{corner_list_of as corner_points}
 use Rattle.stack_model.specs.Convex.{convex}
 use Rattle.stack_model.specs.Relisted.{coordinates}
 use Rattle.stack_model.proofs.Points.{corners_again}
 use Rattle.stack_overhang.specs.declared.types.Rectangle.{Rectangle}
-use Rattle.stack_overhang.specs.Bricks.{corners_of}
+use Rattle.stack_overhang.specs.Bricks.{rectangle_corners}
 use Rattle.stack_overhang.specs.Limits.{is_placed}
-
-pub both : (a b : Bool) → a && b ≡ true → (a ≡ true) × (b ≡ true)
-both true b h = (refl, h)
-both false b h = absurd (cc)
 
 below_four : (P : ℕ → Type 0) → P 0 → P 1 → P 2 → P 3 → (k : ℕ) → k < 4 → P k
 below_four P p q r s zero l = p
@@ -62,9 +60,9 @@ module _ (l r b t : ℤ) where
   left_high : (l -ℤ l) *ℤ (t -ℤ t) -ℤ (b -ℤ t) *ℤ (r -ℤ l) ≡ area
   left_high = simp expand (omega (arith, sums))
 
-is_convex_rectangle : (r : Rectangle) → r.left ≺ r.right → r.bottom ≺ r.top → is_convex (corners_of r) ≡ true
+is_convex_rectangle : (r : Rectangle) → r.left ≺ r.right → r.bottom ≺ r.top → is_convex (rectangle_corners r) ≡ true
 is_convex_rectangle r h k =
-    let ps = corners_of r in
+    let ps = rectangle_corners r in
     let wide : pos 0 ≺ r.right -ℤ r.left = omega (arith, sums) in
     let tall : pos 0 ≺ r.top -ℤ r.bottom = omega (arith, sums) in
     let a = mul_pos (r.right -ℤ r.left) (r.top -ℤ r.bottom) wide tall in
@@ -88,20 +86,20 @@ is_convex_rectangle r h k =
 
 -- its corners are taken as they are listed, and are an outline
 pub record IsTaken (r : Rectangle) : Type 0 where
-  pub corners : corner_points (map coordinates (corners_of r)) ≡ Some (corners_of r)
-  pub outline : (i : ℕ) → convex i (corners_of r) ≡ Ok (corners_of r)
+  pub corners : corner_points (map coordinates (rectangle_corners r)) ≡ Some (rectangle_corners r)
+  pub outline : (i : ℕ) → convex i (rectangle_corners r) ≡ Ok (rectangle_corners r)
 
 pub taken : (r : Rectangle) → is_placed r ≡ true → IsTaken r
 taken r h =
-    let parts = both _ _ h in
-    let sizes = both (int_lt r.left r.right) _ parts.0 in
-    let near = both (is_near r.left && is_near r.right) _ parts.1 in
-    let x = both (is_near r.left) (is_near r.right) near.0 in
-    let y = both (is_near r.bottom) (is_near r.top) near.1 in
-    let range : are_in_range (corners_of r) ≡ true = λ i. (x.0 i && y.0 i) && ((x.1 i && y.0 i)
+    let parts = both_true _ _ h in
+    let sizes = both_true (int_lt r.left r.right) _ parts.0 in
+    let near = both_true (is_near r.left && is_near r.right) _ parts.1 in
+    let x = both_true (is_near r.left) (is_near r.right) near.0 in
+    let y = both_true (is_near r.bottom) (is_near r.top) near.1 in
+    let range : are_in_range (rectangle_corners r) ≡ true = λ i. (x.0 i && y.0 i) && ((x.1 i && y.0 i)
     && ((x.1 i && y.1 i) && ((x.0 i && y.1 i) && true))) in
     let straight = is_convex_rectangle r (less _ _ sizes.0) (less _ _ sizes.1) in
     record {
-      corners = corners_again (corners_of r) (record { count = refl; range = range });
+      corners = corners_again (rectangle_corners r) (record { count = refl; range = range });
       outline = λ i. rw straight refl;
     }

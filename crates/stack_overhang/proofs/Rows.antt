@@ -1,5 +1,6 @@
 -- Rows within the limits: what their tests say, and where their bricks lie.
-use Rattle.std.proofs.Common.{◌≡◌, ℕ, ◌+◌, ◌<◌, ◌^◌, ℤ, pos, negsuc, ◌+ℤ◌, ◌*ℤ◌, Bool, true, false, ◌&&◌, List, length, get_or, refl, ap, sym, ◌∙◌, subst, arith, FitsSigned, to_z, of_z, w64}
+use Rattle.std.proofs.Common.{◌≡◌, ℕ, ◌+◌, ◌<◌, ◌^◌, ℤ, pos, negsuc, ◌+ℤ◌, ◌*ℤ◌, Bool, true, false, ◌&&◌, List}
+use Rattle.std.proofs.Common.{length, get_or, refl, ap, sym, ◌∙◌, subst, arith, FitsSigned, to_z, of_z, w64}
 use Rattle.std.specs.Prelude.{int_lt}
 use Rattle.std.proofs.lemmas.Int.{ints, to_z_pos, to_z-of_z}
 use Rattle.std.proofs.lemmas.List.Folds.{list_all_at}
@@ -10,7 +11,8 @@ use Rattle.stack_overhang.specs.declared.types.Rectangle.{Rectangle}
 use Rattle.stack_overhang.specs.declared.types.Row.{Row}
 use Rattle.stack_overhang.specs.Bricks.{brick_of}
 use Rattle.stack_overhang.specs.Limits.{is_placed, is_row, are_rows}
-use Rattle.stack_overhang.proofs.Rectangles.{both, less}
+use Rattle.stack_algebra.proofs.Conjunctions.{both_true}
+use Rattle.stack_overhang.proofs.Rectangles.{less}
 
 near : (z : ℤ) → is_near z ≡ true → IsNear z
 near z h = record { low = grind (arith, ints); high = grind (arith, ints) }
@@ -36,11 +38,11 @@ within_row long left j n h lt e =
 
 pub within_it : (r : Row) (j : ℕ) → is_row r ≡ true → j < r.count → IsWithin r j
 within_it r j h lt =
-    let parts = both _ _ h in
-    let sizes = both (int_lt (pos 0) r.long) _ parts.0 in
-    let ends = both (is_near r.left && is_near (r.left +ℤ r.long *ℤ pos r.count)) _ parts.1 in
-    let x = both (is_near r.left) _ ends.0 in
-    let y = both (is_near r.bottom) _ ends.1 in
+    let parts = both_true _ _ h in
+    let sizes = both_true (int_lt (pos 0) r.long) _ parts.0 in
+    let ends = both_true (is_near r.left && is_near (r.left +ℤ r.long *ℤ pos r.count)) _ parts.1 in
+    let x = both_true (is_near r.left) _ ends.0 in
+    let y = both_true (is_near r.bottom) _ ends.1 in
     let long = less (pos 0) r.long sizes.0 in
     let last = near _ x.1 in
     record {

@@ -1,5 +1,7 @@
 -- The parts of a built-in model are taken without a fault, and make its structure.
-use Rattle.std.proofs.Common.{◌≡◌, ℕ, zero, suc, ◌+◌, ◌<◌, ◌≤◌, ℤ, pos, Bool, true, false, not, List, [], ◌∷◌, ◌++◌, map, length, get_or, Option, Some, None, Result, Ok, Err, refl, sym, ap, ◌∙◌, subst, arith, add-one}
+use Rattle.std.proofs.Common.{◌≡◌, ℕ, zero, suc, ◌+◌, ◌<◌, ◌≤◌, ℤ, pos, Bool, true, false, not, List, [], ◌∷◌, ◌++◌}
+use Rattle.std.proofs.Common.{map, length, get_or, Option, Some, None, Result, Ok, Err, refl, sym, ap, ◌∙◌, subst}
+use Rattle.std.proofs.Common.{arith, add-one}
 use Rattle.std.specs.Prelude.{nat_le, nat_lt, codes, count_by, cond}
 use Rattle.std.specs.Bool.{⊤}
 use Rattle.std.proofs.lemmas.Int.{ints}
@@ -15,7 +17,7 @@ use Rattle.stack_model.specs.declared.places.What.TheVariants as whats
 use Rattle.stack_model.specs.declared.places.Key.TheVariants as keys
 use Rattle.stack_model.specs.declared.errors.ModelError.{ModelError}
 use Rattle.stack_model.specs.declared.errors.ModelError.TheVariants.{NoMaterial, TooMany}
-use Rattle.stack_model.specs.Structure.{NamedMaterial, NamedBody, Structure, listed as structure, body_at}
+use Rattle.stack_model.specs.Structure.{NamedMaterial, NamedBody, Structure, structure_with as structure, body_at}
 use Rattle.stack_model.specs.Parts.{BlockPart, LoadPart, PartLists}
 use Rattle.stack_polygon.specs.Limits.{is_in_range}
 use Rattle.stack_model.specs.Limits.{is_name, friction_of, point_of}
@@ -26,9 +28,9 @@ use Rattle.stack_model.specs.Content.{add_block, add_load, bodies_of, content_of
 use Rattle.stack_model.specs.Relisted.{material_listed, coordinates}
 use Rattle.stack_model.proofs.Points.{point_again}
 use Rattle.stack_overhang.specs.declared.types.Rectangle.{Rectangle}
-use Rattle.stack_overhang.specs.Bricks.{corners_of, brick_at, brick_name}
+use Rattle.stack_overhang.specs.Bricks.{rectangle_corners, brick_at, brick_name}
 use Rattle.stack_overhang.specs.Built.{brick_material, base_body, brick_body, brick_bodies, built_bodies, built}
-use Rattle.stack_overhang.specs.Listing.{block_of, brick_block, blocks_of, push_listed}
+use Rattle.stack_overhang.specs.Listing.{rectangle_part, brick_block, blocks_of, push_listed}
 use Rattle.stack_overhang.proofs.Rectangles.{IsTaken}
 use Rattle.stack_overhang.proofs.Names.{IsApart, is_a_brick_name, fresh, numbered}
 
@@ -55,7 +57,7 @@ block_runs a c d e g s k o at outline_of room to ps n qs ha hc ho hn hq hr =
     ∙ ap (λ q. q >>= λ qs. Ok (to n qs)) hq
 
 abbrev body : List ℕ → Bool → Rectangle → NamedBody
-body name fixed r = record { name = name; material = 0; fixed = fixed; corners = corners_of r }
+body name fixed r = record { name = name; material = 0; fixed = fixed; corners = rectangle_corners r }
 
 module _ (p q : ℤ) where
   abbrev materials : List NamedMaterial
@@ -68,13 +70,13 @@ module _ (p q : ℤ) where
 
   block_taken : (i : ℕ) (bs : List NamedBody) (name : List ℕ) (fixed : Bool) (r : Rectangle)
       → is_name name ≡ true → is_new name (body_names bs) ≡ true → IsTaken r → has_room fixed bs ≡ Ok tt
-      → add_block materials i bs (block_of name fixed r) ≡ Ok (bs ++ body name fixed r ∷ [])
+      → add_block materials i bs (rectangle_part name fixed r) ≡ Ok (bs ++ body name fixed r ∷ [])
   unfolding add_block with_body
   block_taken i bs name fixed r named new t room =
       block_runs (is_name name) (is_new name (body_names bs)) _ _ (NoMaterial i) _ _ _
       (number_of (codes "brick") (material_names materials)) (convex i) (has_room fixed bs)
-      (λ n qs. bs ++ record { name = name; material = n; fixed = fixed; corners = qs } ∷ []) (corners_of r) 0
-      (corners_of r) named new t.corners refl (t.outline i) room
+      (λ n qs. bs ++ record { name = name; material = n; fixed = fixed; corners = qs } ∷ []) (rectangle_corners r) 0
+      (rectangle_corners r) named new t.corners refl (t.outline i) room
 
 -- a base and bricks on it that each are taken
 pub record AreTaken (name : List ℕ) (base : Rectangle) (bricks : List Rectangle) : Type 0 where

@@ -6,8 +6,8 @@ use Rattle.stack_overhang.specs.declared.types.Rectangle.{Rectangle}
 use Rattle.stack_overhang.specs.declared.types.Row.{Row}
 
 -- from its lower left corner, counter-clockwise
-abbrev pub corners_of : Rectangle → List Point
-corners_of r =
+abbrev pub rectangle_corners : Rectangle → List Point
+rectangle_corners r =
     record { x = r.left; y = r.bottom } ∷ record { x = r.right; y = r.bottom }
     ∷ record { x = r.right; y = r.top } ∷ record { x = r.left; y = r.top } ∷ []
 

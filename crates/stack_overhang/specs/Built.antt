@@ -4,7 +4,7 @@ use Rattle.stack_algebra.specs.Listed.{listed}
 use Rattle.stack_model.specs.declared.types.Load.{Load}
 use Rattle.stack_model.specs.Structure.{NamedMaterial, NamedBody, Structure}
 use Rattle.stack_overhang.specs.declared.types.Rectangle.{Rectangle}
-use Rattle.stack_overhang.specs.Bricks.{corners_of, brick_at, brick_name}
+use Rattle.stack_overhang.specs.Bricks.{rectangle_corners, brick_at, brick_name}
 
 -- with the coefficient of friction p over q
 abbrev pub brick_material : ℤ → ℤ → NamedMaterial
@@ -12,11 +12,11 @@ brick_material p q = record { name = codes "brick"; weight = pos 1; p = p; q = q
 
 -- what the bricks stand on
 abbrev pub base_body : List ℕ → Rectangle → NamedBody
-base_body name r = record { name = name; material = 0; fixed = true; corners = corners_of r }
+base_body name r = record { name = name; material = 0; fixed = true; corners = rectangle_corners r }
 
 -- brick k, from 0
 abbrev pub brick_body : ℕ → Rectangle → NamedBody
-brick_body k r = record { name = brick_name k; material = 0; fixed = false; corners = corners_of r }
+brick_body k r = record { name = brick_name k; material = 0; fixed = false; corners = rectangle_corners r }
 
 abbrev pub brick_bodies : List Rectangle → ℕ → List NamedBody
 brick_bodies bricks n = listed n (λ k. brick_body k (brick_at bricks k))

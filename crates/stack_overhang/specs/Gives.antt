@@ -8,11 +8,11 @@ abbrev pub is_size : ℕ → ℕ → ℕ → Bool
 is_size least most n = nat_le least n && nat_le n most
 
 -- the structure for a size from least to most
-abbrev pub within : ℕ → ℕ → ℕ → Structure → Result Structure StackError
-within least most n s = if is_size least most n then Ok s else Err Size
+abbrev pub sized : ℕ → ℕ → ℕ → Structure → Result Structure StackError
+sized least most n s = if is_size least most n then Ok s else Err Size
 
 -- want of memory may be answered only where the size is within its limits
-abbrev pub Gives : Result Structure StackError → Result Structure StackError → Type 0
-Gives (Ok s) made = made ≡ Ok s
-Gives (Err Size) made = made ≡ Err Size
-Gives (Err Memory) made = IsOk made
+abbrev pub GivesStack : Result Structure StackError → Result Structure StackError → Type 0
+GivesStack (Ok s) made = made ≡ Ok s
+GivesStack (Err Size) made = made ≡ Err Size
+GivesStack (Err Memory) made = IsOk made

@@ -11,8 +11,8 @@ use Rattle.stack_overhang.specs.Bricks.{bricks_of}
 use Rattle.stack_overhang.specs.Built.{built}
 
 -- rows of bricks on a table
-abbrev pub stack_of : Rectangle → List Row → Structure
-stack_of table rows = built (pos 0) (pos 1) (codes "table") table (bricks_of rows) []
+abbrev pub stack_on : Rectangle → List Row → Structure
+stack_on table rows = built (pos 0) (pos 1) (codes "table") table (bricks_of rows) []
 
 -- Of a harmonic stack of n bricks, the right end of brick i, from 1 at the bottom: the sum of 2520/k for k from n down
 -- to n - i + 1
@@ -36,7 +36,7 @@ abbrev pub long_table : Rectangle
 long_table = record { left = negsuc 10079; bottom = negsuc 999; right = pos 0; top = pos 0 }
 
 abbrev pub harmonic_of : ℕ → Structure
-harmonic_of n = stack_of long_table (harmonic_rows n)
+harmonic_of n = stack_on long_table (harmonic_rows n)
 
 -- Row i, from 1 at the bottom, of c bricks 2 long and 1 high: its middle is the table's end
 abbrev pub centred : ℕ → ℕ → Row
@@ -49,8 +49,8 @@ centred i c = record {
 }
 
 -- the rows with these numbers of bricks, from the bottom
-abbrev pub rows_of : List ℕ → List Row
-rows_of counts = listed (length counts) (λ k. centred (k + 1) (get_or counts k 0))
+abbrev pub brick_rows : List ℕ → List Row
+brick_rows counts = listed (length counts) (λ k. centred (k + 1) (get_or counts k 0))
 
 abbrev pub short_table : Rectangle
 short_table = record { left = negsuc 19; bottom = negsuc 0; right = pos 0; top = pos 0 }
@@ -59,8 +59,8 @@ short_table = record { left = negsuc 19; bottom = negsuc 0; right = pos 0; top =
 abbrev pub triangle_counts : ℕ → List ℕ
 triangle_counts m = listed m (λ k. k + 1)
 
-abbrev pub triangle_of : ℕ → Structure
-triangle_of m = stack_of short_table (rows_of (triangle_counts m))
+abbrev pub triangle_stack : ℕ → Structure
+triangle_stack m = stack_on short_table (brick_rows (triangle_counts m))
 
 -- the 2r - 3 rows r, r - 1, r, .. r of a slab
 abbrev pub layer_of : ℕ → List ℕ
@@ -71,4 +71,4 @@ abbrev pub slab_counts : ℕ → List ℕ
 slab_counts d = 1 ∷ flat_map layer_of (listed (d - 1) (λ k. k + 2))
 
 abbrev pub slab_of : ℕ → Structure
-slab_of d = stack_of short_table (rows_of (slab_counts d))
+slab_of d = stack_on short_table (brick_rows (slab_counts d))

@@ -54,11 +54,12 @@ push_on w = record {
   fy = pos 0;
 }
 
-abbrev pub ground : Rectangle
-ground = record { left = negsuc 999; bottom = negsuc 9; right = pos 1000; top = pos 0 }
+abbrev pub ground_rectangle : Rectangle
+ground_rectangle = record { left = negsuc 999; bottom = negsuc 9; right = pos 1000; top = pos 0 }
 
-abbrev pub structure_of : Wall → Structure
-structure_of w = built (pos w.tenths) (pos 10) (codes "ground") ground (bricks_of (courses_of w)) (push_on w ∷ [])
+abbrev pub wall_structure : Wall → Structure
+wall_structure w = built (pos w.tenths) (pos 10) (codes "ground") ground_rectangle (bricks_of (courses_of w))
+    (push_on w ∷ [])
 
 abbrev pub wall_of : ℕ → Structure
-wall_of n = structure_of (wall_by n)
+wall_of n = wall_structure (wall_by n)

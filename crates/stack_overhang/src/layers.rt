@@ -1,7 +1,8 @@
 //! The rows of each stack.
 
 ghost use Rattle.std.specs.Prelude.{◌≡◌, ◌≤◌, ◌++◌, IfOk};
-ghost use Rattle.stack_overhang.specs.Stacks.{harmonic_rows, centred, rows_of, triangle_counts, layer_of, slab_counts};
+ghost use Rattle.stack_overhang.specs.Stacks.{harmonic_rows, centred, brick_rows, triangle_counts, layer_of};
+ghost use Rattle.stack_overhang.specs.Stacks.{slab_counts};
 
 use crate::types::Row;
 use std::alloc::{AllocError, Global};
@@ -28,7 +29,7 @@ pub fn harmonic_layers(alloc: Global, n: u32) -> Result<Vec<Row>, AllocError>
 
 /// The rows with these numbers of bricks, from the bottom, each with its middle at 0.
 fn rows(alloc: Global, counts: &[u32]) -> Result<Vec<Row>, AllocError>
-    ensures { IfOk result (λ v. v.items ≡ rows_of counts.now) }
+    ensures { IfOk result (λ v. v.items ≡ brick_rows counts.now) }
 {
     let mut rows = Vec::new(alloc);
     for (k, count) in counts.iter().enumerate() {
@@ -46,7 +47,7 @@ fn rows(alloc: Global, counts: &[u32]) -> Result<Vec<Row>, AllocError>
 /// The rows of an inverted triangle.
 pub fn triangle_layers(alloc: Global, m: u32) -> Result<Vec<Row>, AllocError>
     requires { m ≤ 10 }
-    ensures { IfOk result (λ v. v.items ≡ rows_of (triangle_counts m)) }
+    ensures { IfOk result (λ v. v.items ≡ brick_rows (triangle_counts m)) }
 {
     let mut counts = Vec::new(alloc);
     for k in 0..m {
@@ -71,7 +72,7 @@ fn with_layer(mut counts: Vec<u32>, r: u32) -> Result<Vec<u32>, AllocError>
 pub fn slab_layers(alloc: Global, d: u32) -> Result<Vec<Row>, AllocError>
     requires least { 1 ≤ d }
     requires most { d ≤ 6 }
-    ensures { IfOk result (λ v. v.items ≡ rows_of (slab_counts d)) }
+    ensures { IfOk result (λ v. v.items ≡ brick_rows (slab_counts d)) }
 {
     let mut counts = Vec::new(alloc);
     counts.push(1)?;

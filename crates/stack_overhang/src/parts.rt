@@ -3,9 +3,9 @@
 ghost use Rattle.std.specs.Prelude.{◌≡◌, ◌<◌, ◌≤◌, ◌∷◌, [], IfOk, map, length, string_bytes};
 ghost use Rattle.stack_model.specs.Raw.{raw_material, raw_block, raw_load, lists_view};
 ghost use Rattle.stack_model.specs.Relisted.{coordinates, material_listed};
-ghost use Rattle.stack_overhang.specs.Bricks.{corners_of, brick_name};
+ghost use Rattle.stack_overhang.specs.Bricks.{rectangle_corners, brick_name};
 ghost use Rattle.stack_overhang.specs.Built.{brick_material};
-ghost use Rattle.stack_overhang.specs.Listing.{block_of, blocks_of, push_listed};
+ghost use Rattle.stack_overhang.specs.Listing.{rectangle_part, blocks_of, push_listed};
 
 use crate::types::Rectangle;
 use stack_model::{RawBlock, RawLoad, RawMaterial};
@@ -23,7 +23,7 @@ fn pair(alloc: Global, first: i64, second: i64) -> Result<Vec<i64>, AllocError>
 
 /// The corners of a rectangle.
 fn corners(alloc: Global, r: Rectangle) -> Result<Vec<Vec<i64>>, AllocError>
-    ensures { IfOk result (λ v. lists_view v ≡ map coordinates (corners_of r)) }
+    ensures { IfOk result (λ v. lists_view v ≡ map coordinates (rectangle_corners r)) }
 {
     let mut list = Vec::new(alloc);
     list.push(pair(alloc, r.left, r.bottom)?)?;
@@ -48,7 +48,7 @@ pub fn materials(alloc: Global, p: i64, q: i64) -> Result<Vec<RawMaterial>, Allo
 
 /// A rectangle of that material.
 fn block(alloc: Global, name: String, fixed: bool, r: Rectangle) -> Result<RawBlock, AllocError>
-    ensures { IfOk result (λ b. raw_block b ≡ block_of (string_bytes name) fixed r) }
+    ensures { IfOk result (λ b. raw_block b ≡ rectangle_part (string_bytes name) fixed r) }
 {
     Ok(RawBlock {
         name,

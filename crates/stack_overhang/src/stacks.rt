@@ -3,8 +3,8 @@
 ghost use Rattle.std.specs.Prelude.{◌≡◌, true, IfOk, IfErr};
 ghost use Rattle.stack_model.specs.ModelView.{model_view};
 ghost use Rattle.stack_overhang.specs.Limits.{is_placed, are_laid};
-ghost use Rattle.stack_overhang.specs.Gives.{Gives, within};
-ghost use Rattle.stack_overhang.specs.Stacks.{stack_of, harmonic_of, triangle_of, slab_of};
+ghost use Rattle.stack_overhang.specs.Gives.{GivesStack, sized};
+ghost use Rattle.stack_overhang.specs.Stacks.{stack_on, harmonic_of, triangle_stack, slab_of};
 ghost use Rattle.stack_overhang.specs.declared.error.StackError.TheVariants.{Memory};
 
 use crate::bricks::bricks;
@@ -36,7 +36,7 @@ const SHORT_TABLE: Rectangle = Rectangle {
 fn stack(alloc: Global, table: Rectangle, rows: &[Row]) -> Result<Model, StackError>
     requires table { is_placed table ≡ true }
     requires rows { are_laid rows.now ≡ true }
-    ensures ok { IfOk result (λ m. model_view m ≡ stack_of table rows.now) }
+    ensures ok { IfOk result (λ m. model_view m ≡ stack_on table rows.now) }
     ensures memory { IfErr result (λ e. e ≡ Memory) }
 {
     let materials = materials(alloc, 0, 1)?;
@@ -56,7 +56,7 @@ fn stack(alloc: Global, table: Rectangle, rows: &[Row]) -> Result<Model, StackEr
 /// of brick i, from 1 at the bottom, is the sum of 2520/k for k from n - i + 1 to n, so that the overhang is half the
 /// sum of 1/1 to 1/n in brick lengths. Refused with `Size` is exactly any other size.
 pub fn harmonic(alloc: Global, n: u32) -> Result<Model, StackError>
-    ensures { Gives result (within 1 10 n (harmonic_of n)) }
+    ensures { GivesStack result (sized 1 10 n (harmonic_of n)) }
 {
     if n < 1 {
         return Err(StackError::Size);
@@ -71,7 +71,7 @@ pub fn harmonic(alloc: Global, n: u32) -> Result<Model, StackError>
 /// The inverted triangle of `m` rows, 1 to 10: row i, from 1 at the bottom, has i bricks, each 2 long and 1 high, and
 /// its middle is the end of the table, at 0. Refused with `Size` is exactly any other size.
 pub fn triangle(alloc: Global, m: u32) -> Result<Model, StackError>
-    ensures { Gives result (within 1 10 m (triangle_of m)) }
+    ensures { GivesStack result (sized 1 10 m (triangle_stack m)) }
 {
     if m < 1 {
         return Err(StackError::Size);
@@ -87,7 +87,7 @@ pub fn triangle(alloc: Global, m: u32) -> Result<Model, StackError>
 /// bricks, from the bottom; bricks and table are those of a triangle. Refused with `Size` is exactly any other size.
 /// After Paterson and Zwick, "Overhang" (2009).
 pub fn slab(alloc: Global, d: u32) -> Result<Model, StackError>
-    ensures { Gives result (within 1 6 d (slab_of d)) }
+    ensures { GivesStack result (sized 1 6 d (slab_of d)) }
 {
     if d < 1 {
         return Err(StackError::Size);

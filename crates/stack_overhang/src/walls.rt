@@ -3,8 +3,8 @@
 ghost use Rattle.std.specs.Prelude.{◌≡◌, ◌<◌, ◌≤◌, ◌^◌, true, IfOk, IfErr};
 ghost use Rattle.stack_model.specs.ModelView.{model_view};
 ghost use Rattle.stack_model.specs.Structure.{HasLive};
-ghost use Rattle.stack_overhang.specs.Gives.{Gives, within};
-ghost use Rattle.stack_overhang.specs.Wall.{drawn, wall_by, course_of, courses_of, structure_of, wall_of};
+ghost use Rattle.stack_overhang.specs.Gives.{GivesStack, sized};
+ghost use Rattle.stack_overhang.specs.Wall.{drawn, wall_by, course_of, courses_of, wall_structure, wall_of};
 ghost use Rattle.stack_overhang.specs.Limits.{IsWall};
 ghost use Rattle.stack_overhang.specs.declared.error.StackError.TheVariants.{Memory};
 
@@ -78,7 +78,7 @@ fn courses(alloc: Global, w: Wall) -> Result<Vec<Row>, AllocError>
 /// The model of a wall.
 fn built(alloc: Global, w: Wall) -> Result<Model, StackError>
     requires { IsWall w }
-    ensures ok { IfOk result (λ m. model_view m ≡ structure_of w) }
+    ensures ok { IfOk result (λ m. model_view m ≡ wall_structure w) }
     ensures memory { IfErr result (λ e. e ≡ Memory) }
 {
     let materials = materials(alloc, w.tenths as i64, 10)?;
@@ -104,7 +104,7 @@ fn built(alloc: Global, w: Wall) -> Result<Model, StackError>
 /// first brick of the top course, at its upper left corner. Weights are 1 for a square of the grid's unit. Refused with
 /// `Size` is exactly any other number.
 pub fn wall(alloc: Global, number: u32) -> Result<Model, StackError>
-    ensures gives { Gives result (within 0 999999 number (wall_of number)) }
+    ensures gives { GivesStack result (sized 0 999999 number (wall_of number)) }
     ensures live { IfOk result (λ m. HasLive (model_view m)) }
 {
     if number > 999_999 {

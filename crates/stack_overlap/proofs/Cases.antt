@@ -15,7 +15,7 @@ use lib.ListN.{length}
 use Rattle.stack_algebra.specs.Search.{next_round}
 use Rattle.stack_polygon.specs.Corners.{corner_of, IsStrictlyConvex}
 use Rattle.stack_overlap.specs.Forms.{IsMark, IsOnStretch, IsBetween, square}
-use Rattle.stack_polygon.specs.Plane.{Place, IsAt}
+use Rattle.stack_polygon.specs.Plane.{Triple, IsAt}
 use Rattle.stack_overlap.specs.Separation.{IsCommon, Separates}
 use Rattle.stack_overlap.specs.CommonPoints.{IsCornerOf, IsBefore, IsCommonOf}
 use Rattle.stack_overlap.specs.Marks.{IsReach, IsCut}
@@ -29,7 +29,7 @@ use Rattle.stack_overlap.proofs.Pieces.{same-mark, empty-stretch, point-stretch,
 use Rattle.stack_overlap.proofs.CommonPoints.{cut}
 
 -- the same segment, from its other end
-pub between-reversed : (a b : Point) (X : Place) → IsBetween a b X → IsBetween b a X
+pub between-reversed : (a b : Point) (X : Triple) → IsBetween a b X → IsBetween b a X
 between-reversed a b X h = record {
   on_line = minus (reversed a b X) h.on_line;
   above = least (square a b) X.w (along-reversed a b X) h.below;
@@ -59,7 +59,7 @@ module _ (P Q : List Point) (convex_p : IsStrictlyConvex P) (three_p : 3 ≤ len
   module _ (r : Reach) (reach : IsReach a b Q (length Q) r) (f t : ℤ)
       (k : IsCut (square a b) r.low.place r.high.place f t) (F G : Point) (from : IsMark a b F f)
       (to : IsMark a b G t) where
-    points : (X : Place) → IsCommon P Q X ↔ IsOnStretch a b f t X
+    points : (X : Triple) → IsCommon P Q X ↔ IsOnStretch a b f t X
     points X = let s = cut P Q (convex-form P convex_p) three_p (convex-form Q convex_q) three_q i
         (outer-form P i Q h) r reach f t k.from_low k.from_start k.to_high k.to_end k.from_one k.to_one X in
         (λ m. s.0 (shared-form P Q X m), λ p. form-shared P Q X (s.1 p))
@@ -67,7 +67,7 @@ module _ (P Q : List Point) (convex_p : IsStrictlyConvex P) (three_p : 3 ≤ len
     pub nothing : t ≺ f → IsCommonOf P Q Nothing
     nothing l X m = empty-stretch a b long f t X l ((points X).0 m)
 
-    lone : f ≡ t → (X : Place) → IsCommon P Q X ↔ IsAt X F
+    lone : f ≡ t → (X : Triple) → IsCommon P Q X ↔ IsAt X F
     lone e X = let s = point-stretch a b long f F X from in (
       λ m. s.0 (subst (λ z. IsOnStretch a b f z X) (sym e) ((points X).0 m)),
       λ p. (points X).1

@@ -12,8 +12,8 @@ use mathlib.Core.List.{List}
 use lib.ListN.{length}
 use Rattle.stack_algebra.specs.Search.{next_round}
 use Rattle.stack_polygon.specs.Corners.{corner_of}
-use Rattle.stack_polygon.specs.Plane.{Place}
-use Rattle.stack_overlap.specs.Forms.{Form, IsOnStretch, IsBetween, value, at, line, along, square, edge}
+use Rattle.stack_polygon.specs.Plane.{Triple}
+use Rattle.stack_overlap.specs.Forms.{LinearForm, IsOnStretch, IsBetween, value, at_corner, line, along, square, edge}
 use Rattle.stack_overlap.proofs.ByForms.{IsConvex, IsShared, IsOuter}
 use Rattle.stack_overlap.specs.CommonPoints.{IsCornerOf}
 use Rattle.stack_overlap.specs.Marks.{IsReach}
@@ -23,7 +23,7 @@ use Rattle.stack_overlap.proofs.Stretches.{between}
 use Rattle.stack_overlap.proofs.Support.{support}
 use Rattle.stack_overlap.proofs.Edges.{corner_inside, edge_long, on_edge, edge_inside}
 
-abbrev constant : Form
+abbrev constant : LinearForm
 constant = record { l = pos 0; m = pos 0; n = pos 1 }
 
 module _ (P Q : List Point) (convex_p : IsConvex P) (three_p : 3 ≤ length P) (convex_q : IsConvex Q)
@@ -34,7 +34,7 @@ module _ (P Q : List Point) (convex_p : IsConvex P) (three_p : 3 ≤ length P) (
   abbrev pub b : Point
   b = corner_of P (next_round (length P) i)
 
-  pub common_on_line : (X : Place) → IsShared P Q X → value (line a b) X ≡ pos 0
+  pub common_on_line : (X : Triple) → IsShared P Q X → value (line a b) X ≡ pos 0
   common_on_line X m = both (m.first i h.is_edge) (support Q convex_q three_q X m.second (line a b)
       (line a b) h.apart (λ j hj e. none e) (m.first i h.is_edge))
     where
@@ -45,7 +45,7 @@ module _ (P Q : List Point) (convex_p : IsConvex P) (three_p : 3 ≤ length P) (
       both l m = omega (arith, sums)
 
   -- with no corner on the line nothing is common
-  pub nothing-common : ((j : ℕ) → j < length Q → at (line a b) (corner_of Q j) ≡ pos 0 → ⊥) → (X : Place)
+  pub nothing-common : ((j : ℕ) → j < length Q → at_corner (line a b) (corner_of Q j) ≡ pos 0 → ⊥) → (X : Triple)
       → ¬ (IsShared P Q X)
   nothing-common none X m = weight X.x X.y X.w X.positive
       (support Q convex_q three_q X m.second (line a b) constant h.apart (λ j hj e. absurd (none j hj e))
@@ -68,7 +68,7 @@ module _ (P Q : List Point) (convex_p : IsConvex P) (three_p : 3 ≤ length P) (
     d = r.high.at
 
     -- the common points are on the edge, between the two corners
-    pub common_between : (X : Place) → IsShared P Q X → IsOnStretch a b lo hi X × IsBetween a b X
+    pub common_between : (X : Triple) → IsShared P Q X → IsOnStretch a b lo hi X × IsBetween a b X
     common_between X m = (
       record {
         on_line = common_on_line X m;
@@ -99,7 +99,7 @@ module _ (P Q : List Point) (convex_p : IsConvex P) (three_p : 3 ≤ length P) (
         high_at e l = omega (arith, sums)
 
     -- and all such points are common
-    pub between_common : (X : Place) → IsOnStretch a b lo hi X → IsBetween a b X → IsShared P Q X
+    pub between_common : (X : Triple) → IsOnStretch a b lo hi X → IsBetween a b X → IsShared P Q X
     between_common X s t = record {
       first = edge_inside P convex_p three_p i h.is_edge X t;
       second = λ k hk. between (edge Q k) a b c d lo hi X
@@ -107,14 +107,14 @@ module _ (P Q : List Point) (convex_p : IsConvex P) (three_p : 3 ≤ length P) (
           (corner k hk reach.low_corner) (corner k hk reach.high_corner);
     }
       where
-        corner : {e : Point} (k : ℕ) → k < length Q → IsCornerOf Q e → pos 0 ≼ at (edge Q k) e
-        corner k hk (j, (hj, e)) = subst (λ p. pos 0 ≼ at (edge Q k) p) e
+        corner : {e : Point} (k : ℕ) → k < length Q → IsCornerOf Q e → pos 0 ≼ at_corner (edge Q k) e
+        corner k hk (j, (hj, e)) = subst (λ p. pos 0 ≼ at_corner (edge Q k) p) e
             (corner_inside Q convex_q three_q k j hk hj)
 
     -- the part between the later of the two beginnings and the earlier of the two ends
     pub cut : (f t : ℤ) → lo ≼ f → pos 0 ≼ f → t ≼ hi → t ≼ square a b → (f ≡ lo) ⊎ (f ≡ pos 0)
         → (t ≡ hi) ⊎ (t ≡ square a b) →
-        (X : Place) → IsShared P Q X ↔ IsOnStretch a b f t X
+        (X : Triple) → IsShared P Q X ↔ IsOnStretch a b f t X
     cut f t h₁ h₂ h₃ h₄ e₁ e₂ X = (
       λ m. let r = common_between X m in record {
         on_line = r.0.on_line;

@@ -13,8 +13,8 @@ use mathlib.Core.List.{List}
 use lib.ListN.{length}
 use Rattle.stack_algebra.specs.Search.{next_round}
 use Rattle.stack_polygon.specs.Corners.{corner_of}
-use Rattle.stack_overlap.specs.Forms.{IsMark, Form, IsBetween, value, at, along, square, edge}
-use Rattle.stack_polygon.specs.Plane.{Place}
+use Rattle.stack_overlap.specs.Forms.{IsMark, LinearForm, IsBetween, value, at_corner, along, square, edge}
+use Rattle.stack_polygon.specs.Plane.{Triple}
 use Rattle.stack_overlap.proofs.ByForms.{IsConvex, IsInside}
 use Rattle.stack_overlap.proofs.Identities.{less, opposite, value-less, at-less, value-opposite, at-opposite}
 use Rattle.stack_overlap.proofs.Identities.{line-start, line-end, along-start, along-end}
@@ -30,22 +30,22 @@ module _ (P : List Point) (convex : IsConvex P) (three : 3 ≤ length P) where
 
   -- a corner is an end of the edge, or strictly left of it
   pub corner-cases : (i j : ℕ) → i < length P → j < length P
-      → (j ≡ i) ⊎ ((j ≡ next_round (length P) i) ⊎ (pos 0 ≺ at (edge P i) (corner_of P j)))
+      → (j ≡ i) ⊎ ((j ≡ next_round (length P) i) ⊎ (pos 0 ≺ at_corner (edge P i) (corner_of P j)))
   corner-cases i j hi hj = go (ℕ_discrete j i) (ℕ_discrete j (next_round (length P) i))
     where
       go : Dec (j ≡ i) → Dec (j ≡ next_round (length P) i)
-          → (j ≡ i) ⊎ ((j ≡ next_round (length P) i) ⊎ (pos 0 ≺ at (edge P i) (corner_of P j)))
+          → (j ≡ i) ⊎ ((j ≡ next_round (length P) i) ⊎ (pos 0 ≺ at_corner (edge P i) (corner_of P j)))
       go (yes e) d = inl e
       go (no f) (yes e) = inr (inl e)
       go (no f) (no g) = inr (inr (convex i j hi hj f g))
 
   -- each corner is inside
-  pub corner_inside : (i j : ℕ) → i < length P → j < length P → pos 0 ≼ at (edge P i) (corner_of P j)
+  pub corner_inside : (i j : ℕ) → i < length P → j < length P → pos 0 ≼ at_corner (edge P i) (corner_of P j)
   corner_inside i j hi hj = elim (corner-cases i j hi hj) [
-    | inl e ↦ subst (λ z. pos 0 ≼ z) (sym (ap (λ k. at (edge P i) (corner_of P k)) e
+    | inl e ↦ subst (λ z. pos 0 ≼ z) (sym (ap (λ k. at_corner (edge P i) (corner_of P k)) e
         ∙ line-start (start i) (end i))) (omega (arith, ints))
     | inr s ↦ elim s [
-      | inl e ↦ subst (λ z. pos 0 ≼ z) (sym (ap (λ k. at (edge P i) (corner_of P k)) e
+      | inl e ↦ subst (λ z. pos 0 ≼ z) (sym (ap (λ k. at_corner (edge P i) (corner_of P k)) e
           ∙ line-end (start i) (end i))) (omega (arith, ints))
       | inr l ↦ positive _ l
     ]
@@ -55,7 +55,7 @@ module _ (P : List Point) (convex : IsConvex P) (three : 3 ≤ length P) where
       positive z l = omega (arith, sums)
 
   -- a corner on an edge's line is one of its ends
-  pub on-edge : (i j : ℕ) → i < length P → j < length P → at (edge P i) (corner_of P j) ≼ pos 0
+  pub on-edge : (i j : ℕ) → i < length P → j < length P → at_corner (edge P i) (corner_of P j) ≼ pos 0
       → (j ≡ i) ⊎ (j ≡ next_round (length P) i)
   on-edge i j hi hj h = elim (corner-cases i j hi hj) [
     | inl e ↦ inl e
@@ -66,11 +66,11 @@ module _ (P : List Point) (convex : IsConvex P) (three : 3 ≤ length P) where
       both z l m = omega (arith, sums)
 
   -- some corner is strictly left of an edge
-  pub third : (i : ℕ) → i < length P → (j : ℕ) × ((j < length P) × (pos 0 ≺ at (edge P i) (corner_of P j)))
+  pub third : (i : ℕ) → i < length P → (j : ℕ) × ((j < length P) × (pos 0 ≺ at_corner (edge P i) (corner_of P j)))
   third i hi = go (ℕ_discrete (suc i) (length P)) (ℕ_discrete (suc (suc i)) (length P))
     where
       go : Dec (suc i ≡ length P) → Dec (suc (suc i) ≡ length P)
-          → (j : ℕ) × ((j < length P) × (pos 0 ≺ at (edge P i) (corner_of P j)))
+          → (j : ℕ) × ((j < length P) × (pos 0 ≺ at_corner (edge P i) (corner_of P j)))
       go (yes e) d = (
         1,
         (
@@ -117,7 +117,7 @@ module _ (P : List Point) (convex : IsConvex P) (three : 3 ≤ length P) where
           (simp expand (omega (arith, sums, simp expand at h)))
 
   -- a point inside, on the line of an edge, is on the edge
-  pub on_edge : (i : ℕ) → i < length P → (X : Place) → IsInside P X → value (edge P i) X ≡ pos 0
+  pub on_edge : (i : ℕ) → i < length P → (X : Triple) → IsInside P X → value (edge P i) X ≡ pos 0
       → IsBetween (start i) (end i) X
   on_edge i hi X inside h = record {
     on_line = h;
@@ -140,17 +140,17 @@ module _ (P : List Point) (convex : IsConvex P) (three : 3 ≤ length P) where
         zero_here);
   }
     where
-      below : (j : ℕ) → j < length P → at (opposite (edge P i)) (corner_of P j) ≼ pos 0
+      below : (j : ℕ) → j < length P → at_corner (opposite (edge P i)) (corner_of P j) ≼ pos 0
       below j hj = flip (at-opposite (edge P i) (corner_of P j)) (corner_inside i j hi hj)
         where
           flip : {z y : ℤ} → y ≡ neg_ℤ z → pos 0 ≼ z → y ≼ pos 0
           flip e l = omega (arith, sums)
 
-      ends : (j : ℕ) → j < length P → at (opposite (edge P i)) (corner_of P j) ≡ pos 0 → (g : Form)
-          → at g (start i) ≼ pos 0 → at g (end i) ≼ pos 0 → at g (corner_of P j) ≼ pos 0
+      ends : (j : ℕ) → j < length P → at_corner (opposite (edge P i)) (corner_of P j) ≡ pos 0 → (g : LinearForm)
+          → at_corner g (start i) ≼ pos 0 → at_corner g (end i) ≼ pos 0 → at_corner g (corner_of P j) ≼ pos 0
       ends j hj e g p q = elim (on-edge i j hi hj (flip (at-opposite (edge P i) (corner_of P j)) e)) [
-        | inl s ↦ subst (λ k. at g (corner_of P k) ≼ pos 0) (sym s) p
-        | inr s ↦ subst (λ k. at g (corner_of P k) ≼ pos 0) (sym s) q
+        | inl s ↦ subst (λ k. at_corner g (corner_of P k) ≼ pos 0) (sym s) p
+        | inr s ↦ subst (λ k. at_corner g (corner_of P k) ≼ pos 0) (sym s) q
       ]
         where
           flip : {z y : ℤ} → y ≡ neg_ℤ z → y ≡ pos 0 → z ≼ pos 0
@@ -187,7 +187,7 @@ module _ (P : List Point) (convex : IsConvex P) (three : 3 ≤ length P) where
   end-mark i = record { on_line = line-end (start i) (end i); place = along-end (start i) (end i) }
 
   -- a point between two marks that are corners, or points of an edge, is inside
-  pub edge_inside : (i : ℕ) → i < length P → (X : Place) → IsBetween (start i) (end i) X → IsInside P X
+  pub edge_inside : (i : ℕ) → i < length P → (X : Triple) → IsBetween (start i) (end i) X → IsInside P X
   edge_inside i hi X h k hk = between (edge P k) (start i) (end i) (start i) (end i) (pos 0)
       (square (start i) (end i)) X (edge_long i hi) (start-mark i) (end-mark i) h
       (corner_inside k i hk hi) (corner_inside k (next_round (length P) i) hk (next_below (length P) i hi))

@@ -9,13 +9,13 @@ use Rattle.std.specs.Prelude.{◌↔◌}
 use Rattle.stack_algebra.proofs.Integers.{sums, expand, pos-left}
 use Rattle.stack_algebra.proofs.Order.{◌≼◌, ◌≺◌, mul_nonneg, mul_pos, mul_le_right, square_nonneg, nonneg-cancel}
 use Rattle.stack_polygon.specs.declared.point.Point.{Point}
-use Rattle.stack_polygon.specs.Plane.{Place, IsAt, IsSame}
+use Rattle.stack_polygon.specs.Plane.{Triple, IsAt, IsSamePoint}
 use Rattle.stack_overlap.specs.declared.types.Common.{Common}
 use Rattle.stack_overlap.specs.declared.types.Common.TheVariants.{Nothing, Corner, OnEdge, Segment}
-use Rattle.stack_overlap.specs.Forms.{IsMark, Form, IsOnStretch, value, line, along, square}
+use Rattle.stack_overlap.specs.Forms.{IsMark, LinearForm, IsOnStretch, value, line, along, square}
 use Rattle.stack_overlap.specs.Separation.{IsCommon}
 use Rattle.stack_overlap.specs.CommonPoints.{IsBefore, IsCommonOf}
-use Rattle.stack_overlap.specs.Ends.{IsMidpoint, IsEndOf, IsEndAt}
+use Rattle.stack_overlap.specs.Ends.{IsMidpoint, IsExtremeIn, IsEndAt}
 use Rattle.stack_overlap.proofs.ByForms.{segment-form}
 use Rattle.stack_overlap.proofs.Identities.{less, opposite, value-less, value-opposite, place, value-place}
 use Rattle.stack_overlap.proofs.Identities.{line-start, line-end, along-start, along-end}
@@ -25,7 +25,7 @@ use Rattle.stack_overlap.proofs.Stretches.{is-mark}
 use Rattle.stack_overlap.proofs.Support.{either_side}
 
 -- a corner and a triple that mean the same
-pub same-at : (X Y : Place) (c : Point) → IsAt X c → IsAt Y c → IsSame X Y
+pub same-at : (X Y : Triple) (c : Point) → IsAt X c → IsAt Y c → IsSamePoint X Y
 same-at X Y c h k = record { x = go c.x X.w Y.w h.x k.x; y = go c.y X.w Y.w h.y k.y }
   where
     go : (c w v : ℤ) {x y : ℤ} → x ≡ c *ℤ w → y ≡ c *ℤ v → x *ℤ v ≡ y *ℤ w
@@ -35,13 +35,16 @@ same-at X Y c h k = record { x = go c.x X.w Y.w h.x k.x; y = go c.y X.w Y.w h.y 
         mid c w v = simp expand (omega (arith, sums))
 
 -- a form that is 0 at a midpoint and not negative at the two points is 0 there
-pub zero-at : (g : Form) (X Y Z : Place) → IsMidpoint X Y Z → value g X ≡ pos 0 → pos 0 ≼ value g Y → pos 0 ≼ value g Z → (value g Y ≡ pos 0) × (value g Z ≡ pos 0)
-zero-at g X Y Z m e hy hz = go (value g Y) (value g Z) X.w Y.w Z.w X.positive Y.positive Z.positive hy hz (sym (value-midpoint g X Y Z m) ∙ ap (λ z. pos 2 *ℤ (Y.w *ℤ Z.w *ℤ z)) e ∙ none Y.w Z.w)
+pub zero-at : (g : LinearForm) (X Y Z : Triple) → IsMidpoint X Y Z → value g X ≡ pos 0 → pos 0 ≼ value g Y
+    → pos 0 ≼ value g Z → (value g Y ≡ pos 0) × (value g Z ≡ pos 0)
+zero-at g X Y Z m e hy hz = go (value g Y) (value g Z) X.w Y.w Z.w X.positive Y.positive Z.positive hy hz
+    (sym (value-midpoint g X Y Z m) ∙ ap (λ z. pos 2 *ℤ (Y.w *ℤ Z.w *ℤ z)) e ∙ none Y.w Z.w)
   where
     none : (v u : ℤ) → pos 2 *ℤ (v *ℤ u *ℤ pos 0) ≡ pos 0
     none v u = simp expand (omega (arith, sums))
 
-    go : (p q w v u : ℤ) → pos 0 ≺ w → pos 0 ≺ v → pos 0 ≺ u → pos 0 ≼ p → pos 0 ≼ q → w *ℤ (p *ℤ u +ℤ q *ℤ v) ≡ pos 0 → (p ≡ pos 0) × (q ≡ pos 0)
+    go : (p q w v u : ℤ) → pos 0 ≺ w → pos 0 ≺ v → pos 0 ≺ u → pos 0 ≼ p → pos 0 ≼ q → w *ℤ (p *ℤ u +ℤ q *ℤ v)
+        ≡ pos 0 → (p ≡ pos 0) × (q ≡ pos 0)
     go p q w v u hw hv hu hp hq e =
         let s = nonneg-cancel w (neg_ℤ (p *ℤ u +ℤ q *ℤ v)) hw (simp expand (omega (arith, sums, simp expand at e))) in
         let m = mul_nonneg p u hp (omega (arith, sums)) in
@@ -51,14 +54,15 @@ zero-at g X Y Z m e hy hz = go (value g Y) (value g Z) X.w Y.w Z.w X.positive Y.
         (omega (arith, sums), omega (arith, sums))
 
 module _ (a b : Point) (long : pos 0 ≺ square a b) (f t : ℤ) (F G : Point) (from : IsMark a b F f) (to : IsMark a b G t)
-    (C : Place → Type 0) (points : (X : Place) → C X ↔ IsOnStretch a b f t X) where
+    (C : Triple → Type 0) (points : (X : Triple) → C X ↔ IsOnStretch a b f t X) where
   -- points at the beginning are ends
-  pub from-end : (X : Place) → C X → value (along a b) X ≡ f *ℤ X.w → IsEndOf C X
+  pub from-end : (X : Triple) → C X → value (along a b) X ≡ f *ℤ X.w → IsExtremeIn C X
   from-end X h e = record {
     is_in = h;
     extreme = λ Y Z y z m.
         let r = zero-at (less (along a b) f) X Y Z m (level (value-less (along a b) f X) e)
-        (least (value-less (along a b) f Y) ((points Y).0 y).above) (least (value-less (along a b) f Z) ((points Z).0 z).above) in
+        (least (value-less (along a b) f Y) ((points Y).0 y).above)
+        (least (value-less (along a b) f Z) ((points Z).0 z).above) in
         same-at Y Z F (is-mark a b F f Y long from ((points Y).0 y).on_line (back (value-less (along a b) f Y) r.0))
         (is-mark a b F f Z long from ((points Z).0 z).on_line (back (value-less (along a b) f Z) r.1));
   }
@@ -72,15 +76,18 @@ module _ (a b : Point) (long : pos 0 ≺ square a b) (f t : ℤ) (F G : Point) (
       least : {y z s : ℤ} → y ≡ z -ℤ s → s ≼ z → pos 0 ≼ y
       least e h = omega (arith, sums)
 
-  pub to-end : (X : Place) → C X → value (along a b) X ≡ t *ℤ X.w → IsEndOf C X
+  pub to-end : (X : Triple) → C X → value (along a b) X ≡ t *ℤ X.w → IsExtremeIn C X
   to-end X h e = record {
     is_in = h;
     extreme = λ Y Z y z m.
         let g = opposite (less (along a b) t) in
         let r = zero-at g X Y Z m (level (value-opposite (less (along a b) t) X) (value-less (along a b) t X) e)
-        (least (value-opposite (less (along a b) t) Y) (value-less (along a b) t Y) ((points Y).0 y).below) (least (value-opposite (less (along a b) t) Z) (value-less (along a b) t Z) ((points Z).0 z).below) in
-        same-at Y Z G (is-mark a b G t Y long to ((points Y).0 y).on_line (back (value-opposite (less (along a b) t) Y) (value-less (along a b) t Y) r.0))
-        (is-mark a b G t Z long to ((points Z).0 z).on_line (back (value-opposite (less (along a b) t) Z) (value-less (along a b) t Z) r.1));
+        (least (value-opposite (less (along a b) t) Y) (value-less (along a b) t Y) ((points Y).0 y).below)
+        (least (value-opposite (less (along a b) t) Z) (value-less (along a b) t Z) ((points Z).0 z).below) in
+        same-at Y Z G (is-mark a b G t Y long to ((points Y).0 y).on_line
+        (back (value-opposite (less (along a b) t) Y) (value-less (along a b) t Y) r.0))
+        (is-mark a b G t Z long to ((points Z).0 z).on_line (back (value-opposite (less (along a b) t) Z)
+        (value-less (along a b) t Z) r.1));
   }
     where
       level : {y x z s : ℤ} → y ≡ neg_ℤ x → x ≡ z -ℤ s → z ≡ s → y ≡ pos 0
@@ -106,16 +113,18 @@ module _ (a b : Point) (long : pos 0 ≺ square a b) (f t : ℤ) (F G : Point) (
       one' t e l = simp expand (omega (arith, sums))
 
   -- X is its own reflection in a corner
-  own-reflection : (X : Place) (c : Point) → IsSame (place c) (reflection X c) → IsAt X c
+  own-reflection : (X : Triple) (c : Point) → IsSamePoint (place c) (reflection X c) → IsAt X c
   own-reflection X c s = record { x = go X.x c.x X.w s.x; y = go X.y c.y X.w s.y }
     where
       go : (x c w : ℤ) → c *ℤ w ≡ (pos 2 *ℤ x -ℤ c *ℤ w) *ℤ pos 1 → x ≡ c *ℤ w
       go x c w e = omega (arith, sums, simp expand at e)
 
-  reflected : (X : Place) (c : Point) (k : ℤ) → C X → IsMark a b c k →
-      f *ℤ X.w ≼ (pos 2 *ℤ value (along a b) X -ℤ k *ℤ X.w) → (pos 2 *ℤ value (along a b) X -ℤ k *ℤ X.w) ≼ t *ℤ X.w → C (reflection X c)
+  reflected : (X : Triple) (c : Point) (k : ℤ) → C X → IsMark a b c k →
+      f *ℤ X.w ≼ (pos 2 *ℤ value (along a b) X -ℤ k *ℤ X.w) → (pos 2 *ℤ value (along a b) X -ℤ k *ℤ X.w) ≼ t *ℤ X.w
+      → C (reflection X c)
   reflected X c k h hc l m = (points (reflection X c)).1 (record {
-    on_line = value-reflection (line a b) X c ∙ (λ i. pos 2 *ℤ ((points X).0 h).on_line i -ℤ hc.on_line i *ℤ X.w) ∙ none X.w;
+    on_line = value-reflection (line a b) X c ∙ (λ i. pos 2 *ℤ ((points X).0 h).on_line i -ℤ hc.on_line i *ℤ X.w)
+        ∙ none X.w;
     above = subst (λ z. f *ℤ X.w ≼ z) (sym place_is) l;
     below = subst (λ z. z ≼ t *ℤ X.w) (sym place_is) m;
   })
@@ -127,12 +136,14 @@ module _ (a b : Point) (long : pos 0 ≺ square a b) (f t : ℤ) (F G : Point) (
       place_is = value-reflection (along a b) X c ∙ ap (λ z. pos 2 *ℤ value (along a b) X -ℤ z *ℤ X.w) hc.place
 
   -- and there are no others
-  pub ends : (X : Place) → f ≼ t → IsEndOf C X → (IsAt X F) ⊎ (IsAt X G)
+  pub ends : (X : Triple) → f ≼ t → IsExtremeIn C X → (IsAt X F) ⊎ (IsAt X G)
   ends X l h = elim (either_side ((value (along a b) X -ℤ f *ℤ X.w) -ℤ (t *ℤ X.w -ℤ value (along a b) X))) [
     | inl s ↦ inl (own-reflection X F (h.extreme (place F) (reflection X F) (mark-place F f from (self f) l)
-        (reflected X F f h.is_in from (low f t X.w (value (along a b) X) ((points X).0 h.is_in).above) (high f t X.w (value (along a b) X) s)) (reflection-midpoint X F)))
+        (reflected X F f h.is_in from (low f t X.w (value (along a b) X) ((points X).0 h.is_in).above)
+        (high f t X.w (value (along a b) X) s)) (reflection-midpoint X F)))
     | inr s ↦ inr (own-reflection X G (h.extreme (place G) (reflection X G) (mark-place G t to l (self t))
-        (reflected X G t h.is_in to (low' f t X.w (value (along a b) X) s) (high' f t X.w (value (along a b) X) ((points X).0 h.is_in).below)) (reflection-midpoint X G)))
+        (reflected X G t h.is_in to (low' f t X.w (value (along a b) X) s)
+        (high' f t X.w (value (along a b) X) ((points X).0 h.is_in).below)) (reflection-midpoint X G)))
   ]
     where
       self : (z : ℤ) → z ≼ z
@@ -151,11 +162,13 @@ module _ (a b : Point) (long : pos 0 ≺ square a b) (f t : ℤ) (F G : Point) (
       high' f t w z l = simp pos-left (omega (arith, sums))
 
   -- a point at a mark of the stretch is in it
-  pub mark-in : (c : Point) (k : ℤ) (X : Place) → IsMark a b c k → f ≼ k → k ≼ t → IsAt X c → C X
+  pub mark-in : (c : Point) (k : ℤ) (X : Triple) → IsMark a b c k → f ≼ k → k ≼ t → IsAt X c → C X
   mark-in c k X hc l m h = (points X).1 (record {
     on_line = value-at (line a b) c X h ∙ ap (λ z. z *ℤ X.w) hc.on_line ∙ none X.w;
-    above = up (value-at (along a b) c X h ∙ ap (λ z. z *ℤ X.w) hc.place) (mul_le_right X.w f k (weak X.w X.positive) l);
-    below = down (value-at (along a b) c X h ∙ ap (λ z. z *ℤ X.w) hc.place) (mul_le_right X.w k t (weak X.w X.positive) m);
+    above = up (value-at (along a b) c X h ∙ ap (λ z. z *ℤ X.w) hc.place)
+        (mul_le_right X.w f k (weak X.w X.positive) l);
+    below = down (value-at (along a b) c X h ∙ ap (λ z. z *ℤ X.w) hc.place)
+        (mul_le_right X.w k t (weak X.w X.positive) m);
   })
     where
       none : (w : ℤ) → pos 0 *ℤ w ≡ pos 0
@@ -188,7 +201,8 @@ long-between a b (inr r) = go (b.x -ℤ a.x) (b.y -ℤ a.y) (far r.1)
     go d e l = let s = mul_pos e e l l in let t = square_nonneg d in omega (arith, sums)
 
 -- the ends of the common points are exactly those that the answer names
-pub ends-of : (P Q : List Point) (v : Common) → IsCommonOf P Q v → (X : Place) → IsEndOf (IsCommon P Q) X ↔ IsEndAt v X
+pub ends-of : (P Q : List Point) (v : Common) → IsCommonOf P Q v → (X : Triple)
+    → IsExtremeIn (IsCommon P Q) X ↔ IsEndAt v X
 ends-of P Q Nothing m X = (λ h. m X h.is_in, λ h. absurd h)
 ends-of P Q (Corner c) m X = (
   λ h. (m.2 X).0 h.is_in,
@@ -202,10 +216,12 @@ ends-of P Q (Segment a b) m X = (
   λ h. ends a b long (pos 0) (square a b) a b start end (IsCommon P Q) points X (weak long) h,
   λ h. elim h [
     | inl g ↦ from-end a b long (pos 0) (square a b) a b start end (IsCommon P Q) points X
-        (mark-in a b long (pos 0) (square a b) a b start end (IsCommon P Q) points a (pos 0) X start (self (pos 0)) (weak long) g)
+        (mark-in a b long (pos 0) (square a b) a b start end (IsCommon P Q) points a (pos 0) X start (self (pos 0))
+        (weak long) g)
         (value-at (along a b) a X g ∙ ap (λ z. z *ℤ X.w) (along-start a b))
     | inr g ↦ to-end a b long (pos 0) (square a b) a b start end (IsCommon P Q) points X
-        (mark-in a b long (pos 0) (square a b) a b start end (IsCommon P Q) points b (square a b) X end (weak long) (self (square a b)) g)
+        (mark-in a b long (pos 0) (square a b) a b start end (IsCommon P Q) points b (square a b) X end (weak long)
+        (self (square a b)) g)
         (value-at (along a b) b X g ∙ ap (λ z. z *ℤ X.w) (along-end a b))
   ],
 )
@@ -219,7 +235,7 @@ ends-of P Q (Segment a b) m X = (
     end : IsMark a b b (square a b)
     end = record { on_line = line-end a b; place = along-end a b }
 
-    points : (Y : Place) → IsCommon P Q Y ↔ IsOnStretch a b (pos 0) (square a b) Y
+    points : (Y : Triple) → IsCommon P Q Y ↔ IsOnStretch a b (pos 0) (square a b) Y
     points Y = (λ y. (segment-form a b Y).1 ((m.1 Y).0 y), λ y. (m.1 Y).1 ((segment-form a b Y).0 y))
 
     weak : {z : ℤ} → pos 0 ≺ z → pos 0 ≼ z

@@ -15,7 +15,7 @@ use mathlib.Core.List.{List}
 use lib.ListN.{length}
 use Rattle.stack_algebra.specs.Search.{next_round}
 use Rattle.stack_polygon.specs.Corners.{corner_of, IsStrictlyConvex}
-use Rattle.stack_overlap.specs.Forms.{at, along, square}
+use Rattle.stack_overlap.specs.Forms.{at_corner, along, square}
 use Rattle.stack_overlap.specs.Separation.{Separates}
 use Rattle.stack_overlap.specs.CommonPoints.{IsBefore, IsCommonOf}
 use Rattle.stack_overlap.specs.Marks.{IsReach, NoneOnLine, IsClipped}
@@ -65,19 +65,22 @@ module _ (P Q : List Point) (convex_p : IsStrictlyConvex P) (three_p : 3 ≤ len
 
     pub past-answer : s.high.place ≺ s.low.place → IsCommonOf P Q Nothing
     past-answer l =
-        nothing P Q convex_p three_p convex_q three_q i h r reach' s.low.place s.high.place clip'.cut s.low.at s.high.at clip'.from clip'.to l
+        nothing P Q convex_p three_p convex_q three_q i h r reach' s.low.place s.high.place clip'.cut s.low.at
+        s.high.at clip'.from clip'.to l
 
     pub segment-answer : s.low.place ≺ s.high.place → IsBefore s.low.at s.high.at
         → IsCommonOf P Q (Segment s.low.at s.high.at)
     segment-answer l o =
-        segment P Q convex_p three_p convex_q three_q i h r reach' s.low.place s.high.place clip'.cut s.low.at s.high.at clip'.from clip'.to l o
+        segment P Q convex_p three_p convex_q three_q i h r reach' s.low.place s.high.place clip'.cut s.low.at
+        s.high.at clip'.from clip'.to l o
 
     pub back-answer : s.low.place ≺ s.high.place → ¬ (IsBefore s.low.at s.high.at)
         → IsCommonOf P Q (Segment s.high.at s.low.at)
     back-answer l n =
-        segment_back P Q convex_p three_p convex_q three_q i h r reach' s.low.place s.high.place clip'.cut s.low.at s.high.at clip'.from clip'.to l
+        segment_back P Q convex_p three_p convex_q three_q i h r reach' s.low.place s.high.place clip'.cut s.low.at
+        s.high.at clip'.from clip'.to l
         (other-before s.low.at s.high.at n (λ e. apart l
-        (sym clip'.from.place ∙ ap (λ c. at (along (corner_of P i)
+        (sym clip'.from.place ∙ ap (λ c. at_corner (along (corner_of P i)
         (corner_of P (next_round (length P) i))) c) e ∙ clip'.to.place)))
       where
         apart : {x y : ℤ} → x ≺ y → x ≡ y → ⊥
@@ -90,17 +93,19 @@ module _ (P Q : List Point) (convex_p : IsStrictlyConvex P) (three_p : 3 ≤ len
           elim t [ inl e ↦ e | inr l ↦ absurd (n l) ]
     ]
 
-    end-is : at (along a b) b ≡ square (corner_of P i) (corner_of P (next_round (length P) i))
-    end-is = at-edge (λ x y. at (along a b) b ≡ square x y) (along-end a b)
+    end-is : at_corner (along a b) b ≡ square (corner_of P i) (corner_of P (next_round (length P) i))
+    end-is = at-edge (λ x y. at_corner (along a b) b ≡ square x y) (along-end a b)
 
     pub corner-answer : ¬ (s.high.place ≺ s.low.place) → ¬ (s.low.place ≺ s.high.place)
-        → (s.low.place ≡ pos 0) ⊎ (s.low.place ≡ at (along a b) b) → IsCommonOf P Q (Corner s.low.at)
+        → (s.low.place ≡ pos 0) ⊎ (s.low.place ≡ at_corner (along a b) b) → IsCommonOf P Q (Corner s.low.at)
     corner-answer n m e =
-        corner P Q convex_p three_p convex_q three_q i h r reach' s.low.place s.high.place clip'.cut s.low.at s.high.at clip'.from clip'.to (same n m)
+        corner P Q convex_p three_p convex_q three_q i h r reach' s.low.place s.high.place clip'.cut s.low.at
+        s.high.at clip'.from clip'.to (same n m)
         (elim e [ inl z ↦ inl z | inr z ↦ inr (z ∙ end-is) ])
 
     pub on-answer : ¬ (s.high.place ≺ s.low.place) → ¬ (s.low.place ≺ s.high.place) → ¬ (s.low.place ≡ pos 0)
-        → ¬ (s.low.place ≡ at (along a b) b) → IsCommonOf P Q
+        → ¬ (s.low.place ≡ at_corner (along a b) b) → IsCommonOf P Q
         (OnEdge s.low.at (record { which = First; index = i }))
     on-answer n m e f =
-        on_edge P Q convex_p three_p convex_q three_q i h r reach' s.low.place s.high.place clip'.cut s.low.at s.high.at clip'.from clip'.to (same n m) e (λ z. f (z ∙ sym end-is))
+        on_edge P Q convex_p three_p convex_q three_q i h r reach' s.low.place s.high.place clip'.cut s.low.at
+        s.high.at clip'.from clip'.to (same n m) e (λ z. f (z ∙ sym end-is))

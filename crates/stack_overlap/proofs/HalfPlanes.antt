@@ -7,18 +7,18 @@ use native.Mathlib.Omega.{arith}
 use lib.Dec.{T, ltb, ltb→lt, lt→ltb}
 use lib.IntN.{pos}
 use Rattle.stack_algebra.proofs.Order.{◌≺◌}
-use Rattle.stack_polygon.specs.Plane.{Place}
-use Rattle.stack_overlap.specs.Forms.{Form, value}
+use Rattle.stack_polygon.specs.Plane.{Triple}
+use Rattle.stack_overlap.specs.Forms.{LinearForm, value}
 use Rattle.stack_overlap.proofs.Radon.{IsMeeting, meeting}
 
 -- X is in the first n half-planes
-abbrev pub IsInAll : ℕ → (ℕ → Form) → Place → Type 0
+abbrev pub IsInAll : ℕ → (ℕ → LinearForm) → Triple → Type 0
 IsInAll n f X = (i : ℕ) → i < n → pos 0 ≺ value (f i) X
 
 -- each three of the first n half-planes have a common point
-abbrev pub MeetByThrees : ℕ → (ℕ → Form) → Type 0
+abbrev pub MeetByThrees : ℕ → (ℕ → LinearForm) → Type 0
 MeetByThrees n f = (i j k : ℕ) → i < n → j < n → k < n
-    → (X : Place) × ((pos 0 ≺ value (f i) X) × (pos 0 ≺ value (f j) X) × (pos 0 ≺ value (f k) X))
+    → (X : Triple) × ((pos 0 ≺ value (f i) X) × (pos 0 ≺ value (f j) X) × (pos 0 ≺ value (f k) X))
 
 -- the indices without a
 abbrev skip : ℕ → ℕ → ℕ
@@ -46,7 +46,7 @@ skip-high a i l = go (ltb i a) (ltb→lt i a)
     go false t = refl
 
 -- a point in all half-planes but one
-all-but : (a n : ℕ) (f : ℕ → Form) (X : Place) → a < suc n → IsInAll n (λ i. f (skip a i)) X → (j : ℕ)
+all-but : (a n : ℕ) (f : ℕ → LinearForm) (X : Triple) → a < suc n → IsInAll n (λ i. f (skip a i)) X → (j : ℕ)
     → j < suc n → j ≢ a → pos 0 ≺ value (f j) X
 all-but a n f X ha h j hj d = go (ltb j a) (ltb→lt j a) (lt→ltb j a)
   where
@@ -64,14 +64,14 @@ all-but a n f X ha h j hj d = go (ltb j a) (ltb→lt j a) (lt→ltb j a)
     go true t u = low (t tt)
     go false t u = past j refl u
 
-fewer : (a n : ℕ) (f : ℕ → Form) → MeetByThrees (suc n) f → MeetByThrees n (λ i. f (skip a i))
+fewer : (a n : ℕ) (f : ℕ → LinearForm) → MeetByThrees (suc n) f → MeetByThrees n (λ i. f (skip a i))
 fewer a n f h i j k hi hj hk = h (skip a i) (skip a j) (skip a k) (skip_below a i n hi) (skip_below a j n hj)
     (skip_below a k n hk)
 
-step : (n : ℕ) (f : ℕ → Form) (X₀ X₁ X₂ X₃ : Place) → IsInAll (suc (suc (suc n))) (λ i. f (skip 0 i)) X₀
+step : (n : ℕ) (f : ℕ → LinearForm) (X₀ X₁ X₂ X₃ : Triple) → IsInAll (suc (suc (suc n))) (λ i. f (skip 0 i)) X₀
     → IsInAll (suc (suc (suc n))) (λ i. f (skip 1 i)) X₁ →
     IsInAll (suc (suc (suc n))) (λ i. f (skip 2 i)) X₂ → IsInAll (suc (suc (suc n))) (λ i. f (skip 3 i)) X₃
-    → (S : Place) × IsInAll (suc (suc (suc (suc n)))) f S
+    → (S : Triple) × IsInAll (suc (suc (suc (suc n)))) f S
 step n f X₀ X₁ X₂ X₃ h₀ h₁ h₂ h₃ = let (S, m) = meeting X₀ X₁ X₂ X₃ in (S, by S m)
   where
     at₀ : (j : ℕ) → j < suc (suc (suc (suc n))) → j ≢ 0 → pos 0 ≺ value (f j) X₀
@@ -86,7 +86,7 @@ step n f X₀ X₁ X₂ X₃ h₀ h₁ h₂ h₃ = let (S, m) = meeting X₀ X�
     at₃ : (j : ℕ) → j < suc (suc (suc (suc n))) → j ≢ 3 → pos 0 ≺ value (f j) X₃
     at₃ = all-but 3 (suc (suc (suc n))) f X₃ (omega arith) h₃
 
-    by : (S : Place) → IsMeeting X₀ X₁ X₂ X₃ S → IsInAll (suc (suc (suc (suc n)))) f S
+    by : (S : Triple) → IsMeeting X₀ X₁ X₂ X₃ S → IsInAll (suc (suc (suc (suc n)))) f S
     by S m zero l = m.without_0 (f 0) (at₁ 0 l (λ e. omega (arith, e))) (at₂ 0 l (λ e. omega (arith, e)))
         (at₃ 0 l (λ e. omega (arith, e)))
     by S m (suc zero) l = m.without_1 (f 1) (at₀ 1 l (λ e. omega (arith, e))) (at₂ 1 l (λ e. omega (arith, e)))
@@ -96,11 +96,11 @@ step n f X₀ X₁ X₂ X₃ h₀ h₁ h₂ h₃ = let (S, m) = meeting X₀ X�
     by S m (suc (suc (suc j))) l = m.without_3 (f (suc (suc (suc j)))) (at₀ _ l (λ e. omega (arith, e)))
         (at₁ _ l (λ e. omega (arith, e))) (at₂ _ l (λ e. omega (arith, e)))
 
-pub helly : (n : ℕ) (f : ℕ → Form) → MeetByThrees (suc (suc (suc n))) f
-    → (X : Place) × IsInAll (suc (suc (suc n))) f X
+pub helly : (n : ℕ) (f : ℕ → LinearForm) → MeetByThrees (suc (suc (suc n))) f
+    → (X : Triple) × IsInAll (suc (suc (suc n))) f X
 helly zero f h = let r = h 0 1 2 (omega arith) (omega arith) (omega arith) in (r.0, three r.0 r.1)
   where
-    three : (X : Place) → (pos 0 ≺ value (f 0) X) × (pos 0 ≺ value (f 1) X) × (pos 0 ≺ value (f 2) X)
+    three : (X : Triple) → (pos 0 ≺ value (f 0) X) × (pos 0 ≺ value (f 1) X) × (pos 0 ≺ value (f 2) X)
         → IsInAll 3 f X
     three X r zero l = r.0
     three X r (suc zero) l = r.1

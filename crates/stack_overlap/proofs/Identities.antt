@@ -8,8 +8,8 @@ use Rattle.stack_algebra.proofs.Order.{◌≺◌}
 use Rattle.std.proofs.lemmas.Int.{ints}
 use Rattle.stack_algebra.proofs.IntegerRing.{integers}
 use Rattle.stack_polygon.specs.declared.point.Point.{Point}
-use Rattle.stack_polygon.specs.Plane.{Place}
-use Rattle.stack_overlap.specs.Forms.{Form, value, at, line, along, square}
+use Rattle.stack_polygon.specs.Plane.{Triple}
+use Rattle.stack_overlap.specs.Forms.{LinearForm, value, at_corner, line, along, square}
 
 -- forms of expressions
 abbrev pub form : Exp → Exp → Exp → Exp → Exp → Exp → Exp
@@ -61,39 +61,41 @@ abbrev v11 : Exp
 v11 = var 11
 
 -- a form at a point, from its values at three corners
-pub triangle : (f : Form) (a b c : Point) (X : Place) →
-    at (line a b) c *ℤ value f X ≡ value (line b c) X *ℤ at f a +ℤ value (line c a) X *ℤ at f b +ℤ value
-    (line a b) X *ℤ at f c
+pub triangle : (f : LinearForm) (a b c : Point) (X : Triple) →
+    at_corner (line a b) c *ℤ value f X ≡ value (line b c) X *ℤ at_corner f a +ℤ value
+    (line c a) X *ℤ at_corner f b +ℤ value
+    (line a b) X *ℤ at_corner f c
 triangle f a b c X = solve integers
     (nth integers (f.l ∷ f.m ∷ f.n ∷ a.x ∷ a.y ∷ b.x ∷ b.y ∷ c.x ∷ c.y ∷ X.x ∷ X.y ∷ X.w ∷ []))
     (line_at v3 v4 v5 v6 v7 v8 ⊗ form v0 v1 v2 v9 v10 v11)
-    (line_of v5 v6 v7 v8 v9 v10 v11 ⊗ form_at v0 v1 v2 v3 v4 ⊕ line_of v7 v8 v3 v4 v9 v10 v11 ⊗ form_at v0 v1 v2 v5 v6 ⊕ line_of v3 v4 v5 v6 v9 v10 v11 ⊗ form_at v0 v1 v2 v7 v8)
+    (line_of v5 v6 v7 v8 v9 v10 v11 ⊗ form_at v0 v1 v2 v3 v4 ⊕ line_of v7 v8 v3 v4 v9 v10 v11 ⊗ form_at v0 v1 v2 v5
+    v6 ⊕ line_of v3 v4 v5 v6 v9 v10 v11 ⊗ form_at v0 v1 v2 v7 v8)
     refl
 
 -- the other way along a line
-pub reversed : (a b : Point) (X : Place) → value (line b a) X ≡ neg_ℤ (value (line a b) X)
+pub reversed : (a b : Point) (X : Triple) → value (line b a) X ≡ neg_ℤ (value (line a b) X)
 reversed a b X = solve integers (nth integers (a.x ∷ a.y ∷ b.x ∷ b.y ∷ X.x ∷ X.y ∷ X.w ∷ []))
     (line_of v2 v3 v0 v1 v4 v5 v6) (Exp.neg (line_of v0 v1 v2 v3 v4 v5 v6)) refl
 
 -- three corners, turned about
-pub turned : (a b c : Point) → at (line a b) c ≡ at (line b c) a
+pub turned : (a b c : Point) → at_corner (line a b) c ≡ at_corner (line b c) a
 turned a b c = solve integers (nth integers (a.x ∷ a.y ∷ b.x ∷ b.y ∷ c.x ∷ c.y ∷ []))
     (line_at v0 v1 v2 v3 v4 v5) (line_at v2 v3 v4 v5 v0 v1) refl
 
 -- a form on the direction from a to b, and on the one square to it
-abbrev pub forth : Form → Point → Point → ℤ
+abbrev pub forth : LinearForm → Point → Point → ℤ
 forth f a b = f.l *ℤ (b.x -ℤ a.x) +ℤ f.m *ℤ (b.y -ℤ a.y)
 
-abbrev pub aside : Form → Point → Point → ℤ
+abbrev pub aside : LinearForm → Point → Point → ℤ
 aside f a b = f.m *ℤ (b.x -ℤ a.x) -ℤ f.l *ℤ (b.y -ℤ a.y)
 
 abbrev along_of : Exp → Exp → Exp → Exp → Exp → Exp → Exp → Exp
 along_of ax ay bx by x y w = (bx ⊖ ax) ⊗ x ⊕ (by ⊖ ay) ⊗ y ⊕ ((ax ⊖ bx) ⊗ ax ⊕ (ay ⊖ by) ⊗ ay) ⊗ w
 
 -- a form, from a point's place along a line and beside it
-pub by_line : (f : Form) (a b : Point) (X : Place) →
+pub by_line : (f : LinearForm) (a b : Point) (X : Triple) →
     square a b *ℤ value f X ≡ value (line a b) X *ℤ aside f a b +ℤ value (along a b) X *ℤ forth f a b +ℤ X.w *ℤ
-    (square a b *ℤ at f a)
+    (square a b *ℤ at_corner f a)
 by_line f a b X = solve integers
     (nth integers (f.l ∷ f.m ∷ f.n ∷ a.x ∷ a.y ∷ b.x ∷ b.y ∷ X.x ∷ X.y ∷ X.w ∷ []))
     (sq ⊗ form v0 v1 v2 v7 v8 v9)
@@ -104,9 +106,9 @@ by_line f a b X = solve integers
     sq : Exp
     sq = (v5 ⊖ v3) ⊗ (v5 ⊖ v3) ⊕ (v6 ⊖ v4) ⊗ (v6 ⊖ v4)
 
-pub by_line_at : (f : Form) (a b c : Point) →
-    square a b *ℤ at f c ≡ at (line a b) c *ℤ aside f a b +ℤ at
-    (along a b) c *ℤ forth f a b +ℤ square a b *ℤ at f a
+pub by_line_at : (f : LinearForm) (a b c : Point) →
+    square a b *ℤ at_corner f c ≡ at_corner (line a b) c *ℤ aside f a b +ℤ at_corner
+    (along a b) c *ℤ forth f a b +ℤ square a b *ℤ at_corner f a
 by_line_at f a b c = solve integers
     (nth integers (f.l ∷ f.m ∷ f.n ∷ a.x ∷ a.y ∷ b.x ∷ b.y ∷ c.x ∷ c.y ∷ []))
     (sq ⊗ form_at v0 v1 v2 v7 v8)
@@ -119,54 +121,54 @@ by_line_at f a b c = solve integers
     sq = (v5 ⊖ v3) ⊗ (v5 ⊖ v3) ⊕ (v6 ⊖ v4) ⊗ (v6 ⊖ v4)
 
 -- a form less a constant, and a form with its sign changed
-abbrev pub less : Form → ℤ → Form
+abbrev pub less : LinearForm → ℤ → LinearForm
 less f k = record { l = f.l; m = f.m; n = f.n -ℤ k }
 
-abbrev pub opposite : Form → Form
+abbrev pub opposite : LinearForm → LinearForm
 opposite f = record { l = neg_ℤ f.l; m = neg_ℤ f.m; n = neg_ℤ f.n }
 
-pub value-less : (f : Form) (k : ℤ) (X : Place) → value (less f k) X ≡ value f X -ℤ k *ℤ X.w
+pub value-less : (f : LinearForm) (k : ℤ) (X : Triple) → value (less f k) X ≡ value f X -ℤ k *ℤ X.w
 value-less f k X = solve integers (nth integers (f.l ∷ f.m ∷ f.n ∷ k ∷ X.x ∷ X.y ∷ X.w ∷ []))
     (form v0 v1 (v2 ⊖ v3) v4 v5 v6) (form v0 v1 v2 v4 v5 v6 ⊖ v3 ⊗ v6) refl
 
-pub at-less : (f : Form) (k : ℤ) (c : Point) → at (less f k) c ≡ at f c -ℤ k
+pub at-less : (f : LinearForm) (k : ℤ) (c : Point) → at_corner (less f k) c ≡ at_corner f c -ℤ k
 at-less f k c = solve integers (nth integers (f.l ∷ f.m ∷ f.n ∷ k ∷ c.x ∷ c.y ∷ []))
     (form_at v0 v1 (v2 ⊖ v3) v4 v5) (form_at v0 v1 v2 v4 v5 ⊖ v3) refl
 
-pub value-opposite : (f : Form) (X : Place) → value (opposite f) X ≡ neg_ℤ (value f X)
+pub value-opposite : (f : LinearForm) (X : Triple) → value (opposite f) X ≡ neg_ℤ (value f X)
 value-opposite f X = solve integers (nth integers (f.l ∷ f.m ∷ f.n ∷ X.x ∷ X.y ∷ X.w ∷ []))
     (form (Exp.neg v0) (Exp.neg v1) (Exp.neg v2) v3 v4 v5) (Exp.neg (form v0 v1 v2 v3 v4 v5)) refl
 
-pub at-opposite : (f : Form) (c : Point) → at (opposite f) c ≡ neg_ℤ (at f c)
+pub at-opposite : (f : LinearForm) (c : Point) → at_corner (opposite f) c ≡ neg_ℤ (at_corner f c)
 at-opposite f c = solve integers (nth integers (f.l ∷ f.m ∷ f.n ∷ c.x ∷ c.y ∷ []))
     (form_at (Exp.neg v0) (Exp.neg v1) (Exp.neg v2) v3 v4) (Exp.neg (form_at v0 v1 v2 v3 v4)) refl
 
 -- the ends of a line
-pub line-start : (a b : Point) → at (line a b) a ≡ pos 0
+pub line-start : (a b : Point) → at_corner (line a b) a ≡ pos 0
 line-start a b = solve integers (nth integers (a.x ∷ a.y ∷ b.x ∷ b.y ∷ [])) (line_at v0 v1 v2 v3 v0 v1)
     (num (pos 0)) refl
 
-pub line-end : (a b : Point) → at (line a b) b ≡ pos 0
+pub line-end : (a b : Point) → at_corner (line a b) b ≡ pos 0
 line-end a b = solve integers (nth integers (a.x ∷ a.y ∷ b.x ∷ b.y ∷ [])) (line_at v0 v1 v2 v3 v2 v3)
     (num (pos 0)) refl
 
-pub along-start : (a b : Point) → at (along a b) a ≡ pos 0
+pub along-start : (a b : Point) → at_corner (along a b) a ≡ pos 0
 along-start a b = solve integers (nth integers (a.x ∷ a.y ∷ b.x ∷ b.y ∷ []))
     ((v2 ⊖ v0) ⊗ v0 ⊕ (v3 ⊖ v1) ⊗ v1 ⊕ ((v0 ⊖ v2) ⊗ v0 ⊕ (v1 ⊖ v3) ⊗ v1)) (num (pos 0)) refl
 
-pub along-end : (a b : Point) → at (along a b) b ≡ square a b
+pub along-end : (a b : Point) → at_corner (along a b) b ≡ square a b
 along-end a b = solve integers (nth integers (a.x ∷ a.y ∷ b.x ∷ b.y ∷ []))
     ((v2 ⊖ v0) ⊗ v2 ⊕ (v3 ⊖ v1) ⊗ v3 ⊕ ((v0 ⊖ v2) ⊗ v0 ⊕ (v1 ⊖ v3) ⊗ v1))
     ((v2 ⊖ v0) ⊗ (v2 ⊖ v0) ⊕ (v3 ⊖ v1) ⊗ (v3 ⊖ v1)) refl
 
 -- the corner as a triple
-abbrev pub place : Point → Place
+abbrev pub place : Point → Triple
 place c = record { x = c.x; y = c.y; w = pos 1; positive = one }
   where
     one : pos 0 ≺ pos 1
     one = omega (arith, ints)
 
-pub value-place : (f : Form) (c : Point) → value f (place c) ≡ at f c
+pub value-place : (f : LinearForm) (c : Point) → value f (place c) ≡ at_corner f c
 value-place f c = solve integers (nth integers (f.l ∷ f.m ∷ f.n ∷ c.x ∷ c.y ∷ []))
     (form v0 v1 v2 v3 v4 (num (pos 1))) (form_at v0 v1 v2 v3 v4) refl
 
@@ -174,28 +176,28 @@ value-place f c = solve integers (nth integers (f.l ∷ f.m ∷ f.n ∷ c.x ∷ 
 abbrev along_at : Exp → Exp → Exp → Exp → Exp → Exp → Exp
 along_at ax ay bx by x y = (bx ⊖ ax) ⊗ x ⊕ (by ⊖ ay) ⊗ y ⊕ ((ax ⊖ bx) ⊗ ax ⊕ (ay ⊖ by) ⊗ ay)
 
-pub aside-line : (a b c d : Point) → aside (line c d) a b ≡ at (along a b) d -ℤ at (along a b) c
+pub aside-line : (a b c d : Point) → aside (line c d) a b ≡ at_corner (along a b) d -ℤ at_corner (along a b) c
 aside-line a b c d = solve integers (nth integers (a.x ∷ a.y ∷ b.x ∷ b.y ∷ c.x ∷ c.y ∷ d.x ∷ d.y ∷ []))
     ((v6 ⊖ v4) ⊗ (v2 ⊖ v0) ⊖ (v5 ⊖ v7) ⊗ (v3 ⊖ v1))
     (along_at v0 v1 v2 v3 v6 v7 ⊖ along_at v0 v1 v2 v3 v4 v5) refl
 
-pub forth-line : (a b c d : Point) → forth (line c d) a b ≡ at (line a b) c -ℤ at (line a b) d
+pub forth-line : (a b c d : Point) → forth (line c d) a b ≡ at_corner (line a b) c -ℤ at_corner (line a b) d
 forth-line a b c d = solve integers (nth integers (a.x ∷ a.y ∷ b.x ∷ b.y ∷ c.x ∷ c.y ∷ d.x ∷ d.y ∷ []))
     ((v5 ⊖ v7) ⊗ (v2 ⊖ v0) ⊕ (v6 ⊖ v4) ⊗ (v3 ⊖ v1))
     (line_at v0 v1 v2 v3 v4 v5 ⊖ line_at v0 v1 v2 v3 v6 v7) refl
 
-pub aside-along : (a b c d : Point) → aside (along c d) a b ≡ at (line a b) d -ℤ at (line a b) c
+pub aside-along : (a b c d : Point) → aside (along c d) a b ≡ at_corner (line a b) d -ℤ at_corner (line a b) c
 aside-along a b c d = solve integers (nth integers (a.x ∷ a.y ∷ b.x ∷ b.y ∷ c.x ∷ c.y ∷ d.x ∷ d.y ∷ []))
     ((v7 ⊖ v5) ⊗ (v2 ⊖ v0) ⊖ (v6 ⊖ v4) ⊗ (v3 ⊖ v1))
     (line_at v0 v1 v2 v3 v6 v7 ⊖ line_at v0 v1 v2 v3 v4 v5) refl
 
-pub forth-along : (a b c d : Point) → forth (along c d) a b ≡ at (along a b) d -ℤ at (along a b) c
+pub forth-along : (a b c d : Point) → forth (along c d) a b ≡ at_corner (along a b) d -ℤ at_corner (along a b) c
 forth-along a b c d = solve integers (nth integers (a.x ∷ a.y ∷ b.x ∷ b.y ∷ c.x ∷ c.y ∷ d.x ∷ d.y ∷ []))
     ((v6 ⊖ v4) ⊗ (v2 ⊖ v0) ⊕ (v7 ⊖ v5) ⊗ (v3 ⊖ v1))
     (along_at v0 v1 v2 v3 v6 v7 ⊖ along_at v0 v1 v2 v3 v4 v5) refl
 
 -- the same segment from its other end
-pub along-reversed : (a b : Point) (X : Place) → value (along b a) X ≡ square a b *ℤ X.w -ℤ value (along a b) X
+pub along-reversed : (a b : Point) (X : Triple) → value (along b a) X ≡ square a b *ℤ X.w -ℤ value (along a b) X
 along-reversed a b X = solve integers (nth integers (a.x ∷ a.y ∷ b.x ∷ b.y ∷ X.x ∷ X.y ∷ X.w ∷ []))
     (along_of v2 v3 v0 v1 v4 v5 v6)
     (((v2 ⊖ v0) ⊗ (v2 ⊖ v0) ⊕ (v3 ⊖ v1) ⊗ (v3 ⊖ v1)) ⊗ v6 ⊖ along_of v0 v1 v2 v3 v4 v5 v6) refl

@@ -10,6 +10,7 @@ pub mod Reaches
 pub mod Finding
 pub mod Signs
 pub mod Swaps
+pub mod Coefficients
 pub mod Radon
 pub mod HalfPlanes
 pub mod Overlapping

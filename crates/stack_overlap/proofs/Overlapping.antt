@@ -18,8 +18,8 @@ use mathlib.Core.List.{List}
 use lib.ListN.{length}
 use Rattle.stack_algebra.specs.Search.{next_round}
 use Rattle.stack_polygon.specs.Corners.{corner_of}
-use Rattle.stack_polygon.specs.Plane.{Place}
-use Rattle.stack_overlap.specs.Forms.{Form, value, at, edge}
+use Rattle.stack_polygon.specs.Plane.{Triple}
+use Rattle.stack_overlap.specs.Forms.{LinearForm, value, at_corner, edge}
 use Rattle.stack_overlap.proofs.ByForms.{IsConvex, IsDeep, Meets, NoneOuter}
 use Rattle.stack_overlap.proofs.Edges.{corner-cases, corner_inside}
 use Rattle.stack_overlap.proofs.HalfPlanes.{MeetByThrees, helly}
@@ -28,27 +28,28 @@ abbrev v : ℕ → Exp
 v k = var k
 
 -- a sum of three corners
-abbrev sum_of_three : Point → Point → Point → Place
+abbrev sum_of_three : Point → Point → Point → Triple
 sum_of_three a b c = record { x = a.x +ℤ b.x +ℤ c.x; y = a.y +ℤ b.y +ℤ c.y; w = pos 3; positive = three }
   where
     three : pos 0 ≺ pos 3
     three = omega (arith, ints)
 
-value-three : (f : Form) (a b c : Point) → value f (sum_of_three a b c) ≡ at f a +ℤ at f b +ℤ at f c
+value-three : (f : LinearForm) (a b c : Point) → value f (sum_of_three a b c)
+    ≡ at_corner f a +ℤ at_corner f b +ℤ at_corner f c
 value-three f a b c = solve integers (nth integers (f.l ∷ f.m ∷ f.n ∷ a.x ∷ a.y ∷ b.x ∷ b.y ∷ c.x ∷ c.y ∷ []))
     (v 0 ⊗ (v 3 ⊕ v 5 ⊕ v 7) ⊕ v 1 ⊗ (v 4 ⊕ v 6 ⊕ v 8) ⊕ v 2 ⊗ num (pos 3))
     ((v 0 ⊗ v 3 ⊕ v 1 ⊗ v 4 ⊕ v 2) ⊕ (v 0 ⊗ v 5 ⊕ v 1 ⊗ v 6 ⊕ v 2) ⊕ (v 0 ⊗ v 7 ⊕ v 1 ⊗ v 8 ⊕ v 2)) refl
 
 -- n times a corner and a point together
-abbrev drawn : (n : ℤ) → pos 0 ≼ n → Point → Place → Place
+abbrev drawn : (n : ℤ) → pos 0 ≼ n → Point → Triple → Triple
 drawn n h c X =
     record { x = n *ℤ c.x +ℤ X.x; y = n *ℤ c.y +ℤ X.y; w = n +ℤ X.w; positive = more n X.w h X.positive }
   where
     more : (n w : ℤ) → pos 0 ≼ n → pos 0 ≺ w → pos 0 ≺ (n +ℤ w)
     more n w h p = omega (arith, sums)
 
-value-drawn : (f : Form) (n : ℤ) (h : pos 0 ≼ n) (c : Point) (X : Place)
-    → value f (drawn n h c X) ≡ n *ℤ at f c +ℤ value f X
+value-drawn : (f : LinearForm) (n : ℤ) (h : pos 0 ≼ n) (c : Point) (X : Triple)
+    → value f (drawn n h c X) ≡ n *ℤ at_corner f c +ℤ value f X
 value-drawn f n h c X = solve integers (nth integers (f.l ∷ f.m ∷ f.n ∷ n ∷ c.x ∷ c.y ∷ X.x ∷ X.y ∷ X.w ∷ []))
     (v 0 ⊗ (v 3 ⊗ v 4 ⊕ v 6) ⊕ v 1 ⊗ (v 3 ⊗ v 5 ⊕ v 7) ⊕ v 2 ⊗ (v 3 ⊕ v 8))
     (v 3 ⊗ (v 0 ⊗ v 4 ⊕ v 1 ⊗ v 5 ⊕ v 2) ⊕ (v 0 ⊗ v 6 ⊕ v 1 ⊗ v 7 ⊕ v 2 ⊗ v 8)) refl
@@ -74,7 +75,7 @@ search_positive (suc n) g = go (search_positive n g) (g n) refl
 
 module _ (P : List Point) (convex : IsConvex P) (three : 3 ≤ length P) where
   -- the sum of three corners is strictly inside
-  pub middle : Place
+  pub middle : Triple
   middle = sum_of_three (corner_of P 0) (corner_of P 1) (corner_of P 2)
 
   pub middle_inside : IsDeep P middle
@@ -87,7 +88,7 @@ module _ (P : List Point) (convex : IsConvex P) (three : 3 ≤ length P) where
       (corner_inside P convex three i 2 hi (omega arith)))
     where
       s : ℕ → ℤ
-      s j = at (edge P i) (corner_of P j)
+      s j = at_corner (edge P i) (corner_of P j)
 
       one : {a b c : ℤ} → pos 0 ≺ a → pos 0 ≼ b → pos 0 ≼ c → pos 0 ≺ (a +ℤ b +ℤ c)
       one p q r = omega (arith, sums)
@@ -113,16 +114,16 @@ module _ (P : List Point) (convex : IsConvex P) (three : 3 ≤ length P) where
       go x (inr (inl b)) (inr (inl c)) p q r = absurd (omega (arith, b, c))
 
   -- where a half-plane has a corner, it has a point strictly inside
-  pub near_corner : (f : Form) (j : ℕ) → j < length P → pos 0 ≺ at f (corner_of P j)
-      → (X : Place) × (IsDeep P X × (pos 0 ≺ value f X))
+  pub near_corner : (f : LinearForm) (j : ℕ) → j < length P → pos 0 ≺ at_corner f (corner_of P j)
+      → (X : Triple) × (IsDeep P X × (pos 0 ≺ value f X))
   near_corner f j hj h = (
     X,
     (
       λ i hi. subst (λ z. pos 0 ≺ z) (sym (value-drawn (edge P i) n big (corner_of P j) middle))
-          (inner n (at (edge P i) (corner_of P j)) (value (edge P i) middle) big
+          (inner n (at_corner (edge P i) (corner_of P j)) (value (edge P i) middle) big
           (corner_inside P convex three i j hi hj) (middle_inside i hi)),
       subst (λ z. pos 0 ≺ z) (sym (value-drawn f n big (corner_of P j) middle))
-          (outer n (at f (corner_of P j)) (value f middle) big (past (value f middle)) h),
+          (outer n (at_corner f (corner_of P j)) (value f middle) big (past (value f middle)) h),
     ),
   )
     where
@@ -132,7 +133,7 @@ module _ (P : List Point) (convex : IsConvex P) (three : 3 ≤ length P) where
       big : pos 0 ≼ n
       big = omega (arith, ints)
 
-      X : Place
+      X : Triple
       X = drawn n big (corner_of P j) middle
 
       inner : (n a b : ℤ) → pos 0 ≼ n → pos 0 ≼ a → pos 0 ≺ b → pos 0 ≺ (n *ℤ a +ℤ b)
@@ -146,7 +147,7 @@ module _ (P : List Point) (convex : IsConvex P) (three : 3 ≤ length P) where
           omega (arith, sums, simp expand at m)
 
 -- the edges of P, then those of Q
-abbrev all_edges : List Point → List Point → ℕ → Form
+abbrev all_edges : List Point → List Point → ℕ → LinearForm
 all_edges P Q i = cond (ltb i (length P)) (edge P i) (edge Q (i - (length P)))
 
 first-edges : (P Q : List Point) (i : ℕ) → i < length P → all_edges P Q i ≡ edge P i
@@ -197,14 +198,14 @@ kind P Q i l = go (ltb i (length P)) (ltb→lt i (length P)) (lt→ltb i (length
 module _ (P Q : List Point) (convex_p : IsConvex P) (three_p : 3 ≤ length P) (convex_q : IsConvex Q)
     (three_q : 3 ≤ length Q) (none_p : NoneOuter P Q) (none_q : NoneOuter Q P) where
   -- a point strictly inside P and strictly left of an edge of Q
-  in-first : (k : ℕ) → k < length Q → (X : Place) × (IsDeep P X × (pos 0 ≺ value (edge Q k) X))
-  in-first k hk = elim (search_positive (length P) (λ j. at (edge Q k) (corner_of P j))) [
+  in-first : (k : ℕ) → k < length Q → (X : Triple) × (IsDeep P X × (pos 0 ≺ value (edge Q k) X))
+  in-first k hk = elim (search_positive (length P) (λ j. at_corner (edge Q k) (corner_of P j))) [
     | inl h ↦ absurd (none_q k (record { is_edge = hk; apart = h }))
     | inr r ↦ near_corner P convex_p three_p (edge Q k) r.0 r.1.0 r.1.1
   ]
 
-  in-second : (k : ℕ) → k < length P → (X : Place) × (IsDeep Q X × (pos 0 ≺ value (edge P k) X))
-  in-second k hk = elim (search_positive (length Q) (λ j. at (edge P k) (corner_of Q j))) [
+  in-second : (k : ℕ) → k < length P → (X : Triple) × (IsDeep Q X × (pos 0 ≺ value (edge P k) X))
+  in-second k hk = elim (search_positive (length Q) (λ j. at_corner (edge P k) (corner_of Q j))) [
     | inl h ↦ absurd (none_p k (record { is_edge = hk; apart = h }))
     | inr r ↦ near_corner Q convex_q three_q (edge P k) r.0 r.1.0 r.1.1
   ]
@@ -216,10 +217,10 @@ module _ (P Q : List Point) (convex_p : IsConvex P) (three_p : 3 ≤ length P) (
       Kind i = ((i < length P) × (all_edges P Q i ≡ edge P i)) ⊎
           ((k : ℕ) × ((k < length Q) × (all_edges P Q i ≡ edge Q k)))
 
-      to : {f g : Form} (X : Place) → f ≡ g → pos 0 ≺ value g X → pos 0 ≺ value f X
+      to : {f g : LinearForm} (X : Triple) → f ≡ g → pos 0 ≺ value g X → pos 0 ≺ value f X
       to X e h = subst (λ f. pos 0 ≺ value f X) (sym e) h
 
-      go : Kind i → Kind j → Kind k → (X : Place) ×
+      go : Kind i → Kind j → Kind k → (X : Triple) ×
           ((pos 0 ≺ value (all_edges P Q i) X) × (pos 0 ≺ value (all_edges P Q j) X) ×
           (pos 0 ≺ value (all_edges P Q k) X))
       go (inl a) (inl b) (inl c) = let X = middle P convex_p three_p in

@@ -2,38 +2,33 @@
 use mathlib.Core.Path.{◌≡◌, sym, ap, ◌∙◌, subst}
 use native.Mathlib.Omega.{arith}
 use lib.IntN.{ℤ, pos, ◌+ℤ◌, ◌-ℤ◌, ◌*ℤ◌, *ℤ_comm}
+use Rattle.stack_algebra.proofs.CrossProducts.{cancel}
 use Rattle.stack_algebra.proofs.Integers.{sums, expand}
 use Rattle.stack_algebra.proofs.Order.{◌≼◌, ◌≺◌, mul_nonneg, mul_pos, nonneg-cancel}
 use Rattle.std.proofs.lemmas.Int.{ints}
 use Rattle.std.specs.Prelude.{◌↔◌}
 use Rattle.stack_polygon.specs.declared.point.Point.{Point}
-use Rattle.stack_overlap.specs.Forms.{IsMark, Form, IsOnStretch, IsBetween, value, at, line, along, square}
-use Rattle.stack_polygon.specs.Plane.{Place, IsAt}
+use Rattle.stack_overlap.specs.Forms.{IsMark, LinearForm, IsOnStretch, IsBetween, value, at_corner, line, along, square}
+use Rattle.stack_polygon.specs.Plane.{Triple, IsAt}
 use Rattle.stack_overlap.proofs.Identities.{forth, aside, by_line, place, value-place, line-start, along-start}
 use Rattle.stack_overlap.proofs.Identities.{along-end, aside-line, forth-line, aside-along, forth-along}
 use Rattle.stack_overlap.proofs.Stretches.{is-mark, at-mark, x_form, y_form}
 
 -- the values at a triple that is a corner
-pub value-at : (f : Form) (c : Point) (X : Place) → IsAt X c → value f X ≡ at f c *ℤ X.w
+pub value-at : (f : LinearForm) (c : Point) (X : Triple) → IsAt X c → value f X ≡ at_corner f c *ℤ X.w
 value-at f c X h = (λ i. f.l *ℤ h.x i +ℤ f.m *ℤ h.y i +ℤ f.n *ℤ X.w) ∙ go f.l f.m f.n c.x c.y X.w
   where
     go : (l m n x y w : ℤ) → l *ℤ (x *ℤ w) +ℤ m *ℤ (y *ℤ w) +ℤ n *ℤ w ≡ (l *ℤ x +ℤ m *ℤ y +ℤ n) *ℤ w
     go l m n x y w = simp expand (omega (arith, sums))
-
--- two numbers with one product by a positive number
-pub cancel : (n x y : ℤ) → pos 0 ≺ n → n *ℤ x ≡ n *ℤ y → x ≡ y
-cancel n x y h e =
-    let p = nonneg-cancel n (x -ℤ y) h (simp expand (omega (arith, sums))) in
-    let q = nonneg-cancel n (y -ℤ x) h (simp expand (omega (arith, sums))) in
-    omega (arith, sums)
 
 module _ (a b : Point) (long : pos 0 ≺ square a b) where
   -- one corner has one place, and one place one corner
   pub same-mark : (c d : Point) (k : ℤ) → IsMark a b c k → IsMark a b d k → c ≡ d
   same-mark c d k hc hd = λ i. record { x = by_x i; y = by_y i }
     where
-      by : (f : Form) → at f c ≡ at f d
-      by f = cancel (square a b) (at f c) (at f d) long (at-mark f a b c k hc ∙ sym (at-mark f a b d k hd))
+      by : (f : LinearForm) → at_corner f c ≡ at_corner f d
+      by f = cancel (square a b) (at_corner f c) (at_corner f d) long
+          (at-mark f a b c k hc ∙ sym (at-mark f a b d k hd))
 
       first : (x y : ℤ) → pos 1 *ℤ x +ℤ pos 0 *ℤ y +ℤ pos 0 ≡ x
       first x y = omega (arith, ints)
@@ -48,14 +43,14 @@ module _ (a b : Point) (long : pos 0 ≺ square a b) where
       by_y = sym (second c.x c.y) ∙ by y_form ∙ second d.x d.y
 
   -- a stretch that ends before it begins has no point
-  pub empty-stretch : (f t : ℤ) (X : Place) → t ≺ f → ¬ (IsOnStretch a b f t X)
+  pub empty-stretch : (f t : ℤ) (X : Triple) → t ≺ f → ¬ (IsOnStretch a b f t X)
   empty-stretch f t X l s = go f t X.w (value (along a b) X) X.positive l s.above s.below
     where
       go : (f t w z : ℤ) → pos 0 ≺ w → t ≺ f → f *ℤ w ≼ z → z ≼ t *ℤ w → ⊥
       go f t w z p l h k = omega (arith, sums, simp expand at (mul_pos (f -ℤ t) w (omega (arith, sums)) p))
 
   -- a stretch of no length is its corner
-  pub point-stretch : (k : ℤ) (c : Point) (X : Place) → IsMark a b c k → IsOnStretch a b k k X ↔ IsAt X c
+  pub point-stretch : (k : ℤ) (c : Point) (X : Triple) → IsMark a b c k → IsOnStretch a b k k X ↔ IsAt X c
   point-stretch k c X hc = (
     λ s. is-mark a b c k X long hc s.on_line (meet s.above s.below),
     λ h. record {
@@ -78,11 +73,12 @@ module _ (a b : Point) (long : pos 0 ≺ square a b) where
       none w = omega (arith, ints)
 
   -- a form at a point, from its value at a mark
-  pub from-mark : (g : Form) (c : Point) (k : ℤ) (X : Place) → IsMark a b c k →
+  pub from-mark : (g : LinearForm) (c : Point) (k : ℤ) (X : Triple) → IsMark a b c k →
       square a b *ℤ value g X ≡ value (line a b) X *ℤ aside g a b +ℤ
-      (value (along a b) X -ℤ k *ℤ X.w) *ℤ forth g a b +ℤ X.w *ℤ (square a b *ℤ at g c)
+      (value (along a b) X -ℤ k *ℤ X.w) *ℤ forth g a b +ℤ X.w *ℤ (square a b *ℤ at_corner g c)
   from-mark g c k X hc = go (square a b *ℤ value g X) (value (line a b) X) (aside g a b) (value (along a b) X)
-      (forth g a b) X.w (square a b *ℤ at g a) k (square a b *ℤ at g c) (by_line g a b X) (at-mark g a b c k hc)
+      (forth g a b) X.w (square a b *ℤ at_corner g a) k (square a b *ℤ at_corner g c) (by_line g a b X)
+      (at-mark g a b c k hc)
     where
       go : (A L s t u w v k C : ℤ) → A ≡ L *ℤ s +ℤ t *ℤ u +ℤ w *ℤ v → C ≡ k *ℤ u +ℤ v
           → A ≡ L *ℤ s +ℤ (t -ℤ k *ℤ w) *ℤ u +ℤ w *ℤ C
@@ -96,7 +92,7 @@ module _ (a b : Point) (long : pos 0 ≺ square a b) where
     gap : {p q : ℤ} → p ≡ pos 0 → q ≡ pos 0 → p -ℤ q ≡ pos 0
     gap e h = omega (arith, sums)
 
-    pub line-between : (X : Place) → square a b *ℤ value (line c d) X ≡ (t -ℤ f) *ℤ value (line a b) X
+    pub line-between : (X : Triple) → square a b *ℤ value (line c d) X ≡ (t -ℤ f) *ℤ value (line a b) X
     line-between X = from-mark (line c d) c f X hc
         ∙ (λ i. value (line a b) X *ℤ (aside-line a b c d ∙ (λ j. hd.place j -ℤ hc.place j)) i
         +ℤ (value (along a b) X -ℤ f *ℤ X.w) *ℤ (forth-line a b c d ∙ gap hc.on_line hd.on_line) i
@@ -106,7 +102,7 @@ module _ (a b : Point) (long : pos 0 ≺ square a b) where
         tidy : (l s v w n : ℤ) → l *ℤ s +ℤ v *ℤ pos 0 +ℤ w *ℤ (n *ℤ pos 0) ≡ s *ℤ l
         tidy l s v w n = simp expand (omega (arith, sums))
 
-    pub along-between : (X : Place) → square a b *ℤ value (along c d) X ≡ (t -ℤ f) *ℤ
+    pub along-between : (X : Triple) → square a b *ℤ value (along c d) X ≡ (t -ℤ f) *ℤ
         (value (along a b) X -ℤ f *ℤ X.w)
     along-between X = from-mark (along c d) c f X hc
         ∙ (λ i. value (line a b) X *ℤ (aside-along a b c d ∙ gap hd.on_line hc.on_line) i
@@ -125,7 +121,7 @@ module _ (a b : Point) (long : pos 0 ≺ square a b) where
         one : (t f : ℤ) → (t -ℤ f) *ℤ (t -ℤ f *ℤ pos 1) ≡ (t -ℤ f) *ℤ (t -ℤ f)
         one t f = simp expand (omega (arith, sums))
 
-    pub segment-stretch : (X : Place) → f ≺ t → IsOnStretch a b f t X ↔ IsBetween c d X
+    pub segment-stretch : (X : Triple) → f ≺ t → IsOnStretch a b f t X ↔ IsBetween c d X
     segment-stretch X l = (
       λ s. record {
         on_line = cancel (square a b) (value (line c d) X) (pos 0) long

@@ -2,128 +2,17 @@
 use mathlib.Core.Path.{◌≡◌, refl, sym, ap, ◌∙◌, subst}
 use mathlib.Core.List.{[], ◌∷◌}
 use mathlib.Core.Logic.{◌⊎◌, inl, inr}
-use Prim.Native.Nat.{ℕ, zero, suc}
+use Prim.Native.Nat.{zero, suc}
 use native.Mathlib.Omega.{arith}
 use lib.IntN.{ℤ, pos, negsuc, ◌+ℤ◌, ◌-ℤ◌, ◌*ℤ◌, neg_ℤ}
 use Rattle.stack_algebra.proofs.Integers.{sums, expand}
-use Rattle.stack_algebra.proofs.Ring.{Exp, var, ◌⊕◌, ◌⊗◌, solve, nth}
+use Rattle.stack_algebra.proofs.Ring.{◌⊕◌, ◌⊗◌, solve, nth}
 use Rattle.stack_algebra.proofs.IntegerRing.{integers}
-use Rattle.stack_algebra.proofs.Order.{◌≼◌, ◌≺◌, mul_nonneg, mul_pos, square_nonneg}
+use Rattle.stack_algebra.proofs.Order.{◌≼◌, ◌≺◌, mul_nonneg}
 use Rattle.std.proofs.lemmas.Int.{ints}
-use Rattle.stack_polygon.specs.Plane.{Place}
-use Rattle.stack_overlap.specs.Forms.{Form, value}
-
-abbrev v : ℕ → Exp
-v k = var k
-
-abbrev mix : ℕ → ℕ → ℕ → ℕ → Exp
-mix a b c d = v 3 ⊗ v a ⊕ v 4 ⊗ v b ⊕ v 5 ⊗ v c ⊕ v 6 ⊗ v d
-
-abbrev form : ℕ → ℕ → ℕ → Exp
-form x y w = v 0 ⊗ v x ⊕ v 1 ⊗ v y ⊕ v 2 ⊗ v w
-
-zero-or : (z : ℤ) → (z ≡ pos 0) ⊎ (pos 0 ≺ z *ℤ z)
-zero-or (pos zero) = inl refl
-zero-or (pos (suc n)) = inr (omega (arith, ints))
-zero-or (negsuc n) = inr (omega (arith, ints))
-
--- whole coefficients, not all 0, with which three vectors of the plane sum to 0
-record IsFlat (u₁ v₁ u₂ v₂ u₃ v₃ a b c : ℤ) : Type 0 where
-  across : a *ℤ u₁ +ℤ b *ℤ u₂ +ℤ c *ℤ u₃ ≡ pos 0
-  up : a *ℤ v₁ +ℤ b *ℤ v₂ +ℤ c *ℤ v₃ ≡ pos 0
-  some : pos 0 ≺ (a *ℤ a +ℤ b *ℤ b +ℤ c *ℤ c)
-
-flat_coefficients : (u₁ v₁ u₂ v₂ u₃ v₃ : ℤ) → (a : ℤ) × (b : ℤ) × (c : ℤ) × IsFlat u₁ v₁ u₂ v₂ u₃ v₃ a b c
-flat_coefficients u₁ v₁ u₂ v₂ u₃ v₃ = first (zero-or (u₁ *ℤ v₂ -ℤ v₁ *ℤ u₂))
-  where
-    all : (u₁ v₁ u₂ v₂ u₃ v₃ : ℤ) → (u₂ *ℤ v₃ -ℤ v₂ *ℤ u₃) *ℤ u₁ +ℤ (u₃ *ℤ v₁ -ℤ v₃ *ℤ u₁) *ℤ u₂ +ℤ
-        (u₁ *ℤ v₂ -ℤ v₁ *ℤ u₂) *ℤ u₃ ≡ pos 0
-    all u₁ v₁ u₂ v₂ u₃ v₃ = simp expand (omega (arith, sums))
-
-    all' : (u₁ v₁ u₂ v₂ u₃ v₃ : ℤ) → (u₂ *ℤ v₃ -ℤ v₂ *ℤ u₃) *ℤ v₁ +ℤ (u₃ *ℤ v₁ -ℤ v₃ *ℤ u₁) *ℤ v₂ +ℤ
-        (u₁ *ℤ v₂ -ℤ v₁ *ℤ u₂) *ℤ v₃ ≡ pos 0
-    all' u₁ v₁ u₂ v₂ u₃ v₃ = simp expand (omega (arith, sums))
-
-    last : (a b c : ℤ) → pos 0 ≺ c *ℤ c → pos 0 ≺ (a *ℤ a +ℤ b *ℤ b +ℤ c *ℤ c)
-    last a b c h = let p = square_nonneg a in let q = square_nonneg b in omega (arith, sums)
-
-    middle : (a b : ℤ) → pos 0 ≺ b *ℤ b → pos 0 ≺ (a *ℤ a +ℤ neg_ℤ b *ℤ neg_ℤ b +ℤ pos 0 *ℤ pos 0)
-    middle a b h = let p = square_nonneg a in simp expand (omega (arith, sums))
-
-    own : (u v w : ℤ) → u *ℤ v +ℤ neg_ℤ v *ℤ u +ℤ pos 0 *ℤ w ≡ pos 0
-    own u v w = simp expand (omega (arith, sums))
-
-    crossed : (u₁ v₁ u₂ v₂ w : ℤ) → u₁ *ℤ v₂ -ℤ v₁ *ℤ u₂ ≡ pos 0
-        → u₂ *ℤ v₁ +ℤ neg_ℤ u₁ *ℤ v₂ +ℤ pos 0 *ℤ w ≡ pos 0
-    crossed u₁ v₁ u₂ v₂ w e = simp expand (omega (arith, sums))
-
-    crossed' : (u₁ v₁ u₂ v₂ w : ℤ) → u₁ *ℤ v₂ -ℤ v₁ *ℤ u₂ ≡ pos 0
-        → v₂ *ℤ u₁ +ℤ neg_ℤ v₁ *ℤ u₂ +ℤ pos 0 *ℤ w ≡ pos 0
-    crossed' u₁ v₁ u₂ v₂ w e = simp expand (omega (arith, sums))
-
-    alone : (u v w : ℤ) → u ≡ pos 0 → pos 1 *ℤ u +ℤ pos 0 *ℤ v +ℤ pos 0 *ℤ w ≡ pos 0
-    alone u v w e = omega (arith, ints, e)
-
-    first : (u₁ *ℤ v₂ -ℤ v₁ *ℤ u₂ ≡ pos 0) ⊎ (pos 0 ≺ (u₁ *ℤ v₂ -ℤ v₁ *ℤ u₂) *ℤ (u₁ *ℤ v₂ -ℤ v₁ *ℤ u₂))
-        → (a : ℤ) × (b : ℤ) × (c : ℤ) × IsFlat u₁ v₁ u₂ v₂ u₃ v₃ a b c
-    first (inr h) =
-        (u₂ *ℤ v₃ -ℤ v₂ *ℤ u₃, u₃ *ℤ v₁ -ℤ v₃ *ℤ u₁, u₁ *ℤ v₂ -ℤ v₁ *ℤ u₂, record { across = all u₁ v₁ u₂ v₂ u₃ v₃; up = all' u₁ v₁ u₂ v₂ u₃ v₃; some = last _ _ _ h })
-    first (inl e) = elim (zero-or u₁) [
-      | inr h ↦ (u₂, neg_ℤ u₁, pos 0, record { across = own u₂ u₁ u₃; up = crossed u₁ v₁ u₂ v₂ v₃ e; some = middle u₂ u₁ h })
-      | inl d ↦ elim (zero-or v₁) [
-        | inr h ↦ (v₂, neg_ℤ v₁, pos 0, record { across = crossed' u₁ v₁ u₂ v₂ u₃ e; up = own v₂ v₁ v₃; some = middle v₂ v₁ h })
-        | inl k ↦ (
-          pos 1,
-          pos 0,
-          pos 0,
-          record {
-            across = alone u₁ u₂ u₃ d;
-            up = alone v₁ v₂ v₃ k;
-            some = omega
-                (arith, ints);
-          },
-        )
-      ]
-    ]
-
--- and four triples
-pub record IsDependent (X₀ X₁ X₂ X₃ : Place) (c₀ c₁ c₂ c₃ : ℤ) : Type 0 where
-  pub x : c₀ *ℤ X₀.x +ℤ c₁ *ℤ X₁.x +ℤ c₂ *ℤ X₂.x +ℤ c₃ *ℤ X₃.x ≡ pos 0
-  pub y : c₀ *ℤ X₀.y +ℤ c₁ *ℤ X₁.y +ℤ c₂ *ℤ X₂.y +ℤ c₃ *ℤ X₃.y ≡ pos 0
-  pub w : c₀ *ℤ X₀.w +ℤ c₁ *ℤ X₁.w +ℤ c₂ *ℤ X₂.w +ℤ c₃ *ℤ X₃.w ≡ pos 0
-  pub some : pos 0 ≺ (c₀ *ℤ c₀ +ℤ (c₁ *ℤ c₁ +ℤ c₂ *ℤ c₂ +ℤ c₃ *ℤ c₃))
-
-pub coefficients : (X₀ X₁ X₂ X₃ : Place) → (c₀ : ℤ) × (c₁ : ℤ) × (c₂ : ℤ) ×
-    (c₃ : ℤ) × IsDependent X₀ X₁ X₂ X₃ c₀ c₁ c₂ c₃
-coefficients X₀ X₁ X₂ X₃ =
-    let (a, b, c, h) = flat_coefficients (X₀.w *ℤ X₁.x -ℤ X₁.w *ℤ X₀.x) (X₀.w *ℤ X₁.y -ℤ X₁.w *ℤ X₀.y)
-    (X₀.w *ℤ X₂.x -ℤ X₂.w *ℤ X₀.x) (X₀.w *ℤ X₂.y -ℤ X₂.w *ℤ X₀.y) (X₀.w *ℤ X₃.x -ℤ X₃.w *ℤ X₀.x)
-    (X₀.w *ℤ X₃.y -ℤ X₃.w *ℤ X₀.y) in (
-      neg_ℤ (a *ℤ X₁.w +ℤ b *ℤ X₂.w +ℤ c *ℤ X₃.w),
-      X₀.w *ℤ a,
-      X₀.w *ℤ b,
-      X₀.w *ℤ c,
-      record {
-        x = lift a b c X₀.w X₁.w X₂.w X₃.w X₀.x X₁.x X₂.x X₃.x h.across;
-        y = lift a b c X₀.w X₁.w X₂.w X₃.w X₀.y X₁.y X₂.y X₃.y h.up;
-        w = level a b c X₀.w X₁.w X₂.w X₃.w;
-        some = some a b c X₀.w (neg_ℤ (a *ℤ X₁.w +ℤ b *ℤ X₂.w +ℤ c *ℤ X₃.w)) X₀.positive h.some;
-      },
-    )
-  where
-    lift : (a b c w₀ w₁ w₂ w₃ x₀ x₁ x₂ x₃ : ℤ) → a *ℤ (w₀ *ℤ x₁ -ℤ w₁ *ℤ x₀) +ℤ b *ℤ
-        (w₀ *ℤ x₂ -ℤ w₂ *ℤ x₀) +ℤ c *ℤ (w₀ *ℤ x₃ -ℤ w₃ *ℤ x₀) ≡ pos 0 →
-        neg_ℤ (a *ℤ w₁ +ℤ b *ℤ w₂ +ℤ c *ℤ w₃) *ℤ x₀ +ℤ w₀ *ℤ a *ℤ x₁ +ℤ w₀ *ℤ b *ℤ x₂ +ℤ w₀ *ℤ c *ℤ x₃ ≡ pos 0
-    lift a b c w₀ w₁ w₂ w₃ x₀ x₁ x₂ x₃ e = simp expand (omega (arith, sums, simp expand at e))
-
-    level : (a b c w₀ w₁ w₂ w₃ : ℤ)
-        → neg_ℤ (a *ℤ w₁ +ℤ b *ℤ w₂ +ℤ c *ℤ w₃) *ℤ w₀ +ℤ w₀ *ℤ a *ℤ w₁ +ℤ w₀ *ℤ b *ℤ w₂ +ℤ w₀ *ℤ c *ℤ w₃ ≡ pos 0
-    level a b c w₀ w₁ w₂ w₃ = simp expand (omega (arith, sums))
-
-    some : (a b c w d : ℤ) → pos 0 ≺ w → pos 0 ≺ (a *ℤ a +ℤ b *ℤ b +ℤ c *ℤ c)
-        → pos 0 ≺ (d *ℤ d +ℤ (w *ℤ a *ℤ (w *ℤ a) +ℤ w *ℤ b *ℤ (w *ℤ b) +ℤ w *ℤ c *ℤ (w *ℤ c)))
-    some a b c w d hw h = let p = square_nonneg d in let m = mul_pos (w *ℤ w) _ (mul_pos w w hw hw) h in
-        simp expand (omega (arith, sums, simp expand at m))
+use Rattle.stack_polygon.specs.Plane.{Triple}
+use Rattle.stack_overlap.specs.Forms.{LinearForm, value}
+use Rattle.stack_overlap.proofs.Coefficients.{v, mix, form, IsDependent, coefficients}
 
 -- the part of a number above 0
 abbrev pub above : ℤ → ℤ
@@ -204,14 +93,14 @@ one-sum p₀ p₁ p₂ p₃ m₀ m₁ m₂ m₃ w₀ w₁ w₂ w₃ hp₀ hp₁ 
         absurd (omega (arith, sums))
 
 -- S is a combination of the points with weights p, and one with weights m
-pub record IsMeeting (X₀ X₁ X₂ X₃ S : Place) : Type 0 where
-  pub without_0 : (f : Form) → pos 0 ≺ value f X₁ → pos 0 ≺ value f X₂ → pos 0 ≺ value f X₃ → pos 0 ≺ value f S
-  pub without_1 : (f : Form) → pos 0 ≺ value f X₀ → pos 0 ≺ value f X₂ → pos 0 ≺ value f X₃ → pos 0 ≺ value f S
-  pub without_2 : (f : Form) → pos 0 ≺ value f X₀ → pos 0 ≺ value f X₁ → pos 0 ≺ value f X₃ → pos 0 ≺ value f S
-  pub without_3 : (f : Form) → pos 0 ≺ value f X₀ → pos 0 ≺ value f X₁ → pos 0 ≺ value f X₂ → pos 0 ≺ value f S
+pub record IsMeeting (X₀ X₁ X₂ X₃ S : Triple) : Type 0 where
+  pub without_0 : (f : LinearForm) → pos 0 ≺ value f X₁ → pos 0 ≺ value f X₂ → pos 0 ≺ value f X₃ → pos 0 ≺ value f S
+  pub without_1 : (f : LinearForm) → pos 0 ≺ value f X₀ → pos 0 ≺ value f X₂ → pos 0 ≺ value f X₃ → pos 0 ≺ value f S
+  pub without_2 : (f : LinearForm) → pos 0 ≺ value f X₀ → pos 0 ≺ value f X₁ → pos 0 ≺ value f X₃ → pos 0 ≺ value f S
+  pub without_3 : (f : LinearForm) → pos 0 ≺ value f X₀ → pos 0 ≺ value f X₁ → pos 0 ≺ value f X₂ → pos 0 ≺ value f S
 
 -- the weights of a point that is two combinations of four
-record IsBoth (X₀ X₁ X₂ X₃ : Place) (p₀ p₁ p₂ p₃ m₀ m₁ m₂ m₃ : ℤ) : Type 0 where
+record IsBoth (X₀ X₁ X₂ X₃ : Triple) (p₀ p₁ p₂ p₃ m₀ m₁ m₂ m₃ : ℤ) : Type 0 where
   x : p₀ *ℤ X₀.x +ℤ p₁ *ℤ X₁.x +ℤ p₂ *ℤ X₂.x +ℤ p₃ *ℤ X₃.x ≡ m₀ *ℤ X₀.x +ℤ m₁ *ℤ X₁.x +ℤ m₂ *ℤ X₂.x +ℤ m₃ *ℤ X₃.x
   y : p₀ *ℤ X₀.y +ℤ p₁ *ℤ X₁.y +ℤ p₂ *ℤ X₂.y +ℤ p₃ *ℤ X₃.y ≡ m₀ *ℤ X₀.y +ℤ m₁ *ℤ X₁.y +ℤ m₂ *ℤ X₂.y +ℤ m₃ *ℤ X₃.y
   w : p₀ *ℤ X₀.w +ℤ p₁ *ℤ X₁.w +ℤ p₂ *ℤ X₂.w +ℤ p₃ *ℤ X₃.w ≡ m₀ *ℤ X₀.w +ℤ m₁ *ℤ X₁.w +ℤ m₂ *ℤ X₂.w +ℤ m₃ *ℤ X₃.w
@@ -230,7 +119,7 @@ record IsBoth (X₀ X₁ X₂ X₃ : Place) (p₀ p₁ p₂ p₃ m₀ m₁ m₂ 
   one₂ : (p₂ ≡ pos 0) ⊎ (m₂ ≡ pos 0)
   one₃ : (p₃ ≡ pos 0) ⊎ (m₃ ≡ pos 0)
 
-both_of : (X₀ X₁ X₂ X₃ : Place) (c₀ c₁ c₂ c₃ p₀ p₁ p₂ p₃ m₀ m₁ m₂ m₃ : ℤ) → IsDependent X₀ X₁ X₂ X₃ c₀ c₁ c₂ c₃
+both_of : (X₀ X₁ X₂ X₃ : Triple) (c₀ c₁ c₂ c₃ p₀ p₁ p₂ p₃ m₀ m₁ m₂ m₃ : ℤ) → IsDependent X₀ X₁ X₂ X₃ c₀ c₁ c₂ c₃
     → IsSplit c₀ p₀ m₀ → IsSplit c₁ p₁ m₁ → IsSplit c₂ p₂ m₂ → IsSplit c₃ p₃ m₃ →
     IsBoth X₀ X₁ X₂ X₃ p₀ p₁ p₂ p₃ m₀ m₁ m₂ m₃
 both_of X₀ X₁ X₂ X₃ c₀ c₁ c₂ c₃ p₀ p₁ p₂ p₃ m₀ m₁ m₂ m₃ d s₀ s₁ s₂ s₃ = record {
@@ -245,8 +134,11 @@ both_of X₀ X₁ X₂ X₃ c₀ c₁ c₂ c₃ p₀ p₁ p₂ p₃ m₀ m₁ m�
   m₁-least = s₁.m_least;
   m₂-least = s₂.m_least;
   m₃-least = s₃.m_least;
-  p-some = one-sum p₀ p₁ p₂ p₃ m₀ m₁ m₂ m₃ X₀.w X₁.w X₂.w X₃.w s₀.p_least s₁.p_least s₂.p_least s₃.p_least s₀.m_least s₁.m_least s₂.m_least s₃.m_least X₀.positive X₁.positive X₂.positive X₃.positive level total;
-  m-some = one-sum m₀ m₁ m₂ m₃ p₀ p₁ p₂ p₃ X₀.w X₁.w X₂.w X₃.w s₀.m_least s₁.m_least s₂.m_least s₃.m_least s₀.p_least s₁.p_least s₂.p_least s₃.p_least X₀.positive X₁.positive X₂.positive X₃.positive (sym level) (other (p₀ +ℤ p₁ +ℤ p₂ +ℤ p₃) (m₀ +ℤ m₁ +ℤ m₂ +ℤ m₃) total);
+  p-some = one-sum p₀ p₁ p₂ p₃ m₀ m₁ m₂ m₃ X₀.w X₁.w X₂.w X₃.w s₀.p_least s₁.p_least s₂.p_least s₃.p_least
+      s₀.m_least s₁.m_least s₂.m_least s₃.m_least X₀.positive X₁.positive X₂.positive X₃.positive level total;
+  m-some = one-sum m₀ m₁ m₂ m₃ p₀ p₁ p₂ p₃ X₀.w X₁.w X₂.w X₃.w s₀.m_least s₁.m_least s₂.m_least s₃.m_least
+      s₀.p_least s₁.p_least s₂.p_least s₃.p_least X₀.positive X₁.positive X₂.positive X₃.positive (sym level)
+      (other (p₀ +ℤ p₁ +ℤ p₂ +ℤ p₃) (m₀ +ℤ m₁ +ℤ m₂ +ℤ m₃) total);
   one₀ = s₀.one;
   one₁ = s₁.one;
   one₂ = s₂.one;
@@ -268,7 +160,8 @@ both_of X₀ X₁ X₂ X₃ c₀ c₁ c₂ c₃ p₀ p₁ p₂ p₃ m₀ m₁ m�
     other a b l = omega (arith, sums)
 
     total : pos 0 ≺ (p₀ +ℤ p₁ +ℤ p₂ +ℤ p₃ +ℤ (m₀ +ℤ m₁ +ℤ m₂ +ℤ m₃))
-    total = go c₀ c₁ c₂ c₃ p₀ p₁ p₂ p₃ m₀ m₁ m₂ m₃ s₀.whole s₁.whole s₂.whole s₃.whole s₀.p_least s₁.p_least s₂.p_least s₃.p_least s₀.m_least s₁.m_least s₂.m_least s₃.m_least d.some
+    total = go c₀ c₁ c₂ c₃ p₀ p₁ p₂ p₃ m₀ m₁ m₂ m₃ s₀.whole s₁.whole s₂.whole s₃.whole s₀.p_least s₁.p_least
+        s₂.p_least s₃.p_least s₀.m_least s₁.m_least s₂.m_least s₃.m_least d.some
       where
         none : (c : ℤ) → c ≡ pos 0 → c *ℤ c ≡ pos 0
         none c e = (λ i. e i *ℤ e i)
@@ -291,7 +184,7 @@ both_of X₀ X₁ X₂ X₃ c₀ c₁ c₂ c₃ p₀ p₁ p₂ p₃ m₀ m₁ m�
                 absurd (omega (arith, sums))
 
 -- an open half-plane with three of the four points has a point of all such
-pub meeting : (X₀ X₁ X₂ X₃ : Place) → (S : Place) × IsMeeting X₀ X₁ X₂ X₃ S
+pub meeting : (X₀ X₁ X₂ X₃ : Triple) → (S : Triple) × IsMeeting X₀ X₁ X₂ X₃ S
 meeting X₀ X₁ X₂ X₃ =
     let (c₀, c₁, c₂, c₃, d) = coefficients X₀ X₁ X₂ X₃ in
     go (above c₀) (above c₁) (above c₂) (above c₃) (above (neg_ℤ c₀)) (above (neg_ℤ c₁)) (above (neg_ℤ c₂))
@@ -300,7 +193,7 @@ meeting X₀ X₁ X₂ X₃ =
     (above (neg_ℤ c₁)) (above (neg_ℤ c₂)) (above (neg_ℤ c₃)) d (split c₀) (split c₁) (split c₂) (split c₃))
   where
     go : (p₀ p₁ p₂ p₃ m₀ m₁ m₂ m₃ : ℤ) → IsBoth X₀ X₁ X₂ X₃ p₀ p₁ p₂ p₃ m₀ m₁ m₂ m₃
-        → (S : Place) × IsMeeting X₀ X₁ X₂ X₃ S
+        → (S : Triple) × IsMeeting X₀ X₁ X₂ X₃ S
     go p₀ p₁ p₂ p₃ m₀ m₁ m₂ m₃ b = (
       S,
       record {
@@ -327,31 +220,33 @@ meeting X₀ X₁ X₂ X₃ =
       },
     )
       where
-        S : Place
+        S : Triple
         S = record {
           x = p₀ *ℤ X₀.x +ℤ p₁ *ℤ X₁.x +ℤ p₂ *ℤ X₂.x +ℤ p₃ *ℤ X₃.x;
           y = p₀ *ℤ X₀.y +ℤ p₁ *ℤ X₁.y +ℤ p₂ *ℤ X₂.y +ℤ p₃ *ℤ X₃.y;
           w = p₀ *ℤ X₀.w +ℤ p₁ *ℤ X₁.w +ℤ p₂ *ℤ X₂.w +ℤ p₃ *ℤ X₃.w;
-          positive = weighted p₀ p₁ p₂ p₃ X₀.w X₁.w X₂.w X₃.w b.p₀-least b.p₁-least b.p₂-least b.p₃-least b.p-some (inr X₀.positive) (inr X₁.positive) (inr X₂.positive) (inr X₃.positive);
+          positive = weighted p₀ p₁ p₂ p₃ X₀.w X₁.w X₂.w X₃.w b.p₀-least b.p₁-least b.p₂-least b.p₃-least b.p-some
+              (inr X₀.positive) (inr X₁.positive) (inr X₂.positive) (inr X₃.positive);
         }
 
-        spread : (f : Form) (q₀ q₁ q₂ q₃ : ℤ) → f.l *ℤ
+        spread : (f : LinearForm) (q₀ q₁ q₂ q₃ : ℤ) → f.l *ℤ
             (q₀ *ℤ X₀.x +ℤ q₁ *ℤ X₁.x +ℤ q₂ *ℤ X₂.x +ℤ q₃ *ℤ X₃.x) +ℤ f.m *ℤ
             (q₀ *ℤ X₀.y +ℤ q₁ *ℤ X₁.y +ℤ q₂ *ℤ X₂.y +ℤ q₃ *ℤ X₃.y) +ℤ f.n *ℤ
             (q₀ *ℤ X₀.w +ℤ q₁ *ℤ X₁.w +ℤ q₂ *ℤ X₂.w +ℤ q₃ *ℤ X₃.w)
             ≡ q₀ *ℤ value f X₀ +ℤ q₁ *ℤ value f X₁ +ℤ q₂ *ℤ value f X₂ +ℤ q₃ *ℤ value f X₃
         spread f q₀ q₁ q₂ q₃ = solve integers (nth integers
-            (f.l ∷ f.m ∷ f.n ∷ q₀ ∷ q₁ ∷ q₂ ∷ q₃ ∷ X₀.x ∷ X₀.y ∷ X₀.w ∷ X₁.x ∷ X₁.y ∷ X₁.w ∷ X₂.x ∷ X₂.y ∷ X₂.w ∷ X₃.x ∷ X₃.y ∷ X₃.w ∷ []))
+            (f.l ∷ f.m ∷ f.n ∷ q₀ ∷ q₁ ∷ q₂ ∷ q₃ ∷ X₀.x ∷ X₀.y ∷ X₀.w ∷ X₁.x ∷ X₁.y ∷ X₁.w ∷ X₂.x ∷ X₂.y ∷ X₂.w
+            ∷ X₃.x ∷ X₃.y ∷ X₃.w ∷ []))
             (v 0 ⊗ mix 7 10 13 16 ⊕ v 1 ⊗ mix 8 11 14 17 ⊕ v 2 ⊗ mix 9 12 15 18)
             (v 3 ⊗ form 7 8 9 ⊕ v 4 ⊗ form 10 11 12 ⊕ v 5 ⊗ form 13 14 15 ⊕ v 6 ⊗ form 16 17 18) refl
 
-        by_p : (f : Form) → (p₀ ≡ pos 0) ⊎ (pos 0 ≺ value f X₀) → (p₁ ≡ pos 0) ⊎ (pos 0 ≺ value f X₁)
+        by_p : (f : LinearForm) → (p₀ ≡ pos 0) ⊎ (pos 0 ≺ value f X₀) → (p₁ ≡ pos 0) ⊎ (pos 0 ≺ value f X₁)
             → (p₂ ≡ pos 0) ⊎ (pos 0 ≺ value f X₂) → (p₃ ≡ pos 0) ⊎ (pos 0 ≺ value f X₃) → pos 0 ≺ value f S
         by_p f k₀ k₁ k₂ k₃ = subst (λ z. pos 0 ≺ z) (sym (spread f p₀ p₁ p₂ p₃))
             (weighted p₀ p₁ p₂ p₃ (value f X₀) (value f X₁) (value f X₂)
             (value f X₃) b.p₀-least b.p₁-least b.p₂-least b.p₃-least b.p-some k₀ k₁ k₂ k₃)
 
-        by_m : (f : Form) → (m₀ ≡ pos 0) ⊎ (pos 0 ≺ value f X₀) → (m₁ ≡ pos 0) ⊎ (pos 0 ≺ value f X₁)
+        by_m : (f : LinearForm) → (m₀ ≡ pos 0) ⊎ (pos 0 ≺ value f X₀) → (m₁ ≡ pos 0) ⊎ (pos 0 ≺ value f X₁)
             → (m₂ ≡ pos 0) ⊎ (pos 0 ≺ value f X₂) → (m₃ ≡ pos 0) ⊎ (pos 0 ≺ value f X₃) → pos 0 ≺ value f S
         by_m f k₀ k₁ k₂ k₃ = subst (λ z. pos 0 ≺ z)
             (sym ((λ i. f.l *ℤ b.x i +ℤ f.m *ℤ b.y i +ℤ f.n *ℤ b.w i) ∙ spread f m₀ m₁ m₂ m₃))

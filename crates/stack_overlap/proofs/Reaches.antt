@@ -14,7 +14,7 @@ use Rattle.stack_overlap.specs.declared.marks.Reach.{Reach}
 use mathlib.Core.List.{List}
 use lib.ListN.{length}
 use Rattle.stack_polygon.specs.Corners.{corner_of}
-use Rattle.stack_overlap.specs.Forms.{at, line, along, square}
+use Rattle.stack_overlap.specs.Forms.{at_corner, line, along, square}
 use Rattle.stack_overlap.specs.CommonPoints.{IsCornerOf}
 use Rattle.stack_overlap.specs.Marks.{IsMarked, IsReach, NoneOnLine, IsLower, IsHigher, IsWider, IsClipped}
 use Rattle.stack_overlap.proofs.Identities.{line-start, line-end, along-start, along-end}
@@ -25,15 +25,21 @@ IsReached a b Q n best = MatchOption best (NoneOnLine a b Q n) (λ r. IsReach a 
 
 -- the bounds at corner j
 abbrev IsBound : Point → Point → List Point → Reach → ℕ → Type 0
-IsBound a b Q r j = at (line a b) (corner_of Q j) ≡ pos 0
-    → (r.low.place ≼ at (along a b) (corner_of Q j)) × (at (along a b) (corner_of Q j) ≼ r.high.place)
+IsBound a b Q r j = at_corner (line a b) (corner_of Q j) ≡ pos 0
+    → (r.low.place ≼ at_corner (along a b) (corner_of Q j)) × (at_corner (along a b) (corner_of Q j) ≼ r.high.place)
 
 -- a corner that isn't on the line
 pub reached-past : (a b : Point) (Q : List Point) (n : ℕ) (best : Option Reach)
-    → ¬ (at (line a b) (corner_of Q n) ≡ pos 0) → IsReached a b Q n best → IsReached a b Q (n + 1) best
-reached-past a b Q n None d h = below_more (λ j. ¬ (at (line a b) (corner_of Q j) ≡ pos 0)) n h d
+    → ¬ (at_corner (line a b) (corner_of Q n) ≡ pos 0) → IsReached a b Q n best → IsReached a b Q (n + 1) best
+reached-past a b Q n None d h = below_more (λ j. ¬ (at_corner (line a b) (corner_of Q j) ≡ pos 0)) n h d
 reached-past a b Q n (Some r) d h =
-    record { low = h.low; high = h.high; low_corner = h.low_corner; high_corner = h.high_corner; bounds = below_more (IsBound a b Q r) n h.bounds (λ e. absurd (d e)) }
+    record {
+      low = h.low;
+      high = h.high;
+      low_corner = h.low_corner;
+      high_corner = h.high_corner;
+      bounds = below_more (IsBound a b Q r) n h.bounds (λ e. absurd (d e));
+    }
 
 -- a corner on the line
 pub reached-more : (a b : Point) (Q : List Point) (n : ℕ) (best : Option Reach) (m : Mark) (s : Reach)
@@ -46,7 +52,7 @@ reached-more a b Q n None m s hn e k w h = record {
   low_corner = (n, (hn, sym e ∙ ap (λ (x : Mark). x.at) (sym w.0)));
   high_corner = (n, (hn, sym e ∙ ap (λ (x : Mark). x.at) (sym w.1)));
   bounds = below_more (IsBound a b Q s) n (λ j hj z. absurd (h j hj z)) (λ z.
-      let p = ap (λ c. at (along a b) c) (sym e) ∙ k.place in
+      let p = ap (λ c. at_corner (along a b) c) (sym e) ∙ k.place in
       (low (ap (λ (x : Mark). x.place) w.0) p, high (ap (λ (x : Mark). x.place) w.1) p));
 }
   where
@@ -74,7 +80,7 @@ reached-more a b Q n (Some r) m s hn e k w h = record {
   ];
   bounds = below_more (IsBound a b Q s) n (λ j hj z. let o = h.bounds j hj z in
       (lower w.low.first o.0, lower o.1 w.high.first))
-      (λ z. let p = ap (λ c. at (along a b) c) (sym e)
+      (λ z. let p = ap (λ c. at_corner (along a b) c) (sym e)
       ∙ k.place in (below w.low.second p, above w.high.second p));
 }
   where
@@ -114,14 +120,14 @@ clip a b r s m n h l em ea en eb kl kh = record {
   where
     start : IsMarked a b m
     start = record {
-      on_line = ap (λ c. at (line a b) c) ea
+      on_line = ap (λ c. at_corner (line a b) c) ea
           ∙ line-start a b;
-      place = ap (λ c. at (along a b) c) ea ∙ along-start a b ∙ sym em;
+      place = ap (λ c. at_corner (along a b) c) ea ∙ along-start a b ∙ sym em;
     }
 
     end : IsMarked a b n
     end = record {
-      on_line = ap (λ c. at (line a b) c) eb ∙ line-end a b;
-      place = ap (λ c. at (along a b) c) eb
+      on_line = ap (λ c. at_corner (line a b) c) eb ∙ line-end a b;
+      place = ap (λ c. at_corner (along a b) c) eb
           ∙ along-end a b ∙ sym en;
     }

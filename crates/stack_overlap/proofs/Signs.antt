@@ -11,16 +11,16 @@ use Rattle.stack_algebra.proofs.Order.{◌≼◌, ◌≺◌}
 use Rattle.std.proofs.lemmas.Int.{ints}
 use Rattle.std.proofs.Common.{IsTrue}
 use Rattle.stack_polygon.specs.declared.point.Point.{Point}
-use Rattle.stack_polygon.specs.Plane.{sign_of}
+use Rattle.stack_algebra.specs.IntegerOrder.{signum}
 
-sign-code : (z : ℤ) → (IsTrue (lt_z (pos 0) (to_z w32 (of_z w32 (sign_of z)))) → pos 0 ≺ z) ×
-    (pos 0 ≺ z → IsTrue (lt_z (pos 0) (to_z w32 (of_z w32 (sign_of z)))))
+sign-code : (z : ℤ) → (IsTrue (lt_z (pos 0) (to_z w32 (of_z w32 (signum z)))) → pos 0 ≺ z) ×
+    (pos 0 ≺ z → IsTrue (lt_z (pos 0) (to_z w32 (of_z w32 (signum z)))))
 sign-code (pos zero) = (λ h. absurd (cc h), λ h. absurd (omega (arith, ints, h)))
 sign-code (pos (suc n)) = (λ h. omega (arith, ints), λ h. refl)
 sign-code (negsuc n) = (λ h. absurd (cc h), λ h. absurd (omega (arith, ints, h)))
 
 -- a sign is positive where its number is
-pub sign-positive : (z r : ℤ) → r ≡ sign_of z → (IsTrue (lt_z (pos 0) (to_z w32 (of_z w32 r))) → pos 0 ≺ z) ×
+pub sign-positive : (z r : ℤ) → r ≡ signum z → (IsTrue (lt_z (pos 0) (to_z w32 (of_z w32 r))) → pos 0 ≺ z) ×
     (pos 0 ≺ z → IsTrue (lt_z (pos 0) (to_z w32 (of_z w32 r))))
 sign-positive z r e = let s = sign-code z in (
   λ h. s.0 (subst (λ x. IsTrue (lt_z (pos 0) (to_z w32 (of_z w32 x)))) e h),

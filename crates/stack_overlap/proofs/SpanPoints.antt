@@ -9,7 +9,7 @@ use Rattle.stack_algebra.proofs.Integers.{sums, expand}
 use Rattle.stack_algebra.proofs.Order.{mul_pos}
 use Rattle.stack_polygon.specs.declared.point.Point.{Point}
 use Rattle.stack_polygon.specs.declared.point.Span.{Span}
-use Rattle.stack_polygon.specs.Plane.{Place}
+use Rattle.stack_polygon.specs.Plane.{Triple}
 use Rattle.stack_polygon.specs.Corners.{corner_of, IsInside}
 use Rattle.stack_polygon.specs.Limits.{IsPolygon}
 use Rattle.stack_polygon.specs.Spans.{IsSpanOf}
@@ -96,7 +96,7 @@ disjoint a b = (
     forth (inr h) X (m, n) = no-number (int_max a.y0 b.y0) (int_min a.y1 b.y1) X.y X.w X.positive h
         (past-both a.y0 b.y0 X.y X.w m.from_y0 n.from_y0) (before-both a.y1 b.y1 X.y X.w m.to_y1 n.to_y1)
 
-    corner : Place
+    corner : Triple
     corner = record { x = int_max a.x0 b.x0; y = int_max a.y0 b.y0; w = pos 1; positive = omega (arith, ints) }
 
     back : AreDisjoint a b → HaveNoX a b ⊎ (int_max a.x0 b.x0 ≼ int_min a.x1 b.x1)
@@ -142,7 +142,7 @@ pub beyond : (a b : Span) → a.x1 ≺ b.x0 → AreDisjoint a b
 beyond a b h X (m, n) = no-number b.x0 a.x1 X.x X.w X.positive h n.from_x0 m.to_x1
 
 -- a point inside a polygon lies within its span
-pub inside-span : (P : List Point) → IsPolygon P → (s : Span) → IsSpanOf P s → (X : Place) → IsInside P X
+pub inside-span : (P : List Point) → IsPolygon P → (s : Span) → IsSpanOf P s → (X : Triple) → IsInside P X
     → IsInSpan s X
 inside-span P polygon s h X inside = record {
   from_x0 = least_x X.x X.y X.w s.x0 (below (negsuc 0) (pos 0) s.x0
@@ -195,12 +195,12 @@ inside-span P polygon s h X inside = record {
 
 -- polygons whose spans have no common point have none
 pub none-common : (P Q : List Point) → IsPolygon P → IsPolygon Q → (a b : Span) → IsSpanOf P a → IsSpanOf Q b
-    → AreDisjoint a b → (X : Place) → ¬ (IsCommon P Q X)
+    → AreDisjoint a b → (X : Triple) → ¬ (IsCommon P Q X)
 none-common P Q p q a b h k d X c =
     d X (inside-span P p a h X c.first, inside-span Q q b k X c.second)
 
 -- nor a point strictly inside both
-pub none-overlap : (P Q : List Point) → ((X : Place) → ¬ (IsCommon P Q X)) → ¬ (Overlaps P Q)
+pub none-overlap : (P Q : List Point) → ((X : Triple) → ¬ (IsCommon P Q X)) → ¬ (Overlaps P Q)
 none-overlap P Q none (X, (m, n)) = none X (record { first = λ i l. weak (m i l); second = λ i l. weak (n i l) })
   where
     weak : {z : ℤ} → pos 0 ≺ z → pos 0 ≼ z

@@ -7,8 +7,8 @@ use Rattle.stack_algebra.proofs.Integers.{sums, expand}
 use Rattle.stack_algebra.proofs.Order.{◌≼◌, ◌≺◌, mul_nonneg, nonneg-cancel}
 use Rattle.std.proofs.lemmas.Int.{ints}
 use Rattle.stack_polygon.specs.declared.point.Point.{Point}
-use Rattle.stack_polygon.specs.Plane.{Place, IsAt}
-use Rattle.stack_overlap.specs.Forms.{Form, IsMark, IsOnStretch, value, at, line, along, square}
+use Rattle.stack_polygon.specs.Plane.{Triple, IsAt}
+use Rattle.stack_overlap.specs.Forms.{LinearForm, IsMark, IsOnStretch, value, at_corner, line, along, square}
 use Rattle.stack_overlap.proofs.Identities.{by_line, by_line_at, forth, aside}
 use Rattle.stack_overlap.proofs.Support.{either_side}
 
@@ -37,24 +37,24 @@ no_first : (s t v : ℤ) → pos 0 *ℤ s +ℤ t +ℤ v ≡ t +ℤ v
 no_first s t v = simp expand (omega (arith, sums))
 
 -- a form on the line, by the place along it
-pub on-line : (f : Form) (a b : Point) (X : Place) → value (line a b) X ≡ pos 0 →
-    square a b *ℤ value f X ≡ value (along a b) X *ℤ forth f a b +ℤ X.w *ℤ (square a b *ℤ at f a)
+pub on-line : (f : LinearForm) (a b : Point) (X : Triple) → value (line a b) X ≡ pos 0 →
+    square a b *ℤ value f X ≡ value (along a b) X *ℤ forth f a b +ℤ X.w *ℤ (square a b *ℤ at_corner f a)
 on-line f a b X h = drop_line (square a b) (value f X) (value (line a b) X) (aside f a b) (value (along a b) X)
-    (forth f a b) X.w (square a b *ℤ at f a) (by_line f a b X) h
+    (forth f a b) X.w (square a b *ℤ at_corner f a) (by_line f a b X) h
 
-pub at-mark : (f : Form) (a b c : Point) (k : ℤ) → IsMark a b c k
-    → square a b *ℤ at f c ≡ k *ℤ forth f a b +ℤ square a b *ℤ at f a
+pub at-mark : (f : LinearForm) (a b c : Point) (k : ℤ) → IsMark a b c k
+    → square a b *ℤ at_corner f c ≡ k *ℤ forth f a b +ℤ square a b *ℤ at_corner f a
 at-mark f a b c k h = by_line_at f a b c
-    ∙ (λ i. h.on_line i *ℤ aside f a b +ℤ h.place i *ℤ forth f a b +ℤ square a b *ℤ at f a)
-    ∙ no_first (aside f a b) (k *ℤ forth f a b) (square a b *ℤ at f a)
+    ∙ (λ i. h.on_line i *ℤ aside f a b +ℤ h.place i *ℤ forth f a b +ℤ square a b *ℤ at_corner f a)
+    ∙ no_first (aside f a b) (k *ℤ forth f a b) (square a b *ℤ at_corner f a)
 
 -- a form that is not negative at two marks is not negative between them
-pub between : (f : Form) (a b c d : Point) (lo hi : ℤ) (X : Place) → pos 0 ≺ square a b → IsMark a b c lo
+pub between : (f : LinearForm) (a b c d : Point) (lo hi : ℤ) (X : Triple) → pos 0 ≺ square a b → IsMark a b c lo
     → IsMark a b d hi →
-    IsOnStretch a b lo hi X → pos 0 ≼ at f c → pos 0 ≼ at f d → pos 0 ≼ value f X
+    IsOnStretch a b lo hi X → pos 0 ≼ at_corner f c → pos 0 ≼ at_corner f d → pos 0 ≼ value f X
 between f a b c d lo hi X long hc hd h p q =
-    between_numbers (square a b) (forth f a b) (square a b *ℤ at f a) X.w (value (along a b) X) lo hi
-    (value f X) (at f c) (at f d)
+    between_numbers (square a b) (forth f a b) (square a b *ℤ at_corner f a) X.w (value (along a b) X) lo hi
+    (value f X) (at_corner f c) (at_corner f d)
     long X.positive (on-line f a b X h.on_line) (at-mark f a b c lo hc)
     (at-mark f a b d hi hd) h.above h.below p q
 
@@ -70,20 +70,20 @@ same_numbers N u v w t k F f h e e' s =
     (omega (arith, sums, simp expand at p, simp expand at q))) in
     omega (arith, sums)
 
-pub value-mark : (f : Form) (a b c : Point) (k : ℤ) (X : Place) → pos 0 ≺ square a b → IsMark a b c k
+pub value-mark : (f : LinearForm) (a b c : Point) (k : ℤ) (X : Triple) → pos 0 ≺ square a b → IsMark a b c k
     → value (line a b) X ≡ pos 0 →
-    value (along a b) X ≡ k *ℤ X.w → value f X ≡ at f c *ℤ X.w
-value-mark f a b c k X long hc h e = same_numbers (square a b) (forth f a b) (square a b *ℤ at f a) X.w
-    (value (along a b) X) k (value f X) (at f c) long (on-line f a b X h) (at-mark f a b c k hc) e
+    value (along a b) X ≡ k *ℤ X.w → value f X ≡ at_corner f c *ℤ X.w
+value-mark f a b c k X long hc h e = same_numbers (square a b) (forth f a b) (square a b *ℤ at_corner f a) X.w
+    (value (along a b) X) k (value f X) (at_corner f c) long (on-line f a b X h) (at-mark f a b c k hc) e
 
-abbrev pub x_form : Form
+abbrev pub x_form : LinearForm
 x_form = record { l = pos 1; m = pos 0; n = pos 0 }
 
-abbrev pub y_form : Form
+abbrev pub y_form : LinearForm
 y_form = record { l = pos 0; m = pos 1; n = pos 0 }
 
 -- a point at a mark is the mark
-pub is-mark : (a b c : Point) (k : ℤ) (X : Place) → pos 0 ≺ square a b → IsMark a b c k
+pub is-mark : (a b c : Point) (k : ℤ) (X : Triple) → pos 0 ≺ square a b → IsMark a b c k
     → value (line a b) X ≡ pos 0 →
     value (along a b) X ≡ k *ℤ X.w → IsAt X c
 is-mark a b c k X long hc h e = record {

@@ -14,8 +14,8 @@ use lib.ListN.{length}
 use Rattle.stack_polygon.specs.declared.point.Point.{Point}
 use Rattle.stack_algebra.specs.Search.{next_round}
 use Rattle.stack_polygon.specs.Corners.{corner_of}
-use Rattle.stack_polygon.specs.Plane.{Place}
-use Rattle.stack_overlap.specs.Forms.{Form, value, at, line}
+use Rattle.stack_polygon.specs.Plane.{Triple}
+use Rattle.stack_overlap.specs.Forms.{LinearForm, value, at_corner, line}
 use Rattle.stack_overlap.proofs.ByForms.{IsConvex, IsInside}
 use Rattle.stack_overlap.proofs.Identities.{triangle, reversed, turned}
 
@@ -91,10 +91,11 @@ weights d a b c f₀ f₁ f₂ g₀ g₁ g₂ F G hd ha hb hc ef eg h₀ h₁ h�
     let z = nonneg-cancel d (neg_ℤ G) hd (simp expand (omega (arith, sums))) in
     omega (arith, sums)
 
--- a form that is nowhere positive at the corners, and not negative at a point inside, bounds each other form there by the corners where it is 0
-pub support : (P : List Point) → IsConvex P → 3 ≤ length P → (X : Place) → IsInside P X → (f g : Form) →
-    ((j : ℕ) → j < length P → at f (corner_of P j) ≼ pos 0) →
-    ((j : ℕ) → j < length P → at f (corner_of P j) ≡ pos 0 → at g (corner_of P j) ≼ pos 0) →
+-- a form that is nowhere positive at the corners, and not negative at a point inside, bounds each other form there
+-- by the corners where it is 0
+pub support : (P : List Point) → IsConvex P → 3 ≤ length P → (X : Triple) → IsInside P X → (f g : LinearForm) →
+    ((j : ℕ) → j < length P → at_corner f (corner_of P j) ≼ pos 0) →
+    ((j : ℕ) → j < length P → at_corner f (corner_of P j) ≡ pos 0 → at_corner g (corner_of P j) ≼ pos 0) →
     pos 0 ≼ value f X → value g X ≼ pos 0
 support P convex three X inside f g hf hg h =
     let n = length P - 3 in
@@ -109,13 +110,14 @@ support P convex three X inside f g hf hg h =
     let side : pos 0 ≼ value (line (c k) (c (suc k))) X =
     subst (λ i. pos 0 ≼ value (line (c k) (c i)) X) (next-inner (length P) k below)
     (inside k (omega arith)) in
-    let wide : pos 0 ≺ at (line (c k) (c (suc k))) (c 0) =
-    subst (λ i. pos 0 ≺ at (line (c k) (c i)) (c 0)) (next-inner (length P) k below)
+    let wide : pos 0 ≺ at_corner (line (c k) (c (suc k))) (c 0) =
+    subst (λ i. pos 0 ≺ at_corner (line (c k) (c i)) (c 0)) (next-inner (length P) k below)
     (convex k 0 (omega arith) (omega arith) (λ e. omega (arith, s.1.0))
     (λ e. omega (arith, e, next-inner (length P) k below))) in
-    weights (at (line (c 0) (c k)) (c (suc k)))
+    weights (at_corner (line (c 0) (c k)) (c (suc k)))
     (value (line (c k) (c (suc k))) X) (value (line (c (suc k)) (c 0)) X) (value (line (c 0) (c k)) X)
-    (at f (c 0)) (at f (c k)) (at f (c (suc k))) (at g (c 0)) (at g (c k)) (at g (c (suc k))) (value f X)
+    (at_corner f (c 0)) (at_corner f (c k)) (at_corner f (c (suc k))) (at_corner g (c 0)) (at_corner g (c k))
+    (at_corner g (c (suc k))) (value f X)
     (value g X)
     (subst (λ z. pos 0 ≺ z) (sym (turned (c 0) (c k) (c (suc k)))) wide)
     side
@@ -139,8 +141,8 @@ support P convex three X inside f g hf hg h =
         (subst (λ n. next_round n m ≡ 0) e (next-last m)) (inside m (omega arith))))
 
 -- a form that is nowhere positive at the corners is not positive at a point inside
-pub below-inside : (P : List Point) → IsConvex P → 3 ≤ length P → (X : Place) → IsInside P X → (g : Form) →
-    ((j : ℕ) → j < length P → at g (corner_of P j) ≼ pos 0) → value g X ≼ pos 0
+pub below-inside : (P : List Point) → IsConvex P → 3 ≤ length P → (X : Triple) → IsInside P X → (g : LinearForm) →
+    ((j : ℕ) → j < length P → at_corner g (corner_of P j) ≼ pos 0) → value g X ≼ pos 0
 below-inside P convex three X inside g h = support P convex three X inside
     (record { l = pos 0; m = pos 0; n = pos 0 }) g (λ j l. nothing (corner_of P j).x (corner_of P j).y)
     (λ j l e. h j l) (nothing_there X.x X.y X.w)

@@ -2,7 +2,7 @@
 use mathlib.Core.List.{List}
 use Prim.Native.Nat.{ℕ}
 use Rattle.stack_polygon.specs.declared.point.Point.{Point}
-use Rattle.stack_polygon.specs.Plane.{Place}
+use Rattle.stack_polygon.specs.Plane.{Triple}
 use Rattle.stack_overlap.specs.declared.types.Which.{Which}
 use Rattle.stack_overlap.specs.declared.types.Which.TheVariants.{First, Second}
 use Rattle.stack_overlap.specs.declared.types.Common.{Common}
@@ -11,7 +11,7 @@ use Rattle.stack_overlap.specs.Separation.{IsCommon}
 use Rattle.stack_overlap.specs.CommonPoints.{IsCommonOf, IsOnOther}
 use Rattle.stack_overlap.specs.Marks.{swapped, other_one}
 
-common-swapped : (P Q : List Point) (X : Place) → IsCommon P Q X → IsCommon Q P X
+common-swapped : (P Q : List Point) (X : Triple) → IsCommon P Q X → IsCommon Q P X
 common-swapped P Q X m = record { first = m.second; second = m.first }
 
 on_other-swapped : (P Q : List Point) (c : Point) (w : Which) (k : ℕ) → IsOnOther P Q c w k

@@ -4,10 +4,10 @@ use lib.IntN.{◌*ℤ◌}
 use Rattle.std.specs.Int.{int_min, int_max}
 use Rattle.stack_algebra.specs.IntegerOrder.{◌≼◌, ◌≺◌}
 use Rattle.stack_polygon.specs.declared.point.Span.{Span}
-use Rattle.stack_polygon.specs.Plane.{Place}
+use Rattle.stack_polygon.specs.Plane.{Triple}
 
 -- X lies within the span, its bounds included
-pub record IsInSpan (s : Span) (X : Place) : Type 0 where
+pub record IsInSpan (s : Span) (X : Triple) : Type 0 where
   pub from_x0 : s.x0 *ℤ X.w ≼ X.x
   pub to_x1 : X.x ≼ s.x1 *ℤ X.w
   pub from_y0 : s.y0 *ℤ X.w ≼ X.y
@@ -15,7 +15,7 @@ pub record IsInSpan (s : Span) (X : Place) : Type 0 where
 
 -- no point lies within both
 abbrev pub AreDisjoint : Span → Span → Type 0
-AreDisjoint a b = (X : Place) → ¬ (IsInSpan a X × IsInSpan b X)
+AreDisjoint a b = (X : Triple) → ¬ (IsInSpan a X × IsInSpan b X)
 
 -- no x lies within both, and no y does
 abbrev pub HaveNoX : Span → Span → Type 0

@@ -8,7 +8,7 @@ use lib.ListN.{length}
 use Rattle.std.specs.Prelude.{◌↔◌}
 use Rattle.stack_algebra.specs.IntegerOrder.{◌≼◌, ◌≺◌}
 use Rattle.stack_polygon.specs.declared.point.Point.{Point}
-use Rattle.stack_polygon.specs.Plane.{Place, IsAt, triangle_of, left_of, advance_of, ahead_of}
+use Rattle.stack_polygon.specs.Plane.{Triple, IsAt, triangle_of, left_of, advance_of, ahead_of}
 use Rattle.stack_polygon.specs.Corners.{corner_of, end_of}
 use Rattle.stack_overlap.specs.declared.types.Which.{Which}
 use Rattle.stack_overlap.specs.declared.types.Which.TheVariants.{First, Second}
@@ -17,7 +17,7 @@ use Rattle.stack_overlap.specs.declared.types.Common.TheVariants.{Nothing, Corne
 use Rattle.stack_overlap.specs.Separation.{IsCommon}
 
 -- X is on the segment from a to b: on its line, ahead of a on the way to b, and of b on the way to a
-pub record IsOnSegment (a b : Point) (X : Place) : Type 0 where
+pub record IsOnSegment (a b : Point) (X : Triple) : Type 0 where
   pub on_line : left_of a b X ≡ pos 0
   pub from_start : pos 0 ≼ ahead_of a b X
   pub from_end : pos 0 ≼ ahead_of b a X
@@ -47,7 +47,7 @@ IsOnOther P Q c Second i = IsCornerOf P c × IsWithinEdge Q i c
 
 -- exactly the common points of P and Q
 abbrev pub IsCommonOf : List Point → List Point → Common → Type 0
-IsCommonOf P Q Nothing = (X : Place) → ¬ (IsCommon P Q X)
-IsCommonOf P Q (Corner c) = IsCornerOf P c × IsCornerOf Q c × ((X : Place) → IsCommon P Q X ↔ IsAt X c)
-IsCommonOf P Q (OnEdge c e) = IsOnOther P Q c e.which e.index × ((X : Place) → IsCommon P Q X ↔ IsAt X c)
-IsCommonOf P Q (Segment a b) = IsBefore a b × ((X : Place) → IsCommon P Q X ↔ IsOnSegment a b X)
+IsCommonOf P Q Nothing = (X : Triple) → ¬ (IsCommon P Q X)
+IsCommonOf P Q (Corner c) = IsCornerOf P c × IsCornerOf Q c × ((X : Triple) → IsCommon P Q X ↔ IsAt X c)
+IsCommonOf P Q (OnEdge c e) = IsOnOther P Q c e.which e.index × ((X : Triple) → IsCommon P Q X ↔ IsAt X c)
+IsCommonOf P Q (Segment a b) = IsBefore a b × ((X : Triple) → IsCommon P Q X ↔ IsOnSegment a b X)

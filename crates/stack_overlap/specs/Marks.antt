@@ -13,7 +13,7 @@ use Rattle.stack_overlap.specs.declared.types.Common.{Common}
 use Rattle.stack_overlap.specs.declared.types.Common.TheVariants.{Nothing, Corner, OnEdge, Segment}
 use Rattle.stack_overlap.specs.declared.marks.Mark.{Mark}
 use Rattle.stack_overlap.specs.declared.marks.Reach.{Reach}
-use Rattle.stack_overlap.specs.Forms.{IsMark, at, line, along, square}
+use Rattle.stack_overlap.specs.Forms.{IsMark, at_corner, line, along, square}
 use Rattle.stack_overlap.specs.CommonPoints.{IsCornerOf}
 
 -- a corner on the line from a to b, at its place
@@ -26,12 +26,12 @@ pub record IsReach (a b : Point) (Q : List Point) (n : ℕ) (r : Reach) : Type 0
   pub high : IsMarked a b r.high
   pub low_corner : IsCornerOf Q r.low.at
   pub high_corner : IsCornerOf Q r.high.at
-  pub bounds : (j : ℕ) → j < n → at (line a b) (corner_of Q j) ≡ pos 0
-      → (r.low.place ≼ at (along a b) (corner_of Q j)) × (at (along a b) (corner_of Q j) ≼ r.high.place)
+  pub bounds : (j : ℕ) → j < n → at_corner (line a b) (corner_of Q j) ≡ pos 0
+      → (r.low.place ≼ at_corner (along a b) (corner_of Q j)) × (at_corner (along a b) (corner_of Q j) ≼ r.high.place)
 
 -- no corner below n is on the line from a to b
 abbrev pub NoneOnLine : Point → Point → List Point → ℕ → Type 0
-NoneOnLine a b Q n = (j : ℕ) → j < n → ¬ (at (line a b) (corner_of Q j) ≡ pos 0)
+NoneOnLine a b Q n = (j : ℕ) → j < n → ¬ (at_corner (line a b) (corner_of Q j) ≡ pos 0)
 
 -- m is one of a and b, and no later than either
 pub record IsLower (a b m : Mark) : Type 0 where

@@ -5,20 +5,20 @@ use lib.IntN.{pos}
 use lib.ListN.{length}
 use Rattle.stack_algebra.specs.IntegerOrder.{◌≼◌}
 use Rattle.stack_polygon.specs.declared.point.Point.{Point}
-use Rattle.stack_polygon.specs.Plane.{Place}
+use Rattle.stack_polygon.specs.Plane.{Triple}
 use Rattle.stack_polygon.specs.Corners.{corner_of, side_of, IsInside, IsStrictlyInside}
 use Rattle.stack_overlap.specs.declared.types.Which.{Which}
 use Rattle.stack_overlap.specs.declared.types.Which.TheVariants.{First, Second}
 use Rattle.stack_overlap.specs.declared.types.Edge.{Edge}
 
 -- X is inside both
-pub record IsCommon (P Q : List Point) (X : Place) : Type 0 where
+pub record IsCommon (P Q : List Point) (X : Triple) : Type 0 where
   pub first : IsInside P X
   pub second : IsInside Q X
 
 -- some point is strictly inside both
 abbrev pub Overlaps : List Point → List Point → Type 0
-Overlaps P Q = (X : Place) × (IsStrictlyInside P X × IsStrictlyInside Q X)
+Overlaps P Q = (X : Triple) × (IsStrictlyInside P X × IsStrictlyInside Q X)
 
 -- no corner of Q lies strictly left of edge i of P
 pub record Separates (P : List Point) (i : ℕ) (Q : List Point) : Type 0 where

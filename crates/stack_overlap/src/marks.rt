@@ -4,7 +4,7 @@ ghost use Rattle.std.specs.Prelude.{◌≡◌, ◌⊎◌, ◌↔◌, IsTrue, Mat
 ghost use lib.IntN.{pos};
 ghost use Rattle.stack_algebra.specs.IntegerOrder.{◌≺◌};
 ghost use Rattle.stack_polygon.specs.Limits.{IsInRange};
-ghost use Rattle.stack_overlap.specs.Forms.{at as value_at, line, along};
+ghost use Rattle.stack_overlap.specs.Forms.{at_corner as value_at, line, along};
 ghost use Rattle.stack_overlap.specs.Marks.{IsLower, IsHigher, IsWider};
 
 use stack_polygon::{Point, advance, triangle};

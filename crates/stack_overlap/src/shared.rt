@@ -1,10 +1,10 @@
 //! The common points of two polygons that an edge separates.
 
 ghost use Rattle.std.specs.Prelude.{◌≡◌, ◌↔◌, length, IsTrue, MatchOption};
-ghost use Rattle.stack_polygon.specs.Plane.{Place};
+ghost use Rattle.stack_polygon.specs.Plane.{Triple};
 ghost use Rattle.stack_polygon.specs.Limits.{IsInRange, IsPolygon};
 ghost use Rattle.stack_overlap.specs.Separation.{Separates, IsSeparatedBy, IsCommon};
-ghost use Rattle.stack_overlap.specs.Ends.{IsEndOf, IsEndAt};
+ghost use Rattle.stack_overlap.specs.Ends.{IsExtremeIn, IsEndAt};
 ghost use Rattle.stack_overlap.specs.CommonPoints.{IsBefore, IsCommonOf};
 ghost use Rattle.stack_overlap.specs.Marks.{IsMarked, IsReach, NoneOnLine, IsClipped, swapped};
 
@@ -80,8 +80,11 @@ fn common_on(p: &Polygon, i: usize, q: &Polygon) -> Common
                     }
                 }
             } else if is_at_either(s.low, start, end) {
+                // A corner of q that is an end of the edge, and so a corner of both: no edge tells a tangent there, so it
+                // will be a touch.
                 Common::Corner(s.low.at)
             } else {
+                // A corner of q alone, strictly within the edge: it bears along the edge.
                 Common::OnEdge {
                     at: s.low.at,
                     edge: Edge {
@@ -120,7 +123,7 @@ fn swap_common(c: Common) -> Common
 pub fn common(p: &Polygon, q: &Polygon, e: Edge) -> Common
     requires { IsSeparatedBy p.now q.now e.which e.index }
     ensures points { IsCommonOf p.now q.now result }
-    ensures ends { (X : Place) → IsEndOf (IsCommon p.now q.now) X ↔ IsEndAt result X }
+    ensures ends { (X : Triple) → IsExtremeIn (IsCommon p.now q.now) X ↔ IsEndAt result X }
 {
     match e.which {
         Which::First => common_on(p, e.index, q),

@@ -14,9 +14,10 @@ use Rattle.stack_polygon.specs.declared.errors.PolygonError.TheVariants.{Corners
 use Rattle.stack_polygon.specs.Corners.{corner_of, reversed, IsStrictlyConvex}
 use Rattle.stack_polygon.specs.Limits.{AreInRange, is_in_range, are_in_range}
 use Rattle.stack_polygon.specs.Outlines.{all_below, first_failing, is_clear, is_convex, outline_of}
-use Rattle.stack_polygon.specs.Admission.{IsCount, IsFirstUnclear, IsAdmitted, IsRefused}
+use Rattle.stack_polygon.specs.Admission.{IsCount, IsFirstUnclear, IsAdmittedAs, IsRefusedAs}
 use Rattle.stack_polygon.specs.Admission.{is_count, first_far_of, polygon_of, with_edge}
-use Rattle.stack_polygon.proofs.Ranges.{length-reversed, range-reversed, all_in_range, in_range, to_range, to_all_in_range}
+use Rattle.stack_polygon.proofs.Ranges.{length-reversed, range-reversed, all_in_range, in_range, to_range}
+use Rattle.stack_polygon.proofs.Ranges.{to_all_in_range}
 use Rattle.stack_polygon.proofs.Tested.{each_below, below_each, clear_from, to_clear, convex_from, to_convex}
 
 -- a test is false where what it decides is not so
@@ -76,14 +77,14 @@ outline_none ps e h g = (λ i. Err (NotConvex (sym first i)))
     first = found (is_clear ps) (length ps) e h.is_edge (λ k l. to_clear ps k (h.before k l))
         (refuted (is_clear ps e) (clear_from ps e) h.unclear)
 
-pub admitted : (ps qs : List Point) → IsAdmitted ps qs → Ok qs ≡ polygon_of ps
+pub admitted : (ps qs : List Point) → IsAdmittedAs ps qs → Ok qs ≡ polygon_of ps
 admitted ps qs h = elim h.stands [
   | inl s ↦ ap Ok s.1 ∙ outline_straight ps s.0 ∙ from_outline ps h.count h.in_range
   | inr s ↦ ap Ok s.1 ∙ outline_reversed ps s.0 (subst IsStrictlyConvex s.1 h.convex)
       ∙ from_outline ps h.count h.in_range
 ]
 
-pub refused : (ps : List Point) (e : PolygonError) → IsRefused ps e → Err e ≡ polygon_of ps
+pub refused : (ps : List Point) (e : PolygonError) → IsRefusedAs ps e → Err e ≡ polygon_of ps
 refused ps Corners h = λ i. if sym (uncounted (length ps) h) i
     then (if are_in_range ps then with_edge (outline_of ps) else Err (Range (first_far_of ps)))
     else Err Corners

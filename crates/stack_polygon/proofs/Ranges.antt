@@ -6,6 +6,7 @@ use Prim.Native.Nat.{zero, suc, ◌<◌, ◌-◌}
 use native.Mathlib.Omega.{arith}
 use lib.IntN.{ℤ}
 use lib.ListN.{length}
+use Rattle.stack_algebra.proofs.Conjunctions.{both_true}
 use Rattle.std.proofs.lemmas.Int.{ints}
 use Rattle.std.proofs.lemmas.List.{length-reverse, get_or-reverse}
 use Rattle.std.proofs.lemmas.List.Folds.{list_all_at}
@@ -16,12 +17,8 @@ use Rattle.stack_polygon.specs.Limits.{IsNear, IsInRange, is_near, is_in_range, 
 near : (z : ℤ) → is_near z ≡ true → IsNear z
 near z h = record { low = grind (arith, ints); high = grind (arith, ints) }
 
-both : (a b : Bool) → a && b ≡ true → (a ≡ true) × (b ≡ true)
-both true b h = (refl, h)
-both false b h = absurd (cc)
-
 pub in_range : (c : Point) → is_in_range c ≡ true → IsInRange c
-in_range c h = let p = both (is_near c.x) (is_near c.y) h in record { x = near c.x p.0; y = near c.y p.1 }
+in_range c h = let p = both_true (is_near c.x) (is_near c.y) h in record { x = near c.x p.0; y = near c.y p.1 }
 
 -- and back
 to_near : (z : ℤ) → IsNear z → is_near z ≡ true
@@ -32,7 +29,8 @@ to_range c h = λ i. to_near c.x h.x i && to_near c.y h.y i
 
 pub to_all_in_range : (ps : List Point) → AreInRange ps → are_in_range ps ≡ true
 to_all_in_range [] h = refl
-to_all_in_range (p ∷ ps) h = λ i. to_range p (h 0 (omega arith)) i && to_all_in_range ps (λ j l. h (suc j) (omega arith)) i
+to_all_in_range (p ∷ ps) h = λ i. to_range p (h 0 (omega arith)) i && to_all_in_range ps
+    (λ j l. h (suc j) (omega arith)) i
 
 pub all_in_range : (ps : List Point) → are_in_range ps ≡ true → AreInRange ps
 all_in_range ps h i lt = go (is_in_range (corner_of ps i)) refl

@@ -10,13 +10,14 @@ use Rattle.stack_algebra.proofs.Order.{◌≼◌, mul-bounds}
 use Rattle.stack_polygon.specs.declared.point.Point.{Point}
 use Rattle.stack_polygon.specs.Plane.{triangle_of, advance_of}
 use Rattle.stack_polygon.specs.Limits.{IsNear, IsInRange}
-use Rattle.stack_polygon.specs.Sizes.{IsStep, IsSquare, IsTwiceArea, IsThree, IsWithin}
+use Rattle.stack_polygon.specs.Sizes.{IsStep, IsSquare, IsTwiceArea, IsThreeCoordinates, IsWithin}
 
 -- the product of two steps is no larger than the square of the largest
 pub product-square : (x y : ℤ) → IsStep x → IsStep y → IsSquare (x *ℤ y)
 product-square x y hx hy =
     let m = mul-bounds x y (pos 2000000) (pos 2000000) hx.high (omega (arith, ints)) hy.high (omega (arith, ints)) in
-    let n = mul-bounds (neg_ℤ x) y (pos 2000000) (pos 2000000) (omega (arith, ints)) (omega (arith, ints)) hy.high (omega (arith, ints)) in
+    let n = mul-bounds (neg_ℤ x) y (pos 2000000) (pos 2000000) (omega (arith, ints)) (omega (arith, ints)) hy.high
+    (omega (arith, ints)) in
     record { low = omega (arith, sums, m); high = omega (arith, sums, simp expand at n) }
 
 abbrev pub stored : ℤ → ℤ
@@ -26,7 +27,8 @@ square-stored : (z : ℤ) → IsSquare z → stored z ≡ z
 square-stored z h = omega (arith, ints)
 
 pub stored-product : (x y : ℤ) → IsStep x → IsStep y → stored (stored x *ℤ stored y) ≡ x *ℤ y
-stored-product x y hx hy = (λ i. stored (same x hx i *ℤ same y hy i)) ∙ square-stored (x *ℤ y) (product-square x y hx hy)
+stored-product x y hx hy = (λ i. stored (same x hx i *ℤ same y hy i))
+    ∙ square-stored (x *ℤ y) (product-square x y hx hy)
   where
     same : (z : ℤ) → IsStep z → stored z ≡ z
     same z h = omega (arith, ints)
@@ -36,11 +38,13 @@ pub near-stored : (x y : ℤ) → IsNear x → IsNear y → stored (stored x -�
 near-stored x y hx hy = omega (arith, ints)
 
 pub is_step : (x y : ℤ) → IsNear x → IsNear y → IsStep (stored (stored x -ℤ stored y))
-is_step x y hx hy = subst IsStep (sym (near-stored x y hx hy)) (record { low = omega (arith, ints); high = omega (arith, ints) })
+is_step x y hx hy = subst IsStep (sym (near-stored x y hx hy))
+    (record { low = omega (arith, ints); high = omega (arith, ints) })
 
 -- the difference of two products
 pub less-fits : (r s : ℤ) → IsSquare r → IsSquare s → SFits w64 (stored r -ℤ stored s)
-less-fits r s hr hs = subst (λ z. SFits w64 z) (sym (λ i. square-stored r hr i -ℤ square-stored s hs i)) (plain r s hr hs)
+less-fits r s hr hs = subst (λ z. SFits w64 z) (sym (λ i. square-stored r hr i -ℤ square-stored s hs i))
+    (plain r s hr hs)
   where
     fits : (z : ℤ) → negsuc 7999999999999 ≼ z → z ≼ pos 8000000000000 → SFits w64 z
     fits (pos n) l m = record { sfits = omega (arith, ints, m) }
@@ -53,20 +57,24 @@ stored-less : (r s : ℤ) → IsSquare r → IsSquare s → stored (stored r -�
 stored-less r s hr hs = omega (arith, ints)
 
 pub less-twice : (r s : ℤ) → IsSquare r → IsSquare s → IsTwiceArea (stored (stored r -ℤ stored s))
-less-twice r s hr hs = subst IsTwiceArea (sym (stored-less r s hr hs)) (record { low = omega (arith, ints); high = omega (arith, ints) })
+less-twice r s hr hs = subst IsTwiceArea (sym (stored-less r s hr hs))
+    (record { low = omega (arith, ints); high = omega (arith, ints) })
 
 -- what the code computes is twice the triangle's area
 pub triangle-stored : (o p q : Point) (r s : ℤ) → IsInRange o → IsInRange p → IsInRange q → IsSquare r
     → IsSquare s →
-    r ≡ stored (stored p.x -ℤ stored o.x) *ℤ stored (stored q.y -ℤ stored o.y) → s ≡ stored (stored p.y -ℤ stored o.y) *ℤ stored (stored q.x -ℤ stored o.x) →
+    r ≡ stored (stored p.x -ℤ stored o.x) *ℤ stored (stored q.y -ℤ stored o.y) → s
+    ≡ stored (stored p.y -ℤ stored o.y) *ℤ stored (stored q.x -ℤ stored o.x) →
     stored (stored r -ℤ stored s) ≡ triangle_of o p q
 triangle-stored o p q r s ho hp hq hr hs er es = stored-less r s hr hs
     ∙ (λ i. er i -ℤ es i)
-    ∙ (λ i. near-stored p.x o.x hp.x ho.x i *ℤ near-stored q.y o.y hq.y ho.y i -ℤ near-stored p.y o.y hp.y ho.y i *ℤ near-stored q.x o.x hq.x ho.x i)
+    ∙ (λ i. near-stored p.x o.x hp.x ho.x i *ℤ near-stored q.y o.y hq.y ho.y i -ℤ near-stored p.y o.y hp.y ho.y i
+    *ℤ near-stored q.x o.x hq.x ho.x i)
 
 -- the sum of two products
 pub sum-fits : (r s : ℤ) → IsSquare r → IsSquare s → SFits w64 (stored r +ℤ stored s)
-sum-fits r s hr hs = subst (λ z. SFits w64 z) (sym (λ i. square-stored r hr i +ℤ square-stored s hs i)) (fits (r +ℤ s) (omega (arith, ints)) (omega (arith, ints)))
+sum-fits r s hr hs = subst (λ z. SFits w64 z) (sym (λ i. square-stored r hr i +ℤ square-stored s hs i))
+    (fits (r +ℤ s) (omega (arith, ints)) (omega (arith, ints)))
   where
     fits : (z : ℤ) → negsuc 7999999999999 ≼ z → z ≼ pos 8000000000000 → SFits w64 z
     fits (pos n) l m = record { sfits = omega (arith, ints, m) }
@@ -76,46 +84,52 @@ stored-sum : (r s : ℤ) → IsSquare r → IsSquare s → stored (stored r +ℤ
 stored-sum r s hr hs = omega (arith, ints)
 
 pub advance-stored : (o p q : Point) (r s : ℤ) → IsInRange o → IsInRange p → IsInRange q → IsSquare r → IsSquare s →
-    r ≡ stored (stored p.x -ℤ stored o.x) *ℤ stored (stored q.x -ℤ stored o.x) → s ≡ stored (stored p.y -ℤ stored o.y) *ℤ stored (stored q.y -ℤ stored o.y) →
+    r ≡ stored (stored p.x -ℤ stored o.x) *ℤ stored (stored q.x -ℤ stored o.x) → s
+    ≡ stored (stored p.y -ℤ stored o.y) *ℤ stored (stored q.y -ℤ stored o.y) →
     stored (stored r +ℤ stored s) ≡ advance_of o p q
 advance-stored o p q r s ho hp hq hr hs er es = stored-sum r s hr hs
     ∙ (λ i. er i +ℤ es i)
-    ∙ (λ i. near-stored p.x o.x hp.x ho.x i *ℤ near-stored q.x o.x hq.x ho.x i +ℤ near-stored p.y o.y hp.y ho.y i *ℤ near-stored q.y o.y hq.y ho.y i)
+    ∙ (λ i. near-stored p.x o.x hp.x ho.x i *ℤ near-stored q.x o.x hq.x ho.x i +ℤ near-stored p.y o.y hp.y ho.y i
+    *ℤ near-stored q.y o.y hq.y ho.y i)
 
 abbrev pub wide : ℤ → ℤ
 wide z = to_z w128 (of_z w128 z)
 
-moment-within : (x y : ℤ) → IsTwiceArea x → IsThree y → IsWithin 1 24000000000000000000 (x *ℤ y)
+moment-within : (x y : ℤ) → IsTwiceArea x → IsThreeCoordinates y → IsWithin 1 24000000000000000000 (x *ℤ y)
 moment-within x y hx hy =
-    let m = mul-bounds x y (pos 8000000000000) (pos 3000000) hx.high (omega (arith, ints)) hy.high (omega (arith, ints)) in
-    let n = mul-bounds (neg_ℤ x) y (pos 8000000000000) (pos 3000000) (omega (arith, ints)) (omega (arith, ints)) hy.high (omega (arith, ints)) in
+    let m = mul-bounds x y (pos 8000000000000) (pos 3000000) hx.high (omega (arith, ints)) hy.high
+    (omega (arith, ints)) in
+    let n = mul-bounds (neg_ℤ x) y (pos 8000000000000) (pos 3000000) (omega (arith, ints))
+    (omega (arith, ints)) hy.high (omega (arith, ints)) in
     record { low = omega (arith, sums, m); high = omega (arith, sums, simp expand at n) }
 
-pub moment-stored : (x y a b : ℤ) → a ≡ x → b ≡ y → IsTwiceArea x → IsThree y
+pub moment-stored : (x y a b : ℤ) → a ≡ x → b ≡ y → IsTwiceArea x → IsThreeCoordinates y
     → IsWithin 1 24000000000000000000 (wide (wide a *ℤ wide b))
 moment-stored x y a b ea eb hx hy = subst (IsWithin 1 24000000000000000000) (sym whole) (moment-within x y hx hy)
   where
     area : (z : ℤ) → IsTwiceArea z → wide z ≡ z
     area z h = omega (arith, ints)
 
-    three : (z : ℤ) → IsThree z → wide z ≡ z
+    three : (z : ℤ) → IsThreeCoordinates z → wide z ≡ z
     three z h = omega (arith, ints)
 
     product : (z : ℤ) → IsWithin 1 24000000000000000000 z → wide z ≡ z
     product z h = omega (arith, ints)
 
     whole : wide (wide a *ℤ wide b) ≡ x *ℤ y
-    whole = (λ i. wide (wide (ea i) *ℤ wide (eb i))) ∙ (λ i. wide (area x hx i *ℤ three y hy i)) ∙ product (x *ℤ y) (moment-within x y hx hy)
+    whole = (λ i. wide (wide (ea i) *ℤ wide (eb i))) ∙ (λ i. wide (area x hx i *ℤ three y hy i))
+        ∙ product (x *ℤ y) (moment-within x y hx hy)
 
 -- the moment of a triangle, from its two factors
-pub moment-is : (m t s area sum : ℤ) → SFits w128 m → m ≡ stored t *ℤ stored s → IsTwiceArea t → IsThree s
+pub moment-is : (m t s area sum : ℤ) → SFits w128 m → m ≡ stored t *ℤ stored s → IsTwiceArea t → IsThreeCoordinates s
     → t ≡ area → s ≡ sum → wide m ≡ area *ℤ sum
-moment-is m t s area sum f h kt ks ht hs = to_z-of_z w128 m f ∙ h ∙ (λ i. small t kt i *ℤ few s ks i) ∙ (λ i. ht i *ℤ hs i)
+moment-is m t s area sum f h kt ks ht hs = to_z-of_z w128 m f ∙ h ∙ (λ i. small t kt i *ℤ few s ks i)
+    ∙ (λ i. ht i *ℤ hs i)
   where
     small : (z : ℤ) → IsTwiceArea z → stored z ≡ z
     small z k = omega (arith, ints)
 
-    few : (z : ℤ) → IsThree z → stored z ≡ z
+    few : (z : ℤ) → IsThreeCoordinates z → stored z ≡ z
     few z k = omega (arith, ints)
 
 pub three-stored : (x y z s : ℤ) → IsNear x → IsNear y → IsNear z → s ≡ stored x +ℤ stored y +ℤ stored z

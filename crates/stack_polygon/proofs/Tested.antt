@@ -7,6 +7,7 @@ use Prim.Native.Nat.{ℕ, zero, suc, ◌<◌}
 use native.Mathlib.Omega.{arith}
 use lib.IntN.{ℤ, pos}
 use lib.ListN.{length}
+use Rattle.stack_algebra.proofs.Conjunctions.{both_true}
 use Rattle.std.specs.Prelude.{◌==◌, int_lt}
 use Rattle.std.proofs.lemmas.Int.{ints}
 use Rattle.std.proofs.lemmas.Bool.Decides.{Decides-eqb}
@@ -16,14 +17,10 @@ use Rattle.stack_algebra.specs.Search.{next_round}
 use Rattle.stack_polygon.specs.Corners.{corner_of, side_of, IsClear, IsStrictlyConvex}
 use Rattle.stack_polygon.specs.Outlines.{is_left_or_end, all_below, is_clear, is_convex}
 
-both : (a b : Bool) → a && b ≡ true → (a ≡ true) × (b ≡ true)
-both true b h = (refl, h)
-both false b h = absurd (cc)
-
 pub each_below : (p : ℕ → Bool) (n : ℕ) → all_below p n ≡ true → (k : ℕ) → k < n → p k ≡ true
 each_below p zero h k lt = absurd (omega arith)
 each_below p (suc n) h k lt =
-    let parts = both (all_below p n) (p n) h in
+    let parts = both_true (all_below p n) (p n) h in
     elim (cases k n lt) [ inl e ↦ ap p e ∙ parts.1 | inr l ↦ each_below p n parts.0 k l ]
   where
     cases : (k n : ℕ) → k < suc n → (k ≡ n) ⊎ (k < n)
@@ -40,7 +37,8 @@ is_left : (z : ℤ) → pos 0 ≺ z → int_lt (pos 0) z ≡ true
 is_left z h = grind (arith, ints)
 
 pub clear_from : (ps : List Point) (i : ℕ) → is_clear ps i ≡ true → IsClear ps i
-clear_from ps i h j lt n m = left _ (go (j == i) (j == next_round (length ps) i) refl refl (each_below (is_left_or_end ps i) (length ps) h j lt))
+clear_from ps i h j lt n m = left _ (go (j == i) (j == next_round (length ps) i) refl refl
+    (each_below (is_left_or_end ps i) (length ps) h j lt))
   where
     go : (a b : Bool) → j == i ≡ a → j == next_round (length ps) i ≡ b
         → (a || b) || int_lt (pos 0) (side_of ps i (corner_of ps j)) ≡ true
@@ -56,7 +54,8 @@ to_clear ps i h = below_each (is_left_or_end ps i) (length ps) each
         → (a || b) || int_lt (pos 0) (side_of ps i (corner_of ps j)) ≡ true
     go j lt true b e f = refl
     go j lt false true e f = refl
-    go j lt false false e f = is_left _ (h j lt (λ same. let t = (Decides-eqb j i).1 same in cc) (λ same. let t = (Decides-eqb j (next_round (length ps) i)).1 same in cc))
+    go j lt false false e f = is_left _ (h j lt (λ same. let t = (Decides-eqb j i).1 same in cc)
+        (λ same. let t = (Decides-eqb j (next_round (length ps) i)).1 same in cc))
 
     each : (j : ℕ) → j < length ps → is_left_or_end ps i j ≡ true
     each j lt = go j lt (j == i) (j == next_round (length ps) i) refl refl

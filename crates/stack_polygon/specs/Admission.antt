@@ -29,17 +29,17 @@ pub record IsFirstUnclear (ps : List Point) (i : ℕ) : Type 0 where
   pub unclear : ¬ (IsClear ps i)
 
 -- the list ps gives the polygon qs: itself where it is strictly convex, and otherwise its reversal
-pub record IsAdmitted (ps qs : List Point) : Type 0 where
+pub record IsAdmittedAs (ps qs : List Point) : Type 0 where
   pub count : IsCount (length ps)
   pub in_range : AreInRange ps
   pub stands : StandsFor ps qs
   pub convex : IsStrictlyConvex qs
 
 -- the first of the three refusals that applies
-abbrev pub IsRefused : List Point → PolygonError → Type 0
-IsRefused ps Corners = ¬ (IsCount (length ps))
-IsRefused ps (Range i) = IsCount (length ps) × IsFirstFar ps i
-IsRefused ps (NotConvex e) =
+abbrev pub IsRefusedAs : List Point → PolygonError → Type 0
+IsRefusedAs ps Corners = ¬ (IsCount (length ps))
+IsRefusedAs ps (Range i) = IsCount (length ps) × IsFirstFar ps i
+IsRefusedAs ps (NotConvex e) =
     IsCount (length ps) × AreInRange ps × IsFirstUnclear ps e × (¬ (IsStrictlyConvex (reversed ps)))
 
 -- the same by tests

@@ -10,7 +10,7 @@ use Rattle.std.specs.Prelude.{reverse}
 use Rattle.stack_algebra.specs.IntegerOrder.{◌≼◌, ◌≺◌}
 use Rattle.stack_algebra.specs.Search.{next_round}
 use Rattle.stack_polygon.specs.declared.point.Point.{Point}
-use Rattle.stack_polygon.specs.Plane.{Place, triangle_of, left_of}
+use Rattle.stack_polygon.specs.Plane.{Triple, triangle_of, left_of}
 
 abbrev pub origin : Point
 origin = record { x = pos 0; y = pos 0 }
@@ -36,11 +36,11 @@ abbrev pub IsStrictlyConvex : List Point → Type 0
 IsStrictlyConvex ps = (i : ℕ) → i < length ps → IsClear ps i
 
 -- left of the line of every edge, or on it
-abbrev pub IsInside : List Point → Place → Type 0
+abbrev pub IsInside : List Point → Triple → Type 0
 IsInside ps X = (i : ℕ) → i < length ps → pos 0 ≼ left_of (corner_of ps i) (end_of ps i) X
 
 -- strictly left of the line of every edge
-abbrev pub IsStrictlyInside : List Point → Place → Type 0
+abbrev pub IsStrictlyInside : List Point → Triple → Type 0
 IsStrictlyInside ps X = (i : ℕ) → i < length ps → pos 0 ≺ left_of (corner_of ps i) (end_of ps i) X
 
 -- the list in the other order, with its first corner kept: P0, Pn, .., P1

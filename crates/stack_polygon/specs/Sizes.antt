@@ -15,7 +15,7 @@ pub record IsSquare (z : ℤ) : Type 0 where
   pub high : z ≼ pos 4000000000000
 
 -- at most 3,000,000 in size, as the sum of three coordinates is
-pub record IsThree (z : ℤ) : Type 0 where
+pub record IsThreeCoordinates (z : ℤ) : Type 0 where
   pub low : negsuc 2999999 ≼ z
   pub high : z ≼ pos 3000000
 
@@ -30,7 +30,7 @@ pub record IsWithin (n bound : ℕ) (z : ℤ) : Type 0 where
   pub high : z ≼ pos (n * bound)
 
 -- the sums of n triangles
-pub record AreSums (n : ℕ) (s : Sums) : Type 0 where
+pub record AreTriangleSums (n : ℕ) (s : Sums) : Type 0 where
   pub area : IsWithin n 8000000000000 s.area
   pub about_y : IsWithin n 24000000000000000000 s.about_y
   pub about_x : IsWithin n 24000000000000000000 s.about_x

@@ -1,4 +1,4 @@
--- The least and the greatest coordinates of a list of corners.
+-- When numbers are the least and the greatest coordinates of a list of corners.
 use mathlib.Core.Path.{◌≡◌}
 use mathlib.Core.List.{List}
 use Prim.Native.Nat.{ℕ, ◌<◌}

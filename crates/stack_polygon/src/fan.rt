@@ -4,7 +4,7 @@ ghost use Rattle.std.specs.Prelude.{◌≡◌, ◌≤◌, ◌+◌, ◌+ℤ◌, �
 ghost use Rattle.stack_polygon.specs.Plane.{triangle_of};
 ghost use Rattle.stack_polygon.specs.Limits.{IsNear, IsInRange, AreInRange};
 ghost use Rattle.stack_polygon.specs.Area.{fan_of, moment_about_y_of, moment_about_x_of};
-ghost use Rattle.stack_polygon.specs.Sizes.{IsThree, IsTwiceArea, IsWithin, AreSums};
+ghost use Rattle.stack_polygon.specs.Sizes.{IsThreeCoordinates, IsTwiceArea, IsWithin, AreTriangleSums};
 
 use crate::point::Point;
 use crate::turns::triangle;
@@ -23,7 +23,7 @@ fn three(x: i64, y: i64, z: i64) -> i64
     requires y { IsNear y }
     requires z { IsNear z }
     ensures value { result ≡ x +ℤ y +ℤ z }
-    ensures size { IsThree result }
+    ensures size { IsThreeCoordinates result }
 {
     x + y + z
 }
@@ -31,7 +31,7 @@ fn three(x: i64, y: i64, z: i64) -> i64
 /// Six times the moment of a triangle.
 fn moment(area: i64, sum: i64) -> i128
     requires area { IsTwiceArea area }
-    requires sum { IsThree sum }
+    requires sum { IsThreeCoordinates sum }
     ensures value { result ≡ area *ℤ sum }
     ensures size { IsWithin 1 24000000000000000000 result }
 {
@@ -46,7 +46,7 @@ fn of_triangle(o: Point, p: Point, q: Point) -> Sums
     ensures area { result.area ≡ triangle_of o p q }
     ensures about_y { result.about_y ≡ moment_about_y_of o p q }
     ensures about_x { result.about_x ≡ moment_about_x_of o p q }
-    ensures size { AreSums 1 result }
+    ensures size { AreTriangleSums 1 result }
 {
     let area = triangle(o, p, q);
     Sums {
@@ -59,12 +59,12 @@ fn of_triangle(o: Point, p: Point, q: Point) -> Sums
 /// Both together, of at most 32 triangles.
 fn plus(a: Sums, b: Sums, count: usize) -> Sums
     requires count { count ≤ 32 }
-    requires a { AreSums count a }
-    requires b { AreSums 1 b }
+    requires a { AreTriangleSums count a }
+    requires b { AreTriangleSums 1 b }
     ensures area { result.area ≡ a.area +ℤ b.area }
     ensures about_y { result.about_y ≡ a.about_y +ℤ b.about_y }
     ensures about_x { result.about_x ≡ a.about_x +ℤ b.about_x }
-    ensures size { AreSums (count + 1) result }
+    ensures size { AreTriangleSums (count + 1) result }
 {
     Sums {
         area: a.area + b.area,
@@ -81,7 +81,7 @@ pub fn fan(corners: &[Point]) -> Sums
     ensures area { result.area ≡ fan_of triangle_of corners.now }
     ensures about_y { result.about_y ≡ fan_of moment_about_y_of corners.now }
     ensures about_x { result.about_x ≡ fan_of moment_about_x_of corners.now }
-    ensures size { AreSums 32 result }
+    ensures size { AreTriangleSums 32 result }
 {
     let mut sums = Sums {
         area: 0,

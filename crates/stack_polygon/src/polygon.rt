@@ -1,8 +1,8 @@
 //! Strictly convex polygons.
 
 ghost use Rattle.std.specs.Prelude.{◌≡◌, ◌<◌, length, IfOk, MatchResult};
-ghost use Rattle.stack_polygon.specs.Plane.{sign_of};
-ghost use Rattle.stack_polygon.specs.Admission.{polygon_of, IsAdmitted, IsRefused};
+ghost use Rattle.stack_algebra.specs.IntegerOrder.{signum};
+ghost use Rattle.stack_polygon.specs.Admission.{polygon_of, IsAdmittedAs, IsRefusedAs};
 ghost use Rattle.stack_polygon.specs.Corners.{corner_of, side_of};
 ghost use Rattle.stack_polygon.specs.Limits.{IsInRange, IsPolygon};
 ghost use Rattle.stack_polygon.specs.Area.{twice_area_of, six_moments_of};
@@ -43,7 +43,7 @@ impl Polygon {
     /// strictly convex neither as it is written nor reversed. Takes no memory.
     pub fn new(mut corners: Vec<Point>) -> Result<Polygon, PolygonError>
         ensures value { result ≡ polygon_of corners.items }
-        ensures meaning { MatchResult result (λ ps. IsAdmitted corners.items ps) (λ e. IsRefused corners.items e) }
+        ensures meaning { MatchResult result (λ ps. IsAdmittedAs corners.items ps) (λ e. IsRefusedAs corners.items e) }
         ensures polygon { IfOk result (λ ps. IsPolygon ps) }
     {
         if corners.len() < 3 || corners.len() > 32 {
@@ -86,7 +86,7 @@ impl Polygon {
     pub fn side(&self, i: usize, at: Point) -> i32
         requires index { i < length self.now }
         requires range { IsInRange at }
-        ensures { result ≡ sign_of (side_of self.now i at) }
+        ensures { result ≡ signum (side_of self.now i at) }
     {
         let end = next(self.corners.len(), i);
         let turn = triangle(self.corners[i], self.corners[end], at);

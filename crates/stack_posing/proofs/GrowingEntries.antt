@@ -1,5 +1,7 @@
 -- A column of entries grows by one row, and by the three of a free block.
-use Rattle.std.proofs.Common.{◌≡◌, ◌≢◌, refl, sym, ap, subst, ◌∙◌, ℕ, zero, suc, ◌+◌, ◌*◌, ◌<◌, ◌≤◌, Bool, true, false, List, [], ◌∷◌, ◌++◌}
+use Rattle.stack_algebra.proofs.Conjunctions.{all_four}
+use Rattle.std.proofs.Common.{◌≡◌, ◌≢◌, refl, sym, ap, subst, ◌∙◌, ℕ, zero, suc, ◌+◌, ◌*◌, ◌<◌, ◌≤◌, Bool, true}
+use Rattle.std.proofs.Common.{false, List, [], ◌∷◌, ◌++◌}
 use Rattle.std.proofs.Common.{cond, eqb, ltb, nat_le, nat_lt, ◌&&◌, arith}
 use Rattle.std.specs.Prelude.{if◌then◌else◌}
 use Rattle.std.specs.Ordering.{int_eq}
@@ -27,13 +29,7 @@ not_equal a b d = go (eqb a b) (eqb→eq a b)
 below_next : (a n : ℕ) → nat_lt a n ≡ true → nat_lt a (suc n) ≡ true
 below_next a n h = let l = ltb-true a n h in lt-ltb a (suc n) (omega (arith, l))
 
--- the first entry of a column and the rest, apart and together
-apart : (a b c d : Bool) → a && (b && (c && d)) ≡ true → (a ≡ true) × (b ≡ true) × (c ≡ true) × (d ≡ true)
-apart true true true d h = (refl, refl, refl, h)
-apart true true false d h = absurd cc
-apart true false c d h = absurd cc
-apart false b c d h = absurd cc
-
+-- the first entry of a column and the rest, together
 together : (a b c d : Bool) → a ≡ true → b ≡ true → c ≡ true → d ≡ true → a && (b && (c && d)) ≡ true
 together true true true true p q r s = refl
 together true true true false p q r s = absurd cc
@@ -42,8 +38,10 @@ together true false c d p q r s = absurd cc
 together false b c d p q r s = absurd cc
 
 first_entry : (n from : ℕ) (x : Entry) (xs : List Entry) → is_column n from (x ∷ xs) ≡ true
-    → (nat_le from x.row ≡ true) × (nat_lt x.row n ≡ true) × (is_small x.value ≡ true) × (is_column n (suc x.row) xs ≡ true)
-first_entry n from x xs h = apart (nat_le from x.row) (nat_lt x.row n) (is_small x.value) (is_column n (suc x.row) xs) h
+    → (nat_le from x.row ≡ true) × (nat_lt x.row n ≡ true) × (is_small x.value ≡ true)
+    × (is_column n (suc x.row) xs ≡ true)
+first_entry n from x xs h = all_four (nat_le from x.row) (nat_lt x.row n) (is_small x.value)
+    (is_column n (suc x.row) xs) h
 
 column_with : (n from : ℕ) (x : Entry) (xs : List Entry) → nat_le from x.row ≡ true → nat_lt x.row n ≡ true
     → is_small x.value ≡ true → is_column n (suc x.row) xs ≡ true → is_column n from (x ∷ xs) ≡ true
@@ -102,7 +100,8 @@ next_row n i f d = go (ℕ_discrete n i)
       where
         same : (t : Bool) → ltb i n ≡ t → cond t (f i) d ≡ cond (ltb i (suc n)) (f i) d
         same true h = let l = ltb-true i n h in sym (ap (λ t. cond t (f i) d) (lt-ltb i (suc n) (omega (arith, l))))
-        same false h = let l = ltb-false i n h in sym (ap (λ t. cond t (f i) d) (le-ltb i (suc n) (omega (arith, l, e))))
+        same false h = let l = ltb-false i n h in sym (ap (λ t. cond t (f i) d)
+            (le-ltb i (suc n) (omega (arith, l, e))))
 
 int_zero : (z : ℤ) → int_eq z (pos 0) ≡ true → z ≡ pos 0
 int_zero z h = (Decides-int_eq z (pos 0)).0 h
@@ -149,7 +148,8 @@ pub one_block : (b : ℕ) (f : ℕ → ℤ) (xs : List Entry) (w : Wrench) → A
     → f (3 * b + 1) ≡ w.fy → f (3 * b + 2) ≡ w.m → IsSmall w → AreEntries (3 * (b + 1)) f (with_wrench xs b w)
 one_block b f xs w h x y m s =
     let first = one_more (3 * b) f xs w.fx h x s.fx in
-    let second = one_more (3 * b + 1) f _ w.fy (subst (λ n. AreEntries n f (with_value xs (3 * b) w.fx)) one first) y s.fy in
+    let second = one_more (3 * b + 1) f _ w.fy (subst (λ n. AreEntries n f
+    (with_value xs (3 * b) w.fx)) one first) y s.fy in
     let third = one_more (3 * b + 2) f _ w.m
     (subst (λ n. AreEntries n f (with_value (with_value xs (3 * b) w.fx) (3 * b + 1) w.fy)) two second) m s.m in
     subst (λ n. AreEntries n f (with_wrench xs b w)) three third

@@ -1,5 +1,6 @@
 -- The parts of the problem of a survey as they are made, block by block and bearing by bearing.
-use Rattle.std.proofs.Common.{◌≡◌, refl, sym, ap, subst, ◌∙◌, ℕ, zero, suc, ◌+◌, ◌*◌, ◌<◌, ◌≤◌, Bool, true, false, List, [], ◌∷◌, ◌++◌}
+use Rattle.std.proofs.Common.{◌≡◌, refl, sym, ap, subst, ◌∙◌, ℕ, zero, suc, ◌+◌, ◌*◌, ◌<◌, ◌≤◌, Bool, true, false}
+use Rattle.std.proofs.Common.{List, [], ◌∷◌, ◌++◌}
 use Rattle.std.proofs.Common.{map, length, get_or, cond, eqb, ltb, arith, neg_ℤ, ◌/◌, ◌%◌}
 use Rattle.std.specs.List.{AllByRecursion}
 use Rattle.std.proofs.lemmas.List.{get_or_append_left, get_or_push, get_or-map, length-append, length-map, map-append}
@@ -114,7 +115,8 @@ abbrev Entered : Surveyed → ℕ → List Entry → Type 0
 Entered v j xs = AreEntries (rows_of v) (row_share (scene_of v) (column_on Dead (scene_of v) j)) xs
 
 -- the column of an edge as the problem has it
-edge_column_is : (v : Surveyed) (j k t : ℕ) (xs : List Entry) → j < 2 * length v.bearings → ◌≡◌ {A = ℕ} (j / 2) k → (j % 2) ≡ t
+edge_column_is : (v : Surveyed) (j k t : ℕ) (xs : List Entry) → j < 2 * length v.bearings → ◌≡◌ {A = ℕ} (j / 2) k
+    → (j % 2) ≡ t
     → AreEntries (rows_of v) (row_share (scene_of v) (edge_on (scene_of v) (eqb t 0) k)) xs → Entered v j xs
 edge_column_is v j k t xs l e f h =
     subst (λ (w : ℕ → Wrench). AreEntries (rows_of v) (row_share (scene_of v) w) xs)
@@ -125,9 +127,11 @@ pub next_bearing : (v : Surveyed) (k : ℕ) (cs one new : List Column) (c d : Co
     → AreEntries (rows_of v) (row_share (scene_of v) (edge_on (scene_of v) true k)) c.entries.items
     → AreEntries (rows_of v) (row_share (scene_of v) (edge_on (scene_of v) false k)) d.entries.items
     → AreColumns v k cs → AreColumns v (k + 1) new
-next_bearing v k cs one new c d l first second plus minus h = subst (AreColumns v (k + 1)) (sym (second ∙ ap (λ xs. xs ++ d ∷ []) first))
+next_bearing v k cs one new c d l first second plus minus h = subst (AreColumns v (k + 1))
+    (sym (second ∙ ap (λ xs. xs ++ d ∷ []) first))
     (record {
-      count = let a = one_longer (cs ++ c ∷ []) d in let b = one_longer cs c in let e = h.count in omega (arith, a, b, e);
+      count = let a = one_longer (cs ++ c ∷ []) d in let b = one_longer cs c in let e = h.count in omega
+          (arith, a, b, e);
       columns = λ j m. go j m (dec_le (suc j) (2 * k)) (dec_le (suc j) (suc (2 * k)));
     })
   where
@@ -143,7 +147,8 @@ next_bearing v k cs one new c d l first second plus minus h = subst (AreColumns 
         (edge_column_is v j k 0 c.entries.items (omega (arith, l, m))
         (omega (arith, p, q)) (omega (arith, p, q)) plus)
     go j m (no p) (no q) = subst (Entered v j)
-        (sym (entries_last (cs ++ c ∷ []) d j (let a = one_longer cs c in let e = h.count in omega (arith, a, e, m, q))))
+        (sym (entries_last (cs ++ c ∷ []) d j (let a = one_longer cs c in let e = h.count in omega
+        (arith, a, e, m, q))))
         (edge_column_is v j k 1 d.entries.items (omega (arith, l, m))
         (omega (arith, m, q)) (omega (arith, m, q)) minus)
 

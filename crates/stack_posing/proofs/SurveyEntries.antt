@@ -9,7 +9,7 @@ use Rattle.stack_equilibrium.specs.declared.types.Question.{Question}
 use Rattle.stack_equilibrium.specs.declared.types.Question.TheVariants.{Live}
 use Rattle.stack_equilibrium.specs.SurveyScene.{scene_of}
 use Rattle.stack_equilibrium.specs.Answers.{body_number}
-use Rattle.stack_equations.specs.FreeBodies.{free_at, free_count, AreFreeBlocks}
+use Rattle.stack_equations.specs.FreeBodies.{free_at, free_bodies, AreFreeBlocks}
 use Rattle.stack_equations.specs.Edges.{edge_on}
 use Rattle.stack_equations.specs.ByNumber.{dead_on, live_on}
 use Rattle.stack_equations.proofs.FreeBodies.{free_numbers_are_those_of_surveys}
@@ -26,10 +26,10 @@ pub pair_second : (k : ℕ) → ((2 * k + 1) / 2 ≡ k) × ((2 * k + 1) % 2 ≡ 
 pair_second k = (omega arith, omega arith)
 
 module _ (v : Surveyed) where
-  pub counted : free_count (scene_of v) ≡ length (frees_of v.structure.bodies)
+  pub counted : free_bodies (scene_of v) ≡ length (frees_of v.structure.bodies)
   counted = (free_numbers_are_those_of_surveys v).count
 
-  within : (b a : ℕ) → b < length (frees_of v.structure.bodies) → a < 3 → 3 * b + a < 3 * free_count (scene_of v)
+  within : (b a : ℕ) → b < length (frees_of v.structure.bodies) → a < 3 → 3 * b + a < 3 * free_bodies (scene_of v)
   within b a l m = let e = counted in omega (arith, e, l, m)
 
   -- row a of free block b, of a wrench on each body
@@ -41,7 +41,7 @@ module _ (v : Surveyed) where
   entry_is : (q : Question) (b a j : ℕ) → b < length (frees_of v.structure.bodies) → a < 3
       → (posed q (scene_of v)).entry (3 * b + a) j ≡ share a (column_on q (scene_of v) j (body_number v b))
   entry_is q b a j l m = ap (λ t. cond t (row_share (scene_of v) (column_on q (scene_of v) j) (3 * b + a)) (pos 0))
-      (lt-ltb (3 * b + a) (3 * free_count (scene_of v)) (within b a l m))
+      (lt-ltb (3 * b + a) (3 * free_bodies (scene_of v)) (within b a l m))
       ∙ row_is b a l m (column_on q (scene_of v) j)
 
   -- the column of an edge
@@ -53,7 +53,8 @@ module _ (v : Surveyed) where
       ∙ (λ n. edge_on (scene_of v) (eqb (f n) 0) (e n) i)
 
   -- the column of the factor
-  pub factor_is : (q : Question) (i : ℕ) → column_on q (scene_of v) (2 * length v.bearings) i ≡ factor_on q (scene_of v) i
+  pub factor_is : (q : Question) (i : ℕ) → column_on q (scene_of v) (2 * length v.bearings) i
+      ≡ factor_on q (scene_of v) i
   factor_is q i = (λ n. cond (le-ltb (2 * length v.bearings) (2 * length v.bearings) (omega arith) n)
       (edge_on (scene_of v) (eqb ((2 * length v.bearings) % 2) 0) ((2 * length v.bearings) / 2) i)
       (cond (eq-eqb (2 * length v.bearings) (2 * length v.bearings) refl n) (factor_on q (scene_of v) i) no_wrench))
@@ -69,6 +70,6 @@ surveys_are_posed q v = record {
   factor = λ b a l n. entry_is v Live b a (2 * length v.bearings) l n
       ∙ ap (share a) (factor_is v Live (body_number v b));
   right = λ b a l n. ap (λ t. cond t (neg_ℤ (row_share (scene_of v) (dead_on (scene_of v)) (3 * b + a))) (pos 0))
-      (lt-ltb (3 * b + a) (3 * free_count (scene_of v)) (within v b a l n))
+      (lt-ltb (3 * b + a) (3 * free_bodies (scene_of v)) (within v b a l n))
       ∙ ap neg_ℤ (row_is v b a l n (dead_on (scene_of v)));
 }

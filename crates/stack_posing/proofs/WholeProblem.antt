@@ -1,5 +1,6 @@
 -- The parts together are the problem of the survey, and meet the condition of a table.
-use Rattle.std.proofs.Common.{◌≡◌, refl, sym, ap, subst, ◌∙◌, ℕ, zero, suc, ◌+◌, ◌*◌, ◌<◌, ◌≤◌, ◌%◌, Bool, true, false, List, [], ◌∷◌}
+use Rattle.std.proofs.Common.{◌≡◌, refl, sym, ap, subst, ◌∙◌, ℕ, zero, suc, ◌+◌, ◌*◌, ◌<◌, ◌≤◌, ◌%◌, Bool, true}
+use Rattle.std.proofs.Common.{false, List, [], ◌∷◌}
 use Rattle.std.proofs.Common.{length, get_or, cond, eqb, ltb, arith, Option, Some, None, Vec, ◌/◌}
 use Rattle.std.specs.declared.alloc.Global.{Global}
 use Rattle.std.specs.List.{AllByRecursion}
@@ -16,7 +17,7 @@ use Rattle.stack_equilibrium.specs.declared.types.Wrench.{Wrench}
 use Rattle.stack_equilibrium.specs.declared.types.Question.{Question}
 use Rattle.stack_equilibrium.specs.declared.types.Question.TheVariants.{Dead, Live}
 use Rattle.stack_equilibrium.specs.SurveyScene.{scene_of}
-use Rattle.stack_equations.specs.FreeBodies.{free_count}
+use Rattle.stack_equations.specs.FreeBodies.{free_bodies}
 use Rattle.stack_equations.specs.Edges.{edge_on}
 use Rattle.stack_equations.specs.ByNumber.{live_on}
 use Rattle.stack_table.specs.declared.problem.Column.{Column}
@@ -59,9 +60,9 @@ factors_are Live v (Some c) h = refl
 module _ (v : Surveyed) where
   -- the value that the problem has in row a, of a wrench on each body
   abbrev placed : (ℕ → Wrench) → ℕ → ℤ
-  placed w a = cond (ltb a (3 * free_count (scene_of v))) (row_share (scene_of v) w a) (pos 0)
+  placed w a = cond (ltb a (3 * free_bodies (scene_of v))) (row_share (scene_of v) w a) (pos 0)
 
-  rows_are : rows_of v ≡ 3 * free_count (scene_of v)
+  rows_are : rows_of v ≡ 3 * free_bodies (scene_of v)
   rows_are = ap (λ n. 3 * n) (sym (counted v))
 
   entered : (w : ℕ → Wrench) (xs : List Entry) → AreEntries (rows_of v) (row_share (scene_of v) w) xs → (a : ℕ)
@@ -69,8 +70,8 @@ module _ (v : Surveyed) where
   entered w xs h a = h.values a ∙ (λ i. cond (ltb a (rows_are i)) (row_share (scene_of v) w a) (pos 0))
 
   unloaded : (w : ℕ → Wrench) (a : ℕ) → ((i : ℕ) → w i ≡ no_wrench) → pos 0 ≡ placed w a
-  unloaded w a h = sym ((λ k. cond (ltb a (3 * free_count (scene_of v))) (zero_share k) (pos 0))
-      ∙ both_ways (ltb a (3 * free_count (scene_of v))))
+  unloaded w a h = sym ((λ k. cond (ltb a (3 * free_bodies (scene_of v))) (zero_share k) (pos 0))
+      ∙ both_ways (ltb a (3 * free_bodies (scene_of v))))
     where
       zero_share : row_share (scene_of v) w a ≡ pos 0
       zero_share = ap (share (a % 3)) (h _) ∙ no_share (a % 3)
@@ -82,7 +83,8 @@ module _ (v : Surveyed) where
   -- the factor's column
   factor_entered : (q : Question) (o : Option Column) → AreFactorEntries q v o → (a : ℕ)
       → entry_in (factor_entries o) a ≡ placed (factor_on q (scene_of v)) a
-  factor_entered Dead o h a = ap (λ p. entry_in (factor_entries p) a) h ∙ unloaded (factor_on Dead (scene_of v)) a (λ i. refl)
+  factor_entered Dead o h a = ap (λ p. entry_in (factor_entries p) a) h
+      ∙ unloaded (factor_on Dead (scene_of v)) a (λ i. refl)
   factor_entered Live None h a = absurd h
   factor_entered Live (Some c) h a = entered (live_on (scene_of v)) c.entries.items h a
 
@@ -112,13 +114,15 @@ module _ (v : Surveyed) where
         ∙ entered (column_on Dead (scene_of v) j) (entries_of cs.items j) (h.columns j l) a
         ∙ (λ k. placed (λ i. contact_same q j l i k) a)
     at_column j (no d) (yes e) a =
-        (λ k. entry_in (cond (le-ltb j (length cs.items) (let c = h.count in omega (arith, c, e)) k) (entries_of cs.items j)
+        (λ k. entry_in (cond (le-ltb j (length cs.items) (let c = h.count in omega (arith, c, e)) k)
+        (entries_of cs.items j)
         (cond (eq-eqb j (length cs.items) (e ∙ sym h.count) k) (factor_entries o) [])) a)
         ∙ factor_entered q o f a
         ∙ sym (λ k. placed (λ i. factor_is v q i k) a)
         ∙ sym (λ k. placed (column_on q (scene_of v) (e k)) a)
     at_column j (no d) (no e) a =
-        (λ k. entry_in (cond (le-ltb j (length cs.items) (let c = h.count in omega (arith, c, d)) k) (entries_of cs.items j)
+        (λ k. entry_in (cond (le-ltb j (length cs.items) (let c = h.count in omega (arith, c, d)) k)
+        (entries_of cs.items j)
         (cond (not_equal j (length cs.items) (λ p. e (p ∙ h.count)) k) (factor_entries o) [])) a)
         ∙ unloaded (column_on q (scene_of v) j) a (none_past q j (omega (arith, d, e)))
 
@@ -135,7 +139,7 @@ module _ (v : Surveyed) where
     }
       where
         loads : (a : ℕ) → get_or rs.items a (pos 0)
-            ≡ cond (ltb a (3 * free_count (scene_of v))) (right_share (scene_of v) a) (pos 0)
+            ≡ cond (ltb a (3 * free_bodies (scene_of v))) (right_share (scene_of v) a) (pos 0)
         loads a = ap (λ xs. get_or xs a (pos 0)) r ∙ listed_or (rows_of v) (right_share (scene_of v)) a
             ∙ (λ i. cond (ltb a (rows_are i)) (right_share (scene_of v) a) (pos 0))
 

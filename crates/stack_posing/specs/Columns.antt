@@ -36,4 +36,5 @@ pub record AreColumns (v : Surveyed) (k : ℕ) (cs : List Column) : Type 0 where
 abbrev pub AreFactorEntries : Question → Surveyed → Option Column → Type 0
 AreFactorEntries Dead v o = o ≡ None
 AreFactorEntries Live v None = ⊥
-AreFactorEntries Live v (Some c) = AreEntries (rows_of v) (row_share (scene_of v) (live_on (scene_of v))) c.entries.items
+AreFactorEntries Live v (Some c) = AreEntries (rows_of v) (row_share (scene_of v)
+    (live_on (scene_of v))) c.entries.items

@@ -1,4 +1,10 @@
 //! The problem of a survey, whose solutions are forces: what the run is asked.
+//!
+//! ```text
+//! let problem = pose(alloc, &survey, Question::Live)?; // of a post on the ground with a live load
+//! problem.rows == 3 // along x, along y, of moments
+//! problem.contact.len() == 4 // two edges of a cone at each of two bearings
+//! ```
 #![tactic(auto)]
 
 mod entries;

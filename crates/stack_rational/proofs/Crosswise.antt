@@ -12,10 +12,11 @@ use Rattle.stack_algebra.proofs.Integers.{mul_neg, expand, sums}
 use Rattle.stack_algebra.proofs.Order.{◌≺◌, mul_pos}
 use Rattle.stack_algebra.specs.Gcd.{gcd}
 use Rattle.stack_algebra.specs.Fraction.{Fraction}
-use Rattle.stack_algebra.proofs.CommonDivisor.{gcd-is, gcd-left, gcd-right, gcd-pos, gcd-quotients, gcd-product, gcd-swap, dvd-gcd}
+use Rattle.stack_algebra.proofs.CommonDivisor.{gcd-is, gcd-left, gcd-right, gcd-pos, gcd-quotients, gcd-product}
+use Rattle.stack_algebra.proofs.CommonDivisor.{gcd-swap, dvd-gcd}
 use Rattle.stack_algebra.proofs.Fractions.{mul, mul-is, same_values}
 use Rattle.stack_algebra.proofs.Over.{over, over-is, over-lowest, IsLowest}
-use Rattle.stack_rational.specs.Stored.{Fits, IsStored, IsShared, Parts, Within}
+use Rattle.stack_rational.specs.Stored.{Fits, IsStored, IsShared, IsInParts, Within}
 use Rattle.stack_rational.proofs.Steps.{div-abs}
 
 pub exact-part : (z : ℤ) (g : ℕ) → g ∣ nat_abs z → pos g *ℤ quot_z z (pos g) ≡ z
@@ -57,7 +58,7 @@ crosswise a b c d g h a' b' c' d' p q r s = (λ i. (a' *ℤ c') *ℤ (sym q i *�
     move : (a' *ℤ c') *ℤ ((h *ℤ b') *ℤ (g *ℤ d')) ≡ ((g *ℤ a') *ℤ (h *ℤ c')) *ℤ (b' *ℤ d')
     move = simp expand (omega (arith, sums))
 
-pub parts_of : (x : Fraction) (N D : ℤ) → IsLowest N D → over N D ≡ x → Parts x N D
+pub parts_of : (x : Fraction) (N D : ℤ) → IsLowest N D → over N D ≡ x → IsInParts x N D
 parts_of x N D low value = record {
   lowest = low;
   value = value;
@@ -67,7 +68,7 @@ parts_of x N D low value = record {
 
 product_of : (a b c d : ℤ) (g h : ℕ) → IsLowest a b → IsLowest c d → IsGcd (nat_abs a) (nat_abs d) g →
     IsGcd (nat_abs c) (nat_abs b) h →
-    Parts (mul (over a b) (over c d)) (quot_z a (pos g) *ℤ quot_z c (pos h))
+    IsInParts (mul (over a b) (over c d)) (quot_z a (pos g) *ℤ quot_z c (pos h))
     (quot_z b (pos h) *ℤ quot_z d (pos g))
 product_of a b c d g h s t is js = parts_of (mul (over a b) (over c d)) N D low value
   where
@@ -112,31 +113,31 @@ product_of a b c d g h s t is js = parts_of (mul (over a b) (over c d)) N D low 
 
 product_by : (a b c d g h : ℤ) → pos 0 ≤ℤ g → pos 0 ≤ℤ h → IsLowest a b → IsLowest c d →
     IsGcd (nat_abs a) (nat_abs d) (nat_abs g) → IsGcd (nat_abs c) (nat_abs b) (nat_abs h) →
-    Parts (mul (over a b) (over c d)) (quot_z a g *ℤ quot_z c h) (quot_z b h *ℤ quot_z d g)
+    IsInParts (mul (over a b) (over c d)) (quot_z a g *ℤ quot_z c h) (quot_z b h *ℤ quot_z d g)
 product_by a b c d (pos g) (pos h) p q s t is js = product_of a b c d g h s t is js
 product_by a b c d (negsuc g) h p q s t is js = absurd (omega (arith, ints, p))
 product_by a b c d (pos g) (negsuc h) p q s t is js = absurd (omega (arith, ints, q))
 
 pub product : {m a b c d g h p q r s : ℤ} {x y : Fraction} → IsStored m a b → IsStored m c d → over a b ≡ x →
-    over c d ≡ y → IsShared m a d g p s → IsShared m c b h q r → Parts (mul x y) (p *ℤ q) (r *ℤ s)
+    over c d ≡ y → IsShared m a d g p s → IsShared m c b h q r → IsInParts (mul x y) (p *ℤ q) (r *ℤ s)
 product {m} {a} {b} {c} {d} {g} {h} {p} {q} {r} {s} {x} {y} u v k l t w = subst₂
-    (λ x y. Parts (mul x y) (p *ℤ q) (r *ℤ s)) k l
-    (subst₂ (Parts (mul (over a b) (over c d))) (λ i. sym t.left i *ℤ sym w.left i)
+    (λ x y. IsInParts (mul x y) (p *ℤ q) (r *ℤ s)) k l
+    (subst₂ (IsInParts (mul (over a b) (over c d))) (λ i. sym t.left i *ℤ sym w.left i)
     (λ i. sym w.right i *ℤ sym t.right i)
     (product_by a b c d g h (omega (arith, ints, t.positive)) (omega (arith, ints, w.positive)) u.lowest v.lowest
     t.gcd w.gcd))
 
 -- what is stored where the parts fit, and what does not fit where one of them does not
-pub parts-stored : {m n d N D : ℤ} {x : Fraction} → Parts x N D → Within m N × (n ≡ N) → Within m D
+pub parts-stored : {m n d N D : ℤ} {x : Fraction} → IsInParts x N D → Within m N × (n ≡ N) → Within m D
     × (d ≡ D) → IsStored m n d
 parts-stored {m} {n} {d} {N} {D} {x} p u v = subst₂ (IsStored m) (sym u.1) (sym v.1)
     record { lowest = p.lowest; num = u.0; den = v.0 }
 
-pub parts-value : (m : ℤ) {n d N D : ℤ} {x : Fraction} → Parts x N D → Within m N × (n ≡ N) → Within m D × (d ≡ D) →
+pub parts-value : (m : ℤ) {n d N D : ℤ} {x : Fraction} → IsInParts x N D → Within m N × (n ≡ N) → Within m D × (d ≡ D) →
     over n d ≡ x
 parts-value m {n} {d} {N} {D} {x} p u v = (λ i. over (u.1 i) (v.1 i)) ∙ p.value
 
-pub parts-fit : {m n d N D : ℤ} {x : Fraction} → Parts x N D → Within m N × (n ≡ N) → Within m D × (d ≡ D) →
+pub parts-fit : {m n d N D : ℤ} {x : Fraction} → IsInParts x N D → Within m N × (n ≡ N) → Within m D × (d ≡ D) →
     Fits m x
 parts-fit {m} {n} {d} {N} {D} {x} p u v = record {
   num = omega (arith, u.0, ap nat_abs p.num);
@@ -144,11 +145,11 @@ parts-fit {m} {n} {d} {N} {D} {x} p u v = record {
       (arith, v.0, ap nat_abs p.den);
 }
 
-pub num-passes : {m N D : ℤ} {x : Fraction} → Parts x N D → ¬ (Within m N) → ¬ (Fits m x)
-num-passes {m} {N} {D} {x} p h f = h (omega (arith, f.num, ap nat_abs p.num))
+pub num-too_wide : {m N D : ℤ} {x : Fraction} → IsInParts x N D → ¬ (Within m N) → ¬ (Fits m x)
+num-too_wide {m} {N} {D} {x} p h f = h (omega (arith, f.num, ap nat_abs p.num))
 
-pub den-passes : {m N D : ℤ} {x : Fraction} → Parts x N D → ¬ (Within m D) → ¬ (Fits m x)
-den-passes {m} {N} {D} {x} p h f = h (omega (arith, f.den, ap nat_abs p.den))
+pub den-too_wide : {m N D : ℤ} {x : Fraction} → IsInParts x N D → ¬ (Within m D) → ¬ (Fits m x)
+den-too_wide {m} {N} {D} {x} p h f = h (omega (arith, f.den, ap nat_abs p.den))
 
 -- a divisor of a positive number is positive
 pub positive-divisor : (a d g : ℤ) → pos 0 ≤ℤ g → pos 0 ≺ d → IsGcd (nat_abs a) (nat_abs d) (nat_abs g) →

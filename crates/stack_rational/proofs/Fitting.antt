@@ -1,4 +1,4 @@
--- What doesn't pass fits, and what is 0 never passes.
+-- What isn't too wide fits, and what is 0 is never too wide.
 use mathlib.Core.Path.{◌≡◌, refl, sym, ap, ◌∙◌}
 use mathlib.Core.Logic.{◌≢◌}
 use Prim.Native.Nat.{zero, suc, ◌/◌, ◌≤◌}
@@ -9,7 +9,7 @@ use Rattle.std.proofs.lemmas.Bool.{le-leb, leb-true}
 use Rattle.std.proofs.Math.Nat.{div-le_self}
 use Rattle.std.specs.Prelude.{ℕ, ◌^◌, true, false, not, nat_le, nat_lt}
 use Rattle.stack_whole.specs.Whole.{greatest_number}
-use Rattle.stack_algebra.specs.Ordered.{Sign, minus, nought, plus, opposite, both as product_sign, sign_of}
+use Rattle.stack_algebra.specs.Ordered.{Sign, minus, nought, plus, opposite, product_sign, sign_of}
 use Rattle.stack_algebra.specs.Fraction.{Fraction, low_num, low_den}
 use Rattle.stack_algebra.specs.Gcd.{gcd}
 use Rattle.stack_algebra.proofs.Order.{◌≺◌, mul_pos}
@@ -22,11 +22,12 @@ use Rattle.stack_algebra.proofs.Over.{over, over-parts, over_own, add-common}
 use Rattle.stack_rational.specs.Stored.{Fits, SumFits}
 use Rattle.stack_rational.specs.declared.exact.Op.TheVariants.{Whole, Sum, Difference, Product, Quotient}
 use Rattle.stack_rational.specs.Order.{is_zero_whole, is_zero}
-use Rattle.stack_rational.specs.Passes.{IsWidth, is_within, fits, sum_fits, passes, common_denominator, left_term, right_term}
-use Rattle.stack_rational.specs.Laws.{AnswersFit, SmallFits, WholePassesAtWidest}
-use Rattle.stack_rational.proofs.Conjunctions.{not-false, left_of, right_of, both}
+use Rattle.stack_rational.specs.TooWide.{IsWidth, is_within, fraction_fits, sum_fits, is_too_wide, common_denominator}
+use Rattle.stack_rational.specs.TooWide.{left_term, right_term}
+use Rattle.stack_rational.specs.Laws.{AnswersFit, SmallFits, WholeIsTooWideAtWidest}
+use Rattle.stack_algebra.proofs.Conjunctions.{not-false, left_true, right_true, and_true}
 use Rattle.stack_rational.proofs.Crosswise.{exact-part, positive-part}
-use Rattle.stack_rational.proofs.Passing.{num_of, den_of}
+use Rattle.stack_rational.proofs.WideWholes.{num_of, den_of}
 use Rattle.stack_rational.proofs.ShortCuts.{plus_zero, plus_zero_fits}
 
 -- zero
@@ -88,38 +89,39 @@ quotient_not-zero x y h k = is_zero_whole-not (mul (inv y) x).num
     (not_nought x.num h) (sym (ordered_fractions.sign-mul (inv y) x) ∙ e))
 
 -- what fits, as a record and as a test
-pub Fits-of : (m : ℤ) (x : Fraction) → fits m x ≡ true → Fits m x
+pub Fits-of : (m : ℤ) (x : Fraction) → fraction_fits m x ≡ true → Fits m x
 Fits-of m x h = record {
-  num = leb-true (nat_abs x.num) (nat_abs m) (left_of _ _ h);
-  den = leb-true x.den (nat_abs m) (right_of _ _ h);
+  num = leb-true (nat_abs x.num) (nat_abs m) (left_true _ _ h);
+  den = leb-true x.den (nat_abs m) (right_true _ _ h);
 }
 
-pub fits-of : (m : ℤ) (x : Fraction) → Fits m x → fits m x ≡ true
-fits-of m x f = both _ _ (le-leb (nat_abs x.num) (nat_abs m) f.num) (le-leb x.den (nat_abs m) f.den)
+pub fits-of : (m : ℤ) (x : Fraction) → Fits m x → fraction_fits m x ≡ true
+fits-of m x f = and_true _ _ (le-leb (nat_abs x.num) (nat_abs m) f.num) (le-leb x.den (nat_abs m) f.den)
 
 pub sum_fits-of : (m : ℤ) (x y : Fraction) → SumFits m x y → sum_fits m x y ≡ true
-sum_fits-of m x y f = both _ _ (both _ _ (both _ _ (le-leb _ (nat_abs m) f.den) (le-leb _ (nat_abs m) f.left))
+sum_fits-of m x y f = and_true _ _ (and_true _ _ (and_true _ _ (le-leb _ (nat_abs m) f.den)
+    (le-leb _ (nat_abs m) f.left))
     (le-leb _ (nat_abs m) f.right)) (le-leb _ (nat_abs m) f.total)
 
 module _ (m : ℤ) (w : IsWidth m) where
-  pub zero_fits : fits m (of (pos 0)) ≡ true
+  pub zero_fits : fraction_fits m (of (pos 0)) ≡ true
   zero_fits = fits-of m (of (pos 0)) (record {
     num = omega (arith, ap nat_abs (num_of (pos 0)));
     den = omega (arith, ints, den_of (pos 0), w.some);
   })
 
   pub quotient_of_zero : (x y : Fraction) → is_zero x ≡ true →
-      (mul (inv y) x ≡ x) × (passes m Quotient x y ≡ false)
-  quotient_of_zero x y h = (e ∙ sym (zero_is x h), ap not (ap (fits m) e ∙ zero_fits))
+      (mul (inv y) x ≡ x) × (is_too_wide m Quotient x y ≡ false)
+  quotient_of_zero x y h = (e ∙ sym (zero_is x h), ap not (ap (fraction_fits m) e ∙ zero_fits))
     where
       e : mul (inv y) x ≡ of (pos 0)
       e = ap (mul (inv y)) (zero_is x h) ∙ mul_comm (inv y) (of (pos 0)) ∙ zero_mul (inv y)
 
-  pub product_of_zero : (x y : Fraction) → mul x y ≡ of (pos 0) → passes m Product x y ≡ false
-  product_of_zero x y e = ap not (ap (fits m) e ∙ zero_fits)
+  pub product_of_zero : (x y : Fraction) → mul x y ≡ of (pos 0) → is_too_wide m Product x y ≡ false
+  product_of_zero x y e = ap not (ap (fraction_fits m) e ∙ zero_fits)
 
-  pub difference_of_zero : (x y : Fraction) → fits m x ≡ true → y ≡ of (pos 0) →
-      (add x (neg y) ≡ x) × (passes m Difference x y ≡ false)
+  pub difference_of_zero : (x y : Fraction) → fraction_fits m x ≡ true → y ≡ of (pos 0) →
+      (add x (neg y) ≡ x) × (is_too_wide m Difference x y ≡ false)
   difference_of_zero x y f h = (
     sym (plus_zero x (neg y) none),
     ap not (sum_fits-of m x (neg y) (plus_zero_fits m x (neg y) (Fits-of m x f) none)),
@@ -131,18 +133,18 @@ module _ (m : ℤ) (w : IsWidth m) where
           ∙ ap opposite ordered_fractions.sign-zero))
 
   -- whole numbers
-  pub whole_answers : (n : ℤ) → passes m Whole (of n) (of n) ≡ false → fits m (of n) ≡ true
-  whole_answers n h = both _ _ (not-false _ h)
+  pub whole_answers : (n : ℤ) → is_too_wide m Whole (of n) (of n) ≡ false → fraction_fits m (of n) ≡ true
+  whole_answers n h = and_true _ _ (not-false _ h)
       (le-leb (of n).den (nat_abs m) (omega (arith, ints, den_of n, w.some)))
 
-  pub small_whole : (n : ℤ) → nat_abs n ≤ 1 → passes m Whole (of n) (of n) ≡ false
+  pub small_whole : (n : ℤ) → nat_abs n ≤ 1 → is_too_wide m Whole (of n) (of n) ≡ false
   small_whole n h = ap not (le-leb (nat_abs (of n).num) (nat_abs m)
       (omega (arith, ints, ap nat_abs (num_of n), w.some, h)))
 
-  pub whole_zero : passes m Whole (of (pos 0)) (of (pos 0)) ≡ false
+  pub whole_zero : is_too_wide m Whole (of (pos 0)) (of (pos 0)) ≡ false
   whole_zero = small_whole (pos 0) (omega arith)
 
-  pub minus_one-fits : passes m Whole (of (negsuc 0)) (of (negsuc 0)) ≡ false
+  pub minus_one-fits : is_too_wide m Whole (of (negsuc 0)) (of (negsuc 0)) ≡ false
   minus_one-fits = small_whole (negsuc 0) (omega arith)
 
 pub small_fits : SmallFits
@@ -155,7 +157,7 @@ small_fits m w = record {
 }
 
 -- the reduced fraction is no greater than its parts
-over_fits : (m z d : ℤ) → pos 0 ≺ d → is_within m z ≡ true → is_within m d ≡ true → fits m (over z d) ≡ true
+over_fits : (m z d : ℤ) → pos 0 ≺ d → is_within m z ≡ true → is_within m d ≡ true → fraction_fits m (over z d) ≡ true
 over_fits m z d l hz hd = fits-of m (over z d) (record {
   num = omega (
     arith,
@@ -210,16 +212,16 @@ sum_is x y = (λ i. add (own x b eb i) (own y e ee i)) ∙ add-common x.num b y.
     turned : (g b e : ℤ) → g *ℤ b *ℤ e ≡ b *ℤ (g *ℤ e)
     turned g b e = simp expand (omega (arith, sums))
 
-sum_answers : (m : ℤ) (x y : Fraction) → sum_fits m x y ≡ true → fits m (add x y) ≡ true
-sum_answers m x y h = ap (fits m) (sum_is x y)
-    ∙ over_fits m (left_term x y +ℤ right_term x y) (common_denominator x y) positive (right_of _ _ h)
-    (left_of _ _ (left_of _ _ (left_of _ _ h)))
+sum_answers : (m : ℤ) (x y : Fraction) → sum_fits m x y ≡ true → fraction_fits m (add x y) ≡ true
+sum_answers m x y h = ap (fraction_fits m) (sum_is x y)
+    ∙ over_fits m (left_term x y +ℤ right_term x y) (common_denominator x y) positive (right_true _ _ h)
+    (left_true _ _ (left_true _ _ (left_true _ _ h)))
   where
     positive : pos 0 ≺ common_denominator x y
     positive = mul_pos (pos (x.den / gcd x.den y.den)) (pos y.den)
         (positive-part (pos x.den) (gcd x.den y.den) (den_pos x) (gcd-left x.den y.den)) (den_pos y)
 
--- the answer of an operation that doesn't pass fits
+-- the answer of an operation that isn't too wide fits
 pub answer_fits : AnswersFit
 answer_fits m Whole x y f h = f
 answer_fits m Sum x y f h = sum_answers m x y (not-false _ h)
@@ -228,8 +230,8 @@ answer_fits m Product x y f h = not-false _ h
 answer_fits m Quotient x y f h = not-false _ h
 
 -- at 128 bits: at most the greatest number, or below the next
-pub whole_passes_at_widest : WholePassesAtWidest
-whole_passes_at_widest n = ap (λ z. not (nat_le (nat_abs z) greatest_number)) (num_of n) ∙ ap not (same (nat_abs n))
+pub whole_too_wide_at_widest : WholeIsTooWideAtWidest
+whole_too_wide_at_widest n = ap (λ z. not (nat_le (nat_abs z) greatest_number)) (num_of n) ∙ ap not (same (nat_abs n))
   where
     same : (k : ℕ) → nat_le k greatest_number ≡ nat_lt k (2 ^ 127)
     same k = grind arith

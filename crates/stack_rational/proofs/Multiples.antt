@@ -2,7 +2,8 @@
 use mathlib.Core.Path.{◌≡◌, sym, ap, subst, ◌∙◌}
 use mathlib.Core.List.{List, [], ◌∷◌, ◌++◌}
 use Prim.Native.Nat.{ℕ, zero, suc, ◌+◌, ◌*◌, ◌/◌, ◌<◌, ◌∣◌}
-use native.Mathlib.Nat.{dvd_trans, dvd_antisymm, dvd-mul_left, dvd-mul_right, mul-div_cancel', mul-dvd-mul_left, dvd_of_mul-dvd-mul_left, one-dvd}
+use native.Mathlib.Nat.{dvd_trans, dvd_antisymm, dvd-mul_left, dvd-mul_right, mul-div_cancel', mul-dvd-mul_left}
+use native.Mathlib.Nat.{dvd_of_mul-dvd-mul_left, one-dvd}
 use native.Mathlib.Omega.{arith}
 use lib.IntN.{ℤ, pos, negsuc, nat_abs, ◌*ℤ◌}
 use lib.Signed.{quot_z}
@@ -18,7 +19,8 @@ use Rattle.stack_algebra.specs.Fraction.{Fraction}
 use Rattle.stack_algebra.proofs.Integers.{expand, sums}
 use Rattle.stack_algebra.proofs.Fractions.{of, of-is, mul-is, is_self, same_values}
 use Rattle.stack_algebra.proofs.CommonDivisor.{gcd-is, gcd-left, gcd-right, gcd-scaled, gcd-pos}
-use Rattle.stack_rational.specs.CommonScale.{common_multiple, scale_of, times_scale, ScaleIsLeastMultiple, TimesScaleIsWhole}
+use Rattle.stack_rational.specs.CommonScale.{common_multiple, scale_of, times_scale, ScaleIsLeastMultiple}
+use Rattle.stack_rational.specs.CommonScale.{TimesScaleIsWhole}
 
 -- two numbers divide their common multiple
 pub divides_left : (a b : ℕ) → a ∣ common_multiple a b

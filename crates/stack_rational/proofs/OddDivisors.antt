@@ -1,7 +1,9 @@
 -- Divisors of odd numbers, and the greatest common divisor with the factors of 2 taken out.
 use mathlib.Core.Path.{◌≡◌, refl, sym, ap, subst, subst₂, ◌∙◌}
 use Prim.Native.Nat.{ℕ, zero, suc, ◌+◌, ◌-◌, ◌*◌, ◌/◌, ◌%◌, ◌^◌, ◌<◌, ◌≤◌, ◌∣◌}
-use native.Mathlib.Nat.{dvd_refl, dvd_trans, dvd-one, dvd-mul_right, dvd-mul_right_of_dvd, dvd-add, dvd-add_iff_right, mod-eq-zero_of_dvd, le_of_dvd, mul-dvd-mul_right, mod-add-div, eq-zero_of_zero-dvd, mod-eq_of_lt}
+use native.Mathlib.Nat.{dvd_refl, dvd_trans, dvd-one, dvd-mul_right, dvd-mul_right_of_dvd, dvd-add, dvd-add_iff_right}
+use native.Mathlib.Nat.{mod-eq-zero_of_dvd, le_of_dvd, mul-dvd-mul_right, mod-add-div, eq-zero_of_zero-dvd}
+use native.Mathlib.Nat.{mod-eq_of_lt}
 use native.Mathlib.Omega.{arith}
 use Rattle.std.proofs.Math.Nat.{pow-suc, pow-succ', div-div-eq-div-mul}
 use Rattle.std.proofs.lemmas.Nat.{pow-add}

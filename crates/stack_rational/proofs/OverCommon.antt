@@ -15,11 +15,11 @@ use Rattle.stack_algebra.specs.Fraction.{Fraction}
 use Rattle.stack_algebra.proofs.CommonDivisor.{gcd-is}
 use Rattle.stack_algebra.proofs.Fractions.{add, add-is, same_values}
 use Rattle.stack_algebra.proofs.Over.{over, over-is, over-lowest, over_own, over-quotients, lowest-over, IsLowest}
-use Rattle.stack_rational.specs.Stored.{IsStored, IsShared, Parts, Within, CommonFits, SumFits}
+use Rattle.stack_rational.specs.Stored.{IsStored, IsShared, IsInParts, Within, CommonFits, SumFits}
 use Rattle.stack_rational.proofs.Crosswise.{parts_of, exact-part, positive-part}
 use Rattle.stack_rational.proofs.SharedDivisors.{shared_divides}
 
-pub lowest : (m n d g p q : ℤ) → pos 0 ≺ d → IsShared m n d g p q → Parts (over n d) p q
+pub lowest : (m n d g p q : ℤ) → pos 0 ≺ d → IsShared m n d g p q → IsInParts (over n d) p q
 lowest m n (pos d) (pos g) p q hd s =
     let k = over-quotients n d g (omega (arith, ints, hd)) s.gcd in
     let num : (over n (pos d)).num ≡ p = k.0 ∙ sym s.left in
@@ -113,10 +113,10 @@ sum {m} {a} {b} {c} {d} {g = pos g} {p} {q} {x} {y} s t u v h = sum_of m a b c d
 sum {m} {a} {b} {c} {d} {g = negsuc g} {p} {q} {x} {y} s t u v h = absurd (let k = h.positive in omega (arith, ints))
 
 -- what the code makes of the two terms l and r
-pub total-passes : {m a b c d g p q l r : ℤ} {x y : Fraction} → Sum m a b c d g p q x y →
+pub total-too_wide : {m a b c d g p q l r : ℤ} {x y : Fraction} → Sum m a b c d g p q x y →
     Within m (a *ℤ q) × (l ≡ a *ℤ q) → Within m (c *ℤ p) × (r ≡ c *ℤ p) → ¬ (Within m (l +ℤ r)) →
     ¬ (SumFits m x y)
-total-passes {m} {a} {b} {c} {d} {g} {p} {q} {l} {r} {x} {y} s el er h f = h
+total-too_wide {m} {a} {b} {c} {d} {g} {p} {q} {l} {r} {x} {y} s el er h f = h
     (subst (Within m) (λ i. sym el.1 i +ℤ sym er.1 i) (s.at f).total)
 
 pub sum-fits : {m a b c d g p q l r n e : ℤ} {x y : Fraction} → Sum m a b c d g p q x y →

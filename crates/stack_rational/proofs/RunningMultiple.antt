@@ -16,10 +16,10 @@ use Rattle.stack_algebra.specs.Fraction.{Fraction}
 use Rattle.stack_rational.specs.Stored.{Within}
 use Rattle.stack_rational.specs.Laws.{widest}
 use Rattle.stack_whole.specs.Whole.{greatest_number}
-use Rattle.stack_rational.specs.CommonScale.{common_multiple, scale_of, IsFirstPassing}
+use Rattle.stack_rational.specs.CommonScale.{common_multiple, scale_of, IsFirstTooWide}
 use Rattle.stack_rational.proofs.Multiples.{scale_of-more, scale_positive}
 
--- s is the scale of the first i items, and none before passed
+-- s is the scale of the first i items, and none before was too wide
 pub record IsRunning (xs : List Fraction) (i : ℕ) (s : ℤ) : Type 0 where
   pub is : s ≡ pos (scale_of (take i xs))
   pub fits : (k : ℕ) → k ≤ i → scale_of (take k xs) ≤ greatest_number
@@ -60,10 +60,10 @@ running_more xs i d s n l is r w en = record {
 
 pub running_out : (xs : List Fraction) (i : ℕ) (d : Fraction) (s : ℤ) → i < length xs → d ≡ get_or xs i d →
     IsRunning xs i s →
-    ¬ (Within widest (pos (common_multiple (nat_abs s) d.den))) → IsFirstPassing xs i
+    ¬ (Within widest (pos (common_multiple (nat_abs s) d.den))) → IsFirstTooWide xs i
 running_out xs i d s l is r w = record {
   below = l;
-  passes = omega (arith, w, next_is xs i d s l is r);
+  is_too_wide = omega (arith, w, next_is xs i d s l is r);
   fits_before = r.fits;
 }
 

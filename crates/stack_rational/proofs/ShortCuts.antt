@@ -12,7 +12,7 @@ use Rattle.stack_algebra.proofs.CommonDivisor.{dvd-gcd, gcd-left, gcd-right}
 use Rattle.stack_algebra.proofs.Fractions.{of, of-is, add, add-is, mul, mul-is, is_self, same_values}
 use Rattle.stack_algebra.proofs.Over.{over, over-is}
 use Rattle.stack_rational.specs.Stored.{Within, Fits, IsStored, CommonFits, SumFits}
-use Rattle.stack_rational.proofs.Passing.{num_of, den_of}
+use Rattle.stack_rational.proofs.WideWholes.{num_of, den_of}
 use Rattle.stack_rational.proofs.Crosswise.{stored-num, stored-den, stored-fits}
 
 -- 0 has the denominator 1
@@ -145,8 +145,8 @@ same_den_fits m x y f h e w = common_at m x y 1 1 (same_part x y e).0 (same_part
       total = within_by m _ (x.num +ℤ y.num) (λ i. one_right x.num i +ℤ one_right y.num i) w;
     })
 
-pub same_den_passes : (m : ℤ) (x y : Fraction) → x.den ≡ y.den → ¬ (Within m (x.num +ℤ y.num)) → ¬ (SumFits m x y)
-same_den_passes m x y e h f = h (subst (λ t. Within m t) (λ i. one_right x.num i +ℤ one_right y.num i)
+pub same_den_too_wide : (m : ℤ) (x y : Fraction) → x.den ≡ y.den → ¬ (Within m (x.num +ℤ y.num)) → ¬ (SumFits m x y)
+same_den_too_wide m x y e h f = h (subst (λ t. Within m t) (λ i. one_right x.num i +ℤ one_right y.num i)
     (subst₂ (λ (u v : ℕ). Within m (x.num *ℤ pos v +ℤ y.num *ℤ pos u)) (sym (same_part x y e).0)
     (sym (same_part x y e).1) f.total))
 
@@ -171,7 +171,7 @@ stored_sum_fits m a b c d x y s t e f h w = same_den_fits m x y (stored-fits m a
     (stored-fits m c d y t f) (stored_same m a b c d x y s t e f h)
     (subst (Within m) (λ j. stored-num m a b x s e j +ℤ stored-num m c d y t f j) w)
 
-pub stored_sum_passes : (m a b c d : ℤ) (x y : Fraction) → IsStored m a b → IsStored m c d → over a b ≡ x →
+pub stored_sum_too_wide : (m a b c d : ℤ) (x y : Fraction) → IsStored m a b → IsStored m c d → over a b ≡ x →
     over c d ≡ y → b ≡ d → ¬ (Within m (a +ℤ c)) → ¬ (SumFits m x y)
-stored_sum_passes m a b c d x y s t e f h w = same_den_passes m x y (stored_same m a b c d x y s t e f h)
+stored_sum_too_wide m a b c d x y s t e f h w = same_den_too_wide m x y (stored_same m a b c d x y s t e f h)
     (λ k. w (subst (Within m) (sym (λ j. stored-num m a b x s e j +ℤ stored-num m c d y t f j)) k))

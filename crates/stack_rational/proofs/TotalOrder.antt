@@ -12,25 +12,12 @@ use Rattle.stack_algebra.specs.IntegerOrder.{◌≺◌}
 use Rattle.stack_algebra.specs.Fraction.{Fraction, IsOver}
 use Rattle.stack_algebra.proofs.Integers.{expand, sums}
 use Rattle.stack_algebra.proofs.Order.{mul_pos}
-use Rattle.stack_algebra.proofs.CrossProducts.{cancel}
+use Rattle.stack_algebra.proofs.CrossProducts.{cancel, positive_cancel}
 use Rattle.stack_algebra.proofs.Fractions.{add, neg, of, add-is, neg_own, is_self, same_from_cross, den_pos}
 use Rattle.stack_rational.specs.Order.{order_of}
 use Rattle.stack_rational.specs.Laws.{OrderLaws}
 use Rattle.stack_rational.proofs.ByWholeParts.{cmp-less, cmp-equal, cmp-greater}
-use Rattle.stack_rational.proofs.Passing.{num_of, den_of}
-
--- a positive factor keeps the sign
-pos_cancel : (d z : ℤ) → pos 0 ≺ d → pos 0 ≺ d *ℤ z → pos 0 ≺ z
-pos_cancel d (pos zero) hd h = absurd (omega (arith, sums, zero_right d, h))
-  where
-    zero_right : (d : ℤ) → d *ℤ pos 0 ≡ pos 0
-    zero_right d = simp expand (omega (arith, sums))
-pos_cancel d (pos (suc n)) hd h = omega (arith, ints)
-pos_cancel d (negsuc n) hd h = absurd
-    (omega (arith, sums, down d n, mul_pos d (pos (suc n)) hd (omega (arith, ints)), h))
-  where
-    down : (d : ℤ) (n : _) → d *ℤ negsuc n ≡ neg_ℤ (d *ℤ pos (suc n))
-    down d n = simp expand (omega (arith, sums))
+use Rattle.stack_rational.proofs.WideWholes.{num_of, den_of}
 
 -- a/b < c/d < e/f
 between : (a b c d e f : ℤ) → pos 0 ≺ b → pos 0 ≺ d → pos 0 ≺ f → a *ℤ d ≺ c *ℤ b → c *ℤ f ≺ e *ℤ d →
@@ -40,7 +27,7 @@ between a b c d e f hb hd hf h k =
     let v = mul_pos b (e *ℤ d -ℤ c *ℤ f) hb (omega (arith, sums, k)) in
     let w : pos 0 ≺ d *ℤ (e *ℤ b -ℤ a *ℤ f) = simp expand
     (omega (arith, sums, simp expand at u, simp expand at v)) in
-    omega (arith, sums, pos_cancel d (e *ℤ b -ℤ a *ℤ f) hd w)
+    omega (arith, sums, positive_cancel d (e *ℤ b -ℤ a *ℤ f) hd w)
 
 -- the sign of a difference over a common denominator
 module _ (a b c d n e : ℤ) (hp : pos 0 ≺ b *ℤ d) (he : pos 0 ≺ e)
@@ -50,14 +37,14 @@ module _ (a b c d n e : ℤ) (hp : pos 0 ≺ b *ℤ d) (he : pos 0 ≺ e)
       let u = mul_pos e (c *ℤ b -ℤ a *ℤ d) he (omega (arith, sums, h)) in
       let w : pos 0 ≺ b *ℤ d *ℤ neg_ℤ n = simp expand
       (omega (arith, sums, simp expand at u, simp expand at cross)) in
-      omega (arith, sums, pos_cancel (b *ℤ d) (neg_ℤ n) hp w)
+      omega (arith, sums, positive_cancel (b *ℤ d) (neg_ℤ n) hp w)
 
   above : c *ℤ b ≺ a *ℤ d → pos 0 ≺ n
   above h =
       let u = mul_pos e (a *ℤ d -ℤ c *ℤ b) he (omega (arith, sums, h)) in
       let w : pos 0 ≺ b *ℤ d *ℤ n = simp expand (omega (arith, sums, simp expand at u, simp expand at cross))
       in
-      pos_cancel (b *ℤ d) n hp w
+      positive_cancel (b *ℤ d) n hp w
 
   level : a *ℤ d ≡ c *ℤ b → n ≡ pos 0
   level h = cancel (b *ℤ d) n (pos 0) hp

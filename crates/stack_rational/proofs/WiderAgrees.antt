@@ -10,34 +10,34 @@ use Rattle.stack_algebra.proofs.Integers.{expand, sums}
 use Rattle.stack_algebra.proofs.Fractions.{of, neg, mul, mul-is, of-is, is_self, same_values}
 use Rattle.stack_algebra.proofs.FractionField.{inv, inv-is}
 use Rattle.stack_rational.specs.declared.exact.Op.TheVariants.{Whole, Sum, Difference, Product, Quotient}
-use Rattle.stack_rational.specs.Passes.{is_within, fits, sum_fits, common_denominator, left_term, right_term}
-use Rattle.stack_rational.specs.Laws.{WiderNeverPasses, PartsMakeTheNumber, widest}
-use Rattle.stack_rational.proofs.Conjunctions.{not-false, left_of, right_of, both}
-use Rattle.stack_rational.proofs.Passing.{num_of, den_of, whole_fits}
+use Rattle.stack_rational.specs.TooWide.{is_within, fraction_fits, sum_fits, common_denominator, left_term, right_term}
+use Rattle.stack_rational.specs.Laws.{WiderIsNeverTooWide, PartsMakeTheNumber, widest}
+use Rattle.stack_algebra.proofs.Conjunctions.{not-false, left_true, right_true, and_true}
+use Rattle.stack_rational.proofs.WideWholes.{num_of, den_of, whole_fits}
 
 module _ (m n : ℤ) (wider : nat_abs m ≤ nat_abs n) where
   within : (z : ℤ) → is_within m z ≡ true → is_within n z ≡ true
   within z h = le-leb (nat_abs z) (nat_abs n) (omega (arith, wider, leb-true (nat_abs z) (nat_abs m) h))
 
-  pub fits_wider : (x : Fraction) → fits m x ≡ true → fits n x ≡ true
-  fits_wider x h = both _ _ (within x.num (left_of _ _ h))
-      (le-leb x.den (nat_abs n) (omega (arith, wider, leb-true x.den (nat_abs m) (right_of _ _ h))))
+  pub fits_wider : (x : Fraction) → fraction_fits m x ≡ true → fraction_fits n x ≡ true
+  fits_wider x h = and_true _ _ (within x.num (left_true _ _ h))
+      (le-leb x.den (nat_abs n) (omega (arith, wider, leb-true x.den (nat_abs m) (right_true _ _ h))))
 
   sum_fits_wider : (x y : Fraction) → sum_fits m x y ≡ true → sum_fits n x y ≡ true
   sum_fits_wider x y h =
-      let three = left_of _ _ h in
-      let two = left_of _ _ three in
-      both _ _ (both _ _ (both _ _ (within (common_denominator x y) (left_of _ _ two))
-      (within (left_term x y) (right_of _ _ two)))
-      (within (right_term x y) (right_of _ _ three)))
-      (within (left_term x y +ℤ right_term x y) (right_of _ _ h))
+      let three = left_true _ _ h in
+      let two = left_true _ _ three in
+      and_true _ _ (and_true _ _ (and_true _ _ (within (common_denominator x y) (left_true _ _ two))
+      (within (left_term x y) (right_true _ _ two)))
+      (within (right_term x y) (right_true _ _ three)))
+      (within (left_term x y +ℤ right_term x y) (right_true _ _ h))
 
-pub wider_never_passes : WiderNeverPasses
-wider_never_passes m n Whole x y w h = ap not (within m n w x.num (not-false _ h))
-wider_never_passes m n Sum x y w h = ap not (sum_fits_wider m n w x y (not-false _ h))
-wider_never_passes m n Difference x y w h = ap not (sum_fits_wider m n w x (neg y) (not-false _ h))
-wider_never_passes m n Product x y w h = ap not (fits_wider m n w (mul x y) (not-false _ h))
-wider_never_passes m n Quotient x y w h = ap not (fits_wider m n w (mul (inv y) x) (not-false _ h))
+pub wider_is_never_too_wide : WiderIsNeverTooWide
+wider_is_never_too_wide m n Whole x y w h = ap not (within m n w x.num (not-false _ h))
+wider_is_never_too_wide m n Sum x y w h = ap not (sum_fits_wider m n w x y (not-false _ h))
+wider_is_never_too_wide m n Difference x y w h = ap not (sum_fits_wider m n w x (neg y) (not-false _ h))
+wider_is_never_too_wide m n Product x y w h = ap not (fits_wider m n w (mul x y) (not-false _ h))
+wider_is_never_too_wide m n Quotient x y w h = ap not (fits_wider m n w (mul (inv y) x) (not-false _ h))
 
 -- one over a positive whole number
 inv_of-is : (d : ℕ) → 0 < d → IsOver (inv (of (pos d))) (pos 1) (pos d)
@@ -58,9 +58,9 @@ parts_make x = same_values _ _ _ _ _ _ (mul-is _ _ _ _ _ _ (inv_of-is x.den x.po
 pub parts_make_the_number : PartsMakeTheNumber
 parts_make_the_number m x w h = record {
   num = whole_fits widest x.num x.num refl
-      (omega (arith, w, leb-true (nat_abs x.num) (nat_abs m) (left_of _ _ h)));
+      (omega (arith, w, leb-true (nat_abs x.num) (nat_abs m) (left_true _ _ h)));
   den = whole_fits widest (pos x.den) (pos x.den) refl
-      (omega (arith, w, leb-true x.den (nat_abs m) (right_of _ _ h)));
-  quotient = ap not (ap (fits widest) (parts_make x) ∙ fits_wider m widest w x h);
+      (omega (arith, w, leb-true x.den (nat_abs m) (right_true _ _ h)));
+  quotient = ap not (ap (fraction_fits widest) (parts_make x) ∙ fits_wider m widest w x h);
   value = parts_make x;
 }

@@ -20,10 +20,10 @@ scale_of (x ∷ xs) = common_multiple x.den (scale_of xs)
 abbrev pub times_scale : ℕ → Fraction → ℤ
 times_scale S x = x.num *ℤ pos (S / x.den)
 
--- item i is the first at which the running multiple, that of the items up to it, passes
-pub record IsFirstPassing (xs : List Fraction) (i : ℕ) : Type 0 where
+-- item i is the first at which the running multiple, that of the items up to it, is too wide
+pub record IsFirstTooWide (xs : List Fraction) (i : ℕ) : Type 0 where
   pub below : i < length xs
-  pub passes : greatest_number < scale_of (take (i + 1) xs)
+  pub is_too_wide : greatest_number < scale_of (take (i + 1) xs)
   pub fits_before : (k : ℕ) → k ≤ i → scale_of (take k xs) ≤ greatest_number
 
 -- it is the least common multiple: each denominator divides it, and it divides each number that they all

@@ -8,12 +8,6 @@ use Rattle.stack_algebra.specs.Fraction.{Fraction}
 abbrev pub order_of : Fraction → Fraction → Ordering
 order_of x y = int_cmp (x.num *ℤ pos y.den) (y.num *ℤ pos x.den)
 
--- -1, 0 or 1
-abbrev pub sign_of_whole : ℤ → ℤ
-sign_of_whole (pos zero) = pos 0
-sign_of_whole (pos (suc n)) = pos 1
-sign_of_whole (negsuc n) = negsuc 0
-
 abbrev pub is_zero_whole : ℤ → Bool
 is_zero_whole (pos zero) = true
 is_zero_whole (pos (suc n)) = false

@@ -29,13 +29,13 @@ pub record IsHeld {T : Type 0} (m : ℤ) (value : T → ℤ) (back : ℤ → T) 
   pub num_back : back (value num) ≡ num
   pub den_back : back (value den) ≡ den
 
-pub held : {T : Type 0} (m : ℤ) (value : T → ℤ) (back : ℤ → T) (num den : T) →
+pub is_held : {T : Type 0} (m : ℤ) (value : T → ℤ) (back : ℤ → T) (num den : T) →
     ((x : T) → nat_abs (value x) ≤ nat_abs m → back (value x) ≡ x) → IsStored m (value num) (value den) →
     IsHeld m value back num den
-held m value back num den law s = record { stored = s; num_back = law num s.num; den_back = law den s.den }
+is_held m value back num den law s = record { stored = s; num_back = law num s.num; den_back = law den s.den }
 
 -- a fraction's parts n over d
-pub record Parts (x : Fraction) (n d : ℤ) : Type 0 where
+pub record IsInParts (x : Fraction) (n d : ℤ) : Type 0 where
   pub lowest : IsLowest n d
   pub value : over n d ≡ x
   pub num : x.num ≡ n

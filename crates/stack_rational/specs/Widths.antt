@@ -10,7 +10,7 @@ use Rattle.std.proofs.lemmas.Int.{fits_signed_from_abs}
 use Rattle.std.proofs.lemmas.Nat.{pow_pos}
 use Rattle.num_traits.specs.Ints.{signed-bits_of}
 use Rattle.std.proofs.lemmas.Int.{ints}
-use Rattle.stack_rational.specs.Passes.{IsWidth}
+use Rattle.stack_rational.specs.TooWide.{IsWidth}
 use Rattle.stack_rational.specs.Back.{from_integer, same_integer}
 
 pub signed-keeps : (w : Width) (z : ℤ) → nat_abs z ≤ 2 ^ hbits w - 1 → SFits w z

@@ -15,23 +15,24 @@ pub enum Op {
     Quotient,
 }
 
-/// That the answer of an operation would pass the greatest value.
+/// That the answer of an operation would be more than the greatest value.
 #[derive(Clone, Copy, Debug, PartialEq, Eq)]
-pub struct Wide {
+pub struct OpWide {
     /// The call that was refused.
     pub op: Op,
 }
 
 /// Exact numbers of one width: fractions in lowest terms whose numerator's size and denominator are at most `MAX`.
 ///
-/// Each call gives the exact value, or is refused exactly where `passes` holds. No call takes memory.
+/// Each call gives the exact value, or is refused exactly where `is_too_wide` holds. No call takes memory.
 pub trait Exact: Copy {
     ghost use Rattle.std.specs.Prelude.{◌≡◌, ◌≢◌, ℤ, pos, true, false, IfOk, IfErr};
     ghost use Rattle.stack_algebra.specs.Fraction.{Fraction};
     ghost use Rattle.stack_algebra.proofs.Fractions.{of};
     ghost use Rattle.stack_rational.specs.declared.exact.Op.TheVariants as op;
-    ghost use Rattle.stack_rational.specs.Passes.{IsWidth, fits, passes, value_of};
-    ghost use Rattle.stack_rational.specs.Order.{order_of, sign_of_whole, is_zero};
+    ghost use Rattle.stack_rational.specs.TooWide.{IsWidth, fraction_fits, is_too_wide, op_value};
+    ghost use Rattle.stack_algebra.specs.IntegerOrder.{signum};
+    ghost use Rattle.stack_rational.specs.Order.{order_of, is_zero};
 
     // The value.
     ghost exact: { Self → Fraction };
@@ -49,41 +50,41 @@ pub trait Exact: Copy {
     fn one() -> Self
         ensures { exact result ≡ of (pos 1) };
 
-    /// A whole number. Refused exactly where its size passes `MAX`.
-    fn from_whole(n: i128) -> Result<Self, Wide>
+    /// A whole number. Refused exactly where its size is more than `MAX`.
+    fn from_whole(n: i128) -> Result<Self, OpWide>
         ensures ok { IfOk result (λ r. exact r ≡ of n) }
-        ensures fits { IfOk result (λ r. passes MAX op.Whole (of n) (of n) ≡ false) }
-        ensures wide { IfErr result (λ e. passes MAX op.Whole (of n) (of n) ≡ true) }
+        ensures fits { IfOk result (λ r. is_too_wide MAX op.Whole (of n) (of n) ≡ false) }
+        ensures wide { IfErr result (λ e. is_too_wide MAX op.Whole (of n) (of n) ≡ true) }
         ensures named { IfErr result (λ e. e.op ≡ op.Whole) };
 
     /// The sum. Refused exactly where, over the least common denominator, that denominator, either term or the
-    /// result, before it is reduced, passes `MAX`.
-    fn sum(self, other: Self) -> Result<Self, Wide>
-        ensures ok { IfOk result (λ r. exact r ≡ value_of op.Sum (exact self) (exact other)) }
-        ensures fits { IfOk result (λ r. passes MAX op.Sum (exact self) (exact other) ≡ false) }
-        ensures wide { IfErr result (λ e. passes MAX op.Sum (exact self) (exact other) ≡ true) }
+    /// result, before it is reduced, is more than `MAX`.
+    fn sum(self, other: Self) -> Result<Self, OpWide>
+        ensures ok { IfOk result (λ r. exact r ≡ op_value op.Sum (exact self) (exact other)) }
+        ensures fits { IfOk result (λ r. is_too_wide MAX op.Sum (exact self) (exact other) ≡ false) }
+        ensures wide { IfErr result (λ e. is_too_wide MAX op.Sum (exact self) (exact other) ≡ true) }
         ensures named { IfErr result (λ e. e.op ≡ op.Sum) };
 
     /// The difference. Refused as the sum with the other sign.
-    fn difference(self, other: Self) -> Result<Self, Wide>
-        ensures ok { IfOk result (λ r. exact r ≡ value_of op.Difference (exact self) (exact other)) }
-        ensures fits { IfOk result (λ r. passes MAX op.Difference (exact self) (exact other) ≡ false) }
-        ensures wide { IfErr result (λ e. passes MAX op.Difference (exact self) (exact other) ≡ true) }
+    fn difference(self, other: Self) -> Result<Self, OpWide>
+        ensures ok { IfOk result (λ r. exact r ≡ op_value op.Difference (exact self) (exact other)) }
+        ensures fits { IfOk result (λ r. is_too_wide MAX op.Difference (exact self) (exact other) ≡ false) }
+        ensures wide { IfErr result (λ e. is_too_wide MAX op.Difference (exact self) (exact other) ≡ true) }
         ensures named { IfErr result (λ e. e.op ≡ op.Difference) };
 
-    /// The product. Refused exactly where its lowest terms pass `MAX`.
-    fn product(self, other: Self) -> Result<Self, Wide>
-        ensures ok { IfOk result (λ r. exact r ≡ value_of op.Product (exact self) (exact other)) }
-        ensures fits { IfOk result (λ r. passes MAX op.Product (exact self) (exact other) ≡ false) }
-        ensures wide { IfErr result (λ e. passes MAX op.Product (exact self) (exact other) ≡ true) }
+    /// The product. Refused exactly where its lowest terms are more than `MAX`.
+    fn product(self, other: Self) -> Result<Self, OpWide>
+        ensures ok { IfOk result (λ r. exact r ≡ op_value op.Product (exact self) (exact other)) }
+        ensures fits { IfOk result (λ r. is_too_wide MAX op.Product (exact self) (exact other) ≡ false) }
+        ensures wide { IfErr result (λ e. is_too_wide MAX op.Product (exact self) (exact other) ≡ true) }
         ensures named { IfErr result (λ e. e.op ≡ op.Product) };
 
-    /// The quotient by a number that isn't 0. Refused exactly where its lowest terms pass `MAX`.
-    fn quotient(self, other: Self) -> Result<Self, Wide>
+    /// The quotient by a number that isn't 0. Refused exactly where its lowest terms are more than `MAX`.
+    fn quotient(self, other: Self) -> Result<Self, OpWide>
         requires { (exact other).num ≢ pos 0 }
-        ensures ok { IfOk result (λ r. exact r ≡ value_of op.Quotient (exact self) (exact other)) }
-        ensures fits { IfOk result (λ r. passes MAX op.Quotient (exact self) (exact other) ≡ false) }
-        ensures wide { IfErr result (λ e. passes MAX op.Quotient (exact self) (exact other) ≡ true) }
+        ensures ok { IfOk result (λ r. exact r ≡ op_value op.Quotient (exact self) (exact other)) }
+        ensures fits { IfOk result (λ r. is_too_wide MAX op.Quotient (exact self) (exact other) ≡ false) }
+        ensures wide { IfErr result (λ e. is_too_wide MAX op.Quotient (exact self) (exact other) ≡ true) }
         ensures named { IfErr result (λ e. e.op ≡ op.Quotient) };
 
     /// The order of the values. Never refused.
@@ -96,13 +97,13 @@ pub trait Exact: Copy {
 
     /// -1, 0 or 1.
     fn sign(self) -> i32
-        ensures { result ≡ sign_of_whole (exact self).num };
+        ensures { result ≡ signum (exact self).num };
 
     /// The numerator and the denominator, in lowest terms.
     fn parts(self) -> (i128, i128)
         ensures num { result.0 ≡ (exact self).num }
         ensures den { result.1 ≡ pos (exact self).den }
-        ensures fits { fits MAX (exact self) ≡ true };
+        ensures fits { fraction_fits MAX (exact self) ≡ true };
 
     // The greatest value lies between 1 and that of 128 bits.
     ghost max_law: { IsWidth MAX };
@@ -127,38 +128,38 @@ impl<T: Integer> Exact for Frac<T> {
         Frac::unit()
     }
 
-    fn from_whole(n: i128) -> Result<Self, Wide> {
+    fn from_whole(n: i128) -> Result<Self, OpWide> {
         match Frac::whole(n) {
             Ok(x) => Ok(x),
-            Err(_) => Err(Wide { op: Op::Whole }),
+            Err(_) => Err(OpWide { op: Op::Whole }),
         }
     }
 
-    fn sum(self, other: Self) -> Result<Self, Wide> {
+    fn sum(self, other: Self) -> Result<Self, OpWide> {
         match self.plus(other) {
             Ok(x) => Ok(x),
-            Err(_) => Err(Wide { op: Op::Sum }),
+            Err(_) => Err(OpWide { op: Op::Sum }),
         }
     }
 
-    fn difference(self, other: Self) -> Result<Self, Wide> {
+    fn difference(self, other: Self) -> Result<Self, OpWide> {
         match self.less(other) {
             Ok(x) => Ok(x),
-            Err(_) => Err(Wide { op: Op::Difference }),
+            Err(_) => Err(OpWide { op: Op::Difference }),
         }
     }
 
-    fn product(self, other: Self) -> Result<Self, Wide> {
+    fn product(self, other: Self) -> Result<Self, OpWide> {
         match self.times(other) {
             Ok(x) => Ok(x),
-            Err(_) => Err(Wide { op: Op::Product }),
+            Err(_) => Err(OpWide { op: Op::Product }),
         }
     }
 
-    fn quotient(self, other: Self) -> Result<Self, Wide> {
+    fn quotient(self, other: Self) -> Result<Self, OpWide> {
         match self.by(other) {
             Ok(x) => Ok(x),
-            Err(_) => Err(Wide { op: Op::Quotient }),
+            Err(_) => Err(OpWide { op: Op::Quotient }),
         }
     }
 

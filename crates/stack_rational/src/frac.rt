@@ -8,10 +8,11 @@ ghost use Rattle.stack_algebra.proofs.Over.{over};
 ghost use Rattle.stack_rational.specs.Stored.{Fits, IsShared, IsStored, SumFits, Within};
 ghost use Rattle.num_traits.specs.Laws.{Checks};
 ghost use Rattle.stack_rational.specs.CommonScale.{common_multiple, times_scale};
-ghost use Rattle.stack_rational.specs.Order.{order_of, sign_of_whole, is_zero_whole};
+ghost use Rattle.stack_algebra.specs.IntegerOrder.{signum};
+ghost use Rattle.stack_rational.specs.Order.{order_of, is_zero_whole};
 
+use crate::common_divisor::divisor;
 use crate::comparing::order_of_parts;
-use crate::divisor::divisor;
 use crate::integer::{Integer, as_wide, is_minus, opposite, part, plus, times, unless_least};
 use std::alloc::AllocError;
 use std::cmp::Ordering;
@@ -63,9 +64,9 @@ impl<T: Integer> Clone for Frac<T> {
     }
 }
 
-/// That an answer would pass the greatest value.
+/// That an answer would be more than the greatest value.
 #[derive(Clone, Copy, Debug, PartialEq, Eq, Drop)]
-pub struct Passed;
+pub struct PartWide;
 
 /// The fraction with these parts, which are in lowest terms.
 fn made<T: Integer>(num: T, den: T) -> Frac<T>
@@ -126,20 +127,20 @@ impl<T: Integer> Frac<T> {
         made(T::one(), T::one())
     }
 
-    /// A whole number, refused exactly where its size passes the greatest value.
-    pub fn whole(n: i128) -> Result<Self, Passed>
+    /// A whole number, refused exactly where its size is more than the greatest value.
+    pub fn whole(n: i128) -> Result<Self, PartWide>
         ensures ok { IfOk result (λ r. r ≡ of n) }
         ensures fits { IfOk result (λ r. Within T.MAX n) }
         ensures err { OnErr result (¬ (Within T.MAX n)) }
     {
         match unless_least(T::from_i128(n)) {
             Some(num) => Ok(made(num, T::one())),
-            None => Err(Passed),
+            None => Err(PartWide),
         }
     }
 
-    /// The product, refused exactly where its lowest terms pass the greatest value.
-    pub fn times(self, other: Self) -> Result<Self, Passed>
+    /// The product, refused exactly where its lowest terms are more than the greatest value.
+    pub fn times(self, other: Self) -> Result<Self, PartWide>
         ensures ok { IfOk result (λ r. r ≡ mul self other) }
         ensures fits { IfOk result (λ r. Fits T.MAX (mul self other)) }
         ensures err { OnErr result (¬ (Fits T.MAX (mul self other))) }
@@ -155,7 +156,7 @@ impl<T: Integer> Frac<T> {
 
     /// The same by parts that are divided crosswise: a/b * c/d = (a/g)(c/h) / ((b/h)(d/g)), with g = gcd(a, d) and
     /// h = gcd(c, b).
-    fn times_crosswise(self, other: Self) -> Result<Self, Passed>
+    fn times_crosswise(self, other: Self) -> Result<Self, PartWide>
         ensures ok { IfOk result (λ r. r ≡ mul self other) }
         ensures fits { IfOk result (λ r. Fits T.MAX (mul self other)) }
         ensures err { OnErr result (¬ (Fits T.MAX (mul self other))) }
@@ -167,15 +168,15 @@ impl<T: Integer> Frac<T> {
         match num {
             Some(num) => match den {
                 Some(den) => Ok(made(num, den)),
-                None => Err(Passed),
+                None => Err(PartWide),
             },
-            None => Err(Passed),
+            None => Err(PartWide),
         }
     }
 
     /// The sum, refused exactly where, over the least common denominator, that denominator, either
-    /// term or the result passes the greatest value.
-    pub fn plus(self, other: Self) -> Result<Self, Passed>
+    /// term or the result is more than the greatest value.
+    pub fn plus(self, other: Self) -> Result<Self, PartWide>
         ensures ok { IfOk result (λ r. r ≡ add self other) }
         ensures fits { IfOk result (λ r. SumFits T.MAX self other) }
         ensures err { OnErr result (¬ (SumFits T.MAX self other)) }
@@ -189,7 +190,7 @@ impl<T: Integer> Frac<T> {
         if self.den == other.den {
             return match plus(self.num, other.num) {
                 Some(num) => Ok(reduced(num, self.den)),
-                None => Err(Passed),
+                None => Err(PartWide),
             };
         }
         self.plus_over_common(other)
@@ -197,23 +198,23 @@ impl<T: Integer> Frac<T> {
 
     /// The same over the least common denominator: with g = gcd(b, d), a/b + c/d = (a(d/g) + c(b/g)) / ((b/g)d),
     /// where only divisors of g can be left in common.
-    fn plus_over_common(self, other: Self) -> Result<Self, Passed>
+    fn plus_over_common(self, other: Self) -> Result<Self, PartWide>
         ensures ok { IfOk result (λ r. r ≡ add self other) }
         ensures fits { IfOk result (λ r. SumFits T.MAX self other) }
         ensures err { OnErr result (¬ (SumFits T.MAX self other)) }
     {
         let (g, by_right, by_left) = shared(self.den, other.den);
         let Some(den) = times(by_right, other.den) else {
-            return Err(Passed);
+            return Err(PartWide);
         };
         let Some(left) = times(self.num, by_left) else {
-            return Err(Passed);
+            return Err(PartWide);
         };
         let Some(right) = times(other.num, by_right) else {
-            return Err(Passed);
+            return Err(PartWide);
         };
         let Some(num) = plus(left, right) else {
-            return Err(Passed);
+            return Err(PartWide);
         };
         Ok(reduced_by(num, den, g))
     }
@@ -238,7 +239,7 @@ impl<T: Integer> Frac<T> {
     }
 
     /// The difference, refused as the sum with the other sign.
-    pub fn less(self, other: Self) -> Result<Self, Passed>
+    pub fn less(self, other: Self) -> Result<Self, PartWide>
         ensures ok { IfOk result (λ r. r ≡ add self (neg other)) }
         ensures fits { IfOk result (λ r. SumFits T.MAX self (neg other)) }
         ensures err { OnErr result (¬ (SumFits T.MAX self (neg other))) }
@@ -246,8 +247,8 @@ impl<T: Integer> Frac<T> {
         self.plus(other.negated())
     }
 
-    /// The quotient by a number that isn't 0, refused exactly where its lowest terms pass the greatest value.
-    pub fn by(self, other: Self) -> Result<Self, Passed>
+    /// The quotient by a number that isn't 0, refused exactly where its lowest terms are more than the greatest value.
+    pub fn by(self, other: Self) -> Result<Self, PartWide>
         requires { other.num ≢ pos 0 }
         ensures ok { IfOk result (λ r. r ≡ mul (inv other) self) }
         ensures fits { IfOk result (λ r. Fits T.MAX (mul (inv other) self)) }
@@ -291,7 +292,7 @@ impl<T: Integer> Frac<T> {
 
     /// -1, 0 or 1.
     pub fn signum(self) -> i32
-        ensures { result ≡ sign_of_whole self.num }
+        ensures { result ≡ signum self.num }
     {
         if self.num.is_zero() {
             0
@@ -302,17 +303,18 @@ impl<T: Integer> Frac<T> {
         }
     }
 
-    /// The least common multiple of a positive number and the denominator, or none where it passes the greatest
+    /// The least common multiple of a positive number and the denominator, or none where it is more than the greatest
     /// value.
     pub fn joined(&self, scale: T) -> Option<T>
         requires { Within T.MAX (T.value scale) × (pos 0 <ℤ T.value scale) }
-        ensures { Checks T.value (Within T.MAX) (pos (common_multiple (unsigned_abs (T.value scale)) self.now.den)) result }
+        ensures { Checks T.value (Within T.MAX) (pos (common_multiple
+            (unsigned_abs (T.value scale)) self.now.den)) result }
     {
         let g = divisor(scale, self.den);
         times(part(scale, g), self.den)
     }
 
-    /// The number times a scale that its denominator divides, or none where that passes the greatest value.
+    /// The number times a scale that its denominator divides, or none where that is more than the greatest value.
     pub fn scaled(&self, scale: T) -> Option<T>
         requires { Within T.MAX (T.value scale) × (pos 0 <ℤ T.value scale) }
         ensures { Checks T.value (Within T.MAX) (times_scale (unsigned_abs (T.value scale)) self.now) result }

@@ -32,7 +32,7 @@ pub trait Integer: Copy
     // Each other integer of the type is the least value.
     ghost least_law: { (z : ℤ) → Self.fits z → ¬ (z ≡ Self.low) → unsigned_abs z ≤ unsigned_abs MAX };
 
-    // The least value passes.
+    // The least value is too wide.
     ghost lowest_law: { Self.exact → unsigned_abs MAX < unsigned_abs Self.low };
 
     // A value that is used is the one of its integer.
@@ -114,14 +114,14 @@ pub fn unless_least<T: Integer>(x: Option<T>) -> Option<T>
     if y == T::min_value() { None } else { Some(y) }
 }
 
-/// A product, or none where its size passes the greatest value.
+/// A product, or none where its size is more than the greatest value.
 pub fn times<T: Integer>(a: T, b: T) -> Option<T>
     ensures { Checks T.value (Within T.MAX) (T.value a *ℤ T.value b) result }
 {
     unless_least(a.checked_mul(&b))
 }
 
-/// A sum, or none where its size passes the greatest value.
+/// A sum, or none where its size is more than the greatest value.
 pub fn plus<T: Integer>(a: T, b: T) -> Option<T>
     ensures { Checks T.value (Within T.MAX) (T.value a +ℤ T.value b) result }
 {

@@ -1,10 +1,12 @@
 //! Laws of exact numbers, each a clause of a function that does nothing.
 
-ghost use Rattle.stack_rational.specs.Laws.{WiderNeverPasses, PartsMakeTheNumber, AnswersFit, SmallFits, WholePassesAtWidest, OrderLaws};
+ghost use Rattle.stack_rational.specs.Laws.{WiderIsNeverTooWide, PartsMakeTheNumber, AnswersFit, SmallFits};
+ghost use Rattle.stack_rational.specs.Laws.{WholeIsTooWideAtWidest, OrderLaws};
 
-/// An operation that doesn't pass at a smaller greatest value doesn't pass at a greater one, and gives the same value.
+/// An operation that isn't too wide at a smaller greatest value isn't too wide at a greater one, and gives the same
+/// value.
 pub fn wider_law()
-    ensures { WiderNeverPasses }
+    ensures { WiderIsNeverTooWide }
 {}
 
 /// The parts of every number make the same number at 128 bits, never refused.
@@ -14,10 +16,10 @@ pub fn parts_law()
 
 /// An answer that isn't refused fits; nothing is refused of 0, 1 and -1; at 128 bits a whole number is refused
 /// exactly where it isn't one of stack_whole.
-pub fn fitting_law()
+pub fn fraction_fitting_law()
     ensures answers { AnswersFit }
     ensures small { SmallFits }
-    ensures widest { WholePassesAtWidest }
+    ensures widest { WholeIsTooWideAtWidest }
 {}
 
 /// The order is total, and agrees with the values.

@@ -1,8 +1,14 @@
 //! Exact fractions of three widths.
+//!
+//! ```text
+//! let half = Frac::<i64>::from_whole(1)?.quotient(Frac::from_whole(2)?)?;
+//! half.sum(half)?.parts() == (1, 1)
+//! common_scale(&[half]) == Ok(2)
+//! ```
 #![tactic(auto)]
 
+mod common_divisor;
 mod comparing;
-mod divisor;
 mod exact;
 mod frac;
 mod halves;
@@ -10,10 +16,10 @@ mod integer;
 mod laws;
 mod scale;
 
-pub use exact::{Exact, Op, Wide};
+pub use exact::{Exact, Op, OpWide};
 pub use frac::Frac;
 pub use integer::Integer;
-pub use laws::{fitting_law, order_law, parts_law, wider_law};
+pub use laws::{fraction_fitting_law, order_law, parts_law, wider_law};
 pub use scale::{ScaleWide, common_scale, scale_law};
 
 #[cfg(test)]

@@ -10,7 +10,7 @@ use Rattle.toml.specs.View.{view, items_view}
 use Rattle.stack_algebra.specs.Steps.{◌>>=◌}
 use Rattle.stack_reader.specs.declared.errors.ReadError.{ReadError}
 use Rattle.stack_reader.specs.declared.errors.ReadError.TheVariants.{Model, Memory}
-use Rattle.stack_reader.specs.Gives.{Fails}
+use Rattle.stack_reader.specs.Gives.{FailsRead}
 use Rattle.stack_reader.specs.Shape.{each_of}
 
 abbrev pub after : {A : Type 0} → List A → Option (List A) → Option (List A)
@@ -46,8 +46,8 @@ goes_on f front vs i v x total lt is h so_far =
 
 -- a refusal that is handed on
 pub handed_on : {Y Z : Type 0} (e : ReadError) (read : Result Y ReadError) (total : Result Z ReadError)
-    → Fails e read
-    → (read ≡ Err e → total ≡ Err e) → Fails e total
+    → FailsRead e read
+    → (read ≡ Err e → total ≡ Err e) → FailsRead e total
 handed_on Memory read total h f = tt
 handed_on (Model e) read total h f = (f h.0, h.1)
 handed_on e read total h f = f h
@@ -55,7 +55,7 @@ handed_on e read total h f = f h
 pub ends : {A : Type 0} (f : ℕ → Data → Result A ReadError) (e : ReadError) (front : List A)
     (vs : List Value) (i : ℕ) (v : Value) (total : Result (List A) ReadError)
     → i < length vs → v ≡ get_or vs i v
-    → Fails e (f i (view v)) → before front (each_of f i (items_view (drop i vs))) ≡ total → Fails e total
+    → FailsRead e (f i (view v)) → before front (each_of f i (items_view (drop i vs))) ≡ total → FailsRead e total
 unfolding each_of
 ends f e front vs i v total lt is h so_far = handed_on e (f i (view v)) total h (λ here.
     let one : before front (each_of f i (items_view (drop i vs))) ≡ Err e =

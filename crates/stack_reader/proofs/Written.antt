@@ -13,7 +13,7 @@ use Rattle.stack_model.specs.Limits.{with_first}
 use Rattle.stack_reader.specs.declared.errors.ReadError.{ReadError}
 use Rattle.stack_reader.specs.Keys.{word_of}
 use Rattle.stack_reader.specs.Forms.{wholes_of_items, lists_of_items, are_tables, field}
-use Rattle.stack_reader.specs.Shape.{material_part, block_part, load_part, in_table, each_of, shape_of}
+use Rattle.stack_reader.specs.Shape.{material_part, block_part, load_part, in_table, each_of, parts_of_document}
 use Rattle.stack_reader.specs.Writing.{wholes_data, material_data, block_data}
 use Rattle.stack_reader.specs.Writing.{load_data}
 use Rattle.stack_reader.specs.Writing.{tables_data, parts_data}
@@ -75,8 +75,8 @@ module _ {A : Type 0} (data_of : A → Members) where
   tables_depth n h [] = omega arith
   tables_depth n h (x ∷ xs) = let one = h x in let rest = tables_depth n h xs in grind arith
 
-pub parts_back : (p : PartLists) → shape_of (parts_data p) ≡ Ok p
-unfolding shape_of
+pub parts_back : (p : PartLists) → parts_of_document (parts_data p) ≡ Ok p
+unfolding parts_of_document
 parts_back p = rw (
   all_tables material_data p.materials,
   all_tables block_data p.blocks,

@@ -5,12 +5,12 @@ use Rattle.stack_model.specs.declared.errors.ModelError.TheVariants as faults
 use Rattle.stack_reader.specs.declared.errors.ReadError.{ReadError}
 use Rattle.stack_reader.specs.declared.errors.ReadError.TheVariants.{Model, Memory}
 
-abbrev pub Fails : {Y : Type 0} → ReadError → Result Y ReadError → Type 0
-Fails Memory read = ⊤
-Fails (Model e) read = (read ≡ Err (Model e)) × (e ≢ faults.Memory)
-Fails e read = read ≡ Err e
+abbrev pub FailsRead : {Y : Type 0} → ReadError → Result Y ReadError → Type 0
+FailsRead Memory read = ⊤
+FailsRead (Model e) read = (read ≡ Err (Model e)) × (e ≢ faults.Memory)
+FailsRead e read = read ≡ Err e
 
 -- seen by view, it is what is defined
-abbrev pub Gives : {X Y : Type 0} → (X → Y) → Result X ReadError → Result Y ReadError → Type 0
-Gives view (Ok x) read = read ≡ Ok (view x)
-Gives view (Err e) read = Fails e read
+abbrev pub GivesRead : {X Y : Type 0} → (X → Y) → Result X ReadError → Result Y ReadError → Type 0
+GivesRead view (Ok x) read = read ≡ Ok (view x)
+GivesRead view (Err e) read = FailsRead e read

@@ -4,6 +4,7 @@ use Rattle.stack_model.specs.declared.places.Key.{Key}
 use Rattle.stack_model.specs.declared.places.Key.TheVariants.{Name, Weight, Friction, Material, Fixed}
 use Rattle.stack_model.specs.declared.places.Key.TheVariants.{Corners, Block, Kind, At, Force, Load}
 
+-- the word of a key
 abbrev pub word_of : Key → List ℕ
 word_of Name = codes "name"
 word_of Weight = codes "weight"

@@ -11,15 +11,15 @@ use Rattle.stack_model.specs.Structure.{Structure}
 use Rattle.stack_model.specs.Content.{content_of}
 use Rattle.stack_reader.specs.declared.errors.ReadError.{ReadError}
 use Rattle.stack_reader.specs.declared.errors.ReadError.TheVariants.{NotToml, Model, Memory}
-use Rattle.stack_reader.specs.Shape.{shape_of}
+use Rattle.stack_reader.specs.Shape.{parts_of_document}
 
 -- the table of a document
 abbrev pub parsed : Option Members → Result Members ReadError
 parsed None = Err NotToml
 parsed (Some ms) = Ok ms
 
-unfoldable pub table_of : List ℕ → Result Members ReadError
-table_of bytes = if is_utf8 bytes then parsed (parse_document bytes) else Err NotToml
+unfoldable pub document_table : List ℕ → Result Members ReadError
+document_table bytes = if is_utf8 bytes then parsed (parse_document bytes) else Err NotToml
 
 -- a fault of content, as a fault of a file
 abbrev pub from_content : ModelError → ReadError
@@ -33,11 +33,11 @@ within_file (Err e) = Err (from_content e)
 -- the structure of a table
 unfoldable pub model_of : Members → Result Structure ReadError
 model_of ms = do
-  parts ← shape_of ms
+  parts ← parts_of_document ms
   within_file (content_of parts)
 
 -- the structure of a file's bytes
 unfoldable pub structure_of : List ℕ → Result Structure ReadError
 structure_of bytes = do
-  ms ← table_of bytes
+  ms ← document_table bytes
   model_of ms

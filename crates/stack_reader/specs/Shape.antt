@@ -58,8 +58,8 @@ each_of part i (item d rest) = do
   others ← each_of part (i + 1) rest
   Ok (first ∷ others)
 
-unfoldable pub shape_of : Members → Result PartLists ReadError
-shape_of ms = do
+unfoldable pub parts_of_document : Members → Result PartLists ReadError
+parts_of_document ms = do
   known ← known_only spots.Top top_keys ms
   materials ← list_at keys.Material (get_member (word_of keys.Material) ms)
   blocks ← list_at keys.Block (get_member (word_of keys.Block) ms)

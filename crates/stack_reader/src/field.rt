@@ -7,7 +7,7 @@ ghost use Rattle.toml.specs.Data.{get_member, as_str, as_integer};
 ghost use Rattle.toml.specs.View.{view, table_view, items_view};
 ghost use Rattle.stack_reader.specs.Keys.{word_of};
 ghost use Rattle.stack_model.specs.Raw.{lists_view, numbers_view};
-ghost use Rattle.stack_reader.specs.Gives.{Gives};
+ghost use Rattle.stack_reader.specs.Gives.{GivesRead};
 ghost use Rattle.stack_reader.specs.Forms.{required, field, has_only, known_only, wholes_of, wholes_of_items};
 ghost use Rattle.stack_reader.specs.Forms.{lists_of, lists_of_items, truth_at as truth_of};
 
@@ -43,7 +43,7 @@ fn has_only_keys(table: &Table, known: &[Key]) -> bool
 }
 
 pub fn refuse_unknown(table: &Table, spot: Spot, known: &[Key]) -> Result<(), ReadError>
-    ensures { Gives (λ x. x) result (known_only spot known.now (table_view table.now)) }
+    ensures { GivesRead (λ x. x) result (known_only spot known.now (table_view table.now)) }
 {
     if has_only_keys(table, known) {
         Ok(())
@@ -53,7 +53,7 @@ pub fn refuse_unknown(table: &Table, spot: Spot, known: &[Key]) -> Result<(), Re
 }
 
 fn required_at<'a>(table: &'a Table, spot: Spot, key: Key) -> Result<&'a Value, ReadError>
-    ensures { Gives (λ v. view v.now) result (required spot key (get_member (word_of key) (table_view table.now))) }
+    ensures { GivesRead (λ v. view v.now) result (required spot key (get_member (word_of key) (table_view table.now))) }
 {
     match value_at(table, word(key)) {
         Some(value) => Ok(value),
@@ -63,7 +63,7 @@ fn required_at<'a>(table: &'a Table, spot: Spot, key: Key) -> Result<&'a Value, 
 
 #[tactic(auto, unfolding(crate::specs::Forms::field))]
 pub fn text_at(alloc: Global, table: &Table, spot: Spot, key: Key) -> Result<String, ReadError>
-    ensures { Gives string_bytes result (field as_str spot key (table_view table.now)) }
+    ensures { GivesRead string_bytes result (field as_str spot key (table_view table.now)) }
 {
     let value = required_at(table, spot, key)?;
     match value.as_str() {
@@ -74,7 +74,7 @@ pub fn text_at(alloc: Global, table: &Table, spot: Spot, key: Key) -> Result<Str
 
 #[tactic(auto, unfolding(crate::specs::Forms::field))]
 pub fn whole_at(table: &Table, spot: Spot, key: Key) -> Result<i64, ReadError>
-    ensures { Gives (λ z. z) result (field as_integer spot key (table_view table.now)) }
+    ensures { GivesRead (λ z. z) result (field as_integer spot key (table_view table.now)) }
 {
     let value = required_at(table, spot, key)?;
     match value.as_integer() {
@@ -85,7 +85,7 @@ pub fn whole_at(table: &Table, spot: Spot, key: Key) -> Result<i64, ReadError>
 
 /// The truth value at a key, false where the key is missing.
 pub fn truth_at(table: &Table, spot: Spot, key: Key) -> Result<bool, ReadError>
-    ensures { Gives (λ b. b) result (truth_of spot key (get_member (word_of key) (table_view table.now))) }
+    ensures { GivesRead (λ b. b) result (truth_of spot key (get_member (word_of key) (table_view table.now))) }
 {
     match value_at(table, word(key)) {
         Some(value) => match value.as_bool() {
@@ -122,7 +122,7 @@ fn wholes_in(alloc: Global, value: &Value) -> Result<Option<Vec<i64>>, AllocErro
 
 #[tactic(auto, unfolding(crate::specs::Forms::field))]
 pub fn wholes_at(alloc: Global, table: &Table, spot: Spot, key: Key) -> Result<Vec<i64>, ReadError>
-    ensures { Gives numbers_view result (field wholes_of spot key (table_view table.now)) }
+    ensures { GivesRead numbers_view result (field wholes_of spot key (table_view table.now)) }
 {
     let value = required_at(table, spot, key)?;
     match wholes_in(alloc, value)? {
@@ -161,7 +161,7 @@ pub fn lists_at(
     spot: Spot,
     key: Key,
 ) -> Result<Vec<Vec<i64>>, ReadError>
-    ensures { Gives lists_view result (field lists_of spot key (table_view table.now)) }
+    ensures { GivesRead lists_view result (field lists_of spot key (table_view table.now)) }
 {
     let value = required_at(table, spot, key)?;
     match lists_in(alloc, value)? {

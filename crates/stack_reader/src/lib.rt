@@ -1,5 +1,10 @@
 //! The TOML file of a model: read to the model that it describes or to its first fault, and written so that it
 //! is read back.
+//!
+//! ```text
+//! let model = read_model(alloc, bytes)?; // the bytes of a model's file
+//! let again = write_model(alloc, &model)?; // a document that is read to the same model
+//! ```
 #![tactic(auto)]
 
 mod errors;

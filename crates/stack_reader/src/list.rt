@@ -4,7 +4,7 @@ ghost use Rattle.std.specs.Prelude.{◌≡◌};
 ghost use Rattle.toml.specs.Data.{get_member};
 ghost use Rattle.toml.specs.View.{table_view, items_view};
 ghost use Rattle.stack_reader.specs.Keys.{word_of};
-ghost use Rattle.stack_reader.specs.Gives.{Gives};
+ghost use Rattle.stack_reader.specs.Gives.{GivesRead};
 ghost use Rattle.stack_reader.specs.Forms.{are_tables};
 ghost use Rattle.stack_reader.specs.Shape.{list_at as list_of};
 
@@ -27,7 +27,7 @@ fn all_tables(items: &[Value]) -> bool
 
 /// The tables at a key of the top; none where the key is missing.
 pub fn list_at<'a>(table: &'a Table, key: Key) -> Result<&'a [Value], ReadError>
-    ensures { Gives (λ v. items_view v.now) result (list_of key (get_member (word_of key) (table_view table.now))) }
+    ensures { GivesRead (λ v. items_view v.now) result (list_of key (get_member (word_of key) (table_view table.now))) }
 {
     let Some(value) = value_at(table, word(key)) else {
         return Ok(&[]);

@@ -5,8 +5,8 @@ ghost use Rattle.toml.specs.View.{table_view};
 ghost use Rattle.stack_model.specs.ModelView.{model_view};
 ghost use Rattle.stack_model.specs.Raw.{raw_parts};
 ghost use Rattle.stack_model.specs.Content.{content_of};
-ghost use Rattle.stack_reader.specs.Gives.{Gives};
-ghost use Rattle.stack_reader.specs.Reading.{table_of, within_file, structure_of};
+ghost use Rattle.stack_reader.specs.Gives.{GivesRead};
+ghost use Rattle.stack_reader.specs.Reading.{document_table, within_file, structure_of};
 
 use crate::errors::ReadError;
 use crate::shape::shape;
@@ -16,7 +16,7 @@ use toml::Table;
 
 /// The table of a TOML document.
 fn document(alloc: Global, text: &[u8]) -> Result<Table, ReadError>
-    ensures { Gives table_view result (table_of text.now) }
+    ensures { GivesRead table_view result (document_table text.now) }
 {
     match toml::table_from_slice(alloc, text) {
         Ok(table) => Ok(table),
@@ -30,7 +30,7 @@ fn document(alloc: Global, text: &[u8]) -> Result<Table, ReadError>
 }
 
 fn model(alloc: Global, parts: Parts) -> Result<Model, ReadError>
-    ensures { Gives model_view result (within_file (content_of (raw_parts parts))) }
+    ensures { GivesRead model_view result (within_file (content_of (raw_parts parts))) }
 {
     match Model::new(alloc, parts) {
         Ok(model) => Ok(model),
@@ -42,7 +42,7 @@ fn model(alloc: Global, parts: Parts) -> Result<Model, ReadError>
 /// The model that the bytes of a TOML file describe, or their first fault.
 #[tactic(auto, unfolding(crate::specs::Reading::structure_of, crate::specs::Reading::model_of))]
 pub fn read_model(alloc: Global, text: &[u8]) -> Result<Model, ReadError>
-    ensures { Gives model_view result (structure_of text.now) }
+    ensures { GivesRead model_view result (structure_of text.now) }
 {
     let table = document(alloc, text)?;
     let parts = shape(alloc, &table)?;

@@ -3,8 +3,8 @@
 ghost use Rattle.std.specs.Prelude.{◌≡◌, map};
 ghost use Rattle.toml.specs.View.{view, table_view, items_view};
 ghost use Rattle.stack_model.specs.Raw.{raw_material, raw_block, raw_load, raw_parts};
-ghost use Rattle.stack_reader.specs.Gives.{Gives};
-ghost use Rattle.stack_reader.specs.Shape.{material_part, block_part, load_part, in_table, each_of, shape_of};
+ghost use Rattle.stack_reader.specs.Gives.{GivesRead};
+ghost use Rattle.stack_reader.specs.Shape.{material_part, block_part, load_part, in_table, each_of, parts_of_document};
 
 use crate::errors::ReadError;
 use crate::field::{lists_at, refuse_unknown, text_at, truth_at, whole_at, wholes_at};
@@ -15,7 +15,7 @@ use toml::{Table, Value};
 
 #[tactic(auto, unfolding(crate::specs::Shape::material_part))]
 fn material(alloc: Global, index: usize, table: &Table) -> Result<RawMaterial, ReadError>
-    ensures { Gives raw_material result (material_part index (table_view table.now)) }
+    ensures { GivesRead raw_material result (material_part index (table_view table.now)) }
 {
     let spot = Spot::Material(index);
     refuse_unknown(table, spot, &[Key::Name, Key::Weight, Key::Friction])?;
@@ -31,7 +31,7 @@ fn material(alloc: Global, index: usize, table: &Table) -> Result<RawMaterial, R
 
 #[tactic(auto, unfolding(crate::specs::Shape::block_part))]
 fn block(alloc: Global, index: usize, table: &Table) -> Result<RawBlock, ReadError>
-    ensures { Gives raw_block result (block_part index (table_view table.now)) }
+    ensures { GivesRead raw_block result (block_part index (table_view table.now)) }
 {
     let spot = Spot::Block(index);
     refuse_unknown(
@@ -53,7 +53,7 @@ fn block(alloc: Global, index: usize, table: &Table) -> Result<RawBlock, ReadErr
 
 #[tactic(auto, unfolding(crate::specs::Shape::load_part))]
 fn load(alloc: Global, index: usize, table: &Table) -> Result<RawLoad, ReadError>
-    ensures { Gives raw_load result (load_part index (table_view table.now)) }
+    ensures { GivesRead raw_load result (load_part index (table_view table.now)) }
 {
     let spot = Spot::Load(index);
     refuse_unknown(table, spot, &[Key::Block, Key::Kind, Key::At, Key::Force])?;
@@ -80,7 +80,7 @@ fn not_tables(key: Key) -> ReadError
 
 #[tactic(auto, unfolding(crate::specs::Shape::in_table))]
 fn material_item(alloc: Global, index: usize, item: &Value) -> Result<RawMaterial, ReadError>
-    ensures { Gives raw_material result (in_table material_part Key.Material index (view item.now)) }
+    ensures { GivesRead raw_material result (in_table material_part Key.Material index (view item.now)) }
 {
     match item.as_table() {
         Some(table) => material(alloc, index, table),
@@ -90,7 +90,7 @@ fn material_item(alloc: Global, index: usize, item: &Value) -> Result<RawMateria
 
 #[tactic(auto, unfolding(crate::specs::Shape::in_table))]
 fn block_item(alloc: Global, index: usize, item: &Value) -> Result<RawBlock, ReadError>
-    ensures { Gives raw_block result (in_table block_part Key.Block index (view item.now)) }
+    ensures { GivesRead raw_block result (in_table block_part Key.Block index (view item.now)) }
 {
     match item.as_table() {
         Some(table) => block(alloc, index, table),
@@ -100,7 +100,7 @@ fn block_item(alloc: Global, index: usize, item: &Value) -> Result<RawBlock, Rea
 
 #[tactic(auto, unfolding(crate::specs::Shape::in_table))]
 fn load_item(alloc: Global, index: usize, item: &Value) -> Result<RawLoad, ReadError>
-    ensures { Gives raw_load result (in_table load_part Key.Load index (view item.now)) }
+    ensures { GivesRead raw_load result (in_table load_part Key.Load index (view item.now)) }
 {
     match item.as_table() {
         Some(table) => load(alloc, index, table),
@@ -109,7 +109,8 @@ fn load_item(alloc: Global, index: usize, item: &Value) -> Result<RawLoad, ReadE
 }
 
 fn materials(alloc: Global, items: &[Value]) -> Result<Vec<RawMaterial>, ReadError>
-    ensures { Gives (λ v. map raw_material v.items) result (each_of (in_table material_part Key.Material) 0 (items_view items.now)) }
+    ensures { GivesRead (λ v. map raw_material v.items) result (each_of (in_table material_part Key.Material) 0
+        (items_view items.now)) }
 {
     let mut found = Vec::new(alloc);
     for (index, item) in items.iter().enumerate() {
@@ -119,7 +120,8 @@ fn materials(alloc: Global, items: &[Value]) -> Result<Vec<RawMaterial>, ReadErr
 }
 
 fn blocks(alloc: Global, items: &[Value]) -> Result<Vec<RawBlock>, ReadError>
-    ensures { Gives (λ v. map raw_block v.items) result (each_of (in_table block_part Key.Block) 0 (items_view items.now)) }
+    ensures { GivesRead (λ v. map raw_block v.items) result (each_of (in_table block_part Key.Block) 0
+        (items_view items.now)) }
 {
     let mut found = Vec::new(alloc);
     for (index, item) in items.iter().enumerate() {
@@ -129,7 +131,8 @@ fn blocks(alloc: Global, items: &[Value]) -> Result<Vec<RawBlock>, ReadError>
 }
 
 fn loads(alloc: Global, items: &[Value]) -> Result<Vec<RawLoad>, ReadError>
-    ensures { Gives (λ v. map raw_load v.items) result (each_of (in_table load_part Key.Load) 0 (items_view items.now)) }
+    ensures { GivesRead (λ v. map raw_load v.items) result (each_of (in_table load_part Key.Load) 0
+        (items_view items.now)) }
 {
     let mut found = Vec::new(alloc);
     for (index, item) in items.iter().enumerate() {
@@ -139,9 +142,9 @@ fn loads(alloc: Global, items: &[Value]) -> Result<Vec<RawLoad>, ReadError>
 }
 
 /// What the table lists.
-#[tactic(auto, unfolding(crate::specs::Shape::shape_of))]
+#[tactic(auto, unfolding(crate::specs::Shape::parts_of_document))]
 pub fn shape(alloc: Global, table: &Table) -> Result<Parts, ReadError>
-    ensures { Gives raw_parts result (shape_of (table_view table.now)) }
+    ensures { GivesRead raw_parts result (parts_of_document (table_view table.now)) }
 {
     refuse_unknown(table, Spot::Top, &[Key::Material, Key::Block, Key::Load])?;
     let material_items = list_at(table, Key::Material)?;

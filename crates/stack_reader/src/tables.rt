@@ -74,7 +74,8 @@ pub fn material_table(alloc: Global, model: &Model, i: usize) -> Result<Table, A
 /// The table of body `i`.
 pub fn block_table(alloc: Global, model: &Model, i: usize) -> Result<Table, AllocError>
     requires { i < length (model_view model.now).bodies }
-    ensures { IfOk result (λ t. table_view t ≡ block_data (body_listed (model_view model.now).materials (body_of (model_view model.now) i))) }
+    ensures { IfOk result (λ t. table_view t ≡ block_data (body_listed (model_view model.now).materials
+        (body_of (model_view model.now) i))) }
 {
     let body = model.body(i);
     let name = Value::string(alloc, model.name(i))?;
@@ -91,7 +92,8 @@ pub fn block_table(alloc: Global, model: &Model, i: usize) -> Result<Table, Allo
 /// The table of load `i`.
 pub fn load_table(alloc: Global, model: &Model, i: usize) -> Result<Table, AllocError>
     requires { i < length (model_view model.now).loads }
-    ensures { IfOk result (λ t. table_view t ≡ load_data (load_listed (model_view model.now).bodies (load_of (model_view model.now) i))) }
+    ensures { IfOk result (λ t. table_view t ≡ load_data (load_listed (model_view model.now).bodies
+        (load_of (model_view model.now) i))) }
 {
     let load = model.load(i);
     let block = Value::string(alloc, model.name(load.body))?;

@@ -14,7 +14,8 @@ use std::alloc::{AllocError, Global};
 use toml::{Table, Value};
 
 fn materials(alloc: Global, model: &Model) -> Result<Vec<Value>, AllocError>
-    ensures { IfOk result (λ v. items_view v.items ≡ tables_data material_data (map material_listed (model_view model.now).materials)) }
+    ensures { IfOk result (λ v. items_view v.items ≡ tables_data material_data
+        (map material_listed (model_view model.now).materials)) }
 {
     let mut list = Vec::new(alloc);
     for i in 0..model.materials() {
@@ -25,7 +26,8 @@ fn materials(alloc: Global, model: &Model) -> Result<Vec<Value>, AllocError>
 
 fn blocks(alloc: Global, model: &Model) -> Result<Vec<Value>, AllocError>
     ensures sound { IsSound (model_view model.now) }
-    ensures value { IfOk result (λ v. items_view v.items ≡ tables_data block_data (map (body_listed (model_view model.now).materials) (model_view model.now).bodies)) }
+    ensures value { IfOk result (λ v. items_view v.items ≡ tables_data block_data
+        (map (body_listed (model_view model.now).materials) (model_view model.now).bodies)) }
 {
     let mut list = Vec::new(alloc);
     for i in 0..model.bodies() {
@@ -35,7 +37,8 @@ fn blocks(alloc: Global, model: &Model) -> Result<Vec<Value>, AllocError>
 }
 
 fn loads(alloc: Global, model: &Model) -> Result<Vec<Value>, AllocError>
-    ensures { IfOk result (λ v. items_view v.items ≡ tables_data load_data (map (load_listed (model_view model.now).bodies) (model_view model.now).loads)) }
+    ensures { IfOk result (λ v. items_view v.items ≡ tables_data load_data
+        (map (load_listed (model_view model.now).bodies) (model_view model.now).loads)) }
 {
     let mut list = Vec::new(alloc);
     for i in 0..model.loads() {

@@ -6,7 +6,7 @@ use Rattle.stack_algebra.specs.IntegerOrder.{◌≼◌, ◌≺◌}
 use Rattle.stack_algebra.proofs.Integers.{sums, expand}
 use Rattle.stack_algebra.proofs.Order.{mul_nonneg, nonneg-cancel}
 use Rattle.stack_polygon.specs.declared.point.Point.{Point}
-use Rattle.stack_polygon.specs.Plane.{Place, IsAt}
+use Rattle.stack_polygon.specs.Plane.{Triple, IsAt}
 use Rattle.stack_overlap.specs.Separation.{IsCommon}
 use Rattle.stack_overlap.specs.CommonPoints.{IsOnSegment}
 use Rattle.stack_rectangle.specs.Rectangles.{Extent, common_of}
@@ -18,7 +18,7 @@ use Rattle.stack_rectangle.proofs.CommonRanges.{to_common, of_common}
 abbrev pub common_extent : Extent → Extent → Extent
 common_extent a b = record { x = common_of a.x b.x; y = common_of a.y b.y }
 
-pub commons : (ps qs : List Point) (a b : Extent) → IsBox ps a → IsBox qs b → (X : Place)
+pub commons : (ps qs : List Point) (a b : Extent) → IsBox ps a → IsBox qs b → (X : Triple)
     → IsCommon ps qs X ↔ IsWithin false (common_extent a b) X
 commons ps qs a b one other X = (
   λ m.
@@ -97,14 +97,14 @@ x_behind x u y X Y w h e =
 swap : (a b : ℤ) → pos 0 ≼ a +ℤ b → pos 0 ≼ b +ℤ a
 swap a b h = omega (arith, sums)
 
-pub level_segment : (x u y v : ℤ) → x ≺ u → y ≡ v → (X : Place)
+pub level_segment : (x u y v : ℤ) → x ≺ u → y ≡ v → (X : Triple)
     → IsWithin false (record { x = record { low = x; high = u }; y = record { low = y; high = v } }) X
     ↔ IsOnSegment (pt x y) (pt u v) X
-level_segment x u y v h e = subst (λ v. (X : Place)
+level_segment x u y v h e = subst (λ v. (X : Triple)
     → IsWithin false (record { x = record { low = x; high = u }; y = record { low = y; high = v } }) X
     ↔ IsOnSegment (pt x y) (pt u v) X) e same
   where
-    same : (X : Place)
+    same : (X : Triple)
         → IsWithin false (record { x = record { low = x; high = u }; y = record { low = y; high = y } }) X
         ↔ IsOnSegment (pt x y) (pt u y) X
     same X = (
@@ -119,14 +119,14 @@ level_segment x u y v h e = subst (λ v. (X : Place)
       ),
     )
 
-pub upright_segment : (x u y v : ℤ) → x ≡ u → y ≺ v → (X : Place)
+pub upright_segment : (x u y v : ℤ) → x ≡ u → y ≺ v → (X : Triple)
     → IsWithin false (record { x = record { low = x; high = u }; y = record { low = y; high = v } }) X
     ↔ IsOnSegment (pt x y) (pt u v) X
-upright_segment x u y v e h = subst (λ u. (X : Place)
+upright_segment x u y v e h = subst (λ u. (X : Triple)
     → IsWithin false (record { x = record { low = x; high = u }; y = record { low = y; high = v } }) X
     ↔ IsOnSegment (pt x y) (pt u v) X) e same
   where
-    same : (X : Place)
+    same : (X : Triple)
         → IsWithin false (record { x = record { low = x; high = x }; y = record { low = y; high = v } }) X
         ↔ IsOnSegment (pt x y) (pt x v) X
     same X = (
@@ -149,7 +149,7 @@ upright_segment x u y v e h = subst (λ u. (X : Place)
     )
 
 -- one number by one number is one point
-pub one_point : (x u y v : ℤ) → x ≡ u → y ≡ v → (X : Place)
+pub one_point : (x u y v : ℤ) → x ≡ u → y ≡ v → (X : Triple)
     → IsWithin false (record { x = record { low = x; high = u }; y = record { low = y; high = v } }) X
     ↔ IsAt X (pt x y)
 one_point x u y v e f X = (

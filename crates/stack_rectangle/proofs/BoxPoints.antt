@@ -6,7 +6,7 @@ use Rattle.std.specs.Prelude.{◌↔◌}
 use Rattle.stack_algebra.specs.IntegerOrder.{◌≼◌}
 use Rattle.stack_algebra.proofs.Integers.{sums}
 use Rattle.stack_polygon.specs.declared.point.Point.{Point}
-use Rattle.stack_polygon.specs.Plane.{Place}
+use Rattle.stack_polygon.specs.Plane.{Triple}
 use Rattle.stack_polygon.specs.Corners.{corner_of, end_of}
 use Rattle.stack_overlap.specs.CommonPoints.{IsCornerOf}
 use Rattle.stack_rectangle.specs.Rectangles.{Range, Extent}
@@ -18,18 +18,18 @@ use Rattle.stack_rectangle.proofs.Boxes.{HasEdge, IsSide, IsBox, low_left, low_r
 abbrev pub IsBetween : Bool → Range → ℤ → ℤ → Type 0
 IsBetween strict r z w = Before strict (r.low *ℤ w) z × Before strict z (r.high *ℤ w)
 
-abbrev pub IsWithin : Bool → Extent → Place → Type 0
+abbrev pub IsWithin : Bool → Extent → Triple → Type 0
 IsWithin strict e X = IsBetween strict e.x X.x X.w × IsBetween strict e.y X.y X.w
 
 -- left of each edge of the list, or on it where that's allowed
-abbrev pub AllLeft : Bool → List Point → Place → Type 0
+abbrev pub AllLeft : Bool → List Point → Triple → Type 0
 AllLeft strict ps X = (i : ℕ) → i < length ps → IsLeft strict (corner_of ps i) (end_of ps i) X
 
-of_edge : (strict : Bool) (ps : List Point) (c d : Point) (X : Place) → HasEdge ps c d → AllLeft strict ps X
+of_edge : (strict : Bool) (ps : List Point) (c d : Point) (X : Triple) → HasEdge ps c d → AllLeft strict ps X
     → IsLeft strict c d X
 of_edge strict ps c d X (i, (lt, e, f)) h = subst₂ (λ p q. IsLeft strict p q X) e f (h i lt)
 
-module _ (strict : Bool) (ps : List Point) (e : Extent) (box : IsBox ps e) (X : Place) where
+module _ (strict : Bool) (ps : List Point) (e : Extent) (box : IsBox ps e) (X : Triple) where
   between : AllLeft strict ps X → IsWithin strict e X
   between h = (
     (

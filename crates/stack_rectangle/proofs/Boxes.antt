@@ -1,4 +1,5 @@
 -- A rectangle's four sides, by its ranges.
+use Rattle.stack_algebra.proofs.CrossProducts.{positive_cancel}
 use Rattle.std.proofs.Common.{◌≡◌, ℕ, zero, suc, ◌<◌, ℤ, pos, negsuc, ◌-ℤ◌, ◌*ℤ◌, neg_ℤ, List, [], ◌∷◌, length}
 use Rattle.std.proofs.Common.{true, false, ◌⊎◌, inl, inr, refl, sym, subst, ◌∙◌, arith}
 use Rattle.std.specs.Prelude.{int_lt}
@@ -9,7 +10,7 @@ use Rattle.stack_polygon.specs.declared.point.Point.{Point}
 use Rattle.stack_polygon.specs.Plane.{triangle_of}
 use Rattle.stack_polygon.specs.Corners.{corner_of, end_of, IsStrictlyConvex}
 use Rattle.stack_rectangle.specs.Rectangles.{IsRectangle, Extent, range_between, extent_of}
-use Rattle.stack_rectangle.proofs.LevelEdges.{pt, pos-cancel}
+use Rattle.stack_rectangle.proofs.LevelEdges.{pt}
 
 -- the list has an edge from c to d
 abbrev pub HasEdge : List Point → Point → Point → Type 0
@@ -140,11 +141,11 @@ falling x u h = let t : int_lt u x ≡ true = grind (arith, ints) in rw t refl
 same_sign : (s t : ℤ) → pos 0 ≺ s *ℤ t → (pos 0 ≺ s × pos 0 ≺ t) ⊎ (s ≺ pos 0 × t ≺ pos 0)
 same_sign (pos zero) (pos m) h = absurd (omega (arith, ints))
 same_sign (pos zero) (negsuc m) h = absurd (omega (arith, ints))
-same_sign (pos (suc n)) t h = inl (omega (arith, ints), pos-cancel (pos (suc n)) t (omega (arith, ints)) h)
+same_sign (pos (suc n)) t h = inl (omega (arith, ints), positive_cancel (pos (suc n)) t (omega (arith, ints)) h)
 same_sign (negsuc n) t h =
     let e : negsuc n *ℤ t ≡ pos (suc n) *ℤ neg_ℤ t = simp expand (omega (arith, sums)) in
     let k : pos 0 ≺ pos (suc n) *ℤ neg_ℤ t = rw e at h in
-    let m = pos-cancel (pos (suc n)) (neg_ℤ t) (omega (arith, ints)) k in
+    let m = positive_cancel (pos (suc n)) (neg_ℤ t) (omega (arith, ints)) k in
     inr (omega (arith, ints), omega (arith, sums))
 
 -- from (x, y) across to (u, y), upright to (u, v), and back

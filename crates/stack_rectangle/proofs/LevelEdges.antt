@@ -1,5 +1,6 @@
 -- What a level or an upright edge says of a point. Each lemma serves points left of an edge or on it, and
 -- points strictly left of it.
+use Rattle.stack_algebra.proofs.CrossProducts.{positive_cancel}
 use Rattle.std.proofs.Common.{◌≡◌, zero, suc, ℤ, pos, negsuc, ◌-ℤ◌, ◌*ℤ◌, neg_ℤ, Bool, true, false, sym, subst}
 use Rattle.std.proofs.Common.{arith}
 use Rattle.std.specs.Prelude.{◌↔◌}
@@ -8,19 +9,10 @@ use Rattle.stack_algebra.specs.IntegerOrder.{◌≼◌, ◌≺◌}
 use Rattle.stack_algebra.proofs.Integers.{sums, expand}
 use Rattle.stack_algebra.proofs.Order.{mul_nonneg, nonneg-cancel, mul_pos}
 use Rattle.stack_polygon.specs.declared.point.Point.{Point}
-use Rattle.stack_polygon.specs.Plane.{Place, left_of}
+use Rattle.stack_polygon.specs.Plane.{Triple, left_of}
 
 abbrev pub pt : ℤ → ℤ → Point
 pt x y = record { x = x; y = y }
-
--- a product with a positive number has the sign of the other one
-pub pos-cancel : (s v : ℤ) → pos 0 ≺ s → pos 0 ≺ s *ℤ v → pos 0 ≺ v
-pos-cancel s (pos (suc n)) h p = omega (arith, ints)
-pos-cancel (pos m) (pos zero) h p = absurd (omega (arith, ints))
-pos-cancel (negsuc m) (pos zero) h p = absurd (omega (arith, ints))
-pos-cancel s (negsuc n) h p =
-    let m = mul_pos s (pos (suc n)) h (omega (arith, ints)) in
-    absurd (omega (arith, sums, simp expand at m, simp expand at p))
 
 -- less, or at most
 abbrev pub Before : Bool → ℤ → ℤ → Type 0
@@ -31,7 +23,7 @@ Before false a b = a ≼ b
 kept : (strict : Bool) (s a b : ℤ) → pos 0 ≺ s
     → Before strict (pos 0) (s *ℤ (b -ℤ a)) ↔ Before strict a b
 kept true s a b h = (
-  λ p. let q = pos-cancel s (b -ℤ a) h p in omega (arith, sums),
+  λ p. let q = positive_cancel s (b -ℤ a) h p in omega (arith, sums),
   λ p. mul_pos s (b -ℤ a) h (omega (arith, sums)),
 )
 kept false s a b h = (
@@ -60,11 +52,11 @@ upright_edge : (x y v X Y w : ℤ)
 upright_edge x y v X Y w = simp expand (omega (arith, sums))
 
 -- the point lies left of an edge, or on it where that's allowed
-abbrev pub IsLeft : Bool → Point → Point → Place → Type 0
+abbrev pub IsLeft : Bool → Point → Point → Triple → Type 0
 IsLeft strict o p X = Before strict (pos 0) (left_of o p X)
 
 -- a level edge bounds y, an upright one bounds x
-pub level_kept : (strict : Bool) (x u y : ℤ) (X : Place) → x ≺ u
+pub level_kept : (strict : Bool) (x u y : ℤ) (X : Triple) → x ≺ u
     → IsLeft strict (pt x y) (pt u y) X ↔ Before strict (y *ℤ X.w) X.y
 level_kept strict x u y X h =
     let P : ℤ → Type 0 = λ z. Before strict (pos 0) z in
@@ -72,7 +64,7 @@ level_kept strict x u y X h =
     let k = kept strict (u -ℤ x) (y *ℤ X.w) X.y (omega (arith, sums)) in
     (λ p. k.0 (subst P e p), λ p. subst P (sym e) (k.1 p))
 
-pub level_turned : (strict : Bool) (x u y : ℤ) (X : Place) → u ≺ x
+pub level_turned : (strict : Bool) (x u y : ℤ) (X : Triple) → u ≺ x
     → IsLeft strict (pt x y) (pt u y) X ↔ Before strict X.y (y *ℤ X.w)
 level_turned strict x u y X h =
     let P : ℤ → Type 0 = λ z. Before strict (pos 0) z in
@@ -80,7 +72,7 @@ level_turned strict x u y X h =
     let k = turned strict (u -ℤ x) (y *ℤ X.w) X.y (omega (arith, sums)) in
     (λ p. k.0 (subst P e p), λ p. subst P (sym e) (k.1 p))
 
-pub upright_kept : (strict : Bool) (x y v : ℤ) (X : Place) → y ≺ v
+pub upright_kept : (strict : Bool) (x y v : ℤ) (X : Triple) → y ≺ v
     → IsLeft strict (pt x y) (pt x v) X ↔ Before strict X.x (x *ℤ X.w)
 upright_kept strict x y v X h =
     let P : ℤ → Type 0 = λ z. Before strict (pos 0) z in
@@ -88,7 +80,7 @@ upright_kept strict x y v X h =
     let k = kept strict (v -ℤ y) X.x (x *ℤ X.w) (omega (arith, sums)) in
     (λ p. k.0 (subst P e p), λ p. subst P (sym e) (k.1 p))
 
-pub upright_turned : (strict : Bool) (x y v : ℤ) (X : Place) → v ≺ y
+pub upright_turned : (strict : Bool) (x y v : ℤ) (X : Triple) → v ≺ y
     → IsLeft strict (pt x y) (pt x v) X ↔ Before strict (x *ℤ X.w) X.x
 upright_turned strict x y v X h =
     let P : ℤ → Type 0 = λ z. Before strict (pos 0) z in

@@ -5,7 +5,7 @@ use Rattle.std.proofs.lemmas.Int.{ints}
 use Rattle.stack_algebra.specs.IntegerOrder.{◌≼◌, ◌≺◌}
 use Rattle.stack_algebra.proofs.Integers.{sums, expand}
 use Rattle.stack_polygon.specs.declared.point.Point.{Point}
-use Rattle.stack_polygon.specs.Plane.{Place}
+use Rattle.stack_polygon.specs.Plane.{Triple}
 use Rattle.stack_polygon.specs.Limits.{IsPolygon}
 use Rattle.stack_frame.specs.declared.frame.Frame.{Frame}
 use Rattle.stack_overlap.specs.declared.types.Common.{Common}
@@ -18,7 +18,7 @@ use Rattle.stack_contact.specs.declared.types.Contacts.{Contacts}
 use Rattle.stack_contact.specs.PairContacts.{AreContacts, contacts_by}
 use Rattle.stack_contact.specs.Surveyed.{AreSeparated}
 use Rattle.stack_rectangle.specs.Rectangles.{IsRectangle, Range, Extent, extent_of, common_of, count_of}
-use Rattle.stack_rectangle.specs.Rectangles.{least, greatest, contacts_in, contacts_by_ranges}
+use Rattle.stack_rectangle.specs.Rectangles.{least_corner, greatest, contacts_in, contacts_by_ranges}
 use Rattle.stack_rectangle.specs.Rectangles.{level_frame, upright_frame}
 use Rattle.stack_contact.proofs.OnePair.{are-contacts}
 use Rattle.stack_rectangle.proofs.Boxes.{IsBox, boxed}
@@ -72,7 +72,7 @@ module _ (ps qs : List Point) (p : IsPolygon ps) (q : IsPolygon qs) (a b : Exten
 
   both_long : x.low ≺ x.high → y.low ≺ y.high → Overlaps ps qs
   both_long h k =
-      let X : Place = record {
+      let X : Triple = record {
         x = x.low +ℤ x.high;
         y = y.low +ℤ y.high;
         w = pos 2;
@@ -100,32 +100,32 @@ module _ (ps qs : List Point) (p : IsPolygon ps) (q : IsPolygon qs) (a b : Exten
   joined f g = (λ a. g.0 (f.0 a), λ c. f.1 (g.1 c))
 
   on_level : x.low ≺ x.high → y.low ≡ y.high
-      → Tells ps qs (Some (contacts_by (Segment (least x y) (greatest x y)) (level_frame a b)))
-  on_level h e = meeting _ (by_y (as_much _ _ e)) (Segment (least x y) (greatest x y)) (
+      → Tells ps qs (Some (contacts_by (Segment (least_corner x y) (greatest x y)) (level_frame a b)))
+  on_level h e = meeting _ (by_y (as_much _ _ e)) (Segment (least_corner x y) (greatest x y)) (
     inl h,
     λ X. joined (commons ps qs a b one other X) (level_segment x.low x.high y.low y.high h e X),
   )
 
   on_upright : x.low ≡ x.high → y.low ≺ y.high
-      → Tells ps qs (Some (contacts_by (Segment (least x y) (greatest x y)) (upright_frame a b)))
-  on_upright e h = meeting _ (by_x (as_much _ _ e)) (Segment (least x y) (greatest x y)) (
+      → Tells ps qs (Some (contacts_by (Segment (least_corner x y) (greatest x y)) (upright_frame a b)))
+  on_upright e h = meeting _ (by_x (as_much _ _ e)) (Segment (least_corner x y) (greatest x y)) (
     inr (e, h),
     λ X. joined (commons ps qs a b one other X) (upright_segment x.low x.high y.low y.high e h X),
   )
 
   at_point : x.low ≡ x.high → y.low ≡ y.high
-      → Tells ps qs (Some (contacts_by (Corner (least x y)) (level_frame a b)))
+      → Tells ps qs (Some (contacts_by (Corner (least_corner x y)) (level_frame a b)))
   at_point e f =
       let u = ends a.x b.x one.wide other.wide e in
       let v = ends a.y b.y one.tall other.tall f in
-      meeting _ (by_y (as_much _ _ f)) (Corner (least x y)) (
+      meeting _ (by_y (as_much _ _ f)) (Corner (least_corner x y)) (
         corner_at ps a one x.low y.low u.0 v.0,
         corner_at qs b other x.low y.low u.1 v.1,
         λ X. joined (commons ps qs a b one other X) (one_point x.low x.high y.low y.high e f X),
       )
 
   abbrev Told : Type 0
-  Told = Tells ps qs (contacts_in (count_of x) (count_of y) (least x y) (greatest x y) a b)
+  Told = Tells ps qs (contacts_in (count_of x) (count_of y) (least_corner x y) (greatest x y) a b)
 
   pub told : Sized x → Sized y → Told
   told (empty e h) s = rw e (none_by_x h)

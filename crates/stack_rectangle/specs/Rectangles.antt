@@ -68,8 +68,8 @@ upright_frame a b =
     if int_le a.x.high b.x.low then record { tx = pos 0; ty = negsuc 0 } else record { tx = pos 0; ty = pos 1 }
 
 -- the corners of what two ranges span: the least x and y, the greatest x and y
-abbrev pub least : Range → Range → Point
-least x y = record { x = x.low; y = y.low }
+abbrev pub least_corner : Range → Range → Point
+least_corner x y = record { x = x.low; y = y.low }
 
 abbrev pub greatest : Range → Range → Point
 greatest x y = record { x = x.high; y = y.high }
@@ -88,7 +88,7 @@ abbrev pub contacts_of : Extent → Extent → Option Contacts
 contacts_of a b =
     let x = common_of a.x b.x in
     let y = common_of a.y b.y in
-    contacts_in (count_of x) (count_of y) (least x y) (greatest x y) a b
+    contacts_in (count_of x) (count_of y) (least_corner x y) (greatest x y) a b
 
 abbrev pub contacts_by_ranges : List Point → List Point → Option Contacts
 contacts_by_ranges ps qs = contacts_of (extent_of ps) (extent_of qs)

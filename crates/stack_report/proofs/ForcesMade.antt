@@ -1,4 +1,4 @@
--- The numbers of a force are made where none of them passes.
+-- The numbers of a force are made where none of them is too wide.
 use Rattle.std.proofs.Common.{◌≡◌, refl, sym, ap, subst, ◌∙◌, arith, ◌+ℤ◌, ◌-ℤ◌, ◌*ℤ◌, Bool, true, false, Result, Ok}
 use Rattle.std.proofs.Common.{Err}
 use Rattle.std.specs.Prelude.{◌&&◌, if◌then◌else◌}
@@ -14,9 +14,9 @@ use Rattle.stack_contact.specs.declared.types.Bearing.{Bearing}
 use Rattle.stack_equilibrium.specs.declared.block.Push.{Push}
 use Rattle.stack_equilibrium.specs.Balance.{force_x_of, force_y_of}
 use Rattle.stack_equilibrium.specs.SurveyScene.{scene_bearing_of}
-use Rattle.stack_rational.proofs.Conjunctions.{left_of, right_of}
-use Rattle.stack_report.specs.declared.force.Force.{Force}
-use Rattle.stack_report.specs.ForceNumbers.{x_fits, y_fits, force_fits, written_x, written_y, written_force}
+use Rattle.stack_algebra.proofs.Conjunctions.{left_true, right_true}
+use Rattle.stack_report.specs.declared.force.RealForce.{RealForce}
+use Rattle.stack_report.specs.ForceNumbers.{x_fits, y_fits, force_fits, written_x, written_y, written_real_force}
 
 abbrev made_if : {B : Type 0} → Bool → B → Result B Wide
 made_if b x = if b then Ok x else Err (record {})
@@ -55,17 +55,17 @@ y_is : (t : Frame) (f : Push) → written_y t f ≡ made_if (y_fits t f.a.value 
 unfolding written_y
 y_is t f = after (f.a.value *ℤ t.tx) _ _ _ (after (f.b.value *ℤ t.ty) _ _ _ refl)
 
-abbrev force_with : Bearing → Push → Force
+abbrev force_with : Bearing → Push → RealForce
 force_with z f = record { x = whole (x_of z.frame f); y = whole (y_of z.frame f) }
 
-force_is : (z : Bearing) (f : Push) → written_force z f ≡ made_if (force_fits z f) (force_with z f)
-unfolding written_force
+force_is : (z : Bearing) (f : Push) → written_real_force z f ≡ made_if (force_fits z f) (force_with z f)
+unfolding written_real_force
 force_is z f = both (written_x z.frame f) _ _ _ (whole (x_of z.frame f)) _ (x_is z.frame f)
     (mapped (written_y z.frame f) _ (λ y. record { x = whole (x_of z.frame f); y = y })
     (whole (y_of z.frame f)) (y_is z.frame f))
 
 -- a force that is made
-pub record IsForce (z : Bearing) (f : Push) (r : Force) : Type 0 where
+pub record IsForce (z : Bearing) (f : Push) (r : RealForce) : Type 0 where
   pub fits : force_fits z f ≡ true
   pub x : r.x.value ≡ force_x_of (scene_bearing_of z) (record { a = f.a.value; b = f.b.value })
   pub y : r.y.value ≡ force_y_of (scene_bearing_of z) (record { a = f.a.value; b = f.b.value })
@@ -75,14 +75,14 @@ pub record IsForce (z : Bearing) (f : Push) (r : Force) : Type 0 where
 -- its last numbers fit
 last_fit : (a b c d e f : Bool) → ((a && (b && c)) && (d && (e && f))) ≡ true → (c ≡ true) × (f ≡ true)
 last_fit a b c d e f h = (
-  right_of b c (right_of a (b && c) (left_of (a && (b && c)) (d && (e && f)) h)),
-  right_of e f (right_of d (e && f) (right_of (a && (b && c)) (d && (e && f)) h)),
+  right_true b c (right_true a (b && c) (left_true (a && (b && c)) (d && (e && f)) h)),
+  right_true e f (right_true d (e && f) (right_true (a && (b && c)) (d && (e && f)) h)),
 )
 
 turned : (a b tx ty : ℤ) → b *ℤ tx -ℤ a *ℤ ty ≡ a *ℤ neg_ℤ ty +ℤ b *ℤ tx
 turned a b tx ty = simp expand (omega (arith, sums))
 
-pub force_ok : (z : Bearing) (f : Push) (r : Force) → written_force z f ≡ Ok r → IsForce z f r
+pub force_ok : (z : Bearing) (f : Push) (r : RealForce) → written_real_force z f ≡ Ok r → IsForce z f r
 force_ok z f r h = go (force_fits z f) refl (sym (force_is z f) ∙ h)
   where
     a : ℤ
@@ -99,12 +99,12 @@ force_ok z f r h = go (force_fits z f) refl (sym (force_is z f) ∙ h)
           fits = e;
           x = sym (λ i. (is i).x.value) ∙ turned a b z.frame.tx z.frame.ty;
           y = sym (λ i. (is i).y.value);
-          x_fits = subst (λ (r : Force). IsFitting r.x.value) is (ltb-true _ _ fit.0);
-          y_fits = subst (λ (r : Force). IsFitting r.y.value) is (ltb-true _ _ fit.1);
+          x_fits = subst (λ (r : RealForce). IsFitting r.x.value) is (ltb-true _ _ fit.0);
+          y_fits = subst (λ (r : RealForce). IsFitting r.y.value) is (ltb-true _ _ fit.1);
         }
     go false e h = absurd cc
 
-pub force_err : (z : Bearing) (f : Push) (w : Wide) → written_force z f ≡ Err w → force_fits z f ≡ false
+pub force_err : (z : Bearing) (f : Push) (w : Wide) → written_real_force z f ≡ Err w → force_fits z f ≡ false
 force_err z f w h = go (force_fits z f) refl (sym (force_is z f) ∙ h)
   where
     go : (t : Bool) → force_fits z f ≡ t → made_if t (force_with z f) ≡ Err w → force_fits z f ≡ false

@@ -1,4 +1,4 @@
--- Lines that are added to a table, and the first number of them that passes.
+-- Lines that are added to a table, and the first number of them that is too wide.
 use Rattle.std.proofs.Common.{◌≡◌, sym, ap, subst, ◌∙◌, ℕ, ◌+◌, ◌<◌, not, List, [], ◌∷◌}
 use Rattle.std.proofs.Common.{◌++◌, length, get_or, drop, Option, Some, None, Result, Ok, Err}
 use Rattle.std.specs.Prelude.{String, string_bytes}
@@ -10,7 +10,7 @@ use Rattle.std.proofs.lemmas.List.{get_or_default}
 use Rattle.stack_whole.specs.declared.whole.Wide.{Wide}
 use Rattle.stack_contact.specs.declared.types.Bearing.{Bearing}
 use Rattle.stack_equilibrium.specs.declared.block.Push.{Push}
-use Rattle.stack_report.specs.declared.force.Force.{Force}
+use Rattle.stack_report.specs.declared.force.RealForce.{RealForce}
 use Rattle.stack_report.specs.declared.errors.ReportError.{ReportError}
 use Rattle.stack_report.specs.declared.errors.ReportError.TheVariants.{TooWide, Memory}
 use Rattle.stack_equilibrium.specs.SurveyScene.{no_bearing}
@@ -18,23 +18,23 @@ use Rattle.stack_equilibrium.specs.WrittenSums.{push_at}
 use Rattle.stack_model.specs.Structure.{Structure}
 use Rattle.stack_certificate.specs.Certificate.{MotionValue}
 use Rattle.stack_report.specs.ContactTable.{name_of, lines_from}
-use Rattle.stack_report.specs.ForceNumbers.{one_spot, force_spot, written_force}
-use Rattle.stack_report.specs.ForceTable.{lowest, force_text, force_line, move_text, move_line}
+use Rattle.stack_report.specs.ForceNumbers.{one_spot, force_spot, written_real_force}
+use Rattle.stack_report.specs.ForceTable.{lowest_ratio, force_text, force_line, move_text, body_move_line}
 use Rattle.stack_report.specs.Tabling.{Adds}
 use Rattle.stack_report.proofs.ForcesMade.{force_ok, force_err}
 use Rattle.stack_report.proofs.LineByLine.{one_more}
 
--- the line of a bearing whose numbers fit, and none where one passes
-pub one_line : (i : ℕ) (z : Bearing) (f : Push) (r : Force) (d : ℤ) (k : ℕ) (text : List ℕ) (t : String Global) →
-    written_force z f ≡ Ok r →
-    string_bytes t ≡ text ++ (force_text k (lowest r.x.value d) (lowest r.y.value d) ++ 10 ∷ []) →
+-- the line of a bearing whose numbers fit, and none where one is too wide
+pub one_line : (i : ℕ) (z : Bearing) (f : Push) (r : RealForce) (d : ℤ) (k : ℕ) (text : List ℕ) (t : String Global) →
+    written_real_force z f ≡ Ok r →
+    string_bytes t ≡ text ++ (force_text k (lowest_ratio r.x.value d) (lowest_ratio r.y.value d) ++ 10 ∷ []) →
     Adds (Ok t) text (one_spot i z f) (force_line d k z f)
 one_line i z f r d k text t h e = let m = force_ok z f r h in (
   ap (λ b. only_if (not b) i) m.fits,
-  e ∙ (λ j. text ++ (force_text k (lowest (m.x j) d) (lowest (m.y j) d) ++ 10 ∷ [])),
+  e ∙ (λ j. text ++ (force_text k (lowest_ratio (m.x j) d) (lowest_ratio (m.y j) d) ++ 10 ∷ [])),
 )
 
-pub none_made : (i : ℕ) (z : Bearing) (f : Push) (w : Wide) → written_force z f ≡ Err w → one_spot i z f ≡ Some i
+pub none_made : (i : ℕ) (z : Bearing) (f : Push) (w : Wide) → written_real_force z f ≡ Err w → one_spot i z f ≡ Some i
 none_made i z f w h = ap (λ b. only_if (not b) i) (force_err z f w h)
 
 -- what stops the lines of a list at an item stops them all
@@ -75,10 +75,10 @@ module _ (d : ℤ) (i k : ℕ) (bs : List Bearing) (parts : List (ℤ × ℤ)) (
 pub move_added : (s : Structure) (y : MotionValue) (b : ℕ) (frees : List ℕ) (i : ℕ) (name : List ℕ)
     (t : String Global) (text whole : List ℕ) → b < length frees → i ≡ get_or frees b 0 → name ≡ name_of s i →
     string_bytes t ≡ text ++ (move_text name (get_or y b (pos 0, pos 0, pos 0)) ++ 10 ∷ []) →
-    text ++ lines_from (move_line s y) b (drop b frees) ≡ whole →
-    string_bytes t ++ lines_from (move_line s y) (b + 1) (drop (b + 1) frees) ≡ whole
+    text ++ lines_from (body_move_line s y) b (drop b frees) ≡ whole →
+    string_bytes t ++ lines_from (body_move_line s y) (b + 1) (drop (b + 1) frees) ≡ whole
 move_added s y b frees i name t text whole l number named e so_far =
-    one_more (move_line s y) frees b (get_or frees b 0) text (string_bytes t) whole l
+    one_more (body_move_line s y) frees b (get_or frees b 0) text (string_bytes t) whole l
     (get_or_default frees b 0 (get_or frees b 0) l)
     (e ∙ (λ j. text ++ (move_text ((named ∙ ap (name_of s) number) j) (get_or y b (pos 0, pos 0, pos 0))
     ++ 10 ∷ [])))

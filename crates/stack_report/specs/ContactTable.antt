@@ -22,13 +22,13 @@ point_text a = pair_text a.x a.y
 unfoldable pub directions_text : Bearing → List ℕ
 directions_text z = pair_text z.frame.tx z.frame.ty ++ codes " " ++ pair_text z.cone.p z.cone.q
 
-unfoldable pub numbers_text : Bearing → List ℕ
-numbers_text z = point_text z.at ++ codes " " ++ directions_text z
+unfoldable pub bearing_numbers : Bearing → List ℕ
+bearing_numbers z = point_text z.at ++ codes " " ++ directions_text z
 
 -- bearing number k, from 0, between the bodies with these names
 abbrev pub bearing_text : ℕ → List ℕ → List ℕ → Bearing → List ℕ
 bearing_text k first second z =
-    codes "bearing " ++ decimal (k + 1) ++ codes " " ++ first ++ codes " " ++ second ++ codes " " ++ numbers_text z
+    codes "bearing " ++ decimal (k + 1) ++ codes " " ++ first ++ codes " " ++ second ++ codes " " ++ bearing_numbers z
 
 -- touch number k, from 0
 abbrev pub touch_text : ℕ → List ℕ → List ℕ → Touch → List ℕ
@@ -52,7 +52,8 @@ abbrev pub count_line : List ℕ → ℕ → List ℕ
 count_line word n = word ++ codes " " ++ decimal n ++ 10 ∷ []
 
 abbrev pub bearings_part : Surveyed → List ℕ
-bearings_part s = count_line (codes "bearings") (length s.bearings) ++ lines_from (bearing_line s.structure) 0 s.bearings
+bearings_part s = count_line (codes "bearings") (length s.bearings) ++ lines_from
+    (bearing_line s.structure) 0 s.bearings
 
 abbrev pub touches_part : Surveyed → List ℕ
 touches_part s = count_line (codes "touches") (length s.touches) ++ lines_from (touch_line s.structure) 0 s.touches

@@ -1,4 +1,4 @@
--- The numbers of which a table of forces is made, in their order, and the index of the first that passes.
+-- The numbers of which a table of forces is made, in their order, and the index of the first that is too wide.
 -- Six times the scale has the index of its list; the numbers of its bearings, from the first one, have the indices
 -- that follow. The second list of a certificate follows the first, with its factor in place of its scale.
 use Rattle.std.specs.Prelude.{ℕ, ◌+◌, ℤ, pos, ◌+ℤ◌, ◌-ℤ◌, ◌*ℤ◌, List, length, get_or, Bool, not, ◌&&◌, Option, None}
@@ -15,7 +15,7 @@ use Rattle.stack_certificate.specs.Certificate.{CertificateValue, stands, collap
 use Rattle.stack_equilibrium.specs.declared.block.Push.{Push}
 use Rattle.stack_equilibrium.specs.SurveyScene.{no_bearing}
 use Rattle.stack_equilibrium.specs.WrittenSums.{push_at}
-use Rattle.stack_report.specs.declared.force.Force.{Force}
+use Rattle.stack_report.specs.declared.force.RealForce.{RealForce}
 
 -- the numbers of a force with the parts a and b: b*tx, a*ty and their difference; a*tx, b*ty and their sum
 abbrev pub x_fits : Frame → (a b : ℤ) → Bool
@@ -27,7 +27,7 @@ y_fits t a b = fits (a *ℤ t.tx) && (fits (b *ℤ t.ty) && fits (a *ℤ t.tx +�
 abbrev pub force_fits : Bearing → Push → Bool
 force_fits z f = x_fits z.frame f.a.value f.b.value && y_fits z.frame f.a.value f.b.value
 
--- the index i, where one of them passes
+-- the index i, where one of them is too wide
 abbrev pub one_spot : (i : ℕ) → Bearing → Push → Option ℕ
 one_spot i z f = only_if (not (force_fits z f)) i
 
@@ -61,8 +61,8 @@ written_y t f = do
   along ← made (f.b.value *ℤ t.ty)
   made (across.value +ℤ along.value)
 
-unfoldable pub written_force : Bearing → Push → Result Force Wide
-written_force z f = do
+unfoldable pub written_real_force : Bearing → Push → Result RealForce Wide
+written_real_force z f = do
   x ← written_x z.frame f
   y ← written_y z.frame f
   Ok (record { x = x; y = y })

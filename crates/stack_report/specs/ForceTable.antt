@@ -19,15 +19,15 @@ use Rattle.stack_report.specs.declared.ratio.Ratio.{Ratio}
 use Rattle.stack_report.specs.ContactTable.{name_of, lines_from}
 
 -- n over d, which is positive, in lowest terms
-abbrev pub lowest : (n d : ℤ) → Ratio
-lowest n d = record { num = (over n d).num; den = pos (over n d).den }
+abbrev pub lowest_ratio : (n d : ℤ) → Ratio
+lowest_ratio n d = record { num = (over n d).num; den = pos (over n d).den }
 
 unfoldable pub ratio_text : Ratio → List ℕ
 ratio_text r = signed_decimal r.num ++ codes "/" ++ signed_decimal r.den
 
 -- the factor of the live loads
 abbrev pub factor_line : ForcesValue → List ℕ
-factor_line f = codes "factor " ++ ratio_text (lowest f.factor f.scale) ++ 10 ∷ []
+factor_line f = codes "factor " ++ ratio_text (lowest_ratio f.factor f.scale) ++ 10 ∷ []
 
 -- the force of bearing number k, from 0, to the right and upwards
 abbrev pub force_text : ℕ → (x y : Ratio) → List ℕ
@@ -35,21 +35,21 @@ force_text k x y = codes "force " ++ decimal (k + 1) ++ codes " " ++ ratio_text 
 
 -- what a bearing exerts on its later body with a push, over d
 abbrev pub exerted_x : Bearing → Push → (d : ℤ) → Ratio
-exerted_x z f d = lowest (force_x_of (scene_bearing_of z) (record { a = f.a.value; b = f.b.value })) d
+exerted_x z f d = lowest_ratio (force_x_of (scene_bearing_of z) (record { a = f.a.value; b = f.b.value })) d
 
 abbrev pub exerted_y : Bearing → Push → (d : ℤ) → Ratio
-exerted_y z f d = lowest (force_y_of (scene_bearing_of z) (record { a = f.a.value; b = f.b.value })) d
+exerted_y z f d = lowest_ratio (force_y_of (scene_bearing_of z) (record { a = f.a.value; b = f.b.value })) d
 
 abbrev pub force_line : (d : ℤ) → ℕ → Bearing → Push → List ℕ
 force_line d k z f = force_text k (exerted_x z f d) (exerted_y z f d) ++ 10 ∷ []
 
 -- those of a list
-abbrev pub forces_lines : (d : ℤ) → List Bearing → List (ℤ × ℤ) → List ℕ
-forces_lines d bs parts = lines_from (λ k z. force_line d k z (push_at parts k)) 0 bs
+abbrev pub bearing_lines : (d : ℤ) → List Bearing → List (ℤ × ℤ) → List ℕ
+bearing_lines d bs parts = lines_from (λ k z. force_line d k z (push_at parts k)) 0 bs
 
 -- each a sixth of its part over this number
 abbrev pub forces_part : Surveyed → (over : ℤ) → List (ℤ × ℤ) → List ℕ
-forces_part s over parts = forces_lines (pos 6 *ℤ over) s.bearings parts
+forces_part s over parts = bearing_lines (pos 6 *ℤ over) s.bearings parts
 
 -- the move of a block with this name
 abbrev pub move_text : List ℕ → ℤ × ℤ × ℤ → List ℕ
@@ -57,11 +57,11 @@ move_text name m = codes "move " ++ name ++ codes " " ++ signed_decimal m.0 ++ c
     ++ codes " " ++ signed_decimal m.2
 
 -- that of free block number b, which is body i
-abbrev pub move_line : Structure → MotionValue → (b i : ℕ) → List ℕ
-move_line s y b i = move_text (name_of s i) (get_or y b (pos 0, pos 0, pos 0)) ++ 10 ∷ []
+abbrev pub body_move_line : Structure → MotionValue → (b i : ℕ) → List ℕ
+body_move_line s y b i = move_text (name_of s i) (get_or y b (pos 0, pos 0, pos 0)) ++ 10 ∷ []
 
 abbrev pub moves_part : Surveyed → MotionValue → List ℕ
-moves_part s y = lines_from (move_line s.structure y) 0 (frees_of s.structure.bodies)
+moves_part s y = lines_from (body_move_line s.structure y) 0 (frees_of s.structure.bodies)
 
 -- the forces that carry the loads, with their factor; and further ones, without end
 abbrev pub carried_part : Surveyed → ForcesValue → List ℕ

@@ -11,11 +11,11 @@ use Rattle.stack_certificate.specs.Certificate.{greatest, unbounded}
 use Rattle.stack_report.specs.declared.errors.ReportError.{ReportError}
 use Rattle.stack_report.specs.declared.errors.ReportError.TheVariants.{TooWide, Memory}
 use Rattle.stack_report.specs.ForceNumbers.{wide_index}
-use Rattle.stack_report.specs.declared.force.Force.{Force}
+use Rattle.stack_report.specs.declared.force.RealForce.{RealForce}
 use Rattle.stack_report.specs.declared.force_lines.ForceLine.{ForceLine}
-use Rattle.stack_report.specs.ForceTable.{lowest, forces_text}
+use Rattle.stack_report.specs.ForceTable.{lowest_ratio, forces_text}
 
--- exactly this text where no number passes, or the index of the first that does. `Memory` may come at any time
+-- exactly this text where no number is too wide, or the index of the first that is. `Memory` may come at any time
 abbrev pub Tables : Result (Vec ℕ Global) ReportError → Surveyed → CertificateValue → Type 0
 Tables (Ok v) s c = (wide_index s c ≡ None) × (v.items ≡ forces_text s c)
 Tables (Err (TooWide i)) s c = wide_index s c ≡ Some i
@@ -29,11 +29,11 @@ Adds (Err (TooWide i)) text wide more = wide ≡ Some i
 Adds (Err Memory) text wide more = ⊤
 
 -- the line of bearing number k with this force over d
-abbrev pub line_over : (d : ℤ) → ℕ → Force → ForceLine
-line_over d k f = record { index = k; x = lowest f.x.value d; y = lowest f.y.value d }
+abbrev pub line_over : (d : ℤ) → ℕ → RealForce → ForceLine
+line_over d k f = record { index = k; x = lowest_ratio f.x.value d; y = lowest_ratio f.y.value d }
 
 -- a number that others are divided by
-pub record IsDivisor (d : ℤ) : Type 0 where
+pub record IsScale (d : ℤ) : Type 0 where
   pub positive : pos 0 ≺ d
   pub fits : IsFitting d
 

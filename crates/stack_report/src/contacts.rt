@@ -18,7 +18,8 @@ fn with_bearing(
     index: usize,
     bearing: Bearing,
 ) -> Result<String, AllocError>
-    ensures { IfOk result (λ t. string_bytes t ≡ string_bytes text ++ bearing_line (model_view model.now) index bearing) }
+    ensures { IfOk result (λ t. string_bytes t ≡ string_bytes text ++ bearing_line
+        (model_view model.now) index bearing) }
 {
     let line = BearingLine {
         index,
@@ -51,7 +52,8 @@ fn with_touch(
 
 /// The text with the lines of all bearings.
 fn with_bearings(text: String, model: &Model, bearings: &[Bearing]) -> Result<String, AllocError>
-    ensures { IfOk result (λ t. string_bytes t ≡ string_bytes text ++ lines_from (bearing_line (model_view model.now)) 0 bearings.now) }
+    ensures { IfOk result (λ t. string_bytes t ≡ string_bytes text ++ lines_from
+        (bearing_line (model_view model.now)) 0 bearings.now) }
 {
     let mut longer = text;
     for (index, bearing) in bearings.iter().enumerate() {
@@ -62,7 +64,8 @@ fn with_bearings(text: String, model: &Model, bearings: &[Bearing]) -> Result<St
 
 /// The text with the lines of all touches.
 fn with_touches(text: String, model: &Model, touches: &[Touch]) -> Result<String, AllocError>
-    ensures { IfOk result (λ t. string_bytes t ≡ string_bytes text ++ lines_from (touch_line (model_view model.now)) 0 touches.now) }
+    ensures { IfOk result (λ t. string_bytes t ≡ string_bytes text ++ lines_from
+        (touch_line (model_view model.now)) 0 touches.now) }
 {
     let mut longer = text;
     for (index, touch) in touches.iter().enumerate() {

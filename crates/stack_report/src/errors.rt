@@ -8,7 +8,7 @@ use std::alloc::AllocError;
 /// Why a certificate has no table of forces.
 #[derive(Clone, Copy, Debug, PartialEq, Eq)]
 pub enum ReportError {
-    /// A number of the table passes 2^127 - 1 in size. The index of the first one, in the order in which they are
+    /// A number of the table is more than 2^127 - 1 in size. The index of the first one, in the order in which they are
     /// made.
     TooWide { index: usize },
     /// Memory ran out.

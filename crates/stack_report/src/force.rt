@@ -1,7 +1,7 @@
 //! The force at a bearing.
 
 ghost use Rattle.std.specs.Prelude.{◌≡◌};
-ghost use Rattle.stack_report.specs.ForceNumbers.{written_x, written_y, written_force};
+ghost use Rattle.stack_report.specs.ForceNumbers.{written_x, written_y, written_real_force};
 
 use stack_contact::types::Bearing;
 use stack_equilibrium::block::Push;
@@ -10,7 +10,7 @@ use stack_whole::{Whole, Wide};
 
 /// A force on the later body of a bearing, to the right and upwards.
 #[derive(Clone, Copy, Debug, PartialEq, Eq)]
-pub struct Force {
+pub struct RealForce {
     pub x: Whole,
     pub y: Whole,
 }
@@ -34,11 +34,11 @@ fn force_y(tangent: Frame, push: Push) -> Result<Whole, Wide>
 }
 
 /// What a bearing exerts on its later body with this push.
-#[tactic(auto, unfolding(crate::specs::ForceNumbers::written_force))]
-pub fn force_of(bearing: Bearing, push: Push) -> Result<Force, Wide>
-    ensures { result ≡ written_force bearing push }
+#[tactic(auto, unfolding(crate::specs::ForceNumbers::written_real_force))]
+pub fn force_of(bearing: Bearing, push: Push) -> Result<RealForce, Wide>
+    ensures { result ≡ written_real_force bearing push }
 {
     let x = force_x(bearing.frame, push)?;
     let y = force_y(bearing.frame, push)?;
-    Ok(Force { x, y })
+    Ok(RealForce { x, y })
 }

@@ -8,13 +8,13 @@ ghost use Rattle.stack_model.specs.ModelView.{model_view};
 ghost use Rattle.stack_certificate.specs.Certificate.{forces_view, motion_view, certificate_view};
 ghost use Rattle.stack_checker.specs.WrittenCheck.{written_check};
 ghost use Rattle.stack_report.specs.ForceNumbers.{one_spot, force_spot, list_spot, wide_index};
-ghost use Rattle.stack_report.specs.ForceTable.{factor_line, force_text, force_line, forces_lines, forces_part};
+ghost use Rattle.stack_report.specs.ForceTable.{factor_line, force_text, force_line, bearing_lines, forces_part};
 ghost use Rattle.stack_report.specs.ForceTable.{move_text, moves_part, carried_part, rising_part, forces_text};
-ghost use Rattle.stack_report.specs.Tabling.{Tables, Adds, line_over, IsDivisor, HasParts, IsCarrying, IsRising};
+ghost use Rattle.stack_report.specs.Tabling.{Tables, Adds, line_over, IsScale, HasParts, IsCarrying, IsRising};
 ghost use Rattle.stack_report.specs.Tabling.{HasMoves, IsWhole};
 
 use crate::errors::ReportError;
-use crate::force::{Force, force_of};
+use crate::force::{RealForce, force_of};
 use crate::force_lines::{ForceLine, MoveLine};
 use crate::lines::name;
 use crate::ratio::lowest_terms;
@@ -38,10 +38,10 @@ pub fn with_factor(mut text: String, f: &Forces) -> Result<String, AllocError>
 }
 
 /// The line of bearing `index` with a force that is divided by a number.
-fn line_of(index: usize, force: Force, over: Whole) -> ForceLine
+fn line_of(index: usize, force: RealForce, over: Whole) -> ForceLine
     requires x { IsFitting force.x.value }
     requires y { IsFitting force.y.value }
-    requires over { IsDivisor over.value }
+    requires over { IsScale over.value }
     ensures { result ≡ line_over over.value index force }
 {
     ForceLine {
@@ -69,7 +69,7 @@ fn with_bearing(
     over: Whole,
     index: usize,
 ) -> Result<String, ReportError>
-    requires { IsDivisor over.value }
+    requires { IsScale over.value }
     ensures { Adds result (string_bytes text) (one_spot index bearing push) (force_line over.value k bearing push) }
 {
     match force_of(bearing, push) {
@@ -87,10 +87,10 @@ fn with_bearings(
     from: usize,
 ) -> Result<String, ReportError>
     requires count { length parts.now ≡ length bearings.now }
-    requires over { IsDivisor over.value }
+    requires over { IsScale over.value }
     requires few { from + length bearings.now ≤ 4096 }
     ensures { Adds result (string_bytes text) (first (length bearings.now) (force_spot from bearings.now parts.now))
-        (forces_lines over.value bearings.now parts.now) }
+        (bearing_lines over.value bearings.now parts.now) }
 {
     let mut longer = text;
     for (k, bearing) in bearings.iter().enumerate() {
@@ -204,10 +204,10 @@ fn lines(alloc: Global, s: &Survey, c: &Certificate) -> Result<String, ReportErr
 /// again the line of each bearing. Fractions are in lowest terms, with a positive denominator. Forces are in units of
 /// force: a part over six times the scale, and over six times the factor behind the line `ray`.
 ///
-/// `TooWide` exactly where a number passes 2^127 - 1 in size, with the index of the first one. Index 0 is six times the
-/// scale. Index k is bearing number k, from 1, with the parts a and b and the tangent (tx, ty): b*tx, a*ty, their
-/// difference, a*tx, b*ty, their sum. With K bearings, index K + 1 is six times the factor of further forces, and index
-/// K + 1 + k is bearing number k again. `Memory` where memory is wanting. After Livesley (1978).
+/// `TooWide` exactly where a number is more than 2^127 - 1 in size, with the index of the first one. Index 0 is six
+/// times the scale. Index k is bearing number k, from 1, with the parts a and b and the tangent (tx, ty): b*tx,
+/// a*ty, their difference, a*tx, b*ty, their sum. With K bearings, index K + 1 is six times the factor of further
+/// forces, and index K + 1 + k is bearing number k again. `Memory` where memory is wanting. After Livesley (1978).
 pub fn force_table(alloc: Global, s: &Survey, c: &Certificate) -> Result<Vec<u8>, ReportError>
     requires { written_check s.now (certificate_view c.now) ≡ Check.Accepted }
     ensures { Tables result s.now (certificate_view c.now) }

@@ -1,4 +1,9 @@
 //! Tables of a survey and of a certificate, as text.
+//!
+//! ```text
+//! contact_table(alloc, &survey)? // "bearings 2\n1 ground post 0 0 ..", the bytes that `contacts` prints
+//! force_table(alloc, &survey, &certificate)? // the forces of an accepted certificate, as fractions
+//! ```
 #![tactic(auto)]
 
 mod contacts;

@@ -2,7 +2,7 @@
 
 ghost use Rattle.std.specs.Prelude.{◌≡◌, ◌+◌, Some};
 ghost use Rattle.stack_model.specs.ModelView.{model_view};
-ghost use Rattle.stack_report.specs.ContactTable.{name_of, pair_text, directions_text, numbers_text, bearing_text};
+ghost use Rattle.stack_report.specs.ContactTable.{name_of, pair_text, directions_text, bearing_numbers, bearing_text};
 ghost use Rattle.stack_report.specs.ContactTable.{touch_text};
 
 use stack_contact::types::{Bearing, Touch};
@@ -99,9 +99,9 @@ impl fmt::Display for Directions {
 }
 
 impl fmt::Display for Numbers {
-    ghost output = { λ n. Some (numbers_text n.bearing) };
+    ghost output = { λ n. Some (bearing_numbers n.bearing) };
 
-    #[tactic(auto, unfolding(crate::specs::ContactTable::numbers_text))]
+    #[tactic(auto, unfolding(crate::specs::ContactTable::bearing_numbers))]
     fn fmt<W: fmt::Write>(&self, f: &mut fmt::Formatter<W>) -> fmt::Result {
         let at = point(self.bearing.at);
         let directions = Directions {

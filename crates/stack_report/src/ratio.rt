@@ -5,7 +5,7 @@ ghost use Rattle.stack_algebra.specs.IntegerOrder.{◌≺◌};
 ghost use Rattle.stack_algebra.proofs.Fractions.{of};
 ghost use Rattle.stack_algebra.proofs.Over.{over};
 ghost use Rattle.stack_whole.specs.Whole.{IsFitting};
-ghost use Rattle.stack_report.specs.ForceTable.{lowest, ratio_text};
+ghost use Rattle.stack_report.specs.ForceTable.{lowest_ratio, ratio_text};
 
 use stack_rational::{Exact, Frac};
 use stack_whole::Whole;
@@ -56,7 +56,7 @@ pub fn lowest_terms(n: Whole, d: Whole) -> Ratio
     requires numerator { IsFitting n.value }
     requires denominator { IsFitting d.value }
     requires positive { pos 0 ≺ d.value }
-    ensures { result ≡ lowest n.value d.value }
+    ensures { result ≡ lowest_ratio n.value d.value }
 {
     let (num, den) = quotient(n, d).parts();
     Ratio { num, den }

@@ -4,7 +4,8 @@ ghost use Rattle.std.specs.Prelude.{◌≡◌, ◌++◌, ◌∷◌, [], codes, l
 ghost use Rattle.stack_certificate.specs.Certificate.{certificate_view};
 ghost use Rattle.stack_contact.specs.FreeBlocks.{frees_of};
 ghost use Rattle.stack_checker.specs.WrittenCheck.{written_check};
-ghost use Rattle.stack_report.specs.Summary.{form_word, greatest_line, narrow_line, count_line, counts_text, verdict_line};
+ghost use Rattle.stack_report.specs.Summary.{form_word, greatest_line, narrow_line, count_line, counts_text};
+ghost use Rattle.stack_report.specs.Summary.{verdict_line};
 ghost use Rattle.stack_report.specs.Summary.{summary_text};
 ghost use Rattle.stack_report.specs.Tabling.{IsWhole};
 
@@ -65,7 +66,7 @@ fn with_greatest(text: String, s: &Survey, c: &Certificate) -> Result<String, Al
     }
 }
 
-/// The text with the line that says whether no number passes 64 bits.
+/// The text with the line that says whether no number is too wide for 64 bits.
 fn with_width(mut text: String, narrow: bool) -> Result<String, AllocError>
     ensures { IfOk result (λ t. string_bytes t ≡ string_bytes text ++ narrow_line narrow) }
 {
@@ -93,10 +94,10 @@ fn lines(
     with_width(with_greatest(text, s, c)?, narrow)
 }
 
-/// The summary of the judgement of wall `number`, as text: the lines `sample NUMBER`, `blocks COUNT` of the free blocks,
-/// `bearings COUNT`, `touches COUNT`, `verdict FORM` with the form of the certificate, which the check accepts; `factor
-/// N/D` where that is the greatest, in lowest terms; and `narrow yes` or `narrow no`, as it is told. Refused only for
-/// want of memory.
+/// The summary of the judgement of wall `number`, as text: the lines `sample NUMBER`, `blocks COUNT` of the free
+/// blocks, `bearings COUNT`, `touches COUNT`, `verdict FORM` with the form of the certificate, which the check
+/// accepts; `factor N/D` where that is the greatest, in lowest terms; and `narrow yes` or `narrow no`, as it is
+/// told. Refused only for want of memory.
 pub fn sample_summary(
     alloc: Global,
     number: u32,

@@ -3,11 +3,11 @@ use Rattle.std.proofs.Common.{◌≡◌, sym, ap, subst, ◌∙◌, ℕ, ◌<◌
 use lib.IntN.{ℤ}
 use Rattle.stack_algebra.specs.Fraction.{Fraction}
 use Rattle.stack_algebra.proofs.OrderedFractions.{ordered_fractions}
-use Rattle.stack_rational.specs.Passes.{passes}
+use Rattle.stack_rational.specs.TooWide.{is_too_wide}
 use Rattle.stack_table.specs.Table.{Shape, Tabled, pivoted_at}
 use Rattle.stack_table.specs.Spots.{pivot_spot}
 use Rattle.stack_bland.specs.Choice.{entering, leaving, ratio_row}
-use Rattle.stack_duality.specs.WrittenRun.{Stop, passing}
+use Rattle.stack_duality.specs.WrittenRun.{PhaseStop, wide_at}
 use Rattle.stack_duality.proofs.Turn.{turn_spent, turn_passing, turn_pivots}
 use Rattle.stack_simplex.specs.declared.pivots.Pivots.{Pivots}
 use Rattle.stack_simplex.specs.declared.refusal.RunError.{RunError}
@@ -15,35 +15,35 @@ use Rattle.stack_simplex.specs.declared.refusal.RunError.TheVariants.{TooWide, S
 use Rattle.stack_simplex.specs.declared.turn.PhaseEnd.{PhaseEnd}
 use Rattle.stack_simplex.specs.declared.turn.Turn.{Turn}
 use Rattle.stack_simplex.specs.declared.turn.Turn.TheVariants.{Stops, GoesOn}
-use Rattle.stack_simplex.specs.Stops.{spot_of, IsPivoted, IsRefused}
+use Rattle.stack_simplex.specs.Stops.{spot_of, IsPivoted, IsStopped}
 use Rattle.stack_simplex.specs.Phases.{phase_from, refusal_of, stop_of, turn_answer, HasFewer}
 
 -- a pivot at (r, c) is due
 module _ (max : ℤ) (S : Shape) (phase among : ℕ) (T : Tabled Fraction) (r c : ℕ)
     (enters : entering ordered_fractions S T among ≡ Some c)
-    (ratios : ratio_row ordered_fractions S (passes max) T c ≡ None)
+    (ratios : ratio_row ordered_fractions S (is_too_wide max) T c ≡ None)
     (leaves : leaving ordered_fractions S T c ≡ Some r) where
   -- and refused
   pub turn_refuses : (k : Pivots) (e : RunError) →
-      IsRefused phase k e (pivot_spot ordered_fractions (passes max) S T r c) →
+      IsStopped phase k e (pivot_spot ordered_fractions (is_too_wide max) S T r c) →
       refusal_of e ≡ phase_from max S phase among k T
-  turn_refuses k (TooWide p) h = (λ i. passing (h.in_phase i) (h.next_pivot i) (spot_of p))
-      ∙ sym (turn_passing ordered_fractions S (passes max) phase among T r c enters ratios leaves k.left k.done
+  turn_refuses k (TooWide p) h = (λ i. wide_at (h.in_phase i) (h.next_pivot i) (spot_of p))
+      ∙ sym (turn_passing ordered_fractions S (is_too_wide max) phase among T r c enters ratios leaves k.left k.done
       (spot_of p) h.some_left h.first)
   turn_refuses k Spent h =
-      sym (turn_spent ordered_fractions S (passes max) phase among T r c enters ratios leaves k.left k.done h)
+      sym (turn_spent ordered_fractions S (is_too_wide max) phase among T r c enters ratios leaves k.left k.done h)
 
   -- and done
   pub turn_goes_on : (k l : Pivots) (U : Tabled Fraction) →
-      IsPivoted k l (pivot_spot ordered_fractions (passes max) S T r c) →
+      IsPivoted k l (pivot_spot ordered_fractions (is_too_wide max) S T r c) →
       U ≡ pivoted_at ordered_fractions S T r c →
       phase_from max S phase among l U ≡ phase_from max S phase among k T
   turn_goes_on k l U h u = sym (turn_pivots ordered_fractions S
-      (passes max) phase among T r c enters ratios leaves
-      k.left l.left k.done l.done U h.left h.done h.passes_nowhere u)
+      (is_too_wide max) phase among T r c enters ratios leaves
+      k.left l.left k.done l.done U h.left h.done h.is_nowhere_too_wide u)
 
 -- a turn of the loop, whose table has the shape of the first
-module _ (max : ℤ) (S S' : Shape) (phase among : ℕ) (l : Pivots) (T U : Tabled Fraction) (X : Stop Fraction)
+module _ (max : ℤ) (S S' : Shape) (phase among : ℕ) (l : Pivots) (T U : Tabled Fraction) (X : PhaseStop Fraction)
     (same : S' ≡ S) (so_far : phase_from max S phase among l T ≡ X) where
   carried : phase_from max S' phase among l T ≡ X
   carried = ap (λ (S : Shape). phase_from max S phase among l T) same ∙ so_far

@@ -30,6 +30,6 @@ abbrev pub refused_as : RunError → End Fraction
 refused_as (TooWide p) = wide p.phase p.pivot (spot_of p)
 refused_as Spent = over
 
-abbrev pub end_of : {V : Type 0} {number : Ghosts V} → Result (Ended V number) RunError → End Fraction
-end_of (Ok x) = ended_as x
-end_of (Err e) = refused_as e
+abbrev pub run_end : {V : Type 0} {number : Ghosts V} → Result (Ended V number) RunError → End Fraction
+run_end (Ok x) = ended_as x
+run_end (Err e) = refused_as e

@@ -2,9 +2,9 @@
 use Rattle.std.specs.Prelude.{ℕ, ◌<◌, ℤ, ⊤, Result, Ok, Err}
 use Rattle.stack_algebra.specs.Fraction.{Fraction}
 use Rattle.stack_algebra.proofs.OrderedFractions.{ordered_fractions}
-use Rattle.stack_rational.specs.Passes.{passes}
+use Rattle.stack_rational.specs.TooWide.{is_too_wide}
 use Rattle.stack_table.specs.Table.{Shape, Tabled}
-use Rattle.stack_duality.specs.WrittenRun.{Stop, settled, unlimited, passing, spent, turns}
+use Rattle.stack_duality.specs.WrittenRun.{PhaseStop, settled, unlimited, wide_at, spent, turns}
 use Rattle.stack_simplex.specs.declared.pivots.Pivots.{Pivots}
 use Rattle.stack_simplex.specs.declared.refusal.RunError.{RunError}
 use Rattle.stack_simplex.specs.declared.refusal.RunError.TheVariants.{TooWide, Spent}
@@ -15,26 +15,26 @@ use Rattle.stack_simplex.specs.declared.turn.Turn.TheVariants.{Stops, GoesOn}
 use Rattle.stack_simplex.specs.Stops.{spot_of}
 
 -- a phase of the written run at a greatest value, from a table and the pivots done and left
-abbrev pub phase_from : ℤ → Shape → (phase among : ℕ) → Pivots → Tabled Fraction → Stop Fraction
-phase_from max S phase among k T = turns ordered_fractions S (passes max) phase among k.left k.done T
+abbrev pub phase_from : ℤ → Shape → (phase among : ℕ) → Pivots → Tabled Fraction → PhaseStop Fraction
+phase_from max S phase among k T = turns ordered_fractions S (is_too_wide max) phase among k.left k.done T
 
 -- what a refusal says
-abbrev pub refusal_of : RunError → Stop Fraction
-refusal_of (TooWide p) = passing p.phase p.pivot (spot_of p)
+abbrev pub refusal_of : RunError → PhaseStop Fraction
+refusal_of (TooWide p) = wide_at p.phase p.pivot (spot_of p)
 refusal_of Spent = spent
 
 -- what an end says, with the table that is left
-abbrev pub stop_of : Tabled Fraction → PhaseEnd → Stop Fraction
+abbrev pub stop_of : Tabled Fraction → PhaseEnd → PhaseStop Fraction
 stop_of T (Settled k) = settled k.left k.done T
 stop_of T (Unlimited c) = unlimited T c
 
 -- what the answer of a phase says
-abbrev pub phase_answer : Tabled Fraction → Result PhaseEnd RunError → Stop Fraction
+abbrev pub phase_answer : Tabled Fraction → Result PhaseEnd RunError → PhaseStop Fraction
 phase_answer T (Ok x) = stop_of T x
 phase_answer T (Err e) = refusal_of e
 
 -- and that of a turn: the phase stops, or what is left of it is to be done
-abbrev pub turn_answer : ℤ → Shape → (phase among : ℕ) → Tabled Fraction → Result Turn RunError → Stop Fraction
+abbrev pub turn_answer : ℤ → Shape → (phase among : ℕ) → Tabled Fraction → Result Turn RunError → PhaseStop Fraction
 turn_answer max S phase among T (Ok (Stops x)) = stop_of T x
 turn_answer max S phase among T (Ok (GoesOn k)) = phase_from max S phase among k T
 turn_answer max S phase among T (Err e) = refusal_of e
@@ -45,6 +45,6 @@ HasFewer before (Stops x) = ⊤
 HasFewer before (GoesOn k) = k.left < before.left
 
 -- and that of phase 2
-abbrev pub pivots_answer : Tabled Fraction → Result Pivots RunError → Stop Fraction
+abbrev pub pivots_answer : Tabled Fraction → Result Pivots RunError → PhaseStop Fraction
 pivots_answer T (Ok k) = settled k.left k.done T
 pivots_answer T (Err e) = refusal_of e

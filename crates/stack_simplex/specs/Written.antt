@@ -14,7 +14,7 @@ pub record IsTableOf (P : Problem) (S : Shape) (T : Tabled Fraction) : Type 0 wh
   pub table : written_table ordered_fractions P ≡ T
 
 -- that of some problem that meets the condition of a table
-pub record IsWritten (S : Shape) (T : Tabled Fraction) : Type 0 where
+pub record IsWrittenTable (S : Shape) (T : Tabled Fraction) : Type 0 where
   pub problem : Lent
   pub condition : IsProblem problem
   pub is_its_table : IsTableOf (problem_of problem) S T

@@ -3,13 +3,13 @@
 ghost use Rattle.std.specs.Prelude.{◌≡◌, OnOk};
 ghost use Rattle.stack_algebra.specs.Ordered.{sign_of};
 ghost use Rattle.stack_algebra.proofs.OrderedFractions.{ordered_fractions};
-ghost use Rattle.stack_rational.specs.Passes.{passes};
+ghost use Rattle.stack_rational.specs.TooWide.{is_too_wide};
 ghost use Rattle.stack_table.specs.Table.{right};
 ghost use Rattle.stack_table.specs.Seen.{shape_of_table, table_of, flips_of};
-ghost use Rattle.stack_bland.specs.Choice.{is_minus};
+ghost use Rattle.stack_bland.specs.Choice.{is_negative_sign};
 ghost use Rattle.stack_duality.specs.WrittenRun.{turns};
 ghost use Rattle.stack_simplex.specs.Phases.{pivots_answer};
-ghost use Rattle.stack_simplex.specs.Written.{IsWritten};
+ghost use Rattle.stack_simplex.specs.Written.{IsWrittenTable};
 
 use crate::pivots::Pivots;
 use crate::refusal::RunError;
@@ -19,14 +19,14 @@ use stack_rational::Exact;
 use stack_table::Table;
 
 fn is_negative<S: Exact>(x: S) -> bool
-    ensures { result ≡ is_minus (sign_of (S.exact x).num) }
+    ensures { result ≡ is_negative_sign (sign_of (S.exact x).num) }
 {
     x.sign() < 0
 }
 
 /// Whether the objective's right side is negative.
 pub fn falls_short<S: Exact>(t: &Table<S>) -> bool
-    ensures { result ≡ is_minus (ordered_fractions.sign
+    ensures { result ≡ is_negative_sign (ordered_fractions.sign
         (right ordered_fractions (shape_of_table t.now) (table_of t.now) (shape_of_table t.now).rows)) }
 {
     is_negative(t.cell(t.rows(), t.columns()))
@@ -34,11 +34,11 @@ pub fn falls_short<S: Exact>(t: &Table<S>) -> bool
 
 /// Phase 1 of a written table, within a budget.
 pub fn first_phase<S: Exact>(t: &mut Table<S>, budget: u32) -> Result<Pivots, RunError>
-    requires { IsWritten (shape_of_table t.old) (table_of t.old) }
+    requires { IsWrittenTable (shape_of_table t.old) (table_of t.old) }
     ensures shape { OnOk result (shape_of_table t.new ≡ shape_of_table t.old) }
     ensures flips { OnOk result (flips_of t.new ≡ flips_of t.old) }
     ensures answer { pivots_answer (table_of t.new) result
-        ≡ turns ordered_fractions (shape_of_table t.old) (passes S.MAX) 1 (shape_of_table t.old).contacts
+        ≡ turns ordered_fractions (shape_of_table t.old) (is_too_wide S.MAX) 1 (shape_of_table t.old).contacts
         budget 0 (table_of t.old) }
 {
     run_laws();

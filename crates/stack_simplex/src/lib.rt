@@ -2,11 +2,20 @@
 //!
 //! Phase 1 drives the artificial columns to 0, phase 2 takes them out of the basic columns, and phase 3 raises
 //! the factor. A turn chooses its entering column and its leaving row by Bland's rule (1977), and then pivots.
+//!
+//! ```text
+//! match run(table, budget)? {
+//!     Ended::Infeasible(last) => .., // no forces balance the dead loads
+//!     Ended::Feasible(last) => .., // some do
+//!     Ended::Optimal(last) => .., // at the greatest factor
+//!     Ended::Ray { table, column } => .., // at factors without end
+//! }
+//! ```
 #![tactic(auto)]
 
 ghost use Rattle.std.specs.Prelude.{◌≡◌, ◌≢◌, ℕ, ◌≤◌, Some, Err, IfOk};
 ghost use Rattle.stack_algebra.proofs.OrderedFractions.{ordered_fractions};
-ghost use Rattle.stack_rational.specs.Passes.{passes};
+ghost use Rattle.stack_rational.specs.TooWide.{is_too_wide};
 ghost use Rattle.stack_table.specs.Table.{columns};
 ghost use Rattle.stack_table.specs.Problem.{Problem};
 ghost use Rattle.stack_table.specs.Seen.{shape_of_table, table_of, flips_of};
@@ -14,37 +23,37 @@ ghost use Rattle.stack_duality.specs.WrittenRun.{written_run};
 ghost use Rattle.stack_duality.specs.FourEnds.{EndGives};
 ghost use Rattle.stack_circles.specs.Enough.{enough_of};
 ghost use Rattle.stack_simplex.specs.declared.refusal.RunError.TheVariants.{Spent};
-ghost use Rattle.stack_simplex.specs.Written.{IsTableOf, IsWritten};
-ghost use Rattle.stack_simplex.specs.Ends.{last_of, end_of};
+ghost use Rattle.stack_simplex.specs.Written.{IsTableOf, IsWrittenTable};
+ghost use Rattle.stack_simplex.specs.Ends.{last_of, run_end};
 
 mod budget;
 mod ended;
 mod first_phase;
 mod pivots;
 mod refusal;
+mod rising_phase;
 mod second_phase;
-mod third_phase;
 mod turn;
 
 pub use budget::enough;
 pub use ended::Ended;
 use first_phase::{falls_short, first_phase};
-pub use refusal::{Place, RunError};
+pub use refusal::{RunError, RunPlace};
+use rising_phase::third_phase;
 use second_phase::second_phase;
 use stack_circles::budget_law;
 use stack_duality::run_laws;
 use stack_rational::Exact;
 use stack_table::Table;
-use third_phase::third_phase;
 use turn::PhaseEnd;
 
 /// The three phases.
 fn run_phases<S: Exact>(t: Table<S>, budget: u32) -> Result<Ended<S>, RunError>
-    requires { IsWritten (shape_of_table t) (table_of t) }
+    requires { IsWrittenTable (shape_of_table t) (table_of t) }
     ensures shape { IfOk result (λ e. shape_of_table (last_of e) ≡ shape_of_table t) }
     ensures flips { IfOk result (λ e. flips_of (last_of e) ≡ flips_of t) }
-    ensures value { end_of result
-        ≡ written_run ordered_fractions (shape_of_table t) (passes S.MAX) budget (table_of t) }
+    ensures value { run_end result
+        ≡ written_run ordered_fractions (shape_of_table t) (is_too_wide S.MAX) budget (table_of t) }
 {
     let mut t = t;
     let pivots = first_phase(&mut t, budget)?;
@@ -64,18 +73,18 @@ fn run_phases<S: Exact>(t: Table<S>, budget: u32) -> Result<Ended<S>, RunError>
 /// The run of a written table within a budget of pivots: exactly the value of the written run at the width of
 /// its numbers.
 ///
-/// Refused at the first operation that passes, or where a pivot is due and the budget's pivots are done,
+/// Refused at the first operation that is too wide, or where a pivot is due and the budget's pivots are done,
 /// whichever comes first; the table is dropped then. A budget that is `enough` for the table's columns is never
 /// spent. Takes no memory. After Bland (1977).
 pub fn run<S: Exact>(t: Table<S>, budget: u32) -> Result<Ended<S>, RunError>
-    requires written { IsWritten (shape_of_table t) (table_of t) }
+    requires written { IsWrittenTable (shape_of_table t) (table_of t) }
     requires some { budget ≢ 0 }
     ensures shape { IfOk result (λ e. shape_of_table (last_of e) ≡ shape_of_table t) }
     ensures flips { IfOk result (λ e. flips_of (last_of e) ≡ flips_of t) }
-    ensures value { end_of result
-        ≡ written_run ordered_fractions (shape_of_table t) (passes S.MAX) budget (table_of t) }
+    ensures value { run_end result
+        ≡ written_run ordered_fractions (shape_of_table t) (is_too_wide S.MAX) budget (table_of t) }
     ensures ends { (P : Problem) → IsTableOf P (shape_of_table t) (table_of t) →
-        EndGives ordered_fractions P (end_of result) }
+        EndGives ordered_fractions P (run_end result) }
     ensures suffices { (b : ℕ) → enough_of (columns (shape_of_table t)) ≡ Some b → b ≤ budget →
         result ≢ Err Spent }
 {

@@ -2,9 +2,9 @@
 
 use stack_table::types::Step;
 
-/// The first operation that passes: in which phase, in which pivot of the run, counted from 1, and where.
+/// The first operation that is too wide: in which phase, in which pivot of the run, counted from 1, and where.
 #[derive(Clone, Copy, Debug, PartialEq, Eq, Drop)]
-pub struct Place {
+pub struct RunPlace {
     pub phase: u8,
     pub pivot: u64,
     pub row: usize,
@@ -15,8 +15,8 @@ pub struct Place {
 /// Why a run has no end.
 #[derive(Clone, Copy, Debug, PartialEq, Eq, Drop)]
 pub enum RunError {
-    /// An operation passes the greatest value.
-    TooWide(Place),
+    /// An operation is more than the greatest value.
+    TooWide(RunPlace),
     /// A pivot is due, and the budget's pivots are done.
     Spent,
 }

@@ -3,7 +3,7 @@
 ghost use Rattle.std.specs.Prelude.{◌≡◌, ◌<◌, pos, OnOk};
 ghost use Rattle.stack_algebra.specs.Ordered.{sign_of};
 ghost use Rattle.stack_algebra.proofs.OrderedFractions.{ordered_fractions};
-ghost use Rattle.stack_rational.specs.Passes.{passes};
+ghost use Rattle.stack_rational.specs.TooWide.{is_too_wide};
 ghost use Rattle.stack_table.specs.Table.{plain, clear_objective};
 ghost use Rattle.stack_table.specs.Seen.{shape_of_table, table_of, flips_of};
 ghost use Rattle.stack_bland.specs.Choice.{is_nought};
@@ -48,7 +48,7 @@ fn drive_row<S: Exact>(t: &mut Table<S>, pivots: Pivots, row: usize) -> Result<P
     ensures shape { OnOk result (shape_of_table t.new ≡ shape_of_table t.old) }
     ensures flips { OnOk result (flips_of t.new ≡ flips_of t.old) }
     ensures answer { pivots_answer (table_of t.new) result
-        ≡ drive_row ordered_fractions (shape_of_table t.old) (passes S.MAX) pivots.left pivots.done (table_of t.old)
+        ≡ drive_row ordered_fractions (shape_of_table t.old) (is_too_wide S.MAX) pivots.left pivots.done (table_of t.old)
         row }
 {
     if t.basic(row) < plain_columns(t) {
@@ -65,7 +65,7 @@ pub fn second_phase<S: Exact>(t: &mut Table<S>, pivots: Pivots) -> Result<Pivots
     ensures shape { OnOk result (shape_of_table t.new ≡ shape_of_table t.old) }
     ensures flips { OnOk result (flips_of t.new ≡ flips_of t.old) }
     ensures answer { pivots_answer (table_of t.new) result
-        ≡ drives ordered_fractions (shape_of_table t.old) (passes S.MAX) (shape_of_table t.old).rows pivots.left
+        ≡ drives ordered_fractions (shape_of_table t.old) (is_too_wide S.MAX) (shape_of_table t.old).rows pivots.left
         pivots.done (clear_objective ordered_fractions (shape_of_table t.old) (table_of t.old)) }
 {
     t.clear_objective();

@@ -1,6 +1,6 @@
 //! Runs worked by hand, at each width.
 
-use crate::{Ended, Place, RunError, enough, run};
+use crate::{Ended, RunError, RunPlace, enough, run};
 use stack_rational::{Exact, Frac};
 use stack_table::Table;
 use stack_table::problem::{Column, Entry, Problem};
@@ -167,7 +167,7 @@ fn a_slender_post_is_too_wide_for_8_bits(rt: HostRuntime) -> Result<(), Fail> {
         [-1, 50, 50, 0],
     ];
     let slender = problem(alloc, &contact, None, &[0, 24, 12])?;
-    let place = Place {
+    let place = RunPlace {
         phase: 1,
         pivot: 1,
         row: 3,
@@ -181,10 +181,10 @@ fn a_slender_post_is_too_wide_for_8_bits(rt: HostRuntime) -> Result<(), Fail> {
 }
 
 #[test]
-fn a_ratio_passes_before_the_budget_is_looked_at(rt: HostRuntime) -> Result<(), Fail> {
+fn a_ratio_is_too_wide_before_the_budget_is_looked_at(rt: HostRuntime) -> Result<(), Fail> {
     let alloc = rt.alloc();
     let p = problem(alloc, &[[2, 1, 0, 0], [1, 1, 0, 0]], None, &[0, 100])?;
-    let place = Place {
+    let place = RunPlace {
         phase: 1,
         pivot: 2,
         row: 1,

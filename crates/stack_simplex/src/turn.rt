@@ -2,15 +2,15 @@
 
 ghost use Rattle.std.specs.Prelude.{◌≡◌, ◌≢◌, ◌<◌, ◌≤◌, ℕ, pos, OnOk, IfOk, MatchResult};
 ghost use Rattle.stack_algebra.proofs.OrderedFractions.{ordered_fractions};
-ghost use Rattle.stack_rational.specs.Passes.{passes};
+ghost use Rattle.stack_rational.specs.TooWide.{is_too_wide};
 ghost use Rattle.stack_table.specs.Table.{columns, pivoted_at};
 ghost use Rattle.stack_table.specs.Spots.{pivot_spot};
 ghost use Rattle.stack_table.specs.Seen.{shape_of_table, table_of, flips_of};
-ghost use Rattle.stack_simplex.specs.Stops.{IsPivoted, IsRefused};
+ghost use Rattle.stack_simplex.specs.Stops.{IsPivoted, IsStopped};
 ghost use Rattle.stack_simplex.specs.Phases.{phase_from, turn_answer, phase_answer, HasFewer};
 
 use crate::pivots::Pivots;
-use crate::refusal::{Place, RunError};
+use crate::refusal::{RunError, RunPlace};
 use stack_bland::{entering, leaving};
 use stack_rational::Exact;
 use stack_table::Table;
@@ -31,7 +31,7 @@ pub enum Turn {
     GoesOn(Pivots),
 }
 
-/// A pivot that is due. Refused where no pivot is left, and else at the first operation that passes.
+/// A pivot that is due. Refused where no pivot is left, and else at the first operation that is too wide.
 pub fn due_pivot<S: Exact>(
     t: &mut Table<S>,
     phase: u8,
@@ -48,9 +48,9 @@ pub fn due_pivot<S: Exact>(
         ≡ pivoted_at ordered_fractions (shape_of_table t.old) (table_of t.old) row column) }
     ensures counted { MatchResult result
         (λ k. IsPivoted pivots k
-        (pivot_spot ordered_fractions (passes S.MAX) (shape_of_table t.old) (table_of t.old) row column))
-        (λ e. IsRefused phase pivots e
-        (pivot_spot ordered_fractions (passes S.MAX) (shape_of_table t.old) (table_of t.old) row column)) }
+        (pivot_spot ordered_fractions (is_too_wide S.MAX) (shape_of_table t.old) (table_of t.old) row column))
+        (λ e. IsStopped phase pivots e
+        (pivot_spot ordered_fractions (is_too_wide S.MAX) (shape_of_table t.old) (table_of t.old) row column)) }
 {
     if pivots.left == 0 {
         return Err(RunError::Spent);
@@ -61,7 +61,7 @@ pub fn due_pivot<S: Exact>(
             done: pivot,
             left: pivots.left - 1,
         }),
-        Err(e) => Err(RunError::TooWide(Place {
+        Err(e) => Err(RunError::TooWide(RunPlace {
             phase,
             pivot,
             row: e.row,
@@ -93,7 +93,7 @@ fn take_turn<S: Exact>(
         Ok(Some(row)) => row,
         Ok(None) => return Ok(Turn::Stops(PhaseEnd::Unlimited(column))),
         Err(e) => {
-            return Err(RunError::TooWide(Place {
+            return Err(RunError::TooWide(RunPlace {
                 phase,
                 pivot: pivots.done + 1,
                 row: e.row,

@@ -1,5 +1,6 @@
--- Nothing of a written table passes an ample greatest value.
-use Rattle.std.proofs.Common.{◌≡◌, refl, sym, ap, subst, ◌∙◌, ℕ, zero, suc, ◌*◌, ◌^◌, ◌≤◌, Bool, true, false, not, cond, None, arith}
+-- Nothing of a written table is too wide for an ample greatest value.
+use Rattle.std.proofs.Common.{◌≡◌, refl, sym, ap, subst, ◌∙◌, ℕ, zero, suc, ◌*◌, ◌^◌, ◌≤◌, Bool, true, false, not}
+use Rattle.std.proofs.Common.{cond, None, arith}
 use Rattle.std.proofs.lemmas.Int.{ints}
 use lib.IntN.{ℤ, pos, negsuc, nat_abs, ◌+ℤ◌, ◌*ℤ◌}
 use Rattle.stack_algebra.proofs.Fractions.{of, add, neg, neg_is, of_add, of_mul}
@@ -7,16 +8,17 @@ use Rattle.stack_algebra.proofs.OrderedFractions.{ordered_fractions}
 use Rattle.stack_algebra.proofs.Search.{first, or_else, only_if, first_all-none}
 use Rattle.stack_rational.specs.Stored.{Fits, SumFits, Within}
 use Rattle.stack_rational.specs.declared.exact.Op.TheVariants.{Difference}
-use Rattle.stack_rational.specs.Passes.{passes}
-use Rattle.stack_rational.proofs.Passing.{num_of, den_of, whole_fits}
+use Rattle.stack_rational.specs.TooWide.{is_too_wide}
+use Rattle.stack_rational.proofs.WideWholes.{num_of, den_of, whole_fits}
 use Rattle.stack_rational.proofs.ShortCuts.{same_den_fits}
 use Rattle.stack_table.specs.declared.problem.BuildError.{BuildError}
 use Rattle.stack_table.specs.declared.problem.BuildError.TheVariants.{Wide, Memory}
 use Rattle.stack_table.specs.declared.problem.Problem.{Problem as Lent}
 use Rattle.stack_table.specs.Table.{width}
-use Rattle.stack_table.specs.Lent.{IsAmple, IsProblem, Tells, shape_of_problem, problem_of}
+use Rattle.stack_table.specs.Lent.{IsAmple, IsProblem, TellsFirst, shape_of_problem, problem_of}
 use Rattle.stack_whole.specs.Limits.{IsBelowBound}
-use Rattle.stack_table.specs.WrittenTable.{less_all, partial_place, is_artificial, objective_place, objective_places, first_row, number_at, number_place, row_place, wide_place}
+use Rattle.stack_table.specs.WrittenTable.{less_all, partial_place, is_artificial, objective_place, objective_places}
+use Rattle.stack_table.specs.WrittenTable.{first_row, number_at, number_place, row_place, wide_place}
 use Rattle.stack_rational.proofs.Fitting.{sum_fits-of}
 use Rattle.stack_table.proofs.Numbers.{number_small}
 
@@ -52,7 +54,7 @@ module _ (m : ℤ) (ample : IsAmple m) where
   }
 
   difference : (a b : ℤ) → nat_abs a ≤ 384 * 2 ^ 90 → IsBelowBound b →
-      passes m Difference (of a) (of b) ≡ false
+      is_too_wide m Difference (of a) (of b) ≡ false
   difference a b h k =
       ap not (sum_fits-of m (of a) (neg (of b)) (subst (λ y. SumFits m (of a) y) (sym (neg-of b))
       (same_den_fits m (of a) (of (negsuc 0 *ℤ b)) (whole_record a (omega (arith, h, ample)))
@@ -67,42 +69,42 @@ module _ (m : ℤ) (ample : IsAmple m) where
     abbrev number : ℕ → ℕ → ℤ
     number = number_at (problem_of P)
 
-    row_none : (i : ℕ) → row_place ordered_fractions (passes m) (problem_of P) i ≡ None
+    row_none : (i : ℕ) → row_place ordered_fractions (is_too_wide m) (problem_of P) i ≡ None
     row_none i = first_all-none (width (shape_of_problem P))
-        (number_place ordered_fractions (passes m) (problem_of P) i)
+        (number_place ordered_fractions (is_too_wide m) (problem_of P) i)
         (λ j l. ap (λ b. only_if b (Wide i j)) (whole_fits m (number i j) (number i j) refl
         (omega (arith, number_small P h i j, ample))))
 
-    column_none : (j : ℕ) → objective_place ordered_fractions (passes m) (shape_of_problem P)
+    column_none : (j : ℕ) → objective_place ordered_fractions (is_too_wide m) (shape_of_problem P)
         (first_row ordered_fractions (problem_of P)) j ≡ None
     column_none j = go (is_artificial (shape_of_problem P) j)
       where
-        each : first P.rows (partial_place ordered_fractions (passes m) (Wide P.rows j)
+        each : first P.rows (partial_place ordered_fractions (is_too_wide m) (Wide P.rows j)
             (λ i. of (number i j))) ≡ None
         each = first_all-none P.rows
-            (partial_place ordered_fractions (passes m) (Wide P.rows j) (λ i. of (number i j)))
+            (partial_place ordered_fractions (is_too_wide m) (Wide P.rows j) (λ i. of (number i j)))
             (λ i l. ap (λ b. only_if b (Wide P.rows j))
-            (ap (λ x. passes m Difference x (of (number i j))) (less_all-of (λ k. number k j) i)
+            (ap (λ x. is_too_wide m Difference x (of (number i j))) (less_all-of (λ k. number k j) i)
             ∙ difference (total (λ k. number k j) i) (number i j)
             (omega (arith, l, h.rows_few, total_size (λ k. number k j) i (λ k. number_small P h k j)))
             (number_small P h i j)))
 
         go : (b : Bool) → cond b None
-            (first P.rows (partial_place ordered_fractions (passes m) (Wide P.rows j)
+            (first P.rows (partial_place ordered_fractions (is_too_wide m) (Wide P.rows j)
             (λ i. of (number i j)))) ≡ None
         go true = refl
         go false = each
 
-    pub never : wide_place ordered_fractions (passes m) (problem_of P) ≡ None
-    never = ap (λ o. or_else o (objective_places ordered_fractions (passes m) (shape_of_problem P)
+    pub never : wide_place ordered_fractions (is_too_wide m) (problem_of P) ≡ None
+    never = ap (λ o. or_else o (objective_places ordered_fractions (is_too_wide m) (shape_of_problem P)
         (first_row ordered_fractions (problem_of P))))
-        (first_all-none P.rows (row_place ordered_fractions (passes m) (problem_of P)) (λ i l. row_none i))
+        (first_all-none P.rows (row_place ordered_fractions (is_too_wide m) (problem_of P)) (λ i l. row_none i))
         ∙ first_all-none (width (shape_of_problem P))
-        (objective_place ordered_fractions (passes m) (shape_of_problem P)
+        (objective_place ordered_fractions (is_too_wide m) (shape_of_problem P)
         (first_row ordered_fractions (problem_of P))) (λ j l. column_none j)
 
     -- so the error is want of memory
-    pub only_memory : (e : BuildError) → Tells e (wide_place ordered_fractions (passes m) (problem_of P)) →
+    pub only_memory : (e : BuildError) → TellsFirst e (wide_place ordered_fractions (is_too_wide m) (problem_of P)) →
         e ≡ Memory
     only_memory (Wide i j) t = absurd (let k = sym never ∙ t in cc)
     only_memory Memory t = refl

@@ -1,34 +1,35 @@
 -- The fractions of a list that is written item by item, and the marks beside it.
-use Rattle.std.proofs.Common.{◌≡◌, ◌≢◌, sym, ap, ◌∙◌, ℕ, suc, ◌<◌, ◌≤◌, List, map, length, get_or, set, arith, Bool, true, get_or-set_same, get_or-set_other}
+use Rattle.std.proofs.Common.{◌≡◌, ◌≢◌, sym, ap, ◌∙◌, ℕ, suc, ◌<◌, ◌≤◌, List, map, length, get_or, set, arith, Bool}
+use Rattle.std.proofs.Common.{true, get_or-set_same, get_or-set_other}
 use Rattle.std.proofs.lemmas.List.{map-set, get_or-map, length-map, length-set, get_or_past}
 use native.Mathlib.Decide.{ℕ_discrete, dec_lt}
 use lib.IntN.{ℤ, pos}
 use Rattle.stack_algebra.specs.Fraction.{Fraction}
 use Rattle.stack_algebra.proofs.Fractions.{of}
-use Rattle.stack_rational.specs.Passes.{fits}
-use Rattle.stack_table.specs.Block.{value_at, mark_at, IsBlock}
+use Rattle.stack_rational.specs.TooWide.{fraction_fits}
+use Rattle.stack_table.specs.Block.{item_value, mark_at, IsBlock}
 use Rattle.stack_rational.specs.Order.{is_zero}
 
 module _ {V : Type 0} (e : V → Fraction) where
-  pub value_at-past : (xs : List V) (j : ℕ) → length xs ≤ j → value_at e xs j ≡ of (pos 0)
+  pub value_at-past : (xs : List V) (j : ℕ) → length xs ≤ j → item_value e xs j ≡ of (pos 0)
   value_at-past xs j l = get_or_past (map e xs) j (of (pos 0)) (omega (arith, length-map xs e))
 
   pub value_at-index : (xs : List V) (j : ℕ) (x : V) → j < length xs → x ≡ get_or xs j x →
-      value_at e xs j ≡ e x
+      item_value e xs j ≡ e x
   value_at-index xs j x l h = get_or-map e xs j x (of (pos 0)) l ∙ ap e (sym h)
 
-  pub value_at-set_same : (xs : List V) (j : ℕ) (x : V) → j < length xs → value_at e (set xs j x) j ≡ e x
+  pub value_at-set_same : (xs : List V) (j : ℕ) (x : V) → j < length xs → item_value e (set xs j x) j ≡ e x
   value_at-set_same xs j x l = ap (λ ys. get_or ys j (of (pos 0))) (map-set e xs j x)
       ∙ get_or-set_same (map e xs) j (e x) (of (pos 0)) (omega (arith, length-map xs e))
 
   pub value_at-set_other : (xs : List V) (j k : ℕ) (x : V) → k ≢ j →
-      value_at e (set xs j x) k ≡ value_at e xs k
+      item_value e (set xs j x) k ≡ item_value e xs k
   value_at-set_other xs j k x d = ap (λ ys. get_or ys k (of (pos 0))) (map-set e xs j x)
       ∙ get_or-set_other (map e xs) j k (e x) (of (pos 0)) d
 
   -- an item is written, and its mark, or a mark that still holds
   pub block_set : (m : ℤ) (cells : List V) (marks : List Bool) (j : ℕ) (x : V) (b : Bool) → j < length cells →
-      IsBlock m e cells marks → b ≡ is_zero (e x) → fits m (e x) ≡ true →
+      IsBlock m e cells marks → b ≡ is_zero (e x) → fraction_fits m (e x) ≡ true →
       IsBlock m e (set cells j x) (set marks j b)
   block_set m cells marks j x b l h eb f = record {
     same = length-set marks j b ∙ h.same ∙ sym (length-set cells j x);
@@ -36,19 +37,19 @@ module _ {V : Type 0} (e : V → Fraction) where
     fitting = λ k. fit k (ℕ_discrete k j);
   }
     where
-      mark : (k : ℕ) → Dec (k ≡ j) → mark_at (set marks j b) k ≡ is_zero (value_at e (set cells j x) k)
+      mark : (k : ℕ) → Dec (k ≡ j) → mark_at (set marks j b) k ≡ is_zero (item_value e (set cells j x) k)
       mark k (yes p) = ap (mark_at (set marks j b)) p
           ∙ get_or-set_same marks j b true (omega (arith, l, h.same)) ∙ eb
-          ∙ ap is_zero (sym (value_at-set_same cells j x l) ∙ ap (value_at e (set cells j x)) (sym p))
+          ∙ ap is_zero (sym (value_at-set_same cells j x l) ∙ ap (item_value e (set cells j x)) (sym p))
       mark k (no p) = get_or-set_other marks j k b true p ∙ h.marked k
           ∙ ap is_zero (sym (value_at-set_other cells j k x p))
 
-      fit : (k : ℕ) → Dec (k ≡ j) → fits m (value_at e (set cells j x) k) ≡ true
-      fit k (yes p) = ap (fits m) (ap (value_at e (set cells j x)) p ∙ value_at-set_same cells j x l) ∙ f
-      fit k (no p) = ap (fits m) (value_at-set_other cells j k x p) ∙ h.fitting k
+      fit : (k : ℕ) → Dec (k ≡ j) → fraction_fits m (item_value e (set cells j x) k) ≡ true
+      fit k (yes p) = ap (fraction_fits m) (ap (item_value e (set cells j x)) p ∙ value_at-set_same cells j x l) ∙ f
+      fit k (no p) = ap (fraction_fits m) (value_at-set_other cells j k x p) ∙ h.fitting k
 
   pub block_kept : (m : ℤ) (cells : List V) (marks : List Bool) (j : ℕ) (x : V) → j < length cells →
-      IsBlock m e cells marks → mark_at marks j ≡ is_zero (e x) → fits m (e x) ≡ true →
+      IsBlock m e cells marks → mark_at marks j ≡ is_zero (e x) → fraction_fits m (e x) ≡ true →
       IsBlock m e (set cells j x) marks
   block_kept m cells marks j x l h eb f = record {
     same = h.same ∙ sym (length-set cells j x);
@@ -56,14 +57,14 @@ module _ {V : Type 0} (e : V → Fraction) where
     fitting = λ k. fit k (ℕ_discrete k j);
   }
     where
-      mark : (k : ℕ) → Dec (k ≡ j) → mark_at marks k ≡ is_zero (value_at e (set cells j x) k)
+      mark : (k : ℕ) → Dec (k ≡ j) → mark_at marks k ≡ is_zero (item_value e (set cells j x) k)
       mark k (yes p) = ap (mark_at marks) p ∙ eb
-          ∙ ap is_zero (sym (value_at-set_same cells j x l) ∙ ap (value_at e (set cells j x)) (sym p))
+          ∙ ap is_zero (sym (value_at-set_same cells j x l) ∙ ap (item_value e (set cells j x)) (sym p))
       mark k (no p) = h.marked k ∙ ap is_zero (sym (value_at-set_other cells j k x p))
 
-      fit : (k : ℕ) → Dec (k ≡ j) → fits m (value_at e (set cells j x) k) ≡ true
-      fit k (yes p) = ap (fits m) (ap (value_at e (set cells j x)) p ∙ value_at-set_same cells j x l) ∙ f
-      fit k (no p) = ap (fits m) (value_at-set_other cells j k x p) ∙ h.fitting k
+      fit : (k : ℕ) → Dec (k ≡ j) → fraction_fits m (item_value e (set cells j x) k) ≡ true
+      fit k (yes p) = ap (fraction_fits m) (ap (item_value e (set cells j x)) p ∙ value_at-set_same cells j x l) ∙ f
+      fit k (no p) = ap (fraction_fits m) (value_at-set_other cells j k x p) ∙ h.fitting k
 
 -- a loop that goes from item a on to item j: o were the values at its start, v are those before the turn, w those
 -- after it, f those that it shall write

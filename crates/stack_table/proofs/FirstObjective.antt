@@ -1,5 +1,6 @@
 -- The first objective row, column by column: it depends on the rows alone.
-use Rattle.std.proofs.Common.{◌≡◌, refl, ap, ℕ, zero, suc, ◌<◌, ◌≤◌, true, false, cond, leb, ltb, ◌&&◌, Option, None, arith}
+use Rattle.std.proofs.Common.{◌≡◌, refl, ap, ℕ, zero, suc, ◌<◌, ◌≤◌, true, false, cond, leb, ltb, ◌&&◌, Option, None}
+use Rattle.std.proofs.Common.{arith}
 use Rattle.std.proofs.lemmas.Bool.{lt-ltb, le-ltb, le-leb, lt-leb}
 use native.Mathlib.Decide.{dec_le}
 use lib.IntN.{ℤ, pos}
@@ -8,7 +9,7 @@ use Rattle.stack_algebra.proofs.Fractions.{of, add, neg}
 use Rattle.stack_algebra.proofs.OrderedFractions.{ordered_fractions}
 use Rattle.stack_algebra.specs.Search.{first, only_if}
 use Rattle.stack_rational.specs.declared.exact.Op.TheVariants.{Difference}
-use Rattle.stack_rational.specs.Passes.{passes}
+use Rattle.stack_rational.specs.TooWide.{is_too_wide}
 use Rattle.stack_table.specs.declared.problem.BuildError.{BuildError}
 use Rattle.stack_table.specs.declared.problem.BuildError.TheVariants.{Wide}
 use Rattle.stack_table.specs.Table.{Shape, plain, columns}
@@ -33,12 +34,12 @@ less_all-same (suc n) f g h = λ z.
     add (less_all-same n f g (λ i l. h i (omega (arith, l))) z) (neg (h n (omega arith) z))
 
 partial_same : (m : ℤ) (place : BuildError) (n : ℕ) (f g : ℕ → Fraction) → ((i : ℕ) → i < n → f i ≡ g i) →
-    first n (partial_place ordered_fractions (passes m) place f)
-    ≡ first n (partial_place ordered_fractions (passes m) place g)
-partial_same m place n f g h = first_same n (partial_place ordered_fractions (passes m) place f)
-    (partial_place ordered_fractions (passes m) place g)
+    first n (partial_place ordered_fractions (is_too_wide m) place f)
+    ≡ first n (partial_place ordered_fractions (is_too_wide m) place g)
+partial_same m place n f g h = first_same n (partial_place ordered_fractions (is_too_wide m) place f)
+    (partial_place ordered_fractions (is_too_wide m) place g)
     (λ i l. λ z. only_if
-    (passes m Difference (less_all-same i f g (λ k q. h k (omega (arith, l, q))) z) (h i l z)) place)
+    (is_too_wide m Difference (less_all-same i f g (λ k q. h k (omega (arith, l, q))) z) (h i l z)) place)
 
 module _ (S : Shape) (j : ℕ) (f g : ℕ → ℕ → Fraction) (same : (i : ℕ) → i < S.rows → f i j ≡ g i j) where
   pub objective_same : objective_over ordered_fractions S f j ≡ objective_over ordered_fractions S g j
@@ -46,6 +47,6 @@ module _ (S : Shape) (j : ℕ) (f g : ℕ → ℕ → Fraction) (same : (i : ℕ
       (less_all-same S.rows (λ i. f i j) (λ i. g i j) same)
 
   pub place_same : (m : ℤ) →
-      objective_place ordered_fractions (passes m) S f j ≡ objective_place ordered_fractions (passes m) S g j
+      objective_place ordered_fractions (is_too_wide m) S f j ≡ objective_place ordered_fractions (is_too_wide m) S g j
   place_same m = ap (λ (o : Option BuildError). cond (is_artificial S j) None o)
       (partial_same m (Wide S.rows j) S.rows (λ i. f i j) (λ i. g i j) same)

@@ -1,11 +1,13 @@
 -- A block that grows within its room: what is there keeps its value.
-use Rattle.std.proofs.Common.{◌≡◌, refl, sym, ap, ◌∙◌, ℕ, ◌+◌, ◌*◌, ◌<◌, List, [], ◌∷◌, ◌++◌, length, get_or, arith, length-append}
+use Rattle.std.proofs.Common.{◌≡◌, refl, sym, ap, ◌∙◌, ℕ, ◌+◌, ◌*◌, ◌<◌, List, [], ◌∷◌, ◌++◌, length, get_or, arith}
+use Rattle.std.proofs.Common.{length-append}
 use Rattle.std.proofs.lemmas.List.{get_or_append_left, get_or_push}
 use native.Mathlib.Decide.{ℕ_discrete, dec_lt}
 use lib.IntN.{ℤ}
 use Rattle.stack_algebra.specs.Fraction.{Fraction}
-use Rattle.stack_table.specs.Block.{value_at, cell_of, Grows}
-use Rattle.stack_table.proofs.Parts.{row_in, cell_in, cell_past, value_at-left, pushed_last}
+use Rattle.stack_table.specs.Block.{item_value, cell_of, Grows}
+use Rattle.stack_table.proofs.BlockRows.{row_in, cell_in, cell_past, value_at-left}
+use Rattle.stack_table.proofs.Parts.{pushed_last}
 
 module _ {V : Type 0} (e : V → Fraction) where
   pub grown_none : (xs : List V) (f : ℕ → Fraction) → Grows e xs xs 0 f
@@ -24,12 +26,12 @@ module _ {V : Type 0} (e : V → Fraction) where
     put = λ k l. put k l (ℕ_discrete k j);
   }
     where
-      left : (k : ℕ) → k < length xs → value_at e ys k ≡ value_at e xs k
-      left k l = ap (λ zs. value_at e zs k) new ∙ value_at-left e xs (x ∷ []) k l
+      left : (k : ℕ) → k < length xs → item_value e ys k ≡ item_value e xs k
+      left k l = ap (λ zs. item_value e zs k) new ∙ value_at-left e xs (x ∷ []) k l
 
-      put : (k : ℕ) → k < j + 1 → Dec (k ≡ j) → value_at e ys (length old + k) ≡ f k
-      put k l (yes d) = ap (λ z. value_at e ys (length old + z)) d
-          ∙ ap (λ zs. value_at e zs (length old + j)) new
+      put : (k : ℕ) → k < j + 1 → Dec (k ≡ j) → item_value e ys (length old + k) ≡ f k
+      put k l (yes d) = ap (λ z. item_value e ys (length old + z)) d
+          ∙ ap (λ zs. item_value e zs (length old + j)) new
           ∙ pushed_last e m xs x (length old + j) h.longer ∙ here ∙ ap f (sym d)
       put k l (no d) = left (length old + k) (omega (arith, l, d, h.longer)) ∙ h.put k (omega (arith, l, d))
 
@@ -47,7 +49,7 @@ module _ {V : Type 0} (e : V → Fraction) where
   -- the row after them
   pub next_cells : (w n : ℕ) (f : ℕ → Fraction) (xs ys : List V) → length xs ≡ n * w → Grows e xs ys w f →
       (j : ℕ) → j < w → cell_of e w ys n j ≡ f j
-  next_cells w n f xs ys l h j d = cell_in e w ys n j d ∙ ap (λ z. value_at e ys (z + j)) (sym l) ∙ h.put j d
+  next_cells w n f xs ys l h j d = cell_in e w ys n j d ∙ ap (λ z. item_value e ys (z + j)) (sym l) ∙ h.put j d
 
 -- a list that grows by the values of f
 pub pushed_all : {X : Type 0} (f : ℕ → X) (xs ys : List X) (x d : X) (i : ℕ) → ys ≡ xs ++ x ∷ [] →

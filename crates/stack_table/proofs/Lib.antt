@@ -1,6 +1,7 @@
 pub mod Blocks
 pub mod Listed
 pub mod RowSteps
+pub mod BlockRows
 pub mod Parts
 pub mod PivotSteps
 pub mod Numbers

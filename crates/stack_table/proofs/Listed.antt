@@ -1,14 +1,15 @@
 -- A list of the columns that aren't 0, as it grows.
-use Rattle.std.proofs.Common.{◌≡◌, ◌≢◌, refl, sym, ap, ◌∙◌, ℕ, zero, suc, ◌<◌, ◌≤◌, ◌+◌, List, length, get_or, set, take, arith, Bool, true, add-one, get_or-set_same, get_or-set_other}
+use Rattle.std.proofs.Common.{◌≡◌, ◌≢◌, refl, sym, ap, ◌∙◌, ℕ, zero, suc, ◌<◌, ◌≤◌, ◌+◌, List, length, get_or, set}
+use Rattle.std.proofs.Common.{take, arith, Bool, true, add-one, get_or-set_same, get_or-set_other}
 use Rattle.std.proofs.lemmas.List.{get_or-take}
 use native.Mathlib.Decide.{ℕ_discrete}
-use Rattle.stack_table.specs.Columns.{reach, Lists}
+use Rattle.stack_table.specs.Columns.{reach, ListsNonzero}
 
 reach_set : (xs : List ℕ) (n y k : ℕ) → k ≤ n → reach (set xs n y) k ≡ reach xs k
 reach_set xs n y zero l = refl
 reach_set xs n y (suc k) l = ap suc (get_or-set_other xs n k y 0 (λ p. omega (arith, l, p)))
 
-pub listed_none : (p : ℕ → Bool) (xs : List ℕ) → Lists p xs 0 0
+pub listed_none : (p : ℕ → Bool) (xs : List ℕ) → ListsNonzero p xs 0 0
 listed_none p xs = record {
   below = λ k l. absurd (omega (arith, l));
   rises = λ k l. absurd (omega (arith, l));
@@ -17,7 +18,8 @@ listed_none p xs = record {
   after = λ j h l. absurd (omega (arith, l));
 }
 
-pub listed_skip : (p : ℕ → Bool) (xs : List ℕ) (n j : ℕ) → Lists p xs n j → p j ≡ true → Lists p xs n (j + 1)
+pub listed_skip : (p : ℕ → Bool) (xs : List ℕ) (n j : ℕ) → ListsNonzero p xs n j → p j ≡ true
+    → ListsNonzero p xs n (j + 1)
 listed_skip p xs n j h e = record {
   below = λ k l. omega (arith, h.below k l);
   rises = h.rises;
@@ -30,8 +32,8 @@ listed_skip p xs n j h e = record {
     go i a l (yes d) = ap p d ∙ e
     go i a l (no d) = h.after i a (omega (arith, l, d))
 
-pub listed_more : (p : ℕ → Bool) (xs : List ℕ) (n j : ℕ) → n < length xs → Lists p xs n j →
-    Lists p (set xs n j) (n + 1) (j + 1)
+pub listed_more : (p : ℕ → Bool) (xs : List ℕ) (n j : ℕ) → n < length xs → ListsNonzero p xs n j →
+    ListsNonzero p (set xs n j) (n + 1) (j + 1)
 listed_more p xs n j room h = record {
   below = λ k l. below k l (ℕ_discrete k n);
   rises = λ k l. rises k l (ℕ_discrete k n);
@@ -71,8 +73,8 @@ listed_more p xs n j room h = record {
         h.between k (omega (arith, l, d)) i (omega (arith, same k l, a)) (omega (arith, other k d, b))
 
 -- the same list of the same columns
-pub listed_same : (p q : ℕ → Bool) (xs : List ℕ) (n bound : ℕ) → ((j : ℕ) → p j ≡ q j) → Lists p xs n bound →
-    Lists q xs n bound
+pub listed_same : (p q : ℕ → Bool) (xs : List ℕ) (n bound : ℕ) → ((j : ℕ) → p j ≡ q j) → ListsNonzero p xs n bound →
+    ListsNonzero q xs n bound
 listed_same p q xs n bound e h = record {
   below = h.below;
   rises = h.rises;
@@ -85,8 +87,8 @@ reach_take : (xs : List ℕ) (n k : ℕ) → k ≤ n → reach (take n xs) k ≡
 reach_take xs n zero l = refl
 reach_take xs n (suc k) l = ap suc (get_or-take n xs k 0 (omega (arith, l)))
 
-pub listed_take : (p : ℕ → Bool) (xs : List ℕ) (n bound : ℕ) → Lists p xs n bound →
-    Lists p (take n xs) n bound
+pub listed_take : (p : ℕ → Bool) (xs : List ℕ) (n bound : ℕ) → ListsNonzero p xs n bound →
+    ListsNonzero p (take n xs) n bound
 listed_take p xs n bound h = record {
   below = λ k l. omega (arith, get_or-take n xs k 0 l, h.below k l);
   rises = λ k l. omega (arith, get_or-take n xs k 0 l, reach_take xs n k (omega (arith, l)), h.rises k l);

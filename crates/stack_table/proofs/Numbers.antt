@@ -1,5 +1,6 @@
 -- The numbers of a problem: below the bound in size, and 0 past its rows and columns.
-use Rattle.std.proofs.Common.{◌≡◌, refl, ap, ◌∙◌, ℕ, zero, suc, ◌+◌, ◌<◌, ◌≤◌, Bool, true, false, cond, eqb, ltb, List, [], ◌∷◌, map, length, get_or, arith}
+use Rattle.std.proofs.Common.{◌≡◌, refl, ap, ◌∙◌, ℕ, zero, suc, ◌+◌, ◌<◌, ◌≤◌, Bool, true, false, cond, eqb, ltb}
+use Rattle.std.proofs.Common.{List, [], ◌∷◌, map, length, get_or, arith}
 use Rattle.std.specs.List.{AllByRecursion}
 use Rattle.std.proofs.lemmas.Bool.{ltb-true, le-ltb, ne_eqb}
 use Rattle.std.proofs.lemmas.Int.{ints, fits_signed_from_abs}
@@ -13,7 +14,8 @@ use Rattle.stack_table.specs.declared.problem.Column.{Column}
 use Rattle.stack_table.specs.declared.problem.Problem.{Problem as Lent}
 use Rattle.stack_table.specs.Table.{plain, columns}
 use Rattle.stack_table.specs.Problem.{Problem, is_below_zero, flipped, turned}
-use Rattle.stack_table.specs.Lent.{IsColumn, IsProblem, entry_in, entries_at, factor_entries, shape_of_problem, problem_of}
+use Rattle.stack_table.specs.Lent.{IsColumn, IsProblem, entry_in, entries_at, factor_entries, shape_of_problem}
+use Rattle.stack_table.specs.Lent.{problem_of}
 use Rattle.stack_whole.specs.Limits.{IsBelowBound}
 use Rattle.stack_table.specs.WrittenTable.{number_at}
 

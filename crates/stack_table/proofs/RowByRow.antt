@@ -1,5 +1,6 @@
 -- The written table, row by row and then the objective row.
-use Rattle.std.proofs.Common.{◌≡◌, ◌≢◌, refl, sym, ap, subst, ◌∙◌, ℕ, zero, suc, ◌+◌, ◌*◌, ◌<◌, Bool, true, false, not, cond, List, [], length, get_or, Option, Some, None, arith}
+use Rattle.std.proofs.Common.{◌≡◌, ◌≢◌, refl, sym, ap, subst, ◌∙◌, ℕ, zero, suc, ◌+◌, ◌*◌, ◌<◌, Bool, true, false}
+use Rattle.std.proofs.Common.{not, cond, List, [], length, get_or, Option, Some, None, arith}
 use Rattle.std.proofs.lemmas.List.{get_or_past}
 use Rattle.std.proofs.lemmas.Bool.{lt-ltb, le-ltb}
 use Rattle.std.proofs.lemmas.Int.{ints}
@@ -17,20 +18,21 @@ use Rattle.stack_algebra.proofs.OrderedFractions.{ordered_fractions}
 use Rattle.stack_algebra.proofs.Pivots.{changed-same, changed-other}
 use Rattle.stack_algebra.proofs.Ring.{Exp, num, ◌⊕◌, ring1}
 use Rattle.stack_algebra.proofs.Search.{first, or_else, first_found, first_same}
-use Rattle.stack_rational.specs.Passes.{IsWidth, passes}
+use Rattle.stack_rational.specs.TooWide.{IsWidth, is_too_wide}
 use Rattle.stack_table.specs.declared.problem.BuildError.{BuildError}
 use Rattle.stack_table.specs.declared.problem.BuildError.TheVariants.{Wide, Memory}
 use Rattle.stack_table.specs.declared.problem.Problem.{Problem as Lent}
 use Rattle.stack_table.specs.Table.{Shape, plain, columns, width}
 use Rattle.stack_table.specs.Block.{cell_of, tabled, IsBlock, Grows}
 use Rattle.stack_table.specs.Problem.{Problem, is_below_zero, flipped}
-use Rattle.stack_table.specs.Lent.{IsProblem, shape_of_problem, problem_of, Tells}
-use Rattle.stack_table.specs.WrittenTable.{less_all, objective_over, objective_place, objective_places, first_row, first_objective, first_basic, row_place, wide_place, written_table}
+use Rattle.stack_table.specs.Lent.{IsProblem, shape_of_problem, problem_of, TellsFirst}
+use Rattle.stack_table.specs.WrittenTable.{less_all, objective_over, objective_place, objective_places, first_row}
+use Rattle.stack_table.specs.WrittenTable.{first_objective, first_basic, row_place, wide_place, written_table}
 use Rattle.stack_rational.proofs.Fitting.{is_zero-of, zero_fits}
 use Rattle.stack_table.proofs.Numbers.{small_back, load_is_small, no_load, number_past, number_beyond}
 use Rattle.stack_table.proofs.FirstObjective.{artificial_not, objective_same, place_same}
 use Rattle.stack_table.proofs.Growing.{earlier_cells, next_cells}
-use Rattle.stack_table.proofs.Parts.{cell_past, cell_outside}
+use Rattle.stack_table.proofs.BlockRows.{cell_past, cell_outside}
 
 pub empty_block : {V : Type 0} (e : V → Fraction) (m : ℤ) → IsWidth m → (xs : List V) (ms : List Bool) →
     xs ≡ [] →
@@ -70,19 +72,20 @@ flips_are P h fs l each i = go (dec_lt i P.rows)
 
 -- what an error tells further up
 tells : (e : BuildError) (o u : Option BuildError) → ((p : BuildError) → o ≡ Some p → u ≡ Some p) →
-    Tells e o →
-    Tells e u
+    TellsFirst e o →
+    TellsFirst e u
 tells (Wide i j) o u h t = h (Wide i j) t
 tells Memory o u h t = tt
 
 pub tells_row : (m : ℤ) (P : Problem) (i : ℕ) (e : BuildError) → i < P.shape.rows →
-    first i (row_place ordered_fractions (passes m) P) ≡ None →
-    Tells e (row_place ordered_fractions (passes m) P i) → Tells e (wide_place ordered_fractions (passes m) P)
+    first i (row_place ordered_fractions (is_too_wide m) P) ≡ None →
+    TellsFirst e (row_place ordered_fractions (is_too_wide m) P i)
+    → TellsFirst e (wide_place ordered_fractions (is_too_wide m) P)
 tells_row m P i e l n =
-    tells e (row_place ordered_fractions (passes m) P i) (wide_place ordered_fractions (passes m) P)
+    tells e (row_place ordered_fractions (is_too_wide m) P i) (wide_place ordered_fractions (is_too_wide m) P)
     (λ p h. ap (λ o. or_else o
-    (objective_places ordered_fractions (passes m) P.shape (first_row ordered_fractions P)))
-    (first_found P.shape.rows i (row_place ordered_fractions (passes m) P) p l n h))
+    (objective_places ordered_fractions (is_too_wide m) P.shape (first_row ordered_fractions P)))
+    (first_found P.shape.rows i (row_place ordered_fractions (is_too_wide m) P) p l n h))
 
 -- 0 less zeros
 less_all-zero : (n : ℕ) (f : ℕ → Fraction) → ((i : ℕ) → f i ≡ of (pos 0)) →
@@ -108,21 +111,21 @@ module _ {V : Type 0} (e : V → Fraction) (P : Lent) (xs : List V)
   abbrev over : ℕ → ℕ → Fraction
   over = cell_of e (width S) xs
 
-  places_are : (m : ℤ) → objective_places ordered_fractions (passes m) S over
-      ≡ objective_places ordered_fractions (passes m) S (first_row ordered_fractions (problem_of P))
-  places_are m = first_same (width S) (objective_place ordered_fractions (passes m) S over)
-      (objective_place ordered_fractions (passes m) S (first_row ordered_fractions (problem_of P)))
+  places_are : (m : ℤ) → objective_places ordered_fractions (is_too_wide m) S over
+      ≡ objective_places ordered_fractions (is_too_wide m) S (first_row ordered_fractions (problem_of P))
+  places_are m = first_same (width S) (objective_place ordered_fractions (is_too_wide m) S over)
+      (objective_place ordered_fractions (is_too_wide m) S (first_row ordered_fractions (problem_of P)))
       (λ j l. place_same S j over (first_row ordered_fractions (problem_of P)) (λ i d. cells i j d l) m)
 
-  module _ (m : ℤ) (none : first P.rows (row_place ordered_fractions (passes m) (problem_of P)) ≡ None) where
-    pub place_is : wide_place ordered_fractions (passes m) (problem_of P)
-        ≡ objective_places ordered_fractions (passes m) S over
-    place_is = ap (λ o. or_else o (objective_places ordered_fractions (passes m) S
+  module _ (m : ℤ) (none : first P.rows (row_place ordered_fractions (is_too_wide m) (problem_of P)) ≡ None) where
+    pub place_is : wide_place ordered_fractions (is_too_wide m) (problem_of P)
+        ≡ objective_places ordered_fractions (is_too_wide m) S over
+    place_is = ap (λ o. or_else o (objective_places ordered_fractions (is_too_wide m) S
         (first_row ordered_fractions (problem_of P)))) none ∙ sym (places_are m)
 
-    pub tells_objective : (r : BuildError) → Tells r (objective_places ordered_fractions (passes m) S over) →
-        Tells r (wide_place ordered_fractions (passes m) (problem_of P))
-    tells_objective r t = subst (λ o. Tells r o) (sym place_is) t
+    pub tells_objective : (r : BuildError) → TellsFirst r (objective_places ordered_fractions (is_too_wide m) S over) →
+        TellsFirst r (wide_place ordered_fractions (is_too_wide m) (problem_of P))
+    tells_objective r t = subst (λ o. TellsFirst r o) (sym place_is) t
 
   module _ (h : IsProblem P) (ys : List V)
       (grown : Grows e xs ys (width S) (objective_over ordered_fractions S over)) where

@@ -1,5 +1,6 @@
 -- What the test of a problem tells.
-use Rattle.std.proofs.Common.{◌≡◌, refl, sym, subst, ℕ, zero, suc, ◌<◌, Bool, true, false, ◌&&◌, List, [], ◌∷◌, map, length, add-one, arith}
+use Rattle.std.proofs.Common.{◌≡◌, refl, sym, subst, ℕ, zero, suc, ◌<◌, Bool, true, false, ◌&&◌, List, [], ◌∷◌, map}
+use Rattle.std.proofs.Common.{length, add-one, arith}
 use Rattle.std.specs.Prelude.{nat_le, nat_lt}
 use Rattle.std.specs.List.{slice_index}
 use Rattle.std.proofs.lemmas.List.{length-map}
@@ -8,7 +9,7 @@ use Rattle.std.specs.List.Sorted.{IsStrictlyIncreasing}
 use Rattle.std.proofs.lemmas.Bool.{leb-true, ltb-true}
 use lib.IntN.{ℤ, nat_abs}
 use Rattle.stack_whole.specs.Limits.{load_bound, IsBelowBound}
-use Rattle.stack_rational.proofs.Conjunctions.{left_of, right_of}
+use Rattle.stack_algebra.proofs.Conjunctions.{left_true, right_true, all_four}
 use Rattle.stack_table.specs.declared.problem.Entry.{Entry}
 use Rattle.stack_table.specs.declared.problem.Column.{Column}
 use Rattle.stack_table.specs.Lent.{IsColumn}
@@ -19,14 +20,9 @@ small z h = ltb-true (nat_abs z) load_bound h
 
 pub numbers_small : (zs : List ℤ) → are_small zs ≡ true → AllByRecursion IsBelowBound zs
 numbers_small [] h = tt
-numbers_small (z ∷ zs) h = (small z (left_of _ _ h), numbers_small zs (right_of _ _ h))
+numbers_small (z ∷ zs) h = (small z (left_true _ _ h), numbers_small zs (right_true _ _ h))
 
 -- of a column that begins at row `from`: its first entry, and the rest
-all_four : (a b c d : Bool) → a && (b && (c && d)) ≡ true → (a ≡ true) × (b ≡ true) × (c ≡ true) × (d ≡ true)
-all_four true true true d h = (refl, refl, refl, h)
-all_four true true false d h = absurd cc
-all_four true false c d h = absurd cc
-all_four false b c d h = absurd cc
 
 first_of_column : (rows from : ℕ) (x : Entry) (xs : List Entry) → is_column rows from (x ∷ xs) ≡ true →
     (nat_le from x.row ≡ true) × (nat_lt x.row rows ≡ true) × (is_small x.value ≡ true)
@@ -72,4 +68,4 @@ pub columns_are : (rows : ℕ) (cs : List Column) → are_columns rows cs ≡ tr
     AllByRecursion (λ c. IsColumn rows c.entries.items) cs
 columns_are rows [] h = tt
 columns_are rows (c ∷ cs) h =
-    (column_is rows c.entries.items (left_of _ _ h), columns_are rows cs (right_of _ _ h))
+    (column_is rows c.entries.items (left_true _ _ h), columns_are rows cs (right_true _ _ h))

@@ -1,5 +1,6 @@
 -- The problem as it is lent, in columns of entries: as index functions, and the condition of its table.
-use Rattle.std.specs.Prelude.{◌≡◌, ℕ, ◌^◌, ◌<◌, ◌≤◌, cond, eqb, ltb, Option, Some, None, List, [], ◌∷◌, map, length, get_or, ℤ, pos, unsigned_abs}
+use Rattle.std.specs.Prelude.{◌≡◌, ℕ, ◌^◌, ◌<◌, ◌≤◌, cond, eqb, ltb, Option, Some, None, List, [], ◌∷◌, map, length}
+use Rattle.std.specs.Prelude.{get_or, ℤ, pos, unsigned_abs}
 use Rattle.std.specs.List.{AllByRecursion}
 use Rattle.std.specs.List.Sorted.{IsStrictlyIncreasing}
 use Rattle.stack_whole.specs.Limits.{IsBelowBound}
@@ -61,11 +62,11 @@ pub record IsProblem (P : Lent) : Type 0 where
   pub right_long : length P.right.items ≡ P.rows
   pub right_small : AllByRecursion IsBelowBound P.right.items
 
--- what an error of `build` tells of the first place that passes
-abbrev pub Tells : BuildError → Option BuildError → Type 0
-Tells (Wide i j) o = o ≡ Some (Wide i j)
-Tells Memory o = Unit {0}
+-- what an error of `build` tells of the first place that is too wide
+abbrev pub TellsFirst : BuildError → Option BuildError → Type 0
+TellsFirst (Wide i j) o = o ≡ Some (Wide i j)
+TellsFirst Memory o = Unit {0}
 
--- a greatest value that no number and no partial difference of such a problem passes; that of 128 bits is one
+-- a greatest value that no number and no partial difference of such a problem is too wide; that of 128 bits is one
 abbrev pub IsAmple : ℤ → Type 0
 IsAmple m = 2 ^ 100 ≤ unsigned_abs m

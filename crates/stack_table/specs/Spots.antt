@@ -1,5 +1,5 @@
--- The first operation of a pivot that passes, in the written order, on the exact values. `passes` says of an
--- operation and its two numbers whether it passes; at a width it is that of stack_rational.
+-- The first operation of a pivot that is too wide, in the written order, on the exact values. `is_too_wide` says of an
+-- operation and its two numbers whether it is too wide; at a width it is that of stack_rational.
 use Rattle.std.specs.Prelude.{ℕ, suc, ◌+◌, Bool, cond, eqb, Option, None}
 use Rattle.stack_algebra.specs.Ordered.{Ordered}
 use Rattle.stack_algebra.specs.Rows.{less, quotient}
@@ -19,10 +19,10 @@ module _ (F : Ordered) where
   abbrev pub reduced : (ℕ → F.C) → (ℕ → F.C) → F.C → ℕ → F.C
   reduced f g k j = less F (f j) (F.mul k (g j))
 
-module _ (F : Ordered) (passes : Op → F.C → F.C → Bool) where
-  -- the place and the step, where the operation passes
+module _ (F : Ordered) (is_too_wide : Op → F.C → F.C → Bool) where
+  -- the place and the step, where the operation is too wide
   abbrev pub spot_if : Op → Step → F.C → F.C → ℕ → ℕ → Option PivotWide
-  spot_if op step x y i j = only_if (passes op x y) (record { row = i; column = j; step = step })
+  spot_if op step x y i j = only_if (is_too_wide op x y) (record { row = i; column = j; step = step })
 
   -- in the first n cells of the pivot row i: each is divided
   abbrev pub divide_item : (ℕ → F.C) → F.C → ℕ → ℕ → Option PivotWide

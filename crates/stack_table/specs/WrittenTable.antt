@@ -1,5 +1,5 @@
 -- The written table of a problem, over an ordered field: the rows in order, flipped where the right side is
--- negative; then the objective row. And the place of its first number or partial difference that passes.
+-- negative; then the objective row. And the place of its first number or partial difference that is too wide.
 use Rattle.std.specs.Prelude.{ℕ, zero, suc, ◌+◌, Bool, cond, eqb, ltb, leb, ◌&&◌, Option, None, ℤ, pos}
 use Rattle.stack_algebra.specs.Ordered.{Ordered}
 use Rattle.stack_algebra.specs.Rows.{changed, less}
@@ -52,10 +52,10 @@ module _ (F : Ordered) (P : Problem) where
     basic = first_basic P;
   }
 
-module _ (F : Ordered) (passes : Op → F.C → F.C → Bool) where
-  -- the place, where the difference of 0 less the first i numbers and number i passes
+module _ (F : Ordered) (is_too_wide : Op → F.C → F.C → Bool) where
+  -- the place, where the difference of 0 less the first i numbers and number i is too wide
   abbrev pub partial_place : BuildError → (ℕ → F.C) → ℕ → Option BuildError
-  partial_place place f i = only_if (passes Difference (less_all F i f) (f i)) place
+  partial_place place f i = only_if (is_too_wide Difference (less_all F i f) (f i)) place
 
   -- of the objective row over given cells: in column j, and in all columns
   abbrev pub objective_place : Shape → (ℕ → ℕ → F.C) → ℕ → Option BuildError
@@ -68,7 +68,7 @@ module _ (F : Ordered) (passes : Op → F.C → F.C → Bool) where
   module _ (P : Problem) where
     -- in row i and column j, and in row i
     abbrev pub number_place : ℕ → ℕ → Option BuildError
-    number_place i j = only_if (passes Whole (first_row F P i j) (first_row F P i j)) (Wide i j)
+    number_place i j = only_if (is_too_wide Whole (first_row F P i j) (first_row F P i j)) (Wide i j)
 
     abbrev pub row_place : ℕ → Option BuildError
     row_place i = first (width P.shape) (number_place i)

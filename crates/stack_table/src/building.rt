@@ -5,17 +5,18 @@ ghost use Rattle.std.specs.Prelude.{None, Some};
 ghost use Rattle.stack_algebra.proofs.Fractions.{of};
 ghost use Rattle.stack_algebra.proofs.OrderedFractions.{ordered_fractions};
 ghost use Rattle.stack_algebra.specs.Search.{first};
-ghost use Rattle.stack_rational.specs.Passes.{fits, passes};
+ghost use Rattle.stack_rational.specs.TooWide.{fraction_fits, is_too_wide};
 ghost use Rattle.stack_table.specs.Table.{plain, width};
 ghost use Rattle.stack_table.specs.Block.{cell_of, IsBlock, Grows};
 ghost use Rattle.stack_table.specs.Problem.{turned};
-ghost use Rattle.stack_table.specs.Lent.{entry_in, IsProblem, shape_of_problem, problem_of, Tells};
+ghost use Rattle.stack_table.specs.Lent.{entry_in, IsProblem, shape_of_problem, problem_of, TellsFirst};
 ghost use Rattle.stack_whole.specs.Limits.{IsBelowBound};
-ghost use Rattle.stack_table.specs.WrittenTable.{number_at, first_row, row_place, less_all, partial_place, is_artificial, objective_over, objective_place, objective_places};
+ghost use Rattle.stack_table.specs.WrittenTable.{number_at, first_row, row_place, less_all, partial_place};
+ghost use Rattle.stack_table.specs.WrittenTable.{is_artificial, objective_over, objective_place, objective_places};
 ghost use Rattle.stack_table.specs.declared.problem.BuildError.TheVariants.{Wide as AtPlace};
 
 use crate::problem::{BuildError, Entry, Problem};
-use stack_rational::{Exact, Wide};
+use stack_rational::{Exact, OpWide};
 use std::alloc::AllocError;
 
 /// The value in a row, 0 where no entry stands there.
@@ -95,7 +96,7 @@ fn number(p: &Problem, artificial: usize, i: usize, j: usize) -> i128
 /// Puts a cell and its mark.
 fn push_cell<S: Exact>(cells: &mut Vec<S>, marks: &mut Vec<bool>, cell: S) -> Result<(), AllocError>
     requires block { IsBlock S.MAX S.exact cells.old.items marks.old.items }
-    requires fits { fits S.MAX (S.exact cell) ≡ true }
+    requires fits { fraction_fits S.MAX (S.exact cell) ≡ true }
     ensures block { OnOk result (IsBlock S.MAX S.exact cells.new.items marks.new.items) }
     ensures ok { OnOk result (cells.new.items ≡ cells.old.items ++ cell ∷ []) }
 {
@@ -119,9 +120,9 @@ pub fn push_row<S: Exact>(
     ensures block { OnOk result (IsBlock S.MAX S.exact cells.new.items marks.new.items) }
     ensures grown { OnOk result (Grows S.exact cells.old.items cells.new.items (width (shape_of_problem p.now))
         (first_row ordered_fractions (problem_of p.now) i)) }
-    ensures fits { OnOk result (row_place ordered_fractions (passes S.MAX) (problem_of p.now) i ≡ None) }
+    ensures fits { OnOk result (row_place ordered_fractions (is_too_wide S.MAX) (problem_of p.now) i ≡ None) }
     ensures wide { IfErr result (λ e.
-        Tells e (row_place ordered_fractions (passes S.MAX) (problem_of p.now) i)) }
+        TellsFirst e (row_place ordered_fractions (is_too_wide S.MAX) (problem_of p.now) i)) }
 {
     for j in 0..artificial + p.rows + 1 {
         let cell = match S::from_whole(number(p, artificial, i, j)) {
@@ -137,15 +138,15 @@ pub fn push_row<S: Exact>(
 }
 
 /// 0 less the cells of a column, row by row.
-fn less_column<S: Exact>(cells: &[S], rows: usize, width: usize, column: usize) -> Result<S, Wide>
+fn less_column<S: Exact>(cells: &[S], rows: usize, width: usize, column: usize) -> Result<S, OpWide>
     requires room { rows * width ≤ length cells.now }
     requires column_in { column < width }
     ensures ok { IfOk result (λ r. S.exact r
         ≡ less_all ordered_fractions rows (λ i. cell_of S.exact width cells.now i column)) }
-    ensures fits { IfOk result (λ r. fits S.MAX (S.exact r) ≡ true) }
-    ensures none { OnOk result (first rows (partial_place ordered_fractions (passes S.MAX)
+    ensures fits { IfOk result (λ r. fraction_fits S.MAX (S.exact r) ≡ true) }
+    ensures none { OnOk result (first rows (partial_place ordered_fractions (is_too_wide S.MAX)
         (AtPlace rows column) (λ i. cell_of S.exact width cells.now i column)) ≡ None) }
-    ensures wide { OnErr result (first rows (partial_place ordered_fractions (passes S.MAX)
+    ensures wide { OnErr result (first rows (partial_place ordered_fractions (is_too_wide S.MAX)
         (AtPlace rows column) (λ i. cell_of S.exact width cells.now i column)) ≡ Some (AtPlace rows column)) }
 {
     let mut sum = S::zero();
@@ -161,17 +162,17 @@ fn objective_cell<S: Exact>(
     p: &Problem,
     artificial: usize,
     column: usize,
-) -> Result<S, Wide>
+) -> Result<S, OpWide>
     requires problem { IsProblem p.now }
     requires artificial { artificial ≡ plain (shape_of_problem p.now) }
     requires room { p.now.rows * width (shape_of_problem p.now) ≤ length cells.now }
     requires column_in { column < width (shape_of_problem p.now) }
     ensures ok { IfOk result (λ r. S.exact r ≡ objective_over ordered_fractions (shape_of_problem p.now)
         (cell_of S.exact (width (shape_of_problem p.now)) cells.now) column) }
-    ensures fits { IfOk result (λ r. fits S.MAX (S.exact r) ≡ true) }
-    ensures none { OnOk result (objective_place ordered_fractions (passes S.MAX) (shape_of_problem p.now)
+    ensures fits { IfOk result (λ r. fraction_fits S.MAX (S.exact r) ≡ true) }
+    ensures none { OnOk result (objective_place ordered_fractions (is_too_wide S.MAX) (shape_of_problem p.now)
         (cell_of S.exact (width (shape_of_problem p.now)) cells.now) column ≡ None) }
-    ensures wide { OnErr result (objective_place ordered_fractions (passes S.MAX) (shape_of_problem p.now)
+    ensures wide { OnErr result (objective_place ordered_fractions (is_too_wide S.MAX) (shape_of_problem p.now)
         (cell_of S.exact (width (shape_of_problem p.now)) cells.now) column
         ≡ Some (AtPlace p.now.rows column)) }
 {
@@ -197,9 +198,9 @@ pub fn push_objective<S: Exact>(
     ensures grown { OnOk result (Grows S.exact cells.old.items cells.new.items (width (shape_of_problem p.now))
         (objective_over ordered_fractions (shape_of_problem p.now)
         (cell_of S.exact (width (shape_of_problem p.now)) cells.old.items))) }
-    ensures fits { OnOk result (objective_places ordered_fractions (passes S.MAX) (shape_of_problem p.now)
+    ensures fits { OnOk result (objective_places ordered_fractions (is_too_wide S.MAX) (shape_of_problem p.now)
         (cell_of S.exact (width (shape_of_problem p.now)) cells.old.items) ≡ None) }
-    ensures wide { IfErr result (λ e. Tells e (objective_places ordered_fractions (passes S.MAX)
+    ensures wide { IfErr result (λ e. TellsFirst e (objective_places ordered_fractions (is_too_wide S.MAX)
         (shape_of_problem p.now) (cell_of S.exact (width (shape_of_problem p.now)) cells.old.items))) }
 {
     for j in 0..artificial + p.rows + 1 {

@@ -5,16 +5,16 @@ ghost use Rattle.stack_algebra.proofs.Fractions.{of};
 ghost use Rattle.stack_algebra.proofs.OrderedFractions.{ordered_fractions};
 ghost use Rattle.stack_algebra.specs.Rows.{changed};
 ghost use Rattle.stack_algebra.specs.Search.{least};
-ghost use Rattle.stack_rational.specs.Passes.{fits};
+ghost use Rattle.stack_rational.specs.TooWide.{fraction_fits};
 ghost use Rattle.stack_table.specs.Table.{factor_row};
-ghost use Rattle.stack_table.specs.Block.{cell_of, value_at, IsBlock};
+ghost use Rattle.stack_table.specs.Block.{cell_of, item_value, IsBlock};
 
 use stack_rational::Exact;
 
 /// -1.
 fn minus_one<S: Exact>() -> S
     ensures value { S.exact result ≡ of (negsuc 0) }
-    ensures fits { fits S.MAX (S.exact result) ≡ true }
+    ensures fits { fraction_fits S.MAX (S.exact result) ≡ true }
 {
     match S::from_whole(-1) {
         Ok(number) => number,
@@ -26,7 +26,7 @@ fn minus_one<S: Exact>() -> S
 fn clear_row<S: Exact>(cells: &mut [S], marks: &mut [bool])
     requires block { IsBlock S.MAX S.exact cells.old marks.old }
     ensures block { IsBlock S.MAX S.exact cells.new marks.new }
-    ensures ok { (j : ℕ) → value_at S.exact cells.new j ≡ of (pos 0) }
+    ensures ok { (j : ℕ) → item_value S.exact cells.new j ≡ of (pos 0) }
 {
     let zero = S::zero();
     for j in 0..cells.len() {
@@ -38,11 +38,11 @@ fn clear_row<S: Exact>(cells: &mut [S], marks: &mut [bool])
 /// Sets one cell of a row.
 fn set_cell<S: Exact>(cells: &mut [S], marks: &mut [bool], column: usize, cell: S)
     requires column_in { column < length cells.old }
-    requires fits { fits S.MAX (S.exact cell) ≡ true }
+    requires fits { fraction_fits S.MAX (S.exact cell) ≡ true }
     requires block { IsBlock S.MAX S.exact cells.old marks.old }
     ensures block { IsBlock S.MAX S.exact cells.new marks.new }
-    ensures ok { (j : ℕ) → value_at S.exact cells.new j
-        ≡ cond (eqb j column) (S.exact cell) (value_at S.exact cells.old j) }
+    ensures ok { (j : ℕ) → item_value S.exact cells.new j
+        ≡ cond (eqb j column) (S.exact cell) (item_value S.exact cells.old j) }
 {
     cells[column] = cell;
     marks[column] = cell.is_zero();

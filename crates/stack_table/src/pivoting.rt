@@ -3,7 +3,7 @@
 ghost use Rattle.std.specs.Prelude.{◌≡◌, ◌≢◌, ℕ, suc, ◌*◌, ◌<◌, length, pos, OnOk, MatchResult, Some, None};
 ghost use Rattle.stack_algebra.proofs.OrderedFractions.{ordered_fractions};
 ghost use Rattle.stack_algebra.specs.Rows.{next};
-ghost use Rattle.stack_rational.specs.Passes.{passes};
+ghost use Rattle.stack_rational.specs.TooWide.{is_too_wide};
 ghost use Rattle.stack_table.specs.Spots.{cells_spot};
 ghost use Rattle.stack_table.specs.Block.{cell_of, IsBlock};
 
@@ -29,10 +29,10 @@ pub fn pivot_block<S: Exact>(
     ensures block { IsBlock S.MAX S.exact cells.new marks.new }
     ensures ok { OnOk result ((i j : ℕ) → cell_of S.exact (length columns.old) cells.new i j
         ≡ next ordered_fractions (cell_of S.exact (length columns.old) cells.old) row column i j) }
-    ensures passed { MatchResult result
-        (λ _. cells_spot ordered_fractions (passes S.MAX) (suc rows) (length columns.old)
+    ensures wide { MatchResult result
+        (λ _. cells_spot ordered_fractions (is_too_wide S.MAX) (suc rows) (length columns.old)
         (cell_of S.exact (length columns.old) cells.old) row column ≡ None)
-        (λ e. cells_spot ordered_fractions (passes S.MAX) (suc rows) (length columns.old)
+        (λ e. cells_spot ordered_fractions (is_too_wide S.MAX) (suc rows) (length columns.old)
         (cell_of S.exact (length columns.old) cells.old) row column ≡ Some e) }
 {
     let width = columns.len();

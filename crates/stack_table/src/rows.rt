@@ -4,10 +4,10 @@ ghost use Rattle.std.specs.Prelude.{◌≡◌, ◌≢◌, ℕ, ◌+◌, ◌*◌,
 ghost use Rattle.std.specs.Prelude.{Some, None, true};
 ghost use Rattle.stack_algebra.proofs.OrderedFractions.{ordered_fractions};
 ghost use Rattle.stack_algebra.specs.Search.{first};
-ghost use Rattle.stack_rational.specs.Passes.{passes};
+ghost use Rattle.stack_rational.specs.TooWide.{is_too_wide};
 ghost use Rattle.stack_table.specs.Spots.{divided, reduced, divide_spot, reduce_spot, rows_spot};
-ghost use Rattle.stack_table.specs.Block.{value_at, cell_of, IsBlock};
-ghost use Rattle.stack_table.specs.Columns.{Lists, zero_in};
+ghost use Rattle.stack_table.specs.Block.{item_value, cell_of, IsBlock};
+ghost use Rattle.stack_table.specs.Columns.{ListsNonzero, zero_in};
 
 use crate::types::{PivotWide, Step};
 use stack_rational::Exact;
@@ -24,14 +24,14 @@ pub fn divide_row<S: Exact>(
     requires divisor { (S.exact divisor).num ≢ pos 0 }
     requires block { IsBlock S.MAX S.exact cells.old marks.now }
     ensures block { IsBlock S.MAX S.exact cells.new marks.now }
-    ensures ok { OnOk result ((j : ℕ) → value_at S.exact cells.new j
-        ≡ divided ordered_fractions (value_at S.exact cells.old) (S.exact divisor) j) }
+    ensures ok { OnOk result ((j : ℕ) → item_value S.exact cells.new j
+        ≡ divided ordered_fractions (item_value S.exact cells.old) (S.exact divisor) j) }
     ensures listed { IfOk result (λ n. (n ≤ length columns.new)
-        × Lists (zero_in S.exact cells.new) columns.new n (length cells.new)) }
-    ensures passed { MatchResult result
-        (λ _. divide_spot ordered_fractions (passes S.MAX) (length cells.old) (value_at S.exact cells.old)
+        × ListsNonzero (zero_in S.exact cells.new) columns.new n (length cells.new)) }
+    ensures wide { MatchResult result
+        (λ _. divide_spot ordered_fractions (is_too_wide S.MAX) (length cells.old) (item_value S.exact cells.old)
         (S.exact divisor) row ≡ None)
-        (λ e. divide_spot ordered_fractions (passes S.MAX) (length cells.old) (value_at S.exact cells.old)
+        (λ e. divide_spot ordered_fractions (is_too_wide S.MAX) (length cells.old) (item_value S.exact cells.old)
         (S.exact divisor) row ≡ Some e) }
 {
     let mut count = 0;
@@ -66,16 +66,16 @@ pub fn reduce_row<S: Exact>(
     requires width { length pivot.now ≡ length cells.old }
     requires column_in { column < length cells.old }
     requires block { IsBlock S.MAX S.exact cells.old marks.old }
-    requires listed { Lists (zero_in S.exact pivot.now) columns.now (length columns.now) (length cells.old) }
+    requires listed { ListsNonzero (zero_in S.exact pivot.now) columns.now (length columns.now) (length cells.old) }
     ensures block { IsBlock S.MAX S.exact cells.new marks.new }
-    ensures ok { OnOk result ((j : ℕ) → value_at S.exact cells.new j
-        ≡ reduced ordered_fractions (value_at S.exact cells.old) (value_at S.exact pivot.now)
-        (value_at S.exact cells.old column) j) }
-    ensures passed { MatchResult result
-        (λ _. reduce_spot ordered_fractions (passes S.MAX) (length cells.old) (value_at S.exact cells.old)
-        (value_at S.exact pivot.now) (value_at S.exact cells.old column) row ≡ None)
-        (λ e. reduce_spot ordered_fractions (passes S.MAX) (length cells.old) (value_at S.exact cells.old)
-        (value_at S.exact pivot.now) (value_at S.exact cells.old column) row ≡ Some e) }
+    ensures ok { OnOk result ((j : ℕ) → item_value S.exact cells.new j
+        ≡ reduced ordered_fractions (item_value S.exact cells.old) (item_value S.exact pivot.now)
+        (item_value S.exact cells.old column) j) }
+    ensures wide { MatchResult result
+        (λ _. reduce_spot ordered_fractions (is_too_wide S.MAX) (length cells.old) (item_value S.exact cells.old)
+        (item_value S.exact pivot.now) (item_value S.exact cells.old column) row ≡ None)
+        (λ e. reduce_spot ordered_fractions (is_too_wide S.MAX) (length cells.old) (item_value S.exact cells.old)
+        (item_value S.exact pivot.now) (item_value S.exact cells.old column) row ≡ Some e) }
 {
     let factor = cells[column];
     for k in 0..columns.len() {
@@ -121,16 +121,16 @@ pub fn reduce_rows<S: Exact>(
     requires column_in { column < length pivot.now }
     requires numbers { first + count < 18446744073709551616 }
     requires block { IsBlock S.MAX S.exact cells.old marks.old }
-    requires listed { Lists (zero_in S.exact pivot.now) columns.now (length columns.now) (length pivot.now) }
+    requires listed { ListsNonzero (zero_in S.exact pivot.now) columns.now (length columns.now) (length pivot.now) }
     ensures block { IsBlock S.MAX S.exact cells.new marks.new }
     ensures ok { OnOk result ((i j : ℕ) → cell_of S.exact (length pivot.now) cells.new i j
         ≡ reduced ordered_fractions (cell_of S.exact (length pivot.now) cells.old i)
-        (value_at S.exact pivot.now) (cell_of S.exact (length pivot.now) cells.old i column) j) }
-    ensures passed { MatchResult result
-        (λ _. rows_spot ordered_fractions (passes S.MAX) count (length pivot.now)
-        (cell_of S.exact (length pivot.now) cells.old) (value_at S.exact pivot.now) column first ≡ None)
-        (λ e. rows_spot ordered_fractions (passes S.MAX) count (length pivot.now)
-        (cell_of S.exact (length pivot.now) cells.old) (value_at S.exact pivot.now) column first ≡ Some e) }
+        (item_value S.exact pivot.now) (cell_of S.exact (length pivot.now) cells.old i column) j) }
+    ensures wide { MatchResult result
+        (λ _. rows_spot ordered_fractions (is_too_wide S.MAX) count (length pivot.now)
+        (cell_of S.exact (length pivot.now) cells.old) (item_value S.exact pivot.now) column first ≡ None)
+        (λ e. rows_spot ordered_fractions (is_too_wide S.MAX) count (length pivot.now)
+        (cell_of S.exact (length pivot.now) cells.old) (item_value S.exact pivot.now) column first ≡ Some e) }
 {
     let width = pivot.len();
     for i in 0..count {

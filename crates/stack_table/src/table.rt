@@ -43,29 +43,29 @@ pub struct Table<S: Exact> {
 impl<S: Exact> Table<S> {
     ghost use Rattle.std.specs.Prelude.{◌≢◌, ◌+◌, ◌≤◌, pos, cond, OnOk, IfOk, IfErr, MatchResult, Some, None};
     ghost use Rattle.stack_algebra.proofs.OrderedFractions.{ordered_fractions};
-    ghost use Rattle.stack_rational.specs.Passes.{passes};
+    ghost use Rattle.stack_rational.specs.TooWide.{is_too_wide};
     ghost use Rattle.stack_rational.specs.Order.{is_zero};
     ghost use Rattle.stack_table.specs.Table.{pivoted_at, clear_objective, set_factor_objective};
-    ghost use Rattle.stack_table.specs.Block.{mark_at, value_at};
+    ghost use Rattle.stack_table.specs.Block.{mark_at, item_value};
     ghost use Rattle.stack_table.specs.Spots.{pivot_spot};
     ghost use Rattle.stack_table.specs.Problem.{flipped};
-    ghost use Rattle.stack_table.specs.Lent.{IsProblem, IsAmple, shape_of_problem, problem_of, Tells};
+    ghost use Rattle.stack_table.specs.Lent.{IsProblem, IsAmple, shape_of_problem, problem_of, TellsFirst};
     ghost use Rattle.stack_table.specs.WrittenTable.{written_table, wide_place};
     ghost use Rattle.stack_table.specs.declared.problem.BuildError.TheVariants as build_error;
     ghost use Rattle.stack_table.specs.Seen.{shape_of_table, table_of, flips_of};
 
     /// The written table of a problem.
     ///
-    /// Refused at the first number, or partial difference of the objective row, that passes, in the written
+    /// Refused at the first number, or partial difference of the objective row, that is too wide, in the written
     /// order; never at 128 bits. All memory of a run is taken here.
     pub fn build(alloc: Global, p: &Problem) -> Result<Table<S>, BuildError>
         requires { IsProblem p.now }
         ensures shape { IfOk result (λ t. shape_of_table t ≡ shape_of_problem p.now) }
         ensures ok { IfOk result (λ t. table_of t ≡ written_table ordered_fractions (problem_of p.now)) }
         ensures flips { IfOk result (λ t. flips_of t ≡ flipped (problem_of p.now)) }
-        ensures fits { OnOk result (wide_place ordered_fractions (passes S.MAX) (problem_of p.now) ≡ None) }
+        ensures fits { OnOk result (wide_place ordered_fractions (is_too_wide S.MAX) (problem_of p.now) ≡ None) }
         ensures wide { IfErr result (λ e.
-            Tells e (wide_place ordered_fractions (passes S.MAX) (problem_of p.now))) }
+            TellsFirst e (wide_place ordered_fractions (is_too_wide S.MAX) (problem_of p.now))) }
         ensures never_wide { IsAmple S.MAX → IfErr result (λ e. e ≡ build_error.Memory) }
     {
         let artificial = artificial(p);
@@ -149,7 +149,7 @@ impl<S: Exact> Table<S> {
         ensures whole { length result.now
             ≡ suc (shape_of_table self.now).rows * width (shape_of_table self.now) }
         ensures cells { (i j : ℕ) → j < width (shape_of_table self.now) →
-            value_at S.exact result.now (i * width (shape_of_table self.now) + j)
+            item_value S.exact result.now (i * width (shape_of_table self.now) + j)
             ≡ (table_of self.now).cell i j }
     {
         self.cells.as_slice()
@@ -168,7 +168,7 @@ impl<S: Exact> Table<S> {
 
     /// A pivot at a row and a column whose cell isn't 0.
     ///
-    /// Refused at the first operation that passes, in the written order; the table is spent then.
+    /// Refused at the first operation that is too wide, in the written order; the table is spent then.
     pub fn pivot(&mut self, row: usize, column: usize) -> Result<(), PivotWide>
         requires row_in { row < (shape_of_table self.old).rows }
         requires column_in { column < columns (shape_of_table self.old) }
@@ -177,10 +177,10 @@ impl<S: Exact> Table<S> {
         ensures flips { OnOk result (flips_of self.new ≡ flips_of self.old) }
         ensures ok { OnOk result (table_of self.new
             ≡ pivoted_at ordered_fractions (shape_of_table self.old) (table_of self.old) row column) }
-        ensures passed { MatchResult result
-            (λ _. pivot_spot ordered_fractions (passes S.MAX) (shape_of_table self.old) (table_of self.old)
+        ensures wide { MatchResult result
+            (λ _. pivot_spot ordered_fractions (is_too_wide S.MAX) (shape_of_table self.old) (table_of self.old)
             row column ≡ None)
-            (λ e. pivot_spot ordered_fractions (passes S.MAX) (shape_of_table self.old) (table_of self.old)
+            (λ e. pivot_spot ordered_fractions (is_too_wide S.MAX) (shape_of_table self.old) (table_of self.old)
             row column ≡ Some e) }
     {
         pivot_block(

@@ -3,7 +3,7 @@ use Rattle.std.proofs.Common.{◌≡◌, refl, Bool, true, false, arith}
 use Prim.Native.Nat.{◌^◌}
 use lib.IntN.{ℤ, nat_abs}
 use Rattle.std.specs.Prelude.{◌↔◌, IsTrue, nat_lt, if◌then◌else◌, Ok, Err}
-use Rattle.stack_whole.specs.Whole.{IsFitting, Passes, Makes, fits, made}
+use Rattle.stack_whole.specs.Whole.{IsFitting, IsTooWide, Makes, fits, made}
 
 -- the test and the fact
 pub fits-is : (z : ℤ) → IsTrue (fits z) ↔ IsFitting z

@@ -1,6 +1,7 @@
--- Whole numbers of 128 bits: a number passes where its size is more than 2^127 - 1, and then it is not made.
+-- Whole numbers of 128 bits: a number is too wide where its size is more than 2^127 - 1, and then it is not made.
 -- Here this is said once, for each number that is read, written, tested or computed.
-use Rattle.std.specs.Prelude.{◌≡◌, ℕ, ◌<◌, ◌≤◌, ◌-◌, ◌^◌, ℤ, nat_abs, Bool, nat_lt, Option, Some, None, Result, Ok, Err, if◌then◌else◌}
+use Rattle.std.specs.Prelude.{◌≡◌, ℕ, ◌<◌, ◌≤◌, ◌-◌, ◌^◌, ℤ, nat_abs, Bool, nat_lt, Option, Some, None, Result, Ok}
+use Rattle.std.specs.Prelude.{Err, if◌then◌else◌}
 use Rattle.stack_whole.specs.declared.whole.Wide.{Wide}
 use Rattle.stack_whole.specs.declared.whole.Whole.{Whole}
 
@@ -16,10 +17,10 @@ abbrev pub fits : ℤ → Bool
 fits z = nat_lt (nat_abs z) (2 ^ 127)
 
 -- it is more
-abbrev pub Passes : ℤ → Type 0
-Passes z = 2 ^ 127 ≤ nat_abs z
+abbrev pub IsTooWide : ℤ → Type 0
+IsTooWide z = 2 ^ 127 ≤ nat_abs z
 
--- the number, where it doesn't pass
+-- the number, where it isn't too wide
 abbrev pub made : ℤ → Result Whole Wide
 made z = if fits z then Ok (record { value = z }) else Err (record {})
 
@@ -35,4 +36,4 @@ whole z = record { value = z }
 -- what making a number shows
 abbrev pub Makes : ℤ → Result Whole Wide → Type 0
 Makes z (Ok w) = (w ≡ whole z) × IsFitting z
-Makes z (Err e) = Passes z
+Makes z (Err e) = IsTooWide z

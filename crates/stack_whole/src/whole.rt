@@ -3,7 +3,7 @@
 ghost use Rattle.std.specs.Prelude.{◌≡◌, ◌+ℤ◌, ◌*ℤ◌, ◌-ℤ◌, pos, nat_abs};
 ghost use Rattle.stack_whole.specs.Whole.{made, kept, whole};
 
-/// A result passes 2^127 - 1 in size.
+/// A result is more than 2^127 - 1 in size.
 #[derive(Clone, Copy, Debug, PartialEq, Eq)]
 pub struct Wide;
 
@@ -13,7 +13,7 @@ pub struct Whole {
     pub value: i128,
 }
 
-/// The number, unless it passes; the least number of 128 bits does.
+/// The number, unless it is too wide, as the least number of 128 bits is.
 fn keep(number: Option<i128>) -> Result<Whole, Wide>
     ensures { result ≡ kept number }
 {

@@ -3,7 +3,7 @@
 ghost use Rattle.std.specs.Prelude.{◌≡◌, ◌≤◌};
 ghost use Rattle.stack_outside.specs.Faults.{Rose};
 ghost use Rattle.stack_cli.specs.Checking.{check_step, certified, checked, check_work};
-ghost use Rattle.stack_cli.specs.Progress.{Does, DoesAlone, Answers, Fails};
+ghost use Rattle.stack_cli.specs.Progress.{Does, DoesAlone, AnswersDue, IsCausedBy};
 
 use crate::answer::{Answer, Verdict, rejection, wide_place};
 use crate::reading::read_file;
@@ -17,8 +17,8 @@ use std::alloc::Global;
 
 /// The answer to what a check gives, or the refusal of a sum that is too wide.
 pub fn check_answer(alloc: Global, survey: &Survey, check: Check) -> Result<Answer, Refusal>
-    ensures does { DoesAlone Answers (check_step survey.now.structure check) result }
-    ensures no_file { Fails result ⊥ }
+    ensures does { DoesAlone AnswersDue (check_step survey.now.structure check) result }
+    ensures no_file { IsCausedBy result ⊥ }
 {
     match check {
         Check::Accepted => Ok(Answer {
@@ -38,8 +38,8 @@ pub fn check_answer(alloc: Global, survey: &Survey, check: Check) -> Result<Answ
 
 /// The check of the certificate in a text.
 fn check_text(alloc: Global, text: &[u8], survey: &Survey) -> Result<Answer, Refusal>
-    ensures does { DoesAlone Answers (certified survey.now text.now) result }
-    ensures no_file { Fails result ⊥ }
+    ensures does { DoesAlone AnswersDue (certified survey.now text.now) result }
+    ensures no_file { IsCausedBy result ⊥ }
 {
     match stack_certificate::read_certificate(alloc, text) {
         Ok(certificate) => check_answer(alloc, survey, stack_checker::check(survey, &certificate)),
@@ -55,11 +55,12 @@ fn check_file<F: Shelf>(
     name: &str,
     survey: &Survey,
 ) -> Result<Answer, Refusal>
-    ensures does { Does Answers (F.holds shelf.old) (checked name.now survey.now) (F.asked shelf.old) (F.asked shelf.new)
+    ensures does { Does AnswersDue (F.holds shelf.old) (checked name.now survey.now) (F.asked shelf.old)
+        (F.asked shelf.new)
         result }
     ensures holds { F.holds shelf.new ≡ F.holds shelf.old }
     ensures later { F.faults shelf.old ≤ F.faults shelf.new }
-    ensures cause { Fails result (Rose (F.faults shelf.old) (F.faults shelf.new)) }
+    ensures cause { IsCausedBy result (Rose (F.faults shelf.old) (F.faults shelf.new)) }
 {
     match read_file(shelf, name, Input::Certificate) {
         Ok(text) => check_text(alloc, text.as_slice(), survey),
@@ -74,11 +75,11 @@ pub fn check_form<F: Shelf>(
     model: &str,
     certificate: &str,
 ) -> Result<Answer, Refusal>
-    ensures does { Does Answers (F.holds shelf.old) (check_work model.now certificate.now) (F.asked shelf.old)
+    ensures does { Does AnswersDue (F.holds shelf.old) (check_work model.now certificate.now) (F.asked shelf.old)
         (F.asked shelf.new) result }
     ensures holds { F.holds shelf.new ≡ F.holds shelf.old }
     ensures later { F.faults shelf.old ≤ F.faults shelf.new }
-    ensures cause { Fails result (Rose (F.faults shelf.old) (F.faults shelf.new)) }
+    ensures cause { IsCausedBy result (Rose (F.faults shelf.old) (F.faults shelf.new)) }
 {
     match survey_file(alloc, shelf, model) {
         Ok(survey) => check_file(alloc, shelf, certificate, &survey),

@@ -6,7 +6,7 @@ ghost use Rattle.stack_certificate.specs.Certificate.{certificate_view};
 ghost use Rattle.stack_cli.specs.Answers.{verdict_of as verdict_of_value};
 ghost use Rattle.stack_cli.specs.Refusals.{refusal_view, faulty, memory};
 ghost use Rattle.stack_cli.specs.Judging.{wide_fault, judged, judge_work};
-ghost use Rattle.stack_cli.specs.Progress.{Does, DoesAlone, Answers, Fails};
+ghost use Rattle.stack_cli.specs.Progress.{Does, DoesAlone, AnswersDue, IsCausedBy};
 
 use crate::answer::{Answer, Verdict, wide_place};
 use crate::refusal::Refusal;
@@ -29,7 +29,7 @@ fn verdict_of(certificate: &Certificate) -> Verdict
     }
 }
 
-/// The refusal of a number that passes.
+/// The refusal of a number that is too wide.
 pub fn wide(alloc: Global, survey: &Survey, place: JudgePlace) -> Refusal
     ensures { (refusal_view result ≡ faulty (wide_fault survey.now.structure place)) ⊎ (result ≡ Refusal.Memory) }
 {
@@ -54,8 +54,8 @@ fn judge_survey(
     budget: u32,
 ) -> Result<Answer, Refusal>
     requires { budget ≢ 0 }
-    ensures does { DoesAlone Answers (judged question budget survey.now) result }
-    ensures no_file { Fails result ⊥ }
+    ensures does { DoesAlone AnswersDue (judged question budget survey.now) result }
+    ensures no_file { IsCausedBy result ⊥ }
 {
     match judge(alloc, survey, question, budget) {
         Ok(certificate) => Ok(Answer {
@@ -78,11 +78,11 @@ pub fn judge_form<F: Shelf>(
     budget: u32,
 ) -> Result<Answer, Refusal>
     requires { budget ≢ 0 }
-    ensures does { Does Answers (F.holds shelf.old) (judge_work question model.now budget) (F.asked shelf.old)
+    ensures does { Does AnswersDue (F.holds shelf.old) (judge_work question model.now budget) (F.asked shelf.old)
         (F.asked shelf.new) result }
     ensures holds { F.holds shelf.new ≡ F.holds shelf.old }
     ensures later { F.faults shelf.old ≤ F.faults shelf.new }
-    ensures cause { Fails result (Rose (F.faults shelf.old) (F.faults shelf.new)) }
+    ensures cause { IsCausedBy result (Rose (F.faults shelf.old) (F.faults shelf.new)) }
 {
     match survey_file(alloc, shelf, model) {
         Ok(survey) => judge_survey(alloc, &survey, question, budget),

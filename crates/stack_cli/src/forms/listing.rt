@@ -2,8 +2,8 @@
 
 ghost use Rattle.std.specs.Prelude.{◌≡◌, ◌≤◌};
 ghost use Rattle.stack_outside.specs.Faults.{Rose};
-ghost use Rattle.stack_cli.specs.Listing.{listed, contacts_work};
-ghost use Rattle.stack_cli.specs.Progress.{Does, DoesAlone, Answers, Fails};
+ghost use Rattle.stack_cli.specs.Listing.{contacts_due, contacts_work};
+ghost use Rattle.stack_cli.specs.Progress.{Does, DoesAlone, AnswersDue, IsCausedBy};
 
 use crate::answer::{Answer, Verdict};
 use crate::refusal::Refusal;
@@ -14,8 +14,8 @@ use std::alloc::Global;
 
 /// The table of the contacts of a survey.
 fn list(alloc: Global, survey: &Survey) -> Result<Answer, Refusal>
-    ensures does { DoesAlone Answers (listed survey.now) result }
-    ensures no_file { Fails result ⊥ }
+    ensures does { DoesAlone AnswersDue (contacts_due survey.now) result }
+    ensures no_file { IsCausedBy result ⊥ }
 {
     Ok(Answer {
         verdict: Verdict::Affirmed,
@@ -25,11 +25,11 @@ fn list(alloc: Global, survey: &Survey) -> Result<Answer, Refusal>
 
 /// The words `contacts MODEL`.
 pub fn contacts_form<F: Shelf>(alloc: Global, shelf: &mut F, model: &str) -> Result<Answer, Refusal>
-    ensures does { Does Answers (F.holds shelf.old) (contacts_work model.now) (F.asked shelf.old) (F.asked shelf.new)
+    ensures does { Does AnswersDue (F.holds shelf.old) (contacts_work model.now) (F.asked shelf.old) (F.asked shelf.new)
         result }
     ensures holds { F.holds shelf.new ≡ F.holds shelf.old }
     ensures later { F.faults shelf.old ≤ F.faults shelf.new }
-    ensures cause { Fails result (Rose (F.faults shelf.old) (F.faults shelf.new)) }
+    ensures cause { IsCausedBy result (Rose (F.faults shelf.old) (F.faults shelf.new)) }
 {
     match survey_file(alloc, shelf, model) {
         Ok(survey) => list(alloc, &survey),

@@ -10,7 +10,7 @@ ghost use Rattle.stack_cli.specs.Answers.{summary};
 ghost use Rattle.stack_cli.specs.Work.{gives};
 ghost use Rattle.stack_cli.specs.Stacking.{built_step};
 ghost use Rattle.stack_cli.specs.Sampling.{sample_of, sampled, wall_sampled, sample_work};
-ghost use Rattle.stack_cli.specs.Progress.{DoesAlone, IsModel, Answers, Fails};
+ghost use Rattle.stack_cli.specs.Progress.{DoesAlone, IsModel, AnswersDue, IsCausedBy};
 
 use crate::answer::{Answer, Verdict};
 use crate::forms::judging::wide;
@@ -30,7 +30,7 @@ use std::alloc::Global;
 fn built(alloc: Global, number: u32) -> Result<Model, Refusal>
     ensures does { DoesAlone IsModel (built_step (sample_of number)) result }
     ensures live { IfOk result (λ m. HasLive (model_view m)) }
-    ensures no_file { Fails result ⊥ }
+    ensures no_file { IsCausedBy result ⊥ }
 {
     match wall(alloc, number) {
         Ok(model) => Ok(model),
@@ -47,8 +47,9 @@ fn summed(
     narrow: bool,
 ) -> Result<Answer, Refusal>
     requires { IsJudged Live survey.now (certificate_view certificate.now) }
-    ensures does { DoesAlone Answers (gives (summary number survey.now (certificate_view certificate.now) narrow)) result }
-    ensures no_file { Fails result ⊥ }
+    ensures does { DoesAlone AnswersDue (gives (summary number survey.now
+        (certificate_view certificate.now) narrow)) result }
+    ensures no_file { IsCausedBy result ⊥ }
 {
     Ok(Answer {
         verdict: Verdict::Affirmed,
@@ -59,8 +60,8 @@ fn summed(
 /// The summary of the judgement of a wall's survey.
 fn sample_survey(alloc: Global, number: u32, survey: &Survey) -> Result<Answer, Refusal>
     requires { HasLive survey.now.structure }
-    ensures does { DoesAlone Answers (sampled number survey.now) result }
-    ensures no_file { Fails result ⊥ }
+    ensures does { DoesAlone AnswersDue (sampled number survey.now) result }
+    ensures no_file { IsCausedBy result ⊥ }
 {
     match judge_marked(alloc, survey, Question::Live, DEFAULT_BUDGET) {
         Ok((certificate, narrow)) => summed(alloc, number, survey, &certificate, narrow),
@@ -74,8 +75,8 @@ fn sample_survey(alloc: Global, number: u32, survey: &Survey) -> Result<Answer, 
 /// The summary of a wall.
 fn sample_wall(alloc: Global, number: u32, model: Model) -> Result<Answer, Refusal>
     requires { HasLive (model_view model) }
-    ensures does { DoesAlone Answers (wall_sampled number (model_view model)) result }
-    ensures no_file { Fails result ⊥ }
+    ensures does { DoesAlone AnswersDue (wall_sampled number (model_view model)) result }
+    ensures no_file { IsCausedBy result ⊥ }
 {
     match survey_model(alloc, model) {
         Ok(survey) => sample_survey(alloc, number, &survey),
@@ -85,8 +86,8 @@ fn sample_wall(alloc: Global, number: u32, model: Model) -> Result<Answer, Refus
 
 /// The words `sample N`.
 pub fn sample_form(alloc: Global, number: u32) -> Result<Answer, Refusal>
-    ensures does { DoesAlone Answers (sample_work number) result }
-    ensures no_file { Fails result ⊥ }
+    ensures does { DoesAlone AnswersDue (sample_work number) result }
+    ensures no_file { IsCausedBy result ⊥ }
 {
     match built(alloc, number) {
         Ok(model) => sample_wall(alloc, number, model),

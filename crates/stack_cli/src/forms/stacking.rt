@@ -1,11 +1,11 @@
 //! The words `stack KIND N`.
 
 ghost use Rattle.stack_model.specs.ModelView.{model_view};
-ghost use Rattle.stack_overhang.specs.Gives.{Gives};
+ghost use Rattle.stack_overhang.specs.Gives.{GivesStack};
 ghost use Rattle.stack_cli.specs.Answers.{document};
 ghost use Rattle.stack_cli.specs.Work.{gives};
 ghost use Rattle.stack_cli.specs.Stacking.{stack_of, built_step, stack_work};
-ghost use Rattle.stack_cli.specs.Progress.{DoesAlone, IsModel, Answers, Fails};
+ghost use Rattle.stack_cli.specs.Progress.{DoesAlone, IsModel, AnswersDue, IsCausedBy};
 
 use crate::answer::{Answer, Verdict};
 use crate::refusal::Refusal;
@@ -16,7 +16,7 @@ use std::alloc::Global;
 
 /// The built-in stack of this kind and size.
 fn stack(alloc: Global, kind: Kind, size: u32) -> Result<Model, StackError>
-    ensures { Gives result (stack_of kind size) }
+    ensures { GivesStack result (stack_of kind size) }
 {
     match kind {
         Kind::Harmonic => harmonic(alloc, size),
@@ -28,7 +28,7 @@ fn stack(alloc: Global, kind: Kind, size: u32) -> Result<Model, StackError>
 /// The same, or the refusal of its size.
 fn built(alloc: Global, kind: Kind, size: u32) -> Result<Model, Refusal>
     ensures does { DoesAlone IsModel (built_step (stack_of kind size)) result }
-    ensures no_file { Fails result ⊥ }
+    ensures no_file { IsCausedBy result ⊥ }
 {
     match stack(alloc, kind, size) {
         Ok(model) => Ok(model),
@@ -38,8 +38,8 @@ fn built(alloc: Global, kind: Kind, size: u32) -> Result<Model, Refusal>
 
 /// The document of a model.
 fn described(alloc: Global, model: &Model) -> Result<Answer, Refusal>
-    ensures does { DoesAlone Answers (gives (document (model_view model.now))) result }
-    ensures no_file { Fails result ⊥ }
+    ensures does { DoesAlone AnswersDue (gives (document (model_view model.now))) result }
+    ensures no_file { IsCausedBy result ⊥ }
 {
     Ok(Answer {
         verdict: Verdict::Affirmed,
@@ -49,8 +49,8 @@ fn described(alloc: Global, model: &Model) -> Result<Answer, Refusal>
 
 /// The words `stack KIND N`.
 pub fn stack_form(alloc: Global, kind: Kind, size: u32) -> Result<Answer, Refusal>
-    ensures does { DoesAlone Answers (stack_work kind size) result }
-    ensures no_file { Fails result ⊥ }
+    ensures does { DoesAlone AnswersDue (stack_work kind size) result }
+    ensures no_file { IsCausedBy result ⊥ }
 {
     match built(alloc, kind, size) {
         Ok(model) => described(alloc, &model),

@@ -5,8 +5,8 @@ ghost use Rattle.stack_outside.specs.Faults.{Rose};
 ghost use Rattle.stack_certificate.specs.Certificate.{certificate_view};
 ghost use Rattle.stack_checker.specs.WrittenCheck.{written_check};
 ghost use Rattle.stack_checker.specs.declared.types.Check.TheVariants.{Accepted};
-ghost use Rattle.stack_cli.specs.Tables.{tabled, table_step, tabled_text, tabled_file, table_work};
-ghost use Rattle.stack_cli.specs.Progress.{Does, DoesAlone, Answers, Fails};
+ghost use Rattle.stack_cli.specs.Tables.{table_due, table_step, tabled_text, tabled_file, table_work};
+ghost use Rattle.stack_cli.specs.Progress.{Does, DoesAlone, AnswersDue, IsCausedBy};
 
 use crate::answer::{Answer, Verdict};
 use crate::forms::checking::check_answer;
@@ -23,8 +23,8 @@ use std::alloc::Global;
 /// The tables of an accepted certificate.
 fn tables(alloc: Global, survey: &Survey, certificate: &Certificate) -> Result<Answer, Refusal>
     requires { written_check survey.now (certificate_view certificate.now) ≡ Accepted }
-    ensures does { DoesAlone Answers (tabled survey.now (certificate_view certificate.now)) result }
-    ensures no_file { Fails result ⊥ }
+    ensures does { DoesAlone AnswersDue (table_due survey.now (certificate_view certificate.now)) result }
+    ensures no_file { IsCausedBy result ⊥ }
 {
     let mut text = contact_table(alloc, survey)?;
     match force_table(alloc, survey, certificate) {
@@ -46,9 +46,9 @@ fn table_answer(
     survey: &Survey,
     certificate: &Certificate,
 ) -> Result<Answer, Refusal>
-    ensures does { DoesAlone Answers (table_step survey.now (certificate_view certificate.now)
+    ensures does { DoesAlone AnswersDue (table_step survey.now (certificate_view certificate.now)
         (written_check survey.now (certificate_view certificate.now))) result }
-    ensures no_file { Fails result ⊥ }
+    ensures no_file { IsCausedBy result ⊥ }
 {
     match stack_checker::check(survey, certificate) {
         Check::Accepted => tables(alloc, survey, certificate),
@@ -59,8 +59,8 @@ fn table_answer(
 
 /// The same of the certificate in a text.
 fn table_text(alloc: Global, text: &[u8], survey: &Survey) -> Result<Answer, Refusal>
-    ensures does { DoesAlone Answers (tabled_text survey.now text.now) result }
-    ensures no_file { Fails result ⊥ }
+    ensures does { DoesAlone AnswersDue (tabled_text survey.now text.now) result }
+    ensures no_file { IsCausedBy result ⊥ }
 {
     match stack_certificate::read_certificate(alloc, text) {
         Ok(certificate) => table_answer(alloc, survey, &certificate),
@@ -76,11 +76,11 @@ fn table_file<F: Shelf>(
     name: &str,
     survey: &Survey,
 ) -> Result<Answer, Refusal>
-    ensures does { Does Answers (F.holds shelf.old) (tabled_file name.now survey.now) (F.asked shelf.old)
+    ensures does { Does AnswersDue (F.holds shelf.old) (tabled_file name.now survey.now) (F.asked shelf.old)
         (F.asked shelf.new) result }
     ensures holds { F.holds shelf.new ≡ F.holds shelf.old }
     ensures later { F.faults shelf.old ≤ F.faults shelf.new }
-    ensures cause { Fails result (Rose (F.faults shelf.old) (F.faults shelf.new)) }
+    ensures cause { IsCausedBy result (Rose (F.faults shelf.old) (F.faults shelf.new)) }
 {
     match read_file(shelf, name, Input::Certificate) {
         Ok(text) => table_text(alloc, text.as_slice(), survey),
@@ -95,11 +95,11 @@ pub fn table_form<F: Shelf>(
     model: &str,
     certificate: &str,
 ) -> Result<Answer, Refusal>
-    ensures does { Does Answers (F.holds shelf.old) (table_work model.now certificate.now) (F.asked shelf.old)
+    ensures does { Does AnswersDue (F.holds shelf.old) (table_work model.now certificate.now) (F.asked shelf.old)
         (F.asked shelf.new) result }
     ensures holds { F.holds shelf.new ≡ F.holds shelf.old }
     ensures later { F.faults shelf.old ≤ F.faults shelf.new }
-    ensures cause { Fails result (Rose (F.faults shelf.old) (F.faults shelf.new)) }
+    ensures cause { IsCausedBy result (Rose (F.faults shelf.old) (F.faults shelf.new)) }
 {
     match survey_file(alloc, shelf, model) {
         Ok(survey) => table_file(alloc, shelf, certificate, &survey),

@@ -3,7 +3,7 @@
 use super::{apply, fraction};
 use crate::{Exact, Frac, Op};
 
-/// What an answer should be: the parts of a fraction, or none where it passes 127.
+/// What an answer should be: the parts of a fraction, or none where it is more than 127.
 type Expected = Option<(i128, i128)>;
 
 fn plain_divisor(a: i128, b: i128) -> i128 {

@@ -1,4 +1,6 @@
-use Rattle.stack_algebra.proofs.Fractions.{same_values, of, add, mul, neg, of-is, add-is, mul-is, add_assoc, add_comm, zero_add, mul_assoc, mul_comm, one_mul, zero_mul, add_mul, neg_is, of_add, of_mul}
+use Rattle.stack_algebra.proofs.Fractions.{same_values, of, add, mul, neg, of-is, add-is, mul-is, add_assoc, add_comm}
+use Rattle.stack_algebra.proofs.Fractions.{zero_add, mul_assoc, mul_comm, one_mul, zero_mul, add_mul, neg_is, of_add}
+use Rattle.stack_algebra.proofs.Fractions.{of_mul}
 use Rattle.stack_algebra.proofs.FractionField.{inv}
 use Rattle.stack_algebra.proofs.OrderedFractions.{ordered_fractions, sign_is}
 use Rattle.stack_algebra.proofs.laws.fraction_laws.Goals as goal

@@ -6,7 +6,7 @@ use Rattle.stack_algebra.specs.Rows.{quotient}
 use Rattle.stack_algebra.proofs.OrderedFractions.{ordered_fractions}
 use Rattle.stack_algebra.proofs.Search.{only_if, first_found, first_more}
 use Rattle.stack_rational.specs.declared.exact.Op.TheVariants.{Quotient}
-use Rattle.stack_rational.specs.Passes.{passes}
+use Rattle.stack_rational.specs.TooWide.{is_too_wide}
 use Rattle.stack_table.specs.Table.{Shape, Tabled, columns}
 use Rattle.stack_table.specs.Seen.{shape_of_table, table_of}
 use Rattle.stack_bland.specs.Choice.{is_plus, ratio, ratio_item}
@@ -16,17 +16,17 @@ use Rattle.stack_bland.proofs.leaving_row.leaving.Goals.{then-is_positive+in-Ok,
 
 -- a row with a positive cell, and another
 item : (m : ℤ) (S : Shape) (T : Tabled Fraction) (c i : ℕ) (x y : Fraction) (b : Bool) → T.cell i c ≡ x →
-    T.cell i (columns S) ≡ y → is_plus (sign_of x.num) ≡ true → passes m Quotient y x ≡ b →
-    ratio_item ordered_fractions S (passes m) T c i ≡ only_if b i
+    T.cell i (columns S) ≡ y → is_plus (sign_of x.num) ≡ true → is_too_wide m Quotient y x ≡ b →
+    ratio_item ordered_fractions S (is_too_wide m) T c i ≡ only_if b i
 item m S T c i x y b ex ey p h =
-    (λ z. cond (is_plus (sign_of (ex z).num)) (only_if (passes m Quotient (ey z) (ex z)) i) None)
-    ∙ ap (λ t. cond t (only_if (passes m Quotient y x) i) None) p ∙ ap (λ t. only_if t i) h
+    (λ z. cond (is_plus (sign_of (ex z).num)) (only_if (is_too_wide m Quotient (ey z) (ex z)) i) None)
+    ∙ ap (λ t. cond t (only_if (is_too_wide m Quotient y x) i) None) p ∙ ap (λ t. only_if t i) h
 
 other_item : (m : ℤ) (S : Shape) (T : Tabled Fraction) (c i : ℕ) →
     is_plus (sign_of (T.cell i c).num) ≡ false →
-    ratio_item ordered_fractions S (passes m) T c i ≡ None
+    ratio_item ordered_fractions S (is_too_wide m) T c i ≡ None
 other_item m S T c i p =
-    ap (λ b. cond b (only_if (passes m Quotient (T.cell i (columns S)) (T.cell i c)) i) None) p
+    ap (λ b. cond b (only_if (is_too_wide m Quotient (T.cell i (columns S)) (T.cell i c)) i) None) p
 
 pub returns-in-Err-clause-wide : goal.returns-in-Err-clause-wide
 returns-in-Err-clause-wide g c =
@@ -36,7 +36,7 @@ returns-in-Err-clause-wide g c =
     let T = table_of c.args.t.now in
     let i = c.loop-i.i in
     let k = c.args.column in
-    first_found S.rows i (ratio_item ordered_fractions S (passes m) T k) i
+    first_found S.rows i (ratio_item ordered_fractions S (is_too_wide m) T k) i
     (subst (λ n. i < n) c.rows-i-end.ensures c.loop-i-test.true) c.loop-i.invariant.none
     (item m S T k i (e c.cell-cell.result) (e c.cell.result) true (sym c.cell-cell.ensures)
     (ap (T.cell i) (sym c.columns-right.ensures) ∙ sym c.cell.ensures)
@@ -54,7 +54,7 @@ loop-i-preserved g c = elim c.if-is_positive.branch [
       let y = ap (T.cell i) (sym c.columns-right.ensures) ∙ sym w.cell.ensures in
       let positive = sym c.is_positive.ensures ∙ w.if-is_positive.true in
       rw w.best-is (record {
-        none = first_more i (ratio_item ordered_fractions S (passes m) T k) c.loop-i.invariant.none
+        none = first_more i (ratio_item ordered_fractions S (is_too_wide m) T k) c.loop-i.invariant.none
             (item m S T k i (e c.cell-cell.result) (e w.cell.result) false
             (sym c.cell-cell.ensures) y positive
             w.in-Ok.ensures.fits);
@@ -74,7 +74,7 @@ loop-i-preserved g c = elim c.if-is_positive.branch [
       ∙ sym c.is_positive.ensures
       ∙ w.if-is_positive.false in
       rw w.best-is (record {
-        none = first_more i (ratio_item ordered_fractions S (passes g.S.Exact.MAX) T k)
+        none = first_more i (ratio_item ordered_fractions S (is_too_wide g.S.Exact.MAX) T k)
             c.loop-i.invariant.none
             (other_item g.S.Exact.MAX S T k i p);
         held = held_other g.S.Exact.exact (λ i. T.cell i k)

@@ -1,7 +1,7 @@
 use Rattle.std.proofs.Common.{◌≡◌, None}
 use Rattle.stack_algebra.specs.Search.{first}
 use Rattle.stack_algebra.proofs.OrderedFractions.{ordered_fractions}
-use Rattle.stack_rational.specs.Passes.{passes}
+use Rattle.stack_rational.specs.TooWide.{is_too_wide}
 use Rattle.stack_table.specs.Seen.{shape_of_table, table_of}
 use Rattle.stack_bland.specs.Choice.{ratio, ratio_item, best}
 use Rattle.stack_bland.proofs.BestSoFar.{HoldsBest}
@@ -12,7 +12,7 @@ invariant-loop-i g l =
     let S = shape_of_table l.t in
     let T = table_of l.t in
     record {
-      none : first l.i (ratio_item ordered_fractions S (passes g.S.Exact.MAX) T l.column) ≡ None;
+      none : first l.i (ratio_item ordered_fractions S (is_too_wide g.S.Exact.MAX) T l.column) ≡ None;
       held : HoldsBest g.S.Exact.exact (ratio ordered_fractions S T l.column) l.i l.best
           (best ordered_fractions (λ i. T.cell i l.column)
           (ratio ordered_fractions S T l.column) T.basic l.i);

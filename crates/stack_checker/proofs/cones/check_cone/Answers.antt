@@ -19,10 +19,12 @@ pub returns-in-Ok : goal.returns-in-Ok
 returns-in-Ok c = let fits : SFits w128 c.args.push.a.value = search rules in
     c.require-in-Ok.ensures ∙ ap (told c.args.k) (sym c.in-Ok.is)
     ∙ cone_told c.args.k c.args.cone c.args.push c.admits.result
-    (ap (int_le (pos 0)) (sym (to_z-of_z fits)) ∙ passed _ _ _ c.require.ensures c.in_ok-require.was) c.admits.ensures.value
+    (ap (int_le (pos 0)) (sym (to_z-of_z fits)) ∙ passed _ _ _ c.require.ensures c.in_ok-require.was)
+    c.admits.ensures.value
 
 pub returns-in-Err : goal.returns-in-Err
 returns-in-Err c = let fits : SFits w128 c.args.push.a.value = search rules in
     ap (told c.args.k) (sym c.in-Err.is)
     ∙ cone_told c.args.k c.args.cone c.args.push c.admits.result
-    (ap (int_le (pos 0)) (sym (to_z-of_z fits)) ∙ passed _ _ _ c.require.ensures c.in_ok-require.was) c.admits.ensures.value
+    (ap (int_le (pos 0)) (sym (to_z-of_z fits)) ∙ passed _ _ _ c.require.ensures c.in_ok-require.was)
+    c.admits.ensures.value

@@ -1,4 +1,4 @@
-use Rattle.stack_cli.proofs.Consequences.{refusal_told}
+use Rattle.stack_cli.proofs.Outcomes.{refusal_told}
 use Rattle.stack_cli.proofs.command.deliver.Goals as goal
 
 pub returns-clause-delivers : goal.returns-clause-delivers

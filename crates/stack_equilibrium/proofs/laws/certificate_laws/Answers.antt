@@ -1,4 +1,6 @@
-use Rattle.stack_equilibrium.proofs.CertificateLaws.{stands_is_carried, collapse_excludes_balance, greatest_is_carried, greatest_bounds_every_factor, unbounded_carries_above, unbounded_carries_all}
+use Rattle.stack_equilibrium.proofs.CertificateLaws.{stands_is_carried, collapse_excludes_balance}
+use Rattle.stack_equilibrium.proofs.CertificateLaws.{greatest_is_carried, greatest_bounds_every_factor}
+use Rattle.stack_equilibrium.proofs.CertificateLaws.{unbounded_carries_above, unbounded_carries_all}
 use Rattle.stack_equilibrium.proofs.laws.certificate_laws.Goals as goal
 
 pub returns : goal.returns

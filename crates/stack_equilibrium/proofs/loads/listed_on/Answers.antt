@@ -16,7 +16,9 @@ loop-n-preserved c =
     (load_of s c.loop-n.n)) in record {
       ends = c.loop-n.invariant.ends;
       value = one_more c.loop-n.n
-          (λ n. acting c.args.question c.args.i (first_corner_of s c.args.i) (load_of s n)) c.loop-n.total c.acting-one.result _ c.loop-n.invariant.value one c.plus-total.ensures.value;
+          (λ n. acting c.args.question c.args.i (first_corner_of s c.args.i)
+          (load_of s n)) c.loop-n.total c.acting-one.result _ c.loop-n.invariant.value one
+          c.plus-total.ensures.value;
       size = c.plus-total.ensures.size;
     }
 

@@ -3,7 +3,7 @@ use Rattle.stack_algebra.proofs.Fractions.{add, neg}
 use Rattle.stack_table.specs.Seen.{shape_of_table, table_of}
 use Rattle.stack_amounts.specs.WrittenLists.{collapse_number}
 use Rattle.stack_extract.proofs.TableReads.{grown}
-use Rattle.stack_extract.proofs.WrittenPlaces.{told, shift_passes, shift_fits}
+use Rattle.stack_extract.proofs.WrittenPlaces.{told, shift_too_wide, shift_fits}
 use Rattle.stack_extract.proofs.numbers.collapse_numbers.Goals as goal
 
 pub loop-row-preserved : goal.loop-row-preserved
@@ -20,7 +20,7 @@ loop-row-preserved g c = (
 
 pub returns-in-Err-clause-wide : goal.returns-in-Err-clause-wide
 returns-in-Err-clause-wide g c = told c.too_wide.result _ _ c.too_wide.ensures
-    (shift_passes (shape_of_table c.args.t.now) (table_of c.args.t.now) c.loop-row.row c.bound_number.result
+    (shift_too_wide (shape_of_table c.args.t.now) (table_of c.args.t.now) c.loop-row.row c.bound_number.result
     c.unit.result (omega (arith, c.loop-row-test.true, c.rows-row-end.ensures)) c.bound_number.ensures
     c.unit.ensures
     c.in-Err.ensures.wide c.loop-row.invariant.1)

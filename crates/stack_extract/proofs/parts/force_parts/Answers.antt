@@ -1,7 +1,7 @@
 use Rattle.std.proofs.Common.{ℕ, refl, sym, ◌∙◌, ◌+◌, ◌<◌, ◌≤◌, get_or, arith}
 use Rattle.stack_equilibrium.specs.SurveyScene.{no_bearing}
 use Rattle.stack_extract.proofs.WrittenPlaces.{told}
-use Rattle.stack_extract.proofs.PartPlaces.{one_part, part_passes}
+use Rattle.stack_extract.proofs.PartPlaces.{one_part, part_too_wide}
 use Rattle.stack_extract.proofs.parts.force_parts.Goals as goal
 
 next : (i n : ℕ) → i < n → i + 1 ≤ n
@@ -9,7 +9,7 @@ next i n l = omega (arith, l)
 
 pub returns-in-Err-clause-wide : goal.returns-in-Err-clause-wide
 returns-in-Err-clause-wide c = told c.too_wide.result _ _ c.too_wide.ensures
-    (part_passes c.args.which c.args.bearings.now c.args.numbers.now c.loop-k.k
+    (part_too_wide c.args.which c.args.bearings.now c.args.numbers.now c.loop-k.k
     (get_or c.args.bearings.now c.loop-k.k no_bearing) c.amount.result c.amount-in-loop-k.result
     c.loop-k.parts.items
     (record {

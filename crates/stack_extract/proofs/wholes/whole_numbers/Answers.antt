@@ -1,6 +1,6 @@
 use Rattle.std.proofs.Common.{ℕ, ◌+◌, ◌<◌, ◌≤◌, arith}
 use Rattle.stack_rational.proofs.RunningMultiple.{held}
-use Rattle.stack_extract.proofs.WrittenPlaces.{told, scale_passes, kept_scale, scale_stands, one_more}
+use Rattle.stack_extract.proofs.WrittenPlaces.{told, scale_too_wide, kept_scale, scale_stands, one_more}
 use Rattle.stack_extract.proofs.WrittenPlaces.{passes_here, all_whole}
 use Rattle.stack_extract.proofs.wholes.whole_numbers.Goals as goal
 
@@ -9,7 +9,7 @@ next i n l = omega (arith, l)
 
 pub returns-in-Err-clause-wide : goal.returns-in-Err-clause-wide
 returns-in-Err-clause-wide c = told c.too_wide.result _ _ c.too_wide.ensures
-    (scale_passes c.args.which c.args.list.now c.in-Err.e.index c.in-Err.ensures.wide)
+    (scale_too_wide c.args.which c.args.list.now c.in-Err.e.index c.in-Err.ensures.wide)
 
 pub scaled-requires : goal.scaled-requires
 scaled-requires c = scale_stands c.args.which c.args.list.now _

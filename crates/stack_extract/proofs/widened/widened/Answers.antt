@@ -1,8 +1,8 @@
-use Rattle.stack_extract.proofs.MadeWider.{denominator_passes, denominator_some, quotient_passes, quotient_is}
+use Rattle.stack_extract.proofs.MadeWider.{denominator_too_wide, denominator_some, quotient_too_wide, quotient_is}
 use Rattle.stack_extract.proofs.widened.widened.Goals as goal
 
 pub whole-requires-2 : goal.whole-requires-2
-whole-requires-2 g c = denominator_passes c.parts_law.ensures g.S.Exact.MAX (g.S.Exact.exact c.args.number)
+whole-requires-2 g c = denominator_too_wide c.parts_law.ensures g.S.Exact.MAX (g.S.Exact.exact c.args.number)
     g.met.S.Exact.max_law c.parts-num.ensures.fits c.parts-num.result.1 c.parts-num.ensures.den
 
 pub quotient-requires-clause-some : goal.quotient-requires-clause-some
@@ -12,7 +12,7 @@ quotient-requires-clause-some g c = denominator_some c.parts_law.ensures g.S.Exa
     c.whole-2.ensures
 
 pub quotient-requires-clause-fits : goal.quotient-requires-clause-fits
-quotient-requires-clause-fits g c = quotient_passes c.parts_law.ensures g.S.Exact.MAX
+quotient-requires-clause-fits g c = quotient_too_wide c.parts_law.ensures g.S.Exact.MAX
     (g.S.Exact.exact c.args.number)
     g.met.S.Exact.max_law c.parts-num.ensures.fits c.whole.result c.whole-2.result c.parts-num.result.0
     c.parts-num.result.1

@@ -9,4 +9,5 @@ returns-then-is_at_most-clause-lesser c = subst (IsLesser c.args.a c.args.b) (sy
 
 pub returns-else-is_at_most-clause-lesser : goal.returns-else-is_at_most-clause-lesser
 returns-else-is_at_most-clause-lesser c = subst (IsLesser c.args.a c.args.b)
-    (sym c.reduced-else-is_at_most.ensures) (lesser-second c.args.a c.args.b c.requires.a c.requires.b (sym c.if-is_at_most.ensures))
+    (sym c.reduced-else-is_at_most.ensures) (lesser-second c.args.a c.args.b c.requires.a c.requires.b
+    (sym c.if-is_at_most.ensures))

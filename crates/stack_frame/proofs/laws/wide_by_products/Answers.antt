@@ -1,5 +1,5 @@
-use Rattle.stack_frame.proofs.MadeNumbers.{size-passes}
+use Rattle.stack_frame.proofs.MadeNumbers.{size-too_wide}
 use Rattle.stack_frame.proofs.laws.wide_by_products.Goals as goal
 
 pub returns : goal.returns
-returns c = size-passes
+returns c = size-too_wide

@@ -3,7 +3,7 @@ use Rattle.std.specs.Prelude.{IfSome, is_some}
 use Rattle.stack_simplex.specs.Ends.{ended_as, refused_as}
 use Rattle.stack_simplex.specs.declared.refusal.RunError.TheVariants as runs
 use Rattle.stack_judge.specs.Certifying.{IsTableOfSurvey}
-use Rattle.stack_judge.specs.NarrowWork.{narrow, narrow_place, has_no_place, passes_nowhere, is_narrow}
+use Rattle.stack_judge.specs.NarrowWork.{narrow, narrow_place, has_no_place, is_nowhere_too_wide, is_narrow}
 use Rattle.stack_judge.proofs.Judgements.{runs_survey, end_of_survey, ended_judges, run_refused}
 use Rattle.stack_judge.proofs.NarrowRuns.{nowhere, each, same_run, free_run, wide_run}
 use Rattle.stack_judge.proofs.narrow.judge_narrow.Goals as goal
@@ -46,4 +46,4 @@ returns-in-Err-Spent-clause-judges c =
     run_refused c.args.q c.args.s.now c.args.budget runs.Spent c.requires.live
     (same_run c.args.q c.args.s.now c.args.budget (refused_as c.in-Err-Spent.field-0)
     (runs_survey c.args.q c.args.s.now c.args.budget c.in-Ok-Some.table h narrow (refused_as c.in-Err-Spent.field-0)
-    c.in-Err-Spent.ensures.value) c.wider_run_law.ensures (ap passes_nowhere is) ∙ is)
+    c.in-Err-Spent.ensures.value) c.wider_run_law.ensures (ap is_nowhere_too_wide is) ∙ is)

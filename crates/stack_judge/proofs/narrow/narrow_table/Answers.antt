@@ -1,7 +1,7 @@
 use Rattle.std.proofs.Common.{subst}
 use Rattle.stack_algebra.proofs.OrderedFractions.{ordered_fractions}
-use Rattle.stack_rational.specs.Passes.{passes}
-use Rattle.stack_table.specs.Lent.{Tells, problem_of}
+use Rattle.stack_rational.specs.TooWide.{is_too_wide}
+use Rattle.stack_table.specs.Lent.{TellsFirst, problem_of}
 use Rattle.stack_table.specs.WrittenTable.{wide_place}
 use Rattle.stack_judge.specs.NarrowWork.{narrow}
 use Rattle.stack_judge.proofs.Judgements.{table_of_posed}
@@ -20,5 +20,5 @@ returns-in-Ok-clause-place c = no_place c.args.q c.args.s.now (problem_of c.in_o
 pub returns-clause-place : goal.returns-clause-place
 returns-clause-place c = some_place c.args.q c.args.s.now (problem_of c.in_ok-problem.problem) _
     c.in_ok-problem.ensures.problem
-    (subst (λ e. Tells e (wide_place ordered_fractions (passes narrow) (problem_of c.in_ok-problem.problem)))
+    (subst (λ e. TellsFirst e (wide_place ordered_fractions (is_too_wide narrow) (problem_of c.in_ok-problem.problem)))
     c.in-Err-Wide.field-0-is c.in-Err-Wide.ensures.wide)

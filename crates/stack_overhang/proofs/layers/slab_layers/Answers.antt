@@ -1,7 +1,7 @@
 use Rattle.std.proofs.Common.{◌≡◌, ◌+◌, ◌-◌, ◌∷◌, arith, ap, ◌∙◌, subst, IfOk}
 use Rattle.std.specs.Prelude.{flat_map}
 use Rattle.stack_algebra.specs.Listed.{listed}
-use Rattle.stack_overhang.specs.Stacks.{rows_of, layer_of, slab_counts}
+use Rattle.stack_overhang.specs.Stacks.{brick_rows, layer_of, slab_counts}
 use Rattle.stack_overhang.proofs.SlabLayers.{one_layer_more}
 use Rattle.stack_overhang.proofs.layers.slab_layers.Goals as goal
 
@@ -14,4 +14,4 @@ returns c =
     let last : c.loop-r.r - 2 ≡ c.args.d - 1 = omega (arith, c.requires.least, c.loop-r.auto.r-end) in
     let counts : c.deref.result.now ≡ slab_counts c.args.d = c.deref.ensures.value ∙ c.loop-r.invariant
     ∙ ap (λ n. 1 ∷ flat_map layer_of (listed n (λ k. k + 2))) last in
-    subst (λ counts. IfOk c.rows.result (λ v. v.items ≡ rows_of counts)) counts c.rows.ensures
+    subst (λ counts. IfOk c.rows.result (λ v. v.items ≡ brick_rows counts)) counts c.rows.ensures

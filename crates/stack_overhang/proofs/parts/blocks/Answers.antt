@@ -2,15 +2,15 @@ use Rattle.std.proofs.Common.{[], ◌∷◌, true, false, map, ap, ◌∙◌}
 use Rattle.std.proofs.lemmas.List.{map-append}
 use Rattle.stack_model.specs.Raw.{raw_block}
 use Rattle.stack_overhang.specs.Bricks.{brick_at}
-use Rattle.stack_overhang.specs.Listing.{block_of, brick_block}
+use Rattle.stack_overhang.specs.Listing.{rectangle_part, brick_block}
 use Rattle.stack_overhang.proofs.Growing.{one_more_after}
 use Rattle.stack_overhang.proofs.parts.blocks.Goals as goal
 
 pub loop-k-preserved : goal.loop-k-preserved
 loop-k-preserved c =
     one_more_after (λ k. brick_block k (brick_at c.args.bricks.now k))
-    (block_of c.args.base_name.now true c.args.base ∷ []) (map raw_block c.loop-k.list.items) _ c.loop-k.k _
+    (rectangle_part c.args.base_name.now true c.args.base ∷ []) (map raw_block c.loop-k.list.items) _ c.loop-k.k _
     (ap (map raw_block) c.in_ok-push-2.ensures.items ∙ map-append raw_block c.loop-k.list.items _)
     (c.in_ok-block-2.ensures
-    ∙ ap (λ name. block_of name false (brick_at c.args.bricks.now c.loop-k.k)) c.in_ok-name.ensures)
+    ∙ ap (λ name. rectangle_part name false (brick_at c.args.bricks.now c.loop-k.k)) c.in_ok-name.ensures)
     c.loop-k.invariant

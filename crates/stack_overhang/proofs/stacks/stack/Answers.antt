@@ -1,11 +1,11 @@
 use Rattle.std.proofs.Common.{ap, ◌∙◌, map}
 use Rattle.stack_model.specs.Raw.{raw_parts, raw_load}
-use Rattle.stack_overhang.specs.Stacks.{stack_of}
+use Rattle.stack_overhang.specs.Stacks.{stack_on}
 use Rattle.stack_overhang.proofs.Made.{has_none, made, stack_taken}
 use Rattle.stack_overhang.proofs.stacks.stack.Goals as goal
 
 pub model-requires : goal.model-requires
-model-requires c = has_none _ (stack_of c.args.table c.args.rows.now)
+model-requires c = has_none _ (stack_on c.args.table c.args.rows.now)
     (stack_taken c.args.table c.args.rows.now c.deref.result.now
     (raw_parts (record {
       materials = c.in_ok-materials.materials;
@@ -16,7 +16,7 @@ model-requires c = has_none _ (stack_of c.args.table c.args.rows.now)
     c.in_ok-blocks.ensures (ap (map raw_load) c.new.ensures.items))
 
 pub returns-clause-ok : goal.returns-clause-ok
-returns-clause-ok c = made c.model.result _ (stack_of c.args.table c.args.rows.now)
+returns-clause-ok c = made c.model.result _ (stack_on c.args.table c.args.rows.now)
     (stack_taken c.args.table c.args.rows.now c.deref.result.now
     (raw_parts (record {
       materials = c.in_ok-materials.materials;

@@ -4,16 +4,16 @@ use Rattle.stack_model.specs.Raw.{raw_parts}
 use Rattle.stack_model.specs.Relisted.{material_listed}
 use Rattle.stack_overhang.specs.Bricks.{bricks_of, brick_of}
 use Rattle.stack_overhang.specs.Built.{brick_material}
-use Rattle.stack_overhang.specs.Wall.{courses_of, structure_of}
+use Rattle.stack_overhang.specs.Wall.{courses_of, wall_structure}
 use Rattle.stack_overhang.specs.Limits.{are_rows}
-use Rattle.stack_overhang.proofs.Rectangles.{both}
+use Rattle.stack_algebra.proofs.Conjunctions.{both_true}
 use Rattle.stack_overhang.proofs.Laid.{wall_laid}
 use Rattle.stack_overhang.proofs.Made.{has_none, made, wall_taken}
 use Rattle.stack_overhang.proofs.walls.built.Goals as goal
 
 pub bricks-requires : goal.bricks-requires
 bricks-requires c = ap are_rows (c.deref.ensures.value ∙ c.in_ok-rows.ensures)
-    ∙ (both (are_rows (courses_of c.args.w)) _ (wall_laid c.args.w c.requires).rows).0
+    ∙ (both_true (are_rows (courses_of c.args.w)) _ (wall_laid c.args.w c.requires).rows).0
 
 pub blocks-requires : goal.blocks-requires
 blocks-requires c =
@@ -27,7 +27,7 @@ friction : (t : ℕ) → t ≤ 7 → material_listed (brick_material (to_z w64 t
 friction t h = ap (λ p. material_listed (brick_material p (pos 10)) ∷ []) (to_z_pos w64 t (omega (arith, h)))
 
 pub model-requires : goal.model-requires
-model-requires c = has_none _ (structure_of c.args.w)
+model-requires c = has_none _ (wall_structure c.args.w)
     (wall_taken c.args.w c.deref-2.result.now _ c.brick.result (raw_parts (record {
       materials = c.in_ok-materials.materials;
       blocks = c.in_ok-blocks.blocks;
@@ -39,7 +39,7 @@ model-requires c = has_none _ (structure_of c.args.w)
     c.in_ok-loads.ensures)
 
 pub returns-clause-ok : goal.returns-clause-ok
-returns-clause-ok c = made c.model.result _ (structure_of c.args.w)
+returns-clause-ok c = made c.model.result _ (wall_structure c.args.w)
     (wall_taken c.args.w c.deref-2.result.now _ c.brick.result (raw_parts (record {
       materials = c.in_ok-materials.materials;
       blocks = c.in_ok-blocks.blocks;

@@ -12,4 +12,5 @@ returns-in-Second-clause-points c = subst (λ v. IsCommonOf c.args.p.now c.args.
     (of-swapped c.args.q.now c.args.p.now c.common_on-in-Second.result c.common_on-in-Second.ensures)
 
 pub returns-in-Second-clause-ends : goal.returns-in-Second-clause-ends
-returns-in-Second-clause-ends c = ends-of c.args.p.now c.args.q.now c.swap_common.result (returns-in-Second-clause-points c)
+returns-in-Second-clause-ends c = ends-of c.args.p.now c.args.q.now c.swap_common.result
+    (returns-in-Second-clause-points c)

@@ -13,7 +13,8 @@ returns-in-None c =
     let q = c.reach_along.ensures.polygon in
     let eb = c.corner-b.ensures.value ∙ ap (corner_of c.args.p.now)
     (c.next.ensures ∙ ap (λ n. next_round n c.args.i) c.len.ensures.value) in
-    none-answer c.args.p.now c.args.q.now p.convex p.least q.convex q.least c.args.i c.requires c.corner-a.result c.corner-b.result c.corner-a.ensures.value eb
+    none-answer c.args.p.now c.args.q.now p.convex p.least q.convex q.least c.args.i c.requires c.corner-a.result
+    c.corner-b.result c.corner-a.ensures.value eb
     c.in-None.ensures.reach
 
 pub returns-then-precedes : goal.returns-then-precedes
@@ -22,7 +23,8 @@ returns-then-precedes c =
     let q = c.reach_along.ensures.polygon in
     let eb = c.corner-b.ensures.value ∙ ap (corner_of c.args.p.now)
     (c.next.ensures ∙ ap (λ n. next_round n c.args.i) c.len.ensures.value) in
-    past-answer c.args.p.now c.args.q.now p.convex p.least q.convex q.least c.args.i c.requires c.corner-a.result c.corner-b.result c.corner-a.ensures.value eb
+    past-answer c.args.p.now c.args.q.now p.convex p.least q.convex q.least c.args.i c.requires c.corner-a.result
+    c.corner-b.result c.corner-a.ensures.value eb
     c.in-Some.r c.clipped-s.result c.in-Some.ensures.reach c.clipped-s.ensures
     (c.precedes.ensures.0 c.if-precedes.true)
 
@@ -32,7 +34,8 @@ returns-then-is_before c =
     let q = c.reach_along.ensures.polygon in
     let eb = c.corner-b.ensures.value ∙ ap (corner_of c.args.p.now)
     (c.next.ensures ∙ ap (λ n. next_round n c.args.i) c.len.ensures.value) in
-    segment-answer c.args.p.now c.args.q.now p.convex p.least q.convex q.least c.args.i c.requires c.corner-a.result c.corner-b.result c.corner-a.ensures.value eb
+    segment-answer c.args.p.now c.args.q.now p.convex p.least q.convex q.least c.args.i c.requires
+    c.corner-a.result c.corner-b.result c.corner-a.ensures.value eb
     c.in-Some.r c.clipped-s.result c.in-Some.ensures.reach c.clipped-s.ensures
     (c.precedes-else-precedes.ensures.0 c.if-precedes-2.true) (c.is_before.ensures.0 c.if-is_before.true)
 
@@ -42,7 +45,8 @@ returns-else-is_before c =
     let q = c.reach_along.ensures.polygon in
     let eb = c.corner-b.ensures.value ∙ ap (corner_of c.args.p.now)
     (c.next.ensures ∙ ap (λ n. next_round n c.args.i) c.len.ensures.value) in
-    back-answer c.args.p.now c.args.q.now p.convex p.least q.convex q.least c.args.i c.requires c.corner-a.result c.corner-b.result c.corner-a.ensures.value eb
+    back-answer c.args.p.now c.args.q.now p.convex p.least q.convex q.least c.args.i c.requires c.corner-a.result
+    c.corner-b.result c.corner-a.ensures.value eb
     c.in-Some.r c.clipped-s.result c.in-Some.ensures.reach c.clipped-s.ensures
     (c.precedes-else-precedes.ensures.0 c.if-precedes-2.true)
     (λ l. let t : IsTrue c.is_before.result = c.is_before.ensures.1 l in absurd (cc (t, c.if-is_before.false)))
@@ -53,7 +57,8 @@ returns-then-is_at_either c =
     let q = c.reach_along.ensures.polygon in
     let eb = c.corner-b.ensures.value ∙ ap (corner_of c.args.p.now)
     (c.next.ensures ∙ ap (λ n. next_round n c.args.i) c.len.ensures.value) in
-    corner-answer c.args.p.now c.args.q.now p.convex p.least q.convex q.least c.args.i c.requires c.corner-a.result c.corner-b.result c.corner-a.ensures.value eb
+    corner-answer c.args.p.now c.args.q.now p.convex p.least q.convex q.least c.args.i c.requires c.corner-a.result
+    c.corner-b.result c.corner-a.ensures.value eb
     c.in-Some.r c.clipped-s.result c.in-Some.ensures.reach c.clipped-s.ensures
     (λ l. let t : IsTrue c.precedes.result = c.precedes.ensures.1 l in absurd (cc (t, c.if-precedes.false)))
     (λ l. let t : IsTrue c.precedes-else-precedes.result = c.precedes-else-precedes.ensures.1 l in
@@ -70,7 +75,8 @@ returns-else-is_at_either c =
     let q = c.reach_along.ensures.polygon in
     let eb = c.corner-b.ensures.value ∙ ap (corner_of c.args.p.now)
     (c.next.ensures ∙ ap (λ n. next_round n c.args.i) c.len.ensures.value) in
-    on-answer c.args.p.now c.args.q.now p.convex p.least q.convex q.least c.args.i c.requires c.corner-a.result c.corner-b.result c.corner-a.ensures.value eb
+    on-answer c.args.p.now c.args.q.now p.convex p.least q.convex q.least c.args.i c.requires c.corner-a.result
+    c.corner-b.result c.corner-a.ensures.value eb
     c.in-Some.r c.clipped-s.result c.in-Some.ensures.reach c.clipped-s.ensures
     (λ l. let t : IsTrue c.precedes.result = c.precedes.ensures.1 l in absurd (cc (t, c.if-precedes.false)))
     (λ l. let t : IsTrue c.precedes-else-precedes.result = c.precedes-else-precedes.ensures.1 l in

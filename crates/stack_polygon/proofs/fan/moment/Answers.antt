@@ -6,4 +6,5 @@ use Rattle.stack_polygon.proofs.fan.moment.Goals as goal
 
 pub returns-clause-size : goal.returns-clause-size
 returns-clause-size c = moment-stored c.args.area c.args.sum c.from.result c.from-2.result
-    (c.from.ensures ∙ to_z-of_z w64 _ c.ranges.area) (c.from-2.ensures ∙ to_z-of_z w64 _ c.ranges.sum) c.requires.area c.requires.sum
+    (c.from.ensures ∙ to_z-of_z w64 _ c.ranges.area) (c.from-2.ensures
+    ∙ to_z-of_z w64 _ c.ranges.sum) c.requires.area c.requires.sum

@@ -8,7 +8,8 @@ use Rattle.stack_polygon.proofs.lists.is_clear.Goals.{else-j-i-via-then-j-i+then
 use Rattle.stack_polygon.proofs.lists.is_clear.Goals.{else-j-i-via-then-j-i+else-j-k, else-j-i-via-else-j-i}
 
 pub loop-j-preserved : goal.loop-j-preserved
-loop-j-preserved c = below_more (λ j. j ≢ c.args.i → j ≢ c.next-k.result → pos 0 ≺ triangle_of (corner_of c.args.corners.now c.args.i)
+loop-j-preserved c = below_more (λ j. j ≢ c.args.i → j ≢ c.next-k.result
+    → pos 0 ≺ triangle_of (corner_of c.args.corners.now c.args.i)
     (corner_of c.args.corners.now c.next-k.result) (corner_of c.args.corners.now j)) _
     c.loop-j.invariant
     (elim c.else-j-i.branch [

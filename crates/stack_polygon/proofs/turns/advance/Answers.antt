@@ -11,5 +11,6 @@ pub overflow_add-result : goal.overflow_add-result
 overflow_add-result c = sum-fits c.product.result c.product-2.result c.product.ensures.size c.product-2.ensures.size
 
 pub returns : goal.returns
-returns c = advance-stored c.args.o c.args.p c.args.q c.product.result c.product-2.result c.requires.o c.requires.p c.requires.q
+returns c = advance-stored c.args.o c.args.p c.args.q c.product.result c.product-2.result c.requires.o c.requires.p
+    c.requires.q
     c.product.ensures.size c.product-2.ensures.size c.product.ensures.value c.product-2.ensures.value

@@ -7,4 +7,5 @@ pub returns-clause-value : goal.returns-clause-value
 returns-clause-value c = stored-product c.args.x c.args.y c.requires.x c.requires.y
 
 pub returns-clause-size : goal.returns-clause-size
-returns-clause-size c = subst IsSquare (sym (stored-product c.args.x c.args.y c.requires.x c.requires.y)) (product-square c.args.x c.args.y c.requires.x c.requires.y)
+returns-clause-size c = subst IsSquare (sym (stored-product c.args.x c.args.y c.requires.x c.requires.y))
+    (product-square c.args.x c.args.y c.requires.x c.requires.y)

@@ -14,5 +14,6 @@ pub returns-clause-size : goal.returns-clause-size
 returns-clause-size c = less-twice c.product.result c.product-2.result c.product.ensures.size c.product-2.ensures.size
 
 pub returns-clause-value : goal.returns-clause-value
-returns-clause-value c = triangle-stored c.args.o c.args.p c.args.q c.product.result c.product-2.result c.requires.o c.requires.p c.requires.q
+returns-clause-value c = triangle-stored c.args.o c.args.p c.args.q c.product.result c.product-2.result
+    c.requires.o c.requires.p c.requires.q
     c.product.ensures.size c.product-2.ensures.size c.product.ensures.value c.product-2.ensures.value

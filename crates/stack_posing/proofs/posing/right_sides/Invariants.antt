@@ -7,4 +7,5 @@ use Rattle.stack_posing.specs.Posed.{right_share}
 use Rattle.stack_posing.proofs.posing.right_sides.Given as goal
 
 abbrev pub invariant-loop-b : goal.invariant-loop-b
-invariant-loop-b l = (l.right.items ≡ listed (3 * l.b) (right_share (scene_of l.s))) × AllByRecursion IsBelowBound l.right.items
+invariant-loop-b l = (l.right.items ≡ listed (3 * l.b) (right_share (scene_of l.s)))
+    × AllByRecursion IsBelowBound l.right.items

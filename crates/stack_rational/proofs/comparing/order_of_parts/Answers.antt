@@ -1,5 +1,6 @@
 use mathlib.Core.Path.{refl, sym, ◌∙◌}
-use Rattle.stack_rational.proofs.ByWholeParts.{less-parts, rests, ends-equal, ends-greater, ends-less, next-step, smaller-step, yes-less, above-by, cmp-less, cmp-greater}
+use Rattle.stack_rational.proofs.ByWholeParts.{less-parts, rests, ends-equal, ends-greater, ends-less, next-step}
+use Rattle.stack_rational.proofs.ByWholeParts.{smaller-step, yes-less, above-by, cmp-less, cmp-greater}
 use Rattle.stack_rational.proofs.comparing.order_of_parts.Goals as goal
 
 pub steps-init : goal.steps-init

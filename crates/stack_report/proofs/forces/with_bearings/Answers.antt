@@ -1,6 +1,6 @@
 use Rattle.std.proofs.Common.{string_bytes}
 use Rattle.std.proofs.lemmas.Result.{err_from_is_err_and}
-use Rattle.stack_report.specs.ForceTable.{forces_lines}
+use Rattle.stack_report.specs.ForceTable.{bearing_lines}
 use Rattle.stack_report.proofs.Pieces.{bearing_stops, bearing_fits, bearing_added}
 use Rattle.stack_report.proofs.forces.with_bearings.Goals as goal
 
@@ -10,7 +10,7 @@ returns-in_err-longer c =
     rw (p.1, p.2) (bearing_stops c.args.over.value c.args.from c.loop-k.k c.args.bearings.now c.args.parts.now
     c.push_of.result c.push_of.ensures c.loop-k-test.true c.loop-k.invariant.fit c.in_err-longer.field-0.0
     (string_bytes c.loop-k.longer) (string_bytes c.args.text)
-    (forces_lines c.args.over.value c.args.bearings.now c.args.parts.now) c.in_err-longer.ensures)
+    (bearing_lines c.args.over.value c.args.bearings.now c.args.parts.now) c.in_err-longer.ensures)
 
 pub loop-k-preserved : goal.loop-k-preserved
 loop-k-preserved c = record {

@@ -3,7 +3,7 @@ use Rattle.stack_algebra.specs.Search.{first}
 use Rattle.stack_equilibrium.specs.WrittenSums.{push_at}
 use Rattle.stack_report.specs.ContactTable.{lines_from}
 use Rattle.stack_report.specs.ForceNumbers.{force_spot}
-use Rattle.stack_report.specs.ForceTable.{force_line, forces_lines}
+use Rattle.stack_report.specs.ForceTable.{force_line, bearing_lines}
 use Rattle.stack_report.proofs.forces.with_bearings.Given as goal
 
 abbrev pub invariant-loop-k : goal.invariant-loop-k
@@ -11,5 +11,5 @@ invariant-loop-k l = record {
   fit : first l.k (force_spot l.from l.bearings l.parts) ≡ None;
   lines : string_bytes l.longer
       ++ lines_from (λ k z. force_line l.over.value k z (push_at l.parts k)) l.k (drop l.k l.bearings)
-      ≡ string_bytes l.fn.text ++ forces_lines l.over.value l.bearings l.parts;
+      ≡ string_bytes l.fn.text ++ bearing_lines l.over.value l.bearings l.parts;
 }

@@ -1,6 +1,6 @@
 use Rattle.std.proofs.Common.{sym, ap, ◌∙◌}
 use Rattle.stack_algebra.proofs.OrderedFractions.{ordered_fractions}
-use Rattle.stack_rational.specs.Passes.{passes}
+use Rattle.stack_rational.specs.TooWide.{is_too_wide}
 use Rattle.stack_table.specs.Seen.{shape_of_table, table_of}
 use Rattle.stack_duality.specs.WrittenRun.{turns}
 use Rattle.stack_simplex.specs.declared.turn.PhaseEnd.{PhaseEnd}
@@ -16,5 +16,5 @@ returns-in-Unlimited-clause-answer g c =
     absurd (never_unlimited g.S.Exact.MAX S T c.args.budget c.run_laws.ensures.leaving c.requires U
     c.in-Unlimited.field-0 (ap (λ (x : PhaseEnd). stop_of U x) (sym c.in-Unlimited.is)
     ∙ c.in_ok-pivots.ensures.answer
-    ∙ (λ i. turns ordered_fractions S (passes g.S.Exact.MAX) 1 (c.contacts-contacts.ensures i)
+    ∙ (λ i. turns ordered_fractions S (is_too_wide g.S.Exact.MAX) 1 (c.contacts-contacts.ensures i)
     (c.within.ensures.left i) (c.within.ensures.done i) T)))

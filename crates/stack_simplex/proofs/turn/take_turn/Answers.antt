@@ -3,10 +3,10 @@ use Rattle.std.proofs.lemmas.Result.{err_from_is_err_and}
 use Rattle.stack_table.specs.declared.types.Step.TheVariants.{Ratio}
 use Rattle.stack_table.specs.declared.types.PivotWide.{PivotWide}
 use Rattle.stack_algebra.proofs.OrderedFractions.{ordered_fractions}
-use Rattle.stack_rational.specs.Passes.{passes}
+use Rattle.stack_rational.specs.TooWide.{is_too_wide}
 use Rattle.stack_table.specs.Seen.{shape_of_table, table_of}
 use Rattle.stack_duality.proofs.Turn.{turn_refused}
-use Rattle.stack_duality.specs.WrittenRun.{passing}
+use Rattle.stack_duality.specs.WrittenRun.{wide_at}
 use Rattle.stack_simplex.proofs.Choices.{leaving_below, leaving_nonzero}
 use Rattle.stack_simplex.proofs.Turns.{turn_refuses, turn_goes_on}
 use Rattle.stack_simplex.proofs.turn.take_turn.Goals as goal
@@ -21,8 +21,8 @@ overflow_add-result g c = let s : c.args.pivots.done + c.args.pivots.left < 2 ^ 
 pub returns-in-Err-clause-answer : goal.returns-in-Err-clause-answer
 returns-in-Err-clause-answer g c = let t = c.args.t.now in
     let s : PivotWide = record { row = c.in-Err.e.row; column = c.in-Some.column; step = Ratio } in
-    ap (λ (k : ℕ). passing c.args.phase k s) (add-one c.args.pivots.done)
-    ∙ sym (turn_refused ordered_fractions (shape_of_table t) (passes g.S.Exact.MAX) c.args.phase c.args.among
+    ap (λ (k : ℕ). wide_at c.args.phase k s) (add-one c.args.pivots.done)
+    ∙ sym (turn_refused ordered_fractions (shape_of_table t) (is_too_wide g.S.Exact.MAX) c.args.phase c.args.among
     c.args.pivots.left c.args.pivots.done (table_of t) c.in-Some.column c.in-Err.e.row
     (sym c.in-Some.ensures.value)
     c.in-Err.ensures.wide)

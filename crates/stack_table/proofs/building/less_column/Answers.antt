@@ -5,18 +5,18 @@ use Rattle.stack_algebra.proofs.Fractions.{add, neg}
 use Rattle.stack_algebra.proofs.OrderedFractions.{ordered_fractions}
 use Rattle.stack_algebra.proofs.Search.{only_if, first_found, first_more}
 use Rattle.stack_rational.specs.declared.exact.Op.TheVariants.{Difference}
-use Rattle.stack_rational.specs.Passes.{fits, passes}
+use Rattle.stack_rational.specs.TooWide.{fraction_fits, is_too_wide}
 use Rattle.stack_table.specs.declared.problem.BuildError.TheVariants.{Wide}
 use Rattle.stack_table.specs.Block.{cell_of}
 use Rattle.stack_table.specs.WrittenTable.{less_all, partial_place}
 use Rattle.stack_rational.proofs.Fitting.{answer_fits, zero_fits}
-use Rattle.stack_table.proofs.Parts.{cell_read}
+use Rattle.stack_table.proofs.BlockRows.{cell_read}
 use Rattle.stack_table.proofs.building.less_column.Goals as goal
 
 pub loop-i-init : goal.loop-i-init
 loop-i-init g c = record {
   value = c.zero-sum.ensures;
-  fitting = ap (fits g.S.Exact.MAX) c.zero-sum.ensures ∙ zero_fits g.S.Exact.MAX g.met.S.Exact.max_law;
+  fitting = ap (fraction_fits g.S.Exact.MAX) c.zero-sum.ensures ∙ zero_fits g.S.Exact.MAX g.met.S.Exact.max_law;
   none = refl;
 }
 
@@ -29,9 +29,9 @@ returns-in_err-sum-clause-wide g c =
     c.loop-i-test.true c.requires.room c.requires.column_in c.index-cells-i.is in
     let p = err_from_is_err_and c.from_residual.result c.from_residual.ensures.1 in
     rw p.1 (first_found a.rows c.loop-i.i
-    (partial_place ordered_fractions (passes m) (Wide a.rows a.column) f) _
+    (partial_place ordered_fractions (is_too_wide m) (Wide a.rows a.column) f) _
     c.loop-i-test.true c.loop-i.invariant.none (ap (λ b. only_if b (Wide a.rows a.column))
-    ((λ z. passes m Difference (sym c.loop-i.invariant.value z) (x z)) ∙ c.in_err-sum.ensures.wide)))
+    ((λ z. is_too_wide m Difference (sym c.loop-i.invariant.value z) (x z)) ∙ c.in_err-sum.ensures.wide)))
 
 pub loop-i-preserved : goal.loop-i-preserved
 loop-i-preserved g c =
@@ -44,10 +44,10 @@ loop-i-preserved g c =
     record {
       value = c.in_ok-sum.ensures.ok ∙ (λ z. add (c.loop-i.invariant.value z) (neg (sym x z)))
           ∙ sym (ap (λ n. less_all ordered_fractions n f) (add-one c.loop-i.i));
-      fitting = ap (fits m) c.in_ok-sum.ensures.ok
+      fitting = ap (fraction_fits m) c.in_ok-sum.ensures.ok
           ∙ answer_fits m Difference (e c.loop-i.sum) (e c.index-cells-i.result) c.loop-i.invariant.fitting
           c.in_ok-sum.ensures.fits;
-      none = first_more c.loop-i.i (partial_place ordered_fractions (passes m) (Wide a.rows a.column) f)
+      none = first_more c.loop-i.i (partial_place ordered_fractions (is_too_wide m) (Wide a.rows a.column) f)
           c.loop-i.invariant.none (ap (λ b. only_if b (Wide a.rows a.column))
-          ((λ z. passes m Difference (sym c.loop-i.invariant.value z) (x z)) ∙ c.in_ok-sum.ensures.fits));
+          ((λ z. is_too_wide m Difference (sym c.loop-i.invariant.value z) (x z)) ∙ c.in_ok-sum.ensures.fits));
     }

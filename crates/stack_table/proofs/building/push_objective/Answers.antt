@@ -3,7 +3,7 @@ use Rattle.stack_algebra.specs.Fraction.{Fraction}
 use Rattle.stack_algebra.proofs.OrderedFractions.{ordered_fractions}
 use Rattle.stack_algebra.proofs.Search.{first_found, first_more}
 use Rattle.stack_algebra.specs.Search.{first}
-use Rattle.stack_rational.specs.Passes.{passes}
+use Rattle.stack_rational.specs.TooWide.{is_too_wide}
 use Rattle.stack_table.specs.Table.{width}
 use Rattle.stack_table.specs.Block.{cell_of}
 use Rattle.stack_table.specs.Lent.{shape_of_problem}
@@ -24,7 +24,7 @@ returns-in-Err-clause-wide g c =
     = λ i l. ap (λ ys. cell_of e w ys i j) c.as_slice.ensures.value
     ∙ earlier_cells e w S.rows j _ c.args.cells.now.items c.loop-j.cells.items c.requires.long
     c.loop-j.invariant.grown i j l in
-    first_found w j (objective_place ordered_fractions (passes m) S old) _
+    first_found w j (objective_place ordered_fractions (is_too_wide m) S old) _
     (omega (arith, c.loop-j-test.true, c.requires.artificial))
     c.loop-j.invariant.none
     (sym (place_same S j (cell_of e w c.as_slice.result.now) old same m) ∙ c.in-Err.ensures.wide)
@@ -48,7 +48,7 @@ loop-j-preserved g c =
           c.in-Ok.cell i.grown
           c.in-Ok-push_cell.ensures.ok
           (c.in-Ok.ensures.ok ∙ objective_same S j (cell_of e w c.as_slice.result.now) old same);
-      none = first_more j (objective_place ordered_fractions (passes m) S old) i.none
+      none = first_more j (objective_place ordered_fractions (is_too_wide m) S old) i.none
           (sym (place_same S j (cell_of e w c.as_slice.result.now) old same m) ∙ c.in-Ok.ensures.none);
     }
 
@@ -57,5 +57,5 @@ returns-clause-fits g c =
     let S = shape_of_problem c.args.p.now in
     let end : width S ≡ c.loop-j.j =
     omega (arith, c.loop-j-test.false, c.loop-j.auto.j-end, c.requires.artificial) in
-    ap (λ n. first n (objective_place ordered_fractions (passes g.S.Exact.MAX) S
+    ap (λ n. first n (objective_place ordered_fractions (is_too_wide g.S.Exact.MAX) S
     (cell_of g.S.Exact.exact (width S) c.args.cells.now.items))) end ∙ c.loop-j.invariant.none

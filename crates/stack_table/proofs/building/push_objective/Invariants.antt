@@ -1,7 +1,7 @@
 use Rattle.std.proofs.Common.{◌≡◌, None}
 use Rattle.stack_algebra.proofs.OrderedFractions.{ordered_fractions}
 use Rattle.stack_algebra.specs.Search.{first}
-use Rattle.stack_rational.specs.Passes.{passes}
+use Rattle.stack_rational.specs.TooWide.{is_too_wide}
 use Rattle.stack_table.specs.Table.{width}
 use Rattle.stack_table.specs.Block.{cell_of, IsBlock, Grows}
 use Rattle.stack_table.specs.Lent.{shape_of_problem}
@@ -13,6 +13,6 @@ invariant-loop-j g l = record {
   block : IsBlock g.S.Exact.MAX g.S.Exact.exact l.cells.items l.marks.items;
   grown : Grows g.S.Exact.exact l.fn.cells.items l.cells.items l.j (objective_over ordered_fractions
       (shape_of_problem l.p) (cell_of g.S.Exact.exact (width (shape_of_problem l.p)) l.fn.cells.items));
-  none : first l.j (objective_place ordered_fractions (passes g.S.Exact.MAX) (shape_of_problem l.p)
+  none : first l.j (objective_place ordered_fractions (is_too_wide g.S.Exact.MAX) (shape_of_problem l.p)
       (cell_of g.S.Exact.exact (width (shape_of_problem l.p)) l.fn.cells.items)) ≡ None;
 }

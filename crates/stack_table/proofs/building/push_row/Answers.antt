@@ -3,7 +3,7 @@ use Rattle.stack_algebra.proofs.Fractions.{of}
 use Rattle.stack_algebra.proofs.OrderedFractions.{ordered_fractions}
 use Rattle.stack_algebra.proofs.Search.{first, only_if, first_found, first_more}
 use Rattle.stack_rational.specs.declared.exact.Op.TheVariants.{Whole}
-use Rattle.stack_rational.specs.Passes.{fits, passes}
+use Rattle.stack_rational.specs.TooWide.{fraction_fits, is_too_wide}
 use Rattle.stack_table.specs.declared.problem.BuildError.TheVariants.{Wide}
 use Rattle.stack_table.specs.Table.{width}
 use Rattle.stack_table.specs.Lent.{problem_of}
@@ -21,12 +21,12 @@ returns-in-Err-clause-wide g c =
     let j = c.loop-j.j in
     let n = small_back c.number.result (number_at P i j) c.number.ensures
     (number_small c.args.p.now c.requires.problem i j) in
-    first_found (width P.shape) j (number_place ordered_fractions (passes m) P i) _
+    first_found (width P.shape) j (number_place ordered_fractions (is_too_wide m) P i) _
     (omega (arith, c.loop-j-test.true, c.requires.artificial)) c.loop-j.invariant.none
-    (ap (λ b. only_if b (Wide i j)) (ap (λ z. passes m Whole (of z) (of z)) (sym n) ∙ c.in-Err.ensures.wide))
+    (ap (λ b. only_if b (Wide i j)) (ap (λ z. is_too_wide m Whole (of z) (of z)) (sym n) ∙ c.in-Err.ensures.wide))
 
 pub push_cell-requires-clause-fits : goal.push_cell-requires-clause-fits
-push_cell-requires-clause-fits g c = ap (fits g.S.Exact.MAX) c.in-Ok.ensures.ok
+push_cell-requires-clause-fits g c = ap (fraction_fits g.S.Exact.MAX) c.in-Ok.ensures.ok
     ∙ whole_answers g.S.Exact.MAX g.met.S.Exact.max_law _ c.in-Ok.ensures.fits
 
 pub loop-j-preserved : goal.loop-j-preserved
@@ -42,8 +42,8 @@ loop-j-preserved g c =
       grown = grown_more g.S.Exact.exact m c.args.cells.now.items c.loop-j.cells.items
           c.push_cell.new.cells.items j _
           c.in-Ok.cell c.loop-j.invariant.grown c.in-Ok-push_cell.ensures.ok (c.in-Ok.ensures.ok ∙ ap of n);
-      none = first_more j (number_place ordered_fractions (passes m) P i) c.loop-j.invariant.none
-          (ap (λ b. only_if b (Wide i j)) (ap (λ z. passes m Whole (of z) (of z)) (sym n)
+      none = first_more j (number_place ordered_fractions (is_too_wide m) P i) c.loop-j.invariant.none
+          (ap (λ b. only_if b (Wide i j)) (ap (λ z. is_too_wide m Whole (of z) (of z)) (sym n)
           ∙ c.in-Ok.ensures.fits));
     }
 
@@ -52,5 +52,5 @@ returns-clause-fits g c =
     let P = problem_of c.args.p.now in
     let end : width P.shape ≡ c.loop-j.j =
     omega (arith, c.loop-j-test.false, c.loop-j.auto.j-end, c.requires.artificial) in
-    ap (λ n. first n (number_place ordered_fractions (passes g.S.Exact.MAX) P c.args.i)) end
+    ap (λ n. first n (number_place ordered_fractions (is_too_wide g.S.Exact.MAX) P c.args.i)) end
     ∙ c.loop-j.invariant.none

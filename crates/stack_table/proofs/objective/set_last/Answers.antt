@@ -3,10 +3,12 @@ use Rattle.std.specs.Prelude.{IfSome}
 use Rattle.std.proofs.Math.Nat.{suc-mul}
 use lib.IntN.{pos, negsuc}
 use Rattle.stack_algebra.proofs.Fractions.{of}
-use Rattle.stack_rational.specs.Passes.{fits}
+use Rattle.stack_rational.specs.TooWide.{fraction_fits}
 use Rattle.stack_rational.proofs.Fitting.{zero_fits}
-use Rattle.stack_table.specs.Block.{value_at, cell_of}
-use Rattle.stack_table.proofs.Parts.{row_in, two_parts, last_length, last_changed, first_rows, block_join, part_block, part_value}
+use Rattle.stack_table.specs.Block.{item_value, cell_of}
+use Rattle.stack_table.proofs.BlockRows.{row_in, block_join, part_block}
+use Rattle.stack_table.proofs.Parts.{two_parts, last_length, last_changed, first_rows}
+use Rattle.stack_table.proofs.BlockRows.{part_value}
 use Rattle.stack_table.proofs.objective.set_last.Goals as goal
 
 pub set_cell-requires-clause-block : goal.set_cell-requires-clause-block
@@ -27,7 +29,7 @@ set_cell-requires-clause-block g c =
     (length c.split_at_mut-above.result.0.now) l c.split_at_mut-above.ensures.front_len))
 
 pub set_cell-requires-clause-fits : goal.set_cell-requires-clause-fits
-set_cell-requires-clause-fits g c = ap (fits g.S.Exact.MAX) c.zero.ensures
+set_cell-requires-clause-fits g c = ap (fraction_fits g.S.Exact.MAX) c.zero.ensures
     ∙ zero_fits g.S.Exact.MAX g.met.S.Exact.max_law
 
 pub clear_row-requires : goal.clear_row-requires
@@ -67,8 +69,8 @@ returns-in-Some-clause-ok g c =
     let l : r < c.args.rows = subst (λ o. IfSome o (λ r. r < c.args.rows)) c.in-Some.is c.requires.row_in in
     let room = row_in r c.args.rows w
     (length c.split_at_mut-above.result.0.now) l c.split_at_mut-above.ensures.front_len in
-    let copied : (j : ℕ) → value_at e c.copy_from_slice.new.self j ≡ cell_of e w c.args.cells.now r j =
-    λ j. ap (λ ys. value_at e ys j) c.copy_from_slice.ensures.after
+    let copied : (j : ℕ) → item_value e c.copy_from_slice.new.self j ≡ cell_of e w c.args.cells.now r j =
+    λ j. ap (λ ys. item_value e ys j) c.copy_from_slice.ensures.after
     ∙ part_value e g.S.Exact.MAX w r c.split_at_mut-above.result.0.now c.split_at_mut-marks_above.result.0.now
     p.0 room j
     ∙ first_rows g.S.Exact.exact c.args.width c.args.rows c.args.cells.now c.split_at_mut-above.result.0.now

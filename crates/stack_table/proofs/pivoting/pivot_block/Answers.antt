@@ -3,9 +3,10 @@ use Rattle.std.proofs.lemmas.List.{length-take-le}
 use Rattle.std.proofs.lemmas.Result.{err_from_is_err_and}
 use Rattle.std.proofs.Math.Nat.{add-mul, suc-mul}
 use Rattle.stack_algebra.specs.Fraction.{Fraction}
-use Rattle.stack_table.specs.Columns.{zero_in, Lists}
+use Rattle.stack_table.specs.Columns.{zero_in, ListsNonzero}
 use Rattle.stack_table.proofs.Listed.{listed_take}
-use Rattle.stack_table.proofs.Parts.{row_in, parted, block_three}
+use Rattle.stack_table.proofs.BlockRows.{row_in}
+use Rattle.stack_table.proofs.Parts.{parted, block_three}
 use Rattle.stack_table.proofs.PivotSteps.{divisor_is, spot_dividing, spot_above, spot_below, after}
 use Rattle.stack_table.proofs.pivoting.pivot_block.Goals as goal
 
@@ -52,8 +53,8 @@ returns-in_err-count-clause-block g c = let p =
     c.split_at_mut-own_marks.ensures.front c.split_at_mut-own_marks.ensures.back in
     block_three g.S.Exact.exact g.S.Exact.MAX _ _ _ _ _ _ p.above_is c.in_err-count.ensures.block p.below_is
 
-pub returns-in_err-count-clause-passed : goal.returns-in_err-count-clause-passed
-returns-in_err-count-clause-passed g c = let p =
+pub returns-in_err-count-clause-wide : goal.returns-in_err-count-clause-wide
+returns-in_err-count-clause-wide g c = let p =
     err_from_is_err_and c.from_residual.result c.from_residual.ensures.1 in
     rw (p.1, p.2) (spot_dividing g.S.Exact.exact g.S.Exact.MAX
     (length c.args.columns.now) c.args.row c.args.column c.args.cells.now
@@ -62,7 +63,7 @@ returns-in_err-count-clause-passed g c = let p =
     ∙ ap (λ ys. c.split_at_mut-above.result.0.now ++ ys) c.split_at_mut-own.ensures.value)
     c.split_at_mut-above.ensures.front_len c.split_at_mut-own.ensures.front_len c.index-own-column.result
     c.requires.column_in c.index-own-column.is
-    (suc c.args.rows) _ c.in_err-count.ensures.passed)
+    (suc c.args.rows) _ c.in_err-count.ensures.wide)
 
 pub reduce_rows-requires-clause-block : goal.reduce_rows-requires-clause-block
 reduce_rows-requires-clause-block g c =
@@ -83,7 +84,7 @@ pub reduce_rows-requires-clause-listed : goal.reduce_rows-requires-clause-listed
 reduce_rows-requires-clause-listed g c =
     let l : length (take c.in_ok-count.count c.divide_row.new.columns) ≡ c.in_ok-count.count =
     length-take-le c.in_ok-count.count c.divide_row.new.columns c.in_ok-count.ensures.listed.0 in
-    subst (λ n. Lists (zero_in g.S.Exact.exact c.divide_row.new.cells)
+    subst (λ n. ListsNonzero (zero_in g.S.Exact.exact c.divide_row.new.cells)
     (take c.in_ok-count.count c.divide_row.new.columns) n (length c.divide_row.new.cells)) (sym l)
     (listed_take (zero_in g.S.Exact.exact c.divide_row.new.cells) c.divide_row.new.columns c.in_ok-count.count
     (length c.divide_row.new.cells) c.in_ok-count.ensures.listed.1)
@@ -105,8 +106,8 @@ returns-in_err-reduce_rows-clause-block g c = let p =
     block_three g.S.Exact.exact g.S.Exact.MAX _ _ _ _ _ _ c.in_err-reduce_rows.ensures.block
     c.in_ok-count.ensures.block p.below_is
 
-pub returns-in_err-reduce_rows-clause-passed : goal.returns-in_err-reduce_rows-clause-passed
-returns-in_err-reduce_rows-clause-passed g c = let p =
+pub returns-in_err-reduce_rows-clause-wide : goal.returns-in_err-reduce_rows-clause-wide
+returns-in_err-reduce_rows-clause-wide g c = let p =
     err_from_is_err_and c.from_residual-in_err-reduce_rows.result c.from_residual-in_err-reduce_rows.ensures.1
     in
     rw (p.1, p.2) (spot_above g.S.Exact.exact g.S.Exact.MAX
@@ -116,8 +117,8 @@ returns-in_err-reduce_rows-clause-passed g c = let p =
     ∙ ap (λ ys. c.split_at_mut-above.result.0.now ++ ys) c.split_at_mut-own.ensures.value)
     c.split_at_mut-above.ensures.front_len c.split_at_mut-own.ensures.front_len c.index-own-column.result
     c.requires.column_in c.index-own-column.is
-    c.divide_row.new.cells c.divide_row.auto.cells c.in_ok-count.ensures.ok c.in_ok-count.ensures.passed
-    (suc c.args.rows) _ (omega (arith, c.requires.row_in)) c.in_err-reduce_rows.ensures.passed)
+    c.divide_row.new.cells c.divide_row.auto.cells c.in_ok-count.ensures.ok c.in_ok-count.ensures.wide
+    (suc c.args.rows) _ (omega (arith, c.requires.row_in)) c.in_err-reduce_rows.ensures.wide)
 
 pub reduce_rows-requires-2-clause-whole : goal.reduce_rows-requires-2-clause-whole
 reduce_rows-requires-2-clause-whole g c = let w = length c.args.columns.now in
@@ -157,7 +158,7 @@ pub reduce_rows-requires-2-clause-listed : goal.reduce_rows-requires-2-clause-li
 reduce_rows-requires-2-clause-listed g c =
     let l : length (take c.in_ok-count.count c.divide_row.new.columns) ≡ c.in_ok-count.count =
     length-take-le c.in_ok-count.count c.divide_row.new.columns c.in_ok-count.ensures.listed.0 in
-    subst (λ n. Lists (zero_in g.S.Exact.exact c.divide_row.new.cells)
+    subst (λ n. ListsNonzero (zero_in g.S.Exact.exact c.divide_row.new.cells)
     (take c.in_ok-count.count c.divide_row.new.columns) n (length c.divide_row.new.cells)) (sym l)
     (listed_take (zero_in g.S.Exact.exact c.divide_row.new.cells) c.divide_row.new.columns c.in_ok-count.count
     (length c.divide_row.new.cells) c.in_ok-count.ensures.listed.1)
@@ -167,8 +168,8 @@ returns-in_err-reduce_rows-2-clause-block g c =
     block_three g.S.Exact.exact g.S.Exact.MAX _ _ _ _ _ _ c.in_ok-reduce_rows.ensures.block
     c.in_ok-count.ensures.block c.in_err-reduce_rows-2.ensures.block
 
-pub returns-in_err-reduce_rows-2-clause-passed : goal.returns-in_err-reduce_rows-2-clause-passed
-returns-in_err-reduce_rows-2-clause-passed g c = let p =
+pub returns-in_err-reduce_rows-2-clause-wide : goal.returns-in_err-reduce_rows-2-clause-wide
+returns-in_err-reduce_rows-2-clause-wide g c = let p =
     err_from_is_err_and c.from_residual-in_err-reduce_rows-2.result
     c.from_residual-in_err-reduce_rows-2.ensures.1 in
     rw (p.1, p.2) (spot_below g.S.Exact.exact g.S.Exact.MAX
@@ -178,9 +179,9 @@ returns-in_err-reduce_rows-2-clause-passed g c = let p =
     ∙ ap (λ ys. c.split_at_mut-above.result.0.now ++ ys) c.split_at_mut-own.ensures.value)
     c.split_at_mut-above.ensures.front_len c.split_at_mut-own.ensures.front_len c.index-own-column.result
     c.requires.column_in c.index-own-column.is
-    c.divide_row.new.cells c.divide_row.auto.cells c.in_ok-count.ensures.ok c.in_ok-count.ensures.passed
-    c.args.rows _ (omega (arith, c.requires.row_in)) c.in_ok-reduce_rows.ensures.passed
-    c.in_err-reduce_rows-2.ensures.passed)
+    c.divide_row.new.cells c.divide_row.auto.cells c.in_ok-count.ensures.ok c.in_ok-count.ensures.wide
+    c.args.rows _ (omega (arith, c.requires.row_in)) c.in_ok-reduce_rows.ensures.wide
+    c.in_err-reduce_rows-2.ensures.wide)
 
 pub returns-clause-block : goal.returns-clause-block
 returns-clause-block g c =
@@ -195,12 +196,12 @@ returns-clause-ok g c =
     ∙ ap (λ ys. c.split_at_mut-above.result.0.now ++ ys) c.split_at_mut-own.ensures.value)
     c.split_at_mut-above.ensures.front_len c.split_at_mut-own.ensures.front_len c.index-own-column.result
     c.requires.column_in c.index-own-column.is
-    c.divide_row.new.cells c.divide_row.auto.cells c.in_ok-count.ensures.ok c.in_ok-count.ensures.passed
+    c.divide_row.new.cells c.divide_row.auto.cells c.in_ok-count.ensures.ok c.in_ok-count.ensures.wide
     c.reduce_rows.new.cells c.reduce_rows-2.new.cells c.reduce_rows.auto.cells
     c.in_ok-reduce_rows.ensures.ok c.in_ok-reduce_rows-2.ensures.ok
 
-pub returns-clause-passed : goal.returns-clause-passed
-returns-clause-passed g c =
+pub returns-clause-wide : goal.returns-clause-wide
+returns-clause-wide g c =
     spot_below g.S.Exact.exact g.S.Exact.MAX
     (length c.args.columns.now) c.args.row c.args.column c.args.cells.now
     c.split_at_mut-above.result.0.now c.split_at_mut-own.result.0.now c.split_at_mut-own.result.1.now
@@ -208,6 +209,6 @@ returns-clause-passed g c =
     ∙ ap (λ ys. c.split_at_mut-above.result.0.now ++ ys) c.split_at_mut-own.ensures.value)
     c.split_at_mut-above.ensures.front_len c.split_at_mut-own.ensures.front_len c.index-own-column.result
     c.requires.column_in c.index-own-column.is
-    c.divide_row.new.cells c.divide_row.auto.cells c.in_ok-count.ensures.ok c.in_ok-count.ensures.passed
-    c.args.rows _ (omega (arith, c.requires.row_in)) c.in_ok-reduce_rows.ensures.passed
-    c.in_ok-reduce_rows-2.ensures.passed
+    c.divide_row.new.cells c.divide_row.auto.cells c.in_ok-count.ensures.ok c.in_ok-count.ensures.wide
+    c.args.rows _ (omega (arith, c.requires.row_in)) c.in_ok-reduce_rows.ensures.wide
+    c.in_ok-reduce_rows-2.ensures.wide

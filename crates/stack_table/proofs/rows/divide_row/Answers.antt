@@ -7,39 +7,40 @@ use Rattle.stack_algebra.proofs.FractionField.{inv}
 use Rattle.stack_algebra.proofs.OrderedFractions.{ordered_fractions}
 use Rattle.stack_algebra.proofs.Search.{first_found, first_more}
 use Rattle.stack_rational.specs.declared.exact.Op.TheVariants.{Quotient}
-use Rattle.stack_rational.specs.Passes.{passes, fits}
-use Rattle.stack_table.specs.Block.{value_at, mark_at}
+use Rattle.stack_rational.specs.TooWide.{is_too_wide, fraction_fits}
+use Rattle.stack_table.specs.Block.{item_value, mark_at}
 use Rattle.stack_rational.specs.Order.{is_zero}
 use Rattle.stack_table.specs.Spots.{divided, divide_item}
-use Rattle.stack_rational.proofs.Conjunctions.{not-false}
+use Rattle.stack_algebra.proofs.Conjunctions.{not-false}
 use Rattle.stack_rational.proofs.Fitting.{is_zero-of, quotient_not-zero}
-use Rattle.stack_table.proofs.Blocks.{value_at-past, value_at-index, value_at-set_same, value_at-set_other, block_kept, written_done, written_rest}
+use Rattle.stack_table.proofs.Blocks.{value_at-past, value_at-index, value_at-set_same, value_at-set_other}
+use Rattle.stack_table.proofs.Blocks.{block_kept, written_done, written_rest}
 use Rattle.stack_table.proofs.Listed.{listed_skip, listed_more}
-use Rattle.stack_table.proofs.RowSteps.{divide_skips, divide_passes, divide_goes}
+use Rattle.stack_table.proofs.RowSteps.{divide_skips, divide_too_wide, divide_goes}
 use Rattle.stack_table.proofs.rows.divide_row.Goals as goal
 use Rattle.stack_table.proofs.rows.divide_row.Goals.{then-not-marks-j+in-Ok, else-not-marks-j}
 
-pub returns-in-Err-clause-passed : goal.returns-in-Err-clause-passed
-returns-in-Err-clause-passed g c =
+pub returns-in-Err-clause-wide : goal.returns-in-Err-clause-wide
+returns-in-Err-clause-wide g c =
     let e = g.S.Exact.exact in
     let m = g.S.Exact.MAX in
-    let old = value_at e c.args.cells.now in
+    let old = item_value e c.args.cells.now in
     let d = e c.args.divisor in
     let j = c.loop-j.j in
     let lt : j < length c.loop-j.cells = omega (arith, c.loop-j.auto.cells, c.loop-j-test.true) in
     let cell = sym (c.loop-j.invariant.rest j (omega arith))
     ∙ value_at-index e c.loop-j.cells j c.index-cells-j.result lt c.index-cells-j.is in
     first_found (length c.args.cells.now) j
-    (divide_item ordered_fractions (passes m) old d c.args.row) _ c.loop-j-test.true
+    (divide_item ordered_fractions (is_too_wide m) old d c.args.row) _ c.loop-j-test.true
     c.loop-j.invariant.none
-    (divide_passes m old d c.args.row j (ap (λ v. passes m Quotient v d) cell ∙ c.in-Err.ensures.wide))
+    (divide_too_wide m old d c.args.row j (ap (λ v. is_too_wide m Quotient v d) cell ∙ c.in-Err.ensures.wide))
 
 pub loop-j-preserved : goal.loop-j-preserved
 loop-j-preserved g c = elim c.if-not-marks-j.branch [
   | then-not-marks-j+in-Ok w ↦
       let e = g.S.Exact.exact in
       let m = g.S.Exact.MAX in
-      let old = value_at e c.args.cells.now in
+      let old = item_value e c.args.cells.now in
       let d = e c.args.divisor in
       let j = c.loop-j.j in
       let i = c.loop-j.invariant in
@@ -57,18 +58,18 @@ loop-j-preserved g c = elim c.if-not-marks-j.branch [
             (mark ∙ sym (ap is_zero w.in-Ok.ensures.ok
             ∙ quotient_not-zero (e x) d (ap is_zero (sym cell) ∙ sym (i.block.marked j)
             ∙ mark) c.requires.divisor))
-            (ap (fits m) w.in-Ok.ensures.ok ∙ not-false _ w.in-Ok.ensures.fits);
-        done = λ k l. written_done (divided ordered_fractions old d) old (value_at e c.loop-j.cells)
-            (value_at e (set c.loop-j.cells j y)) j j i.done i.rest
+            (ap (fraction_fits m) w.in-Ok.ensures.ok ∙ not-false _ w.in-Ok.ensures.fits);
+        done = λ k l. written_done (divided ordered_fractions old d) old (item_value e c.loop-j.cells)
+            (item_value e (set c.loop-j.cells j y)) j j i.done i.rest
             (λ k a b. absurd (omega (arith, a, b)))
             (value_at-set_same e c.loop-j.cells j y lt ∙ w.in-Ok.ensures.ok
             ∙ ap (mul (inv d)) (sym first_cell))
             (λ k n. value_at-set_other e c.loop-j.cells j k y n) k (omega (arith, l));
-        rest = λ k l. written_rest old (value_at e c.loop-j.cells)
-            (value_at e (set c.loop-j.cells j y)) j j i.rest (omega arith)
+        rest = λ k l. written_rest old (item_value e c.loop-j.cells)
+            (item_value e (set c.loop-j.cells j y)) j j i.rest (omega arith)
             (λ k n. value_at-set_other e c.loop-j.cells j k y n) k (omega (arith, l));
-        none = first_more j (divide_item ordered_fractions (passes m) old d c.args.row) i.none
-            (divide_goes m old d c.args.row j (ap (λ v. passes m Quotient v d) first_cell
+        none = first_more j (divide_item ordered_fractions (is_too_wide m) old d c.args.row) i.none
+            (divide_goes m old d c.args.row j (ap (λ v. is_too_wide m Quotient v d) first_cell
             ∙ w.in-Ok.ensures.fits));
         listed = listed_more (mark_at c.args.marks.now) c.loop-j.columns c.loop-j.count j
             (omega (arith, i.count, lt, c.loop-j.auto.cells, c.loop-j.auto.columns, c.requires.room))
@@ -77,7 +78,7 @@ loop-j-preserved g c = elim c.if-not-marks-j.branch [
   | else-not-marks-j w ↦
       let e = g.S.Exact.exact in
       let m = g.S.Exact.MAX in
-      let old = value_at e c.args.cells.now in
+      let old = item_value e c.args.cells.now in
       let d = e c.args.divisor in
       let j = c.loop-j.j in
       let i = c.loop-j.invariant in
@@ -89,12 +90,12 @@ loop-j-preserved g c = elim c.if-not-marks-j.branch [
       rw (w.cells-is, w.columns-is, w.count-is) (record {
         count = omega (arith, i.count);
         block = i.block;
-        done = λ k l. written_done (divided ordered_fractions old d) old (value_at e c.loop-j.cells)
-            (value_at e c.loop-j.cells) j j i.done i.rest
+        done = λ k l. written_done (divided ordered_fractions old d) old (item_value e c.loop-j.cells)
+            (item_value e c.loop-j.cells) j j i.done i.rest
             (λ k a b. absurd (omega (arith, a, b))) (i.rest j (omega arith) ∙ sym s.0) (λ k n. refl) k
             (omega (arith, l));
         rest = λ k l. i.rest k (omega (arith, l));
-        none = first_more j (divide_item ordered_fractions (passes m) old d c.args.row) i.none s.1;
+        none = first_more j (divide_item ordered_fractions (is_too_wide m) old d c.args.row) i.none s.1;
         listed = listed_skip (mark_at c.args.marks.now) c.loop-j.columns c.loop-j.count j i.listed mark;
       })
 ]
@@ -103,7 +104,7 @@ pub returns-clause-ok : goal.returns-clause-ok
 returns-clause-ok g c = λ j. go j (dec_lt j c.loop-j.j)
   where
     old : ℕ → Fraction
-    old = value_at g.S.Exact.exact c.args.cells.now
+    old = item_value g.S.Exact.exact c.args.cells.now
 
     past : (j : ℕ) → c.loop-j.j ≤ j → is_zero (old j) ≡ true
     past j l = ap is_zero
@@ -111,7 +112,7 @@ returns-clause-ok g c = λ j. go j (dec_lt j c.loop-j.j)
         ∙ is_zero-of
 
     go : (j : ℕ) → Dec (j < c.loop-j.j) →
-        value_at g.S.Exact.exact c.loop-j.cells j ≡ divided ordered_fractions old
+        item_value g.S.Exact.exact c.loop-j.cells j ≡ divided ordered_fractions old
         (g.S.Exact.exact c.args.divisor) j
     go j (yes l) = c.loop-j.invariant.done j l
     go j (no l) = c.loop-j.invariant.rest j (omega (arith, l))

@@ -1,9 +1,9 @@
 use Rattle.std.proofs.Common.{◌≡◌, ℕ, ◌<◌, ◌≤◌, None}
 use Rattle.stack_algebra.proofs.OrderedFractions.{ordered_fractions}
-use Rattle.stack_rational.specs.Passes.{passes}
+use Rattle.stack_rational.specs.TooWide.{is_too_wide}
 use Rattle.stack_table.specs.Spots.{divided, divide_spot}
-use Rattle.stack_table.specs.Block.{value_at, mark_at, IsBlock}
-use Rattle.stack_table.specs.Columns.{Lists}
+use Rattle.stack_table.specs.Block.{item_value, mark_at, IsBlock}
+use Rattle.stack_table.specs.Columns.{ListsNonzero}
 use Rattle.stack_table.proofs.rows.divide_row.Given as goal
 
 abbrev pub invariant-loop-j : goal.invariant-loop-j
@@ -11,10 +11,10 @@ invariant-loop-j g l = record {
   count : l.count ≤ l.j;
   block : IsBlock g.S.Exact.MAX g.S.Exact.exact l.cells l.marks;
   done : (k : ℕ) → k < l.j →
-      value_at g.S.Exact.exact l.cells k ≡ divided ordered_fractions (value_at g.S.Exact.exact l.fn.cells)
+      item_value g.S.Exact.exact l.cells k ≡ divided ordered_fractions (item_value g.S.Exact.exact l.fn.cells)
       (g.S.Exact.exact l.divisor) k;
-  rest : (k : ℕ) → l.j ≤ k → value_at g.S.Exact.exact l.cells k ≡ value_at g.S.Exact.exact l.fn.cells k;
-  none : divide_spot ordered_fractions (passes g.S.Exact.MAX) l.j (value_at g.S.Exact.exact l.fn.cells)
+  rest : (k : ℕ) → l.j ≤ k → item_value g.S.Exact.exact l.cells k ≡ item_value g.S.Exact.exact l.fn.cells k;
+  none : divide_spot ordered_fractions (is_too_wide g.S.Exact.MAX) l.j (item_value g.S.Exact.exact l.fn.cells)
       (g.S.Exact.exact l.divisor) l.row ≡ None;
-  listed : Lists (mark_at l.marks) l.columns l.count l.j;
+  listed : ListsNonzero (mark_at l.marks) l.columns l.count l.j;
 }

@@ -6,12 +6,13 @@ use native.Mathlib.Decide.{ℕ_discrete, dec_lt}
 use Rattle.stack_algebra.specs.Fraction.{Fraction}
 use Rattle.stack_algebra.proofs.OrderedFractions.{ordered_fractions}
 use Rattle.stack_algebra.proofs.Search.{first_found, first_more}
-use Rattle.stack_rational.specs.Passes.{passes}
-use Rattle.stack_table.specs.Block.{value_at, mark_at, cell_of}
+use Rattle.stack_rational.specs.TooWide.{is_too_wide}
+use Rattle.stack_table.specs.Block.{item_value, mark_at, cell_of}
 use Rattle.stack_rational.specs.Order.{is_zero}
 use Rattle.stack_table.specs.Spots.{reduced, reduce_spot}
 use Rattle.stack_rational.proofs.Fitting.{is_zero-of}
-use Rattle.stack_table.proofs.Parts.{row_in, cell_in, cell_outside, fits_cell, part_block, part_length, part_value, put_block, put_own, put_other}
+use Rattle.stack_table.proofs.BlockRows.{row_in, cell_in, cell_outside, fits_cell, part_block, part_length, part_value}
+use Rattle.stack_table.proofs.BlockRows.{put_block, put_own, put_other}
 use Rattle.stack_table.proofs.RowSteps.{row_skips, row_none, reduce_same, reduced_same}
 use Rattle.stack_table.proofs.rows.reduce_rows.Goals as goal
 use Rattle.stack_table.proofs.rows.reduce_rows.Goals.{then-not-marks-start+in_ok-reduce_row, else-not-marks-start}
@@ -31,8 +32,8 @@ returns-in_err-reduce_row-clause-block g c =
     (c.loop-i.auto.cells ∙ c.requires.whole))
     c.reduce_row.new.cells c.reduce_row.new.marks c.in_err-reduce_row.ensures.block
 
-pub returns-in_err-reduce_row-clause-passed : goal.returns-in_err-reduce_row-clause-passed
-returns-in_err-reduce_row-clause-passed g c =
+pub returns-in_err-reduce_row-clause-wide : goal.returns-in_err-reduce_row-clause-wide
+returns-in_err-reduce_row-clause-wide g c =
     let e = g.S.Exact.exact in
     let m = g.S.Exact.MAX in
     let w = length c.args.pivot.now in
@@ -40,18 +41,18 @@ returns-in_err-reduce_row-clause-passed g c =
     let old = cell_of e w c.args.cells.now in
     let room = row_in i c.args.count w (length c.loop-i.cells) c.loop-i-test.true
     (c.loop-i.auto.cells ∙ c.requires.whole) in
-    let row : (j : ℕ) → old i j ≡ value_at e _ j =
+    let row : (j : ℕ) → old i j ≡ item_value e _ j =
     λ j. sym (part_value e m w i c.loop-i.cells c.loop-i.marks c.loop-i.invariant.block room j
     ∙ c.loop-i.invariant.rest i j (omega arith)) in
     let p = err_from_is_err_and c.from_residual.result c.from_residual.ensures.1 in
     rw (p.1, p.2) (first_found c.args.count i
-    (λ k. reduce_spot ordered_fractions (passes m) w (old k) (value_at e c.args.pivot.now)
+    (λ k. reduce_spot ordered_fractions (is_too_wide m) w (old k) (item_value e c.args.pivot.now)
     (old k c.args.column) (c.args.first + k)) _
     c.loop-i-test.true c.loop-i.invariant.none
     (reduce_same m (c.args.first + i) _ _ _ _ _ _ _ _
     (sym (part_length e m w i c.loop-i.cells c.loop-i.marks c.loop-i.invariant.block room)) row
     (λ j. refl) (row c.args.column)
-    ∙ c.in_err-reduce_row.ensures.passed))
+    ∙ c.in_err-reduce_row.ensures.wide))
 
 pub loop-i-preserved : goal.loop-i-preserved
 loop-i-preserved g c = elim c.if-not-marks-start.branch [
@@ -61,12 +62,12 @@ loop-i-preserved g c = elim c.if-not-marks-start.branch [
       let n = length c.args.pivot.now in
       let i = c.loop-i.i in
       let old = cell_of e n c.args.cells.now in
-      let piv = value_at e c.args.pivot.now in
+      let piv = item_value e c.args.pivot.now in
       let room = row_in i c.args.count n (length c.loop-i.cells) c.loop-i-test.true
       (c.loop-i.auto.cells ∙ c.requires.whole) in
       let part = part_length e m n i c.loop-i.cells c.loop-i.marks c.loop-i.invariant.block room in
       let long : length w.reduce_row.new.cells ≡ n = w.reduce_row.auto.cells ∙ part in
-      let lent : ℕ → Fraction = value_at e (take (i * n + n - i * n) (drop (i * n) c.loop-i.cells)) in
+      let lent : ℕ → Fraction = item_value e (take (i * n + n - i * n) (drop (i * n) c.loop-i.cells)) in
       let row : (j : ℕ) → old i j ≡ lent j =
       λ j. sym (part_value e m n i c.loop-i.cells c.loop-i.marks c.loop-i.invariant.block room j
       ∙ c.loop-i.invariant.rest i j (omega arith)) in
@@ -89,10 +90,10 @@ loop-i-preserved g c = elim c.if-not-marks-start.branch [
         rest = λ k j l. put_other e m n i c.loop-i.cells c.loop-i.marks c.loop-i.invariant.block room
             w.reduce_row.new.cells k j long (λ d. omega (arith, l, d))
             ∙ c.loop-i.invariant.rest k j (omega (arith, l));
-        none = first_more i (λ k. reduce_spot ordered_fractions (passes m) n (old k) piv (old k c.args.column)
+        none = first_more i (λ k. reduce_spot ordered_fractions (is_too_wide m) n (old k) piv (old k c.args.column)
             (c.args.first + k)) c.loop-i.invariant.none
             (reduce_same m (c.args.first + i) _ _ _ _ _ _ _ _ (sym part) row (λ j. refl) (row c.args.column)
-            ∙ w.in_ok-reduce_row.ensures.passed);
+            ∙ w.in_ok-reduce_row.ensures.wide);
       })
   | else-not-marks-start w ↦
       let e = g.S.Exact.exact in
@@ -100,7 +101,7 @@ loop-i-preserved g c = elim c.if-not-marks-start.branch [
       let n = length c.args.pivot.now in
       let i = c.loop-i.i in
       let old = cell_of e n c.args.cells.now in
-      let piv = value_at e c.args.pivot.now in
+      let piv = item_value e c.args.pivot.now in
       let room = row_in i c.args.count n (length c.loop-i.cells) c.loop-i-test.true
       (c.loop-i.auto.cells ∙ c.requires.whole) in
       let mark : mark_at c.loop-i.marks (i * n + c.args.column) ≡ true =
@@ -121,7 +122,7 @@ loop-i-preserved g c = elim c.if-not-marks-start.branch [
           | no d ↦ c.loop-i.invariant.done k j (omega (arith, l, d))
         ];
         rest = λ k j l. c.loop-i.invariant.rest k j (omega (arith, l));
-        none = first_more i (λ k. reduce_spot ordered_fractions (passes m) n (old k) piv (old k c.args.column)
+        none = first_more i (λ k. reduce_spot ordered_fractions (is_too_wide m) n (old k) piv (old k c.args.column)
             (c.args.first + k)) c.loop-i.invariant.none
             (row_none m n (old i) piv (old i c.args.column)
             (c.args.first + i) g.met.S.Exact.max_law fit none);
@@ -136,11 +137,11 @@ returns-clause-ok g c = λ i j. go i j (dec_lt i c.loop-i.i)
 
     go : (i j : ℕ) → Dec (i < c.loop-i.i) →
         cell_of g.S.Exact.exact (length c.args.pivot.now) c.loop-i.cells i j
-        ≡ reduced ordered_fractions (old i) (value_at g.S.Exact.exact c.args.pivot.now)
+        ≡ reduced ordered_fractions (old i) (item_value g.S.Exact.exact c.args.pivot.now)
         (old i c.args.column) j
     go i j (yes l) = c.loop-i.invariant.done i j l
     go i j (no l) = c.loop-i.invariant.rest i j (omega (arith, l))
-        ∙ sym (row_skips g.S.Exact.MAX (old i) (value_at g.S.Exact.exact c.args.pivot.now)
+        ∙ sym (row_skips g.S.Exact.MAX (old i) (item_value g.S.Exact.exact c.args.pivot.now)
         (old i c.args.column) i j g.met.S.Exact.max_law
         (fits_cell g.S.Exact.exact g.S.Exact.MAX
         (length c.args.pivot.now) c.args.cells.now c.args.marks.now i j c.requires.block)

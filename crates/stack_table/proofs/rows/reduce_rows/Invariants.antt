@@ -1,8 +1,8 @@
 use Rattle.std.proofs.Common.{◌≡◌, ℕ, ◌<◌, ◌≤◌, length, None}
 use Rattle.stack_algebra.proofs.OrderedFractions.{ordered_fractions}
-use Rattle.stack_rational.specs.Passes.{passes}
+use Rattle.stack_rational.specs.TooWide.{is_too_wide}
 use Rattle.stack_table.specs.Spots.{reduced, rows_spot}
-use Rattle.stack_table.specs.Block.{value_at, cell_of, IsBlock}
+use Rattle.stack_table.specs.Block.{item_value, cell_of, IsBlock}
 use Rattle.stack_table.proofs.rows.reduce_rows.Given as goal
 
 abbrev pub invariant-loop-i : goal.invariant-loop-i
@@ -10,11 +10,11 @@ invariant-loop-i g l = record {
   block : IsBlock g.S.Exact.MAX g.S.Exact.exact l.cells l.marks;
   done : (k j : ℕ) → k < l.i → cell_of g.S.Exact.exact (length l.pivot) l.cells k j
       ≡ reduced ordered_fractions (cell_of g.S.Exact.exact (length l.pivot) l.fn.cells k)
-      (value_at g.S.Exact.exact l.pivot)
+      (item_value g.S.Exact.exact l.pivot)
       (cell_of g.S.Exact.exact (length l.pivot) l.fn.cells k l.column) j;
   rest : (k j : ℕ) → l.i ≤ k → cell_of g.S.Exact.exact (length l.pivot) l.cells k j ≡ cell_of g.S.Exact.exact
       (length l.pivot) l.fn.cells k j;
-  none : rows_spot ordered_fractions (passes g.S.Exact.MAX) l.i (length l.pivot)
+  none : rows_spot ordered_fractions (is_too_wide g.S.Exact.MAX) l.i (length l.pivot)
       (cell_of g.S.Exact.exact (length l.pivot) l.fn.cells)
-      (value_at g.S.Exact.exact l.pivot) l.column l.first ≡ None;
+      (item_value g.S.Exact.exact l.pivot) l.column l.first ≡ None;
 }

@@ -3,7 +3,7 @@ use Rattle.stack_model.specs.ModelView.{model_view}
 use Rattle.stack_model.specs.declared.model.Model.{Model}
 use Rattle.stack_cli.specs.declared.answer.Answer.{Answer}
 use Rattle.stack_cli.specs.Answers.{Due}
-use Rattle.stack_cli.specs.Progress.{IsModel, Answers}
+use Rattle.stack_cli.specs.Progress.{IsModel, AnswersDue}
 use Rattle.stack_cli.specs.Stacking.{built_step}
 use Rattle.stack_cli.specs.Sampling.{sample_of, wall_sampled, sample_work}
 use Rattle.stack_cli.proofs.Steps.{alone_then, alone_refused}
@@ -11,10 +11,10 @@ use Rattle.stack_cli.proofs.forms.sampling.sample_form.Goals as goal
 
 pub returns-in-Ok-clause-does : goal.returns-in-Ok-clause-does
 unfolding sample_work
-returns-in-Ok-clause-does c = alone_then Answers model_view (built_step (sample_of c.args.number))
+returns-in-Ok-clause-does c = alone_then AnswersDue model_view (built_step (sample_of c.args.number))
     (wall_sampled c.args.number) c.in-Ok.model c.sample_wall.result c.in-Ok.ensures.does c.sample_wall.ensures.does
 
 pub returns-in-Err-clause-does : goal.returns-in-Err-clause-does
 unfolding sample_work
-returns-in-Err-clause-does c = alone_refused {A = Structure} {B = Due} {X = Model} {Y = Answer} IsModel Answers
+returns-in-Err-clause-does c = alone_refused {A = Structure} {B = Due} {X = Model} {Y = Answer} IsModel AnswersDue
     (built_step (sample_of c.args.number)) (wall_sampled c.args.number) c.in-Err.refusal c.in-Err.ensures.does

@@ -7,7 +7,8 @@ use Rattle.stack_cli.proofs.SampleEnds.{summed, too_wide_ends, spent_ends}
 use Rattle.stack_cli.proofs.forms.sampling.sample_survey.Goals as goal
 
 pub returns-in-Ok-clause-does : goal.returns-in-Ok-clause-does
-returns-in-Ok-clause-does c = summed c.args.number c.args.survey.now (certificate_view c.in-Ok.certificate) c.in-Ok.narrow
+returns-in-Ok-clause-does c = summed c.args.number c.args.survey.now
+    (certificate_view c.in-Ok.certificate) c.in-Ok.narrow
     c.summed.result c.in-Ok.ensures.judges.1 c.in-Ok.ensures.narrow c.summed.ensures.does
 
 pub returns-in-Err-TooWide-clause-does : goal.returns-in-Err-TooWide-clause-does

@@ -4,17 +4,17 @@ use Rattle.stack_model.specs.declared.model.Model.{Model}
 use Rattle.stack_cli.specs.declared.answer.Answer.{Answer}
 use Rattle.stack_cli.specs.Answers.{Due, document}
 use Rattle.stack_cli.specs.Work.{gives}
-use Rattle.stack_cli.specs.Progress.{IsModel, Answers}
+use Rattle.stack_cli.specs.Progress.{IsModel, AnswersDue}
 use Rattle.stack_cli.specs.Stacking.{stack_of, built_step, stack_work}
 use Rattle.stack_cli.proofs.Steps.{alone_then, alone_refused}
 use Rattle.stack_cli.proofs.forms.stacking.stack_form.Goals as goal
 
 pub returns-in-Ok-clause-does : goal.returns-in-Ok-clause-does
 unfolding stack_work
-returns-in-Ok-clause-does c = alone_then Answers model_view (built_step (stack_of c.args.kind c.args.size))
+returns-in-Ok-clause-does c = alone_then AnswersDue model_view (built_step (stack_of c.args.kind c.args.size))
     (λ s. gives (document s)) c.in-Ok.model c.described.result c.in-Ok.ensures.does c.described.ensures.does
 
 pub returns-in-Err-clause-does : goal.returns-in-Err-clause-does
 unfolding stack_work
-returns-in-Err-clause-does c = alone_refused {A = Structure} {B = Due} {X = Model} {Y = Answer} IsModel Answers
+returns-in-Err-clause-does c = alone_refused {A = Structure} {B = Due} {X = Model} {Y = Answer} IsModel AnswersDue
     (built_step (stack_of c.args.kind c.args.size)) (λ s. gives (document s)) c.in-Err.refusal c.in-Err.ensures.does

@@ -5,7 +5,8 @@ use Rattle.stack_cli.proofs.forms.tabling.table_file.Goals as goal
 pub returns-in-Ok-clause-does : goal.returns-in-Ok-clause-does
 unfolding tabled_file
 returns-in-Ok-clause-does g c =
-    then_alone _ _ _ _ _ _ _ c.in-Ok.text _ c.in-Ok.ensures.does (rw c.as_slice.ensures.value at c.table_text.ensures.does)
+    then_alone _ _ _ _ _ _ _ c.in-Ok.text _ c.in-Ok.ensures.does
+    (rw c.as_slice.ensures.value at c.table_text.ensures.does)
 
 pub returns-in-Err-clause-does : goal.returns-in-Err-clause-does
 unfolding tabled_file

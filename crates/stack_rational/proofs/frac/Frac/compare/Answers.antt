@@ -1,6 +1,7 @@
 use mathlib.Core.Path.{sym, ◌∙◌}
 use lib.IntN.{pos}
-use Rattle.stack_rational.proofs.ByWholeParts.{stored-order, opposite-order, sign-less, opposite-low, yes-less, no-less, cmp-less, cmp-greater}
+use Rattle.stack_rational.proofs.ByWholeParts.{stored-order, opposite-order, sign-less, opposite-low, yes-less}
+use Rattle.stack_rational.proofs.ByWholeParts.{no-less, cmp-less, cmp-greater}
 use Rattle.stack_rational.proofs.frac.Frac.compare.Goals as goal
 
 pub order_of_parts-requires-clause-a : goal.order_of_parts-requires-clause-a

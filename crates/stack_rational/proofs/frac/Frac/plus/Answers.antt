@@ -1,6 +1,7 @@
 use mathlib.Core.Path.{sym, ◌∙◌}
 use Rattle.stack_rational.proofs.Crosswise.{stored-fits}
-use Rattle.stack_rational.proofs.ShortCuts.{zero_plus, plus_zero, zero_plus_fits, plus_zero_fits, stored_zero, stored_sum, stored_sum_fits, stored_sum_passes}
+use Rattle.stack_rational.proofs.ShortCuts.{zero_plus, plus_zero, zero_plus_fits, plus_zero_fits, stored_zero}
+use Rattle.stack_rational.proofs.ShortCuts.{stored_sum, stored_sum_fits, stored_sum_too_wide}
 use Rattle.stack_rational.proofs.frac.Frac.plus.Goals as goal
 
 pub returns-then-is_zero-clause-ok : goal.returns-then-is_zero-clause-ok
@@ -41,7 +42,7 @@ returns-in-Some-clause-fits g c = stored_sum_fits g.T.Integer.MAX _ _ _ _ c.args
     ∙ c.if-eq.true)) c.in-Some.ensures.0
 
 pub returns-in-None-clause-err : goal.returns-in-None-clause-err
-returns-in-None-clause-err g c = stored_sum_passes g.T.Integer.MAX _ _ _ _ c.args.self c.args.other
+returns-in-None-clause-err g c = stored_sum_too_wide g.T.Integer.MAX _ _ _ _ c.args.self c.args.other
     c.self.invariant.stored c.other.invariant.stored c.self.view_is c.other.view_is
     ((g.met.T.Number.eq_law _ _ g.met.T.Integral.exact_law).0 (sym c.eq.ensures
     ∙ c.if-eq.true)) c.in-None.ensures

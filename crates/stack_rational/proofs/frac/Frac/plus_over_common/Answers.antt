@@ -1,8 +1,8 @@
 use mathlib.Core.Path.{◌∙◌}
-use Rattle.stack_rational.proofs.OverCommon.{sum, total-passes, sum-fits, sum-value, total-inner, total-outer}
+use Rattle.stack_rational.proofs.OverCommon.{sum, total-too_wide, sum-fits, sum-value, total-inner, total-outer}
 use Rattle.stack_rational.proofs.frac.Frac.plus_over_common.Goals as goal
 
--- a number that passes
+-- a number that is too wide
 pub returns-in_default-clause-err : goal.returns-in_default-clause-err
 returns-in_default-clause-err g c = λ f. c.in_default.ensures ((sum c.self.invariant.stored c.other.invariant.stored
     c.self.view_is c.other.view_is c.shared.ensures).at f).den
@@ -18,7 +18,7 @@ returns-in_default-times-2-clause-err g c = λ f. c.in_default-times-2.ensures
     c.self.view_is c.other.view_is c.shared.ensures).at f).right
 
 pub returns-in_default-plus-clause-err : goal.returns-in_default-plus-clause-err
-returns-in_default-plus-clause-err g c = total-passes (sum c.self.invariant.stored c.other.invariant.stored
+returns-in_default-plus-clause-err g c = total-too_wide (sum c.self.invariant.stored c.other.invariant.stored
     c.self.view_is c.other.view_is c.shared.ensures)
     c.in-Some-times.ensures c.in-Some-times-2.ensures c.in_default-plus.ensures
 

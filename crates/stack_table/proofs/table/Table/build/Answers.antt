@@ -8,7 +8,7 @@ use lib.IntN.{pos}
 use Rattle.stack_algebra.proofs.OrderedFractions.{ordered_fractions}
 use Rattle.stack_algebra.specs.Search.{first}
 use Rattle.stack_table.specs.declared.problem.Column.{Column}
-use Rattle.stack_rational.specs.Passes.{passes}
+use Rattle.stack_rational.specs.TooWide.{is_too_wide}
 use Rattle.stack_table.specs.Table.{plain, width}
 use Rattle.stack_table.specs.Block.{cell_of, tabled}
 use Rattle.stack_table.specs.Problem.{flipped}
@@ -75,7 +75,7 @@ loop-i-preserved g c =
             (omega (arith, l, d))
             ∙ v.cells k j (omega (arith, l, d)) h
       ];
-      none = first_more i (row_place ordered_fractions (passes g.S.Exact.MAX) (problem_of P)) v.none
+      none = first_more i (row_place ordered_fractions (is_too_wide g.S.Exact.MAX) (problem_of P)) v.none
           c.in_ok-push_row.ensures.fits;
       basic_long = ap length c.in_ok-push.ensures.items ∙ length_push c.loop-i.basic.items _
           ∙ ap (λ n. n + 1) v.basic_long;
@@ -103,7 +103,7 @@ returns-in_err-push_objective-clause-wide g c =
     rw (p.1, p.2) (tells_objective g.S.Exact.exact P c.loop-i.cells.items
     (v.long ∙ ap (λ n. n * width (shape_of_problem P)) end)
     (λ i j l k. v.cells i j (omega (arith, l, end)) k) m
-    (ap (λ n. first n (row_place ordered_fractions (passes m) (problem_of P))) (sym end) ∙ v.none)
+    (ap (λ n. first n (row_place ordered_fractions (is_too_wide m) (problem_of P))) (sym end) ∙ v.none)
     c.in_err-push_objective.field-0.0 c.in_err-push_objective.ensures.wide)
 
 pub returns-in_err-push_objective-clause-never_wide : goal.returns-in_err-push_objective-clause-never_wide
@@ -118,7 +118,7 @@ returns-in_err-push_objective-clause-never_wide g c = λ ample.
     (tells_objective g.S.Exact.exact P c.loop-i.cells.items
     (v.long ∙ ap (λ n. n * width (shape_of_problem P)) end)
     (λ i j l k. v.cells i j (omega (arith, l, end)) k) m
-    (ap (λ n. first n (row_place ordered_fractions (passes m) (problem_of P))) (sym end) ∙ v.none)
+    (ap (λ n. first n (row_place ordered_fractions (is_too_wide m) (problem_of P))) (sym end) ∙ v.none)
     c.in_err-push_objective.field-0.0 c.in_err-push_objective.ensures.wide))
 
 pub invariant_of-result-clause-basics_in : goal.invariant_of-result-clause-basics_in
@@ -161,5 +161,5 @@ returns-clause-fits g c =
     let end : c.loop-i.i ≡ P.rows = omega (arith, c.loop-i-test.false, c.loop-i.auto.i-end) in
     place_is g.S.Exact.exact P c.loop-i.cells.items (v.long ∙ ap (λ n. n * width (shape_of_problem P)) end)
     (λ i j l k. v.cells i j (omega (arith, l, end)) k) m
-    (ap (λ n. first n (row_place ordered_fractions (passes m) (problem_of P))) (sym end) ∙ v.none)
+    (ap (λ n. first n (row_place ordered_fractions (is_too_wide m) (problem_of P))) (sym end) ∙ v.none)
     ∙ c.in_ok-push_objective.ensures.fits

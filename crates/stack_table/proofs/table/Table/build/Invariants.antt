@@ -1,7 +1,7 @@
 use Rattle.std.proofs.Common.{◌≡◌, ℕ, ◌+◌, ◌*◌, ◌<◌, length, get_or, false, None}
 use Rattle.stack_algebra.proofs.OrderedFractions.{ordered_fractions}
 use Rattle.stack_algebra.specs.Search.{first}
-use Rattle.stack_rational.specs.Passes.{passes}
+use Rattle.stack_rational.specs.TooWide.{is_too_wide}
 use Rattle.stack_table.specs.Table.{plain, width}
 use Rattle.stack_table.specs.Block.{cell_of, IsBlock}
 use Rattle.stack_table.specs.Problem.{flipped}
@@ -16,7 +16,7 @@ invariant-loop-i g l = record {
   cells : (k j : ℕ) → k < l.i → j < width (shape_of_problem l.p) →
       cell_of g.S.Exact.exact (width (shape_of_problem l.p)) l.cells.items k j
       ≡ first_row ordered_fractions (problem_of l.p) k j;
-  none : first l.i (row_place ordered_fractions (passes g.S.Exact.MAX) (problem_of l.p)) ≡ None;
+  none : first l.i (row_place ordered_fractions (is_too_wide g.S.Exact.MAX) (problem_of l.p)) ≡ None;
   basic_long : length l.basic.items ≡ l.i;
   basics : (k : ℕ) → k < l.i → get_or l.basic.items k 0 ≡ plain (shape_of_problem l.p) + k;
   flipped_long : length l.flipped.items ≡ l.i;

@@ -1,4 +1,5 @@
-use Rattle.std.proofs.Common.{◌≡◌, sym, ap, ◌∙◌, ℕ, suc, ◌*◌, ◌<◌, Bool, List, length, get_or, set, arith, get_or-set_same, get_or-set_other}
+use Rattle.std.proofs.Common.{◌≡◌, sym, ap, ◌∙◌, ℕ, suc, ◌*◌, ◌<◌, Bool, List, length, get_or, set, arith}
+use Rattle.std.proofs.Common.{get_or-set_same, get_or-set_other}
 use Rattle.std.proofs.lemmas.List.{length-set, with_items_is}
 use mathlib.Core.Path.{subst₂}
 use Rattle.std.proofs.lemmas.Result.{err_from_is_err_and}
@@ -7,7 +8,7 @@ use native.Mathlib.Decide.{ℕ_discrete}
 use Rattle.stack_algebra.specs.Rows.{changed, next}
 use Rattle.stack_algebra.proofs.Pivots.{changed-same, changed-other}
 use Rattle.stack_algebra.proofs.OrderedFractions.{ordered_fractions}
-use Rattle.stack_rational.specs.Passes.{passes}
+use Rattle.stack_rational.specs.TooWide.{is_too_wide}
 use Rattle.stack_table.specs.Block.{IsBlock, cell_of, shape_of}
 use Rattle.stack_table.specs.Table.{width, columns}
 use Rattle.stack_table.specs.Spots.{cells_spot}
@@ -62,24 +63,24 @@ invariant_of-self-2-clause-basics_in g c =
     (columns (shape_of s.rows s.contacts s.has_factor))
     (omega (arith, s.basics, c.requires.row_in)) c.requires.column_in s.basics_in
 
-pub returns-in_err-pivot_block-clause-passed : goal.returns-in_err-pivot_block-clause-passed
-returns-in_err-pivot_block-clause-passed g c =
+pub returns-in_err-pivot_block-clause-wide : goal.returns-in_err-pivot_block-clause-wide
+returns-in_err-pivot_block-clause-wide g c =
     let s = c.args.self.now in
     let q : length c.as_mut_slice-3.result.now ≡ width (shape_of s.rows s.contacts s.has_factor) =
     ap length c.as_mut_slice-3.ensures.value ∙ s.wide in
     let p = err_from_is_err_and c.from_residual.result c.from_residual.ensures.1 in
-    rw (p.1, p.2) (sym (λ z. cells_spot ordered_fractions (passes g.S.Exact.MAX) (suc s.rows) (q z)
+    rw (p.1, p.2) (sym (λ z. cells_spot ordered_fractions (is_too_wide g.S.Exact.MAX) (suc s.rows) (q z)
     (cell_of g.S.Exact.exact (q z) (c.as_mut_slice.ensures.value z)) c.args.row c.args.column)
-    ∙ c.in_err-pivot_block.ensures.passed)
+    ∙ c.in_err-pivot_block.ensures.wide)
 
-pub returns-clause-passed : goal.returns-clause-passed
-returns-clause-passed g c =
+pub returns-clause-wide : goal.returns-clause-wide
+returns-clause-wide g c =
     let s = c.args.self.now in
     let q : length c.as_mut_slice-3.result.now ≡ width (shape_of s.rows s.contacts s.has_factor) =
     ap length c.as_mut_slice-3.ensures.value ∙ s.wide in
-    sym (λ z. cells_spot ordered_fractions (passes g.S.Exact.MAX) (suc s.rows) (q z)
+    sym (λ z. cells_spot ordered_fractions (is_too_wide g.S.Exact.MAX) (suc s.rows) (q z)
     (cell_of g.S.Exact.exact (q z) (c.as_mut_slice.ensures.value z)) c.args.row c.args.column)
-    ∙ c.in_ok-pivot_block.ensures.passed
+    ∙ c.in_ok-pivot_block.ensures.wide
 
 pub returns-clause-ok : goal.returns-clause-ok
 returns-clause-ok g c =

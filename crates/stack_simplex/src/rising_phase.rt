@@ -2,7 +2,7 @@
 
 ghost use Rattle.std.specs.Prelude.{◌≡◌, OnOk};
 ghost use Rattle.stack_algebra.proofs.OrderedFractions.{ordered_fractions};
-ghost use Rattle.stack_rational.specs.Passes.{passes};
+ghost use Rattle.stack_rational.specs.TooWide.{is_too_wide};
 ghost use Rattle.stack_table.specs.Table.{plain, set_factor_objective};
 ghost use Rattle.stack_table.specs.Seen.{shape_of_table, table_of, flips_of};
 ghost use Rattle.stack_duality.specs.WrittenRun.{turns};
@@ -21,7 +21,7 @@ pub fn third_phase<S: Exact>(t: &mut Table<S>, pivots: Pivots) -> Result<PhaseEn
     ensures shape { OnOk result (shape_of_table t.new ≡ shape_of_table t.old) }
     ensures flips { OnOk result (flips_of t.new ≡ flips_of t.old) }
     ensures answer { phase_answer (table_of t.new) result
-        ≡ turns ordered_fractions (shape_of_table t.old) (passes S.MAX) 3 (plain (shape_of_table t.old))
+        ≡ turns ordered_fractions (shape_of_table t.old) (is_too_wide S.MAX) 3 (plain (shape_of_table t.old))
         pivots.left pivots.done (set_factor_objective ordered_fractions (shape_of_table t.old) (table_of t.old)) }
 {
     t.set_factor_objective();

@@ -3,7 +3,7 @@ use lib.IntN.{nat_abs}
 use Rattle.std.proofs.lemmas.Nat.Gcd.{IsGcd-swap}
 use Rattle.stack_rational.proofs.AtWide.{recast}
 use Rattle.stack_rational.proofs.Divisors.{some_size, some_gcd, none_fits, one_gcd}
-use Rattle.stack_rational.proofs.divisor.divisor.Goals as goal
+use Rattle.stack_rational.proofs.common_divisor.divisor.Goals as goal
 
 -- the sizes of both numbers at 128 bits
 size_a : (g : _) (c : goal.In-Some g) → c.unsigned_abs.result ≡ nat_abs (g.T.Number.value c.args.a)

@@ -1,5 +1,5 @@
-use Rattle.stack_rational.proofs.Fitting.{answer_fits, small_fits, whole_passes_at_widest}
-use Rattle.stack_rational.proofs.laws.fitting_law.Goals as goal
+use Rattle.stack_rational.proofs.Fitting.{answer_fits, small_fits, whole_too_wide_at_widest}
+use Rattle.stack_rational.proofs.laws.fraction_fitting_law.Goals as goal
 
 pub returns-clause-answers : goal.returns-clause-answers
 returns-clause-answers c = answer_fits
@@ -8,4 +8,4 @@ pub returns-clause-small : goal.returns-clause-small
 returns-clause-small c = small_fits
 
 pub returns-clause-widest : goal.returns-clause-widest
-returns-clause-widest c = whole_passes_at_widest
+returns-clause-widest c = whole_too_wide_at_widest

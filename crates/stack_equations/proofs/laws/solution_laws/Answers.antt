@@ -1,6 +1,7 @@
 use Rattle.stack_equations.proofs.Solutions.{solutions_are_forces}
-use Rattle.stack_equations.proofs.ByNumber.{stands_by_solution, collapses_by_moves, greatest_by_both, unbounded_by_solutions}
-use Rattle.stack_equations.proofs.laws.certificate_laws.Goals as goal
+use Rattle.stack_equations.proofs.ByNumber.{stands_by_solution, collapses_by_moves, greatest_by_both}
+use Rattle.stack_equations.proofs.ByNumber.{unbounded_by_solutions}
+use Rattle.stack_equations.proofs.laws.solution_laws.Goals as goal
 
 pub returns-clause-forces : goal.returns-clause-forces
 returns-clause-forces _ = solutions_are_forces

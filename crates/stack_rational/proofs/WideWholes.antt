@@ -1,4 +1,4 @@
--- When a whole number passes: the numerator of its fraction is the number itself.
+-- When a whole number is too wide: the numerator of its fraction is the number itself.
 use mathlib.Core.Path.{◌≡◌, sym, ap, subst, ◌∙◌}
 use native.Mathlib.Omega.{arith}
 use lib.IntN.{ℤ, pos, nat_abs}
@@ -11,7 +11,7 @@ use Rattle.stack_algebra.proofs.CommonDivisor.{gcd-unit}
 use Rattle.stack_algebra.proofs.Over.{over-lowest, of-over}
 use Rattle.stack_rational.specs.declared.exact.Op.TheVariants.{Whole}
 use Rattle.stack_rational.specs.Stored.{Within}
-use Rattle.stack_rational.specs.Passes.{passes}
+use Rattle.stack_rational.specs.TooWide.{is_too_wide}
 
 pub num_of : (n : ℤ) → (of n).num ≡ n
 num_of n = ap (λ (x : Fraction). x.num) (sym (of-over n))
@@ -23,10 +23,10 @@ den_of n = ap (λ (x : Fraction). x.den) (sym (of-over n))
     (record { positive = omega (arith, ints); lowest = gcd-unit (nat_abs n) })).1
 
 -- k is n as the type holds it
-pub whole_fits : (m n k : ℤ) → k ≡ n → Within m k → passes m Whole (of n) (of n) ≡ false
+pub whole_fits : (m n k : ℤ) → k ≡ n → Within m k → is_too_wide m Whole (of n) (of n) ≡ false
 whole_fits m n k e h = ap not (le-leb (nat_abs (of n).num) (nat_abs m)
     (subst (λ z. Within m z) (e ∙ sym (num_of n)) h))
 
-pub whole_passes : (m n k : ℤ) → k ≡ n → ¬ (Within m k) → passes m Whole (of n) (of n) ≡ true
-whole_passes m n k e h = ap not (lt-leb (nat_abs (of n).num) (nat_abs m)
+pub whole_too_wide : (m n k : ℤ) → k ≡ n → ¬ (Within m k) → is_too_wide m Whole (of n) (of n) ≡ true
+whole_too_wide m n k e h = ap not (lt-leb (nat_abs (of n).num) (nat_abs m)
     (omega (arith, λ (w : Within m (of n).num). h (subst (λ z. Within m z) (num_of n ∙ sym e) w))))

@@ -1,4 +1,4 @@
--- When an operation on exact numbers passes a greatest value, and what it answers: one test and one value for
+-- When an operation on exact numbers is too wide for a greatest value, and what it answers: one test and one value for
 -- each operation.
 -- Nothing of the way that the code takes is said here. Used by every layer that computes with exact numbers.
 use Rattle.std.specs.Prelude.{ℤ, pos, ◌/◌, ◌≤ℤ◌, ◌+ℤ◌, ◌*ℤ◌, Bool, not, ◌&&◌, nat_le, unsigned_abs}
@@ -20,8 +20,8 @@ abbrev pub is_within : ℤ → ℤ → Bool
 is_within m z = nat_le (unsigned_abs z) (unsigned_abs m)
 
 -- so are a numerator and a denominator
-abbrev pub fits : ℤ → Fraction → Bool
-fits m x = is_within m x.num && nat_le x.den (unsigned_abs m)
+abbrev pub fraction_fits : ℤ → Fraction → Bool
+fraction_fits m x = is_within m x.num && nat_le x.den (unsigned_abs m)
 
 -- over the least common denominator: that denominator, and either term
 abbrev pub common_denominator : Fraction → Fraction → ℤ
@@ -33,24 +33,24 @@ left_term x y = x.num *ℤ pos (y.den / gcd x.den y.den)
 abbrev pub right_term : Fraction → Fraction → ℤ
 right_term x y = y.num *ℤ pos (x.den / gcd x.den y.den)
 
--- none of these passes, nor does the sum before it is reduced
+-- none of these is too wide, nor does the sum before it is reduced
 abbrev pub sum_fits : ℤ → Fraction → Fraction → Bool
 sum_fits m x y =
     is_within m (common_denominator x y) && is_within m (left_term x y) && is_within m (right_term x y)
     && is_within m (left_term x y +ℤ right_term x y)
 
--- an operation passes m. Of a whole number only x counts
-abbrev pub passes : ℤ → Op → Fraction → Fraction → Bool
-passes m Whole x y = not (is_within m x.num)
-passes m Sum x y = not (sum_fits m x y)
-passes m Difference x y = not (sum_fits m x (neg y))
-passes m Product x y = not (fits m (mul x y))
-passes m Quotient x y = not (fits m (mul (inv y) x))
+-- an operation is too wide for m. Of a whole number only x counts
+abbrev pub is_too_wide : ℤ → Op → Fraction → Fraction → Bool
+is_too_wide m Whole x y = not (is_within m x.num)
+is_too_wide m Sum x y = not (sum_fits m x y)
+is_too_wide m Difference x y = not (sum_fits m x (neg y))
+is_too_wide m Product x y = not (fraction_fits m (mul x y))
+is_too_wide m Quotient x y = not (fraction_fits m (mul (inv y) x))
 
 -- and its value
-abbrev pub value_of : Op → Fraction → Fraction → Fraction
-value_of Whole x y = x
-value_of Sum x y = add x y
-value_of Difference x y = add x (neg y)
-value_of Product x y = mul x y
-value_of Quotient x y = mul (inv y) x
+abbrev pub op_value : Op → Fraction → Fraction → Fraction
+op_value Whole x y = x
+op_value Sum x y = add x y
+op_value Difference x y = add x (neg y)
+op_value Product x y = mul x y
+op_value Quotient x y = mul (inv y) x
