@@ -1,0 +1,6 @@
+//! All faults of a model, each by its own property, and that the first of them is the one that is answered: laws only.
+#![tactic(auto)]
+
+mod laws;
+
+pub use laws::outline_by_meaning;
