@@ -5,8 +5,8 @@ use Rattle.std.specs.Prelude.{MatchResult, if◌then◌else◌}
 use Rattle.stack_algebra.specs.Search.{next_round}
 use Rattle.stack_algebra.proofs.Search.{IsAfter, next_round-cases}
 use Rattle.stack_polygon.specs.declared.point.Point.{Point}
-use Rattle.stack_polygon.specs.Corners.{reversed, IsClear, IsStrictlyConvex}
-use Rattle.stack_polygon.specs.Outlines.{all_below, first_failing, is_clear, is_convex, outline_of}
+use Rattle.stack_polygon.specs.Corners.{reversed, IsStrictlyConvex}
+use Rattle.stack_polygon.specs.Outlines.{all_below, first_failing, is_clear, is_convex}
 use Rattle.stack_polygon.specs.Admission.{IsFirstUnclear}
 use Rattle.stack_polygon.proofs.Tested.{each_below, clear_from, to_clear, convex_from, to_convex}
 use Rattle.stack_faults.specs.Outline.{IsOutlineOf, HasNoOutline, OutlineByMeaning, FewPointsAreTheirOutline}

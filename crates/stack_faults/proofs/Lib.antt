@@ -1,1 +1,9 @@
 pub mod FirstEdges
+pub mod Firsts
+pub mod Walks
+pub mod Names
+pub mod MaterialAnswers
+pub mod BlockAnswers
+pub mod LoadAnswers
+pub mod ContentAnswers
+pub mod Crooked

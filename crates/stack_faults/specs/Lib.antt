@@ -1,1 +1,4 @@
 pub mod Outline
+pub mod FaultLists
+pub mod ContentFaults
+pub mod Laws

@@ -1,10 +1,19 @@
 //! The laws of faults, each a clause of a function that does nothing.
 
 ghost use Rattle.stack_faults.specs.Outline.{OutlineByMeaning, FewPointsAreTheirOutline};
+ghost use Rattle.stack_faults.specs.Laws.{FirstContentFault, ContentWhereFaultless, CrookedByMeaning};
 
 /// A list of points gives a strictly convex one, itself or else its reversal. Or neither is strictly convex, and
 /// the edge that is told is the list's first that doesn't have every other corner strictly left of it.
 pub fn outline_by_meaning()
     ensures meaning { OutlineByMeaning }
     ensures few { FewPointsAreTheirOutline }
+{}
+
+/// Of what a file lists, the fault that is answered is the first of all faults of content, and a structure comes
+/// exactly where there is none. Corners have a fault of their own exactly where they have no outline.
+pub fn first_content_fault()
+    ensures first { FirstContentFault }
+    ensures faultless { ContentWhereFaultless }
+    ensures crooked { CrookedByMeaning }
 {}

@@ -1,0 +1,160 @@
+-- What the run over the blocks answers.
+use Rattle.std.proofs.Common.{arith, ◌≡◌, refl, sym, ap, ◌∙◌, subst, ℕ, ◌+◌, ◌<◌, Bool, true, false, not, ◌&&◌, List, [], ◌∷◌}
+use Rattle.std.proofs.Common.{◌++◌, map, length, take, Option, Some, None, Result, Ok, Err}
+use Rattle.std.specs.Prelude.{is_none, nat_lt, ◌==◌, if◌then◌else◌, ⊤, count_by}
+use Rattle.std.proofs.lemmas.Bool.{ltb-true}
+use Rattle.std.proofs.lemmas.List.{take_all}
+use Rattle.stack_algebra.specs.Steps.{◌>>=◌, steps}
+use Rattle.stack_algebra.specs.Search.{or_else, only_if}
+use Rattle.stack_whole.specs.Limits.{most_free}
+use Rattle.stack_polygon.specs.declared.point.Point.{Point}
+use Rattle.stack_polygon.specs.Corners.{reversed}
+use Rattle.stack_polygon.specs.Outlines.{is_clear, is_convex, first_failing}
+use Rattle.stack_model.specs.declared.places.Spot.{Spot}
+use Rattle.stack_model.specs.declared.places.Key.{Key}
+use Rattle.stack_model.specs.declared.places.What.TheVariants as whats
+use Rattle.stack_model.specs.declared.errors.ModelError.{ModelError}
+use Rattle.stack_model.specs.declared.errors.ModelError.TheVariants.{Range, NotConvex, TooMany}
+use Rattle.stack_model.specs.Structure.{NamedMaterial, NamedBody}
+use Rattle.stack_model.specs.Parts.{MaterialPart, BlockPart, PartLists}
+use Rattle.stack_model.specs.Limits.{most_fixed, is_name, corners_of}
+use Rattle.stack_model.specs.Convex.{at_block, convex}
+use Rattle.stack_model.specs.Content.{unless, ranged, found, is_new, number_of, has_room, material_names, body_names}
+use Rattle.stack_model.specs.Content.{with_body, add_block}
+use Rattle.stack_model.specs.Sound.{fixed_among, free_among}
+use Rattle.stack_model.proofs.Apart.{AreApart, HasRoom, no_bodies, one_more_body}
+use Rattle.stack_faults.specs.FaultLists.{earliest}
+use Rattle.stack_faults.specs.ContentFaults.{block_written, has_material, has_block, fixed_written, free_written}
+use Rattle.stack_faults.specs.ContentFaults.{is_crooked, unclear_edge, causes_of_block, faults_by}
+use Rattle.stack_faults.proofs.Firsts.{Answers, first_cause, answers_weaker}
+use Rattle.stack_faults.proofs.Names.{at_limit, one_more, count-map, seen, lacking}
+use Rattle.stack_faults.proofs.Walks.{listed}
+use Rattle.stack_faults.proofs.MaterialAnswers.{AreNamed}
+
+-- corners within their limits are crooked, or have an outline
+outline_told : (i : ℕ) (ps : List Point) (o : Option (List Point)) → o ≡ Some ps
+    → Answers (λ _. ⊤) (convex i ps) (only_if (is_crooked o) (NotConvex i (unclear_edge o)))
+outline_told i ps o same = subst (λ o. Answers (λ _. ⊤) (convex i ps)
+    (only_if (is_crooked o) (NotConvex i (unclear_edge o)))) (sym same) (go (is_convex ps) (is_convex (reversed ps)))
+  where
+    go : (s t : Bool) → Answers (λ _. ⊤) (at_block i (if s then Ok ps
+        else (if t then Ok (reversed ps) else Err (first_failing (is_clear ps) (length ps)))))
+        (only_if (not s && not t) (NotConvex i (first_failing (is_clear ps) (length ps))))
+    go true t = (refl, tt)
+    go false true = (refl, tt)
+    go false false = refl
+
+-- there is room for one more, or it is the first too many
+abbrev room_causes : Bool → ℕ → ℕ → List (Bool × ModelError)
+room_causes fixed m n = (fixed && m == most_fixed, TooMany whats.Fixed) ∷ (not fixed && n == most_free, TooMany whats.Free) ∷ []
+
+room_told : (fixed : Bool) (bs : List NamedBody) → AreApart bs
+    → Answers (λ _. HasRoom fixed bs) (has_room fixed bs) (first_cause (room_causes fixed (fixed_among bs) (free_among bs)))
+room_told true bs h = go (nat_lt (fixed_among bs) most_fixed) refl
+    (at_limit (fixed_among bs) most_fixed h.few_fixed)
+  where
+    go : (c : Bool) → nat_lt (fixed_among bs) most_fixed ≡ c → (fixed_among bs == most_fixed) ≡ not c
+        → Answers (λ _. HasRoom true bs) (unless c (TooMany whats.Fixed))
+        (first_cause (room_causes true (fixed_among bs) (free_among bs)))
+    go true e t = (ap (λ b. or_else (only_if b (TooMany whats.Fixed)) None) t, ltb-true (fixed_among bs) most_fixed e)
+    go false e t = ap (λ b. or_else (only_if b (TooMany whats.Fixed)) None) t
+room_told false bs h = go (nat_lt (free_among bs) most_free) refl
+    (at_limit (free_among bs) most_free h.few_free)
+  where
+    go : (c : Bool) → nat_lt (free_among bs) most_free ≡ c → (free_among bs == most_free) ≡ not c
+        → Answers (λ _. HasRoom false bs) (unless c (TooMany whats.Free))
+        (first_cause (room_causes false (fixed_among bs) (free_among bs)))
+    go true e t = (ap (λ b. or_else (only_if b (TooMany whats.Free)) None) t, ltb-true (free_among bs) most_free e)
+    go false e t = ap (λ b. or_else (only_if b (TooMany whats.Free)) None) t
+
+-- the steps of a block whose name and corners are within their limits; t is true where c isn't, u where none is found
+body_told : {A : Type 0} (Q : A → Type 0) (R : Type 0) (c t u z : Bool) (e g x : ModelError)
+    (rows : List (Bool × ModelError)) (at : Option ℕ) (outline : Result (List Point) ModelError)
+    (room : Result ⊤ ModelError) (to : ℕ → List Point → A)
+    → t ≡ not c → u ≡ is_none at → Answers (λ _. ⊤) outline (only_if z x) → Answers (λ _. R) room (first_cause rows)
+    → ((n : ℕ) (qs : List Point) → c ≡ true → R → Q (to n qs))
+    → Answers Q (unless c e >>= λ _. found at g >>= λ n. outline >>= λ qs. room >>= λ _. Ok (to n qs))
+    (first_cause ((t, e) ∷ (u, g) ∷ (z, x) ∷ rows))
+body_told Q R false t u z e g x rows at outline room to ht hu ho hr h =
+    ap (λ t. first_cause ((t, e) ∷ (u, g) ∷ (z, x) ∷ rows)) ht
+body_told Q R true t u z e g x rows None outline room to ht hu ho hr h =
+    λ i. first_cause ((ht i, e) ∷ (hu i, g) ∷ (z, x) ∷ rows)
+body_told Q R true t u z e g x rows (Some n) (Err y) room to ht hu ho hr h =
+    λ i. or_else (only_if (ht i) e) (or_else (only_if (hu i) g) (or_else (ho i) (first_cause rows)))
+body_told Q R true t u z e g x rows (Some n) (Ok qs) (Err y) to ht hu ho hr h =
+    λ i. or_else (only_if (ht i) e) (or_else (only_if (hu i) g) (or_else (ho.0 i) (hr i)))
+body_told Q R true t u z e g x rows (Some n) (Ok qs) (Ok y) to ht hu ho hr h =
+    (λ i. or_else (only_if (ht i) e) (or_else (only_if (hu i) g) (or_else (ho.0 i) (hr.0 i))), h n qs refl hr.1)
+
+-- and of any block
+steps_told : {A : Type 0} (Q : A → Type 0) (R : Type 0) (a c t u z : Bool) (d e g x : ModelError) (s : Spot) (k : Key)
+    (rows : List (Bool × ModelError)) (o : Option (List Point)) (at : Option ℕ)
+    (outline : List Point → Result (List Point) ModelError) (room : Result ⊤ ModelError) (to : ℕ → List Point → A)
+    → t ≡ not c → u ≡ is_none at → ((ps : List Point) → o ≡ Some ps → Answers (λ _. ⊤) (outline ps) (only_if z x))
+    → Answers (λ _. R) room (first_cause rows) → ((n : ℕ) (qs : List Point) → c ≡ true → R → Q (to n qs))
+    → Answers Q (unless a d >>= λ _. ranged s k o >>= λ ps. unless c e >>= λ _. found at g >>= λ n. outline ps
+    >>= λ qs. room >>= λ _. Ok (to n qs))
+    (first_cause ((not a, d) ∷ (is_none o, Range s k) ∷ (t, e) ∷ (u, g) ∷ (z, x) ∷ rows))
+steps_told Q R false c t u z d e g x s k rows o at outline room to ht hu ho hr h = refl
+steps_told Q R true c t u z d e g x s k rows None at outline room to ht hu ho hr h = refl
+steps_told Q R true c t u z d e g x s k rows (Some ps) at outline room to ht hu ho hr h =
+    body_told Q R c t u z e g x rows at (outline ps) room to ht hu (ho ps refl) hr h
+
+-- what was collected has the names and the flags of these blocks, and keeps apart
+pub record AreBodiesOf (written : List BlockPart) (bs : List NamedBody) : Type 0 where
+  pub names : body_names bs ≡ map (λ (b : BlockPart). b.name) written
+  pub flags : map (λ (b : NamedBody). b.fixed) bs ≡ map (λ (b : BlockPart). b.fixed) written
+  pub apart : AreApart bs
+
+counted : (p : Bool → Bool) (written : List BlockPart) (bs : List NamedBody) → AreBodiesOf written bs
+    → count_by (λ (b : NamedBody). p b.fixed) bs ≡ count_by (λ (b : BlockPart). p b.fixed) written
+counted p written bs h = count-map p (λ (b : NamedBody). b.fixed) bs ∙ ap (count_by p) h.flags
+    ∙ sym (count-map p (λ (b : BlockPart). b.fixed) written)
+
+room_written : (fixed : Bool) (written : List BlockPart) (bs : List NamedBody) → AreBodiesOf written bs
+    → Answers (λ _. HasRoom fixed bs) (has_room fixed bs)
+    (first_cause (room_causes fixed (fixed_written written) (free_written written)))
+room_written fixed written bs h = subst (Answers (λ _. HasRoom fixed bs) (has_room fixed bs))
+    (λ i. first_cause (room_causes fixed (counted (λ b. b) written bs h i) (counted not written bs h i)))
+    (room_told fixed bs h.apart)
+
+one_told : (parts : PartLists) (ms : List NamedMaterial) → AreNamed parts ms → (i : ℕ) (bs : List NamedBody)
+    → i < length parts.blocks → AreBodiesOf (take i parts.blocks) bs
+    → Answers (AreBodiesOf (take (i + 1) parts.blocks)) (add_block ms i bs (block_written parts i))
+    (first_cause (causes_of_block parts i))
+unfolding add_block with_body
+one_told parts ms named i bs l h =
+    let b = block_written parts i in
+    let made = λ (n : ℕ) (qs : List Point). let r : NamedBody = record {
+      name = b.name;
+      material = n;
+      fixed = b.fixed;
+      corners = qs;
+    } in r in
+    steps_told (AreBodiesOf (take (i + 1) parts.blocks)) (HasRoom b.fixed bs) (is_name b.name)
+    (is_new b.name (body_names bs)) (has_block b.name (take i parts.blocks))
+    (not (has_material b.material parts.materials)) (is_crooked (corners_of b.corners)) _ _ _
+    (NotConvex i (unclear_edge (corners_of b.corners))) _ _
+    (room_causes b.fixed (fixed_written (take i parts.blocks)) (free_written (take i parts.blocks)))
+    (corners_of b.corners) (number_of b.material (material_names ms)) (convex i) (has_room b.fixed bs)
+    (λ n qs. bs ++ made n qs ∷ [])
+    (seen (λ (b : BlockPart). b.name) b.name (take i parts.blocks) (body_names bs) h.names)
+    (lacking (λ (m : MaterialPart). m.name) b.material parts.materials (material_names ms) named)
+    (λ ps e. outline_told i ps (corners_of b.corners) e)
+    (room_written b.fixed (take i parts.blocks) bs h)
+    (λ n qs new room. record {
+      names = one_more (λ (b : NamedBody). b.name) (λ (b : BlockPart). b.name) bs (made n qs) parts.blocks i _ l
+          refl h.names;
+      flags = one_more (λ (b : NamedBody). b.fixed) (λ (b : BlockPart). b.fixed) bs (made n qs) parts.blocks i _ l
+          refl h.flags;
+      apart = one_more_body bs (made n qs) new room h.apart;
+    })
+
+pub blocks_told : (parts : PartLists) (ms : List NamedMaterial) → AreNamed parts ms
+    → Answers (AreBodiesOf parts.blocks) (steps (add_block ms) 0 [] parts.blocks)
+    (earliest (faults_by (length parts.blocks) (causes_of_block parts)))
+blocks_told parts ms named =
+    answers_weaker (AreBodiesOf (take (length parts.blocks) parts.blocks)) (AreBodiesOf parts.blocks) _ _
+    (λ bs h. subst (λ written. AreBodiesOf written bs) (take_all (length parts.blocks) parts.blocks (omega arith)) h)
+    (listed (add_block ms) parts.blocks _ (λ i. AreBodiesOf (take i parts.blocks)) (causes_of_block parts)
+    (one_told parts ms named) [] (record { names = refl; flags = refl; apart = no_bodies }))

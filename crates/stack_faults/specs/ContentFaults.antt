@@ -1,0 +1,131 @@
+-- All faults of the content of what a file lists, each by a property of the lists as they are written. Nothing here
+-- follows a run: whether one fault is listed depends on no other. The order is that of the materials, the blocks and
+-- the loads: of each the number first, and then one item after the other in the order of the file.
+use Rattle.std.specs.Prelude.{ℕ, pos, Bool, false, not, ◌&&◌, ◌==◌, nat_lt, List, [], ◌∷◌, ◌++◌, length, get_or}
+use Rattle.std.specs.Prelude.{take, find, count_by, Option, Some, None, is_none}
+use Rattle.std.specs.Str.{bytes_eq}
+use Rattle.std.specs.List.{list_any}
+use Rattle.stack_whole.specs.Limits.{most_free}
+use Rattle.stack_polygon.specs.declared.point.Point.{Point}
+use Rattle.stack_polygon.specs.Corners.{reversed}
+use Rattle.stack_polygon.specs.Outlines.{is_clear, is_convex, first_failing}
+use Rattle.stack_model.specs.declared.places.Spot.TheVariants as spots
+use Rattle.stack_model.specs.declared.places.Key.TheVariants as keys
+use Rattle.stack_model.specs.declared.places.What.{What}
+use Rattle.stack_model.specs.declared.places.What.TheVariants as whats
+use Rattle.stack_model.specs.declared.errors.ModelError.{ModelError}
+use Rattle.stack_model.specs.declared.errors.ModelError.TheVariants.{Range, SameName, NoMaterial, NoBlock}
+use Rattle.stack_model.specs.declared.errors.ModelError.TheVariants.{NotConvex, LoadOnFixed, TooMany}
+use Rattle.stack_model.specs.Parts.{MaterialPart, BlockPart, LoadPart, PartLists}
+use Rattle.stack_model.specs.Limits.{most_materials, most_blocks, most_fixed, most_loads}
+use Rattle.stack_model.specs.Limits.{is_name, is_between, friction_of, point_of, corners_of, live_of, force_of}
+use Rattle.stack_faults.specs.FaultLists.{faults_where, faults_below}
+
+-- the items by number, as they are written; past the end stands an item that means nothing
+abbrev pub material_written : PartLists → ℕ → MaterialPart
+material_written parts i = get_or parts.materials i (record { name = []; weight = pos 0; friction = [] })
+
+abbrev pub block_written : PartLists → ℕ → BlockPart
+block_written parts i = get_or parts.blocks i (record { name = []; material = []; fixed = false; corners = [] })
+
+abbrev pub load_written : PartLists → ℕ → LoadPart
+load_written parts i = get_or parts.loads i (record { block = []; kind = []; at = []; force = [] })
+
+-- one of these materials has the name
+abbrev pub has_material : List ℕ → List MaterialPart → Bool
+has_material name ms = list_any (λ (m : MaterialPart). bytes_eq name m.name) ms
+
+-- one of these blocks has the name
+abbrev pub has_block : List ℕ → List BlockPart → Bool
+has_block name bs = list_any (λ (b : BlockPart). bytes_eq name b.name) bs
+
+-- the block, if there is one, is fixed
+abbrev pub is_fixed_block : Option BlockPart → Bool
+is_fixed_block None = false
+is_fixed_block (Some b) = b.fixed
+
+-- the first of these blocks that has the name is fixed; not so where none has it
+abbrev pub names_fixed : List ℕ → List BlockPart → Bool
+names_fixed name bs = is_fixed_block (find (λ (b : BlockPart). bytes_eq name b.name) bs)
+
+-- how many of these blocks are fixed, and how many are free
+abbrev pub fixed_written : List BlockPart → ℕ
+fixed_written bs = count_by (λ (b : BlockPart). b.fixed) bs
+
+abbrev pub free_written : List BlockPart → ℕ
+free_written bs = count_by (λ (b : BlockPart). not b.fixed) bs
+
+-- of corners within their limits: neither they nor their reversal are strictly convex. Corners that aren't within
+-- their limits are no points, and have the fault of a range instead
+abbrev pub is_crooked : Option (List Point) → Bool
+is_crooked None = false
+is_crooked (Some ps) = not (is_convex ps) && not (is_convex (reversed ps))
+
+-- the first edge of such corners, as they are written, that doesn't have every other corner strictly left of it
+abbrev pub unclear_edge : Option (List Point) → ℕ
+unclear_edge None = 0
+unclear_edge (Some ps) = first_failing (is_clear ps) (length ps)
+
+-- material i: its name, its weight and its friction are outside their limits; an earlier material has its name
+abbrev pub causes_of_material : PartLists → ℕ → List (Bool × ModelError)
+causes_of_material parts i =
+    let m = material_written parts i in
+    (not (is_name m.name), Range (spots.Material i) keys.Name)
+    ∷ (not (is_between (pos 0) (pos 1000000) m.weight), Range (spots.Material i) keys.Weight)
+    ∷ (is_none (friction_of m.friction), Range (spots.Material i) keys.Friction)
+    ∷ (has_material m.name (take i parts.materials), SameName (spots.Material i))
+    ∷ []
+
+-- block i: its name and its corners are outside their limits; an earlier block has its name; no material has the name
+-- that it gives; its corners are crooked; it is the 65th fixed one; it is the 129th free one
+abbrev pub causes_of_block : PartLists → ℕ → List (Bool × ModelError)
+causes_of_block parts i =
+    let b = block_written parts i in
+    (not (is_name b.name), Range (spots.Block i) keys.Name)
+    ∷ (is_none (corners_of b.corners), Range (spots.Block i) keys.Corners)
+    ∷ (has_block b.name (take i parts.blocks), SameName (spots.Block i))
+    ∷ (not (has_material b.material parts.materials), NoMaterial i)
+    ∷ (is_crooked (corners_of b.corners), NotConvex i (unclear_edge (corners_of b.corners)))
+    ∷ (b.fixed && fixed_written (take i parts.blocks) == most_fixed, TooMany whats.Fixed)
+    ∷ (not b.fixed && free_written (take i parts.blocks) == most_free, TooMany whats.Free)
+    ∷ []
+
+-- load i: its kind, its point and its force are outside their limits; no block has the name that it gives; the block
+-- that has it is fixed
+abbrev pub causes_of_load : PartLists → ℕ → List (Bool × ModelError)
+causes_of_load parts i =
+    let l = load_written parts i in
+    (is_none (live_of l.kind), Range (spots.Load i) keys.Kind)
+    ∷ (is_none (point_of l.at), Range (spots.Load i) keys.At)
+    ∷ (is_none (force_of l.force), Range (spots.Load i) keys.Force)
+    ∷ (not (has_block l.block parts.blocks), NoBlock i)
+    ∷ (names_fixed l.block parts.blocks, LoadOnFixed i)
+    ∷ []
+
+-- there are more of one kind than the limit
+abbrev pub number_faults : ℕ → ℕ → What → List ModelError
+number_faults limit count what = faults_where ((nat_lt limit count, TooMany what) ∷ [])
+
+-- the faults of so many items by their causes, one item after the other
+abbrev pub faults_by : ℕ → (ℕ → List (Bool × ModelError)) → List ModelError
+faults_by count causes = faults_below count (λ i. faults_where (causes i))
+
+-- the faults of the materials, of the blocks and of the loads
+abbrev pub material_faults : PartLists → List ModelError
+material_faults parts =
+    number_faults most_materials (length parts.materials) whats.Materials
+    ++ faults_by (length parts.materials) (causes_of_material parts)
+
+abbrev pub block_faults : PartLists → List ModelError
+block_faults parts =
+    number_faults most_blocks (length parts.blocks) whats.Blocks
+    ++ faults_by (length parts.blocks) (causes_of_block parts)
+
+abbrev pub load_faults : PartLists → List ModelError
+load_faults parts =
+    number_faults most_loads (length parts.loads) whats.Loads
+    ++ faults_by (length parts.loads) (causes_of_load parts)
+
+-- all faults of content
+abbrev pub content_faults : PartLists → List ModelError
+content_faults parts = material_faults parts ++ block_faults parts ++ load_faults parts
