@@ -7,3 +7,6 @@ pub mod BlockAnswers
 pub mod LoadAnswers
 pub mod ContentAnswers
 pub mod Crooked
+pub mod ShapeAnswers
+pub mod TableAnswers
+pub mod FileAnswers

@@ -1,7 +1,8 @@
 //! The laws of faults, each a clause of a function that does nothing.
 
 ghost use Rattle.stack_faults.specs.Outline.{OutlineByMeaning, FewPointsAreTheirOutline};
-ghost use Rattle.stack_faults.specs.Laws.{FirstContentFault, ContentWhereFaultless, CrookedByMeaning};
+ghost use Rattle.stack_faults.specs.Laws.{FirstContentFault, ContentWhereFaultless, CrookedByMeaning, FirstShapeFault, ShapeWhereFaultless, FirstTableFault, StructureWhereFaultless, FirstFileFault, FileWhereFaultless};
+ghost use Rattle.stack_faults.specs.WorkedFaults.{WorkedFaults};
 
 /// A list of points gives a strictly convex one, itself or else its reversal. Or neither is strictly convex, and
 /// the edge that is told is the list's first that doesn't have every other corner strictly left of it.
@@ -16,4 +17,24 @@ pub fn first_content_fault()
     ensures first { FirstContentFault }
     ensures faultless { ContentWhereFaultless }
     ensures crooked { CrookedByMeaning }
+{}
+
+/// Of a document's table, the fault that is answered is the first of all faults of shape and, where there is none,
+/// of content; and a structure comes exactly where there is none.
+pub fn first_table_fault()
+    ensures shape { FirstShapeFault }
+    ensures shape_faultless { ShapeWhereFaultless }
+    ensures first { FirstTableFault }
+    ensures faultless { StructureWhereFaultless }
+{}
+
+/// The same of a file's bytes, whose one fault is that they are no document, where they are none.
+pub fn first_file_fault()
+    ensures first { FirstFileFault }
+    ensures faultless { FileWhereFaultless }
+{}
+
+/// Small files with several faults at once, and all their faults in order.
+pub fn worked_faults()
+    ensures { WorkedFaults }
 {}

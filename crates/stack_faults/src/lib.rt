@@ -3,4 +3,4 @@
 
 mod laws;
 
-pub use laws::{first_content_fault, outline_by_meaning};
+pub use laws::{first_content_fault, first_file_fault, first_table_fault, outline_by_meaning, worked_faults};

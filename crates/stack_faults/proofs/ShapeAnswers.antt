@@ -1,0 +1,135 @@
+-- What the tables of items answer.
+use Rattle.std.proofs.Common.{◌≡◌, refl, sym, ap, ◌∙◌, ℕ, zero, suc, ◌+◌, ℤ, Bool, true, false, not, List, [], ◌∷◌, length}
+use Rattle.std.proofs.Common.{get_or, Option, Some, None, Result, Ok, Err, arith}
+use Rattle.std.specs.Prelude.{is_none, if◌then◌else◌, ⊤}
+use Rattle.toml.specs.Data.{Data, table, Items, no_items, item, Members, no_members, get_member, as_str, as_integer}
+use Rattle.toml.specs.Data.{as_bool}
+use Rattle.stack_algebra.specs.Steps.{◌>>=◌}
+use Rattle.stack_algebra.specs.Search.{or_else, first}
+use Rattle.stack_algebra.proofs.Search.{first_same}
+use Rattle.stack_model.specs.declared.places.Spot.{Spot}
+use Rattle.stack_model.specs.declared.places.Spot.TheVariants as spots
+use Rattle.stack_model.specs.declared.places.Key.{Key}
+use Rattle.stack_model.specs.declared.places.Key.TheVariants as keys
+use Rattle.stack_model.specs.Parts.{MaterialPart, BlockPart, LoadPart}
+use Rattle.stack_reader.specs.declared.errors.ReadError.{ReadError}
+use Rattle.stack_reader.specs.declared.errors.ReadError.TheVariants.{UnknownKey, Missing, Kind}
+use Rattle.stack_reader.specs.Keys.{word_of, material_keys, block_keys, load_keys}
+use Rattle.stack_reader.specs.Forms.{wholes_of, lists_of, has_only, known_only, required, in_form, field, truth_at}
+use Rattle.stack_reader.specs.Shape.{material_part, block_part, load_part}
+use Rattle.stack_faults.specs.FaultLists.{faults_where, earliest, answered_fault}
+use Rattle.stack_faults.specs.TableFaults.{is_of_another_form, unknown_key_faults, key_faults, optional_key_faults}
+use Rattle.stack_faults.specs.TableFaults.{material_table_faults, block_table_faults, load_table_faults}
+use Rattle.stack_faults.proofs.Firsts.{earliest_four, earliest_five}
+
+tested_told : {A E : Type 0} (b : Bool) (x : A) (e : E) → answered_fault (if b then Ok x else Err e)
+    ≡ earliest (faults_where ((not b, e) ∷ []))
+tested_told true x e = refl
+tested_told false x e = refl
+
+pub known_told : (spot : Spot) (known : List Key) (ms : Members)
+    → answered_fault (known_only spot known ms) ≡ earliest (unknown_key_faults spot known ms)
+known_told spot known ms = tested_told (has_only known ms) tt (UnknownKey spot)
+
+-- a value in a form
+pub form_told : {A : Type 0} (spot : Spot) (key : Key) (o : Option A)
+    → answered_fault (in_form spot key o) ≡ earliest (faults_where ((is_none o, Kind spot key) ∷ []))
+form_told spot key None = refl
+form_told spot key (Some x) = refl
+
+key_told : {A : Type 0} (form : Data → Option A) (spot : Spot) (key : Key) (ms : Members)
+    → answered_fault (field form spot key ms) ≡ earliest (key_faults form spot key ms)
+unfolding field
+key_told form spot key ms = go (get_member (word_of key) ms)
+  where
+    go : (o : Option Data) → answered_fault (required spot key o >>= λ d. in_form spot key (form d))
+        ≡ earliest (faults_where ((is_none o, Missing spot key) ∷ (is_of_another_form form o, Kind spot key) ∷ []))
+    go None = refl
+    go (Some d) = form_told spot key (form d)
+
+truth_told : (spot : Spot) (key : Key) (o : Option Data) → answered_fault (truth_at spot key o)
+    ≡ earliest (faults_where ((is_of_another_form as_bool o, Kind spot key) ∷ []))
+truth_told spot key None = refl
+truth_told spot key (Some d) = form_told spot key (as_bool d)
+
+-- steps of which none takes what another gives
+pub three_told : {A B C S E : Type 0} (r : Result A E) (s : Result B E) (t : Result C E) (to : A → B → C → S)
+    → answered_fault (r >>= λ a. s >>= λ b. t >>= λ c. Ok (to a b c))
+    ≡ or_else (or_else (answered_fault r) (answered_fault s)) (answered_fault t)
+three_told (Err e) s t to = refl
+three_told (Ok a) (Err e) t to = refl
+three_told (Ok a) (Ok b) (Err e) to = refl
+three_told (Ok a) (Ok b) (Ok c) to = refl
+
+four_told : {T A B C S E : Type 0} (q : Result T E) (r : Result A E) (s : Result B E) (t : Result C E)
+    (to : A → B → C → S) → answered_fault (q >>= λ _. r >>= λ a. s >>= λ b. t >>= λ c. Ok (to a b c))
+    ≡ or_else (or_else (or_else (answered_fault q) (answered_fault r)) (answered_fault s)) (answered_fault t)
+four_told (Err e) r s t to = refl
+four_told (Ok x) r s t to = three_told r s t to
+
+five_told : {T A B C D S E : Type 0} (q : Result T E) (r : Result A E) (s : Result B E) (t : Result C E)
+    (u : Result D E) (to : A → B → C → D → S)
+    → answered_fault (q >>= λ _. r >>= λ a. s >>= λ b. t >>= λ c. u >>= λ d. Ok (to a b c d))
+    ≡ or_else (or_else (or_else (or_else (answered_fault q) (answered_fault r)) (answered_fault s))
+    (answered_fault t)) (answered_fault u)
+five_told (Err e) r s t u to = refl
+five_told (Ok x) (Err e) s t u to = refl
+five_told (Ok x) (Ok a) (Err e) t u to = refl
+five_told (Ok x) (Ok a) (Ok b) (Err e) u to = refl
+five_told (Ok x) (Ok a) (Ok b) (Ok c) (Err e) to = refl
+five_told (Ok x) (Ok a) (Ok b) (Ok c) (Ok d) to = refl
+
+pub material_told : (i : ℕ) (ms : Members) → answered_fault (material_part i ms) ≡ earliest (material_table_faults i ms)
+unfolding material_part
+material_told i ms =
+    let spot = spots.Material i in
+    let made : List ℕ → ℤ → List ℤ → MaterialPart = λ name weight friction. record {
+      name = name;
+      weight = weight;
+      friction = friction;
+    } in
+    four_told (known_only spot material_keys ms) (field as_str spot keys.Name ms) (field as_integer spot keys.Weight ms)
+    (field wholes_of spot keys.Friction ms) made
+    ∙ (λ z. or_else (or_else (or_else (known_told spot material_keys ms z) (key_told as_str spot keys.Name ms z))
+    (key_told as_integer spot keys.Weight ms z)) (key_told wholes_of spot keys.Friction ms z))
+    ∙ sym (earliest_four (unknown_key_faults spot material_keys ms) (key_faults as_str spot keys.Name ms)
+    (key_faults as_integer spot keys.Weight ms) (key_faults wholes_of spot keys.Friction ms))
+
+pub block_told : (i : ℕ) (ms : Members) → answered_fault (block_part i ms) ≡ earliest (block_table_faults i ms)
+unfolding block_part
+block_told i ms =
+    let spot = spots.Block i in
+    let fixed = get_member (word_of keys.Fixed) ms in
+    let made : List ℕ → List ℕ → Bool → List (List ℤ) → BlockPart = λ name material fixed corners. record {
+      name = name;
+      material = material;
+      fixed = fixed;
+      corners = corners;
+    } in
+    five_told (known_only spot block_keys ms) (field as_str spot keys.Name ms) (field as_str spot keys.Material ms)
+    (truth_at spot keys.Fixed fixed) (field lists_of spot keys.Corners ms) made
+    ∙ (λ z. or_else (or_else (or_else (or_else (known_told spot block_keys ms z) (key_told as_str spot keys.Name ms z))
+    (key_told as_str spot keys.Material ms z)) (truth_told spot keys.Fixed fixed z))
+    (key_told lists_of spot keys.Corners ms z))
+    ∙ sym (earliest_five (unknown_key_faults spot block_keys ms) (key_faults as_str spot keys.Name ms)
+    (key_faults as_str spot keys.Material ms) (optional_key_faults as_bool spot keys.Fixed ms)
+    (key_faults lists_of spot keys.Corners ms))
+
+pub load_told : (i : ℕ) (ms : Members) → answered_fault (load_part i ms) ≡ earliest (load_table_faults i ms)
+unfolding load_part
+load_told i ms =
+    let spot = spots.Load i in
+    let made : List ℕ → List ℕ → List ℤ → List ℤ → LoadPart = λ block kind at force. record {
+      block = block;
+      kind = kind;
+      at = at;
+      force = force;
+    } in
+    five_told (known_only spot load_keys ms) (field as_str spot keys.Block ms) (field as_str spot keys.Kind ms)
+    (field wholes_of spot keys.At ms) (field wholes_of spot keys.Force ms) made
+    ∙ (λ z. or_else (or_else (or_else (or_else (known_told spot load_keys ms z) (key_told as_str spot keys.Block ms z))
+    (key_told as_str spot keys.Kind ms z)) (key_told wholes_of spot keys.At ms z))
+    (key_told wholes_of spot keys.Force ms z))
+    ∙ sym (earliest_five (unknown_key_faults spot load_keys ms) (key_faults as_str spot keys.Block ms)
+    (key_faults as_str spot keys.Kind ms) (key_faults wholes_of spot keys.At ms)
+    (key_faults wholes_of spot keys.Force ms))
