@@ -1,5 +1,6 @@
 -- What the run over the blocks answers.
-use Rattle.std.proofs.Common.{arith, ◌≡◌, refl, sym, ap, ◌∙◌, subst, ℕ, ◌+◌, ◌<◌, Bool, true, false, not, ◌&&◌, List, [], ◌∷◌}
+use Rattle.std.proofs.Common.{arith, ◌≡◌, refl, sym, ap, ◌∙◌, subst, ℕ, ◌+◌, ◌<◌, Bool, true, false, not}
+use Rattle.std.proofs.Common.{◌&&◌, List, [], ◌∷◌}
 use Rattle.std.proofs.Common.{◌++◌, map, length, take, Option, Some, None, Result, Ok, Err}
 use Rattle.std.specs.Prelude.{is_none, nat_lt, ◌==◌, if◌then◌else◌, ⊤, count_by}
 use Rattle.std.proofs.lemmas.Bool.{ltb-true}
@@ -19,12 +20,14 @@ use Rattle.stack_model.specs.Structure.{NamedMaterial, NamedBody}
 use Rattle.stack_model.specs.Parts.{MaterialPart, BlockPart, PartLists}
 use Rattle.stack_model.specs.Limits.{most_fixed, is_name, corners_of}
 use Rattle.stack_model.specs.Convex.{at_block, convex}
-use Rattle.stack_model.specs.Content.{unless, ranged, found, is_new, number_of, has_room, material_names, body_names}
+use Rattle.stack_model.specs.Content.{unless, ranged, found, is_new, number_of, has_room, material_names}
+use Rattle.stack_model.specs.Content.{body_names}
 use Rattle.stack_model.specs.Content.{with_body, add_block}
 use Rattle.stack_model.specs.Sound.{fixed_among, free_among}
 use Rattle.stack_model.proofs.Apart.{AreApart, HasRoom, no_bodies, one_more_body}
 use Rattle.stack_faults.specs.FaultLists.{earliest}
-use Rattle.stack_faults.specs.ContentFaults.{block_written, has_material, has_block, fixed_written, free_written}
+use Rattle.stack_faults.specs.ContentFaults.{block_written, lists_material, lists_block, fixed_written}
+use Rattle.stack_faults.specs.ContentFaults.{free_written}
 use Rattle.stack_faults.specs.ContentFaults.{is_crooked, unclear_edge, causes_of_block, faults_by}
 use Rattle.stack_faults.proofs.Firsts.{Answers, first_cause, answers_weaker}
 use Rattle.stack_faults.proofs.Names.{at_limit, one_more, count-map, seen, lacking}
@@ -35,7 +38,8 @@ use Rattle.stack_faults.proofs.MaterialAnswers.{AreNamed}
 outline_told : (i : ℕ) (ps : List Point) (o : Option (List Point)) → o ≡ Some ps
     → Answers (λ _. ⊤) (convex i ps) (only_if (is_crooked o) (NotConvex i (unclear_edge o)))
 outline_told i ps o same = subst (λ o. Answers (λ _. ⊤) (convex i ps)
-    (only_if (is_crooked o) (NotConvex i (unclear_edge o)))) (sym same) (go (is_convex ps) (is_convex (reversed ps)))
+    (only_if (is_crooked o) (NotConvex i (unclear_edge o)))) (sym same)
+    (go (is_convex ps) (is_convex (reversed ps)))
   where
     go : (s t : Bool) → Answers (λ _. ⊤) (at_block i (if s then Ok ps
         else (if t then Ok (reversed ps) else Err (first_failing (is_clear ps) (length ps)))))
@@ -46,17 +50,22 @@ outline_told i ps o same = subst (λ o. Answers (λ _. ⊤) (convex i ps)
 
 -- there is room for one more, or it is the first too many
 abbrev room_causes : Bool → ℕ → ℕ → List (Bool × ModelError)
-room_causes fixed m n = (fixed && m == most_fixed, TooMany whats.Fixed) ∷ (not fixed && n == most_free, TooMany whats.Free) ∷ []
+room_causes fixed m n = (fixed && m == most_fixed, TooMany whats.Fixed)
+    ∷ (not fixed && n == most_free, TooMany whats.Free) ∷ []
 
 room_told : (fixed : Bool) (bs : List NamedBody) → AreApart bs
-    → Answers (λ _. HasRoom fixed bs) (has_room fixed bs) (first_cause (room_causes fixed (fixed_among bs) (free_among bs)))
+    → Answers (λ _. HasRoom fixed bs) (has_room fixed bs)
+    (first_cause (room_causes fixed (fixed_among bs) (free_among bs)))
 room_told true bs h = go (nat_lt (fixed_among bs) most_fixed) refl
     (at_limit (fixed_among bs) most_fixed h.few_fixed)
   where
     go : (c : Bool) → nat_lt (fixed_among bs) most_fixed ≡ c → (fixed_among bs == most_fixed) ≡ not c
         → Answers (λ _. HasRoom true bs) (unless c (TooMany whats.Fixed))
         (first_cause (room_causes true (fixed_among bs) (free_among bs)))
-    go true e t = (ap (λ b. or_else (only_if b (TooMany whats.Fixed)) None) t, ltb-true (fixed_among bs) most_fixed e)
+    go true e t = (
+      ap (λ b. or_else (only_if b (TooMany whats.Fixed)) None) t,
+      ltb-true (fixed_among bs) most_fixed e,
+    )
     go false e t = ap (λ b. or_else (only_if b (TooMany whats.Fixed)) None) t
 room_told false bs h = go (nat_lt (free_among bs) most_free) refl
     (at_limit (free_among bs) most_free h.few_free)
@@ -64,14 +73,19 @@ room_told false bs h = go (nat_lt (free_among bs) most_free) refl
     go : (c : Bool) → nat_lt (free_among bs) most_free ≡ c → (free_among bs == most_free) ≡ not c
         → Answers (λ _. HasRoom false bs) (unless c (TooMany whats.Free))
         (first_cause (room_causes false (fixed_among bs) (free_among bs)))
-    go true e t = (ap (λ b. or_else (only_if b (TooMany whats.Free)) None) t, ltb-true (free_among bs) most_free e)
+    go true e t = (
+      ap (λ b. or_else (only_if b (TooMany whats.Free)) None) t,
+      ltb-true (free_among bs) most_free e,
+    )
     go false e t = ap (λ b. or_else (only_if b (TooMany whats.Free)) None) t
 
--- the steps of a block whose name and corners are within their limits; t is true where c isn't, u where none is found
+-- the steps of a block whose name and corners are within their limits; t is true where c isn't, u where none is
+-- found
 body_told : {A : Type 0} (Q : A → Type 0) (R : Type 0) (c t u z : Bool) (e g x : ModelError)
     (rows : List (Bool × ModelError)) (at : Option ℕ) (outline : Result (List Point) ModelError)
     (room : Result ⊤ ModelError) (to : ℕ → List Point → A)
-    → t ≡ not c → u ≡ is_none at → Answers (λ _. ⊤) outline (only_if z x) → Answers (λ _. R) room (first_cause rows)
+    → t ≡ not c → u ≡ is_none at → Answers (λ _. ⊤) outline (only_if z x)
+    → Answers (λ _. R) room (first_cause rows)
     → ((n : ℕ) (qs : List Point) → c ≡ true → R → Q (to n qs))
     → Answers Q (unless c e >>= λ _. found at g >>= λ n. outline >>= λ qs. room >>= λ _. Ok (to n qs))
     (first_cause ((t, e) ∷ (u, g) ∷ (z, x) ∷ rows))
@@ -87,10 +101,11 @@ body_told Q R true t u z e g x rows (Some n) (Ok qs) (Ok y) to ht hu ho hr h =
     (λ i. or_else (only_if (ht i) e) (or_else (only_if (hu i) g) (or_else (ho.0 i) (hr.0 i))), h n qs refl hr.1)
 
 -- and of any block
-steps_told : {A : Type 0} (Q : A → Type 0) (R : Type 0) (a c t u z : Bool) (d e g x : ModelError) (s : Spot) (k : Key)
-    (rows : List (Bool × ModelError)) (o : Option (List Point)) (at : Option ℕ)
-    (outline : List Point → Result (List Point) ModelError) (room : Result ⊤ ModelError) (to : ℕ → List Point → A)
-    → t ≡ not c → u ≡ is_none at → ((ps : List Point) → o ≡ Some ps → Answers (λ _. ⊤) (outline ps) (only_if z x))
+steps_told : {A : Type 0} (Q : A → Type 0) (R : Type 0) (a c t u z : Bool) (d e g x : ModelError) (s : Spot)
+    (k : Key) (rows : List (Bool × ModelError)) (o : Option (List Point)) (at : Option ℕ)
+    (outline : List Point → Result (List Point) ModelError) (room : Result ⊤ ModelError)
+    (to : ℕ → List Point → A) → t ≡ not c → u ≡ is_none at
+    → ((ps : List Point) → o ≡ Some ps → Answers (λ _. ⊤) (outline ps) (only_if z x))
     → Answers (λ _. R) room (first_cause rows) → ((n : ℕ) (qs : List Point) → c ≡ true → R → Q (to n qs))
     → Answers Q (unless a d >>= λ _. ranged s k o >>= λ ps. unless c e >>= λ _. found at g >>= λ n. outline ps
     >>= λ qs. room >>= λ _. Ok (to n qs))
@@ -132,8 +147,8 @@ one_told parts ms named i bs l h =
       corners = qs;
     } in r in
     steps_told (AreBodiesOf (take (i + 1) parts.blocks)) (HasRoom b.fixed bs) (is_name b.name)
-    (is_new b.name (body_names bs)) (has_block b.name (take i parts.blocks))
-    (not (has_material b.material parts.materials)) (is_crooked (corners_of b.corners)) _ _ _
+    (is_new b.name (body_names bs)) (lists_block b.name (take i parts.blocks))
+    (not (lists_material b.material parts.materials)) (is_crooked (corners_of b.corners)) _ _ _
     (NotConvex i (unclear_edge (corners_of b.corners))) _ _
     (room_causes b.fixed (fixed_written (take i parts.blocks)) (free_written (take i parts.blocks)))
     (corners_of b.corners) (number_of b.material (material_names ms)) (convex i) (has_room b.fixed bs)
@@ -155,6 +170,7 @@ pub blocks_told : (parts : PartLists) (ms : List NamedMaterial) → AreNamed par
     (earliest (faults_by (length parts.blocks) (causes_of_block parts)))
 blocks_told parts ms named =
     answers_weaker (AreBodiesOf (take (length parts.blocks) parts.blocks)) (AreBodiesOf parts.blocks) _ _
-    (λ bs h. subst (λ written. AreBodiesOf written bs) (take_all (length parts.blocks) parts.blocks (omega arith)) h)
+    (λ bs h. subst (λ written. AreBodiesOf written bs)
+    (take_all (length parts.blocks) parts.blocks (omega arith)) h)
     (listed (add_block ms) parts.blocks _ (λ i. AreBodiesOf (take i parts.blocks)) (causes_of_block parts)
     (one_told parts ms named) [] (record { names = refl; flags = refl; apart = no_bodies }))

@@ -1,5 +1,6 @@
 -- What content as a whole answers.
-use Rattle.std.proofs.Common.{◌≡◌, sym, ap, ◌∙◌, subst, ℕ, Bool, true, false, not, List, [], ◌∷◌, length, Option}
+use Rattle.std.proofs.Common.{◌≡◌, sym, ap, ◌∙◌, subst, ℕ, Bool, true, false, not, List, [], ◌∷◌, length}
+use Rattle.std.proofs.Common.{Option}
 use Rattle.std.proofs.Common.{Result, Ok, Err}
 use Rattle.std.specs.Prelude.{nat_le, nat_lt, ⊤}
 use Rattle.stack_algebra.specs.Steps.{◌>>=◌, steps}
@@ -10,10 +11,12 @@ use Rattle.stack_model.specs.declared.errors.ModelError.TheVariants.{TooMany}
 use Rattle.stack_model.specs.Structure.{NamedMaterial, NamedBody, Structure}
 use Rattle.stack_model.specs.Parts.{PartLists}
 use Rattle.stack_model.specs.Limits.{most_materials, most_blocks, most_loads}
-use Rattle.stack_model.specs.Content.{unless, at_most, add_material, add_block, add_load, bodies_of, content_of}
+use Rattle.stack_model.specs.Content.{unless, at_most, add_material, add_block, add_load, bodies_of}
+use Rattle.stack_model.specs.Content.{content_of}
 use Rattle.stack_faults.specs.FaultLists.{faults_where, earliest, answered_fault}
 use Rattle.stack_faults.specs.ContentFaults.{number_faults, faults_by, causes_of_material, causes_of_block}
-use Rattle.stack_faults.specs.ContentFaults.{causes_of_load, material_faults, block_faults, load_faults, content_faults}
+use Rattle.stack_faults.specs.ContentFaults.{causes_of_load, material_faults, block_faults, load_faults}
+use Rattle.stack_faults.specs.ContentFaults.{content_faults}
 use Rattle.stack_faults.proofs.Firsts.{Answers, answers_fault, earliest-append, earliest_three}
 use Rattle.stack_faults.proofs.Names.{over_limit}
 use Rattle.stack_faults.proofs.MaterialAnswers.{AreNamed, materials_told}
@@ -103,4 +106,5 @@ content_told parts = subst (Answers (λ _. ⊤) (content_of parts)) (sym (listed
     (λ x h. loads_told parts x.1 h))
 
 pub content_first : (parts : PartLists) → answered_fault (content_of parts) ≡ earliest (content_faults parts)
-content_first parts = answers_fault (λ _. ⊤) (content_of parts) (earliest (content_faults parts)) (content_told parts)
+content_first parts = answers_fault (λ _. ⊤) (content_of parts) (earliest (content_faults parts))
+    (content_told parts)

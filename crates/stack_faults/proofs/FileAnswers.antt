@@ -1,5 +1,6 @@
 -- What a table answers as a whole, and a file's bytes.
-use Rattle.std.proofs.Common.{◌≡◌, refl, sym, ap, ◌∙◌, ℕ, zero, suc, Bool, true, false, List, [], ◌∷◌, ◌++◌, map, length}
+use Rattle.std.proofs.Common.{◌≡◌, refl, sym, ap, ◌∙◌, ℕ, zero, suc, Bool, true, false, List, [], ◌∷◌}
+use Rattle.std.proofs.Common.{◌++◌, map, length}
 use Rattle.std.proofs.Common.{Option, Some, None, Result, Ok, Err, option_map}
 use Rattle.std.specs.Prelude.{if◌then◌else◌, nat_lt}
 use Rattle.std.specs.Str.{is_utf8}
@@ -21,9 +22,12 @@ use Rattle.stack_reader.specs.declared.errors.ReadError.TheVariants.{NotToml, Mo
 use Rattle.stack_reader.specs.Shape.{shape_of}
 use Rattle.stack_reader.specs.Reading.{parsed, table_of, from_content, within_file, model_of, structure_of}
 use Rattle.stack_faults.specs.FaultLists.{faults_where, faults_below, earliest, answered_fault}
-use Rattle.stack_faults.specs.ContentFaults.{number_faults, causes_of_material, causes_of_block, causes_of_load}
-use Rattle.stack_faults.specs.ContentFaults.{material_faults, block_faults, load_faults, content_faults, faults_by}
-use Rattle.stack_faults.specs.TableFaults.{shape_faults, faults_of_listed, table_faults, faults_of_document, file_faults}
+use Rattle.stack_faults.specs.ContentFaults.{number_faults, causes_of_material, causes_of_block}
+use Rattle.stack_faults.specs.ContentFaults.{causes_of_load}
+use Rattle.stack_faults.specs.ContentFaults.{material_faults, block_faults, load_faults, content_faults}
+use Rattle.stack_faults.specs.ContentFaults.{faults_by}
+use Rattle.stack_faults.specs.TableFaults.{shape_faults, faults_of_listed, table_faults}
+use Rattle.stack_faults.specs.TableFaults.{faults_of_document, file_faults}
 use Rattle.stack_faults.proofs.Firsts.{earliest-append}
 use Rattle.stack_faults.proofs.ContentAnswers.{content_first}
 use Rattle.stack_faults.proofs.TableAnswers.{shape_told}
@@ -88,7 +92,8 @@ earliest-map f (x ∷ xs) = refl
 
 pub table_first : (ms : Members) → answered_fault (model_of ms) ≡ earliest (table_faults ms)
 unfolding model_of
-table_first ms = go (shape_of ms) (shape_told ms) ∙ sym (earliest-append (shape_faults ms) (faults_of_listed (shape_of ms)))
+table_first ms = go (shape_of ms) (shape_told ms)
+    ∙ sym (earliest-append (shape_faults ms) (faults_of_listed (shape_of ms)))
   where
     go : (r : Result PartLists ReadError) → answered_fault r ≡ earliest (shape_faults ms)
         → answered_fault (r >>= λ parts. within_file (content_of parts))

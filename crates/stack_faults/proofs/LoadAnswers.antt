@@ -1,5 +1,6 @@
 -- What the run over the loads answers.
-use Rattle.std.proofs.Common.{arith, ◌≡◌, refl, sym, ap, ◌∙◌, subst, ℕ, ◌<◌, ℤ, Bool, true, false, not, List, [], ◌∷◌, ◌++◌}
+use Rattle.std.proofs.Common.{arith, ◌≡◌, refl, sym, ap, ◌∙◌, subst, ℕ, ◌<◌, ℤ, Bool, true, false, not}
+use Rattle.std.proofs.Common.{List, [], ◌∷◌, ◌++◌}
 use Rattle.std.proofs.Common.{map, length, get_or, Option, Some, None, Ok}
 use Rattle.std.specs.Prelude.{is_none, find, ⊤}
 use Rattle.std.specs.Str.{bytes_eq}
@@ -17,7 +18,8 @@ use Rattle.stack_model.specs.Parts.{BlockPart, PartLists}
 use Rattle.stack_model.specs.Limits.{live_of, point_of, force_of}
 use Rattle.stack_model.specs.Content.{unless, ranged, found, is_free, number_of, body_names, add_load}
 use Rattle.stack_faults.specs.FaultLists.{earliest}
-use Rattle.stack_faults.specs.ContentFaults.{load_written, has_block, is_fixed_block, names_fixed, causes_of_load}
+use Rattle.stack_faults.specs.ContentFaults.{load_written, lists_block, is_fixed_block, names_fixed}
+use Rattle.stack_faults.specs.ContentFaults.{causes_of_load}
 use Rattle.stack_faults.specs.ContentFaults.{faults_by}
 use Rattle.stack_faults.proofs.Firsts.{Answers, first_cause}
 use Rattle.stack_faults.proofs.Names.{not_not, lacking, find_first}
@@ -25,8 +27,8 @@ use Rattle.stack_faults.proofs.Walks.{listed}
 use Rattle.stack_faults.proofs.BlockAnswers.{AreBodiesOf}
 
 -- the steps of a load, over their tests; u is true where no body is found, v where the one that is isn't free
-steps_told : {A : Type 0} (s : Spot) (j k l : Key) (d e : ModelError) (u v : Bool) (o : Option Bool) (p : Option Point)
-    (q : Option (ℤ × ℤ)) (at : Option ℕ) (free : ℕ → Bool) (to : Bool → Point → ℤ × ℤ → ℕ → A)
+steps_told : {A : Type 0} (s : Spot) (j k l : Key) (d e : ModelError) (u v : Bool) (o : Option Bool)
+    (p : Option Point) (q : Option (ℤ × ℤ)) (at : Option ℕ) (free : ℕ → Bool) (to : Bool → Point → ℤ × ℤ → ℕ → A)
     → u ≡ is_none at → ((n : ℕ) → at ≡ Some n → v ≡ not (free n))
     → Answers (λ _. ⊤) (ranged s j o >>= λ live. ranged s k p >>= λ c. ranged s l q >>= λ f. found at d
     >>= λ n. unless (free n) e >>= λ _. Ok (to live c f n))
@@ -52,7 +54,8 @@ fixed_found written bs h name n e =
     let p = position-Some (bytes_eq name) names n [] at in
     let d : BlockPart = record { name = []; material = []; fixed = true; corners = [] } in
     let few : n < length written = subst (λ m. n < m) (length-map written (λ (b : BlockPart). b.name)) p.0 in
-    let same_length : length bs ≡ length written = sym (length-map bs (λ (b : NamedBody). b.fixed)) ∙ ap length h.flags
+    let same_length : length bs ≡ length written = sym (length-map bs (λ (b : NamedBody). b.fixed))
+    ∙ ap length h.flags
     ∙ length-map written (λ (b : BlockPart). b.fixed) in
     let named : (k : ℕ) → k < length written → get_or names k [] ≡ (get_or written k d).name =
     λ k l. get_or-map (λ (b : BlockPart). b.name) written k d [] l in
@@ -76,7 +79,7 @@ one_told parts bs h i ls =
       fx = f.0;
       fy = f.1;
     } in r in
-    steps_told _ _ _ _ _ _ (not (has_block l.block parts.blocks)) (names_fixed l.block parts.blocks)
+    steps_told _ _ _ _ _ _ (not (lists_block l.block parts.blocks)) (names_fixed l.block parts.blocks)
     (live_of l.kind) (point_of l.at) (force_of l.force) (number_of l.block (body_names bs)) (λ n. is_free n bs)
     (λ live c f n. ls ++ made live c f n ∷ [])
     (lacking (λ (b : BlockPart). b.name) l.block parts.blocks (body_names bs) h.names)

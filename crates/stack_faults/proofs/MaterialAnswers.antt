@@ -1,5 +1,6 @@
 -- What the run over the materials answers.
-use Rattle.std.proofs.Common.{arith, ◌≡◌, refl, ap, ◌∙◌, ℕ, ◌+◌, ◌<◌, ℤ, pos, Bool, true, false, not, List, [], ◌∷◌, ◌++◌}
+use Rattle.std.proofs.Common.{arith, ◌≡◌, refl, ap, ◌∙◌, ℕ, ◌+◌, ◌<◌, ℤ, pos, Bool, true, false, not}
+use Rattle.std.proofs.Common.{List, [], ◌∷◌, ◌++◌}
 use Rattle.std.proofs.Common.{map, length, take, Option, Some, None, Ok}
 use Rattle.std.specs.Prelude.{is_none}
 use Rattle.std.proofs.lemmas.List.{take_all}
@@ -14,7 +15,8 @@ use Rattle.stack_model.specs.Parts.{MaterialPart, PartLists}
 use Rattle.stack_model.specs.Limits.{is_name, is_between, friction_of}
 use Rattle.stack_model.specs.Content.{unless, ranged, is_new, material_names, with_material, add_material}
 use Rattle.stack_faults.specs.FaultLists.{earliest}
-use Rattle.stack_faults.specs.ContentFaults.{material_written, has_material, causes_of_material, faults_by}
+use Rattle.stack_faults.specs.ContentFaults.{material_written, lists_material, causes_of_material}
+use Rattle.stack_faults.specs.ContentFaults.{faults_by}
 use Rattle.stack_faults.proofs.Firsts.{Answers, first_cause, answers_weaker}
 use Rattle.stack_faults.proofs.Names.{one_more, seen}
 use Rattle.stack_faults.proofs.Walks.{listed}
@@ -47,7 +49,7 @@ one_told parts i ms l names =
       q = f.1;
     } in r in
     steps_told (Named parts (i + 1)) (is_name m.name) (is_between (pos 0) (pos 1000000) m.weight)
-    (is_new m.name (material_names ms)) (has_material m.name (take i parts.materials)) _ _ _ _ _
+    (is_new m.name (material_names ms)) (lists_material m.name (take i parts.materials)) _ _ _ _ _
     (friction_of m.friction) (λ f. ms ++ made f ∷ [])
     (seen (λ (m : MaterialPart). m.name) m.name (take i parts.materials) (material_names ms) names)
     (λ f. one_more (λ (m : NamedMaterial). m.name) (λ (m : MaterialPart). m.name) ms (made f) parts.materials i _ l
@@ -61,5 +63,6 @@ pub materials_told : (parts : PartLists) → Answers (AreNamed parts) (steps add
     (earliest (faults_by (length parts.materials) (causes_of_material parts)))
 materials_told parts =
     answers_weaker (Named parts (length parts.materials)) (AreNamed parts) _ _
-    (λ ms h. h ∙ ap (map (λ (m : MaterialPart). m.name)) (take_all (length parts.materials) parts.materials (omega arith)))
+    (λ ms h. h ∙ ap (map (λ (m : MaterialPart). m.name))
+    (take_all (length parts.materials) parts.materials (omega arith)))
     (listed add_material parts.materials _ (Named parts) (causes_of_material parts) (one_told parts) [] refl)

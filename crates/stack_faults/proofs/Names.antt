@@ -1,5 +1,6 @@
 -- Names and flags of what is listed, against those of what was collected from it.
-use Rattle.std.proofs.Common.{◌≡◌, refl, sym, ap, ◌∙◌, ℕ, zero, suc, ◌+◌, ◌<◌, ◌≤◌, Bool, true, false, not, ◌||◌, cond}
+use Rattle.std.proofs.Common.{◌≡◌, refl, sym, ap, ◌∙◌, ℕ, zero, suc, ◌+◌, ◌<◌, ◌≤◌, Bool, true, false}
+use Rattle.std.proofs.Common.{not, ◌||◌, cond}
 use Rattle.std.proofs.Common.{List, [], ◌∷◌, ◌++◌, map, length, get_or, take, Some, None, arith}
 use Rattle.std.specs.Prelude.{is_none, nat_lt, nat_le, ◌==◌, count_by, find}
 use Rattle.std.specs.List.{list_any, position_or_len}
@@ -40,13 +41,14 @@ pub count-map : {X Y : Type 0} (p : Y → Bool) (f : X → Y) (xs : List X)
     → count_by (λ x. p (f x)) xs ≡ count_by p (map f xs)
 count-map p f xs = sym (fold-map (λ n y. n + cond (p y) 1 0) f 0 xs)
 
-any-map : {X Y : Type 0} (p : Y → Bool) (f : X → Y) (xs : List X) → list_any p (map f xs) ≡ list_any (λ x. p (f x)) xs
+any-map : {X Y : Type 0} (p : Y → Bool) (f : X → Y) (xs : List X)
+    → list_any p (map f xs) ≡ list_any (λ x. p (f x)) xs
 any-map p f [] = refl
 any-map p f (x ∷ xs) = ap (λ b. p (f x) || b) (any-map p f xs)
 
 -- a name that stands among those listed isn't new
-pub seen : {X : Type 0} (f : X → List ℕ) (name : List ℕ) (xs : List X) (names : List (List ℕ)) → names ≡ map f xs
-    → list_any (λ x. bytes_eq name (f x)) xs ≡ not (is_new name names)
+pub seen : {X : Type 0} (f : X → List ℕ) (name : List ℕ) (xs : List X) (names : List (List ℕ))
+    → names ≡ map f xs → list_any (λ x. bytes_eq name (f x)) xs ≡ not (is_new name names)
 seen f name xs names h = sym (any-map (bytes_eq name) f xs) ∙ ap (list_any (bytes_eq name)) (sym h)
     ∙ sym (not_not (list_any (bytes_eq name) names))
 
@@ -71,8 +73,8 @@ none_where : (b : Bool) (n : ℕ) → not b ≡ is_none (cond b (Some n) None)
 none_where true n = refl
 none_where false n = refl
 
-pub lacking : {X : Type 0} (f : X → List ℕ) (name : List ℕ) (xs : List X) (names : List (List ℕ)) → names ≡ map f xs
-    → not (list_any (λ x. bytes_eq name (f x)) xs) ≡ is_none (number_of name names)
+pub lacking : {X : Type 0} (f : X → List ℕ) (name : List ℕ) (xs : List X) (names : List (List ℕ))
+    → names ≡ map f xs → not (list_any (λ x. bytes_eq name (f x)) xs) ≡ is_none (number_of name names)
 lacking f name xs names h =
     ap not (sym (any-map (bytes_eq name) f xs) ∙ ap (list_any (bytes_eq name)) (sym h)
     ∙ sym (within (bytes_eq name) names))
@@ -80,8 +82,8 @@ lacking f name xs names h =
     (position_or_len (bytes_eq name) names)
 
 -- the first item that passes
-pub find_first : {X : Type 0} (p : X → Bool) (xs : List X) (n : ℕ) (d : X) → n < length xs → p (get_or xs n d) ≡ true
-    → ((k : ℕ) → k < n → p (get_or xs k d) ≡ false) → find p xs ≡ Some (get_or xs n d)
+pub find_first : {X : Type 0} (p : X → Bool) (xs : List X) (n : ℕ) (d : X) → n < length xs
+    → p (get_or xs n d) ≡ true → ((k : ℕ) → k < n → p (get_or xs k d) ≡ false) → find p xs ≡ Some (get_or xs n d)
 find_first p [] n d l h b = absurd (omega (arith, l))
 find_first p (x ∷ xs) zero d l h b = ap (λ t. cond t (Some x) (find p xs)) h
 find_first p (x ∷ xs) (suc n) d l h b = ap (λ t. cond t (Some x) (find p xs)) (b 0 (omega arith))

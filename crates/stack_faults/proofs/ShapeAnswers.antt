@@ -1,24 +1,24 @@
 -- What the tables of items answer.
-use Rattle.std.proofs.Common.{◌≡◌, refl, sym, ap, ◌∙◌, ℕ, zero, suc, ◌+◌, ℤ, Bool, true, false, not, List, [], ◌∷◌, length}
-use Rattle.std.proofs.Common.{get_or, Option, Some, None, Result, Ok, Err, arith}
-use Rattle.std.specs.Prelude.{is_none, if◌then◌else◌, ⊤}
-use Rattle.toml.specs.Data.{Data, table, Items, no_items, item, Members, no_members, get_member, as_str, as_integer}
+use Rattle.std.proofs.Common.{◌≡◌, refl, sym, ◌∙◌, ℕ, ℤ, Bool, true, false, not, List, [], ◌∷◌}
+use Rattle.std.proofs.Common.{Option, Some, None, Result, Ok, Err}
+use Rattle.std.specs.Prelude.{is_none, if◌then◌else◌}
+use Rattle.toml.specs.Data.{Data, Members, get_member, as_str, as_integer}
 use Rattle.toml.specs.Data.{as_bool}
 use Rattle.stack_algebra.specs.Steps.{◌>>=◌}
-use Rattle.stack_algebra.specs.Search.{or_else, first}
-use Rattle.stack_algebra.proofs.Search.{first_same}
+use Rattle.stack_algebra.specs.Search.{or_else}
 use Rattle.stack_model.specs.declared.places.Spot.{Spot}
 use Rattle.stack_model.specs.declared.places.Spot.TheVariants as spots
 use Rattle.stack_model.specs.declared.places.Key.{Key}
 use Rattle.stack_model.specs.declared.places.Key.TheVariants as keys
 use Rattle.stack_model.specs.Parts.{MaterialPart, BlockPart, LoadPart}
-use Rattle.stack_reader.specs.declared.errors.ReadError.{ReadError}
 use Rattle.stack_reader.specs.declared.errors.ReadError.TheVariants.{UnknownKey, Missing, Kind}
 use Rattle.stack_reader.specs.Keys.{word_of, material_keys, block_keys, load_keys}
-use Rattle.stack_reader.specs.Forms.{wholes_of, lists_of, has_only, known_only, required, in_form, field, truth_at}
+use Rattle.stack_reader.specs.Forms.{wholes_of, lists_of, has_only, known_only, required, in_form, field}
+use Rattle.stack_reader.specs.Forms.{truth_at}
 use Rattle.stack_reader.specs.Shape.{material_part, block_part, load_part}
 use Rattle.stack_faults.specs.FaultLists.{faults_where, earliest, answered_fault}
-use Rattle.stack_faults.specs.TableFaults.{is_of_another_form, unknown_key_faults, key_faults, optional_key_faults}
+use Rattle.stack_faults.specs.TableFaults.{is_of_another_form, unknown_key_faults, key_faults}
+use Rattle.stack_faults.specs.TableFaults.{optional_key_faults}
 use Rattle.stack_faults.specs.TableFaults.{material_table_faults, block_table_faults, load_table_faults}
 use Rattle.stack_faults.proofs.Firsts.{earliest_four, earliest_five}
 
@@ -79,7 +79,8 @@ five_told (Ok x) (Ok a) (Ok b) (Err e) u to = refl
 five_told (Ok x) (Ok a) (Ok b) (Ok c) (Err e) to = refl
 five_told (Ok x) (Ok a) (Ok b) (Ok c) (Ok d) to = refl
 
-pub material_told : (i : ℕ) (ms : Members) → answered_fault (material_part i ms) ≡ earliest (material_table_faults i ms)
+pub material_told : (i : ℕ) (ms : Members)
+    → answered_fault (material_part i ms) ≡ earliest (material_table_faults i ms)
 unfolding material_part
 material_told i ms =
     let spot = spots.Material i in
@@ -88,8 +89,8 @@ material_told i ms =
       weight = weight;
       friction = friction;
     } in
-    four_told (known_only spot material_keys ms) (field as_str spot keys.Name ms) (field as_integer spot keys.Weight ms)
-    (field wholes_of spot keys.Friction ms) made
+    four_told (known_only spot material_keys ms) (field as_str spot keys.Name ms)
+    (field as_integer spot keys.Weight ms) (field wholes_of spot keys.Friction ms) made
     ∙ (λ z. or_else (or_else (or_else (known_told spot material_keys ms z) (key_told as_str spot keys.Name ms z))
     (key_told as_integer spot keys.Weight ms z)) (key_told wholes_of spot keys.Friction ms z))
     ∙ sym (earliest_four (unknown_key_faults spot material_keys ms) (key_faults as_str spot keys.Name ms)
@@ -108,7 +109,8 @@ block_told i ms =
     } in
     five_told (known_only spot block_keys ms) (field as_str spot keys.Name ms) (field as_str spot keys.Material ms)
     (truth_at spot keys.Fixed fixed) (field lists_of spot keys.Corners ms) made
-    ∙ (λ z. or_else (or_else (or_else (or_else (known_told spot block_keys ms z) (key_told as_str spot keys.Name ms z))
+    ∙ (λ z. or_else (or_else (or_else (or_else (known_told spot block_keys ms z)
+    (key_told as_str spot keys.Name ms z))
     (key_told as_str spot keys.Material ms z)) (truth_told spot keys.Fixed fixed z))
     (key_told lists_of spot keys.Corners ms z))
     ∙ sym (earliest_five (unknown_key_faults spot block_keys ms) (key_faults as_str spot keys.Name ms)
@@ -127,7 +129,8 @@ load_told i ms =
     } in
     five_told (known_only spot load_keys ms) (field as_str spot keys.Block ms) (field as_str spot keys.Kind ms)
     (field wholes_of spot keys.At ms) (field wholes_of spot keys.Force ms) made
-    ∙ (λ z. or_else (or_else (or_else (or_else (known_told spot load_keys ms z) (key_told as_str spot keys.Block ms z))
+    ∙ (λ z. or_else (or_else (or_else (or_else (known_told spot load_keys ms z)
+    (key_told as_str spot keys.Block ms z))
     (key_told as_str spot keys.Kind ms z)) (key_told wholes_of spot keys.At ms z))
     (key_told wholes_of spot keys.Force ms z))
     ∙ sym (earliest_five (unknown_key_faults spot load_keys ms) (key_faults as_str spot keys.Block ms)

@@ -1,7 +1,8 @@
 -- What a table answers: its lists, and then each item of them.
-use Rattle.std.proofs.Common.{◌≡◌, refl, sym, ap, ◌∙◌, ℕ, zero, suc, ◌+◌, Bool, true, false, List, [], ◌∷◌, length}
+use Rattle.std.proofs.Common.{◌≡◌, refl, sym, ap, ◌∙◌, ℕ, zero, suc, ◌+◌, Bool, true, false, List, []}
+use Rattle.std.proofs.Common.{◌∷◌, length}
 use Rattle.std.proofs.Common.{get_or, Option, Some, None, Result, Ok, Err, arith}
-use Rattle.std.specs.Prelude.{is_none, if◌then◌else◌, ⊤, option_and_then}
+use Rattle.std.specs.Prelude.{is_none, if◌then◌else◌, option_and_then}
 use Rattle.toml.specs.Data.{Data, array, table, Items, no_items, item, Members, no_members, get_member}
 use Rattle.stack_algebra.specs.Steps.{◌>>=◌}
 use Rattle.stack_algebra.specs.Search.{or_else, first}
@@ -14,11 +15,14 @@ use Rattle.stack_reader.specs.declared.errors.ReadError.{ReadError}
 use Rattle.stack_reader.specs.declared.errors.ReadError.TheVariants.{Kind}
 use Rattle.stack_reader.specs.Keys.{word_of, top_keys}
 use Rattle.stack_reader.specs.Forms.{are_tables, tables_of, known_only, in_form}
-use Rattle.stack_reader.specs.Shape.{list_at, material_part, block_part, load_part, in_table, each_of, shape_of}
+use Rattle.stack_reader.specs.Shape.{list_at, material_part, block_part, load_part, in_table, each_of}
+use Rattle.stack_reader.specs.Shape.{shape_of}
 use Rattle.stack_faults.specs.FaultLists.{faults_where, earliest, answered_fault}
-use Rattle.stack_faults.specs.TableFaults.{is_of_another_form, unknown_key_faults, optional_key_faults, top_faults}
+use Rattle.stack_faults.specs.TableFaults.{is_of_another_form, unknown_key_faults, optional_key_faults}
+use Rattle.stack_faults.specs.TableFaults.{top_faults}
 use Rattle.stack_faults.specs.TableFaults.{material_table_faults, block_table_faults, load_table_faults}
-use Rattle.stack_faults.specs.TableFaults.{tables_in, tables_or_none, tables_listed, faults_of_tables, shape_faults}
+use Rattle.stack_faults.specs.TableFaults.{tables_in, tables_or_none, tables_listed, faults_of_tables}
+use Rattle.stack_faults.specs.TableFaults.{shape_faults}
 use Rattle.stack_faults.proofs.Firsts.{Answers, answers_weaker, earliest-below, earliest_four}
 use Rattle.stack_faults.proofs.ShapeAnswers.{known_told, three_told, material_told, block_told, load_told}
 
@@ -77,7 +81,8 @@ module _ {A : Type 0} (part : ℕ → Members → Result A ReadError) (key : Key
   each_told items h =
       let tables = tables_in items in
       each_front 0 items h ∙ front_first 0 tables
-      ∙ first_same (length tables) _ _ (λ k l. ap (λ j. earliest (faults j (get_or tables k no_members))) (start k))
+      ∙ first_same (length tables) _ _
+      (λ k l. ap (λ j. earliest (faults j (get_or tables k no_members))) (start k))
       ∙ sym (earliest-below (length tables) (λ k. faults k (get_or tables k no_members)))
     where
       start : (k : ℕ) → 0 + k ≡ k
@@ -101,11 +106,12 @@ list_told key (Some (array items)) = go (are_tables items) refl
 list_told key (Some d) = refl
 
 -- the steps of a shape: where the three lists have their form, each item answers
-steps_told : {T I A B C S E : Type 0} (q : Result T E) (r s t : Result I E) (f : I → Result A E) (g : I → Result B E)
-    (h : I → Result C E) (to : A → B → C → S) (a b c d x y z : Option E) → answered_fault q ≡ a
+steps_told : {T I A B C S E : Type 0} (q : Result T E) (r s t : Result I E) (f : I → Result A E)
+    (g : I → Result B E) (h : I → Result C E) (to : A → B → C → S) (a b c d x y z : Option E) → answered_fault q ≡ a
     → Answers (λ i. answered_fault (f i) ≡ x) r b → Answers (λ i. answered_fault (g i) ≡ y) s c
     → Answers (λ i. answered_fault (h i) ≡ z) t d
-    → answered_fault (q >>= λ _. r >>= λ i. s >>= λ j. t >>= λ k. f i >>= λ u. g j >>= λ v. h k >>= λ w. Ok (to u v w))
+    → answered_fault (q >>= λ _. r >>= λ i. s >>= λ j. t >>= λ k. f i >>= λ u. g j >>= λ v. h k
+    >>= λ w. Ok (to u v w))
     ≡ or_else (or_else (or_else (or_else (or_else (or_else a b) c) d) x) y) z
 steps_told (Err e) r s t f g h to a b c d x y z ha hb hc hd =
     λ i. or_else (or_else (or_else (or_else (or_else (or_else (ha i) b) c) d) x) y) z
@@ -114,7 +120,8 @@ steps_told (Ok n) (Err e) s t f g h to a b c d x y z ha hb hc hd =
 steps_told (Ok n) (Ok k) (Err e) t f g h to a b c d x y z ha hb hc hd =
     λ i. or_else (or_else (or_else (or_else (or_else (or_else (ha i) (sym hb.0 i)) (sym hc i)) d) x) y) z
 steps_told (Ok n) (Ok k) (Ok l) (Err e) f g h to a b c d x y z ha hb hc hd =
-    λ i. or_else (or_else (or_else (or_else (or_else (or_else (ha i) (sym hb.0 i)) (sym hc.0 i)) (sym hd i)) x) y) z
+    λ i. or_else (or_else (or_else (or_else (or_else (or_else (ha i) (sym hb.0 i)) (sym hc.0 i)) (sym hd i))
+    x) y) z
 steps_told (Ok n) (Ok k) (Ok l) (Ok m) f g h to a b c d x y z ha hb hc hd =
     three_told (f k) (g l) (h m) to
     ∙ (λ i. or_else (or_else (or_else (or_else (or_else (or_else (ha i) (sym hb.0 i)) (sym hc.0 i)) (sym hd.0 i))
@@ -142,14 +149,16 @@ shape_told ms =
       loads = loads;
     } in
     steps_told (known_only spots.Top top_keys ms) (list_at keys.Material (get_member (word_of keys.Material) ms))
-    (list_at keys.Block (get_member (word_of keys.Block) ms)) (list_at keys.Load (get_member (word_of keys.Load) ms))
+    (list_at keys.Block (get_member (word_of keys.Block) ms))
+    (list_at keys.Load (get_member (word_of keys.Load) ms))
     (each_of (in_table material_part keys.Material) 0) (each_of (in_table block_part keys.Block) 0)
     (each_of (in_table load_part keys.Load) 0) made _ _ _ _ _ _ _ (known_told spots.Top top_keys ms)
     (items_told material_part keys.Material material_table_faults material_told ms)
     (items_told block_part keys.Block block_table_faults block_told ms)
     (items_told load_part keys.Load load_table_faults load_told ms)
     ∙ (λ i. or_else (or_else (or_else (sym (earliest_four (unknown_key_faults spots.Top top_keys ms)
-    (optional_key_faults tables_of spots.Top keys.Material ms) (optional_key_faults tables_of spots.Top keys.Block ms)
+    (optional_key_faults tables_of spots.Top keys.Material ms)
+    (optional_key_faults tables_of spots.Top keys.Block ms)
     (optional_key_faults tables_of spots.Top keys.Load ms)) i)
     (earliest (faults_of_tables material_table_faults (tables_listed keys.Material ms))))
     (earliest (faults_of_tables block_table_faults (tables_listed keys.Block ms))))

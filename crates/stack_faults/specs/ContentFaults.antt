@@ -1,7 +1,8 @@
--- All faults of the content of what a file lists, each by a property of the lists as they are written. Nothing here
--- follows a run: whether one fault is listed depends on no other. The order is that of the materials, the blocks and
--- the loads: of each the number first, and then one item after the other in the order of the file.
-use Rattle.std.specs.Prelude.{ℕ, pos, Bool, false, not, ◌&&◌, ◌==◌, nat_lt, List, [], ◌∷◌, ◌++◌, length, get_or}
+-- All faults of the content of what a file lists, each by a property of the lists as they are written. Nothing
+-- here follows a run: whether one fault is listed depends on no other. The materials come first, then the blocks,
+-- then the loads: of each the number, and then one item after the other in the order of the file.
+use Rattle.std.specs.Prelude.{ℕ, pos, Bool, false, not, ◌&&◌, ◌==◌, nat_lt, List, [], ◌∷◌, ◌++◌, length}
+use Rattle.std.specs.Prelude.{get_or}
 use Rattle.std.specs.Prelude.{take, find, count_by, Option, Some, None, is_none}
 use Rattle.std.specs.Str.{bytes_eq}
 use Rattle.std.specs.List.{list_any}
@@ -18,7 +19,8 @@ use Rattle.stack_model.specs.declared.errors.ModelError.TheVariants.{Range, Same
 use Rattle.stack_model.specs.declared.errors.ModelError.TheVariants.{NotConvex, LoadOnFixed, TooMany}
 use Rattle.stack_model.specs.Parts.{MaterialPart, BlockPart, LoadPart, PartLists}
 use Rattle.stack_model.specs.Limits.{most_materials, most_blocks, most_fixed, most_loads}
-use Rattle.stack_model.specs.Limits.{is_name, is_between, friction_of, point_of, corners_of, live_of, force_of}
+use Rattle.stack_model.specs.Limits.{is_name, is_between, friction_of, point_of, corners_of, live_of}
+use Rattle.stack_model.specs.Limits.{force_of}
 use Rattle.stack_faults.specs.FaultLists.{faults_where, faults_below}
 
 -- the items by number, as they are written; past the end stands an item that means nothing
@@ -32,12 +34,12 @@ abbrev pub load_written : PartLists → ℕ → LoadPart
 load_written parts i = get_or parts.loads i (record { block = []; kind = []; at = []; force = [] })
 
 -- one of these materials has the name
-abbrev pub has_material : List ℕ → List MaterialPart → Bool
-has_material name ms = list_any (λ (m : MaterialPart). bytes_eq name m.name) ms
+abbrev pub lists_material : List ℕ → List MaterialPart → Bool
+lists_material name ms = list_any (λ (m : MaterialPart). bytes_eq name m.name) ms
 
 -- one of these blocks has the name
-abbrev pub has_block : List ℕ → List BlockPart → Bool
-has_block name bs = list_any (λ (b : BlockPart). bytes_eq name b.name) bs
+abbrev pub lists_block : List ℕ → List BlockPart → Bool
+lists_block name bs = list_any (λ (b : BlockPart). bytes_eq name b.name) bs
 
 -- the block, if there is one, is fixed
 abbrev pub is_fixed_block : Option BlockPart → Bool
@@ -73,32 +75,32 @@ causes_of_material parts i =
     (not (is_name m.name), Range (spots.Material i) keys.Name)
     ∷ (not (is_between (pos 0) (pos 1000000) m.weight), Range (spots.Material i) keys.Weight)
     ∷ (is_none (friction_of m.friction), Range (spots.Material i) keys.Friction)
-    ∷ (has_material m.name (take i parts.materials), SameName (spots.Material i))
+    ∷ (lists_material m.name (take i parts.materials), SameName (spots.Material i))
     ∷ []
 
--- block i: its name and its corners are outside their limits; an earlier block has its name; no material has the name
--- that it gives; its corners are crooked; it is the 65th fixed one; it is the 129th free one
+-- block i: its name and its corners are outside their limits; an earlier block has its name; no material has the
+-- name that it gives; its corners are crooked; it is the 65th fixed one; it is the 129th free one
 abbrev pub causes_of_block : PartLists → ℕ → List (Bool × ModelError)
 causes_of_block parts i =
     let b = block_written parts i in
     (not (is_name b.name), Range (spots.Block i) keys.Name)
     ∷ (is_none (corners_of b.corners), Range (spots.Block i) keys.Corners)
-    ∷ (has_block b.name (take i parts.blocks), SameName (spots.Block i))
-    ∷ (not (has_material b.material parts.materials), NoMaterial i)
+    ∷ (lists_block b.name (take i parts.blocks), SameName (spots.Block i))
+    ∷ (not (lists_material b.material parts.materials), NoMaterial i)
     ∷ (is_crooked (corners_of b.corners), NotConvex i (unclear_edge (corners_of b.corners)))
     ∷ (b.fixed && fixed_written (take i parts.blocks) == most_fixed, TooMany whats.Fixed)
     ∷ (not b.fixed && free_written (take i parts.blocks) == most_free, TooMany whats.Free)
     ∷ []
 
--- load i: its kind, its point and its force are outside their limits; no block has the name that it gives; the block
--- that has it is fixed
+-- load i: its kind, its point and its force are outside their limits; no block has the name that it gives; the
+-- block that has it is fixed
 abbrev pub causes_of_load : PartLists → ℕ → List (Bool × ModelError)
 causes_of_load parts i =
     let l = load_written parts i in
     (is_none (live_of l.kind), Range (spots.Load i) keys.Kind)
     ∷ (is_none (point_of l.at), Range (spots.Load i) keys.At)
     ∷ (is_none (force_of l.force), Range (spots.Load i) keys.Force)
-    ∷ (not (has_block l.block parts.blocks), NoBlock i)
+    ∷ (not (lists_block l.block parts.blocks), NoBlock i)
     ∷ (names_fixed l.block parts.blocks, LoadOnFixed i)
     ∷ []
 

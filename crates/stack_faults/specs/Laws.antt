@@ -18,8 +18,8 @@ FirstContentFault = (parts : PartLists) → answered_fault (content_of parts) �
 abbrev pub ContentWhereFaultless : Type 0
 ContentWhereFaultless = (parts : PartLists) → IsOk (content_of parts) ↔ (content_faults parts ≡ [])
 
--- corners within their limits are crooked exactly where neither they nor their reversal are strictly convex, and then
--- the edge that is told is the first that doesn't have every other corner strictly left of it
+-- corners within their limits are crooked exactly where neither they nor their reversal are strictly convex, and
+-- then the edge that is told is the first that doesn't have every other corner strictly left of it
 abbrev pub CrookedByMeaning : Type 0
 CrookedByMeaning = (ps : List Point) → (is_crooked (Some ps) ≡ true) ↔ HasNoOutline ps (unclear_edge (Some ps))
 

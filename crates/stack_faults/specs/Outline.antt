@@ -22,7 +22,7 @@ abbrev pub OutlineByMeaning : Type 0
 OutlineByMeaning = (ps : List Point)
     → MatchResult (outline_of ps) (λ qs. IsOutlineOf ps qs) (λ e. HasNoOutline ps e)
 
--- fewer than three points, or none, are their own outline: no edge has another corner that it isn't an end of. So the
--- least number of corners is a condition of its own
+-- fewer than three points, or none, are their own outline, as no edge has another corner than its ends: that a
+-- polygon has at least three is a condition of its own
 abbrev pub FewPointsAreTheirOutline : Type 0
 FewPointsAreTheirOutline = (ps : List Point) → length ps < 3 → outline_of ps ≡ Ok ps

@@ -1,9 +1,11 @@
--- All faults of a document's table: those of its shape, each by a property of the table as it stands, and where it has
--- none those of the content that it lists. The order is that of the top, and then of the tables of materials, of
--- blocks and of loads, one after the other in the order of the file; in a table that of its keys here.
-use Rattle.std.specs.Prelude.{ℕ, Bool, false, not, List, [], ◌∷◌, ◌++◌, map, length, get_or, Option, Some, None, is_none}
+-- All faults of a document's table: those of its shape, each by a property of the table as it stands, and where it
+-- has none those of the content that it lists. The top comes first, and then the tables of materials, of blocks and
+-- of loads, one after the other in the order of the file; in a table an unknown key, and then its keys as here.
+use Rattle.std.specs.Prelude.{ℕ, Bool, false, not, List, [], ◌∷◌, ◌++◌, map, length, get_or, Option, Some}
+use Rattle.std.specs.Prelude.{None, is_none}
 use Rattle.std.specs.Prelude.{Result, Ok, Err, option_and_then}
-use Rattle.toml.specs.Data.{Data, table, Items, no_items, item, Members, no_members, get_member, as_str, as_integer}
+use Rattle.toml.specs.Data.{Data, table, Items, no_items, item, Members, no_members, get_member, as_str}
+use Rattle.toml.specs.Data.{as_integer}
 use Rattle.toml.specs.Data.{as_bool}
 use Rattle.stack_model.specs.declared.places.Spot.{Spot}
 use Rattle.stack_model.specs.declared.places.Spot.TheVariants as spots
@@ -11,7 +13,8 @@ use Rattle.stack_model.specs.declared.places.Key.{Key}
 use Rattle.stack_model.specs.declared.places.Key.TheVariants as keys
 use Rattle.stack_model.specs.Parts.{PartLists}
 use Rattle.stack_reader.specs.declared.errors.ReadError.{ReadError}
-use Rattle.stack_reader.specs.declared.errors.ReadError.TheVariants.{NotToml, UnknownKey, Missing, Kind, Model}
+use Rattle.stack_reader.specs.declared.errors.ReadError.TheVariants.{NotToml, UnknownKey, Missing, Kind}
+use Rattle.stack_reader.specs.declared.errors.ReadError.TheVariants.{Model}
 use Rattle.stack_reader.specs.Keys.{word_of, top_keys, material_keys, block_keys, load_keys}
 use Rattle.stack_reader.specs.Forms.{wholes_of, lists_of, tables_of, has_only}
 use Rattle.stack_reader.specs.Shape.{shape_of}
@@ -31,13 +34,13 @@ unknown_key_faults spot known ms = faults_where ((not (has_only known ms), Unkno
 -- a key that must stand is missing, or its value has another form
 abbrev pub key_faults : {A : Type 0} → (Data → Option A) → Spot → Key → Members → List ReadError
 key_faults form spot key ms = faults_where (
-      (is_none (get_member (word_of key) ms), Missing spot key)
-      ∷ (is_of_another_form form (get_member (word_of key) ms), Kind spot key) ∷ [])
+    (is_none (get_member (word_of key) ms), Missing spot key)
+    ∷ (is_of_another_form form (get_member (word_of key) ms), Kind spot key) ∷ [])
 
 -- the value of a key that may be missing has another form
 abbrev pub optional_key_faults : {A : Type 0} → (Data → Option A) → Spot → Key → Members → List ReadError
 optional_key_faults form spot key ms = faults_where (
-      (is_of_another_form form (get_member (word_of key) ms), Kind spot key) ∷ [])
+    (is_of_another_form form (get_member (word_of key) ms), Kind spot key) ∷ [])
 
 -- the top: another key than the three; one of them isn't an array of tables
 abbrev pub top_faults : Members → List ReadError
@@ -81,7 +84,7 @@ abbrev pub tables_or_none : Option Items → List Members
 tables_or_none None = []
 tables_or_none (Some items) = tables_in items
 
--- the tables that a key of the top lists; none where the key is missing, or where its value isn't an array of tables
+-- the tables that a key of the top lists; none where it is missing, or where its value isn't an array of tables
 abbrev pub tables_listed : Key → Members → List Members
 tables_listed key ms = tables_or_none (option_and_then tables_of (get_member (word_of key) ms))
 

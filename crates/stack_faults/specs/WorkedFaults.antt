@@ -1,8 +1,9 @@
--- Small files with several faults at once, and all their faults in order. They show that the lists of faults aren't
--- empty, that each item says what it should, and that their order is the one that is told.
-use Rattle.std.specs.Prelude.{◌≡◌, ℕ, ◌+◌, ◌/◌, ◌%◌, ℤ, pos, negsuc, Bool, true, false, List, [], ◌∷◌, ◌++◌, map, codes}
+-- Small files with several faults at once, and all their faults in order. They show that the lists of faults
+-- aren't empty, and what their items and their order are.
+use Rattle.std.specs.Prelude.{◌≡◌, ℕ, ◌+◌, ◌/◌, ◌%◌, ℤ, pos, negsuc, Bool, true, false, List, [], ◌∷◌}
+use Rattle.std.specs.Prelude.{◌++◌, codes}
 use Rattle.std.specs.Prelude.{zero, suc, replicate, Some}
-use Rattle.toml.specs.Data.{Data, string, integer, array, table, no_items, item, Members, no_members, member}
+use Rattle.toml.specs.Data.{string, integer, array, table, no_items, item, Members, no_members, member}
 use Rattle.stack_model.specs.declared.places.Spot.TheVariants as spots
 use Rattle.stack_model.specs.declared.places.Key.TheVariants as keys
 use Rattle.stack_model.specs.declared.places.What.TheVariants as whats
@@ -14,8 +15,8 @@ use Rattle.stack_faults.specs.FaultLists.{earliest}
 use Rattle.stack_faults.specs.ContentFaults.{content_faults}
 use Rattle.stack_faults.specs.TableFaults.{table_faults}
 
-abbrev pub drawn_at : ℤ → ℤ → List ℤ
-drawn_at x y = x ∷ y ∷ []
+abbrev pub drawn_at : ℕ → ℕ → List ℤ
+drawn_at x y = pos x ∷ pos y ∷ []
 
 abbrev pub material_called : List ℕ → ℤ → List ℤ → MaterialPart
 material_called name weight friction = record { name = name; weight = weight; friction = friction }
@@ -34,19 +35,20 @@ load_called block kind at force = record { block = block; kind = kind; at = at; 
 abbrev pub lists_written : List MaterialPart → List BlockPart → List LoadPart → PartLists
 lists_written materials blocks loads = record { materials = materials; blocks = blocks; loads = loads }
 
-abbrev pub stone : MaterialPart
-stone = material_called (codes "stone") (pos 1) (pos 1 ∷ pos 2 ∷ [])
+abbrev pub plain_stone : MaterialPart
+plain_stone = material_called (codes "stone") (pos 1) (pos 1 ∷ pos 2 ∷ [])
 
 -- listed clockwise, which is no fault
-abbrev pub square : List (List ℤ)
-square = drawn_at (pos 0) (pos 0) ∷ drawn_at (pos 0) (pos 2) ∷ drawn_at (pos 2) (pos 2) ∷ drawn_at (pos 2) (pos 0) ∷ []
+abbrev pub clockwise_square : List (List ℤ)
+clockwise_square = drawn_at 0 0 ∷ drawn_at 0 2 ∷ drawn_at 2 2 ∷ drawn_at 2 0 ∷ []
 
--- the third corner lies inside the triangle of the others, so that edge 1 has one of them on its right
+-- the third corner lies inside the triangle of the others, so that edge 1, which ends there, has the fourth on its
+-- right
 abbrev pub dart : List (List ℤ)
-dart = drawn_at (pos 0) (pos 0) ∷ drawn_at (pos 4) (pos 0) ∷ drawn_at (pos 1) (pos 1) ∷ drawn_at (pos 0) (pos 4) ∷ []
+dart = drawn_at 0 0 ∷ drawn_at 4 0 ∷ drawn_at 1 1 ∷ drawn_at 0 4 ∷ []
 
-abbrev pub ground : BlockPart
-ground = block_called (codes "ground") (codes "stone") true square
+abbrev pub fixed_square : BlockPart
+fixed_square = block_called (codes "ground") (codes "stone") true clockwise_square
 
 -- material 0 has a weight below 0; material 1 has one number of friction, and the name of material 0
 abbrev pub two_materials : PartLists
@@ -54,56 +56,58 @@ two_materials = lists_written (
     material_called (codes "stone") (negsuc 0) (pos 1 ∷ pos 2 ∷ [])
     ∷ material_called (codes "stone") (pos 1) (pos 1 ∷ []) ∷ []) [] []
 
--- block 1 is without fault; block 0 has no name, two corners and an unknown material; block 2 has the name of block 1,
--- and crooked corners
+-- block 0 has no name, two corners and an unknown material; block 1 is without fault; block 2 has the name of
+-- block 1, and crooked corners
 abbrev pub three_blocks : PartLists
-three_blocks = lists_written (stone ∷ []) (
-    block_called [] (codes "sand") false (drawn_at (pos 0) (pos 0) ∷ drawn_at (pos 1) (pos 0) ∷ [])
-    ∷ block_called (codes "a") (codes "stone") false square
+three_blocks = lists_written (plain_stone ∷ []) (
+    block_called [] (codes "sand") false (drawn_at 0 0 ∷ drawn_at 1 0 ∷ [])
+    ∷ block_called (codes "a") (codes "stone") false clockwise_square
     ∷ block_called (codes "a") (codes "stone") false dart ∷ []) []
 
 -- load 0 is of an unknown kind, lacks a part of its force, and is on an unknown block; load 1 is on a fixed block
 abbrev pub two_loads : PartLists
-two_loads = lists_written (stone ∷ []) (ground ∷ []) (
-    load_called (codes "post") (codes "alive") (drawn_at (pos 0) (pos 0)) (pos 1 ∷ [])
-    ∷ load_called (codes "ground") (codes "live") (drawn_at (pos 0) (pos 2)) (drawn_at (pos 0) (negsuc 0)) ∷ [])
+two_loads = lists_written (plain_stone ∷ []) (fixed_square ∷ []) (
+    load_called (codes "post") (codes "alive") (drawn_at 0 0) (pos 1 ∷ [])
+    ∷ load_called (codes "ground") (codes "live") (drawn_at 0 2) (pos 0 ∷ negsuc 0 ∷ []) ∷ [])
 
 -- a fault of a material, of a block and of a load
 abbrev pub one_of_each : PartLists
-one_of_each = lists_written (stone ∷ material_called (codes "a b") (pos 1) (pos 1 ∷ pos 2 ∷ []) ∷ [])
-    (ground ∷ block_called (codes "b") (codes "sand") false square ∷ [])
-    (load_called (codes "b") (codes "dead") (drawn_at (pos 1000001) (pos 0)) (drawn_at (pos 0) (pos 0)) ∷ [])
+one_of_each = lists_written (plain_stone ∷ material_called (codes "a b") (pos 1) (pos 1 ∷ pos 2 ∷ []) ∷ [])
+    (fixed_square ∷ block_called (codes "b") (codes "sand") false clockwise_square ∷ [])
+    (load_called (codes "b") (codes "dead") (drawn_at 1000001 0) (drawn_at 0 0) ∷ [])
 
 -- a name for each number below 100: of two digits
-abbrev pub numbered : ℕ → List ℕ
-numbered n = (48 + n / 10) ∷ (48 + n % 10) ∷ []
+abbrev pub two_digits : ℕ → List ℕ
+two_digits n = (48 + n / 10) ∷ (48 + n % 10) ∷ []
 
 -- the fixed squares with a number below n
 abbrev pub fixed_squares : ℕ → List BlockPart
 fixed_squares zero = []
-fixed_squares (suc n) = fixed_squares n ++ block_called (numbered n) (codes "stone") true square ∷ []
+fixed_squares (suc n) = fixed_squares n ++ block_called (two_digits n) (codes "stone") true clockwise_square ∷ []
 
--- material 0 has a name that is a number and no friction, and there are a key `beam` and a `block` that is a number
+-- there are a key `beam` and a `block` that is a number, and material 0 has a name that is a number and no friction
 abbrev pub ill_table : Members
 ill_table =
     member (codes "beam") (integer (pos 1)) (member (codes "block") (integer (pos 0)) (member (codes "material")
-    (array (item (table (member (codes "name") (integer (pos 1)) (member (codes "weight") (integer (pos 1)) no_members)))
-    no_items)) no_members))
+    (array (item (table (member (codes "name") (integer (pos 1))
+    (member (codes "weight") (integer (pos 1)) no_members))) no_items)) no_members))
 
 -- in form, and material 0 has a weight below 0, and a number in place of a coefficient
 abbrev pub heavy_table : Members
 heavy_table =
     member (codes "material") (array (item (table
-    (member (codes "friction") (array (item (integer (pos 1)) no_items)) (member (codes "name") (string (codes "stone"))
+    (member (codes "friction") (array (item (integer (pos 1)) no_items))
+    (member (codes "name") (string (codes "stone"))
     (member (codes "weight") (integer (negsuc 0)) no_members)))) no_items)) no_members
 
 pub record WorkedFaults : Type 0 where
-  pub none : content_faults (lists_written (stone ∷ []) (ground ∷ []) []) ≡ []
+  pub none : content_faults (lists_written (plain_stone ∷ []) (fixed_square ∷ []) []) ≡ []
   pub materials : content_faults two_materials
-      ≡ Range (spots.Material 0) keys.Weight ∷ Range (spots.Material 1) keys.Friction ∷ SameName (spots.Material 1) ∷ []
+      ≡ Range (spots.Material 0) keys.Weight ∷ Range (spots.Material 1) keys.Friction
+      ∷ SameName (spots.Material 1) ∷ []
   pub blocks : content_faults three_blocks
-      ≡ Range (spots.Block 0) keys.Name ∷ Range (spots.Block 0) keys.Corners ∷ NoMaterial 0 ∷ SameName (spots.Block 2)
-      ∷ NotConvex 2 1 ∷ []
+      ≡ Range (spots.Block 0) keys.Name ∷ Range (spots.Block 0) keys.Corners ∷ NoMaterial 0
+      ∷ SameName (spots.Block 2) ∷ NotConvex 2 1 ∷ []
   pub loads : content_faults two_loads
       ≡ Range (spots.Load 0) keys.Kind ∷ Range (spots.Load 0) keys.Force ∷ NoBlock 0 ∷ LoadOnFixed 1 ∷ []
   pub each : content_faults one_of_each
@@ -113,5 +117,9 @@ pub record WorkedFaults : Type 0 where
       ∷ Missing (spots.Material 0) keys.Friction ∷ []
   pub content : table_faults heavy_table
       ≡ Model (Range (spots.Material 0) keys.Weight) ∷ Model (Range (spots.Material 0) keys.Friction) ∷ []
-  pub numbers : earliest (content_faults (lists_written (replicate 65 stone) [] [])) ≡ Some (TooMany whats.Materials)
-  pub room : content_faults (lists_written (stone ∷ []) (fixed_squares 66) []) ≡ TooMany whats.Fixed ∷ []
+  -- 65 materials, here all of one name, are too many before anything else
+  pub numbers : earliest (content_faults (lists_written (replicate 65 plain_stone) [] []))
+      ≡ Some (TooMany whats.Materials)
+  -- 64 fixed blocks have room; of 66 the 65th alone is told
+  pub room : content_faults (lists_written (plain_stone ∷ []) (fixed_squares 64) []) ≡ []
+  pub no_room : content_faults (lists_written (plain_stone ∷ []) (fixed_squares 66) []) ≡ TooMany whats.Fixed ∷ []

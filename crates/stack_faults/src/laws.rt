@@ -1,7 +1,9 @@
 //! The laws of faults, each a clause of a function that does nothing.
 
 ghost use Rattle.stack_faults.specs.Outline.{OutlineByMeaning, FewPointsAreTheirOutline};
-ghost use Rattle.stack_faults.specs.Laws.{FirstContentFault, ContentWhereFaultless, CrookedByMeaning, FirstShapeFault, ShapeWhereFaultless, FirstTableFault, StructureWhereFaultless, FirstFileFault, FileWhereFaultless};
+ghost use Rattle.stack_faults.specs.Laws.{FirstContentFault, ContentWhereFaultless, CrookedByMeaning};
+ghost use Rattle.stack_faults.specs.Laws.{FirstShapeFault, ShapeWhereFaultless};
+ghost use Rattle.stack_faults.specs.Laws.{FirstTableFault, StructureWhereFaultless, FirstFileFault, FileWhereFaultless};
 ghost use Rattle.stack_faults.specs.WorkedFaults.{WorkedFaults};
 
 /// A list of points gives a strictly convex one, itself or else its reversal. Or neither is strictly convex, and

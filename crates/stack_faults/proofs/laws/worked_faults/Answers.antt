@@ -15,4 +15,5 @@ returns _ = record {
   content = refl;
   numbers = refl;
   room = refl;
+  no_room = refl;
 }
