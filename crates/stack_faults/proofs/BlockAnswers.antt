@@ -1,10 +1,12 @@
 -- What the run over the blocks answers.
-use Rattle.std.proofs.Common.{arith, ◌≡◌, refl, sym, ap, ◌∙◌, subst, ℕ, ◌+◌, ◌<◌, Bool, true, false, not}
+use Rattle.std.proofs.Common.{arith, below_more, ◌≡◌, refl, sym, ap, ◌∙◌, subst, ℕ, ◌+◌, ◌<◌, Bool, true}
+use Rattle.std.proofs.Common.{false, not}
 use Rattle.std.proofs.Common.{◌&&◌, List, [], ◌∷◌}
 use Rattle.std.proofs.Common.{◌++◌, map, length, take, Option, Some, None, Result, Ok, Err}
 use Rattle.std.specs.Prelude.{is_none, nat_lt, ◌==◌, if◌then◌else◌, ⊤, count_by}
 use Rattle.std.proofs.lemmas.Bool.{ltb-true}
-use Rattle.std.proofs.lemmas.List.{take_all}
+use Rattle.std.proofs.lemmas.List.{take_all, get_or_append_left, get_or_push, length_push, get_or-map}
+use Rattle.std.proofs.lemmas.List.{length-map}
 use Rattle.stack_algebra.specs.Steps.{◌>>=◌, steps}
 use Rattle.stack_algebra.specs.Search.{or_else, only_if}
 use Rattle.stack_whole.specs.Limits.{most_free}
@@ -16,7 +18,7 @@ use Rattle.stack_model.specs.declared.places.Key.{Key}
 use Rattle.stack_model.specs.declared.places.What.TheVariants as whats
 use Rattle.stack_model.specs.declared.errors.ModelError.{ModelError}
 use Rattle.stack_model.specs.declared.errors.ModelError.TheVariants.{Range, NotConvex, TooMany}
-use Rattle.stack_model.specs.Structure.{NamedMaterial, NamedBody}
+use Rattle.stack_model.specs.Structure.{NamedMaterial, NamedBody, body_at}
 use Rattle.stack_model.specs.Parts.{MaterialPart, BlockPart, PartLists}
 use Rattle.stack_model.specs.Limits.{most_fixed, is_name, corners_of}
 use Rattle.stack_model.specs.Convex.{at_block, convex}
@@ -24,6 +26,7 @@ use Rattle.stack_model.specs.Content.{unless, ranged, found, is_new, number_of, 
 use Rattle.stack_model.specs.Content.{body_names}
 use Rattle.stack_model.specs.Content.{with_body, add_block}
 use Rattle.stack_model.specs.Sound.{fixed_among, free_among}
+use Rattle.stack_model.proofs.Limited.{number_below, named}
 use Rattle.stack_model.proofs.Apart.{AreApart, HasRoom, no_bodies, one_more_body}
 use Rattle.stack_faults.specs.FaultLists.{earliest}
 use Rattle.stack_faults.specs.ContentFaults.{block_written, lists_material, lists_block, fixed_written}
@@ -32,7 +35,9 @@ use Rattle.stack_faults.specs.ContentFaults.{is_crooked, unclear_edge, causes_of
 use Rattle.stack_faults.proofs.Firsts.{Answers, first_cause, answers_weaker}
 use Rattle.stack_faults.proofs.Names.{at_limit, one_more, count-map, seen, lacking}
 use Rattle.stack_faults.proofs.Walks.{listed}
-use Rattle.stack_faults.proofs.MaterialAnswers.{AreNamed}
+use Rattle.stack_faults.proofs.MaterialAnswers.{AreMaterialsOf, names_of}
+use Rattle.stack_faults.proofs.Written.{outlined}
+use Rattle.stack_faults.specs.AsListed.{IsBodyOf}
 
 -- corners within their limits are crooked, or have an outline
 outline_told : (i : ℕ) (ps : List Point) (o : Option (List Point)) → o ≡ Some ps
@@ -86,7 +91,7 @@ body_told : {A : Type 0} (Q : A → Type 0) (R : Type 0) (c t u z : Bool) (e g x
     (room : Result ⊤ ModelError) (to : ℕ → List Point → A)
     → t ≡ not c → u ≡ is_none at → Answers (λ _. ⊤) outline (only_if z x)
     → Answers (λ _. R) room (first_cause rows)
-    → ((n : ℕ) (qs : List Point) → c ≡ true → R → Q (to n qs))
+    → ((n : ℕ) (qs : List Point) → at ≡ Some n → outline ≡ Ok qs → c ≡ true → R → Q (to n qs))
     → Answers Q (unless c e >>= λ _. found at g >>= λ n. outline >>= λ qs. room >>= λ _. Ok (to n qs))
     (first_cause ((t, e) ∷ (u, g) ∷ (z, x) ∷ rows))
 body_told Q R false t u z e g x rows at outline room to ht hu ho hr h =
@@ -97,8 +102,10 @@ body_told Q R true t u z e g x rows (Some n) (Err y) room to ht hu ho hr h =
     λ i. or_else (only_if (ht i) e) (or_else (only_if (hu i) g) (or_else (ho i) (first_cause rows)))
 body_told Q R true t u z e g x rows (Some n) (Ok qs) (Err y) to ht hu ho hr h =
     λ i. or_else (only_if (ht i) e) (or_else (only_if (hu i) g) (or_else (ho.0 i) (hr i)))
-body_told Q R true t u z e g x rows (Some n) (Ok qs) (Ok y) to ht hu ho hr h =
-    (λ i. or_else (only_if (ht i) e) (or_else (only_if (hu i) g) (or_else (ho.0 i) (hr.0 i))), h n qs refl hr.1)
+body_told Q R true t u z e g x rows (Some n) (Ok qs) (Ok y) to ht hu ho hr h = (
+  λ i. or_else (only_if (ht i) e) (or_else (only_if (hu i) g) (or_else (ho.0 i) (hr.0 i))),
+  h n qs refl refl refl hr.1,
+)
 
 -- and of any block
 steps_told : {A : Type 0} (Q : A → Type 0) (R : Type 0) (a c t u z : Bool) (d e g x : ModelError) (s : Spot)
@@ -106,14 +113,16 @@ steps_told : {A : Type 0} (Q : A → Type 0) (R : Type 0) (a c t u z : Bool) (d 
     (outline : List Point → Result (List Point) ModelError) (room : Result ⊤ ModelError)
     (to : ℕ → List Point → A) → t ≡ not c → u ≡ is_none at
     → ((ps : List Point) → o ≡ Some ps → Answers (λ _. ⊤) (outline ps) (only_if z x))
-    → Answers (λ _. R) room (first_cause rows) → ((n : ℕ) (qs : List Point) → c ≡ true → R → Q (to n qs))
+    → Answers (λ _. R) room (first_cause rows)
+    → ((ps : List Point) (n : ℕ) (qs : List Point) → o ≡ Some ps → at ≡ Some n → outline ps ≡ Ok qs → c ≡ true
+    → R → Q (to n qs))
     → Answers Q (unless a d >>= λ _. ranged s k o >>= λ ps. unless c e >>= λ _. found at g >>= λ n. outline ps
     >>= λ qs. room >>= λ _. Ok (to n qs))
     (first_cause ((not a, d) ∷ (is_none o, Range s k) ∷ (t, e) ∷ (u, g) ∷ (z, x) ∷ rows))
 steps_told Q R false c t u z d e g x s k rows o at outline room to ht hu ho hr h = refl
 steps_told Q R true c t u z d e g x s k rows None at outline room to ht hu ho hr h = refl
 steps_told Q R true c t u z d e g x s k rows (Some ps) at outline room to ht hu ho hr h =
-    body_told Q R c t u z e g x rows at (outline ps) room to ht hu (ho ps refl) hr h
+    body_told Q R c t u z e g x rows at (outline ps) room to ht hu (ho ps refl) hr (λ n qs. h ps n qs refl)
 
 -- what was collected has the names and the flags of these blocks, and keeps apart
 pub record AreBodiesOf (written : List BlockPart) (bs : List NamedBody) : Type 0 where
@@ -133,12 +142,66 @@ room_written fixed written bs h = subst (Answers (λ _. HasRoom fixed bs) (has_r
     (λ i. first_cause (room_causes fixed (counted (λ b. b) written bs h i) (counted not written bs h i)))
     (room_told fixed bs h.apart)
 
-one_told : (parts : PartLists) (ms : List NamedMaterial) → AreNamed parts ms → (i : ℕ) (bs : List NamedBody)
-    → i < length parts.blocks → AreBodiesOf (take i parts.blocks) bs
-    → Answers (AreBodiesOf (take (i + 1) parts.blocks)) (add_block ms i bs (block_written parts i))
+-- so many were collected, and each is the body of its block
+pub record Collected (parts : PartLists) (ms : List NamedMaterial) (written : List BlockPart) (n : ℕ)
+    (bs : List NamedBody) : Type 0 where
+  pub bodies : AreBodiesOf written bs
+  pub count : length bs ≡ n
+  pub each : (k : ℕ) → k < n → IsBodyOf ms (block_written parts k) (body_at bs k)
+
+abbrev nobody : NamedBody
+nobody = record { name = []; material = 0; fixed = true; corners = [] }
+
+one_more_body_of : (parts : PartLists) (ms : List NamedMaterial) (bs : List NamedBody) (c : NamedBody) (i : ℕ)
+    → length bs ≡ i → ((k : ℕ) → k < i → IsBodyOf ms (block_written parts k) (body_at bs k))
+    → IsBodyOf ms (block_written parts i) c
+    → (k : ℕ) → k < i + 1 → IsBodyOf ms (block_written parts k) (body_at (bs ++ c ∷ []) k)
+one_more_body_of parts ms bs c i count each last =
+    below_more (λ k. IsBodyOf ms (block_written parts k) (body_at (bs ++ c ∷ []) k)) i
+    (λ k l. subst (IsBodyOf ms (block_written parts k))
+    (sym (get_or_append_left bs (c ∷ []) nobody k (omega (arith, l, count)))) (each k l))
+    (subst (IsBodyOf ms (block_written parts i)) (sym (get_or_push bs c nobody i count)) last)
+
+new_body : (ms : List NamedMaterial) (b : BlockPart) (i : ℕ) (ps : List Point) (n : ℕ) (qs : List Point)
+    → corners_of b.corners ≡ Some ps → number_of b.material (material_names ms) ≡ Some n → convex i ps ≡ Ok qs
+    → IsBodyOf ms b (record { name = b.name; material = n; fixed = b.fixed; corners = qs })
+new_body ms b i ps n qs h e k =
+    let below : n < length ms = subst (λ m. n < m) (length-map ms (λ (m : NamedMaterial). m.name))
+    (number_below b.material (material_names ms) n e) in
+    record {
+      name = refl;
+      material = below;
+      material_name = sym (get_or-map (λ (m : NamedMaterial). m.name) ms n _ [] below)
+          ∙ sym (named b.material (material_names ms) n e);
+      fixed = refl;
+      points = ps;
+      written = h;
+      outline = outlined i ps qs k;
+    }
+
+-- with the body of one block more
+one_collected : (parts : PartLists) (ms : List NamedMaterial) (i : ℕ) (bs : List NamedBody) (c : NamedBody)
+    → i < length parts.blocks → Collected parts ms (take i parts.blocks) i bs
+    → IsBodyOf ms (block_written parts i) c → is_new c.name (body_names bs) ≡ true → HasRoom c.fixed bs
+    → Collected parts ms (take (i + 1) parts.blocks) (i + 1) (bs ++ c ∷ [])
+one_collected parts ms i bs c l h last new room = record {
+  bodies = record {
+    names = one_more (λ (b : NamedBody). b.name) (λ (b : BlockPart). b.name) bs c parts.blocks i _ l last.name
+        h.bodies.names;
+    flags = one_more (λ (b : NamedBody). b.fixed) (λ (b : BlockPart). b.fixed) bs c parts.blocks i _ l last.fixed
+        h.bodies.flags;
+    apart = one_more_body bs c new room h.bodies.apart;
+  };
+  count = length_push bs c ∙ ap (λ k. k + 1) h.count;
+  each = one_more_body_of parts ms bs c i h.count h.each last;
+}
+
+one_told : (parts : PartLists) (ms : List NamedMaterial) → AreMaterialsOf parts.materials ms → (i : ℕ)
+    (bs : List NamedBody) → i < length parts.blocks → Collected parts ms (take i parts.blocks) i bs
+    → Answers (Collected parts ms (take (i + 1) parts.blocks) (i + 1)) (add_block ms i bs (block_written parts i))
     (first_cause (causes_of_block parts i))
 unfolding add_block with_body
-one_told parts ms named i bs l h =
+one_told parts ms materials i bs l h =
     let b = block_written parts i in
     let made = λ (n : ℕ) (qs : List Point). let r : NamedBody = record {
       name = b.name;
@@ -146,31 +209,36 @@ one_told parts ms named i bs l h =
       fixed = b.fixed;
       corners = qs;
     } in r in
-    steps_told (AreBodiesOf (take (i + 1) parts.blocks)) (HasRoom b.fixed bs) (is_name b.name)
+    steps_told (Collected parts ms (take (i + 1) parts.blocks) (i + 1)) (HasRoom b.fixed bs) (is_name b.name)
     (is_new b.name (body_names bs)) (lists_block b.name (take i parts.blocks))
     (not (lists_material b.material parts.materials)) (is_crooked (corners_of b.corners)) _ _ _
     (NotConvex i (unclear_edge (corners_of b.corners))) _ _
     (room_causes b.fixed (fixed_written (take i parts.blocks)) (free_written (take i parts.blocks)))
     (corners_of b.corners) (number_of b.material (material_names ms)) (convex i) (has_room b.fixed bs)
     (λ n qs. bs ++ made n qs ∷ [])
-    (seen (λ (b : BlockPart). b.name) b.name (take i parts.blocks) (body_names bs) h.names)
-    (lacking (λ (m : MaterialPart). m.name) b.material parts.materials (material_names ms) named)
+    (seen (λ (b : BlockPart). b.name) b.name (take i parts.blocks) (body_names bs) h.bodies.names)
+    (lacking (λ (m : MaterialPart). m.name) b.material parts.materials (material_names ms)
+    (names_of parts.materials ms materials))
     (λ ps e. outline_told i ps (corners_of b.corners) e)
-    (room_written b.fixed (take i parts.blocks) bs h)
-    (λ n qs new room. record {
-      names = one_more (λ (b : NamedBody). b.name) (λ (b : BlockPart). b.name) bs (made n qs) parts.blocks i _ l
-          refl h.names;
-      flags = one_more (λ (b : NamedBody). b.fixed) (λ (b : BlockPart). b.fixed) bs (made n qs) parts.blocks i _ l
-          refl h.flags;
-      apart = one_more_body bs (made n qs) new room h.apart;
-    })
+    (room_written b.fixed (take i parts.blocks) bs h.bodies)
+    (λ ps n qs corners number outline new room. one_collected parts ms i bs (made n qs) l h
+    (new_body ms b i ps n qs corners number outline) new room)
 
-pub blocks_told : (parts : PartLists) (ms : List NamedMaterial) → AreNamed parts ms
-    → Answers (AreBodiesOf parts.blocks) (steps (add_block ms) 0 [] parts.blocks)
+-- all of them
+abbrev pub AreAll : PartLists → List NamedMaterial → List NamedBody → Type 0
+AreAll parts ms bs = Collected parts ms parts.blocks (length parts.blocks) bs
+
+pub blocks_told : (parts : PartLists) (ms : List NamedMaterial) → AreMaterialsOf parts.materials ms
+    → Answers (AreAll parts ms) (steps (add_block ms) 0 [] parts.blocks)
     (earliest (faults_by (length parts.blocks) (causes_of_block parts)))
-blocks_told parts ms named =
-    answers_weaker (AreBodiesOf (take (length parts.blocks) parts.blocks)) (AreBodiesOf parts.blocks) _ _
-    (λ bs h. subst (λ written. AreBodiesOf written bs)
+blocks_told parts ms materials =
+    answers_weaker (Collected parts ms (take (length parts.blocks) parts.blocks) (length parts.blocks))
+    (AreAll parts ms) _ _
+    (λ bs h. subst (λ written. Collected parts ms written (length parts.blocks) bs)
     (take_all (length parts.blocks) parts.blocks (omega arith)) h)
-    (listed (add_block ms) parts.blocks _ (λ i. AreBodiesOf (take i parts.blocks)) (causes_of_block parts)
-    (one_told parts ms named) [] (record { names = refl; flags = refl; apart = no_bodies }))
+    (listed (add_block ms) parts.blocks _ (λ i. Collected parts ms (take i parts.blocks) i) (causes_of_block parts)
+    (one_told parts ms materials) [] (record {
+      bodies = record { names = refl; flags = refl; apart = no_bodies };
+      count = refl;
+      each = λ k l. absurd (omega (arith, l));
+    }))

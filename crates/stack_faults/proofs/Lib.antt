@@ -2,6 +2,7 @@ pub mod FirstEdges
 pub mod Firsts
 pub mod Walks
 pub mod Names
+pub mod Written
 pub mod MaterialAnswers
 pub mod BlockAnswers
 pub mod LoadAnswers

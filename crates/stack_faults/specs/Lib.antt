@@ -1,6 +1,7 @@
 pub mod Outline
 pub mod FaultLists
 pub mod ContentFaults
+pub mod AsListed
 pub mod TableFaults
 pub mod Laws
 pub mod WorkedFaults

@@ -1,6 +1,6 @@
--- All faults of a document's table: those of its shape, each by a property of the table as it stands, and where it
--- has none those of the content that it lists. The top comes first, and then the tables of materials, of blocks and
--- of loads, one after the other in the order of the file; in a table an unknown key, and then its keys as here.
+-- All faults of a document's table: those of its shape, each by a property of the table as it stands, and where
+-- it has none those of the content that it lists. The top comes first, and then the tables of materials, of blocks
+-- and of loads, one after the other in the order of the file; in a table an unknown key, and then its keys as here.
 use Rattle.std.specs.Prelude.{ℕ, Bool, false, not, List, [], ◌∷◌, ◌++◌, map, length, get_or, Option, Some}
 use Rattle.std.specs.Prelude.{None, is_none}
 use Rattle.std.specs.Prelude.{Result, Ok, Err, option_and_then}

@@ -42,8 +42,8 @@ plain_stone = material_called (codes "stone") (pos 1) (pos 1 ∷ pos 2 ∷ [])
 abbrev pub clockwise_square : List (List ℤ)
 clockwise_square = drawn_at 0 0 ∷ drawn_at 0 2 ∷ drawn_at 2 2 ∷ drawn_at 2 0 ∷ []
 
--- the third corner lies inside the triangle of the others, so that edge 1, which ends there, has the fourth on its
--- right
+-- the third corner lies inside the triangle of the others, so that edge 1, which ends there, has the fourth on
+-- its right
 abbrev pub dart : List (List ℤ)
 dart = drawn_at 0 0 ∷ drawn_at 4 0 ∷ drawn_at 1 1 ∷ drawn_at 0 4 ∷ []
 
@@ -85,7 +85,7 @@ abbrev pub fixed_squares : ℕ → List BlockPart
 fixed_squares zero = []
 fixed_squares (suc n) = fixed_squares n ++ block_called (two_digits n) (codes "stone") true clockwise_square ∷ []
 
--- there are a key `beam` and a `block` that is a number, and material 0 has a name that is a number and no friction
+-- there are a key `beam` and a `block` that is a number; material 0 has a name that is a number, and no friction
 abbrev pub ill_table : Members
 ill_table =
     member (codes "beam") (integer (pos 1)) (member (codes "block") (integer (pos 0)) (member (codes "material")

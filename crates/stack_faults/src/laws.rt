@@ -1,9 +1,11 @@
 //! The laws of faults, each a clause of a function that does nothing.
 
 ghost use Rattle.stack_faults.specs.Outline.{OutlineByMeaning, FewPointsAreTheirOutline};
+ghost use Rattle.stack_faults.specs.AsListed.{StructureAsListed};
 ghost use Rattle.stack_faults.specs.Laws.{FirstContentFault, ContentWhereFaultless, CrookedByMeaning};
 ghost use Rattle.stack_faults.specs.Laws.{FirstShapeFault, ShapeWhereFaultless};
-ghost use Rattle.stack_faults.specs.Laws.{FirstTableFault, StructureWhereFaultless, FirstFileFault, FileWhereFaultless};
+ghost use Rattle.stack_faults.specs.Laws.{FirstTableFault, StructureWhereFaultless};
+ghost use Rattle.stack_faults.specs.Laws.{FirstFileFault, FileWhereFaultless};
 ghost use Rattle.stack_faults.specs.WorkedFaults.{WorkedFaults};
 
 /// A list of points gives a strictly convex one, itself or else its reversal. Or neither is strictly convex, and
@@ -14,15 +16,17 @@ pub fn outline_by_meaning()
 {}
 
 /// Of what a file lists, the fault that is answered is the first of all faults of content, and a structure comes
-/// exactly where there is none. Corners have a fault of their own exactly where they have no outline.
+/// exactly where there is none. The structure is what is listed, but for outlines in place of corners and numbers
+/// in place of names. Corners have a fault of their own exactly where they have no outline.
 pub fn first_content_fault()
     ensures first { FirstContentFault }
     ensures faultless { ContentWhereFaultless }
+    ensures listed { StructureAsListed }
     ensures crooked { CrookedByMeaning }
 {}
 
-/// Of a document's table, the fault that is answered is the first of all faults of shape and, where there is none,
-/// of content; and a structure comes exactly where there is none.
+/// Of a document's table, the fault that is answered is the first of all faults of shape and, where it has none, of
+/// content; and a structure comes exactly where there is none.
 pub fn first_table_fault()
     ensures shape { FirstShapeFault }
     ensures shape_faultless { ShapeWhereFaultless }

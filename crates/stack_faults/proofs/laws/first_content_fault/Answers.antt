@@ -2,7 +2,7 @@ use Rattle.stack_model.specs.Content.{content_of}
 use Rattle.stack_faults.specs.ContentFaults.{content_faults}
 use Rattle.stack_faults.proofs.Firsts.{faultless}
 use Rattle.stack_faults.proofs.Crooked.{crooked_by_meaning}
-use Rattle.stack_faults.proofs.ContentAnswers.{content_first}
+use Rattle.stack_faults.proofs.ContentAnswers.{content_first, as_listed}
 use Rattle.stack_faults.proofs.laws.first_content_fault.Goals as goal
 
 pub returns-clause-first : goal.returns-clause-first
@@ -13,3 +13,6 @@ returns-clause-faultless _ = λ parts. faultless (content_of parts) (content_fau
 
 pub returns-clause-crooked : goal.returns-clause-crooked
 returns-clause-crooked _ = crooked_by_meaning
+
+pub returns-clause-listed : goal.returns-clause-listed
+returns-clause-listed _ = as_listed

@@ -1,0 +1,92 @@
+-- Values within their limits, as they were written.
+use Rattle.std.proofs.Common.{◌≡◌, refl, sym, ap, ◌∙◌, subst, ℕ, ◌+◌, ◌<◌, ℤ, pos, negsuc, Bool, true}
+use Rattle.std.proofs.Common.{false, ◌&&◌}
+use Rattle.std.proofs.Common.{List, [], ◌∷◌, ◌++◌, map, length, get_or, take, codes, Option, Some, None}
+use Rattle.std.proofs.Common.{Ok, Err}
+use Rattle.std.specs.Prelude.{Result, if◌then◌else◌, MatchResult}
+use Rattle.std.specs.Str.{bytes_eq}
+use Rattle.std.proofs.lemmas.Slice.Eq.{bytes_eq-Decides}
+use Rattle.std.proofs.lemmas.List.{map-append, take_more}
+use Rattle.stack_polygon.specs.declared.point.Point.{Point}
+use Rattle.stack_polygon.specs.Limits.{is_near}
+use Rattle.stack_polygon.specs.Outlines.{outline_of}
+use Rattle.stack_model.specs.Limits.{is_between, friction_of, point_of, live_of, force_of}
+use Rattle.stack_model.specs.Convex.{at_block, convex}
+use Rattle.stack_model.specs.Relisted.{coordinates, kind_of}
+use Rattle.stack_faults.specs.Outline.{IsOutlineOf, HasNoOutline}
+use Rattle.stack_faults.proofs.FirstEdges.{by_meaning}
+
+-- one more collected, which is listed as it is written
+pub one_more_same : {X Y : Type 0} (f : X → Y) (xs : List X) (x : X) (ys : List Y) (i : ℕ) (d : Y) → i < length ys
+    → f x ≡ get_or ys i d → map f xs ≡ take i ys → map f (xs ++ x ∷ []) ≡ take (i + 1) ys
+one_more_same f xs x ys i d l same h = map-append f xs (x ∷ []) ∙ (λ k. h k ++ same k ∷ [])
+    ∙ sym (take_more ys i d l)
+
+-- two numbers that pass
+abbrev pair_of : (ℤ → Bool) → (ℤ → Bool) → List ℤ → Option (ℤ × ℤ)
+pair_of p q (x ∷ y ∷ []) = if p x && q y then Some (x, y) else None
+pair_of p q _ = None
+
+pair_back : (p q : ℤ → Bool) (zs : List ℤ) (f : ℤ × ℤ) → pair_of p q zs ≡ Some f → f.0 ∷ f.1 ∷ [] ≡ zs
+pair_back p q (x ∷ y ∷ []) f h = go (p x && q y) h
+  where
+    go : (b : Bool) → (if b then Some (x, y) else None) ≡ Some f → f.0 ∷ f.1 ∷ [] ≡ x ∷ y ∷ []
+    go true e = let same : (x, y) ≡ f = cc in λ i. (sym same i).0 ∷ (sym same i).1 ∷ []
+    go false e = absurd cc
+pair_back p q [] f h = absurd cc
+pair_back p q (x ∷ []) f h = absurd cc
+pair_back p q (x ∷ y ∷ z ∷ zs) f h = absurd cc
+
+friction_pair : (zs : List ℤ) → friction_of zs
+    ≡ pair_of (is_between (pos 0) (pos 1000)) (is_between (pos 1) (pos 1000)) zs
+friction_pair [] = refl
+friction_pair (x ∷ []) = refl
+friction_pair (x ∷ y ∷ []) = refl
+friction_pair (x ∷ y ∷ z ∷ zs) = refl
+
+pub friction_back : (zs : List ℤ) (f : ℤ × ℤ) → friction_of zs ≡ Some f → f.0 ∷ f.1 ∷ [] ≡ zs
+friction_back zs f h = pair_back (is_between (pos 0) (pos 1000)) (is_between (pos 1) (pos 1000)) zs f
+    (sym (friction_pair zs) ∙ h)
+
+abbrev is_part : ℤ → Bool
+is_part z = is_between (negsuc 999999999) (pos 1000000000) z
+
+force_pair : (zs : List ℤ) → force_of zs ≡ pair_of is_part is_part zs
+force_pair [] = refl
+force_pair (x ∷ []) = refl
+force_pair (x ∷ y ∷ []) = refl
+force_pair (x ∷ y ∷ z ∷ zs) = refl
+
+pub force_back : (zs : List ℤ) (f : ℤ × ℤ) → force_of zs ≡ Some f → f.0 ∷ f.1 ∷ [] ≡ zs
+force_back zs f h = pair_back is_part is_part zs f (sym (force_pair zs) ∙ h)
+
+pub point_back : (zs : List ℤ) (c : Point) → point_of zs ≡ Some c → coordinates c ≡ zs
+point_back (x ∷ y ∷ []) c h = go (is_near x && is_near y) h
+  where
+    go : (b : Bool) → (if b then Some (record { x = x; y = y }) else None) ≡ Some c → coordinates c ≡ x ∷ y ∷ []
+    go true e = let q : Point = record { x = x; y = y } in
+        let same : q ≡ c = cc in ap coordinates (sym same)
+    go false e = absurd cc
+point_back [] c h = absurd cc
+point_back (x ∷ []) c h = absurd cc
+point_back (x ∷ y ∷ z ∷ zs) c h = absurd cc
+
+pub kind_back : (kind : List ℕ) (live : Bool) → live_of kind ≡ Some live → kind_of live ≡ kind
+kind_back kind live h = go (bytes_eq kind (codes "live")) (bytes_eq kind (codes "dead")) refl refl h
+  where
+    go : (a b : Bool) → bytes_eq kind (codes "live") ≡ a → bytes_eq kind (codes "dead") ≡ b
+        → (if a then Some true else (if b then Some false else None)) ≡ Some live → kind_of live ≡ kind
+    go true b ea eb e = let same : true ≡ live = cc in
+        ap kind_of (sym same) ∙ sym ((bytes_eq-Decides kind (codes "live")).0 ea)
+    go false true ea eb e = let same : false ≡ live = cc in
+        ap kind_of (sym same) ∙ sym ((bytes_eq-Decides kind (codes "dead")).0 eb)
+    go false false ea eb e = absurd cc
+
+-- the outline of a block
+pub outlined : (i : ℕ) (ps qs : List Point) → convex i ps ≡ Ok qs → IsOutlineOf ps qs
+outlined i ps qs h = go (outline_of ps) (by_meaning ps) h
+  where
+    go : (r : Result (List Point) ℕ) → MatchResult r (λ qs. IsOutlineOf ps qs) (λ e. HasNoOutline ps e)
+        → at_block i r ≡ Ok qs → IsOutlineOf ps qs
+    go (Ok rs) m e = let same : rs ≡ qs = cc in subst (IsOutlineOf ps) same m
+    go (Err x) m e = absurd cc

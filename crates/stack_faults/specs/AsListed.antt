@@ -1,0 +1,31 @@
+-- The structure of what a file lists, beside the lists as they are written, without following a run.
+use Rattle.std.specs.Prelude.{◌≡◌, ℕ, ◌<◌, List, map, length, Some, Ok}
+use Rattle.stack_polygon.specs.declared.point.Point.{Point}
+use Rattle.stack_model.specs.Structure.{NamedMaterial, NamedBody, Structure, material_at, body_of}
+use Rattle.stack_model.specs.Parts.{BlockPart, PartLists}
+use Rattle.stack_model.specs.Limits.{corners_of}
+use Rattle.stack_model.specs.Content.{content_of}
+use Rattle.stack_model.specs.Relisted.{material_listed, load_listed}
+use Rattle.stack_faults.specs.Outline.{IsOutlineOf}
+use Rattle.stack_faults.specs.ContentFaults.{block_written}
+
+-- a body is the block as it is written, but that it has the outline of the block's corners, and the number of the
+-- material of the name
+pub record IsBodyOf (ms : List NamedMaterial) (b : BlockPart) (c : NamedBody) : Type 0 where
+  pub name : c.name ≡ b.name
+  pub material : c.material < length ms
+  pub material_name : (material_at ms c.material).name ≡ b.material
+  pub fixed : c.fixed ≡ b.fixed
+  pub points : List Point
+  pub written : corners_of b.corners ≡ Some points
+  pub outline : IsOutlineOf points c.corners
+
+-- the materials and the loads, listed as a file lists them, are those that are written; each block has its body
+pub record IsStructureOf (parts : PartLists) (s : Structure) : Type 0 where
+  pub materials : map material_listed s.materials ≡ parts.materials
+  pub count : length s.bodies ≡ length parts.blocks
+  pub bodies : (i : ℕ) → i < length parts.blocks → IsBodyOf s.materials (block_written parts i) (body_of s i)
+  pub loads : map (load_listed s.bodies) s.loads ≡ parts.loads
+
+abbrev pub StructureAsListed : Type 0
+StructureAsListed = (parts : PartLists) (s : Structure) → content_of parts ≡ Ok s → IsStructureOf parts s
