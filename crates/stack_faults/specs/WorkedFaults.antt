@@ -48,7 +48,7 @@ abbrev pub dart : List (List ℤ)
 dart = drawn_at 0 0 ∷ drawn_at 4 0 ∷ drawn_at 1 1 ∷ drawn_at 0 4 ∷ []
 
 abbrev pub fixed_square : BlockPart
-fixed_square = block_called (codes "ground") (codes "stone") true clockwise_square
+fixed_square = block_called (codes "base") (codes "stone") true clockwise_square
 
 -- material 0 has a weight below 0; material 1 has one number of friction, and the name of material 0
 abbrev pub two_materials : PartLists
@@ -68,7 +68,7 @@ three_blocks = lists_written (plain_stone ∷ []) (
 abbrev pub two_loads : PartLists
 two_loads = lists_written (plain_stone ∷ []) (fixed_square ∷ []) (
     load_called (codes "post") (codes "alive") (drawn_at 0 0) (pos 1 ∷ [])
-    ∷ load_called (codes "ground") (codes "live") (drawn_at 0 2) (pos 0 ∷ negsuc 0 ∷ []) ∷ [])
+    ∷ load_called (codes "base") (codes "live") (drawn_at 0 2) (pos 0 ∷ negsuc 0 ∷ []) ∷ [])
 
 -- a fault of a material, of a block and of a load
 abbrev pub one_of_each : PartLists
