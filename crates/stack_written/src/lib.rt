@@ -1,0 +1,7 @@
+//! The numbers of the written sums, rates and powers as lists of whole numbers, and that each is refused exactly where
+//! one of its numbers passes 2^127 - 1 in size: laws, on which nothing stands.
+#![tactic(auto)]
+
+mod laws;
+
+pub use laws::sum_number_laws;
