@@ -1,3 +1,5 @@
 pub mod Chains
 pub mod SumsMade
 pub mod ThreeSums
+pub mod RatesMade
+pub mod PowersMade

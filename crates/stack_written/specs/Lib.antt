@@ -1,2 +1,4 @@
 pub mod InTurn
 pub mod SumNumbers
+pub mod RateNumbers
+pub mod PowerNumbers

@@ -1,6 +1,8 @@
 //! The laws, each a clause of a function that does nothing.
 
 ghost use Rattle.stack_written.specs.SumNumbers.{SumIsMadeOfItsNumbers, NumbersEndInTheSum, SumsAreMadeOfTheirNumbers, SurveySumsAreMadeOfTheirNumbers};
+ghost use Rattle.stack_written.specs.RateNumbers.{RatesAreMadeOfTheirNumbers};
+ghost use Rattle.stack_written.specs.PowerNumbers.{PowerIsMadeOfItsNumbers, PowerIsTheWorkOnFreeBlocks};
 
 /// A block's written sum along an axis is the exact sum exactly where all numbers of its list fit, and is refused
 /// exactly where one of them passes; the last of them is the sum. Its three sums are refused with the first axis one
@@ -10,4 +12,17 @@ pub fn sum_number_laws()
     ensures last { NumbersEndInTheSum }
     ensures three { SumsAreMadeOfTheirNumbers }
     ensures survey { SurveySumsAreMadeOfTheirNumbers }
+{}
+
+/// A bearing's written opening and slide are those of the scene exactly where all numbers of their list fit, and are
+/// refused exactly where one of them passes.
+pub fn rate_number_laws()
+    ensures { RatesAreMadeOfTheirNumbers }
+{}
+
+/// The written power of the loads on a motion is that of the scene exactly where all numbers of its list fit, and is
+/// refused exactly where one of them passes.
+pub fn power_number_laws()
+    ensures scene { PowerIsMadeOfItsNumbers }
+    ensures frees { PowerIsTheWorkOnFreeBlocks }
 {}

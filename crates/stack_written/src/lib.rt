@@ -4,4 +4,4 @@
 
 mod laws;
 
-pub use laws::sum_number_laws;
+pub use laws::{power_number_laws, rate_number_laws, sum_number_laws};
