@@ -9,7 +9,7 @@ use Rattle.stack_algebra.specs.Steps.{◌>>=◌, steps}
 use Rattle.stack_whole.specs.declared.whole.Wide.{Wide}
 use Rattle.stack_whole.specs.declared.whole.Whole.{Whole}
 use Rattle.stack_whole.specs.Whole.{IsFitting, Passes, fits, made, whole}
-use Rattle.stack_written.specs.InTurn.{AllFit, OnePasses, lists_in_turn, IsMadeOf}
+use Rattle.stack_written.specs.InTurn.{AllFit, OnePasses, OnePassesOrAllFit, lists_in_turn, IsMadeOf}
 
 -- a result after a number, which fits or not
 abbrev pub or_wide : {A : Type 0} → Bool → Result A Wide → Result A Wide
@@ -108,6 +108,13 @@ either (n ∷ ns) = go (cases_lt (nat_abs n) (2 ^ 127)) (either ns)
     go (inr p) rest = inr (0, n, omega arith, refl, p)
     go (inl h) (inl all) = inl (All-cons IsFitting n ns h all)
     go (inl h) (inr p) = let l = p.2 in inr (suc p.0, p.1, omega (arith, l), p.3, p.4)
+
+pub one_passes_or_all_fit : OnePassesOrAllFit
+one_passes_or_all_fit ns = (λ p all. not_both ns all p, λ h. go h (either ns))
+  where
+    go : (¬ (AllFit ns)) → AllFit ns ⊎ OnePasses ns → OnePasses ns
+    go h (inl all) = absurd (h all)
+    go h (inr p) = p
 
 -- after one that fits
 later : (n : ℤ) (ns : List ℤ) (k : ℕ) (x : ℤ) → IsFitting n → k < length (n ∷ ns) → get_or (n ∷ ns) k x ≡ x →

@@ -3,3 +3,4 @@ pub mod SumsMade
 pub mod ThreeSums
 pub mod RatesMade
 pub mod PowersMade
+pub mod Worked

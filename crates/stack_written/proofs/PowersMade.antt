@@ -1,27 +1,25 @@
 -- The written power of loads on a motion is made of its numbers.
-use Rattle.std.proofs.Common.{◌≡◌, refl, sym, ap, subst, ◌∙◌, ℕ, suc, ◌+◌, ℤ, pos, ◌+ℤ◌, ◌*ℤ◌, List, [], ◌∷◌, ◌++◌}
+use Rattle.std.proofs.Common.{◌≡◌, refl, ap, subst, ◌∙◌, ℕ, suc, ◌+◌, ℤ, ◌+ℤ◌, ◌*ℤ◌, List, [], ◌∷◌}
 use Rattle.std.proofs.Common.{length, get_or, Result, Ok, Err, arith}
 use Rattle.std.specs.Prelude.{IsErr}
 use Rattle.std.proofs.lemmas.Bool.{false≢true}
-use Rattle.stack_algebra.specs.Steps.{◌>>=◌}
 use Rattle.stack_algebra.proofs.Integers.{sums}
 use Rattle.stack_contact.specs.Surveyed.{Surveyed}
 use Rattle.stack_contact.specs.FreeBlocks.{frees_of}
 use Rattle.stack_certificate.specs.Certificate.{MotionValue}
 use Rattle.stack_whole.specs.declared.whole.Wide.{Wide}
 use Rattle.stack_whole.specs.declared.whole.Whole.{Whole}
-use Rattle.stack_whole.specs.Whole.{made, whole}
+use Rattle.stack_whole.specs.Whole.{whole}
 use Rattle.stack_equilibrium.specs.declared.types.Wrench.{Wrench}
 use Rattle.stack_equilibrium.specs.declared.types.Question.{Question}
 use Rattle.stack_equilibrium.specs.declared.velocity.BlockMove.{BlockMove}
 use Rattle.stack_equilibrium.specs.SurveyScene.{scene_of}
 use Rattle.stack_equilibrium.specs.Held.{move_at}
-use Rattle.stack_equilibrium.specs.WrittenVelocities.{block_move_at}
 use Rattle.stack_equilibrium.specs.WrittenPowers.{with_product, with_work, with_block, summed_power, told_power}
 use Rattle.stack_equilibrium.specs.WrittenPowers.{written_power}
 use Rattle.stack_equilibrium.specs.Answers.{power_of}
 use Rattle.stack_equilibrium.proofs.ScenePowers.{power_is}
-use Rattle.stack_written.specs.InTurn.{lists_in_turn, IsMadeOf}
+use Rattle.stack_written.specs.InTurn.{IsMadeOf}
 use Rattle.stack_written.specs.PowerNumbers.{loads_of_free, move_of_free, work_on_first, work_numbers, power_numbers}
 use Rattle.stack_written.proofs.Chains.{InOrder, last_one, then_one, after_all, steps_in_turn}
 use Rattle.stack_written.proofs.Chains.{from_each, is_made}

@@ -1,10 +1,9 @@
 -- The written opening and slide of a bearing are made of their numbers.
 use Rattle.std.proofs.Common.{◌≡◌, refl, sym, ap, subst, ◌∙◌, ℕ, ℤ, pos, ◌+ℤ◌, ◌-ℤ◌, ◌*ℤ◌, neg_ℤ, Bool, true, false}
-use Rattle.std.proofs.Common.{cond, not, List, [], ◌∷◌, ◌++◌, get_or, Result, Ok, Err, arith}
+use Rattle.std.proofs.Common.{cond, not, List, [], ◌∷◌, get_or, Result, Ok, Err, arith}
 use Rattle.std.specs.Prelude.{IsErr, if◌then◌else◌}
 use Rattle.std.proofs.Math.ListN.{get_or-map}
 use Rattle.std.proofs.lemmas.Bool.{false≢true}
-use Rattle.stack_algebra.specs.Steps.{◌>>=◌}
 use Rattle.stack_algebra.proofs.Integers.{expand, sums}
 use Rattle.stack_model.specs.Structure.{body_of}
 use Rattle.stack_contact.specs.declared.types.Bearing.{Bearing}
@@ -13,7 +12,7 @@ use Rattle.stack_contact.specs.Surveyed.{Surveyed}
 use Rattle.stack_certificate.specs.Certificate.{MotionValue}
 use Rattle.stack_whole.specs.declared.whole.Wide.{Wide}
 use Rattle.stack_whole.specs.declared.whole.Whole.{Whole}
-use Rattle.stack_whole.specs.Whole.{made, whole}
+use Rattle.stack_whole.specs.Whole.{whole}
 use Rattle.stack_equilibrium.specs.declared.velocity.Velocity.{Velocity}
 use Rattle.stack_equilibrium.specs.declared.velocity.Gap.{Gap}
 use Rattle.stack_equilibrium.specs.Scene.{Move}
@@ -25,7 +24,7 @@ use Rattle.stack_equilibrium.specs.WrittenVelocities.{block_move_at, at_rest, wr
 use Rattle.stack_equilibrium.specs.WrittenVelocities.{written_difference, written_normal, written_tangential}
 use Rattle.stack_equilibrium.specs.WrittenVelocities.{written_gap, gap_at, told_gap, written_opening}
 use Rattle.stack_equilibrium.proofs.FreeNumbers.{before_is}
-use Rattle.stack_written.specs.InTurn.{AllFit, OnePasses, IsMadeOf}
+use Rattle.stack_written.specs.InTurn.{IsMadeOf}
 use Rattle.stack_written.specs.RateNumbers.{x_rate, y_rate, velocity_numbers, x_difference, y_difference}
 use Rattle.stack_written.specs.RateNumbers.{exact_opening, exact_slide, gap_numbers}
 use Rattle.stack_written.proofs.Chains.{InOrder, none_more, last_one, then_one, after_all, told_as}

@@ -1,11 +1,10 @@
 -- The written sum of a block is made of its numbers.
-use Rattle.std.proofs.Common.{◌≡◌, refl, sym, subst, ℕ, suc, ◌+◌, ◌<◌, ℤ, pos, negsuc, ◌+ℤ◌, ◌-ℤ◌, ◌*ℤ◌, neg_ℤ}
+use Rattle.std.proofs.Common.{◌≡◌, sym, subst, ℕ, suc, ◌+◌, ℤ, pos, negsuc, ◌+ℤ◌, ◌-ℤ◌, ◌*ℤ◌, neg_ℤ}
 use Rattle.std.proofs.Common.{Bool, true, false, cond, List, [], ◌∷◌, ◌++◌, length, get_or, Result, Ok, arith}
 use Rattle.std.proofs.Common.{append_assoc}
 use Rattle.std.specs.Prelude.{nat_eq, ◌||◌, if◌then◌else◌}
 use Rattle.stack_algebra.specs.Steps.{◌>>=◌, steps}
 use Rattle.stack_algebra.proofs.Integers.{expand, sums}
-use Rattle.stack_polygon.specs.declared.point.Point.{Point}
 use Rattle.stack_contact.specs.declared.types.Bearing.{Bearing}
 use Rattle.stack_whole.specs.declared.whole.Wide.{Wide}
 use Rattle.stack_whole.specs.declared.whole.Whole.{Whole}
@@ -15,7 +14,7 @@ use Rattle.stack_equilibrium.specs.declared.types.Axis.TheVariants.{X, Y, M}
 use Rattle.stack_equilibrium.specs.declared.block.Push.{Push}
 use Rattle.stack_equilibrium.specs.declared.block.Block.{Block}
 use Rattle.stack_equilibrium.specs.Scene as scene
-use Rattle.stack_equilibrium.specs.Balance.{force_x_of, force_y_of, moment_of, side_of}
+use Rattle.stack_equilibrium.specs.Balance.{force_x_of, force_y_of, moment_of}
 use Rattle.stack_equilibrium.specs.SurveyScene.{scene_bearing_of, no_bearing}
 use Rattle.stack_equilibrium.specs.Held.{part_of_pair}
 use Rattle.stack_equilibrium.specs.WrittenSums.{along, push_at, joint_at, written_force_x, written_force_y}

@@ -16,6 +16,10 @@ AllFit numbers = All IsFitting numbers
 abbrev pub OnePasses : List ℤ → Type 0
 OnePasses numbers = Any Passes numbers
 
+-- not all of them fit exactly where one passes
+abbrev pub OnePassesOrAllFit : Type 0
+OnePassesOrAllFit = (numbers : List ℤ) → OnePasses numbers ↔ (¬ (AllFit numbers))
+
 -- the first n lists, one after the other
 abbrev pub lists_in_turn : ℕ → (ℕ → List ℤ) → List ℤ
 lists_in_turn n lists = flat_map (λ numbers. numbers) (listed n lists)

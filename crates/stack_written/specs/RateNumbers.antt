@@ -12,32 +12,35 @@ use Rattle.stack_equilibrium.specs.WrittenVelocities.{written_opening}
 use Rattle.stack_written.specs.InTurn.{IsMadeOf}
 
 module _ (s : Surveyed) (y : MotionValue) (z : Bearing) where
-  -- the velocity of body i at the bearing
+  -- the velocity of body i at the bearing, along x
   abbrev pub x_rate : ℕ → ℤ
   x_rate i = velocity_x_of (scene_of s) (move_at s y) (scene_bearing_of z) i
 
+  -- and along y
   abbrev pub y_rate : ℕ → ℤ
   y_rate i = velocity_y_of (scene_of s) (move_at s y) (scene_bearing_of z) i
 
-  -- its numbers: the turning rate times the distance upwards and the velocity along x, then the same along y; none
-  -- of a fixed body
+  -- its numbers: r*ly and the velocity along x, r*lx and that along y, with (lx, ly) the point less the body's first
+  -- stored corner; none of a fixed body
   abbrev pub velocity_numbers : ℕ → List ℤ
   velocity_numbers i =
       if (body_of s.structure i).fixed then []
       else ((move_at s y i).r *ℤ (z.at.y -ℤ (first_corner_of s.structure i).y)) ∷ x_rate i
       ∷ ((move_at s y i).r *ℤ (z.at.x -ℤ (first_corner_of s.structure i).x)) ∷ y_rate i ∷ []
 
-  -- the later body's velocity less the earlier's
+  -- the later body's velocity less the earlier's, along x
   abbrev pub x_difference : ℤ
   x_difference = x_rate z.second -ℤ x_rate z.first
 
+  -- and along y
   abbrev pub y_difference : ℤ
   y_difference = y_rate z.second -ℤ y_rate z.first
 
-  -- how the bearing opens and slides
+  -- how the bearing opens
   abbrev pub exact_opening : ℤ
   exact_opening = opening_of (scene_of s) (move_at s y) (scene_bearing_of z)
 
+  -- and slides
   abbrev pub exact_slide : ℤ
   exact_slide = slide_of (scene_of s) (move_at s y) (scene_bearing_of z)
 

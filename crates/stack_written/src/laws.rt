@@ -1,8 +1,15 @@
 //! The laws, each a clause of a function that does nothing.
 
+ghost use Rattle.stack_written.specs.InTurn.{OnePassesOrAllFit};
 ghost use Rattle.stack_written.specs.SumNumbers.{SumIsMadeOfItsNumbers, NumbersEndInTheSum, SumsAreMadeOfTheirNumbers, SurveySumsAreMadeOfTheirNumbers};
 ghost use Rattle.stack_written.specs.RateNumbers.{RatesAreMadeOfTheirNumbers};
 ghost use Rattle.stack_written.specs.PowerNumbers.{PowerIsMadeOfItsNumbers, PowerIsTheWorkOnFreeBlocks};
+ghost use Rattle.stack_written.specs.WorkedNumbers.{WorkedSums, WorkedSumsAtTheLimit, WorkedRates, WorkedPowers};
+
+/// Of a list of numbers one passes 2^127 - 1 in size exactly where not all fit.
+pub fn fitting_list_law()
+    ensures { OnePassesOrAllFit }
+{}
 
 /// A block's written sum along an axis is the exact sum exactly where all numbers of its list fit, and is refused
 /// exactly where one of them passes; the last of them is the sum. Its three sums are refused with the first axis one
@@ -25,4 +32,12 @@ pub fn rate_number_laws()
 pub fn power_number_laws()
     ensures scene { PowerIsMadeOfItsNumbers }
     ensures frees { PowerIsTheWorkOnFreeBlocks }
+{}
+
+/// The lists of a post that tips, worked by hand, and numbers at the limit and beyond.
+pub fn worked_numbers()
+    ensures sums { WorkedSums }
+    ensures limit { WorkedSumsAtTheLimit }
+    ensures rates { WorkedRates }
+    ensures powers { WorkedPowers }
 {}

@@ -4,4 +4,6 @@
 
 mod laws;
 
-pub use laws::{power_number_laws, rate_number_laws, sum_number_laws};
+pub use laws::{
+    fitting_list_law, power_number_laws, rate_number_laws, sum_number_laws, worked_numbers,
+};
