@@ -20,7 +20,7 @@ use Rattle.stack_model.specs.declared.errors.ModelError.{ModelError}
 use Rattle.stack_model.specs.declared.errors.ModelError.TheVariants.{Range, NotConvex, TooMany}
 use Rattle.stack_model.specs.Structure.{NamedMaterial, NamedBody, body_at}
 use Rattle.stack_model.specs.Parts.{MaterialPart, BlockPart, PartLists}
-use Rattle.stack_model.specs.Limits.{most_fixed, is_name, corners_of}
+use Rattle.stack_model.specs.Limits.{most_fixed, is_name, corner_list_of}
 use Rattle.stack_model.specs.Convex.{at_block, convex}
 use Rattle.stack_model.specs.Content.{unless, ranged, found, is_new, number_of, has_room, material_names}
 use Rattle.stack_model.specs.Content.{body_names}
@@ -163,7 +163,7 @@ one_more_body_of parts ms bs c i count each last =
     (subst (IsBodyOf ms (block_written parts i)) (sym (get_or_push bs c nobody i count)) last)
 
 new_body : (ms : List NamedMaterial) (b : BlockPart) (i : ℕ) (ps : List Point) (n : ℕ) (qs : List Point)
-    → corners_of b.corners ≡ Some ps → number_of b.material (material_names ms) ≡ Some n → convex i ps ≡ Ok qs
+    → corner_list_of b.corners ≡ Some ps → number_of b.material (material_names ms) ≡ Some n → convex i ps ≡ Ok qs
     → IsBodyOf ms b (record { name = b.name; material = n; fixed = b.fixed; corners = qs })
 new_body ms b i ps n qs h e k =
     let below : n < length ms = subst (λ m. n < m) (length-map ms (λ (m : NamedMaterial). m.name))
@@ -211,15 +211,15 @@ one_told parts ms materials i bs l h =
     } in r in
     steps_told (Collected parts ms (take (i + 1) parts.blocks) (i + 1)) (HasRoom b.fixed bs) (is_name b.name)
     (is_new b.name (body_names bs)) (lists_block b.name (take i parts.blocks))
-    (not (lists_material b.material parts.materials)) (is_crooked (corners_of b.corners)) _ _ _
-    (NotConvex i (unclear_edge (corners_of b.corners))) _ _
+    (not (lists_material b.material parts.materials)) (is_crooked (corner_list_of b.corners)) _ _ _
+    (NotConvex i (unclear_edge (corner_list_of b.corners))) _ _
     (room_causes b.fixed (fixed_written (take i parts.blocks)) (free_written (take i parts.blocks)))
-    (corners_of b.corners) (number_of b.material (material_names ms)) (convex i) (has_room b.fixed bs)
+    (corner_list_of b.corners) (number_of b.material (material_names ms)) (convex i) (has_room b.fixed bs)
     (λ n qs. bs ++ made n qs ∷ [])
     (seen (λ (b : BlockPart). b.name) b.name (take i parts.blocks) (body_names bs) h.bodies.names)
     (lacking (λ (m : MaterialPart). m.name) b.material parts.materials (material_names ms)
     (names_of parts.materials ms materials))
-    (λ ps e. outline_told i ps (corners_of b.corners) e)
+    (λ ps e. outline_told i ps (corner_list_of b.corners) e)
     (room_written b.fixed (take i parts.blocks) bs h.bodies)
     (λ ps n qs corners number outline new room. one_collected parts ms i bs (made n qs) l h
     (new_body ms b i ps n qs corners number outline) new room)

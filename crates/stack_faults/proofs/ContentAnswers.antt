@@ -10,7 +10,7 @@ use Rattle.stack_model.specs.declared.places.What.TheVariants as whats
 use Rattle.stack_model.specs.declared.errors.ModelError.TheVariants.{TooMany}
 use Rattle.stack_model.specs.Structure.{NamedMaterial, NamedBody, Structure}
 use Rattle.stack_model.specs.Parts.{PartLists}
-use Rattle.stack_model.specs.Limits.{most_materials, most_blocks, most_loads}
+use Rattle.stack_model.specs.Limits.{most_materials, most_bodies, most_loads}
 use Rattle.stack_model.specs.Content.{unless, at_most, add_material, add_block, add_load, bodies_of}
 use Rattle.stack_model.specs.Content.{content_of}
 use Rattle.stack_faults.specs.FaultLists.{faults_where, earliest, answered_fault}
@@ -69,7 +69,7 @@ listed_first : (parts : PartLists) → earliest (content_faults parts)
     ≡ or_else (or_else
     (or_else (earliest (number_faults most_materials (length parts.materials) whats.Materials))
     (earliest (faults_by (length parts.materials) (causes_of_material parts))))
-    (or_else (earliest (number_faults most_blocks (length parts.blocks) whats.Blocks))
+    (or_else (earliest (number_faults most_bodies (length parts.blocks) whats.Blocks))
     (earliest (faults_by (length parts.blocks) (causes_of_block parts)))))
     (or_else (earliest (number_faults most_loads (length parts.loads) whats.Loads))
     (earliest (faults_by (length parts.loads) (causes_of_load parts))))
@@ -78,7 +78,7 @@ listed_first parts =
     ∙ (λ i. or_else (or_else
     (earliest-append (number_faults most_materials (length parts.materials) whats.Materials)
     (faults_by (length parts.materials) (causes_of_material parts)) i)
-    (earliest-append (number_faults most_blocks (length parts.blocks) whats.Blocks)
+    (earliest-append (number_faults most_bodies (length parts.blocks) whats.Blocks)
     (faults_by (length parts.blocks) (causes_of_block parts)) i))
     (earliest-append (number_faults most_loads (length parts.loads) whats.Loads)
     (faults_by (length parts.loads) (causes_of_load parts)) i))
@@ -90,15 +90,15 @@ AreBoth parts x = AreMaterialsOf parts.materials x.0 × AreAll parts x.0 x.1
 bodies_told : (parts : PartLists) → Answers (AreBoth parts) (bodies_of parts)
     (or_else (or_else (earliest (number_faults most_materials (length parts.materials) whats.Materials))
     (earliest (faults_by (length parts.materials) (causes_of_material parts))))
-    (or_else (earliest (number_faults most_blocks (length parts.blocks) whats.Blocks))
+    (or_else (earliest (number_faults most_bodies (length parts.blocks) whats.Blocks))
     (earliest (faults_by (length parts.blocks) (causes_of_block parts)))))
 unfolding bodies_of
 bodies_told parts = both_told (AreMaterialsOf parts.materials) (AreAll parts)
     (at_most most_materials (length parts.materials) whats.Materials)
-    (at_most most_blocks (length parts.blocks) whats.Blocks) (steps add_material 0 [] parts.materials)
+    (at_most most_bodies (length parts.blocks) whats.Blocks) (steps add_material 0 [] parts.materials)
     (λ ms. steps (add_block ms) 0 [] parts.blocks) _ _ _ _
     (number_told most_materials (length parts.materials) whats.Materials) (materials_told parts)
-    (number_told most_blocks (length parts.blocks) whats.Blocks) (λ ms h. blocks_told parts ms h)
+    (number_told most_bodies (length parts.blocks) whats.Blocks) (λ ms h. blocks_told parts ms h)
 
 content_told : (parts : PartLists)
     → Answers (IsStructureOf parts) (content_of parts) (earliest (content_faults parts))

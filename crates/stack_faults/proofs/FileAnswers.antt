@@ -13,14 +13,14 @@ use Rattle.stack_model.specs.declared.errors.ModelError.{ModelError}
 use Rattle.stack_model.specs.declared.errors.ModelError.TheVariants.{TooMany}
 use Rattle.stack_model.specs.declared.places.What.{What}
 use Rattle.stack_model.specs.declared.places.What.TheVariants as whats
-use Rattle.stack_model.specs.Limits.{most_materials, most_blocks, most_loads}
+use Rattle.stack_model.specs.Limits.{most_materials, most_bodies, most_loads}
 use Rattle.stack_model.specs.Structure.{Structure}
 use Rattle.stack_model.specs.Parts.{PartLists}
 use Rattle.stack_model.specs.Content.{content_of}
 use Rattle.stack_reader.specs.declared.errors.ReadError.{ReadError}
 use Rattle.stack_reader.specs.declared.errors.ReadError.TheVariants.{NotToml, Model}
-use Rattle.stack_reader.specs.Shape.{shape_of}
-use Rattle.stack_reader.specs.Reading.{parsed, table_of, from_content, within_file, model_of, structure_of}
+use Rattle.stack_reader.specs.Shape.{parts_of_document}
+use Rattle.stack_reader.specs.Reading.{parsed, document_table, from_content, within_file, model_of, structure_of}
 use Rattle.stack_faults.specs.FaultLists.{faults_where, faults_below, earliest, answered_fault}
 use Rattle.stack_faults.specs.ContentFaults.{number_faults, causes_of_material, causes_of_block}
 use Rattle.stack_faults.specs.ContentFaults.{causes_of_load}
@@ -78,7 +78,7 @@ content_alike parts = alike_append from_content as_fault (material_faults parts 
     (load_faults parts)
     (alike_append from_content as_fault (material_faults parts) (block_faults parts)
     (list_alike most_materials (length parts.materials) whats.Materials (causes_of_material parts) (λ i. refl))
-    (list_alike most_blocks (length parts.blocks) whats.Blocks (causes_of_block parts) (λ i. refl)))
+    (list_alike most_bodies (length parts.blocks) whats.Blocks (causes_of_block parts) (λ i. refl)))
     (list_alike most_loads (length parts.loads) whats.Loads (causes_of_load parts) (λ i. refl))
 
 within_told : (r : Result Structure ModelError) → answered_fault (within_file r)
@@ -92,8 +92,8 @@ earliest-map f (x ∷ xs) = refl
 
 pub table_first : (ms : Members) → answered_fault (model_of ms) ≡ earliest (table_faults ms)
 unfolding model_of
-table_first ms = go (shape_of ms) (shape_told ms)
-    ∙ sym (earliest-append (shape_faults ms) (faults_of_listed (shape_of ms)))
+table_first ms = go (parts_of_document ms) (shape_told ms)
+    ∙ sym (earliest-append (shape_faults ms) (faults_of_listed (parts_of_document ms)))
   where
     go : (r : Result PartLists ReadError) → answered_fault r ≡ earliest (shape_faults ms)
         → answered_fault (r >>= λ parts. within_file (content_of parts))
@@ -104,7 +104,7 @@ table_first ms = go (shape_of ms) (shape_told ms)
         ∙ ap (λ o. or_else o (earliest (map (λ e. Model e) (content_faults parts)))) h
 
 pub file_first : (bytes : List ℕ) → answered_fault (structure_of bytes) ≡ earliest (file_faults bytes)
-unfolding structure_of table_of
+unfolding structure_of document_table
 file_first bytes = go (is_utf8 bytes) (parse_document bytes)
   where
     go : (u : Bool) (o : Option Members)

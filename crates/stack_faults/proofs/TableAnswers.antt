@@ -16,7 +16,7 @@ use Rattle.stack_reader.specs.declared.errors.ReadError.TheVariants.{Kind}
 use Rattle.stack_reader.specs.Keys.{word_of, top_keys}
 use Rattle.stack_reader.specs.Forms.{are_tables, tables_of, known_only, in_form}
 use Rattle.stack_reader.specs.Shape.{list_at, material_part, block_part, load_part, in_table, each_of}
-use Rattle.stack_reader.specs.Shape.{shape_of}
+use Rattle.stack_reader.specs.Shape.{parts_of_document}
 use Rattle.stack_faults.specs.FaultLists.{faults_where, earliest, answered_fault}
 use Rattle.stack_faults.specs.TableFaults.{is_of_another_form, unknown_key_faults, optional_key_faults}
 use Rattle.stack_faults.specs.TableFaults.{top_faults}
@@ -140,8 +140,8 @@ items_told part key faults told ms =
     ∙ ap (λ tables. earliest (faults_of_tables faults tables)) h.listed)
     (list_told key (get_member (word_of key) ms))
 
-pub shape_told : (ms : Members) → answered_fault (shape_of ms) ≡ earliest (shape_faults ms)
-unfolding shape_of
+pub shape_told : (ms : Members) → answered_fault (parts_of_document ms) ≡ earliest (shape_faults ms)
+unfolding parts_of_document
 shape_told ms =
     let made : List MaterialPart → List BlockPart → List LoadPart → PartLists = λ materials blocks loads. record {
       materials = materials;

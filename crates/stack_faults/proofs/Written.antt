@@ -12,7 +12,7 @@ use Rattle.stack_polygon.specs.Limits.{is_near}
 use Rattle.stack_polygon.specs.Outlines.{outline_of}
 use Rattle.stack_model.specs.Limits.{is_between, friction_of, point_of, live_of, force_of}
 use Rattle.stack_model.specs.Convex.{at_block, convex}
-use Rattle.stack_model.specs.Relisted.{coordinates, kind_of}
+use Rattle.stack_model.specs.Relisted.{coordinates, kind_word}
 use Rattle.stack_faults.specs.Outline.{IsOutlineOf, HasNoOutline}
 use Rattle.stack_faults.proofs.FirstEdges.{by_meaning}
 
@@ -71,15 +71,15 @@ point_back [] c h = absurd cc
 point_back (x ∷ []) c h = absurd cc
 point_back (x ∷ y ∷ z ∷ zs) c h = absurd cc
 
-pub kind_back : (kind : List ℕ) (live : Bool) → live_of kind ≡ Some live → kind_of live ≡ kind
+pub kind_back : (kind : List ℕ) (live : Bool) → live_of kind ≡ Some live → kind_word live ≡ kind
 kind_back kind live h = go (bytes_eq kind (codes "live")) (bytes_eq kind (codes "dead")) refl refl h
   where
     go : (a b : Bool) → bytes_eq kind (codes "live") ≡ a → bytes_eq kind (codes "dead") ≡ b
-        → (if a then Some true else (if b then Some false else None)) ≡ Some live → kind_of live ≡ kind
+        → (if a then Some true else (if b then Some false else None)) ≡ Some live → kind_word live ≡ kind
     go true b ea eb e = let same : true ≡ live = cc in
-        ap kind_of (sym same) ∙ sym ((bytes_eq-Decides kind (codes "live")).0 ea)
+        ap kind_word (sym same) ∙ sym ((bytes_eq-Decides kind (codes "live")).0 ea)
     go false true ea eb e = let same : false ≡ live = cc in
-        ap kind_of (sym same) ∙ sym ((bytes_eq-Decides kind (codes "dead")).0 eb)
+        ap kind_word (sym same) ∙ sym ((bytes_eq-Decides kind (codes "dead")).0 eb)
     go false false ea eb e = absurd cc
 
 -- the outline of a block

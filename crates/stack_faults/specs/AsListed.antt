@@ -3,7 +3,7 @@ use Rattle.std.specs.Prelude.{◌≡◌, ℕ, ◌<◌, List, map, length, Some, 
 use Rattle.stack_polygon.specs.declared.point.Point.{Point}
 use Rattle.stack_model.specs.Structure.{NamedMaterial, NamedBody, Structure, material_at, body_of}
 use Rattle.stack_model.specs.Parts.{BlockPart, PartLists}
-use Rattle.stack_model.specs.Limits.{corners_of}
+use Rattle.stack_model.specs.Limits.{corner_list_of}
 use Rattle.stack_model.specs.Content.{content_of}
 use Rattle.stack_model.specs.Relisted.{material_listed, load_listed}
 use Rattle.stack_faults.specs.Outline.{IsOutlineOf}
@@ -17,7 +17,7 @@ pub record IsBodyOf (ms : List NamedMaterial) (b : BlockPart) (c : NamedBody) : 
   pub material_name : (material_at ms c.material).name ≡ b.material
   pub fixed : c.fixed ≡ b.fixed
   pub points : List Point
-  pub written : corners_of b.corners ≡ Some points
+  pub written : corner_list_of b.corners ≡ Some points
   pub outline : IsOutlineOf points c.corners
 
 -- the materials and the loads, listed as a file lists them, are those that are written; each block has its body

@@ -18,8 +18,8 @@ use Rattle.stack_model.specs.declared.errors.ModelError.{ModelError}
 use Rattle.stack_model.specs.declared.errors.ModelError.TheVariants.{Range, SameName, NoMaterial, NoBlock}
 use Rattle.stack_model.specs.declared.errors.ModelError.TheVariants.{NotConvex, LoadOnFixed, TooMany}
 use Rattle.stack_model.specs.Parts.{MaterialPart, BlockPart, LoadPart, PartLists}
-use Rattle.stack_model.specs.Limits.{most_materials, most_blocks, most_fixed, most_loads}
-use Rattle.stack_model.specs.Limits.{is_name, is_between, friction_of, point_of, corners_of, live_of}
+use Rattle.stack_model.specs.Limits.{most_materials, most_bodies, most_fixed, most_loads}
+use Rattle.stack_model.specs.Limits.{is_name, is_between, friction_of, point_of, corner_list_of, live_of}
 use Rattle.stack_model.specs.Limits.{force_of}
 use Rattle.stack_faults.specs.FaultLists.{faults_where, faults_below}
 
@@ -84,10 +84,10 @@ abbrev pub causes_of_block : PartLists → ℕ → List (Bool × ModelError)
 causes_of_block parts i =
     let b = block_written parts i in
     (not (is_name b.name), Range (spots.Block i) keys.Name)
-    ∷ (is_none (corners_of b.corners), Range (spots.Block i) keys.Corners)
+    ∷ (is_none (corner_list_of b.corners), Range (spots.Block i) keys.Corners)
     ∷ (lists_block b.name (take i parts.blocks), SameName (spots.Block i))
     ∷ (not (lists_material b.material parts.materials), NoMaterial i)
-    ∷ (is_crooked (corners_of b.corners), NotConvex i (unclear_edge (corners_of b.corners)))
+    ∷ (is_crooked (corner_list_of b.corners), NotConvex i (unclear_edge (corner_list_of b.corners)))
     ∷ (b.fixed && fixed_written (take i parts.blocks) == most_fixed, TooMany whats.Fixed)
     ∷ (not b.fixed && free_written (take i parts.blocks) == most_free, TooMany whats.Free)
     ∷ []
@@ -120,7 +120,7 @@ material_faults parts =
 
 abbrev pub block_faults : PartLists → List ModelError
 block_faults parts =
-    number_faults most_blocks (length parts.blocks) whats.Blocks
+    number_faults most_bodies (length parts.blocks) whats.Blocks
     ++ faults_by (length parts.blocks) (causes_of_block parts)
 
 abbrev pub load_faults : PartLists → List ModelError

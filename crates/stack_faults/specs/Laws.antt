@@ -4,7 +4,7 @@ use Rattle.toml.specs.Data.{Members}
 use Rattle.stack_polygon.specs.declared.point.Point.{Point}
 use Rattle.stack_model.specs.Parts.{PartLists}
 use Rattle.stack_model.specs.Content.{content_of}
-use Rattle.stack_reader.specs.Shape.{shape_of}
+use Rattle.stack_reader.specs.Shape.{parts_of_document}
 use Rattle.stack_reader.specs.Reading.{model_of, structure_of}
 use Rattle.stack_faults.specs.Outline.{HasNoOutline}
 use Rattle.stack_faults.specs.FaultLists.{earliest, answered_fault}
@@ -25,10 +25,10 @@ CrookedByMeaning = (ps : List Point) → (is_crooked (Some ps) ≡ true) ↔ Has
 
 -- of the shape of a table
 abbrev pub FirstShapeFault : Type 0
-FirstShapeFault = (ms : Members) → answered_fault (shape_of ms) ≡ earliest (shape_faults ms)
+FirstShapeFault = (ms : Members) → answered_fault (parts_of_document ms) ≡ earliest (shape_faults ms)
 
 abbrev pub ShapeWhereFaultless : Type 0
-ShapeWhereFaultless = (ms : Members) → IsOk (shape_of ms) ↔ (shape_faults ms ≡ [])
+ShapeWhereFaultless = (ms : Members) → IsOk (parts_of_document ms) ↔ (shape_faults ms ≡ [])
 
 -- of a table
 abbrev pub FirstTableFault : Type 0

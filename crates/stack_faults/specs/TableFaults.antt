@@ -17,8 +17,8 @@ use Rattle.stack_reader.specs.declared.errors.ReadError.TheVariants.{NotToml, Un
 use Rattle.stack_reader.specs.declared.errors.ReadError.TheVariants.{Model}
 use Rattle.stack_reader.specs.Keys.{word_of, top_keys, material_keys, block_keys, load_keys}
 use Rattle.stack_reader.specs.Forms.{wholes_of, lists_of, tables_of, has_only}
-use Rattle.stack_reader.specs.Shape.{shape_of}
-use Rattle.stack_reader.specs.Reading.{table_of}
+use Rattle.stack_reader.specs.Shape.{parts_of_document}
+use Rattle.stack_reader.specs.Reading.{document_table}
 use Rattle.stack_faults.specs.FaultLists.{faults_where, faults_below}
 use Rattle.stack_faults.specs.ContentFaults.{content_faults}
 
@@ -107,7 +107,7 @@ faults_of_listed (Ok parts) = map (λ e. Model e) (content_faults parts)
 
 -- all faults of a table
 abbrev pub table_faults : Members → List ReadError
-table_faults ms = shape_faults ms ++ faults_of_listed (shape_of ms)
+table_faults ms = shape_faults ms ++ faults_of_listed (parts_of_document ms)
 
 -- all faults of a document, if there is one
 abbrev pub faults_of_document : Result Members ReadError → List ReadError
@@ -116,4 +116,4 @@ faults_of_document (Ok ms) = table_faults ms
 
 -- all faults of a file's bytes
 abbrev pub file_faults : List ℕ → List ReadError
-file_faults bytes = faults_of_document (table_of bytes)
+file_faults bytes = faults_of_document (document_table bytes)

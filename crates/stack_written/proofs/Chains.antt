@@ -1,4 +1,4 @@
--- Numbers that are made one after the other: what stands where all fit, and that it is refused where one passes.
+-- Numbers that are made one after the other: what stands where all fit, and that it is refused where one is too wide.
 use Rattle.std.proofs.Common.{◌≡◌, refl, sym, ap, subst, ◌∙◌, ◌⊎◌, inl, inr, ℕ, zero, suc, ◌+◌, ◌<◌, ◌≤◌, ◌^◌, ℤ}
 use Rattle.std.proofs.Common.{Bool, true, false, List, [], ◌∷◌, ◌++◌, length, get_or, Result, Ok, Err, arith}
 use Rattle.std.specs.Prelude.{IsErr, is_err, if◌then◌else◌}
@@ -8,8 +8,8 @@ use lib.IntN.{nat_abs}
 use Rattle.stack_algebra.specs.Steps.{◌>>=◌, steps}
 use Rattle.stack_whole.specs.declared.whole.Wide.{Wide}
 use Rattle.stack_whole.specs.declared.whole.Whole.{Whole}
-use Rattle.stack_whole.specs.Whole.{IsFitting, Passes, fits, made, whole}
-use Rattle.stack_written.specs.InTurn.{AllFit, OnePasses, OnePassesOrAllFit, lists_in_turn, IsMadeOf}
+use Rattle.stack_whole.specs.Whole.{IsFitting, IsTooWide, fits, made, whole}
+use Rattle.stack_written.specs.InTurn.{AllFit, OneIsTooWide, OneIsTooWideOrAllFit, lists_in_turn, IsMadeOf}
 
 -- a result after a number, which fits or not
 abbrev pub or_wide : {A : Type 0} → Bool → Result A Wide → Result A Wide
@@ -92,33 +92,33 @@ steps_in_turn f lists value i (x ∷ xs) d h =
     rest k l = subst (λ n. InOrder (lists (suc k)) (whole (value (suc (suc k))))
         (f n (whole (value (suc k))) (get_or xs k d))) (next k) (h (suc k) (omega (arith, l)))
 
--- one passes or none does, and not both
-pub not_both : (ns : List ℤ) → AllFit ns → OnePasses ns → ⊥
+-- one is too wide or none is, and not both
+pub not_both : (ns : List ℤ) → AllFit ns → OneIsTooWide ns → ⊥
 not_both ns all p =
     let h : IsFitting p.1 = subst IsFitting p.3 (all p.0 p.1 p.2) in
-    let k : Passes p.1 = p.4 in
+    let k : IsTooWide p.1 = p.4 in
     omega (arith, h, k)
 
-pub either : (ns : List ℤ) → AllFit ns ⊎ OnePasses ns
+pub either : (ns : List ℤ) → AllFit ns ⊎ OneIsTooWide ns
 either [] = inl (All-nil IsFitting)
 either (n ∷ ns) = go (cases_lt (nat_abs n) (2 ^ 127)) (either ns)
   where
-    go : (nat_abs n < 2 ^ 127) ⊎ (2 ^ 127 ≤ nat_abs n) → AllFit ns ⊎ OnePasses ns →
-        AllFit (n ∷ ns) ⊎ OnePasses (n ∷ ns)
+    go : (nat_abs n < 2 ^ 127) ⊎ (2 ^ 127 ≤ nat_abs n) → AllFit ns ⊎ OneIsTooWide ns →
+        AllFit (n ∷ ns) ⊎ OneIsTooWide (n ∷ ns)
     go (inr p) rest = inr (0, n, omega arith, refl, p)
     go (inl h) (inl all) = inl (All-cons IsFitting n ns h all)
     go (inl h) (inr p) = let l = p.2 in inr (suc p.0, p.1, omega (arith, l), p.3, p.4)
 
-pub one_passes_or_all_fit : OnePassesOrAllFit
-one_passes_or_all_fit ns = (λ p all. not_both ns all p, λ h. go h (either ns))
+pub one_too_wide_or_all_fit : OneIsTooWideOrAllFit
+one_too_wide_or_all_fit ns = (λ p all. not_both ns all p, λ h. go h (either ns))
   where
-    go : (¬ (AllFit ns)) → AllFit ns ⊎ OnePasses ns → OnePasses ns
+    go : (¬ (AllFit ns)) → AllFit ns ⊎ OneIsTooWide ns → OneIsTooWide ns
     go h (inl all) = absurd (h all)
     go h (inr p) = p
 
 -- after one that fits
 later : (n : ℤ) (ns : List ℤ) (k : ℕ) (x : ℤ) → IsFitting n → k < length (n ∷ ns) → get_or (n ∷ ns) k x ≡ x →
-    Passes x → OnePasses ns
+    IsTooWide x → OneIsTooWide ns
 later n ns zero x h l e p = let m = ap nat_abs e in absurd (omega (arith, h, m, p))
 later n ns (suc k) x h l e p = (k, x, omega (arith, l), e, p)
 
@@ -127,17 +127,17 @@ all_made [] v all = refl
 all_made (n ∷ ns) v all = ap (λ b. or_wide b (made_all ns v)) (lt-ltb _ _ (All-head IsFitting n ns all))
     ∙ all_made ns v (All-tail IsFitting n ns all)
 
-one_refused : {A : Type 0} (ns : List ℤ) (v : A) → OnePasses ns → IsErr (made_all ns v)
+one_refused : {A : Type 0} (ns : List ℤ) (v : A) → OneIsTooWide ns → IsErr (made_all ns v)
 one_refused [] v p = let l = p.2 in absurd (omega (arith, l))
 one_refused (n ∷ ns) v p = go (fits n) refl (one_refused ns v)
   where
-    go : (b : Bool) → fits n ≡ b → (OnePasses ns → IsErr (made_all ns v)) → IsErr (or_wide b (made_all ns v))
+    go : (b : Bool) → fits n ≡ b → (OneIsTooWide ns → IsErr (made_all ns v)) → IsErr (or_wide b (made_all ns v))
     go true e rest = rest (later n ns p.0 p.1 (ltb-true _ _ e) p.2 p.3 p.4)
     go false e rest = refl
 
 -- one way of each equivalence is enough
 pub from_each : {A E : Type 0} (ns : List ℤ) (v : A) (r : Result A E) → (AllFit ns → r ≡ Ok v) →
-    (OnePasses ns → IsErr r) → IsMadeOf ns v r
+    (OneIsTooWide ns → IsErr r) → IsMadeOf ns v r
 from_each ns v r good bad = record {
   made = (λ e. fit e (either ns), good);
   refused = (λ e. pass e (either ns), bad);
@@ -146,11 +146,11 @@ from_each ns v r good bad = record {
     one_answer : r ≡ Ok v → IsErr r → ⊥
     one_answer e h = false≢true (sym (ap is_err e) ∙ h)
 
-    fit : r ≡ Ok v → AllFit ns ⊎ OnePasses ns → AllFit ns
+    fit : r ≡ Ok v → AllFit ns ⊎ OneIsTooWide ns → AllFit ns
     fit e (inl all) = all
     fit e (inr p) = absurd (one_answer e (bad p))
 
-    pass : IsErr r → AllFit ns ⊎ OnePasses ns → OnePasses ns
+    pass : IsErr r → AllFit ns ⊎ OneIsTooWide ns → OneIsTooWide ns
     pass h (inl all) = absurd (one_answer (good all) h)
     pass h (inr p) = p
 

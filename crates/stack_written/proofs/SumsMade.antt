@@ -17,7 +17,7 @@ use Rattle.stack_equilibrium.specs.Scene as scene
 use Rattle.stack_equilibrium.specs.Balance.{force_x_of, force_y_of, moment_of}
 use Rattle.stack_equilibrium.specs.SurveyScene.{scene_bearing_of, no_bearing}
 use Rattle.stack_equilibrium.specs.Held.{part_of_pair}
-use Rattle.stack_equilibrium.specs.WrittenSums.{along, push_at, joint_at, written_force_x, written_force_y}
+use Rattle.stack_equilibrium.specs.WrittenSums.{axis_part, push_at, joint_at, written_force_x, written_force_y}
 use Rattle.stack_equilibrium.specs.WrittenSums.{written_moment, written_force, with_bearing, bearing_at, written_sum}
 use Rattle.stack_equilibrium.proofs.SceneSums.{part_is}
 use Rattle.stack_written.specs.InTurn.{lists_in_turn, EndsIn, IsMadeOf}
@@ -34,10 +34,10 @@ abbrev push_of : ℤ × ℤ → Push
 push_of p = record { a = whole p.0; b = whole p.1 }
 
 module _ (block : Block) (z : Bearing) (p : ℤ × ℤ) where
-  abbrev at : scene.Bearing
+  abbrev at : scene.SceneBearing
   at = scene_bearing_of z
 
-  abbrev part : scene.Part
+  abbrev part : scene.BearingPart
   part = part_of_pair p
 
   x_made : InOrder (x_numbers at part) (whole (force_x_of at part))
@@ -101,7 +101,7 @@ module _ (axis : Axis) (block : Block) (bearings : List Bearing) (parts : List (
   abbrev bearing : ℕ → Bearing
   bearing k = get_or bearings k no_bearing
 
-  abbrev body : scene.Body
+  abbrev body : scene.SceneBody
   body = body_of_block block
 
   -- the force of bearing k
@@ -146,9 +146,9 @@ module _ (axis : Axis) (block : Block) (bearings : List Bearing) (parts : List (
       (load_numbers axis block bearings parts scale factor) _
       (steps (bearing_at axis block parts) 0 (whole (pos 0)) bearings) (whole (borne (length bearings)))
       (whole (exact_sum axis block bearings parts scale factor)) bearings_made
-      (then_one (scale *ℤ along axis block.dead) _ _ _
-      (then_one (borne (length bearings) +ℤ scale *ℤ along axis block.dead) _ _ _
-      (then_one (factor *ℤ along axis block.live) _ _ _ (last_one _))))
+      (then_one (scale *ℤ axis_part axis block.dead) _ _ _
+      (then_one (borne (length bearings) +ℤ scale *ℤ axis_part axis block.dead) _ _ _
+      (then_one (factor *ℤ axis_part axis block.live) _ _ _ (last_one _))))
 
 pub sum_is_made : (axis : Axis) (block : Block) (scale factor : ℤ) (bearings : List Bearing)
     (parts : List (ℤ × ℤ)) → IsMadeOf (sum_numbers axis block scale factor bearings parts)
@@ -167,6 +167,6 @@ ends_in_the_sum axis block scale factor bearings parts = (
 )
   where
     first : List ℤ
-    first = (scale *ℤ along axis block.dead)
-        ∷ (borne_by_first axis block bearings parts (length bearings) +ℤ scale *ℤ along axis block.dead)
-        ∷ (factor *ℤ along axis block.live) ∷ []
+    first = (scale *ℤ axis_part axis block.dead)
+        ∷ (borne_by_first axis block bearings parts (length bearings) +ℤ scale *ℤ axis_part axis block.dead)
+        ∷ (factor *ℤ axis_part axis block.live) ∷ []

@@ -1,4 +1,4 @@
--- The three written sums of a block, of the first axis one of whose numbers passes.
+-- The three written sums of a block, of the first axis one of whose numbers is too wide.
 use Rattle.std.proofs.Common.{◌≡◌, refl, ap, subst, ◌∙◌, ◌⊎◌, inl, inr, ℕ, ℤ, List, Result, Ok, Err}
 use Rattle.std.specs.Prelude.{IsErr}
 use Rattle.std.proofs.lemmas.Bool.{false≢true}
@@ -15,7 +15,7 @@ use Rattle.stack_equilibrium.specs.declared.types.Axis.{Axis}
 use Rattle.stack_equilibrium.specs.declared.types.Axis.TheVariants.{X, Y, M}
 use Rattle.stack_equilibrium.specs.declared.block.Block.{Block}
 use Rattle.stack_equilibrium.specs.WrittenSums.{on_axis, block_of, written_sum, written_sums, written_sums_at}
-use Rattle.stack_written.specs.InTurn.{AllFit, OnePasses, IsMadeOf, IsFirstWide, AreMadeOf}
+use Rattle.stack_written.specs.InTurn.{AllFit, OneIsTooWide, IsMadeOf, IsFirstWide, AreMadeOf}
 use Rattle.stack_written.specs.SumNumbers.{sum_numbers, exact_sum, exact_sums, sum_numbers_at, scene_sums}
 use Rattle.stack_written.proofs.Chains.{not_both, either}
 use Rattle.stack_written.proofs.SumsMade.{sum_is_made}
@@ -52,7 +52,7 @@ module _ (numbers : Axis → List ℤ) where
   one_first M Y f g = absurd (not_both (numbers Y) f.1 g.1)
   one_first M M f g = refl
 
-  -- it is told by what it is where all fit, and by the axis where one passes
+  -- it is told by what it is where all fit, and by the axis where one is too wide
   told : (w : Wrench) (r : Result Wrench SumWide) →
       (((axis : Axis) → AllFit (numbers axis)) × (r ≡ Ok w))
       ⊎ ((axis : Axis) × IsFirstWide numbers axis × (r ≡ Err (wide axis))) →
@@ -89,8 +89,8 @@ module _ (numbers : Axis → List ℤ) (value : Axis → ℤ) (r : Axis → Resu
     fits_on : (axis : Axis) → AllFit (numbers axis) → on_axis axis (r axis) ≡ Ok (whole (value axis))
     fits_on axis all = ap (on_axis axis) ((h axis).made.1 all)
 
-    passes_on : (axis : Axis) → OnePasses (numbers axis) → on_axis axis (r axis) ≡ Err (record { axis = axis })
-    passes_on axis p = on_axis_err axis (r axis) ((h axis).refused.1 p)
+    wide_on : (axis : Axis) → OneIsTooWide (numbers axis) → on_axis axis (r axis) ≡ Err (record { axis = axis })
+    wide_on axis p = on_axis_err axis (r axis) ((h axis).refused.1 p)
 
     after_x : AllFit (numbers X) → all_three ≡ last_two
     after_x all = ap (λ t. t >>= λ x. on_axis Y (r Y) >>= λ y. on_axis M (r M) >>= λ m.
@@ -103,27 +103,27 @@ module _ (numbers : Axis → List ℤ) (value : Axis → ℤ) (r : Axis → Resu
     three : AreMadeOf numbers wrench all_three
     three = told numbers wrench all_three (go (either (numbers X)) (either (numbers Y)) (either (numbers M)))
       where
-        go : AllFit (numbers X) ⊎ OnePasses (numbers X) → AllFit (numbers Y) ⊎ OnePasses (numbers Y) →
-            AllFit (numbers M) ⊎ OnePasses (numbers M) →
+        go : AllFit (numbers X) ⊎ OneIsTooWide (numbers X) → AllFit (numbers Y) ⊎ OneIsTooWide (numbers Y) →
+            AllFit (numbers M) ⊎ OneIsTooWide (numbers M) →
             (((axis : Axis) → AllFit (numbers axis)) × (all_three ≡ Ok wrench))
             ⊎ ((axis : Axis) × IsFirstWide numbers axis × (all_three ≡ Err (wide axis)))
         go (inr x) y m = inr (
           X,
           x,
           ap (λ t. t >>= λ x. on_axis Y (r Y) >>= λ y. on_axis M (r M) >>= λ m.
-              Ok (record { fx = x.value; fy = y.value; m = m.value })) (passes_on X x),
+              Ok (record { fx = x.value; fy = y.value; m = m.value })) (wide_on X x),
         )
         go (inl x) (inr y) m = inr (
           Y,
           (x, y),
           after_x x ∙ ap (λ t. t >>= λ y. on_axis M (r M) >>= λ m.
-              Ok (record { fx = value X; fy = y.value; m = m.value })) (passes_on Y y),
+              Ok (record { fx = value X; fy = y.value; m = m.value })) (wide_on Y y),
         )
         go (inl x) (inl y) (inr m) = inr (
           M,
           (x, y, m),
           after_x x ∙ after_y y
-              ∙ ap (λ t. t >>= λ m. Ok (record { fx = value X; fy = value Y; m = m.value })) (passes_on M m),
+              ∙ ap (λ t. t >>= λ m. Ok (record { fx = value X; fy = value Y; m = m.value })) (wide_on M m),
         )
         go (inl x) (inl y) (inl m) = inl (
           each x y m,

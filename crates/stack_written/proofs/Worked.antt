@@ -19,7 +19,7 @@ worked_sums = record {
 pub worked_sums_at_the_limit : WorkedSumsAtTheLimit
 unfolding written_force_x written_force_y written_moment with_bearing written_sum written_sums
 worked_sums_at_the_limit = record {
-  passes = refl;
+  is_too_wide = refl;
   fits = refl;
   pushed_once_more = refl;
   along_x_first = refl;
@@ -29,8 +29,8 @@ worked_sums_at_the_limit = record {
 
 pub worked_rates : WorkedRates
 unfolding written_velocity written_difference written_normal written_tangential written_gap gap_at
-worked_rates = record { left_opens = refl; right_stays = refl; fits = refl; passes = refl }
+worked_rates = record { left_opens = refl; right_stays = refl; fits = refl; is_too_wide = refl }
 
 pub worked_powers : WorkedPowers
 unfolding with_product with_work
-worked_powers = record { dead = refl; live = refl; fits = refl; passes = refl }
+worked_powers = record { dead = refl; live = refl; fits = refl; is_too_wide = refl }

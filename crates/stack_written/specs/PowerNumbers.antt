@@ -43,7 +43,7 @@ module _ (q : Question) (s : Surveyed) (y : MotionValue) where
       (λ b. work_numbers (loads_of_free q s b) (move_of_free y b) b)
 
 -- The written power is that of the scene's loads exactly where all its numbers fit, and is refused exactly where
--- one of them passes
+-- one of them is too wide
 abbrev pub PowerIsMadeOfItsNumbers : Type 0
 PowerIsMadeOfItsNumbers = (q : Question) (s : Surveyed) (y : MotionValue) →
     IsMadeOf (power_numbers q s y) (power_of q (scene_of s) (move_at s y)) (written_power q s y)

@@ -53,7 +53,7 @@ module _ (s : Surveyed) (y : MotionValue) (z : Bearing) where
       ∷ (z.frame.tx *ℤ x_difference) ∷ (z.frame.ty *ℤ y_difference) ∷ exact_slide ∷ []))
 
 -- The written opening and slide of bearing k are the exact ones exactly where all their numbers fit, and are
--- refused exactly where one of them passes
+-- refused exactly where one of them is too wide
 abbrev pub RatesAreMadeOfTheirNumbers : Type 0
 RatesAreMadeOfTheirNumbers = (s : Surveyed) (y : MotionValue) (k : ℕ) → IsMadeOf (gap_numbers s y (bearing_of s k))
     (exact_opening s y (bearing_of s k), exact_slide s y (bearing_of s k)) (written_opening s y k)

@@ -1,5 +1,5 @@
 -- Lists of numbers worked by hand, of a post that is 2 wide and 4 high, weighs 1 for each unit of area, and is pushed
--- to the right at its upper left corner; and parts and moves of which a number passes, or just fits.
+-- to the right at its upper left corner; and parts and moves of which a number is too wide, or just fits.
 use Rattle.std.specs.Prelude.{◌≡◌, ℕ, ◌^◌, ℤ, pos, true, false, List, [], ◌∷◌, Ok, Err, IsErr}
 use Rattle.stack_polygon.specs.declared.point.Point.{Point}
 use Rattle.stack_model.specs.Structure.{Structure}
@@ -86,7 +86,7 @@ one_pair a b = (a, b) ∷ []
 abbrev pub greatest_fitting : ℤ
 greatest_fitting = pos greatest_number
 
--- the next one, which passes
+-- the next one, which is too wide
 abbrev pub least_passing : ℤ
 least_passing = pos (2 ^ 127)
 
@@ -109,7 +109,7 @@ pub record WorkedSums : Type 0 where
 
 -- a part of 2^127 along the tangent is refused, and one less than that isn't
 pub record WorkedSumsAtTheLimit : Type 0 where
-  pub passes : IsErr (written_sum X post_block (whole (pos 1)) (whole (pos 0)) (right_foot ∷ [])
+  pub is_too_wide : IsErr (written_sum X post_block (whole (pos 1)) (whole (pos 0)) (right_foot ∷ [])
       (one_pair (pos 0) least_passing))
   pub fits : written_sum X post_block (whole (pos 1)) (whole (pos 0)) (right_foot ∷ [])
       (one_pair (pos 0) greatest_fitting) ≡ Ok (whole greatest_fitting)
@@ -129,7 +129,7 @@ pub record WorkedRates : Type 0 where
   pub right_stays : gap_numbers feet ((pos 0, pos 2, minus 1) ∷ []) right_foot
       ≡ pos 0 ∷ pos 0 ∷ minus 2 ∷ pos 0 ∷ pos 0 ∷ pos 0 ∷ pos 0 ∷ pos 0 ∷ pos 0 ∷ pos 0 ∷ pos 0 ∷ pos 0 ∷ []
   pub fits : written_opening feet ((pos 0, greatest_fitting, pos 0) ∷ []) 1 ≡ Ok (greatest_fitting, pos 0)
-  pub passes : IsErr (written_opening feet ((pos 0, greatest_fitting, pos 1) ∷ []) 1)
+  pub is_too_wide : IsErr (written_opening feet ((pos 0, greatest_fitting, pos 1) ∷ []) 1)
 
 -- the work of the loads where the post tips: the dead loads lose 48, and the live loads gain half of it
 pub record WorkedPowers : Type 0 where
@@ -138,4 +138,4 @@ pub record WorkedPowers : Type 0 where
   pub live : power_numbers Live feet ((pos 0, pos 2, minus 1) ∷ [])
       ≡ pos 0 ∷ pos 0 ∷ pos 0 ∷ pos 0 ∷ pos 24 ∷ pos 24 ∷ []
   pub fits : written_power Live feet ((pos 0, least_passing, pos 0) ∷ []) ≡ Ok (pos 0)
-  pub passes : IsErr (written_power Dead feet ((pos 0, least_passing, pos 0) ∷ []))
+  pub is_too_wide : IsErr (written_power Dead feet ((pos 0, least_passing, pos 0) ∷ []))

@@ -1,19 +1,20 @@
 //! The laws, each a clause of a function that does nothing.
 
-ghost use Rattle.stack_written.specs.InTurn.{OnePassesOrAllFit};
-ghost use Rattle.stack_written.specs.SumNumbers.{SumIsMadeOfItsNumbers, NumbersEndInTheSum, SumsAreMadeOfTheirNumbers, SurveySumsAreMadeOfTheirNumbers};
+ghost use Rattle.stack_written.specs.InTurn.{OneIsTooWideOrAllFit};
+ghost use Rattle.stack_written.specs.SumNumbers.{SumIsMadeOfItsNumbers, NumbersEndInTheSum};
+ghost use Rattle.stack_written.specs.SumNumbers.{SumsAreMadeOfTheirNumbers, SurveySumsAreMadeOfTheirNumbers};
 ghost use Rattle.stack_written.specs.RateNumbers.{RatesAreMadeOfTheirNumbers};
 ghost use Rattle.stack_written.specs.PowerNumbers.{PowerIsMadeOfItsNumbers, PowerIsTheWorkOnFreeBlocks};
 ghost use Rattle.stack_written.specs.WorkedNumbers.{WorkedSums, WorkedSumsAtTheLimit, WorkedRates, WorkedPowers};
 
-/// Of a list of numbers one passes 2^127 - 1 in size exactly where not all fit.
+/// Of a list of numbers one is more than 2^127 - 1 in size exactly where not all fit.
 pub fn fitting_list_law()
-    ensures { OnePassesOrAllFit }
+    ensures { OneIsTooWideOrAllFit }
 {}
 
 /// A block's written sum along an axis is the exact sum exactly where all numbers of its list fit, and is refused
-/// exactly where one of them passes; the last of them is the sum. Its three sums are refused with the first axis one
-/// of whose numbers passes, and so are those of each body of a survey.
+/// exactly where one of them is too wide; the last of them is the sum. Its three sums are refused with the first
+/// axis one of whose numbers is too wide, and so are those of each body of a survey.
 pub fn sum_number_laws()
     ensures one { SumIsMadeOfItsNumbers }
     ensures last { NumbersEndInTheSum }
@@ -22,13 +23,13 @@ pub fn sum_number_laws()
 {}
 
 /// A bearing's written opening and slide are those of the scene exactly where all numbers of their list fit, and are
-/// refused exactly where one of them passes.
+/// refused exactly where one of them is too wide.
 pub fn rate_number_laws()
     ensures { RatesAreMadeOfTheirNumbers }
 {}
 
 /// The written power of the loads on a motion is that of the scene exactly where all numbers of its list fit, and is
-/// refused exactly where one of them passes.
+/// refused exactly where one of them is too wide.
 pub fn power_number_laws()
     ensures scene { PowerIsMadeOfItsNumbers }
     ensures frees { PowerIsTheWorkOnFreeBlocks }

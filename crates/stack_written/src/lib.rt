@@ -1,5 +1,5 @@
 //! The numbers of the written sums, rates and powers as lists of whole numbers, and that each is refused exactly where
-//! one of its numbers passes 2^127 - 1 in size: laws, on which nothing stands.
+//! one of its numbers is more than 2^127 - 1 in size: laws, on which nothing stands.
 #![tactic(auto)]
 
 mod laws;

@@ -1,4 +1,4 @@
-use Rattle.stack_reader.specs.Shape.{shape_of}
+use Rattle.stack_reader.specs.Shape.{parts_of_document}
 use Rattle.stack_reader.specs.Reading.{model_of}
 use Rattle.stack_faults.specs.TableFaults.{shape_faults, table_faults}
 use Rattle.stack_faults.proofs.Firsts.{faultless}
@@ -10,7 +10,7 @@ pub returns-clause-shape : goal.returns-clause-shape
 returns-clause-shape _ = shape_told
 
 pub returns-clause-shape_faultless : goal.returns-clause-shape_faultless
-returns-clause-shape_faultless _ = λ ms. faultless (shape_of ms) (shape_faults ms) (shape_told ms)
+returns-clause-shape_faultless _ = λ ms. faultless (parts_of_document ms) (shape_faults ms) (shape_told ms)
 
 pub returns-clause-first : goal.returns-clause-first
 returns-clause-first _ = table_first

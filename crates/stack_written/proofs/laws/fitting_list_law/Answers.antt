@@ -1,5 +1,5 @@
-use Rattle.stack_written.proofs.Chains.{one_passes_or_all_fit}
+use Rattle.stack_written.proofs.Chains.{one_too_wide_or_all_fit}
 use Rattle.stack_written.proofs.laws.fitting_list_law.Goals as goal
 
 pub returns : goal.returns
-returns c = one_passes_or_all_fit
+returns c = one_too_wide_or_all_fit
