@@ -3,7 +3,6 @@ pub mod Work
 pub mod Mixtures
 pub mod CertificateLaws
 pub mod Outlines
-pub mod Computed
 pub mod InOrder
 pub mod PlainSums
 pub mod SceneSums

@@ -4,7 +4,6 @@ pub mod Motions
 pub mod Loads
 pub mod Certificates
 pub mod Laws
-pub mod WorkedScenes
 pub mod Weights
 pub mod SurveyScene
 pub mod Held

@@ -3,7 +3,6 @@
 ghost use Rattle.stack_equilibrium.specs.Laws.{BearingsWork, VirtualWorkIsZero, AnyCornerWeighsTheSame};
 ghost use Rattle.stack_equilibrium.specs.Laws.{StandsIsCarried, CollapseExcludesBalance, GreatestIsCarried};
 ghost use Rattle.stack_equilibrium.specs.Laws.{GreatestBoundsEveryFactor, UnboundedCarriesAbove, UnboundedCarriesAll};
-ghost use Rattle.stack_equilibrium.specs.WorkedScenes.{TrueOfWorkedScenes, FalseOfWorkedScenes};
 
 /// A bearing's force does on a motion of both its bodies what its parts do on the opening and the slide, and
 /// balanced forces do no work on a motion of the free bodies. After Livesley (1978).
@@ -26,11 +25,4 @@ pub fn certificate_laws()
 /// A body's weight is the same whichever of its corners is the first.
 pub fn weight_law()
     ensures { AnyCornerWeighsTheSame }
-{}
-
-/// Small structures worked by hand: which certificates are true of them, and which conditions changed copies
-/// break.
-pub fn worked_scenes()
-    ensures holds { TrueOfWorkedScenes }
-    ensures fails { FalseOfWorkedScenes }
 {}

@@ -24,7 +24,7 @@ mod velocity;
 mod weight;
 
 pub use columns::column;
-pub use laws::{certificate_laws, virtual_work, weight_law, worked_scenes};
+pub use laws::{certificate_laws, virtual_work, weight_law};
 pub use loads::{dead, live};
 pub use openings::opening;
 pub use powers::power;

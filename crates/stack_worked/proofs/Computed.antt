@@ -9,7 +9,7 @@ use Rattle.stack_frame.specs.declared.cone.Cone.{Cone}
 use Rattle.stack_frame.specs.Admitted.{IsAdmitted}
 use Rattle.stack_equilibrium.specs.Motions.{IsStill}
 use Rattle.stack_equilibrium.specs.Certificates.{still}
-use Rattle.stack_equilibrium.specs.WorkedScenes.{TrueOfWorkedScenes, FalseOfWorkedScenes}
+use Rattle.stack_worked.specs.WorkedScenes.{TrueOfWorkedScenes, FalseOfWorkedScenes}
 
 -- a fact at each index below 2, 3, 4
 below_two : (P : ℕ → Type 0) → P 0 → P 1 → (k : ℕ) → k < 2 → P k

@@ -1,5 +1,0 @@
-use Rattle.stack_equilibrium.proofs.Computed.{true_of_worked_scenes, false_of_worked_scenes}
-use Rattle.stack_equilibrium.proofs.laws.worked_scenes.Goals as goal
-
-pub returns : goal.returns
-returns c = record { holds = true_of_worked_scenes; fails = false_of_worked_scenes }

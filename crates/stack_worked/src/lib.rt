@@ -1,0 +1,7 @@
+//! Small structures worked by hand, and which certificates are true and which are false of them: laws, on which
+//! nothing stands. They show that the definitions of statics say what they should.
+#![tactic(auto)]
+
+mod laws;
+
+pub use laws::worked_scenes;
