@@ -1,1 +1,3 @@
-mod Computed
+mod ClosedFacts
+mod TrueScenes
+mod FalseScenes

@@ -1,1 +1,3 @@
+pub mod Pieces
+pub mod Scenes
 pub mod WorkedScenes

@@ -2,8 +2,7 @@
 
 ghost use Rattle.stack_worked.specs.WorkedScenes.{TrueOfWorkedScenes, FalseOfWorkedScenes};
 
-/// Small structures worked by hand: which certificates are true of them, and which conditions changed copies
-/// break.
+/// Small structures worked by hand: certificates that are true of them, and changed copies that aren't.
 pub fn worked_scenes()
     ensures holds { TrueOfWorkedScenes }
     ensures fails { FalseOfWorkedScenes }

@@ -1,0 +1,102 @@
+-- Small structures worked by hand, with the forces and the motions that their certificates have.
+use Rattle.std.specs.Prelude.{ℤ, pos, List, [], ◌∷◌, true}
+use Rattle.stack_polygon.specs.declared.point.Point.{Point}
+use Rattle.stack_equilibrium.specs.declared.types.Wrench.{Wrench}
+use Rattle.stack_equilibrium.specs.Scene.{Move, Part, Scene}
+use Rattle.stack_equilibrium.specs.Loads.{no_load, load_of}
+use Rattle.stack_equilibrium.specs.Certificates.{Forces}
+use Rattle.stack_worked.specs.Pieces.{negative, at_point, upright, body_with, fixed_body, free_body}
+use Rattle.stack_worked.specs.Pieces.{bearing_between, scene_of_lists, forces_with}
+use Rattle.stack_worked.specs.Pieces.{part, straight, move}
+
+-- the ground, from (-10, -1) to (10, 0), and a post on it, 2 wide and 4 high
+abbrev pub ground_corners : List Point
+ground_corners = upright (negative 10) (pos 10) (negative 1) (pos 0)
+
+abbrev pub post_corners : List Point
+post_corners = upright (pos 0) (pos 2) (pos 0) (pos 4)
+
+-- with friction p over q and a live load
+abbrev pub post_scene : ℤ → ℤ → Wrench → Scene
+post_scene p q live = scene_of_lists
+    (fixed_body ground_corners ∷ body_with true post_corners live ∷ [])
+    (bearing_between 0 1 (at_point (pos 0) (pos 0)) (pos 1) (pos 0) p q
+    ∷ bearing_between 0 1 (at_point (pos 2) (pos 0)) (pos 1) (pos 0) p q ∷ [])
+
+-- a push of one unit to the right at the post's upper left corner
+abbrev pub push : Wrench
+push = load_of (at_point (pos 0) (pos 0)) (at_point (pos 0) (pos 4)) (pos 1) (pos 0)
+
+abbrev pub standing_post : Scene
+standing_post = post_scene (pos 1) (pos 1) no_load
+
+abbrev pub pushed_post : Scene
+pushed_post = post_scene (pos 1) (pos 1) push
+
+abbrev pub sliding_post : Scene
+sliding_post = post_scene (pos 1) (pos 10) push
+
+-- half the weight on each corner
+abbrev pub standing_parts : List Part
+standing_parts = straight (pos 24) ∷ straight (pos 24) ∷ []
+
+-- the parts that hold the pushed post as it tips, and its motion
+abbrev pub tipping_parts : List Part
+tipping_parts = straight (pos 0) ∷ part (pos 48) (negative 12) ∷ []
+
+abbrev pub tipping_parts_without_the_first : List Part
+tipping_parts_without_the_first = part (pos 48) (negative 12) ∷ []
+
+abbrev pub tipping_move : List Move
+tipping_move = move (pos 0) (pos 2) (negative 1) ∷ []
+
+-- those that hold it as it slides, where the friction is a tenth
+abbrev pub sliding_forces : Forces
+sliding_forces = forces_with (pos 25) (pos 20) (part (pos 360) (negative 36) ∷ part (pos 840) (negative 84) ∷ [])
+
+-- a square block on a slope of 3 in 4, with friction p over q
+abbrev pub slope_scene : ℤ → ℤ → Scene
+slope_scene p q = scene_of_lists
+    (fixed_body (at_point (pos 0) (pos 0) ∷ at_point (pos 12) (pos 0) ∷ at_point (pos 12) (pos 9) ∷ [])
+    ∷ free_body (at_point (pos 4) (pos 3) ∷ at_point (pos 8) (pos 6) ∷ at_point (pos 5) (pos 10)
+    ∷ at_point (pos 1) (pos 7) ∷ []) ∷ [])
+    (bearing_between 0 1 (at_point (pos 4) (pos 3)) (pos 4) (pos 3) p q
+    ∷ bearing_between 0 1 (at_point (pos 8) (pos 6)) (pos 4) (pos 3) p q ∷ [])
+
+abbrev pub block_on_slope : Scene
+block_on_slope = slope_scene (pos 3) (pos 4)
+
+abbrev pub block_on_slick_slope : Scene
+block_on_slick_slope = slope_scene (pos 7) (pos 10)
+
+-- what the slope bears where its friction just holds, and the motion of the block where it doesn't
+abbrev pub slope_forces : Forces
+slope_forces = forces_with (pos 4) (pos 0) (part (pos 84) (pos 63) ∷ part (pos 12) (pos 9) ∷ [])
+
+abbrev pub slipping_move : List Move
+slipping_move = move (negative 61) (negative 2) (pos 0) ∷ []
+
+-- a keystone between two abutments that lean apart, with friction p over q, lifted at its top by one unit
+abbrev pub keystone_scene : ℤ → ℤ → Scene
+keystone_scene p q = scene_of_lists
+    (fixed_body (at_point (negative 10) (pos 0) ∷ at_point (negative 1) (pos 0)
+    ∷ at_point (negative 2) (pos 4) ∷ at_point (negative 10) (pos 4) ∷ [])
+    ∷ fixed_body (at_point (pos 1) (pos 0) ∷ at_point (pos 10) (pos 0) ∷ at_point (pos 10) (pos 4)
+    ∷ at_point (pos 2) (pos 4) ∷ [])
+    ∷ body_with true (at_point (negative 1) (pos 0) ∷ at_point (pos 1) (pos 0) ∷ at_point (pos 2) (pos 4)
+    ∷ at_point (negative 2) (pos 4) ∷ [])
+    (load_of (at_point (negative 1) (pos 0)) (at_point (pos 0) (pos 4)) (pos 0) (pos 1)) ∷ [])
+    (bearing_between 0 2 (at_point (negative 2) (pos 4)) (pos 1) (negative 4) p q
+    ∷ bearing_between 0 2 (at_point (negative 1) (pos 0)) (pos 1) (negative 4) p q
+    ∷ bearing_between 1 2 (at_point (pos 1) (pos 0)) (pos 1) (pos 4) p q
+    ∷ bearing_between 1 2 (at_point (pos 2) (pos 4)) (pos 1) (pos 4) p q ∷ [])
+
+abbrev pub smooth_keystone : Scene
+smooth_keystone = keystone_scene (pos 0) (pos 1)
+
+-- twelve times the lift is the keystone's weight, and then no joint bears anything
+abbrev pub four_idle_parts : List Part
+four_idle_parts = straight (pos 0) ∷ straight (pos 0) ∷ straight (pos 0) ∷ straight (pos 0) ∷ []
+
+abbrev pub rising_move : List Move
+rising_move = move (pos 0) (pos 1) (pos 0) ∷ []
