@@ -1,3 +1,6 @@
 mod ClosedFacts
+mod TruePosts
+mod TrueBlocks
+mod TrueColumns
 mod TrueScenes
 mod FalseScenes

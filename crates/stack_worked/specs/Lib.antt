@@ -1,3 +1,4 @@
 pub mod Pieces
 pub mod Scenes
+pub mod TwoBlocks
 pub mod WorkedScenes

@@ -3,7 +3,7 @@ use Rattle.std.specs.Prelude.{ℤ, pos, List, [], ◌∷◌, true}
 use Rattle.stack_polygon.specs.declared.point.Point.{Point}
 use Rattle.stack_equilibrium.specs.declared.types.Wrench.{Wrench}
 use Rattle.stack_equilibrium.specs.Scene.{Move, Part, Scene}
-use Rattle.stack_equilibrium.specs.Loads.{no_load, load_of}
+use Rattle.stack_equilibrium.specs.Loads.{no_load, both, load_of}
 use Rattle.stack_equilibrium.specs.Certificates.{Forces}
 use Rattle.stack_worked.specs.Pieces.{negative, at_point, upright, body_with, fixed_body, free_body}
 use Rattle.stack_worked.specs.Pieces.{bearing_between, scene_of_lists, forces_with}
@@ -36,6 +36,16 @@ pushed_post = post_scene (pos 1) (pos 1) push
 abbrev pub sliding_post : Scene
 sliding_post = post_scene (pos 1) (pos 10) push
 
+-- pressed down by one unit at the middle of its head
+abbrev pub pressed_post : Scene
+pressed_post = post_scene (pos 1) (pos 1)
+    (load_of (at_point (pos 0) (pos 0)) (at_point (pos 1) (pos 4)) (pos 0) (negative 1))
+
+-- pushed from both sides at one point
+abbrev pub clamped_post : Scene
+clamped_post = post_scene (pos 1) (pos 1)
+    (both push (load_of (at_point (pos 0) (pos 0)) (at_point (pos 0) (pos 4)) (negative 1) (pos 0)))
+
 -- half the weight on each corner
 abbrev pub standing_parts : List Part
 standing_parts = straight (pos 24) ∷ straight (pos 24) ∷ []
@@ -46,6 +56,9 @@ tipping_parts = straight (pos 0) ∷ part (pos 48) (negative 12) ∷ []
 
 abbrev pub tipping_parts_without_the_first : List Part
 tipping_parts_without_the_first = part (pos 48) (negative 12) ∷ []
+
+abbrev pub two_idle_parts : List Part
+two_idle_parts = straight (pos 0) ∷ straight (pos 0) ∷ []
 
 abbrev pub tipping_move : List Move
 tipping_move = move (pos 0) (pos 2) (negative 1) ∷ []
@@ -91,12 +104,47 @@ keystone_scene p q = scene_of_lists
     ∷ bearing_between 1 2 (at_point (pos 1) (pos 0)) (pos 1) (pos 4) p q
     ∷ bearing_between 1 2 (at_point (pos 2) (pos 4)) (pos 1) (pos 4) p q ∷ [])
 
+-- without friction; with as much as its faces lean; and with more
 abbrev pub smooth_keystone : Scene
 smooth_keystone = keystone_scene (pos 0) (pos 1)
+
+abbrev pub rough_keystone : Scene
+rough_keystone = keystone_scene (pos 1) (pos 4)
+
+abbrev pub gripped_keystone : Scene
+gripped_keystone = keystone_scene (pos 3) (pos 10)
 
 -- twelve times the lift is the keystone's weight, and then no joint bears anything
 abbrev pub four_idle_parts : List Part
 four_idle_parts = straight (pos 0) ∷ straight (pos 0) ∷ straight (pos 0) ∷ straight (pos 0) ∷ []
 
+abbrev pub idle_keystone_forces : Forces
+idle_keystone_forces = forces_with (pos 1) (pos 12) four_idle_parts
+
+-- the grip of both abutments at the keystone's upper corners, which holds twice the lift alone
+abbrev pub grip : Forces
+grip = forces_with (pos 0) (pos 2)
+    (part (pos 30) (pos 9) ∷ straight (pos 0) ∷ straight (pos 0) ∷ part (pos 30) (negative 9) ∷ [])
+
 abbrev pub rising_move : List Move
 rising_move = move (pos 0) (pos 1) (pos 0) ∷ []
+
+-- a block 4 wide and 1 high, laid three quarters beyond the edge of a table, without friction, with a live load
+abbrev pub overhanging_scene : Wrench → Scene
+overhanging_scene live = scene_of_lists
+    (fixed_body (upright (negative 4) (pos 0) (negative 1) (pos 0))
+    ∷ body_with true (upright (negative 1) (pos 3) (pos 0) (pos 1)) live ∷ [])
+    (bearing_between 0 1 (at_point (negative 1) (pos 0)) (pos 1) (pos 0) (pos 0) (pos 1)
+    ∷ bearing_between 0 1 (at_point (pos 0) (pos 0)) (pos 1) (pos 0) (pos 0) (pos 1) ∷ [])
+
+abbrev pub overhanging_block : Scene
+overhanging_block = overhanging_scene no_load
+
+-- pressed down by one unit at its outer upper corner
+abbrev pub loaded_overhanging_block : Scene
+loaded_overhanging_block = overhanging_scene
+    (load_of (at_point (negative 1) (pos 0)) (at_point (pos 3) (pos 1)) (pos 0) (negative 1))
+
+-- the motion of the block as it tips over the edge
+abbrev pub toppling_move : List Move
+toppling_move = move (pos 0) (pos 1) (negative 1) ∷ []
