@@ -4,3 +4,6 @@ mod TrueBlocks
 mod TrueColumns
 mod TrueScenes
 mod FalseScenes
+mod PostSurvey
+mod PostScene
+mod PostContent

@@ -2,3 +2,4 @@ pub mod Pieces
 pub mod Scenes
 pub mod TwoBlocks
 pub mod WorkedScenes
+pub mod SurveyedPost
