@@ -7,3 +7,4 @@ mod FalseScenes
 mod PostSurvey
 mod PostScene
 mod PostContent
+mod WorkedFactors

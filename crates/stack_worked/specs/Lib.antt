@@ -3,3 +3,4 @@ pub mod Scenes
 pub mod TwoBlocks
 pub mod WorkedScenes
 pub mod SurveyedPost
+pub mod WorkedFactors

@@ -1,5 +1,5 @@
 -- What is true and what is false of small structures worked by hand. It shows that the definitions of a true
--- certificate say what they should: each of their conditions is broken by some changed copy of a true one.
+-- certificate say what they should: changed copies of true ones break their conditions one by one.
 use Rattle.std.specs.Prelude.{pos, [], ◌∷◌}
 use Rattle.stack_equilibrium.specs.Certificates.{IsTrueStands, IsTrueCollapse, IsTrueGreatest, IsTrueUnbounded}
 use Rattle.stack_worked.specs.Pieces.{negative, forces_with, standing_forces, part, straight, move}

@@ -1,0 +1,72 @@
+-- The factors that the worked scenes carry, from their true certificates.
+use Rattle.std.proofs.Common.{◌≡◌, refl, arith}
+use lib.IntN.{ℤ, pos, ◌*ℤ◌}
+use Rattle.std.proofs.lemmas.Int.{ints}
+use Rattle.stack_algebra.specs.IntegerOrder.{◌≼◌, ◌≺◌}
+use Rattle.stack_algebra.proofs.Integers.{sums, expand}
+use Rattle.stack_equilibrium.specs.declared.types.Wrench.{Wrench}
+use Rattle.stack_equilibrium.specs.Scene.{IsProper}
+use Rattle.stack_equilibrium.specs.Certificates.{IsTrueStands}
+use Rattle.stack_equilibrium.specs.Laws.{StandsIsCarried, CollapseExcludesBalance, GreatestIsCarried}
+use Rattle.stack_equilibrium.specs.Laws.{GreatestBoundsEveryFactor, UnboundedCarriesAll}
+use Rattle.stack_worked.specs.Pieces.{standing_forces}
+use Rattle.stack_worked.specs.Scenes.{post_scene, slope_scene, pressed_post, standing_parts}
+use Rattle.stack_worked.specs.WorkedFactors.{FactorsOfWorkedScenes}
+use Rattle.stack_worked.proofs.ClosedFacts.{below_two}
+use Rattle.stack_worked.proofs.TruePosts.{post_tips_at_two, post_bears_any_pressure}
+use Rattle.stack_worked.proofs.TrueBlocks.{block_just_holds, block_slips}
+
+-- each bearing lies between the fixed body and the free one
+post_is_proper : {p q : ℤ} {w : Wrench} → pos 0 ≺ q → pos 0 ≼ p → IsProper (post_scene p q w)
+post_is_proper h k = below_two _
+    (record {
+      second_exists = omega arith;
+      first_before_second = omega arith;
+      denominator_positive = h;
+      numerator_nonneg = k;
+    })
+    (record {
+      second_exists = omega arith;
+      first_before_second = omega arith;
+      denominator_positive = h;
+      numerator_nonneg = k;
+    })
+
+slope_is_proper : {p q : ℤ} → pos 0 ≺ q → pos 0 ≼ p → IsProper (slope_scene p q)
+slope_is_proper h k = below_two _
+    (record {
+      second_exists = omega arith;
+      first_before_second = omega arith;
+      denominator_positive = h;
+      numerator_nonneg = k;
+    })
+    (record {
+      second_exists = omega arith;
+      first_before_second = omega arith;
+      denominator_positive = h;
+      numerator_nonneg = k;
+    })
+
+over_one : (L n : ℤ) → n ≺ L → n ≺ L *ℤ pos 1
+over_one L n h = let e : L *ℤ pos 1 ≡ L = simp expand (omega (arith, sums)) in omega (arith, sums, e, h)
+
+-- without its pressure the pressed post stands
+pressed_post_stands : IsTrueStands pressed_post (standing_forces standing_parts)
+pressed_post_stands = record {
+  scale_positive = omega (arith, ints);
+  factor_zero = refl;
+  forces = post_bears_any_pressure.loaded.forces;
+}
+
+pub factors_of_worked_scenes : StandsIsCarried → CollapseExcludesBalance → GreatestIsCarried
+    → GreatestBoundsEveryFactor → UnboundedCarriesAll → FactorsOfWorkedScenes
+factors_of_worked_scenes stands collapse greatest bound all = record {
+  post_carries_two = greatest _ _ _ post_tips_at_two;
+  post_carries_no_more = λ L D h. bound _ _ _ (post_is_proper (omega (arith, ints)) (omega (arith, ints)))
+      post_tips_at_two L D (over_one L (pos 2 *ℤ D) h);
+  post_carries_any_pressure = all _ _ _ (post_is_proper (omega (arith, ints)) (omega (arith, ints)))
+      post_bears_any_pressure (stands _ _ pressed_post_stands);
+  slope_carries_its_block = stands _ _ block_just_holds;
+  slick_slope_does_not = λ D. collapse _ _ D (slope_is_proper (omega (arith, ints)) (omega (arith, ints)))
+      block_slips;
+}
