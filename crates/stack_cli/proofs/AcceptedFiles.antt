@@ -45,7 +45,7 @@ file_ends holds false bytes v names is p =
     model_ends holds bytes (structure_of bytes) v names (ltb-false _ _ is) refl p
 
 -- A file whose bytes are told goes on with them.
-told_bytes : (held : Option (List ℕ)) (told bytes : List ℕ) → held ≡ Some told → MayHold held bytes → bytes ≡ told
+pub told_bytes : (held : Option (List ℕ)) (told bytes : List ℕ) → held ≡ Some told → MayHold held bytes → bytes ≡ told
 told_bytes held told bytes e h = subst (λ d. MayHold d bytes) e h
 
 pub only_accepted : (holds : Holds) (name bytes : List ℕ) (v : Surveyed) (names : List (List ℕ))

@@ -15,3 +15,5 @@ mod WordNumbers
 mod JudgementEnds
 mod HeadlineHolds
 mod PrintedAccepted
+mod CheckEnds
+mod CheckAnswered

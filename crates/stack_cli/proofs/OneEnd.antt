@@ -32,7 +32,7 @@ same_known f g k l (inl e) = absurd (subst IsKnown e k)
 same_known f g k l (inr (inl e)) = absurd (subst IsKnown e l)
 same_known f g k l (inr (inr e)) = e
 
-one_found : (s : Structure) (f g : Found) → MayFind s f → MayFind s g → f ≡ g
+pub one_found : (s : Structure) (f g : Found) → MayFind s f → MayFind s g → f ≡ g
 one_found s f g h k =
     let a = known s f h in
     let b = known s g k in

@@ -38,3 +38,20 @@ stops holds (reads input name k) f (n ∷ ns) r (same, inr h) =
     (same, inr (h.0, h.1, stops holds (k h.0) f ns r h.2))
 stops holds (surveys s k) f names r (inl h) = inl h
 stops holds (surveys s k) f names r (inr h) = inr (h.0, h.1, stops holds (k h.0) f names r h.2)
+
+-- A value of work after other work came of a value of that.
+pub came_from : {A B : Type 0} (holds : Holds) (w : Work A) (f : A → Work B) (names : List (List ℕ)) (b : B)
+    → Ends holds (w >>= f) names (Ok b)
+    → (a : A) × (front : List (List ℕ)) × (rest : List (List ℕ)) × Ends holds w front (Ok a)
+    × Ends holds (f a) rest (Ok b)
+came_from holds (gives x) f names b p = (x, [], names, (refl, refl), p)
+came_from holds (refuses q) f names b p = absurd p.1
+came_from holds (reads input name k) f [] b p = absurd p
+came_from holds (reads input name k) f (n ∷ ns) b (same, inl h) = absurd h.1
+came_from holds (reads input name k) f (n ∷ ns) b (same, inr h) =
+    let c = came_from holds (k h.0) f ns b h.2 in
+    (c.0, n ∷ c.1, c.2, (same, inr (h.0, h.1, c.3)), c.4)
+came_from holds (surveys s k) f names b (inl h) = absurd h.1
+came_from holds (surveys s k) f names b (inr h) =
+    let c = came_from holds (k h.0) f names b h.2 in
+    (c.0, c.1, c.2, inr (h.0, h.1, c.3), c.4)

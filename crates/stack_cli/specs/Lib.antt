@@ -19,3 +19,4 @@ pub mod AcceptedModel
 pub mod MainTheorem
 pub mod Headline
 pub mod Printed
+pub mod Accepted

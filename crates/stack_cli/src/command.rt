@@ -6,9 +6,10 @@ ghost use Rattle.stack_contact.specs.Surveyed.{Surveyed};
 ghost use Rattle.stack_equilibrium.specs.declared.types.Question.{Question};
 ghost use Rattle.stack_outside.specs.Faults.{Rose, counted};
 ghost use Rattle.stack_cli.specs.Refusals.{refusal_view};
-ghost use Rattle.stack_cli.specs.Words.{form_of, texts, judges};
+ghost use Rattle.stack_cli.specs.Words.{form_of, texts, judges, check};
 ghost use Rattle.stack_cli.specs.AcceptedModel.{IsAcceptedModel};
 ghost use Rattle.stack_cli.specs.Headline.{Judging};
+ghost use Rattle.stack_cli.specs.Accepted.{CheckSays};
 ghost use Rattle.stack_cli.specs.Progress.{Delivers, SaysLine};
 ghost use Rattle.stack_cli.specs.OnePut.{PutsAnswer, PutsLine};
 ghost use Rattle.stack_cli.specs.MainTheorem.{RunMeets};
@@ -73,8 +74,11 @@ fn deliver<O: Sink, E: Sink>(
 ///
 /// The clause `headline`: for words of the form `stand` or `load` and an accepted model, where neither the shelf nor
 /// `out` failed, a true certificate of the question is printed, or the cause of the refusal holds, and each cause has
-/// its refusal. The clauses `one_put` and `one_line`: `out` is called once for an answer and never for a refusal, and
-/// `err` once for a refusal and never for an answer.
+/// its refusal. The clause `accepted`: for words of the form `check` and two told files, the status is 0 only where the
+/// second holds a certificate that is true of the model in the first, and exactly `accepted` is printed; it is 1 only
+/// where the second holds one that isn't, and exactly the line of its first test that fails is printed. The clauses
+/// `one_put` and `one_line`: `out` is called once for an answer and never for a refusal, and `err` once for a refusal
+/// and never for an answer.
 pub fn run<F: Shelf, O: Sink, E: Sink>(
     alloc: Global,
     words: &[String],
@@ -91,6 +95,9 @@ pub fn run<F: Shelf, O: Sink, E: Sink>(
         IsAcceptedModel bytes v → ¬ (Rose (F.faults shelf.old) (F.faults shelf.new)) →
         ¬ (Rose (O.faults out.old) (O.faults out.new)) →
         Judging q v budget result (O.written out.old) (O.written out.new) }
+    ensures accepted { (model name bytes text : List ℕ) → form_of (texts words.now) ≡ Some (check model name) →
+        F.holds shelf.old model ≡ Some bytes → F.holds shelf.old name ≡ Some text →
+        CheckSays bytes text result (O.written out.old) (O.written out.new) }
     ensures one_put { PutsAnswer result (O.calls out.old) (O.calls out.new) }
     ensures one_line { PutsLine result (E.calls err.old) (E.calls err.new) }
     ensures holds { F.holds shelf.new ≡ F.holds shelf.old }

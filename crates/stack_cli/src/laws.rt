@@ -7,6 +7,7 @@ ghost use Rattle.stack_cli.specs.Surveying.{surveyed_file};
 ghost use Rattle.stack_cli.specs.OneEnd.{WordsHaveOneEnd};
 ghost use Rattle.stack_cli.specs.AcceptedModel.{IsAcceptedModel};
 ghost use Rattle.stack_cli.specs.Printed.{PrintedIsAccepted, PrintedIsShort};
+ghost use Rattle.stack_cli.specs.Accepted.{AcceptedIsTrueOfFiles, RejectedIsFalseOfFiles, FilesHoldOne};
 
 use stack_certificate::{one_reading, short_text};
 
@@ -35,3 +36,11 @@ pub fn printed_is_accepted()
     one_reading();
     short_text();
 }
+
+/// Over told files, what `check` accepts is a certificate that is true of the model, and what it rejects is one that
+/// isn't; and the two files hold one survey and one certificate at most.
+pub fn accepted_is_true_of_files()
+    ensures accepted { AcceptedIsTrueOfFiles }
+    ensures rejected { RejectedIsFalseOfFiles }
+    ensures one { FilesHoldOne }
+{}

@@ -1,5 +1,6 @@
 use Rattle.stack_cli.proofs.Consequences.{run_meets}
 use Rattle.stack_cli.proofs.HeadlineHolds.{headline_of}
+use Rattle.stack_cli.proofs.CheckAnswered.{check_says}
 use Rattle.stack_cli.proofs.command.run.Goals as goal
 
 pub returns-clause-meets : goal.returns-clause-meets
@@ -9,3 +10,6 @@ returns-clause-meets g c =
 
 pub returns-clause-headline : goal.returns-clause-headline
 returns-clause-headline g c = headline_of (returns-clause-meets g c)
+
+pub returns-clause-accepted : goal.returns-clause-accepted
+returns-clause-accepted g c = check_says (returns-clause-meets g c)
