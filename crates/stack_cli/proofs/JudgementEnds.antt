@@ -1,20 +1,20 @@
 -- The ends of the work on a judgement.
-use Rattle.std.proofs.Common.{◌≡◌, refl, sym, subst, ◌∙◌, ℕ, ◌<◌, Bool, true, false, not, List, [], Option, Result}
-use Rattle.std.proofs.Common.{Ok, Err, inl, inr, ◌⊎◌, length}
+use Rattle.std.proofs.Common.{◌≡◌, refl, sym, subst, ◌∙◌, ℕ, Bool, true, false, not, [], Result}
+use Rattle.std.proofs.Common.{Ok, Err, inl}
 use Rattle.std.specs.Prelude.{if◌then◌else◌}
 use Rattle.std.specs.List.{list_any}
 use Rattle.std.proofs.lemmas.List.{get_or_default}
 use Rattle.std.proofs.lemmas.List.Folds.{list_any_at, Any-from_list_any}
-use Rattle.stack_model.specs.Structure.{Structure, HasLive, load_of}
+use Rattle.stack_model.specs.Structure.{Structure, HasLive}
 use Rattle.stack_contact.specs.Surveyed.{Surveyed}
 use Rattle.stack_certificate.specs.Certificate.{CertificateValue}
 use Rattle.stack_equilibrium.specs.declared.types.Question.{Question}
 use Rattle.stack_equilibrium.specs.declared.types.Question.TheVariants.{Dead, Live}
 use Rattle.stack_judge.specs.declared.types.JudgePlace.{JudgePlace}
 use Rattle.stack_judge.specs.Judgement.{Judgement, certified, too_wide, spent, judgement, LacksLive}
-use Rattle.stack_cli.specs.Refusals.{Refusal, faulty, memory, over_budget, no_live}
+use Rattle.stack_cli.specs.Refusals.{Refusal, faulty, over_budget, no_live}
 use Rattle.stack_cli.specs.Answers.{Due, certificate}
-use Rattle.stack_cli.specs.Work.{Work, refuses, Holds, Ends}
+use Rattle.stack_cli.specs.Work.{refuses, Holds, Ends}
 use Rattle.stack_cli.specs.Judging.{lacks_live, wide_fault, judged_step, judged}
 
 pub lists_some : (s : Structure) → list_any (λ l. l.live) s.loads ≡ true → HasLive s

@@ -7,10 +7,7 @@ use Rattle.stack_model.specs.Structure.{Structure}
 use Rattle.stack_contact.specs.Surveyed.{Surveys}
 use Rattle.stack_contact.specs.declared.types.SurveyError.TheVariants.{Overlap, TooManyBearings, Memory}
 use Rattle.stack_contact.proofs.OneSurvey.{one-survey}
-use Rattle.stack_cli.specs.Words.{Form}
-use Rattle.stack_cli.specs.Answers.{Due}
 use Rattle.stack_cli.specs.Forms.{work_of}
-use Rattle.stack_cli.specs.Progress.{Way}
 use Rattle.stack_cli.specs.Refusals.{Refusal, file, faulty, memory}
 use Rattle.stack_cli.specs.Work.{Work, gives, refuses, reads, surveys, Found, Holds, MayHold, MayFind, Ends}
 use Rattle.stack_cli.specs.Work.{EndsGiving, EndsWith}

@@ -1,5 +1,5 @@
 -- A printed certificate is accepted.
-use Rattle.std.proofs.Common.{◌≡◌, refl, sym, subst, ap, ◌∙◌, ℕ, ◌≤◌, ◌<◌, List, [], ◌∷◌, Some, Result, Ok, inr}
+use Rattle.std.proofs.Common.{◌≡◌, refl, sym, subst, ℕ, ◌≤◌, ◌<◌, List, [], ◌∷◌, Some, Ok, inr}
 use Rattle.std.proofs.Common.{length, arith}
 use Rattle.std.proofs.lemmas.Bool.{le-ltb}
 use Rattle.stack_contact.specs.Surveyed.{Surveyed}

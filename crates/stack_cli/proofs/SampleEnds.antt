@@ -1,5 +1,5 @@
 -- The ends of the work on a wall's survey.
-use Rattle.std.proofs.Common.{◌≡◌, refl, sym, subst, ap, ℕ, Bool, [], Result, Ok, Err, inl, inr, ◌⊎◌}
+use Rattle.std.proofs.Common.{◌≡◌, refl, sym, subst, ap, ℕ, Bool, [], Result, Err, inl, inr, ◌⊎◌}
 use Rattle.stack_contact.specs.Surveyed.{Surveyed}
 use Rattle.stack_certificate.specs.Certificate.{CertificateValue}
 use Rattle.stack_equilibrium.specs.declared.types.Question.TheVariants.{Live}

@@ -2,7 +2,7 @@
 -- exactly one holds, since their statuses differ: a true certificate was printed; a number is too wide for 128
 -- bits; the budget is exceeded;
 -- `load` finds no live load; memory is wanting.
-use Rattle.std.specs.Prelude.{◌≡◌, ℕ, ◌⊎◌, List, Option}
+use Rattle.std.specs.Prelude.{◌≡◌, ℕ, ◌⊎◌, List}
 use Rattle.std.specs.Io.KnownBytes.{Appends, Keeps}
 use Rattle.stack_contact.specs.Surveyed.{Surveyed}
 use Rattle.stack_certificate.specs.Certificate.{CertificateValue}

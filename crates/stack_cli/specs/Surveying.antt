@@ -1,5 +1,5 @@
 -- The work that most forms begin with: a model's file, its text, its survey.
-use Rattle.std.specs.Prelude.{ℕ, List, [], ◌∷◌, length, map, Result, Ok, Err, nat_lt, if◌then◌else◌}
+use Rattle.std.specs.Prelude.{ℕ, List, length, map, Result, Ok, Err, nat_lt, if◌then◌else◌}
 use Rattle.stack_model.specs.Structure.{Structure, body_of}
 use Rattle.stack_model.specs.declared.errors.ModelError.TheVariants as contents
 use Rattle.stack_reader.specs.declared.errors.ReadError.{ReadError}
