@@ -6,7 +6,7 @@ use Rattle.stack_cli.specs.declared.answer.Verdict.TheVariants.{Affirmed, Denied
 use Rattle.stack_cli.specs.Words.{Form, check}
 use Rattle.stack_cli.specs.Answers.{Due, exactly, IsAnswer, verdict_status}
 use Rattle.stack_cli.specs.Work.{Holds}
-use Rattle.stack_cli.specs.Progress.{Names, Bytes}
+use Rattle.stack_cli.specs.Progress.{ToldNames, Bytes}
 use Rattle.stack_cli.specs.MainTheorem.{Answered, RunMeets}
 use Rattle.stack_cli.specs.Accepted.{CheckSays}
 use Rattle.stack_cli.proofs.CheckEnds.{Said, said_by, hold_true, hold_false}
@@ -32,7 +32,7 @@ answered_says model name bytes text status holds names out out_after err err_aft
     says bytes text status out out_after a.due a.verdict a.text
     (said_by holds model name bytes text names a.due told held a.way) a.is_due a.is_status a.is_written
 
-pub check_says : {status : ℕ} {form : Option Form} {holds : Holds} {asked asked_after : Names}
+pub check_says : {status : ℕ} {form : Option Form} {holds : Holds} {asked asked_after : ToldNames}
     {out out_after err err_after : Bytes} {S O E : Type 0}
     → RunMeets status form holds asked asked_after out out_after err err_after S O E
     → (model name bytes text : List ℕ) → form ≡ Some (check model name) → holds model ≡ Some bytes

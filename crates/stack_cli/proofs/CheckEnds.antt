@@ -21,7 +21,7 @@ use Rattle.stack_cli.specs.Refusals.{long}
 use Rattle.stack_cli.specs.Answers.{Due, exactly}
 use Rattle.stack_cli.specs.CheckText.{accepted_text, rejected_text}
 use Rattle.stack_cli.specs.Work.{gives, refuses, ◌>>=◌, Found, Holds, Ends}
-use Rattle.stack_cli.specs.Surveying.{greatest_file, surveyed}
+use Rattle.stack_cli.specs.Surveying.{greatest_file, surveyed_file}
 use Rattle.stack_cli.specs.Checking.{certificate_step, check_step, certified, checked, check_work}
 use Rattle.stack_cli.specs.AcceptedModel.{IsAcceptedModel}
 use Rattle.stack_cli.specs.Accepted.{ModelAndCertificate, HoldTrueCertificate, HoldFalseCertificate}
@@ -79,7 +79,7 @@ pub said_by : (holds : Holds) (model name bytes text : List ℕ) (names : List (
     → Said bytes text due
 unfolding check_work
 said_by holds model name bytes text names due told held way =
-    let c = came_from holds (surveyed model) (checked name) names due way in
+    let c = came_from holds (surveyed_file model) (checked name) names due way in
     file_ends holds bytes c.0 (only_accepted holds model bytes c.0 c.1 told c.3) due name text c.2 held c.4
 
 pub hold_true : (bytes text line : List ℕ) → Said bytes text (exactly Affirmed line)

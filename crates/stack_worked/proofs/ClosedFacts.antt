@@ -4,7 +4,7 @@ use lib.IntN.{ℤ, pos, ◌*ℤ◌}
 use Rattle.stack_algebra.proofs.Order.{◌≼◌, abs}
 use Rattle.stack_frame.specs.declared.cone.Cone.{Cone}
 use Rattle.stack_frame.specs.Admitted.{IsAdmitted}
-use Rattle.stack_equilibrium.specs.Scene.{Scene, Part}
+use Rattle.stack_equilibrium.specs.Scene.{Scene, BearingPart}
 use Rattle.stack_equilibrium.specs.Balance.{sum_x_of, sum_y_of, sum_m_of, IsBalancedAt}
 use Rattle.stack_equilibrium.specs.Motions.{IsStill}
 use Rattle.stack_equilibrium.specs.Certificates.{still}
@@ -32,7 +32,7 @@ below_four P p q r s (suc (suc (suc (suc k)))) l = absurd (omega arith)
 pub part_holds : {c : Cone} {a b : ℤ} → pos 0 ≼ a → c.q *ℤ abs b ≼ c.p *ℤ a → IsAdmitted c a b
 part_holds h k = record { pushes = h; within = k }
 
-pub in_balance : {s : Scene} {f : ℕ → Part} {scale factor : ℤ} {i : ℕ} →
+pub in_balance : {s : Scene} {f : ℕ → BearingPart} {scale factor : ℤ} {i : ℕ} →
     sum_x_of s f scale factor i ≡ pos 0 → sum_y_of s f scale factor i ≡ pos 0 → sum_m_of s f scale factor i
     ≡ pos 0 →
     (s.body i).free ≡ true → IsBalancedAt s f scale factor i

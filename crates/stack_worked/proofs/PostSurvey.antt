@@ -9,7 +9,7 @@ use Rattle.std.specs.Prelude.{Some, slice_get}
 use Rattle.std.proofs.lemmas.Int.{ints}
 use Rattle.std.proofs.lemmas.Option.{same_Some, slice_get_within}
 use Rattle.stack_algebra.specs.Gcd.{gcd}
-use Rattle.stack_polygon.specs.Plane.{Place, IsAt}
+use Rattle.stack_polygon.specs.Plane.{Triple, IsAt}
 use Rattle.stack_polygon.specs.Corners.{IsClear, IsStrictlyConvex}
 use Rattle.stack_polygon.specs.Limits.{IsNear, AreInRange}
 use Rattle.stack_frame.specs.declared.frame.Frame.{Frame}
@@ -110,13 +110,13 @@ right = level_bearing (at_point (pos 2) (pos 0))
 abbrev foot : Contacts
 foot = AtTwo left.at right.at left.frame
 
-abbrev Bear : Frame → Place → ℕ → ℕ → Type 0
+abbrev Bear : Frame → Triple → ℕ → ℕ → Type 0
 Bear t X i j = Bears (corners_of drawn_post i) (corners_of drawn_post j) t X
 
-abbrev Touch_at : Place → ℕ → ℕ → Type 0
+abbrev Touch_at : Triple → ℕ → ℕ → Type 0
 Touch_at X i j = Touches (corners_of drawn_post i) (corners_of drawn_post j) X
 
-abbrev Found : Frame → Place → ℕ → ℕ → Type 0
+abbrev Found : Frame → Triple → ℕ → ℕ → Type 0
 Found t X i j =
     (k : ℕ) × (z : Bearing) × ((slice_get surveyed_post.bearings k ≡ Some z) × IsBearingOf i j t X z)
 
@@ -139,7 +139,7 @@ module _ (contacts : AreContacts ground_corners post_corners foot) where
   })
   each (suc (suc k)) z e = absurd (omega (arith, slice_get_within surveyed_post.bearings (suc (suc k)) z e))
 
-  found : (t : Frame) (X : Place) → (IsAt X left.at ⊎ IsAt X right.at) × (t ≡ left.frame) → Found t X 0 1
+  found : (t : Frame) (X : Triple) → (IsAt X left.at ⊎ IsAt X right.at) × (t ≡ left.frame) → Found t X 0 1
   found t X (inl a, e) = (0, left, (refl, record { first = refl; second = refl; along = sym e; at = a }))
   found t X (inr a, e) = (1, right, (refl, record { first = refl; second = refl; along = sym e; at = a }))
 

@@ -4,9 +4,9 @@ use Rattle.std.specs.Prelude.{ℕ, ℤ, pos, neg_ℤ, List, [], ◌∷◌, Bool,
 use Rattle.stack_polygon.specs.declared.point.Point.{Point}
 use Rattle.stack_polygon.specs.Corners.{corner_of}
 use Rattle.stack_equilibrium.specs.declared.types.Wrench.{Wrench}
-use Rattle.stack_equilibrium.specs.Scene.{Move, Part, Body, Bearing, Scene}
+use Rattle.stack_equilibrium.specs.Scene.{Move, BearingPart, SceneBody, SceneBearing, Scene}
 use Rattle.stack_equilibrium.specs.Loads.{no_load, weight_of}
-use Rattle.stack_equilibrium.specs.Certificates.{Forces}
+use Rattle.stack_equilibrium.specs.Certificates.{SceneForces}
 
 -- minus n
 abbrev pub negative : ℕ → ℤ
@@ -20,7 +20,7 @@ abbrev pub upright : ℤ → ℤ → ℤ → ℤ → List Point
 upright x0 x1 y0 y1 = at_point x0 y0 ∷ at_point x1 y0 ∷ at_point x1 y1 ∷ at_point x0 y1 ∷ []
 
 -- a body with these corners, its weight, and a live load about its first corner
-abbrev pub body_with : Bool → List Point → Wrench → Body
+abbrev pub body_with : Bool → List Point → Wrench → SceneBody
 body_with free corners live = record {
   free = free;
   ox = (corner_of corners 0).x;
@@ -30,14 +30,14 @@ body_with free corners live = record {
 }
 
 -- one that stays where it is, and one that doesn't and has no live load
-abbrev pub fixed_body : List Point → Body
+abbrev pub fixed_body : List Point → SceneBody
 fixed_body corners = body_with false corners no_load
 
-abbrev pub free_body : List Point → Body
+abbrev pub free_body : List Point → SceneBody
 free_body corners = body_with true corners no_load
 
 -- a bearing between two bodies, at a point, with its tangent and its friction p over q
-abbrev pub bearing_between : ℕ → ℕ → Point → ℤ → ℤ → ℤ → ℤ → Bearing
+abbrev pub bearing_between : ℕ → ℕ → Point → ℤ → ℤ → ℤ → ℤ → SceneBearing
 bearing_between first second at tx ty p q = record {
   first = first;
   second = second;
@@ -50,7 +50,7 @@ bearing_between first second at tx ty p q = record {
 }
 
 -- bodies and bearings in their order; past the end stand ones that mean nothing
-abbrev pub scene_of_lists : List Body → List Bearing → Scene
+abbrev pub scene_of_lists : List SceneBody → List SceneBearing → Scene
 scene_of_lists bodies bearings = record {
   bodies = length bodies;
   body = λ i. get_or bodies i (fixed_body []);
@@ -58,18 +58,18 @@ scene_of_lists bodies bearings = record {
   bearing = λ k. get_or bearings k (bearing_between 0 0 (at_point (pos 0) (pos 0)) (pos 0) (pos 0) (pos 0) (pos 0));
 }
 
-abbrev pub forces_with : ℤ → ℤ → List Part → Forces
+abbrev pub forces_with : ℤ → ℤ → List BearingPart → SceneForces
 forces_with scale factor parts = record { scale = scale; factor = factor; parts = parts }
 
 -- at scale 1 and without live loads
-abbrev pub standing_forces : List Part → Forces
+abbrev pub standing_forces : List BearingPart → SceneForces
 standing_forces parts = forces_with (pos 1) (pos 0) parts
 
-abbrev pub part : ℤ → ℤ → Part
+abbrev pub part : ℤ → ℤ → BearingPart
 part a b = record { a = a; b = b }
 
 -- a part that pushes straight on
-abbrev pub straight : ℤ → Part
+abbrev pub straight : ℤ → BearingPart
 straight a = part a (pos 0)
 
 abbrev pub move : ℤ → ℤ → ℤ → Move

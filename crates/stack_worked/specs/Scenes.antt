@@ -2,9 +2,9 @@
 use Rattle.std.specs.Prelude.{ℤ, pos, List, [], ◌∷◌, true}
 use Rattle.stack_polygon.specs.declared.point.Point.{Point}
 use Rattle.stack_equilibrium.specs.declared.types.Wrench.{Wrench}
-use Rattle.stack_equilibrium.specs.Scene.{Move, Part, Scene}
-use Rattle.stack_equilibrium.specs.Loads.{no_load, both, load_of}
-use Rattle.stack_equilibrium.specs.Certificates.{Forces}
+use Rattle.stack_equilibrium.specs.Scene.{Move, BearingPart, Scene}
+use Rattle.stack_equilibrium.specs.Loads.{no_load, wrench_sum, load_wrench}
+use Rattle.stack_equilibrium.specs.Certificates.{SceneForces}
 use Rattle.stack_worked.specs.Pieces.{negative, at_point, upright, body_with, fixed_body, free_body}
 use Rattle.stack_worked.specs.Pieces.{bearing_between, scene_of_lists, forces_with}
 use Rattle.stack_worked.specs.Pieces.{part, straight, move}
@@ -25,7 +25,7 @@ post_scene p q live = scene_of_lists
 
 -- a push of one unit to the right at the post's upper left corner
 abbrev pub push : Wrench
-push = load_of (at_point (pos 0) (pos 0)) (at_point (pos 0) (pos 4)) (pos 1) (pos 0)
+push = load_wrench (at_point (pos 0) (pos 0)) (at_point (pos 0) (pos 4)) (pos 1) (pos 0)
 
 abbrev pub standing_post : Scene
 standing_post = post_scene (pos 1) (pos 1) no_load
@@ -39,32 +39,32 @@ sliding_post = post_scene (pos 1) (pos 10) push
 -- pressed down by one unit at the middle of its head
 abbrev pub pressed_post : Scene
 pressed_post = post_scene (pos 1) (pos 1)
-    (load_of (at_point (pos 0) (pos 0)) (at_point (pos 1) (pos 4)) (pos 0) (negative 1))
+    (load_wrench (at_point (pos 0) (pos 0)) (at_point (pos 1) (pos 4)) (pos 0) (negative 1))
 
 -- pushed from both sides at one point
 abbrev pub clamped_post : Scene
 clamped_post = post_scene (pos 1) (pos 1)
-    (both push (load_of (at_point (pos 0) (pos 0)) (at_point (pos 0) (pos 4)) (negative 1) (pos 0)))
+    (wrench_sum push (load_wrench (at_point (pos 0) (pos 0)) (at_point (pos 0) (pos 4)) (negative 1) (pos 0)))
 
 -- half the weight on each corner
-abbrev pub standing_parts : List Part
+abbrev pub standing_parts : List BearingPart
 standing_parts = straight (pos 24) ∷ straight (pos 24) ∷ []
 
 -- the parts that hold the pushed post as it tips, and its motion
-abbrev pub tipping_parts : List Part
+abbrev pub tipping_parts : List BearingPart
 tipping_parts = straight (pos 0) ∷ part (pos 48) (negative 12) ∷ []
 
-abbrev pub tipping_parts_without_the_first : List Part
+abbrev pub tipping_parts_without_the_first : List BearingPart
 tipping_parts_without_the_first = part (pos 48) (negative 12) ∷ []
 
-abbrev pub two_idle_parts : List Part
+abbrev pub two_idle_parts : List BearingPart
 two_idle_parts = straight (pos 0) ∷ straight (pos 0) ∷ []
 
 abbrev pub tipping_move : List Move
 tipping_move = move (pos 0) (pos 2) (negative 1) ∷ []
 
 -- those that hold it as it slides, where the friction is a tenth
-abbrev pub sliding_forces : Forces
+abbrev pub sliding_forces : SceneForces
 sliding_forces = forces_with (pos 25) (pos 20) (part (pos 360) (negative 36) ∷ part (pos 840) (negative 84) ∷ [])
 
 -- a square block on a slope of 3 in 4, with friction p over q
@@ -83,7 +83,7 @@ abbrev pub block_on_slick_slope : Scene
 block_on_slick_slope = slope_scene (pos 7) (pos 10)
 
 -- what the slope bears where its friction just holds, and the motion of the block where it doesn't
-abbrev pub slope_forces : Forces
+abbrev pub slope_forces : SceneForces
 slope_forces = forces_with (pos 4) (pos 0) (part (pos 84) (pos 63) ∷ part (pos 12) (pos 9) ∷ [])
 
 abbrev pub slipping_move : List Move
@@ -98,7 +98,7 @@ keystone_scene p q = scene_of_lists
     ∷ at_point (pos 2) (pos 4) ∷ [])
     ∷ body_with true (at_point (negative 1) (pos 0) ∷ at_point (pos 1) (pos 0) ∷ at_point (pos 2) (pos 4)
     ∷ at_point (negative 2) (pos 4) ∷ [])
-    (load_of (at_point (negative 1) (pos 0)) (at_point (pos 0) (pos 4)) (pos 0) (pos 1)) ∷ [])
+    (load_wrench (at_point (negative 1) (pos 0)) (at_point (pos 0) (pos 4)) (pos 0) (pos 1)) ∷ [])
     (bearing_between 0 2 (at_point (negative 2) (pos 4)) (pos 1) (negative 4) p q
     ∷ bearing_between 0 2 (at_point (negative 1) (pos 0)) (pos 1) (negative 4) p q
     ∷ bearing_between 1 2 (at_point (pos 1) (pos 0)) (pos 1) (pos 4) p q
@@ -115,14 +115,14 @@ abbrev pub gripped_keystone : Scene
 gripped_keystone = keystone_scene (pos 3) (pos 10)
 
 -- twelve times the lift is the keystone's weight, and then no joint bears anything
-abbrev pub four_idle_parts : List Part
+abbrev pub four_idle_parts : List BearingPart
 four_idle_parts = straight (pos 0) ∷ straight (pos 0) ∷ straight (pos 0) ∷ straight (pos 0) ∷ []
 
-abbrev pub idle_keystone_forces : Forces
+abbrev pub idle_keystone_forces : SceneForces
 idle_keystone_forces = forces_with (pos 1) (pos 12) four_idle_parts
 
 -- the grip of both abutments at the keystone's upper corners, which holds twice the lift alone
-abbrev pub grip : Forces
+abbrev pub grip : SceneForces
 grip = forces_with (pos 0) (pos 2)
     (part (pos 30) (pos 9) ∷ straight (pos 0) ∷ straight (pos 0) ∷ part (pos 30) (negative 9) ∷ [])
 
@@ -143,7 +143,7 @@ overhanging_block = overhanging_scene no_load
 -- pressed down by one unit at its outer upper corner
 abbrev pub loaded_overhanging_block : Scene
 loaded_overhanging_block = overhanging_scene
-    (load_of (at_point (negative 1) (pos 0)) (at_point (pos 3) (pos 1)) (pos 0) (negative 1))
+    (load_wrench (at_point (negative 1) (pos 0)) (at_point (pos 3) (pos 1)) (pos 0) (negative 1))
 
 -- the motion of the block as it tips over the edge
 abbrev pub toppling_move : List Move

@@ -1,9 +1,9 @@
 -- Structures of two free blocks, worked by hand: a low column, and two bricks that lean out over a table's edge.
 use Rattle.std.specs.Prelude.{ℤ, pos, ◌+ℤ◌, ◌-ℤ◌, List, [], ◌∷◌, true}
 use Rattle.stack_equilibrium.specs.declared.types.Wrench.{Wrench}
-use Rattle.stack_equilibrium.specs.Scene.{Move, Part, Scene}
-use Rattle.stack_equilibrium.specs.Loads.{no_load, load_of}
-use Rattle.stack_equilibrium.specs.Certificates.{Forces}
+use Rattle.stack_equilibrium.specs.Scene.{Move, BearingPart, Scene}
+use Rattle.stack_equilibrium.specs.Loads.{no_load, load_wrench}
+use Rattle.stack_equilibrium.specs.Certificates.{SceneForces}
 use Rattle.stack_worked.specs.Pieces.{negative, at_point, upright, body_with, fixed_body, free_body}
 use Rattle.stack_worked.specs.Pieces.{bearing_between, scene_of_lists, forces_with, standing_forces}
 use Rattle.stack_worked.specs.Pieces.{part, straight, move}
@@ -24,14 +24,14 @@ low_column = column_scene no_load
 
 -- pushed to the right by one unit at its upper left corner
 abbrev pub pushed_column : Scene
-pushed_column = column_scene (load_of (at_point (pos 0) (pos 1)) (at_point (pos 0) (pos 2)) (pos 1) (pos 0))
+pushed_column = column_scene (load_wrench (at_point (pos 0) (pos 1)) (at_point (pos 0) (pos 2)) (pos 1) (pos 0))
 
 -- the ground bears the weight of both, and the lower block that of the upper one
-abbrev pub column_parts : List Part
+abbrev pub column_parts : List BearingPart
 column_parts = straight (pos 12) ∷ straight (pos 12) ∷ straight (pos 6) ∷ straight (pos 6) ∷ []
 
 -- what holds it as the upper block slides off
-abbrev pub pushed_column_forces : Forces
+abbrev pub pushed_column_forces : SceneForces
 pushed_column_forces = forces_with (pos 2) (pos 2)
     (part (pos 12) (negative 3) ∷ part (pos 36) (negative 9) ∷ part (pos 6) (negative 3)
     ∷ part (pos 18) (negative 9) ∷ [])
@@ -62,7 +62,7 @@ abbrev pub two_shifted_bricks : Scene
 two_shifted_bricks = bricks_scene (pos 1)
 
 -- each brick bears at its outer end alone
-abbrev pub brick_forces : Forces
+abbrev pub brick_forces : SceneForces
 brick_forces = standing_forces
     (straight (pos 0) ∷ straight (pos 60480000) ∷ straight (pos 0) ∷ straight (pos 30240000) ∷ [])
 

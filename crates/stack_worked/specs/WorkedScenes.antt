@@ -2,7 +2,7 @@
 -- certificate say what they should: changed copies of true ones break their conditions one by one.
 use Rattle.std.specs.Prelude.{pos, [], ◌∷◌}
 use Rattle.stack_equilibrium.specs.Certificates.{IsTrueStands, IsTrueCollapse, IsTrueGreatest, IsTrueUnbounded}
-use Rattle.stack_worked.specs.Pieces.{negative, forces_with, standing_forces, part, straight, move}
+use Rattle.stack_worked.specs.Pieces.{negative, forces_with, standing_forces, bearing_part, straight, move}
 use Rattle.stack_worked.specs.Scenes.{standing_post, pushed_post, sliding_post, pressed_post, clamped_post}
 use Rattle.stack_worked.specs.Scenes.{block_on_slope, block_on_slick_slope, smooth_keystone, rough_keystone}
 use Rattle.stack_worked.specs.Scenes.{gripped_keystone, overhanging_block, loaded_overhanging_block}
@@ -42,7 +42,7 @@ pub record FalseOfWorkedScenes : Type 0 where
       (IsTrueStands standing_post (standing_forces (straight (pos 25) ∷ straight (pos 24) ∷ [])))
   -- the two pull against one another
   pub steep_parts_leave_their_cones : ¬
-      (IsTrueStands standing_post (standing_forces (part (pos 24) (pos 25) ∷ part (pos 24) (negative 25) ∷ [])))
+      (IsTrueStands standing_post (standing_forces (bearing_part (pos 24) (pos 25) ∷ bearing_part (pos 24) (negative 25) ∷ [])))
   pub pull_leaves_its_cone : ¬
       (IsTrueStands standing_post (standing_forces (straight (negative 1) ∷ straight (pos 24) ∷ [])))
   -- although there is no live load
@@ -51,15 +51,15 @@ pub record FalseOfWorkedScenes : Type 0 where
   pub standing_has_a_scale : ¬ (IsTrueStands standing_post (forces_with (pos 0) (pos 0) two_idle_parts))
   pub one_part_is_missing : ¬ (IsTrueStands standing_post (standing_forces tipping_parts_without_the_first))
   pub heavier_part_is_unbalanced : ¬
-      (IsTrueGreatest pushed_post (forces_with (pos 1) (pos 2) (straight (pos 0) ∷ part (pos 49) (negative 12) ∷ []))
+      (IsTrueGreatest pushed_post (forces_with (pos 1) (pos 2) (straight (pos 0) ∷ bearing_part (pos 49) (negative 12) ∷ []))
       tipping_move)
   -- the first part makes up for the second
   pub steeper_part_leaves_its_cone : ¬
       (IsTrueGreatest pushed_post
-      (forces_with (pos 1) (pos 2) (part (pos 0) (pos 37) ∷ part (pos 48) (negative 49) ∷ [])) tipping_move)
+      (forces_with (pos 1) (pos 2) (bearing_part (pos 0) (pos 37) ∷ bearing_part (pos 48) (negative 49) ∷ [])) tipping_move)
   pub pull_of_the_pushed_post_leaves_its_cone : ¬
       (IsTrueGreatest pushed_post
-      (forces_with (pos 1) (pos 2) (straight (negative 1) ∷ part (pos 48) (negative 12) ∷ [])) tipping_move)
+      (forces_with (pos 1) (pos 2) (straight (negative 1) ∷ bearing_part (pos 48) (negative 12) ∷ [])) tipping_move)
   pub first_part_is_missing : ¬
       (IsTrueGreatest pushed_post (forces_with (pos 1) (pos 2) tipping_parts_without_the_first) tipping_move)
   pub greatest_has_a_scale : ¬
@@ -82,7 +82,7 @@ pub record FalseOfWorkedScenes : Type 0 where
       (IsTrueStands standing_post
       (standing_forces (straight (pos 24) ∷ straight (pos 24) ∷ straight (pos 0) ∷ [])))
   pub lone_drag_is_unbalanced : ¬
-      (IsTrueStands standing_post (standing_forces (part (pos 24) (pos 1) ∷ straight (pos 24) ∷ [])))
+      (IsTrueStands standing_post (standing_forces (bearing_part (pos 24) (pos 1) ∷ straight (pos 24) ∷ [])))
   -- the certificate of the post on rougher ground
   pub slicker_ground_holds_no_tipping_post : ¬
       (IsTrueGreatest sliding_post (forces_with (pos 1) (pos 2) tipping_parts) tipping_move)
@@ -108,7 +108,7 @@ pub record FalseOfWorkedScenes : Type 0 where
       (forces_with (pos 0) (pos 1) (straight (pos 3) ∷ straight (pos 3) ∷ [])))
   pub ray_of_the_pushed_post_pulls : ¬
       (IsTrueUnbounded pushed_post (standing_forces standing_parts)
-      (forces_with (pos 0) (pos 1) (straight (negative 12) ∷ part (pos 12) (negative 6) ∷ [])))
+      (forces_with (pos 0) (pos 1) (straight (negative 12) ∷ bearing_part (pos 12) (negative 6) ∷ [])))
   pub grip_leaves_the_smoother_cones : ¬ (IsTrueUnbounded rough_keystone idle_keystone_forces grip)
   -- the table would have to hold the block down
   pub pull_holds_the_overhanging_block : ¬

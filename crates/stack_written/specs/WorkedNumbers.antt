@@ -9,7 +9,7 @@ use Rattle.stack_whole.specs.Whole.{greatest_number, whole}
 use Rattle.stack_equilibrium.specs.declared.types.Axis.TheVariants.{X, Y, M}
 use Rattle.stack_equilibrium.specs.declared.types.Question.TheVariants.{Dead, Live}
 use Rattle.stack_equilibrium.specs.declared.block.Block.{Block}
-use Rattle.stack_equilibrium.specs.WorkedScenes.{minus, at_point}
+use Rattle.stack_worked.specs.WorkedScenes.{minus, at_point}
 use Rattle.stack_equilibrium.specs.WrittenSums.{block_of, written_sum, written_sums}
 use Rattle.stack_equilibrium.specs.WrittenVelocities.{written_opening}
 use Rattle.stack_equilibrium.specs.WrittenPowers.{written_power}
