@@ -65,12 +65,12 @@ forces_with scale factor parts = record { scale = scale; factor = factor; parts 
 abbrev pub standing_forces : List BearingPart → SceneForces
 standing_forces parts = forces_with (pos 1) (pos 0) parts
 
-abbrev pub part : ℤ → ℤ → BearingPart
-part a b = record { a = a; b = b }
+abbrev pub bearing_part : ℤ → ℤ → BearingPart
+bearing_part a b = record { a = a; b = b }
 
 -- a part that pushes straight on
 abbrev pub straight : ℤ → BearingPart
-straight a = part a (pos 0)
+straight a = bearing_part a (pos 0)
 
 abbrev pub move : ℤ → ℤ → ℤ → Move
 move u v r = record { u = u; v = v; r = r }

@@ -7,7 +7,7 @@ use Rattle.stack_equilibrium.specs.Loads.{no_load, wrench_sum, load_wrench}
 use Rattle.stack_equilibrium.specs.Certificates.{SceneForces}
 use Rattle.stack_worked.specs.Pieces.{negative, at_point, upright, body_with, fixed_body, free_body}
 use Rattle.stack_worked.specs.Pieces.{bearing_between, scene_of_lists, forces_with}
-use Rattle.stack_worked.specs.Pieces.{part, straight, move}
+use Rattle.stack_worked.specs.Pieces.{bearing_part, straight, move}
 
 -- the ground, from (-10, -1) to (10, 0), and a post on it, 2 wide and 4 high
 abbrev pub ground_corners : List Point
@@ -52,10 +52,10 @@ standing_parts = straight (pos 24) ∷ straight (pos 24) ∷ []
 
 -- the parts that hold the pushed post as it tips, and its motion
 abbrev pub tipping_parts : List BearingPart
-tipping_parts = straight (pos 0) ∷ part (pos 48) (negative 12) ∷ []
+tipping_parts = straight (pos 0) ∷ bearing_part (pos 48) (negative 12) ∷ []
 
 abbrev pub tipping_parts_without_the_first : List BearingPart
-tipping_parts_without_the_first = part (pos 48) (negative 12) ∷ []
+tipping_parts_without_the_first = bearing_part (pos 48) (negative 12) ∷ []
 
 abbrev pub two_idle_parts : List BearingPart
 two_idle_parts = straight (pos 0) ∷ straight (pos 0) ∷ []
@@ -65,7 +65,8 @@ tipping_move = move (pos 0) (pos 2) (negative 1) ∷ []
 
 -- those that hold it as it slides, where the friction is a tenth
 abbrev pub sliding_forces : SceneForces
-sliding_forces = forces_with (pos 25) (pos 20) (part (pos 360) (negative 36) ∷ part (pos 840) (negative 84) ∷ [])
+sliding_forces = forces_with (pos 25) (pos 20) (bearing_part (pos 360) (negative 36)
+    ∷ bearing_part (pos 840) (negative 84) ∷ [])
 
 -- a square block on a slope of 3 in 4, with friction p over q
 abbrev pub slope_scene : ℤ → ℤ → Scene
@@ -84,7 +85,7 @@ block_on_slick_slope = slope_scene (pos 7) (pos 10)
 
 -- what the slope bears where its friction just holds, and the motion of the block where it doesn't
 abbrev pub slope_forces : SceneForces
-slope_forces = forces_with (pos 4) (pos 0) (part (pos 84) (pos 63) ∷ part (pos 12) (pos 9) ∷ [])
+slope_forces = forces_with (pos 4) (pos 0) (bearing_part (pos 84) (pos 63) ∷ bearing_part (pos 12) (pos 9) ∷ [])
 
 abbrev pub slipping_move : List Move
 slipping_move = move (negative 61) (negative 2) (pos 0) ∷ []
@@ -124,7 +125,7 @@ idle_keystone_forces = forces_with (pos 1) (pos 12) four_idle_parts
 -- the grip of both abutments at the keystone's upper corners, which holds twice the lift alone
 abbrev pub grip : SceneForces
 grip = forces_with (pos 0) (pos 2)
-    (part (pos 30) (pos 9) ∷ straight (pos 0) ∷ straight (pos 0) ∷ part (pos 30) (negative 9) ∷ [])
+    (bearing_part (pos 30) (pos 9) ∷ straight (pos 0) ∷ straight (pos 0) ∷ bearing_part (pos 30) (negative 9) ∷ [])
 
 abbrev pub rising_move : List Move
 rising_move = move (pos 0) (pos 1) (pos 0) ∷ []

@@ -6,7 +6,7 @@ use Rattle.stack_equilibrium.specs.Loads.{no_load, load_wrench}
 use Rattle.stack_equilibrium.specs.Certificates.{SceneForces}
 use Rattle.stack_worked.specs.Pieces.{negative, at_point, upright, body_with, fixed_body, free_body}
 use Rattle.stack_worked.specs.Pieces.{bearing_between, scene_of_lists, forces_with, standing_forces}
-use Rattle.stack_worked.specs.Pieces.{part, straight, move}
+use Rattle.stack_worked.specs.Pieces.{bearing_part, straight, move}
 use Rattle.stack_worked.specs.Scenes.{ground_corners}
 
 -- two blocks, each 2 wide and 1 high, one on the other, with friction 1 over 2 and a live load on the upper one
@@ -33,8 +33,8 @@ column_parts = straight (pos 12) ∷ straight (pos 12) ∷ straight (pos 6) ∷ 
 -- what holds it as the upper block slides off
 abbrev pub pushed_column_forces : SceneForces
 pushed_column_forces = forces_with (pos 2) (pos 2)
-    (part (pos 12) (negative 3) ∷ part (pos 36) (negative 9) ∷ part (pos 6) (negative 3)
-    ∷ part (pos 18) (negative 9) ∷ [])
+    (bearing_part (pos 12) (negative 3) ∷ bearing_part (pos 36) (negative 9) ∷ bearing_part (pos 6) (negative 3)
+    ∷ bearing_part (pos 18) (negative 9) ∷ [])
 
 -- the lower block stays and the upper one slides, rising by half of its way; and the same the other way round
 abbrev pub upper_slides : List Move

@@ -42,7 +42,8 @@ pub record FalseOfWorkedScenes : Type 0 where
       (IsTrueStands standing_post (standing_forces (straight (pos 25) ∷ straight (pos 24) ∷ [])))
   -- the two pull against one another
   pub steep_parts_leave_their_cones : ¬
-      (IsTrueStands standing_post (standing_forces (bearing_part (pos 24) (pos 25) ∷ bearing_part (pos 24) (negative 25) ∷ [])))
+      (IsTrueStands standing_post (standing_forces (bearing_part (pos 24) (pos 25)
+      ∷ bearing_part (pos 24) (negative 25) ∷ [])))
   pub pull_leaves_its_cone : ¬
       (IsTrueStands standing_post (standing_forces (straight (negative 1) ∷ straight (pos 24) ∷ [])))
   -- although there is no live load
@@ -51,12 +52,14 @@ pub record FalseOfWorkedScenes : Type 0 where
   pub standing_has_a_scale : ¬ (IsTrueStands standing_post (forces_with (pos 0) (pos 0) two_idle_parts))
   pub one_part_is_missing : ¬ (IsTrueStands standing_post (standing_forces tipping_parts_without_the_first))
   pub heavier_part_is_unbalanced : ¬
-      (IsTrueGreatest pushed_post (forces_with (pos 1) (pos 2) (straight (pos 0) ∷ bearing_part (pos 49) (negative 12) ∷ []))
+      (IsTrueGreatest pushed_post (forces_with (pos 1) (pos 2)
+      (straight (pos 0) ∷ bearing_part (pos 49) (negative 12) ∷ []))
       tipping_move)
   -- the first part makes up for the second
   pub steeper_part_leaves_its_cone : ¬
       (IsTrueGreatest pushed_post
-      (forces_with (pos 1) (pos 2) (bearing_part (pos 0) (pos 37) ∷ bearing_part (pos 48) (negative 49) ∷ [])) tipping_move)
+      (forces_with (pos 1) (pos 2) (bearing_part (pos 0) (pos 37) ∷ bearing_part (pos 48) (negative 49)
+      ∷ [])) tipping_move)
   pub pull_of_the_pushed_post_leaves_its_cone : ¬
       (IsTrueGreatest pushed_post
       (forces_with (pos 1) (pos 2) (straight (negative 1) ∷ bearing_part (pos 48) (negative 12) ∷ [])) tipping_move)

@@ -9,7 +9,7 @@ use Rattle.stack_whole.specs.Whole.{greatest_number, whole}
 use Rattle.stack_equilibrium.specs.declared.types.Axis.TheVariants.{X, Y, M}
 use Rattle.stack_equilibrium.specs.declared.types.Question.TheVariants.{Dead, Live}
 use Rattle.stack_equilibrium.specs.declared.block.Block.{Block}
-use Rattle.stack_worked.specs.WorkedScenes.{minus, at_point}
+use Rattle.stack_worked.specs.Pieces.{negative, at_point}
 use Rattle.stack_equilibrium.specs.WrittenSums.{block_of, written_sum, written_sums}
 use Rattle.stack_equilibrium.specs.WrittenVelocities.{written_opening}
 use Rattle.stack_equilibrium.specs.WrittenPowers.{written_power}
@@ -18,8 +18,8 @@ use Rattle.stack_written.specs.RateNumbers.{gap_numbers}
 use Rattle.stack_written.specs.PowerNumbers.{power_numbers}
 
 -- a level bearing between two bodies, with friction 1
-abbrev pub level_bearing : ℕ → ℕ → Point → Bearing
-level_bearing first second at = record {
+abbrev pub foot_bearing : ℕ → ℕ → Point → Bearing
+foot_bearing first second at = record {
   first = first;
   second = second;
   at = at;
@@ -36,8 +36,8 @@ pushed = record {
         name = [];
         material = 0;
         fixed = true;
-        corners = at_point (minus 10) (minus 1) ∷ at_point (pos 10) (minus 1) ∷ at_point (pos 10) (pos 0)
-            ∷ at_point (minus 10) (pos 0) ∷ [];
+        corners = at_point (negative 10) (negative 1) ∷ at_point (pos 10) (negative 1) ∷ at_point (pos 10) (pos 0)
+            ∷ at_point (negative 10) (pos 0) ∷ [];
       }
       ∷ record {
         name = [];
@@ -52,11 +52,11 @@ pushed = record {
 
 -- its left foot
 abbrev pub left_foot : Bearing
-left_foot = level_bearing 0 1 (at_point (pos 0) (pos 0))
+left_foot = foot_bearing 0 1 (at_point (pos 0) (pos 0))
 
 -- its right foot
 abbrev pub right_foot : Bearing
-right_foot = level_bearing 0 1 (at_point (pos 2) (pos 0))
+right_foot = foot_bearing 0 1 (at_point (pos 2) (pos 0))
 
 -- the post with both feet
 abbrev pub feet : Surveyed
@@ -72,11 +72,11 @@ post_block = block_of pushed 1
 
 -- a bearing of the ground and a third body, and the right foot
 abbrev pub two_bearings : List Bearing
-two_bearings = level_bearing 0 2 (at_point (pos 5) (pos 0)) ∷ right_foot ∷ []
+two_bearings = foot_bearing 0 2 (at_point (pos 5) (pos 0)) ∷ right_foot ∷ []
 
 -- what they bear where the post tips
 abbrev pub two_pairs : List (ℤ × ℤ)
-two_pairs = (pos 7, pos 3) ∷ (pos 48, minus 12) ∷ []
+two_pairs = (pos 7, pos 3) ∷ (pos 48, negative 12) ∷ []
 
 -- the right foot alone, where it bears these parts
 abbrev pub one_pair : ℤ → ℤ → List (ℤ × ℤ)
@@ -94,18 +94,19 @@ least_passing = pos (2 ^ 127)
 -- The ground bears the opposite, about its own first corner
 pub record WorkedSums : Type 0 where
   pub along_x : sum_numbers X post_block (pos 1) (pos 2) two_bearings two_pairs
-      ≡ minus 12 ∷ pos 0 ∷ minus 12 ∷ minus 12 ∷ pos 0 ∷ minus 12 ∷ pos 12 ∷ pos 0 ∷ []
+      ≡ negative 12 ∷ pos 0 ∷ negative 12 ∷ negative 12 ∷ pos 0 ∷ negative 12 ∷ pos 12 ∷ pos 0 ∷ []
   pub along_y : sum_numbers Y post_block (pos 1) (pos 2) two_bearings two_pairs
-      ≡ pos 48 ∷ pos 0 ∷ pos 48 ∷ pos 48 ∷ minus 48 ∷ pos 0 ∷ pos 0 ∷ pos 0 ∷ []
+      ≡ pos 48 ∷ pos 0 ∷ pos 48 ∷ pos 48 ∷ negative 48 ∷ pos 0 ∷ pos 0 ∷ pos 0 ∷ []
   pub about : sum_numbers M post_block (pos 1) (pos 2) two_bearings two_pairs
-      ≡ minus 12 ∷ pos 0 ∷ minus 12 ∷ pos 48 ∷ pos 0 ∷ pos 48 ∷ pos 96 ∷ pos 0 ∷ pos 96 ∷ pos 96
-      ∷ minus 48 ∷ pos 48 ∷ minus 48 ∷ pos 0 ∷ []
+      ≡ negative 12 ∷ pos 0 ∷ negative 12 ∷ pos 48 ∷ pos 0 ∷ pos 48 ∷ pos 96 ∷ pos 0 ∷ pos 96 ∷ pos 96
+      ∷ negative 48 ∷ pos 48 ∷ negative 48 ∷ pos 0 ∷ []
   pub of_the_ground : sum_numbers X ground_block (pos 1) (pos 2) two_bearings two_pairs
-      ≡ pos 3 ∷ pos 0 ∷ pos 3 ∷ minus 3 ∷ minus 12 ∷ pos 0 ∷ minus 12 ∷ pos 9 ∷ pos 0 ∷ pos 9 ∷ pos 0 ∷ pos 9 ∷ []
+      ≡ pos 3 ∷ pos 0 ∷ pos 3 ∷ negative 3 ∷ negative 12 ∷ pos 0 ∷ negative 12 ∷ pos 9 ∷ pos 0 ∷ pos 9 ∷ pos 0
+      ∷ pos 9 ∷ []
   pub about_the_ground : sum_numbers M ground_block (pos 1) (pos 2) two_bearings two_pairs
-      ≡ pos 3 ∷ pos 0 ∷ pos 3 ∷ pos 7 ∷ pos 0 ∷ pos 7 ∷ pos 105 ∷ pos 3 ∷ pos 102 ∷ minus 102
-      ∷ minus 12 ∷ pos 0 ∷ minus 12 ∷ pos 48 ∷ pos 0 ∷ pos 48 ∷ pos 576 ∷ minus 12 ∷ pos 588 ∷ minus 690
-      ∷ minus 1200 ∷ minus 1890 ∷ pos 0 ∷ minus 1890 ∷ []
+      ≡ pos 3 ∷ pos 0 ∷ pos 3 ∷ pos 7 ∷ pos 0 ∷ pos 7 ∷ pos 105 ∷ pos 3 ∷ pos 102 ∷ negative 102
+      ∷ negative 12 ∷ pos 0 ∷ negative 12 ∷ pos 48 ∷ pos 0 ∷ pos 48 ∷ pos 576 ∷ negative 12 ∷ pos 588 ∷ negative 690
+      ∷ negative 1200 ∷ negative 1890 ∷ pos 0 ∷ negative 1890 ∷ []
 
 -- a part of 2^127 along the tangent is refused, and one less than that isn't
 pub record WorkedSumsAtTheLimit : Type 0 where
@@ -124,18 +125,18 @@ pub record WorkedSumsAtTheLimit : Type 0 where
 
 -- how the feet open and slide where the post tips
 pub record WorkedRates : Type 0 where
-  pub left_opens : gap_numbers feet ((pos 0, pos 2, minus 1) ∷ []) left_foot
+  pub left_opens : gap_numbers feet ((pos 0, pos 2, negative 1) ∷ []) left_foot
       ≡ pos 0 ∷ pos 0 ∷ pos 0 ∷ pos 2 ∷ pos 0 ∷ pos 2 ∷ pos 2 ∷ pos 0 ∷ pos 2 ∷ pos 0 ∷ pos 0 ∷ pos 0 ∷ []
-  pub right_stays : gap_numbers feet ((pos 0, pos 2, minus 1) ∷ []) right_foot
-      ≡ pos 0 ∷ pos 0 ∷ minus 2 ∷ pos 0 ∷ pos 0 ∷ pos 0 ∷ pos 0 ∷ pos 0 ∷ pos 0 ∷ pos 0 ∷ pos 0 ∷ pos 0 ∷ []
+  pub right_stays : gap_numbers feet ((pos 0, pos 2, negative 1) ∷ []) right_foot
+      ≡ pos 0 ∷ pos 0 ∷ negative 2 ∷ pos 0 ∷ pos 0 ∷ pos 0 ∷ pos 0 ∷ pos 0 ∷ pos 0 ∷ pos 0 ∷ pos 0 ∷ pos 0 ∷ []
   pub fits : written_opening feet ((pos 0, greatest_fitting, pos 0) ∷ []) 1 ≡ Ok (greatest_fitting, pos 0)
   pub is_too_wide : IsErr (written_opening feet ((pos 0, greatest_fitting, pos 1) ∷ []) 1)
 
 -- the work of the loads where the post tips: the dead loads lose 48, and the live loads gain half of it
 pub record WorkedPowers : Type 0 where
-  pub dead : power_numbers Dead feet ((pos 0, pos 2, minus 1) ∷ [])
-      ≡ pos 0 ∷ pos 0 ∷ minus 96 ∷ minus 96 ∷ pos 48 ∷ minus 48 ∷ []
-  pub live : power_numbers Live feet ((pos 0, pos 2, minus 1) ∷ [])
+  pub dead : power_numbers Dead feet ((pos 0, pos 2, negative 1) ∷ [])
+      ≡ pos 0 ∷ pos 0 ∷ negative 96 ∷ negative 96 ∷ pos 48 ∷ negative 48 ∷ []
+  pub live : power_numbers Live feet ((pos 0, pos 2, negative 1) ∷ [])
       ≡ pos 0 ∷ pos 0 ∷ pos 0 ∷ pos 0 ∷ pos 24 ∷ pos 24 ∷ []
   pub fits : written_power Live feet ((pos 0, least_passing, pos 0) ∷ []) ≡ Ok (pos 0)
   pub is_too_wide : IsErr (written_power Dead feet ((pos 0, least_passing, pos 0) ∷ []))
