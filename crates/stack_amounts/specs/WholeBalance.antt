@@ -16,6 +16,7 @@ module _ (P : Problem) where
   abbrev pub column_work : (ℕ → ℤ) → ℕ → ℤ
   column_work y j = sum_to P.shape.rows (λ k. y k *ℤ P.entry k j)
 
+  -- on the right: the sum of all right sides, each times its row's multiplier
   abbrev pub load_work : (ℕ → ℤ) → ℤ
   load_work y = sum_to P.shape.rows (λ k. y k *ℤ P.load k)
 

@@ -44,6 +44,7 @@ module _ (P : Problem) where
     pub factor : pos 0 ≺ amount (whole_list (ray_list P.shape T c)) P.shape.contacts
     pub pushes : NonePulls (whole_list (ray_list P.shape T c))
 
+  -- what an end shows: nothing balances, something does, a factor is the greatest, or none is
   abbrev pub EndIsWhole : End Fraction → Type 0
   EndIsWhole (infeasible T) = AreRefuting P (multiplier P (whole_list (collapse_list P.shape T)))
   EndIsWhole (feasible T) = AreStanding T

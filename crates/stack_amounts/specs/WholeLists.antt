@@ -5,6 +5,7 @@ use Rattle.stack_algebra.specs.IntegerOrder.{◌≼◌}
 use Rattle.stack_rational.specs.CommonScale.{scale_of, times_scale}
 use Rattle.stack_table.specs.Problem.{Problem, flipped, turned}
 
+-- the fractions of a list, each times the common scale of all
 abbrev pub whole_list : List Fraction → List ℤ
 whole_list xs = map (times_scale (scale_of xs)) xs
 

@@ -23,6 +23,7 @@ module _ (S : Shape) (T : Tabled Fraction) where
   abbrev pub ray_number : ℕ → ℕ → Fraction
   ray_number c j = cond (ltb j (plain S)) (rate ordered_fractions S T c j) (of (pos 0))
 
+  -- of the contact columns, and then of the factor
   abbrev pub ray_list : ℕ → List Fraction
   ray_list c = listed (suc S.contacts) (ray_number c)
 
@@ -30,6 +31,7 @@ module _ (S : Shape) (T : Tabled Fraction) where
   abbrev pub bound_number : ℕ → Fraction
   bound_number k = objective ordered_fractions S T (plain S + k)
 
+  -- of all rows, in order
   abbrev pub bound_list : List Fraction
   bound_list = listed S.rows bound_number
 
@@ -37,5 +39,6 @@ module _ (S : Shape) (T : Tabled Fraction) where
   abbrev pub collapse_number : ℕ → Fraction
   collapse_number k = less ordered_fractions (bound_number k) (of (pos 1))
 
+  -- of all rows, in order, each less 1
   abbrev pub collapse_list : List Fraction
   collapse_list = listed S.rows collapse_number

@@ -8,16 +8,19 @@ use Rattle.stack_rational.specs.declared.exact.Op.{Op}
 use Rattle.stack_rational.specs.declared.exact.Op.TheVariants.{Quotient}
 use Rattle.stack_table.specs.Table.{Shape, Tabled, right, objective}
 
+-- a number with this sign is negative
 abbrev pub is_negative_sign : Sign → Bool
 is_negative_sign minus = true
 is_negative_sign nought = false
 is_negative_sign plus = false
 
+-- it is 0
 abbrev pub is_nought : Sign → Bool
 is_nought minus = false
 is_nought nought = true
 is_nought plus = false
 
+-- it is positive
 abbrev pub is_plus : Sign → Bool
 is_plus minus = false
 is_plus nought = false

@@ -57,6 +57,7 @@ module _ (q : Question) (v : Surveyed) (T : Tabled Fraction) where
   end_collapse = motion_value (free_bodies (scene_of v)) (posed q (scene_of v))
       (whole_list (collapse_list (posed_shape q (scene_of v)) T))
 
+  -- that of phase 3: nothing is taken off its objective cells
   abbrev pub end_bound : MotionValue
   end_bound = motion_value (free_bodies (scene_of v)) (posed q (scene_of v))
       (whole_list (bound_list (posed_shape q (scene_of v)) T))

@@ -52,6 +52,7 @@ IsEndOf Live (ray T c) = ⊤
 IsEndOf q (wide p k s) = ⊤
 IsEndOf q over = ⊤
 
+-- every run of a survey's problem has an end that its question may have
 abbrev pub EndsAreOfTheQuestion : Type 0
 EndsAreOfTheQuestion = (q : Question) (v : Surveyed) (x : End Fraction) → IsEndOfRun q v x → IsEndOf q x
 
@@ -65,5 +66,6 @@ EndPushes q v (ray T c) = NonePulls (whole_list (forces_list (posed_shape q (sce
 EndPushes q v (wide p k s) = ⊤
 EndPushes q v over = ⊤
 
+-- this holds of every end of a survey's run, whatever the rule and the budget
 abbrev pub EndsPush : Type 0
 EndsPush = (q : Question) (v : Surveyed) (x : End Fraction) → IsEndOfRun q v x → EndPushes q v x

@@ -5,6 +5,7 @@ use Rattle.stack_checker.specs.declared.sign.WantedSign.{WantedSign}
 use Rattle.stack_checker.specs.declared.sign.WantedSign.TheVariants.{Zero, NotNegative, Positive}
 use Rattle.stack_checker.specs.declared.sign.Signs.{Signs}
 
+-- a number is 0, isn't negative, or is positive, whichever is wanted
 abbrev pub has_sign : WantedSign → ℤ → Bool
 has_sign Zero z = int_eq z (pos 0)
 has_sign NotNegative z = int_le (pos 0) z

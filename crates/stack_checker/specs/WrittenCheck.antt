@@ -33,13 +33,16 @@ tests_of s (unbounded base ray) = do
   carried ← in_part First (written_forces loaded s base)
   in_part Second (written_forces rising s ray)
 
+-- how the tests of a part end before their last: one of them fails, or a number is too wide
 abbrev pub answer_at : Part → Stop → Check
 answer_at part (Rejected reason) = answers.Rejected part reason
 answer_at part (TooWide at) = answers.TooWide (record { part = part; at = at })
 
+-- a certificate is accepted where all tests pass and no number is too wide, and nowhere else
 abbrev pub answer_of : Result ⊤ PartStop → Check
 answer_of (Ok done) = answers.Accepted
 answer_of (Err e) = answer_at e.part e.stop
 
+-- the answer to a certificate, by all its tests in their order
 abbrev pub written_check : Surveyed → CertificateValue → Check
 written_check s c = answer_of (tests_of s c)

@@ -15,10 +15,12 @@ use Rattle.stack_checker.specs.declared.stop.Stop.{Stop}
 use Rattle.stack_checker.specs.declared.stop.Stop.TheVariants.{Rejected, TooWide}
 use Rattle.stack_checker.specs.declared.motions.Rates.{Rates}
 
+-- a test that is passed or ends the check with its reason
 abbrev pub demand : Bool → Reason → Result ⊤ Stop
 demand true reason = Ok tt
 demand false reason = Err (Rejected reason)
 
+-- a number that is made, or ends the check at its place
 abbrev pub made_at : Result Whole Wide → CheckAt → Result Whole Stop
 made_at (Ok x) at = Ok x
 made_at (Err e) at = Err (TooWide at)

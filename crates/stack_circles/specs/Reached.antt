@@ -9,6 +9,7 @@ use Rattle.stack_duality.specs.WrittenRun.{Choice, stays, rises, due, refused, P
 use Rattle.stack_duality.specs.WrittenRun.{feasible, optimal, ray, wide, over, after_phase, choose, turns, drive_row}
 use Rattle.stack_duality.specs.WrittenRun.{drives, third_end, first_end, written_run}
 
+-- the three phases: amounts that balance are sought, artificial columns leave, the factor rises
 pub data Phase : Type 0 where
   phase_1 : Phase
   phase_2 : Phase
@@ -100,10 +101,12 @@ module _ (F : Ordered) (S : Shape) (is_too_wide : Op → F.C → F.C → Bool) w
   abbrev pub third_from : (left done : ℕ) → Tabled F.C → End F.C
   third_from left done U = third_end (turns F S is_too_wide 3 (plain S) left done U)
 
+  -- from a table of phase 2 with its rows below `row` done: the other rows, and then phase 3
   abbrev pub second_from : (row left done : ℕ) → Tabled F.C → End F.C
   second_from row left done U = third_end (after_phase (drives_from (S.rows - row) row left done U)
       (λ l d V. turns F S is_too_wide 3 (plain S) l d (set_factor_objective F S V)))
 
+  -- from a table of phase 1: the turns that are left of it, and what follows
   abbrev pub first_from : (left done : ℕ) → Tabled F.C → End F.C
   first_from left done U = first_end F S is_too_wide (turns F S is_too_wide 1 S.contacts left done U)
 

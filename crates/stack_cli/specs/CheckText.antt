@@ -29,6 +29,7 @@ reason_text s reasons.Apart = codes "apart"
 abbrev pub accepted_text : List ℕ
 accepted_text = codes "accepted" ++ 10 ∷ []
 
+-- A rejection: the part of the certificate, and which of its tests fails first.
 abbrev pub rejected_text : Structure → Part → Reason → List ℕ
 rejected_text s part reason =
     codes "rejected " ++ part_word part ++ codes " " ++ reason_text s reason ++ 10 ∷ []

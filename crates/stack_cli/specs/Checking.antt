@@ -30,6 +30,7 @@ place_of s (spots.Resisted k) = resisted_at k
 place_of s spots.Work = work
 place_of s spots.Apart = apart
 
+-- Accepted and rejected are both answers; a number that is too wide is a refusal.
 abbrev pub check_step : Structure → Check → Work Due
 check_step s Accepted = gives (exactly Affirmed accepted_text)
 check_step s (Rejected part reason) = gives (exactly Denied (rejected_text s part reason))
@@ -41,11 +42,13 @@ certified survey text = do
   certificate ← certificate_step (certificate_of text)
   check_step survey.structure (written_check survey certificate)
 
+-- The certificate's file is read, and its text is checked against the survey.
 unfoldable pub checked : List ℕ → Surveyed → Work Due
 checked name survey = do
   text ← read inputs.Certificate name
   certified survey text
 
+-- The model comes first: unless it has a survey, the certificate's file isn't asked for.
 unfoldable pub check_work : List ℕ → List ℕ → Work Due
 check_work model certificate = do
   survey ← surveyed_file model

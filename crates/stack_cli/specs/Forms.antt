@@ -9,6 +9,7 @@ use Rattle.stack_cli.specs.Tables.{table_work}
 use Rattle.stack_cli.specs.Stacking.{stack_work}
 use Rattle.stack_cli.specs.Sampling.{sample_work}
 
+-- What is to be done for words of each form, and in which order.
 abbrev pub work_of : Form → Work Due
 work_of (check model certificate) = check_work model certificate
 work_of (contacts model) = contacts_work model

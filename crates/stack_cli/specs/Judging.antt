@@ -20,19 +20,23 @@ abbrev pub lacks_live : Question → Structure → Bool
 lacks_live Dead s = false
 lacks_live Live s = not (list_any (λ l. l.live) s.loads)
 
+-- A number that is too wide is told by where it is: in the run, in what is made of its end, in the check.
 abbrev pub wide_fault : Structure → JudgePlace → Fault
 wide_fault s (places.Run p) = wide_run p
 wide_fault s (places.End p) = wide_end p
 wide_fault s (places.Check p) = wide_check p.part (place_of s p.at)
 
+-- A certificate is given out; a number that is too wide and a budget that is spent are refused.
 abbrev pub judged_step : Question → (budget : ℕ) → Surveyed → Judgement → Work Due
 judged_step q budget v (certified c) = gives (certificate q v c)
 judged_step q budget v (too_wide p) = refuses (wide_fault v.structure p)
 judged_step q budget v spent = refuses (over_budget budget)
 
+-- Where live loads are asked about and none is listed, nothing is judged.
 abbrev pub judged : Question → (budget : ℕ) → Surveyed → Work Due
 judged q budget v = if lacks_live q v.structure then refuses no_live else judged_step q budget v (judgement q v budget)
 
+-- The model's file is surveyed, and then its question is judged.
 unfoldable pub judge_work : Question → List ℕ → (budget : ℕ) → Work Due
 judge_work q model budget = do
   survey ← surveyed_file model

@@ -11,6 +11,7 @@ use Rattle.stack_cli.specs.Surveying.{surveyed_file}
 abbrev pub contacts_due : Surveyed → Work Due
 contacts_due survey = gives (exactly Affirmed (contacts_text survey))
 
+-- The model's file is surveyed, and then its contacts are listed.
 unfoldable pub contacts_work : List ℕ → Work Due
 contacts_work model = do
   survey ← surveyed_file model

@@ -18,6 +18,7 @@ spot_text (Material i) = codes "material " ++ decimal (i + 1)
 spot_text (Block i) = codes "block " ++ decimal (i + 1)
 spot_text (Load i) = codes "load " ++ decimal (i + 1)
 
+-- What a model has too many of: materials, blocks, free or fixed ones, loads.
 abbrev pub what_word : What → List ℕ
 what_word whats.Materials = codes "materials"
 what_word whats.Blocks = codes "blocks"

@@ -18,6 +18,7 @@ IsSettledRefusal (file input) = ⊥
 IsSettledRefusal (faulty memory) = ⊥
 IsSettledRefusal _ = ⊤
 
+-- A value is settled, and so is a refusal but for a file that isn't read or memory that is wanting.
 abbrev pub IsSettled : {A : Type 0} → Result A Refusal → Type 0
 IsSettled (Ok a) = ⊤
 IsSettled (Err r) = IsSettledRefusal r

@@ -15,9 +15,11 @@ use Rattle.stack_cli.specs.Checking.{check_work}
 use Rattle.stack_cli.specs.AcceptedModel.{IsAcceptedModel}
 use Rattle.stack_cli.specs.OneEnd.{IsSettled}
 
+-- How a check ends that accepts: with `accepted`, and status 0.
 abbrev pub acceptance : Result Due Refusal
 acceptance = Ok (exactly Affirmed accepted_text)
 
+-- A printed certificate is accepted with its own model, and no other settled end comes of its check.
 abbrev pub PrintedIsAccepted : Type 0
 PrintedIsAccepted = (q : Question) (v : Surveyed) (c : CertificateValue) (holds : Holds)
     (model name bytes text : List ℕ)
@@ -26,6 +28,7 @@ PrintedIsAccepted = (q : Question) (v : Surveyed) (c : CertificateValue) (holds 
     × ((names : List (List ℕ)) (end : Result Due Refusal) → Ends holds (check_work model name) names end → IsSettled end
     → end ≡ acceptance)
 
+-- A printed certificate has fewer than 180,000 bytes, and so it isn't refused as too long.
 abbrev pub PrintedIsShort : Type 0
 PrintedIsShort = (q : Question) (v : Surveyed) (c : CertificateValue) (text : List ℕ) → IsJudged q v c
     → IsCertificateText c text → length text < text_bound

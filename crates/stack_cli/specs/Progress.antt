@@ -46,12 +46,15 @@ DoesAlone R w result = (holds : Holds) → Returns R holds w [] result
 abbrev pub AreBytes : Vec ℕ Global → List ℕ → Type 0
 AreBytes v bytes = bytes ≡ v.items
 
+-- The model that the program holds describes this structure.
 abbrev pub IsModel : Model → Structure → Type 0
 IsModel m s = s ≡ model_view m
 
+-- The survey that the program holds is this one.
 abbrev pub IsSeenSurvey : Surveyed → Surveyed → Type 0
 IsSeenSurvey s v = v ≡ s
 
+-- The verdict and the bytes that the program holds are what is due.
 abbrev pub AnswersDue : Answer → Due → Type 0
 AnswersDue a due = IsAnswer due a.verdict a.text.items
 

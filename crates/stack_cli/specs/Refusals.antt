@@ -65,6 +65,7 @@ place_view (code_places.Resisted k) = resisted_at k
 place_view code_places.Work = work
 place_view code_places.Apart = apart
 
+-- A refusal by its meaning: names are bytes, and want of memory is a fault of the work.
 abbrev pub refusal_view : CodeRefusal → Refusal
 refusal_view code.Words = words
 refusal_view (code.File input) = file input
@@ -99,36 +100,43 @@ fault_status (over_budget budget) = 8
 fault_status no_live = 9
 fault_status memory = 11
 
+-- Words, files and the output have statuses of their own; a fault of the work has that above.
 abbrev pub status_of : Refusal → ℕ
 status_of words = 2
 status_of (file input) = 3
 status_of (faulty f) = fault_status f
 status_of output = 10
 
+-- The file that a line is about.
 abbrev pub input_word : Input → List ℕ
 input_word inputs.Model = codes "model"
 input_word inputs.Certificate = codes "certificate"
 
+-- The part of a certificate that a line is about.
 abbrev pub part_word : Part → List ℕ
 part_word parts.First = codes "first"
 part_word parts.Second = codes "second"
 
+-- The sum of a block that a line is about: along x, along y, or of moments.
 abbrev pub axis_word : Axis → List ℕ
 axis_word axes.X = codes "x"
 axis_word axes.Y = codes "y"
 axis_word axes.M = codes "m"
 
+-- What makes the number that is too wide: a ratio, or a division, product or difference of a pivot.
 abbrev pub step_word : Step → List ℕ
 step_word steps.Ratio = codes "ratio"
 step_word steps.Divide = codes "divide"
 step_word steps.Multiply = codes "multiply"
 step_word steps.Subtract = codes "subtract"
 
+-- What was to be made of the end: forces, a motion, or a ray.
 abbrev pub numbers_word : Numbers → List ℕ
 numbers_word numbers.Forces = codes "forces"
 numbers_word numbers.Motion = codes "motion"
 numbers_word numbers.Ray = codes "ray"
 
+-- What makes it there: 1 is taken off, or a common scale, a whole number or a bearing's parts are made.
 abbrev pub end_step_word : EndStep → List ℕ
 end_step_word end_steps.Shift = codes "shift"
 end_step_word end_steps.Scale = codes "scale"
@@ -139,9 +147,11 @@ end_step_word end_steps.Part = codes "part"
 abbrev pub spot_text : RunPlace → List ℕ
 spot_text p = decimal p.row ++ codes " " ++ decimal p.column ++ codes " " ++ step_word p.step
 
+-- The phase, and the pivot, which is counted from 1, come before the place in that pivot.
 abbrev pub run_text : RunPlace → List ℕ
 run_text p = decimal p.phase ++ codes " " ++ decimal p.pivot ++ codes " " ++ spot_text p
 
+-- The list, the step, and the index, which is counted from 0.
 abbrev pub end_text : ExtractPlace → List ℕ
 end_text p = numbers_word p.list ++ codes " " ++ end_step_word p.step ++ codes " " ++ decimal p.index
 
@@ -169,6 +179,7 @@ fault_line (over_budget budget) = codes "spent " ++ decimal budget
 fault_line no_live = codes "no live load"
 fault_line memory = codes "memory"
 
+-- A refusal's line names the words, the file that isn't read, the fault, or the output.
 abbrev pub refusal_line : Refusal → List ℕ
 refusal_line words = codes "words"
 refusal_line (file input) = codes "file " ++ input_word input

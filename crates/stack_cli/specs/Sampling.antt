@@ -20,11 +20,13 @@ use Rattle.stack_cli.specs.Surveying.{survey_step}
 abbrev pub sample_of : ℕ → Result Structure StackError
 sample_of number = sized 0 999999 number (wall_of number)
 
+-- A certificate is summed up, with whether 64 bits are enough for its table and run; else it refuses.
 abbrev pub sample_step : ℕ → Surveyed → Judgement → Work Due
 sample_step number v (certified c) = gives (summary number v c (is_narrow Live v default_budget))
 sample_step number v (too_wide p) = refuses (wide_fault v.structure p)
 sample_step number v spent = refuses (over_budget default_budget)
 
+-- The live load of the wall is judged, within the budget of words that give none.
 abbrev pub sampled : ℕ → Surveyed → Work Due
 sampled number v = sample_step number v (judgement Live v default_budget)
 
@@ -32,6 +34,7 @@ sampled number v = sample_step number v (judgement Live v default_budget)
 abbrev pub wall_sampled : ℕ → Structure → Work Due
 wall_sampled number s = surveys s (survey_step s) >>= sampled number
 
+-- The wall with this number is built, if there is one, and then surveyed and judged.
 unfoldable pub sample_work : ℕ → Work Due
 sample_work number = do
   s ← built_step (sample_of number)

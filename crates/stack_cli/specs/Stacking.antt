@@ -17,14 +17,17 @@ stack_of Harmonic n = sized 1 10 n (harmonic_of n)
 stack_of Triangle m = sized 1 10 m (triangle_stack m)
 stack_of Slab d = sized 1 6 d (slab_of d)
 
+-- Why a built-in model isn't built: it has no such size, or memory is wanting.
 abbrev pub built_fault : StackError → Fault
 built_fault built.Size = size
 built_fault built.Memory = memory
 
+-- A structure that is built is given, and a fault in building it refused.
 abbrev pub built_step : Result Structure StackError → Work Structure
 built_step (Ok s) = gives s
 built_step (Err e) = refuses (built_fault e)
 
+-- The stack is built, and a document that describes it is due.
 unfoldable pub stack_work : Kind → ℕ → Work Due
 stack_work kind n = do
   s ← built_step (stack_of kind n)

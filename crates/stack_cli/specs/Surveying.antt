@@ -17,9 +17,11 @@ use Rattle.stack_cli.specs.Work.{Work, gives, refuses, reads, surveys, ◌>>=◌
 abbrev pub greatest_file : ℕ
 greatest_file = 262144
 
+-- The bytes of a file, unless they are too many.
 abbrev pub unless_long : Input → List ℕ → Work (List ℕ)
 unless_long input bytes = if nat_lt greatest_file (length bytes) then refuses (long input) else gives bytes
 
+-- A file is asked for by its name, and refused where it is too long.
 abbrev pub read : Input → List ℕ → Work (List ℕ)
 read input name = reads input name (unless_long input)
 
@@ -29,10 +31,12 @@ from_read reading.Memory = memory
 from_read (reading.Model contents.Memory) = memory
 from_read e = content e
 
+-- The structure that a text describes, or the fault for which it describes none.
 abbrev pub model_step : Result Structure ReadError → Work Structure
 model_step (Ok s) = gives s
 model_step (Err e) = refuses (from_read e)
 
+-- The names of all bodies, in the order of the model.
 abbrev pub structure_names : Structure → List (List ℕ)
 structure_names s = map (λ b. b.name) s.bodies
 
@@ -42,6 +46,7 @@ from_survey s (surveying.Overlap first second) = overlap (body_of s first).name 
 from_survey s (surveying.TooManyBearings count) = many_bearings count
 from_survey s surveying.Memory = memory
 
+-- The survey of a structure, or why it isn't made.
 abbrev pub survey_step : Structure → Found → Work Surveyed
 survey_step s (Ok v) = gives v
 survey_step s (Err e) = refuses (from_survey s e)
@@ -52,6 +57,7 @@ modelled name = do
   text ← read inputs.Model name
   model_step (structure_of text)
 
+-- The structure that a model's file describes is surveyed.
 unfoldable pub surveyed_file : List ℕ → Work Surveyed
 surveyed_file name = do
   s ← modelled name

@@ -65,6 +65,7 @@ unless_zero (Some n) = if nat_lt 0 n then Some n else None
 abbrev pub budget_of : List ℕ → Option ℕ
 budget_of word = unless_zero (number_spelled word)
 
+-- A judgement wants a question and a budget: where one of them isn't spelled, the words are no form.
 abbrev pub judging : Option Question → List ℕ → Option ℕ → Option Form
 judging (Some question) model (Some budget) = Some (judges question model budget)
 judging _ model budget = None
@@ -75,6 +76,7 @@ kind_of word = if bytes_eq word (codes "harmonic") then Some Harmonic
     else (if bytes_eq word (codes "triangle") then Some Triangle
     else (if bytes_eq word (codes "slab") then Some Slab else None))
 
+-- A built-in stack wants its kind and its number: where one isn't spelled, the words are no form.
 abbrev pub stacking : Option Kind → Option ℕ → Option Form
 stacking (Some kind) (Some n) = Some (stack kind n)
 stacking _ n = None
@@ -85,6 +87,7 @@ form_of_two word last = if bytes_eq word (codes "contacts") then Some (contacts 
     else (if bytes_eq word (codes "sample") then option_map sample (number_spelled last)
     else judging (question_of word) last (Some default_budget))
 
+-- Three words: two files for `check` and `table`, a kind and a number for `stack`, or a file and a budget.
 abbrev pub form_of_three : List ℕ → List ℕ → List ℕ → Option Form
 form_of_three word next last = if bytes_eq word (codes "check") then Some (check next last)
     else (if bytes_eq word (codes "table") then Some (tables next last)

@@ -13,6 +13,7 @@ use Rattle.stack_cli.specs.Refusals.{Fault, memory, Refusal, file, faulty}
 abbrev pub Found : Type 0
 Found = Result Surveyed SurveyError
 
+-- What is still to be done on the way to a value or to a refusal.
 pub data Work (A : Type 0) : Type 0 where
   gives : A → Work A
   refuses : Fault → Work A
@@ -41,10 +42,12 @@ abbrev pub EndsGiving : {A : Type 0} → A → Result A Refusal → Type 0
 EndsGiving x (Ok a) = x ≡ a
 EndsGiving x (Err r) = r ≡ faulty memory
 
+-- The work refuses: with its own fault, or for want of memory.
 abbrev pub EndsRefusing : {A : Type 0} → Fault → Result A Refusal → Type 0
 EndsRefusing q (Ok a) = ⊥
 EndsRefusing q (Err r) = (r ≡ faulty q) ⊎ (r ≡ faulty memory)
 
+-- Memory is wanting or a device fails: with this refusal and no other.
 abbrev pub EndsWith : {A : Type 0} → Refusal → Result A Refusal → Type 0
 EndsWith q (Ok a) = ⊥
 EndsWith q (Err r) = r ≡ q
@@ -72,8 +75,10 @@ Ends holds (surveys s k) names end = ((names ≡ []) × EndsWith (faulty memory)
 abbrev pub Refuses : {A : Type 0} → Work A → Holds → Refusal → Type 0
 Refuses w holds r = (names : List (List ℕ)) × Ends holds w names (Err r)
 
+-- It may come to a value with this property.
 abbrev pub Comes : {A : Type 0} → Work A → Holds → (A → Type 0) → Type 0
 Comes {A} w holds P = (names : List (List ℕ)) × (a : A) × Ends holds w names (Ok a) × P a
 
+-- It may ask for exactly these files, in this order, and then end.
 abbrev pub Asks : {A : Type 0} → Work A → Holds → List (List ℕ) → Type 0
 Asks {A} w holds names = (end : Result A Refusal) × Ends holds w names end

@@ -18,6 +18,7 @@ module _ (F : Ordered) (P : Problem) where
   abbrev pub column_work : (ℕ → F.C) → ℕ → F.C
   column_work y j = sum F.ring P.shape.rows (λ k. F.mul (y k) (F.of (P.entry k j)))
 
+  -- on the right: the sum of all right sides, each times its row's multiplier
   abbrev pub load_work : (ℕ → F.C) → F.C
   load_work y = sum F.ring P.shape.rows (λ k. F.mul (y k) (F.of (P.load k)))
 

@@ -18,6 +18,7 @@ module _ (F : Ordered) (S : Shape) (T : Tabled F.C) where
   value_in None = F.of (pos 0)
   value_in (Some i) = right F S T i
 
+  -- what the table gives column j where each column that isn't basic has 0
   abbrev pub value : ℕ → F.C
   value j = value_in (basic_row j)
 
@@ -26,6 +27,7 @@ module _ (F : Ordered) (S : Shape) (T : Tabled F.C) where
   rate_in c None = F.of (pos 0)
   rate_in c (Some i) = F.neg (T.cell i c)
 
+  -- how column j changes as column c rises by 1 and no other column outside the basis changes
   abbrev pub rate : ℕ → ℕ → F.C
   rate c j = cond (eqb j c) (F.of (pos 1)) (rate_in c (basic_row j))
 

@@ -34,6 +34,7 @@ SomeRowLeaves = (P : Problem) (rule : Rule) (budget : ℕ) (T : Tabled Fraction)
     turns ordered_fractions P.shape rule 1 P.shape.contacts budget 0
     (written_table ordered_fractions P) ≢ unlimited T c
 
+-- a run met no number that is too wide, though it may be over its budget
 abbrev pub IsNowhereTooWide : {C : Type 0} → End C → Type 0
 IsNowhereTooWide (infeasible T) = ⊤
 IsNowhereTooWide (feasible T) = ⊤

@@ -12,13 +12,16 @@ use Rattle.stack_equations.specs.MovesByNumber.{moves_from, power_by, AreUnoppos
 abbrev pub dead_on : Scene → ℕ → Wrench
 dead_on s i = (s.body i).dead
 
+-- the live ones
 abbrev pub live_on : Scene → ℕ → Wrench
 live_on s i = (s.body i).live
 
+-- in a proper scene a solution with a positive scale and the factor 0 shows that the dead loads stand
 abbrev pub StandsBySolution : Type 0
 StandsBySolution = (s : Scene) (scale : ℤ) (x : Amounts) → IsProper s → IsSolution s scale (pos 0) x →
     pos 0 ≺ scale → IsTrueStands s (forces_from s scale (pos 0) x)
 
+-- and moves that no edge opposes, on which the dead loads gain power, show a collapse
 abbrev pub CollapsesByMoves : Type 0
 CollapsesByMoves = (s : Scene) (y : ℕ → Move) → IsProper s → AreUnopposed s y →
     pos 0 ≺ power_by s y (dead_on s) → IsTrueCollapse s (moves_from s y)

@@ -30,6 +30,7 @@ edges_sum share s x i = sum_to s.bearings
 abbrev pub part_between : SceneBearing → ℤ → ℤ → BearingPart
 part_between z w v = record { a = z.q *ℤ (w +ℤ v); b = z.p *ℤ (w -ℤ v) }
 
+-- what bearing k bears, by the amounts of its two edges
 abbrev pub part_from : Scene → Amounts → ℕ → BearingPart
 part_from s x k = part_between (s.bearing k) (x.plus k) (x.minus k)
 
@@ -42,9 +43,11 @@ pub record IsExerted (s : Scene) (x : Amounts) (i : ℕ) : Type 0 where
   pub about : edges_sum (λ w. w.m) s x i
       ≡ sum_to s.bearings (λ k. bearing_side i (s.bearing k) *ℤ moment_of (s.body i) (s.bearing k) (part_from s x k))
 
+-- on each body all edges together exert what the parts between them do
 abbrev pub EdgesExertTheirPart : Type 0
 EdgesExertTheirPart = (s : Scene) (x : Amounts) (i : ℕ) → IsExerted s x i
 
+-- in a proper scene amounts that aren't negative make parts that push and stay within their cones
 abbrev pub PartsBetweenEdgesAreAdmissible : Type 0
 PartsBetweenEdgesAreAdmissible = (s : Scene) (x : Amounts) → IsProper s → ArePushes s x →
     IsAdmissible s (part_from s x)

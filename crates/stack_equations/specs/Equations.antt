@@ -27,6 +27,7 @@ forces_from s scale factor x = record {
   parts = listed s.bearings (part_from s x);
 }
 
+-- in a proper scene the forces of a solution are admissible, and balance every free body
 abbrev pub SolutionsAreForces : Type 0
 SolutionsAreForces = (s : Scene) (scale factor : ℤ) (x : Amounts) → IsProper s → IsSolution s scale factor x →
     AreBalanced s (forces_from s scale factor x)

@@ -25,6 +25,7 @@ pub record IsFound (s : Scene) (i : ℕ) : Type 0 where
   pub numbered : free_before s i < free_bodies s
   pub found : free_at s (free_before s i) ≡ i
 
+-- whatever the scene, each of its free bodies is found by its number
 abbrev pub FreeBodiesAreFound : Type 0
 FreeBodiesAreFound = (s : Scene) (i : ℕ) → i < s.bodies → (s.body i).free ≡ true → IsFound s i
 
@@ -33,5 +34,6 @@ pub record AreFreeBlocks (v : Surveyed) : Type 0 where
   pub count : free_bodies (scene_of v) ≡ length (frees_of v.structure.bodies)
   pub body : (b : ℕ) → b < length (frees_of v.structure.bodies) → free_at (scene_of v) b ≡ body_number v b
 
+-- free bodies and free blocks have the same numbers, whatever the survey
 abbrev pub FreeNumbersAreThoseOfSurveys : Type 0
 FreeNumbersAreThoseOfSurveys = (v : Surveyed) → AreFreeBlocks v

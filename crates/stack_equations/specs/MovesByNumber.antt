@@ -10,6 +10,7 @@ use Rattle.stack_equilibrium.specs.Certificates.{move_of, IsFreeMotion}
 use Rattle.stack_equations.specs.FreeBodies.{free_at, free_bodies}
 use Rattle.stack_equations.specs.Edges.{edge_on}
 
+-- the moves of all free bodies, listed by their numbers
 abbrev pub moves_from : Scene → (ℕ → Move) → List Move
 moves_from s y = listed (free_bodies s) y
 
@@ -26,6 +27,7 @@ PowersAreByNumber = (s : Scene) (y : ℕ → Move) (w : ℕ → Wrench) →
 abbrev pub AreUnopposed : Scene → (ℕ → Move) → Type 0
 AreUnopposed s y = (k : ℕ) → k < s.bearings → (plus : Bool) → pos 0 ≼ power_by s y (edge_on s plus k)
 
+-- in a proper scene moves that no edge opposes are a motion that no admissible force resists
 abbrev pub UnopposedMovesAreMotions : Type 0
 UnopposedMovesAreMotions = (s : Scene) (y : ℕ → Move) → IsProper s → AreUnopposed s y →
     IsFreeMotion s (moves_from s y)

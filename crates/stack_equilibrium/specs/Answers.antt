@@ -49,10 +49,12 @@ abbrev pub SumsAreThoseOfTheScene : Type 0
 SumsAreThoseOfTheScene = (s : Surveyed) (f : ForcesValue) (i : ℕ) (w : Wrench) → written_sums_at s f i ≡ Ok w →
     AreSums s f i w
 
+-- where no number of their written order is too wide, opening and slide are those of the scene
 abbrev pub RatesAreThoseOfTheScene : Type 0
 RatesAreThoseOfTheScene = (s : Surveyed) (y : MotionValue) (k : ℕ) (rates : ℤ × ℤ) →
     written_opening s y k ≡ Ok rates → AreRates s y k rates
 
+-- and so is the power of the dead or of the live loads, where none of its numbers is too wide
 abbrev pub PowersAreThoseOfTheScene : Type 0
 PowersAreThoseOfTheScene = (q : Question) (s : Surveyed) (y : MotionValue) (power : ℤ) →
     written_power q s y ≡ Ok power → power ≡ power_of q (scene_of s) (move_at s y)

@@ -15,6 +15,7 @@ use Rattle.stack_equilibrium.specs.Scene.{BearingPart, SceneBody, SceneBearing, 
 abbrev pub force_x_of : SceneBearing → BearingPart → ℤ
 force_x_of z f = f.a *ℤ neg_ℤ z.ty +ℤ f.b *ℤ z.tx
 
+-- that force along y
 abbrev pub force_y_of : SceneBearing → BearingPart → ℤ
 force_y_of z f = f.a *ℤ z.tx +ℤ f.b *ℤ z.ty
 
@@ -33,11 +34,13 @@ sum_x_of s f scale factor i =
     sum_to s.bearings (λ k. bearing_side i (s.bearing k) *ℤ force_x_of (s.bearing k) (f k))
     +ℤ scale *ℤ (s.body i).dead.fx +ℤ factor *ℤ (s.body i).live.fx
 
+-- along y: the forces of its bearings, scale times its dead loads and factor times its live loads
 abbrev pub sum_y_of : Scene → (ℕ → BearingPart) → ℤ → ℤ → ℕ → ℤ
 sum_y_of s f scale factor i =
     sum_to s.bearings (λ k. bearing_side i (s.bearing k) *ℤ force_y_of (s.bearing k) (f k))
     +ℤ scale *ℤ (s.body i).dead.fy +ℤ factor *ℤ (s.body i).live.fy
 
+-- and the moments of all these about its first corner
 abbrev pub sum_m_of : Scene → (ℕ → BearingPart) → ℤ → ℤ → ℕ → ℤ
 sum_m_of s f scale factor i =
     sum_to s.bearings (λ k. bearing_side i (s.bearing k) *ℤ moment_of (s.body i) (s.bearing k) (f k))
@@ -61,6 +64,7 @@ pub record IsBalancedAt (s : Scene) (f : ℕ → BearingPart) (scale factor : �
   pub along_y : sum_y_of s f scale factor i ≡ pos 0
   pub about : sum_m_of s f scale factor i ≡ pos 0
 
+-- every free body is in equilibrium; of a fixed one nothing is asked
 abbrev pub IsBalanced : Scene → (ℕ → BearingPart) → ℤ → ℤ → Type 0
 IsBalanced s f scale factor = (i : ℕ) → i < s.bodies → (s.body i).free ≡ true →
     IsBalancedAt s f scale factor i
@@ -69,6 +73,7 @@ IsBalanced s f scale factor = (i : ℕ) → i < s.bodies → (s.body i).free ≡
 abbrev pub IsWithinCone : SceneBearing → BearingPart → Type 0
 IsWithinCone z f = IsAdmitted (cone z.p z.q) f.a f.b
 
+-- every bearing pushes, and its part stays within its cone of friction
 abbrev pub IsAdmissible : Scene → (ℕ → BearingPart) → Type 0
 IsAdmissible s f = (k : ℕ) → k < s.bearings → IsWithinCone (s.bearing k) (f k)
 

@@ -20,9 +20,11 @@ pub record SceneForces : Type 0 where
   pub factor : ℤ
   pub parts : List BearingPart
 
+-- what a list of forces gives bearing k to bear; past its end that is nothing
 abbrev pub part_of : SceneForces → ℕ → BearingPart
 part_of f k = get_or f.parts k (record { a = pos 0; b = pos 0 })
 
+-- the move of a body that stays where it is
 abbrev pub still : Move
 still = record { u = pos 0; v = pos 0; r = pos 0 }
 
@@ -77,10 +79,12 @@ pub record IsTrueRay (s : Scene) (f : SceneForces) : Type 0 where
   pub factor_positive : pos 0 ≺ f.factor
   pub forces : AreBalanced s f
 
+-- some factor is carried, and live loads alone are too, so that it may rise without end
 pub record IsTrueUnbounded (s : Scene) (base ray : SceneForces) : Type 0 where
   pub loaded : IsTrueLoaded s base
   pub rises : IsTrueRay s ray
 
+-- one of four claims: the dead loads stand, they collapse, a factor is the greatest, none is
 pub data SceneCertificate : Type 0 where
   stands : SceneForces → SceneCertificate
   collapses : List Move → SceneCertificate

@@ -10,6 +10,7 @@ use Rattle.stack_equilibrium.specs.SurveyScene.{scene_of}
 abbrev pub part_of_pair : ℤ × ℤ → BearingPart
 part_of_pair p = record { a = p.0; b = p.1 }
 
+-- the scale and the factor as they are printed, and for each pair the part of a bearing
 abbrev pub forces_of : ForcesValue → SceneForces
 forces_of f = record { scale = f.scale; factor = f.factor; parts = map part_of_pair f.parts }
 
@@ -17,6 +18,7 @@ forces_of f = record { scale = f.scale; factor = f.factor; parts = map part_of_p
 abbrev pub move_of_triple : ℤ × ℤ × ℤ → Move
 move_of_triple y = record { u = y.0; v = y.1; r = y.2 }
 
+-- the moves of the free blocks, in the order in which they are printed
 abbrev pub moves_of : MotionValue → List Move
 moves_of y = map move_of_triple y
 

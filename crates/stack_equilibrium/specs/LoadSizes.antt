@@ -21,6 +21,7 @@ pub record IsSmall (w : Wrench) : Type 0 where
 abbrev pub IsForce : ℤ → Type 0
 IsForce z = IsWithin 1 4000000000 z
 
+-- a force is within this limit along x and along y
 pub record AreForces (f : Force) : Type 0 where
   pub x : IsForce f.x.value
   pub y : IsForce f.y.value
@@ -29,6 +30,7 @@ pub record AreForces (f : Force) : Type 0 where
 abbrev pub arm_between : Point → Point → Arm
 arm_between o at = record { lx = whole (at.x -ℤ o.x); ly = whole (at.y -ℤ o.y) }
 
+-- an arm is no longer along x or along y than two coordinates within the limits may differ
 pub record AreSteps (l : Arm) : Type 0 where
   pub lx : IsStep l.lx.value
   pub ly : IsStep l.ly.value
@@ -41,9 +43,11 @@ moment_with l f = l.lx.value *ℤ f.y.value -ℤ l.ly.value *ℤ f.x.value
 abbrev pub IsTurn : ℤ → Type 0
 IsTurn z = IsWithin 1 8000000000000000 z
 
+-- at most twice as large, as the difference of two such products is
 abbrev pub IsMoment : ℤ → Type 0
 IsMoment z = IsWithin 1 16000000000000000 z
 
+-- the force of a listed load, in whole units and not in sixths
 abbrev pub force_in : Load → Force
 force_in l = record { x = whole l.fx; y = whole l.fy }
 

@@ -10,6 +10,7 @@ use Rattle.stack_polygon.specs.declared.point.Point.{Point}
 use Rattle.stack_polygon.specs.Plane.{triangle_of}
 use Rattle.stack_equilibrium.specs.declared.types.Wrench.{Wrench}
 
+-- neither a force nor a moment
 abbrev pub no_load : Wrench
 no_load = record { fx = pos 0; fy = pos 0; m = pos 0 }
 

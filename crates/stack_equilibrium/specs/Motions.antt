@@ -13,6 +13,7 @@ use Rattle.stack_equilibrium.specs.Scene.{Move, SceneBearing, Scene}
 abbrev pub velocity_x_of : Scene → (ℕ → Move) → SceneBearing → ℕ → ℤ
 velocity_x_of s y z i = (y i).u -ℤ (y i).r *ℤ (z.py -ℤ (s.body i).oy)
 
+-- that velocity along y
 abbrev pub velocity_y_of : Scene → (ℕ → Move) → SceneBearing → ℕ → ℤ
 velocity_y_of s y z i = (y i).v +ℤ (y i).r *ℤ (z.px -ℤ (s.body i).ox)
 
@@ -28,6 +29,7 @@ slide_of s y z =
     z.tx *ℤ (velocity_x_of s y z z.second -ℤ velocity_x_of s y z z.first)
     +ℤ z.ty *ℤ (velocity_y_of s y z z.second -ℤ velocity_y_of s y z z.first)
 
+-- a body neither moves along x or y nor turns
 pub record IsStill (y : Move) : Type 0 where
   pub u : y.u ≡ pos 0
   pub v : y.v ≡ pos 0
@@ -52,5 +54,6 @@ power_of w y = y.u *ℤ w.fx +ℤ y.v *ℤ w.fy +ℤ y.r *ℤ w.m
 abbrev pub dead_power_of : Scene → (ℕ → Move) → ℤ
 dead_power_of s y = sum_to s.bodies (λ i. power_of (s.body i).dead (y i))
 
+-- that of the live loads
 abbrev pub live_power_of : Scene → (ℕ → Move) → ℤ
 live_power_of s y = sum_to s.bodies (λ i. power_of (s.body i).live (y i))

@@ -38,6 +38,7 @@ pub record SceneBearing : Type 0 where
   pub p : ℤ
   pub q : ℤ
 
+-- how many bodies and bearings there are, and each of them by its number
 pub record Scene : Type 0 where
   pub bodies : ℕ
   pub body : ℕ → SceneBody

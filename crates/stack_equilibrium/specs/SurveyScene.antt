@@ -21,6 +21,7 @@ first_corner_of s i = corner_of (model.body_of s i).corners 0
 abbrev pub unit_weight_of : model.Structure → ℕ → ℤ
 unit_weight_of s i = (model.material_of s (model.body_of s i).material).weight
 
+-- its whole weight about its first corner, in sixths of a unit of force
 abbrev pub weight_at : model.Structure → ℕ → Wrench
 weight_at s i = weight_of (unit_weight_of s i) (model.body_of s i).corners
 

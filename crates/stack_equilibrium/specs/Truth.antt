@@ -16,6 +16,7 @@ held (collapses y) = statics.collapses (moves_of y)
 held (greatest f y) = statics.greatest (forces_of f) (moves_of y)
 held (unbounded base ray) = statics.unbounded (forces_of base) (forces_of ray)
 
+-- what a certificate claims holds of the scene of the survey
 abbrev pub IsTrueCertificate : Surveyed → CertificateValue → Type 0
 IsTrueCertificate s c = statics.Certifies (scene_of s) (held c)
 

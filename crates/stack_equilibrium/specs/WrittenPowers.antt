@@ -36,9 +36,11 @@ with_block q s y b so_far i = with_work so_far (block_move_at y b) (loads_on q s
 abbrev pub summed_power : Question → Surveyed → MotionValue → Result Whole Wide
 summed_power q s y = steps (with_block q s y) 0 (whole (pos 0)) (frees_of s.structure.bodies)
 
+-- the sum as a power, or that a number on the way to it is too wide
 abbrev pub told_power : Result Whole Wide → Result ℤ PowerWide
 told_power (Ok x) = Ok x.value
 told_power (Err e) = Err (record {})
 
+-- the work of the dead or the live loads on a motion, unless one of its numbers is too wide
 abbrev pub written_power : Question → Surveyed → MotionValue → Result ℤ PowerWide
 written_power q s y = told_power (summed_power q s y)

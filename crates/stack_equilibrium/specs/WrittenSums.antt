@@ -120,5 +120,6 @@ abbrev pub written_sums_at : Surveyed → ForcesValue → ℕ → Result Wrench 
 written_sums_at s f i =
     written_sums (block_of s.structure i) (whole f.scale) (whole f.factor) s.bearings f.parts
 
+-- those of free block number b, which is counted among the free ones from 0
 abbrev pub written_residue : Surveyed → ForcesValue → ℕ → Result Wrench SumWide
 written_residue s f b = written_sums_at s f (free_of s.structure.bodies b)

@@ -35,6 +35,7 @@ written_velocity y z = do
   risen ← made (y.v.value +ℤ up.value)
   Ok (record { x = x; y = risen })
 
+-- the velocity of a fixed body, at any point
 abbrev pub at_rest : Velocity
 at_rest = record { x = whole (pos 0); y = whole (pos 0) }
 
@@ -81,6 +82,7 @@ gap_at s y z = do
   difference ← written_difference later earlier
   written_gap z difference
 
+-- the two as numbers, or that a number on the way to them is too wide
 abbrev pub told_gap : Result Gap Wide → Result (ℤ × ℤ) VelocityWide
 told_gap (Ok g) = Ok (g.opening.value, g.slide.value)
 told_gap (Err e) = Err (record {})

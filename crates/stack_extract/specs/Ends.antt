@@ -44,6 +44,7 @@ HasForces (ray T c) = ⊤
 HasForces (wide p k s) = ⊥
 HasForces over = ⊥
 
+-- an end with a motion: that of a collapse, or the one that bounds the factor
 abbrev pub HasMotion : End Fraction → Type 0
 HasMotion (infeasible T) = ⊤
 HasMotion (feasible T) = ⊥
@@ -52,6 +53,7 @@ HasMotion (ray T c) = ⊥
 HasMotion (wide p k s) = ⊥
 HasMotion over = ⊥
 
+-- an end with a ray: only the one at which the factor rises without limit
 abbrev pub HasRay : End Fraction → Type 0
 HasRay (infeasible T) = ⊥
 HasRay (feasible T) = ⊥
@@ -104,6 +106,7 @@ module _ (q : Question) (v : Surveyed) where
   motion_place (wide p k s) = None
   motion_place over = None
 
+  -- the motion of a collapse, or the one that bounds the factor; other ends have no moves
   abbrev pub end_motion : End Fraction → MotionValue
   end_motion (infeasible T) = end_collapse q v T
   end_motion (feasible T) = []

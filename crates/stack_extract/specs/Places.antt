@@ -29,6 +29,7 @@ use Rattle.stack_extract.specs.declared.types.ExtractPlace.{ExtractPlace}
 use Rattle.stack_extract.specs.declared.types.ExtractError.{ExtractError}
 use Rattle.stack_extract.specs.declared.types.ExtractError.TheVariants.{TooWide, Memory}
 
+-- a number by its list, the step that makes it, and its index, from 0
 abbrev pub extract_place : Numbers → EndStep → ℕ → ExtractPlace
 extract_place l s i = record { list = l; step = s; index = i }
 
@@ -65,6 +66,7 @@ module _ (l : Numbers) where
   part_spot bs zs k = only_if
       (not (part_fits (get_or bs k no_bearing) (amount zs (2 * k)) (amount zs (2 * k + 1)))) (extract_place l Part k)
 
+  -- the first bearing at which one of its three numbers is too wide
   abbrev pub part_place : List Bearing → List ℤ → Option ExtractPlace
   part_place bs zs = first (length bs) (part_spot bs zs)
 
@@ -83,6 +85,7 @@ module _ (S : Shape) (T : Tabled Fraction) where
   shift_spot k = only_if (is_too_wide widest Difference (bound_number S T k) (of (pos 1)))
       (extract_place Motion Shift k)
 
+  -- the first row at which that difference is too wide
   abbrev pub shift_place : Option ExtractPlace
   shift_place = first S.rows shift_spot
 
@@ -95,11 +98,14 @@ module _ (q : Question) (v : Surveyed) (T : Tabled Fraction) where
   abbrev pub forces_place : Option ExtractPlace
   forces_place = push_place Forces v.bearings (forces_list (posed_shape q (scene_of v)) T)
 
+  -- the first number that is too wide in what is made of the ray of column c
   abbrev pub ray_place : ℕ → Option ExtractPlace
   ray_place c = push_place Ray v.bearings (ray_list (posed_shape q (scene_of v)) T c)
 
+  -- the first in what is made of the motion of phase 1
   abbrev pub collapse_place : Option ExtractPlace
   collapse_place = shifted_place (posed_shape q (scene_of v)) T
 
+  -- the first in what is made of the motion of phase 3
   abbrev pub bound_place : Option ExtractPlace
   bound_place = list_place Motion (bound_list (posed_shape q (scene_of v)) T)

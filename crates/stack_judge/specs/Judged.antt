@@ -10,6 +10,7 @@ use Rattle.stack_certified.specs.Laws.{TellsOfDeadLoads}
 use Rattle.stack_checker.specs.declared.types.Check.TheVariants.{Accepted}
 use Rattle.stack_checker.specs.WrittenCheck.{written_check}
 
+-- true, of the question, telling of the dead loads, within the limits of a text, and accepted
 pub record IsJudged (q : Question) (v : Surveyed) (c : CertificateValue) : Type 0 where
   pub holds : IsTrueCertificate v c
   pub form : IsOfQuestion q c

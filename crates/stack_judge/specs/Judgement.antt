@@ -22,6 +22,7 @@ use Rattle.stack_judge.specs.declared.types.JudgeError.{JudgeError}
 use Rattle.stack_judge.specs.declared.types.JudgeError.TheVariants as errors
 use Rattle.stack_judge.specs.EndPlace.{end_place}
 
+-- a certificate is found, a number is too wide, or the budget is spent
 pub data Judgement : Type 0 where
   certified : CertificateValue → Judgement
   too_wide : JudgePlace → Judgement
@@ -50,6 +51,7 @@ judgement_of q v (ray T c) = judged_by (end_place q v (ray T c)) (end_certificat
 abbrev pub survey_run : Question → Surveyed → (budget : ℕ) → End Fraction
 survey_run q v budget = run_at widest (posed q (scene_of v)) budget
 
+-- what comes of a question of a survey within a budget of pivots, by its written run
 abbrev pub judgement : Question → Surveyed → (budget : ℕ) → Judgement
 judgement q v budget = judgement_of q v (survey_run q v budget)
 

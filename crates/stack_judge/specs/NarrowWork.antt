@@ -24,6 +24,7 @@ narrow = pos (2 ^ 63 - 1)
 abbrev pub narrow_place : Question → Surveyed → Option BuildError
 narrow_place q v = wide_place ordered_fractions (is_too_wide narrow) (posed q (scene_of v))
 
+-- no number of the table is too wide
 abbrev pub has_no_place : Option BuildError → Bool
 has_no_place None = true
 has_no_place (Some p) = false
@@ -32,6 +33,7 @@ has_no_place (Some p) = false
 abbrev pub narrow_run : Question → Surveyed → (budget : ℕ) → End Fraction
 narrow_run q v budget = run_at narrow (posed q (scene_of v)) budget
 
+-- no number of the run is too wide, though its budget may be spent
 abbrev pub is_nowhere_too_wide : End Fraction → Bool
 is_nowhere_too_wide (infeasible T) = true
 is_nowhere_too_wide (feasible T) = true
@@ -40,6 +42,7 @@ is_nowhere_too_wide (ray T c) = true
 is_nowhere_too_wide (wide p k s) = false
 is_nowhere_too_wide over = true
 
+-- 64 bits are enough for the table and for the run, whatever is needed for what is made of its end
 abbrev pub is_narrow : Question → Surveyed → (budget : ℕ) → Bool
 is_narrow q v budget = has_no_place (narrow_place q v) && is_nowhere_too_wide (narrow_run q v budget)
 

@@ -9,10 +9,12 @@ use Rattle.stack_equilibrium.specs.SurveyScene.{scene_of}
 use Rattle.stack_table.specs.Table.{columns}
 use Rattle.stack_posing.specs.Posed.{posed}
 
+-- the live loads have one column where they are asked about, else none
 abbrev pub live_columns : Question → ℕ
 live_columns Dead = 0
 live_columns Live = 1
 
+-- those of all bearings, of the live loads and of all free blocks
 abbrev pub problem_columns : Question → Surveyed → ℕ
 problem_columns q v = 2 * length v.bearings + live_columns q + 3 * length (frees_of v.structure.bodies)
 

@@ -14,6 +14,7 @@ use Rattle.stack_table.specs.declared.problem.Problem.{Problem as Lent}
 use Rattle.stack_table.specs.Lent.{factor_entries}
 use Rattle.stack_posing.specs.Entries.{AreEntries, AreSomething}
 
+-- three for each free block: along x, along y and of moments
 abbrev pub rows_of : Surveyed → ℕ
 rows_of v = 3 * length (frees_of v.structure.bodies)
 

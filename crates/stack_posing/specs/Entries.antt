@@ -12,6 +12,7 @@ use Rattle.stack_table.specs.Sound.{is_column}
 abbrev pub IsSomething : Entry → Type 0
 IsSomething x = x.value ≢ pos 0
 
+-- none of these entries is 0
 abbrev pub AreSomething : List Entry → Type 0
 AreSomething xs = AllByRecursion IsSomething xs
 

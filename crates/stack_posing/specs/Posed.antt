@@ -22,6 +22,7 @@ share (suc (suc a)) w = w.m
 abbrev pub row_share : Scene → (ℕ → Wrench) → ℕ → ℤ
 row_share s w i = share (i % 3) (w (free_at s (i / 3)))
 
+-- neither a force nor a moment
 abbrev pub no_wrench : Wrench
 no_wrench = record { fx = pos 0; fy = pos 0; m = pos 0 }
 
@@ -41,6 +42,7 @@ abbrev pub column_on : Question → Scene → ℕ → ℕ → Wrench
 column_on q s j i = cond (ltb j (2 * s.bearings)) (edge_on s (eqb (j % 2) 0) (j / 2) i)
     (cond (eqb j (2 * s.bearings)) (factor_on q s i) no_wrench)
 
+-- three rows for each free body, two columns for each bearing, and the factor's column, if any
 abbrev pub posed_shape : Question → Scene → Shape
 posed_shape q s = record { rows = 3 * free_bodies s; contacts = 2 * s.bearings; factors = factors_of q }
 

@@ -20,5 +20,6 @@ pub record IsPosedBy (q : Question) (v : Surveyed) : Type 0 where
   pub right : (b a : ℕ) → b < length (frees_of v.structure.bodies) → a < 3
       → (posed q (scene_of v)).load (3 * b + a) ≡ neg_ℤ (share a (body_in v (body_number v b)).dead)
 
+-- both problems of each survey have these numbers
 abbrev pub SurveysArePosed : Type 0
 SurveysArePosed = (q : Question) (v : Surveyed) → IsPosedBy q v

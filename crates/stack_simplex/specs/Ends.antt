@@ -30,6 +30,7 @@ abbrev pub refused_as : RunError → End Fraction
 refused_as (TooWide p) = wide p.phase p.pivot (spot_of p)
 refused_as Spent = over
 
+-- what an answer tells of the written run: how it ends, or why it has no end
 abbrev pub run_end : {V : Type 0} {number : Ghosts V} → Result (Ended V number) RunError → End Fraction
 run_end (Ok x) = ended_as x
 run_end (Err e) = refused_as e

@@ -22,6 +22,7 @@ abbrev pub factor_count : Option Column → ℕ
 factor_count None = 0
 factor_count (Some c) = 1
 
+-- what stands in the factor column; nothing where the problem has none
 abbrev pub factor_entries : Option Column → List Entry
 factor_entries None = []
 factor_entries (Some c) = c.entries.items
@@ -32,6 +33,7 @@ entries_at P j = cond (ltb j (length P.contact.items))
     (get_or (map (λ c. c.entries.items) P.contact.items) j [])
     (cond (eqb j (length P.contact.items)) (factor_entries P.factor) [])
 
+-- its rows, its contact columns, and whether it has a factor column
 abbrev pub shape_of_problem : Lent → Shape
 shape_of_problem P = record {
   rows = P.rows;

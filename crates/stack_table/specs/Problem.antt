@@ -8,6 +8,7 @@ pub record Problem : Type 0 where
   pub entry : ℕ → ℕ → ℤ
   pub load : ℕ → ℤ
 
+-- a number is negative
 abbrev pub is_below_zero : ℤ → Bool
 is_below_zero (pos n) = false
 is_below_zero (negsuc n) = true

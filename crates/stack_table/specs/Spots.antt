@@ -16,6 +16,7 @@ module _ (F : Ordered) where
   abbrev pub divided : (ℕ → F.C) → F.C → ℕ → F.C
   divided f d j = quotient F (f j) d
 
+  -- the row f less k times the row g
   abbrev pub reduced : (ℕ → F.C) → (ℕ → F.C) → F.C → ℕ → F.C
   reduced f g k j = less F (f j) (F.mul k (g j))
 
@@ -28,6 +29,7 @@ module _ (F : Ordered) (is_too_wide : Op → F.C → F.C → Bool) where
   abbrev pub divide_item : (ℕ → F.C) → F.C → ℕ → ℕ → Option PivotWide
   divide_item f d i j = spot_if Quotient Divide (f j) d i j
 
+  -- the first of these cells at which its division is too wide
   abbrev pub divide_spot : ℕ → (ℕ → F.C) → F.C → ℕ → Option PivotWide
   divide_spot n f d i = first n (divide_item f d i)
 
@@ -36,6 +38,7 @@ module _ (F : Ordered) (is_too_wide : Op → F.C → F.C → Bool) where
   reduce_item f g k i j = or_else (spot_if Product Multiply k (g j) i j)
       (spot_if Difference Subtract (f j) (F.mul k (g j)) i j)
 
+  -- the first of these cells at which its product or its difference is too wide
   abbrev pub reduce_spot : ℕ → (ℕ → F.C) → (ℕ → F.C) → F.C → ℕ → Option PivotWide
   reduce_spot n f g k i = first n (reduce_item f g k i)
 
@@ -48,6 +51,7 @@ module _ (F : Ordered) (is_too_wide : Op → F.C → F.C → Bool) where
   row_spot width cell r c i = cond (eqb i r) None
       (reduce_spot width (cell i) (divided F (cell r) (cell r c)) (cell i c) i)
 
+  -- the first in all rows: the pivot row goes before the others, which follow in order
   abbrev pub cells_spot : (height width : ℕ) → (ℕ → ℕ → F.C) → ℕ → ℕ → Option PivotWide
   cells_spot height width cell r c = or_else (divide_spot width (cell r) (cell r c) r)
       (first height (row_spot width cell r c))

@@ -42,6 +42,7 @@ module _ (F : Ordered) (P : Problem) where
   abbrev pub first_row : ℕ → ℕ → F.C
   first_row i j = F.of (number_at P i j)
 
+  -- the objective row over these rows, with which phase 1 begins
   abbrev pub first_objective : ℕ → F.C
   first_objective = objective_over F P.shape first_row
 
@@ -62,6 +63,7 @@ module _ (F : Ordered) (is_too_wide : Op → F.C → F.C → Bool) where
   objective_place S cell j = cond (is_artificial S j) None
       (first S.rows (partial_place (Wide S.rows j) (λ i. cell i j)))
 
+  -- the first partial difference of that row that is too wide, column by column
   abbrev pub objective_places : Shape → (ℕ → ℕ → F.C) → Option BuildError
   objective_places S cell = first (width S) (objective_place S cell)
 
@@ -70,6 +72,7 @@ module _ (F : Ordered) (is_too_wide : Op → F.C → F.C → Bool) where
     abbrev pub number_place : ℕ → ℕ → Option BuildError
     number_place i j = only_if (is_too_wide Whole (first_row F P i j) (first_row F P i j)) (Wide i j)
 
+    -- the first number of row i that is too wide, the right side last
     abbrev pub row_place : ℕ → Option BuildError
     row_place i = first (width P.shape) (number_place i)
 
