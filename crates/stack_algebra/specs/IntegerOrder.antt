@@ -8,9 +8,11 @@ infix 4 ◌≼◌ ◌≺◌
 abbrev pub ◌≼◌ : ℤ → ℤ → Type 0
 a ≼ b = ◌≤ℤ◌ a b
 
+-- a is less than b
 abbrev pub ◌≺◌ : ℤ → ℤ → Type 0
 a ≺ b = ◌<ℤ◌ a b
 
+-- the size of a number, again as a whole number
 abbrev pub abs : ℤ → ℤ
 abs z = pos (nat_abs z)
 

@@ -113,6 +113,7 @@ pub record FractionField : Type 0 where
   pub nonneg-add : (x y : Fraction) → sign x ≢ minus → sign y ≢ minus → sign (add x y) ≢ minus
   pub inv-mul : (x : Fraction) → sign x ≢ nought → mul (inv x) x ≡ of (pos 1)
 
+-- fractions in lowest terms, with these laws, as one ordered field
 abbrev pub ordered : FractionField → Ordered
 ordered k = record {
   ring = record {

@@ -5,6 +5,7 @@ use Prim.Native.Nat.{zero, suc}
 use lib.IntN.{ℤ, pos, negsuc}
 use Rattle.stack_algebra.specs.Ring.{Ring}
 
+-- below 0, 0 itself, or above 0
 pub data Sign : Type 0 where
   minus : Sign
   nought : Sign
@@ -28,8 +29,10 @@ sign_of (pos zero) = nought
 sign_of (pos (suc n)) = plus
 sign_of (negsuc n) = minus
 
+-- each number has one of the three signs, only 0 has the sign of 0, and every other number has an inverse
 pub record Ordered : Type 1 where
   pub ring : Ring
+  -- the ring's numbers, operations and laws by their own names
   pub open ring use *
   pub sign : ring.C → Sign
   pub inv : ring.C → ring.C

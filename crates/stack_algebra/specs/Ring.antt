@@ -4,6 +4,7 @@
 use mathlib.Core.Path.{◌≡◌}
 use lib.IntN.{ℤ, pos, negsuc, ◌+ℤ◌, ◌*ℤ◌}
 
+-- numbers that are added, multiplied and negated by these laws; each whole number stands for one of them
 pub record Ring : Type 1 where
   pub C : Type 0
   pub of : ℤ → C

@@ -68,6 +68,7 @@ module _ (F : Ordered) where
   abbrev pub less : F.C → F.C → F.C
   less x y = F.add x (F.neg y)
 
+  -- x over y, which means nothing where y is 0
   abbrev pub quotient : F.C → F.C → F.C
   quotient x y = F.mul (F.inv y) x
 

@@ -53,7 +53,7 @@ module _ (P : Problem) where
   EndIsWhole (wide p k s) = ⊤
   EndIsWhole over = ⊤
 
--- whatever is too wide, and whatever the budget
+-- of a problem with one factor column at most, whatever is too wide, and whatever the budget
 abbrev pub EndsAreWhole : Type 0
 EndsAreWhole = (P : Problem) → P.shape.factors ≤ 1 → (rule : Rule) (budget : ℕ) →
     EndIsWhole P (run_of P rule budget)

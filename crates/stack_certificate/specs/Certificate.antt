@@ -15,6 +15,7 @@ pub record ForcesValue : Type 0 where
 abbrev pub MotionValue : Type 0
 MotionValue = List (ℤ × ℤ × ℤ)
 
+-- what each form has: forces; a motion; forces and a motion; forces and further ones without end
 pub data CertificateValue : Type 0 where
   stands : ForcesValue → CertificateValue
   collapses : MotionValue → CertificateValue
@@ -25,9 +26,11 @@ pub data CertificateValue : Type 0 where
 abbrev pub forces_view : Forces → ForcesValue
 forces_view f = record { scale = f.scale; factor = f.factor; parts = f.parts.items }
 
+-- the moves of a motion, without where they lie in memory
 abbrev pub motion_view : Motion → MotionValue
 motion_view m = m.moves.items
 
+-- the same for a certificate of each form
 abbrev pub certificate_view : Certificate → CertificateValue
 certificate_view (Stands f) = stands (forces_view f)
 certificate_view (Collapses m) = collapses (motion_view m)

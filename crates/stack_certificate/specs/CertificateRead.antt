@@ -9,6 +9,7 @@ use Rattle.stack_certificate.specs.CertificateText.{IsCertificateText}
 use Rattle.stack_certificate.specs.FaultLine.{IsFaultLine}
 use Rattle.stack_certificate.specs.CertificateOf.{certificate_of}
 
+-- the bytes are the text of what is answered, or that is their faulty line
 abbrev pub ReadsCertificate : Result Certificate TextError → List ℕ → Type 0
 ReadsCertificate (Ok c) text = IsCertificateText (certificate_view c) text
 ReadsCertificate (Err (Line number)) text = IsFaultLine number text

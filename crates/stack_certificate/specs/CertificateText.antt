@@ -17,12 +17,15 @@ use Rattle.stack_certificate.specs.Lines.{line_text}
 abbrev pub push_line : ℤ × ℤ → Line
 push_line part = lines.Push part.0 part.1
 
+-- of forces: the scale and the factor first, and then each part
 abbrev pub forces_lines : ForcesValue → List Line
 forces_lines f = lines.Forces f.scale f.factor ∷ map push_line f.parts
 
+-- the line of one move
 abbrev pub move_line : ℤ × ℤ × ℤ → Line
 move_line move = lines.Move move.0 move.1 move.2
 
+-- of a motion: its word first, and then each move
 abbrev pub motion_lines : MotionValue → List Line
 motion_lines m = lines.Motion ∷ map move_line m
 
@@ -33,6 +36,7 @@ open_lines (collapses m) = lines.Form forms.Collapses ∷ motion_lines m
 open_lines (greatest f m) = lines.Form forms.Greatest ∷ (forces_lines f ++ motion_lines m)
 open_lines (unbounded f r) = lines.Form forms.Unbounded ∷ (forces_lines f ++ forces_lines r)
 
+-- all lines, the last of which is `end`
 abbrev pub lines_of : CertificateValue → List Line
 lines_of c = open_lines c ++ lines.End ∷ []
 
@@ -41,6 +45,7 @@ abbrev pub text_of : List Line → List ℕ
 text_of [] = []
 text_of (line ∷ more) = line_text line ++ text_of more
 
+-- the whole text of a certificate
 abbrev pub certificate_text : CertificateValue → List ℕ
 certificate_text c = text_of (lines_of c)
 
@@ -48,15 +53,19 @@ certificate_text c = text_of (lines_of c)
 abbrev pub PartFits : ℤ × ℤ → Type 0
 PartFits part = IsFitting part.0 × IsFitting part.1
 
+-- no number of a move is too wide
 abbrev pub MoveFits : ℤ × ℤ × ℤ → Type 0
 MoveFits move = IsFitting move.0 × IsFitting move.1 × IsFitting move.2
 
+-- the scale, the factor and the parts aren't too wide
 abbrev pub ForcesFit : ForcesValue → Type 0
 ForcesFit f = IsFitting f.scale × IsFitting f.factor × All PartFits f.parts
 
+-- no number of a motion is too wide
 abbrev pub MotionFits : MotionValue → Type 0
 MotionFits m = All MoveFits m
 
+-- no number of a certificate is too wide
 abbrev pub CertificateFits : CertificateValue → Type 0
 CertificateFits (stands f) = ForcesFit f
 CertificateFits (collapses m) = MotionFits m
@@ -72,9 +81,11 @@ pub record IsCertificateText (c : CertificateValue) (bytes : List ℕ) : Type 0 
 abbrev pub ForcesAreFew : ForcesValue → Type 0
 ForcesAreFew f = length f.parts ≤ most_bearings
 
+-- no more moves than a model may have free blocks
 abbrev pub MotionIsFew : MotionValue → Type 0
 MotionIsFew m = length m ≤ most_free
 
+-- and so for each list of a certificate
 abbrev pub IsFew : CertificateValue → Type 0
 IsFew (stands f) = ForcesAreFew f
 IsFew (collapses m) = MotionIsFew m
@@ -85,5 +96,6 @@ IsFew (unbounded f r) = ForcesAreFew f × ForcesAreFew r
 abbrev pub text_bound : ℕ
 text_bound = 180000
 
+-- a certificate in which no number is too wide and no list longer than that has such a text
 abbrev pub FewHaveShortTexts : Type 0
 FewHaveShortTexts = (c : CertificateValue) → CertificateFits c → IsFew c → length (certificate_text c) < text_bound

@@ -3,6 +3,7 @@
 use Rattle.std.specs.Prelude.{◌≡◌, ℕ, suc, ◌+◌, ◌-◌, ◌*◌, ◌<◌, ◌≤◌, ℤ, pos, negsuc, List, [], ◌∷◌, length}
 use Rattle.std.specs.Prelude.{slice_index, ⊤}
 
+-- every byte is one of the digits 0 to 9
 abbrev pub AreDigits : List ℕ → Type 0
 AreDigits [] = ⊤
 AreDigits (b ∷ bs) = (48 ≤ b) × (b ≤ 57) × AreDigits bs

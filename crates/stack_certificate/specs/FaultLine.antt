@@ -3,11 +3,12 @@ use Rattle.std.specs.Prelude.{◌≡◌, ℕ, ◌+◌, ◌<◌, List, [], ◌∷
 use Rattle.stack_certificate.specs.Certificate.{CertificateValue}
 use Rattle.stack_certificate.specs.CertificateText.{IsCertificateText}
 
--- The lines of some bytes, each with its line feed; a rest without one that isn't empty is a line too.
+-- A byte in front of the first of some lines; it is a line by itself where there are none.
 abbrev pub onto_first : ℕ → List (List ℕ) → List (List ℕ)
 onto_first b [] = (b ∷ []) ∷ []
 onto_first b (line ∷ more) = (b ∷ line) ∷ more
 
+-- The lines of some bytes, each with its line feed; a rest without one that isn't empty is a line too.
 unfoldable pub cut : List ℕ → List (List ℕ)
 cut [] = []
 cut (b ∷ bs) = if b == 10 then (10 ∷ []) ∷ cut bs else onto_first b (cut bs)

@@ -22,6 +22,7 @@ abbrev pub before : ℕ → List ℕ → List ℕ
 before byte [] = []
 before byte (b ∷ bs) = if b == byte then [] else b ∷ before byte bs
 
+-- the bytes behind the first such byte, and none where there is none
 abbrev pub behind : ℕ → List ℕ → List ℕ
 behind byte [] = []
 behind byte (b ∷ bs) = if b == byte then bs else behind byte bs
@@ -30,9 +31,11 @@ behind byte (b ∷ bs) = if b == byte then bs else behind byte bs
 abbrev pub two_to : (ℤ → ℤ → Line) → List ℕ → Line
 two_to line bytes = line (value_of (before 32 bytes)) (value_of (behind 32 bytes))
 
+-- the same for a line of three numbers
 abbrev pub three_to : (ℤ → ℤ → ℤ → Line) → List ℕ → Line
 three_to line bytes = two_to (line (value_of (before 32 bytes))) (behind 32 bytes)
 
+-- the line that starts with this word; each word that isn't another line's is taken for `end`
 abbrev pub line_with : List ℕ → List ℕ → Line
 line_with word numbers =
     if bytes_eq word (codes "stands") then lines.Form Stands else

@@ -9,6 +9,7 @@ use Rattle.stack_certificate.specs.declared.line.Line.{Line}
 use Rattle.stack_certificate.specs.declared.line.Line.TheVariants as lines
 use Rattle.stack_whole.specs.Whole.{IsFitting}
 
+-- the byte doesn't stand among these
 abbrev pub lacks : ℕ → List ℕ → Bool
 lacks byte bytes = list_all (λ b. not (b == byte)) bytes
 
@@ -16,12 +17,15 @@ lacks byte bytes = list_all (λ b. not (b == byte)) bytes
 abbrev pub two_text : ℤ → ℤ → List ℕ
 two_text a b = signed_decimal a ++ 32 ∷ signed_decimal b
 
+-- three numbers with one space between each two
 abbrev pub three_text : ℤ → ℤ → ℤ → List ℕ
 three_text a b c = signed_decimal a ++ 32 ∷ two_text b c
 
+-- the bytes are two numbers that aren't too wide, with one space between them
 abbrev pub IsTwo : ℤ → ℤ → List ℕ → Type 0
 IsTwo a b bytes = IsFitting a × IsFitting b × (bytes ≡ two_text a b)
 
+-- the bytes are three numbers that aren't too wide, with one space between each two
 abbrev pub IsThreeNumbers : ℤ → ℤ → ℤ → List ℕ → Type 0
 IsThreeNumbers a b c bytes = IsFitting a × IsFitting b × IsFitting c × (bytes ≡ three_text a b c)
 
@@ -41,6 +45,7 @@ body_text lines.Motion = codes "motion"
 body_text (lines.Move u v r) = codes "move " ++ three_text u v r
 body_text lines.End = codes "end"
 
+-- the line with its line feed
 abbrev pub line_text : Line → List ℕ
 line_text line = body_text line ++ 10 ∷ []
 
@@ -57,5 +62,6 @@ LineFits lines.End = ⊤
 abbrev pub IsBody : Line → List ℕ → Type 0
 IsBody line bytes = LineFits line × (bytes ≡ body_text line)
 
+-- the bytes are the line with its line feed, and no number is too wide
 abbrev pub IsLine : Line → List ℕ → Type 0
 IsLine line bytes = LineFits line × (bytes ≡ line_text line)

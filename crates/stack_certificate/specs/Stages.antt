@@ -7,6 +7,7 @@ use Rattle.stack_certificate.specs.Certificate.{forces_view, certificate_view}
 use Rattle.stack_certificate.specs.CertificateOf.{Progress, start, formed, before_motion, before_ray, unended, ended}
 use Rattle.stack_certificate.specs.CertificateOf.{finished}
 
+-- how far the text has come at this stage, by what has been read so far
 abbrev pub stage_view : Stage → Progress
 stage_view stages.Start = start
 stage_view (stages.Formed form) = formed form

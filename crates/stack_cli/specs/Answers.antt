@@ -26,8 +26,8 @@ verdict_of (greatest f y) = Affirmed
 verdict_of (unbounded base rise) = Affirmed
 
 -- Exactly these bytes, with this verdict; the certificate of this question of this survey; a document that describes
--- this structure; the summary of the wall with this number, by its survey, its certificate, and whether nothing
--- is too wide for 64 bits.
+-- this structure; the summary of the wall with this number, by its survey, its certificate, and whether no
+-- number of the table and of the run is too wide for 64 bits.
 pub data Due : Type 0 where
   exactly : Verdict → List ℕ → Due
   certificate : Question → Surveyed → CertificateValue → Due

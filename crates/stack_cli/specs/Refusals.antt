@@ -23,7 +23,8 @@ use Rattle.stack_cli.specs.declared.refusal.Refusal.TheVariants as code
 use Rattle.stack_cli.specs.ModelLines.{fault_text}
 
 -- Where a check meets a number that is too wide: at a bearing's cone, by its number from 0; at one of the three sums
--- of a block, by its name; at a bearing's velocities; at a power; at the sum of the two powers.
+-- of a block, by its name; at a bearing's velocities, or its test; at a power; at the two
+-- powers times scale and factor, or their sum.
 pub data Place : Type 0 where
   cone_at : ℕ → Place
   balance_of : List ℕ → Axis → Place

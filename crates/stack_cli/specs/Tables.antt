@@ -1,5 +1,5 @@
--- The work on `table MODEL CERT`: that of a check, and for an accepted certificate the tables of its contacts and
--- forces.
+-- The work on `table MODEL CERT`: that of a check, and for an accepted certificate the table of the model's
+-- contacts and that of the certificate's forces and moves.
 use Rattle.std.specs.Prelude.{ℕ, List, ◌++◌, Option, Some, None}
 use Rattle.stack_contact.specs.Surveyed.{Surveyed}
 use Rattle.stack_certificate.specs.Certificate.{CertificateValue}

@@ -11,6 +11,7 @@ use Rattle.stack_contact.specs.declared.types.Touch.{Touch}
 use Rattle.stack_overlap.specs.CommonPoints.{IsBefore}
 use Rattle.stack_contact.specs.Bearings.{Bears, Touches}
 
+-- the corners of body i
 abbrev pub corners_of : Structure → ℕ → List Point
 corners_of s i = (body_of s i).corners
 
@@ -24,6 +25,7 @@ pub record IsPair (s : Structure) (i j : ℕ) : Type 0 where
 abbrev pub body_friction : Structure → ℕ → Cone
 body_friction s i = let m = material_of s (body_of s i).material in cone m.p m.q
 
+-- the lesser friction of bodies i and j, in lowest terms
 abbrev pub friction_between : Structure → ℕ → ℕ → Cone
 friction_between s i j = lesser_of (body_friction s i) (body_friction s j)
 

@@ -24,6 +24,7 @@ bearings_in i j f (AtOne c t) = record { first = i; second = j; at = c; frame = 
 bearings_in i j f (AtTwo c d t) = record { first = i; second = j; at = c; frame = t; cone = f }
     ∷ record { first = i; second = j; at = d; frame = t; cone = f } ∷ []
 
+-- the touch of one pair, where it has one: a pair that bears has none
 abbrev pub touches_in : ℕ → ℕ → Contacts → List Touch
 touches_in i j Free = []
 touches_in i j (Touching c) = record { first = i; second = j; at = c } ∷ []

@@ -18,9 +18,11 @@ pub record IsPlacedBody (s : Structure) (b : Placed) : Type 0 where
   pub polygon : IsPolygon (corners_of s b.body)
   pub begins : IsLeast (length (corners_of s b.body)) (λ j. (corner_of (corners_of s b.body) j).x) b.x0
 
+-- item k of such a list; past the end stands one that means nothing
 abbrev pub placed_at : List Placed → ℕ → Placed
 placed_at bs k = get_or bs k (record { x0 = pos 0; body = 0 })
 
+-- the number of the body there
 abbrev pub placed_body : List Placed → ℕ → ℕ
 placed_body bs k = (placed_at bs k).body
 
@@ -39,6 +41,7 @@ pub record IsPairOf (one other : ℕ) (p : Pair) : Type 0 where
   pub in_order : p.first < p.second
   pub bodies : ((p.first ≡ one) × (p.second ≡ other)) ⊎ ((p.first ≡ other) × (p.second ≡ one))
 
+-- bodies i and j, in this order
 abbrev pub pair : ℕ → ℕ → Pair
 pair i j = record { first = i; second = j }
 
@@ -46,6 +49,7 @@ pair i j = record { first = i; second = j }
 abbrev pub IsListed : Structure → List Pair → ℕ → ℕ → Type 0
 IsListed s ps i j = IsPair s i j → AreFar s i j ⊎ Contains ps (pair i j)
 
+-- each item is two bodies in order, not both fixed
 abbrev pub ArePairs : Structure → List Pair → Type 0
 ArePairs s ps = All (λ (p : Pair). IsPair s p.first p.second) ps
 

@@ -17,6 +17,7 @@ pub record Surveyed : Type 0 where
   pub bearings : List Bearing
   pub touches : List Touch
 
+-- a structure with these bearings and touches
 abbrev pub surveyed : Structure → List Bearing → List Touch → Surveyed
 surveyed s zs ts = record { structure = s; bearings = zs; touches = ts }
 
@@ -24,9 +25,11 @@ surveyed s zs ts = record { structure = s; bearings = zs; touches = ts }
 abbrev pub AreSeparated : List Point → List Point → Type 0
 AreSeparated ps qs = ((i : ℕ) × Separates ps i qs) ⊎ ((j : ℕ) × Separates qs j ps)
 
+-- an edge of body i or of body j separates the two
 abbrev pub AreApart : Structure → ℕ → ℕ → Type 0
 AreApart s i j = AreSeparated (corners_of s i) (corners_of s j)
 
+-- so it is for each pair that isn't of two fixed bodies
 abbrev pub AllApart : Structure → Type 0
 AllApart s = (i j : ℕ) → IsPair s i j → AreApart s i j
 

@@ -14,7 +14,7 @@ use Rattle.stack_equilibrium.specs.Balance.{IsAdmissible, IsBalanced}
 use Rattle.stack_equilibrium.specs.Motions.{IsUnresisted, dead_power_of, live_power_of}
 
 -- forces that balance scale times the dead loads and factor times the live loads: the factor carried is
--- factor over scale, and a real force is its part divided by six times the scale times the tangent's length
+-- factor over scale, and a real force is its part times the tangent's length, over six times the scale
 pub record SceneForces : Type 0 where
   pub scale : ℤ
   pub factor : ℤ

@@ -27,5 +27,6 @@ pub record IsStructureOf (parts : PartLists) (s : Structure) : Type 0 where
   pub bodies : (i : ℕ) → i < length parts.blocks → IsBodyOf s.materials (block_written parts i) (body_of s i)
   pub loads : map (load_listed s.bodies) s.loads ≡ parts.loads
 
+-- a structure that is made of what a file lists is that of the lists as they are written
 abbrev pub StructureAsListed : Type 0
 StructureAsListed = (parts : PartLists) (s : Structure) → content_of parts ≡ Ok s → IsStructureOf parts s

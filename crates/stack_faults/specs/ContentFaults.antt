@@ -27,9 +27,11 @@ use Rattle.stack_faults.specs.FaultLists.{faults_where, faults_below}
 abbrev pub material_written : PartLists → ℕ → MaterialPart
 material_written parts i = get_or parts.materials i (record { name = []; weight = pos 0; friction = [] })
 
+-- block i as it is written
 abbrev pub block_written : PartLists → ℕ → BlockPart
 block_written parts i = get_or parts.blocks i (record { name = []; material = []; fixed = false; corners = [] })
 
+-- load i as it is written
 abbrev pub load_written : PartLists → ℕ → LoadPart
 load_written parts i = get_or parts.loads i (record { block = []; kind = []; at = []; force = [] })
 
@@ -54,6 +56,7 @@ names_fixed name bs = is_fixed_block (find (λ (b : BlockPart). bytes_eq name b.
 abbrev pub fixed_written : List BlockPart → ℕ
 fixed_written bs = count_by (λ (b : BlockPart). b.fixed) bs
 
+-- how many of them are free
 abbrev pub free_written : List BlockPart → ℕ
 free_written bs = count_by (λ (b : BlockPart). not b.fixed) bs
 
@@ -118,11 +121,13 @@ material_faults parts =
     number_faults most_materials (length parts.materials) whats.Materials
     ++ faults_by (length parts.materials) (causes_of_material parts)
 
+-- those of the blocks: too many of them, and then the faults of each one
 abbrev pub block_faults : PartLists → List ModelError
 block_faults parts =
     number_faults most_bodies (length parts.blocks) whats.Blocks
     ++ faults_by (length parts.blocks) (causes_of_block parts)
 
+-- those of the loads: too many of them, and then the faults of each one
 abbrev pub load_faults : PartLists → List ModelError
 load_faults parts =
     number_faults most_loads (length parts.loads) whats.Loads

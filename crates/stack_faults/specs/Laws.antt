@@ -15,6 +15,7 @@ use Rattle.stack_faults.specs.TableFaults.{shape_faults, table_faults, file_faul
 abbrev pub FirstContentFault : Type 0
 FirstContentFault = (parts : PartLists) → answered_fault (content_of parts) ≡ earliest (content_faults parts)
 
+-- what a file lists makes a structure exactly where it has no fault of content
 abbrev pub ContentWhereFaultless : Type 0
 ContentWhereFaultless = (parts : PartLists) → IsOk (content_of parts) ↔ (content_faults parts ≡ [])
 
@@ -27,6 +28,7 @@ CrookedByMeaning = (ps : List Point) → (is_crooked (Some ps) ≡ true) ↔ Has
 abbrev pub FirstShapeFault : Type 0
 FirstShapeFault = (ms : Members) → answered_fault (parts_of_document ms) ≡ earliest (shape_faults ms)
 
+-- a table says what it lists exactly where it has no fault of shape
 abbrev pub ShapeWhereFaultless : Type 0
 ShapeWhereFaultless = (ms : Members) → IsOk (parts_of_document ms) ↔ (shape_faults ms ≡ [])
 
@@ -34,6 +36,7 @@ ShapeWhereFaultless = (ms : Members) → IsOk (parts_of_document ms) ↔ (shape_
 abbrev pub FirstTableFault : Type 0
 FirstTableFault = (ms : Members) → answered_fault (model_of ms) ≡ earliest (table_faults ms)
 
+-- a table makes a structure exactly where it has no fault of either kind
 abbrev pub StructureWhereFaultless : Type 0
 StructureWhereFaultless = (ms : Members) → IsOk (model_of ms) ↔ (table_faults ms ≡ [])
 
@@ -41,5 +44,6 @@ StructureWhereFaultless = (ms : Members) → IsOk (model_of ms) ↔ (table_fault
 abbrev pub FirstFileFault : Type 0
 FirstFileFault = (bytes : List ℕ) → answered_fault (structure_of bytes) ≡ earliest (file_faults bytes)
 
+-- a file's bytes make a structure exactly where they have no fault
 abbrev pub FileWhereFaultless : Type 0
 FileWhereFaultless = (bytes : List ℕ) → IsOk (structure_of bytes) ↔ (file_faults bytes ≡ [])

@@ -58,6 +58,7 @@ material_table_faults i ms =
     ++ key_faults as_integer (spots.Material i) keys.Weight ms
     ++ key_faults wholes_of (spots.Material i) keys.Friction ms
 
+-- block i: an unknown key, its name, its material's name, whether it is fixed, its corners
 abbrev pub block_table_faults : ℕ → Members → List ReadError
 block_table_faults i ms =
     unknown_key_faults (spots.Block i) block_keys ms
@@ -66,6 +67,7 @@ block_table_faults i ms =
     ++ optional_key_faults as_bool (spots.Block i) keys.Fixed ms
     ++ key_faults lists_of (spots.Block i) keys.Corners ms
 
+-- load i: an unknown key, its block's name, its kind, its point, its force
 abbrev pub load_table_faults : ℕ → Members → List ReadError
 load_table_faults i ms =
     unknown_key_faults (spots.Load i) load_keys ms
@@ -80,6 +82,7 @@ tables_in no_items = []
 tables_in (item (table ms) rest) = ms ∷ tables_in rest
 tables_in (item d rest) = tables_in rest
 
+-- the tables among the items, and none where there is no list
 abbrev pub tables_or_none : Option Items → List Members
 tables_or_none None = []
 tables_or_none (Some items) = tables_in items

@@ -15,12 +15,15 @@ use Rattle.stack_faults.specs.FaultLists.{earliest}
 use Rattle.stack_faults.specs.ContentFaults.{content_faults}
 use Rattle.stack_faults.specs.TableFaults.{table_faults}
 
+-- a point as a file lists it, x and then y
 abbrev pub drawn_at : ℕ → ℕ → List ℤ
 drawn_at x y = pos x ∷ pos y ∷ []
 
+-- a material as a file lists it, with its friction as a list of numbers
 abbrev pub material_called : List ℕ → ℤ → List ℤ → MaterialPart
 material_called name weight friction = record { name = name; weight = weight; friction = friction }
 
+-- a block as a file lists it, with the name of its material
 abbrev pub block_called : List ℕ → List ℕ → Bool → List (List ℤ) → BlockPart
 block_called name material fixed corners = record {
   name = name;
@@ -29,12 +32,15 @@ block_called name material fixed corners = record {
   corners = corners;
 }
 
+-- a load as a file lists it, with the name of its block
 abbrev pub load_called : List ℕ → List ℕ → List ℤ → List ℤ → LoadPart
 load_called block kind at force = record { block = block; kind = kind; at = at; force = force }
 
+-- a file's three lists
 abbrev pub lists_written : List MaterialPart → List BlockPart → List LoadPart → PartLists
 lists_written materials blocks loads = record { materials = materials; blocks = blocks; loads = loads }
 
+-- a material without fault: friction 1 over 2 and a unit weight
 abbrev pub plain_stone : MaterialPart
 plain_stone = material_called (codes "stone") (pos 1) (pos 1 ∷ pos 2 ∷ [])
 
@@ -47,6 +53,7 @@ clockwise_square = drawn_at 0 0 ∷ drawn_at 0 2 ∷ drawn_at 2 2 ∷ drawn_at 2
 abbrev pub dart : List (List ℤ)
 dart = drawn_at 0 0 ∷ drawn_at 4 0 ∷ drawn_at 1 1 ∷ drawn_at 0 4 ∷ []
 
+-- a fixed body of that stone, without fault
 abbrev pub fixed_square : BlockPart
 fixed_square = block_called (codes "base") (codes "stone") true clockwise_square
 
@@ -100,6 +107,7 @@ heavy_table =
     (member (codes "name") (string (codes "stone"))
     (member (codes "weight") (integer (negsuc 0)) no_members)))) no_items)) no_members
 
+-- the faults of these lists and tables, in order
 pub record WorkedFaults : Type 0 where
   pub none : content_faults (lists_written (plain_stone ∷ []) (fixed_square ∷ []) []) ≡ []
   pub materials : content_faults two_materials

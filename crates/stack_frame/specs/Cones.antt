@@ -5,6 +5,7 @@ use Rattle.stack_algebra.specs.IntegerOrder.{◌≼◌}
 use Rattle.stack_frame.specs.declared.cone.Cone.{Cone}
 use Rattle.stack_frame.specs.Directions.{IsLowest}
 
+-- the coefficient p over q
 abbrev pub cone : ℤ → ℤ → Cone
 cone p q = record { p = p; q = q }
 
@@ -19,6 +20,7 @@ pub record IsCoefficient (c : Cone) : Type 0 where
 abbrev pub lowest_of : ℕ → ℕ → Cone
 lowest_of p q = record { p = pos (p / gcd p q); q = pos (q / gcd p q) }
 
+-- that of a coefficient, by the sizes of its terms
 abbrev pub lowest : Cone → Cone
 lowest c = lowest_of (unsigned_abs c.p) (unsigned_abs c.q)
 
@@ -30,6 +32,7 @@ lesser_of a b = if int_le (a.p *ℤ b.q) (b.p *ℤ a.q) then lowest a else lowes
 abbrev pub IsAtMost : Cone → Cone → Type 0
 IsAtMost a b = (a.p *ℤ b.q) ≼ (b.p *ℤ a.q)
 
+-- a and b are the same number
 abbrev pub IsSameCone : Cone → Cone → Type 0
 IsSameCone a b = a.p *ℤ b.q ≡ b.p *ℤ a.q
 

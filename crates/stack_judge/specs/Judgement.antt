@@ -1,5 +1,6 @@
 -- The judgement of a survey: the certificate of the end of its written run at 128 bits, the place of the first number
--- that is too wide, or that the budget is spent. Before it comes that a question about live loads wants one.
+-- that is too wide, or that the budget is spent. That a question about live loads wants one is asked before,
+-- and is a case of `Judges` alone.
 use Rattle.std.specs.Prelude.{◌≡◌, ℕ, Option, Some, None, Result, Ok, Err, ⊤}
 use Rattle.stack_algebra.specs.Fraction.{Fraction}
 use Rattle.stack_rational.specs.Laws.{widest}

@@ -33,12 +33,15 @@ ranged spot key (Some x) = Ok x
 abbrev pub unless : Bool → ModelError → Result ⊤ ModelError
 unless holds fault = if holds then Ok tt else Err fault
 
+-- no more are listed than the limit, or else there are too many of this kind
 abbrev pub at_most : ℕ → ℕ → What → Result ⊤ ModelError
 at_most limit count what = unless (nat_le count limit) (TooMany what)
 
+-- the names of materials, in their order
 abbrev pub material_names : List NamedMaterial → List (List ℕ)
 material_names ms = map (λ m. m.name) ms
 
+-- the names of bodies, in their order
 abbrev pub body_names : List NamedBody → List (List ℕ)
 body_names bs = map (λ b. b.name) bs
 
@@ -122,6 +125,7 @@ bodies_of parts = do
   bodies ← steps (add_block materials) 0 [] parts.blocks
   Ok (materials, bodies)
 
+-- the structure of what is listed, or its first fault; each list is counted before its items are read
 unfoldable pub content_of : PartLists → Result Structure ModelError
 content_of parts = do
   both ← bodies_of parts

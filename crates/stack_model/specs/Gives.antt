@@ -3,6 +3,7 @@ use Rattle.std.specs.Prelude.{◌≡◌, Result, Ok, Err, ⊤}
 use Rattle.stack_model.specs.declared.errors.ModelError.{ModelError}
 use Rattle.stack_model.specs.declared.errors.ModelError.TheVariants.{Memory}
 
+-- a returned fault is the one that is defined, but for want of memory
 abbrev pub Fails : {Y : Type 0} → ModelError → Result Y ModelError → Type 0
 Fails Memory read = ⊤
 Fails fault read = read ≡ Err fault

@@ -33,9 +33,10 @@ inside_view m = record {
   loads = m.loads.items;
 }
 
--- an item without its name
+-- a material without its name
 abbrev pub material_alone : NamedMaterial → Material
 material_alone m = record { weight = m.weight; p = m.p; q = m.q }
 
+-- a body without its name and its outline
 abbrev pub body_alone : NamedBody → Body
 body_alone b = record { material = b.material; fixed = b.fixed }

@@ -10,12 +10,15 @@ use Rattle.stack_polygon.specs.Limits.{is_near}
 abbrev pub most_materials : ℕ
 most_materials = 64
 
+-- how many bodies, free and fixed together
 abbrev pub most_bodies : ℕ
 most_bodies = 192
 
+-- how many of them may be fixed
 abbrev pub most_fixed : ℕ
 most_fixed = 64
 
+-- how many loads, of both kinds together
 abbrev pub most_loads : ℕ
 most_loads = 256
 
@@ -29,11 +32,13 @@ is_name_byte b =
 abbrev pub is_name : List ℕ → Bool
 is_name bytes = nat_le 1 (length bytes) && nat_le (length bytes) 32 && list_all is_name_byte bytes
 
+-- the same as a fact
 pub record IsName (name : List ℕ) : Type 0 where
   pub least : 1 ≤ length name
   pub most : length name ≤ 32
   pub letters : list_all is_name_byte name ≡ true
 
+-- the number is from low to high, both included
 abbrev pub is_between : ℤ → ℤ → ℤ → Bool
 is_between low high z = int_le low z && int_le z high
 
@@ -53,6 +58,7 @@ abbrev pub with_first : {A : Type 0} → Option A → Option (List A) → Option
 with_first None rest = None
 with_first (Some x) rest = option_map (λ xs. x ∷ xs) rest
 
+-- a point for each item, where every item is two coordinates in range
 abbrev pub points_of : List (List ℤ) → Option (List Point)
 points_of [] = Some []
 points_of (c ∷ cs) = with_first (point_of c) (points_of cs)

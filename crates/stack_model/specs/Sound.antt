@@ -15,9 +15,11 @@ AreDifferent names = (i j : ℕ) → i < j → j < length names → ¬ (get_or n
 abbrev pub fixed_among : List NamedBody → ℕ
 fixed_among bs = count_by (λ b. b.fixed) bs
 
+-- how many of them are free
 abbrev pub free_among : List NamedBody → ℕ
 free_among bs = count_by (λ b. not b.fixed) bs
 
+-- items and their counts within limits, loads on blocks alone, different names, the same if listed again
 pub record IsSound (s : Structure) : Type 0 where
   pub materials : (i : ℕ) → i < length s.materials → IsWithinLimits (material_of s i)
   pub bodies : (i : ℕ) → i < length s.bodies → IsPlaced (length s.materials) (body_of s i)

@@ -22,11 +22,13 @@ pub record NamedBody : Type 0 where
   pub fixed : Bool
   pub corners : List Point
 
+-- the three lists, whose items are told by their places, from 0
 pub record Structure : Type 0 where
   pub materials : List NamedMaterial
   pub bodies : List NamedBody
   pub loads : List Load
 
+-- a structure of these lists
 abbrev pub structure_with : List NamedMaterial → List NamedBody → List Load → Structure
 structure_with ms bs ls = record { materials = ms; bodies = bs; loads = ls }
 
@@ -34,19 +36,23 @@ structure_with ms bs ls = record { materials = ms; bodies = bs; loads = ls }
 abbrev pub material_at : List NamedMaterial → ℕ → NamedMaterial
 material_at ms i = get_or ms i (record { name = []; weight = pos 0; p = pos 0; q = pos 1 })
 
+-- material i of a structure
 abbrev pub material_of : Structure → ℕ → NamedMaterial
 material_of s i = material_at s.materials i
 
+-- body i of a list; past the end stands a fixed one without corners
 abbrev pub body_at : List NamedBody → ℕ → NamedBody
 body_at bs i = get_or bs i (record { name = []; material = 0; fixed = true; corners = [] })
 
+-- body i of a structure
 abbrev pub body_of : Structure → ℕ → NamedBody
 body_of s i = body_at s.bodies i
 
+-- load i of a structure; past the end stands one without a force
 abbrev pub load_of : Structure → ℕ → Load
 load_of s i = get_or s.loads i (record { body = 0; live = false; at = origin; fx = pos 0; fy = pos 0 })
 
--- The limits of every model. a name of 1 to 32 letters, digits, `_` and `-`, weight from 0 to 1,000,000, p
+-- the limits of every material: a name of 1 to 32 letters, digits, `_` and `-`, weight from 0 to 1,000,000, p
 -- from 0 to 1,000, q from 1 to 1,000
 pub record IsWithinLimits (m : NamedMaterial) : Type 0 where
   pub named : IsName m.name

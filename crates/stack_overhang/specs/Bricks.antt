@@ -20,6 +20,7 @@ brick_of r j = record {
   top = r.bottom +ℤ r.high;
 }
 
+-- all bricks of a row, from its left
 abbrev pub bricks_in : Row → List Rectangle
 bricks_in r = listed r.count (brick_of r)
 

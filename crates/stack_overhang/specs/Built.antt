@@ -18,6 +18,7 @@ base_body name r = record { name = name; material = 0; fixed = true; corners = r
 abbrev pub brick_body : ℕ → Rectangle → NamedBody
 brick_body k r = record { name = brick_name k; material = 0; fixed = false; corners = rectangle_corners r }
 
+-- the first n of these bricks as bodies, each named by its place
 abbrev pub brick_bodies : List Rectangle → ℕ → List NamedBody
 brick_bodies bricks n = listed n (λ k. brick_body k (brick_at bricks k))
 
@@ -25,6 +26,7 @@ brick_bodies bricks n = listed n (λ k. brick_body k (brick_at bricks k))
 abbrev pub built_bodies : List ℕ → Rectangle → List Rectangle → List NamedBody
 built_bodies name base bricks = base_body name base ∷ brick_bodies bricks (length bricks)
 
+-- one material with friction p over q, a fixed base of this name, bricks and loads
 abbrev pub built : ℤ → ℤ → List ℕ → Rectangle → List Rectangle → List Load → Structure
 built p q name base bricks loads = record {
   materials = brick_material p q ∷ [];

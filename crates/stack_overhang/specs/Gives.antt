@@ -4,6 +4,7 @@ use Rattle.stack_model.specs.Structure.{Structure}
 use Rattle.stack_overhang.specs.declared.error.StackError.{StackError}
 use Rattle.stack_overhang.specs.declared.error.StackError.TheVariants.{Size, Memory}
 
+-- a size from least to most, both included
 abbrev pub is_size : ℕ → ℕ → ℕ → Bool
 is_size least most n = nat_le least n && nat_le n most
 

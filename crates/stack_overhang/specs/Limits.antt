@@ -21,6 +21,7 @@ is_row r =
     && ((is_near r.left && is_near (r.left +ℤ r.long *ℤ pos r.count))
     && (is_near r.bottom && is_near (r.bottom +ℤ r.high)))
 
+-- and so for each of these rows
 abbrev pub are_rows : List Row → Bool
 are_rows rows = list_all is_row rows
 

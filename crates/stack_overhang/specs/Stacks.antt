@@ -15,7 +15,7 @@ abbrev pub stack_on : Rectangle → List Row → Structure
 stack_on table rows = built (pos 0) (pos 1) (codes "table") table (bricks_of rows) []
 
 -- Of a harmonic stack of n bricks, the right end of brick i, from 1 at the bottom: the sum of 2520/k for k from n down
--- to n - i + 1
+-- to n - i + 1, each whole up to 10 bricks
 abbrev pub reach_of : ℕ → ℕ → ℤ
 reach_of n i = sum_to i (λ j. pos (2520 / (n - j)))
 
@@ -29,12 +29,15 @@ harmonic_row n i = record {
   high = pos 1000;
 }
 
+-- bricks 1 to n, from the bottom, each a row by itself
 abbrev pub harmonic_rows : ℕ → List Row
 harmonic_rows n = listed n (λ k. harmonic_row n (k + 1))
 
+-- the table of such bricks: twice as long as one and as high, with its upper right corner at (0, 0)
 abbrev pub long_table : Rectangle
 long_table = record { left = negsuc 10079; bottom = negsuc 999; right = pos 0; top = pos 0 }
 
+-- n such bricks on that table
 abbrev pub harmonic_of : ℕ → Structure
 harmonic_of n = stack_on long_table (harmonic_rows n)
 
@@ -52,6 +55,7 @@ centred i c = record {
 abbrev pub brick_rows : List ℕ → List Row
 brick_rows counts = listed (length counts) (λ k. centred (k + 1) (get_or counts k 0))
 
+-- the table of such rows: 20 long and 1 high, with its upper right corner at (0, 0)
 abbrev pub short_table : Rectangle
 short_table = record { left = negsuc 19; bottom = negsuc 0; right = pos 0; top = pos 0 }
 
@@ -59,6 +63,7 @@ short_table = record { left = negsuc 19; bottom = negsuc 0; right = pos 0; top =
 abbrev pub triangle_counts : ℕ → List ℕ
 triangle_counts m = listed m (λ k. k + 1)
 
+-- such a triangle of m rows on the short table
 abbrev pub triangle_stack : ℕ → Structure
 triangle_stack m = stack_on short_table (brick_rows (triangle_counts m))
 
@@ -70,5 +75,6 @@ layer_of r = listed (2 * r - 3) (λ t. r - t % 2)
 abbrev pub slab_counts : ℕ → List ℕ
 slab_counts d = 1 ∷ flat_map layer_of (listed (d - 1) (λ k. k + 2))
 
+-- such a slab, whose widest rows have d bricks, on the short table
 abbrev pub slab_of : ℕ → Structure
 slab_of d = stack_on short_table (brick_rows (slab_counts d))

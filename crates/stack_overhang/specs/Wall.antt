@@ -34,6 +34,7 @@ course_of w i = record {
   high = pos 10;
 }
 
+-- all courses of a wall, from the bottom
 abbrev pub courses_of : Wall → List Row
 courses_of w = listed w.courses (λ k. course_of w (k + 1))
 
@@ -41,6 +42,7 @@ courses_of w = listed w.courses (λ k. course_of w (k + 1))
 abbrev pub top_brick : Wall → Rectangle
 top_brick w = brick_of (course_of w w.courses) 0
 
+-- the number of that brick: how many bricks the courses below it have
 abbrev pub top_number : Wall → ℕ
 top_number w = (w.courses - 1) * w.bricks
 
@@ -54,12 +56,15 @@ push_on w = record {
   fy = pos 0;
 }
 
+-- the ground, 2,000 long and 10 deep, whose top is at height 0
 abbrev pub ground_rectangle : Rectangle
 ground_rectangle = record { left = negsuc 999; bottom = negsuc 9; right = pos 1000; top = pos 0 }
 
+-- a wall on the ground, with as many tenths of friction as it says, and the push at its top
 abbrev pub wall_structure : Wall → Structure
 wall_structure w = built (pos w.tenths) (pos 10) (codes "ground") ground_rectangle (bricks_of (courses_of w))
     (push_on w ∷ [])
 
+-- wall number n on the ground
 abbrev pub wall_of : ℕ → Structure
 wall_of n = wall_structure (wall_by n)

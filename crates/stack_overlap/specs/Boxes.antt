@@ -21,5 +21,6 @@ AreDisjoint a b = (X : Triple) → ¬ (IsInSpan a X × IsInSpan b X)
 abbrev pub HaveNoX : Span → Span → Type 0
 HaveNoX a b = int_min a.x1 b.x1 ≺ int_max a.x0 b.x0
 
+-- no y lies within both
 abbrev pub HaveNoY : Span → Span → Type 0
 HaveNoY a b = int_min a.y1 b.y1 ≺ int_max a.y0 b.y0

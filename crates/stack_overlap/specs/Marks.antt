@@ -65,11 +65,12 @@ pub record IsClipped (a b : Point) (r s : Reach) : Type 0 where
   pub from : IsMarked a b s.low
   pub to : IsMarked a b s.high
 
--- the same common points, for the two in the other order
+-- the other one of two polygons
 abbrev pub other_one : Which → Which
 other_one First = Second
 other_one Second = First
 
+-- what two polygons have in common, as it is told when the second one comes first
 abbrev pub swapped : Common → Common
 swapped Nothing = Nothing
 swapped (Corner c) = Corner c

@@ -44,5 +44,6 @@ abbrev pub IsFirstOf : List Point → List Point → Which → ℕ → Type 0
 IsFirstOf P Q First i = IsFirstSeparating P i Q
 IsFirstOf P Q Second i = NoneSeparates P Q × IsFirstSeparating Q i P
 
+-- the edge is the first that separates the two, in that order
 abbrev pub IsSeparator : List Point → List Point → Edge → Type 0
 IsSeparator P Q e = IsFirstOf P Q e.which e.index

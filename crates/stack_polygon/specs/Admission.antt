@@ -46,13 +46,16 @@ IsRefusedAs ps (NotConvex e) =
 abbrev pub is_count : ℕ → Bool
 is_count n = nat_le 3 n && nat_le n 32
 
+-- the first corner that is out of range, where there is one
 abbrev pub first_far_of : List Point → ℕ
 first_far_of ps = first_failing (λ i. is_in_range (corner_of ps i)) (length ps)
 
+-- the outline, or the refusal that tells the edge
 abbrev pub with_edge : Result (List Point) ℕ → Result (List Point) PolygonError
 with_edge (Ok qs) = Ok qs
 with_edge (Err e) = Err (NotConvex e)
 
+-- the outline of a list of corners, or its first refusal: by their number, by a range, by an edge
 abbrev pub polygon_of : List Point → Result (List Point) PolygonError
 polygon_of ps =
     if is_count (length ps) then (if are_in_range ps then with_edge (outline_of ps) else Err (Range (first_far_of ps)))

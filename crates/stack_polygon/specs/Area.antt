@@ -12,6 +12,7 @@ use Rattle.stack_polygon.specs.Corners.{corner_of}
 abbrev pub fan_of : (Point → Point → Point → ℤ) → List Point → ℤ
 fan_of g ps = sum_to (length ps - 2) (λ i. g (corner_of ps 0) (corner_of ps (i + 1)) (corner_of ps (i + 2)))
 
+-- twice the area of a polygon whose corners are listed counter-clockwise
 abbrev pub twice_area_of : List Point → ℤ
 twice_area_of ps = fan_of triangle_of ps
 

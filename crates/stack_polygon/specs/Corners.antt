@@ -12,6 +12,7 @@ use Rattle.stack_algebra.specs.Search.{next_round}
 use Rattle.stack_polygon.specs.declared.point.Point.{Point}
 use Rattle.stack_polygon.specs.Plane.{Triple, triangle_of, left_of}
 
+-- the point (0, 0), which also stands past the end of a list
 abbrev pub origin : Point
 origin = record { x = pos 0; y = pos 0 }
 

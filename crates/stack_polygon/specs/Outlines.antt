@@ -24,14 +24,16 @@ all_below p (suc n) = all_below p n && p n
 abbrev pub is_clear : List Point → ℕ → Bool
 is_clear ps i = all_below (is_left_or_end ps i) (length ps)
 
+-- and so for each edge: the list is strictly convex
 abbrev pub is_convex : List Point → Bool
 is_convex ps = all_below (is_clear ps) (length ps)
 
--- the first number below n that doesn't pass
+-- the first number below n that doesn't pass; it says nothing where all pass
 abbrev pub first_failing : (ℕ → Bool) → ℕ → ℕ
 first_failing p zero = zero
 first_failing p (suc n) = if all_below p n then n else first_failing p n
 
+-- the list or its reversal, whichever is strictly convex, or else the list's first edge that isn't clear
 abbrev pub outline_of : List Point → Result (List Point) ℕ
 outline_of ps =
     if is_convex ps then Ok ps

@@ -32,8 +32,10 @@ pub record IsLeastMultiple (xs : List Fraction) (n : ℕ) : Type 0 where
   pub common : AllByRecursion (λ x. x.den ∣ n) xs
   pub least : (m : ℕ) → AllByRecursion (λ x. x.den ∣ m) xs → n ∣ m
 
+-- a number times a scale that its denominator divides is that whole number
 abbrev pub TimesScaleIsWhole : Type 0
 TimesScaleIsWhole = (S : ℕ) (x : Fraction) → x.den ∣ S → mul (of (pos S)) x ≡ of (times_scale S x)
 
+-- the scale of a list is the least common multiple of its denominators
 abbrev pub ScaleIsLeastMultiple : Type 0
 ScaleIsLeastMultiple = (xs : List Fraction) → IsLeastMultiple xs (scale_of xs)

@@ -30,6 +30,7 @@ pub record MadeAgain (x : Fraction) : Type 0 where
   pub quotient : is_too_wide widest Quotient (of x.num) (of (pos x.den)) ≡ false
   pub value : op_value Quotient (of x.num) (of (pos x.den)) ≡ x
 
+-- each number that fits a greatest value of at most 2^127 - 1 is made again so
 abbrev pub PartsMakeTheNumber : Type 0
 PartsMakeTheNumber = (m : ℤ) (x : Fraction) → unsigned_abs m ≤ greatest_number → fraction_fits m x ≡ true → MadeAgain x
 
@@ -38,7 +39,7 @@ abbrev pub AnswersFit : Type 0
 AnswersFit = (m : ℤ) (op : Op) (x y : Fraction) → fraction_fits m x ≡ true → is_too_wide m op x y ≡ false →
     fraction_fits m (op_value op x y) ≡ true
 
--- a whole number that isn't too wide fits, and 0, 1 and -1 are too wide for no width; nor does what is 0, or less 0
+-- a whole number that isn't too wide fits, and 0, 1 and -1 are too wide for no width; nor is what is 0, or less 0
 pub record SmallIsNeverTooWide (m : ℤ) : Type 0 where
   pub whole_fits : (n : ℤ) → is_too_wide m Whole (of n) (of n) ≡ false → fraction_fits m (of n) ≡ true
   pub small : (n : ℤ) → unsigned_abs n ≤ 1 → is_too_wide m Whole (of n) (of n) ≡ false
@@ -48,6 +49,7 @@ pub record SmallIsNeverTooWide (m : ℤ) : Type 0 where
   pub quotient : (x y : Fraction) → is_zero x ≡ true →
       (op_value Quotient x y ≡ x) × (is_too_wide m Quotient x y ≡ false)
 
+-- so it is for each greatest value from 1 to 2^127 - 1
 abbrev pub SmallFits : Type 0
 SmallFits = (m : ℤ) → IsWidth m → SmallIsNeverTooWide m
 

@@ -8,6 +8,7 @@ use Rattle.stack_algebra.specs.Fraction.{Fraction}
 abbrev pub order_of : Fraction → Fraction → Ordering
 order_of x y = int_cmp (x.num *ℤ pos y.den) (y.num *ℤ pos x.den)
 
+-- a whole number is 0
 abbrev pub is_zero_whole : ℤ → Bool
 is_zero_whole (pos zero) = true
 is_zero_whole (pos (suc n)) = false

@@ -13,6 +13,7 @@ use Rattle.stack_algebra.specs.Fraction.{Fraction}
 abbrev pub Within : ℤ → ℤ → Type 0
 Within m z = nat_abs z ≤ nat_abs m
 
+-- neither the numerator nor the denominator is more than m in size
 pub record Fits (m : ℤ) (x : Fraction) : Type 0 where
   pub num : nat_abs x.num ≤ nat_abs m
   pub den : x.den ≤ nat_abs m
@@ -29,6 +30,7 @@ pub record IsHeld {T : Type 0} (m : ℤ) (value : T → ℤ) (back : ℤ → T) 
   pub num_back : back (value num) ≡ num
   pub den_back : back (value den) ≡ den
 
+-- what is stored is held, where each value within m comes back from its integer
 pub is_held : {T : Type 0} (m : ℤ) (value : T → ℤ) (back : ℤ → T) (num den : T) →
     ((x : T) → nat_abs (value x) ≤ nat_abs m → back (value x) ≡ x) → IsStored m (value num) (value den) →
     IsHeld m value back num den

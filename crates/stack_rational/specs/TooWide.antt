@@ -1,6 +1,7 @@
 -- When an operation on exact numbers is too wide for a greatest value, and what it answers: one test and one value for
 -- each operation.
--- Nothing of the way that the code takes is said here. Used by every layer that computes with exact numbers.
+-- Of a sum and a difference the numbers over the least common denominator are tested too, before it is reduced.
+-- Nothing else of the way that the code takes is said here. Used by every layer that computes with exact numbers.
 use Rattle.std.specs.Prelude.{ℤ, pos, ◌/◌, ◌≤ℤ◌, ◌+ℤ◌, ◌*ℤ◌, Bool, not, ◌&&◌, nat_le, unsigned_abs}
 use Rattle.stack_whole.specs.Whole.{greatest_number}
 use Rattle.stack_algebra.specs.Gcd.{gcd}
@@ -27,19 +28,21 @@ fraction_fits m x = is_within m x.num && nat_le x.den (unsigned_abs m)
 abbrev pub common_denominator : Fraction → Fraction → ℤ
 common_denominator x y = pos (x.den / gcd x.den y.den) *ℤ pos y.den
 
+-- the numerator of x over that denominator
 abbrev pub left_term : Fraction → Fraction → ℤ
 left_term x y = x.num *ℤ pos (y.den / gcd x.den y.den)
 
+-- the numerator of y over that denominator
 abbrev pub right_term : Fraction → Fraction → ℤ
 right_term x y = y.num *ℤ pos (x.den / gcd x.den y.den)
 
--- none of these is too wide, nor does the sum before it is reduced
+-- none of these is too wide, nor is the sum before it is reduced
 abbrev pub sum_fits : ℤ → Fraction → Fraction → Bool
 sum_fits m x y =
     is_within m (common_denominator x y) && is_within m (left_term x y) && is_within m (right_term x y)
     && is_within m (left_term x y +ℤ right_term x y)
 
--- an operation is too wide for m. Of a whole number only x counts
+-- an operation is too wide for m. Of a whole number x counts alone, which is whole
 abbrev pub is_too_wide : ℤ → Op → Fraction → Fraction → Bool
 is_too_wide m Whole x y = not (is_within m x.num)
 is_too_wide m Sum x y = not (sum_fits m x y)

@@ -20,6 +20,7 @@ wholes_of_items no_items = Some []
 wholes_of_items (item (integer z) rest) = option_map (λ zs. z ∷ zs) (wholes_of_items rest)
 wholes_of_items (item _ rest) = None
 
+-- the numbers of a value that is such an array
 abbrev pub wholes_of : Data → Option (List ℤ)
 wholes_of (array items) = wholes_of_items items
 wholes_of _ = None
@@ -29,6 +30,7 @@ abbrev pub lists_of_items : Items → Option (List (List ℤ))
 lists_of_items no_items = Some []
 lists_of_items (item d rest) = with_first (wholes_of d) (lists_of_items rest)
 
+-- the lists of a value that is such an array
 abbrev pub lists_of : Data → Option (List (List ℤ))
 lists_of (array items) = lists_of_items items
 lists_of _ = None
@@ -39,6 +41,7 @@ are_tables no_items = true
 are_tables (item (table ms) rest) = are_tables rest
 are_tables (item _ rest) = false
 
+-- the items of a value that is such an array
 abbrev pub tables_of : Data → Option Items
 tables_of (array items) = if are_tables items then Some items else None
 tables_of _ = None
@@ -49,6 +52,7 @@ has_only known no_members = true
 has_only known (member word d rest) =
     if list_any (λ key. bytes_eq (word_of key) word) known then has_only known rest else false
 
+-- no other key stands, or else that is the fault
 abbrev pub known_only : Spot → List Key → Members → Result ⊤ ReadError
 known_only spot known ms = if has_only known ms then Ok tt else Err (UnknownKey spot)
 
@@ -62,6 +66,7 @@ abbrev pub in_form : {A : Type 0} → Spot → Key → Option A → Result A Rea
 in_form spot key None = Err (Kind spot key)
 in_form spot key (Some x) = Ok x
 
+-- the value at a key that must stand, in its form, or the fault that it's missing or has another form
 unfoldable pub field : {A : Type 0} → (Data → Option A) → Spot → Key → Members → Result A ReadError
 field form spot key ms = do
   d ← required spot key (get_member (word_of key) ms)

@@ -5,6 +5,7 @@ use Rattle.stack_model.specs.declared.errors.ModelError.TheVariants as faults
 use Rattle.stack_reader.specs.declared.errors.ReadError.{ReadError}
 use Rattle.stack_reader.specs.declared.errors.ReadError.TheVariants.{Model, Memory}
 
+-- a returned fault is the one that is defined, but for want of memory, which no fault of content is
 abbrev pub FailsRead : {Y : Type 0} → ReadError → Result Y ReadError → Type 0
 FailsRead Memory read = ⊤
 FailsRead (Model e) read = (read ≡ Err (Model e)) × (e ≢ faults.Memory)

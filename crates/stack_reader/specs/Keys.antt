@@ -22,11 +22,14 @@ word_of Load = codes "load"
 abbrev pub top_keys : List Key
 top_keys = Material ∷ Block ∷ Load ∷ []
 
+-- those of a material, which must all stand
 abbrev pub material_keys : List Key
 material_keys = Name ∷ Weight ∷ Friction ∷ []
 
+-- those of a block, of which `fixed` alone may be missing
 abbrev pub block_keys : List Key
 block_keys = Name ∷ Material ∷ Fixed ∷ Corners ∷ []
 
+-- those of a load, which must all stand
 abbrev pub load_keys : List Key
 load_keys = Block ∷ Kind ∷ At ∷ Force ∷ []

@@ -18,6 +18,7 @@ abbrev pub parsed : Option Members → Result Members ReadError
 parsed None = Err NotToml
 parsed (Some ms) = Ok ms
 
+-- the table that a file's bytes write; bytes that aren't UTF-8 write none
 unfoldable pub document_table : List ℕ → Result Members ReadError
 document_table bytes = if is_utf8 bytes then parsed (parse_document bytes) else Err NotToml
 
@@ -26,6 +27,7 @@ abbrev pub from_content : ModelError → ReadError
 from_content faults.Memory = Memory
 from_content e = Model e
 
+-- the structure, or its fault of content as one of a file
 abbrev pub within_file : Result Structure ModelError → Result Structure ReadError
 within_file (Ok s) = Ok s
 within_file (Err e) = Err (from_content e)

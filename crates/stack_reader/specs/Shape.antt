@@ -18,6 +18,7 @@ abbrev pub list_at : Key → Option Data → Result Items ReadError
 list_at key None = Ok no_items
 list_at key (Some d) = in_form spots.Top key (tables_of d)
 
+-- what the table of material i says, or its first fault of shape
 unfoldable pub material_part : ℕ → Members → Result MaterialPart ReadError
 material_part i ms = do
   known ← known_only (spots.Material i) material_keys ms
@@ -26,6 +27,7 @@ material_part i ms = do
   friction ← field wholes_of (spots.Material i) keys.Friction ms
   Ok (record { name = name; weight = weight; friction = friction })
 
+-- what the table of block i says, or its first fault of shape; without the key `fixed` it isn't fixed
 unfoldable pub block_part : ℕ → Members → Result BlockPart ReadError
 block_part i ms = do
   known ← known_only (spots.Block i) block_keys ms
@@ -35,6 +37,7 @@ block_part i ms = do
   corners ← field lists_of (spots.Block i) keys.Corners ms
   Ok (record { name = name; material = material; fixed = fixed; corners = corners })
 
+-- what the table of load i says, or its first fault of shape
 unfoldable pub load_part : ℕ → Members → Result LoadPart ReadError
 load_part i ms = do
   known ← known_only (spots.Load i) load_keys ms
@@ -58,6 +61,7 @@ each_of part i (item d rest) = do
   others ← each_of part (i + 1) rest
   Ok (first ∷ others)
 
+-- what the whole table lists, or its first fault of shape
 unfoldable pub parts_of_document : Members → Result PartLists ReadError
 parts_of_document ms = do
   known ← known_only spots.Top top_keys ms

@@ -53,6 +53,7 @@ pub data Count : Type 0 where
   Single : Count
   Many : Count
 
+-- none where high is less than low, one where they are the same, and else many
 abbrev pub count_of : Range → Count
 count_of a = if int_lt a.high a.low then Empty else (if int_lt a.low a.high then Many else Single)
 
@@ -71,6 +72,7 @@ upright_frame a b =
 abbrev pub least_corner : Range → Range → Point
 least_corner x y = record { x = x.low; y = y.low }
 
+-- the one with the greatest x and y
 abbrev pub greatest : Range → Range → Point
 greatest x y = record { x = x.high; y = y.high }
 
@@ -90,6 +92,7 @@ contacts_of a b =
     let y = common_of a.y b.y in
     contacts_in (count_of x) (count_of y) (least_corner x y) (greatest x y) a b
 
+-- the same for the rectangles of two lists of corners, the earlier one first
 abbrev pub contacts_by_ranges : List Point → List Point → Option Contacts
 contacts_by_ranges ps qs = contacts_of (extent_of ps) (extent_of qs)
 
@@ -100,10 +103,12 @@ abbrev pub RangesTellOverlaps : Type 0
 RangesTellOverlaps = (ps qs : List Point) → IsRectangle ps → IsRectangle qs
     → MatchOption (contacts_by_ranges ps qs) (Overlaps ps qs) (λ c. ¬ (Overlaps ps qs))
 
+-- where the ranges tell an overlap no edge separates the two, and else some edge does
 abbrev pub RangesTellSeparation : Type 0
 RangesTellSeparation = (ps qs : List Point) → IsRectangle ps → IsRectangle qs
     → MatchOption (contacts_by_ranges ps qs) (¬ (AreSeparated ps qs)) (λ c. AreSeparated ps qs)
 
+-- where they tell none, the contacts that they tell are exactly those of the two as polygons
 abbrev pub RangesTellContacts : Type 0
 RangesTellContacts = (ps qs : List Point) → IsRectangle ps → IsRectangle qs
     → IfSome (contacts_by_ranges ps qs) (λ c. AreContacts ps qs c)

@@ -8,6 +8,7 @@ use Rattle.stack_contact.specs.declared.types.Bearing.{Bearing}
 use Rattle.stack_contact.specs.declared.types.Touch.{Touch}
 use Rattle.stack_contact.specs.Surveyed.{Surveyed}
 
+-- the name of body i
 abbrev pub name_of : Structure → ℕ → List ℕ
 name_of s i = (body_of s i).name
 
@@ -15,13 +16,15 @@ name_of s i = (body_of s i).name
 unfoldable pub pair_text : ℤ → ℤ → List ℕ
 pair_text a b = signed_decimal a ++ codes " " ++ signed_decimal b
 
+-- the coordinates of a point
 abbrev pub point_text : Point → List ℕ
 point_text a = pair_text a.x a.y
 
--- the numbers of a bearing: its point, its tangent, and its coefficient of friction
+-- the tangent of a bearing, and its coefficient of friction
 unfoldable pub directions_text : Bearing → List ℕ
 directions_text z = pair_text z.frame.tx z.frame.ty ++ codes " " ++ pair_text z.cone.p z.cone.q
 
+-- the point of a bearing, and then its tangent and its coefficient of friction
 unfoldable pub bearing_numbers : Bearing → List ℕ
 bearing_numbers z = point_text z.at ++ codes " " ++ directions_text z
 
@@ -39,6 +42,7 @@ touch_text k first second z =
 abbrev pub bearing_line : Structure → ℕ → Bearing → List ℕ
 bearing_line s k z = bearing_text k (name_of s z.first) (name_of s z.second) z ++ 10 ∷ []
 
+-- the line of touch number k, with the names of its two bodies
 abbrev pub touch_line : Structure → ℕ → Touch → List ℕ
 touch_line s k z = touch_text k (name_of s z.first) (name_of s z.second) z ++ 10 ∷ []
 
@@ -51,12 +55,15 @@ lines_from line k (z ∷ zs) = line k z ++ lines_from line (k + 1) zs
 abbrev pub count_line : List ℕ → ℕ → List ℕ
 count_line word n = word ++ codes " " ++ decimal n ++ 10 ∷ []
 
+-- how many bearings there are, and then the line of each
 abbrev pub bearings_part : Surveyed → List ℕ
 bearings_part s = count_line (codes "bearings") (length s.bearings) ++ lines_from
     (bearing_line s.structure) 0 s.bearings
 
+-- how many touches there are, and then the line of each
 abbrev pub touches_part : Surveyed → List ℕ
 touches_part s = count_line (codes "touches") (length s.touches) ++ lines_from (touch_line s.structure) 0 s.touches
 
+-- the whole table: bearings first, and then touches
 unfoldable pub contacts_text : Surveyed → List ℕ
 contacts_text s = bearings_part s ++ touches_part s

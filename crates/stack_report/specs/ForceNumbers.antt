@@ -21,9 +21,11 @@ use Rattle.stack_report.specs.declared.force.RealForce.{RealForce}
 abbrev pub x_fits : Frame → (a b : ℤ) → Bool
 x_fits t a b = fits (b *ℤ t.tx) && (fits (a *ℤ t.ty) && fits (b *ℤ t.tx -ℤ a *ℤ t.ty))
 
+-- a*tx, b*ty and their sum aren't too wide
 abbrev pub y_fits : Frame → (a b : ℤ) → Bool
 y_fits t a b = fits (a *ℤ t.tx) && (fits (b *ℤ t.ty) && fits (a *ℤ t.tx +ℤ b *ℤ t.ty))
 
+-- none of a force's six numbers is too wide
 abbrev pub force_fits : Bearing → Push → Bool
 force_fits z f = x_fits z.frame f.a.value f.b.value && y_fits z.frame f.a.value f.b.value
 
@@ -55,12 +57,14 @@ written_x t f = do
   across ← made (f.a.value *ℤ t.ty)
   made (along.value -ℤ across.value)
 
+-- a*tx, then b*ty, and then their sum; the first of them that is too wide ends it
 unfoldable pub written_y : Frame → Push → Result Whole Wide
 written_y t f = do
   across ← made (f.a.value *ℤ t.tx)
   along ← made (f.b.value *ℤ t.ty)
   made (across.value +ℤ along.value)
 
+-- the force along x and then that along y, where no number on the way is too wide
 unfoldable pub written_real_force : Bearing → Push → Result RealForce Wide
 written_real_force z f = do
   x ← written_x z.frame f

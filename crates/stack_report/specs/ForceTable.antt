@@ -22,6 +22,7 @@ use Rattle.stack_report.specs.ContactTable.{name_of, lines_from}
 abbrev pub lowest_ratio : (n d : ℤ) → Ratio
 lowest_ratio n d = record { num = (over n d).num; den = pos (over n d).den }
 
+-- the numerator, a slash and the denominator
 unfoldable pub ratio_text : Ratio → List ℕ
 ratio_text r = signed_decimal r.num ++ codes "/" ++ signed_decimal r.den
 
@@ -37,9 +38,11 @@ force_text k x y = codes "force " ++ decimal (k + 1) ++ codes " " ++ ratio_text 
 abbrev pub exerted_x : Bearing → Push → (d : ℤ) → Ratio
 exerted_x z f d = lowest_ratio (force_x_of (scene_bearing_of z) (record { a = f.a.value; b = f.b.value })) d
 
+-- the same upwards
 abbrev pub exerted_y : Bearing → Push → (d : ℤ) → Ratio
 exerted_y z f d = lowest_ratio (force_y_of (scene_bearing_of z) (record { a = f.a.value; b = f.b.value })) d
 
+-- the line of bearing number k, with its force in both directions
 abbrev pub force_line : (d : ℤ) → ℕ → Bearing → Push → List ℕ
 force_line d k z f = force_text k (exerted_x z f d) (exerted_y z f d) ++ 10 ∷ []
 
@@ -60,6 +63,7 @@ move_text name m = codes "move " ++ name ++ codes " " ++ signed_decimal m.0 ++ c
 abbrev pub body_move_line : Structure → MotionValue → (b i : ℕ) → List ℕ
 body_move_line s y b i = move_text (name_of s i) (get_or y b (pos 0, pos 0, pos 0)) ++ 10 ∷ []
 
+-- the moves of all free blocks, in their order
 abbrev pub moves_part : Surveyed → MotionValue → List ℕ
 moves_part s y = lines_from (body_move_line s.structure y) 0 (frees_of s.structure.bodies)
 
@@ -67,9 +71,11 @@ moves_part s y = lines_from (body_move_line s.structure y) 0 (frees_of s.structu
 abbrev pub carried_part : Surveyed → ForcesValue → List ℕ
 carried_part s f = factor_line f ++ forces_part s f.scale f.parts
 
+-- the line `ray`, and then the further forces, which are over their factor
 abbrev pub rising_part : Surveyed → ForcesValue → List ℕ
 rising_part s r = codes "ray\n" ++ forces_part s r.factor r.parts
 
+-- the whole table: the word of the form first, and then what the certificate has
 abbrev pub forces_text : Surveyed → CertificateValue → List ℕ
 forces_text s (stands f) = codes "stands\n" ++ carried_part s f
 forces_text s (collapses y) = codes "collapses\n" ++ moves_part s y

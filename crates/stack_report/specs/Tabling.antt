@@ -47,13 +47,16 @@ pub record IsCarrying (s : Surveyed) (f : ForcesValue) : Type 0 where
   pub scale : pos 0 ≺ f.scale
   pub factor : pos 0 ≼ f.factor
 
+-- further ones: a part for each bearing, over a factor above 0
 pub record IsRising (s : Surveyed) (r : ForcesValue) : Type 0 where
   pub count : HasParts s r.parts
   pub factor : pos 0 ≺ r.factor
 
+-- a move for each free block
 abbrev pub HasMoves : Surveyed → MotionValue → Type 0
 HasMoves s y = length y ≡ length (frees_of s.structure.bodies)
 
+-- each list has all its items, forces are over a number above 0, and the factor carried isn't negative
 abbrev pub IsWhole : Surveyed → CertificateValue → Type 0
 IsWhole s (stands f) = IsCarrying s f
 IsWhole s (collapses y) = HasMoves s y

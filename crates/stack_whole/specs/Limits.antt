@@ -13,5 +13,6 @@ most_free = 128
 abbrev pub load_bound : ℕ
 load_bound = 2 ^ 90
 
+-- a number is less than 2^90 in size
 abbrev pub IsBelowBound : ℤ → Type 0
 IsBelowBound z = nat_abs z < load_bound

@@ -13,6 +13,7 @@ greatest_number = 2 ^ 127 - 1
 abbrev pub IsFitting : ℤ → Type 0
 IsFitting z = nat_abs z < 2 ^ 127
 
+-- the same by a test
 abbrev pub fits : ℤ → Bool
 fits z = nat_lt (nat_abs z) (2 ^ 127)
 

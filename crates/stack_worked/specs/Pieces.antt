@@ -12,6 +12,7 @@ use Rattle.stack_equilibrium.specs.Certificates.{SceneForces}
 abbrev pub negative : ℕ → ℤ
 negative n = neg_ℤ (pos n)
 
+-- the point with these coordinates
 abbrev pub at_point : ℤ → ℤ → Point
 at_point x y = record { x = x; y = y }
 
@@ -33,6 +34,7 @@ body_with free corners live = record {
 abbrev pub fixed_body : List Point → SceneBody
 fixed_body corners = body_with false corners no_load
 
+-- a free body, with no live load
 abbrev pub free_body : List Point → SceneBody
 free_body corners = body_with true corners no_load
 
@@ -58,6 +60,7 @@ scene_of_lists bodies bearings = record {
   bearing = λ k. get_or bearings k (bearing_between 0 0 (at_point (pos 0) (pos 0)) (pos 0) (pos 0) (pos 0) (pos 0));
 }
 
+-- forces that carry factor over scale, with these parts
 abbrev pub forces_with : ℤ → ℤ → List BearingPart → SceneForces
 forces_with scale factor parts = record { scale = scale; factor = factor; parts = parts }
 
@@ -65,6 +68,7 @@ forces_with scale factor parts = record { scale = scale; factor = factor; parts 
 abbrev pub standing_forces : List BearingPart → SceneForces
 standing_forces parts = forces_with (pos 1) (pos 0) parts
 
+-- a along the normal of a bearing, and b along its tangent
 abbrev pub bearing_part : ℤ → ℤ → BearingPart
 bearing_part a b = record { a = a; b = b }
 
@@ -72,5 +76,6 @@ bearing_part a b = record { a = a; b = b }
 abbrev pub straight : ℤ → BearingPart
 straight a = bearing_part a (pos 0)
 
+-- the velocity (u, v) of a body's first corner, and its turning rate r, counter-clockwise
 abbrev pub move : ℤ → ℤ → ℤ → Move
 move u v r = record { u = u; v = v; r = r }

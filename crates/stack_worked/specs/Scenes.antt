@@ -13,6 +13,7 @@ use Rattle.stack_worked.specs.Pieces.{bearing_part, straight, move}
 abbrev pub ground_corners : List Point
 ground_corners = upright (negative 10) (pos 10) (negative 1) (pos 0)
 
+-- the post, from (0, 0) to (2, 4)
 abbrev pub post_corners : List Point
 post_corners = upright (pos 0) (pos 2) (pos 0) (pos 4)
 
@@ -27,12 +28,15 @@ post_scene p q live = scene_of_lists
 abbrev pub push : Wrench
 push = load_wrench (at_point (pos 0) (pos 0)) (at_point (pos 0) (pos 4)) (pos 1) (pos 0)
 
+-- no load but its weight, and friction 1 over 1
 abbrev pub standing_post : Scene
 standing_post = post_scene (pos 1) (pos 1) no_load
 
+-- with the push, and friction 1 over 1
 abbrev pub pushed_post : Scene
 pushed_post = post_scene (pos 1) (pos 1) push
 
+-- with the push, and friction of a tenth
 abbrev pub sliding_post : Scene
 sliding_post = post_scene (pos 1) (pos 10) push
 
@@ -54,12 +58,15 @@ standing_parts = straight (pos 24) ∷ straight (pos 24) ∷ []
 abbrev pub tipping_parts : List BearingPart
 tipping_parts = straight (pos 0) ∷ bearing_part (pos 48) (negative 12) ∷ []
 
+-- the second part alone, though the post has two bearings
 abbrev pub tipping_parts_without_the_first : List BearingPart
 tipping_parts_without_the_first = bearing_part (pos 48) (negative 12) ∷ []
 
+-- two bearings that bear nothing
 abbrev pub two_idle_parts : List BearingPart
 two_idle_parts = straight (pos 0) ∷ straight (pos 0) ∷ []
 
+-- the post turns clockwise about its lower right corner
 abbrev pub tipping_move : List Move
 tipping_move = move (pos 0) (pos 2) (negative 1) ∷ []
 
@@ -77,9 +84,11 @@ slope_scene p q = scene_of_lists
     (bearing_between 0 1 (at_point (pos 4) (pos 3)) (pos 4) (pos 3) p q
     ∷ bearing_between 0 1 (at_point (pos 8) (pos 6)) (pos 4) (pos 3) p q ∷ [])
 
+-- with friction 3 over 4, which is as steep as the slope
 abbrev pub block_on_slope : Scene
 block_on_slope = slope_scene (pos 3) (pos 4)
 
+-- with friction 7 over 10, which is less
 abbrev pub block_on_slick_slope : Scene
 block_on_slick_slope = slope_scene (pos 7) (pos 10)
 
@@ -87,6 +96,7 @@ block_on_slick_slope = slope_scene (pos 7) (pos 10)
 abbrev pub slope_forces : SceneForces
 slope_forces = forces_with (pos 4) (pos 0) (bearing_part (pos 84) (pos 63) ∷ bearing_part (pos 12) (pos 9) ∷ [])
 
+-- down the slope, and off it by 7 tenths of that way, without turning
 abbrev pub slipping_move : List Move
 slipping_move = move (negative 61) (negative 2) (pos 0) ∷ []
 
@@ -109,16 +119,19 @@ keystone_scene p q = scene_of_lists
 abbrev pub smooth_keystone : Scene
 smooth_keystone = keystone_scene (pos 0) (pos 1)
 
+-- with friction 1 over 4, as the faces lean
 abbrev pub rough_keystone : Scene
 rough_keystone = keystone_scene (pos 1) (pos 4)
 
+-- with friction 3 over 10, which is more
 abbrev pub gripped_keystone : Scene
 gripped_keystone = keystone_scene (pos 3) (pos 10)
 
--- twelve times the lift is the keystone's weight, and then no joint bears anything
+-- no joint of the keystone bears anything
 abbrev pub four_idle_parts : List BearingPart
 four_idle_parts = straight (pos 0) ∷ straight (pos 0) ∷ straight (pos 0) ∷ straight (pos 0) ∷ []
 
+-- the lift alone carries the keystone, with the factor 12
 abbrev pub idle_keystone_forces : SceneForces
 idle_keystone_forces = forces_with (pos 1) (pos 12) four_idle_parts
 
@@ -127,6 +140,7 @@ abbrev pub grip : SceneForces
 grip = forces_with (pos 0) (pos 2)
     (bearing_part (pos 30) (pos 9) ∷ straight (pos 0) ∷ straight (pos 0) ∷ bearing_part (pos 30) (negative 9) ∷ [])
 
+-- the keystone rises straight up
 abbrev pub rising_move : List Move
 rising_move = move (pos 0) (pos 1) (pos 0) ∷ []
 
@@ -138,6 +152,7 @@ overhanging_scene live = scene_of_lists
     (bearing_between 0 1 (at_point (negative 1) (pos 0)) (pos 1) (pos 0) (pos 0) (pos 1)
     ∷ bearing_between 0 1 (at_point (pos 0) (pos 0)) (pos 1) (pos 0) (pos 0) (pos 1) ∷ [])
 
+-- with no load but its weight, whose middle is beyond the edge
 abbrev pub overhanging_block : Scene
 overhanging_block = overhanging_scene no_load
 

@@ -50,9 +50,11 @@ post_forces scale factor = record {
   parts = (pos 0, pos 0) ∷ (pos 48, negative 12) ∷ [];
 }
 
+-- the post turns clockwise about its lower right corner
 abbrev pub tipping_motion : MotionValue
 tipping_motion = (pos 0, pos 2, negative 1) ∷ []
 
+-- this factor is claimed as the greatest, by those forces at scale 1 and that motion
 abbrev pub tipping_certificate : ℤ → CertificateValue
 tipping_certificate factor = greatest (post_forces (pos 1) factor) tipping_motion
 

@@ -19,6 +19,7 @@ column_scene live = scene_of_lists
     ∷ bearing_between 1 2 (at_point (pos 0) (pos 1)) (pos 1) (pos 0) (pos 1) (pos 2)
     ∷ bearing_between 1 2 (at_point (pos 2) (pos 1)) (pos 1) (pos 0) (pos 1) (pos 2) ∷ [])
 
+-- the column with no load but the weights
 abbrev pub low_column : Scene
 low_column = column_scene no_load
 
@@ -40,6 +41,7 @@ pushed_column_forces = forces_with (pos 2) (pos 2)
 abbrev pub upper_slides : List Move
 upper_slides = move (pos 0) (pos 0) (pos 0) ∷ move (pos 2) (pos 1) (pos 0) ∷ []
 
+-- the lower block slides, rising by half of its way, and the upper one stays
 abbrev pub lower_slides : List Move
 lower_slides = move (pos 2) (pos 1) (pos 0) ∷ move (pos 0) (pos 0) (pos 0) ∷ []
 
@@ -55,9 +57,11 @@ bricks_scene d = scene_of_lists
     ∷ bearing_between 1 2 (at_point (d -ℤ pos 1260) (pos 1000)) (pos 1) (pos 0) (pos 0) (pos 1)
     ∷ bearing_between 1 2 (at_point (pos 1260) (pos 1000)) (pos 1) (pos 0) (pos 0) (pos 1) ∷ [])
 
+-- the upper brick ends three quarters of its length beyond the edge
 abbrev pub two_bricks : Scene
 two_bricks = bricks_scene (pos 0)
 
+-- the upper brick ends one unit further out than that
 abbrev pub two_shifted_bricks : Scene
 two_shifted_bricks = bricks_scene (pos 1)
 
@@ -72,5 +76,6 @@ abbrev pub tipping_bricks : ℤ → List Move
 tipping_bricks d =
     move (pos 0) (pos 3780) (negative 1) ∷ move (pos 1000) (pos 1260 -ℤ d) (negative 1) ∷ []
 
+-- where d is 1, each brick with the move of the other
 abbrev pub exchanged_bricks : List Move
 exchanged_bricks = move (pos 1000) (pos 1259) (negative 1) ∷ move (pos 0) (pos 3780) (negative 1) ∷ []
