@@ -133,11 +133,11 @@ reached : (holds : Holds) (form : Form) (names : List (List ℕ)) (result : Resu
 reached holds form names (Ok a) h = h
 reached holds form names (Err r) h = h
 
-record Reached (holds : Holds) (form : Option Form) (old new : ToldNames)
+pub record Reached (holds : Holds) (form : Option Form) (old new : ToldNames)
     (result : Result Answer CodeRefusal) : Type 0 where
-  names : List (List ℕ)
-  asks : GrewBy old new names
-  way : Reaches holds form names result
+  pub names : List (List ℕ)
+  pub asks : GrewBy old new names
+  pub way : Reaches holds form names result
 
 pub works_reach : (holds : Holds) (form : Option Form) (old new : ToldNames) (result : Result Answer CodeRefusal)
     → Works holds form old new result → Reached holds form old new result

@@ -67,8 +67,8 @@ pub record AreLoads (n : ℕ) (w : Wrench) : Type 0 where
   pub fy : IsWithin n 24000000000 w.fy
   pub m : IsWithin n 96000000000000000 w.m
 
--- at most the weight of a body of 32 corners: fewer than 31 triangles, and three times 1,000,000 for each of their areas,
--- which are at most 8 * 10^12 when doubled; the arms of a triangle's corners are at most 4,000,000 together
+-- at most the weight of a body of 32 corners: fewer than 31 triangles, and three times 1,000,000 for each of their
+-- areas, which are at most 8 * 10^12 when doubled; the arms of a triangle's corners are at most 4,000,000 together
 pub record IsWeight (w : Wrench) : Type 0 where
   pub fx : w.fx ≡ pos 0
   pub fy : IsWithin 31 24000000000000000000 w.fy

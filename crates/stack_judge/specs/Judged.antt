@@ -1,5 +1,5 @@
--- What a certificate that is given out is: true, of the question, of numbers that fit, in lists no longer than a survey's,
--- and accepted; and the dead loads
+-- What a certificate that is given out is: true, of the question, of numbers that fit, in lists no longer than a
+-- survey's, and accepted; and the dead loads
 -- stand exactly where it isn't a collapse.
 use Rattle.std.specs.Prelude.{◌≡◌}
 use Rattle.stack_contact.specs.Surveyed.{Surveyed}

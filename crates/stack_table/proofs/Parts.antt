@@ -14,7 +14,8 @@ use Rattle.stack_rational.specs.TooWide.{fraction_fits}
 use Rattle.stack_table.specs.Block.{item_value, mark_at, cell_of, IsBlock}
 use Rattle.stack_rational.specs.Order.{is_zero}
 use Rattle.stack_rational.proofs.Fitting.{is_zero-of}
-use Rattle.stack_table.proofs.BlockRows.{value_at-right, cell_above, last_own, last_kept, block_join, block_take, zero_fits}
+use Rattle.stack_table.proofs.BlockRows.{value_at-right, cell_above, last_own, last_kept, block_join, block_take}
+use Rattle.stack_table.proofs.BlockRows.{zero_fits}
 use Rattle.stack_table.proofs.BlockRows.{block_drop}
 
 -- the blocks of three parts, lent by two splits

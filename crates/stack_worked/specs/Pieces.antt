@@ -30,7 +30,7 @@ body_with free corners live = record {
   live = live;
 }
 
--- one that stays where it is, and one that doesn't and has no live load
+-- a body that stays where it is, with no live load
 abbrev pub fixed_body : List Point → SceneBody
 fixed_body corners = body_with false corners no_load
 
