@@ -6,10 +6,10 @@ ghost use Rattle.stack_cli.specs.CheckText.{block_name as name_of_block, rejecte
 ghost use Rattle.stack_cli.specs.Refusals.{place_view};
 ghost use Rattle.stack_cli.specs.Checking.{place_of};
 
-use crate::model_lines::number;
 use crate::refusal::{BlockSum, Place, part_text};
 use stack_checker::types::{CheckAt, Part, Reason};
 use stack_contact::types::Survey;
+use stack_report::number;
 use std::alloc::{AllocError, Global};
 
 /// What an answer says.

@@ -5,14 +5,8 @@ ghost use Rattle.stack_cli.specs.ModelLines.{spot_text, what_word, content_text,
 
 use stack_model::{ModelError, Spot, What};
 use stack_reader::{ReadError, word};
+use stack_report::number;
 use std::fmt;
-
-/// A number as users count, from 1.
-pub fn number(index: usize) -> u128
-    ensures { result ≡ index + 1 }
-{
-    index as u128 + 1
-}
 
 /// An item of the file, or its top.
 #[derive(Clone, Copy, Debug, PartialEq, Eq)]

@@ -8,13 +8,14 @@ ghost use Rattle.stack_cli.specs.Surveying.{from_read};
 ghost use Rattle.stack_cli.specs.Stacking.{built_fault};
 ghost use Rattle.stack_cli.specs.declared.refusal.Refusal.TheVariants.{Memory};
 
-use crate::model_lines::{FaultText, number};
+use crate::model_lines::FaultText;
 use stack_checker::types::Part;
 use stack_equilibrium::types::Axis;
 use stack_extract::{EndStep, ExtractPlace, Numbers};
 use stack_model::ModelError;
 use stack_overhang::StackError;
 use stack_reader::ReadError;
+use stack_report::number;
 use stack_simplex::RunPlace;
 use stack_table::types::Step;
 use std::alloc::AllocError;

@@ -6,7 +6,8 @@ use stack_model::{Key, ModelError, Spot};
 use std::test::*;
 
 const POST: &str = "[[material]]\nname = \"stone\"\nweight = 1\nfriction = [1, 2]\n\n\
-    [[block]]\nname = \"ground\"\nmaterial = \"stone\"\nfixed = true\ncorners = [[-10, -1], [10, -1], [10, 0], [-10, 0]]\n\n\
+    [[block]]\nname = \"ground\"\nmaterial = \"stone\"\nfixed = true\n\
+    corners = [[-10, -1], [10, -1], [10, 0], [-10, 0]]\n\n\
     [[block]]\nname = \"post\"\nmaterial = \"stone\"\ncorners = [[0, 0], [0, 4], [2, 4], [2, 0]]\n\n\
     [[load]]\nblock = \"post\"\nkind = \"live\"\nat = [0, 4]\nforce = [1, 0]\n";
 

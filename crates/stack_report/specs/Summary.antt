@@ -6,6 +6,7 @@ use Rattle.stack_contact.specs.Surveyed.{Surveyed}
 use Rattle.stack_contact.specs.FreeBlocks.{frees_of}
 use Rattle.stack_certificate.specs.Certificate.{CertificateValue, stands, collapses, greatest, unbounded}
 use Rattle.stack_report.specs.ForceTable.{factor_line}
+use Rattle.stack_report.specs.ContactTable.{count_line}
 
 -- the word of the certificate's form
 abbrev pub form_word : CertificateValue → List ℕ
@@ -25,10 +26,6 @@ greatest_line (unbounded f r) = []
 abbrev pub narrow_line : Bool → List ℕ
 narrow_line true = codes "narrow yes\n"
 narrow_line false = codes "narrow no\n"
-
--- the line of a count
-abbrev pub count_line : List ℕ → ℕ → List ℕ
-count_line word n = word ++ codes " " ++ decimal n ++ 10 ∷ []
 
 -- the number of the wall, and how many free blocks, bearings and touches there are
 abbrev pub counts_text : ℕ → Surveyed → List ℕ

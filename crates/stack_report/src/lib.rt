@@ -18,6 +18,7 @@ mod summary;
 pub use contacts::contact_table;
 pub use errors::ReportError;
 pub use forces::force_table;
+pub use lines::number;
 pub use summary::sample_summary;
 
 #[cfg(test)]

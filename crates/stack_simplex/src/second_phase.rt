@@ -48,8 +48,8 @@ fn drive_row<S: Exact>(t: &mut Table<S>, pivots: Pivots, row: usize) -> Result<P
     ensures shape { OnOk result (shape_of_table t.new ≡ shape_of_table t.old) }
     ensures flips { OnOk result (flips_of t.new ≡ flips_of t.old) }
     ensures answer { pivots_answer (table_of t.new) result
-        ≡ drive_row ordered_fractions (shape_of_table t.old) (is_too_wide S.MAX) pivots.left pivots.done (table_of t.old)
-        row }
+        ≡ drive_row ordered_fractions (shape_of_table t.old) (is_too_wide S.MAX) pivots.left pivots.done
+        (table_of t.old) row }
 {
     if t.basic(row) < plain_columns(t) {
         return Ok(pivots);
