@@ -8,8 +8,9 @@
 Nothing here is proved. An arch is half a ring of as many voussoirs, WIDTH wide outside and an eighth of that thick, on
 two springers, with a live load of one unit down at the end of its first quarter. A wall has bricks 20 long and 10 high
 in running bond, BRICKS in each even course; an odd one is shifted by SHIFT units, 10 if none is given, and its ends are
-closed by shorter bricks. With the shift 0 all joints are common. Rubble has SIDE courses of SIDE stones of four corners, about 20 units wide, whose common
-corners are drawn at random by SEED. Walls and rubble are pushed to the right at their upper left corner.
+closed by shorter bricks. With the shift 0 all joints are common. Courses count from 0. Rubble has SIDE courses of SIDE
+stones of four corners, about 20 units wide, whose common corners are drawn at random by SEED. Walls and rubble are
+pushed to the right at their upper left corner.
 docs/other_solvers.md tells what comes of them.
 """
 import math
