@@ -21,14 +21,14 @@ use Rattle.stack_certificate.specs.LineOf.{line_fits, before, behind, two_to, th
 use Rattle.stack_certificate.proofs.CutLines.{lacks_number}
 use Rattle.stack_certificate.proofs.Spellings.{own}
 
-before_cut : (c : ℕ) (xs ys : List ℕ) → lacks c xs ≡ true → before c (xs ++ c ∷ ys) ≡ xs
+pub before_cut : (c : ℕ) (xs ys : List ℕ) → lacks c xs ≡ true → before c (xs ++ c ∷ ys) ≡ xs
 before_cut c [] ys free = let h : (c == c) ≡ true = grind (arith, nat_tests) in rw h refl
 before_cut c (x ∷ xs) ys free =
     let p = and_parts (not (x == c)) (lacks c xs) free in
     let h : (x == c) ≡ false = grind (arith, nat_tests) in
     rw h (ap (λ bs. x ∷ bs) (before_cut c xs ys p.1))
 
-behind_cut : (c : ℕ) (xs ys : List ℕ) → lacks c xs ≡ true → behind c (xs ++ c ∷ ys) ≡ ys
+pub behind_cut : (c : ℕ) (xs ys : List ℕ) → lacks c xs ≡ true → behind c (xs ++ c ∷ ys) ≡ ys
 behind_cut c [] ys free = let h : (c == c) ≡ true = grind (arith, nat_tests) in rw h refl
 behind_cut c (x ∷ xs) ys free =
     let p = and_parts (not (x == c)) (lacks c xs) free in
@@ -40,7 +40,7 @@ value_plain : (bs : List ℕ) (n : ℕ) → digits_value 10 bs ≡ n → (get_or
 value_plain [] n is no_sign = ap pos is
 value_plain (b ∷ bs) n is no_sign = let h : (b == 45) ≡ false = grind (arith, nat_tests) in rw h (ap pos is)
 
-value_spelled : (z : ℤ) → IsFitting z → value_of (signed_decimal z) ≡ z
+pub value_spelled : (z : ℤ) → IsFitting z → value_of (signed_decimal z) ≡ z
 value_spelled (pos n) small =
     let numeral = decimal_is_IsNumeral_wide n (omega arith) in
     let no_sign = not_in_digits own (decimal n) 45 numeral.0.1 (λ h. omega (arith, h)) 0 numeral.0.0 in

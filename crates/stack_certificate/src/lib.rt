@@ -16,7 +16,10 @@ pub mod types;
 mod writing;
 
 pub use laws::{one_certificate, one_reading, one_text, short_text, spelled_by_digits};
-pub use reading::read_certificate;
+pub use line::read_two;
+pub use number::read_number;
+pub use reading::{cut_line, read_certificate};
+pub use split::{after, split_once};
 pub use writing::write_certificate;
 
 #[cfg(test)]

@@ -29,7 +29,7 @@ pub enum Line {
 }
 
 /// The two numbers that the bytes spell, with one space between them.
-fn read_two(bytes: &[u8]) -> Option<(i128, i128)>
+pub fn read_two(bytes: &[u8]) -> Option<(i128, i128)>
     ensures some { IfSome result (λ r. IsTwo r.0 r.1 bytes.now) }
     ensures none { IfNone result ((a b : ℤ) → ¬ IsTwo a b bytes.now) }
 {

@@ -11,7 +11,7 @@ use crate::types::{Certificate, TextError};
 use std::alloc::Global;
 
 /// The first line with its line feed, where it has one, and the rest.
-fn cut_line(bytes: &[u8]) -> (&[u8], &[u8])
+pub fn cut_line(bytes: &[u8]) -> (&[u8], &[u8])
     requires { 0 < length bytes.now }
     ensures cut { cut bytes.now ≡ result.0.now ∷ cut result.1.now }
     ensures shorter { length result.1.now < length bytes.now }

@@ -52,3 +52,16 @@ AllAreCarried s (greatest f y) = ⊤
 AllAreCarried s (unbounded base ray) = Carries (scene_of s) (pos 0) (pos 1) → (L D : ℤ) → pos 0 ≼ L →
     pos 0 ≺ D →
     Carries (scene_of s) L D
+
+-- all that a true certificate shows: whether the dead loads stand, and which factors are carried
+pub record Shows (s : Surveyed) (c : CertificateValue) : Type 0 where
+  -- the forces of Stands carry the dead loads
+  pub stand : DeadLoadsStand s c
+  -- no forces of any scale carry the dead loads of Collapses
+  pub fall : DeadLoadsFall s c
+  -- the factor of Greatest is carried, and no greater one
+  pub carried : FactorIsCarried s c
+  pub bound : NoGreaterIsCarried s c
+  -- each factor from that of Unbounded up is carried, and each from 0 up where the dead loads stand
+  pub above : AllAboveAreCarried s c
+  pub all : AllAreCarried s c

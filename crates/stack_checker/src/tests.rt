@@ -118,14 +118,7 @@ fn model_of(alloc: Global, drawing: Drawing) -> Result<Model, Fail> {
     for load in drawing.live {
         loads.push(live_load(alloc, *load)?)?;
     }
-    Ok(Model::new(
-        alloc,
-        Parts {
-            materials,
-            blocks,
-            loads,
-        },
-    )?)
+    Ok(Model::new(alloc, Parts::first(alloc, materials, blocks, loads))?)
 }
 
 fn forces(alloc: Global, borne: Borne) -> Result<Forces, Fail> {

@@ -2,18 +2,16 @@
 use Rattle.std.proofs.Common.{◌≡◌, ℕ, ◌≤◌, List, [], ◌∷◌, Bool, true, false, Option, Some, None, Result, Ok, Err, inl}
 use Rattle.std.proofs.Common.{inr, length}
 use Rattle.std.proofs.Common.{subst, sym, ap, ◌∙◌, refl}
-use Rattle.std.proofs.lemmas.Option.{same_Some}
-use Rattle.std.specs.Prelude.{if◌then◌else◌, nat_lt}
+use Rattle.std.specs.Prelude.{if◌then◌else◌}
 use Rattle.std.proofs.Math.Dec.{ltb}
 use Rattle.std.proofs.lemmas.Bool.{ltb-false, le-ltb}
 use Rattle.stack_model.specs.Structure.{Structure}
 use Rattle.stack_reader.specs.Reading.{structure_of}
 use Rattle.stack_reader.specs.declared.errors.ReadError.{ReadError}
 use Rattle.stack_contact.specs.Surveyed.{Surveyed, IsSurvey}
-use Rattle.stack_contact.specs.declared.types.SurveyError.TheVariants.{Memory}
 use Rattle.stack_cli.specs.declared.refusal.Input.TheVariants as inputs
 use Rattle.stack_cli.specs.Refusals.{long}
-use Rattle.stack_cli.specs.Work.{Work, gives, refuses, ◌>>=◌, surveys, Found, Holds, MayHold, MayFind, Ends}
+use Rattle.stack_cli.specs.Work.{gives, refuses, ◌>>=◌, surveys, Found, Holds, MayHold, MayFind, Ends}
 use Rattle.stack_cli.specs.Surveying.{model_step, survey_step, modelled, surveyed_file, greatest_file}
 use Rattle.stack_cli.specs.Progress.{DoesAlone, IsSeenSurvey}
 use Rattle.stack_cli.specs.AcceptedModel.{IsAcceptedModel}

@@ -17,12 +17,13 @@ use Rattle.stack_equilibrium.specs.declared.types.Question.TheVariants.{Live}
 use Rattle.stack_judge.specs.Judgement.{Judgement, certified as is_certified, too_wide, spent, judgement}
 use Rattle.stack_cli.specs.declared.refusal.Input.{Input}
 use Rattle.stack_cli.specs.declared.refusal.Input.TheVariants as inputs
-use Rattle.stack_cli.specs.Words.{Form, check, contacts, judges, tables, stack, sample, default_budget, files_of}
+use Rattle.stack_cli.specs.Words.{Form, check, contacts, judges, tables, stack, sample, ranges, builds}
+use Rattle.stack_cli.specs.Words.{default_budget, files_of}
 use Rattle.stack_cli.specs.Refusals.{Refusal, long, no_live}
 use Rattle.stack_cli.specs.Answers.{Due}
 use Rattle.stack_cli.specs.Work.{Work, gives, refuses, reads, surveys, ◌>>=◌, Found, Holds, Ends}
 use Rattle.stack_cli.specs.Surveying.{greatest_file, read, model_step, survey_step, modelled, surveyed_file}
-use Rattle.stack_cli.specs.Checking.{certificate_step, check_step, certified, checked, check_work}
+use Rattle.stack_cli.specs.Checking.{certificate_step, check_step, checked, check_work}
 use Rattle.stack_cli.specs.Listing.{contacts_work}
 use Rattle.stack_cli.specs.Tables.{tabled_by, table_step, tabled_file, table_work}
 use Rattle.stack_cli.specs.Stacking.{stack_of, built_step, stack_work}
@@ -30,6 +31,11 @@ use Rattle.stack_cli.specs.Sampling.{sample_of, sample_step, wall_sampled, sampl
 use Rattle.stack_report.specs.ForceNumbers.{wide_index}
 use Rattle.stack_overhang.specs.declared.error.StackError.{StackError}
 use Rattle.stack_cli.specs.Judging.{lacks_live, judged_step, judged, judge_work}
+use Rattle.stack_cli.specs.Ranging.{range_step, range_told, range_work}
+use Rattle.stack_range.specs.RangeJudgement.{RangeJudgement, told, wide_on, spent_on, range_judgement}
+use Rattle.stack_stages.specs.OrderRead.{order_of}
+use Rattle.stack_stages.specs.Staged.{Staged, all_stand, falls, too_wide_at, spent_at, staged}
+use Rattle.stack_cli.specs.Building.{order_step, stages_step, ordered_file, stages_work}
 use Rattle.stack_cli.specs.Forms.{work_of}
 use Rattle.stack_cli.specs.Progress.{ToldNames, GrewBy, Way}
 
@@ -144,13 +150,44 @@ wall_asks : (number : ℕ) (s : Structure) → AsksOnly (wall_sampled number s) 
 wall_asks number s = asks_then (surveys s (survey_step s)) _ [] [] (λ found. survey_asks s found)
     (λ v. sample_asks number v (judgement Live v default_budget))
 
+range_asks : (budget : ℕ) (v : Surveyed) (j : RangeJudgement) → AsksOnly (range_step budget v j) []
+range_asks budget v (told r) = refl
+range_asks budget v (wide_on side p) = tt
+range_asks budget v (spent_on side) = tt
+
+range_told_asks : (budget : ℕ) (v : Surveyed) → AsksOnly (range_told budget v) []
+range_told_asks budget v = elim (lacks_live Live v.structure)
+    as (λ b. AsksOnly (if b then refuses no_live else range_step budget v (range_judgement v budget)) [])
+    [ true ↦ tt | false ↦ range_asks budget v (range_judgement v budget) ]
+
+order_asks : (r : Result (List ℕ) ℕ) → AsksOnly (order_step r) []
+order_asks (Ok order) = refl
+order_asks (Err number) = tt
+
+stages_asks : (budget : ℕ) (v : Surveyed) (order : List ℕ) (x : Staged) → AsksOnly (stages_step budget v order x) []
+stages_asks budget v order (all_stand fs) = refl
+stages_asks budget v order (falls fs m) = refl
+stages_asks budget v order (too_wide_at k p) = tt
+stages_asks budget v order (spent_at k) = tt
+
+ordered_asks : (name : List ℕ) (budget : ℕ) (v : Surveyed) → AsksOnly (ordered_file name budget v) (name ∷ [])
+unfolding ordered_file
+ordered_asks name budget v =
+    asks_then (read inputs.Order name) _ (name ∷ []) [] (read_asks inputs.Order name)
+    (λ text. asks_then (order_step (order_of v.structure text)) _ [] [] (order_asks (order_of v.structure text))
+    (λ order. stages_asks budget v order (staged v order budget)))
+
 -- Each form: one clause.
 form_asks : (form : Form) → AsksOnly (work_of form) (files_of (Some form))
-unfolding check_work contacts_work judge_work table_work stack_work sample_work
+unfolding check_work contacts_work judge_work table_work stack_work sample_work range_work stages_work
 form_asks (check model certificate) =
     asks_then (surveyed_file model) _ (model ∷ []) (certificate ∷ []) (surveyed_asks model) (checked_asks certificate)
 form_asks (judges question model budget) = asks_then (surveyed_file model) _ (model ∷ []) [] (surveyed_asks model)
     (λ v. judged_asks question budget v)
+form_asks (ranges model budget) = asks_then (surveyed_file model) _ (model ∷ []) [] (surveyed_asks model)
+    (λ v. range_told_asks budget v)
+form_asks (builds model order budget) =
+    asks_then (surveyed_file model) _ (model ∷ []) (order ∷ []) (surveyed_asks model) (ordered_asks order budget)
 form_asks (tables model certificate) =
     asks_then (surveyed_file model) _ (model ∷ []) (certificate ∷ []) (surveyed_asks model) (tabled_asks certificate)
 form_asks (stack kind n) = asks_then (built_step (stack_of kind n)) _ [] [] (built_asks (stack_of kind n)) (λ s. refl)

@@ -1,23 +1,20 @@
 -- The five cases of `stand` and `load`, out of the theorem on the top call and of the one end of their work.
-use Rattle.std.proofs.Common.{◌≡◌, refl, sym, subst, ap, ◌∙◌, ℕ, ◌≤◌, Bool, true, false, not, List, [], ◌∷◌, Option}
+use Rattle.std.proofs.Common.{◌≡◌, refl, sym, subst, ap, ◌∙◌, ℕ, Bool, true, false, not, List, [], ◌∷◌, Option}
 use Rattle.std.proofs.Common.{Some, None, Result, Ok, Err, inl, inr, ◌⊎◌, arith}
-use Rattle.std.specs.List.{list_any}
 use Rattle.std.specs.Io.KnownBytes.{Keeps}
-use Rattle.std.proofs.lemmas.List.Folds.{list_any_at}
 use Rattle.stack_algebra.specs.Fraction.{Fraction}
-use Rattle.stack_model.specs.Structure.{Structure, HasLive}
+use Rattle.stack_model.specs.Structure.{Structure, HasLive, lists_live}
 use Rattle.stack_contact.specs.Surveyed.{Surveyed}
 use Rattle.stack_certificate.specs.Certificate.{CertificateValue}
 use Rattle.stack_equilibrium.specs.declared.types.Question.{Question}
 use Rattle.stack_equilibrium.specs.declared.types.Question.TheVariants.{Dead, Live}
 use Rattle.stack_duality.specs.WrittenRun.{End, infeasible, feasible, optimal, ray, wide, over}
-use Rattle.stack_certified.specs.Certified.{end_certificate}
 use Rattle.stack_judge.specs.declared.types.JudgePlace.{JudgePlace}
 use Rattle.stack_judge.specs.declared.types.JudgePlace.TheVariants as places
 use Rattle.stack_judge.specs.EndPlace.{end_place}
 use Rattle.stack_judge.specs.Judgement.{Judgement, certified, too_wide, spent, judged_by, judgement_of, judgement}
 use Rattle.stack_judge.specs.Judgement.{survey_run, LacksLive}
-use Rattle.stack_cli.specs.Refusals.{Refusal, words, file, faulty, output, memory, over_budget, no_live, status_of}
+use Rattle.stack_cli.specs.Refusals.{Refusal, file, faulty, output, memory, over_budget, no_live, status_of}
 use Rattle.stack_cli.specs.Words.{Form, judges}
 use Rattle.stack_cli.specs.Answers.{Due, certificate, verdict_status}
 use Rattle.stack_cli.specs.Work.{Holds, Ends}
@@ -31,12 +28,12 @@ use Rattle.stack_cli.specs.Headline.{Prints, Leaves, IsWide, IsOver, Judging}
 use Rattle.stack_cli.proofs.Ways.{goes_on}
 use Rattle.stack_cli.proofs.OneEnd.{one_end}
 use Rattle.stack_cli.proofs.AcceptedFiles.{all_accepted}
-use Rattle.stack_cli.proofs.JudgementEnds.{lists_some, certificate_ends, wide_ends, spent_ends, no_live_ends}
+use Rattle.stack_cli.proofs.JudgementEnds.{lists_some, listed_live, certificate_ends, wide_ends, spent_ends}
+use Rattle.stack_cli.proofs.JudgementEnds.{no_live_ends}
 
 -- what the test for a live load says
-lists_nothing : (s : Structure) → not (list_any (λ l. l.live) s.loads) ≡ true → ¬ (HasLive s)
-lists_nothing s h one = let t = list_any_at (λ l. l.live) s.loads one.0 _ one.1.0 one.1.1 in
-    let f = subst (λ b. not b ≡ true) t h in absurd cc
+lists_nothing : (s : Structure) → not (lists_live s) ≡ true → ¬ (HasLive s)
+lists_nothing s h one = let f = subst (λ b. not b ≡ true) (listed_live s one) h in absurd cc
 
 not_false : (b : Bool) → not b ≡ false → b ≡ true
 not_false true h = refl
@@ -44,7 +41,7 @@ not_false false h = absurd cc
 
 has_one : (q : Question) (v : Surveyed) → lacks_live q v.structure ≡ false → ¬ (LacksLive q v)
 has_one Dead v h none = none
-has_one Live v h none = none (lists_some v.structure (not_false (list_any (λ l. l.live) v.structure.loads) h))
+has_one Live v h none = none (lists_some v.structure (not_false (lists_live v.structure) h))
 
 lacks : (q : Question) (v : Surveyed) → lacks_live q v.structure ≡ true → LacksLive q v
 lacks Dead v h = absurd cc

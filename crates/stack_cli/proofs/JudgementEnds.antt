@@ -2,10 +2,8 @@
 use Rattle.std.proofs.Common.{◌≡◌, refl, sym, subst, ◌∙◌, ℕ, Bool, true, false, not, [], Result}
 use Rattle.std.proofs.Common.{Ok, Err, inl}
 use Rattle.std.specs.Prelude.{if◌then◌else◌}
-use Rattle.std.specs.List.{list_any}
-use Rattle.std.proofs.lemmas.List.{get_or_default}
-use Rattle.std.proofs.lemmas.List.Folds.{list_any_at, Any-from_list_any}
-use Rattle.stack_model.specs.Structure.{Structure, HasLive}
+use Rattle.stack_model.specs.Structure.{Structure, HasLive, lists_live}
+use Rattle.stack_model.proofs.Items.{found_live}
 use Rattle.stack_contact.specs.Surveyed.{Surveyed}
 use Rattle.stack_certificate.specs.Certificate.{CertificateValue}
 use Rattle.stack_equilibrium.specs.declared.types.Question.{Question}
@@ -17,27 +15,28 @@ use Rattle.stack_cli.specs.Answers.{Due, certificate}
 use Rattle.stack_cli.specs.Work.{refuses, Holds, Ends}
 use Rattle.stack_cli.specs.Judging.{lacks_live, wide_fault, judged_step, judged}
 
-pub lists_some : (s : Structure) → list_any (λ l. l.live) s.loads ≡ true → HasLive s
-lists_some s h = let a = Any-from_list_any (λ l. l.live) s.loads h in
-    (a.0, (a.2, subst (λ l. l.live ≡ true) (sym (get_or_default s.loads a.0 _ a.1 a.2 ∙ a.3)) a.4))
+pub lists_some : (s : Structure) → lists_live s ≡ true → HasLive s
+lists_some s = (found_live s (lists_live s) refl).0
 
-lists_none : (s : Structure) (b : Bool) → list_any (λ l. l.live) s.loads ≡ b → ¬ (HasLive s) → not b ≡ true
+pub listed_live : (s : Structure) → HasLive s → lists_live s ≡ true
+listed_live s = (found_live s (lists_live s) refl).1
+
+lists_none : (s : Structure) (b : Bool) → lists_live s ≡ b → ¬ (HasLive s) → not b ≡ true
 lists_none s true is none = absurd (none (lists_some s is))
 lists_none s false is none = refl
 
-lists_one : (s : Structure) (b : Bool) → list_any (λ l. l.live) s.loads ≡ b → ¬ (¬ (HasLive s)) → not b ≡ false
+lists_one : (s : Structure) (b : Bool) → lists_live s ≡ b → ¬ (¬ (HasLive s)) → not b ≡ false
 lists_one s true is some = refl
-lists_one s false is some = absurd (some (λ h. let t = sym (list_any_at (λ l. l.live) s.loads h.0 _ h.1.0 h.1.1)
-    ∙ is in cc))
+lists_one s false is some = absurd (some (λ h. let t = sym (listed_live s h) ∙ is in cc))
 
 -- the test for a live load
 pub lacking : (q : Question) (v : Surveyed) → LacksLive q v → lacks_live q v.structure ≡ true
 lacking Dead v h = absurd h
-lacking Live v h = lists_none v.structure (list_any (λ l. l.live) v.structure.loads) refl h
+lacking Live v h = lists_none v.structure (lists_live v.structure) refl h
 
 pub not_lacking : (q : Question) (v : Surveyed) → ¬ (LacksLive q v) → lacks_live q v.structure ≡ false
 not_lacking Dead v h = refl
-not_lacking Live v h = lists_one v.structure (list_any (λ l. l.live) v.structure.loads) refl h
+not_lacking Live v h = lists_one v.structure (lists_live v.structure) refl h
 
 module _ (q : Question) (v : Surveyed) (budget : ℕ) (holds : Holds) where
   abbrev EndsAt : Bool → Judgement → Result Due Refusal → Type 0

@@ -13,7 +13,11 @@ mod AcceptedFiles
 mod BodyNames
 mod WordNumbers
 mod JudgementEnds
+mod RangeEnds
 mod HeadlineHolds
 mod PrintedAccepted
 mod CheckEnds
 mod CheckAnswered
+mod RangeAnswered
+mod StagesEnds
+mod StagesAnswered

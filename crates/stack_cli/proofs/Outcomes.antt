@@ -13,7 +13,7 @@ use Rattle.stack_cli.specs.declared.refusal.Refusal.TheVariants as code
 use Rattle.stack_cli.specs.Words.{Form}
 use Rattle.stack_cli.specs.Refusals.{Refusal, words, file, faulty, output, refusal_view, status_of}
 use Rattle.stack_cli.specs.Refusals.{Fault, long, content, overlap, many_bearings, certificate_line, wide_check, memory}
-use Rattle.stack_cli.specs.Refusals.{size, wide_run, wide_end, wide_table, over_budget, no_live}
+use Rattle.stack_cli.specs.Refusals.{size, order_line, wide_run, wide_end, wide_table, over_budget, no_live}
 use Rattle.stack_cli.specs.Answers.{Due, verdict_status}
 use Rattle.stack_cli.specs.Work.{Work, gives, refuses, reads, surveys, Holds, Ends}
 use Rattle.stack_cli.specs.Forms.{work_of}
@@ -94,9 +94,10 @@ fault_above (overlap first second) = omega arith
 fault_above (many_bearings count) = omega arith
 fault_above size = omega arith
 fault_above (certificate_line number) = omega arith
-fault_above (wide_check part place) = omega arith
-fault_above (wide_run place) = omega arith
-fault_above (wide_end place) = omega arith
+fault_above (order_line number) = omega arith
+fault_above (wide_check within part place) = omega arith
+fault_above (wide_run within place) = omega arith
+fault_above (wide_end within place) = omega arith
 fault_above (wide_table index) = omega arith
 fault_above (over_budget budget) = omega arith
 fault_above no_live = omega arith
@@ -109,9 +110,10 @@ fault_past_output (overlap first second) is = omega arith
 fault_past_output (many_bearings count) is = omega arith
 fault_past_output size is = omega arith
 fault_past_output (certificate_line number) is = omega arith
-fault_past_output (wide_check part place) is = omega arith
-fault_past_output (wide_run place) is = omega arith
-fault_past_output (wide_end place) is = omega arith
+fault_past_output (order_line number) is = omega arith
+fault_past_output (wide_check within part place) is = omega arith
+fault_past_output (wide_run within place) is = omega arith
+fault_past_output (wide_end within place) is = omega arith
 fault_past_output (wide_table index) is = omega arith
 fault_past_output (over_budget budget) is = omega arith
 fault_past_output no_live is = omega arith

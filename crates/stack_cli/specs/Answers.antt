@@ -10,6 +10,10 @@ use Rattle.stack_equilibrium.specs.declared.types.Question.{Question}
 use Rattle.stack_equilibrium.specs.declared.types.Question.TheVariants.{Live}
 use Rattle.stack_judge.specs.Judged.{IsJudged}
 use Rattle.stack_report.specs.Summary.{summary_text}
+use Rattle.stack_range.specs.Ranged.{RangeValue, collapsing, between, IsRange}
+use Rattle.stack_range.specs.RangeText.{range_text}
+use Rattle.stack_stages.specs.Staged.{Staged, falls, AreTrue, AreSettled}
+use Rattle.stack_stages.specs.StagesText.{stages_text}
 use Rattle.stack_cli.specs.declared.answer.Verdict.{Verdict}
 use Rattle.stack_cli.specs.declared.answer.Verdict.TheVariants.{Affirmed, Denied}
 
@@ -25,14 +29,27 @@ verdict_of (collapses y) = Denied
 verdict_of (greatest f y) = Affirmed
 verdict_of (unbounded base rise) = Affirmed
 
+-- A range that isn't a collapse affirms.
+abbrev pub range_verdict : RangeValue → Verdict
+range_verdict (collapsing y) = Denied
+range_verdict (between low high) = Affirmed
+
+-- A stage that falls denies.
+abbrev pub stages_verdict : Staged → Verdict
+stages_verdict (falls fs m) = Denied
+stages_verdict _ = Affirmed
+
 -- Exactly these bytes, with this verdict; the certificate of this question of this survey; a document that describes
 -- this structure; the summary of the wall with this number, by its survey, its certificate, and whether no
--- number of the table and of the run is too wide for 64 bits.
+-- number of the table and of the run is too wide for 64 bits; the range of this survey; what comes of the stages of
+-- this order of it.
 pub data Due : Type 0 where
   exactly : Verdict → List ℕ → Due
   certificate : Question → Surveyed → CertificateValue → Due
   document : Structure → Due
   summary : ℕ → Surveyed → CertificateValue → Bool → Due
+  ranged : Surveyed → RangeValue → Due
+  stages_due : Surveyed → List ℕ → Staged → Due
 
 -- It is true, and the bytes are its text.
 pub record IsCertificateOf (q : Question) (v : Surveyed) (c : CertificateValue) (verdict : Verdict) (text : List ℕ)
@@ -48,9 +65,24 @@ pub record IsSummaryOf (number : ℕ) (v : Surveyed) (c : CertificateValue) (nar
   pub is_verdict : verdict ≡ Affirmed
   pub is_text : text ≡ summary_text number v c narrow
 
+-- It says which factors are carried, and the bytes are its text.
+pub record IsRangeOf (v : Surveyed) (r : RangeValue) (verdict : Verdict) (text : List ℕ) : Type 0 where
+  pub holds : IsRange v r
+  pub is_verdict : verdict ≡ range_verdict r
+  pub is_text : text ≡ range_text r
+
+-- It says truly which stages of the order stand, and the bytes are its text.
+pub record AreStagesOf (v : Surveyed) (order : List ℕ) (x : Staged) (verdict : Verdict) (text : List ℕ) : Type 0 where
+  pub are_true : AreTrue v order x
+  pub are_settled : AreSettled v order x
+  pub is_verdict : verdict ≡ stages_verdict x
+  pub is_text : text ≡ stages_text x
+
 -- A verdict and bytes are what is due.
 abbrev pub IsAnswer : Due → Verdict → List ℕ → Type 0
 IsAnswer (exactly v t) verdict text = (verdict ≡ v) × (text ≡ t)
 IsAnswer (certificate q v c) verdict text = IsCertificateOf q v c verdict text
 IsAnswer (document s) verdict text = (verdict ≡ Affirmed) × (structure_of text ≡ Ok s)
 IsAnswer (summary number v c narrow) verdict text = IsSummaryOf number v c narrow verdict text
+IsAnswer (ranged v r) verdict text = IsRangeOf v r verdict text
+IsAnswer (stages_due v order x) verdict text = AreStagesOf v order x verdict text

@@ -11,6 +11,7 @@ use Rattle.stack_checker.specs.declared.types.CheckAt.{CheckAt}
 use Rattle.stack_checker.specs.declared.types.CheckAt.TheVariants as spots
 use Rattle.stack_cli.specs.declared.refusal.Input.TheVariants as inputs
 use Rattle.stack_cli.specs.declared.answer.Verdict.TheVariants.{Affirmed, Denied}
+use Rattle.stack_cli.specs.declared.refusal.Within.TheVariants.{Whole}
 use Rattle.stack_cli.specs.Refusals.{Place, cone_at, balance_of, resisted_at, work, apart, certificate_line, wide_check}
 use Rattle.stack_cli.specs.Answers.{Due, exactly}
 use Rattle.stack_cli.specs.CheckText.{block_name, accepted_text, rejected_text}
@@ -34,7 +35,7 @@ place_of s spots.Apart = apart
 abbrev pub check_step : Structure → Check → Work Due
 check_step s Accepted = gives (exactly Affirmed accepted_text)
 check_step s (Rejected part reason) = gives (exactly Denied (rejected_text s part reason))
-check_step s (TooWide place) = refuses (wide_check place.part (place_of s place.at))
+check_step s (TooWide place) = refuses (wide_check Whole place.part (place_of s place.at))
 
 -- A certificate's text, and its file, up to what the check of it against a survey answers.
 abbrev pub certified : Surveyed → List ℕ → Work Due

@@ -1,14 +1,15 @@
 -- The work on `stand MODEL [PIVOTS]` and `load MODEL [PIVOTS]`: the survey of the model, for `load` the test for a live
 -- load, the judgement.
 use Rattle.std.specs.Prelude.{ℕ, List, Bool, false, not, if◌then◌else◌}
-use Rattle.std.specs.List.{list_any}
-use Rattle.stack_model.specs.Structure.{Structure}
+use Rattle.stack_model.specs.Structure.{Structure, lists_live}
 use Rattle.stack_contact.specs.Surveyed.{Surveyed}
 use Rattle.stack_equilibrium.specs.declared.types.Question.{Question}
 use Rattle.stack_equilibrium.specs.declared.types.Question.TheVariants.{Dead, Live}
 use Rattle.stack_judge.specs.declared.types.JudgePlace.{JudgePlace}
 use Rattle.stack_judge.specs.declared.types.JudgePlace.TheVariants as places
 use Rattle.stack_judge.specs.Judgement.{Judgement, certified, too_wide, spent, judgement}
+use Rattle.stack_cli.specs.declared.refusal.Within.{Within}
+use Rattle.stack_cli.specs.declared.refusal.Within.TheVariants.{Whole}
 use Rattle.stack_cli.specs.Refusals.{Fault, wide_check, wide_run, wide_end, over_budget, no_live}
 use Rattle.stack_cli.specs.Answers.{Due, certificate}
 use Rattle.stack_cli.specs.Checking.{place_of}
@@ -18,13 +19,18 @@ use Rattle.stack_cli.specs.Surveying.{surveyed_file}
 -- The question is about live loads, and none is listed.
 abbrev pub lacks_live : Question → Structure → Bool
 lacks_live Dead s = false
-lacks_live Live s = not (list_any (λ l. l.live) s.loads)
+lacks_live Live s = not (lists_live s)
 
--- A number that is too wide is told by where it is: in the run, in what is made of its end, in the check.
+-- A number of one of a form's judgements that is too wide is told by where it is: in the run, in what is made of its
+-- end, in the check.
+abbrev pub wide_within : Within → Structure → JudgePlace → Fault
+wide_within w s (places.Run p) = wide_run w p
+wide_within w s (places.End p) = wide_end w p
+wide_within w s (places.Check p) = wide_check w p.part (place_of s p.at)
+
+-- That of the only judgement.
 abbrev pub wide_fault : Structure → JudgePlace → Fault
-wide_fault s (places.Run p) = wide_run p
-wide_fault s (places.End p) = wide_end p
-wide_fault s (places.Check p) = wide_check p.part (place_of s p.at)
+wide_fault s p = wide_within Whole s p
 
 -- A certificate is given out; a number that is too wide and a budget that is spent are refused.
 abbrev pub judged_step : Question → (budget : ℕ) → Surveyed → Judgement → Work Due

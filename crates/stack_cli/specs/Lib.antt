@@ -11,6 +11,8 @@ pub mod Judging
 pub mod Tables
 pub mod Stacking
 pub mod Sampling
+pub mod Ranging
+pub mod Building
 pub mod Forms
 pub mod Progress
 pub mod OneEnd
@@ -20,3 +22,5 @@ pub mod MainTheorem
 pub mod Headline
 pub mod Printed
 pub mod Accepted
+pub mod RangeSaid
+pub mod StagesSaid

@@ -2,7 +2,7 @@
 -- from 1.
 use Rattle.std.specs.Prelude.{ℕ, ◌+◌, List, ◌++◌, codes, decimal}
 use Rattle.stack_model.specs.declared.places.Spot.{Spot}
-use Rattle.stack_model.specs.declared.places.Spot.TheVariants.{Top, Material, Block, Load}
+use Rattle.stack_model.specs.declared.places.Spot.TheVariants.{Top, Material, Joint, Block, Load}
 use Rattle.stack_model.specs.declared.places.What.{What}
 use Rattle.stack_model.specs.declared.places.What.TheVariants as whats
 use Rattle.stack_model.specs.declared.errors.ModelError.{ModelError}
@@ -15,12 +15,14 @@ use Rattle.stack_reader.specs.declared.errors.ReadError.TheVariants as reads
 unfoldable pub spot_text : Spot → List ℕ
 spot_text Top = codes "top"
 spot_text (Material i) = codes "material " ++ decimal (i + 1)
+spot_text (Joint i) = codes "joint " ++ decimal (i + 1)
 spot_text (Block i) = codes "block " ++ decimal (i + 1)
 spot_text (Load i) = codes "load " ++ decimal (i + 1)
 
--- What a model has too many of: materials, blocks, free or fixed ones, loads.
+-- What a model has too many of: materials, joints, blocks, free or fixed ones, loads.
 abbrev pub what_word : What → List ℕ
 what_word whats.Materials = codes "materials"
+what_word whats.Joints = codes "joints"
 what_word whats.Blocks = codes "blocks"
 what_word whats.Free = codes "free"
 what_word whats.Fixed = codes "fixed"
@@ -37,6 +39,8 @@ content_text (contents.NotConvex block edge) =
 content_text (contents.LoadOnFixed load) = codes "load on fixed load " ++ decimal (load + 1)
 content_text (contents.TooMany what) = codes "too many " ++ what_word what
 content_text contents.Memory = codes "memory"
+content_text (contents.NoJointMaterial joint) = codes "no material joint " ++ decimal (joint + 1)
+content_text (contents.SameJoint joint) = codes "same joint " ++ decimal (joint + 1)
 
 -- A fault of the file.
 unfoldable pub fault_text : ReadError → List ℕ

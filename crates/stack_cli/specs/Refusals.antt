@@ -1,6 +1,6 @@
 -- The refusals as the theorem sees them: why a run refuses, with the status and the line of each refusal. The line
 -- stands without its line feed.
-use Rattle.std.specs.Prelude.{ℕ, ◌+◌, List, ◌++◌, codes, decimal, string_bytes}
+use Rattle.std.specs.Prelude.{ℕ, ◌+◌, List, [], ◌++◌, codes, decimal, string_bytes}
 use Rattle.stack_equilibrium.specs.declared.types.Axis.{Axis}
 use Rattle.stack_equilibrium.specs.declared.types.Axis.TheVariants as axes
 use Rattle.stack_checker.specs.declared.types.Part.{Part}
@@ -16,6 +16,8 @@ use Rattle.stack_extract.specs.declared.types.EndStep.TheVariants as end_steps
 use Rattle.stack_extract.specs.declared.types.ExtractPlace.{ExtractPlace}
 use Rattle.stack_cli.specs.declared.refusal.Input.{Input}
 use Rattle.stack_cli.specs.declared.refusal.Input.TheVariants as inputs
+use Rattle.stack_cli.specs.declared.refusal.Within.{Within}
+use Rattle.stack_cli.specs.declared.refusal.Within.TheVariants as withins
 use Rattle.stack_cli.specs.declared.refusal.Place.{Place as CodePlace}
 use Rattle.stack_cli.specs.declared.refusal.Place.TheVariants as code_places
 use Rattle.stack_cli.specs.declared.refusal.Refusal.{Refusal as CodeRefusal}
@@ -34,8 +36,9 @@ pub data Place : Type 0 where
 
 -- Why the work on a form refuses: a file is too long; the model's file has a fault; two bodies overlap, told by their
 -- names; the bearings are too many; a built-in model has no such size; the certificate's text ends to be one at a line,
--- from 1; a number of the check, of the run, of what is made of its end or of the table of forces is too wide; a
--- pivot is due when the budget's are done; no live load is listed; memory is wanting.
+-- from 1; the order's text is faulty at a line, from 1; a number of the check, of the run, of what is made of its end
+-- or of the table of forces is too wide; a pivot is due when the budget's are done; no live load is listed; memory is
+-- wanting.
 pub data Fault : Type 0 where
   long : Input → Fault
   content : ReadError → Fault
@@ -43,9 +46,10 @@ pub data Fault : Type 0 where
   many_bearings : ℕ → Fault
   size : Fault
   certificate_line : ℕ → Fault
-  wide_check : Part → Place → Fault
-  wide_run : RunPlace → Fault
-  wide_end : ExtractPlace → Fault
+  order_line : ℕ → Fault
+  wide_check : Within → Part → Place → Fault
+  wide_run : Within → RunPlace → Fault
+  wide_end : Within → ExtractPlace → Fault
   wide_table : ℕ → Fault
   over_budget : ℕ → Fault
   no_live : Fault
@@ -76,9 +80,10 @@ refusal_view (code.Overlap first second) = faulty (overlap (string_bytes first) 
 refusal_view (code.ManyBearings count) = faulty (many_bearings count)
 refusal_view code.Size = faulty size
 refusal_view (code.CertificateLine number) = faulty (certificate_line number)
-refusal_view (code.WideCheck part place) = faulty (wide_check part (place_view place))
-refusal_view (code.WideRun place) = faulty (wide_run place)
-refusal_view (code.WideEnd place) = faulty (wide_end place)
+refusal_view (code.OrderLine number) = faulty (order_line number)
+refusal_view (code.WideCheck within part place) = faulty (wide_check within part (place_view place))
+refusal_view (code.WideRun within place) = faulty (wide_run within place)
+refusal_view (code.WideEnd within place) = faulty (wide_end within place)
 refusal_view (code.WideTable index) = faulty (wide_table index)
 refusal_view (code.Spent budget) = faulty (over_budget budget)
 refusal_view code.NoLive = faulty no_live
@@ -93,13 +98,14 @@ fault_status (overlap first second) = 5
 fault_status (many_bearings count) = 5
 fault_status size = 5
 fault_status (certificate_line number) = 6
-fault_status (wide_check part place) = 7
-fault_status (wide_run place) = 7
-fault_status (wide_end place) = 7
+fault_status (wide_check within part place) = 7
+fault_status (wide_run within place) = 7
+fault_status (wide_end within place) = 7
 fault_status (wide_table index) = 7
 fault_status (over_budget budget) = 8
 fault_status no_live = 9
 fault_status memory = 11
+fault_status (order_line number) = 13
 
 -- Words, files and the output have statuses of their own; a fault of the work has that above.
 abbrev pub status_of : Refusal → ℕ
@@ -112,6 +118,7 @@ status_of output = 10
 abbrev pub input_word : Input → List ℕ
 input_word inputs.Model = codes "model"
 input_word inputs.Certificate = codes "certificate"
+input_word inputs.Order = codes "order"
 
 -- The part of a certificate that a line is about.
 abbrev pub part_word : Part → List ℕ
@@ -164,6 +171,18 @@ place_text (resisted_at k) = codes "resisted " ++ decimal (k + 1)
 place_text work = codes "work"
 place_text apart = codes "apart"
 
+-- The place in a check, with the part of the certificate.
+abbrev pub check_text : Part → Place → List ℕ
+check_text part place = codes "check " ++ part_word part ++ codes " " ++ place_text place
+
+-- Of which of a form's judgements a line tells: of its only one or its first, of the least side of a range, of a stage
+-- of an order of building, or of a direction of two loads, each by its number from 1.
+abbrev pub within_text : Within → List ℕ
+within_text withins.Whole = []
+within_text withins.LeastSide = codes "least "
+within_text (withins.Stage number) = codes "stage " ++ decimal number ++ codes " "
+within_text (withins.Direction number) = codes "dir " ++ decimal number ++ codes " "
+
 -- The line.
 abbrev pub fault_line : Fault → List ℕ
 fault_line (long input) = codes "long " ++ input_word input
@@ -172,9 +191,10 @@ fault_line (overlap first second) = codes "model overlap " ++ first ++ codes " "
 fault_line (many_bearings count) = codes "model too many bearings " ++ decimal count
 fault_line size = codes "model size"
 fault_line (certificate_line number) = codes "certificate line " ++ decimal number
-fault_line (wide_check part place) = codes "wide check " ++ part_word part ++ codes " " ++ place_text place
-fault_line (wide_run place) = codes "wide run " ++ run_text place
-fault_line (wide_end place) = codes "wide end " ++ end_text place
+fault_line (order_line number) = codes "order line " ++ decimal number
+fault_line (wide_check within part place) = codes "wide " ++ within_text within ++ check_text part place
+fault_line (wide_run within place) = codes "wide " ++ within_text within ++ (codes "run " ++ run_text place)
+fault_line (wide_end within place) = codes "wide " ++ within_text within ++ (codes "end " ++ end_text place)
 fault_line (wide_table index) = codes "wide table " ++ decimal index
 fault_line (over_budget budget) = codes "spent " ++ decimal budget
 fault_line no_live = codes "no live load"

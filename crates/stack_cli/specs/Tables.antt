@@ -12,6 +12,7 @@ use Rattle.stack_report.specs.ForceTable.{forces_text}
 use Rattle.stack_report.specs.ForceNumbers.{wide_index}
 use Rattle.stack_cli.specs.declared.refusal.Input.TheVariants as inputs
 use Rattle.stack_cli.specs.declared.answer.Verdict.TheVariants.{Affirmed, Denied}
+use Rattle.stack_cli.specs.declared.refusal.Within.TheVariants.{Whole}
 use Rattle.stack_cli.specs.Refusals.{wide_check, wide_table}
 use Rattle.stack_cli.specs.Answers.{Due, exactly}
 use Rattle.stack_cli.specs.CheckText.{rejected_text}
@@ -36,7 +37,7 @@ table_due v c = tabled_by v c (wide_index v c)
 abbrev pub table_step : Surveyed → CertificateValue → Check → Work Due
 table_step v c Accepted = table_due v c
 table_step v c (Rejected part reason) = gives (exactly Denied (rejected_text v.structure part reason))
-table_step v c (TooWide place) = refuses (wide_check place.part (place_of v.structure place.at))
+table_step v c (TooWide place) = refuses (wide_check Whole place.part (place_of v.structure place.at))
 
 -- A certificate's text is read and checked before anything of it is listed.
 abbrev pub tabled_text : Surveyed → List ℕ → Work Due

@@ -14,8 +14,9 @@ use Rattle.stack_cli.specs.declared.words.Kind.TheVariants.{Harmonic, Triangle, 
 use Rattle.stack_cli.specs.declared.given.Given.{Given as CodeGiven}
 use Rattle.stack_cli.specs.declared.given.Given.TheVariants as given
 
--- What the words ask for: `check MODEL CERT`, `table MODEL CERT`, `contacts MODEL`, or a judgement of a model within a
--- budget of pivots, with any words as the names of the files; `stack KIND N`, or `sample N`, which read none.
+-- What the words ask for: `check MODEL CERT`, `table MODEL CERT`, `contacts MODEL`, or a judgement of a model, its
+-- range or the stages of an order within a budget of pivots, with any words as the names of the files; `stack KIND N`,
+-- or `sample N`, which read none.
 pub data Form : Type 0 where
   check : List ℕ → List ℕ → Form
   contacts : List ℕ → Form
@@ -23,6 +24,8 @@ pub data Form : Type 0 where
   tables : List ℕ → List ℕ → Form
   stack : Kind → ℕ → Form
   sample : ℕ → Form
+  ranges : List ℕ → ℕ → Form
+  builds : List ℕ → List ℕ → ℕ → Form
 
 -- The form that the code holds, by bytes.
 abbrev pub form_view : CodeForm → Form
@@ -32,10 +35,14 @@ form_view (code.Judge question model budget) = judges question model.now budget
 form_view (code.Table model certificate) = tables model.now certificate.now
 form_view (code.Stack kind size) = stack kind size
 form_view (code.Sample number) = sample number
+form_view (code.Range model budget) = ranges model.now budget
+form_view (code.Stages model order budget) = builds model.now order.now budget
 
 -- A budget isn't 0.
 abbrev pub HasBudget : CodeForm → Type 0
 HasBudget (code.Judge question model budget) = budget ≢ 0
+HasBudget (code.Range model budget) = budget ≢ 0
+HasBudget (code.Stages model order budget) = budget ≢ 0
 HasBudget _ = ⊤
 
 -- The words, as bytes.
@@ -70,6 +77,16 @@ abbrev pub judging : Option Question → List ℕ → Option ℕ → Option Form
 judging (Some question) model (Some budget) = Some (judges question model budget)
 judging _ model budget = None
 
+-- A range wants a budget.
+abbrev pub ranging : List ℕ → Option ℕ → Option Form
+ranging model (Some budget) = Some (ranges model budget)
+ranging model None = None
+
+-- Stages want a budget.
+abbrev pub staging : List ℕ → List ℕ → Option ℕ → Option Form
+staging model order (Some budget) = Some (builds model order budget)
+staging model order None = None
+
 -- The kind of a built-in stack.
 abbrev pub kind_of : List ℕ → Option Kind
 kind_of word = if bytes_eq word (codes "harmonic") then Some Harmonic
@@ -85,19 +102,28 @@ stacking _ n = None
 abbrev pub form_of_two : List ℕ → List ℕ → Option Form
 form_of_two word last = if bytes_eq word (codes "contacts") then Some (contacts last)
     else (if bytes_eq word (codes "sample") then option_map sample (number_spelled last)
-    else judging (question_of word) last (Some default_budget))
+    else (if bytes_eq word (codes "range") then ranging last (Some default_budget)
+    else judging (question_of word) last (Some default_budget)))
 
--- Three words: two files for `check` and `table`, a kind and a number for `stack`, or a file and a budget.
+-- Three words: two files for `check`, `table` and `stages`, a kind and a number for `stack`, or a file and a budget.
 abbrev pub form_of_three : List ℕ → List ℕ → List ℕ → Option Form
 form_of_three word next last = if bytes_eq word (codes "check") then Some (check next last)
     else (if bytes_eq word (codes "table") then Some (tables next last)
     else (if bytes_eq word (codes "stack") then stacking (kind_of next) (number_spelled last)
-    else judging (question_of word) next (budget_of last)))
+    else (if bytes_eq word (codes "range") then ranging next (budget_of last)
+    else (if bytes_eq word (codes "stages") then staging next last (Some default_budget)
+    else judging (question_of word) next (budget_of last)))))
+
+-- Four words: two files and a budget.
+abbrev pub form_of_four : List ℕ → List ℕ → List ℕ → List ℕ → Option Form
+form_of_four word next third last =
+    if bytes_eq word (codes "stages") then staging next third (budget_of last) else None
 
 -- The form of the words, if they have one.
 abbrev pub form_of : List (List ℕ) → Option Form
 form_of (word ∷ last ∷ []) = form_of_two word last
 form_of (word ∷ next ∷ last ∷ []) = form_of_three word next last
+form_of (word ∷ next ∷ third ∷ last ∷ []) = form_of_four word next third last
 form_of _ = None
 
 -- The words that the runtime gave: where one of them can't be read, or there is no memory for them, they are no form.
@@ -115,3 +141,5 @@ files_of (Some (judges question model budget)) = model ∷ []
 files_of (Some (tables model certificate)) = model ∷ certificate ∷ []
 files_of (Some (stack kind n)) = []
 files_of (Some (sample n)) = []
+files_of (Some (ranges model budget)) = model ∷ []
+files_of (Some (builds model order budget)) = model ∷ order ∷ []

@@ -6,10 +6,12 @@ ghost use Rattle.stack_contact.specs.Surveyed.{Surveyed};
 ghost use Rattle.stack_equilibrium.specs.declared.types.Question.{Question};
 ghost use Rattle.stack_outside.specs.Faults.{Rose, counted};
 ghost use Rattle.stack_cli.specs.Refusals.{refusal_view};
-ghost use Rattle.stack_cli.specs.Words.{form_of, texts, judges, check};
+ghost use Rattle.stack_cli.specs.Words.{form_of, texts, judges, check, ranges, builds};
 ghost use Rattle.stack_cli.specs.AcceptedModel.{IsAcceptedModel};
 ghost use Rattle.stack_cli.specs.Headline.{Judging};
 ghost use Rattle.stack_cli.specs.Accepted.{CheckSays};
+ghost use Rattle.stack_cli.specs.RangeSaid.{RangeSays};
+ghost use Rattle.stack_cli.specs.StagesSaid.{StagesSay};
 ghost use Rattle.stack_cli.specs.Progress.{Delivers, SaysLine};
 ghost use Rattle.stack_cli.specs.OnePut.{PutsAnswer, PutsLine};
 ghost use Rattle.stack_cli.specs.MainTheorem.{RunMeets};
@@ -76,9 +78,14 @@ fn deliver<O: Sink, E: Sink>(
 /// `out` failed, a true certificate of the question is printed, or the cause of the refusal holds, and each cause has
 /// its refusal. The clause `accepted`: for words of the form `check` and two told files, the status is 0 only where the
 /// second holds a certificate that is true of the model in the first, and exactly `accepted` is printed; it is 1 only
-/// where the second holds one that isn't, and exactly the line of its first test that fails is printed. The clauses
-/// `one_put` and `one_line`: `out` is called once for an answer and never for a refusal, and `err` once for a refusal
-/// and never for an answer.
+/// where the second holds one that isn't, and exactly the line of its first test that fails is printed. The clause
+/// `ranged`: for words of the form `range` and a told file, the status is 0 only where the text of a range is printed,
+/// whose ends are certified and between which lie exactly the factors that the model in it carries, and 1 only where
+/// that of a collapse of the model is. The clause `staged`: for words of the form `stages` and two told files, the
+/// status is 0 only where each stage of the order in the second carries its dead loads, and exactly that is printed; it
+/// is 1 only where the stages before one do and that one is carried by no forces, and exactly that is printed, with the
+/// motion by which it falls. The clauses `one_put` and `one_line`: `out` is called once for an answer and never for a
+/// refusal, and `err` once for a refusal and never for an answer.
 pub fn run<F: Shelf, O: Sink, E: Sink>(
     alloc: Global,
     words: &[String],
@@ -98,6 +105,13 @@ pub fn run<F: Shelf, O: Sink, E: Sink>(
     ensures accepted { (model name bytes text : List ℕ) → form_of (texts words.now) ≡ Some (check model name) →
         F.holds shelf.old model ≡ Some bytes → F.holds shelf.old name ≡ Some text →
         CheckSays bytes text result (O.written out.old) (O.written out.new) }
+    ensures ranged { (model : List ℕ) (budget : ℕ) (bytes : List ℕ) →
+        form_of (texts words.now) ≡ Some (ranges model budget) → F.holds shelf.old model ≡ Some bytes →
+        RangeSays bytes result (O.written out.old) (O.written out.new) }
+    ensures staged { (model name : List ℕ) (budget : ℕ) (bytes text : List ℕ) →
+        form_of (texts words.now) ≡ Some (builds model name budget) → F.holds shelf.old model ≡ Some bytes →
+        F.holds shelf.old name ≡ Some text →
+        StagesSay bytes text result (O.written out.old) (O.written out.new) }
     ensures one_put { PutsAnswer result (O.calls out.old) (O.calls out.new) }
     ensures one_line { PutsLine result (E.calls err.old) (E.calls err.new) }
     ensures holds { F.holds shelf.new ≡ F.holds shelf.old }

@@ -5,9 +5,11 @@ ghost use Rattle.stack_outside.specs.Faults.{Rose};
 ghost use Rattle.stack_cli.specs.Words.{form_of, texts};
 ghost use Rattle.stack_cli.specs.Progress.{IsCausedBy, Works};
 
+pub mod building;
 pub mod checking;
 pub mod judging;
 pub mod listing;
+pub mod ranging;
 pub mod sampling;
 pub mod stacking;
 pub mod tabling;
@@ -15,9 +17,11 @@ pub mod tabling;
 use crate::answer::Answer;
 use crate::refusal::Refusal;
 use crate::words::{Form, parse_form};
+use building::stages_form;
 use checking::check_form;
 use judging::judge_form;
 use listing::contacts_form;
+use ranging::range_form;
 use sampling::sample_form;
 use stack_outside::Shelf;
 use stacking::stack_form;
@@ -49,6 +53,14 @@ pub fn answer_words<F: Shelf>(
         Some(Form::Table { model, certificate }) => table_form(alloc, shelf, model, certificate),
         Some(Form::Stack { kind, size }) => stack_form(alloc, kind, size),
         Some(Form::Sample { number }) => sample_form(alloc, number),
+        Some(Form::Range { model, budget }) => range_form(alloc, shelf, model, budget),
+        Some(
+            Form::Stages {
+                model,
+                order,
+                budget,
+            },
+        ) => stages_form(alloc, shelf, model, order, budget),
         None => Err(Refusal::Words),
     }
 }

@@ -31,6 +31,7 @@ fn what_text(what: What) -> &'static str
 {
     match what {
         What::Materials => "materials",
+        What::Joints => "joints",
         What::Blocks => "blocks",
         What::Free => "free",
         What::Fixed => "fixed",
@@ -46,6 +47,7 @@ impl fmt::Display for SpotText {
         match self.spot {
             Spot::Top => f.write_str("top"),
             Spot::Material(i) => write!(f, "material {}", number(i)),
+            Spot::Joint(i) => write!(f, "joint {}", number(i)),
             Spot::Block(i) => write!(f, "block {}", number(i)),
             Spot::Load(i) => write!(f, "load {}", number(i)),
         }
@@ -79,6 +81,10 @@ impl fmt::Display for ContentText {
             ModelError::LoadOnFixed { load } => write!(f, "load on fixed load {}", number(load)),
             ModelError::TooMany { what } => write!(f, "too many {}", what_text(what)),
             ModelError::Memory => f.write_str("memory"),
+            ModelError::NoJointMaterial { joint } => {
+                write!(f, "no material joint {}", number(joint))
+            }
+            ModelError::SameJoint { joint } => write!(f, "same joint {}", number(joint)),
         }
     }
 }

@@ -1,11 +1,12 @@
 //! Why a run refuses, with the status and the line of each refusal.
 
-ghost use Rattle.std.specs.Prelude.{◌≡◌, Some};
+ghost use Rattle.std.specs.Prelude.{◌≡◌, ◌++◌, codes, Some};
 ghost use Rattle.stack_cli.specs.Refusals.{input_word, part_word, axis_word, step_word, spot_text, numbers_word};
 ghost use Rattle.stack_cli.specs.Refusals.{end_step_word, place_text, balance_of, place_view, status_of, refusal_line};
-ghost use Rattle.stack_cli.specs.Refusals.{refusal_view, faulty};
+ghost use Rattle.stack_cli.specs.Refusals.{refusal_view, faulty, check_text, within_text, run_text, end_text};
 ghost use Rattle.stack_cli.specs.Surveying.{from_read};
 ghost use Rattle.stack_cli.specs.Stacking.{built_fault};
+ghost use Rattle.stack_cli.specs.Building.{from_order};
 ghost use Rattle.stack_cli.specs.declared.refusal.Refusal.TheVariants.{Memory};
 
 use crate::model_lines::FaultText;
@@ -17,6 +18,7 @@ use stack_overhang::StackError;
 use stack_reader::ReadError;
 use stack_report::number;
 use stack_simplex::RunPlace;
+use stack_stages::OrderError;
 use stack_table::types::Step;
 use std::alloc::AllocError;
 use std::fmt;
@@ -28,6 +30,21 @@ pub enum Input {
     Model,
     /// The certificate's.
     Certificate,
+    /// The order's.
+    Order,
+}
+
+/// Of which of a form's judgements a number is too wide.
+#[derive(Clone, Copy, Debug, PartialEq, Eq)]
+pub enum Within {
+    /// Its only one, or its first.
+    Whole,
+    /// The least side of a range.
+    LeastSide,
+    /// The stage with this number, from 1, of an order of building.
+    Stage { number: usize },
+    /// The direction with this number, from 1, of two loads together.
+    Direction { number: usize },
 }
 
 /// Where a check meets a number that is too wide.
@@ -57,23 +74,49 @@ pub enum Refusal {
     /// The model's file has this fault.
     Fault(ReadError),
     /// The bodies with these names, not both fixed, overlap: the first such pair.
-    Overlap { first: String, second: String },
+    Overlap {
+        first: String,
+        second: String,
+    },
     /// There are more than 1,024 bearings, so many.
-    ManyBearings { count: usize },
+    ManyBearings {
+        count: usize,
+    },
     /// There is no built-in model of this size.
     Size,
     /// The certificate's file is no certificate: the least number of a line, from 1, up to which it begins none.
-    CertificateLine { number: usize },
+    CertificateLine {
+        number: usize,
+    },
+    /// The order's file tells no order: this line, from 1, is the first that isn't ended by a line feed, names no free
+    /// block, or names the block of an earlier line.
+    OrderLine {
+        number: usize,
+    },
     /// A number of the check is too wide, in this part of the certificate.
-    WideCheck { part: Part, place: Place },
+    WideCheck {
+        within: Within,
+        part: Part,
+        place: Place,
+    },
     /// A number of the run is too wide.
-    WideRun { place: RunPlace },
+    WideRun {
+        within: Within,
+        place: RunPlace,
+    },
     /// A number that is made of the end of the run is too wide.
-    WideEnd { place: ExtractPlace },
+    WideEnd {
+        within: Within,
+        place: ExtractPlace,
+    },
     /// A number of the table of forces is too wide, the first one with this index in the order in which they are made.
-    WideTable { index: usize },
+    WideTable {
+        index: usize,
+    },
     /// A pivot is due, and this many are done.
-    Spent { budget: u32 },
+    Spent {
+        budget: u32,
+    },
     /// No live load is listed.
     NoLive,
     /// The answer isn't written.
@@ -104,6 +147,7 @@ impl Refusal {
             Refusal::NoLive => 9,
             Refusal::Output => 10,
             Refusal::Memory => 11,
+            Refusal::OrderLine { .. } => 13,
         }
     }
 }
@@ -171,6 +215,7 @@ impl fmt::Display for Input {
         f.write_str(match self {
             Input::Model => "model",
             Input::Certificate => "certificate",
+            Input::Order => "order",
         })
     }
 }
@@ -226,6 +271,68 @@ impl fmt::Display for RunSpot {
     }
 }
 
+impl fmt::Display for Within {
+    ghost output = { λ w. Some (within_text w) };
+
+    fn fmt<W: fmt::Write>(&self, f: &mut fmt::Formatter<W>) -> fmt::Result {
+        match self {
+            Within::Whole => f.write_str(""),
+            Within::LeastSide => f.write_str("least "),
+            Within::Stage { number } => write!(f, "stage {number} "),
+            Within::Direction { number } => write!(f, "dir {number} "),
+        }
+    }
+}
+
+/// The place of a number in a check, with the part of the certificate.
+#[derive(Clone, Copy, Debug)]
+struct CheckSpot<'a> {
+    part: Part,
+    place: &'a Place,
+}
+
+impl fmt::Display for CheckSpot<'_> {
+    ghost output = { λ s. Some (check_text s.part (place_view s.place.now)) };
+
+    fn fmt<W: fmt::Write>(&self, f: &mut fmt::Formatter<W>) -> fmt::Result {
+        let place = self.place;
+        write!(f, "check {} {place}", part_text(self.part))
+    }
+}
+
+/// The place of a number in a run.
+#[derive(Clone, Copy, Debug, PartialEq, Eq)]
+struct RunText {
+    place: RunPlace,
+}
+
+impl fmt::Display for RunText {
+    ghost output = { λ s. Some (codes "run " ++ run_text s.place) };
+
+    fn fmt<W: fmt::Write>(&self, f: &mut fmt::Formatter<W>) -> fmt::Result {
+        let place = self.place;
+        let spot = RunSpot { place };
+        write!(f, "run {} {} {spot}", place.phase, place.pivot)
+    }
+}
+
+/// The place of a number that is made of the end of a run.
+#[derive(Clone, Copy, Debug, PartialEq, Eq)]
+struct EndText {
+    place: ExtractPlace,
+}
+
+impl fmt::Display for EndText {
+    ghost output = { λ s. Some (codes "end " ++ end_text s.place) };
+
+    fn fmt<W: fmt::Write>(&self, f: &mut fmt::Formatter<W>) -> fmt::Result {
+        let place = self.place;
+        let list = numbers_text(place.list);
+        let step = end_step_text(place.step);
+        write!(f, "end {list} {step} {}", place.index)
+    }
+}
+
 /// The line without its line feed.
 impl fmt::Display for Refusal {
     ghost output = { λ r. Some (refusal_line (refusal_view r)) };
@@ -243,17 +350,22 @@ impl fmt::Display for Refusal {
             Refusal::ManyBearings { count } => write!(f, "model too many bearings {count}"),
             Refusal::Size => f.write_str("model size"),
             Refusal::CertificateLine { number } => write!(f, "certificate line {number}"),
-            Refusal::WideCheck { part, place } => {
-                write!(f, "wide check {} {place}", part_text(*part))
+            Refusal::OrderLine { number } => write!(f, "order line {number}"),
+            Refusal::WideCheck {
+                within,
+                part,
+                place,
+            } => {
+                let spot = CheckSpot { part: *part, place };
+                write!(f, "wide {within}{spot}")
             }
-            Refusal::WideRun { place } => {
-                let spot = RunSpot { place: *place };
-                write!(f, "wide run {} {} {spot}", place.phase, place.pivot)
+            Refusal::WideRun { within, place } => {
+                let spot = RunText { place: *place };
+                write!(f, "wide {within}{spot}")
             }
-            Refusal::WideEnd { place } => {
-                let list = numbers_text(place.list);
-                let step = end_step_text(place.step);
-                write!(f, "wide end {list} {step} {}", place.index)
+            Refusal::WideEnd { within, place } => {
+                let spot = EndText { place: *place };
+                write!(f, "wide {within}{spot}")
             }
             Refusal::WideTable { index } => write!(f, "wide table {index}"),
             Refusal::Spent { budget } => write!(f, "spent {budget}"),
@@ -291,6 +403,17 @@ impl From<StackError> for Refusal {
         match e {
             StackError::Size => Refusal::Size,
             StackError::Memory => Refusal::Memory,
+        }
+    }
+}
+
+impl From<OrderError> for Refusal {
+    ghost from_gives = { λ e r. refusal_view r ≡ faulty (from_order e) };
+
+    fn from(e: OrderError) -> Refusal {
+        match e {
+            OrderError::Line { number } => Refusal::OrderLine { number },
+            OrderError::Memory => Refusal::Memory,
         }
     }
 }

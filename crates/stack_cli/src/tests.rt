@@ -26,6 +26,9 @@ material = "stone"
 corners = [[0, 0], [2, 0], [2, 4], [0, 4]]
 "#;
 
+/// A live load that pushes it at its head.
+const PUSH: &str = "\n[[load]]\nblock = \"post\"\nkind = \"live\"\nat = [0, 4]\nforce = [1, 0]\n";
+
 /// Forces that carry it.
 const FORCES: &str = "stands\nforces 1 0\npush 24 0\npush 24 0\nend\n";
 
@@ -148,6 +151,57 @@ fn the_post_is_judged(rt: HostRuntime) -> Result<(), Fail> {
     );
     assert!(rt; out.written().starts_with(b"stands\n"));
     assert_eq!(rt; files.asked().len(), 3);
+    Ok(())
+}
+
+#[test]
+fn the_range_of_a_pushed_post_is_told(rt: HostRuntime) -> Result<(), Fail> {
+    let alloc = rt.alloc();
+    let mut text = String::from_str(alloc, POST)?;
+    text.push_str(PUSH)?;
+    let mut list = Vec::new(alloc);
+    list.push((String::from_str(alloc, "model")?, text.into_bytes()))?;
+    let mut files = MemoryShelf::new(list, Vec::new(alloc));
+    let few = ["range", "model", "1"];
+    compare(&rt, alloc, &mut files, &few, (8, "", "spent 1\n"))?;
+    let words = strings(alloc, &["range", "model"])?;
+    let mut out = MemorySink::new(Vec::new(alloc), 1000)?;
+    let mut err = MemorySink::new(Vec::new(alloc), 100)?;
+    assert_eq!(rt;
+        run(alloc, words.as_slice(), &mut files, &mut out, &mut err),
+        0
+    );
+    assert!(rt; out.written().starts_with(b"range -2/1 2/1\ngreatest\n"));
+    assert_eq!(rt; files.asked().len(), 2);
+    let mut alone = shelf(alloc, FORCES, Vec::new(alloc))?;
+    let range = ["range", "model"];
+    compare(&rt, alloc, &mut alone, &range, (9, "", "no live load\n"))
+}
+
+#[test]
+fn the_stages_of_an_order_are_told(rt: HostRuntime) -> Result<(), Fail> {
+    let alloc = rt.alloc();
+    let mut list = Vec::new(alloc);
+    let told = [
+        ("model", POST),
+        ("order", "post\n"),
+        ("twice", "post\npost\n"),
+    ];
+    for (name, text) in told {
+        let bytes = Vec::from_slice(alloc, text.as_bytes())?;
+        list.push((String::from_str(alloc, name)?, bytes))?;
+    }
+    let mut files = MemoryShelf::new(list, Vec::new(alloc));
+    let all = ["stages", "model", "order"];
+    let stands = (0, "stage 1 stands\nall stand\n", "");
+    compare(&rt, alloc, &mut files, &all, stands)?;
+    let few = ["stages", "model", "order", "1"];
+    compare(&rt, alloc, &mut files, &few, (8, "", "spent 1\n"))?;
+    let twice = ["stages", "model", "twice"];
+    compare(&rt, alloc, &mut files, &twice, (13, "", "order line 2\n"))?;
+    let none = ["stages", "model", "none"];
+    compare(&rt, alloc, &mut files, &none, (3, "", "file order\n"))?;
+    assert_eq!(rt; files.asked().len(), 8);
     Ok(())
 }
 

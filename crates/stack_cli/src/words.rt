@@ -6,6 +6,8 @@ ghost use Rattle.stack_cli.specs.Words.{form_of, form_view, HasBudget, texts, qu
 ghost use Rattle.stack_cli.specs.Words.{number_spelled as number_of_word, budget_of as budget_of_word};
 ghost use Rattle.stack_cli.specs.Words.{judging as judging_of, kind_of as kind_of_word, stacking as stacking_of};
 ghost use Rattle.stack_cli.specs.Words.{form_of_two as form_of_two_words, form_of_three as form_of_three_words};
+ghost use Rattle.stack_cli.specs.Words.{form_of_four as form_of_four_words, ranging as ranging_of};
+ghost use Rattle.stack_cli.specs.Words.{staging as staging_of};
 
 use itoa::Buffer;
 use stack_equilibrium::types::Question;
@@ -52,6 +54,17 @@ pub enum Form<'a> {
     /// Judges the live load of a built-in wall.
     Sample {
         number: u32,
+    },
+    /// Judges the whole range of factors of a model within a budget of pivots a side; the name of its file.
+    Range {
+        model: &'a str,
+        budget: u32,
+    },
+    /// Judges the stages of an order of building within a budget of pivots a stage; the names of both files.
+    Stages {
+        model: &'a str,
+        order: &'a str,
+        budget: u32,
     },
 }
 
@@ -114,6 +127,34 @@ fn judging<'a>(question: Option<Question>, model: &'a str, budget: Option<u32>) 
     }
 }
 
+/// The form of the range of a model, where the budget is one.
+fn ranging<'a>(model: &'a str, budget: Option<u32>) -> Option<Form<'a>>
+    requires { IfSome budget (λ n. n ≢ 0) }
+    ensures is { option_map form_view result ≡ ranging_of model.now budget }
+    ensures budget { IfSome result HasBudget }
+{
+    match budget {
+        Some(budget) => Some(Form::Range { model, budget }),
+        None => None,
+    }
+}
+
+/// The form of the stages of an order, where the budget is one.
+fn staging<'a>(model: &'a str, order: &'a str, budget: Option<u32>) -> Option<Form<'a>>
+    requires { IfSome budget (λ n. n ≢ 0) }
+    ensures is { option_map form_view result ≡ staging_of model.now order.now budget }
+    ensures budget { IfSome result HasBudget }
+{
+    match budget {
+        Some(budget) => Some(Form::Stages {
+            model,
+            order,
+            budget,
+        }),
+        None => None,
+    }
+}
+
 /// The kind of stack that a word names.
 fn kind_of(word: &str) -> Option<Kind>
     ensures { result ≡ kind_of_word word.now }
@@ -151,6 +192,9 @@ fn form_of_two<'a>(word: &str, last: &'a str) -> Option<Form<'a>>
     if word == "sample" {
         return number_of(last).map(|number| Form::Sample { number });
     }
+    if word == "range" {
+        return ranging(last, Some(DEFAULT_BUDGET));
+    }
     judging(question_of(word), last, Some(DEFAULT_BUDGET))
 }
 
@@ -174,7 +218,24 @@ fn form_of_three<'a>(word: &str, next: &'a str, last: &'a str) -> Option<Form<'a
     if word == "stack" {
         return stacking(kind_of(next), number_of(last));
     }
+    if word == "range" {
+        return ranging(next, budget_of(last));
+    }
+    if word == "stages" {
+        return staging(next, last, Some(DEFAULT_BUDGET));
+    }
     judging(question_of(word), next, budget_of(last))
+}
+
+/// The form of a word before three more.
+fn form_of_four<'a>(word: &str, next: &'a str, third: &'a str, last: &str) -> Option<Form<'a>>
+    ensures is { option_map form_view result ≡ form_of_four_words word.now next.now third.now last.now }
+    ensures budget { IfSome result HasBudget }
+{
+    if word == "stages" {
+        return staging(next, third, budget_of(last));
+    }
+    None
 }
 
 /// The form of the words, exactly where they have one. Takes no memory.
@@ -185,6 +246,9 @@ pub fn parse_form(words: &[String]) -> Option<Form<'_>>
     match words {
         [word, last] => form_of_two(word.as_str(), last.as_str()),
         [word, next, last] => form_of_three(word.as_str(), next.as_str(), last.as_str()),
+        [word, next, third, last] => {
+            form_of_four(word.as_str(), next.as_str(), third.as_str(), last.as_str())
+        }
         _ => None,
     }
 }

@@ -219,3 +219,36 @@ first_from (b ∷ bs) k zero l h = go b.fixed h
     go true e = absurd (cc)
     go false e = refl
 first_from (b ∷ bs) k (suc i) l h = first_from bs k i (omega arith) h
+
+-- the free ones from body i on, by body i
+from_one : (bs : List NamedBody) (k i : ℕ) → i < length bs → frees_from k (drop i bs)
+    ≡ (if (body_at bs i).fixed then frees_from (k + 1) (drop (suc i) bs) else k ∷ frees_from (k + 1) (drop (suc i) bs))
+from_one [] k i l = absurd (omega arith)
+from_one (b ∷ bs) k zero l = refl
+from_one (b ∷ bs) k (suc i) l = from_one bs k i (omega (arith, l))
+
+-- so many free ones are still to be passed among these numbers, up to n
+abbrev pub Remain : (left n : ℕ) → List ℕ → Type 0
+Remain left n rest = (left < length rest) × (get_or rest left 0 ≡ n)
+
+module _ (bs : List NamedBody) (i left n : ℕ) (l : i < length bs) (h : Remain left n (frees_from i (drop i bs))) where
+  by_body : (f : Bool) → (body_at bs i).fixed ≡ f → Remain left n
+      (if f then frees_from (i + 1) (drop (i + 1) bs) else i ∷ frees_from (i + 1) (drop (i + 1) bs))
+  by_body f e = subst (Remain left n) (from_one bs i i l
+      ∙ (λ z. if e z then frees_from (i + 1) (drop (next z) bs) else i ∷ frees_from (i + 1) (drop (next z) bs))) h
+    where
+      next : suc i ≡ i + 1
+      next = omega arith
+
+  -- past a fixed body there are as many
+  pub past_fixed : (body_at bs i).fixed ≡ true → Remain left n (frees_from (i + 1) (drop (i + 1) bs))
+  past_fixed e = by_body true e
+
+  -- past a free body that isn't the one there is one less
+  pub past_free : (less : ℕ) → left ≡ suc less → (body_at bs i).fixed ≡ false →
+      Remain less n (frees_from (i + 1) (drop (i + 1) bs))
+  past_free less s e = later (frees_from (i + 1) (drop (i + 1) bs))
+      (subst (λ m. Remain m n (i ∷ frees_from (i + 1) (drop (i + 1) bs))) s (by_body false e))
+    where
+      later : (rest : List ℕ) → Remain (suc less) n (i ∷ rest) → Remain less n rest
+      later rest h = (omega (arith, h.0), h.1)

@@ -20,3 +20,4 @@ pub mod PairOrder
 pub mod Frees
 pub mod SameLists
 pub mod OneSurvey
+pub mod SameContacts

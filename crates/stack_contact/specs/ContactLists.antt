@@ -1,11 +1,11 @@
 -- The bearings and the touches of a structure, each as the one list that has all of them in order.
-use Rattle.std.specs.Prelude.{◌≡◌, ℕ, ◌<◌, ◌⊎◌, ◌&&◌, false, List, length, Some, slice_get}
+use Rattle.std.specs.Prelude.{◌≡◌, ℕ, ◌<◌, ◌⊎◌, ◌&&◌, ℤ, false, List, length, Option, Some, None, slice_get}
 use Rattle.stack_polygon.specs.declared.point.Point.{Point}
 use Rattle.stack_polygon.specs.Plane.{Triple, IsAt}
 use Rattle.stack_frame.specs.declared.frame.Frame.{Frame}
 use Rattle.stack_frame.specs.declared.cone.Cone.{Cone}
-use Rattle.stack_frame.specs.Cones.{cone, lesser_of}
-use Rattle.stack_model.specs.Structure.{Structure, material_of, body_of}
+use Rattle.stack_frame.specs.Cones.{cone, lesser_of, lowest}
+use Rattle.stack_model.specs.Structure.{Structure, material_of, body_of, joint_terms}
 use Rattle.stack_contact.specs.declared.types.Bearing.{Bearing}
 use Rattle.stack_contact.specs.declared.types.Touch.{Touch}
 use Rattle.stack_overlap.specs.CommonPoints.{IsBefore}
@@ -21,13 +21,24 @@ pub record IsPair (s : Structure) (i j : ℕ) : Type 0 where
   pub is_body : j < length s.bodies
   pub not_both_fixed : ((body_of s i).fixed && (body_of s j).fixed) ≡ false
 
--- the friction of a body's material, and the lesser one of two bodies
-abbrev pub body_friction : Structure → ℕ → Cone
-body_friction s i = let m = material_of s (body_of s i).material in cone m.p m.q
+-- the friction of a material by itself
+abbrev pub material_friction : Structure → ℕ → Cone
+material_friction s m = let n = material_of s m in cone n.p n.q
 
--- the lesser friction of bodies i and j, in lowest terms
+-- the terms of a joint in lowest terms, or else the lesser of two coefficients
+abbrev pub joint_or_lesser : Option (ℤ × ℤ) → Cone → Cone → Cone
+joint_or_lesser (Some t) a b = lowest (cone t.0 t.1)
+joint_or_lesser None a b = lesser_of a b
+
+-- the friction between two materials, in lowest terms: that of their joint where one is listed, in either order, and
+-- else the lesser of the two
+abbrev pub friction_of_materials : Structure → ℕ → ℕ → Cone
+friction_of_materials s m n =
+    joint_or_lesser (joint_terms s.joints m n) (material_friction s m) (material_friction s n)
+
+-- the friction between bodies i and j: that of their materials
 abbrev pub friction_between : Structure → ℕ → ℕ → Cone
-friction_between s i j = lesser_of (body_friction s i) (body_friction s j)
+friction_between s i j = friction_of_materials s (body_of s i).material (body_of s j).material
 
 -- the pair i, j comes before the pair k, l
 abbrev pub PairBefore : ℕ → ℕ → ℕ → ℕ → Type 0
@@ -37,7 +48,7 @@ PairBefore i j k l = (i < k) ⊎ ((i ≡ k) × (j < l))
 abbrev pub ComesBefore : ℕ → ℕ → Point → ℕ → ℕ → Point → Type 0
 ComesBefore i j a k l b = PairBefore i j k l ⊎ ((i ≡ k) × (j ≡ l) × IsBefore a b)
 
--- the pair bears there, with the lesser friction
+-- the pair bears there, with the friction between its bodies
 pub record IsBearing (s : Structure) (z : Bearing) : Type 0 where
   pub pair : IsPair s z.first z.second
   pub bears : (X : Triple) → IsAt X z.at → Bears (corners_of s z.first) (corners_of s z.second) z.frame X

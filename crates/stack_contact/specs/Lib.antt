@@ -5,5 +5,6 @@ pub mod ContactLists
 pub mod Surveyed
 pub mod NearPairs
 pub mod OneSurvey
+pub mod FrictionLaws
 pub mod Found
 pub mod FreeBlocks

@@ -15,7 +15,7 @@ mod sweeping;
 pub mod types;
 
 pub use pair::contacts;
-pub use surveying::survey;
+pub use surveying::{survey, survey_again};
 
 #[cfg(test)]
 mod tests;

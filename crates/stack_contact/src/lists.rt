@@ -3,7 +3,7 @@
 ghost use Rattle.std.specs.Prelude.{◌≡◌, ◌<◌, suc, length, ◌++◌, IfOk, MatchResult};
 ghost use Rattle.stack_model.specs.ModelView.{model_view};
 ghost use Rattle.stack_frame.specs.Cones.{IsCoefficient};
-ghost use Rattle.stack_contact.specs.ContactLists.{body_friction, friction_between, IsPair};
+ghost use Rattle.stack_contact.specs.ContactLists.{material_friction, friction_of_materials, friction_between, IsPair};
 ghost use Rattle.stack_contact.specs.NearPairs.{AreNearPairs, IsOrdered};
 ghost use Rattle.stack_contact.specs.Found.{bearings_in, touches_in, AreFound, AreAllFound, Stops};
 
@@ -21,28 +21,46 @@ pub struct Lists {
     pub touches: Vec<Touch>,
 }
 
-/// The coefficient of a body's material.
-fn friction(model: &Model, body: usize) -> Cone
-    requires { body < length (model_view model.now).bodies }
-    ensures is { result ≡ body_friction (model_view model.now) body }
+/// The coefficient of a material.
+fn friction(model: &Model, material: usize) -> Cone
+    requires { material < length (model_view model.now).materials }
+    ensures is { result ≡ material_friction (model_view model.now) material }
     ensures within { IsCoefficient result }
 {
-    let material = model.material(model.body(body).material);
+    let material = model.material(material);
     Cone {
         p: material.p,
         q: material.q,
     }
 }
 
-/// The lesser coefficient of two bodies.
+/// The coefficient between two materials: that of their joint, or else the lesser of the two.
+fn material_joint(model: &Model, s: usize, t: usize) -> Cone
+    requires s { s < length (model_view model.now).materials }
+    requires t { t < length (model_view model.now).materials }
+    ensures { result ≡ friction_of_materials (model_view model.now) s t }
+{
+    match model.friction(s, t) {
+        Some((p, q)) => Cone::new(p, q),
+        None => {
+            let a = friction(model, s);
+            let b = friction(model, t);
+            cone_of(a.p, a.q, b.p, b.q)
+        }
+    }
+}
+
+/// The coefficient between two bodies.
 fn joint_friction(model: &Model, first: usize, second: usize) -> Cone
     requires first { first < length (model_view model.now).bodies }
     requires second { second < length (model_view model.now).bodies }
     ensures { result ≡ friction_between (model_view model.now) first second }
 {
-    let a = friction(model, first);
-    let b = friction(model, second);
-    cone_of(a.p, a.q, b.p, b.q)
+    material_joint(
+        model,
+        model.body(first).material,
+        model.body(second).material,
+    )
 }
 
 /// The lists with the contacts of one more pair.

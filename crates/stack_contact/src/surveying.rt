@@ -1,17 +1,18 @@
 //! The survey of a model, and what it tells.
 
-ghost use Rattle.std.specs.Prelude.{◌≡◌, ◌<◌, ◌≤◌, false, length, slice_index};
+ghost use Rattle.std.specs.Prelude.{◌≡◌, ◌<◌, ◌≤◌, false, length, slice_index, IfOk};
 ghost use Rattle.stack_model.specs.Structure.{body_of};
 ghost use Rattle.stack_model.specs.ModelView.{model_view};
 ghost use Rattle.stack_whole.specs.Limits.{most_free};
 ghost use Rattle.stack_contact.specs.FreeBlocks.{frees_of, free_of, frees_before};
-ghost use Rattle.stack_contact.specs.Surveyed.{Surveys, IsSurvey};
+ghost use Rattle.stack_contact.specs.Surveyed.{Surveys, IsSurvey, surveyed};
 
+use crate::laws::one_survey;
 use crate::lists::all_found;
 use crate::types::{Bearing, Survey, SurveyError, Touch};
 use stack_model::Model;
 use stack_whole::limits::MOST_BEARINGS;
-use std::alloc::Global;
+use std::alloc::{AllocError, Global};
 
 /// The survey of a model: exactly its bearings and its touches. Pairs of two fixed bodies are left out. Refused
 /// are, in this order: a model with a pair that no edge of either body separates, with the least such pair, and
@@ -29,6 +30,24 @@ pub fn survey(alloc: Global, model: Model) -> Result<Survey, SurveyError>
         bearings: found.bearings,
         touches: found.touches,
     })
+}
+
+/// The survey of a model whose materials, joints and bodies are those of a survey: its bearings and its touches are the
+/// same, whatever its loads and its sway.
+pub fn survey_again(alloc: Global, s: &Survey, model: Model) -> Result<Survey, AllocError>
+    requires materials { (model_view model).materials ≡ s.now.structure.materials }
+    requires joints { (model_view model).joints ≡ s.now.structure.joints }
+    requires bodies { (model_view model).bodies ≡ s.now.structure.bodies }
+    ensures { IfOk result (λ r. r ≡ surveyed (model_view model) s.now.bearings s.now.touches) }
+{
+    one_survey();
+    let _survey = s.bearings();
+    match survey(alloc, model) {
+        Ok(other) => Ok(other),
+        Err(SurveyError::Memory) => Err(AllocError),
+        Err(SurveyError::Overlap { .. }) => unreachable!(),
+        Err(SurveyError::TooManyBearings { .. }) => unreachable!(),
+    }
 }
 
 impl Survey {

@@ -1,34 +1,23 @@
 -- The row found as best: none has a lesser ratio, and none of the same ratio a lesser basic column.
-use Rattle.std.proofs.Common.{◌≡◌, ◌≢◌, refl, sym, ap, subst, ◌∙◌, ℕ, zero, suc, ◌<◌, ◌≤◌, Bool, true, false, cond}
+use Rattle.std.proofs.Common.{◌≡◌, ◌≢◌, refl, sym, ap, subst, ◌∙◌, ℕ, zero, suc, ◌<◌, Bool, true, false, cond}
 use Rattle.std.proofs.Common.{ltb, Option, Some, None, arith}
 use Rattle.std.proofs.lemmas.Bool.{ltb-true, ltb-false}
 use native.Mathlib.Decide.{ℕ_discrete}
 use lib.IntN.{pos}
 use Rattle.stack_algebra.proofs.Ring.{Exp, num, ◌⊕◌, ◌⊖◌, ring1, ring2, ring3}
 use Rattle.stack_algebra.specs.Ordered.{Ordered, Sign, minus, nought, plus}
-use Rattle.stack_algebra.specs.Rows.{less}
-use Rattle.stack_algebra.specs.Rows.{NonNeg}
+use Rattle.stack_algebra.specs.Rows.{less, NonNeg}
 use Rattle.stack_algebra.proofs.Signs.{nonneg_zero, zero_between, nonneg_add, nonneg_neg, nonneg_by}
 use Rattle.stack_bland.specs.Choice.{is_plus, goes_first, better, best}
+use Rattle.stack_duality.specs.LeavingRow.{NoWorse, IsBest}
 
 -- the item of Some
 some_same : {P : Type 0} {x y : P} → Some x ≡ Some y → x ≡ y
 some_same e = cc
 
 module _ (F : Ordered) where
-  -- row r is no worse than row i: no greater ratio, and at the same ratio no greater basic column
-  pub record NoWorse (ratio : ℕ → F.C) (basic : ℕ → ℕ) (r i : ℕ) : Type 0 where
-    pub no_greater : NonNeg F (less F (ratio i) (ratio r))
-    pub tied : ratio i ≡ ratio r → basic r ≤ basic i
-
-  -- row r has the best ratio among the rows below n with a positive cell
-  pub record IsBest (cell ratio : ℕ → F.C) (basic : ℕ → ℕ) (n r : ℕ) : Type 0 where
-    pub below : r < n
-    pub positive : F.sign (cell r) ≡ plus
-    pub no_worse : (i : ℕ) → i < n → F.sign (cell i) ≡ plus → NoWorse ratio basic r i
-
   -- no worse than itself, and than what a row that is no worse is no worse than
-  no_worse-self : (ratio : ℕ → F.C) (basic : ℕ → ℕ) (r : ℕ) → NoWorse ratio basic r r
+  no_worse-self : (ratio : ℕ → F.C) (basic : ℕ → ℕ) (r : ℕ) → NoWorse F ratio basic r r
   no_worse-self ratio basic r = record {
     no_greater = nonneg_by F (F.of (pos 0)) (less F (ratio r) (ratio r))
         (sym (ring1 F.ring (λ x. (x ⊖ x, num (pos 0))) refl (ratio r)))
@@ -43,8 +32,8 @@ module _ (F : Ordered) where
   less-swap : (x y : F.C) → F.neg (less F x y) ≡ less F y x
   less-swap = ring2 F.ring (λ x y. (Exp.neg (x ⊖ y), y ⊖ x)) refl
 
-  no_worse-trans : (ratio : ℕ → F.C) (basic : ℕ → ℕ) (a b c : ℕ) → NoWorse ratio basic a b →
-      NoWorse ratio basic b c → NoWorse ratio basic a c
+  no_worse-trans : (ratio : ℕ → F.C) (basic : ℕ → ℕ) (a b c : ℕ) → NoWorse F ratio basic a b →
+      NoWorse F ratio basic b c → NoWorse F ratio basic a c
   no_worse-trans ratio basic a b c h k = record {
     no_greater = nonneg_by F _ (less F (ratio c) (ratio a)) (ring3 F.ring (λ x y z. ((z ⊖ y) ⊕ (y ⊖ x), z ⊖ x))
         refl (ratio a) (ratio b) (ratio c)) (nonneg_add F _ _ k.no_greater h.no_greater);
@@ -70,8 +59,8 @@ module _ (F : Ordered) where
   -- what the test of two rows says
   compared : (ratio : ℕ → F.C) (basic : ℕ → ℕ) (n r : ℕ) (s : Sign) (t : Bool) →
       F.sign (less F (ratio n) (ratio r)) ≡ s → ltb (basic n) (basic r) ≡ t →
-      (goes_first s (basic n) (basic r) ≡ true → NoWorse ratio basic n r)
-      × (goes_first s (basic n) (basic r) ≡ false → NoWorse ratio basic r n)
+      (goes_first s (basic n) (basic r) ≡ true → NoWorse F ratio basic n r)
+      × (goes_first s (basic n) (basic r) ≡ false → NoWorse F ratio basic r n)
   compared ratio basic n r minus t e g = (
     λ _. record {
       no_greater = swapped ratio n r (λ p. cc);
@@ -96,35 +85,35 @@ module _ (F : Ordered) where
   -- the best row so far and one row more
   best_more : (cell ratio : ℕ → F.C) (basic : ℕ → ℕ) (n : ℕ) (o : Option ℕ) (r : ℕ) → F.sign (cell n) ≡ plus →
       (o ≡ None → (i : ℕ) → i < n → F.sign (cell i) ≢ plus) →
-      ((q : ℕ) → o ≡ Some q → IsBest cell ratio basic n q) →
-      better F ratio basic n o ≡ Some r → IsBest cell ratio basic (suc n) r
-  best_more cell ratio basic n None r p h k e = subst (λ i. IsBest cell ratio basic (suc n) i) (some_same e)
+      ((q : ℕ) → o ≡ Some q → IsBest F cell ratio basic n q) →
+      better F ratio basic n o ≡ Some r → IsBest F cell ratio basic (suc n) r
+  best_more cell ratio basic n None r p h k e = subst (λ i. IsBest F cell ratio basic (suc n) i) (some_same e)
       (record { below = omega arith; positive = p; no_worse = λ i l q. go i l q (ℕ_discrete i n) })
     where
-      go : (i : ℕ) → i < suc n → F.sign (cell i) ≡ plus → Dec (i ≡ n) → NoWorse ratio basic n i
-      go i l q (yes d) = subst (λ k. NoWorse ratio basic n k) (sym d) (no_worse-self ratio basic n)
+      go : (i : ℕ) → i < suc n → F.sign (cell i) ≡ plus → Dec (i ≡ n) → NoWorse F ratio basic n i
+      go i l q (yes d) = subst (λ k. NoWorse F ratio basic n k) (sym d) (no_worse-self ratio basic n)
       go i l q (no d) = absurd (h refl i (omega arith) q)
   best_more cell ratio basic n (Some b) r p h k e =
       go (goes_first (F.sign (less F (ratio n) (ratio b))) (basic n) (basic b))
       (compared ratio basic n b _ _ refl refl) (k b refl) e
     where
-      go : (t : Bool) → (t ≡ true → NoWorse ratio basic n b) × (t ≡ false → NoWorse ratio basic b n) →
-          IsBest cell ratio basic n b → Some (cond t n b) ≡ Some r → IsBest cell ratio basic (suc n) r
-      go true w s e = subst (λ i. IsBest cell ratio basic (suc n) i) (some_same e)
+      go : (t : Bool) → (t ≡ true → NoWorse F ratio basic n b) × (t ≡ false → NoWorse F ratio basic b n) →
+          IsBest F cell ratio basic n b → Some (cond t n b) ≡ Some r → IsBest F cell ratio basic (suc n) r
+      go true w s e = subst (λ i. IsBest F cell ratio basic (suc n) i) (some_same e)
           (record { below = omega arith; positive = p; no_worse = λ i l q. each i l q (ℕ_discrete i n) })
         where
-          each : (i : ℕ) → i < suc n → F.sign (cell i) ≡ plus → Dec (i ≡ n) → NoWorse ratio basic n i
-          each i l q (yes d) = subst (λ k. NoWorse ratio basic n k) (sym d) (no_worse-self ratio basic n)
+          each : (i : ℕ) → i < suc n → F.sign (cell i) ≡ plus → Dec (i ≡ n) → NoWorse F ratio basic n i
+          each i l q (yes d) = subst (λ k. NoWorse F ratio basic n k) (sym d) (no_worse-self ratio basic n)
           each i l q (no d) = no_worse-trans ratio basic n b i (w.0 refl) (s.no_worse i (omega arith) q)
-      go false w s e = subst (λ i. IsBest cell ratio basic (suc n) i) (some_same e)
+      go false w s e = subst (λ i. IsBest F cell ratio basic (suc n) i) (some_same e)
           (record {
             below = omega (arith, s.below);
             positive = s.positive;
             no_worse = λ i l q. each i l q (ℕ_discrete i n);
           })
         where
-          each : (i : ℕ) → i < suc n → F.sign (cell i) ≡ plus → Dec (i ≡ n) → NoWorse ratio basic b i
-          each i l q (yes d) = subst (λ k. NoWorse ratio basic b k) (sym d) (w.1 refl)
+          each : (i : ℕ) → i < suc n → F.sign (cell i) ≡ plus → Dec (i ≡ n) → NoWorse F ratio basic b i
+          each i l q (yes d) = subst (λ k. NoWorse F ratio basic b k) (sym d) (w.1 refl)
           each i l q (no d) = s.no_worse i (omega arith) q
 
   -- no row has a positive cell
@@ -146,27 +135,27 @@ module _ (F : Ordered) where
 
   -- and a row that is found is the best
   pub best-some : (cell ratio : ℕ → F.C) (basic : ℕ → ℕ) (n r : ℕ) → best F cell ratio basic n ≡ Some r →
-      IsBest cell ratio basic n r
+      IsBest F cell ratio basic n r
   best-some cell ratio basic zero r e = absurd cc
   best-some cell ratio basic (suc n) r e = go (F.sign (cell n)) refl (best F cell ratio basic n)
       (best-none cell ratio basic n) (best-some cell ratio basic n) e
     where
-      kept : (s : Sign) → F.sign (cell n) ≡ s → s ≢ plus → IsBest cell ratio basic n r →
-          IsBest cell ratio basic (suc n) r
+      kept : (s : Sign) → F.sign (cell n) ≡ s → s ≢ plus → IsBest F cell ratio basic n r →
+          IsBest F cell ratio basic (suc n) r
       kept s q d h = record {
         below = omega (arith, h.below);
         positive = h.positive;
         no_worse = λ i l p. each i l p (ℕ_discrete i n);
       }
         where
-          each : (i : ℕ) → i < suc n → F.sign (cell i) ≡ plus → Dec (i ≡ n) → NoWorse ratio basic r i
+          each : (i : ℕ) → i < suc n → F.sign (cell i) ≡ plus → Dec (i ≡ n) → NoWorse F ratio basic r i
           each i l p (yes t) = absurd (d (sym q ∙ ap (λ k. F.sign (cell k)) (sym t) ∙ p))
           each i l p (no t) = h.no_worse i (omega arith) p
 
       go : (s : Sign) → F.sign (cell n) ≡ s → (o : Option ℕ) →
           (o ≡ None → (i : ℕ) → i < n → F.sign (cell i) ≢ plus) →
-          ((q : ℕ) → o ≡ Some q → IsBest cell ratio basic n q) →
-          cond (is_plus s) (better F ratio basic n o) o ≡ Some r → IsBest cell ratio basic (suc n) r
+          ((q : ℕ) → o ≡ Some q → IsBest F cell ratio basic n q) →
+          cond (is_plus s) (better F ratio basic n o) o ≡ Some r → IsBest F cell ratio basic (suc n) r
       go plus q o h k e = best_more cell ratio basic n o r q h k e
       go minus q o h k e = kept minus q (λ d. cc) (k r e)
       go nought q o h k e = kept nought q (λ d. cc) (k r e)

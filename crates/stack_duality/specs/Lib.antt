@@ -1,3 +1,4 @@
+pub mod LeavingRow
 pub mod WrittenRun
 pub mod EndNumbers
 pub mod Balance

@@ -1,5 +1,6 @@
 //! The laws of the written run, each a clause of a function that does nothing.
 
+ghost use Rattle.stack_duality.specs.LeavingRow.{LeavingRowIsBest, NoneIsPositive};
 ghost use Rattle.stack_duality.specs.Laws.{EndsGive, SomeRowLeaves, WiderRunIsSame};
 
 /// What the four ends of a run give, for any problem, any budget and any rule of what is too wide; and that a row
@@ -12,4 +13,11 @@ pub fn run_laws()
 /// A run that is nowhere too wide at a greatest value is the same run at a greater one.
 pub fn wider_run_law()
     ensures { WiderRunIsSame }
+{}
+
+/// The row that leaves for a column has a positive cell there, of all such rows the least ratio, and among equal ratios
+/// the least-numbered basic column; none leaves exactly where no row has a positive cell. After Bland (1977).
+pub fn leaving_law()
+    ensures row { LeavingRowIsBest }
+    ensures none { NoneIsPositive }
 {}

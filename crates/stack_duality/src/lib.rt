@@ -7,4 +7,4 @@
 
 mod laws;
 
-pub use laws::{run_laws, wider_run_law};
+pub use laws::{leaving_law, run_laws, wider_run_law};

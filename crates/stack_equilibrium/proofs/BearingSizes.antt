@@ -15,9 +15,12 @@ use Rattle.stack_frame.specs.declared.frame.Frame.{Frame}
 use Rattle.stack_frame.specs.declared.cone.Cone.{Cone}
 use Rattle.stack_polygon.specs.Sizes.{IsStep}
 use Rattle.stack_frame.specs.Directions.{IsLowest, IsFrameOf, IsParallelInSense}
-use Rattle.stack_frame.specs.Cones.{IsCoefficient, lesser_of, lowest}
+use Rattle.stack_frame.specs.Cones.{IsCoefficient, cone, lesser_of, lowest}
 use Rattle.stack_frame.proofs.LowestTerms.{abs-times}
-use Rattle.stack_frame.proofs.LesserCones.{lesser-first, lesser-second}
+use Rattle.stack_frame.proofs.LesserCones.{lesser-first, lesser-second, lowest-is}
+use Rattle.std.specs.Prelude.{Option, Some, None, IfSome}
+use Rattle.stack_model.specs.Structure.{joint_terms, AreTerms}
+use Rattle.stack_model.proofs.Joined.{terms_between, terms_limits}
 use Rattle.stack_frame.proofs.Senses.{frames-by-parallels, lowest-long}
 use Rattle.stack_overlap.specs.Separation.{IsCommon, Separates}
 use Rattle.stack_overlap.specs.Forms.{LinearForm, value, at_corner, square}
@@ -28,7 +31,7 @@ use Rattle.stack_model.specs.Structure.{Structure, body_of}
 use Rattle.stack_model.specs.Sound.{IsSound}
 use Rattle.stack_contact.specs.declared.types.Bearing.{Bearing}
 use Rattle.stack_contact.specs.Bearings.{IsParallel, IsAlong, Bears, HasSecond, IsCornerOnEdge, IsLoneCorner}
-use Rattle.stack_contact.specs.ContactLists.{IsPair, IsBearing, corners_of, body_friction}
+use Rattle.stack_contact.specs.ContactLists.{IsPair, IsBearing, corners_of, material_friction, joint_or_lesser}
 use Rattle.stack_contact.specs.Surveyed.{Surveyed, IsSurvey, AreSeparated}
 use Rattle.stack_contact.proofs.AcrossLines.{senses}
 use Rattle.stack_contact.proofs.AlongEdge.{step-parallel}
@@ -200,7 +203,7 @@ lesser_limits a b ha hb = go (int_le (a.p *ℤ b.q) (b.p *ℤ a.q)) refl
     go false e = (lesser-second a b ha hb e).in_limits
 
 module _ (s : Structure) (sound : IsSound s) where
-  body_limits : (i : ℕ) → i < length s.bodies → IsCoefficient (body_friction s i)
+  body_limits : (i : ℕ) → i < length s.bodies → IsCoefficient (material_friction s (body_of s i).material)
   body_limits i l = let m = sound.materials (body_of s i).material (sound.bodies i l).has_material in record {
     p_least = m.least_p;
     p_greatest = m.most_p;
@@ -212,8 +215,22 @@ module _ (s : Structure) (sound : IsSound s) where
   first_is_body z h = omega (arith, h.pair.in_order, h.pair.is_body)
 
   friction_limits : (z : Bearing) → IsBearing s z → IsCoefficient z.cone
-  friction_limits z h = subst IsCoefficient (sym h.friction) (lesser_limits (body_friction s z.first)
-      (body_friction s z.second) (body_limits z.first (first_is_body z h)) (body_limits z.second h.pair.is_body))
+  friction_limits z h = subst IsCoefficient (sym h.friction)
+      (by_terms (joint_terms s.joints a b)
+      (terms_limits s.joints a b _ sound.joints _ (terms_between s.joints a b)))
+    where
+      a : ℕ
+      a = (body_of s z.first).material
+
+      b : ℕ
+      b = (body_of s z.second).material
+
+      by_terms : (o : Option (ℤ × ℤ)) → IfSome o (λ t. AreTerms t) →
+          IsCoefficient (joint_or_lesser o (material_friction s a) (material_friction s b))
+      by_terms (Some t) k = (lowest-is (cone t.0 t.1)
+          (record { p_least = k.least_p; p_greatest = k.most_p; q_least = k.least_q; q_greatest = k.most_q })).in_limits
+      by_terms None k = lesser_limits (material_friction s a) (material_friction s b)
+          (body_limits z.first (first_is_body z h)) (body_limits z.second h.pair.is_body)
 
   polygon : (i : ℕ) → i < length s.bodies → IsPolygon (corners_of s i)
   polygon i l = (sound.bodies i l).polygon

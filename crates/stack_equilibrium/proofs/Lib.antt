@@ -15,3 +15,8 @@ pub mod ScenePowers
 pub mod SceneRates
 pub mod SurveyBearings
 pub mod BearingSizes
+pub mod Mirrors
+pub mod SwayCorners
+pub mod SwaySums
+pub mod SwaySizes
+pub mod Centroids

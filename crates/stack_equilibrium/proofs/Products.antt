@@ -76,6 +76,15 @@ pub weight_moment : (a b : ℤ) → IsWithin 31 32000000000000000000000000 a →
     wide (wide a +ℤ wide b) ≡ a +ℤ b
 weight_moment a b h k = omega (arith, ints)
 
+-- a sway's load and the loads beside it
+pub sway_force : (a b : ℤ) → IsWithin 31 12000000000000000000000 a → IsWithin 256 24000000000 b →
+    wide (wide a +ℤ wide b) ≡ a +ℤ b
+sway_force a b h k = omega (arith, ints)
+
+pub sway_moment : (a b : ℤ) → IsWithin 31 32000000000000000000000000000 a → IsWithin 256 96000000000000000 b →
+    wide (wide a +ℤ wide b) ≡ a +ℤ b
+sway_moment a b h k = omega (arith, ints)
+
 -- a number of a cone times a step
 share_fits : (a b : ℤ) → IsRate a → IsStep b → SFits w128 (a *ℤ b)
 share_fits a b h k = fits_signed_mul w128 a b 1000 2000000 (omega (arith, ints)) (omega (arith, ints)) (lit< tt)

@@ -2,6 +2,9 @@ pub mod Scene
 pub mod Balance
 pub mod Motions
 pub mod Loads
+pub mod Sway
+pub mod SwaySizes
+pub mod SwayLaws
 pub mod Certificates
 pub mod Laws
 pub mod Weights

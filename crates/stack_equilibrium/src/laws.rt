@@ -1,6 +1,8 @@
 //! The laws of statics, each a clause of a function that does nothing.
 
 ghost use Rattle.stack_equilibrium.specs.Laws.{BearingsWork, VirtualWorkIsZero, AnyCornerWeighsTheSame};
+ghost use Rattle.stack_equilibrium.specs.SwayLaws.{SwayActsAtCentroid, SwayDownIsWeight, NoSwayIsNoLoad, SwaysAddUp};
+ghost use Rattle.stack_equilibrium.specs.SwayLaws.{AnyCornerSwaysTheSame};
 ghost use Rattle.stack_equilibrium.specs.Laws.{StandsIsCarried, CollapseExcludesBalance, GreatestIsCarried};
 ghost use Rattle.stack_equilibrium.specs.Laws.{GreatestBoundsEveryFactor, UnboundedCarriesAbove, UnboundedCarriesAll};
 
@@ -25,4 +27,17 @@ pub fn certificate_laws()
 /// A body's weight is the same whichever of its corners is the first.
 pub fn weight_law()
     ensures { AnyCornerWeighsTheSame }
+{}
+
+/// A sway is a force of the body's weight times the sway, at its centroid.
+pub fn centroid_law()
+    ensures { SwayActsAtCentroid }
+{}
+
+/// A sway straight down is the weight, none is no load, they add up, and the first corner doesn't matter.
+pub fn sway_laws()
+    ensures down { SwayDownIsWeight }
+    ensures none { NoSwayIsNoLoad }
+    ensures sum { SwaysAddUp }
+    ensures corner { AnyCornerSwaysTheSame }
 {}

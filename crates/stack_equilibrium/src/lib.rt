@@ -19,12 +19,13 @@ mod powers;
 mod residues;
 mod sums;
 mod surveys;
+mod sway;
 pub mod types;
 mod velocity;
 mod weight;
 
 pub use columns::column;
-pub use laws::{certificate_laws, virtual_work, weight_law};
+pub use laws::{centroid_law, certificate_laws, sway_laws, virtual_work, weight_law};
 pub use loads::{dead, live};
 pub use openings::opening;
 pub use powers::power;

@@ -8,11 +8,13 @@ ghost use Rattle.stack_equilibrium.specs.declared.types.Question.TheVariants as 
 ghost use Rattle.stack_equilibrium.specs.Loads.{wrench_sum, load_wrench};
 ghost use Rattle.stack_equilibrium.specs.LoadSizes.{IsSmall, AreForces, IsMoment, IsLimited, AreLoads, IsWeight};
 ghost use Rattle.stack_equilibrium.specs.LoadSizes.{force_in, sixfold_of};
+ghost use Rattle.stack_equilibrium.specs.SwaySizes.{IsSwayLoad};
 ghost use Rattle.stack_equilibrium.specs.SurveyScene.{is_asked, acting, listed_on, loads_on};
 ghost use Rattle.stack_equilibrium.specs.Answers.{body_in, body_number};
 
 use crate::block::whole_of;
 use crate::force::{Force, arm_of, moment};
+use crate::sway::sway_on;
 use crate::types::{Question, Wrench};
 use crate::weight::weight_on;
 use stack_contact::types::Survey;
@@ -145,6 +147,33 @@ fn dead_on(model: &Model, i: usize) -> Wrench
     with_weight(weight_on(unit, outline), listed)
 }
 
+/// A sway's load and the live loads beside it.
+fn with_sway(sway: Wrench, listed: Wrench) -> Wrench
+    requires sway { IsSwayLoad sway }
+    requires listed { AreLoads 256 listed }
+    ensures value { result ≡ wrench_sum sway listed }
+    ensures size { IsSmall result }
+{
+    Wrench {
+        fx: sway.fx + listed.fx,
+        fy: sway.fy + listed.fy,
+        m: sway.m + listed.m,
+    }
+}
+
+/// The live loads of body `i`.
+fn live_on(model: &Model, i: usize) -> Wrench
+    requires { i < length (model_view model.now).bodies }
+    ensures value { result ≡ loads_on questions.Live (model_view model.now) i }
+    ensures size { IsSmall result }
+{
+    let outline = model.polygon(i);
+    let unit = model.material(model.body(i).material).weight;
+    let (x, y) = model.sway();
+    let listed = listed_on(Question::Live, model, i);
+    with_sway(sway_on(x, y, unit, outline), listed)
+}
+
 /// The dead or the live loads of body `i`.
 pub fn loads_on(question: Question, model: &Model, i: usize) -> Wrench
     requires { i < length (model_view model.now).bodies }
@@ -153,7 +182,7 @@ pub fn loads_on(question: Question, model: &Model, i: usize) -> Wrench
 {
     match question {
         Question::Dead => dead_on(model, i),
-        Question::Live => listed_on(Question::Live, model, i),
+        Question::Live => live_on(model, i),
     }
 }
 
@@ -167,8 +196,8 @@ pub fn dead(s: &Survey, b: usize) -> Wrench
     loads_on(Question::Dead, s.model(), s.free(b))
 }
 
-/// The live loads of free block `b`, counted among the free blocks: six times each live load on it. The moment
-/// is about its first stored corner. Takes no memory.
+/// The live loads of free block `b`, counted among the free blocks: its weight times the sway, and six times each
+/// live load on it. The moment is about its first stored corner. Takes no memory.
 pub fn live(s: &Survey, b: usize) -> Wrench
     requires { b < length (frees_of s.now.structure.bodies) }
     ensures value { result ≡ (body_in s.now (body_number s.now b)).live }

@@ -1,5 +1,7 @@
 //! Small structures worked by hand: their loads, sums, openings, powers and columns.
 
+ghost use Rattle.std.specs.Prelude.{◌≡◌, IfOk, pos};
+
 use crate::types::{Question, SumWide, Wrench};
 use crate::{column, dead, live, opening, power, residue};
 use stack_certificate::types::{Forces, Motion};
@@ -66,34 +68,54 @@ fn raw_block(rt: &HostRuntime, block: Block) -> Result<RawBlock, Fail> {
     })
 }
 
-/// The survey of these blocks, of one stone of unit weight.
-fn surveyed(
+/// The parts of version 2 with these blocks, of one stone of unit weight, and with this sway.
+fn parts_of(
     rt: &HostRuntime,
     friction: &[i64],
     blocks: &[Block],
     acting: &[Acting],
-) -> Result<Survey, Fail> {
-    let mut parts = Parts {
-        materials: Vec::new(rt.alloc()),
-        blocks: Vec::new(rt.alloc()),
-        loads: Vec::new(rt.alloc()),
-    };
-    parts.materials.push(RawMaterial {
+    sway: [i64; 2],
+) -> Result<Parts, Fail>
+    ensures { IfOk result (λ p. p.version ≡ pos 2) }
+{
+    let mut materials = Vec::new(rt.alloc());
+    materials.push(RawMaterial {
         name: text(rt, "stone")?,
         weight: 1,
         friction: numbers(rt, friction)?,
     })?;
+    let mut drawn = Vec::new(rt.alloc());
     for b in blocks {
-        parts.blocks.push(raw_block(rt, *b)?)?;
+        drawn.push(raw_block(rt, *b)?)?;
     }
+    let mut loads = Vec::new(rt.alloc());
     for load in acting {
-        parts.loads.push(RawLoad {
+        loads.push(RawLoad {
             block: text(rt, "post")?,
             kind: text(rt, load.kind)?,
             at: numbers(rt, load.at)?,
             force: numbers(rt, load.force)?,
         })?;
     }
+    Ok(Parts {
+        version: 2,
+        sway: Some(numbers(rt, sway.as_slice())?),
+        materials,
+        joints: Vec::new(rt.alloc()),
+        blocks: drawn,
+        loads,
+    })
+}
+
+/// The survey of these blocks, of one stone of unit weight.
+fn surveyed(
+    rt: &HostRuntime,
+    friction: &[i64],
+    blocks: &[Block],
+    acting: &[Acting],
+    sway: [i64; 2],
+) -> Result<Survey, Fail> {
+    let parts = parts_of(rt, friction, blocks, acting, sway)?;
     let model = Model::new(rt.alloc(), parts).ok().ok_or("no model")?;
     Ok(survey(rt.alloc(), model).ok().ok_or("no survey")?)
 }
@@ -137,7 +159,7 @@ fn wrench(fx: i128, fy: i128, m: i128) -> Wrench {
 
 #[test]
 fn the_pushed_post_tips_at_twice_the_push(rt: HostRuntime) -> Result<(), Fail> {
-    let s = surveyed(&rt, &[1, 1], &[GROUND, POST], &[PUSH])?;
+    let s = surveyed(&rt, &[1, 1], &[GROUND, POST], &[PUSH], [0, 0])?;
     assert_eq!(rt; s.free_count(), 1);
     assert_eq!(rt; s.bearings().len(), 2);
     assert_eq!(rt; dead(&s, 0), wrench(0, -48, -48));
@@ -156,6 +178,18 @@ fn the_pushed_post_tips_at_twice_the_push(rt: HostRuntime) -> Result<(), Fail> {
 }
 
 #[test]
+fn a_sway_acts_at_the_centroid_beside_the_live_loads(rt: HostRuntime) -> Result<(), Fail> {
+    let s = surveyed(&rt, &[1, 1], &[GROUND, POST], &[], [1, 0])?;
+    assert_eq!(rt; s.free_count(), 1);
+    assert_eq!(rt; dead(&s, 0), wrench(0, -48, -48));
+    assert_eq!(rt; live(&s, 0), wrench(48, 0, -96));
+    let pushed = surveyed(&rt, &[1, 1], &[GROUND, POST], &[PUSH], [1, -2])?;
+    assert_eq!(rt; pushed.free_count(), 1);
+    assert_eq!(rt; live(&pushed, 0), wrench(54, -96, -216));
+    Ok(())
+}
+
+#[test]
 fn a_bearing_acts_on_both_bodies_and_on_no_other(rt: HostRuntime) -> Result<(), Fail> {
     let lower = Block {
         name: "lower",
@@ -167,7 +201,7 @@ fn a_bearing_acts_on_both_bodies_and_on_no_other(rt: HostRuntime) -> Result<(), 
         fixed: false,
         corners: &[[0, 1], [2, 1], [2, 2], [0, 2]],
     };
-    let s = surveyed(&rt, &[1, 2], &[GROUND, lower, upper], &[])?;
+    let s = surveyed(&rt, &[1, 2], &[GROUND, lower, upper], &[], [0, 0])?;
     assert_eq!(rt; s.free_count(), 2);
     assert_eq!(rt; s.bearings().len(), 4);
     assert_eq!(rt; column(&s, 0, true, 1), wrench(0, 0, 0));

@@ -43,8 +43,8 @@ fn minus(number: Whole, other: Whole) -> Whole
     }
 }
 
-/// Six times the moment about a vertical line through `x`, from that about the y axis.
-fn about(x: i64, about_y: Whole, twice_area: Whole) -> Whole
+/// Six times the first moment about the line through a coordinate, from that about the axis.
+pub fn about(x: i64, about_y: Whole, twice_area: Whole) -> Whole
     requires x { IsNear x }
     requires moment { IsWithin 32 24000000000000000000 about_y.value }
     requires area { IsWithin 32 8000000000000 twice_area.value }

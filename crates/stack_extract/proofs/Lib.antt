@@ -1,6 +1,6 @@
-mod MadeWider
 mod TableReads
 mod WrittenPlaces
 mod PartPlaces
 mod Made
 pub mod EndOfSurvey
+pub mod EndedTables

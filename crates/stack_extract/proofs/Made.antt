@@ -7,10 +7,8 @@ use Rattle.stack_algebra.specs.Fraction.{Fraction}
 use Rattle.stack_algebra.specs.Search.{or_else, first, only_if}
 use Rattle.stack_algebra.proofs.Search.{first-none, or_none}
 use Rattle.stack_algebra.proofs.Listed.{listed, length_listed}
-use Rattle.stack_algebra.proofs.OrderedFractions.{ordered_fractions}
 use Rattle.stack_whole.specs.Limits.{most_bearings}
 use Rattle.stack_whole.specs.Whole.{fits}
-use Rattle.stack_rational.specs.declared.exact.Exact.{Ghosts}
 use Rattle.stack_rational.specs.CommonScale.{scale_of, times_scale}
 use Rattle.stack_contact.specs.declared.types.Bearing.{Bearing}
 use Rattle.stack_contact.specs.FreeBlocks.{frees_of}
@@ -21,17 +19,13 @@ use Rattle.stack_certificate.specs.Certificate.{ForcesValue, MotionValue, forces
 use Rattle.stack_equilibrium.specs.declared.types.Question.{Question}
 use Rattle.stack_equilibrium.specs.SurveyScene.{scene_of}
 use Rattle.stack_equilibrium.proofs.FreeNumbers.{all_before}
-use Rattle.stack_table.specs.declared.table.Table.{Table}
-use Rattle.stack_table.specs.Table.{Shape, Tabled, plain, columns}
+use Rattle.stack_table.specs.Table.{Shape, Tabled}
 use Rattle.stack_table.specs.Problem.{flipped, turned}
-use Rattle.stack_table.specs.Seen.{shape_of_table, table_of, flips_of}
-use Rattle.stack_duality.specs.WrittenRun.{End, infeasible, feasible, optimal, ray, wide, over}
-use Rattle.stack_duality.specs.FourEnds.{EndGives}
-use Rattle.stack_duality.specs.Laws.{EndsGive}
+use Rattle.stack_duality.specs.WrittenRun.{End, infeasible, optimal, ray}
 use Rattle.stack_posing.specs.Posed.{posed, posed_shape}
-use Rattle.stack_simplex.specs.declared.ended.Ended.{Ended}
-use Rattle.stack_simplex.specs.declared.ended.Ended.TheVariants.{Infeasible, Feasible, Optimal, Ray as Rises}
-use Rattle.stack_simplex.specs.Ends.{ended_as, last_of}
+use Rattle.stack_last.specs.declared.kind.EndKind.{EndKind}
+use Rattle.stack_last.specs.declared.kind.EndKind.TheVariants as kinds
+use Rattle.stack_last.specs.Ends.{end_at}
 use Rattle.stack_amounts.specs.WrittenLists.{forces_list, ray_list, bound_list, collapse_list}
 use Rattle.stack_amounts.specs.WrittenLists.{forces_number, ray_number}
 use Rattle.stack_amounts.specs.WholeLists.{whole_list, amount, NonePulls}
@@ -48,7 +42,7 @@ use Rattle.stack_extract.specs.Places.{extract_place, TellsPlace, scale_spot, wh
 use Rattle.stack_extract.specs.Places.{part_place}
 use Rattle.stack_extract.specs.Places.{AreParts, push_place}
 use Rattle.stack_extract.specs.Places.{shift_place, shifted_place, forces_place, ray_place}
-use Rattle.stack_extract.specs.Ends.{IsEndOfSurvey, IsEndOfSome, HasForces, HasRay, entering_of, AreForcesFrom}
+use Rattle.stack_extract.specs.Ends.{IsLastOf, HasForces, AreForcesFrom}
 use Rattle.stack_extract.specs.Ends.{moves_by, IsMotionFrom, AreForcesOf, IsRayOf, IsMotionOf}
 
 length_map : {X Y : Type 0} (g : X → Y) (xs : List X) → length (map g xs) ≡ length xs
@@ -91,82 +85,47 @@ module _ (l : Numbers) (bs : List Bearing) (xs : List Fraction) where
   part_too_wide_first scale zs e w h = tells_second e (list_place l xs) (part_place l bs (whole_list xs)) w.fits
       (subst (λ us. TellsPlace e (part_place l bs us)) w.numbers h)
 
--- the end of a survey's run
-module _ {V : Type 0} {number : Ghosts V} (q : Question) (v : Surveyed) (e : Ended V number)
-    (h : IsEndOfSurvey q v e) where
-  -- at most 2,048 contact columns
-  pub few_contacts : (t : Table V number) → t ≡ last_of e → length v.bearings ≤ most_bearings →
-      (shape_of_table t).contacts ≤ 2048
-  few_contacts t k f = let m : (shape_of_table t).contacts ≡ 2 * length v.bearings =
-      ap (λ (t : Table V number). (shape_of_table t).contacts) k ∙ ap (λ (S : Shape). S.contacts) h.shape in
-      omega (arith, m, f)
+-- the end of a survey's run has at most 2,048 contact columns
+pub few_contacts : {q : Question} {v : Surveyed} {S : Shape} {flips : ℕ → Bool} {x : End Fraction}
+    → IsLastOf q v S flips x → length v.bearings ≤ most_bearings → S.contacts ≤ 2048
+few_contacts {v = v} {S = S} h f =
+    let m : S.contacts ≡ 2 * length v.bearings = ap (λ (S : Shape). S.contacts) h.shape in omega (arith, m, f)
 
-  pub forces_list_is : (t : Table V number) → t ≡ last_of e → (xs : List Fraction) →
-      xs ≡ forces_list (shape_of_table t) (table_of t) →
-      xs ≡ forces_list (posed_shape q (scene_of v)) (table_of (last_of e))
-  forces_list_is t k xs g = g ∙ ap (λ (t : Table V number). forces_list (shape_of_table t) (table_of t)) k
-      ∙ ap (λ S. forces_list S (table_of (last_of e))) h.shape
+-- its lists are those of the posed shape, with a number for each contact column and one for the factor
+module _ {q : Question} {v : Surveyed} {S : Shape} {flips : ℕ → Bool} (T : Tabled Fraction) where
+  pub forces_list_is : {x : End Fraction} → IsLastOf q v S flips x → (xs : List Fraction) → xs ≡ forces_list S T
+      → xs ≡ forces_list (posed_shape q (scene_of v)) T
+  forces_list_is h xs g = g ∙ ap (λ S. forces_list S T) h.shape
 
-  pub forces_length : length (forces_list (posed_shape q (scene_of v)) (table_of (last_of e)))
-      ≡ suc (2 * length v.bearings)
-  forces_length = length_listed (suc (2 * length v.bearings))
-      (forces_number (posed_shape q (scene_of v)) (table_of (last_of e)))
+  pub forces_length : {x : End Fraction} → IsLastOf q v S flips x → (xs : List Fraction) → xs ≡ forces_list S T
+      → length xs ≡ suc (2 * length v.bearings)
+  forces_length h xs g = ap length (forces_list_is h xs g)
+      ∙ length_listed (suc (2 * length v.bearings)) (forces_number (posed_shape q (scene_of v)) T)
 
-  pub ray_list_is : (t : Table V number) → t ≡ last_of e → (c : ℕ) → c ≡ entering_of (ended_as e) →
-      (xs : List Fraction) → xs ≡ ray_list (shape_of_table t) (table_of t) c →
-      xs ≡ ray_list (posed_shape q (scene_of v)) (table_of (last_of e)) (entering_of (ended_as e))
-  ray_list_is t k c m xs g = g
-      ∙ (λ i. ray_list (shape_of_table (k i)) (table_of (k i)) (m i))
-      ∙ ap (λ S. ray_list S (table_of (last_of e)) (entering_of (ended_as e))) h.shape
+  pub ray_list_is : {x : End Fraction} (c : ℕ) → IsLastOf q v S flips x → (xs : List Fraction) → xs ≡ ray_list S T c
+      → xs ≡ ray_list (posed_shape q (scene_of v)) T c
+  ray_list_is c h xs g = g ∙ ap (λ S. ray_list S T c) h.shape
 
-  pub ray_length : length (ray_list (posed_shape q (scene_of v)) (table_of (last_of e))
-      (entering_of (ended_as e)))
-      ≡ suc (2 * length v.bearings)
-  ray_length = length_listed (suc (2 * length v.bearings))
-      (ray_number (posed_shape q (scene_of v)) (table_of (last_of e)) (entering_of (ended_as e)))
+  pub ray_length : {x : End Fraction} (c : ℕ) → IsLastOf q v S flips x → (xs : List Fraction) → xs ≡ ray_list S T c
+      → length xs ≡ suc (2 * length v.bearings)
+  ray_length c h xs g = ap length (ray_list_is c h xs g)
+      ∙ length_listed (suc (2 * length v.bearings)) (ray_number (posed_shape q (scene_of v)) T c)
 
-  pub entering_below : EndsGive → HasRay (ended_as e) → (t : Table V number) → t ≡ last_of e → (c : ℕ) →
-      c ≡ entering_of (ended_as e) → c ≤ columns (shape_of_table t)
-  entering_below law r t k c m =
-      let b = below (ended_as e) (subst (EndGives ordered_fractions (posed q (scene_of v))) h.run.run
-      (law (posed q (scene_of v)) h.run.rule h.run.budget)) r in
-      let s : plain (shape_of_table t) ≡ plain (posed_shape q (scene_of v)) =
-      ap (λ (t : Table V number). plain (shape_of_table t)) k ∙ ap plain h.shape in omega (arith, b, s, m)
+  -- no amount is negative
+  pub forces_push : (k : EndKind) → EndsPush → IsLastOf q v S flips (end_at k T) → HasForces (end_at k T) →
+      NonePulls (whole_list (forces_list (posed_shape q (scene_of v)) T))
+  forces_push k law h f = go k (law q v (end_at k T) h.run) f
     where
-      below : (x : End Fraction) → EndGives ordered_fractions (posed q (scene_of v)) x → HasRay x →
-          entering_of x < plain (posed_shape q (scene_of v))
-      below (infeasible T) g r = absurd r
-      below (feasible T) g r = absurd r
-      below (optimal T) g r = absurd r
-      below (ray T c) g r = g.below
-      below (wide p k s) g r = absurd r
-      below over g r = absurd r
+      go : (k : EndKind) → EndPushes q v (end_at k T) → HasForces (end_at k T) →
+          NonePulls (whole_list (forces_list (posed_shape q (scene_of v)) T))
+      go kinds.Infeasible p f = absurd f
+      go kinds.Feasible p f = p
+      go kinds.Optimal p f = p
+      go (kinds.Ray c) p f = p.0
 
--- no amount is negative
-module _ {V : Type 0} {number : Ghosts V} (q : Question) (v : Surveyed) where
-  pub forces_push : (e : Ended V number) → EndsPush → IsEndOfSurvey q v e → HasForces (ended_as e) →
-      NonePulls (whole_list (forces_list (posed_shape q (scene_of v)) (table_of (last_of e))))
-  forces_push e law h f = go e (law q v (ended_as e) h.run) f
-    where
-      go : (e : Ended V number) → EndPushes q v (ended_as e) → HasForces (ended_as e) →
-          NonePulls (whole_list (forces_list (posed_shape q (scene_of v)) (table_of (last_of e))))
-      go (Infeasible t) p f = absurd f
-      go (Feasible t) p f = p
-      go (Optimal t) p f = p
-      go (Rises t c) p f = p.0
-
-  pub rates_push : (e : Ended V number) → EndsPush → IsEndOfSurvey q v e → HasRay (ended_as e) →
-      NonePulls (whole_list (ray_list (posed_shape q (scene_of v)) (table_of (last_of e))
-      (entering_of (ended_as e))))
-  rates_push e law h f = go e (law q v (ended_as e) h.run) f
-    where
-      go : (e : Ended V number) → EndPushes q v (ended_as e) → HasRay (ended_as e) →
-          NonePulls (whole_list (ray_list (posed_shape q (scene_of v)) (table_of (last_of e))
-          (entering_of (ended_as e))))
-      go (Infeasible t) p f = absurd f
-      go (Feasible t) p f = absurd f
-      go (Optimal t) p f = absurd f
-      go (Rises t c) p f = p.1
+  pub rates_push : (c : ℕ) → EndsPush → IsLastOf q v S flips (ray T c) →
+      NonePulls (whole_list (ray_list (posed_shape q (scene_of v)) T c))
+  rates_push c law h = (law q v (ray T c) h.run).1
 
 -- what is made of a list is made of an end
 module _ (q : Question) (v : Surveyed) (T : Tabled Fraction) where
@@ -255,53 +214,42 @@ moves_are : (v : Surveyed) (q : Question) (flips : ℕ → Bool) → flips ≡ f
 moves_are v q flips h zs us e = λ i. listed (sym (all_before v) i)
     (triple_at (λ k. turned (h i k) (amount (e i) k)))
 
--- the motion of a survey's last table
-module _ {V : Type 0} {number : Ghosts V} (v : Surveyed) where
-  pub rows_are : (e : Ended V number) → IsEndOfSome v e →
-      (shape_of_table (last_of e)).rows ≡ 3 * length (frees_of v.structure.bodies)
-  rows_are e h = ap (λ (S : Shape). S.rows) h.1.shape ∙ ap (λ n. 3 * n) (all_before v)
+-- a survey's last table has three rows for each free block
+pub rows_are : {q : Question} {v : Surveyed} {S : Shape} {flips : ℕ → Bool} {x : End Fraction}
+    → IsLastOf q v S flips x → S.rows ≡ 3 * length (frees_of v.structure.bodies)
+rows_are {v = v} h = ap (λ (S : Shape). S.rows) h.shape ∙ ap (λ n. 3 * n) (all_before v)
 
-  pub is_collapse : (q : Question) (t : Table V number) → IsEndOfSurvey {number = number} q v (Infeasible t) →
-      (y : MotionValue) → IsMotionFrom (length (frees_of v.structure.bodies)) (flips_of t)
-      (collapse_list (shape_of_table t) (table_of t)) (shifted_place (shape_of_table t) (table_of t)) y →
-      IsMotionOf q v (infeasible (table_of t)) y
-  is_collapse q t h y g = record {
-    fits = ap (λ S. shifted_place S (table_of t)) (sym h.shape) ∙ g.fits;
-    motion = g.moves ∙ moves_are v q (flips_of t) h.flips _ _
-        (ap (λ S. whole_list (collapse_list S (table_of t))) h.shape);
+-- the motion of a survey's last table
+module _ (v : Surveyed) (S : Shape) (flips : ℕ → Bool) (T : Tabled Fraction) where
+  is_collapse : (q : Question) → IsLastOf q v S flips (infeasible T) → (y : MotionValue) →
+      IsMotionFrom (length (frees_of v.structure.bodies)) flips (collapse_list S T) (shifted_place S T) y →
+      IsMotionOf q v (infeasible T) y
+  is_collapse q h y g = record {
+    fits = ap (λ S. shifted_place S T) (sym h.shape) ∙ g.fits;
+    motion = g.moves ∙ moves_are v q flips h.flips_are _ _ (ap (λ S. whole_list (collapse_list S T)) h.shape);
   }
 
-  pub is_bound : (q : Question) (t : Table V number) → IsEndOfSurvey {number = number} q v (Optimal t) →
-      (y : MotionValue) → IsMotionFrom (length (frees_of v.structure.bodies)) (flips_of t)
-      (bound_list (shape_of_table t) (table_of t))
-      (list_place Motion (bound_list (shape_of_table t) (table_of t))) y →
-      IsMotionOf q v (optimal (table_of t)) y
-  is_bound q t h y g = record {
-    fits = ap (λ S. list_place Motion (bound_list S (table_of t))) (sym h.shape) ∙ g.fits;
-    motion = g.moves ∙ moves_are v q (flips_of t) h.flips _ _
-        (ap (λ S. whole_list (bound_list S (table_of t))) h.shape);
+  is_bound : (q : Question) → IsLastOf q v S flips (optimal T) → (y : MotionValue) →
+      IsMotionFrom (length (frees_of v.structure.bodies)) flips (bound_list S T)
+      (list_place Motion (bound_list S T)) y → IsMotionOf q v (optimal T) y
+  is_bound q h y g = record {
+    fits = ap (λ S. list_place Motion (bound_list S T)) (sym h.shape) ∙ g.fits;
+    motion = g.moves ∙ moves_are v q flips h.flips_are _ _ (ap (λ S. whole_list (bound_list S T)) h.shape);
   }
 
   -- of an answer
-  pub answer_is_collapse : (e : Ended V number) (t : Table V number) → e ≡ Infeasible t →
-      (r : Result Moves ExtractError) →
-      IfOk r (λ y. IsMotionFrom (length (frees_of v.structure.bodies)) (flips_of t)
-      (collapse_list (shape_of_table t) (table_of t)) (shifted_place (shape_of_table t) (table_of t))
+  pub answer_is_collapse : (k : EndKind) → k ≡ kinds.Infeasible → (r : Result Moves ExtractError) →
+      IfOk r (λ y. IsMotionFrom (length (frees_of v.structure.bodies)) flips (collapse_list S T) (shifted_place S T)
       (motion_view y)) →
-      (q : Question) → IsEndOfSurvey q v e → IfOk r (λ y. IsMotionOf q v (ended_as e) (motion_view y))
-  answer_is_collapse e t p (Ok y) g q h = subst (λ (e : Ended V number). IsMotionOf q v (ended_as e)
-      (motion_view y))
-      (sym p) (is_collapse q t (subst (IsEndOfSurvey q v) p h) (motion_view y) g)
-  answer_is_collapse e t p (Err x) g q h = tt
+      (q : Question) → IsLastOf q v S flips (end_at k T) → IfOk r (λ y. IsMotionOf q v (end_at k T) (motion_view y))
+  answer_is_collapse k p (Ok y) g q h = subst (λ k. IsMotionOf q v (end_at k T) (motion_view y)) (sym p)
+      (is_collapse q (subst (λ k. IsLastOf q v S flips (end_at k T)) p h) (motion_view y) g)
+  answer_is_collapse k p (Err x) g q h = tt
 
-  pub answer_is_bound : (e : Ended V number) (t : Table V number) → e ≡ Optimal t →
-      (r : Result Moves ExtractError) →
-      IfOk r (λ y. IsMotionFrom (length (frees_of v.structure.bodies)) (flips_of t)
-      (bound_list (shape_of_table t) (table_of t))
-      (list_place Motion (bound_list (shape_of_table t) (table_of t)))
-      (motion_view y)) → (q : Question) → IsEndOfSurvey q v e →
-      IfOk r (λ y. IsMotionOf q v (ended_as e) (motion_view y))
-  answer_is_bound e t p (Ok y) g q h = subst (λ (e : Ended V number). IsMotionOf q v (ended_as e)
-      (motion_view y))
-      (sym p) (is_bound q t (subst (IsEndOfSurvey q v) p h) (motion_view y) g)
-  answer_is_bound e t p (Err x) g q h = tt
+  pub answer_is_bound : (k : EndKind) → k ≡ kinds.Optimal → (r : Result Moves ExtractError) →
+      IfOk r (λ y. IsMotionFrom (length (frees_of v.structure.bodies)) flips (bound_list S T)
+      (list_place Motion (bound_list S T)) (motion_view y)) →
+      (q : Question) → IsLastOf q v S flips (end_at k T) → IfOk r (λ y. IsMotionOf q v (end_at k T) (motion_view y))
+  answer_is_bound k p (Ok y) g q h = subst (λ k. IsMotionOf q v (end_at k T) (motion_view y)) (sym p)
+      (is_bound q (subst (λ k. IsLastOf q v S flips (end_at k T)) p h) (motion_view y) g)
+  answer_is_bound k p (Err x) g q h = tt

@@ -1,5 +1,5 @@
 -- What is made of the end of a survey's run.
-use Rattle.std.specs.Prelude.{◌≡◌, ℕ, Bool, ℤ, pos, Option, None, List, [], ⊤}
+use Rattle.std.specs.Prelude.{◌≡◌, ℕ, Bool, true, ℤ, pos, Option, None, List, [], ⊤}
 use Rattle.stack_algebra.specs.Listed.{listed}
 use Rattle.stack_algebra.specs.Fraction.{Fraction}
 use Rattle.stack_rational.specs.declared.exact.Exact.{Ghosts}
@@ -9,12 +9,15 @@ use Rattle.stack_contact.specs.Surveyed.{Surveyed}
 use Rattle.stack_certificate.specs.Certificate.{ForcesValue, MotionValue}
 use Rattle.stack_equilibrium.specs.declared.types.Question.{Question}
 use Rattle.stack_equilibrium.specs.SurveyScene.{scene_of}
-use Rattle.stack_table.specs.Table.{Tabled}
 use Rattle.stack_table.specs.Problem.{flipped, turned}
 use Rattle.stack_table.specs.Seen.{shape_of_table, flips_of}
+use Rattle.stack_table.specs.Table.{Shape, Tabled}
 use Rattle.stack_duality.specs.WrittenRun.{End, infeasible, feasible, optimal, ray, wide, over}
+use Rattle.stack_last.specs.declared.kind.EndKind.{EndKind}
+use Rattle.stack_last.specs.declared.kind.EndKind.TheVariants as kinds
 use Rattle.stack_posing.specs.Posed.{posed, posed_shape}
 use Rattle.stack_simplex.specs.declared.ended.Ended.{Ended}
+use Rattle.stack_simplex.specs.declared.ended.Ended.TheVariants.{Infeasible, Feasible, Optimal, Ray}
 use Rattle.stack_simplex.specs.Ends.{ended_as, last_of}
 use Rattle.stack_amounts.specs.WholeLists.{whole_list, amount}
 use Rattle.stack_certified.specs.Certified.{forces_value, triple_at, end_forces, end_ray, end_collapse}
@@ -34,6 +37,30 @@ pub record IsEndOfSurvey {V : Type 0} {number : Ghosts V} (q : Question) (v : Su
 -- for one of the two questions
 abbrev pub IsEndOfSome : {V : Type 0} {number : Ghosts V} → Surveyed → Ended V number → Type 0
 IsEndOfSome v e = (q : Question) × IsEndOfSurvey q v e
+
+-- the same of an end that is told by its value, with the shape and the flips of its last table, whatever stores it
+pub record IsLastOf (q : Question) (v : Surveyed) (S : Shape) (flips : ℕ → Bool) (x : End Fraction) : Type 0 where
+  pub run : IsEndOfRun q v x
+  pub shape : S ≡ posed_shape q (scene_of v)
+  pub flips_are : flips ≡ flipped (posed q (scene_of v))
+
+-- for one of the two questions
+abbrev pub IsLastOfSome : Surveyed → Shape → (ℕ → Bool) → End Fraction → Type 0
+IsLastOfSome v S flips x = (q : Question) × IsLastOf q v S flips x
+
+-- how an end is, without its table
+abbrev pub kind_of : {V : Type 0} {number : Ghosts V} → Ended V number → EndKind
+kind_of (Infeasible t) = kinds.Infeasible
+kind_of (Feasible t) = kinds.Feasible
+kind_of (Optimal t) = kinds.Optimal
+kind_of (Ray t c) = kinds.Ray c
+
+-- the column of a ray can be read
+abbrev pub ReadsRay : EndKind → (ℕ → Bool) → Type 0
+ReadsRay kinds.Infeasible reads = ⊤
+ReadsRay kinds.Feasible reads = ⊤
+ReadsRay kinds.Optimal reads = ⊤
+ReadsRay (kinds.Ray c) reads = reads c ≡ true
 
 -- the ends that have forces, a motion, a ray
 abbrev pub HasForces : End Fraction → Type 0

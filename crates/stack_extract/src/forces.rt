@@ -1,16 +1,21 @@
 //! Forces from the last table of a run.
 
-ghost use Rattle.std.specs.Prelude.{◌≡◌, suc, ◌*◌, length, IfOk, IfErr};
+ghost use Rattle.std.specs.Prelude.{◌≡◌, suc, ◌*◌, length, IfOk, IfErr, true};
 ghost use Rattle.stack_certificate.specs.Certificate.{forces_view};
 ghost use Rattle.stack_equilibrium.specs.declared.types.Question.{Question};
 ghost use Rattle.stack_amounts.specs.WholeLists.{whole_list, NonePulls};
 ghost use Rattle.stack_simplex.specs.Ends.{ended_as, last_of};
 ghost use Rattle.stack_table.specs.Seen.{table_of};
+ghost use Rattle.stack_duality.specs.WrittenRun.{ray};
+ghost use Rattle.stack_last.specs.Ends.{end_at};
 ghost use Rattle.stack_extract.specs.Places.{TellsPlace, push_place, forces_place, ray_place};
 ghost use Rattle.stack_extract.specs.Ends.{
   AreForcesFrom,
   IsEndOfSurvey,
   IsEndOfSome,
+  IsLastOf,
+  IsLastOfSome,
+  kind_of,
   HasForces,
   HasRay,
   AreForcesOf,
@@ -26,6 +31,7 @@ use stack_certificate::types::Forces;
 use stack_certified::certified_laws;
 use stack_contact::types::Survey;
 use stack_duality::run_laws;
+use stack_last::{EndKind, LastTable};
 use stack_rational::{Exact, Frac};
 use stack_simplex::Ended;
 use stack_table::Table;
@@ -55,7 +61,7 @@ fn from_list(
 }
 
 /// The last table.
-pub(crate) fn last_table<S: Exact>(e: &Ended<S>) -> &Table<S>
+pub fn last_table<S: Exact>(e: &Ended<S>) -> &Table<S>
     ensures { result.now ≡ last_of e.now }
 {
     match e {
@@ -77,6 +83,64 @@ fn entering<S: Exact>(e: &Ended<S>) -> usize
     }
 }
 
+/// How an end is, without its table.
+pub fn kind_of<S: Exact>(e: &Ended<S>) -> EndKind
+    ensures { result ≡ kind_of e.now }
+{
+    match e {
+        Ended::Infeasible(_) => EndKind::Infeasible,
+        Ended::Feasible(_) => EndKind::Feasible,
+        Ended::Optimal(_) => EndKind::Optimal,
+        Ended::Ray { column, .. } => EndKind::Ray { column: *column },
+    }
+}
+
+/// The forces of an end of a survey's run with this last table, whatever stores it: as `forces_of`.
+pub fn forces_at<L: LastTable>(
+    alloc: Global,
+    s: &Survey,
+    kind: EndKind,
+    t: &L,
+) -> Result<Forces, ExtractError>
+    requires end { IsLastOfSome s.now (L.shape t.now) (L.flips t.now) (end_at kind (L.table t.now)) }
+    requires forces { HasForces (end_at kind (L.table t.now)) }
+    ensures ok { (q : Question) → IsLastOf q s.now (L.shape t.now) (L.flips t.now) (end_at kind (L.table t.now)) →
+        IfOk result (λ f. AreForcesOf q s.now (L.table t.now) (forces_view f)) }
+    ensures wide { (q : Question) → IsLastOf q s.now (L.shape t.now) (L.flips t.now) (end_at kind (L.table t.now)) →
+        IfErr result (λ x. TellsPlace x (forces_place q s.now (L.table t.now))) }
+{
+    certified_laws();
+    let _bearings = s.bearings();
+    let list = forces_numbers(alloc, t)?;
+    from_list(alloc, Numbers::Forces, s, &list)
+}
+
+/// The forces that an end of a survey's run with this last table adds without end, along a column that can be read: as
+/// `ray_of`.
+pub fn ray_at<L: LastTable>(
+    alloc: Global,
+    s: &Survey,
+    t: &L,
+    column: usize,
+) -> Result<Forces, ExtractError>
+    requires end { IsLastOfSome s.now (L.shape t.now) (L.flips t.now) (ray (L.table t.now) column) }
+    requires reads { L.reads t.now column ≡ true }
+    ensures ok { (q : Question) → IsLastOf q s.now (L.shape t.now) (L.flips t.now) (ray (L.table t.now) column) →
+        IfOk result (λ f. IsRayOf q s.now (L.table t.now) column (forces_view f)) }
+    ensures wide { (q : Question) → IsLastOf q s.now (L.shape t.now) (L.flips t.now) (ray (L.table t.now) column) →
+        IfErr result (λ x. TellsPlace x (ray_place q s.now (L.table t.now) column)) }
+{
+    certified_laws();
+    let _bearings = s.bearings();
+    let list = ray_numbers(alloc, t, column)?;
+    let forces = from_list(alloc, Numbers::Ray, s, &list)?;
+    Ok(Forces {
+        scale: 0,
+        factor: forces.factor,
+        parts: forces.parts,
+    })
+}
+
 /// The forces of the end of a survey's run, in whole numbers of 128 bits whatever the width of the run: the
 /// values of the columns at their common scale, and for each bearing `q` times the sum of its two along the
 /// normal and `p` times their difference along the tangent, in sixths of a unit of force.
@@ -91,10 +155,7 @@ pub fn forces_of<S: Exact>(alloc: Global, s: &Survey, e: &Ended<S>) -> Result<Fo
     ensures wide { (q : Question) → IsEndOfSurvey q s.now e.now →
         IfErr result (λ x. TellsPlace x (forces_place q s.now (table_of (last_of e.now)))) }
 {
-    certified_laws();
-    let _bearings = s.bearings();
-    let list = forces_numbers(alloc, last_table(e))?;
-    from_list(alloc, Numbers::Forces, s, &list)
+    forces_at(alloc, s, kind_of(e), last_table(e))
 }
 
 /// The forces that the end of a survey's run adds without end, in whole numbers: 1 for the column that enters,
@@ -111,14 +172,6 @@ pub fn ray_of<S: Exact>(alloc: Global, s: &Survey, e: &Ended<S>) -> Result<Force
     ensures wide { (q : Question) → IsEndOfSurvey q s.now e.now → IfErr result (λ x.
         TellsPlace x (ray_place q s.now (table_of (last_of e.now)) (entering_of (ended_as e.now)))) }
 {
-    certified_laws();
     run_laws();
-    let _bearings = s.bearings();
-    let list = ray_numbers(alloc, last_table(e), entering(e))?;
-    let forces = from_list(alloc, Numbers::Ray, s, &list)?;
-    Ok(Forces {
-        scale: 0,
-        factor: forces.factor,
-        parts: forces.parts,
-    })
+    ray_at(alloc, s, last_table(e), entering(e))
 }

@@ -14,10 +14,9 @@ mod numbers;
 mod parts;
 mod types;
 mod wholes;
-mod widened;
 
-pub use forces::{forces_of, ray_of};
-pub use motions::motion_of;
+pub use forces::{forces_at, forces_of, kind_of, last_table, ray_at, ray_of};
+pub use motions::{motion_at, motion_of};
 pub use stack_posing::pose;
 pub use types::{EndStep, ExtractError, ExtractPlace, Numbers};
 

@@ -7,7 +7,7 @@ ghost use Rattle.stack_contact.specs.FreeBlocks.{frees_of};
 ghost use Rattle.stack_certificate.specs.Certificate.{motion_view};
 ghost use Rattle.stack_equilibrium.specs.declared.types.Question.{Question};
 ghost use Rattle.stack_table.specs.Problem.{turned};
-ghost use Rattle.stack_table.specs.Seen.{shape_of_table, table_of, flips_of};
+ghost use Rattle.stack_last.specs.Ends.{end_at};
 ghost use Rattle.stack_amounts.specs.WrittenLists.{bound_list, collapse_list};
 ghost use Rattle.stack_amounts.specs.WholeLists.{amount};
 ghost use Rattle.stack_certified.specs.Certified.{triple_at};
@@ -19,30 +19,33 @@ ghost use Rattle.stack_extract.specs.Ends.{
   IsMotionFrom,
   IsEndOfSurvey,
   IsEndOfSome,
+  IsLastOf,
+  IsLastOfSome,
   HasMotion,
   IsMotionOf,
   motion_place,
 };
 
+use crate::forces::{kind_of, last_table};
 use crate::numbers::{bound_numbers, collapse_numbers};
 use crate::types::{ExtractError, Numbers};
 use crate::wholes::whole_numbers;
 use stack_certificate::types::Motion;
 use stack_contact::types::Survey;
+use stack_last::{EndKind, LastTable};
 use stack_rational::{Exact, Frac};
 use stack_simplex::Ended;
-use stack_table::Table;
 use stack_whole::Whole;
 use std::alloc::{AllocError, Global};
 
 /// The multiplier of a row, with the other sign where the row is flipped.
-fn multiplier<S: Exact>(t: &Table<S>, numbers: &[i128], row: usize) -> Whole
-    requires row { row < (shape_of_table t.now).rows }
+fn multiplier<L: LastTable>(t: &L, numbers: &[i128], row: usize) -> Whole
+    requires row { row < (L.shape t.now).rows }
     requires listed { row < length numbers.now }
     requires fits { fits (amount numbers.now row) ≡ true }
-    ensures { result ≡ whole (turned (flips_of t.now row) (amount numbers.now row)) }
+    ensures { result ≡ whole (turned (L.flips t.now row) (amount numbers.now row)) }
 {
-    if t.flipped(row) {
+    if t.is_flipped(row) {
         Whole {
             value: -numbers[row],
         }
@@ -67,16 +70,16 @@ fn longer(
 }
 
 /// The moves of so many blocks, each by the multipliers of its three rows.
-fn moves_of<S: Exact>(
+fn moves_of<L: LastTable>(
     alloc: Global,
-    t: &Table<S>,
+    t: &L,
     count: usize,
     numbers: &[i128],
 ) -> Result<Vec<(i128, i128, i128)>, AllocError>
-    requires rows { (shape_of_table t.now).rows ≡ 3 * count }
+    requires rows { (L.shape t.now).rows ≡ 3 * count }
     requires listed { length numbers.now ≡ 3 * count }
     requires fits { (k : ℕ) → k < 3 * count → fits (amount numbers.now k) ≡ true }
-    ensures { IfOk result (λ r. r.items ≡ moves_by count (flips_of t.now) numbers.now) }
+    ensures { IfOk result (λ r. r.items ≡ moves_by count (L.flips t.now) numbers.now) }
 {
     let mut moves = Vec::new(alloc);
     for b in 0..count {
@@ -89,15 +92,15 @@ fn moves_of<S: Exact>(
 }
 
 /// The motion of a list of multipliers, at their common scale.
-fn from_list<S: Exact>(
+fn from_list<L: LastTable>(
     alloc: Global,
     s: &Survey,
-    t: &Table<S>,
+    t: &L,
     list: &[Frac<i128>],
 ) -> Result<Motion, ExtractError>
-    requires rows { (shape_of_table t.now).rows ≡ 3 * length (frees_of s.now.structure.bodies) }
+    requires rows { (L.shape t.now).rows ≡ 3 * length (frees_of s.now.structure.bodies) }
     requires listed { length list.now ≡ 3 * length (frees_of s.now.structure.bodies) }
-    ensures ok { IfOk result (λ y. IsMotionFrom (length (frees_of s.now.structure.bodies)) (flips_of t.now)
+    ensures ok { IfOk result (λ y. IsMotionFrom (length (frees_of s.now.structure.bodies)) (L.flips t.now)
         list.now (list_place numbers.Motion list.now) (motion_view y)) }
     ensures wide { IfErr result (λ e. TellsPlace e (list_place numbers.Motion list.now)) }
 {
@@ -107,28 +110,49 @@ fn from_list<S: Exact>(
 }
 
 /// The motion of the last table of phase 1.
-fn collapse_of<S: Exact>(alloc: Global, s: &Survey, t: &Table<S>) -> Result<Motion, ExtractError>
-    requires { (shape_of_table t.now).rows ≡ 3 * length (frees_of s.now.structure.bodies) }
-    ensures ok { IfOk result (λ y. IsMotionFrom (length (frees_of s.now.structure.bodies)) (flips_of t.now)
-        (collapse_list (shape_of_table t.now) (table_of t.now))
-        (shifted_place (shape_of_table t.now) (table_of t.now)) (motion_view y)) }
-    ensures wide { IfErr result (λ e. TellsPlace e (shifted_place (shape_of_table t.now) (table_of t.now))) }
+fn collapse_of<L: LastTable>(alloc: Global, s: &Survey, t: &L) -> Result<Motion, ExtractError>
+    requires { (L.shape t.now).rows ≡ 3 * length (frees_of s.now.structure.bodies) }
+    ensures ok { IfOk result (λ y. IsMotionFrom (length (frees_of s.now.structure.bodies)) (L.flips t.now)
+        (collapse_list (L.shape t.now) (L.table t.now))
+        (shifted_place (L.shape t.now) (L.table t.now)) (motion_view y)) }
+    ensures wide { IfErr result (λ e. TellsPlace e (shifted_place (L.shape t.now) (L.table t.now))) }
 {
     let list = collapse_numbers(alloc, t)?;
     from_list(alloc, s, t, &list)
 }
 
 /// The motion of the last table of phase 3.
-fn bound_of<S: Exact>(alloc: Global, s: &Survey, t: &Table<S>) -> Result<Motion, ExtractError>
-    requires { (shape_of_table t.now).rows ≡ 3 * length (frees_of s.now.structure.bodies) }
-    ensures ok { IfOk result (λ y. IsMotionFrom (length (frees_of s.now.structure.bodies)) (flips_of t.now)
-        (bound_list (shape_of_table t.now) (table_of t.now))
-        (list_place numbers.Motion (bound_list (shape_of_table t.now) (table_of t.now))) (motion_view y)) }
+fn bound_of<L: LastTable>(alloc: Global, s: &Survey, t: &L) -> Result<Motion, ExtractError>
+    requires { (L.shape t.now).rows ≡ 3 * length (frees_of s.now.structure.bodies) }
+    ensures ok { IfOk result (λ y. IsMotionFrom (length (frees_of s.now.structure.bodies)) (L.flips t.now)
+        (bound_list (L.shape t.now) (L.table t.now))
+        (list_place numbers.Motion (bound_list (L.shape t.now) (L.table t.now))) (motion_view y)) }
     ensures wide { IfErr result (λ e.
-        TellsPlace e (list_place numbers.Motion (bound_list (shape_of_table t.now) (table_of t.now)))) }
+        TellsPlace e (list_place numbers.Motion (bound_list (L.shape t.now) (L.table t.now)))) }
 {
     let list = bound_numbers(alloc, t)?;
     from_list(alloc, s, t, &list)
+}
+
+/// The motion of an end of a survey's run with this last table, whatever stores it: as `motion_of`.
+pub fn motion_at<L: LastTable>(
+    alloc: Global,
+    s: &Survey,
+    kind: EndKind,
+    t: &L,
+) -> Result<Motion, ExtractError>
+    requires end { IsLastOfSome s.now (L.shape t.now) (L.flips t.now) (end_at kind (L.table t.now)) }
+    requires motion { HasMotion (end_at kind (L.table t.now)) }
+    ensures ok { (q : Question) → IsLastOf q s.now (L.shape t.now) (L.flips t.now) (end_at kind (L.table t.now)) →
+        IfOk result (λ y. IsMotionOf q s.now (end_at kind (L.table t.now)) (motion_view y)) }
+    ensures wide { (q : Question) → IsLastOf q s.now (L.shape t.now) (L.flips t.now) (end_at kind (L.table t.now)) →
+        IfErr result (λ x. TellsPlace x (motion_place q s.now (end_at kind (L.table t.now)))) }
+{
+    match kind {
+        EndKind::Infeasible => collapse_of(alloc, s, t),
+        EndKind::Optimal => bound_of(alloc, s, t),
+        _ => unreachable!(),
+    }
 }
 
 /// The motion of the end of a survey's run, in whole numbers of 128 bits whatever the width of the run: the
@@ -145,9 +169,5 @@ pub fn motion_of<S: Exact>(alloc: Global, s: &Survey, e: &Ended<S>) -> Result<Mo
     ensures wide { (q : Question) → IsEndOfSurvey q s.now e.now →
         IfErr result (λ x. TellsPlace x (motion_place q s.now (ended_as e.now))) }
 {
-    match e {
-        Ended::Infeasible(t) => collapse_of(alloc, s, t),
-        Ended::Optimal(t) => bound_of(alloc, s, t),
-        _ => unreachable!(),
-    }
+    motion_at(alloc, s, kind_of(e), last_table(e))
 }

@@ -40,17 +40,15 @@ fn post(
     at: [i64; 2],
     force: [i64; 2],
 ) -> Result<Survey, Fail> {
-    let mut parts = Parts {
-        materials: Vec::new(alloc),
-        blocks: Vec::new(alloc),
-        loads: Vec::new(alloc),
-    };
-    parts.materials.push(RawMaterial {
+    let mut materials = Vec::new(alloc);
+    let mut blocks = Vec::new(alloc);
+    let mut loads = Vec::new(alloc);
+    materials.push(RawMaterial {
         name: String::from_str(alloc, "stone")?,
         weight: 1,
         friction: list(alloc, &[1, 1])?,
     })?;
-    parts.blocks.push(block(
+    blocks.push(block(
         alloc,
         "ground",
         true,
@@ -61,14 +59,16 @@ fn post(
             [-10, ground[1]],
         ],
     )?)?;
-    parts.blocks.push(block(alloc, "post", false, &[[0, 0], [2, 0], [2, 4], [0, 4]])?)?;
-    parts.loads.push(RawLoad {
+    blocks.push(block(alloc, "post", false, &[[0, 0], [2, 0], [2, 4], [0, 4]])?)?;
+    loads.push(RawLoad {
         block: String::from_str(alloc, "post")?,
         kind: String::from_str(alloc, kind)?,
         at: list(alloc, &at)?,
         force: list(alloc, &force)?,
     })?;
-    let model = Model::new(alloc, parts).ok().ok_or("no model")?;
+    let model = Model::new(alloc, Parts::first(alloc, materials, blocks, loads))
+        .ok()
+        .ok_or("no model")?;
     Ok(survey(alloc, model).ok().ok_or("no survey")?)
 }
 

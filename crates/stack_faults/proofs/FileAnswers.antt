@@ -2,7 +2,7 @@
 use Rattle.std.proofs.Common.{◌≡◌, refl, sym, ap, ◌∙◌, ℕ, zero, suc, Bool, true, false, List, [], ◌∷◌}
 use Rattle.std.proofs.Common.{◌++◌, map, length}
 use Rattle.std.proofs.Common.{Option, Some, None, Result, Ok, Err, option_map}
-use Rattle.std.specs.Prelude.{if◌then◌else◌, nat_lt}
+use Rattle.std.specs.Prelude.{if◌then◌else◌, nat_lt, not}
 use Rattle.std.specs.Str.{is_utf8}
 use Rattle.std.proofs.lemmas.List.{map-append}
 use Rattle.toml.specs.Data.{Members}
@@ -10,10 +10,12 @@ use Rattle.toml.specs.Parse.{parse_document}
 use Rattle.stack_algebra.specs.Steps.{◌>>=◌}
 use Rattle.stack_algebra.specs.Search.{or_else}
 use Rattle.stack_model.specs.declared.errors.ModelError.{ModelError}
-use Rattle.stack_model.specs.declared.errors.ModelError.TheVariants.{TooMany}
+use Rattle.stack_model.specs.declared.errors.ModelError.TheVariants.{Range, TooMany}
 use Rattle.stack_model.specs.declared.places.What.{What}
 use Rattle.stack_model.specs.declared.places.What.TheVariants as whats
-use Rattle.stack_model.specs.Limits.{most_materials, most_bodies, most_loads}
+use Rattle.stack_model.specs.Limits.{most_materials, most_joints, most_bodies, most_loads, is_version}
+use Rattle.stack_model.specs.declared.places.Spot.TheVariants as spots
+use Rattle.stack_model.specs.declared.places.Key.TheVariants as keys
 use Rattle.stack_model.specs.Structure.{Structure}
 use Rattle.stack_model.specs.Parts.{PartLists}
 use Rattle.stack_model.specs.Content.{content_of}
@@ -25,7 +27,7 @@ use Rattle.stack_faults.specs.FaultLists.{faults_where, faults_below, earliest, 
 use Rattle.stack_faults.specs.ContentFaults.{number_faults, causes_of_material, causes_of_block}
 use Rattle.stack_faults.specs.ContentFaults.{causes_of_load}
 use Rattle.stack_faults.specs.ContentFaults.{material_faults, block_faults, load_faults, content_faults}
-use Rattle.stack_faults.specs.ContentFaults.{faults_by}
+use Rattle.stack_faults.specs.ContentFaults.{faults_by, is_bad_sway, head_faults, joint_faults, causes_of_joint}
 use Rattle.stack_faults.specs.TableFaults.{shape_faults, faults_of_listed, table_faults}
 use Rattle.stack_faults.specs.TableFaults.{faults_of_document, file_faults}
 use Rattle.stack_faults.proofs.Firsts.{earliest-append}
@@ -74,10 +76,18 @@ list_alike limit count what causes h = alike_append from_content as_fault (numbe
 
 -- no fault of content is want of memory
 content_alike : (parts : PartLists) → Alike from_content as_fault (content_faults parts)
-content_alike parts = alike_append from_content as_fault (material_faults parts ++ block_faults parts)
-    (load_faults parts)
-    (alike_append from_content as_fault (material_faults parts) (block_faults parts)
-    (list_alike most_materials (length parts.materials) whats.Materials (causes_of_material parts) (λ i. refl))
+content_alike parts =
+    alike_append from_content as_fault
+    (head_faults parts ++ material_faults parts ++ joint_faults parts ++ block_faults parts) (load_faults parts)
+    (alike_append from_content as_fault (head_faults parts ++ material_faults parts ++ joint_faults parts)
+    (block_faults parts)
+    (alike_append from_content as_fault (head_faults parts ++ material_faults parts) (joint_faults parts)
+    (alike_append from_content as_fault (head_faults parts) (material_faults parts)
+    (alike_causes from_content as_fault
+    ((not (is_version parts.version), Range spots.Top keys.Version)
+    ∷ (is_bad_sway parts.sway, Range spots.Top keys.Sway) ∷ []) refl)
+    (list_alike most_materials (length parts.materials) whats.Materials (causes_of_material parts) (λ i. refl)))
+    (list_alike most_joints (length parts.joints) whats.Joints (causes_of_joint parts) (λ i. refl)))
     (list_alike most_bodies (length parts.blocks) whats.Blocks (causes_of_block parts) (λ i. refl)))
     (list_alike most_loads (length parts.loads) whats.Loads (causes_of_load parts) (λ i. refl))
 

@@ -2,7 +2,8 @@
 use Rattle.std.proofs.Common.{◌≡◌, ◌↔◌, refl, sym, ap, ◌∙◌, ℕ, zero, suc, Bool, true, false, List, []}
 use Rattle.std.proofs.Common.{◌∷◌, ◌++◌}
 use Rattle.std.proofs.Common.{Option, Some, None, Result, Ok, Err}
-use Rattle.std.specs.Prelude.{if◌then◌else◌, IsOk}
+use Rattle.std.specs.Prelude.{if◌then◌else◌, IsOk, ⊤}
+use Rattle.stack_algebra.specs.Steps.{◌>>=◌}
 use Rattle.stack_algebra.specs.Search.{or_else, only_if, first}
 use Rattle.stack_faults.specs.FaultLists.{faults_where, faults_below, earliest, answered_fault}
 
@@ -29,6 +30,13 @@ pub earliest_five : {E : Type 0} (a b c d e : List E) → earliest (a ++ b ++ c 
     ≡ or_else (or_else (or_else (or_else (earliest a) (earliest b)) (earliest c)) (earliest d)) (earliest e)
 earliest_five a b c d e = earliest-append (a ++ b ++ c ++ d) e
     ∙ ap (λ o. or_else o (earliest e)) (earliest_four a b c d)
+
+pub earliest_seven : {E : Type 0} (a b c d e f g : List E) → earliest (a ++ b ++ c ++ d ++ e ++ f ++ g)
+    ≡ or_else (or_else (or_else (or_else (or_else (or_else (earliest a) (earliest b)) (earliest c)) (earliest d))
+    (earliest e)) (earliest f)) (earliest g)
+earliest_seven a b c d e f g = earliest-append (a ++ b ++ c ++ d ++ e ++ f) g
+    ∙ ap (λ o. or_else o (earliest g)) (earliest-append (a ++ b ++ c ++ d ++ e) f
+    ∙ ap (λ o. or_else o (earliest f)) (earliest_five a b c d e))
 
 -- the first of some causes that holds
 abbrev pub first_cause : {E : Type 0} → List (Bool × E) → Option E
@@ -58,6 +66,21 @@ pub answers_weaker : {A E : Type 0} (P Q : A → Type 0) (r : Result A E) (o : O
     → Answers P r o → Answers Q r o
 answers_weaker P Q (Ok x) o f h = (h.0, f x h.1)
 answers_weaker P Q (Err e) o f h = h
+
+-- a step and what follows it
+pub bind_told : {X Y E : Type 0} (P : X → Type 0) (Q : Y → Type 0) (r : Result X E) (k : X → Result Y E)
+    (a b : Option E) → Answers P r a → ((x : X) → P x → Answers Q (k x) b) → Answers Q (r >>= k) (or_else a b)
+bind_told P Q (Err e) k a b h f = ap (λ o. or_else o b) h
+bind_told {X} {Y} {E} P Q (Ok x) k a b h f = go (k x) (f x h.1)
+  where
+    go : (s : Result Y E) → Answers Q s b → Answers Q s (or_else a b)
+    go (Ok y) g = (λ i. or_else (h.0 i) (g.0 i), g.1)
+    go (Err e) g = λ i. or_else (h.0 i) (g i)
+
+-- what is answered, as a fault alone
+pub answers_of : {A E : Type 0} (r : Result A E) (o : Option E) → answered_fault r ≡ o → Answers (λ _. ⊤) r o
+answers_of (Ok x) o h = (sym h, tt)
+answers_of (Err e) o h = sym h
 
 -- a value comes exactly where there is no fault
 pub faultless : {A E : Type 0} (r : Result A E) (xs : List E) → answered_fault r ≡ earliest xs

@@ -6,6 +6,7 @@ pub mod Written
 pub mod MaterialAnswers
 pub mod BlockAnswers
 pub mod LoadAnswers
+pub mod JointAnswers
 pub mod ContentAnswers
 pub mod Crooked
 pub mod ShapeAnswers

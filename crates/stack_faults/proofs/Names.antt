@@ -41,7 +41,7 @@ pub count-map : {X Y : Type 0} (p : Y → Bool) (f : X → Y) (xs : List X)
     → count_by (λ x. p (f x)) xs ≡ count_by p (map f xs)
 count-map p f xs = sym (fold-map (λ n y. n + cond (p y) 1 0) f 0 xs)
 
-any-map : {X Y : Type 0} (p : Y → Bool) (f : X → Y) (xs : List X)
+pub any-map : {X Y : Type 0} (p : Y → Bool) (f : X → Y) (xs : List X)
     → list_any p (map f xs) ≡ list_any (λ x. p (f x)) xs
 any-map p f [] = refl
 any-map p f (x ∷ xs) = ap (λ b. p (f x) || b) (any-map p f xs)

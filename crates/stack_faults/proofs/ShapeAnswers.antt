@@ -1,6 +1,6 @@
 -- What the tables of items answer.
 use Rattle.std.proofs.Common.{◌≡◌, refl, sym, ◌∙◌, ℕ, ℤ, Bool, true, false, not, List, [], ◌∷◌}
-use Rattle.std.proofs.Common.{Option, Some, None, Result, Ok, Err}
+use Rattle.std.proofs.Common.{Option, Some, None, Result, Ok, Err, option_map}
 use Rattle.std.specs.Prelude.{is_none, if◌then◌else◌}
 use Rattle.toml.specs.Data.{Data, Members, get_member, as_str, as_integer}
 use Rattle.toml.specs.Data.{as_bool}
@@ -10,15 +10,16 @@ use Rattle.stack_model.specs.declared.places.Spot.{Spot}
 use Rattle.stack_model.specs.declared.places.Spot.TheVariants as spots
 use Rattle.stack_model.specs.declared.places.Key.{Key}
 use Rattle.stack_model.specs.declared.places.Key.TheVariants as keys
-use Rattle.stack_model.specs.Parts.{MaterialPart, BlockPart, LoadPart}
+use Rattle.stack_model.specs.Parts.{MaterialPart, JointPart, BlockPart, LoadPart}
 use Rattle.stack_reader.specs.declared.errors.ReadError.TheVariants.{UnknownKey, Missing, Kind}
-use Rattle.stack_reader.specs.Keys.{word_of, material_keys, block_keys, load_keys}
+use Rattle.stack_reader.specs.Keys.{word_of, material_keys, joint_keys, block_keys, load_keys}
 use Rattle.stack_reader.specs.Forms.{wholes_of, lists_of, has_only, known_only, required, in_form, field}
 use Rattle.stack_reader.specs.Forms.{truth_at}
-use Rattle.stack_reader.specs.Shape.{material_part, block_part, load_part}
+use Rattle.stack_reader.specs.Shape.{material_part, joint_part, block_part, load_part, known_at_top, version_at}
+use Rattle.stack_reader.specs.Shape.{sway_at, head_of_document}
 use Rattle.stack_faults.specs.FaultLists.{faults_where, earliest, answered_fault}
 use Rattle.stack_faults.specs.TableFaults.{is_of_another_form, unknown_key_faults, key_faults}
-use Rattle.stack_faults.specs.TableFaults.{optional_key_faults}
+use Rattle.stack_faults.specs.TableFaults.{optional_key_faults, joint_table_faults}
 use Rattle.stack_faults.specs.TableFaults.{material_table_faults, block_table_faults, load_table_faults}
 use Rattle.stack_faults.proofs.Firsts.{earliest_four, earliest_five}
 
@@ -95,6 +96,50 @@ material_told i ms =
     (key_told as_integer spot keys.Weight ms z)) (key_told wholes_of spot keys.Friction ms z))
     ∙ sym (earliest_four (unknown_key_faults spot material_keys ms) (key_faults as_str spot keys.Name ms)
     (key_faults as_integer spot keys.Weight ms) (key_faults wholes_of spot keys.Friction ms))
+
+pub joint_told : (i : ℕ) (ms : Members) → answered_fault (joint_part i ms) ≡ earliest (joint_table_faults i ms)
+unfolding joint_part
+joint_told i ms =
+    let spot = spots.Joint i in
+    let made : List ℕ → List ℕ → List ℤ → JointPart = λ first second friction. record {
+      first = first;
+      second = second;
+      friction = friction;
+    } in
+    four_told (known_only spot joint_keys ms) (field as_str spot keys.First ms)
+    (field as_str spot keys.Second ms) (field wholes_of spot keys.Friction ms) made
+    ∙ (λ z. or_else (or_else (or_else (known_told spot joint_keys ms z) (key_told as_str spot keys.First ms z))
+    (key_told as_str spot keys.Second ms z)) (key_told wholes_of spot keys.Friction ms z))
+    ∙ sym (earliest_four (unknown_key_faults spot joint_keys ms) (key_faults as_str spot keys.First ms)
+    (key_faults as_str spot keys.Second ms) (key_faults wholes_of spot keys.Friction ms))
+
+version_told : (o : Option Data) → answered_fault (version_at o)
+    ≡ earliest (faults_where ((is_of_another_form as_integer o, Kind spots.Top keys.Version) ∷ []))
+version_told None = refl
+version_told (Some d) = form_told spots.Top keys.Version (as_integer d)
+
+sway_told : (o : Option Data) → answered_fault (sway_at o)
+    ≡ earliest (faults_where ((is_of_another_form wholes_of o, Kind spots.Top keys.Sway) ∷ []))
+sway_told None = refl
+sway_told (Some d) = go (wholes_of d)
+  where
+    go : (o : Option (List ℤ)) → answered_fault (in_form spots.Top keys.Sway (option_map (λ zs. Some zs) o))
+        ≡ earliest (faults_where ((is_none o, Kind spots.Top keys.Sway) ∷ []))
+    go None = refl
+    go (Some zs) = refl
+
+-- the version and the sway, after the keys
+pub head_told : (ms : Members) → answered_fault (head_of_document ms)
+    ≡ or_else (or_else (earliest (unknown_key_faults spots.Top (known_at_top ms) ms))
+    (earliest (optional_key_faults as_integer spots.Top keys.Version ms)))
+    (earliest (optional_key_faults wholes_of spots.Top keys.Sway ms))
+unfolding head_of_document
+head_told ms =
+    let made : ℤ → Option (List ℤ) → ℤ × Option (List ℤ) = λ version sway. (version, sway) in
+    three_told (known_only spots.Top (known_at_top ms) ms) (version_at (get_member (word_of keys.Version) ms))
+    (sway_at (get_member (word_of keys.Sway) ms)) (λ _ version sway. made version sway)
+    ∙ (λ z. or_else (or_else (known_told spots.Top (known_at_top ms) ms z)
+    (version_told (get_member (word_of keys.Version) ms) z)) (sway_told (get_member (word_of keys.Sway) ms) z))
 
 pub block_told : (i : ℕ) (ms : Members) → answered_fault (block_part i ms) ≡ earliest (block_table_faults i ms)
 unfolding block_part

@@ -10,7 +10,7 @@ use Rattle.std.proofs.lemmas.List.{map-append, take_more}
 use Rattle.stack_polygon.specs.declared.point.Point.{Point}
 use Rattle.stack_polygon.specs.Limits.{is_near}
 use Rattle.stack_polygon.specs.Outlines.{outline_of}
-use Rattle.stack_model.specs.Limits.{is_between, friction_of, point_of, live_of, force_of}
+use Rattle.stack_model.specs.Limits.{is_between, friction_of, sway_of, point_of, live_of, force_of}
 use Rattle.stack_model.specs.Convex.{at_block, convex}
 use Rattle.stack_model.specs.Relisted.{coordinates, kind_word}
 use Rattle.stack_faults.specs.Outline.{IsOutlineOf, HasNoOutline}
@@ -47,6 +47,18 @@ friction_pair (x ∷ y ∷ z ∷ zs) = refl
 pub friction_back : (zs : List ℤ) (f : ℤ × ℤ) → friction_of zs ≡ Some f → f.0 ∷ f.1 ∷ [] ≡ zs
 friction_back zs f h = pair_back (is_between (pos 0) (pos 1000)) (is_between (pos 1) (pos 1000)) zs f
     (sym (friction_pair zs) ∙ h)
+
+abbrev is_share : ℤ → Bool
+is_share z = is_between (negsuc 999) (pos 1000) z
+
+sway_pair : (zs : List ℤ) → sway_of zs ≡ pair_of is_share is_share zs
+sway_pair [] = refl
+sway_pair (x ∷ []) = refl
+sway_pair (x ∷ y ∷ []) = refl
+sway_pair (x ∷ y ∷ z ∷ zs) = refl
+
+pub sway_back : (zs : List ℤ) (f : ℤ × ℤ) → sway_of zs ≡ Some f → f.0 ∷ f.1 ∷ [] ≡ zs
+sway_back zs f h = pair_back is_share is_share zs f (sym (sway_pair zs) ∙ h)
 
 abbrev is_part : ℤ → Bool
 is_part z = is_between (negsuc 999999999) (pos 1000000000) z

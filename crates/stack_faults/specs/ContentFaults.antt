@@ -1,7 +1,8 @@
 -- All faults of the content of what a file lists, each by a property of the lists as they are written. Nothing
--- here follows a run: whether one fault is listed depends on no other. The materials come first, then the blocks,
--- then the loads: of each the number, and then one item after the other in the order of the file.
-use Rattle.std.specs.Prelude.{ℕ, pos, Bool, false, not, ◌&&◌, ◌==◌, nat_lt, List, [], ◌∷◌, ◌++◌, length}
+-- here follows a run: whether one fault is listed depends on no other. The version and the sway come first, then the
+-- materials, the joints, the blocks and the loads: of each the number, and then one item after the other in the order
+-- of the file.
+use Rattle.std.specs.Prelude.{ℕ, ℤ, pos, Bool, false, not, ◌&&◌, ◌||◌, ◌==◌, nat_lt, List, [], ◌∷◌, ◌++◌, length}
 use Rattle.std.specs.Prelude.{get_or}
 use Rattle.std.specs.Prelude.{take, find, count_by, Option, Some, None, is_none}
 use Rattle.std.specs.Str.{bytes_eq}
@@ -17,15 +18,20 @@ use Rattle.stack_model.specs.declared.places.What.TheVariants as whats
 use Rattle.stack_model.specs.declared.errors.ModelError.{ModelError}
 use Rattle.stack_model.specs.declared.errors.ModelError.TheVariants.{Range, SameName, NoMaterial, NoBlock}
 use Rattle.stack_model.specs.declared.errors.ModelError.TheVariants.{NotConvex, LoadOnFixed, TooMany}
-use Rattle.stack_model.specs.Parts.{MaterialPart, BlockPart, LoadPart, PartLists}
-use Rattle.stack_model.specs.Limits.{most_materials, most_bodies, most_fixed, most_loads}
+use Rattle.stack_model.specs.declared.errors.ModelError.TheVariants.{NoJointMaterial, SameJoint}
+use Rattle.stack_model.specs.Parts.{MaterialPart, JointPart, BlockPart, LoadPart, PartLists}
+use Rattle.stack_model.specs.Limits.{most_materials, most_joints, most_bodies, most_fixed, most_loads}
 use Rattle.stack_model.specs.Limits.{is_name, is_between, friction_of, point_of, corner_list_of, live_of}
-use Rattle.stack_model.specs.Limits.{force_of}
+use Rattle.stack_model.specs.Limits.{force_of, is_version, sway_of}
 use Rattle.stack_faults.specs.FaultLists.{faults_where, faults_below}
 
 -- the items by number, as they are written; past the end stands an item that means nothing
 abbrev pub material_written : PartLists → ℕ → MaterialPart
 material_written parts i = get_or parts.materials i (record { name = []; weight = pos 0; friction = [] })
+
+-- joint i as it is written
+abbrev pub joint_written : PartLists → ℕ → JointPart
+joint_written parts i = get_or parts.joints i (record { first = []; second = []; friction = [] })
 
 -- block i as it is written
 abbrev pub block_written : PartLists → ℕ → BlockPart
@@ -38,6 +44,16 @@ load_written parts i = get_or parts.loads i (record { block = []; kind = []; at 
 -- one of these materials has the name
 abbrev pub lists_material : List ℕ → List MaterialPart → Bool
 lists_material name ms = list_any (λ (m : MaterialPart). bytes_eq name m.name) ms
+
+-- two joints name the same two materials, in either order
+abbrev pub names_the_same : JointPart → JointPart → Bool
+names_the_same j k =
+    (bytes_eq j.first k.first && bytes_eq j.second k.second)
+    || (bytes_eq j.first k.second && bytes_eq j.second k.first)
+
+-- one of these joints names the same two materials
+abbrev pub lists_joint : JointPart → List JointPart → Bool
+lists_joint j js = list_any (λ k. names_the_same k j) js
 
 -- one of these blocks has the name
 abbrev pub lists_block : List ℕ → List BlockPart → Bool
@@ -81,6 +97,16 @@ causes_of_material parts i =
     ∷ (lists_material m.name (take i parts.materials), SameName (spots.Material i))
     ∷ []
 
+-- joint i: its friction is outside its limits; no material has a name that it gives; an earlier joint names the same
+-- two
+abbrev pub causes_of_joint : PartLists → ℕ → List (Bool × ModelError)
+causes_of_joint parts i =
+    let j = joint_written parts i in
+    (is_none (friction_of j.friction), Range (spots.Joint i) keys.Friction)
+    ∷ (not (lists_material j.first parts.materials && lists_material j.second parts.materials), NoJointMaterial i)
+    ∷ (lists_joint j (take i parts.joints), SameJoint i)
+    ∷ []
+
 -- block i: its name and its corners are outside their limits; an earlier block has its name; no material has the
 -- name that it gives; its corners are crooked; it is the 65th fixed one; it is the 129th free one
 abbrev pub causes_of_block : PartLists → ℕ → List (Bool × ModelError)
@@ -115,7 +141,24 @@ number_faults limit count what = faults_where ((nat_lt limit count, TooMany what
 abbrev pub faults_by : ℕ → (ℕ → List (Bool × ModelError)) → List ModelError
 faults_by count causes = faults_below count (λ i. faults_where (causes i))
 
--- the faults of the materials, of the blocks and of the loads
+-- a sway is listed, and it isn't two numbers within the limits
+abbrev pub is_bad_sway : Option (List ℤ) → Bool
+is_bad_sway None = false
+is_bad_sway (Some zs) = is_none (sway_of zs)
+
+-- the faults of the version and of the sway
+abbrev pub head_faults : PartLists → List ModelError
+head_faults parts = faults_where (
+    (not (is_version parts.version), Range spots.Top keys.Version)
+    ∷ (is_bad_sway parts.sway, Range spots.Top keys.Sway) ∷ [])
+
+-- those of the joints: too many of them, and then the faults of each one
+abbrev pub joint_faults : PartLists → List ModelError
+joint_faults parts =
+    number_faults most_joints (length parts.joints) whats.Joints
+    ++ faults_by (length parts.joints) (causes_of_joint parts)
+
+-- those of the materials: too many of them, and then the faults of each one
 abbrev pub material_faults : PartLists → List ModelError
 material_faults parts =
     number_faults most_materials (length parts.materials) whats.Materials
@@ -135,4 +178,5 @@ load_faults parts =
 
 -- all faults of content
 abbrev pub content_faults : PartLists → List ModelError
-content_faults parts = material_faults parts ++ block_faults parts ++ load_faults parts
+content_faults parts =
+    head_faults parts ++ material_faults parts ++ joint_faults parts ++ block_faults parts ++ load_faults parts

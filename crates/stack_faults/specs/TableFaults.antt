@@ -1,6 +1,7 @@
 -- All faults of a document's table: those of its shape, each by a property of the table as it stands, and where
--- it has none those of the content that it lists. The top comes first, and then the tables of materials, of blocks
--- and of loads, one after the other in the order of the file; in a table an unknown key, and then its keys as here.
+-- it has none those of the content that it lists. The top comes first, and then the tables of materials, of joints, of
+-- blocks and of loads, one after the other in the order of the file; in a table an unknown key, and then its keys as
+-- here.
 use Rattle.std.specs.Prelude.{ℕ, Bool, false, not, List, [], ◌∷◌, ◌++◌, map, length, get_or, Option, Some}
 use Rattle.std.specs.Prelude.{None, is_none}
 use Rattle.std.specs.Prelude.{Result, Ok, Err, option_and_then}
@@ -15,9 +16,9 @@ use Rattle.stack_model.specs.Parts.{PartLists}
 use Rattle.stack_reader.specs.declared.errors.ReadError.{ReadError}
 use Rattle.stack_reader.specs.declared.errors.ReadError.TheVariants.{NotToml, UnknownKey, Missing, Kind}
 use Rattle.stack_reader.specs.declared.errors.ReadError.TheVariants.{Model}
-use Rattle.stack_reader.specs.Keys.{word_of, top_keys, material_keys, block_keys, load_keys}
+use Rattle.stack_reader.specs.Keys.{word_of, material_keys, joint_keys, block_keys, load_keys}
 use Rattle.stack_reader.specs.Forms.{wholes_of, lists_of, tables_of, has_only}
-use Rattle.stack_reader.specs.Shape.{parts_of_document}
+use Rattle.stack_reader.specs.Shape.{known_at_top, parts_of_document}
 use Rattle.stack_reader.specs.Reading.{document_table}
 use Rattle.stack_faults.specs.FaultLists.{faults_where, faults_below}
 use Rattle.stack_faults.specs.ContentFaults.{content_faults}
@@ -42,11 +43,15 @@ abbrev pub optional_key_faults : {A : Type 0} → (Data → Option A) → Spot �
 optional_key_faults form spot key ms = faults_where (
     (is_of_another_form form (get_member (word_of key) ms), Kind spot key) ∷ [])
 
--- the top: another key than the three; one of them isn't an array of tables
+-- the top: an unknown key; the version isn't a whole number; the sway isn't an array of them; a list isn't one of
+-- tables
 abbrev pub top_faults : Members → List ReadError
 top_faults ms =
-    unknown_key_faults spots.Top top_keys ms
+    unknown_key_faults spots.Top (known_at_top ms) ms
+    ++ optional_key_faults as_integer spots.Top keys.Version ms
+    ++ optional_key_faults wholes_of spots.Top keys.Sway ms
     ++ optional_key_faults tables_of spots.Top keys.Material ms
+    ++ optional_key_faults tables_of spots.Top keys.Joint ms
     ++ optional_key_faults tables_of spots.Top keys.Block ms
     ++ optional_key_faults tables_of spots.Top keys.Load ms
 
@@ -57,6 +62,14 @@ material_table_faults i ms =
     ++ key_faults as_str (spots.Material i) keys.Name ms
     ++ key_faults as_integer (spots.Material i) keys.Weight ms
     ++ key_faults wholes_of (spots.Material i) keys.Friction ms
+
+-- joint i: an unknown key, the names of its two materials, its friction
+abbrev pub joint_table_faults : ℕ → Members → List ReadError
+joint_table_faults i ms =
+    unknown_key_faults (spots.Joint i) joint_keys ms
+    ++ key_faults as_str (spots.Joint i) keys.First ms
+    ++ key_faults as_str (spots.Joint i) keys.Second ms
+    ++ key_faults wholes_of (spots.Joint i) keys.Friction ms
 
 -- block i: an unknown key, its name, its material's name, whether it is fixed, its corners
 abbrev pub block_table_faults : ℕ → Members → List ReadError
@@ -100,6 +113,7 @@ abbrev pub shape_faults : Members → List ReadError
 shape_faults ms =
     top_faults ms
     ++ faults_of_tables material_table_faults (tables_listed keys.Material ms)
+    ++ faults_of_tables joint_table_faults (tables_listed keys.Joint ms)
     ++ faults_of_tables block_table_faults (tables_listed keys.Block ms)
     ++ faults_of_tables load_table_faults (tables_listed keys.Load ms)
 

@@ -9,7 +9,8 @@ use Rattle.stack_model.specs.declared.places.Key.TheVariants as keys
 use Rattle.stack_model.specs.declared.places.What.TheVariants as whats
 use Rattle.stack_model.specs.declared.errors.ModelError.TheVariants.{Range, SameName, NoMaterial, NoBlock}
 use Rattle.stack_model.specs.declared.errors.ModelError.TheVariants.{NotConvex, LoadOnFixed, TooMany}
-use Rattle.stack_model.specs.Parts.{MaterialPart, BlockPart, LoadPart, PartLists}
+use Rattle.stack_model.specs.declared.errors.ModelError.TheVariants.{NoJointMaterial, SameJoint}
+use Rattle.stack_model.specs.Parts.{MaterialPart, JointPart, BlockPart, LoadPart, PartLists, first_parts}
 use Rattle.stack_reader.specs.declared.errors.ReadError.TheVariants.{UnknownKey, Missing, Kind, Model}
 use Rattle.stack_faults.specs.FaultLists.{earliest}
 use Rattle.stack_faults.specs.ContentFaults.{content_faults}
@@ -36,9 +37,9 @@ block_called name material fixed corners = record {
 abbrev pub load_called : List ℕ → List ℕ → List ℤ → List ℤ → LoadPart
 load_called block kind at force = record { block = block; kind = kind; at = at; force = force }
 
--- a file's three lists
+-- the lists of a file of version 1
 abbrev pub lists_written : List MaterialPart → List BlockPart → List LoadPart → PartLists
-lists_written materials blocks loads = record { materials = materials; blocks = blocks; loads = loads }
+lists_written materials blocks loads = first_parts materials blocks loads
 
 -- a material without fault: friction 1 over 2 and a unit weight
 abbrev pub plain_stone : MaterialPart
@@ -83,6 +84,25 @@ one_of_each = lists_written (plain_stone ∷ material_called (codes "a b") (pos 
     (fixed_square ∷ block_called (codes "b") (codes "sand") false clockwise_square ∷ [])
     (load_called (codes "b") (codes "dead") (drawn_at 1000001 0) (drawn_at 0 0) ∷ [])
 
+-- a joint as a file lists it, between materials of these names
+abbrev pub joint_called : List ℕ → List ℕ → List ℤ → JointPart
+joint_called first second friction = record { first = first; second = second; friction = friction }
+
+-- of version 3, with one number of sway; joint 0 is without fault, and joins stones; joint 1 has one number of
+-- friction, and an unknown material; joint 2 joins stones again
+abbrev pub three_joints : PartLists
+three_joints = record {
+  version = pos 3;
+  sway = Some (pos 1 ∷ []);
+  materials = plain_stone ∷ [];
+  joints =
+      joint_called (codes "stone") (codes "stone") (pos 1 ∷ pos 2 ∷ [])
+      ∷ joint_called (codes "stone") (codes "sand") (pos 1 ∷ [])
+      ∷ joint_called (codes "stone") (codes "stone") (pos 3 ∷ pos 4 ∷ []) ∷ [];
+  blocks = [];
+  loads = [];
+}
+
 -- a name for each number below 100: of two digits
 abbrev pub two_digits : ℕ → List ℕ
 two_digits n = (48 + n / 10) ∷ (48 + n % 10) ∷ []
@@ -113,6 +133,9 @@ pub record WorkedFaults : Type 0 where
   pub materials : content_faults two_materials
       ≡ Range (spots.Material 0) keys.Weight ∷ Range (spots.Material 1) keys.Friction
       ∷ SameName (spots.Material 1) ∷ []
+  pub joints : content_faults three_joints
+      ≡ Range spots.Top keys.Version ∷ Range spots.Top keys.Sway ∷ Range (spots.Joint 1) keys.Friction
+      ∷ NoJointMaterial 1 ∷ SameJoint 2 ∷ []
   pub blocks : content_faults three_blocks
       ≡ Range (spots.Block 0) keys.Name ∷ Range (spots.Block 0) keys.Corners ∷ NoMaterial 0
       ∷ SameName (spots.Block 2) ∷ NotConvex 2 1 ∷ []

@@ -18,14 +18,9 @@ use Rattle.stack_algebra.proofs.Order.{mul_nonneg, nonneg-sub, sub-nonneg, nonne
 use Rattle.stack_algebra.proofs.CommonDivisor.{gcd-left, gcd-right, gcd-pos, gcd-swap, gcd-quotients}
 use Rattle.stack_frame.specs.declared.cone.Cone.{Cone}
 use Rattle.stack_frame.specs.Directions.{IsLowest}
-use Rattle.stack_frame.specs.Cones.{IsCoefficient, IsAtMost, IsSameCone, IsLesser, lowest, CoefficientsHaveOneLesser}
+use Rattle.stack_frame.specs.Cones.{IsCoefficient, IsAtMost, IsSameCone, IsReduced, IsLesser, lowest}
+use Rattle.stack_frame.specs.Cones.{CoefficientsHaveOneLesser}
 use Rattle.stack_frame.proofs.LowestTerms.{gcd_of_lowest, lowest_of_gcd, one-numerator}
-
--- c is the same coefficient in lowest terms
-record IsReduced (a c : Cone) : Type 0 where
-  pub in_limits : IsCoefficient c
-  pub same : IsSameCone c a
-  pub lowest : IsLowest c.p c.q
 
 reduced : (p q g u v : ℕ) → 0 < g → g * u ≡ p → g * v ≡ q → p ≤ 1000 → 0 < q → q ≤ 1000 → gcd u v ≡ 1 →
     IsReduced (record { p = pos p; q = pos q }) (record { p = pos u; q = pos v })
@@ -48,7 +43,7 @@ reduced p q (suc g) u v h e f l m n k =
     across : (u g v : ℕ) → u * (g * v) ≡ g * u * v
     across u g v = omega arith
 
-lowest-is : (a : Cone) → IsCoefficient a → IsReduced a (lowest a)
+pub lowest-is : (a : Cone) → IsCoefficient a → IsReduced a (lowest a)
 lowest-is a h = subst (λ x. IsReduced x (lowest a)) whole
     (reduced p q (gcd p q) (p / gcd p q) (q / gcd p q) positive
     (mul-div_cancel' (gcd p q) (gcd-left p q)) (mul-div_cancel' (gcd p q) (gcd-right p q))

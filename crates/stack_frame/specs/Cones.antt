@@ -1,4 +1,4 @@
--- Coefficients of friction, p over q. A joint has the lesser one of its two materials, in lowest terms.
+-- Coefficients of friction, p over q, and the lesser of two, in lowest terms.
 use Rattle.std.specs.Prelude.{◌≡◌, ◌⊎◌, ℕ, ℤ, pos, ◌/◌, ◌*ℤ◌, int_le, unsigned_abs, if◌then◌else◌}
 use Rattle.stack_algebra.specs.Gcd.{gcd}
 use Rattle.stack_algebra.specs.IntegerOrder.{◌≼◌}
@@ -35,6 +35,12 @@ IsAtMost a b = (a.p *ℤ b.q) ≼ (b.p *ℤ a.q)
 -- a and b are the same number
 abbrev pub IsSameCone : Cone → Cone → Type 0
 IsSameCone a b = a.p *ℤ b.q ≡ b.p *ℤ a.q
+
+-- c is the same number as a, and its terms are the lowest
+pub record IsReduced (a c : Cone) : Type 0 where
+  pub in_limits : IsCoefficient c
+  pub same : IsSameCone c a
+  pub lowest : IsLowest c.p c.q
 
 -- c is the lesser of a and b, by meaning: it is one of them, neither is less, and its terms are the lowest
 pub record IsLesser (a b c : Cone) : Type 0 where

@@ -1,7 +1,7 @@
 //! Cones of friction.
 
 ghost use Rattle.std.specs.Prelude.{◌≡◌, ◌↔◌, ◌*ℤ◌, int_le, IsTrue, IfOk, IsErr};
-ghost use Rattle.stack_frame.specs.Cones.{IsCoefficient, IsLesser, cone, lesser_of, lowest};
+ghost use Rattle.stack_frame.specs.Cones.{IsCoefficient, IsReduced, IsLesser, cone, lesser_of, lowest};
 ghost use Rattle.stack_frame.specs.Admitted.{IsAdmitted, IsTestTooWide, written_admission, written_test};
 
 use crate::divisor::common_divisor;
@@ -17,6 +17,16 @@ pub struct Cone {
 }
 
 impl Cone {
+    /// The coefficient `p` over `q`, in lowest terms. The numerator is from 0 to 1,000, and the denominator from 1 to
+    /// 1,000. Takes no memory.
+    pub fn new(p: i64, q: i64) -> Cone
+        requires { IsCoefficient (cone p q) }
+        ensures value { result ≡ lowest (cone p q) }
+        ensures reduced { IsReduced (cone p q) result }
+    {
+        reduced(Cone { p, q })
+    }
+
     /// Whether a force with the part `a` along the normal and the part `b` along the tangent pushes and stays
     /// within the cone: `a >= 0`, and `q` times the size of `b` is at most `p` times `a`. `Wide` exactly where
     /// `a >= 0` and `p` times `a`, the size of `b` or `q` times that size is more than 2^127 - 1 in size.

@@ -26,6 +26,8 @@ fn a_joint_has_the_lesser_friction(rt: HostRuntime) {
     assert_eq!(rt; cone_of(3, 4, 700, 1000), Cone { p: 7, q: 10 });
     assert_eq!(rt; cone_of(6, 8, 1, 1), Cone { p: 3, q: 4 });
     assert_eq!(rt; cone_of(1000, 1, 0, 1000), Cone { p: 0, q: 1 });
+    assert_eq!(rt; Cone::new(700, 1000), Cone { p: 7, q: 10 });
+    assert_eq!(rt; Cone::new(0, 9), Cone { p: 0, q: 1 });
 }
 
 #[test]

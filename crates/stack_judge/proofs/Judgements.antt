@@ -8,6 +8,7 @@ use Rattle.stack_rational.specs.TooWide.{is_too_wide}
 use Rattle.stack_equilibrium.specs.SurveyScene.{scene_of}
 use Rattle.stack_table.specs.declared.problem.Problem.{Problem as Lent}
 use Rattle.stack_table.specs.declared.table.Table.{Table}
+use Rattle.stack_table.specs.Table.{Shape, Tabled}
 use Rattle.stack_table.specs.Lent.{IsProblem, problem_of}
 use Rattle.stack_table.specs.Problem.{Problem, flipped}
 use Rattle.stack_table.specs.Seen.{shape_of_table, table_of, flips_of}
@@ -16,7 +17,10 @@ use Rattle.stack_posing.specs.Posed.{posed}
 use Rattle.stack_simplex.specs.declared.refusal.RunError.{RunError}
 use Rattle.stack_simplex.specs.declared.refusal.RunError.TheVariants as runs
 use Rattle.stack_simplex.specs.Ends as ended
-use Rattle.stack_extract.specs.Ends.{IsEndOfSurvey}
+use Rattle.stack_last.specs.declared.kind.EndKind.{EndKind}
+use Rattle.stack_last.specs.declared.kind.EndKind.TheVariants as kinds
+use Rattle.stack_last.specs.Ends.{end_at}
+use Rattle.stack_extract.specs.Ends.{IsEndOfSurvey, IsLastOf}
 use Rattle.stack_contact.specs.Surveyed.{Surveyed}
 use Rattle.stack_certificate.specs.declared.types.Certificate.{Certificate}
 use Rattle.stack_equilibrium.specs.declared.types.Question.{Question}
@@ -34,24 +38,43 @@ use Rattle.stack_judge.specs.Judgement.{judged_by, judgement_of, survey_run, Lac
 use Rattle.stack_judge.specs.Certifying.{GivesChecked, IsTableOfSurvey, unjudged_as}
 
 -- an end is judged by its places and its certificate
-of_end : {V : Type 0} {number : Ghosts V} (q : Question) (v : Surveyed) (e : Ended V number)
-    → judgement_of q v (ended_as e) ≡ judged_by (end_place q v (ended_as e)) (end_certificate q v (ended_as e))
-of_end q v (ends.Infeasible t) = refl
-of_end q v (ends.Feasible t) = refl
-of_end q v (ends.Optimal t) = refl
-of_end q v (ends.Ray t c) = refl
+of_end : (q : Question) (v : Surveyed) (k : EndKind) (T : Tabled Fraction)
+    → judgement_of q v (end_at k T) ≡ judged_by (end_place q v (end_at k T)) (end_certificate q v (end_at k T))
+of_end q v kinds.Infeasible T = refl
+of_end q v kinds.Feasible T = refl
+of_end q v kinds.Optimal T = refl
+of_end q v (kinds.Ray c) T = refl
 
--- what was given of the end is the judgement
+-- what was given of an end is the judgement, whatever stores its last table
+pub end_judges : (q : Question) (v : Surveyed) (budget : ℕ) (k : EndKind) (T : Tabled Fraction)
+    (result : Result Certificate JudgeError) → ¬ (LacksLive q v) → survey_run q v budget ≡ end_at k T
+    → GivesChecked result q v (end_at k T) → Judges result q v budget
+end_judges q v budget k T (Ok c) live run h =
+    (live, ap (judgement_of q v) run ∙ of_end q v k T ∙ (λ i. judged_by (h.0 i) (h.1 i)))
+end_judges q v budget k T (Err (errors.TooWide p)) live run h =
+    (live, ap (judgement_of q v) run ∙ of_end q v k T ∙ ap (λ o. judged_by o (end_certificate q v (end_at k T))) h)
+end_judges q v budget k T (Err (errors.Spent n)) live run h = absurd h
+end_judges q v budget k T (Err errors.NoLive) live run h = absurd h
+end_judges q v budget k T (Err errors.Memory) live run h = tt
+
+-- and what was given of the end of a run
 pub ended_judges : {V : Type 0} {number : Ghosts V} (q : Question) (v : Surveyed) (budget : ℕ) (e : Ended V number)
     (result : Result Certificate JudgeError) → ¬ (LacksLive q v) → survey_run q v budget ≡ ended_as e
     → GivesChecked result q v (ended_as e) → Judges result q v budget
-ended_judges q v budget e (Ok c) live run h =
-    (live, ap (judgement_of q v) run ∙ of_end q v e ∙ (λ i. judged_by (h.0 i) (h.1 i)))
-ended_judges q v budget e (Err (errors.TooWide p)) live run h =
-    (live, ap (judgement_of q v) run ∙ of_end q v e ∙ ap (λ o. judged_by o (end_certificate q v (ended_as e))) h)
-ended_judges q v budget e (Err (errors.Spent n)) live run h = absurd h
-ended_judges q v budget e (Err errors.NoLive) live run h = absurd h
-ended_judges q v budget e (Err errors.Memory) live run h = tt
+ended_judges q v budget (ends.Infeasible t) r = end_judges q v budget kinds.Infeasible (table_of t) r
+ended_judges q v budget (ends.Feasible t) r = end_judges q v budget kinds.Feasible (table_of t) r
+ended_judges q v budget (ends.Optimal t) r = end_judges q v budget kinds.Optimal (table_of t) r
+ended_judges q v budget (ends.Ray t c) r = end_judges q v budget (kinds.Ray c) (table_of t) r
+
+-- an end of the run of a survey's problem, with the shape and the flips of its last table
+pub last_of_survey : (q : Question) (v : Surveyed) (m : ℤ) (budget : ℕ) (S : Shape) (flips : ℕ → Bool)
+    (x : End Fraction) → run_at m (posed q (scene_of v)) budget ≡ x → S ≡ (posed q (scene_of v)).shape
+    → flips ≡ flipped (posed q (scene_of v)) → IsLastOf q v S flips x
+last_of_survey q v m budget S flips x run shape same = record {
+  run = record { rule = is_too_wide m; budget = budget; run = run };
+  shape = shape;
+  flips_are = same;
+}
 
 -- a live load is listed where the test says so
 pub has_some : {P : Type 0} (b : Bool) → b ≡ false → IsTrue b ↔ P → ¬ P

@@ -3,3 +3,4 @@ mod TrueAnswers
 mod Judgements
 mod NarrowRuns
 mod Budgets
+mod RevisedRuns

@@ -13,6 +13,7 @@ ghost use Rattle.stack_judge.specs.NarrowWork.{is_narrow, without_mark};
 use crate::certifying::certify;
 use crate::laws::columns_law;
 use crate::narrow::judge_narrow;
+use crate::revised::judge_revised;
 use crate::types::{JudgeError, JudgePlace};
 use stack_certificate::types::Certificate;
 use stack_circles::budget_law;
@@ -122,6 +123,26 @@ pub fn judge_marked(
     judge_by_width(alloc, s, q, budget)
 }
 
+/// The judgement by the revised run or, where that doesn't settle it, by the run at 128 bits.
+fn judge_by_run(
+    alloc: Global,
+    s: &Survey,
+    q: Question,
+    budget: u32,
+) -> Result<Certificate, JudgeError>
+    requires { budget ≢ 0 }
+    ensures judges { Judges result q s.now budget }
+    ensures judged { IfOk result (λ c. IsJudged q s.now (certificate_view c)) }
+{
+    if lacks_live(s, q) {
+        return Err(JudgeError::NoLive);
+    }
+    match judge_revised(alloc, s, q, budget) {
+        Some(judged) => judged,
+        None => judge_wide(alloc, s, q, budget),
+    }
+}
+
 /// Judges the dead or the live loads of a survey: a true certificate of the question whose numbers all fit 128 bits
 /// and which the check accepts, by the exact simplex run after Bland (1977) within a budget of pivots.
 ///
@@ -136,8 +157,7 @@ pub fn judge(alloc: Global, s: &Survey, q: Question, budget: u32) -> Result<Cert
     ensures suffices { (b n : ℕ) → enough_of (problem_columns q s.now) ≡ Some b → b ≤ budget →
         result ≢ Err (judge_error.Spent n) }
 {
-    match judge_marked(alloc, s, q, budget) {
-        Ok((certificate, _)) => Ok(certificate),
-        Err(error) => Err(error),
-    }
+    budget_law();
+    columns_law();
+    judge_by_run(alloc, s, q, budget)
 }

@@ -14,6 +14,7 @@ mod certifying;
 mod judging;
 mod laws;
 mod narrow;
+mod revised;
 mod types;
 
 pub use judging::{judge, judge_marked};

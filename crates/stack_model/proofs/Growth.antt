@@ -1,6 +1,5 @@
--- A list that grows by one item a step: what each item has, what the list keeps at each step, and that the
--- list, listed again, grows the same.
-use Rattle.std.proofs.Common.{◌≡◌, ℕ, zero, suc, ◌+◌, List, [], ◌∷◌, ◌++◌, map, length, Result, Ok, Err, refl}
+-- A list that grows by one item a step: what each item has, and what the list keeps at each step.
+use Rattle.std.proofs.Common.{◌≡◌, ℕ, zero, suc, ◌+◌, List, [], ◌∷◌, ◌++◌, length, Result, Ok, Err, refl}
 use Rattle.std.proofs.Common.{ap, ◌∙◌, subst, arith, append_assoc}
 use Rattle.std.proofs.lemmas.List.{append-nil}
 use Rattle.std.specs.List.{All}
@@ -13,32 +12,26 @@ pub went : {A B : Type 0} (r : Result A ModelError) (k : A → Result B ModelErr
 went (Ok x) k y h = (x, (refl, h))
 went (Err e) k y h = absurd (cc)
 
--- one item was added, and is added the same as what it is listed as
-pub record Adds {X P : Type 0} (f : ℕ → List X → P → Result (List X) ModelError) (Q : X → Type 0)
-    (I : List X → Type 0) (back : X → P) (i : ℕ) (xs ys : List X) : Type 0 where
+-- one item was added
+pub record Adds {X : Type 0} (Q : X → Type 0) (I : List X → Type 0) (xs ys : List X) : Type 0 where
   pub item : X
   pub is : xs ++ item ∷ [] ≡ ys
   pub keeps : Q item
   pub stays : I xs → I ys
-  pub again : f i xs (back item) ≡ Ok ys
 
 -- so many were added
-record Grows {X P : Type 0} (f : ℕ → List X → P → Result (List X) ModelError) (Q : X → Type 0)
-    (I : List X → Type 0) (back : X → P) (i n : ℕ) (xs ys : List X) : Type 0 where
+record Grows {X : Type 0} (Q : X → Type 0) (I : List X → Type 0) (n : ℕ) (xs ys : List X) : Type 0 where
   pub items : List X
   pub is : xs ++ items ≡ ys
   pub count : length items ≡ n
   pub keeps : All Q items
   pub stays : I xs → I ys
-  pub again : steps f i xs (map back items) ≡ Ok ys
 
 -- a list of so many that grew from none
-pub record Grown {X P : Type 0} (f : ℕ → List X → P → Result (List X) ModelError) (Q : X → Type 0)
-    (I : List X → Type 0) (back : X → P) (n : ℕ) (ys : List X) : Type 0 where
+pub record Grown {X : Type 0} (Q : X → Type 0) (I : List X → Type 0) (n : ℕ) (ys : List X) : Type 0 where
   pub count : length ys ≡ n
   pub keeps : All Q ys
   pub stays : I ys
-  pub again : steps f 0 [] (map back ys) ≡ Ok ys
 
 none : {X : Type 0} (Q : X → Type 0) → All Q []
 none Q k d lt = absurd (omega arith)
@@ -48,10 +41,10 @@ one_more Q x xs h all zero d lt = h
 one_more Q x xs h all (suc k) d lt = all k d (omega arith)
 
 module _ {X P : Type 0} (f : ℕ → List X → P → Result (List X) ModelError) (Q : X → Type 0)
-    (I : List X → Type 0) (back : X → P) where
-  grows : ((i : ℕ) (xs : List X) (p : P) (ys : List X) → f i xs p ≡ Ok ys → Adds f Q I back i xs ys)
+    (I : List X → Type 0) where
+  grows : ((i : ℕ) (xs : List X) (p : P) (ys : List X) → f i xs p ≡ Ok ys → Adds Q I xs ys)
       → (i : ℕ) (xs : List X) (ps : List P) (ys : List X) → steps f i xs ps ≡ Ok ys
-      → Grows f Q I back i (length ps) xs ys
+      → Grows Q I (length ps) xs ys
   grows adds i xs [] ys h =
       let same : xs ≡ ys = cc in
       record {
@@ -60,7 +53,6 @@ module _ {X P : Type 0} (f : ℕ → List X → P → Result (List X) ModelError
         count = refl;
         keeps = none Q;
         stays = subst I same;
-        again = h;
       }
   grows adds i xs (p ∷ ps) ys h =
       let one = went (f i xs p) (λ b. steps f (i + 1) b ps) ys h in
@@ -73,16 +65,14 @@ module _ {X P : Type 0} (f : ℕ → List X → P → Result (List X) ModelError
         count = ap suc rest.count;
         keeps = one_more Q a.item rest.items a.keeps rest.keeps;
         stays = λ h. rest.stays (a.stays h);
-        again = ap (λ r. r >>= λ b. steps f (i + 1) b (map back rest.items)) a.again ∙ rest.again;
       }
 
-  pub grown : ((i : ℕ) (xs : List X) (p : P) (ys : List X) → f i xs p ≡ Ok ys → Adds f Q I back i xs ys)
-      → I [] → (ps : List P) (ys : List X) → steps f 0 [] ps ≡ Ok ys → Grown f Q I back (length ps) ys
+  pub grown : ((i : ℕ) (xs : List X) (p : P) (ys : List X) → f i xs p ≡ Ok ys → Adds Q I xs ys)
+      → I [] → (ps : List P) (ys : List X) → steps f 0 [] ps ≡ Ok ys → Grown Q I (length ps) ys
   grown adds start ps ys h =
       let g = grows adds 0 [] ps ys h in
       record {
         count = subst (λ zs. length zs ≡ length ps) g.is g.count;
         keeps = subst (All Q) g.is g.keeps;
         stays = g.stays start;
-        again = subst (λ zs. steps f 0 [] (map back zs) ≡ Ok ys) g.is g.again;
       }

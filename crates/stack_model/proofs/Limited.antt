@@ -1,4 +1,4 @@
--- Values within their limits: what the tests say, and that they are taken again.
+-- Values within their limits: what the tests say.
 use Rattle.stack_algebra.proofs.Conjunctions.{both_true}
 use Rattle.std.proofs.Common.{◌≡◌, ℕ, ◌<◌, ℤ, pos, negsuc, Bool, true, false, ◌&&◌, List, [], ◌∷◌, length}
 use Rattle.std.proofs.Common.{get_or}
@@ -10,14 +10,9 @@ use Rattle.std.specs.Str.{bytes_eq}
 use Rattle.std.proofs.lemmas.Slice.Eq.{bytes_eq-Decides}
 use Rattle.std.proofs.lemmas.List.Quantifiers.{position-Some}
 use Rattle.stack_algebra.proofs.Order.{◌≼◌}
-use Rattle.stack_polygon.specs.declared.point.Point.{Point}
-use Rattle.stack_polygon.specs.Limits.{IsInRange}
-use Rattle.stack_polygon.proofs.Ranges.{in_range}
-use Rattle.stack_model.specs.Limits.{IsName, is_name, is_name_byte, is_between, friction_of, point_of}
-use Rattle.stack_model.specs.Limits.{live_of, force_of}
+use Rattle.stack_model.specs.Limits.{IsName, is_name, is_name_byte, is_between, friction_of, sway_of}
+use Rattle.stack_model.specs.Limits.{force_of}
 use Rattle.stack_model.specs.Content.{number_of}
-use Rattle.stack_model.specs.Relisted.{coordinates, kind_word}
-use Rattle.stack_model.proofs.Points.{point_taken, point_again}
 
 pub between : (low high z : ℤ) → is_between low high z ≡ true → (low ≼ z) × (z ≼ high)
 between low high z h = let p = both_true (int_le low z) (int_le z high) h in
@@ -30,7 +25,6 @@ between low high z h = let p = both_true (int_le low z) (int_le z high) h in
 pub record IsCoefficient (f : ℤ × ℤ) : Type 0 where
   pub p : (pos 0 ≼ f.0) × (f.0 ≼ pos 1000)
   pub q : (pos 1 ≼ f.1) × (f.1 ≼ pos 1000)
-  pub again : friction_of (f.0 ∷ f.1 ∷ []) ≡ Some f
 
 pub coefficient : (zs : List ℤ) (f : ℤ × ℤ) → friction_of zs ≡ Some f → IsCoefficient f
 coefficient (p ∷ q ∷ []) f h = go (is_between (pos 0) (pos 1000) p)
@@ -44,7 +38,6 @@ coefficient (p ∷ q ∷ []) f h = go (is_between (pos 0) (pos 1000) p)
         (record {
           p = between (pos 0) (pos 1000) p ea;
           q = between (pos 1) (pos 1000) q eb;
-          again = λ i. if ea i && eb i then Some (p, q) else None;
         })
     go true false ea eb e = absurd (cc)
     go false b ea eb e = absurd (cc)
@@ -52,11 +45,36 @@ coefficient [] f h = absurd (cc)
 coefficient (p ∷ []) f h = absurd (cc)
 coefficient (p ∷ q ∷ r ∷ zs) f h = absurd (cc)
 
+-- a sway that was taken
+pub record IsTaken (z : ℤ × ℤ) : Type 0 where
+  pub x : (negsuc 999 ≼ z.0) × (z.0 ≼ pos 1000)
+  pub y : (negsuc 999 ≼ z.1) × (z.1 ≼ pos 1000)
+
+abbrev is_share : ℤ → Bool
+is_share z = is_between (negsuc 999) (pos 1000) z
+
+pub sway : (zs : List ℤ) (z : ℤ × ℤ) → sway_of zs ≡ Some z → IsTaken z
+sway (x ∷ y ∷ []) z h = go (is_share x) (is_share y) refl refl h
+  where
+    go : (a b : Bool) → is_share x ≡ a → is_share y ≡ b → (if a && b then Some (x, y) else None) ≡ Some z
+        → IsTaken z
+    go true true ea eb e =
+        let same : (x, y) ≡ z = cc in
+        subst IsTaken same
+        (record {
+          x = between (negsuc 999) (pos 1000) x ea;
+          y = between (negsuc 999) (pos 1000) y eb;
+        })
+    go true false ea eb e = absurd (cc)
+    go false b ea eb e = absurd (cc)
+sway [] z h = absurd (cc)
+sway (x ∷ []) z h = absurd (cc)
+sway (x ∷ y ∷ u ∷ zs) z h = absurd (cc)
+
 -- a force that was taken
 pub record IsForce (f : ℤ × ℤ) : Type 0 where
   pub x : (negsuc 999999999 ≼ f.0) × (f.0 ≼ pos 1000000000)
   pub y : (negsuc 999999999 ≼ f.1) × (f.1 ≼ pos 1000000000)
-  pub again : force_of (f.0 ∷ f.1 ∷ []) ≡ Some f
 
 abbrev is_part : ℤ → Bool
 is_part z = is_between (negsuc 999999999) (pos 1000000000) z
@@ -72,26 +90,12 @@ force (x ∷ y ∷ []) f h = go (is_part x) (is_part y) refl refl h
         (record {
           x = between (negsuc 999999999) (pos 1000000000) x ea;
           y = between (negsuc 999999999) (pos 1000000000) y eb;
-          again = λ i. if ea i && eb i then Some (x, y) else None;
         })
     go true false ea eb e = absurd (cc)
     go false b ea eb e = absurd (cc)
 force [] f h = absurd (cc)
 force (x ∷ []) f h = absurd (cc)
 force (x ∷ y ∷ z ∷ zs) f h = absurd (cc)
-
--- a point that was taken
-pub record IsPoint (p : Point) : Type 0 where
-  pub range : IsInRange p
-  pub again : point_of (coordinates p) ≡ Some p
-
-pub point : (zs : List ℤ) (p : Point) → point_of zs ≡ Some p → IsPoint p
-point zs p h = let t = point_taken zs p h in record { range = in_range p t; again = point_again p t }
-
--- a kind has one word
-pub kind_again : (live : Bool) → live_of (kind_word live) ≡ Some live
-kind_again true = refl
-kind_again false = refl
 
 pub number_below : (name : List ℕ) (names : List (List ℕ)) (n : ℕ) → number_of name names ≡ Some n
     → n < length names

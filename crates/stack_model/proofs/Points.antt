@@ -77,27 +77,17 @@ corners_again ps h =
     then points_of (map coordinates ps) else None)
     ∙ points_again ps h.range
 
--- an outline: a polygon that is its own outline
-pub record IsOutline (i : ℕ) (ps : List Point) : Type 0 where
-  pub polygon : IsPolygon ps
-  pub corners : AreCorners ps
-  pub again : convex i ps ≡ Ok ps
-
 counted : (n : ℕ) → is_count n ≡ true → (3 ≤ n) × (n ≤ 32)
 counted n h = (grind (arith, ints), grind (arith, ints))
 
-by_test : (i : ℕ) (ps : List Point) → AreCorners ps → is_convex ps ≡ true → IsOutline i ps
-by_test i ps h c =
+by_test : (ps : List Point) → AreCorners ps → is_convex ps ≡ true → IsPolygon ps
+by_test ps h c =
     let n = counted (length ps) h.count in
     record {
-      polygon = record {
-        least = n.0;
-        most = n.1;
-        in_range = all_in_range ps h.range;
-        convex = convex_from ps c;
-      };
-      corners = h;
-      again = rw c refl;
+      least = n.0;
+      most = n.1;
+      in_range = all_in_range ps h.range;
+      convex = convex_from ps c;
     }
 
 turned : (ps : List Point) → AreCorners ps → AreCorners (reversed ps)
@@ -107,14 +97,14 @@ turned ps h =
       range = to_all_in_range (reversed ps) (range-reversed ps (all_in_range ps h.range));
     }
 
-pub outlined : (i : ℕ) (ps qs : List Point) → AreCorners ps → convex i ps ≡ Ok qs → IsOutline i qs
+pub outlined : (i : ℕ) (ps qs : List Point) → AreCorners ps → convex i ps ≡ Ok qs → IsPolygon qs
 outlined i ps qs h k = go (is_convex ps) (is_convex (reversed ps)) refl refl k
   where
     go : (s t : Bool) → is_convex ps ≡ s → is_convex (reversed ps) ≡ t
         → at_block i (if s then Ok ps else
         (if t then Ok (reversed ps) else Err (first_failing (is_clear ps) (length ps)))) ≡ Ok qs
-        → IsOutline i qs
-    go true t es et e = let same : ps ≡ qs = cc in subst (IsOutline i) same (by_test i ps h es)
+        → IsPolygon qs
+    go true t es et e = let same : ps ≡ qs = cc in subst IsPolygon same (by_test ps h es)
     go false true es et e = let same : reversed ps ≡ qs = cc in
-        subst (IsOutline i) same (by_test i (reversed ps) (turned ps h) et)
+        subst IsPolygon same (by_test (reversed ps) (turned ps h) et)
     go false false es et e = absurd (cc)

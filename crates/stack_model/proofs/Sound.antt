@@ -1,42 +1,42 @@
 -- What was checked holds of the structure.
-use Rattle.std.proofs.Common.{◌≡◌, ℕ, ◌<◌, ◌≤◌, ℤ, Bool, true, false, not, List, [], ◌∷◌, ◌++◌, map}
+use Rattle.std.proofs.Common.{◌≡◌, ℕ, ◌<◌, ◌≤◌, ℤ, Bool, true, false, not, List, [], ◌∷◌, ◌++◌}
 use Rattle.std.proofs.Common.{length}
 use Rattle.std.proofs.Common.{Result, Ok, Err, refl, sym, ap, ◌∙◌, subst, arith}
 use Rattle.std.specs.Prelude.{nat_le}
 use Rattle.std.specs.Bool.{⊤}
-use Rattle.std.proofs.lemmas.List.{length-map, get_or-map}
+use Rattle.std.proofs.lemmas.List.{length-map}
 use Rattle.std.proofs.lemmas.Int.{ints}
 use Rattle.stack_algebra.specs.Steps.{◌>>=◌, steps}
 use Rattle.stack_polygon.specs.declared.point.Point.{Point}
+use Rattle.stack_model.specs.declared.types.Joint.{Joint}
 use Rattle.stack_model.specs.declared.types.Load.{Load}
 use Rattle.stack_model.specs.declared.places.What.{What}
 use Rattle.stack_model.specs.declared.places.What.TheVariants as whats
 use Rattle.stack_model.specs.declared.errors.ModelError.{ModelError}
-use Rattle.stack_model.specs.Structure.{NamedMaterial, NamedBody, structure_with, body_at}
-use Rattle.stack_model.specs.Structure.{IsWithinLimits, IsPlaced, IsCarried}
-use Rattle.stack_model.specs.Parts.{LoadPart, PartLists}
+use Rattle.stack_model.specs.Structure.{NamedMaterial, NamedBody, structure_with}
+use Rattle.stack_model.specs.Structure.{IsWithinLimits, IsBetween, IsPlaced}
+use Rattle.stack_model.specs.Parts.{LoadPart, PartLists, IsOfVersion}
 use Rattle.stack_model.specs.Limits.{point_of, live_of, force_of}
 use Rattle.stack_model.specs.Content.{at_most, is_free, number_of}
 use Rattle.stack_model.specs.Content.{material_names, body_names, add_material}
-use Rattle.stack_model.specs.Content.{add_block, add_load, bodies_of, content_of}
-use Rattle.stack_model.specs.Relisted.{material_listed, body_listed, load_listed}
-use Rattle.stack_model.specs.Sound.{IsSound, AreDifferent}
+use Rattle.stack_model.specs.Content.{add_joint, add_block, add_load, head_of, joints_of, bodies_of, loads_of}
+use Rattle.stack_polygon.proofs.Ranges.{in_range}
+use Rattle.stack_model.proofs.Points.{point_taken}
+use Rattle.stack_model.specs.Borne.{IsBorne}
+use Rattle.stack_model.specs.Sound.{IsSound, AreDifferent, AreOfDifferentPairs}
+use Rattle.stack_model.proofs.Joined.{no_joints}
+use Rattle.stack_model.proofs.Heads.{head_is, of_version}
 use Rattle.stack_model.proofs.Apart.{AreApart, no_names, no_bodies}
-use Rattle.stack_model.proofs.Limited.{force, point, kind_again, number_below, named}
+use Rattle.stack_model.proofs.Limited.{force, number_below}
 use Rattle.stack_model.proofs.Growth.{Adds, grown}
-use Rattle.stack_model.proofs.TakenItems.{held, material_adds, block_adds, load_steps, load_runs}
-
--- on a free body of these
-record IsBorne (bs : List NamedBody) (l : Load) : Type 0 where
-  pub carried : IsCarried (length bs) l
-  pub free : (body_at bs l.body).fixed ≡ false
+use Rattle.stack_model.proofs.TakenItems.{held, material_adds, joint_adds, block_adds, load_steps}
 
 not_fixed : (b : Bool) → not b ≡ true → b ≡ false
 not_fixed true h = absurd (cc)
 not_fixed false h = refl
 
 load_adds : (bs : List NamedBody) (i : ℕ) (ls : List Load) (l : LoadPart) (ns : List Load)
-    → add_load bs i ls l ≡ Ok ns → Adds (add_load bs) (IsBorne bs) (λ _. ⊤) (load_listed bs) i ls ns
+    → add_load bs i ls l ≡ Ok ns → Adds (IsBorne bs) (λ _. ⊤) ls ns
 unfolding add_load
 load_adds bs i ls l ns h =
     let made = λ (live : Bool) (c : Point) (f : ℤ × ℤ) (n : ℕ). let r : Load = record {
@@ -49,20 +49,16 @@ load_adds bs i ls l ns h =
     let s = load_steps _ _ _ _ _ _ (live_of l.kind) (point_of l.at) (force_of l.force)
     (number_of l.block (body_names bs)) (λ n. is_free n bs)
     (λ live c f n. ls ++ made live c f n ∷ []) ns h in
-    let c = point l.at s.point s.place in
     let f = force l.force s.parts s.force in
     let below : s.number < length bs = subst (λ k. s.number < k) (length-map bs (λ (b : NamedBody). b.name))
     (number_below l.block (body_names bs) s.number s.body) in
-    let same : (body_at bs s.number).name ≡ l.block =
-    sym (get_or-map (λ (b : NamedBody). b.name) bs s.number _ [] below)
-    ∙ sym (named l.block (body_names bs) s.number s.body) in
     record {
       item = made s.live s.point s.parts s.number;
       is = s.is;
       keeps = record {
         carried = record {
           on_body = below;
-          in_range = c.range;
+          in_range = in_range s.point (point_taken l.at s.point s.place);
           least_fx = f.x.0;
           most_fx = f.x.1;
           least_fy = f.y.0;
@@ -71,102 +67,91 @@ load_adds bs i ls l ns h =
         free = not_fixed _ s.free;
       };
       stays = λ _. tt;
-      again = load_runs _ _ _ _ _ _ _ _ _ _ (λ n. is_free n bs)
-          (λ live c f n. ls ++ made live c f n ∷ []) s.live s.point s.parts s.number
-          (kind_again s.live) c.again f.again (ap (λ name. number_of name (body_names bs)) same
-          ∙ s.body) s.free ∙ ap Ok s.is;
     }
 
 -- as many as were listed are few where those were
-few : (limit n m : ℕ) (what : What) (x : ⊤) → m ≡ n → at_most limit n what ≡ Ok x
-    → (m ≤ limit) × (at_most limit m what ≡ Ok x)
+few : (limit n m : ℕ) (what : What) (x : ⊤) → m ≡ n → at_most limit n what ≡ Ok x → m ≤ limit
 few limit n m what x same h =
     let t : nat_le n limit ≡ true = held (nat_le n limit) _ x h in
-    (subst (λ k. k ≤ limit) (sym same) (grind (arith, ints)), ap (λ k. at_most limit k what) same ∙ h)
-
-abbrev both_lists : List NamedMaterial → List NamedBody
-    → Result (List NamedMaterial × List NamedBody) ModelError
-both_lists ms bs = Ok (ms, bs)
+    subst (λ k. k ≤ limit) (sym same) (grind (arith, ints))
 
 -- the steps of the two lists
 record ListSteps (u v : Result ⊤ ModelError) (r : Result (List NamedMaterial) ModelError)
-    (k : List NamedMaterial → Result (List NamedBody) ModelError) (ms : List NamedMaterial)
-    (bs : List NamedBody) : Type 0 where
+    (k : List NamedMaterial → Result (List Joint) ModelError) (ms : List NamedMaterial)
+    (js : List Joint) : Type 0 where
   pub few_materials : u ≡ Ok tt
-  pub few_bodies : v ≡ Ok tt
+  pub few_joints : v ≡ Ok tt
   pub materials : r ≡ Ok ms
-  pub bodies : k ms ≡ Ok bs
+  pub joints : k ms ≡ Ok js
 
 list_steps : (u v : Result ⊤ ModelError) (r : Result (List NamedMaterial) ModelError)
-    (k : List NamedMaterial → Result (List NamedBody) ModelError) (both : List NamedMaterial × List NamedBody)
-    → (u >>= λ _. r >>= λ ms. v >>= λ _. k ms >>= λ bs. Ok (ms, bs)) ≡ Ok both
+    (k : List NamedMaterial → Result (List Joint) ModelError) (both : List NamedMaterial × List Joint)
+    → (u >>= λ _. r >>= λ ms. v >>= λ _. k ms >>= λ js. Ok (ms, js)) ≡ Ok both
     → ListSteps u v r k both.0 both.1
 list_steps (Ok t) (Ok w) (Ok ns) k both h = last (k ns) refl h
   where
-    last : (q : Result (List NamedBody) ModelError) → k ns ≡ q → (q >>= λ cs. Ok (ns, cs)) ≡ Ok both
+    last : (q : Result (List Joint) ModelError) → k ns ≡ q → (q >>= λ cs. Ok (ns, cs)) ≡ Ok both
         → ListSteps (Ok t) (Ok w) (Ok ns) k both.0 both.1
     last (Ok cs) e h =
         let same : (ns, cs) ≡ both = cc in
         record {
           few_materials = refl;
-          few_bodies = refl;
+          few_joints = refl;
           materials = ap (λ b. Ok b.0) same;
-          bodies = ap (λ b. k b.0) (sym same) ∙ (e ∙ ap (λ b. Ok b.1) same);
+          joints = ap (λ b. k b.0) (sym same) ∙ (e ∙ ap (λ b. Ok b.1) same);
         }
     last (Err f) e h = absurd (cc)
 list_steps (Ok t) (Err e) (Ok ms) k both h = absurd (cc)
 list_steps (Ok t) v (Err e) k both h = absurd (cc)
 list_steps (Err e) v r k both h = absurd (cc)
 
-list_runs : (u v : Result ⊤ ModelError) (r : Result (List NamedMaterial) ModelError) (k : List NamedMaterial
-    → Result (List NamedBody) ModelError) (ms : List NamedMaterial) (bs : List NamedBody)
-    → u ≡ Ok tt → v ≡ Ok tt → r ≡ Ok ms → k ms ≡ Ok bs
-    → (u >>= λ _. r >>= λ ms. v >>= λ _. k ms >>= λ bs. both_lists ms bs) ≡ both_lists ms bs
-list_runs u v r k ms bs hu hv hr hk =
-    (λ i. hu i >>= λ _. hr i >>= λ ms. hv i >>= λ _. k ms >>= λ bs. both_lists ms bs)
-    ∙ ap (λ q. q >>= λ bs. both_lists ms bs) hk
-
-whole_runs : (r : Result (List NamedMaterial × List NamedBody) ModelError) (u : Result ⊤ ModelError)
-    (k : List NamedMaterial × List NamedBody → Result (List Load) ModelError) (ms : List NamedMaterial)
-    (bs : List NamedBody) (ls : List Load)
-    → r ≡ both_lists ms bs → u ≡ Ok tt → k (ms, bs) ≡ Ok ls
-    → (r >>= λ both. u >>= λ _. k both >>= λ ls. Ok (structure_with both.0 both.1 ls)) ≡ Ok (structure_with ms bs ls)
-whole_runs r u k ms bs ls hr hu hk =
-    (λ i. hr i >>= λ both. hu i >>= λ _. k both >>= λ ls. Ok (structure_with both.0 both.1 ls))
-    ∙ ap (λ q. q >>= λ ls. Ok (structure_with ms bs ls)) hk
+-- a list that is counted first
+counted : {A : Type 0} (u : Result ⊤ ModelError) (r : Result A ModelError) (x : A) → (u >>= λ _. r) ≡ Ok x
+    → (u ≡ Ok tt) × (r ≡ Ok x)
+counted (Ok t) r x h = (refl, h)
+counted (Err e) r x h = absurd (cc)
 
 -- the structure of parts whose content was taken
-pub sound : (parts : PartLists) (ms : List NamedMaterial) (bs : List NamedBody) (ls : List Load)
-    → bodies_of parts ≡ Ok (ms, bs) → at_most 256 (length parts.loads) whats.Loads ≡ Ok tt
-    → steps (add_load bs) 0 [] parts.loads ≡ Ok ls → IsSound (structure_with ms bs ls)
-unfolding content_of bodies_of
-sound parts ms bs ls h some_loads loads =
+pub sound : (parts : PartLists) (sway : ℤ × ℤ) (ms : List NamedMaterial) (js : List Joint) (bs : List NamedBody)
+    (ls : List Load)
+    → IsOfVersion parts → head_of parts ≡ Ok sway → joints_of parts ≡ Ok (ms, js) → bodies_of ms parts ≡ Ok bs
+    → loads_of bs parts ≡ Ok ls → IsSound (structure_with parts.version sway ms js bs ls)
+unfolding joints_of bodies_of loads_of
+sound parts sway ms js bs ls of_its_version head lists bodies loads =
+    let whole = structure_with parts.version sway ms js bs ls in
+    let h = head_is parts sway head in
     let s = list_steps (at_most 64 (length parts.materials) whats.Materials)
-    (at_most 192 (length parts.blocks) whats.Blocks) (steps add_material 0 [] parts.materials)
-    (λ ms. steps (add_block ms) 0 [] parts.blocks) (ms, bs) h in
-    let m = grown add_material IsWithinLimits (λ ms. AreDifferent (material_names ms)) material_listed
+    (at_most 256 (length parts.joints) whats.Joints) (steps add_material 0 [] parts.materials)
+    (λ ms. steps (add_joint ms) 0 [] parts.joints) (ms, js) lists in
+    let t = counted (at_most 192 (length parts.blocks) whats.Blocks) (steps (add_block ms) 0 [] parts.blocks) bs
+    bodies in
+    let u = counted (at_most 256 (length parts.loads) whats.Loads) (steps (add_load bs) 0 [] parts.loads) ls loads in
+    let m = grown add_material IsWithinLimits (λ ms. AreDifferent (material_names ms))
     material_adds no_names parts.materials ms s.materials in
-    let b = grown (add_block ms) (IsPlaced (length ms)) AreApart (body_listed ms)
-    (block_adds ms) no_bodies parts.blocks bs s.bodies in
-    let l = grown (add_load bs) (IsBorne bs) (λ _. ⊤) (load_listed bs) (load_adds bs) tt parts.loads ls loads in
+    let j = grown (add_joint ms) (IsBetween (length ms)) AreOfDifferentPairs
+    (joint_adds ms) no_joints parts.joints js s.joints in
+    let b = grown (add_block ms) (IsPlaced (length ms)) AreApart
+    (block_adds ms) no_bodies parts.blocks bs t.1 in
+    let l = grown (add_load bs) (IsBorne bs) (λ _. ⊤) (load_adds bs) tt parts.loads ls u.1 in
     let few_m = few 64 _ _ whats.Materials tt m.count s.few_materials in
-    let few_b = few 192 _ _ whats.Blocks tt b.count s.few_bodies in
-    let few_l = few 256 _ _ whats.Loads tt l.count some_loads in
-    let both = list_runs _ _ _ (λ ns. steps (add_block ns) 0 [] (map (body_listed ms) bs)) ms bs
-    (ap (λ n. at_most 64 n whats.Materials) (length-map ms material_listed) ∙ few_m.1)
-    (ap (λ n. at_most 192 n whats.Blocks) (length-map bs (body_listed ms)) ∙ few_b.1) m.again b.again in
+    let few_j = few 256 _ _ whats.Joints tt j.count s.few_joints in
+    let few_b = few 192 _ _ whats.Blocks tt b.count t.0 in
+    let few_l = few 256 _ _ whats.Loads tt l.count u.0 in
     record {
       materials = λ i lt. m.keeps i _ lt;
+      version = of_version parts whole refl of_its_version h head j.count;
+      sway = h.limits;
+      joints = λ i lt. j.keeps i _ lt;
       bodies = λ i lt. b.keeps i _ lt;
       loads = λ i lt. (l.keeps i _ lt).carried;
       free = λ i lt. (l.keeps i _ lt).free;
-      few_materials = few_m.0;
-      few_bodies = few_b.0;
+      few_materials = few_m;
+      few_joints = few_j;
+      few_bodies = few_b;
       few_free = (b.stays).few_free;
       few_fixed = (b.stays).few_fixed;
-      few_loads = few_l.0;
+      few_loads = few_l;
       different_materials = m.stays;
       different_bodies = (b.stays).different;
-      again = whole_runs _ _ (λ both. steps (add_load both.1) 0 [] (map (load_listed bs) ls)) ms bs ls both
-          (ap (λ n. at_most 256 n whats.Loads) (length-map ls (load_listed bs)) ∙ few_l.1) l.again;
+      different_pairs = j.stays;
     }

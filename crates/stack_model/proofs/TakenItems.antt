@@ -1,30 +1,32 @@
 -- What holds of a material, a body and a load that was taken after others.
 use Rattle.std.proofs.Common.{◌≡◌, ℕ, ◌<◌, ℤ, pos, Bool, true, false, List, [], ◌∷◌, ◌++◌}
 use Rattle.std.proofs.Common.{length}
-use Rattle.std.proofs.Common.{Option, Some, None, Result, Ok, Err, refl, sym, ap, ◌∙◌, subst, arith}
+use Rattle.std.proofs.Common.{Option, Some, None, Result, Ok, Err, refl, ap, ◌∙◌, subst, arith}
 use Rattle.std.specs.Prelude.{nat_lt}
 use Rattle.std.specs.Bool.{⊤}
-use Rattle.std.proofs.lemmas.List.{length-map, get_or-map}
+use Rattle.std.proofs.lemmas.List.{length-map}
 use Rattle.std.proofs.lemmas.Int.{ints}
-use Rattle.stack_algebra.specs.Steps.{◌>>=◌, steps}
+use Rattle.stack_algebra.specs.Steps.{◌>>=◌}
 use Rattle.stack_polygon.specs.declared.point.Point.{Point}
+use Rattle.stack_model.specs.declared.types.Joint.{Joint}
 use Rattle.stack_model.specs.declared.types.Load.{Load}
 use Rattle.stack_model.specs.declared.places.Spot.{Spot}
 use Rattle.stack_model.specs.declared.places.Key.{Key}
 use Rattle.stack_model.specs.declared.errors.ModelError.{ModelError}
-use Rattle.stack_model.specs.Structure.{NamedMaterial, NamedBody, material_at}
-use Rattle.stack_model.specs.Structure.{IsWithinLimits, IsPlaced}
-use Rattle.stack_model.specs.Parts.{MaterialPart, BlockPart}
+use Rattle.stack_model.specs.Structure.{NamedMaterial, NamedBody}
+use Rattle.stack_model.specs.Structure.{IsWithinLimits, IsBetween, IsPlaced, joint_terms}
+use Rattle.stack_model.specs.Parts.{MaterialPart, JointPart, BlockPart}
 use Rattle.stack_model.specs.Limits.{is_name, is_between, friction_of, corner_list_of}
 use Rattle.stack_model.specs.Convex.{convex}
 use Rattle.stack_model.specs.Content.{unless, ranged, found, is_new, number_of, has_room}
 use Rattle.stack_model.specs.Content.{material_names, body_names, with_material, add_material, with_body}
-use Rattle.stack_model.specs.Content.{add_block}
-use Rattle.stack_model.specs.Relisted.{material_listed, body_listed}
-use Rattle.stack_model.specs.Sound.{AreDifferent, fixed_among, free_among}
+use Rattle.stack_model.specs.Content.{add_joint, add_block}
+use Rattle.std.specs.Prelude.{is_none}
+use Rattle.stack_model.specs.Sound.{AreDifferent, AreOfDifferentPairs, fixed_among, free_among}
+use Rattle.stack_model.proofs.Joined.{one_more_joint}
 use Rattle.stack_model.proofs.Apart.{AreApart, HasRoom, one_more_material, one_more_body}
-use Rattle.stack_model.proofs.Points.{corners_taken, corners_again, outlined}
-use Rattle.stack_model.proofs.Limited.{between, coefficient, force, point, number_below, named, is_a_name}
+use Rattle.stack_model.proofs.Points.{corners_taken, outlined}
+use Rattle.stack_model.proofs.Limited.{between, coefficient, number_below, is_a_name}
 use Rattle.stack_model.proofs.Growth.{Adds}
 
 -- a test that held
@@ -33,7 +35,7 @@ held true e x h = refl
 held false e x h = absurd (cc)
 
 -- a value that was there
-there : {A : Type 0} (s : Spot) (k : Key) (o : Option A) (x : A) → ranged s k o ≡ Ok x → o ≡ Some x
+pub there : {A : Type 0} (s : Spot) (k : Key) (o : Option A) (x : A) → ranged s k o ≡ Ok x → o ≡ Some x
 there s k (Some y) x h = cc
 there s k None x h = absurd (cc)
 
@@ -68,7 +70,7 @@ material_steps true true c d e g s k None to ns h = absurd (cc)
 material_steps true false c d e g s k o to ns h = absurd (cc)
 material_steps false b c d e g s k o to ns h = absurd (cc)
 
-material_runs : (a b c : Bool) (d e g : ModelError) (s : Spot) (k : Key) (o : Option (ℤ × ℤ)) (f : ℤ × ℤ)
+pub material_runs : (a b c : Bool) (d e g : ModelError) (s : Spot) (k : Key) (o : Option (ℤ × ℤ)) (f : ℤ × ℤ)
     (to : ℤ × ℤ → List NamedMaterial)
     → a ≡ true → b ≡ true → c ≡ true → o ≡ Some f
     → (unless a d >>= λ _. unless b e >>= λ _. ranged s k o >>= λ f. unless c g >>= λ _. Ok (to f)) ≡ Ok (to f)
@@ -77,8 +79,7 @@ material_runs a b c d e g s k o f to ha hb hc ho =
     >>= λ _. Ok (to f)
 
 pub material_adds : (i : ℕ) (ms : List NamedMaterial) (m : MaterialPart) (ns : List NamedMaterial)
-    → add_material i ms m ≡ Ok ns → Adds add_material IsWithinLimits (λ ms. AreDifferent (material_names ms))
-    material_listed i ms ns
+    → add_material i ms m ≡ Ok ns → Adds IsWithinLimits (λ ms. AreDifferent (material_names ms)) ms ns
 unfolding add_material with_material
 material_adds i ms m ns h =
     let made = λ (f : ℤ × ℤ). let r : NamedMaterial = record {
@@ -106,8 +107,81 @@ material_adds i ms m ns h =
       };
       stays = λ h. subst (λ ms. AreDifferent (material_names ms)) s.is
           (one_more_material ms (made s.terms) s.new h);
-      again = material_runs _ _ _ _ _ _ _ _ _ s.terms
-          (λ f. ms ++ made f ∷ []) s.named s.weighed s.new c.again ∙ ap Ok s.is;
+    }
+
+-- the steps of a joint
+record JointSteps (o : Option (ℤ × ℤ)) (at bt : Option ℕ) (new_at : ℕ → ℕ → Bool) (to : ℤ × ℤ → ℕ → ℕ → List Joint)
+    (ns : List Joint) : Type 0 where
+  pub terms : ℤ × ℤ
+  pub friction : o ≡ Some terms
+  pub first_number : ℕ
+  pub first : at ≡ Some first_number
+  pub second_number : ℕ
+  pub second : bt ≡ Some second_number
+  pub new : new_at first_number second_number ≡ true
+  pub is : to terms first_number second_number ≡ ns
+
+joint_steps : (s : Spot) (k : Key) (d e g : ModelError) (o : Option (ℤ × ℤ)) (at bt : Option ℕ) (new : ℕ → ℕ → Bool)
+    (to : ℤ × ℤ → ℕ → ℕ → List Joint) (ns : List Joint)
+    → (ranged s k o >>= λ f. found at d >>= λ a. found bt e >>= λ b. unless (new a b) g >>= λ _. Ok (to f a b)) ≡ Ok ns
+    → JointSteps o at bt new to ns
+joint_steps s k d e g (Some f) (Some a) (Some b) new to ns h = last (new a b) refl h
+  where
+    last : (t : Bool) → new a b ≡ t → (unless t g >>= λ _. Ok (to f a b)) ≡ Ok ns
+        → JointSteps (Some f) (Some a) (Some b) new to ns
+    last true x h = record {
+      terms = f;
+      friction = refl;
+      first_number = a;
+      first = refl;
+      second_number = b;
+      second = refl;
+      new = x;
+      is = cc;
+    }
+    last false x h = absurd (cc)
+joint_steps s k d e g (Some f) (Some a) None new to ns h = absurd (cc)
+joint_steps s k d e g (Some f) None bt new to ns h = absurd (cc)
+joint_steps s k d e g None at bt new to ns h = absurd (cc)
+
+pub joint_runs : (s : Spot) (k : Key) (d e g : ModelError) (o : Option (ℤ × ℤ)) (at bt : Option ℕ) (new : ℕ → ℕ → Bool)
+    (to : ℤ × ℤ → ℕ → ℕ → List Joint) (f : ℤ × ℤ) (a b : ℕ)
+    → o ≡ Some f → at ≡ Some a → bt ≡ Some b → new a b ≡ true
+    → (ranged s k o >>= λ f. found at d >>= λ a. found bt e >>= λ b. unless (new a b) g >>= λ _. Ok (to f a b))
+    ≡ Ok (to f a b)
+joint_runs s k d e g o at bt new to f a b ho ha hb hn =
+    (λ i. ranged s k (ho i) >>= λ f. found (ha i) d >>= λ a. found (hb i) e >>= λ b. unless (new a b) g
+    >>= λ _. Ok (to f a b))
+    ∙ ap (λ t. unless t g >>= λ _. Ok (to f a b)) hn
+
+-- the material with a name is one of these
+module _ (ms : List NamedMaterial) (name : List ℕ) (n : ℕ) (h : number_of name (material_names ms) ≡ Some n) where
+  is_material : n < length ms
+  is_material = subst (λ l. n < l) (length-map ms (λ (m : NamedMaterial). m.name))
+      (number_below name (material_names ms) n h)
+
+pub joint_adds : (ms : List NamedMaterial) (i : ℕ) (js : List Joint) (j : JointPart) (ns : List Joint)
+    → add_joint ms i js j ≡ Ok ns → Adds (IsBetween (length ms)) AreOfDifferentPairs js ns
+unfolding add_joint
+joint_adds ms i js j ns h =
+    let made = λ (f : ℤ × ℤ) (a b : ℕ). let r : Joint = record { first = a; second = b; p = f.0; q = f.1 } in r in
+    let s = joint_steps _ _ _ _ _ (friction_of j.friction) (number_of j.first (material_names ms))
+    (number_of j.second (material_names ms)) (λ a b. is_none (joint_terms js a b))
+    (λ f a b. js ++ made f a b ∷ []) ns h in
+    let c = coefficient j.friction s.terms s.friction in
+    record {
+      item = made s.terms s.first_number s.second_number;
+      is = s.is;
+      keeps = record {
+        first = is_material ms j.first s.first_number s.first;
+        second = is_material ms j.second s.second_number s.second;
+        least_p = c.p.0;
+        most_p = c.p.1;
+        least_q = c.q.0;
+        most_q = c.q.1;
+      };
+      stays = λ h. subst AreOfDifferentPairs s.is
+          (one_more_joint js (made s.terms s.first_number s.second_number) s.new h);
     }
 
 -- there was room for one more body
@@ -161,7 +235,7 @@ block_steps true false d e g s k (Some ps) n outline_of room to cs h = absurd (c
 block_steps true c d e g s k None n outline_of room to cs h = absurd (cc)
 block_steps false c d e g s k o n outline_of room to cs h = absurd (cc)
 
-block_runs : (a c : Bool) (d e g : ModelError) (s : Spot) (k : Key) (o : Option (List Point))
+pub block_runs : (a c : Bool) (d e g : ModelError) (s : Spot) (k : Key) (o : Option (List Point))
     (at : Option ℕ) (outline_of : List Point → Result (List Point) ModelError) (room : Result ⊤ ModelError)
     (to : ℕ → List Point → List NamedBody) (ps : List Point) (n : ℕ) (qs : List Point)
     → a ≡ true → c ≡ true → o ≡ Some ps → at ≡ Some n → outline_of ps ≡ Ok qs → room ≡ Ok tt
@@ -173,8 +247,7 @@ block_runs a c d e g s k o at outline_of room to ps n qs ha hc ho hn hq hr =
     ∙ ap (λ q. q >>= λ qs. Ok (to n qs)) hq
 
 pub block_adds : (ms : List NamedMaterial) (i : ℕ) (bs : List NamedBody) (b : BlockPart) (cs : List NamedBody)
-    → add_block ms i bs b ≡ Ok cs → Adds (add_block ms) (IsPlaced (length ms)) AreApart
-    (body_listed ms) i bs cs
+    → add_block ms i bs b ≡ Ok cs → Adds (IsPlaced (length ms)) AreApart bs cs
 unfolding add_block with_body
 block_adds ms i bs b cs h =
     let made = λ (n : ℕ) (qs : List Point). let r : NamedBody = record {
@@ -187,22 +260,16 @@ block_adds ms i bs b cs h =
     (number_of b.material (material_names ms)) (convex i) (has_room b.fixed bs)
     (λ n qs. bs ++ made n qs ∷ []) cs h in
     let o = outlined i s.corners s.outline (corners_taken b.corners s.corners s.taken) s.outlined in
-    let below : s.number < length ms = subst (λ l. s.number < l)
-    (length-map ms (λ (m : NamedMaterial). m.name))
-    (number_below b.material (material_names ms) s.number s.material) in
-    let same : (material_at ms s.number).name ≡ b.material =
-    sym (get_or-map (λ (m : NamedMaterial). m.name) ms s.number _ [] below)
-    ∙ sym (named b.material (material_names ms) s.number s.material) in
     record {
       item = made s.number s.outline;
       is = s.is;
-      keeps = record { named = is_a_name b.name s.named; has_material = below; polygon = o.polygon };
+      keeps = record {
+        named = is_a_name b.name s.named;
+        has_material = is_material ms b.material s.number s.material;
+        polygon = o;
+      };
       stays = λ h. subst AreApart s.is
           (one_more_body bs (made s.number s.outline) s.new (roomy b.fixed bs s.roomy) h);
-      again = block_runs _ _ _ _ _ _ _ _ _ (convex i) _
-          (λ n qs. bs ++ made n qs ∷ []) s.outline s.number s.outline s.named s.new
-          (corners_again s.outline o.corners) (ap (λ name. number_of name (material_names ms)) same
-          ∙ s.material) o.again s.roomy ∙ ap Ok s.is;
     }
 
 -- the steps of a load

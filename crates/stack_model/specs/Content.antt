@@ -1,12 +1,13 @@
--- The content of what a file lists: the structure, or the first fault of content in one order. Materials come
--- first, then blocks, then loads, each in the order of the file.
-use Rattle.std.specs.Prelude.{ℕ, pos, Bool, true, false, not, List, [], ◌∷◌, ◌++◌, length, map, Option}
+-- The content of what a file lists: the structure, or the first fault of content in one order. The
+-- version and the sway come first, then materials, joints, blocks and loads, each in the order of the file.
+use Rattle.std.specs.Prelude.{ℕ, ℤ, is_none, pos, Bool, true, false, not, List, [], ◌∷◌, ◌++◌, length, map, Option}
 use Rattle.std.specs.Prelude.{Some, None, Result, Ok, Err, nat_le, nat_lt, position, count_by}
 use Rattle.std.specs.Prelude.{if◌then◌else◌, ⊤}
 use Rattle.std.specs.Str.{bytes_eq}
 use Rattle.std.specs.List.{list_any}
 use Rattle.stack_algebra.specs.Steps.{◌>>=◌, steps}
 use Rattle.stack_polygon.specs.declared.point.Point.{Point}
+use Rattle.stack_model.specs.declared.types.Joint.{Joint}
 use Rattle.stack_model.specs.declared.types.Load.{Load}
 use Rattle.stack_model.specs.declared.places.Spot.{Spot}
 use Rattle.stack_model.specs.declared.places.Spot.TheVariants as spots
@@ -16,12 +17,13 @@ use Rattle.stack_model.specs.declared.places.What.{What}
 use Rattle.stack_model.specs.declared.places.What.TheVariants as whats
 use Rattle.stack_model.specs.declared.errors.ModelError.{ModelError}
 use Rattle.stack_model.specs.declared.errors.ModelError.TheVariants.{Range, SameName, NoMaterial, NoBlock}
-use Rattle.stack_model.specs.declared.errors.ModelError.TheVariants.{LoadOnFixed, TooMany}
-use Rattle.stack_model.specs.Structure.{NamedMaterial, NamedBody, Structure, body_at}
-use Rattle.stack_model.specs.Parts.{MaterialPart, BlockPart, LoadPart, PartLists}
+use Rattle.stack_model.specs.declared.errors.ModelError.TheVariants.{LoadOnFixed, TooMany, NoJointMaterial, SameJoint}
+use Rattle.stack_model.specs.Structure.{NamedMaterial, NamedBody, Structure, structure_with, body_at, joint_terms}
+use Rattle.stack_model.specs.Parts.{MaterialPart, JointPart, BlockPart, LoadPart, PartLists}
 use Rattle.stack_whole.specs.Limits.{most_free}
-use Rattle.stack_model.specs.Limits.{most_materials, most_bodies, most_fixed, most_loads}
-use Rattle.stack_model.specs.Limits.{is_name, is_between, friction_of, point_of, corner_list_of, live_of, force_of}
+use Rattle.stack_model.specs.Limits.{most_materials, most_joints, most_bodies, most_fixed, most_loads}
+use Rattle.stack_model.specs.Limits.{is_version, sway_of, is_name, is_between, friction_of, point_of}
+use Rattle.stack_model.specs.Limits.{corner_list_of, live_of, force_of}
 use Rattle.stack_model.specs.Convex.{convex}
 
 -- what a value means, where it is within its limits
@@ -36,6 +38,17 @@ unless holds fault = if holds then Ok tt else Err fault
 -- no more are listed than the limit, or else there are too many of this kind
 abbrev pub at_most : ℕ → ℕ → What → Result ⊤ ModelError
 at_most limit count what = unless (nat_le count limit) (TooMany what)
+
+-- the sway that is listed; (0, 0) where none is
+abbrev pub sway_listed : Option (List ℤ) → Result (ℤ × ℤ) ModelError
+sway_listed None = Ok (pos 0, pos 0)
+sway_listed (Some zs) = ranged spots.Top keys.Sway (sway_of zs)
+
+-- the sway of a file of a known version
+unfoldable pub head_of : PartLists → Result (ℤ × ℤ) ModelError
+head_of parts = do
+  known ← unless (is_version parts.version) (Range spots.Top keys.Version)
+  sway_listed parts.sway
 
 -- the names of materials, in their order
 abbrev pub material_names : List NamedMaterial → List (List ℕ)
@@ -78,6 +91,15 @@ add_material i ms m = do
     q = friction.1;
   }) ms
 
+-- joint i, after those before it: its materials are known, and no earlier joint is between them
+unfoldable pub add_joint : List NamedMaterial → ℕ → List Joint → JointPart → Result (List Joint) ModelError
+add_joint ms i js j = do
+  friction ← ranged (spots.Joint i) keys.Friction (friction_of j.friction)
+  first ← found (number_of j.first (material_names ms)) (NoJointMaterial i)
+  second ← found (number_of j.second (material_names ms)) (NoJointMaterial i)
+  new ← unless (is_none (joint_terms js first second)) (SameJoint i)
+  Ok (js ++ record { first = first; second = second; p = friction.0; q = friction.1 } ∷ [])
+
 -- there is room for one more free body, or one more fixed
 abbrev pub has_room : Bool → List NamedBody → Result ⊤ ModelError
 has_room true bs = unless (nat_lt (count_by (λ b. b.fixed) bs) most_fixed) (TooMany whats.Fixed)
@@ -116,19 +138,32 @@ add_load bs i ls l = do
   free ← unless (is_free body bs) (LoadOnFixed i)
   Ok (ls ++ record { body = body; live = live; at = point; fx = force.0; fy = force.1 } ∷ [])
 
--- the materials and the bodies
-unfoldable pub bodies_of : PartLists → Result (List NamedMaterial × List NamedBody) ModelError
-bodies_of parts = do
+-- the materials and the joints between them
+unfoldable pub joints_of : PartLists → Result (List NamedMaterial × List Joint) ModelError
+joints_of parts = do
   few_materials ← at_most most_materials (length parts.materials) whats.Materials
   materials ← steps add_material 0 [] parts.materials
+  few_joints ← at_most most_joints (length parts.joints) whats.Joints
+  joints ← steps (add_joint materials) 0 [] parts.joints
+  Ok (materials, joints)
+
+-- the bodies, of these materials
+unfoldable pub bodies_of : List NamedMaterial → PartLists → Result (List NamedBody) ModelError
+bodies_of materials parts = do
   few_blocks ← at_most most_bodies (length parts.blocks) whats.Blocks
-  bodies ← steps (add_block materials) 0 [] parts.blocks
-  Ok (materials, bodies)
+  steps (add_block materials) 0 [] parts.blocks
+
+-- the loads, on these bodies
+unfoldable pub loads_of : List NamedBody → PartLists → Result (List Load) ModelError
+loads_of bodies parts = do
+  few_loads ← at_most most_loads (length parts.loads) whats.Loads
+  steps (add_load bodies) 0 [] parts.loads
 
 -- the structure of what is listed, or its first fault; each list is counted before its items are read
 unfoldable pub content_of : PartLists → Result Structure ModelError
 content_of parts = do
-  both ← bodies_of parts
-  few_loads ← at_most most_loads (length parts.loads) whats.Loads
-  loads ← steps (add_load both.1) 0 [] parts.loads
-  Ok (record { materials = both.0; bodies = both.1; loads = loads })
+  sway ← head_of parts
+  both ← joints_of parts
+  bodies ← bodies_of both.0 parts
+  loads ← loads_of bodies parts
+  Ok (structure_with parts.version sway both.0 both.1 bodies loads)

@@ -25,10 +25,13 @@ body_view b = record {
   corners = b.outline;
 }
 
--- the three lists of a model
+-- the version, the sway and the lists of a model
 abbrev pub inside_view : Inside → Structure
 inside_view m = record {
+  version = m.head.version;
+  sway = m.head.sway;
   materials = map material_view m.materials.items;
+  joints = m.joints.items;
   bodies = map body_view m.bodies.items;
   loads = m.loads.items;
 }

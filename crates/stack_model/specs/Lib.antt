@@ -9,3 +9,6 @@ pub mod Convex
 pub mod Content
 pub mod Relisted
 pub mod Sound
+pub mod Taken
+pub mod Borne
+pub mod JointLaws

@@ -10,6 +10,10 @@ use Rattle.stack_polygon.specs.Limits.{is_near}
 abbrev pub most_materials : ℕ
 most_materials = 64
 
+-- how many joints there may be between them
+abbrev pub most_joints : ℕ
+most_joints = 256
+
 -- how many bodies, free and fixed together
 abbrev pub most_bodies : ℕ
 most_bodies = 192
@@ -47,6 +51,16 @@ abbrev pub friction_of : List ℤ → Option (ℤ × ℤ)
 friction_of (p ∷ q ∷ []) =
     if is_between (pos 0) (pos 1000) p && is_between (pos 1) (pos 1000) q then Some (p, q) else None
 friction_of _ = None
+
+-- the version is 1 or 2
+abbrev pub is_version : ℤ → Bool
+is_version z = is_between (pos 1) (pos 2) z
+
+-- two numbers from -1,000 to 1,000
+abbrev pub sway_of : List ℤ → Option (ℤ × ℤ)
+sway_of (x ∷ y ∷ []) =
+    if is_between (negsuc 999) (pos 1000) x && is_between (negsuc 999) (pos 1000) y then Some (x, y) else None
+sway_of _ = None
 
 -- two coordinates in range
 abbrev pub point_of : List ℤ → Option Point

@@ -4,9 +4,9 @@ use crate::places::{Key, Spot, What};
 use std::alloc::{AllocError, AllocFailed};
 use thiserror::Error;
 
-/// The first fault of the parts' content: materials come first, then blocks, then loads, each in its order, and
-/// in each item the faults in the order in which they stand here, but that the numbers of items come before all
-/// items, and those of free and of fixed blocks last in a block. Items are numbered from 0.
+/// The first fault of the parts' content: the version and the sway come first, then materials, joints, blocks and
+/// loads, each in its order. In each item the faults come in the order in which they stand here, but that the numbers
+/// of items come before all items, and those of free and of fixed blocks last in a block. Items are numbered from 0.
 #[derive(Clone, Copy, Debug, PartialEq, Eq, Error)]
 pub enum ModelError {
     /// A name, a number, an array or a word is outside its limits.
@@ -28,12 +28,18 @@ pub enum ModelError {
     /// The load's block is fixed.
     #[error("load {load} is on a fixed block")]
     LoadOnFixed { load: usize },
-    /// More than 64 materials, 192 blocks, 128 free blocks, 64 fixed blocks or 256 loads.
+    /// More than 64 materials, 256 joints, 192 blocks, 128 free blocks, 64 fixed blocks or 256 loads.
     #[error("too many: {what:?}")]
     TooMany { what: What },
     /// Memory was wanting.
     #[error("out of memory")]
     Memory,
+    /// No material has a name that the joint gives.
+    #[error("no material has a name that joint {joint} gives")]
+    NoJointMaterial { joint: usize },
+    /// An earlier joint is between the same two materials, in either order.
+    #[error("joint {joint} is between the materials of an earlier one")]
+    SameJoint { joint: usize },
 }
 
 impl From<AllocError> for ModelError {

@@ -1,7 +1,14 @@
-//! Materials and bodies with their names, as a model keeps them.
+//! The head of a model, and materials and bodies with their names, as a model keeps them.
 
 use crate::types::{Body, Material};
 use stack_polygon::Polygon;
+
+/// The version of a file, and its sway.
+#[derive(Clone, Copy, Debug, PartialEq, Eq)]
+pub struct Head {
+    pub version: i64,
+    pub sway: (i64, i64),
+}
 
 #[derive(Debug, Drop)]
 pub struct KeptMaterial {

@@ -1,4 +1,4 @@
-//! The model of a structure of rigid blocks: materials, bodies and loads, made from parts as a file lists them.
+//! The model of a structure of rigid blocks: materials, joints, bodies and loads, made from parts as a file lists them.
 //!
 //! ```text
 //! let model = Model::new(alloc, parts)?; // a ground and a post, or the first fault of the parts
@@ -10,8 +10,11 @@
 mod bodies;
 mod content;
 mod errors;
+mod joints;
 mod kept;
+mod laws;
 mod limits;
+mod listing;
 mod loads;
 mod materials;
 mod model;
@@ -22,10 +25,11 @@ mod raw;
 mod types;
 
 pub use errors::ModelError;
-pub use model::Model;
+pub use laws::{joint_laws, taken_law};
+pub use model::{Model, is_still};
 pub use places::{Key, Spot, What};
-pub use raw::{Parts, RawBlock, RawLoad, RawMaterial};
-pub use types::{Body, Load, Material};
+pub use raw::{Parts, RawBlock, RawJoint, RawLoad, RawMaterial};
+pub use types::{Body, Joint, Load, Material};
 
 #[cfg(test)]
 mod tests;

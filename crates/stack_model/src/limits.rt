@@ -6,13 +6,16 @@ ghost use Rattle.stack_polygon.specs.Limits.{is_near as is_near_of};
 ghost use Rattle.stack_model.specs.Raw.{numbers_view};
 ghost use Rattle.stack_model.specs.Limits.{is_name_byte as is_name_byte_of, is_name as is_name_of};
 ghost use Rattle.stack_model.specs.Limits.{is_between as is_between_of, friction_of, point_of, points_of};
-ghost use Rattle.stack_model.specs.Limits.{corner_list_of, live_of, force_of};
+ghost use Rattle.stack_model.specs.Limits.{corner_list_of, live_of, force_of, sway_of};
 
 use stack_polygon::Point;
 use std::alloc::{AllocError, Global};
 
 /// A model has at most this many materials.
 pub const MOST_MATERIALS: usize = 64;
+
+/// And this many joints between them.
+pub const MOST_JOINTS: usize = 256;
 
 /// And this many bodies.
 pub const MOST_BODIES: usize = 192;
@@ -101,6 +104,22 @@ pub fn corners(alloc: Global, lists: &[Vec<i64>]) -> Result<Option<Vec<Point>>, 
         points(alloc, lists)
     } else {
         Ok(None)
+    }
+}
+
+/// Two numbers from -1,000 to 1,000.
+pub fn sway(numbers: &[i64]) -> Option<(i64, i64)>
+    ensures { result ≡ sway_of numbers.now }
+{
+    match numbers {
+        [x, y] => {
+            if is_between(-1000, 1000, *x) && is_between(-1000, 1000, *y) {
+                Some((*x, *y))
+            } else {
+                None
+            }
+        }
+        _ => None,
     }
 }
 

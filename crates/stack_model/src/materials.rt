@@ -46,7 +46,8 @@ pub fn unless(holds: bool, fault: ModelError) -> Result<(), ModelError>
     if holds { Ok(()) } else { Err(fault) }
 }
 
-fn friction_at(spot: Spot, numbers: &[i64]) -> Result<(i64, i64), ModelError>
+/// A coefficient of friction at its place.
+pub fn friction_at(spot: Spot, numbers: &[i64]) -> Result<(i64, i64), ModelError>
     ensures { Gives (λ x. x) result (ranged spot Key.Friction (friction_of numbers.now)) }
 {
     match friction(numbers) {

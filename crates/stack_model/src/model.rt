@@ -1,11 +1,14 @@
-//! A model: the lists of its materials, bodies and loads.
+//! A model: its version, its sway, and the lists of its materials, joints, bodies and loads.
 
-ghost use Rattle.std.specs.Prelude.{◌≡◌, ◌↔◌, ◌<◌, ◌≤◌, IsTrue, false, length, map};
+ghost use Rattle.std.specs.Prelude.{◌≡◌, ◌↔◌, ◌<◌, ◌≤◌, ◌||◌, not, IsTrue, IfSome, false, length, map};
 ghost use Rattle.std.specs.List.{list_any};
+ghost use Rattle.stack_model.specs.Parts.{IsOfVersion};
 ghost use Rattle.stack_polygon.specs.Limits.{IsPolygon};
-ghost use Rattle.stack_model.specs.Limits.{most_materials, most_bodies, most_loads};
-ghost use Rattle.stack_model.specs.Structure.{structure_with, material_of, body_of, load_of, IsWithinLimits};
-ghost use Rattle.stack_model.specs.Structure.{IsCarried, HasLive};
+ghost use Rattle.stack_model.specs.Limits.{most_materials, most_joints, most_bodies, most_loads};
+ghost use Rattle.stack_model.specs.Structure.{structure_with, material_of, joint_of, body_of, load_of, IsWithinLimits};
+ghost use Rattle.stack_model.specs.Structure.{IsBetween, IsSway, IsCarried, HasLive, lists_live};
+ghost use Rattle.stack_model.specs.Structure.{is_still as is_still_of};
+ghost use Rattle.stack_model.specs.Structure.{joint_terms, AreTermsBetween, AreTerms};
 ghost use Rattle.stack_model.specs.Sound.{IsSound};
 ghost use Rattle.stack_model.specs.Raw.{raw_parts};
 ghost use Rattle.stack_model.specs.Gives.{Gives};
@@ -13,21 +16,21 @@ ghost use Rattle.stack_model.specs.Content.{content_of};
 ghost use Rattle.stack_model.specs.Kept.{material_view, body_view, material_alone, body_alone};
 ghost use Rattle.stack_model.specs.ModelView.{model_view};
 
-use crate::content::{at_most, bodies};
+use crate::content::{bodies, head, joints, loads};
 use crate::errors::ModelError;
-use crate::kept::{KeptBody, KeptMaterial};
-use crate::limits::MOST_LOADS;
-use crate::loads::all_loads;
-use crate::places::What;
+use crate::joints::terms_between;
+use crate::kept::{Head, KeptBody, KeptMaterial};
 use crate::raw::Parts;
-use crate::types::{Body, Load, Material};
+use crate::types::{Body, Joint, Load, Material};
 use stack_polygon::Polygon;
 use std::alloc::Global;
 
-/// Materials, bodies and loads, each numbered from 0 in the order of the file.
+/// A version, a sway, and materials, joints, bodies and loads, each numbered from 0 in the order of the file.
 #[derive(Debug, Drop)]
 pub struct Model {
+    head: Head,
     materials: Vec<KeptMaterial>,
+    joints: Vec<Joint>,
     bodies: Vec<KeptBody>,
     loads: Vec<Load>,
 }
@@ -51,30 +54,105 @@ fn any_live(loads: &[Load]) -> bool
     loads.iter().any(|load| load.live)
 }
 
+/// Whether one of these loads is live, or the sway isn't (0, 0).
+fn are_live(loads: &[Load], sway: (i64, i64)) -> bool
+    ensures { result ≡ (list_any (λ l. l.live) loads.now || not (is_still_of sway)) }
+{
+    any_live(loads) || !is_still(sway)
+}
+
+/// Whether a sway is (0, 0), which is none. Takes no memory.
+pub fn is_still(sway: (i64, i64)) -> bool
+    ensures { result ≡ is_still_of sway }
+{
+    sway.0 == 0 && sway.1 == 0
+}
+
 impl Model {
-    /// The model of these parts, or the first fault of their content. The parts are consumed, also by a refusal.
+    /// The model of these parts, or the first fault of their content. Joints and a sway are for parts of version 2
+    /// alone. The parts are consumed, also by a refusal.
     #[tactic(auto, unfolding(crate::specs::Content::content_of))]
     pub fn new(alloc: Global, parts: Parts) -> Result<Model, ModelError>
+        requires { IsOfVersion (raw_parts parts) }
         ensures { Gives model_view result (content_of (raw_parts parts)) }
     {
-        let (materials, bodies) = bodies(alloc, &parts)?;
-        at_most(MOST_LOADS, parts.loads.len(), What::Loads)?;
-        let loads = all_loads(alloc, &bodies, parts.loads.as_slice())?;
-        Ok(Model::of(materials.into_kept(), bodies.into_kept(), loads))
+        let head = head(&parts)?;
+        let (materials, joints) = joints(alloc, &parts)?;
+        let bodies = bodies(alloc, &materials, &parts)?;
+        let loads = loads(alloc, &bodies, &parts)?;
+        Ok(Model::of(
+            head,
+            materials.into_kept(),
+            joints,
+            bodies.into_kept(),
+            loads,
+        ))
     }
 
     /// The model of these lists.
-    pub(crate) fn of(materials: Vec<KeptMaterial>, bodies: Vec<KeptBody>, loads: Vec<Load>) -> Model
-        requires { IsSound (structure_with (map material_view materials.items)
+    pub(crate) fn of(
+        head: Head,
+        materials: Vec<KeptMaterial>,
+        joints: Vec<Joint>,
+        bodies: Vec<KeptBody>,
+        loads: Vec<Load>,
+    ) -> Model
+        requires { IsSound (structure_with head.version head.sway (map material_view materials.items) joints.items
             (map body_view bodies.items) loads.items) }
-        ensures { model_view result ≡ structure_with (map material_view materials.items)
-            (map body_view bodies.items) loads.items }
+        ensures { model_view result ≡ structure_with head.version head.sway (map material_view materials.items)
+            joints.items (map body_view bodies.items) loads.items }
     {
         Model {
+            head,
             materials,
+            joints,
             bodies,
             loads,
         }
+    }
+
+    /// The version of its file, 1 or 2.
+    pub fn version(&self) -> i64
+        ensures { result ≡ (model_view self.now).version }
+    {
+        self.head.version
+    }
+
+    /// The sway, (0, 0) where none is listed.
+    pub fn sway(&self) -> (i64, i64)
+        ensures value { result ≡ (model_view self.now).sway }
+        ensures limits { IsSway result }
+    {
+        self.head.sway
+    }
+
+    /// The number of joints, at most 256.
+    pub fn joints(&self) -> usize
+        ensures value { result ≡ length (model_view self.now).joints }
+        ensures few { result ≤ most_joints }
+    {
+        self.joints.len()
+    }
+
+    /// Joint `i`.
+    pub fn joint(&self, i: usize) -> Joint
+        requires { i < length (model_view self.now).joints }
+        ensures value { result ≡ joint_of (model_view self.now) i }
+        ensures between { IsBetween (length (model_view self.now).materials) result }
+    {
+        self.joints[i]
+    }
+
+    /// The terms of the coefficient of the joint between the materials `s` and `t`, in either order. None exactly
+    /// where no joint is between them.
+    pub fn friction(&self, s: usize, t: usize) -> Option<(i64, i64)>
+        requires s { s < length (model_view self.now).materials }
+        requires t { t < length (model_view self.now).materials }
+        ensures value { result ≡ joint_terms (model_view self.now).joints s t }
+        ensures meaning { AreTermsBetween (model_view self.now).joints s t result }
+        ensures limits { IfSome result (λ terms. AreTerms terms) }
+    {
+        terms_between(self.joints.as_slice(), s, t)
     }
 
     /// The number of materials, at most 64.
@@ -145,11 +223,19 @@ impl Model {
         self.loads.len()
     }
 
-    /// Whether a live load is listed.
-    pub fn has_live(&self) -> bool
-        ensures { IsTrue result ↔ HasLive (model_view self.now) }
+    /// The loads, in their order.
+    pub(crate) fn all_loads(&self) -> &[Load]
+        ensures { result.now ≡ (model_view self.now).loads }
     {
-        any_live(self.loads.as_slice())
+        self.loads.as_slice()
+    }
+
+    /// Whether a live load is listed: one of kind `live`, or a sway that isn't (0, 0).
+    pub fn has_live(&self) -> bool
+        ensures value { result ≡ lists_live (model_view self.now) }
+        ensures meaning { IsTrue result ↔ HasLive (model_view self.now) }
+    {
+        are_live(self.loads.as_slice(), self.head.sway)
     }
 
     /// Load `i`; its body isn't fixed.

@@ -5,6 +5,7 @@
 pub enum Spot {
     Top,
     Material(usize),
+    Joint(usize),
     Block(usize),
     Load(usize),
 }
@@ -13,6 +14,7 @@ pub enum Spot {
 #[derive(Clone, Copy, Debug, PartialEq, Eq)]
 pub enum What {
     Materials,
+    Joints,
     Blocks,
     Free,
     Fixed,
@@ -22,10 +24,15 @@ pub enum What {
 /// A key of an item, or of the top of a file.
 #[derive(Clone, Copy, Debug, PartialEq, Eq)]
 pub enum Key {
+    Version,
+    Sway,
     Name,
     Weight,
     Friction,
     Material,
+    Joint,
+    First,
+    Second,
     Fixed,
     Corners,
     Block,

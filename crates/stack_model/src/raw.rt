@@ -1,10 +1,24 @@
 //! What a model is made from: names, numbers and lists of numbers as a file has them.
 
+ghost use Rattle.std.specs.Prelude.{◌≡◌, map};
+ghost use Rattle.stack_model.specs.Parts.{first_parts};
+ghost use Rattle.stack_model.specs.Raw.{raw_material, raw_block, raw_load, raw_parts};
+
+use std::alloc::Global;
+
 /// A material: its name, its weight per unit of area, and the two terms of its coefficient of friction.
 #[derive(Debug, Drop)]
 pub struct RawMaterial {
     pub name: String,
     pub weight: i64,
+    pub friction: Vec<i64>,
+}
+
+/// A joint: the names of its two materials, and the two terms of the coefficient of friction between them.
+#[derive(Debug, Drop)]
+pub struct RawJoint {
+    pub first: String,
+    pub second: String,
     pub friction: Vec<i64>,
 }
 
@@ -26,10 +40,35 @@ pub struct RawLoad {
     pub force: Vec<i64>,
 }
 
-/// Materials, blocks and loads, each in its order.
+/// The version, the sway where one is listed, and materials, joints, blocks and loads, each in its order.
 #[derive(Debug, Drop)]
 pub struct Parts {
+    pub version: i64,
+    pub sway: Option<Vec<i64>>,
     pub materials: Vec<RawMaterial>,
+    pub joints: Vec<RawJoint>,
     pub blocks: Vec<RawBlock>,
     pub loads: Vec<RawLoad>,
+}
+
+impl Parts {
+    /// Parts of version 1, without joints and without a sway. Takes no memory.
+    pub fn first(
+        alloc: Global,
+        materials: Vec<RawMaterial>,
+        blocks: Vec<RawBlock>,
+        loads: Vec<RawLoad>,
+    ) -> Parts
+        ensures { raw_parts result ≡ first_parts (map raw_material materials.items) (map raw_block blocks.items)
+            (map raw_load loads.items) }
+    {
+        Parts {
+            version: 1,
+            sway: None,
+            materials,
+            joints: Vec::new(alloc),
+            blocks,
+            loads,
+        }
+    }
 }

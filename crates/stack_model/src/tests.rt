@@ -1,5 +1,7 @@
 //! Two materials, the ground and a block with a load: a model, and two faults of content.
 
+ghost use Rattle.std.specs.Prelude.{◌≡◌, IfOk, pos};
+
 use super::*;
 use stack_polygon::Point;
 use std::test::*;
@@ -94,11 +96,7 @@ fn model(rt: &HostRuntime, case: Case) -> Result<Result<Model, ModelError>, Fail
         at: numbers(rt, case.at)?,
         force: numbers(rt, case.force)?,
     })?;
-    let parts = Parts {
-        materials: materials(rt, case)?,
-        blocks: blocks(rt, case)?,
-        loads,
-    };
+    let parts = Parts::first(rt.alloc(), materials(rt, case)?, blocks(rt, case)?, loads);
     Ok(Model::new(rt.alloc(), parts))
 }
 
@@ -147,6 +145,52 @@ fn parts_without_a_fault_make_a_model(rt: HostRuntime) -> Result<(), Fail> {
             fy: -2
         }
     );
+    Ok(())
+}
+
+/// Parts of version 2: a joint of brick on stone and a sway, and no load.
+fn second(rt: &HostRuntime, case: Case) -> Result<Parts, Fail>
+    ensures { IfOk result (λ p. p.version ≡ pos 2) }
+{
+    let mut joints = Vec::new(rt.alloc());
+    joints.push(RawJoint {
+        first: text(rt, "brick")?,
+        second: text(rt, "stone")?,
+        friction: numbers(rt, &[2, 4])?,
+    })?;
+    Ok(Parts {
+        version: 2,
+        sway: Some(numbers(rt, &[1, -2])?),
+        materials: materials(rt, case)?,
+        joints,
+        blocks: blocks(rt, case)?,
+        loads: Vec::new(rt.alloc()),
+    })
+}
+
+#[test]
+fn joints_and_a_sway_are_kept_and_listed_again(rt: HostRuntime) -> Result<(), Fail> {
+    let alloc = rt.alloc();
+    let first = Model::new(alloc, second(&rt, PLAIN)?)?;
+    let model = Model::new(alloc, first.parts(alloc)?)?;
+    assert_eq!(rt; model.version(), 2);
+    assert_eq!(rt; model.sway(), (1, -2));
+    assert_eq!(rt; model.materials(), 2);
+    assert_eq!(rt; model.joints(), 1);
+    let joint = Joint {
+        first: 1,
+        second: 0,
+        p: 2,
+        q: 4,
+    };
+    assert_eq!(rt; model.joint(0), joint);
+    assert_eq!(rt; model.friction(0, 1), Some((2, 4)));
+    assert_eq!(rt; model.friction(1, 0), Some((2, 4)));
+    assert_eq!(rt; model.friction(0, 0), None);
+    assert!(rt; model.has_live());
+    let still = model.with_loads(alloc, &[], (0, 0))?;
+    assert_eq!(rt; still.sway(), (0, 0));
+    assert!(rt; !still.has_live());
     Ok(())
 }
 

@@ -11,6 +11,16 @@ pub struct Material {
     pub q: i64,
 }
 
+/// A joint between the materials with these numbers, in either order, and their coefficient of friction, `p` over
+/// `q`, with `p` from 0 to 1,000 and `q` from 1 to 1,000.
+#[derive(Clone, Copy, Debug, PartialEq, Eq)]
+pub struct Joint {
+    pub first: usize,
+    pub second: usize,
+    pub p: i64,
+    pub q: i64,
+}
+
 /// A body: the number of its material, from 0, and whether it is fixed.
 #[derive(Clone, Copy, Debug, PartialEq, Eq)]
 pub struct Body {

@@ -1,6 +1,6 @@
 -- The model that is made of parts without a fault is the built-in one.
 use Rattle.std.proofs.Common.{◌≡◌, ℕ, ◌+◌, ◌*◌, ◌-◌, ◌<◌, ◌≤◌, ℤ, pos, Bool, true, ◌&&◌, List, [], ◌∷◌, length, Some}
-use Rattle.std.proofs.Common.{None, Result, Ok, Err, IfOk, refl, sym, ap, ◌∙◌, subst, arith}
+use Rattle.std.proofs.Common.{inl, None, Result, Ok, Err, IfOk, refl, sym, ap, ◌∙◌, subst, arith}
 use Rattle.std.specs.Prelude.{codes, if◌then◌else◌, IsOk, is_ok}
 use Rattle.stack_algebra.specs.Listed.{listed}
 use Rattle.stack_algebra.specs.Steps.{steps}
@@ -8,7 +8,7 @@ use Rattle.stack_polygon.proofs.Tested.{each_below}
 use Rattle.stack_model.specs.declared.places.What.TheVariants as whats
 use Rattle.stack_model.specs.declared.errors.ModelError.{ModelError}
 use Rattle.stack_model.specs.Structure.{Structure, HasLive}
-use Rattle.stack_model.specs.Parts.{PartLists}
+use Rattle.stack_model.specs.Parts.{MaterialPart, BlockPart, LoadPart, PartLists, first_parts, IsOfVersion}
 use Rattle.stack_model.specs.Limits.{is_between, friction_of}
 use Rattle.stack_model.specs.Content.{at_most, add_load, content_of}
 use Rattle.stack_model.specs.Relisted.{material_listed}
@@ -41,13 +41,14 @@ pub made : (r : Result Structure StackError) (read : Result Structure ModelError
 made (Ok m) read s h e = same_structure m s (sym e ∙ h)
 made (Err e) read s h k = tt
 
-pub stack_taken : (table : Rectangle) (rows : List Row) (bricks : List Rectangle) (parts : PartLists)
+pub stack_taken : (table : Rectangle) (rows : List Row) (bricks : List Rectangle) (mats : List MaterialPart)
+    (blocks : List BlockPart) (loads : List LoadPart)
     → is_placed table ≡ true → are_laid rows ≡ true → bricks ≡ bricks_of rows
-    → parts.materials ≡ material_listed (brick_material (pos 0) (pos 1)) ∷ []
-    → parts.blocks ≡ blocks_of (codes "table") table bricks
-    → parts.loads ≡ [] → content_of parts ≡ Ok (stack_on table rows)
-stack_taken table rows bricks parts under h same ms bs ls =
-    all_taken (pos 0) (pos 1) (codes "table") table (bricks_of rows) parts [] refl
+    → mats ≡ material_listed (brick_material (pos 0) (pos 1)) ∷ []
+    → blocks ≡ blocks_of (codes "table") table bricks
+    → loads ≡ [] → content_of (first_parts mats blocks loads) ≡ Ok (stack_on table rows)
+stack_taken table rows bricks mats blocks loads under h same ms bs ls =
+    all_taken (pos 0) (pos 1) (codes "table") table (bricks_of rows) mats blocks loads [] refl
     (laid (codes "table") table rows refl (λ k. refl) under h) ms
     (bs ∙ ap (blocks_of (codes "table") table) same)
     (ap (λ ls. at_most 256 (length ls) whats.Loads) ls)
@@ -59,17 +60,18 @@ tenths t h =
     let within = each_below (λ t. is_between (pos 0) (pos 1000) (pos t)) 8 refl t (omega (arith, h)) in
     λ i. if within i && true then Some (pos t, pos 10) else None
 
-pub wall_taken : (w : Wall) (bricks : List Rectangle) (k : ℕ) (top : Rectangle) (parts : PartLists)
+pub wall_taken : (w : Wall) (bricks : List Rectangle) (k : ℕ) (top : Rectangle) (mats : List MaterialPart)
+    (blocks : List BlockPart) (loads : List LoadPart)
     → IsWall w → bricks ≡ bricks_of (courses_of w) → k ≡ top_number w → top ≡ top_brick w
-    → parts.materials ≡ material_listed (brick_material (pos w.tenths) (pos 10)) ∷ []
-    → parts.blocks ≡ blocks_of (codes "ground") ground_rectangle bricks
-    → parts.loads ≡ push_listed k top ∷ [] → content_of parts ≡ Ok (wall_structure w)
-wall_taken w bricks k top parts h same first corner ms bs ls =
+    → mats ≡ material_listed (brick_material (pos w.tenths) (pos 10)) ∷ []
+    → blocks ≡ blocks_of (codes "ground") ground_rectangle bricks
+    → loads ≡ push_listed k top ∷ [] → content_of (first_parts mats blocks loads) ≡ Ok (wall_structure w)
+wall_taken w bricks k top mats blocks loads h same first corner ms bs ls =
     let rows = courses_of w in
     let l = wall_laid w h in
-    let push : parts.loads ≡ push_listed (top_number w) (top_brick w) ∷ [] =
+    let push : loads ≡ push_listed (top_number w) (top_brick w) ∷ [] =
     ls ∙ (λ i. push_listed (first i) (corner i) ∷ []) in
-    all_taken (pos w.tenths) (pos 10) (codes "ground") ground_rectangle (bricks_of rows) parts _
+    all_taken (pos w.tenths) (pos 10) (codes "ground") ground_rectangle (bricks_of rows) mats blocks loads _
     (tenths w.tenths h.most_tenths)
     (laid (codes "ground") ground_rectangle rows refl (λ k. refl) refl l.rows) ms
     (bs ∙ ap (blocks_of (codes "ground") ground_rectangle) same)
@@ -81,5 +83,11 @@ wall_taken w bricks k top parts h same first corner ms bs ls =
 -- a wall has its live load
 pub wall_has_live : (r : Result Structure StackError) (w : Wall) → IfOk r (λ m. m ≡ wall_structure w)
     → IfOk r (λ m. HasLive m)
-wall_has_live (Ok m) w e = subst HasLive (sym e) (0, (omega arith, refl))
+wall_has_live (Ok m) w e = subst HasLive (sym e) (inl (0, (omega arith, refl)))
 wall_has_live (Err e) w h = tt
+
+-- parts of version 1 have neither joints nor a sway
+pub first_of_version : (p : PartLists) (mats : List MaterialPart) (blocks : List BlockPart) (loads : List LoadPart)
+    → p ≡ first_parts mats blocks loads → IsOfVersion p
+first_of_version p mats blocks loads e = subst IsOfVersion (sym e)
+    (record { joints = λ ne. refl; sway = λ ne. refl })

@@ -17,14 +17,15 @@ use Rattle.stack_model.specs.declared.places.What.TheVariants as whats
 use Rattle.stack_model.specs.declared.places.Key.TheVariants as keys
 use Rattle.stack_model.specs.declared.errors.ModelError.{ModelError}
 use Rattle.stack_model.specs.declared.errors.ModelError.TheVariants.{NoMaterial, TooMany}
-use Rattle.stack_model.specs.Structure.{NamedMaterial, NamedBody, Structure, structure_with as structure, body_at}
-use Rattle.stack_model.specs.Parts.{BlockPart, LoadPart, PartLists}
+use Rattle.stack_model.specs.declared.types.Joint.{Joint}
+use Rattle.stack_model.specs.Structure.{NamedMaterial, NamedBody, Structure, structure_with, first_structure, body_at}
+use Rattle.stack_model.specs.Parts.{MaterialPart, BlockPart, LoadPart, PartLists, first_parts}
 use Rattle.stack_polygon.specs.Limits.{is_in_range}
 use Rattle.stack_model.specs.Limits.{is_name, friction_of, point_of}
 use Rattle.stack_model.specs.Convex.{convex}
 use Rattle.stack_model.specs.Content.{unless, at_most, ranged, found, is_new, is_free, number_of, has_room}
 use Rattle.stack_model.specs.Content.{material_names, body_names, with_material, add_material, with_body}
-use Rattle.stack_model.specs.Content.{add_block, add_load, bodies_of, content_of}
+use Rattle.stack_model.specs.Content.{add_block, add_load, head_of, joints_of, bodies_of, loads_of, content_of}
 use Rattle.stack_model.specs.Relisted.{material_listed, coordinates}
 use Rattle.stack_model.proofs.Points.{point_again}
 use Rattle.stack_overhang.specs.declared.types.Rectangle.{Rectangle}
@@ -125,53 +126,53 @@ module _ (name : List ℕ) (base : Rectangle) (bricks : List Rectangle) where
       (t.each k lt) (room k (omega (arith, lt, t.few)))
       ∙ ap (λ bs. Ok (base_body name base ∷ bs)) (sym (listed_more k (λ j. brick_body j (brick_at bricks j)))))
 
-abbrev both_lists : List NamedMaterial → List NamedBody → Result (List NamedMaterial × List NamedBody) ModelError
-both_lists ms bs = Ok (ms, bs)
+abbrev both_lists : List NamedMaterial → List Joint → Result (List NamedMaterial × List Joint) ModelError
+both_lists ms js = Ok (ms, js)
 
--- the steps of the lists
-lists_run : (v : Result ⊤ ModelError) (r : Result (List NamedMaterial) ModelError)
-    (k : List NamedMaterial → Result (List NamedBody) ModelError) (ms : List NamedMaterial) (bs : List NamedBody)
-    → r ≡ Ok ms → v ≡ Ok tt → k ms ≡ Ok bs
-    → (r >>= λ ms. v >>= λ _. k ms >>= λ bs. both_lists ms bs) ≡ both_lists ms bs
-lists_run v r k ms bs hr hv hk =
-    (λ i. hr i >>= λ ms. hv i >>= λ _. k ms >>= λ bs. both_lists ms bs)
-    ∙ ap (λ q. q >>= λ bs. both_lists ms bs) hk
+-- the steps of the materials, which no joint is between
+lists_run : (r : Result (List NamedMaterial) ModelError) (ms : List NamedMaterial) → r ≡ Ok ms
+    → (r >>= λ ms. both_lists ms []) ≡ both_lists ms []
+lists_run r ms h = ap (λ r. r >>= λ ms. both_lists ms []) h
 
-whole_runs : (r : Result (List NamedMaterial × List NamedBody) ModelError) (u : Result ⊤ ModelError)
-    (k : List NamedMaterial × List NamedBody → Result (List Load) ModelError) (ms : List NamedMaterial)
-    (bs : List NamedBody) (ls : List Load)
-    → r ≡ both_lists ms bs → u ≡ Ok tt → k (ms, bs) ≡ Ok ls
-    → (r >>= λ both. u >>= λ _. k both >>= λ ls. Ok (structure both.0 both.1 ls)) ≡ Ok (structure ms bs ls)
-whole_runs r u k ms bs ls hr hu hk =
-    (λ i. hr i >>= λ both. hu i >>= λ _. k both >>= λ ls. Ok (structure both.0 both.1 ls))
-    ∙ ap (λ q. q >>= λ ls. Ok (structure ms bs ls)) hk
+whole_runs : (r : Result (List NamedMaterial × List Joint) ModelError)
+    (k : List NamedMaterial → Result (List NamedBody) ModelError) (l : List NamedBody → Result (List Load) ModelError)
+    (ms : List NamedMaterial) (bs : List NamedBody) (ls : List Load)
+    → r ≡ both_lists ms [] → k ms ≡ Ok bs → l bs ≡ Ok ls
+    → (r >>= λ both. k both.0 >>= λ bs. l bs >>= λ ls. Ok (structure_with (pos 1) (pos 0, pos 0) both.0 both.1 bs ls))
+    ≡ Ok (first_structure ms bs ls)
+whole_runs r k l ms bs ls hr hk hl =
+    (λ i. hr i >>= λ both. k both.0 >>= λ bs. l bs
+    >>= λ ls. Ok (structure_with (pos 1) (pos 0, pos 0) both.0 both.1 bs ls))
+    ∙ ap (λ q. q >>= λ bs. l bs >>= λ ls. Ok (first_structure ms bs ls)) hk
+    ∙ ap (λ q. q >>= λ ls. Ok (first_structure ms bs ls)) hl
 
-pub all_taken : (p q : ℤ) (name : List ℕ) (base : Rectangle) (bricks : List Rectangle) (parts : PartLists)
-    (ls : List Load)
+pub all_taken : (p q : ℤ) (name : List ℕ) (base : Rectangle) (bricks : List Rectangle) (mats : List MaterialPart)
+    (blocks : List BlockPart) (loads : List LoadPart) (ls : List Load)
     → friction_of (p ∷ q ∷ []) ≡ Some (p, q) → AreTaken name base bricks
-    → parts.materials ≡ material_listed (brick_material p q) ∷ []
-    → parts.blocks ≡ blocks_of name base bricks
-    → at_most 256 (length parts.loads) whats.Loads ≡ Ok tt
-    → steps (add_load (built_bodies name base bricks)) 0 [] parts.loads ≡ Ok ls
-    → content_of parts ≡ Ok (built p q name base bricks ls)
-unfolding content_of bodies_of
-all_taken p q name base bricks parts ls rough t ms bs few loads =
-    let some : nat_le (length parts.blocks) 192 ≡ true =
-    at_most_of (length parts.blocks) 192 (omega (
+    → mats ≡ material_listed (brick_material p q) ∷ []
+    → blocks ≡ blocks_of name base bricks
+    → at_most 256 (length loads) whats.Loads ≡ Ok tt
+    → steps (add_load (built_bodies name base bricks)) 0 [] loads ≡ Ok ls
+    → content_of (first_parts mats blocks loads) ≡ Ok (built p q name base bricks ls)
+unfolding content_of head_of joints_of bodies_of loads_of
+all_taken p q name base bricks mats blocks loads ls rough t ms bs few taken =
+    let some : nat_le (length blocks) 192 ≡ true =
+    at_most_of (length blocks) 192 (omega (
       arith,
       ap length bs,
       t.few,
       length_listed (length bricks)
           (λ k. brick_block k (brick_at bricks k)),
     )) in
-    whole_runs (bodies_of parts) _ (λ both. steps (add_load both.1) 0 [] parts.loads) (materials p q)
-    (built_bodies name base bricks) ls
+    whole_runs _ (λ ms. bodies_of ms (first_parts mats blocks loads))
+    (λ cs. loads_of cs (first_parts mats blocks loads))
+    (materials p q) (built_bodies name base bricks) ls
     ((λ i. at_most 64 (length (ms i)) whats.Materials >>= λ _. steps add_material 0 [] (ms i) >>= λ ms.
-    at_most 192 (length parts.blocks) whats.Blocks >>= λ _. steps (add_block ms) 0 [] (bs i)
-    >>= λ bs. both_lists ms bs)
-    ∙ lists_run _ _ (λ ms. steps (add_block ms) 0 [] (blocks_of name base bricks)) (materials p q)
-    (built_bodies name base bricks) (material_taken p q rough) (ap (λ b. unless b (TooMany whats.Blocks)) some)
-    (bodies_taken name base bricks p q t)) few loads
+    both_lists ms [])
+    ∙ lists_run _ (materials p q) (material_taken p q rough))
+    ((λ i. unless (some i) (TooMany whats.Blocks) >>= λ _. steps (add_block (materials p q)) 0 [] (bs i))
+    ∙ bodies_taken name base bricks p q t)
+    ((λ i. few i >>= λ _. steps (add_load (built_bodies name base bricks)) 0 [] loads) ∙ taken)
   where
     at_most_of : (n m : ℕ) → n ≤ m → nat_le n m ≡ true
     at_most_of n m h = grind (arith, ints)

@@ -2,7 +2,7 @@
 use Rattle.std.specs.Prelude.{ℕ, ℤ, pos, true, false, List, [], ◌∷◌, length, codes}
 use Rattle.stack_algebra.specs.Listed.{listed}
 use Rattle.stack_model.specs.declared.types.Load.{Load}
-use Rattle.stack_model.specs.Structure.{NamedMaterial, NamedBody, Structure}
+use Rattle.stack_model.specs.Structure.{NamedMaterial, NamedBody, Structure, first_structure}
 use Rattle.stack_overhang.specs.declared.types.Rectangle.{Rectangle}
 use Rattle.stack_overhang.specs.Bricks.{rectangle_corners, brick_at, brick_name}
 
@@ -28,8 +28,5 @@ built_bodies name base bricks = base_body name base ∷ brick_bodies bricks (len
 
 -- one material with friction p over q, a fixed base of this name, bricks and loads
 abbrev pub built : ℤ → ℤ → List ℕ → Rectangle → List Rectangle → List Load → Structure
-built p q name base bricks loads = record {
-  materials = brick_material p q ∷ [];
-  bodies = built_bodies name base bricks;
-  loads = loads;
-}
+built p q name base bricks loads =
+    first_structure (brick_material p q ∷ []) (built_bodies name base bricks) loads

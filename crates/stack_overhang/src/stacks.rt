@@ -44,11 +44,7 @@ fn stack(alloc: Global, table: Rectangle, rows: &[Row]) -> Result<Model, StackEr
     let blocks = blocks(alloc, "table", table, &bricks)?;
     model(
         alloc,
-        Parts {
-            materials,
-            blocks,
-            loads: Vec::new(alloc),
-        },
+        Parts::first(alloc, materials, blocks, Vec::new(alloc)),
     )
 }
 

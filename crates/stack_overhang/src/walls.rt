@@ -87,14 +87,7 @@ fn built(alloc: Global, w: Wall) -> Result<Model, StackError>
     let blocks = blocks(alloc, "ground", GROUND, &bricks)?;
     let first = ((w.courses - 1) * w.bricks) as usize;
     let loads = push_right(alloc, first, brick(course(w, w.courses), 0))?;
-    model(
-        alloc,
-        Parts {
-            materials,
-            blocks,
-            loads,
-        },
-    )
+    model(alloc, Parts::first(alloc, materials, blocks, loads))
 }
 
 /// Wall `number`, 0 to 999,999: 2 + number mod 9 courses of 2 + (number div 9) mod 9 bricks, each 20 long and 10 high,

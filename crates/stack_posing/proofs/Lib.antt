@@ -2,3 +2,4 @@ pub mod SurveyEntries
 mod GrowingEntries
 mod PosedParts
 mod WholeProblem
+mod TwoBodies

@@ -1,10 +1,11 @@
 //! The problem of a survey.
 
-ghost use Rattle.std.specs.Prelude.{◌≡◌, ◌≤◌, ◌<◌, ◌*◌, ℕ, length, IfOk};
+ghost use Rattle.std.specs.Prelude.{◌≡◌, ◌≤◌, ◌<◌, ◌*◌, ℕ, suc, length, IfOk};
 ghost use Rattle.std.specs.List.{AllByRecursion};
 ghost use Rattle.stack_whole.specs.Limits.{IsBelowBound};
-ghost use Rattle.stack_contact.specs.FreeBlocks.{frees_of};
-ghost use Rattle.stack_equilibrium.specs.SurveyScene.{scene_of};
+ghost use Rattle.stack_contact.specs.FreeBlocks.{frees_of, frees_before};
+ghost use Rattle.stack_contact.specs.ContactLists.{IsPair};
+ghost use Rattle.stack_equilibrium.specs.SurveyScene.{scene_of, bearing_of};
 ghost use Rattle.stack_equations.specs.Edges.{edge_on};
 ghost use Rattle.stack_equations.specs.ByNumber.{dead_on, live_on};
 ghost use Rattle.stack_algebra.specs.Listed.{listed};
@@ -14,22 +15,54 @@ ghost use Rattle.stack_posing.specs.Columns.{AreColumns, AreFactorEntries, IsLea
 ghost use Rattle.stack_posing.specs.Entries.{AreEntries};
 
 use crate::entries::{with_right_sides, with_wrench};
-use stack_contact::types::Survey;
+use stack_contact::types::{Bearing, Survey};
 use stack_equilibrium::types::Question;
 use stack_equilibrium::{column, dead, live};
-use stack_table::problem::{Column, Problem};
+use stack_table::problem::{Column, Entry, Problem};
 use std::alloc::{AllocError, Global};
 
-/// The column of an edge of the cone of bearing `k`.
-fn edge_column(alloc: Global, s: &Survey, k: usize, plus: bool) -> Result<Column, AllocError>
+/// Bearing `k`: of two bodies, the earlier one first.
+fn bearing_at(s: &Survey, k: usize) -> Bearing
     requires { k < length s.now.bearings }
+    ensures value { result ≡ bearing_of s.now k }
+    ensures pair { IsPair s.now.structure result.first result.second }
+{
+    s.bearings()[k]
+}
+
+/// The entries of all bodies before body `i` and of that, if it is free.
+fn with_body(
+    entries: Vec<Entry>,
+    s: &Survey,
+    k: usize,
+    plus: bool,
+    i: usize,
+) -> Result<Vec<Entry>, AllocError>
+    requires bearing { k < length s.now.bearings }
+    requires few { length (frees_of s.now.structure.bodies) ≤ 128 }
+    requires is_body { i < length s.now.structure.bodies }
+    requires before { AreEntries (3 * frees_before s.now.structure.bodies i)
+        (row_share (scene_of s.now) (edge_on (scene_of s.now) plus k)) entries.items }
+    ensures { IfOk result (λ v. AreEntries (3 * frees_before s.now.structure.bodies (suc i))
+        (row_share (scene_of s.now) (edge_on (scene_of s.now) plus k)) v.items) }
+{
+    if s.model().body(i).fixed {
+        return Ok(entries);
+    }
+    let b = s.free_number(i);
+    with_wrench(entries, b, column(s, k, plus, b))
+}
+
+/// The column of an edge of the cone of bearing `k`: the entries of its two bodies.
+fn edge_column(alloc: Global, s: &Survey, k: usize, plus: bool) -> Result<Column, AllocError>
+    requires bearing { k < length s.now.bearings }
+    requires few { length (frees_of s.now.structure.bodies) ≤ 128 }
     ensures { IfOk result (λ c. AreEntries (3 * length (frees_of s.now.structure.bodies))
         (row_share (scene_of s.now) (edge_on (scene_of s.now) plus k)) c.entries.items) }
 {
-    let mut entries = Vec::new(alloc);
-    for b in 0..s.free_count() {
-        entries = with_wrench(entries, b, column(s, k, plus, b))?;
-    }
+    let bearing = bearing_at(s, k);
+    let entries = with_body(Vec::new(alloc), s, k, plus, bearing.first)?;
+    let entries = with_body(entries, s, k, plus, bearing.second)?;
     Ok(Column { entries })
 }
 
@@ -37,6 +70,8 @@ fn edge_column(alloc: Global, s: &Survey, k: usize, plus: bool) -> Result<Column
 fn contact_columns(alloc: Global, s: &Survey) -> Result<Vec<Column>, AllocError>
     ensures { IfOk result (λ v. AreColumns s.now (length s.now.bearings) v.items) }
 {
+    // at most 128 free blocks
+    let _free = s.free_count();
     let mut columns = Vec::new(alloc);
     for k in 0..s.bearings().len() {
         columns.push(edge_column(alloc, s, k, true)?)?;

@@ -28,30 +28,30 @@ fn block(alloc: Global, name: &str, fixed: bool, corners: &[[i64; 2]]) -> Result
 
 /// A post 2 wide and 4 high on level ground, pushed to the right at its upper left corner.
 fn pushed_post(alloc: Global) -> Result<Survey, Fail> {
-    let mut parts = Parts {
-        materials: Vec::new(alloc),
-        blocks: Vec::new(alloc),
-        loads: Vec::new(alloc),
-    };
-    parts.materials.push(RawMaterial {
+    let mut materials = Vec::new(alloc);
+    let mut blocks = Vec::new(alloc);
+    let mut loads = Vec::new(alloc);
+    materials.push(RawMaterial {
         name: String::from_str(alloc, "stone")?,
         weight: 1,
         friction: list(alloc, &[1, 1])?,
     })?;
-    parts.blocks.push(block(
+    blocks.push(block(
         alloc,
         "ground",
         true,
         &[[-10, -1], [10, -1], [10, 0], [-10, 0]],
     )?)?;
-    parts.blocks.push(block(alloc, "post", false, &[[0, 0], [2, 0], [2, 4], [0, 4]])?)?;
-    parts.loads.push(RawLoad {
+    blocks.push(block(alloc, "post", false, &[[0, 0], [2, 0], [2, 4], [0, 4]])?)?;
+    loads.push(RawLoad {
         block: String::from_str(alloc, "post")?,
         kind: String::from_str(alloc, "live")?,
         at: list(alloc, &[0, 4])?,
         force: list(alloc, &[1, 0])?,
     })?;
-    let model = Model::new(alloc, parts).ok().ok_or("no model")?;
+    let model = Model::new(alloc, Parts::first(alloc, materials, blocks, loads))
+        .ok()
+        .ok_or("no model")?;
     Ok(survey(alloc, model).ok().ok_or("no survey")?)
 }
 

@@ -3,3 +3,5 @@ pub mod Documents
 pub mod Written
 pub mod Filled
 pub mod ReadBack
+pub mod Versions
+pub mod PutTables

@@ -111,7 +111,7 @@ fn wholes(alloc: Global, items: &[Value]) -> Result<Option<Vec<i64>>, AllocError
 }
 
 /// The whole numbers of a value, where it is an array of them.
-fn wholes_in(alloc: Global, value: &Value) -> Result<Option<Vec<i64>>, AllocError>
+pub fn wholes_in(alloc: Global, value: &Value) -> Result<Option<Vec<i64>>, AllocError>
     ensures { IfOk result (λ found. option_map numbers_view found ≡ wholes_of (view value.now)) }
 {
     match value.as_array() {

@@ -10,10 +10,15 @@ pub fn word(key: Key) -> &'static str
     ensures { result.now ≡ word_of key }
 {
     match key {
+        Key::Version => "version",
+        Key::Sway => "sway",
         Key::Name => "name",
         Key::Weight => "weight",
         Key::Friction => "friction",
         Key::Material => "material",
+        Key::Joint => "joint",
+        Key::First => "first",
+        Key::Second => "second",
         Key::Fixed => "fixed",
         Key::Corners => "corners",
         Key::Block => "block",

@@ -9,6 +9,7 @@
 
 mod errors;
 mod field;
+mod head;
 mod keys;
 mod list;
 mod reading;

@@ -5,6 +5,7 @@ ghost use Rattle.toml.specs.View.{table_view};
 ghost use Rattle.stack_model.specs.ModelView.{model_view};
 ghost use Rattle.stack_model.specs.Raw.{raw_parts};
 ghost use Rattle.stack_model.specs.Content.{content_of};
+ghost use Rattle.stack_model.specs.Parts.{IsOfVersion};
 ghost use Rattle.stack_reader.specs.Gives.{GivesRead};
 ghost use Rattle.stack_reader.specs.Reading.{document_table, within_file, structure_of};
 
@@ -30,6 +31,7 @@ fn document(alloc: Global, text: &[u8]) -> Result<Table, ReadError>
 }
 
 fn model(alloc: Global, parts: Parts) -> Result<Model, ReadError>
+    requires { IsOfVersion (raw_parts parts) }
     ensures { GivesRead model_view result (within_file (content_of (raw_parts parts))) }
 {
     match Model::new(alloc, parts) {

@@ -1,15 +1,18 @@
 //! What a table lists, or its first fault of shape.
 
-ghost use Rattle.std.specs.Prelude.{◌≡◌, map};
+ghost use Rattle.std.specs.Prelude.{◌≡◌, map, IfOk};
+ghost use Rattle.stack_model.specs.Parts.{IsOfVersion};
 ghost use Rattle.toml.specs.View.{view, table_view, items_view};
-ghost use Rattle.stack_model.specs.Raw.{raw_material, raw_block, raw_load, raw_parts};
+ghost use Rattle.stack_model.specs.Raw.{raw_material, raw_joint, raw_block, raw_load, raw_parts};
 ghost use Rattle.stack_reader.specs.Gives.{GivesRead};
-ghost use Rattle.stack_reader.specs.Shape.{material_part, block_part, load_part, in_table, each_of, parts_of_document};
+ghost use Rattle.stack_reader.specs.Shape.{material_part, joint_part, block_part, load_part, in_table, each_of};
+ghost use Rattle.stack_reader.specs.Shape.{parts_of_document};
 
 use crate::errors::ReadError;
 use crate::field::{lists_at, refuse_unknown, text_at, truth_at, whole_at, wholes_at};
+use crate::head::head;
 use crate::list::list_at;
-use stack_model::{Key, Parts, RawBlock, RawLoad, RawMaterial, Spot};
+use stack_model::{Key, Parts, RawBlock, RawJoint, RawLoad, RawMaterial, Spot};
 use std::alloc::Global;
 use toml::{Table, Value};
 
@@ -26,6 +29,22 @@ fn material(alloc: Global, index: usize, table: &Table) -> Result<RawMaterial, R
         name,
         weight,
         friction,
+    })
+}
+
+#[tactic(auto, unfolding(crate::specs::Shape::joint_part))]
+fn joint(alloc: Global, index: usize, table: &Table) -> Result<RawJoint, ReadError>
+    ensures { GivesRead raw_joint result (joint_part index (table_view table.now)) }
+{
+    let spot = Spot::Joint(index);
+    refuse_unknown(table, spot, &[Key::First, Key::Second, Key::Friction])?;
+    let first = text_at(alloc, table, spot, Key::First)?;
+    let second = text_at(alloc, table, spot, Key::Second)?;
+    let terms = wholes_at(alloc, table, spot, Key::Friction)?;
+    Ok(RawJoint {
+        first,
+        second,
+        friction: terms,
     })
 }
 
@@ -89,6 +108,16 @@ fn material_item(alloc: Global, index: usize, item: &Value) -> Result<RawMateria
 }
 
 #[tactic(auto, unfolding(crate::specs::Shape::in_table))]
+fn joint_item(alloc: Global, index: usize, item: &Value) -> Result<RawJoint, ReadError>
+    ensures { GivesRead raw_joint result (in_table joint_part Key.Joint index (view item.now)) }
+{
+    match item.as_table() {
+        Some(table) => joint(alloc, index, table),
+        None => Err(not_tables(Key::Joint)),
+    }
+}
+
+#[tactic(auto, unfolding(crate::specs::Shape::in_table))]
 fn block_item(alloc: Global, index: usize, item: &Value) -> Result<RawBlock, ReadError>
     ensures { GivesRead raw_block result (in_table block_part Key.Block index (view item.now)) }
 {
@@ -119,6 +148,17 @@ fn materials(alloc: Global, items: &[Value]) -> Result<Vec<RawMaterial>, ReadErr
     Ok(found)
 }
 
+fn joints(alloc: Global, items: &[Value]) -> Result<Vec<RawJoint>, ReadError>
+    ensures { GivesRead (λ v. map raw_joint v.items) result (each_of (in_table joint_part Key.Joint) 0
+        (items_view items.now)) }
+{
+    let mut found = Vec::new(alloc);
+    for (index, item) in items.iter().enumerate() {
+        found.push(joint_item(alloc, index, item)?)?;
+    }
+    Ok(found)
+}
+
 fn blocks(alloc: Global, items: &[Value]) -> Result<Vec<RawBlock>, ReadError>
     ensures { GivesRead (λ v. map raw_block v.items) result (each_of (in_table block_part Key.Block) 0
         (items_view items.now)) }
@@ -141,21 +181,36 @@ fn loads(alloc: Global, items: &[Value]) -> Result<Vec<RawLoad>, ReadError>
     Ok(found)
 }
 
-/// What the table lists.
 #[tactic(auto, unfolding(crate::specs::Shape::parts_of_document))]
-pub fn shape(alloc: Global, table: &Table) -> Result<Parts, ReadError>
+fn listed(alloc: Global, table: &Table) -> Result<Parts, ReadError>
     ensures { GivesRead raw_parts result (parts_of_document (table_view table.now)) }
 {
-    refuse_unknown(table, Spot::Top, &[Key::Material, Key::Block, Key::Load])?;
+    let (version, sway) = head(alloc, table)?;
     let material_items = list_at(table, Key::Material)?;
+    let joint_items = list_at(table, Key::Joint)?;
     let block_items = list_at(table, Key::Block)?;
     let load_items = list_at(table, Key::Load)?;
     let materials = materials(alloc, material_items)?;
+    let joints = joints(alloc, joint_items)?;
     let blocks = blocks(alloc, block_items)?;
     let loads = loads(alloc, load_items)?;
     Ok(Parts {
+        version,
+        sway,
         materials,
+        joints,
         blocks,
         loads,
     })
+}
+
+/// What the table lists: joints and a sway in version 2 alone.
+pub fn shape(alloc: Global, table: &Table) -> Result<Parts, ReadError>
+    ensures parts { GivesRead raw_parts result (parts_of_document (table_view table.now)) }
+    ensures version { IfOk result (λ p. IsOfVersion (raw_parts p)) }
+{
+    match listed(alloc, table) {
+        Ok(parts) => Ok(parts),
+        Err(error) => Err(error),
+    }
 }

@@ -2,11 +2,11 @@
 
 ghost use Rattle.std.specs.Prelude.{◌≡◌, ◌<◌, [], ◌∷◌, IfOk, OnOk, length, map};
 ghost use Rattle.toml.specs.View.{view, table_view, items_view, items_of};
-ghost use Rattle.stack_model.specs.Structure.{material_of, body_of, load_of};
+ghost use Rattle.stack_model.specs.Structure.{material_of, joint_of, body_of, load_of};
 ghost use Rattle.stack_model.specs.ModelView.{model_view};
-ghost use Rattle.stack_model.specs.Relisted.{coordinates, material_listed, body_listed, load_listed};
+ghost use Rattle.stack_model.specs.Relisted.{coordinates, material_listed, joint_listed, body_listed, load_listed};
 ghost use Rattle.stack_reader.specs.Keys.{word_of};
-ghost use Rattle.stack_reader.specs.Writing.{put_member, wholes_data, material_data, block_data, load_data};
+ghost use Rattle.stack_reader.specs.Writing.{put_member, wholes_data, material_data, joint_data, block_data, load_data};
 
 use crate::keys::word;
 use stack_model::{Key, Model};
@@ -24,7 +24,7 @@ pub fn put(alloc: Global, table: &mut Table, key: Key, value: Value) -> Result<(
 }
 
 /// An array of two whole numbers.
-fn pair(alloc: Global, first: i64, second: i64) -> Result<Value, AllocError>
+pub fn pair(alloc: Global, first: i64, second: i64) -> Result<Value, AllocError>
     ensures { IfOk result (λ v. view v ≡ wholes_data (first ∷ second ∷ [])) }
 {
     let mut numbers = Vec::new(alloc);
@@ -67,6 +67,23 @@ pub fn material_table(alloc: Global, model: &Model, i: usize) -> Result<Table, A
         Key::Weight,
         Value::Integer(material.weight),
     )?;
+    put(alloc, &mut table, Key::Friction, friction)?;
+    Ok(table)
+}
+
+/// The table of joint `i`.
+pub fn joint_table(alloc: Global, model: &Model, i: usize) -> Result<Table, AllocError>
+    requires { i < length (model_view model.now).joints }
+    ensures { IfOk result (λ t. table_view t ≡ joint_data (joint_listed (model_view model.now).materials
+        (joint_of (model_view model.now) i))) }
+{
+    let joint = model.joint(i);
+    let first = Value::string(alloc, model.material_name(joint.first))?;
+    let second = Value::string(alloc, model.material_name(joint.second))?;
+    let friction = pair(alloc, joint.p, joint.q)?;
+    let mut table = Table::new(alloc);
+    put(alloc, &mut table, Key::First, first)?;
+    put(alloc, &mut table, Key::Second, second)?;
     put(alloc, &mut table, Key::Friction, friction)?;
     Ok(table)
 }

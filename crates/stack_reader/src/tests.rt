@@ -11,6 +11,11 @@ const POST: &str = "[[material]]\nname = \"stone\"\nweight = 1\nfriction = [1, 2
     [[block]]\nname = \"post\"\nmaterial = \"stone\"\ncorners = [[0, 0], [0, 4], [2, 4], [2, 0]]\n\n\
     [[load]]\nblock = \"post\"\nkind = \"live\"\nat = [0, 4]\nforce = [1, 0]\n";
 
+/// What stands before and behind it in version 2.
+const HEAD: &str = "version = 2\nsway = [1, -2]\n\n";
+
+const JOINT: &str = "\n[[joint]]\nfirst = \"stone\"\nsecond = \"stone\"\nfriction = [3, 4]\n";
+
 /// What reading gives, as text.
 fn read(rt: &HostRuntime, text: &[u8]) -> Result<String, Fail> {
     Ok(match read_model(rt.alloc(), text) {
@@ -31,6 +36,19 @@ fn a_written_model_is_read_back(rt: HostRuntime) -> Result<(), Fail> {
     assert_eq!(rt; model.name(1), "post");
     let written = write_model(rt.alloc(), &model)?;
     assert_eq!(rt; read(&rt, written.as_slice())?, read(&rt, POST.as_bytes())?);
+    Ok(())
+}
+
+#[test]
+fn a_joint_and_a_sway_are_read_back(rt: HostRuntime) -> Result<(), Fail> {
+    let text = format!(in rt.alloc(); "{HEAD}{POST}{JOINT}")?;
+    let model = read_model(rt.alloc(), text.as_bytes())
+        .map_err(|_| "refused")
+        .map_err(Fail::from)?;
+    assert_eq!(rt; (model.version(), model.sway()), (2, (1, -2)));
+    assert_eq!(rt; model.joints(), 1);
+    let written = write_model(rt.alloc(), &model)?;
+    assert_eq!(rt; read(&rt, written.as_slice())?, read(&rt, text.as_bytes())?);
     Ok(())
 }
 

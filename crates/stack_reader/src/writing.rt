@@ -1,15 +1,17 @@
 //! The text of a model's file.
 
-ghost use Rattle.std.specs.Prelude.{◌≡◌, IfOk, Ok, map};
+ghost use Rattle.std.specs.Prelude.{◌≡◌, IfOk, OnOk, Ok, map};
 ghost use Rattle.toml.specs.View.{table_view, items_view};
 ghost use Rattle.stack_model.specs.ModelView.{model_view};
 ghost use Rattle.stack_model.specs.Sound.{IsSound};
-ghost use Rattle.stack_model.specs.Relisted.{material_listed, body_listed, load_listed, relisted};
-ghost use Rattle.stack_reader.specs.Reading.{structure_of};
-ghost use Rattle.stack_reader.specs.Writing.{material_data, block_data, load_data, tables_data, parts_data};
+ghost use Rattle.stack_model.specs.Relisted.{material_listed, joint_listed, body_listed, load_listed, relisted};
+ghost use Rattle.stack_reader.specs.Reading.{document_table, structure_of};
+ghost use Rattle.stack_reader.specs.Writing.{material_data, joint_data, block_data, load_data, tables_data, first_data};
+ghost use Rattle.stack_reader.specs.Writing.{head_data, second_data, parts_data, put_tables};
+ghost use Rattle.stack_reader.specs.Keys.{word_of};
 
-use crate::tables::{block_table, load_table, material_table, put};
-use stack_model::{Key, Model};
+use crate::tables::{block_table, joint_table, load_table, material_table, pair, put};
+use stack_model::{Key, Model, is_still};
 use std::alloc::{AllocError, Global};
 use toml::{Table, Value};
 
@@ -20,6 +22,17 @@ fn materials(alloc: Global, model: &Model) -> Result<Vec<Value>, AllocError>
     let mut list = Vec::new(alloc);
     for i in 0..model.materials() {
         list.push(Value::Table(material_table(alloc, model, i)?))?;
+    }
+    Ok(list)
+}
+
+fn joints(alloc: Global, model: &Model) -> Result<Vec<Value>, AllocError>
+    ensures { IfOk result (λ v. items_view v.items ≡ tables_data joint_data
+        (map (joint_listed (model_view model.now).materials) (model_view model.now).joints)) }
+{
+    let mut list = Vec::new(alloc);
+    for i in 0..model.joints() {
+        list.push(Value::Table(joint_table(alloc, model, i)?))?;
     }
     Ok(list)
 }
@@ -47,25 +60,85 @@ fn loads(alloc: Global, model: &Model) -> Result<Vec<Value>, AllocError>
     Ok(list)
 }
 
+/// Puts a list at a key, unless it is empty.
+fn put_list(alloc: Global, table: &mut Table, key: Key, list: Vec<Value>) -> Result<(), AllocError>
+    ensures { OnOk result (table_view table.new
+        ≡ put_tables (word_of key) (items_view list.items) (table_view table.old)) }
+{
+    if list.is_empty() {
+        return Ok(());
+    }
+    put(alloc, table, key, Value::Array(list))
+}
+
+/// The table of a model's file of version 1.
+fn first_table(alloc: Global, model: &Model) -> Result<Table, AllocError>
+    ensures { IfOk result (λ t. table_view t ≡ first_data (relisted (model_view model.now))) }
+{
+    let blocks = blocks(alloc, model)?;
+    let materials = materials(alloc, model)?;
+    let loads = loads(alloc, model)?;
+    let mut table = Table::new(alloc);
+    put_list(alloc, &mut table, Key::Material, materials)?;
+    put_list(alloc, &mut table, Key::Load, loads)?;
+    put_list(alloc, &mut table, Key::Block, blocks)?;
+    Ok(table)
+}
+
+/// A table with the version and, unless it is (0, 0), the sway.
+fn head_table(alloc: Global, model: &Model) -> Result<Table, AllocError>
+    ensures { IfOk result (λ t. table_view t ≡ head_data (relisted (model_view model.now))) }
+{
+    let sway = model.sway();
+    let mut table = Table::new(alloc);
+    put(
+        alloc,
+        &mut table,
+        Key::Version,
+        Value::Integer(model.version()),
+    )?;
+    if is_still(sway) {
+        return Ok(table);
+    }
+    let numbers = pair(alloc, sway.0, sway.1)?;
+    put(alloc, &mut table, Key::Sway, numbers)?;
+    Ok(table)
+}
+
+/// The table of a model's file of version 2.
+fn second_table(alloc: Global, model: &Model) -> Result<Table, AllocError>
+    ensures { IfOk result (λ t. table_view t ≡ second_data (relisted (model_view model.now))) }
+{
+    let blocks = blocks(alloc, model)?;
+    let materials = materials(alloc, model)?;
+    let joints = joints(alloc, model)?;
+    let loads = loads(alloc, model)?;
+    let mut table = head_table(alloc, model)?;
+    put_list(alloc, &mut table, Key::Material, materials)?;
+    put_list(alloc, &mut table, Key::Load, loads)?;
+    put_list(alloc, &mut table, Key::Joint, joints)?;
+    put_list(alloc, &mut table, Key::Block, blocks)?;
+    Ok(table)
+}
+
 /// The table of a model's file.
 fn model_table(alloc: Global, model: &Model) -> Result<Table, AllocError>
     ensures sound { IsSound (model_view model.now) }
     ensures value { IfOk result (λ t. table_view t ≡ parts_data (relisted (model_view model.now))) }
 {
-    let blocks = Value::Array(blocks(alloc, model)?);
-    let materials = Value::Array(materials(alloc, model)?);
-    let loads = Value::Array(loads(alloc, model)?);
-    let mut table = Table::new(alloc);
-    put(alloc, &mut table, Key::Material, materials)?;
-    put(alloc, &mut table, Key::Block, blocks)?;
-    put(alloc, &mut table, Key::Load, loads)?;
-    Ok(table)
+    let _bodies = model.bodies();
+    if model.version() == 2 {
+        second_table(alloc, model)
+    } else {
+        first_table(alloc, model)
+    }
 }
 
 /// A TOML document that describes the model: `read_model` gives the same model of it, where memory isn't
-/// wanting. Its layout is that of `toml`.
+/// wanting. Its layout is that of `toml`; lists without an item are left out, so that a table may be added at its end.
 pub fn write_model(alloc: Global, model: &Model) -> Result<Vec<u8>, AllocError>
-    ensures { IfOk result (λ text. structure_of text.items ≡ Ok (model_view model.now)) }
+    ensures read { IfOk result (λ text. structure_of text.items ≡ Ok (model_view model.now)) }
+    ensures table { IfOk result (λ text. document_table text.items ≡ Ok (parts_data (relisted (model_view model.now)))) }
 {
     let table = model_table(alloc, model)?;
     match toml::table_to_string(alloc, &table) {

@@ -12,7 +12,7 @@ mod force;
 mod force_lines;
 mod forces;
 mod lines;
-mod ratio;
+pub mod ratio;
 mod summary;
 
 pub use contacts::contact_table;

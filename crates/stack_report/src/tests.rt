@@ -69,28 +69,26 @@ fn surveyed(
     blocks: &[(&str, bool, [[i64; 2]; 4])],
     pushes: &[(&str, [i64; 2])],
 ) -> Result<Survey, Fail> {
-    let mut parts = Parts {
-        materials: Vec::new(alloc),
-        blocks: Vec::new(alloc),
-        loads: Vec::new(alloc),
-    };
-    parts.materials.push(RawMaterial {
+    let mut materials = Vec::new(alloc);
+    let mut drawn = Vec::new(alloc);
+    let mut loads = Vec::new(alloc);
+    materials.push(RawMaterial {
         name: String::from_str(alloc, "stone")?,
         weight: 1,
         friction: numbers(alloc, friction)?,
     })?;
     for (name, fixed, corners) in blocks {
-        parts.blocks.push(block(alloc, name, *fixed, corners)?)?;
+        drawn.push(block(alloc, name, *fixed, corners)?)?;
     }
     for (name, at) in pushes {
-        parts.loads.push(RawLoad {
+        loads.push(RawLoad {
             block: String::from_str(alloc, name)?,
             kind: String::from_str(alloc, "live")?,
             at: numbers(alloc, at)?,
             force: numbers(alloc, &[1, 0])?,
         })?;
     }
-    let model = Model::new(alloc, parts)?;
+    let model = Model::new(alloc, Parts::first(alloc, materials, drawn, loads))?;
     Ok(survey(alloc, model).ok().ok_or("no survey")?)
 }
 

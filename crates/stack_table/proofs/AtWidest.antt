@@ -38,11 +38,11 @@ less_all-of g (suc n) = (λ z. add (less_all-of g n z) (neg-of (g n) z))
 opposite_size : (b : ℤ) → nat_abs (negsuc 0 *ℤ b) ≡ nat_abs b
 opposite_size b = omega (arith, ints)
 
-total_size : (g : ℕ → ℤ) (n : ℕ) → ((i : ℕ) → IsBelowBound (g i)) → nat_abs (total g n) ≤ n * 2 ^ 90
+total_size : (g : ℕ → ℤ) (n : ℕ) → ((i : ℕ) → IsBelowBound (g i)) → nat_abs (total g n) ≤ n * 2 ^ 100
 total_size g zero h = omega arith
 total_size g (suc n) h = next (total g n) (g n) (total_size g n h) (h n)
   where
-    next : (a b : ℤ) → nat_abs a ≤ n * 2 ^ 90 → IsBelowBound b → nat_abs (a +ℤ negsuc 0 *ℤ b) ≤ suc n * 2 ^ 90
+    next : (a b : ℤ) → nat_abs a ≤ n * 2 ^ 100 → IsBelowBound b → nat_abs (a +ℤ negsuc 0 *ℤ b) ≤ suc n * 2 ^ 100
     next a b k l = omega (arith, ints, k, l)
 
 module _ (m : ℤ) (ample : IsAmple m) where
@@ -53,7 +53,7 @@ module _ (m : ℤ) (ample : IsAmple m) where
         omega (arith, den_of z, ample);
   }
 
-  difference : (a b : ℤ) → nat_abs a ≤ 384 * 2 ^ 90 → IsBelowBound b →
+  difference : (a b : ℤ) → nat_abs a ≤ 384 * 2 ^ 100 → IsBelowBound b →
       is_too_wide m Difference (of a) (of b) ≡ false
   difference a b h k =
       ap not (sum_fits-of m (of a) (neg (of b)) (subst (λ y. SumFits m (of a) y) (sym (neg-of b))

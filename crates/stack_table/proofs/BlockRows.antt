@@ -16,7 +16,7 @@ use Rattle.stack_rational.specs.TooWide.{fraction_fits}
 use Rattle.stack_table.specs.Block.{item_value, mark_at, cell_of, IsBlock}
 use Rattle.stack_rational.specs.Order.{is_zero}
 use Rattle.stack_rational.proofs.Fitting.{is_zero-of}
-use Rattle.stack_table.proofs.Blocks.{value_at-past, value_at-index}
+use Rattle.stack_table.proofs.Blocks.{value_at-past}
 
 -- a row of a block of n rows
 pub row_in : (i n w size : ℕ) → i < n → size ≡ n * w → i * w + w ≤ size
@@ -56,12 +56,6 @@ module _ {V : Type 0} (e : V → Fraction) where
       go (yes k) = cell_in w xs i j k
           ∙ value_at-past e xs (i * w + j) (omega (arith, h, mul-le n w i w l (omega arith)))
       go (no k) = cell_past w xs i j (omega (arith, k))
-
-  -- a cell that is read, of n rows
-  pub cell_read : (w n : ℕ) (xs : List V) (i j : ℕ) (x : V) → i < n → n * w ≤ length xs → j < w →
-      x ≡ get_or xs (i * w + j) x → cell_of e w xs i j ≡ e x
-  cell_read w n xs i j x l room k is = cell_in w xs i j k
-      ∙ value_at-index e xs (i * w + j) x (omega (arith, row_in i n w (n * w) l refl, room, k)) is
 
   module _ (w r : ℕ) (above own below : List V) (la : length above ≡ r * w) (lo : length own ≡ w) where
     pub cell_above : (i j : ℕ) → i < r → cell_of e w (above ++ (own ++ below)) i j ≡ cell_of e w above i j

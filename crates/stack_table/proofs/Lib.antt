@@ -10,3 +10,4 @@ pub mod FirstObjective
 pub mod RowByRow
 pub mod AtWidest
 pub mod SoundProblem
+mod DueRows

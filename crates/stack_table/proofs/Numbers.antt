@@ -56,7 +56,7 @@ either_column : (rows : ℕ) (b : Bool) (xs ys : List Entry) → IsColumn rows x
 either_column rows true xs ys h k = h
 either_column rows false xs ys h k = k
 
-column_of : (P : Lent) → IsProblem P → (j : ℕ) → IsColumn P.rows (entries_at P j)
+pub column_of : (P : Lent) → IsProblem P → (j : ℕ) → IsColumn P.rows (entries_at P j)
 column_of P h j = either_column P.rows (ltb j (length P.contact.items)) _ _
     (column_at P.rows P.contact.items j h.contact_columns)
     (either_column P.rows (eqb j (length P.contact.items)) (factor_entries P.factor) [] h.factor_column

@@ -1,5 +1,5 @@
 -- A block in parts, as two splits lend it, and a block of rows above its last row.
-use Rattle.std.proofs.Common.{◌≡◌, refl, sym, ap, ◌∙◌, ℕ, zero, suc, ◌<◌, ◌≤◌, ◌+◌, ◌-◌, ◌*◌, List, [], ◌∷◌}
+use Rattle.std.proofs.Common.{◌≡◌, refl, sym, ap, ◌∙◌, ℕ, zero, suc, ◌<◌, ◌≤◌, ◌+◌, ◌*◌, List, [], ◌∷◌}
 use Rattle.std.proofs.Common.{◌++◌, length, take, drop, arith, Bool, true}
 use Rattle.std.proofs.Common.{length-drop, append-nil}
 use Rattle.std.proofs.Math.Nat.{suc-mul}
@@ -7,7 +7,6 @@ use mathlib.Core.Path.{subst₂}
 use native.Mathlib.Decide.{ℕ_discrete}
 use lib.IntN.{ℤ}
 use Rattle.stack_algebra.specs.Fraction.{Fraction}
-use Rattle.stack_algebra.proofs.Fractions.{of}
 use Rattle.stack_algebra.specs.Rows.{changed}
 use Rattle.stack_algebra.proofs.Pivots.{changed-same, changed-other}
 use Rattle.stack_rational.specs.TooWide.{fraction_fits}

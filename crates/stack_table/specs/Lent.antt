@@ -71,4 +71,4 @@ TellsFirst Memory o = Unit {0}
 
 -- a greatest value that no number and no partial difference of such a problem is too wide; that of 128 bits is one
 abbrev pub IsAmple : ℤ → Type 0
-IsAmple m = 2 ^ 100 ≤ unsigned_abs m
+IsAmple m = 2 ^ 110 ≤ unsigned_abs m

@@ -7,3 +7,4 @@ pub mod Block
 pub mod Columns
 pub mod Seen
 pub mod Sound
+pub mod Due

@@ -1,17 +1,21 @@
 //! The written table of a problem, cell by cell.
 
-ghost use Rattle.std.specs.Prelude.{◌≡◌, ◌++◌, ◌∷◌, [], ◌*◌, ◌<◌, ◌≤◌, length, true, IfOk, IfErr, OnOk, OnErr};
-ghost use Rattle.std.specs.Prelude.{None, Some};
+ghost use Rattle.std.specs.Prelude.{◌≡◌, ◌++◌, ◌∷◌, [], ℕ, ◌*◌, ◌<◌, ◌≤◌, length, map, pos, true, false, None, Some};
+ghost use Rattle.std.specs.Prelude.{IfOk, IfErr, OnOk, OnErr};
+ghost use Rattle.std.specs.List.Sorted.{IsStrictlyIncreasing};
 ghost use Rattle.stack_algebra.proofs.Fractions.{of};
 ghost use Rattle.stack_algebra.proofs.OrderedFractions.{ordered_fractions};
 ghost use Rattle.stack_algebra.specs.Search.{first};
-ghost use Rattle.stack_rational.specs.TooWide.{fraction_fits, is_too_wide};
+ghost use Rattle.stack_rational.specs.declared.exact.Op.TheVariants as op;
+ghost use Rattle.stack_rational.specs.TooWide.{fraction_fits, is_too_wide, op_value};
 ghost use Rattle.stack_table.specs.Table.{plain, width};
-ghost use Rattle.stack_table.specs.Block.{cell_of, IsBlock, Grows};
+ghost use Rattle.stack_table.specs.Block.{cell_of, item_value, IsBlock, Grows};
 ghost use Rattle.stack_table.specs.Problem.{turned};
 ghost use Rattle.stack_table.specs.Lent.{entry_in, IsProblem, shape_of_problem, problem_of, TellsFirst};
+ghost use Rattle.stack_table.specs.Due.{IsDue, AreDue};
 ghost use Rattle.stack_whole.specs.Limits.{IsBelowBound};
-ghost use Rattle.stack_table.specs.WrittenTable.{number_at, first_row, row_place, less_all, partial_place};
+ghost use Rattle.stack_table.specs.WrittenTable.{number_at, number_place, first_row, row_place};
+ghost use Rattle.stack_table.specs.WrittenTable.{less_all, partial_place};
 ghost use Rattle.stack_table.specs.WrittenTable.{is_artificial, objective_over, objective_place, objective_places};
 ghost use Rattle.stack_table.specs.declared.problem.BuildError.TheVariants.{Wide as AtPlace};
 
@@ -29,6 +33,19 @@ fn entry_in(entries: &[Entry], row: usize) -> i128
         }
     }
     0
+}
+
+/// The first row from `from` on in which an entry stands; `rows` where none does.
+fn next_entry(entries: &[Entry], from: usize, rows: usize) -> usize
+    requires { IsStrictlyIncreasing (map (λ x. x.row) entries.now) }
+    ensures { (i : ℕ) → from ≤ i → i < result → entry_in entries.now i ≡ pos 0 }
+{
+    for entry in entries {
+        if from <= entry.row {
+            return entry.row;
+        }
+    }
+    rows
 }
 
 /// The first artificial column.
@@ -67,6 +84,22 @@ fn entry(p: &Problem, i: usize, j: usize) -> i128
     }
 }
 
+/// The first row from `from` on in which a column that isn't artificial has an entry; `rows` where it has none.
+fn next_in(p: &Problem, from: usize, j: usize) -> usize
+    requires problem { IsProblem p.now }
+    requires j_in { j < plain (shape_of_problem p.now) }
+    ensures { (i : ℕ) → from ≤ i → i < result → (problem_of p.now).entry i j ≡ pos 0 }
+{
+    if j < p.contact.len() {
+        next_entry(p.contact[j].entries.as_slice(), from, p.rows)
+    } else {
+        match &p.factor {
+            Some(factor) => next_entry(factor.entries.as_slice(), from, p.rows),
+            None => from,
+        }
+    }
+}
+
 /// A number of a row that is flipped, or isn't.
 fn turned(flipped: bool, number: i128) -> i128
     requires { IsBelowBound number }
@@ -93,6 +126,54 @@ fn number(p: &Problem, artificial: usize, i: usize, j: usize) -> i128
     turned(flipped, p.right[i])
 }
 
+/// The row that is due in a column from row `i` on, of one that was due before.
+fn next_due(p: &Problem, artificial: usize, due: usize, i: usize, j: usize) -> usize
+    requires problem { IsProblem p.now }
+    requires artificial { artificial ≡ plain (shape_of_problem p.now) }
+    requires due { IsDue (problem_of p.now) i j due }
+    ensures { IsDue (problem_of p.now) i j result }
+{
+    if i <= due {
+        return due;
+    }
+    if j < artificial {
+        return next_in(p, i, j);
+    }
+    if j - artificial < i {
+        return p.rows;
+    }
+    if j - artificial < p.rows {
+        return j - artificial;
+    }
+    i
+}
+
+/// The cell in a row and a column: 0 before the row that is due.
+fn first_cell<S: Exact>(
+    p: &Problem,
+    artificial: usize,
+    due: usize,
+    i: usize,
+    j: usize,
+) -> Result<S, OpWide>
+    requires problem { IsProblem p.now }
+    requires artificial { artificial ≡ plain (shape_of_problem p.now) }
+    requires i_in { i < p.now.rows }
+    requires j_in { j < width (shape_of_problem p.now) }
+    requires due { IsDue (problem_of p.now) i j due }
+    ensures ok { IfOk result (λ r. S.exact r ≡ first_row ordered_fractions (problem_of p.now) i j) }
+    ensures small { IfOk result (λ r. fraction_fits S.MAX (S.exact r) ≡ true) }
+    ensures fits { IfOk result (λ r.
+        number_place ordered_fractions (is_too_wide S.MAX) (problem_of p.now) i j ≡ None) }
+    ensures wide { IfErr result (λ e.
+        number_place ordered_fractions (is_too_wide S.MAX) (problem_of p.now) i j ≡ Some (AtPlace i j)) }
+{
+    if i < due {
+        return Ok(S::zero());
+    }
+    S::from_whole(number(p, artificial, i, j))
+}
+
 /// Puts a cell and its mark.
 fn push_cell<S: Exact>(cells: &mut Vec<S>, marks: &mut Vec<bool>, cell: S) -> Result<(), AllocError>
     requires block { IsBlock S.MAX S.exact cells.old.items marks.old.items }
@@ -105,10 +186,11 @@ fn push_cell<S: Exact>(cells: &mut Vec<S>, marks: &mut Vec<bool>, cell: S) -> Re
     Ok(())
 }
 
-/// Puts the cells of a row.
+/// Puts the cells of a row, with the row that is due in each column from this one on.
 pub fn push_row<S: Exact>(
     cells: &mut Vec<S>,
     marks: &mut Vec<bool>,
+    dues: &mut [usize],
     p: &Problem,
     artificial: usize,
     i: usize,
@@ -117,6 +199,9 @@ pub fn push_row<S: Exact>(
     requires artificial { artificial ≡ plain (shape_of_problem p.now) }
     requires i_in { i < p.now.rows }
     requires block { IsBlock S.MAX S.exact cells.old.items marks.old.items }
+    requires long { length dues.old ≡ width (shape_of_problem p.now) }
+    requires dues { AreDue (problem_of p.now) i dues.old }
+    ensures dues { AreDue (problem_of p.now) i dues.new }
     ensures block { OnOk result (IsBlock S.MAX S.exact cells.new.items marks.new.items) }
     ensures grown { OnOk result (Grows S.exact cells.old.items cells.new.items (width (shape_of_problem p.now))
         (first_row ordered_fractions (problem_of p.now) i)) }
@@ -125,7 +210,9 @@ pub fn push_row<S: Exact>(
         TellsFirst e (row_place ordered_fractions (is_too_wide S.MAX) (problem_of p.now) i)) }
 {
     for j in 0..artificial + p.rows + 1 {
-        let cell = match S::from_whole(number(p, artificial, i, j)) {
+        let due = next_due(p, artificial, dues[j], i, j);
+        dues[j] = due;
+        let cell = match first_cell(p, artificial, due, i, j) {
             Ok(cell) => cell,
             Err(_) => return Err(BuildError::Wide { row: i, column: j }),
         };
@@ -137,8 +224,33 @@ pub fn push_row<S: Exact>(
     Ok(())
 }
 
+/// A difference less one more cell. One of 0 is skipped by its mark.
+fn less_cell<S: Exact>(sum: S, cells: &[S], marks: &[bool], at: usize) -> Result<S, OpWide>
+    requires block { IsBlock S.MAX S.exact cells.now marks.now }
+    requires at_in { at < length cells.now }
+    requires sum { fraction_fits S.MAX (S.exact sum) ≡ true }
+    ensures ok { IfOk result (λ r. S.exact r
+        ≡ op_value op.Difference (S.exact sum) (item_value S.exact cells.now at)) }
+    ensures fits { IfOk result (λ r.
+        is_too_wide S.MAX op.Difference (S.exact sum) (item_value S.exact cells.now at) ≡ false) }
+    ensures wide { IfErr result (λ e.
+        is_too_wide S.MAX op.Difference (S.exact sum) (item_value S.exact cells.now at) ≡ true) }
+{
+    if marks[at] {
+        return Ok(sum);
+    }
+    sum.difference(cells[at])
+}
+
 /// 0 less the cells of a column, row by row.
-fn less_column<S: Exact>(cells: &[S], rows: usize, width: usize, column: usize) -> Result<S, OpWide>
+fn less_column<S: Exact>(
+    cells: &[S],
+    marks: &[bool],
+    rows: usize,
+    width: usize,
+    column: usize,
+) -> Result<S, OpWide>
+    requires block { IsBlock S.MAX S.exact cells.now marks.now }
     requires room { rows * width ≤ length cells.now }
     requires column_in { column < width }
     ensures ok { IfOk result (λ r. S.exact r
@@ -151,7 +263,7 @@ fn less_column<S: Exact>(cells: &[S], rows: usize, width: usize, column: usize) 
 {
     let mut sum = S::zero();
     for i in 0..rows {
-        sum = sum.difference(cells[i * width + column])?;
+        sum = less_cell(sum, cells, marks, i * width + column)?;
     }
     Ok(sum)
 }
@@ -159,11 +271,13 @@ fn less_column<S: Exact>(cells: &[S], rows: usize, width: usize, column: usize) 
 /// The cell of the objective row in a column, over the rows that are there.
 fn objective_cell<S: Exact>(
     cells: &[S],
+    marks: &[bool],
     p: &Problem,
     artificial: usize,
     column: usize,
 ) -> Result<S, OpWide>
     requires problem { IsProblem p.now }
+    requires block { IsBlock S.MAX S.exact cells.now marks.now }
     requires artificial { artificial ≡ plain (shape_of_problem p.now) }
     requires room { p.now.rows * width (shape_of_problem p.now) ≤ length cells.now }
     requires column_in { column < width (shape_of_problem p.now) }
@@ -179,7 +293,7 @@ fn objective_cell<S: Exact>(
     if is_artificial(p, artificial, column) {
         return Ok(S::zero());
     }
-    let cell = less_column(cells, p.rows, artificial + p.rows + 1, column)?;
+    let cell = less_column(cells, marks, p.rows, artificial + p.rows + 1, column)?;
     Ok(cell)
 }
 
@@ -204,7 +318,7 @@ pub fn push_objective<S: Exact>(
         (shape_of_problem p.now) (cell_of S.exact (width (shape_of_problem p.now)) cells.old.items))) }
 {
     for j in 0..artificial + p.rows + 1 {
-        let cell = match objective_cell(cells.as_slice(), p, artificial, j) {
+        let cell = match objective_cell(cells.as_slice(), marks.as_slice(), p, artificial, j) {
             Ok(cell) => cell,
             Err(_) => return Err(BuildError::Wide {
                 row: p.rows,

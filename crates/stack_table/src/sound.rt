@@ -6,11 +6,11 @@ ghost use Rattle.stack_table.specs.Sound.{is_small, is_column, are_columns, are_
 
 use crate::problem::{Column, Entry};
 
-/// Whether a number is below 2^90 in size.
+/// Whether a number is below 2^100 in size.
 fn is_small(number: i128) -> bool
     ensures { result ≡ is_small number }
 {
-    number.unsigned_abs() < 1 << 90
+    number.unsigned_abs() < 1 << 100
 }
 
 /// Whether entries stand in rising rows below `rows`, and are small.

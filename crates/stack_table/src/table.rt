@@ -73,11 +73,19 @@ impl<S: Exact> Table<S> {
         let size = (p.rows + 1) * width;
         let mut cells: Vec<S> = Vec::with_capacity(alloc, size)?;
         let mut marks: Vec<bool> = Vec::with_capacity(alloc, size)?;
-        let listed: Vec<usize> = Vec::from_elem(alloc, 0, width)?;
+        // while the rows are put, the row that is due in each column
+        let mut listed: Vec<usize> = Vec::from_elem(alloc, 0, width)?;
         let mut basic: Vec<usize> = Vec::with_capacity(alloc, p.rows)?;
         let mut flipped: Vec<bool> = Vec::with_capacity(alloc, p.rows)?;
         for i in 0..p.rows {
-            push_row(&mut cells, &mut marks, p, artificial, i)?;
+            push_row(
+                &mut cells,
+                &mut marks,
+                listed.as_mut_slice(),
+                p,
+                artificial,
+                i,
+            )?;
             basic.push(artificial + i)?;
             flipped.push(p.right[i] < 0)?;
         }

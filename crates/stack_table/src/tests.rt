@@ -243,7 +243,7 @@ fn a_problem_may_have_no_rows_and_must_be_sound(rt: HostRuntime) -> Result<(), F
     }
     let outside = problem(alloc, &[[0, 1, 0]], None, &[5])?;
     assert!(rt; !outside.is_sound());
-    let great = problem(alloc, &[], None, &[1 << 90])?;
+    let great = problem(alloc, &[], None, &[1 << 100])?;
     assert!(rt; !great.is_sound());
     Ok(())
 }

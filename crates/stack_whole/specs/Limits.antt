@@ -11,8 +11,8 @@ most_free = 128
 
 -- loads and columns are below this in size, within the limits of a model
 abbrev pub load_bound : ℕ
-load_bound = 2 ^ 90
+load_bound = 2 ^ 100
 
--- a number is less than 2^90 in size
+-- a number is less than 2^100 in size
 abbrev pub IsBelowBound : ℤ → Type 0
 IsBelowBound z = nat_abs z < load_bound

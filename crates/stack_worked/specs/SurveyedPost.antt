@@ -3,7 +3,7 @@
 use Rattle.std.specs.Prelude.{◌≡◌, ◌↔◌, ℕ, ℤ, pos, List, [], ◌∷◌, Bool, true, false, Ok, codes}
 use Rattle.stack_polygon.specs.declared.point.Point.{Point}
 use Rattle.stack_frame.specs.Cones.{cone}
-use Rattle.stack_model.specs.Structure.{NamedBody, Structure, structure_with}
+use Rattle.stack_model.specs.Structure.{NamedBody, Structure, first_structure}
 use Rattle.stack_model.specs.Content.{content_of}
 use Rattle.stack_model.specs.Relisted.{relisted}
 use Rattle.stack_contact.specs.declared.types.Bearing.{Bearing}
@@ -22,7 +22,7 @@ drawn_body name fixed corners = record { name = name; material = 0; fixed = fixe
 
 -- one stone of unit weight, with friction 1 over 1; the ground and the post; and the push
 abbrev pub drawn_post : Structure
-drawn_post = structure_with
+drawn_post = first_structure
     (record { name = codes "stone"; weight = pos 1; p = pos 1; q = pos 1 } ∷ [])
     (drawn_body (codes "ground") true ground_corners ∷ drawn_body (codes "post") false post_corners ∷ [])
     (record { body = 1; live = true; at = at_point (pos 0) (pos 4); fx = pos 1; fy = pos 0 } ∷ [])

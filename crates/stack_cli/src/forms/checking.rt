@@ -7,7 +7,7 @@ ghost use Rattle.stack_cli.specs.Progress.{Does, DoesAlone, AnswersDue, IsCaused
 
 use crate::answer::{Answer, Verdict, rejection, wide_place};
 use crate::reading::read_file;
-use crate::refusal::{Input, Refusal};
+use crate::refusal::{Input, Refusal, Within};
 use crate::surveying::survey_file;
 use stack_certificate::types::TextError;
 use stack_checker::types::Check;
@@ -30,6 +30,7 @@ pub fn check_answer(alloc: Global, survey: &Survey, check: Check) -> Result<Answ
             text: rejection(alloc, survey, part, reason)?.into_bytes(),
         }),
         Check::TooWide(place) => Err(Refusal::WideCheck {
+            within: Within::Whole,
             part: place.part,
             place: wide_place(alloc, survey, place.at)?,
         }),

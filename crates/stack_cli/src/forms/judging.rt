@@ -5,11 +5,11 @@ ghost use Rattle.stack_outside.specs.Faults.{Rose};
 ghost use Rattle.stack_certificate.specs.Certificate.{certificate_view};
 ghost use Rattle.stack_cli.specs.Answers.{verdict_of as verdict_of_value};
 ghost use Rattle.stack_cli.specs.Refusals.{refusal_view, faulty, memory};
-ghost use Rattle.stack_cli.specs.Judging.{wide_fault, judged, judge_work};
+ghost use Rattle.stack_cli.specs.Judging.{wide_within, judged, judge_work};
 ghost use Rattle.stack_cli.specs.Progress.{Does, DoesAlone, AnswersDue, IsCausedBy};
 
 use crate::answer::{Answer, Verdict, wide_place};
-use crate::refusal::Refusal;
+use crate::refusal::{Refusal, Within};
 use crate::surveying::survey_file;
 use stack_certificate::types::Certificate;
 use stack_certificate::write_certificate;
@@ -30,14 +30,16 @@ fn verdict_of(certificate: &Certificate) -> Verdict
 }
 
 /// The refusal of a number that is too wide.
-pub fn wide(alloc: Global, survey: &Survey, place: JudgePlace) -> Refusal
-    ensures { (refusal_view result ≡ faulty (wide_fault survey.now.structure place)) ⊎ (result ≡ Refusal.Memory) }
+pub fn wide(alloc: Global, survey: &Survey, within: Within, place: JudgePlace) -> Refusal
+    ensures { (refusal_view result ≡ faulty (wide_within within survey.now.structure place))
+        ⊎ (result ≡ Refusal.Memory) }
 {
     match place {
-        JudgePlace::Run(place) => Refusal::WideRun { place },
-        JudgePlace::End(place) => Refusal::WideEnd { place },
+        JudgePlace::Run(place) => Refusal::WideRun { within, place },
+        JudgePlace::End(place) => Refusal::WideEnd { within, place },
         JudgePlace::Check(place) => match wide_place(alloc, survey, place.at) {
             Ok(at) => Refusal::WideCheck {
+                within,
                 part: place.part,
                 place: at,
             },
@@ -62,7 +64,7 @@ fn judge_survey(
             verdict: verdict_of(&certificate),
             text: write_certificate(alloc, &certificate)?,
         }),
-        Err(JudgeError::TooWide(place)) => Err(wide(alloc, survey, place)),
+        Err(JudgeError::TooWide(place)) => Err(wide(alloc, survey, Within::Whole, place)),
         Err(JudgeError::Spent { budget }) => Err(Refusal::Spent { budget }),
         Err(JudgeError::NoLive) => Err(Refusal::NoLive),
         Err(JudgeError::Memory) => Err(Refusal::Memory),

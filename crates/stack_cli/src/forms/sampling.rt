@@ -14,7 +14,7 @@ ghost use Rattle.stack_cli.specs.Progress.{DoesAlone, IsModel, AnswersDue, IsCau
 
 use crate::answer::{Answer, Verdict};
 use crate::forms::judging::wide;
-use crate::refusal::Refusal;
+use crate::refusal::{Refusal, Within};
 use crate::surveying::survey_model;
 use crate::words::DEFAULT_BUDGET;
 use stack_certificate::types::Certificate;
@@ -65,7 +65,7 @@ fn sample_survey(alloc: Global, number: u32, survey: &Survey) -> Result<Answer, 
 {
     match judge_marked(alloc, survey, Question::Live, DEFAULT_BUDGET) {
         Ok((certificate, narrow)) => summed(alloc, number, survey, &certificate, narrow),
-        Err(JudgeError::TooWide(place)) => Err(wide(alloc, survey, place)),
+        Err(JudgeError::TooWide(place)) => Err(wide(alloc, survey, Within::Whole, place)),
         Err(JudgeError::Spent { budget }) => Err(Refusal::Spent { budget }),
         Err(JudgeError::NoLive) => unreachable!(),
         Err(JudgeError::Memory) => Err(Refusal::Memory),

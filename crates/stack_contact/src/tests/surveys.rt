@@ -1,7 +1,7 @@
 //! Surveys of models of one material, worked by hand.
 
-use crate::survey;
 use crate::types::{Bearing, Survey, SurveyError, Touch};
+use crate::{survey, survey_again};
 use stack_frame::{Cone, Frame};
 use stack_model::{Model, Parts, RawBlock, RawMaterial};
 use stack_polygon::Point;
@@ -59,11 +59,7 @@ impl Blocks {
             weight: 1,
             friction,
         })?;
-        let parts = Parts {
-            materials,
-            blocks: self.list,
-            loads: Vec::new(alloc),
-        };
+        let parts = Parts::first(alloc, materials, self.list, Vec::new(alloc));
         let model = Model::new(alloc, parts)?;
         Ok(survey(alloc, model))
     }
@@ -113,6 +109,13 @@ fn a_survey_lists_bearings_touches_and_free_blocks(rt: HostRuntime) -> Result<()
     assert_eq!(rt; survey.free_count(), 2);
     assert_eq!(rt; survey.free(1), 5);
     assert_eq!(rt; survey.free_number(5), 1);
+    let swayed = survey_again(
+        alloc,
+        &survey,
+        survey.model().with_loads(alloc, &[], (0, 0))?,
+    )?;
+    assert_eq!(rt; swayed.bearings(), bearings.as_slice());
+    assert_eq!(rt; swayed.touches(), [touch].as_slice());
     Ok(())
 }
 

@@ -1,3 +1,5 @@
+use Rattle.std.proofs.Common.{◌≡◌, suc, ◌+◌, subst, arith}
+use Rattle.stack_contact.specs.NearPairs.{AreSwept}
 use Rattle.stack_model.specs.ModelView.{model_view}
 use Rattle.stack_contact.proofs.SweepSteps.{next-swept, row-swept, row-stopped}
 use Rattle.stack_contact.proofs.sweeping.with_later.Goals as goal
@@ -15,3 +17,9 @@ loop-m-preserved c = next-swept (model_view c.args.model.now) c.args.bodies.now 
 pub returns : goal.returns
 returns c = row-swept (model_view c.args.model.now) c.args.bodies.now c.args.k c.loop-m.m c.loop-m.pairs.items
     c.loop-m-test.false c.loop-m.invariant
+
+pub loop-m-init : goal.loop-m-init
+loop-m-init c =
+    let next : suc c.args.k ≡ c.args.k + 1 = omega arith in
+    subst (λ m. AreSwept (model_view c.args.model.now) c.args.bodies.now c.args.k m c.args.start.items) next
+    c.requires.swept

@@ -1,11 +1,10 @@
 use Rattle.std.proofs.Common.{length, ap, ◌∙◌}
-use Rattle.stack_table.specs.Seen.{shape_of_table, table_of}
 use Rattle.stack_amounts.specs.WrittenLists.{bound_number}
 use Rattle.stack_algebra.proofs.Listed.{length_listed}
 use Rattle.stack_extract.proofs.motions.bound_of.Goals as goal
 
 pub from_list-requires-clause-listed : goal.from_list-requires-clause-listed
 from_list-requires-clause-listed g c = ap length (c.deref.ensures.value ∙ c.in_ok-list.ensures)
-    ∙ length_listed (shape_of_table c.args.t.now).rows
-    (bound_number (shape_of_table c.args.t.now) (table_of c.args.t.now))
+    ∙ length_listed (g.L.LastTable.shape c.args.t.now).rows
+    (bound_number (g.L.LastTable.shape c.args.t.now) (g.L.LastTable.table c.args.t.now))
     ∙ c.requires

@@ -1,10 +1,10 @@
 use Rattle.std.proofs.Common.{sym, ◌∙◌, arith}
 use Rattle.std.proofs.lemmas.Bool.{eq-eqb}
-use Rattle.stack_table.specs.Seen.{shape_of_table, table_of}
 use Rattle.stack_extract.proofs.TableReads.{found_here}
 use Rattle.stack_extract.proofs.numbers.basic_row.Goals as goal
 
-pub returns-then-basic-column : goal.returns-then-basic-column
-returns-then-basic-column g c = found_here (table_of c.args.t.now).basic (shape_of_table c.args.t.now).rows
-    c.args.column c.loop-row.row (omega (arith, c.loop-row-test.true, c.rows-row-end.ensures))
-    (eq-eqb _ _ (sym c.basic.ensures.value ∙ c.if-basic-column.true)) c.loop-row.invariant
+pub returns-then-basic_of-column : goal.returns-then-basic_of-column
+returns-then-basic_of-column g c = found_here (g.L.LastTable.table c.args.t.now).basic
+    (g.L.LastTable.shape c.args.t.now).rows c.args.column c.loop-row.row
+    (omega (arith, c.loop-row-test.true, c.row_count-row-end.ensures))
+    (eq-eqb _ _ (sym c.basic_of.ensures ∙ c.if-basic_of-column.true)) c.loop-row.invariant

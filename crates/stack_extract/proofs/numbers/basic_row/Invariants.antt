@@ -1,7 +1,6 @@
 use Rattle.std.proofs.Common.{◌≡◌, eqb, None}
 use Rattle.stack_algebra.specs.Search.{first, only_if}
-use Rattle.stack_table.specs.Seen.{table_of}
 use Rattle.stack_extract.proofs.numbers.basic_row.Given as goal
 
 abbrev pub invariant-loop-row : goal.invariant-loop-row
-invariant-loop-row g l = first l.row (λ i. only_if (eqb ((table_of l.t).basic i) l.column) i) ≡ None
+invariant-loop-row g l = first l.row (λ i. only_if (eqb ((g.L.LastTable.table l.t).basic i) l.column) i) ≡ None

@@ -1,8 +1,8 @@
 use Rattle.std.proofs.Common.{◌≡◌}
 use Rattle.stack_algebra.specs.Listed.{listed}
-use Rattle.stack_table.specs.Seen.{shape_of_table, table_of}
 use Rattle.stack_amounts.specs.WrittenLists.{bound_number}
 use Rattle.stack_extract.proofs.numbers.bound_numbers.Given as goal
 
 abbrev pub invariant-loop-row : goal.invariant-loop-row
-invariant-loop-row g l = l.numbers.items ≡ listed l.row (bound_number (shape_of_table l.t) (table_of l.t))
+invariant-loop-row g l = l.numbers.items ≡ listed l.row
+    (bound_number (g.L.LastTable.shape l.t) (g.L.LastTable.table l.t))

@@ -1,6 +1,5 @@
 use Rattle.std.proofs.Common.{◌∙◌, arith}
 use Rattle.stack_algebra.proofs.Fractions.{add, neg}
-use Rattle.stack_table.specs.Seen.{shape_of_table, table_of}
 use Rattle.stack_amounts.specs.WrittenLists.{collapse_number}
 use Rattle.stack_extract.proofs.TableReads.{grown}
 use Rattle.stack_extract.proofs.WrittenPlaces.{told, shift_too_wide, shift_fits}
@@ -8,19 +7,20 @@ use Rattle.stack_extract.proofs.numbers.collapse_numbers.Goals as goal
 
 pub loop-row-preserved : goal.loop-row-preserved
 loop-row-preserved g c = (
-  grown (collapse_number (shape_of_table c.args.t.now) (table_of c.args.t.now)) c.loop-row.row c.in-Ok.number
-      c.loop-row.numbers.items _
+  grown (collapse_number (g.L.LastTable.shape c.args.t.now) (g.L.LastTable.table c.args.t.now)) c.loop-row.row
+      c.in-Ok.number c.loop-row.numbers.items _
       (c.in-Ok.ensures.ok ∙ (λ i. add (c.bound_number.ensures i) (neg (c.unit.ensures i))))
       c.loop-row.invariant.0
       c.in_ok-numbers-in-Ok.ensures,
-  shift_fits (shape_of_table c.args.t.now)
-      (table_of c.args.t.now) c.loop-row.row c.bound_number.result c.unit.result
+  shift_fits (g.L.LastTable.shape c.args.t.now)
+      (g.L.LastTable.table c.args.t.now) c.loop-row.row c.bound_number.result c.unit.result
       c.bound_number.ensures c.unit.ensures c.in-Ok.ensures.fits c.loop-row.invariant.1,
 )
 
 pub returns-in-Err-clause-wide : goal.returns-in-Err-clause-wide
 returns-in-Err-clause-wide g c = told c.too_wide.result _ _ c.too_wide.ensures
-    (shift_too_wide (shape_of_table c.args.t.now) (table_of c.args.t.now) c.loop-row.row c.bound_number.result
-    c.unit.result (omega (arith, c.loop-row-test.true, c.rows-row-end.ensures)) c.bound_number.ensures
+    (shift_too_wide (g.L.LastTable.shape c.args.t.now) (g.L.LastTable.table c.args.t.now) c.loop-row.row
+    c.bound_number.result c.unit.result
+    (omega (arith, c.loop-row-test.true, c.row_count-row-end.ensures)) c.bound_number.ensures
     c.unit.ensures
     c.in-Err.ensures.wide c.loop-row.invariant.1)

@@ -1,9 +1,8 @@
 use Rattle.std.proofs.Common.{◌≡◌}
 use Rattle.stack_algebra.specs.Listed.{listed}
-use Rattle.stack_table.specs.Seen.{shape_of_table, table_of}
 use Rattle.stack_amounts.specs.WrittenLists.{ray_number}
 use Rattle.stack_extract.proofs.numbers.ray_numbers.Given as goal
 
 abbrev pub invariant-loop-column : goal.invariant-loop-column
 invariant-loop-column g l = l.numbers.items ≡ listed l.column
-    (ray_number (shape_of_table l.t) (table_of l.t) l.entering)
+    (ray_number (g.L.LastTable.shape l.t) (g.L.LastTable.table l.t) l.entering)

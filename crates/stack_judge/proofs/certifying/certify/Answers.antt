@@ -1,18 +1,26 @@
-use Rattle.std.proofs.Common.{sym, subst, ◌≤◌}
-use Rattle.stack_certificate.specs.Certificate.{certificate_view}
-use Rattle.stack_simplex.specs.Ends.{ended_as}
-use Rattle.stack_judge.proofs.TrueAnswers.{judged}
+use Rattle.std.proofs.Common.{subst}
+use Rattle.stack_algebra.specs.Fraction.{Fraction}
+use Rattle.stack_duality.specs.WrittenRun.{End}
+use Rattle.stack_extract.proofs.EndedTables.{same_end, is_last, some_last, reads_ray}
+use Rattle.stack_judge.specs.Certifying.{GivesChecked}
 use Rattle.stack_judge.proofs.certifying.certify.Goals as goal
 
-pub unreachable-requires : goal.unreachable-requires
-unreachable-requires g c = c.in-Rejected.ensures.rejected tt
-    (c.certified_laws.ensures.certified c.requires.0 c.args.s.now (ended_as c.args.e.now)
-    (certificate_view c.in-Ok.certificate) c.proper.ensures c.requires.1.run
-    (c.in-Ok.ensures c.requires.0 c.requires.1).1).holds
+pub certify_at-requires-clause-end : goal.certify_at-requires-clause-end
+certify_at-requires-clause-end g c = some_last c.args.s.now c.args.e.now c.last_table.result.now c.last_table.ensures
+    c.kind_of.result c.kind_of.ensures c.requires
 
-pub returns-in-Accepted-clause-judged : goal.returns-in-Accepted-clause-judged
-returns-in-Accepted-clause-judged g c q h = judged c.certified_laws.ensures.certified q c.args.s.now
-    (ended_as c.args.e.now) (certificate_view c.in-Ok.certificate) c.proper.ensures
-    c.bearings-bearings.ensures.survey.few (subst (λ n. n ≤ 128) c.free_count-free.ensures.value
-    c.free_count-free.ensures.few) h.run (c.in-Ok.ensures q h).0 (c.in-Ok.ensures q h).1
-    (sym c.in-Accepted.ensures.written)
+pub certify_at-requires-clause-reads : goal.certify_at-requires-clause-reads
+certify_at-requires-clause-reads g c = reads_ray c.args.s.now c.args.e.now c.last_table.result.now c.last_table.ensures
+    c.kind_of.result c.kind_of.ensures c.run_laws.ensures.ends c.requires
+
+pub returns-clause-gives : goal.returns-clause-gives
+returns-clause-gives g c q h = subst (λ (x : End Fraction). GivesChecked c.certify_at.result q c.args.s.now x)
+    (same_end c.args.s.now c.args.e.now c.last_table.result.now c.last_table.ensures
+    c.kind_of.result c.kind_of.ensures)
+    (c.certify_at.ensures.gives q (is_last c.args.s.now c.args.e.now c.last_table.result.now c.last_table.ensures
+    c.kind_of.result c.kind_of.ensures q h))
+
+pub returns-clause-judged : goal.returns-clause-judged
+returns-clause-judged g c q h = c.certify_at.ensures.judged q
+    (is_last c.args.s.now c.args.e.now c.last_table.result.now c.last_table.ensures c.kind_of.result
+    c.kind_of.ensures q h)

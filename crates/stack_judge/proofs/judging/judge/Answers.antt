@@ -1,4 +1,6 @@
+use Rattle.stack_judge.proofs.Budgets.{suffices}
 use Rattle.stack_judge.proofs.judging.judge.Goals as goal
 
-pub returns-in-Err-clause-suffices : goal.returns-in-Err-clause-suffices
-returns-in-Err-clause-suffices c = λ b n e l is. c.in-Err.ensures.suffices b n e l is
+pub returns-clause-suffices : goal.returns-clause-suffices
+returns-clause-suffices c = λ b n e l is. suffices c.budget_law.ensures.enough c.columns_law.ensures c.args.q
+    c.args.s.now c.args.budget _ c.judge_by_run.ensures.judges b n e l is

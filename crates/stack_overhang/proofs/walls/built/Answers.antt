@@ -1,6 +1,7 @@
-use Rattle.std.proofs.Common.{◌≡◌, ℕ, ◌≤◌, pos, [], ◌∷◌, length, refl, ap, sym, ◌∙◌, subst, arith, w64, to_z}
+use Rattle.std.proofs.Common.{◌≡◌, ℕ, ◌≤◌, pos, [], ◌∷◌, map, length, refl, ap, sym, ◌∙◌, subst, arith, w64, to_z}
 use Rattle.std.proofs.lemmas.Int.{to_z_pos}
-use Rattle.stack_model.specs.Raw.{raw_parts}
+use Rattle.stack_model.specs.Raw.{raw_material, raw_block, raw_load}
+use Rattle.stack_model.specs.Content.{content_of}
 use Rattle.stack_model.specs.Relisted.{material_listed}
 use Rattle.stack_overhang.specs.Bricks.{bricks_of, brick_of}
 use Rattle.stack_overhang.specs.Built.{brick_material}
@@ -8,7 +9,7 @@ use Rattle.stack_overhang.specs.Wall.{courses_of, wall_structure}
 use Rattle.stack_overhang.specs.Limits.{are_rows}
 use Rattle.stack_algebra.proofs.Conjunctions.{both_true}
 use Rattle.stack_overhang.proofs.Laid.{wall_laid}
-use Rattle.stack_overhang.proofs.Made.{has_none, made, wall_taken}
+use Rattle.stack_overhang.proofs.Made.{has_none, made, wall_taken, first_of_version}
 use Rattle.stack_overhang.proofs.walls.built.Goals as goal
 
 pub bricks-requires : goal.bricks-requires
@@ -26,25 +27,24 @@ friction : (t : ℕ) → t ≤ 7 → material_listed (brick_material (to_z w64 t
     ≡ material_listed (brick_material (pos t) (pos 10)) ∷ []
 friction t h = ap (λ p. material_listed (brick_material p (pos 10)) ∷ []) (to_z_pos w64 t (omega (arith, h)))
 
-pub model-requires : goal.model-requires
-model-requires c = has_none _ (wall_structure c.args.w)
-    (wall_taken c.args.w c.deref-2.result.now _ c.brick.result (raw_parts (record {
-      materials = c.in_ok-materials.materials;
-      blocks = c.in_ok-blocks.blocks;
-      loads = c.in_ok-loads.loads;
-    })) c.requires (c.deref-2.ensures.value ∙ c.in_ok-bricks.ensures
+pub model-requires-clause-none : goal.model-requires-clause-none
+model-requires-clause-none c = has_none _ (wall_structure c.args.w)
+    (ap content_of c.first.ensures ∙ wall_taken c.args.w c.deref-2.result.now _ c.brick.result
+    (map raw_material c.in_ok-materials.materials.items) (map raw_block c.in_ok-blocks.blocks.items)
+    (map raw_load c.in_ok-loads.loads.items) c.requires (c.deref-2.ensures.value ∙ c.in_ok-bricks.ensures
     ∙ ap bricks_of (c.deref.ensures.value ∙ c.in_ok-rows.ensures)) refl
     (c.brick.ensures ∙ ap (λ r. brick_of r 0) c.course.ensures)
     (c.in_ok-materials.ensures ∙ friction c.args.w.tenths c.requires.most_tenths) c.in_ok-blocks.ensures
     c.in_ok-loads.ensures)
 
+pub model-requires-clause-version : goal.model-requires-clause-version
+model-requires-clause-version c = first_of_version _ _ _ _ c.first.ensures
+
 pub returns-clause-ok : goal.returns-clause-ok
 returns-clause-ok c = made c.model.result _ (wall_structure c.args.w)
-    (wall_taken c.args.w c.deref-2.result.now _ c.brick.result (raw_parts (record {
-      materials = c.in_ok-materials.materials;
-      blocks = c.in_ok-blocks.blocks;
-      loads = c.in_ok-loads.loads;
-    })) c.requires (c.deref-2.ensures.value ∙ c.in_ok-bricks.ensures
+    (ap content_of c.first.ensures ∙ wall_taken c.args.w c.deref-2.result.now _ c.brick.result
+    (map raw_material c.in_ok-materials.materials.items) (map raw_block c.in_ok-blocks.blocks.items)
+    (map raw_load c.in_ok-loads.loads.items) c.requires (c.deref-2.ensures.value ∙ c.in_ok-bricks.ensures
     ∙ ap bricks_of (c.deref.ensures.value ∙ c.in_ok-rows.ensures)) refl
     (c.brick.ensures ∙ ap (λ r. brick_of r 0) c.course.ensures)
     (c.in_ok-materials.ensures ∙ friction c.args.w.tenths c.requires.most_tenths) c.in_ok-blocks.ensures

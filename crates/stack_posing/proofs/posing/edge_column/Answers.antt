@@ -1,11 +1,16 @@
-use Rattle.std.proofs.Common.{◌<◌, subst}
-use Rattle.stack_equilibrium.specs.SurveyScene.{scene_of}
-use Rattle.stack_equations.specs.Edges.{edge_on}
-use Rattle.stack_posing.proofs.PosedParts.{next_block}
+use Rattle.stack_posing.proofs.TwoBodies.{until_first, until_second, until_end}
 use Rattle.stack_posing.proofs.posing.edge_column.Goals as goal
 
-pub loop-b-preserved : goal.loop-b-preserved
-loop-b-preserved c =
-    next_block c.args.s.now (edge_on (scene_of c.args.s.now) c.args.plus c.args.k) c.loop-b.b _ _ c.column.result
-    (subst (λ n. c.loop-b.b < n) c.free_count-b-end.ensures.value c.loop-b-test.true) c.column.ensures.value
-    c.column.ensures.size c.in_ok-entries.ensures c.loop-b.invariant
+pub with_body-requires-clause-before : goal.with_body-requires-clause-before
+with_body-requires-clause-before c = until_first c.args.s.now c.args.plus c.args.k c.bearing_at-bearing.result
+    c.bearing_at-bearing.ensures.value c.bearing_at-bearing.ensures.pair c.new.result.items c.new.ensures.items
+
+pub with_body-requires-2-clause-before : goal.with_body-requires-2-clause-before
+with_body-requires-2-clause-before c = until_second c.args.s.now c.args.plus c.args.k c.bearing_at-bearing.result
+    c.bearing_at-bearing.ensures.value c.bearing_at-bearing.ensures.pair c.in_ok-entries.entries.items
+    c.in_ok-entries.ensures
+
+pub returns : goal.returns
+returns c = until_end c.args.s.now c.args.plus c.args.k c.bearing_at-bearing.result
+    c.bearing_at-bearing.ensures.value c.bearing_at-bearing.ensures.pair c.in_ok-entries-2.entries.items
+    c.in_ok-entries-2.ensures

@@ -1,4 +1,4 @@
-use Rattle.std.proofs.Common.{refl, sym, ap, ◌∙◌, ℕ, add-one}
+use Rattle.std.proofs.Common.{refl, sym, ap, ◌∙◌, ℕ, ◌+◌, ◌*◌, add-one}
 use Rattle.std.proofs.lemmas.Result.{err_from_is_err_and}
 use Rattle.stack_algebra.specs.Fraction.{Fraction}
 use Rattle.stack_algebra.proofs.Fractions.{add, neg}
@@ -7,10 +7,10 @@ use Rattle.stack_algebra.proofs.Search.{only_if, first_found, first_more}
 use Rattle.stack_rational.specs.declared.exact.Op.TheVariants.{Difference}
 use Rattle.stack_rational.specs.TooWide.{fraction_fits, is_too_wide}
 use Rattle.stack_table.specs.declared.problem.BuildError.TheVariants.{Wide}
-use Rattle.stack_table.specs.Block.{cell_of}
+use Rattle.stack_table.specs.Block.{cell_of, item_value}
 use Rattle.stack_table.specs.WrittenTable.{less_all, partial_place}
 use Rattle.stack_rational.proofs.Fitting.{answer_fits, zero_fits}
-use Rattle.stack_table.proofs.BlockRows.{cell_read}
+use Rattle.stack_table.proofs.BlockRows.{cell_in}
 use Rattle.stack_table.proofs.building.less_column.Goals as goal
 
 pub loop-i-init : goal.loop-i-init
@@ -25,8 +25,7 @@ returns-in_err-sum-clause-wide g c =
     let a = c.args in
     let m = g.S.Exact.MAX in
     let f : ℕ → Fraction = λ i. cell_of g.S.Exact.exact a.width a.cells.now i a.column in
-    let x = cell_read g.S.Exact.exact a.width a.rows a.cells.now c.loop-i.i a.column c.index-cells-i.result
-    c.loop-i-test.true c.requires.room c.requires.column_in c.index-cells-i.is in
+    let x = cell_in g.S.Exact.exact a.width a.cells.now c.loop-i.i a.column c.requires.column_in in
     let p = err_from_is_err_and c.from_residual.result c.from_residual.ensures.1 in
     rw p.1 (first_found a.rows c.loop-i.i
     (partial_place ordered_fractions (is_too_wide m) (Wide a.rows a.column) f) _
@@ -39,13 +38,13 @@ loop-i-preserved g c =
     let e = g.S.Exact.exact in
     let m = g.S.Exact.MAX in
     let f : ℕ → Fraction = λ i. cell_of e a.width a.cells.now i a.column in
-    let x = cell_read g.S.Exact.exact a.width a.rows a.cells.now c.loop-i.i a.column c.index-cells-i.result
-    c.loop-i-test.true c.requires.room c.requires.column_in c.index-cells-i.is in
+    let x = cell_in g.S.Exact.exact a.width a.cells.now c.loop-i.i a.column c.requires.column_in in
     record {
       value = c.in_ok-sum.ensures.ok ∙ (λ z. add (c.loop-i.invariant.value z) (neg (sym x z)))
           ∙ sym (ap (λ n. less_all ordered_fractions n f) (add-one c.loop-i.i));
       fitting = ap (fraction_fits m) c.in_ok-sum.ensures.ok
-          ∙ answer_fits m Difference (e c.loop-i.sum) (e c.index-cells-i.result) c.loop-i.invariant.fitting
+          ∙ answer_fits m Difference (e c.loop-i.sum) (item_value e a.cells.now (c.loop-i.i * a.width + a.column))
+          c.loop-i.invariant.fitting
           c.in_ok-sum.ensures.fits;
       none = first_more c.loop-i.i (partial_place ordered_fractions (is_too_wide m) (Wide a.rows a.column) f)
           c.loop-i.invariant.none (ap (λ b. only_if b (Wide a.rows a.column))

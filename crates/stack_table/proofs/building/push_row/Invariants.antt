@@ -2,6 +2,7 @@ use Rattle.std.proofs.Common.{◌≡◌, None}
 use Rattle.stack_algebra.proofs.OrderedFractions.{ordered_fractions}
 use Rattle.stack_algebra.specs.Search.{first}
 use Rattle.stack_rational.specs.TooWide.{is_too_wide}
+use Rattle.stack_table.specs.Due.{AreDue}
 use Rattle.stack_table.specs.Block.{IsBlock, Grows}
 use Rattle.stack_table.specs.Lent.{problem_of}
 use Rattle.stack_table.specs.WrittenTable.{first_row, number_place}
@@ -12,5 +13,6 @@ invariant-loop-j g l = record {
   block : IsBlock g.S.Exact.MAX g.S.Exact.exact l.cells.items l.marks.items;
   grown : Grows g.S.Exact.exact l.fn.cells.items l.cells.items l.j
       (first_row ordered_fractions (problem_of l.p) l.i);
+  dues : AreDue (problem_of l.p) l.i l.dues;
   none : first l.j (number_place ordered_fractions (is_too_wide g.S.Exact.MAX) (problem_of l.p) l.i) ≡ None;
 }

@@ -1,8 +1,11 @@
-use Rattle.std.proofs.Common.{◌≡◌, refl, sym, ap, ◌∙◌, ◌+◌, ◌*◌, Option, Some, None, cond, length, arith}
+use Rattle.std.proofs.Common.{◌≡◌, refl, sym, ap, subst, ◌∙◌, suc, ◌+◌, ◌*◌, ◌<◌, get_or, Option, Some, None, cond}
+use Rattle.std.proofs.Common.{length, arith}
 use Rattle.std.specs.Prelude.{is_some}
 use Rattle.std.proofs.lemmas.List.{get_or_default, length_push}
 use Rattle.std.proofs.lemmas.Result.{err_from_is_err_and}
-use Rattle.std.proofs.Math.Nat.{add-mul}
+use Rattle.std.proofs.lemmas.List.{with_items_is}
+use Rattle.std.specs.Vec.{with_items}
+use Rattle.std.proofs.Math.Nat.{add-mul, suc-mul}
 use native.Mathlib.Decide.{ℕ_discrete}
 use lib.IntN.{pos}
 use Rattle.stack_algebra.proofs.OrderedFractions.{ordered_fractions}
@@ -15,6 +18,8 @@ use Rattle.stack_table.specs.Problem.{flipped}
 use Rattle.stack_table.specs.Lent.{factor_count, shape_of_problem, problem_of}
 use Rattle.stack_table.specs.WrittenTable.{first_row, row_place}
 use Rattle.stack_algebra.proofs.Search.{first_more}
+use Rattle.stack_table.specs.Due.{AreDue}
+use Rattle.stack_table.proofs.DueRows.{none_due}
 use Rattle.stack_table.proofs.Growing.{pushed_all, earlier_cells, next_cells}
 use Rattle.stack_table.proofs.RowByRow.{empty_block, flip_is, flips_are, tells_row, tells_objective, place_is, table_is}
 use Rattle.stack_table.proofs.AtWidest.{only_memory}
@@ -31,12 +36,19 @@ loop-i-init g c = record {
       c.in_ok-marks.marks.items c.in_ok-cells.ensures.items c.in_ok-marks.ensures.items;
   long = omega (arith, ap length c.in_ok-cells.ensures.items);
   cells = λ k j l. absurd (omega (arith, l));
+  listed_long = omega (arith, c.in_ok-listed.ensures.len, c.in_ok-listed.listed.ok.0, c.artificial-artificial.ensures);
+  dues = none_due (problem_of c.args.p.now) c.in_ok-listed.listed.items _
+      (c.in_ok-listed.ensures.items_if_clones_equal (λ y h. h));
   none = refl;
   basic_long = ap length c.in_ok-basic.ensures.items;
   basics = λ k l. absurd (omega (arith, l));
   flipped_long = ap length c.in_ok-flipped.ensures.items;
   flips_are = λ k l. absurd (omega (arith, l));
 }
+
+pub push_row-requires-clause-dues : goal.push_row-requires-clause-dues
+push_row-requires-clause-dues g c = subst (AreDue (problem_of c.args.p.now) c.loop-i.i)
+    (sym c.as_mut_slice.ensures.value) c.loop-i.invariant.dues
 
 pub returns-in_err-push_row-clause-wide : goal.returns-in_err-push_row-clause-wide
 returns-in_err-push_row-clause-wide g c =
@@ -64,6 +76,9 @@ loop-i-preserved g c =
     let old = c.loop-i.cells.items in
     let new = c.push_row.new.cells.items in
     let row = first_row ordered_fractions (problem_of P) i in
+    let items : (with_items c.loop-i.listed c.push_row.new.dues).items ≡ c.push_row.new.dues =
+    with_items_is c.loop-i.listed c.push_row.new.dues
+    (c.push_row.auto.dues ∙ ap length c.as_mut_slice.ensures.value ∙ sym c.loop-i.listed.ok.0) in
     record {
       block = c.in_ok-push_row.ensures.block;
       long = omega (arith, c.in_ok-push_row.ensures.grown.longer, v.long, add-mul i 1 w);
@@ -75,6 +90,8 @@ loop-i-preserved g c =
             (omega (arith, l, d))
             ∙ v.cells k j (omega (arith, l, d)) h
       ];
+      listed_long = ap length items ∙ c.push_row.auto.dues ∙ ap length c.as_mut_slice.ensures.value ∙ v.listed_long;
+      dues = λ j k l m. c.in_ok-push_row.ensures.dues j k (omega (arith, l)) (subst (λ ds. k < get_or ds j 0) items m);
       none = first_more i (row_place ordered_fractions (is_too_wide g.S.Exact.MAX) (problem_of P)) v.none
           c.in_ok-push_row.ensures.fits;
       basic_long = ap length c.in_ok-push.ensures.items ∙ length_push c.loop-i.basic.items _
@@ -120,6 +137,24 @@ returns-in_err-push_objective-clause-never_wide g c = λ ample.
     (λ i j l k. v.cells i j (omega (arith, l, end)) k) m
     (ap (λ n. first n (row_place ordered_fractions (is_too_wide m) (problem_of P))) (sym end) ∙ v.none)
     c.in_err-push_objective.field-0.0 c.in_err-push_objective.ensures.wide))
+
+pub invariant_of-result-clause-wide : goal.invariant_of-result-clause-wide
+invariant_of-result-clause-wide g c =
+    let P = c.args.p.now in
+    let contacts : c.len.result ≡ length P.contact.items = c.len.ensures ∙ P.contact.ok.0 in
+    let factors = ap (λ b. cond b 1 0) c.is_some.ensures ∙ factor_is P.factor in
+    omega (arith, c.loop-i.invariant.listed_long, contacts, factors)
+
+pub invariant_of-result-clause-whole : goal.invariant_of-result-clause-whole
+invariant_of-result-clause-whole g c =
+    let P = c.args.p.now in
+    let v = c.loop-i.invariant in
+    let w = width (shape_of_problem P) in
+    let end : c.loop-i.i ≡ P.rows = omega (arith, c.loop-i-test.false, c.loop-i.auto.i-end) in
+    let long = v.long ∙ ap (λ n. n * w) end in
+    let whole : length c.push_objective.new.cells.items ≡ suc P.rows * w =
+    omega (arith, c.in_ok-push_objective.ensures.grown.longer, long, suc-mul P.rows w) in
+    whole ∙ ap (λ n. suc P.rows * n) (sym v.listed_long)
 
 pub invariant_of-result-clause-basics_in : goal.invariant_of-result-clause-basics_in
 invariant_of-result-clause-basics_in g c = λ i l.

@@ -1,0 +1,51 @@
+//! The judgement by the revised simplex run.
+
+ghost use Rattle.std.specs.Prelude.{◌≡◌, ◌≢◌, IfOk, IfSome};
+ghost use Rattle.stack_certificate.specs.Certificate.{certificate_view};
+ghost use Rattle.stack_revised.specs.Ended.{kind_of_end};
+ghost use Rattle.stack_judge.specs.Judgement.{LacksLive, Judges};
+ghost use Rattle.stack_judge.specs.Judged.{IsJudged};
+
+use crate::certifying::certify_at;
+use crate::types::JudgeError;
+use stack_certificate::types::Certificate;
+use stack_contact::types::Survey;
+use stack_equilibrium::types::Question;
+use stack_extract::pose;
+use stack_last::EndKind;
+use stack_revised::{RevisedEnd, RevisedStop, run_revised};
+use std::alloc::Global;
+
+/// How a run ended.
+fn kind_of(end: &RevisedEnd) -> EndKind
+    ensures { result ≡ kind_of_end end.now }
+{
+    match end {
+        RevisedEnd::AtNarrow(last) => last.kind,
+        RevisedEnd::AtWide(last) => last.kind,
+    }
+}
+
+/// The judgement by the revised run; None where that doesn't settle it.
+pub fn judge_revised(
+    alloc: Global,
+    s: &Survey,
+    q: Question,
+    budget: u32,
+) -> Option<Result<Certificate, JudgeError>>
+    requires some { budget ≢ 0 }
+    requires live { ¬ (LacksLive q s.now) }
+    ensures judges { IfSome result (λ r. Judges r q s.now budget) }
+    ensures judged { IfSome result (λ r. IfOk r (λ c. IsJudged q s.now (certificate_view c))) }
+{
+    let problem = match pose(alloc, s, q) {
+        Ok(problem) => problem,
+        Err(_) => return Some(Err(JudgeError::Memory)),
+    };
+    match run_revised(alloc, &problem, budget) {
+        Ok(end) => Some(certify_at(alloc, s, kind_of(&end), &end)),
+        Err(RevisedStop::Spent) => Some(Err(JudgeError::Spent { budget })),
+        Err(RevisedStop::Memory) => Some(Err(JudgeError::Memory)),
+        Err(RevisedStop::Unsettled) => None,
+    }
+}

@@ -1,0 +1,14 @@
+//! What is asked of the last table of a run, whatever stores it: which columns are basic, the right sides, the
+//! multipliers, and the column of a ray.
+//!
+//! ```text
+//! let forces = forces_at(alloc, &survey, EndKind::Feasible, &last)?; // of any type that is a last table
+//! ```
+#![tactic(auto)]
+
+mod kind;
+mod last_table;
+mod widened;
+
+pub use kind::EndKind;
+pub use last_table::LastTable;

@@ -1,0 +1,16 @@
+//! The laws of models, each a clause of a function that does nothing.
+
+ghost use Rattle.stack_model.specs.JointLaws.{TermsInEitherOrder, JointsHaveTheirTerms};
+ghost use Rattle.stack_model.specs.Taken.{SoundIsTaken};
+
+/// The terms of two materials are the same in either order, and a model's joint has those of its two materials.
+pub fn joint_laws()
+    ensures order { TermsInEitherOrder }
+    ensures own { JointsHaveTheirTerms }
+{}
+
+/// What holds of a model's structure is enough: whatever has it is taken without a fault where it is listed, and is
+/// the same.
+pub fn taken_law()
+    ensures { SoundIsTaken }
+{}

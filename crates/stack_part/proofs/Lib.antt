@@ -1,0 +1,7 @@
+pub mod KeptItems
+pub mod PickedItems
+pub mod PartSurveys
+pub mod KeptSoFar
+pub mod KeptLists
+pub mod PartSound
+pub mod PartListed

@@ -1,0 +1,54 @@
+-- The part of a structure, and of its survey: the bodies that are kept, with their loads and their contacts.
+use Rattle.std.specs.Prelude.{ℕ, Bool, ◌&&◌, List}
+use Rattle.stack_model.specs.declared.types.Load.{Load}
+use Rattle.stack_model.specs.Structure.{Structure, structure_with}
+use Rattle.stack_contact.specs.declared.types.Bearing.{Bearing}
+use Rattle.stack_contact.specs.declared.types.Touch.{Touch}
+use Rattle.stack_contact.specs.Surveyed.{Surveyed, surveyed}
+use Rattle.stack_part.specs.Kept.{kept, kept_before, picked}
+
+-- a load on the same body among the kept ones
+abbrev pub load_among : (ℕ → Bool) → Load → Load
+load_among keeps l = record {
+  body = kept_before keeps l.body;
+  live = l.live;
+  at = l.at;
+  fx = l.fx;
+  fy = l.fy;
+}
+
+-- a bearing of the same bodies among the kept ones
+abbrev pub bearing_among : (ℕ → Bool) → Bearing → Bearing
+bearing_among keeps z = record {
+  first = kept_before keeps z.first;
+  second = kept_before keeps z.second;
+  at = z.at;
+  frame = z.frame;
+  cone = z.cone;
+}
+
+-- a touch of the same bodies among the kept ones
+abbrev pub touch_among : (ℕ → Bool) → Touch → Touch
+touch_among keeps z = record {
+  first = kept_before keeps z.first;
+  second = kept_before keeps z.second;
+  at = z.at;
+}
+
+-- the structure of the kept bodies, with the loads on them, all materials, all joints and the sway
+abbrev pub part_of : (ℕ → Bool) → Structure → Structure
+part_of keeps s = structure_with s.version s.sway s.materials s.joints (kept keeps s.bodies)
+    (picked (λ l. keeps l.body) (load_among keeps) s.loads)
+
+-- the bearings whose bodies are both kept
+abbrev pub bearings_among : (ℕ → Bool) → List Bearing → List Bearing
+bearings_among keeps zs = picked (λ z. keeps z.first && keeps z.second) (bearing_among keeps) zs
+
+-- the touches whose bodies are both kept
+abbrev pub touches_among : (ℕ → Bool) → List Touch → List Touch
+touches_among keeps zs = picked (λ z. keeps z.first && keeps z.second) (touch_among keeps) zs
+
+-- the same of a survey
+abbrev pub surveyed_part : (ℕ → Bool) → Surveyed → Surveyed
+surveyed_part keeps v =
+    surveyed (part_of keeps v.structure) (bearings_among keeps v.bearings) (touches_among keeps v.touches)

@@ -1,0 +1,28 @@
+//! The survey of a part of a structure.
+
+ghost use Rattle.std.specs.Prelude.{◌≡◌, length, IfOk};
+ghost use Rattle.stack_part.specs.Kept.{flag_at};
+ghost use Rattle.stack_part.specs.Part.{surveyed_part};
+
+use crate::models::part;
+use stack_contact::laws::one_survey;
+use stack_contact::survey;
+use stack_contact::types::{Survey, SurveyError};
+use std::alloc::{AllocError, Global};
+
+/// The survey of the bodies that are kept, as `part` has them: its bearings and its touches are those of the whole
+/// whose bodies are both kept, in their order. `keeps` says of each body whether it is kept.
+pub fn survey_part(alloc: Global, s: &Survey, keeps: &[bool]) -> Result<Survey, AllocError>
+    requires { length keeps.now ≡ length s.now.structure.bodies }
+    ensures { IfOk result (λ p. p ≡ surveyed_part (flag_at keeps.now) s.now) }
+{
+    one_survey();
+    let _survey = s.bearings();
+    let model = part(alloc, s.model(), keeps)?;
+    match survey(alloc, model) {
+        Ok(other) => Ok(other),
+        Err(SurveyError::Memory) => Err(AllocError),
+        Err(SurveyError::Overlap { .. }) => unreachable!(),
+        Err(SurveyError::TooManyBearings { .. }) => unreachable!(),
+    }
+}

@@ -1,0 +1,8 @@
+mod Between
+mod Turned
+mod ReversedScenes
+mod Exact
+mod ReversedLoads
+mod Sides
+mod Printable
+mod AsJudgement

@@ -1,0 +1,29 @@
+-- The laws of the range of factors.
+use Rattle.std.specs.Prelude.{◌≡◌, ◌↔◌, ℤ, pos, neg_ℤ, ◌*ℤ◌}
+use Rattle.stack_algebra.specs.IntegerOrder.{◌≼◌, ◌≺◌}
+use Rattle.stack_contact.specs.Surveyed.{Surveyed}
+use Rattle.stack_equilibrium.specs.Scene.{Scene, IsProper}
+use Rattle.stack_equilibrium.specs.Balance.{Carries}
+use Rattle.stack_equilibrium.specs.SurveyScene.{scene_of}
+use Rattle.stack_equilibrium.specs.Truth.{IsTrueCertificate}
+use Rattle.stack_range.specs.Reversed.{reversed_scene, reversed_survey}
+use Rattle.stack_range.specs.CarriedFactors.{CarriesAt, EndValue, end_certificate, AreCarriedBetween}
+
+-- N over E lies between L over D and L' over D', which are carried: it is carried
+abbrev pub WhatLiesBetweenIsCarried : Type 0
+WhatLiesBetweenIsCarried = (s : Scene) (L D L' D' N E : ℤ) → IsProper s → pos 0 ≺ D → pos 0 ≺ D' → pos 0 ≺ E →
+    L *ℤ E ≼ N *ℤ D → N *ℤ D' ≼ L' *ℤ E → Carries s L D → Carries s L' D' → Carries s N E
+
+-- the scene of a reversed survey is the reversed scene
+abbrev pub ReversedScenesAreTheirs : Type 0
+ReversedScenesAreTheirs = (v : Surveyed) → scene_of (reversed_survey v) ≡ reversed_scene (scene_of v)
+
+-- a factor is carried exactly where the reversed structure carries the one of the other sign
+abbrev pub ReversalTurnsFactors : Type 0
+ReversalTurnsFactors = (v : Surveyed) (n D : ℤ) → CarriesAt v n D ↔ CarriesAt (reversed_survey v) (neg_ℤ n) D
+
+-- true certificates of both sides tell exactly which factors are carried
+abbrev pub RangesAreExact : Type 0
+RangesAreExact = (v : Surveyed) (low high : EndValue) → IsProper (scene_of v) →
+    IsTrueCertificate v (end_certificate high) → IsTrueCertificate (reversed_survey v) (end_certificate low) →
+    AreCarriedBetween v low high

@@ -1,0 +1,39 @@
+-- The values of a list that is written item by item.
+use Rattle.std.proofs.Common.{◌≡◌, ◌≢◌, sym, ap, subst, ◌∙◌, ℕ, suc, ◌<◌, ◌≤◌, List, map, length, get_or, set, arith}
+use Rattle.std.proofs.Common.{get_or-set_same, get_or-set_other}
+use Rattle.std.proofs.lemmas.List.{map-set, get_or-map, length-map, get_or_past}
+use native.Mathlib.Decide.{ℕ_discrete}
+
+module _ {V C : Type 0} (e : V → C) (z : C) where
+  -- past the end
+  pub at-past : (xs : List V) (j : ℕ) → length xs ≤ j → get_or (map e xs) j z ≡ z
+  at-past xs j l = get_or_past (map e xs) j z (omega (arith, length-map xs e))
+
+  -- an item that is read
+  pub at-index : (xs : List V) (j : ℕ) (x : V) → j < length xs → x ≡ get_or xs j x → get_or (map e xs) j z ≡ e x
+  at-index xs j x l h = get_or-map e xs j x z l ∙ ap e (sym h)
+
+  -- an item that is written
+  pub at-set_same : (xs : List V) (j : ℕ) (x : V) → j < length xs → get_or (map e (set xs j x)) j z ≡ e x
+  at-set_same xs j x l = ap (λ ys. get_or ys j z) (map-set e xs j x)
+      ∙ get_or-set_same (map e xs) j (e x) z (omega (arith, length-map xs e))
+
+  -- and the others
+  pub at-set_other : (xs : List V) (j k : ℕ) (x : V) → k ≢ j → get_or (map e (set xs j x)) k z ≡ get_or (map e xs) k z
+  at-set_other xs j k x d = ap (λ ys. get_or ys k z) (map-set e xs j x) ∙ get_or-set_other (map e xs) j k (e x) z d
+
+-- a loop over all items that has come to item j: P holds of those that are written, the others are as they were
+module _ {C : Type 0} (P : ℕ → C → Type 0) (old now next : ℕ → C) (j : ℕ)
+    (done : (i : ℕ) → i < j → P i (now i)) (rest : (i : ℕ) → j ≤ i → now i ≡ old i) (here : P j (next j))
+    (other : (i : ℕ) → i ≢ j → next i ≡ now i) where
+  -- P holds of one item more
+  pub done_more : (i : ℕ) → i < suc j → P i (next i)
+  done_more i l = go (ℕ_discrete i j)
+    where
+      go : Dec (i ≡ j) → P i (next i)
+      go (yes d) = subst (λ k. P k (next k)) (sym d) here
+      go (no d) = subst (P i) (sym (other i d)) (done i (omega (arith, l, d)))
+
+  -- and one less is as it was
+  pub rest_less : (i : ℕ) → suc j ≤ i → next i ≡ old i
+  rest_less i l = other i (λ d. omega (arith, l, d)) ∙ rest i (omega (arith, l))

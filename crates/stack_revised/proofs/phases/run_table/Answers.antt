@@ -1,0 +1,79 @@
+use Rattle.std.proofs.Common.{sym, ap, subst, ◌∙◌, cond, Ok, Err}
+use Rattle.stack_algebra.proofs.OrderedFractions.{ordered_fractions}
+use Rattle.stack_rational.specs.TooWide.{is_too_wide}
+use Rattle.stack_table.specs.Table.{plain, clear_objective, set_factor_objective}
+use Rattle.stack_duality.specs.WrittenRun.{spent, settled, unlimited, drives, turns}
+use Rattle.stack_revised.specs.declared.stops.Stop.{Stop}
+use Rattle.stack_revised.specs.declared.stops.PhaseEnd.{PhaseEnd}
+use Rattle.stack_revised.specs.Seen.{shape_of_revised, table_of_revised}
+use Rattle.stack_revised.specs.Tells.{TellsPivots, TellsPhase}
+use Rattle.stack_revised.proofs.PhaseTurns.{second_spends, third_is}
+use Rattle.stack_revised.proofs.phases.run_table.Goals as goal
+
+pub returns-in-Err-Spent-second_phase-clause-value : goal.returns-in-Err-Spent-second_phase-clause-value
+returns-in-Err-Spent-second_phase-clause-value g c =
+    let m = g.T.Whole.MAX in
+    let s = c.args.t.now in
+    let t = c.first_phase.new.t in
+    second_spends m (shape_of_revised s) (shape_of_revised t) (table_of_revised s)
+    (table_of_revised t) c.args.budget c.in-Ok.pivots
+    c.in-Ok.ensures.shape c.in-Ok.ensures.answer (sym c.falls_short.ensures ∙ c.if-falls_short.false)
+    (c.has_factor.ensures ∙ ap (λ b. cond b 1 0) c.if-not-has_factor.false)
+    (subst (λ (x : Stop). TellsPivots (table_of_revised c.second_phase.new.t) (Err x) (drives ordered_fractions
+    (shape_of_revised t) (is_too_wide m) (shape_of_revised t).rows c.in-Ok.pivots.left c.in-Ok.pivots.done
+    (clear_objective ordered_fractions (shape_of_revised t) (table_of_revised t))))
+    c.in-Err-Spent-second_phase.field-0-is c.in-Err-Spent-second_phase.ensures.answer)
+
+pub returns-in-Ok-Settled-clause-value : goal.returns-in-Ok-Settled-clause-value
+returns-in-Ok-Settled-clause-value g c =
+    let m = g.T.Whole.MAX in
+    let s = c.args.t.now in
+    let t = c.first_phase.new.t in
+    let u = c.second_phase.new.t in
+    let k = c.in-Ok-second_phase.pivots in
+    third_is m (shape_of_revised s) (shape_of_revised t) (table_of_revised s)
+    (table_of_revised t) c.args.budget c.in-Ok.pivots
+    c.in-Ok.ensures.shape c.in-Ok.ensures.answer (sym c.falls_short.ensures ∙ c.if-falls_short.false)
+    (c.has_factor.ensures ∙ ap (λ b. cond b 1 0) c.if-not-has_factor.false)
+    (shape_of_revised u) (table_of_revised u) k c.in-Ok-second_phase.ensures.shape c.in-Ok-second_phase.ensures.answer
+    (settled c.in-Ok-Settled.field-0-0.left c.in-Ok-Settled.field-0-0.done (table_of_revised c.third_phase.new.t))
+    (subst (λ (x : PhaseEnd). TellsPhase (table_of_revised c.third_phase.new.t) (Ok x) (turns ordered_fractions
+    (shape_of_revised u) (is_too_wide m) 3 (plain (shape_of_revised u)) k.left k.done
+    (set_factor_objective ordered_fractions (shape_of_revised u) (table_of_revised u))))
+    c.in-Ok-Settled.field-0-is c.in-Ok-Settled.ensures.answer)
+
+pub returns-in-Ok-Unlimited-clause-value : goal.returns-in-Ok-Unlimited-clause-value
+returns-in-Ok-Unlimited-clause-value g c =
+    let m = g.T.Whole.MAX in
+    let s = c.args.t.now in
+    let t = c.first_phase.new.t in
+    let u = c.second_phase.new.t in
+    let k = c.in-Ok-second_phase.pivots in
+    third_is m (shape_of_revised s) (shape_of_revised t) (table_of_revised s)
+    (table_of_revised t) c.args.budget c.in-Ok.pivots
+    c.in-Ok.ensures.shape c.in-Ok.ensures.answer (sym c.falls_short.ensures ∙ c.if-falls_short.false)
+    (c.has_factor.ensures ∙ ap (λ b. cond b 1 0) c.if-not-has_factor.false)
+    (shape_of_revised u) (table_of_revised u) k c.in-Ok-second_phase.ensures.shape c.in-Ok-second_phase.ensures.answer
+    (unlimited (table_of_revised c.third_phase.new.t) c.in-Ok-Unlimited.column)
+    (subst (λ (x : PhaseEnd). TellsPhase (table_of_revised c.third_phase.new.t) (Ok x) (turns ordered_fractions
+    (shape_of_revised u) (is_too_wide m) 3 (plain (shape_of_revised u)) k.left k.done
+    (set_factor_objective ordered_fractions (shape_of_revised u) (table_of_revised u))))
+    c.in-Ok-Unlimited.field-0-is c.in-Ok-Unlimited.ensures.answer)
+
+pub returns-in-Err-Spent-third_phase-clause-value : goal.returns-in-Err-Spent-third_phase-clause-value
+returns-in-Err-Spent-third_phase-clause-value g c =
+    let m = g.T.Whole.MAX in
+    let s = c.args.t.now in
+    let t = c.first_phase.new.t in
+    let u = c.second_phase.new.t in
+    let k = c.in-Ok-second_phase.pivots in
+    third_is m (shape_of_revised s) (shape_of_revised t) (table_of_revised s)
+    (table_of_revised t) c.args.budget c.in-Ok.pivots
+    c.in-Ok.ensures.shape c.in-Ok.ensures.answer (sym c.falls_short.ensures ∙ c.if-falls_short.false)
+    (c.has_factor.ensures ∙ ap (λ b. cond b 1 0) c.if-not-has_factor.false)
+    (shape_of_revised u) (table_of_revised u) k c.in-Ok-second_phase.ensures.shape c.in-Ok-second_phase.ensures.answer
+    spent
+    (subst (λ (x : Stop). TellsPhase (table_of_revised c.third_phase.new.t) (Err x) (turns ordered_fractions
+    (shape_of_revised u) (is_too_wide m) 3 (plain (shape_of_revised u)) k.left k.done
+    (set_factor_objective ordered_fractions (shape_of_revised u) (table_of_revised u))))
+    c.in-Err-Spent-third_phase.field-0-is c.in-Err-Spent-third_phase.ensures.answer)

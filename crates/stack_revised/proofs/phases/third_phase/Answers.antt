@@ -1,0 +1,16 @@
+use Rattle.std.proofs.Common.{ap, subst, ◌∙◌}
+use Rattle.stack_algebra.proofs.OrderedFractions.{ordered_fractions}
+use Rattle.stack_rational.specs.TooWide.{is_too_wide}
+use Rattle.stack_table.specs.Table.{plain}
+use Rattle.stack_duality.specs.WrittenRun.{turns}
+use Rattle.stack_revised.specs.Seen.{table_of_revised}
+use Rattle.stack_revised.specs.Tells.{TellsPhase}
+use Rattle.stack_revised.proofs.phases.third_phase.Goals as goal
+
+pub returns-clause-answer : goal.returns-clause-answer
+returns-clause-answer g c =
+    let t = c.in-Some.ensures in
+    let among = c.plain-among.ensures ∙ ap plain t.shape in
+    subst (λ X. TellsPhase (table_of_revised c.run_phase.new.t) c.run_phase.result X)
+    (λ i. turns ordered_fractions (t.shape i) (is_too_wide g.T.Whole.MAX) 3 (among i)
+    c.args.pivots.left c.args.pivots.done (t.ok i)) c.run_phase.ensures.answer

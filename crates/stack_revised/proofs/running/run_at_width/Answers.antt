@@ -1,0 +1,52 @@
+use Rattle.std.proofs.Common.{◌≡◌, sym, ap, subst, ◌∙◌, ℕ, ◌<◌, List, length, get_or, false, Err}
+use lib.IntN.{ℤ}
+use Rattle.stack_algebra.proofs.OrderedFractions.{ordered_fractions}
+use Rattle.stack_rational.specs.TooWide.{is_too_wide}
+use Rattle.stack_table.specs.Problem.{flipped}
+use Rattle.stack_table.specs.Lent.{problem_of}
+use Rattle.stack_table.proofs.RowByRow.{flips_are}
+use Rattle.stack_duality.specs.WrittenRun.{written_run}
+use Rattle.stack_duality.specs.Laws.{run_at}
+use Rattle.stack_revised.specs.declared.stops.Stop.{Stop}
+use Rattle.stack_revised.specs.declared.last.Last.{Last}
+use Rattle.stack_revised.specs.Seen.{shape_of_revised, table_of_revised}
+use Rattle.stack_last.specs.Ends.{end_at}
+use Rattle.stack_revised.specs.Tells.{TellsRun}
+use Rattle.stack_revised.specs.FirstTable.{flips}
+use Rattle.stack_revised.specs.Ended.{flips_of_last, value_of_last}
+use Rattle.stack_revised.proofs.EndedRuns.{run_is, tells_last, if_ok}
+use Rattle.stack_revised.proofs.running.run_at_width.Goals as goal
+
+pub returns-in-Err-Spent-clause-value : goal.returns-in-Err-Spent-clause-value
+returns-in-Err-Spent-clause-value g c =
+    let t = c.in-Ok-of_problem.table in
+    subst (λ (x : Stop). TellsRun (table_of_revised c.run_table.new.t) (Err x) (written_run ordered_fractions
+    (shape_of_revised t) (is_too_wide g.T.Whole.MAX) c.args.budget (table_of_revised t)))
+    c.in-Err-Spent.field-0-is c.in-Err-Spent.ensures.value
+    ∙ run_is g.T.Whole.MAX (problem_of c.args.p.now) c.args.budget (shape_of_revised t) (table_of_revised t)
+    c.in-Ok-of_problem.ensures.shape c.in-Ok-of_problem.ensures.ok
+
+pub returns-clause-flips : goal.returns-clause-flips
+returns-clause-flips g c =
+    let P = c.args.p.now in
+    let fs = c.in-Ok.flipped.items in
+    let each : (i : ℕ) → i < P.rows → get_or fs i false ≡ flipped (problem_of P) i =
+    λ i l. c.in-Ok.ensures.each i (subst (λ n. i < n) (sym (ap length c.as_slice.ensures.value
+    ∙ c.requires.right_long)) l)
+    ∙ ap (λ (r : List ℤ). flips r i) c.as_slice.ensures.value in
+    if_ok c.last_of.result (λ l. l.flipped.items ≡ fs) (λ l. flips_of_last l ≡ flipped (problem_of P))
+    (λ l h. (λ z i. get_or (h z) i false) ∙ (λ z i. flips_are P c.requires fs
+    (c.in-Ok.ensures.long ∙ ap length c.as_slice.ensures.value ∙ c.requires.right_long) each i z))
+    c.last_of.ensures.flips
+
+pub returns-clause-value : goal.returns-clause-value
+returns-clause-value g c =
+    let t = c.in-Ok-of_problem.table in
+    let X = run_at g.T.Whole.MAX (problem_of c.args.p.now) c.args.budget in
+    tells_last c.last_of.result X (if_ok c.last_of.result
+    (λ (l : Last g.row.T.Denot g.T.Whole). value_of_last l
+    ≡ end_at c.in-Ok-run_table.kind (table_of_revised c.run_table.new.t))
+    (λ (l : Last g.row.T.Denot g.T.Whole). value_of_last l ≡ X)
+    (λ l h. h ∙ c.in-Ok-run_table.ensures.value ∙ run_is g.T.Whole.MAX (problem_of c.args.p.now) c.args.budget
+    (shape_of_revised t) (table_of_revised t) c.in-Ok-of_problem.ensures.shape c.in-Ok-of_problem.ensures.ok)
+    c.last_of.ensures.value) c.last_of.ensures.unsettled

@@ -1,0 +1,72 @@
+-- What the answer of a run of a problem says: how it ends, with its last table.
+use Rattle.std.specs.Prelude.{◌≡◌, ℕ, Bool, false, eqb, get_or, ⊤, Result, Ok, Err}
+use Rattle.stack_algebra.specs.Fraction.{Fraction}
+use Rattle.stack_table.specs.Table.{Shape, Tabled}
+use Rattle.stack_duality.specs.WrittenRun.{End, over}
+use Rattle.stack_revised.specs.declared.whole.Whole.{Ghosts}
+use Rattle.stack_last.specs.declared.kind.EndKind.{EndKind}
+use Rattle.stack_last.specs.declared.kind.EndKind.TheVariants.{Infeasible, Feasible, Optimal, Ray}
+use Rattle.stack_revised.specs.declared.stops.RevisedStop.{RevisedStop}
+use Rattle.stack_revised.specs.declared.stops.RevisedStop.TheVariants.{Spent, Unsettled, Memory}
+use Rattle.stack_revised.specs.declared.last.Last.{Last}
+use Rattle.stack_revised.specs.declared.ended.RevisedEnd.{RevisedEnd}
+use Rattle.stack_revised.specs.declared.ended.RevisedEnd.TheVariants.{AtNarrow, AtWide}
+use Rattle.stack_revised.specs.Seen.{shape_of_revised, table_of_revised}
+use Rattle.stack_last.specs.Ends.{end_at}
+
+-- the last table's shape
+abbrev pub shape_of_last : {V : Type 0} {number : Ghosts V} → Last V number → Shape
+shape_of_last l = shape_of_revised l.table
+
+-- whether a row was flipped
+abbrev pub flips_of_last : {V : Type 0} {number : Ghosts V} → Last V number → ℕ → Bool
+flips_of_last l i = get_or l.flipped.items i false
+
+-- the value of the written run that it tells
+abbrev pub value_of_last : {V : Type 0} {number : Ghosts V} → Last V number → End Fraction
+value_of_last l = end_at l.kind (table_of_revised l.table)
+
+-- a ray's column can be read
+abbrev pub reads_column : EndKind → ℕ → Bool
+reads_column Infeasible j = false
+reads_column Feasible j = false
+reads_column Optimal j = false
+reads_column (Ray c) j = eqb j c
+
+-- an end at either width: how it ends, its shape, its last table, whether a row was flipped, and the value that it
+-- tells
+abbrev pub kind_of_end : RevisedEnd → EndKind
+kind_of_end (AtNarrow l) = l.kind
+kind_of_end (AtWide l) = l.kind
+
+abbrev pub shape_of_end : RevisedEnd → Shape
+shape_of_end (AtNarrow l) = shape_of_last l
+shape_of_end (AtWide l) = shape_of_last l
+
+abbrev pub table_of_end : RevisedEnd → Tabled Fraction
+table_of_end (AtNarrow l) = table_of_revised l.table
+table_of_end (AtWide l) = table_of_revised l.table
+
+abbrev pub flips_of_end : RevisedEnd → ℕ → Bool
+flips_of_end (AtNarrow l) = flips_of_last l
+flips_of_end (AtWide l) = flips_of_last l
+
+abbrev pub value_of_end : RevisedEnd → End Fraction
+value_of_end (AtNarrow l) = value_of_last l
+value_of_end (AtWide l) = value_of_last l
+
+-- what a refusal says of the written run: a spent budget that it is over, the others nothing
+abbrev pub tells_stop : RevisedStop → End Fraction → Type 0
+tells_stop Spent X = over ≡ X
+tells_stop Unsettled X = ⊤
+tells_stop Memory X = ⊤
+
+-- what the answer of a run at one width says of the written run there
+abbrev pub TellsLast : {V : Type 0} {number : Ghosts V} → Result (Last V number) RevisedStop → End Fraction → Type 0
+TellsLast (Ok l) X = value_of_last l ≡ X
+TellsLast (Err e) X = tells_stop e X
+
+-- what the answer of a run says of the written run: an end is its end with its last table
+abbrev pub Tells : Result RevisedEnd RevisedStop → End Fraction → Type 0
+Tells (Ok x) X = value_of_end x ≡ X
+Tells (Err e) X = tells_stop e X

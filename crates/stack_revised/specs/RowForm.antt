@@ -1,0 +1,108 @@
+-- A row as whole numbers over one positive denominator, which needn't be the least.
+use Rattle.std.specs.Prelude.{◌≡◌, ℕ, ◌+◌, ◌*◌, ◌<◌, ◌≤◌, cond, ltb, List, map, get_or, ℤ, pos, ◌*ℤ◌}
+use Rattle.std.specs.Prelude.{◌-ℤ◌, ◌<ℤ◌, None}
+use Rattle.std.specs.Prelude.{unsigned_abs, take, drop, ◌-◌, Bool, true, false}
+use Rattle.stack_algebra.specs.Fraction.{Fraction}
+use Rattle.stack_algebra.proofs.OrderedFractions.{ordered_fractions}
+use Rattle.stack_rational.specs.TooWide.{fraction_fits, is_too_wide}
+use Rattle.stack_algebra.specs.Rows.{next}
+use Rattle.stack_table.specs.Spots.{reduced, reduce_item, cells_spot}
+
+-- the value of item k, z past the last item; and in row i and column j of rows of one width
+abbrev pub at_value : {V C : Type 0} → (V → C) → C → List V → ℕ → C
+at_value e z xs k = get_or (map e xs) k z
+
+abbrev pub cell_at : {V C : Type 0} → (V → C) → C → (width : ℕ) → List V → ℕ → ℕ → C
+cell_at e z width xs i j = cond (ltb j width) (at_value e z xs (i * width + j)) z
+
+-- item k of a list, 0 past its end
+abbrev pub number_at : {V : Type 0} → (V → ℤ) → List V → ℕ → ℤ
+number_at value xs k = at_value value (pos 0) xs k
+
+-- the denominator of row i, 1 past the last row
+abbrev pub under_at : {V : Type 0} → (V → ℤ) → List V → ℕ → ℤ
+under_at value xs i = at_value value (pos 1) xs i
+
+-- all denominators are positive
+abbrev pub ArePositive : {V : Type 0} → (V → ℤ) → List V → Type 0
+ArePositive value ds = (i : ℕ) → pos 0 <ℤ under_at value ds i
+
+-- a number times k less t times the pivot row's, with neither product too wide for m
+pub record IsTerm (m k t old pivot new : ℤ) : Type 0 where
+  pub number : new ≡ old *ℤ k -ℤ t *ℤ pivot
+  pub left : unsigned_abs (old *ℤ k) ≤ unsigned_abs m
+  pub right : unsigned_abs (t *ℤ pivot) ≤ unsigned_abs m
+
+-- numbers less a multiple of the pivot row, each times a factor, with no term that is too wide for m
+pub record IsCombined {V : Type 0} (m : ℤ) (value : V → ℤ) (old pivot : List V) (k t : ℤ) (new : List V) : Type 0 where
+  pub number : (j : ℕ) → number_at value new j ≡ number_at value old j *ℤ k -ℤ t *ℤ number_at value pivot j
+  pub left : (j : ℕ) → unsigned_abs (number_at value old j *ℤ k) ≤ unsigned_abs m
+  pub right : (j : ℕ) → unsigned_abs (t *ℤ number_at value pivot j) ≤ unsigned_abs m
+
+-- the same row over another denominator
+pub record IsSameRow {V : Type 0} (value : V → ℤ) (old : List V) (d : ℤ) (new : List V) (e : ℤ) : Type 0 where
+  pub positive : pos 0 <ℤ e
+  pub cross : (j : ℕ) → number_at value new j *ℤ d ≡ number_at value old j *ℤ e
+
+-- a row step: the row times k less t times the pivot row, over another denominator; f is the row's number in the
+-- pivot's
+-- column, and b and p are bounds of the two rows
+pub record IsStepped {V : Type 0} (m : ℤ) (value : V → ℤ) (old : List V) (d : ℤ) (pivot : List V) (e f b p : ℤ)
+    (new : List V) (after : ℤ) : Type 0 where
+  pub k : ℤ
+  pub t : ℤ
+  pub some : pos 0 <ℤ k
+  pub cross : f *ℤ k ≡ t *ℤ e
+  pub fits : unsigned_abs b * unsigned_abs k + unsigned_abs t * unsigned_abs p ≤ unsigned_abs m
+  pub under : unsigned_abs (d *ℤ k) ≤ unsigned_abs m
+  pub positive : pos 0 <ℤ after
+  pub number : (r : ℕ) → number_at value new r *ℤ (d *ℤ k)
+      ≡ (number_at value old r *ℤ k -ℤ t *ℤ number_at value pivot r) *ℤ after
+
+-- no number is greater than b in size
+abbrev pub AreWithin : (ℕ → ℤ) → ℤ → Type 0
+AreWithin f b = (j : ℕ) → unsigned_abs (f j) ≤ unsigned_abs b
+
+-- a bound of all numbers of a row over d, by that of the columns and that of own cells
+pub record IsBound {V : Type 0} (value : V → ℤ) (m : ℕ) (row : List V) (d most greatest b : ℤ) : Type 0 where
+  pub top : ℕ
+  pub each : (r : ℕ) → r < m → unsigned_abs (number_at value row r) ≤ top
+  pub right : unsigned_abs (number_at value row m) ≤ unsigned_abs b
+  pub sum : top * unsigned_abs most + unsigned_abs d * unsigned_abs greatest ≤ unsigned_abs b
+
+-- in a row that is marked no cell is too wide for m
+abbrev pub AreMarked : ℤ → (ℕ → ℕ → Fraction) → List Bool → Type 0
+AreMarked m cell marks = (i : ℕ) → get_or marks i false ≡ true → (j : ℕ) → fraction_fits m (cell i j) ≡ true
+
+-- row i is reduced by the row g, and the others stay
+pub record IsRowReduced (m : ℤ) (old : ℕ → ℕ → Fraction) (g : ℕ → Fraction) (i column : ℕ) (new : ℕ → ℕ → Fraction)
+    : Type 0 where
+  pub own : (j : ℕ) → new i j ≡ reduced ordered_fractions (old i) g (old i column) j
+  pub other : (k j : ℕ) → (k ≡ i → ⊥) → new k j ≡ old k j
+  pub none : (row j : ℕ) → reduce_item ordered_fractions (is_too_wide m) (old i) g (old i column) row j ≡ None
+
+-- row i of a block is another row, and the others stay
+pub record IsPlaced {V : Type 0} (value : V → ℤ) (width : ℕ) (ns ds : List V) (row : List V) (d : ℤ) (i : ℕ)
+    (ns' ds' : List V) : Type 0 where
+  pub positive : ArePositive value ds'
+  pub own : (j : ℕ) → cell_at value (pos 0) width ns' i j ≡ number_at value row j
+  pub own_under : under_at value ds' i ≡ d
+  pub other : (k j : ℕ) → (k ≡ i → ⊥) → cell_at value (pos 0) width ns' k j ≡ cell_at value (pos 0) width ns k j
+  pub other_under : (k : ℕ) → (k ≡ i → ⊥) → under_at value ds' k ≡ under_at value ds k
+
+-- the cells after a pivot, in which nothing written is too wide for m
+pub record IsPivotedCells (m : ℤ) (height width : ℕ) (old : ℕ → ℕ → Fraction) (row column : ℕ)
+    (new : ℕ → ℕ → Fraction) : Type 0 where
+  pub cell : (i j : ℕ) → new i j ≡ next ordered_fractions old row column i j
+  pub none : cells_spot ordered_fractions (is_too_wide m) height width old row column ≡ None
+
+-- row i of a block is reduced by a row step, and put back
+pub record IsRowStepped {V : Type 0} (m : ℤ) (value : V → ℤ) (width : ℕ) (ns ds : List V) (pivot : List V)
+    (e f b p : ℤ) (i : ℕ)
+    (ns' ds' : List V) : Type 0 where
+  pub row : List V
+  pub after : ℤ
+  pub stepped : IsStepped m value (take (i * width + width - i * width) (drop (i * width) ns))
+      (under_at value ds i) pivot e
+      f b p row after
+  pub placed : IsPlaced value width ns ds row after i ns' ds'

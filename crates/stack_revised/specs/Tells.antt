@@ -1,0 +1,68 @@
+-- What the answers of phases and runs over rows tell of the written run at a width. `Unsettled` tells nothing.
+use Rattle.std.specs.Prelude.{◌≡◌, ℕ, suc, ◌<◌, ℤ, ⊤, Option, None, Result, Ok, Err}
+use Rattle.stack_algebra.specs.Fraction.{Fraction}
+use Rattle.stack_algebra.proofs.OrderedFractions.{ordered_fractions}
+use Rattle.stack_rational.specs.TooWide.{is_too_wide}
+use Rattle.stack_table.specs.declared.types.PivotWide.{PivotWide}
+use Rattle.stack_table.specs.Table.{Shape, Tabled}
+use Rattle.stack_duality.specs.WrittenRun.{PhaseStop, settled, unlimited, spent, turns, End, over}
+use Rattle.stack_revised.specs.declared.pivots.Pivots.{Pivots}
+use Rattle.stack_revised.specs.declared.stops.Stop.{Stop}
+use Rattle.stack_revised.specs.declared.stops.Stop.TheVariants.{Spent, Unsettled}
+use Rattle.stack_revised.specs.declared.stops.PhaseEnd.{PhaseEnd}
+use Rattle.stack_revised.specs.declared.stops.PhaseEnd.TheVariants.{Settled, Unlimited}
+use Rattle.stack_revised.specs.declared.stops.Turn.{Turn}
+use Rattle.stack_revised.specs.declared.stops.Turn.TheVariants.{Stops, GoesOn}
+use Rattle.stack_last.specs.declared.kind.EndKind.{EndKind}
+use Rattle.stack_last.specs.Ends.{end_at}
+
+-- a pivot that is nowhere too wide: one more is done, one less is left
+pub record IsPivoted (before after : Pivots) (spot : Option PivotWide) : Type 0 where
+  pub done : after.done ≡ suc before.done
+  pub left : before.left ≡ suc after.left
+  pub is_nowhere_too_wide : spot ≡ None
+
+-- what the answer of a pivot that is due says
+abbrev pub TellsPivot : Result Pivots Stop → Pivots → Option PivotWide → Type 0
+TellsPivot (Ok k) before spot = IsPivoted before k spot
+TellsPivot (Err Spent) before spot = before.left ≡ 0
+TellsPivot (Err Unsettled) before spot = ⊤
+
+-- a phase of the written run at a greatest value, from a table and the pivots done and left
+abbrev pub phase_from : ℤ → Shape → (phase among : ℕ) → Pivots → Tabled Fraction → PhaseStop Fraction
+phase_from max S phase among k T = turns ordered_fractions S (is_too_wide max) phase among k.left k.done T
+
+-- what an end of a phase says, with the table that is left
+abbrev pub stop_of : Tabled Fraction → PhaseEnd → PhaseStop Fraction
+stop_of T (Settled k) = settled k.left k.done T
+stop_of T (Unlimited c) = unlimited T c
+
+-- what the answer of a phase says of it
+abbrev pub TellsPhase : Tabled Fraction → Result PhaseEnd Stop → PhaseStop Fraction → Type 0
+TellsPhase T (Ok x) X = stop_of T x ≡ X
+TellsPhase T (Err Spent) X = spent ≡ X
+TellsPhase T (Err Unsettled) X = ⊤
+
+-- and that of a turn: the phase stops, or what is left of it is to be done
+abbrev pub TellsTurn : ℤ → Shape → (phase among : ℕ) → Tabled Fraction → Result Turn Stop → PhaseStop Fraction → Type 0
+TellsTurn max S phase among T (Ok (Stops x)) X = stop_of T x ≡ X
+TellsTurn max S phase among T (Ok (GoesOn k)) X = phase_from max S phase among k T ≡ X
+TellsTurn max S phase among T (Err Spent) X = spent ≡ X
+TellsTurn max S phase among T (Err Unsettled) X = ⊤
+
+-- a turn that goes on leaves fewer pivots
+abbrev pub HasFewer : Pivots → Turn → Type 0
+HasFewer before (Stops x) = ⊤
+HasFewer before (GoesOn k) = k.left < before.left
+
+-- and that of phases 1 and 2
+abbrev pub TellsPivots : Tabled Fraction → Result Pivots Stop → PhaseStop Fraction → Type 0
+TellsPivots T (Ok k) X = settled k.left k.done T ≡ X
+TellsPivots T (Err Spent) X = spent ≡ X
+TellsPivots T (Err Unsettled) X = ⊤
+
+-- what the answer of a run says of the written run
+abbrev pub TellsRun : Tabled Fraction → Result EndKind Stop → End Fraction → Type 0
+TellsRun T (Ok x) X = end_at x T ≡ X
+TellsRun T (Err Spent) X = over ≡ X
+TellsRun T (Err Unsettled) X = ⊤

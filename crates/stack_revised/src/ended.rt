@@ -1,0 +1,12 @@
+//! The end of a run at either width.
+
+use crate::last::Last;
+use crate::narrow::Narrow;
+use crate::wide::Wide;
+
+/// How a run ends, and its last table, in numbers of 64 bits or of 128.
+#[derive(Drop)]
+pub enum RevisedEnd {
+    AtNarrow(Last<Narrow>),
+    AtWide(Last<Wide>),
+}

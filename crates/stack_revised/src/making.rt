@@ -1,0 +1,88 @@
+//! Numbers of the plain columns, made from those of the artificial ones, and their bound.
+
+ghost use Rattle.std.specs.Prelude.{◌≡◌, ℕ, suc, ◌+◌, ◌*◌, ◌<◌, ◌≤◌, ◌+ℤ◌, ◌*ℤ◌, length, unsigned_abs, IfSome};
+ghost use Rattle.stack_algebra.specs.Sums.{sum_of};
+ghost use Rattle.stack_revised.specs.RowForm.{number_at, IsBound};
+ghost use Rattle.stack_revised.specs.Columns.{revised_own, revised_number};
+
+use crate::columns::Cell;
+use crate::first::First;
+use crate::whole::Whole;
+
+/// A number and the products of a row with the numbers of a column.
+fn sum_over<T: Whole>(cells: &[Cell<T>], numbers: &[T], start: T) -> Option<T>
+    ensures { IfSome result (λ r. T.value r ≡ T.value start
+        +ℤ sum_of (λ x. number_at T.value numbers.now x.row *ℤ T.value x.value) cells.now) }
+{
+    let mut sum = start;
+    for cell in cells {
+        if cell.row >= numbers.len() {
+            return None;
+        }
+        let product = numbers[cell.row].times(cell.value)?;
+        let next = sum.plus(product)?;
+        sum = next;
+    }
+    Some(sum)
+}
+
+/// The own number of a row: the objective row's, and 0 in the others.
+fn own_of<T: Whole>(rows: usize, own: &[T], i: usize, j: usize) -> T
+    requires { j < length own.now }
+    ensures { T.value result ≡ revised_own T.value rows own.now i j }
+{
+    if i == rows { own[j] } else { T::zero() }
+}
+
+/// The number in a row and a plain column, over the denominator of the row. None where a number doesn't fit.
+pub fn number_of<T: Whole>(
+    first: &First<T>,
+    own: &[T],
+    numbers: &[T],
+    unders: &[T],
+    i: usize,
+    j: usize,
+) -> Option<T>
+    requires room { i * suc first.now.rows + suc first.now.rows ≤ length numbers.now }
+    requires row_in { i < length unders.now }
+    requires column_in { j < length first.now.columns.items }
+    requires own_in { j < length own.now }
+    ensures { IfSome result (λ r. T.value r ≡ revised_number T.value first.now.rows first.now.columns.items own.now
+        numbers.now unders.now i j) }
+{
+    let width = first.rows + 1;
+    let from = i * width;
+    let own_cell = own_of(first.rows, own, i, j);
+    let start = unders[i].times(own_cell)?;
+    let number = sum_over(
+        first.columns[j].cells.as_slice(),
+        &numbers[from..from + width],
+        start,
+    )?;
+    Some(number)
+}
+
+/// The greatest in size of the first numbers.
+pub fn widest_of<T: Whole>(numbers: &[T], count: usize) -> T
+    requires { count ≤ length numbers.now }
+    ensures { (k : ℕ) → k < count → unsigned_abs (number_at T.value numbers.now k) ≤ unsigned_abs (T.value result) }
+{
+    let mut most = T::zero();
+    for k in 0..count {
+        most = most.wider(numbers[k]);
+    }
+    most
+}
+
+/// A bound of all numbers of a row over this denominator. None where it doesn't fit.
+pub fn bound<T: Whole>(first: &First<T>, numbers: &[T], under: T, greatest: T) -> Option<T>
+    requires { length numbers.now ≡ suc first.now.rows }
+    ensures { IfSome result (λ b. IsBound T.value first.now.rows numbers.now (T.value under) (T.value first.now.most)
+        (T.value greatest) (T.value b)) }
+{
+    let most = widest_of(numbers, first.rows);
+    let combined = most.times(first.most)?;
+    let own = under.times(greatest)?;
+    let both = combined.sizes(own)?;
+    Some(both.wider(numbers[first.rows]))
+}

@@ -1,0 +1,161 @@
+//! The run of a problem: at 64 bits, and where that isn't settled at 128.
+
+ghost use Rattle.std.specs.Prelude.{◌≡◌, ◌≢◌, ℕ, ◌<◌, false, length, get_or, IfOk, IfErr};
+ghost use Rattle.stack_rational.specs.Laws.{widest};
+ghost use Rattle.stack_table.specs.Problem.{flipped};
+ghost use Rattle.stack_table.specs.Table.{plain};
+ghost use Rattle.stack_table.specs.Lent.{IsProblem, shape_of_problem, problem_of};
+ghost use Rattle.stack_duality.specs.Laws.{run_at};
+ghost use Rattle.stack_revised.specs.RowForm.{number_at};
+ghost use Rattle.stack_revised.specs.Seen.{shape_of_revised, table_of_revised, number_in};
+ghost use Rattle.stack_revised.specs.FirstTable.{flips};
+ghost use Rattle.stack_revised.specs.Ended.{shape_of_last, flips_of_last, value_of_last, shape_of_end, flips_of_end};
+ghost use Rattle.stack_revised.specs.Ended.{TellsLast, Tells};
+ghost use Rattle.stack_last.specs.Ends.{end_at};
+ghost use Rattle.stack_last.specs.declared.kind.EndKind.TheVariants as end_kind;
+ghost use Rattle.stack_revised.specs.declared.stops.RevisedStop.TheVariants as revised_stop;
+
+use crate::ended::RevisedEnd;
+use crate::last::Last;
+use crate::narrow::Narrow;
+use crate::phases::run_table;
+use crate::revised_table::RevisedTable;
+use crate::stops::{RevisedStop, Stop};
+use crate::whole::Whole;
+use crate::wide::Wide;
+use stack_duality::wider_run_law;
+use stack_last::EndKind;
+use stack_table::problem::Problem;
+use std::alloc::Global;
+
+/// Whether each row is flipped.
+fn flips(alloc: Global, right: &[i128]) -> Result<Vec<bool>, RevisedStop>
+    ensures long { IfOk result (λ f. length f.items ≡ length right.now) }
+    ensures each { IfOk result (λ f. (i : ℕ) → i < length right.now → get_or f.items i false ≡ flips right.now i) }
+{
+    let mut flipped = Vec::with_capacity(alloc, right.len())?;
+    for i in 0..right.len() {
+        flipped.push(right[i] < 0)?;
+    }
+    Ok(flipped)
+}
+
+/// The numbers of a column, row by row. Unsettled where one doesn't fit.
+fn column_of<T: Whole>(
+    alloc: Global,
+    t: &RevisedTable<T>,
+    column: usize,
+) -> Result<Vec<T>, RevisedStop>
+    requires { column < plain (shape_of_revised t.now) }
+    ensures long { IfOk result (λ c. length c.items ≡ (shape_of_revised t.now).rows) }
+    ensures each { IfOk result (λ c. (i : ℕ) → i < (shape_of_revised t.now).rows →
+        number_at T.value c.items i ≡ number_in t.now i column) }
+{
+    let mut numbers = Vec::with_capacity(alloc, t.rows())?;
+    for i in 0..t.rows() {
+        let number = match t.number(i, column) {
+            Some(number) => number,
+            None => return Err(RevisedStop::Unsettled),
+        };
+        numbers.push(number)?;
+    }
+    Ok(numbers)
+}
+
+/// The numbers of a ray's column; nothing at another end.
+fn read_column<T: Whole>(
+    alloc: Global,
+    t: &RevisedTable<T>,
+    kind: EndKind,
+) -> Result<Vec<T>, RevisedStop>
+    ensures long { IfOk result (λ n. (c : ℕ) → kind ≡ end_kind.Ray c →
+        length n.items ≡ (shape_of_revised t.now).rows) }
+    ensures each { IfOk result (λ n. (c : ℕ) → kind ≡ end_kind.Ray c → (i : ℕ) → i < (shape_of_revised t.now).rows →
+        number_at T.value n.items i ≡ number_in t.now i c) }
+{
+    match kind {
+        EndKind::Ray { column } => {
+            // It is a plain column of the table, always.
+            if t.plain() <= column {
+                return Err(RevisedStop::Unsettled);
+            }
+            column_of(alloc, t, column)
+        }
+        EndKind::Infeasible => Ok(Vec::new(alloc)),
+        EndKind::Feasible => Ok(Vec::new(alloc)),
+        EndKind::Optimal => Ok(Vec::new(alloc)),
+    }
+}
+
+/// The end of a run with its last table.
+fn last_of<T: Whole>(
+    alloc: Global,
+    table: RevisedTable<T>,
+    kind: EndKind,
+    flipped: Vec<bool>,
+) -> Result<Last<T>, RevisedStop>
+    requires { length flipped.items ≡ (shape_of_revised table).rows }
+    ensures shape { IfOk result (λ l. shape_of_last l ≡ shape_of_revised table) }
+    ensures flips { IfOk result (λ l. l.flipped.items ≡ flipped.items) }
+    ensures value { IfOk result (λ l. value_of_last l ≡ end_at kind (table_of_revised table)) }
+    ensures unsettled { IfErr result (λ e. e ≢ revised_stop.Spent) }
+{
+    match read_column(alloc, &table, kind) {
+        Ok(column) => Ok(Last {
+            kind,
+            table,
+            flipped,
+            column,
+        }),
+        Err(RevisedStop::Memory) => Err(RevisedStop::Memory),
+        Err(_) => Err(RevisedStop::Unsettled),
+    }
+}
+
+/// The run at one width.
+fn run_at_width<T: Whole>(alloc: Global, p: &Problem, budget: u32) -> Result<Last<T>, RevisedStop>
+    requires { IsProblem p.now }
+    ensures shape { IfOk result (λ l. shape_of_last l ≡ shape_of_problem p.now) }
+    ensures flips { IfOk result (λ l. flips_of_last l ≡ flipped (problem_of p.now)) }
+    ensures value { TellsLast result (run_at T.MAX (problem_of p.now) budget) }
+{
+    let flipped = match flips(alloc, p.right.as_slice()) {
+        Ok(flipped) => flipped,
+        Err(_) => return Err(RevisedStop::Memory),
+    };
+    let mut table = match RevisedTable::<T>::of_problem(alloc, p) {
+        Ok(table) => table,
+        Err(RevisedStop::Memory) => return Err(RevisedStop::Memory),
+        Err(_) => return Err(RevisedStop::Unsettled),
+    };
+    let kind = match run_table(&mut table, budget) {
+        Ok(kind) => kind,
+        Err(Stop::Spent) => return Err(RevisedStop::Spent),
+        Err(Stop::Unsettled) => return Err(RevisedStop::Unsettled),
+    };
+    last_of(alloc, table, kind, flipped)
+}
+
+/// The run of a problem within a budget of pivots: its end is that of the written run at 128 bits, with its last table.
+///
+/// Spent exactly where the written run is over its budget. Unsettled where a number that this run makes doesn't fit:
+/// that tells nothing of the written run, and nor does want of memory.
+pub fn run_revised(alloc: Global, p: &Problem, budget: u32) -> Result<RevisedEnd, RevisedStop>
+    requires problem { IsProblem p.now }
+    requires some { budget ≢ 0 }
+    ensures shape { IfOk result (λ e. shape_of_end e ≡ shape_of_problem p.now) }
+    ensures flips { IfOk result (λ e. flips_of_end e ≡ flipped (problem_of p.now)) }
+    ensures value { Tells result (run_at widest (problem_of p.now) budget) }
+{
+    wider_run_law();
+    match run_at_width::<Narrow>(alloc, p, budget) {
+        Ok(last) => return Ok(RevisedEnd::AtNarrow(last)),
+        Err(RevisedStop::Spent) => return Err(RevisedStop::Spent),
+        Err(RevisedStop::Memory) => return Err(RevisedStop::Memory),
+        Err(RevisedStop::Unsettled) => {}
+    }
+    match run_at_width::<Wide>(alloc, p, budget) {
+        Ok(last) => Ok(RevisedEnd::AtWide(last)),
+        Err(stop) => Err(stop),
+    }
+}

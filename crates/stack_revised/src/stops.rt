@@ -1,0 +1,60 @@
+//! How phases and runs over rows stop.
+
+use crate::pivots::Pivots;
+use std::alloc::{AllocError, AllocFailed};
+
+/// Why a run over rows has no end.
+#[derive(Clone, Copy, Debug, PartialEq, Eq, Drop)]
+pub enum Stop {
+    /// A pivot is due, and the budget's pivots are done.
+    Spent,
+    /// A number that the rows make doesn't fit. It tells nothing of the written run.
+    Unsettled,
+}
+
+/// Why a run of a problem has no end.
+#[derive(Clone, Copy, Debug, PartialEq, Eq, Drop)]
+pub enum RevisedStop {
+    /// A pivot is due, and the budget's pivots are done.
+    Spent,
+    /// A number that the run makes doesn't fit. It tells nothing of the written run.
+    Unsettled,
+    Memory,
+}
+
+impl From<AllocError> for RevisedStop {
+    ghost use Rattle.std.specs.Prelude.{◌≡◌};
+    ghost use Rattle.stack_revised.specs.declared.stops.RevisedStop.TheVariants as revised_stop;
+
+    ghost from_gives = { λ _ e. e ≡ revised_stop.Memory };
+
+    fn from(_e: AllocError) -> RevisedStop {
+        RevisedStop::Memory
+    }
+}
+
+impl<T: Drop> From<AllocFailed<T>> for RevisedStop {
+    ghost use Rattle.std.specs.Prelude.{◌≡◌};
+    ghost use Rattle.stack_revised.specs.declared.stops.RevisedStop.TheVariants as revised_stop;
+
+    ghost from_gives = { λ _ e. e ≡ revised_stop.Memory };
+
+    fn from(_e: AllocFailed<T>) -> RevisedStop {
+        RevisedStop::Memory
+    }
+}
+
+/// How a phase stops where nothing is refused.
+pub enum PhaseEnd {
+    /// No column enters.
+    Settled(Pivots),
+    /// The column enters, and no row leaves.
+    Unlimited(usize),
+}
+
+/// What a turn does where nothing is refused.
+pub enum Turn {
+    Stops(PhaseEnd),
+    /// A pivot is done.
+    GoesOn(Pivots),
+}

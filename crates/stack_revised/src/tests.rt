@@ -1,0 +1,188 @@
+//! Runs worked by hand, beside the run of their tables.
+
+use crate::ended::RevisedEnd;
+use crate::{RevisedStop, run_revised};
+use stack_last::EndKind;
+use stack_rational::Frac;
+use stack_simplex::{Ended, RunError, run};
+use stack_table::Table;
+use stack_table::problem::{Column, Entry, Problem};
+use std::alloc::{AllocError, Global};
+use std::test::Fail;
+
+/// A column by its numbers, row by row.
+fn column(alloc: Global, numbers: &[i128]) -> Result<Column, AllocError> {
+    let mut entries: Vec<Entry> = Vec::new(alloc);
+    for row in 0..numbers.len() {
+        if numbers[row] != 0 {
+            let entry = Entry {
+                row,
+                value: numbers[row],
+            };
+            entries.push(entry)?;
+        }
+    }
+    Ok(Column { entries })
+}
+
+/// A problem by its contact columns, its factor column and its right sides.
+fn problem(
+    alloc: Global,
+    contact: &[[i128; 4]],
+    factor: Option<Column>,
+    right: &[i128],
+) -> Result<Problem, AllocError> {
+    let mut columns: Vec<Column> = Vec::new(alloc);
+    for k in 0..contact.len() {
+        columns.push(column(alloc, &contact[k])?)?;
+    }
+    let mut list: Vec<i128> = Vec::new(alloc);
+    for k in 0..right.len() {
+        list.push(right[k])?;
+    }
+    Ok(Problem {
+        rows: right.len(),
+        contact: columns,
+        factor,
+        right: list,
+    })
+}
+
+/// What a run tells, without its table.
+#[derive(Clone, Copy, Debug, PartialEq, Eq)]
+enum Outcome {
+    Infeasible,
+    Feasible,
+    Optimal,
+    Ray(usize),
+    Spent,
+    Unsettled,
+    Nothing,
+}
+
+fn kind_of(kind: EndKind) -> Outcome {
+    match kind {
+        EndKind::Infeasible => Outcome::Infeasible,
+        EndKind::Feasible => Outcome::Feasible,
+        EndKind::Optimal => Outcome::Optimal,
+        EndKind::Ray { column } => Outcome::Ray(column),
+    }
+}
+
+/// What the run by the artificial columns tells of a sound problem.
+fn told(alloc: Global, p: &Problem, budget: u32) -> Outcome {
+    if budget == 0 {
+        return Outcome::Nothing;
+    }
+    if !p.is_sound() {
+        return Outcome::Nothing;
+    }
+    match run_revised(alloc, p, budget) {
+        Ok(RevisedEnd::AtNarrow(last)) => kind_of(last.kind),
+        Ok(RevisedEnd::AtWide(last)) => kind_of(last.kind),
+        Err(RevisedStop::Spent) => Outcome::Spent,
+        Err(RevisedStop::Unsettled) => Outcome::Unsettled,
+        Err(RevisedStop::Memory) => Outcome::Nothing,
+    }
+}
+
+/// What the run of its table tells.
+fn told_by_table(alloc: Global, p: &Problem, budget: u32) -> Outcome {
+    if budget == 0 {
+        return Outcome::Nothing;
+    }
+    if !p.is_sound() {
+        return Outcome::Nothing;
+    }
+    let table = match Table::<Frac<i128>>::build(alloc, p) {
+        Ok(table) => table,
+        Err(_) => return Outcome::Nothing,
+    };
+    match run(table, budget) {
+        Ok(Ended::Infeasible(_)) => Outcome::Infeasible,
+        Ok(Ended::Feasible(_)) => Outcome::Feasible,
+        Ok(Ended::Optimal(_)) => Outcome::Optimal,
+        Ok(Ended::Ray { column, .. }) => Outcome::Ray(column),
+        Err(RunError::Spent) => Outcome::Spent,
+        Err(RunError::TooWide(_)) => Outcome::Unsettled,
+    }
+}
+
+/// Both tell this.
+fn both(alloc: Global, p: &Problem, budget: u32, outcome: Outcome) -> bool {
+    told(alloc, p, budget) == outcome && told_by_table(alloc, p, budget) == outcome
+}
+
+/// A post 2 wide and 4 high. A push of one unit at its upper left corner is borne up to the factor 2.
+#[test]
+fn a_post_stands_after_four_pivots_and_is_pushed_for_five(rt: HostRuntime) -> Result<(), Fail> {
+    let alloc = rt.alloc();
+    let contact = [[1, 1, 0, 0], [-1, 1, 0, 0], [1, 1, 2, 0], [-1, 1, 2, 0]];
+    let post = problem(alloc, &contact, None, &[0, 48, 48])?;
+    assert!(rt; both(alloc, &post, 3, Outcome::Spent));
+    assert!(rt; both(alloc, &post, 4, Outcome::Feasible));
+    let push = column(alloc, &[6, 0, -24])?;
+    let pushed = problem(alloc, &contact, Some(push), &[0, 48, 48])?;
+    assert!(rt; both(alloc, &pushed, 4, Outcome::Spent));
+    assert!(rt; both(alloc, &pushed, 5, Outcome::Optimal));
+    Ok(())
+}
+
+/// A right side that no column makes, a factor that no row limits, a row that phase 2 leaves as it is, no rows.
+#[test]
+fn the_other_ends_are_told(rt: HostRuntime) -> Result<(), Fail> {
+    let alloc = rt.alloc();
+    let pulled = problem(alloc, &[[-1, 0, 0, 0]], None, &[1])?;
+    assert!(rt; both(alloc, &pulled, 1, Outcome::Infeasible));
+    let push = column(alloc, &[-1])?;
+    let pressed = problem(alloc, &[[1, 0, 0, 0]], Some(push), &[1])?;
+    assert!(rt; both(alloc, &pressed, 1, Outcome::Ray(1)));
+    let nothing = column(alloc, &[])?;
+    let doubled = problem(alloc, &[[1, 1, 0, 0]], Some(nothing), &[1, 1])?;
+    assert!(rt; both(alloc, &doubled, 1, Outcome::Ray(1)));
+    let empty = problem(alloc, &[], None, &[])?;
+    assert!(rt; both(alloc, &empty, 1, Outcome::Feasible));
+    Ok(())
+}
+
+/// The example of Beale (1955), its rows in whole numbers, with its objective as the factor; one row is flipped.
+#[test]
+fn beales_example_ends(rt: HostRuntime) -> Result<(), Fail> {
+    let alloc = rt.alloc();
+    let contact = [
+        [100, 0, 0, 0],
+        [0, 100, 0, 0],
+        [0, 0, -1, 0],
+        [25, 50, 0, -75],
+        [-6000, -9000, 0, 15000],
+        [-4, -2, -1, -2],
+        [900, 300, 0, 600],
+    ];
+    let factor = column(alloc, &[0, 0, 0, 100])?;
+    let example = problem(alloc, &contact, Some(factor), &[0, 0, -1, 0])?;
+    assert!(rt; both(alloc, &example, 9, Outcome::Spent));
+    assert!(rt; both(alloc, &example, 10, Outcome::Optimal));
+    Ok(())
+}
+
+/// Entries that don't fit 64 bits, of which the sum is needed, and of which the products don't fit 128.
+#[test]
+fn wide_entries_are_taken_at_128_bits(rt: HostRuntime) -> Result<(), Fail> {
+    let alloc = rt.alloc();
+    let large = 1 << 80;
+    let wide = problem(
+        alloc,
+        &[[large, 0, 0, 0], [0, large, 0, 0]],
+        None,
+        &[large, large],
+    )?;
+    assert!(rt; both(alloc, &wide, 2, Outcome::Feasible));
+    let apart = problem(
+        alloc,
+        &[[large, large - 1, 0, 0], [large - 1, large, 0, 0]],
+        None,
+        &[1, 1],
+    )?;
+    assert!(rt; told(alloc, &apart, 9) == Outcome::Unsettled);
+    Ok(())
+}

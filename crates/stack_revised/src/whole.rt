@@ -1,0 +1,79 @@
+//! Whole numbers of one width, whose operations answer nothing where a number doesn't fit.
+
+use std::cmp::Ordering;
+
+/// A whole number of at most the greatest size.
+///
+/// Only what is answered is exact: none tells nothing, and a divisor is any number.
+pub trait Whole: Copy {
+    ghost use Rattle.std.specs.Prelude.{◌≡◌, ℤ, pos, ◌*ℤ◌, ◌-ℤ◌, ◌+ℤ◌, ◌+◌, ◌≤◌, ◌<ℤ◌, neg_ℤ, unsigned_abs, IfSome};
+    ghost use Rattle.std.specs.Prelude.{true};
+    ghost use Rattle.stack_rational.specs.TooWide.{IsWidth};
+    ghost use Rattle.stack_rational.specs.Order.{is_zero_whole};
+    ghost use Rattle.stack_algebra.specs.Ordered.{sign_of};
+    ghost use Rattle.stack_bland.specs.Choice.{is_plus, is_negative_sign};
+    ghost use Rattle.stack_bland.specs.BySign.{by_sign};
+
+    // The value.
+    ghost value: { Self → ℤ };
+
+    // The greatest size.
+    ghost MAX: { ℤ };
+
+    fn zero() -> Self
+        ensures { value result ≡ pos 0 };
+
+    fn from_wide(n: i128) -> Option<Self>
+        ensures { IfSome result (λ r. value r ≡ n) };
+
+    fn wide(self) -> i128
+        ensures { result ≡ value self };
+
+    fn times(self, other: Self) -> Option<Self>
+        ensures { IfSome result (λ r. value r ≡ value self *ℤ value other) };
+
+    fn less(self, other: Self) -> Option<Self>
+        ensures { IfSome result (λ r. value r ≡ value self -ℤ value other) };
+
+    fn plus(self, other: Self) -> Option<Self>
+        ensures { IfSome result (λ r. value r ≡ value self +ℤ value other) };
+
+    /// Whichever is the greater in size.
+    fn wider(self, other: Self) -> Self
+        ensures own { unsigned_abs (value self) ≤ unsigned_abs (value result) }
+        ensures other { unsigned_abs (value other) ≤ unsigned_abs (value result) };
+
+    /// A number at least as great as the sum of both sizes.
+    fn sizes(self, other: Self) -> Option<Self>
+        ensures { IfSome result (λ r.
+            unsigned_abs (value self) + unsigned_abs (value other) ≤ unsigned_abs (value r)) };
+
+    /// A number that should divide both.
+    fn divisor(self, other: Self) -> Self;
+
+    /// The quotient, where it is whole.
+    fn divided(self, other: Self) -> Option<Self>
+        ensures { IfSome result (λ r. value r *ℤ value other ≡ value self) };
+
+    /// The order of two ratios to positive numbers. None where their cross products can't be compared.
+    fn order(self, under: Self, other: Self, other_under: Self) -> Option<Ordering>
+        ensures { IfSome result (λ o. o
+            ≡ by_sign (sign_of (value self *ℤ value other_under -ℤ value other *ℤ value under))) };
+
+    fn is_zero(self) -> bool
+        ensures { result ≡ is_zero_whole (value self) };
+
+    fn is_one(self) -> bool;
+
+    fn is_positive(self) -> bool
+        ensures sign { result ≡ is_plus (sign_of (value self)) }
+        ensures above { result ≡ true → pos 0 <ℤ value self };
+
+    fn is_negative(self) -> bool
+        ensures { result ≡ is_negative_sign (sign_of (value self)) };
+
+    // The greatest size lies between 1 and that of 128 bits, and each number fits.
+    ghost max_law: { IsWidth MAX };
+
+    ghost fits_law: { (x : Self) → unsigned_abs (value x) ≤ unsigned_abs MAX };
+}

@@ -1,0 +1,47 @@
+-- True certificates of stages settle which stages are carried.
+use Rattle.std.proofs.Common.{refl, sym, subst, ℕ, suc, ◌<◌, List, [], length, take, ◌≡◌}
+use lib.IntN.{pos}
+use Rattle.std.specs.Prelude.{get_or}
+use Rattle.std.proofs.lemmas.Option.{slice_get-get_or}
+use Rattle.stack_model.specs.Sound.{IsSound}
+use Rattle.stack_contact.specs.Surveyed.{Surveyed, IsSurvey}
+use Rattle.stack_certificate.specs.Certificate.{ForcesValue}
+use Rattle.stack_equilibrium.specs.Scene.{IsProper}
+use Rattle.stack_equilibrium.specs.Held.{forces_of, moves_of}
+use Rattle.stack_equilibrium.specs.SurveyScene.{scene_of}
+use Rattle.stack_equilibrium.proofs.BearingSizes.{survey_proper}
+use Rattle.stack_equilibrium.proofs.CertificateLaws.{stands_is_carried, collapse_excludes_balance}
+use Rattle.stack_part.specs.Part.{surveyed_part}
+use Rattle.stack_part.proofs.PartSound.{part_sound}
+use Rattle.stack_part.proofs.PartSurveys.{part_surveyed}
+use Rattle.stack_stages.specs.Stage.{is_built, surveyed_stage}
+use Rattle.stack_stages.specs.Staged.{Staged, all_stand, falls, too_wide_at, spent_at, AreStanding, AreTrue, AreCarried}
+use Rattle.stack_stages.specs.Staged.{AreSettled}
+
+module _ (v : Surveyed) (sound : IsSound v.structure) (survey : IsSurvey v.structure v) (order : List ℕ) where
+  -- the scene of a stage is that of a sound structure and its survey
+  stage_proper : (k : ℕ) → IsProper (scene_of (surveyed_stage v order k))
+  stage_proper k =
+      let keeps = is_built v.structure (take k order) in
+      survey_proper (surveyed_part keeps v) (part_sound keeps v.structure sound)
+      (part_surveyed keeps v.structure v survey)
+
+  -- stages that stand by forces are carried
+  carried : (fs : List ForcesValue) (n : ℕ) → AreStanding v order fs → length fs ≡ n → AreCarried v order n
+  carried fs n h e k l =
+      let none : ForcesValue = record { scale = pos 0; factor = pos 0; parts = [] } in
+      let f = get_or fs k none in
+      stands_is_carried (scene_of (surveyed_stage v order (suc k))) (forces_of f)
+      (h k f (slice_get-get_or fs k none (subst (λ m. k < m) (sym e) l))).holds
+
+  -- one that collapses by a motion isn't, at any scale
+  pub settled : (x : Staged) → AreTrue v order x → AreSettled v order x
+  settled (all_stand fs) h = carried fs (length order) h.0 h.1
+  settled (falls fs m) h = (
+    carried fs (length fs) h.0 refl,
+    λ D positive.
+        collapse_excludes_balance (scene_of (surveyed_stage v order (suc (length fs)))) (moves_of m) D
+        (stage_proper (suc (length fs))) (h.2).holds positive,
+  )
+  settled (too_wide_at stage p) h = h
+  settled (spent_at stage) h = h

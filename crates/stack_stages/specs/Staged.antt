@@ -1,0 +1,88 @@
+-- What comes of the stages of an order, one after the other: all stand, one falls, or one isn't judged.
+use Rattle.std.specs.Prelude.{◌≡◌, ℕ, zero, suc, ◌<◌, List, [], ◌∷◌, ◌++◌, length, Some, slice_get, ⊤}
+use lib.IntN.{ℤ, pos}
+use Rattle.stack_algebra.specs.IntegerOrder.{◌≺◌}
+use Rattle.stack_contact.specs.Surveyed.{Surveyed}
+use Rattle.stack_certificate.specs.Certificate.{ForcesValue, MotionValue, stands, collapses}
+use Rattle.stack_certificate.specs.Certificate.{greatest, unbounded}
+use Rattle.stack_equilibrium.specs.declared.types.Question.TheVariants.{Dead}
+use Rattle.stack_equilibrium.specs.Balance.{Carries}
+use Rattle.stack_equilibrium.specs.SurveyScene.{scene_of}
+use Rattle.stack_judge.specs.declared.types.JudgePlace.{JudgePlace}
+use Rattle.stack_judge.specs.Judgement.{Judgement, certified, too_wide, spent, judgement}
+use Rattle.stack_judge.specs.Judged.{IsJudged}
+use Rattle.stack_stages.specs.Stage.{surveyed_stage}
+
+-- each stage stands by its forces; the first ones stand, and the next collapses by a motion; a number of this stage,
+-- from 1, is too wide; its budget is spent
+pub data Staged : Type 0 where
+  all_stand : List ForcesValue → Staged
+  falls : List ForcesValue → MotionValue → Staged
+  too_wide_at : (stage : ℕ) → JudgePlace → Staged
+  spent_at : (stage : ℕ) → Staged
+
+-- what comes of a stage, behind those that stand by these forces. The dead loads alone are asked about, so a
+-- certificate is one of standing or of a collapse
+abbrev pub staged_by : (List ForcesValue → Staged) → (stage : ℕ) → List ForcesValue → Judgement → Staged
+staged_by more stage fs (certified (stands f)) = more (fs ++ f ∷ [])
+staged_by more stage fs (certified (collapses m)) = falls fs m
+staged_by more stage fs (certified (greatest f m)) = all_stand fs
+staged_by more stage fs (certified (unbounded f r)) = all_stand fs
+staged_by more stage fs (too_wide p) = too_wide_at stage p
+staged_by more stage fs spent = spent_at stage
+
+-- of the stages behind stage k, which are so many
+abbrev pub staged_from : Surveyed → List ℕ → (budget : ℕ) → (left k : ℕ) → List ForcesValue → Staged
+staged_from v order budget zero k fs = all_stand fs
+staged_from v order budget (suc left) k fs =
+    staged_by (staged_from v order budget left (suc k)) (suc k) fs
+    (judgement Dead (surveyed_stage v order (suc k)) budget)
+
+-- of all of them
+abbrev pub staged : Surveyed → List ℕ → (budget : ℕ) → Staged
+staged v order budget = staged_from v order budget (length order) 0 []
+
+-- list k, from 1, makes a true certificate that stage k stands
+abbrev pub AreStanding : Surveyed → List ℕ → List ForcesValue → Type 0
+AreStanding v order fs = (k : ℕ) (f : ForcesValue) → slice_get fs k ≡ Some f
+    → IsJudged Dead (surveyed_stage v order (suc k)) (stands f)
+
+-- all stages stand, or the first ones do and the next one collapses
+abbrev pub AreTrue : Surveyed → List ℕ → Staged → Type 0
+AreTrue v order (all_stand fs) = AreStanding v order fs × (length fs ≡ length order)
+AreTrue v order (falls fs m) = AreStanding v order fs × (length fs < length order)
+    × IsJudged Dead (surveyed_stage v order (suc (length fs))) (collapses m)
+AreTrue v order (too_wide_at stage p) = ⊥
+AreTrue v order (spent_at stage) = ⊥
+
+-- the dead loads of the first stages are carried
+abbrev pub AreCarried : Surveyed → List ℕ → ℕ → Type 0
+AreCarried v order n = (k : ℕ) → k < n → Carries (scene_of (surveyed_stage v order (suc k))) (pos 0) (pos 1)
+
+-- all are carried, or the first ones are, and those of the next at no scale
+abbrev pub AreSettled : Surveyed → List ℕ → Staged → Type 0
+AreSettled v order (all_stand fs) = AreCarried v order (length order)
+AreSettled v order (falls fs m) = AreCarried v order (length fs)
+    × ((D : ℤ) → pos 0 ≺ D → ¬ (Carries (scene_of (surveyed_stage v order (suc (length fs)))) (pos 0) D))
+AreSettled v order (too_wide_at stage p) = ⊥
+AreSettled v order (spent_at stage) = ⊥
+
+-- the first n stages are judged to stand
+abbrev pub StandBefore : Surveyed → List ℕ → (budget : ℕ) → ℕ → Type 0
+StandBefore v order budget n = (k : ℕ) → k < n →
+    (f : ForcesValue) × (judgement Dead (surveyed_stage v order (suc k)) budget ≡ certified (stands f))
+
+-- this stage, from 1, is so judged, and all before it to stand
+pub record IsFirst (v : Surveyed) (order : List ℕ) (budget stage : ℕ) (j : Judgement) : Type 0 where
+  pub before : ℕ
+  pub is_next : stage ≡ suc before
+  pub within : before < length order
+  pub earlier : StandBefore v order budget before
+  pub is : judgement Dead (surveyed_stage v order stage) budget ≡ j
+
+-- which stage isn't judged, and why: a number of it is too wide, or its budget is spent
+abbrev pub AreUnjudged : Surveyed → List ℕ → (budget : ℕ) → Staged → Type 0
+AreUnjudged v order budget (all_stand fs) = ⊤
+AreUnjudged v order budget (falls fs m) = ⊤
+AreUnjudged v order budget (too_wide_at stage p) = IsFirst v order budget stage (too_wide p)
+AreUnjudged v order budget (spent_at stage) = IsFirst v order budget stage spent

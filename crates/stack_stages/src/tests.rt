@@ -1,0 +1,119 @@
+//! Four blocks, two beside one another and two on them: orders of building, and their stages by hand.
+
+use crate::types::StagesError;
+use crate::{OrderError, read_order, stage_of, stages, write_stages};
+use stack_contact::survey;
+use stack_contact::types::Survey;
+use stack_model::{Model, Parts, RawBlock, RawMaterial};
+use std::alloc::Global;
+use std::test::*;
+
+fn numbers(alloc: Global, list: &[i64]) -> Result<Vec<i64>, Fail> {
+    Ok(list.to_vec(alloc)?)
+}
+
+/// A rectangle by its least and its greatest coordinates. The ground is fixed.
+fn block(alloc: Global, name: &str, low: [i64; 2], high: [i64; 2]) -> Result<RawBlock, Fail> {
+    let mut corners = Vec::new(alloc);
+    corners.push(numbers(alloc, &[low[0], low[1]])?)?;
+    corners.push(numbers(alloc, &[high[0], low[1]])?)?;
+    corners.push(numbers(alloc, &[high[0], high[1]])?)?;
+    corners.push(numbers(alloc, &[low[0], high[1]])?)?;
+    Ok(RawBlock {
+        name: String::from_str(alloc, name)?,
+        material: String::from_str(alloc, "stone")?,
+        fixed: name == "ground",
+        corners,
+    })
+}
+
+/// On the ground `a` and `b`, on them `c` and `d`.
+fn four(alloc: Global) -> Result<Survey, Fail> {
+    let mut materials = Vec::new(alloc);
+    materials.push(RawMaterial {
+        name: String::from_str(alloc, "stone")?,
+        weight: 1,
+        friction: numbers(alloc, &[1, 2])?,
+    })?;
+    let mut blocks = Vec::new(alloc);
+    blocks.push(block(alloc, "ground", [-10, -1], [10, 0])?)?;
+    blocks.push(block(alloc, "a", [0, 0], [2, 1])?)?;
+    blocks.push(block(alloc, "b", [2, 0], [4, 1])?)?;
+    blocks.push(block(alloc, "c", [0, 1], [2, 2])?)?;
+    blocks.push(block(alloc, "d", [2, 1], [4, 2])?)?;
+    let parts = Parts::first(alloc, materials, blocks, Vec::new(alloc));
+    Ok(survey(alloc, Model::new(alloc, parts)?)?)
+}
+
+/// What comes of the stages of the order that a text tells, as text.
+fn told(
+    alloc: Global,
+    s: &Survey,
+    text: &[u8],
+    budget: u32,
+) -> Result<Result<Vec<u8>, StagesError>, Fail> {
+    let order = read_order(alloc, s.model(), text)?;
+    if budget == 0 {
+        return Err(Fail::from("some pivots are needed"));
+    }
+    match stages(alloc, s, order.as_slice(), budget) {
+        Ok(found) => Ok(Ok(write_stages(alloc, found)?)),
+        Err(error) => Ok(Err(error)),
+    }
+}
+
+#[test]
+fn all_stages_stand_from_below(rt: HostRuntime) -> Result<(), Fail> {
+    let alloc = rt.alloc();
+    let s = four(alloc)?;
+    let text = told(alloc, &s, b"a\nb\nc\nd\n", 100)??;
+    let lines = b"stage 1 stands\nstage 2 stands\nstage 3 stands\nstage 4 stands\nall stand\n";
+    assert_eq!(rt; text.as_slice(), lines.as_slice());
+    Ok(())
+}
+
+#[test]
+fn a_block_in_the_air_falls(rt: HostRuntime) -> Result<(), Fail> {
+    let alloc = rt.alloc();
+    let s = four(alloc)?;
+    let text = told(alloc, &s, b"a\nd\nb\n", 100)??;
+    let lines = b"stage 1 stands\nstage 2 collapses\ncollapses\nmotion\n";
+    assert!(rt; text.starts_with(lines.as_slice()));
+    Ok(())
+}
+
+#[test]
+fn a_spent_budget_tells_its_stage(rt: HostRuntime) -> Result<(), Fail> {
+    let alloc = rt.alloc();
+    let s = four(alloc)?;
+    let spent = told(alloc, &s, b"a\nb\n", 1)?.err();
+    assert_eq!(rt; spent, Some(StagesError::Spent { stage: 1 }));
+    Ok(())
+}
+
+#[test]
+fn an_order_names_blocks_by_their_numbers(rt: HostRuntime) -> Result<(), Fail> {
+    let alloc = rt.alloc();
+    let s = four(alloc)?;
+    let order = read_order(alloc, s.model(), b"d\na\n")?;
+    assert_eq!(rt; order.as_slice(), [4, 1].as_slice());
+    let stage = stage_of(alloc, &s, order.as_slice(), 2)?;
+    assert_eq!(rt; stage.model().bodies(), 3);
+    assert_eq!(rt; stage.model().name(1), "a");
+    assert_eq!(rt; stage.bearings().len(), 2);
+    assert_eq!(rt; stage.touches().len(), 1);
+    Ok(())
+}
+
+#[test]
+fn faulty_lines_are_numbered(rt: HostRuntime) -> Result<(), Fail> {
+    let alloc = rt.alloc();
+    let s = four(alloc)?;
+    let twice = read_order(alloc, s.model(), b"a\na\n").err();
+    assert_eq!(rt; twice, Some(OrderError::Line { number: 2 }));
+    let fixed = read_order(alloc, s.model(), b"ground\n").err();
+    assert_eq!(rt; fixed, Some(OrderError::Line { number: 1 }));
+    let open = read_order(alloc, s.model(), b"a").err();
+    assert_eq!(rt; open, Some(OrderError::Line { number: 1 }));
+    Ok(())
+}
