@@ -1,16 +1,17 @@
 #!/usr/bin/env python3
 """Draws a structure to try solvers on, and prints its model.
 
-    tools/draw.py arch VOUSSOIRS WIDTH
-    tools/draw.py wall COURSES BRICKS [SHIFT]
-    tools/draw.py rubble SIDE SEED
+    tools/draw.py [sway X Y] [joint P Q] arch VOUSSOIRS WIDTH
+    tools/draw.py [sway X Y] [joint P Q] wall COURSES BRICKS [SHIFT]
+    tools/draw.py [sway X Y] [joint P Q] rubble SIDE SEED
 
 Nothing here is proved. An arch is half a ring of as many voussoirs, WIDTH wide outside and an eighth of that thick, on
 two springers, with a live load of one unit down at the end of its first quarter. A wall has bricks 20 long and 10 high
 in running bond, BRICKS in each even course; an odd one is shifted by SHIFT units, 10 if none is given, and its ends are
 closed by shorter bricks. With the shift 0 all joints are common. Courses count from 0. Rubble has SIDE courses of SIDE
 stones of four corners, about 20 units wide, whose common corners are drawn at random by SEED. Walls and rubble are
-pushed to the right at their upper left corner.
+pushed to the right at their upper left corner. With `sway X Y` that sway stands in place of the live load. With `joint
+P Q` what is fixed is of a material of its own, and P over Q its friction with the others.
 docs/other_solvers.md tells what comes of them.
 """
 import math
@@ -21,14 +22,24 @@ ARCH = ("stone", 1, (7, 10))
 BRICK = ("brick", 1, (1, 2))
 
 
-def printed(material, bodies, load):
-    name, weight, (p, q) = material
-    print(f'[[material]]\nname = "{name}"\nweight = {weight}\nfriction = [{p}, {q}]')
+def printed(material, bodies, load, sway, joint):
+    name, weight, friction = material
+    ground = "ground" if joint else name
+    pieces = []
+    if sway or joint:
+        pieces.append("version = 2" + (f"\nsway = {sway}" if sway else ""))
+    for called in dict.fromkeys((name, ground)):
+        pieces.append(f'[[material]]\nname = "{called}"\nweight = {weight}\nfriction = {list(friction)}')
+    if joint:
+        pieces.append(f'[[joint]]\nfirst = "{ground}"\nsecond = "{name}"\nfriction = {joint}')
     for body, fixed, corners in bodies:
-        listed = ", ".join(f"[{x}, {y}]" for x, y in corners)
-        print(f'\n[[block]]\nname = "{body}"\nmaterial = "{name}"\nfixed = {str(fixed).lower()}\ncorners = [{listed}]')
-    block, at, force = load
-    print(f'\n[[load]]\nblock = "{block}"\nkind = "live"\nat = {list(at)}\nforce = {list(force)}')
+        of, listed = ground if fixed else name, [list(corner) for corner in corners]
+        pieces.append(
+            f'[[block]]\nname = "{body}"\nmaterial = "{of}"\nfixed = {str(fixed).lower()}\ncorners = {listed}')
+    if not sway:
+        block, at, force = load
+        pieces.append(f'[[load]]\nblock = "{block}"\nkind = "live"\nat = {list(at)}\nforce = {list(force)}')
+    print("\n\n".join(pieces))
 
 
 def rectangle(left, bottom, right, top):
@@ -51,7 +62,7 @@ def arch(count, width):
         corners = [at(inner, joint), at(outer, joint), at(outer, joint + 1), at(inner, joint + 1)]
         bodies.append((f"v{joint + 1}", False, corners))
     quarter = count // 4
-    printed(ARCH, bodies, (f"v{quarter + 1}", at(outer, quarter), (0, -1)))
+    return ARCH, bodies, (f"v{quarter + 1}", at(outer, quarter), (0, -1))
 
 
 def wall(courses, bricks, shift=10):
@@ -62,7 +73,7 @@ def wall(courses, bricks, shift=10):
             ends = [0] + [x + shift for x in ends[:-1]] + [20 * bricks]
         for number, (left, right) in enumerate(zip(ends, ends[1:])):
             bodies.append((f"b{course}-{number}", False, rectangle(left, 10 * course, right, 10 * course + 10)))
-    printed(BRICK, bodies, (f"b{courses - 1}-0", (0, 10 * courses), (1, 0)))
+    return BRICK, bodies, (f"b{courses - 1}-0", (0, 10 * courses), (1, 0))
 
 
 def rubble(side, seed):
@@ -78,16 +89,17 @@ def rubble(side, seed):
         for column in range(side):
             corners = [corner[row + i, column + j] for i, j in ((0, 0), (0, 1), (1, 1), (1, 0))]
             bodies.append((f"s{row}-{column}", False, corners))
-    printed(ARCH, bodies, (f"s{side - 1}-0", corner[side, 0], (1, 0)))
+    return ARCH, bodies, (f"s{side - 1}-0", corner[side, 0], (1, 0))
 
 
 def main(words):
     try:
-        kind, *numbers = words
-        numbers = list(map(int, numbers))
-        draw = {"arch": arch, "wall": wall, "rubble": rubble}[kind]
-        draw(*numbers)
-    except (KeyError, TypeError, ValueError):
+        pairs = {"sway": None, "joint": None}
+        while words[0] in pairs:
+            pairs[words[0]], words = [int(words[1]), int(words[2])], words[3:]
+        draw = {"arch": arch, "wall": wall, "rubble": rubble}[words[0]]
+        printed(*draw(*map(int, words[1:])), **pairs)
+    except (IndexError, KeyError, TypeError, ValueError):
         print(__doc__, file=sys.stderr)
         return 2
     return 0

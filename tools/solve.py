@@ -68,37 +68,43 @@ def wrench(force, at, corner):
     return [fx, fy, lx * fy - ly * fx]
 
 
-def weight(corners, unit):
-    """A block's weight in sixths about its first corner, over the triangles of that corner."""
-    (ox, oy), twice, moment = corners[0], 0, 0
+def share(corners, unit, sway):
+    """The load of a sway on a block, in sixths about its first corner, over the triangles of that corner.
+
+    The sway (0, -1) is the block's weight.
+    """
+    (ox, oy), (sx, sy), twice, across, up = corners[0], sway, 0, 0, 0
     for (ax, ay), (bx, by) in zip(corners[1:], corners[2:]):
         ax, ay, bx, by = ax - ox, ay - oy, bx - ox, by - oy
         c = ax * by - ay * bx
         twice += c
-        moment += c * (ax + bx)
-    turned = 1 if twice > 0 else -1  # a clockwise list
-    return [0, -3 * unit * turned * twice, -unit * turned * moment]
+        across += c * (ax + bx)
+        up += c * (ay + by)
+    unit *= 1 if twice > 0 else -1  # a clockwise list
+    return [3 * unit * twice * sx, 3 * unit * twice * sy, unit * (across * sy - up * sx)]
 
 
 def free_blocks(model):
-    """The free blocks by name. The program has accepted the model, so nothing is tested here."""
+    """The free blocks by name, and whether a live load is listed. The program has accepted the model, so nothing is
+    tested here. Joints show in the table of contacts alone."""
     try:
         document = tomllib.loads(Path(model).read_bytes().decode("utf-8-sig"))
     except ValueError as fault:
         stop(f"solve: {model}: not TOML 1.0: {fault}")
     units = {item["name"]: item["weight"] for item in document.get("material", [])}
+    sway = document.get("sway", [0, 0])
     blocks = {}
     for item in document.get("block", []):
         if not item.get("fixed", False):
-            corners = item["corners"]
-            dead = weight(corners, units[item["material"]])
-            blocks[item["name"]] = Block(len(blocks), corners[0], dead, [0, 0, 0])
+            corners, unit = item["corners"], units[item["material"]]
+            dead, live = share(corners, unit, (0, -1)), share(corners, unit, sway)
+            blocks[item["name"]] = Block(len(blocks), corners[0], dead, live)
     for item in document.get("load", []):
         block = blocks[item["block"]]
         loads = block.live if item["kind"] == "live" else block.dead
         for axis, amount in enumerate(wrench(item["force"], item["at"], block.corner)):
             loads[axis] += 6 * amount
-    return blocks, any(item["kind"] == "live" for item in document.get("load", []))
+    return blocks, any(sway) or any(item["kind"] == "live" for item in document.get("load", []))
 
 
 def bearings_of(model):
