@@ -1,5 +1,5 @@
 -- The work on a form asks for no files but those that its words name, in their order.
-use Rattle.std.proofs.Common.{◌≡◌, ℕ, suc, true, false, List, [], ◌∷◌, ◌++◌, take, inl, inr, Option, Some, None}
+use Rattle.std.proofs.Common.{◌≡◌, ℕ, ℤ, suc, true, false, List, [], ◌∷◌, ◌++◌, take, inl, inr, Option, Some, None}
 use Rattle.std.proofs.Common.{Result, Ok, Err, length, subst, sym, refl, ◌∙◌, ap}
 use Rattle.std.specs.Bool.{⊤}
 use Rattle.std.specs.Prelude.{nat_lt, if◌then◌else◌}
@@ -17,7 +17,7 @@ use Rattle.stack_equilibrium.specs.declared.types.Question.TheVariants.{Live}
 use Rattle.stack_judge.specs.Judgement.{Judgement, certified as is_certified, too_wide, spent, judgement}
 use Rattle.stack_cli.specs.declared.refusal.Input.{Input}
 use Rattle.stack_cli.specs.declared.refusal.Input.TheVariants as inputs
-use Rattle.stack_cli.specs.Words.{Form, check, contacts, judges, tables, stack, sample, ranges, builds}
+use Rattle.stack_cli.specs.Words.{Form, check, contacts, judges, tables, stack, sample, ranges, builds, yields}
 use Rattle.stack_cli.specs.Words.{default_budget, files_of}
 use Rattle.stack_cli.specs.Refusals.{Refusal, long, no_live}
 use Rattle.stack_cli.specs.Answers.{Due}
@@ -36,6 +36,10 @@ use Rattle.stack_range.specs.RangeJudgement.{RangeJudgement, told, wide_on, spen
 use Rattle.stack_stages.specs.OrderRead.{order_of}
 use Rattle.stack_stages.specs.Staged.{Staged, all_stand, falls, too_wide_at, spent_at, staged}
 use Rattle.stack_cli.specs.Building.{order_step, stages_step, ordered_file, stages_work}
+use Rattle.stack_yield.specs.Directions.{directions_of}
+use Rattle.stack_yield.specs.Pairing.{pair_of}
+use Rattle.stack_yield.specs.Outcomes.{Outcomes, answered, passes_at, spends_at, outcomes}
+use Rattle.stack_cli.specs.Yielding.{loads_step, directions_step, region_step, directed_file, paired_file, yield_work}
 use Rattle.stack_cli.specs.Forms.{work_of}
 use Rattle.stack_cli.specs.Progress.{ToldNames, GrewBy, Way}
 
@@ -177,9 +181,37 @@ ordered_asks name budget v =
     (λ text. asks_then (order_step (order_of v.structure text)) _ [] [] (order_asks (order_of v.structure text))
     (λ order. stages_asks budget v order (staged v order budget)))
 
+loads_asks : (r : Result (ℕ × ℕ) ℕ) → AsksOnly (loads_step r) []
+loads_asks (Ok loads) = refl
+loads_asks (Err load) = tt
+
+directions_asks : (r : Result (List (ℤ × ℤ)) ℕ) → AsksOnly (directions_step r) []
+directions_asks (Ok ds) = refl
+directions_asks (Err number) = tt
+
+region_asks : (budget : ℕ) (v : Surveyed) (i j : ℕ) (ds : List (ℤ × ℤ)) (x : Outcomes)
+    → AsksOnly (region_step budget v i j ds x) []
+region_asks budget v i j ds (answered r) = refl
+region_asks budget v i j ds (passes_at k p) = tt
+region_asks budget v i j ds (spends_at k) = tt
+
+directed_asks : (name : List ℕ) (budget : ℕ) (v : Surveyed) (loads : ℕ × ℕ)
+    → AsksOnly (directed_file name budget v loads) (name ∷ [])
+unfolding directed_file
+directed_asks name budget v loads =
+    asks_then (read inputs.Directions name) _ (name ∷ []) [] (read_asks inputs.Directions name)
+    (λ text. asks_then (directions_step (directions_of text)) _ [] [] (directions_asks (directions_of text))
+    (λ ds. region_asks budget v loads.0 loads.1 ds (outcomes v loads.0 loads.1 budget ds)))
+
+paired_asks : (i j : ℕ) (name : List ℕ) (budget : ℕ) (v : Surveyed)
+    → AsksOnly (paired_file i j name budget v) (name ∷ [])
+unfolding paired_file
+paired_asks i j name budget v = asks_then (loads_step (pair_of v.structure i j)) _ [] (name ∷ [])
+    (loads_asks (pair_of v.structure i j)) (directed_asks name budget v)
+
 -- Each form: one clause.
 form_asks : (form : Form) → AsksOnly (work_of form) (files_of (Some form))
-unfolding check_work contacts_work judge_work table_work stack_work sample_work range_work stages_work
+unfolding check_work contacts_work judge_work table_work stack_work sample_work range_work stages_work yield_work
 form_asks (check model certificate) =
     asks_then (surveyed_file model) _ (model ∷ []) (certificate ∷ []) (surveyed_asks model) (checked_asks certificate)
 form_asks (judges question model budget) = asks_then (surveyed_file model) _ (model ∷ []) [] (surveyed_asks model)
@@ -188,6 +220,8 @@ form_asks (ranges model budget) = asks_then (surveyed_file model) _ (model ∷ [
     (λ v. range_told_asks budget v)
 form_asks (builds model order budget) =
     asks_then (surveyed_file model) _ (model ∷ []) (order ∷ []) (surveyed_asks model) (ordered_asks order budget)
+form_asks (yields model i j directions budget) = asks_then (surveyed_file model) _ (model ∷ []) (directions ∷ [])
+    (surveyed_asks model) (paired_asks i j directions budget)
 form_asks (tables model certificate) =
     asks_then (surveyed_file model) _ (model ∷ []) (certificate ∷ []) (surveyed_asks model) (tabled_asks certificate)
 form_asks (stack kind n) = asks_then (built_step (stack_of kind n)) _ [] [] (built_asks (stack_of kind n)) (λ s. refl)

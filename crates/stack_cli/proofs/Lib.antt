@@ -21,3 +21,5 @@ mod CheckAnswered
 mod RangeAnswered
 mod StagesEnds
 mod StagesAnswered
+mod YieldEnds
+mod YieldAnswered

@@ -13,7 +13,8 @@ use Rattle.stack_cli.specs.declared.refusal.Refusal.TheVariants as code
 use Rattle.stack_cli.specs.Words.{Form}
 use Rattle.stack_cli.specs.Refusals.{Refusal, words, file, faulty, output, refusal_view, status_of}
 use Rattle.stack_cli.specs.Refusals.{Fault, long, content, overlap, many_bearings, certificate_line, wide_check, memory}
-use Rattle.stack_cli.specs.Refusals.{size, order_line, wide_run, wide_end, wide_table, over_budget, no_live}
+use Rattle.stack_cli.specs.Refusals.{size, order_line, directions_line, wide_run, wide_end, wide_reach, wide_table}
+use Rattle.stack_cli.specs.Refusals.{over_budget, no_live, no_pair}
 use Rattle.stack_cli.specs.Answers.{Due, verdict_status}
 use Rattle.stack_cli.specs.Work.{Work, gives, refuses, reads, surveys, Holds, Ends}
 use Rattle.stack_cli.specs.Forms.{work_of}
@@ -95,12 +96,15 @@ fault_above (many_bearings count) = omega arith
 fault_above size = omega arith
 fault_above (certificate_line number) = omega arith
 fault_above (order_line number) = omega arith
+fault_above (directions_line number) = omega arith
 fault_above (wide_check within part place) = omega arith
 fault_above (wide_run within place) = omega arith
 fault_above (wide_end within place) = omega arith
+fault_above (wide_reach within place) = omega arith
 fault_above (wide_table index) = omega arith
 fault_above (over_budget budget) = omega arith
 fault_above no_live = omega arith
+fault_above (no_pair load) = omega arith
 fault_above memory = omega arith
 
 pub fault_past_output : (f : Fault) → 10 ≡ status_of (faulty f) → ⊥
@@ -111,12 +115,15 @@ fault_past_output (many_bearings count) is = omega arith
 fault_past_output size is = omega arith
 fault_past_output (certificate_line number) is = omega arith
 fault_past_output (order_line number) is = omega arith
+fault_past_output (directions_line number) is = omega arith
 fault_past_output (wide_check within part place) is = omega arith
 fault_past_output (wide_run within place) is = omega arith
 fault_past_output (wide_end within place) is = omega arith
+fault_past_output (wide_reach within place) is = omega arith
 fault_past_output (wide_table index) is = omega arith
 fault_past_output (over_budget budget) is = omega arith
 fault_past_output no_live is = omega arith
+fault_past_output (no_pair load) is = omega arith
 fault_past_output memory is = omega arith
 
 pub from_two : (r : Refusal) → 2 ≤ status_of r

@@ -1,6 +1,6 @@
 -- What is due on standard output, by its meaning, and which bytes are that answer, with which verdict. A further kind
 -- of answer is a further case of both.
-use Rattle.std.specs.Prelude.{◌≡◌, ℕ, Bool, List, Ok}
+use Rattle.std.specs.Prelude.{◌≡◌, ℕ, ℤ, Bool, List, Ok}
 use Rattle.stack_model.specs.Structure.{Structure}
 use Rattle.stack_reader.specs.Reading.{structure_of}
 use Rattle.stack_contact.specs.Surveyed.{Surveyed}
@@ -14,6 +14,9 @@ use Rattle.stack_range.specs.Ranged.{RangeValue, collapsing, between, IsRange}
 use Rattle.stack_range.specs.RangeText.{range_text}
 use Rattle.stack_stages.specs.Staged.{Staged, falls, AreTrue, AreSettled}
 use Rattle.stack_stages.specs.StagesText.{stages_text}
+use Rattle.stack_pairs.specs.Reaches.{RegionValue, collapse, points, RegionTells}
+use Rattle.stack_pairs.specs.Directed.{ArePair}
+use Rattle.stack_yield.specs.RegionText.{region_text}
 use Rattle.stack_cli.specs.declared.answer.Verdict.{Verdict}
 use Rattle.stack_cli.specs.declared.answer.Verdict.TheVariants.{Affirmed, Denied}
 
@@ -39,10 +42,15 @@ abbrev pub stages_verdict : Staged → Verdict
 stages_verdict (falls fs m) = Denied
 stages_verdict _ = Affirmed
 
+-- A region that isn't a collapse affirms.
+abbrev pub region_verdict : RegionValue → Verdict
+region_verdict (collapse y) = Denied
+region_verdict (points rs) = Affirmed
+
 -- Exactly these bytes, with this verdict; the certificate of this question of this survey; a document that describes
 -- this structure; the summary of the wall with this number, by its survey, its certificate, and whether no
 -- number of the table and of the run is too wide for 64 bits; the range of this survey; what comes of the stages of
--- this order of it.
+-- this order of it; the region of these two loads of it, from 0 among all loads, in these directions.
 pub data Due : Type 0 where
   exactly : Verdict → List ℕ → Due
   certificate : Question → Surveyed → CertificateValue → Due
@@ -50,6 +58,7 @@ pub data Due : Type 0 where
   summary : ℕ → Surveyed → CertificateValue → Bool → Due
   ranged : Surveyed → RangeValue → Due
   stages_due : Surveyed → List ℕ → Staged → Due
+  region_due : Surveyed → (i j : ℕ) → List (ℤ × ℤ) → RegionValue → Due
 
 -- It is true, and the bytes are its text.
 pub record IsCertificateOf (q : Question) (v : Surveyed) (c : CertificateValue) (verdict : Verdict) (text : List ℕ)
@@ -78,6 +87,14 @@ pub record AreStagesOf (v : Surveyed) (order : List ℕ) (x : Staged) (verdict :
   pub is_verdict : verdict ≡ stages_verdict x
   pub is_text : text ≡ stages_text x
 
+-- It says truly which pairs of multiples of the two loads are carried, and the bytes are its text.
+pub record IsRegionOf (v : Surveyed) (i j : ℕ) (ds : List (ℤ × ℤ)) (r : RegionValue) (verdict : Verdict)
+    (text : List ℕ) : Type 0 where
+  pub are_loads : ArePair v.structure i j
+  pub tells : RegionTells v i j ds r
+  pub is_verdict : verdict ≡ region_verdict r
+  pub is_text : text ≡ region_text r
+
 -- A verdict and bytes are what is due.
 abbrev pub IsAnswer : Due → Verdict → List ℕ → Type 0
 IsAnswer (exactly v t) verdict text = (verdict ≡ v) × (text ≡ t)
@@ -86,3 +103,4 @@ IsAnswer (document s) verdict text = (verdict ≡ Affirmed) × (structure_of tex
 IsAnswer (summary number v c narrow) verdict text = IsSummaryOf number v c narrow verdict text
 IsAnswer (ranged v r) verdict text = IsRangeOf v r verdict text
 IsAnswer (stages_due v order x) verdict text = AreStagesOf v order x verdict text
+IsAnswer (region_due v i j ds r) verdict text = IsRegionOf v i j ds r verdict text

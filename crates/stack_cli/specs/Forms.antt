@@ -1,5 +1,5 @@
 -- The work on each form of words. A further form is a further case.
-use Rattle.stack_cli.specs.Words.{Form, check, contacts, judges, tables, stack, sample, ranges, builds}
+use Rattle.stack_cli.specs.Words.{Form, check, contacts, judges, tables, stack, sample, ranges, builds, yields}
 use Rattle.stack_cli.specs.Answers.{Due}
 use Rattle.stack_cli.specs.Work.{Work}
 use Rattle.stack_cli.specs.Checking.{check_work}
@@ -10,6 +10,7 @@ use Rattle.stack_cli.specs.Stacking.{stack_work}
 use Rattle.stack_cli.specs.Sampling.{sample_work}
 use Rattle.stack_cli.specs.Ranging.{range_work}
 use Rattle.stack_cli.specs.Building.{stages_work}
+use Rattle.stack_cli.specs.Yielding.{yield_work}
 
 -- What is to be done for words of each form, and in which order.
 abbrev pub work_of : Form → Work Due
@@ -21,3 +22,4 @@ work_of (stack kind n) = stack_work kind n
 work_of (sample n) = sample_work n
 work_of (ranges model budget) = range_work model budget
 work_of (builds model order budget) = stages_work model order budget
+work_of (yields model i j directions budget) = yield_work model i j directions budget

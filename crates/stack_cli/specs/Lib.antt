@@ -13,6 +13,7 @@ pub mod Stacking
 pub mod Sampling
 pub mod Ranging
 pub mod Building
+pub mod Yielding
 pub mod Forms
 pub mod Progress
 pub mod OneEnd
@@ -24,3 +25,4 @@ pub mod Printed
 pub mod Accepted
 pub mod RangeSaid
 pub mod StagesSaid
+pub mod RegionSaid

@@ -18,6 +18,8 @@ use Rattle.stack_cli.specs.declared.refusal.Input.{Input}
 use Rattle.stack_cli.specs.declared.refusal.Input.TheVariants as inputs
 use Rattle.stack_cli.specs.declared.refusal.Within.{Within}
 use Rattle.stack_cli.specs.declared.refusal.Within.TheVariants as withins
+use Rattle.stack_cli.specs.declared.refusal.ReachPlace.{ReachPlace}
+use Rattle.stack_cli.specs.declared.refusal.ReachPlace.TheVariants as reach_places
 use Rattle.stack_cli.specs.declared.refusal.Place.{Place as CodePlace}
 use Rattle.stack_cli.specs.declared.refusal.Place.TheVariants as code_places
 use Rattle.stack_cli.specs.declared.refusal.Refusal.{Refusal as CodeRefusal}
@@ -36,8 +38,9 @@ pub data Place : Type 0 where
 
 -- Why the work on a form refuses: a file is too long; the model's file has a fault; two bodies overlap, told by their
 -- names; the bearings are too many; a built-in model has no such size; the certificate's text ends to be one at a line,
--- from 1; the order's text is faulty at a line, from 1; a number of the check, of the run, of what is made of its end
--- or of the table of forces is too wide; a pivot is due when the budget's are done; no live load is listed; memory is
+-- from 1; the order's text, or that of the directions, is faulty at a line, from 1; a number of the check, of the run,
+-- of what is made of its end, of a reach or of the table of forces is too wide; a pivot is due when the budget's are
+-- done; no live load is listed; two numbers name no two loads that make a region, and this one is in the way; memory is
 -- wanting.
 pub data Fault : Type 0 where
   long : Input → Fault
@@ -47,12 +50,15 @@ pub data Fault : Type 0 where
   size : Fault
   certificate_line : ℕ → Fault
   order_line : ℕ → Fault
+  directions_line : ℕ → Fault
   wide_check : Within → Part → Place → Fault
   wide_run : Within → RunPlace → Fault
   wide_end : Within → ExtractPlace → Fault
+  wide_reach : Within → ReachPlace → Fault
   wide_table : ℕ → Fault
   over_budget : ℕ → Fault
   no_live : Fault
+  no_pair : ℕ → Fault
   memory : Fault
 
 -- Why a run refuses: the words are no form; a file isn't read; the work has a fault; the answer isn't written.
@@ -81,12 +87,15 @@ refusal_view (code.ManyBearings count) = faulty (many_bearings count)
 refusal_view code.Size = faulty size
 refusal_view (code.CertificateLine number) = faulty (certificate_line number)
 refusal_view (code.OrderLine number) = faulty (order_line number)
+refusal_view (code.DirectionsLine number) = faulty (directions_line number)
 refusal_view (code.WideCheck within part place) = faulty (wide_check within part (place_view place))
 refusal_view (code.WideRun within place) = faulty (wide_run within place)
 refusal_view (code.WideEnd within place) = faulty (wide_end within place)
+refusal_view (code.WideReach within place) = faulty (wide_reach within place)
 refusal_view (code.WideTable index) = faulty (wide_table index)
 refusal_view (code.Spent budget) = faulty (over_budget budget)
 refusal_view code.NoLive = faulty no_live
+refusal_view (code.NoPair load) = faulty (no_pair load)
 refusal_view code.Output = output
 refusal_view code.Memory = faulty memory
 
@@ -101,11 +110,14 @@ fault_status (certificate_line number) = 6
 fault_status (wide_check within part place) = 7
 fault_status (wide_run within place) = 7
 fault_status (wide_end within place) = 7
+fault_status (wide_reach within place) = 7
 fault_status (wide_table index) = 7
 fault_status (over_budget budget) = 8
 fault_status no_live = 9
 fault_status memory = 11
 fault_status (order_line number) = 13
+fault_status (directions_line number) = 14
+fault_status (no_pair load) = 15
 
 -- Words, files and the output have statuses of their own; a fault of the work has that above.
 abbrev pub status_of : Refusal → ℕ
@@ -119,6 +131,7 @@ abbrev pub input_word : Input → List ℕ
 input_word inputs.Model = codes "model"
 input_word inputs.Certificate = codes "certificate"
 input_word inputs.Order = codes "order"
+input_word inputs.Directions = codes "directions"
 
 -- The part of a certificate that a line is about.
 abbrev pub part_word : Part → List ℕ
@@ -175,6 +188,12 @@ place_text apart = codes "apart"
 abbrev pub check_text : Part → Place → List ℕ
 check_text part place = codes "check " ++ part_word part ++ codes " " ++ place_text place
 
+-- Which number of a reach a line is about: the power of the first load or of the second, or a coordinate of the point.
+abbrev pub reach_word : ReachPlace → List ℕ
+reach_word reach_places.First = codes "first"
+reach_word reach_places.Second = codes "second"
+reach_word reach_places.Point = codes "point"
+
 -- Of which of a form's judgements a line tells: of its only one or its first, of the least side of a range, of a stage
 -- of an order of building, or of a direction of two loads, each by its number from 1.
 abbrev pub within_text : Within → List ℕ
@@ -192,12 +211,15 @@ fault_line (many_bearings count) = codes "model too many bearings " ++ decimal c
 fault_line size = codes "model size"
 fault_line (certificate_line number) = codes "certificate line " ++ decimal number
 fault_line (order_line number) = codes "order line " ++ decimal number
+fault_line (directions_line number) = codes "directions line " ++ decimal number
 fault_line (wide_check within part place) = codes "wide " ++ within_text within ++ check_text part place
 fault_line (wide_run within place) = codes "wide " ++ within_text within ++ (codes "run " ++ run_text place)
 fault_line (wide_end within place) = codes "wide " ++ within_text within ++ (codes "end " ++ end_text place)
+fault_line (wide_reach within place) = codes "wide " ++ within_text within ++ reach_word place
 fault_line (wide_table index) = codes "wide table " ++ decimal index
 fault_line (over_budget budget) = codes "spent " ++ decimal budget
 fault_line no_live = codes "no live load"
+fault_line (no_pair load) = codes "no pair " ++ decimal load
 fault_line memory = codes "memory"
 
 -- A refusal's line names the words, the file that isn't read, the fault, or the output.

@@ -15,8 +15,8 @@ use Rattle.stack_cli.specs.declared.given.Given.{Given as CodeGiven}
 use Rattle.stack_cli.specs.declared.given.Given.TheVariants as given
 
 -- What the words ask for: `check MODEL CERT`, `table MODEL CERT`, `contacts MODEL`, or a judgement of a model, its
--- range or the stages of an order within a budget of pivots, with any words as the names of the files; `stack KIND N`,
--- or `sample N`, which read none.
+-- range, the stages of an order or the region of two loads, which are told by their numbers, within a budget of pivots,
+-- with any words as the names of the files; `stack KIND N`, or `sample N`, which read none.
 pub data Form : Type 0 where
   check : List ℕ → List ℕ → Form
   contacts : List ℕ → Form
@@ -26,6 +26,7 @@ pub data Form : Type 0 where
   sample : ℕ → Form
   ranges : List ℕ → ℕ → Form
   builds : List ℕ → List ℕ → ℕ → Form
+  yields : List ℕ → (i j : ℕ) → List ℕ → ℕ → Form
 
 -- The form that the code holds, by bytes.
 abbrev pub form_view : CodeForm → Form
@@ -37,12 +38,14 @@ form_view (code.Stack kind size) = stack kind size
 form_view (code.Sample number) = sample number
 form_view (code.Range model budget) = ranges model.now budget
 form_view (code.Stages model order budget) = builds model.now order.now budget
+form_view (code.Yield model first second directions budget) = yields model.now first second directions.now budget
 
 -- A budget isn't 0.
 abbrev pub HasBudget : CodeForm → Type 0
 HasBudget (code.Judge question model budget) = budget ≢ 0
 HasBudget (code.Range model budget) = budget ≢ 0
 HasBudget (code.Stages model order budget) = budget ≢ 0
+HasBudget (code.Yield model first second directions budget) = budget ≢ 0
 HasBudget _ = ⊤
 
 -- The words, as bytes.
@@ -87,6 +90,11 @@ abbrev pub staging : List ℕ → List ℕ → Option ℕ → Option Form
 staging model order (Some budget) = Some (builds model order budget)
 staging model order None = None
 
+-- A region wants the numbers of two loads and a budget: where one of them isn't spelled, the words are no form.
+abbrev pub yielding : List ℕ → Option ℕ → Option ℕ → List ℕ → Option ℕ → Option Form
+yielding model (Some i) (Some j) directions (Some budget) = Some (yields model i j directions budget)
+yielding model _ j directions budget = None
+
 -- The kind of a built-in stack.
 abbrev pub kind_of : List ℕ → Option Kind
 kind_of word = if bytes_eq word (codes "harmonic") then Some Harmonic
@@ -119,11 +127,23 @@ abbrev pub form_of_four : List ℕ → List ℕ → List ℕ → List ℕ → Op
 form_of_four word next third last =
     if bytes_eq word (codes "stages") then staging next third (budget_of last) else None
 
+-- Five words: a model, the numbers of two loads, and a file of directions.
+abbrev pub form_of_five : List ℕ → List ℕ → List ℕ → List ℕ → List ℕ → Option Form
+form_of_five word next third fourth last = if bytes_eq word (codes "yield")
+    then yielding next (number_spelled third) (number_spelled fourth) last (Some default_budget) else None
+
+-- Six words: a budget behind these.
+abbrev pub form_of_six : List ℕ → List ℕ → List ℕ → List ℕ → List ℕ → List ℕ → Option Form
+form_of_six word next third fourth fifth last = if bytes_eq word (codes "yield")
+    then yielding next (number_spelled third) (number_spelled fourth) fifth (budget_of last) else None
+
 -- The form of the words, if they have one.
 abbrev pub form_of : List (List ℕ) → Option Form
 form_of (word ∷ last ∷ []) = form_of_two word last
 form_of (word ∷ next ∷ last ∷ []) = form_of_three word next last
 form_of (word ∷ next ∷ third ∷ last ∷ []) = form_of_four word next third last
+form_of (word ∷ next ∷ third ∷ fourth ∷ last ∷ []) = form_of_five word next third fourth last
+form_of (word ∷ next ∷ third ∷ fourth ∷ fifth ∷ last ∷ []) = form_of_six word next third fourth fifth last
 form_of _ = None
 
 -- The words that the runtime gave: where one of them can't be read, or there is no memory for them, they are no form.
@@ -143,3 +163,4 @@ files_of (Some (stack kind n)) = []
 files_of (Some (sample n)) = []
 files_of (Some (ranges model budget)) = model ∷ []
 files_of (Some (builds model order budget)) = model ∷ order ∷ []
+files_of (Some (yields model i j directions budget)) = model ∷ directions ∷ []

@@ -6,12 +6,13 @@ ghost use Rattle.stack_contact.specs.Surveyed.{Surveyed};
 ghost use Rattle.stack_equilibrium.specs.declared.types.Question.{Question};
 ghost use Rattle.stack_outside.specs.Faults.{Rose, counted};
 ghost use Rattle.stack_cli.specs.Refusals.{refusal_view};
-ghost use Rattle.stack_cli.specs.Words.{form_of, texts, judges, check, ranges, builds};
+ghost use Rattle.stack_cli.specs.Words.{form_of, texts, judges, check, ranges, builds, yields};
 ghost use Rattle.stack_cli.specs.AcceptedModel.{IsAcceptedModel};
 ghost use Rattle.stack_cli.specs.Headline.{Judging};
 ghost use Rattle.stack_cli.specs.Accepted.{CheckSays};
 ghost use Rattle.stack_cli.specs.RangeSaid.{RangeSays};
 ghost use Rattle.stack_cli.specs.StagesSaid.{StagesSay};
+ghost use Rattle.stack_cli.specs.RegionSaid.{RegionSays};
 ghost use Rattle.stack_cli.specs.Progress.{Delivers, SaysLine};
 ghost use Rattle.stack_cli.specs.OnePut.{PutsAnswer, PutsLine};
 ghost use Rattle.stack_cli.specs.MainTheorem.{RunMeets};
@@ -84,8 +85,11 @@ fn deliver<O: Sink, E: Sink>(
 /// that of a collapse of the model is. The clause `staged`: for words of the form `stages` and two told files, the
 /// status is 0 only where each stage of the order in the second carries its dead loads, and exactly that is printed; it
 /// is 1 only where the stages before one do and that one is carried by no forces, and exactly that is printed, with the
-/// motion by which it falls. The clauses `one_put` and `one_line`: `out` is called once for an answer and never for a
-/// refusal, and `err` once for a refusal and never for an answer.
+/// motion by which it falls. The clause `yielded`: for words of the form `yield` and two told files, the status is 0
+/// only where exactly the text of a region of two live loads of the model in the first is printed, in the directions in
+/// the second, each point of which is carried and each half-plane of which holds all that is; it is 1 only where that
+/// of a collapse of the model is. The clauses `one_put` and `one_line`: `out` is called once for an answer and never
+/// for a refusal, and `err` once for a refusal and never for an answer.
 pub fn run<F: Shelf, O: Sink, E: Sink>(
     alloc: Global,
     words: &[String],
@@ -112,6 +116,10 @@ pub fn run<F: Shelf, O: Sink, E: Sink>(
         form_of (texts words.now) ≡ Some (builds model name budget) → F.holds shelf.old model ≡ Some bytes →
         F.holds shelf.old name ≡ Some text →
         StagesSay bytes text result (O.written out.old) (O.written out.new) }
+    ensures yielded { (model : List ℕ) (i j : ℕ) (name : List ℕ) (budget : ℕ) (bytes text : List ℕ) →
+        form_of (texts words.now) ≡ Some (yields model i j name budget) → F.holds shelf.old model ≡ Some bytes →
+        F.holds shelf.old name ≡ Some text →
+        RegionSays bytes text i j result (O.written out.old) (O.written out.new) }
     ensures one_put { PutsAnswer result (O.calls out.old) (O.calls out.new) }
     ensures one_line { PutsLine result (E.calls err.old) (E.calls err.new) }
     ensures holds { F.holds shelf.new ≡ F.holds shelf.old }

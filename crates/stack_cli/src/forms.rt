@@ -13,6 +13,7 @@ pub mod ranging;
 pub mod sampling;
 pub mod stacking;
 pub mod tabling;
+pub mod yielding;
 
 use crate::answer::Answer;
 use crate::refusal::Refusal;
@@ -27,6 +28,7 @@ use stack_outside::Shelf;
 use stacking::stack_form;
 use std::alloc::Global;
 use tabling::table_form;
+use yielding::yield_form;
 
 /// The answer to the words, or the first step of the order of work that refuses.
 pub fn answer_words<F: Shelf>(
@@ -61,6 +63,15 @@ pub fn answer_words<F: Shelf>(
                 budget,
             },
         ) => stages_form(alloc, shelf, model, order, budget),
+        Some(
+            Form::Yield {
+                model,
+                first,
+                second,
+                directions,
+                budget,
+            },
+        ) => yield_form(alloc, shelf, model, (first, second), directions, budget),
         None => Err(Refusal::Words),
     }
 }

@@ -4,9 +4,11 @@ ghost use Rattle.std.specs.Prelude.{◌≡◌, ◌++◌, codes, Some};
 ghost use Rattle.stack_cli.specs.Refusals.{input_word, part_word, axis_word, step_word, spot_text, numbers_word};
 ghost use Rattle.stack_cli.specs.Refusals.{end_step_word, place_text, balance_of, place_view, status_of, refusal_line};
 ghost use Rattle.stack_cli.specs.Refusals.{refusal_view, faulty, check_text, within_text, run_text, end_text};
+ghost use Rattle.stack_cli.specs.Refusals.{reach_word, no_pair};
 ghost use Rattle.stack_cli.specs.Surveying.{from_read};
 ghost use Rattle.stack_cli.specs.Stacking.{built_fault};
 ghost use Rattle.stack_cli.specs.Building.{from_order};
+ghost use Rattle.stack_cli.specs.Yielding.{from_directions};
 ghost use Rattle.stack_cli.specs.declared.refusal.Refusal.TheVariants.{Memory};
 
 use crate::model_lines::FaultText;
@@ -20,6 +22,7 @@ use stack_report::number;
 use stack_simplex::RunPlace;
 use stack_stages::OrderError;
 use stack_table::types::Step;
+use stack_yield::{DirectionsError, NoPair};
 use std::alloc::AllocError;
 use std::fmt;
 
@@ -32,6 +35,8 @@ pub enum Input {
     Certificate,
     /// The order's.
     Order,
+    /// That of the directions.
+    Directions,
 }
 
 /// Of which of a form's judgements a number is too wide.
@@ -45,6 +50,17 @@ pub enum Within {
     Stage { number: usize },
     /// The direction with this number, from 1, of two loads together.
     Direction { number: usize },
+}
+
+/// Which number of a reach is too wide.
+#[derive(Clone, Copy, Debug, PartialEq, Eq)]
+pub enum ReachPlace {
+    /// The power of the first load.
+    First,
+    /// The power of the second load.
+    Second,
+    /// A coordinate of the point.
+    Point,
 }
 
 /// Where a check meets a number that is too wide.
@@ -93,6 +109,11 @@ pub enum Refusal {
     OrderLine {
         number: usize,
     },
+    /// The file of the directions tells none: this line, from 1, is the first that is no direction with a line feed, or
+    /// the 65th, or 1 where there is no line.
+    DirectionsLine {
+        number: usize,
+    },
     /// A number of the check is too wide, in this part of the certificate.
     WideCheck {
         within: Within,
@@ -109,6 +130,11 @@ pub enum Refusal {
         within: Within,
         place: ExtractPlace,
     },
+    /// A number of a reach is too wide.
+    WideReach {
+        within: Within,
+        place: ReachPlace,
+    },
     /// A number of the table of forces is too wide, the first one with this index in the order in which they are made.
     WideTable {
         index: usize,
@@ -119,6 +145,11 @@ pub enum Refusal {
     },
     /// No live load is listed.
     NoLive,
+    /// Two numbers name no two loads that make a region. This is the first of them that names no live load, or one with
+    /// a component of more than 1,000,000 in size, or the second where it is the first.
+    NoPair {
+        load: u32,
+    },
     /// The answer isn't written.
     Output,
     /// Memory is wanting.
@@ -142,12 +173,15 @@ impl Refusal {
             Refusal::WideCheck { .. } => 7,
             Refusal::WideRun { .. } => 7,
             Refusal::WideEnd { .. } => 7,
+            Refusal::WideReach { .. } => 7,
             Refusal::WideTable { .. } => 7,
             Refusal::Spent { .. } => 8,
             Refusal::NoLive => 9,
             Refusal::Output => 10,
             Refusal::Memory => 11,
             Refusal::OrderLine { .. } => 13,
+            Refusal::DirectionsLine { .. } => 14,
+            Refusal::NoPair { .. } => 15,
         }
     }
 }
@@ -208,6 +242,17 @@ pub fn end_step_text(step: EndStep) -> &'static str
     }
 }
 
+/// The word for a number of a reach.
+pub fn reach_text(place: ReachPlace) -> &'static str
+    ensures { result.now ≡ reach_word place }
+{
+    match place {
+        ReachPlace::First => "first",
+        ReachPlace::Second => "second",
+        ReachPlace::Point => "point",
+    }
+}
+
 impl fmt::Display for Input {
     ghost output = { λ i. Some (input_word i) };
 
@@ -216,6 +261,7 @@ impl fmt::Display for Input {
             Input::Model => "model",
             Input::Certificate => "certificate",
             Input::Order => "order",
+            Input::Directions => "directions",
         })
     }
 }
@@ -351,6 +397,7 @@ impl fmt::Display for Refusal {
             Refusal::Size => f.write_str("model size"),
             Refusal::CertificateLine { number } => write!(f, "certificate line {number}"),
             Refusal::OrderLine { number } => write!(f, "order line {number}"),
+            Refusal::DirectionsLine { number } => write!(f, "directions line {number}"),
             Refusal::WideCheck {
                 within,
                 part,
@@ -367,9 +414,13 @@ impl fmt::Display for Refusal {
                 let spot = EndText { place: *place };
                 write!(f, "wide {within}{spot}")
             }
+            Refusal::WideReach { within, place } => {
+                write!(f, "wide {within}{}", reach_text(*place))
+            }
             Refusal::WideTable { index } => write!(f, "wide table {index}"),
             Refusal::Spent { budget } => write!(f, "spent {budget}"),
             Refusal::NoLive => f.write_str("no live load"),
+            Refusal::NoPair { load } => write!(f, "no pair {load}"),
             Refusal::Output => f.write_str("output"),
             Refusal::Memory => f.write_str("memory"),
         }
@@ -415,5 +466,24 @@ impl From<OrderError> for Refusal {
             OrderError::Line { number } => Refusal::OrderLine { number },
             OrderError::Memory => Refusal::Memory,
         }
+    }
+}
+
+impl From<DirectionsError> for Refusal {
+    ghost from_gives = { λ e r. refusal_view r ≡ faulty (from_directions e) };
+
+    fn from(e: DirectionsError) -> Refusal {
+        match e {
+            DirectionsError::Line { number } => Refusal::DirectionsLine { number },
+            DirectionsError::Memory => Refusal::Memory,
+        }
+    }
+}
+
+impl From<NoPair> for Refusal {
+    ghost from_gives = { λ e r. refusal_view r ≡ faulty (no_pair e.load) };
+
+    fn from(e: NoPair) -> Refusal {
+        Refusal::NoPair { load: e.load }
     }
 }

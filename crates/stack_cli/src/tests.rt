@@ -29,6 +29,10 @@ corners = [[0, 0], [2, 0], [2, 4], [0, 4]]
 /// A live load that pushes it at its head.
 const PUSH: &str = "\n[[load]]\nblock = \"post\"\nkind = \"live\"\nat = [0, 4]\nforce = [1, 0]\n";
 
+/// One that presses it from above, in its middle.
+const PRESSURE: &str =
+    "\n[[load]]\nblock = \"post\"\nkind = \"live\"\nat = [1, 4]\nforce = [0, -1]\n";
+
 /// Forces that carry it.
 const FORCES: &str = "stands\nforces 1 0\npush 24 0\npush 24 0\nend\n";
 
@@ -202,6 +206,56 @@ fn the_stages_of_an_order_are_told(rt: HostRuntime) -> Result<(), Fail> {
     let none = ["stages", "model", "none"];
     compare(&rt, alloc, &mut files, &none, (3, "", "file order\n"))?;
     assert_eq!(rt; files.asked().len(), 8);
+    Ok(())
+}
+
+/// A shelf with the post under `model`, pushed and pressed, and with files of directions.
+fn directed_shelf(alloc: Global) -> Result<MemoryShelf, Fail> {
+    let mut text = String::from_str(alloc, POST)?;
+    text.push_str(PUSH)?;
+    text.push_str(PRESSURE)?;
+    let mut list = Vec::new(alloc);
+    list.push((String::from_str(alloc, "model")?, text.into_bytes()))?;
+    let told = [
+        ("down", "dir 0 1\n"),
+        ("aside", "dir 1 0\n"),
+        ("nowhere", "dir 0 0\n"),
+    ];
+    for (name, text) in told {
+        let bytes = Vec::from_slice(alloc, text.as_bytes())?;
+        list.push((String::from_str(alloc, name)?, bytes))?;
+    }
+    Ok(MemoryShelf::new(list, Vec::new(alloc)))
+}
+
+#[test]
+fn the_region_of_a_push_and_a_pressure_is_told(rt: HostRuntime) -> Result<(), Fail> {
+    let alloc = rt.alloc();
+    let mut files = directed_shelf(alloc)?;
+    let down = ["yield", "model", "1", "2", "down"];
+    let endless = (0, "region 1\ndir 0 1 unlimited\n", "");
+    compare(&rt, alloc, &mut files, &down, endless)?;
+    let few = ["yield", "model", "1", "2", "aside", "1"];
+    compare(&rt, alloc, &mut files, &few, (8, "", "spent 1\n"))?;
+    let nowhere = ["yield", "model", "1", "2", "nowhere"];
+    let line = (14, "", "directions line 1\n");
+    compare(&rt, alloc, &mut files, &nowhere, line)?;
+    let none = ["yield", "model", "1", "2", "none"];
+    compare(&rt, alloc, &mut files, &none, (3, "", "file directions\n"))?;
+    let third = ["yield", "model", "1", "3", "down"];
+    compare(&rt, alloc, &mut files, &third, (15, "", "no pair 3\n"))?;
+    let words = strings(alloc, &["yield", "model", "1", "2", "aside"])?;
+    let mut out = MemorySink::new(Vec::new(alloc), 1000)?;
+    let mut err = MemorySink::new(Vec::new(alloc), 100)?;
+    assert_eq!(rt;
+        run(alloc, words.as_slice(), &mut files, &mut out, &mut err),
+        0
+    );
+    assert!(rt;
+        out.written()
+            .starts_with(b"region 1\ndir 1 0 reach 2/1 0/1\nhalf ")
+    );
+    assert_eq!(rt; files.asked().len(), 11);
     Ok(())
 }
 

@@ -7,7 +7,8 @@ ghost use Rattle.stack_cli.specs.Words.{number_spelled as number_of_word, budget
 ghost use Rattle.stack_cli.specs.Words.{judging as judging_of, kind_of as kind_of_word, stacking as stacking_of};
 ghost use Rattle.stack_cli.specs.Words.{form_of_two as form_of_two_words, form_of_three as form_of_three_words};
 ghost use Rattle.stack_cli.specs.Words.{form_of_four as form_of_four_words, ranging as ranging_of};
-ghost use Rattle.stack_cli.specs.Words.{staging as staging_of};
+ghost use Rattle.stack_cli.specs.Words.{staging as staging_of, yielding as yielding_of};
+ghost use Rattle.stack_cli.specs.Words.{form_of_five as form_of_five_words, form_of_six as form_of_six_words};
 
 use itoa::Buffer;
 use stack_equilibrium::types::Question;
@@ -64,6 +65,15 @@ pub enum Form<'a> {
     Stages {
         model: &'a str,
         order: &'a str,
+        budget: u32,
+    },
+    /// Judges two live loads, by their numbers from 1 among all loads, in directions of both together within a budget
+    /// of pivots a direction; the names of both files.
+    Yield {
+        model: &'a str,
+        first: u32,
+        second: u32,
+        directions: &'a str,
         budget: u32,
     },
 }
@@ -155,6 +165,30 @@ fn staging<'a>(model: &'a str, order: &'a str, budget: Option<u32>) -> Option<Fo
     }
 }
 
+/// The form of the region of two loads, where both have a number and the budget is one.
+fn yielding<'a>(
+    model: &'a str,
+    first: Option<u32>,
+    second: Option<u32>,
+    directions: &'a str,
+    budget: Option<u32>,
+) -> Option<Form<'a>>
+    requires { IfSome budget (λ n. n ≢ 0) }
+    ensures is { option_map form_view result ≡ yielding_of model.now first second directions.now budget }
+    ensures budget { IfSome result HasBudget }
+{
+    match (first, second, budget) {
+        (Some(first), Some(second), Some(budget)) => Some(Form::Yield {
+            model,
+            first,
+            second,
+            directions,
+            budget,
+        }),
+        _ => None,
+    }
+}
+
 /// The kind of stack that a word names.
 fn kind_of(word: &str) -> Option<Kind>
     ensures { result ≡ kind_of_word word.now }
@@ -238,6 +272,55 @@ fn form_of_four<'a>(word: &str, next: &'a str, third: &'a str, last: &str) -> Op
     None
 }
 
+/// The form of a word before four more.
+fn form_of_five<'a>(
+    word: &str,
+    next: &'a str,
+    third: &str,
+    fourth: &str,
+    last: &'a str,
+) -> Option<Form<'a>>
+    ensures is { option_map form_view result
+        ≡ form_of_five_words word.now next.now third.now fourth.now last.now }
+    ensures budget { IfSome result HasBudget }
+{
+    if word == "yield" {
+        return yielding(
+            next,
+            number_of(third),
+            number_of(fourth),
+            last,
+            Some(DEFAULT_BUDGET),
+        );
+    }
+    None
+}
+
+/// The form of a word before five more.
+fn form_of_six<'a>(
+    word: &str,
+    next: &'a str,
+    third: &str,
+    fourth: &str,
+    fifth: &'a str,
+    last: &str,
+) -> Option<Form<'a>>
+    ensures is { option_map form_view result
+        ≡ form_of_six_words word.now next.now third.now fourth.now fifth.now last.now }
+    ensures budget { IfSome result HasBudget }
+{
+    if word == "yield" {
+        return yielding(
+            next,
+            number_of(third),
+            number_of(fourth),
+            fifth,
+            budget_of(last),
+        );
+    }
+    None
+}
+
 /// The form of the words, exactly where they have one. Takes no memory.
 pub fn parse_form(words: &[String]) -> Option<Form<'_>>
     ensures is { option_map form_view result ≡ form_of (texts words.now) }
@@ -249,6 +332,21 @@ pub fn parse_form(words: &[String]) -> Option<Form<'_>>
         [word, next, third, last] => {
             form_of_four(word.as_str(), next.as_str(), third.as_str(), last.as_str())
         }
+        [word, next, third, fourth, last] => form_of_five(
+            word.as_str(),
+            next.as_str(),
+            third.as_str(),
+            fourth.as_str(),
+            last.as_str(),
+        ),
+        [word, next, third, fourth, fifth, last] => form_of_six(
+            word.as_str(),
+            next.as_str(),
+            third.as_str(),
+            fourth.as_str(),
+            fifth.as_str(),
+            last.as_str(),
+        ),
         _ => None,
     }
 }

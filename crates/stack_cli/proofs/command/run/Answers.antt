@@ -3,6 +3,7 @@ use Rattle.stack_cli.proofs.HeadlineHolds.{headline_of}
 use Rattle.stack_cli.proofs.CheckAnswered.{check_says}
 use Rattle.stack_cli.proofs.RangeAnswered.{range_says}
 use Rattle.stack_cli.proofs.StagesAnswered.{stages_say}
+use Rattle.stack_cli.proofs.YieldAnswered.{region_says}
 use Rattle.stack_cli.proofs.command.run.Goals as goal
 
 pub returns-clause-meets : goal.returns-clause-meets
@@ -21,3 +22,6 @@ returns-clause-ranged g c = range_says (returns-clause-meets g c)
 
 pub returns-clause-staged : goal.returns-clause-staged
 returns-clause-staged g c = stages_say (returns-clause-meets g c)
+
+pub returns-clause-yielded : goal.returns-clause-yielded
+returns-clause-yielded g c = region_says (returns-clause-meets g c)

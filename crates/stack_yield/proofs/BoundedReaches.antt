@@ -1,0 +1,149 @@
+-- The reach of a greatest factor, as the code makes it.
+use Rattle.std.proofs.Common.{◌≡◌, refl, sym, ap, ◌∙◌, subst, ℕ, Option, Some, None, Result, Ok, Err, Bool, true, false}
+use Rattle.std.specs.Prelude.{IfOk, if◌then◌else◌, length}
+use lib.IntN.{ℤ, pos, negsuc, neg_ℤ, ◌*ℤ◌}
+use native.Mathlib.Omega.{arith}
+use mir.Syntax.{w64}
+use mir.Val.{to_z, of_z}
+use Rattle.stack_algebra.proofs.Integers.{sums}
+use Rattle.stack_algebra.specs.IntegerOrder.{◌≼◌}
+use Rattle.stack_whole.specs.declared.whole.Whole.{Whole}
+use Rattle.stack_whole.specs.Whole.{whole}
+use Rattle.stack_yield.proofs.DirectedBorne.{cast}
+use Rattle.stack_algebra.specs.Fraction.{Fraction}
+use Rattle.stack_algebra.proofs.Over.{over}
+use Rattle.stack_rational.specs.Laws.{widest}
+use Rattle.stack_rational.specs.TooWide.{fraction_fits}
+use Rattle.stack_contact.specs.Surveyed.{Surveyed}
+use Rattle.stack_contact.specs.FreeBlocks.{frees_of}
+use Rattle.stack_certificate.specs.Certificate.{ForcesValue, MotionValue, CertificateValue}
+use Rattle.stack_certificate.specs.Certificate.{stands, collapses, greatest, unbounded}
+use Rattle.stack_equilibrium.specs.declared.types.PowerWide.{PowerWide}
+use Rattle.stack_equilibrium.specs.declared.types.Question.TheVariants.{Live}
+use Rattle.stack_equilibrium.specs.Motions.{live_power_of}
+use Rattle.stack_equilibrium.specs.SurveyScene.{scene_of}
+use Rattle.stack_equilibrium.specs.Held.{move_at}
+use Rattle.stack_equilibrium.specs.WrittenPowers.{written_power}
+use Rattle.stack_judge.specs.Judged.{IsJudged}
+use Rattle.stack_pairs.specs.Directed.{directed_survey, ArePair}
+use Rattle.stack_pairs.specs.Reaches.{PointValue, ReachValue, terms_of, point_of, half_of, reach_of}
+use Rattle.stack_pairs.specs.Reaches.{IsReaching, IsReach}
+use Rattle.stack_pairs.proofs.Reached.{directed_dead_power}
+use Rattle.stack_yield.specs.declared.judging.Turn.{Turn}
+use Rattle.stack_yield.specs.declared.judging.Turn.TheVariants.{Reaches, Falls}
+use Rattle.stack_yield.specs.declared.judging.Stop.{Stop}
+use Rattle.stack_yield.specs.declared.types.RegionPlace.TheVariants as places
+use Rattle.stack_yield.specs.Coordinates.{fitting_terms, both_coordinates, coordinate_of, point_made}
+use Rattle.stack_yield.specs.LessDead.{less_dead}
+use Rattle.stack_yield.specs.Kept.{reach_view}
+use Rattle.stack_yield.specs.Outcomes.{reaches, passes, unless_wide, bounded}
+use Rattle.stack_yield.specs.Regions.{turn_outcome, IsOutcome, TurnHolds}
+use Rattle.stack_yield.proofs.Accepted.{moves_counted}
+
+fitting_is : (x : Fraction) (t : ℤ × ℤ) → fitting_terms x ≡ Some t → terms_of x ≡ t
+fitting_is x t h = go (fraction_fits widest x) h
+  where
+    go : (b : Bool) → (if b then Some (terms_of x) else None) ≡ Some t → terms_of x ≡ t
+    go true h = cc
+    go false h = absurd (cc)
+
+point_is : (m n : ℤ) (f : ForcesValue) (p : PointValue) → point_made m n f ≡ Some p → point_of m n f ≡ p
+point_is m n f p h = go (coordinate_of m f) refl (coordinate_of n f) refl h
+  where
+    go : (x : Option (ℤ × ℤ)) → coordinate_of m f ≡ x → (y : Option (ℤ × ℤ)) → coordinate_of n f ≡ y →
+        both_coordinates x y ≡ Some p → point_of m n f ≡ p
+    go (Some x) ex (Some y) ey h =
+        let same : (x, y) ≡ p = cc in
+        (λ i. (
+          fitting_is (over (m *ℤ f.factor) f.scale) x ex i,
+          fitting_is (over (n *ℤ f.factor) f.scale) y ey i,
+        )) ∙ same
+    go (Some x) ex None ey h = absurd (cc)
+    go None ex y ey h = absurd (cc)
+
+pub point_told : (m n m' n' : ℤ) (f : ForcesValue) (a b : Whole) (r o : Option PointValue) → a ≡ whole m' → m' ≡ m →
+    b ≡ whole n' → n' ≡ n → r ≡ point_made a.value b.value f → r ≡ o → point_made m n f ≡ o
+point_told m n m' n' f a b r o ea em eb en is was =
+    (λ t. point_made (sym (ap (λ (w : Whole). w.value) ea ∙ em) t) (sym (ap (λ (w : Whole). w.value) eb ∙ en) t) f)
+    ∙ sym is ∙ was
+
+pub half_told : (v : Surveyed) (y : MotionValue) (p : ℤ) (w : Surveyed) → v ≡ w →
+    p ≡ live_power_of (scene_of v) (move_at v y) → p ≡ live_power_of (scene_of w) (move_at w y)
+half_told v y p w e h = h ∙ ap (λ x. live_power_of (scene_of x) (move_at x y)) e
+
+pub factor_cast : (z : ℤ) → negsuc 999 ≼ z → z ≼ pos 1000 → to_z w64 (of_z w64 z) ≡ z
+factor_cast z a b = cast z (record { least = omega (arith, sums); most = omega (arith, sums) })
+
+module _ (s : Surveyed) (i j : ℕ) where
+  -- where no number is too wide
+  pub bounded_is : (m n : ℤ) (f : ForcesValue) (y : MotionValue) (m' n' p q r p' q' r' : ℤ) (x : PointValue) →
+      m' ≡ m → n' ≡ n → p' ≡ p → q' ≡ q → r' ≡ r →
+      written_power Live (directed_survey s i j (pos 1) (pos 0)) y ≡ Ok p →
+      written_power Live (directed_survey s i j (pos 0) (pos 1)) y ≡ Ok q → point_made m n f ≡ Some x →
+      p ≡ (half_of s i j y).0 → q ≡ (half_of s i j y).1 → r ≡ (half_of s i j y).2 →
+      bounded s i j m n f y ≡ reaches (record {
+        m = m';
+        n = n';
+        certificate = greatest f y;
+        point = Some x;
+        half = Some (p', q', r');
+      })
+  bounded_is m n f y m' n' p q r p' q' r' x em en ep eq er wp wq wx hp hq hr =
+      (λ t. unless_wide (wp t) (wq t) (wx t) (reach_of s i j m n (greatest f y)))
+      ∙ (λ t. reaches (record {
+        m = sym em t;
+        n = sym en t;
+        certificate = greatest f y;
+        point = Some (point_is m n f x wx t);
+        half = Some (sym (ep ∙ hp) t, sym (eq ∙ hq) t, sym (er ∙ hr) t);
+      }))
+
+  pub first_wide : (m n : ℤ) (f : ForcesValue) (y : MotionValue) (e : PowerWide) →
+      written_power Live (directed_survey s i j (pos 1) (pos 0)) y ≡ Err e → bounded s i j m n f y ≡ passes places.First
+  first_wide m n f y e w = ap (λ r. unless_wide r (written_power Live (directed_survey s i j (pos 0) (pos 1)) y)
+      (point_made m n f) (reach_of s i j m n (greatest f y))) w
+
+  reach_or_stop : (a b : Result ℤ PowerWide) (o : Option PointValue) (v : ReachValue) (t : Turn) →
+      unless_wide a b o v ≡ turn_outcome t → turn_outcome t ≡ reaches v
+  reach_or_stop (Ok p) (Ok q) (Some x) v t h = sym h
+  reach_or_stop (Ok p) (Ok q) None v (Reaches r) h = absurd (cc)
+  reach_or_stop (Ok p) (Ok q) None v (Falls y) h = absurd (cc)
+  reach_or_stop (Ok p) (Err e) o v (Reaches r) h = absurd (cc)
+  reach_or_stop (Ok p) (Err e) o v (Falls y) h = absurd (cc)
+  reach_or_stop (Err e) b o v (Reaches r) h = absurd (cc)
+  reach_or_stop (Err e) b o v (Falls y) h = absurd (cc)
+
+  pub is_reach : (m n : ℤ) (v : Surveyed) (c : CertificateValue) → v ≡ directed_survey s i j m n → IsJudged Live v c →
+      IsReaching c → IsReach s i j (reach_of s i j m n c)
+  is_reach m n v (greatest f y) e h is =
+      let k = subst (λ t. IsJudged Live t (greatest f y)) e h in
+      record { holds = k.holds; form = tt; stands = k.dead_loads; is = refl }
+  is_reach m n v (unbounded f r) e h is =
+      let k = subst (λ t. IsJudged Live t (unbounded f r)) e h in
+      record { holds = k.holds; form = tt; stands = k.dead_loads; is = refl }
+  is_reach m n v (stands f) e h is = absurd is
+  is_reach m n v (collapses y) e h is = absurd is
+
+  turn_holds : (v : ReachValue) (t : Turn) → turn_outcome t ≡ reaches v → IsReach s i j v → TurnHolds s i j t
+  turn_holds v (Reaches r) e h = let same : v ≡ reach_view r = cc in subst (IsReach s i j) same h
+  turn_holds v (Falls y) e h = absurd (cc)
+
+  pub bounded_holds : (m n : ℤ) (f : ForcesValue) (y : MotionValue) (v : Surveyed) (r : Result Turn Stop) →
+      v ≡ directed_survey s i j m n → IsJudged Live v (greatest f y) → IsOutcome r (bounded s i j m n f y) →
+      IfOk r (TurnHolds s i j)
+  bounded_holds m n f y v (Ok t) e h o = turn_holds (reach_of s i j m n (greatest f y)) t
+      (reach_or_stop _ _ _ (reach_of s i j m n (greatest f y)) t o) (is_reach m n v (greatest f y) e h tt)
+  bounded_holds m n f y v (Err x) e h o = tt
+
+  -- each directed survey has as many free blocks
+  pub moves_for : (m n a b : ℤ) (v w : Surveyed) (f : ForcesValue) (y : MotionValue) →
+      v ≡ directed_survey s i j m n → w ≡ directed_survey s i j a b → IsJudged Live v (greatest f y) →
+      length y ≡ length (frees_of w.structure.bodies)
+  moves_for m n a b v w f y ev ew h = moves_counted v f y h
+      ∙ ap (λ (x : Surveyed). length (frees_of x.structure.bodies)) ev
+      ∙ sym (ap (λ (x : Surveyed). length (frees_of x.structure.bodies)) ew)
+
+  -- and the same dead power
+  pub less_dead_is : (m n : ℤ) (v : Surveyed) (y : MotionValue) → ArePair s.structure i j →
+      v ≡ directed_survey s i j m n → less_dead v y ≡ (half_of s i j y).2
+  less_dead_is m n v y pair e = ap (λ x. less_dead x y) e ∙ ap neg_ℤ (directed_dead_power s i j m n y pair)

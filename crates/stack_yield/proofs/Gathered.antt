@@ -1,0 +1,182 @@
+-- Directions one after the other.
+use Rattle.std.proofs.Common.{◌≡◌, refl, sym, ap, ◌∙◌, subst, ℕ, suc, ◌+◌, ◌<◌, ◌≤◌, List, [], ◌∷◌, ◌++◌, length}
+use Rattle.std.proofs.Common.{get_or, map, drop, Result, Ok, Err, append_assoc, arith}
+use native.Mathlib.Numerals.{add-one}
+use Rattle.std.specs.List.{AllByRecursion}
+use Rattle.std.specs.Prelude.{IfOk}
+use Rattle.std.proofs.Math.Seq.{drop-cons}
+use Rattle.std.proofs.lemmas.List.{map-append, take_more, take_all}
+use lib.IntN.{ℤ}
+use Rattle.stack_contact.specs.Surveyed.{Surveyed}
+use Rattle.stack_equilibrium.specs.Scene.{IsProper}
+use Rattle.stack_equilibrium.specs.SurveyScene.{scene_of}
+use Rattle.stack_pairs.specs.Directed.{ArePair}
+use Rattle.stack_pairs.specs.Reaches.{ReachValue, collapse, points, IsReach, RegionTells}
+use Rattle.stack_pairs.specs.Laws.{RegionsTell}
+use Rattle.stack_certificate.specs.declared.types.Motion.{Motion}
+use Rattle.stack_certificate.specs.Certificate.{motion_view}
+use Rattle.stack_yield.specs.declared.directing.Towards.{Towards}
+use Rattle.stack_yield.specs.declared.types.RegionError.{RegionError}
+use Rattle.std.proofs.Common.{take, Option, Some, None}
+use Rattle.stack_certificate.specs.Certificate.{stands, collapses, greatest, unbounded}
+use Rattle.stack_equilibrium.specs.declared.types.PowerWide.{PowerWide}
+use Rattle.stack_equilibrium.specs.declared.types.Question.TheVariants.{Live}
+use Rattle.stack_judge.specs.Judgement.{Judgement, certified, too_wide, spent, judgement}
+use Rattle.stack_pairs.specs.Directed.{directed_survey}
+use Rattle.stack_pairs.specs.Reaches.{PointValue, direction_of_reach, reach_of}
+use Rattle.stack_yield.specs.Outcomes.{unless_wide, outcome_of}
+use Rattle.stack_yield.specs.declared.types.Reach.{Reach}
+use Rattle.stack_yield.specs.declared.judging.Turn.{Turn}
+use Rattle.stack_yield.specs.declared.judging.Turn.TheVariants.{Reaches, Falls}
+use Rattle.stack_yield.specs.declared.judging.Stop.{Stop}
+use Rattle.stack_yield.specs.declared.judging.Stop.TheVariants.{Passes, Spends, Wants}
+use Rattle.stack_yield.specs.Kept.{reach_view}
+use Rattle.stack_yield.specs.Outcomes.{Outcome, reaches, falls, passes, spends, direction_outcome}
+use Rattle.stack_yield.specs.Outcomes.{Outcomes, answered, passes_at, spends_at, with_reach, and_then}
+use Rattle.stack_yield.specs.Outcomes.{outcomes_from, outcomes}
+use Rattle.stack_yield.specs.Regions.{turn_outcome, IsOutcome, IsFall, TurnHolds, Regions, refused_as, towards_of}
+
+-- reaches in front of what comes
+abbrev pub onto : List ReachValue → Outcomes → Outcomes
+onto rs (answered (points qs)) = answered (points (rs ++ qs))
+onto rs (answered (collapse y)) = answered (collapse y)
+onto rs (passes_at k p) = passes_at k p
+onto rs (spends_at k) = spends_at k
+
+onto_more : (rs : List ReachValue) (r : ReachValue) (o : Outcomes) → onto rs (with_reach r o) ≡ onto (rs ++ r ∷ []) o
+onto_more rs r (answered (points qs)) = ap (λ xs. answered (points xs)) (sym (append_assoc rs (r ∷ []) qs))
+onto_more rs r (answered (collapse y)) = refl
+onto_more rs r (passes_at k p) = refl
+onto_more rs r (spends_at k) = refl
+
+onto_nothing : (o : Outcomes) → o ≡ onto [] o
+onto_nothing (answered (points qs)) = refl
+onto_nothing (answered (collapse y)) = refl
+onto_nothing (passes_at k p) = refl
+onto_nothing (spends_at k) = refl
+
+module _ (s : Surveyed) (i j budget : ℕ) where
+  -- how far the directions ds have come: the reaches rs of the first k
+  pub record IsGathered (ds : List (ℤ × ℤ)) (rs : List ReachValue) (k : ℕ) : Type 0 where
+    pub outcomes : outcomes s i j budget ds ≡ onto rs (outcomes_from s i j budget k (drop k ds))
+    pub each : AllByRecursion (IsReach s i j) rs
+    pub directions : map direction_of_reach rs ≡ take k ds
+    pub counted : length rs ≡ k
+    pub within : k ≤ length ds
+
+  pub begun : (ds : List (ℤ × ℤ)) (rs : List Reach) → rs ≡ [] → IsGathered ds (map reach_view rs) 0
+  begun ds rs e = subst (λ xs. IsGathered ds (map reach_view xs) 0) (sym e) (record {
+    outcomes = onto_nothing (outcomes s i j budget ds);
+    each = tt;
+    directions = refl;
+    counted = refl;
+    within = omega arith;
+  })
+
+  -- direction number k
+  next : (ds : List (ℤ × ℤ)) (rs : List ReachValue) (k : ℕ) (d : ℤ × ℤ) (o : Outcome) → k < length ds →
+      IsGathered ds rs k → direction_outcome s i j budget (get_or ds k d) ≡ o →
+      outcomes s i j budget ds ≡ onto rs (and_then k o (outcomes_from s i j budget (suc k) (drop (suc k) ds)))
+  next ds rs k d o lt g e = g.outcomes ∙ ap (λ xs. onto rs (outcomes_from s i j budget k xs)) (drop-cons ds k d lt)
+      ∙ ap (λ x. onto rs (and_then k x (outcomes_from s i j budget (suc k) (drop (suc k) ds)))) e
+
+  all_more : (rs : List ReachValue) (r : ReachValue) → AllByRecursion (IsReach s i j) rs → IsReach s i j r →
+      AllByRecursion (IsReach s i j) (rs ++ r ∷ [])
+  all_more [] r h g = (g, tt)
+  all_more (x ∷ rs) r h g = (h.0, all_more rs r h.1 g)
+
+  length_more : (rs : List ReachValue) (r : ReachValue) → length (rs ++ r ∷ []) ≡ suc (length rs)
+  length_more [] r = refl
+  length_more (x ∷ rs) r = ap suc (length_more rs r)
+
+  one_direction : (ds : List (ℤ × ℤ)) (rs : List ReachValue) (r : ReachValue) (k : ℕ) (d : ℤ × ℤ) → k < length ds →
+      map direction_of_reach rs ≡ take k ds → direction_of_reach r ≡ get_or ds k d →
+      map direction_of_reach (rs ++ r ∷ []) ≡ take (suc k) ds
+  one_direction ds rs r k d lt so_far is = map-append direction_of_reach rs (r ∷ [])
+      ∙ (λ t. so_far t ++ is t ∷ []) ∙ sym (take_more ds k d lt) ∙ ap (λ n. take n ds) (add-one k)
+
+  -- a reach is one of its direction
+  unless_reaches : (a b : Result ℤ PowerWide) (p : Option PointValue) (v w : ReachValue) →
+      unless_wide a b p v ≡ reaches w → v ≡ w
+  unless_reaches (Ok a) (Ok b) (Some p) v w h = cc
+  unless_reaches (Ok a) (Ok b) None v w h = absurd (cc)
+  unless_reaches (Ok a) (Err e) p v w h = absurd (cc)
+  unless_reaches (Err e) b p v w h = absurd (cc)
+
+  outcome_direction : (m n : ℤ) (x : Judgement) (v : ReachValue) → outcome_of s i j m n x ≡ reaches v →
+      direction_of_reach v ≡ (m, n)
+  outcome_direction m n (certified (greatest f y)) v h = ap direction_of_reach (sym (unless_reaches _ _ _
+      (reach_of s i j m n (greatest f y)) v h))
+  outcome_direction m n (certified (unbounded f r)) v h =
+      let same : reach_of s i j m n (unbounded f r) ≡ v = cc in ap direction_of_reach (sym same)
+  outcome_direction m n (certified (stands f)) v h =
+      let same : reach_of s i j m n (stands f) ≡ v = cc in ap direction_of_reach (sym same)
+  outcome_direction m n (certified (collapses y)) v h = absurd (cc)
+  outcome_direction m n (too_wide p) v h = absurd (cc)
+  outcome_direction m n spent v h = absurd (cc)
+
+  pub one_more : (ds : List (ℤ × ℤ)) (rs more : List Reach) (k : ℕ) (d : ℤ × ℤ) (r : Reach) → k < length ds →
+      IsGathered ds (map reach_view rs) k → direction_outcome s i j budget (get_or ds k d) ≡ reaches (reach_view r) →
+      IsReach s i j (reach_view r) → more ≡ rs ++ r ∷ [] → IsGathered ds (map reach_view more) (k + 1)
+  one_more ds rs more k d r lt g e h is =
+      subst (λ xs. IsGathered ds xs (k + 1)) (sym (ap (map reach_view) is ∙ map-append reach_view rs (r ∷ [])))
+      (subst (IsGathered ds (map reach_view rs ++ reach_view r ∷ [])) (sym (add-one k)) (record {
+        outcomes = next ds (map reach_view rs) k d (reaches (reach_view r)) lt g e
+            ∙ onto_more (map reach_view rs) (reach_view r) (outcomes_from s i j budget (suc k) (drop (suc k) ds));
+        each = all_more (map reach_view rs) (reach_view r) g.each h;
+        directions = one_direction ds (map reach_view rs) (reach_view r) k d lt g.directions
+            (outcome_direction (get_or ds k d).0 (get_or ds k d).1 (judgement Live
+            (directed_survey s i j (get_or ds k d).0 (get_or ds k d).1) budget) (reach_view r) e);
+        counted = length_more (map reach_view rs) (reach_view r) ∙ ap suc g.counted;
+        within = omega (arith, lt);
+      }))
+
+  -- what a direction's call told, by the list's item
+  pub outcome_told : (d : ℤ × ℤ) (t : Towards) (r : Result Turn Stop) → t ≡ towards_of i j d →
+      IsOutcome r (direction_outcome s t.i t.j budget (t.m, t.n)) → IsOutcome r (direction_outcome s i j budget d)
+  outcome_told d t r e h = subst (λ (x : Towards). IsOutcome r (direction_outcome s x.i x.j budget (x.m, x.n))) e h
+
+  pub holds_told : (d : ℤ × ℤ) (t : Towards) (r : Result Turn Stop) → t ≡ towards_of i j d →
+      IfOk r (λ x. TurnHolds s t.i t.j x) → IfOk r (λ x. TurnHolds s i j x)
+  holds_told d t r e h = subst (λ (x : Towards). IfOk r (λ y. TurnHolds s x.i x.j y)) e h
+
+  ok_outcome : (o : Outcome) (r : Result Turn Stop) (t : Turn) → IsOutcome r o → r ≡ Ok t → o ≡ turn_outcome t
+  ok_outcome o r t h e = subst (λ x. IsOutcome x o) e h
+
+  pub reached : (o : Outcome) (r : Result Turn Stop) (t : Turn) (x : Reach) → IsOutcome r o → r ≡ Ok t → t ≡ Reaches x →
+      o ≡ reaches (reach_view x)
+  reached o r t x h e is = ok_outcome o r t h e ∙ ap turn_outcome is
+
+  pub reach_holds : (r : Result Turn Stop) (t : Turn) (x : Reach) → IfOk r (λ y. TurnHolds s i j y) → r ≡ Ok t →
+      t ≡ Reaches x → IsReach s i j (reach_view x)
+  reach_holds r t x h e is = subst (TurnHolds s i j) is (subst (λ y. IfOk y (λ z. TurnHolds s i j z)) e h)
+
+  pub fall_holds : (r : Result Turn Stop) (t : Turn) (y : Motion) → IfOk r (λ x. TurnHolds s i j x) → r ≡ Ok t →
+      t ≡ Falls y → IsFall s (motion_view y)
+  fall_holds r t y h e is = subst (TurnHolds s i j) is (subst (λ x. IfOk x (λ z. TurnHolds s i j z)) e h)
+
+  pub fallen : (ds : List (ℤ × ℤ)) (rs : List ReachValue) (k : ℕ) (d : ℤ × ℤ) (r : Result Turn Stop) (t : Turn)
+      (y : Motion) → k < length ds → IsGathered ds rs k →
+      IsOutcome r (direction_outcome s i j budget (get_or ds k d)) → r ≡ Ok t → t ≡ Falls y →
+      outcomes s i j budget ds ≡ answered (collapse (motion_view y))
+  fallen ds rs k d r t y lt g h e is = next ds rs k d (falls (motion_view y)) lt g
+      (ok_outcome (direction_outcome s i j budget (get_or ds k d)) r t h e ∙ ap turn_outcome is)
+
+  pub stopped : (ds : List (ℤ × ℤ)) (rs : List ReachValue) (k : ℕ) (d : ℤ × ℤ) (r : Result Turn Stop) (x : Stop)
+      (e : RegionError) → k < length ds → IsGathered ds rs k →
+      IsOutcome r (direction_outcome s i j budget (get_or ds k d)) → r ≡ Err x → e ≡ refused_as x k →
+      Regions (Err e) s i j budget ds
+  stopped ds rs k d r x e lt g h was is = subst (λ t. Regions (Err t) s i j budget ds) (sym is)
+      (go x (subst (λ t. IsOutcome t (direction_outcome s i j budget (get_or ds k d))) was h))
+    where
+      go : (x : Stop) → IsOutcome (Err x) (direction_outcome s i j budget (get_or ds k d)) →
+          Regions (Err (refused_as x k)) s i j budget ds
+      go (Passes p) o = next ds rs k d (passes p) lt g o
+      go Spends o = next ds rs k d spends lt g o
+      go Wants o = tt
+
+  pub all_told : RegionsTell → IsProper (scene_of s) → ArePair s.structure i j → (ds : List (ℤ × ℤ))
+      (rs : List ReachValue) (k : ℕ) → 1 ≤ length ds → length ds ≤ k → IsGathered ds rs k →
+      RegionTells s i j ds (points rs)
+  all_told law proper pair ds rs k some ended g =
+      law s i j ds rs proper pair (omega (arith, some, ended, g.counted)) (g.directions ∙ take_all k ds ended) g.each

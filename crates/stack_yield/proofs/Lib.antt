@@ -1,0 +1,9 @@
+pub mod DirectionLines
+pub mod DirectionLists
+pub mod DirectedBorne
+pub mod Points
+pub mod Accepted
+pub mod BoundedReaches
+pub mod DirectedLive
+pub mod Gathered
+pub mod ReachLines

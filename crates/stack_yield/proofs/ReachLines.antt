@@ -1,0 +1,32 @@
+-- Reaches printed one after the other.
+use Rattle.std.proofs.Common.{◌≡◌, ℕ, suc, ◌+◌, ◌<◌, ◌≤◌, List, [], ◌++◌, length, map, get_or, drop, sym, ap, ◌∙◌}
+use Rattle.std.proofs.Common.{subst, add-one, drop-cons, append_assoc}
+use Rattle.std.proofs.Math.ListN.{drop_of_length-le}
+use Rattle.std.proofs.lemmas.List.{append-nil, length-map}
+use Rattle.stack_yield.specs.declared.types.Reach.{Reach}
+use Rattle.stack_yield.specs.Kept.{reach_view}
+use Rattle.stack_yield.specs.RegionText.{reach_text, reach_lines, count_line}
+
+-- one reach more
+pub one_more : (rs : List Reach) (k : ℕ) (d : Reach) (text longer whole : List ℕ) → k < length rs →
+    longer ≡ text ++ reach_text (reach_view (get_or rs k d)) →
+    text ++ reach_lines (map reach_view (drop k rs)) ≡ whole →
+    longer ++ reach_lines (map reach_view (drop (k + 1) rs)) ≡ whole
+one_more rs k d text longer whole lt added so_far =
+    let rest : List ℕ = reach_lines (map reach_view (drop (suc k) rs)) in
+    subst (λ n. longer ++ reach_lines (map reach_view (drop n rs)) ≡ whole) (sym (add-one k))
+    (ap (λ t. t ++ rest) added ∙ append_assoc text (reach_text (reach_view (get_or rs k d))) rest
+    ∙ ap (λ ls. text ++ reach_lines (map reach_view ls)) (sym (drop-cons rs k d lt)) ∙ so_far)
+
+-- all reaches
+pub no_more : (rs : List Reach) (k : ℕ) (text whole : List ℕ) → length rs ≤ k →
+    text ++ reach_lines (map reach_view (drop k rs)) ≡ whole → text ≡ whole
+no_more rs k text whole le so_far = sym (append-nil text)
+    ∙ ap (λ ls. text ++ reach_lines (map reach_view ls)) (sym (drop_of_length-le rs le)) ∙ so_far
+
+-- behind the line that counts them
+pub behind_count : (rs : List Reach) (head whole : List ℕ) → head ≡ count_line (length rs) →
+    whole ≡ head ++ reach_lines (map reach_view rs) →
+    whole ≡ count_line (length (map reach_view rs)) ++ reach_lines (map reach_view rs)
+behind_count rs head whole counted is = is ∙ ap (λ t. t ++ reach_lines (map reach_view rs)) counted
+    ∙ ap (λ n. count_line n ++ reach_lines (map reach_view rs)) (sym (length-map rs reach_view))

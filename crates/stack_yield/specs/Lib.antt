@@ -1,0 +1,10 @@
+pub mod Directions
+pub mod Reading
+pub mod Pairing
+pub mod Directing
+pub mod Coordinates
+pub mod Kept
+pub mod LessDead
+pub mod Outcomes
+pub mod Regions
+pub mod RegionText

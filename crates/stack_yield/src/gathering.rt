@@ -1,0 +1,83 @@
+//! The safe region of two live loads, direction by direction.
+
+ghost use Rattle.std.specs.Prelude.{◌≡◌, ◌≢◌, ◌≤◌, IfOk, length};
+ghost use Rattle.std.specs.List.{All};
+ghost use Rattle.stack_pairs.specs.Directed.{ArePair};
+ghost use Rattle.stack_pairs.specs.Reaches.{RegionTells};
+ghost use Rattle.stack_yield.specs.Directions.{IsDirection};
+ghost use Rattle.stack_yield.specs.Kept.{region_view};
+ghost use Rattle.stack_yield.specs.Regions.{Regions, refused_as, towards_of};
+ghost use Rattle.stack_yield.specs.RegionText.{CanPrint};
+
+use crate::directing::{Towards, directed};
+use crate::judging::{Stop, Turn, judge_direction};
+use crate::types::{Region, RegionError};
+use stack_contact::types::Survey;
+use stack_equilibrium::proper;
+use stack_pairs::reach_laws;
+use std::alloc::Global;
+
+/// Two loads and a direction.
+fn towards(i: usize, j: usize, d: &(i64, i64)) -> Towards
+    ensures { result ≡ towards_of i j d.now }
+{
+    Towards {
+        i,
+        j,
+        m: d.0,
+        n: d.1,
+    }
+}
+
+/// Why there is no region where direction `k` has no reach.
+fn refused(stop: Stop, k: usize) -> RegionError
+    ensures { result ≡ refused_as stop k }
+{
+    match stop {
+        Stop::Passes(place) => RegionError::TooWide {
+            direction: k,
+            place,
+        },
+        Stop::Spends => RegionError::Spent { direction: k },
+        Stop::Wants => RegionError::Memory,
+    }
+}
+
+/// The safe region of two live loads, from `pair`: how far they can be raised together in each direction, from
+/// `read_directions`, and what forbids more. Each direction is judged within the budget of pivots; where the dead loads
+/// fall, that is the answer.
+///
+/// Refused is the first direction of whose judgement, of the powers of the loads on its motion, or of its point a number
+/// is more than 2^127 - 1 in size, or in whose run a pivot is due when the budget's are done. Want of memory comes at
+/// any time. After Livesley (1978).
+pub fn region(
+    alloc: Global,
+    s: &Survey,
+    i: usize,
+    j: usize,
+    dirs: &[(i64, i64)],
+    budget: u32,
+) -> Result<Region, RegionError>
+    requires pair { ArePair s.now.structure i j }
+    requires directions { All (λ d. IsDirection d.0 d.1) dirs.now }
+    requires some { 1 ≤ length dirs.now }
+    requires few { length dirs.now ≤ 64 }
+    requires budget { budget ≢ 0 }
+    ensures regions { Regions result s.now i j budget dirs.now }
+    ensures tells { IfOk result (λ r. RegionTells s.now i j dirs.now (region_view r)) }
+    ensures printable { IfOk result (λ r. CanPrint (region_view r)) }
+{
+    reach_laws();
+    proper(s);
+    let first = directed(alloc, s, i, j, 1, 0)?;
+    let second = directed(alloc, s, i, j, 0, 1)?;
+    let mut reaches = Vec::new(alloc);
+    for k in 0..dirs.len() {
+        match judge_direction(alloc, s, &first, &second, towards(i, j, &dirs[k]), budget) {
+            Ok(Turn::Reaches(reach)) => reaches.push(reach)?,
+            Ok(Turn::Falls(motion)) => return Ok(Region::Collapses(motion)),
+            Err(stop) => return Err(refused(stop, k)),
+        }
+    }
+    Ok(Region::Points(reaches))
+}

@@ -1,0 +1,162 @@
+//! The reach of one direction.
+
+ghost use Rattle.std.specs.Prelude.{◌≡◌, ◌≢◌, IfOk, Ok, pos};
+ghost use Rattle.stack_whole.specs.Whole.{IsFitting};
+ghost use Rattle.stack_certificate.specs.Certificate.{forces_view, motion_view, certificate_view, greatest};
+ghost use Rattle.stack_equilibrium.specs.declared.types.Question.TheVariants as questions;
+ghost use Rattle.stack_judge.specs.Judged.{IsJudged};
+ghost use Rattle.stack_pairs.specs.Directed.{directed_survey, ArePair, AreFactors};
+ghost use Rattle.stack_yield.specs.declared.judging.Stop.TheVariants as stops;
+ghost use Rattle.stack_yield.specs.LessDead.{less_dead};
+ghost use Rattle.stack_yield.specs.Outcomes.{bounded, certificate_outcome, direction_outcome};
+ghost use Rattle.stack_yield.specs.Regions.{IsOutcome, TurnHolds};
+
+use crate::coordinates::point;
+use crate::directing::{Towards, survey_towards};
+use crate::types::{Reach, RegionPlace};
+use stack_certificate::types::{Certificate, Forces, Motion};
+use stack_contact::types::Survey;
+use stack_equilibrium::power;
+use stack_equilibrium::types::Question;
+use stack_judge::{JudgeError, judge};
+use stack_whole::Whole;
+use std::alloc::{AllocError, Global};
+
+/// Why a direction has no reach.
+#[derive(Clone, Copy, Debug, PartialEq, Eq)]
+pub enum Stop {
+    /// The first number that is more than 2^127 - 1 in size.
+    Passes(RegionPlace),
+    /// A pivot is due when the budget's are done.
+    Spends,
+    /// Memory ran out.
+    Wants,
+}
+
+impl From<AllocError> for Stop {
+    ghost from_gives = { λ _ e. e ≡ stops.Wants };
+
+    fn from(_e: AllocError) -> Stop {
+        Stop::Wants
+    }
+}
+
+/// What comes of a direction: a reach, or that the dead loads fall.
+#[derive(Drop)]
+pub enum Turn {
+    Reaches(Reach),
+    Falls(Motion),
+}
+
+/// Less the power of the dead loads on a motion of a certificate that was accepted.
+fn dead_power(judged: &Survey, forces: &Forces, motion: &Motion) -> i128
+    requires { IsJudged questions.Live judged.now (greatest (forces_view forces.now) (motion_view motion.now)) }
+    ensures value { result ≡ less_dead judged.now (motion_view motion.now) }
+    ensures fits { IsFitting result }
+{
+    match power(judged, motion, Question::Dead) {
+        Ok(dead) => match (Whole { value: 0 }).difference(Whole { value: dead }) {
+            Ok(less) => less.value,
+            Err(_) => unreachable!(),
+        },
+        Err(_) => unreachable!(),
+    }
+}
+
+/// The reach of a greatest factor.
+fn bounded_reach(
+    s: &Survey,
+    judged: &Survey,
+    first: &Survey,
+    second: &Survey,
+    t: Towards,
+    forces: Forces,
+    motion: Motion,
+) -> Result<Turn, Stop>
+    requires pair { ArePair s.now.structure t.i t.j }
+    requires factors { AreFactors t.m t.n }
+    requires towards { judged.now ≡ directed_survey s.now t.i t.j t.m t.n }
+    requires first { first.now ≡ directed_survey s.now t.i t.j (pos 1) (pos 0) }
+    requires second { second.now ≡ directed_survey s.now t.i t.j (pos 0) (pos 1) }
+    requires judged { IsJudged questions.Live judged.now (greatest (forces_view forces) (motion_view motion)) }
+    ensures { IsOutcome result (bounded s.now t.i t.j t.m t.n (forces_view forces) (motion_view motion)) }
+{
+    let Ok(p) = power(first, &motion, Question::Live) else {
+        return Err(Stop::Passes(RegionPlace::First));
+    };
+    let Ok(q) = power(second, &motion, Question::Live) else {
+        return Err(Stop::Passes(RegionPlace::Second));
+    };
+    let r = dead_power(judged, &forces, &motion);
+    let Some(at) = point(Whole::widened(t.m), Whole::widened(t.n), &forces) else {
+        return Err(Stop::Passes(RegionPlace::Point));
+    };
+    Ok(Turn::Reaches(Reach {
+        m: t.m,
+        n: t.n,
+        certificate: Certificate::Greatest(forces, motion),
+        point: Some(at),
+        half: Some((p, q, r)),
+    }))
+}
+
+/// What a certificate of a direction says.
+fn certificate_turn(
+    s: &Survey,
+    judged: &Survey,
+    first: &Survey,
+    second: &Survey,
+    t: Towards,
+    certificate: Certificate,
+) -> Result<Turn, Stop>
+    requires pair { ArePair s.now.structure t.i t.j }
+    requires factors { AreFactors t.m t.n }
+    requires towards { judged.now ≡ directed_survey s.now t.i t.j t.m t.n }
+    requires first { first.now ≡ directed_survey s.now t.i t.j (pos 1) (pos 0) }
+    requires second { second.now ≡ directed_survey s.now t.i t.j (pos 0) (pos 1) }
+    requires judged { IsJudged questions.Live judged.now (certificate_view certificate) }
+    ensures outcome { IsOutcome result (certificate_outcome s.now t.i t.j t.m t.n (certificate_view certificate)) }
+    ensures holds { IfOk result (λ r. TurnHolds s.now t.i t.j r) }
+{
+    match certificate {
+        Certificate::Collapses(motion) => Ok(Turn::Falls(motion)),
+        Certificate::Greatest(forces, motion) => {
+            bounded_reach(s, judged, first, second, t, forces, motion)
+        }
+        Certificate::Unbounded(base, ray) => Ok(Turn::Reaches(Reach {
+            m: t.m,
+            n: t.n,
+            certificate: Certificate::Unbounded(base, ray),
+            point: None,
+            half: None,
+        })),
+        Certificate::Stands(_) => unreachable!(),
+    }
+}
+
+/// The reach of a direction.
+pub fn judge_direction(
+    alloc: Global,
+    s: &Survey,
+    first: &Survey,
+    second: &Survey,
+    t: Towards,
+    budget: u32,
+) -> Result<Turn, Stop>
+    requires budget { budget ≢ 0 }
+    requires pair { ArePair s.now.structure t.i t.j }
+    requires factors { AreFactors t.m t.n }
+    requires first { first.now ≡ directed_survey s.now t.i t.j (pos 1) (pos 0) }
+    requires second { second.now ≡ directed_survey s.now t.i t.j (pos 0) (pos 1) }
+    ensures outcome { IsOutcome result (direction_outcome s.now t.i t.j budget (t.m, t.n)) }
+    ensures holds { IfOk result (λ r. TurnHolds s.now t.i t.j r) }
+{
+    let judged = survey_towards(alloc, s, t)?;
+    match judge(alloc, &judged, Question::Live, budget) {
+        Ok(certificate) => certificate_turn(s, &judged, first, second, t, certificate),
+        Err(JudgeError::TooWide(place)) => Err(Stop::Passes(RegionPlace::Judge(place))),
+        Err(JudgeError::Spent { .. }) => Err(Stop::Spends),
+        Err(JudgeError::NoLive) => unreachable!(),
+        Err(JudgeError::Memory) => Err(Stop::Wants),
+    }
+}

@@ -1,0 +1,31 @@
+//! The safe region of two live loads.
+//!
+//! ```text
+//! let (i, j) = pair(survey.model(), 1, 2)?; // the first two loads of the file
+//! let dirs = read_directions(alloc, b"dir 1 0\ndir 1 1\n")?;
+//! match region(alloc, &survey, i, j, dirs.as_slice(), 20_000)? {
+//!     Region::Points(reaches) => .., // of each direction the point that it reaches and the half-plane that bounds it
+//!     Region::Collapses(motion) => .., // the dead loads fall by themselves
+//! }
+//! ```
+#![tactic(auto)]
+
+mod coordinates;
+mod directing;
+mod directions;
+mod errors;
+mod gathering;
+mod judging;
+mod naming;
+mod text;
+pub mod types;
+
+pub use directing::directed;
+pub use directions::read_directions;
+pub use errors::{DirectionsError, NoPair};
+pub use gathering::region;
+pub use naming::pair;
+pub use text::write_region;
+
+#[cfg(test)]
+mod tests;

@@ -1,0 +1,181 @@
+//! The worked rows of two live loads on a post, and texts of directions.
+
+use crate::types::{Region, RegionError};
+use crate::{DirectionsError, NoPair, directed, pair, read_directions, region, write_region};
+use stack_contact::survey;
+use stack_contact::types::Survey;
+use stack_model::{Model, Parts, RawBlock, RawLoad, RawMaterial};
+use std::alloc::Global;
+use std::test::*;
+
+fn list(alloc: Global, numbers: &[i64]) -> Result<Vec<i64>, Fail> {
+    Ok(numbers.to_vec(alloc)?)
+}
+
+fn block(alloc: Global, name: &str, fixed: bool, corners: &[[i64; 2]]) -> Result<RawBlock, Fail> {
+    let mut lists = Vec::new(alloc);
+    for corner in corners {
+        lists.push(list(alloc, corner.as_slice())?)?;
+    }
+    Ok(RawBlock {
+        name: String::from_str(alloc, name)?,
+        material: String::from_str(alloc, "stone")?,
+        fixed,
+        corners: lists,
+    })
+}
+
+/// A live load on the post.
+fn live(alloc: Global, at: &[i64], force: &[i64]) -> Result<RawLoad, Fail> {
+    Ok(RawLoad {
+        block: String::from_str(alloc, "post")?,
+        kind: String::from_str(alloc, "live")?,
+        at: list(alloc, at)?,
+        force: list(alloc, force)?,
+    })
+}
+
+/// Level ground at the foot of the post.
+const GROUND: [[i64; 2]; 4] = [[-10, -1], [10, -1], [10, 0], [-10, 0]];
+
+/// Level ground one unit below the foot of the post.
+const LOW_GROUND: [[i64; 2]; 4] = [[-10, -2], [10, -2], [10, -1], [-10, -1]];
+
+/// A post 2 wide and 4 high above this ground, with these loads and this sway.
+fn loaded_post(
+    alloc: Global,
+    ground: &[[i64; 2]; 4],
+    loads: Vec<RawLoad>,
+    sway: Option<Vec<i64>>,
+) -> Result<Survey, Fail> {
+    let mut materials = Vec::new(alloc);
+    materials.push(RawMaterial {
+        name: String::from_str(alloc, "stone")?,
+        weight: 1,
+        friction: list(alloc, &[1, 1])?,
+    })?;
+    let mut blocks = Vec::new(alloc);
+    blocks.push(block(alloc, "ground", true, ground.as_slice())?)?;
+    blocks.push(block(alloc, "post", false, &[[0, 0], [2, 0], [2, 4], [0, 4]])?)?;
+    let parts = Parts {
+        version: 2,
+        sway,
+        materials,
+        joints: Vec::new(alloc),
+        blocks,
+        loads,
+    };
+    Ok(survey(alloc, Model::new(alloc, parts)?)?)
+}
+
+/// The post pushed to the right at its upper left corner, and loaded in the middle of its top.
+fn post(alloc: Global, ground: &[[i64; 2]; 4]) -> Result<Survey, Fail> {
+    let mut loads = Vec::new(alloc);
+    loads.push(live(alloc, &[0, 4], &[1, 0])?)?;
+    loads.push(live(alloc, &[1, 4], &[0, -1])?)?;
+    loaded_post(alloc, ground, loads, None)
+}
+
+/// The region of the first two loads in the directions of a text.
+fn region_of(
+    alloc: Global,
+    s: &Survey,
+    text: &[u8],
+    budget: u32,
+) -> Result<Result<Region, RegionError>, Fail> {
+    if budget == 0 {
+        return Err(Fail::from("some pivots are needed"));
+    }
+    let (i, j) = pair(s.model(), 1, 2)?;
+    let dirs = read_directions(alloc, text)?;
+    Ok(region(alloc, s, i, j, dirs.as_slice(), budget))
+}
+
+#[test]
+fn a_post_under_a_push_and_a_weight_has_the_region_worked_by_hand(
+    rt: HostRuntime,
+) -> Result<(), Fail> {
+    let alloc = rt.alloc();
+    let s = post(alloc, &GROUND)?;
+    let found = region_of(alloc, &s, b"dir 1 0\ndir 1 1\ndir -1 0\ndir 0 1\n", 100)??;
+    let text = write_region(alloc, found)?;
+    let mut lines = String::from_str(alloc, "region 4\ndir 1 0 reach 2/1 0/1\nhalf 24 -6 48\n")?;
+    lines.push_str("dir 1 1 reach 8/3 8/3\nhalf 24 -6 48\n")?;
+    lines.push_str("dir -1 0 reach -2/1 0/1\nhalf -24 -6 48\n")?;
+    lines.push_str("dir 0 1 unlimited\n")?;
+    assert_eq!(rt; text.as_slice(), lines.as_bytes());
+    Ok(())
+}
+
+#[test]
+fn a_floating_post_falls_whatever_the_direction(rt: HostRuntime) -> Result<(), Fail> {
+    let alloc = rt.alloc();
+    let s = post(alloc, &LOW_GROUND)?;
+    let found = region_of(alloc, &s, b"dir 0 1\n", 100)??;
+    let text = write_region(alloc, found)?;
+    assert!(rt; text.as_slice().starts_with(b"collapses\nmotion\n"));
+    Ok(())
+}
+
+#[test]
+fn a_budget_is_spent_at_the_first_direction(rt: HostRuntime) -> Result<(), Fail> {
+    let alloc = rt.alloc();
+    let s = post(alloc, &GROUND)?;
+    let answer = region_of(alloc, &s, b"dir 1 0\n", 1)?.err();
+    assert_eq!(rt; answer, Some(RegionError::Spent { direction: 0 }));
+    Ok(())
+}
+
+#[test]
+fn a_directed_survey_has_two_live_loads_and_no_sway(rt: HostRuntime) -> Result<(), Fail> {
+    let alloc = rt.alloc();
+    let mut loads = Vec::new(alloc);
+    loads.push(live(alloc, &[0, 4], &[1, 0])?)?;
+    loads.push(live(alloc, &[2, 4], &[7, 7])?)?;
+    loads.push(live(alloc, &[1, 4], &[0, -1])?)?;
+    let s = loaded_post(alloc, &GROUND, loads, Some(list(alloc, &[1, -2])?))?;
+    let (i, j) = pair(s.model(), 1, 3)?;
+    let towards = directed(alloc, &s, i, j, 3, -5)?;
+    assert_eq!(rt; towards.model().sway(), (0, 0));
+    assert_eq!(rt; towards.model().loads(), 2);
+    assert_eq!(rt; towards.bearings().len(), 2);
+    let mut forces = Vec::new(alloc);
+    for k in 0..towards.model().loads() {
+        let load = towards.model().load(k);
+        forces.push((load.fx, load.fy))?;
+    }
+    assert_eq!(rt; forces.as_slice(), [(3, 0), (0, 5)].as_slice());
+    Ok(())
+}
+
+#[test]
+fn a_pair_is_refused_at_its_first_number_in_the_way(rt: HostRuntime) -> Result<(), Fail> {
+    let alloc = rt.alloc();
+    let s = post(alloc, &GROUND)?;
+    assert_eq!(rt; pair(s.model(), 1, 1), Err(NoPair { load: 1 }));
+    assert_eq!(rt; pair(s.model(), 1, 3), Err(NoPair { load: 3 }));
+    assert_eq!(rt; pair(s.model(), 0, 1), Err(NoPair { load: 0 }));
+    assert_eq!(rt; pair(s.model(), 2, 1), Ok((1, 0)));
+    Ok(())
+}
+
+/// The line that is told as faulty.
+fn line(alloc: Global, text: &[u8]) -> Option<usize> {
+    match read_directions(alloc, text) {
+        Err(DirectionsError::Line { number }) => Some(number),
+        _ => None,
+    }
+}
+
+#[test]
+fn faulty_lines_are_numbered(rt: HostRuntime) -> Result<(), Fail> {
+    let alloc = rt.alloc();
+    assert_eq!(rt; line(alloc, b""), Some(1));
+    assert_eq!(rt; line(alloc, b"dir 0 0\n"), Some(1));
+    assert_eq!(rt; line(alloc, b"dir 1001 0\n"), Some(1));
+    assert_eq!(rt; line(alloc, b"dir 01 1\n"), Some(1));
+    assert_eq!(rt; line(alloc, b"dir 1 1\ndir 1 -0\n"), Some(2));
+    assert_eq!(rt; line(alloc, b"dir 1 1\ndir -1000 1000"), Some(2));
+    assert_eq!(rt; line(alloc, b"dir -1000 1000\n"), None);
+    Ok(())
+}
