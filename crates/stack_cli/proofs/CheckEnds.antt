@@ -29,6 +29,7 @@ use Rattle.stack_cli.specs.Accepted.{AcceptedIsTrueOfFiles, RejectedIsFalseOfFil
 use Rattle.stack_cli.proofs.Ways.{came_from}
 use Rattle.stack_cli.proofs.OneEnd.{one_found}
 use Rattle.stack_cli.proofs.AcceptedFiles.{told_bytes, only_accepted}
+use Rattle.stack_cli.proofs.ModelProper.{accepted_shows}
 
 -- what an answer says of a survey and a certificate
 abbrev pub Means : Surveyed → CertificateValue → Due → Type 0
@@ -84,7 +85,11 @@ said_by holds model name bytes text names due told held way =
 
 pub hold_true : (bytes text line : List ℕ) → Said bytes text (exactly Affirmed line)
     → HoldTrueCertificate bytes text
-hold_true bytes text line s = record { files = s.0; is_true = s.1.0 }
+hold_true bytes text line s = record {
+  files = s.0;
+  is_true = s.1.0;
+  shows = accepted_shows bytes s.0.survey s.0.certificate s.0.is_accepted s.1.0;
+}
 
 pub hold_false : (bytes text line : List ℕ) → Said bytes text (exactly Denied line)
     → HoldFalseCertificate bytes text line

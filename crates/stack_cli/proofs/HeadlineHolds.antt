@@ -26,7 +26,7 @@ use Rattle.stack_cli.specs.Progress.{ToldNames, Bytes, Way}
 use Rattle.stack_cli.specs.MainTheorem.{OutputAfter, IsGivenOut, RunMeets}
 use Rattle.stack_cli.specs.Headline.{Prints, Leaves, IsWide, IsOver, Judging}
 use Rattle.stack_cli.proofs.Ways.{goes_on}
-use Rattle.stack_cli.proofs.OneEnd.{one_end}
+use Rattle.stack_cli.proofs.SettledEnds.{kept_at_memory, given_or_memory as settled_given}
 use Rattle.stack_cli.proofs.AcceptedFiles.{all_accepted}
 use Rattle.stack_cli.proofs.JudgementEnds.{lists_some, listed_live, certificate_ends, wide_ends, spent_ends}
 use Rattle.stack_cli.proofs.JudgementEnds.{no_live_ends}
@@ -65,11 +65,6 @@ wide_status s (places.Run p) = refl
 wide_status s (places.End p) = refl
 wide_status s (places.Check p) = refl
 
-kept_for_memory : (r : Refusal) (holds : Holds) (form : Option Form) (names : List (List ℕ)) (out out_after : Bytes)
-    → 11 ≡ status_of r → OutputAfter r holds form names out out_after → Keeps out out_after
-kept_for_memory output holds form names out out_after is h = absurd (omega arith)
-kept_for_memory _ holds form names out out_after is h = h
-
 module _ (q : Question) (model : List ℕ) (budget : ℕ) (bytes : List ℕ) (v : Surveyed) (holds : Holds)
     (told : holds model ≡ Some bytes) (accepted : IsAcceptedModel bytes v) (status : ℕ) (asked asked_after : ToldNames)
     (out out_after err err_after : Bytes) (S O E : Type 0)
@@ -85,38 +80,15 @@ module _ (q : Question) (model : List ℕ) (budget : ℕ) (bytes : List ℕ) (v 
       goes_on holds (surveyed_file model) (judged q budget) (model ∷ []) [] v end
       (all_accepted holds model bytes v told accepted) h
 
-  -- the end that is known is the one that was given out, unless memory is wanting
-  settles : (known end : Result Due Refusal) (names : List (List ℕ)) → IsSettled known → IsSettled end
-      → Ends holds (judged q budget v) [] known → Ends holds (judge_work q model budget) names end → Given end
-      → Given known
-  settles known end names is_known is_settled h way given = subst Given
-      (sym (one_end holds (judge_work q model budget) (model ∷ []) names known end ((bytes, told), tt)
-      (work_ends known h)
-      way is_known is_settled).1) given
-
-  given_as : (known end : Result Due Refusal) (names : List (List ℕ)) → IsSettled known
-      → Ends holds (judged q budget v) [] known → Ends holds (judge_work q model budget) names end → Given end
-      → (status ≡ 11) ⊎ Given known
-  given_as known (Ok due) names is h way given = inr (settles known (Ok due) names is tt h way given)
-  given_as known (Err (file input)) names is h way given = absurd (no_shelf (m.shelf_failed given.0))
-  given_as known (Err (faulty memory)) names is h way given = inl given.0
-  given_as known (Err r) names is h way given = inr (settles known (Err r) names is tt h way given)
-
   given_or_memory : (known : Result Due Refusal) → IsSettled known → Ends holds (judged q budget v) [] known
       → (status ≡ 11) ⊎ Given known
-  given_or_memory known is h = go (m.decided no_shelf no_output)
-    where
-      go : (status ≡ 11) ⊎ ((end : Result Due Refusal) × Way holds (Some (judges q model budget)) m.names end
-          × Given end)
-          → (status ≡ 11) ⊎ Given known
-      go (inl eleven) = inl eleven
-      go (inr d) = given_as known d.0 m.names is h d.1 d.2
+  given_or_memory known is h =
+      settled_given m no_shelf no_output (model ∷ []) ((bytes, told), tt) known is (work_ends known h)
 
   for_memory : status ≡ 11 → Leaves status 11 out out_after
-  for_memory eleven = let r = m.refused (omega (arith, eleven)) in record {
+  for_memory eleven = record {
     is_status = eleven;
-    is_kept = kept_for_memory r.refusal holds (Some (judges q model budget)) m.names out out_after
-        (sym eleven ∙ r.is_status) r.on_output;
+    is_kept = kept_at_memory m eleven;
   }
 
   abbrev Cases : Type 0
@@ -173,6 +145,14 @@ module _ (q : Question) (model : List ℕ) (budget : ℕ) (bytes : List ℕ) (v 
   by_loads true is = deadly (lacks q v is) (lacking_ends (lacks q v is))
   by_loads false is = of_judgement (has_one q v is) (judgement q v budget) refl
 
+  completes : Cases → ¬ (LacksLive q v) → ¬ (IsWide q v budget) → ¬ (IsOver q v budget)
+      → Prints q v status out out_after ⊎ Leaves status 11 out out_after
+  completes (inl p) live no_wide no_over = inl p
+  completes (inr (inl w)) live no_wide no_over = absurd (no_wide w.0)
+  completes (inr (inr (inl o))) live no_wide no_over = absurd (no_over o.0)
+  completes (inr (inr (inr (inl n)))) live no_wide no_over = absurd (live n.0)
+  completes (inr (inr (inr (inr e)))) live no_wide no_over = inr e
+
   -- a refusal's status, or memory is wanting
   has_status : (n : ℕ) (r : Refusal) → status_of r ≡ n → (status ≡ 11) ⊎ Given (Err r) → (status ≡ n) ⊎ (status ≡ 11)
   has_status n r e (inl eleven) = inr eleven
@@ -181,6 +161,7 @@ module _ (q : Question) (model : List ℕ) (budget : ℕ) (bytes : List ℕ) (v 
   headline : Judging q v budget status out out_after
   headline = record {
     cases = by_loads (lacks_live q v.structure) refl;
+    complete = completes (by_loads (lacks_live q v.structure) refl);
     without_live = λ none. has_status 9 (faulty no_live) refl (lacking_ends none);
     wide = λ live w. has_status 7 (faulty (wide_fault v.structure w.0)) (wide_status v.structure w.0)
         (given_or_memory (Err (faulty (wide_fault v.structure w.0))) (settled_wide w.0)

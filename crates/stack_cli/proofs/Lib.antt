@@ -2,6 +2,7 @@ mod Ways
 mod Steps
 mod FileRead
 mod OneEnd
+mod SettledEnds
 mod FilesNamed
 mod CertificateChecked
 mod CertificateTabled
@@ -10,6 +11,7 @@ mod Outcomes
 mod Consequences
 mod Called
 mod AcceptedFiles
+mod ModelProper
 mod BodyNames
 mod WordNumbers
 mod JudgementEnds
@@ -23,3 +25,11 @@ mod StagesEnds
 mod StagesAnswered
 mod YieldEnds
 mod YieldAnswered
+mod RefusedFrom
+mod Beginnings
+mod ModelAnswered
+mod CertificateEnds
+mod CertificateFile
+mod TableAnswered
+mod FormsAnswered
+mod PrintedAnswered

@@ -14,6 +14,7 @@ use Rattle.stack_judge.specs.Judgement.{judgement, too_wide, survey_run, LacksLi
 use Rattle.stack_judge.specs.Judged.{IsJudged}
 use Rattle.stack_cli.specs.Answers.{verdict_of, verdict_status}
 use Rattle.stack_cli.specs.Progress.{Bytes}
+use Rattle.stack_cli.specs.AcceptedModel.{IsAcceptedModel}
 
 -- A certificate that is true, of the question and accepted by the check, and tells whether the dead loads stand: the
 -- output grew by exactly its text, and the status is 1 exactly for a collapse.
@@ -24,6 +25,12 @@ pub record Prints (q : Question) (v : Surveyed) (status : ℕ) (out out_after : 
   pub is_text : IsCertificateText certificate text
   pub is_written : Appends out out_after text
   pub is_status : status ≡ verdict_status (verdict_of certificate)
+
+-- The bytes of the file are an accepted model, and such a certificate of it was printed.
+pub record PrintsOfFile (q : Question) (bytes : List ℕ) (status : ℕ) (out out_after : Bytes) : Type 0 where
+  pub survey : Surveyed
+  pub is_accepted : IsAcceptedModel bytes survey
+  pub prints : Prints q survey status out out_after
 
 -- Nothing was written.
 pub record Leaves (status n : ℕ) (out out_after : Bytes) : Type 0 where
@@ -47,6 +54,10 @@ pub record Judging (q : Question) (v : Surveyed) (budget status : ℕ) (out out_
       ⊎ ((IsOver q v budget × Leaves status 8 out out_after)
       ⊎ ((LacksLive q v × Leaves status 9 out out_after)
       ⊎ Leaves status 11 out out_after)))
+  -- where there is what is asked about, nothing is too wide and the budget is enough, a true certificate is printed
+  -- whole, or memory is wanting
+  pub complete : ¬ (LacksLive q v) → ¬ (IsWide q v budget) → ¬ (IsOver q v budget)
+      → Prints q v status out out_after ⊎ Leaves status 11 out out_after
   pub without_live : LacksLive q v → (status ≡ 9) ⊎ (status ≡ 11)
   pub wide : ¬ (LacksLive q v) → IsWide q v budget → (status ≡ 7) ⊎ (status ≡ 11)
   pub over_budget : ¬ (LacksLive q v) → IsOver q v budget → (status ≡ 8) ⊎ (status ≡ 11)

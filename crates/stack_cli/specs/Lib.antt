@@ -23,6 +23,8 @@ pub mod MainTheorem
 pub mod Headline
 pub mod Printed
 pub mod Accepted
+pub mod Said
+pub mod ModelSaid
 pub mod RangeSaid
 pub mod StagesSaid
 pub mod RegionSaid

@@ -28,8 +28,9 @@ pub record ModelAndDirections (bytes text : List ℕ) (i j : ℕ) : Type 0 where
   pub are_directions : AreDirections directions text
 
 -- Both loads may be nothing, and each direction has a reach, in their order: a certificate that is true of it; a point
--- that is carried and a half-plane that holds every pair that is, with the point on its edge, so that no greater multiple
--- of the direction is carried; or where it has neither, every multiple is. The answer is the text of the reaches.
+-- that is carried and a half-plane that holds every pair that is, with the point on its edge, so that no greater
+-- multiple of the direction is carried; or where it has neither, every multiple is. The answer is the text of the
+-- reaches.
 pub record HoldRegion (bytes text answer : List ℕ) (i j : ℕ) : Type 0 where
   pub files : ModelAndDirections bytes text i j
   pub reaches : List ReachValue

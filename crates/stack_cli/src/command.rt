@@ -1,14 +1,22 @@
 //! The top call.
 
-ghost use Rattle.std.specs.Prelude.{◌≡◌, ℕ, ◌≤◌, ◌⊎◌, List, Some};
+ghost use Rattle.std.specs.Prelude.{◌≡◌, ℕ, ◌<◌, ◌≤◌, ◌⊎◌, List, ◌∷◌, Some};
 ghost use Rattle.std.specs.Option.{option_map};
 ghost use Rattle.stack_contact.specs.Surveyed.{Surveyed};
+ghost use Rattle.stack_certificate.specs.Certificate.{CertificateValue};
+ghost use Rattle.stack_certificate.specs.CertificateText.{IsCertificateText};
 ghost use Rattle.stack_equilibrium.specs.declared.types.Question.{Question};
+ghost use Rattle.stack_judge.specs.Judged.{IsJudged};
 ghost use Rattle.stack_outside.specs.Faults.{Rose, counted};
 ghost use Rattle.stack_cli.specs.Refusals.{refusal_view};
-ghost use Rattle.stack_cli.specs.Words.{form_of, texts, judges, check, ranges, builds, yields};
+ghost use Rattle.stack_cli.specs.declared.words.Kind.{Kind};
+ghost use Rattle.stack_cli.specs.Words.{Form, form_of, files_of, texts, judges, check, tables, contacts, stack, sample};
+ghost use Rattle.stack_cli.specs.Words.{ranges, builds, yields};
 ghost use Rattle.stack_cli.specs.AcceptedModel.{IsAcceptedModel};
-ghost use Rattle.stack_cli.specs.Headline.{Judging};
+ghost use Rattle.stack_cli.specs.Headline.{Judging, PrintsOfFile};
+ghost use Rattle.stack_cli.specs.Printed.{IsAcceptedAgain};
+ghost use Rattle.stack_cli.specs.Said.{ContactsSay, TableSays, StackSays, SampleSays};
+ghost use Rattle.stack_cli.specs.ModelSaid.{ModelSays, ReadsCertificate, CertificateSays};
 ghost use Rattle.stack_cli.specs.Accepted.{CheckSays};
 ghost use Rattle.stack_cli.specs.RangeSaid.{RangeSays};
 ghost use Rattle.stack_cli.specs.StagesSaid.{StagesSay};
@@ -19,6 +27,7 @@ ghost use Rattle.stack_cli.specs.MainTheorem.{RunMeets};
 
 use crate::answer::Answer;
 use crate::forms::answer_words;
+use crate::laws::printed_is_accepted;
 use crate::refusal::Refusal;
 use stack_outside::{Shelf, Sink, SinkFailed};
 use std::alloc::Global;
@@ -108,7 +117,40 @@ pub fn run<F: Shelf, O: Sink, E: Sink>(
         Judging q v budget result (O.written out.old) (O.written out.new) }
     ensures accepted { (model name bytes text : List ℕ) → form_of (texts words.now) ≡ Some (check model name) →
         F.holds shelf.old model ≡ Some bytes → F.holds shelf.old name ≡ Some text →
-        CheckSays bytes text result (O.written out.old) (O.written out.new) }
+        CheckSays bytes text result (O.written out.old) (O.written out.new)
+        (Rose (F.faults shelf.old) (F.faults shelf.new)) (Rose (O.faults out.old) (O.faults out.new)) }
+    ensures printed { (q : Question) (model : List ℕ) (budget : ℕ) (bytes : List ℕ) →
+        form_of (texts words.now) ≡ Some (judges q model budget) → F.holds shelf.old model ≡ Some bytes →
+        result < 2 → PrintsOfFile q bytes result (O.written out.old) (O.written out.new) }
+    ensures again { (q : Question) (v : Surveyed) (c : CertificateValue) (model name bytes text : List ℕ) →
+        form_of (texts words.now) ≡ Some (check model name) → F.holds shelf.old model ≡ Some bytes →
+        F.holds shelf.old name ≡ Some text → IsAcceptedModel bytes v → IsJudged q v c → IsCertificateText c text →
+        IsAcceptedAgain result (O.written out.old) (O.written out.new)
+        (Rose (F.faults shelf.old) (F.faults shelf.new)) (Rose (O.faults out.old) (O.faults out.new)) }
+    ensures tabled { (model name bytes text : List ℕ) → form_of (texts words.now) ≡ Some (tables model name) →
+        F.holds shelf.old model ≡ Some bytes → F.holds shelf.old name ≡ Some text →
+        TableSays bytes text result (O.written out.old) (O.written out.new)
+        (Rose (F.faults shelf.old) (F.faults shelf.new)) (Rose (O.faults out.old) (O.faults out.new)) }
+    ensures listed { (model bytes : List ℕ) → form_of (texts words.now) ≡ Some (contacts model) →
+        F.holds shelf.old model ≡ Some bytes → ContactsSay bytes result (O.written out.old) (O.written out.new)
+        (Rose (F.faults shelf.old) (F.faults shelf.new)) (Rose (O.faults out.old) (O.faults out.new)) }
+    ensures stacked { (kind : Kind) (n : ℕ) → form_of (texts words.now) ≡ Some (stack kind n) →
+        StackSays kind n result (O.written out.old) (O.written out.new)
+        (Rose (F.faults shelf.old) (F.faults shelf.new)) (Rose (O.faults out.old) (O.faults out.new)) }
+    ensures sampled { (number : ℕ) → form_of (texts words.now) ≡ Some (sample number) →
+        SampleSays number result (O.written out.old) (O.written out.new)
+        (Rose (F.faults shelf.old) (F.faults shelf.new)) (Rose (O.faults out.old) (O.faults out.new)) }
+    ensures model { (form : Form) (model : List ℕ) (more : List (List ℕ)) (bytes : List ℕ) →
+        form_of (texts words.now) ≡ Some form → files_of (Some form) ≡ model ∷ more →
+        F.holds shelf.old model ≡ Some bytes → ModelSays bytes result (O.written out.old) (O.written out.new)
+        (E.written err.old) (E.written err.new) (Rose (F.faults shelf.old) (F.faults shelf.new))
+        (Rose (O.faults out.old) (O.faults out.new)) (Rose (E.faults err.old) (E.faults err.new)) }
+    ensures certificate { (form : Form) (model name bytes text : List ℕ) →
+        form_of (texts words.now) ≡ Some form → ReadsCertificate form model name →
+        F.holds shelf.old model ≡ Some bytes → F.holds shelf.old name ≡ Some text →
+        CertificateSays bytes text result (O.written out.old) (O.written out.new) (E.written err.old)
+        (E.written err.new) (Rose (F.faults shelf.old) (F.faults shelf.new))
+        (Rose (O.faults out.old) (O.faults out.new)) (Rose (E.faults err.old) (E.faults err.new)) }
     ensures ranged { (model : List ℕ) (budget : ℕ) (bytes : List ℕ) →
         form_of (texts words.now) ≡ Some (ranges model budget) → F.holds shelf.old model ≡ Some bytes →
         RangeSays bytes result (O.written out.old) (O.written out.new) }
@@ -127,6 +169,7 @@ pub fn run<F: Shelf, O: Sink, E: Sink>(
     ensures out_later { O.faults out.old ≤ O.faults out.new }
     ensures err_later { E.faults err.old ≤ E.faults err.new }
 {
+    printed_is_accepted();
     let worked = answer_words(alloc, words, shelf);
     deliver(alloc, worked, out, err)
 }

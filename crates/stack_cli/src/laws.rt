@@ -2,6 +2,8 @@
 
 ghost use Rattle.std.specs.Prelude.{◌≡◌, ℕ, List, [], ◌∷◌, Some, Ok};
 ghost use Rattle.stack_contact.specs.Surveyed.{Surveyed};
+ghost use Rattle.stack_equilibrium.specs.Scene.{IsProper};
+ghost use Rattle.stack_equilibrium.specs.SurveyScene.{scene_of};
 ghost use Rattle.stack_cli.specs.Work.{Holds, Ends};
 ghost use Rattle.stack_cli.specs.Surveying.{surveyed_file};
 ghost use Rattle.stack_cli.specs.OneEnd.{WordsHaveOneEnd};
@@ -43,4 +45,10 @@ pub fn accepted_is_true_of_files()
     ensures accepted { AcceptedIsTrueOfFiles }
     ensures rejected { RejectedIsFalseOfFiles }
     ensures one { FilesHoldOne }
+{}
+
+/// A model that is accepted is within the limits, so the certificates that are true of it show what they say of
+/// factors.
+pub fn accepted_models_are_proper()
+    ensures { (bytes : List ℕ) (v : Surveyed) → IsAcceptedModel bytes v → IsProper (scene_of v) }
 {}

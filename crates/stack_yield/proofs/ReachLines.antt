@@ -8,15 +8,16 @@ use Rattle.stack_yield.specs.Kept.{reach_view}
 use Rattle.stack_yield.specs.RegionText.{reach_text, reach_lines, count_line}
 
 -- one reach more
-pub one_more : (rs : List Reach) (k : ℕ) (d : Reach) (text longer whole : List ℕ) → k < length rs →
-    longer ≡ text ++ reach_text (reach_view (get_or rs k d)) →
+pub one_more : (rs : List Reach) (k : ℕ) (r : Reach) (text longer whole : List ℕ) → k < length rs →
+    r ≡ get_or rs k r → longer ≡ text ++ reach_text (reach_view r) →
     text ++ reach_lines (map reach_view (drop k rs)) ≡ whole →
     longer ++ reach_lines (map reach_view (drop (k + 1) rs)) ≡ whole
-one_more rs k d text longer whole lt added so_far =
+one_more rs k r text longer whole lt is added so_far =
     let rest : List ℕ = reach_lines (map reach_view (drop (suc k) rs)) in
     subst (λ n. longer ++ reach_lines (map reach_view (drop n rs)) ≡ whole) (sym (add-one k))
-    (ap (λ t. t ++ rest) added ∙ append_assoc text (reach_text (reach_view (get_or rs k d))) rest
-    ∙ ap (λ ls. text ++ reach_lines (map reach_view ls)) (sym (drop-cons rs k d lt)) ∙ so_far)
+    (ap (λ t. t ++ rest) added ∙ append_assoc text (reach_text (reach_view r)) rest
+    ∙ ap (λ (x : Reach). text ++ (reach_text (reach_view x) ++ rest)) is
+    ∙ ap (λ ls. text ++ reach_lines (map reach_view ls)) (sym (drop-cons rs k r lt)) ∙ so_far)
 
 -- all reaches
 pub no_more : (rs : List Reach) (k : ℕ) (text whole : List ℕ) → length rs ≤ k →

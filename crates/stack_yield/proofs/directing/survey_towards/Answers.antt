@@ -1,4 +1,4 @@
-use Rattle.std.proofs.Common.{sym, subst, ◌∙◌}
+use Rattle.std.proofs.Common.{sym, subst, ◌∙◌, pos}
 use Rattle.stack_model.specs.Structure.{Structure}
 use Rattle.stack_model.specs.Borne.{MayBear}
 use Rattle.stack_pairs.specs.Directed.{ArePair}

@@ -1,0 +1,262 @@
+-- What the status of a run of `contacts`, `stack` and `sample` says, out of the theorem on the top call.
+use Rattle.std.proofs.Common.{◌≡◌, ◌≢◌, refl, sym, subst, ap, ◌∙◌, ℕ, ◌<◌, List, [], ◌∷◌, Option, Some, Result, Ok, Err}
+use Rattle.std.proofs.Common.{inl, inr, ◌⊎◌, arith}
+use Rattle.std.specs.Io.KnownBytes.{Appends}
+use Rattle.stack_model.specs.Structure.{Structure}
+use Rattle.stack_reader.specs.Reading.{structure_of}
+use Rattle.stack_overhang.specs.declared.error.StackError.{StackError}
+use Rattle.stack_overhang.specs.declared.error.StackError.TheVariants as built
+use Rattle.stack_contact.specs.Surveyed.{Surveyed, IsSurvey}
+use Rattle.stack_certificate.specs.Certificate.{CertificateValue}
+use Rattle.stack_equilibrium.specs.declared.types.Question.TheVariants.{Live}
+use Rattle.stack_judge.specs.Judgement.{Judgement, certified, too_wide, spent, judgement}
+use Rattle.stack_judge.specs.Judged.{IsJudged}
+use Rattle.stack_judge.specs.NarrowWork.{is_narrow}
+use Rattle.stack_report.specs.ContactTable.{contacts_text}
+use Rattle.stack_report.specs.Summary.{summary_text}
+use Rattle.stack_cli.specs.declared.words.Kind.{Kind}
+use Rattle.stack_cli.specs.declared.answer.Verdict.{Verdict}
+use Rattle.stack_cli.specs.declared.answer.Verdict.TheVariants.{Affirmed}
+use Rattle.stack_cli.specs.Refusals.{Refusal, words, file, faulty, output, memory, size, status_of}
+use Rattle.stack_cli.specs.Words.{Form, contacts, stack, sample, default_budget}
+use Rattle.stack_cli.specs.Answers.{Due, exactly, document, summary, IsAnswer, verdict_status}
+use Rattle.stack_cli.specs.Work.{gives, surveys, ◌>>=◌, Found, Holds, MayFind, Ends}
+use Rattle.stack_cli.specs.Surveying.{survey_step, surveyed_file}
+use Rattle.stack_cli.specs.Listing.{contacts_due, contacts_work}
+use Rattle.stack_cli.specs.Stacking.{stack_of, built_step, stack_work}
+use Rattle.stack_cli.specs.Sampling.{sample_of, sample_step, sampled, wall_sampled, sample_work}
+use Rattle.stack_cli.specs.AcceptedModel.{IsAcceptedModel}
+use Rattle.stack_cli.specs.Progress.{ToldNames, Bytes}
+use Rattle.stack_cli.specs.MainTheorem.{Cause, IsGivenOut, RunMeets}
+use Rattle.stack_cli.specs.Said.{Writes, ContactsSay, StackSays, SampleSays}
+use Rattle.stack_cli.proofs.Ways.{goes_on, came_from}
+use Rattle.stack_cli.proofs.AcceptedFiles.{only_accepted, all_accepted}
+use Rattle.stack_cli.proofs.SettledEnds.{given_or_memory}
+
+-- exactly this text, affirmed, was given out, unless memory is wanting
+written : (status : ℕ) (out out_after err err_after : Bytes) (E : Type 0) (text : List ℕ)
+    → (status ≡ 11) ⊎ IsGivenOut (Ok (exactly Affirmed text)) status out out_after err err_after E
+    → Writes text status out out_after ⊎ (status ≡ 11)
+written status out out_after err err_after E text (inl eleven) = inr eleven
+written status out out_after err err_after E text (inr g) =
+    inl (g.3 ∙ ap verdict_status g.2.0, subst (Appends out out_after) g.2.1 g.4)
+
+-- contacts
+contacts_end : (holds : Holds) (model bytes : List ℕ) (names : List (List ℕ)) (due : Due) → holds model ≡ Some bytes
+    → Ends holds (contacts_work model) names (Ok due)
+    → (v : Surveyed) × IsAcceptedModel bytes v × (exactly Affirmed (contacts_text v) ≡ due)
+unfolding contacts_work
+contacts_end holds model bytes names due told way =
+    let c = came_from holds (surveyed_file model) contacts_due names due way in
+    (c.0, only_accepted holds model bytes c.0 c.1 told c.3, c.4.1)
+
+contacts_way : (holds : Holds) (model bytes : List ℕ) (v : Surveyed) → holds model ≡ Some bytes
+    → IsAcceptedModel bytes v
+    → Ends holds (contacts_work model) (model ∷ []) (Ok (exactly Affirmed (contacts_text v)))
+unfolding contacts_work
+contacts_way holds model bytes v told accepted = goes_on holds (surveyed_file model) contacts_due (model ∷ []) [] v
+    (Ok (exactly Affirmed (contacts_text v))) (all_accepted holds model bytes v told accepted) (refl, refl)
+
+module _ (status : ℕ) (holds : Holds) (asked asked_after : ToldNames) (out out_after err err_after : Bytes)
+    (S O E : Type 0) (model bytes : List ℕ)
+    (m : RunMeets status (Some (contacts model)) holds asked asked_after out out_after err err_after S O E)
+    (told : holds model ≡ Some bytes) where
+  listing : status < 2 → (status ≡ 0) × ((v : Surveyed) × IsAcceptedModel bytes v
+      × Appends out out_after (contacts_text v))
+  listing low =
+      let a = m.answered low in
+      let c = contacts_end holds model bytes m.names a.due told a.way in
+      let is = subst (λ d. IsAnswer d a.verdict a.text) (sym c.2) a.is_due in
+      (a.is_status ∙ ap verdict_status is.0, (c.0, c.1, subst (Appends out out_after) is.1 a.is_written))
+
+  contacts_answer : ContactsSay bytes status out out_after S O
+  contacts_answer = record {
+    never_denied = λ e. let h = (listing (omega (arith, e))).0 in absurd (omega (arith, h, e));
+    listed = λ e. (listing (omega (arith, e))).1;
+    complete = λ no_shelf no_output v accepted. written status out out_after err err_after E (contacts_text v)
+        (given_or_memory m no_shelf no_output (model ∷ []) ((bytes, told), tt)
+        (Ok (exactly Affirmed (contacts_text v))) tt (contacts_way holds model bytes v told accepted));
+  }
+
+pub contacts_say : {status : ℕ} {form : Option Form} {holds : Holds} {asked asked_after : ToldNames}
+    {out out_after err err_after : Bytes} {S O E : Type 0}
+    → RunMeets status form holds asked asked_after out out_after err err_after S O E
+    → (model bytes : List ℕ) → form ≡ Some (contacts model) → holds model ≡ Some bytes
+    → ContactsSay bytes status out out_after S O
+contacts_say {status} {form} {holds} {asked} {asked_after} {out} {out_after} {err} {err_after} {S} {O} {E} m model
+    bytes is told =
+    contacts_answer status holds asked asked_after out out_after err err_after S O E model bytes
+    (subst (λ f. RunMeets status f holds asked asked_after out out_after err err_after S O E) is m) told
+
+-- a built-in stack
+stack_end : (holds : Holds) (r : Result Structure StackError) (names : List (List ℕ)) (due : Due)
+    → Ends holds (built_step r >>= λ s. gives (document s)) names (Ok due)
+    → (s : Structure) × (r ≡ Ok s) × (document s ≡ due)
+stack_end holds (Ok s) names due p = (s, refl, p.1)
+stack_end holds (Err e) names due p = absurd p.1
+
+stack_ends : (holds : Holds) (kind : Kind) (n : ℕ) (names : List (List ℕ)) (due : Due)
+    → Ends holds (stack_work kind n) names (Ok due)
+    → (s : Structure) × (stack_of kind n ≡ Ok s) × (document s ≡ due)
+unfolding stack_work
+stack_ends holds kind n names due p = stack_end holds (stack_of kind n) names due p
+
+stack_way : (holds : Holds) (kind : Kind) (n : ℕ) (s : Structure) → stack_of kind n ≡ Ok s
+    → Ends holds (stack_work kind n) [] (Ok (document s))
+unfolding stack_work
+stack_way holds kind n s is =
+    subst (λ r. Ends holds (built_step r >>= λ s. gives (document s)) [] (Ok (document s))) (sym is) (refl, refl)
+
+size_way : (holds : Holds) (kind : Kind) (n : ℕ) → stack_of kind n ≡ Err built.Size
+    → Ends holds (stack_work kind n) [] (Err (faulty size))
+unfolding stack_work
+size_way holds kind n is =
+    subst (λ r. Ends holds (built_step r >>= λ s. gives (document s)) [] (Err (faulty size))) (sym is) (refl, inl refl)
+
+not_five : (r q : Refusal) → status_of r ≡ 5 → status_of q ≢ 5 → r ≡ q → ⊥
+not_five r q five other same = other (sym (ap status_of same) ∙ five)
+
+sizeless : (holds : Holds) (t : Result Structure StackError) (r : Refusal) (names : List (List ℕ)) → status_of r ≡ 5
+    → Ends holds (built_step t >>= λ s. gives (document s)) names (Err r) → t ≡ Err built.Size
+sizeless holds (Ok s) r names five p =
+    absurd (not_five r (faulty memory) five (λ e. absurd (omega (arith, e))) p.1)
+sizeless holds (Err built.Size) r names five p = refl
+sizeless holds (Err built.Memory) r names five (same, inl h) =
+    absurd (not_five r (faulty memory) five (λ e. absurd (omega (arith, e))) h)
+sizeless holds (Err built.Memory) r names five (same, inr h) =
+    absurd (not_five r (faulty memory) five (λ e. absurd (omega (arith, e))) h)
+
+no_size : (holds : Holds) (kind : Kind) (n : ℕ) (r : Refusal) (names : List (List ℕ)) (S O : Type 0) → status_of r ≡ 5
+    → Cause r holds (Some (stack kind n)) names S O → stack_of kind n ≡ Err built.Size
+unfolding stack_work
+no_size holds kind n words names S O five cause = absurd (omega (arith, five))
+no_size holds kind n (file input) names S O five cause = absurd (omega (arith, five))
+no_size holds kind n output names S O five cause = absurd (omega (arith, five))
+no_size holds kind n (faulty memory) names S O five cause = absurd (omega (arith, five))
+no_size holds kind n r names S O five cause = sizeless holds (stack_of kind n) r names five cause
+
+module _ (status : ℕ) (holds : Holds) (asked asked_after : ToldNames) (out out_after err err_after : Bytes)
+    (S O E : Type 0) (kind : Kind) (n : ℕ)
+    (m : RunMeets status (Some (stack kind n)) holds asked asked_after out out_after err err_after S O E) where
+  describing : status < 2 → (status ≡ 0) × ((s : Structure) × (text : List ℕ) × (stack_of kind n ≡ Ok s)
+      × (structure_of text ≡ Ok s) × Appends out out_after text)
+  describing low =
+      let a = m.answered low in
+      let c = stack_ends holds kind n m.names a.due a.way in
+      let is = subst (λ d. IsAnswer d a.verdict a.text) (sym c.2) a.is_due in
+      (a.is_status ∙ ap verdict_status is.0, (c.0, a.text, c.1, is.1, a.is_written))
+
+  described : (s : Structure)
+      → (status ≡ 11) ⊎ IsGivenOut (Ok (document s)) status out out_after err err_after E
+      → ((text : List ℕ) × (structure_of text ≡ Ok s) × Writes text status out out_after) ⊎ (status ≡ 11)
+  described s (inl eleven) = inr eleven
+  described s (inr g) = inl (g.1, g.2.1, (g.3 ∙ ap verdict_status g.2.0, g.4))
+
+  without_size : (status ≡ 11) ⊎ IsGivenOut (Err (faulty size)) status out out_after err err_after E
+      → (status ≡ 5) ⊎ (status ≡ 11)
+  without_size (inl eleven) = inr eleven
+  without_size (inr g) = inl g.0
+
+  stack_answer : StackSays kind n status out out_after S O
+  stack_answer = record {
+    never_denied = λ e. let h = (describing (omega (arith, e))).0 in absurd (omega (arith, h, e));
+    described = λ e. (describing (omega (arith, e))).1;
+    complete = λ no_shelf no_output s is. described s (given_or_memory m no_shelf no_output [] tt (Ok (document s)) tt
+        (stack_way holds kind n s is));
+    without_size = λ no_shelf no_output is. without_size (given_or_memory m no_shelf no_output [] tt
+        (Err (faulty size)) tt (size_way holds kind n is));
+    only_without_size = λ five. let r = m.refused (omega (arith, five)) in
+        no_size holds kind n r.refusal m.names S O (sym r.is_status ∙ five) r.cause;
+  }
+
+pub stack_says : {status : ℕ} {form : Option Form} {holds : Holds} {asked asked_after : ToldNames}
+    {out out_after err err_after : Bytes} {S O E : Type 0}
+    → RunMeets status form holds asked asked_after out out_after err err_after S O E
+    → (kind : Kind) (n : ℕ) → form ≡ Some (stack kind n) → StackSays kind n status out out_after S O
+stack_says {status} {form} {holds} {asked} {asked_after} {out} {out_after} {err} {err_after} {S} {O} {E} m kind n is =
+    stack_answer status holds asked asked_after out out_after err err_after S O E kind n
+    (subst (λ f. RunMeets status f holds asked asked_after out out_after err err_after S O E) is m)
+
+-- a wall
+abbrev IsSummaryDue : ℕ → Due → Type 0
+IsSummaryDue number due = (s : Structure) × (v : Surveyed) × (c : CertificateValue) × (sample_of number ≡ Ok s)
+    × IsSurvey s v × (summary number v c (is_narrow Live v default_budget) ≡ due)
+
+judged_end : (holds : Holds) (number : ℕ) (v : Surveyed) (j : Judgement) (names : List (List ℕ)) (due : Due)
+    → Ends holds (sample_step number v j) names (Ok due)
+    → (c : CertificateValue) × (summary number v c (is_narrow Live v default_budget) ≡ due)
+judged_end holds number v (certified c) names due p = (c, p.1)
+judged_end holds number v (too_wide place) names due p = absurd p.1
+judged_end holds number v spent names due p = absurd p.1
+
+found_end : (holds : Holds) (number : ℕ) (s : Structure) (found : Found) (names : List (List ℕ)) (due : Due)
+    → sample_of number ≡ Ok s → MayFind s found
+    → Ends holds (survey_step s found >>= sampled number) names (Ok due) → IsSummaryDue number due
+found_end holds number s (Ok v) names due is may p =
+    let c = judged_end holds number v (judgement Live v default_budget) names due p in
+    (s, v, c.0, is, may, c.1)
+found_end holds number s (Err e) names due is may p = absurd p.1
+
+wall_end : (holds : Holds) (number : ℕ) (r : Result Structure StackError) (names : List (List ℕ)) (due : Due)
+    → sample_of number ≡ r → Ends holds (built_step r >>= wall_sampled number) names (Ok due)
+    → IsSummaryDue number due
+wall_end holds number (Ok s) names due is (inl p) = absurd p.1
+wall_end holds number (Ok s) names due is (inr p) = found_end holds number s p.0 names due is p.1 p.2
+wall_end holds number (Err e) names due is p = absurd p.1
+
+sample_end : (holds : Holds) (number : ℕ) (names : List (List ℕ)) (due : Due)
+    → Ends holds (sample_work number) names (Ok due) → IsSummaryDue number due
+unfolding sample_work
+sample_end holds number names due p = wall_end holds number (sample_of number) names due refl p
+
+sample_way : (holds : Holds) (number : ℕ) (s : Structure) (v : Surveyed) (c : CertificateValue)
+    → sample_of number ≡ Ok s → IsSurvey s v → judgement Live v default_budget ≡ certified c
+    → Ends holds (sample_work number) [] (Ok (summary number v c (is_narrow Live v default_budget)))
+unfolding sample_work
+sample_way holds number s v c is survey judged =
+    subst (λ r. Ends holds (built_step r >>= wall_sampled number) []
+    (Ok (summary number v c (is_narrow Live v default_budget)))) (sym is)
+    (inr (
+      Ok v,
+      survey,
+      subst (λ j. Ends holds (sample_step number v j) []
+          (Ok (summary number v c (is_narrow Live v default_budget)))) (sym judged) (refl, refl),
+    ))
+
+module _ (status : ℕ) (holds : Holds) (asked asked_after : ToldNames) (out out_after err err_after : Bytes)
+    (S O E : Type 0) (number : ℕ)
+    (m : RunMeets status (Some (sample number)) holds asked asked_after out out_after err err_after S O E) where
+  summing : status < 2 → (status ≡ 0) × ((s : Structure) × (v : Surveyed) × (c : CertificateValue)
+      × (sample_of number ≡ Ok s) × IsSurvey s v × IsJudged Live v c
+      × Appends out out_after (summary_text number v c (is_narrow Live v default_budget)))
+  summing low =
+      let a = m.answered low in
+      let c = sample_end holds number m.names a.due a.way in
+      let is = subst (λ d. IsAnswer d a.verdict a.text) (sym c.5) a.is_due in (
+        a.is_status ∙ ap verdict_status is.is_verdict,
+        (c.0, c.1, c.2, c.3, c.4, is.judged, subst (Appends out out_after) is.is_text a.is_written),
+      )
+
+  summed : (v : Surveyed) (c : CertificateValue) → (status ≡ 11)
+      ⊎ IsGivenOut (Ok (summary number v c (is_narrow Live v default_budget))) status out out_after err err_after E
+      → Writes (summary_text number v c (is_narrow Live v default_budget)) status out out_after ⊎ (status ≡ 11)
+  summed v c (inl eleven) = inr eleven
+  summed v c (inr g) =
+      inl (g.3 ∙ ap verdict_status g.2.is_verdict, subst (Appends out out_after) g.2.is_text g.4)
+
+  sample_answer : SampleSays number status out out_after S O
+  sample_answer = record {
+    never_denied = λ e. let h = (summing (omega (arith, e))).0 in absurd (omega (arith, h, e));
+    summed = λ e. (summing (omega (arith, e))).1;
+    complete = λ no_shelf no_output s v c is survey judged. summed v c (given_or_memory m no_shelf no_output [] tt
+        (Ok (summary number v c (is_narrow Live v default_budget))) tt
+        (sample_way holds number s v c is survey judged));
+  }
+
+pub sample_says : {status : ℕ} {form : Option Form} {holds : Holds} {asked asked_after : ToldNames}
+    {out out_after err err_after : Bytes} {S O E : Type 0}
+    → RunMeets status form holds asked asked_after out out_after err err_after S O E
+    → (number : ℕ) → form ≡ Some (sample number) → SampleSays number status out out_after S O
+sample_says {status} {form} {holds} {asked} {asked_after} {out} {out_after} {err} {err_after} {S} {O} {E} m number is =
+    sample_answer status holds asked asked_after out out_after err err_after S O E number
+    (subst (λ f. RunMeets status f holds asked asked_after out out_after err err_after S O E) is m)

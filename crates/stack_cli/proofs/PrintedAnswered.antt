@@ -1,0 +1,140 @@
+-- What `stand` and `load` print is true whatever the devices do, and is accepted by `check`: out of the theorem on the
+-- top call.
+use Rattle.std.proofs.Common.{◌≡◌, refl, sym, subst, ap, ◌∙◌, ℕ, zero, suc, ◌<◌, ◌≤◌, Bool, true, false, List, []}
+use Rattle.std.proofs.Common.{◌∷◌, Option, Some, Result, Ok, Err, inl, inr, ◌⊎◌, arith}
+use Rattle.std.specs.Prelude.{if◌then◌else◌}
+use Rattle.std.specs.Io.KnownBytes.{Appends}
+use Rattle.stack_contact.specs.Surveyed.{Surveyed}
+use Rattle.stack_certificate.specs.Certificate.{CertificateValue}
+use Rattle.stack_certificate.specs.CertificateText.{IsCertificateText}
+use Rattle.stack_equilibrium.specs.declared.types.Question.{Question}
+use Rattle.stack_judge.specs.Judgement.{Judgement, certified, too_wide, spent, judgement}
+use Rattle.stack_judge.specs.Judged.{IsJudged}
+use Rattle.stack_cli.specs.declared.answer.Verdict.TheVariants.{Affirmed}
+use Rattle.stack_cli.specs.Refusals.{Refusal, words, file, faulty, output, memory, no_live, status_of}
+use Rattle.stack_cli.specs.Words.{Form, judges, check}
+use Rattle.stack_cli.specs.Answers.{Due, exactly, certificate, IsAnswer, verdict_status}
+use Rattle.stack_cli.specs.CheckText.{accepted_text}
+use Rattle.stack_cli.specs.Work.{refuses, Holds, Ends}
+use Rattle.stack_cli.specs.Surveying.{surveyed_file}
+use Rattle.stack_cli.specs.Checking.{check_work}
+use Rattle.stack_cli.specs.Judging.{lacks_live, judged_step, judged, judge_work}
+use Rattle.stack_cli.specs.OneEnd.{IsSettled}
+use Rattle.stack_cli.specs.AcceptedModel.{IsAcceptedModel}
+use Rattle.stack_cli.specs.Progress.{ToldNames, Bytes}
+use Rattle.stack_cli.specs.MainTheorem.{Answered, Refused, Cause, RunMeets}
+use Rattle.stack_cli.specs.Headline.{Prints, PrintsOfFile}
+use Rattle.stack_cli.specs.Printed.{acceptance, PrintedIsAccepted, IsAcceptedAgain}
+use Rattle.stack_cli.proofs.Ways.{came_from}
+use Rattle.stack_cli.proofs.AcceptedFiles.{only_accepted}
+
+-- an answer is a certificate of the question
+judged_end : (holds : Holds) (q : Question) (budget : ℕ) (v : Surveyed) (j : Judgement) (names : List (List ℕ))
+    (due : Due) → Ends holds (judged_step q budget v j) names (Ok due)
+    → (c : CertificateValue) × (certificate q v c ≡ due)
+judged_end holds q budget v (certified c) names due p = (c, p.1)
+judged_end holds q budget v (too_wide place) names due p = absurd p.1
+judged_end holds q budget v spent names due p = absurd p.1
+
+asked_end : (holds : Holds) (q : Question) (budget : ℕ) (v : Surveyed) (b : Bool) (names : List (List ℕ)) (due : Due)
+    → Ends holds (if b then refuses no_live else judged_step q budget v (judgement q v budget)) names (Ok due)
+    → (c : CertificateValue) × (certificate q v c ≡ due)
+asked_end holds q budget v true names due p = absurd p.1
+asked_end holds q budget v false names due p = judged_end holds q budget v (judgement q v budget) names due p
+
+answer_end : (holds : Holds) (q : Question) (model bytes : List ℕ) (budget : ℕ) (names : List (List ℕ)) (due : Due)
+    → holds model ≡ Some bytes → Ends holds (judge_work q model budget) names (Ok due)
+    → (v : Surveyed) × IsAcceptedModel bytes v × (c : CertificateValue) × (certificate q v c ≡ due)
+unfolding judge_work
+answer_end holds q model bytes budget names due told way =
+    let c = came_from holds (surveyed_file model) (judged q budget) names due way in
+    let d = asked_end holds q budget c.0 (lacks_live q c.0.structure) c.2 due c.4 in
+    (c.0, only_accepted holds model bytes c.0 c.1 told c.3, d.0, d.1)
+
+answer_prints : (holds : Holds) (q : Question) (model bytes : List ℕ) (budget status : ℕ) (names : List (List ℕ))
+    (out out_after err err_after : Bytes) → holds model ≡ Some bytes
+    → Answered status holds (Some (judges q model budget)) names out out_after err err_after
+    → PrintsOfFile q bytes status out out_after
+answer_prints holds q model bytes budget status names out out_after err err_after told a =
+    let c = answer_end holds q model bytes budget names a.due told a.way in
+    let is = subst (λ d. IsAnswer d a.verdict a.text) (sym c.3) a.is_due in
+    record {
+      survey = c.0;
+      is_accepted = c.1;
+      prints = record {
+        certificate = c.2;
+        judged = is.judged;
+        text = a.text;
+        is_text = is.is_text;
+        is_written = a.is_written;
+        is_status = a.is_status ∙ ap verdict_status is.is_verdict;
+      };
+    }
+
+pub prints_truly : {status : ℕ} {form : Option Form} {holds : Holds} {asked asked_after : ToldNames}
+    {out out_after err err_after : Bytes} {S O E : Type 0}
+    → RunMeets status form holds asked asked_after out out_after err err_after S O E
+    → (q : Question) (model : List ℕ) (budget : ℕ) (bytes : List ℕ) → form ≡ Some (judges q model budget)
+    → holds model ≡ Some bytes → status < 2 → PrintsOfFile q bytes status out out_after
+prints_truly {status} {form} {holds} {asked} {asked_after} {out} {out_after} {err} {err_after} {S} {O} {E} m q model
+    budget bytes is told low =
+    answer_prints holds q model bytes budget status m.names out out_after err err_after told
+    (subst (λ f. Answered status holds f m.names out out_after err err_after) is (m.answered low))
+
+abbrev given : Due → Result Due Refusal
+given due = Ok due
+
+abbrev refusing : Refusal → Result Due Refusal
+refusing r = Err r
+
+-- what a check that accepts gives out
+module _ (holds : Holds) (model name : List ℕ) (names : List (List ℕ)) (out out_after err err_after : Bytes)
+    (S O E : Type 0)
+    (only : (end : Result Due Refusal) → Ends holds (check_work model name) names end → IsSettled end
+    → end ≡ acceptance) where
+  abbrev Again : ℕ → Type 0
+  Again status = IsAcceptedAgain status out out_after S O
+
+  same_due : (due other : Due) → given due ≡ given other → due ≡ other
+  same_due due other e = cc
+
+  again_answered : (status : ℕ) → Answered status holds (Some (check model name)) names out out_after err err_after
+      → Again status
+  again_answered status a =
+      let same = same_due a.due (exactly Affirmed accepted_text) (only (Ok a.due) a.way tt) in
+      let is = subst (λ d. IsAnswer d a.verdict a.text) same a.is_due in
+      inl (a.is_status ∙ ap verdict_status is.0, subst (Appends out out_after) is.1 a.is_written)
+
+  not_refused : (r : Refusal) → refusing r ≡ acceptance → ⊥
+  not_refused r e = cc
+
+  again_refused : (status : ℕ) (r : Refusal) → status ≡ status_of r
+      → Cause r holds (Some (check model name)) names S O → Again status
+  again_refused status words is cause = absurd (not_refused words (only (Err words) cause tt))
+  again_refused status (file input) is cause = inr (inl (is, cause.0))
+  again_refused status output is cause = inr (inr (inl (is, cause)))
+  again_refused status (faulty memory) is cause = inr (inr (inr is))
+  again_refused status r is cause = absurd (not_refused r (only (Err r) cause tt))
+
+  again_by : (status : ℕ)
+      → (status < 2 → Answered status holds (Some (check model name)) names out out_after err err_after)
+      → (2 ≤ status
+      → Refused status holds (Some (check model name)) names out out_after err err_after S O E)
+      → Again status
+  again_by zero answers refusals = again_answered 0 (answers (omega arith))
+  again_by (suc zero) answers refusals = again_answered 1 (answers (omega arith))
+  again_by (suc (suc n)) answers refusals =
+      let r = refusals (omega arith) in again_refused (suc (suc n)) r.refusal r.is_status r.cause
+
+pub accepted_again : PrintedIsAccepted → {status : ℕ} {form : Option Form} {holds : Holds}
+    {asked asked_after : ToldNames} {out out_after err err_after : Bytes} {S O E : Type 0}
+    → RunMeets status form holds asked asked_after out out_after err err_after S O E
+    → (q : Question) (v : Surveyed) (c : CertificateValue) (model name bytes text : List ℕ)
+    → form ≡ Some (check model name) → holds model ≡ Some bytes → holds name ≡ Some text → IsAcceptedModel bytes v
+    → IsJudged q v c → IsCertificateText c text → IsAcceptedAgain status out out_after S O
+accepted_again law {status} {form} {holds} {asked} {asked_after} {out} {out_after} {err} {err_after} {S} {O} {E} m q v
+    c model name bytes text is told held accepted judged is_text =
+    let n = subst (λ f. RunMeets status f holds asked asked_after out out_after err err_after S O E) is m in
+    let l = law q v c holds model name bytes text told accepted judged is_text held in
+    again_by holds model name n.names out out_after err err_after S O E (λ end. l.1 n.names end) status n.answered
+    n.refused
