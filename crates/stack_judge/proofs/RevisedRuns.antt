@@ -8,7 +8,6 @@ use Rattle.stack_equilibrium.specs.SurveyScene.{scene_of}
 use Rattle.stack_table.specs.declared.problem.Problem.{Problem as Lent}
 use Rattle.stack_table.specs.Lent.{problem_of, shape_of_problem}
 use Rattle.stack_table.specs.Problem.{Problem, flipped}
-use Rattle.stack_duality.specs.WrittenRun.{over}
 use Rattle.stack_duality.specs.Laws.{run_at}
 use Rattle.stack_posing.specs.Posed.{posed}
 use Rattle.stack_last.specs.declared.kind.EndKind.{EndKind}
@@ -46,9 +45,6 @@ module _ (q : Question) (v : Surveyed) (budget : ℕ) (p : Lent) (is : problem_o
       → value_of_end e ≡ run_at widest (problem_of p) budget
       → run_at widest (posed q (scene_of v)) budget ≡ end_at k (table_of_end e)
   ends_survey e k h value = ap (λ P. run_at widest P budget) (sym is) ∙ sym value ∙ by_kind e k h
-
-  pub spends_survey : over ≡ run_at widest (problem_of p) budget → run_at widest (posed q (scene_of v)) budget ≡ over
-  spends_survey value = ap (λ P. run_at widest P budget) (sym is) ∙ sym value
 
   pub last_of_revised : (e : RevisedEnd) (k : EndKind) → k ≡ kind_of_end e
       → shape_of_end e ≡ shape_of_problem p → flips_of_end e ≡ flipped (problem_of p)

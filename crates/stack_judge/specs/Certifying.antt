@@ -1,5 +1,5 @@
 -- What is made of the end of a survey's run, on the way to its judgement.
-use Rattle.std.specs.Prelude.{◌≡◌, ℕ, Some, None, Result, Ok, Err, ⊤}
+use Rattle.std.specs.Prelude.{◌≡◌, ℕ, Option, Some, None, Result, Ok, Err, ⊤}
 use Rattle.stack_algebra.specs.Fraction.{Fraction}
 use Rattle.stack_rational.specs.declared.exact.Exact.{Ghosts}
 use Rattle.stack_contact.specs.Surveyed.{Surveyed}
@@ -18,6 +18,8 @@ use Rattle.stack_simplex.specs.declared.refusal.RunError.TheVariants as runs
 use Rattle.stack_simplex.specs.Written.{IsTableOf, IsWrittenTable}
 use Rattle.stack_posing.specs.Posed.{posed}
 use Rattle.stack_certified.specs.Certified.{end_certificate}
+use Rattle.stack_revised.specs.declared.stops.RevisedStop.{RevisedStop}
+use Rattle.stack_revised.specs.declared.stops.RevisedStop.TheVariants as stops
 use Rattle.stack_extract.specs.declared.types.ExtractError.{ExtractError}
 use Rattle.stack_extract.specs.declared.types.ExtractError.TheVariants as extract
 use Rattle.stack_judge.specs.declared.types.JudgeError.{JudgeError}
@@ -44,6 +46,13 @@ GivesChecked (Err errors.Memory) q v x = ⊤
 abbrev pub unjudged_as : RunError → (budget : ℕ) → JudgeError
 unjudged_as (runs.TooWide p) budget = errors.TooWide (places.Run p)
 unjudged_as runs.Spent budget = errors.Spent budget
+
+-- what a revised run that has no end tells of the judgement: nothing where it isn't settled
+abbrev pub stopped_answer : RevisedStop → (budget : ℕ) → Option (Result Certificate JudgeError)
+stopped_answer (stops.TooWide p) budget = Some (Err (errors.TooWide (places.Run p)))
+stopped_answer stops.Spent budget = Some (Err (errors.Spent budget))
+stopped_answer stops.Unsettled budget = None
+stopped_answer stops.Memory budget = Some (Err errors.Memory)
 
 -- a table is that of a survey's problem
 pub record IsTableOfSurvey {V : Type 0} {number : Ghosts V} (q : Question) (v : Surveyed) (t : Table V number)

@@ -5,9 +5,10 @@ ghost use Rattle.stack_certificate.specs.Certificate.{certificate_view};
 ghost use Rattle.stack_revised.specs.Ended.{kind_of_end};
 ghost use Rattle.stack_judge.specs.Judgement.{LacksLive, Judges};
 ghost use Rattle.stack_judge.specs.Judged.{IsJudged};
+ghost use Rattle.stack_judge.specs.Certifying.{stopped_answer};
 
 use crate::certifying::certify_at;
-use crate::types::JudgeError;
+use crate::types::{JudgeError, JudgePlace};
 use stack_certificate::types::Certificate;
 use stack_contact::types::Survey;
 use stack_equilibrium::types::Question;
@@ -23,6 +24,18 @@ fn kind_of(end: &RevisedEnd) -> EndKind
     match end {
         RevisedEnd::AtNarrow(last) => last.kind,
         RevisedEnd::AtWide(last) => last.kind,
+    }
+}
+
+/// What a revised run that has no end tells of the judgement; None where it isn't settled.
+fn stopped(stop: RevisedStop, budget: u32) -> Option<Result<Certificate, JudgeError>>
+    ensures { result ≡ stopped_answer stop budget }
+{
+    match stop {
+        RevisedStop::TooWide(place) => Some(Err(JudgeError::TooWide(JudgePlace::Run(place)))),
+        RevisedStop::Spent => Some(Err(JudgeError::Spent { budget })),
+        RevisedStop::Unsettled => None,
+        RevisedStop::Memory => Some(Err(JudgeError::Memory)),
     }
 }
 
@@ -44,8 +57,6 @@ pub fn judge_revised(
     };
     match run_revised(alloc, &problem, budget) {
         Ok(end) => Some(certify_at(alloc, s, kind_of(&end), &end)),
-        Err(RevisedStop::Spent) => Some(Err(JudgeError::Spent { budget })),
-        Err(RevisedStop::Memory) => Some(Err(JudgeError::Memory)),
-        Err(RevisedStop::Unsettled) => None,
+        Err(stop) => stopped(stop, budget),
     }
 }

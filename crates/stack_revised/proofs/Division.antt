@@ -12,15 +12,15 @@ use Rattle.stack_rational.specs.TooWide.{IsWidth, fraction_fits, is_too_wide}
 use Rattle.stack_rational.proofs.Fitting.{is_zero-of}
 use Rattle.stack_table.specs.Spots.{divided, divide_item}
 use Rattle.stack_revised.specs.declared.columns.Column.{Column}
-use Rattle.stack_revised.specs.RowForm.{cell_at, number_at, under_at, ArePositive, IsSameRow, IsBound, IsPlaced}
-use Rattle.stack_revised.specs.Columns.{combined, by_place, number, plain_own, first_at, AreFirst, revised_own}
+use Rattle.stack_revised.specs.RowForm.{cell_at, number_at, under_at, ArePositive, AreWithin, IsSameRow, IsPlaced}
+use Rattle.stack_revised.specs.Columns.{combined, by_place, number, plain_own, first_at, revised_own}
 use Rattle.stack_revised.specs.Columns.{revised_number, revised_cell, row_number, row_cell}
 use Rattle.stack_revised.proofs.NumberBlock.{part_value, cell_outside}
 use Rattle.stack_revised.proofs.Linear.{combined_same}
 use Rattle.stack_revised.proofs.FirstRows.{nothing_gives}
 use Rattle.stack_revised.proofs.OverOneDenominator.{over_fits}
 use Rattle.stack_revised.proofs.Bounds.{division_is, division_none}
-use Rattle.stack_revised.proofs.Steps.{bounded, under_fits, over_zero}
+use Rattle.stack_revised.proofs.Steps.{under_fits, over_zero}
 
 -- by the place of a column
 placed_same : (b c d : Bool) (x y z x' y' z' q e : ℤ) → x' *ℤ q ≡ x *ℤ e → (b ≡ false → c ≡ true → y' *ℤ q ≡ y *ℤ e) →
@@ -96,13 +96,13 @@ module _ {V : Type 0} (value : V → ℤ) (m : ℕ) (columns : List (Column V)) 
         ≤ unsigned_abs max) (sym (number_outside k j whole l)) (omega arith))
         (under_fits max value fits is ds k)
 
-    module _ (most : ℤ) (first : AreFirst value m (length columns) columns most) (max : ℤ)
+    module _ (max : ℤ)
         (fits : (x : V) → unsigned_abs (value x) ≤ unsigned_abs max) (positive : ArePositive value ds)
         (r c w : ℕ) (l : r < m) (e : w ≡ suc m) (room : r * w + w ≤ length ns) (pivot : List V) (factor under bound : V)
         (hf : value factor ≡ revised_number value m columns own ns ds r c)
         (some : revised_number value m columns own ns ds r c ≢ pos 0)
         (s : IsSameRow value (take (r * w + w - r * w) (drop (r * w) ns)) (value factor) pivot (value under))
-        (b : IsBound value m pivot (value under) most (pos 0) (value bound)) where
+        (b : AreWithin (row_number value m columns pivot (value under)) (value bound)) where
       cross : (j : ℕ) → row_number value m columns pivot (value under) j *ℤ revised_number value m columns own ns ds r c
           ≡ revised_number value m columns own ns ds r j *ℤ value under
       cross j = ap (λ z. row_number value m columns pivot (value under) j *ℤ z) (sym hf)
@@ -112,12 +112,7 @@ module _ {V : Type 0} (value : V → ℤ) (m : ℕ) (columns : List (Column V)) 
           ∙ ap (λ z. z *ℤ value under) (row_is_plain r l w e room j)
 
       within : (j : ℕ) → unsigned_abs (row_number value m columns pivot (value under) j) ≤ unsigned_abs max
-      within j = omega (
-        arith,
-        bounded value m columns most first plain_own pivot (value under) (pos 0) (value bound)
-            (λ j. omega arith) b j,
-        fits bound,
-      )
+      within j = omega (arith, b j, fits bound)
 
       -- the pivot row is the written row, divided by its cell
       pub pivot_row_is : (j : ℕ) → row_cell value m columns pivot (value under) j
@@ -135,6 +130,11 @@ module _ {V : Type 0} (value : V → ℤ) (m : ℕ) (columns : List (Column V)) 
           (row_number value m columns pivot (value under)) (under_at value ds r)
           (revised_number value m columns own ns ds r c)
           (value under) (unsigned_abs max) (positive r) s.positive some cross within (fits under) (omega arith) row j
+
+      -- and its cells fit
+      pub pivot_row_fits : (j : ℕ) → fraction_fits max (row_cell value m columns pivot (value under) j) ≡ true
+      pivot_row_fits j = over_fits max (row_number value m columns pivot (value under) j) (value under) s.positive
+          (within j) (fits under)
 
     -- the block after the pivot row is put
     module _ (ns' ds' : List V) (pivot : List V) (under : ℤ) (r w : ℕ) (e : w

@@ -1,6 +1,6 @@
 -- What the end of a run at one width says.
 use Rattle.std.proofs.Common.{◌≡◌, refl, sym, subst, ◌∙◌, ℕ, ◌≤◌, ◌^◌, ◌-◌, Result, Ok, Err, unsigned_abs, arith}
-use Rattle.std.specs.Prelude.{IfOk, IfErr, ◌≢◌}
+use Rattle.std.specs.Prelude.{IfOk, IfErr}
 use lib.IntN.{ℤ, pos}
 use Rattle.stack_algebra.specs.Fraction.{Fraction}
 use Rattle.stack_algebra.proofs.OrderedFractions.{ordered_fractions}
@@ -15,10 +15,13 @@ use Rattle.stack_revised.specs.declared.whole.Whole.{Ghosts}
 use Rattle.stack_last.specs.declared.kind.EndKind.{EndKind}
 use Rattle.stack_last.specs.declared.kind.EndKind.TheVariants.{Infeasible, Feasible, Optimal, Ray}
 use Rattle.stack_revised.specs.declared.stops.RevisedStop.{RevisedStop}
-use Rattle.stack_revised.specs.declared.stops.RevisedStop.TheVariants.{Spent, Unsettled, Memory}
+use Rattle.stack_revised.specs.declared.stops.RevisedStop.TheVariants.{TooWide, Spent, Unsettled, Memory}
+use Rattle.stack_revised.specs.declared.stops.Stop.{Stop}
+use Rattle.stack_revised.specs.declared.stops.Stop.TheVariants as stops
+use Rattle.stack_revised.specs.Tells.{TellsEnd}
 use Rattle.stack_revised.specs.declared.last.Last.{Last}
 use Rattle.stack_last.specs.Ends.{end_at}
-use Rattle.stack_revised.specs.Ended.{value_of_last, TellsLast, tells_stop}
+use Rattle.stack_revised.specs.Ended.{value_of_last, TellsLast, TellsNothing, tells_stop, stopped_as}
 
 -- the run of a table that is the written one is the run of its problem
 pub run_is : (m : ℤ) (P : Problem) (budget : ℕ) (S : Shape) (T : Tabled Fraction) → S ≡ P.shape →
@@ -27,11 +30,18 @@ run_is m P budget S T hs ht = λ i. written_run ordered_fractions (hs i) (is_too
 
 -- an end or a refusal
 pub tells_last : {V : Type 0} {number : Ghosts V} (r : Result (Last V number) RevisedStop) (X : End Fraction) →
-    IfOk r (λ l. value_of_last l ≡ X) → IfErr r (λ e. e ≢ Spent) → TellsLast r X
+    IfOk r (λ l. value_of_last l ≡ X) → IfErr r (λ e. TellsNothing e) → TellsLast r X
 tells_last (Ok l) X h k = h
-tells_last (Err Spent) X h k = absurd (k refl)
+tells_last (Err (TooWide p)) X h k = absurd k
+tells_last (Err Spent) X h k = absurd k
 tells_last (Err Unsettled) X h k = tt
 tells_last (Err Memory) X h k = tt
+
+-- a run over rows that is stopped
+pub stop_told : (e : Stop) (X : End Fraction) → TellsEnd e X → tells_stop (stopped_as e) X
+stop_told (stops.TooWide p) X h = h
+stop_told stops.Spent X h = h
+stop_told stops.Unsettled X h = tt
 
 -- what holds of an answer, where more does
 pub if_ok : {A E : Type 0} (r : Result A E) (P Q : A → Type 0) → ((x : A) → P x → Q x) → IfOk r P → IfOk r Q

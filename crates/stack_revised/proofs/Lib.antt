@@ -26,3 +26,5 @@ pub mod FirstSteps
 pub mod FirstTables
 pub mod EndedRuns
 pub mod MadeCells
+pub mod RowByCells
+pub mod CellSteps

@@ -1,7 +1,10 @@
 -- Rows that are marked: their cells fit.
-use Rattle.std.proofs.Common.{◌≡◌, ◌≢◌, sym, ap, ◌∙◌, ℕ, ◌+◌, ◌<◌, ◌≤◌, Bool, true, false, List}
-use Rattle.std.proofs.Common.{length, Option, Some, None}
-use Rattle.std.specs.Prelude.{OnSome}
+use Rattle.std.proofs.Common.{◌≡◌, ◌≢◌, sym, ap, subst, ◌∙◌, ℕ, ◌+◌, ◌<◌, ◌≤◌, Bool, true, false, List}
+use Rattle.std.proofs.Common.{length, Option, Result, Ok, Err}
+use Rattle.std.specs.Prelude.{OnOk, IfErr}
+use Rattle.stack_table.specs.declared.types.PivotWide.{PivotWide}
+use Rattle.stack_revised.specs.declared.stops.Refusal.{Refusal}
+use Rattle.stack_revised.specs.CellSteps.{TellsSpot}
 use Rattle.std.proofs.Common.{get_or, set, arith, get_or-set_same, get_or-set_other}
 use Rattle.std.proofs.lemmas.List.{get_or_past}
 use native.Mathlib.Decide.{ℕ_discrete, dec_lt}
@@ -14,14 +17,16 @@ use Rattle.stack_revised.specs.RowForm.{AreMarked}
 not_marked : (b : Bool) → b ≡ false → b ≡ true → ⊥
 not_marked b h k = let e : false ≡ true = sym h ∙ k in absurd cc
 
--- a row that fits is marked
-pub marked_more : (m : ℤ) (cell : ℕ → ℕ → Fraction) (marks : List Bool) (i : ℕ) → i < length marks →
-    AreMarked m cell marks → ((j : ℕ) → fraction_fits m (cell i j) ≡ true) → AreMarked m cell (set marks i true)
-marked_more m cell marks i l h fits k e j = go (ℕ_discrete k i)
+-- a row that is made anew and fits is marked
+pub marked_anew : (m : ℤ) (old new : ℕ → ℕ → Fraction) (marks : List Bool) (i : ℕ) → AreMarked m old marks →
+    ((k j : ℕ) → k ≢ i → new k j ≡ old k j) → ((j : ℕ) → fraction_fits m (new i j) ≡ true) →
+    AreMarked m new (set marks i true)
+marked_anew m old new marks i h other fits k e j = go (ℕ_discrete k i)
   where
-    go : Dec (k ≡ i) → fraction_fits m (cell k j) ≡ true
-    go (yes p) = ap (λ n. fraction_fits m (cell n j)) p ∙ fits j
-    go (no d) = h k (sym (get_or-set_other marks i k true false d) ∙ e) j
+    go : Dec (k ≡ i) → fraction_fits m (new k j) ≡ true
+    go (yes p) = ap (λ n. fraction_fits m (new n j)) p ∙ fits j
+    go (no d) = ap (fraction_fits m) (other k j d)
+        ∙ h k (sym (get_or-set_other marks i k true false d) ∙ e) j
 
 -- a row that changes loses its mark
 pub marked_less : (m : ℤ) (old new : ℕ → ℕ → Fraction) (marks : List Bool) (i : ℕ) → i < length marks →
@@ -63,6 +68,17 @@ marked_same m old new ms ns cells marks h i e j =
     ap (fraction_fits m) (cells i j) ∙ h i (ap (λ xs. get_or xs i false) (sym marks) ∙ e) j
 
 -- what holds of an answer, where more does
-pub on_some : {A : Type 0} (r : Option A) (P Q : Type 0) → (P → Q) → OnSome r P → OnSome r Q
-on_some (Some x) P Q h k = h k
-on_some None P Q h k = tt
+pub on_ok : {A E : Type 0} (r : Result A E) (P Q : Type 0) → (P → Q) → OnOk r P → OnOk r Q
+on_ok (Ok x) P Q h k = h k
+on_ok (Err e) P Q h k = tt
+
+-- a refusal says the same of the same place
+pub err_same : {A : Type 0} (r : Result A Refusal) (s t : Option PivotWide) → s ≡ t →
+    IfErr r (λ e. TellsSpot e s) → IfErr r (λ e. TellsSpot e t)
+err_same (Ok x) s t h k = tt
+err_same (Err e) s t h k = subst (TellsSpot e) h k
+
+-- what follows of two things that hold of an answer
+pub ok_both : {A E : Type 0} (r : Result A E) (P Q R : Type 0) → (P → Q → R) → OnOk r P → OnOk r Q → OnOk r R
+ok_both (Ok x) P Q R h k l = h k l
+ok_both (Err e) P Q R h k l = tt

@@ -4,7 +4,8 @@ use Prim.Native.Nat.{ℕ, zero, suc, ◌*◌, ◌/◌, ◌<◌, ◌≤◌, ◌�
 use native.Mathlib.Nat.{mul-div_cancel', dvd-mul_right}
 use Rattle.std.proofs.Math.Nat.{mul-div_cancel_left}
 use native.Mathlib.Omega.{arith}
-use lib.IntN.{ℤ, pos, negsuc, nat_abs, neg_ℤ, ◌+ℤ◌, ◌*ℤ◌}
+use lib.IntN.{ℤ, pos, negsuc, nat_abs, neg_ℤ, ◌+ℤ◌, ◌-ℤ◌, ◌*ℤ◌}
+use Rattle.stack_table.specs.Spots.{reduced}
 use Rattle.std.proofs.lemmas.Int.{ints, unsigned_abs-mul}
 use Rattle.std.proofs.lemmas.Bool.{le-leb}
 use Rattle.std.proofs.Math.Nat.{div-le_self}
@@ -80,7 +81,7 @@ multiple z d h = record {
     turn a b = omega arith
 
 -- a number whose multiple is within m is within m
-within_multiple : (m z w : ℤ) (s : ℕ) → 0 < s → w ≡ z *ℤ pos s → Within m w → Within m z
+pub within_multiple : (m z w : ℤ) (s : ℕ) → 0 < s → w ≡ z *ℤ pos s → Within m w → Within m z
 within_multiple m z w s h e k = grow (nat_abs z) s (nat_abs w) h (sym (ap nat_abs e ∙ unsigned_abs-mul z (pos s))) k
   where
     grow : (a s w : ℕ) → 0 < s → a * s ≡ w → w ≤ nat_abs m → a ≤ nat_abs m
@@ -254,3 +255,9 @@ module _ (m n f d r e k t : ℤ) (hd : pos 0 ≺ d) (he : pos 0 ≺ e) (hk : pos
   -- what is taken from it
   pub taken : neg (mul (over f d) (over r e)) ≡ over (neg_ℤ (t *ℤ r)) (d *ℤ k)
   taken = ap neg (mul_over f d r e k t hd he hk c) ∙ neg_over (t *ℤ r) (d *ℤ k) (mul_pos d k hd hk)
+
+  -- the cell that is written
+  pub step_cell : over (n *ℤ k -ℤ t *ℤ r) (d *ℤ k)
+      ≡ reduced ordered_fractions (λ _. over n d) (λ _. over r e) (over f d) 0
+  step_cell = sym (add_over (n *ℤ k) (neg_ℤ (t *ℤ r)) (d *ℤ k) (mul_pos d k hd hk))
+      ∙ (λ i. add (sym scaled_cell i) (sym taken i))

@@ -1,6 +1,6 @@
 -- What a turn's choice says of its row, what a turn's answer says of the phase, and the column of a row of phase 2.
-use Rattle.std.proofs.Common.{◌≡◌, ◌≢◌, sym, ap, ◌∙◌, ℕ, suc, ◌+◌, ◌-◌, ◌<◌, Bool, false, cond, not}
-use Rattle.std.proofs.Common.{Option, Some, None, arith, add-one}
+use Rattle.std.proofs.Common.{◌≡◌, ◌≢◌, refl, sym, ap, subst, ◌∙◌, ℕ, suc, ◌+◌, ◌-◌, ◌<◌, Bool, false, cond, not}
+use Rattle.std.proofs.Common.{Option, Some, None, Err, arith, add-one}
 use lib.IntN.{ℤ, pos}
 use Rattle.stack_algebra.specs.Fraction.{Fraction}
 use Rattle.stack_algebra.specs.Ordered.{sign_of}
@@ -11,14 +11,22 @@ use Rattle.stack_rational.specs.TooWide.{is_too_wide}
 use Rattle.stack_table.specs.Table.{Shape, Tabled, plain, right, pivoted_at, clear_objective, set_factor_objective}
 use Rattle.stack_table.specs.Spots.{pivot_spot}
 use Rattle.stack_bland.specs.Choice.{is_nought, is_negative_sign, ratio, entering, leaving, ratio_row}
-use Rattle.stack_duality.specs.WrittenRun.{PhaseStop, settled, unlimited, spent, turns, driven_column, drive_row}
-use Rattle.stack_duality.specs.WrittenRun.{drives}
-use Rattle.stack_duality.specs.WrittenRun.{infeasible, over, after_phase, raise, third_end, past_first, first_end}
+use Rattle.stack_duality.specs.WrittenRun.{PhaseStop, settled, unlimited, wide_at, spent, turns, driven_column}
+use Rattle.stack_duality.specs.WrittenRun.{drive_row, drives}
+use Rattle.stack_duality.specs.WrittenRun.{infeasible, after_phase, raise, third_end, past_first, first_end}
 use Rattle.stack_duality.specs.WrittenRun.{written_run}
 use Rattle.stack_duality.proofs.BestRow.{best-some}
-use Rattle.stack_duality.proofs.Turn.{turn_settled, turn_unlimited, turn_spent, turn_pivots, drives_on, drives_spent}
+use Rattle.stack_duality.proofs.Turn.{turn_settled, turn_unlimited, turn_spent, turn_passing, turn_pivots}
+use Rattle.stack_duality.proofs.Turn.{drives_on, drives_passing, drives_spent}
 use Rattle.stack_revised.specs.declared.pivots.Pivots.{Pivots}
-use Rattle.stack_revised.specs.Tells.{IsPivoted, phase_from}
+use Rattle.stack_simplex.specs.Stops.{spot_of}
+use Rattle.stack_table.specs.declared.types.PivotWide.{PivotWide}
+use Rattle.stack_revised.specs.declared.stops.Refusal.{Refusal}
+use Rattle.stack_revised.specs.declared.stops.Refusal.TheVariants as refusals
+use Rattle.stack_revised.specs.declared.stops.Stop.{Stop}
+use Rattle.stack_revised.specs.declared.stops.Stop.TheVariants.{TooWide, Spent, Unsettled}
+use Rattle.stack_revised.specs.Tells.{IsPivoted, TellsPivot, TellsStop, TellsEnd, phase_from, stop_at}
+use Rattle.stack_revised.specs.CellSteps.{TellsSpot}
 
 module _ (S : Shape) (T : Tabled Fraction) where
   -- the leaving row is a row, and its cell isn't 0
@@ -76,6 +84,15 @@ module _ (max : ℤ) (S : Shape) (phase among : ℕ) (T : Tabled Fraction) (k : 
         (sym leaves)
         k.left k.done h)
 
+    -- the pivot that is due isn't done
+    pub stops : (e : Stop) → TellsPivot (Err e) phase k (pivot_spot ordered_fractions (is_too_wide max) S T r c) →
+        TellsStop e (phase_from max S phase among k T)
+    stops (TooWide p) h = (λ i. wide_at (h.in_phase i) (h.next_pivot i) (spot_of p))
+        ∙ sym (turn_passing ordered_fractions S (is_too_wide max) phase among T r c (sym enters) ratios (sym leaves)
+        k.left k.done (spot_of p) h.some_left h.first)
+    stops Spent h = is_spent h
+    stops Unsettled h = tt
+
     -- a pivot is done
     pub goes_on : (l : Pivots) (U : Tabled Fraction) →
         IsPivoted k l (pivot_spot ordered_fractions (is_too_wide max) S T r c) →
@@ -94,6 +111,10 @@ module _ (max : ℤ) (S S' : Shape) (phase among : ℕ) (l : Pivots) (T U : Tabl
   pub loop_tells : (Y : PhaseStop Fraction) → Y ≡ phase_from max S' phase among l T → Y ≡ X
   loop_tells Y h = h ∙ carried
 
+  -- and so does a refusal
+  pub loop_stops : (e : Stop) → TellsStop e (phase_from max S' phase among l T) → TellsStop e X
+  loop_stops e h = subst (TellsStop e) carried h
+
   -- and each turn what is left of it
   pub loop_goes_on : (k : Pivots) → phase_from max S' phase among k U ≡ phase_from max S' phase among l T →
       phase_from max S phase among k U ≡ X
@@ -108,12 +129,19 @@ module _ (max : ℤ) (S S' : Shape) (T U : Tabled Fraction) (n i : ℕ) (first k
   up_to_row = drives_on ordered_fractions S (is_too_wide max) i first.left first.done k.left k.done T U before
       ∙ ap (λ (S : Shape). drive_row ordered_fractions S (is_too_wide max) k.left k.done U i) (sym same)
 
-  -- the row is over the budget
-  pub row_spends : i < n → spent ≡ drive_row ordered_fractions S' (is_too_wide max) k.left k.done U i →
-      spent ≡ drives ordered_fractions S (is_too_wide max) n first.left first.done T
-  row_spends l h = let m = n - suc i in let z : suc i + m ≡ n = omega arith in
+  -- the row stops the phase
+  pub row_stops : (e : Stop) → i < n →
+      TellsStop e (drive_row ordered_fractions S' (is_too_wide max) k.left k.done U i) →
+      TellsStop e (drives ordered_fractions S (is_too_wide max) n first.left first.done T)
+  row_stops (TooWide p) l h = let m = n - suc i in let z : suc i + m ≡ n = omega arith in
+      sym (ap (λ n. drives ordered_fractions S (is_too_wide max) n first.left first.done T) (sym z)
+      ∙ drives_passing ordered_fractions S (is_too_wide max) m (suc i) first.left first.done p.phase p.pivot T
+      (spot_of p)
+      (up_to_row ∙ sym h))
+  row_stops Spent l h = let m = n - suc i in let z : suc i + m ≡ n = omega arith in
       sym (ap (λ n. drives ordered_fractions S (is_too_wide max) n first.left first.done T) (sym z)
       ∙ drives_spent ordered_fractions S (is_too_wide max) m (suc i) first.left first.done T (up_to_row ∙ sym h))
+  row_stops Unsettled l h = tt
 
   -- the row is done
   pub row_settles : (l : Pivots) (V : Tabled Fraction) →
@@ -121,6 +149,25 @@ module _ (max : ℤ) (S S' : Shape) (T U : Tabled Fraction) (n i : ℕ) (first k
       drives ordered_fractions S (is_too_wide max) (i + 1) first.left first.done T ≡ settled l.left l.done V
   row_settles l V h = ap (λ n. drives ordered_fractions S (is_too_wide max) n first.left first.done T) (add-one i)
       ∙ up_to_row ∙ sym h
+
+-- a phase that is stopped stops the run
+pub first_stops : (max : ℤ) (S : Shape) (T : Tabled Fraction) (budget : ℕ) (e : Stop) →
+    TellsStop e (turns ordered_fractions S (is_too_wide max) 1 S.contacts budget 0 T) →
+    TellsEnd e (written_run ordered_fractions S (is_too_wide max) budget T)
+first_stops max S T budget (TooWide p) h = ap (first_end ordered_fractions S (is_too_wide max)) h
+first_stops max S T budget Spent h = ap (first_end ordered_fractions S (is_too_wide max)) h
+first_stops max S T budget Unsettled h = tt
+
+third_stopped : (e : Stop) (X : PhaseStop Fraction) → TellsStop e X → TellsEnd e (third_end X)
+third_stopped (TooWide p) X h = ap third_end h
+third_stopped Spent X h = ap third_end h
+third_stopped Unsettled X h = tt
+
+after_stopped : (e : Stop) (X : PhaseStop Fraction) (next : ℕ → ℕ → Tabled Fraction → PhaseStop Fraction) →
+    TellsStop e X → TellsEnd e (third_end (after_phase X next))
+after_stopped (TooWide p) X next h = ap (λ x. third_end (after_phase x next)) h
+after_stopped Spent X next h = ap (λ x. third_end (after_phase x next)) h
+after_stopped Unsettled X next h = tt
 
 -- a run past phase 1, which left the table U and the pivots k
 module _ (max : ℤ) (S S' : Shape) (T U : Tabled Fraction) (budget : ℕ) (k : Pivots) (same : S' ≡ S)
@@ -151,11 +198,13 @@ module _ (max : ℤ) (S S' : Shape) (T U : Tabled Fraction) (budget : ℕ) (k : 
       (clear_objective ordered_fractions S U))
       (sym same) ∙ sym h)
 
-  -- phase 2 is over the budget
-  pub second_spends : spent ≡ drives ordered_fractions S' (is_too_wide max) S'.rows k.left k.done
-      (clear_objective ordered_fractions S' U) →
-      over ≡ written_run ordered_fractions S (is_too_wide max) budget T
-  second_spends h = sym (second_is spent h)
+  -- phase 2 is stopped
+  pub second_stops : (e : Stop) → TellsStop e (drives ordered_fractions S' (is_too_wide max) S'.rows k.left k.done
+      (clear_objective ordered_fractions S' U)) →
+      TellsEnd e (written_run ordered_fractions S (is_too_wide max) budget T)
+  second_stops e h = let X = drives ordered_fractions S' (is_too_wide max) S'.rows k.left k.done
+      (clear_objective ordered_fractions S' U) in
+      subst (TellsEnd e) (sym (second_is X refl)) (after_stopped e X on_third h)
 
   -- phase 2 leaves the table V and the pivots l
   module _ (S'' : Shape) (V : Tabled Fraction) (l : Pivots) (same' : S'' ≡ S')
@@ -169,3 +218,23 @@ module _ (max : ℤ) (S S' : Shape) (T U : Tabled Fraction) (budget : ℕ) (k : 
     third_is X h = ap third_end (h
         ∙ ap (λ (S : Shape). turns ordered_fractions S (is_too_wide max) 3 (plain S) l.left l.done
         (set_factor_objective ordered_fractions S V)) (same' ∙ same)) ∙ sym (second_is _ second)
+
+    -- phase 3 is stopped
+    pub third_stops : (e : Stop) → TellsStop e (turns ordered_fractions S'' (is_too_wide max) 3 (plain S'') l.left
+        l.done (set_factor_objective ordered_fractions S'' V)) →
+        TellsEnd e (written_run ordered_fractions S (is_too_wide max) budget T)
+    third_stops e h = let X = turns ordered_fractions S'' (is_too_wide max) 3 (plain S'') l.left l.done
+        (set_factor_objective ordered_fractions S'' V) in
+        subst (TellsEnd e) (third_is X refl) (third_stopped e X h)
+
+-- a pivot that isn't done tells where it is too wide
+pub refusal_tells : (e : Refusal) (phase : ℕ) (before : Pivots) (pivot : ℕ) (spot : Option PivotWide)
+    → 0 < before.left → pivot ≡ suc before.done → TellsSpot e spot
+    → TellsPivot (Err (stop_at e phase pivot)) phase before spot
+refusal_tells (refusals.TooWide s) phase before pivot spot some next tells = record {
+  some_left = some;
+  in_phase = refl;
+  next_pivot = next;
+  first = tells;
+}
+refusal_tells refusals.Unsettled phase before pivot spot some next tells = tt

@@ -13,7 +13,7 @@ use Rattle.stack_rational.specs.Stored.{Within}
 use Rattle.stack_table.specs.Spots.{reduced, reduce_item}
 use Rattle.stack_revised.proofs.Linear.{combined_step, combined_same, combined_within}
 use Rattle.stack_revised.specs.Columns.{combined, sizes, by_place, plain_own, number}
-use Rattle.stack_revised.proofs.OverOneDenominator.{same_over}
+use Rattle.stack_revised.proofs.OverOneDenominator.{same_over, step_cell}
 use Rattle.stack_revised.proofs.Bounds.{step_none, step_is, step_fits}
 
 -- the same step at each place
@@ -90,6 +90,17 @@ module _ (m n : ℕ) (F : ℕ → ℕ → ℤ) where
         (combined_same m (λ r. a r *ℤ k -ℤ t *ℤ p r) b (λ r. F r j) (d *ℤ k) g hb
         ∙ ap (λ z. z *ℤ g) (combined_step m a p (λ r. F r j) k t)))
         (λ f h. hb (j - n) (omega (arith, ltb-false j n f, ltb-true j (n + m) h))) hv
+
+    -- it is the written row, whatever fits
+    pub row_takes : (w : ℤ) (c : ℕ) → pos 0 ≺ d → pos 0 ≺ e → pos 0 ≺ k → pos 0 ≺ g →
+        number m n F own d a s c *ℤ k ≡ t *ℤ e → (j : ℕ) → over (number m n F own g b v j) g
+        ≡ reduced ordered_fractions (λ j. over (number m n F own d a s j) d)
+        (λ j. over (number m n F plain_own e p u j) e) (over (number m n F own d a s c) d) j
+    row_takes w c hd he hk hg cross j = same_over (number m n F own g b v j) g
+        (number m n F own d a s j *ℤ k -ℤ t *ℤ number m n F plain_own e p u j) (d *ℤ k) hg (mul_pos d k hd hk)
+        (number_step j)
+        ∙ step_cell w (number m n F own d a s j) (number m n F own d a s c) d (number m n F plain_own e p u j) e k t
+        hd he hk cross
 
     module _ (w : ℤ) (c : ℕ) (x y : ℕ) (hd : pos 0 ≺ d) (he : pos 0 ≺ e) (hk : pos 0 ≺ k) (hg : pos 0 ≺ g)
         (cross : number m n F own d a s c *ℤ k ≡ t *ℤ e)

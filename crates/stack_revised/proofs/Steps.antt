@@ -3,7 +3,7 @@ use Rattle.std.proofs.Common.{◌≡◌, ◌≢◌, refl, sym, ap, subst, ◌∙
 use Rattle.std.proofs.Common.{◌∷◌, length, set, take, drop}
 use Rattle.std.proofs.Common.{None, Bool, true, false, cond, eqb, unsigned_abs, arith}
 use native.Mathlib.Decide.{ℕ_discrete}
-use lib.IntN.{ℤ, pos, ◌*ℤ◌}
+use lib.IntN.{ℤ, pos, ◌-ℤ◌, ◌*ℤ◌}
 use Rattle.std.proofs.lemmas.Int.{ints}
 use Rattle.stack_algebra.specs.Fraction.{Fraction}
 use Rattle.stack_algebra.proofs.Order.{◌≺◌}
@@ -18,14 +18,16 @@ use Rattle.stack_rational.proofs.Fitting.{is_zero_whole-num, is_zero-of}
 use Rattle.stack_table.specs.Spots.{reduced, reduce_item}
 use Rattle.stack_table.proofs.RowSteps.{row_skips, reduced_same}
 use Rattle.stack_revised.specs.declared.columns.Column.{Column}
-use Rattle.stack_revised.specs.RowForm.{cell_at, number_at, under_at, ArePositive, AreWithin, IsBound, IsRowStepped}
+use Rattle.stack_revised.specs.RowForm.{cell_at, number_at, under_at, ArePositive, AreWithin, IsBound, IsBounded}
+use Rattle.stack_revised.specs.RowForm.{IsRowTaken}
 use Rattle.stack_revised.specs.RowForm.{IsRowReduced}
 use Rattle.stack_revised.specs.Columns.{number, first_at, AreFirst, IsOwn, revised_own, greatest_at}
 use Rattle.stack_revised.specs.Columns.{revised_number, revised_cell, row_number, row_cell}
 use Rattle.stack_revised.proofs.Numbers.{at-set_same, at-set_other}
 use Rattle.stack_revised.proofs.NumberBlock.{part_value}
 use Rattle.stack_revised.proofs.OverOneDenominator.{over_fits, same_over}
-use Rattle.stack_revised.proofs.RevisedRows.{number_within, row_is, row_none}
+use Rattle.stack_revised.proofs.RevisedRows.{number_within, row_takes, row_none, row_fits}
+use Rattle.stack_algebra.proofs.Search.{first_all-none}
 
 -- 0 over any denominator
 pub over_zero : (d : ℤ) → pos 0 ≺ d → over (pos 0) d ≡ of (pos 0)
@@ -107,28 +109,17 @@ module _ {V : Type 0} (value : V → ℤ) (m : ℕ) (columns : List (Column V)) 
           (greatest_at m greatest i) b
           (own_bound i) k j)
 
-      -- its cells fit
-      pub lent_fits : (max : ℤ) → ((x : V) → unsigned_abs (value x) ≤ unsigned_abs max) → IsWidth max →
-          ArePositive value ds → (b : V) → IsBound value m (take (i * w + w - i * w) (drop (i * w) ns))
-          (under_at value ds i) most (greatest_at m greatest i) (value b) → (j : ℕ) →
-          fraction_fits max (revised_cell value m columns own ns ds i j) ≡ true
-      lent_fits max fits is positive b k j = over_fits max (revised_number value m columns own ns ds i j)
-          (under_at value ds i) (positive i) (omega (
-            arith,
-            lent_within (under_at value ds i) (value b) refl k j,
-            fits b,
-          ))
-          (under_fits max value fits is ds i)
-
       -- a row whose number in the column is 0, and whose cells fit, stays
-      pub row_stays : (max : ℤ) → IsWidth max → ArePositive value ds → (g : ℕ → Fraction) (column : ℕ) →
+      pub row_stays : (max : ℤ) → IsWidth max → ArePositive value ds → (g : ℕ → Fraction) (column width : ℕ) →
           ((j : ℕ) → fraction_fits max (revised_cell value m columns own ns ds i j) ≡ true) →
           is_zero_whole (revised_number value m columns own ns ds i column) ≡ true →
-          IsRowReduced max (revised_cell value m columns own ns ds) g i column (revised_cell value m columns own ns ds)
-      row_stays max is positive g column cell_fits z = record {
+          IsRowReduced max width (revised_cell value m columns own ns ds) g i column
+          (revised_cell value m columns own ns ds)
+      row_stays max is positive g column width cell_fits z = record {
         own = λ j. sym (skips i j).0;
         other = λ k j n. refl;
-        none = λ row j. (skips row j).1;
+        fits = cell_fits;
+        none = first_all-none width _ (λ j l. (skips i j).1);
       }
         where
           nought : is_zero (revised_cell value m columns own ns ds i column) ≡ true
@@ -144,80 +135,102 @@ module _ {V : Type 0} (value : V → ℤ) (m : ℕ) (columns : List (Column V)) 
               (revised_cell value m columns own ns ds i column) row j is (cell_fits j) nought
 
       -- a row that was lent, reduced and put back
-      pub row_put : (max : ℤ) (pivot : List V) (under b f p : ℤ) (column : ℕ) (ns' ds' : List V) →
-          ArePositive value ds → pos 0 ≺ under →
-          IsBound value m (take (i * w + w - i * w) (drop (i * w) ns)) (under_at value ds i) most
-          (greatest_at m greatest i) b →
-          AreWithin (row_number value m columns pivot under) p → f ≡ revised_number value m columns own ns ds i column →
-          IsRowStepped max value w ns ds pivot under f b p i ns' ds' →
-          IsRowReduced max (revised_cell value m columns own ns ds) (row_cell value m columns pivot under) i column
-          (revised_cell value m columns own ns' ds')
-      row_put max pivot under b f p column ns' ds' positive hu k kp hf x = record {
-        own = λ j. there j ∙ row_is m (length columns) (first_at value columns) o d (number_at value lent m)
-            (number_at value lent) under (number_at value pivot m)
-            (number_at value pivot) x.stepped.k x.stepped.t x.after
-            (number_at value x.row m) (number_at value x.row) (λ r l. x.stepped.number r)
-            (x.stepped.number m) max column
-            (unsigned_abs b) (unsigned_abs p) (positive i) hu x.stepped.some x.stepped.positive cross hx kp
-            x.stepped.fits
-            x.stepped.under j
+      module _ (max : ℤ) (pivot : List V) (under wd k t f : ℤ) (column : ℕ) (ns' ds' : List V)
+          (positive : ArePositive value ds) (hu : pos 0 ≺ under) (hw : wd ≡ under_at value ds i *ℤ k) (hk : pos 0 ≺ k)
+          (hf : f ≡ revised_number value m columns own ns ds i column) (hc : f *ℤ k ≡ t *ℤ under)
+          (x : IsRowTaken value w ns ds pivot wd k t i ns' ds') where
+        lent : List V
+        lent = take (i * w + w - i * w) (drop (i * w) ns)
+
+        d : ℤ
+        d = under_at value ds i
+
+        o : ℕ → ℤ
+        o = revised_own value m own i
+
+        here : (j : ℕ) → with_own (revised_own value m own i) (take (i * w + w - i * w) (drop (i * w) ns))
+            (under_at value ds i) j
+            ≡ revised_cell value m columns own ns ds i j
+        here j = lent_cell (under_at value ds i) refl j
+
+        put : (j : ℕ) → cell_at value (pos 0) (suc m) ns' i j ≡ number_at value x.row j
+        put j = ap (λ w'. cell_at value (pos 0) w' ns' i j) (sym e) ∙ x.placed.own j
+
+        kept : (k j : ℕ) → k ≢ i → cell_at value (pos 0) (suc m) ns' k j ≡ cell_at value (pos 0) (suc m) ns k j
+        kept k j n = ap (λ w'. cell_at value (pos 0) w' ns' k j) (sym e)
+            ∙ x.placed.other k j n ∙ ap (λ w'. cell_at value (pos 0) w' ns k j) e
+
+        there : (j : ℕ) → revised_cell value m columns own ns' ds' i j
+            ≡ with_own (revised_own value m own i) x.row x.after j
+        there j = (λ z. over (number m (length columns) (first_at value columns) (revised_own value m own i)
+            (x.placed.own_under z) (λ r. put r z) (put m z) j) (x.placed.own_under z))
+
+        cross : number m (length columns) (first_at value columns) (revised_own value m own i) (under_at value ds i)
+            (number_at value (take (i * w + w - i * w) (drop (i * w) ns)))
+            (number_at value (take (i * w + w - i * w) (drop (i * w) ns)) m) column *ℤ k
+            ≡ t *ℤ under
+        cross = ap (λ z. z *ℤ k) (lent_number (under_at value ds i) refl column ∙ sym hf) ∙ hc
+
+        taken_at : (r : ℕ) → number_at value x.row r *ℤ (under_at value ds i *ℤ k)
+            ≡ (number_at value (take (i * w + w - i * w) (drop (i * w) ns)) r *ℤ k
+            -ℤ t *ℤ number_at value pivot r) *ℤ x.after
+        taken_at r = ap (λ z. number_at value x.row r *ℤ z) (sym hw) ∙ x.taken.number r
+
+        -- is the written row
+        pub taken_own : (j : ℕ) → revised_cell value m columns own ns' ds' i j
+            ≡ reduced ordered_fractions (revised_cell value m columns own ns ds i)
+            (row_cell value m columns pivot under) (revised_cell value m columns own ns ds i column) j
+        unfolding d lent o
+        taken_own j = there j ∙ row_takes m (length columns) (first_at value columns) o d (number_at value lent m)
+            (number_at value lent) under (number_at value pivot m) (number_at value pivot) k t x.after
+            (number_at value x.row m) (number_at value x.row) (λ r l. taken_at r) (taken_at m) max column
+            (positive i) hu hk x.taken.positive cross j
             ∙ reduced_same (with_own o lent d) (revised_cell value m columns own ns ds i)
             (row_cell value m columns pivot under) (row_cell value m columns pivot under)
             (with_own o lent d column) (revised_cell value m columns own ns ds i column) j
-            (here j) refl (here column);
-        other = λ k j n. (λ z. over (number m (length columns) (first_at value columns) (revised_own value m own k)
-            (x.placed.other_under k n z) (λ r. other k r n z) (other k m n z) j)
-            (x.placed.other_under k n z));
-        none = λ row j. sym (λ z. reduce_item ordered_fractions (is_too_wide max) (λ j. here j z)
-            (row_cell value m columns pivot under) (here column z) row j)
-            ∙ row_none m (length columns) (first_at value columns) o d (number_at value lent m)
-            (number_at value lent) under (number_at value pivot m)
-            (number_at value pivot) x.stepped.k x.stepped.t x.after
-            (number_at value x.row m) (number_at value x.row) (λ r l. x.stepped.number r)
-            (x.stepped.number m) max column
-            (unsigned_abs b) (unsigned_abs p) (positive i) hu x.stepped.some x.stepped.positive cross hx kp
-            x.stepped.fits
-            x.stepped.under row j;
-      }
-        where
-          lent : List V
-          lent = take (i * w + w - i * w) (drop (i * w) ns)
+            (here j) refl (here column)
 
-          d : ℤ
-          d = under_at value ds i
+        -- and the others stay
+        pub taken_other : (k j : ℕ) → k ≢ i → revised_cell value m columns own ns' ds' k j
+            ≡ revised_cell value m columns own ns ds k j
+        taken_other k j n = (λ z. over (number m (length columns) (first_at value columns) (revised_own value m own k)
+            (x.placed.other_under k n z) (λ r. kept k r n z) (kept k m n z) j)
+            (x.placed.other_under k n z))
 
-          o : ℕ → ℤ
-          o = revised_own value m own i
+        -- by bounds of both rows
+        pub row_bounded : (p : ℤ) (width : ℕ) →
+            IsBounded max value m (take (i * w + w - i * w) (drop (i * w) ns)) (under_at value ds i) most
+            (greatest_at m greatest i) k t (unsigned_abs p) wd →
+            AreWithin (row_number value m columns pivot under) p →
+            IsRowReduced max width (revised_cell value m columns own ns ds) (row_cell value m columns pivot under) i
+            column (revised_cell value m columns own ns' ds')
+        unfolding d lent o
+        row_bounded p width b kp = record {
+          own = taken_own;
+          other = taken_other;
+          fits = λ j. ap (fraction_fits max) (there j) ∙ row_fits m (length columns) (first_at value columns) o d
+              (number_at value lent m) (number_at value lent) under (number_at value pivot m) (number_at value pivot)
+              k t x.after (number_at value x.row m) (number_at value x.row) (λ r l. taken_at r) (taken_at m) max column
+              (unsigned_abs b.bound) (unsigned_abs p) (positive i) hu hk x.taken.positive cross hx kp b.fitting.fits
+              small j;
+          none = first_all-none width _ (λ j l. sym (λ z. reduce_item ordered_fractions (is_too_wide max)
+              (λ j. here j z) (row_cell value m columns pivot under) (here column z) i j)
+              ∙ row_none m (length columns) (first_at value columns) o d
+              (number_at value lent m) (number_at value lent) under (number_at value pivot m) (number_at value pivot)
+              k t x.after (number_at value x.row m) (number_at value x.row) (λ r l. taken_at r) (taken_at m) max column
+              (unsigned_abs b.bound) (unsigned_abs p) (positive i) hu hk x.taken.positive cross hx kp b.fitting.fits
+              small i j);
+        }
+          where
+            small : unsigned_abs (under_at value ds i *ℤ k) ≤ unsigned_abs max
+            small = subst (λ z. unsigned_abs z ≤ unsigned_abs max) hw b.fitting.small
 
-          here : (j : ℕ) → with_own (revised_own value m own i) (take (i * w + w - i * w) (drop (i * w) ns))
-              (under_at value ds i) j
-              ≡ revised_cell value m columns own ns ds i j
-          here j = lent_cell (under_at value ds i) refl j
-
-          put : (j : ℕ) → cell_at value (pos 0) (suc m) ns' i j ≡ number_at value x.row j
-          put j = ap (λ w'. cell_at value (pos 0) w' ns' i j) (sym e) ∙ x.placed.own j
-
-          other : (k j : ℕ) → k ≢ i → cell_at value (pos 0) (suc m) ns' k j ≡ cell_at value (pos 0) (suc m) ns k j
-          other k j n = ap (λ w'. cell_at value (pos 0) w' ns' k j) (sym e)
-              ∙ x.placed.other k j n ∙ ap (λ w'. cell_at value (pos 0) w' ns k j) e
-
-          there : (j : ℕ) → revised_cell value m columns own ns' ds' i j
-              ≡ with_own (revised_own value m own i) x.row x.after j
-          there j = (λ z. over (number m (length columns) (first_at value columns) (revised_own value m own i)
-              (x.placed.own_under z) (λ r. put r z) (put m z) j) (x.placed.own_under z))
-
-          cross : number m (length columns) (first_at value columns) (revised_own value m own i) (under_at value ds i)
-              (number_at value (take (i * w + w - i * w) (drop (i * w) ns)))
-              (number_at value (take (i * w + w - i * w) (drop (i * w) ns)) m) column *ℤ x.stepped.k
-              ≡ x.stepped.t *ℤ under
-          cross = ap (λ z. z *ℤ x.stepped.k) (lent_number (under_at value ds i) refl column ∙ sym hf) ∙ x.stepped.cross
-
-          hx : (j : ℕ) → unsigned_abs (number m (length columns) (first_at value columns)
-              (revised_own value m own i) (under_at value ds i)
-              (number_at value (take (i * w + w - i * w) (drop (i * w) ns)))
-              (number_at value (take (i * w + w - i * w) (drop (i * w) ns)) m) j) ≤ unsigned_abs b
-          hx = bounded (revised_own value m own i) (take (i * w + w - i * w) (drop (i * w) ns)) (under_at value ds i)
-              (greatest_at m greatest i) b (own_bound i) k
+            hx : (j : ℕ) → unsigned_abs (number m (length columns) (first_at value columns)
+                (revised_own value m own i) (under_at value ds i)
+                (number_at value (take (i * w + w - i * w) (drop (i * w) ns)))
+                (number_at value (take (i * w + w - i * w) (drop (i * w) ns)) m) j) ≤ unsigned_abs b.bound
+            hx = bounded (revised_own value m own i) (take (i * w + w - i * w) (drop (i * w) ns)) (under_at value ds i)
+                (greatest_at m greatest i) b.bound (own_bound i) b.is_bound
 
 -- a denominator that is put is positive
 pub set_positive : {V : Type 0} (value : V → ℤ) (ds : List V) (i : ℕ) (after : V) → i < length ds →

@@ -2,12 +2,15 @@
 use Rattle.std.specs.Prelude.{◌≡◌, ℕ, Bool, false, eqb, get_or, ⊤, Result, Ok, Err}
 use Rattle.stack_algebra.specs.Fraction.{Fraction}
 use Rattle.stack_table.specs.Table.{Shape, Tabled}
-use Rattle.stack_duality.specs.WrittenRun.{End, over}
+use Rattle.stack_duality.specs.WrittenRun.{End, wide, over}
 use Rattle.stack_revised.specs.declared.whole.Whole.{Ghosts}
 use Rattle.stack_last.specs.declared.kind.EndKind.{EndKind}
 use Rattle.stack_last.specs.declared.kind.EndKind.TheVariants.{Infeasible, Feasible, Optimal, Ray}
 use Rattle.stack_revised.specs.declared.stops.RevisedStop.{RevisedStop}
-use Rattle.stack_revised.specs.declared.stops.RevisedStop.TheVariants.{Spent, Unsettled, Memory}
+use Rattle.stack_revised.specs.declared.stops.RevisedStop.TheVariants.{TooWide, Spent, Unsettled, Memory}
+use Rattle.stack_revised.specs.declared.stops.Stop.{Stop}
+use Rattle.stack_revised.specs.declared.stops.Stop.TheVariants as stops
+use Rattle.stack_simplex.specs.Stops.{spot_of}
 use Rattle.stack_revised.specs.declared.last.Last.{Last}
 use Rattle.stack_revised.specs.declared.ended.RevisedEnd.{RevisedEnd}
 use Rattle.stack_revised.specs.declared.ended.RevisedEnd.TheVariants.{AtNarrow, AtWide}
@@ -55,11 +58,25 @@ abbrev pub value_of_end : RevisedEnd → End Fraction
 value_of_end (AtNarrow l) = value_of_last l
 value_of_end (AtWide l) = value_of_last l
 
--- what a refusal says of the written run: a spent budget that it is over, the others nothing
+-- what a refusal says of the written run: that it is wide at this place, or over its budget; the others nothing
 abbrev pub tells_stop : RevisedStop → End Fraction → Type 0
+tells_stop (TooWide p) X = wide p.phase p.pivot (spot_of p) ≡ X
 tells_stop Spent X = over ≡ X
 tells_stop Unsettled X = ⊤
 tells_stop Memory X = ⊤
+
+-- a refusal of a run over rows
+abbrev pub stopped_as : Stop → RevisedStop
+stopped_as (stops.TooWide p) = TooWide p
+stopped_as stops.Spent = Spent
+stopped_as stops.Unsettled = Unsettled
+
+-- one that says nothing
+abbrev pub TellsNothing : RevisedStop → Type 0
+TellsNothing (TooWide p) = ⊥
+TellsNothing Spent = ⊥
+TellsNothing Unsettled = ⊤
+TellsNothing Memory = ⊤
 
 -- what the answer of a run at one width says of the written run there
 abbrev pub TellsLast : {V : Type 0} {number : Ghosts V} → Result (Last V number) RevisedStop → End Fraction → Type 0

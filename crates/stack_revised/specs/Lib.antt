@@ -1,4 +1,5 @@
 pub mod RowForm
+pub mod CellSteps
 pub mod Columns
 pub mod Seen
 pub mod Tells

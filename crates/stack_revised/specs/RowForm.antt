@@ -6,7 +6,7 @@ use Rattle.stack_algebra.specs.Fraction.{Fraction}
 use Rattle.stack_algebra.proofs.OrderedFractions.{ordered_fractions}
 use Rattle.stack_rational.specs.TooWide.{fraction_fits, is_too_wide}
 use Rattle.stack_algebra.specs.Rows.{next}
-use Rattle.stack_table.specs.Spots.{reduced, reduce_item, cells_spot}
+use Rattle.stack_table.specs.Spots.{divided, reduced, divide_item, reduce_spot, cells_spot}
 
 -- the value of item k, z past the last item; and in row i and column j of rows of one width
 abbrev pub at_value : {V C : Type 0} → (V → C) → C → List V → ℕ → C
@@ -44,20 +44,19 @@ pub record IsSameRow {V : Type 0} (value : V → ℤ) (old : List V) (d : ℤ) (
   pub positive : pos 0 <ℤ e
   pub cross : (j : ℕ) → number_at value new j *ℤ d ≡ number_at value old j *ℤ e
 
--- a row step: the row times k less t times the pivot row, over another denominator; f is the row's number in the
--- pivot's
--- column, and b and p are bounds of the two rows
-pub record IsStepped {V : Type 0} (m : ℤ) (value : V → ℤ) (old : List V) (d : ℤ) (pivot : List V) (e f b p : ℤ)
-    (new : List V) (after : ℤ) : Type 0 where
-  pub k : ℤ
-  pub t : ℤ
-  pub some : pos 0 <ℤ k
-  pub cross : f *ℤ k ≡ t *ℤ e
-  pub fits : unsigned_abs b * unsigned_abs k + unsigned_abs t * unsigned_abs p ≤ unsigned_abs m
-  pub under : unsigned_abs (d *ℤ k) ≤ unsigned_abs m
+-- a row step: the row times k less t times the pivot row, over w, is the new row over another denominator
+pub record IsTaken {V : Type 0} (value : V → ℤ) (old : List V) (w : ℤ) (pivot : List V) (k t : ℤ) (new : List V)
+    (after : ℤ) : Type 0 where
   pub positive : pos 0 <ℤ after
-  pub number : (r : ℕ) → number_at value new r *ℤ (d *ℤ k)
+  pub number : (r : ℕ) → number_at value new r *ℤ w
       ≡ (number_at value old r *ℤ k -ℤ t *ℤ number_at value pivot r) *ℤ after
+
+-- what a row step over d makes of numbers of at most b, and of at most p in the pivot row, isn't too wide for m, nor
+-- is its denominator r before it is reduced
+pub record IsFitting (m d k t : ℤ) (b p : ℕ) (r : ℤ) : Type 0 where
+  pub fits : b * unsigned_abs k + unsigned_abs t * p ≤ unsigned_abs m
+  pub under : r ≡ d *ℤ k
+  pub small : unsigned_abs r ≤ unsigned_abs m
 
 -- no number is greater than b in size
 abbrev pub AreWithin : (ℕ → ℤ) → ℤ → Type 0
@@ -74,12 +73,26 @@ pub record IsBound {V : Type 0} (value : V → ℤ) (m : ℕ) (row : List V) (d 
 abbrev pub AreMarked : ℤ → (ℕ → ℕ → Fraction) → List Bool → Type 0
 AreMarked m cell marks = (i : ℕ) → get_or marks i false ≡ true → (j : ℕ) → fraction_fits m (cell i j) ≡ true
 
--- row i is reduced by the row g, and the others stay
-pub record IsRowReduced (m : ℤ) (old : ℕ → ℕ → Fraction) (g : ℕ → Fraction) (i column : ℕ) (new : ℕ → ℕ → Fraction)
-    : Type 0 where
+-- so it is for all numbers of a row over d, by a bound of them
+pub record IsBounded {V : Type 0} (m : ℤ) (value : V → ℤ) (rows : ℕ) (row : List V) (d most greatest k t : ℤ)
+    (p : ℕ) (r : ℤ) : Type 0 where
+  pub bound : ℤ
+  pub is_bound : IsBound value rows row d most greatest bound
+  pub fitting : IsFitting m d k t (unsigned_abs bound) p r
+
+-- row i is reduced by the row g, its cells fit and nothing that is written is too wide; the others stay
+pub record IsRowReduced (m : ℤ) (width : ℕ) (old : ℕ → ℕ → Fraction) (g : ℕ → Fraction) (i column : ℕ)
+    (new : ℕ → ℕ → Fraction) : Type 0 where
   pub own : (j : ℕ) → new i j ≡ reduced ordered_fractions (old i) g (old i column) j
   pub other : (k j : ℕ) → (k ≡ i → ⊥) → new k j ≡ old k j
-  pub none : (row j : ℕ) → reduce_item ordered_fractions (is_too_wide m) (old i) g (old i column) row j ≡ None
+  pub fits : (j : ℕ) → fraction_fits m (new i j) ≡ true
+  pub none : reduce_spot ordered_fractions (is_too_wide m) width (old i) g (old i column) i ≡ None
+
+-- the pivot row is divided, its cells fit and nothing that is written is too wide
+pub record IsDividedRow (m : ℤ) (old : ℕ → Fraction) (column : ℕ) (new : ℕ → Fraction) : Type 0 where
+  pub cell : (j : ℕ) → new j ≡ divided ordered_fractions old (old column) j
+  pub none : (row j : ℕ) → divide_item ordered_fractions (is_too_wide m) old (old column) row j ≡ None
+  pub fits : (j : ℕ) → fraction_fits m (new j) ≡ true
 
 -- row i of a block is another row, and the others stay
 pub record IsPlaced {V : Type 0} (value : V → ℤ) (width : ℕ) (ns ds : List V) (row : List V) (d : ℤ) (i : ℕ)
@@ -97,12 +110,9 @@ pub record IsPivotedCells (m : ℤ) (height width : ℕ) (old : ℕ → ℕ → 
   pub none : cells_spot ordered_fractions (is_too_wide m) height width old row column ≡ None
 
 -- row i of a block is reduced by a row step, and put back
-pub record IsRowStepped {V : Type 0} (m : ℤ) (value : V → ℤ) (width : ℕ) (ns ds : List V) (pivot : List V)
-    (e f b p : ℤ) (i : ℕ)
+pub record IsRowTaken {V : Type 0} (value : V → ℤ) (width : ℕ) (ns ds pivot : List V) (w k t : ℤ) (i : ℕ)
     (ns' ds' : List V) : Type 0 where
   pub row : List V
   pub after : ℤ
-  pub stepped : IsStepped m value (take (i * width + width - i * width) (drop (i * width) ns))
-      (under_at value ds i) pivot e
-      f b p row after
+  pub taken : IsTaken value (take (i * width + width - i * width) (drop (i * width) ns)) w pivot k t row after
   pub placed : IsPlaced value width ns ds row after i ns' ds'

@@ -1,14 +1,19 @@
 -- What the answers of phases and runs over rows tell of the written run at a width. `Unsettled` tells nothing.
-use Rattle.std.specs.Prelude.{◌≡◌, ℕ, suc, ◌<◌, ℤ, ⊤, Option, None, Result, Ok, Err}
+use Rattle.std.specs.Prelude.{◌≡◌, ℕ, suc, ◌<◌, ℤ, ⊤, Option, Some, None, Result, Ok, Err}
 use Rattle.stack_algebra.specs.Fraction.{Fraction}
 use Rattle.stack_algebra.proofs.OrderedFractions.{ordered_fractions}
 use Rattle.stack_rational.specs.TooWide.{is_too_wide}
 use Rattle.stack_table.specs.declared.types.PivotWide.{PivotWide}
 use Rattle.stack_table.specs.Table.{Shape, Tabled}
-use Rattle.stack_duality.specs.WrittenRun.{PhaseStop, settled, unlimited, spent, turns, End, over}
+use Rattle.stack_duality.specs.WrittenRun.{PhaseStop, settled, unlimited, wide_at, spent, turns, End}
+use Rattle.stack_duality.specs.WrittenRun.{wide, over}
+use Rattle.stack_simplex.specs.declared.refusal.RunPlace.{RunPlace}
+use Rattle.stack_simplex.specs.Stops.{spot_of}
 use Rattle.stack_revised.specs.declared.pivots.Pivots.{Pivots}
+use Rattle.stack_revised.specs.declared.stops.Refusal.{Refusal}
+use Rattle.stack_revised.specs.declared.stops.Refusal.TheVariants as refusals
 use Rattle.stack_revised.specs.declared.stops.Stop.{Stop}
-use Rattle.stack_revised.specs.declared.stops.Stop.TheVariants.{Spent, Unsettled}
+use Rattle.stack_revised.specs.declared.stops.Stop.TheVariants.{TooWide, Spent, Unsettled}
 use Rattle.stack_revised.specs.declared.stops.PhaseEnd.{PhaseEnd}
 use Rattle.stack_revised.specs.declared.stops.PhaseEnd.TheVariants.{Settled, Unlimited}
 use Rattle.stack_revised.specs.declared.stops.Turn.{Turn}
@@ -22,11 +27,25 @@ pub record IsPivoted (before after : Pivots) (spot : Option PivotWide) : Type 0 
   pub left : before.left ≡ suc after.left
   pub is_nowhere_too_wide : spot ≡ None
 
+-- a pivot that is first too wide at the place
+pub record IsWideAt (phase : ℕ) (before : Pivots) (p : RunPlace) (spot : Option PivotWide) : Type 0 where
+  pub some_left : 0 < before.left
+  pub in_phase : p.phase ≡ phase
+  pub next_pivot : p.pivot ≡ suc before.done
+  pub first : spot ≡ Some (spot_of p)
+
 -- what the answer of a pivot that is due says
-abbrev pub TellsPivot : Result Pivots Stop → Pivots → Option PivotWide → Type 0
-TellsPivot (Ok k) before spot = IsPivoted before k spot
-TellsPivot (Err Spent) before spot = before.left ≡ 0
-TellsPivot (Err Unsettled) before spot = ⊤
+abbrev pub TellsPivot : Result Pivots Stop → (phase : ℕ) → Pivots → Option PivotWide → Type 0
+TellsPivot (Ok k) phase before spot = IsPivoted before k spot
+TellsPivot (Err (TooWide p)) phase before spot = IsWideAt phase before p spot
+TellsPivot (Err Spent) phase before spot = before.left ≡ 0
+TellsPivot (Err Unsettled) phase before spot = ⊤
+
+-- why a phase stops where a pivot of it isn't done: at the place in that pivot, if one is told
+abbrev pub stop_at : Refusal → (phase pivot : ℕ) → Stop
+stop_at (refusals.TooWide spot) phase pivot =
+    TooWide (record { phase = phase; pivot = pivot; row = spot.row; column = spot.column; step = spot.step })
+stop_at refusals.Unsettled phase pivot = Unsettled
 
 -- a phase of the written run at a greatest value, from a table and the pivots done and left
 abbrev pub phase_from : ℤ → Shape → (phase among : ℕ) → Pivots → Tabled Fraction → PhaseStop Fraction
@@ -37,18 +56,22 @@ abbrev pub stop_of : Tabled Fraction → PhaseEnd → PhaseStop Fraction
 stop_of T (Settled k) = settled k.left k.done T
 stop_of T (Unlimited c) = unlimited T c
 
+-- what a refusal says of a phase
+abbrev pub TellsStop : Stop → PhaseStop Fraction → Type 0
+TellsStop (TooWide p) X = wide_at p.phase p.pivot (spot_of p) ≡ X
+TellsStop Spent X = spent ≡ X
+TellsStop Unsettled X = ⊤
+
 -- what the answer of a phase says of it
 abbrev pub TellsPhase : Tabled Fraction → Result PhaseEnd Stop → PhaseStop Fraction → Type 0
 TellsPhase T (Ok x) X = stop_of T x ≡ X
-TellsPhase T (Err Spent) X = spent ≡ X
-TellsPhase T (Err Unsettled) X = ⊤
+TellsPhase T (Err e) X = TellsStop e X
 
 -- and that of a turn: the phase stops, or what is left of it is to be done
 abbrev pub TellsTurn : ℤ → Shape → (phase among : ℕ) → Tabled Fraction → Result Turn Stop → PhaseStop Fraction → Type 0
 TellsTurn max S phase among T (Ok (Stops x)) X = stop_of T x ≡ X
 TellsTurn max S phase among T (Ok (GoesOn k)) X = phase_from max S phase among k T ≡ X
-TellsTurn max S phase among T (Err Spent) X = spent ≡ X
-TellsTurn max S phase among T (Err Unsettled) X = ⊤
+TellsTurn max S phase among T (Err e) X = TellsStop e X
 
 -- a turn that goes on leaves fewer pivots
 abbrev pub HasFewer : Pivots → Turn → Type 0
@@ -58,11 +81,15 @@ HasFewer before (GoesOn k) = k.left < before.left
 -- and that of phases 1 and 2
 abbrev pub TellsPivots : Tabled Fraction → Result Pivots Stop → PhaseStop Fraction → Type 0
 TellsPivots T (Ok k) X = settled k.left k.done T ≡ X
-TellsPivots T (Err Spent) X = spent ≡ X
-TellsPivots T (Err Unsettled) X = ⊤
+TellsPivots T (Err e) X = TellsStop e X
+
+-- what a refusal says of the written run
+abbrev pub TellsEnd : Stop → End Fraction → Type 0
+TellsEnd (TooWide p) X = wide p.phase p.pivot (spot_of p) ≡ X
+TellsEnd Spent X = over ≡ X
+TellsEnd Unsettled X = ⊤
 
 -- what the answer of a run says of the written run
 abbrev pub TellsRun : Tabled Fraction → Result EndKind Stop → End Fraction → Type 0
 TellsRun T (Ok x) X = end_at x T ≡ X
-TellsRun T (Err Spent) X = over ≡ X
-TellsRun T (Err Unsettled) X = ⊤
+TellsRun T (Err e) X = TellsEnd e X

@@ -7,6 +7,7 @@
 //! ```text
 //! match run_revised(alloc, &problem, budget) {
 //!     Ok(end) => .., // the end of the written run at 128 bits, with its last table
+//!     Err(RevisedStop::TooWide(place)) => .., // its first number that is too wide
 //!     Err(RevisedStop::Spent) => .., // the written run is over its budget
 //!     Err(RevisedStop::Unsettled) => .., // this tells nothing
 //!     Err(RevisedStop::Memory) => ..,
@@ -20,6 +21,7 @@ mod choices;
 pub mod columns;
 mod common;
 pub mod ended;
+mod factors;
 mod filling;
 pub mod first;
 pub mod last;
@@ -32,9 +34,11 @@ mod pivoting;
 pub mod pivots;
 mod products;
 mod reading;
+mod remaking;
 pub mod revised_table;
 mod row;
 mod running;
+mod spots;
 pub mod stops;
 mod turn;
 pub mod whole;

@@ -2,8 +2,9 @@
 
 ghost use Rattle.std.specs.Prelude.{◌≡◌, ℕ, suc, ◌+◌, ◌*◌, ◌<◌, ◌≤◌, ◌+ℤ◌, ◌*ℤ◌, length, unsigned_abs, IfSome};
 ghost use Rattle.stack_algebra.specs.Sums.{sum_of};
-ghost use Rattle.stack_revised.specs.RowForm.{number_at, IsBound};
-ghost use Rattle.stack_revised.specs.Columns.{revised_own, revised_number};
+ghost use Rattle.std.specs.Prelude.{ℤ};
+ghost use Rattle.stack_revised.specs.RowForm.{number_at, AreWithin, IsBound};
+ghost use Rattle.stack_revised.specs.Columns.{revised_own, revised_number, row_number};
 
 use crate::columns::Cell;
 use crate::first::First;
@@ -85,4 +86,34 @@ pub fn bound<T: Whole>(first: &First<T>, numbers: &[T], under: T, greatest: T) -
     let own = under.times(greatest)?;
     let both = combined.sizes(own)?;
     Some(both.wider(numbers[first.rows]))
+}
+
+/// The number of a row without own cells in any column, the right side last. None where it doesn't fit.
+pub fn row_number<T: Whole>(first: &First<T>, row: &[T], j: usize) -> Option<T>
+    requires width { length row.now ≡ suc first.now.rows }
+    requires column_in { j < suc (length first.now.columns.items + first.now.rows) }
+    ensures { IfSome result (λ r. (d : ℤ) → T.value r ≡ row_number T.value first.now.rows first.now.columns.items
+        row.now d j) }
+{
+    let plain = first.columns.len();
+    if j < plain {
+        let number = sum_over(first.columns[j].cells.as_slice(), row, T::zero())?;
+        return Some(number);
+    }
+    let k = j - plain;
+    Some(row[k])
+}
+
+/// The greatest in size of all numbers of a row without own cells. None where one doesn't fit.
+pub fn greatest_in<T: Whole>(first: &First<T>, row: &[T]) -> Option<T>
+    requires { length row.now ≡ suc first.now.rows }
+    ensures { IfSome result (λ b. (d : ℤ) → AreWithin (row_number T.value first.now.rows first.now.columns.items
+        row.now d) (T.value b)) }
+{
+    let mut most = widest_of(row, row.len());
+    for j in 0..first.columns.len() {
+        let number = row_number(first, row, j)?;
+        most = most.wider(number);
+    }
+    Some(most)
 }

@@ -55,8 +55,7 @@ fn first_phase<T: Whole>(t: &mut RevisedTable<T>, budget: u32) -> Result<Pivots,
         Ok(PhaseEnd::Settled(pivots)) => Ok(pivots),
         // It never comes with a written table: in phase 1 some row leaves wherever a column enters.
         Ok(PhaseEnd::Unlimited(_)) => Err(Stop::Unsettled),
-        Err(Stop::Spent) => Err(Stop::Spent),
-        Err(Stop::Unsettled) => Err(Stop::Unsettled),
+        Err(stop) => Err(stop),
     }
 }
 
@@ -74,7 +73,7 @@ fn drive_row<T: Whole>(t: &mut RevisedTable<T>, pivots: Pivots, row: usize) -> R
     match driven_column(t, row) {
         None => Err(Stop::Unsettled),
         Some(None) => Ok(pivots),
-        Some(Some(column)) => due_pivot(t, pivots, row, column),
+        Some(Some(column)) => due_pivot(t, 2, pivots, row, column),
     }
 }
 
@@ -93,8 +92,7 @@ fn second_phase<T: Whole>(t: &mut RevisedTable<T>, pivots: Pivots) -> Result<Piv
     for row in 0..t.rows() {
         match drive_row(t, pivots, row) {
             Ok(next) => pivots = next,
-            Err(Stop::Spent) => return Err(Stop::Spent),
-            Err(Stop::Unsettled) => return Err(Stop::Unsettled),
+            Err(stop) => return Err(stop),
         }
     }
     Ok(pivots)
@@ -126,8 +124,7 @@ pub fn run_table<T: Whole>(t: &mut RevisedTable<T>, budget: u32) -> Result<EndKi
 {
     let pivots = match first_phase(t, budget) {
         Ok(pivots) => pivots,
-        Err(Stop::Spent) => return Err(Stop::Spent),
-        Err(Stop::Unsettled) => return Err(Stop::Unsettled),
+        Err(stop) => return Err(stop),
     };
     if falls_short(t) {
         return Ok(EndKind::Infeasible);
@@ -137,13 +134,11 @@ pub fn run_table<T: Whole>(t: &mut RevisedTable<T>, budget: u32) -> Result<EndKi
     }
     let pivots = match second_phase(t, pivots) {
         Ok(pivots) => pivots,
-        Err(Stop::Spent) => return Err(Stop::Spent),
-        Err(Stop::Unsettled) => return Err(Stop::Unsettled),
+        Err(stop) => return Err(stop),
     };
     match third_phase(t, pivots) {
         Ok(PhaseEnd::Settled(_)) => Ok(EndKind::Optimal),
         Ok(PhaseEnd::Unlimited(column)) => Ok(EndKind::Ray { column }),
-        Err(Stop::Spent) => Err(Stop::Spent),
-        Err(Stop::Unsettled) => Err(Stop::Unsettled),
+        Err(stop) => Err(stop),
     }
 }

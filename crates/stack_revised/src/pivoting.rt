@@ -1,17 +1,26 @@
 //! A pivot over a block of numbers in rows, with a denominator for each row.
 
 ghost use Rattle.std.specs.Prelude.{◌≡◌, ◌≢◌, ℕ, suc, ◌+◌, ◌*◌, ◌<◌, ◌≤◌, pos, ◌<ℤ◌, length, OnSome, IfSome, take};
-ghost use Rattle.std.specs.Prelude.{drop};
+ghost use Rattle.std.specs.Prelude.{drop, OnOk, IfErr, None, ◌*ℤ◌, unsigned_abs};
+ghost use Rattle.stack_algebra.proofs.Over.{over};
+ghost use Rattle.stack_algebra.proofs.OrderedFractions.{ordered_fractions};
+ghost use Rattle.stack_rational.specs.TooWide.{is_too_wide};
+ghost use Rattle.stack_table.specs.Spots.{reduce_spot, cells_spot};
 ghost use Rattle.std.specs.Prelude.{◌-◌, get_or, true, false};
 ghost use Rattle.stack_rational.specs.Order.{is_zero_whole};
 ghost use Rattle.stack_revised.specs.RowForm.{AreMarked};
-ghost use Rattle.stack_revised.specs.RowForm.{under_at, ArePositive, AreWithin, IsBound, IsRowStepped};
-ghost use Rattle.stack_revised.specs.RowForm.{IsRowReduced, IsPlaced, IsPivotedCells};
+ghost use Rattle.stack_revised.specs.RowForm.{under_at, ArePositive, AreWithin, IsBound, IsBounded, IsRowTaken};
+ghost use Rattle.stack_revised.specs.RowForm.{IsRowReduced, IsPlaced, IsDividedRow, IsPivotedCells};
+ghost use Rattle.stack_revised.specs.CellSteps.{TellsSpot};
 ghost use Rattle.stack_revised.specs.Columns.{IsOwn, greatest_at, row_number, row_cell, revised_number, revised_cell};
 
+use crate::factors::{Factors, factors_of, step_under};
 use crate::first::First;
-use crate::making::{bound, number_of};
+use crate::making::{bound, greatest_in, number_of};
+use crate::remaking::remake_lent;
 use crate::row::{reduce_row, settle};
+use crate::spots::{RowStep, is_widest, row_spot};
+use crate::stops::Refusal;
 use crate::whole::Whole;
 
 /// The bound of the own cells of a row.
@@ -42,35 +51,50 @@ fn bound_at<T: Whole>(
     Some(own_bound)
 }
 
-/// Takes from row i, whose number in the pivot's column is the factor, its cell there times the pivot row.
+/// The denominator of a step of row i before it is reduced. None where it or a bound of the step doesn't fit.
+fn bounded_under<T: Whole>(
+    first: &First<T>,
+    greatest: T,
+    numbers: &[T],
+    unders: &[T],
+    pivot_bound: T,
+    factors: Factors<T>,
+    i: usize,
+) -> Option<T>
+    requires room { i * suc first.now.rows + suc first.now.rows ≤ length numbers.now }
+    requires row_in { i < length unders.now }
+    ensures { IfSome result (λ r. IsBounded T.MAX T.value first.now.rows
+        (take (i * suc first.now.rows + suc first.now.rows - i * suc first.now.rows)
+        (drop (i * suc first.now.rows) numbers.now)) (under_at T.value unders.now i) (T.value first.now.most)
+        (greatest_at first.now.rows (T.value greatest) i) (T.value factors.times) (T.value factors.less)
+        (unsigned_abs (T.value pivot_bound)) (T.value r)) }
+{
+    let most = greatest_of(first.rows, greatest, i);
+    let width = first.rows + 1;
+    let own_bound = bound_at(first, numbers, unders, most, width, i)?;
+    let over = step_under(unders[i], factors, own_bound, pivot_bound)?;
+    Some(over)
+}
+
+/// Takes a multiple of the pivot row from row i. `over` is its denominator before it is reduced.
 fn reduce_lent<T: Whole>(
     numbers: &mut [T],
     unders: &mut [T],
     pivot: &[T],
-    under: T,
-    factor: T,
-    own_bound: T,
-    pivot_bound: T,
+    factors: Factors<T>,
+    over: T,
     i: usize,
 ) -> Option<()>
     requires room { i * length pivot.now + length pivot.now ≤ length numbers.old }
     requires row_in { i < length unders.old }
     requires positive { ArePositive T.value unders.old }
     ensures positive { ArePositive T.value unders.new }
-    ensures ok { OnSome result (IsRowStepped T.MAX T.value (length pivot.now) numbers.old unders.old pivot.now
-        (T.value under) (T.value factor) (T.value own_bound) (T.value pivot_bound) i numbers.new unders.new) }
+    ensures ok { OnSome result (IsRowTaken T.value (length pivot.now) numbers.old unders.old pivot.now
+        (T.value over) (T.value factors.times) (T.value factors.less) i numbers.new unders.new) }
 {
     let width = pivot.len();
     let from = i * width;
-    let after = reduce_row(
-        &mut numbers[from..from + width],
-        unders[i],
-        pivot,
-        under,
-        factor,
-        own_bound,
-        pivot_bound,
-    )?;
+    let after = reduce_row(&mut numbers[from..from + width], pivot, factors, over)?;
     unders[i] = after;
     Some(())
 }
@@ -87,8 +111,106 @@ fn stays<T: Whole>(factor: T, marks: &[bool], i: usize) -> bool
     marks[i]
 }
 
-/// Takes from row i its cell in the column times the pivot row. A row that is marked fits, so that its bound is made
-/// only where it is reduced; a row that stays is marked.
+/// Takes from row i its cell in the pivot's column times the pivot row, cell by cell: at 128 bits alone.
+fn reduce_by_cells<T: Whole>(
+    first: &First<T>,
+    own: &[T],
+    numbers: &mut [T],
+    unders: &mut [T],
+    pivot: &[T],
+    s: RowStep<T>,
+    factors: Factors<T>,
+    i: usize,
+) -> Result<(), Refusal>
+    requires width { length pivot.now ≡ suc first.now.rows }
+    requires room { i * length pivot.now + length pivot.now ≤ length numbers.old }
+    requires row_in { i < length unders.old }
+    requires own_in { length own.now ≡ length first.now.columns.items }
+    requires under { T.value s.under ≡ under_at T.value unders.old i }
+    requires positive { ArePositive T.value unders.old }
+    requires pivot_under { pos 0 <ℤ T.value s.pivot_under }
+    requires some { pos 0 <ℤ T.value factors.times }
+    requires cross { T.value s.factor *ℤ T.value factors.times ≡ T.value factors.less *ℤ T.value s.pivot_under }
+    ensures positive { ArePositive T.value unders.new }
+    ensures ok { OnOk result (IsRowTaken T.value (length pivot.now) numbers.old unders.old pivot.now
+        (T.value s.under *ℤ T.value s.pivot_under) (T.value s.pivot_under) (T.value s.factor) i
+        numbers.new unders.new) }
+    ensures none { OnOk result (reduce_spot ordered_fractions (is_too_wide T.MAX)
+        (suc (length first.now.columns.items + first.now.rows))
+        (revised_cell T.value first.now.rows first.now.columns.items own.now numbers.old unders.old i)
+        (row_cell T.value first.now.rows first.now.columns.items pivot.now (T.value s.pivot_under))
+        (over (T.value s.factor) (T.value s.under)) i ≡ None) }
+    ensures wide { IfErr result (λ e. TellsSpot e (reduce_spot ordered_fractions (is_too_wide T.MAX)
+        (suc (length first.now.columns.items + first.now.rows))
+        (revised_cell T.value first.now.rows first.now.columns.items own.now numbers.old unders.old i)
+        (row_cell T.value first.now.rows first.now.columns.items pivot.now (T.value s.pivot_under))
+        (over (T.value s.factor) (T.value s.under)) i)) }
+{
+    if !is_widest::<T>() {
+        return Err(Refusal::Unsettled);
+    }
+    match row_spot(first, own, numbers, unders, pivot, s, factors, i) {
+        Some(None) => {}
+        Some(Some(spot)) => return Err(Refusal::TooWide(spot)),
+        None => return Err(Refusal::Unsettled),
+    }
+    match remake_lent(numbers, unders, pivot, s, i) {
+        Some(()) => Ok(()),
+        None => Err(Refusal::Unsettled),
+    }
+}
+
+/// Takes from row i its cell in the pivot's column times the pivot row: by the bounds of both, or cell by cell where
+/// these don't fit.
+fn reduce_row_at<T: Whole>(
+    first: &First<T>,
+    own: &[T],
+    greatest: T,
+    numbers: &mut [T],
+    unders: &mut [T],
+    pivot: &[T],
+    pivot_bound: T,
+    s: RowStep<T>,
+    i: usize,
+) -> Result<(), Refusal>
+    requires width { length pivot.now ≡ suc first.now.rows }
+    requires room { i * length pivot.now + length pivot.now ≤ length numbers.old }
+    requires row_in { i < length unders.old }
+    requires own_in { length own.now ≡ length first.now.columns.items }
+    requires under { T.value s.under ≡ under_at T.value unders.old i }
+    requires positive { ArePositive T.value unders.old }
+    requires pivot_under { pos 0 <ℤ T.value s.pivot_under }
+    ensures positive { ArePositive T.value unders.new }
+    ensures ok { OnOk result (IsOwn T.value own.now (T.value greatest) →
+        AreWithin (row_number T.value first.now.rows first.now.columns.items pivot.now (T.value s.pivot_under))
+        (T.value pivot_bound) → (column : ℕ) → T.value s.factor
+        ≡ revised_number T.value first.now.rows first.now.columns.items own.now numbers.old unders.old i column →
+        IsRowReduced T.MAX (suc (length first.now.columns.items + first.now.rows))
+        (revised_cell T.value first.now.rows first.now.columns.items own.now numbers.old unders.old)
+        (row_cell T.value first.now.rows first.now.columns.items pivot.now (T.value s.pivot_under)) i column
+        (revised_cell T.value first.now.rows first.now.columns.items own.now numbers.new unders.new)) }
+    ensures wide { IfErr result (λ e. TellsSpot e (reduce_spot ordered_fractions (is_too_wide T.MAX)
+        (suc (length first.now.columns.items + first.now.rows))
+        (revised_cell T.value first.now.rows first.now.columns.items own.now numbers.old unders.old i)
+        (row_cell T.value first.now.rows first.now.columns.items pivot.now (T.value s.pivot_under))
+        (over (T.value s.factor) (T.value s.under)) i)) }
+{
+    let factors = match factors_of(s.factor, s.pivot_under) {
+        Some(factors) => factors,
+        None => return Err(Refusal::Unsettled),
+    };
+    let over = match bounded_under(first, greatest, numbers, unders, pivot_bound, factors, i) {
+        Some(over) => over,
+        None => return reduce_by_cells(first, own, numbers, unders, pivot, s, factors, i),
+    };
+    match reduce_lent(numbers, unders, pivot, factors, over, i) {
+        Some(()) => Ok(()),
+        None => Err(Refusal::Unsettled),
+    }
+}
+
+/// Takes from row i its cell in the column times the pivot row. A row that is marked fits, so that it stays where its
+/// cell is 0; a row that is reduced is marked.
 fn reduce_at<T: Whole>(
     first: &First<T>,
     own: &[T],
@@ -101,49 +223,61 @@ fn reduce_at<T: Whole>(
     marks: &mut [bool],
     i: usize,
     column: usize,
-) -> Option<()>
+) -> Result<(), Refusal>
     requires width { length pivot.now ≡ suc first.now.rows }
     requires room { i * length pivot.now + length pivot.now ≤ length numbers.old }
     requires row_in { i < length unders.old }
     requires column_in { column < length first.now.columns.items }
-    requires own_in { column < length own.now }
+    requires own_in { length own.now ≡ length first.now.columns.items }
     requires mark_in { i < length marks.old }
     requires positive { ArePositive T.value unders.old }
     requires under { pos 0 <ℤ T.value under }
     ensures positive { ArePositive T.value unders.new }
-    ensures ok { OnSome result (IsOwn T.value own.now (T.value greatest) →
+    ensures ok { OnOk result (IsOwn T.value own.now (T.value greatest) →
         AreWithin (row_number T.value first.now.rows first.now.columns.items pivot.now (T.value under))
         (T.value pivot_bound) → AreMarked T.MAX
         (revised_cell T.value first.now.rows first.now.columns.items own.now numbers.old unders.old) marks.old →
-        IsRowReduced T.MAX
+        IsRowReduced T.MAX (suc (length first.now.columns.items + first.now.rows))
         (revised_cell T.value first.now.rows first.now.columns.items own.now numbers.old unders.old)
         (row_cell T.value first.now.rows first.now.columns.items pivot.now (T.value under)) i column
         (revised_cell T.value first.now.rows first.now.columns.items own.now numbers.new unders.new)
         × AreMarked T.MAX
         (revised_cell T.value first.now.rows first.now.columns.items own.now numbers.new unders.new) marks.new) }
+    ensures wide { IfErr result (λ e. TellsSpot e (reduce_spot ordered_fractions (is_too_wide T.MAX)
+        (suc (length first.now.columns.items + first.now.rows))
+        (revised_cell T.value first.now.rows first.now.columns.items own.now numbers.old unders.old i)
+        (row_cell T.value first.now.rows first.now.columns.items pivot.now (T.value under))
+        (revised_cell T.value first.now.rows first.now.columns.items own.now numbers.old unders.old i column) i)) }
 {
-    let factor = number_of(first, own, numbers, unders, i, column)?;
+    let factor = match number_of(first, own, numbers, unders, i, column) {
+        Some(factor) => factor,
+        None => return Err(Refusal::Unsettled),
+    };
     if stays(factor, marks, i) {
-        return Some(());
+        return Ok(());
     }
-    let most = greatest_of(first.rows, greatest, i);
-    let own_bound = bound_at(first, numbers, unders, most, pivot.len(), i)?;
-    if factor.is_zero() {
-        marks[i] = true;
-        return Some(());
-    }
-    marks[i] = false;
-    reduce_lent(
+    let s = RowStep {
+        under: unders[i],
+        pivot_under: under,
+        factor,
+    };
+    match reduce_row_at(
+        first,
+        own,
+        greatest,
         numbers,
         unders,
         pivot,
-        under,
-        factor,
-        own_bound,
         pivot_bound,
+        s,
         i,
-    )?;
-    Some(())
+    ) {
+        Ok(()) => {
+            marks[i] = true;
+            Ok(())
+        }
+        Err(e) => Err(e),
+    }
 }
 
 /// Puts the pivot row into row i.
@@ -161,8 +295,66 @@ pub fn put_row<T: Whole>(numbers: &mut [T], unders: &mut [T], pivot: &[T], under
     unders[i] = under;
 }
 
-/// A pivot at a row and a column of a block whose objective row has the number `rows`. `pivot` is room for a row. None
-/// where a number doesn't fit.
+/// The denominator of the pivot row, and a bound of its numbers.
+#[derive(Clone, Copy)]
+struct Divided<T> {
+    under: T,
+    most: T,
+}
+
+/// A bound of all numbers of a row without own cells: that of its artificial numbers, or else the greatest of all.
+fn pivot_bound<T: Whole>(first: &First<T>, row: &[T], under: T) -> Option<T>
+    requires { length row.now ≡ suc first.now.rows }
+    ensures { IfSome result (λ b. AreWithin (row_number T.value first.now.rows first.now.columns.items row.now
+        (T.value under)) (T.value b)) }
+{
+    match bound(first, row, under, T::zero()) {
+        Some(most) => Some(most),
+        None => {
+            let most = greatest_in(first, row)?;
+            Some(most)
+        }
+    }
+}
+
+/// The pivot row, divided by its cell in the column. None where a number doesn't fit.
+fn divide_row<T: Whole>(
+    first: &First<T>,
+    own: &[T],
+    numbers: &[T],
+    unders: &[T],
+    pivot: &mut [T],
+    row: usize,
+    column: usize,
+) -> Option<Divided<T>>
+    requires width { length pivot.old ≡ suc first.now.rows }
+    requires room { row * length pivot.old + length pivot.old ≤ length numbers.now }
+    requires unders { row < length unders.now }
+    requires row_in { row < first.now.rows }
+    requires column_in { column < length first.now.columns.items }
+    requires own_in { length own.now ≡ length first.now.columns.items }
+    requires positive { ArePositive T.value unders.now }
+    requires cell { revised_number T.value first.now.rows first.now.columns.items own.now numbers.now unders.now
+        row column
+        ≢ pos 0 }
+    ensures positive { IfSome result (λ d. pos 0 <ℤ T.value d.under) }
+    ensures within { IfSome result (λ d. AreWithin (row_number T.value first.now.rows first.now.columns.items
+        pivot.new (T.value d.under)) (T.value d.most)) }
+    ensures ok { IfSome result (λ d. IsDividedRow T.MAX
+        (revised_cell T.value first.now.rows first.now.columns.items own.now numbers.now unders.now row) column
+        (row_cell T.value first.now.rows first.now.columns.items pivot.new (T.value d.under))) }
+{
+    let factor = number_of(first, own, numbers, unders, row, column)?;
+    let width = pivot.len();
+    let from = row * width;
+    pivot.copy_from_slice(&numbers[from..from + width]);
+    let under = settle(pivot, factor)?;
+    let most = pivot_bound(first, pivot, under)?;
+    Some(Divided { under, most })
+}
+
+/// A pivot at a row and a column of a block whose objective row has the number `rows`. `pivot` is room for a row.
+/// Refused at the first operation that is too wide, or where a number doesn't fit.
 fn pivot_block<T: Whole>(
     first: &First<T>,
     own: &[T],
@@ -173,7 +365,7 @@ fn pivot_block<T: Whole>(
     marks: &mut [bool],
     row: usize,
     column: usize,
-) -> Option<()>
+) -> Result<(), Refusal>
     requires width { length pivot.old ≡ suc first.now.rows }
     requires marks { length marks.old ≡ suc first.now.rows }
     requires marked { AreMarked T.MAX
@@ -189,29 +381,41 @@ fn pivot_block<T: Whole>(
         row column
         ≢ pos 0 }
     ensures positive { ArePositive T.value unders.new }
-    ensures ok { OnSome result (IsPivotedCells T.MAX (suc first.now.rows) (suc (length first.now.columns.items
+    ensures ok { OnOk result (IsPivotedCells T.MAX (suc first.now.rows) (suc (length first.now.columns.items
         + first.now.rows)) (revised_cell T.value first.now.rows first.now.columns.items own.now numbers.old
         unders.old) row
         column (revised_cell T.value first.now.rows first.now.columns.items own.now numbers.new unders.new)) }
-    ensures marked { OnSome result (AreMarked T.MAX
+    ensures marked { OnOk result (AreMarked T.MAX
         (revised_cell T.value first.now.rows first.now.columns.items own.now numbers.new unders.new) marks.new) }
+    ensures wide { IfErr result (λ e. TellsSpot e (cells_spot ordered_fractions (is_too_wide T.MAX)
+        (suc first.now.rows) (suc (length first.now.columns.items + first.now.rows))
+        (revised_cell T.value first.now.rows first.now.columns.items own.now numbers.old unders.old) row column)) }
 {
-    let factor = number_of(first, own, numbers, unders, row, column)?;
-    let width = pivot.len();
-    let from = row * width;
-    pivot.copy_from_slice(&numbers[from..from + width]);
-    let under = settle(pivot, factor)?;
-    let most = bound(first, pivot, under, T::zero())?;
+    let divided = match divide_row(first, own, numbers, unders, pivot, row, column) {
+        Some(divided) => divided,
+        None => return Err(Refusal::Unsettled),
+    };
     for i in 0..unders.len() {
-        if i != row {
-            reduce_at(
-                first, own, greatest, numbers, unders, pivot, under, most, marks, i, column,
-            )?;
+        if i == row {
+            continue;
         }
+        reduce_at(
+            first,
+            own,
+            greatest,
+            numbers,
+            unders,
+            pivot,
+            divided.under,
+            divided.most,
+            marks,
+            i,
+            column,
+        )?;
     }
-    put_row(numbers, unders, pivot, under, row);
-    marks[row] = false;
-    Some(())
+    put_row(numbers, unders, pivot, divided.under, row);
+    marks[row] = true;
+    Ok(())
 }
 
 /// Takes all marks off.
@@ -223,7 +427,7 @@ fn unmark(marks: &mut [bool])
     }
 }
 
-/// The same; where a number doesn't fit no row is marked.
+/// The same; where it is refused no row is marked.
 pub fn pivot_or_unmark<T: Whole>(
     first: &First<T>,
     own: &[T],
@@ -234,7 +438,7 @@ pub fn pivot_or_unmark<T: Whole>(
     marks: &mut [bool],
     row: usize,
     column: usize,
-) -> Option<()>
+) -> Result<(), Refusal>
     requires width { length pivot.old ≡ suc first.now.rows }
     requires marks { length marks.old ≡ suc first.now.rows }
     requires marked { AreMarked T.MAX
@@ -250,20 +454,23 @@ pub fn pivot_or_unmark<T: Whole>(
         row column
         ≢ pos 0 }
     ensures positive { ArePositive T.value unders.new }
-    ensures ok { OnSome result (IsPivotedCells T.MAX (suc first.now.rows) (suc (length first.now.columns.items
+    ensures ok { OnOk result (IsPivotedCells T.MAX (suc first.now.rows) (suc (length first.now.columns.items
         + first.now.rows)) (revised_cell T.value first.now.rows first.now.columns.items own.now numbers.old
         unders.old) row
         column (revised_cell T.value first.now.rows first.now.columns.items own.now numbers.new unders.new)) }
     ensures marked { AreMarked T.MAX
         (revised_cell T.value first.now.rows first.now.columns.items own.now numbers.new unders.new) marks.new }
+    ensures wide { IfErr result (λ e. TellsSpot e (cells_spot ordered_fractions (is_too_wide T.MAX)
+        (suc first.now.rows) (suc (length first.now.columns.items + first.now.rows))
+        (revised_cell T.value first.now.rows first.now.columns.items own.now numbers.old unders.old) row column)) }
 {
     match pivot_block(
         first, own, greatest, numbers, unders, pivot, marks, row, column,
     ) {
-        Some(()) => Some(()),
-        None => {
+        Ok(()) => Ok(()),
+        Err(e) => {
             unmark(marks);
-            None
+            Err(e)
         }
     }
 }

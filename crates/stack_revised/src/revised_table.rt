@@ -12,7 +12,7 @@ use crate::first::First;
 use crate::making::{number_of, widest_of};
 use crate::objective::{clear_row, factor_row, row_with, set_only};
 use crate::pivoting::{pivot_or_unmark, put_row};
-use crate::stops::RevisedStop;
+use crate::stops::{Refusal, RevisedStop};
 use crate::whole::Whole;
 use stack_table::problem::Problem;
 use std::alloc::Global;
@@ -52,7 +52,8 @@ pub struct RevisedTable<T: Whole> {
 }
 
 impl<T: Whole> RevisedTable<T> {
-    ghost use Rattle.std.specs.Prelude.{◌≢◌, ◌≤◌, ◌<ℤ◌, pos, cond, OnSome, None, IfSome, IfOk};
+    ghost use Rattle.std.specs.Prelude.{◌≢◌, ◌≤◌, ◌<ℤ◌, pos, cond, OnSome, None, IfSome, IfOk, OnOk, IfErr};
+    ghost use Rattle.stack_revised.specs.CellSteps.{TellsSpot};
     ghost use Rattle.stack_revised.specs.RowForm.{under_at};
     ghost use Rattle.stack_algebra.proofs.OrderedFractions.{ordered_fractions};
     ghost use Rattle.stack_rational.specs.TooWide.{is_too_wide};
@@ -181,16 +182,19 @@ impl<T: Whole> RevisedTable<T> {
         self.unders[i]
     }
 
-    /// A pivot at a row and a column whose cell isn't 0. None where a number doesn't fit; the table is spent then.
-    pub fn pivot(&mut self, row: usize, column: usize) -> Option<()>
+    /// A pivot at a row and a column whose cell isn't 0. Refused at the first operation that is too wide, or where a
+    /// number doesn't fit; the table is spent then.
+    pub fn pivot(&mut self, row: usize, column: usize) -> Result<(), Refusal>
         requires row_in { row < (shape_of_revised self.old).rows }
         requires column_in { column < plain (shape_of_revised self.old) }
         requires cell { ((table_of_revised self.old).cell row column).num ≢ pos 0 }
-        ensures shape { OnSome result (shape_of_revised self.new ≡ shape_of_revised self.old) }
-        ensures ok { OnSome result (table_of_revised self.new
+        ensures shape { OnOk result (shape_of_revised self.new ≡ shape_of_revised self.old) }
+        ensures ok { OnOk result (table_of_revised self.new
             ≡ pivoted_at ordered_fractions (shape_of_revised self.old) (table_of_revised self.old) row column) }
-        ensures none { OnSome result (pivot_spot ordered_fractions (is_too_wide T.MAX) (shape_of_revised self.old)
+        ensures none { OnOk result (pivot_spot ordered_fractions (is_too_wide T.MAX) (shape_of_revised self.old)
             (table_of_revised self.old) row column ≡ None) }
+        ensures wide { IfErr result (λ e. TellsSpot e (pivot_spot ordered_fractions (is_too_wide T.MAX)
+            (shape_of_revised self.old) (table_of_revised self.old) row column)) }
     {
         self.basic[row] = column;
         pivot_or_unmark(

@@ -1,8 +1,9 @@
 //! The steps of a pivot on one row.
 
 ghost use Rattle.std.specs.Prelude.{◌≡◌, ℕ, ◌<◌, ◌≤◌, pos, ◌*ℤ◌, ◌-ℤ◌, ◌<ℤ◌, unsigned_abs, length, IfSome, true};
-ghost use Rattle.stack_revised.specs.RowForm.{number_at, IsTerm, IsCombined, IsSameRow, IsStepped};
+ghost use Rattle.stack_revised.specs.RowForm.{number_at, IsTerm, IsCombined, IsSameRow, IsTaken};
 
+use crate::factors::Factors;
 use crate::whole::Whole;
 
 /// A number of a row, times k and less t times that of the pivot row.
@@ -110,33 +111,18 @@ pub fn settle<T: Whole>(numbers: &mut [T], under: T) -> Option<T>
     }
 }
 
-/// Takes from a row over a denominator, whose number in the pivot's column is the factor, its cell there times the
-/// pivot
-/// row. None where the bounds of the two rows don't fit.
+/// Takes a multiple of the pivot row from a row, and reduces it. `over` is its denominator before it is reduced.
 pub fn reduce_row<T: Whole>(
     numbers: &mut [T],
-    under: T,
     pivot: &[T],
-    pivot_under: T,
-    factor: T,
-    bound: T,
-    pivot_bound: T,
+    factors: Factors<T>,
+    over: T,
 ) -> Option<T>
     requires width { length pivot.now ≡ length numbers.old }
-    ensures { IfSome result (λ e. IsStepped T.MAX T.value numbers.old (T.value under) pivot.now (T.value pivot_under)
-        (T.value factor) (T.value bound) (T.value pivot_bound) numbers.new (T.value e)) }
+    ensures { IfSome result (λ e. IsTaken T.value numbers.old (T.value over) pivot.now (T.value factors.times)
+        (T.value factors.less) numbers.new (T.value e)) }
 {
-    let common = factor.divisor(pivot_under);
-    let times = pivot_under.divided(common)?;
-    let less = factor.divided(common)?;
-    if !times.is_positive() {
-        return None;
-    }
-    let left = bound.times(times)?;
-    let right = less.times(pivot_bound)?;
-    let _most = left.sizes(right)?;
-    let over = under.times(times)?;
-    if !combine(numbers, pivot, times, less) {
+    if !combine(numbers, pivot, factors.times, factors.less) {
         return None;
     }
     let after = settle(numbers, over)?;

@@ -10,7 +10,7 @@ ghost use Rattle.stack_revised.specs.RowForm.{number_at};
 ghost use Rattle.stack_revised.specs.Seen.{shape_of_revised, table_of_revised, number_in};
 ghost use Rattle.stack_revised.specs.FirstTable.{flips};
 ghost use Rattle.stack_revised.specs.Ended.{shape_of_last, flips_of_last, value_of_last, shape_of_end, flips_of_end};
-ghost use Rattle.stack_revised.specs.Ended.{TellsLast, Tells};
+ghost use Rattle.stack_revised.specs.Ended.{TellsLast, Tells, TellsNothing, stopped_as};
 ghost use Rattle.stack_last.specs.Ends.{end_at};
 ghost use Rattle.stack_last.specs.declared.kind.EndKind.TheVariants as end_kind;
 ghost use Rattle.stack_revised.specs.declared.stops.RevisedStop.TheVariants as revised_stop;
@@ -98,7 +98,7 @@ fn last_of<T: Whole>(
     ensures shape { IfOk result (λ l. shape_of_last l ≡ shape_of_revised table) }
     ensures flips { IfOk result (λ l. l.flipped.items ≡ flipped.items) }
     ensures value { IfOk result (λ l. value_of_last l ≡ end_at kind (table_of_revised table)) }
-    ensures unsettled { IfErr result (λ e. e ≢ revised_stop.Spent) }
+    ensures unsettled { IfErr result (λ e. TellsNothing e) }
 {
     match read_column(alloc, &table, kind) {
         Ok(column) => Ok(Last {
@@ -109,6 +109,17 @@ fn last_of<T: Whole>(
         }),
         Err(RevisedStop::Memory) => Err(RevisedStop::Memory),
         Err(_) => Err(RevisedStop::Unsettled),
+    }
+}
+
+/// Why a run over rows has no end, as a run of a problem tells it.
+fn stopped(stop: Stop) -> RevisedStop
+    ensures { result ≡ stopped_as stop }
+{
+    match stop {
+        Stop::TooWide(place) => RevisedStop::TooWide(place),
+        Stop::Spent => RevisedStop::Spent,
+        Stop::Unsettled => RevisedStop::Unsettled,
     }
 }
 
@@ -130,16 +141,16 @@ fn run_at_width<T: Whole>(alloc: Global, p: &Problem, budget: u32) -> Result<Las
     };
     let kind = match run_table(&mut table, budget) {
         Ok(kind) => kind,
-        Err(Stop::Spent) => return Err(RevisedStop::Spent),
-        Err(Stop::Unsettled) => return Err(RevisedStop::Unsettled),
+        Err(stop) => return Err(stopped(stop)),
     };
     last_of(alloc, table, kind, flipped)
 }
 
 /// The run of a problem within a budget of pivots: its end is that of the written run at 128 bits, with its last table.
 ///
-/// Spent exactly where the written run is over its budget. Unsettled where a number that this run makes doesn't fit:
-/// that tells nothing of the written run, and nor does want of memory.
+/// Refused at the first operation that is too wide for 128 bits, and spent where the written run is over its budget,
+/// whichever comes first: exactly there. Unsettled where a number that this run makes doesn't fit: that tells nothing
+/// of the written run, and nor does want of memory.
 pub fn run_revised(alloc: Global, p: &Problem, budget: u32) -> Result<RevisedEnd, RevisedStop>
     requires problem { IsProblem p.now }
     requires some { budget ≢ 0 }
@@ -152,6 +163,7 @@ pub fn run_revised(alloc: Global, p: &Problem, budget: u32) -> Result<RevisedEnd
         Ok(last) => return Ok(RevisedEnd::AtNarrow(last)),
         Err(RevisedStop::Spent) => return Err(RevisedStop::Spent),
         Err(RevisedStop::Memory) => return Err(RevisedStop::Memory),
+        Err(RevisedStop::TooWide(_)) => {}
         Err(RevisedStop::Unsettled) => {}
     }
     match run_at_width::<Wide>(alloc, p, budget) {

@@ -1,11 +1,24 @@
 //! How phases and runs over rows stop.
 
 use crate::pivots::Pivots;
+use stack_simplex::RunPlace;
+use stack_table::types::PivotWide;
 use std::alloc::{AllocError, AllocFailed};
+
+/// Why a pivot isn't done.
+#[derive(Clone, Copy, Debug, PartialEq, Eq, Drop)]
+pub enum Refusal {
+    /// The first operation that is too wide.
+    TooWide(PivotWide),
+    /// A number that the rows make doesn't fit. It tells nothing of the written run.
+    Unsettled,
+}
 
 /// Why a run over rows has no end.
 #[derive(Clone, Copy, Debug, PartialEq, Eq, Drop)]
 pub enum Stop {
+    /// The first operation that is too wide.
+    TooWide(RunPlace),
     /// A pivot is due, and the budget's pivots are done.
     Spent,
     /// A number that the rows make doesn't fit. It tells nothing of the written run.
@@ -15,6 +28,8 @@ pub enum Stop {
 /// Why a run of a problem has no end.
 #[derive(Clone, Copy, Debug, PartialEq, Eq, Drop)]
 pub enum RevisedStop {
+    /// The first operation that is too wide for 128 bits.
+    TooWide(RunPlace),
     /// A pivot is due, and the budget's pivots are done.
     Spent,
     /// A number that the run makes doesn't fit. It tells nothing of the written run.

@@ -4,9 +4,10 @@ use crate::ended::RevisedEnd;
 use crate::{RevisedStop, run_revised};
 use stack_last::EndKind;
 use stack_rational::Frac;
-use stack_simplex::{Ended, RunError, run};
+use stack_simplex::{Ended, RunError, RunPlace, run};
 use stack_table::Table;
 use stack_table::problem::{Column, Entry, Problem};
+use stack_table::types::Step;
 use std::alloc::{AllocError, Global};
 use std::test::Fail;
 
@@ -55,6 +56,7 @@ enum Outcome {
     Feasible,
     Optimal,
     Ray(usize),
+    TooWide(RunPlace),
     Spent,
     Unsettled,
     Nothing,
@@ -80,6 +82,7 @@ fn told(alloc: Global, p: &Problem, budget: u32) -> Outcome {
     match run_revised(alloc, p, budget) {
         Ok(RevisedEnd::AtNarrow(last)) => kind_of(last.kind),
         Ok(RevisedEnd::AtWide(last)) => kind_of(last.kind),
+        Err(RevisedStop::TooWide(place)) => Outcome::TooWide(place),
         Err(RevisedStop::Spent) => Outcome::Spent,
         Err(RevisedStop::Unsettled) => Outcome::Unsettled,
         Err(RevisedStop::Memory) => Outcome::Nothing,
@@ -104,7 +107,7 @@ fn told_by_table(alloc: Global, p: &Problem, budget: u32) -> Outcome {
         Ok(Ended::Optimal(_)) => Outcome::Optimal,
         Ok(Ended::Ray { column, .. }) => Outcome::Ray(column),
         Err(RunError::Spent) => Outcome::Spent,
-        Err(RunError::TooWide(_)) => Outcome::Unsettled,
+        Err(RunError::TooWide(place)) => Outcome::TooWide(place),
     }
 }
 
@@ -165,7 +168,7 @@ fn beales_example_ends(rt: HostRuntime) -> Result<(), Fail> {
     Ok(())
 }
 
-/// Entries that don't fit 64 bits, of which the sum is needed, and of which the products don't fit 128.
+/// Entries that don't fit 64 bits, of which the sum is needed.
 #[test]
 fn wide_entries_are_taken_at_128_bits(rt: HostRuntime) -> Result<(), Fail> {
     let alloc = rt.alloc();
@@ -177,12 +180,43 @@ fn wide_entries_are_taken_at_128_bits(rt: HostRuntime) -> Result<(), Fail> {
         &[large, large],
     )?;
     assert!(rt; both(alloc, &wide, 2, Outcome::Feasible));
+    Ok(())
+}
+
+/// Two columns whose first pivot, at a number n in row 0, takes n - 1 times (n - 1)/n from row 1: that doesn't fit.
+#[test]
+fn a_refused_run_has_one_place(rt: HostRuntime) -> Result<(), Fail> {
+    let alloc = rt.alloc();
+    let large = 1 << 80;
     let apart = problem(
         alloc,
         &[[large, large - 1, 0, 0], [large - 1, large, 0, 0]],
         None,
         &[1, 1],
     )?;
-    assert!(rt; told(alloc, &apart, 9) == Outcome::Unsettled);
+    let place = RunPlace {
+        phase: 1,
+        pivot: 1,
+        row: 1,
+        column: 1,
+        step: Step::Multiply,
+    };
+    assert!(rt; both(alloc, &apart, 9, Outcome::TooWide(place)));
+    Ok(())
+}
+
+/// Here it takes n - 1 times 1/n and n - 1 times 1: that fits, though the bound of the two rows doesn't.
+#[test]
+fn a_row_whose_bound_does_not_fit_goes_on(rt: HostRuntime) -> Result<(), Fail> {
+    let alloc = rt.alloc();
+    let large = 1 << 63;
+    let close = problem(
+        alloc,
+        &[[large, large - 1, 0, 0], [1, 1, 0, 0]],
+        None,
+        &[large, large - 1],
+    )?;
+    assert!(rt; both(alloc, &close, 1, Outcome::Spent));
+    assert!(rt; both(alloc, &close, 2, Outcome::Feasible));
     Ok(())
 }

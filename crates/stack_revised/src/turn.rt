@@ -6,17 +6,35 @@ ghost use Rattle.stack_rational.specs.TooWide.{is_too_wide};
 ghost use Rattle.stack_table.specs.Table.{plain, pivoted_at};
 ghost use Rattle.stack_table.specs.Spots.{pivot_spot};
 ghost use Rattle.stack_revised.specs.Seen.{shape_of_revised, table_of_revised};
-ghost use Rattle.stack_revised.specs.Tells.{TellsPivot, TellsTurn, TellsPhase, HasFewer, phase_from};
+ghost use Rattle.stack_revised.specs.Tells.{TellsPivot, TellsTurn, TellsPhase, HasFewer, phase_from, stop_at};
 
 use crate::choices::{entering, leaving};
 use crate::pivots::Pivots;
 use crate::revised_table::RevisedTable;
-use crate::stops::{PhaseEnd, Stop, Turn};
+use crate::stops::{PhaseEnd, Refusal, Stop, Turn};
 use crate::whole::Whole;
+use stack_simplex::RunPlace;
 
-/// A pivot that is due. Refused where no pivot is left.
+/// Why a phase stops where a pivot of it isn't done.
+fn stopped_at(refusal: Refusal, phase: u8, pivot: u64) -> Stop
+    ensures { result ≡ stop_at refusal phase pivot }
+{
+    match refusal {
+        Refusal::TooWide(spot) => Stop::TooWide(RunPlace {
+            phase,
+            pivot,
+            row: spot.row,
+            column: spot.column,
+            step: spot.step,
+        }),
+        Refusal::Unsettled => Stop::Unsettled,
+    }
+}
+
+/// A pivot that is due. Refused where no pivot is left, and else at the first operation that is too wide.
 pub fn due_pivot<T: Whole>(
     t: &mut RevisedTable<T>,
+    phase: u8,
     pivots: Pivots,
     row: usize,
     column: usize,
@@ -27,7 +45,7 @@ pub fn due_pivot<T: Whole>(
     ensures shape { OnOk result (shape_of_revised t.new ≡ shape_of_revised t.old) }
     ensures table { OnOk result (table_of_revised t.new
         ≡ pivoted_at ordered_fractions (shape_of_revised t.old) (table_of_revised t.old) row column) }
-    ensures counted { TellsPivot result pivots
+    ensures counted { TellsPivot result phase pivots
         (pivot_spot ordered_fractions (is_too_wide T.MAX) (shape_of_revised t.old)
         (table_of_revised t.old) row column) }
 {
@@ -36,11 +54,11 @@ pub fn due_pivot<T: Whole>(
     }
     let pivot = pivots.done + 1;
     match t.pivot(row, column) {
-        Some(()) => Ok(Pivots {
+        Ok(()) => Ok(Pivots {
             done: pivot,
             left: pivots.left - 1,
         }),
-        None => Err(Stop::Unsettled),
+        Err(refusal) => Err(stopped_at(refusal, phase, pivot)),
     }
 }
 
@@ -67,10 +85,9 @@ fn take_turn<T: Whole>(
         Some(None) => return Ok(Turn::Stops(PhaseEnd::Unlimited(column))),
         None => return Err(Stop::Unsettled),
     };
-    match due_pivot(t, pivots, row, column) {
+    match due_pivot(t, phase, pivots, row, column) {
         Ok(next) => Ok(Turn::GoesOn(next)),
-        Err(Stop::Spent) => Err(Stop::Spent),
-        Err(Stop::Unsettled) => Err(Stop::Unsettled),
+        Err(stop) => Err(stop),
     }
 }
 
@@ -91,8 +108,7 @@ pub fn run_phase<T: Whole>(
         match take_turn(t, phase, among, pivots) {
             Ok(Turn::Stops(end)) => return Ok(end),
             Ok(Turn::GoesOn(next)) => pivots = next,
-            Err(Stop::Spent) => return Err(Stop::Spent),
-            Err(Stop::Unsettled) => return Err(Stop::Unsettled),
+            Err(stop) => return Err(stop),
         }
     }
 }

@@ -1,28 +1,29 @@
-use Rattle.std.proofs.Common.{sym, ap, subst, ◌∙◌, cond, Ok, Err}
+use Rattle.std.proofs.Common.{sym, ap, subst, ◌∙◌, cond, Ok}
 use Rattle.stack_algebra.proofs.OrderedFractions.{ordered_fractions}
 use Rattle.stack_rational.specs.TooWide.{is_too_wide}
-use Rattle.stack_table.specs.Table.{plain, clear_objective, set_factor_objective}
-use Rattle.stack_duality.specs.WrittenRun.{spent, settled, unlimited, drives, turns}
-use Rattle.stack_revised.specs.declared.stops.Stop.{Stop}
+use Rattle.stack_table.specs.Table.{plain, set_factor_objective}
+use Rattle.stack_duality.specs.WrittenRun.{settled, unlimited, turns}
 use Rattle.stack_revised.specs.declared.stops.PhaseEnd.{PhaseEnd}
 use Rattle.stack_revised.specs.Seen.{shape_of_revised, table_of_revised}
-use Rattle.stack_revised.specs.Tells.{TellsPivots, TellsPhase}
-use Rattle.stack_revised.proofs.PhaseTurns.{second_spends, third_is}
+use Rattle.stack_revised.specs.Tells.{TellsPhase}
+use Rattle.stack_revised.proofs.PhaseTurns.{first_stops, second_stops, third_is, third_stops}
 use Rattle.stack_revised.proofs.phases.run_table.Goals as goal
 
-pub returns-in-Err-Spent-second_phase-clause-value : goal.returns-in-Err-Spent-second_phase-clause-value
-returns-in-Err-Spent-second_phase-clause-value g c =
+pub returns-in-Err-clause-value : goal.returns-in-Err-clause-value
+returns-in-Err-clause-value g c = let s = c.args.t.now in
+    first_stops g.T.Whole.MAX (shape_of_revised s) (table_of_revised s) c.args.budget c.in-Err.stop
+    c.in-Err.ensures.answer
+
+pub returns-in-Err-second_phase-clause-value : goal.returns-in-Err-second_phase-clause-value
+returns-in-Err-second_phase-clause-value g c =
     let m = g.T.Whole.MAX in
     let s = c.args.t.now in
     let t = c.first_phase.new.t in
-    second_spends m (shape_of_revised s) (shape_of_revised t) (table_of_revised s)
+    second_stops m (shape_of_revised s) (shape_of_revised t) (table_of_revised s)
     (table_of_revised t) c.args.budget c.in-Ok.pivots
     c.in-Ok.ensures.shape c.in-Ok.ensures.answer (sym c.falls_short.ensures ∙ c.if-falls_short.false)
     (c.has_factor.ensures ∙ ap (λ b. cond b 1 0) c.if-not-has_factor.false)
-    (subst (λ (x : Stop). TellsPivots (table_of_revised c.second_phase.new.t) (Err x) (drives ordered_fractions
-    (shape_of_revised t) (is_too_wide m) (shape_of_revised t).rows c.in-Ok.pivots.left c.in-Ok.pivots.done
-    (clear_objective ordered_fractions (shape_of_revised t) (table_of_revised t))))
-    c.in-Err-Spent-second_phase.field-0-is c.in-Err-Spent-second_phase.ensures.answer)
+    c.in-Err-second_phase.stop c.in-Err-second_phase.ensures.answer
 
 pub returns-in-Ok-Settled-clause-value : goal.returns-in-Ok-Settled-clause-value
 returns-in-Ok-Settled-clause-value g c =
@@ -60,20 +61,16 @@ returns-in-Ok-Unlimited-clause-value g c =
     (set_factor_objective ordered_fractions (shape_of_revised u) (table_of_revised u))))
     c.in-Ok-Unlimited.field-0-is c.in-Ok-Unlimited.ensures.answer)
 
-pub returns-in-Err-Spent-third_phase-clause-value : goal.returns-in-Err-Spent-third_phase-clause-value
-returns-in-Err-Spent-third_phase-clause-value g c =
+pub returns-in-Err-third_phase-clause-value : goal.returns-in-Err-third_phase-clause-value
+returns-in-Err-third_phase-clause-value g c =
     let m = g.T.Whole.MAX in
     let s = c.args.t.now in
     let t = c.first_phase.new.t in
     let u = c.second_phase.new.t in
     let k = c.in-Ok-second_phase.pivots in
-    third_is m (shape_of_revised s) (shape_of_revised t) (table_of_revised s)
+    third_stops m (shape_of_revised s) (shape_of_revised t) (table_of_revised s)
     (table_of_revised t) c.args.budget c.in-Ok.pivots
     c.in-Ok.ensures.shape c.in-Ok.ensures.answer (sym c.falls_short.ensures ∙ c.if-falls_short.false)
     (c.has_factor.ensures ∙ ap (λ b. cond b 1 0) c.if-not-has_factor.false)
     (shape_of_revised u) (table_of_revised u) k c.in-Ok-second_phase.ensures.shape c.in-Ok-second_phase.ensures.answer
-    spent
-    (subst (λ (x : Stop). TellsPhase (table_of_revised c.third_phase.new.t) (Err x) (turns ordered_fractions
-    (shape_of_revised u) (is_too_wide m) 3 (plain (shape_of_revised u)) k.left k.done
-    (set_factor_objective ordered_fractions (shape_of_revised u) (table_of_revised u))))
-    c.in-Err-Spent-third_phase.field-0-is c.in-Err-Spent-third_phase.ensures.answer)
+    c.in-Err-third_phase.stop c.in-Err-third_phase.ensures.answer

@@ -1,27 +1,20 @@
-use Rattle.std.proofs.Common.{ap, subst, ◌∙◌, arith, Err}
+use Rattle.std.proofs.Common.{ap, ◌∙◌, arith}
 use Rattle.stack_algebra.proofs.OrderedFractions.{ordered_fractions}
-use Rattle.stack_rational.specs.TooWide.{is_too_wide}
 use Rattle.stack_table.specs.Table.{Shape, clear_objective}
-use Rattle.stack_duality.specs.WrittenRun.{drive_row}
-use Rattle.stack_revised.specs.declared.stops.Stop.{Stop}
 use Rattle.stack_revised.specs.Seen.{shape_of_revised, table_of_revised}
-use Rattle.stack_revised.specs.Tells.{TellsPivots}
-use Rattle.stack_revised.proofs.PhaseTurns.{row_spends, row_settles}
+use Rattle.stack_revised.proofs.PhaseTurns.{row_stops, row_settles}
 use Rattle.stack_revised.proofs.phases.second_phase.Goals as goal
 
-pub returns-in-Err-Spent-clause-answer : goal.returns-in-Err-Spent-clause-answer
-returns-in-Err-Spent-clause-answer g c =
+pub returns-in-Err-clause-answer : goal.returns-in-Err-clause-answer
+returns-in-Err-clause-answer g c =
     let S = shape_of_revised c.args.t.now in
     let t = c.loop-row.t in
     let rows = ap (λ (S : Shape). S.rows) c.in-Some.ensures.shape in
-    row_spends g.T.Whole.MAX S (shape_of_revised t) (clear_objective ordered_fractions S
+    row_stops g.T.Whole.MAX S (shape_of_revised t) (clear_objective ordered_fractions S
     (table_of_revised c.args.t.now))
     (table_of_revised t) S.rows c.loop-row.row c.args.pivots
-    c.loop-row.pivots c.loop-row.invariant.shape c.loop-row.invariant.rows
-    (omega (arith, c.loop-row-test.true, c.rows-row-end.ensures, rows))
-    (subst (λ (x : Stop). TellsPivots (table_of_revised c.drive_row.new.t) (Err x) (drive_row ordered_fractions
-    (shape_of_revised t) (is_too_wide g.T.Whole.MAX) c.loop-row.pivots.left c.loop-row.pivots.done (table_of_revised t)
-    c.loop-row.row)) c.in-Err-Spent.field-0-is c.in-Err-Spent.ensures.answer)
+    c.loop-row.pivots c.loop-row.invariant.shape c.loop-row.invariant.rows c.in-Err.stop
+    (omega (arith, c.loop-row-test.true, c.rows-row-end.ensures, rows)) c.in-Err.ensures.answer
 
 pub loop-row-preserved : goal.loop-row-preserved
 loop-row-preserved g c =

@@ -1,3 +1,4 @@
+use Rattle.std.proofs.Common.{suc, ◌+◌, length}
 use Rattle.stack_revised.specs.RowForm.{ArePositive, AreMarked}
 use Rattle.stack_revised.specs.Columns.{revised_cell, row_cell}
 use Rattle.stack_revised.proofs.PivotLoop.{IsSoFar}
@@ -8,8 +9,9 @@ invariant-loop-i g l = record {
   positive : ArePositive g.T.Whole.value l.unders;
   marked : AreMarked g.T.Whole.MAX
       (revised_cell g.T.Whole.value l.first.rows l.first.columns.items l.own l.numbers l.unders) l.marks;
-  so_far : IsSoFar g.T.Whole.MAX
+  so_far : IsSoFar g.T.Whole.MAX (suc (length l.first.columns.items + l.first.rows))
       (revised_cell g.T.Whole.value l.first.rows l.first.columns.items l.own l.fn.numbers l.fn.unders)
-      (row_cell g.T.Whole.value l.first.rows l.first.columns.items l.pivot (g.T.Whole.value l.under)) l.row l.column
+      (row_cell g.T.Whole.value l.first.rows l.first.columns.items l.pivot (g.T.Whole.value l.divided.0)) l.row
+      l.column
       (revised_cell g.T.Whole.value l.first.rows l.first.columns.items l.own l.numbers l.unders) l.i;
 }

@@ -2,7 +2,7 @@ use Rattle.stack_revised.specs.Columns.{revised_cell}
 use Rattle.stack_revised.proofs.Marks.{none_marked}
 use Rattle.stack_revised.proofs.pivoting.pivot_or_unmark.Goals as goal
 
-pub returns-in-None-clause-marked : goal.returns-in-None-clause-marked
-returns-in-None-clause-marked g c = none_marked g.T.Whole.MAX (revised_cell g.T.Whole.value c.args.first.now.rows
+pub returns-in-Err-clause-marked : goal.returns-in-Err-clause-marked
+returns-in-Err-clause-marked g c = none_marked g.T.Whole.MAX (revised_cell g.T.Whole.value c.args.first.now.rows
     c.args.first.now.columns.items c.args.own.now c.pivot_block.new.numbers c.pivot_block.new.unders)
     c.unmark.new.marks c.unmark.ensures

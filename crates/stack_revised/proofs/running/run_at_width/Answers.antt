@@ -1,30 +1,28 @@
-use Rattle.std.proofs.Common.{◌≡◌, sym, ap, subst, ◌∙◌, ℕ, ◌<◌, List, length, get_or, false, Err}
+use Rattle.std.proofs.Common.{◌≡◌, sym, ap, subst, ◌∙◌, ℕ, ◌<◌, List, length, get_or, false}
 use lib.IntN.{ℤ}
-use Rattle.stack_algebra.proofs.OrderedFractions.{ordered_fractions}
-use Rattle.stack_rational.specs.TooWide.{is_too_wide}
 use Rattle.stack_table.specs.Problem.{flipped}
 use Rattle.stack_table.specs.Lent.{problem_of}
 use Rattle.stack_table.proofs.RowByRow.{flips_are}
-use Rattle.stack_duality.specs.WrittenRun.{written_run}
+use Rattle.stack_duality.specs.WrittenRun.{End}
 use Rattle.stack_duality.specs.Laws.{run_at}
-use Rattle.stack_revised.specs.declared.stops.Stop.{Stop}
+use Rattle.stack_revised.specs.declared.stops.RevisedStop.{RevisedStop}
+use Rattle.stack_algebra.specs.Fraction.{Fraction}
+use mathlib.Core.Path.{subst₂}
 use Rattle.stack_revised.specs.declared.last.Last.{Last}
 use Rattle.stack_revised.specs.Seen.{shape_of_revised, table_of_revised}
 use Rattle.stack_last.specs.Ends.{end_at}
-use Rattle.stack_revised.specs.Tells.{TellsRun}
 use Rattle.stack_revised.specs.FirstTable.{flips}
-use Rattle.stack_revised.specs.Ended.{flips_of_last, value_of_last}
-use Rattle.stack_revised.proofs.EndedRuns.{run_is, tells_last, if_ok}
+use Rattle.stack_revised.specs.Ended.{flips_of_last, value_of_last, tells_stop}
+use Rattle.stack_revised.proofs.EndedRuns.{run_is, tells_last, stop_told, if_ok}
 use Rattle.stack_revised.proofs.running.run_at_width.Goals as goal
 
-pub returns-in-Err-Spent-clause-value : goal.returns-in-Err-Spent-clause-value
-returns-in-Err-Spent-clause-value g c =
+pub returns-in-Err-run_table-clause-value : goal.returns-in-Err-run_table-clause-value
+returns-in-Err-run_table-clause-value g c =
     let t = c.in-Ok-of_problem.table in
-    subst (λ (x : Stop). TellsRun (table_of_revised c.run_table.new.t) (Err x) (written_run ordered_fractions
-    (shape_of_revised t) (is_too_wide g.T.Whole.MAX) c.args.budget (table_of_revised t)))
-    c.in-Err-Spent.field-0-is c.in-Err-Spent.ensures.value
-    ∙ run_is g.T.Whole.MAX (problem_of c.args.p.now) c.args.budget (shape_of_revised t) (table_of_revised t)
-    c.in-Ok-of_problem.ensures.shape c.in-Ok-of_problem.ensures.ok
+    subst₂ (λ (e : RevisedStop) (X : End Fraction). tells_stop e X) (sym c.stopped.ensures)
+    (run_is g.T.Whole.MAX (problem_of c.args.p.now) c.args.budget (shape_of_revised t) (table_of_revised t)
+    c.in-Ok-of_problem.ensures.shape c.in-Ok-of_problem.ensures.ok)
+    (stop_told c.in-Err-run_table.stop _ c.in-Err-run_table.ensures.value)
 
 pub returns-clause-flips : goal.returns-clause-flips
 returns-clause-flips g c =

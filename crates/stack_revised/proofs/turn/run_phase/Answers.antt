@@ -1,11 +1,9 @@
-use Rattle.std.proofs.Common.{sym, subst, ◌∙◌, ◌≤◌, Ok, Err}
+use Rattle.std.proofs.Common.{sym, subst, ◌∙◌, ◌≤◌, Ok}
 use Rattle.stack_table.specs.Table.{Shape, plain}
-use Rattle.stack_duality.specs.WrittenRun.{spent}
 use Rattle.stack_revised.specs.declared.stops.Turn.{Turn}
-use Rattle.stack_revised.specs.declared.stops.Stop.{Stop}
 use Rattle.stack_revised.specs.Seen.{shape_of_revised, table_of_revised}
 use Rattle.stack_revised.specs.Tells.{TellsTurn, stop_of, phase_from}
-use Rattle.stack_revised.proofs.PhaseTurns.{loop_tells, loop_goes_on}
+use Rattle.stack_revised.proofs.PhaseTurns.{loop_tells, loop_stops, loop_goes_on}
 use Rattle.stack_revised.proofs.turn.run_phase.Goals as goal
 
 pub returns-in-Ok-Stops-clause-answer : goal.returns-in-Ok-Stops-clause-answer
@@ -18,16 +16,12 @@ returns-in-Ok-Stops-clause-answer g c = let t = c.loop-end.t in
     (table_of_revised c.take_turn.new.t) (Ok x) (phase_from g.T.Whole.MAX (shape_of_revised t) c.args.phase c.args.among
     c.loop-end.pivots (table_of_revised t))) c.in-Ok-Stops.field-0-is c.in-Ok-Stops.ensures.answer)
 
-pub returns-in-Err-Spent-clause-answer : goal.returns-in-Err-Spent-clause-answer
-returns-in-Err-Spent-clause-answer g c = let t = c.loop-end.t in
-    loop_tells g.T.Whole.MAX (shape_of_revised c.args.t.now) (shape_of_revised t) c.args.phase
+pub returns-in-Err-clause-answer : goal.returns-in-Err-clause-answer
+returns-in-Err-clause-answer g c = let t = c.loop-end.t in
+    loop_stops g.T.Whole.MAX (shape_of_revised c.args.t.now) (shape_of_revised t) c.args.phase
     c.args.among c.loop-end.pivots (table_of_revised t) (table_of_revised c.take_turn.new.t) _
     c.loop-end.invariant.shape
-    c.loop-end.invariant.phase spent
-    (subst (λ (x : Stop). TellsTurn g.T.Whole.MAX (shape_of_revised t) c.args.phase c.args.among
-    (table_of_revised c.take_turn.new.t) (Err x) (phase_from g.T.Whole.MAX
-    (shape_of_revised t) c.args.phase c.args.among
-    c.loop-end.pivots (table_of_revised t))) c.in-Err-Spent.field-0-is c.in-Err-Spent.ensures.answer)
+    c.loop-end.invariant.phase c.in-Err.stop c.in-Err.ensures.answer
 
 pub loop-end-preserved : goal.loop-end-preserved
 loop-end-preserved g c = let t = c.loop-end.t in record {

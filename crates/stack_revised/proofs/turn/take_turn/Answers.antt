@@ -1,6 +1,6 @@
 use Rattle.std.proofs.Common.{sym, ◌∙◌}
 use Rattle.stack_revised.specs.Seen.{shape_of_revised, table_of_revised}
-use Rattle.stack_revised.proofs.PhaseTurns.{leaving_below, leaving_nonzero, rises_at}
+use Rattle.stack_revised.proofs.PhaseTurns.{leaving_below, leaving_nonzero, rises_at, stops}
 use Rattle.stack_revised.proofs.turn.take_turn.Goals as goal
 
 pub due_pivot-requires-clause-row_in : goal.due_pivot-requires-clause-row_in
@@ -19,3 +19,10 @@ returns-in-Some-None-leaving-clause-answer g c = let t = c.args.t.now in
     (table_of_revised t) c.args.pivots c.in-Some-Some.column
     (sym c.in-Some-Some.field-0-is ∙ c.in-Some-Some.ensures.value) c.in-Some-None-leaving.ensures.none
     (sym c.in-Some-None-leaving.field-0-is ∙ c.in-Some-None-leaving.ensures.ok)
+
+pub returns-in-Err-clause-answer : goal.returns-in-Err-clause-answer
+returns-in-Err-clause-answer g c = let t = c.args.t.now in
+    stops g.T.Whole.MAX (shape_of_revised t) c.args.phase c.args.among (table_of_revised t) c.args.pivots
+    c.in-Some-Some-leaving.row c.in-Some-Some.column (sym c.in-Some-Some.field-0-is ∙ c.in-Some-Some.ensures.value)
+    c.in-Some-Some-leaving.ensures.none (sym c.in-Some-Some-leaving.field-0-is ∙ c.in-Some-Some-leaving.ensures.ok)
+    c.in-Err.stop c.in-Err.ensures.counted

@@ -15,7 +15,7 @@ use Rattle.stack_revised.specs.Columns.{revised_number, revised_cell}
 use Rattle.stack_revised.specs.Seen.{number_in, shape_of_revised, table_of_revised}
 use lib.IntN.{ℤ}
 use Rattle.stack_revised.proofs.Steps.{zero_cell}
-use Rattle.stack_revised.proofs.Marks.{marked_same, on_some}
+use Rattle.stack_revised.proofs.Marks.{marked_same, on_ok, err_same}
 use Rattle.stack_revised.proofs.Basics.{basic_changed, basic_below}
 use Rattle.stack_revised.proofs.revised_table.RevisedTable.pivot.Goals as goal
 
@@ -85,7 +85,7 @@ returns-clause-none g c =
     let s = c.args.self.now in
     let v = g.T.Whole.value in
     let C = s.first.columns.items in
-    on_some c.pivot_or_unmark.result (Pivoted g.T.Whole.MAX v s.first.rows C c.as_slice.result.now
+    on_ok c.pivot_or_unmark.result (Pivoted g.T.Whole.MAX v s.first.rows C c.as_slice.result.now
     c.as_mut_slice.result.now c.as_mut_slice-2.result.now c.pivot_or_unmark.new.numbers c.pivot_or_unmark.new.unders
     c.args.row c.args.column) (pivot_spot ordered_fractions (is_too_wide g.T.Whole.MAX) (shape_of_revised s)
     (table_of_revised s) c.args.row c.args.column ≡ None)
@@ -156,7 +156,7 @@ returns-clause-ok g c =
       cell = revised_cell v M C s.own.items (with_items s.numbers ns).items (with_items s.unders ds).items;
       basic = λ i. get_or (set s.basic.items r k) i 0;
     } in
-    on_some c.pivot_or_unmark.result (Pivoted g.T.Whole.MAX v M C c.as_slice.result.now c.as_mut_slice.result.now
+    on_ok c.pivot_or_unmark.result (Pivoted g.T.Whole.MAX v M C c.as_slice.result.now c.as_mut_slice.result.now
     c.as_mut_slice-2.result.now ns ds r k)
     (T ≡ pivoted_at ordered_fractions (shape_of_revised s) (table_of_revised s) r k)
     (λ h. λ z. record {
@@ -166,3 +166,14 @@ returns-clause-ok g c =
           (c.as_mut_slice.ensures.value z) (c.as_mut_slice-2.ensures.value z)) r k i j)) z;
       basic = λ i. basics i z;
     }) c.pivot_or_unmark.ensures.ok
+
+pub returns-clause-wide : goal.returns-clause-wide
+returns-clause-wide g c =
+    let s = c.args.self.now in
+    let v = g.T.Whole.value in
+    let C = s.first.columns.items in
+    err_same c.pivot_or_unmark.result _ _
+    (λ z. cells_spot ordered_fractions (is_too_wide g.T.Whole.MAX) (suc s.first.rows)
+    (suc (s.plain z + s.first.rows)) (revised_cell v s.first.rows C (c.as_slice.ensures.value z)
+    (c.as_mut_slice.ensures.value z) (c.as_mut_slice-2.ensures.value z)) c.args.row c.args.column)
+    c.pivot_or_unmark.ensures.wide
