@@ -2,38 +2,53 @@
 """Draws a structure to try solvers on, and prints its model.
 
     tools/draw.py [sway X Y] [joint P Q] arch VOUSSOIRS WIDTH
+    tools/draw.py [sway X Y] [joint P Q] ring VOUSSOIRS RADIUS THICKNESS [DEGREES]
+    tools/draw.py [sway X Y] [joint P Q] half VOUSSOIRS RADIUS THICKNESS
     tools/draw.py [sway X Y] [joint P Q] wall COURSES BRICKS [SHIFT]
+    tools/draw.py [sway X Y] [joint P Q] coursed COURSES STONES SEED
     tools/draw.py [sway X Y] [joint P Q] rubble SIDE SEED
 
 Nothing here is proved. An arch is half a ring of as many voussoirs, WIDTH wide outside and an eighth of that thick, on
-two springers, with a live load of one unit down at the end of its first quarter. A wall has bricks 20 long and 10 high
-in running bond, BRICKS in each even course; an odd one is shifted by SHIFT units, 10 if none is given, and its ends are
-closed by shorter bricks. With the shift 0 all joints are common. Courses count from 0. Rubble has SIDE courses of SIDE
-stones of four corners, about 20 units wide, whose common corners are drawn at random by SEED. Walls and rubble are
-pushed to the right at their upper left corner. With `sway X Y` that sway stands in place of the live load. With `joint
-P Q` what is fixed is of a material of its own, and P over Q its friction with the others.
-docs/other_solvers.md tells what comes of them.
+two springers, with a live load of one unit down at the end of its first quarter. A ring is an arch by the radius of its
+middle line and its thickness, over so many DEGREES, 180 if none are given, on springers square to its ends. A half has
+the right half of such a ring, of 180 degrees, and at its crown an upright wall without friction: by symmetry it stands
+exactly where the whole ring does. A wall has bricks 20 long and 10 high in running bond, BRICKS in each even course; an
+odd one is shifted by SHIFT units, 10 if none is given, and its ends are closed by shorter bricks. With the shift 0 all
+joints are common. Courses count from 0. Coursed stone has level courses, 8 to 14 high, of STONES stones each, about 20
+long, whose heights and lengths are drawn at random by SEED. Rubble has SIDE courses of SIDE stones of four corners,
+about 20 units wide, whose common corners are drawn at random by SEED. Walls, coursed stone and rubble are pushed to the
+right at their upper left corner. With `sway X Y` that sway stands in place of the live load. With `joint P Q` what is
+fixed is of a material of its own, and P over Q its friction with the others. docs/other_solvers.md and
+docs/published.md tell what comes of them.
 """
 import math
 import random
+import signal
 import sys
 
 ARCH = ("stone", 1, (7, 10))
 BRICK = ("brick", 1, (1, 2))
 
 
+SMOOTH = "smooth"
+
+
 def printed(material, bodies, load, sway, joint):
     name, weight, friction = material
     ground = "ground" if joint else name
+    smooth = any(body == SMOOTH for body, _, _ in bodies)
     pieces = []
     if sway or joint:
         pieces.append("version = 2" + (f"\nsway = {sway}" if sway else ""))
     for called in dict.fromkeys((name, ground)):
         pieces.append(f'[[material]]\nname = "{called}"\nweight = {weight}\nfriction = {list(friction)}')
+    if smooth:
+        pieces.append(f'[[material]]\nname = "{SMOOTH}"\nweight = {weight}\nfriction = [0, 1]')
     if joint:
         pieces.append(f'[[joint]]\nfirst = "{ground}"\nsecond = "{name}"\nfriction = {joint}')
     for body, fixed, corners in bodies:
-        of, listed = ground if fixed else name, [list(corner) for corner in corners]
+        of = SMOOTH if body == SMOOTH else ground if fixed else name
+        listed = [list(corner) for corner in corners]
         pieces.append(
             f'[[block]]\nname = "{body}"\nmaterial = "{of}"\nfixed = {str(fixed).lower()}\ncorners = {listed}')
     if not sway:
@@ -65,6 +80,34 @@ def arch(count, width):
     return ARCH, bodies, (f"v{quarter + 1}", at(outer, quarter), (0, -1))
 
 
+def ring(count, radius, thickness, degrees=180):
+    start, whole = math.radians(90 - degrees / 2), math.radians(degrees)
+    inner, outer = radius - thickness / 2, radius + thickness / 2
+
+    def at(distance, joint, back=0):
+        angle = start + whole * joint / count
+        return (round(distance * math.cos(angle) + back * math.sin(angle)),
+                round(distance * math.sin(angle) - back * math.cos(angle)))
+
+    bodies = []
+    for name, joint, back in ("right", 0, thickness), ("left", count, -thickness):
+        corners = [at(outer, joint), at(inner, joint), at(inner, joint, back), at(outer, joint, back)]
+        bodies.append((name, True, corners))
+    for joint in range(count):
+        corners = [at(inner, joint), at(outer, joint), at(outer, joint + 1), at(inner, joint + 1)]
+        bodies.append((f"v{joint + 1}", False, corners))
+    quarter = count // 4
+    return ARCH, bodies, (f"v{quarter + 1}", at(outer, quarter), (0, -1))
+
+
+def half(count, radius, thickness):
+    stone, bodies, load = ring(2 * count, radius, thickness)
+    crown, size = bodies[count + 1][2][-2:], round(thickness)
+    (_, top), (_, bottom) = crown
+    kept = [body for body in bodies if body[0] == "right" or body[0] in {f"v{number + 1}" for number in range(count)}]
+    return stone, [(SMOOTH, True, rectangle(-size, bottom - size, 0, top + size)), *kept], load
+
+
 def wall(courses, bricks, shift=10):
     bodies = [("ground", True, rectangle(-20, -10, 20 * bricks + 20, 0))]
     for course in range(courses):
@@ -74,6 +117,19 @@ def wall(courses, bricks, shift=10):
         for number, (left, right) in enumerate(zip(ends, ends[1:])):
             bodies.append((f"b{course}-{number}", False, rectangle(left, 10 * course, right, 10 * course + 10)))
     return BRICK, bodies, (f"b{courses - 1}-0", (0, 10 * courses), (1, 0))
+
+
+def coursed(courses, stones, seed):
+    draw = random.Random(seed)
+    bodies, foot = [("ground", True, rectangle(-20, -10, 20 * stones + 20, 0))], 0
+    for course in range(courses):
+        head = foot + draw.randint(8, 14)
+        shift = 10 * (course % 2) - 5
+        ends = [0] + [20 * k + shift + draw.randint(-4, 4) for k in range(1, stones)] + [20 * stones]
+        for number, (left, right) in enumerate(zip(ends, ends[1:])):
+            bodies.append((f"s{course}-{number}", False, rectangle(left, foot, right, head)))
+        foot = head
+    return ARCH, bodies, (f"s{courses - 1}-0", (0, foot), (1, 0))
 
 
 def rubble(side, seed):
@@ -93,12 +149,13 @@ def rubble(side, seed):
 
 
 def main(words):
+    signal.signal(signal.SIGPIPE, signal.SIG_DFL)
     try:
         pairs = {"sway": None, "joint": None}
         while words[0] in pairs:
             pairs[words[0]], words = [int(words[1]), int(words[2])], words[3:]
-        draw = {"arch": arch, "wall": wall, "rubble": rubble}[words[0]]
-        printed(*draw(*map(int, words[1:])), **pairs)
+        draw = {"arch": arch, "ring": ring, "half": half, "wall": wall, "coursed": coursed, "rubble": rubble}[words[0]]
+        printed(*draw(*(float(word) if "." in word else int(word) for word in words[1:])), **pairs)
     except (IndexError, KeyError, TypeError, ValueError):
         print(__doc__, file=sys.stderr)
         return 2
