@@ -1,5 +1,9 @@
 //! The worked rows of two live loads on a post, and texts of directions.
 
+ghost use Rattle.std.specs.Prelude.{IfOk};
+ghost use Rattle.stack_yield.specs.Kept.{region_view};
+ghost use Rattle.stack_yield.specs.RegionText.{CanPrint};
+
 use crate::types::{Region, RegionError};
 use crate::{DirectionsError, NoPair, directed, pair, read_directions, region, write_region};
 use stack_contact::survey;
@@ -82,7 +86,9 @@ fn region_of(
     s: &Survey,
     text: &[u8],
     budget: u32,
-) -> Result<Result<Region, RegionError>, Fail> {
+) -> Result<Result<Region, RegionError>, Fail>
+    ensures { IfOk result (λ r. IfOk r (λ g. CanPrint (region_view g))) }
+{
     if budget == 0 {
         return Err(Fail::from("some pivots are needed"));
     }
