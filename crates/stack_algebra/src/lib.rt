@@ -1,5 +1,4 @@
-//! Whole numbers, sums, fractions in lowest terms, ordered fields and rows of a table: the laws under every other
-//! crate.
+//! Whole numbers, sums, fractions in lowest terms, ordered fields and rows of a table: laws only.
 #![tactic(auto)]
 
 mod laws;

@@ -8,18 +8,18 @@ use Rattle.stack_contact.specs.Surveyed.{Surveyed}
 use Rattle.stack_certificate.specs.Certificate.{CertificateValue, stands, collapses}
 use Rattle.stack_equilibrium.specs.declared.types.Question.{Question}
 use Rattle.stack_equilibrium.specs.declared.types.Question.TheVariants.{Dead, Live}
-use Rattle.stack_equilibrium.specs.Scene.{Scene, IsProper}
-use Rattle.stack_equilibrium.specs.Balance.{Carries}
+use Rattle.stack_statics.specs.Scene.{Scene, IsProper}
+use Rattle.stack_statics.specs.Balance.{Carries}
 use Rattle.stack_equilibrium.specs.SurveyScene.{scene_of}
 use Rattle.stack_equilibrium.specs.Truth.{IsTrueCertificate, IsOfQuestion}
-use Rattle.stack_equilibrium.proofs.CertificateLaws.{stands_is_carried, collapse_excludes_balance}
+use Rattle.stack_statics.proofs.CertificateLaws.{stands_is_carried, collapse_excludes_balance}
 use Rattle.stack_table.specs.Table.{Tabled}
-use Rattle.stack_duality.specs.WrittenRun.{End, infeasible, feasible, optimal, ray, wide, over}
+use Rattle.stack_run.specs.WrittenRun.{End, infeasible, feasible, optimal, ray, wide, over, never}
 use Rattle.stack_posing.specs.Posed.{posed, posed_shape}
-use Rattle.stack_amounts.specs.WrittenLists.{forces_list, ray_list, bound_list, collapse_list}
-use Rattle.stack_amounts.specs.WholeLists.{whole_list}
-use Rattle.stack_amounts.specs.WholeEnds.{EndIsWhole}
-use Rattle.stack_amounts.proofs.WholeEnds.{ends_are_whole}
+use Rattle.stack_certified.specs.WrittenLists.{forces_list, ray_list, bound_list, collapse_list}
+use Rattle.stack_certified.specs.WholeLists.{whole_list}
+use Rattle.stack_certified.specs.WholeEnds.{EndIsWhole}
+use Rattle.stack_certified.proofs.WholeEnds.{ends_are_whole}
 use Rattle.stack_certified.specs.Certified.{end_forces, end_collapse, end_certificate}
 use Rattle.stack_certified.specs.Laws.{IsEndOfRun, IsCertified, EndsAreCertified, IsEndOf, EndsAreOfTheQuestion}
 use Rattle.stack_certified.specs.Laws.{EndPushes, EndsPush}
@@ -88,6 +88,7 @@ module _ (v : Surveyed) (proper : IsProper (scene_of v)) where
   }
   certified q (wide p k t) h = tt
   certified q over h = tt
+  certified q never h = tt
 
 -- the three laws
 pub ends_are_certified : EndsAreCertified
@@ -104,6 +105,7 @@ end_of Live v (ray T c) h = tt
 end_of q v (infeasible T) h = tt
 end_of q v (wide p k t) h = tt
 end_of q v over h = tt
+end_of q v never h = tt
 
 pub ends_are_of_the_question : EndsAreOfTheQuestion
 ends_are_of_the_question q v x h = end_of q v x (end_is_whole q v x h)
@@ -116,6 +118,7 @@ end_pushes q v (optimal T) h = h.loaded.forces.pushes
 end_pushes q v (ray T c) h = (h.loaded.forces.pushes, h.pushes)
 end_pushes q v (wide p k t) h = tt
 end_pushes q v over h = tt
+end_pushes q v never h = tt
 
 pub ends_push : EndsPush
 ends_push q v x h = end_pushes q v x (end_is_whole q v x h)

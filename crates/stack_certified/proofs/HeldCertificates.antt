@@ -7,21 +7,21 @@ use Rattle.stack_algebra.proofs.Listed.{map_listed}
 use Rattle.stack_contact.specs.Surveyed.{Surveyed}
 use Rattle.stack_equilibrium.specs.declared.types.Question.{Question}
 use Rattle.stack_equilibrium.specs.declared.types.Question.TheVariants.{Dead, Live}
-use Rattle.stack_equilibrium.specs.Scene.{Move, Scene, IsProper}
-use Rattle.stack_equilibrium.specs.Balance.{Carries}
-use Rattle.stack_equilibrium.specs.Certificates.{SceneForces, IsTrueStands, IsTrueCollapse, IsTrueGreatest}
-use Rattle.stack_equilibrium.specs.Certificates.{IsTrueUnbounded}
+use Rattle.stack_statics.specs.Scene.{Move, Scene, IsProper}
+use Rattle.stack_statics.specs.Balance.{Carries}
+use Rattle.stack_statics.specs.Certificates.{SceneForces, IsTrueStands, IsTrueCollapse, IsTrueGreatest}
+use Rattle.stack_statics.specs.Certificates.{IsTrueUnbounded}
 use Rattle.stack_equilibrium.specs.Held.{part_of_pair, forces_of, move_of_triple, moves_of}
 use Rattle.stack_equilibrium.specs.SurveyScene.{scene_of}
-use Rattle.stack_equilibrium.proofs.CertificateLaws.{stands_is_carried}
+use Rattle.stack_statics.proofs.CertificateLaws.{stands_is_carried}
 use Rattle.stack_equations.specs.FreeBodies.{free_bodies}
 use Rattle.stack_equations.specs.Equations.{IsSolution, forces_from}
 use Rattle.stack_equations.specs.MovesByNumber.{moves_from, power_by}
 use Rattle.stack_equations.specs.ByNumber.{dead_on, live_on}
 use Rattle.stack_equations.proofs.ByNumber as by_number
 use Rattle.stack_posing.specs.Posed.{posed}
-use Rattle.stack_amounts.specs.WholeLists.{amount, multiplier}
-use Rattle.stack_amounts.specs.WholeBalance.{AreAmounts, AreRefuting, AreBounding, StandsInWhole}
+use Rattle.stack_certified.specs.WholeLists.{amount, multiplier}
+use Rattle.stack_certified.specs.WholeBalance.{AreAmounts, AreRefuting, AreBounding, StandsInWhole}
 use Rattle.stack_certified.specs.Certified.{pair_at, forces_value, triple_at, motion_value}
 use Rattle.stack_certified.proofs.PosedSums.{amounts, moves, are_solution, load_is, factor_work, are_unopposed}
 

@@ -11,11 +11,11 @@ use Rattle.stack_algebra.proofs.IntegerRing.{integers}
 use Rattle.stack_algebra.proofs.Sums.{sum_same, sum_plus, sum_neg}
 use Rattle.stack_algebra.proofs.Indices.{pair_first, pair_second, three_first, three_second, three_third, sum_pairs}
 use Rattle.stack_algebra.proofs.Indices.{sum_threes}
-use Rattle.stack_equilibrium.specs.declared.types.Wrench.{Wrench}
+use Rattle.stack_statics.specs.declared.wrench.Wrench.{Wrench}
 use Rattle.stack_equilibrium.specs.declared.types.Question.{Question}
 use Rattle.stack_equilibrium.specs.declared.types.Question.TheVariants.{Dead, Live}
-use Rattle.stack_equilibrium.specs.Scene.{Move, Scene}
-use Rattle.stack_equilibrium.specs.Motions.{power_of}
+use Rattle.stack_statics.specs.Scene.{Move, Scene}
+use Rattle.stack_statics.specs.Motions.{power_of}
 use Rattle.stack_equilibrium.specs.Held.{move_of_triple}
 use Rattle.stack_equations.specs.FreeBodies.{free_at, free_bodies}
 use Rattle.stack_equations.specs.Edges.{Amounts, edge_on, edges_sum}
@@ -23,7 +23,7 @@ use Rattle.stack_equations.specs.Equations.{IsSolution}
 use Rattle.stack_equations.specs.MovesByNumber.{power_by, AreUnopposed}
 use Rattle.stack_equations.specs.ByNumber.{dead_on, live_on}
 use Rattle.stack_posing.specs.Posed.{share, row_share, column_on, no_wrench, factor_on, factors_of, posed}
-use Rattle.stack_amounts.specs.WholeBalance.{AreAmounts, column_work, load_work, AreUnresisted}
+use Rattle.stack_certified.specs.WholeBalance.{AreAmounts, column_work, load_work, AreUnresisted}
 use Rattle.stack_certified.specs.Certified.{triple_at}
 
 -- amounts of columns by bearings

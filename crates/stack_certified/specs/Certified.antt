@@ -13,10 +13,10 @@ use Rattle.stack_equilibrium.specs.SurveyScene.{no_bearing, scene_of}
 use Rattle.stack_equations.specs.FreeBodies.{free_bodies}
 use Rattle.stack_table.specs.Table.{Tabled}
 use Rattle.stack_table.specs.Problem.{Problem}
-use Rattle.stack_duality.specs.WrittenRun.{End, infeasible, feasible, optimal, ray, wide, over}
+use Rattle.stack_run.specs.WrittenRun.{End, infeasible, feasible, optimal, ray, wide, over, never}
 use Rattle.stack_posing.specs.Posed.{posed, posed_shape}
-use Rattle.stack_amounts.specs.WrittenLists.{forces_list, ray_list, bound_list, collapse_list}
-use Rattle.stack_amounts.specs.WholeLists.{whole_list, amount, multiplier}
+use Rattle.stack_certified.specs.WrittenLists.{forces_list, ray_list, bound_list, collapse_list}
+use Rattle.stack_certified.specs.WholeLists.{whole_list, amount, multiplier}
 
 -- w of the one edge of a bearing's cone and v of the other together: along the normal, along the tangent
 abbrev pub pair_between : Bearing → ℤ → ℤ → ℤ × ℤ
@@ -70,3 +70,4 @@ end_certificate q v (optimal T) = Some (greatest (end_forces q v T) (end_bound q
 end_certificate q v (ray T c) = Some (unbounded (end_forces q v T) (end_ray q v T c))
 end_certificate q v (wide p k s) = None
 end_certificate q v over = None
+end_certificate q v never = None

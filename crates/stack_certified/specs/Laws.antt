@@ -5,15 +5,15 @@ use Rattle.stack_contact.specs.Surveyed.{Surveyed}
 use Rattle.stack_certificate.specs.Certificate.{CertificateValue, stands, collapses, greatest, unbounded}
 use Rattle.stack_equilibrium.specs.declared.types.Question.{Question}
 use Rattle.stack_equilibrium.specs.declared.types.Question.TheVariants.{Dead, Live}
-use Rattle.stack_equilibrium.specs.Scene.{IsProper}
-use Rattle.stack_equilibrium.specs.Balance.{Carries}
+use Rattle.stack_statics.specs.Scene.{IsProper}
+use Rattle.stack_statics.specs.Balance.{Carries}
 use Rattle.stack_equilibrium.specs.SurveyScene.{scene_of}
 use Rattle.stack_equilibrium.specs.Truth.{IsTrueCertificate, IsOfQuestion}
-use Rattle.stack_duality.specs.WrittenRun.{End, infeasible, feasible, optimal, ray, wide, over}
-use Rattle.stack_duality.specs.Laws.{Rule, run_of}
+use Rattle.stack_run.specs.WrittenRun.{End, infeasible, feasible, optimal, ray, wide, over, never}
+use Rattle.stack_run.specs.ProblemRun.{Rule, run_of}
 use Rattle.stack_posing.specs.Posed.{posed, posed_shape}
-use Rattle.stack_amounts.specs.WrittenLists.{forces_list, ray_list}
-use Rattle.stack_amounts.specs.WholeLists.{whole_list, NonePulls}
+use Rattle.stack_certified.specs.WrittenLists.{forces_list, ray_list}
+use Rattle.stack_certified.specs.WholeLists.{whole_list, NonePulls}
 use Rattle.stack_certified.specs.Certified.{end_certificate}
 
 -- an end of the run of a survey's problem, under some rule of what is too wide and with some budget
@@ -51,6 +51,7 @@ IsEndOf Dead (ray T c) = ⊥
 IsEndOf Live (ray T c) = ⊤
 IsEndOf q (wide p k s) = ⊤
 IsEndOf q over = ⊤
+IsEndOf q never = ⊤
 
 -- every run of a survey's problem has an end that its question may have
 abbrev pub EndsAreOfTheQuestion : Type 0
@@ -65,6 +66,7 @@ EndPushes q v (ray T c) = NonePulls (whole_list (forces_list (posed_shape q (sce
     × NonePulls (whole_list (ray_list (posed_shape q (scene_of v)) T c))
 EndPushes q v (wide p k s) = ⊤
 EndPushes q v over = ⊤
+EndPushes q v never = ⊤
 
 -- this holds of every end of a survey's run, whatever the rule and the budget
 abbrev pub EndsPush : Type 0

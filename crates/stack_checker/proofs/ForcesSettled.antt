@@ -17,8 +17,8 @@ use Rattle.stack_certificate.specs.Certificate.{ForcesValue}
 use Rattle.stack_equilibrium.specs.declared.types.Axis.TheVariants.{X, Y, M}
 use Rattle.stack_whole.specs.declared.whole.Whole.{Whole}
 use Rattle.stack_equilibrium.specs.declared.block.Push.{Push}
-use Rattle.stack_equilibrium.specs.Balance.{IsWithinCone, IsAdmissible, IsBalancedAt, IsBalanced}
-use Rattle.stack_equilibrium.specs.Certificates.{AreBalanced}
+use Rattle.stack_statics.specs.Balance.{IsWithinCone, IsAdmissible, IsBalancedAt, IsBalanced}
+use Rattle.stack_statics.specs.Certificates.{AreBalanced}
 use Rattle.stack_equilibrium.specs.SurveyScene.{no_bearing, bearing_of, scene_bearing_of, scene_of}
 use Rattle.stack_equilibrium.specs.Held.{part_of_pair, forces_of, part_at}
 use Rattle.stack_whole.specs.Whole.{whole}

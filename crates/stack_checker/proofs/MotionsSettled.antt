@@ -14,9 +14,9 @@ use Rattle.stack_certificate.specs.Certificate.{ForcesValue, MotionValue}
 use Rattle.stack_equilibrium.specs.declared.types.PowerWide.{PowerWide}
 use Rattle.stack_equilibrium.specs.declared.types.Question.TheVariants.{Dead, Live}
 use Rattle.stack_whole.specs.declared.whole.Whole.{Whole}
-use Rattle.stack_equilibrium.specs.Motions.{opening_of, slide_of, IsStill, KeepsFixedStill, dead_power_of}
-use Rattle.stack_equilibrium.specs.Motions.{live_power_of}
-use Rattle.stack_equilibrium.specs.Certificates.{free_before, still, IsFreeMotion, IsTrueCollapse}
+use Rattle.stack_statics.specs.Motions.{opening_of, slide_of, IsStill, KeepsFixedStill, dead_power_of}
+use Rattle.stack_statics.specs.Motions.{live_power_of}
+use Rattle.stack_statics.specs.Certificates.{free_before, still, IsFreeMotion, IsTrueCollapse}
 use Rattle.stack_equilibrium.specs.SurveyScene.{no_bearing, bearing_of, scene_of}
 use Rattle.stack_equilibrium.specs.Held.{move_of_triple, moves_of, move_at}
 use Rattle.stack_whole.specs.Whole.{whole}
@@ -27,21 +27,21 @@ use Rattle.stack_checker.specs.declared.types.Reason.TheVariants as reasons
 use Rattle.stack_checker.specs.declared.types.CheckAt.TheVariants as places
 use Rattle.stack_checker.specs.declared.sign.WantedSign.TheVariants.{Zero, Positive}
 use Rattle.stack_checker.specs.declared.stop.Stop.{Stop}
-use Rattle.stack_checker.specs.declared.motions.Rates.{Rates}
+use Rattle.stack_equilibrium.specs.declared.velocity.Gap.{Gap}
 use Rattle.stack_checker.specs.declared.powers.Powers.{Powers}
 use Rattle.stack_checker.specs.Signs.{has_sign}
 use Rattle.stack_checker.specs.WrittenTests.{demand, power_or_stop}
 use Rattle.stack_checker.specs.WrittenMotions.{written_resistance, resistance_at, written_motion}
 use Rattle.stack_checker.specs.WrittenMotions.{written_collapse, written_powers, written_meeting, written_bound}
 use Rattle.stack_checker.proofs.Settled.{Settled, settled_as, settled_demand, settled_both, settled_made}
-use Rattle.stack_checker.proofs.Settled.{settled_rates, settled_work, settled_each}
+use Rattle.stack_checker.proofs.Settled.{settled_gap, settled_work, settled_each}
 use Rattle.stack_checker.proofs.SignTests.{le_decides, same_decides, sign_decides}
 use Rattle.stack_equilibrium.proofs.FreeNumbers.{all_before}
 use Rattle.stack_equilibrium.proofs.SceneRates.{rates_are}
 use Rattle.stack_equilibrium.proofs.ScenePowers.{power_is}
 
 module _ (s : Surveyed) where
-  resistance_settles : (k : ℕ) (p q : Whole) (r : Rates) → k < length s.bearings →
+  resistance_settles : (k : ℕ) (p q : Whole) (r : Gap) → k < length s.bearings →
       Settled s (p.value *ℤ abs r.slide.value ≼ q.value *ℤ r.opening.value) (written_resistance k p q r)
   unfolding written_resistance
   resistance_settles k p q r l =
@@ -76,18 +76,18 @@ module _ (s : Surveyed) (y : MotionValue) where
   bearing_settles : (k : ℕ) → k < length s.bearings →
       Settled s (OpensAt k) (resistance_at s y k tt (get_or s.bearings k no_bearing))
   unfolding resistance_at
-  bearing_settles k l = settled_rates s k (written_opening s y k) _ l (λ x e. opens x (rates_are s y k x e))
+  bearing_settles k l = settled_gap s k (written_opening s y k) _ l (λ x e. opens x (rates_are s y k x e))
     where
       opens : (x : ℤ × ℤ) → AreRates s y k x → (let z = bearing_of s k in Settled s (OpensAt k)
           (written_resistance k (whole z.cone.p) (whole z.cone.q)
           (record { opening = whole x.0; slide = whole x.1 })))
       opens x are =
           let z = bearing_of s k in
-          let rates : Rates = record { opening = whole x.0; slide = whole x.1 } in
+          let gap : Gap = record { opening = whole x.0; slide = whole x.1 } in
           subst (λ (r : ℤ × ℤ). Settled s (z.cone.p *ℤ abs r.1 ≼ z.cone.q *ℤ r.0)
-          (written_resistance k (whole z.cone.p) (whole z.cone.q) rates))
+          (written_resistance k (whole z.cone.p) (whole z.cone.q) gap))
           (λ i. (are.opening i, are.slide i))
-          (resistance_settles s k (whole z.cone.p) (whole z.cone.q) rates l)
+          (resistance_settles s k (whole z.cone.p) (whole z.cone.q) gap l)
 
   bearings_settle : Settled s ((k : ℕ) → k < length s.bearings → OpensAt k)
       (steps (resistance_at s y) 0 tt s.bearings)

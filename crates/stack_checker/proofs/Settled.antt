@@ -6,7 +6,7 @@ use Rattle.std.specs.Bool.{⊤, Decides}
 use Rattle.stack_algebra.specs.Steps.{◌>>=◌, steps}
 use Rattle.stack_contact.specs.Surveyed.{Surveyed}
 use Rattle.stack_contact.specs.FreeBlocks.{frees_of}
-use Rattle.stack_equilibrium.specs.declared.types.Wrench.{Wrench}
+use Rattle.stack_statics.specs.declared.wrench.Wrench.{Wrench}
 use Rattle.stack_equilibrium.specs.declared.types.SumWide.{SumWide}
 use Rattle.stack_equilibrium.specs.declared.types.VelocityWide.{VelocityWide}
 use Rattle.stack_equilibrium.specs.declared.types.PowerWide.{PowerWide}
@@ -18,8 +18,8 @@ use Rattle.stack_checker.specs.declared.types.Reason.{Reason}
 use Rattle.stack_checker.specs.declared.types.CheckAt.{CheckAt}
 use Rattle.stack_checker.specs.declared.stop.Stop.{Stop}
 use Rattle.stack_checker.specs.declared.stop.Stop.TheVariants.{Rejected, TooWide}
-use Rattle.stack_checker.specs.declared.motions.Rates.{Rates}
-use Rattle.stack_checker.specs.WrittenTests.{demand, made_at, sums_at, rates_at, power_or_stop}
+use Rattle.stack_equilibrium.specs.declared.velocity.Gap.{Gap}
+use Rattle.stack_checker.specs.WrittenTests.{demand, made_at, sums_at, stopped_gap, power_or_stop}
 use Rattle.stack_checker.specs.Verdict.{IsReasonOf, IsPlaceOf}
 
 module _ (s : Surveyed) where
@@ -68,12 +68,12 @@ module _ (s : Surveyed) where
   settled_sums b (Err e) f names h = record { is = names }
 
   -- after the opening and the slide of bearing k
-  pub settled_rates : {P : Type 0} (k : ℕ) (r : Result (ℤ × ℤ) VelocityWide) (f : Rates → Result ⊤ Stop) →
+  pub settled_gap : {P : Type 0} (k : ℕ) (r : Result (ℤ × ℤ) VelocityWide) (f : Gap → Result ⊤ Stop) →
       k < length s.bearings →
       ((x : ℤ × ℤ) → r ≡ Ok x → Settled P (f (record { opening = whole x.0; slide = whole x.1 }))) →
-      Settled P (rates_at k r >>= f)
-  settled_rates k (Ok x) f names h = h x refl
-  settled_rates k (Err e) f names h = record { is = names }
+      Settled P (stopped_gap k r >>= f)
+  settled_gap k (Ok x) f names h = h x refl
+  settled_gap k (Err e) f names h = record { is = names }
 
   -- after a power
   pub settled_work : {P : Type 0} (r : Result ℤ PowerWide) (f : Whole → Result ⊤ Stop) →

@@ -15,14 +15,14 @@ use Rattle.stack_checker.specs.declared.types.Reason.TheVariants as reasons
 use Rattle.stack_checker.specs.declared.types.CheckAt.TheVariants as places
 use Rattle.stack_checker.specs.declared.sign.WantedSign.TheVariants.{Zero, Positive}
 use Rattle.stack_checker.specs.declared.stop.Stop.{Stop}
-use Rattle.stack_checker.specs.declared.motions.Rates.{Rates}
+use Rattle.stack_equilibrium.specs.declared.velocity.Gap.{Gap}
 use Rattle.stack_checker.specs.declared.powers.Powers.{Powers}
 use Rattle.stack_checker.specs.Signs.{has_sign}
-use Rattle.stack_checker.specs.WrittenTests.{demand, made_at, rates_at, power_or_stop}
+use Rattle.stack_checker.specs.WrittenTests.{demand, made_at, stopped_gap, power_or_stop}
 
 -- bearing k, whose coefficient is p over q: q times the opening, the size of the slide and p times that size
 -- are made; then the first is at least the last
-unfoldable pub written_resistance : ℕ → Whole → Whole → Rates → Result ⊤ Stop
+unfoldable pub written_resistance : ℕ → Whole → Whole → Gap → Result ⊤ Stop
 written_resistance k p q r = do
   opens ← made_at (made (q.value *ℤ r.opening.value)) (places.Resisted k)
   size ← made_at (made (pos (nat_abs r.slide.value))) (places.Resisted k)
@@ -32,8 +32,8 @@ written_resistance k p q r = do
 -- a bearing of the survey: its velocities are made before that
 unfoldable pub resistance_at : Surveyed → MotionValue → ℕ → ⊤ → Bearing → Result ⊤ Stop
 resistance_at s y k done z = do
-  rates ← rates_at k (written_opening s y k)
-  written_resistance k (whole z.cone.p) (whole z.cone.q) rates
+  gap ← stopped_gap k (written_opening s y k)
+  written_resistance k (whole z.cone.p) (whole z.cone.q) gap
 
 -- as many moves as free blocks, and no bearing resists
 unfoldable pub written_motion : Surveyed → MotionValue → Result ⊤ Stop

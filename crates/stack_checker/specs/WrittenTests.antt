@@ -1,7 +1,7 @@
 -- The single steps of the written check: a test with the reason that it gives where it fails, and a number
 -- with the place that it gives where it is too wide.
 use Rattle.std.specs.Prelude.{ℕ, ℤ, Bool, true, false, Result, Ok, Err, ⊤}
-use Rattle.stack_equilibrium.specs.declared.types.Wrench.{Wrench}
+use Rattle.stack_statics.specs.declared.wrench.Wrench.{Wrench}
 use Rattle.stack_equilibrium.specs.declared.types.SumWide.{SumWide}
 use Rattle.stack_equilibrium.specs.declared.types.VelocityWide.{VelocityWide}
 use Rattle.stack_equilibrium.specs.declared.types.PowerWide.{PowerWide}
@@ -13,7 +13,7 @@ use Rattle.stack_checker.specs.declared.types.CheckAt.{CheckAt}
 use Rattle.stack_checker.specs.declared.types.CheckAt.TheVariants as places
 use Rattle.stack_checker.specs.declared.stop.Stop.{Stop}
 use Rattle.stack_checker.specs.declared.stop.Stop.TheVariants.{Rejected, TooWide}
-use Rattle.stack_checker.specs.declared.motions.Rates.{Rates}
+use Rattle.stack_equilibrium.specs.declared.velocity.Gap.{Gap}
 
 -- a test that is passed or ends the check with its reason
 abbrev pub demand : Bool → Reason → Result ⊤ Stop
@@ -31,9 +31,9 @@ sums_at b (Ok w) = Ok w
 sums_at b (Err e) = Err (TooWide (places.Balance b e.axis))
 
 -- the opening and the slide of bearing k
-abbrev pub rates_at : ℕ → Result (ℤ × ℤ) VelocityWide → Result Rates Stop
-rates_at k (Ok r) = Ok (record { opening = whole r.0; slide = whole r.1 })
-rates_at k (Err e) = Err (TooWide (places.Resisted k))
+abbrev pub stopped_gap : ℕ → Result (ℤ × ℤ) VelocityWide → Result Gap Stop
+stopped_gap k (Ok r) = Ok (record { opening = whole r.0; slide = whole r.1 })
+stopped_gap k (Err e) = Err (TooWide (places.Resisted k))
 
 -- a power
 abbrev pub power_or_stop : Result ℤ PowerWide → Result Whole Stop

@@ -1,4 +1,4 @@
-//! The check of certificates against surveys: an independent judge of what others claim of a structure.
+//! The written check of a certificate: an independent judge of what others claim of a structure.
 //!
 //! ```text
 //! check(&survey, &certificate) == Check::Accepted // then it is true of the survey

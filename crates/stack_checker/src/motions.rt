@@ -4,31 +4,24 @@ ghost use Rattle.std.specs.Prelude.{◌≡◌, ◌<◌, length, Ok, slice_index}
 ghost use Rattle.stack_algebra.specs.Steps.{steps};
 ghost use Rattle.stack_contact.specs.FreeBlocks.{frees_of};
 ghost use Rattle.stack_certificate.specs.Certificate.{motion_view};
-ghost use Rattle.stack_checker.specs.WrittenTests.{rates_at};
+ghost use Rattle.stack_checker.specs.WrittenTests.{stopped_gap};
 ghost use Rattle.stack_checker.specs.WrittenMotions.{written_resistance, resistance_at, written_motion};
 
 use crate::stop::{Stop, place, require};
 use crate::types::{CheckAt, Reason};
 use stack_certificate::types::Motion;
 use stack_contact::types::{Bearing, Survey};
-use stack_equilibrium::block::whole_of;
 use stack_equilibrium::opening;
 use stack_equilibrium::types::VelocityWide;
+use stack_equilibrium::velocity::Gap;
 use stack_whole::Whole;
 
-/// How a bearing opens along its normal and slides along its tangent.
-#[derive(Clone, Copy, Debug, PartialEq, Eq)]
-pub struct Rates {
-    pub opening: Whole,
-    pub slide: Whole,
-}
-
-/// Those of bearing `k`, with their place.
-fn placed_rates(k: usize, made: Result<(i128, i128), VelocityWide>) -> Result<Rates, Stop>
-    ensures { result ≡ rates_at k made }
+/// How bearing `k` opens and slides, with its place.
+fn placed_gap(k: usize, made: Result<(i128, i128), VelocityWide>) -> Result<Gap, Stop>
+    ensures { result ≡ stopped_gap k made }
 {
     match made {
-        Ok((opening, slide)) => Ok(Rates {
+        Ok((opening, slide)) => Ok(Gap {
             opening: Whole { value: opening },
             slide: Whole { value: slide },
         }),
@@ -43,11 +36,11 @@ fn placed_rates(k: usize, made: Result<(i128, i128), VelocityWide>) -> Result<Ra
 
 /// Bearing `k`, with the coefficient `p` over `q`, opens at least as much as its slide asks for.
 #[tactic(auto, unfolding(crate::specs::WrittenMotions::written_resistance))]
-fn check_resistance(k: usize, p: Whole, q: Whole, rates: Rates) -> Result<(), Stop>
-    ensures { result ≡ written_resistance k p q rates }
+fn check_resistance(k: usize, p: Whole, q: Whole, gap: Gap) -> Result<(), Stop>
+    ensures { result ≡ written_resistance k p q gap }
 {
-    let opens = place(q.product(rates.opening), CheckAt::Resisted { k })?;
-    let size = place(rates.slide.size(), CheckAt::Resisted { k })?;
+    let opens = place(q.product(gap.opening), CheckAt::Resisted { k })?;
+    let size = place(gap.slide.size(), CheckAt::Resisted { k })?;
     let slides = place(p.product(size), CheckAt::Resisted { k })?;
     require(slides.value <= opens.value, Reason::Resisted { k })
 }
@@ -58,8 +51,8 @@ fn check_bearing(s: &Survey, motion: &Motion, k: usize, z: Bearing) -> Result<()
     requires count { length (motion_view motion.now) ≡ length (frees_of s.now.structure.bodies) }
     ensures { result ≡ resistance_at s.now (motion_view motion.now) k tt z }
 {
-    let rates = placed_rates(k, opening(s, motion, k))?;
-    check_resistance(k, whole_of(z.cone.p), whole_of(z.cone.q), rates)
+    let gap = placed_gap(k, opening(s, motion, k))?;
+    check_resistance(k, Whole::widened(z.cone.p), Whole::widened(z.cone.q), gap)
 }
 
 /// So does each bearing, in order.

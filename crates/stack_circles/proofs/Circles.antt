@@ -6,7 +6,7 @@ use Rattle.stack_algebra.specs.Ordered.{Ordered}
 use Rattle.stack_algebra.specs.Rows.{Tableau}
 use Rattle.stack_rational.specs.declared.exact.Op.{Op}
 use Rattle.stack_table.specs.Table.{Shape, Tabled, plain, columns, clear_objective, set_factor_objective}
-use Rattle.stack_duality.specs.WrittenRun.{PhaseStop, settled, unlimited, wide_at, spent, turns, drives}
+use Rattle.stack_run.specs.WrittenRun.{PhaseStop, settled, unlimited, wide_at, spent, turns, drives}
 use Rattle.stack_duality.specs.PhaseTables.{own_first, own_third, IsFirst, IsThird}
 use Rattle.stack_duality.proofs.TurnsKeep.{Stopped, turns_keep}
 use Rattle.stack_duality.proofs.ThreePhases.{Second, first_step, second_begins, third_begins}

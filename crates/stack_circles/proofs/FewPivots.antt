@@ -8,10 +8,10 @@ use Rattle.stack_table.specs.Table.{Shape, Tabled, plain, columns, right, pivote
 use Rattle.stack_table.specs.Table.{set_factor_objective}
 use Rattle.stack_table.specs.Spots.{pivot_spot}
 use Rattle.stack_bland.specs.Choice.{is_negative_sign}
-use Rattle.stack_duality.specs.WrittenRun.{PhaseStop, settled, unlimited}
-use Rattle.stack_duality.specs.WrittenRun.{wide_at, spent, infeasible, over, on_spot, turns, after_phase}
-use Rattle.stack_duality.specs.WrittenRun.{driven_column, drive_at, drive_row, drives, third_end, past_first}
-use Rattle.stack_duality.specs.WrittenRun.{first_end, written_run}
+use Rattle.stack_run.specs.WrittenRun.{PhaseStop, settled, unlimited}
+use Rattle.stack_run.specs.WrittenRun.{wide_at, spent, infeasible, over, on_spot, turns, after_phase}
+use Rattle.stack_run.specs.WrittenRun.{driven_column, drive_at, drive_row, drives, third_end, past_first}
+use Rattle.stack_run.specs.WrittenRun.{first_end, written_run}
 use Rattle.stack_duality.specs.PhaseTables.{own_first, own_third, IsFirst, IsThird}
 use Rattle.stack_duality.proofs.Duality.{some_row_leaves}
 use Rattle.stack_duality.proofs.TurnsKeep.{Stopped, turns_keep}

@@ -8,9 +8,9 @@ use Rattle.stack_table.specs.Table.{Shape, Tabled, plain, columns, right, pivote
 use Rattle.stack_table.specs.Table.{set_factor_objective}
 use Rattle.stack_table.specs.Spots.{pivot_spot}
 use Rattle.stack_bland.specs.Choice.{is_negative_sign}
-use Rattle.stack_duality.specs.WrittenRun.{Choice, stays, rises, due, refused, choose, PhaseStop, settled, unlimited}
-use Rattle.stack_duality.specs.WrittenRun.{wide_at, spent, End, infeasible, after_phase, on_spot, on_choice, turns}
-use Rattle.stack_duality.specs.WrittenRun.{drives, third_end, past_first, first_end, written_run}
+use Rattle.stack_run.specs.WrittenRun.{Choice, stays, rises, due, refused, choose, PhaseStop, settled, unlimited}
+use Rattle.stack_run.specs.WrittenRun.{wide_at, spent, End, infeasible, after_phase, on_spot, on_choice, turns}
+use Rattle.stack_run.specs.WrittenRun.{drives, third_end, past_first, first_end, written_run}
 use Rattle.stack_duality.specs.PhaseTables.{IsFirst}
 use Rattle.stack_duality.proofs.ThreePhases.{Second}
 use Rattle.stack_duality.proofs.RunEnds.{Settled, drives_keep}

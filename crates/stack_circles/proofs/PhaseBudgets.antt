@@ -8,8 +8,8 @@ use Rattle.stack_rational.specs.declared.exact.Op.{Op}
 use Rattle.stack_table.specs.declared.types.PivotWide.{PivotWide}
 use Rattle.stack_table.specs.Table.{Shape, Tabled, plain, columns, pivoted_at}
 use Rattle.stack_table.specs.Spots.{pivot_spot}
-use Rattle.stack_duality.specs.WrittenRun.{Choice, stays, rises, due, refused, choose, settled}
-use Rattle.stack_duality.specs.WrittenRun.{spent, over, on_spot, on_choice, turns}
+use Rattle.stack_run.specs.WrittenRun.{Choice, stays, rises, due, refused, choose, settled}
+use Rattle.stack_run.specs.WrittenRun.{spent, over, on_spot, on_choice, turns}
 use Rattle.stack_duality.proofs.TurnsKeep.{Due, Chosen, chosen}
 use Rattle.stack_duality.proofs.ThreePhases.{due_tableau}
 use Rattle.stack_circles.proofs.Pigeonhole.{pigeonhole}

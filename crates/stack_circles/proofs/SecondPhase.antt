@@ -12,8 +12,8 @@ use Rattle.stack_table.specs.declared.types.PivotWide.{PivotWide}
 use Rattle.stack_table.specs.Table.{Shape, Tabled, plain, columns, pivoted_at}
 use Rattle.stack_table.specs.Spots.{pivot_spot}
 use Rattle.stack_bland.specs.Choice.{is_nought}
-use Rattle.stack_duality.specs.WrittenRun.{PhaseStop, settled, unlimited, wide_at, spent, after_phase, on_spot}
-use Rattle.stack_duality.specs.WrittenRun.{driven_column, drive_at, drive_row, drives}
+use Rattle.stack_run.specs.WrittenRun.{PhaseStop, settled, unlimited, wide_at, spent, after_phase, on_spot}
+use Rattle.stack_run.specs.WrittenRun.{driven_column, drive_at, drive_row, drives}
 use Rattle.stack_circles.specs.BasicSets.{IsBasic, SameSet}
 use Rattle.stack_circles.specs.Reached.{TakesArtificialOut}
 use Rattle.stack_circles.proofs.NoBasisRecurs.{distinct}

@@ -8,9 +8,9 @@ use Rattle.stack_table.specs.declared.types.PivotWide.{PivotWide}
 use Rattle.stack_table.specs.Table.{Shape, Tabled, plain, pivoted_at, clear_objective, set_factor_objective}
 use Rattle.stack_table.specs.Spots.{pivot_spot}
 use Rattle.stack_bland.specs.Choice.{is_negative_sign}
-use Rattle.stack_duality.specs.WrittenRun.{Choice, stays, rises, due, refused, choose, settled, infeasible}
-use Rattle.stack_duality.specs.WrittenRun.{after_phase, on_spot, on_choice, turns, drive_row, drives, third_end}
-use Rattle.stack_duality.specs.WrittenRun.{past_first, first_end, written_run}
+use Rattle.stack_run.specs.WrittenRun.{Choice, stays, rises, due, refused, choose, settled, infeasible}
+use Rattle.stack_run.specs.WrittenRun.{after_phase, on_spot, on_choice, turns, drive_row, drives, third_end}
+use Rattle.stack_run.specs.WrittenRun.{past_first, first_end, written_run}
 use Rattle.stack_circles.specs.Reached.{then_on, unrefused, turned_by, after_turns, ComesToSecond, ReachesInSecond}
 use Rattle.stack_circles.specs.Reached.{ReachesInThird, drives_from, third_from, second_from, GoesOn}
 use Rattle.stack_circles.proofs.PhaseBudgets.{IsDue, row_of, column_of, moved, tables}

@@ -5,8 +5,8 @@ use Rattle.stack_algebra.proofs.OrderedFractions.{ordered_fractions}
 use Rattle.stack_table.specs.Table.{Tabled, columns}
 use Rattle.stack_table.specs.Problem.{Problem}
 use Rattle.stack_table.specs.WrittenTable.{written_table}
-use Rattle.stack_duality.specs.WrittenRun.{over}
-use Rattle.stack_duality.specs.Laws.{Rule, run_of}
+use Rattle.stack_run.specs.WrittenRun.{over}
+use Rattle.stack_run.specs.ProblemRun.{Rule, run_of}
 use Rattle.stack_circles.specs.BasicSets.{SameSet, SameList}
 use Rattle.stack_circles.specs.Reached.{Phase, ReachesIn, ReachesInSecond, GoesOn, LastReached, TakesArtificialOut}
 use Rattle.stack_circles.specs.Enough.{enough_of}

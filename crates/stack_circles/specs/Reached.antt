@@ -5,9 +5,9 @@ use Rattle.stack_rational.specs.declared.exact.Op.{Op}
 use Rattle.stack_table.specs.declared.types.PivotWide.{PivotWide}
 use Rattle.stack_table.specs.Table.{Shape, Tabled, plain, right, pivoted_at, clear_objective, set_factor_objective}
 use Rattle.stack_table.specs.Spots.{pivot_spot}
-use Rattle.stack_duality.specs.WrittenRun.{Choice, stays, rises, due, refused, PhaseStop, settled, End, infeasible}
-use Rattle.stack_duality.specs.WrittenRun.{feasible, optimal, ray, wide, over, after_phase, choose, turns, drive_row}
-use Rattle.stack_duality.specs.WrittenRun.{drives, third_end, first_end, written_run}
+use Rattle.stack_run.specs.WrittenRun.{Choice, stays, rises, due, refused, PhaseStop, settled, End, infeasible}
+use Rattle.stack_run.specs.WrittenRun.{feasible, optimal, ray, wide, over, never, after_phase, choose, turns, drive_row}
+use Rattle.stack_run.specs.WrittenRun.{drives, third_end, first_end, written_run}
 
 -- the three phases: amounts that balance are sought, artificial columns leave, the factor rises
 pub data Phase : Type 0 where
@@ -85,7 +85,7 @@ module _ (F : Ordered) (S : Shape) (is_too_wide : Op → F.C → F.C → Bool) w
       pub row : ℕ
       pub reaches : ReachesInSecond row done U
 
-    -- by the phase
+    -- what each of the three phases reaches
     abbrev pub ReachesIn : Phase → ℕ → Tabled F.C → Type 0
     ReachesIn phase_1 done U = ReachesInFirst done U
     ReachesIn phase_2 done U = ReachesInSomeRow done U
@@ -133,3 +133,4 @@ module _ (F : Ordered) (S : Shape) (is_too_wide : Op → F.C → F.C → Bool) (
   LastReached (ray U c) = SomeDone (λ d. ReachesInThird F S is_too_wide budget T d U)
   LastReached (wide p k s) = ⊤
   LastReached over = ⊤
+  LastReached never = ⊤

@@ -4,10 +4,10 @@ use Rattle.std.proofs.Common.{◌∙◌, arith}
 use Rattle.std.specs.Option.{option_map}
 use Rattle.std.proofs.lemmas.Bool.{lt-ltb, le-ltb}
 use Rattle.stack_outside.specs.Faults.{counted}
-use Rattle.stack_cli.specs.declared.answer.Verdict.{Verdict}
-use Rattle.stack_cli.specs.declared.refusal.Refusal.{Refusal as CodeRefusal}
-use Rattle.stack_cli.specs.Refusals.{refusal_view, status_of}
-use Rattle.stack_cli.specs.Answers.{verdict_status}
+use Rattle.stack_lines.specs.declared.answer.Verdict.{Verdict}
+use Rattle.stack_lines.specs.declared.refusal.Refusal.{Refusal as CodeRefusal}
+use Rattle.stack_lines.specs.Refusals.{refusal_view, status_of}
+use Rattle.stack_lines.specs.Answers.{verdict_status}
 use Rattle.stack_cli.specs.OnePut.{greatest_start, PutsAnswer, PutsLine}
 use Rattle.stack_cli.proofs.Outcomes.{below_two, from_two}
 

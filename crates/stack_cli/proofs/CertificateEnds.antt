@@ -2,71 +2,84 @@
 use Rattle.std.proofs.Common.{◌≡◌, refl, sym, ap, subst, ◌∙◌, ℕ, ◌≤◌, List, [], ◌∷◌, Some, Result, Ok, Err, inl, inr}
 use Rattle.std.proofs.Common.{◌⊎◌, length}
 use Rattle.std.proofs.lemmas.Bool.{le-ltb}
-use Rattle.stack_model.specs.Structure.{Structure}
+use Rattle.stack_contact.specs.Surveyed.{Surveyed}
+use Rattle.stack_certificate.specs.Certificate.{CertificateValue}
 use Rattle.stack_equilibrium.specs.Truth.{IsTrueCertificate}
 use Rattle.stack_checker.specs.declared.types.Check.{Check}
 use Rattle.stack_checker.specs.declared.types.Check.TheVariants.{Accepted, Rejected, TooWide}
 use Rattle.stack_checker.specs.WrittenCheck.{written_check}
 use Rattle.stack_checker.proofs.Verdicts.{accepted_is_true, rejected_is_false}
-use Rattle.stack_cli.specs.declared.answer.Verdict.TheVariants.{Denied}
-use Rattle.stack_cli.specs.declared.refusal.Within.TheVariants.{Whole}
-use Rattle.stack_cli.specs.Refusals.{Refusal, faulty, wide_check}
-use Rattle.stack_cli.specs.Words.{Form, check}
-use Rattle.stack_cli.specs.Answers.{Due, exactly, verdict_status}
-use Rattle.stack_cli.specs.CheckText.{rejected_text}
-use Rattle.stack_cli.specs.Work.{Holds, Ends}
-use Rattle.stack_cli.specs.Surveying.{greatest_file, surveyed_file}
-use Rattle.stack_cli.specs.Checking.{place_of, check_step, checked, check_work}
-use Rattle.stack_cli.specs.Tables.{table_step, tabled_file, table_work}
-use Rattle.stack_cli.specs.OneEnd.{IsSettled}
-use Rattle.stack_cli.specs.Progress.{ToldNames, Bytes}
+use Rattle.stack_lines.specs.declared.answer.Verdict.TheVariants.{Denied}
+use Rattle.stack_lines.specs.declared.refusal.Within.TheVariants.{Whole}
+use Rattle.stack_lines.specs.Refusals.{Refusal, faulty, wide_check}
+use Rattle.stack_forms.specs.Forms.{Form, check, work_of}
+use Rattle.stack_lines.specs.Answers.{Due, exactly, verdict_status}
+use Rattle.stack_lines.specs.CheckText.{rejected_text, place_of}
+use Rattle.stack_forms.specs.Work.{Holds, Ends}
+use Rattle.stack_forms.specs.Surveying.{greatest_file, surveyed_file}
+use Rattle.stack_forms.specs.Checking.{Accepting, certificate_due, checked, certificate_work, accepted_due}
+use Rattle.stack_forms.specs.OneEnd.{IsSettled}
+use Rattle.stack_forms.specs.Progress.{ToldNames}
+use Rattle.stack_cli.specs.Delivery.{Bytes}
 use Rattle.stack_cli.specs.MainTheorem.{IsGivenOut, RunMeets}
 use Rattle.stack_cli.specs.Printed.{acceptance}
 use Rattle.stack_cli.specs.Accepted.{ModelAndCertificate, IsWideCheck}
-use Rattle.stack_cli.proofs.Ways.{goes_on}
-use Rattle.stack_cli.proofs.AcceptedFiles.{all_accepted}
+use Rattle.stack_forms.proofs.Ways.{goes_on}
+use Rattle.stack_forms.proofs.AcceptedFiles.{all_accepted}
 use Rattle.stack_cli.proofs.SettledEnds.{given_or_memory}
 
 -- the way to the check's answer, and to what is made of it
-module _ (holds : Holds) (model name bytes text : List ℕ) (told : holds model ≡ Some bytes)
+module _ (due : Accepting) (holds : Holds) (model name bytes text : List ℕ) (told : holds model ≡ Some bytes)
     (held : holds name ≡ Some text) (short : length text ≤ greatest_file) (files : ModelAndCertificate bytes text)
     (end : Result Due Refusal) where
-  pub check_way : Ends holds (check_step files.survey.structure (written_check files.survey files.certificate)) [] end
-      → Ends holds (check_work model name) (model ∷ name ∷ []) end
-  unfolding check_work checked
-  check_way h = goes_on holds (surveyed_file model) (checked name) (model ∷ []) (name ∷ []) files.survey end
+  certificate_way : Ends holds
+      (certificate_due due files.survey files.certificate (written_check files.survey files.certificate)) [] end
+      → Ends holds (certificate_work due model name) (model ∷ name ∷ []) end
+  unfolding certificate_work checked
+  certificate_way h = goes_on holds (surveyed_file model) (checked due name) (model ∷ []) (name ∷ []) files.survey end
       (all_accepted holds model bytes files.survey told files.is_accepted)
       (refl, inr (text, rw held refl, rw (le-ltb greatest_file (length text) short, files.is_text) h))
 
-  pub table_way : Ends holds (table_step files.survey files.certificate (written_check files.survey files.certificate))
-      [] end
-      → Ends holds (table_work model name) (model ∷ name ∷ []) end
-  unfolding table_work tabled_file
-  table_way h = goes_on holds (surveyed_file model) (tabled_file name) (model ∷ []) (name ∷ []) files.survey end
-      (all_accepted holds model bytes files.survey told files.is_accepted)
-      (refl, inr (text, rw held refl, rw (le-ltb greatest_file (length text) short, files.is_text) h))
+-- how it ends by the check, where it ends so for an accepted certificate
+abbrev pub end_by : Result Due Refusal → Surveyed → Check → Result Due Refusal
+end_by e v Accepted = e
+end_by e v (Rejected part reason) = Ok (exactly Denied (rejected_text v.structure part reason))
+end_by e v (TooWide place) = Err (faulty (wide_check Whole place.part (place_of v.structure place.at)))
 
--- how a check ends by its answer
-abbrev end_of : Structure → Check → Result Due Refusal
-end_of s Accepted = acceptance
-end_of s (Rejected part reason) = Ok (exactly Denied (rejected_text s part reason))
-end_of s (TooWide place) = Err (faulty (wide_check Whole place.part (place_of s place.at)))
+step_ends : (due : Accepting) (holds : Holds) (v : Surveyed) (c : CertificateValue) (e : Result Due Refusal)
+    → Ends holds (due v c) [] e → (k : Check) → Ends holds (certificate_due due v c k) [] (end_by e v k)
+step_ends due holds v c e h Accepted = h
+step_ends due holds v c e h (Rejected part reason) = (refl, refl)
+step_ends due holds v c e h (TooWide place) = (refl, inl refl)
 
-step_ends : (holds : Holds) (s : Structure) (k : Check) → Ends holds (check_step s k) [] (end_of s k)
-step_ends holds s Accepted = (refl, refl)
-step_ends holds s (Rejected part reason) = (refl, refl)
-step_ends holds s (TooWide place) = (refl, inl refl)
+end_settled : (e : Result Due Refusal) → IsSettled e → (v : Surveyed) (k : Check) → IsSettled (end_by e v k)
+end_settled e settled v Accepted = settled
+end_settled e settled v (Rejected part reason) = tt
+end_settled e settled v (TooWide place) = tt
 
-is_settled : (s : Structure) (k : Check) → IsSettled (end_of s k)
-is_settled s Accepted = tt
-is_settled s (Rejected part reason) = tt
-is_settled s (TooWide place) = tt
+-- what a run on a certificate gives out, by its check
+module _ (due : Accepting) (form : Form) (status : ℕ) (holds : Holds) (asked asked_after : ToldNames)
+    (out out_after err err_after : Bytes) (S O E : Type 0) (model name bytes text : List ℕ)
+    (as_work : (names : List (List ℕ)) (end : Result Due Refusal)
+    → Ends holds (certificate_work due model name) names end → Ends holds (work_of form) names end)
+    (m : RunMeets status (Some form) holds asked asked_after out out_after err err_after S O E)
+    (told : holds model ≡ Some bytes) (held : holds name ≡ Some text) (no_shelf : ¬ S) (no_output : ¬ O)
+    (short : length text ≤ greatest_file) (files : ModelAndCertificate bytes text) (e : Result Due Refusal)
+    (settled : IsSettled e) (ends : Ends holds (due files.survey files.certificate) [] e) where
+  pub given_by : (k : Check) → written_check files.survey files.certificate ≡ k
+      → (status ≡ 11) ⊎ IsGivenOut (end_by e files.survey k) status out out_after err err_after E
+  given_by k is = given_or_memory m no_shelf no_output (model ∷ name ∷ []) ((bytes, told), ((text, held), tt))
+      (end_by e files.survey k) (end_settled e settled files.survey k)
+      (as_work (model ∷ name ∷ []) (end_by e files.survey k)
+      (certificate_way due holds model name bytes text told held short files (end_by e files.survey k)
+      (subst (λ d. Ends holds (certificate_due due files.survey files.certificate d) [] (end_by e files.survey k))
+      (sym is) (step_ends due holds files.survey files.certificate e ends k))))
 
 module _ (status : ℕ) (out out_after err err_after : Bytes) (E : Type 0) (bytes text : List ℕ)
     (files : ModelAndCertificate bytes text) where
   abbrev Given : Check → Type 0
   Given k = (status ≡ 11)
-      ⊎ IsGivenOut (end_of files.survey.structure k) status out out_after err err_after E
+      ⊎ IsGivenOut (end_by acceptance files.survey k) status out out_after err err_after E
 
   abbrev Decides : ℕ → Type 0
   Decides n = (status ≡ n) ⊎ ((IsWideCheck files × (status ≡ 7)) ⊎ (status ≡ 11))
@@ -95,11 +108,8 @@ module _ (status : ℕ) (holds : Holds) (asked asked_after : ToldNames) (out out
     (short : length text ≤ greatest_file) (files : ModelAndCertificate bytes text) where
   given : (k : Check) → written_check files.survey files.certificate ≡ k
       → Given status out out_after err err_after E bytes text files k
-  given k is = given_or_memory m no_shelf no_output (model ∷ name ∷ []) ((bytes, told), ((text, held), tt))
-      (end_of files.survey.structure k) (is_settled files.survey.structure k)
-      (check_way holds model name bytes text told held short files (end_of files.survey.structure k)
-      (subst (λ d. Ends holds (check_step files.survey.structure d) [] (end_of files.survey.structure k)) (sym is)
-      (step_ends holds files.survey.structure k)))
+  given = given_by accepted_due (check model name) status holds asked asked_after out out_after err err_after S O E
+      model name bytes text (λ names end h. h) m told held no_shelf no_output short files acceptance tt (refl, refl)
 
   pub decides_true : IsTrueCertificate files.survey files.certificate
       → (status ≡ 0) ⊎ ((IsWideCheck files × (status ≡ 7)) ⊎ (status ≡ 11))

@@ -1,10 +1,9 @@
 -- How a run of `check` or `table` refuses the certificate's file, out of the theorem on the top call.
 use Rattle.std.proofs.Common.{◌≡◌, ◌≢◌, refl, sym, subst, ap, ◌∙◌, ℕ, ◌<◌, ◌≤◌, Bool, true, false, List, [], ◌∷◌, Some}
 use Rattle.std.proofs.Common.{Option, None, Result, Ok, Err, inl, inr, ◌⊎◌, length, arith}
-use Rattle.std.specs.Prelude.{if◌then◌else◌, ⊤}
+use Rattle.std.specs.Prelude.{if◌then◌else◌}
 use Rattle.std.proofs.Math.Dec.{ltb}
 use Rattle.std.proofs.lemmas.Bool.{ltb-false, ltb-true, le-ltb, lt-ltb}
-use Rattle.stack_model.specs.Structure.{Structure}
 use Rattle.stack_contact.specs.Surveyed.{Surveyed}
 use Rattle.stack_certificate.specs.Certificate.{CertificateValue}
 use Rattle.stack_certificate.specs.CertificateOf.{certificate_of}
@@ -12,26 +11,26 @@ use Rattle.stack_checker.specs.declared.types.Check.{Check}
 use Rattle.stack_checker.specs.declared.types.Check.TheVariants.{Accepted, Rejected, TooWide}
 use Rattle.stack_checker.specs.WrittenCheck.{written_check}
 use Rattle.stack_report.specs.ForceNumbers.{wide_index}
-use Rattle.stack_cli.specs.declared.refusal.Input.TheVariants as inputs
-use Rattle.stack_cli.specs.Refusals.{Refusal, Fault, words, file, faulty, output, memory, long, certificate_line}
-use Rattle.stack_cli.specs.Refusals.{fault_status, status_of}
-use Rattle.stack_cli.specs.Words.{Form, check, tables}
-use Rattle.stack_cli.specs.Answers.{Due}
-use Rattle.stack_cli.specs.Work.{Work, gives, refuses, ◌>>=◌, Holds, Ends}
-use Rattle.stack_cli.specs.Surveying.{greatest_file, read, surveyed_file}
-use Rattle.stack_cli.specs.Checking.{certificate_step, check_step, checked, check_work}
-use Rattle.stack_cli.specs.Tables.{tabled_by, table_step, tabled_file, table_work}
-use Rattle.stack_cli.specs.AcceptedModel.{IsAcceptedModel}
-use Rattle.stack_cli.specs.Forms.{work_of}
-use Rattle.stack_cli.specs.OneEnd.{IsSettled}
-use Rattle.stack_cli.specs.Progress.{ToldNames, Bytes}
+use Rattle.stack_lines.specs.declared.refusal.Input.TheVariants as inputs
+use Rattle.stack_lines.specs.Refusals.{Refusal, Fault, words, file, faulty, output, memory, long, certificate_line}
+use Rattle.stack_lines.specs.Refusals.{status_of}
+use Rattle.stack_forms.specs.Forms.{Form, work_of}
+use Rattle.stack_lines.specs.Answers.{Due}
+use Rattle.stack_forms.specs.Work.{Work, gives, refuses, ◌>>=◌, Holds, Ends}
+use Rattle.stack_forms.specs.Surveying.{greatest_file, read, surveyed_file}
+use Rattle.stack_forms.specs.Checking.{Accepting, certificate_step, certificate_due, checked, certificate_work}
+use Rattle.stack_forms.specs.Checking.{accepted_due}
+use Rattle.stack_forms.specs.Tables.{tabled_by, table_due}
+use Rattle.stack_forms.specs.AcceptedModel.{IsAcceptedModel}
+use Rattle.stack_forms.specs.OneEnd.{IsSettled}
+use Rattle.stack_forms.specs.Progress.{ToldNames}
+use Rattle.stack_cli.specs.Delivery.{Bytes}
 use Rattle.stack_cli.specs.MainTheorem.{Cause, RunMeets}
 use Rattle.stack_cli.specs.ModelSaid.{IsRefused, CertificateSays, ReadsCertificate}
-use Rattle.stack_cli.proofs.Ways.{goes_on}
-use Rattle.stack_cli.proofs.AcceptedFiles.{told_bytes, all_accepted}
-use Rattle.stack_cli.proofs.RefusedFrom.{CameOf, refused_from, Avoids, avoids_end}
-use Rattle.stack_cli.proofs.ModelAnswered.{Why, for_memory, for_file, for_length, for_fault, surveyed_why}
-use Rattle.stack_cli.proofs.ModelAnswered.{model_status}
+use Rattle.stack_forms.proofs.Ways.{goes_on}
+use Rattle.stack_forms.proofs.AcceptedFiles.{told_bytes, all_accepted}
+use Rattle.stack_forms.proofs.RefusedFrom.{CameOf, refused_from, Avoids, avoids_end}
+use Rattle.stack_cli.proofs.ModelAnswered.{Why, for_memory, for_file, for_length, for_fault, surveyed_why, model_status}
 use Rattle.stack_cli.proofs.SettledEnds.{given_or_memory}
 
 -- the work on a certificate's file beside a survey, up to what is done with the certificate
@@ -47,33 +46,29 @@ abbrev Reads : Form → List ℕ → List ℕ → Type 0
 Reads form model name = (last : Surveyed → CertificateValue → Work Due)
     × (work_of form ≡ surveyed_file model >>= on_file last name) × IsLast last
 
-check_last : (s : Structure) (k : Check) → Avoids 4 (check_step s k) × Avoids 6 (check_step s k)
-check_last s Accepted = (tt, tt)
-check_last s (Rejected part reason) = (tt, tt)
-check_last s (TooWide place) = (λ e. absurd (omega (arith, e)), λ e. absurd (omega (arith, e)))
-
 index_last : (v : Surveyed) (c : CertificateValue) (o : Option ℕ)
     → Avoids 4 (tabled_by v c o) × Avoids 6 (tabled_by v c o)
 index_last v c None = (tt, tt)
 index_last v c (Some index) = (λ e. absurd (omega (arith, e)), λ e. absurd (omega (arith, e)))
 
-table_last : (v : Surveyed) (c : CertificateValue) (k : Check)
-    → Avoids 4 (table_step v c k) × Avoids 6 (table_step v c k)
-table_last v c Accepted = index_last v c (wide_index v c)
-table_last v c (Rejected part reason) = (tt, tt)
-table_last v c (TooWide place) = (λ e. absurd (omega (arith, e)), λ e. absurd (omega (arith, e)))
+due_last : (due : Accepting) → ((v : Surveyed) (c : CertificateValue) → Avoids 4 (due v c) × Avoids 6 (due v c))
+    → (v : Surveyed) (c : CertificateValue) (k : Check)
+    → Avoids 4 (certificate_due due v c k) × Avoids 6 (certificate_due due v c k)
+due_last due h v c Accepted = h v c
+due_last due h v c (Rejected part reason) = (tt, tt)
+due_last due h v c (TooWide place) = (λ e. absurd (omega (arith, e)), λ e. absurd (omega (arith, e)))
 
 reads : (form : Form) (model name : List ℕ) → ReadsCertificate form model name → Reads form model name
-unfolding check_work checked table_work tabled_file
+unfolding certificate_work checked
 reads form model name (inl is) = subst (λ f. Reads f model name) (sym is) (
-  λ v c. check_step v.structure (written_check v c),
+  λ v c. certificate_due accepted_due v c (written_check v c),
   refl,
-  λ v c. check_last v.structure (written_check v c),
+  λ v c. due_last accepted_due (λ w d. (tt, tt)) v c (written_check v c),
 )
 reads form model name (inr is) = subst (λ f. Reads f model name) (sym is) (
-  λ v c. table_step v c (written_check v c),
+  λ v c. certificate_due table_due v c (written_check v c),
   refl,
-  λ v c. table_last v c (written_check v c),
+  λ v c. due_last table_due (λ w d. index_last w d (wide_index w d)) v c (written_check v c),
 )
 
 -- the ends of that work on a file that is told
@@ -171,8 +166,8 @@ module _ (holds : Holds) (r : Refusal) (model name bytes text : List ℕ) (told 
       (λ e. absurd (omega (arith, e))) (λ v d. (is v d).1) c.0 r six name text c.2 held c.4)
 
 -- a refusal with one of the statuses of the work is one of it
-caused_by : (n : ℕ) (r : Refusal) (holds : Holds) (form : Form) (names : List (List ℕ)) (S O : Type 0) → status_of r ≡ n
-    → n ≢ 2 → n ≢ 3 → n ≢ 10 → n ≢ 11 → Cause r holds (Some form) names S O
+pub caused_by : (n : ℕ) (r : Refusal) (holds : Holds) (form : Form) (names : List (List ℕ)) (S O : Type 0)
+    → status_of r ≡ n → n ≢ 2 → n ≢ 3 → n ≢ 10 → n ≢ 11 → Cause r holds (Some form) names S O
     → Ends holds (work_of form) names (Err r)
 caused_by n words holds form names S O at a b c d cause = absurd (a (sym at))
 caused_by n (file input) holds form names S O at a b c d cause = absurd (b (sym at))

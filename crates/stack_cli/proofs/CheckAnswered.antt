@@ -1,16 +1,18 @@
 -- What the status of a run of `check` says of its two files, out of the theorem on the top call.
 use Rattle.std.proofs.Common.{◌≡◌, subst, ap, ◌∙◌, ℕ, ◌<◌, List, Option, Some, arith}
 use Rattle.std.specs.Io.KnownBytes.{Appends}
-use Rattle.stack_cli.specs.declared.answer.Verdict.{Verdict}
-use Rattle.stack_cli.specs.declared.answer.Verdict.TheVariants.{Affirmed, Denied}
-use Rattle.stack_cli.specs.Words.{Form, check}
-use Rattle.stack_cli.specs.Answers.{Due, exactly, IsAnswer, verdict_status}
-use Rattle.stack_cli.specs.Work.{Holds}
-use Rattle.stack_cli.specs.Progress.{ToldNames, Bytes}
+use Rattle.stack_lines.specs.declared.answer.Verdict.{Verdict}
+use Rattle.stack_lines.specs.declared.answer.Verdict.TheVariants.{Affirmed, Denied}
+use Rattle.stack_forms.specs.Forms.{Form, check}
+use Rattle.stack_lines.specs.Answers.{Due, exactly, IsAnswer, verdict_status}
+use Rattle.stack_forms.specs.Work.{Holds}
+use Rattle.stack_forms.specs.Progress.{ToldNames}
+use Rattle.stack_cli.specs.Delivery.{Bytes}
 use Rattle.stack_cli.specs.MainTheorem.{Answered, RunMeets}
-use Rattle.stack_cli.specs.CheckText.{accepted_text}
+use Rattle.stack_lines.specs.CheckText.{accepted_text}
 use Rattle.stack_cli.specs.Accepted.{HoldTrueCertificate, HoldFalseCertificate, CheckSays}
-use Rattle.stack_cli.proofs.CheckEnds.{Said, said_by, hold_true, hold_false}
+use Rattle.stack_cli.proofs.CertificateSaid.{hold_true, hold_false}
+use Rattle.stack_cli.proofs.CheckEnds.{Said, said_by}
 use Rattle.stack_cli.proofs.CertificateEnds.{decides_true, decides_false}
 
 -- what the statuses 0 and 1 say
@@ -22,12 +24,12 @@ says : (bytes text : List ℕ) (status : ℕ) (out out_after : Bytes) (due : Due
     → Said bytes text due → IsAnswer due verdict answer → status ≡ verdict_status verdict
     → Appends out out_after answer → Answers bytes text status out out_after
 says bytes text status out out_after (exactly Affirmed line) verdict answer s is at put = record {
-  accepted = λ e. (hold_true bytes text line s, subst (Appends out out_after) (is.1 ∙ s.1.1) put);
+  accepted = λ e. (hold_true bytes text s.0 s.1.0, subst (Appends out out_after) (is.1 ∙ s.1.1) put);
   rejected = λ e. let h : status ≡ 0 = at ∙ ap verdict_status is.0 in absurd (omega (arith, h, e));
 }
 says bytes text status out out_after (exactly Denied line) verdict answer s is at put = record {
   accepted = λ e. let h : status ≡ 1 = at ∙ ap verdict_status is.0 in absurd (omega (arith, h, e));
-  rejected = λ e. (line, hold_false bytes text line s, subst (Appends out out_after) is.1 put);
+  rejected = λ e. (line, hold_false bytes text line s.0 s.1, subst (Appends out out_after) is.1 put);
 }
 says bytes text status out out_after _ verdict answer s is at put = absurd s.1
 

@@ -2,18 +2,17 @@
 use Rattle.std.proofs.Common.{◌≡◌, ℕ, zero, suc, ◌<◌, ◌≤◌, ◌⊎◌, inl, inr, List, Option, None, Result}
 use Rattle.std.proofs.Common.{Ok, Err, subst, sym, ap, ◌∙◌, refl, arith}
 use Rattle.std.specs.Io.KnownBytes.{Keeps}
-use Rattle.stack_cli.specs.declared.answer.Answer.{Answer}
-use Rattle.stack_cli.specs.declared.refusal.Refusal.{Refusal as CodeRefusal}
-use Rattle.stack_cli.specs.declared.refusal.Refusal.TheVariants as code
-use Rattle.stack_cli.specs.Words.{Form}
-use Rattle.stack_cli.specs.Refusals.{Refusal, words, file, faulty, output, refusal_view, status_of}
-use Rattle.stack_cli.specs.Refusals.{memory}
-use Rattle.stack_cli.specs.Answers.{Due}
-use Rattle.stack_cli.specs.Work.{Holds}
-use Rattle.stack_cli.specs.Progress.{ToldNames, IsCausedBy, Way, Works, Bytes, SaysLine}
-use Rattle.stack_cli.specs.Progress.{Delivers}
-use Rattle.stack_cli.proofs.FilesNamed.{asked_named}
-use Rattle.stack_cli.proofs.Steps.{none_asked}
+use Rattle.stack_lines.specs.declared.answer.Answer.{Answer}
+use Rattle.stack_lines.specs.declared.refusal.Refusal.{Refusal as CodeRefusal}
+use Rattle.stack_lines.specs.declared.refusal.Refusal.TheVariants as code
+use Rattle.stack_forms.specs.Forms.{Form}
+use Rattle.stack_lines.specs.Refusals.{Refusal, words, file, faulty, output, refusal_view, status_of, memory}
+use Rattle.stack_lines.specs.Answers.{Due}
+use Rattle.stack_forms.specs.Work.{Holds}
+use Rattle.stack_forms.specs.Progress.{ToldNames, IsCausedBy, Way, Works}
+use Rattle.stack_cli.specs.Delivery.{Bytes, SaysLine, Delivers}
+use Rattle.stack_forms.proofs.FilesNamed.{asked_named}
+use Rattle.stack_forms.proofs.Steps.{none_asked}
 use Rattle.stack_cli.specs.MainTheorem.{Answered, OutputAfter, Cause, Refused, IsGivenOut, RunMeets}
 use Rattle.stack_cli.proofs.Outcomes.{kept_same, refusal_or, IsWords, not_output, only_none, below_two, fault_above}
 use Rattle.stack_cli.proofs.Outcomes.{fault_past_output, from_two, Reaches, works_reach}

@@ -9,28 +9,29 @@ use Rattle.stack_overhang.specs.declared.error.StackError.TheVariants as built
 use Rattle.stack_contact.specs.Surveyed.{Surveyed, IsSurvey}
 use Rattle.stack_certificate.specs.Certificate.{CertificateValue}
 use Rattle.stack_equilibrium.specs.declared.types.Question.TheVariants.{Live}
-use Rattle.stack_judge.specs.Judgement.{Judgement, certified, too_wide, spent, judgement}
+use Rattle.stack_judge.specs.Judgement.{Judgement, certified, too_wide, spent, unjudged, judgement}
 use Rattle.stack_judge.specs.Judged.{IsJudged}
 use Rattle.stack_judge.specs.NarrowWork.{is_narrow}
 use Rattle.stack_report.specs.ContactTable.{contacts_text}
 use Rattle.stack_report.specs.Summary.{summary_text}
-use Rattle.stack_cli.specs.declared.words.Kind.{Kind}
-use Rattle.stack_cli.specs.declared.answer.Verdict.{Verdict}
-use Rattle.stack_cli.specs.declared.answer.Verdict.TheVariants.{Affirmed}
-use Rattle.stack_cli.specs.Refusals.{Refusal, words, file, faulty, output, memory, size, status_of}
-use Rattle.stack_cli.specs.Words.{Form, contacts, stack, sample, default_budget}
-use Rattle.stack_cli.specs.Answers.{Due, exactly, document, summary, IsAnswer, verdict_status}
-use Rattle.stack_cli.specs.Work.{gives, surveys, ◌>>=◌, Found, Holds, MayFind, Ends}
-use Rattle.stack_cli.specs.Surveying.{survey_step, surveyed_file}
-use Rattle.stack_cli.specs.Listing.{contacts_due, contacts_work}
-use Rattle.stack_cli.specs.Stacking.{stack_of, built_step, stack_work}
-use Rattle.stack_cli.specs.Sampling.{sample_of, sample_step, sampled, wall_sampled, sample_work}
-use Rattle.stack_cli.specs.AcceptedModel.{IsAcceptedModel}
-use Rattle.stack_cli.specs.Progress.{ToldNames, Bytes}
+use Rattle.stack_forms.specs.declared.forms.Kind.{Kind}
+use Rattle.stack_lines.specs.declared.answer.Verdict.TheVariants.{Affirmed}
+use Rattle.stack_lines.specs.Refusals.{Refusal, words, file, faulty, output, memory, size, status_of}
+use Rattle.stack_forms.specs.Forms.{Form, contacts, stack, sample}
+use Rattle.stack_forms.specs.Judging.{default_budget}
+use Rattle.stack_lines.specs.Answers.{Due, exactly, document, summary, IsAnswer, verdict_status}
+use Rattle.stack_forms.specs.Work.{gives, ◌>>=◌, Found, Holds, MayFind, Ends}
+use Rattle.stack_forms.specs.Surveying.{survey_step, surveyed_file}
+use Rattle.stack_forms.specs.Listing.{contacts_due, contacts_work}
+use Rattle.stack_forms.specs.Stacking.{stack_of, built_step, stack_work}
+use Rattle.stack_forms.specs.Sampling.{sample_of, sample_step, sampled, wall_sampled, sample_work}
+use Rattle.stack_forms.specs.AcceptedModel.{IsAcceptedModel}
+use Rattle.stack_forms.specs.Progress.{ToldNames}
+use Rattle.stack_cli.specs.Delivery.{Bytes}
 use Rattle.stack_cli.specs.MainTheorem.{Cause, IsGivenOut, RunMeets}
 use Rattle.stack_cli.specs.Said.{Writes, ContactsSay, StackSays, SampleSays}
-use Rattle.stack_cli.proofs.Ways.{goes_on, came_from}
-use Rattle.stack_cli.proofs.AcceptedFiles.{only_accepted, all_accepted}
+use Rattle.stack_forms.proofs.Ways.{goes_on, came_from}
+use Rattle.stack_forms.proofs.AcceptedFiles.{only_accepted, all_accepted}
 use Rattle.stack_cli.proofs.SettledEnds.{given_or_memory}
 
 -- exactly this text, affirmed, was given out, unless memory is wanting
@@ -188,6 +189,7 @@ judged_end : (holds : Holds) (number : ℕ) (v : Surveyed) (j : Judgement) (name
 judged_end holds number v (certified c) names due p = (c, p.1)
 judged_end holds number v (too_wide place) names due p = absurd p.1
 judged_end holds number v spent names due p = absurd p.1
+judged_end holds number v unjudged names due p = absurd p.1
 
 found_end : (holds : Holds) (number : ℕ) (s : Structure) (found : Found) (names : List (List ℕ)) (due : Due)
     → sample_of number ≡ Ok s → MayFind s found

@@ -1,35 +1,36 @@
 -- The five cases of `stand` and `load`, out of the theorem on the top call and of the one end of their work.
-use Rattle.std.proofs.Common.{◌≡◌, refl, sym, subst, ap, ◌∙◌, ℕ, Bool, true, false, not, List, [], ◌∷◌, Option}
-use Rattle.std.proofs.Common.{Some, None, Result, Ok, Err, inl, inr, ◌⊎◌, arith}
-use Rattle.std.specs.Io.KnownBytes.{Keeps}
+use Rattle.std.proofs.Common.{◌≡◌, refl, subst, ap, ◌∙◌, ℕ, Bool, true, false, not, List, [], ◌∷◌, Option}
+use Rattle.std.proofs.Common.{Some, None, Result, Ok, Err, inl, inr, ◌⊎◌}
 use Rattle.stack_algebra.specs.Fraction.{Fraction}
 use Rattle.stack_model.specs.Structure.{Structure, HasLive, lists_live}
 use Rattle.stack_contact.specs.Surveyed.{Surveyed}
 use Rattle.stack_certificate.specs.Certificate.{CertificateValue}
 use Rattle.stack_equilibrium.specs.declared.types.Question.{Question}
 use Rattle.stack_equilibrium.specs.declared.types.Question.TheVariants.{Dead, Live}
-use Rattle.stack_duality.specs.WrittenRun.{End, infeasible, feasible, optimal, ray, wide, over}
+use Rattle.stack_run.specs.WrittenRun.{End, infeasible, feasible, optimal, ray, wide, over, never}
 use Rattle.stack_judge.specs.declared.types.JudgePlace.{JudgePlace}
 use Rattle.stack_judge.specs.declared.types.JudgePlace.TheVariants as places
 use Rattle.stack_judge.specs.EndPlace.{end_place}
-use Rattle.stack_judge.specs.Judgement.{Judgement, certified, too_wide, spent, judged_by, judgement_of, judgement}
-use Rattle.stack_judge.specs.Judgement.{survey_run, LacksLive}
-use Rattle.stack_cli.specs.Refusals.{Refusal, file, faulty, output, memory, over_budget, no_live, status_of}
-use Rattle.stack_cli.specs.Words.{Form, judges}
-use Rattle.stack_cli.specs.Answers.{Due, certificate, verdict_status}
-use Rattle.stack_cli.specs.Work.{Holds, Ends}
-use Rattle.stack_cli.specs.Surveying.{surveyed_file}
-use Rattle.stack_cli.specs.Judging.{lacks_live, wide_fault, judged, judge_work}
-use Rattle.stack_cli.specs.AcceptedModel.{IsAcceptedModel}
-use Rattle.stack_cli.specs.OneEnd.{IsSettled, IsSettledRefusal}
-use Rattle.stack_cli.specs.Progress.{ToldNames, Bytes, Way}
-use Rattle.stack_cli.specs.MainTheorem.{OutputAfter, IsGivenOut, RunMeets}
+use Rattle.stack_judge.specs.Judgement.{Judgement, certified, too_wide, spent, unjudged, judged_by, judgement_of}
+use Rattle.stack_judge.specs.Judgement.{judgement, survey_run, LacksLive}
+use Rattle.stack_judge.proofs.EachJudged.{each_end_is_judged}
+use Rattle.stack_lines.specs.Refusals.{Refusal, faulty, over_budget, no_live, status_of}
+use Rattle.stack_forms.specs.Forms.{Form, judges}
+use Rattle.stack_lines.specs.Answers.{Due, certificate, verdict_status}
+use Rattle.stack_forms.specs.Work.{Holds, Ends}
+use Rattle.stack_forms.specs.Surveying.{surveyed_file}
+use Rattle.stack_forms.specs.Judging.{lacks_live, wide_fault, judged, judge_work}
+use Rattle.stack_forms.specs.AcceptedModel.{IsAcceptedModel}
+use Rattle.stack_forms.specs.OneEnd.{IsSettled, IsSettledRefusal}
+use Rattle.stack_forms.specs.Progress.{ToldNames}
+use Rattle.stack_cli.specs.Delivery.{Bytes}
+use Rattle.stack_cli.specs.MainTheorem.{IsGivenOut, RunMeets}
 use Rattle.stack_cli.specs.Headline.{Prints, Leaves, IsWide, IsOver, Judging}
-use Rattle.stack_cli.proofs.Ways.{goes_on}
+use Rattle.stack_forms.proofs.Ways.{goes_on}
 use Rattle.stack_cli.proofs.SettledEnds.{kept_at_memory, given_or_memory as settled_given}
-use Rattle.stack_cli.proofs.AcceptedFiles.{all_accepted}
-use Rattle.stack_cli.proofs.JudgementEnds.{lists_some, listed_live, certificate_ends, wide_ends, spent_ends}
-use Rattle.stack_cli.proofs.JudgementEnds.{no_live_ends}
+use Rattle.stack_forms.proofs.AcceptedFiles.{all_accepted}
+use Rattle.stack_forms.proofs.JudgementEnds.{lists_some, listed_live, certificate_ends, wide_ends, spent_ends}
+use Rattle.stack_forms.proofs.JudgementEnds.{no_live_ends}
 
 -- what the test for a live load says
 lists_nothing : (s : Structure) → not (lists_live s) ≡ true → ¬ (HasLive s)
@@ -59,6 +60,7 @@ spent_only q v (optimal T) h = absurd (not_spent (end_place q v (optimal T)) _ h
 spent_only q v (ray T c) h = absurd (not_spent (end_place q v (ray T c)) _ h)
 spent_only q v (wide p k s) h = absurd cc
 spent_only q v over h = refl
+spent_only q v never h = absurd cc
 
 wide_status : (s : Structure) (p : JudgePlace) → status_of (faulty (wide_fault s p)) ≡ 7
 wide_status s (places.Run p) = refl
@@ -137,6 +139,7 @@ module _ (q : Question) (model : List ℕ) (budget : ℕ) (bytes : List ℕ) (v 
       (settled_wide p) (wide_ends q v budget holds p live is))
   of_judgement live spent is = overly (spent_only q v (survey_run q v budget) is)
       (given_or_memory (Err (faulty (over_budget budget))) tt (spent_ends q v budget holds live is))
+  of_judgement live unjudged is = absurd (each_end_is_judged q v budget is)
 
   lacking_ends : LacksLive q v → (status ≡ 11) ⊎ Given (Err (faulty no_live))
   lacking_ends none = given_or_memory (Err (faulty no_live)) tt (no_live_ends q v budget holds none)

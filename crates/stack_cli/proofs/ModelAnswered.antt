@@ -10,24 +10,23 @@ use Rattle.stack_model.specs.declared.errors.ModelError.{ModelError}
 use Rattle.stack_model.specs.declared.errors.ModelError.TheVariants as contents
 use Rattle.stack_reader.specs.declared.errors.ReadError.{ReadError}
 use Rattle.stack_reader.specs.declared.errors.ReadError.TheVariants as reading
-use Rattle.stack_contact.specs.Surveyed.{Surveyed, IsFirstOverlap, AreTooMany}
 use Rattle.stack_contact.specs.declared.types.SurveyError.TheVariants.{Overlap, TooManyBearings, Memory}
-use Rattle.stack_cli.specs.declared.refusal.Input.TheVariants as inputs
-use Rattle.stack_cli.specs.Refusals.{Refusal, Fault, words, file, faulty, output, memory, long, status_of, fault_status}
-use Rattle.stack_cli.specs.Refusals.{overlap, many_bearings}
-use Rattle.stack_cli.specs.Words.{Form, files_of}
-use Rattle.stack_cli.specs.Answers.{Due}
-use Rattle.stack_cli.specs.Work.{gives, refuses, surveys, ◌>>=◌, Found, Holds, MayFind, Ends}
-use Rattle.stack_cli.specs.Surveying.{greatest_file, from_read, model_step, survey_step, modelled, surveyed_file}
-use Rattle.stack_cli.specs.OneEnd.{IsSettledRefusal}
-use Rattle.stack_cli.specs.Forms.{work_of}
-use Rattle.stack_cli.specs.Progress.{ToldNames, Bytes, Way}
-use Rattle.stack_cli.specs.MainTheorem.{Cause, IsGivenOut, RunMeets}
+use Rattle.stack_lines.specs.declared.refusal.Input.TheVariants as inputs
+use Rattle.stack_lines.specs.Refusals.{Refusal, Fault, words, file, faulty, output, memory, long, status_of}
+use Rattle.stack_lines.specs.Refusals.{fault_status}
+use Rattle.stack_forms.specs.Forms.{Form, files_of, work_of}
+use Rattle.stack_forms.specs.Work.{gives, refuses, surveys, ◌>>=◌, Found, Holds, MayFind, Ends}
+use Rattle.stack_forms.specs.Surveying.{greatest_file, model_step, survey_step, modelled, surveyed_file}
+use Rattle.stack_lines.specs.Errors.{from_read}
+use Rattle.stack_forms.specs.OneEnd.{IsSettledRefusal}
+use Rattle.stack_forms.specs.Progress.{ToldNames}
+use Rattle.stack_cli.specs.Delivery.{Bytes}
+use Rattle.stack_cli.specs.MainTheorem.{Cause, RunMeets}
 use Rattle.stack_cli.specs.ModelSaid.{IsRefused, ModelFault, in_text, in_pair, in_count, model_fault, ModelSays}
-use Rattle.stack_cli.proofs.Ways.{stops}
-use Rattle.stack_cli.proofs.AcceptedFiles.{told_bytes}
-use Rattle.stack_cli.proofs.RefusedFrom.{CameOf, refused_from, avoids_end}
-use Rattle.stack_cli.proofs.Beginnings.{Begins, begins}
+use Rattle.stack_forms.proofs.Ways.{stops}
+use Rattle.stack_forms.proofs.AcceptedFiles.{told_bytes}
+use Rattle.stack_forms.proofs.RefusedFrom.{CameOf, refused_from, avoids_end}
+use Rattle.stack_forms.proofs.Beginnings.{Begins, begins}
 use Rattle.stack_cli.proofs.SettledEnds.{given_or_memory}
 
 -- the ends of the work on a model's file that is told
@@ -84,7 +83,7 @@ content_status contents.Memory some = absurd (some refl)
 content_status (contents.NoJointMaterial joint) some = refl
 content_status (contents.SameJoint joint) some = refl
 
-read_status : (e : ReadError) → from_read e ≢ memory → fault_status (from_read e) ≡ 5
+pub read_status : (e : ReadError) → from_read e ≢ memory → fault_status (from_read e) ≡ 5
 read_status reading.NotToml some = refl
 read_status (reading.UnknownKey spot) some = refl
 read_status (reading.Missing spot key) some = refl
@@ -102,7 +101,7 @@ is_memory : Fault → Bool
 is_memory memory = true
 is_memory _ = false
 
-of_memory : (f : Fault) → (f ≡ memory) ⊎ (f ≢ memory)
+pub of_memory : (f : Fault) → (f ≡ memory) ⊎ (f ≢ memory)
 of_memory memory = inl refl
 of_memory _ = inr (λ same. let t = ap is_memory same in cc)
 

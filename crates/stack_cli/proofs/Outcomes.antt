@@ -5,21 +5,20 @@ use Rattle.std.specs.Bool.{⊤}
 use Rattle.std.specs.Io.KnownBytes.{Appends, Keeps}
 use Rattle.stack_outside.specs.declared.error.SinkFailed.{SinkFailed}
 use Rattle.stack_outside.specs.Sinks.{Puts}
-use Rattle.stack_cli.specs.declared.answer.Answer.{Answer}
-use Rattle.stack_cli.specs.declared.answer.Verdict.{Verdict}
-use Rattle.stack_cli.specs.declared.answer.Verdict.TheVariants.{Affirmed, Denied}
-use Rattle.stack_cli.specs.declared.refusal.Refusal.{Refusal as CodeRefusal}
-use Rattle.stack_cli.specs.declared.refusal.Refusal.TheVariants as code
-use Rattle.stack_cli.specs.Words.{Form}
-use Rattle.stack_cli.specs.Refusals.{Refusal, words, file, faulty, output, refusal_view, status_of}
-use Rattle.stack_cli.specs.Refusals.{Fault, long, content, overlap, many_bearings, certificate_line, wide_check, memory}
-use Rattle.stack_cli.specs.Refusals.{size, order_line, directions_line, wide_run, wide_end, wide_reach, wide_table}
-use Rattle.stack_cli.specs.Refusals.{over_budget, no_live, no_pair}
-use Rattle.stack_cli.specs.Answers.{Due, verdict_status}
-use Rattle.stack_cli.specs.Work.{Work, gives, refuses, reads, surveys, Holds, Ends}
-use Rattle.stack_cli.specs.Forms.{work_of}
-use Rattle.stack_cli.specs.Progress.{ToldNames, GrewBy, Returns, AnswersDue, Way, Works, Bytes, SaysLine}
-use Rattle.stack_cli.specs.Progress.{Delivers}
+use Rattle.stack_lines.specs.declared.answer.Answer.{Answer}
+use Rattle.stack_lines.specs.declared.answer.Verdict.{Verdict}
+use Rattle.stack_lines.specs.declared.answer.Verdict.TheVariants.{Affirmed, Denied}
+use Rattle.stack_lines.specs.declared.refusal.Refusal.{Refusal as CodeRefusal}
+use Rattle.stack_lines.specs.declared.refusal.Refusal.TheVariants as code
+use Rattle.stack_forms.specs.Forms.{Form, work_of}
+use Rattle.stack_lines.specs.Refusals.{Refusal, words, file, faulty, output, refusal_view, status_of, Fault, long}
+use Rattle.stack_lines.specs.Refusals.{content, overlap, many_bearings, certificate_line, wide_check, memory, size}
+use Rattle.stack_lines.specs.Refusals.{order_line, directions_line, wide_run, wide_end, wide_reach, wide_table}
+use Rattle.stack_lines.specs.Refusals.{over_budget, no_live, no_pair}
+use Rattle.stack_lines.specs.Answers.{Due, verdict_status}
+use Rattle.stack_forms.specs.Work.{Work, gives, refuses, reads, surveys, Holds, Ends}
+use Rattle.stack_forms.specs.Progress.{ToldNames, GrewBy, Returns, AnswersDue, Way, Works}
+use Rattle.stack_cli.specs.Delivery.{Bytes, SaysLine, Delivers}
 
 -- An error stream that didn't fail took the whole line.
 pub line_put : (old new : Bytes) (piece : List ℕ) (result : Result ⊤ SinkFailed) (P : Type 0)

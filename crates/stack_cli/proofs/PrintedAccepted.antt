@@ -8,13 +8,13 @@ use Rattle.stack_certificate.specs.CertificateOf.{certificate_of}
 use Rattle.stack_certificate.specs.CertificateText.{IsCertificateText, FewHaveShortTexts, text_bound}
 use Rattle.stack_equilibrium.specs.declared.types.Question.{Question}
 use Rattle.stack_judge.specs.Judged.{IsJudged}
-use Rattle.stack_cli.specs.Work.{Holds, Ends}
-use Rattle.stack_cli.specs.Surveying.{greatest_file, surveyed_file}
-use Rattle.stack_cli.specs.Checking.{checked, check_work}
+use Rattle.stack_forms.specs.Work.{Holds, Ends}
+use Rattle.stack_forms.specs.Surveying.{greatest_file, surveyed_file}
+use Rattle.stack_forms.specs.Checking.{checked, accepted_due, certificate_work, check_work}
 use Rattle.stack_cli.specs.Printed.{acceptance, PrintedIsAccepted, PrintedIsShort}
-use Rattle.stack_cli.proofs.Ways.{goes_on}
-use Rattle.stack_cli.proofs.OneEnd.{one_end}
-use Rattle.stack_cli.proofs.AcceptedFiles.{all_accepted}
+use Rattle.stack_forms.proofs.Ways.{goes_on}
+use Rattle.stack_forms.proofs.OneEnd.{one_end}
+use Rattle.stack_forms.proofs.AcceptedFiles.{all_accepted}
 
 pub printed_short : FewHaveShortTexts → PrintedIsShort
 printed_short short q v c text judged is = subst (λ t. length t < text_bound) (sym is.is)
@@ -22,7 +22,7 @@ printed_short short q v c text judged is = subst (λ t. length t < text_bound) (
 
 checked_ends : (q : Question) (v : Surveyed) (c : CertificateValue) (holds : Holds) (name text : List ℕ)
     → length text ≤ greatest_file → certificate_of text ≡ Ok c → IsJudged q v c → holds name ≡ Some text
-    → Ends holds (checked name v) (name ∷ []) acceptance
+    → Ends holds (checked accepted_due name v) (name ∷ []) acceptance
 unfolding checked
 checked_ends q v c holds name text short reads judged told = (
   refl,
@@ -32,10 +32,10 @@ checked_ends q v c holds name text short reads judged told = (
 pub printed_accepted : ((c : CertificateValue) (bytes : List ℕ) → IsCertificateText c bytes → certificate_of bytes
     ≡ Ok c)
     → FewHaveShortTexts → PrintedIsAccepted
-unfolding check_work
+unfolding certificate_work
 printed_accepted reads short q v c holds model name bytes text told accepted judged is held =
     let fewer = printed_short short q v c text judged is in
-    let way = goes_on holds (surveyed_file model) (checked name) (model ∷ []) (name ∷ []) v acceptance
+    let way = goes_on holds (surveyed_file model) (checked accepted_due name) (model ∷ []) (name ∷ []) v acceptance
     (all_accepted holds model bytes v told accepted)
     (checked_ends q v c holds name text (omega (arith, fewer)) (reads c text is) judged held) in (
       way,

@@ -1,32 +1,33 @@
 -- What `stand` and `load` print is true whatever the devices do, and is accepted by `check`: out of the theorem on the
 -- top call.
-use Rattle.std.proofs.Common.{◌≡◌, refl, sym, subst, ap, ◌∙◌, ℕ, zero, suc, ◌<◌, ◌≤◌, Bool, true, false, List, []}
-use Rattle.std.proofs.Common.{◌∷◌, Option, Some, Result, Ok, Err, inl, inr, ◌⊎◌, arith}
+use Rattle.std.proofs.Common.{◌≡◌, sym, subst, ap, ◌∙◌, ℕ, zero, suc, ◌<◌, ◌≤◌, Bool, true, false, List}
+use Rattle.std.proofs.Common.{Option, Some, Result, Ok, Err, inl, inr, arith}
 use Rattle.std.specs.Prelude.{if◌then◌else◌}
 use Rattle.std.specs.Io.KnownBytes.{Appends}
 use Rattle.stack_contact.specs.Surveyed.{Surveyed}
 use Rattle.stack_certificate.specs.Certificate.{CertificateValue}
 use Rattle.stack_certificate.specs.CertificateText.{IsCertificateText}
 use Rattle.stack_equilibrium.specs.declared.types.Question.{Question}
-use Rattle.stack_judge.specs.Judgement.{Judgement, certified, too_wide, spent, judgement}
+use Rattle.stack_judge.specs.Judgement.{Judgement, certified, too_wide, spent, unjudged, judgement}
 use Rattle.stack_judge.specs.Judged.{IsJudged}
-use Rattle.stack_cli.specs.declared.answer.Verdict.TheVariants.{Affirmed}
-use Rattle.stack_cli.specs.Refusals.{Refusal, words, file, faulty, output, memory, no_live, status_of}
-use Rattle.stack_cli.specs.Words.{Form, judges, check}
-use Rattle.stack_cli.specs.Answers.{Due, exactly, certificate, IsAnswer, verdict_status}
-use Rattle.stack_cli.specs.CheckText.{accepted_text}
-use Rattle.stack_cli.specs.Work.{refuses, Holds, Ends}
-use Rattle.stack_cli.specs.Surveying.{surveyed_file}
-use Rattle.stack_cli.specs.Checking.{check_work}
-use Rattle.stack_cli.specs.Judging.{lacks_live, judged_step, judged, judge_work}
-use Rattle.stack_cli.specs.OneEnd.{IsSettled}
-use Rattle.stack_cli.specs.AcceptedModel.{IsAcceptedModel}
-use Rattle.stack_cli.specs.Progress.{ToldNames, Bytes}
+use Rattle.stack_lines.specs.declared.answer.Verdict.TheVariants.{Affirmed}
+use Rattle.stack_lines.specs.Refusals.{Refusal, words, file, faulty, output, memory, no_live, status_of}
+use Rattle.stack_forms.specs.Forms.{Form, judges, check}
+use Rattle.stack_lines.specs.Answers.{Due, exactly, certificate, IsAnswer, verdict_status}
+use Rattle.stack_lines.specs.CheckText.{accepted_text}
+use Rattle.stack_forms.specs.Work.{refuses, Holds, Ends}
+use Rattle.stack_forms.specs.Surveying.{surveyed_file}
+use Rattle.stack_forms.specs.Checking.{check_work}
+use Rattle.stack_forms.specs.Judging.{lacks_live, judged_step, judged, judge_work}
+use Rattle.stack_forms.specs.OneEnd.{IsSettled}
+use Rattle.stack_forms.specs.AcceptedModel.{IsAcceptedModel}
+use Rattle.stack_forms.specs.Progress.{ToldNames}
+use Rattle.stack_cli.specs.Delivery.{Bytes}
 use Rattle.stack_cli.specs.MainTheorem.{Answered, Refused, Cause, RunMeets}
-use Rattle.stack_cli.specs.Headline.{Prints, PrintsOfFile}
+use Rattle.stack_cli.specs.Headline.{PrintsOfFile}
 use Rattle.stack_cli.specs.Printed.{acceptance, PrintedIsAccepted, IsAcceptedAgain}
-use Rattle.stack_cli.proofs.Ways.{came_from}
-use Rattle.stack_cli.proofs.AcceptedFiles.{only_accepted}
+use Rattle.stack_forms.proofs.Ways.{came_from}
+use Rattle.stack_forms.proofs.AcceptedFiles.{only_accepted}
 
 -- an answer is a certificate of the question
 judged_end : (holds : Holds) (q : Question) (budget : ℕ) (v : Surveyed) (j : Judgement) (names : List (List ℕ))
@@ -35,6 +36,7 @@ judged_end : (holds : Holds) (q : Question) (budget : ℕ) (v : Surveyed) (j : J
 judged_end holds q budget v (certified c) names due p = (c, p.1)
 judged_end holds q budget v (too_wide place) names due p = absurd p.1
 judged_end holds q budget v spent names due p = absurd p.1
+judged_end holds q budget v unjudged names due p = absurd p.1
 
 asked_end : (holds : Holds) (q : Question) (budget : ℕ) (v : Surveyed) (b : Bool) (names : List (List ℕ)) (due : Due)
     → Ends holds (if b then refuses no_live else judged_step q budget v (judgement q v budget)) names (Ok due)

@@ -6,20 +6,21 @@ use Rattle.stack_contact.specs.Surveyed.{Surveyed}
 use Rattle.stack_equilibrium.specs.declared.types.Question.TheVariants.{Live}
 use Rattle.stack_range.specs.Ranged.{RangeValue, collapsing, between}
 use Rattle.stack_range.specs.RangeJudgement.{RangeJudgement, told, wide_on, spent_on, range_judgement}
-use Rattle.stack_cli.specs.declared.answer.Verdict.{Verdict}
-use Rattle.stack_cli.specs.Words.{Form, ranges}
-use Rattle.stack_cli.specs.Refusals.{no_live}
-use Rattle.stack_cli.specs.Answers.{Due, ranged, IsRangeOf, IsAnswer, verdict_status}
-use Rattle.stack_cli.specs.Work.{refuses, Holds, Ends}
-use Rattle.stack_cli.specs.Surveying.{surveyed_file}
-use Rattle.stack_cli.specs.Judging.{lacks_live}
-use Rattle.stack_cli.specs.Ranging.{range_step, range_told, range_work}
-use Rattle.stack_cli.specs.AcceptedModel.{IsAcceptedModel}
-use Rattle.stack_cli.specs.Progress.{ToldNames, Bytes}
+use Rattle.stack_lines.specs.declared.answer.Verdict.{Verdict}
+use Rattle.stack_forms.specs.Forms.{Form, ranges}
+use Rattle.stack_lines.specs.Refusals.{no_live}
+use Rattle.stack_lines.specs.Answers.{Due, ranged, IsRangeOf, IsAnswer, verdict_status}
+use Rattle.stack_forms.specs.Work.{refuses, Holds, Ends}
+use Rattle.stack_forms.specs.Surveying.{surveyed_file}
+use Rattle.stack_forms.specs.Judging.{lacks_live}
+use Rattle.stack_forms.specs.Ranging.{range_step, range_told, range_work}
+use Rattle.stack_forms.specs.AcceptedModel.{IsAcceptedModel}
+use Rattle.stack_forms.specs.Progress.{ToldNames}
+use Rattle.stack_cli.specs.Delivery.{Bytes}
 use Rattle.stack_cli.specs.MainTheorem.{Answered, RunMeets}
 use Rattle.stack_cli.specs.RangeSaid.{RangeSays}
-use Rattle.stack_cli.proofs.Ways.{came_from}
-use Rattle.stack_cli.proofs.AcceptedFiles.{only_accepted}
+use Rattle.stack_forms.proofs.Ways.{came_from}
+use Rattle.stack_forms.proofs.AcceptedFiles.{only_accepted}
 
 -- an answer is the range of the file's survey
 abbrev Said : List ℕ → Due → Type 0

@@ -1,15 +1,16 @@
 -- Where neither the shelf nor the output failed, the one settled end of the work is what was given out, unless memory
 -- is wanting.
-use Rattle.std.proofs.Common.{◌≡◌, refl, sym, subst, ◌∙◌, ℕ, List, Option, Result, Ok, Err, inl, inr, ◌⊎◌, arith}
+use Rattle.std.proofs.Common.{◌≡◌, sym, subst, ◌∙◌, ℕ, List, Option, Result, Ok, Err, inl, inr, ◌⊎◌, arith}
 use Rattle.std.specs.Io.KnownBytes.{Keeps}
-use Rattle.stack_cli.specs.Refusals.{Refusal, file, faulty, output, memory, status_of}
-use Rattle.stack_cli.specs.Words.{Form}
-use Rattle.stack_cli.specs.Answers.{Due}
-use Rattle.stack_cli.specs.Work.{Holds}
-use Rattle.stack_cli.specs.OneEnd.{AreTold, IsSettled}
-use Rattle.stack_cli.specs.Progress.{ToldNames, Bytes, Way}
+use Rattle.stack_lines.specs.Refusals.{Refusal, file, faulty, output, memory, status_of}
+use Rattle.stack_forms.specs.Forms.{Form}
+use Rattle.stack_lines.specs.Answers.{Due}
+use Rattle.stack_forms.specs.Work.{Holds}
+use Rattle.stack_forms.specs.OneEnd.{AreTold, IsSettled}
+use Rattle.stack_forms.specs.Progress.{ToldNames, Way}
+use Rattle.stack_cli.specs.Delivery.{Bytes}
 use Rattle.stack_cli.specs.MainTheorem.{OutputAfter, IsGivenOut, RunMeets}
-use Rattle.stack_cli.proofs.OneEnd.{words_end}
+use Rattle.stack_forms.proofs.OneEnd.{words_end}
 
 kept_for_memory : (r : Refusal) (holds : Holds) (form : Option Form) (names : List (List ℕ)) (out out_after : Bytes)
     → 11 ≡ status_of r → OutputAfter r holds form names out out_after → Keeps out out_after

@@ -7,20 +7,21 @@ use Rattle.std.proofs.Math.Dec.{ltb}
 use Rattle.stack_contact.specs.Surveyed.{Surveyed}
 use Rattle.stack_stages.specs.OrderRead.{order_of}
 use Rattle.stack_stages.specs.Staged.{Staged, all_stand, falls, too_wide_at, spent_at, staged}
-use Rattle.stack_cli.specs.declared.answer.Verdict.{Verdict}
-use Rattle.stack_cli.specs.declared.refusal.Input.TheVariants as inputs
-use Rattle.stack_cli.specs.Words.{Form, builds}
-use Rattle.stack_cli.specs.Refusals.{long}
-use Rattle.stack_cli.specs.Answers.{Due, stages_due, AreStagesOf, IsAnswer, verdict_status}
-use Rattle.stack_cli.specs.Work.{gives, refuses, ◌>>=◌, Holds, Ends}
-use Rattle.stack_cli.specs.Surveying.{greatest_file, surveyed_file}
-use Rattle.stack_cli.specs.Building.{order_step, stages_step, ordered, ordered_file, stages_work}
-use Rattle.stack_cli.specs.AcceptedModel.{IsAcceptedModel}
-use Rattle.stack_cli.specs.Progress.{ToldNames, Bytes}
+use Rattle.stack_lines.specs.declared.answer.Verdict.{Verdict}
+use Rattle.stack_lines.specs.declared.refusal.Input.TheVariants as inputs
+use Rattle.stack_forms.specs.Forms.{Form, builds}
+use Rattle.stack_lines.specs.Refusals.{long}
+use Rattle.stack_lines.specs.Answers.{Due, stages_due, AreStagesOf, IsAnswer, verdict_status}
+use Rattle.stack_forms.specs.Work.{gives, refuses, ◌>>=◌, Holds, Ends}
+use Rattle.stack_forms.specs.Surveying.{greatest_file, surveyed_file}
+use Rattle.stack_forms.specs.Building.{order_step, stages_step, ordered, ordered_file, stages_work}
+use Rattle.stack_forms.specs.AcceptedModel.{IsAcceptedModel}
+use Rattle.stack_forms.specs.Progress.{ToldNames}
+use Rattle.stack_cli.specs.Delivery.{Bytes}
 use Rattle.stack_cli.specs.MainTheorem.{Answered, RunMeets}
 use Rattle.stack_cli.specs.StagesSaid.{ModelAndOrder, StagesSay}
-use Rattle.stack_cli.proofs.Ways.{came_from}
-use Rattle.stack_cli.proofs.AcceptedFiles.{told_bytes, only_accepted}
+use Rattle.stack_forms.proofs.Ways.{came_from}
+use Rattle.stack_forms.proofs.AcceptedFiles.{told_bytes, only_accepted}
 
 -- an answer is what comes of the stages of the second file's order
 abbrev Said : List ℕ → List ℕ → Due → Type 0

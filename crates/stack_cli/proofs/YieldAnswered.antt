@@ -11,21 +11,22 @@ use Rattle.stack_yield.specs.Directions.{directions_of, AreDirections}
 use Rattle.stack_yield.specs.Pairing.{is_slight_load, slight_number, paired, pair_of}
 use Rattle.stack_yield.specs.Outcomes.{Outcomes, answered, passes_at, spends_at, outcomes}
 use Rattle.stack_yield.proofs.DirectionLists.{is_read}
-use Rattle.stack_cli.specs.declared.answer.Verdict.{Verdict}
-use Rattle.stack_cli.specs.declared.refusal.Input.TheVariants as inputs
-use Rattle.stack_cli.specs.Words.{Form, yields}
-use Rattle.stack_cli.specs.Refusals.{long}
-use Rattle.stack_cli.specs.Answers.{Due, region_due, IsRegionOf, IsAnswer, verdict_status}
-use Rattle.stack_cli.specs.Work.{gives, refuses, ◌>>=◌, Holds, Ends}
-use Rattle.stack_cli.specs.Surveying.{greatest_file, surveyed_file}
-use Rattle.stack_cli.specs.Yielding.{loads_step, directions_step, region_step, directed, directed_file, paired_file}
-use Rattle.stack_cli.specs.Yielding.{yield_work}
-use Rattle.stack_cli.specs.AcceptedModel.{IsAcceptedModel}
-use Rattle.stack_cli.specs.Progress.{ToldNames, Bytes}
+use Rattle.stack_lines.specs.declared.answer.Verdict.{Verdict}
+use Rattle.stack_lines.specs.declared.refusal.Input.TheVariants as inputs
+use Rattle.stack_forms.specs.Forms.{Form, yields}
+use Rattle.stack_lines.specs.Refusals.{long}
+use Rattle.stack_lines.specs.Answers.{Due, region_due, IsRegionOf, IsAnswer, verdict_status}
+use Rattle.stack_forms.specs.Work.{gives, refuses, ◌>>=◌, Holds, Ends}
+use Rattle.stack_forms.specs.Surveying.{greatest_file, surveyed_file}
+use Rattle.stack_forms.specs.Yielding.{loads_step, directions_step, region_step, directed, directed_file, paired_file}
+use Rattle.stack_forms.specs.Yielding.{yield_work}
+use Rattle.stack_forms.specs.AcceptedModel.{IsAcceptedModel}
+use Rattle.stack_forms.specs.Progress.{ToldNames}
+use Rattle.stack_cli.specs.Delivery.{Bytes}
 use Rattle.stack_cli.specs.MainTheorem.{Answered, RunMeets}
 use Rattle.stack_cli.specs.RegionSaid.{ModelAndDirections, RegionSays}
-use Rattle.stack_cli.proofs.Ways.{came_from}
-use Rattle.stack_cli.proofs.AcceptedFiles.{told_bytes, only_accepted}
+use Rattle.stack_forms.proofs.Ways.{came_from}
+use Rattle.stack_forms.proofs.AcceptedFiles.{told_bytes, only_accepted}
 
 -- the number from 1 of a load that is found
 number_if : (t : Bool) (m k : ℕ) → (if t then Some m else None) ≡ Some k → suc m ≡ k + 1

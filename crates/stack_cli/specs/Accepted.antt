@@ -12,14 +12,14 @@ use Rattle.stack_checker.specs.declared.types.Check.TheVariants.{Rejected, TooWi
 use Rattle.stack_checker.specs.declared.types.CheckPlace.{CheckPlace}
 use Rattle.stack_checker.specs.Shown.{Shows}
 use Rattle.stack_checker.specs.WrittenCheck.{written_check}
-use Rattle.stack_cli.specs.declared.answer.Verdict.TheVariants.{Denied}
-use Rattle.stack_cli.specs.Answers.{exactly}
-use Rattle.stack_cli.specs.CheckText.{accepted_text, rejected_text}
-use Rattle.stack_cli.specs.Work.{Holds, Ends}
-use Rattle.stack_cli.specs.Surveying.{greatest_file}
-use Rattle.stack_cli.specs.Checking.{check_work}
-use Rattle.stack_cli.specs.Progress.{Bytes}
-use Rattle.stack_cli.specs.AcceptedModel.{IsAcceptedModel}
+use Rattle.stack_lines.specs.declared.answer.Verdict.TheVariants.{Denied}
+use Rattle.stack_lines.specs.Answers.{exactly}
+use Rattle.stack_lines.specs.CheckText.{accepted_text, rejected_text}
+use Rattle.stack_forms.specs.Work.{Holds, Ends}
+use Rattle.stack_forms.specs.Surveying.{greatest_file}
+use Rattle.stack_forms.specs.Checking.{check_work}
+use Rattle.stack_cli.specs.Delivery.{Bytes}
+use Rattle.stack_forms.specs.AcceptedModel.{IsAcceptedModel}
 use Rattle.stack_cli.specs.Printed.{acceptance}
 
 -- The bytes of two files: the first are an accepted model, with this survey, the second the text of this certificate.

@@ -8,13 +8,13 @@ use Rattle.stack_contact.specs.Surveyed.{Surveyed}
 use Rattle.stack_certificate.specs.Certificate.{CertificateValue}
 use Rattle.stack_certificate.specs.CertificateText.{IsCertificateText}
 use Rattle.stack_equilibrium.specs.declared.types.Question.{Question}
-use Rattle.stack_duality.specs.WrittenRun.{over}
+use Rattle.stack_run.specs.WrittenRun.{over}
 use Rattle.stack_judge.specs.declared.types.JudgePlace.{JudgePlace}
 use Rattle.stack_judge.specs.Judgement.{judgement, too_wide, survey_run, LacksLive}
 use Rattle.stack_judge.specs.Judged.{IsJudged}
-use Rattle.stack_cli.specs.Answers.{verdict_of, verdict_status}
-use Rattle.stack_cli.specs.Progress.{Bytes}
-use Rattle.stack_cli.specs.AcceptedModel.{IsAcceptedModel}
+use Rattle.stack_lines.specs.Answers.{verdict_of, verdict_status}
+use Rattle.stack_cli.specs.Delivery.{Bytes}
+use Rattle.stack_forms.specs.AcceptedModel.{IsAcceptedModel}
 
 -- A certificate that is true, of the question and accepted by the check, and tells whether the dead loads stand: the
 -- output grew by exactly its text, and the status is 1 exactly for a collapse.

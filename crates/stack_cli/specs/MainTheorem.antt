@@ -3,12 +3,13 @@
 -- sinks tell. Want of memory, status 11, is the one free answer.
 use Rattle.std.specs.Prelude.{◌≡◌, ℕ, ◌<◌, ◌≤◌, ◌⊎◌, List, take, Option, None, Result, Ok, Err, ⊤}
 use Rattle.std.specs.Io.KnownBytes.{Appends, Keeps}
-use Rattle.stack_cli.specs.declared.answer.Verdict.{Verdict}
-use Rattle.stack_cli.specs.Words.{Form, files_of}
-use Rattle.stack_cli.specs.Refusals.{Refusal, file, faulty, memory, output, status_of}
-use Rattle.stack_cli.specs.Answers.{Due, IsAnswer, verdict_status}
-use Rattle.stack_cli.specs.Work.{Holds}
-use Rattle.stack_cli.specs.Progress.{ToldNames, GrewBy, Way, Bytes, SaysLine}
+use Rattle.stack_lines.specs.declared.answer.Verdict.{Verdict}
+use Rattle.stack_forms.specs.Forms.{Form, files_of}
+use Rattle.stack_lines.specs.Refusals.{Refusal, file, faulty, memory, output, status_of}
+use Rattle.stack_lines.specs.Answers.{Due, IsAnswer, verdict_status}
+use Rattle.stack_forms.specs.Work.{Holds}
+use Rattle.stack_forms.specs.Progress.{ToldNames, GrewBy, Way}
+use Rattle.stack_cli.specs.Delivery.{Bytes, SaysLine}
 
 -- A way through the work gives what is due, the whole of it was written on the output, and nothing on the error
 -- stream.

@@ -7,13 +7,14 @@ use Rattle.stack_reader.specs.declared.errors.ReadError.{ReadError}
 use Rattle.stack_reader.specs.Reading.{structure_of}
 use Rattle.stack_contact.specs.Surveyed.{Surveyed, IsFirstOverlap, AreTooMany}
 use Rattle.stack_certificate.specs.CertificateOf.{certificate_of}
-use Rattle.stack_cli.specs.declared.refusal.Input.TheVariants as inputs
-use Rattle.stack_cli.specs.Refusals.{Fault, faulty, fault_status, memory, long, overlap, many_bearings}
-use Rattle.stack_cli.specs.Refusals.{certificate_line}
-use Rattle.stack_cli.specs.Words.{Form, check, tables}
-use Rattle.stack_cli.specs.Surveying.{greatest_file, from_read}
-use Rattle.stack_cli.specs.Progress.{Bytes, SaysLine}
-use Rattle.stack_cli.specs.AcceptedModel.{IsAcceptedModel}
+use Rattle.stack_lines.specs.declared.refusal.Input.TheVariants as inputs
+use Rattle.stack_lines.specs.Refusals.{Fault, faulty, fault_status, memory, long, overlap, many_bearings}
+use Rattle.stack_lines.specs.Refusals.{certificate_line}
+use Rattle.stack_forms.specs.Forms.{Form, check, tables}
+use Rattle.stack_forms.specs.Surveying.{greatest_file}
+use Rattle.stack_lines.specs.Errors.{from_read}
+use Rattle.stack_cli.specs.Delivery.{Bytes, SaysLine}
+use Rattle.stack_forms.specs.AcceptedModel.{IsAcceptedModel}
 
 -- The fault's status, nothing on the output, and the fault's line on the error stream unless that failed; or memory is
 -- wanting.

@@ -7,15 +7,15 @@ use Rattle.stack_certificate.specs.Certificate.{CertificateValue}
 use Rattle.stack_certificate.specs.CertificateText.{IsCertificateText, text_bound}
 use Rattle.stack_equilibrium.specs.declared.types.Question.{Question}
 use Rattle.stack_judge.specs.Judged.{IsJudged}
-use Rattle.stack_cli.specs.declared.answer.Verdict.TheVariants.{Affirmed}
-use Rattle.stack_cli.specs.Refusals.{Refusal}
-use Rattle.stack_cli.specs.Answers.{Due, exactly}
-use Rattle.stack_cli.specs.CheckText.{accepted_text}
-use Rattle.stack_cli.specs.Work.{Holds, Ends}
-use Rattle.stack_cli.specs.Checking.{check_work}
-use Rattle.stack_cli.specs.AcceptedModel.{IsAcceptedModel}
-use Rattle.stack_cli.specs.OneEnd.{IsSettled}
-use Rattle.stack_cli.specs.Progress.{Bytes}
+use Rattle.stack_lines.specs.declared.answer.Verdict.TheVariants.{Affirmed}
+use Rattle.stack_lines.specs.Refusals.{Refusal}
+use Rattle.stack_lines.specs.Answers.{Due, exactly}
+use Rattle.stack_lines.specs.CheckText.{accepted_text}
+use Rattle.stack_forms.specs.Work.{Holds, Ends}
+use Rattle.stack_forms.specs.Checking.{check_work}
+use Rattle.stack_forms.specs.AcceptedModel.{IsAcceptedModel}
+use Rattle.stack_forms.specs.OneEnd.{IsSettled}
+use Rattle.stack_cli.specs.Delivery.{Bytes}
 
 -- How a check ends that accepts: with `accepted`, and status 0.
 abbrev pub acceptance : Result Due Refusal

@@ -15,14 +15,14 @@ use Rattle.stack_judge.specs.NarrowWork.{is_narrow}
 use Rattle.stack_report.specs.ContactTable.{contacts_text}
 use Rattle.stack_report.specs.ForceNumbers.{wide_index}
 use Rattle.stack_report.specs.Summary.{summary_text}
-use Rattle.stack_cli.specs.declared.words.Kind.{Kind}
-use Rattle.stack_cli.specs.Words.{default_budget}
-use Rattle.stack_cli.specs.Surveying.{greatest_file}
-use Rattle.stack_cli.specs.Stacking.{stack_of}
-use Rattle.stack_cli.specs.Sampling.{sample_of}
-use Rattle.stack_cli.specs.Tables.{tables_text}
-use Rattle.stack_cli.specs.Progress.{Bytes}
-use Rattle.stack_cli.specs.AcceptedModel.{IsAcceptedModel}
+use Rattle.stack_forms.specs.declared.forms.Kind.{Kind}
+use Rattle.stack_forms.specs.Judging.{default_budget}
+use Rattle.stack_forms.specs.Surveying.{greatest_file}
+use Rattle.stack_forms.specs.Stacking.{stack_of}
+use Rattle.stack_forms.specs.Sampling.{sample_of}
+use Rattle.stack_forms.specs.Tables.{tables_text}
+use Rattle.stack_cli.specs.Delivery.{Bytes}
+use Rattle.stack_forms.specs.AcceptedModel.{IsAcceptedModel}
 use Rattle.stack_cli.specs.Accepted.{HoldTrueCertificate, HoldFalseCertificate, IsWideCheck}
 
 -- This text was written whole, with status 0.

@@ -8,8 +8,8 @@ use Rattle.stack_certificate.specs.Certificate.{ForcesValue, MotionValue}
 use Rattle.stack_stages.specs.OrderRead.{order_of}
 use Rattle.stack_stages.specs.Staged.{all_stand, falls, AreTrue, AreSettled}
 use Rattle.stack_stages.specs.StagesText.{stages_text}
-use Rattle.stack_cli.specs.Progress.{Bytes}
-use Rattle.stack_cli.specs.AcceptedModel.{IsAcceptedModel}
+use Rattle.stack_cli.specs.Delivery.{Bytes}
+use Rattle.stack_forms.specs.AcceptedModel.{IsAcceptedModel}
 
 -- The first file is an accepted model, with this survey, and the second tells an order of building of it.
 pub record ModelAndOrder (bytes text : List ℕ) : Type 0 where

@@ -1,5 +1,5 @@
--- The forms of words, and the files that each names. A further form of words is a further case of each.
-use Rattle.std.specs.Prelude.{◌≢◌, ⊤, ℕ, ◌^◌, List, [], ◌∷◌, map, codes, decimal, ◌&&◌, nat_lt, Option, Some, None}
+-- What form each words have. A further form of words is a further case.
+use Rattle.std.specs.Prelude.{ℕ, ◌^◌, List, [], ◌∷◌, map, codes, decimal, ◌&&◌, nat_lt, Option, Some, None}
 use Rattle.std.specs.Prelude.{String, string_bytes, if◌then◌else◌}
 use Rattle.std.specs.Option.{option_map}
 use Rattle.std.specs.Str.Parse.{digits_value}
@@ -7,46 +7,12 @@ use Rattle.std.specs.Str.{bytes_eq}
 use Rattle.std.specs.declared.alloc.Global.{Global}
 use Rattle.stack_equilibrium.specs.declared.types.Question.{Question}
 use Rattle.stack_equilibrium.specs.declared.types.Question.TheVariants.{Dead, Live}
-use Rattle.stack_cli.specs.declared.words.Form.{Form as CodeForm}
-use Rattle.stack_cli.specs.declared.words.Form.TheVariants as code
-use Rattle.stack_cli.specs.declared.words.Kind.{Kind}
-use Rattle.stack_cli.specs.declared.words.Kind.TheVariants.{Harmonic, Triangle, Slab}
+use Rattle.stack_forms.specs.Forms.{Form, check, contacts, judges, tables, stack, sample, ranges, builds, yields}
+use Rattle.stack_forms.specs.Judging.{default_budget}
+use Rattle.stack_forms.specs.declared.forms.Kind.{Kind}
+use Rattle.stack_forms.specs.declared.forms.Kind.TheVariants.{Harmonic, Triangle, Slab}
 use Rattle.stack_cli.specs.declared.given.Given.{Given as CodeGiven}
 use Rattle.stack_cli.specs.declared.given.Given.TheVariants as given
-
--- What the words ask for: `check MODEL CERT`, `table MODEL CERT`, `contacts MODEL`, or a judgement of a model, its
--- range, the stages of an order or the region of two loads, which are told by their numbers, within a budget of pivots,
--- with any words as the names of the files; `stack KIND N`, or `sample N`, which read none.
-pub data Form : Type 0 where
-  check : List ℕ → List ℕ → Form
-  contacts : List ℕ → Form
-  judges : Question → List ℕ → ℕ → Form
-  tables : List ℕ → List ℕ → Form
-  stack : Kind → ℕ → Form
-  sample : ℕ → Form
-  ranges : List ℕ → ℕ → Form
-  builds : List ℕ → List ℕ → ℕ → Form
-  yields : List ℕ → (i j : ℕ) → List ℕ → ℕ → Form
-
--- The form that the code holds, by bytes.
-abbrev pub form_view : CodeForm → Form
-form_view (code.Check model certificate) = check model.now certificate.now
-form_view (code.Contacts model) = contacts model.now
-form_view (code.Judge question model budget) = judges question model.now budget
-form_view (code.Table model certificate) = tables model.now certificate.now
-form_view (code.Stack kind size) = stack kind size
-form_view (code.Sample number) = sample number
-form_view (code.Range model budget) = ranges model.now budget
-form_view (code.Stages model order budget) = builds model.now order.now budget
-form_view (code.Yield model first second directions budget) = yields model.now first second directions.now budget
-
--- A budget isn't 0.
-abbrev pub HasBudget : CodeForm → Type 0
-HasBudget (code.Judge question model budget) = budget ≢ 0
-HasBudget (code.Range model budget) = budget ≢ 0
-HasBudget (code.Stages model order budget) = budget ≢ 0
-HasBudget (code.Yield model first second directions budget) = budget ≢ 0
-HasBudget _ = ⊤
 
 -- The words, as bytes.
 abbrev pub texts : List (String Global) → List (List ℕ)
@@ -56,10 +22,6 @@ texts words = map string_bytes words
 abbrev pub question_of : List ℕ → Option Question
 question_of word = if bytes_eq word (codes "stand") then Some Dead
     else (if bytes_eq word (codes "load") then Some Live else None)
-
--- A budget that isn't given.
-abbrev pub default_budget : ℕ
-default_budget = 20000
 
 -- The number that a word spells: from 0 to 2^32 - 1 in decimal, without sign or leading zeros.
 abbrev pub number_spelled : List ℕ → Option ℕ
@@ -151,16 +113,3 @@ abbrev pub form_of_given : CodeGiven → Option Form
 form_of_given (given.Words words) = form_of (texts words.items)
 form_of_given given.Unreadable = None
 form_of_given given.Memory = None
-
--- The files that the words name, in the order of work.
-abbrev pub files_of : Option Form → List (List ℕ)
-files_of None = []
-files_of (Some (check model certificate)) = model ∷ certificate ∷ []
-files_of (Some (contacts model)) = model ∷ []
-files_of (Some (judges question model budget)) = model ∷ []
-files_of (Some (tables model certificate)) = model ∷ certificate ∷ []
-files_of (Some (stack kind n)) = []
-files_of (Some (sample n)) = []
-files_of (Some (ranges model budget)) = model ∷ []
-files_of (Some (builds model order budget)) = model ∷ order ∷ []
-files_of (Some (yields model i j directions budget)) = model ∷ directions ∷ []

@@ -4,13 +4,15 @@ ghost use Rattle.std.specs.Prelude.{◌≡◌, ◌≤◌};
 ghost use Rattle.std.specs.Option.{option_map};
 ghost use Rattle.stack_outside.specs.Faults.{Rose, counted};
 ghost use Rattle.stack_cli.specs.Words.{form_of_given};
-ghost use Rattle.stack_cli.specs.Refusals.{words, faulty, memory};
-ghost use Rattle.stack_cli.specs.Progress.{SaysLine};
+ghost use Rattle.stack_lines.specs.Refusals.{words, faulty, memory};
+ghost use Rattle.stack_cli.specs.Delivery.{SaysLine};
 ghost use Rattle.stack_cli.specs.OnePut.{PutsAnswer, PutsLine};
 ghost use Rattle.stack_cli.specs.MainTheorem.{RunMeets};
+ghost use Rattle.stack_cli.specs.RunSaid.{RunSays};
 
 use crate::command::run;
-use crate::refusal::Refusal;
+use crate::laws::printed_is_accepted;
+use stack_lines::Refusal;
 use stack_outside::{Shelf, Sink};
 use std::alloc::Global;
 
@@ -37,6 +39,9 @@ pub fn run_given<F: Shelf, O: Sink, E: Sink>(
         (F.asked shelf.new) (O.written out.old) (O.written out.new) (E.written err.old) (E.written err.new)
         (Rose (F.faults shelf.old) (F.faults shelf.new)) (Rose (O.faults out.old) (O.faults out.new))
         (Rose (E.faults err.old) (E.faults err.new)) }
+    ensures says { RunSays result (form_of_given given) (F.holds shelf.old) (O.written out.old) (O.written out.new)
+        (E.written err.old) (E.written err.new) (Rose (F.faults shelf.old) (F.faults shelf.new))
+        (Rose (O.faults out.old) (O.faults out.new)) (Rose (E.faults err.old) (E.faults err.new)) }
     ensures one_put { PutsAnswer result (O.calls out.old) (O.calls out.new) }
     ensures one_line { PutsLine result (E.calls err.old) (E.calls err.new) }
     ensures unreadable { given ≡ Given.Unreadable → result ≡ 2 }
@@ -46,6 +51,7 @@ pub fn run_given<F: Shelf, O: Sink, E: Sink>(
     ensures out_later { O.faults out.old ≤ O.faults out.new }
     ensures err_later { E.faults err.old ≤ E.faults err.new }
 {
+    printed_is_accepted();
     match given {
         Given::Words(words) => run(alloc, words.as_slice(), shelf, out, err),
         Given::Unreadable => refuse_words(err),

@@ -2,12 +2,12 @@
 
 ghost use Rattle.std.specs.Prelude.{◌≡◌, ℕ, List, [], ◌∷◌, Some, Ok};
 ghost use Rattle.stack_contact.specs.Surveyed.{Surveyed};
-ghost use Rattle.stack_equilibrium.specs.Scene.{IsProper};
+ghost use Rattle.stack_statics.specs.Scene.{IsProper};
 ghost use Rattle.stack_equilibrium.specs.SurveyScene.{scene_of};
-ghost use Rattle.stack_cli.specs.Work.{Holds, Ends};
-ghost use Rattle.stack_cli.specs.Surveying.{surveyed_file};
-ghost use Rattle.stack_cli.specs.OneEnd.{WordsHaveOneEnd};
-ghost use Rattle.stack_cli.specs.AcceptedModel.{IsAcceptedModel};
+ghost use Rattle.stack_forms.specs.Work.{Holds, Ends};
+ghost use Rattle.stack_forms.specs.Surveying.{surveyed_file};
+ghost use Rattle.stack_forms.specs.OneEnd.{WordsHaveOneEnd};
+ghost use Rattle.stack_forms.specs.AcceptedModel.{IsAcceptedModel};
 ghost use Rattle.stack_cli.specs.Printed.{PrintedIsAccepted, PrintedIsShort};
 ghost use Rattle.stack_cli.specs.Accepted.{AcceptedIsTrueOfFiles, RejectedIsFalseOfFiles, FilesHoldOne};
 

@@ -8,15 +8,9 @@
 //! collapses, and `yield MODEL I J DIRS [PIVOTS]` what of two live loads is carried together.
 #![tactic(auto)]
 
-pub mod answer;
 pub mod command;
-pub mod forms;
 pub mod given;
 pub mod laws;
-pub mod model_lines;
-pub mod reading;
-pub mod refusal;
-pub mod surveying;
 pub mod words;
 
 use given::{Given, run_given};

@@ -2,84 +2,18 @@
 
 ghost use Rattle.std.specs.Prelude.{◌≡◌, ◌≢◌, IfSome};
 ghost use Rattle.std.specs.Option.{option_map};
-ghost use Rattle.stack_cli.specs.Words.{form_of, form_view, HasBudget, texts, question_of as question_of_word};
+ghost use Rattle.stack_cli.specs.Words.{form_of, texts, question_of as question_of_word};
 ghost use Rattle.stack_cli.specs.Words.{number_spelled as number_of_word, budget_of as budget_of_word};
 ghost use Rattle.stack_cli.specs.Words.{judging as judging_of, kind_of as kind_of_word, stacking as stacking_of};
 ghost use Rattle.stack_cli.specs.Words.{form_of_two as form_of_two_words, form_of_three as form_of_three_words};
 ghost use Rattle.stack_cli.specs.Words.{form_of_four as form_of_four_words, ranging as ranging_of};
 ghost use Rattle.stack_cli.specs.Words.{staging as staging_of, yielding as yielding_of};
 ghost use Rattle.stack_cli.specs.Words.{form_of_five as form_of_five_words, form_of_six as form_of_six_words};
+ghost use Rattle.stack_forms.specs.Forms.{form_view, HasBudget};
 
 use itoa::Buffer;
 use stack_equilibrium::types::Question;
-
-/// A kind of built-in stack.
-#[derive(Clone, Copy, Debug, PartialEq, Eq)]
-pub enum Kind {
-    /// Bricks of which each is moved by half a brick over its number from the top.
-    Harmonic,
-    /// An inverted triangle.
-    Triangle,
-    /// A slab of rows of two lengths.
-    Slab,
-}
-
-/// What the words ask for.
-#[derive(Clone, Copy, Debug, PartialEq, Eq)]
-pub enum Form<'a> {
-    /// Checks a certificate for a model; the names of their files.
-    Check {
-        model: &'a str,
-        certificate: &'a str,
-    },
-    /// Lists the contacts of a model; the name of its file.
-    Contacts {
-        model: &'a str,
-    },
-    /// Judges the dead or the live loads of a model within a budget of pivots; the name of its file.
-    Judge {
-        question: Question,
-        model: &'a str,
-        budget: u32,
-    },
-    /// Lists the contacts of a model and the forces of an accepted certificate; the names of their files.
-    Table {
-        model: &'a str,
-        certificate: &'a str,
-    },
-    /// Prints a built-in stack.
-    Stack {
-        kind: Kind,
-        size: u32,
-    },
-    /// Judges the live load of a built-in wall.
-    Sample {
-        number: u32,
-    },
-    /// Judges the whole range of factors of a model within a budget of pivots a side; the name of its file.
-    Range {
-        model: &'a str,
-        budget: u32,
-    },
-    /// Judges the stages of an order of building within a budget of pivots a stage; the names of both files.
-    Stages {
-        model: &'a str,
-        order: &'a str,
-        budget: u32,
-    },
-    /// Judges two live loads, by their numbers from 1 among all loads, in directions of both together within a budget
-    /// of pivots a direction; the names of both files.
-    Yield {
-        model: &'a str,
-        first: u32,
-        second: u32,
-        directions: &'a str,
-        budget: u32,
-    },
-}
-
-/// The budget of pivots that isn't given.
-pub const DEFAULT_BUDGET: u32 = 20_000;
+use stack_forms::{DEFAULT_BUDGET, Form, Kind};
 
 /// The question that a word asks: `stand` about the dead loads, `load` about the live loads.
 fn question_of(word: &str) -> Option<Question>

@@ -15,7 +15,7 @@ use Rattle.stack_rational.specs.declared.exact.Op.{Op}
 use Rattle.stack_table.specs.Table.{plain, columns}
 use Rattle.stack_table.specs.Problem.{Problem}
 use Rattle.stack_table.specs.WrittenTable.{less_all, first_row, first_objective, written_table}
-use Rattle.stack_duality.specs.WrittenRun.{written_run}
+use Rattle.stack_run.specs.WrittenRun.{written_run}
 use Rattle.stack_duality.specs.PhaseTables.{own_first, IsFirst}
 use Rattle.stack_duality.proofs.WrittenRows.{first_rows, same_row, right_cell, basic_is, nonneg_load}
 use Rattle.stack_duality.proofs.RunEnds.{EndOverRows, run_gives}

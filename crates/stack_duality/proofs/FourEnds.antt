@@ -10,8 +10,8 @@ use Rattle.stack_algebra.proofs.OrderedFractions.{ordered_fractions}
 use Rattle.stack_table.specs.Table.{Tabled, plain, columns}
 use Rattle.stack_table.specs.Problem.{Problem, flipped}
 use Rattle.stack_table.specs.WrittenTable.{first_row, written_table}
-use Rattle.stack_duality.specs.WrittenRun.{End, infeasible, feasible, optimal, ray, wide, over}
-use Rattle.stack_duality.specs.EndNumbers.{signed, value, rate, bound_multiplier, collapse_multiplier}
+use Rattle.stack_run.specs.WrittenRun.{End, infeasible, feasible, optimal, ray, wide, over, never}
+use Rattle.stack_run.specs.EndNumbers.{signed, value, rate, bound_multiplier, collapse_multiplier}
 use Rattle.stack_duality.specs.PhaseTables.{own_first, own_third, IsFirst, ShowsMultipliers}
 use Rattle.stack_duality.specs.FourEnds.{IsFirstEnd, IsThirdEnd, EndGives}
 use Rattle.stack_duality.specs.Laws.{EndsGive, SomeRowLeaves}
@@ -115,6 +115,7 @@ module _ (F : Ordered) (P : Problem) where
   }
   end_of_rows (wide p k s) h = tt
   end_of_rows over h = tt
+  end_of_rows never h = h
 
 -- the two laws
 pub ends_give : EndsGive

@@ -11,4 +11,3 @@ pub mod Unflipped
 pub mod Values
 pub mod FourEnds
 pub mod Turn
-pub mod Wider

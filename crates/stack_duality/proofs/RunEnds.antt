@@ -11,9 +11,9 @@ use Rattle.stack_table.specs.Table.{Shape, Tabled, plain, columns, right, object
 use Rattle.stack_table.specs.Table.{set_factor_objective}
 use Rattle.stack_table.specs.Spots.{pivot_spot}
 use Rattle.stack_bland.specs.Choice.{is_negative_sign, is_nought}
-use Rattle.stack_duality.specs.WrittenRun.{PhaseStop, settled, unlimited, wide_at, spent, End, infeasible, feasible}
-use Rattle.stack_duality.specs.WrittenRun.{optimal, ray, wide, over, after_phase, on_spot, turns, driven_column}
-use Rattle.stack_duality.specs.WrittenRun.{drive_at, drive_row, drives, third_end, past_first, first_end, written_run}
+use Rattle.stack_run.specs.WrittenRun.{PhaseStop, settled, unlimited, wide_at, spent, End, infeasible, feasible}
+use Rattle.stack_run.specs.WrittenRun.{optimal, ray, wide, over, never, after_phase, on_spot, turns, driven_column}
+use Rattle.stack_run.specs.WrittenRun.{drive_at, drive_row, drives, third_end, past_first, first_end, written_run}
 use Rattle.stack_duality.specs.PhaseTables.{own_first, own_third, IsFirst, IsThird}
 use Rattle.stack_duality.proofs.RowEnds.{Balances, Refutes, Bounds, Rises, Stands}
 use Rattle.stack_duality.proofs.Solutions.{solution, ray_of}
@@ -69,6 +69,7 @@ module _ (F : Ordered) (S : Shape) (A : ℕ → ℕ → F.C) where
   EndOverRows (ray T c) = OnRay T c
   EndOverRows (wide p k s) = Unit {0}
   EndOverRows over = Unit {0}
+  EndOverRows never = ⊥
 
   -- how phase 2 stops on tables with P: it is never unlimited
   abbrev pub Settled : (Tabled F.C → Type 0) → PhaseStop F.C → Type 0

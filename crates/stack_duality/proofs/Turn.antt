@@ -7,9 +7,9 @@ use Rattle.stack_table.specs.declared.types.Step.TheVariants.{Ratio}
 use Rattle.stack_table.specs.Table.{Shape, Tabled, pivoted_at}
 use Rattle.stack_table.specs.Spots.{pivot_spot}
 use Rattle.stack_bland.specs.Choice.{entering, leaving, ratio_row}
-use Rattle.stack_duality.specs.WrittenRun.{Choice, stays, rises, due, refused, PhaseStop, settled, unlimited, wide_at}
-use Rattle.stack_duality.specs.WrittenRun.{spent, after_phase, on_spot, on_choice, chosen_at, chosen_in, choose}
-use Rattle.stack_duality.specs.WrittenRun.{turns, drive_row, drives}
+use Rattle.stack_run.specs.WrittenRun.{Choice, stays, rises, due, refused, PhaseStop, settled, unlimited, wide_at}
+use Rattle.stack_run.specs.WrittenRun.{spent, after_phase, on_spot, on_choice, chosen_at, chosen_in, choose}
+use Rattle.stack_run.specs.WrittenRun.{turns, drive_row, drives}
 
 module _ (F : Ordered) (S : Shape) (is_too_wide : Op → F.C → F.C → Bool) where
   -- the choice by what is found: the column; the ratio that is too wide and the leaving row

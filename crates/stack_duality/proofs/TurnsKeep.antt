@@ -8,8 +8,8 @@ use Rattle.stack_table.specs.declared.types.PivotWide.{PivotWide}
 use Rattle.stack_table.specs.Table.{Shape, Tabled, right, objective, pivoted_at}
 use Rattle.stack_table.specs.Spots.{pivot_spot}
 use Rattle.stack_bland.specs.Choice.{is_negative_sign, entering, leaving, ratio_row}
-use Rattle.stack_duality.specs.WrittenRun.{Choice, stays, rises, due, refused, PhaseStop, settled, unlimited, wide_at}
-use Rattle.stack_duality.specs.WrittenRun.{spent, on_spot, on_choice, chosen_at, chosen_in, choose, turns}
+use Rattle.stack_run.specs.WrittenRun.{Choice, stays, rises, due, refused, PhaseStop, settled, unlimited, wide_at}
+use Rattle.stack_run.specs.WrittenRun.{spent, on_spot, on_choice, chosen_at, chosen_in, choose, turns}
 use Rattle.stack_duality.specs.LeavingRow.{IsBest}
 use Rattle.stack_duality.proofs.BestRow.{best-none, best-some}
 

@@ -8,7 +8,7 @@ use Rattle.stack_algebra.proofs.Sums.{sum, sum_same, sum_scale}
 use Rattle.stack_table.specs.Table.{plain, columns}
 use Rattle.stack_table.specs.Problem.{Problem, flipped, turned}
 use Rattle.stack_table.specs.WrittenTable.{first_row}
-use Rattle.stack_duality.specs.EndNumbers.{signed}
+use Rattle.stack_run.specs.EndNumbers.{signed}
 use Rattle.stack_duality.specs.Balance.{Balances, column_work, load_work, Refutes, Bounds, Rises, Stands}
 use Rattle.stack_duality.proofs.RowEnds as rows
 use Rattle.stack_duality.proofs.WrittenRows.{plain_cell, right_cell}

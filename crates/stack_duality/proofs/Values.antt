@@ -10,7 +10,7 @@ use Rattle.stack_algebra.proofs.Ring.{add-zero}
 use Rattle.stack_algebra.proofs.Sums.{sum_one, sum_zero, at, at-other, at-same}
 use Rattle.stack_algebra.proofs.Search.{least-none, least-some}
 use Rattle.stack_table.specs.Table.{Shape, Tabled, columns}
-use Rattle.stack_duality.specs.EndNumbers.{basic_row, value_in, value, rate_in, rate}
+use Rattle.stack_run.specs.EndNumbers.{basic_row, value_in, value, rate_in, rate}
 use Rattle.stack_duality.proofs.Solutions.{solution, ray_of}
 
 module _ (F : Ordered) (S : Shape) (A : ℕ → ℕ → F.C) (own : ℕ → F.C) (T : Tabled F.C)

@@ -5,8 +5,8 @@ use Rattle.stack_algebra.specs.Ordered.{Ordered, minus}
 use Rattle.stack_table.specs.Table.{Tabled, plain, objective}
 use Rattle.stack_table.specs.Problem.{Problem}
 use Rattle.stack_table.specs.WrittenTable.{first_row}
-use Rattle.stack_duality.specs.WrittenRun.{End, infeasible, feasible, optimal, ray, wide, over}
-use Rattle.stack_duality.specs.EndNumbers.{value, rate, bound_multiplier, collapse_multiplier}
+use Rattle.stack_run.specs.WrittenRun.{End, infeasible, feasible, optimal, ray, wide, over, never}
+use Rattle.stack_run.specs.EndNumbers.{value, rate, bound_multiplier, collapse_multiplier}
 use Rattle.stack_duality.specs.Balance.{Balances, Refutes, Bounds, Rises, Stands}
 use Rattle.stack_duality.specs.PhaseTables.{own_first, own_third, IsFirst, IsThird, ShowsMultipliers}
 
@@ -55,3 +55,4 @@ module _ (F : Ordered) (P : Problem) where
   EndGives (ray T c) = IsRayEnd T c
   EndGives (wide p k s) = ⊤
   EndGives over = ⊤
+  EndGives never = ⊥

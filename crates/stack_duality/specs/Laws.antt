@@ -1,27 +1,13 @@
--- The laws of the written run of a problem.
-use Rattle.std.specs.Prelude.{◌≡◌, ◌≢◌, ℕ, ◌≤◌, ℤ, Bool, ⊤, unsigned_abs}
+-- What the ends of the written run of a problem give, for any rule of what is too wide.
+use Rattle.std.specs.Prelude.{◌≢◌, ℕ}
 use Rattle.stack_algebra.specs.Fraction.{Fraction}
 use Rattle.stack_algebra.proofs.OrderedFractions.{ordered_fractions}
-use Rattle.stack_rational.specs.declared.exact.Op.{Op}
-use Rattle.stack_rational.specs.TooWide.{is_too_wide}
 use Rattle.stack_table.specs.Table.{Tabled}
 use Rattle.stack_table.specs.Problem.{Problem}
 use Rattle.stack_table.specs.WrittenTable.{written_table}
-use Rattle.stack_duality.specs.WrittenRun.{unlimited, End, infeasible, feasible, optimal, ray, wide, over, turns}
-use Rattle.stack_duality.specs.WrittenRun.{written_run}
+use Rattle.stack_run.specs.WrittenRun.{unlimited, turns}
+use Rattle.stack_run.specs.ProblemRun.{Rule, run_of}
 use Rattle.stack_duality.specs.FourEnds.{EndGives}
-
--- a rule of what is too wide
-abbrev pub Rule : Type 0
-Rule = Op → Fraction → Fraction → Bool
-
--- the written run of a problem
-abbrev pub run_of : (P : Problem) → Rule → (budget : ℕ) → End Fraction
-run_of P rule budget = written_run ordered_fractions P.shape rule budget (written_table ordered_fractions P)
-
--- and at a greatest value
-abbrev pub run_at : ℤ → (P : Problem) → (budget : ℕ) → End Fraction
-run_at max P budget = run_of P (is_too_wide max) budget
 
 -- whatever the rule and the budget, its end gives what it should
 abbrev pub EndsGive : Type 0
@@ -33,17 +19,3 @@ abbrev pub SomeRowLeaves : Type 0
 SomeRowLeaves = (P : Problem) (rule : Rule) (budget : ℕ) (T : Tabled Fraction) (c : ℕ) →
     turns ordered_fractions P.shape rule 1 P.shape.contacts budget 0
     (written_table ordered_fractions P) ≢ unlimited T c
-
--- a run met no number that is too wide, though it may be over its budget
-abbrev pub IsNowhereTooWide : {C : Type 0} → End C → Type 0
-IsNowhereTooWide (infeasible T) = ⊤
-IsNowhereTooWide (feasible T) = ⊤
-IsNowhereTooWide (optimal T) = ⊤
-IsNowhereTooWide (ray T c) = ⊤
-IsNowhereTooWide (wide p k s) = ⊥
-IsNowhereTooWide over = ⊤
-
--- a run that is nowhere too wide at a greatest value is the same run at a greater one
-abbrev pub WiderRunIsSame : Type 0
-WiderRunIsSame = (m n : ℤ) (P : Problem) (budget : ℕ) → unsigned_abs m ≤ unsigned_abs n →
-    IsNowhereTooWide (run_at m P budget) → run_at n P budget ≡ run_at m P budget

@@ -1,6 +1,4 @@
 pub mod LeavingRow
-pub mod WrittenRun
-pub mod EndNumbers
 pub mod Balance
 pub mod PhaseTables
 pub mod FourEnds

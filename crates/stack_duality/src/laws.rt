@@ -1,18 +1,13 @@
 //! The laws of the written run, each a clause of a function that does nothing.
 
 ghost use Rattle.stack_duality.specs.LeavingRow.{LeavingRowIsBest, NoneIsPositive};
-ghost use Rattle.stack_duality.specs.Laws.{EndsGive, SomeRowLeaves, WiderRunIsSame};
+ghost use Rattle.stack_duality.specs.Laws.{EndsGive, SomeRowLeaves};
 
 /// What the four ends of a run give, for any problem, any budget and any rule of what is too wide; and that a row
 /// leaves wherever a column enters in phase 1. After the duality of linear programs.
 pub fn run_laws()
     ensures ends { EndsGive }
     ensures leaving { SomeRowLeaves }
-{}
-
-/// A run that is nowhere too wide at a greatest value is the same run at a greater one.
-pub fn wider_run_law()
-    ensures { WiderRunIsSame }
 {}
 
 /// The row that leaves for a column has a positive cell there, of all such rows the least ratio, and among equal ratios

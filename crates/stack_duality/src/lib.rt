@@ -1,4 +1,4 @@
-//! The written run of a problem, and what its four ends mean: laws only.
+//! What the four ends of the written run mean for its problem: laws only.
 //!
 //! A run turns its table in three phases up to an end. From what every turn keeps follows, of each end, what its
 //! last table says of the problem: that nothing balances, that its values do, that no greater factor is carried,
@@ -7,4 +7,4 @@
 
 mod laws;
 
-pub use laws::{leaving_law, run_laws, wider_run_law};
+pub use laws::{leaving_law, run_laws};

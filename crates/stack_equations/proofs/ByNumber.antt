@@ -2,8 +2,8 @@
 use Rattle.std.proofs.Common.{refl, sym, subst, ◌∙◌}
 use lib.IntN.{ℤ, pos, ◌+ℤ◌, ◌*ℤ◌}
 use Rattle.stack_algebra.specs.IntegerOrder.{◌≼◌, ◌≺◌}
-use Rattle.stack_equilibrium.specs.Scene.{Scene, IsProper}
-use Rattle.stack_equilibrium.specs.Certificates.{IsTrueLoaded}
+use Rattle.stack_statics.specs.Scene.{Scene, IsProper}
+use Rattle.stack_statics.specs.Certificates.{IsTrueLoaded}
 use Rattle.stack_equations.specs.Edges.{Amounts}
 use Rattle.stack_equations.specs.Equations.{IsSolution, forces_from}
 use Rattle.stack_equations.specs.ByNumber.{dead_on, live_on, StandsBySolution, CollapsesByMoves}

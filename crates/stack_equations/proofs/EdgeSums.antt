@@ -7,8 +7,8 @@ use Rattle.stack_algebra.proofs.Integers.{expand, sums}
 use Rattle.stack_algebra.proofs.Order.{mul_nonneg, nonneg-sub}
 use Rattle.stack_algebra.proofs.IntegerRing.{integers}
 use Rattle.stack_algebra.proofs.Sums.{sum_same}
-use Rattle.stack_equilibrium.specs.Scene.{SceneBearing}
-use Rattle.stack_equilibrium.specs.Balance.{bearing_side, IsWithinCone}
+use Rattle.stack_statics.specs.Scene.{SceneBearing}
+use Rattle.stack_statics.specs.Balance.{bearing_side, IsWithinCone}
 use Rattle.stack_equations.specs.Edges.{part_between, EdgesExertTheirPart, PartsBetweenEdgesAreAdmissible}
 
 -- a part between the edges of its cone stays in the cone

@@ -9,8 +9,8 @@ use Rattle.stack_algebra.specs.Sums.{sum_to}
 use Rattle.stack_algebra.proofs.Integers.{sums}
 use Rattle.stack_algebra.proofs.IntegerRing.{integers}
 use Rattle.stack_algebra.proofs.Sums.{sum_same, sum_more}
-use Rattle.stack_equilibrium.specs.Scene.{Scene}
-use Rattle.stack_equilibrium.specs.Certificates.{free_before}
+use Rattle.stack_statics.specs.Scene.{Scene}
+use Rattle.stack_statics.specs.Certificates.{free_before}
 use Rattle.stack_equilibrium.specs.SurveyScene.{scene_of}
 use Rattle.stack_equilibrium.proofs.FreeNumbers.{before_is, all_before}
 use Rattle.stack_contact.specs.FreeBlocks.{free_of}

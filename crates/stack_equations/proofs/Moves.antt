@@ -7,12 +7,12 @@ use Rattle.stack_algebra.proofs.Integers.{expand, sums}
 use Rattle.stack_algebra.proofs.IntegerRing.{integers}
 use Rattle.stack_algebra.proofs.Sums.{sum_same}
 use Rattle.stack_algebra.proofs.Listed.{length_listed, listed_item}
-use Rattle.stack_equilibrium.specs.declared.types.Wrench.{Wrench}
-use Rattle.stack_equilibrium.specs.Scene.{Move, Scene, IsProper}
-use Rattle.stack_equilibrium.specs.Balance.{edge_of_cone}
-use Rattle.stack_equilibrium.specs.Motions.{opening_of, slide_of, power_of, KeepsFixedStill}
-use Rattle.stack_equilibrium.specs.Certificates.{still, free_before, move_of}
-use Rattle.stack_equilibrium.proofs.BearingWork.{exerted_power}
+use Rattle.stack_statics.specs.declared.wrench.Wrench.{Wrench}
+use Rattle.stack_statics.specs.Scene.{Move, Scene, IsProper}
+use Rattle.stack_statics.specs.Balance.{edge_of_cone}
+use Rattle.stack_statics.specs.Motions.{opening_of, slide_of, power_of, KeepsFixedStill}
+use Rattle.stack_statics.specs.Certificates.{still, free_before, move_of}
+use Rattle.stack_statics.proofs.BearingWork.{exerted_power}
 use Rattle.stack_equations.specs.FreeBodies.{free_bodies}
 use Rattle.stack_equations.specs.Edges.{edge_on}
 use Rattle.stack_equations.specs.MovesByNumber.{moves_from, power_by, PowersAreByNumber}

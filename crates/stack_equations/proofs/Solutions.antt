@@ -5,10 +5,10 @@ use Rattle.stack_algebra.specs.Sums.{sum_to}
 use Rattle.stack_algebra.proofs.IntegerRing.{integers}
 use Rattle.stack_algebra.proofs.Sums.{sum_same}
 use Rattle.stack_algebra.proofs.Listed.{length_listed, listed_item}
-use Rattle.stack_equilibrium.specs.Scene.{BearingPart, SceneBearing, Scene, IsProper}
-use Rattle.stack_equilibrium.specs.Balance.{force_x_of, force_y_of, moment_of, bearing_side, IsWithinCone}
-use Rattle.stack_equilibrium.specs.Balance.{IsAdmissible, IsBalanced}
-use Rattle.stack_equilibrium.specs.Certificates.{part_of, free_before}
+use Rattle.stack_statics.specs.Scene.{BearingPart, SceneBearing, Scene, IsProper}
+use Rattle.stack_statics.specs.Balance.{force_x_of, force_y_of, moment_of, bearing_side, IsWithinCone}
+use Rattle.stack_statics.specs.Balance.{IsAdmissible, IsBalanced}
+use Rattle.stack_statics.specs.Certificates.{part_of, free_before}
 use Rattle.stack_equations.specs.Edges.{Amounts, part_from}
 use Rattle.stack_equations.specs.Equations.{IsSolvedAt, IsSolution, forces_from, SolutionsAreForces}
 use Rattle.stack_equations.proofs.FreeBodies.{before_less, free_found}

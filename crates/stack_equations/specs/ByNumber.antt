@@ -1,9 +1,9 @@
 -- The four certificates by amounts of edges and moves by number.
 use Rattle.std.specs.Prelude.{◌≡◌, ℕ, ℤ, pos, ◌+ℤ◌, ◌*ℤ◌}
 use Rattle.stack_algebra.specs.IntegerOrder.{◌≼◌, ◌≺◌}
-use Rattle.stack_equilibrium.specs.declared.types.Wrench.{Wrench}
-use Rattle.stack_equilibrium.specs.Scene.{Move, Scene, IsProper}
-use Rattle.stack_equilibrium.specs.Certificates.{IsTrueStands, IsTrueCollapse, IsTrueGreatest, IsTrueUnbounded}
+use Rattle.stack_statics.specs.declared.wrench.Wrench.{Wrench}
+use Rattle.stack_statics.specs.Scene.{Move, Scene, IsProper}
+use Rattle.stack_statics.specs.Certificates.{IsTrueStands, IsTrueCollapse, IsTrueGreatest, IsTrueUnbounded}
 use Rattle.stack_equations.specs.Edges.{Amounts}
 use Rattle.stack_equations.specs.Equations.{IsSolution, forces_from}
 use Rattle.stack_equations.specs.MovesByNumber.{moves_from, power_by, AreUnopposed}

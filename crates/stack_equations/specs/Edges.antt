@@ -2,10 +2,10 @@
 use Rattle.std.specs.Prelude.{◌≡◌, ℕ, ◌<◌, ℤ, pos, ◌+ℤ◌, ◌-ℤ◌, ◌*ℤ◌, Bool, true, false}
 use Rattle.stack_algebra.specs.Sums.{sum_to}
 use Rattle.stack_algebra.specs.IntegerOrder.{◌≼◌}
-use Rattle.stack_equilibrium.specs.declared.types.Wrench.{Wrench}
-use Rattle.stack_equilibrium.specs.Scene.{SceneBearing, BearingPart, Scene, IsProper}
-use Rattle.stack_equilibrium.specs.Balance.{bearing_side, force_x_of, force_y_of, moment_of, edge_of_cone}
-use Rattle.stack_equilibrium.specs.Balance.{exerted_on, IsAdmissible}
+use Rattle.stack_statics.specs.declared.wrench.Wrench.{Wrench}
+use Rattle.stack_statics.specs.Scene.{SceneBearing, BearingPart, Scene, IsProper}
+use Rattle.stack_statics.specs.Balance.{bearing_side, force_x_of, force_y_of, moment_of, edge_of_cone}
+use Rattle.stack_statics.specs.Balance.{exerted_on, IsAdmissible}
 
 -- an amount of each edge at each bearing
 pub record Amounts : Type 0 where

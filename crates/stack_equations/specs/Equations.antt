@@ -1,8 +1,8 @@
 -- The three equations of each free body, in amounts of the edges, and the forces that a solution is.
 use Rattle.std.specs.Prelude.{◌≡◌, ℕ, ◌<◌, ℤ, pos, ◌+ℤ◌, ◌*ℤ◌}
 use Rattle.stack_algebra.specs.Listed.{listed}
-use Rattle.stack_equilibrium.specs.Scene.{Scene, IsProper}
-use Rattle.stack_equilibrium.specs.Certificates.{SceneForces, AreBalanced}
+use Rattle.stack_statics.specs.Scene.{Scene, IsProper}
+use Rattle.stack_statics.specs.Certificates.{SceneForces, AreBalanced}
 use Rattle.stack_equations.specs.FreeBodies.{free_at, free_bodies}
 use Rattle.stack_equations.specs.Edges.{Amounts, ArePushes, edges_sum, part_from}
 

@@ -2,8 +2,8 @@
 use Rattle.std.specs.Prelude.{◌≡◌, ℕ, zero, suc, ◌<◌, true, cond, ◌&&◌, eqb, length}
 use Rattle.stack_contact.specs.FreeBlocks.{frees_of}
 use Rattle.stack_contact.specs.Surveyed.{Surveyed}
-use Rattle.stack_equilibrium.specs.Scene.{Scene}
-use Rattle.stack_equilibrium.specs.Certificates.{free_before}
+use Rattle.stack_statics.specs.Scene.{Scene}
+use Rattle.stack_statics.specs.Certificates.{free_before}
 use Rattle.stack_equilibrium.specs.SurveyScene.{scene_of}
 use Rattle.stack_equilibrium.specs.Answers.{body_number}
 

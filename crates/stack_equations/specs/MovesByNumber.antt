@@ -3,10 +3,10 @@ use Rattle.std.specs.Prelude.{◌≡◌, ℕ, ◌<◌, ℤ, pos, List, Bool}
 use Rattle.stack_algebra.specs.Sums.{sum_to}
 use Rattle.stack_algebra.specs.IntegerOrder.{◌≼◌}
 use Rattle.stack_algebra.specs.Listed.{listed}
-use Rattle.stack_equilibrium.specs.declared.types.Wrench.{Wrench}
-use Rattle.stack_equilibrium.specs.Scene.{Move, Scene, IsProper}
-use Rattle.stack_equilibrium.specs.Motions.{power_of}
-use Rattle.stack_equilibrium.specs.Certificates.{move_of, IsFreeMotion}
+use Rattle.stack_statics.specs.declared.wrench.Wrench.{Wrench}
+use Rattle.stack_statics.specs.Scene.{Move, Scene, IsProper}
+use Rattle.stack_statics.specs.Motions.{power_of}
+use Rattle.stack_statics.specs.Certificates.{move_of, IsFreeMotion}
 use Rattle.stack_equations.specs.FreeBodies.{free_at, free_bodies}
 use Rattle.stack_equations.specs.Edges.{edge_on}
 

@@ -1,5 +1,5 @@
-//! The equations of a scene: three sums for each free block, in amounts of the edges of the bearings' cones.
-//! What solves them is forces, and numbers of the sums that no edge opposes are a motion. Laws only.
+//! The equations of free blocks in amounts of cone edges, and what their solutions mean: laws only. What solves them
+//! is forces, and numbers of the sums that no edge opposes are a motion.
 #![tactic(auto)]
 
 mod laws;

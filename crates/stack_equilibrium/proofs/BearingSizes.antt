@@ -35,7 +35,7 @@ use Rattle.stack_contact.specs.ContactLists.{IsPair, IsBearing, corners_of, mate
 use Rattle.stack_contact.specs.Surveyed.{Surveyed, IsSurvey, AreSeparated}
 use Rattle.stack_contact.proofs.AcrossLines.{senses}
 use Rattle.stack_contact.proofs.AlongEdge.{step-parallel}
-use Rattle.stack_equilibrium.specs.Scene.{IsProper}
+use Rattle.stack_statics.specs.Scene.{IsProper}
 use Rattle.stack_equilibrium.specs.SurveyScene.{scene_of, bearing_of}
 use Rattle.stack_equilibrium.specs.Columns.{IsBounded}
 use Rattle.stack_equilibrium.proofs.SurveyBearings.{bearing_is}

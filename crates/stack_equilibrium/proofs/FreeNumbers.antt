@@ -11,7 +11,7 @@ use Rattle.stack_contact.specs.FreeBlocks.{frees_from, frees_of, frees_before}
 use Rattle.stack_contact.specs.Surveyed.{Surveyed}
 use Rattle.stack_contact.proofs.Frees as contact
 use Rattle.stack_contact.proofs.Frees.{counted, counted_all}
-use Rattle.stack_equilibrium.specs.Certificates.{free_before}
+use Rattle.stack_statics.specs.Certificates.{free_before}
 use Rattle.stack_equilibrium.specs.SurveyScene.{scene_of}
 
 -- before a body of a survey are as many free ones as its structure lists before it

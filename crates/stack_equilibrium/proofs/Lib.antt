@@ -1,12 +1,6 @@
-pub mod BearingWork
-pub mod Work
-pub mod Mixtures
-pub mod CertificateLaws
-pub mod Outlines
 pub mod InOrder
 pub mod PlainSums
 pub mod SceneSums
-pub mod FanSums
 pub mod Products
 pub mod WeightSizes
 pub mod Totals
@@ -15,8 +9,4 @@ pub mod ScenePowers
 pub mod SceneRates
 pub mod SurveyBearings
 pub mod BearingSizes
-pub mod Mirrors
-pub mod SwayCorners
-pub mod SwaySums
 pub mod SwaySizes
-pub mod Centroids

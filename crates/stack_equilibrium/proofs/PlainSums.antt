@@ -7,7 +7,7 @@ use Rattle.stack_algebra.specs.Sums.{sum_to}
 use Rattle.stack_algebra.proofs.Integers.{expand, sums}
 use Rattle.stack_algebra.proofs.IntegerRing.{integers}
 use Rattle.stack_algebra.proofs.Sums.{sum_same, sum-first}
-use Rattle.stack_equilibrium.specs.Balance.{bearing_side}
+use Rattle.stack_statics.specs.Balance.{bearing_side}
 use Rattle.stack_contact.specs.declared.types.Bearing.{Bearing}
 use Rattle.stack_equilibrium.specs.declared.types.Axis.{Axis}
 use Rattle.stack_equilibrium.specs.declared.types.Axis.TheVariants.{X, Y, M}

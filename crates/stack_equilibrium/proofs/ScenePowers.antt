@@ -12,15 +12,15 @@ use Rattle.stack_model.specs.Structure.{body_of}
 use Rattle.stack_contact.specs.FreeBlocks.{frees_of}
 use Rattle.stack_contact.specs.Surveyed.{Surveyed}
 use Rattle.stack_certificate.specs.Certificate.{MotionValue}
-use Rattle.stack_equilibrium.specs.declared.types.Wrench.{Wrench}
+use Rattle.stack_statics.specs.declared.wrench.Wrench.{Wrench}
 use Rattle.stack_equilibrium.specs.declared.types.Question.{Question}
 use Rattle.stack_equilibrium.specs.declared.types.Question.TheVariants.{Dead, Live}
 use Rattle.stack_equilibrium.specs.declared.types.PowerWide.{PowerWide}
 use Rattle.stack_whole.specs.declared.whole.Wide.{Wide}
 use Rattle.stack_whole.specs.declared.whole.Whole.{Whole}
 use Rattle.stack_equilibrium.specs.declared.velocity.BlockMove.{BlockMove}
-use Rattle.stack_equilibrium.specs.Motions as motions
-use Rattle.stack_equilibrium.specs.Certificates.{still}
+use Rattle.stack_statics.specs.Motions as motions
+use Rattle.stack_statics.specs.Certificates.{still}
 use Rattle.stack_equilibrium.specs.SurveyScene.{scene_of, loads_on}
 use Rattle.stack_equilibrium.specs.Held.{move_of_triple, moves_of, move_at}
 use Rattle.stack_whole.specs.Whole.{made, whole}

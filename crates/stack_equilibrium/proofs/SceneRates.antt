@@ -17,9 +17,9 @@ use Rattle.stack_equilibrium.specs.declared.block.Joint.{Joint}
 use Rattle.stack_equilibrium.specs.declared.velocity.BlockMove.{BlockMove}
 use Rattle.stack_equilibrium.specs.declared.velocity.Velocity.{Velocity}
 use Rattle.stack_equilibrium.specs.declared.velocity.Gap.{Gap}
-use Rattle.stack_equilibrium.specs.Scene.{Move}
-use Rattle.stack_equilibrium.specs.Motions.{velocity_x_of, velocity_y_of, opening_of, slide_of}
-use Rattle.stack_equilibrium.specs.Certificates.{still, free_before}
+use Rattle.stack_statics.specs.Scene.{Move}
+use Rattle.stack_statics.specs.Motions.{velocity_x_of, velocity_y_of, opening_of, slide_of}
+use Rattle.stack_statics.specs.Certificates.{still, free_before}
 use Rattle.stack_equilibrium.specs.SurveyScene.{first_corner_of, bearing_of, scene_bearing_of, scene_of}
 use Rattle.stack_equilibrium.specs.Held.{move_of_triple, moves_of, move_at}
 use Rattle.stack_whole.specs.Whole.{made, whole}

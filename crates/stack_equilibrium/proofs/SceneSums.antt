@@ -10,15 +10,15 @@ use Rattle.stack_algebra.proofs.Sums.{sum_same}
 use Rattle.stack_contact.specs.declared.types.Bearing.{Bearing}
 use Rattle.stack_contact.specs.Surveyed.{Surveyed}
 use Rattle.stack_certificate.specs.Certificate.{ForcesValue}
-use Rattle.stack_equilibrium.specs.declared.types.Wrench.{Wrench}
+use Rattle.stack_statics.specs.declared.wrench.Wrench.{Wrench}
 use Rattle.stack_equilibrium.specs.declared.types.SumWide.{SumWide}
 use Rattle.stack_equilibrium.specs.declared.types.Axis.{Axis}
 use Rattle.stack_equilibrium.specs.declared.types.Axis.TheVariants.{X, Y, M}
 use Rattle.stack_whole.specs.declared.whole.Wide.{Wide}
 use Rattle.stack_whole.specs.declared.whole.Whole.{Whole}
 use Rattle.stack_equilibrium.specs.declared.block.Joint.{Joint}
-use Rattle.stack_equilibrium.specs.Scene as scene
-use Rattle.stack_equilibrium.specs.Balance.{bearing_side, force_x_of, force_y_of}
+use Rattle.stack_statics.specs.Scene as scene
+use Rattle.stack_statics.specs.Balance.{bearing_side, force_x_of, force_y_of}
 use Rattle.stack_equilibrium.specs.SurveyScene.{no_bearing, first_corner_of, scene_bearing_of}
 use Rattle.stack_equilibrium.specs.Held.{part_of_pair, part_at}
 use Rattle.stack_whole.specs.Whole.{whole}

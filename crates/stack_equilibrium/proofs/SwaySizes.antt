@@ -12,9 +12,9 @@ use Rattle.stack_polygon.specs.Plane.{triangle_of}
 use Rattle.stack_polygon.specs.Corners.{origin}
 use Rattle.stack_polygon.specs.Limits.{IsNear, IsInRange, IsPolygon}
 use Rattle.stack_polygon.specs.Sizes.{IsWithin}
-use Rattle.stack_equilibrium.specs.Loads.{moment_of_triangle, sum_of_triangles}
-use Rattle.stack_equilibrium.specs.Weights.{IsUnitWeight}
-use Rattle.stack_equilibrium.specs.Sway.{level_moment_of_triangle, sway_of}
+use Rattle.stack_statics.specs.Loads.{moment_of_triangle, sum_of_triangles}
+use Rattle.stack_statics.specs.Weights.{IsUnitWeight}
+use Rattle.stack_statics.specs.Sway.{level_moment_of_triangle, sway_of}
 use Rattle.stack_equilibrium.specs.SwaySizes.{IsShareOfWeight, IsSwayLoad}
 
 -- a coordinate times a number

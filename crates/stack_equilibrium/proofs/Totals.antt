@@ -1,8 +1,8 @@
 -- Sums of wrenches, one after the other.
 use Rattle.std.proofs.Common.{◌≡◌, ap, ◌∙◌, ℕ, suc, ◌+◌, ◌≤◌, arith}
 use Rattle.std.proofs.lemmas.Int.{ints}
-use Rattle.stack_equilibrium.specs.declared.types.Wrench.{Wrench}
-use Rattle.stack_equilibrium.specs.Loads.{wrench_sum, total_of}
+use Rattle.stack_statics.specs.declared.wrench.Wrench.{Wrench}
+use Rattle.stack_statics.specs.Loads.{wrench_sum, total_of}
 use Rattle.stack_equilibrium.specs.LoadSizes.{AreLoads, IsSmall}
 
 pub one_more : (n : ℕ) (f : ℕ → Wrench) (total one w : Wrench) → total ≡ total_of n f → one ≡ f n →

@@ -10,9 +10,9 @@ use Rattle.stack_polygon.specs.Corners.{origin}
 use Rattle.stack_polygon.specs.Limits.{IsNear, IsInRange, IsPolygon}
 use Rattle.stack_polygon.specs.Sizes.{IsStep, IsSquare, IsWithin}
 use Rattle.stack_polygon.proofs.Stored.{product-square}
-use Rattle.stack_equilibrium.specs.Loads.{distances_of, moment_of_triangle, sum_of_triangles, weight_of}
+use Rattle.stack_statics.specs.Loads.{distances_of, moment_of_triangle, sum_of_triangles, weight_of}
 use Rattle.stack_equilibrium.specs.LoadSizes.{IsWeight}
-use Rattle.stack_equilibrium.specs.Weights.{IsUnitWeight}
+use Rattle.stack_statics.specs.Weights.{IsUnitWeight}
 
 step : (x y : ℤ) → IsNear x → IsNear y → IsStep (x -ℤ y)
 step x y h k = record { low = omega (arith, ints); high = omega (arith, ints) }

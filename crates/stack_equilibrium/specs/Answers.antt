@@ -4,12 +4,12 @@ use Rattle.std.specs.Prelude.{◌≡◌, ℕ, ℤ, Bool, Ok}
 use Rattle.stack_contact.specs.Surveyed.{Surveyed}
 use Rattle.stack_contact.specs.FreeBlocks.{free_of}
 use Rattle.stack_certificate.specs.Certificate.{ForcesValue, MotionValue}
-use Rattle.stack_equilibrium.specs.declared.types.Wrench.{Wrench}
+use Rattle.stack_statics.specs.declared.wrench.Wrench.{Wrench}
 use Rattle.stack_equilibrium.specs.declared.types.Question.{Question}
 use Rattle.stack_equilibrium.specs.declared.types.Question.TheVariants.{Dead, Live}
-use Rattle.stack_equilibrium.specs.Scene.{Move, SceneBody, Scene}
-use Rattle.stack_equilibrium.specs.Balance.{sum_x_of, sum_y_of, sum_m_of, edge_of_cone, exerted_on}
-use Rattle.stack_equilibrium.specs.Motions.{opening_of, slide_of, dead_power_of, live_power_of}
+use Rattle.stack_statics.specs.Scene.{Move, SceneBody, Scene}
+use Rattle.stack_statics.specs.Balance.{sum_x_of, sum_y_of, sum_m_of, edge_of_cone, exerted_on}
+use Rattle.stack_statics.specs.Motions.{opening_of, slide_of, dead_power_of, live_power_of}
 use Rattle.stack_equilibrium.specs.SurveyScene.{scene_of}
 use Rattle.stack_equilibrium.specs.Held.{part_at, move_at}
 use Rattle.stack_equilibrium.specs.WrittenSums.{written_sums_at}

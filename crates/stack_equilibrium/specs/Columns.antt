@@ -8,7 +8,7 @@ use Rattle.stack_frame.specs.declared.cone.Cone.{Cone}
 use Rattle.stack_frame.specs.Cones.{IsCoefficient}
 use Rattle.stack_polygon.specs.Sizes.{IsStep}
 use Rattle.stack_contact.specs.declared.types.Bearing.{Bearing}
-use Rattle.stack_equilibrium.specs.declared.types.Wrench.{Wrench}
+use Rattle.stack_statics.specs.declared.wrench.Wrench.{Wrench}
 use Rattle.stack_equilibrium.specs.declared.force.Force.{Force}
 use Rattle.stack_whole.specs.Whole.{whole}
 use Rattle.stack_equilibrium.specs.LoadSizes.{IsMoment, arm_between, moment_with}
@@ -47,10 +47,6 @@ edge_wrench_of o z plus = let f = edge_force_of z plus in record {
   fy = f.y.value;
   m = moment_with (arm_between o z.at) f;
 }
-
--- a wrench times a number
-abbrev pub wrench_times : ℤ → Wrench → Wrench
-wrench_times c w = record { fx = c *ℤ w.fx; fy = c *ℤ w.fy; m = c *ℤ w.m }
 
 -- the sizes of such a wrench
 pub record IsEdgeWrench (w : Wrench) : Type 0 where

@@ -2,8 +2,8 @@
 use Rattle.std.specs.Prelude.{ℕ, ℤ, List, map}
 use Rattle.stack_contact.specs.Surveyed.{Surveyed}
 use Rattle.stack_certificate.specs.Certificate.{ForcesValue, MotionValue}
-use Rattle.stack_equilibrium.specs.Scene.{BearingPart, Move}
-use Rattle.stack_equilibrium.specs.Certificates.{SceneForces, part_of, move_of}
+use Rattle.stack_statics.specs.Scene.{BearingPart, Move}
+use Rattle.stack_statics.specs.Certificates.{SceneForces, part_of, move_of}
 use Rattle.stack_equilibrium.specs.SurveyScene.{scene_of}
 
 -- along the normal and along the tangent

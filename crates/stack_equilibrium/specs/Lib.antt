@@ -1,13 +1,4 @@
-pub mod Scene
-pub mod Balance
-pub mod Motions
-pub mod Loads
-pub mod Sway
 pub mod SwaySizes
-pub mod SwayLaws
-pub mod Certificates
-pub mod Laws
-pub mod Weights
 pub mod SurveyScene
 pub mod Held
 pub mod Truth
@@ -17,3 +8,12 @@ pub mod WrittenPowers
 pub mod LoadSizes
 pub mod Columns
 pub mod Answers
+pub use Rattle.stack_statics.specs.Scene
+pub use Rattle.stack_statics.specs.Balance
+pub use Rattle.stack_statics.specs.Motions
+pub use Rattle.stack_statics.specs.Loads
+pub use Rattle.stack_statics.specs.Sway
+pub use Rattle.stack_statics.specs.SwayLaws
+pub use Rattle.stack_statics.specs.Certificates
+pub use Rattle.stack_statics.specs.Laws
+pub use Rattle.stack_statics.specs.Weights

@@ -5,7 +5,7 @@ use Rattle.stack_polygon.specs.declared.point.Point.{Point}
 use Rattle.stack_polygon.specs.Limits.{IsInRange}
 use Rattle.stack_polygon.specs.Sizes.{IsWithin}
 use Rattle.stack_model.specs.declared.types.Load.{Load}
-use Rattle.stack_equilibrium.specs.declared.types.Wrench.{Wrench}
+use Rattle.stack_statics.specs.declared.wrench.Wrench.{Wrench}
 use Rattle.stack_equilibrium.specs.declared.force.Arm.{Arm}
 use Rattle.stack_equilibrium.specs.declared.force.Force.{Force}
 use Rattle.stack_whole.specs.Whole.{whole}

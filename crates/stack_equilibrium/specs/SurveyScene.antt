@@ -7,12 +7,12 @@ use Rattle.stack_model.specs.declared.types.Load.{Load}
 use Rattle.stack_model.specs.Structure as model
 use Rattle.stack_contact.specs.declared.types.Bearing.{Bearing}
 use Rattle.stack_contact.specs.Surveyed.{Surveyed}
-use Rattle.stack_equilibrium.specs.declared.types.Wrench.{Wrench}
+use Rattle.stack_statics.specs.declared.wrench.Wrench.{Wrench}
 use Rattle.stack_equilibrium.specs.declared.types.Question.{Question}
 use Rattle.stack_equilibrium.specs.declared.types.Question.TheVariants.{Dead, Live}
-use Rattle.stack_equilibrium.specs.Scene as scene
-use Rattle.stack_equilibrium.specs.Sway.{sway_of}
-use Rattle.stack_equilibrium.specs.Loads.{no_load, wrench_sum, total_of, weight_of, load_wrench}
+use Rattle.stack_statics.specs.Scene as scene
+use Rattle.stack_statics.specs.Sway.{sway_of}
+use Rattle.stack_statics.specs.Loads.{no_load, wrench_sum, total_of, weight_of, load_wrench}
 
 -- the first stored corner of body i
 abbrev pub first_corner_of : model.Structure → ℕ → Point

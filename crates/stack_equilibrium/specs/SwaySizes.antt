@@ -2,7 +2,7 @@
 use Rattle.std.specs.Prelude.{◌<◌, ◌^◌, ℤ, pos, negsuc, nat_abs, ◌*ℤ◌, ◌-ℤ◌}
 use Rattle.stack_algebra.specs.IntegerOrder.{◌≼◌}
 use Rattle.stack_polygon.specs.Sizes.{IsWithin}
-use Rattle.stack_equilibrium.specs.declared.types.Wrench.{Wrench}
+use Rattle.stack_statics.specs.declared.wrench.Wrench.{Wrench}
 
 -- from -1,000 to 1,000
 pub record IsShareOfWeight (z : ℤ) : Type 0 where
@@ -15,11 +15,3 @@ pub record IsSwayLoad (v : Wrench) : Type 0 where
   pub fx : IsWithin 31 12000000000000000000000 v.fx
   pub fy : IsWithin 31 12000000000000000000000 v.fy
   pub m : IsWithin 31 32000000000000000000000000000 v.m
-
--- the load by twice the area and six times the first moments about the lines through the first corner
-abbrev pub sway_by : ℤ × ℤ → ℤ → ℤ → ℤ → ℤ → Wrench
-sway_by s w twice_area about_y about_x = record {
-  fx = w *ℤ (pos 3 *ℤ twice_area) *ℤ s.0;
-  fy = w *ℤ (pos 3 *ℤ twice_area) *ℤ s.1;
-  m = w *ℤ about_y *ℤ s.1 -ℤ w *ℤ about_x *ℤ s.0;
-}

@@ -5,7 +5,7 @@ use Rattle.stack_contact.specs.Surveyed.{Surveyed}
 use Rattle.stack_certificate.specs.Certificate.{CertificateValue, stands, collapses, greatest, unbounded}
 use Rattle.stack_equilibrium.specs.declared.types.Question.{Question}
 use Rattle.stack_equilibrium.specs.declared.types.Question.TheVariants.{Dead, Live}
-use Rattle.stack_equilibrium.specs.Certificates as statics
+use Rattle.stack_statics.specs.Certificates as statics
 use Rattle.stack_equilibrium.specs.Held.{forces_of, moves_of}
 use Rattle.stack_equilibrium.specs.SurveyScene.{scene_of}
 

@@ -8,7 +8,7 @@ use Rattle.stack_contact.specs.declared.types.Bearing.{Bearing}
 use Rattle.stack_contact.specs.Surveyed.{Surveyed}
 use Rattle.stack_contact.specs.FreeBlocks.{free_of}
 use Rattle.stack_certificate.specs.Certificate.{ForcesValue}
-use Rattle.stack_equilibrium.specs.declared.types.Wrench.{Wrench}
+use Rattle.stack_statics.specs.declared.wrench.Wrench.{Wrench}
 use Rattle.stack_equilibrium.specs.declared.types.SumWide.{SumWide}
 use Rattle.stack_equilibrium.specs.declared.types.Question.TheVariants.{Dead, Live}
 use Rattle.stack_equilibrium.specs.declared.types.Axis.{Axis}

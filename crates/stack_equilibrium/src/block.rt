@@ -45,15 +45,6 @@ pub fn number_along(axis: Axis, wrench: Wrench) -> Whole
     }
 }
 
-/// A number of the survey.
-pub fn whole_of(value: i64) -> Whole
-    ensures { result ≡ whole value }
-{
-    Whole {
-        value: value as i128,
-    }
-}
-
 fn offset(value: i64, from: i64) -> Whole
     ensures { result ≡ whole (value -ℤ from) }
 {
@@ -67,8 +58,8 @@ pub fn joint_of(corner: Point, bearing: Bearing) -> Joint
     ensures { result ≡ joint_at corner bearing }
 {
     Joint {
-        tx: whole_of(bearing.frame.tx),
-        ty: whole_of(bearing.frame.ty),
+        tx: Whole::widened(bearing.frame.tx),
+        ty: Whole::widened(bearing.frame.ty),
         lx: offset(bearing.at.x, corner.x),
         ly: offset(bearing.at.y, corner.y),
     }

@@ -5,15 +5,15 @@ ghost use Rattle.stack_frame.specs.Cones.{IsCoefficient};
 ghost use Rattle.stack_polygon.specs.Sizes.{IsStep};
 ghost use Rattle.stack_polygon.specs.Limits.{IsInRange};
 ghost use Rattle.stack_contact.specs.FreeBlocks.{frees_of};
-ghost use Rattle.stack_equilibrium.specs.Balance.{bearing_side};
+ghost use Rattle.stack_statics.specs.Balance.{bearing_side};
 ghost use Rattle.stack_equilibrium.specs.SurveyScene.{bearing_of, scene_bearing_of};
 ghost use Rattle.stack_whole.specs.Whole.{whole};
 ghost use Rattle.stack_equilibrium.specs.LoadSizes.{AreForces, IsForce, IsMoment, IsSmall};
 ghost use Rattle.stack_equilibrium.specs.Columns.{IsBounded, IsRate, IsShare, IsEdgeWrench, lean_of, edge_force_of};
-ghost use Rattle.stack_equilibrium.specs.Columns.{edge_wrench_of, wrench_times};
+ghost use Rattle.stack_statics.specs.Loads.{wrench_times};
+ghost use Rattle.stack_equilibrium.specs.Columns.{edge_wrench_of};
 ghost use Rattle.stack_equilibrium.specs.Answers.{body_number, column_of};
 
-use crate::block::whole_of;
 use crate::force::{Force, arm_of, moment};
 use crate::openings::bearing_at;
 use crate::types::Wrench;
@@ -42,7 +42,7 @@ fn denominator(cone: Cone) -> Whole
     ensures value { result ≡ whole cone.q }
     ensures size { IsRate result.value }
 {
-    whole_of(cone.q)
+    Whole::widened(cone.q)
 }
 
 /// The other direction.
@@ -96,8 +96,8 @@ fn edge_force(z: Bearing, plus: bool) -> Force
 {
     let q = denominator(z.cone);
     let lean = lean(z.cone, plus);
-    let tx = whole_of(z.frame.tx);
-    let ty = whole_of(z.frame.ty);
+    let tx = Whole::widened(z.frame.tx);
+    let ty = Whole::widened(z.frame.ty);
     Force {
         x: combined(q, opposite(ty), lean, tx),
         y: combined(q, tx, lean, ty),

@@ -1,5 +1,4 @@
-//! Statics of rigid blocks: what forces, motions and certificates mean, the laws that tie them, and the sums of
-//! a survey.
+//! The sums of statics over a survey: forces on blocks, velocities, openings and powers, in the written order.
 //!
 //! ```text
 //! // A post 2 wide and 4 high, its upper left corner pushed to the right with one unit of force.
@@ -12,7 +11,6 @@
 pub mod block;
 mod columns;
 mod force;
-mod laws;
 mod loads;
 mod openings;
 mod powers;
@@ -21,15 +19,15 @@ mod sums;
 mod surveys;
 mod sway;
 pub mod types;
-mod velocity;
+pub mod velocity;
 mod weight;
 
 pub use columns::column;
-pub use laws::{centroid_law, certificate_laws, sway_laws, virtual_work, weight_law};
 pub use loads::{dead, live};
 pub use openings::opening;
 pub use powers::power;
 pub use residues::residue;
+pub use stack_statics::{centroid_law, certificate_laws, sway_laws, virtual_work, weight_law};
 pub use surveys::{proper, written_laws};
 
 #[cfg(test)]

@@ -5,14 +5,13 @@ ghost use Rattle.stack_polygon.specs.Limits.{IsInRange};
 ghost use Rattle.stack_model.specs.ModelView.{model_view};
 ghost use Rattle.stack_contact.specs.FreeBlocks.{frees_of};
 ghost use Rattle.stack_equilibrium.specs.declared.types.Question.TheVariants as questions;
-ghost use Rattle.stack_equilibrium.specs.Loads.{wrench_sum, load_wrench};
+ghost use Rattle.stack_statics.specs.Loads.{wrench_sum, load_wrench};
 ghost use Rattle.stack_equilibrium.specs.LoadSizes.{IsSmall, AreForces, IsMoment, IsLimited, AreLoads, IsWeight};
 ghost use Rattle.stack_equilibrium.specs.LoadSizes.{force_in, sixfold_of};
 ghost use Rattle.stack_equilibrium.specs.SwaySizes.{IsSwayLoad};
 ghost use Rattle.stack_equilibrium.specs.SurveyScene.{is_asked, acting, listed_on, loads_on};
 ghost use Rattle.stack_equilibrium.specs.Answers.{body_in, body_number};
 
-use crate::block::whole_of;
 use crate::force::{Force, arm_of, moment};
 use crate::sway::sway_on;
 use crate::types::{Question, Wrench};
@@ -46,8 +45,8 @@ fn force_of(load: Load) -> Force
     ensures size { AreForces result }
 {
     Force {
-        x: whole_of(load.fx),
-        y: whole_of(load.fy),
+        x: Whole::widened(load.fx),
+        y: Whole::widened(load.fy),
     }
 }
 

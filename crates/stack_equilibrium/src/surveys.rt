@@ -1,6 +1,6 @@
 //! What holds of the scene of a survey.
 
-ghost use Rattle.stack_equilibrium.specs.Scene.{IsProper};
+ghost use Rattle.stack_statics.specs.Scene.{IsProper};
 ghost use Rattle.stack_equilibrium.specs.SurveyScene.{scene_of};
 ghost use Rattle.stack_equilibrium.specs.Answers.{SumsAreThoseOfTheScene, RatesAreThoseOfTheScene};
 ghost use Rattle.stack_equilibrium.specs.Answers.{PowersAreThoseOfTheScene};

@@ -3,9 +3,9 @@
 ghost use Rattle.std.specs.Prelude.{◌≡◌, ◌*ℤ◌, ◌-ℤ◌, pos};
 ghost use Rattle.stack_polygon.specs.Sizes.{IsWithin};
 ghost use Rattle.stack_whole.specs.Whole.{whole};
-ghost use Rattle.stack_equilibrium.specs.Weights.{IsUnitWeight};
-ghost use Rattle.stack_equilibrium.specs.Sway.{sway_of};
-ghost use Rattle.stack_equilibrium.specs.SwaySizes.{IsShareOfWeight, IsSwayLoad, sway_by};
+ghost use Rattle.stack_statics.specs.Weights.{IsUnitWeight};
+ghost use Rattle.stack_statics.specs.Sway.{sway_of, sway_by};
+ghost use Rattle.stack_equilibrium.specs.SwaySizes.{IsShareOfWeight, IsSwayLoad};
 
 use crate::types::Wrench;
 use crate::weight::about;

@@ -1,15 +1,6 @@
-//! Wrenches, and the numbers that are too wide.
+//! What is asked of a survey, and the numbers that are too wide.
 
-/// A force and its moment, in sixths of a unit of force. The moment is about a body's first stored corner, and
-/// positive counter-clockwise.
-#[derive(Clone, Copy, Debug, PartialEq, Eq)]
-pub struct Wrench {
-    /// To the right.
-    pub fx: i128,
-    /// Upwards.
-    pub fy: i128,
-    pub m: i128,
-}
+pub use stack_statics::wrench::Wrench;
 
 /// What a block's sum is along, or about.
 #[derive(Clone, Copy, Debug, PartialEq, Eq)]

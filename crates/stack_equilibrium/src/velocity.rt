@@ -5,7 +5,7 @@ ghost use Rattle.stack_whole.specs.Whole.{whole};
 ghost use Rattle.stack_equilibrium.specs.WrittenVelocities.{written_velocity, written_difference, written_normal};
 ghost use Rattle.stack_equilibrium.specs.WrittenVelocities.{written_tangential, written_gap, at_rest};
 
-use crate::block::{Joint, whole_of};
+use crate::block::Joint;
 use stack_contact::types::Bearing;
 use stack_whole::{Whole, Wide};
 
@@ -87,8 +87,8 @@ fn along_tangent(tx: Whole, ty: Whole, difference: Velocity) -> Result<Whole, Wi
 pub fn gap_of(bearing: Bearing, difference: Velocity) -> Result<Gap, Wide>
     ensures { result ≡ written_gap bearing difference }
 {
-    let tx = whole_of(bearing.frame.tx);
-    let ty = whole_of(bearing.frame.ty);
+    let tx = Whole::widened(bearing.frame.tx);
+    let ty = Whole::widened(bearing.frame.ty);
     let opening = along_normal(tx, ty, difference)?;
     let slide = along_tangent(tx, ty, difference)?;
     Ok(Gap { opening, slide })

@@ -4,9 +4,9 @@ ghost use Rattle.std.specs.Prelude.{◌≡◌, ◌*ℤ◌, ◌-ℤ◌, neg_ℤ, 
 ghost use Rattle.stack_polygon.specs.Limits.{IsNear};
 ghost use Rattle.stack_polygon.specs.Sizes.{IsThreeCoordinates, IsWithin};
 ghost use Rattle.stack_whole.specs.Whole.{whole};
-ghost use Rattle.stack_equilibrium.specs.Loads.{weight_of};
+ghost use Rattle.stack_statics.specs.Loads.{weight_of};
 ghost use Rattle.stack_equilibrium.specs.LoadSizes.{IsWeight};
-ghost use Rattle.stack_equilibrium.specs.Weights.{IsUnitWeight, weight_by};
+ghost use Rattle.stack_statics.specs.Weights.{IsUnitWeight, weight_by};
 
 use crate::types::Wrench;
 use stack_polygon::Polygon;

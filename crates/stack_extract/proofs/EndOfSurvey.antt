@@ -13,7 +13,7 @@ use Rattle.stack_table.specs.Problem.{Problem, flipped}
 use Rattle.stack_table.specs.WrittenTable.{written_table}
 use Rattle.stack_table.specs.Seen.{shape_of_table, table_of, flips_of}
 use Rattle.stack_table.specs.Lent.{IsProblem, shape_of_problem, problem_of}
-use Rattle.stack_duality.specs.WrittenRun.{written_run}
+use Rattle.stack_run.specs.WrittenRun.{written_run}
 use Rattle.stack_posing.specs.Posed.{posed}
 use Rattle.stack_simplex.specs.declared.ended.Ended.{Ended}
 use Rattle.stack_simplex.specs.Ends.{ended_as, last_of}

@@ -14,7 +14,7 @@ use Rattle.stack_equilibrium.specs.SurveyScene.{scene_of}
 use Rattle.stack_table.specs.declared.table.Table.{Table}
 use Rattle.stack_table.specs.Table.{plain, width}
 use Rattle.stack_table.specs.Seen.{shape_of_table, table_of, flips_of}
-use Rattle.stack_duality.specs.WrittenRun.{End, infeasible, feasible, optimal, ray, wide, over}
+use Rattle.stack_run.specs.WrittenRun.{End, infeasible, feasible, optimal, ray, wide, over, never}
 use Rattle.stack_duality.specs.FourEnds.{EndGives}
 use Rattle.stack_duality.specs.Laws.{EndsGive}
 use Rattle.stack_posing.specs.Posed.{posed, posed_shape}
@@ -54,6 +54,7 @@ below q v (optimal T) g r = absurd r
 below q v (ray T c) g r = g.below
 below q v (wide p k s) g r = absurd r
 below q v over g r = absurd r
+below q v never g r = absurd r
 
 module _ {V : Type 0} {number : Ghosts V} (v : Surveyed) (e : Ended V number) (t : Table V number)
     (b : t ≡ last_of e) where

@@ -12,14 +12,14 @@ use Rattle.stack_equilibrium.specs.SurveyScene.{scene_of}
 use Rattle.stack_table.specs.Problem.{flipped, turned}
 use Rattle.stack_table.specs.Seen.{shape_of_table, flips_of}
 use Rattle.stack_table.specs.Table.{Shape, Tabled}
-use Rattle.stack_duality.specs.WrittenRun.{End, infeasible, feasible, optimal, ray, wide, over}
+use Rattle.stack_run.specs.WrittenRun.{End, infeasible, feasible, optimal, ray, wide, over, never}
 use Rattle.stack_last.specs.declared.kind.EndKind.{EndKind}
 use Rattle.stack_last.specs.declared.kind.EndKind.TheVariants as kinds
 use Rattle.stack_posing.specs.Posed.{posed, posed_shape}
 use Rattle.stack_simplex.specs.declared.ended.Ended.{Ended}
 use Rattle.stack_simplex.specs.declared.ended.Ended.TheVariants.{Infeasible, Feasible, Optimal, Ray}
 use Rattle.stack_simplex.specs.Ends.{ended_as, last_of}
-use Rattle.stack_amounts.specs.WholeLists.{whole_list, amount}
+use Rattle.stack_certified.specs.WholeLists.{whole_list, amount}
 use Rattle.stack_certified.specs.Certified.{forces_value, triple_at, end_forces, end_ray, end_collapse}
 use Rattle.stack_certified.specs.Certified.{end_bound}
 use Rattle.stack_certified.specs.Laws.{IsEndOfRun}
@@ -70,6 +70,7 @@ HasForces (optimal T) = ⊤
 HasForces (ray T c) = ⊤
 HasForces (wide p k s) = ⊥
 HasForces over = ⊥
+HasForces never = ⊥
 
 -- an end with a motion: that of a collapse, or the one that bounds the factor
 abbrev pub HasMotion : End Fraction → Type 0
@@ -79,6 +80,7 @@ HasMotion (optimal T) = ⊤
 HasMotion (ray T c) = ⊥
 HasMotion (wide p k s) = ⊥
 HasMotion over = ⊥
+HasMotion never = ⊥
 
 -- an end with a ray: only the one at which the factor rises without limit
 abbrev pub HasRay : End Fraction → Type 0
@@ -88,6 +90,7 @@ HasRay (optimal T) = ⊥
 HasRay (ray T c) = ⊤
 HasRay (wide p k s) = ⊥
 HasRay over = ⊥
+HasRay never = ⊥
 
 -- the column that rises without limit
 abbrev pub entering_of : End Fraction → ℕ
@@ -97,6 +100,7 @@ entering_of (optimal T) = 0
 entering_of (ray T c) = c
 entering_of (wide p k s) = 0
 entering_of over = 0
+entering_of never = 0
 
 -- forces of a list of which no number is too wide
 pub record AreForcesFrom (l : Numbers) (bs : List Bearing) (xs : List Fraction) (f : ForcesValue) : Type 0 where
@@ -132,6 +136,7 @@ module _ (q : Question) (v : Surveyed) where
   motion_place (ray T c) = None
   motion_place (wide p k s) = None
   motion_place over = None
+  motion_place never = None
 
   -- the motion of a collapse, or the one that bounds the factor; other ends have no moves
   abbrev pub end_motion : End Fraction → MotionValue
@@ -141,6 +146,7 @@ module _ (q : Question) (v : Surveyed) where
   end_motion (ray T c) = []
   end_motion (wide p k s) = []
   end_motion over = []
+  end_motion never = []
 
   -- exactly the motion of an end, of which no number is too wide
   pub record IsMotionOf (x : End Fraction) (y : MotionValue) : Type 0 where

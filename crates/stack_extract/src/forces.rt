@@ -3,10 +3,10 @@
 ghost use Rattle.std.specs.Prelude.{◌≡◌, suc, ◌*◌, length, IfOk, IfErr, true};
 ghost use Rattle.stack_certificate.specs.Certificate.{forces_view};
 ghost use Rattle.stack_equilibrium.specs.declared.types.Question.{Question};
-ghost use Rattle.stack_amounts.specs.WholeLists.{whole_list, NonePulls};
+ghost use Rattle.stack_certified.specs.WholeLists.{whole_list, NonePulls};
 ghost use Rattle.stack_simplex.specs.Ends.{ended_as, last_of};
 ghost use Rattle.stack_table.specs.Seen.{table_of};
-ghost use Rattle.stack_duality.specs.WrittenRun.{ray};
+ghost use Rattle.stack_run.specs.WrittenRun.{ray};
 ghost use Rattle.stack_last.specs.Ends.{end_at};
 ghost use Rattle.stack_extract.specs.Places.{TellsPlace, push_place, forces_place, ray_place};
 ghost use Rattle.stack_extract.specs.Ends.{

@@ -1,5 +1,4 @@
-//! From the end of a run to the parts of its certificate: the forces, the ray or the motion of the last
-//! table, in whole numbers of 128 bits, whatever the width of the run.
+//! From the end of a run to the forces, the ray or the motion of its certificate, in whole numbers.
 //!
 //! ```text
 //! // The end of the run of a survey's problem; a post on the ground stands.

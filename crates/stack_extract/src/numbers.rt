@@ -2,8 +2,8 @@
 
 ghost use Rattle.std.specs.Prelude.{◌≡◌, ◌≤◌, ◌<◌, IfOk, IfErr, IfSome, OnOk, None, ◌++◌, ◌∷◌, [], true};
 ghost use Rattle.stack_algebra.proofs.OrderedFractions.{ordered_fractions};
-ghost use Rattle.stack_duality.specs.EndNumbers.{basic_row, value, rate};
-ghost use Rattle.stack_amounts.specs.WrittenLists.{
+ghost use Rattle.stack_run.specs.EndNumbers.{basic_row, value, rate};
+ghost use Rattle.stack_certified.specs.WrittenLists.{
   forces_number,
   forces_list,
   ray_number,

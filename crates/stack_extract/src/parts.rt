@@ -2,13 +2,13 @@
 
 ghost use Rattle.std.specs.Prelude.{◌≡◌, pos, ◌*◌, ◌≤◌, ◌<◌, ◌≤ℤ◌, ◌-ℤ◌, ◌++◌, ◌∷◌, [], length, IfOk, IfErr};
 ghost use Rattle.stack_whole.specs.Whole.{whole};
-ghost use Rattle.stack_amounts.specs.WholeLists.{amount, NonePulls};
+ghost use Rattle.stack_certified.specs.WholeLists.{amount, NonePulls};
 ghost use Rattle.stack_extract.specs.Places.{AreParts, TellsPlace, part_place};
 ghost use Rattle.stack_extract.specs.WrittenPart.{written_part};
 
 use crate::types::{EndStep, ExtractError, Numbers, too_wide};
 use stack_contact::types::Bearing;
-use stack_equilibrium::block::{Push, whole_of};
+use stack_equilibrium::block::Push;
 use stack_frame::Cone;
 use stack_whole::{Whole, Wide};
 use std::alloc::{AllocError, Global};
@@ -42,8 +42,8 @@ fn part(cone: Cone, w: Whole, v: Whole) -> Result<Push, Wide>
     ensures { result ≡ written_part cone w v }
 {
     let sum = w.sum(v)?;
-    let a = whole_of(cone.q).product(sum)?;
-    let b = whole_of(cone.p).product(difference(w, v))?;
+    let a = Whole::widened(cone.q).product(sum)?;
+    let b = Whole::widened(cone.p).product(difference(w, v))?;
     Ok(Push { a, b })
 }
 

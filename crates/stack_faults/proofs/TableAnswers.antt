@@ -124,8 +124,9 @@ items_told part key faults told ms =
 -- right to left
 regrouped : {E : Type 0} (a b c d e f g h i j k : Option E)
     → or_else (or_else (or_else (or_else (or_else (or_else (or_else (or_else (or_else (or_else a b) c) d) e) f) g) h) i)
-    j) k ≡ or_else (or_else (or_else a b) c) (or_else d (or_else e (or_else f (or_else g (or_else h (or_else i (or_else j
-    (or_else k None))))))))
+    j) k
+    ≡ or_else (or_else (or_else a b) c)
+    (or_else d (or_else e (or_else f (or_else g (or_else h (or_else i (or_else j (or_else k None))))))))
 regrouped (Some x) b c d e f g h i j k = refl
 regrouped None (Some x) c d e f g h i j k = refl
 regrouped None None (Some x) d e f g h i j k = refl

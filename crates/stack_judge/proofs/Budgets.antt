@@ -10,7 +10,7 @@ use Rattle.stack_equilibrium.specs.declared.types.Question.{Question}
 use Rattle.stack_equilibrium.specs.declared.types.Question.TheVariants.{Dead, Live}
 use Rattle.stack_equilibrium.specs.SurveyScene.{scene_of}
 use Rattle.stack_equations.specs.FreeBodies.{FreeNumbersAreThoseOfSurveys}
-use Rattle.stack_duality.specs.WrittenRun.{End, infeasible, feasible, optimal, ray, wide, over}
+use Rattle.stack_run.specs.WrittenRun.{End, infeasible, feasible, optimal, ray, wide, over, never}
 use Rattle.stack_circles.specs.Enough.{enough_of}
 use Rattle.stack_circles.specs.Laws.{EnoughSuffices}
 use Rattle.stack_posing.specs.Posed.{posed}
@@ -38,6 +38,7 @@ spent_only q v (optimal T) h = absurd (given_end (end_place q v (optimal T)) _ h
 spent_only q v (ray T c) h = absurd (given_end (end_place q v (ray T c)) _ h)
 spent_only q v (wide p k s) h = absurd cc
 spent_only q v over h = refl
+spent_only q v never h = absurd cc
 
 -- so where the budget is enough for the problem's columns, no answer is that it is spent
 pub suffices : EnoughSuffices → TablesHaveThese → (q : Question) (v : Surveyed) (budget : ℕ)

@@ -24,8 +24,8 @@ use Rattle.stack_extract.specs.Ends.{IsEndOfSurvey, IsLastOf}
 use Rattle.stack_contact.specs.Surveyed.{Surveyed}
 use Rattle.stack_certificate.specs.declared.types.Certificate.{Certificate}
 use Rattle.stack_equilibrium.specs.declared.types.Question.{Question}
-use Rattle.stack_duality.specs.WrittenRun.{End, written_run}
-use Rattle.stack_duality.specs.Laws.{run_at}
+use Rattle.stack_run.specs.WrittenRun.{End, written_run}
+use Rattle.stack_run.specs.ProblemRun.{run_at}
 use Rattle.stack_certified.specs.Certified.{end_certificate}
 use Rattle.stack_rational.specs.declared.exact.Exact.{Ghosts}
 use Rattle.stack_simplex.specs.declared.ended.Ended.{Ended}

@@ -4,3 +4,4 @@ mod Judgements
 mod NarrowRuns
 mod Budgets
 mod RevisedRuns
+pub mod EachJudged

@@ -13,8 +13,8 @@ use Rattle.stack_equilibrium.specs.SurveyScene.{scene_of}
 use Rattle.stack_table.specs.declared.problem.BuildError.{BuildError}
 use Rattle.stack_table.specs.Problem.{Problem}
 use Rattle.stack_table.specs.WrittenTable.{wide_place}
-use Rattle.stack_duality.specs.WrittenRun.{End, infeasible, feasible, optimal, ray, wide, over}
-use Rattle.stack_duality.specs.Laws.{IsNowhereTooWide, WiderRunIsSame}
+use Rattle.stack_run.specs.WrittenRun.{End, infeasible, feasible, optimal, ray, wide, over, never}
+use Rattle.stack_run.specs.ProblemRun.{IsNowhereTooWide, WiderRunIsSame}
 use Rattle.stack_posing.specs.Posed.{posed}
 use Rattle.stack_simplex.specs.declared.ended.Ended.{Ended}
 use Rattle.stack_simplex.specs.declared.ended.Ended.TheVariants as ends
@@ -38,6 +38,7 @@ passes_not (optimal T) h = tt
 passes_not (ray T c) h = tt
 passes_not (wide p k s) h = absurd cc
 passes_not over h = tt
+passes_not never h = tt
 
 narrower : unsigned_abs narrow ≤ unsigned_abs widest
 narrower = omega arith

@@ -27,10 +27,10 @@ use Rattle.stack_equations.specs.FreeBodies.{free_bodies}
 use Rattle.stack_equations.proofs.FreeBodies.{free_numbers_are_those_of_surveys}
 use Rattle.stack_table.specs.Table.{Tabled}
 use Rattle.stack_table.specs.Problem.{Problem, flipped, turned}
-use Rattle.stack_duality.specs.WrittenRun.{End, infeasible, feasible, optimal, ray, wide, over}
+use Rattle.stack_run.specs.WrittenRun.{End, infeasible, feasible, optimal, ray, wide, over, never}
 use Rattle.stack_posing.specs.Posed.{posed, posed_shape}
-use Rattle.stack_amounts.specs.WrittenLists.{forces_list, ray_list, bound_list, collapse_list}
-use Rattle.stack_amounts.specs.WholeLists.{whole_list, amount, multiplier}
+use Rattle.stack_certified.specs.WrittenLists.{forces_list, ray_list, bound_list, collapse_list}
+use Rattle.stack_certified.specs.WholeLists.{whole_list, amount, multiplier}
 use Rattle.stack_certified.specs.Certified.{pair_between, pair_at, forces_value, triple_at, motion_value}
 use Rattle.stack_certified.specs.Certified.{end_forces, end_ray, end_collapse, end_bound, end_certificate}
 use Rattle.stack_extract.specs.declared.types.Numbers.{Numbers}
@@ -166,6 +166,7 @@ certificate_fits q v (ray T c) h =
     )
 certificate_fits q v (wide p k s) h = tt
 certificate_fits q v over h = tt
+certificate_fits q v never h = tt
 
 abbrev FewIf : Option CertificateValue → Type 0
 FewIf None = ⊤
@@ -199,6 +200,7 @@ module _ (v : Surveyed) (bearings : length v.bearings ≤ 1024) (frees : length 
   )
   certificate_few q (wide p k s) = tt
   certificate_few q over = tt
+  certificate_few q never = tt
 
 pub fits_if : (c : CertificateValue) (o : Option CertificateValue) → o ≡ Some c → FitsIf o → CertificateFits c
 fits_if c o e h = subst FitsIf e h

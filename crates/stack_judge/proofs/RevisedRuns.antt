@@ -8,7 +8,7 @@ use Rattle.stack_equilibrium.specs.SurveyScene.{scene_of}
 use Rattle.stack_table.specs.declared.problem.Problem.{Problem as Lent}
 use Rattle.stack_table.specs.Lent.{problem_of, shape_of_problem}
 use Rattle.stack_table.specs.Problem.{Problem, flipped}
-use Rattle.stack_duality.specs.Laws.{run_at}
+use Rattle.stack_run.specs.ProblemRun.{run_at}
 use Rattle.stack_posing.specs.Posed.{posed}
 use Rattle.stack_last.specs.declared.kind.EndKind.{EndKind}
 use Rattle.stack_last.specs.declared.kind.EndKind.TheVariants as kinds

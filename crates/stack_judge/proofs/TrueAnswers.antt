@@ -5,12 +5,12 @@ use Rattle.stack_contact.specs.FreeBlocks.{frees_of}
 use Rattle.stack_contact.specs.Surveyed.{Surveyed}
 use Rattle.stack_certificate.specs.Certificate.{CertificateValue}
 use Rattle.stack_equilibrium.specs.declared.types.Question.{Question}
-use Rattle.stack_equilibrium.specs.Scene.{IsProper}
+use Rattle.stack_statics.specs.Scene.{IsProper}
 use Rattle.stack_equilibrium.specs.SurveyScene.{scene_of}
 use Rattle.stack_checker.specs.declared.types.Check.TheVariants.{Accepted}
 use Rattle.stack_checker.specs.WrittenCheck.{written_check}
 use Rattle.stack_checker.specs.Shown.{Shows}
-use Rattle.stack_duality.specs.WrittenRun.{End}
+use Rattle.stack_run.specs.WrittenRun.{End}
 use Rattle.stack_certified.specs.Certified.{end_certificate}
 use Rattle.stack_certified.specs.Laws.{IsEndOfRun, EndsAreCertified}
 use Rattle.stack_judge.specs.Judged.{IsJudged}
@@ -21,12 +21,13 @@ pub judged : EndsAreCertified → (q : Question) (v : Surveyed) (x : End Fractio
     → IsProper (scene_of v) → length v.bearings ≤ 1024 → length (frees_of v.structure.bodies) ≤ 128
     → IsEndOfRun q v x → lists_place q v x ≡ None → end_certificate q v x ≡ Some c → written_check v c ≡ Accepted
     → Shows v c → IsJudged q v c
-judged certified q v x c proper bearings frees run fit is check shown = let d = certified q v x c proper run is in record {
-  holds = d.holds;
-  form = d.form;
-  dead_loads = d.dead_loads;
-  shows = shown;
-  fits = fits_if c (end_certificate q v x) is (certificate_fits q v x fit);
-  few = few_if c (end_certificate q v x) is (certificate_few v bearings frees q x);
-  accepted = check;
-}
+judged certified q v x c proper bearings frees run fit is check shown =
+    let d = certified q v x c proper run is in record {
+      holds = d.holds;
+      form = d.form;
+      dead_loads = d.dead_loads;
+      shows = shown;
+      fits = fits_if c (end_certificate q v x) is (certificate_fits q v x fit);
+      few = few_if c (end_certificate q v x) is (certificate_few v bearings frees q x);
+      accepted = check;
+    }

@@ -12,7 +12,7 @@ use Rattle.stack_checker.specs.WrittenCheck.{written_check}
 use Rattle.stack_table.specs.Problem.{flipped}
 use Rattle.stack_table.specs.declared.table.Table.{Table}
 use Rattle.stack_table.specs.Seen.{shape_of_table, table_of, flips_of}
-use Rattle.stack_duality.specs.WrittenRun.{End}
+use Rattle.stack_run.specs.WrittenRun.{End}
 use Rattle.stack_simplex.specs.declared.refusal.RunError.{RunError}
 use Rattle.stack_simplex.specs.declared.refusal.RunError.TheVariants as runs
 use Rattle.stack_simplex.specs.Written.{IsTableOf, IsWrittenTable}

@@ -9,7 +9,7 @@ use Rattle.stack_equilibrium.specs.declared.types.Question.{Question}
 use Rattle.stack_checker.specs.declared.types.Check.{Check}
 use Rattle.stack_checker.specs.declared.types.Check.TheVariants as checks
 use Rattle.stack_checker.specs.WrittenCheck.{written_check}
-use Rattle.stack_duality.specs.WrittenRun.{End, infeasible, feasible, optimal, ray, wide, over}
+use Rattle.stack_run.specs.WrittenRun.{End, infeasible, feasible, optimal, ray, wide, over, never}
 use Rattle.stack_certified.specs.Certified.{end_certificate}
 use Rattle.stack_extract.specs.declared.types.ExtractPlace.{ExtractPlace}
 use Rattle.stack_extract.specs.Places.{forces_place, ray_place, collapse_place, bound_place}
@@ -29,6 +29,7 @@ lists_place q v (optimal T) = or_else (in_end (forces_place q v T)) (in_end (bou
 lists_place q v (ray T c) = or_else (in_end (forces_place q v T)) (in_end (ray_place q v T c))
 lists_place q v (wide p k s) = None
 lists_place q v over = None
+lists_place q v never = None
 
 -- of a check
 abbrev pub in_check : Check → Option JudgePlace
@@ -41,6 +42,6 @@ abbrev pub check_place : Surveyed → Option CertificateValue → Option JudgePl
 check_place v None = None
 check_place v (Some c) = in_check (written_check v c)
 
--- of both
+-- the first place of an end that is too wide: in its lists, else in the check of its certificate
 abbrev pub end_place : Question → Surveyed → End Fraction → Option JudgePlace
 end_place q v x = or_else (lists_place q v x) (check_place v (end_certificate q v x))

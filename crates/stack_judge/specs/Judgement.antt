@@ -1,7 +1,7 @@
 -- The judgement of a survey: the certificate of the end of its written run at 128 bits, the place of the first number
 -- that is too wide, or that the budget is spent. That a question about live loads wants one is asked before,
 -- and is a case of `Judges` alone.
-use Rattle.std.specs.Prelude.{◌≡◌, ℕ, Option, Some, None, Result, Ok, Err, ⊤}
+use Rattle.std.specs.Prelude.{◌≡◌, ◌≢◌, ℕ, Option, Some, None, Result, Ok, Err, ⊤}
 use Rattle.stack_algebra.specs.Fraction.{Fraction}
 use Rattle.stack_rational.specs.Laws.{widest}
 use Rattle.stack_model.specs.Structure.{HasLive}
@@ -12,8 +12,8 @@ use Rattle.stack_equilibrium.specs.declared.types.Question.{Question}
 use Rattle.stack_equilibrium.specs.declared.types.Question.TheVariants.{Dead, Live}
 use Rattle.stack_equilibrium.specs.SurveyScene.{scene_of}
 use Rattle.stack_table.specs.declared.types.PivotWide.{PivotWide}
-use Rattle.stack_duality.specs.WrittenRun.{End, infeasible, feasible, optimal, ray, wide, over}
-use Rattle.stack_duality.specs.Laws.{run_at}
+use Rattle.stack_run.specs.WrittenRun.{End, infeasible, feasible, optimal, ray, wide, over, never}
+use Rattle.stack_run.specs.ProblemRun.{run_at}
 use Rattle.stack_simplex.specs.declared.refusal.RunPlace.{RunPlace}
 use Rattle.stack_posing.specs.Posed.{posed}
 use Rattle.stack_certified.specs.Certified.{end_certificate}
@@ -23,11 +23,12 @@ use Rattle.stack_judge.specs.declared.types.JudgeError.{JudgeError}
 use Rattle.stack_judge.specs.declared.types.JudgeError.TheVariants as errors
 use Rattle.stack_judge.specs.EndPlace.{end_place}
 
--- a certificate is found, a number is too wide, or the budget is spent
+-- a certificate is found, a number is too wide, or the budget is spent. That an end is unjudged never comes
 pub data Judgement : Type 0 where
   certified : CertificateValue → Judgement
   too_wide : JudgePlace → Judgement
   spent : Judgement
+  unjudged : Judgement
 
 -- the place of a run
 abbrev pub run_place : (phase pivot : ℕ) → PivotWide → RunPlace
@@ -37,12 +38,13 @@ run_place p k s = record { phase = p; pivot = k; row = s.row; column = s.column;
 abbrev pub judged_by : Option JudgePlace → Option CertificateValue → Judgement
 judged_by (Some p) c = too_wide p
 judged_by None (Some c) = certified c
-judged_by None None = spent
+judged_by None None = unjudged
 
 -- the judgement of the value of a run
 abbrev pub judgement_of : Question → Surveyed → End Fraction → Judgement
 judgement_of q v (wide p k s) = too_wide (places.Run (run_place p k s))
 judgement_of q v over = spent
+judgement_of q v never = unjudged
 judgement_of q v (infeasible T) = judged_by (end_place q v (infeasible T)) (end_certificate q v (infeasible T))
 judgement_of q v (feasible T) = judged_by (end_place q v (feasible T)) (end_certificate q v (feasible T))
 judgement_of q v (optimal T) = judged_by (end_place q v (optimal T)) (end_certificate q v (optimal T))
@@ -55,6 +57,10 @@ survey_run q v budget = run_at widest (posed q (scene_of v)) budget
 -- what comes of a question of a survey within a budget of pivots, by its written run
 abbrev pub judgement : Question → Surveyed → (budget : ℕ) → Judgement
 judgement q v budget = judgement_of q v (survey_run q v budget)
+
+-- no end is left unjudged
+abbrev pub EachEndIsJudged : Type 0
+EachEndIsJudged = (q : Question) (v : Surveyed) (budget : ℕ) → judgement q v budget ≢ unjudged
 
 -- the question is about live loads, and none is listed
 abbrev pub LacksLive : Question → Surveyed → Type 0

@@ -11,8 +11,8 @@ use Rattle.stack_equilibrium.specs.declared.types.Question.{Question}
 use Rattle.stack_equilibrium.specs.SurveyScene.{scene_of}
 use Rattle.stack_table.specs.declared.problem.BuildError.{BuildError}
 use Rattle.stack_table.specs.WrittenTable.{wide_place}
-use Rattle.stack_duality.specs.WrittenRun.{End, infeasible, feasible, optimal, ray, wide, over}
-use Rattle.stack_duality.specs.Laws.{run_at}
+use Rattle.stack_run.specs.WrittenRun.{End, infeasible, feasible, optimal, ray, wide, over, never}
+use Rattle.stack_run.specs.ProblemRun.{run_at}
 use Rattle.stack_posing.specs.Posed.{posed}
 use Rattle.stack_judge.specs.declared.types.JudgeError.{JudgeError}
 
@@ -41,6 +41,7 @@ is_nowhere_too_wide (optimal T) = true
 is_nowhere_too_wide (ray T c) = true
 is_nowhere_too_wide (wide p k s) = false
 is_nowhere_too_wide over = true
+is_nowhere_too_wide never = true
 
 -- 64 bits are enough for the table and for the run, whatever is needed for what is made of its end
 abbrev pub is_narrow : Question → Surveyed → (budget : ℕ) → Bool

@@ -103,8 +103,8 @@ fn judge_by_width(
     }
 }
 
-/// Judges as `judge` does, with the same refusals, and tells whether no number of the table or of the run is too wide
-/// 2^63 - 1: then all of the run was done at 64 bits. Else its table is dropped, and the work done at 128.
+/// Judges as `judge` does, with the same refusals, and tells whether no number of the table or of the run is more
+/// than 2^63 - 1 in size: then all of the run was done at 64 bits. Else its table is dropped, and the work done at 128.
 pub fn judge_marked(
     alloc: Global,
     s: &Survey,

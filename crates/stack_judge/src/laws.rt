@@ -1,5 +1,6 @@
-//! The law of a survey's budget, as a clause of a function that does nothing.
+//! Laws of the judgement of a survey, each a clause of a function that does nothing.
 
+ghost use Rattle.stack_judge.specs.Judgement.{EachEndIsJudged};
 ghost use Rattle.stack_judge.specs.ProblemColumns.{TablesHaveThese};
 
 use stack_equations::free_body_laws;
@@ -11,3 +12,8 @@ pub fn columns_law()
 {
     free_body_laws();
 }
+
+/// Each end of a run is judged: a certificate is found, a number is too wide, or the budget is spent.
+pub fn judgement_law()
+    ensures { EachEndIsJudged }
+{}

@@ -18,7 +18,7 @@ mod revised;
 mod types;
 
 pub use judging::{judge, judge_marked};
-pub use laws::columns_law;
+pub use laws::{columns_law, judgement_law};
 pub use types::{JudgeError, JudgePlace};
 
 #[cfg(test)]

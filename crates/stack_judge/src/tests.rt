@@ -1,5 +1,4 @@
-//! The judgement of a post that is pushed at its head, and of the greatest block, worked by hand; and the mark of a
-//! wall.
+//! The judgement of a post that is pushed at its head, and of the greatest block, worked by hand.
 
 use crate::narrow::narrow_table;
 use crate::{JudgeError, judge, judge_marked};
@@ -8,7 +7,6 @@ use stack_contact::survey;
 use stack_contact::types::Survey;
 use stack_equilibrium::types::Question;
 use stack_model::{Model, Parts, RawBlock, RawLoad, RawMaterial};
-use stack_overhang::wall;
 use stack_simplex::run;
 use std::alloc::Global;
 use std::test::*;
@@ -131,12 +129,11 @@ fn a_post_is_narrow_and_the_greatest_block_is_not(rt: HostRuntime) -> Result<(),
     Ok(())
 }
 
-/// The mark of the first built-in wall is what a plain run at 64 bits tells.
+/// The mark of the pushed post is what a plain run at 64 bits tells.
 #[test]
-fn a_wall_is_narrow_where_a_run_at_64_bits_ends(rt: HostRuntime) -> Result<(), Fail> {
+fn a_post_is_narrow_where_a_run_at_64_bits_ends(rt: HostRuntime) -> Result<(), Fail> {
     let alloc = rt.alloc();
-    let model = wall(alloc, 0).ok().ok_or("no wall")?;
-    let s = survey(alloc, model).ok().ok_or("no survey")?;
+    let s = pushed_post(alloc)?;
     let Ok(Some(table)) = narrow_table(alloc, &s, Question::Live) else {
         return Err(Fail::from("no table at 64 bits"));
     };

@@ -1,7 +1,7 @@
 -- The value of a run that ended, by how it did and its last table.
 use Rattle.stack_algebra.specs.Fraction.{Fraction}
 use Rattle.stack_table.specs.Table.{Tabled}
-use Rattle.stack_duality.specs.WrittenRun.{End, infeasible, feasible, optimal, ray}
+use Rattle.stack_run.specs.WrittenRun.{End, infeasible, feasible, optimal, ray}
 use Rattle.stack_last.specs.declared.kind.EndKind.{EndKind}
 use Rattle.stack_last.specs.declared.kind.EndKind.TheVariants.{Infeasible, Feasible, Optimal, Ray}
 

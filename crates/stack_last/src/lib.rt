@@ -1,5 +1,4 @@
-//! What is asked of the last table of a run, whatever stores it: which columns are basic, the right sides, the
-//! multipliers, and the column of a ray.
+//! What is asked of the last table of a run, whatever stores it.
 //!
 //! ```text
 //! let forces = forces_at(alloc, &survey, EndKind::Feasible, &last)?; // of any type that is a last table

@@ -1,5 +1,5 @@
--- What a model describes: materials, bodies and loads, each a list in the order of the file. Used by every
--- crate above.
+-- What a model describes: materials, joints, bodies and loads, each a list in the order of the file, and a sway.
+-- Used by every crate above.
 use Rattle.std.specs.Prelude.{◌≡◌, ◌≢◌, ◌⊎◌, ℕ, ◌<◌, ℤ, pos, negsuc, Bool, true, false, not, ◌&&◌, ◌||◌, nat_eq, List}
 use Rattle.std.specs.Prelude.{[], get_or, length, find, Option, Some, None, option_map}
 use Rattle.std.specs.List.{list_any}

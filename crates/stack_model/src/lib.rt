@@ -1,4 +1,4 @@
-//! The model of a structure of rigid blocks: materials, joints, bodies and loads, made from parts as a file lists them.
+//! The model of a structure of rigid blocks: materials, joints, bodies, loads and a sway.
 //!
 //! ```text
 //! let model = Model::new(alloc, parts)?; // a ground and a post, or the first fault of the parts

@@ -1,5 +1,4 @@
-//! Stacks and walls that the field knows, as models: harmonic stacks, inverted triangles, slabs after Paterson and
-//! Zwick, and walls drawn by number.
+//! Stacks and walls that the field knows, as models.
 //!
 //! All bricks are named `b1`, `b2` and so on, by rows from the bottom and in each row from the left. The fixed body is
 //! first. Corner lists begin at the lower left and go counter-clockwise.

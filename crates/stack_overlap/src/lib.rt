@@ -1,4 +1,4 @@
-//! Separating edges of two strictly convex polygons, and their common points.
+//! Edges that separate two strictly convex polygons, and the points that they have in common.
 //!
 //! Two polygons that an edge separates, with all of the other polygon on its outer side or on its line, have at
 //! most a segment in common. Two whose spans of coordinates are apart have nothing in common.

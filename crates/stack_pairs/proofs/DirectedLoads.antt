@@ -12,10 +12,10 @@ use Rattle.stack_polygon.specs.declared.point.Point.{Point}
 use Rattle.stack_polygon.specs.Corners.{origin}
 use Rattle.stack_model.specs.declared.types.Load.{Load}
 use Rattle.stack_model.specs.Structure.{Structure, body_of, load_of}
-use Rattle.stack_equilibrium.specs.declared.types.Wrench.{Wrench}
+use Rattle.stack_statics.specs.declared.wrench.Wrench.{Wrench}
 use Rattle.stack_equilibrium.specs.declared.types.Question.TheVariants.{Dead, Live}
-use Rattle.stack_equilibrium.specs.Loads.{no_load, load_wrench, wrench_sum, sum_of_triangles, moment_of_triangle}
-use Rattle.stack_equilibrium.specs.Sway.{sway_of, level_moment_of_triangle}
+use Rattle.stack_statics.specs.Loads.{no_load, load_wrench, wrench_sum, sum_of_triangles, moment_of_triangle}
+use Rattle.stack_statics.specs.Sway.{sway_of, level_moment_of_triangle}
 use Rattle.stack_equilibrium.specs.SurveyScene.{acting, listed_on, loads_on, weight_at, unit_weight_of}
 use Rattle.stack_equilibrium.specs.SurveyScene.{first_corner_of, scene_bearing_of, bearing_of}
 use Rattle.stack_polygon.specs.Plane.{triangle_of}

@@ -10,16 +10,16 @@ use Rattle.stack_algebra.proofs.Order.{◌≼◌, ◌≺◌, mul_pos, mul_nonneg
 use Rattle.stack_contact.specs.Surveyed.{Surveyed}
 use Rattle.stack_certificate.specs.Certificate.{ForcesValue, MotionValue, CertificateValue}
 use Rattle.stack_certificate.specs.Certificate.{stands, collapses, greatest, unbounded}
-use Rattle.stack_equilibrium.specs.declared.types.Wrench.{Wrench}
-use Rattle.stack_equilibrium.specs.Scene.{Move, Scene, IsProper}
-use Rattle.stack_equilibrium.specs.Balance.{Carries}
-use Rattle.stack_equilibrium.specs.Motions.{IsUnresisted, dead_power_of, live_power_of}
-use Rattle.stack_equilibrium.specs.Certificates.{SceneForces, free_before, move_of, still}
-use Rattle.stack_equilibrium.specs.Certificates.{IsTrueCollapse, IsTrueGreatest, IsTrueUnbounded}
+use Rattle.stack_statics.specs.declared.wrench.Wrench.{Wrench}
+use Rattle.stack_statics.specs.Scene.{Move, Scene, IsProper}
+use Rattle.stack_statics.specs.Balance.{Carries}
+use Rattle.stack_statics.specs.Motions.{IsUnresisted, dead_power_of, live_power_of}
+use Rattle.stack_statics.specs.Certificates.{SceneForces, free_before, move_of, still}
+use Rattle.stack_statics.specs.Certificates.{IsTrueCollapse, IsTrueGreatest, IsTrueUnbounded}
 use Rattle.stack_equilibrium.specs.SurveyScene.{scene_of}
 use Rattle.stack_equilibrium.specs.Held.{forces_of, moves_of, move_at}
 use Rattle.stack_equilibrium.specs.Truth.{IsTrueCertificate}
-use Rattle.stack_equilibrium.proofs.CertificateLaws.{greatest_is_carried, unbounded_carries_all}
+use Rattle.stack_statics.proofs.CertificateLaws.{greatest_is_carried, unbounded_carries_all}
 use Rattle.stack_equilibrium.proofs.FreeNumbers.{before_is}
 use Rattle.stack_pairs.specs.Pairs.{toward, CarriesLoads, load_power_of}
 use Rattle.stack_pairs.specs.Directed.{ArePair, directed_survey, wrench_on, CarriesPair}

@@ -7,8 +7,8 @@ use Rattle.stack_model.specs.declared.types.Load.{Load}
 use Rattle.stack_model.specs.Structure.{Structure, load_of}
 use Rattle.stack_model.specs.Borne.{bearing}
 use Rattle.stack_contact.specs.Surveyed.{Surveyed, surveyed}
-use Rattle.stack_equilibrium.specs.declared.types.Wrench.{Wrench}
-use Rattle.stack_equilibrium.specs.Loads.{no_load, load_wrench}
+use Rattle.stack_statics.specs.declared.wrench.Wrench.{Wrench}
+use Rattle.stack_statics.specs.Loads.{no_load, load_wrench}
 use Rattle.stack_equilibrium.specs.SurveyScene.{first_corner_of, scene_of}
 use Rattle.stack_pairs.specs.Pairs.{CarriesLoads}
 

@@ -5,11 +5,11 @@ use Prim.Native.Nat.{ℕ, ◌<◌}
 use lib.IntN.{ℤ, pos, ◌+ℤ◌, ◌*ℤ◌}
 use Rattle.stack_algebra.specs.Sums.{sum_to}
 use Rattle.stack_algebra.specs.IntegerOrder.{◌≺◌}
-use Rattle.stack_equilibrium.specs.declared.types.Wrench.{Wrench}
-use Rattle.stack_equilibrium.specs.Scene.{BearingPart, Move, Scene}
-use Rattle.stack_equilibrium.specs.Balance.{force_x_of, force_y_of, moment_of, bearing_side, IsAdmissible}
-use Rattle.stack_equilibrium.specs.Motions.{power_of}
-use Rattle.stack_equilibrium.specs.Loads.{wrench_sum}
+use Rattle.stack_statics.specs.declared.wrench.Wrench.{Wrench}
+use Rattle.stack_statics.specs.Scene.{BearingPart, Move, Scene}
+use Rattle.stack_statics.specs.Balance.{force_x_of, force_y_of, moment_of, bearing_side, IsAdmissible}
+use Rattle.stack_statics.specs.Motions.{power_of}
+use Rattle.stack_statics.specs.Loads.{wrench_sum}
 
 -- m times a wrench
 abbrev pub times_wrench : ℤ → Wrench → Wrench

@@ -7,8 +7,8 @@ use Rattle.stack_algebra.proofs.Over.{over}
 use Rattle.stack_contact.specs.Surveyed.{Surveyed}
 use Rattle.stack_certificate.specs.Certificate.{ForcesValue, MotionValue, CertificateValue}
 use Rattle.stack_certificate.specs.Certificate.{stands, collapses, greatest, unbounded}
-use Rattle.stack_equilibrium.specs.Balance.{Carries}
-use Rattle.stack_equilibrium.specs.Motions.{dead_power_of, live_power_of}
+use Rattle.stack_statics.specs.Balance.{Carries}
+use Rattle.stack_statics.specs.Motions.{dead_power_of, live_power_of}
 use Rattle.stack_equilibrium.specs.SurveyScene.{scene_of}
 use Rattle.stack_equilibrium.specs.Held.{move_at}
 use Rattle.stack_equilibrium.specs.Truth.{IsTrueCertificate}

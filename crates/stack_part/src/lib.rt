@@ -1,4 +1,4 @@
-//! The part of a structure: some of its bodies, with the loads on them.
+//! A part of a structure: some of its bodies, with the loads on them and the contacts between them.
 //!
 //! ```text
 //! let survey = survey(alloc, model)?; // a post on the ground, and a second post on the first

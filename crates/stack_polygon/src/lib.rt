@@ -1,4 +1,4 @@
-//! Strictly convex polygons with whole coordinates.
+//! Points and strictly convex polygons with whole coordinates.
 //!
 //! A `Polygon` is seen as the list of its corners: 3 to 32 of them, counter-clockwise, each strictly left of
 //! every edge that it isn't an end of, with coordinates from -1,000,000 to 1,000,000.

@@ -11,7 +11,7 @@ use Rattle.stack_algebra.proofs.Listed.{listed_more}
 use Rattle.stack_whole.specs.Limits.{IsBelowBound}
 use Rattle.stack_contact.specs.FreeBlocks.{frees_of}
 use Rattle.stack_contact.specs.Surveyed.{Surveyed}
-use Rattle.stack_equilibrium.specs.declared.types.Wrench.{Wrench}
+use Rattle.stack_statics.specs.declared.wrench.Wrench.{Wrench}
 use Rattle.stack_equilibrium.specs.declared.types.Question.TheVariants.{Dead}
 use Rattle.stack_equilibrium.specs.LoadSizes.{IsSmall}
 use Rattle.stack_equilibrium.specs.SurveyScene.{scene_of}

@@ -4,7 +4,7 @@ use lib.IntN.{pos}
 use Rattle.std.proofs.lemmas.Bool.{lt-ltb, le-ltb, eq-eqb}
 use Rattle.stack_contact.specs.FreeBlocks.{frees_of}
 use Rattle.stack_contact.specs.Surveyed.{Surveyed}
-use Rattle.stack_equilibrium.specs.declared.types.Wrench.{Wrench}
+use Rattle.stack_statics.specs.declared.wrench.Wrench.{Wrench}
 use Rattle.stack_equilibrium.specs.declared.types.Question.{Question}
 use Rattle.stack_equilibrium.specs.declared.types.Question.TheVariants.{Live}
 use Rattle.stack_equilibrium.specs.SurveyScene.{scene_of}

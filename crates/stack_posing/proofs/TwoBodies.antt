@@ -12,10 +12,10 @@ use Rattle.stack_contact.specs.FreeBlocks.{frees_before}
 use Rattle.stack_contact.specs.Surveyed.{Surveyed}
 use Rattle.stack_contact.specs.ContactLists.{IsPair}
 use Rattle.stack_contact.proofs.Frees.{before_is_within, found_again}
-use Rattle.stack_equilibrium.specs.declared.types.Wrench.{Wrench}
+use Rattle.stack_statics.specs.declared.wrench.Wrench.{Wrench}
 use Rattle.stack_equilibrium.specs.LoadSizes.{IsSmall}
-use Rattle.stack_equilibrium.specs.Balance.{bearing_side, force_x_of, force_y_of, moment_of, edge_of_cone}
-use Rattle.stack_equilibrium.specs.Scene.{SceneBearing}
+use Rattle.stack_statics.specs.Balance.{bearing_side, force_x_of, force_y_of, moment_of, edge_of_cone}
+use Rattle.stack_statics.specs.Scene.{SceneBearing}
 use Rattle.stack_equilibrium.specs.SurveyScene.{scene_of, bearing_of}
 use Rattle.stack_equilibrium.specs.Answers.{body_number}
 use Rattle.stack_equilibrium.proofs.FreeNumbers.{before_is, all_before}

@@ -2,10 +2,10 @@
 -- bearing, the edges of its cone of friction; for the live question the factor's column; on the right minus the
 -- dead loads. 0 elsewhere. After Livesley (1978).
 use Rattle.std.specs.Prelude.{ℕ, zero, suc, ◌*◌, ◌/◌, ◌%◌, cond, eqb, ltb, ℤ, pos, neg_ℤ}
-use Rattle.stack_equilibrium.specs.declared.types.Wrench.{Wrench}
+use Rattle.stack_statics.specs.declared.wrench.Wrench.{Wrench}
 use Rattle.stack_equilibrium.specs.declared.types.Question.{Question}
 use Rattle.stack_equilibrium.specs.declared.types.Question.TheVariants.{Dead, Live}
-use Rattle.stack_equilibrium.specs.Scene.{Scene}
+use Rattle.stack_statics.specs.Scene.{Scene}
 use Rattle.stack_equations.specs.FreeBodies.{free_at, free_bodies}
 use Rattle.stack_equations.specs.Edges.{edge_on}
 use Rattle.stack_equations.specs.ByNumber.{dead_on, live_on}

@@ -1,4 +1,4 @@
-//! The problem of a survey, whose solutions are forces: what the run is asked.
+//! The problem of a survey: its rows are sums of free blocks, its columns the edges of cones.
 //!
 //! ```text
 //! let problem = pose(alloc, &survey, Question::Live)?; // of a post on the ground with a live load

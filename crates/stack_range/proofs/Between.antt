@@ -5,9 +5,9 @@ use lib.IntN.{ℤ, pos, ◌+ℤ◌, ◌-ℤ◌, ◌*ℤ◌}
 use Rattle.std.proofs.lemmas.Int.{by_lt_z}
 use Rattle.stack_algebra.proofs.Integers.{expand, sums}
 use Rattle.stack_algebra.proofs.Order.{◌≼◌, ◌≺◌, mul_pos, mul_nonneg}
-use Rattle.stack_equilibrium.specs.Scene.{Scene, IsProper}
-use Rattle.stack_equilibrium.specs.Balance.{IsBalanced, Carries}
-use Rattle.stack_equilibrium.proofs.Mixtures.{mixed, balanced_mixed, admissible_mixed}
+use Rattle.stack_statics.specs.Scene.{Scene, IsProper}
+use Rattle.stack_statics.specs.Balance.{IsBalanced, Carries}
+use Rattle.stack_statics.proofs.Mixtures.{mixed, balanced_mixed, admissible_mixed}
 use Rattle.stack_range.specs.Laws.{WhatLiesBetweenIsCarried}
 
 -- v times one and w times the other

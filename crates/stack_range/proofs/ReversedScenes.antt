@@ -10,12 +10,12 @@ use Rattle.stack_algebra.proofs.Sums.{sum_same, sum_neg}
 use Rattle.stack_polygon.specs.declared.point.Point.{Point}
 use Rattle.stack_polygon.specs.Plane.{triangle_of}
 use Rattle.stack_model.specs.Structure.{Structure, load_of, body_of}
-use Rattle.stack_equilibrium.specs.declared.types.Wrench.{Wrench}
+use Rattle.stack_statics.specs.declared.wrench.Wrench.{Wrench}
 use Rattle.stack_equilibrium.specs.declared.types.Question.{Question}
 use Rattle.stack_equilibrium.specs.declared.types.Question.TheVariants.{Dead, Live}
-use Rattle.stack_equilibrium.specs.Balance.{Carries}
-use Rattle.stack_equilibrium.specs.Loads.{no_load, load_wrench, wrench_sum, sum_of_triangles, moment_of_triangle}
-use Rattle.stack_equilibrium.specs.Sway.{sway_of, level_moment_of_triangle}
+use Rattle.stack_statics.specs.Balance.{Carries}
+use Rattle.stack_statics.specs.Loads.{no_load, load_wrench, wrench_sum, sum_of_triangles, moment_of_triangle}
+use Rattle.stack_statics.specs.Sway.{sway_of, level_moment_of_triangle}
 use Rattle.stack_equilibrium.specs.SurveyScene.{acting, listed_on, first_corner_of, unit_weight_of, weight_at, sway_at}
 use Rattle.stack_equilibrium.specs.SurveyScene.{loads_on, scene_bearing_of, bearing_of, scene_of}
 use Rattle.stack_range.specs.Reversed.{reversed_load, reversed_sway, reversed, opposite}

@@ -4,8 +4,8 @@ use native.Mathlib.Omega.{arith}
 use lib.IntN.{ℤ, ◌*ℤ◌, neg_ℤ}
 use Rattle.std.specs.Prelude.{◌↔◌}
 use Rattle.stack_algebra.proofs.Integers.{expand, sums}
-use Rattle.stack_equilibrium.specs.Scene.{Scene}
-use Rattle.stack_equilibrium.specs.Balance.{Carries}
+use Rattle.stack_statics.specs.Scene.{Scene}
+use Rattle.stack_statics.specs.Balance.{Carries}
 use Rattle.stack_range.specs.Reversed.{reversed_scene}
 
 -- the live loads count the same

@@ -2,8 +2,8 @@
 use Rattle.std.specs.Prelude.{◌≡◌, ◌↔◌, ℤ, pos, neg_ℤ, ◌*ℤ◌}
 use Rattle.stack_algebra.specs.IntegerOrder.{◌≼◌, ◌≺◌}
 use Rattle.stack_contact.specs.Surveyed.{Surveyed}
-use Rattle.stack_equilibrium.specs.Scene.{Scene, IsProper}
-use Rattle.stack_equilibrium.specs.Balance.{Carries}
+use Rattle.stack_statics.specs.Scene.{Scene, IsProper}
+use Rattle.stack_statics.specs.Balance.{Carries}
 use Rattle.stack_equilibrium.specs.SurveyScene.{scene_of}
 use Rattle.stack_equilibrium.specs.Truth.{IsTrueCertificate}
 use Rattle.stack_range.specs.Reversed.{reversed_scene, reversed_survey}

@@ -5,7 +5,7 @@ use Rattle.stack_contact.specs.Surveyed.{Surveyed}
 use Rattle.stack_certificate.specs.Certificate.{stands, collapses, greatest, unbounded}
 use Rattle.stack_equilibrium.specs.declared.types.Question.TheVariants.{Live}
 use Rattle.stack_judge.specs.declared.types.JudgePlace.{JudgePlace}
-use Rattle.stack_judge.specs.Judgement.{Judgement, certified, too_wide, spent, judgement, LacksLive}
+use Rattle.stack_judge.specs.Judgement.{Judgement, certified, too_wide, spent, unjudged, judgement, LacksLive}
 use Rattle.stack_range.specs.declared.types.Side.{Side}
 use Rattle.stack_range.specs.declared.types.Side.TheVariants.{Greatest, Least}
 use Rattle.stack_range.specs.declared.types.Range.{Range}
@@ -21,7 +21,8 @@ pub data RangeJudgement : Type 0 where
   wide_on : Side → JudgePlace → RangeJudgement
   spent_on : Side → RangeJudgement
 
--- of the least side, with the other end. No other certificate comes there: the dead loads stand
+-- of the least side, with the other end. No other certificate comes there: the dead loads stand; and no end is left
+-- unjudged
 abbrev pub by_least : EndValue → Judgement → RangeJudgement
 by_least high (certified (greatest f y)) = told (between (at f y) high)
 by_least high (certified (unbounded base ray)) = told (between (unlimited base ray) high)
@@ -29,8 +30,9 @@ by_least high (certified (collapses y)) = told (collapsing y)
 by_least high (certified (stands f)) = spent_on Least
 by_least high (too_wide p) = wide_on Least p
 by_least high spent = spent_on Least
+by_least high unjudged = spent_on Least
 
--- of both sides, the greatest first. `stands` never comes of live loads
+-- of both sides, the greatest first. `stands` never comes of live loads, and no end is left unjudged
 abbrev pub by_sides : Judgement → Judgement → RangeJudgement
 by_sides (certified (greatest f y)) least = by_least (at f y) least
 by_sides (certified (unbounded base ray)) least = by_least (unlimited base ray) least
@@ -38,6 +40,7 @@ by_sides (certified (collapses y)) least = told (collapsing y)
 by_sides (certified (stands f)) least = spent_on Greatest
 by_sides (too_wide p) least = wide_on Greatest p
 by_sides spent least = spent_on Greatest
+by_sides unjudged least = spent_on Greatest
 
 -- what comes of a survey within a budget of pivots a side, by the written runs of both sides
 abbrev pub range_judgement : Surveyed → (budget : ℕ) → RangeJudgement

@@ -3,7 +3,7 @@ use Rattle.std.specs.Prelude.{◌≡◌, ℕ, Result, Ok, Err, ⊤}
 use Rattle.stack_contact.specs.Surveyed.{Surveyed}
 use Rattle.stack_certificate.specs.Certificate.{MotionValue, CertificateValue, collapses, forces_view, motion_view}
 use Rattle.stack_equilibrium.specs.declared.types.Question.TheVariants.{Live}
-use Rattle.stack_equilibrium.specs.Scene.{IsProper}
+use Rattle.stack_statics.specs.Scene.{IsProper}
 use Rattle.stack_equilibrium.specs.SurveyScene.{scene_of}
 use Rattle.stack_judge.specs.declared.types.JudgeError.{JudgeError}
 use Rattle.stack_judge.specs.declared.types.JudgeError.TheVariants as judge_errors

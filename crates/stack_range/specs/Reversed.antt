@@ -5,8 +5,8 @@ use Rattle.stack_model.specs.declared.types.Load.{Load}
 use Rattle.stack_model.specs.Structure.{Structure}
 use Rattle.stack_model.specs.Borne.{bearing}
 use Rattle.stack_contact.specs.Surveyed.{Surveyed, surveyed}
-use Rattle.stack_equilibrium.specs.declared.types.Wrench.{Wrench}
-use Rattle.stack_equilibrium.specs.Scene.{SceneBody, Scene}
+use Rattle.stack_statics.specs.declared.wrench.Wrench.{Wrench}
+use Rattle.stack_statics.specs.Scene.{SceneBody, Scene}
 
 -- a live load with the opposite force; a dead one as it is
 abbrev pub reversed_load : Load → Load

@@ -1,4 +1,4 @@
-//! The whole range of factors of the live loads that a structure carries, signs allowed.
+//! The whole range of factors of both signs that a structure carries, each end judged on its own side.
 //!
 //! ```text
 //! match range(alloc, &survey, 20_000)? {

@@ -1,4 +1,4 @@
-//! Exact fractions of three widths.
+//! Exact fractions of 8, 64 and 128 bits.
 //!
 //! ```text
 //! let half = Frac::<i64>::from_whole(1)?.quotient(Frac::from_whole(2)?)?;

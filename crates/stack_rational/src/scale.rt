@@ -9,7 +9,7 @@ use crate::frac::Frac;
 /// That the running multiple is more than 2^127 - 1 in size.
 #[derive(Clone, Copy, Debug, PartialEq, Eq)]
 pub struct ScaleWide {
-    /// The first item at which it does.
+    /// The first item at which it is.
     pub index: usize,
 }
 

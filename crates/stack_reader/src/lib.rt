@@ -1,5 +1,4 @@
-//! The TOML file of a model: read to the model that it describes or to its first fault, and written so that it
-//! is read back.
+//! The model's TOML file: read to the model that it describes or to its first fault, and written.
 //!
 //! ```text
 //! let model = read_model(alloc, bytes)?; // the bytes of a model's file

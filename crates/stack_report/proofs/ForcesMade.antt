@@ -12,7 +12,7 @@ use Rattle.stack_whole.specs.Whole.{IsFitting, fits, made, whole}
 use Rattle.stack_frame.specs.declared.frame.Frame.{Frame}
 use Rattle.stack_contact.specs.declared.types.Bearing.{Bearing}
 use Rattle.stack_equilibrium.specs.declared.block.Push.{Push}
-use Rattle.stack_equilibrium.specs.Balance.{force_x_of, force_y_of}
+use Rattle.stack_statics.specs.Balance.{force_x_of, force_y_of}
 use Rattle.stack_equilibrium.specs.SurveyScene.{scene_bearing_of}
 use Rattle.stack_algebra.proofs.Conjunctions.{left_true, right_true}
 use Rattle.stack_report.specs.declared.force.RealForce.{RealForce}

@@ -11,7 +11,7 @@ use Rattle.stack_contact.specs.Surveyed.{Surveyed}
 use Rattle.stack_contact.specs.FreeBlocks.{frees_of}
 use Rattle.stack_certificate.specs.Certificate.{ForcesValue, MotionValue, CertificateValue, stands, collapses}
 use Rattle.stack_certificate.specs.Certificate.{greatest, unbounded}
-use Rattle.stack_equilibrium.specs.Balance.{force_x_of, force_y_of}
+use Rattle.stack_statics.specs.Balance.{force_x_of, force_y_of}
 use Rattle.stack_equilibrium.specs.SurveyScene.{scene_bearing_of}
 use Rattle.stack_equilibrium.specs.declared.block.Push.{Push}
 use Rattle.stack_equilibrium.specs.WrittenSums.{push_at}

@@ -1,7 +1,7 @@
 //! Tables of a survey and of a certificate, as text.
 //!
 //! ```text
-//! contact_table(alloc, &survey)? // "bearings 2\n1 ground post 0 0 ..", the bytes that `contacts` prints
+//! contact_table(alloc, &survey)? // "bearings 2\nbearing 1 ground post 0 0 ..", the bytes that `contacts` prints
 //! force_table(alloc, &survey, &certificate)? // the forces of an accepted certificate, as fractions
 //! ```
 #![tactic(auto)]

@@ -45,3 +45,18 @@ term_scaled m k t old pivot new ep en h = term m k t old pivot new new (pos 0) o
 
     none : (z : ℤ) → z ≡ z -ℤ pos 0
     none z = omega (arith, ints)
+
+one_more : (n : ℤ) → n ≡ n *ℤ pos 1
+one_more n = simp expand (omega (arith, sums))
+
+-- a number that isn't made greater
+pub term_rest : (m t old pivot new product : ℤ) → product ≡ t *ℤ pivot → new ≡ old -ℤ product →
+    unsigned_abs old ≤ unsigned_abs m → unsigned_abs product ≤ unsigned_abs m → IsTerm m (pos 1) t old pivot new
+term_rest m t old pivot new product ep en ho hp = term m (pos 1) t old pivot new old product old pivot (λ i. old)
+    (λ i. pivot) (one_more old) ep en ho hp
+
+-- and one from which nothing is taken
+pub term_stays : (m t old pivot new : ℤ) → pivot ≡ pos 0 → new ≡ old → unsigned_abs old ≤ unsigned_abs m →
+    IsTerm m (pos 1) t old pivot new
+term_stays m t old pivot new ep en h = term_scaled m (pos 1) t old pivot new ep (en ∙ one_more old)
+    (subst (λ z. unsigned_abs z ≤ unsigned_abs m) (sym en) h)

@@ -1,6 +1,7 @@
 pub mod OverOneDenominator
 pub mod Numbers
 pub mod Combined
+pub mod Jumps
 pub mod NumberBlock
 pub mod PutRow
 pub mod Covered
@@ -11,6 +12,7 @@ pub mod Bounds
 pub mod Entered
 pub mod RevisedRows
 pub mod FirstRows
+pub mod ProductSums
 pub mod Made
 pub mod Cleared
 pub mod Steps

@@ -1,8 +1,11 @@
 -- The values of a list that is written item by item.
-use Rattle.std.proofs.Common.{◌≡◌, ◌≢◌, sym, ap, subst, ◌∙◌, ℕ, suc, ◌<◌, ◌≤◌, List, map, length, get_or, set, arith}
+use Rattle.std.proofs.Common.{◌≡◌, ◌≢◌, sym, ap, subst, ◌∙◌, ℕ, zero, suc, ◌<◌, ◌≤◌, List, [], ◌∷◌, map, length, get_or}
+use Rattle.std.proofs.Common.{set, arith, unsigned_abs}
+use lib.IntN.{ℤ, pos}
+use Rattle.std.proofs.lemmas.Int.{ints}
 use Rattle.std.proofs.Common.{get_or-set_same, get_or-set_other}
 use Rattle.std.proofs.lemmas.List.{map-set, get_or-map, length-map, get_or_past}
-use native.Mathlib.Decide.{ℕ_discrete}
+use native.Mathlib.Decide.{ℕ_discrete, dec_lt}
 
 module _ {V C : Type 0} (e : V → C) (z : C) where
   -- past the end
@@ -37,3 +40,31 @@ module _ {C : Type 0} (P : ℕ → C → Type 0) (old now next : ℕ → C) (j :
   -- and one less is as it was
   pub rest_less : (i : ℕ) → suc j ≤ i → next i ≡ old i
   rest_less i l = other i (λ d. omega (arith, l, d)) ∙ rest i (omega (arith, l))
+
+-- each number of a list fits, where each item does; past the end 0 does
+pub fits_at : {V : Type 0} (value : V → ℤ) (m : ℤ) → ((x : V) → unsigned_abs (value x) ≤ unsigned_abs m) →
+    (xs : List V) (i : ℕ) → unsigned_abs (get_or (map value xs) i (pos 0)) ≤ unsigned_abs m
+fits_at value m h [] i = omega (arith, ints)
+fits_at value m h (x ∷ xs) zero = h x
+fits_at value m h (x ∷ xs) (suc i) = fits_at value m h xs i
+
+-- a loop that jumps from item j to item n: P holds of what it has passed, since it holds of what stays between the two
+module _ {C : Type 0} (P : ℕ → C → Type 0) (old now next : ℕ → C) (j n : ℕ) (further : j < n)
+    (done : (i : ℕ) → i < j → P i (now i)) (rest : (i : ℕ) → j ≤ i → now i ≡ old i) (here : P j (next j))
+    (other : (i : ℕ) → i ≢ j → next i ≡ now i) (between : (i : ℕ) → j < i → i < n → P i (old i)) where
+  pub done_jump : (i : ℕ) → i < n → P i (next i)
+  done_jump i l = go (dec_lt i (suc j))
+    where
+      go : Dec (i < suc j) → P i (next i)
+      go (yes b) = done_more P old now next j done rest here other i b
+      go (no b) = subst (P i) (sym (rest_less P old now next j done rest here other i (omega (arith, b))))
+          (between i (omega (arith, b)) l)
+
+  pub rest_jump : (i : ℕ) → n ≤ i → next i ≡ old i
+  rest_jump i l = rest_less P old now next j done rest here other i (omega (arith, l, further))
+
+-- an item of a list is the same with any default
+pub item_same : (xs : List ℕ) (j y z : ℕ) → j < length xs → get_or xs j y ≡ get_or xs j z
+item_same [] j y z l = absurd (omega (arith, l))
+item_same (x ∷ xs) zero y z l = λ i. x
+item_same (x ∷ xs) (suc j) y z l = item_same xs j y z (omega (arith, l))

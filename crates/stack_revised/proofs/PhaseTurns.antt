@@ -11,10 +11,10 @@ use Rattle.stack_rational.specs.TooWide.{is_too_wide}
 use Rattle.stack_table.specs.Table.{Shape, Tabled, plain, right, pivoted_at, clear_objective, set_factor_objective}
 use Rattle.stack_table.specs.Spots.{pivot_spot}
 use Rattle.stack_bland.specs.Choice.{is_nought, is_negative_sign, ratio, entering, leaving, ratio_row}
-use Rattle.stack_duality.specs.WrittenRun.{PhaseStop, settled, unlimited, wide_at, spent, turns, driven_column}
-use Rattle.stack_duality.specs.WrittenRun.{drive_row, drives}
-use Rattle.stack_duality.specs.WrittenRun.{infeasible, after_phase, raise, third_end, past_first, first_end}
-use Rattle.stack_duality.specs.WrittenRun.{written_run}
+use Rattle.stack_run.specs.WrittenRun.{PhaseStop, settled, unlimited, wide_at, spent, turns, driven_column}
+use Rattle.stack_run.specs.WrittenRun.{drive_row, drives}
+use Rattle.stack_run.specs.WrittenRun.{infeasible, after_phase, raise, third_end, past_first, first_end}
+use Rattle.stack_run.specs.WrittenRun.{written_run}
 use Rattle.stack_duality.proofs.BestRow.{best-some}
 use Rattle.stack_duality.proofs.Turn.{turn_settled, turn_unlimited, turn_spent, turn_passing, turn_pivots}
 use Rattle.stack_duality.proofs.Turn.{drives_on, drives_passing, drives_spent}

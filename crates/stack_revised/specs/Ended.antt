@@ -2,7 +2,7 @@
 use Rattle.std.specs.Prelude.{◌≡◌, ℕ, Bool, false, eqb, get_or, ⊤, Result, Ok, Err}
 use Rattle.stack_algebra.specs.Fraction.{Fraction}
 use Rattle.stack_table.specs.Table.{Shape, Tabled}
-use Rattle.stack_duality.specs.WrittenRun.{End, wide, over}
+use Rattle.stack_run.specs.WrittenRun.{End, wide, over}
 use Rattle.stack_revised.specs.declared.whole.Whole.{Ghosts}
 use Rattle.stack_last.specs.declared.kind.EndKind.{EndKind}
 use Rattle.stack_last.specs.declared.kind.EndKind.TheVariants.{Infeasible, Feasible, Optimal, Ray}

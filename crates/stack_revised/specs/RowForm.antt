@@ -1,5 +1,5 @@
 -- A row as whole numbers over one positive denominator, which needn't be the least.
-use Rattle.std.specs.Prelude.{◌≡◌, ℕ, ◌+◌, ◌*◌, ◌<◌, ◌≤◌, cond, ltb, List, map, get_or, ℤ, pos, ◌*ℤ◌}
+use Rattle.std.specs.Prelude.{◌≡◌, ℕ, suc, ◌+◌, ◌*◌, ◌<◌, ◌≤◌, cond, ltb, List, map, get_or, ℤ, pos, ◌*ℤ◌}
 use Rattle.std.specs.Prelude.{◌-ℤ◌, ◌<ℤ◌, None}
 use Rattle.std.specs.Prelude.{unsigned_abs, take, drop, ◌-◌, Bool, true, false}
 use Rattle.stack_algebra.specs.Fraction.{Fraction}
@@ -38,6 +38,11 @@ pub record IsCombined {V : Type 0} (m : ℤ) (value : V → ℤ) (old pivot : Li
   pub number : (j : ℕ) → number_at value new j ≡ number_at value old j *ℤ k -ℤ t *ℤ number_at value pivot j
   pub left : (j : ℕ) → unsigned_abs (number_at value old j *ℤ k) ≤ unsigned_abs m
   pub right : (j : ℕ) → unsigned_abs (t *ℤ number_at value pivot j) ≤ unsigned_abs m
+
+-- beside each column of a row a later one, with nothing between the two
+pub record AreJumps {V : Type 0} (value : V → ℤ) (row : List V) (jumps : List ℕ) : Type 0 where
+  pub further : (j : ℕ) → j < get_or jumps j (suc j)
+  pub nothing : (j k : ℕ) → j < k → k < get_or jumps j (suc j) → number_at value row k ≡ pos 0
 
 -- the same row over another denominator
 pub record IsSameRow {V : Type 0} (value : V → ℤ) (old : List V) (d : ℤ) (new : List V) (e : ℤ) : Type 0 where

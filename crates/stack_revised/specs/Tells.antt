@@ -5,8 +5,8 @@ use Rattle.stack_algebra.proofs.OrderedFractions.{ordered_fractions}
 use Rattle.stack_rational.specs.TooWide.{is_too_wide}
 use Rattle.stack_table.specs.declared.types.PivotWide.{PivotWide}
 use Rattle.stack_table.specs.Table.{Shape, Tabled}
-use Rattle.stack_duality.specs.WrittenRun.{PhaseStop, settled, unlimited, wide_at, spent, turns, End}
-use Rattle.stack_duality.specs.WrittenRun.{wide, over}
+use Rattle.stack_run.specs.WrittenRun.{PhaseStop, settled, unlimited, wide_at, spent, turns, End}
+use Rattle.stack_run.specs.WrittenRun.{wide, over}
 use Rattle.stack_simplex.specs.declared.refusal.RunPlace.{RunPlace}
 use Rattle.stack_simplex.specs.Stops.{spot_of}
 use Rattle.stack_revised.specs.declared.pivots.Pivots.{Pivots}

@@ -1,4 +1,4 @@
-//! The revised simplex run: the written run by the artificial columns of its table alone.
+//! The revised simplex run: the written run by the artificial columns of its table alone, in whole numbers.
 //!
 //! Each row of the table is kept as whole numbers over one denominator: one for each artificial column, which make
 //! the inverse of the basis, and the right side. A number of a plain column is made from these and the first rows

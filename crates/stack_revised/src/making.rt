@@ -10,6 +10,18 @@ use crate::columns::Cell;
 use crate::first::First;
 use crate::whole::Whole;
 
+/// A sum and the product of two numbers. Most numbers of a row are 0.
+fn added<T: Whole>(sum: T, number: T, by: T) -> Option<T>
+    ensures { IfSome result (λ r. T.value r ≡ T.value sum +ℤ T.value number *ℤ T.value by) }
+{
+    if number.is_zero() {
+        return Some(sum);
+    }
+    let product = number.times(by)?;
+    let next = sum.plus(product)?;
+    Some(next)
+}
+
 /// A number and the products of a row with the numbers of a column.
 fn sum_over<T: Whole>(cells: &[Cell<T>], numbers: &[T], start: T) -> Option<T>
     ensures { IfSome result (λ r. T.value r ≡ T.value start
@@ -20,8 +32,7 @@ fn sum_over<T: Whole>(cells: &[Cell<T>], numbers: &[T], start: T) -> Option<T>
         if cell.row >= numbers.len() {
             return None;
         }
-        let product = numbers[cell.row].times(cell.value)?;
-        let next = sum.plus(product)?;
+        let next = added(sum, numbers[cell.row], cell.value)?;
         sum = next;
     }
     Some(sum)
@@ -54,13 +65,24 @@ pub fn number_of<T: Whole>(
     let width = first.rows + 1;
     let from = i * width;
     let own_cell = own_of(first.rows, own, i, j);
-    let start = unders[i].times(own_cell)?;
+    let start = added(T::zero(), own_cell, unders[i])?;
     let number = sum_over(
         first.columns[j].cells.as_slice(),
         &numbers[from..from + width],
         start,
     )?;
     Some(number)
+}
+
+/// Whichever is the greater in size. Most numbers of a row are 0.
+fn greater<T: Whole>(most: T, number: T) -> T
+    ensures own { unsigned_abs (T.value most) ≤ unsigned_abs (T.value result) }
+    ensures other { unsigned_abs (T.value number) ≤ unsigned_abs (T.value result) }
+{
+    if number.is_zero() {
+        return most;
+    }
+    most.wider(number)
 }
 
 /// The greatest in size of the first numbers.
@@ -70,9 +92,31 @@ pub fn widest_of<T: Whole>(numbers: &[T], count: usize) -> T
 {
     let mut most = T::zero();
     for k in 0..count {
-        most = most.wider(numbers[k]);
+        most = greater(most, numbers[k]);
     }
     most
+}
+
+/// The bits of the sizes of the first numbers together.
+fn joined_in<T: Whole>(numbers: &[T], count: usize) -> u128
+    requires { count ≤ length numbers.now }
+    ensures { (k : ℕ) → k < count → unsigned_abs (number_at T.value numbers.now k) ≤ result }
+{
+    let mut size = 0;
+    for k in 0..count {
+        size = numbers[k].joined(size);
+    }
+    size
+}
+
+/// A number that is no less in size than each of the first numbers.
+fn size_over<T: Whole>(numbers: &[T], count: usize) -> Option<T>
+    requires { count ≤ length numbers.now }
+    ensures { IfSome result (λ r. (k : ℕ) → k < count → unsigned_abs (number_at T.value numbers.now k)
+        ≤ unsigned_abs (T.value r)) }
+{
+    let size = T::of_size(joined_in(numbers, count))?;
+    Some(size)
 }
 
 /// A bound of all numbers of a row over this denominator. None where it doesn't fit.
@@ -81,7 +125,7 @@ pub fn bound<T: Whole>(first: &First<T>, numbers: &[T], under: T, greatest: T) -
     ensures { IfSome result (λ b. IsBound T.value first.now.rows numbers.now (T.value under) (T.value first.now.most)
         (T.value greatest) (T.value b)) }
 {
-    let most = widest_of(numbers, first.rows);
+    let most = size_over(numbers, first.rows)?;
     let combined = most.times(first.most)?;
     let own = under.times(greatest)?;
     let both = combined.sizes(own)?;

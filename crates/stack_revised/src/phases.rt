@@ -6,7 +6,7 @@ ghost use Rattle.stack_algebra.proofs.OrderedFractions.{ordered_fractions};
 ghost use Rattle.stack_rational.specs.TooWide.{is_too_wide};
 ghost use Rattle.stack_table.specs.Table.{plain, right, clear_objective, set_factor_objective};
 ghost use Rattle.stack_bland.specs.Choice.{is_negative_sign};
-ghost use Rattle.stack_duality.specs.WrittenRun.{turns, driven_column, drive_row, drives, written_run};
+ghost use Rattle.stack_run.specs.WrittenRun.{turns, driven_column, drive_row, drives, written_run};
 ghost use Rattle.stack_revised.specs.Seen.{shape_of_revised, table_of_revised};
 ghost use Rattle.stack_revised.specs.Tells.{TellsPivots, TellsPhase, TellsRun};
 

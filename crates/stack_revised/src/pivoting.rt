@@ -8,7 +8,7 @@ ghost use Rattle.stack_rational.specs.TooWide.{is_too_wide};
 ghost use Rattle.stack_table.specs.Spots.{reduce_spot, cells_spot};
 ghost use Rattle.std.specs.Prelude.{◌-◌, get_or, true, false};
 ghost use Rattle.stack_rational.specs.Order.{is_zero_whole};
-ghost use Rattle.stack_revised.specs.RowForm.{AreMarked};
+ghost use Rattle.stack_revised.specs.RowForm.{AreMarked, AreJumps};
 ghost use Rattle.stack_revised.specs.RowForm.{under_at, ArePositive, AreWithin, IsBound, IsBounded, IsRowTaken};
 ghost use Rattle.stack_revised.specs.RowForm.{IsRowReduced, IsPlaced, IsDividedRow, IsPivotedCells};
 ghost use Rattle.stack_revised.specs.CellSteps.{TellsSpot};
@@ -18,7 +18,7 @@ use crate::factors::{Factors, factors_of, step_under};
 use crate::first::First;
 use crate::making::{bound, greatest_in, number_of};
 use crate::remaking::remake_lent;
-use crate::row::{reduce_row, settle};
+use crate::row::{find_jumps, reduce_row, settle};
 use crate::spots::{RowStep, is_widest, row_spot};
 use crate::stops::Refusal;
 use crate::whole::Whole;
@@ -81,11 +81,14 @@ fn reduce_lent<T: Whole>(
     numbers: &mut [T],
     unders: &mut [T],
     pivot: &[T],
+    jumps: &[usize],
     factors: Factors<T>,
     over: T,
     i: usize,
 ) -> Option<()>
     requires room { i * length pivot.now + length pivot.now ≤ length numbers.old }
+    requires long { length jumps.now ≡ length pivot.now }
+    requires jumps { AreJumps T.value pivot.now jumps.now }
     requires row_in { i < length unders.old }
     requires positive { ArePositive T.value unders.old }
     ensures positive { ArePositive T.value unders.new }
@@ -94,7 +97,13 @@ fn reduce_lent<T: Whole>(
 {
     let width = pivot.len();
     let from = i * width;
-    let after = reduce_row(&mut numbers[from..from + width], pivot, factors, over)?;
+    let after = reduce_row(
+        &mut numbers[from..from + width],
+        pivot,
+        jumps,
+        factors,
+        over,
+    )?;
     unders[i] = after;
     Some(())
 }
@@ -169,6 +178,7 @@ fn reduce_row_at<T: Whole>(
     numbers: &mut [T],
     unders: &mut [T],
     pivot: &[T],
+    jumps: &[usize],
     pivot_bound: T,
     s: RowStep<T>,
     i: usize,
@@ -177,6 +187,8 @@ fn reduce_row_at<T: Whole>(
     requires room { i * length pivot.now + length pivot.now ≤ length numbers.old }
     requires row_in { i < length unders.old }
     requires own_in { length own.now ≡ length first.now.columns.items }
+    requires long { length jumps.now ≡ length pivot.now }
+    requires jumps { AreJumps T.value pivot.now jumps.now }
     requires under { T.value s.under ≡ under_at T.value unders.old i }
     requires positive { ArePositive T.value unders.old }
     requires pivot_under { pos 0 <ℤ T.value s.pivot_under }
@@ -203,7 +215,7 @@ fn reduce_row_at<T: Whole>(
         Some(over) => over,
         None => return reduce_by_cells(first, own, numbers, unders, pivot, s, factors, i),
     };
-    match reduce_lent(numbers, unders, pivot, factors, over, i) {
+    match reduce_lent(numbers, unders, pivot, jumps, factors, over, i) {
         Some(()) => Ok(()),
         None => Err(Refusal::Unsettled),
     }
@@ -218,6 +230,7 @@ fn reduce_at<T: Whole>(
     numbers: &mut [T],
     unders: &mut [T],
     pivot: &[T],
+    jumps: &[usize],
     under: T,
     pivot_bound: T,
     marks: &mut [bool],
@@ -230,6 +243,8 @@ fn reduce_at<T: Whole>(
     requires column_in { column < length first.now.columns.items }
     requires own_in { length own.now ≡ length first.now.columns.items }
     requires mark_in { i < length marks.old }
+    requires long { length jumps.now ≡ length pivot.now }
+    requires jumps { AreJumps T.value pivot.now jumps.now }
     requires positive { ArePositive T.value unders.old }
     requires under { pos 0 <ℤ T.value under }
     ensures positive { ArePositive T.value unders.new }
@@ -268,6 +283,7 @@ fn reduce_at<T: Whole>(
         numbers,
         unders,
         pivot,
+        jumps,
         pivot_bound,
         s,
         i,
@@ -362,11 +378,13 @@ fn pivot_block<T: Whole>(
     numbers: &mut [T],
     unders: &mut [T],
     pivot: &mut [T],
+    jumps: &mut [usize],
     marks: &mut [bool],
     row: usize,
     column: usize,
 ) -> Result<(), Refusal>
     requires width { length pivot.old ≡ suc first.now.rows }
+    requires jumps { length jumps.old ≡ suc first.now.rows }
     requires marks { length marks.old ≡ suc first.now.rows }
     requires marked { AreMarked T.MAX
         (revised_cell T.value first.now.rows first.now.columns.items own.now numbers.old unders.old) marks.old }
@@ -395,6 +413,7 @@ fn pivot_block<T: Whole>(
         Some(divided) => divided,
         None => return Err(Refusal::Unsettled),
     };
+    find_jumps(pivot, jumps);
     for i in 0..unders.len() {
         if i == row {
             continue;
@@ -406,6 +425,7 @@ fn pivot_block<T: Whole>(
             numbers,
             unders,
             pivot,
+            jumps,
             divided.under,
             divided.most,
             marks,
@@ -435,11 +455,13 @@ pub fn pivot_or_unmark<T: Whole>(
     numbers: &mut [T],
     unders: &mut [T],
     pivot: &mut [T],
+    jumps: &mut [usize],
     marks: &mut [bool],
     row: usize,
     column: usize,
 ) -> Result<(), Refusal>
     requires width { length pivot.old ≡ suc first.now.rows }
+    requires jumps { length jumps.old ≡ suc first.now.rows }
     requires marks { length marks.old ≡ suc first.now.rows }
     requires marked { AreMarked T.MAX
         (revised_cell T.value first.now.rows first.now.columns.items own.now numbers.old unders.old) marks.old }
@@ -465,7 +487,7 @@ pub fn pivot_or_unmark<T: Whole>(
         (revised_cell T.value first.now.rows first.now.columns.items own.now numbers.old unders.old) row column)) }
 {
     match pivot_block(
-        first, own, greatest, numbers, unders, pivot, marks, row, column,
+        first, own, greatest, numbers, unders, pivot, jumps, marks, row, column,
     ) {
         Ok(()) => Ok(()),
         Err(e) => {

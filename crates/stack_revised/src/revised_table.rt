@@ -32,6 +32,8 @@ pub struct RevisedTable<T: Whole> {
     basic: Vec<usize>,
     /// Room for the pivot row.
     pivot: Vec<T>,
+    /// Room for the next column of the pivot row beside each, in which it has something.
+    jumps: Vec<usize>,
     /// Rows all of whose cells are known to fit.
     marks: Vec<bool>,
     contacts: usize,
@@ -43,6 +45,7 @@ pub struct RevisedTable<T: Whole> {
     ghost owns: { length own.items ≡ length first.columns.items },
     ghost within: { IsOwn T.value own.items (T.value greatest) },
     ghost positive: { ArePositive T.value unders.items },
+    ghost one_jump: { length jumps.items ≡ suc first.rows },
     ghost one_mark: { length marks.items ≡ suc first.rows },
     ghost marked: { AreMarked T.MAX (revised_cell T.value first.rows first.columns.items own.items numbers.items
         unders.items) marks.items },
@@ -80,6 +83,7 @@ impl<T: Whole> RevisedTable<T> {
         let mut numbers = repeated(alloc, T::zero(), width * width)?;
         let mut unders = repeated(alloc, one, width)?;
         let mut pivot = repeated(alloc, T::zero(), width)?;
+        let jumps = first_basics(alloc, 0, width)?;
         let marks = no_marks(alloc, width)?;
         let basic = first_basics(alloc, first.columns.len(), p.rows)?;
         match fill(
@@ -100,6 +104,7 @@ impl<T: Whole> RevisedTable<T> {
             unders,
             basic,
             pivot,
+            jumps,
             marks,
             contacts: p.contact.len(),
             has_factor: p.factor.is_some(),
@@ -204,6 +209,7 @@ impl<T: Whole> RevisedTable<T> {
             self.numbers.as_mut_slice(),
             self.unders.as_mut_slice(),
             self.pivot.as_mut_slice(),
+            self.jumps.as_mut_slice(),
             self.marks.as_mut_slice(),
             row,
             column,

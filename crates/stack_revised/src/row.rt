@@ -1,7 +1,8 @@
 //! The steps of a pivot on one row.
 
-ghost use Rattle.std.specs.Prelude.{◌≡◌, ℕ, ◌<◌, ◌≤◌, pos, ◌*ℤ◌, ◌-ℤ◌, ◌<ℤ◌, unsigned_abs, length, IfSome, true};
-ghost use Rattle.stack_revised.specs.RowForm.{number_at, IsTerm, IsCombined, IsSameRow, IsTaken};
+ghost use Rattle.std.specs.Prelude.{◌≡◌, ℕ, ◌<◌, ◌≤◌, pos, ◌*ℤ◌, ◌-ℤ◌, ◌<ℤ◌, unsigned_abs, length, IfSome, OnSome};
+ghost use Rattle.std.specs.Prelude.{true};
+ghost use Rattle.stack_revised.specs.RowForm.{number_at, AreJumps, IsTerm, IsCombined, IsSameRow, IsTaken};
 
 use crate::factors::Factors;
 use crate::whole::Whole;
@@ -23,33 +24,120 @@ fn term<T: Whole>(number: T, other: T, k: T, t: T) -> Option<T>
     Some(rest)
 }
 
-/// Takes from a row, whose numbers are made k times as great, t times the pivot row.
-fn combine<T: Whole>(numbers: &mut [T], pivot: &[T], k: T, t: T) -> bool
-    requires { length pivot.now ≡ length numbers.old }
-    ensures { result ≡ true → IsCombined T.MAX T.value numbers.old pivot.now (T.value k) (T.value t) numbers.new }
+/// A number of a row, less t times that of the pivot row.
+fn rest<T: Whole>(number: T, other: T, t: T) -> Option<T>
+    ensures { IfSome result (λ r. IsTerm T.MAX (pos 1) (T.value t) (T.value number) (T.value other) (T.value r)) }
 {
+    let product = t.times(other)?;
+    let rest = number.less(product)?;
+    Some(rest)
+}
+
+/// Whether one of the numbers of a row is great, as far as one is known.
+fn is_great<T: Whole>(known: bool, number: T) -> bool {
+    if number.is_small() { known } else { true }
+}
+
+/// Takes from a row, whose numbers are made k times as great, t times the pivot row. Gives whether it is great then,
+/// by its numbers or by what is known of it.
+fn combine<T: Whole>(numbers: &mut [T], pivot: &[T], k: T, t: T, known: bool) -> Option<bool>
+    requires { length pivot.now ≡ length numbers.old }
+    ensures { OnSome result (IsCombined T.MAX T.value numbers.old pivot.now (T.value k) (T.value t) numbers.new) }
+{
+    let mut great = known;
     for j in 0..numbers.len() {
         match term(numbers[j], pivot[j], k, t) {
-            Some(number) => numbers[j] = number,
-            None => return false,
+            Some(number) => {
+                great = is_great(great, number);
+                numbers[j] = number;
+            }
+            None => return None,
         }
     }
-    true
+    Some(great)
+}
+
+/// Takes from a row t times the pivot row, in the columns alone in which this has something.
+fn subtract<T: Whole>(numbers: &mut [T], pivot: &[T], jumps: &[usize], t: T) -> Option<()>
+    requires width { length pivot.now ≡ length numbers.old }
+    requires long { length jumps.now ≡ length numbers.old }
+    requires jumps { AreJumps T.value pivot.now jumps.now }
+    ensures { OnSome result (IsCombined T.MAX T.value numbers.old pivot.now (pos 1) (T.value t) numbers.new) }
+{
+    let mut j = 0;
+    while j < numbers.len() {
+        match rest(numbers[j], pivot[j], t) {
+            Some(number) => numbers[j] = number,
+            None => return None,
+        }
+        j = jumps[j];
+    }
+    Some(())
+}
+
+/// Beside each column of a row the next one after it in which the row has something.
+pub fn find_jumps<T: Whole>(row: &[T], jumps: &mut [usize])
+    requires { length jumps.old ≡ length row.now }
+    ensures { AreJumps T.value row.now jumps.new }
+{
+    let mut next = row.len();
+    let mut j = row.len();
+    while 0 < j {
+        j -= 1;
+        jumps[j] = next;
+        if !row[j].is_zero() {
+            next = j;
+        }
+    }
+}
+
+/// The same by either way. A row that isn't multiplied isn't told to be great: its denominator stays.
+fn change<T: Whole>(
+    numbers: &mut [T],
+    pivot: &[T],
+    jumps: &[usize],
+    factors: Factors<T>,
+    known: bool,
+) -> Option<bool>
+    requires width { length pivot.now ≡ length numbers.old }
+    requires long { length jumps.now ≡ length numbers.old }
+    requires jumps { AreJumps T.value pivot.now jumps.now }
+    ensures { OnSome result (IsCombined T.MAX T.value numbers.old pivot.now (T.value factors.times)
+        (T.value factors.less) numbers.new) }
+{
+    if factors.times.is_one() {
+        subtract(numbers, pivot, jumps, factors.less)?;
+        Some(false)
+    } else {
+        combine(numbers, pivot, factors.times, factors.less, known)
+    }
 }
 
 /// A number that should divide a denominator and all numbers of its row.
 fn content<T: Whole>(numbers: &[T], under: T) -> T {
     let mut common = under;
+    let mut twos = common.twos();
+    let mut inverse = common.inverse();
     for j in 0..numbers.len() {
         if common.is_one() {
             return common;
         }
         let number = numbers[j];
-        if !number.is_zero() {
+        if !goes_into(number, common, twos, inverse) {
             common = number.divisor(common);
+            twos = common.twos();
+            inverse = common.inverse();
         }
     }
     common
+}
+
+/// Whether a number goes into another, by its inverse.
+fn goes_into<T: Whole>(number: T, by: T, twos: u32, inverse: T) -> bool {
+    if number.is_zero() {
+        return true;
+    }
+    number.exact(by, twos, inverse).is_some()
 }
 
 /// Divides each number of a row, where all quotients are whole.
@@ -57,10 +145,12 @@ fn divide_all<T: Whole>(numbers: &mut [T], by: T) -> bool
     ensures { result ≡ true → (j : ℕ) → number_at T.value numbers.new j *ℤ T.value by
         ≡ number_at T.value numbers.old j }
 {
+    let twos = by.twos();
+    let inverse = by.inverse();
     for j in 0..numbers.len() {
         let number = numbers[j];
         if !number.is_zero() {
-            match number.divided(by) {
+            match number.exact(by, twos, inverse) {
                 Some(quotient) => numbers[j] = quotient,
                 None => return false,
             }
@@ -111,20 +201,31 @@ pub fn settle<T: Whole>(numbers: &mut [T], under: T) -> Option<T>
     }
 }
 
+/// The same for a row that is great; another stays as it is.
+fn settle_great<T: Whole>(numbers: &mut [T], under: T, great: bool) -> Option<T>
+    ensures { IfSome result (λ e. IsSameRow T.value numbers.old (T.value under) numbers.new (T.value e)) }
+{
+    if !great && under.is_positive() {
+        return Some(under);
+    }
+    settle(numbers, under)
+}
+
 /// Takes a multiple of the pivot row from a row, and reduces it. `over` is its denominator before it is reduced.
 pub fn reduce_row<T: Whole>(
     numbers: &mut [T],
     pivot: &[T],
+    jumps: &[usize],
     factors: Factors<T>,
     over: T,
 ) -> Option<T>
     requires width { length pivot.now ≡ length numbers.old }
+    requires long { length jumps.now ≡ length numbers.old }
+    requires jumps { AreJumps T.value pivot.now jumps.now }
     ensures { IfSome result (λ e. IsTaken T.value numbers.old (T.value over) pivot.now (T.value factors.times)
         (T.value factors.less) numbers.new (T.value e)) }
 {
-    if !combine(numbers, pivot, factors.times, factors.less) {
-        return None;
-    }
-    let after = settle(numbers, over)?;
+    let great = change(numbers, pivot, jumps, factors, !over.is_small())?;
+    let after = settle_great(numbers, over, great)?;
     Some(after)
 }

@@ -5,7 +5,7 @@ ghost use Rattle.stack_rational.specs.Laws.{widest};
 ghost use Rattle.stack_table.specs.Problem.{flipped};
 ghost use Rattle.stack_table.specs.Table.{plain};
 ghost use Rattle.stack_table.specs.Lent.{IsProblem, shape_of_problem, problem_of};
-ghost use Rattle.stack_duality.specs.Laws.{run_at};
+ghost use Rattle.stack_run.specs.ProblemRun.{run_at};
 ghost use Rattle.stack_revised.specs.RowForm.{number_at};
 ghost use Rattle.stack_revised.specs.Seen.{shape_of_revised, table_of_revised, number_in};
 ghost use Rattle.stack_revised.specs.FirstTable.{flips};
@@ -23,8 +23,8 @@ use crate::revised_table::RevisedTable;
 use crate::stops::{RevisedStop, Stop};
 use crate::whole::Whole;
 use crate::wide::Wide;
-use stack_duality::wider_run_law;
 use stack_last::EndKind;
+use stack_run::wider_run_law;
 use stack_table::problem::Problem;
 use std::alloc::Global;
 

@@ -43,6 +43,15 @@ pub trait Whole: Copy {
         ensures own { unsigned_abs (value self) ≤ unsigned_abs (value result) }
         ensures other { unsigned_abs (value other) ≤ unsigned_abs (value result) };
 
+    /// The bits of a size and of its own together, which are no less than either.
+    fn joined(self, size: u128) -> u128
+        ensures own { unsigned_abs (value self) ≤ result }
+        ensures other { size ≤ result };
+
+    /// The number of this size that isn't negative.
+    fn of_size(size: u128) -> Option<Self>
+        ensures { IfSome result (λ r. unsigned_abs (value r) ≡ size) };
+
     /// A number at least as great as the sum of both sizes.
     fn sizes(self, other: Self) -> Option<Self>
         ensures { IfSome result (λ r.
@@ -50,6 +59,16 @@ pub trait Whole: Copy {
 
     /// A number that should divide both.
     fn divisor(self, other: Self) -> Self;
+
+    /// How often 2 goes into it.
+    fn twos(self) -> u32;
+
+    /// The inverse, modulo a power of 2, of what is left of it without these.
+    fn inverse(self) -> Self;
+
+    /// The quotient, where it is whole, by the inverse of what it is divided by: one product in place of a division.
+    fn exact(self, other: Self, twos: u32, inverse: Self) -> Option<Self>
+        ensures { IfSome result (λ r. value r *ℤ value other ≡ value self) };
 
     /// The quotient, where it is whole.
     fn divided(self, other: Self) -> Option<Self>
@@ -63,7 +82,11 @@ pub trait Whole: Copy {
     fn is_zero(self) -> bool
         ensures { result ≡ is_zero_whole (value self) };
 
-    fn is_one(self) -> bool;
+    fn is_one(self) -> bool
+        ensures { result ≡ true → value self ≡ pos 1 };
+
+    /// Whether a row of such numbers may be left as it is.
+    fn is_small(self) -> bool;
 
     fn is_positive(self) -> bool
         ensures sign { result ≡ is_plus (sign_of (value self)) }

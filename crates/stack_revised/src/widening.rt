@@ -1,6 +1,6 @@
 //! Whole numbers of 128 bits.
 
-ghost use Rattle.std.specs.Prelude.{◌≡◌, ◌≤◌, ◌≤ℤ◌, pos, unsigned_abs, IfSome};
+ghost use Rattle.std.specs.Prelude.{◌≡◌, ◌≤◌, ◌≤ℤ◌, ◌*ℤ◌, pos, unsigned_abs, IfSome};
 
 use crate::common::of_numbers;
 use crate::products::{Ratios, compare};
@@ -29,6 +29,60 @@ fn size(n: Wide) -> Option<Wide>
     Some(n)
 }
 
+/// As a number of 64 bits, where it is one.
+fn short(n: Wide) -> Option<i64>
+    ensures { IfSome result (λ r. r ≡ n.number) }
+{
+    if n.number < -9223372036854775808 || 9223372036854775807 < n.number {
+        return None;
+    }
+    Some(n.number as i64)
+}
+
+/// The product of two numbers of 64 bits: it fits.
+fn product_of(a: i64, b: i64) -> i128
+    ensures { result ≡ a *ℤ b }
+{
+    a as i128 * b as i128
+}
+
+/// The product, where both are numbers of 64 bits.
+fn short_product(a: Wide, b: Wide) -> Option<i128>
+    ensures { IfSome result (λ r. r ≡ a.number *ℤ b.number) }
+{
+    let left = short(a)?;
+    let right = short(b)?;
+    Some(product_of(left, right))
+}
+
+/// The quotient, where both are numbers of 64 bits and it is whole.
+fn short_quotient(a: Wide, b: Wide) -> Option<i64>
+    ensures { IfSome result (λ r. r *ℤ b.number ≡ a.number) }
+{
+    let left = short(a)?;
+    let right = short(b)?;
+    let quotient = left.checked_div(right)?;
+    if product_of(quotient, right) == a.number {
+        Some(quotient)
+    } else {
+        None
+    }
+}
+
+/// The inverse of the odd part of a number modulo 2^128, by Newton's steps: each doubles the bits that are right.
+fn inverse_of(n: i128) -> i128 {
+    let twos = n.trailing_zeros();
+    if 128 <= twos {
+        return n;
+    }
+    let odd = n >> twos;
+    let mut inverse = odd.wrapping_mul(3) ^ 2;
+    for _ in 0..5 {
+        inverse = inverse.wrapping_mul(2i128.wrapping_sub(odd.wrapping_mul(inverse)));
+    }
+    inverse
+}
+
 impl Whole for Wide {
     ghost use Rattle.std.specs.Prelude.{◌^◌, ◌-◌};
     ghost use Rattle.std.proofs.Common.{lit<, refl};
@@ -55,9 +109,14 @@ impl Whole for Wide {
     }
 
     fn times(self, other: Self) -> Option<Self> {
-        let product = self.number.checked_mul(other.number)?;
-        let number = wide(product)?;
-        Some(number)
+        match short_product(self, other) {
+            Some(product) => wide(product),
+            None => {
+                let product = self.number.checked_mul(other.number)?;
+                let number = wide(product)?;
+                Some(number)
+            }
+        }
     }
 
     fn less(self, other: Self) -> Option<Self> {
@@ -80,6 +139,17 @@ impl Whole for Wide {
         }
     }
 
+    fn joined(self, size: u128) -> u128 {
+        size | self.number.unsigned_abs()
+    }
+
+    fn of_size(size: u128) -> Option<Self> {
+        if 170141183460469231731687303715884105727 < size {
+            return None;
+        }
+        wide(size as i128)
+    }
+
     fn sizes(self, other: Self) -> Option<Self> {
         let left = size(self)?;
         let right = size(other)?;
@@ -99,14 +169,43 @@ impl Whole for Wide {
         }
     }
 
-    fn divided(self, other: Self) -> Option<Self> {
-        let quotient = self.number.checked_div(other.number)?;
-        let product = quotient.checked_mul(other.number)?;
-        if product != self.number {
+    fn twos(self) -> u32 {
+        self.number.trailing_zeros()
+    }
+
+    fn inverse(self) -> Self {
+        match wide(inverse_of(self.number)) {
+            Some(inverse) => inverse,
+            None => self,
+        }
+    }
+
+    fn exact(self, other: Self, twos: u32, inverse: Self) -> Option<Self> {
+        if 128 <= twos {
             return None;
         }
-        let number = wide(quotient)?;
-        Some(number)
+        let number = wide((self.number >> twos).wrapping_mul(inverse.number))?;
+        let product = number.times(other)?;
+        if product.number == self.number {
+            Some(number)
+        } else {
+            None
+        }
+    }
+
+    fn divided(self, other: Self) -> Option<Self> {
+        match short_quotient(self, other) {
+            Some(quotient) => wide(quotient as i128),
+            None => {
+                let quotient = self.number.checked_div(other.number)?;
+                let product = quotient.checked_mul(other.number)?;
+                if product != self.number {
+                    return None;
+                }
+                let number = wide(quotient)?;
+                Some(number)
+            }
+        }
     }
 
     fn order(self, under: Self, other: Self, other_under: Self) -> Option<Ordering> {
@@ -124,6 +223,10 @@ impl Whole for Wide {
 
     fn is_one(self) -> bool {
         self.number == 1
+    }
+
+    fn is_small(self) -> bool {
+        -1152921504606846976 < self.number && self.number < 1152921504606846976
     }
 
     fn is_positive(self) -> bool {

@@ -8,7 +8,7 @@ use Rattle.stack_algebra.proofs.OrderedFractions.{ordered_fractions}
 use Rattle.stack_algebra.proofs.Search.{least-some}
 use Rattle.stack_table.specs.Table.{Shape, Tabled, plain}
 use Rattle.stack_bland.specs.Choice.{is_nought, ratio, leaving}
-use Rattle.stack_duality.specs.WrittenRun.{driven_column}
+use Rattle.stack_run.specs.WrittenRun.{driven_column}
 use Rattle.stack_duality.proofs.BestRow.{best-some}
 
 module _ (S : Shape) (T : Tabled Fraction) where

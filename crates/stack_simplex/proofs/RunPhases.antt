@@ -8,8 +8,8 @@ use Rattle.stack_table.specs.Table.{Shape, Tabled, plain, columns, right, clear_
 use Rattle.stack_table.specs.Problem.{Problem}
 use Rattle.stack_table.specs.Lent.{problem_of}
 use Rattle.stack_bland.specs.Choice.{is_negative_sign}
-use Rattle.stack_duality.specs.WrittenRun.{PhaseStop, settled, unlimited, End, infeasible, over, after_phase, turns}
-use Rattle.stack_duality.specs.WrittenRun.{drives, raise, third_end, past_first, first_end, written_run}
+use Rattle.stack_run.specs.WrittenRun.{PhaseStop, settled, unlimited, End, infeasible, over, after_phase, turns}
+use Rattle.stack_run.specs.WrittenRun.{drives, raise, third_end, past_first, first_end, written_run}
 use Rattle.stack_duality.specs.FourEnds.{EndGives}
 use Rattle.stack_duality.specs.Laws.{EndsGive, SomeRowLeaves}
 use Rattle.stack_circles.specs.Enough.{enough_of}

@@ -5,7 +5,7 @@ use Rattle.stack_algebra.specs.Fraction.{Fraction}
 use Rattle.stack_algebra.proofs.OrderedFractions.{ordered_fractions}
 use Rattle.stack_rational.specs.TooWide.{is_too_wide}
 use Rattle.stack_table.specs.Table.{Shape, Tabled}
-use Rattle.stack_duality.specs.WrittenRun.{settled, drive_row, drives}
+use Rattle.stack_run.specs.WrittenRun.{settled, drive_row, drives}
 use Rattle.stack_duality.proofs.Turn.{drives_on, drives_passing, drives_spent}
 use Rattle.stack_simplex.specs.declared.pivots.Pivots.{Pivots}
 use Rattle.stack_simplex.specs.declared.refusal.RunError.{RunError}

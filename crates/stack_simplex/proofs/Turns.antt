@@ -7,7 +7,7 @@ use Rattle.stack_rational.specs.TooWide.{is_too_wide}
 use Rattle.stack_table.specs.Table.{Shape, Tabled, pivoted_at}
 use Rattle.stack_table.specs.Spots.{pivot_spot}
 use Rattle.stack_bland.specs.Choice.{entering, leaving, ratio_row}
-use Rattle.stack_duality.specs.WrittenRun.{PhaseStop, wide_at}
+use Rattle.stack_run.specs.WrittenRun.{PhaseStop, wide_at}
 use Rattle.stack_duality.proofs.Turn.{turn_spent, turn_passing, turn_pivots}
 use Rattle.stack_simplex.specs.declared.pivots.Pivots.{Pivots}
 use Rattle.stack_simplex.specs.declared.refusal.RunError.{RunError}

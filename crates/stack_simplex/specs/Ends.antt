@@ -4,7 +4,7 @@ use Rattle.stack_algebra.specs.Fraction.{Fraction}
 use Rattle.stack_rational.specs.declared.exact.Exact.{Ghosts}
 use Rattle.stack_table.specs.declared.table.Table.{Table}
 use Rattle.stack_table.specs.Seen.{table_of}
-use Rattle.stack_duality.specs.WrittenRun.{End, infeasible, feasible, optimal, ray, wide, over}
+use Rattle.stack_run.specs.WrittenRun.{End, infeasible, feasible, optimal, ray, wide, over}
 use Rattle.stack_simplex.specs.declared.ended.Ended.{Ended}
 use Rattle.stack_simplex.specs.declared.ended.Ended.TheVariants.{Infeasible, Feasible, Optimal, Ray}
 use Rattle.stack_simplex.specs.declared.refusal.RunError.{RunError}

@@ -7,7 +7,7 @@ ghost use Rattle.stack_rational.specs.TooWide.{is_too_wide};
 ghost use Rattle.stack_table.specs.Table.{right};
 ghost use Rattle.stack_table.specs.Seen.{shape_of_table, table_of, flips_of};
 ghost use Rattle.stack_bland.specs.Choice.{is_negative_sign};
-ghost use Rattle.stack_duality.specs.WrittenRun.{turns};
+ghost use Rattle.stack_run.specs.WrittenRun.{turns};
 ghost use Rattle.stack_simplex.specs.Phases.{pivots_answer};
 ghost use Rattle.stack_simplex.specs.Written.{IsWrittenTable};
 
@@ -45,7 +45,7 @@ pub fn first_phase<S: Exact>(t: &mut Table<S>, budget: u32) -> Result<Pivots, Ru
     let contacts = t.contacts();
     match run_phase(t, 1, contacts, Pivots::within(budget))? {
         PhaseEnd::Settled(pivots) => Ok(pivots),
-        // It never comes: in phase 1 some row leaves wherever a column enters.
-        PhaseEnd::Unlimited(_) => Err(RunError::Spent),
+        // In phase 1 some row leaves wherever a column enters.
+        PhaseEnd::Unlimited(_) => unreachable!(),
     }
 }

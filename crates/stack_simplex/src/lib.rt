@@ -19,7 +19,7 @@ ghost use Rattle.stack_rational.specs.TooWide.{is_too_wide};
 ghost use Rattle.stack_table.specs.Table.{columns};
 ghost use Rattle.stack_table.specs.Problem.{Problem};
 ghost use Rattle.stack_table.specs.Seen.{shape_of_table, table_of, flips_of};
-ghost use Rattle.stack_duality.specs.WrittenRun.{written_run};
+ghost use Rattle.stack_run.specs.WrittenRun.{written_run};
 ghost use Rattle.stack_duality.specs.FourEnds.{EndGives};
 ghost use Rattle.stack_circles.specs.Enough.{enough_of};
 ghost use Rattle.stack_simplex.specs.declared.refusal.RunError.TheVariants.{Spent};

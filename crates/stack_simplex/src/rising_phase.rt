@@ -5,7 +5,7 @@ ghost use Rattle.stack_algebra.proofs.OrderedFractions.{ordered_fractions};
 ghost use Rattle.stack_rational.specs.TooWide.{is_too_wide};
 ghost use Rattle.stack_table.specs.Table.{plain, set_factor_objective};
 ghost use Rattle.stack_table.specs.Seen.{shape_of_table, table_of, flips_of};
-ghost use Rattle.stack_duality.specs.WrittenRun.{turns};
+ghost use Rattle.stack_run.specs.WrittenRun.{turns};
 ghost use Rattle.stack_simplex.specs.Phases.{phase_answer};
 
 use crate::pivots::Pivots;

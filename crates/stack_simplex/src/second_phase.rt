@@ -7,7 +7,7 @@ ghost use Rattle.stack_rational.specs.TooWide.{is_too_wide};
 ghost use Rattle.stack_table.specs.Table.{plain, clear_objective};
 ghost use Rattle.stack_table.specs.Seen.{shape_of_table, table_of, flips_of};
 ghost use Rattle.stack_bland.specs.Choice.{is_nought};
-ghost use Rattle.stack_duality.specs.WrittenRun.{driven_column, drive_row, drives};
+ghost use Rattle.stack_run.specs.WrittenRun.{driven_column, drive_row, drives};
 ghost use Rattle.stack_simplex.specs.Phases.{pivots_answer};
 
 use crate::pivots::Pivots;

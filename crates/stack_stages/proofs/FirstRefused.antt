@@ -5,7 +5,7 @@ use Rattle.std.proofs.lemmas.Bool.{cases_lt}
 use Rattle.stack_contact.specs.Surveyed.{Surveyed}
 use Rattle.stack_certificate.specs.Certificate.{ForcesValue, stands, collapses, greatest, unbounded}
 use Rattle.stack_equilibrium.specs.declared.types.Question.TheVariants.{Dead}
-use Rattle.stack_judge.specs.Judgement.{Judgement, certified, too_wide, spent, judgement}
+use Rattle.stack_judge.specs.Judgement.{Judgement, certified, too_wide, spent, unjudged, judgement}
 use Rattle.stack_stages.specs.Stage.{surveyed_stage}
 use Rattle.stack_stages.specs.Staged.{staged_by, staged_from, staged, StandBefore, AreUnjudged}
 use Rattle.stack_stages.specs.declared.types.StagesError.{StagesError}
@@ -48,6 +48,7 @@ module _ (v : Surveyed) (order : List ℕ) (budget : ℕ) where
       go (certified (unbounded f r)) e more = tt
       go (too_wide p) e more = record { before = k; is_next = refl; within = within; earlier = h; is = e }
       go spent e more = record { before = k; is_next = refl; within = within; earlier = h; is = e }
+      go unjudged e more = tt
 
   -- of all of them
   first_unjudged : AreUnjudged v order budget (staged v order budget)

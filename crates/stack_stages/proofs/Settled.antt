@@ -6,11 +6,11 @@ use Rattle.std.proofs.lemmas.Option.{slice_get-get_or}
 use Rattle.stack_model.specs.Sound.{IsSound}
 use Rattle.stack_contact.specs.Surveyed.{Surveyed, IsSurvey}
 use Rattle.stack_certificate.specs.Certificate.{ForcesValue}
-use Rattle.stack_equilibrium.specs.Scene.{IsProper}
+use Rattle.stack_statics.specs.Scene.{IsProper}
 use Rattle.stack_equilibrium.specs.Held.{forces_of, moves_of}
 use Rattle.stack_equilibrium.specs.SurveyScene.{scene_of}
 use Rattle.stack_equilibrium.proofs.BearingSizes.{survey_proper}
-use Rattle.stack_equilibrium.proofs.CertificateLaws.{stands_is_carried, collapse_excludes_balance}
+use Rattle.stack_statics.proofs.CertificateLaws.{stands_is_carried, collapse_excludes_balance}
 use Rattle.stack_part.specs.Part.{surveyed_part}
 use Rattle.stack_part.proofs.PartSound.{part_sound}
 use Rattle.stack_part.proofs.PartSurveys.{part_surveyed}

@@ -6,10 +6,10 @@ use Rattle.stack_contact.specs.Surveyed.{Surveyed}
 use Rattle.stack_certificate.specs.Certificate.{ForcesValue, MotionValue, stands, collapses}
 use Rattle.stack_certificate.specs.Certificate.{greatest, unbounded}
 use Rattle.stack_equilibrium.specs.declared.types.Question.TheVariants.{Dead}
-use Rattle.stack_equilibrium.specs.Balance.{Carries}
+use Rattle.stack_statics.specs.Balance.{Carries}
 use Rattle.stack_equilibrium.specs.SurveyScene.{scene_of}
 use Rattle.stack_judge.specs.declared.types.JudgePlace.{JudgePlace}
-use Rattle.stack_judge.specs.Judgement.{Judgement, certified, too_wide, spent, judgement}
+use Rattle.stack_judge.specs.Judgement.{Judgement, certified, too_wide, spent, unjudged, judgement}
 use Rattle.stack_judge.specs.Judged.{IsJudged}
 use Rattle.stack_stages.specs.Stage.{surveyed_stage}
 
@@ -22,7 +22,7 @@ pub data Staged : Type 0 where
   spent_at : (stage : ℕ) → Staged
 
 -- what comes of a stage, behind those that stand by these forces. The dead loads alone are asked about, so a
--- certificate is one of standing or of a collapse
+-- certificate is one of standing or of a collapse; and no end is left unjudged
 abbrev pub staged_by : (List ForcesValue → Staged) → (stage : ℕ) → List ForcesValue → Judgement → Staged
 staged_by more stage fs (certified (stands f)) = more (fs ++ f ∷ [])
 staged_by more stage fs (certified (collapses m)) = falls fs m
@@ -30,6 +30,7 @@ staged_by more stage fs (certified (greatest f m)) = all_stand fs
 staged_by more stage fs (certified (unbounded f r)) = all_stand fs
 staged_by more stage fs (too_wide p) = too_wide_at stage p
 staged_by more stage fs spent = spent_at stage
+staged_by more stage fs unjudged = all_stand fs
 
 -- of the stages behind stage k, which are so many
 abbrev pub staged_from : Surveyed → List ℕ → (budget : ℕ) → (left k : ℕ) → List ForcesValue → Staged

@@ -1,4 +1,4 @@
-//! The exact table of a problem as one flat block of cells, and its pivot.
+//! The exact table of a problem as one flat block of cells: built, pivoted, its objective rows.
 //!
 //! A problem is lent in columns of entries. `Table::build` writes its table and takes all memory of a run;
 //! `Table::pivot` and the two objectives change it in place, and `Table::block` lends all cells at once.

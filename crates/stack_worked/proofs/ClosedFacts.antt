@@ -4,10 +4,10 @@ use lib.IntN.{ℤ, pos, ◌*ℤ◌}
 use Rattle.stack_algebra.proofs.Order.{◌≼◌, abs}
 use Rattle.stack_frame.specs.declared.cone.Cone.{Cone}
 use Rattle.stack_frame.specs.Admitted.{IsAdmitted}
-use Rattle.stack_equilibrium.specs.Scene.{Scene, BearingPart}
-use Rattle.stack_equilibrium.specs.Balance.{sum_x_of, sum_y_of, sum_m_of, IsBalancedAt}
-use Rattle.stack_equilibrium.specs.Motions.{IsStill}
-use Rattle.stack_equilibrium.specs.Certificates.{still}
+use Rattle.stack_statics.specs.Scene.{Scene, BearingPart}
+use Rattle.stack_statics.specs.Balance.{sum_x_of, sum_y_of, sum_m_of, IsBalancedAt}
+use Rattle.stack_statics.specs.Motions.{IsStill}
+use Rattle.stack_statics.specs.Certificates.{still}
 
 -- a fact at each index below 2, 3, 4
 pub below_two : (P : ℕ → Type 0) → P 0 → P 1 → (k : ℕ) → k < 2 → P k

@@ -7,7 +7,7 @@ use Rattle.std.specs.Prelude.{false, nat_eq}
 use Rattle.std.proofs.lemmas.Bool.{ne_eqb}
 use Rattle.std.proofs.lemmas.Int.{ints}
 use Rattle.stack_certificate.specs.Certificate.{CertificateValue, stands, collapses}
-use Rattle.stack_equilibrium.specs.Certificates.{Certifies}
+use Rattle.stack_statics.specs.Certificates.{Certifies}
 use Rattle.stack_equilibrium.specs.SurveyScene.{scene_of}
 use Rattle.stack_equilibrium.specs.Truth.{held, IsTrueCertificate}
 use Rattle.stack_worked.specs.Scenes.{pushed_post}

@@ -1,7 +1,7 @@
 -- The true certificates of the worked blocks on a slope, over an edge and between abutments, by computation.
 use Rattle.std.proofs.Common.{refl, arith}
 use Rattle.std.proofs.lemmas.Int.{ints}
-use Rattle.stack_equilibrium.specs.Certificates.{IsTrueStands, IsTrueCollapse, IsTrueGreatest, IsTrueUnbounded}
+use Rattle.stack_statics.specs.Certificates.{IsTrueStands, IsTrueCollapse, IsTrueGreatest, IsTrueUnbounded}
 use Rattle.stack_worked.specs.Scenes.{block_on_slope, block_on_slick_slope, slope_forces, slipping_move}
 use Rattle.stack_worked.specs.Scenes.{smooth_keystone, rough_keystone, gripped_keystone}
 use Rattle.stack_worked.specs.Scenes.{idle_keystone_forces, grip, rising_move, overhanging_block}

@@ -2,7 +2,7 @@
 use Rattle.std.proofs.Common.{refl, arith}
 use Rattle.std.specs.Prelude.{pos}
 use Rattle.std.proofs.lemmas.Int.{ints}
-use Rattle.stack_equilibrium.specs.Certificates.{IsTrueStands, IsTrueCollapse, IsTrueGreatest}
+use Rattle.stack_statics.specs.Certificates.{IsTrueStands, IsTrueCollapse, IsTrueGreatest}
 use Rattle.stack_worked.specs.Pieces.{standing_forces}
 use Rattle.stack_worked.specs.TwoBlocks.{low_column, pushed_column, column_parts, pushed_column_forces}
 use Rattle.stack_worked.specs.TwoBlocks.{upper_slides, two_bricks, two_shifted_bricks, brick_forces}

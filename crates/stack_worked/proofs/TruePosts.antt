@@ -2,7 +2,7 @@
 use Rattle.std.proofs.Common.{refl, arith}
 use Rattle.std.specs.Prelude.{pos, [], ◌∷◌}
 use Rattle.std.proofs.lemmas.Int.{ints}
-use Rattle.stack_equilibrium.specs.Certificates.{IsTrueStands, IsTrueGreatest, IsTrueUnbounded}
+use Rattle.stack_statics.specs.Certificates.{IsTrueStands, IsTrueGreatest, IsTrueUnbounded}
 use Rattle.stack_worked.specs.Pieces.{forces_with, standing_forces, straight, move}
 use Rattle.stack_worked.specs.Scenes.{standing_post, pushed_post, sliding_post, pressed_post, clamped_post}
 use Rattle.stack_worked.specs.Scenes.{standing_parts, tipping_parts, two_idle_parts, tipping_move}

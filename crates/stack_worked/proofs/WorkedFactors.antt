@@ -4,11 +4,11 @@ use lib.IntN.{ℤ, pos, ◌*ℤ◌}
 use Rattle.std.proofs.lemmas.Int.{ints}
 use Rattle.stack_algebra.specs.IntegerOrder.{◌≼◌, ◌≺◌}
 use Rattle.stack_algebra.proofs.Integers.{sums, expand}
-use Rattle.stack_equilibrium.specs.declared.types.Wrench.{Wrench}
-use Rattle.stack_equilibrium.specs.Scene.{IsProper}
-use Rattle.stack_equilibrium.specs.Certificates.{IsTrueStands}
-use Rattle.stack_equilibrium.specs.Laws.{StandsIsCarried, CollapseExcludesBalance, GreatestIsCarried}
-use Rattle.stack_equilibrium.specs.Laws.{GreatestBoundsEveryFactor, UnboundedCarriesAll}
+use Rattle.stack_statics.specs.declared.wrench.Wrench.{Wrench}
+use Rattle.stack_statics.specs.Scene.{IsProper}
+use Rattle.stack_statics.specs.Certificates.{IsTrueStands}
+use Rattle.stack_statics.specs.Laws.{StandsIsCarried, CollapseExcludesBalance, GreatestIsCarried}
+use Rattle.stack_statics.specs.Laws.{GreatestBoundsEveryFactor, UnboundedCarriesAll}
 use Rattle.stack_worked.specs.Pieces.{standing_forces}
 use Rattle.stack_worked.specs.Scenes.{post_scene, slope_scene, pressed_post, standing_parts}
 use Rattle.stack_worked.specs.WorkedFactors.{FactorsOfWorkedScenes}

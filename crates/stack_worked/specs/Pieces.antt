@@ -3,10 +3,10 @@
 use Rattle.std.specs.Prelude.{ℕ, ℤ, pos, neg_ℤ, List, [], ◌∷◌, Bool, true, false, length, get_or}
 use Rattle.stack_polygon.specs.declared.point.Point.{Point}
 use Rattle.stack_polygon.specs.Corners.{corner_of}
-use Rattle.stack_equilibrium.specs.declared.types.Wrench.{Wrench}
-use Rattle.stack_equilibrium.specs.Scene.{Move, BearingPart, SceneBody, SceneBearing, Scene}
-use Rattle.stack_equilibrium.specs.Loads.{no_load, weight_of}
-use Rattle.stack_equilibrium.specs.Certificates.{SceneForces}
+use Rattle.stack_statics.specs.declared.wrench.Wrench.{Wrench}
+use Rattle.stack_statics.specs.Scene.{Move, BearingPart, SceneBody, SceneBearing, Scene}
+use Rattle.stack_statics.specs.Loads.{no_load, weight_of}
+use Rattle.stack_statics.specs.Certificates.{SceneForces}
 
 -- minus n
 abbrev pub negative : ℕ → ℤ

@@ -1,10 +1,10 @@
 -- Small structures worked by hand, with the forces and the motions that their certificates have.
 use Rattle.std.specs.Prelude.{ℤ, pos, List, [], ◌∷◌, true}
 use Rattle.stack_polygon.specs.declared.point.Point.{Point}
-use Rattle.stack_equilibrium.specs.declared.types.Wrench.{Wrench}
-use Rattle.stack_equilibrium.specs.Scene.{Move, BearingPart, Scene}
-use Rattle.stack_equilibrium.specs.Loads.{no_load, wrench_sum, load_wrench}
-use Rattle.stack_equilibrium.specs.Certificates.{SceneForces}
+use Rattle.stack_statics.specs.declared.wrench.Wrench.{Wrench}
+use Rattle.stack_statics.specs.Scene.{Move, BearingPart, Scene}
+use Rattle.stack_statics.specs.Loads.{no_load, wrench_sum, load_wrench}
+use Rattle.stack_statics.specs.Certificates.{SceneForces}
 use Rattle.stack_worked.specs.Pieces.{negative, at_point, upright, body_with, fixed_body, free_body}
 use Rattle.stack_worked.specs.Pieces.{bearing_between, scene_of_lists, forces_with}
 use Rattle.stack_worked.specs.Pieces.{bearing_part, straight, move}

@@ -10,7 +10,7 @@ use Rattle.stack_contact.specs.declared.types.Bearing.{Bearing}
 use Rattle.stack_contact.specs.Surveyed.{Surveyed, surveyed, IsSurvey}
 use Rattle.stack_certificate.specs.Certificate.{ForcesValue, MotionValue, CertificateValue}
 use Rattle.stack_certificate.specs.Certificate.{stands, collapses, greatest}
-use Rattle.stack_equilibrium.specs.Certificates.{Certifies}
+use Rattle.stack_statics.specs.Certificates.{Certifies}
 use Rattle.stack_equilibrium.specs.SurveyScene.{scene_of}
 use Rattle.stack_equilibrium.specs.Truth.{held, IsTrueCertificate}
 use Rattle.stack_worked.specs.Pieces.{negative, at_point}

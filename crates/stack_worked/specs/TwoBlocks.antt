@@ -1,9 +1,9 @@
 -- Structures of two free blocks, worked by hand: a low column, and two bricks that lean out over a table's edge.
 use Rattle.std.specs.Prelude.{ℤ, pos, ◌+ℤ◌, ◌-ℤ◌, List, [], ◌∷◌, true}
-use Rattle.stack_equilibrium.specs.declared.types.Wrench.{Wrench}
-use Rattle.stack_equilibrium.specs.Scene.{Move, BearingPart, Scene}
-use Rattle.stack_equilibrium.specs.Loads.{no_load, load_wrench}
-use Rattle.stack_equilibrium.specs.Certificates.{SceneForces}
+use Rattle.stack_statics.specs.declared.wrench.Wrench.{Wrench}
+use Rattle.stack_statics.specs.Scene.{Move, BearingPart, Scene}
+use Rattle.stack_statics.specs.Loads.{no_load, load_wrench}
+use Rattle.stack_statics.specs.Certificates.{SceneForces}
 use Rattle.stack_worked.specs.Pieces.{negative, at_point, upright, body_with, fixed_body, free_body}
 use Rattle.stack_worked.specs.Pieces.{bearing_between, scene_of_lists, forces_with, standing_forces}
 use Rattle.stack_worked.specs.Pieces.{bearing_part, straight, move}

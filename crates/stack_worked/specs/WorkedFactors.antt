@@ -1,7 +1,7 @@
 -- What the worked certificates show of the factors that are carried, by the laws of certificates.
 use Rattle.std.specs.Prelude.{ℤ, pos, ◌*ℤ◌}
 use Rattle.stack_algebra.specs.IntegerOrder.{◌≼◌, ◌≺◌}
-use Rattle.stack_equilibrium.specs.Balance.{Carries}
+use Rattle.stack_statics.specs.Balance.{Carries}
 use Rattle.stack_worked.specs.Scenes.{pushed_post, pressed_post, block_on_slope, block_on_slick_slope}
 
 -- of a post and of a block on a slope

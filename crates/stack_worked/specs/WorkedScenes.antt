@@ -1,7 +1,7 @@
 -- What is true and what is false of small structures worked by hand. It shows that the definitions of a true
 -- certificate say what they should: changed copies of true ones break their conditions one by one.
 use Rattle.std.specs.Prelude.{pos, [], ◌∷◌}
-use Rattle.stack_equilibrium.specs.Certificates.{IsTrueStands, IsTrueCollapse, IsTrueGreatest, IsTrueUnbounded}
+use Rattle.stack_statics.specs.Certificates.{IsTrueStands, IsTrueCollapse, IsTrueGreatest, IsTrueUnbounded}
 use Rattle.stack_worked.specs.Pieces.{negative, forces_with, standing_forces, bearing_part, straight, move}
 use Rattle.stack_worked.specs.Scenes.{standing_post, pushed_post, sliding_post, pressed_post, clamped_post}
 use Rattle.stack_worked.specs.Scenes.{block_on_slope, block_on_slick_slope, smooth_keystone, rough_keystone}

@@ -1,5 +1,5 @@
-//! Small structures worked by hand, and which certificates are true and which are false of them: laws, on which
-//! nothing stands. They show that the definitions of statics say what they should.
+//! Small structures worked by hand, and which certificates are true and which are false of them: laws only. They show
+//! that the definitions of statics say what they should.
 #![tactic(auto)]
 
 mod laws;

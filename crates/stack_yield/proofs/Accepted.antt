@@ -14,7 +14,7 @@ use Rattle.stack_contact.specs.Surveyed.{Surveyed}
 use Rattle.stack_contact.specs.FreeBlocks.{frees_of}
 use Rattle.stack_certificate.specs.Certificate.{ForcesValue, MotionValue, greatest}
 use Rattle.stack_equilibrium.specs.declared.types.PowerWide.{PowerWide}
-use Rattle.stack_equilibrium.specs.declared.types.Wrench.{Wrench}
+use Rattle.stack_statics.specs.declared.wrench.Wrench.{Wrench}
 use Rattle.stack_equilibrium.specs.declared.velocity.BlockMove.{BlockMove}
 use Rattle.stack_equilibrium.specs.declared.types.Question.{Question}
 use Rattle.stack_equilibrium.specs.declared.types.Question.TheVariants.{Dead, Live}

@@ -20,7 +20,7 @@ use Rattle.stack_certificate.specs.Certificate.{ForcesValue, MotionValue, Certif
 use Rattle.stack_certificate.specs.Certificate.{stands, collapses, greatest, unbounded}
 use Rattle.stack_equilibrium.specs.declared.types.PowerWide.{PowerWide}
 use Rattle.stack_equilibrium.specs.declared.types.Question.TheVariants.{Live}
-use Rattle.stack_equilibrium.specs.Motions.{live_power_of}
+use Rattle.stack_statics.specs.Motions.{live_power_of}
 use Rattle.stack_equilibrium.specs.SurveyScene.{scene_of}
 use Rattle.stack_equilibrium.specs.Held.{move_at}
 use Rattle.stack_equilibrium.specs.WrittenPowers.{written_power}

@@ -8,7 +8,7 @@ use Rattle.std.proofs.Math.Seq.{drop-cons}
 use Rattle.std.proofs.lemmas.List.{map-append, take_more, take_all}
 use lib.IntN.{ℤ}
 use Rattle.stack_contact.specs.Surveyed.{Surveyed}
-use Rattle.stack_equilibrium.specs.Scene.{IsProper}
+use Rattle.stack_statics.specs.Scene.{IsProper}
 use Rattle.stack_equilibrium.specs.SurveyScene.{scene_of}
 use Rattle.stack_pairs.specs.Directed.{ArePair}
 use Rattle.stack_pairs.specs.Reaches.{ReachValue, collapse, points, IsReach, RegionTells}
@@ -21,7 +21,7 @@ use Rattle.std.proofs.Common.{take, Option, Some, None}
 use Rattle.stack_certificate.specs.Certificate.{stands, collapses, greatest, unbounded}
 use Rattle.stack_equilibrium.specs.declared.types.PowerWide.{PowerWide}
 use Rattle.stack_equilibrium.specs.declared.types.Question.TheVariants.{Live}
-use Rattle.stack_judge.specs.Judgement.{Judgement, certified, too_wide, spent, judgement}
+use Rattle.stack_judge.specs.Judgement.{Judgement, certified, too_wide, spent, unjudged, judgement}
 use Rattle.stack_pairs.specs.Directed.{directed_survey}
 use Rattle.stack_pairs.specs.Reaches.{PointValue, direction_of_reach, reach_of}
 use Rattle.stack_yield.specs.Outcomes.{unless_wide, outcome_of}
@@ -114,6 +114,7 @@ module _ (s : Surveyed) (i j budget : ℕ) where
   outcome_direction m n (certified (collapses y)) v h = absurd (cc)
   outcome_direction m n (too_wide p) v h = absurd (cc)
   outcome_direction m n spent v h = absurd (cc)
+  outcome_direction m n unjudged v h = absurd (cc)
 
   pub one_more : (ds : List (ℤ × ℤ)) (rs more : List Reach) (k : ℕ) (d : ℤ × ℤ) (r : Reach) → k < length ds →
       IsGathered ds (map reach_view rs) k → direction_outcome s i j budget (get_or ds k d) ≡ reaches (reach_view r) →

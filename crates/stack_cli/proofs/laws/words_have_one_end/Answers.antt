@@ -1,4 +1,4 @@
-use Rattle.stack_cli.proofs.OneEnd.{words_end}
+use Rattle.stack_forms.proofs.OneEnd.{words_end}
 use Rattle.stack_cli.proofs.laws.words_have_one_end.Goals as goal
 
 pub returns : goal.returns

@@ -9,8 +9,8 @@ returns-clause-value c =
     let z = c.args.z in
     let q = c.denominator-q.ensures.value in
     let lean = c.lean-lean.ensures.value in
-    let tx = c.whole_of-tx.ensures ∙ ap whole (step_stored z.frame.tx c.requires.tx) in
-    let ty = c.whole_of-ty.ensures ∙ ap whole (step_stored z.frame.ty c.requires.ty) in
+    let tx = c.widened-tx.ensures ∙ ap whole (step_stored z.frame.tx c.requires.tx) in
+    let ty = c.widened-ty.ensures ∙ ap whole (step_stored z.frame.ty c.requires.ty) in
     let across = c.opposite.ensures.value in
     let x = c.combined.ensures.value
     ∙ (λ i. whole ((q i).value *ℤ (across i).value +ℤ (lean i).value *ℤ (tx i).value))

@@ -2,7 +2,7 @@ use Rattle.std.proofs.Common.{◌≡◌, ap, ◌∙◌, length, arith}
 use Rattle.stack_polygon.specs.Corners.{corner_of}
 use Rattle.stack_model.specs.Structure.{load_of}
 use Rattle.stack_model.specs.ModelView.{model_view}
-use Rattle.stack_equilibrium.specs.Loads.{total_of}
+use Rattle.stack_statics.specs.Loads.{total_of}
 use Rattle.stack_equilibrium.specs.SurveyScene.{acting, first_corner_of}
 use Rattle.stack_equilibrium.proofs.Totals.{one_more, within_256}
 use Rattle.stack_equilibrium.proofs.loads.listed_on.Goals as goal

@@ -1,7 +1,7 @@
 use Rattle.std.proofs.Common.{◌≡◌, length}
 use Rattle.stack_model.specs.Structure.{load_of}
 use Rattle.stack_model.specs.ModelView.{model_view}
-use Rattle.stack_equilibrium.specs.Loads.{total_of}
+use Rattle.stack_statics.specs.Loads.{total_of}
 use Rattle.stack_equilibrium.specs.LoadSizes.{AreLoads}
 use Rattle.stack_equilibrium.specs.SurveyScene.{acting, first_corner_of}
 use Rattle.stack_equilibrium.proofs.loads.listed_on.Given as goal

@@ -3,8 +3,8 @@ use mir.Syntax.{w64}
 use Rattle.std.proofs.lemmas.Int.{to_z-of_z}
 use Rattle.stack_model.specs.declared.types.Material.{Material}
 use Rattle.stack_model.specs.Structure.{material_of}
-use Rattle.stack_equilibrium.specs.Loads.{wrench_sum}
-use Rattle.stack_equilibrium.specs.Sway.{sway_of}
+use Rattle.stack_statics.specs.Loads.{wrench_sum}
+use Rattle.stack_statics.specs.Sway.{sway_of}
 use Rattle.stack_equilibrium.specs.SurveyScene.{sway_at, unit_weight_of}
 use Rattle.stack_equilibrium.proofs.loads.live_on.Goals as goal
 

@@ -3,8 +3,9 @@ use mir.Syntax.{w64, w128}
 use Rattle.std.proofs.lemmas.Int.{to_z-of_z}
 use Rattle.stack_polygon.specs.Area.{twice_area_of, six_moments_of}
 use Rattle.stack_whole.specs.declared.whole.Whole.{Whole}
-use Rattle.stack_equilibrium.specs.SwaySizes.{IsSwayLoad, sway_by}
-use Rattle.stack_equilibrium.proofs.SwaySums.{sways}
+use Rattle.stack_equilibrium.specs.SwaySizes.{IsSwayLoad}
+use Rattle.stack_statics.specs.Sway.{sway_by}
+use Rattle.stack_statics.proofs.SwaySums.{sways}
 use Rattle.stack_equilibrium.proofs.SwaySizes.{sway_within}
 use Rattle.stack_equilibrium.proofs.sway.sway_on.Goals as goal
 

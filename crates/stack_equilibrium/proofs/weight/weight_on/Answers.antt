@@ -4,8 +4,8 @@ use Rattle.std.proofs.lemmas.Int.{to_z-of_z}
 use Rattle.stack_polygon.specs.Area.{twice_area_of, six_moments_of}
 use Rattle.stack_whole.specs.declared.whole.Whole.{Whole}
 use Rattle.stack_equilibrium.specs.LoadSizes.{IsWeight}
-use Rattle.stack_equilibrium.specs.Weights.{weight_by}
-use Rattle.stack_equilibrium.proofs.FanSums.{weighs}
+use Rattle.stack_statics.specs.Weights.{weight_by}
+use Rattle.stack_statics.proofs.FanSums.{weighs}
 use Rattle.stack_equilibrium.proofs.WeightSizes.{weight_within}
 use Rattle.stack_equilibrium.proofs.weight.weight_on.Goals as goal
 

@@ -1,6 +1,6 @@
 use Rattle.std.proofs.Common.{subst}
 use Rattle.stack_algebra.specs.Fraction.{Fraction}
-use Rattle.stack_duality.specs.WrittenRun.{End}
+use Rattle.stack_run.specs.WrittenRun.{End}
 use Rattle.stack_extract.proofs.EndedTables.{same_end, is_last, some_last, reads_ray}
 use Rattle.stack_judge.specs.Certifying.{GivesChecked}
 use Rattle.stack_judge.proofs.certifying.certify.Goals as goal

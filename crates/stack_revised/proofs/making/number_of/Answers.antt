@@ -2,6 +2,7 @@ use Rattle.std.proofs.Common.{◌≡◌, sym, ◌∙◌, ◌+◌, add-one, pos}
 use Rattle.stack_revised.proofs.Covered.{room_of}
 use Rattle.stack_revised.specs.Columns.{cells_at}
 use Rattle.stack_revised.proofs.Numbers.{at-index}
+use Rattle.stack_revised.proofs.ProductSums.{product_alone}
 use Rattle.stack_revised.proofs.Made.{number_made, cells_of}
 use Rattle.stack_revised.proofs.making.number_of.Goals as goal
 
@@ -15,6 +16,7 @@ returns g c =
     c.requires.column_in (f.first.rising c.args.j c.requires.column_in) (f.rows + 1) (add-one f.rows)
     (room_of c.args.i f.rows _ c.requires.room) c.as_slice.result.now cells
     (v c.in_ok-start.start) (v c.index-unders-i.result) (v c.own_of-own_cell.result) (v c.in_ok-number.number)
-    c.in_ok-start.ensures
+    (product_alone (v c.in_ok-start.start) (v c.zero.result) (v c.own_of-own_cell.result) (v c.index-unders-i.result)
+    c.in_ok-start.ensures c.zero.ensures)
     (sym (at-index v (pos 1) c.args.unders.now c.args.i c.index-unders-i.result c.requires.row_in c.index-unders-i.is))
     c.own_of-own_cell.ensures c.in_ok-number.ensures

@@ -7,11 +7,12 @@ use Rattle.stack_revised.proofs.making.widest_of.Goals as goal
 pub loop-k-preserved : goal.loop-k-preserved
 loop-k-preserved g c =
     let v = g.T.Whole.value in
-    covers_more (number_at v c.args.numbers.now) c.loop-k.k (v c.loop-k.most) (v c.wider-most.result) c.loop-k.invariant
-    c.wider-most.ensures.own
+    covers_more (number_at v c.args.numbers.now) c.loop-k.k (v c.loop-k.most) (v c.greater-most.result)
+    c.loop-k.invariant
+    c.greater-most.ensures.own
     (omega (
       arith,
-      c.wider-most.ensures.other,
+      c.greater-most.ensures.other,
       ap unsigned_abs (at-index v (pos 0) c.args.numbers.now c.loop-k.k
           c.index-numbers-k.result (omega (arith, c.loop-k-test.true, c.requires)) c.index-numbers-k.is),
     ))

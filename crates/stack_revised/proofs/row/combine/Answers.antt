@@ -35,7 +35,7 @@ loop-j-preserved g c =
     }
 
 pub returns : goal.returns
-returns g c h = record { number = λ i. (all i).number; left = λ i. (all i).left; right = λ i. (all i).right }
+returns g c = record { number = λ i. (all i).number; left = λ i. (all i).left; right = λ i. (all i).right }
   where
     all : (i : ℕ) → IsTerm g.T.Whole.MAX (g.T.Whole.value c.args.k) (g.T.Whole.value c.args.t)
         (number_at g.T.Whole.value c.args.numbers.now i) (number_at g.T.Whole.value c.args.pivot.now i)

@@ -3,8 +3,8 @@ use lib.IntN.{ℤ}
 use Rattle.stack_table.specs.Problem.{flipped}
 use Rattle.stack_table.specs.Lent.{problem_of}
 use Rattle.stack_table.proofs.RowByRow.{flips_are}
-use Rattle.stack_duality.specs.WrittenRun.{End}
-use Rattle.stack_duality.specs.Laws.{run_at}
+use Rattle.stack_run.specs.WrittenRun.{End}
+use Rattle.stack_run.specs.ProblemRun.{run_at}
 use Rattle.stack_revised.specs.declared.stops.RevisedStop.{RevisedStop}
 use Rattle.stack_algebra.specs.Fraction.{Fraction}
 use mathlib.Core.Path.{subst₂}

@@ -6,7 +6,7 @@ use Rattle.stack_algebra.proofs.OrderedFractions.{ordered_fractions}
 use Rattle.stack_rational.specs.TooWide.{is_too_wide}
 use Rattle.stack_table.specs.Seen.{shape_of_table, table_of}
 use Rattle.stack_duality.proofs.Turn.{turn_refused}
-use Rattle.stack_duality.specs.WrittenRun.{wide_at}
+use Rattle.stack_run.specs.WrittenRun.{wide_at}
 use Rattle.stack_simplex.proofs.Choices.{leaving_below, leaving_nonzero}
 use Rattle.stack_simplex.proofs.Turns.{turn_refuses, turn_goes_on}
 use Rattle.stack_simplex.proofs.turn.take_turn.Goals as goal

@@ -112,6 +112,10 @@ returns-clause-ok g c =
     ∙ ap (λ n. n + i) (c.len-2.ensures ∙ f.columns.ok.0 ∙ c.in_ok-first.ensures.long)) in
     λ z. record { cell = λ i j. cells i j z; basic = λ i. basics i z }
 
+pub invariant_of-result-clause-one_jump : goal.invariant_of-result-clause-one_jump
+invariant_of-result-clause-one_jump g c = c.in_ok-jumps.ensures.long ∙ add-one c.args.p.now.rows
+    ∙ ap suc (sym c.in_ok-first.ensures.rows)
+
 pub invariant_of-result-clause-one_mark : goal.invariant_of-result-clause-one_mark
 invariant_of-result-clause-one_mark g c = c.in_ok-marks.ensures.long ∙ add-one c.args.p.now.rows
     ∙ ap suc (sym c.in_ok-first.ensures.rows)

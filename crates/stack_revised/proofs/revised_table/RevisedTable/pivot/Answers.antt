@@ -102,13 +102,19 @@ pivot_or_unmark-requires-clause-marked g c =
     let C = s.first.columns.items in
     marked_same g.T.Whole.MAX (revised_cell v M C s.own.items s.numbers.items s.unders.items)
     (revised_cell v M C c.as_slice.result.now c.as_mut_slice.result.now c.as_mut_slice-2.result.now) s.marks.items
-    c.as_mut_slice-4.result.now (λ i j. λ z. revised_cell v M C (c.as_slice.ensures.value z)
-    (c.as_mut_slice.ensures.value z) (c.as_mut_slice-2.ensures.value z) i j) c.as_mut_slice-4.ensures.value s.marked
+    c.as_mut_slice-5.result.now (λ i j. λ z. revised_cell v M C (c.as_slice.ensures.value z)
+    (c.as_mut_slice.ensures.value z) (c.as_mut_slice-2.ensures.value z) i j) c.as_mut_slice-5.ensures.value s.marked
+
+pub invariant_of-self-clause-one_jump : goal.invariant_of-self-clause-one_jump
+invariant_of-self-clause-one_jump g c =
+    let s = c.args.self.now in
+    let same = c.pivot_or_unmark.auto.jumps ∙ ap length c.as_mut_slice-4.ensures.value in
+    ap length (with_items_is s.jumps c.pivot_or_unmark.new.jumps (same ∙ sym s.jumps.ok.0)) ∙ same ∙ s.one_jump
 
 pub invariant_of-self-clause-one_mark : goal.invariant_of-self-clause-one_mark
 invariant_of-self-clause-one_mark g c =
     let s = c.args.self.now in
-    let same = c.pivot_or_unmark.auto.marks ∙ ap length c.as_mut_slice-4.ensures.value in
+    let same = c.pivot_or_unmark.auto.marks ∙ ap length c.as_mut_slice-5.ensures.value in
     ap length (with_items_is s.marks c.pivot_or_unmark.new.marks (same ∙ sym s.marks.ok.0)) ∙ same ∙ s.one_mark
 
 pub invariant_of-self-clause-marked : goal.invariant_of-self-clause-marked
@@ -125,7 +131,7 @@ invariant_of-self-clause-marked g c =
     (c.pivot_or_unmark.auto.unders ∙ ap length c.as_mut_slice-2.ensures.value ∙ sym s.unders.ok.0) in
     let marks : (with_items s.marks c.pivot_or_unmark.new.marks).items ≡ c.pivot_or_unmark.new.marks =
     with_items_is s.marks c.pivot_or_unmark.new.marks
-    (c.pivot_or_unmark.auto.marks ∙ ap length c.as_mut_slice-4.ensures.value ∙ sym s.marks.ok.0) in
+    (c.pivot_or_unmark.auto.marks ∙ ap length c.as_mut_slice-5.ensures.value ∙ sym s.marks.ok.0) in
     marked_same g.T.Whole.MAX
     (revised_cell v M C c.as_slice.result.now c.pivot_or_unmark.new.numbers c.pivot_or_unmark.new.unders)
     (revised_cell v M C s.own.items (with_items s.numbers c.pivot_or_unmark.new.numbers).items

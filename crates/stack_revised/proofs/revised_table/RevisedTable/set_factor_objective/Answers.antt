@@ -155,6 +155,9 @@ returns-clause-ok g c =
     (λ r. r < M) (λ r l. l)) fr) i j in
     λ z. record { cell = λ i j. cells i j z; basic = λ i. get_or s.basic.items i 0 }
 
+pub invariant_of-self-2-clause-one_jump : goal.invariant_of-self-2-clause-one_jump
+invariant_of-self-2-clause-one_jump g c = c.args.self.now.one_jump
+
 pub invariant_of-self-2-clause-one_mark : goal.invariant_of-self-2-clause-one_mark
 invariant_of-self-2-clause-one_mark g c =
     length-set c.args.self.now.marks.items c.args.self.now.first.rows false ∙ c.args.self.now.one_mark

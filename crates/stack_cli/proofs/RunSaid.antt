@@ -1,0 +1,41 @@
+-- What a run says in plain words, out of the theorem on the order of work.
+use Rattle.std.proofs.Common.{ℕ, Option}
+use Rattle.stack_forms.specs.Forms.{Form}
+use Rattle.stack_forms.specs.Progress.{ToldNames}
+use Rattle.stack_forms.specs.Work.{Holds}
+use Rattle.stack_cli.specs.Delivery.{Bytes}
+use Rattle.stack_cli.specs.MainTheorem.{RunMeets}
+use Rattle.stack_cli.specs.Printed.{PrintedIsAccepted}
+use Rattle.stack_cli.specs.RunSaid.{RunSays}
+use Rattle.stack_cli.proofs.CertificateFile.{certificate_says}
+use Rattle.stack_cli.proofs.CheckAnswered.{check_says}
+use Rattle.stack_cli.proofs.FormsAnswered.{contacts_say, stack_says, sample_says}
+use Rattle.stack_cli.proofs.HeadlineHolds.{headline_of}
+use Rattle.stack_cli.proofs.LengthAnswered.{length_says}
+use Rattle.stack_cli.proofs.ModelAnswered.{model_says}
+use Rattle.stack_cli.proofs.PrintedAnswered.{prints_truly, accepted_again}
+use Rattle.stack_cli.proofs.RangeAnswered.{range_says}
+use Rattle.stack_cli.proofs.StagesAnswered.{stages_say}
+use Rattle.stack_cli.proofs.TableAnswered.{table_says}
+use Rattle.stack_cli.proofs.YieldAnswered.{region_says}
+
+pub run_says : PrintedIsAccepted → {status : ℕ} {form : Option Form} {holds : Holds} {asked asked_after : ToldNames}
+    {out out_after err err_after : Bytes} {S O E : Type 0}
+    → RunMeets status form holds asked asked_after out out_after err err_after S O E
+    → RunSays status form holds out out_after err err_after S O E
+run_says law m = record {
+  headline = headline_of m;
+  printed = prints_truly m;
+  accepted = check_says m;
+  again = accepted_again law m;
+  tabled = table_says m;
+  listed = contacts_say m;
+  stacked = stack_says m;
+  sampled = sample_says m;
+  model = model_says m;
+  certificate = certificate_says m;
+  length = length_says m;
+  ranged = range_says m;
+  staged = stages_say m;
+  yielded = region_says m;
+}

@@ -1,5 +1,0 @@
-use Rattle.stack_equilibrium.proofs.Centroids.{sway_acts_at_centroid}
-use Rattle.stack_equilibrium.proofs.laws.centroid_law.Goals as goal
-
-pub returns : goal.returns
-returns c = sway_acts_at_centroid

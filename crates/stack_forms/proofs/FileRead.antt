@@ -1,0 +1,100 @@
+-- A file that was read, or not, as the work of reading it.
+use Rattle.std.proofs.Common.{◌≡◌, ℕ, suc, ◌<◌, ◌≤◌, List, [], ◌∷◌, inl, inr, length, replicate, Option, Some, None}
+use Rattle.std.proofs.Common.{Result, Ok, Err, Vec, subst, sym, refl, ◌∙◌, append-nil, arith}
+use Rattle.std.specs.Bool.{⊤}
+use Rattle.std.specs.declared.alloc.Global.{Global}
+use Rattle.std.specs.Prelude.{IfSome}
+use Rattle.std.proofs.lemmas.Bool.{le-ltb, lt-ltb}
+use Rattle.std.proofs.lemmas.List.{length-replicate}
+use Rattle.stack_outside.specs.declared.error.ShelfError.{ShelfError}
+use Rattle.stack_outside.specs.declared.error.ShelfError.TheVariants as shelf
+use Rattle.stack_outside.specs.Shelves.{ReadGives, Records}
+use Rattle.stack_lines.specs.declared.refusal.Input.{Input}
+use Rattle.stack_lines.specs.declared.refusal.Refusal.TheVariants as code
+use Rattle.stack_lines.specs.Refusals.{faulty, long}
+use Rattle.stack_forms.specs.Work.{Holds, MayHold, Ends}
+use Rattle.stack_forms.specs.Surveying.{greatest_file, unless_long, read}
+use Rattle.stack_forms.specs.Progress.{ToldNames, GrewBy, Does, AreBytes}
+use Rattle.stack_forms.proofs.Ways.{wanting}
+
+abbrev PastMemory : Result (Vec ℕ Global) ShelfError → Type 0
+PastMemory (Err shelf.Memory) = ⊥
+PastMemory _ = ⊤
+
+-- The file was asked for.
+grew : (old new : ToldNames) (name : List ℕ) (result : Result (Vec ℕ Global) ShelfError) → PastMemory result
+    → Records old new name result → GrewBy old new (name ∷ [])
+grew None new name result past h = tt
+grew (Some a) None name result past h = h
+grew (Some a) (Some b) name result past (inl h) = h
+grew (Some a) (Some b) name result past (inr h) = absurd (subst PastMemory h.0 past)
+
+short : (holds : Holds) (input : Input) (bytes : List ℕ) → length bytes ≤ greatest_file
+    → Ends holds (unless_long input bytes) [] (Ok bytes)
+short holds input bytes le = rw (le-ltb greatest_file (length bytes) le) (refl, refl)
+
+too_long : (holds : Holds) (input : Input) (bytes : List ℕ) → greatest_file < length bytes
+    → Ends holds (unless_long input bytes) [] (Err (faulty (long input)))
+too_long holds input bytes more = rw (lt-ltb greatest_file (length bytes) more) (refl, inl refl)
+
+-- More bytes than any number.
+more_than : (n : ℕ) → (bytes : List ℕ) × (n < length bytes)
+more_than n = (replicate {A = ℕ} (suc n) 0, let h = length-replicate {A = ℕ} (suc n) 0 in omega (arith, h))
+
+may_hold : (held : Option (List ℕ)) (bytes : List ℕ) → IfSome held (λ told. bytes ≡ told) → MayHold held bytes
+may_hold None bytes h = tt
+may_hold (Some told) bytes h = h
+
+some_bytes : (held : Option (List ℕ)) → (bytes : List ℕ) × MayHold held bytes
+some_bytes None = ([], tt)
+some_bytes (Some told) = (told, refl)
+
+long_bytes : (held : Option (List ℕ)) → IfSome held (λ bytes. greatest_file < length bytes)
+    → (bytes : List ℕ) × MayHold held bytes × (greatest_file < length bytes)
+long_bytes None h = let m = more_than greatest_file in (m.0, tt, m.1)
+long_bytes (Some told) h = (told, refl, h)
+
+module _ (holds : Holds) (old new : ToldNames) (name : List ℕ) (input : Input) where
+  pub gave : (v : Vec ℕ Global) → ReadGives (holds name) greatest_file (Ok v) → Records old new name (Ok v)
+      → Does AreBytes holds (read input name) old new (Ok v)
+  gave v h asked = record {
+    names = name ∷ [];
+    asks = grew old new name (Ok v) tt asked;
+    comes = (v.items, refl, (refl, inr (v.items, may_hold (holds name) v.items h.1, short holds input v.items h.0)));
+  }
+
+  pub failed : Records old new name (Err shelf.Failed)
+      → Does AreBytes holds (read input name) old new (Err (code.File input))
+  failed asked = record {
+    names = name ∷ [];
+    asks = grew old new name (Err shelf.Failed) tt asked;
+    comes = (refl, inl (refl, refl));
+  }
+
+  pub was_long : ReadGives (holds name) greatest_file (Err shelf.TooLong) → Records old new name (Err shelf.TooLong)
+      → Does AreBytes holds (read input name) old new (Err (code.Long input))
+  was_long h asked =
+      let b = long_bytes (holds name) h in
+      record {
+        names = name ∷ [];
+        asks = grew old new name (Err shelf.TooLong) tt asked;
+        comes = (refl, inr (b.0, b.1, too_long holds input b.0 b.2));
+      }
+
+pub asked_or_not : (holds : Holds) (old new : ToldNames) (name : List ℕ) (input : Input)
+    → Records old new name (Err shelf.Memory)
+    → Does AreBytes holds (read input name) old new (Err code.Memory)
+asked_or_not holds None new name input asked = record { names = []; asks = tt; comes = refl }
+asked_or_not holds (Some a) None name input asked = absurd asked
+asked_or_not holds (Some a) (Some b) name input (inl h) =
+    let s = some_bytes (holds name) in
+    record {
+      names = name ∷ [];
+      asks = h;
+      comes = (refl, inr (s.0, s.1, wanting holds (unless_long input s.0)));
+    }
+asked_or_not holds (Some a) (Some b) name input (inr h) = record {
+  names = [];
+  asks = h.1 ∙ sym (append-nil a);
+  comes = refl;
+}

@@ -1,0 +1,15 @@
+pub mod Ways
+pub mod Steps
+pub mod FileRead
+pub mod OneEnd
+pub mod FilesNamed
+pub mod CertificateChecked
+pub mod SampleEnds
+pub mod AcceptedFiles
+pub mod BodyNames
+pub mod JudgementEnds
+pub mod RangeEnds
+pub mod StagesEnds
+pub mod YieldEnds
+pub mod RefusedFrom
+pub mod Beginnings

@@ -1,0 +1,38 @@
+use Rattle.std.proofs.Common.{Err, subst}
+use Rattle.stack_stages.specs.Staged.{staged}
+use Rattle.stack_stages.specs.Gives.{stages_view, GivesStages, RefusesFirst}
+use Rattle.stack_lines.specs.Answers.{stages_due}
+use Rattle.stack_forms.proofs.StagesEnds.{is_stage, stages_told, stage_wide, stage_spent}
+use Rattle.stack_forms.proofs.forms.building.stages_survey.Goals as goal
+
+pub wide_stage-requires : goal.wide_stage-requires
+wide_stage-requires c =
+    let h = subst (λ e. RefusesFirst (Err e) c.args.survey.now c.args.order.now c.args.budget)
+    c.in-Err-TooWide.field-0-is c.in-Err-TooWide.ensures.refused in
+    is_stage c.args.survey.now c.args.order.now c.args.budget c.in-Err-TooWide.stage _ h
+
+pub returns-in_ok-write_stages-in-Ok-clause-does : goal.returns-in_ok-write_stages-in-Ok-clause-does
+returns-in_ok-write_stages-in-Ok-clause-does c holds = (
+  stages_due c.args.survey.now c.args.order.now (stages_view c.in-Ok.found),
+  record {
+    are_true = c.in-Ok.ensures.certified;
+    are_settled = c.in-Ok.ensures.settled;
+    is_verdict = c.stages_verdict.ensures;
+    is_text = c.in_ok-write_stages-in-Ok.ensures;
+  },
+  stages_told c.args.survey.now c.args.order.now c.args.budget holds (stages_view c.in-Ok.found)
+      c.in-Ok.ensures.certified c.in-Ok.ensures.gives,
+)
+
+pub returns-in-Err-TooWide-clause-does : goal.returns-in-Err-TooWide-clause-does
+returns-in-Err-TooWide-clause-does c holds =
+    let h = subst (λ e. GivesStages (Err e) (staged c.args.survey.now c.args.order.now c.args.budget))
+    c.in-Err-TooWide.field-0-is c.in-Err-TooWide.ensures.gives in
+    stage_wide c.args.survey.now c.args.order.now c.args.budget holds c.in-Err-TooWide.stage c.in-Err-TooWide.place
+    c.wide_stage.result h c.wide_stage.ensures
+
+pub returns-in-Err-Spent-clause-does : goal.returns-in-Err-Spent-clause-does
+returns-in-Err-Spent-clause-does c holds =
+    let h = subst (λ e. GivesStages (Err e) (staged c.args.survey.now c.args.order.now c.args.budget))
+    c.in-Err-Spent.field-0-is c.in-Err-Spent.ensures.gives in
+    stage_spent c.args.survey.now c.args.order.now c.args.budget holds c.in-Err-Spent.field-0-0 h

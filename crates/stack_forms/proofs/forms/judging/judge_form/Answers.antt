@@ -1,0 +1,12 @@
+use Rattle.stack_forms.specs.Judging.{judge_work}
+use Rattle.stack_forms.proofs.Steps.{then_alone, refused}
+use Rattle.stack_forms.proofs.forms.judging.judge_form.Goals as goal
+
+pub returns-in-Ok-clause-does : goal.returns-in-Ok-clause-does
+unfolding judge_work
+returns-in-Ok-clause-does g c =
+    then_alone _ _ _ _ _ _ _ c.in-Ok.survey _ c.in-Ok.ensures.does c.judge_survey.ensures.does
+
+pub returns-in-Err-clause-does : goal.returns-in-Err-clause-does
+unfolding judge_work
+returns-in-Err-clause-does g c = refused _ _ _ _ _ _ _ c.in-Err.refusal c.in-Err.ensures.does

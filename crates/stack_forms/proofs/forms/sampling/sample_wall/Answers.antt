@@ -1,0 +1,29 @@
+use Rattle.std.proofs.Common.{sym, subst}
+use Rattle.stack_model.specs.ModelView.{model_view}
+use Rattle.stack_model.specs.Structure.{HasLive}
+use Rattle.stack_contact.specs.Surveyed.{Surveyed}
+use Rattle.stack_lines.specs.declared.answer.Answer.{Answer}
+use Rattle.stack_lines.specs.Answers.{Due}
+use Rattle.stack_forms.specs.Work.{surveys}
+use Rattle.stack_forms.specs.Surveying.{survey_step}
+use Rattle.stack_forms.specs.Progress.{IsSeenSurvey, AnswersDue}
+use Rattle.stack_forms.specs.Sampling.{sampled}
+use Rattle.stack_forms.proofs.AcceptedFiles.{same_structure}
+use Rattle.stack_forms.proofs.Steps.{alone_then, alone_refused}
+use Rattle.stack_forms.proofs.forms.sampling.sample_wall.Goals as goal
+
+pub sample_survey-requires : goal.sample_survey-requires
+sample_survey-requires c = subst HasLive (sym (same_structure
+    (model_view c.args.model) c.in-Ok.survey c.in-Ok.ensures.does))
+    c.requires
+
+pub returns-in-Ok-clause-does : goal.returns-in-Ok-clause-does
+returns-in-Ok-clause-does c = alone_then AnswersDue (λ x. x)
+    (surveys (model_view c.args.model) (survey_step (model_view c.args.model))) (sampled c.args.number) c.in-Ok.survey
+    c.sample_survey.result c.in-Ok.ensures.does c.sample_survey.ensures.does
+
+pub returns-in-Err-clause-does : goal.returns-in-Err-clause-does
+returns-in-Err-clause-does c = alone_refused {A = Surveyed} {B = Due} {X = Surveyed} {Y = Answer} IsSeenSurvey
+    AnswersDue
+    (surveys (model_view c.args.model) (survey_step (model_view c.args.model))) (sampled c.args.number) c.in-Err.refusal
+    c.in-Err.ensures.does

@@ -1,0 +1,50 @@
+use Rattle.std.proofs.Common.{Err, subst, arith}
+use Rattle.stack_yield.specs.Kept.{region_view}
+use Rattle.stack_yield.specs.Regions.{Regions}
+use Rattle.stack_yield.specs.Outcomes.{outcomes}
+use Rattle.stack_lines.specs.Answers.{region_due}
+use Rattle.stack_forms.specs.Yielding.{region_step}
+use Rattle.stack_forms.proofs.Ways.{wanting}
+use Rattle.stack_forms.proofs.YieldEnds.{is_direction, region_told, direction_wide, direction_spent}
+use Rattle.stack_forms.proofs.forms.yielding.region_survey.Goals as goal
+
+pub direction_number-requires : goal.direction_number-requires
+direction_number-requires c =
+    let h = subst (λ e. Regions (Err e) c.args.survey.now c.args.loads.0 c.args.loads.1 c.args.budget
+    c.args.directions.now) c.in-Err-TooWide.field-0-is c.in-Err-TooWide.ensures.regions in
+    let low = is_direction c.args.survey.now c.args.loads.0 c.args.loads.1 c.args.budget c.args.directions.now
+    c.in-Err-TooWide.direction c.in-Err-TooWide.place h in
+    omega (arith, low, c.requires.few)
+
+pub returns-in-Ok-write_region-clause-does : goal.returns-in-Ok-write_region-clause-does
+returns-in-Ok-write_region-clause-does c holds = (
+  region_due c.args.survey.now c.args.loads.0 c.args.loads.1 c.args.directions.now (region_view c.in-Ok.found),
+  record {
+    are_loads = c.requires.loads;
+    tells = c.in-Ok.ensures.tells;
+    is_verdict = c.region_verdict-verdict.ensures;
+    is_text = c.in-Ok-write_region.ensures;
+  },
+  region_told c.args.survey.now c.args.loads.0 c.args.loads.1 c.args.directions.now c.args.budget holds
+      (region_view c.in-Ok.found) c.in-Ok.ensures.regions,
+)
+
+pub returns-in-Err-TooWide-clause-does : goal.returns-in-Err-TooWide-clause-does
+returns-in-Err-TooWide-clause-does c holds =
+    let h = subst (λ e. Regions (Err e) c.args.survey.now c.args.loads.0 c.args.loads.1 c.args.budget
+    c.args.directions.now) c.in-Err-TooWide.field-0-is c.in-Err-TooWide.ensures.regions in
+    direction_wide c.args.survey.now c.args.loads.0 c.args.loads.1 c.args.directions.now c.args.budget holds
+    c.in-Err-TooWide.direction c.direction_number.result c.in-Err-TooWide.place c.wide_direction.result
+    c.direction_number.ensures h c.wide_direction.ensures
+
+pub returns-in-Err-Spent-clause-does : goal.returns-in-Err-Spent-clause-does
+returns-in-Err-Spent-clause-does c holds =
+    let h = subst (λ e. Regions (Err e) c.args.survey.now c.args.loads.0 c.args.loads.1 c.args.budget
+    c.args.directions.now) c.in-Err-Spent.field-0-is c.in-Err-Spent.ensures.regions in
+    direction_spent c.args.survey.now c.args.loads.0 c.args.loads.1 c.args.directions.now c.args.budget holds
+    c.in-Err-Spent.field-0-0 h
+
+pub returns-in-Err-clause-does : goal.returns-in-Err-clause-does
+returns-in-Err-clause-does c holds = wanting holds (region_step c.args.budget c.args.survey.now c.args.loads.0
+    c.args.loads.1 c.args.directions.now
+    (outcomes c.args.survey.now c.args.loads.0 c.args.loads.1 c.args.budget c.args.directions.now))

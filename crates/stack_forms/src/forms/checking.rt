@@ -1,0 +1,143 @@
+//! The words `check MODEL CERT` and `table MODEL CERT`.
+
+ghost use Rattle.std.specs.Prelude.{◌≡◌, ◌≤◌};
+ghost use Rattle.stack_outside.specs.Faults.{Rose};
+ghost use Rattle.stack_certificate.specs.Certificate.{certificate_view};
+ghost use Rattle.stack_checker.specs.WrittenCheck.{written_check};
+ghost use Rattle.stack_checker.specs.declared.types.Check.TheVariants.{Accepted};
+ghost use Rattle.stack_forms.specs.Checking.{check_step, certificate_due, certified, checked, certificate_work};
+ghost use Rattle.stack_forms.specs.Tables.{due_of};
+ghost use Rattle.stack_forms.specs.Progress.{Does, DoesAlone, AnswersDue, IsCausedBy};
+
+use crate::forms::tabling::tables;
+use crate::reading::read_file;
+use crate::surveying::survey_file;
+use stack_certificate::types::{Certificate, TextError};
+use stack_checker::types::Check;
+use stack_contact::types::Survey;
+use stack_lines::{Answer, Input, Refusal, Verdict, Within, rejection, wide_place};
+use stack_outside::Shelf;
+use std::alloc::Global;
+
+/// What is asked of an accepted certificate.
+#[derive(Clone, Copy, Debug, PartialEq, Eq)]
+pub enum Asked {
+    /// That it is accepted.
+    Acceptance,
+    /// Its tables.
+    Tables,
+}
+
+/// The answer to what a check gives, or the refusal of a sum that is too wide.
+fn check_answer(alloc: Global, survey: &Survey, check: Check) -> Result<Answer, Refusal>
+    ensures does { DoesAlone AnswersDue (check_step survey.now.structure check) result }
+    ensures no_file { IsCausedBy result ⊥ }
+{
+    match check {
+        Check::Accepted => Ok(Answer {
+            verdict: Verdict::Affirmed,
+            text: Vec::from_slice(alloc, b"accepted\n")?,
+        }),
+        Check::Rejected(part, reason) => Ok(Answer {
+            verdict: Verdict::Denied,
+            text: rejection(alloc, survey, part, reason)?.into_bytes(),
+        }),
+        Check::TooWide(place) => Err(Refusal::WideCheck {
+            within: Within::Whole,
+            part: place.part,
+            place: wide_place(alloc, survey, place.at)?,
+        }),
+    }
+}
+
+/// What is asked of an accepted certificate.
+fn accepted_answer(
+    alloc: Global,
+    survey: &Survey,
+    certificate: &Certificate,
+    asked: Asked,
+) -> Result<Answer, Refusal>
+    requires { written_check survey.now (certificate_view certificate.now) ≡ Accepted }
+    ensures does { DoesAlone AnswersDue (due_of asked survey.now (certificate_view certificate.now)) result }
+    ensures no_file { IsCausedBy result ⊥ }
+{
+    match asked {
+        Asked::Acceptance => check_answer(alloc, survey, Check::Accepted),
+        Asked::Tables => tables(alloc, survey, certificate),
+    }
+}
+
+/// The check of a certificate, and what is asked of it where it is accepted.
+fn certificate_answer(
+    alloc: Global,
+    survey: &Survey,
+    certificate: &Certificate,
+    asked: Asked,
+) -> Result<Answer, Refusal>
+    ensures does { DoesAlone AnswersDue (certificate_due (due_of asked) survey.now (certificate_view certificate.now)
+        (written_check survey.now (certificate_view certificate.now))) result }
+    ensures no_file { IsCausedBy result ⊥ }
+{
+    match stack_checker::check(survey, certificate) {
+        Check::Accepted => accepted_answer(alloc, survey, certificate, asked),
+        Check::Rejected(part, reason) => check_answer(alloc, survey, Check::Rejected(part, reason)),
+        Check::TooWide(place) => check_answer(alloc, survey, Check::TooWide(place)),
+    }
+}
+
+/// The same of the certificate in a text.
+fn certificate_text(
+    alloc: Global,
+    text: &[u8],
+    survey: &Survey,
+    asked: Asked,
+) -> Result<Answer, Refusal>
+    ensures does { DoesAlone AnswersDue (certified (due_of asked) survey.now text.now) result }
+    ensures no_file { IsCausedBy result ⊥ }
+{
+    match stack_certificate::read_certificate(alloc, text) {
+        Ok(certificate) => certificate_answer(alloc, survey, &certificate, asked),
+        Err(TextError::Line { number }) => Err(Refusal::CertificateLine { number }),
+        Err(TextError::Memory) => Err(Refusal::Memory),
+    }
+}
+
+/// The same of the certificate in a file.
+fn certificate_file<F: Shelf>(
+    alloc: Global,
+    shelf: &mut F,
+    name: &str,
+    survey: &Survey,
+    asked: Asked,
+) -> Result<Answer, Refusal>
+    ensures does { Does AnswersDue (F.holds shelf.old) (checked (due_of asked) name.now survey.now)
+        (F.asked shelf.old) (F.asked shelf.new) result }
+    ensures holds { F.holds shelf.new ≡ F.holds shelf.old }
+    ensures later { F.faults shelf.old ≤ F.faults shelf.new }
+    ensures cause { IsCausedBy result (Rose (F.faults shelf.old) (F.faults shelf.new)) }
+{
+    match read_file(shelf, name, Input::Certificate) {
+        Ok(text) => certificate_text(alloc, text.as_slice(), survey, asked),
+        Err(refusal) => Err(refusal),
+    }
+}
+
+/// The words `check MODEL CERT` and `table MODEL CERT`.
+pub fn certificate_form<F: Shelf>(
+    alloc: Global,
+    shelf: &mut F,
+    model: &str,
+    certificate: &str,
+    asked: Asked,
+) -> Result<Answer, Refusal>
+    ensures does { Does AnswersDue (F.holds shelf.old) (certificate_work (due_of asked) model.now certificate.now)
+        (F.asked shelf.old) (F.asked shelf.new) result }
+    ensures holds { F.holds shelf.new ≡ F.holds shelf.old }
+    ensures later { F.faults shelf.old ≤ F.faults shelf.new }
+    ensures cause { IsCausedBy result (Rose (F.faults shelf.old) (F.faults shelf.new)) }
+{
+    match survey_file(alloc, shelf, model) {
+        Ok(survey) => certificate_file(alloc, shelf, certificate, &survey, asked),
+        Err(refusal) => Err(refusal),
+    }
+}

@@ -1,0 +1,78 @@
+//! The words `range MODEL [PIVOTS]`.
+
+ghost use Rattle.std.specs.Prelude.{◌≡◌, ◌≢◌, ◌≤◌};
+ghost use Rattle.stack_outside.specs.Faults.{Rose};
+ghost use Rattle.stack_range.specs.Ranged.{range_view};
+ghost use Rattle.stack_lines.specs.Answers.{range_verdict as range_verdict_of};
+ghost use Rattle.stack_forms.specs.Ranging.{within_of, range_told, range_work};
+ghost use Rattle.stack_forms.specs.Progress.{Does, DoesAlone, AnswersDue, IsCausedBy};
+
+use crate::forms::judging::wide;
+use crate::surveying::survey_file;
+use stack_contact::types::Survey;
+use stack_lines::{Answer, Refusal, Verdict, Within};
+use stack_outside::Shelf;
+use stack_range::types::{Range, RangeError, Side};
+use stack_range::{range, write_range};
+use std::alloc::Global;
+
+/// Whether the dead loads stand.
+fn range_verdict(found: &Range) -> Verdict
+    ensures { result ≡ range_verdict_of (range_view found.now) }
+{
+    match found {
+        Range::Collapses(_) => Verdict::Denied,
+        Range::Between { .. } => Verdict::Affirmed,
+    }
+}
+
+/// How the judgement of a side is told.
+fn within(side: Side) -> Within
+    ensures { result ≡ within_of side }
+{
+    match side {
+        Side::Greatest => Within::Whole,
+        Side::Least => Within::LeastSide,
+    }
+}
+
+/// The range of a survey.
+fn range_survey(alloc: Global, survey: &Survey, budget: u32) -> Result<Answer, Refusal>
+    requires { budget ≢ 0 }
+    ensures does { DoesAlone AnswersDue (range_told budget survey.now) result }
+    ensures no_file { IsCausedBy result ⊥ }
+{
+    match range(alloc, survey, budget) {
+        Ok(found) => {
+            let verdict = range_verdict(&found);
+            match write_range(alloc, found) {
+                Ok(text) => Ok(Answer { verdict, text }),
+                Err(_) => Err(Refusal::Memory),
+            }
+        }
+        Err(RangeError::TooWide { side, place }) => Err(wide(alloc, survey, within(side), place)),
+        Err(RangeError::Spent { .. }) => Err(Refusal::Spent { budget }),
+        Err(RangeError::NoLive) => Err(Refusal::NoLive),
+        Err(RangeError::Memory) => Err(Refusal::Memory),
+    }
+}
+
+/// The words `range MODEL [PIVOTS]`.
+pub fn range_form<F: Shelf>(
+    alloc: Global,
+    shelf: &mut F,
+    model: &str,
+    budget: u32,
+) -> Result<Answer, Refusal>
+    requires { budget ≢ 0 }
+    ensures does { Does AnswersDue (F.holds shelf.old) (range_work model.now budget) (F.asked shelf.old)
+        (F.asked shelf.new) result }
+    ensures holds { F.holds shelf.new ≡ F.holds shelf.old }
+    ensures later { F.faults shelf.old ≤ F.faults shelf.new }
+    ensures cause { IsCausedBy result (Rose (F.faults shelf.old) (F.faults shelf.new)) }
+{
+    match survey_file(alloc, shelf, model) {
+        Ok(survey) => range_survey(alloc, &survey, budget),
+        Err(refusal) => Err(refusal),
+    }
+}

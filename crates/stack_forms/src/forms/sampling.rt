@@ -1,0 +1,95 @@
+//! The words `sample N`.
+
+ghost use Rattle.std.specs.Prelude.{IfOk};
+ghost use Rattle.stack_model.specs.Structure.{HasLive};
+ghost use Rattle.stack_model.specs.ModelView.{model_view};
+ghost use Rattle.stack_certificate.specs.Certificate.{certificate_view};
+ghost use Rattle.stack_equilibrium.specs.declared.types.Question.TheVariants.{Live};
+ghost use Rattle.stack_judge.specs.Judged.{IsJudged};
+ghost use Rattle.stack_lines.specs.Answers.{summary};
+ghost use Rattle.stack_forms.specs.Work.{gives};
+ghost use Rattle.stack_forms.specs.Stacking.{built_step};
+ghost use Rattle.stack_forms.specs.Sampling.{sample_of, sampled, wall_sampled, sample_work};
+ghost use Rattle.stack_forms.specs.Progress.{DoesAlone, IsModel, AnswersDue, IsCausedBy};
+
+use crate::forms::DEFAULT_BUDGET;
+use crate::forms::judging::wide;
+use crate::surveying::survey_model;
+use stack_certificate::types::Certificate;
+use stack_contact::types::Survey;
+use stack_equilibrium::types::Question;
+use stack_judge::{JudgeError, judge_marked};
+use stack_lines::{Answer, Refusal, Verdict, Within};
+use stack_model::Model;
+use stack_overhang::wall;
+use stack_report::sample_summary;
+use std::alloc::Global;
+
+/// The wall with this number.
+fn built(alloc: Global, number: u32) -> Result<Model, Refusal>
+    ensures does { DoesAlone IsModel (built_step (sample_of number)) result }
+    ensures live { IfOk result (λ m. HasLive (model_view m)) }
+    ensures no_file { IsCausedBy result ⊥ }
+{
+    match wall(alloc, number) {
+        Ok(model) => Ok(model),
+        Err(error) => Err(Refusal::from(error)),
+    }
+}
+
+/// The summary of a certificate.
+fn summed(
+    alloc: Global,
+    number: u32,
+    survey: &Survey,
+    certificate: &Certificate,
+    narrow: bool,
+) -> Result<Answer, Refusal>
+    requires { IsJudged Live survey.now (certificate_view certificate.now) }
+    ensures does { DoesAlone AnswersDue (gives (summary number survey.now
+        (certificate_view certificate.now) narrow)) result }
+    ensures no_file { IsCausedBy result ⊥ }
+{
+    Ok(Answer {
+        verdict: Verdict::Affirmed,
+        text: sample_summary(alloc, number, survey, certificate, narrow)?,
+    })
+}
+
+/// The summary of the judgement of a wall's survey.
+fn sample_survey(alloc: Global, number: u32, survey: &Survey) -> Result<Answer, Refusal>
+    requires { HasLive survey.now.structure }
+    ensures does { DoesAlone AnswersDue (sampled number survey.now) result }
+    ensures no_file { IsCausedBy result ⊥ }
+{
+    match judge_marked(alloc, survey, Question::Live, DEFAULT_BUDGET) {
+        Ok((certificate, narrow)) => summed(alloc, number, survey, &certificate, narrow),
+        Err(JudgeError::TooWide(place)) => Err(wide(alloc, survey, Within::Whole, place)),
+        Err(JudgeError::Spent { budget }) => Err(Refusal::Spent { budget }),
+        Err(JudgeError::NoLive) => unreachable!(),
+        Err(JudgeError::Memory) => Err(Refusal::Memory),
+    }
+}
+
+/// The summary of a wall.
+fn sample_wall(alloc: Global, number: u32, model: Model) -> Result<Answer, Refusal>
+    requires { HasLive (model_view model) }
+    ensures does { DoesAlone AnswersDue (wall_sampled number (model_view model)) result }
+    ensures no_file { IsCausedBy result ⊥ }
+{
+    match survey_model(alloc, model) {
+        Ok(survey) => sample_survey(alloc, number, &survey),
+        Err(refusal) => Err(refusal),
+    }
+}
+
+/// The words `sample N`.
+pub fn sample_form(alloc: Global, number: u32) -> Result<Answer, Refusal>
+    ensures does { DoesAlone AnswersDue (sample_work number) result }
+    ensures no_file { IsCausedBy result ⊥ }
+{
+    match built(alloc, number) {
+        Ok(model) => sample_wall(alloc, number, model),
+        Err(refusal) => Err(refusal),
+    }
+}

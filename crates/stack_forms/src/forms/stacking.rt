@@ -1,0 +1,58 @@
+//! The words `stack KIND N`.
+
+ghost use Rattle.stack_model.specs.ModelView.{model_view};
+ghost use Rattle.stack_overhang.specs.Gives.{GivesStack};
+ghost use Rattle.stack_lines.specs.Answers.{document};
+ghost use Rattle.stack_forms.specs.Work.{gives};
+ghost use Rattle.stack_forms.specs.Stacking.{stack_of, built_step, stack_work};
+ghost use Rattle.stack_forms.specs.Progress.{DoesAlone, IsModel, AnswersDue, IsCausedBy};
+
+use crate::forms::Kind;
+use stack_lines::{Answer, Refusal, Verdict};
+use stack_model::Model;
+use stack_overhang::{StackError, harmonic, slab, triangle};
+use std::alloc::Global;
+
+/// The built-in stack of this kind and size.
+fn stack(alloc: Global, kind: Kind, size: u32) -> Result<Model, StackError>
+    ensures { GivesStack result (stack_of kind size) }
+{
+    match kind {
+        Kind::Harmonic => harmonic(alloc, size),
+        Kind::Triangle => triangle(alloc, size),
+        Kind::Slab => slab(alloc, size),
+    }
+}
+
+/// The same, or the refusal of its size.
+fn built(alloc: Global, kind: Kind, size: u32) -> Result<Model, Refusal>
+    ensures does { DoesAlone IsModel (built_step (stack_of kind size)) result }
+    ensures no_file { IsCausedBy result ⊥ }
+{
+    match stack(alloc, kind, size) {
+        Ok(model) => Ok(model),
+        Err(error) => Err(Refusal::from(error)),
+    }
+}
+
+/// The document of a model.
+fn described(alloc: Global, model: &Model) -> Result<Answer, Refusal>
+    ensures does { DoesAlone AnswersDue (gives (document (model_view model.now))) result }
+    ensures no_file { IsCausedBy result ⊥ }
+{
+    Ok(Answer {
+        verdict: Verdict::Affirmed,
+        text: stack_reader::write_model(alloc, model)?,
+    })
+}
+
+/// The words `stack KIND N`.
+pub fn stack_form(alloc: Global, kind: Kind, size: u32) -> Result<Answer, Refusal>
+    ensures does { DoesAlone AnswersDue (stack_work kind size) result }
+    ensures no_file { IsCausedBy result ⊥ }
+{
+    match built(alloc, kind, size) {
+        Ok(model) => described(alloc, &model),
+        Err(refusal) => Err(refusal),
+    }
+}

@@ -1,0 +1,68 @@
+//! The survey of the model in a file, whose refusals tell bodies by their names.
+
+ghost use Rattle.std.specs.Prelude.{◌≡◌, ◌≤◌, [], map, get_or, IfOk, string_bytes};
+ghost use Rattle.stack_outside.specs.Faults.{Rose};
+ghost use Rattle.stack_model.specs.ModelView.{model_view};
+ghost use Rattle.stack_forms.specs.Work.{surveys};
+ghost use Rattle.stack_forms.specs.Surveying.{structure_names, survey_step, surveyed_file};
+ghost use Rattle.stack_forms.specs.Progress.{Does, DoesAlone, IsSeenSurvey, IsCausedBy};
+
+use crate::reading::model_file;
+use stack_contact::survey;
+use stack_contact::types::{Survey, SurveyError};
+use stack_lines::Refusal;
+use stack_model::Model;
+use stack_outside::Shelf;
+use std::alloc::{AllocError, Global};
+
+/// The names of all bodies, in order.
+fn names_of(alloc: Global, model: &Model) -> Result<Vec<String>, AllocError>
+    ensures { IfOk result (λ v. map string_bytes v.items ≡ structure_names (model_view model.now)) }
+{
+    let mut names = Vec::new(alloc);
+    for i in 0..model.bodies() {
+        names.push(String::from_str(alloc, model.name(i))?)?;
+    }
+    Ok(names)
+}
+
+/// A name by its number; empty where there is none.
+fn name_at(names: &[String], i: usize) -> &str
+    ensures { result.now ≡ get_or (map string_bytes names.now) i [] }
+{
+    match names.get(i) {
+        Some(name) => name.as_str(),
+        None => "",
+    }
+}
+
+/// The survey of a model. The model is consumed, so its names are read before.
+pub fn survey_model(alloc: Global, model: Model) -> Result<Survey, Refusal>
+    ensures does { DoesAlone IsSeenSurvey (surveys (model_view model) (survey_step (model_view model))) result }
+    ensures no_file { IsCausedBy result ⊥ }
+{
+    let names = names_of(alloc, &model)?;
+    match survey(alloc, model) {
+        Ok(survey) => Ok(survey),
+        Err(SurveyError::Overlap { first, second }) => Err(Refusal::Overlap {
+            first: String::from_str(alloc, name_at(names.as_slice(), first))?,
+            second: String::from_str(alloc, name_at(names.as_slice(), second))?,
+        }),
+        Err(SurveyError::TooManyBearings { count }) => Err(Refusal::ManyBearings { count }),
+        Err(SurveyError::Memory) => Err(Refusal::Memory),
+    }
+}
+
+/// The survey of the model in a file.
+pub fn survey_file<F: Shelf>(alloc: Global, shelf: &mut F, name: &str) -> Result<Survey, Refusal>
+    ensures does { Does IsSeenSurvey (F.holds shelf.old) (surveyed_file name.now) (F.asked shelf.old)
+        (F.asked shelf.new) result }
+    ensures holds { F.holds shelf.new ≡ F.holds shelf.old }
+    ensures later { F.faults shelf.old ≤ F.faults shelf.new }
+    ensures cause { IsCausedBy result (Rose (F.faults shelf.old) (F.faults shelf.new)) }
+{
+    match model_file(alloc, shelf, name) {
+        Ok(model) => survey_model(alloc, model),
+        Err(refusal) => Err(refusal),
+    }
+}

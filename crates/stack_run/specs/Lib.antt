@@ -1,0 +1,3 @@
+pub mod WrittenRun
+pub mod ProblemRun
+pub mod EndNumbers

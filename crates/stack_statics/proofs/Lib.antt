@@ -1,0 +1,10 @@
+pub mod BearingWork
+pub mod Work
+pub mod Mixtures
+pub mod CertificateLaws
+pub mod Outlines
+pub mod FanSums
+pub mod Mirrors
+pub mod SwayCorners
+pub mod SwaySums
+pub mod Centroids

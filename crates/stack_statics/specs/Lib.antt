@@ -1,0 +1,9 @@
+pub mod Scene
+pub mod Balance
+pub mod Motions
+pub mod Loads
+pub mod Sway
+pub mod SwayLaws
+pub mod Certificates
+pub mod Laws
+pub mod Weights

@@ -1,5 +1,0 @@
-use Rattle.stack_written.proofs.Chains.{one_too_wide_or_all_fit}
-use Rattle.stack_written.proofs.laws.fitting_list_law.Goals as goal
-
-pub returns : goal.returns
-returns c = one_too_wide_or_all_fit

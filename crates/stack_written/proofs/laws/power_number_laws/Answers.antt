@@ -1,5 +1,0 @@
-use Rattle.stack_written.proofs.PowersMade.{power_is_made, work_is_made}
-use Rattle.stack_written.proofs.laws.power_number_laws.Goals as goal
-
-pub returns : goal.returns
-returns c = record { scene = power_is_made; frees = work_is_made }
