@@ -8,9 +8,13 @@
     tools/draw.py [sway X Y] [joint P Q] coursed COURSES STONES SEED
     tools/draw.py [sway X Y] [joint P Q] rubble SIDE SEED
 
-Nothing here is proved. An arch is half a ring of as many voussoirs, WIDTH wide outside and an eighth of that thick, on
-two springers, with a live load of one unit down at the end of its first quarter. A ring is an arch by the radius of its
-middle line and its thickness, over so many DEGREES, 180 if none are given, on springers square to its ends. A half has
+Nothing here is proved. The weight and each load are 1, so a factor times the weight of a square of the grid, 1 deep, is
+in kN; the friction is 7/10, of walls 1/2. An arch is half a ring of as many voussoirs, WIDTH wide outside and an eighth
+of that thick, on two springers, with a live load down at the outer end of the joint after its first quarter of
+voussoirs, from the right: a quarter of the arc, and in half a circle near the springing. For a quarter of the span move
+`at` to half the inner radius from the middle, and `block` to the voussoir under it. A ring is an arch by the radius of
+its middle line and its thickness, over so many DEGREES, 180 if none are given, on springers square to its ends: one of
+4 m in the clear, 0.5 m thick, on 1 cm is `ring 9 225 50`. A half has
 the right half of such a ring, of 180 degrees, and at its crown an upright wall without friction: by symmetry it stands
 exactly where the whole ring does. A wall has bricks 20 long and 10 high in running bond, BRICKS in each even course; an
 odd one is shifted by SHIFT units, 10 if none is given, and its ends are closed by shorter bricks. With the shift 0 all
