@@ -25,7 +25,7 @@ right_size : (p k b t r g : ℕ) → p ≤ r → b * k + t * r ≤ g → t * p �
 right_size p k b t r g h w = let q : t * p ≤ t * r = mul-le-mul (omega arith) h in omega (arith, q, w)
 
 -- both terms together
-both_sizes : (a p k b t r g : ℕ) → a ≤ b → p ≤ r → b * k + t * r ≤ g → a * k + t * p ≤ g
+pub both_sizes : (a p k b t r g : ℕ) → a ≤ b → p ≤ r → b * k + t * r ≤ g → a * k + t * p ≤ g
 both_sizes a p k b t r g h l w = let u : a * k ≤ b * k = mul-le-mul h (omega arith) in
     let v : t * p ≤ t * r = mul-le-mul (omega arith) l in omega (arith, u, v, w)
 

@@ -1,8 +1,7 @@
 -- A row step at one cell, and over a row.
-use Rattle.std.proofs.Common.{◌≡◌, refl, sym, ap, subst, ◌∙◌, ℕ, ◌<◌, ◌≤◌, true, false, Option, Some, None, arith}
+use Rattle.std.proofs.Common.{◌≡◌, refl, sym, ap, subst, ◌∙◌, ℕ, ◌≤◌, true, false, Option, Some, None, arith}
 use lib.IntN.{ℤ, pos, nat_abs, ◌*ℤ◌, ◌-ℤ◌}
 use Rattle.stack_algebra.specs.Fraction.{Fraction}
-use Rattle.stack_algebra.specs.Search.{first}
 use Rattle.stack_algebra.proofs.Fractions.{mul}
 use Rattle.stack_algebra.proofs.Integers.{expand, sums}
 use Rattle.stack_algebra.proofs.Order.{◌≺◌, mul_pos}
@@ -14,7 +13,6 @@ use Rattle.std.proofs.lemmas.Int.{ints}
 use Rattle.stack_rational.specs.TooWide.{IsWidth, is_too_wide, op_value}
 use Rattle.stack_table.specs.declared.types.Step.{Step}
 use Rattle.stack_table.specs.declared.types.Step.TheVariants.{Multiply, Subtract}
-use Rattle.stack_table.specs.declared.types.PivotWide.{PivotWide}
 use Rattle.stack_table.specs.Spots.{reduced, reduce_item}
 use Rattle.stack_table.proofs.RowSteps.{product_too_wide, difference_too_wide, neither_too_wide, reduced_here}
 use Rattle.stack_revised.specs.RowForm.{IsFitting}

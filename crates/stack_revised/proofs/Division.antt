@@ -13,7 +13,7 @@ use Rattle.stack_rational.proofs.Fitting.{is_zero-of}
 use Rattle.stack_table.specs.Spots.{divided, divide_item}
 use Rattle.stack_revised.specs.declared.columns.Column.{Column}
 use Rattle.stack_revised.specs.RowForm.{cell_at, number_at, under_at, ArePositive, AreWithin, IsSameRow, IsPlaced}
-use Rattle.stack_revised.specs.Columns.{combined, by_place, number, plain_own, first_at, revised_own}
+use Rattle.stack_revised.specs.Columns.{combined, by_place, number, first_at, revised_own}
 use Rattle.stack_revised.specs.Columns.{revised_number, revised_cell, row_number, row_cell}
 use Rattle.stack_revised.proofs.NumberBlock.{part_value, cell_outside}
 use Rattle.stack_revised.proofs.Linear.{combined_same}

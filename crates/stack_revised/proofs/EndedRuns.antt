@@ -1,5 +1,5 @@
 -- What the end of a run at one width says.
-use Rattle.std.proofs.Common.{◌≡◌, refl, sym, subst, ◌∙◌, ℕ, ◌≤◌, ◌^◌, ◌-◌, Result, Ok, Err, unsigned_abs, arith}
+use Rattle.std.proofs.Common.{◌≡◌, sym, subst, ◌∙◌, ℕ, ◌≤◌, ◌^◌, ◌-◌, Result, Ok, Err, unsigned_abs, arith}
 use Rattle.std.specs.Prelude.{IfOk, IfErr}
 use lib.IntN.{ℤ, pos}
 use Rattle.stack_algebra.specs.Fraction.{Fraction}

@@ -1,5 +1,5 @@
 -- The next column beside each in which a row has something: one more is found.
-use Rattle.std.proofs.Common.{◌≡◌, sym, subst, ◌∙◌, ℕ, suc, ◌<◌, ◌≤◌, List, length, get_or, set, arith, pos}
+use Rattle.std.proofs.Common.{◌≡◌, sym, subst, ℕ, suc, ◌<◌, ◌≤◌, List, length, get_or, set, arith, pos}
 use Rattle.std.proofs.Common.{get_or-set_same, get_or-set_other}
 use native.Mathlib.Decide.{ℕ_discrete}
 use lib.IntN.{ℤ}

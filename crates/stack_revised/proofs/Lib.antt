@@ -16,6 +16,8 @@ pub mod ProductSums
 pub mod Made
 pub mod Cleared
 pub mod Steps
+pub mod Ready
+pub mod Casts
 pub mod Marks
 pub mod PivotLoop
 pub mod Division

@@ -16,8 +16,8 @@ use Rattle.stack_run.specs.WrittenRun.{drive_row, drives}
 use Rattle.stack_run.specs.WrittenRun.{infeasible, after_phase, raise, third_end, past_first, first_end}
 use Rattle.stack_run.specs.WrittenRun.{written_run}
 use Rattle.stack_duality.proofs.BestRow.{best-some}
-use Rattle.stack_duality.proofs.Turn.{turn_settled, turn_unlimited, turn_spent, turn_passing, turn_pivots}
-use Rattle.stack_duality.proofs.Turn.{drives_on, drives_passing, drives_spent}
+use Rattle.stack_duality.proofs.Turn.{turn_settled, turn_unlimited, turn_spent, turn_too_wide, turn_pivots}
+use Rattle.stack_duality.proofs.Turn.{drives_on, drives_too_wide, drives_spent}
 use Rattle.stack_revised.specs.declared.pivots.Pivots.{Pivots}
 use Rattle.stack_simplex.specs.Stops.{spot_of}
 use Rattle.stack_table.specs.declared.types.PivotWide.{PivotWide}
@@ -88,7 +88,7 @@ module _ (max : ℤ) (S : Shape) (phase among : ℕ) (T : Tabled Fraction) (k : 
     pub stops : (e : Stop) → TellsPivot (Err e) phase k (pivot_spot ordered_fractions (is_too_wide max) S T r c) →
         TellsStop e (phase_from max S phase among k T)
     stops (TooWide p) h = (λ i. wide_at (h.in_phase i) (h.next_pivot i) (spot_of p))
-        ∙ sym (turn_passing ordered_fractions S (is_too_wide max) phase among T r c (sym enters) ratios (sym leaves)
+        ∙ sym (turn_too_wide ordered_fractions S (is_too_wide max) phase among T r c (sym enters) ratios (sym leaves)
         k.left k.done (spot_of p) h.some_left h.first)
     stops Spent h = is_spent h
     stops Unsettled h = tt
@@ -135,7 +135,7 @@ module _ (max : ℤ) (S S' : Shape) (T U : Tabled Fraction) (n i : ℕ) (first k
       TellsStop e (drives ordered_fractions S (is_too_wide max) n first.left first.done T)
   row_stops (TooWide p) l h = let m = n - suc i in let z : suc i + m ≡ n = omega arith in
       sym (ap (λ n. drives ordered_fractions S (is_too_wide max) n first.left first.done T) (sym z)
-      ∙ drives_passing ordered_fractions S (is_too_wide max) m (suc i) first.left first.done p.phase p.pivot T
+      ∙ drives_too_wide ordered_fractions S (is_too_wide max) m (suc i) first.left first.done p.phase p.pivot T
       (spot_of p)
       (up_to_row ∙ sym h))
   row_stops Spent l h = let m = n - suc i in let z : suc i + m ≡ n = omega arith in

@@ -1,6 +1,6 @@
 -- A row that is reduced cell by cell: its cells fit where nothing that is written is too wide.
-use Rattle.std.proofs.Common.{◌≡◌, ◌≢◌, refl, sym, ap, subst, ◌∙◌, ℕ, suc, ◌+◌, ◌-◌, ◌*◌, ◌/◌, ◌<◌, ◌≤◌, Bool}
-use Rattle.std.proofs.Common.{true, false, Option, Some, None, List, length, eqb, ltb, arith, mul-le-mul, take, drop}
+use Rattle.std.proofs.Common.{◌≡◌, refl, sym, ap, subst, ◌∙◌, ℕ, suc, ◌+◌, ◌-◌, ◌*◌, ◌/◌, ◌<◌, ◌≤◌, Bool}
+use Rattle.std.proofs.Common.{true, false, None, List, length, eqb, ltb, arith, mul-le-mul}
 use native.Mathlib.Decide.{dec_lt}
 use native.Mathlib.Nat.{mul-div_cancel'}
 use lib.IntN.{ℤ, pos, nat_abs, ◌+ℤ◌, ◌*ℤ◌}
@@ -8,7 +8,7 @@ use Rattle.std.proofs.lemmas.Int.{ints, unsigned_abs-mul}
 use Rattle.std.proofs.lemmas.Bool.{leb-true, le-ltb, lt-ltb, eq-eqb, ne_eqb}
 use Rattle.stack_algebra.specs.Fraction.{Fraction}
 use Rattle.stack_algebra.specs.Gcd.{gcd}
-use Rattle.stack_algebra.specs.Search.{first, or_else, only_if}
+use Rattle.stack_algebra.specs.Search.{first, only_if}
 use Rattle.stack_algebra.proofs.Search.{first-none, or_none, only_if-none}
 use Rattle.stack_algebra.proofs.CommonDivisor.{gcd-left, gcd-right}
 use Rattle.stack_algebra.proofs.Conjunctions.{not-false, left_true, right_true}
@@ -18,11 +18,9 @@ use Rattle.stack_algebra.proofs.Over.{over}
 use Rattle.stack_algebra.proofs.OrderedFractions.{ordered_fractions}
 use Rattle.stack_rational.specs.declared.exact.Op.TheVariants.{Difference, Product}
 use Rattle.stack_rational.specs.TooWide.{IsWidth, fraction_fits, sum_fits, is_too_wide, left_term, common_denominator}
-use Rattle.stack_rational.specs.Stored.{Within}
 use Rattle.stack_rational.proofs.Crosswise.{positive-part}
 use Rattle.stack_rational.proofs.Fitting.{answer_fits, fits-of}
 use Rattle.stack_table.specs.declared.types.Step.TheVariants.{Multiply, Subtract}
-use Rattle.stack_table.specs.declared.types.PivotWide.{PivotWide}
 use Rattle.stack_table.specs.Spots.{reduced, reduce_item, reduce_spot}
 use Rattle.stack_revised.specs.declared.columns.Column.{Column}
 use Rattle.stack_revised.specs.declared.columns.Cell.{Cell}

@@ -25,7 +25,7 @@ use Rattle.stack_revised.specs.Columns.{number, first_at, AreFirst, IsOwn, revis
 use Rattle.stack_revised.specs.Columns.{revised_number, revised_cell, row_number, row_cell}
 use Rattle.stack_revised.proofs.Numbers.{at-set_same, at-set_other}
 use Rattle.stack_revised.proofs.NumberBlock.{part_value}
-use Rattle.stack_revised.proofs.OverOneDenominator.{over_fits, same_over}
+use Rattle.stack_revised.proofs.OverOneDenominator.{same_over}
 use Rattle.stack_revised.proofs.RevisedRows.{number_within, row_takes, row_none, row_fits}
 use Rattle.stack_algebra.proofs.Search.{first_all-none}
 
@@ -54,7 +54,7 @@ own_within true x y h = h
 own_within false x y h = omega arith
 
 -- 0 is within any bound
-none_within : (y : ℤ) → unsigned_abs (pos 0) ≤ unsigned_abs y
+pub none_within : (y : ℤ) → unsigned_abs (pos 0) ≤ unsigned_abs y
 none_within y = omega arith
 
 module _ {V : Type 0} (value : V → ℤ) (m : ℕ) (columns : List (Column V)) (most : ℤ)
@@ -198,14 +198,14 @@ module _ {V : Type 0} (value : V → ℤ) (m : ℕ) (columns : List (Column V)) 
             (x.placed.other_under k n z))
 
         -- by bounds of both rows
-        pub row_bounded : (p : ℤ) (width : ℕ) →
+        pub row_bounded : (p : ℤ) (width : ℕ) (told : Bool) →
             IsBounded max value m (take (i * w + w - i * w) (drop (i * w) ns)) (under_at value ds i) most
-            (greatest_at m greatest i) k t (unsigned_abs p) wd →
+            (greatest_at m greatest i) k t (unsigned_abs p) wd told →
             AreWithin (row_number value m columns pivot under) p →
             IsRowReduced max width (revised_cell value m columns own ns ds) (row_cell value m columns pivot under) i
             column (revised_cell value m columns own ns' ds')
         unfolding d lent o
-        row_bounded p width b kp = record {
+        row_bounded p width told b kp = record {
           own = taken_own;
           other = taken_other;
           fits = λ j. ap (fraction_fits max) (there j) ∙ row_fits m (length columns) (first_at value columns) o d

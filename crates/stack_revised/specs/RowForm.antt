@@ -1,7 +1,7 @@
 -- A row as whole numbers over one positive denominator, which needn't be the least.
 use Rattle.std.specs.Prelude.{◌≡◌, ℕ, suc, ◌+◌, ◌*◌, ◌<◌, ◌≤◌, cond, ltb, List, map, get_or, ℤ, pos, ◌*ℤ◌}
 use Rattle.std.specs.Prelude.{◌-ℤ◌, ◌<ℤ◌, None}
-use Rattle.std.specs.Prelude.{unsigned_abs, take, drop, ◌-◌, Bool, true, false}
+use Rattle.std.specs.Prelude.{unsigned_abs, take, drop, ◌-◌, ◌^◌, Bool, true, false}
 use Rattle.stack_algebra.specs.Fraction.{Fraction}
 use Rattle.stack_algebra.proofs.OrderedFractions.{ordered_fractions}
 use Rattle.stack_rational.specs.TooWide.{fraction_fits, is_too_wide}
@@ -27,17 +27,25 @@ under_at value xs i = at_value value (pos 1) xs i
 abbrev pub ArePositive : {V : Type 0} → (V → ℤ) → List V → Type 0
 ArePositive value ds = (i : ℕ) → pos 0 <ℤ under_at value ds i
 
--- a number times k less t times the pivot row's, with neither product too wide for m
-pub record IsTerm (m k t old pivot new : ℤ) : Type 0 where
-  pub number : new ≡ old *ℤ k -ℤ t *ℤ pivot
-  pub left : unsigned_abs (old *ℤ k) ≤ unsigned_abs m
-  pub right : unsigned_abs (t *ℤ pivot) ≤ unsigned_abs m
+-- a row step with the factors k and t fits 64 bits: with a number of at most b and one of at most p in the pivot row
+pub record IsShort (k t : ℤ) (b p : ℕ) : Type 0 where
+  pub own : b ≤ 2 ^ 63 - 1
+  pub pivot : p ≤ 2 ^ 63 - 1
+  pub times : unsigned_abs k ≤ 2 ^ 63 - 1
+  pub less : unsigned_abs t ≤ 2 ^ 63 - 1
+  pub both : b * unsigned_abs k + unsigned_abs t * p ≤ 2 ^ 63 - 1
 
--- numbers less a multiple of the pivot row, each times a factor, with no term that is too wide for m
-pub record IsCombined {V : Type 0} (m : ℤ) (value : V → ℤ) (old pivot : List V) (k t : ℤ) (new : List V) : Type 0 where
-  pub number : (j : ℕ) → number_at value new j ≡ number_at value old j *ℤ k -ℤ t *ℤ number_at value pivot j
-  pub left : (j : ℕ) → unsigned_abs (number_at value old j *ℤ k) ≤ unsigned_abs m
-  pub right : (j : ℕ) → unsigned_abs (t *ℤ number_at value pivot j) ≤ unsigned_abs m
+-- a row step isn't too wide for m in any column, and fits 64 bits in each where that is told
+pub record IsReady {V : Type 0} (m : ℤ) (value : V → ℤ) (row pivot : List V) (k t : ℤ) (told : Bool) : Type 0 where
+  pub fits : (j : ℕ) → unsigned_abs (number_at value row j) * unsigned_abs k
+      + unsigned_abs t * unsigned_abs (number_at value pivot j) ≤ unsigned_abs m
+  pub short : told ≡ true → (j : ℕ) → IsShort k t (unsigned_abs (number_at value row j))
+      (unsigned_abs (number_at value pivot j))
+
+-- numbers times k less t times those of the pivot row
+abbrev pub IsCombined : {V : Type 0} → (V → ℤ) → (old pivot : List V) → (k t : ℤ) → (new : List V) → Type 0
+IsCombined value old pivot k t new = (j : ℕ) → number_at value new j
+    ≡ number_at value old j *ℤ k -ℤ t *ℤ number_at value pivot j
 
 -- beside each column of a row a later one, with nothing between the two
 pub record AreJumps {V : Type 0} (value : V → ℤ) (row : List V) (jumps : List ℕ) : Type 0 where
@@ -78,12 +86,13 @@ pub record IsBound {V : Type 0} (value : V → ℤ) (m : ℕ) (row : List V) (d 
 abbrev pub AreMarked : ℤ → (ℕ → ℕ → Fraction) → List Bool → Type 0
 AreMarked m cell marks = (i : ℕ) → get_or marks i false ≡ true → (j : ℕ) → fraction_fits m (cell i j) ≡ true
 
--- so it is for all numbers of a row over d, by a bound of them
+-- so it is for all numbers of a row over d, by a bound of them; where that is told the step fits 64 bits
 pub record IsBounded {V : Type 0} (m : ℤ) (value : V → ℤ) (rows : ℕ) (row : List V) (d most greatest k t : ℤ)
-    (p : ℕ) (r : ℤ) : Type 0 where
+    (p : ℕ) (r : ℤ) (told : Bool) : Type 0 where
   pub bound : ℤ
   pub is_bound : IsBound value rows row d most greatest bound
   pub fitting : IsFitting m d k t (unsigned_abs bound) p r
+  pub short : told ≡ true → IsShort k t (unsigned_abs bound) p
 
 -- row i is reduced by the row g, its cells fit and nothing that is written is too wide; the others stay
 pub record IsRowReduced (m : ℤ) (width : ℕ) (old : ℕ → ℕ → Fraction) (g : ℕ → Fraction) (i column : ℕ)

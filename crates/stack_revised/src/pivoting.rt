@@ -10,11 +10,11 @@ ghost use Rattle.std.specs.Prelude.{◌-◌, get_or, true, false};
 ghost use Rattle.stack_rational.specs.Order.{is_zero_whole};
 ghost use Rattle.stack_revised.specs.RowForm.{AreMarked, AreJumps};
 ghost use Rattle.stack_revised.specs.RowForm.{under_at, ArePositive, AreWithin, IsBound, IsBounded, IsRowTaken};
-ghost use Rattle.stack_revised.specs.RowForm.{IsRowReduced, IsPlaced, IsDividedRow, IsPivotedCells};
+ghost use Rattle.stack_revised.specs.RowForm.{IsRowReduced, IsReady, IsPlaced, IsDividedRow, IsPivotedCells};
 ghost use Rattle.stack_revised.specs.CellSteps.{TellsSpot};
 ghost use Rattle.stack_revised.specs.Columns.{IsOwn, greatest_at, row_number, row_cell, revised_number, revised_cell};
 
-use crate::factors::{Factors, factors_of, step_under};
+use crate::factors::{Factors, factors_of, is_short, step_under};
 use crate::first::First;
 use crate::making::{bound, greatest_in, number_of};
 use crate::remaking::remake_lent;
@@ -51,6 +51,13 @@ fn bound_at<T: Whole>(
     Some(own_bound)
 }
 
+/// The denominator of a row before it is reduced, and whether its step fits 64 bits.
+#[derive(Clone, Copy)]
+struct Ready<T> {
+    over: T,
+    short: bool,
+}
+
 /// The denominator of a step of row i before it is reduced. None where it or a bound of the step doesn't fit.
 fn bounded_under<T: Whole>(
     first: &First<T>,
@@ -60,30 +67,33 @@ fn bounded_under<T: Whole>(
     pivot_bound: T,
     factors: Factors<T>,
     i: usize,
-) -> Option<T>
+) -> Option<Ready<T>>
     requires room { i * suc first.now.rows + suc first.now.rows ≤ length numbers.now }
     requires row_in { i < length unders.now }
     ensures { IfSome result (λ r. IsBounded T.MAX T.value first.now.rows
         (take (i * suc first.now.rows + suc first.now.rows - i * suc first.now.rows)
         (drop (i * suc first.now.rows) numbers.now)) (under_at T.value unders.now i) (T.value first.now.most)
         (greatest_at first.now.rows (T.value greatest) i) (T.value factors.times) (T.value factors.less)
-        (unsigned_abs (T.value pivot_bound)) (T.value r)) }
+        (unsigned_abs (T.value pivot_bound)) (T.value r.over) r.short) }
 {
     let most = greatest_of(first.rows, greatest, i);
     let width = first.rows + 1;
     let own_bound = bound_at(first, numbers, unders, most, width, i)?;
     let over = step_under(unders[i], factors, own_bound, pivot_bound)?;
-    Some(over)
+    Some(Ready {
+        over,
+        short: is_short(factors, own_bound, pivot_bound),
+    })
 }
 
-/// Takes a multiple of the pivot row from row i. `over` is its denominator before it is reduced.
+/// Takes a multiple of the pivot row from row i.
 fn reduce_lent<T: Whole>(
     numbers: &mut [T],
     unders: &mut [T],
     pivot: &[T],
     jumps: &[usize],
     factors: Factors<T>,
-    over: T,
+    ready: Ready<T>,
     i: usize,
 ) -> Option<()>
     requires room { i * length pivot.now + length pivot.now ≤ length numbers.old }
@@ -91,9 +101,12 @@ fn reduce_lent<T: Whole>(
     requires jumps { AreJumps T.value pivot.now jumps.now }
     requires row_in { i < length unders.old }
     requires positive { ArePositive T.value unders.old }
+    requires ready { IsReady T.MAX T.value (take (i * length pivot.now + length pivot.now - i * length pivot.now)
+        (drop (i * length pivot.now) numbers.old)) pivot.now (T.value factors.times) (T.value factors.less)
+        ready.short }
     ensures positive { ArePositive T.value unders.new }
     ensures ok { OnSome result (IsRowTaken T.value (length pivot.now) numbers.old unders.old pivot.now
-        (T.value over) (T.value factors.times) (T.value factors.less) i numbers.new unders.new) }
+        (T.value ready.over) (T.value factors.times) (T.value factors.less) i numbers.new unders.new) }
 {
     let width = pivot.len();
     let from = i * width;
@@ -102,7 +115,8 @@ fn reduce_lent<T: Whole>(
         pivot,
         jumps,
         factors,
-        over,
+        ready.over,
+        ready.short,
     )?;
     unders[i] = after;
     Some(())
@@ -192,10 +206,10 @@ fn reduce_row_at<T: Whole>(
     requires under { T.value s.under ≡ under_at T.value unders.old i }
     requires positive { ArePositive T.value unders.old }
     requires pivot_under { pos 0 <ℤ T.value s.pivot_under }
+    requires within { AreWithin (row_number T.value first.now.rows first.now.columns.items pivot.now
+        (T.value s.pivot_under)) (T.value pivot_bound) }
     ensures positive { ArePositive T.value unders.new }
-    ensures ok { OnOk result (IsOwn T.value own.now (T.value greatest) →
-        AreWithin (row_number T.value first.now.rows first.now.columns.items pivot.now (T.value s.pivot_under))
-        (T.value pivot_bound) → (column : ℕ) → T.value s.factor
+    ensures ok { OnOk result (IsOwn T.value own.now (T.value greatest) → (column : ℕ) → T.value s.factor
         ≡ revised_number T.value first.now.rows first.now.columns.items own.now numbers.old unders.old i column →
         IsRowReduced T.MAX (suc (length first.now.columns.items + first.now.rows))
         (revised_cell T.value first.now.rows first.now.columns.items own.now numbers.old unders.old)
@@ -211,11 +225,11 @@ fn reduce_row_at<T: Whole>(
         Some(factors) => factors,
         None => return Err(Refusal::Unsettled),
     };
-    let over = match bounded_under(first, greatest, numbers, unders, pivot_bound, factors, i) {
-        Some(over) => over,
+    let ready = match bounded_under(first, greatest, numbers, unders, pivot_bound, factors, i) {
+        Some(ready) => ready,
         None => return reduce_by_cells(first, own, numbers, unders, pivot, s, factors, i),
     };
-    match reduce_lent(numbers, unders, pivot, jumps, factors, over, i) {
+    match reduce_lent(numbers, unders, pivot, jumps, factors, ready, i) {
         Some(()) => Ok(()),
         None => Err(Refusal::Unsettled),
     }
@@ -247,10 +261,10 @@ fn reduce_at<T: Whole>(
     requires jumps { AreJumps T.value pivot.now jumps.now }
     requires positive { ArePositive T.value unders.old }
     requires under { pos 0 <ℤ T.value under }
+    requires within { AreWithin (row_number T.value first.now.rows first.now.columns.items pivot.now (T.value under))
+        (T.value pivot_bound) }
     ensures positive { ArePositive T.value unders.new }
-    ensures ok { OnOk result (IsOwn T.value own.now (T.value greatest) →
-        AreWithin (row_number T.value first.now.rows first.now.columns.items pivot.now (T.value under))
-        (T.value pivot_bound) → AreMarked T.MAX
+    ensures ok { OnOk result (IsOwn T.value own.now (T.value greatest) → AreMarked T.MAX
         (revised_cell T.value first.now.rows first.now.columns.items own.now numbers.old unders.old) marks.old →
         IsRowReduced T.MAX (suc (length first.now.columns.items + first.now.rows))
         (revised_cell T.value first.now.rows first.now.columns.items own.now numbers.old unders.old)

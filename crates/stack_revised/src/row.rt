@@ -1,36 +1,25 @@
 //! The steps of a pivot on one row.
 
-ghost use Rattle.std.specs.Prelude.{◌≡◌, ℕ, ◌<◌, ◌≤◌, pos, ◌*ℤ◌, ◌-ℤ◌, ◌<ℤ◌, unsigned_abs, length, IfSome, OnSome};
+ghost use Rattle.std.specs.Prelude.{◌≡◌, ℕ, ◌<◌, ◌≤◌, ◌+◌, ◌*◌, pos, ◌*ℤ◌, ◌-ℤ◌, ◌<ℤ◌, unsigned_abs, length, IfSome};
 ghost use Rattle.std.specs.Prelude.{true};
-ghost use Rattle.stack_revised.specs.RowForm.{number_at, AreJumps, IsTerm, IsCombined, IsSameRow, IsTaken};
+ghost use Rattle.stack_revised.specs.RowForm.{number_at, AreJumps, IsShort, IsReady, IsCombined, IsSameRow, IsTaken};
 
 use crate::factors::Factors;
 use crate::whole::Whole;
 
 /// A number of a row, times k and less t times that of the pivot row.
-fn term<T: Whole>(number: T, other: T, k: T, t: T) -> Option<T>
-    ensures { IfSome result (λ r. IsTerm T.MAX (T.value k) (T.value t) (T.value number) (T.value other) (T.value r)) }
+fn term<T: Whole>(number: T, other: T, k: T, t: T, short: bool) -> T
+    requires fits { unsigned_abs (T.value number) * unsigned_abs (T.value k)
+        + unsigned_abs (T.value t) * unsigned_abs (T.value other) ≤ unsigned_abs T.MAX }
+    requires short { short ≡ true → IsShort (T.value k) (T.value t) (unsigned_abs (T.value number))
+        (unsigned_abs (T.value other)) }
+    ensures { T.value result ≡ T.value number *ℤ T.value k -ℤ T.value t *ℤ T.value other }
 {
-    if other.is_zero() {
-        if number.is_zero() {
-            return Some(number);
-        }
-        let scaled = number.times(k)?;
-        return Some(scaled);
+    if short {
+        number.short_step(other, k, t)
+    } else {
+        number.step(other, k, t)
     }
-    let left = number.times(k)?;
-    let right = t.times(other)?;
-    let rest = left.less(right)?;
-    Some(rest)
-}
-
-/// A number of a row, less t times that of the pivot row.
-fn rest<T: Whole>(number: T, other: T, t: T) -> Option<T>
-    ensures { IfSome result (λ r. IsTerm T.MAX (pos 1) (T.value t) (T.value number) (T.value other) (T.value r)) }
-{
-    let product = t.times(other)?;
-    let rest = number.less(product)?;
-    Some(rest)
 }
 
 /// Whether one of the numbers of a row is great, as far as one is known.
@@ -40,39 +29,34 @@ fn is_great<T: Whole>(known: bool, number: T) -> bool {
 
 /// Takes from a row, whose numbers are made k times as great, t times the pivot row. Gives whether it is great then,
 /// by its numbers or by what is known of it.
-fn combine<T: Whole>(numbers: &mut [T], pivot: &[T], k: T, t: T, known: bool) -> Option<bool>
-    requires { length pivot.now ≡ length numbers.old }
-    ensures { OnSome result (IsCombined T.MAX T.value numbers.old pivot.now (T.value k) (T.value t) numbers.new) }
+fn combine<T: Whole>(numbers: &mut [T], pivot: &[T], k: T, t: T, short: bool, known: bool) -> bool
+    requires width { length pivot.now ≡ length numbers.old }
+    requires ready { IsReady T.MAX T.value numbers.old pivot.now (T.value k) (T.value t) short }
+    ensures { IsCombined T.value numbers.old pivot.now (T.value k) (T.value t) numbers.new }
 {
     let mut great = known;
     for j in 0..numbers.len() {
-        match term(numbers[j], pivot[j], k, t) {
-            Some(number) => {
-                great = is_great(great, number);
-                numbers[j] = number;
-            }
-            None => return None,
-        }
+        let number = term(numbers[j], pivot[j], k, t, short);
+        great = is_great(great, number);
+        numbers[j] = number;
     }
-    Some(great)
+    great
 }
 
-/// Takes from a row t times the pivot row, in the columns alone in which this has something.
-fn subtract<T: Whole>(numbers: &mut [T], pivot: &[T], jumps: &[usize], t: T) -> Option<()>
+/// Takes from a row t times the pivot row, in the columns alone in which this has something: k is 1.
+fn subtract<T: Whole>(numbers: &mut [T], pivot: &[T], jumps: &[usize], k: T, t: T, short: bool)
     requires width { length pivot.now ≡ length numbers.old }
     requires long { length jumps.now ≡ length numbers.old }
     requires jumps { AreJumps T.value pivot.now jumps.now }
-    ensures { OnSome result (IsCombined T.MAX T.value numbers.old pivot.now (pos 1) (T.value t) numbers.new) }
+    requires one { T.value k ≡ pos 1 }
+    requires ready { IsReady T.MAX T.value numbers.old pivot.now (T.value k) (T.value t) short }
+    ensures { IsCombined T.value numbers.old pivot.now (T.value k) (T.value t) numbers.new }
 {
     let mut j = 0;
     while j < numbers.len() {
-        match rest(numbers[j], pivot[j], t) {
-            Some(number) => numbers[j] = number,
-            None => return None,
-        }
+        numbers[j] = term(numbers[j], pivot[j], k, t, short);
         j = jumps[j];
     }
-    Some(())
 }
 
 /// Beside each column of a row the next one after it in which the row has something.
@@ -97,47 +81,66 @@ fn change<T: Whole>(
     pivot: &[T],
     jumps: &[usize],
     factors: Factors<T>,
+    short: bool,
     known: bool,
-) -> Option<bool>
+) -> bool
     requires width { length pivot.now ≡ length numbers.old }
     requires long { length jumps.now ≡ length numbers.old }
     requires jumps { AreJumps T.value pivot.now jumps.now }
-    ensures { OnSome result (IsCombined T.MAX T.value numbers.old pivot.now (T.value factors.times)
-        (T.value factors.less) numbers.new) }
+    requires ready { IsReady T.MAX T.value numbers.old pivot.now (T.value factors.times) (T.value factors.less) short }
+    ensures { IsCombined T.value numbers.old pivot.now (T.value factors.times) (T.value factors.less) numbers.new }
 {
     if factors.times.is_one() {
-        subtract(numbers, pivot, jumps, factors.less)?;
-        Some(false)
+        subtract(numbers, pivot, jumps, factors.times, factors.less, short);
+        false
     } else {
-        combine(numbers, pivot, factors.times, factors.less, known)
+        combine(numbers, pivot, factors.times, factors.less, short, known)
+    }
+}
+
+/// What a row is divided by, with its inverse.
+#[derive(Clone, Copy)]
+struct Divisor<T> {
+    by: T,
+    twos: u32,
+    inverse: T,
+}
+
+/// A number to divide by, with its inverse.
+fn divisor_of<T: Whole>(by: T) -> Divisor<T> {
+    Divisor {
+        by,
+        twos: by.twos(),
+        inverse: by.inverse(),
     }
 }
 
 /// A number that should divide a denominator and all numbers of its row.
 fn content<T: Whole>(numbers: &[T], under: T) -> T {
-    let mut common = under;
-    let mut twos = common.twos();
-    let mut inverse = common.inverse();
+    let mut common = divisor_of(under);
+    if common.by.is_one() {
+        return common.by;
+    }
     for j in 0..numbers.len() {
-        if common.is_one() {
-            return common;
-        }
         let number = numbers[j];
-        if !goes_into(number, common, twos, inverse) {
-            common = number.divisor(common);
-            twos = common.twos();
-            inverse = common.inverse();
+        if !goes_into(number, common) {
+            common = divisor_of(number.divisor(common.by));
+            if common.by.is_one() {
+                return common.by;
+            }
         }
     }
-    common
+    common.by
 }
 
-/// Whether a number goes into another, by its inverse.
-fn goes_into<T: Whole>(number: T, by: T, twos: u32, inverse: T) -> bool {
+/// Whether a number goes into another.
+fn goes_into<T: Whole>(number: T, divisor: Divisor<T>) -> bool {
     if number.is_zero() {
         return true;
     }
-    number.exact(by, twos, inverse).is_some()
+    number
+        .exact(divisor.by, divisor.twos, divisor.inverse)
+        .is_some()
 }
 
 /// Divides each number of a row, where all quotients are whole.
@@ -218,14 +221,16 @@ pub fn reduce_row<T: Whole>(
     jumps: &[usize],
     factors: Factors<T>,
     over: T,
+    short: bool,
 ) -> Option<T>
     requires width { length pivot.now ≡ length numbers.old }
     requires long { length jumps.now ≡ length numbers.old }
     requires jumps { AreJumps T.value pivot.now jumps.now }
+    requires ready { IsReady T.MAX T.value numbers.old pivot.now (T.value factors.times) (T.value factors.less) short }
     ensures { IfSome result (λ e. IsTaken T.value numbers.old (T.value over) pivot.now (T.value factors.times)
         (T.value factors.less) numbers.new (T.value e)) }
 {
-    let great = change(numbers, pivot, jumps, factors, !over.is_small())?;
+    let great = change(numbers, pivot, jumps, factors, short, !over.is_small());
     let after = settle_great(numbers, over, great)?;
     Some(after)
 }

@@ -6,8 +6,8 @@ use std::cmp::Ordering;
 ///
 /// Only what is answered is exact: none tells nothing, and a divisor is any number.
 pub trait Whole: Copy {
-    ghost use Rattle.std.specs.Prelude.{◌≡◌, ℤ, pos, ◌*ℤ◌, ◌-ℤ◌, ◌+ℤ◌, ◌+◌, ◌≤◌, ◌<ℤ◌, neg_ℤ, unsigned_abs, IfSome};
-    ghost use Rattle.std.specs.Prelude.{true};
+    ghost use Rattle.std.specs.Prelude.{◌≡◌, ℤ, pos, ◌*ℤ◌, ◌-ℤ◌, ◌+ℤ◌, ◌+◌, ◌*◌, ◌^◌, ◌-◌, ◌≤◌, ◌<ℤ◌, unsigned_abs};
+    ghost use Rattle.std.specs.Prelude.{IfSome, true};
     ghost use Rattle.stack_rational.specs.TooWide.{IsWidth};
     ghost use Rattle.stack_rational.specs.Order.{is_zero_whole};
     ghost use Rattle.stack_algebra.specs.Ordered.{sign_of};
@@ -56,6 +56,26 @@ pub trait Whole: Copy {
     fn sizes(self, other: Self) -> Option<Self>
         ensures { IfSome result (λ r.
             unsigned_abs (value self) + unsigned_abs (value other) ≤ unsigned_abs (value r)) };
+
+    /// Whether it fits 64 bits.
+    fn is_short(self) -> bool
+        ensures { result ≡ true → unsigned_abs (value self) ≤ 2 ^ 63 - 1 };
+
+    /// A number times k less t times another, where the sizes of both terms together fit.
+    fn step(self, other: Self, k: Self, t: Self) -> Self
+        requires { unsigned_abs (value self) * unsigned_abs (value k)
+            + unsigned_abs (value t) * unsigned_abs (value other) ≤ unsigned_abs MAX }
+        ensures { value result ≡ value self *ℤ value k -ℤ value t *ℤ value other };
+
+    /// The same where all numbers fit 64 bits, and the sizes of both terms together do.
+    fn short_step(self, other: Self, k: Self, t: Self) -> Self
+        requires own { unsigned_abs (value self) ≤ 2 ^ 63 - 1 }
+        requires other { unsigned_abs (value other) ≤ 2 ^ 63 - 1 }
+        requires times { unsigned_abs (value k) ≤ 2 ^ 63 - 1 }
+        requires less { unsigned_abs (value t) ≤ 2 ^ 63 - 1 }
+        requires both { unsigned_abs (value self) * unsigned_abs (value k)
+            + unsigned_abs (value t) * unsigned_abs (value other) ≤ 2 ^ 63 - 1 }
+        ensures { value result ≡ value self *ℤ value k -ℤ value t *ℤ value other };
 
     /// A number that should divide both.
     fn divisor(self, other: Self) -> Self;

@@ -1,8 +1,8 @@
 //! Whole numbers of 128 bits.
 
-ghost use Rattle.std.specs.Prelude.{◌≡◌, ◌≤◌, ◌≤ℤ◌, ◌*ℤ◌, pos, unsigned_abs, IfSome};
+ghost use Rattle.std.specs.Prelude.{◌≡◌, ◌≤◌, ◌≤ℤ◌, ◌+◌, ◌*◌, ◌^◌, ◌-◌, ◌*ℤ◌, ◌-ℤ◌, pos, unsigned_abs, IfSome};
 
-use crate::common::of_numbers;
+use crate::common::{of_numbers, word_inverse, word_step};
 use crate::products::{Ratios, compare};
 use crate::whole::Whole;
 use crate::wide::Wide;
@@ -46,6 +46,25 @@ fn product_of(a: i64, b: i64) -> i128
     a as i128 * b as i128
 }
 
+/// The product of two numbers of 128 bits that fits.
+fn long_product(a: i128, b: i128) -> i128
+    requires { unsigned_abs a * unsigned_abs b ≤ 2 ^ 127 - 1 }
+    ensures { result ≡ a *ℤ b }
+{
+    a * b
+}
+
+/// A number times k less t times another, where the sizes of both terms together fit.
+fn long_step(number: i128, other: i128, k: i128, t: i128) -> i128
+    requires { unsigned_abs number * unsigned_abs k + unsigned_abs t * unsigned_abs other ≤ 2 ^ 127 - 1 }
+    ensures value { result ≡ number *ℤ k -ℤ t *ℤ other }
+    ensures fits { unsigned_abs result ≤ 2 ^ 127 - 1 }
+{
+    let left = long_product(number, k);
+    let right = long_product(t, other);
+    left - right
+}
+
 /// The product, where both are numbers of 64 bits.
 fn short_product(a: Wide, b: Wide) -> Option<i128>
     ensures { IfSome result (λ r. r ≡ a.number *ℤ b.number) }
@@ -69,18 +88,33 @@ fn short_quotient(a: Wide, b: Wide) -> Option<i64>
     }
 }
 
-/// The inverse of the odd part of a number modulo 2^128, by Newton's steps: each doubles the bits that are right.
+/// The last 64 bits of a number.
+fn low(n: i128) -> i64 {
+    ((n.cast_unsigned() & 18446744073709551615) as u64).cast_signed()
+}
+
+/// The quotient by the inverse, where it is whole and it and what is divided by are numbers of 64 bits.
+fn short_exact(a: Wide, b: Wide, twos: u32, inverse: Wide) -> Option<i64>
+    ensures { IfSome result (λ r. r *ℤ b.number ≡ a.number) }
+{
+    let right = short(b)?;
+    let quotient = low(a.number.wrapping_shr(twos)).wrapping_mul(low(inverse.number));
+    if product_of(quotient, right) == a.number {
+        Some(quotient)
+    } else {
+        None
+    }
+}
+
+/// The inverse of the odd part of a number modulo 2^128, by one more such step.
 fn inverse_of(n: i128) -> i128 {
     let twos = n.trailing_zeros();
     if 128 <= twos {
         return n;
     }
     let odd = n >> twos;
-    let mut inverse = odd.wrapping_mul(3) ^ 2;
-    for _ in 0..5 {
-        inverse = inverse.wrapping_mul(2i128.wrapping_sub(odd.wrapping_mul(inverse)));
-    }
-    inverse
+    let inverse = word_inverse(low(odd)) as i128;
+    inverse.wrapping_mul(2i128.wrapping_sub(odd.wrapping_mul(inverse)))
 }
 
 impl Whole for Wide {
@@ -157,6 +191,28 @@ impl Whole for Wide {
         Some(sum)
     }
 
+    fn is_short(self) -> bool {
+        -9223372036854775808 < self.number && self.number <= 9223372036854775807
+    }
+
+    fn step(self, other: Self, k: Self, t: Self) -> Self {
+        Wide {
+            number: long_step(self.number, other.number, k.number, t.number),
+        }
+    }
+
+    fn short_step(self, other: Self, k: Self, t: Self) -> Self {
+        let number = word_step(
+            self.number as i64,
+            other.number as i64,
+            k.number as i64,
+            t.number as i64,
+        );
+        Wide {
+            number: number as i128,
+        }
+    }
+
     fn divisor(self, other: Self) -> Self {
         let common = of_numbers(self.number.unsigned_abs(), other.number.unsigned_abs());
         if common <= 170141183460469231731687303715884105727 {
@@ -181,6 +237,10 @@ impl Whole for Wide {
     }
 
     fn exact(self, other: Self, twos: u32, inverse: Self) -> Option<Self> {
+        match short_exact(self, other, twos, inverse) {
+            Some(quotient) => return wide(quotient as i128),
+            None => {}
+        }
         if 128 <= twos {
             return None;
         }
@@ -226,7 +286,8 @@ impl Whole for Wide {
     }
 
     fn is_small(self) -> bool {
-        -1152921504606846976 < self.number && self.number < 1152921504606846976
+        let high = low(self.number.wrapping_shr(64));
+        -65536 <= high && high < 65536
     }
 
     fn is_positive(self) -> bool {

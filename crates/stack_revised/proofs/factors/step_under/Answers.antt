@@ -1,20 +1,9 @@
-use Rattle.std.proofs.Common.{ap, unsigned_abs, arith}
-use Rattle.std.proofs.lemmas.Int.{unsigned_abs-mul}
+use Rattle.std.proofs.Common.{arith}
 use Rattle.stack_revised.proofs.factors.step_under.Goals as goal
 
 pub returns : goal.returns
-returns g c =
-    let v = g.T.Whole.value in
-    record {
-      fits = omega (
-        arith,
-        c.in_ok-_most.ensures,
-        ap unsigned_abs c.in_ok-left.ensures,
-        ap unsigned_abs c.in_ok-right.ensures,
-        unsigned_abs-mul (v c.args.own) (v c.args.factors.times),
-        unsigned_abs-mul (v c.args.factors.less) (v c.args.pivot),
-        g.met.T.Whole.fits_law c.in_ok-_most._most,
-      );
-      under = c.in_ok-over.ensures;
-      small = g.met.T.Whole.fits_law c.in_ok-over.over;
-    }
+returns g c = record {
+  fits = omega (arith, c.in_ok-_most.ensures, g.met.T.Whole.fits_law c.in_ok-_most._most);
+  under = c.in_ok-over.ensures;
+  small = g.met.T.Whole.fits_law c.in_ok-over.over;
+}

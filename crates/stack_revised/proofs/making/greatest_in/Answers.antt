@@ -1,6 +1,4 @@
-use Rattle.std.proofs.Common.{◌≡◌, ℕ, suc, ◌+◌, ◌<◌, ◌≤◌, length, ap, unsigned_abs, arith}
-use lib.IntN.{ℤ}
-use Rattle.stack_revised.specs.RowForm.{number_at}
+use Rattle.std.proofs.Common.{ap, unsigned_abs, arith}
 use Rattle.stack_revised.specs.Columns.{row_number}
 use Rattle.stack_revised.proofs.Covered.{covers_more}
 use Rattle.stack_revised.proofs.RowByCells.{all_within}

@@ -1,5 +1,5 @@
 use mathlib.Core.Path.{subst₂}
-use Rattle.std.proofs.Common.{◌≡◌, sym, subst, ℕ, suc, ◌+◌, ◌-◌, ◌*◌, take, drop, pos, unsigned_abs, add-one}
+use Rattle.std.proofs.Common.{sym, subst, ℕ, ◌+◌, ◌-◌, ◌*◌, take, drop, pos, unsigned_abs, add-one}
 use lib.IntN.{ℤ}
 use Rattle.stack_revised.specs.RowForm.{under_at, IsBound, IsFitting}
 use Rattle.stack_revised.proofs.Covered.{room_of}
@@ -24,4 +24,5 @@ returns g c =
           (unsigned_abs (v c.in_ok-own_bound.own_bound)) (unsigned_abs (v c.args.pivot_bound)) (v c.in_ok-over.over))
           (sym (at-index v (pos 1) c.args.unders.now i c.index-unders-i.result c.requires.row_in c.index-unders-i.is))
           c.in_ok-over.ensures;
+      short = c.is_short.ensures;
     }

@@ -1,4 +1,4 @@
-use Rattle.std.proofs.Common.{◌≡◌, sym, subst, ◌∙◌, ◌+◌, ◌-◌, ◌*◌, List, length, take, drop}
+use Rattle.std.proofs.Common.{subst, ◌+◌, ◌-◌, ◌*◌, List, length, take, drop}
 use Rattle.stack_revised.specs.RowForm.{IsSameRow}
 use Rattle.stack_revised.proofs.Division.{pivot_row_is, pivot_row_none, pivot_row_fits}
 use Rattle.stack_revised.proofs.pivoting.divide_row.Goals as goal

@@ -1,4 +1,4 @@
-use Rattle.std.proofs.Common.{◌≡◌, sym, ap, subst, ◌∙◌, ℕ, suc, ◌+◌, ◌-◌, ◌*◌, List, length}
+use Rattle.std.proofs.Common.{◌≡◌, ap, subst, ◌∙◌, ℕ, suc, ◌+◌, ◌*◌, length}
 use Rattle.std.proofs.Common.{arith}
 use Rattle.std.proofs.lemmas.Result.{err_from_is_err_and}
 use Rattle.stack_rational.specs.TooWide.{fraction_fits}
@@ -34,7 +34,7 @@ pub loop-i-preserved : goal.loop-i-preserved
 loop-i-preserved g c =
     let v = g.T.Whole.value in
     let f = c.args.first.now in
-    let step = c.in_ok-reduce_at.ensures.ok c.requires.own c.in-Some.ensures.within c.loop-i.invariant.marked in
+    let step = c.in_ok-reduce_at.ensures.ok c.requires.own c.loop-i.invariant.marked in
     record {
       positive = c.in_ok-reduce_at.ensures.positive;
       marked = step.1;

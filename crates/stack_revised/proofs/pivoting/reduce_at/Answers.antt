@@ -1,11 +1,11 @@
-use Rattle.std.proofs.Common.{◌≡◌, ℕ, true, sym, ap, ◌∙◌, subst, suc, ◌+◌, ◌*◌, ◌≤◌, length, pos}
+use Rattle.std.proofs.Common.{sym, ap, ◌∙◌, subst, suc, ◌+◌, ◌*◌, ◌≤◌, length, pos}
 use Rattle.stack_algebra.specs.Fraction.{Fraction}
 use Rattle.stack_algebra.proofs.Over.{over}
 use Rattle.stack_algebra.proofs.OrderedFractions.{ordered_fractions}
 use Rattle.stack_rational.specs.Order.{is_zero_whole}
 use Rattle.stack_rational.specs.TooWide.{is_too_wide}
 use Rattle.stack_table.specs.Spots.{reduce_spot}
-use Rattle.stack_revised.specs.RowForm.{under_at, IsRowReduced}
+use Rattle.stack_revised.specs.RowForm.{IsRowReduced}
 use Rattle.stack_revised.specs.Columns.{revised_cell, row_cell}
 use Rattle.stack_revised.specs.CellSteps.{TellsSpot}
 use Rattle.stack_revised.proofs.Numbers.{at-index}
@@ -22,7 +22,7 @@ reduce_row_at-requires-clause-under g c = sym (at-index g.T.Whole.value (pos 1) 
     c.index-unders-i.result c.requires.row_in c.index-unders-i.is)
 
 pub returns-then-stays-clause-ok : goal.returns-then-stays-clause-ok
-returns-then-stays-clause-ok g c = λ ho kp hm.
+returns-then-stays-clause-ok g c = λ ho hm.
     let v = g.T.Whole.value in
     let f = c.args.first.now in
     let w = length c.args.pivot.now in
@@ -38,14 +38,14 @@ returns-then-stays-clause-ok g c = λ ho kp hm.
     )
 
 pub returns-in-Ok-clause-ok : goal.returns-in-Ok-clause-ok
-returns-in-Ok-clause-ok g c = λ ho kp hm.
+returns-in-Ok-clause-ok g c = λ ho hm.
     let v = g.T.Whole.value in
     let f = c.args.first.now in
     let reduced : IsRowReduced g.T.Whole.MAX (suc (length f.columns.items + f.rows))
     (revised_cell v f.rows f.columns.items c.args.own.now c.args.numbers.now c.args.unders.now)
     (row_cell v f.rows f.columns.items c.args.pivot.now (v c.args.under)) c.args.i c.args.column
     (revised_cell v f.rows f.columns.items c.args.own.now c.reduce_row_at.new.numbers c.reduce_row_at.new.unders) =
-    c.in-Ok.ensures.ok ho kp c.args.column c.in-Some.ensures in (
+    c.in-Ok.ensures.ok ho c.args.column c.in-Some.ensures in (
       reduced,
       marked_anew g.T.Whole.MAX
           (revised_cell v f.rows f.columns.items c.args.own.now c.args.numbers.now c.args.unders.now)

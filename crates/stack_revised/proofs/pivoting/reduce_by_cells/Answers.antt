@@ -1,4 +1,4 @@
-use Rattle.std.proofs.Common.{◌≡◌, sym, ap, subst, ◌∙◌, suc, ◌+◌, ◌*◌, ◌≤◌, length, None}
+use Rattle.std.proofs.Common.{sym, ap, subst, ◌∙◌, suc, ◌+◌, ◌*◌, ◌≤◌, length}
 use lib.IntN.{ℤ}
 use Rattle.stack_algebra.proofs.Over.{over}
 use Rattle.stack_algebra.proofs.OrderedFractions.{ordered_fractions}

@@ -1,12 +1,15 @@
-use Rattle.std.proofs.Common.{◌≡◌, sym, subst, ℕ, suc, ◌+◌, ◌-◌, ◌*◌, length, take, drop, unsigned_abs, None, ◌≤◌}
+use Rattle.std.proofs.Common.{◌≡◌, ◌∙◌, pos, sym, subst, ℕ, suc, ◌+◌, ◌-◌, ◌*◌, ◌≤◌, length, take, drop}
+use Rattle.std.proofs.Common.{unsigned_abs, None}
 use lib.IntN.{◌*ℤ◌}
 use Rattle.stack_algebra.proofs.Over.{over}
 use Rattle.stack_algebra.proofs.OrderedFractions.{ordered_fractions}
 use Rattle.stack_rational.specs.TooWide.{is_too_wide}
 use Rattle.stack_table.specs.Spots.{reduce_spot}
-use Rattle.stack_revised.specs.RowForm.{under_at, AreWithin, IsBounded, IsRowTaken, IsRowReduced}
-use Rattle.stack_revised.specs.Columns.{IsOwn, greatest_at, revised_number, revised_cell, row_number, row_cell}
+use Rattle.stack_revised.specs.RowForm.{under_at, IsBounded, IsRowTaken, IsRowReduced}
+use Rattle.stack_revised.specs.Columns.{IsOwn, greatest_at, revised_number, revised_cell, row_cell}
+use Rattle.stack_revised.proofs.NumberBlock.{part_length}
 use Rattle.stack_revised.proofs.Steps.{row_bounded}
+use Rattle.stack_revised.proofs.Ready.{ready}
 use Rattle.stack_revised.proofs.Marks.{ok_both}
 use Rattle.stack_revised.proofs.RowByCells.{row_put_by_cells}
 use Rattle.stack_revised.proofs.pivoting.reduce_row_at.Goals as goal
@@ -15,8 +18,27 @@ pub bounded_under-requires-clause-room : goal.bounded_under-requires-clause-room
 bounded_under-requires-clause-room g c = subst (λ w. c.args.i * w + w
     ≤ length c.args.numbers.now) c.requires.width c.requires.room
 
+pub reduce_lent-requires-clause-ready : goal.reduce_lent-requires-clause-ready
+reduce_lent-requires-clause-ready g c =
+    let v = g.T.Whole.value in
+    let f = c.args.first.now in
+    let ns = c.args.numbers.now in
+    let ds = c.args.unders.now in
+    let i = c.args.i in
+    let w = length c.args.pivot.now in
+    let k = v c.in-Some.factors.times in
+    let t = v c.in-Some.factors.less in
+    ready v f.rows f.columns.items (v f.most) f.first g.T.Whole.MAX (take (i * w + w - i * w) (drop (i * w) ns))
+    c.args.pivot.now (under_at v ds i) (v c.args.s.pivot_under) (greatest_at f.rows (v c.args.greatest) i) k t
+    (v c.args.pivot_bound) (v c.in-Some-bounded_under.ready.over) c.in-Some-bounded_under.ready.short
+    (part_length v (pos 0) w i ns c.requires.room ∙ c.requires.width) c.requires.width
+    (subst (λ (n : ℕ). IsBounded g.T.Whole.MAX v f.rows (take (i * n + n - i * n) (drop (i * n) ns))
+    (under_at v ds i) (v f.most) (greatest_at f.rows (v c.args.greatest) i) k t (unsigned_abs (v c.args.pivot_bound))
+    (v c.in-Some-bounded_under.ready.over) c.in-Some-bounded_under.ready.short) (sym c.requires.width)
+    c.in-Some-bounded_under.ensures) c.requires.within
+
 pub returns-in-Some-reduce_lent-clause-ok : goal.returns-in-Some-reduce_lent-clause-ok
-returns-in-Some-reduce_lent-clause-ok g c = λ ho kp column hf.
+returns-in-Some-reduce_lent-clause-ok g c = λ ho column hf.
     let v = g.T.Whole.value in
     let f = c.args.first.now in
     let ns = c.args.numbers.now in
@@ -27,13 +49,15 @@ returns-in-Some-reduce_lent-clause-ok g c = λ ho kp column hf.
     let t = v c.in-Some.factors.less in
     row_bounded v f.rows f.columns.items (v f.most) f.first c.args.own.now (v c.args.greatest) ho ns ds i
     (length c.args.pivot.now) c.requires.width c.requires.room g.T.Whole.MAX c.args.pivot.now (v s.pivot_under)
-    (v c.in-Some-bounded_under.over) k t (v s.factor) column
+    (v c.in-Some-bounded_under.ready.over) k t (v s.factor) column
     c.reduce_lent.new.numbers c.reduce_lent.new.unders c.requires.positive c.requires.pivot_under
     c.in-Some-bounded_under.ensures.fitting.under c.in-Some.ensures.some hf c.in-Some.ensures.cross
     c.in-Some-reduce_lent.ensures.ok (v c.args.pivot_bound) (suc (length f.columns.items + f.rows))
+    c.in-Some-bounded_under.ready.short
     (subst (λ (n : ℕ). IsBounded g.T.Whole.MAX v f.rows (take (i * n + n - i * n) (drop (i * n) ns))
     (under_at v ds i) (v f.most) (greatest_at f.rows (v c.args.greatest) i) k t (unsigned_abs (v c.args.pivot_bound))
-    (v c.in-Some-bounded_under.over)) (sym c.requires.width) c.in-Some-bounded_under.ensures) kp
+    (v c.in-Some-bounded_under.ready.over) c.in-Some-bounded_under.ready.short) (sym c.requires.width)
+    c.in-Some-bounded_under.ensures) c.requires.within
 
 pub returns-in-None-bounded_under-clause-ok : goal.returns-in-None-bounded_under-clause-ok
 returns-in-None-bounded_under-clause-ok g c =
@@ -54,11 +78,10 @@ returns-in-None-bounded_under-clause-ok g c =
     (IsRowTaken v (length piv) ns ds piv (v s.under *ℤ v s.pivot_under) (v s.pivot_under) (v s.factor) i ns' ds')
     (reduce_spot ordered_fractions (is_too_wide m) (suc (length C + M)) (revised_cell v M C own ns ds i)
     (row_cell v M C piv (v s.pivot_under)) (over (v s.factor) (v s.under)) i ≡ None)
-    (IsOwn v own (v c.args.greatest) → AreWithin (row_number v M C piv (v s.pivot_under)) (v c.args.pivot_bound) →
-    (column : ℕ) → v s.factor ≡ revised_number v M C own ns ds i column →
+    (IsOwn v own (v c.args.greatest) → (column : ℕ) → v s.factor ≡ revised_number v M C own ns ds i column →
     IsRowReduced m (suc (length C + M)) (revised_cell v M C own ns ds) (row_cell v M C piv (v s.pivot_under)) i column
     (revised_cell v M C own ns' ds'))
-    (λ x none ho kp column hf. row_put_by_cells v M C (v f.most) f.first own (v c.args.greatest) ho ns ds i
+    (λ x none ho column hf. row_put_by_cells v M C (v f.most) f.first own (v c.args.greatest) ho ns ds i
     (length piv) c.requires.width c.requires.room m g.met.T.Whole.fits_law g.met.T.Whole.max_law piv (v s.under)
     (v s.pivot_under) (v s.factor) column ns' ds' c.requires.positive c.reduce_by_cells.ensures.positive
     c.requires.pivot_under c.requires.under hf x none)

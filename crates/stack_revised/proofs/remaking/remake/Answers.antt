@@ -1,5 +1,5 @@
 use mathlib.Core.Path.{subst₂}
-use Rattle.std.proofs.Common.{◌≡◌, ◌≢◌, sym, ap, subst, ◌∙◌, ℕ, ◌<◌, pos, length, set, arith}
+use Rattle.std.proofs.Common.{◌≡◌, ◌≢◌, sym, subst, ◌∙◌, ℕ, ◌<◌, pos, length, set, arith}
 use lib.IntN.{ℤ, ◌*ℤ◌, ◌-ℤ◌}
 use native.Mathlib.Decide.{dec_lt}
 use Rattle.stack_revised.specs.RowForm.{number_at}

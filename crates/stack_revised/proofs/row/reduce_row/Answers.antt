@@ -5,8 +5,7 @@ use Rattle.stack_revised.proofs.row.reduce_row.Goals as goal
 pub returns : goal.returns
 returns g c =
     let v = g.T.Whole.value in
-    let h = c.in_ok-great.ensures in
     record {
       positive = c.in_ok-after.ensures.positive;
-      number = λ r. c.in_ok-after.ensures.cross r ∙ ap (λ z. z *ℤ v c.in_ok-after.after) (h.number r);
+      number = λ r. c.in_ok-after.ensures.cross r ∙ ap (λ z. z *ℤ v c.in_ok-after.after) (c.change-great.ensures r);
     }

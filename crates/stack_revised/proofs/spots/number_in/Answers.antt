@@ -1,4 +1,4 @@
-use Rattle.std.proofs.Common.{◌≡◌, refl, ◌∙◌, ◌+◌, ◌-◌, ◌*◌, pos, arith, add-one}
+use Rattle.std.proofs.Common.{refl, ◌∙◌, ◌+◌, ◌-◌, ◌*◌, pos, arith, add-one}
 use Rattle.stack_revised.proofs.Numbers.{at-index}
 use Rattle.stack_revised.proofs.RowByCells.{block_read}
 use Rattle.stack_revised.proofs.spots.number_in.Goals as goal

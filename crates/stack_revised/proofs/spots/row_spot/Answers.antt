@@ -1,11 +1,9 @@
-use Rattle.std.proofs.Common.{◌≡◌, sym, ap, subst, ◌∙◌, ℕ, suc, ◌+◌, ◌<◌, length, Option, Some, None, arith, add-one}
-use lib.IntN.{ℤ}
-use Rattle.stack_algebra.specs.Search.{first}
+use Rattle.std.proofs.Common.{sym, subst, suc, ◌+◌, length, Option, Some, None, arith}
 use Rattle.stack_algebra.proofs.Search.{first_found, first_more, first-none, first_all-none}
 use Rattle.stack_algebra.proofs.Over.{over}
 use Rattle.stack_table.specs.declared.types.Step.{Step}
 use Rattle.stack_revised.specs.RowForm.{under_at}
-use Rattle.stack_revised.specs.Columns.{revised_number, revised_cell, row_number, row_cell}
+use Rattle.stack_revised.specs.Columns.{revised_number, row_number}
 use Rattle.stack_revised.specs.CellSteps.{TellsStep}
 use Rattle.stack_revised.proofs.CellSteps.{step_told}
 use Rattle.stack_revised.proofs.spots.row_spot.Goals as goal

@@ -1,0 +1,40 @@
+-- A difference of two products, as a goal shows it with its casts.
+use Rattle.std.proofs.Common.{◌≡◌, sym, ap, subst, ◌∙◌, ◌≤◌, ◌+◌, ◌-◌, ◌*◌, ◌^◌, arith}
+use lib.IntN.{ℤ, nat_abs, ◌-ℤ◌, ◌*ℤ◌}
+use Rattle.std.specs.Int.{Width}
+use mir.Val.{SFits, hbits, to_z, of_z}
+use mir.Facts.{to_z-of_z}
+use Rattle.std.proofs.lemmas.Int.{ints, unsigned_abs-mul}
+use Rattle.stack_rational.specs.Widths.{signed-keeps}
+
+-- the size of a difference
+difference_size : (l r : ℤ) → nat_abs (l -ℤ r) ≤ nat_abs l + nat_abs r
+difference_size l r = omega (arith, ints)
+
+-- where both sizes together fit
+cast_difference : (w : Width) (l r : ℤ) → nat_abs l + nat_abs r ≤ 2 ^ hbits w - 1 →
+    to_z w (of_z w (to_z w (of_z w l) -ℤ to_z w (of_z w r))) ≡ l -ℤ r
+cast_difference w l r h = ap (λ z. to_z w (of_z w z))
+    (λ i. to_z-of_z (signed-keeps w l (omega (arith, h))) i -ℤ to_z-of_z (signed-keeps w r (omega (arith, h))) i)
+    ∙ to_z-of_z (signed-keeps w (l -ℤ r) (omega (arith, h, difference_size l r)))
+
+module _ (w : Width) (a b k t l r : ℤ) (fa : SFits w a) (fb : SFits w b) (fk : SFits w k) (ft : SFits w t)
+    (hl : l ≡ to_z w (of_z w a) *ℤ to_z w (of_z w k)) (hr : r ≡ to_z w (of_z w t) *ℤ to_z w (of_z w b))
+    (fits : nat_abs a * nat_abs k + nat_abs t * nat_abs b ≤ 2 ^ hbits w - 1) where
+  left : l ≡ a *ℤ k
+  left = hl ∙ (λ i. to_z-of_z fa i *ℤ to_z-of_z fk i)
+
+  right : r ≡ t *ℤ b
+  right = hr ∙ (λ i. to_z-of_z ft i *ℤ to_z-of_z fb i)
+
+  sizes : nat_abs l + nat_abs r ≤ 2 ^ hbits w - 1
+  sizes = omega (arith, ap nat_abs left, ap nat_abs right, unsigned_abs-mul a k, unsigned_abs-mul t b, fits)
+
+  -- a step on numbers that fit
+  pub cast_step : to_z w (of_z w (to_z w (of_z w l) -ℤ to_z w (of_z w r))) ≡ a *ℤ k -ℤ t *ℤ b
+  cast_step = cast_difference w l r sizes ∙ (λ i. left i -ℤ right i)
+
+  -- and its size
+  pub cast_step_fits : nat_abs (to_z w (of_z w (to_z w (of_z w l) -ℤ to_z w (of_z w r)))) ≤ 2 ^ hbits w - 1
+  cast_step_fits = subst (λ z. nat_abs z ≤ 2 ^ hbits w - 1) (sym (cast_difference w l r sizes))
+      (omega (arith, sizes, difference_size l r))
