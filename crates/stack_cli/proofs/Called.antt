@@ -1,9 +1,10 @@
--- A run's puts, counted.
+-- How often a run puts on its streams, where they count their calls.
 use Rattle.std.proofs.Common.{◌≡◌, ℕ, ◌+◌, ◌<◌, ◌≤◌, ◌⊎◌, inl, inr, Option, Some, ap}
 use Rattle.std.proofs.Common.{◌∙◌, arith}
 use Rattle.std.specs.Option.{option_map}
 use Rattle.std.proofs.lemmas.Bool.{lt-ltb, le-ltb}
 use Rattle.stack_outside.specs.Faults.{counted}
+use Rattle.stack_outside.specs.Seen.{StreamSeen}
 use Rattle.stack_lines.specs.declared.answer.Verdict.{Verdict}
 use Rattle.stack_lines.specs.declared.refusal.Refusal.{Refusal as CodeRefusal}
 use Rattle.stack_lines.specs.Refusals.{refusal_view, status_of}
@@ -20,23 +21,23 @@ more : (before after : Option ℕ) (n : ℕ) → after ≡ option_map counted be
 more before after n call told low = call ∙ ap (option_map counted) told ∙ ap Some (one_more n low)
 
 -- The answer was put, or the output failed as it was.
-pub answer_put : (status : ℕ) (before after : Option ℕ) → (status < 2) ⊎ (status ≡ 10)
-    → after ≡ option_map counted before → PutsAnswer status before after
-answer_put status before after which call n told low = inl (more before after n call told low, which)
+pub answer_put : (status : ℕ) (out : StreamSeen) → (status < 2) ⊎ (status ≡ 10)
+    → out.calls_after ≡ option_map counted out.calls → PutsAnswer status out
+answer_put status out which call n told low = inl (more out.calls out.calls_after n call told low, which)
 
 -- A refusal puts nothing on the output.
-pub nothing_put : (status : ℕ) (before after : Option ℕ) → 2 ≤ status → after ≡ before → PutsAnswer status before after
-nothing_put status before after high same n told low = inr (same ∙ told, high)
+pub nothing_put : (status : ℕ) (out : StreamSeen) → 2 ≤ status → out.calls_after ≡ out.calls → PutsAnswer status out
+nothing_put status out high same n told low = inr (same ∙ told, high)
 
 -- An answer says nothing on the error stream.
-pub no_line : (status : ℕ) (before after : Option ℕ) → status < 2 → after ≡ before → PutsLine status before after
-no_line status before after low same n told start = rw (lt-ltb status 2 low) (same ∙ told)
+pub no_line : (status : ℕ) (err : StreamSeen) → status < 2 → err.calls_after ≡ err.calls → PutsLine status err
+no_line status err low same n told start = rw (lt-ltb status 2 low) (same ∙ told)
 
--- A refusal puts its line.
-pub line_put_once : (status : ℕ) (before after : Option ℕ) → 2 ≤ status → after ≡ option_map counted before
-    → PutsLine status before after
-line_put_once status before after high call n told start =
-    rw (le-ltb status 2 high) (more before after n call told start)
+-- A refusal puts its line once.
+pub line_put_once : (status : ℕ) (err : StreamSeen) → 2 ≤ status → err.calls_after ≡ option_map counted err.calls
+    → PutsLine status err
+line_put_once status err high call n told start =
+    rw (le-ltb status 2 high) (more err.calls err.calls_after n call told start)
 
 pub verdict_low : (v : Verdict) → verdict_status v < 2
 verdict_low v = below_two v

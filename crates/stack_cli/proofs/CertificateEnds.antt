@@ -2,6 +2,7 @@
 use Rattle.std.proofs.Common.{◌≡◌, refl, sym, ap, subst, ◌∙◌, ℕ, ◌≤◌, List, [], ◌∷◌, Some, Result, Ok, Err, inl, inr}
 use Rattle.std.proofs.Common.{◌⊎◌, length}
 use Rattle.std.proofs.lemmas.Bool.{le-ltb}
+use Rattle.stack_outside.specs.Seen.{ShelfSeen, StreamSeen, NeitherFailed}
 use Rattle.stack_contact.specs.Surveyed.{Surveyed}
 use Rattle.stack_certificate.specs.Certificate.{CertificateValue}
 use Rattle.stack_equilibrium.specs.Truth.{IsTrueCertificate}
@@ -17,10 +18,8 @@ use Rattle.stack_lines.specs.Answers.{Due, exactly, verdict_status}
 use Rattle.stack_lines.specs.CheckText.{rejected_text, place_of}
 use Rattle.stack_forms.specs.Work.{Holds, Ends}
 use Rattle.stack_forms.specs.Surveying.{greatest_file, surveyed_file}
-use Rattle.stack_forms.specs.Checking.{Accepting, certificate_due, checked, certificate_work, accepted_due}
+use Rattle.stack_forms.specs.Checking.{Accepting, certificate_due, checked_file, certificate_work, accepted_due}
 use Rattle.stack_forms.specs.OneEnd.{IsSettled}
-use Rattle.stack_forms.specs.Progress.{ToldNames}
-use Rattle.stack_cli.specs.Delivery.{Bytes}
 use Rattle.stack_cli.specs.MainTheorem.{IsGivenOut, RunMeets}
 use Rattle.stack_cli.specs.Printed.{acceptance}
 use Rattle.stack_cli.specs.Accepted.{ModelAndCertificate, IsWideCheck}
@@ -35,8 +34,9 @@ module _ (due : Accepting) (holds : Holds) (model name bytes text : List ℕ) (t
   certificate_way : Ends holds
       (certificate_due due files.survey files.certificate (written_check files.survey files.certificate)) [] end
       → Ends holds (certificate_work due model name) (model ∷ name ∷ []) end
-  unfolding certificate_work checked
-  certificate_way h = goes_on holds (surveyed_file model) (checked due name) (model ∷ []) (name ∷ []) files.survey end
+  unfolding certificate_work checked_file
+  certificate_way h = goes_on holds (surveyed_file model) (checked_file due name) (model ∷ []) (name ∷ [])
+      files.survey end
       (all_accepted holds model bytes files.survey told files.is_accepted)
       (refl, inr (text, rw held refl, rw (le-ltb greatest_file (length text) short, files.is_text) h))
 
@@ -58,28 +58,28 @@ end_settled e settled v (Rejected part reason) = tt
 end_settled e settled v (TooWide place) = tt
 
 -- what a run on a certificate gives out, by its check
-module _ (due : Accepting) (form : Form) (status : ℕ) (holds : Holds) (asked asked_after : ToldNames)
-    (out out_after err err_after : Bytes) (S O E : Type 0) (model name bytes text : List ℕ)
+module _ (due : Accepting) (form : Form) (status : ℕ) (shelf : ShelfSeen) (out err : StreamSeen)
+    (model name bytes text : List ℕ)
     (as_work : (names : List (List ℕ)) (end : Result Due Refusal)
-    → Ends holds (certificate_work due model name) names end → Ends holds (work_of form) names end)
-    (m : RunMeets status (Some form) holds asked asked_after out out_after err err_after S O E)
-    (told : holds model ≡ Some bytes) (held : holds name ≡ Some text) (no_shelf : ¬ S) (no_output : ¬ O)
+    → Ends shelf.holds (certificate_work due model name) names end → Ends shelf.holds (work_of form) names end)
+    (m : RunMeets status (Some form) shelf out err)
+    (told : shelf.holds model ≡ Some bytes) (held : shelf.holds name ≡ Some text) (neither : NeitherFailed shelf out)
     (short : length text ≤ greatest_file) (files : ModelAndCertificate bytes text) (e : Result Due Refusal)
-    (settled : IsSettled e) (ends : Ends holds (due files.survey files.certificate) [] e) where
+    (settled : IsSettled e) (ends : Ends shelf.holds (due files.survey files.certificate) [] e) where
   pub given_by : (k : Check) → written_check files.survey files.certificate ≡ k
-      → (status ≡ 11) ⊎ IsGivenOut (end_by e files.survey k) status out out_after err err_after E
-  given_by k is = given_or_memory m no_shelf no_output (model ∷ name ∷ []) ((bytes, told), ((text, held), tt))
+      → (status ≡ 11) ⊎ IsGivenOut (end_by e files.survey k) status out err
+  given_by k is = given_or_memory m neither (model ∷ name ∷ []) ((bytes, told), ((text, held), tt))
       (end_by e files.survey k) (end_settled e settled files.survey k)
       (as_work (model ∷ name ∷ []) (end_by e files.survey k)
-      (certificate_way due holds model name bytes text told held short files (end_by e files.survey k)
-      (subst (λ d. Ends holds (certificate_due due files.survey files.certificate d) [] (end_by e files.survey k))
-      (sym is) (step_ends due holds files.survey files.certificate e ends k))))
+      (certificate_way due shelf.holds model name bytes text told held short files (end_by e files.survey k)
+      (subst (λ d. Ends shelf.holds (certificate_due due files.survey files.certificate d) [] (end_by e files.survey k))
+      (sym is) (step_ends due shelf.holds files.survey files.certificate e ends k))))
 
-module _ (status : ℕ) (out out_after err err_after : Bytes) (E : Type 0) (bytes text : List ℕ)
+module _ (status : ℕ) (out err : StreamSeen) (bytes text : List ℕ)
     (files : ModelAndCertificate bytes text) where
   abbrev Given : Check → Type 0
   Given k = (status ≡ 11)
-      ⊎ IsGivenOut (end_by acceptance files.survey k) status out out_after err err_after E
+      ⊎ IsGivenOut (end_by acceptance files.survey k) status out err
 
   abbrev Decides : ℕ → Type 0
   Decides n = (status ≡ n) ⊎ ((IsWideCheck files × (status ≡ 7)) ⊎ (status ≡ 11))
@@ -100,23 +100,22 @@ module _ (status : ℕ) (out out_after err err_after : Bytes) (E : Type 0) (byte
   false_decides not_true (Rejected part reason) is (inr g) = inl (g.3 ∙ ap verdict_status g.2.0)
   false_decides not_true (TooWide place) is (inr g) = inr (inl ((place, is), g.0))
 
--- what a run of `check` decides
-module _ (status : ℕ) (holds : Holds) (asked asked_after : ToldNames) (out out_after err err_after : Bytes)
-    (S O E : Type 0) (model name bytes text : List ℕ)
-    (m : RunMeets status (Some (check model name)) holds asked asked_after out out_after err err_after S O E)
-    (told : holds model ≡ Some bytes) (held : holds name ≡ Some text) (no_shelf : ¬ S) (no_output : ¬ O)
+-- so a run of `check` decides whether the certificate is true
+module _ (status : ℕ) (shelf : ShelfSeen) (out err : StreamSeen) (model name bytes text : List ℕ)
+    (m : RunMeets status (Some (check model name)) shelf out err)
+    (told : shelf.holds model ≡ Some bytes) (held : shelf.holds name ≡ Some text) (neither : NeitherFailed shelf out)
     (short : length text ≤ greatest_file) (files : ModelAndCertificate bytes text) where
   given : (k : Check) → written_check files.survey files.certificate ≡ k
-      → Given status out out_after err err_after E bytes text files k
-  given = given_by accepted_due (check model name) status holds asked asked_after out out_after err err_after S O E
-      model name bytes text (λ names end h. h) m told held no_shelf no_output short files acceptance tt (refl, refl)
+      → Given status out err bytes text files k
+  given = given_by accepted_due (check model name) status shelf out err
+      model name bytes text (λ names end h. h) m told held neither short files acceptance tt (refl, refl)
 
   pub decides_true : IsTrueCertificate files.survey files.certificate
       → (status ≡ 0) ⊎ ((IsWideCheck files × (status ≡ 7)) ⊎ (status ≡ 11))
-  decides_true truth = true_decides status out out_after err err_after E bytes text files truth
+  decides_true truth = true_decides status out err bytes text files truth
       (written_check files.survey files.certificate) refl (given (written_check files.survey files.certificate) refl)
 
   pub decides_false : ¬ (IsTrueCertificate files.survey files.certificate)
       → (status ≡ 1) ⊎ ((IsWideCheck files × (status ≡ 7)) ⊎ (status ≡ 11))
-  decides_false not_true = false_decides status out out_after err err_after E bytes text files not_true
+  decides_false not_true = false_decides status out err bytes text files not_true
       (written_check files.survey files.certificate) refl (given (written_check files.survey files.certificate) refl)

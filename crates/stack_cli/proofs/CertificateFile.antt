@@ -4,6 +4,7 @@ use Rattle.std.proofs.Common.{Option, None, Result, Ok, Err, inl, inr, ◌⊎◌
 use Rattle.std.specs.Prelude.{if◌then◌else◌}
 use Rattle.std.proofs.Math.Dec.{ltb}
 use Rattle.std.proofs.lemmas.Bool.{ltb-false, ltb-true, le-ltb, lt-ltb}
+use Rattle.stack_outside.specs.Seen.{ShelfSeen, StreamSeen, NeitherFailed}
 use Rattle.stack_contact.specs.Surveyed.{Surveyed}
 use Rattle.stack_certificate.specs.Certificate.{CertificateValue}
 use Rattle.stack_certificate.specs.CertificateOf.{certificate_of}
@@ -18,13 +19,11 @@ use Rattle.stack_forms.specs.Forms.{Form, work_of}
 use Rattle.stack_lines.specs.Answers.{Due}
 use Rattle.stack_forms.specs.Work.{Work, gives, refuses, ◌>>=◌, Holds, Ends}
 use Rattle.stack_forms.specs.Surveying.{greatest_file, read, surveyed_file}
-use Rattle.stack_forms.specs.Checking.{Accepting, certificate_step, certificate_due, checked, certificate_work}
+use Rattle.stack_forms.specs.Checking.{Accepting, certificate_step, certificate_due, checked_file, certificate_work}
 use Rattle.stack_forms.specs.Checking.{accepted_due}
 use Rattle.stack_forms.specs.Tables.{tabled_by, table_due}
 use Rattle.stack_forms.specs.AcceptedModel.{IsAcceptedModel}
 use Rattle.stack_forms.specs.OneEnd.{IsSettled}
-use Rattle.stack_forms.specs.Progress.{ToldNames}
-use Rattle.stack_cli.specs.Delivery.{Bytes}
 use Rattle.stack_cli.specs.MainTheorem.{Cause, RunMeets}
 use Rattle.stack_cli.specs.ModelSaid.{IsRefused, CertificateSays, ReadsCertificate}
 use Rattle.stack_forms.proofs.Ways.{goes_on}
@@ -59,7 +58,7 @@ due_last due h v c (Rejected part reason) = (tt, tt)
 due_last due h v c (TooWide place) = (λ e. absurd (omega (arith, e)), λ e. absurd (omega (arith, e)))
 
 reads : (form : Form) (model name : List ℕ) → ReadsCertificate form model name → Reads form model name
-unfolding certificate_work checked
+unfolding certificate_work checked_file
 reads form model name (inl is) = subst (λ f. Reads f model name) (sym is) (
   λ v c. certificate_due accepted_due v c (written_check v c),
   refl,
@@ -83,7 +82,7 @@ module _ (holds : Holds) (last : Surveyed → CertificateValue → Work Due) (na
   line_ends short number is =
       (refl, inr (text, rw held refl, rw (le-ltb greatest_file (length text) short, is) (refl, inl refl)))
 
--- why it refuses so
+-- why the work on a certificate's file refuses with its status
 data WhyText (text : List ℕ) (n : ℕ) (r : Refusal) : Type 0 where
   for_text : greatest_file < length text → r ≡ faulty (long inputs.Certificate) → WhyText text n r
   for_line : length text ≤ greatest_file → (number : ℕ) → certificate_of text ≡ Err number
@@ -166,62 +165,59 @@ module _ (holds : Holds) (r : Refusal) (model name bytes text : List ℕ) (told 
       (λ e. absurd (omega (arith, e))) (λ v d. (is v d).1) c.0 r six name text c.2 held c.4)
 
 -- a refusal with one of the statuses of the work is one of it
-pub caused_by : (n : ℕ) (r : Refusal) (holds : Holds) (form : Form) (names : List (List ℕ)) (S O : Type 0)
-    → status_of r ≡ n → n ≢ 2 → n ≢ 3 → n ≢ 10 → n ≢ 11 → Cause r holds (Some form) names S O
-    → Ends holds (work_of form) names (Err r)
-caused_by n words holds form names S O at a b c d cause = absurd (a (sym at))
-caused_by n (file input) holds form names S O at a b c d cause = absurd (b (sym at))
-caused_by n output holds form names S O at a b c d cause = absurd (c (sym at))
-caused_by n (faulty memory) holds form names S O at a b c d cause = absurd (d (sym at))
-caused_by n r holds form names S O at a b c d cause = cause
+pub caused_by : (n : ℕ) (r : Refusal) (form : Form) (shelf : ShelfSeen) (names : List (List ℕ)) (out : StreamSeen)
+    → status_of r ≡ n → n ≢ 2 → n ≢ 3 → n ≢ 10 → n ≢ 11 → Cause r (Some form) shelf names out
+    → Ends shelf.holds (work_of form) names (Err r)
+caused_by n words form shelf names out at a b c d cause = absurd (a (sym at))
+caused_by n (file input) form shelf names out at a b c d cause = absurd (b (sym at))
+caused_by n output form shelf names out at a b c d cause = absurd (c (sym at))
+caused_by n (faulty memory) form shelf names out at a b c d cause = absurd (d (sym at))
+caused_by n r form shelf names out at a b c d cause = cause
 
-module _ (status : ℕ) (form : Form) (holds : Holds) (asked asked_after : ToldNames)
-    (out out_after err err_after : Bytes) (S O E : Type 0)
-    (m : RunMeets status (Some form) holds asked asked_after out out_after err err_after S O E)
-    (model name bytes text : List ℕ) (told : holds model ≡ Some bytes) (held : holds name ≡ Some text)
+module _ (status : ℕ) (form : Form) (shelf : ShelfSeen) (out err : StreamSeen)
+    (m : RunMeets status (Some form) shelf out err)
+    (model name bytes text : List ℕ) (told : shelf.holds model ≡ Some bytes) (held : shelf.holds name ≡ Some text)
     (w : Reads form model name) where
-  refuses_as : ¬ S → ¬ O → (v : Surveyed) → IsAcceptedModel bytes v → (f : Fault)
+  refuses_as : NeitherFailed shelf out → (v : Surveyed) → IsAcceptedModel bytes v → (f : Fault)
       → IsSettled {A = Due} (Err (faulty f))
-      → Ends holds (on_file w.0 name v) (name ∷ []) (Err (faulty f))
-      → IsRefused f status out out_after err err_after E
-  refuses_as no_shelf no_output v accepted f settled h =
-      given_or_memory m no_shelf no_output (model ∷ name ∷ []) ((bytes, told), ((text, held), tt)) (Err (faulty f))
+      → Ends shelf.holds (on_file w.0 name v) (name ∷ []) (Err (faulty f))
+      → IsRefused f status out err
+  refuses_as neither v accepted f settled h =
+      given_or_memory m neither (model ∷ name ∷ []) ((bytes, told), ((text, held), tt)) (Err (faulty f))
       settled
-      (subst (λ w. Ends holds w (model ∷ name ∷ []) (Err (faulty f))) (sym w.1)
-      (goes_on holds (surveyed_file model) (on_file w.0 name) (model ∷ []) (name ∷ []) v (Err (faulty f))
-      (all_accepted holds model bytes v told accepted) h))
+      (subst (λ w. Ends shelf.holds w (model ∷ name ∷ []) (Err (faulty f))) (sym w.1)
+      (goes_on shelf.holds (surveyed_file model) (on_file w.0 name) (model ∷ []) (name ∷ []) v (Err (faulty f))
+      (all_accepted shelf.holds model bytes v told accepted) h))
 
   came : (n : ℕ) → (r : Refusal) → status_of r ≡ n → n ≢ 2 → n ≢ 3 → n ≢ 10 → n ≢ 11
-      → Cause r holds (Some form) m.names S O → CameOf holds (surveyed_file model) (on_file w.0 name) r
-  came n r at a b c d cause = refused_from holds (surveyed_file model) (on_file w.0 name) m.names r
-      (subst (λ w. Ends holds w m.names (Err r)) w.1 (caused_by n r holds form m.names S O at a b c d cause))
+      → Cause r (Some form) shelf m.names out → CameOf shelf.holds (surveyed_file model) (on_file w.0 name) r
+  came n r at a b c d cause = refused_from shelf.holds (surveyed_file model) (on_file w.0 name) m.names r
+      (subst (λ w. Ends shelf.holds w m.names (Err r)) w.1 (caused_by n r form shelf m.names out at a b c d cause))
 
-  says : CertificateSays bytes text status out out_after err err_after S O E
+  says : CertificateSays bytes text status shelf out err
   says = record {
-    long_one = λ no_shelf no_output v accepted more. refuses_as no_shelf no_output v accepted
-        (long inputs.Certificate) tt (long_ends holds w.0 name text held v more);
-    faulty_one = λ no_shelf no_output v accepted short number is. refuses_as no_shelf no_output v accepted
-        (certificate_line number) tt (line_ends holds w.0 name text held v short number is);
+    long_one = λ neither v accepted more. refuses_as neither v accepted
+        (long inputs.Certificate) tt (long_ends shelf.holds w.0 name text held v more);
+    faulty_one = λ neither v accepted short number is. refuses_as neither v accepted
+        (certificate_line number) tt (line_ends shelf.holds w.0 name text held v short number is);
     only_long = λ four. let r = m.refused (omega (arith, four)) in
         let at = sym r.is_status ∙ four in
-        long_came holds r.refusal model name bytes text told held w.0 w.2 at
+        long_came shelf.holds r.refusal model name bytes text told held w.0 w.2 at
         (came 4 r.refusal at (λ e. absurd (omega (arith, e))) (λ e. absurd (omega (arith, e)))
         (λ e. absurd (omega (arith, e))) (λ e. absurd (omega (arith, e))) r.cause);
     only_faulty = λ six. let r = m.refused (omega (arith, six)) in
         let at = sym r.is_status ∙ six in
-        line_came holds r.refusal model name bytes text told held w.0 w.2 at
+        line_came shelf.holds r.refusal model name bytes text told held w.0 w.2 at
         (came 6 r.refusal at (λ e. absurd (omega (arith, e))) (λ e. absurd (omega (arith, e)))
         (λ e. absurd (omega (arith, e))) (λ e. absurd (omega (arith, e))) r.cause);
   }
 
-pub certificate_says : {status : ℕ} {form : Option Form} {holds : Holds} {asked asked_after : ToldNames}
-    {out out_after err err_after : Bytes} {S O E : Type 0}
-    → RunMeets status form holds asked asked_after out out_after err err_after S O E
+pub certificate_says : {status : ℕ} {form : Option Form} {shelf : ShelfSeen} {out err : StreamSeen}
+    → RunMeets status form shelf out err
     → (f : Form) (model name bytes text : List ℕ) → form ≡ Some f → ReadsCertificate f model name
-    → holds model ≡ Some bytes → holds name ≡ Some text
-    → CertificateSays bytes text status out out_after err err_after S O E
-certificate_says {status} {form} {holds} {asked} {asked_after} {out} {out_after} {err} {err_after} {S} {O} {E} m f
-    model name bytes text is named told held =
-    says status f holds asked asked_after out out_after err err_after S O E
-    (subst (λ f. RunMeets status f holds asked asked_after out out_after err err_after S O E) is m) model name bytes
+    → shelf.holds model ≡ Some bytes → shelf.holds name ≡ Some text
+    → CertificateSays bytes text status shelf out err
+certificate_says {status} {form} {shelf} {out} {err} m f model name bytes text is named told held =
+    says status f shelf out err
+    (subst (λ f. RunMeets status f shelf out err) is m) model name bytes
     text told held (reads f model name named)

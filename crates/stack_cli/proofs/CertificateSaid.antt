@@ -18,7 +18,7 @@ use Rattle.stack_lines.specs.Answers.{Due}
 use Rattle.stack_lines.specs.CheckText.{rejected_text}
 use Rattle.stack_forms.specs.Work.{gives, refuses, ◌>>=◌, Holds, Ends}
 use Rattle.stack_forms.specs.Surveying.{greatest_file, surveyed_file}
-use Rattle.stack_forms.specs.Checking.{Accepting, certificate_step, certificate_due, certified, checked}
+use Rattle.stack_forms.specs.Checking.{Accepting, certificate_step, certificate_due, checked, checked_file}
 use Rattle.stack_forms.specs.Checking.{certificate_work}
 use Rattle.stack_forms.specs.AcceptedModel.{IsAcceptedModel}
 use Rattle.stack_forms.proofs.Ways.{came_from}
@@ -70,16 +70,16 @@ module _ (due : Accepting) (Means : Surveyed → CertificateValue → Due → Ty
 
   bytes_end : (bytes : List ℕ) (v : Surveyed) → IsAcceptedModel bytes v → (text : List ℕ) (b : Bool)
       (names : List (List ℕ))
-      → Ends holds ((if b then refuses (long inputs.Certificate) else gives text) >>= λ t. certified due v t) names
+      → Ends holds ((if b then refuses (long inputs.Certificate) else gives text) >>= λ t. checked due v t) names
       (Ok d)
       → SaidOf Means bytes text d
   bytes_end bytes v model text true names p = absurd p.1
   bytes_end bytes v model text false names p = text_ends bytes v model text (certificate_of text) names refl p
 
   file_ends : (bytes : List ℕ) (v : Surveyed) → IsAcceptedModel bytes v → (name text : List ℕ)
-      (names : List (List ℕ)) → holds name ≡ Some text → Ends holds (checked due name v) names (Ok d)
+      (names : List (List ℕ)) → holds name ≡ Some text → Ends holds (checked_file due name v) names (Ok d)
       → SaidOf Means bytes text d
-  unfolding checked
+  unfolding checked_file
   file_ends bytes v model name text [] held p = absurd p
   file_ends bytes v model name text (n ∷ ns) held (same, inl h) = absurd h.1
   file_ends bytes v model name text (n ∷ ns) held (same, inr h) =
@@ -91,5 +91,5 @@ module _ (due : Accepting) (Means : Surveyed → CertificateValue → Due → Ty
       → SaidOf Means bytes text d
   unfolding certificate_work
   said_from model name bytes text names told held way =
-      let c = came_from holds (surveyed_file model) (checked due name) names d way in
+      let c = came_from holds (surveyed_file model) (checked_file due name) names d way in
       file_ends bytes c.0 (only_accepted holds model bytes c.0 c.1 told c.3) name text c.2 held c.4

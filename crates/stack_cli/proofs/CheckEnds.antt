@@ -53,7 +53,7 @@ rejected_of_files holds model name bytes text line names told held way =
     let s = said_by holds model name bytes text names (exactly Denied line) told held way in
     hold_false bytes text line s.0 s.1
 
--- one survey, and one certificate
+-- what the files hold, with another value where they hold none
 abbrev survey_or : Surveyed → Found → Surveyed
 survey_or v (Ok w) = w
 survey_or v (Err e) = v

@@ -1,7 +1,7 @@
 -- What the status of a run of `contacts`, `stack` and `sample` says, out of the theorem on the top call.
 use Rattle.std.proofs.Common.{◌≡◌, ◌≢◌, refl, sym, subst, ap, ◌∙◌, ℕ, ◌<◌, List, [], ◌∷◌, Option, Some, Result, Ok, Err}
 use Rattle.std.proofs.Common.{inl, inr, ◌⊎◌, arith}
-use Rattle.std.specs.Io.KnownBytes.{Appends}
+use Rattle.stack_outside.specs.Seen.{ShelfSeen, StreamSeen, Took}
 use Rattle.stack_model.specs.Structure.{Structure}
 use Rattle.stack_reader.specs.Reading.{structure_of}
 use Rattle.stack_overhang.specs.declared.error.StackError.{StackError}
@@ -26,8 +26,6 @@ use Rattle.stack_forms.specs.Listing.{contacts_due, contacts_work}
 use Rattle.stack_forms.specs.Stacking.{stack_of, built_step, stack_work}
 use Rattle.stack_forms.specs.Sampling.{sample_of, sample_step, sampled, wall_sampled, sample_work}
 use Rattle.stack_forms.specs.AcceptedModel.{IsAcceptedModel}
-use Rattle.stack_forms.specs.Progress.{ToldNames}
-use Rattle.stack_cli.specs.Delivery.{Bytes}
 use Rattle.stack_cli.specs.MainTheorem.{Cause, IsGivenOut, RunMeets}
 use Rattle.stack_cli.specs.Said.{Writes, ContactsSay, StackSays, SampleSays}
 use Rattle.stack_forms.proofs.Ways.{goes_on, came_from}
@@ -35,14 +33,14 @@ use Rattle.stack_forms.proofs.AcceptedFiles.{only_accepted, all_accepted}
 use Rattle.stack_cli.proofs.SettledEnds.{given_or_memory}
 
 -- exactly this text, affirmed, was given out, unless memory is wanting
-written : (status : ℕ) (out out_after err err_after : Bytes) (E : Type 0) (text : List ℕ)
-    → (status ≡ 11) ⊎ IsGivenOut (Ok (exactly Affirmed text)) status out out_after err err_after E
-    → Writes text status out out_after ⊎ (status ≡ 11)
-written status out out_after err err_after E text (inl eleven) = inr eleven
-written status out out_after err err_after E text (inr g) =
-    inl (g.3 ∙ ap verdict_status g.2.0, subst (Appends out out_after) g.2.1 g.4)
+written : (status : ℕ) (out err : StreamSeen) (text : List ℕ)
+    → (status ≡ 11) ⊎ IsGivenOut (Ok (exactly Affirmed text)) status out err
+    → Writes text status out ⊎ (status ≡ 11)
+written status out err text (inl eleven) = inr eleven
+written status out err text (inr g) =
+    inl (g.3 ∙ ap verdict_status g.2.0, subst (Took out) g.2.1 g.4)
 
--- contacts
+-- what `contacts` answers is the table of the survey of its file, and each accepted model is answered so
 contacts_end : (holds : Holds) (model bytes : List ℕ) (names : List (List ℕ)) (due : Due) → holds model ≡ Some bytes
     → Ends holds (contacts_work model) names (Ok due)
     → (v : Surveyed) × IsAcceptedModel bytes v × (exactly Affirmed (contacts_text v) ≡ due)
@@ -58,38 +56,35 @@ unfolding contacts_work
 contacts_way holds model bytes v told accepted = goes_on holds (surveyed_file model) contacts_due (model ∷ []) [] v
     (Ok (exactly Affirmed (contacts_text v))) (all_accepted holds model bytes v told accepted) (refl, refl)
 
-module _ (status : ℕ) (holds : Holds) (asked asked_after : ToldNames) (out out_after err err_after : Bytes)
-    (S O E : Type 0) (model bytes : List ℕ)
-    (m : RunMeets status (Some (contacts model)) holds asked asked_after out out_after err err_after S O E)
-    (told : holds model ≡ Some bytes) where
+module _ (status : ℕ) (shelf : ShelfSeen) (out err : StreamSeen) (model bytes : List ℕ)
+    (m : RunMeets status (Some (contacts model)) shelf out err)
+    (told : shelf.holds model ≡ Some bytes) where
   listing : status < 2 → (status ≡ 0) × ((v : Surveyed) × IsAcceptedModel bytes v
-      × Appends out out_after (contacts_text v))
+      × Took out (contacts_text v))
   listing low =
       let a = m.answered low in
-      let c = contacts_end holds model bytes m.names a.due told a.way in
+      let c = contacts_end shelf.holds model bytes m.names a.due told a.way in
       let is = subst (λ d. IsAnswer d a.verdict a.text) (sym c.2) a.is_due in
-      (a.is_status ∙ ap verdict_status is.0, (c.0, c.1, subst (Appends out out_after) is.1 a.is_written))
+      (a.is_status ∙ ap verdict_status is.0, (c.0, c.1, subst (Took out) is.1 a.is_written))
 
-  contacts_answer : ContactsSay bytes status out out_after S O
+  contacts_answer : ContactsSay bytes status shelf out
   contacts_answer = record {
     never_denied = λ e. let h = (listing (omega (arith, e))).0 in absurd (omega (arith, h, e));
     listed = λ e. (listing (omega (arith, e))).1;
-    complete = λ no_shelf no_output v accepted. written status out out_after err err_after E (contacts_text v)
-        (given_or_memory m no_shelf no_output (model ∷ []) ((bytes, told), tt)
-        (Ok (exactly Affirmed (contacts_text v))) tt (contacts_way holds model bytes v told accepted));
+    complete = λ neither v accepted. written status out err (contacts_text v)
+        (given_or_memory m neither (model ∷ []) ((bytes, told), tt)
+        (Ok (exactly Affirmed (contacts_text v))) tt (contacts_way shelf.holds model bytes v told accepted));
   }
 
-pub contacts_say : {status : ℕ} {form : Option Form} {holds : Holds} {asked asked_after : ToldNames}
-    {out out_after err err_after : Bytes} {S O E : Type 0}
-    → RunMeets status form holds asked asked_after out out_after err err_after S O E
-    → (model bytes : List ℕ) → form ≡ Some (contacts model) → holds model ≡ Some bytes
-    → ContactsSay bytes status out out_after S O
-contacts_say {status} {form} {holds} {asked} {asked_after} {out} {out_after} {err} {err_after} {S} {O} {E} m model
-    bytes is told =
-    contacts_answer status holds asked asked_after out out_after err err_after S O E model bytes
-    (subst (λ f. RunMeets status f holds asked asked_after out out_after err err_after S O E) is m) told
+pub contacts_say : {status : ℕ} {form : Option Form} {shelf : ShelfSeen} {out err : StreamSeen}
+    → RunMeets status form shelf out err
+    → (model bytes : List ℕ) → form ≡ Some (contacts model) → shelf.holds model ≡ Some bytes
+    → ContactsSay bytes status shelf out
+contacts_say {status} {form} {shelf} {out} {err} m model bytes is told =
+    contacts_answer status shelf out err model bytes
+    (subst (λ f. RunMeets status f shelf out err) is m) told
 
--- a built-in stack
+-- what `stack` answers is a document of the built-in structure, and each size there is is answered so
 stack_end : (holds : Holds) (r : Result Structure StackError) (names : List (List ℕ)) (due : Due)
     → Ends holds (built_step r >>= λ s. gives (document s)) names (Ok due)
     → (s : Structure) × (r ≡ Ok s) × (document s ≡ due)
@@ -127,58 +122,57 @@ sizeless holds (Err built.Memory) r names five (same, inl h) =
 sizeless holds (Err built.Memory) r names five (same, inr h) =
     absurd (not_five r (faulty memory) five (λ e. absurd (omega (arith, e))) h)
 
-no_size : (holds : Holds) (kind : Kind) (n : ℕ) (r : Refusal) (names : List (List ℕ)) (S O : Type 0) → status_of r ≡ 5
-    → Cause r holds (Some (stack kind n)) names S O → stack_of kind n ≡ Err built.Size
+no_size : (shelf : ShelfSeen) (out : StreamSeen) (kind : Kind) (n : ℕ) (r : Refusal) (names : List (List ℕ))
+    → status_of r ≡ 5
+    → Cause r (Some (stack kind n)) shelf names out → stack_of kind n ≡ Err built.Size
 unfolding stack_work
-no_size holds kind n words names S O five cause = absurd (omega (arith, five))
-no_size holds kind n (file input) names S O five cause = absurd (omega (arith, five))
-no_size holds kind n output names S O five cause = absurd (omega (arith, five))
-no_size holds kind n (faulty memory) names S O five cause = absurd (omega (arith, five))
-no_size holds kind n r names S O five cause = sizeless holds (stack_of kind n) r names five cause
+no_size shelf out kind n words names five cause = absurd (omega (arith, five))
+no_size shelf out kind n (file input) names five cause = absurd (omega (arith, five))
+no_size shelf out kind n output names five cause = absurd (omega (arith, five))
+no_size shelf out kind n (faulty memory) names five cause = absurd (omega (arith, five))
+no_size shelf out kind n r names five cause = sizeless shelf.holds (stack_of kind n) r names five cause
 
-module _ (status : ℕ) (holds : Holds) (asked asked_after : ToldNames) (out out_after err err_after : Bytes)
-    (S O E : Type 0) (kind : Kind) (n : ℕ)
-    (m : RunMeets status (Some (stack kind n)) holds asked asked_after out out_after err err_after S O E) where
+module _ (status : ℕ) (shelf : ShelfSeen) (out err : StreamSeen) (kind : Kind) (n : ℕ)
+    (m : RunMeets status (Some (stack kind n)) shelf out err) where
   describing : status < 2 → (status ≡ 0) × ((s : Structure) × (text : List ℕ) × (stack_of kind n ≡ Ok s)
-      × (structure_of text ≡ Ok s) × Appends out out_after text)
+      × (structure_of text ≡ Ok s) × Took out text)
   describing low =
       let a = m.answered low in
-      let c = stack_ends holds kind n m.names a.due a.way in
+      let c = stack_ends shelf.holds kind n m.names a.due a.way in
       let is = subst (λ d. IsAnswer d a.verdict a.text) (sym c.2) a.is_due in
       (a.is_status ∙ ap verdict_status is.0, (c.0, a.text, c.1, is.1, a.is_written))
 
   described : (s : Structure)
-      → (status ≡ 11) ⊎ IsGivenOut (Ok (document s)) status out out_after err err_after E
-      → ((text : List ℕ) × (structure_of text ≡ Ok s) × Writes text status out out_after) ⊎ (status ≡ 11)
+      → (status ≡ 11) ⊎ IsGivenOut (Ok (document s)) status out err
+      → ((text : List ℕ) × (structure_of text ≡ Ok s) × Writes text status out) ⊎ (status ≡ 11)
   described s (inl eleven) = inr eleven
   described s (inr g) = inl (g.1, g.2.1, (g.3 ∙ ap verdict_status g.2.0, g.4))
 
-  without_size : (status ≡ 11) ⊎ IsGivenOut (Err (faulty size)) status out out_after err err_after E
+  without_size : (status ≡ 11) ⊎ IsGivenOut (Err (faulty size)) status out err
       → (status ≡ 5) ⊎ (status ≡ 11)
   without_size (inl eleven) = inr eleven
   without_size (inr g) = inl g.0
 
-  stack_answer : StackSays kind n status out out_after S O
+  stack_answer : StackSays kind n status shelf out
   stack_answer = record {
     never_denied = λ e. let h = (describing (omega (arith, e))).0 in absurd (omega (arith, h, e));
     described = λ e. (describing (omega (arith, e))).1;
-    complete = λ no_shelf no_output s is. described s (given_or_memory m no_shelf no_output [] tt (Ok (document s)) tt
-        (stack_way holds kind n s is));
-    without_size = λ no_shelf no_output is. without_size (given_or_memory m no_shelf no_output [] tt
-        (Err (faulty size)) tt (size_way holds kind n is));
+    complete = λ neither s is. described s (given_or_memory m neither [] tt (Ok (document s)) tt
+        (stack_way shelf.holds kind n s is));
+    without_size = λ neither is. without_size (given_or_memory m neither [] tt
+        (Err (faulty size)) tt (size_way shelf.holds kind n is));
     only_without_size = λ five. let r = m.refused (omega (arith, five)) in
-        no_size holds kind n r.refusal m.names S O (sym r.is_status ∙ five) r.cause;
+        no_size shelf out kind n r.refusal m.names (sym r.is_status ∙ five) r.cause;
   }
 
-pub stack_says : {status : ℕ} {form : Option Form} {holds : Holds} {asked asked_after : ToldNames}
-    {out out_after err err_after : Bytes} {S O E : Type 0}
-    → RunMeets status form holds asked asked_after out out_after err err_after S O E
-    → (kind : Kind) (n : ℕ) → form ≡ Some (stack kind n) → StackSays kind n status out out_after S O
-stack_says {status} {form} {holds} {asked} {asked_after} {out} {out_after} {err} {err_after} {S} {O} {E} m kind n is =
-    stack_answer status holds asked asked_after out out_after err err_after S O E kind n
-    (subst (λ f. RunMeets status f holds asked asked_after out out_after err err_after S O E) is m)
+pub stack_says : {status : ℕ} {form : Option Form} {shelf : ShelfSeen} {out err : StreamSeen}
+    → RunMeets status form shelf out err
+    → (kind : Kind) (n : ℕ) → form ≡ Some (stack kind n) → StackSays kind n status shelf out
+stack_says {status} {form} {shelf} {out} {err} m kind n is =
+    stack_answer status shelf out err kind n
+    (subst (λ f. RunMeets status f shelf out err) is m)
 
--- a wall
+-- what `sample` answers is the summary of the judgement of its wall, and a certificate is answered so
 abbrev IsSummaryDue : ℕ → Due → Type 0
 IsSummaryDue number due = (s : Structure) × (v : Surveyed) × (c : CertificateValue) × (sample_of number ≡ Ok s)
     × IsSurvey s v × (summary number v c (is_narrow Live v default_budget) ≡ due)
@@ -225,40 +219,38 @@ sample_way holds number s v c is survey judged =
           (Ok (summary number v c (is_narrow Live v default_budget)))) (sym judged) (refl, refl),
     ))
 
-module _ (status : ℕ) (holds : Holds) (asked asked_after : ToldNames) (out out_after err err_after : Bytes)
-    (S O E : Type 0) (number : ℕ)
-    (m : RunMeets status (Some (sample number)) holds asked asked_after out out_after err err_after S O E) where
+module _ (status : ℕ) (shelf : ShelfSeen) (out err : StreamSeen) (number : ℕ)
+    (m : RunMeets status (Some (sample number)) shelf out err) where
   summing : status < 2 → (status ≡ 0) × ((s : Structure) × (v : Surveyed) × (c : CertificateValue)
       × (sample_of number ≡ Ok s) × IsSurvey s v × IsJudged Live v c
-      × Appends out out_after (summary_text number v c (is_narrow Live v default_budget)))
+      × Took out (summary_text number v c (is_narrow Live v default_budget)))
   summing low =
       let a = m.answered low in
-      let c = sample_end holds number m.names a.due a.way in
+      let c = sample_end shelf.holds number m.names a.due a.way in
       let is = subst (λ d. IsAnswer d a.verdict a.text) (sym c.5) a.is_due in (
         a.is_status ∙ ap verdict_status is.is_verdict,
-        (c.0, c.1, c.2, c.3, c.4, is.judged, subst (Appends out out_after) is.is_text a.is_written),
+        (c.0, c.1, c.2, c.3, c.4, is.judged, subst (Took out) is.is_text a.is_written),
       )
 
   summed : (v : Surveyed) (c : CertificateValue) → (status ≡ 11)
-      ⊎ IsGivenOut (Ok (summary number v c (is_narrow Live v default_budget))) status out out_after err err_after E
-      → Writes (summary_text number v c (is_narrow Live v default_budget)) status out out_after ⊎ (status ≡ 11)
+      ⊎ IsGivenOut (Ok (summary number v c (is_narrow Live v default_budget))) status out err
+      → Writes (summary_text number v c (is_narrow Live v default_budget)) status out ⊎ (status ≡ 11)
   summed v c (inl eleven) = inr eleven
   summed v c (inr g) =
-      inl (g.3 ∙ ap verdict_status g.2.is_verdict, subst (Appends out out_after) g.2.is_text g.4)
+      inl (g.3 ∙ ap verdict_status g.2.is_verdict, subst (Took out) g.2.is_text g.4)
 
-  sample_answer : SampleSays number status out out_after S O
+  sample_answer : SampleSays number status shelf out
   sample_answer = record {
     never_denied = λ e. let h = (summing (omega (arith, e))).0 in absurd (omega (arith, h, e));
     summed = λ e. (summing (omega (arith, e))).1;
-    complete = λ no_shelf no_output s v c is survey judged. summed v c (given_or_memory m no_shelf no_output [] tt
+    complete = λ neither s v c is survey judged. summed v c (given_or_memory m neither [] tt
         (Ok (summary number v c (is_narrow Live v default_budget))) tt
-        (sample_way holds number s v c is survey judged));
+        (sample_way shelf.holds number s v c is survey judged));
   }
 
-pub sample_says : {status : ℕ} {form : Option Form} {holds : Holds} {asked asked_after : ToldNames}
-    {out out_after err err_after : Bytes} {S O E : Type 0}
-    → RunMeets status form holds asked asked_after out out_after err err_after S O E
-    → (number : ℕ) → form ≡ Some (sample number) → SampleSays number status out out_after S O
-sample_says {status} {form} {holds} {asked} {asked_after} {out} {out_after} {err} {err_after} {S} {O} {E} m number is =
-    sample_answer status holds asked asked_after out out_after err err_after S O E number
-    (subst (λ f. RunMeets status f holds asked asked_after out out_after err err_after S O E) is m)
+pub sample_says : {status : ℕ} {form : Option Form} {shelf : ShelfSeen} {out err : StreamSeen}
+    → RunMeets status form shelf out err
+    → (number : ℕ) → form ≡ Some (sample number) → SampleSays number status shelf out
+sample_says {status} {form} {shelf} {out} {err} m number is =
+    sample_answer status shelf out err number
+    (subst (λ f. RunMeets status f shelf out err) is m)

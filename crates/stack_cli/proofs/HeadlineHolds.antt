@@ -1,6 +1,7 @@
 -- The five cases of `stand` and `load`, out of the theorem on the top call and of the one end of their work.
 use Rattle.std.proofs.Common.{◌≡◌, refl, subst, ap, ◌∙◌, ℕ, Bool, true, false, not, List, [], ◌∷◌, Option}
 use Rattle.std.proofs.Common.{Some, None, Result, Ok, Err, inl, inr, ◌⊎◌}
+use Rattle.stack_outside.specs.Seen.{ShelfSeen, StreamSeen, NeitherFailed}
 use Rattle.stack_algebra.specs.Fraction.{Fraction}
 use Rattle.stack_model.specs.Structure.{Structure, HasLive, lists_live}
 use Rattle.stack_contact.specs.Surveyed.{Surveyed}
@@ -17,13 +18,11 @@ use Rattle.stack_judge.proofs.EachJudged.{each_end_is_judged}
 use Rattle.stack_lines.specs.Refusals.{Refusal, faulty, over_budget, no_live, status_of}
 use Rattle.stack_forms.specs.Forms.{Form, judges}
 use Rattle.stack_lines.specs.Answers.{Due, certificate, verdict_status}
-use Rattle.stack_forms.specs.Work.{Holds, Ends}
+use Rattle.stack_forms.specs.Work.{Ends}
 use Rattle.stack_forms.specs.Surveying.{surveyed_file}
 use Rattle.stack_forms.specs.Judging.{lacks_live, wide_fault, judged, judge_work}
 use Rattle.stack_forms.specs.AcceptedModel.{IsAcceptedModel}
 use Rattle.stack_forms.specs.OneEnd.{IsSettled, IsSettledRefusal}
-use Rattle.stack_forms.specs.Progress.{ToldNames}
-use Rattle.stack_cli.specs.Delivery.{Bytes}
 use Rattle.stack_cli.specs.MainTheorem.{IsGivenOut, RunMeets}
 use Rattle.stack_cli.specs.Headline.{Prints, Leaves, IsWide, IsOver, Judging}
 use Rattle.stack_forms.proofs.Ways.{goes_on}
@@ -67,38 +66,37 @@ wide_status s (places.Run p) = refl
 wide_status s (places.End p) = refl
 wide_status s (places.Check p) = refl
 
-module _ (q : Question) (model : List ℕ) (budget : ℕ) (bytes : List ℕ) (v : Surveyed) (holds : Holds)
-    (told : holds model ≡ Some bytes) (accepted : IsAcceptedModel bytes v) (status : ℕ) (asked asked_after : ToldNames)
-    (out out_after err err_after : Bytes) (S O E : Type 0)
-    (m : RunMeets status (Some (judges q model budget)) holds asked asked_after out out_after err err_after S O E)
-    (no_shelf : ¬ S) (no_output : ¬ O) where
+module _ (q : Question) (model : List ℕ) (budget : ℕ) (bytes : List ℕ) (v : Surveyed) (status : ℕ)
+    (shelf : ShelfSeen) (out err : StreamSeen) (told : shelf.holds model ≡ Some bytes)
+    (accepted : IsAcceptedModel bytes v) (m : RunMeets status (Some (judges q model budget)) shelf out err)
+    (neither : NeitherFailed shelf out) where
   abbrev Given : Result Due Refusal → Type 0
-  Given end = IsGivenOut end status out out_after err err_after E
+  Given end = IsGivenOut end status out err
 
-  work_ends : (end : Result Due Refusal) → Ends holds (judged q budget v) [] end
-      → Ends holds (judge_work q model budget) (model ∷ []) end
+  work_ends : (end : Result Due Refusal) → Ends shelf.holds (judged q budget v) [] end
+      → Ends shelf.holds (judge_work q model budget) (model ∷ []) end
   unfolding judge_work
   work_ends end h =
-      goes_on holds (surveyed_file model) (judged q budget) (model ∷ []) [] v end
-      (all_accepted holds model bytes v told accepted) h
+      goes_on shelf.holds (surveyed_file model) (judged q budget) (model ∷ []) [] v end
+      (all_accepted shelf.holds model bytes v told accepted) h
 
-  given_or_memory : (known : Result Due Refusal) → IsSettled known → Ends holds (judged q budget v) [] known
+  given_or_memory : (known : Result Due Refusal) → IsSettled known → Ends shelf.holds (judged q budget v) [] known
       → (status ≡ 11) ⊎ Given known
   given_or_memory known is h =
-      settled_given m no_shelf no_output (model ∷ []) ((bytes, told), tt) known is (work_ends known h)
+      settled_given m neither (model ∷ []) ((bytes, told), tt) known is (work_ends known h)
 
-  for_memory : status ≡ 11 → Leaves status 11 out out_after
+  for_memory : status ≡ 11 → Leaves status 11 out
   for_memory eleven = record {
     is_status = eleven;
     is_kept = kept_at_memory m eleven;
   }
 
   abbrev Cases : Type 0
-  Cases = Prints q v status out out_after
-      ⊎ ((IsWide q v budget × Leaves status 7 out out_after)
-      ⊎ ((IsOver q v budget × Leaves status 8 out out_after)
-      ⊎ ((LacksLive q v × Leaves status 9 out out_after)
-      ⊎ Leaves status 11 out out_after)))
+  Cases = Prints q v status out
+      ⊎ ((IsWide q v budget × Leaves status 7 out)
+      ⊎ ((IsOver q v budget × Leaves status 8 out)
+      ⊎ ((LacksLive q v × Leaves status 9 out)
+      ⊎ Leaves status 11 out)))
 
   without_memory : status ≡ 11 → Cases
   without_memory eleven = inr (inr (inr (inr (for_memory eleven))))
@@ -134,22 +132,22 @@ module _ (q : Question) (model : List ℕ) (budget : ℕ) (bytes : List ℕ) (v 
 
   of_judgement : ¬ (LacksLive q v) → (j : Judgement) → judgement q v budget ≡ j → Cases
   of_judgement live (certified c) is = printed c (given_or_memory (Ok (certificate q v c)) tt
-      (certificate_ends q v budget holds c live is))
+      (certificate_ends q v budget shelf.holds c live is))
   of_judgement live (too_wide p) is = widely p is (given_or_memory (Err (faulty (wide_fault v.structure p)))
-      (settled_wide p) (wide_ends q v budget holds p live is))
+      (settled_wide p) (wide_ends q v budget shelf.holds p live is))
   of_judgement live spent is = overly (spent_only q v (survey_run q v budget) is)
-      (given_or_memory (Err (faulty (over_budget budget))) tt (spent_ends q v budget holds live is))
+      (given_or_memory (Err (faulty (over_budget budget))) tt (spent_ends q v budget shelf.holds live is))
   of_judgement live unjudged is = absurd (each_end_is_judged q v budget is)
 
   lacking_ends : LacksLive q v → (status ≡ 11) ⊎ Given (Err (faulty no_live))
-  lacking_ends none = given_or_memory (Err (faulty no_live)) tt (no_live_ends q v budget holds none)
+  lacking_ends none = given_or_memory (Err (faulty no_live)) tt (no_live_ends q v budget shelf.holds none)
 
   by_loads : (b : Bool) → lacks_live q v.structure ≡ b → Cases
   by_loads true is = deadly (lacks q v is) (lacking_ends (lacks q v is))
   by_loads false is = of_judgement (has_one q v is) (judgement q v budget) refl
 
   completes : Cases → ¬ (LacksLive q v) → ¬ (IsWide q v budget) → ¬ (IsOver q v budget)
-      → Prints q v status out out_after ⊎ Leaves status 11 out out_after
+      → Prints q v status out ⊎ Leaves status 11 out
   completes (inl p) live no_wide no_over = inl p
   completes (inr (inl w)) live no_wide no_over = absurd (no_wide w.0)
   completes (inr (inr (inl o))) live no_wide no_over = absurd (no_over o.0)
@@ -161,26 +159,23 @@ module _ (q : Question) (model : List ℕ) (budget : ℕ) (bytes : List ℕ) (v 
   has_status n r e (inl eleven) = inr eleven
   has_status n r e (inr g) = inl (g.0 ∙ e)
 
-  headline : Judging q v budget status out out_after
+  headline : Judging q v budget status out
   headline = record {
     cases = by_loads (lacks_live q v.structure) refl;
     complete = completes (by_loads (lacks_live q v.structure) refl);
     without_live = λ none. has_status 9 (faulty no_live) refl (lacking_ends none);
     wide = λ live w. has_status 7 (faulty (wide_fault v.structure w.0)) (wide_status v.structure w.0)
         (given_or_memory (Err (faulty (wide_fault v.structure w.0))) (settled_wide w.0)
-        (wide_ends q v budget holds w.0 live w.1));
+        (wide_ends q v budget shelf.holds w.0 live w.1));
     over_budget = λ live o. has_status 8 (faulty (over_budget budget)) refl
         (given_or_memory (Err (faulty (over_budget budget))) tt
-        (spent_ends q v budget holds live (ap (judgement_of q v) o)));
+        (spent_ends q v budget shelf.holds live (ap (judgement_of q v) o)));
   }
 
-pub headline_of : {status : ℕ} {form : Option Form} {holds : Holds} {asked asked_after : ToldNames}
-    {out out_after err err_after : Bytes} {S O E : Type 0}
-    → RunMeets status form holds asked asked_after out out_after err err_after S O E
+pub headline_of : {status : ℕ} {form : Option Form} {shelf : ShelfSeen} {out err : StreamSeen}
+    → RunMeets status form shelf out err
     → (q : Question) (model : List ℕ) (budget : ℕ) (bytes : List ℕ) (v : Surveyed) → form ≡ Some (judges q model budget)
-    → holds model ≡ Some bytes → IsAcceptedModel bytes v → ¬ S → ¬ O → Judging q v budget status out out_after
-headline_of {status} {form} {holds} {asked} {asked_after} {out} {out_after} {err} {err_after} {S} {O} {E} m q model
-    budget
-    bytes v is told accepted no_shelf no_output =
-    headline q model budget bytes v holds told accepted status asked asked_after out out_after err err_after S O E
-    (subst (λ f. RunMeets status f holds asked asked_after out out_after err err_after S O E) is m) no_shelf no_output
+    → shelf.holds model ≡ Some bytes → IsAcceptedModel bytes v → NeitherFailed shelf out → Judging q v budget status out
+headline_of {status} {form} {shelf} {out} {err} m q model budget bytes v is told accepted neither =
+    headline q model budget bytes v status shelf out err told accepted
+    (subst (λ f. RunMeets status f shelf out err) is m) neither

@@ -4,6 +4,7 @@ use Rattle.std.proofs.Common.{Option, Result, Ok, Err, inl, inr, ◌⊎◌, leng
 use Rattle.std.specs.Prelude.{if◌then◌else◌, ⊤}
 use Rattle.std.proofs.Math.Dec.{ltb}
 use Rattle.std.proofs.lemmas.Bool.{ltb-true, lt-ltb}
+use Rattle.stack_outside.specs.Seen.{ShelfSeen, StreamSeen}
 use Rattle.stack_model.specs.Structure.{Structure}
 use Rattle.stack_overhang.specs.declared.error.StackError.{StackError}
 use Rattle.stack_overhang.specs.declared.error.StackError.TheVariants as built
@@ -29,14 +30,13 @@ use Rattle.stack_lines.specs.Errors.{from_read}
 use Rattle.stack_lines.specs.Refusals.{Refusal, faulty, memory, long, fault_status, status_of}
 use Rattle.stack_forms.specs.AcceptedModel.{IsAcceptedModel}
 use Rattle.stack_forms.specs.Building.{order_step, ordered, ordered_file, stages_work}
-use Rattle.stack_forms.specs.Checking.{Accepting, certificate_step, certified as certified_text, checked}
+use Rattle.stack_forms.specs.Checking.{Accepting, certificate_step, checked, checked_file}
 use Rattle.stack_forms.specs.Checking.{certificate_work, accepted_due}
 use Rattle.stack_forms.specs.Forms.{Form, files_of, check, contacts, judges, tables, stack, sample, ranges, builds}
 use Rattle.stack_forms.specs.Forms.{yields, work_of}
 use Rattle.stack_forms.specs.Judging.{default_budget, lacks_live, judge_work}
 use Rattle.stack_forms.specs.Listing.{contacts_work}
 use Rattle.stack_forms.specs.OneEnd.{AreTold}
-use Rattle.stack_forms.specs.Progress.{ToldNames}
 use Rattle.stack_forms.specs.Ranging.{range_work}
 use Rattle.stack_forms.specs.Sampling.{sample_of, sample_step, sampled, wall_sampled, sample_work}
 use Rattle.stack_forms.specs.Stacking.{stack_of, built_step, stack_work}
@@ -51,7 +51,6 @@ use Rattle.stack_forms.proofs.Beginnings.{region_avoids}
 use Rattle.stack_forms.proofs.FilesNamed.{AsksOnly, form_asks}
 use Rattle.stack_forms.proofs.RefusedFrom.{Avoids}
 use Rattle.stack_forms.proofs.Ways.{goes_on}
-use Rattle.stack_cli.specs.Delivery.{Bytes}
 use Rattle.stack_cli.specs.LengthSaid.{SomeIsLong, ReadsFurther, LengthSays}
 use Rattle.stack_cli.specs.MainTheorem.{RunMeets}
 use Rattle.stack_cli.proofs.CertificateFile.{caused_by}
@@ -130,9 +129,9 @@ surveyed_only name = only_then (modelled name) _
     (λ s found. spared (survey_step s found) (survey_spares s found))
 
 checked_only : (due : Accepting) → ((v : Surveyed) (c : CertificateValue) → Avoids 4 (due v c)) → (name : List ℕ)
-    (v : Surveyed) → OnlyLong (checked due name v)
-unfolding checked
-checked_only due h name v = only_then (read inputs.Certificate name) (certified_text due v)
+    (v : Surveyed) → OnlyLong (checked_file due name v)
+unfolding checked_file
+checked_only due h name v = only_then (read inputs.Certificate name) (checked due v)
     (read_only inputs.Certificate name)
     (λ text. only_then (certificate_step (certificate_of text)) _
     (spared (certificate_step (certificate_of text)) (certificate_avoids 4 four (certificate_of text)))
@@ -165,7 +164,7 @@ wall_only number s = only_then (surveys s (survey_step s)) (sampled number)
     (λ found. spared (survey_step s found) (survey_spares s found))
     (λ v. spared _ (sample_spares number v (judgement Live v default_budget)))
 
--- Each form: one clause.
+-- The work on each form refuses with status 4 only for a file with too many bytes.
 form_only : (form : Form) → OnlyLong (work_of form)
 unfolding certificate_work contacts_work judge_work stack_work sample_work range_work stages_work yield_work
 form_only (check model name) =
@@ -229,16 +228,17 @@ further_ends : (holds : Holds) (form : Form) (v : Surveyed) (model name bytes te
     → holds model ≡ Some bytes → holds name ≡ Some text → IsAcceptedModel bytes v
     → ReadsFurther form v model name input → greatest_file < length text
     → Ends holds (work_of form) (model ∷ name ∷ []) (Err (faulty (long input)))
-unfolding certificate_work checked stages_work ordered_file yield_work paired_file directed_file
+unfolding certificate_work checked_file stages_work ordered_file yield_work paired_file directed_file
 further_ends holds (check m n) v model name bytes text input told held is r more = moved _ holds r.0 r.1 r.2
-    (goes_on holds (surveyed_file m) (checked accepted_due n) (m ∷ []) (n ∷ []) v
+    (goes_on holds (surveyed_file m) (checked_file accepted_due n) (m ∷ []) (n ∷ []) v
     (Err (faulty (long inputs.Certificate)))
     (all_accepted holds m bytes v (ap holds r.0 ∙ told) is)
-    (read_long holds inputs.Certificate n text (certified_text accepted_due v) (ap holds r.1 ∙ held) more))
+    (read_long holds inputs.Certificate n text (checked accepted_due v) (ap holds r.1 ∙ held) more))
 further_ends holds (tables m n) v model name bytes text input told held is r more = moved _ holds r.0 r.1 r.2
-    (goes_on holds (surveyed_file m) (checked table_due n) (m ∷ []) (n ∷ []) v (Err (faulty (long inputs.Certificate)))
+    (goes_on holds (surveyed_file m) (checked_file table_due n) (m ∷ []) (n ∷ []) v
+    (Err (faulty (long inputs.Certificate)))
     (all_accepted holds m bytes v (ap holds r.0 ∙ told) is)
-    (read_long holds inputs.Certificate n text (certified_text table_due v) (ap holds r.1 ∙ held) more))
+    (read_long holds inputs.Certificate n text (checked table_due v) (ap holds r.1 ∙ held) more))
 further_ends holds (builds m n budget) v model name bytes text input told held is r more = moved _ holds r.0 r.1 r.2
     (goes_on holds (surveyed_file m) (ordered_file n budget) (m ∷ []) (n ∷ []) v (Err (faulty (long inputs.Order)))
     (all_accepted holds m bytes v (ap holds r.0 ∙ told) is)
@@ -253,24 +253,22 @@ further_ends holds (stack kind n) v model name bytes text input told held is r m
 further_ends holds (sample n) v model name bytes text input told held is r more = absurd r
 further_ends holds (ranges m budget) v model name bytes text input told held is r more = absurd r
 
-says : (status : ℕ) (form : Form) (holds : Holds) (asked asked_after : ToldNames) (out out_after err err_after : Bytes)
-    (S O E : Type 0) → RunMeets status (Some form) holds asked asked_after out out_after err err_after S O E
-    → LengthSays form holds status out out_after err err_after S O E
-says status form holds asked asked_after out out_after err err_after S O E m = record {
-  further_one = λ no_shelf no_output v model name bytes text input told held is r more.
-      given_or_memory m no_shelf no_output (model ∷ name ∷ []) ((bytes, told), ((text, held), tt))
-      (Err (faulty (long input))) tt (further_ends holds form v model name bytes text input told held is r more);
+says : (status : ℕ) (form : Form) (shelf : ShelfSeen) (out err : StreamSeen) → RunMeets status (Some form) shelf out err
+    → LengthSays form status shelf out err
+says status form shelf out err m = record {
+  further_one = λ neither v model name bytes text input told held is r more.
+      given_or_memory m neither (model ∷ name ∷ []) ((bytes, told), ((text, held), tt))
+      (Err (faulty (long input))) tt (further_ends shelf.holds form v model name bytes text input told held is r more);
   only_long = λ told is. let r = m.refused (omega (arith, is)) in
       let at = sym r.is_status ∙ is in
-      long_file holds (work_of form) (files_of (Some form)) m.names r.refusal (form_only form) (form_asks form) told
-      (caused_by 4 r.refusal holds form m.names S O at (λ e. absurd (omega (arith, e))) (λ e. absurd (omega (arith, e)))
+      long_file shelf.holds (work_of form) (files_of (Some form)) m.names r.refusal (form_only form)
+      (form_asks form) told
+      (caused_by 4 r.refusal form shelf m.names out at (λ e. absurd (omega (arith, e))) (λ e. absurd (omega (arith, e)))
       (λ e. absurd (omega (arith, e))) (λ e. absurd (omega (arith, e))) r.cause) at;
 }
 
-pub length_says : {status : ℕ} {form : Option Form} {holds : Holds} {asked asked_after : ToldNames}
-    {out out_after err err_after : Bytes} {S O E : Type 0}
-    → RunMeets status form holds asked asked_after out out_after err err_after S O E
-    → (f : Form) → form ≡ Some f → LengthSays f holds status out out_after err err_after S O E
-length_says {status} {form} {holds} {asked} {asked_after} {out} {out_after} {err} {err_after} {S} {O} {E} m f is =
-    says status f holds asked asked_after out out_after err err_after S O E
-    (subst (λ f. RunMeets status f holds asked asked_after out out_after err err_after S O E) is m)
+pub length_says : {status : ℕ} {form : Option Form} {shelf : ShelfSeen} {out err : StreamSeen}
+    → RunMeets status form shelf out err → (f : Form) → form ≡ Some f → LengthSays f status shelf out err
+length_says {status} {form} {shelf} {out} {err} m f is =
+    says status f shelf out err
+    (subst (λ f. RunMeets status f shelf out err) is m)

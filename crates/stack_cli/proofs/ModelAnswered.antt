@@ -4,6 +4,7 @@ use Rattle.std.proofs.Common.{Option, Some, Result, Ok, Err, inl, inr, ◌⊎◌
 use Rattle.std.specs.Prelude.{if◌then◌else◌}
 use Rattle.std.proofs.Math.Dec.{ltb}
 use Rattle.std.proofs.lemmas.Bool.{ltb-false, ltb-true, le-ltb, lt-ltb}
+use Rattle.stack_outside.specs.Seen.{ShelfSeen, StreamSeen, NeitherFailed}
 use Rattle.stack_model.specs.Structure.{Structure}
 use Rattle.stack_reader.specs.Reading.{structure_of}
 use Rattle.stack_model.specs.declared.errors.ModelError.{ModelError}
@@ -19,8 +20,6 @@ use Rattle.stack_forms.specs.Work.{gives, refuses, surveys, ◌>>=◌, Found, Ho
 use Rattle.stack_forms.specs.Surveying.{greatest_file, model_step, survey_step, modelled, surveyed_file}
 use Rattle.stack_lines.specs.Errors.{from_read}
 use Rattle.stack_forms.specs.OneEnd.{IsSettledRefusal}
-use Rattle.stack_forms.specs.Progress.{ToldNames}
-use Rattle.stack_cli.specs.Delivery.{Bytes}
 use Rattle.stack_cli.specs.MainTheorem.{Cause, RunMeets}
 use Rattle.stack_cli.specs.ModelSaid.{IsRefused, ModelFault, in_text, in_pair, in_count, model_fault, ModelSays}
 use Rattle.stack_forms.proofs.Ways.{stops}
@@ -69,7 +68,7 @@ settled_fault : (f : Fault) → f ≢ memory → IsSettledRefusal (faulty f)
 settled_fault memory some = absurd (some refl)
 settled_fault _ some = tt
 
--- each has status 5
+-- each fault of a model has status 5
 content_status : (e : ModelError) → from_read (reading.Model e) ≢ memory
     → fault_status (from_read (reading.Model e)) ≡ 5
 content_status (contents.Range spot key) some = refl
@@ -96,7 +95,7 @@ model_status bytes (in_text e is some) n at other = other (sym at ∙ read_statu
 model_status bytes (in_pair s i j is pair) n at other = other (sym at)
 model_status bytes (in_count s count is many) n at other = other (sym at)
 
--- want of memory, or another fault
+-- a fault is want of memory or another one
 is_memory : Fault → Bool
 is_memory memory = true
 is_memory _ = false
@@ -185,45 +184,44 @@ module _ (holds : Holds) (r : Refusal) (five : status_of r ≡ 5) where
           (λ e. absurd (omega (arith, e))) (b.2 c.0) c.4 five)
 
 -- what refuses with status 5 is a fault of the work
-caused_because : (r : Refusal) (holds : Holds) (form : Form) (names : List (List ℕ)) (S O : Type 0) → status_of r ≡ 5
-    → Cause r holds (Some form) names S O → Ends holds (work_of form) names (Err r)
-caused_because words holds form names S O five cause = absurd (omega (arith, five))
-caused_because (file input) holds form names S O five cause = absurd (omega (arith, five))
-caused_because output holds form names S O five cause = absurd (omega (arith, five))
-caused_because (faulty memory) holds form names S O five cause = absurd (omega (arith, five))
-caused_because r holds form names S O five cause = cause
+caused_because : (r : Refusal) (form : Form) (shelf : ShelfSeen) (names : List (List ℕ)) (out : StreamSeen)
+    → status_of r ≡ 5
+    → Cause r (Some form) shelf names out → Ends shelf.holds (work_of form) names (Err r)
+caused_because words form shelf names out five cause = absurd (omega (arith, five))
+caused_because (file input) form shelf names out five cause = absurd (omega (arith, five))
+caused_because output form shelf names out five cause = absurd (omega (arith, five))
+caused_because (faulty memory) form shelf names out five cause = absurd (omega (arith, five))
+caused_because r form shelf names out five cause = cause
 
-module _ (status : ℕ) (form : Form) (holds : Holds) (asked asked_after : ToldNames)
-    (out out_after err err_after : Bytes) (S O E : Type 0)
-    (m : RunMeets status (Some form) holds asked asked_after out out_after err err_after S O E)
-    (model bytes : List ℕ) (told : holds model ≡ Some bytes) (b : Begins form model) where
-  refuses_as : ¬ S → ¬ O → (f : Fault) → f ≢ memory → Ends holds (surveyed_file model) (model ∷ []) (Err (faulty f))
-      → IsRefused f status out out_after err err_after E
-  refuses_as no_shelf no_output f some h =
-      given_or_memory m no_shelf no_output (model ∷ []) ((bytes, told), tt) (Err (faulty f)) (settled_fault f some)
-      (subst (λ w. Ends holds w (model ∷ []) (Err (faulty f))) (sym b.1)
-      (stops holds (surveyed_file model) b.0 (model ∷ []) (faulty f) h))
+module _ (status : ℕ) (form : Form) (shelf : ShelfSeen) (out err : StreamSeen)
+    (m : RunMeets status (Some form) shelf out err)
+    (model bytes : List ℕ) (told : shelf.holds model ≡ Some bytes) (b : Begins form model) where
+  refuses_as : NeitherFailed shelf out → (f : Fault) → f ≢ memory
+      → Ends shelf.holds (surveyed_file model) (model ∷ []) (Err (faulty f))
+      → IsRefused f status out err
+  refuses_as neither f some h =
+      given_or_memory m neither (model ∷ []) ((bytes, told), tt) (Err (faulty f)) (settled_fault f some)
+      (subst (λ w. Ends shelf.holds w (model ∷ []) (Err (faulty f))) (sym b.1)
+      (stops shelf.holds (surveyed_file model) b.0 (model ∷ []) (faulty f) h))
 
-  says : ModelSays bytes status out out_after err err_after S O E
+  says : ModelSays bytes status shelf out err
   says = record {
-    long_one = λ no_shelf no_output more. refuses_as no_shelf no_output (long inputs.Model) (λ same. cc)
-        (long_ends holds model bytes told more);
-    faulty_one = λ no_shelf no_output short f. refuses_as no_shelf no_output (model_fault f) (some_fault bytes f)
-        (fault_ends holds model bytes told short f);
+    long_one = λ neither more. refuses_as neither (long inputs.Model) (λ same. cc)
+        (long_ends shelf.holds model bytes told more);
+    faulty_one = λ neither short f. refuses_as neither (model_fault f) (some_fault bytes f)
+        (fault_ends shelf.holds model bytes told short f);
     only_faulty = λ five. let r = m.refused (omega (arith, five)) in
         let same = sym r.is_status ∙ five in
-        because holds r.refusal same form model bytes m.names told b
-        (caused_because r.refusal holds form m.names S O same r.cause);
+        because shelf.holds r.refusal same form model bytes m.names told b
+        (caused_because r.refusal form shelf m.names out same r.cause);
   }
 
-pub model_says : {status : ℕ} {form : Option Form} {holds : Holds} {asked asked_after : ToldNames}
-    {out out_after err err_after : Bytes} {S O E : Type 0}
-    → RunMeets status form holds asked asked_after out out_after err err_after S O E
+pub model_says : {status : ℕ} {form : Option Form} {shelf : ShelfSeen} {out err : StreamSeen}
+    → RunMeets status form shelf out err
     → (f : Form) (model : List ℕ) (more : List (List ℕ)) (bytes : List ℕ) → form ≡ Some f
-    → files_of (Some f) ≡ model ∷ more → holds model ≡ Some bytes
-    → ModelSays bytes status out out_after err err_after S O E
-model_says {status} {form} {holds} {asked} {asked_after} {out} {out_after} {err} {err_after} {S} {O} {E} m f model
-    more bytes is named told =
-    says status f holds asked asked_after out out_after err err_after S O E
-    (subst (λ f. RunMeets status f holds asked asked_after out out_after err err_after S O E) is m) model bytes told
+    → files_of (Some f) ≡ model ∷ more → shelf.holds model ≡ Some bytes
+    → ModelSays bytes status shelf out err
+model_says {status} {form} {shelf} {out} {err} m f model more bytes is named told =
+    says status f shelf out err
+    (subst (λ f. RunMeets status f shelf out err) is m) model bytes told
     (begins f model more named)

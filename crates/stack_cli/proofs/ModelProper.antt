@@ -58,7 +58,7 @@ model_sound bytes s h =
     let parts = went (parts_of_document table.0) _ s table.2 in
     content_sound parts.0 s (of_version table.0 parts.0 parts.1) (within (content_of parts.0) s parts.2)
 
--- its survey's scene is proper
+-- so the scene of an accepted model's survey is proper
 pub accepted_proper : (bytes : List ℕ) (v : Surveyed) → IsAcceptedModel bytes v → IsProper (scene_of v)
 accepted_proper bytes v h =
     let same = h.is_surveyed.structure in

@@ -4,6 +4,8 @@ use Rattle.std.proofs.Common.{Ok, Err, OnErr, subst, sym, ap, refl, arith}
 use Rattle.std.specs.Bool.{⊤}
 use Rattle.std.specs.Io.KnownBytes.{Appends, Keeps}
 use Rattle.stack_outside.specs.declared.error.SinkFailed.{SinkFailed}
+use Rattle.stack_outside.specs.declared.shelf.Shelf.{Ghosts}
+use Rattle.stack_outside.specs.Seen.{ShelfSeen, StreamSeen, TookNothing, seen_shelf}
 use Rattle.stack_outside.specs.Sinks.{Puts}
 use Rattle.stack_lines.specs.declared.answer.Answer.{Answer}
 use Rattle.stack_lines.specs.declared.answer.Verdict.{Verdict}
@@ -17,35 +19,36 @@ use Rattle.stack_lines.specs.Refusals.{order_line, directions_line, wide_run, wi
 use Rattle.stack_lines.specs.Refusals.{over_budget, no_live, no_pair}
 use Rattle.stack_lines.specs.Answers.{Due, verdict_status}
 use Rattle.stack_forms.specs.Work.{Work, gives, refuses, reads, surveys, Holds, Ends}
-use Rattle.stack_forms.specs.Progress.{ToldNames, GrewBy, Returns, AnswersDue, Way, Works}
-use Rattle.stack_cli.specs.Delivery.{Bytes, SaysLine, Delivers}
+use Rattle.stack_forms.specs.Progress.{Returns, AnswersDue, Way, ReturnsAnswer, Does, Works}
+use Rattle.stack_forms.proofs.Steps.{none_asked}
+use Rattle.stack_cli.specs.Delivery.{SaysLine, TakesMemory, Delivers}
 
 -- An error stream that didn't fail took the whole line.
-pub line_put : (old new : Bytes) (piece : List ℕ) (result : Result ⊤ SinkFailed) (P : Type 0)
+pub line_put : (old new : Option (List ℕ)) (piece : List ℕ) (result : Result ⊤ SinkFailed) (P : Type 0)
     → Puts old new piece result → OnErr result P → ¬ P → Appends old new piece
 line_put old new piece (Ok done) P puts cause not = puts
 line_put old new piece (Err e) P puts cause not = absurd (not cause)
 
 -- A refusal was told, or memory for its line was wanting.
-told_as : (r q : CodeRefusal) → (q ≡ r) ⊎ (q ≡ code.Memory)
-    → (refusal_view q ≡ refusal_view r) ⊎ (refusal_view q ≡ faulty memory)
+told_as : (r q : CodeRefusal) → (q ≡ r) ⊎ (TakesMemory (refusal_view r) × (q ≡ code.Memory))
+    → (refusal_view q ≡ refusal_view r) ⊎ (TakesMemory (refusal_view r) × (refusal_view q ≡ faulty memory))
 told_as r q (inl same) = inl (ap refusal_view same)
-told_as r q (inr same) = inr (ap refusal_view same)
+told_as r q (inr want) = inr (want.0, ap refusal_view want.1)
 
-pub kept_same : (b : Bytes) → Keeps b b
+pub kept_same : (b : Option (List ℕ)) → Keeps b b
 kept_same None = tt
 kept_same (Some bytes) = refl
 
-pub refusal_told : (worked : Result Answer CodeRefusal) (r q : CodeRefusal) (status : ℕ)
-    (out err err_after : Bytes) (O E : Type 0)
-    → worked ≡ Err r → (q ≡ r) ⊎ (q ≡ code.Memory) → status ≡ status_of (refusal_view q)
-    → SaysLine (refusal_view q) err err_after E → Delivers worked status out out err err_after O E
-refusal_told worked r q status out err err_after O E is which status_is line =
-    subst (λ w. Delivers w status out out err err_after O E) (sym is) (record {
+pub refusal_told : (worked : Result Answer CodeRefusal) (r q : CodeRefusal) (status : ℕ) (out err : StreamSeen)
+    → worked ≡ Err r → (q ≡ r) ⊎ (TakesMemory (refusal_view r) × (q ≡ code.Memory))
+    → status ≡ status_of (refusal_view q) → TookNothing out → SaysLine (refusal_view q) err
+    → Delivers worked status out err
+refusal_told worked r q status out err is which status_is keeps line =
+    subst (λ w. Delivers w status out err) (sym is) (record {
       told = refusal_view q;
       which = told_as r q which;
       is_status = status_is;
-      is_kept = kept_same out;
+      is_kept = keeps;
       line = line;
     })
 
@@ -131,31 +134,43 @@ from_two (file input) = omega arith
 from_two (faulty f) = let h = fault_above f in omega (arith, h)
 from_two output = omega arith
 
--- What the work returned, against the ways through it.
-abbrev pub Reaches : Holds → Option Form → List (List ℕ) → Result Answer CodeRefusal → Type 0
-Reaches holds form names (Ok a) = (due : Due) × AnswersDue a due × Way holds form names (Ok due)
-Reaches holds form names (Err r) = Way holds form names (Err (refusal_view r))
+-- Work that a form asks for is work on words.
+returned : (holds : Holds) (form : Form) (names : List (List ℕ)) (result : Result Answer CodeRefusal)
+    → Returns AnswersDue holds (work_of form) names result → ReturnsAnswer holds (Some form) names result
+returned holds form names (Ok a) h = h
+returned holds form names (Err code.Memory) h = (Err (faulty memory), h)
+returned holds form names (Err r) h = h
 
-reached : (holds : Holds) (form : Form) (names : List (List ℕ)) (result : Result Answer CodeRefusal)
-    → Returns AnswersDue holds (work_of form) names result → Reaches holds (Some form) names result
-reached holds form names (Ok a) h = h
-reached holds form names (Err r) h = h
-
-pub record Reached (holds : Holds) (form : Option Form) (old new : ToldNames)
-    (result : Result Answer CodeRefusal) : Type 0 where
-  pub names : List (List ℕ)
-  pub asks : GrewBy old new names
-  pub way : Reaches holds form names result
-
-pub works_reach : (holds : Holds) (form : Option Form) (old new : ToldNames) (result : Result Answer CodeRefusal)
-    → Works holds form old new result → Reached holds form old new result
-works_reach holds None old new result w = record {
-  names = [];
-  asks = w.0;
-  way = subst (Reaches holds None []) (sym w.1) (refl, refl);
+pub form_works : (form : Form) (shelf : ShelfSeen) (result : Result Answer CodeRefusal)
+    → Does AnswersDue (work_of form) shelf result → Works (Some form) shelf result
+form_works form shelf result d = record {
+  names = d.names;
+  asks = d.asks;
+  comes = returned shelf.holds form d.names result d.comes;
+  cause = d.cause;
+  holds = d.holds;
+  later = d.later;
 }
-works_reach holds (Some form) old new result w = record {
-  names = w.names;
-  asks = w.asks;
-  way = reached holds form w.names result w.comes;
-}
+
+-- Words without a form ask for nothing.
+module _ {S : Type 0} (shelf : Ghosts S) (old : S) where
+  pub none_works : Works None (seen_shelf shelf old old) (Err code.Words)
+  none_works = record {
+    names = [];
+    asks = none_asked (shelf.asked old);
+    comes = (refl, refl);
+    cause = tt;
+    holds = refl;
+    later = omega arith;
+  }
+
+  -- Nor do words for which memory was wanting.
+  pub memory_works : Works None (seen_shelf shelf old old) (Err code.Memory)
+  memory_works = record {
+    names = [];
+    asks = none_asked (shelf.asked old);
+    comes = (Err words, (refl, refl));
+    cause = tt;
+    holds = refl;
+    later = omega arith;
+  }

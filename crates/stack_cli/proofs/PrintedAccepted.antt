@@ -1,4 +1,4 @@
--- A printed certificate is accepted.
+-- A printed certificate is accepted by `check` with its own model, and is short enough to be read.
 use Rattle.std.proofs.Common.{◌≡◌, refl, sym, subst, ℕ, ◌≤◌, ◌<◌, List, [], ◌∷◌, Some, Ok, inr}
 use Rattle.std.proofs.Common.{length, arith}
 use Rattle.std.proofs.lemmas.Bool.{le-ltb}
@@ -10,7 +10,7 @@ use Rattle.stack_equilibrium.specs.declared.types.Question.{Question}
 use Rattle.stack_judge.specs.Judged.{IsJudged}
 use Rattle.stack_forms.specs.Work.{Holds, Ends}
 use Rattle.stack_forms.specs.Surveying.{greatest_file, surveyed_file}
-use Rattle.stack_forms.specs.Checking.{checked, accepted_due, certificate_work, check_work}
+use Rattle.stack_forms.specs.Checking.{checked_file, accepted_due, certificate_work, check_work}
 use Rattle.stack_cli.specs.Printed.{acceptance, PrintedIsAccepted, PrintedIsShort}
 use Rattle.stack_forms.proofs.Ways.{goes_on}
 use Rattle.stack_forms.proofs.OneEnd.{one_end}
@@ -22,8 +22,8 @@ printed_short short q v c text judged is = subst (λ t. length t < text_bound) (
 
 checked_ends : (q : Question) (v : Surveyed) (c : CertificateValue) (holds : Holds) (name text : List ℕ)
     → length text ≤ greatest_file → certificate_of text ≡ Ok c → IsJudged q v c → holds name ≡ Some text
-    → Ends holds (checked accepted_due name v) (name ∷ []) acceptance
-unfolding checked
+    → Ends holds (checked_file accepted_due name v) (name ∷ []) acceptance
+unfolding checked_file
 checked_ends q v c holds name text short reads judged told = (
   refl,
   inr (text, rw told refl, rw (le-ltb greatest_file (length text) short, reads, judged.accepted) (refl, refl)),
@@ -35,7 +35,7 @@ pub printed_accepted : ((c : CertificateValue) (bytes : List ℕ) → IsCertific
 unfolding certificate_work
 printed_accepted reads short q v c holds model name bytes text told accepted judged is held =
     let fewer = printed_short short q v c text judged is in
-    let way = goes_on holds (surveyed_file model) (checked accepted_due name) (model ∷ []) (name ∷ []) v acceptance
+    let way = goes_on holds (surveyed_file model) (checked_file accepted_due name) (model ∷ []) (name ∷ []) v acceptance
     (all_accepted holds model bytes v told accepted)
     (checked_ends q v c holds name text (omega (arith, fewer)) (reads c text is) judged held) in (
       way,

@@ -3,7 +3,7 @@
 use Rattle.std.proofs.Common.{◌≡◌, sym, subst, ap, ◌∙◌, ℕ, zero, suc, ◌<◌, ◌≤◌, Bool, true, false, List}
 use Rattle.std.proofs.Common.{Option, Some, Result, Ok, Err, inl, inr, arith}
 use Rattle.std.specs.Prelude.{if◌then◌else◌}
-use Rattle.std.specs.Io.KnownBytes.{Appends}
+use Rattle.stack_outside.specs.Seen.{ShelfSeen, StreamSeen, Took}
 use Rattle.stack_contact.specs.Surveyed.{Surveyed}
 use Rattle.stack_certificate.specs.Certificate.{CertificateValue}
 use Rattle.stack_certificate.specs.CertificateText.{IsCertificateText}
@@ -21,8 +21,6 @@ use Rattle.stack_forms.specs.Checking.{check_work}
 use Rattle.stack_forms.specs.Judging.{lacks_live, judged_step, judged, judge_work}
 use Rattle.stack_forms.specs.OneEnd.{IsSettled}
 use Rattle.stack_forms.specs.AcceptedModel.{IsAcceptedModel}
-use Rattle.stack_forms.specs.Progress.{ToldNames}
-use Rattle.stack_cli.specs.Delivery.{Bytes}
 use Rattle.stack_cli.specs.MainTheorem.{Answered, Refused, Cause, RunMeets}
 use Rattle.stack_cli.specs.Headline.{PrintsOfFile}
 use Rattle.stack_cli.specs.Printed.{acceptance, PrintedIsAccepted, IsAcceptedAgain}
@@ -53,12 +51,12 @@ answer_end holds q model bytes budget names due told way =
     let d = asked_end holds q budget c.0 (lacks_live q c.0.structure) c.2 due c.4 in
     (c.0, only_accepted holds model bytes c.0 c.1 told c.3, d.0, d.1)
 
-answer_prints : (holds : Holds) (q : Question) (model bytes : List ℕ) (budget status : ℕ) (names : List (List ℕ))
-    (out out_after err err_after : Bytes) → holds model ≡ Some bytes
-    → Answered status holds (Some (judges q model budget)) names out out_after err err_after
-    → PrintsOfFile q bytes status out out_after
-answer_prints holds q model bytes budget status names out out_after err err_after told a =
-    let c = answer_end holds q model bytes budget names a.due told a.way in
+answer_prints : (shelf : ShelfSeen) (q : Question) (model bytes : List ℕ) (budget status : ℕ) (names : List (List ℕ))
+    (out err : StreamSeen) → shelf.holds model ≡ Some bytes
+    → Answered status (Some (judges q model budget)) shelf names out err
+    → PrintsOfFile q bytes status out
+answer_prints shelf q model bytes budget status names out err told a =
+    let c = answer_end shelf.holds q model bytes budget names a.due told a.way in
     let is = subst (λ d. IsAnswer d a.verdict a.text) (sym c.3) a.is_due in
     record {
       survey = c.0;
@@ -73,15 +71,13 @@ answer_prints holds q model bytes budget status names out out_after err err_afte
       };
     }
 
-pub prints_truly : {status : ℕ} {form : Option Form} {holds : Holds} {asked asked_after : ToldNames}
-    {out out_after err err_after : Bytes} {S O E : Type 0}
-    → RunMeets status form holds asked asked_after out out_after err err_after S O E
+pub prints_truly : {status : ℕ} {form : Option Form} {shelf : ShelfSeen} {out err : StreamSeen}
+    → RunMeets status form shelf out err
     → (q : Question) (model : List ℕ) (budget : ℕ) (bytes : List ℕ) → form ≡ Some (judges q model budget)
-    → holds model ≡ Some bytes → status < 2 → PrintsOfFile q bytes status out out_after
-prints_truly {status} {form} {holds} {asked} {asked_after} {out} {out_after} {err} {err_after} {S} {O} {E} m q model
-    budget bytes is told low =
-    answer_prints holds q model bytes budget status m.names out out_after err err_after told
-    (subst (λ f. Answered status holds f m.names out out_after err err_after) is (m.answered low))
+    → shelf.holds model ≡ Some bytes → status < 2 → PrintsOfFile q bytes status out
+prints_truly {status} {form} {shelf} {out} {err} m q model budget bytes is told low =
+    answer_prints shelf q model bytes budget status m.names out err told
+    (subst (λ f. Answered status f shelf m.names out err) is (m.answered low))
 
 abbrev given : Due → Result Due Refusal
 given due = Ok due
@@ -90,28 +86,27 @@ abbrev refusing : Refusal → Result Due Refusal
 refusing r = Err r
 
 -- what a check that accepts gives out
-module _ (holds : Holds) (model name : List ℕ) (names : List (List ℕ)) (out out_after err err_after : Bytes)
-    (S O E : Type 0)
-    (only : (end : Result Due Refusal) → Ends holds (check_work model name) names end → IsSettled end
+module _ (shelf : ShelfSeen) (out err : StreamSeen) (model name : List ℕ) (names : List (List ℕ))
+    (only : (end : Result Due Refusal) → Ends shelf.holds (check_work model name) names end → IsSettled end
     → end ≡ acceptance) where
   abbrev Again : ℕ → Type 0
-  Again status = IsAcceptedAgain status out out_after S O
+  Again status = IsAcceptedAgain status shelf out
 
   same_due : (due other : Due) → given due ≡ given other → due ≡ other
   same_due due other e = cc
 
-  again_answered : (status : ℕ) → Answered status holds (Some (check model name)) names out out_after err err_after
+  again_answered : (status : ℕ) → Answered status (Some (check model name)) shelf names out err
       → Again status
   again_answered status a =
       let same = same_due a.due (exactly Affirmed accepted_text) (only (Ok a.due) a.way tt) in
       let is = subst (λ d. IsAnswer d a.verdict a.text) same a.is_due in
-      inl (a.is_status ∙ ap verdict_status is.0, subst (Appends out out_after) is.1 a.is_written)
+      inl (a.is_status ∙ ap verdict_status is.0, subst (Took out) is.1 a.is_written)
 
   not_refused : (r : Refusal) → refusing r ≡ acceptance → ⊥
   not_refused r e = cc
 
   again_refused : (status : ℕ) (r : Refusal) → status ≡ status_of r
-      → Cause r holds (Some (check model name)) names S O → Again status
+      → Cause r (Some (check model name)) shelf names out → Again status
   again_refused status words is cause = absurd (not_refused words (only (Err words) cause tt))
   again_refused status (file input) is cause = inr (inl (is, cause.0))
   again_refused status output is cause = inr (inr (inl (is, cause)))
@@ -119,24 +114,23 @@ module _ (holds : Holds) (model name : List ℕ) (names : List (List ℕ)) (out 
   again_refused status r is cause = absurd (not_refused r (only (Err r) cause tt))
 
   again_by : (status : ℕ)
-      → (status < 2 → Answered status holds (Some (check model name)) names out out_after err err_after)
-      → (2 ≤ status
-      → Refused status holds (Some (check model name)) names out out_after err err_after S O E)
+      → (status < 2 → Answered status (Some (check model name)) shelf names out err)
+      → (2 ≤ status → Refused status (Some (check model name)) shelf names out err)
       → Again status
   again_by zero answers refusals = again_answered 0 (answers (omega arith))
   again_by (suc zero) answers refusals = again_answered 1 (answers (omega arith))
   again_by (suc (suc n)) answers refusals =
       let r = refusals (omega arith) in again_refused (suc (suc n)) r.refusal r.is_status r.cause
 
-pub accepted_again : PrintedIsAccepted → {status : ℕ} {form : Option Form} {holds : Holds}
-    {asked asked_after : ToldNames} {out out_after err err_after : Bytes} {S O E : Type 0}
-    → RunMeets status form holds asked asked_after out out_after err err_after S O E
+pub accepted_again : PrintedIsAccepted → {status : ℕ} {form : Option Form} {shelf : ShelfSeen} {out err : StreamSeen}
+    → RunMeets status form shelf out err
     → (q : Question) (v : Surveyed) (c : CertificateValue) (model name bytes text : List ℕ)
-    → form ≡ Some (check model name) → holds model ≡ Some bytes → holds name ≡ Some text → IsAcceptedModel bytes v
-    → IsJudged q v c → IsCertificateText c text → IsAcceptedAgain status out out_after S O
-accepted_again law {status} {form} {holds} {asked} {asked_after} {out} {out_after} {err} {err_after} {S} {O} {E} m q v
+    → form ≡ Some (check model name) → shelf.holds model ≡ Some bytes → shelf.holds name ≡ Some text
+    → IsAcceptedModel bytes v
+    → IsJudged q v c → IsCertificateText c text → IsAcceptedAgain status shelf out
+accepted_again law {status} {form} {shelf} {out} {err} m q v
     c model name bytes text is told held accepted judged is_text =
-    let n = subst (λ f. RunMeets status f holds asked asked_after out out_after err err_after S O E) is m in
-    let l = law q v c holds model name bytes text told accepted judged is_text held in
-    again_by holds model name n.names out out_after err err_after S O E (λ end. l.1 n.names end) status n.answered
+    let n = subst (λ f. RunMeets status f shelf out err) is m in
+    let l = law q v c shelf.holds model name bytes text told accepted judged is_text held in
+    again_by shelf out err model name n.names (λ end. l.1 n.names end) status n.answered
     n.refused

@@ -1,7 +1,7 @@
 -- What the status of a run of `range` says of its file, out of the theorem on the top call.
 use Rattle.std.proofs.Common.{◌≡◌, sym, subst, ap, ◌∙◌, ℕ, ◌<◌, Bool, true, false, List, Option, Some, Ok, arith}
 use Rattle.std.specs.Prelude.{if◌then◌else◌}
-use Rattle.std.specs.Io.KnownBytes.{Appends}
+use Rattle.stack_outside.specs.Seen.{ShelfSeen, StreamSeen, Took}
 use Rattle.stack_contact.specs.Surveyed.{Surveyed}
 use Rattle.stack_equilibrium.specs.declared.types.Question.TheVariants.{Live}
 use Rattle.stack_range.specs.Ranged.{RangeValue, collapsing, between}
@@ -15,8 +15,6 @@ use Rattle.stack_forms.specs.Surveying.{surveyed_file}
 use Rattle.stack_forms.specs.Judging.{lacks_live}
 use Rattle.stack_forms.specs.Ranging.{range_step, range_told, range_work}
 use Rattle.stack_forms.specs.AcceptedModel.{IsAcceptedModel}
-use Rattle.stack_forms.specs.Progress.{ToldNames}
-use Rattle.stack_cli.specs.Delivery.{Bytes}
 use Rattle.stack_cli.specs.MainTheorem.{Answered, RunMeets}
 use Rattle.stack_cli.specs.RangeSaid.{RangeSays}
 use Rattle.stack_forms.proofs.Ways.{came_from}
@@ -50,10 +48,10 @@ said_by holds model bytes budget names due held way =
     (c.0, only_accepted holds model bytes c.0 c.1 held c.3, r.0, r.1)
 
 -- what such an answer says by its status
-says : (bytes : List ℕ) (status : ℕ) (out out_after : Bytes) (v : Surveyed) (r : RangeValue) (verdict : Verdict)
+says : (bytes : List ℕ) (status : ℕ) (out : StreamSeen) (v : Surveyed) (r : RangeValue) (verdict : Verdict)
     (text : List ℕ) → IsAcceptedModel bytes v → IsRangeOf v r verdict text → status ≡ verdict_status verdict
-    → Appends out out_after text → RangeSays bytes status out out_after
-says bytes status out out_after v (between low high) verdict text model is at put = record {
+    → Took out text → RangeSays bytes status out
+says bytes status out v (between low high) verdict text model is at put = record {
   ranges = λ e. (
     text,
     record {
@@ -68,7 +66,7 @@ says bytes status out out_after v (between low high) verdict text model is at pu
   );
   falls = λ e. let h : status ≡ 0 = at ∙ ap verdict_status is.is_verdict in absurd (omega (arith, h, e));
 }
-says bytes status out out_after v (collapsing y) verdict text model is at put = record {
+says bytes status out v (collapsing y) verdict text model is at put = record {
   ranges = λ e. let h : status ≡ 1 = at ∙ ap verdict_status is.is_verdict in absurd (omega (arith, h, e));
   falls = λ e. (
     text,
@@ -78,26 +76,25 @@ says bytes status out out_after v (collapsing y) verdict text model is at put = 
 }
 
 -- the same of a run that answered
-answered_says : (model bytes : List ℕ) (budget status : ℕ) (holds : Holds) (names : List (List ℕ))
-    (out out_after err err_after : Bytes) → holds model ≡ Some bytes
-    → Answered status holds (Some (ranges model budget)) names out out_after err err_after
-    → RangeSays bytes status out out_after
-answered_says model bytes budget status holds names out out_after err err_after held a =
-    let s = said_by holds model bytes budget names a.due held a.way in
-    says bytes status out out_after s.0 s.2 a.verdict a.text s.1
+answered_says : (model bytes : List ℕ) (budget status : ℕ) (shelf : ShelfSeen) (names : List (List ℕ))
+    (out err : StreamSeen) → shelf.holds model ≡ Some bytes
+    → Answered status (Some (ranges model budget)) shelf names out err
+    → RangeSays bytes status out
+answered_says model bytes budget status shelf names out err held a =
+    let s = said_by shelf.holds model bytes budget names a.due held a.way in
+    says bytes status out s.0 s.2 a.verdict a.text s.1
     (subst (λ d. IsAnswer d a.verdict a.text) (sym s.3) a.is_due) a.is_status a.is_written
 
--- and of each run
-pub range_says : {status : ℕ} {form : Option Form} {holds : Holds} {asked asked_after : ToldNames}
-    {out out_after err err_after : Bytes} {S O E : Type 0}
-    → RunMeets status form holds asked asked_after out out_after err err_after S O E
-    → (model : List ℕ) (budget : ℕ) (bytes : List ℕ) → form ≡ Some (ranges model budget) → holds model ≡ Some bytes
-    → RangeSays bytes status out out_after
-range_says {status} {form} {holds} {asked} {asked_after} {out} {out_after} {err} {err_after} {S} {O} {E} m model budget
-    bytes is held =
-    let by : status < 2 → RangeSays bytes status out out_after = λ low.
-    answered_says model bytes budget status holds m.names out out_after err err_after held
-    (subst (λ f. Answered status holds f m.names out out_after err err_after) is (m.answered low)) in
+-- the same of each run, where it ends with 0 or 1
+pub range_says : {status : ℕ} {form : Option Form} {shelf : ShelfSeen} {out err : StreamSeen}
+    → RunMeets status form shelf out err
+    → (model : List ℕ) (budget : ℕ) (bytes : List ℕ) → form ≡ Some (ranges model budget)
+    → shelf.holds model ≡ Some bytes
+    → RangeSays bytes status out
+range_says {status} {form} {shelf} {out} {err} m model budget bytes is held =
+    let by : status < 2 → RangeSays bytes status out = λ low.
+    answered_says model bytes budget status shelf m.names out err held
+    (subst (λ f. Answered status f shelf m.names out err) is (m.answered low)) in
     record {
       ranges = λ e. (by (omega (arith, e))).ranges e;
       falls = λ e. (by (omega (arith, e))).falls e;

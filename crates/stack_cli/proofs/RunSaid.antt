@@ -1,9 +1,7 @@
 -- What a run says in plain words, out of the theorem on the order of work.
 use Rattle.std.proofs.Common.{ℕ, Option}
+use Rattle.stack_outside.specs.Seen.{ShelfSeen, StreamSeen}
 use Rattle.stack_forms.specs.Forms.{Form}
-use Rattle.stack_forms.specs.Progress.{ToldNames}
-use Rattle.stack_forms.specs.Work.{Holds}
-use Rattle.stack_cli.specs.Delivery.{Bytes}
 use Rattle.stack_cli.specs.MainTheorem.{RunMeets}
 use Rattle.stack_cli.specs.Printed.{PrintedIsAccepted}
 use Rattle.stack_cli.specs.RunSaid.{RunSays}
@@ -19,10 +17,8 @@ use Rattle.stack_cli.proofs.StagesAnswered.{stages_say}
 use Rattle.stack_cli.proofs.TableAnswered.{table_says}
 use Rattle.stack_cli.proofs.YieldAnswered.{region_says}
 
-pub run_says : PrintedIsAccepted → {status : ℕ} {form : Option Form} {holds : Holds} {asked asked_after : ToldNames}
-    {out out_after err err_after : Bytes} {S O E : Type 0}
-    → RunMeets status form holds asked asked_after out out_after err err_after S O E
-    → RunSays status form holds out out_after err err_after S O E
+pub run_says : PrintedIsAccepted → {status : ℕ} {form : Option Form} {shelf : ShelfSeen} {out err : StreamSeen}
+    → RunMeets status form shelf out err → RunSays status form shelf out err
 run_says law m = record {
   headline = headline_of m;
   printed = prints_truly m;

@@ -2,8 +2,8 @@
 use Rattle.std.proofs.Common.{◌≡◌, refl, sym, subst, ap, ◌∙◌, ℕ, ◌<◌, Bool, true, false, List, [], ◌∷◌, Option, Some}
 use Rattle.std.proofs.Common.{Result, Ok, Err, inl, inr, length, arith}
 use Rattle.std.specs.Prelude.{if◌then◌else◌}
-use Rattle.std.specs.Io.KnownBytes.{Appends}
 use Rattle.std.proofs.Math.Dec.{ltb}
+use Rattle.stack_outside.specs.Seen.{ShelfSeen, StreamSeen, Took}
 use Rattle.stack_contact.specs.Surveyed.{Surveyed}
 use Rattle.stack_stages.specs.OrderRead.{order_of}
 use Rattle.stack_stages.specs.Staged.{Staged, all_stand, falls, too_wide_at, spent_at, staged}
@@ -16,8 +16,6 @@ use Rattle.stack_forms.specs.Work.{gives, refuses, ◌>>=◌, Holds, Ends}
 use Rattle.stack_forms.specs.Surveying.{greatest_file, surveyed_file}
 use Rattle.stack_forms.specs.Building.{order_step, stages_step, ordered, ordered_file, stages_work}
 use Rattle.stack_forms.specs.AcceptedModel.{IsAcceptedModel}
-use Rattle.stack_forms.specs.Progress.{ToldNames}
-use Rattle.stack_cli.specs.Delivery.{Bytes}
 use Rattle.stack_cli.specs.MainTheorem.{Answered, RunMeets}
 use Rattle.stack_cli.specs.StagesSaid.{ModelAndOrder, StagesSay}
 use Rattle.stack_forms.proofs.Ways.{came_from}
@@ -38,7 +36,7 @@ step_ends holds budget v order (spent_at k) names due p = absurd p.1
 
 module _ (holds : Holds) (budget : ℕ) (bytes : List ℕ) (v : Surveyed) (model : IsAcceptedModel bytes v)
     (due : Due) where
-  -- of a text that tells an order
+  -- the same of a text that tells an order
   text_ends : (text : List ℕ) (r : Result (List ℕ) ℕ) (names : List (List ℕ)) → order_of v.structure text ≡ r
       → Ends holds (order_step r >>= λ order. stages_step budget v order (staged v order budget)) names (Ok due)
       → Said bytes text due
@@ -50,14 +48,14 @@ module _ (holds : Holds) (budget : ℕ) (bytes : List ℕ) (v : Surveyed) (model
       )
   text_ends text (Err n) names is p = absurd p.1
 
-  -- of a file that isn't too long
+  -- the same of the bytes of a file, where they aren't too many
   bytes_end : (text : List ℕ) (b : Bool) (names : List (List ℕ))
       → Ends holds ((if b then refuses (long inputs.Order) else gives text) >>= λ t. ordered budget v t) names (Ok due)
       → Said bytes text due
   bytes_end text true names p = absurd p.1
   bytes_end text false names p = text_ends text (order_of v.structure text) names refl p
 
-  -- of a file that is told
+  -- the same of a file whose bytes are told
   file_ends : (name text : List ℕ) (names : List (List ℕ)) → holds name ≡ Some text
       → Ends holds (ordered_file name budget v) names (Ok due) → Said bytes text due
   unfolding ordered_file
@@ -67,7 +65,7 @@ module _ (holds : Holds) (budget : ℕ) (bytes : List ℕ) (v : Surveyed) (model
       subst (λ t. Said bytes t due) (told_bytes (holds name) text h.0 held h.1)
       (bytes_end h.0 (ltb greatest_file (length h.0)) ns h.2)
 
--- of both files
+-- so it is of two files whose bytes are told
 said_by : (holds : Holds) (model name bytes text : List ℕ) (budget : ℕ) (names : List (List ℕ)) (due : Due)
     → holds model ≡ Some bytes → holds name ≡ Some text → Ends holds (stages_work model name budget) names (Ok due)
     → Said bytes text due
@@ -77,10 +75,10 @@ said_by holds model name bytes text budget names due told held way =
     file_ends holds budget bytes c.0 (only_accepted holds model bytes c.0 c.1 told c.3) due name text c.2 held c.4
 
 -- what such an answer says by its status
-says : (bytes text : List ℕ) (status : ℕ) (out out_after : Bytes) (files : ModelAndOrder bytes text) (x : Staged)
+says : (bytes text : List ℕ) (status : ℕ) (out : StreamSeen) (files : ModelAndOrder bytes text) (x : Staged)
     (verdict : Verdict) (answer : List ℕ) → AreStagesOf files.survey files.order x verdict answer
-    → status ≡ verdict_status verdict → Appends out out_after answer → StagesSay bytes text status out out_after
-says bytes text status out out_after files (all_stand fs) verdict answer is at put = record {
+    → status ≡ verdict_status verdict → Took out answer → StagesSay bytes text status out
+says bytes text status out files (all_stand fs) verdict answer is at put = record {
   stand = λ e. (
     answer,
     record {
@@ -94,7 +92,7 @@ says bytes text status out out_after files (all_stand fs) verdict answer is at p
   );
   fall = λ e. let h : status ≡ 0 = at ∙ ap verdict_status is.is_verdict in absurd (omega (arith, h, e));
 }
-says bytes text status out out_after files (falls fs m) verdict answer is at put = record {
+says bytes text status out files (falls fs m) verdict answer is at put = record {
   stand = λ e. let h : status ≡ 1 = at ∙ ap verdict_status is.is_verdict in absurd (omega (arith, h, e));
   fall = λ e. (
     answer,
@@ -109,30 +107,28 @@ says bytes text status out out_after files (falls fs m) verdict answer is at put
     put,
   );
 }
-says bytes text status out out_after files (too_wide_at k p) verdict answer is at put = absurd is.are_true
-says bytes text status out out_after files (spent_at k) verdict answer is at put = absurd is.are_true
+says bytes text status out files (too_wide_at k p) verdict answer is at put = absurd is.are_true
+says bytes text status out files (spent_at k) verdict answer is at put = absurd is.are_true
 
 -- the same of a run that answered
-answered_say : (model name bytes text : List ℕ) (budget status : ℕ) (holds : Holds) (names : List (List ℕ))
-    (out out_after err err_after : Bytes) → holds model ≡ Some bytes → holds name ≡ Some text
-    → Answered status holds (Some (builds model name budget)) names out out_after err err_after
-    → StagesSay bytes text status out out_after
-answered_say model name bytes text budget status holds names out out_after err err_after told held a =
-    let s = said_by holds model name bytes text budget names a.due told held a.way in
-    says bytes text status out out_after s.0 s.1 a.verdict a.text
+answered_say : (model name bytes text : List ℕ) (budget status : ℕ) (shelf : ShelfSeen) (names : List (List ℕ))
+    (out err : StreamSeen) → shelf.holds model ≡ Some bytes → shelf.holds name ≡ Some text
+    → Answered status (Some (builds model name budget)) shelf names out err
+    → StagesSay bytes text status out
+answered_say model name bytes text budget status shelf names out err told held a =
+    let s = said_by shelf.holds model name bytes text budget names a.due told held a.way in
+    says bytes text status out s.0 s.1 a.verdict a.text
     (subst (λ d. IsAnswer d a.verdict a.text) (sym s.2) a.is_due) a.is_status a.is_written
 
--- and of each run
-pub stages_say : {status : ℕ} {form : Option Form} {holds : Holds} {asked asked_after : ToldNames}
-    {out out_after err err_after : Bytes} {S O E : Type 0}
-    → RunMeets status form holds asked asked_after out out_after err err_after S O E
+-- the same of each run, where it ends with 0 or 1
+pub stages_say : {status : ℕ} {form : Option Form} {shelf : ShelfSeen} {out err : StreamSeen}
+    → RunMeets status form shelf out err
     → (model name : List ℕ) (budget : ℕ) (bytes text : List ℕ) → form ≡ Some (builds model name budget)
-    → holds model ≡ Some bytes → holds name ≡ Some text → StagesSay bytes text status out out_after
-stages_say {status} {form} {holds} {asked} {asked_after} {out} {out_after} {err} {err_after} {S} {O} {E} m model name
-    budget bytes text is told held =
-    let by : status < 2 → StagesSay bytes text status out out_after = λ low.
-    answered_say model name bytes text budget status holds m.names out out_after err err_after told held
-    (subst (λ f. Answered status holds f m.names out out_after err err_after) is (m.answered low)) in
+    → shelf.holds model ≡ Some bytes → shelf.holds name ≡ Some text → StagesSay bytes text status out
+stages_say {status} {form} {shelf} {out} {err} m model name budget bytes text is told held =
+    let by : status < 2 → StagesSay bytes text status out = λ low.
+    answered_say model name bytes text budget status shelf m.names out err told held
+    (subst (λ f. Answered status f shelf m.names out err) is (m.answered low)) in
     record {
       stand = λ e. (by (omega (arith, e))).stand e;
       fall = λ e. (by (omega (arith, e))).fall e;

@@ -1,7 +1,7 @@
 -- What the status of a run of `table` says of its two files, out of the theorem on the top call.
 use Rattle.std.proofs.Common.{◌≡◌, refl, subst, ap, ◌∙◌, ℕ, ◌<◌, ◌≤◌, List, [], Option}
 use Rattle.std.proofs.Common.{Some, None, Result, Ok, Err, inl, inr, ◌⊎◌, length, arith}
-use Rattle.std.specs.Io.KnownBytes.{Appends}
+use Rattle.stack_outside.specs.Seen.{ShelfSeen, StreamSeen, NeitherFailed, Took}
 use Rattle.stack_contact.specs.Surveyed.{Surveyed}
 use Rattle.stack_certificate.specs.Certificate.{CertificateValue}
 use Rattle.stack_equilibrium.specs.Truth.{IsTrueCertificate}
@@ -20,8 +20,6 @@ use Rattle.stack_forms.specs.Surveying.{greatest_file}
 use Rattle.stack_forms.specs.Checking.{certificate_due}
 use Rattle.stack_forms.specs.Tables.{tables_text, tabled_by, table_due, table_work}
 use Rattle.stack_forms.specs.OneEnd.{IsSettled}
-use Rattle.stack_forms.specs.Progress.{ToldNames}
-use Rattle.stack_cli.specs.Delivery.{Bytes}
 use Rattle.stack_cli.specs.MainTheorem.{Answered, IsGivenOut, RunMeets}
 use Rattle.stack_cli.specs.Accepted.{HoldTrueCertificate, HoldFalseCertificate, IsWideCheck}
 use Rattle.stack_cli.specs.Said.{Writes, TableSays}
@@ -58,35 +56,35 @@ said_by holds model name bytes text names due told held way =
     said_from table_due Means answer_means holds due model name bytes text names told held way
 
 -- what the statuses 0 and 1 say
-record Answers (bytes text : List ℕ) (status : ℕ) (out out_after : Bytes) : Type 0 where
+record Answers (bytes text : List ℕ) (status : ℕ) (out : StreamSeen) : Type 0 where
   listed : status ≡ 0 → (h : HoldTrueCertificate bytes text) × (wide_index h.files.survey h.files.certificate ≡ None)
-      × Appends out out_after (tables_text h.files.survey h.files.certificate)
-  rejected : status ≡ 1 → (line : List ℕ) × HoldFalseCertificate bytes text line × Appends out out_after line
+      × Took out (tables_text h.files.survey h.files.certificate)
+  rejected : status ≡ 1 → (line : List ℕ) × HoldFalseCertificate bytes text line × Took out line
 
-says : (bytes text : List ℕ) (status : ℕ) (out out_after : Bytes) (due : Due) (verdict : Verdict) (answer : List ℕ)
+says : (bytes text : List ℕ) (status : ℕ) (out : StreamSeen) (due : Due) (verdict : Verdict) (answer : List ℕ)
     → Said bytes text due → IsAnswer due verdict answer → status ≡ verdict_status verdict
-    → Appends out out_after answer → Answers bytes text status out out_after
-says bytes text status out out_after (exactly Affirmed t) verdict answer s is at put = record {
+    → Took out answer → Answers bytes text status out
+says bytes text status out (exactly Affirmed t) verdict answer s is at put = record {
   listed = λ e. (
     hold_true bytes text s.0 s.1.0,
     s.1.1,
-    subst (Appends out out_after) (is.1 ∙ s.1.2) put,
+    subst (Took out) (is.1 ∙ s.1.2) put,
   );
   rejected = λ e. let h : status ≡ 0 = at ∙ ap verdict_status is.0 in absurd (omega (arith, h, e));
 }
-says bytes text status out out_after (exactly Denied line) verdict answer s is at put = record {
+says bytes text status out (exactly Denied line) verdict answer s is at put = record {
   listed = λ e. let h : status ≡ 1 = at ∙ ap verdict_status is.0 in absurd (omega (arith, h, e));
-  rejected = λ e. (line, hold_false bytes text line s.0 s.1, subst (Appends out out_after) is.1 put);
+  rejected = λ e. (line, hold_false bytes text line s.0 s.1, subst (Took out) is.1 put);
 }
-says bytes text status out out_after _ verdict answer s is at put = absurd s.1
+says bytes text status out _ verdict answer s is at put = absurd s.1
 
-answered_says : (model name bytes text : List ℕ) (status : ℕ) (holds : Holds) (names : List (List ℕ))
-    (out out_after err err_after : Bytes) → holds model ≡ Some bytes → holds name ≡ Some text
-    → Answered status holds (Some (tables model name)) names out out_after err err_after
-    → Answers bytes text status out out_after
-answered_says model name bytes text status holds names out out_after err err_after told held a =
-    says bytes text status out out_after a.due a.verdict a.text
-    (said_by holds model name bytes text names a.due told held a.way) a.is_due a.is_status a.is_written
+answered_says : (model name bytes text : List ℕ) (status : ℕ) (shelf : ShelfSeen) (names : List (List ℕ))
+    (out err : StreamSeen) → shelf.holds model ≡ Some bytes → shelf.holds name ≡ Some text
+    → Answered status (Some (tables model name)) shelf names out err
+    → Answers bytes text status out
+answered_says model name bytes text status shelf names out err told held a =
+    says bytes text status out a.due a.verdict a.text
+    (said_by shelf.holds model name bytes text names a.due told held a.way) a.is_due a.is_status a.is_written
 
 -- how it ends by the first number of the table that is too wide
 abbrev listed_end : Surveyed → CertificateValue → Option ℕ → Result Due Refusal
@@ -105,22 +103,22 @@ listed_settled : (v : Surveyed) (c : CertificateValue) (o : Option ℕ) → IsSe
 listed_settled v c None = tt
 listed_settled v c (Some index) = tt
 
-module _ (status : ℕ) (out out_after err err_after : Bytes) (E : Type 0) (bytes text : List ℕ)
+module _ (status : ℕ) (out err : StreamSeen) (bytes text : List ℕ)
     (h : HoldTrueCertificate bytes text) where
   abbrev Given : Result Due Refusal → Type 0
-  Given end = (status ≡ 11) ⊎ IsGivenOut end status out out_after err err_after E
+  Given end = (status ≡ 11) ⊎ IsGivenOut end status out err
 
   abbrev IsWideOne : Type 0
   IsWideOne = IsWideCheck h.files ⊎ ((index : ℕ) × (wide_index h.files.survey h.files.certificate ≡ Some index))
 
   abbrev Lists : Type 0
-  Lists = Writes (tables_text h.files.survey h.files.certificate) status out out_after
+  Lists = Writes (tables_text h.files.survey h.files.certificate) status out
       ⊎ ((IsWideOne × (status ≡ 7)) ⊎ (status ≡ 11))
 
   lists_by : (o : Option ℕ) → wide_index h.files.survey h.files.certificate ≡ o
       → Given (listed_end h.files.survey h.files.certificate o) → Lists
   lists_by o is (inl eleven) = inr (inr eleven)
-  lists_by None is (inr g) = inl (g.3 ∙ ap verdict_status g.2.0, subst (Appends out out_after) g.2.1 g.4)
+  lists_by None is (inr g) = inl (g.3 ∙ ap verdict_status g.2.0, subst (Took out) g.2.1 g.4)
   lists_by (Some index) is (inr g) = inr (inl (inr (index, is), g.0))
 
   lists : (k : Check) → written_check h.files.survey h.files.certificate ≡ k
@@ -131,38 +129,34 @@ module _ (status : ℕ) (out out_after err err_after : Bytes) (E : Type 0) (byte
       absurd (rejected_is_false h.files.survey h.files.certificate part reason is h.is_true)
   lists (TooWide place) is (inr g) = inr (inl (inl (place, is), g.0))
 
-module _ (status : ℕ) (holds : Holds) (asked asked_after : ToldNames) (out out_after err err_after : Bytes)
-    (S O E : Type 0) (model name bytes text : List ℕ)
-    (m : RunMeets status (Some (tables model name)) holds asked asked_after out out_after err err_after S O E)
-    (told : holds model ≡ Some bytes) (held : holds name ≡ Some text) (no_shelf : ¬ S) (no_output : ¬ O)
+module _ (status : ℕ) (shelf : ShelfSeen) (out err : StreamSeen) (model name bytes text : List ℕ)
+    (m : RunMeets status (Some (tables model name)) shelf out err)
+    (told : shelf.holds model ≡ Some bytes) (held : shelf.holds name ≡ Some text) (neither : NeitherFailed shelf out)
     (short : length text ≤ greatest_file) (h : HoldTrueCertificate bytes text) where
   given : (k : Check) → written_check h.files.survey h.files.certificate ≡ k
-      → Given status out out_after err err_after E bytes text h
+      → Given status out err bytes text h
       (end_by (due_end h.files.survey h.files.certificate) h.files.survey k)
-  given = given_by table_due (tables model name) status holds asked asked_after out out_after err err_after S O E
-      model name bytes text (λ names end w. w) m told held no_shelf no_output short h.files
+  given = given_by table_due (tables model name) status shelf out err
+      model name bytes text (λ names end w. w) m told held neither short h.files
       (due_end h.files.survey h.files.certificate)
       (listed_settled h.files.survey h.files.certificate (wide_index h.files.survey h.files.certificate))
-      (listed_ends holds h.files.survey h.files.certificate (wide_index h.files.survey h.files.certificate))
+      (listed_ends shelf.holds h.files.survey h.files.certificate (wide_index h.files.survey h.files.certificate))
 
-  completes : Lists status out out_after err err_after E bytes text h
-  completes = lists status out out_after err err_after E bytes text h
+  completes : Lists status out err bytes text h
+  completes = lists status out err bytes text h
       (written_check h.files.survey h.files.certificate) refl
       (given (written_check h.files.survey h.files.certificate) refl)
 
-pub table_says : {status : ℕ} {form : Option Form} {holds : Holds} {asked asked_after : ToldNames}
-    {out out_after err err_after : Bytes} {S O E : Type 0}
-    → RunMeets status form holds asked asked_after out out_after err err_after S O E
-    → (model name bytes text : List ℕ) → form ≡ Some (tables model name) → holds model ≡ Some bytes
-    → holds name ≡ Some text → TableSays bytes text status out out_after S O
-table_says {status} {form} {holds} {asked} {asked_after} {out} {out_after} {err} {err_after} {S} {O} {E} m model name
-    bytes text is told held =
-    let n = subst (λ f. RunMeets status f holds asked asked_after out out_after err err_after S O E) is m in
-    let by : status < 2 → Answers bytes text status out out_after = λ low.
-    answered_says model name bytes text status holds n.names out out_after err err_after told held (n.answered low) in
+pub table_says : {status : ℕ} {form : Option Form} {shelf : ShelfSeen} {out err : StreamSeen}
+    → RunMeets status form shelf out err
+    → (model name bytes text : List ℕ) → form ≡ Some (tables model name) → shelf.holds model ≡ Some bytes
+    → shelf.holds name ≡ Some text → TableSays bytes text status shelf out
+table_says {status} {form} {shelf} {out} {err} m model name bytes text is told held =
+    let n = subst (λ f. RunMeets status f shelf out err) is m in
+    let by : status < 2 → Answers bytes text status out = λ low.
+    answered_says model name bytes text status shelf n.names out err told held (n.answered low) in
     record {
       listed = λ e. (by (omega (arith, e))).listed e;
       rejected = λ e. (by (omega (arith, e))).rejected e;
-      complete = λ no_shelf no_output short h. completes status holds asked asked_after out out_after err err_after S O
-          E model name bytes text n told held no_shelf no_output short h;
+      complete = λ neither short h. completes status shelf out err model name bytes text n told held neither short h;
     }

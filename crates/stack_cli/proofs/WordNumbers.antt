@@ -39,7 +39,7 @@ pub is_number : (word : List ℕ) (n : ℕ) → n < 2 ^ 32 → bytes_eq (decimal
 is_number word n low same =
     sym (subst (λ w. number_spelled w ≡ Some n) ((bytes_eq-Decides (decimal n) word).0 same) (spelled n low))
 
--- no number is
+-- where no number is printed as the word, the word spells none
 none_is : (word : List ℕ) → ((n : ℕ) → n < 2 ^ 32 → bytes_eq (decimal n) word ≡ true → ⊥) → None ≡ number_spelled word
 none_is word h =
     let n = digits_value 10 word in
@@ -52,7 +52,7 @@ module _ {E : Type 0} (word : List ℕ) (r : Result ℕ E) (p : ParsesUnsigned 3
   fits m is = let h = subst (λ k. ParsesUnsigned 32 10 word k) is p in let low = h.0.1 in let same = h.1 in
       omega (arith, low, same)
 
-  -- such a number would be parsed
+  -- a number that is printed as the word is parsed from it
   parsed : (n : ℕ) → n < 2 ^ 32 → bytes_eq (decimal n) word ≡ true → r ≡ Ok n
   parsed n low same = parse-decimal 32 n word r low (omega (arith, low))
       (sym ((bytes_eq-Decides (decimal n) word).0 same)) p

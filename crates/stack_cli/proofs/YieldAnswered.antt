@@ -2,8 +2,8 @@
 use Rattle.std.proofs.Common.{◌≡◌, refl, sym, subst, ap, ◌∙◌, ℕ, zero, suc, ◌+◌, ◌<◌, ℤ, Bool, true, false, List, []}
 use Rattle.std.proofs.Common.{◌∷◌, Option, Some, None, Result, Ok, Err, inl, inr, length, arith}
 use Rattle.std.specs.Prelude.{nat_eq, if◌then◌else◌}
-use Rattle.std.specs.Io.KnownBytes.{Appends}
 use Rattle.std.proofs.Math.Dec.{ltb}
+use Rattle.stack_outside.specs.Seen.{ShelfSeen, StreamSeen, Took}
 use Rattle.stack_model.specs.Structure.{Structure, load_of}
 use Rattle.stack_contact.specs.Surveyed.{Surveyed}
 use Rattle.stack_pairs.specs.Reaches.{RegionValue, collapse, points}
@@ -21,8 +21,6 @@ use Rattle.stack_forms.specs.Surveying.{greatest_file, surveyed_file}
 use Rattle.stack_forms.specs.Yielding.{loads_step, directions_step, region_step, directed, directed_file, paired_file}
 use Rattle.stack_forms.specs.Yielding.{yield_work}
 use Rattle.stack_forms.specs.AcceptedModel.{IsAcceptedModel}
-use Rattle.stack_forms.specs.Progress.{ToldNames}
-use Rattle.stack_cli.specs.Delivery.{Bytes}
 use Rattle.stack_cli.specs.MainTheorem.{Answered, RunMeets}
 use Rattle.stack_cli.specs.RegionSaid.{ModelAndDirections, RegionSays}
 use Rattle.stack_forms.proofs.Ways.{came_from}
@@ -78,7 +76,7 @@ module _ (holds : Holds) (budget : ℕ) (bytes : List ℕ) (v : Surveyed) (model
   abbrev AreNamed : ℕ × ℕ → Type 0
   AreNamed loads = pair_of v.structure i j ≡ Ok loads
 
-  -- of a text that tells directions
+  -- the same of a text that tells directions
   text_ends : (loads : ℕ × ℕ) (text : List ℕ) (r : Result (List (ℤ × ℤ)) ℕ) (names : List (List ℕ)) → AreNamed loads
       → directions_of text ≡ r
       → Ends holds (directions_step r >>= λ ds. region_step budget v loads.0 loads.1 ds
@@ -100,7 +98,7 @@ module _ (holds : Holds) (budget : ℕ) (bytes : List ℕ) (v : Surveyed) (model
       }
   text_ends loads text (Err n) names named is p = absurd p.1
 
-  -- of a file that isn't too long
+  -- the same of the bytes of a file, where they aren't too many
   bytes_end : (loads : ℕ × ℕ) (text : List ℕ) (b : Bool) (names : List (List ℕ)) → AreNamed loads
       → Ends holds ((if b then refuses (long inputs.Directions) else gives text) >>= λ t. directed budget v loads t)
       names (Ok due)
@@ -108,7 +106,7 @@ module _ (holds : Holds) (budget : ℕ) (bytes : List ℕ) (v : Surveyed) (model
   bytes_end loads text true names named p = absurd p.1
   bytes_end loads text false names named p = text_ends loads text (directions_of text) names named refl p
 
-  -- of a file that is told
+  -- the same of a file whose bytes are told
   file_ends : (loads : ℕ × ℕ) (name text : List ℕ) (names : List (List ℕ)) → AreNamed loads → holds name ≡ Some text
       → Ends holds (directed_file name budget v loads) names (Ok due) → Said bytes text i j due
   unfolding directed_file
@@ -118,14 +116,14 @@ module _ (holds : Holds) (budget : ℕ) (bytes : List ℕ) (v : Surveyed) (model
       subst (λ t. Said bytes t i j due) (told_bytes (holds name) text h.0 held h.1)
       (bytes_end loads h.0 (ltb greatest_file (length h.0)) ns named h.2)
 
-  -- of two loads
+  -- the same where the numbers name two loads
   loads_end : (name text : List ℕ) (r : Result (ℕ × ℕ) ℕ) (names : List (List ℕ)) → pair_of v.structure i j ≡ r
       → holds name ≡ Some text → Ends holds (loads_step r >>= directed_file name budget v) names (Ok due)
       → Said bytes text i j due
   loads_end name text (Ok loads) names named held p = file_ends loads name text names named held p
   loads_end name text (Err n) names named held p = absurd p.1
 
--- of both files
+-- so it is of two files whose bytes are told
 said_by : (holds : Holds) (model name bytes text : List ℕ) (i j budget : ℕ) (names : List (List ℕ)) (due : Due)
     → holds model ≡ Some bytes → holds name ≡ Some text → Ends holds (yield_work model i j name budget) names (Ok due)
     → Said bytes text i j due
@@ -151,11 +149,11 @@ files_of_answer bytes text answer i j due verdict s is = record {
 }
 
 -- what it says by its status
-says : (bytes text : List ℕ) (i j status : ℕ) (out out_after : Bytes) (files : ModelAndDirections bytes text i j)
+says : (bytes text : List ℕ) (i j status : ℕ) (out : StreamSeen) (files : ModelAndDirections bytes text i j)
     (r : RegionValue) (verdict : Verdict) (answer : List ℕ)
     → IsRegionOf files.survey files.first files.second files.directions r verdict answer
-    → status ≡ verdict_status verdict → Appends out out_after answer → RegionSays bytes text i j status out out_after
-says bytes text i j status out out_after files (points rs) verdict answer is at put = record {
+    → status ≡ verdict_status verdict → Took out answer → RegionSays bytes text i j status out
+says bytes text i j status out files (points rs) verdict answer is at put = record {
   bounds = λ e. (
     answer,
     record { files = files; reaches = rs; are_points = is.tells; is_answer = is.is_text },
@@ -163,7 +161,7 @@ says bytes text i j status out out_after files (points rs) verdict answer is at 
   );
   falls = λ e. let h : status ≡ 0 = at ∙ ap verdict_status is.is_verdict in absurd (omega (arith, h, e));
 }
-says bytes text i j status out out_after files (collapse y) verdict answer is at put = record {
+says bytes text i j status out files (collapse y) verdict answer is at put = record {
   bounds = λ e. let h : status ≡ 1 = at ∙ ap verdict_status is.is_verdict in absurd (omega (arith, h, e));
   falls = λ e. (
     answer,
@@ -173,29 +171,26 @@ says bytes text i j status out out_after files (collapse y) verdict answer is at
 }
 
 -- the same of a run that answered
-answered_says : (model name bytes text : List ℕ) (i j budget status : ℕ) (holds : Holds) (names : List (List ℕ))
-    (out out_after err err_after : Bytes) → holds model ≡ Some bytes → holds name ≡ Some text
-    → Answered status holds (Some (yields model i j name budget)) names out out_after err err_after
-    → RegionSays bytes text i j status out out_after
+answered_says : (model name bytes text : List ℕ) (i j budget status : ℕ) (shelf : ShelfSeen) (names : List (List ℕ))
+    (out err : StreamSeen) → shelf.holds model ≡ Some bytes → shelf.holds name ≡ Some text
+    → Answered status (Some (yields model i j name budget)) shelf names out err
+    → RegionSays bytes text i j status out
 unfolding files_of_answer said_by
-answered_says model name bytes text i j budget status holds names out out_after err err_after told held a =
-    let s = said_by holds model name bytes text i j budget names a.due told held a.way in
+answered_says model name bytes text i j budget status shelf names out err told held a =
+    let s = said_by shelf.holds model name bytes text i j budget names a.due told held a.way in
     let is = subst (λ d. IsAnswer d a.verdict a.text) (sym s.is_due) a.is_due in
-    says bytes text i j status out out_after (files_of_answer bytes text a.text i j a.due a.verdict s is) s.region
+    says bytes text i j status out (files_of_answer bytes text a.text i j a.due a.verdict s is) s.region
     a.verdict a.text is a.is_status a.is_written
 
--- and of each run
-pub region_says : {status : ℕ} {form : Option Form} {holds : Holds} {asked asked_after : ToldNames}
-    {out out_after err err_after : Bytes} {S O E : Type 0}
-    → RunMeets status form holds asked asked_after out out_after err err_after S O E
-    → (model : List ℕ) (i j : ℕ) (name : List ℕ) (budget : ℕ) (bytes text : List ℕ)
-    → form ≡ Some (yields model i j name budget) → holds model ≡ Some bytes → holds name ≡ Some text
-    → RegionSays bytes text i j status out out_after
-region_says {status} {form} {holds} {asked} {asked_after} {out} {out_after} {err} {err_after} {S} {O} {E} m model i j
-    name budget bytes text is told held =
-    let by : status < 2 → RegionSays bytes text i j status out out_after = λ low.
-    answered_says model name bytes text i j budget status holds m.names out out_after err err_after told held
-    (subst (λ f. Answered status holds f m.names out out_after err err_after) is (m.answered low)) in
+-- the same of each run, where it ends with 0 or 1
+pub region_says : {status : ℕ} {form : Option Form} {shelf : ShelfSeen} {out err : StreamSeen}
+    → RunMeets status form shelf out err → (model : List ℕ) (i j : ℕ) (name : List ℕ) (budget : ℕ) (bytes text : List ℕ)
+    → form ≡ Some (yields model i j name budget) → shelf.holds model ≡ Some bytes → shelf.holds name ≡ Some text
+    → RegionSays bytes text i j status out
+region_says {status} {form} {shelf} {out} {err} m model i j name budget bytes text is told held =
+    let by : status < 2 → RegionSays bytes text i j status out = λ low.
+    answered_says model name bytes text i j budget status shelf m.names out err told held
+    (subst (λ f. Answered status f shelf m.names out err) is (m.answered low)) in
     record {
       bounds = λ e. (by (omega (arith, e))).bounds e;
       falls = λ e. (by (omega (arith, e))).falls e;

@@ -1,7 +1,7 @@
 -- What the two answers of `check MODEL CERT` mean of the bytes of its files: `accepted`, that the certificate in the
 -- second is true of the model in the first; a rejection, that it isn't.
 use Rattle.std.specs.Prelude.{◌≡◌, ℕ, ◌≤◌, ◌⊎◌, List, Some, Ok, length}
-use Rattle.std.specs.Io.KnownBytes.{Appends}
+use Rattle.stack_outside.specs.Seen.{ShelfSeen, StreamSeen, NeitherFailed, Took}
 use Rattle.stack_contact.specs.Surveyed.{Surveyed}
 use Rattle.stack_certificate.specs.Certificate.{CertificateValue}
 use Rattle.stack_certificate.specs.CertificateOf.{certificate_of}
@@ -18,7 +18,6 @@ use Rattle.stack_lines.specs.CheckText.{accepted_text, rejected_text}
 use Rattle.stack_forms.specs.Work.{Holds, Ends}
 use Rattle.stack_forms.specs.Surveying.{greatest_file}
 use Rattle.stack_forms.specs.Checking.{check_work}
-use Rattle.stack_cli.specs.Delivery.{Bytes}
 use Rattle.stack_forms.specs.AcceptedModel.{IsAcceptedModel}
 use Rattle.stack_cli.specs.Printed.{acceptance}
 
@@ -69,14 +68,14 @@ IsWideCheck files = (place : CheckPlace) × (written_check files.survey files.ce
 -- model; with 1 exactly the line of a rejection was written, and it isn't. And where neither the shelf nor the output
 -- failed, a true certificate is accepted and a false one rejected, unless a number of the check is too wide or memory
 -- is wanting.
-pub record CheckSays (bytes text : List ℕ) (status : ℕ) (out out_after : Bytes) (shelf_rose out_rose : Type 0)
+pub record CheckSays (bytes text : List ℕ) (status : ℕ) (shelf : ShelfSeen) (out : StreamSeen)
     : Type 0 where
-  pub accepted : status ≡ 0 → HoldTrueCertificate bytes text × Appends out out_after accepted_text
+  pub accepted : status ≡ 0 → HoldTrueCertificate bytes text × Took out accepted_text
   pub rejected : status ≡ 1
-      → (line : List ℕ) × HoldFalseCertificate bytes text line × Appends out out_after line
-  pub true_one : ¬ shelf_rose → ¬ out_rose → length text ≤ greatest_file → (files : ModelAndCertificate bytes text)
+      → (line : List ℕ) × HoldFalseCertificate bytes text line × Took out line
+  pub true_one : NeitherFailed shelf out → length text ≤ greatest_file → (files : ModelAndCertificate bytes text)
       → IsTrueCertificate files.survey files.certificate
       → (status ≡ 0) ⊎ ((IsWideCheck files × (status ≡ 7)) ⊎ (status ≡ 11))
-  pub false_one : ¬ shelf_rose → ¬ out_rose → length text ≤ greatest_file → (files : ModelAndCertificate bytes text)
+  pub false_one : NeitherFailed shelf out → length text ≤ greatest_file → (files : ModelAndCertificate bytes text)
       → ¬ (IsTrueCertificate files.survey files.certificate)
       → (status ≡ 1) ⊎ ((IsWideCheck files × (status ≡ 7)) ⊎ (status ≡ 11))

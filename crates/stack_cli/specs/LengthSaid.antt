@@ -1,5 +1,6 @@
 -- How a run refuses a file that is too long, for every form of words, and that status 4 comes of no other cause.
 use Rattle.std.specs.Prelude.{◌≡◌, ℕ, ◌<◌, ◌⊎◌, List, [], ◌∷◌, Some, Ok, length}
+use Rattle.stack_outside.specs.Seen.{ShelfSeen, StreamSeen, NeitherFailed}
 use Rattle.stack_contact.specs.Surveyed.{Surveyed}
 use Rattle.stack_yield.specs.Pairing.{pair_of}
 use Rattle.stack_lines.specs.declared.refusal.Input.{Input}
@@ -10,7 +11,6 @@ use Rattle.stack_forms.specs.Forms.{Form, files_of, check, tables, builds, yield
 use Rattle.stack_forms.specs.OneEnd.{AreTold}
 use Rattle.stack_forms.specs.Surveying.{greatest_file}
 use Rattle.stack_forms.specs.Work.{Holds}
-use Rattle.stack_cli.specs.Delivery.{Bytes}
 use Rattle.stack_cli.specs.ModelSaid.{IsRefused}
 
 -- One of these files is told, and has more bytes than may be.
@@ -29,10 +29,10 @@ ReadsFurther (yields m i j n budget) v model name input = (m ≡ model) × (n �
 ReadsFurther _ v model name input = ⊥
 
 -- What a run says of the length of its files.
-pub record LengthSays (form : Form) (holds : Holds) (status : ℕ) (out out_after err err_after : Bytes)
-    (shelf_rose out_rose err_rose : Type 0) : Type 0 where
-  pub further_one : ¬ shelf_rose → ¬ out_rose → (v : Surveyed) (model name bytes text : List ℕ) (input : Input)
-      → holds model ≡ Some bytes → holds name ≡ Some text → IsAcceptedModel bytes v
+pub record LengthSays (form : Form) (status : ℕ) (shelf : ShelfSeen) (out err : StreamSeen) : Type 0 where
+  pub further_one : NeitherFailed shelf out → (v : Surveyed) (model name bytes text : List ℕ) (input : Input)
+      → shelf.holds model ≡ Some bytes → shelf.holds name ≡ Some text → IsAcceptedModel bytes v
       → ReadsFurther form v model name input → greatest_file < length text
-      → IsRefused (long input) status out out_after err err_after err_rose
-  pub only_long : AreTold holds (files_of (Some form)) → status ≡ 4 → SomeIsLong holds (files_of (Some form))
+      → IsRefused (long input) status out err
+  pub only_long : AreTold shelf.holds (files_of (Some form)) → status ≡ 4
+      → SomeIsLong shelf.holds (files_of (Some form))

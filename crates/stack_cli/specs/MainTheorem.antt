@@ -1,93 +1,90 @@
 -- The theorem on the top call: every status, every byte written and every file asked for, over any devices. It has
 -- no premise: it says as much of the files' contents as the shelf tells, and as much of what was written as the
--- sinks tell. Want of memory, status 11, is the one free answer.
+-- streams tell. Want of memory, status 11, is the one free answer.
 use Rattle.std.specs.Prelude.{◌≡◌, ℕ, ◌<◌, ◌≤◌, ◌⊎◌, List, take, Option, None, Result, Ok, Err, ⊤}
-use Rattle.std.specs.Io.KnownBytes.{Appends, Keeps}
+use Rattle.stack_outside.specs.Seen.{ShelfSeen, StreamSeen, ShelfFailed, StreamFailed, NeitherFailed, Took}
+use Rattle.stack_outside.specs.Seen.{TookNothing}
 use Rattle.stack_lines.specs.declared.answer.Verdict.{Verdict}
 use Rattle.stack_forms.specs.Forms.{Form, files_of}
 use Rattle.stack_lines.specs.Refusals.{Refusal, file, faulty, memory, output, status_of}
 use Rattle.stack_lines.specs.Answers.{Due, IsAnswer, verdict_status}
-use Rattle.stack_forms.specs.Work.{Holds}
-use Rattle.stack_forms.specs.Progress.{ToldNames, GrewBy, Way}
-use Rattle.stack_cli.specs.Delivery.{Bytes, SaysLine}
+use Rattle.stack_forms.specs.Progress.{AskedFor, Way}
+use Rattle.stack_cli.specs.Delivery.{SaysLine}
 
--- A way through the work gives what is due, the whole of it was written on the output, and nothing on the error
--- stream.
-pub record Answered (status : ℕ) (holds : Holds) (form : Option Form) (names : List (List ℕ))
-    (out out_after err err_after : Bytes) : Type 0 where
+-- A way through the work that asks for these files gives what is due, the whole of it was written on the output, and
+-- nothing on the error stream.
+pub record Answered (status : ℕ) (form : Option Form) (shelf : ShelfSeen) (names : List (List ℕ))
+    (out err : StreamSeen) : Type 0 where
   pub due : Due
-  pub way : Way holds form names (Ok due)
+  pub way : Way shelf.holds form names (Ok due)
   pub verdict : Verdict
   pub text : List ℕ
   pub is_due : IsAnswer due verdict text
   pub is_status : status ≡ verdict_status verdict
-  pub is_written : Appends out out_after text
-  pub is_silent : Keeps err err_after
+  pub is_written : Took out text
+  pub is_silent : TookNothing err
 
 -- A front of an answer was written.
-pub record WritesFront (holds : Holds) (form : Option Form) (names : List (List ℕ))
-    (out out_after : Bytes) : Type 0 where
+pub record WritesFront (form : Option Form) (shelf : ShelfSeen) (names : List (List ℕ)) (out : StreamSeen)
+    : Type 0 where
   pub due : Due
-  pub way : Way holds form names (Ok due)
+  pub way : Way shelf.holds form names (Ok due)
   pub verdict : Verdict
   pub text : List ℕ
   pub is_due : IsAnswer due verdict text
   pub kept : ℕ
-  pub is_written : Appends out out_after (take kept text)
+  pub is_written : Took out (take kept text)
 
 -- What is on the output where the run refuses so: nothing new, but for an output that failed.
-abbrev pub OutputAfter : Refusal → Holds → Option Form → List (List ℕ) → Bytes → Bytes → Type 0
-OutputAfter output holds form names out out_after = WritesFront holds form names out out_after
-OutputAfter _ holds form names out out_after = Keeps out out_after
+abbrev pub OutputAfter : Refusal → Option Form → ShelfSeen → List (List ℕ) → StreamSeen → Type 0
+OutputAfter output form shelf names out = WritesFront form shelf names out
+OutputAfter _ form shelf names out = TookNothing out
 
 -- Why the run refuses so: the shelf failed at a file that the work reads, the last that was asked for; the output
 -- failed; memory was wanting; else a way through the work refuses so.
-abbrev pub Cause : Refusal → Holds → Option Form → List (List ℕ) → Type 0 → Type 0 → Type 0
-Cause (file input) holds form names shelf_rose out_rose = shelf_rose × Way holds form names (Err (file input))
-Cause output holds form names shelf_rose out_rose = out_rose
-Cause (faulty memory) holds form names shelf_rose out_rose = ⊤
-Cause r holds form names shelf_rose out_rose = Way holds form names (Err r)
+abbrev pub Cause : Refusal → Option Form → ShelfSeen → List (List ℕ) → StreamSeen → Type 0
+Cause (file input) form shelf names out = ShelfFailed shelf × Way shelf.holds form names (Err (file input))
+Cause output form shelf names out = StreamFailed out
+Cause (faulty memory) form shelf names out = ⊤
+Cause r form shelf names out = Way shelf.holds form names (Err r)
 
 -- There is a refusal with this status and a cause, and on the error stream, where that didn't fail, exactly its line
 -- was written.
-pub record Refused (status : ℕ) (holds : Holds) (form : Option Form) (names : List (List ℕ))
-    (out out_after err err_after : Bytes) (shelf_rose out_rose err_rose : Type 0) : Type 0 where
+pub record Refused (status : ℕ) (form : Option Form) (shelf : ShelfSeen) (names : List (List ℕ))
+    (out err : StreamSeen) : Type 0 where
   pub refusal : Refusal
   pub is_status : status ≡ status_of refusal
-  pub cause : Cause refusal holds form names shelf_rose out_rose
-  pub on_output : OutputAfter refusal holds form names out out_after
-  pub line : SaysLine refusal err err_after err_rose
+  pub cause : Cause refusal form shelf names out
+  pub on_output : OutputAfter refusal form shelf names out
+  pub line : SaysLine refusal err
 
 -- Exactly what an end of the work says was given out: the status and the whole answer, or the status and the one
 -- line.
-abbrev pub IsGivenOut : Result Due Refusal → ℕ → Bytes → Bytes → Bytes → Bytes → Type 0 → Type 0
-IsGivenOut (Ok due) status out out_after err err_after err_rose =
+abbrev pub IsGivenOut : Result Due Refusal → (status : ℕ) → (out err : StreamSeen) → Type 0
+IsGivenOut (Ok due) status out err =
     (verdict : Verdict) × (text : List ℕ) × IsAnswer due verdict text × (status ≡ verdict_status verdict)
-    × Appends out out_after text × Keeps err err_after
-IsGivenOut (Err r) status out out_after err err_after err_rose =
-    (status ≡ status_of r) × Keeps out out_after × SaysLine r err err_after err_rose
+    × Took out text × TookNothing err
+IsGivenOut (Err r) status out err = (status ≡ status_of r) × TookNothing out × SaysLine r err
 
--- The theorem. A run ends with this status; its words have this form, if any; the shelf holds these files; before
--- and after it stand the names asked for and the bytes on the output and on the error stream; and the counts of
--- faults of the three devices rose in it. All its fields speak of ways through the work that ask for the same files.
-pub record RunMeets (status : ℕ) (form : Option Form) (holds : Holds) (asked asked_after : ToldNames)
-    (out out_after err err_after : Bytes) (shelf_rose out_rose err_rose : Type 0) : Type 0 where
+-- The theorem. A run ends with this status; its words have this form, if any; and this is seen of its shelf, its output
+-- and its error stream. All its fields speak of ways through the work that ask for the same files.
+pub record RunMeets (status : ℕ) (form : Option Form) (shelf : ShelfSeen) (out err : StreamSeen) : Type 0 where
   pub names : List (List ℕ)
   -- exactly the files of a way through the work were asked for, in its order
-  pub asks : GrewBy asked asked_after names
-  pub wanted : (end : Result Due Refusal) × Way holds form names end
+  pub asks : AskedFor shelf names
+  pub wanted : (end : Result Due Refusal) × Way shelf.holds form names end
   -- they are a front of those that the words name
-  pub asks_named : (n : ℕ) × GrewBy asked asked_after (take n (files_of form))
+  pub asks_named : (n : ℕ) × AskedFor shelf (take n (files_of form))
   -- a status of 0 or 1 is an answer, written whole
-  pub answered : status < 2 → Answered status holds form names out out_after err err_after
+  pub answered : status < 2 → Answered status form shelf names out err
   -- any other is a refusal, with its cause and its line, and leaves the output as it was unless that failed
-  pub refused : 2 ≤ status → Refused status holds form names out out_after err err_after shelf_rose out_rose err_rose
+  pub refused : 2 ≤ status → Refused status form shelf names out err
   -- where neither the shelf nor the output failed, a way through the work decides
-  pub decided : ¬ shelf_rose → ¬ out_rose → (status ≡ 11) ⊎ ((end : Result Due Refusal) × Way holds form names end
-      × IsGivenOut end status out out_after err err_after err_rose)
+  pub decided : NeitherFailed shelf out → (status ≡ 11) ⊎ ((end : Result Due Refusal)
+      × Way shelf.holds form names end × IsGivenOut end status out err)
   -- 2 comes exactly where the words have no form, whatever the devices do
   pub without_form : form ≡ None → (status ≡ 2) ⊎ (status ≡ 11)
   pub only_without_form : status ≡ 2 → form ≡ None
   -- 3 comes only where the shelf failed, and 10 only where the output did
-  pub shelf_failed : status ≡ 3 → shelf_rose
-  pub output_failed : status ≡ 10 → out_rose
+  pub shelf_failed : status ≡ 3 → ShelfFailed shelf
+  pub output_failed : status ≡ 10 → StreamFailed out

@@ -1,7 +1,7 @@
 -- What `stand` and `load` print is accepted: `check` of the printed text with the same model comes to that answer,
 -- and to no other but for want of memory and devices that fail. And it is short enough to be read.
 use Rattle.std.specs.Prelude.{◌≡◌, ℕ, ◌<◌, ◌⊎◌, List, [], ◌∷◌, Some, Result, Ok, length}
-use Rattle.std.specs.Io.KnownBytes.{Appends}
+use Rattle.stack_outside.specs.Seen.{ShelfSeen, StreamSeen, ShelfFailed, StreamFailed, Took}
 use Rattle.stack_contact.specs.Surveyed.{Surveyed}
 use Rattle.stack_certificate.specs.Certificate.{CertificateValue}
 use Rattle.stack_certificate.specs.CertificateText.{IsCertificateText, text_bound}
@@ -15,7 +15,6 @@ use Rattle.stack_forms.specs.Work.{Holds, Ends}
 use Rattle.stack_forms.specs.Checking.{check_work}
 use Rattle.stack_forms.specs.AcceptedModel.{IsAcceptedModel}
 use Rattle.stack_forms.specs.OneEnd.{IsSettled}
-use Rattle.stack_cli.specs.Delivery.{Bytes}
 
 -- How a check ends that accepts: with `accepted`, and status 0.
 abbrev pub acceptance : Result Due Refusal
@@ -37,7 +36,7 @@ PrintedIsShort = (q : Question) (v : Surveyed) (c : CertificateValue) (text : Li
 
 -- What a run of `check` on a printed certificate and its model comes to: `accepted`, with status 0; or the shelf
 -- failed, with 3, or the output, with 10; or memory is wanting.
-abbrev pub IsAcceptedAgain : (status : ℕ) → (out out_after : Bytes) → (shelf_rose out_rose : Type 0) → Type 0
-IsAcceptedAgain status out out_after shelf_rose out_rose =
-    ((status ≡ 0) × Appends out out_after accepted_text)
-    ⊎ (((status ≡ 3) × shelf_rose) ⊎ (((status ≡ 10) × out_rose) ⊎ (status ≡ 11)))
+abbrev pub IsAcceptedAgain : (status : ℕ) → ShelfSeen → (out : StreamSeen) → Type 0
+IsAcceptedAgain status shelf out =
+    ((status ≡ 0) × Took out accepted_text)
+    ⊎ (((status ≡ 3) × ShelfFailed shelf) ⊎ (((status ≡ 10) × StreamFailed out) ⊎ (status ≡ 11)))

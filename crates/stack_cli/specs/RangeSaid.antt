@@ -1,7 +1,7 @@
 -- What the two answers of `range MODEL [PIVOTS]` mean of the bytes of its file: a range, that the factors which the
 -- model in it carries are exactly those between both ends; a collapse, that its dead loads fall by themselves.
 use Rattle.std.specs.Prelude.{◌≡◌, ℕ, List}
-use Rattle.std.specs.Io.KnownBytes.{Appends}
+use Rattle.stack_outside.specs.Seen.{StreamSeen, Took}
 use Rattle.stack_contact.specs.Surveyed.{Surveyed}
 use Rattle.stack_certificate.specs.Certificate.{MotionValue, collapses}
 use Rattle.stack_certificate.specs.CertificateText.{certificate_text}
@@ -10,7 +10,6 @@ use Rattle.stack_judge.specs.Judged.{IsJudged}
 use Rattle.stack_range.specs.CarriedFactors.{EndValue}
 use Rattle.stack_range.specs.Ranged.{between, IsRangeBetween}
 use Rattle.stack_range.specs.RangeText.{range_text}
-use Rattle.stack_cli.specs.Delivery.{Bytes}
 use Rattle.stack_forms.specs.AcceptedModel.{IsAcceptedModel}
 
 -- The bytes are an accepted model. Each end has a certificate that is true of its side and accepted, and the factors of
@@ -33,6 +32,6 @@ pub record HoldsFall (bytes text : List ℕ) : Type 0 where
 
 -- What a run of `range` says by its status: with 0 exactly the text of the range of its model was written, and with 1
 -- exactly that of a collapse of its model.
-pub record RangeSays (bytes : List ℕ) (status : ℕ) (out out_after : Bytes) : Type 0 where
-  pub ranges : status ≡ 0 → (text : List ℕ) × HoldsRange bytes text × Appends out out_after text
-  pub falls : status ≡ 1 → (text : List ℕ) × HoldsFall bytes text × Appends out out_after text
+pub record RangeSays (bytes : List ℕ) (status : ℕ) (out : StreamSeen) : Type 0 where
+  pub ranges : status ≡ 0 → (text : List ℕ) × HoldsRange bytes text × Took out text
+  pub falls : status ≡ 1 → (text : List ℕ) × HoldsFall bytes text × Took out text

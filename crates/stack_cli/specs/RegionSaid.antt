@@ -2,7 +2,7 @@
 -- points span is carried, and that its half-planes hold all that is; a collapse, that the dead loads of the model fall
 -- by themselves.
 use Rattle.std.specs.Prelude.{◌≡◌, ℕ, ◌+◌, ℤ, List}
-use Rattle.std.specs.Io.KnownBytes.{Appends}
+use Rattle.stack_outside.specs.Seen.{StreamSeen, Took}
 use Rattle.stack_contact.specs.Surveyed.{Surveyed}
 use Rattle.stack_certificate.specs.Certificate.{MotionValue, collapses}
 use Rattle.stack_certificate.specs.CertificateText.{certificate_text}
@@ -11,7 +11,6 @@ use Rattle.stack_pairs.specs.Directed.{ArePair}
 use Rattle.stack_pairs.specs.Reaches.{ReachValue, points, ArePoints}
 use Rattle.stack_yield.specs.Directions.{AreDirections}
 use Rattle.stack_yield.specs.RegionText.{region_text}
-use Rattle.stack_cli.specs.Delivery.{Bytes}
 use Rattle.stack_forms.specs.AcceptedModel.{IsAcceptedModel}
 
 -- The first file is an accepted model, with this survey; i and j are the numbers from 1 of two different live loads of
@@ -46,7 +45,7 @@ pub record HoldFallBeforeLoads (bytes text answer : List ℕ) (i j : ℕ) : Type
 
 -- What a run of `yield` says by its status: with 0 exactly the text of a region of both loads was written, and with 1
 -- exactly that of a collapse of the model.
-pub record RegionSays (bytes text : List ℕ) (i j status : ℕ) (out out_after : Bytes) : Type 0 where
-  pub bounds : status ≡ 0 → (answer : List ℕ) × HoldRegion bytes text answer i j × Appends out out_after answer
+pub record RegionSays (bytes text : List ℕ) (i j status : ℕ) (out : StreamSeen) : Type 0 where
+  pub bounds : status ≡ 0 → (answer : List ℕ) × HoldRegion bytes text answer i j × Took out answer
   pub falls : status ≡ 1 → (answer : List ℕ) × HoldFallBeforeLoads bytes text answer i j
-      × Appends out out_after answer
+      × Took out answer

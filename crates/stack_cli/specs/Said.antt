@@ -2,7 +2,7 @@
 -- answer is given where it is due, if neither the shelf nor the output failed: else memory is wanting, status 11. None
 -- of these but `table` ends with 1.
 use Rattle.std.specs.Prelude.{◌≡◌, ◌≢◌, ℕ, ◌≤◌, ◌⊎◌, List, Some, None, Ok, Err, length}
-use Rattle.std.specs.Io.KnownBytes.{Appends}
+use Rattle.stack_outside.specs.Seen.{ShelfSeen, StreamSeen, NeitherFailed, Took}
 use Rattle.stack_model.specs.Structure.{Structure}
 use Rattle.stack_reader.specs.Reading.{structure_of}
 use Rattle.stack_overhang.specs.declared.error.StackError.TheVariants.{Size}
@@ -21,54 +21,53 @@ use Rattle.stack_forms.specs.Surveying.{greatest_file}
 use Rattle.stack_forms.specs.Stacking.{stack_of}
 use Rattle.stack_forms.specs.Sampling.{sample_of}
 use Rattle.stack_forms.specs.Tables.{tables_text}
-use Rattle.stack_cli.specs.Delivery.{Bytes}
 use Rattle.stack_forms.specs.AcceptedModel.{IsAcceptedModel}
 use Rattle.stack_cli.specs.Accepted.{HoldTrueCertificate, HoldFalseCertificate, IsWideCheck}
 
 -- This text was written whole, with status 0.
-abbrev pub Writes : List ℕ → (status : ℕ) → Bytes → Bytes → Type 0
-Writes text status out out_after = (status ≡ 0) × Appends out out_after text
+abbrev pub Writes : List ℕ → (status : ℕ) → StreamSeen → Type 0
+Writes text status out = (status ≡ 0) × Took out text
 
 -- `contacts`: the file is an accepted model, and the table of its survey was written.
-pub record ContactsSay (bytes : List ℕ) (status : ℕ) (out out_after : Bytes) (shelf_rose out_rose : Type 0)
+pub record ContactsSay (bytes : List ℕ) (status : ℕ) (shelf : ShelfSeen) (out : StreamSeen)
     : Type 0 where
   pub never_denied : status ≢ 1
-  pub listed : status ≡ 0 → (v : Surveyed) × IsAcceptedModel bytes v × Appends out out_after (contacts_text v)
-  pub complete : ¬ shelf_rose → ¬ out_rose → (v : Surveyed) → IsAcceptedModel bytes v
-      → Writes (contacts_text v) status out out_after ⊎ (status ≡ 11)
+  pub listed : status ≡ 0 → (v : Surveyed) × IsAcceptedModel bytes v × Took out (contacts_text v)
+  pub complete : NeitherFailed shelf out → (v : Surveyed) → IsAcceptedModel bytes v
+      → Writes (contacts_text v) status out ⊎ (status ≡ 11)
 
 -- `table`: with 0 the certificate is true of the model, no number of its table is too wide, and both tables were
 -- written; with 1 it isn't true, and the line of the rejection was written. A true one is listed, unless a number of
 -- the check or of the table is too wide.
-pub record TableSays (bytes text : List ℕ) (status : ℕ) (out out_after : Bytes) (shelf_rose out_rose : Type 0)
+pub record TableSays (bytes text : List ℕ) (status : ℕ) (shelf : ShelfSeen) (out : StreamSeen)
     : Type 0 where
   pub listed : status ≡ 0 → (h : HoldTrueCertificate bytes text)
       × (wide_index h.files.survey h.files.certificate ≡ None)
-      × Appends out out_after (tables_text h.files.survey h.files.certificate)
-  pub rejected : status ≡ 1 → (line : List ℕ) × HoldFalseCertificate bytes text line × Appends out out_after line
-  pub complete : ¬ shelf_rose → ¬ out_rose → length text ≤ greatest_file → (h : HoldTrueCertificate bytes text)
-      → Writes (tables_text h.files.survey h.files.certificate) status out out_after
+      × Took out (tables_text h.files.survey h.files.certificate)
+  pub rejected : status ≡ 1 → (line : List ℕ) × HoldFalseCertificate bytes text line × Took out line
+  pub complete : NeitherFailed shelf out → length text ≤ greatest_file → (h : HoldTrueCertificate bytes text)
+      → Writes (tables_text h.files.survey h.files.certificate) status out
       ⊎ (((IsWideCheck h.files ⊎ ((index : ℕ) × (wide_index h.files.survey h.files.certificate ≡ Some index)))
       × (status ≡ 7)) ⊎ (status ≡ 11))
 
 -- `stack`: a document was written that reads to the built-in structure of this kind and size; status 5 comes exactly
 -- where there is no such size.
-pub record StackSays (kind : Kind) (n status : ℕ) (out out_after : Bytes) (shelf_rose out_rose : Type 0) : Type 0 where
+pub record StackSays (kind : Kind) (n status : ℕ) (shelf : ShelfSeen) (out : StreamSeen) : Type 0 where
   pub never_denied : status ≢ 1
   pub described : status ≡ 0 → (s : Structure) × (text : List ℕ) × (stack_of kind n ≡ Ok s)
-      × (structure_of text ≡ Ok s) × Appends out out_after text
-  pub complete : ¬ shelf_rose → ¬ out_rose → (s : Structure) → stack_of kind n ≡ Ok s
-      → ((text : List ℕ) × (structure_of text ≡ Ok s) × Writes text status out out_after) ⊎ (status ≡ 11)
-  pub without_size : ¬ shelf_rose → ¬ out_rose → stack_of kind n ≡ Err Size → (status ≡ 5) ⊎ (status ≡ 11)
+      × (structure_of text ≡ Ok s) × Took out text
+  pub complete : NeitherFailed shelf out → (s : Structure) → stack_of kind n ≡ Ok s
+      → ((text : List ℕ) × (structure_of text ≡ Ok s) × Writes text status out) ⊎ (status ≡ 11)
+  pub without_size : NeitherFailed shelf out → stack_of kind n ≡ Err Size → (status ≡ 5) ⊎ (status ≡ 11)
   pub only_without_size : status ≡ 5 → stack_of kind n ≡ Err Size
 
 -- `sample`: the wall with this number has this survey, the certificate of its live question is true, so that a factor
 -- it prints is the greatest, and its summary was written.
-pub record SampleSays (number status : ℕ) (out out_after : Bytes) (shelf_rose out_rose : Type 0) : Type 0 where
+pub record SampleSays (number status : ℕ) (shelf : ShelfSeen) (out : StreamSeen) : Type 0 where
   pub never_denied : status ≢ 1
   pub summed : status ≡ 0 → (s : Structure) × (v : Surveyed) × (c : CertificateValue) × (sample_of number ≡ Ok s)
       × IsSurvey s v × IsJudged Live v c
-      × Appends out out_after (summary_text number v c (is_narrow Live v default_budget))
-  pub complete : ¬ shelf_rose → ¬ out_rose → (s : Structure) (v : Surveyed) (c : CertificateValue)
+      × Took out (summary_text number v c (is_narrow Live v default_budget))
+  pub complete : NeitherFailed shelf out → (s : Structure) (v : Surveyed) (c : CertificateValue)
       → sample_of number ≡ Ok s → IsSurvey s v → judgement Live v default_budget ≡ certified c
-      → Writes (summary_text number v c (is_narrow Live v default_budget)) status out out_after ⊎ (status ≡ 11)
+      → Writes (summary_text number v c (is_narrow Live v default_budget)) status out ⊎ (status ≡ 11)

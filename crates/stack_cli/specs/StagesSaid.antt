@@ -2,13 +2,12 @@
 -- stage of the order in the second carries its dead loads; that one falls, that those before it do and that its own are
 -- carried by no forces of any scale.
 use Rattle.std.specs.Prelude.{◌≡◌, ℕ, List, Ok}
-use Rattle.std.specs.Io.KnownBytes.{Appends}
+use Rattle.stack_outside.specs.Seen.{StreamSeen, Took}
 use Rattle.stack_contact.specs.Surveyed.{Surveyed}
 use Rattle.stack_certificate.specs.Certificate.{ForcesValue, MotionValue}
 use Rattle.stack_stages.specs.OrderRead.{order_of}
 use Rattle.stack_stages.specs.Staged.{all_stand, falls, AreTrue, AreSettled}
 use Rattle.stack_stages.specs.StagesText.{stages_text}
-use Rattle.stack_cli.specs.Delivery.{Bytes}
 use Rattle.stack_forms.specs.AcceptedModel.{IsAcceptedModel}
 
 -- The first file is an accepted model, with this survey, and the second tells an order of building of it.
@@ -38,6 +37,6 @@ pub record HoldFallingStage (bytes text answer : List ℕ) : Type 0 where
 
 -- What a run of `stages` says by its status: with 0 exactly that all stages stand was written, and with 1 exactly which
 -- one falls.
-pub record StagesSay (bytes text : List ℕ) (status : ℕ) (out out_after : Bytes) : Type 0 where
-  pub stand : status ≡ 0 → (answer : List ℕ) × HoldStages bytes text answer × Appends out out_after answer
-  pub fall : status ≡ 1 → (answer : List ℕ) × HoldFallingStage bytes text answer × Appends out out_after answer
+pub record StagesSay (bytes text : List ℕ) (status : ℕ) (out : StreamSeen) : Type 0 where
+  pub stand : status ≡ 0 → (answer : List ℕ) × HoldStages bytes text answer × Took out answer
+  pub fall : status ≡ 1 → (answer : List ℕ) × HoldFallingStage bytes text answer × Took out answer

@@ -94,7 +94,7 @@ abbrev pub form_of_five : List ℕ → List ℕ → List ℕ → List ℕ → Li
 form_of_five word next third fourth last = if bytes_eq word (codes "yield")
     then yielding next (number_spelled third) (number_spelled fourth) last (Some default_budget) else None
 
--- Six words: a budget behind these.
+-- Six words: the same five, and a budget.
 abbrev pub form_of_six : List ℕ → List ℕ → List ℕ → List ℕ → List ℕ → List ℕ → Option Form
 form_of_six word next third fourth fifth last = if bytes_eq word (codes "yield")
     then yielding next (number_spelled third) (number_spelled fourth) fifth (budget_of last) else None

@@ -1,12 +1,13 @@
 //! The top call.
 
-ghost use Rattle.std.specs.Prelude.{◌≡◌, ◌≤◌, ◌⊎◌};
+ghost use Rattle.std.specs.Prelude.{◌≡◌, ◌≤◌, ◌⊎◌, IfSome, IfNone};
 ghost use Rattle.std.specs.Option.{option_map};
-ghost use Rattle.stack_outside.specs.Faults.{Rose, counted};
-ghost use Rattle.stack_lines.specs.Refusals.{refusal_view};
-ghost use Rattle.stack_forms.specs.Progress.{Works, IsCausedBy};
+ghost use Rattle.stack_outside.specs.Faults.{counted};
+ghost use Rattle.stack_outside.specs.Seen.{seen_shelf, seen_stream};
+ghost use Rattle.stack_lines.specs.Refusals.{refusal_view, refusal_line};
+ghost use Rattle.stack_forms.specs.Progress.{Works};
 ghost use Rattle.stack_cli.specs.Words.{form_of, texts};
-ghost use Rattle.stack_cli.specs.Delivery.{Delivers, SaysLine};
+ghost use Rattle.stack_cli.specs.Delivery.{with_line_feed, TakesMemory, Delivers, SaysLine};
 ghost use Rattle.stack_cli.specs.OnePut.{PutsAnswer, PutsLine};
 ghost use Rattle.stack_cli.specs.MainTheorem.{RunMeets};
 ghost use Rattle.stack_cli.specs.RunSaid.{RunSays};
@@ -18,21 +19,35 @@ use stack_lines::{Answer, Refusal};
 use stack_outside::{Shelf, Sink, SinkFailed};
 use std::alloc::Global;
 
+/// The line of a refusal that tells nothing but which it is, with its line feed. It takes no memory.
+fn constant_line(refusal: &Refusal) -> Option<&'static str>
+    ensures some { IfSome result (λ line. line.now ≡ with_line_feed (refusal_line (refusal_view refusal.now))) }
+    ensures none { IfNone result (TakesMemory (refusal_view refusal.now)) }
+{
+    match refusal {
+        Refusal::Words => Some("words\n"),
+        Refusal::Output => Some("output\n"),
+        Refusal::Memory => Some("memory\n"),
+        _ => None,
+    }
+}
+
 /// Puts the refusal's line on `err`, in one put, and gives the refusal: where memory for the line is wanting, that
-/// refusal. The line of that one is a constant.
+/// refusal.
 #[tactic(auto, using(crate::proofs::Outcomes::line_put))]
 fn say<E: Sink>(alloc: Global, refusal: Refusal, err: &mut E) -> Refusal
-    ensures which { (result ≡ refusal) ⊎ (result ≡ Refusal.Memory) }
-    ensures line { SaysLine (refusal_view result) (E.written err.old) (E.written err.new)
-        (Rose (E.faults err.old) (E.faults err.new)) }
+    ensures which { (result ≡ refusal) ⊎ (TakesMemory (refusal_view refusal) × (result ≡ Refusal.Memory)) }
+    ensures line { SaysLine (refusal_view result) (seen_stream E.Sink err.old err.new) }
     ensures call { E.calls err.new ≡ option_map counted (E.calls err.old) }
     ensures later { E.faults err.old ≤ E.faults err.new }
 {
-    if !matches!(refusal, Refusal::Memory) {
-        if let Ok(line) = format!(in alloc; "{refusal}\n") {
-            let _ = err.put(line.as_bytes());
-            return refusal;
-        }
+    if let Some(constant) = constant_line(&refusal) {
+        let _ = err.put(constant.as_bytes());
+        return refusal;
+    }
+    if let Ok(line) = format!(in alloc; "{refusal}\n") {
+        let _ = err.put(line.as_bytes());
+        return refusal;
     }
     let _ = err.put(b"memory\n");
     Refusal::Memory
@@ -40,38 +55,35 @@ fn say<E: Sink>(alloc: Global, refusal: Refusal, err: &mut E) -> Refusal
 
 /// Writes the answer in one put on `out`, or the line of the refusal on `err`, and gives the status.
 #[tactic(auto, using(crate::proofs::Outcomes::line_put))]
-fn deliver<O: Sink, E: Sink>(
+pub fn deliver<O: Sink, E: Sink>(
     alloc: Global,
     worked: Result<Answer, Refusal>,
     out: &mut O,
     err: &mut E,
 ) -> u8
-    ensures delivers { Delivers worked result (O.written out.old) (O.written out.new) (E.written err.old)
-        (E.written err.new) (Rose (O.faults out.old) (O.faults out.new)) (Rose (E.faults err.old) (E.faults err.new)) }
-    ensures one_put { PutsAnswer result (O.calls out.old) (O.calls out.new) }
-    ensures one_line { PutsLine result (E.calls err.old) (E.calls err.new) }
+    ensures delivers { Delivers worked result (seen_stream O.Sink out.old out.new)
+        (seen_stream E.Sink err.old err.new) }
+    ensures one_put { PutsAnswer result (seen_stream O.Sink out.old out.new) }
+    ensures one_line { PutsLine result (seen_stream E.Sink err.old err.new) }
     ensures out_later { O.faults out.old ≤ O.faults out.new }
     ensures err_later { E.faults err.old ≤ E.faults err.new }
 {
     match worked {
         Ok(answer) => match out.put(answer.text.as_slice()) {
             Ok(()) => answer.verdict.status(),
-            Err(SinkFailed) => {
-                let _ = err.put(b"output\n");
-                Refusal::Output.status()
-            }
+            Err(SinkFailed) => say(alloc, Refusal::Output, err).status(),
         },
         Err(refusal) => say(alloc, refusal, err).status(),
     }
 }
 
 /// The answer to the words, or the first step of the order of work that refuses.
-fn answer_words<F: Shelf>(alloc: Global, words: &[String], shelf: &mut F) -> Result<Answer, Refusal>
-    ensures works { Works (F.holds shelf.old) (form_of (texts words.now)) (F.asked shelf.old)
-        (F.asked shelf.new) result }
-    ensures holds { F.holds shelf.new ≡ F.holds shelf.old }
-    ensures later { F.faults shelf.old ≤ F.faults shelf.new }
-    ensures cause { IsCausedBy result (Rose (F.faults shelf.old) (F.faults shelf.new)) }
+pub fn answer_words<F: Shelf>(
+    alloc: Global,
+    words: &[String],
+    shelf: &mut F,
+) -> Result<Answer, Refusal>
+    ensures { Works (form_of (texts words.now)) (seen_shelf F.Shelf shelf.old shelf.new) result }
 {
     match parse_form(words) {
         Some(form) => answer_form(alloc, form, shelf),
@@ -96,15 +108,12 @@ pub fn run<F: Shelf, O: Sink, E: Sink>(
     out: &mut O,
     err: &mut E,
 ) -> u8
-    ensures meets { RunMeets result (form_of (texts words.now)) (F.holds shelf.old) (F.asked shelf.old)
-        (F.asked shelf.new) (O.written out.old) (O.written out.new) (E.written err.old) (E.written err.new)
-        (Rose (F.faults shelf.old) (F.faults shelf.new)) (Rose (O.faults out.old) (O.faults out.new))
-        (Rose (E.faults err.old) (E.faults err.new)) }
-    ensures says { RunSays result (form_of (texts words.now)) (F.holds shelf.old) (O.written out.old)
-        (O.written out.new) (E.written err.old) (E.written err.new) (Rose (F.faults shelf.old) (F.faults shelf.new))
-        (Rose (O.faults out.old) (O.faults out.new)) (Rose (E.faults err.old) (E.faults err.new)) }
-    ensures one_put { PutsAnswer result (O.calls out.old) (O.calls out.new) }
-    ensures one_line { PutsLine result (E.calls err.old) (E.calls err.new) }
+    ensures meets { RunMeets result (form_of (texts words.now)) (seen_shelf F.Shelf shelf.old shelf.new)
+        (seen_stream O.Sink out.old out.new) (seen_stream E.Sink err.old err.new) }
+    ensures says { RunSays result (form_of (texts words.now)) (seen_shelf F.Shelf shelf.old shelf.new)
+        (seen_stream O.Sink out.old out.new) (seen_stream E.Sink err.old err.new) }
+    ensures one_put { PutsAnswer result (seen_stream O.Sink out.old out.new) }
+    ensures one_line { PutsLine result (seen_stream E.Sink err.old err.new) }
     ensures holds { F.holds shelf.new ≡ F.holds shelf.old }
     ensures shelf_later { F.faults shelf.old ≤ F.faults shelf.new }
     ensures out_later { O.faults out.old ≤ O.faults out.new }

@@ -1,18 +1,16 @@
 //! The words as the runtime gives them.
 
-ghost use Rattle.std.specs.Prelude.{◌≡◌, ◌≤◌};
-ghost use Rattle.std.specs.Option.{option_map};
-ghost use Rattle.stack_outside.specs.Faults.{Rose, counted};
+ghost use Rattle.std.specs.Prelude.{◌≡◌, ◌≤◌, Err};
+ghost use Rattle.stack_outside.specs.Seen.{seen_shelf, seen_stream};
+ghost use Rattle.stack_forms.specs.Progress.{Works};
 ghost use Rattle.stack_cli.specs.Words.{form_of_given};
-ghost use Rattle.stack_lines.specs.Refusals.{words, faulty, memory};
-ghost use Rattle.stack_cli.specs.Delivery.{SaysLine};
 ghost use Rattle.stack_cli.specs.OnePut.{PutsAnswer, PutsLine};
 ghost use Rattle.stack_cli.specs.MainTheorem.{RunMeets};
 ghost use Rattle.stack_cli.specs.RunSaid.{RunSays};
 
-use crate::command::run;
+use crate::command::{answer_words, deliver};
 use crate::laws::printed_is_accepted;
-use stack_lines::Refusal;
+use stack_lines::{Answer, Refusal};
 use stack_outside::{Shelf, Sink};
 use std::alloc::Global;
 
@@ -27,7 +25,20 @@ pub enum Given {
     Memory,
 }
 
-/// Does what the words ask for, as `run` does. Words of which one can't be read are no form.
+/// The answer to the words that were given, or why they have none. Words of which one can't be read are no form.
+fn answer_given<F: Shelf>(alloc: Global, given: Given, shelf: &mut F) -> Result<Answer, Refusal>
+    ensures works { Works (form_of_given given) (seen_shelf F.Shelf shelf.old shelf.new) result }
+    ensures unreadable { given ≡ Given.Unreadable → result ≡ Err Refusal.Words }
+    ensures memory { given ≡ Given.Memory → result ≡ Err Refusal.Memory }
+{
+    match given {
+        Given::Words(words) => answer_words(alloc, words.as_slice(), shelf),
+        Given::Unreadable => Err(Refusal::Words),
+        Given::Memory => Err(Refusal::Memory),
+    }
+}
+
+/// Does what the words ask for, as `run` does.
 pub fn run_given<F: Shelf, O: Sink, E: Sink>(
     alloc: Global,
     given: Given,
@@ -35,15 +46,12 @@ pub fn run_given<F: Shelf, O: Sink, E: Sink>(
     out: &mut O,
     err: &mut E,
 ) -> u8
-    ensures meets { RunMeets result (form_of_given given) (F.holds shelf.old) (F.asked shelf.old)
-        (F.asked shelf.new) (O.written out.old) (O.written out.new) (E.written err.old) (E.written err.new)
-        (Rose (F.faults shelf.old) (F.faults shelf.new)) (Rose (O.faults out.old) (O.faults out.new))
-        (Rose (E.faults err.old) (E.faults err.new)) }
-    ensures says { RunSays result (form_of_given given) (F.holds shelf.old) (O.written out.old) (O.written out.new)
-        (E.written err.old) (E.written err.new) (Rose (F.faults shelf.old) (F.faults shelf.new))
-        (Rose (O.faults out.old) (O.faults out.new)) (Rose (E.faults err.old) (E.faults err.new)) }
-    ensures one_put { PutsAnswer result (O.calls out.old) (O.calls out.new) }
-    ensures one_line { PutsLine result (E.calls err.old) (E.calls err.new) }
+    ensures meets { RunMeets result (form_of_given given) (seen_shelf F.Shelf shelf.old shelf.new)
+        (seen_stream O.Sink out.old out.new) (seen_stream E.Sink err.old err.new) }
+    ensures says { RunSays result (form_of_given given) (seen_shelf F.Shelf shelf.old shelf.new)
+        (seen_stream O.Sink out.old out.new) (seen_stream E.Sink err.old err.new) }
+    ensures one_put { PutsAnswer result (seen_stream O.Sink out.old out.new) }
+    ensures one_line { PutsLine result (seen_stream E.Sink err.old err.new) }
     ensures unreadable { given ≡ Given.Unreadable → result ≡ 2 }
     ensures memory { given ≡ Given.Memory → result ≡ 11 }
     ensures holds { F.holds shelf.new ≡ F.holds shelf.old }
@@ -52,34 +60,6 @@ pub fn run_given<F: Shelf, O: Sink, E: Sink>(
     ensures err_later { E.faults err.old ≤ E.faults err.new }
 {
     printed_is_accepted();
-    match given {
-        Given::Words(words) => run(alloc, words.as_slice(), shelf, out, err),
-        Given::Unreadable => refuse_words(err),
-        Given::Memory => refuse_for_memory(err),
-    }
-}
-
-/// Says that the words are no form, and gives the status.
-#[tactic(auto, using(crate::proofs::Outcomes::line_put))]
-fn refuse_words<E: Sink>(err: &mut E) -> u8
-    ensures status { result ≡ 2 }
-    ensures line { SaysLine words (E.written err.old) (E.written err.new) (Rose (E.faults err.old) (E.faults err.new)) }
-    ensures call { E.calls err.new ≡ option_map counted (E.calls err.old) }
-    ensures later { E.faults err.old ≤ E.faults err.new }
-{
-    let _ = err.put(b"words\n");
-    Refusal::Words.status()
-}
-
-/// Says that memory is wanting, and gives the status.
-#[tactic(auto, using(crate::proofs::Outcomes::line_put))]
-fn refuse_for_memory<E: Sink>(err: &mut E) -> u8
-    ensures status { result ≡ 11 }
-    ensures line { SaysLine (faulty memory) (E.written err.old) (E.written err.new)
-        (Rose (E.faults err.old) (E.faults err.new)) }
-    ensures call { E.calls err.new ≡ option_map counted (E.calls err.old) }
-    ensures later { E.faults err.old ≤ E.faults err.new }
-{
-    let _ = err.put(b"memory\n");
-    Refusal::Memory.status()
+    let worked = answer_given(alloc, given, shelf);
+    deliver(alloc, worked, out, err)
 }

@@ -74,7 +74,7 @@ surveyed_of : (holds : Holds) (s : Structure) (v : Surveyed) → Ends holds (sur
 surveyed_of holds s v (inl p) = absurd p.1
 surveyed_of holds s v (inr p) = survey_ends holds s p.0 v [] p.1 p.2
 
--- So its structure is that one.
+-- So the structure of a survey that was made is the one that was surveyed.
 pub same_structure : (s : Structure) (x : Surveyed) → DoesAlone IsSeenSurvey (surveys s (survey_step s)) (Ok x)
     → x.structure ≡ s
 same_structure s x done =

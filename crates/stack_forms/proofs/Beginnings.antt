@@ -36,8 +36,8 @@ use Rattle.stack_forms.specs.Forms.{files_of, work_of}
 use Rattle.stack_lines.specs.Answers.{Due}
 use Rattle.stack_forms.specs.Work.{Work, gives, refuses, ◌>>=◌}
 use Rattle.stack_forms.specs.Surveying.{greatest_file, read, surveyed_file}
-use Rattle.stack_forms.specs.Checking.{Accepting, certificate_step, certificate_due, certified as certified_text}
-use Rattle.stack_forms.specs.Checking.{checked, certificate_work, accepted_due}
+use Rattle.stack_forms.specs.Checking.{Accepting, certificate_step, certificate_due, checked}
+use Rattle.stack_forms.specs.Checking.{checked_file, certificate_work, accepted_due}
 use Rattle.stack_forms.specs.Listing.{contacts_due, contacts_work}
 use Rattle.stack_forms.specs.Judging.{lacks_live, wide_within, judged_step, judged, judge_work}
 use Rattle.stack_forms.specs.Tables.{tabled_by, table_due}
@@ -62,7 +62,7 @@ module _ (n : ℕ) (few : n < 6) where
   table_avoids v c None = tt
   table_avoids v c (Some index) = λ e. absurd (omega (arith, e, few))
 
-  -- by the check of a certificate
+  -- what is done by the check of a certificate refuses so only where what is done with an accepted one does
   pub due_avoids : (due : Accepting) → ((v : Surveyed) (c : CertificateValue) → Avoids n (due v c)) → (v : Surveyed)
       (c : CertificateValue) (k : Check) → Avoids n (certificate_due due v c k)
   due_avoids due h v c Accepted = h v c
@@ -138,9 +138,9 @@ five : 5 < 6
 five = omega arith
 
 checked_avoids : (due : Accepting) → ((v : Surveyed) (c : CertificateValue) → Avoids 5 (due v c)) → (name : List ℕ)
-    (v : Surveyed) → Avoids 5 (checked due name v)
-unfolding checked
-checked_avoids due h name v = avoids_then 5 (read inputs.Certificate name) (certified_text due v)
+    (v : Surveyed) → Avoids 5 (checked_file due name v)
+unfolding checked_file
+checked_avoids due h name v = avoids_then 5 (read inputs.Certificate name) (checked due v)
     (read_avoids inputs.Certificate name)
     (λ text. avoids_then 5 (certificate_step (certificate_of text)) _ (certificate_avoids 5 five (certificate_of text))
     (λ c. due_avoids 5 five due h v c (written_check v c)))
@@ -168,19 +168,19 @@ abbrev head : List (List ℕ) → List ℕ
 head [] = []
 head (name ∷ names) = name
 
--- each form that names files
+-- the work on each form that names a file begins with the survey of the first
 pub begins : (form : Form) (model : List ℕ) (more : List (List ℕ)) → files_of (Some form) ≡ model ∷ more
     → Begins form model
 unfolding certificate_work contacts_work judge_work range_work stages_work yield_work
 begins (check m name) model more is =
     subst (Begins (check m name)) (ap head is)
-    (checked accepted_due name, refl, checked_avoids accepted_due (λ v c. tt) name)
+    (checked_file accepted_due name, refl, checked_avoids accepted_due (λ v c. tt) name)
 begins (contacts m) model more is = subst (Begins (contacts m)) (ap head is) (contacts_due, refl, λ v. tt)
 begins (judges q m budget) model more is = subst (Begins (judges q m budget)) (ap head is)
     (judged q budget, refl, λ v. judged_avoids 5 five q budget v (lacks_live q v.structure))
 begins (tables m name) model more is =
     subst (Begins (tables m name)) (ap head is)
-    (checked table_due name, refl, checked_avoids table_due (λ v c. table_avoids 5 five v c (wide_index v c)) name)
+    (checked_file table_due name, refl, checked_avoids table_due (λ v c. table_avoids 5 five v c (wide_index v c)) name)
 begins (stack kind n) model more is = absurd cc
 begins (sample n) model more is = absurd cc
 begins (ranges m budget) model more is = subst (Begins (ranges m budget)) (ap head is)

@@ -8,7 +8,7 @@ use Rattle.stack_checker.specs.WrittenCheck.{written_check}
 use Rattle.stack_lines.specs.declared.answer.Answer.{Answer}
 use Rattle.stack_lines.specs.declared.refusal.Refusal.{Refusal}
 use Rattle.stack_forms.specs.Work.{◌>>=◌}
-use Rattle.stack_forms.specs.Checking.{Accepting, certificate_step, certificate_due, certified}
+use Rattle.stack_forms.specs.Checking.{Accepting, certificate_step, certificate_due, checked}
 use Rattle.stack_forms.specs.Progress.{Returns, DoesAlone, AnswersDue}
 
 pub by_check : (due : Accepting) (v : Surveyed) (c : CertificateValue) (k : Check) (result : Result Answer Refusal)
@@ -20,7 +20,7 @@ by_check due v c k result is done holds =
 pub certificate_checked : (due : Accepting) (v : Surveyed) (text : List ℕ) (c : CertificateValue)
     (result : Result Answer Refusal) → certificate_of text ≡ Ok c
     → DoesAlone AnswersDue (certificate_due due v c (written_check v c)) result
-    → DoesAlone AnswersDue (certified due v text) result
+    → DoesAlone AnswersDue (checked due v text) result
 certificate_checked due v text c result reads done holds =
     subst (λ r. Returns AnswersDue holds (certificate_step r
     >>= λ d. certificate_due due v d (written_check v d)) [] result)

@@ -7,21 +7,22 @@ use Rattle.std.specs.Prelude.{IfSome}
 use Rattle.std.proofs.lemmas.Bool.{le-ltb, lt-ltb}
 use Rattle.std.proofs.lemmas.List.{length-replicate}
 use Rattle.stack_outside.specs.declared.error.ShelfError.{ShelfError}
-use Rattle.stack_outside.specs.declared.error.ShelfError.TheVariants as shelf
+use Rattle.stack_outside.specs.declared.error.ShelfError.TheVariants as outside
+use Rattle.stack_outside.specs.Seen.{ShelfSeen, ShelfFailed}
 use Rattle.stack_outside.specs.Shelves.{ReadGives, Records}
 use Rattle.stack_lines.specs.declared.refusal.Input.{Input}
 use Rattle.stack_lines.specs.declared.refusal.Refusal.TheVariants as code
 use Rattle.stack_lines.specs.Refusals.{faulty, long}
 use Rattle.stack_forms.specs.Work.{Holds, MayHold, Ends}
 use Rattle.stack_forms.specs.Surveying.{greatest_file, unless_long, read}
-use Rattle.stack_forms.specs.Progress.{ToldNames, GrewBy, Does, AreBytes}
+use Rattle.stack_forms.specs.Progress.{ToldNames, GrewBy, Returns, Does, AreBytes}
 use Rattle.stack_forms.proofs.Ways.{wanting}
 
 abbrev PastMemory : Result (Vec ℕ Global) ShelfError → Type 0
-PastMemory (Err shelf.Memory) = ⊥
+PastMemory (Err outside.Memory) = ⊥
 PastMemory _ = ⊤
 
--- The file was asked for.
+-- A read that doesn't end for want of memory has asked for its file.
 grew : (old new : ToldNames) (name : List ℕ) (result : Result (Vec ℕ Global) ShelfError) → PastMemory result
     → Records old new name result → GrewBy old new (name ∷ [])
 grew None new name result past h = tt
@@ -37,7 +38,7 @@ too_long : (holds : Holds) (input : Input) (bytes : List ℕ) → greatest_file 
     → Ends holds (unless_long input bytes) [] (Err (faulty (long input)))
 too_long holds input bytes more = rw (lt-ltb greatest_file (length bytes) more) (refl, inl refl)
 
--- More bytes than any number.
+-- Some bytes are more than any number.
 more_than : (n : ℕ) → (bytes : List ℕ) × (n < length bytes)
 more_than n = (replicate {A = ℕ} (suc n) 0, let h = length-replicate {A = ℕ} (suc n) 0 in omega (arith, h))
 
@@ -54,47 +55,62 @@ long_bytes : (held : Option (List ℕ)) → IfSome held (λ bytes. greatest_file
 long_bytes None h = let m = more_than greatest_file in (m.0, tt, m.1)
 long_bytes (Some told) h = (told, refl, h)
 
-module _ (holds : Holds) (old new : ToldNames) (name : List ℕ) (input : Input) where
-  pub gave : (v : Vec ℕ Global) → ReadGives (holds name) greatest_file (Ok v) → Records old new name (Ok v)
-      → Does AreBytes holds (read input name) old new (Ok v)
+-- A read, over a shelf that holds the same after it.
+module _ (shelf : ShelfSeen) (name : List ℕ) (input : Input) (same : shelf.holds_after ≡ shelf.holds)
+    (later : shelf.faults ≤ shelf.faults_after) where
+  pub gave : (v : Vec ℕ Global) → ReadGives (shelf.holds name) greatest_file (Ok v)
+      → Records shelf.asked shelf.asked_after name (Ok v) → Does AreBytes (read input name) shelf (Ok v)
   gave v h asked = record {
     names = name ∷ [];
-    asks = grew old new name (Ok v) tt asked;
-    comes = (v.items, refl, (refl, inr (v.items, may_hold (holds name) v.items h.1, short holds input v.items h.0)));
+    asks = grew shelf.asked shelf.asked_after name (Ok v) tt asked;
+    comes = (
+      v.items,
+      refl,
+      (refl, inr (v.items, may_hold (shelf.holds name) v.items h.1, short shelf.holds input v.items h.0)),
+    );
+    cause = tt;
+    holds = same;
+    later = later;
   }
 
-  pub failed : Records old new name (Err shelf.Failed)
-      → Does AreBytes holds (read input name) old new (Err (code.File input))
-  failed asked = record {
+  pub failed : Records shelf.asked shelf.asked_after name (Err outside.Failed) → ShelfFailed shelf
+      → Does AreBytes (read input name) shelf (Err (code.File input))
+  failed asked rose = record {
     names = name ∷ [];
-    asks = grew old new name (Err shelf.Failed) tt asked;
+    asks = grew shelf.asked shelf.asked_after name (Err outside.Failed) tt asked;
     comes = (refl, inl (refl, refl));
+    cause = rose;
+    holds = same;
+    later = later;
   }
 
-  pub was_long : ReadGives (holds name) greatest_file (Err shelf.TooLong) → Records old new name (Err shelf.TooLong)
-      → Does AreBytes holds (read input name) old new (Err (code.Long input))
+  pub was_long : ReadGives (shelf.holds name) greatest_file (Err outside.TooLong)
+      → Records shelf.asked shelf.asked_after name (Err outside.TooLong)
+      → Does AreBytes (read input name) shelf (Err (code.Long input))
   was_long h asked =
-      let b = long_bytes (holds name) h in
+      let b = long_bytes (shelf.holds name) h in
       record {
         names = name ∷ [];
-        asks = grew old new name (Err shelf.TooLong) tt asked;
-        comes = (refl, inr (b.0, b.1, too_long holds input b.0 b.2));
+        asks = grew shelf.asked shelf.asked_after name (Err outside.TooLong) tt asked;
+        comes = (refl, inr (b.0, b.1, too_long shelf.holds input b.0 b.2));
+        cause = tt;
+        holds = same;
+        later = later;
       }
 
-pub asked_or_not : (holds : Holds) (old new : ToldNames) (name : List ℕ) (input : Input)
-    → Records old new name (Err shelf.Memory)
-    → Does AreBytes holds (read input name) old new (Err code.Memory)
-asked_or_not holds None new name input asked = record { names = []; asks = tt; comes = refl }
-asked_or_not holds (Some a) None name input asked = absurd asked
-asked_or_not holds (Some a) (Some b) name input (inl h) =
-    let s = some_bytes (holds name) in
-    record {
-      names = name ∷ [];
-      asks = h;
-      comes = (refl, inr (s.0, s.1, wanting holds (unless_long input s.0)));
-    }
-asked_or_not holds (Some a) (Some b) name input (inr h) = record {
-  names = [];
-  asks = h.1 ∙ sym (append-nil a);
-  comes = refl;
-}
+  -- Where memory was wanting, the file was asked for or not.
+  asked_or_not : (old new : ToldNames) → Records old new name (Err outside.Memory)
+      → (names : List (List ℕ)) × GrewBy old new names
+      × Returns AreBytes shelf.holds (read input name) names (Err code.Memory)
+  asked_or_not None new asked = ([], tt, refl)
+  asked_or_not (Some a) None asked = absurd asked
+  asked_or_not (Some a) (Some b) (inl h) =
+      let s = some_bytes (shelf.holds name) in
+      (name ∷ [], h, (refl, inr (s.0, s.1, wanting shelf.holds (unless_long input s.0))))
+  asked_or_not (Some a) (Some b) (inr h) = ([], h.1 ∙ sym (append-nil a), refl)
+
+  pub wanted : Records shelf.asked shelf.asked_after name (Err outside.Memory)
+      → Does AreBytes (read input name) shelf (Err code.Memory)
+  wanted asked =
+      let a = asked_or_not shelf.asked shelf.asked_after asked in
+      record { names = a.0; asks = a.1; comes = a.2; cause = tt; holds = same; later = later }

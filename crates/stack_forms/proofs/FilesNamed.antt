@@ -14,7 +14,7 @@ use Rattle.stack_checker.specs.declared.types.Check.TheVariants.{Accepted, Rejec
 use Rattle.stack_checker.specs.WrittenCheck.{written_check}
 use Rattle.stack_equilibrium.specs.declared.types.Question.{Question}
 use Rattle.stack_equilibrium.specs.declared.types.Question.TheVariants.{Live}
-use Rattle.stack_judge.specs.Judgement.{Judgement, certified as is_certified, too_wide, spent, unjudged, judgement}
+use Rattle.stack_judge.specs.Judgement.{Judgement, certified, too_wide, spent, unjudged, judgement}
 use Rattle.stack_lines.specs.declared.refusal.Input.{Input}
 use Rattle.stack_lines.specs.declared.refusal.Input.TheVariants as inputs
 use Rattle.stack_forms.specs.Forms.{Form, check, contacts, judges, tables, stack, sample, ranges, builds, yields}
@@ -24,7 +24,7 @@ use Rattle.stack_lines.specs.Refusals.{Refusal, long, no_live}
 use Rattle.stack_lines.specs.Answers.{Due}
 use Rattle.stack_forms.specs.Work.{Work, gives, refuses, reads, surveys, ◌>>=◌, Found, Holds, Ends}
 use Rattle.stack_forms.specs.Surveying.{greatest_file, read, model_step, survey_step, modelled, surveyed_file}
-use Rattle.stack_forms.specs.Checking.{Accepting, certificate_step, certificate_due, checked, certificate_work}
+use Rattle.stack_forms.specs.Checking.{Accepting, certificate_step, certificate_due, checked_file, certificate_work}
 use Rattle.stack_forms.specs.Checking.{accepted_due}
 use Rattle.stack_forms.specs.Listing.{contacts_work}
 use Rattle.stack_forms.specs.Tables.{tabled_by, table_due}
@@ -114,8 +114,8 @@ due_asks due none v c (Rejected part reason) = refl
 due_asks due none v c (TooWide place) = tt
 
 checked_asks : (due : Accepting) → AsksNone due → (name : List ℕ) (v : Surveyed)
-    → AsksOnly (checked due name v) (name ∷ [])
-unfolding checked
+    → AsksOnly (checked_file due name v) (name ∷ [])
+unfolding checked_file
 checked_asks due none name v =
     asks_then (read inputs.Certificate name) _ (name ∷ []) [] (read_asks inputs.Certificate name)
     (λ text. asks_then (certificate_step (certificate_of text)) _ [] [] (certificate_asks (certificate_of text))
@@ -128,7 +128,7 @@ certificate_work_asks due none model name =
     asks_then (surveyed_file model) _ (model ∷ []) (name ∷ []) (surveyed_asks model) (checked_asks due none name)
 
 judgement_asks : (q : Question) (budget : ℕ) (v : Surveyed) (j : Judgement) → AsksOnly (judged_step q budget v j) []
-judgement_asks q budget v (is_certified c) = refl
+judgement_asks q budget v (certified c) = refl
 judgement_asks q budget v (too_wide p) = tt
 judgement_asks q budget v spent = tt
 judgement_asks q budget v unjudged = tt
@@ -147,7 +147,7 @@ built_asks (Ok s) = refl
 built_asks (Err e) = tt
 
 sample_asks : (number : ℕ) (v : Surveyed) (j : Judgement) → AsksOnly (sample_step number v j) []
-sample_asks number v (is_certified c) = refl
+sample_asks number v (certified c) = refl
 sample_asks number v (too_wide p) = tt
 sample_asks number v spent = tt
 sample_asks number v unjudged = tt
@@ -211,7 +211,7 @@ unfolding paired_file
 paired_asks i j name budget v = asks_then (loads_step (pair_of v.structure i j)) _ [] (name ∷ [])
     (loads_asks (pair_of v.structure i j)) (directed_asks name budget v)
 
--- Each form: one clause.
+-- The work on each form asks only for the files that the form names.
 pub form_asks : (form : Form) → AsksOnly (work_of form) (files_of (Some form))
 unfolding contacts_work judge_work stack_work sample_work range_work stages_work yield_work
 form_asks (check model certificate) = certificate_work_asks accepted_due (λ v c. refl) model certificate

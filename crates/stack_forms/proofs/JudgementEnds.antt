@@ -29,7 +29,7 @@ lists_one : (s : Structure) (b : Bool) → lists_live s ≡ b → ¬ (¬ (HasLiv
 lists_one s true is some = refl
 lists_one s false is some = absurd (some (λ h. let t = sym (listed_live s h) ∙ is in cc))
 
--- the test for a live load
+-- the test for a live load says what it means
 pub lacking : (q : Question) (v : Surveyed) → LacksLive q v → lacks_live q v.structure ≡ true
 lacking Dead v h = absurd h
 lacking Live v h = lists_none v.structure (lists_live v.structure) refl h

@@ -29,7 +29,7 @@ module _ (v : Surveyed) (budget : ℕ) (holds : Holds) where
   range_ends j end live is h = subst (λ b. EndsAt b (range_judgement v budget) end) (sym (not_lacking Live v live))
       (subst (λ k. EndsAt false k end) (sym is) h)
 
-  -- a range is told
+  -- a range that the judgement tells is due
   pub told_ends : (r : RangeValue) → ¬ (LacksLive Live v) → range_judgement v budget ≡ told r
       → Ends holds (range_told budget v) [] (Ok (ranged v r))
   told_ends r live is = range_ends (told r) (Ok (ranged v r)) live is (refl, refl)
@@ -50,7 +50,7 @@ module _ (v : Surveyed) (budget : ℕ) (holds : Holds) where
       → Ends holds (range_told budget v) [] (Err (faulty (over_budget budget)))
   range_spent side live is = range_ends (spent_on side) (Err (faulty (over_budget budget))) live is (refl, inl refl)
 
-  -- no live load is listed
+  -- where no live load is listed, that is the refusal
   pub range_lacks : LacksLive Live v → Ends holds (range_told budget v) [] (Err (faulty no_live))
   range_lacks none = subst (λ b. EndsAt b (range_judgement v budget) (Err (faulty no_live))) (sym (lacking Live v none))
       (refl, inl refl)

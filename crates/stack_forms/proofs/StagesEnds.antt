@@ -34,14 +34,14 @@ module _ (v : Surveyed) (order : List ℕ) (budget : ℕ) (holds : Holds) where
   abbrev EndsAt : Staged → Result Due Refusal → Type 0
   EndsAt x end = Ends holds (stages_step budget v order x) [] end
 
-  -- what is true is told
+  -- what comes of the stages is due, where it is true of them
   own_end : (x : Staged) → AreTrue v order x → EndsAt x (Ok (stages_due v order x))
   own_end (all_stand fs) h = (refl, refl)
   own_end (falls fs m) h = (refl, refl)
   own_end (too_wide_at k p) h = absurd h
   own_end (spent_at k) h = absurd h
 
-  -- all stand, or one falls
+  -- so it is where this is what comes of them within the budget
   pub stages_told : (x : Staged) → AreTrue v order x → staged v order budget ≡ x
       → EndsAt (staged v order budget) (Ok (stages_due v order x))
   stages_told x h is = subst (λ y. EndsAt y (Ok (stages_due v order x))) (sym is) (own_end x h)
@@ -69,7 +69,7 @@ module _ (v : Surveyed) (text : List ℕ) (budget : ℕ) (s : Structure) (same :
   abbrev after_text : Result (List ℕ) ℕ → Work Due
   after_text r = order_step r >>= λ order. stages_step budget v order (staged v order budget)
 
-  -- an order that was read
+  -- what reading a text comes to, where it tells this order
   abbrev an_order : List ℕ → Result (List ℕ) ℕ
   an_order ns = Ok ns
 

@@ -1,10 +1,15 @@
 -- One function of the order of work after another.
-use Rattle.std.proofs.Common.{◌≡◌, ℕ, List, [], ◌++◌, Some, None, Result, Ok, Err, subst, sym, refl, ◌∙◌, ap}
-use Rattle.std.proofs.Common.{append_assoc, append-nil}
+use Rattle.std.proofs.Common.{◌≡◌, ℕ, ◌≤◌, List, [], ◌++◌, Some, None, Result, Ok, Err, inl, inr, subst, sym, refl, ◌∙◌}
+use Rattle.std.proofs.Common.{ap, append_assoc, append-nil, arith}
+use Rattle.std.specs.Bool.{⊤}
+use Rattle.stack_outside.specs.declared.shelf.Shelf.{Ghosts}
+use Rattle.stack_outside.specs.Faults.{Rose}
+use Rattle.stack_outside.specs.Seen.{ShelfSeen, ShelfFailed, seen_shelf}
 use Rattle.stack_lines.specs.declared.refusal.Refusal.{Refusal as CodeRefusal}
-use Rattle.stack_lines.specs.Refusals.{refusal_view}
-use Rattle.stack_forms.specs.Work.{Work, ◌>>=◌, Holds, Ends}
-use Rattle.stack_forms.specs.Progress.{ToldNames, GrewBy, Returns, Does, DoesAlone}
+use Rattle.stack_lines.specs.declared.refusal.Refusal.TheVariants as code
+use Rattle.stack_lines.specs.Refusals.{Refusal, refusal_view, file}
+use Rattle.stack_forms.specs.Work.{Work, gives, refuses, reads, surveys, ◌>>=◌, Holds, Ends}
+use Rattle.stack_forms.specs.Progress.{ToldNames, GrewBy, Returns, IsCausedBy, Does, DoesAlone}
 use Rattle.stack_forms.proofs.Ways.{goes_on, stops}
 
 grew_more : (old mid new : ToldNames) (xs ys : List (List ℕ)) → GrewBy old mid xs → GrewBy mid new ys
@@ -14,7 +19,7 @@ grew_more (Some a) None new xs ys h k = absurd h
 grew_more (Some a) (Some b) None xs ys h k = k
 grew_more (Some a) (Some b) (Some c) xs ys h k = k ∙ (ap (λ zs. zs ++ ys) h ∙ append_assoc a xs ys)
 
--- Nothing was asked for.
+-- A shelf that isn't called was asked for nothing.
 pub none_asked : (old : ToldNames) → GrewBy old old []
 none_asked None = tt
 none_asked (Some names) = sym (append-nil names)
@@ -31,38 +36,89 @@ comes_on R view holds w f names more x (Ok y) p q =
 comes_on R view holds w f names more x (Err r) p q =
     goes_on holds w f names more (view x) (Err (refusal_view r)) (subst (λ a. Ends holds w names (Ok a)) p.1 p.2) q
 
--- A function went on with a value, and one for the work after it followed.
-pub then : {A B X Y : Type 0} (R : Y → B → Type 0) (view : X → A) (holds later : Holds) (w : Work A) (f : A → Work B)
-    (old mid new : ToldNames) (x : X) (result : Result Y CodeRefusal) → Does (IsSeen view) holds w old mid (Ok x)
-    → later ≡ holds → Does R later (f (view x)) mid new result → Does R holds (w >>= f) old new result
-then R view holds later w f old mid new x result p same q = record {
-  names = p.names ++ q.names;
-  asks = grew_more old mid new p.names q.names p.asks q.asks;
-  comes = comes_on R view holds w f p.names q.names x result p.comes
-      (subst (λ h. Returns R h (f (view x)) q.names result) same q.comes);
-}
+-- A cause that lies in a later call lies in both together.
+caused_sooner : {X : Type 0} (result : Result X CodeRefusal) (P Q : Type 0) → (P → Q) → IsCausedBy result P
+    → IsCausedBy result Q
+caused_sooner (Ok x) P Q to h = tt
+caused_sooner (Err (code.File input)) P Q to h = to h
+caused_sooner (Err _) P Q to h = tt
 
--- A function without a shelf, as one with it.
-pub alone : {A X : Type 0} (R : X → A → Type 0) (holds : Holds) (w : Work A) (old : ToldNames)
-    (result : Result X CodeRefusal)
-    → DoesAlone R w result → Does R holds w old old result
-alone R holds w old result p = record { names = []; asks = none_asked old; comes = p holds }
+-- A count that rose from a later number rose.
+rose_sooner : (old mid new : ℕ) → old ≤ mid → Rose mid new → Rose old new
+rose_sooner old mid new later rose = omega (arith, later, rose)
 
--- One without a shelf followed.
-pub then_alone : {A B X Y : Type 0} (R : Y → B → Type 0) (view : X → A) (holds : Holds) (w : Work A) (f : A → Work B)
-    (old new : ToldNames) (x : X) (result : Result Y CodeRefusal) → Does (IsSeen view) holds w old new (Ok x)
-    → DoesAlone R (f (view x)) result → Does R holds (w >>= f) old new result
-then_alone R view holds w f old new x result p q =
-    then R view holds holds w f old new new x result p refl (alone R holds (f (view x)) new result q)
+-- A function refused as another one did, for the same cause.
+same_cause : (X Y : Type 0) (r : CodeRefusal) (P : Type 0) → IsCausedBy {X = X} (Err r) P
+    → IsCausedBy {X = Y} (Err r) P
+same_cause X Y (code.File input) P h = h
+same_cause X Y _ P h = tt
+
+-- Work that asks for no file doesn't refuse since one isn't read.
+abbrev IsNoFile : Refusal → Type 0
+IsNoFile (file input) = ⊥
+IsNoFile _ = ⊤
+
+reads_first : {A : Type 0} (holds : Holds) (w : Work A) (r : Refusal) → Ends holds w [] (Err r) → IsNoFile r
+reads_first holds (gives x) r p = subst IsNoFile (sym p.1) tt
+reads_first holds (refuses q) r (none, inl same) = subst IsNoFile (sym same) tt
+reads_first holds (refuses q) r (none, inr same) = subst IsNoFile (sym same) tt
+reads_first holds (reads input name k) r p = subst IsNoFile (sym p) tt
+reads_first holds (surveys s k) r (inl h) = subst IsNoFile (sym h.1) tt
+reads_first holds (surveys s k) r (inr h) = reads_first holds (k h.0) r h.2
+
+no_file : {A X : Type 0} (R : X → A → Type 0) (holds : Holds) (w : Work A) (result : Result X CodeRefusal) (P : Type 0)
+    → Returns R holds w [] result → IsCausedBy result P
+no_file R holds w (Ok x) P h = tt
+no_file R holds w (Err (code.File input)) P h = absurd (reads_first holds w (file input) h)
+no_file R holds w (Err _) P h = tt
+
+-- A shelf of any type, by what its trait tells of it.
+module _ {S : Type 0} (shelf : Ghosts S) where
+  -- A function went on with a value, and one for the work after it followed.
+  pub then : {A B X Y : Type 0} (R : Y → B → Type 0) (view : X → A) (w : Work A) (f : A → Work B) (old mid new : S)
+      (x : X) (result : Result Y CodeRefusal) → Does (IsSeen view) w (seen_shelf shelf old mid) (Ok x)
+      → Does R (f (view x)) (seen_shelf shelf mid new) result
+      → Does R (w >>= f) (seen_shelf shelf old new) result
+  then R view w f old mid new x result p q = record {
+    names = p.names ++ q.names;
+    asks = grew_more (shelf.asked old) (shelf.asked mid) (shelf.asked new) p.names q.names p.asks q.asks;
+    comes = comes_on R view (shelf.holds old) w f p.names q.names x result p.comes
+        (subst (λ h. Returns R h (f (view x)) q.names result) p.holds q.comes);
+    cause = caused_sooner result (Rose (shelf.faults mid) (shelf.faults new))
+        (Rose (shelf.faults old) (shelf.faults new)) (rose_sooner (shelf.faults old) (shelf.faults mid) (shelf.faults new) p.later) q.cause;
+    holds = q.holds ∙ p.holds;
+    later = let a = p.later in let b = q.later in omega (arith, a, b);
+  }
+
+  -- A function without a shelf, as one with it.
+  pub alone : {A X : Type 0} (R : X → A → Type 0) (w : Work A) (old : S) (result : Result X CodeRefusal)
+      → DoesAlone R w result → Does R w (seen_shelf shelf old old) result
+  alone R w old result p = record {
+    names = [];
+    asks = none_asked (shelf.asked old);
+    comes = p (shelf.holds old);
+    cause = no_file R (shelf.holds old) w result (Rose (shelf.faults old) (shelf.faults old)) (p (shelf.holds old));
+    holds = refl;
+    later = omega arith;
+  }
+
+  -- One without a shelf followed.
+  pub then_alone : {A B X Y : Type 0} (R : Y → B → Type 0) (view : X → A) (w : Work A) (f : A → Work B) (old new : S)
+      (x : X) (result : Result Y CodeRefusal) → Does (IsSeen view) w (seen_shelf shelf old new) (Ok x)
+      → DoesAlone R (f (view x)) result → Does R (w >>= f) (seen_shelf shelf old new) result
+  then_alone R view w f old new x result p q =
+      then R view w f old new new x result p (alone R (f (view x)) new result q)
 
 -- A function refused, so nothing followed.
-pub refused : {A B X Y : Type 0} (S : X → A → Type 0) (R : Y → B → Type 0) (holds : Holds) (w : Work A)
-    (f : A → Work B) (old new : ToldNames) (r : CodeRefusal) → Does S holds w old new (Err r)
-    → Does R holds (w >>= f) old new (Err r)
-refused S R holds w f old new r p = record {
+pub refused : {A B X Y : Type 0} (S : X → A → Type 0) (R : Y → B → Type 0) (w : Work A) (f : A → Work B)
+    (shelf : ShelfSeen) (r : CodeRefusal) → Does S w shelf (Err r) → Does R (w >>= f) shelf (Err r)
+refused {A} {B} {X} {Y} S R w f shelf r p = record {
   names = p.names;
   asks = p.asks;
-  comes = stops holds w f p.names (refusal_view r) p.comes;
+  comes = stops shelf.holds w f p.names (refusal_view r) p.comes;
+  cause = same_cause X Y r (ShelfFailed shelf) p.cause;
+  holds = p.holds;
+  later = p.later;
 }
 
 -- Two functions without a shelf, one after the other, and where the first refused.

@@ -1,4 +1,4 @@
--- Ways through work, one after another.
+-- How ways through work begin, go on and stop, and where their values come from.
 use Rattle.std.proofs.Common.{ℕ, List, [], ◌∷◌, ◌++◌, inl, inr, Result, Ok, Err, subst, sym, refl}
 use Rattle.stack_lines.specs.Refusals.{Refusal, faulty, memory}
 use Rattle.stack_forms.specs.Work.{Work, gives, refuses, reads, surveys, ◌>>=◌, Holds, Ends}

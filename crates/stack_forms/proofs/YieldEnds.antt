@@ -13,6 +13,7 @@ use Rattle.stack_yield.specs.Reading.{GivesDirections}
 use Rattle.stack_yield.specs.Pairing.{pair_of, GivesPair}
 use Rattle.stack_yield.specs.Outcomes.{Outcome, reaches, falls, passes, spends, Outcomes, answered, passes_at}
 use Rattle.stack_yield.specs.Outcomes.{spends_at, with_reach, and_then, direction_outcome, outcomes_from, outcomes}
+use Rattle.stack_outside.specs.Seen.{ShelfSeen}
 use Rattle.stack_lines.specs.declared.answer.Answer.{Answer}
 use Rattle.stack_lines.specs.declared.refusal.Refusal.{Refusal as CodeRefusal}
 use Rattle.stack_lines.specs.declared.refusal.Refusal.TheVariants as code
@@ -22,9 +23,8 @@ use Rattle.stack_forms.specs.Work.{Work, ◌>>=◌, Holds, Ends}
 use Rattle.stack_lines.specs.Errors.{from_directions}
 use Rattle.stack_forms.specs.Yielding.{loads_step, directions_step, wide_toward, region_step, directed, directed_file}
 use Rattle.stack_forms.specs.Yielding.{paired_file}
-use Rattle.stack_forms.specs.Progress.{ToldNames, Returns, Does, DoesAlone, AnswersDue}
+use Rattle.stack_forms.specs.Progress.{Returns, Does, DoesAlone, AnswersDue}
 use Rattle.stack_forms.proofs.Ways.{wanting}
-use Rattle.stack_forms.proofs.Steps.{alone}
 
 -- the number of the direction that passes
 abbrev passing : Outcomes → ℕ
@@ -65,7 +65,7 @@ module _ (v : Surveyed) (i j : ℕ) (ds : List (ℤ × ℤ)) (budget : ℕ) (hol
   abbrev EndsAt : Outcomes → Result Due Refusal → Type 0
   EndsAt x end = Ends holds (region_step budget v i j ds x) [] end
 
-  -- a region is told
+  -- a region that comes of the directions is due
   pub region_told : (r : RegionValue) → outcomes v i j budget ds ≡ answered r
       → EndsAt (outcomes v i j budget ds) (Ok (region_due v i j ds r))
   region_told r is = subst (λ x. EndsAt x (Ok (region_due v i j ds r))) (sym is) (refl, refl)
@@ -96,7 +96,7 @@ module _ (v : Surveyed) (loads : ℕ × ℕ) (text : List ℕ) (budget : ℕ) wh
   after_text r = directions_step r >>= λ ds. region_step budget v loads.0 loads.1 ds
       (outcomes v loads.0 loads.1 budget ds)
 
-  -- directions that were read
+  -- what reading a text comes to, where it tells these directions
   abbrev some_directions : List (ℤ × ℤ) → Result (List (ℤ × ℤ)) ℕ
   some_directions ds = Ok ds
 
@@ -119,25 +119,23 @@ module _ (v : Surveyed) (loads : ℕ × ℕ) (text : List ℕ) (budget : ℕ) wh
       subst (λ q. Ends holds (directed budget v loads text) [] (Err q)) (sym h)
       (wanting holds (directed budget v loads text))
 
-module _ (v : Surveyed) (i j : ℕ) (name : List ℕ) (budget : ℕ) (s : Structure) (same : s ≡ v.structure)
-    (holds : Holds) where
+module _ (v : Surveyed) (i j : ℕ) (name : List ℕ) (budget : ℕ) (s : Structure) (same : s ≡ v.structure) where
   -- the work after the loads, where the numbers name these
   abbrev after_loads : Result (ℕ × ℕ) ℕ → Work Due
   after_loads p = loads_step p >>= directed_file name budget v
 
-  -- what comes of two loads
-  pub loads_judged : (loads : ℕ × ℕ) (old new : ToldNames) (result : Result Answer CodeRefusal)
-      → GivesPair (Ok loads) (pair_of s i j) → Does AnswersDue holds (directed_file name budget v loads) old new result
-      → Does AnswersDue holds (paired_file i j name budget v) old new result
+  -- what is done for the loads that the numbers name is done for the numbers
+  pub loads_judged : (loads : ℕ × ℕ) (shelf : ShelfSeen) (result : Result Answer CodeRefusal)
+      → GivesPair (Ok loads) (pair_of s i j) → Does AnswersDue (directed_file name budget v loads) shelf result
+      → Does AnswersDue (paired_file i j name budget v) shelf result
   unfolding paired_file
-  loads_judged loads old new result is done = subst (λ p. Does AnswersDue holds (after_loads p) old new result)
+  loads_judged loads shelf result is done = subst (λ p. Does AnswersDue (after_loads p) shelf result)
       (sym (ap (λ t. pair_of t i j) (sym same) ∙ is)) done
 
-  -- numbers that name none
-  pub loads_refused : (e : NoPair) (r : CodeRefusal) (old : ToldNames) → GivesPair (Err e) (pair_of s i j)
+  -- numbers that name no two loads are refused with the one that is in the way
+  pub loads_refused : (e : NoPair) (r : CodeRefusal) → GivesPair (Err e) (pair_of s i j)
       → refusal_view r ≡ faulty (no_pair e.load)
-      → Does AnswersDue holds (paired_file i j name budget v) old old (Err r)
+      → DoesAlone {X = Answer} AnswersDue (paired_file i j name budget v) (Err r)
   unfolding paired_file
-  loads_refused e r old is h = subst (λ p. Does AnswersDue holds (after_loads p) old old (Err r))
-      (sym (ap (λ t. pair_of t i j) (sym same) ∙ is))
-      (alone AnswersDue holds (after_loads (Err e.load)) old (Err r) (λ _. (refl, inl h)))
+  loads_refused e r is h = subst (λ p. DoesAlone {X = Answer} AnswersDue (after_loads p) (Err r))
+      (sym (ap (λ t. pair_of t i j) (sym same) ∙ is)) (λ _. (refl, inl h))

@@ -13,7 +13,7 @@ use Rattle.stack_forms.specs.Judging.{wide_within}
 use Rattle.stack_forms.specs.Work.{Work, gives, refuses, ◌>>=◌}
 use Rattle.stack_forms.specs.Surveying.{read, surveyed_file}
 
--- The text of an order.
+-- A text tells an order, or is refused with its first faulty line.
 abbrev pub order_step : Result (List ℕ) ℕ → Work (List ℕ)
 order_step (Ok order) = gives order
 order_step (Err number) = refuses (order_line number)

@@ -17,7 +17,7 @@ use Rattle.stack_lines.specs.CheckText.{place_of, accepted_text, rejected_text}
 use Rattle.stack_forms.specs.Work.{Work, gives, refuses, ◌>>=◌}
 use Rattle.stack_forms.specs.Surveying.{read, surveyed_file}
 
--- The text of a certificate.
+-- A text is a certificate, or is refused with the line at which it ends to be one.
 abbrev pub certificate_step : Result CertificateValue ℕ → Work CertificateValue
 certificate_step (Ok certificate) = gives certificate
 certificate_step (Err number) = refuses (certificate_line number)
@@ -39,27 +39,27 @@ certificate_due due v c (Rejected part reason) = check_step v.structure (Rejecte
 certificate_due due v c (TooWide place) = check_step v.structure (TooWide place)
 
 -- A certificate's text is read and checked before anything is made of it.
-abbrev pub certified : Accepting → Surveyed → List ℕ → Work Due
-certified due survey text = do
+abbrev pub checked : Accepting → Surveyed → List ℕ → Work Due
+checked due survey text = do
   certificate ← certificate_step (certificate_of text)
   certificate_due due survey certificate (written_check survey certificate)
 
 -- The certificate's file is read, and its text is checked against the survey.
-unfoldable pub checked : Accepting → List ℕ → Surveyed → Work Due
-checked due name survey = do
+unfoldable pub checked_file : Accepting → List ℕ → Surveyed → Work Due
+checked_file due name survey = do
   text ← read inputs.Certificate name
-  certified due survey text
+  checked due survey text
 
 -- The model comes first: unless it has a survey, the certificate's file isn't asked for.
 unfoldable pub certificate_work : Accepting → List ℕ → List ℕ → Work Due
 certificate_work due model certificate = do
   survey ← surveyed_file model
-  checked due certificate survey
+  checked_file due certificate survey
 
--- That it is accepted, and no more.
+-- Of an accepted certificate it is due that it is accepted, and no more.
 abbrev pub accepted_due : Accepting
 accepted_due v c = check_step v.structure Accepted
 
--- `check MODEL CERT`.
+-- The work on `check MODEL CERT`.
 abbrev pub check_work : List ℕ → List ℕ → Work Due
 check_work model certificate = certificate_work accepted_due model certificate

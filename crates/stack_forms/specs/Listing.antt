@@ -7,7 +7,7 @@ use Rattle.stack_lines.specs.Answers.{Due, exactly}
 use Rattle.stack_forms.specs.Work.{Work, gives, ◌>>=◌}
 use Rattle.stack_forms.specs.Surveying.{surveyed_file}
 
--- The table of contacts.
+-- The table of the contacts of a survey is due.
 abbrev pub contacts_due : Surveyed → Work Due
 contacts_due survey = gives (exactly Affirmed (contacts_text survey))
 

@@ -27,7 +27,7 @@ tabled_by v c (Some index) = refuses (wide_table index)
 abbrev pub table_due : Accepting
 table_due v c = tabled_by v c (wide_index v c)
 
--- `table MODEL CERT`.
+-- The work on `table MODEL CERT`.
 abbrev pub table_work : List ℕ → List ℕ → Work Due
 table_work model certificate = certificate_work table_due model certificate
 

@@ -69,16 +69,3 @@ Ends holds (reads input name k) (asked ∷ names) end = (asked ≡ name)
     ⊎ ((bytes : List ℕ) × MayHold (holds name) bytes × Ends holds (k bytes) names end))
 Ends holds (surveys s k) names end = ((names ≡ []) × EndsWith (faulty memory) end)
     ⊎ ((found : Found) × MayFind s found × Ends holds (k found) names end)
-
--- The three questions on work: may it refuse so, may it come to a value with this property, and which files may it
--- ask for.
-abbrev pub Refuses : {A : Type 0} → Work A → Holds → Refusal → Type 0
-Refuses w holds r = (names : List (List ℕ)) × Ends holds w names (Err r)
-
--- It may come to a value with this property.
-abbrev pub Comes : {A : Type 0} → Work A → Holds → (A → Type 0) → Type 0
-Comes {A} w holds P = (names : List (List ℕ)) × (a : A) × Ends holds w names (Ok a) × P a
-
--- It may ask for exactly these files, in this order, and then end.
-abbrev pub Asks : {A : Type 0} → Work A → Holds → List (List ℕ) → Type 0
-Asks {A} w holds names = (end : Result A Refusal) × Ends holds w names end

@@ -17,12 +17,12 @@ use Rattle.stack_forms.specs.Judging.{wide_within}
 use Rattle.stack_forms.specs.Work.{Work, gives, refuses, ◌>>=◌}
 use Rattle.stack_forms.specs.Surveying.{read, surveyed_file}
 
--- Two loads, or the number that is in the way.
+-- Two numbers name two loads, or are refused with the one that is in the way.
 abbrev pub loads_step : Result (ℕ × ℕ) ℕ → Work (ℕ × ℕ)
 loads_step (Ok loads) = gives loads
 loads_step (Err load) = refuses (no_pair load)
 
--- The text of directions.
+-- A text tells directions, or is refused with its first faulty line.
 abbrev pub directions_step : Result (List (ℤ × ℤ)) ℕ → Work (List (ℤ × ℤ))
 directions_step (Ok ds) = gives ds
 directions_step (Err number) = refuses (directions_line number)
@@ -60,7 +60,7 @@ paired_file i j name budget v = do
   loads ← loads_step (pair_of v.structure i j)
   directed_file name budget v loads
 
--- And before the loads the model.
+-- The model comes before the loads: unless it has a survey, no loads are looked for.
 unfoldable pub yield_work : List ℕ → (i j : ℕ) → List ℕ → (budget : ℕ) → Work Due
 yield_work model i j directions budget = do
   survey ← surveyed_file model

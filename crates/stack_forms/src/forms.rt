@@ -1,9 +1,8 @@
 //! The forms of words, and the work on each: a module for each form or family of forms.
 
-ghost use Rattle.std.specs.Prelude.{◌≡◌, ◌≤◌};
-ghost use Rattle.stack_outside.specs.Faults.{Rose};
+ghost use Rattle.stack_outside.specs.Seen.{seen_shelf};
 ghost use Rattle.stack_forms.specs.Forms.{form_view, HasBudget, work_of};
-ghost use Rattle.stack_forms.specs.Progress.{Does, AnswersDue, IsCausedBy};
+ghost use Rattle.stack_forms.specs.Progress.{Does, AnswersDue};
 
 pub mod building;
 pub mod checking;
@@ -103,11 +102,7 @@ pub fn answer_form<F: Shelf>(
     shelf: &mut F,
 ) -> Result<Answer, Refusal>
     requires { HasBudget form }
-    ensures does { Does AnswersDue (F.holds shelf.old) (work_of (form_view form.entry)) (F.asked shelf.old)
-        (F.asked shelf.new) result }
-    ensures holds { F.holds shelf.new ≡ F.holds shelf.old }
-    ensures later { F.faults shelf.old ≤ F.faults shelf.new }
-    ensures cause { IsCausedBy result (Rose (F.faults shelf.old) (F.faults shelf.new)) }
+    ensures { Does AnswersDue (work_of (form_view form.entry)) (seen_shelf F.Shelf shelf.old shelf.new) result }
 {
     match form {
         Form::Check { model, certificate } => {

@@ -1,11 +1,11 @@
 //! The survey of the model in a file, whose refusals tell bodies by their names.
 
-ghost use Rattle.std.specs.Prelude.{◌≡◌, ◌≤◌, [], map, get_or, IfOk, string_bytes};
-ghost use Rattle.stack_outside.specs.Faults.{Rose};
+ghost use Rattle.std.specs.Prelude.{◌≡◌, [], map, get_or, IfOk, string_bytes};
+ghost use Rattle.stack_outside.specs.Seen.{seen_shelf};
 ghost use Rattle.stack_model.specs.ModelView.{model_view};
 ghost use Rattle.stack_forms.specs.Work.{surveys};
 ghost use Rattle.stack_forms.specs.Surveying.{structure_names, survey_step, surveyed_file};
-ghost use Rattle.stack_forms.specs.Progress.{Does, DoesAlone, IsSeenSurvey, IsCausedBy};
+ghost use Rattle.stack_forms.specs.Progress.{Does, DoesAlone, IsSeenSurvey};
 
 use crate::reading::model_file;
 use stack_contact::survey;
@@ -38,8 +38,7 @@ fn name_at(names: &[String], i: usize) -> &str
 
 /// The survey of a model. The model is consumed, so its names are read before.
 pub fn survey_model(alloc: Global, model: Model) -> Result<Survey, Refusal>
-    ensures does { DoesAlone IsSeenSurvey (surveys (model_view model) (survey_step (model_view model))) result }
-    ensures no_file { IsCausedBy result ⊥ }
+    ensures { DoesAlone IsSeenSurvey (surveys (model_view model) (survey_step (model_view model))) result }
 {
     let names = names_of(alloc, &model)?;
     match survey(alloc, model) {
@@ -55,11 +54,7 @@ pub fn survey_model(alloc: Global, model: Model) -> Result<Survey, Refusal>
 
 /// The survey of the model in a file.
 pub fn survey_file<F: Shelf>(alloc: Global, shelf: &mut F, name: &str) -> Result<Survey, Refusal>
-    ensures does { Does IsSeenSurvey (F.holds shelf.old) (surveyed_file name.now) (F.asked shelf.old)
-        (F.asked shelf.new) result }
-    ensures holds { F.holds shelf.new ≡ F.holds shelf.old }
-    ensures later { F.faults shelf.old ≤ F.faults shelf.new }
-    ensures cause { IsCausedBy result (Rose (F.faults shelf.old) (F.faults shelf.new)) }
+    ensures { Does IsSeenSurvey (surveyed_file name.now) (seen_shelf F.Shelf shelf.old shelf.new) result }
 {
     match model_file(alloc, shelf, name) {
         Ok(model) => survey_model(alloc, model),

@@ -27,7 +27,7 @@ reason_text s (reasons.Resisted k) = codes "resisted " ++ decimal (k + 1)
 reason_text s reasons.NoWork = codes "no work"
 reason_text s reasons.Apart = codes "apart"
 
--- The answers of a check.
+-- The line of a certificate that is accepted.
 abbrev pub accepted_text : List ℕ
 accepted_text = codes "accepted" ++ 10 ∷ []
 

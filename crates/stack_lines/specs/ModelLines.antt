@@ -42,7 +42,7 @@ content_text contents.Memory = codes "memory"
 content_text (contents.NoJointMaterial joint) = codes "no material joint " ++ decimal (joint + 1)
 content_text (contents.SameJoint joint) = codes "same joint " ++ decimal (joint + 1)
 
--- A fault of the file.
+-- A fault of the file, with its place and its key.
 unfoldable pub fault_text : ReadError → List ℕ
 fault_text reads.NotToml = codes "not toml"
 fault_text (reads.UnknownKey spot) = codes "unknown key " ++ spot_text spot

@@ -202,7 +202,7 @@ within_text withins.LeastSide = codes "least "
 within_text (withins.Stage number) = codes "stage " ++ decimal number ++ codes " "
 within_text (withins.Direction number) = codes "dir " ++ decimal number ++ codes " "
 
--- The line.
+-- The line of a fault of the work.
 abbrev pub fault_line : Fault → List ℕ
 fault_line (long input) = codes "long " ++ input_word input
 fault_line (content e) = codes "model " ++ fault_text e

@@ -14,9 +14,9 @@ use std::alloc::{AllocError, Global};
 /// What an answer says.
 #[derive(Clone, Copy, Debug, PartialEq, Eq)]
 pub enum Verdict {
-    /// The certificate is accepted.
+    /// What was asked is so: a certificate is accepted, the structure carries what is asked, a table is given.
     Affirmed,
-    /// The certificate is rejected.
+    /// It isn't: the certificate is rejected, or the structure collapses.
     Denied,
 }
 

@@ -26,6 +26,7 @@ pub struct FaultText {
     pub fault: ReadError,
 }
 
+/// The word for what a model has too many of.
 fn what_text(what: What) -> &'static str
     ensures { result.now ≡ what_word what }
 {

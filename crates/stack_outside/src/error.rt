@@ -12,7 +12,7 @@ pub enum ShelfError {
     Failed,
     /// The name holds more bytes than were allowed.
     TooLong,
-    /// Memory was wanting.
+    /// Memory ran out.
     Memory,
 }
 

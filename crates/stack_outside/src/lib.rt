@@ -5,7 +5,7 @@
 //!
 //! ```text
 //! let mut shelf = MemoryShelf::new(files, fails); // "plan" holds "abc"; no read is to fail
-//! shelf.read("plan", 3) // "abc"
+//! shelf.read("plan", 3) // Ok, with the bytes of "abc"
 //! shelf.read("plan", 2) // Err(TooLong)
 //! shelf.read("absent", 2) // Err(Failed), and `faults` counts one more
 //! ```

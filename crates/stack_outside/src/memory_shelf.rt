@@ -103,7 +103,7 @@ impl Shelf for MemoryShelf {
         ensures later { shelf_faults self.old ≤ shelf_faults self.new }
         ensures bounded { StaysCounted (shelf_faults self.old) (shelf_faults self.new) }
         ensures cause { result ≡ Err ShelfError.Failed → Rose (shelf_faults self.old) (shelf_faults self.new) }
-        // Which answer it is, unless memory is wanting.
+        // Which answer it is, unless memory ran out.
         ensures exact { let listed = list_any (λ call. call == counted (shelf_calls self.old)) (shelf_fails self.old) in
             Answers result (memory_read (shelf_holds self.old name.now) listed most) }
         ensures count { shelf_faults self.new ≡

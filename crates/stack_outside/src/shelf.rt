@@ -17,7 +17,7 @@ pub trait Shelf {
     ghost faults: { Self → ℕ };
 
     /// All that the name holds, at most `most` bytes. `Failed` where the device fails or nothing has the
-    /// name, with its count risen; `TooLong` where the name holds more bytes; `Memory` where memory is wanting.
+    /// name, with its count risen; `TooLong` where the name holds more bytes; `Memory` where memory ran out.
     fn read(&mut self, name: &str, most: usize) -> Result<Vec<u8>, ShelfError>
         requires { most < usize.MAX }
         ensures gives { ReadGives (holds self.old name.now) most result }

@@ -1,7 +1,7 @@
 //! The words `stages MODEL ORDER [PIVOTS]`.
 
 ghost use Rattle.std.specs.Prelude.{◌≡◌, ◌≢◌, ◌≤◌, ◌⊎◌, length};
-ghost use Rattle.stack_outside.specs.Faults.{Rose};
+ghost use Rattle.stack_outside.specs.Seen.{seen_shelf};
 ghost use Rattle.stack_stages.specs.Stage.{stage as stage_structure};
 ghost use Rattle.stack_stages.specs.Staged.{staged};
 ghost use Rattle.stack_stages.specs.Gives.{stages_view};
@@ -9,7 +9,7 @@ ghost use Rattle.stack_lines.specs.Answers.{stages_verdict as stages_verdict_of}
 ghost use Rattle.stack_lines.specs.Refusals.{refusal_view, faulty};
 ghost use Rattle.stack_forms.specs.Judging.{wide_within};
 ghost use Rattle.stack_forms.specs.Building.{stages_step, ordered, ordered_file, stages_work};
-ghost use Rattle.stack_forms.specs.Progress.{Does, DoesAlone, AnswersDue, IsCausedBy};
+ghost use Rattle.stack_forms.specs.Progress.{Does, DoesAlone, AnswersDue};
 
 use crate::forms::judging::wide;
 use crate::reading::read_file;
@@ -58,9 +58,8 @@ fn stages_survey(
     budget: u32,
 ) -> Result<Answer, Refusal>
     requires { budget ≢ 0 }
-    ensures does { DoesAlone AnswersDue (stages_step budget survey.now order.now (staged survey.now order.now budget))
+    ensures { DoesAlone AnswersDue (stages_step budget survey.now order.now (staged survey.now order.now budget))
         result }
-    ensures no_file { IsCausedBy result ⊥ }
 {
     match stages(alloc, survey, order, budget) {
         Ok(found) => Ok(Answer {
@@ -78,8 +77,7 @@ fn stages_survey(
 /// What comes of the stages of the order in a text.
 fn order_text(alloc: Global, text: &[u8], survey: &Survey, budget: u32) -> Result<Answer, Refusal>
     requires { budget ≢ 0 }
-    ensures does { DoesAlone AnswersDue (ordered budget survey.now text.now) result }
-    ensures no_file { IsCausedBy result ⊥ }
+    ensures { DoesAlone AnswersDue (ordered budget survey.now text.now) result }
 {
     match read_order(alloc, survey.model(), text) {
         Ok(order) => stages_survey(alloc, survey, order.as_slice(), budget),
@@ -96,11 +94,8 @@ fn order_file<F: Shelf>(
     budget: u32,
 ) -> Result<Answer, Refusal>
     requires { budget ≢ 0 }
-    ensures does { Does AnswersDue (F.holds shelf.old) (ordered_file name.now budget survey.now) (F.asked shelf.old)
-        (F.asked shelf.new) result }
-    ensures holds { F.holds shelf.new ≡ F.holds shelf.old }
-    ensures later { F.faults shelf.old ≤ F.faults shelf.new }
-    ensures cause { IsCausedBy result (Rose (F.faults shelf.old) (F.faults shelf.new)) }
+    ensures { Does AnswersDue (ordered_file name.now budget survey.now)
+        (seen_shelf F.Shelf shelf.old shelf.new) result }
 {
     match read_file(shelf, name, Input::Order) {
         Ok(text) => order_text(alloc, text.as_slice(), survey, budget),
@@ -117,11 +112,7 @@ pub fn stages_form<F: Shelf>(
     budget: u32,
 ) -> Result<Answer, Refusal>
     requires { budget ≢ 0 }
-    ensures does { Does AnswersDue (F.holds shelf.old) (stages_work model.now order.now budget) (F.asked shelf.old)
-        (F.asked shelf.new) result }
-    ensures holds { F.holds shelf.new ≡ F.holds shelf.old }
-    ensures later { F.faults shelf.old ≤ F.faults shelf.new }
-    ensures cause { IsCausedBy result (Rose (F.faults shelf.old) (F.faults shelf.new)) }
+    ensures { Does AnswersDue (stages_work model.now order.now budget) (seen_shelf F.Shelf shelf.old shelf.new) result }
 {
     match survey_file(alloc, shelf, model) {
         Ok(survey) => order_file(alloc, shelf, order, &survey, budget),

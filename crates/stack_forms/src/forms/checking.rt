@@ -1,13 +1,13 @@
 //! The words `check MODEL CERT` and `table MODEL CERT`.
 
-ghost use Rattle.std.specs.Prelude.{◌≡◌, ◌≤◌};
-ghost use Rattle.stack_outside.specs.Faults.{Rose};
+ghost use Rattle.std.specs.Prelude.{◌≡◌};
+ghost use Rattle.stack_outside.specs.Seen.{seen_shelf};
 ghost use Rattle.stack_certificate.specs.Certificate.{certificate_view};
 ghost use Rattle.stack_checker.specs.WrittenCheck.{written_check};
 ghost use Rattle.stack_checker.specs.declared.types.Check.TheVariants.{Accepted};
-ghost use Rattle.stack_forms.specs.Checking.{check_step, certificate_due, certified, checked, certificate_work};
+ghost use Rattle.stack_forms.specs.Checking.{check_step, certificate_due, checked, checked_file, certificate_work};
 ghost use Rattle.stack_forms.specs.Tables.{due_of};
-ghost use Rattle.stack_forms.specs.Progress.{Does, DoesAlone, AnswersDue, IsCausedBy};
+ghost use Rattle.stack_forms.specs.Progress.{Does, DoesAlone, AnswersDue};
 
 use crate::forms::tabling::tables;
 use crate::reading::read_file;
@@ -30,8 +30,7 @@ pub enum Asked {
 
 /// The answer to what a check gives, or the refusal of a sum that is too wide.
 fn check_answer(alloc: Global, survey: &Survey, check: Check) -> Result<Answer, Refusal>
-    ensures does { DoesAlone AnswersDue (check_step survey.now.structure check) result }
-    ensures no_file { IsCausedBy result ⊥ }
+    ensures { DoesAlone AnswersDue (check_step survey.now.structure check) result }
 {
     match check {
         Check::Accepted => Ok(Answer {
@@ -58,8 +57,7 @@ fn accepted_answer(
     asked: Asked,
 ) -> Result<Answer, Refusal>
     requires { written_check survey.now (certificate_view certificate.now) ≡ Accepted }
-    ensures does { DoesAlone AnswersDue (due_of asked survey.now (certificate_view certificate.now)) result }
-    ensures no_file { IsCausedBy result ⊥ }
+    ensures { DoesAlone AnswersDue (due_of asked survey.now (certificate_view certificate.now)) result }
 {
     match asked {
         Asked::Acceptance => check_answer(alloc, survey, Check::Accepted),
@@ -74,9 +72,8 @@ fn certificate_answer(
     certificate: &Certificate,
     asked: Asked,
 ) -> Result<Answer, Refusal>
-    ensures does { DoesAlone AnswersDue (certificate_due (due_of asked) survey.now (certificate_view certificate.now)
+    ensures { DoesAlone AnswersDue (certificate_due (due_of asked) survey.now (certificate_view certificate.now)
         (written_check survey.now (certificate_view certificate.now))) result }
-    ensures no_file { IsCausedBy result ⊥ }
 {
     match stack_checker::check(survey, certificate) {
         Check::Accepted => accepted_answer(alloc, survey, certificate, asked),
@@ -92,8 +89,7 @@ fn certificate_text(
     survey: &Survey,
     asked: Asked,
 ) -> Result<Answer, Refusal>
-    ensures does { DoesAlone AnswersDue (certified (due_of asked) survey.now text.now) result }
-    ensures no_file { IsCausedBy result ⊥ }
+    ensures { DoesAlone AnswersDue (checked (due_of asked) survey.now text.now) result }
 {
     match stack_certificate::read_certificate(alloc, text) {
         Ok(certificate) => certificate_answer(alloc, survey, &certificate, asked),
@@ -110,11 +106,8 @@ fn certificate_file<F: Shelf>(
     survey: &Survey,
     asked: Asked,
 ) -> Result<Answer, Refusal>
-    ensures does { Does AnswersDue (F.holds shelf.old) (checked (due_of asked) name.now survey.now)
-        (F.asked shelf.old) (F.asked shelf.new) result }
-    ensures holds { F.holds shelf.new ≡ F.holds shelf.old }
-    ensures later { F.faults shelf.old ≤ F.faults shelf.new }
-    ensures cause { IsCausedBy result (Rose (F.faults shelf.old) (F.faults shelf.new)) }
+    ensures { Does AnswersDue (checked_file (due_of asked) name.now survey.now)
+        (seen_shelf F.Shelf shelf.old shelf.new) result }
 {
     match read_file(shelf, name, Input::Certificate) {
         Ok(text) => certificate_text(alloc, text.as_slice(), survey, asked),
@@ -130,11 +123,8 @@ pub fn certificate_form<F: Shelf>(
     certificate: &str,
     asked: Asked,
 ) -> Result<Answer, Refusal>
-    ensures does { Does AnswersDue (F.holds shelf.old) (certificate_work (due_of asked) model.now certificate.now)
-        (F.asked shelf.old) (F.asked shelf.new) result }
-    ensures holds { F.holds shelf.new ≡ F.holds shelf.old }
-    ensures later { F.faults shelf.old ≤ F.faults shelf.new }
-    ensures cause { IsCausedBy result (Rose (F.faults shelf.old) (F.faults shelf.new)) }
+    ensures { Does AnswersDue (certificate_work (due_of asked) model.now certificate.now)
+        (seen_shelf F.Shelf shelf.old shelf.new) result }
 {
     match survey_file(alloc, shelf, model) {
         Ok(survey) => certificate_file(alloc, shelf, certificate, &survey, asked),

@@ -1,12 +1,12 @@
 //! The words `stand MODEL [PIVOTS]` and `load MODEL [PIVOTS]`.
 
-ghost use Rattle.std.specs.Prelude.{◌≡◌, ◌≢◌, ◌≤◌, ◌⊎◌};
-ghost use Rattle.stack_outside.specs.Faults.{Rose};
+ghost use Rattle.std.specs.Prelude.{◌≡◌, ◌≢◌, ◌⊎◌};
+ghost use Rattle.stack_outside.specs.Seen.{seen_shelf};
 ghost use Rattle.stack_certificate.specs.Certificate.{certificate_view};
 ghost use Rattle.stack_lines.specs.Answers.{verdict_of as verdict_of_value};
-ghost use Rattle.stack_lines.specs.Refusals.{refusal_view, faulty, memory};
+ghost use Rattle.stack_lines.specs.Refusals.{refusal_view, faulty};
 ghost use Rattle.stack_forms.specs.Judging.{wide_within, judged, judge_work};
-ghost use Rattle.stack_forms.specs.Progress.{Does, DoesAlone, AnswersDue, IsCausedBy};
+ghost use Rattle.stack_forms.specs.Progress.{Does, DoesAlone, AnswersDue};
 
 use crate::surveying::survey_file;
 use stack_certificate::types::Certificate;
@@ -55,8 +55,7 @@ fn judge_survey(
     budget: u32,
 ) -> Result<Answer, Refusal>
     requires { budget ≢ 0 }
-    ensures does { DoesAlone AnswersDue (judged question budget survey.now) result }
-    ensures no_file { IsCausedBy result ⊥ }
+    ensures { DoesAlone AnswersDue (judged question budget survey.now) result }
 {
     match judge(alloc, survey, question, budget) {
         Ok(certificate) => Ok(Answer {
@@ -79,11 +78,7 @@ pub fn judge_form<F: Shelf>(
     budget: u32,
 ) -> Result<Answer, Refusal>
     requires { budget ≢ 0 }
-    ensures does { Does AnswersDue (F.holds shelf.old) (judge_work question model.now budget) (F.asked shelf.old)
-        (F.asked shelf.new) result }
-    ensures holds { F.holds shelf.new ≡ F.holds shelf.old }
-    ensures later { F.faults shelf.old ≤ F.faults shelf.new }
-    ensures cause { IsCausedBy result (Rose (F.faults shelf.old) (F.faults shelf.new)) }
+    ensures { Does AnswersDue (judge_work question model.now budget) (seen_shelf F.Shelf shelf.old shelf.new) result }
 {
     match survey_file(alloc, shelf, model) {
         Ok(survey) => judge_survey(alloc, &survey, question, budget),

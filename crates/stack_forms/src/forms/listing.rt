@@ -1,9 +1,8 @@
 //! The words `contacts MODEL`.
 
-ghost use Rattle.std.specs.Prelude.{◌≡◌, ◌≤◌};
-ghost use Rattle.stack_outside.specs.Faults.{Rose};
+ghost use Rattle.stack_outside.specs.Seen.{seen_shelf};
 ghost use Rattle.stack_forms.specs.Listing.{contacts_due, contacts_work};
-ghost use Rattle.stack_forms.specs.Progress.{Does, DoesAlone, AnswersDue, IsCausedBy};
+ghost use Rattle.stack_forms.specs.Progress.{Does, DoesAlone, AnswersDue};
 
 use crate::surveying::survey_file;
 use stack_contact::types::Survey;
@@ -13,8 +12,7 @@ use std::alloc::Global;
 
 /// The table of the contacts of a survey.
 fn list(alloc: Global, survey: &Survey) -> Result<Answer, Refusal>
-    ensures does { DoesAlone AnswersDue (contacts_due survey.now) result }
-    ensures no_file { IsCausedBy result ⊥ }
+    ensures { DoesAlone AnswersDue (contacts_due survey.now) result }
 {
     Ok(Answer {
         verdict: Verdict::Affirmed,
@@ -24,11 +22,7 @@ fn list(alloc: Global, survey: &Survey) -> Result<Answer, Refusal>
 
 /// The words `contacts MODEL`.
 pub fn contacts_form<F: Shelf>(alloc: Global, shelf: &mut F, model: &str) -> Result<Answer, Refusal>
-    ensures does { Does AnswersDue (F.holds shelf.old) (contacts_work model.now) (F.asked shelf.old) (F.asked shelf.new)
-        result }
-    ensures holds { F.holds shelf.new ≡ F.holds shelf.old }
-    ensures later { F.faults shelf.old ≤ F.faults shelf.new }
-    ensures cause { IsCausedBy result (Rose (F.faults shelf.old) (F.faults shelf.new)) }
+    ensures { Does AnswersDue (contacts_work model.now) (seen_shelf F.Shelf shelf.old shelf.new) result }
 {
     match survey_file(alloc, shelf, model) {
         Ok(survey) => list(alloc, &survey),

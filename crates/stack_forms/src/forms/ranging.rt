@@ -1,11 +1,11 @@
 //! The words `range MODEL [PIVOTS]`.
 
-ghost use Rattle.std.specs.Prelude.{◌≡◌, ◌≢◌, ◌≤◌};
-ghost use Rattle.stack_outside.specs.Faults.{Rose};
+ghost use Rattle.std.specs.Prelude.{◌≡◌, ◌≢◌};
+ghost use Rattle.stack_outside.specs.Seen.{seen_shelf};
 ghost use Rattle.stack_range.specs.Ranged.{range_view};
 ghost use Rattle.stack_lines.specs.Answers.{range_verdict as range_verdict_of};
 ghost use Rattle.stack_forms.specs.Ranging.{within_of, range_told, range_work};
-ghost use Rattle.stack_forms.specs.Progress.{Does, DoesAlone, AnswersDue, IsCausedBy};
+ghost use Rattle.stack_forms.specs.Progress.{Does, DoesAlone, AnswersDue};
 
 use crate::forms::judging::wide;
 use crate::surveying::survey_file;
@@ -39,8 +39,7 @@ fn within(side: Side) -> Within
 /// The range of a survey.
 fn range_survey(alloc: Global, survey: &Survey, budget: u32) -> Result<Answer, Refusal>
     requires { budget ≢ 0 }
-    ensures does { DoesAlone AnswersDue (range_told budget survey.now) result }
-    ensures no_file { IsCausedBy result ⊥ }
+    ensures { DoesAlone AnswersDue (range_told budget survey.now) result }
 {
     match range(alloc, survey, budget) {
         Ok(found) => {
@@ -65,11 +64,7 @@ pub fn range_form<F: Shelf>(
     budget: u32,
 ) -> Result<Answer, Refusal>
     requires { budget ≢ 0 }
-    ensures does { Does AnswersDue (F.holds shelf.old) (range_work model.now budget) (F.asked shelf.old)
-        (F.asked shelf.new) result }
-    ensures holds { F.holds shelf.new ≡ F.holds shelf.old }
-    ensures later { F.faults shelf.old ≤ F.faults shelf.new }
-    ensures cause { IsCausedBy result (Rose (F.faults shelf.old) (F.faults shelf.new)) }
+    ensures { Does AnswersDue (range_work model.now budget) (seen_shelf F.Shelf shelf.old shelf.new) result }
 {
     match survey_file(alloc, shelf, model) {
         Ok(survey) => range_survey(alloc, &survey, budget),

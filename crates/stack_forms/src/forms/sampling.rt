@@ -10,7 +10,7 @@ ghost use Rattle.stack_lines.specs.Answers.{summary};
 ghost use Rattle.stack_forms.specs.Work.{gives};
 ghost use Rattle.stack_forms.specs.Stacking.{built_step};
 ghost use Rattle.stack_forms.specs.Sampling.{sample_of, sampled, wall_sampled, sample_work};
-ghost use Rattle.stack_forms.specs.Progress.{DoesAlone, IsModel, AnswersDue, IsCausedBy};
+ghost use Rattle.stack_forms.specs.Progress.{DoesAlone, IsModel, AnswersDue};
 
 use crate::forms::DEFAULT_BUDGET;
 use crate::forms::judging::wide;
@@ -29,7 +29,6 @@ use std::alloc::Global;
 fn built(alloc: Global, number: u32) -> Result<Model, Refusal>
     ensures does { DoesAlone IsModel (built_step (sample_of number)) result }
     ensures live { IfOk result (λ m. HasLive (model_view m)) }
-    ensures no_file { IsCausedBy result ⊥ }
 {
     match wall(alloc, number) {
         Ok(model) => Ok(model),
@@ -46,9 +45,8 @@ fn summed(
     narrow: bool,
 ) -> Result<Answer, Refusal>
     requires { IsJudged Live survey.now (certificate_view certificate.now) }
-    ensures does { DoesAlone AnswersDue (gives (summary number survey.now
+    ensures { DoesAlone AnswersDue (gives (summary number survey.now
         (certificate_view certificate.now) narrow)) result }
-    ensures no_file { IsCausedBy result ⊥ }
 {
     Ok(Answer {
         verdict: Verdict::Affirmed,
@@ -59,8 +57,7 @@ fn summed(
 /// The summary of the judgement of a wall's survey.
 fn sample_survey(alloc: Global, number: u32, survey: &Survey) -> Result<Answer, Refusal>
     requires { HasLive survey.now.structure }
-    ensures does { DoesAlone AnswersDue (sampled number survey.now) result }
-    ensures no_file { IsCausedBy result ⊥ }
+    ensures { DoesAlone AnswersDue (sampled number survey.now) result }
 {
     match judge_marked(alloc, survey, Question::Live, DEFAULT_BUDGET) {
         Ok((certificate, narrow)) => summed(alloc, number, survey, &certificate, narrow),
@@ -74,8 +71,7 @@ fn sample_survey(alloc: Global, number: u32, survey: &Survey) -> Result<Answer, 
 /// The summary of a wall.
 fn sample_wall(alloc: Global, number: u32, model: Model) -> Result<Answer, Refusal>
     requires { HasLive (model_view model) }
-    ensures does { DoesAlone AnswersDue (wall_sampled number (model_view model)) result }
-    ensures no_file { IsCausedBy result ⊥ }
+    ensures { DoesAlone AnswersDue (wall_sampled number (model_view model)) result }
 {
     match survey_model(alloc, model) {
         Ok(survey) => sample_survey(alloc, number, &survey),
@@ -85,8 +81,7 @@ fn sample_wall(alloc: Global, number: u32, model: Model) -> Result<Answer, Refus
 
 /// The words `sample N`.
 pub fn sample_form(alloc: Global, number: u32) -> Result<Answer, Refusal>
-    ensures does { DoesAlone AnswersDue (sample_work number) result }
-    ensures no_file { IsCausedBy result ⊥ }
+    ensures { DoesAlone AnswersDue (sample_work number) result }
 {
     match built(alloc, number) {
         Ok(model) => sample_wall(alloc, number, model),

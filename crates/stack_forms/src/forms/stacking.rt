@@ -5,7 +5,7 @@ ghost use Rattle.stack_overhang.specs.Gives.{GivesStack};
 ghost use Rattle.stack_lines.specs.Answers.{document};
 ghost use Rattle.stack_forms.specs.Work.{gives};
 ghost use Rattle.stack_forms.specs.Stacking.{stack_of, built_step, stack_work};
-ghost use Rattle.stack_forms.specs.Progress.{DoesAlone, IsModel, AnswersDue, IsCausedBy};
+ghost use Rattle.stack_forms.specs.Progress.{DoesAlone, IsModel, AnswersDue};
 
 use crate::forms::Kind;
 use stack_lines::{Answer, Refusal, Verdict};
@@ -26,8 +26,7 @@ fn stack(alloc: Global, kind: Kind, size: u32) -> Result<Model, StackError>
 
 /// The same, or the refusal of its size.
 fn built(alloc: Global, kind: Kind, size: u32) -> Result<Model, Refusal>
-    ensures does { DoesAlone IsModel (built_step (stack_of kind size)) result }
-    ensures no_file { IsCausedBy result ⊥ }
+    ensures { DoesAlone IsModel (built_step (stack_of kind size)) result }
 {
     match stack(alloc, kind, size) {
         Ok(model) => Ok(model),
@@ -37,8 +36,7 @@ fn built(alloc: Global, kind: Kind, size: u32) -> Result<Model, Refusal>
 
 /// The document of a model.
 fn described(alloc: Global, model: &Model) -> Result<Answer, Refusal>
-    ensures does { DoesAlone AnswersDue (gives (document (model_view model.now))) result }
-    ensures no_file { IsCausedBy result ⊥ }
+    ensures { DoesAlone AnswersDue (gives (document (model_view model.now))) result }
 {
     Ok(Answer {
         verdict: Verdict::Affirmed,
@@ -48,8 +46,7 @@ fn described(alloc: Global, model: &Model) -> Result<Answer, Refusal>
 
 /// The words `stack KIND N`.
 pub fn stack_form(alloc: Global, kind: Kind, size: u32) -> Result<Answer, Refusal>
-    ensures does { DoesAlone AnswersDue (stack_work kind size) result }
-    ensures no_file { IsCausedBy result ⊥ }
+    ensures { DoesAlone AnswersDue (stack_work kind size) result }
 {
     match built(alloc, kind, size) {
         Ok(model) => described(alloc, &model),

@@ -5,7 +5,7 @@ ghost use Rattle.stack_certificate.specs.Certificate.{certificate_view};
 ghost use Rattle.stack_checker.specs.WrittenCheck.{written_check};
 ghost use Rattle.stack_checker.specs.declared.types.Check.TheVariants.{Accepted};
 ghost use Rattle.stack_forms.specs.Tables.{table_due};
-ghost use Rattle.stack_forms.specs.Progress.{DoesAlone, AnswersDue, IsCausedBy};
+ghost use Rattle.stack_forms.specs.Progress.{DoesAlone, AnswersDue};
 
 use stack_certificate::types::Certificate;
 use stack_contact::types::Survey;
@@ -16,8 +16,7 @@ use std::alloc::Global;
 /// The tables of an accepted certificate.
 pub fn tables(alloc: Global, survey: &Survey, certificate: &Certificate) -> Result<Answer, Refusal>
     requires { written_check survey.now (certificate_view certificate.now) ≡ Accepted }
-    ensures does { DoesAlone AnswersDue (table_due survey.now (certificate_view certificate.now)) result }
-    ensures no_file { IsCausedBy result ⊥ }
+    ensures { DoesAlone AnswersDue (table_due survey.now (certificate_view certificate.now)) result }
 {
     let mut text = contact_table(alloc, survey)?;
     match force_table(alloc, survey, certificate) {

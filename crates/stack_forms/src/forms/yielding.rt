@@ -2,7 +2,7 @@
 
 ghost use Rattle.std.specs.Prelude.{◌≡◌, ◌≢◌, ◌≤◌, ◌<◌, ◌+◌, ◌⊎◌, length};
 ghost use Rattle.std.specs.List.{All};
-ghost use Rattle.stack_outside.specs.Faults.{Rose};
+ghost use Rattle.stack_outside.specs.Seen.{seen_shelf};
 ghost use Rattle.stack_pairs.specs.Directed.{ArePair};
 ghost use Rattle.stack_yield.specs.Directions.{IsDirection};
 ghost use Rattle.stack_yield.specs.Kept.{region_view};
@@ -11,7 +11,7 @@ ghost use Rattle.stack_lines.specs.Answers.{region_verdict as region_verdict_of}
 ghost use Rattle.stack_lines.specs.Refusals.{refusal_view, faulty};
 ghost use Rattle.stack_forms.specs.Yielding.{wide_toward, region_step, directed, directed_file, paired_file};
 ghost use Rattle.stack_forms.specs.Yielding.{yield_work};
-ghost use Rattle.stack_forms.specs.Progress.{Does, DoesAlone, AnswersDue, IsCausedBy};
+ghost use Rattle.stack_forms.specs.Progress.{Does, DoesAlone, AnswersDue};
 
 use crate::forms::judging::wide;
 use crate::reading::read_file;
@@ -77,9 +77,8 @@ fn region_survey(
     requires some { 1 ≤ length directions.now }
     requires few { length directions.now ≤ 64 }
     requires budget { budget ≢ 0 }
-    ensures does { DoesAlone AnswersDue (region_step budget survey.now loads.0 loads.1 directions.now
+    ensures { DoesAlone AnswersDue (region_step budget survey.now loads.0 loads.1 directions.now
         (outcomes survey.now loads.0 loads.1 budget directions.now)) result }
-    ensures no_file { IsCausedBy result ⊥ }
 {
     match region(alloc, survey, loads.0, loads.1, directions, budget) {
         Ok(found) => {
@@ -107,8 +106,7 @@ fn directions_text(
 ) -> Result<Answer, Refusal>
     requires loads { ArePair survey.now.structure loads.0 loads.1 }
     requires budget { budget ≢ 0 }
-    ensures does { DoesAlone AnswersDue (directed budget survey.now loads text.now) result }
-    ensures no_file { IsCausedBy result ⊥ }
+    ensures { DoesAlone AnswersDue (directed budget survey.now loads text.now) result }
 {
     match read_directions(alloc, text) {
         Ok(directions) => region_survey(alloc, survey, loads, directions.as_slice(), budget),
@@ -127,11 +125,8 @@ fn directions_file<F: Shelf>(
 ) -> Result<Answer, Refusal>
     requires loads { ArePair survey.now.structure loads.0 loads.1 }
     requires budget { budget ≢ 0 }
-    ensures does { Does AnswersDue (F.holds shelf.old) (directed_file name.now budget survey.now loads)
-        (F.asked shelf.old) (F.asked shelf.new) result }
-    ensures holds { F.holds shelf.new ≡ F.holds shelf.old }
-    ensures later { F.faults shelf.old ≤ F.faults shelf.new }
-    ensures cause { IsCausedBy result (Rose (F.faults shelf.old) (F.faults shelf.new)) }
+    ensures { Does AnswersDue (directed_file name.now budget survey.now loads)
+        (seen_shelf F.Shelf shelf.old shelf.new) result }
 {
     match read_file(shelf, name, Input::Directions) {
         Ok(text) => directions_text(alloc, text.as_slice(), survey, loads, budget),
@@ -149,12 +144,8 @@ fn loads_file<F: Shelf>(
     budget: u32,
 ) -> Result<Answer, Refusal>
     requires { budget ≢ 0 }
-    ensures does { Does AnswersDue (F.holds shelf.old)
-        (paired_file numbers.0 numbers.1 directions.now budget survey.now) (F.asked shelf.old) (F.asked shelf.new)
-        result }
-    ensures holds { F.holds shelf.new ≡ F.holds shelf.old }
-    ensures later { F.faults shelf.old ≤ F.faults shelf.new }
-    ensures cause { IsCausedBy result (Rose (F.faults shelf.old) (F.faults shelf.new)) }
+    ensures { Does AnswersDue (paired_file numbers.0 numbers.1 directions.now budget survey.now)
+        (seen_shelf F.Shelf shelf.old shelf.new) result }
 {
     match pair(survey.model(), numbers.0, numbers.1) {
         Ok(loads) => directions_file(alloc, shelf, directions, survey, loads, budget),
@@ -172,12 +163,8 @@ pub fn yield_form<F: Shelf>(
     budget: u32,
 ) -> Result<Answer, Refusal>
     requires { budget ≢ 0 }
-    ensures does { Does AnswersDue (F.holds shelf.old)
-        (yield_work model.now numbers.0 numbers.1 directions.now budget) (F.asked shelf.old) (F.asked shelf.new)
-        result }
-    ensures holds { F.holds shelf.new ≡ F.holds shelf.old }
-    ensures later { F.faults shelf.old ≤ F.faults shelf.new }
-    ensures cause { IsCausedBy result (Rose (F.faults shelf.old) (F.faults shelf.new)) }
+    ensures { Does AnswersDue (yield_work model.now numbers.0 numbers.1 directions.now budget)
+        (seen_shelf F.Shelf shelf.old shelf.new) result }
 {
     match survey_file(alloc, shelf, model) {
         Ok(survey) => loads_file(alloc, shelf, &survey, numbers, directions, budget),

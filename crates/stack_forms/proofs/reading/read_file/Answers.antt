@@ -1,18 +1,21 @@
-use Rattle.stack_forms.proofs.FileRead.{gave, failed, was_long, asked_or_not}
+use Rattle.std.proofs.Common.{refl}
+use Rattle.stack_forms.proofs.FileRead.{gave, failed, was_long, wanted}
 use Rattle.stack_forms.proofs.reading.read_file.Goals as goal
 
-pub returns-in-Ok-clause-does : goal.returns-in-Ok-clause-does
-returns-in-Ok-clause-does g c = gave _ _ _ _ _ c.in-Ok.bytes c.in-Ok.ensures.gives c.in-Ok.ensures.asked
+pub returns-in-Ok : goal.returns-in-Ok
+returns-in-Ok g c = gave _ _ _ c.in-Ok.ensures.holds c.in-Ok.ensures.later c.in-Ok.bytes c.in-Ok.ensures.gives
+    c.in-Ok.ensures.asked
 
-pub returns-in-Err-Failed-clause-does : goal.returns-in-Err-Failed-clause-does
-returns-in-Err-Failed-clause-does g c = failed _ _ _ _ _ (rw c.in-Err-Failed.field-0-is at
-    c.in-Err-Failed.ensures.asked)
+pub returns-in-Err-Failed : goal.returns-in-Err-Failed
+returns-in-Err-Failed g c = failed _ _ _ c.in-Err-Failed.ensures.holds c.in-Err-Failed.ensures.later
+    (rw c.in-Err-Failed.field-0-is at c.in-Err-Failed.ensures.asked)
+    ((rw c.in-Err-Failed.field-0-is at c.in-Err-Failed.ensures.cause) refl)
 
-pub returns-in-Err-TooLong-clause-does : goal.returns-in-Err-TooLong-clause-does
-returns-in-Err-TooLong-clause-does g c =
-    was_long _ _ _ _ _ (rw c.in-Err-TooLong.field-0-is at c.in-Err-TooLong.ensures.gives)
+pub returns-in-Err-TooLong : goal.returns-in-Err-TooLong
+returns-in-Err-TooLong g c = was_long _ _ _ c.in-Err-TooLong.ensures.holds c.in-Err-TooLong.ensures.later
+    (rw c.in-Err-TooLong.field-0-is at c.in-Err-TooLong.ensures.gives)
     (rw c.in-Err-TooLong.field-0-is at c.in-Err-TooLong.ensures.asked)
 
-pub returns-in-Err-Memory-clause-does : goal.returns-in-Err-Memory-clause-does
-returns-in-Err-Memory-clause-does g c = asked_or_not _ _ _ _ _
+pub returns-in-Err-Memory : goal.returns-in-Err-Memory
+returns-in-Err-Memory g c = wanted _ _ _ c.in-Err-Memory.ensures.holds c.in-Err-Memory.ensures.later
     (rw c.in-Err-Memory.field-0-is at c.in-Err-Memory.ensures.asked)

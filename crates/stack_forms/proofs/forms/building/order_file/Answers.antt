@@ -2,12 +2,12 @@ use Rattle.stack_forms.specs.Building.{ordered_file}
 use Rattle.stack_forms.proofs.Steps.{then_alone, refused}
 use Rattle.stack_forms.proofs.forms.building.order_file.Goals as goal
 
-pub returns-in-Ok-clause-does : goal.returns-in-Ok-clause-does
+pub returns-in-Ok : goal.returns-in-Ok
 unfolding ordered_file
-returns-in-Ok-clause-does g c =
-    then_alone _ _ _ _ _ _ _ c.in-Ok.text _ c.in-Ok.ensures.does
-    (rw c.as_slice.ensures.value at c.order_text.ensures.does)
+returns-in-Ok g c =
+    then_alone g.F.Shelf _ _ _ _ _ _ c.in-Ok.text _
+    c.in-Ok.ensures (rw c.as_slice.ensures.value at c.order_text.ensures)
 
-pub returns-in-Err-clause-does : goal.returns-in-Err-clause-does
+pub returns-in-Err : goal.returns-in-Err
 unfolding ordered_file
-returns-in-Err-clause-does g c = refused _ _ _ _ _ _ _ c.in-Err.refusal c.in-Err.ensures.does
+returns-in-Err g c = refused _ _ _ _ _ c.in-Err.refusal c.in-Err.ensures

@@ -11,8 +11,8 @@ wide_stage-requires c =
     c.in-Err-TooWide.field-0-is c.in-Err-TooWide.ensures.refused in
     is_stage c.args.survey.now c.args.order.now c.args.budget c.in-Err-TooWide.stage _ h
 
-pub returns-in_ok-write_stages-in-Ok-clause-does : goal.returns-in_ok-write_stages-in-Ok-clause-does
-returns-in_ok-write_stages-in-Ok-clause-does c holds = (
+pub returns-in_ok-write_stages-in-Ok : goal.returns-in_ok-write_stages-in-Ok
+returns-in_ok-write_stages-in-Ok c holds = (
   stages_due c.args.survey.now c.args.order.now (stages_view c.in-Ok.found),
   record {
     are_true = c.in-Ok.ensures.certified;
@@ -24,15 +24,15 @@ returns-in_ok-write_stages-in-Ok-clause-does c holds = (
       c.in-Ok.ensures.certified c.in-Ok.ensures.gives,
 )
 
-pub returns-in-Err-TooWide-clause-does : goal.returns-in-Err-TooWide-clause-does
-returns-in-Err-TooWide-clause-does c holds =
+pub returns-in-Err-TooWide : goal.returns-in-Err-TooWide
+returns-in-Err-TooWide c holds =
     let h = subst (λ e. GivesStages (Err e) (staged c.args.survey.now c.args.order.now c.args.budget))
     c.in-Err-TooWide.field-0-is c.in-Err-TooWide.ensures.gives in
     stage_wide c.args.survey.now c.args.order.now c.args.budget holds c.in-Err-TooWide.stage c.in-Err-TooWide.place
     c.wide_stage.result h c.wide_stage.ensures
 
-pub returns-in-Err-Spent-clause-does : goal.returns-in-Err-Spent-clause-does
-returns-in-Err-Spent-clause-does c holds =
+pub returns-in-Err-Spent : goal.returns-in-Err-Spent
+returns-in-Err-Spent c holds =
     let h = subst (λ e. GivesStages (Err e) (staged c.args.survey.now c.args.order.now c.args.budget))
     c.in-Err-Spent.field-0-is c.in-Err-Spent.ensures.gives in
     stage_spent c.args.survey.now c.args.order.now c.args.budget holds c.in-Err-Spent.field-0-0 h

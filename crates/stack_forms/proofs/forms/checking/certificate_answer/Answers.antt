@@ -4,17 +4,17 @@ use Rattle.stack_forms.specs.Tables.{due_of}
 use Rattle.stack_forms.proofs.CertificateChecked.{by_check}
 use Rattle.stack_forms.proofs.forms.checking.certificate_answer.Goals as goal
 
-pub returns-in-Accepted-clause-does : goal.returns-in-Accepted-clause-does
-returns-in-Accepted-clause-does c = by_check (due_of c.args.asked) c.args.survey.now
+pub returns-in-Accepted : goal.returns-in-Accepted
+returns-in-Accepted c = by_check (due_of c.args.asked) c.args.survey.now
     (certificate_view c.args.certificate.now) Accepted c.accepted_answer.result c.in-Accepted.ensures.written
-    c.accepted_answer.ensures.does
+    c.accepted_answer.ensures
 
-pub returns-in-Rejected-clause-does : goal.returns-in-Rejected-clause-does
-returns-in-Rejected-clause-does c = by_check (due_of c.args.asked) c.args.survey.now
+pub returns-in-Rejected : goal.returns-in-Rejected
+returns-in-Rejected c = by_check (due_of c.args.asked) c.args.survey.now
     (certificate_view c.args.certificate.now) (Rejected c.in-Rejected.part c.in-Rejected.reason)
-    c.check_answer.result c.in-Rejected.ensures.written c.check_answer.ensures.does
+    c.check_answer.result c.in-Rejected.ensures.written c.check_answer.ensures
 
-pub returns-in-TooWide-clause-does : goal.returns-in-TooWide-clause-does
-returns-in-TooWide-clause-does c = by_check (due_of c.args.asked) c.args.survey.now
+pub returns-in-TooWide : goal.returns-in-TooWide
+returns-in-TooWide c = by_check (due_of c.args.asked) c.args.survey.now
     (certificate_view c.args.certificate.now) (TooWide c.in-TooWide.place) c.check_answer-in-TooWide.result
-    c.in-TooWide.ensures.written c.check_answer-in-TooWide.ensures.does
+    c.in-TooWide.ensures.written c.check_answer-in-TooWide.ensures

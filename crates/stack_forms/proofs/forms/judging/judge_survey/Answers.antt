@@ -8,8 +8,8 @@ use Rattle.stack_forms.specs.Work.{Ends}
 use Rattle.stack_forms.proofs.JudgementEnds.{certificate_ends, spent_ends, no_live_ends}
 use Rattle.stack_forms.proofs.forms.judging.judge_survey.Goals as goal
 
-pub returns-in_ok-write_certificate-in-Ok-clause-does : goal.returns-in_ok-write_certificate-in-Ok-clause-does
-returns-in_ok-write_certificate-in-Ok-clause-does c holds = (
+pub returns-in_ok-write_certificate-in-Ok : goal.returns-in_ok-write_certificate-in-Ok
+returns-in_ok-write_certificate-in-Ok c holds = (
   certificate c.args.question c.args.survey.now (certificate_view c.in-Ok.certificate),
   record {
     judged = c.in-Ok.ensures.judged;
@@ -20,14 +20,14 @@ returns-in_ok-write_certificate-in-Ok-clause-does c holds = (
       c.in-Ok.ensures.judges.0 c.in-Ok.ensures.judges.1,
 )
 
-pub returns-in-Err-Spent-clause-does : goal.returns-in-Err-Spent-clause-does
-returns-in-Err-Spent-clause-does c holds =
+pub returns-in-Err-Spent : goal.returns-in-Err-Spent
+returns-in-Err-Spent c holds =
     let h = subst (λ e. Judges (Err e) c.args.question c.args.survey.now c.args.budget) c.in-Err-Spent.field-0-is
     c.in-Err-Spent.ensures.judges in
     subst (λ n. Ends holds (judged c.args.question c.args.budget c.args.survey.now) [] (Err (faulty (over_budget n))))
     (sym h.2) (spent_ends c.args.question c.args.survey.now c.args.budget holds h.0 h.1)
 
-pub returns-in-Err-NoLive-clause-does : goal.returns-in-Err-NoLive-clause-does
-returns-in-Err-NoLive-clause-does c holds = no_live_ends c.args.question c.args.survey.now c.args.budget holds
+pub returns-in-Err-NoLive : goal.returns-in-Err-NoLive
+returns-in-Err-NoLive c holds = no_live_ends c.args.question c.args.survey.now c.args.budget holds
     (subst (λ e. Judges (Err e) c.args.question c.args.survey.now c.args.budget) c.in-Err-NoLive.field-0-is
     c.in-Err-NoLive.ensures.judges)

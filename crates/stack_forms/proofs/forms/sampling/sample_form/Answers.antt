@@ -9,12 +9,12 @@ use Rattle.stack_forms.specs.Sampling.{sample_of, wall_sampled, sample_work}
 use Rattle.stack_forms.proofs.Steps.{alone_then, alone_refused}
 use Rattle.stack_forms.proofs.forms.sampling.sample_form.Goals as goal
 
-pub returns-in-Ok-clause-does : goal.returns-in-Ok-clause-does
+pub returns-in-Ok : goal.returns-in-Ok
 unfolding sample_work
-returns-in-Ok-clause-does c = alone_then AnswersDue model_view (built_step (sample_of c.args.number))
-    (wall_sampled c.args.number) c.in-Ok.model c.sample_wall.result c.in-Ok.ensures.does c.sample_wall.ensures.does
+returns-in-Ok c = alone_then AnswersDue model_view (built_step (sample_of c.args.number))
+    (wall_sampled c.args.number) c.in-Ok.model c.sample_wall.result c.in-Ok.ensures.does c.sample_wall.ensures
 
-pub returns-in-Err-clause-does : goal.returns-in-Err-clause-does
+pub returns-in-Err : goal.returns-in-Err
 unfolding sample_work
-returns-in-Err-clause-does c = alone_refused {A = Structure} {B = Due} {X = Model} {Y = Answer} IsModel AnswersDue
+returns-in-Err c = alone_refused {A = Structure} {B = Due} {X = Model} {Y = Answer} IsModel AnswersDue
     (built_step (sample_of c.args.number)) (wall_sampled c.args.number) c.in-Err.refusal c.in-Err.ensures.does

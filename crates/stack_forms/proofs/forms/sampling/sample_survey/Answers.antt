@@ -6,19 +6,19 @@ use Rattle.stack_forms.specs.Judging.{default_budget}
 use Rattle.stack_forms.proofs.SampleEnds.{summed, too_wide_ends, spent_ends}
 use Rattle.stack_forms.proofs.forms.sampling.sample_survey.Goals as goal
 
-pub returns-in-Ok-clause-does : goal.returns-in-Ok-clause-does
-returns-in-Ok-clause-does c = summed c.args.number c.args.survey.now
+pub returns-in-Ok : goal.returns-in-Ok
+returns-in-Ok c = summed c.args.number c.args.survey.now
     (certificate_view c.in-Ok.certificate) c.in-Ok.narrow
-    c.summed.result c.in-Ok.ensures.judges.1 c.in-Ok.ensures.narrow c.summed.ensures.does
+    c.summed.result c.in-Ok.ensures.judges.1 c.in-Ok.ensures.narrow c.summed.ensures
 
-pub returns-in-Err-TooWide-clause-does : goal.returns-in-Err-TooWide-clause-does
-returns-in-Err-TooWide-clause-does c =
+pub returns-in-Err-TooWide : goal.returns-in-Err-TooWide
+returns-in-Err-TooWide c =
     let h = subst (λ e. Judges (Err e) Live c.args.survey.now default_budget) c.in-Err-TooWide.field-0-is
     c.in-Err-TooWide.ensures.judges in
     too_wide_ends c.args.number c.args.survey.now c.in-Err-TooWide.place c.wide.result h.1 c.wide.ensures
 
-pub returns-in-Err-Spent-clause-does : goal.returns-in-Err-Spent-clause-does
-returns-in-Err-Spent-clause-does c =
+pub returns-in-Err-Spent : goal.returns-in-Err-Spent
+returns-in-Err-Spent c =
     let h = subst (λ e. Judges (Err e) Live c.args.survey.now default_budget) c.in-Err-Spent.field-0-is
     c.in-Err-Spent.ensures.judges in
     spent_ends c.args.number c.args.survey.now c.in-Err-Spent.budget h.1 h.2

@@ -14,16 +14,16 @@ use Rattle.stack_forms.proofs.forms.sampling.sample_wall.Goals as goal
 
 pub sample_survey-requires : goal.sample_survey-requires
 sample_survey-requires c = subst HasLive (sym (same_structure
-    (model_view c.args.model) c.in-Ok.survey c.in-Ok.ensures.does))
+    (model_view c.args.model) c.in-Ok.survey c.in-Ok.ensures))
     c.requires
 
-pub returns-in-Ok-clause-does : goal.returns-in-Ok-clause-does
-returns-in-Ok-clause-does c = alone_then AnswersDue (λ x. x)
+pub returns-in-Ok : goal.returns-in-Ok
+returns-in-Ok c = alone_then AnswersDue (λ x. x)
     (surveys (model_view c.args.model) (survey_step (model_view c.args.model))) (sampled c.args.number) c.in-Ok.survey
-    c.sample_survey.result c.in-Ok.ensures.does c.sample_survey.ensures.does
+    c.sample_survey.result c.in-Ok.ensures c.sample_survey.ensures
 
-pub returns-in-Err-clause-does : goal.returns-in-Err-clause-does
-returns-in-Err-clause-does c = alone_refused {A = Surveyed} {B = Due} {X = Surveyed} {Y = Answer} IsSeenSurvey
+pub returns-in-Err : goal.returns-in-Err
+returns-in-Err c = alone_refused {A = Surveyed} {B = Due} {X = Surveyed} {Y = Answer} IsSeenSurvey
     AnswersDue
     (surveys (model_view c.args.model) (survey_step (model_view c.args.model))) (sampled c.args.number) c.in-Err.refusal
-    c.in-Err.ensures.does
+    c.in-Err.ensures

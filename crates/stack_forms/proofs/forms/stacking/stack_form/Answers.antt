@@ -9,12 +9,12 @@ use Rattle.stack_forms.specs.Stacking.{stack_of, built_step, stack_work}
 use Rattle.stack_forms.proofs.Steps.{alone_then, alone_refused}
 use Rattle.stack_forms.proofs.forms.stacking.stack_form.Goals as goal
 
-pub returns-in-Ok-clause-does : goal.returns-in-Ok-clause-does
+pub returns-in-Ok : goal.returns-in-Ok
 unfolding stack_work
-returns-in-Ok-clause-does c = alone_then AnswersDue model_view (built_step (stack_of c.args.kind c.args.size))
-    (λ s. gives (document s)) c.in-Ok.model c.described.result c.in-Ok.ensures.does c.described.ensures.does
+returns-in-Ok c = alone_then AnswersDue model_view (built_step (stack_of c.args.kind c.args.size))
+    (λ s. gives (document s)) c.in-Ok.model c.described.result c.in-Ok.ensures c.described.ensures
 
-pub returns-in-Err-clause-does : goal.returns-in-Err-clause-does
+pub returns-in-Err : goal.returns-in-Err
 unfolding stack_work
-returns-in-Err-clause-does c = alone_refused {A = Structure} {B = Due} {X = Model} {Y = Answer} IsModel AnswersDue
-    (built_step (stack_of c.args.kind c.args.size)) (λ s. gives (document s)) c.in-Err.refusal c.in-Err.ensures.does
+returns-in-Err c = alone_refused {A = Structure} {B = Due} {X = Model} {Y = Answer} IsModel AnswersDue
+    (built_step (stack_of c.args.kind c.args.size)) (λ s. gives (document s)) c.in-Err.refusal c.in-Err.ensures

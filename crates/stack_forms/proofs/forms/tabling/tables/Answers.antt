@@ -6,8 +6,8 @@ use Rattle.stack_forms.specs.Tables.{tables_text, tabled_by}
 use Rattle.stack_forms.specs.Work.{Ends}
 use Rattle.stack_forms.proofs.forms.tabling.tables.Goals as goal
 
-pub returns-in-Ok-clause-does : goal.returns-in-Ok-clause-does
-returns-in-Ok-clause-does c = λ holds. (
+pub returns-in-Ok : goal.returns-in-Ok
+returns-in-Ok c = λ holds. (
   exactly Affirmed (tables_text c.args.survey.now (certificate_view c.args.certificate.now)),
   (
     refl,

@@ -16,8 +16,8 @@ direction_number-requires c =
     c.in-Err-TooWide.direction c.in-Err-TooWide.place h in
     omega (arith, low, c.requires.few)
 
-pub returns-in-Ok-write_region-clause-does : goal.returns-in-Ok-write_region-clause-does
-returns-in-Ok-write_region-clause-does c holds = (
+pub returns-in-Ok-write_region : goal.returns-in-Ok-write_region
+returns-in-Ok-write_region c holds = (
   region_due c.args.survey.now c.args.loads.0 c.args.loads.1 c.args.directions.now (region_view c.in-Ok.found),
   record {
     are_loads = c.requires.loads;
@@ -29,22 +29,22 @@ returns-in-Ok-write_region-clause-does c holds = (
       (region_view c.in-Ok.found) c.in-Ok.ensures.regions,
 )
 
-pub returns-in-Err-TooWide-clause-does : goal.returns-in-Err-TooWide-clause-does
-returns-in-Err-TooWide-clause-does c holds =
+pub returns-in-Err-TooWide : goal.returns-in-Err-TooWide
+returns-in-Err-TooWide c holds =
     let h = subst (λ e. Regions (Err e) c.args.survey.now c.args.loads.0 c.args.loads.1 c.args.budget
     c.args.directions.now) c.in-Err-TooWide.field-0-is c.in-Err-TooWide.ensures.regions in
     direction_wide c.args.survey.now c.args.loads.0 c.args.loads.1 c.args.directions.now c.args.budget holds
     c.in-Err-TooWide.direction c.direction_number.result c.in-Err-TooWide.place c.wide_direction.result
     c.direction_number.ensures h c.wide_direction.ensures
 
-pub returns-in-Err-Spent-clause-does : goal.returns-in-Err-Spent-clause-does
-returns-in-Err-Spent-clause-does c holds =
+pub returns-in-Err-Spent : goal.returns-in-Err-Spent
+returns-in-Err-Spent c holds =
     let h = subst (λ e. Regions (Err e) c.args.survey.now c.args.loads.0 c.args.loads.1 c.args.budget
     c.args.directions.now) c.in-Err-Spent.field-0-is c.in-Err-Spent.ensures.regions in
     direction_spent c.args.survey.now c.args.loads.0 c.args.loads.1 c.args.directions.now c.args.budget holds
     c.in-Err-Spent.field-0-0 h
 
-pub returns-in-Err-clause-does : goal.returns-in-Err-clause-does
-returns-in-Err-clause-does c holds = wanting holds (region_step c.args.budget c.args.survey.now c.args.loads.0
+pub returns-in-Err : goal.returns-in-Err
+returns-in-Err c holds = wanting holds (region_step c.args.budget c.args.survey.now c.args.loads.0
     c.args.loads.1 c.args.directions.now
     (outcomes c.args.survey.now c.args.loads.0 c.args.loads.1 c.args.budget c.args.directions.now))
