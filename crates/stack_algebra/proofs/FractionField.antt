@@ -10,7 +10,7 @@ use Rattle.stack_algebra.specs.Fraction.{Fraction, ◌≤ᶠ◌, signed}
 use Rattle.stack_algebra.proofs.Fractions.{IsOver, is_self, reduce, reduce_is, same_values, add, add-is, mul, mul-is}
 use Rattle.stack_algebra.proofs.Fractions.{of, of-is, den_pos}
 
--- 0 at 0
+-- the inverse of a fraction whose numerator has the size n; 0 where n is 0
 pub inv_by : (x : Fraction) (n : ℕ) → Fraction
 inv_by x zero = of (pos 0)
 inv_by x (suc n) = reduce (signed x.num x.den) (suc n) (omega arith)
@@ -39,7 +39,7 @@ inv_mul x h = same_values _ _ _ _ _ _ (mul-is _ x _ _ _ _ (inv_by-is x (nat_abs 
     (of-is (pos 1))
     (ap (λ t. t *ℤ pos 1) (over_itself x.num x.den) ∙ *ℤ_comm (pos (nat_abs x.num) *ℤ pos x.den) (pos 1))
 
--- the order
+-- a positive factor is dropped from both sides of an order
 le_cancel : (c a b : ℤ) → pos 0 ≺ c → c *ℤ a ≼ c *ℤ b → a ≼ b
 le_cancel c a b h e = sub-nonneg a b (nonneg-cancel c (b -ℤ a) h (simp expand (omega (arith, sums))))
 

@@ -133,7 +133,7 @@ pub neg_own : (x : Fraction) → IsOver (neg x) (neg_ℤ x.num) (pos x.den)
 unfolding neg
 neg_own x = reduce_is (neg_ℤ x.num) x.den x.positive
 
--- the ring
+-- the laws of a ring, one after the other
 pub add_comm : (x y : Fraction) → add x y ≡ add y x
 add_comm x y = same_values _ _ _ _ _ _ (add-is x y _ _ _ _ (is_self x) (is_self y))
     (add-is y x _ _ _ _ (is_self y) (is_self x))

@@ -11,7 +11,7 @@ pair_first k = (omega arith, omega arith)
 pub pair_second : (k : ℕ) → ((2 * k + 1) / 2 ≡ k) × ((2 * k + 1) % 2 ≡ 1)
 pair_second k = (omega arith, omega arith)
 
--- and of each of three
+-- quotient and remainder of each of three
 pub three_first : (b : ℕ) → ((3 * b) / 3 ≡ b) × ((3 * b) % 3 ≡ 0)
 three_first b = (omega arith, omega arith)
 
@@ -36,7 +36,7 @@ sum_pairs (suc n) f = ap (λ k. sum_to k f) twice ∙ (λ i. sum_pairs n f i +�
     gathered : (a b c : ℤ) → a +ℤ b +ℤ c ≡ a +ℤ (b +ℤ c)
     gathered a b c = omega (arith, sums)
 
--- and three by three
+-- a sum taken three by three
 pub sum_threes : (n : ℕ) (f : ℕ → ℤ) →
     sum_to (3 * n) f ≡ sum_to n (λ b. f (3 * b) +ℤ f (3 * b + 1) +ℤ f (3 * b + 2))
 sum_threes zero f = refl

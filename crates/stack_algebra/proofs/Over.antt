@@ -16,7 +16,7 @@ use Rattle.stack_algebra.specs.Fraction.{Fraction, signed, low_num, low_den}
 use Rattle.stack_algebra.proofs.Fractions.{IsOver, is_self, reduce, reduce_is, same_values, of, of-is, add, mul}
 use Rattle.stack_algebra.proofs.Fractions.{add-is, mul-is}
 
--- 0 where the denominator is not positive
+-- z over d in lowest terms; 0 where the denominator is not positive
 pub over : ℤ → ℤ → Fraction
 over z (pos zero) = of (pos 0)
 over z (pos (suc d)) = reduce z (suc d) (omega arith)
@@ -64,7 +64,7 @@ mul-over x y = same_values _ _ (x.num *ℤ y.num) (pos x.den *ℤ pos y.den) (x.
 pub of-over : (k : ℤ) → over k (pos 1) ≡ of k
 of-over k = same_values _ _ k (pos 1) k (pos 1) (over-is k (pos 1) (omega (arith, ints))) (of-is k) refl
 
--- the quotients by the divisor
+-- the parts of z over d are the quotients by their divisor
 pub over-quotients : (z : ℤ) (d g : ℕ) → 0 < d → IsGcd (nat_abs z) d g →
     ((over z (pos d)).num ≡ quot_z z (pos g)) × ((over z (pos d)).den ≡ d / g)
 over-quotients z d g h is = (
@@ -87,7 +87,7 @@ over-quotients z d g h is = (
 abbrev pub frac_code : Coded Fraction
 frac_code = code_by (ℤ × ℕ) (coded× coded_ℤ coded_ℕ) (λ x. (x.num, x.den)) (λ p. over p.0 (pos p.1)) over_own
 
--- over a common denominator: b and e are g times b' and g times e'
+-- the sum of two fractions over a common denominator: b and e are g times b' and g times e'
 sum_cross : (a c g b e : ℤ) → (a *ℤ (g *ℤ e) +ℤ c *ℤ (g *ℤ b)) *ℤ (g *ℤ b *ℤ e)
     ≡ (a *ℤ e +ℤ c *ℤ b) *ℤ (g *ℤ b *ℤ (g *ℤ e))
 sum_cross a c g b e = simp expand (omega (arith, sums))

@@ -55,7 +55,7 @@ first_found (suc n) i f p l h e = go (ℕ_discrete i n) (first_found n i f p)
     go (yes d) r = ap (λ k. or_else (first k f) (f k)) (sym d) ∙ ap (λ o. or_else o (f i)) h ∙ e
     go (no d) r = ap (λ o. or_else o (f n)) (r (omega arith) h e)
 
--- neither of two
+-- where the first of two is none, neither is there
 pub or_none : {P : Type 0} (a b : Option P) → or_else a b ≡ None → (a ≡ None) × (b ≡ None)
 or_none None b h = (refl, h)
 or_none (Some p) b h = absurd cc
@@ -79,7 +79,7 @@ first_over a b f h k = first_all-none b f (λ i l. go i l (dec_lt i a))
     go i l (yes d) = first-none a f h i d
     go i l (no d) = k i (omega (arith, d)) l
 
--- of two stretches where the first has none, and one that was found earlier
+-- the first item of two stretches, where the first has none, and where one was found earlier
 pub first_join : {P : Type 0} (a b : ℕ) (f : ℕ → Option P) → first a f ≡ None →
     first (a + b) f ≡ first b (λ k. f (a + k))
 first_join a zero f h = let e : a + 0 ≡ a = omega arith in ap (λ n. first n f) e ∙ h

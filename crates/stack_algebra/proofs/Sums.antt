@@ -45,7 +45,7 @@ module _ (R : Ring) where
   sum_swap (suc n) m f = ap (λ z. R.add z (sum R m (λ j. f n j))) (sum_swap n m f)
       ∙ sym (sum_add m (λ j. sum R n (λ i. f i j)) (λ j. f n j))
 
-  -- a sum R with one term that is not 0
+  -- a sum with one term that is not 0
   pub sum_one : (n k : ℕ) (f : ℕ → R.C) → k < n → ((i : ℕ) → i < n → i ≢ k → f i ≡ R.of (pos 0)) → sum R n f
       ≡ f k
   sum_one zero k f l h = absurd (omega arith)
@@ -79,7 +79,7 @@ module _ (R : Ring) where
   pub sum_at : (n k : ℕ) (x : R.C) → k < n → sum R n (at R k x) ≡ x
   sum_at n k x l = sum_one n k (at R k x) l (λ i m d. at-other k i x d) ∙ at-same k x
 
-  -- over a list
+  -- sums over a list are linear
   pub over_add : {X : Type 0} (f g : X → R.C) (xs : List X) → sum_over R (λ x. R.add (f x) (g x)) xs
       ≡ R.add (sum_over R f xs) (sum_over R g xs)
   over_add f g [] = sym (R.zero_add (R.of (pos 0)))
@@ -96,7 +96,7 @@ module _ (R : Ring) where
   over_zero [] = refl
   over_zero (x ∷ xs) = R.zero_add (sum_over R (λ x. R.of (pos 0)) xs) ∙ over_zero xs
 
-  -- a sum R over indices of sums over a list, the other way round
+  -- a sum over indices of sums over a list, the other way round
   pub sum_over-swap : {X : Type 0} (n : ℕ) (f : ℕ → X → R.C) (xs : List X) →
       sum R n (λ i. sum_over R (f i) xs) ≡ sum_over R (λ x. sum R n (λ i. f i x)) xs
   sum_over-swap n f [] = sum_zero n (λ i. R.of (pos 0)) (λ i l. refl)
@@ -108,7 +108,7 @@ module _ (R : Ring) where
   over_same f g [] h = refl
   over_same f g (x ∷ xs) h = λ i. R.add (h.0 i) (over_same f g xs h.1 i)
 
-  -- the first term apart
+  -- a sum with its first term apart
   pub sum-first : (n : ℕ) (f : ℕ → R.C) → sum R (suc n) f ≡ R.add (f 0) (sum R n (λ i. f (suc i)))
   sum-first zero f = R.add_comm (R.of (pos 0)) (f 0)
   sum-first (suc n) f = ap (λ z. R.add z (f (suc n))) (sum-first n f)
@@ -122,7 +122,7 @@ module _ (R : Ring) where
       ap (λ k. sum R k f) e ∙ ap (λ z. R.add z (f (w + m))) (sum_plus w m f)
       ∙ R.add_assoc (sum R w f) (sum R m (λ k. f (w + k))) (f (w + m))
 
-  -- as a loop adds a term
+  -- a sum with its last term apart, as a loop adds it
   pub sum_more : (n : ℕ) (f : ℕ → R.C) → sum R (n + 1) f ≡ R.add (sum R n f) (f n)
   sum_more n f = ap (λ k. sum R k f) (add-one n)
 

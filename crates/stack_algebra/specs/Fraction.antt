@@ -31,6 +31,6 @@ signed (negsuc a) n = neg_ℤ (pos n)
 abbrev pub low_num : ℤ → ℕ → ℤ
 low_num z d = signed z (nat_abs z / gcd (nat_abs z) d)
 
--- and the denominator that is left: d without the divisor that it shares with z
+-- the denominator that is left: d without the divisor that it shares with z
 abbrev pub low_den : ℤ → ℕ → ℕ
 low_den z d = d / gcd (nat_abs z) d

@@ -32,7 +32,7 @@ pub record WholeNumberLaws : Type 0 where
   pub power-nonneg : (p q a b o s : ℤ) → pos 0 ≺ q → pos 0 ≼ a → q *ℤ abs b ≼ p *ℤ a → p *ℤ abs s ≼ q *ℤ o →
       pos 0 ≼ a *ℤ o +ℤ b *ℤ s
 
--- and so a ring
+-- the ring of whole numbers, with these laws
 abbrev pub whole_numbers : WholeNumberLaws → Ring
 whole_numbers w = record {
   C = ℤ;
@@ -58,7 +58,7 @@ abbrev pub NormalFormsDecide : Type 0
 NormalFormsDecide = (w : WholeNumberLaws) (ρ : ℕ → ℤ) (e f : Exp) → normal_form e ≡ normal_form f →
     eval (whole_numbers w) ρ e ≡ eval (whole_numbers w) ρ f
 
--- sums of whole numbers
+-- sums of whole numbers are linear, and two of them may be exchanged
 pub record SumLaws : Type 0 where
   pub sum_add : (n : ℕ) (f g : ℕ → ℤ) → sum_to n (λ i. f i +ℤ g i) ≡ sum_to n f +ℤ sum_to n g
   pub sum_scale : (n : ℕ) (c : ℤ) (f : ℕ → ℤ) → sum_to n (λ i. c *ℤ f i) ≡ c *ℤ sum_to n f
@@ -154,7 +154,7 @@ PivotsKeepTableaus = (k : FractionField) (m n : ℕ) (A : ℕ → ℕ → Fracti
     Tableau (ordered k) m n A own cell basic →
     Tableau (ordered k) m n A own (next (ordered k) cell r c) (changed basic r c)
 
--- and they stay so where the pivot's row has the least ratio
+-- right sides stay at least 0 where the pivot's row has the least ratio
 abbrev pub LeastRatioKeepsRightSides : Type 0
 LeastRatioKeepsRightSides = (k : FractionField) (m n : ℕ) (cell : ℕ → ℕ → Fraction) (r c : ℕ) →
     HasLeastRatio (ordered k) m n cell r c → ((i : ℕ) → i < m → NonNeg (ordered k) (cell i n)) →

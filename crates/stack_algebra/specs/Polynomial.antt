@@ -28,14 +28,14 @@ pub data Poly : Type 0 where
   nil : Poly
   term : ℤ → List ℕ → Poly → Poly
 
--- two lists of variables are the same
+-- whether two lists of variables are the same
 abbrev pub same : List ℕ → List ℕ → Bool
 same [] [] = true
 same [] (y ∷ n) = false
 same (x ∷ m) [] = false
 same (x ∷ m) (y ∷ n) = eqb x y && same m n
 
--- the one list stands before the other in a sum, or is the same
+-- whether the one list stands before the other in a sum, or is the same
 abbrev pub is_before : List ℕ → List ℕ → Bool
 is_before [] n = true
 is_before (x ∷ m) [] = false

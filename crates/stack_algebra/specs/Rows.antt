@@ -25,7 +25,7 @@ module _ (R : Ring) where
   abbrev pub dot : ℕ → (ℕ → R.C) → (ℕ → R.C) → R.C
   dot n f x = sum R n (λ j. R.mul (f j) (x j))
 
-  -- no cells of its own
+  -- no own cells: 0 in every column
   abbrev pub none : ℕ → R.C
   none j = R.of (pos 0)
 
@@ -64,7 +64,7 @@ module _ (F : Ordered) where
     pub objective_unit : (s : ℕ) → s < m → cell m (basic s) ≡ F.of (pos 0)
     pub feasible : (i : ℕ) → i < m → NonNeg (cell i n)
 
-  -- x less y, and x by y
+  -- x less y
   abbrev pub less : F.C → F.C → F.C
   less x y = F.add x (F.neg y)
 

@@ -2,7 +2,7 @@
 use Rattle.std.specs.Prelude.{ℕ, zero, suc, ◌<◌, Bool, true, false, cond, Option, Some, None}
 use lib.Dec.{eqb}
 
--- the first of two
+-- the first of two items, or the second where there is no first
 abbrev pub or_else : {P : Type 0} → Option P → Option P → Option P
 or_else (Some p) y = Some p
 or_else None y = y
@@ -12,7 +12,7 @@ abbrev pub first : {P : Type 0} → ℕ → (ℕ → Option P) → Option P
 first zero f = None
 first (suc n) f = or_else (first n f) (f n)
 
--- x where b holds
+-- x where b holds, else none
 abbrev pub only_if : {P : Type 0} → Bool → P → Option P
 only_if true x = Some x
 only_if false x = None

@@ -14,13 +14,13 @@ is_negative_sign minus = true
 is_negative_sign nought = false
 is_negative_sign plus = false
 
--- it is 0
+-- a number with this sign is 0
 abbrev pub is_nought : Sign → Bool
 is_nought minus = false
 is_nought nought = true
 is_nought plus = false
 
--- it is positive
+-- a number with this sign is positive
 abbrev pub is_plus : Sign → Bool
 is_plus minus = false
 is_plus nought = false
@@ -64,6 +64,6 @@ module _ (F : Ordered) (S : Shape) where
   ratio_item is_too_wide T c i = cond (is_plus (F.sign (T.cell i c)))
       (only_if (is_too_wide Quotient (right F S T i) (T.cell i c)) i) None
 
-  -- the first such row
+  -- the first row with a positive cell in column c whose ratio is too wide
   abbrev pub ratio_row : (Op → F.C → F.C → Bool) → Tabled F.C → ℕ → Option ℕ
   ratio_row is_too_wide T c = first S.rows (ratio_item is_too_wide T c)

@@ -4,8 +4,8 @@
 //! that no basis comes twice. No call takes memory.
 //!
 //! ```text
-//! let column = entering(&table, among)?; // the least column whose objective cell is negative
-//! let row = leaving(&table, column)?; // of the rows with the least ratio that of the least basic column
+//! entering(&table, among) == Some(column) // the least column whose objective cell is negative
+//! leaving(&table, column)? == Some(row) // of the rows with the least ratio that of the least basic column
 //! ```
 #![tactic(auto)]
 

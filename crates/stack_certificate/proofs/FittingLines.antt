@@ -11,7 +11,7 @@ use Rattle.stack_certificate.specs.CertificateText.{push_line, forces_lines, mov
 use Rattle.stack_certificate.specs.CertificateText.{lines_of, PartFits, MoveFits, ForcesFit, MotionFits}
 use Rattle.stack_certificate.specs.CertificateText.{CertificateFits}
 
--- of lists one after the other
+-- lines that fit behind lines that fit
 pub both_fit : (xs ys : List Line) → AllByRecursion LineFits xs → AllByRecursion LineFits ys
     → AllByRecursion LineFits (xs ++ ys)
 both_fit [] ys f g = g
@@ -25,7 +25,7 @@ second_fit : (xs ys : List Line) → AllByRecursion LineFits (xs ++ ys) → AllB
 second_fit [] ys f = f
 second_fit (x ∷ xs) ys f = second_fit xs ys f.1
 
--- of the lines of forces and of a motion
+-- the lines of forces and of a motion fit where their numbers do
 pushes_fit : (ps : List (ℤ × ℤ)) → AllByRecursion PartFits ps → AllByRecursion LineFits (map push_line ps)
 pushes_fit [] f = tt
 pushes_fit (p ∷ ps) f = (f.0, pushes_fit ps f.1)
@@ -55,7 +55,7 @@ motion_lines_fit m fits = (tt, move_lines_fit m (recursion_from_All MoveFits m f
 motion_fits : (m : MotionValue) → AllByRecursion LineFits (motion_lines m) → MotionFits m
 motion_fits m fits = All-from_recursion MoveFits m (moves_fit m fits.1)
 
--- of all lines
+-- all lines of a certificate fit where its numbers do
 open_fit : (c : CertificateValue) → CertificateFits c → AllByRecursion LineFits (open_lines c)
 open_fit (stands f) fits = (tt, forces_lines_fit f fits)
 open_fit (collapses m) fits = (tt, motion_lines_fit m fits)

@@ -4,8 +4,8 @@ use Rattle.std.specs.Prelude.{⊤}
 use Rattle.std.specs.List.{AllByRecursion}
 use Rattle.std.specs.Option.{option_and_then}
 use Rattle.std.proofs.lemmas.List.{append-nil, map-append}
-use Rattle.stack_certificate.specs.declared.line.Form.{Form}
-use Rattle.stack_certificate.specs.declared.line.Form.TheVariants.{Stands, Collapses, Greatest, Unbounded}
+use Rattle.stack_certificate.specs.declared.line.CertificateForm.{CertificateForm}
+use Rattle.stack_certificate.specs.declared.line.CertificateForm.TheVariants.{Stands, Collapses, Greatest, Unbounded}
 use Rattle.stack_certificate.specs.declared.line.Line.{Line}
 use Rattle.stack_certificate.specs.declared.line.Line.TheVariants as lines
 use Rattle.stack_certificate.specs.Certificate.{ForcesValue, MotionValue, CertificateValue, stands, collapses}
@@ -28,7 +28,7 @@ so_far (before_ray f) = lines.Form Unbounded ∷ forces_lines f
 so_far (unended c) = open_lines c
 so_far (ended c) = lines_of c
 
--- one line more
+-- what was read, after one line more
 part_more : (f : ForcesValue) (a b : ℤ)
     → forces_lines (with_part f (a, b)) ≡ forces_lines f ++ lines.Push a b ∷ []
 part_more f a b =
@@ -47,7 +47,8 @@ abbrev pub Grows : List Line → Line → Option Progress → Type 0
 Grows done line None = ⊤
 Grows done line (Some q) = so_far q ≡ done ++ line ∷ []
 
-grows_begun : (form : Form) (line : Line) → Grows (lines.Form form ∷ []) line (progress_after (formed form) line)
+grows_begun : (form : CertificateForm) (line : Line) →
+    Grows (lines.Form form ∷ []) line (progress_after (formed form) line)
 grows_begun Stands (lines.Forces s f) = refl
 grows_begun Collapses lines.Motion = refl
 grows_begun Greatest (lines.Forces s f) = refl
@@ -130,7 +131,7 @@ one_step : (p q r : Progress) (line : Line) (ys : List (List ℕ)) → LineFits 
     → progress_over q ys ≡ Some r → progress_over p (line_text line ∷ ys) ≡ Some r
 one_step p q r line ys fits e f = rw (line_found line (line_text line) (fits, refl), e) f
 
--- the lines of forces and of a motion
+-- what was read, after the lines of forces or of a motion
 abbrev with_parts : ForcesValue → List (ℤ × ℤ) → ForcesValue
 with_parts f ps = record { scale = f.scale; factor = f.factor; parts = f.parts ++ ps }
 
@@ -174,12 +175,12 @@ motion_run wrap each p begin m fits =
     let all = motion_lines_fit m fits in
     one_step p (wrap []) _ lines.Motion _ tt begin (moves_run wrap each [] m all.1)
 
--- the lines of a certificate
+-- the lines of a certificate bring a text to its end
 two_lists : (p q r : Progress) (xs ys : List Line) → progress_over p (map line_text xs) ≡ Some q
     → progress_over q (map line_text ys) ≡ Some r → progress_over p (map line_text (xs ++ ys)) ≡ Some r
 two_lists p q r xs ys e f = rw (map-append line_text xs ys) (through p q r _ _ e f)
 
-with_form : (form : Form) (c : CertificateValue) (ls : List Line)
+with_form : (form : CertificateForm) (c : CertificateValue) (ls : List Line)
     → progress_over (formed form) (map line_text ls) ≡ Some (unended c)
     → progress_over start (map line_text (lines.Form form ∷ ls)) ≡ Some (unended c)
 with_form form c ls e = one_step start (formed form) (unended c) (lines.Form form) (map line_text ls) tt refl e

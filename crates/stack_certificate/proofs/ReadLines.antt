@@ -11,7 +11,7 @@ use Rattle.std.proofs.lemmas.Str.Parse.{not_in_digits}
 use Rattle.std.proofs.lemmas.Slice.Eq.{bytes_eq-Decides}
 use Rattle.std.proofs.lemmas.Bool.{and_parts}
 use Rattle.std.proofs.lemmas.Bool.Decides.{nat_tests}
-use Rattle.stack_certificate.specs.declared.line.Form.TheVariants.{Stands, Collapses, Greatest, Unbounded}
+use Rattle.stack_certificate.specs.declared.line.CertificateForm.TheVariants.{Stands, Collapses, Greatest, Unbounded}
 use Rattle.stack_certificate.specs.declared.line.Line.{Line}
 use Rattle.stack_certificate.specs.declared.line.Line.TheVariants as lines
 use Rattle.stack_whole.specs.Whole.{IsFitting, fits}
@@ -49,7 +49,7 @@ value_spelled (negsuc n) small =
     let numeral = decimal_is_IsNumeral_wide (suc n) (omega arith) in
     ap (λ m. neg_ℤ (pos m)) numeral.1
 
--- the numbers of a line
+-- the numbers of a line, from its bytes
 first_spelled : (a : ℤ) (rest : List ℕ) → IsFitting a → value_of (before 32 (signed_decimal a ++ 32 ∷ rest)) ≡ a
 first_spelled a rest x =
     ap value_of (before_cut 32 (signed_decimal a) rest (lacks_number 32 a (omega arith) x)) ∙ value_spelled a x
@@ -140,7 +140,7 @@ test_fits (lines.Move u v r) test =
     (q.0, q.1, test_small r p.1)
 test_fits lines.End test = tt
 
--- what a test keeps
+-- a line that passes a test is kept
 kept : (test : Bool) (line : Line) → test ≡ true → cond test (Some line) None ≡ Some line
 kept true line h = refl
 kept false line h = cc
@@ -161,7 +161,7 @@ line_found line bytes is =
     let fits : line_fits guess ≡ true = ap line_fits same ∙ fits_test line is.0 in
     kept (line_fits guess && bytes_eq bytes (line_text guess)) guess (rw (fits, text) refl) ∙ ap Some same
 
--- and what it finds is the line that the bytes are
+-- what line_of finds is the line that the bytes are
 pub found_line : (line : Line) (bytes : List ℕ) → line_of bytes ≡ Some line → IsLine line bytes
 unfolding line_of
 found_line line bytes e =
@@ -171,7 +171,7 @@ found_line line bytes e =
     let is : bytes ≡ line_text guess = (bytes_eq-Decides bytes (line_text guess)).0 p.1 in
     (test_fits line (ap line_fits (sym k.1) ∙ p.0), is ∙ ap line_text k.1)
 
--- it finds none where they are none
+-- line_of finds none where the bytes are none
 pub no_line_found : (bytes : List ℕ) → ((line : Line) → ¬ IsLine line bytes) → line_of bytes ≡ None
 no_line_found bytes none = by_cases (line_of bytes) refl
   where

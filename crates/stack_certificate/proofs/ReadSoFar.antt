@@ -18,7 +18,7 @@ pub record IsRead (text : List ℕ) (p : Progress) (rest : List ℕ) (number : �
 pub nothing_read : (text : List ℕ) → IsRead text start text 1
 nothing_read text = record { runs = refl; counts = omega arith }
 
--- a line that may come
+-- after a line that may come
 pub read_on : (text : List ℕ) (p q : Progress) (rest bytes after : List ℕ) (line : Line) (number : ℕ)
     → IsRead text p rest number → cut rest ≡ bytes ∷ cut after → IsLine line bytes → Some q ≡ progress_after p line
     → IsRead text q after (number + 1)
@@ -27,7 +27,7 @@ read_on text p q rest bytes after line number is head found may =
     let count : accepted p (cut rest) ≡ suc (accepted q (cut after)) = rw (head, s) refl in
     record { runs = is.runs ∙ rw (head, s) refl; counts = omega (arith, count, is.counts) }
 
--- a line that may not come
+-- at a line that may not come
 pub stopped : (text : List ℕ) (p : Progress) (rest bytes after : List ℕ) (number : ℕ)
     → IsRead text p rest number → cut rest ≡ bytes ∷ cut after → step p bytes ≡ None
     → certificate_of text ≡ Err number
@@ -45,7 +45,7 @@ pub other_line : (p : Progress) (bytes : List ℕ) (line : Line) → IsLine line
     → step p bytes ≡ None
 other_line p bytes line found not = ap (option_and_then (progress_after p)) (line_found line bytes found) ∙ sym not
 
--- the end of the text
+-- at the end of the text
 pub closed : (text : List ℕ) (p : Progress) (rest : List ℕ) (number : ℕ) → (length rest == 0) ≡ true
     → IsRead text p rest number → certificate_of text ≡ finished (Some p) number
 unfolding certificate_of cut

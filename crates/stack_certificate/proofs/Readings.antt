@@ -4,7 +4,7 @@ use Rattle.std.proofs.Common.{refl, sym, ap, ◌∙◌, append_assoc, pos, arith
 use Rattle.std.specs.List.{AllByRecursion}
 use Rattle.std.specs.Option.{option_map, option_and_then}
 use Rattle.std.proofs.lemmas.List.{append-nil, map-append, take_all}
-use Rattle.stack_certificate.specs.declared.line.Form.TheVariants.{Stands, Collapses, Greatest, Unbounded}
+use Rattle.stack_certificate.specs.declared.line.CertificateForm.TheVariants.{Stands, Collapses, Greatest, Unbounded}
 use Rattle.stack_certificate.specs.declared.line.Line.{Line}
 use Rattle.stack_certificate.specs.declared.line.Line.TheVariants as lines
 use Rattle.stack_certificate.specs.Certificate.{ForcesValue, CertificateValue, stands, collapses, greatest, unbounded}
@@ -130,7 +130,7 @@ begins_run front begins e =
     let none : progress_over start (front ++ begins.rest) ≡ None = run_append start front begins.rest ∙ rw e refl in
     cc
 
--- so many lines may come
+-- as many lines as are accepted may come one after the other
 accepts : (p : Progress) (texts : List (List ℕ)) (k : ℕ) → k ≤ accepted p texts
     → (q : Progress) × (progress_over p (take k texts) ≡ Some q)
 accepts p texts zero le = (p, refl)
@@ -143,7 +143,7 @@ accepts p (bytes ∷ more) (suc k) le = by_step (λ q. accepts q more k) (step p
     by_step rest None h = absurd (omega arith)
     by_step rest (Some q) h = rest q (omega arith)
 
--- and the next one may not, where there is one
+-- the next line may not come, where there is one
 abbrev Stops : Progress → List (List ℕ) → Type 0
 Stops p texts = (progress_over p (take (suc (accepted p texts)) texts) ≡ None) ⊎ (accepted p texts ≡ length texts)
 
@@ -176,7 +176,7 @@ pub is_read : (c : CertificateValue) (bytes : List ℕ) → certificate_of bytes
 unfolding certificate_of
 is_read c bytes e = runs_text c bytes (is_whole (progress_over start (cut bytes)) c _ e)
 
--- the faulty line
+-- where no certificate is found, the number is that of the faulty line
 pub faulty : (n : ℕ) (bytes : List ℕ) → certificate_of bytes ≡ Err n → IsFaultLine n bytes
 unfolding certificate_of
 faulty n bytes e =

@@ -8,7 +8,7 @@ use Rattle.itoa.proofs.Decimal.{signed_wide}
 use Rattle.stack_whole.specs.Whole.{IsFitting}
 use Rattle.stack_certificate.specs.declared.line.Line.{Line}
 use Rattle.stack_certificate.specs.declared.line.Line.TheVariants as lines
-use Rattle.stack_certificate.specs.declared.line.Form.TheVariants as forms
+use Rattle.stack_certificate.specs.declared.line.CertificateForm.TheVariants as forms
 use Rattle.stack_certificate.specs.Certificate.{ForcesValue, MotionValue, stands, collapses, greatest, unbounded}
 use Rattle.stack_certificate.specs.Lines.{two_text, three_text, line_text}
 use Rattle.stack_certificate.specs.CertificateText.{push_line, forces_lines, move_line, motion_lines, open_lines}
@@ -36,7 +36,7 @@ three-short a b c fa fb fc = omega (
   two-short b c fb fc,
 )
 
--- a line with its line feed
+-- how long a line with its line feed may be
 push-short : (part : ℤ × ℤ) → PartFits part → length (line_text (push_line part)) ≤ 87
 push-short part fits = omega (
   arith,
@@ -80,7 +80,7 @@ moves-short (m ∷ ms) fits = omega (
   moves-short ms fits.1,
 )
 
--- a list with its first line
+-- how long a list with its first line may be
 forces-short : (f : ForcesValue) → ForcesFit f → length (text_of (forces_lines f)) ≤ 89 + 87 * length f.parts
 forces-short f fits = omega (
   arith,

@@ -52,7 +52,7 @@ two_put first xs ys out begun further after e f g =
     (append_assoc (line_text first) (text_of xs) (text_of ys)
     ∙ ap (λ bs. line_text first ++ bs) (sym (text_append xs ys))))))
 
--- the last line
+-- the last line, behind all others
 pub last_put : (ls : List Line) (line : Line) (none out after : List ℕ) → none ≡ [] → out ≡ none ++ text_of ls
     → after ≡ out ++ line_text line → after ≡ text_of (ls ++ line ∷ [])
 last_put ls line none out after h e f =

@@ -22,7 +22,7 @@ pub data CertificateValue : Type 0 where
   greatest : ForcesValue → MotionValue → CertificateValue
   unbounded : ForcesValue → ForcesValue → CertificateValue
 
--- the values, without where they lie in memory
+-- the value of forces, without where they lie in memory
 abbrev pub forces_view : Forces → ForcesValue
 forces_view f = record { scale = f.scale; factor = f.factor; parts = f.parts.items }
 
@@ -30,7 +30,7 @@ forces_view f = record { scale = f.scale; factor = f.factor; parts = f.parts.ite
 abbrev pub motion_view : Motion → MotionValue
 motion_view m = m.moves.items
 
--- the same for a certificate of each form
+-- the value of a certificate of each form
 abbrev pub certificate_view : Certificate → CertificateValue
 certificate_view (Stands f) = stands (forces_view f)
 certificate_view (Collapses m) = collapses (motion_view m)

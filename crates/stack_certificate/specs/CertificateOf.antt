@@ -2,8 +2,8 @@
 -- one_reading ties it to the grammar.
 use Rattle.std.specs.Prelude.{ℕ, suc, ℤ, List, [], ◌∷◌, ◌++◌, Option, Some, None, Result, Ok, Err}
 use Rattle.std.specs.Option.{option_map, option_and_then}
-use Rattle.stack_certificate.specs.declared.line.Form.{Form}
-use Rattle.stack_certificate.specs.declared.line.Form.TheVariants.{Stands, Collapses, Greatest, Unbounded}
+use Rattle.stack_certificate.specs.declared.line.CertificateForm.{CertificateForm}
+use Rattle.stack_certificate.specs.declared.line.CertificateForm.TheVariants.{Stands, Collapses, Greatest, Unbounded}
 use Rattle.stack_certificate.specs.declared.line.Line.{Line}
 use Rattle.stack_certificate.specs.declared.line.Line.TheVariants as lines
 use Rattle.stack_certificate.specs.Certificate.{ForcesValue, CertificateValue, stands, collapses, greatest, unbounded}
@@ -15,7 +15,7 @@ use Rattle.stack_certificate.specs.LineOf.{line_of}
 -- move, or `end`; none.
 pub data Progress : Type 0 where
   start : Progress
-  formed : Form → Progress
+  formed : CertificateForm → Progress
   before_motion : ForcesValue → Progress
   before_ray : ForcesValue → Progress
   unended : CertificateValue → Progress
@@ -41,22 +41,23 @@ with_move (collapses m) move = Some (collapses (m ++ move ∷ []))
 with_move (greatest f m) move = Some (greatest f (m ++ move ∷ []))
 with_move _ move = None
 
--- After one more line, if that line may come there.
-abbrev pub begun : Form → Line → Option Progress
+-- How far a text has come after the line behind its form, if that line may come there.
+abbrev pub begun : CertificateForm → Line → Option Progress
 begun Stands (lines.Forces s f) = Some (unended (stands (no_parts s f)))
 begun Collapses lines.Motion = Some (unended (collapses []))
 begun Greatest (lines.Forces s f) = Some (before_motion (no_parts s f))
 begun Unbounded (lines.Forces s f) = Some (before_ray (no_parts s f))
 begun _ _ = None
 
--- behind a certificate that isn't ended: a part or a move of its last list, or the end
+-- how far a text has come after one more line, behind a certificate that isn't ended: a part or a move of its last
+-- list, or the end
 abbrev pub continued : CertificateValue → Line → Option Progress
 continued c (lines.Push a b) = option_map unended (with_push c (a, b))
 continued c (lines.Move u v r) = option_map unended (with_move c (u, v, r))
 continued c lines.End = Some (ended c)
 continued c _ = None
 
--- from each place in a text; behind `end` no line may come
+-- how far a text has come after one more line, from wherever it had come; behind `end` no line may come
 abbrev pub progress_after : Progress → Line → Option Progress
 progress_after start (lines.Form form) = Some (formed form)
 progress_after (formed form) line = begun form line
@@ -67,7 +68,7 @@ progress_after (before_ray f) (lines.Forces s t) = Some (unended (unbounded f (n
 progress_after (unended c) line = continued c line
 progress_after _ _ = None
 
--- After the line that these bytes are, and after all of these.
+-- How far a text has come after the line that these bytes are, if it may come there.
 abbrev pub step : Progress → List ℕ → Option Progress
 step p bytes = option_and_then (progress_after p) (line_of bytes)
 
@@ -76,7 +77,7 @@ abbrev pub progress_over : Progress → List (List ℕ) → Option Progress
 progress_over p [] = Some p
 progress_over p (bytes ∷ more) = option_and_then (λ q. progress_over q more) (step p bytes)
 
--- One line more than of the rest, where the first may come; else none.
+-- How many lines may come: one more than of the rest where the first may come, else none.
 abbrev pub lines_counted : Option ℕ → ℕ
 lines_counted None = 0
 lines_counted (Some n) = suc n
@@ -86,7 +87,7 @@ abbrev pub accepted : Progress → List (List ℕ) → ℕ
 accepted p [] = 0
 accepted p (bytes ∷ more) = lines_counted (option_map (λ q. accepted q more) (step p bytes))
 
--- The certificate, where its text is whole, or this line.
+-- The certificate where its text is whole, else the number of this line.
 abbrev pub finished : Option Progress → ℕ → Result CertificateValue ℕ
 finished (Some (ended c)) n = Ok c
 finished _ n = Err n

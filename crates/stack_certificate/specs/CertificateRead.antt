@@ -15,7 +15,7 @@ ReadsCertificate (Ok c) text = IsCertificateText (certificate_view c) text
 ReadsCertificate (Err (Line number)) text = IsFaultLine number text
 ReadsCertificate (Err Memory) text = ⊤
 
--- the same by the function of the bytes
+-- what is answered is what certificate_of makes of the bytes
 abbrev pub GivesCertificate : Result Certificate TextError → List ℕ → Type 0
 GivesCertificate (Ok c) text = certificate_of text ≡ Ok (certificate_view c)
 GivesCertificate (Err (Line number)) text = certificate_of text ≡ Err number

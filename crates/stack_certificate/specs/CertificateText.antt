@@ -4,7 +4,7 @@
 -- `motion` and for each free block a line `move U V R`.
 use Rattle.std.specs.Prelude.{◌≡◌, ◌<◌, ◌≤◌, ℤ, ℕ, List, [], ◌∷◌, ◌++◌, map, length}
 use Rattle.std.specs.List.{All}
-use Rattle.stack_certificate.specs.declared.line.Form.TheVariants as forms
+use Rattle.stack_certificate.specs.declared.line.CertificateForm.TheVariants as forms
 use Rattle.stack_certificate.specs.declared.line.Line.{Line}
 use Rattle.stack_certificate.specs.declared.line.Line.TheVariants as lines
 use Rattle.stack_certificate.specs.Certificate.{ForcesValue, MotionValue, CertificateValue, stands, collapses}
@@ -13,11 +13,11 @@ use Rattle.stack_whole.specs.Whole.{IsFitting}
 use Rattle.stack_whole.specs.Limits.{most_bearings, most_free}
 use Rattle.stack_certificate.specs.Lines.{line_text}
 
--- The lines of a list.
+-- the line of one part of forces
 abbrev pub push_line : ℤ × ℤ → Line
 push_line part = lines.Push part.0 part.1
 
--- of forces: the scale and the factor first, and then each part
+-- the lines of forces: the scale and the factor first, and then each part
 abbrev pub forces_lines : ForcesValue → List Line
 forces_lines f = lines.Forces f.scale f.factor ∷ map push_line f.parts
 
@@ -25,22 +25,22 @@ forces_lines f = lines.Forces f.scale f.factor ∷ map push_line f.parts
 abbrev pub move_line : ℤ × ℤ × ℤ → Line
 move_line move = lines.Move move.0 move.1 move.2
 
--- of a motion: its word first, and then each move
+-- the lines of a motion: its word first, and then each move
 abbrev pub motion_lines : MotionValue → List Line
 motion_lines m = lines.Motion ∷ map move_line m
 
--- The lines of a certificate, without the last one and with it.
+-- the lines of a certificate, without the last one
 abbrev pub open_lines : CertificateValue → List Line
 open_lines (stands f) = lines.Form forms.Stands ∷ forces_lines f
 open_lines (collapses m) = lines.Form forms.Collapses ∷ motion_lines m
 open_lines (greatest f m) = lines.Form forms.Greatest ∷ (forces_lines f ++ motion_lines m)
 open_lines (unbounded f r) = lines.Form forms.Unbounded ∷ (forces_lines f ++ forces_lines r)
 
--- all lines, the last of which is `end`
+-- all lines of a certificate, the last of which is `end`
 abbrev pub lines_of : CertificateValue → List Line
 lines_of c = open_lines c ++ lines.End ∷ []
 
--- The text of some lines, and of a certificate.
+-- the text of some lines, one after the other
 abbrev pub text_of : List Line → List ℕ
 text_of [] = []
 text_of (line ∷ more) = line_text line ++ text_of more
@@ -49,7 +49,7 @@ text_of (line ∷ more) = line_text line ++ text_of more
 abbrev pub certificate_text : CertificateValue → List ℕ
 certificate_text c = text_of (lines_of c)
 
--- Every number is at most 2^127 - 1 in size.
+-- Both numbers of a part are at most 2^127 - 1 in size.
 abbrev pub PartFits : ℤ × ℤ → Type 0
 PartFits part = IsFitting part.0 × IsFitting part.1
 
@@ -77,7 +77,7 @@ pub record IsCertificateText (c : CertificateValue) (bytes : List ℕ) : Type 0 
   pub fits : CertificateFits c
   pub is : bytes ≡ certificate_text c
 
--- No list is longer than a survey or a model may be.
+-- No more parts than a survey may have bearings.
 abbrev pub ForcesAreFew : ForcesValue → Type 0
 ForcesAreFew f = length f.parts ≤ most_bearings
 
@@ -85,17 +85,17 @@ ForcesAreFew f = length f.parts ≤ most_bearings
 abbrev pub MotionIsFew : MotionValue → Type 0
 MotionIsFew m = length m ≤ most_free
 
--- and so for each list of a certificate
+-- no list of a certificate is longer than a survey or a model may be
 abbrev pub IsFew : CertificateValue → Type 0
 IsFew (stands f) = ForcesAreFew f
 IsFew (collapses m) = MotionIsFew m
 IsFew (greatest f m) = ForcesAreFew f × MotionIsFew m
 IsFew (unbounded f r) = ForcesAreFew f × ForcesAreFew r
 
--- Then the text has fewer bytes than this.
+-- The text of a certificate whose numbers fit and whose lists are no longer than that has fewer bytes than this.
 abbrev pub text_bound : ℕ
 text_bound = 180000
 
--- a certificate in which no number is too wide and no list longer than that has such a text
+-- a certificate in which no number is too wide and no list longer than that has a text below this bound
 abbrev pub FewHaveShortTexts : Type 0
 FewHaveShortTexts = (c : CertificateValue) → CertificateFits c → IsFew c → length (certificate_text c) < text_bound

@@ -1,14 +1,14 @@
 -- The line that some bytes are, as a function of the bytes.
 use Rattle.std.specs.Prelude.{ℕ, ℤ, List, [], ◌∷◌, codes, Bool, true, ◌==◌, ◌&&◌, if◌then◌else◌, Option, Some, None}
 use Rattle.std.specs.Str.{bytes_eq}
-use Rattle.stack_certificate.specs.declared.line.Form.TheVariants.{Stands, Collapses, Greatest, Unbounded}
+use Rattle.stack_certificate.specs.declared.line.CertificateForm.TheVariants.{Stands, Collapses, Greatest, Unbounded}
 use Rattle.stack_certificate.specs.declared.line.Line.{Line}
 use Rattle.stack_certificate.specs.declared.line.Line.TheVariants as lines
 use Rattle.stack_whole.specs.Whole.{fits}
 use Rattle.stack_certificate.specs.Numbers.{value_of}
 use Rattle.stack_certificate.specs.Lines.{line_text}
 
--- Its numbers are at most 2^127 - 1 in size, as a test.
+-- Whether the numbers of a line are at most 2^127 - 1 in size.
 abbrev pub line_fits : Line → Bool
 line_fits (lines.Form form) = true
 line_fits (lines.Forces scale factor) = fits scale && fits factor
@@ -27,11 +27,11 @@ abbrev pub behind : ℕ → List ℕ → List ℕ
 behind byte [] = []
 behind byte (b ∷ bs) = if b == byte then bs else behind byte bs
 
--- The line of this word, and of the numbers behind it.
+-- The line of two numbers that stand behind its word.
 abbrev pub two_to : (ℤ → ℤ → Line) → List ℕ → Line
 two_to line bytes = line (value_of (before 32 bytes)) (value_of (behind 32 bytes))
 
--- the same for a line of three numbers
+-- the line of three numbers that stand behind its word
 abbrev pub three_to : (ℤ → ℤ → ℤ → Line) → List ℕ → Line
 three_to line bytes = two_to (line (value_of (before 32 bytes))) (behind 32 bytes)
 

@@ -3,8 +3,8 @@
 use Rattle.std.specs.Prelude.{◌≡◌, ℕ, ℤ, List, [], ◌∷◌, ◌++◌, codes, Bool, not, ◌==◌, ⊤}
 use Rattle.std.specs.List.{list_all}
 use Rattle.std.specs.Fmt.{signed_decimal}
-use Rattle.stack_certificate.specs.declared.line.Form.{Form}
-use Rattle.stack_certificate.specs.declared.line.Form.TheVariants.{Stands, Collapses, Greatest, Unbounded}
+use Rattle.stack_certificate.specs.declared.line.CertificateForm.{CertificateForm}
+use Rattle.stack_certificate.specs.declared.line.CertificateForm.TheVariants.{Stands, Collapses, Greatest, Unbounded}
 use Rattle.stack_certificate.specs.declared.line.Line.{Line}
 use Rattle.stack_certificate.specs.declared.line.Line.TheVariants as lines
 use Rattle.stack_whole.specs.Whole.{IsFitting}
@@ -13,7 +13,7 @@ use Rattle.stack_whole.specs.Whole.{IsFitting}
 abbrev pub lacks : ℕ → List ℕ → Bool
 lacks byte bytes = list_all (λ b. not (b == byte)) bytes
 
--- Two and three numbers with one space between them.
+-- Two numbers with one space between them.
 abbrev pub two_text : ℤ → ℤ → List ℕ
 two_text a b = signed_decimal a ++ 32 ∷ signed_decimal b
 
@@ -30,13 +30,13 @@ abbrev pub IsThreeNumbers : ℤ → ℤ → ℤ → List ℕ → Type 0
 IsThreeNumbers a b c bytes = IsFitting a × IsFitting b × IsFitting c × (bytes ≡ three_text a b c)
 
 -- The word of a form.
-abbrev pub form_text : Form → List ℕ
+abbrev pub form_text : CertificateForm → List ℕ
 form_text Stands = codes "stands"
 form_text Collapses = codes "collapses"
 form_text Greatest = codes "greatest"
 form_text Unbounded = codes "unbounded"
 
--- A line without its line feed, and with it.
+-- A line without its line feed.
 abbrev pub body_text : Line → List ℕ
 body_text (lines.Form form) = form_text form
 body_text (lines.Forces scale factor) = codes "forces " ++ two_text scale factor
@@ -49,7 +49,7 @@ body_text lines.End = codes "end"
 abbrev pub line_text : Line → List ℕ
 line_text line = body_text line ++ 10 ∷ []
 
--- Its numbers are at most 2^127 - 1 in size.
+-- The numbers of a line are at most 2^127 - 1 in size.
 abbrev pub LineFits : Line → Type 0
 LineFits (lines.Form form) = ⊤
 LineFits (lines.Forces scale factor) = IsFitting scale × IsFitting factor
@@ -58,7 +58,7 @@ LineFits lines.Motion = ⊤
 LineFits (lines.Move u v r) = IsFitting u × IsFitting v × IsFitting r
 LineFits lines.End = ⊤
 
--- The bytes are the line, without its line feed and with it.
+-- The bytes are the line without its line feed, and no number is too wide.
 abbrev pub IsBody : Line → List ℕ → Type 0
 IsBody line bytes = LineFits line × (bytes ≡ body_text line)
 

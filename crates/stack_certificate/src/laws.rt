@@ -10,7 +10,7 @@ ghost use Rattle.stack_certificate.specs.FaultLine.{IsFaultLine};
 ghost use Rattle.stack_certificate.specs.Digits.{IsWritten};
 ghost use Rattle.stack_whole.specs.Whole.{IsFitting};
 
-/// The function of the bytes gives a certificate exactly where they are its text, and a line exactly where
+/// As a function of the bytes, reading gives a certificate exactly where they are its text, and a line exactly where
 /// it's their faulty one.
 pub fn one_reading()
     ensures reads { (c : CertificateValue) (bytes : List ℕ) → IsCertificateText c bytes → certificate_of bytes ≡ Ok c }

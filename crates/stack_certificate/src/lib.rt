@@ -1,5 +1,7 @@
 //! Certificates and their text.
 //!
+//! Calls that are given no allocator take no memory.
+//!
 //! ```text
 //! let certificate = read_certificate(alloc, b"stands\nforces 1 0\npush 24 0\npush 24 0\nend\n")?;
 //! write_certificate(alloc, &certificate)? // the same bytes

@@ -1,7 +1,7 @@
 //! The lines of a certificate's text.
 
 ghost use Rattle.std.specs.Prelude.{◌≡◌, ◌≢◌, IfSome, IfNone, ℤ};
-ghost use Rattle.stack_certificate.specs.declared.line.Form.{Form};
+ghost use Rattle.stack_certificate.specs.declared.line.CertificateForm.{CertificateForm};
 ghost use Rattle.stack_certificate.specs.declared.line.Line.{Line};
 ghost use Rattle.stack_certificate.specs.Lines.{form_text, IsTwo, IsThreeNumbers, IsBody, IsLine};
 
@@ -10,7 +10,7 @@ use crate::split::{after, split_once};
 
 /// The forms of a certificate.
 #[derive(Clone, Copy, Debug, PartialEq, Eq)]
-pub enum Form {
+pub enum CertificateForm {
     Stands,
     Collapses,
     Greatest,
@@ -20,7 +20,7 @@ pub enum Form {
 /// A line of a certificate's text.
 #[derive(Clone, Copy, Debug, PartialEq, Eq)]
 pub enum Line {
-    Form(Form),
+    Form(CertificateForm),
     Forces { scale: i128, factor: i128 },
     Push { a: i128, b: i128 },
     Motion,
@@ -28,7 +28,7 @@ pub enum Line {
     End,
 }
 
-/// The two numbers that the bytes spell, with one space between them.
+/// The two numbers that the bytes spell, with one space between them. None exactly where they spell no two numbers.
 pub fn read_two(bytes: &[u8]) -> Option<(i128, i128)>
     ensures some { IfSome result (λ r. IsTwo r.0 r.1 bytes.now) }
     ensures none { IfNone result ((a b : ℤ) → ¬ IsTwo a b bytes.now) }
@@ -63,21 +63,21 @@ fn read_three(bytes: &[u8]) -> Option<(i128, i128, i128)>
 }
 
 /// The form whose word the bytes are.
-fn read_form(bytes: &[u8]) -> Option<Form>
+fn read_form(bytes: &[u8]) -> Option<CertificateForm>
     ensures some { IfSome result (λ form. bytes.now ≡ form_text form) }
-    ensures none { IfNone result ((form : Form) → bytes.now ≢ form_text form) }
+    ensures none { IfNone result ((form : CertificateForm) → bytes.now ≢ form_text form) }
 {
     if bytes == b"stands".as_slice() {
-        return Some(Form::Stands);
+        return Some(CertificateForm::Stands);
     }
     if bytes == b"collapses".as_slice() {
-        return Some(Form::Collapses);
+        return Some(CertificateForm::Collapses);
     }
     if bytes == b"greatest".as_slice() {
-        return Some(Form::Greatest);
+        return Some(CertificateForm::Greatest);
     }
     if bytes == b"unbounded".as_slice() {
-        return Some(Form::Unbounded);
+        return Some(CertificateForm::Unbounded);
     }
     None
 }

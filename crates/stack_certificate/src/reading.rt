@@ -22,8 +22,8 @@ pub fn cut_line(bytes: &[u8]) -> (&[u8], &[u8])
     }
 }
 
-/// The certificate whose text the bytes are. `Line` exactly where they are the text of no certificate, with
-/// the number of the faulty line; `Memory` where memory ran out.
+/// The certificate whose text the bytes are. `Line` exactly where they are the text of no certificate, with the number
+/// of the faulty line. Memory may run out at any time.
 pub fn read_certificate(alloc: Global, text: &[u8]) -> Result<Certificate, TextError>
     ensures reads { ReadsCertificate result text.now }
     ensures gives { GivesCertificate result text.now }

@@ -8,7 +8,7 @@ ghost use Rattle.stack_certificate.specs.CertificateOf.{progress_after};
 ghost use Rattle.stack_certificate.specs.CertificateOf.{before_motion, before_ray, unended};
 ghost use Rattle.stack_certificate.specs.Stages.{stage_view, Finishes};
 
-use crate::line::{Form, Line};
+use crate::line::{CertificateForm, Line};
 use crate::types::{Certificate, Forces, Motion};
 use std::alloc::{AllocError, Global};
 
@@ -18,14 +18,14 @@ pub enum Stage {
     /// The form.
     Start,
     /// The first list of the form.
-    Formed(Form),
+    Formed(CertificateForm),
     /// A further part of these forces, or a motion.
     BeforeMotion(Forces),
     /// A further part of these forces, or further forces.
     BeforeRay(Forces),
     /// A further part or move, or `end`.
     Unended(Certificate),
-    /// None.
+    /// No line: the text is whole.
     Ended(Certificate),
 }
 
@@ -58,21 +58,21 @@ fn new_forces(alloc: Global, scale: i128, factor: i128) -> Forces
 }
 
 /// The first list of the form begins.
-fn begin(alloc: Global, form: Form, line: Line) -> Option<Stage>
+fn begin(alloc: Global, form: CertificateForm, line: Line) -> Option<Stage>
     ensures { option_map stage_view result ≡ begun form line }
 {
     match (form, line) {
-        (Form::Stands, Line::Forces { scale, factor }) => Some(Stage::Unended(Certificate::Stands(
-            new_forces(alloc, scale, factor),
-        ))),
-        (Form::Collapses, Line::Motion) => {
+        (CertificateForm::Stands, Line::Forces { scale, factor }) => Some(Stage::Unended(
+            Certificate::Stands(new_forces(alloc, scale, factor)),
+        )),
+        (CertificateForm::Collapses, Line::Motion) => {
             let moves = Vec::new(alloc);
             Some(Stage::Unended(Certificate::Collapses(Motion { moves })))
         }
-        (Form::Greatest, Line::Forces { scale, factor }) => {
+        (CertificateForm::Greatest, Line::Forces { scale, factor }) => {
             Some(Stage::BeforeMotion(new_forces(alloc, scale, factor)))
         }
-        (Form::Unbounded, Line::Forces { scale, factor }) => {
+        (CertificateForm::Unbounded, Line::Forces { scale, factor }) => {
             Some(Stage::BeforeRay(new_forces(alloc, scale, factor)))
         }
         _ => None,

@@ -5,9 +5,9 @@ ghost use Rattle.stack_certificate.specs.declared.types.TextError.TheVariants as
 
 use std::alloc::AllocError;
 
-/// Forces at the bearings: a part along the normal and a part along the tangent for each, on the later body, in
-/// sixths of a unit of force, all of them `scale` times as great as the real ones. The real factor of the live
-/// loads is `factor` over `scale`.
+/// Forces at the bearings: for each its parts `a` and `b`, of which `a` times the normal and `b` times the tangent of
+/// its frame act on the later body, in sixths of a unit of force, and `scale` times as great as the real forces. The
+/// real factor of the live loads is `factor` over `scale`.
 #[derive(Debug, PartialEq, Eq, Drop)]
 pub struct Forces {
     pub scale: i128,

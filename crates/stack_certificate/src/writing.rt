@@ -8,7 +8,7 @@ ghost use Rattle.stack_certificate.specs.CertificateText.{push_line, forces_line
 ghost use Rattle.stack_certificate.specs.CertificateText.{open_lines, text_of};
 ghost use Rattle.stack_certificate.specs.CertificateText.{CertificateFits, IsCertificateText};
 
-use crate::line::{Form, Line};
+use crate::line::{CertificateForm, Line};
 use crate::types::{Certificate, Forces, Motion};
 use itoa::Buffer;
 use std::alloc::{AllocError, Global};
@@ -40,14 +40,14 @@ fn put_three(out: &mut Vec<u8>, a: i128, b: i128, c: i128) -> Result<(), AllocEr
 }
 
 /// The word of a form.
-fn word_of(form: Form) -> &'static [u8]
+fn word_of(form: CertificateForm) -> &'static [u8]
     ensures { result.now ≡ form_text form }
 {
     match form {
-        Form::Stands => b"stands",
-        Form::Collapses => b"collapses",
-        Form::Greatest => b"greatest",
-        Form::Unbounded => b"unbounded",
+        CertificateForm::Stands => b"stands",
+        CertificateForm::Collapses => b"collapses",
+        CertificateForm::Greatest => b"greatest",
+        CertificateForm::Unbounded => b"unbounded",
     }
 }
 
@@ -133,27 +133,28 @@ fn put_lists(out: &mut Vec<u8>, c: &Certificate) -> Result<(), AllocError>
 {
     match c {
         Certificate::Stands(forces) => {
-            put_line(out, Line::Form(Form::Stands))?;
+            put_line(out, Line::Form(CertificateForm::Stands))?;
             put_forces(out, forces)
         }
         Certificate::Collapses(motion) => {
-            put_line(out, Line::Form(Form::Collapses))?;
+            put_line(out, Line::Form(CertificateForm::Collapses))?;
             put_motion(out, motion)
         }
         Certificate::Greatest(forces, motion) => {
-            put_line(out, Line::Form(Form::Greatest))?;
+            put_line(out, Line::Form(CertificateForm::Greatest))?;
             put_forces(out, forces)?;
             put_motion(out, motion)
         }
         Certificate::Unbounded(forces, ray) => {
-            put_line(out, Line::Form(Form::Unbounded))?;
+            put_line(out, Line::Form(CertificateForm::Unbounded))?;
             put_forces(out, forces)?;
             put_forces(out, ray)
         }
     }
 }
 
-/// The text of the certificate, each of whose numbers is at most `2^127 - 1` in size.
+/// The text of the certificate, each of whose numbers is at most `2^127 - 1` in size. `AllocError` where memory ran
+/// out.
 pub fn write_certificate(alloc: Global, c: &Certificate) -> Result<Vec<u8>, AllocError>
     requires { CertificateFits (certificate_view c.now) }
     ensures { IfOk result (λ text. IsCertificateText (certificate_view c.now) text.items) }

@@ -56,12 +56,12 @@ module _ (v : Surveyed) (proper : IsProper (scene_of v)) where
       excluded : ¬ (Carries (scene_of v) (pos 0) (pos 1))
       excluded = collapse_excludes_balance (scene_of v) _ (pos 1) proper true_one (omega (arith, ints))
 
-  -- forces that stand
+  -- forces of a feasible end, which stand
   standing : (T : Tabled Fraction) → EndIsWhole (posed Dead (scene_of v)) (feasible T) →
       IsTrueCertificate v (stands (end_forces Dead v T))
   standing T h = stands_of v proper _ (forces Dead T) h.forces.balances h.forces.positive h.no_factor
 
-  -- each end
+  -- the certificate of each end is true, and answers its question
   certified : (q : Question) (x : End Fraction) → EndIsWhole (posed q (scene_of v)) x →
       HasCertificate q v (end_certificate q v x)
   certified Dead (infeasible T) h = collapsed Dead T tt h
@@ -90,7 +90,7 @@ module _ (v : Surveyed) (proper : IsProper (scene_of v)) where
   certified q over h = tt
   certified q never h = tt
 
--- the three laws
+-- the three laws of the certificates of ends
 pub ends_are_certified : EndsAreCertified
 ends_are_certified q v x c proper h e = subst (HasCertificate q v) e
     (certified v proper q x (end_is_whole q v x h))

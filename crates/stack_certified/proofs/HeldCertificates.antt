@@ -45,7 +45,7 @@ module _ (v : Surveyed) where
   abbrev told_moves : Question → List ℤ → List Move
   told_moves q zs = moves_from s (moves (multiplier (posed q s) zs))
 
-  -- they are the same
+  -- forces and motions as they are held are those of the equations
   same_forces : (scale : ℤ) (zs : List ℤ) → told scale zs ≡ held scale zs
   same_forces scale zs = λ i. record {
     scale = scale;
@@ -57,7 +57,7 @@ module _ (v : Surveyed) where
   same_moves q zs = sym (map_listed move_of_triple (free_bodies s) (triple_at (multiplier (posed q s) zs)))
 
   module _ (proper : IsProper s) where
-    -- the four certificates
+    -- the four certificates are true, of lists that balance, refute, bound or raise
     pub stands_of : (scale : ℤ) (zs : List ℤ) → AreAmounts (posed Dead s) (amount zs) scale → pos 0 ≺ scale →
         factor zs ≡ pos 0 → IsTrueStands s (held scale zs)
     stands_of scale zs h p z = subst (IsTrueStands s)

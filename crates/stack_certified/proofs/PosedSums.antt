@@ -30,7 +30,7 @@ use Rattle.stack_certified.specs.Certified.{triple_at}
 abbrev pub amounts : (ℕ → ℤ) → Amounts
 amounts x = record { plus = λ k. x (2 * k); minus = λ k. x (2 * k + 1) }
 
--- and multipliers of rows by free bodies
+-- multipliers of rows by free bodies
 abbrev pub moves : (ℕ → ℤ) → ℕ → Move
 moves y b = move_of_triple (triple_at y b)
 
@@ -76,7 +76,7 @@ module _ (q : Question) (s : Scene) where
         turned : (p x r y : ℤ) → p *ℤ x +ℤ r *ℤ y ≡ x *ℤ p +ℤ y *ℤ r
         turned p x r y = simp expand (omega (arith, sums))
 
--- the factor's column
+-- the sum of a row over the factor's column, where there is one
 factor_columns : (q : Question) (s : Scene) (x : ℕ → ℤ) (a i : ℕ) →
     sum_to (factors_of q) (λ k. share a (column_on q s (2 * s.bearings + k) i) *ℤ x (2 * s.bearings + k))
     ≡ factor_in q s x *ℤ share a (live_on s i)
@@ -142,7 +142,7 @@ module _ (q : Question) (s : Scene) where
         +ℤ y (3 * b + 2)
         *ℤ row_at q s g w (3 * b + 2) b 2 (omega (arith, l)) (three_third b).0 (three_third b).1 n)
 
-    -- a column
+    -- a column times the multipliers is the power of its wrench on each body
     column_is : (j : ℕ) → column_work (posed q s) y j ≡ power_by s (moves y) (column_on q s j)
     column_is j = rows_of (λ z. z) (column_on q s j)
 

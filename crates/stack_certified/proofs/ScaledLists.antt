@@ -38,7 +38,7 @@ scaled-is n f j l = times_scale-is m (f j)
     m : ℕ
     m = scale_of (listed n f)
 
--- past the end
+-- past the end of a list the amount is 0
 past : (zs : List ℤ) (j : ℕ) → length zs ≤ j → pos 0 ≼ amount zs j
 past [] j l = omega (arith, ints)
 past (z ∷ zs) zero l = absurd (omega (arith, l))

@@ -36,7 +36,7 @@ once c = simp expand (omega (arith, sums))
 none_of : (c : ℤ) → c *ℤ pos 0 ≡ pos 0
 none_of c = simp expand (omega (arith, sums))
 
--- 0 at any scale
+-- a fraction that is 0 is the whole number 0 at any scale
 nothing : (c : ℤ) (x : Fraction) (z : ℤ) → IsWhole c x z → x ≡ of (pos 0) → z ≡ pos 0
 nothing c x z h e = of_same _ _ (sym h ∙ ap (mul (of c)) e ∙ fractions.mul_comm (of c) (of (pos 0))
     ∙ fractions.zero_mul (of c))
@@ -71,8 +71,8 @@ module _ (P : Problem) where
         ∙ sym (fractions.of_mul (c *ℤ t) (P.load i)));
   }
 
-  -- the dead loads stand
-  stands_of : fractional.Stands ordered_fractions P → P.shape.contacts < w → StandsInWhole P
+  -- where some amounts balance with the factor 0, some whole ones do
+  stands_of : fractional.StandsAlone ordered_fractions P → P.shape.contacts < w → StandsInWhole P
   stands_of s l = record {
     scale = pos (scale_of xs);
     amounts = amount (whole_list xs);
@@ -103,7 +103,7 @@ module _ (P : Problem) where
     load_whole : IsWhole c (fractional.load_work ordered_fractions P v) (load_work P y)
     load_whole = whole_dot m c P.load v y are_whole
 
-    -- so they refute and bound
+    -- so the whole multipliers refute and bound
     unresisted : ((j : ℕ) → j < P.shape.contacts →
         ordered_fractions.sign (fractional.column_work ordered_fractions P v j) ≢ minus) → AreUnresisted P y
     unresisted h j l = whole_nonneg c _ _ (scale_above (listed m f)) (work_whole j) (h j l)
@@ -137,7 +137,7 @@ module _ (P : Problem) where
     no_number : (j : ℕ) → w ≤ j → number j ≡ of (pos 0)
     no_number j l = ap (λ b. cond b (v j) (of (pos 0))) (le-ltb j w l)
 
-    -- so the amounts balance
+    -- so the whole amounts balance
     column_whole : Wholes w (pos (scale_of xs)) v (amount (whole_list xs))
     column_whole j l = ap (mul (of (pos (scale_of xs)))) (sym (plain_number j l))
         ∙ scaled-is (suc P.shape.contacts) number j (omega (arith, few, l))
@@ -146,7 +146,7 @@ module _ (P : Problem) where
         AreAmounts P (amount (whole_list xs)) (pos (scale_of xs) *ℤ t)
     balancing t b = amounts_of t (pos (scale_of xs)) v _ (scale_above xs) column_whole b
 
-    -- and none is negative
+    -- no whole amount is negative
     pushes : (t : ℤ) → fractional.Balances ordered_fractions P v (of t) → NonePulls (whole_list xs)
     pushes t b = none_pulls (suc P.shape.contacts) number (λ j l. go j (dec_lt j w))
       where
@@ -173,7 +173,7 @@ module _ (P : Problem) where
       forces = forces_of T h.balances;
     }
 
-    -- the four ends
+    -- each of the four ends gives in whole numbers what it gives in fractions
     end_is_whole : (x : End Fraction) → EndGives ordered_fractions P x → EndIsWhole P x
     end_is_whole (infeasible T) h = refuting (collapse_number P.shape T)
         (collapse_multiplier ordered_fractions P T) (λ k l. refl) h.refutes
@@ -204,6 +204,6 @@ module _ (P : Problem) where
     end_is_whole over h = tt
     end_is_whole never h = tt
 
--- the law
+-- so it is for every end of a run
 pub ends_are_whole : EndsAreWhole
 ends_are_whole P few rule budget = end_is_whole P few _ (ends_give P rule budget)

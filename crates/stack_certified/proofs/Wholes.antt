@@ -20,7 +20,7 @@ use Rattle.stack_run.specs.EndNumbers.{signed}
 abbrev pub IsWhole : ℤ → Fraction → ℤ → Type 0
 IsWhole c x z = mul (of c) x ≡ of z
 
--- equal whole numbers
+-- whole numbers with equal fractions are equal
 pub of_same : (a b : ℤ) → of a ≡ of b → a ≡ b
 of_same a b e = cancel (pos (of b).den) a b (den_pos (of b))
     (go a b (of b).num (pos (of b).den) left (of-is b).cross)
@@ -41,7 +41,7 @@ same_sign c x z p e = sym (sign_of-of z) ∙ ap ordered_fractions.sign (sym e)
     ∙ ordered_fractions.sign-mul (of c) x
     ∙ ap (λ s. product_sign s (ordered_fractions.sign x)) (sign_of-of c ∙ is_plus c p)
 
--- so it is no less than 0, more than 0 or less than 0 where that is
+-- a whole number is no less than 0, more than 0 or less than 0 where the fraction is
 pub whole_nonneg : (c : ℤ) (x : Fraction) (z : ℤ) → pos 0 ≺ c → IsWhole c x z →
     ordered_fractions.sign x ≢ minus → pos 0 ≼ z
 whole_nonneg c x z p e h = not_below z (λ d. h (sym (same_sign c x z p e) ∙ d))
@@ -80,7 +80,7 @@ whole_sum n c k x z h = sym (sum_scale fractions n (of c) (λ j. mul (of (k j)) 
     ∙ sym (fractions.of_mul (k j) (z j)))
     ∙ sum_of_wholes n (λ j. k j *ℤ z j)
 
--- with the multiples behind
+-- a sum of whole multiples of fractions, with the multiples behind
 pub whole_dot : (n : ℕ) (c : ℤ) (k : ℕ → ℤ) (x : ℕ → Fraction) (z : ℕ → ℤ) →
     ((j : ℕ) → j < n → IsWhole c (x j) (z j)) →
     IsWhole c (sum fractions n (λ j. mul (x j) (of (k j)))) (sum_to n (λ j. z j *ℤ k j))

@@ -38,7 +38,7 @@ forces_value bs scale zs = record {
 abbrev pub triple_at : (ℕ → ℤ) → ℕ → ℤ × ℤ × ℤ
 triple_at y b = (y (3 * b), y (3 * b + 1), y (3 * b + 2))
 
--- of n free blocks
+-- the motion of n free blocks, by the multipliers of all rows
 abbrev pub motion_value : ℕ → Problem → List ℤ → MotionValue
 motion_value n P zs = listed n (triple_at (multiplier P zs))
 
@@ -48,16 +48,16 @@ module _ (q : Question) (v : Surveyed) (T : Tabled Fraction) where
   end_forces = forces_value v.bearings (pos (scale_of (forces_list (posed_shape q (scene_of v)) T)))
       (whole_list (forces_list (posed_shape q (scene_of v)) T))
 
-  -- those that may be added without end: they balance no dead loads
+  -- the forces that may be added without end along a column: they balance no dead loads
   abbrev pub end_ray : ℕ → ForcesValue
   end_ray c = forces_value v.bearings (pos 0) (whole_list (ray_list (posed_shape q (scene_of v)) T c))
 
-  -- the motion of a last table of phase 1, and of phase 3
+  -- the motion of a last table of phase 1, by its objective cells less 1
   abbrev pub end_collapse : MotionValue
   end_collapse = motion_value (free_bodies (scene_of v)) (posed q (scene_of v))
       (whole_list (collapse_list (posed_shape q (scene_of v)) T))
 
-  -- that of phase 3: nothing is taken off its objective cells
+  -- the motion of a last table of phase 3: nothing is taken off its objective cells
   abbrev pub end_bound : MotionValue
   end_bound = motion_value (free_bodies (scene_of v)) (posed q (scene_of v))
       (whole_list (bound_list (posed_shape q (scene_of v)) T))

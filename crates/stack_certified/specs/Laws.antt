@@ -35,12 +35,12 @@ pub record IsCertified (q : Question) (v : Surveyed) (c : CertificateValue) : Ty
   pub form : IsOfQuestion q c
   pub dead_loads : TellsOfDeadLoads v c
 
--- each end that has a certificate has such a one
+-- each end that has a certificate has a true one of its question
 abbrev pub EndsAreCertified : Type 0
 EndsAreCertified = (q : Question) (v : Surveyed) (x : End Fraction) (c : CertificateValue) →
     IsProper (scene_of v) → IsEndOfRun q v x → end_certificate q v x ≡ Some c → IsCertified q v c
 
--- an end is one of its question's
+-- an end is one that its question may have
 abbrev pub IsEndOf : Question → End Fraction → Type 0
 IsEndOf q (infeasible T) = ⊤
 IsEndOf Dead (feasible T) = ⊤
@@ -68,6 +68,6 @@ EndPushes q v (wide p k s) = ⊤
 EndPushes q v over = ⊤
 EndPushes q v never = ⊤
 
--- this holds of every end of a survey's run, whatever the rule and the budget
+-- no amount is negative at any end of a survey's run, whatever the rule and the budget
 abbrev pub EndsPush : Type 0
 EndsPush = (q : Question) (v : Surveyed) (x : End Fraction) → IsEndOfRun q v x → EndPushes q v x

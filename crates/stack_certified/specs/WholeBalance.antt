@@ -12,11 +12,11 @@ module _ (P : Problem) where
     pub sums : (i : ℕ) → i < P.shape.rows →
         sum_to (plain P.shape) (λ j. P.entry i j *ℤ x j) ≡ scale *ℤ P.load i
 
-  -- the rows times their multipliers, in a column and on the right
+  -- the sum of a column's cells, each times its row's multiplier
   abbrev pub column_work : (ℕ → ℤ) → ℕ → ℤ
   column_work y j = sum_to P.shape.rows (λ k. y k *ℤ P.entry k j)
 
-  -- on the right: the sum of all right sides, each times its row's multiplier
+  -- the sum of all right sides, each times its row's multiplier
   abbrev pub load_work : (ℕ → ℤ) → ℤ
   load_work y = sum_to P.shape.rows (λ k. y k *ℤ P.load k)
 
@@ -24,7 +24,7 @@ module _ (P : Problem) where
   abbrev pub AreUnresisted : (ℕ → ℤ) → Type 0
   AreUnresisted y = (j : ℕ) → j < P.shape.contacts → pos 0 ≼ column_work y j
 
-  -- and it is negative on the right: no amounts balance
+  -- multipliers whose product is negative in no contact column and negative on the right: no amounts balance
   pub record AreRefuting (y : ℕ → ℤ) : Type 0 where
     pub unresisted : AreUnresisted y
     pub driven : load_work y ≺ pos 0

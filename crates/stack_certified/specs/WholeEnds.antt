@@ -19,25 +19,25 @@ module _ (P : Problem) where
         (pos (scale_of (forces_list P.shape T)))
     pub pushes : NonePulls (whole_list (forces_list P.shape T))
 
-  -- without a factor
+  -- the forces of a table balance without a factor
   pub record AreStanding (T : Tabled Fraction) : Type 0 where
     pub without_factor : P.shape.factors ≡ 0
     pub forces : AreForces T
     pub no_factor : amount (whole_list (forces_list P.shape T)) P.shape.contacts ≡ pos 0
 
-  -- with a factor, which may be 0
+  -- the forces of a table balance with a factor, which may be 0
   pub record AreLoaded (T : Tabled Fraction) : Type 0 where
     pub with_factor : P.shape.contacts < plain P.shape
     pub stands : StandsInWhole P
     pub forces : AreForces T
 
-  -- and the multipliers of the last table bound it
+  -- the forces of a table balance, and the multipliers of the last table bound their factor
   pub record AreGreatest (T : Tabled Fraction) : Type 0 where
     pub loaded : AreLoaded T
     pub bounding : AreBounding P (amount (whole_list (forces_list P.shape T)))
         (pos (scale_of (forces_list P.shape T))) (multiplier P (whole_list (bound_list P.shape T)))
 
-  -- or the ray of column c raises it
+  -- the forces of a table balance, and the ray of column c raises their factor
   pub record AreRising (T : Tabled Fraction) (c : ℕ) : Type 0 where
     pub loaded : AreLoaded T
     pub balances : AreAmounts P (amount (whole_list (ray_list P.shape T c))) (pos 0)
@@ -54,7 +54,8 @@ module _ (P : Problem) where
   EndIsWhole over = ⊤
   EndIsWhole never = ⊤
 
--- of a problem with one factor column at most, whatever is too wide, and whatever the budget
+-- of a problem with at most one factor column every end of a run shows this, whatever is too wide and whatever the
+-- budget
 abbrev pub EndsAreWhole : Type 0
 EndsAreWhole = (P : Problem) → P.shape.factors ≤ 1 → (rule : Rule) (budget : ℕ) →
     EndIsWhole P (run_of P rule budget)

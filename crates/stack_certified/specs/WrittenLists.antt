@@ -15,15 +15,15 @@ module _ (S : Shape) (T : Tabled Fraction) where
   abbrev pub forces_number : ℕ → Fraction
   forces_number j = cond (ltb j (plain S)) (value ordered_fractions S T j) (of (pos 0))
 
-  -- the contact columns, and then the factor
+  -- the values of the contact columns, and then of the factor
   abbrev pub forces_list : List Fraction
   forces_list = listed (suc S.contacts) forces_number
 
-  -- and their rates on the ray of column c
+  -- the rate of column j on the ray of column c; 0 for the factor where it has no column
   abbrev pub ray_number : ℕ → ℕ → Fraction
   ray_number c j = cond (ltb j (plain S)) (rate ordered_fractions S T c j) (of (pos 0))
 
-  -- of the contact columns, and then of the factor
+  -- the rates on the ray of column c of the contact columns, and then of the factor
   abbrev pub ray_list : ℕ → List Fraction
   ray_list c = listed (suc S.contacts) (ray_number c)
 
@@ -31,14 +31,14 @@ module _ (S : Shape) (T : Tabled Fraction) where
   abbrev pub bound_number : ℕ → Fraction
   bound_number k = objective ordered_fractions S T (plain S + k)
 
-  -- of all rows, in order
+  -- the objective cells of the artificial columns of all rows, in order
   abbrev pub bound_list : List Fraction
   bound_list = listed S.rows bound_number
 
-  -- less 1 in phase 1
+  -- the objective cell of a row's artificial column less 1, as in phase 1
   abbrev pub collapse_number : ℕ → Fraction
   collapse_number k = less ordered_fractions (bound_number k) (of (pos 1))
 
-  -- of all rows, in order, each less 1
+  -- the objective cells of the artificial columns of all rows, in order, each less 1
   abbrev pub collapse_list : List Fraction
   collapse_list = listed S.rows collapse_number

@@ -125,20 +125,20 @@ module _ (s : Surveyed) (f : ForcesValue) where
   cones_settle : Settled s (IsAdmissible (scene_of s) (part_at f)) (steps (cone_at f.parts) 0 tt s.bearings)
   cones_settle = settled_each s WithinAt (cone_at f.parts) s.bearings no_bearing bearing_settles
 
--- what a list of forces is tested for
-pub record IsTooWide (signs : Signs) (s : Surveyed) (f : ForcesValue) : Type 0 where
+-- the scale, the factor and the forces meet what a list of forces is tested for
+pub record MeetsTests (signs : Signs) (s : Surveyed) (f : ForcesValue) : Type 0 where
   pub scaled : HasSign signs.scale f.scale
   pub driven : HasSign signs.factor f.factor
   pub forces : AreBalanced (scene_of s) (forces_of f)
 
--- the same, test by test
+-- what a list of forces is tested for, test by test
 abbrev Tested : Signs → Surveyed → ForcesValue → Type 0
 Tested signs s f = (length f.parts ≡ length s.bearings) × (HasSign signs.scale f.scale
     × (HasSign signs.factor f.factor
     × (IsAdmissible (scene_of s) (part_at f) × IsBalanced (scene_of s) (part_at f) f.scale f.factor)))
 
 pub forces_settle : (signs : Signs) (s : Surveyed) (f : ForcesValue) →
-    Settled s (IsTooWide signs s f) (written_forces signs s f)
+    Settled s (MeetsTests signs s f) (written_forces signs s f)
 unfolding written_forces
 forces_settle signs s f =
     settled_as s _ to from
@@ -152,7 +152,7 @@ forces_settle signs s f =
     (λ driven. settled_both s (steps (cone_at f.parts) 0 tt s.bearings) _ (cones_settle s f)
     (λ held. blocks_settle s f)))))
   where
-    to : Tested signs s f → IsTooWide signs s f
+    to : Tested signs s f → MeetsTests signs s f
     to h = record {
       scaled = h.1.0;
       driven = h.1.1.0;
@@ -163,7 +163,7 @@ forces_settle signs s f =
       };
     }
 
-    from : IsTooWide signs s f → Tested signs s f
+    from : MeetsTests signs s f → Tested signs s f
     from p = (
       sym (length-map f.parts part_of_pair) ∙ p.forces.count,
       (

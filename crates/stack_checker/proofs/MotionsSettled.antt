@@ -137,7 +137,7 @@ module _ (s : Surveyed) (y : MotionValue) where
       (λ unresisted. settled_work s (written_power Dead s y) _
       (λ x e. positive_settles x (dead_power_of (scene_of s) (move_at s y)) (dead_is x e))))
 
-  -- after both powers
+  -- tests after both powers are made
   settled_powers : {P : Type 0} (f : Powers → Result ⊤ Stop) →
       ((live dead : ℤ) → written_power Live s y ≡ Ok live → written_power Dead s y ≡ Ok dead →
       Settled s P (f (record { live = whole live; dead = whole dead }))) →

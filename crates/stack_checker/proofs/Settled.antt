@@ -31,7 +31,7 @@ module _ (s : Surveyed) where
   pub record Settled (P : Type 0) (r : Result ⊤ Stop) : Type 0 where
     pub is : Settles P r
 
-  -- the same of a claim that holds exactly where P does
+  -- what settles P settles a claim that holds exactly where P does
   pub settled_as : {P Q : Type 0} (r : Result ⊤ Stop) → (P → Q) → (Q → P) → Settled P r → Settled Q r
   settled_as (Ok done) to from h = record { is = to h.is }
   settled_as (Err (Rejected reason)) to from h = record { is = (λ q. h.is.0 (from q), h.is.1) }
@@ -60,14 +60,14 @@ module _ (s : Surveyed) where
       ((x : Whole) → x.value ≡ z → Settled P (f x)) → Settled P (made_at (made z) at >>= f)
   settled_made z at f names h = made_before (made z) at f names (λ x e. h x (made_is z x e))
 
-  -- after the three sums of free block number b
+  -- tests after the three sums of free block number b
   pub settled_sums : {P : Type 0} (b : ℕ) (r : Result Wrench SumWide) (f : Wrench → Result ⊤ Stop) →
       b < length (frees_of s.structure.bodies) → ((w : Wrench) → r ≡ Ok w → Settled P (f w)) →
       Settled P (sums_at b r >>= f)
   settled_sums b (Ok w) f names h = h w refl
   settled_sums b (Err e) f names h = record { is = names }
 
-  -- after the opening and the slide of bearing k
+  -- tests after the opening and the slide of bearing k
   pub settled_gap : {P : Type 0} (k : ℕ) (r : Result (ℤ × ℤ) VelocityWide) (f : Gap → Result ⊤ Stop) →
       k < length s.bearings →
       ((x : ℤ × ℤ) → r ≡ Ok x → Settled P (f (record { opening = whole x.0; slide = whole x.1 }))) →
@@ -75,7 +75,7 @@ module _ (s : Surveyed) where
   settled_gap k (Ok x) f names h = h x refl
   settled_gap k (Err e) f names h = record { is = names }
 
-  -- after a power
+  -- tests after a power
   pub settled_work : {P : Type 0} (r : Result ℤ PowerWide) (f : Whole → Result ⊤ Stop) →
       ((x : ℤ) → r ≡ Ok x → Settled P (f (whole x))) → Settled P (power_or_stop r >>= f)
   settled_work (Ok x) f h = h x refl

@@ -29,20 +29,20 @@ Answers s P (answers.Rejected part reason) = (¬ P) × IsReasonOf s reason
 Answers s P (answers.TooWide place) = IsPlaceOf s place.at
 
 module _ (s : Surveyed) where
-  -- of a claim that holds exactly where P does
+  -- an answer says of a claim what it says of P, where both hold together
   answers_as : {P Q : Type 0} (a : Check) → (P → Q) → (Q → P) → Answers s P a → Answers s Q a
   answers_as answers.Accepted to from h = to h
   answers_as (answers.Rejected part reason) to from h = (λ q. h.0 (from q), h.1)
   answers_as (answers.TooWide place) to from h = h
 
-  -- of one part
+  -- the answer of tests of one part
   answers_part : {P : Type 0} (part : Part) (r : Result ⊤ Stop) → Settled s P r →
       Answers s P (answer_of (in_part part r))
   answers_part part (Ok done) h = h.is
   answers_part part (Err (Rejected reason)) h = h.is
   answers_part part (Err (TooWide at)) h = h.is
 
-  -- of two parts
+  -- the answer of tests of two parts, one after the other
   answers_both : {P Q : Type 0} (r t : Result ⊤ Stop) → Settled s P r → Settled s Q t →
       Answers s (P × Q) (answer_of (in_part First r >>= λ carried. in_part Second t))
   answers_both (Ok done) t p q =

@@ -29,7 +29,7 @@ FactorIsCarried s (collapses y) = ⊤
 FactorIsCarried s (greatest f y) = Carries (scene_of s) f.factor f.scale
 FactorIsCarried s (unbounded base ray) = ⊤
 
--- and no greater one is, whatever its denominator
+-- no factor greater than that of the forces is carried, whatever its denominator
 abbrev pub NoGreaterIsCarried : Surveyed → CertificateValue → Type 0
 NoGreaterIsCarried s (stands f) = ⊤
 NoGreaterIsCarried s (collapses y) = ⊤
@@ -44,7 +44,7 @@ AllAboveAreCarried s (greatest f y) = ⊤
 AllAboveAreCarried s (unbounded base ray) = (L D : ℤ) → pos 0 ≺ D → base.factor *ℤ D ≼ L *ℤ base.scale →
     Carries (scene_of s) L D
 
--- and every factor from 0 up, where the dead loads stand
+-- every factor from 0 up is carried, where the dead loads stand
 abbrev pub AllAreCarried : Surveyed → CertificateValue → Type 0
 AllAreCarried s (stands f) = ⊤
 AllAreCarried s (collapses y) = ⊤

@@ -11,14 +11,14 @@ has_sign Zero z = int_eq z (pos 0)
 has_sign NotNegative z = int_le (pos 0) z
 has_sign Positive z = int_lt (pos 0) z
 
--- of the scale and the factor of forces that carry the dead loads alone
+-- what the scale and the factor are tested for, of forces that carry the dead loads alone
 abbrev pub standing : Signs
 standing = record { scale = Positive; factor = Zero }
 
--- of forces that carry the live loads with a factor
+-- what the scale and the factor are tested for, of forces that carry the live loads with a factor
 abbrev pub loaded : Signs
 loaded = record { scale = Positive; factor = NotNegative }
 
--- of forces that carry the live loads alone
+-- what the scale and the factor are tested for, of forces that carry the live loads alone
 abbrev pub rising : Signs
 rising = record { scale = Zero; factor = Positive }

@@ -47,7 +47,7 @@ IsReasonOf s (reasons.Resisted k) = k < length s.bearings
 IsReasonOf s reasons.NoWork = ⊤
 IsReasonOf s reasons.Apart = ⊤
 
--- so does a place
+-- a place names a bearing or a free block of the survey, both counted from 0
 abbrev pub IsPlaceOf : Surveyed → CheckAt → Type 0
 IsPlaceOf s (places.Cone k) = k < length s.bearings
 IsPlaceOf s (places.Balance b axis) = b < length (frees_of s.structure.bodies)
@@ -55,7 +55,7 @@ IsPlaceOf s (places.Resisted k) = k < length s.bearings
 IsPlaceOf s places.Work = ⊤
 IsPlaceOf s places.Apart = ⊤
 
--- and so does an answer
+-- an answer names what the survey has, in its reason or in its place
 abbrev pub NamesOf : Surveyed → Check → Type 0
 NamesOf s Accepted = ⊤
 NamesOf s (Rejected part reason) = IsReasonOf s reason

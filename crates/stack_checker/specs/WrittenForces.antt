@@ -31,7 +31,7 @@ written_cone k p q f = do
   least ← made_at (made (q.value *ℤ tangential.value)) (places.Cone k)
   demand (int_le least.value most.value) (reasons.Cone k)
 
--- the same of a bearing of the survey
+-- the cone test of bearing k of the survey
 abbrev pub cone_at : List (ℤ × ℤ) → ℕ → ⊤ → Bearing → Result ⊤ Stop
 cone_at parts k done z = written_cone k (whole z.cone.p) (whole z.cone.q) (push_at parts k)
 
@@ -43,7 +43,7 @@ written_balance b sums = do
   along_y ← demand (has_sign Zero w.fy) (reasons.Balance b Y)
   demand (has_sign Zero w.m) (reasons.Balance b M)
 
--- the same of a free block of the survey, which is body i
+-- the balance test of free block number b of the survey, which is body i
 abbrev pub balance_at : Surveyed → ForcesValue → ℕ → ⊤ → ℕ → Result ⊤ Stop
 balance_at s f b done i = written_balance b (written_sums_at s f i)
 

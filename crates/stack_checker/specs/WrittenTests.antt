@@ -25,17 +25,17 @@ abbrev pub made_at : Result Whole Wide → CheckAt → Result Whole Stop
 made_at (Ok x) at = Ok x
 made_at (Err e) at = Err (TooWide at)
 
--- the three sums of free block number b
+-- the three sums of free block number b, or the place of the one that is too wide
 abbrev pub sums_at : ℕ → Result Wrench SumWide → Result Wrench Stop
 sums_at b (Ok w) = Ok w
 sums_at b (Err e) = Err (TooWide (places.Balance b e.axis))
 
--- the opening and the slide of bearing k
+-- the opening and the slide of bearing k, or its place where a velocity is too wide
 abbrev pub stopped_gap : ℕ → Result (ℤ × ℤ) VelocityWide → Result Gap Stop
 stopped_gap k (Ok r) = Ok (record { opening = whole r.0; slide = whole r.1 })
 stopped_gap k (Err e) = Err (TooWide (places.Resisted k))
 
--- a power
+-- a power, or its place where it is too wide
 abbrev pub power_or_stop : Result ℤ PowerWide → Result Whole Stop
 power_or_stop (Ok power) = Ok (whole power)
 power_or_stop (Err e) = Err (TooWide places.Work)

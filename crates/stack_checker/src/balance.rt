@@ -19,7 +19,7 @@ use stack_equilibrium::residue;
 use stack_equilibrium::types::{Axis, SumWide, Wrench};
 use stack_whole::Whole;
 
-/// The three sums of free block number `b`, with their place.
+/// The three sums of free block number `b`, or their place where one is too wide.
 fn placed_sums(b: usize, made: Result<Wrench, SumWide>) -> Result<Wrench, Stop>
     ensures { result ≡ sums_at b made }
 {
@@ -59,7 +59,7 @@ fn check_block(s: &Survey, forces: &Forces, b: usize) -> Result<(), Stop>
     check_balance(b, residue(s, forces, b))
 }
 
-/// So is each free block, in order.
+/// Each free block of the survey is balanced, in order.
 pub fn check_blocks(s: &Survey, forces: &Forces) -> Result<(), Stop>
     requires { length (forces_view forces.now).parts ≡ length s.now.bearings }
     ensures { result ≡ steps (balance_at s.now (forces_view forces.now)) 0 tt (frees_of s.now.structure.bodies) }

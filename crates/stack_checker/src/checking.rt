@@ -38,13 +38,13 @@ fn check_form(s: &Survey, c: &Certificate) -> Result<(), PartStop>
     }
 }
 
-/// Whether a certificate is true of the survey's model: `Accepted` only where it is, `Rejected` only where it
-/// isn't, with the first test that fails. `TooWide` where a product or a partial result is more than `2^127 - 1` in
-/// size before a test fails, with the first such place. Bearings and free blocks are counted from 0. Takes no
-/// memory. After Livesley (1978).
+/// Whether a certificate is true of the survey's model: `Accepted` only where it is, `Rejected` only where it isn't,
+/// with the first test that fails. `TooWide` where a product or a partial result is more than `2^127 - 1` in size
+/// before a test fails, with the first such place. Bearings and free blocks are counted from 0. Takes no memory. After
+/// Livesley (1978).
 ///
-/// What an accepted certificate shows of the structure, by its form: the dead loads stand; no admissible forces
-/// balance them; a factor of the live loads is carried and no greater one is; every factor from one up is
+/// What an accepted certificate shows of the structure, by its form: the dead loads stand; no admissible forces balance
+/// them; a factor of the live loads is carried and no greater one is; every factor from that of the first forces up is
 /// carried, and from 0 up where the dead loads stand.
 pub fn check(s: &Survey, c: &Certificate) -> Check
     ensures written { result ≡ written_check s.now (certificate_view c.now) }

@@ -30,7 +30,7 @@ fn check_bearing(k: usize, z: Bearing, parts: &[(i128, i128)]) -> Result<(), Sto
     check_cone(k, z.cone, push_of(parts, k))
 }
 
-/// So does each bearing, in order.
+/// Each bearing pushes, and stays within its cone of friction, in order.
 pub fn check_cones(bearings: &[Bearing], parts: &[(i128, i128)]) -> Result<(), Stop>
     requires { length bearings.now ≤ length parts.now }
     ensures { result ≡ steps (cone_at parts.now) 0 tt bearings.now }

@@ -16,7 +16,7 @@ use stack_equilibrium::types::VelocityWide;
 use stack_equilibrium::velocity::Gap;
 use stack_whole::Whole;
 
-/// How bearing `k` opens and slides, with its place.
+/// How bearing `k` opens and slides, or its place where a velocity is too wide.
 fn placed_gap(k: usize, made: Result<(i128, i128), VelocityWide>) -> Result<Gap, Stop>
     ensures { result ≡ stopped_gap k made }
 {
@@ -32,7 +32,7 @@ fn placed_gap(k: usize, made: Result<(i128, i128), VelocityWide>) -> Result<Gap,
 // Why a motion that passes bounds every factor: a force within its cone has a >= 0 and q*|b| <= p*a, so its work
 // a*opening + b*slide on this motion isn't negative where p*|slide| <= q*opening. Balanced forces do no work in all,
 // so scale times the dead power and factor times the live power are at most 0 together, for each factor that is
-// carried. That is the kinematic theorem (`certificate_laws` of stack_equilibrium).
+// carried. That is the kinematic theorem (`certificate_laws` of stack_statics).
 
 /// Bearing `k`, with the coefficient `p` over `q`, opens at least as much as its slide asks for.
 #[tactic(auto, unfolding(crate::specs::WrittenMotions::written_resistance))]
@@ -55,7 +55,7 @@ fn check_bearing(s: &Survey, motion: &Motion, k: usize, z: Bearing) -> Result<()
     check_resistance(k, Whole::widened(z.cone.p), Whole::widened(z.cone.q), gap)
 }
 
-/// So does each bearing, in order.
+/// Each bearing opens at least as much as its slide asks for, in order.
 fn check_bearings(s: &Survey, motion: &Motion) -> Result<(), Stop>
     requires { length (motion_view motion.now) ≡ length (frees_of s.now.structure.bodies) }
     ensures { result ≡ steps (resistance_at s.now (motion_view motion.now)) 0 tt s.now.bearings }

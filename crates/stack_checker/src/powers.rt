@@ -23,7 +23,7 @@ pub struct Powers {
     pub dead: Whole,
 }
 
-/// A power with its place.
+/// A power, or its place where it is too wide.
 fn placed_power(made: Result<i128, PowerWide>) -> Result<Whole, Stop>
     ensures { result ≡ power_or_stop made }
 {

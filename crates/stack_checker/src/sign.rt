@@ -14,7 +14,7 @@ pub enum WantedSign {
 }
 
 impl WantedSign {
-    /// Whether the number has it.
+    /// Whether the number has the sign that is wanted.
     pub fn is_of(self, number: Whole) -> bool
         ensures { result ≡ has_sign self number.value }
     {
@@ -34,7 +34,7 @@ pub struct Signs {
 }
 
 impl Signs {
-    /// Of forces that carry the dead loads alone.
+    /// What forces that carry the dead loads alone are tested for: a positive scale, and the factor 0.
     pub fn standing() -> Signs
         ensures { result ≡ standing }
     {
@@ -44,7 +44,7 @@ impl Signs {
         }
     }
 
-    /// Of forces that carry the live loads with a factor.
+    /// What forces that carry the live loads with a factor are tested for: a positive scale, and no negative factor.
     pub fn loaded() -> Signs
         ensures { result ≡ loaded }
     {
@@ -54,7 +54,7 @@ impl Signs {
         }
     }
 
-    /// Of forces that carry the live loads alone.
+    /// What forces that carry the live loads alone are tested for: the scale 0, and a positive factor.
     pub fn rising() -> Signs
         ensures { result ≡ rising }
     {

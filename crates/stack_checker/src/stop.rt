@@ -14,14 +14,14 @@ pub enum Stop {
     TooWide(CheckAt),
 }
 
-/// The same with the part of the certificate in which it does.
+/// A stop, with the part of the certificate in which the tests end.
 #[derive(Clone, Copy, Debug, PartialEq, Eq)]
 pub struct PartStop {
     pub part: Part,
     pub stop: Stop,
 }
 
-/// A test with its reason.
+/// A test that holds, or else its reason.
 pub fn require(holds: bool, reason: Reason) -> Result<(), Stop>
     ensures { result ≡ demand holds reason }
 {
@@ -32,7 +32,7 @@ pub fn require(holds: bool, reason: Reason) -> Result<(), Stop>
     }
 }
 
-/// A number with its place.
+/// A number that isn't too wide, or else its place.
 pub fn place(number: Result<Whole, Wide>, at: CheckAt) -> Result<Whole, Stop>
     ensures { result ≡ made_at number at }
 {
@@ -42,7 +42,7 @@ pub fn place(number: Result<Whole, Wide>, at: CheckAt) -> Result<Whole, Stop>
     }
 }
 
-/// The tests of a part of a certificate, with that part where they end.
+/// The tests of a part of a certificate; where they end early, with that part.
 pub fn in_part(part: Part, tested: Result<(), Stop>) -> Result<(), PartStop>
     ensures { result ≡ in_part part tested }
 {

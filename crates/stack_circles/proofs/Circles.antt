@@ -42,7 +42,7 @@ module _ (F : Ordered) (S : Shape) (is_too_wide : Op → F.C → F.C → Bool) (
             (subst (λ W. SameSet S.rows (tables F S is_too_wide A own phase among within V a).basic W.basic)
             (sym y.table) (subst (λ W. SameSet S.rows W.basic U.basic) (sym x.table) h))
 
-    -- and they are few
+    -- the turns of a phase are fewer than 2^columns
     turns_few : (b : ℕ) (U : Tabled F.C) → after_turns F S is_too_wide among V b ≡ Some U → b < 2 ^ columns S
     turns_few b U q = few F S is_too_wide A own phase among within V start b
         (due_to F S is_too_wide A own phase among within V b U q).all
@@ -140,7 +140,7 @@ module _ (F : Ordered) (S : Shape) (is_too_wide : Op → F.C → F.C → Bool) (
         (t : ReachesInThird F S is_too_wide budget T0 e U) → s.done_before ≡ t.done_before
     third_start d e T U s t = settled-done (third_same d e T U s t)
 
-    -- nor in phase 3
+    -- no set recurs in phase 3
     third_recurs : (d e : ℕ) (T U : Tabled F.C) → ReachesInThird F S is_too_wide budget T0 d T →
         ReachesInThird F S is_too_wide budget T0 e U → d < e → SameSet S.rows T.basic U.basic → ⊥
     third_recurs d e T U s t l h = turns_recur (own_third F S.contacts) 3 (plain S) (omega arith)
@@ -152,7 +152,7 @@ module _ (F : Ordered) (S : Shape) (is_too_wide : Op → F.C → F.C → Bool) (
         same : settled s.second.left s.done_before s.last ≡ settled t.second.left t.done_before t.last
         same = third_same d e T U s t
 
-    -- nor in any
+    -- no set recurs in any phase
     pub set_recurs : (p : Phase) (d e : ℕ) (T U : Tabled F.C) → ReachesIn F S is_too_wide budget T0 p d T →
         ReachesIn F S is_too_wide budget T0 p e U → d < e → SameSet S.rows T.basic U.basic → ⊥
     set_recurs phase_1 d e T U s t l h = turns_recur (own_first F S.rows (plain S)) 1 S.contacts
@@ -167,7 +167,7 @@ module _ (F : Ordered) (S : Shape) (is_too_wide : Op → F.C → F.C → Bool) (
         (clear_objective F S s.last) row
         s.left d U s.there
 
-    -- which come after those of phase 1
+    -- the pivots of phase 2 come after those of phase 1
     second_least : (row d : ℕ) (U : Tabled F.C) (s : ReachesInSecond F S is_too_wide budget T0 row d U) →
         s.done_before ≤ d
     second_least row d U s = at_least (passed F S is_too_wide s.left_before s.done_before

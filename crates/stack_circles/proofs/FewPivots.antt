@@ -20,7 +20,7 @@ use Rattle.stack_duality.proofs.RunEnds.{Settled, drives_keep}
 use Rattle.stack_circles.proofs.SetNumbers.{below_power}
 use Rattle.stack_circles.proofs.PhaseBudgets.{never_spent, settled_few}
 
--- the whole run
+-- a run of a problem with these first rows A
 module _ (F : Ordered) (S : Shape) (is_too_wide : Op → F.C → F.C → Bool) (A : ℕ → ℕ → F.C) where
   -- a stop with at least b pivots left, where it settles
   abbrev Leaves : ℕ → PhaseStop F.C → Type 0
@@ -69,7 +69,7 @@ module _ (F : Ordered) (S : Shape) (is_too_wide : Op → F.C → F.C → Bool) (
       go true zero (Some c) l = absurd (omega arith)
       go true (suc left) (Some c) l = at_spot left c (pivot_spot F is_too_wide S T i c) (omega arith)
 
-  -- and all rows at most as many as they are
+  -- all rows of phase 2 use at most as many pivots as they are
   drives_leave : (k b left done : ℕ) (T : Tabled F.C) → b + k ≤ left →
       Leaves b (drives F S is_too_wide k left done T)
   drives_leave zero b left done T l = omega arith
@@ -90,7 +90,7 @@ module _ (F : Ordered) (S : Shape) (is_too_wide : Op → F.C → F.C → Bool) (
   third_over (wide_at p k s) e = absurd cc
   third_over spent e = refl
 
-  -- past phase 1
+  -- a run past phase 1 isn't over where enough is left
   second_enough : (l d : ℕ) (T : Tabled F.C) (k : ℕ) → S.factors ≡ k → IsFirst F S A T →
       F.sign (right F S T S.rows) ≢ minus → 2 * 2 ^ columns S ≤ l → past_first F S is_too_wide l d T k ≢ over
   second_enough l d T zero f h s b e = absurd cc

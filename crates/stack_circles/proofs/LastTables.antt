@@ -45,13 +45,13 @@ module _ (F : Ordered) (S : Shape) (is_too_wide : Op → F.C → F.C → Bool) w
     pub total : d ≡ done + count
     pub there : after_turns F S is_too_wide among T count ≡ Some U
 
-  -- with some numbers of pivots
+  -- a phase stops at U after some turns, with some numbers of pivots
   pub record TurnedTo (among left done : ℕ) (T U : Tabled F.C) : Type 0 where
     pub left_then : ℕ
     pub done_then : ℕ
     pub turned : Turned among left done T left_then done_then U
 
-  -- by the stop
+  -- how a phase stops: at a table that its turns reach, where it settles
   abbrev pub Stopped : (among left done : ℕ) → Tabled F.C → PhaseStop F.C → Type 0
   Stopped among left done T (settled l d U) = Turned among left done T l d U
   Stopped among left done T (unlimited U c) = TurnedTo among left done T U
@@ -79,7 +79,7 @@ module _ (F : Ordered) (S : Shape) (is_too_wide : Op → F.C → F.C → Bool) w
     there = turn_first among T V h.count U e h.there;
   }
 
-  -- the same of a stop
+  -- one turn more, by how the phase stops
   more : (among left done : ℕ) (T V : Tabled F.C) (x : PhaseStop F.C) →
       turned_by F S is_too_wide T (choose F S is_too_wide T among) ≡ Some V → Stopped among left (suc done) V x →
       Stopped among (suc left) done T x
@@ -92,7 +92,7 @@ module _ (F : Ordered) (S : Shape) (is_too_wide : Op → F.C → F.C → Bool) w
   more among left done T V (wide_at p k s) e h = tt
   more among left done T V spent e h = tt
 
-  -- so a phase stops at a table that its turns reach
+  -- a phase stops at a table that its turns reach
   pub turns_stop : (phase among left done : ℕ) (T : Tabled F.C) →
       Stopped among left done T (turns F S is_too_wide phase among left done T)
   turns_stop phase among zero done T = go (choose F S is_too_wide T among)
@@ -163,7 +163,7 @@ module _ (F : Ordered) (S : Shape) (is_too_wide : Op → F.C → F.C → Bool) w
       };
     }
 
-    -- by how phase 3 stops
+    -- the last table is reached, by how phase 3 stops
     at_third : (left done l d : ℕ) (V W : Tabled F.C) → ComesToSecond F S is_too_wide budget T left done V →
         drives F S is_too_wide S.rows left done (clear_objective F S V) ≡ settled l d W →
         (x : PhaseStop F.C) → Stopped (plain S) l d (set_factor_objective F S W) x → Last (third_end x)
@@ -173,7 +173,7 @@ module _ (F : Ordered) (S : Shape) (is_too_wide : Op → F.C → F.C → Bool) w
     at_third left done l d V W h e (wide_at p k s) t = tt
     at_third left done l d V W h e spent t = tt
 
-    -- by how phase 2 stops
+    -- the last table is reached, by how phase 2 stops
     at_second : (left done : ℕ) (V : Tabled F.C) → ComesToSecond F S is_too_wide budget T left done V →
         (x : PhaseStop F.C) → drives F S is_too_wide S.rows left done (clear_objective F S V) ≡ x →
         Settled F S A (Second F S A S.rows) x →
@@ -189,7 +189,7 @@ module _ (F : Ordered) (S : Shape) (is_too_wide : Op → F.C → F.C → Bool) w
         SomeDone (λ d. ReachesInFirst F S is_too_wide budget T d V)
     in_first left done V t = record { done = t.count; holds = record { within = t.within; there = t.there } }
 
-    -- past phase 1, by the number of factor columns
+    -- the last table past phase 1 is reached, by the number of factor columns
     by_factors : (left done : ℕ) (V : Tabled F.C) (k : ℕ) → S.factors ≡ k →
         turns F S is_too_wide 1 S.contacts budget 0 T ≡ settled left done V →
         F.sign (right F S V S.rows) ≢ minus → Turned S.contacts budget 0 T left done V →

@@ -23,7 +23,7 @@ pub record Greatest (n : ℕ) (c : ℕ → ℕ) : Type 0 where
   pub below : index < n
   pub most : (k : ℕ) → k < n → c k ≤ c index
 
--- there is one
+-- some numbers have a greatest
 pub greatest : (n : ℕ) (c : ℕ → ℕ) → 0 < n → Greatest n c
 greatest zero c h = absurd (omega arith)
 greatest (suc zero) c h = record {
@@ -92,7 +92,7 @@ module _ (F : Ordered) (m n : ℕ) (A : ℕ → ℕ → F.C) (own : ℕ → F.C)
       (unit_in cell' basic' t' (basic i) ((h (basic i)).0 (record { row = i; below = k; there = refl })))
       ∙ F.zero_mul _)) ∙ add-zero F.ring _
 
-  -- and so are their right sides
+  -- with the same set of basic columns their right sides are the same
   pub same_value : (cell cell' : ℕ → ℕ → F.C) (basic basic' : ℕ → ℕ) → Tableau F m n A own cell basic →
       Tableau F m n A own cell' basic' → SameSet m basic basic' → cell m n ≡ cell' m n
   same_value cell cell' basic basic' t t' h = ring1 F.ring (λ y. (y, Exp.neg (Exp.neg y))) refl (cell m n)
@@ -161,7 +161,7 @@ module _ (F : Ordered) (S : Shape) (A : ℕ → ℕ → F.C) (own : ℕ → F.C)
           (λ e. d (ap (T k).basic (sym e) ∙ b.there)) ∙ b.there;
     }
 
-    -- and was there before, unless it entered
+    -- a basic column was there before, unless it entered
     came_in_once : (k j : ℕ) → k < L → c k ≢ j → Basic (suc k) j → Basic k j
     came_in_once k j l d b = go (ℕ_discrete b.row (r k))
       where
@@ -194,11 +194,11 @@ module _ (F : Ordered) (S : Shape) (A : ℕ → ℕ → F.C) (own : ℕ → F.C)
         (c k) b in
         let z = ap is_negative_sign (ap F.sign e ∙ F.sign-zero) in let q = (h.due k l).enters.has in cc
 
-    -- the objective's right side
+    -- what the pivot of turn k adds to the objective's right side
     abbrev gain : ℕ → F.C
     gain k = F.mul (F.neg ((T k).cell m (c k))) (quotient F (right F S (T k) (r k)) ((T k).cell (r k) (c k)))
 
-    -- it grows by the gain of each pivot
+    -- the objective's right side grows by the gain of each pivot
     value_after : (k : ℕ) → k < L → (T (suc k)).cell m n ≡ F.add ((T k).cell m n) (gain k)
     value_after k l = cell_after k m n l
         ∙ ap (λ (f : ℕ → F.C). f n) (pivoted-other F.ring (T k).cell (F.inv ((T k).cell (r k) (c k))) (r k)
@@ -223,7 +223,7 @@ module _ (F : Ordered) (S : Shape) (A : ℕ → ℕ → F.C) (own : ℕ → F.C)
     pivot_inv-plus : (k : ℕ) → k < L → F.sign (F.inv ((T k).cell (r k) (c k))) ≡ plus
     pivot_inv-plus k l = inv-plus F _ (h.due k l).leaves.positive
 
-    -- and no gain is negative
+    -- no gain is negative
     gain-nonneg : (k : ℕ) → k < L → NonNeg F (gain k)
     gain-nonneg k l = nonneg_mul F _ _ (nonneg_neg-minus F _ (entering-minus k l))
         (nonneg_mul F _ _ (nonneg_plus F _ (pivot_inv-plus k l))
@@ -231,7 +231,7 @@ module _ (F : Ordered) (S : Shape) (A : ℕ → ℕ → F.C) (own : ℕ → F.C)
 
     -- the set of basic columns recurs
     module _ (some : 0 < L) (same : SameSet m (T 0).basic (T L).basic) where
-      -- so no pivot gains anything
+      -- where the set recurs, no pivot gains anything
       no_gain : (k : ℕ) → k < L → gain k ≡ F.of (pos 0)
       no_gain = zero_parts F L gain gain-nonneg
           (ring2 F.ring (λ x s. (s, (x ⊕ s) ⊖ x)) refl ((T 0).cell m n) (sum F.ring L gain)
@@ -281,7 +281,7 @@ module _ (F : Ordered) (S : Shape) (A : ℕ → ℕ → F.C) (own : ℕ → F.C)
           go minus e = absurd (other (λ z. let f = ap F.sign z ∙ F.sign-zero in cc))
           go plus e = absurd (other (λ z. let f = ap F.sign z ∙ F.sign-zero in cc))
 
-      -- t is the greatest column that enters, and q the turn where it does
+      -- t is the greatest column that enters, and g tells the turn in which it enters
       g : Greatest L c
       g = greatest L c some
 
@@ -340,7 +340,7 @@ module _ (F : Ordered) (S : Shape) (A : ℕ → ℕ → F.C) (own : ℕ → F.C)
         not_basic j d b = d (ap F.sign (unit_in F m n A own (T g.index).cell (T g.index).basic tq j b)
             ∙ F.sign-zero)
 
-        -- so it is t or below
+        -- a basic column with such a cell is t or below
         at_most : (i : ℕ) → i < m → F.sign ((T g.index).cell m ((T p).basic i)) ≢ nought →
             (T p).basic i ≤ c g.index
         at_most i l d = go (dec_le ((T p).basic i) (c g.index))

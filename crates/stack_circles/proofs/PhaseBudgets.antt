@@ -51,7 +51,7 @@ module _ (F : Ordered) (S : Shape) (is_too_wide : Op → F.C → F.C → Bool) (
   shifted T zero = refl
   shifted T (suc k) = ap moved (shifted T k)
 
-  -- due now and then
+  -- where a pivot is due at the first table and at each after it, it is due at all
   due_then : (T : Tabled F.C) (left : ℕ) → IsDue (choose F S is_too_wide T among) →
       ((k : ℕ) → k ≤ left → IsDue (choose F S is_too_wide (tables (moved T) k) among)) →
       (k : ℕ) → k ≤ suc left → IsDue (choose F S is_too_wide (tables T k) among)
@@ -107,13 +107,13 @@ module _ (F : Ordered) (S : Shape) (is_too_wide : Op → F.C → F.C → Bool) (
         (column_of (choose F S is_too_wide (tables T k) among))
     due_at k l = due_is (tables T k) _ (chosen F S is_too_wide (tables T k) among) (all k l)
 
-    -- and each table is a tableau
+    -- each table of the phase is a tableau
     pub tableau_at : (k : ℕ) → k ≤ B → Tableau F S.rows (columns S) A own (tables T k).cell (tables T k).basic
     tableau_at zero l = start
     tableau_at (suc k) l = due_tableau F S A own among within (tables T k) _ _ (tableau_at k (omega arith))
         (due_at k (omega arith))
 
-    -- so they are a sequence as Bland's rule makes it
+    -- so the tables are a sequence as Bland's rule makes it
     turns_from : (a d : ℕ) → a + d ≤ B → Turns F S A own among (λ k. tables T (a + k))
         (λ k. row_of (choose F S is_too_wide (tables T (a + k)) among))
         (λ k. column_of (choose F S is_too_wide (tables T (a + k)) among)) d
@@ -132,7 +132,7 @@ module _ (F : Ordered) (S : Shape) (is_too_wide : Op → F.C → F.C → Bool) (
         subst (λ z. SameSet S.rows (tables T (a + 0)).basic (tables T z).basic) y
         (subst (λ z. SameSet S.rows (tables T z).basic (tables T b).basic) x h))
 
-    -- nor a number of a set
+    -- no number of a set recurs
     no_repeat : (a b : ℕ) → a < b → b ≤ B → code (columns S) (has S.rows (tables T a).basic)
         ≡ code (columns S) (has S.rows (tables T b).basic) → ⊥
     no_repeat a b l k e = no_set a b l k (same_set S.rows (columns S) _ _
@@ -165,7 +165,7 @@ module _ (F : Ordered) (S : Shape) (is_too_wide : Op → F.C → F.C → Bool) (
     pub total : l + count ≡ left
     pub all : (k : ℕ) → k < count → IsDue (choose F S is_too_wide (tables T k) among)
 
-  -- all of them were due
+  -- the pivots of a phase that settles were all due
   settled_used : (left done : ℕ) (T : Tabled F.C) (l d : ℕ) (U : Tabled F.C) →
       turns F S is_too_wide phase among left done T ≡ settled l d U → Used T left l
   settled_used zero done T l d U e = go (choose F S is_too_wide T among) e
@@ -213,7 +213,7 @@ module _ (F : Ordered) (S : Shape) (is_too_wide : Op → F.C → F.C → Bool) (
           (pivoted_at F S T (row_of x) (column_of x)) ≡ settled l d U) (sym p)
           (at_spot r c (pivot_spot F is_too_wide S T r c) e)))
 
-  -- so they are fewer than 2^columns
+  -- so the pivots of a phase that settles are fewer than 2^columns
   pub settled_few : (left done : ℕ) (T : Tabled F.C) (l d : ℕ) (U : Tabled F.C) →
       Tableau F S.rows (columns S) A own T.cell T.basic →
       turns F S is_too_wide phase among left done T ≡ settled l d U → left < l + 2 ^ columns S

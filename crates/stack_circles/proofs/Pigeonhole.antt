@@ -10,7 +10,7 @@ avoiding f m last i = cond (eqb (f i) m) (f last) (f i)
 abbrev Avoids : ℕ → ℕ → ℕ → ℕ → Type 0
 Avoids x m y r = ((x ≡ m) × (r ≡ y)) ⊎ ((x ≡ m → ⊥) × (r ≡ x))
 
--- by whether it is m
+-- a number that is moved where it is m, and stays where it isn't, avoids m
 Avoids-by : (x m y : ℕ) (t : Bool) → eqb x m ≡ t → Avoids x m y (cond t y x)
 Avoids-by x m y true e = inl (eqb-true x m e, refl)
 Avoids-by x m y false e = inr (eqb-false x m e, refl)

@@ -33,7 +33,7 @@ module _ (F : Ordered) (S : Shape) (is_too_wide : Op → F.C → F.C → Bool) w
   abbrev pub RowDone : ℕ → ℕ → Tabled F.C → ℕ → Tabled F.C → Type 0
   RowDone row d T e U = ((e ≡ d) × (U ≡ T)) ⊎ ((e ≡ suc d) × TakesArtificialOut S row T U)
 
-  -- this is what it does
+  -- phase 2 makes this of a row
   pub row_done : (left done : ℕ) (T : Tabled F.C) (i l d : ℕ) (U : Tabled F.C) →
       drive_row F S is_too_wide left done T i ≡ settled l d U → RowDone i done T d U
   row_done left done T i l d U e = go (leb (plain S) (T.basic i)) refl e
@@ -84,7 +84,7 @@ module _ (F : Ordered) (S : Shape) (is_too_wide : Op → F.C → F.C → Bool) w
     pub kept : (i : ℕ) → (U.basic i ≡ T.basic i) ⊎ (U.basic i < plain S)
     pub moved : ((e ≡ d) × (U ≡ T)) ⊎ ((d < e) × Out n T U)
 
-  -- one row more
+  -- two tables of phase 2, and one row more
   passed_on : (r d : ℕ) (T : Tabled F.C) (x : ℕ) (V : Tabled F.C) (e : ℕ) (U : Tabled F.C) →
       Passed r d T x V → RowDone r x V e U → Passed (suc r) d T e U
   passed_on r d T x V e U h (inl k) = record {
@@ -130,7 +130,7 @@ module _ (F : Ordered) (S : Shape) (is_too_wide : Op → F.C → F.C → Bool) w
       later (inr z) = omega (arith, k.0, z.0)
 
   module _ (left done : ℕ) (V : Tabled F.C) where
-    -- the row after which
+    -- the row between which two tables of phase 2 lie
     pub row_between : (r l d : ℕ) (T : Tabled F.C) (l' e : ℕ) (U : Tabled F.C) →
         drives F S is_too_wide r left done V ≡ settled l d T →
         drives F S is_too_wide (suc r) left done V ≡ settled l' e U → RowDone r d T e U

@@ -11,7 +11,7 @@ abbrev any : ℕ → (ℕ → Bool) → Bool
 any zero p = false
 any (suc n) p = any n p || p n
 
--- so one there is
+-- where the test holds, one of them has p
 any-index : (n : ℕ) (p : ℕ → Bool) → any n p ≡ true → (i : ℕ) × (i < n) × (p i ≡ true)
 any-index zero p e = absurd cc
 any-index (suc n) p e = go (any n p) (any-index n p) e
@@ -21,7 +21,7 @@ any-index (suc n) p e = go (any n p) (any-index n p) e
     go true h e = let r = h refl in (r.0, omega (arith, r.1), r.2)
     go false h e = (n, omega arith, e)
 
--- and where there is one, the test holds
+-- where one of them has p, the test holds
 any-true : (n i : ℕ) (p : ℕ → Bool) → i < n → p i ≡ true → any n p ≡ true
 any-true zero i p l e = absurd (omega arith)
 any-true (suc n) i p l e = go (ℕ_discrete i n) (any n p) (any-true n i p)
@@ -36,7 +36,7 @@ abbrev pub code : ℕ → (ℕ → Bool) → ℕ
 code zero f = 0
 code (suc n) f = code n f + cond (f n) (2 ^ n) 0
 
--- it is below 2^n, and tells the first n digits
+-- the number is below 2^n, and tells the first n digits
 pub code-below : (n : ℕ) (f : ℕ → Bool) → code n f < 2 ^ n
 code-below zero f = omega arith
 code-below (suc n) f = go (f n) (code-below n f)
@@ -74,7 +74,7 @@ has-in m basic j e = let r = any-index m (λ i. eqb (basic i) j) e in record {
 in-has : (m : ℕ) (basic : ℕ → ℕ) (j : ℕ) → IsBasic m basic j → has m basic j ≡ true
 in-has m basic j h = any-true m h.row (λ i. eqb (basic i) j) h.below (eq-eqb _ _ h.there)
 
--- the same number is the same set
+-- sets with the same number are the same
 pub same_set : (m n : ℕ) (b c : ℕ → ℕ) → ((i : ℕ) → i < m → b i < n) → ((i : ℕ) → i < m → c i < n) →
     code n (has m b) ≡ code n (has m c) → SameSet m b c
 same_set m n b c hb hc e j = (

@@ -28,7 +28,7 @@ module _ (F : Ordered) (S : Shape) (is_too_wide : Op → F.C → F.C → Bool) w
     pub unhindered : pivot_spot F is_too_wide S T row column ≡ None
     pub next : pivoted_at F S T row column ≡ U
 
-  -- it does where there is a table after it
+  -- a turn goes on where there is a table after it
   pub goes : (among : ℕ) (T U : Tabled F.C) → turned_by F S is_too_wide T (choose F S is_too_wide T among) ≡ Some U →
       Goes among T U
   goes among T U e = go (choose F S is_too_wide T among) refl e
@@ -55,13 +55,13 @@ module _ (F : Ordered) (S : Shape) (is_too_wide : Op → F.C → F.C → Bool) w
       (pivoted_at F S T g.row g.column)) g.unhindered
       ∙ ap (turns F S is_too_wide phase among left (suc done)) g.next
 
-  -- the turn before
+  -- the table before the last of some turns, and the turn that goes on from it
   pub record Before (among : ℕ) (T : Tabled F.C) (k : ℕ) (U : Tabled F.C) : Type 0 where
     pub table : Tabled F.C
     pub there : after_turns F S is_too_wide among T k ≡ Some table
     pub goes_on : Goes among table U
 
-  -- where there is a table after so many turns
+  -- where there is a table after so many turns, there is one before the last of them
   pub before : (among : ℕ) (T : Tabled F.C) (k : ℕ) (U : Tabled F.C) →
       after_turns F S is_too_wide among T (suc k) ≡ Some U → Before among T k U
   before among T k U e = go (after_turns F S is_too_wide among T k) refl e
@@ -71,7 +71,7 @@ module _ (F : Ordered) (S : Shape) (is_too_wide : Op → F.C → F.C → Bool) w
       go None p e = absurd cc
       go (Some V) p e = record { table = V; there = p; goes_on = goes among V U e }
 
-  -- and from the table after k turns on
+  -- the phase is the same from the table after k turns on
   pub turns_on : (phase among left done : ℕ) (T : Tabled F.C) (k : ℕ) (U : Tabled F.C) → k ≤ left →
       after_turns F S is_too_wide among T k ≡ Some U →
       turns F S is_too_wide phase among left done T ≡ turns F S is_too_wide phase among (left - k) (done + k) U
@@ -155,7 +155,7 @@ module _ (F : Ordered) (S : Shape) (is_too_wide : Op → F.C → F.C → Bool) w
         (set_factor_objective F S s.last) s.turns_done U s.within s.there)
         ∙ ap (λ n. third_end (turns F S is_too_wide 3 (plain S) (s.left_before - s.turns_done) n U)) (sym s.total)
 
-    -- from each
+    -- the run goes on from each table that it reaches
     pub run_goes_on : GoesOn F S is_too_wide budget T
     run_goes_on = record {
       from_first = λ d U s. let p : 0 + d ≡ d = omega arith in
@@ -173,7 +173,7 @@ module _ (F : Ordered) (S : Shape) (is_too_wide : Op → F.C → F.C → Bool) w
       pub all : (j : ℕ) → j < k → IsDue (choose F S is_too_wide
           (tables F S is_too_wide A own phase among within T j) among)
 
-    -- so they are
+    -- the first k turns are due pivots
     pub due_to : (k : ℕ) (U : Tabled F.C) → after_turns F S is_too_wide among T k ≡ Some U → Due_to k U
     due_to zero U e = record { table = some_table e; all = λ j l. absurd (omega arith) }
     due_to (suc k) U e = go (before among T k U e) (due_to k)

@@ -11,6 +11,6 @@ pub record IsBasic (m : ℕ) (basic : ℕ → ℕ) (j : ℕ) : Type 0 where
 abbrev pub SameSet : ℕ → (ℕ → ℕ) → (ℕ → ℕ) → Type 0
 SameSet m b c = (j : ℕ) → (IsBasic m b j → IsBasic m c j) × (IsBasic m c j → IsBasic m b j)
 
--- and in the same rows
+-- the same columns are basic, in the same rows
 abbrev pub SameList : ℕ → (ℕ → ℕ) → (ℕ → ℕ) → Type 0
 SameList m b c = (i : ℕ) → i < m → b i ≡ c i

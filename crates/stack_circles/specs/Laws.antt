@@ -16,7 +16,7 @@ abbrev pub Reaches : (P : Problem) → Rule → (budget : ℕ) → Phase → (do
 Reaches P rule budget p done T = ReachesIn ordered_fractions P.shape rule budget
     (written_table ordered_fractions P) p done T
 
--- and in phase 2, with the rows below `row` done
+-- the written run of P with a budget reaches T in phase 2, with the rows below `row` done and so many pivots
 abbrev pub ReachesRow : (P : Problem) → Rule → (budget row done : ℕ) → Tabled Fraction → Type 0
 ReachesRow P rule budget row done T = ReachesInSecond ordered_fractions P.shape rule budget
     (written_table ordered_fractions P) row done T
@@ -26,17 +26,17 @@ abbrev pub NoSetRecurs : Type 0
 NoSetRecurs = (P : Problem) (rule : Rule) (budget : ℕ) (p : Phase) (d e : ℕ) (T U : Tabled Fraction) →
     Reaches P rule budget p d T → Reaches P rule budget p e U → d < e → ¬ SameSet P.shape.rows T.basic U.basic
 
--- nor does a list
+-- within a phase no list of basic columns recurs either
 abbrev pub NoListRecurs : Type 0
 NoListRecurs = (P : Problem) (rule : Rule) (budget : ℕ) (p : Phase) (d e : ℕ) (T U : Tabled Fraction) →
     Reaches P rule budget p d T → Reaches P rule budget p e U → d < e → ¬ SameList P.shape.rows T.basic U.basic
 
--- these are the tables of the written run: it goes on from each of them
+-- the written run goes on from each table that it reaches
 abbrev pub RunGoesOn : Type 0
 RunGoesOn = (P : Problem) (rule : Rule) (budget : ℕ) →
     GoesOn ordered_fractions P.shape rule budget (written_table ordered_fractions P)
 
--- and its last table is one of them
+-- the last table of the written run is one that it reaches
 abbrev pub LastTableReached : Type 0
 LastTableReached = (P : Problem) (rule : Rule) (budget : ℕ) →
     LastReached ordered_fractions P.shape rule budget (written_table ordered_fractions P) (run_of P rule budget)
@@ -52,17 +52,17 @@ abbrev pub PhasesAreShort : Type 0
 PhasesAreShort = (P : Problem) (rule : Rule) (budget : ℕ) (p : Phase) (d e : ℕ) (T U : Tabled Fraction) →
     Reaches P rule budget p d T → Reaches P rule budget p e U → e < d + 2 ^ columns P.shape
 
--- and a run fewer than 3*2^columns
+-- a run has fewer than 3*2^columns pivots
 abbrev pub RunsAreShort : Type 0
 RunsAreShort = (P : Problem) (rule : Rule) (budget : ℕ) (p : Phase) (d : ℕ) (T : Tabled Fraction) →
     Reaches P rule budget p d T → d < 3 * 2 ^ columns P.shape
 
--- so a budget of at least that is never spent
+-- a budget of at least 3*2^columns is never spent
 abbrev pub BudgetSuffices : Type 0
 BudgetSuffices = (P : Problem) (rule : Rule) (budget : ℕ) → 3 * 2 ^ columns P.shape ≤ budget →
     run_of P rule budget ≢ over
 
--- nor is one of at least what is enough for the columns
+-- a budget of at least what is enough for the columns is never spent
 abbrev pub EnoughSuffices : Type 0
 EnoughSuffices = (P : Problem) (rule : Rule) (budget b : ℕ) → enough_of (columns P.shape) ≡ Some b → b ≤ budget →
     run_of P rule budget ≢ over

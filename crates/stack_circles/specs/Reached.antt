@@ -58,7 +58,7 @@ module _ (F : Ordered) (S : Shape) (is_too_wide : Op → F.C → F.C → Bool) w
       pub within : done ≤ budget
       pub there : after_turns S.contacts T done ≡ Some U
 
-    -- in phase 2, with its rows below `row` done
+    -- the run reaches U in phase 2, with its rows below `row` done
     pub record ReachesInSecond (row done : ℕ) (U : Tabled F.C) : Type 0 where
       pub left_before : ℕ
       pub done_before : ℕ
@@ -68,7 +68,7 @@ module _ (F : Ordered) (S : Shape) (is_too_wide : Op → F.C → F.C → Bool) w
       pub left : ℕ
       pub there : drives F S is_too_wide row left_before done_before (clear_objective F S last) ≡ settled left done U
 
-    -- in phase 3
+    -- the run reaches U in phase 3
     pub record ReachesInThird (done : ℕ) (U : Tabled F.C) : Type 0 where
       pub left_before : ℕ
       pub done_before : ℕ
@@ -80,7 +80,7 @@ module _ (F : Ordered) (S : Shape) (is_too_wide : Op → F.C → F.C → Bool) w
       pub total : done ≡ done_before + turns_done
       pub there : after_turns (plain S) (set_factor_objective F S last) turns_done ≡ Some U
 
-    -- in phase 2 after some row
+    -- the run reaches U in phase 2, after some row
     pub record ReachesInSomeRow (done : ℕ) (U : Tabled F.C) : Type 0 where
       pub row : ℕ
       pub reaches : ReachesInSecond row done U

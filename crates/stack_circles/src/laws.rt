@@ -1,4 +1,4 @@
-//! The laws of the written run, each a clause of a function that does nothing.
+//! The laws of circles and of budgets of the written run, each a clause of a function that does nothing.
 
 ghost use Rattle.stack_circles.specs.Laws.{NoSetRecurs, NoListRecurs, RunGoesOn, LastTableReached};
 ghost use Rattle.stack_circles.specs.Laws.{ArtificialColumnsLeave, PhasesAreShort, RunsAreShort, BudgetSuffices};

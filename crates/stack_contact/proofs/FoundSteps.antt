@@ -15,7 +15,7 @@ use Rattle.stack_contact.specs.Found.{AreFound, AreAllFound}
 use Rattle.stack_contact.specs.NearPairs.{AreFar}
 use Rattle.stack_contact.proofs.FarBodies.{far-separated, far-clear}
 
--- to another place: each pair before it was done, or has nothing in common
+-- what is found stays so to another place: each pair before it was done, or has nothing in common
 pub skipped : (s : Structure) → ((i : ℕ) → i < length s.bodies → IsPolygon (corners_of s i)) → (k l m n : ℕ)
     → ((i j : ℕ) → IsPair s i j → PairBefore i j k l → PairBefore i j m n)
     → ((i j : ℕ) → IsPair s i j → PairBefore i j m n → PairBefore i j k l ⊎ AreFar s i j)

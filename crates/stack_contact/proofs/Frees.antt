@@ -88,7 +88,7 @@ pub before_is_within : (bs : List NamedBody) (i : ℕ) → i < length bs → (bo
     frees_before bs i < length (frees_of bs)
 before_is_within bs i l h = rw (before_is_counted bs i) (counted_within bs 0 i l h)
 
--- all of them are listed
+-- all free bodies are listed
 pub counted_all : (bs : List NamedBody) (k : ℕ) → counted bs (length bs) ≡ length (frees_from k bs)
 counted_all [] k = refl
 counted_all (b ∷ bs) k = go b.fixed (counted_all bs (k + 1))
@@ -227,7 +227,7 @@ from_one [] k i l = absurd (omega arith)
 from_one (b ∷ bs) k zero l = refl
 from_one (b ∷ bs) k (suc i) l = from_one bs k i (omega (arith, l))
 
--- so many free ones are still to be passed among these numbers, up to n
+-- so many free bodies are still to be passed among these numbers, up to n
 abbrev pub Remain : (left n : ℕ) → List ℕ → Type 0
 Remain left n rest = (left < length rest) × (get_or rest left 0 ≡ n)
 
@@ -240,11 +240,11 @@ module _ (bs : List NamedBody) (i left n : ℕ) (l : i < length bs) (h : Remain 
       next : suc i ≡ i + 1
       next = omega arith
 
-  -- past a fixed body there are as many
+  -- past a fixed body as many free ones are still to be passed
   pub past_fixed : (body_at bs i).fixed ≡ true → Remain left n (frees_from (i + 1) (drop (i + 1) bs))
   past_fixed e = by_body true e
 
-  -- past a free body that isn't the one there is one less
+  -- past a free body that isn't the one, one less is still to be passed
   pub past_free : (less : ℕ) → left ≡ suc less → (body_at bs i).fixed ≡ false →
       Remain less n (frees_from (i + 1) (drop (i + 1) bs))
   past_free less s e = later (frees_from (i + 1) (drop (i + 1) bs))

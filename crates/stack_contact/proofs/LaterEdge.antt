@@ -26,7 +26,7 @@ use Rattle.stack_contact.specs.Bearings.{IsParallel, IsAlong, left_along, IsCorn
 use Rattle.stack_contact.proofs.AcrossLines.{IsTangent}
 use Rattle.stack_contact.proofs.EarlierEdge.{BearsBy, earlier-edge}
 
--- the same with the bodies in the other order
+-- the direction the other way, as it is with the bodies in the other order
 abbrev pub opposite_way : Frame → Frame
 opposite_way t = record { tx = neg_ℤ t.tx; ty = neg_ℤ t.ty }
 

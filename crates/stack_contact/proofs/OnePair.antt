@@ -55,7 +55,7 @@ by-frame a b u k (Segment c d) X t = (
   λ h. (h.0, subst (IsTangent a b) (sym h.1) (to-tangent a b u k)),
 )
 
--- exactly the bearings
+-- what the code answers has exactly the bearings of the pair
 bearings-by : (P Q : List Point) → IsPolygon P → IsPolygon Q → (w : Which) (i : ℕ) → IsSeparatedBy P Q w i
     → (v : Common)
     → IsCommonOf P Q v → (u : Frame) → IsTangentBy P Q w i u → (t : Frame) (X : Triple)

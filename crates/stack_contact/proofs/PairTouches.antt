@@ -51,7 +51,7 @@ on-other : (P Q : List Point) (convex_p : IsConvex P) (three_p : 3 ≤ length P)
 on-other P Q convex_p three_p convex_q three_q c First k o m n = within-no-corner P convex_p three_p k c o.1 m
 on-other P Q convex_p three_p convex_q three_q c Second k o m n = within-no-corner Q convex_q three_q k c o.1 n
 
--- exactly the touches
+-- what the code answers has exactly the touches of the pair
 pub touches-by : (P Q : List Point) (convex_p : IsConvex P) (three_p : 3 ≤ length P) (convex_q : IsConvex Q)
     (three_q : 3 ≤ length Q)
     (v : Common) → IsCommonOf P Q v → (u : Frame) (X : Triple) → Touches P Q X ↔ IsTouchAt (contacts_by v u) X

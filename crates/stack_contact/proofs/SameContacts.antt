@@ -72,7 +72,7 @@ same_contacts v t m j b h =
 abbrev answered : Surveyed → Result Surveyed SurveyError
 answered v = Ok v
 
--- so whatever is answered to it, but for want of memory, is this survey
+-- whatever is answered to such a structure, but for want of memory, is this survey
 pub is_answer : StructuresHaveOneSurvey → (t : Structure) (v w : Surveyed) → IsSurvey t w → IsSurvey t v → v ≡ w
 is_answer law t v w hw hv = go (law t (Ok v) (Ok w) hv hw)
   where

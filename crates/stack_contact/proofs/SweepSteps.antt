@@ -84,7 +84,7 @@ module _ (s : Structure) (one other : ℕ) (ps : List Pair) where
       ]
 
 module _ (s : Structure) (bs : List Placed) where
-  -- to another place: the pairs before it were looked at, or their bodies are far
+  -- what was swept stays so to another place: the pairs before it were looked at, or their bodies are far
   moved-swept : (k m n o : ℕ) → ((a b : ℕ) → a < b → b < length bs → PairBefore a b n o
       → PairBefore a b k m ⊎ AreFar s (placed_body bs a) (placed_body bs b))
       → (ps : List Pair) → AreSwept s bs k m ps → AreSwept s bs n o ps

@@ -15,7 +15,7 @@ use Rattle.stack_contact.specs.OnOutlines.{IsLone, IsCorner, IsOnEdge}
 abbrev pub IsParallel : Frame → Point → Point → Type 0
 IsParallel t o p = (p.x -ℤ o.x) *ℤ t.ty ≡ (p.y -ℤ o.y) *ℤ t.tx
 
--- the step from X to Y is one
+-- the step from X to Y is a multiple of t
 abbrev pub IsAlong : Frame → Triple → Triple → Type 0
 IsAlong t X Y = (Y.x *ℤ X.w -ℤ X.x *ℤ Y.w) *ℤ t.ty ≡ (Y.y *ℤ X.w -ℤ X.y *ℤ Y.w) *ℤ t.tx
 

@@ -8,7 +8,7 @@ abbrev pub frees_from : ℕ → List NamedBody → List ℕ
 frees_from i [] = []
 frees_from i (b ∷ bs) = if b.fixed then frees_from (i + 1) bs else i ∷ frees_from (i + 1) bs
 
--- those of all bodies
+-- the numbers of the free ones among all bodies
 abbrev pub frees_of : List NamedBody → List ℕ
 frees_of bodies = frees_from 0 bodies
 

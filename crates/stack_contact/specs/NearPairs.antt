@@ -18,11 +18,11 @@ pub record IsPlacedBody (s : Structure) (b : Placed) : Type 0 where
   pub polygon : IsPolygon (corners_of s b.body)
   pub begins : IsLeast (length (corners_of s b.body)) (λ j. (corner_of (corners_of s b.body) j).x) b.x0
 
--- item k of such a list; past the end stands one that means nothing
+-- item k of a list of placed bodies; past the end stands one that means nothing
 abbrev pub placed_at : List Placed → ℕ → Placed
 placed_at bs k = get_or bs k (record { x0 = pos 0; body = 0 })
 
--- the number of the body there
+-- the number of the body at index k
 abbrev pub placed_body : List Placed → ℕ → ℕ
 placed_body bs k = (placed_at bs k).body
 
@@ -73,7 +73,7 @@ pub record AreNearPairs (s : Structure) (ps : List Pair) : Type 0 where
   pub pairs : ArePairs s ps
   pub all : (i j : ℕ) → IsListed s ps i j
 
--- by first and second body, each once
+-- the pairs stand by first and second body, each once
 abbrev pub IsOrdered : List Pair → Type 0
 IsOrdered ps = (m n : ℕ) (d : Pair) → m < n → n < length ps →
     PairBefore (get_or ps m d).first (get_or ps m d).second (get_or ps n d).first (get_or ps n d).second

@@ -29,7 +29,7 @@ AreSeparated ps qs = ((i : ℕ) × Separates ps i qs) ⊎ ((j : ℕ) × Separate
 abbrev pub AreApart : Structure → ℕ → ℕ → Type 0
 AreApart s i j = AreSeparated (corners_of s i) (corners_of s j)
 
--- so it is for each pair that isn't of two fixed bodies
+-- an edge separates each pair that isn't of two fixed bodies
 abbrev pub AllApart : Structure → Type 0
 AllApart s = (i j : ℕ) → IsPair s i j → AreApart s i j
 

@@ -3,7 +3,7 @@
 ghost use Rattle.stack_contact.specs.FrictionLaws.{LesserWithoutJoints, JointDecides};
 ghost use Rattle.stack_contact.specs.OneSurvey.{StructuresHaveOneSurvey};
 
-/// A structure has one survey: two answers to it are the same, unless memory was wanting. So it has a survey,
+/// A structure has one survey: two answers to it are the same, unless memory ran out. So it has a survey,
 /// or its first overlap, or too many bearings, and no two of these.
 pub fn one_survey()
     ensures { StructuresHaveOneSurvey }

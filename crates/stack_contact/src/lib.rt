@@ -1,5 +1,7 @@
 //! The contacts of a structure: where its bodies bear on one another, and where they only touch.
 //!
+//! Calls that are given no allocator take no memory.
+//!
 //! ```text
 //! let survey = survey(alloc, model)?; // a post 2 wide and 4 high on the ground
 //! survey.bearings().len() == 2 // at the ends of its foot

@@ -16,7 +16,7 @@ use std::alloc::{AllocError, Global};
 
 /// The survey of a model: exactly its bearings and its touches. Pairs of two fixed bodies are left out. Refused
 /// are, in this order: a model with a pair that no edge of either body separates, with the least such pair, and
-/// one with more than 1,024 bearings, with their number; want of memory comes at any time.
+/// one with more than 1,024 bearings, with their number. Memory may run out at any time.
 pub fn survey(alloc: Global, model: Model) -> Result<Survey, SurveyError>
     ensures { Surveys (model_view model) result }
 {
@@ -33,7 +33,7 @@ pub fn survey(alloc: Global, model: Model) -> Result<Survey, SurveyError>
 }
 
 /// The survey of a model whose materials, joints and bodies are those of a survey: its bearings and its touches are the
-/// same, whatever its loads and its sway.
+/// same, whatever its loads and its sway. `AllocError` where memory ran out.
 pub fn survey_again(alloc: Global, s: &Survey, model: Model) -> Result<Survey, AllocError>
     requires materials { (model_view model).materials ≡ s.now.structure.materials }
     requires joints { (model_view model).joints ≡ s.now.structure.joints }

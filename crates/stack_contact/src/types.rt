@@ -18,7 +18,8 @@ pub struct Bearing {
     pub at: Point,
     /// The tangent of the joint, with the later body on its left.
     pub frame: Frame,
-    /// The lesser friction of the two bodies' materials.
+    /// The friction between the two bodies: that of the joint of their materials, or else the lesser of the two
+    /// materials'.
     pub cone: Cone,
 }
 

@@ -62,7 +62,7 @@ module _ (F : Ordered) (P : Problem) where
       go true e true f = absurd (let x = leb-true w j e in let y = ltb-true j n f in
           h (j - w) (omega arith) (omega arith))
 
-  -- it is a combination of the first rows, with its own cells
+  -- the first objective row is a combination of the first rows, with its own cells
   objective_cell : (j : ℕ) → (h : Dec ((w ≤ j) × (j < n))) →
       first_objective F P j ≡ F.add (own_first F m w j) (sum F.ring m (λ i. F.mul (F.of (negsuc 0)) (A i j)))
   objective_cell j (yes h) = let k = j - w in let e : j ≡ w + k = omega (arith, h.0) in let l : k < m =

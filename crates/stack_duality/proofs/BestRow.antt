@@ -25,7 +25,7 @@ module _ (F : Ordered) where
     tied = λ e. omega arith;
   }
 
-  -- differences
+  -- numbers whose difference is 0, and a difference the other way round
   less-zero : (x y : F.C) → less F x y ≡ F.of (pos 0) → x ≡ y
   less-zero x y e = ring2 F.ring (λ x y. (x, (x ⊖ y) ⊕ y)) refl x y ∙ ap (λ z. F.add z y) e ∙ F.zero_add y
 
@@ -133,7 +133,7 @@ module _ (F : Ordered) where
       go nought q o h e (yes d) = let t = sym q ∙ ap (λ k. F.sign (cell k)) (sym d) ∙ p in cc
       go nought q o h e (no d) = h e i (omega arith) p
 
-  -- and a row that is found is the best
+  -- a row that is found is the best
   pub best-some : (cell ratio : ℕ → F.C) (basic : ℕ → ℕ) (n r : ℕ) → best F cell ratio basic n ≡ Some r →
       IsBest F cell ratio basic n r
   best-some cell ratio basic zero r e = absurd cc

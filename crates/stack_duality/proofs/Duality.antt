@@ -116,7 +116,7 @@ module _ (F : Ordered) (m w : ℕ) (A : ℕ → ℕ → F.C) where
           ∙ spread_outside (λ i. cell i (w + m)) (w + k) (λ i k' e. h i k' (omega arith)))
           solution_right (solution_annulled F m (w + m) A own cell basic t)
 
-    -- phase 1
+    -- what a table of phase 1 says of the problem
     module _ (t : Tableau F m (w + m) A (own_first F m w) cell basic) where
       -- the own cells of phase 1 count the artificial columns' amounts
       artificial_sum : (x : ℕ → F.C) → dot F.ring (suc (w + m)) (own_first F m w) x
@@ -133,7 +133,7 @@ module _ (F : Ordered) (m w : ℕ) (A : ℕ → ℕ → F.C) where
       own-right = sum_zero F.ring m (λ k. at F.ring (w + k) (F.of (pos 1)) (w + m))
           (λ k l. at-other F.ring (w + k) (w + m) (F.of (pos 1)) (λ e. omega arith))
 
-      -- a negative right side of the objective refutes that anything balances
+      -- a negative right side of the objective refutes that any amounts balance
       pub infeasible_refutes : FirstRows → (contacts : ℕ) → contacts ≤ w →
           ((j : ℕ) → j < contacts → NonNeg F (cell m j)) → F.sign (cell m (w + m)) ≡ minus →
           Refutes F m w (w + m) A contacts (motion F m w (own_first F m w) cell)
@@ -188,11 +188,11 @@ module _ (F : Ordered) (m w : ℕ) (A : ℕ → ℕ → F.C) where
           at-zero : cell i (w + m) ≡ at F.ring (basic i) (cell i (w + m)) (basic i)
           at-zero = sym (at-same F.ring (basic i) (cell i (w + m)))
 
-      -- and so the values balance
+      -- and so the values balance, where the objective's right side is not negative
       pub feasible_balances : F.sign (cell m (w + m)) ≢ minus → Balances F m w (w + m) A x (F.of (pos 1))
       feasible_balances h = values_balance (own_first F m w) t (artificial_values h)
 
-    -- phase 3
+    -- what a table of phase 3 says of the problem, whose factor's column is g
     module _ (g : ℕ) (below : g < w) (t : Tableau F m (w + m) A (own_third F g) cell basic) where
       -- the own cells of phase 3 count the factor's amount
       factor_sum : (x : ℕ → F.C) → dot F.ring (suc (w + m)) (own_third F g) x ≡ F.neg (x g)

@@ -62,7 +62,7 @@ module _ (F : Ordered) (P : Problem) where
   collapsing T k l = ap (λ y. signed F (flipped P k) (less F (T.cell m (w + k)) y))
       (sym (own-artificial F P k l))
 
-  -- in phase 3
+  -- the multipliers of the last table of phase 3, in the first rows
   bounding : (T : Tabled F.C) → P.shape.contacts < w → (k : ℕ) → k < m →
       bound_multiplier F P T k ≡ unflipped F P (motion F m w (own_third F P.shape.contacts) T.cell) k
   bounding T g k l = ap (signed F (flipped P k)) (sym (less_none (T.cell m (w + k)))
@@ -84,7 +84,7 @@ module _ (F : Ordered) (P : Problem) where
         h.balances;
   }
 
-  -- the four ends
+  -- what each of the four ends gives in the problem's own rows
   end_of_rows : (x : End F.C) → EndOverRows F P.shape A x → EndGives F P x
   end_of_rows (infeasible T) h = record {
     first = first_end T h.first;
@@ -117,7 +117,7 @@ module _ (F : Ordered) (P : Problem) where
   end_of_rows over h = tt
   end_of_rows never h = h
 
--- the two laws
+-- the two laws of the ends of a run
 pub ends_give : EndsGive
 ends_give P rule budget = end_of_rows ordered_fractions P _ (written_run-gives ordered_fractions P rule budget)
 

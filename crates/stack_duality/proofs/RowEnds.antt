@@ -32,7 +32,7 @@ module _ (F : Ordered) (m w n : ℕ) (A : ℕ → ℕ → F.C) where
     pub factor : F.sign (x g) ≡ plus
 
   -- amounts that balance with the factor 0: the right side stands by itself
-  pub record Stands (g : ℕ) : Type 0 where
+  pub record StandsAlone (g : ℕ) : Type 0 where
     pub amounts : ℕ → F.C
     pub balances : Balances amounts (F.of (pos 1))
     pub no_factor : amounts g ≡ F.of (pos 0)

@@ -15,7 +15,7 @@ use Rattle.stack_run.specs.WrittenRun.{PhaseStop, settled, unlimited, wide_at, s
 use Rattle.stack_run.specs.WrittenRun.{optimal, ray, wide, over, never, after_phase, on_spot, turns, driven_column}
 use Rattle.stack_run.specs.WrittenRun.{drive_at, drive_row, drives, third_end, past_first, first_end, written_run}
 use Rattle.stack_duality.specs.PhaseTables.{own_first, own_third, IsFirst, IsThird}
-use Rattle.stack_duality.proofs.RowEnds.{Balances, Refutes, Bounds, Rises, Stands}
+use Rattle.stack_duality.proofs.RowEnds.{Balances, Refutes, Bounds, Rises, StandsAlone}
 use Rattle.stack_duality.proofs.Solutions.{solution, ray_of}
 use Rattle.stack_duality.proofs.Duality.{motion, FirstRows, infeasible_refutes, feasible_balances, some_row_leaves}
 use Rattle.stack_duality.proofs.Duality.{values_balance, optimal_bounds, ray_rises}
@@ -47,7 +47,7 @@ module _ (F : Ordered) (S : Shape) (A : ℕ → ℕ → F.C) where
   pub record Raised (T : Tabled F.C) : Type 0 where
     pub with_factor : S.contacts < w
     pub third : IsThird F S A T
-    pub stands : Stands F m w n A S.contacts
+    pub stands : StandsAlone F m w n A S.contacts
     pub balances : Balances F m w n A (solution F m n T.cell T.basic) (F.of (pos 1))
 
   pub record Optimal (T : Tabled F.C) : Type 0 where
@@ -61,7 +61,7 @@ module _ (F : Ordered) (S : Shape) (A : ℕ → ℕ → F.C) where
     pub enters : F.sign (objective F S T c) ≡ minus
     pub rises : Rises F m w n A S.contacts (ray_of F m n T.cell T.basic c)
 
-  -- by the end
+  -- what an end gives over the first rows, whichever it is
   abbrev pub EndOverRows : End F.C → Type 0
   EndOverRows (infeasible T) = Infeasible T
   EndOverRows (feasible T) = Feasible T
@@ -79,7 +79,7 @@ module _ (F : Ordered) (S : Shape) (A : ℕ → ℕ → F.C) where
   Settled P spent = Unit {0}
 
   module _ (is_too_wide : Op → F.C → F.C → Bool) where
-    -- phase 2
+    -- what phase 2 keeps at one row
     pub drive_keeps : (left done : ℕ) (T : Tabled F.C) (r : ℕ) → r < m → Second F S A r T →
         Settled (Second F S A (suc r)) (drive_row F S is_too_wide left done T r)
     drive_keeps left done T r l h = go (leb w (T.basic r)) refl
@@ -107,7 +107,7 @@ module _ (F : Ordered) (S : Shape) (A : ℕ → ℕ → F.C) where
         go true e = at_column (leb-true _ _ e) left (driven_column F S T r) refl
         go false e = second_skips F S A T r (λ j b _. absurd (let p = leb-false _ _ e in omega arith)) h
 
-    -- over the rows below k
+    -- phase 2 over the rows below k
     pub drives_keep : (k : ℕ) → k ≤ m → (left done : ℕ) (T : Tabled F.C) → Second F S A 0 T →
         Settled (Second F S A k) (drives F S is_too_wide k left done T)
     drives_keep zero l left done T h = h
@@ -121,8 +121,8 @@ module _ (F : Ordered) (S : Shape) (A : ℕ → ℕ → F.C) where
         go (wide_at p k s) h = tt
         go spent h = tt
 
-    -- phase 3
-    raised_at : S.contacts < w → Stands F m w n A S.contacts → (T : Tabled F.C) → IsThird F S A T → Raised T
+    -- a table of phase 3: its values balance, and the right side stands by itself
+    raised_at : S.contacts < w → StandsAlone F m w n A S.contacts → (T : Tabled F.C) → IsThird F S A T → Raised T
     raised_at lg z T h = record {
       with_factor = lg;
       third = h;
@@ -130,8 +130,8 @@ module _ (F : Ordered) (S : Shape) (A : ℕ → ℕ → F.C) where
       balances = values_balance F m w A T.cell T.basic (own_third F S.contacts) h.tableau h.zero_value;
     }
 
-    -- by how phase 3 stops, phase 2, and phase 1
-    third_gives : FirstRows F m w A → S.contacts < w → Stands F m w n A S.contacts → (x : PhaseStop F.C) →
+    -- what is left of the run, by how phase 3, phase 2 and phase 1 stop
+    third_gives : FirstRows F m w A → S.contacts < w → StandsAlone F m w n A S.contacts → (x : PhaseStop F.C) →
         Stopped F S (IsThird F S A) w x → EndOverRows (third_end x)
     third_gives a lg z (settled left done T) h = record {
       raised = raised_at lg z T h.0;
@@ -148,7 +148,7 @@ module _ (F : Ordered) (S : Shape) (A : ℕ → ℕ → F.C) where
     third_gives a lg z (wide_at p k s) h = tt
     third_gives a lg z spent h = tt
 
-    after_second : FirstRows F m w A → S.contacts < w → Stands F m w n A S.contacts → (x : PhaseStop F.C) →
+    after_second : FirstRows F m w A → S.contacts < w → StandsAlone F m w n A S.contacts → (x : PhaseStop F.C) →
         Settled (Second F S A m) x → EndOverRows
         (third_end (after_phase x (λ l d U. turns F S is_too_wide 3 w l d (set_factor_objective F S U))))
     after_second a lg z (settled left done T) h =

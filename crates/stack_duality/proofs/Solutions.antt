@@ -71,7 +71,7 @@ module _ (F : Ordered) (m n : ℕ) (A : ℕ → ℕ → F.C) where
         (unit_sum F.ring m i (λ s. cell i (basic s)) (λ s. cell s n) l (λ s k. t.unit i s l k))
         ∙ ring1 F.ring (λ v. (v ⊕ v ⊗ num (negsuc 0), num (pos 0))) refl (cell i n))
 
-    -- and a ray
+    -- the first rows annul a ray
     pub ray_annulled : (c : ℕ) → c < n → Annuls F.ring m (suc n) A (ray_of F m n cell basic c)
     ray_annulled c lc = t.back (ray_of F m n cell basic c) (λ i l. on_ray c lc (cell i)
         ∙ ap (F.add (F.mul (cell i c) (F.of (pos 1))))
@@ -86,7 +86,7 @@ module _ (F : Ordered) (m n : ℕ) (A : ℕ → ℕ → F.C) where
         (zero_sum F.ring m (λ s. cell m (basic s)) (λ s. cell s n) t.objective_unit)
         ∙ ring1 F.ring (λ v. (num (pos 0) ⊕ v ⊗ num (negsuc 0), Exp.neg v)) refl (cell m n)
 
-    -- and on a ray
+    -- the own cells of the objective on a ray
     pub own_on_ray : (c : ℕ) → c < n → dot F.ring (suc n) own (ray_of F m n cell basic c) ≡ cell m c
     own_on_ray c lc = sym (dot_own_cells F.ring m (suc n) A own (cell m) (ray_of F m n cell basic c) t.objective
         (ray_annulled c lc)) ∙ on_ray c lc (cell m)
@@ -103,7 +103,7 @@ module _ (F : Ordered) where
       go true = h
       go false = nonneg_zero F
 
-  -- and at every index
+  -- a spread of numbers that are not negative is not negative at any index
   pub nonneg_spread : (m : ℕ) (basic : ℕ → ℕ) (v : ℕ → F.C) (j : ℕ) → ((i : ℕ) → i < m → NonNeg F (v i)) →
       NonNeg F (spread F.ring m basic v j)
   nonneg_spread m basic v j h = nonneg_sum F m (λ i. at F.ring (basic i) (v i) j)

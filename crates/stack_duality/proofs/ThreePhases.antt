@@ -19,7 +19,7 @@ use Rattle.stack_table.specs.Table.{Shape, Tabled, plain, columns, right, pivote
 use Rattle.stack_table.specs.Table.{factor_objective, clear_objective, set_factor_objective}
 use Rattle.stack_bland.specs.Choice.{is_negative_sign, is_nought}
 use Rattle.stack_duality.specs.PhaseTables.{own_first, own_third, IsFirst, IsThird}
-use Rattle.stack_duality.proofs.RowEnds.{Stands}
+use Rattle.stack_duality.proofs.RowEnds.{StandsAlone}
 use Rattle.stack_duality.proofs.Solutions.{solution}
 use Rattle.stack_duality.proofs.Duality.{feasible_balances, artificial_values, value_outside}
 use Rattle.stack_duality.proofs.TurnsKeep.{Due}
@@ -84,7 +84,7 @@ module _ (F : Ordered) (S : Shape) (A : ℕ → ℕ → F.C) where
         least = λ i l e. (d.leaves.no_worse i l e).no_greater;
       }) t.feasible) t
 
-  -- and a table of phase 1
+  -- a due pivot keeps a table of phase 1
   pub first_step : (T : Tabled F.C) (r c : ℕ) → First T → Due F S T S.contacts r c →
       First (pivoted_at F S T r c)
   first_step T r c h d = record {
@@ -101,7 +101,7 @@ module _ (F : Ordered) (S : Shape) (A : ℕ → ℕ → F.C) where
 
   -- the values at the end of phase 1: the factor's is 0
   pub first_stands : (T : Tabled F.C) → First T → S.contacts < w → F.sign (right F S T m) ≢ minus →
-      Stands F m w n A S.contacts
+      StandsAlone F m w n A S.contacts
   first_stands T h lg d = record {
     amounts = solution F m n T.cell T.basic;
     balances = feasible_balances F m w A T.cell T.basic h.tableau d;
@@ -152,7 +152,7 @@ module _ (F : Ordered) (S : Shape) (A : ℕ → ℕ → F.C) where
     cell = λ j. sym (F.zero_add _ ∙ sum_zero F.ring m _ (λ k l. F.zero_mul (A k j)));
   }
 
-  -- phase 2 begins
+  -- phase 2 begins with the table at the end of phase 1, its objective row set to 0
   pub second_begins : (T : Tabled F.C) → First T → F.sign (right F S T m) ≢ minus →
       Second 0 (clear_objective F S T)
   second_begins T h d = record {
@@ -162,7 +162,7 @@ module _ (F : Ordered) (S : Shape) (A : ℕ → ℕ → F.C) where
     driven = λ i j l. absurd (omega arith);
   }
 
-  -- phase 2's pivot
+  -- a pivot of phase 2 keeps a tableau
   pub second_pivot : (T : Tabled F.C) (r c : ℕ) → r < m → c < w → w ≤ T.basic r → F.sign (T.cell r c) ≢ nought →
       Second r T → Second (suc r) (pivoted_at F S T r c)
   second_pivot T r c lr lc b d h = record {
@@ -198,7 +198,7 @@ module _ (F : Ordered) (S : Shape) (A : ℕ → ℕ → F.C) where
       go i j l b lj (yes e) = ap (λ k. T.cell k j) e ∙ z j (subst (λ k. w ≤ T.basic k) e b) lj
       go i j l b lj (no d) = h.driven i j (omega arith) b lj
 
-  -- phase 3 begins
+  -- phase 3 begins with the table at the end of phase 2, its objective row set to the factor's
   pub third_begins : (T : Tabled F.C) → S.contacts < w → Second m T → Third (set_factor_objective F S T)
   third_begins T lg h = record {
     tableau = go (least m (λ r. eqb (T.basic r) g)) refl;

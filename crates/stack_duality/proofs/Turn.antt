@@ -42,11 +42,11 @@ module _ (F : Ordered) (S : Shape) (is_too_wide : Op → F.C → F.C → Bool) w
     by_choice (suc left) x e h = ap (on_choice phase (suc left) done T (goes_on phase among left done T)) e
         ∙ h _
 
-    -- no column enters
+    -- where no column enters, the phase is settled
     pub turn_settled : entering F S T among ≡ None → result ≡ settled left done T
     turn_settled e = by_choice left stays (choose_by T among None e) (λ p. refl)
 
-    -- no row leaves
+    -- where a column enters and no row leaves, the phase is unlimited
     pub turn_unlimited : (c : ℕ) → entering F S T among ≡ Some c → ratio_row F S is_too_wide T c ≡ None →
         leaving F S T c ≡ None → result ≡ unlimited T c
     turn_unlimited c e p q = by_choice left (rises c) (choice_by T among c None None e p q) (λ p. refl)
@@ -60,7 +60,7 @@ module _ (F : Ordered) (S : Shape) (is_too_wide : Op → F.C → F.C → Bool) w
   -- a pivot is due
   module _ (phase among : ℕ) (T : Tabled F.C) (r c : ℕ) (enters : entering F S T among ≡ Some c)
       (ratios : ratio_row F S is_too_wide T c ≡ None) (leaves : leaving F S T c ≡ Some r) where
-    -- so the choice is this pivot
+    -- the choice of such a turn is this pivot
     is_due : choose F S is_too_wide T among ≡ due r c
     is_due = choice_by T among c None (Some r) enters ratios leaves
 
@@ -77,10 +77,10 @@ module _ (F : Ordered) (S : Shape) (is_too_wide : Op → F.C → F.C → Bool) w
         ∙ ap (on_spot phase done (turns F S is_too_wide phase among left (suc done)) (pivoted_at F S T r c)) e
 
     -- the pivot is too wide
-    pub turn_passing : (left done : ℕ) (s : PivotWide) → 0 < left → pivot_spot F is_too_wide S T r c ≡ Some s →
+    pub turn_too_wide : (left done : ℕ) (s : PivotWide) → 0 < left → pivot_spot F is_too_wide S T r c ≡ Some s →
         turns F S is_too_wide phase among left done T ≡ wide_at phase (suc done) s
-    turn_passing zero done s l e = absurd (omega arith)
-    turn_passing (suc left) done s l e = at_pivot left done (Some s) e
+    turn_too_wide zero done s l e = absurd (omega arith)
+    turn_too_wide (suc left) done s l e = at_pivot left done (Some s) e
 
     -- the pivot is done, and the phase goes on
     pub turn_pivots : (left left' done done' : ℕ) (U : Tabled F.C) → left ≡ suc left' → done' ≡ suc done →
@@ -95,18 +95,18 @@ module _ (F : Ordered) (S : Shape) (is_too_wide : Op → F.C → F.C → Bool) w
       drives F S is_too_wide (suc k) left done T ≡ drive_row F S is_too_wide left' done' U k
   drives_on k left done left' done' T U e = ap (λ x. after_phase x (λ l d V. drive_row F S is_too_wide l d V k)) e
 
-  -- and ends where a row refuses
-  pub drives_passing : (n k left done phase pivot : ℕ) (T : Tabled F.C) (s : PivotWide) →
+  -- phase 2 ends where a row refuses
+  pub drives_too_wide : (n k left done phase pivot : ℕ) (T : Tabled F.C) (s : PivotWide) →
       drives F S is_too_wide k left done T ≡ wide_at phase pivot s →
       drives F S is_too_wide (k + n) left done T ≡ wide_at phase pivot s
-  drives_passing zero k left done phase pivot T s e =
+  drives_too_wide zero k left done phase pivot T s e =
       let z : k + zero ≡ k = omega arith in ap (λ i. drives F S is_too_wide i left done T) z ∙ e
-  drives_passing (suc n) k left done phase pivot T s e =
+  drives_too_wide (suc n) k left done phase pivot T s e =
       let z : k + suc n ≡ suc (k + n) = omega arith in ap (λ i. drives F S is_too_wide i left done T) z
       ∙ ap (λ x. after_phase x (λ l d V. drive_row F S is_too_wide l d V (k + n)))
-      (drives_passing n k left done phase pivot T s e)
+      (drives_too_wide n k left done phase pivot T s e)
 
-  -- or is over the budget
+  -- phase 2 is over the budget where it was so before
   pub drives_spent : (n k left done : ℕ) (T : Tabled F.C) → drives F S is_too_wide k left done T ≡ spent →
       drives F S is_too_wide (k + n) left done T ≡ spent
   drives_spent zero k left done T e =

@@ -14,7 +14,7 @@ use Rattle.stack_duality.specs.LeavingRow.{IsBest}
 use Rattle.stack_duality.proofs.BestRow.{best-none, best-some}
 
 module _ (F : Ordered) (S : Shape) where
-  -- what a choice says of its table
+  -- column c enters, and row r leaves for it
   pub record Due (T : Tabled F.C) (among r c : ℕ) : Type 0 where
     pub enters : IsLeast among (λ j. is_negative_sign (F.sign (objective F S T j))) c
     pub leaves : IsBest F (λ i. T.cell i c) (λ i. quotient F (right F S T i) (T.cell i c)) T.basic S.rows r
@@ -38,7 +38,7 @@ module _ (F : Ordered) (S : Shape) where
   Stopped P among spent = Unit {0}
 
 module _ (F : Ordered) (S : Shape) (is_too_wide : Op → F.C → F.C → Bool) where
-  -- by the column, the ratio that is too wide and the leaving row; by the column
+  -- what a choice says of its table, by its column and then by the ratio that is too wide and the leaving row
   says_at : (T : Tabled F.C) (among c : ℕ) → IsLeast among (λ j. is_negative_sign (F.sign (objective F S T j))) c →
       (x y : Option ℕ) → leaving F S T c ≡ y → Chosen F S T among (chosen_at c x y)
   says_at T among c h (Some i) y e = tt
@@ -65,7 +65,7 @@ module _ (F : Ordered) (S : Shape) (is_too_wide : Op → F.C → F.C → Bool) w
   -- what each due pivot keeps, a phase keeps
   module _ (P : Tabled F.C → Type 0) (phase among : ℕ) (step : (T : Tabled F.C) (r c : ℕ) → P T →
       Due F S T among r c → P (pivoted_at F S T r c)) where
-    -- so it holds of the table at which the phase stops
+    -- what due pivots keep holds of the table at which the phase stops
     pub turns_keep : (left done : ℕ) (T : Tabled F.C) → P T →
         Stopped F S P among (turns F S is_too_wide phase among left done T)
     turns_keep zero done T p = go (choose F S is_too_wide T among) (chosen T among)

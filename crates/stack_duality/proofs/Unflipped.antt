@@ -9,7 +9,7 @@ use Rattle.stack_table.specs.Table.{plain, columns}
 use Rattle.stack_table.specs.Problem.{Problem, flipped, turned}
 use Rattle.stack_table.specs.WrittenTable.{first_row}
 use Rattle.stack_run.specs.EndNumbers.{signed}
-use Rattle.stack_duality.specs.Balance.{Balances, column_work, load_work, Refutes, Bounds, Rises, Stands}
+use Rattle.stack_duality.specs.Balance.{Balances, column_work, load_work, Refutes, Bounds, Rises, StandsAlone}
 use Rattle.stack_duality.proofs.RowEnds as rows
 use Rattle.stack_duality.proofs.WrittenRows.{plain_cell, right_cell}
 
@@ -18,12 +18,12 @@ module _ (F : Ordered) where
   abbrev turn : Bool → F.C
   turn b = cond b (F.of (negsuc 0)) (F.of (pos 1))
 
-  -- a turned number
+  -- the fraction of a turned number
   of_turned : (b : Bool) (z : ℤ) → F.of (turned b z) ≡ F.mul (turn b) (F.of z)
   of_turned true z = ap F.of (neg_is_mul z) ∙ F.of_mul (negsuc 0) z
   of_turned false z = sym (F.one_mul (F.of z))
 
-  -- turned twice
+  -- a number that is turned twice is the number
   turn_twice : (b : Bool) (x : F.C) → F.mul (turn b) (F.mul (turn b) x) ≡ x
   turn_twice true x = ring1 F.ring (λ x. (num (negsuc 0) ⊗ (num (negsuc 0) ⊗ x), x)) refl x
   turn_twice false x = ring1 F.ring (λ x. (num (pos 1) ⊗ (num (pos 1) ⊗ x), x)) refl x
@@ -44,7 +44,7 @@ module _ (F : Ordered) (P : Problem) where
   abbrev n : ℕ
   n = columns P.shape
 
-  -- the same multipliers for the problem's rows
+  -- the multipliers of the first rows as multipliers of the problem's rows
   abbrev pub unflipped : (ℕ → F.C) → ℕ → F.C
   unflipped y k = signed F (flipped P k) (y k)
 
@@ -59,14 +59,14 @@ module _ (F : Ordered) (P : Problem) where
     work-load = sum_same F.ring m _ _ (λ k b. ap (F.mul (y k)) (right_cell F P k)
         ∙ moved F (flipped P k) (y k) (P.load k) ∙ ap (λ x. F.mul x (F.of (P.load k))) (sym (h k b)))
 
-    -- so what the first rows refute, bound, balance and raise, the rows do
+    -- what the first rows refute, the problem's rows refute
     pub refute : rows.Refutes F m w n (first_row F P) P.shape.contacts y → Refutes F P z
     refute r = record {
       unresisted = λ j l. subst (λ x. F.sign x ≢ minus) (work-plain j (omega (arith, l))) (r.unresisted j l);
       driven = ap F.sign (sym work-load) ∙ r.driven;
     }
 
-    -- bound
+    -- multipliers that bound the factor over the first rows bound it over the problem's rows
     pub bound : (x v : ℕ → F.C) → P.shape.contacts < w → v P.shape.contacts ≡ x P.shape.contacts →
         rows.Bounds F m w n (first_row F P) P.shape.contacts x y → Bounds F P v z
     bound x v g e b = record {
@@ -89,7 +89,7 @@ module _ (F : Ordered) (P : Problem) where
       t : F.C
       t = cond (flipped P i) (F.of (negsuc 0)) (F.of (pos 1))
 
-  -- and so do amounts that are the same in the plain columns
+  -- amounts that are the same in the plain columns balance the rows too
   pub balance : (x v : ℕ → F.C) (scale : F.C) → ((j : ℕ) → j < w → v j ≡ x j) →
       rows.Balances F m w n (first_row F P) x scale → Balances F P v scale
   balance x v scale h b = record {
@@ -98,7 +98,7 @@ module _ (F : Ordered) (P : Problem) where
         ∙ balanced_row x scale b i l;
   }
 
-  -- raise
+  -- a direction that raises the factor over the first rows raises it over the problem's rows
   pub rise : (x v : ℕ → F.C) → P.shape.contacts < w → ((j : ℕ) → j < w → v j ≡ x j) →
       rows.Rises F m w n (first_row F P) P.shape.contacts x → Rises F P v
   rise x v g h r = record {
@@ -106,8 +106,8 @@ module _ (F : Ordered) (P : Problem) where
     factor = ap F.sign (h P.shape.contacts g) ∙ r.factor;
   }
 
-  -- and stand
-  pub stand : rows.Stands F m w n (first_row F P) P.shape.contacts → Stands F P
+  -- where the right side stands over the first rows, it does over the problem's rows
+  pub stand : rows.StandsAlone F m w n (first_row F P) P.shape.contacts → StandsAlone F P
   stand s = record {
     amounts = s.amounts;
     balances = balance s.amounts s.amounts (F.of (pos 1)) (λ j l. refl) s.balances;

@@ -47,7 +47,7 @@ module _ (F : Ordered) (P : Problem) where
   artificial_cell i j l k = ap F.of (cond_false _ _ (le-ltb j w l) ∙ cond_true _ _ (lt-ltb j n k))
       ∙ of_unit (eqb j (w + i))
 
-  -- the right side
+  -- the right side of a row
   pub right_cell : (i : ℕ) → A i n ≡ F.of (turned (flipped P i) (P.load i))
   right_cell i = ap F.of (cond_false _ _ (le-ltb n w (omega arith)) ∙ cond_false _ _ (le-ltb n n (omega arith))
       ∙ cond_true _ _ (eq-eqb n n refl))
@@ -62,7 +62,7 @@ module _ (F : Ordered) (P : Problem) where
       go (no d) = at-other F.ring (w + l) (w + k) (F.of (pos 1)) (λ e. d (omega arith))
           ∙ sym (at-other F.ring k l (F.of (pos 1)) d)
 
-  -- and each first row has 1 in its own
+  -- each first row has 1 in its own artificial column, and 0 in the others
   pub first_rows : FirstRows F m w A
   first_rows l k h = artificial_cell l (w + k) (omega arith) (omega arith) ∙ at-moved l k
 

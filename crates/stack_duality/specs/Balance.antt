@@ -14,11 +14,11 @@ module _ (F : Ordered) (P : Problem) where
     pub sums : (i : ℕ) → i < P.shape.rows →
         sum F.ring (plain P.shape) (λ j. F.mul (F.of (P.entry i j)) (x j)) ≡ F.mul scale (F.of (P.load i))
 
-  -- the rows times their multipliers, in a column and on the right
+  -- the sum of a column's cells, each times its row's multiplier
   abbrev pub column_work : (ℕ → F.C) → ℕ → F.C
   column_work y j = sum F.ring P.shape.rows (λ k. F.mul (y k) (F.of (P.entry k j)))
 
-  -- on the right: the sum of all right sides, each times its row's multiplier
+  -- the sum of all right sides, each times its row's multiplier
   abbrev pub load_work : (ℕ → F.C) → F.C
   load_work y = sum F.ring P.shape.rows (λ k. F.mul (y k) (F.of (P.load k)))
 
@@ -40,7 +40,7 @@ module _ (F : Ordered) (P : Problem) where
     pub factor : F.sign (x P.shape.contacts) ≡ plus
 
   -- some amounts balance with the factor 0
-  pub record Stands : Type 0 where
+  pub record StandsAlone : Type 0 where
     pub amounts : ℕ → F.C
     pub balances : Balances amounts (F.of (pos 1))
     pub no_factor : amounts P.shape.contacts ≡ F.of (pos 0)

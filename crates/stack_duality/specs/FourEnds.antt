@@ -7,7 +7,7 @@ use Rattle.stack_table.specs.Problem.{Problem}
 use Rattle.stack_table.specs.WrittenTable.{first_row}
 use Rattle.stack_run.specs.WrittenRun.{End, infeasible, feasible, optimal, ray, wide, over, never}
 use Rattle.stack_run.specs.EndNumbers.{value, rate, bound_multiplier, collapse_multiplier}
-use Rattle.stack_duality.specs.Balance.{Balances, Refutes, Bounds, Rises, Stands}
+use Rattle.stack_duality.specs.Balance.{Balances, Refutes, Bounds, Rises, StandsAlone}
 use Rattle.stack_duality.specs.PhaseTables.{own_first, own_third, IsFirst, IsThird, ShowsMultipliers}
 
 module _ (F : Ordered) (P : Problem) where
@@ -16,12 +16,12 @@ module _ (F : Ordered) (P : Problem) where
     pub table : IsFirst F P.shape (first_row F P) T
     pub shows : ShowsMultipliers F P.shape (first_row F P) (own_first F P.shape.rows (plain P.shape)) T
 
-  -- of a run that ends there as Infeasible: its multipliers refute that any amounts balance
+  -- the last table of a run that ends as Infeasible: its multipliers refute that any amounts balance
   pub record IsInfeasibleEnd (T : Tabled F.C) : Type 0 where
     pub first : IsFirstEnd T
     pub refutes : Refutes F P (collapse_multiplier F P T)
 
-  -- and as Feasible: its values balance
+  -- the last table of a run that ends as Feasible: its values balance
   pub record IsFeasibleEnd (T : Tabled F.C) : Type 0 where
     pub without_factor : P.shape.factors ≡ 0
     pub first : IsFirstEnd T
@@ -32,15 +32,15 @@ module _ (F : Ordered) (P : Problem) where
     pub with_factor : P.shape.contacts < plain P.shape
     pub table : IsThird F P.shape (first_row F P) T
     pub shows : ShowsMultipliers F P.shape (first_row F P) (own_third F P.shape.contacts) T
-    pub stands : Stands F P
+    pub stands : StandsAlone F P
     pub balances : Balances F P (value F P.shape T) (F.of (pos 1))
 
-  -- of a run that ends there as Optimal: its multipliers bound the factor
+  -- the last table of a run that ends as Optimal: its multipliers bound the factor
   pub record IsOptimalEnd (T : Tabled F.C) : Type 0 where
     pub third : IsThirdEnd T
     pub bounds : Bounds F P (value F P.shape T) (bound_multiplier F P T)
 
-  -- and as Ray with column c: its rates raise the factor
+  -- the last table of a run that ends as Ray with column c: its rates raise the factor
   pub record IsRayEnd (T : Tabled F.C) (c : ℕ) : Type 0 where
     pub third : IsThirdEnd T
     pub below : c < plain P.shape

@@ -9,7 +9,7 @@ use Rattle.stack_run.specs.WrittenRun.{unlimited, turns}
 use Rattle.stack_run.specs.ProblemRun.{Rule, run_of}
 use Rattle.stack_duality.specs.FourEnds.{EndGives}
 
--- whatever the rule and the budget, its end gives what it should
+-- whatever the rule and the budget, the end of a run gives what it should
 abbrev pub EndsGive : Type 0
 EndsGive = (P : Problem) (rule : Rule) (budget : ℕ) → EndGives ordered_fractions P (run_of P rule budget)
 

@@ -12,7 +12,7 @@ module _ (F : Ordered) where
   abbrev pub own_first : (m w : ℕ) → ℕ → F.C
   own_first m w j = spread F.ring m (λ k. w + k) (λ k. F.of (pos 1)) j
 
-  -- and in phase 3: -1 in the factor's column g
+  -- the objective's own cells in phase 3: -1 in the factor's column g
   abbrev pub own_third : ℕ → ℕ → F.C
   own_third g j = at F.ring g (F.of (negsuc 0)) j
 

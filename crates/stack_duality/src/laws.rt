@@ -1,4 +1,4 @@
-//! The laws of the written run, each a clause of a function that does nothing.
+//! The laws of the ends of the written run and of the leaving row, each a clause of a function that does nothing.
 
 ghost use Rattle.stack_duality.specs.LeavingRow.{LeavingRowIsBest, NoneIsPositive};
 ghost use Rattle.stack_duality.specs.Laws.{EndsGive, SomeRowLeaves};

@@ -31,7 +31,7 @@ module _ (s : Scene) (y : ℕ → Move) where
   abbrev motion : ℕ → Move
   motion i = move_of s (moves_from s y) i
 
-  -- a body's own move
+  -- a free body's move is that of its number
   own_move : (w : Wrench) (i : ℕ) → i < s.bodies →
       cond (s.body i).free (power_of w (y (free_before s i))) (pos 0) ≡ power_of w (motion i)
   own_move w i l = go (s.body i).free refl

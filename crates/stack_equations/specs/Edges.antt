@@ -12,7 +12,7 @@ pub record Amounts : Type 0 where
   pub plus : ℕ → ℤ
   pub minus : ℕ → ℤ
 
--- none is negative
+-- no amount of an edge is negative
 pub record ArePushes (s : Scene) (x : Amounts) : Type 0 where
   pub plus : (k : ℕ) → k < s.bearings → pos 0 ≼ x.plus k
   pub minus : (k : ℕ) → k < s.bearings → pos 0 ≼ x.minus k

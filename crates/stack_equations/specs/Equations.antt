@@ -14,12 +14,12 @@ pub record IsSolvedAt (s : Scene) (scale factor : ℤ) (x : Amounts) (i : ℕ) :
       ≡ pos 0
   pub about : edges_sum (λ w. w.m) s x i +ℤ scale *ℤ (s.body i).dead.m +ℤ factor *ℤ (s.body i).live.m ≡ pos 0
 
--- those of each number of a free body, in amounts that aren't negative
+-- the equations of every free body hold, in amounts that aren't negative
 pub record IsSolution (s : Scene) (scale factor : ℤ) (x : Amounts) : Type 0 where
   pub pushes : ArePushes s x
   pub equations : (b : ℕ) → b < free_bodies s → IsSolvedAt s scale factor x (free_at s b)
 
--- the forces between the edges
+-- the forces between the edges, in these amounts
 abbrev pub forces_from : Scene → ℤ → ℤ → Amounts → SceneForces
 forces_from s scale factor x = record {
   scale = scale;

@@ -12,11 +12,11 @@ abbrev pub free_below : Scene → ℕ → ℕ → ℕ
 free_below s zero b = 0
 free_below s (suc n) b = cond ((s.body n).free && eqb b (free_before s n)) n (free_below s n b)
 
--- and of all
+-- the free body with number b, of all bodies
 abbrev pub free_at : Scene → ℕ → ℕ
 free_at s b = free_below s s.bodies b
 
--- how many are free
+-- how many bodies are free
 abbrev pub free_bodies : Scene → ℕ
 free_bodies s = free_before s s.bodies
 
@@ -29,7 +29,7 @@ pub record IsFound (s : Scene) (i : ℕ) : Type 0 where
 abbrev pub FreeBodiesAreFound : Type 0
 FreeBodiesAreFound = (s : Scene) (i : ℕ) → i < s.bodies → (s.body i).free ≡ true → IsFound s i
 
--- in the scene of a survey they are its free blocks
+-- in the scene of a survey the free bodies are its free blocks
 pub record AreFreeBlocks (v : Surveyed) : Type 0 where
   pub count : free_bodies (scene_of v) ≡ length (frees_of v.structure.bodies)
   pub body : (b : ℕ) → b < length (frees_of v.structure.bodies) → free_at (scene_of v) b ≡ body_number v b

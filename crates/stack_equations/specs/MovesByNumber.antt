@@ -18,7 +18,7 @@ moves_from s y = listed (free_bodies s) y
 abbrev pub power_by : Scene → (ℕ → Move) → (ℕ → Wrench) → ℤ
 power_by s y w = sum_to (free_bodies s) (λ b. power_of (w (free_at s b)) (y b))
 
--- it is that on all bodies, since fixed ones are still
+-- the work on the free bodies is that on all bodies, since fixed ones are still
 abbrev pub PowersAreByNumber : Type 0
 PowersAreByNumber = (s : Scene) (y : ℕ → Move) (w : ℕ → Wrench) →
     power_by s y w ≡ sum_to s.bodies (λ i. power_of (w i) (move_of s (moves_from s y) i))

@@ -1,4 +1,4 @@
-//! The laws, each a clause of a function that does nothing.
+//! The laws of the equations of free blocks, each a clause of a function that does nothing.
 
 ghost use Rattle.stack_equations.specs.FreeBodies.{FreeBodiesAreFound, FreeNumbersAreThoseOfSurveys};
 ghost use Rattle.stack_equations.specs.Edges.{EdgesExertTheirPart, PartsBetweenEdgesAreAdmissible};

@@ -4,17 +4,17 @@ use Rattle.std.proofs.Common.{get_or, Result, Ok, Err, arith}
 use Rattle.std.specs.Bool.{⊤}
 use Rattle.stack_algebra.specs.Steps.{◌>>=◌, steps}
 
--- what comes before passes, and then what follows it
-pub record IsTooWide {A B E : Type 0} (r : Result A E) (f : A → Result B E) (y : B) : Type 0 where
+-- a first step gives a value, and what follows it gives y
+pub record FirstGives {A B E : Type 0} (r : Result A E) (f : A → Result B E) (y : B) : Type 0 where
   pub value : A
   pub before : r ≡ Ok value
   pub after : f value ≡ Ok y
 
-pub bind_ok : {A B E : Type 0} (r : Result A E) (f : A → Result B E) (y : B) → (r >>= f) ≡ Ok y → IsTooWide r f y
+pub bind_ok : {A B E : Type 0} (r : Result A E) (f : A → Result B E) (y : B) → (r >>= f) ≡ Ok y → FirstGives r f y
 bind_ok (Ok x) f y h = record { value = x; before = refl; after = h }
 bind_ok (Err e) f y h = absurd (cc)
 
--- what comes before ends it, or what follows
+-- a first step gives a value, and what follows it ends with e
 pub record Follows {A B E : Type 0} (r : Result A E) (f : A → Result B E) (e : E) : Type 0 where
   pub value : A
   pub before : r ≡ Ok value
@@ -28,14 +28,14 @@ bind_err (Err d) f e h = inl (cc)
 shifted : (i k : ℕ) → i + 1 + k ≡ i + suc k
 shifted i k = omega arith
 
--- each test passed
-pub each_too_wide : {X E : Type 0} (f : ℕ → ⊤ → X → Result ⊤ E) (i : ℕ) (xs : List X) (d : X) → steps f i tt xs
+-- where the steps of a list are passed, each item's test is
+pub each_passes : {X E : Type 0} (f : ℕ → ⊤ → X → Result ⊤ E) (i : ℕ) (xs : List X) (d : X) → steps f i tt xs
     ≡ Ok tt → (k : ℕ) → k < length xs → f (i + k) tt (get_or xs k d) ≡ Ok tt
-each_too_wide f i [] d h k l = absurd (omega arith)
-each_too_wide f i (x ∷ xs) d h zero l = let p = bind_ok (f i tt x) (λ b. steps f (i + 1) b xs) tt h in
+each_passes f i [] d h k l = absurd (omega arith)
+each_passes f i (x ∷ xs) d h zero l = let p = bind_ok (f i tt x) (λ b. steps f (i + 1) b xs) tt h in
     ap (λ n. f n tt x) (omega arith) ∙ p.before
-each_too_wide f i (x ∷ xs) d h (suc k) l = let p = bind_ok (f i tt x) (λ b. steps f (i + 1) b xs) tt h in
-    ap (λ n. f n tt (get_or xs k d)) (sym (shifted i k)) ∙ each_too_wide f (i + 1) xs d p.after k (omega arith)
+each_passes f i (x ∷ xs) d h (suc k) l = let p = bind_ok (f i tt x) (λ b. steps f (i + 1) b xs) tt h in
+    ap (λ n. f n tt (get_or xs k d)) (sym (shifted i k)) ∙ each_passes f (i + 1) xs d p.after k (omega arith)
 
 -- the test of an item ended them
 pub record EndsAt {X E : Type 0} (f : ℕ → ⊤ → X → Result ⊤ E) (i : ℕ) (xs : List X) (d : X) (e : E) : Type 0

@@ -139,7 +139,7 @@ borne_along axis block bearings parts = sum_to (length bearings) (λ k.
     bearing_side block.body (scene_bearing_of (get_or bearings k no_bearing))
     *ℤ force_along axis (joint_at block.corner (get_or bearings k no_bearing)) (push_at parts k))
 
--- with two loads, each of which is made before it is added
+-- a sum of what is borne and two loads, each of which is made before it is added
 with_loads : (borne : Result Whole Wide) (total dead live : ℤ) (r : Whole) →
     ((x : Whole) → borne ≡ Ok x → x.value ≡ total)
     → (borne >>= λ b. made dead >>= λ w. made (b.value +ℤ w.value) >>= λ s. made live >>=

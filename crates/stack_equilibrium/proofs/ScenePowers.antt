@@ -27,7 +27,7 @@ use Rattle.stack_whole.specs.Whole.{made, whole}
 use Rattle.stack_equilibrium.specs.WrittenVelocities.{block_move_at}
 use Rattle.stack_equilibrium.specs.WrittenPowers.{with_product, with_work, with_block, summed_power, told_power}
 use Rattle.stack_equilibrium.specs.WrittenPowers.{written_power}
-use Rattle.stack_equilibrium.specs.Answers.{power_of}
+use Rattle.stack_equilibrium.specs.Answers.{asked_power_of}
 use Rattle.stack_equilibrium.proofs.InOrder.{bind_ok}
 use Rattle.stack_equilibrium.proofs.PlainSums.{made_is, steps_sum}
 use Rattle.stack_equilibrium.proofs.FreeNumbers.{before_is_counted, over_bodies}
@@ -118,13 +118,13 @@ module _ (q : Question) (s : Surveyed) (y : MotionValue) where
   told_ok (Err e) p h = absurd (cc)
 
 pub power_is : (q : Question) (s : Surveyed) (y : MotionValue) (p : ℤ) → written_power q s y ≡ Ok p →
-    p ≡ power_of q (scene_of s) (move_at s y)
+    p ≡ asked_power_of q (scene_of s) (move_at s y)
 power_is Dead s y p h = let t = told_ok Dead s y (summed_power Dead s y) p h in
     sym t.1.1 ∙ summed_is Dead s y t.0 t.1.0
 power_is Live s y p h = let t = told_ok Live s y (summed_power Live s y) p h in
     sym t.1.1 ∙ summed_is Live s y t.0 t.1.0
 
 pub power_settles : (q : Question) (s : Surveyed) (y : MotionValue) (r : Result ℤ PowerWide) →
-    r ≡ written_power q s y → IfOk r (λ p. p ≡ power_of q (scene_of s) (move_at s y))
+    r ≡ written_power q s y → IfOk r (λ p. p ≡ asked_power_of q (scene_of s) (move_at s y))
 power_settles q s y (Ok p) e = power_is q s y p (sym e)
 power_settles q s y (Err x) e = tt

@@ -98,7 +98,7 @@ module _ (s : Surveyed) (f : ForcesValue) (i : ℕ) where
   abbrev written : Axis → Result Whole Wide
   written axis = written_sum axis (block_of s.structure i) (whole f.scale) (whole f.factor) s.bearings f.parts
 
-  -- with its loads
+  -- what the bearings bear, with the loads of the body
   loaded : (axis : Axis) (borne : ℤ) (x : Whole) → written axis ≡ Ok x →
       borne_along axis (block_of s.structure i) s.bearings f.parts ≡ borne →
       x.value ≡ borne +ℤ f.scale *ℤ axis_part axis (block_of s.structure i).dead
@@ -108,7 +108,7 @@ module _ (s : Surveyed) (f : ForcesValue) (i : ℕ) where
       ∙ ap (λ t. t +ℤ f.scale *ℤ axis_part axis (block_of s.structure i).dead
       +ℤ f.factor *ℤ axis_part axis (block_of s.structure i).live) e
 
-  -- the three of them
+  -- the three sums of the body, where none is too wide
   told : (w : Wrench) → written_sums_at s f i ≡ Ok w → AreSums s f i w
   unfolding written_sums
   told w h =

@@ -27,7 +27,7 @@ doubled o p q ho hp hq = less _ _
     less : (r s : ℤ) → IsSquare r → IsSquare s → IsWithin 1 8000000000000 (r -ℤ s)
     less r s h k = record { low = omega (arith, ints); high = omega (arith, ints) }
 
--- and its moment
+-- the size of a triangle's part of the moment
 turning : (o p q : Point) → IsInRange o → IsInRange p → IsInRange q →
     IsWithin 1 32000000000000000000 (moment_of_triangle o p q)
 turning o p q ho hp hq = go (triangle_of o p q) (distances_of o p q) (doubled o p q ho hp hq)

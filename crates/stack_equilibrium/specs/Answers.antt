@@ -20,7 +20,7 @@ use Rattle.stack_equilibrium.specs.WrittenPowers.{written_power}
 abbrev pub body_in : Surveyed → ℕ → SceneBody
 body_in s i = (scene_of s).body i
 
--- that is free block number b
+-- the body that is free block number b
 abbrev pub body_number : Surveyed → ℕ → ℕ
 body_number s b = free_of s.structure.bodies b
 
@@ -40,11 +40,11 @@ pub record AreRates (s : Surveyed) (y : MotionValue) (k : ℕ) (rates : ℤ × �
   pub slide : rates.1 ≡ slide_of (scene_of s) (move_at s y) ((scene_of s).bearing k)
 
 -- the work of the dead or the live loads on a motion
-abbrev pub power_of : Question → Scene → (ℕ → Move) → ℤ
-power_of Dead s y = dead_power_of s y
-power_of Live s y = live_power_of s y
+abbrev pub asked_power_of : Question → Scene → (ℕ → Move) → ℤ
+asked_power_of Dead s y = dead_power_of s y
+asked_power_of Live s y = live_power_of s y
 
--- where no written number is too wide, they are the scene's, of any bodies and bearings
+-- where no written number is too wide, the sums of a block are those of the scene, of any bodies and bearings
 abbrev pub SumsAreThoseOfTheScene : Type 0
 SumsAreThoseOfTheScene = (s : Surveyed) (f : ForcesValue) (i : ℕ) (w : Wrench) → written_sums_at s f i ≡ Ok w →
     AreSums s f i w
@@ -54,7 +54,7 @@ abbrev pub RatesAreThoseOfTheScene : Type 0
 RatesAreThoseOfTheScene = (s : Surveyed) (y : MotionValue) (k : ℕ) (rates : ℤ × ℤ) →
     written_opening s y k ≡ Ok rates → AreRates s y k rates
 
--- and so is the power of the dead or of the live loads, where none of its numbers is too wide
+-- where none of its numbers is too wide, the power of the dead or of the live loads is that of the scene
 abbrev pub PowersAreThoseOfTheScene : Type 0
 PowersAreThoseOfTheScene = (q : Question) (s : Surveyed) (y : MotionValue) (power : ℤ) →
-    written_power q s y ≡ Ok power → power ≡ power_of q (scene_of s) (move_at s y)
+    written_power q s y ≡ Ok power → power ≡ asked_power_of q (scene_of s) (move_at s y)

@@ -25,22 +25,22 @@ pub record IsRate (z : ℤ) : Type 0 where
   pub low : negsuc 999 ≼ z
   pub high : z ≼ pos 1000
 
--- a part of the tangent or of the normal, times such a number
+-- the size of a part of the tangent or of the normal, times such a number
 abbrev pub IsShare : ℤ → Type 0
 IsShare z = IsWithin 1 2000000000 z
 
--- p, or minus p
+-- the numerator p of a cone, or minus p
 abbrev pub lean_of : Cone → Bool → ℤ
 lean_of c plus = if plus then c.p else neg_ℤ c.p
 
--- q*normal and p*tangent together, or less p*tangent
+-- the force along an edge of a cone: q*normal + p*tangent, or q*normal - p*tangent
 abbrev pub edge_force_of : Bearing → Bool → Force
 edge_force_of z plus = record {
   x = whole (z.cone.q *ℤ neg_ℤ z.frame.ty +ℤ lean_of z.cone plus *ℤ z.frame.tx);
   y = whole (z.cone.q *ℤ z.frame.tx +ℤ lean_of z.cone plus *ℤ z.frame.ty);
 }
 
--- its wrench about a corner
+-- the wrench of that force about a corner
 abbrev pub edge_wrench_of : Point → Bearing → Bool → Wrench
 edge_wrench_of o z plus = let f = edge_force_of z plus in record {
   fx = f.x.value;
@@ -48,7 +48,7 @@ edge_wrench_of o z plus = let f = edge_force_of z plus in record {
   m = moment_with (arm_between o z.at) f;
 }
 
--- the sizes of such a wrench
+-- the sizes of the wrench of a force along an edge of a cone
 pub record IsEdgeWrench (w : Wrench) : Type 0 where
   pub fx : IsMoment w.fx
   pub fy : IsMoment w.fy

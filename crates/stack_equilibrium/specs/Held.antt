@@ -6,7 +6,7 @@ use Rattle.stack_statics.specs.Scene.{BearingPart, Move}
 use Rattle.stack_statics.specs.Certificates.{SceneForces, part_of, move_of}
 use Rattle.stack_equilibrium.specs.SurveyScene.{scene_of}
 
--- along the normal and along the tangent
+-- a pair of numbers as a bearing's part, along the normal and along the tangent
 abbrev pub part_of_pair : ℤ × ℤ → BearingPart
 part_of_pair p = record { a = p.0; b = p.1 }
 
@@ -14,7 +14,7 @@ part_of_pair p = record { a = p.0; b = p.1 }
 abbrev pub forces_of : ForcesValue → SceneForces
 forces_of f = record { scale = f.scale; factor = f.factor; parts = map part_of_pair f.parts }
 
--- the velocity along x and along y, and the turning rate
+-- three numbers as a move: the velocity along x and along y, and the turning rate
 abbrev pub move_of_triple : ℤ × ℤ × ℤ → Move
 move_of_triple y = record { u = y.0; v = y.1; r = y.2 }
 

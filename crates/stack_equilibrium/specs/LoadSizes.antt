@@ -17,7 +17,7 @@ pub record IsSmall (w : Wrench) : Type 0 where
   pub fy : IsBelowBound w.fy
   pub m : IsBelowBound w.m
 
--- at most 4,000,000,000 in size, as the force along an edge of a cone is
+-- a number of at most 4,000,000,000 in size, as the force along an edge of a cone is
 abbrev pub IsForce : ℤ → Type 0
 IsForce z = IsWithin 1 4000000000 z
 
@@ -39,11 +39,11 @@ pub record AreSteps (l : Arm) : Type 0 where
 abbrev pub moment_with : Arm → Force → ℤ
 moment_with l f = l.lx.value *ℤ f.y.value -ℤ l.ly.value *ℤ f.x.value
 
--- one product of it, and both
+-- the size of one of the two products of a moment
 abbrev pub IsTurn : ℤ → Type 0
 IsTurn z = IsWithin 1 8000000000000000 z
 
--- at most twice as large, as the difference of two such products is
+-- the size of a moment, at most twice as large, as the difference of two such products is
 abbrev pub IsMoment : ℤ → Type 0
 IsMoment z = IsWithin 1 16000000000000000 z
 
@@ -61,14 +61,15 @@ pub record IsLimited (l : Load) : Type 0 where
   pub fx : IsForce l.fx
   pub fy : IsForce l.fy
 
--- at most n times six of these forces and moments
+-- a wrench of at most n times six of these forces and moments
 pub record AreLoads (n : ℕ) (w : Wrench) : Type 0 where
   pub fx : IsWithin n 24000000000 w.fx
   pub fy : IsWithin n 24000000000 w.fy
   pub m : IsWithin n 96000000000000000 w.m
 
--- at most the weight of a body of 32 corners: fewer than 31 triangles, and three times 1,000,000 for each of their
--- areas, which are at most 8 * 10^12 when doubled; the arms of a triangle's corners are at most 4,000,000 together
+-- a wrench of at most the weight of a body of 32 corners: fewer than 31 triangles, and three times 1,000,000 for each
+-- of their areas, which are at most 8 * 10^12 when doubled; the arms of a triangle's corners are at most 4,000,000
+-- together
 pub record IsWeight (w : Wrench) : Type 0 where
   pub fx : w.fx ≡ pos 0
   pub fy : IsWithin 31 24000000000000000000 w.fy

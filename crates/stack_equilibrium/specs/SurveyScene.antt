@@ -18,11 +18,11 @@ use Rattle.stack_statics.specs.Loads.{no_load, wrench_sum, total_of, weight_of, 
 abbrev pub first_corner_of : model.Structure → ℕ → Point
 first_corner_of s i = corner_of (model.body_of s i).corners 0
 
--- the weight of a unit of area of body i, and its whole weight
+-- the weight of a unit of area of body i
 abbrev pub unit_weight_of : model.Structure → ℕ → ℤ
 unit_weight_of s i = (model.material_of s (model.body_of s i).material).weight
 
--- its whole weight about its first corner, in sixths of a unit of force
+-- the whole weight of body i about its first corner, in sixths of a unit of force
 abbrev pub weight_at : model.Structure → ℕ → Wrench
 weight_at s i = weight_of (unit_weight_of s i) (model.body_of s i).corners
 
@@ -35,7 +35,7 @@ abbrev pub is_asked : Question → Load → Bool
 is_asked Dead l = not l.live
 is_asked Live l = l.live
 
--- six times its wrench about o, where it is and acts on body i
+-- six times the wrench of a load about o, where it is asked about and acts on body i; else nothing
 abbrev pub acting : Question → ℕ → Point → Load → Wrench
 acting q i o l = if nat_eq l.body i && is_asked q l then load_wrench o l.at l.fx l.fy else no_load
 
@@ -81,7 +81,7 @@ no_bearing = record {
   cone = record { p = pos 0; q = pos 0 };
 }
 
--- bearing k
+-- bearing k of a survey; past the end stands the stand-in
 abbrev pub bearing_of : Surveyed → ℕ → Bearing
 bearing_of s k = get_or s.bearings k no_bearing
 

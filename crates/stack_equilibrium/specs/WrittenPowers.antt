@@ -21,18 +21,18 @@ with_product so_far rate force = do
   work ← made (rate.value *ℤ force)
   made (so_far.value +ℤ work.value)
 
--- with the work of a block's loads: u*fx, then v*fy, then r*m
+-- the work of a block's loads is added: u*fx, then v*fy, then r*m
 unfoldable pub with_work : Whole → BlockMove → Wrench → Result Whole Wide
 with_work so_far y w = do
   along_x ← with_product so_far y.u w.fx
   along_y ← with_product along_x y.v w.fy
   with_product along_y y.r w.m
 
--- the same of free block number b, which is body i
+-- the work of the loads on free block number b, which is body i, is added
 abbrev pub with_block : Question → Surveyed → MotionValue → ℕ → Whole → ℕ → Result Whole Wide
 with_block q s y b so_far i = with_work so_far (block_move_at y b) (loads_on q s.structure i)
 
--- from 0, the free blocks in order
+-- the work on all free blocks in order, from 0
 abbrev pub summed_power : Question → Surveyed → MotionValue → Result Whole Wide
 summed_power q s y = steps (with_block q s y) 0 (whole (pos 0)) (frees_of s.structure.bodies)
 

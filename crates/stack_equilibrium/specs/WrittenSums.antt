@@ -18,6 +18,7 @@ use Rattle.stack_whole.specs.declared.whole.Whole.{Whole}
 use Rattle.stack_equilibrium.specs.declared.block.Push.{Push}
 use Rattle.stack_equilibrium.specs.declared.block.Joint.{Joint}
 use Rattle.stack_equilibrium.specs.declared.block.Block.{Block}
+use Rattle.stack_equilibrium.specs.declared.force.Force.{Force}
 use Rattle.stack_whole.specs.Whole.{made, whole}
 use Rattle.stack_equilibrium.specs.SurveyScene.{first_corner_of, loads_on}
 
@@ -41,14 +42,22 @@ written_force_x z f = do
   across ← made (f.a.value *ℤ z.ty.value)
   made (axis_part.value -ℤ across.value)
 
--- and along y: a*tx, b*ty and their sum
+-- the force on the second body along y: a*tx, b*ty and their sum
 unfoldable pub written_force_y : Joint → Push → Result Whole Wide
 written_force_y z f = do
   across ← made (f.a.value *ℤ z.tx.value)
   axis_part ← made (f.b.value *ℤ z.ty.value)
   made (across.value +ℤ axis_part.value)
 
--- its moment: lx times the force along y, ly times that along x, and their difference
+-- the force on the second body along x, and then along y: the same about any corner, so it is made about the bearing's
+-- own point
+unfoldable pub written_bearing_force : Bearing → Push → Result Force Wide
+written_bearing_force z f = do
+  x ← written_force_x (joint_at z.at z) f
+  y ← written_force_y (joint_at z.at z) f
+  Ok (record { x = x; y = y })
+
+-- the moment of that force: lx times the force along y, ly times that along x, and their difference
 unfoldable pub written_moment : Joint → Push → Result Whole Wide
 written_moment z f = do
   x ← written_force_x z f
@@ -57,13 +66,14 @@ written_moment z f = do
   back ← made (z.ly.value *ℤ x.value)
   made (turned.value -ℤ back.value)
 
--- the one that the sum along an axis adds up
+-- the force along x or along y, or the moment: the one that the sum along an axis adds up
 abbrev pub written_force : Axis → Joint → Push → Result Whole Wide
 written_force X z f = written_force_x z f
 written_force Y z f = written_force_y z f
 written_force M z f = written_moment z f
 
--- it is added where the block is the second body, subtracted where it is the first, and otherwise not made
+-- a bearing's force is added where the block is the second body, subtracted where it is the first, and otherwise not
+-- made
 unfoldable pub with_bearing : Axis → Block → Push → Whole → Bearing → Result Whole Wide
 with_bearing axis block f so_far z =
     if nat_eq block.body z.second then (do
@@ -74,7 +84,7 @@ with_bearing axis block f so_far z =
       made (so_far.value -ℤ force.value))
     else Ok so_far)
 
--- the same of bearing k, with what a list of pairs gives it to bear
+-- bearing k is added, with what a list of pairs gives it to bear
 abbrev pub bearing_at : Axis → Block → List (ℤ × ℤ) → ℕ → Whole → Bearing → Result Whole Wide
 bearing_at axis block parts k so_far z = with_bearing axis block (push_at parts k) so_far z
 
@@ -84,7 +94,7 @@ axis_part X w = w.fx
 axis_part Y w = w.fy
 axis_part M w = w.m
 
--- from 0, the bearings in order; then scale*dead is made and added, then factor*live
+-- a block's sum along an axis: from 0, the bearings in order; then scale*dead is made and added, then factor*live
 unfoldable pub written_sum : Axis → Block → Whole → Whole → List Bearing → List (ℤ × ℤ) → Result Whole Wide
 written_sum axis block scale factor bearings parts = do
   borne ← steps (bearing_at axis block parts) 0 (whole (pos 0)) bearings
@@ -115,11 +125,11 @@ block_of s i = record {
   live = loads_on Live s i;
 }
 
--- the same of body i, and of free block number b
+-- the three sums of body i, in the order x, y, m
 abbrev pub written_sums_at : Surveyed → ForcesValue → ℕ → Result Wrench SumWide
 written_sums_at s f i =
     written_sums (block_of s.structure i) (whole f.scale) (whole f.factor) s.bearings f.parts
 
--- those of free block number b, which is counted among the free ones from 0
+-- the three sums of free block number b, which is counted among the free ones from 0
 abbrev pub written_residue : Surveyed → ForcesValue → ℕ → Result Wrench SumWide
 written_residue s f b = written_sums_at s f (free_of s.structure.bodies b)

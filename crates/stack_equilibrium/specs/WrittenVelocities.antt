@@ -39,7 +39,7 @@ written_velocity y z = do
 abbrev pub at_rest : Velocity
 at_rest = record { x = whole (pos 0); y = whole (pos 0) }
 
--- that of body i at a bearing: a fixed body is at rest, and no number of it is made
+-- the velocity of body i at a bearing: a fixed body is at rest, and no number of it is made
 abbrev pub velocity_at : Surveyed → MotionValue → Bearing → ℕ → Result Velocity Wide
 velocity_at s y z i =
     if (body_of s.structure i).fixed then Ok at_rest
@@ -53,14 +53,14 @@ written_difference later earlier = do
   y ← made (later.y.value -ℤ earlier.y.value)
   Ok (record { x = x; y = y })
 
--- along the normal: tx*dy, ty*dx and their difference
+-- a difference of velocities along the normal: tx*dy, ty*dx and their difference
 unfoldable pub written_normal : Whole → Whole → Velocity → Result Whole Wide
 written_normal tx ty d = do
   rises ← made (tx.value *ℤ d.y.value)
   runs ← made (ty.value *ℤ d.x.value)
   made (rises.value -ℤ runs.value)
 
--- along the tangent: tx*dx, ty*dy and their sum
+-- a difference of velocities along the tangent: tx*dx, ty*dy and their sum
 unfoldable pub written_tangential : Whole → Whole → Velocity → Result Whole Wide
 written_tangential tx ty d = do
   runs ← made (tx.value *ℤ d.x.value)
@@ -74,7 +74,7 @@ written_gap z d = do
   slide ← written_tangential (whole z.frame.tx) (whole z.frame.ty) d
   Ok (record { opening = opening; slide = slide })
 
--- at a bearing: the velocity of the second body, then that of the first one
+-- the opening and the slide at a bearing: the velocity of the second body is made, then that of the first one
 unfoldable pub gap_at : Surveyed → MotionValue → Bearing → Result Gap Wide
 gap_at s y z = do
   later ← velocity_at s y z z.second

@@ -4,6 +4,7 @@ ghost use Rattle.std.specs.Prelude.{◌≡◌, ◌<◌, ◌-ℤ◌, length};
 ghost use Rattle.stack_whole.specs.Whole.{whole};
 ghost use Rattle.stack_equilibrium.specs.WrittenSums.{push_at, joint_at, axis_part};
 
+use crate::force::step;
 use crate::types::{Axis, Wrench};
 use stack_contact::types::Bearing;
 use stack_polygon::Point;
@@ -45,14 +46,6 @@ pub fn number_along(axis: Axis, wrench: Wrench) -> Whole
     }
 }
 
-fn offset(value: i64, from: i64) -> Whole
-    ensures { result ≡ whole (value -ℤ from) }
-{
-    Whole {
-        value: value as i128 - from as i128,
-    }
-}
-
 /// The joint of a bearing at a block with this first stored corner.
 pub fn joint_of(corner: Point, bearing: Bearing) -> Joint
     ensures { result ≡ joint_at corner bearing }
@@ -60,8 +53,8 @@ pub fn joint_of(corner: Point, bearing: Bearing) -> Joint
     Joint {
         tx: Whole::widened(bearing.frame.tx),
         ty: Whole::widened(bearing.frame.ty),
-        lx: offset(bearing.at.x, corner.x),
-        ly: offset(bearing.at.y, corner.y),
+        lx: step(bearing.at.x, corner.x),
+        ly: step(bearing.at.y, corner.y),
     }
 }
 

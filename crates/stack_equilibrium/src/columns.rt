@@ -36,7 +36,7 @@ fn lean(cone: Cone, plus: bool) -> Whole
     }
 }
 
-/// Its denominator.
+/// The denominator of a cone.
 fn denominator(cone: Cone) -> Whole
     requires { IsCoefficient cone }
     ensures value { result ≡ whole cone.q }
@@ -45,7 +45,7 @@ fn denominator(cone: Cone) -> Whole
     Whole::widened(cone.q)
 }
 
-/// The other direction.
+/// A step in the other direction.
 fn opposite(step: Whole) -> Whole
     requires { IsStep step.value }
     ensures value { result ≡ whole (neg_ℤ step.value) }
@@ -104,7 +104,7 @@ fn edge_force(z: Bearing, plus: bool) -> Force
     }
 }
 
-/// Its wrench about a corner.
+/// The wrench about a corner of the force along an edge of the cone.
 fn edge_wrench(corner: Point, z: Bearing, plus: bool) -> Wrench
     requires corner { IsInRange corner }
     requires bearing { IsBounded z }
@@ -129,7 +129,7 @@ fn against(number: Whole) -> Whole
     }
 }
 
-/// The wrench on the other body.
+/// The opposite of a wrench, which acts on the first body.
 fn reaction(wrench: Wrench) -> Wrench
     requires { IsEdgeWrench wrench }
     ensures value { result ≡ wrench_times (negsuc 0) wrench }
@@ -168,9 +168,9 @@ fn bounded_bearing(s: &Survey, k: usize) -> Bearing
     bearing_at(s, k)
 }
 
-/// The wrench on free block `b` of a force at bearing `k`, about the block's first stored corner: `q` times the
-/// normal and `p` times the tangent, or less that where `plus` is false. It is the opposite on the first body,
-/// and zero on a block that the bearing isn't one of. Takes no memory.
+/// The wrench on free block `b` of a force at bearing `k`, about the block's first stored corner: of `q` times the
+/// normal and `p` times the tangent or, where `plus` is false, of `q` times the normal less `p` times the tangent. It
+/// is the opposite on the first body, and zero on a block that isn't one of the bearing's two. Takes no memory.
 pub fn column(s: &Survey, k: usize, plus: bool, b: usize) -> Wrench
     requires bearing { k < length s.now.bearings }
     requires block { b < length (frees_of s.now.structure.bodies) }

@@ -24,11 +24,10 @@ pub struct Arm {
     pub ly: Whole,
 }
 
-fn step(value: i64, from: i64) -> Whole
-    requires value { IsNear value }
-    requires from { IsNear from }
+/// The way from one coordinate to another.
+pub fn step(value: i64, from: i64) -> Whole
     ensures value { result ≡ whole (value -ℤ from) }
-    ensures size { IsStep result.value }
+    ensures size { IsNear value → IsNear from → IsStep result.value }
 {
     Whole {
         value: value as i128 - from as i128,

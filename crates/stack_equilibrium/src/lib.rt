@@ -4,13 +4,13 @@
 //! // A post 2 wide and 4 high, its upper left corner pushed to the right with one unit of force.
 //! dead(&survey, 0) == Wrench { fx: 0, fy: -48, m: -48 }
 //! live(&survey, 0) == Wrench { fx: 6, fy: 0, m: -24 }
-//! residue(&survey, &forces, 0) // all 0 where the forces balance the post
+//! residue(&survey, &forces, 0)? // all 0 where the forces balance the post
 //! ```
 #![tactic(auto)]
 
 pub mod block;
 mod columns;
-mod force;
+pub mod force;
 mod loads;
 mod openings;
 mod powers;
@@ -28,6 +28,7 @@ pub use openings::opening;
 pub use powers::power;
 pub use residues::residue;
 pub use stack_statics::{centroid_law, certificate_laws, sway_laws, virtual_work, weight_law};
+pub use sums::bearing_force;
 pub use surveys::{proper, written_laws};
 
 #[cfg(test)]

@@ -31,7 +31,7 @@ fn is_asked(question: Question, load: Load) -> bool
     }
 }
 
-/// Whether it also acts on body `i`.
+/// Whether a load is asked about and acts on body `i`.
 fn acts_on(question: Question, i: usize, load: Load) -> bool
     ensures { result ≡ (nat_eq load.body i && is_asked question load) }
 {
@@ -75,7 +75,7 @@ fn wrench_about(corner: Point, load: Load) -> Wrench
     sixfold(force, moment(arm_of(corner, load.at), force))
 }
 
-/// The same of a load that is asked about and acts on body `i`, and nothing for any other.
+/// Six times the wrench of a load that is asked about and acts on body `i`, and nothing for any other.
 fn acting(question: Question, i: usize, corner: Point, load: Load) -> Wrench
     requires corner { IsInRange corner }
     requires load { IsLimited load }
@@ -185,8 +185,8 @@ pub fn loads_on(question: Question, model: &Model, i: usize) -> Wrench
     }
 }
 
-/// The dead loads of free block `b`, counted among the free blocks: its weight, and six times each dead load on
-/// it. The moment is about its first stored corner. Takes no memory.
+/// The dead loads of free block `b`, counted among the free blocks, in sixths of a unit of force: its weight, and each
+/// dead load on it. The moment is about its first stored corner. Takes no memory.
 pub fn dead(s: &Survey, b: usize) -> Wrench
     requires { b < length (frees_of s.now.structure.bodies) }
     ensures value { result ≡ (body_in s.now (body_number s.now b)).dead }
@@ -195,8 +195,8 @@ pub fn dead(s: &Survey, b: usize) -> Wrench
     loads_on(Question::Dead, s.model(), s.free(b))
 }
 
-/// The live loads of free block `b`, counted among the free blocks: its weight times the sway, and six times each
-/// live load on it. The moment is about its first stored corner. Takes no memory.
+/// The live loads of free block `b`, counted among the free blocks, in sixths of a unit of force: its weight times the
+/// sway, and each live load on it. The moment is about its first stored corner. Takes no memory.
 pub fn live(s: &Survey, b: usize) -> Wrench
     requires { b < length (frees_of s.now.structure.bodies) }
     ensures value { result ≡ (body_in s.now (body_number s.now b)).live }

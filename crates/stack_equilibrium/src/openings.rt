@@ -72,7 +72,7 @@ pub fn bearing_at(s: &Survey, k: usize) -> Bearing
     s.bearings()[k]
 }
 
-/// The same of bearing `k`.
+/// How bearing `k` of the survey opens and slides.
 fn gap_of_bearing(s: &Survey, moves: &[(i128, i128, i128)], k: usize) -> Result<Gap, Wide>
     requires bearing { k < length s.now.bearings }
     requires count { length moves.now ≡ length (frees_of s.now.structure.bodies) }
@@ -81,8 +81,8 @@ fn gap_of_bearing(s: &Survey, moves: &[(i128, i128, i128)], k: usize) -> Result<
     gap_at(s, moves, bearing_at(s, k))
 }
 
-/// As a pair of numbers.
-fn told(gap: Result<Gap, Wide>) -> Result<(i128, i128), VelocityWide>
+/// An opening and a slide as a pair of numbers.
+fn as_pair(gap: Result<Gap, Wide>) -> Result<(i128, i128), VelocityWide>
     ensures { result ≡ told_gap gap }
 {
     match gap {
@@ -100,5 +100,5 @@ pub fn opening(s: &Survey, y: &Motion, k: usize) -> Result<(i128, i128), Velocit
     ensures written { result ≡ written_opening s.now (motion_view y.now) k }
     ensures rates { IfOk result (λ r. AreRates s.now (motion_view y.now) k r) }
 {
-    told(gap_of_bearing(s, y.moves.as_slice(), k))
+    as_pair(gap_of_bearing(s, y.moves.as_slice(), k))
 }

@@ -8,7 +8,7 @@ ghost use Rattle.stack_equilibrium.specs.Held.{move_at};
 ghost use Rattle.stack_whole.specs.Whole.{whole};
 ghost use Rattle.stack_equilibrium.specs.WrittenPowers.{with_product, with_work, with_block, summed_power};
 ghost use Rattle.stack_equilibrium.specs.WrittenPowers.{told_power, written_power};
-ghost use Rattle.stack_equilibrium.specs.Answers.{power_of};
+ghost use Rattle.stack_equilibrium.specs.Answers.{asked_power_of};
 
 use crate::loads::loads_on;
 use crate::openings::block_move;
@@ -26,7 +26,7 @@ fn add_product(so_far: Whole, rate: Whole, force: Whole) -> Result<Whole, Wide>
     so_far.sum(work)
 }
 
-/// With the work of a block's loads on its move.
+/// The work so far, and that of a block's loads on its move.
 #[tactic(auto, unfolding(crate::specs::WrittenPowers::with_work))]
 fn add_work(so_far: Whole, block: BlockMove, loads: Wrench) -> Result<Whole, Wide>
     ensures { result ≡ with_work so_far block loads }
@@ -36,7 +36,7 @@ fn add_work(so_far: Whole, block: BlockMove, loads: Wrench) -> Result<Whole, Wid
     add_product(along_y, block.r, Whole { value: loads.m })
 }
 
-/// The same of free block `b`.
+/// The work so far, and that of the loads on free block `b`.
 fn add_block(
     s: &Survey,
     moves: &[(i128, i128, i128)],
@@ -55,7 +55,7 @@ fn add_block(
     )
 }
 
-/// All of them, in order.
+/// The work of the loads on all free blocks, in order.
 fn add_blocks(s: &Survey, moves: &[(i128, i128, i128)], q: Question) -> Result<Whole, Wide>
     requires { length moves.now ≡ length (frees_of s.now.structure.bodies) }
     ensures { result ≡ summed_power q s.now moves.now }
@@ -67,8 +67,8 @@ fn add_blocks(s: &Survey, moves: &[(i128, i128, i128)], q: Question) -> Result<W
     Ok(so_far)
 }
 
-/// As a number.
-fn told(work: Result<Whole, Wide>) -> Result<i128, PowerWide>
+/// A power as a number.
+fn as_number(work: Result<Whole, Wide>) -> Result<i128, PowerWide>
     ensures { result ≡ told_power work }
 {
     match work {
@@ -83,7 +83,7 @@ fn told(work: Result<Whole, Wide>) -> Result<i128, PowerWide>
 pub fn power(s: &Survey, y: &Motion, q: Question) -> Result<i128, PowerWide>
     requires { length (motion_view y.now) ≡ length (frees_of s.now.structure.bodies) }
     ensures written { result ≡ written_power q s.now (motion_view y.now) }
-    ensures value { IfOk result (λ p. p ≡ power_of q (scene_of s.now) (move_at s.now (motion_view y.now))) }
+    ensures value { IfOk result (λ p. p ≡ asked_power_of q (scene_of s.now) (move_at s.now (motion_view y.now))) }
 {
-    told(add_blocks(s, y.moves.as_slice(), q))
+    as_number(add_blocks(s, y.moves.as_slice(), q))
 }

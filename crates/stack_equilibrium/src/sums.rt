@@ -4,10 +4,12 @@ ghost use Rattle.std.specs.Prelude.{◌≡◌, ◌≤◌, length, pos};
 ghost use Rattle.stack_algebra.specs.Steps.{steps};
 ghost use Rattle.stack_whole.specs.Whole.{whole};
 ghost use Rattle.stack_equilibrium.specs.WrittenSums.{written_force_x, written_force_y, written_moment};
+ghost use Rattle.stack_equilibrium.specs.WrittenSums.{written_bearing_force};
 ghost use Rattle.stack_equilibrium.specs.WrittenSums.{written_force, with_bearing, bearing_at, written_sum, on_axis};
 ghost use Rattle.stack_equilibrium.specs.WrittenSums.{written_sums};
 
 use crate::block::{Block, Joint, Push, joint_of, number_along, push_of};
+use crate::force::Force;
 use crate::types::{Axis, SumWide, Wrench};
 use stack_contact::types::Bearing;
 use stack_whole::{Whole, Wide};
@@ -28,6 +30,18 @@ fn force_y(joint: Joint, push: Push) -> Result<Whole, Wide>
     let across = push.a.product(joint.tx)?;
     let along = push.b.product(joint.ty)?;
     across.sum(along)
+}
+
+/// What a bearing exerts on its later body with this push: b*tx, a*ty and their difference, then a*tx, b*ty and their
+/// sum. `Wide` exactly where one of these numbers is more than 2^127 - 1 in size.
+#[tactic(auto, unfolding(crate::specs::WrittenSums::written_bearing_force))]
+pub fn bearing_force(bearing: Bearing, push: Push) -> Result<Force, Wide>
+    ensures { result ≡ written_bearing_force bearing push }
+{
+    let joint = joint_of(bearing.at, bearing);
+    let x = force_x(joint, push)?;
+    let y = force_y(joint, push)?;
+    Ok(Force { x, y })
 }
 
 #[tactic(auto, unfolding(crate::specs::WrittenSums::written_moment))]
@@ -109,7 +123,7 @@ fn sum(
     standing.sum(drive)
 }
 
-/// That sum, with its axis where a number is too wide.
+/// The sum of a block along an axis, or that axis where a number is too wide.
 fn sum_along(
     axis: Axis,
     block: Block,

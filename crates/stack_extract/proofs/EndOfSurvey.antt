@@ -31,7 +31,7 @@ module _ {V : Type 0} {number : Ghosts V} (p : Lent) (t : Table V number)
     is_its_table = record { shape = sym shape; table = sym table };
   }
 
-  -- and its end is that of the survey
+  -- the end of the run is that of the survey
   pub is_end_of_survey : (q : Question) (v : Surveyed) (e : Ended V number) (max : ℤ) (budget : ℕ) →
       problem_of p ≡ posed q (scene_of v) → flips_of t ≡ flipped (problem_of p) →
       shape_of_table (last_of e) ≡ shape_of_table t → flips_of (last_of e) ≡ flips_of t →

@@ -58,7 +58,7 @@ below q v never g r = absurd r
 
 module _ {V : Type 0} {number : Ghosts V} (v : Surveyed) (e : Ended V number) (t : Table V number)
     (b : t ≡ last_of e) where
-  -- so it can be read
+  -- so the column that rises can be read
   pub can_be_read : EndsGive → IsEndOfSome v e → HasRay (ended_as e) → (c : ℕ) → c ≡ entering_of (ended_as e)
       → ltb c (width (shape_of_table t)) ≡ true
   can_be_read law h r c m =

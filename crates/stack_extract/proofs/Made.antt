@@ -91,7 +91,7 @@ pub few_contacts : {q : Question} {v : Surveyed} {S : Shape} {flips : ℕ → Bo
 few_contacts {v = v} {S = S} h f =
     let m : S.contacts ≡ 2 * length v.bearings = ap (λ (S : Shape). S.contacts) h.shape in omega (arith, m, f)
 
--- its lists are those of the posed shape, with a number for each contact column and one for the factor
+-- the lists of an end are those of the posed shape, with a number for each contact column and one for the factor
 module _ {q : Question} {v : Surveyed} {S : Shape} {flips : ℕ → Bool} (T : Tabled Fraction) where
   pub forces_list_is : {x : End Fraction} → IsLastOf q v S flips x → (xs : List Fraction) → xs ≡ forces_list S T
       → xs ≡ forces_list (posed_shape q (scene_of v)) T
@@ -159,9 +159,9 @@ module _ (q : Question) (v : Surveyed) (T : Tabled Fraction) where
   ray_too_wide c xs e x h = subst (λ xs. TellsPlace x (push_place Ray v.bearings xs)) e h
 
 -- moves from a list
-not_passing : (b : Bool) (p : ExtractPlace) → only_if (not b) p ≡ None → b ≡ true
-not_passing true p h = refl
-not_passing false p h = absurd cc
+not_too_wide : (b : Bool) (p : ExtractPlace) → only_if (not b) p ≡ None → b ≡ true
+not_too_wide true p h = refl
+not_too_wide false p h = absurd cc
 
 -- where no number is too wide, each whole number fits
 pub each_fits : (l : Numbers) (xs : List Fraction) (scale : ℤ) (zs : List ℤ) → AreWhole l xs scale zs →
@@ -169,7 +169,7 @@ pub each_fits : (l : Numbers) (xs : List Fraction) (scale : ℤ) (zs : List ℤ)
     k < length zs → fits (amount zs k) ≡ true
 each_fits l xs scale zs h k m = let n = ap length h.numbers ∙ length_map (times_scale (scale_of xs)) xs in
     ap (λ us. fits (amount us k)) h.numbers
-    ∙ not_passing (fits (amount (whole_list xs) k)) (extract_place l Whole k)
+    ∙ not_too_wide (fits (amount (whole_list xs) k)) (extract_place l Whole k)
     (first-none (length xs) (whole_spot l xs) (or_none (first (length xs) (scale_spot l xs))
     (first (length xs) (whole_spot l xs)) h.fits).1 k (omega (arith, m, n)))
 
@@ -237,7 +237,7 @@ module _ (v : Surveyed) (S : Shape) (flips : ℕ → Bool) (T : Tabled Fraction)
     motion = g.moves ∙ moves_are v q flips h.flips_are _ _ (ap (λ S. whole_list (bound_list S T)) h.shape);
   }
 
-  -- of an answer
+  -- an answer with the motion of phase 1 is an answer with the motion of the collapse
   pub answer_is_collapse : (k : EndKind) → k ≡ kinds.Infeasible → (r : Result Moves ExtractError) →
       IfOk r (λ y. IsMotionFrom (length (frees_of v.structure.bodies)) flips (collapse_list S T) (shifted_place S T)
       (motion_view y)) →

@@ -98,7 +98,7 @@ all_made c w v p q t =
     ∙ (λ i. is_made (c.p *ℤ (w.value -ℤ v.value)) t i >>= λ b.
     Ok (record { a = whole (c.q *ℤ (w.value +ℤ v.value)); b = b }))
 
--- and that aren't made
+-- where a number of a bearing's parts isn't made, it is too wide
 pub part_wide : (z : Bearing) (w v : Number) (x : Wide) → written_part z.cone w v ≡ Err x →
     part_fits z w.value v.value ≡ false
 part_wide z w v x h = go (part_fits z w.value v.value) refl

@@ -30,6 +30,6 @@ pub grown : {X : Type 0} (f : ℕ → X) (j : ℕ) (x : X) (xs ys : List X) → 
 grown f j x xs ys e h g = g ∙ (λ i. h i ++ e i ∷ []) ∙ sym (listed_more j f) ∙ ap (λ n. listed n f)
     (sym (add-one j))
 
--- and is whole
+-- a list that has grown to its end is whole
 pub whole : {X : Type 0} (f : ℕ → X) (j n : ℕ) (xs : List X) → xs ≡ listed j f → j ≡ n → xs ≡ listed n f
 whole f j n xs h e = h ∙ ap (λ n. listed n f) e

@@ -65,7 +65,7 @@ module _ (S : Shape) (T : Tabled Fraction) where
       (ap (λ b. only_if b (extract_place Motion Shift k)) (sym (λ i. is_too_wide widest Difference (e i) (f i)) ∙ p))
 
 module _ (l : Numbers) (xs : List Fraction) where
-  -- the common scale
+  -- where the common scale of the items so far fits, it isn't the place; the first that is too wide is
   no_scale_spot : (i : ℕ) → scale_of (take (i + 1) xs) ≤ greatest_number → scale_spot l xs i ≡ None
   no_scale_spot i h = ap (λ b. only_if b (extract_place l Scale i))
       (le-ltb greatest_number (scale_of (take (i + 1) xs)) h)
@@ -77,7 +77,7 @@ module _ (l : Numbers) (xs : List Fraction) where
       (ap (λ b. only_if b (extract_place l Scale i)) (lt-ltb greatest_number
       (scale_of (take (i + 1) xs)) h.is_too_wide)))
 
-  -- it fits
+  -- the common scale of the whole list fits
   abbrev pub ScaleFits : Type 0
   ScaleFits = (k : ℕ) → k ≤ length xs → scale_of (take k xs) ≤ greatest_number
 

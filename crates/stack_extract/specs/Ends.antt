@@ -34,17 +34,18 @@ pub record IsEndOfSurvey {V : Type 0} {number : Ghosts V} (q : Question) (v : Su
   pub shape : shape_of_table (last_of e) ≡ posed_shape q (scene_of v)
   pub flips : flips_of (last_of e) ≡ flipped (posed q (scene_of v))
 
--- for one of the two questions
+-- the end is that of the survey's run for one of the two questions
 abbrev pub IsEndOfSome : {V : Type 0} {number : Ghosts V} → Surveyed → Ended V number → Type 0
 IsEndOfSome v e = (q : Question) × IsEndOfSurvey q v e
 
--- the same of an end that is told by its value, with the shape and the flips of its last table, whatever stores it
+-- an end of the survey's run that is told by its value, with the shape and the flips of its last table, whatever stores
+-- it
 pub record IsLastOf (q : Question) (v : Surveyed) (S : Shape) (flips : ℕ → Bool) (x : End Fraction) : Type 0 where
   pub run : IsEndOfRun q v x
   pub shape : S ≡ posed_shape q (scene_of v)
   pub flips_are : flips ≡ flipped (posed q (scene_of v))
 
--- for one of the two questions
+-- the last table is that of the survey's run for one of the two questions
 abbrev pub IsLastOfSome : Surveyed → Shape → (ℕ → Bool) → End Fraction → Type 0
 IsLastOfSome v S flips x = (q : Question) × IsLastOf q v S flips x
 
@@ -62,7 +63,7 @@ ReadsRay kinds.Feasible reads = ⊤
 ReadsRay kinds.Optimal reads = ⊤
 ReadsRay (kinds.Ray c) reads = reads c ≡ true
 
--- the ends that have forces, a motion, a ray
+-- an end with forces: those at which amounts balance
 abbrev pub HasForces : End Fraction → Type 0
 HasForces (infeasible T) = ⊥
 HasForces (feasible T) = ⊤

@@ -51,17 +51,17 @@ module _ (l : Numbers) where
   abbrev pub whole_spot : List Fraction → ℕ → Option ExtractPlace
   whole_spot xs i = only_if (not (fits (amount (whole_list xs) i))) (extract_place l Whole i)
 
-  -- of a list
+  -- the first number of a list that is too wide: its common scale up to an item, or else a whole number
   abbrev pub list_place : List Fraction → Option ExtractPlace
   list_place xs = or_else (first (length xs) (scale_spot xs)) (first (length xs) (whole_spot xs))
 
-  -- none is too wide, and these are the scale and the whole numbers
+  -- no number of a list is too wide, and these are its scale and its whole numbers
   pub record AreWhole (xs : List Fraction) (scale : ℤ) (zs : List ℤ) : Type 0 where
     pub fits : list_place xs ≡ None
     pub scale_is : scale ≡ pos (scale_of xs)
     pub numbers : zs ≡ whole_list xs
 
-  -- one of them is too wide at bearing k
+  -- one of the three numbers that are made of bearing k's amounts is too wide
   abbrev pub part_spot : List Bearing → List ℤ → ℕ → Option ExtractPlace
   part_spot bs zs k = only_if
       (not (part_fits (get_or bs k no_bearing) (amount zs (2 * k)) (amount zs (2 * k + 1)))) (extract_place l Part k)
@@ -70,12 +70,12 @@ module _ (l : Numbers) where
   abbrev pub part_place : List Bearing → List ℤ → Option ExtractPlace
   part_place bs zs = first (length bs) (part_spot bs zs)
 
-  -- none is too wide, and these are the parts
+  -- no number of the bearings' parts is too wide, and these are the parts
   pub record AreParts (bs : List Bearing) (zs : List ℤ) (ps : List (ℤ × ℤ)) : Type 0 where
     pub fits : part_place bs zs ≡ None
     pub parts : ps ≡ listed (length bs) (pair_at bs zs)
 
-  -- of a list of which forces are made
+  -- the first number that is too wide in what is made of a list of forces or of a ray
   abbrev pub push_place : List Bearing → List Fraction → Option ExtractPlace
   push_place bs xs = or_else (list_place xs) (part_place bs (whole_list xs))
 
@@ -89,12 +89,12 @@ module _ (S : Shape) (T : Tabled Fraction) where
   abbrev pub shift_place : Option ExtractPlace
   shift_place = first S.rows shift_spot
 
-  -- of the motion of phase 1
+  -- the first number that is too wide in what is made of a motion of phase 1
   abbrev pub shifted_place : Option ExtractPlace
   shifted_place = or_else shift_place (list_place Motion (collapse_list S T))
 
 module _ (q : Question) (v : Surveyed) (T : Tabled Fraction) where
-  -- of the forces of a last table, of the ray of column c, of the motion of phase 1 and of that of phase 3
+  -- the first number that is too wide in what is made of the forces of a last table
   abbrev pub forces_place : Option ExtractPlace
   forces_place = push_place Forces v.bearings (forces_list (posed_shape q (scene_of v)) T)
 
@@ -102,10 +102,10 @@ module _ (q : Question) (v : Surveyed) (T : Tabled Fraction) where
   abbrev pub ray_place : ℕ → Option ExtractPlace
   ray_place c = push_place Ray v.bearings (ray_list (posed_shape q (scene_of v)) T c)
 
-  -- the first in what is made of the motion of phase 1
+  -- the first number that is too wide in what is made of the motion of phase 1
   abbrev pub collapse_place : Option ExtractPlace
   collapse_place = shifted_place (posed_shape q (scene_of v)) T
 
-  -- the first in what is made of the motion of phase 3
+  -- the first number that is too wide in what is made of the motion of phase 3
   abbrev pub bound_place : Option ExtractPlace
   bound_place = list_place Motion (bound_list (posed_shape q (scene_of v)) T)

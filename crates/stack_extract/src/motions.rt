@@ -159,8 +159,7 @@ pub fn motion_at<L: LastTable>(
 /// objective cells of the artificial columns, less 1 where no amounts balance, at their common scale, with the
 /// other sign in flipped rows; three for each free block.
 ///
-/// Refused exactly where one of these is more than 2^127 - 1 in size, with the first that is, or where memory is
-/// wanting.
+/// Refused exactly where one of these is more than 2^127 - 1 in size, with the first that is, or where memory ran out.
 pub fn motion_of<S: Exact>(alloc: Global, s: &Survey, e: &Ended<S>) -> Result<Motion, ExtractError>
     requires end { IsEndOfSome s.now e.now }
     requires motion { HasMotion (ended_as e.now) }

@@ -15,7 +15,7 @@ pub(crate) struct WholeNumbers {
 }
 
 /// The common scale of a list, and each of its numbers times that. Refused at the first item at which the
-/// running scale is too wide, or else at the first whole number that does.
+/// running scale is too wide, or else at the first whole number that is.
 pub(crate) fn whole_numbers(
     alloc: Global,
     which: Numbers,

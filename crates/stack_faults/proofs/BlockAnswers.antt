@@ -107,7 +107,7 @@ body_told Q R true t u z e g x rows (Some n) (Ok qs) (Ok y) to ht hu ho hr h = (
   h n qs refl refl refl hr.1,
 )
 
--- and of any block
+-- the steps of any block
 steps_told : {A : Type 0} (Q : A → Type 0) (R : Type 0) (a c t u z : Bool) (d e g x : ModelError) (s : Spot)
     (k : Key) (rows : List (Bool × ModelError)) (o : Option (List Point)) (at : Option ℕ)
     (outline : List Point → Result (List Point) ModelError) (room : Result ⊤ ModelError)
@@ -142,7 +142,7 @@ room_written fixed written bs h = subst (Answers (λ _. HasRoom fixed bs) (has_r
     (λ i. first_cause (room_causes fixed (counted (λ b. b) written bs h i) (counted not written bs h i)))
     (room_told fixed bs h.apart)
 
--- so many were collected, and each is the body of its block
+-- so many bodies were collected, and each is the body of its block
 pub record Collected (parts : PartLists) (ms : List NamedMaterial) (written : List BlockPart) (n : ℕ)
     (bs : List NamedBody) : Type 0 where
   pub bodies : AreBodiesOf written bs
@@ -179,7 +179,7 @@ new_body ms b i ps n qs h e k =
       outline = outlined i ps qs k;
     }
 
--- with the body of one block more
+-- what was collected, with the body of one block more
 one_collected : (parts : PartLists) (ms : List NamedMaterial) (i : ℕ) (bs : List NamedBody) (c : NamedBody)
     → i < length parts.blocks → Collected parts ms (take i parts.blocks) i bs
     → IsBodyOf ms (block_written parts i) c → is_new c.name (body_names bs) ≡ true → HasRoom c.fixed bs
@@ -224,7 +224,7 @@ one_told parts ms materials i bs l h =
     (λ ps n qs corners number outline new room. one_collected parts ms i bs (made n qs) l h
     (new_body ms b i ps n qs corners number outline) new room)
 
--- all of them
+-- all blocks have their bodies
 abbrev pub AreAll : PartLists → List NamedMaterial → List NamedBody → Type 0
 AreAll parts ms bs = Collected parts ms parts.blocks (length parts.blocks) bs
 

@@ -17,7 +17,7 @@ earliest-below zero f = refl
 earliest-below (suc n) f = earliest-append (faults_below n f) (f n)
     ∙ ap (λ o. or_else o (earliest (f n))) (earliest-below n f)
 
--- of three lists, and of four
+-- the earliest of three lists, and of four
 pub earliest_three : {E : Type 0} (a b c : List E) → earliest (a ++ b ++ c)
     ≡ or_else (or_else (earliest a) (earliest b)) (earliest c)
 earliest_three a b c = earliest-append (a ++ b) c ∙ ap (λ o. or_else o (earliest c)) (earliest-append a b)

@@ -39,7 +39,7 @@ steps_told Q false b c t d e g s k o to same h = refl
 abbrev pub AreMaterialsOf : List MaterialPart → List NamedMaterial → Type 0
 AreMaterialsOf written ms = map material_listed ms ≡ written
 
--- so it has their names
+-- what was collected has the names of these materials
 pub names_of : (written : List MaterialPart) (ms : List NamedMaterial) → AreMaterialsOf written ms
     → material_names ms ≡ map (λ (m : MaterialPart). m.name) written
 names_of written ms h = sym (map-map (λ (m : MaterialPart). m.name) material_listed ms)

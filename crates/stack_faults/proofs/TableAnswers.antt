@@ -121,7 +121,7 @@ items_told part key faults told ms =
     ∙ ap (λ tables. earliest (faults_of_tables faults tables)) h.listed)
     (list_told key (get_member (word_of key) ms))
 
--- right to left
+-- the first of many, grouped to the right
 regrouped : {E : Type 0} (a b c d e f g h i j k : Option E)
     → or_else (or_else (or_else (or_else (or_else (or_else (or_else (or_else (or_else (or_else a b) c) d) e) f) g) h) i)
     j) k

@@ -37,7 +37,7 @@ module _ {A X E : Type 0} (f : ℕ → A → X → Result A E) (xs : List X) (d 
   pub walked : (a : A) → I 0 a → Ends (steps f 0 a xs)
   walked a h = walk (length xs) 0 a (omega arith) h refl
 
--- the same of causes
+-- the run answers the first of the causes of the items, by number
 pub listed : {A X E : Type 0} (f : ℕ → A → X → Result A E) (xs : List X) (d : X) (I : ℕ → A → Type 0)
     (causes : ℕ → List (Bool × E))
     → ((i : ℕ) (a : A) → i < length xs → I i a

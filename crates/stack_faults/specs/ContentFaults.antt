@@ -25,7 +25,7 @@ use Rattle.stack_model.specs.Limits.{is_name, is_between, friction_of, point_of,
 use Rattle.stack_model.specs.Limits.{force_of, is_version, sway_of}
 use Rattle.stack_faults.specs.FaultLists.{faults_where, faults_below}
 
--- the items by number, as they are written; past the end stands an item that means nothing
+-- material i as it is written; past the end stands one that means nothing
 abbrev pub material_written : PartLists → ℕ → MaterialPart
 material_written parts i = get_or parts.materials i (record { name = []; weight = pos 0; friction = [] })
 
@@ -68,11 +68,11 @@ is_fixed_block (Some b) = b.fixed
 abbrev pub names_fixed : List ℕ → List BlockPart → Bool
 names_fixed name bs = is_fixed_block (find (λ (b : BlockPart). bytes_eq name b.name) bs)
 
--- how many of these blocks are fixed, and how many are free
+-- how many of these blocks are fixed
 abbrev pub fixed_written : List BlockPart → ℕ
 fixed_written bs = count_by (λ (b : BlockPart). b.fixed) bs
 
--- how many of them are free
+-- how many of these blocks are free
 abbrev pub free_written : List BlockPart → ℕ
 free_written bs = count_by (λ (b : BlockPart). not b.fixed) bs
 
@@ -152,25 +152,25 @@ head_faults parts = faults_where (
     (not (is_version parts.version), Range spots.Top keys.Version)
     ∷ (is_bad_sway parts.sway, Range spots.Top keys.Sway) ∷ [])
 
--- those of the joints: too many of them, and then the faults of each one
+-- the faults of the joints: too many of them, and then those of each one
 abbrev pub joint_faults : PartLists → List ModelError
 joint_faults parts =
     number_faults most_joints (length parts.joints) whats.Joints
     ++ faults_by (length parts.joints) (causes_of_joint parts)
 
--- those of the materials: too many of them, and then the faults of each one
+-- the faults of the materials: too many of them, and then those of each one
 abbrev pub material_faults : PartLists → List ModelError
 material_faults parts =
     number_faults most_materials (length parts.materials) whats.Materials
     ++ faults_by (length parts.materials) (causes_of_material parts)
 
--- those of the blocks: too many of them, and then the faults of each one
+-- the faults of the blocks: too many of them, and then those of each one
 abbrev pub block_faults : PartLists → List ModelError
 block_faults parts =
     number_faults most_bodies (length parts.blocks) whats.Blocks
     ++ faults_by (length parts.blocks) (causes_of_block parts)
 
--- those of the loads: too many of them, and then the faults of each one
+-- the faults of the loads: too many of them, and then those of each one
 abbrev pub load_faults : PartLists → List ModelError
 load_faults parts =
     number_faults most_loads (length parts.loads) whats.Loads

@@ -11,7 +11,7 @@ use Rattle.stack_faults.specs.FaultLists.{earliest, answered_fault}
 use Rattle.stack_faults.specs.ContentFaults.{is_crooked, unclear_edge, content_faults}
 use Rattle.stack_faults.specs.TableFaults.{shape_faults, table_faults, file_faults}
 
--- of what a file lists
+-- the fault of content that is answered is the first of all, of what a file lists
 abbrev pub FirstContentFault : Type 0
 FirstContentFault = (parts : PartLists) → answered_fault (content_of parts) ≡ earliest (content_faults parts)
 
@@ -24,7 +24,7 @@ ContentWhereFaultless = (parts : PartLists) → IsOk (content_of parts) ↔ (con
 abbrev pub CrookedByMeaning : Type 0
 CrookedByMeaning = (ps : List Point) → (is_crooked (Some ps) ≡ true) ↔ HasNoOutline ps (unclear_edge (Some ps))
 
--- of the shape of a table
+-- the fault of shape that is answered is the first of all, of a table
 abbrev pub FirstShapeFault : Type 0
 FirstShapeFault = (ms : Members) → answered_fault (parts_of_document ms) ≡ earliest (shape_faults ms)
 
@@ -32,7 +32,7 @@ FirstShapeFault = (ms : Members) → answered_fault (parts_of_document ms) ≡ e
 abbrev pub ShapeWhereFaultless : Type 0
 ShapeWhereFaultless = (ms : Members) → IsOk (parts_of_document ms) ↔ (shape_faults ms ≡ [])
 
--- of a table
+-- the fault of either kind that is answered is the first of all, of a table
 abbrev pub FirstTableFault : Type 0
 FirstTableFault = (ms : Members) → answered_fault (model_of ms) ≡ earliest (table_faults ms)
 
@@ -40,7 +40,7 @@ FirstTableFault = (ms : Members) → answered_fault (model_of ms) ≡ earliest (
 abbrev pub StructureWhereFaultless : Type 0
 StructureWhereFaultless = (ms : Members) → IsOk (model_of ms) ↔ (table_faults ms ≡ [])
 
--- of a file's bytes
+-- the fault that is answered is the first of all, of a file's bytes
 abbrev pub FirstFileFault : Type 0
 FirstFileFault = (bytes : List ℕ) → answered_fault (structure_of bytes) ≡ earliest (file_faults bytes)
 

@@ -55,7 +55,7 @@ top_faults ms =
     ++ optional_key_faults tables_of spots.Top keys.Block ms
     ++ optional_key_faults tables_of spots.Top keys.Load ms
 
--- the table of material i, of block i, of load i
+-- material i: an unknown key, its name, its weight, its friction
 abbrev pub material_table_faults : ℕ → Members → List ReadError
 material_table_faults i ms =
     unknown_key_faults (spots.Material i) material_keys ms

@@ -45,7 +45,7 @@ lists_written materials blocks loads = first_parts materials blocks loads
 abbrev pub plain_stone : MaterialPart
 plain_stone = material_called (codes "stone") (pos 1) (pos 1 ∷ pos 2 ∷ [])
 
--- listed clockwise, which is no fault
+-- a square whose corners are listed clockwise, which is no fault
 abbrev pub clockwise_square : List (List ℤ)
 clockwise_square = drawn_at 0 0 ∷ drawn_at 0 2 ∷ drawn_at 2 2 ∷ drawn_at 2 0 ∷ []
 
@@ -88,7 +88,7 @@ one_of_each = lists_written (plain_stone ∷ material_called (codes "a b") (pos 
 abbrev pub joint_called : List ℕ → List ℕ → List ℤ → JointPart
 joint_called first second friction = record { first = first; second = second; friction = friction }
 
--- of version 3, with one number of sway; joint 0 is without fault, and joins stones; joint 1 has one number of
+-- lists of version 3, with one number of sway; joint 0 is without fault, and joins stones; joint 1 has one number of
 -- friction, and an unknown material; joint 2 joins stones again
 abbrev pub three_joints : PartLists
 three_joints = record {
@@ -103,7 +103,7 @@ three_joints = record {
   loads = [];
 }
 
--- a name for each number below 100: of two digits
+-- two digits: a name for each number below 100
 abbrev pub two_digits : ℕ → List ℕ
 two_digits n = (48 + n / 10) ∷ (48 + n % 10) ∷ []
 
@@ -112,14 +112,14 @@ abbrev pub fixed_squares : ℕ → List BlockPart
 fixed_squares zero = []
 fixed_squares (suc n) = fixed_squares n ++ block_called (two_digits n) (codes "stone") true clockwise_square ∷ []
 
--- there are a key `beam` and a `block` that is a number; material 0 has a name that is a number, and no friction
+-- a table with a key `beam` and a `block` that is a number; its material 0 has a name that is a number, and no friction
 abbrev pub ill_table : Members
 ill_table =
     member (codes "beam") (integer (pos 1)) (member (codes "block") (integer (pos 0)) (member (codes "material")
     (array (item (table (member (codes "name") (integer (pos 1))
     (member (codes "weight") (integer (pos 1)) no_members))) no_items)) no_members))
 
--- in form, and material 0 has a weight below 0, and a number in place of a coefficient
+-- a table without a fault of shape; its material 0 has a weight below 0, and one number of friction
 abbrev pub heavy_table : Members
 heavy_table =
     member (codes "material") (array (item (table

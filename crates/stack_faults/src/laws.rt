@@ -34,7 +34,8 @@ pub fn first_table_fault()
     ensures faultless { StructureWhereFaultless }
 {}
 
-/// The same of a file's bytes, whose one fault is that they are no document, where they are none.
+/// Of a file's bytes, the fault that is answered is that they are no document, where they are none, and else the first
+/// of all faults of its table; and a structure comes exactly where there is none.
 pub fn first_file_fault()
     ensures first { FirstFileFault }
     ensures faultless { FileWhereFaultless }

@@ -20,7 +20,7 @@ use Rattle.stack_frame.specs.Directions.{IsGreatestDivisor, IsFrameOf, Direction
 use Rattle.stack_frame.proofs.LowestTerms.{gcd_of_lowest, lowest_of_gcd, abs-times, quotient-whole, divides-times}
 use Rattle.stack_frame.proofs.LowestTerms.{lowest-parts}
 
--- the code's quotient
+-- the quotient that the code makes is the quotient
 pub quotient-stored : (z : ℤ) (g : ℕ) → SFits w64 z → 0 < g → g ≤ 2000000 → g ∣ nat_abs z →
     z ≡ pos g *ℤ to_z w64 (of_z w64 (quot_z (to_z w64 (of_z w64 z)) (to_z w64 g)))
 quotient-stored z g fits p l d = quotient-whole z g p d ∙ ap (λ q. pos g *ℤ q)
@@ -102,7 +102,7 @@ part-step d z (suc g) p e h = go z (ap nat_abs e ∙ abs-times (suc g) z) (small
     go z e l = let k : nat_abs z ≤ 2000000 = grind arith in
         record { low = omega (arith, ints); high = omega (arith, ints) }
 
--- the same, of the code's quotients
+-- a quotient of the code is no greater than what it is a part of
 pub part-of : (d z : ℤ) (g : ℕ) → SFits w64 d → SFits w64 z → stored d ≡ pos g *ℤ z → d ≡ pos g *ℤ stored z
 part-of d z g fd fz e = sym (to_z-of_z fd) ∙ e ∙ ap (λ q. pos g *ℤ q) (sym (to_z-of_z fz))
 

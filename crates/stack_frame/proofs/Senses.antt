@@ -133,7 +133,7 @@ factor g x y u v e = simp expand (omega (arith, sums, simp expand at e))
 swap : (x y u v : ℤ) → pos 0 ≺ x *ℤ u +ℤ y *ℤ v → pos 0 ≺ u *ℤ x +ℤ v *ℤ y
 swap x y u v h = simp expand h
 
--- so such a direction is the frame
+-- a direction in lowest terms that is parallel to another and has its sense is its frame
 by-parallel : (dx dy : ℤ) (t : Frame) (g : ℕ) → 0 < g → gcd (nat_abs dx) (nat_abs dy) ≡ g → IsLowest t.tx t.ty →
     IsParallelInSense dx dy t → IsFrameOf dx dy t
 by-parallel dx dy t g p e h k = subst (IsFrameOf dx dy) (sym (same-lowest t u h is.lowest cross dot)) is

@@ -16,11 +16,11 @@ pub record IsCoefficient (c : Cone) : Type 0 where
   pub q_least : pos 1 ≼ c.q
   pub q_greatest : c.q ≼ pos 1000
 
--- the same coefficient in lowest terms: 0 over q is 0 over 1
+-- p over q in lowest terms: 0 over q is 0 over 1
 abbrev pub lowest_of : ℕ → ℕ → Cone
 lowest_of p q = record { p = pos (p / gcd p q); q = pos (q / gcd p q) }
 
--- that of a coefficient, by the sizes of its terms
+-- a coefficient in lowest terms, by the sizes of its terms
 abbrev pub lowest : Cone → Cone
 lowest c = lowest_of (unsigned_abs c.p) (unsigned_abs c.q)
 

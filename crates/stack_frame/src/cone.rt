@@ -41,7 +41,7 @@ impl Cone {
         self.holds(a, b)
     }
 
-    /// The same of a force that pushes.
+    /// Whether a force that pushes stays within the cone. `Wide` as `admits`.
     #[tactic(auto, unfolding(crate::specs::Admitted::written_test))]
     fn holds(self, a: Whole, b: Whole) -> Result<bool, Wide>
         ensures { result ≡ written_test self a.value b.value }
@@ -53,7 +53,7 @@ impl Cone {
     }
 }
 
-/// The same coefficient in lowest terms.
+/// A coefficient in lowest terms.
 fn reduced(of: Cone) -> Cone
     requires { IsCoefficient of }
     ensures { result ≡ lowest of }
@@ -67,7 +67,7 @@ fn reduced(of: Cone) -> Cone
     }
 }
 
-/// Tells that a coefficient is at most another one.
+/// Whether a coefficient is at most another one.
 fn is_at_most(a: Cone, b: Cone) -> bool
     requires a { IsCoefficient a }
     requires b { IsCoefficient b }

@@ -40,7 +40,7 @@ spent_only q v (wide p k s) h = absurd cc
 spent_only q v over h = refl
 spent_only q v never h = absurd cc
 
--- so where the budget is enough for the problem's columns, no answer is that it is spent
+-- where the budget is enough for the problem's columns, no answer is that it is spent
 pub suffices : EnoughSuffices → TablesHaveThese → (q : Question) (v : Surveyed) (budget : ℕ)
     (r : Result Certificate JudgeError) → Judges r q v budget → (b n : ℕ) → enough_of (problem_columns q v) ≡ Some b
     → b ≤ budget → ¬ (r ≡ Err (errors.Spent n))

@@ -57,7 +57,7 @@ end_judges q v budget k T (Err (errors.Spent n)) live run h = absurd h
 end_judges q v budget k T (Err errors.NoLive) live run h = absurd h
 end_judges q v budget k T (Err errors.Memory) live run h = tt
 
--- and what was given of the end of a run
+-- what was given of the end of a run is the judgement
 pub ended_judges : {V : Type 0} {number : Ghosts V} (q : Question) (v : Surveyed) (budget : ℕ) (e : Ended V number)
     (result : Result Certificate JudgeError) → ¬ (LacksLive q v) → survey_run q v budget ≡ ended_as e
     → GivesChecked result q v (ended_as e) → Judges result q v budget

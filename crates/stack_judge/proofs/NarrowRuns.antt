@@ -71,7 +71,7 @@ pub some_place : (q : Question) (v : Surveyed) (P : Problem) (e : BuildError) �
 some_place q v P e is h = sym (ap (λ R. has_no_place (wide_place ordered_fractions (is_too_wide narrow) R)) (sym is)
     ∙ ap has_no_place h)
 
--- where the table is too wide, so does the work
+-- where a number of the table is too wide, the work isn't narrow
 pub wide_table : (q : Question) (v : Surveyed) (budget : ℕ) → has_no_place (narrow_place q v) ≡ false
     → is_narrow q v budget ≡ false
 wide_table q v budget h = not_first (has_no_place (narrow_place q v)) (is_nowhere_too_wide (narrow_run q v budget)) h

@@ -69,7 +69,7 @@ scale_fits l (x ∷ xs) h =
     let all = ap scale_of (take_all (length xs + 1) (x ∷ xs) (omega arith)) in
     omega (arith, below, all)
 
--- and so do its whole numbers
+-- the whole numbers of a list fit
 pub whole_fits : (l : Numbers) (xs : List Fraction) → list_place l xs ≡ None → (j : ℕ)
     → IsFitting (amount (whole_list xs) j)
 whole_fits l xs h j = go (dec_le (suc j) (length xs))

@@ -33,7 +33,7 @@ MakesCertificate (Ok c) q v x = (lists_place q v x ≡ None) × (end_certificate
 MakesCertificate (Err (extract.TooWide p)) q v x = lists_place q v x ≡ Some (places.End p)
 MakesCertificate (Err extract.Memory) q v x = ⊤
 
--- the same with its check, which accepts it
+-- the certificate of an end, which the check accepts, or the first place of its lists or of the check
 abbrev pub GivesChecked : Result Certificate JudgeError → Question → Surveyed → End Fraction → Type 0
 GivesChecked (Ok c) q v x = (end_place q v x ≡ None) × (end_certificate q v x ≡ Some (certificate_view c))
     × (written_check v (certificate_view c) ≡ Accepted)

@@ -21,7 +21,7 @@ abbrev pub in_end : Option ExtractPlace → Option JudgePlace
 in_end None = None
 in_end (Some p) = Some (places.End p)
 
--- of the lists of an end
+-- the first place in the lists of an end
 abbrev pub lists_place : Question → Surveyed → End Fraction → Option JudgePlace
 lists_place q v (infeasible T) = in_end (collapse_place q v T)
 lists_place q v (feasible T) = in_end (forces_place q v T)
@@ -31,13 +31,13 @@ lists_place q v (wide p k s) = None
 lists_place q v over = None
 lists_place q v never = None
 
--- of a check
+-- the place at which a check is too wide
 abbrev pub in_check : Check → Option JudgePlace
 in_check checks.Accepted = None
 in_check (checks.Rejected part reason) = None
 in_check (checks.TooWide p) = Some (places.Check p)
 
--- of the check of a certificate, where there is one
+-- the place at which the check of a certificate is too wide, where there is one
 abbrev pub check_place : Surveyed → Option CertificateValue → Option JudgePlace
 check_place v None = None
 check_place v (Some c) = in_check (written_check v c)

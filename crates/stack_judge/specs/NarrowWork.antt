@@ -29,7 +29,7 @@ abbrev pub has_no_place : Option BuildError → Bool
 has_no_place None = true
 has_no_place (Some p) = false
 
--- the run there
+-- the written run of a survey's problem at 64 bits
 abbrev pub narrow_run : Question → Surveyed → (budget : ℕ) → End Fraction
 narrow_run q v budget = run_at narrow (posed q (scene_of v)) budget
 

@@ -14,10 +14,10 @@ abbrev pub live_columns : Question → ℕ
 live_columns Dead = 0
 live_columns Live = 1
 
--- those of all bearings, of the live loads and of all free blocks
+-- the columns of all bearings, of the live loads and of all free blocks
 abbrev pub problem_columns : Question → Surveyed → ℕ
 problem_columns q v = 2 * length v.bearings + live_columns q + 3 * length (frees_of v.structure.bodies)
 
--- its table has these
+-- the written table of a survey's problem has these columns
 abbrev pub TablesHaveThese : Type 0
 TablesHaveThese = (q : Question) (v : Surveyed) → columns (posed q (scene_of v)).shape ≡ problem_columns q v

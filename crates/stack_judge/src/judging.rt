@@ -149,7 +149,7 @@ fn judge_by_run(
 /// Refused are, in this order: a question about live loads where none is listed; the first number of the run, of the
 /// numbers that are made of its end, or of the check that is more than 2^127 - 1 in size, with its place; a run in
 /// which a pivot is due when the budget's are done, which doesn't come where the budget is `enough` for the columns
-/// of the survey's problem. Want of memory comes at any time. After Livesley (1978).
+/// of the survey's problem. Memory may run out at any time. After Livesley (1978).
 pub fn judge(alloc: Global, s: &Survey, q: Question, budget: u32) -> Result<Certificate, JudgeError>
     requires { budget ≢ 0 }
     ensures judges { Judges result q s.now budget }

@@ -73,7 +73,7 @@ fn a_pushed_post_bears_twice_the_push(rt: HostRuntime) -> Result<(), Fail> {
     }
 }
 
-/// Its dead loads take four pivots.
+/// The dead loads of the pushed post take four pivots.
 #[test]
 fn a_post_stands_at_the_fourth_pivot(rt: HostRuntime) -> Result<(), Fail> {
     let alloc = rt.alloc();
@@ -89,8 +89,8 @@ fn a_post_stands_at_the_fourth_pivot(rt: HostRuntime) -> Result<(), Fail> {
     }
 }
 
-/// The greatest and heaviest block, with nothing below it. Six times its weight is 24 million million million, past 64
-/// bits.
+/// The greatest and heaviest block, with nothing below it. Six times its weight is 24 million million million, too wide
+/// for 64 bits.
 fn greatest_block(alloc: Global) -> Result<Survey, Fail> {
     let mut materials = Vec::new(alloc);
     let mut blocks = Vec::new(alloc);

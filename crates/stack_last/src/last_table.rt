@@ -4,7 +4,6 @@ ghost use Rattle.std.specs.Prelude.{◌≡◌, ℕ, ◌+◌, ◌<◌, Bool, true
 ghost use Rattle.stack_table.specs.Table.{width, columns};
 ghost use Rattle.stack_table.specs.Seen.{shape_of_table, table_of, flips_of};
 
-use crate::widened::widened;
 use stack_rational::{Exact, Frac};
 use stack_table::Table;
 
@@ -70,7 +69,7 @@ impl<S: Exact> LastTable for Table<S> {
 
     ghost flips = { λ t. flips_of t };
 
-    // Each one can.
+    // Each column can be read.
     ghost reads = { λ t j. ltb j (width (shape_of_table t)) };
 
     fn row_count(&self) -> usize {
@@ -82,7 +81,7 @@ impl<S: Exact> LastTable for Table<S> {
     }
 
     fn plain_count(&self) -> usize {
-        self.columns() - self.rows()
+        self.plain()
     }
 
     fn basic_of(&self, i: usize) -> usize {
@@ -94,14 +93,14 @@ impl<S: Exact> LastTable for Table<S> {
     }
 
     fn right_of(&self, i: usize) -> Frac<i128> {
-        widened(self.cell(i, self.columns()))
+        self.cell(i, self.columns()).widened()
     }
 
     fn multiplier_of(&self, i: usize) -> Frac<i128> {
-        widened(self.cell(self.rows(), self.plain_count() + i))
+        self.cell(self.rows(), self.plain_count() + i).widened()
     }
 
     fn cell_of(&self, i: usize, j: usize) -> Frac<i128> {
-        widened(self.cell(i, j))
+        self.cell(i, j).widened()
     }
 }

@@ -27,7 +27,7 @@ borne_sound s ls sway h b = record {
   different_pairs = h.different_pairs;
 }
 
--- it bears its own
+-- a sound structure may bear its own loads and its own sway
 pub bears_own : (s : Structure) → IsSound s → MayBear s s.loads s.sway
 bears_own s h = record {
   few = h.few_loads;

@@ -56,7 +56,7 @@ head_is parts z h =
     let s = head_steps (is_version parts.version) _ (sway_listed parts.sway) z h in
     record { known = s.0; limits = sway_is parts.sway z s.1 }
 
--- of a structure with this version and this sway
+-- the head of a structure with this version and this sway, listed again
 pub head_again : (s : Structure) → is_version s.version ≡ true → sway_of (s.sway.0 ∷ s.sway.1 ∷ []) ≡ Some s.sway
     → head_of (relisted s) ≡ Ok s.sway
 unfolding head_of

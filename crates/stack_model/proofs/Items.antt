@@ -42,7 +42,7 @@ pub still : (z : ℤ × ℤ) → is_still z ≡ true → z ≡ (pos 0, pos 0)
 still z h = let t = both_true (int_eq z.0 (pos 0)) (int_eq z.1 (pos 0)) h in
     λ i. ((signed_Decides z.0 (pos 0)).0 t.0 i, (signed_Decides z.1 (pos 0)).0 t.1 i)
 
--- and not where it doesn't
+-- a sway isn't (0, 0) where the test doesn't say so
 pub moving : (z : ℤ × ℤ) → is_still z ≡ false → ¬ (z ≡ (pos 0, pos 0))
 moving z h e = let t : is_still z ≡ true = ap is_still e in absurd (cc)
 

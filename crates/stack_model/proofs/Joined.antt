@@ -98,7 +98,7 @@ is_new_pair before x after different = go (joint_terms before x.first x.second) 
         ∙ different h.0 (length before) h.1.0 (within before) in
         absurd (cc)
 
--- within the limits, where each joint is
+-- terms of a joint are within the limits, where each joint is
 pub terms_limits : (js : List Joint) (a b n : ℕ) → ((i : ℕ) → i < length js → IsBetween n (joint_at js i))
     → (o : Option (ℤ × ℤ)) → AreTermsBetween js a b o → IfSome o (λ t. AreTerms t)
 terms_limits js a b n all None h = tt

@@ -6,23 +6,23 @@ use Rattle.std.specs.List.{list_all}
 use Rattle.stack_polygon.specs.declared.point.Point.{Point}
 use Rattle.stack_polygon.specs.Limits.{is_near}
 
--- how many materials, blocks, fixed bodies and loads there may be; the limit of free ones is most_free
+-- how many materials there may be; how many bodies may be free is most_free of stack_whole
 abbrev pub most_materials : ℕ
 most_materials = 64
 
--- how many joints there may be between them
+-- how many joints between materials there may be
 abbrev pub most_joints : ℕ
 most_joints = 256
 
--- how many bodies, free and fixed together
+-- how many bodies there may be, free and fixed together
 abbrev pub most_bodies : ℕ
 most_bodies = 192
 
--- how many of them may be fixed
+-- how many bodies may be fixed
 abbrev pub most_fixed : ℕ
 most_fixed = 64
 
--- how many loads, of both kinds together
+-- how many loads there may be, of both kinds together
 abbrev pub most_loads : ℕ
 most_loads = 256
 
@@ -32,11 +32,11 @@ is_name_byte b =
     (nat_le 97 b && nat_le b 122) || (nat_le 65 b && nat_le b 90) || (nat_le 48 b && nat_le b 57)
     || b == 95 || b == 45
 
--- 1 to 32 of these
+-- 1 to 32 of these bytes
 abbrev pub is_name : List ℕ → Bool
 is_name bytes = nat_le 1 (length bytes) && nat_le (length bytes) 32 && list_all is_name_byte bytes
 
--- the same as a fact
+-- 1 to 32 of these bytes, as a fact
 pub record IsName (name : List ℕ) : Type 0 where
   pub least : 1 ≤ length name
   pub most : length name ≤ 32
@@ -62,7 +62,7 @@ sway_of (x ∷ y ∷ []) =
     if is_between (negsuc 999) (pos 1000) x && is_between (negsuc 999) (pos 1000) y then Some (x, y) else None
 sway_of _ = None
 
--- two coordinates in range
+-- a point of two coordinates in range
 abbrev pub point_of : List ℤ → Option Point
 point_of (x ∷ y ∷ []) = if is_near x && is_near y then Some (record { x = x; y = y }) else None
 point_of _ = None
@@ -77,7 +77,7 @@ abbrev pub points_of : List (List ℤ) → Option (List Point)
 points_of [] = Some []
 points_of (c ∷ cs) = with_first (point_of c) (points_of cs)
 
--- 3 to 32 points
+-- the corners of a block, 3 to 32 points
 abbrev pub corner_list_of : List (List ℤ) → Option (List Point)
 corner_list_of cs = if nat_le 3 (length cs) && nat_le (length cs) 32 then points_of cs else None
 

@@ -11,11 +11,11 @@ use Rattle.stack_model.specs.Content.{material_names, body_names}
 abbrev pub AreDifferent : List (List ℕ) → Type 0
 AreDifferent names = (i j : ℕ) → i < j → j < length names → ¬ (get_or names i [] ≡ get_or names j [])
 
--- how many of these bodies are fixed, and how many are free
+-- how many of these bodies are fixed
 abbrev pub fixed_among : List NamedBody → ℕ
 fixed_among bs = count_by (λ b. b.fixed) bs
 
--- how many of them are free
+-- how many of these bodies are free
 abbrev pub free_among : List NamedBody → ℕ
 free_among bs = count_by (λ b. not b.fixed) bs
 

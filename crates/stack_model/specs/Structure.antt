@@ -52,7 +52,7 @@ structure_with version sway ms js bs ls = record {
 abbrev pub first_structure : List NamedMaterial → List NamedBody → List Load → Structure
 first_structure ms bs ls = structure_with (pos 1) (pos 0, pos 0) ms [] bs ls
 
--- the items by number; past the end stands an item that means nothing
+-- material i of a list; past the end stands one that means nothing
 abbrev pub material_at : List NamedMaterial → ℕ → NamedMaterial
 material_at ms i = get_or ms i (record { name = []; weight = pos 0; p = pos 0; q = pos 1 })
 
@@ -112,7 +112,7 @@ pub record AreTerms (t : ℤ × ℤ) : Type 0 where
   pub least_q : pos 1 ≼ t.1
   pub most_q : t.1 ≼ pos 1000
 
--- between two of so many materials, p from 0 to 1,000, q from 1 to 1,000
+-- the limits of every joint: between two of so many materials, p from 0 to 1,000, q from 1 to 1,000
 pub record IsBetween (materials : ℕ) (j : Joint) : Type 0 where
   pub first : j.first < materials
   pub second : j.second < materials
@@ -128,13 +128,13 @@ pub record IsSway (sway : ℤ × ℤ) : Type 0 where
   pub least_y : negsuc 999 ≼ sway.1
   pub most_y : sway.1 ≼ pos 1000
 
--- such a name, one of so many materials, and the corners of a polygon
+-- the limits of every body: a name as materials have it, one of so many materials, and the corners of a polygon
 pub record IsPlaced (materials : ℕ) (b : NamedBody) : Type 0 where
   pub named : IsName b.name
   pub has_material : b.material < materials
   pub polygon : IsPolygon b.corners
 
--- on one of so many bodies, in range, and force components of at most 1,000,000,000 in size
+-- the limits of every load: on one of so many bodies, in range, and force components of at most 1,000,000,000 in size
 pub record IsCarried (bodies : ℕ) (l : Load) : Type 0 where
   pub on_body : l.body < bodies
   pub in_range : IsInRange l.at
@@ -147,10 +147,10 @@ pub record IsCarried (bodies : ℕ) (l : Load) : Type 0 where
 abbrev pub is_still : ℤ × ℤ → Bool
 is_still sway = int_eq sway.0 (pos 0) && int_eq sway.1 (pos 0)
 
--- a live load is listed: one of kind `live`, or a sway that isn't (0, 0). As a test, and as a fact
+-- whether a live load is listed: one of kind `live`, or a sway that isn't (0, 0)
 abbrev pub lists_live : Structure → Bool
 lists_live s = list_any (λ l. l.live) s.loads || not (is_still s.sway)
 
--- the same by meaning
+-- a live load is listed, by meaning
 abbrev pub HasLive : Structure → Type 0
 HasLive s = ((i : ℕ) × ((i < length s.loads) × ((load_of s i).live ≡ true))) ⊎ (s.sway ≢ (pos 0, pos 0))

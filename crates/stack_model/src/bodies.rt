@@ -101,6 +101,7 @@ fn has_room(fixed: bool, kept: &[KeptBody]) -> Result<(), ModelError>
 }
 
 impl Bodies {
+    /// No bodies yet. Takes no memory.
     pub fn new(alloc: Global) -> Bodies
         ensures { result ≡ [] }
     {

@@ -31,7 +31,7 @@ pub enum ModelError {
     /// More than 64 materials, 256 joints, 192 blocks, 128 free blocks, 64 fixed blocks or 256 loads.
     #[error("too many: {what:?}")]
     TooMany { what: What },
-    /// Memory was wanting.
+    /// Memory ran out.
     #[error("out of memory")]
     Memory,
     /// No material has a name that the joint gives.

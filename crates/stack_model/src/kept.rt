@@ -10,12 +10,14 @@ pub struct Head {
     pub sway: (i64, i64),
 }
 
+/// A material with its name.
 #[derive(Debug, Drop)]
 pub struct KeptMaterial {
     pub name: String,
     pub material: Material,
 }
 
+/// A body with its name and its outline.
 #[derive(Debug, Drop)]
 pub struct KeptBody {
     pub name: String,

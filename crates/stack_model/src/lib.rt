@@ -1,5 +1,7 @@
 //! The model of a structure of rigid blocks: materials, joints, bodies, loads and a sway.
 //!
+//! Calls that are given no allocator take no memory.
+//!
 //! ```text
 //! let model = Model::new(alloc, parts)?; // a ground and a post, or the first fault of the parts
 //! model.name(1) == "post"

@@ -14,16 +14,16 @@ use std::alloc::{AllocError, Global};
 /// A model has at most this many materials.
 pub const MOST_MATERIALS: usize = 64;
 
-/// And this many joints between them.
+/// A model has at most this many joints between its materials.
 pub const MOST_JOINTS: usize = 256;
 
-/// And this many bodies.
+/// A model has at most this many bodies, fixed and free together.
 pub const MOST_BODIES: usize = 192;
 
-/// Of them at most this many are fixed.
+/// A model has at most this many fixed bodies.
 pub const MOST_FIXED: usize = 64;
 
-/// And this many loads.
+/// A model has at most this many loads, dead and live together.
 pub const MOST_LOADS: usize = 256;
 
 fn is_name_byte(b: u8) -> bool
@@ -38,20 +38,21 @@ fn are_name_bytes(bytes: &[u8]) -> bool
     bytes.iter().all(|b| is_name_byte(*b))
 }
 
-/// 1 to 32 ASCII letters, digits, `_` and `-`.
+/// Whether a text is a name: 1 to 32 ASCII letters, digits, `_` and `-`.
 pub fn is_name(name: &str) -> bool
     ensures { result ≡ is_name_of name.now }
 {
     1 <= name.len() && name.len() <= 32 && are_name_bytes(name.as_bytes())
 }
 
+/// Whether a number is from `low` to `high`, both included.
 pub fn is_between(low: i64, high: i64, z: i64) -> bool
     ensures { result ≡ is_between_of low high z }
 {
     low <= z && z <= high
 }
 
-/// The numerator from 0 to 1,000 and the denominator from 1 to 1,000.
+/// The terms of a coefficient of friction: the numerator from 0 to 1,000 and the denominator from 1 to 1,000.
 pub fn friction(numbers: &[i64]) -> Option<(i64, i64)>
     ensures { result ≡ friction_of numbers.now }
 {
@@ -67,7 +68,7 @@ pub fn friction(numbers: &[i64]) -> Option<(i64, i64)>
     }
 }
 
-/// Two coordinates from -1,000,000 to 1,000,000.
+/// A point: two coordinates from -1,000,000 to 1,000,000.
 pub fn point(numbers: &[i64]) -> Option<Point>
     ensures { result ≡ point_of numbers.now }
 {
@@ -96,7 +97,7 @@ fn points(alloc: Global, lists: &[Vec<i64>]) -> Result<Option<Vec<Point>>, Alloc
     Ok(Some(found))
 }
 
-/// 3 to 32 points.
+/// The corners of a block: 3 to 32 points.
 pub fn corners(alloc: Global, lists: &[Vec<i64>]) -> Result<Option<Vec<Point>>, AllocError>
     ensures { IfOk result (λ found. option_map (λ v. v.items) found ≡ corner_list_of (map numbers_view lists.now)) }
 {
@@ -107,7 +108,7 @@ pub fn corners(alloc: Global, lists: &[Vec<i64>]) -> Result<Option<Vec<Point>>, 
     }
 }
 
-/// Two numbers from -1,000 to 1,000.
+/// A sway: two numbers from -1,000 to 1,000.
 pub fn sway(numbers: &[i64]) -> Option<(i64, i64)>
     ensures { result ≡ sway_of numbers.now }
 {
@@ -136,7 +137,7 @@ pub fn live(kind: &str) -> Option<bool>
     }
 }
 
-/// Two components of at most 1,000,000,000 in size.
+/// A force: two components of at most 1,000,000,000 in size.
 pub fn force(numbers: &[i64]) -> Option<(i64, i64)>
     ensures { result ≡ force_of numbers.now }
 {

@@ -203,7 +203,7 @@ fn model_of(alloc: Global, parts: Parts) -> Result<Model, AllocError>
 }
 
 impl Model {
-    /// Parts of which `Model::new` makes the same model, where memory isn't wanting.
+    /// Parts of which `Model::new` makes the same model, unless memory runs out. `AllocError` where it ran out here.
     pub fn parts(&self, alloc: Global) -> Result<Parts, AllocError>
         ensures value { IfOk result (λ p. raw_parts p ≡ relisted (model_view self.now)) }
         ensures taken { IfOk result (λ p. content_of (raw_parts p) ≡ Ok (model_view self.now)) }
@@ -213,8 +213,9 @@ impl Model {
         parts_with(alloc, self, self.all_loads(), self.sway())
     }
 
-    /// The same version, materials, joints and bodies with these loads and this sway. Each load is within the limits
-    /// and on a free body, there are at most 256, and the sway is (0, 0) unless the version is 2.
+    /// The model with the same version, materials, joints and bodies, and with these loads and this sway. Each load is
+    /// within the limits and on a free body, there are at most 256, and the sway is (0, 0) unless the version is 2.
+    /// `AllocError` where memory ran out.
     pub fn with_loads(
         &self,
         alloc: Global,

@@ -60,6 +60,7 @@ pub fn friction_at(spot: Spot, numbers: &[i64]) -> Result<(i64, i64), ModelError
 }
 
 impl Materials {
+    /// No materials yet. Takes no memory.
     pub fn new(alloc: Global) -> Materials
         ensures { result ≡ [] }
     {

@@ -22,6 +22,7 @@ impl std::marker::Model for Names {
 }
 
 impl Names {
+    /// No names yet. Takes no memory.
     pub fn new(alloc: Global) -> Names
         ensures { result ≡ [] }
     {

@@ -28,7 +28,7 @@ pub struct Body {
     pub fixed: bool,
 }
 
-/// A load on the body with this number: dead or live, its point, and its force, upwards and to the right.
+/// A load on the body with this number: dead or live, its point, and its force, to the right and upwards.
 #[derive(Clone, Copy, Debug, PartialEq, Eq)]
 pub struct Load {
     pub body: usize,

@@ -12,14 +12,14 @@ module _ {X : Type 0} (f : ℕ → X) where
   one_more xs next i x h is so_far =
       h ∙ (λ j. so_far j ++ is j ∷ []) ∙ longer i
 
-  -- the same after the items that were there
+  -- one more value, behind the items that were there before the loop
   pub one_more_after : (front xs next : List X) (i : ℕ) (x : X) → next ≡ xs ++ x ∷ [] → x ≡ f i
       → xs ≡ front ++ listed i f → next ≡ front ++ listed (i + 1) f
   one_more_after front xs next i x h is so_far =
       h ∙ (λ j. so_far j ++ is j ∷ []) ∙ append_assoc front (listed i f) (f i ∷ [])
       ∙ ap (λ ys. front ++ ys) (longer i)
 
-  -- all of them
+  -- a list that a loop has filled has all values
   pub no_more : (xs : List X) (i n : ℕ) → i ≤ n → n ≤ i → xs ≡ listed i f → xs ≡ listed n f
   no_more xs i n le ge so_far = so_far ∙ ap (λ k. listed k f) (omega arith)
 

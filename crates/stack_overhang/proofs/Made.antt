@@ -35,7 +35,7 @@ taken_as s = Ok s
 same_structure : (a b : Structure) → taken_as a ≡ taken_as b → a ≡ b
 same_structure a b e = cc
 
--- and the model that is made of them has it
+-- the model that is made of such parts has the structure
 pub made : (r : Result Structure StackError) (read : Result Structure ModelError) (s : Structure) → read ≡ Ok s
     → IfOk r (λ m. read ≡ Ok m) → IfOk r (λ m. m ≡ s)
 made (Ok m) read s h e = same_structure m s (sym e ∙ h)

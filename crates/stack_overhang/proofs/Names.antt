@@ -52,7 +52,7 @@ fresh base k apart hk =
     let none = list_any_none (bytes_eq (brick_name k)) (listed k brick_name) (none_before k k hk (omega arith)) in
     λ i. not (apart k i || none i)
 
--- and is found there
+-- the name of brick k is found at its number
 pub numbered : (base : List ℕ) (n k : ℕ) → IsApart base → k < n → n ≤ 128
     → number_of (brick_name k) (base ∷ listed n brick_name) ≡ Some (k + 1)
 numbered base n k apart lt few =

@@ -84,7 +84,7 @@ is_convex_rectangle r h k =
     (is_left _ _ a (left_high r.left r.right r.bottom r.top))
     refl)))
 
--- its corners are taken as they are listed, and are an outline
+-- the corners of a rectangle are taken as they are listed, and are an outline
 pub record IsTaken (r : Rectangle) : Type 0 where
   pub corners : corner_points (map coordinates (rectangle_corners r)) ≡ Some (rectangle_corners r)
   pub outline : (i : ℕ) → convex i (rectangle_corners r) ≡ Ok (rectangle_corners r)

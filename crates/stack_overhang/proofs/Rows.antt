@@ -69,7 +69,7 @@ pub record Begins (r : Row) (j : ℕ) : Type 0 where
   pub bottom : stored r.bottom ≡ r.bottom
   pub top : stored (stored r.bottom +ℤ stored r.high) ≡ r.bottom +ℤ r.high
 
--- the same over plain numbers
+-- what the sums of a brick's ends are, over plain numbers
 record SumsOf (l g n : ℤ) : Type 0 where
   pub fits : FitsSigned w64 (stored l +ℤ stored g)
   pub end_fits : FitsSigned w64 (stored (stored l +ℤ stored g) +ℤ stored n)
@@ -109,7 +109,7 @@ begins r j small laid lt =
         → stored n ≡ n
     spread_long l g n a b c d = omega (arith, ints)
 
--- its brick lies where the row says
+-- brick j of a row within the limits lies where the row says
 pub is_placed_brick : (r : Row) (j : ℕ) → is_row r ≡ true → j < r.count → is_placed (brick_of r j) ≡ true
 is_placed_brick r j h lt =
     let w = within_it r j h lt in

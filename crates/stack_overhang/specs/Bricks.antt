@@ -5,7 +5,7 @@ use Rattle.stack_polygon.specs.declared.point.Point.{Point}
 use Rattle.stack_overhang.specs.declared.types.Rectangle.{Rectangle}
 use Rattle.stack_overhang.specs.declared.types.Row.{Row}
 
--- from its lower left corner, counter-clockwise
+-- the corners of a rectangle, from its lower left one, counter-clockwise
 abbrev pub rectangle_corners : Rectangle → List Point
 rectangle_corners r =
     record { x = r.left; y = r.bottom } ∷ record { x = r.right; y = r.bottom }
@@ -24,7 +24,7 @@ brick_of r j = record {
 abbrev pub bricks_in : Row → List Rectangle
 bricks_in r = listed r.count (brick_of r)
 
--- by rows from the bottom, and in each row from the left
+-- the bricks of all rows from the bottom, in each row from the left
 abbrev pub bricks_of : List Row → List Rectangle
 bricks_of rows = flat_map bricks_in rows
 
@@ -32,6 +32,6 @@ bricks_of rows = flat_map bricks_in rows
 abbrev pub brick_at : List Rectangle → ℕ → Rectangle
 brick_at bricks k = get_or bricks k (record { left = pos 0; bottom = pos 0; right = pos 0; top = pos 0 })
 
--- `b` and the number of the brick, from 1: this is brick k from 0
+-- the name of brick k, from 0: `b` and its number from 1
 abbrev pub brick_name : ℕ → List ℕ
 brick_name k = codes "b" ++ decimal (k + 1)

@@ -6,15 +6,15 @@ use Rattle.stack_model.specs.Structure.{NamedMaterial, NamedBody, Structure, fir
 use Rattle.stack_overhang.specs.declared.types.Rectangle.{Rectangle}
 use Rattle.stack_overhang.specs.Bricks.{rectangle_corners, brick_at, brick_name}
 
--- with the coefficient of friction p over q
+-- the material of bricks and base, of weight 1, with the coefficient of friction p over q
 abbrev pub brick_material : ℤ → ℤ → NamedMaterial
 brick_material p q = record { name = codes "brick"; weight = pos 1; p = p; q = q }
 
--- what the bricks stand on
+-- the fixed body that the bricks stand on
 abbrev pub base_body : List ℕ → Rectangle → NamedBody
 base_body name r = record { name = name; material = 0; fixed = true; corners = rectangle_corners r }
 
--- brick k, from 0
+-- brick k as a body, from 0
 abbrev pub brick_body : ℕ → Rectangle → NamedBody
 brick_body k r = record { name = brick_name k; material = 0; fixed = false; corners = rectangle_corners r }
 
@@ -22,7 +22,7 @@ brick_body k r = record { name = brick_name k; material = 0; fixed = false; corn
 abbrev pub brick_bodies : List Rectangle → ℕ → List NamedBody
 brick_bodies bricks n = listed n (λ k. brick_body k (brick_at bricks k))
 
--- the fixed body comes first
+-- the bodies of a built-in model, the fixed one first
 abbrev pub built_bodies : List ℕ → Rectangle → List Rectangle → List NamedBody
 built_bodies name base bricks = base_body name base ∷ brick_bodies bricks (length bricks)
 

@@ -8,24 +8,24 @@ use Rattle.stack_overhang.specs.declared.types.Row.{Row}
 use Rattle.stack_overhang.specs.declared.types.Wall.{Wall}
 use Rattle.stack_overhang.specs.Bricks.{bricks_of}
 
--- it has an area, and its corners are in range
+-- a rectangle has an area, and its corners are in range
 abbrev pub is_placed : Rectangle → Bool
 is_placed r =
     (int_lt r.left r.right && int_lt r.bottom r.top)
     && ((is_near r.left && is_near r.right) && (is_near r.bottom && is_near r.top))
 
--- all its bricks are such
+-- all bricks of a row are such rectangles
 abbrev pub is_row : Row → Bool
 is_row r =
     (int_lt (pos 0) r.long && int_lt (pos 0) r.high)
     && ((is_near r.left && is_near (r.left +ℤ r.long *ℤ pos r.count))
     && (is_near r.bottom && is_near (r.bottom +ℤ r.high)))
 
--- and so for each of these rows
+-- all bricks of each of these rows are such rectangles
 abbrev pub are_rows : List Row → Bool
 are_rows rows = list_all is_row rows
 
--- and they are few enough
+-- all bricks of these rows are such rectangles, and few enough
 abbrev pub are_laid : List Row → Bool
 are_laid rows = are_rows rows && nat_le (length (bricks_of rows)) most_free
 

@@ -11,7 +11,7 @@ abbrev pub rectangle_part : List ℕ → Bool → Rectangle → BlockPart
 rectangle_part name fixed r =
     record { name = name; material = codes "brick"; fixed = fixed; corners = map coordinates (rectangle_corners r) }
 
--- brick k, from 0
+-- brick k as a block, from 0
 abbrev pub brick_block : ℕ → Rectangle → BlockPart
 brick_block k r = rectangle_part (brick_name k) false r
 

@@ -63,7 +63,7 @@ short_table = record { left = negsuc 19; bottom = negsuc 0; right = pos 0; top =
 abbrev pub triangle_counts : ℕ → List ℕ
 triangle_counts m = listed m (λ k. k + 1)
 
--- such a triangle of m rows on the short table
+-- the inverted triangle of m rows on the short table
 abbrev pub triangle_stack : ℕ → Structure
 triangle_stack m = stack_on short_table (brick_rows (triangle_counts m))
 
@@ -75,6 +75,6 @@ layer_of r = listed (2 * r - 3) (λ t. r - t % 2)
 abbrev pub slab_counts : ℕ → List ℕ
 slab_counts d = 1 ∷ flat_map layer_of (listed (d - 1) (λ k. k + 2))
 
--- such a slab, whose widest rows have d bricks, on the short table
+-- the slab whose widest rows have d bricks, on the short table
 abbrev pub slab_of : ℕ → Structure
 slab_of d = stack_on short_table (brick_rows (slab_counts d))

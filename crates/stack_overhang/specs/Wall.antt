@@ -38,7 +38,7 @@ course_of w i = record {
 abbrev pub courses_of : Wall → List Row
 courses_of w = listed w.courses (λ k. course_of w (k + 1))
 
--- the first brick of the top course, and its number from 0 among the bricks
+-- the first brick of the top course
 abbrev pub top_brick : Wall → Rectangle
 top_brick w = brick_of (course_of w w.courses) 0
 
@@ -46,7 +46,7 @@ top_brick w = brick_of (course_of w w.courses) 0
 abbrev pub top_number : Wall → ℕ
 top_number w = (w.courses - 1) * w.bricks
 
--- on that brick's upper left corner; the ground is body 0
+-- the live load that pushes to the right on that brick's upper left corner; the ground is body 0
 abbrev pub push_on : Wall → Load
 push_on w = record {
   body = top_number w + 1;

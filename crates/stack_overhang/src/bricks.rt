@@ -22,7 +22,7 @@ pub fn brick(row: Row, j: u32) -> Rectangle
     }
 }
 
-/// These and the bricks of the row.
+/// These bricks, and those of the row.
 fn with_row(mut bricks: Vec<Rectangle>, row: Row) -> Result<Vec<Rectangle>, AllocError>
     requires { is_row row ≡ true }
     ensures { IfOk result (λ v. v.items ≡ bricks.items ++ bricks_in row) }

@@ -3,13 +3,13 @@
 use std::alloc::AllocError;
 use thiserror::Error;
 
-/// The size is outside its limits, or memory was wanting.
+/// Why there is no stack or wall.
 #[derive(Clone, Copy, Debug, PartialEq, Eq, Error)]
 pub enum StackError {
     /// The argument is outside its range.
     #[error("the size is outside its limits")]
     Size,
-    /// Memory was wanting.
+    /// Memory ran out.
     #[error("out of memory")]
     Memory,
 }

@@ -56,7 +56,7 @@ pub fn triangle_layers(alloc: Global, m: u32) -> Result<Vec<Row>, AllocError>
     rows(alloc, &counts)
 }
 
-/// These and the rows r, r - 1, r, .. r.
+/// These counts of bricks, and those of the rows r, r - 1, r, .. r.
 fn with_layer(mut counts: Vec<u32>, r: u32) -> Result<Vec<u32>, AllocError>
     requires least { 2 ≤ r }
     requires most { r ≤ 6 }

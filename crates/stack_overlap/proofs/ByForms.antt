@@ -72,7 +72,7 @@ ahead-form a b X = go a.x a.y b.x b.y X.x X.y X.w
         (bx -ℤ ax) *ℤ x +ℤ (by -ℤ ay) *ℤ y +ℤ ((ax -ℤ bx) *ℤ ax +ℤ (ay -ℤ by) *ℤ ay) *ℤ w
     go ax ay bx by x y w = simp expand (omega (arith, sums))
 
--- from the other end
+-- how far a point lies ahead on an edge, from its other end
 pub back-form : (a b : Point) (X : Triple) → ahead_of b a X ≡ square a b *ℤ X.w -ℤ value (along a b) X
 back-form a b X = go a.x a.y b.x b.y X.x X.y X.w
   where

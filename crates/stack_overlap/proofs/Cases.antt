@@ -28,7 +28,7 @@ use Rattle.stack_overlap.proofs.Edges.{edge_long, start-mark, end-mark}
 use Rattle.stack_overlap.proofs.Pieces.{same-mark, empty-stretch, point-stretch, segment-stretch}
 use Rattle.stack_overlap.proofs.CommonPoints.{cut}
 
--- the same segment, from its other end
+-- what lies between two corners lies between them in the other order
 pub between-reversed : (a b : Point) (X : Triple) → IsBetween a b X → IsBetween b a X
 between-reversed a b X h = record {
   on_line = minus (reversed a b X) h.on_line;

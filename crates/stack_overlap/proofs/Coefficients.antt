@@ -105,7 +105,7 @@ flat_coefficients u₁ v₁ u₂ v₂ u₃ v₃ = first (zero-or (u₁ *ℤ v₂
       ]
     ]
 
--- and four triples
+-- whole coefficients, not all 0, with which four triples sum to nothing
 pub record IsDependent (X₀ X₁ X₂ X₃ : Triple) (c₀ c₁ c₂ c₃ : ℤ) : Type 0 where
   pub x : c₀ *ℤ X₀.x +ℤ c₁ *ℤ X₁.x +ℤ c₂ *ℤ X₂.x +ℤ c₃ *ℤ X₃.x ≡ pos 0
   pub y : c₀ *ℤ X₀.y +ℤ c₁ *ℤ X₁.y +ℤ c₂ *ℤ X₂.y +ℤ c₃ *ℤ X₃.y ≡ pos 0

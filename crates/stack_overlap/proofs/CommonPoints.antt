@@ -98,7 +98,7 @@ module _ (P Q : List Point) (convex_p : IsConvex P) (three_p : 3 ≤ length P) (
         high_at : {z s y : ℤ} → y ≡ z -ℤ s → z ≼ s → y ≼ pos 0
         high_at e l = omega (arith, sums)
 
-    -- and all such points are common
+    -- all points between the two corners, on the edge, are common
     pub between_common : (X : Triple) → IsOnStretch a b lo hi X → IsBetween a b X → IsShared P Q X
     between_common X s t = record {
       first = edge_inside P convex_p three_p i h.is_edge X t;

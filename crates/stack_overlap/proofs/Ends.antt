@@ -135,7 +135,7 @@ module _ (a b : Point) (long : pos 0 ≺ square a b) (f t : ℤ) (F G : Point) (
       place_is : value (along a b) (reflection X c) ≡ pos 2 *ℤ value (along a b) X -ℤ k *ℤ X.w
       place_is = value-reflection (along a b) X c ∙ ap (λ z. pos 2 *ℤ value (along a b) X -ℤ z *ℤ X.w) hc.place
 
-  -- and there are no others
+  -- the ends of a stretch are its two marks, and there are no others
   pub ends : (X : Triple) → f ≼ t → IsExtremeIn C X → (IsAt X F) ⊎ (IsAt X G)
   ends X l h = elim (either_side ((value (along a b) X -ℤ f *ℤ X.w) -ℤ (t *ℤ X.w -ℤ value (along a b) X))) [
     | inl s ↦ inl (own-reflection X F (h.extreme (place F) (reflection X F) (mark-place F f from (self f) l)

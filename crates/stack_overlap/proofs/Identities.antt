@@ -196,7 +196,7 @@ forth-along a b c d = solve integers (nth integers (a.x ∷ a.y ∷ b.x ∷ b.y 
     ((v6 ⊖ v4) ⊗ (v2 ⊖ v0) ⊕ (v7 ⊖ v5) ⊗ (v3 ⊖ v1))
     (along_at v0 v1 v2 v3 v6 v7 ⊖ along_at v0 v1 v2 v3 v4 v5) refl
 
--- the same segment from its other end
+-- the place along a line, from its other end
 pub along-reversed : (a b : Point) (X : Triple) → value (along b a) X ≡ square a b *ℤ X.w -ℤ value (along a b) X
 along-reversed a b X = solve integers (nth integers (a.x ∷ a.y ∷ b.x ∷ b.y ∷ X.x ∷ X.y ∷ X.w ∷ []))
     (along_of v2 v3 v0 v1 v4 v5 v6)

@@ -123,7 +123,7 @@ tested {k} {n} {l} {h} e f = (λ t. less t, λ m. test m)
     test : l ≺ h → int_lt k n ≡ true
     test m = grind (arith, ints, e, f)
 
--- and the tests on two spans
+-- two spans have no point in common exactly where the tests on them say so
 pub one-apart : (a b : Span) (x : Bool) → IsTrue x ↔ HaveNoX a b → x ≡ true → IsTrue x ↔ AreDisjoint a b
 one-apart a b x h t = (λ i. (disjoint a b).0 (inl (h.0 i)), λ d. t)
 
@@ -199,7 +199,7 @@ pub none-common : (P Q : List Point) → IsPolygon P → IsPolygon Q → (a b : 
 none-common P Q p q a b h k d X c =
     d X (inside-span P p a h X c.first, inside-span Q q b k X c.second)
 
--- nor a point strictly inside both
+-- polygons without a common point have none strictly inside both
 pub none-overlap : (P Q : List Point) → ((X : Triple) → ¬ (IsCommon P Q X)) → ¬ (Overlaps P Q)
 none-overlap P Q none (X, (m, n)) = none X (record { first = λ i l. weak (m i l); second = λ i l. weak (n i l) })
   where

@@ -19,7 +19,7 @@ use Rattle.stack_overlap.specs.Forms.{LinearForm, value, at_corner, line}
 use Rattle.stack_overlap.proofs.ByForms.{IsConvex, IsInside}
 use Rattle.stack_overlap.proofs.Identities.{triangle, reversed, turned}
 
--- the next index
+-- the index after the last one, and after the others
 pub next-last : (n : ℕ) → next_round (suc n) n ≡ 0
 next-last n = go (eqb (suc n) (suc n)) (eqb_refl (suc n))
   where

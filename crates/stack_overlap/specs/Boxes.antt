@@ -13,14 +13,14 @@ pub record IsInSpan (s : Span) (X : Triple) : Type 0 where
   pub from_y0 : s.y0 *ℤ X.w ≼ X.y
   pub to_y1 : X.y ≼ s.y1 *ℤ X.w
 
--- no point lies within both
+-- no point lies within both spans
 abbrev pub AreDisjoint : Span → Span → Type 0
 AreDisjoint a b = (X : Triple) → ¬ (IsInSpan a X × IsInSpan b X)
 
--- no x lies within both, and no y does
+-- no x lies within both spans
 abbrev pub HaveNoX : Span → Span → Type 0
 HaveNoX a b = int_min a.x1 b.x1 ≺ int_max a.x0 b.x0
 
--- no y lies within both
+-- no y lies within both spans
 abbrev pub HaveNoY : Span → Span → Type 0
 HaveNoY a b = int_min a.y1 b.y1 ≺ int_max a.y0 b.y0

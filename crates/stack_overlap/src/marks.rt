@@ -23,7 +23,7 @@ pub struct Reach {
     pub high: Mark,
 }
 
-/// How far `c` lies ahead of `a` on the way to `b`, times their distance.
+/// How far `c` lies ahead of `a` on the way to `b`, times the distance of `a` and `b`.
 fn place_along(a: Point, b: Point, c: Point) -> i64
     requires a { IsInRange a }
     requires b { IsInRange b }

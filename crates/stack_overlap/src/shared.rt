@@ -97,7 +97,7 @@ fn common_on(p: &Polygon, i: usize, q: &Polygon) -> Common
     }
 }
 
-/// What two bodies have in common, seen from the other one.
+/// What two polygons have in common, told with the other one first.
 fn swap_common(c: Common) -> Common
     ensures { result ≡ swapped c }
 {

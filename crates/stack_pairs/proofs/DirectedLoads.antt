@@ -80,7 +80,7 @@ one_or_none false p q g l m n times dead h =
     same true x e = sym e
     same false x e = refl
 
--- of a number that a dead load hasn't and that grows with the force: m times that of load i, n times that of j
+-- the sum of a number that a dead load hasn't and that grows with the force: m times that of load i, n times that of j
 live_sum : (g : Load → ℤ) → ((m : ℤ) (l : Load) → g (times_load m l) ≡ m *ℤ g l) →
     ((l : Load) → l.live ≡ false → g l ≡ pos 0) → (i j : ℕ) (m n : ℤ) → i ≢ j → (k : ℕ) (ls : List Load) →
     sum_of g (directed_from i j m n k ls) ≡ m *ℤ pick g i k ls +ℤ n *ℤ pick g j k ls
@@ -98,7 +98,7 @@ live_sum g times dead i j m n d k (l ∷ ls) =
     gathered : (m n a b c d : ℤ) → m *ℤ a +ℤ n *ℤ b +ℤ (m *ℤ c +ℤ n *ℤ d) ≡ m *ℤ (a +ℤ c) +ℤ n *ℤ (b +ℤ d)
     gathered m n a b c d = simp expand (omega (arith, sums))
 
--- of a number that a live load hasn't: that of all loads
+-- the sum of a number that a live load hasn't: that of all loads
 dead_sum : (g : Load → ℤ) → ((l : Load) → l.live ≡ true → g l ≡ pos 0) → (i j : ℕ) (m n : ℤ) (k : ℕ)
     (ls : List Load) → sum_of g (directed_from i j m n k ls) ≡ sum_of g ls
 dead_sum g live i j m n k [] = refl
@@ -201,7 +201,7 @@ grows_m m o at f g = go m f g (at.x -ℤ o.x) (at.y -ℤ o.y)
 no_part : (a : ℤ) → a *ℤ pos 0 ≡ pos 0
 no_part a = simp expand (omega (arith, sums))
 
--- nor a moment
+-- no moment of a sway that isn't there
 no_turning : (a b : ℤ) → a *ℤ pos 0 -ℤ b *ℤ pos 0 ≡ pos 0
 no_turning a b = simp expand (omega (arith, sums))
 
@@ -215,11 +215,11 @@ no_sway w (o ∷ rest) = λ r. record {
       (w *ℤ sum_of_triangles level_moment_of_triangle o rest) r;
 }
 
--- with nothing
+-- 0 and a number
 alone : (x : ℤ) → pos 0 +ℤ x ≡ x
 alone x = omega (arith, sums)
 
--- nothing and a load
+-- no load and a load
 with_nothing : (v : Wrench) → wrench_sum no_load v ≡ v
 with_nothing v = λ r. record { fx = alone v.fx r; fy = alone v.fy r; m = alone v.m r }
 
@@ -248,7 +248,7 @@ directed_live s i j m n pair b =
     (λ r. wrench_sum (no_sway (unit_weight_of s b) (body_of s b).corners r) (listed_live s i j m n pair b r))
     ∙ with_nothing (wrench_sum (times_wrench m (wrench_on s i b)) (times_wrench n (wrench_on s j b)))
 
--- and its dead loads are those that there were
+-- the dead loads on a body of the directed structure are those of the structure
 pub directed_dead : (s : Structure) (i j : ℕ) (m n : ℤ) (b : ℕ) →
     loads_on Dead (directed_structure s i j m n) b ≡ loads_on Dead s b
 directed_dead s i j m n b = λ r. wrench_sum (weight_at s b) (record {

@@ -43,7 +43,7 @@ moves_toward : (s : Scene) (v w : ℕ → Wrench) (m n : ℤ) (moves : List Move
 moves_toward s v w m n moves =
     λ r i. cond (s.body i).free (get_or moves (before_toward s v w m n i r) still) still
 
--- and in each directed survey
+-- bodies move alike in each directed survey
 pub moves_directed : (s : Surveyed) (i j : ℕ) (m n : ℤ) (y : MotionValue) →
     move_at (directed_survey s i j m n) y ≡ move_at s y
 moves_directed s i j m n y = λ r b. cond ((scene_of s).body b).free
@@ -58,7 +58,7 @@ directed_power s i j m n y pair =
     (λ r. live_power_of (directed_scene s i j m n pair r) (moves_directed s i j m n y r))
     ∙ powers_add (scene_of s) (wrench_on s.structure i) (wrench_on s.structure j) m n (move_at s y)
 
--- the power of its dead loads
+-- the power of the dead loads of a directed survey
 pub directed_dead_power : (s : Surveyed) (i j : ℕ) (m n : ℤ) (y : MotionValue) → ArePair s.structure i j →
     dead_power_of (scene_of (directed_survey s i j m n)) (move_at (directed_survey s i j m n) y)
     ≡ dead_power_of (scene_of s) (move_at s y)
@@ -94,7 +94,7 @@ towards s v w m n f moves g = record {
     power = ap (live_power_of (toward s v w m n)) (moves_toward s v w m n moves)
         ∙ powers_add s v w m n (move_of s moves)
 
--- the plane's edge goes through the point
+-- the half-plane's edge goes through the point
 on_edge : (m n L D P Q d x xd y yd : ℤ) → pos 0 ≺ D → x *ℤ D ≡ m *ℤ L *ℤ xd → y *ℤ D ≡ n *ℤ L *ℤ yd →
     L *ℤ (m *ℤ P +ℤ n *ℤ Q) +ℤ D *ℤ d ≡ pos 0 →
     P *ℤ (x *ℤ yd) +ℤ Q *ℤ (y *ℤ xd) ≡ neg_ℤ d *ℤ (xd *ℤ yd)
@@ -189,7 +189,7 @@ bounds s i j m n f y proper pair g =
     (over-is (n *ℤ f.factor) f.scale t.scale_positive).cross
     (half_first s i j y pair) (half_second s i j y pair) refl
 
--- a pair of nothing
+-- where the dead loads are carried, the pair of nothing is
 nothing : (s : Scene) (v w : ℕ → Wrench) (m n : ℤ) → Carries (toward s v w m n) (pos 0) (pos 1) →
     CarriesLoads s v w (pos 0) (pos 0) (pos 1)
 nothing s v w m n c = subst₂ (λ a b. CarriesLoads s v w a b (pos 1)) (zero_times m) (zero_times n)

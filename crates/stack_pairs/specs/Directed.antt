@@ -21,7 +21,7 @@ abbrev pub directed_load : (i j : ℕ) (m n : ℤ) → ℕ → Load → List Loa
 directed_load i j m n k l = if l.live then (if nat_eq k i then times_load m l ∷ []
     else (if nat_eq k j then times_load n l ∷ [] else [])) else l ∷ []
 
--- of loads that are numbered from k on
+-- what is left of these loads, which are numbered from k on
 abbrev pub directed_from : (i j : ℕ) (m n : ℤ) → ℕ → List Load → List Load
 directed_from i j m n k [] = []
 directed_from i j m n k (l ∷ ls) = directed_load i j m n k l ++ directed_from i j m n (suc k) ls
@@ -30,7 +30,7 @@ directed_from i j m n k (l ∷ ls) = directed_load i j m n k l ++ directed_from 
 abbrev pub directed_structure : Structure → (i j : ℕ) (m n : ℤ) → Structure
 directed_structure s i j m n = bearing s (directed_from i j m n 0 s.loads) (pos 0, pos 0)
 
--- its survey: contacts depend neither on loads nor on the sway
+-- the survey of that structure: contacts depend neither on loads nor on the sway
 abbrev pub directed_survey : Surveyed → (i j : ℕ) (m n : ℤ) → Surveyed
 directed_survey s i j m n = surveyed (directed_structure s.structure i j m n) s.bearings s.touches
 
@@ -52,7 +52,7 @@ pub record IsSlightLive (s : Structure) (i : ℕ) : Type 0 where
   pub least_fy : negsuc 999999 ≼ (load_of s i).fy
   pub most_fy : (load_of s i).fy ≼ pos 1000000
 
--- two of them
+-- two different live loads, neither with a component of more than 1,000,000 in size
 pub record ArePair (s : Structure) (i j : ℕ) : Type 0 where
   pub different : i ≢ j
   pub first : IsSlightLive s i

@@ -42,7 +42,7 @@ pub record IsPairBalancedAt (s : Scene) (v w : ℕ → Wrench) (f : ℕ → Bear
       (λ k. bearing_side i (s.bearing k) *ℤ moment_of (s.body i) (s.bearing k) (f k))
       +ℤ scale *ℤ (s.body i).dead.m +ℤ a *ℤ (v i).m +ℤ b *ℤ (w i).m ≡ pos 0
 
--- every free body is
+-- every free body is in equilibrium under these
 abbrev pub IsPairBalanced : Scene → (ℕ → Wrench) → (ℕ → Wrench) → (ℕ → BearingPart) → ℤ → ℤ → ℤ → Type 0
 IsPairBalanced s v w f scale a b = (i : ℕ) → i < s.bodies → (s.body i).free ≡ true →
     IsPairBalancedAt s v w f scale a b i

@@ -43,7 +43,7 @@ terms_of x = (x.num, pos x.den)
 abbrev pub point_of : ℤ → ℤ → ForcesValue → PointValue
 point_of m n f = (terms_of (over (m *ℤ f.factor) f.scale), terms_of (over (n *ℤ f.factor) f.scale))
 
--- the power of load i alone and of load j alone on a motion, and less that of the dead loads
+-- the powers of load i alone and of load j alone on a motion, and minus the power of the dead loads
 abbrev pub half_of : Surveyed → (i j : ℕ) → MotionValue → HalfValue
 half_of s i j y = (
   live_power_of (scene_of (directed_survey s i j (pos 1) (pos 0))) (move_at (directed_survey s i j (pos 1) (pos 0)) y),
@@ -77,8 +77,8 @@ IsReaching (unbounded f r) = ⊤
 IsReaching (stands f) = ⊥
 IsReaching (collapses y) = ⊥
 
--- its certificate is true of the survey that is directed so, and of one of the two forms; the dead loads stand; the
--- point and the half-plane are those of the certificate
+-- the certificate of a reach is true of the survey that is directed so, and of one of the two forms; the dead loads
+-- stand; the point and the half-plane are those of the certificate
 pub record IsReach (s : Surveyed) (i j : ℕ) (r : ReachValue) : Type 0 where
   pub holds : IsTrueCertificate (directed_survey s i j r.m r.n) r.certificate
   pub form : IsReaching r.certificate

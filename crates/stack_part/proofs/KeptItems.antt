@@ -20,7 +20,7 @@ before_rises keeps (suc i) (suc j) k l = go (keeps 0) (before_rises (later keeps
     go true h = omega (arith, h)
     go false h = h
 
--- neither is less
+-- of two numbers of which neither is less, both are one
 is_same : (m n : ℕ) → n ≤ m → m ≤ n → m ≡ n
 is_same m n a b = omega arith
 
@@ -43,7 +43,7 @@ pub record IsItem {A : Type 0} (keeps : ℕ → Bool) (xs : List A) (j n : ℕ) 
   pub same : (d : A) → get_or (kept keeps xs) j d ≡ get_or xs n d
 
 module _ {A : Type 0} where
-  -- behind an item that is kept
+  -- an item of the rest, behind a first one that is kept
   item_later : (keeps : ℕ → Bool) (x : A) (xs : List A) (j n : ℕ) → keeps 0 ≡ true
       → IsItem (later keeps) xs j n → IsItem keeps (x ∷ xs) (suc j) (suc n)
   item_later keeps x xs j n e h = record {
@@ -53,7 +53,7 @@ module _ {A : Type 0} where
     same = λ d. rw e (h.same d);
   }
 
-  -- behind an item that isn't
+  -- an item of the rest, behind a first one that isn't kept
   item_same : (keeps : ℕ → Bool) (x : A) (xs : List A) (j n : ℕ) → keeps 0 ≡ false
       → IsItem (later keeps) xs j n → IsItem keeps (x ∷ xs) j (suc n)
   item_same keeps x xs j n e h = record {

@@ -52,7 +52,7 @@ module _ {A : Type 0} where
       go true h = omega (arith, h)
       go false h = omega (arith, h)
 
-  -- nor are more of those that pass a test
+  -- of the items that pass a test no more are kept than there are
   pub kept_counted : (p : A → Bool) (keeps : ℕ → Bool) (xs : List A)
       → count_by p (kept keeps xs) ≤ count_by p xs
   kept_counted p keeps [] = omega arith

@@ -22,7 +22,7 @@ module _ {A : Type 0} where
       none : (n : ℕ) → 0 + n ≡ n
       none n = omega arith
 
-  -- with the next item, where it is kept
+  -- the items kept so far with the next one, where it is kept
   pub goes_on : (left : List A) (flags : List Bool) (i : ℕ) (rest xs : List A) (x : A) (more next : List A) (t : Bool)
       → IsKeptSoFar left flags i rest xs → rest ≡ x ∷ more → flag_at flags i ≡ t
       → next ≡ left ++ (if t then x ∷ [] else []) → IsKeptSoFar next flags (i + 1) more xs

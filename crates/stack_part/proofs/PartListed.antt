@@ -16,7 +16,7 @@ use Rattle.stack_part.specs.Part.{part_of}
 use Rattle.stack_part.proofs.KeptLists.{kept_same}
 use Rattle.stack_part.proofs.PartSound.{part_sound, blocks_kept, loads_kept}
 
--- what flags keep
+-- flags keep the items that the numbers keep
 by_flags : {A : Type 0} (n : ℕ) (keeps : ℕ → Bool) (flags : List Bool) (xs : List A) → AreFlags n keeps flags
     → length xs ≡ n → kept (flag_at flags) xs ≡ kept keeps xs
 by_flags n keeps flags xs h e = kept_same (flag_at flags) keeps xs (λ i l. h.each i (subst (λ m. i < m) e l))
@@ -36,7 +36,7 @@ module _ (keeps : ℕ → Bool) (s : Structure) (h : IsSound s) where
       (length-map s.loads (load_listed s.bodies))
       ∙ sym (loads_kept keeps s h)
 
--- taken without a fault
+-- what taking gives of a structure without a fault
 abbrev taken_as : Structure → Result Structure ModelError
 taken_as s = Ok s
 
@@ -50,7 +50,7 @@ module _ (keeps : ℕ → Bool) (s : Structure) (h : IsSound s) (parts : PartLis
   part_taken : content_of parts ≡ taken_as (part_of keeps s)
   part_taken = ap content_of e ∙ taken (part_of keeps s) (part_sound keeps s h)
 
-  -- without a fault
+  -- the parts of kept items are taken without a fault
   pub is_taken : IsOk (content_of parts)
   is_taken = subst IsOk (sym part_taken) refl
 
@@ -58,11 +58,11 @@ module _ (keeps : ℕ → Bool) (s : Structure) (h : IsSound s) (parts : PartLis
   pub of_version : IsOfVersion parts
   of_version = subst IsOfVersion (sym e) (relisted_of_version (part_of keeps s) (part_sound keeps s h).version)
 
-  -- so the model that is made of them is the part
+  -- the model that is made of these parts is the part
   pub made : (a : Structure) → content_of parts ≡ taken_as a → a ≡ part_of keeps s
   made a g = same_taken a (part_of keeps s) (sym g ∙ part_taken)
 
-  -- where memory isn't wanting
+  -- the model that is made, unless memory ran out, is the part
   pub made_so : (r : Result Structure AllocError) → IfOk r (λ a. content_of parts ≡ taken_as a)
       → IfOk r (λ a. a ≡ part_of keeps s)
   made_so (Ok a) g = made a g

@@ -98,7 +98,7 @@ module _ (keeps : ℕ → Bool) (s : Structure) (h : IsSound s) where
   no_more : (m n k : ℕ) → m ≤ n → n ≤ k → m ≤ k
   no_more m n k a b = omega arith
 
-  -- so all holds of the part that holds of the whole
+  -- all that holds of a sound structure holds of the part
   pub part_sound : IsSound part
   part_sound = record {
     materials = h.materials;
@@ -119,11 +119,11 @@ module _ (keeps : ℕ → Bool) (s : Structure) (h : IsSound s) where
     different_pairs = h.different_pairs;
   }
 
-  -- its blocks are the kept ones
+  -- the blocks of the part are the kept ones
   pub blocks_kept : (relisted part).blocks ≡ kept keeps (relisted s).blocks
   blocks_kept = kept_map (body_listed s.materials) keeps s.bodies
 
-  -- its loads are those on kept bodies, since a load names its block
+  -- the loads of the part are those on kept bodies, since a load names its block
   pub loads_kept : (relisted part).loads ≡ kept (λ i. keeps (load_of s i).body) (relisted s).loads
   loads_kept = picked_map (load_listed part.bodies) (load_listed s.bodies) (λ l. keeps l.body) (load_among keeps) _
       s.loads (λ i l k. λ j. let r : LoadPart = record (load_listed s.bodies (load_of s i)) {

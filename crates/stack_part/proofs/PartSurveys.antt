@@ -188,7 +188,7 @@ module _ (keeps : ℕ → Bool) (s : Structure) where
         (λ y z a b c. let t = both_true _ _ a in before_on _ _ _ _ _ _ t.0 t.1 c) zs h.in_order;
   }
 
--- so all of a survey is
+-- the part of a survey is the survey of the part
 pub part_surveyed : PartsAreSurveyed
 part_surveyed keeps s v h = record {
   structure = ap (part_of keeps) h.structure;

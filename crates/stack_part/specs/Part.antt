@@ -48,7 +48,7 @@ bearings_among keeps zs = picked (λ z. keeps z.first && keeps z.second) (bearin
 abbrev pub touches_among : (ℕ → Bool) → List Touch → List Touch
 touches_among keeps zs = picked (λ z. keeps z.first && keeps z.second) (touch_among keeps) zs
 
--- the same of a survey
+-- the part of a survey: of its structure, its bearings and its touches
 abbrev pub surveyed_part : (ℕ → Bool) → Surveyed → Surveyed
 surveyed_part keeps v =
     surveyed (part_of keeps v.structure) (bearings_among keeps v.bearings) (touches_among keeps v.touches)

@@ -20,7 +20,7 @@ near z h = record { low = grind (arith, ints); high = grind (arith, ints) }
 pub in_range : (c : Point) → is_in_range c ≡ true → IsInRange c
 in_range c h = let p = both_true (is_near c.x) (is_near c.y) h in record { x = near c.x p.0; y = near c.y p.1 }
 
--- and back
+-- a coordinate in range passes the test
 to_near : (z : ℤ) → IsNear z → is_near z ≡ true
 to_near z h = let low = h.low in let high = h.high in grind (arith, ints)
 

@@ -11,7 +11,7 @@ use Rattle.stack_polygon.specs.declared.point.Span.{Span}
 use Rattle.stack_polygon.specs.Corners.{corner_of}
 use Rattle.stack_polygon.specs.Spans.{IsLeast, IsGreatest, IsSpanTo}
 
--- with one number more: the test decides which of the two stays
+-- the least of one number more: the test decides which of the two stays
 least-more : (n : ℕ) (f : ℕ → ℤ) (z c : ℤ) → c ≡ f n → IsLeast n f z → IsLeast (n + 1) f (int_min z c)
 least-more n f z c e h = go (int_lt c z) refl
   where

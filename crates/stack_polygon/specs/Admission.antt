@@ -11,7 +11,7 @@ use Rattle.stack_polygon.specs.Corners.{corner_of, reversed, IsClear, IsStrictly
 use Rattle.stack_polygon.specs.Limits.{IsInRange, AreInRange, is_in_range, are_in_range}
 use Rattle.stack_polygon.specs.Outlines.{first_failing, outline_of}
 
--- as many as a polygon has
+-- a number of corners that a polygon may have
 pub record IsCount (n : ℕ) : Type 0 where
   pub least : 3 ≤ n
   pub most : n ≤ 32
@@ -42,7 +42,7 @@ IsRefusedAs ps (Range i) = IsCount (length ps) × IsFirstFar ps i
 IsRefusedAs ps (NotConvex e) =
     IsCount (length ps) × AreInRange ps × IsFirstUnclear ps e × (¬ (IsStrictlyConvex (reversed ps)))
 
--- the same by tests
+-- whether a polygon may have so many corners
 abbrev pub is_count : ℕ → Bool
 is_count n = nat_le 3 n && nat_le n 32
 

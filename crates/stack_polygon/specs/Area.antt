@@ -20,7 +20,7 @@ twice_area_of ps = fan_of triangle_of ps
 abbrev pub moment_about_y_of : Point → Point → Point → ℤ
 moment_about_y_of o p q = triangle_of o p q *ℤ (o.x +ℤ p.x +ℤ q.x)
 
--- and about the x axis, with their y
+-- six times the first moment about the x axis of a triangle is twice its area times the sum of its corners' y
 abbrev pub moment_about_x_of : Point → Point → Point → ℤ
 moment_about_x_of o p q = triangle_of o p q *ℤ (o.y +ℤ p.y +ℤ q.y)
 

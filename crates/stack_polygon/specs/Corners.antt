@@ -16,7 +16,7 @@ use Rattle.stack_polygon.specs.Plane.{Triple, triangle_of, left_of}
 abbrev pub origin : Point
 origin = record { x = pos 0; y = pos 0 }
 
--- corner i
+-- corner i of a list
 abbrev pub corner_of : List Point → ℕ → Point
 corner_of ps i = get_or ps i origin
 
@@ -32,15 +32,15 @@ side_of ps i c = triangle_of (corner_of ps i) (end_of ps i) c
 abbrev pub IsClear : List Point → ℕ → Type 0
 IsClear ps i = (j : ℕ) → j < length ps → j ≢ i → j ≢ next_round (length ps) i → pos 0 ≺ side_of ps i (corner_of ps j)
 
--- and so for each edge
+-- every other corner lies strictly left of each edge
 abbrev pub IsStrictlyConvex : List Point → Type 0
 IsStrictlyConvex ps = (i : ℕ) → i < length ps → IsClear ps i
 
--- left of the line of every edge, or on it
+-- a point left of the line of every edge, or on it
 abbrev pub IsInside : List Point → Triple → Type 0
 IsInside ps X = (i : ℕ) → i < length ps → pos 0 ≼ left_of (corner_of ps i) (end_of ps i) X
 
--- strictly left of the line of every edge
+-- a point strictly left of the line of every edge
 abbrev pub IsStrictlyInside : List Point → Triple → Type 0
 IsStrictlyInside ps X = (i : ℕ) → i < length ps → pos 0 ≺ left_of (corner_of ps i) (end_of ps i) X
 

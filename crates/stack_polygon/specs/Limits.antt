@@ -11,12 +11,12 @@ use Rattle.stack_algebra.specs.IntegerOrder.{◌≼◌}
 use Rattle.stack_polygon.specs.declared.point.Point.{Point}
 use Rattle.stack_polygon.specs.Corners.{corner_of, IsStrictlyConvex}
 
--- from -1,000,000 to 1,000,000, as a fact and as a test
+-- a coordinate from -1,000,000 to 1,000,000
 pub record IsNear (z : ℤ) : Type 0 where
   pub low : negsuc 999999 ≼ z
   pub high : z ≼ pos 1000000
 
--- the same by a test
+-- whether a coordinate is in range
 abbrev pub is_near : ℤ → Bool
 is_near z = int_le (negsuc 999999) z && int_le z (pos 1000000)
 
@@ -25,11 +25,11 @@ pub record IsInRange (c : Point) : Type 0 where
   pub x : IsNear c.x
   pub y : IsNear c.y
 
--- the same by a test
+-- whether both coordinates of a point are in range
 abbrev pub is_in_range : Point → Bool
 is_in_range c = is_near c.x && is_near c.y
 
--- every corner in range, by a test
+-- whether every corner is in range
 abbrev pub are_in_range : List Point → Bool
 are_in_range ps = list_all is_in_range ps
 

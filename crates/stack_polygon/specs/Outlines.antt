@@ -11,20 +11,20 @@ use Rattle.stack_polygon.specs.declared.point.Point.{Point}
 use Rattle.stack_algebra.specs.Search.{next_round}
 use Rattle.stack_polygon.specs.Corners.{corner_of, side_of, reversed}
 
--- corner j is an end of edge i, or lies strictly left of it
+-- whether corner j is an end of edge i, or lies strictly left of it
 abbrev pub is_left_or_end : List Point → ℕ → ℕ → Bool
 is_left_or_end ps i j = (j == i || j == next_round (length ps) i) || int_lt (pos 0) (side_of ps i (corner_of ps j))
 
--- every number below n passes
+-- whether every number below n passes
 abbrev pub all_below : (ℕ → Bool) → ℕ → Bool
 all_below p zero = true
 all_below p (suc n) = all_below p n && p n
 
--- every other corner lies strictly left of edge i
+-- whether every other corner lies strictly left of edge i
 abbrev pub is_clear : List Point → ℕ → Bool
 is_clear ps i = all_below (is_left_or_end ps i) (length ps)
 
--- and so for each edge: the list is strictly convex
+-- whether the list is strictly convex: so it is for each edge
 abbrev pub is_convex : List Point → Bool
 is_convex ps = all_below (is_clear ps) (length ps)
 

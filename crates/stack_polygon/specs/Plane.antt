@@ -26,7 +26,7 @@ pub record IsAt (X : Triple) (c : Point) : Type 0 where
 abbrev pub triangle_of : Point → Point → Point → ℤ
 triangle_of o p q = (p.x -ℤ o.x) *ℤ (q.y -ℤ o.y) -ℤ (p.y -ℤ o.y) *ℤ (q.x -ℤ o.x)
 
--- the same for any point X of the plane, times its w
+-- twice the area of the triangle o, p, X for any point X of the plane, times its w
 abbrev pub left_of : Point → Point → Triple → ℤ
 left_of o p X = (p.x -ℤ o.x) *ℤ (X.y -ℤ o.y *ℤ X.w) -ℤ (p.y -ℤ o.y) *ℤ (X.x -ℤ o.x *ℤ X.w)
 
@@ -34,6 +34,6 @@ left_of o p X = (p.x -ℤ o.x) *ℤ (X.y -ℤ o.y *ℤ X.w) -ℤ (p.y -ℤ o.y) 
 abbrev pub advance_of : Point → Point → Point → ℤ
 advance_of o p q = (p.x -ℤ o.x) *ℤ (q.x -ℤ o.x) +ℤ (p.y -ℤ o.y) *ℤ (q.y -ℤ o.y)
 
--- the same for any point X of the plane, times its w
+-- how far any point X of the plane lies ahead of o on the way to p, times the distance of o and p and times its w
 abbrev pub ahead_of : Point → Point → Triple → ℤ
 ahead_of o p X = (p.x -ℤ o.x) *ℤ (X.x -ℤ o.x *ℤ X.w) +ℤ (p.y -ℤ o.y) *ℤ (X.y -ℤ o.y *ℤ X.w)

@@ -4,27 +4,27 @@ use lib.IntN.{ℤ, pos, negsuc, neg_ℤ}
 use Rattle.stack_algebra.specs.IntegerOrder.{◌≼◌}
 use Rattle.stack_polygon.specs.declared.fan.Sums.{Sums}
 
--- at most 2,000,000 in size, as a difference of coordinates is
+-- a number of at most 2,000,000 in size, as a difference of coordinates is
 pub record IsStep (z : ℤ) : Type 0 where
   pub low : negsuc 1999999 ≼ z
   pub high : z ≼ pos 2000000
 
--- at most the square of 2,000,000 in size
+-- a number of at most the square of 2,000,000 in size
 pub record IsSquare (z : ℤ) : Type 0 where
   pub low : negsuc 3999999999999 ≼ z
   pub high : z ≼ pos 4000000000000
 
--- at most 3,000,000 in size, as the sum of three coordinates is
+-- a number of at most 3,000,000 in size, as the sum of three coordinates is
 pub record IsThreeCoordinates (z : ℤ) : Type 0 where
   pub low : negsuc 2999999 ≼ z
   pub high : z ≼ pos 3000000
 
--- at most 8 * 10^12 in size, as twice a triangle's area is
+-- a number of at most 8 * 10^12 in size, as twice a triangle's area is
 pub record IsTwiceArea (z : ℤ) : Type 0 where
   pub low : negsuc 7999999999999 ≼ z
   pub high : z ≼ pos 8000000000000
 
--- at most n times a bound in size
+-- a number of at most n times a bound in size
 pub record IsWithin (n bound : ℕ) (z : ℤ) : Type 0 where
   pub low : neg_ℤ (pos (n * bound)) ≼ z
   pub high : z ≼ pos (n * bound)

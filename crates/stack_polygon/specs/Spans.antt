@@ -14,7 +14,7 @@ pub record IsLeast (n : ℕ) (f : ℕ → ℤ) (z : ℤ) : Type 0 where
   pub within : (j : ℕ) → j < n → z ≼ f j
   pub reached : (j : ℕ) × ((j < n) × (f j ≡ z))
 
--- z is the greatest of them
+-- z is the greatest of the first n numbers f: none is greater, and one is z
 pub record IsGreatest (n : ℕ) (f : ℕ → ℤ) (z : ℤ) : Type 0 where
   pub within : (j : ℕ) → j < n → f j ≼ z
   pub reached : (j : ℕ) × ((j < n) × (f j ≡ z))

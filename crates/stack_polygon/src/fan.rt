@@ -56,7 +56,7 @@ fn of_triangle(o: Point, p: Point, q: Point) -> Sums
     }
 }
 
-/// Both together, of at most 32 triangles.
+/// Two sums together, of at most 32 triangles.
 fn plus(a: Sums, b: Sums, count: usize) -> Sums
     requires count { count ≤ 32 }
     requires a { AreTriangleSums count a }
@@ -73,7 +73,7 @@ fn plus(a: Sums, b: Sums, count: usize) -> Sums
     }
 }
 
-/// The sums over the fan.
+/// The sums over the fan of triangles from the first corner.
 pub fn fan(corners: &[Point]) -> Sums
     requires least { 3 ≤ length corners.now }
     requires most { length corners.now ≤ 32 }

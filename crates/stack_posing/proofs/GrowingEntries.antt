@@ -25,7 +25,7 @@ not_equal a b d = go (eqb a b) (eqb→eq a b)
     go true e = absurd (d (e tt))
     go false e = refl
 
--- below n is below the next
+-- what is below n is below the next number
 below_next : (a n : ℕ) → nat_lt a n ≡ true → nat_lt a (suc n) ≡ true
 below_next a n h = let l = ltb-true a n h in lt-ltb a (suc n) (omega (arith, l))
 
@@ -58,7 +58,7 @@ small : (z : ℤ) → IsBelowBound z → is_small z ≡ true
 small (pos k) h = lt-ltb k load_bound h
 small (negsuc k) h = lt-ltb (suc k) load_bound h
 
--- and takes an entry of row n
+-- a column of the first n rows takes an entry of row n
 one_column : (n from : ℕ) (xs : List Entry) (value : ℤ) → from ≤ n → IsBelowBound value → is_column n from xs ≡ true
     → is_column (suc n) from (xs ++ record { row = n; value = value } ∷ []) ≡ true
 one_column n from [] value le s h =
@@ -89,7 +89,7 @@ at_end n from i (x ∷ xs) value h =
     go (no d) = ap (λ t. cond (eqb x.row i) x.value (cond t value (entry_in xs i))) (not_equal n i d)
         ∙ sym (ap (λ t. cond t value (cond (eqb x.row i) x.value (entry_in xs i))) (not_equal n i d))
 
--- of a function, the values in the first n rows and the one in row n are those in the first n + 1
+-- the values of a function in the first n rows and the one in row n are those in the first n + 1
 next_row : (n i : ℕ) (f : ℕ → ℤ) (d : ℤ) → cond (eqb n i) (f n) (cond (ltb i n) (f i) d) ≡ cond (ltb i (suc n)) (f i) d
 next_row n i f d = go (ℕ_discrete n i)
   where
@@ -113,7 +113,7 @@ one_thing : (xs : List Entry) (x : Entry) → AreSomething xs → IsSomething x 
 one_thing [] x h s = (s, tt)
 one_thing (y ∷ xs) x h s = (h.0, one_thing xs x h.1 s)
 
--- one more row
+-- a column of entries with one more row
 pub one_more : (n : ℕ) (f : ℕ → ℤ) (xs : List Entry) (value : ℤ) → AreEntries n f xs → f n ≡ value → IsBelowBound value
     → AreEntries (suc n) f (with_value xs n value)
 one_more n f xs value h e s = go (int_eq value (pos 0)) refl
@@ -163,7 +163,7 @@ one_block b f xs w h x y m s =
     three : suc (3 * b + 2) ≡ 3 * (b + 1)
     three = omega arith
 
--- no rows
+-- a column of no rows has no entries
 pub no_entries : (f : ℕ → ℤ) → AreEntries 0 f []
 no_entries f = record {
   values = λ i. sym (ap (λ t. cond t (f i) (pos 0)) (le-ltb i 0 (omega arith)));

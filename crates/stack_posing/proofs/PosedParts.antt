@@ -152,6 +152,6 @@ next_bearing v k cs one new c d l first second plus minus h = subst (AreColumns 
         (edge_column_is v j k 1 d.entries.items (omega (arith, l, m))
         (omega (arith, m, q)) (omega (arith, m, q)) minus)
 
--- no bearing
+-- before the first bearing there is no column
 pub no_columns : (v : Surveyed) → AreColumns v 0 []
 no_columns v = record { count = refl; columns = λ j l. absurd (omega (arith, l)) }

@@ -29,7 +29,7 @@ use Rattle.stack_posing.proofs.PosedParts.{next_block}
 
 -- entries of wrenches w on all bodies, as they grow by bodies
 module _ (v : Surveyed) (w : ℕ → Wrench) where
-  -- those of all bodies before body i
+  -- the entries are those of all bodies before body i
   abbrev pub Before : ℕ → List Entry → Type 0
   Before i xs = AreEntries (3 * frees_before v.structure.bodies i) (row_share (scene_of v) w) xs
 
@@ -41,7 +41,7 @@ module _ (v : Surveyed) (w : ℕ → Wrench) where
       same : frees_before v.structure.bodies i ≡ frees_before v.structure.bodies (suc i)
       same = let e = ap {B = ℕ} (λ t. cond (not t) 1 0) f in omega (arith, e)
 
-  -- or is free and has those of its wrench
+  -- body i is free, and has the entries of its wrench
   free_body : (i : ℕ) (xs new : List Entry) (r : Wrench) → i < length v.structure.bodies
       → (body_at v.structure.bodies i).fixed ≡ false → r ≡ w i → IsSmall r
       → new ≡ with_wrench xs (frees_before v.structure.bodies i) r → Before i xs → Before (suc i) new
@@ -52,7 +52,7 @@ module _ (v : Surveyed) (w : ℕ → Wrench) where
       same : frees_before v.structure.bodies i + 1 ≡ frees_before v.structure.bodies (suc i)
       same = let e = ap {B = ℕ} (λ t. cond (not t) 1 0) f in omega (arith, e)
 
-  -- the same of an answer for free block b, which is body i
+  -- body i is free block b, and what is answered has the entries of its wrench
   pub free_answer : (i b : ℕ) (xs : List Entry) (r : Wrench) (o : Result (Vec Entry Global) AllocError)
       → i < length v.structure.bodies → (body_at v.structure.bodies i).fixed ≡ false
       → b ≡ frees_before v.structure.bodies i → r ≡ w (body_number v b) → IsSmall r
@@ -75,7 +75,7 @@ module _ (v : Surveyed) (w : ℕ → Wrench) where
       go true f = fixed_body i xs f h
       go false f = free_body i xs xs no_wrench l f (sym e) nothing_small refl h
 
-  -- nor have d such bodies
+  -- d bodies without a wrench add no entries
   passed : (i d : ℕ) (xs : List Entry) → i + d ≤ length v.structure.bodies
       → ((j : ℕ) → i ≤ j → j < i + d → w j ≡ no_wrench) → Before i xs → Before (i + d) xs
   passed i zero xs l e h = subst (λ n. Before n xs) same h
@@ -89,7 +89,7 @@ module _ (v : Surveyed) (w : ℕ → Wrench) where
       next : suc (i + d) ≡ i + suc d
       next = omega arith
 
-  -- nor have those from body i to body n
+  -- the bodies from body i to body n add none, where none has a wrench
   passed_to : (i n : ℕ) (xs : List Entry) → i ≤ n → n ≤ length v.structure.bodies
       → ((j : ℕ) → i ≤ j → j < n → w j ≡ no_wrench) → Before i xs → Before n xs
   passed_to i n xs l m e h = subst (λ k. Before k xs) whole

@@ -80,7 +80,7 @@ module _ (v : Surveyed) where
       both_ways true = refl
       both_ways false = refl
 
-  -- the factor's column
+  -- the entries of the factor's column are those that the problem has
   factor_entered : (q : Question) (o : Option Column) → AreFactorEntries q v o → (a : ℕ)
       → entry_in (factor_entries o) a ≡ placed (factor_on q (scene_of v)) a
   factor_entered Dead o h a = ap (λ p. entry_in (factor_entries p) a) h
@@ -98,7 +98,7 @@ module _ (v : Surveyed) where
           (cond (eqb j (2 * length v.bearings)) (factor_on p (scene_of v) i) no_wrench))
           (lt-ltb j (2 * length v.bearings) l)
 
-  -- past the columns there is nothing
+  -- past the columns of a problem no wrench stands
   none_past : (q : Question) (j : ℕ) → 2 * length v.bearings < j → (i : ℕ) → column_on q (scene_of v) j i ≡ no_wrench
   none_past q j l i = (λ n. cond (le-ltb j (2 * length v.bearings) (omega (arith, l)) n)
       (edge_on (scene_of v) (eqb (j % 2) 0) (j / 2) i)

@@ -14,7 +14,7 @@ use Rattle.stack_table.specs.declared.problem.Problem.{Problem as Lent}
 use Rattle.stack_table.specs.Lent.{factor_entries}
 use Rattle.stack_posing.specs.Entries.{AreEntries, AreSomething}
 
--- three for each free block: along x, along y and of moments
+-- how many rows a survey's problem has, three for each free block: along x, along y and of moments
 abbrev pub rows_of : Surveyed → ℕ
 rows_of v = 3 * length (frees_of v.structure.bodies)
 
@@ -33,7 +33,7 @@ pub record AreColumns (v : Surveyed) (k : ℕ) (cs : List Column) : Type 0 where
   pub columns : (j : ℕ) → j < 2 * k
       → AreEntries (rows_of v) (row_share (scene_of v) (column_on Dead (scene_of v) j)) (entries_of cs j)
 
--- the factor column
+-- the factor column has the entries of the live loads; there is none where the dead loads are asked about
 abbrev pub AreFactorEntries : Question → Surveyed → Option Column → Type 0
 AreFactorEntries Dead v o = o ≡ None
 AreFactorEntries Live v None = ⊥

@@ -26,7 +26,7 @@ pub record AreEntries (n : ℕ) (f : ℕ → ℤ) (xs : List Entry) : Type 0 whe
 abbrev pub with_value : List Entry → ℕ → ℤ → List Entry
 with_value xs row value = if int_eq value (pos 0) then xs else xs ++ record { row = row; value = value } ∷ []
 
--- the three of a wrench on free block b
+-- the three entries of a wrench on free block b, each unless it is 0, behind those before
 abbrev pub with_wrench : List Entry → ℕ → Wrench → List Entry
 with_wrench xs b w = with_value (with_value (with_value xs (3 * b) w.fx) (3 * b + 1) w.fy) (3 * b + 2) w.m
 

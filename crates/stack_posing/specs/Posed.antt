@@ -50,7 +50,7 @@ posed_shape q s = record { rows = 3 * free_bodies s; contacts = 2 * s.bearings; 
 abbrev pub right_share : Scene → ℕ → ℤ
 right_share s i = neg_ℤ (row_share s (dead_on s) i)
 
--- the problem
+-- the problem of a scene, for a question
 abbrev pub posed : Question → Scene → Problem
 posed q s = record {
   shape = posed_shape q s;

@@ -21,7 +21,7 @@ fn with_entry(mut entries: Vec<Entry>, entry: Entry) -> Result<Vec<Entry>, Alloc
     Ok(entries)
 }
 
-/// The entries with the three of a wrench on free block `b`.
+/// The entries with those of a wrench on free block `b`: at most three, since those that are 0 are left out.
 pub fn with_wrench(entries: Vec<Entry>, b: usize, wrench: Wrench) -> Result<Vec<Entry>, AllocError>
     requires { b < 128 }
     ensures { IfOk result (λ v. v.items ≡ with_wrench_of entries.items b wrench) }
@@ -49,7 +49,7 @@ pub fn with_wrench(entries: Vec<Entry>, b: usize, wrench: Wrench) -> Result<Vec<
     )
 }
 
-/// The other direction.
+/// A number with the other sign.
 fn opposite(value: i128) -> Whole
     requires { IsBelowBound value }
     ensures { result ≡ whole (neg_ℤ value) }

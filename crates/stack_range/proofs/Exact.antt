@@ -28,7 +28,7 @@ record Reaches (s : Scene) (n D : ℤ) : Type 0 where
   pub above : n *ℤ scale ≼ factor *ℤ D
   pub carried : Carries s factor scale
 
--- forces that balance
+-- forces of a true certificate carry their factor
 loaded : (s : Scene) (f : SceneForces) → IsTrueLoaded s f → Carries s f.factor f.scale
 loaded s f h = record {
   k = pos 1;
@@ -67,7 +67,7 @@ reaches s (unlimited base ray) n D proper h hd w = by_lt_z (base.factor *ℤ D) 
       carried = loaded s (forces_of base) h.loaded;
     })
 
--- and each factor that is carried is within it
+-- each factor that is carried is within the end
 within : (s : Scene) (e : EndValue) (n D : ℤ) → IsProper s → Certifies s (held (end_certificate e)) → Carries s n D →
     IsWithin e n D
 within s (at f y) n D proper h c = by_lt_z (f.factor *ℤ D) (n *ℤ f.scale)
@@ -108,7 +108,7 @@ module _ (s : Scene) (low high : EndValue) (proper : IsProper s) (g : Certifies 
       twice : (f : ℤ) → f ≡ neg_ℤ (neg_ℤ f)
       twice f = omega (arith, ints)
 
--- both, for the scene of a survey
+-- what is carried is exactly what is within both ends, for the scene of a survey
 pub ranges_are_exact : RangesAreExact
 ranges_are_exact v low high proper g l n D hd =
     let t = subst (λ s. Certifies s (held (end_certificate low))) (reversed_scenes_are_theirs v) l in

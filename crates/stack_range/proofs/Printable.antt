@@ -13,11 +13,11 @@ has_scale : (v : Surveyed) (e : EndValue) → IsTrueCertificate v (end_certifica
 has_scale v (at f y) h = h.loaded.scale_positive
 has_scale v (unlimited base ray) h = tt
 
--- an end
+-- an end with a judged certificate can be printed
 one : (v : Surveyed) (e : EndValue) → IsJudged Live v (end_certificate e) → IsPrintable e
 one v e h = record { scale = has_scale v e h.holds; fits = h.fits }
 
--- both ends, or a collapse
+-- a range that is told can be printed: both ends, or a collapse
 pub printable : (v : Surveyed) (r : RangeValue) → IsRange v r → CanPrint r
 printable v (collapsing y) h = h.fits
 printable v (between low high) h = record {

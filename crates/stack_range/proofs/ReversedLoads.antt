@@ -16,7 +16,7 @@ least : (live : Bool) (f : ℤ) → negsuc 999999999 ≼ f → f ≼ pos 1000000
 least true f l m = omega (arith, ints)
 least false f l m = l
 
--- and no greater
+-- a part of a reversed force is no greater than the limit
 most : (live : Bool) (f : ℤ) → negsuc 999999999 ≼ f → f ≼ pos 1000000000 →
     (if live then neg_ℤ f else f) ≼ pos 1000000000
 most true f l m = omega (arith, ints)

@@ -69,7 +69,7 @@ sway_opposite sway w (o ∷ rest) = λ i. record {
 opposite_sum : (a b : ℤ) → neg_ℤ a +ℤ neg_ℤ b ≡ neg_ℤ (a +ℤ b)
 opposite_sum a b = omega (arith, sums)
 
--- of two loads together too
+-- the sum of two opposite loads is the opposite of their sum
 opposite_both : (a b : Wrench) → wrench_sum (opposite a) (opposite b) ≡ opposite (wrench_sum a b)
 opposite_both a b = λ i. record {
   fx = opposite_sum a.fx b.fx i;
@@ -88,7 +88,7 @@ summed : (s : Structure) (f : ℕ → ℤ) (g : ℕ → ℤ) → ((k : ℕ) → 
     sum_to (length (map reversed_load s.loads)) f ≡ sum_to (length s.loads) g
 summed s f g h = ap (λ n. sum_to n f) (length-map s.loads reversed_load) ∙ sum_same integers (length s.loads) f g h
 
--- the opposite one
+-- a sum of opposite numbers is the opposite sum
 negated : (s : Structure) (f : ℕ → ℤ) (g : ℕ → ℤ) → ((k : ℕ) → k < length s.loads → f k ≡ neg_ℤ (g k)) →
     sum_to (length (map reversed_load s.loads)) f ≡ neg_ℤ (sum_to (length s.loads) g)
 negated s f g h = summed s f (λ k. neg_ℤ (g k)) h ∙ sum_neg integers (length s.loads) g
@@ -98,7 +98,7 @@ module _ (s : Structure) (i : ℕ) where
   abbrev at_load : Question → ℕ → Wrench
   at_load q k = acting q i (first_corner_of s i) (load_of s k)
 
-  -- and what it exerts reversed
+  -- what load k exerts on body i, reversed
   abbrev at_reversed : Question → ℕ → Wrench
   at_reversed q k = acting q i (first_corner_of s i) (load_of (reversed s) k)
 
@@ -112,7 +112,7 @@ module _ (s : Structure) (i : ℕ) where
   live_one k l = acts Live s i k l ∙ (let n = load_of s k in
       live_opposite (nat_eq n.body i) n.live (first_corner_of s i) n.at n.fx n.fy)
 
-  -- so are all dead loads
+  -- the dead loads on a body are the same
   listed_dead : listed_on Dead (reversed s) i ≡ listed_on Dead s i
   listed_dead = λ j. record {
     fx = summed s (λ k. (at_reversed Dead k).fx) (λ k. (at_load Dead k).fx) (λ k l. ap (λ w. w.fx) (dead_one k l)) j;
@@ -120,7 +120,7 @@ module _ (s : Structure) (i : ℕ) where
     m = summed s (λ k. (at_reversed Dead k).m) (λ k. (at_load Dead k).m) (λ k l. ap (λ w. w.m) (dead_one k l)) j;
   }
 
-  -- and all live loads
+  -- the listed live loads on a body are opposite
   listed_live : listed_on Live (reversed s) i ≡ opposite (listed_on Live s i)
   listed_live = λ j. record {
     fx = negated s (λ k. (at_reversed Live k).fx) (λ k. (at_load Live k).fx) (λ k l. ap (λ w. w.fx) (live_one k l)) j;
@@ -128,7 +128,7 @@ module _ (s : Structure) (i : ℕ) where
     m = negated s (λ k. (at_reversed Live k).m) (λ k. (at_load Live k).m) (λ k l. ap (λ w. w.m) (live_one k l)) j;
   }
 
-  -- the sway with them
+  -- the live loads with the sway's load are opposite
   all_live : loads_on Live (reversed s) i ≡ opposite (loads_on Live s i)
   all_live = (λ j. wrench_sum (sway_opposite s.sway (unit_weight_of s i) (body_of s i).corners j) (listed_live j))
       ∙ opposite_both (sway_at s i) (listed_on Live s i)

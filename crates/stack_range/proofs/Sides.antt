@@ -30,7 +30,7 @@ stands : (v : Surveyed) (e : EndValue) → TellsOfDeadLoads v (end_certificate e
 stands v (at f y) h = h
 stands v (unlimited base ray) h = h
 
--- and then they stand in the reversed structure too, which doesn't fall
+-- where an end is certified, the dead loads stand in the reversed structure too, which doesn't fall
 pub never_falls : ReversalTurnsFactors → (v w : Surveyed) (h k : OneSide) (e : End) (y : Motion) →
     h ≡ Ends e → k ≡ Falls y → w ≡ reversed_survey v → IsSideJudged v h → IsSideJudged w k → ⊥
 never_falls turned v w h k e y is_end falls other high low =
@@ -38,7 +38,7 @@ never_falls turned v w h k e y is_end falls other high low =
     let two = (subst (λ u. IsSideJudged u (Falls y)) other (subst (IsSideJudged w) falls low)).judged.dead_loads in
     two ((turned v (pos 0) (pos 1)).0 (stands v (end_view e) one))
 
--- both ends
+-- both ends make a range, between which is exactly what is carried
 pub both_ends : RangesAreExact → (v w : Surveyed) (h k : OneSide) (high low : End) → h ≡ Ends high → k ≡ Ends low →
     w ≡ reversed_survey v → IsSideJudged v h → IsSideJudged w k → IsRangeBetween v (end_view low) (end_view high)
 both_ends exact v w h k high low is_high is_low other greatest least =

@@ -26,7 +26,7 @@ forth s n D c = record {
   };
 }
 
--- and back
+-- what the reversed scene carries with the other sign, the scene carries
 back : (s : Scene) (n D : ℤ) → Carries (reversed_scene s) (neg_ℤ n) D → Carries s n D
 back s n D c = record {
   k = c.k;
@@ -40,6 +40,6 @@ back s n D c = record {
   };
 }
 
--- both
+-- both scenes carry the same, with the other sign
 pub scene_turns_factors : (s : Scene) (n D : ℤ) → Carries s n D ↔ Carries (reversed_scene s) (neg_ℤ n) D
 scene_turns_factors s n D = (forth s n D, back s n D)

@@ -21,8 +21,8 @@ pub data RangeJudgement : Type 0 where
   wide_on : Side → JudgePlace → RangeJudgement
   spent_on : Side → RangeJudgement
 
--- of the least side, with the other end. No other certificate comes there: the dead loads stand; and no end is left
--- unjudged
+-- the range by the judgement of the least side, with the other end. No other certificate comes there: the dead loads
+-- stand; and no end is left unjudged
 abbrev pub by_least : EndValue → Judgement → RangeJudgement
 by_least high (certified (greatest f y)) = told (between (at f y) high)
 by_least high (certified (unbounded base ray)) = told (between (unlimited base ray) high)
@@ -32,7 +32,8 @@ by_least high (too_wide p) = wide_on Least p
 by_least high spent = spent_on Least
 by_least high unjudged = spent_on Least
 
--- of both sides, the greatest first. `stands` never comes of live loads, and no end is left unjudged
+-- the range by the judgements of both sides, the greatest first. `stands` never comes of live loads, and no end is left
+-- unjudged
 abbrev pub by_sides : Judgement → Judgement → RangeJudgement
 by_sides (certified (greatest f y)) least = by_least (at f y) least
 by_sides (certified (unbounded base ray)) least = by_least (unlimited base ray) least

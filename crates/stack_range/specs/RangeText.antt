@@ -17,16 +17,16 @@ abbrev pub end_factor : Side → ForcesValue → Ratio
 end_factor Greatest f = lowest_ratio f.factor f.scale
 end_factor Least f = lowest_ratio (neg_ℤ f.factor) f.scale
 
--- its text
+-- the text of an end's factor, or `unlimited`
 abbrev pub end_text : Side → EndValue → List ℕ
 end_text side (at f y) = ratio_text (end_factor side f)
 end_text side (unlimited base ray) = codes "unlimited"
 
--- the first line
+-- the first line of a range, with the factors of both ends
 abbrev pub range_line : (low high : EndValue) → List ℕ
 range_line low high = codes "range " ++ end_text Least low ++ codes " " ++ end_text Greatest high ++ codes "\n"
 
--- the whole text
+-- the whole text of a range
 abbrev pub range_text : RangeValue → List ℕ
 range_text (collapsing y) = certificate_text (collapses y)
 range_text (between low high) =
@@ -43,7 +43,7 @@ pub record IsPrintable (e : EndValue) : Type 0 where
   pub scale : HasScale e
   pub fits : CertificateFits (end_certificate e)
 
--- both can
+-- both ends can be printed
 pub record AreEnds (low high : EndValue) : Type 0 where
   pub least : IsPrintable low
   pub greatest : IsPrintable high

@@ -32,7 +32,7 @@ abbrev pub end_view : End → EndValue
 end_view (ends.At f y) = at (forces_view f) (motion_view y)
 end_view (ends.Unlimited base ray) = unlimited (forces_view base) (forces_view ray)
 
--- and a range
+-- a range without where it lies in memory
 abbrev pub range_view : Range → RangeValue
 range_view (ranges.Collapses y) = collapsing (motion_view y)
 range_view (ranges.Between low high) = between (end_view low) (end_view high)
@@ -82,7 +82,7 @@ abbrev pub side_certificate : OneSide → CertificateValue
 side_certificate (halves.Ends e) = end_certificate (end_view e)
 side_certificate (halves.Falls y) = collapses (motion_view y)
 
--- it is judged, and its scene is one that the laws speak of
+-- the certificate of a side is judged, and its scene is one that the laws speak of
 pub record IsSideJudged (v : Surveyed) (h : OneSide) : Type 0 where
   pub judged : IsJudged Live v (side_certificate h)
   pub proper : IsProper (scene_of v)

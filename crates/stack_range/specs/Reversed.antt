@@ -26,7 +26,7 @@ reversed_sway sway = (neg_ℤ sway.0, neg_ℤ sway.1)
 abbrev pub reversed : Structure → Structure
 reversed s = bearing s (map reversed_load s.loads) (reversed_sway s.sway)
 
--- with its contacts, which are the same
+-- the survey of the reversed structure, with its contacts, which are the same
 abbrev pub reversed_survey : Surveyed → Surveyed
 reversed_survey v = surveyed (reversed v.structure) v.bearings v.touches
 

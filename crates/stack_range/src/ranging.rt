@@ -91,7 +91,7 @@ fn by_sides(alloc: Global, s: &Survey, budget: u32) -> Result<Range, RangeError>
 ///
 /// Refused are, in this order: a model without a live load; the greatest side, then the least, where a number of its
 /// run or of what is made of its end is more than 2^127 - 1 in size, or a pivot is due when the budget's are done.
-/// Want of memory comes at any time. After Livesley (1978).
+/// Memory may run out at any time. After Livesley (1978).
 pub fn range(alloc: Global, s: &Survey, budget: u32) -> Result<Range, RangeError>
     requires { budget ≢ 0 }
     ensures by_sides { AnswersBySides result s.now budget }

@@ -54,7 +54,7 @@ fn with_end(mut text: String, end: &End, side: Side) -> Result<String, AllocErro
     Ok(text)
 }
 
-/// The first line.
+/// The first line of a range, with the factors of both ends.
 fn line(alloc: Global, least: &End, greatest: &End) -> Result<String, AllocError>
     requires { AreEnds (end_view least.now) (end_view greatest.now) }
     ensures { IfOk result (λ t. string_bytes t ≡ range_line (end_view least.now) (end_view greatest.now)) }
@@ -93,6 +93,7 @@ fn ends(alloc: Global, least: End, greatest: End) -> Result<Vec<u8>, AllocError>
 
 /// The text of a range: the line `range LEAST GREATEST`, each a factor in lowest terms or `unlimited`; the text of the
 /// greatest side's certificate, the line `reversed`, and that of the least side's. Of a collapse its text alone.
+/// `AllocError` where memory ran out.
 pub fn write_range(alloc: Global, range: Range) -> Result<Vec<u8>, AllocError>
     requires { CanPrint (range_view range) }
     ensures { IfOk result (λ t. t.items ≡ range_text (range_view range)) }

@@ -112,11 +112,11 @@ yes-less x y r e t = lt_z_yes (subst T (sym t ∙ e) tt)
 pub no-less : (x y : ℤ) (r : Bool) → r ≡ int_lt x y → r ≡ false → y ≼ x
 no-less x y r e t = lt_z_no (subst (λ b. T (not b)) (sym t ∙ e) tt)
 
--- neither is less
+-- two numbers of which neither is less are the same
 pub level : (x y : ℤ) (r t : Bool) → r ≡ int_lt x y → r ≡ false → t ≡ int_lt y x → t ≡ false → x ≡ y
 level x y r t e h f k = let a = no-less x y r e h in let b = no-less y x t f k in omega (arith, ints, a, b)
 
--- so the rests are compared the other way round
+-- where the whole parts are the same, the rests are compared the other way round
 pub rests : (a b c d q p r s : ℤ) (o : Ordering) (t u : Bool) → int_cmp (a *ℤ d) (c *ℤ b) ≡ o →
     Split a b q r → Split c d p s →
     t ≡ int_lt q p → t ≡ false → u ≡ int_lt p q → u ≡ false → o ≡ int_cmp (d *ℤ r) (b *ℤ s)

@@ -25,6 +25,6 @@ some_gcd a b d u v n eu ev is e = subst (λ (t : ℕ × ℕ × ℕ). IsGcd t.0 t
     same : ◌≡◌ {A = ℕ × ℕ × ℕ} (u, v, n) (nat_abs a, nat_abs b, nat_abs d)
     same = λ i. (eu i, ev i, sym (ap nat_abs e) i)
 
--- 1 divides all
+-- 1 is the divisor of any number and 1
 pub one_gcd : (a b : ℤ) → b ≡ pos 1 → IsGcd (nat_abs a) (nat_abs b) (nat_abs b)
 one_gcd a b e = (subst (λ z. nat_abs z ∣ nat_abs a) (sym e) (one-dvd (nat_abs a)), dvd_refl (nat_abs b), λ d h k. k)

@@ -30,7 +30,7 @@ use Rattle.stack_rational.proofs.Crosswise.{exact-part, positive-part}
 use Rattle.stack_rational.proofs.WideWholes.{num_of, den_of}
 use Rattle.stack_rational.proofs.ShortCuts.{plus_zero, plus_zero_fits}
 
--- zero
+-- the sign of a number that is 0
 is_zero_whole-sign : (z : ℤ) → is_zero_whole z ≡ true → sign_of z ≡ nought
 is_zero_whole-sign (pos zero) h = refl
 is_zero_whole-sign (pos (suc n)) h = absurd cc
@@ -132,7 +132,7 @@ module _ (m : ℤ) (w : IsWidth m) where
           ∙ nought_is (neg (of (pos 0))).num (ordered_fractions.sign-neg (of (pos 0))
           ∙ ap opposite ordered_fractions.sign-zero))
 
-  -- whole numbers
+  -- a whole number that isn't too wide fits
   pub whole_answers : (n : ℤ) → is_too_wide m Whole (of n) (of n) ≡ false → fraction_fits m (of n) ≡ true
   whole_answers n h = and_true _ _ (not-false _ h)
       (le-leb (of n).den (nat_abs m) (omega (arith, ints, den_of n, w.some)))

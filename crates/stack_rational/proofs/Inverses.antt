@@ -44,7 +44,7 @@ pub inverse-is : (n d : ℤ) (x : Fraction) → ¬ (x.num ≡ pos 0) → n ≡ s
 inverse-is n d x h en ed = same_values _ _ n d _ _ (over-is n d (omega (arith, ints, some_size x.num h, ed)))
     (inv-is x (some_size x.num h)) (λ i. en i *ℤ sym ed i)
 
--- the parts by the sign: below 0 both change theirs
+-- the parts of the inverse by the sign: below 0 both change theirs
 pub parts-below : (m a b n d : ℤ) (x : Fraction) (t : Bool) → IsStored m a b → over a b ≡ x →
     t ≡ int_lt a (pos 0) → t ≡ true → n ≡ neg_ℤ b → d ≡ neg_ℤ a →
     (n ≡ signed x.num x.den) × (d ≡ pos (nat_abs x.num))

@@ -34,7 +34,7 @@ divides_left a b = subst (λ z. a ∣ z)
 pub divides_right : (a b : ℕ) → b ∣ common_multiple a b
 divides_right a b = dvd-mul_left b (a / gcd a b)
 
--- and it divides each number that they divide
+-- a common multiple divides each number that the two divide
 pub divided : (a b n : ℕ) → 0 < b → a ∣ n → b ∣ n → common_multiple a b ∣ n
 divided a b n h p q = dvd_of_mul-dvd-mul_left {k = gcd a b} (common_multiple a b) (gcd-pos a b h)
     (subst (λ z. z ∣ gcd a b * n) product
@@ -57,7 +57,7 @@ positive a b ha hb = some (a / gcd a b) (mul-div_cancel' (gcd a b) (gcd-left a b
     some zero e = absurd (omega (arith, e, ha))
     some (suc u) e = omega (arith, hb)
 
--- a list's scale
+-- the scale of a list is positive
 pub scale_positive : (xs : List Fraction) → 0 < scale_of xs
 unfolding scale_of
 scale_positive [] = omega arith
@@ -84,7 +84,7 @@ least (x ∷ xs) m all = divided x.den (scale_of xs) m (scale_positive xs) all.0
 pub scale_is_least_multiple : ScaleIsLeastMultiple
 scale_is_least_multiple xs = record { common = common xs; least = least xs }
 
--- the running multiple
+-- what holds of each number of a list holds with one more
 joined : (P : Fraction → Type 0) (xs : List Fraction) (y : Fraction) → AllByRecursion P xs → P y →
     AllByRecursion P (xs ++ y ∷ [])
 joined P [] y all h = (h, tt)

@@ -30,7 +30,7 @@ odd_divisor d n o h = go (d % 2) refl (below d)
     go (suc zero) e l = e
     go (suc (suc r)) e l = absurd (omega arith)
 
--- it has no divisor with 2, nor with a power of it
+-- an odd number has no divisor with 2, nor with a power of it
 two_apart : (d : ℕ) → d % 2 ≡ 1 → gcd 2 d ≡ 1
 two_apart d o = go (gcd 2 d) (gcd-left 2 d) (gcd-right 2 d)
   where
@@ -65,7 +65,7 @@ odd_step x y z k n o l e is = (
     whole : (x y : ℕ) → x < y → x + (y - x) ≡ y
     whole x y l = omega arith
 
--- and the factors of 2 put back, where the first number has no more of them
+-- the factors of 2 are put back, where the first number has no more of them
 pub with_twos : (p q i j g : ℕ) → p % 2 ≡ 1 → i ≤ j → IsGcd p q g → IsGcd (p * 2 ^ i) (q * 2 ^ j) (g * 2 ^ i)
 with_twos p q i j g o l is = subst (λ t. IsGcd (p * 2 ^ i) t (g * 2 ^ i)) (parted q i j l) (
   mul-dvd-mul_right g is.0 (2 ^ i),

@@ -53,7 +53,7 @@ module _ (a b c d p q : ℤ) (g : ℕ) (s : IsLowest a b) (t : IsLowest c d) (is
   both = (λ i. gcd (left i) (right i))
       ∙ quotients (nat_abs b) (nat_abs d) g (let h = t.positive in omega (arith, ints)) is
 
-  -- the terms
+  -- a term has no divisor with what is left of its own denominator
   term_left : gcd (nat_abs (a *ℤ q)) (nat_abs p) ≡ 1
   term_left = ap (λ n. gcd n (nat_abs p)) (unsigned_abs-mul a q)
       ∙ gcd-product (nat_abs a) (nat_abs q) (nat_abs p)

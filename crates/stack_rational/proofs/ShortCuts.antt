@@ -21,7 +21,7 @@ den_of_zero x e = dvd-one.0
     (subst (λ d. x.den ∣ d) (ap (λ (z : ℤ). gcd (nat_abs z) x.den) (sym e)
     ∙ x.lowest) (dvd-gcd 0 x.den x.den (dvd-zero x.den) (dvd_refl x.den)))
 
--- products
+-- a product with 0 is 0
 pub zero_times : (x y : Fraction) → x.num ≡ pos 0 → of (pos 0) ≡ mul x y
 zero_times x y e = same_values _ _ _ _ _ _ (of-is (pos 0)) (mul-is x y _ _ _ _ (is_self x) (is_self y))
     (cross x.num (pos x.den) y.num (pos y.den) e)
@@ -40,7 +40,7 @@ pub zero_fits : (m : ℤ) (x : Fraction) → 0 < nat_abs m → of (pos 0) ≡ x 
 zero_fits m x h e = subst (Fits m) e
     (record { num = omega (arith, ap nat_abs (num_of (pos 0))); den = omega (arith, den_of (pos 0), h) })
 
--- sums with 0
+-- a sum with 0 is the other number
 pub zero_plus : (x y : Fraction) → x.num ≡ pos 0 → y ≡ add x y
 zero_plus x y e = same_values _ _ _ _ _ _ (is_self y) (add-is x y _ _ _ _ (is_self x) (is_self y))
     (cross x.num (pos x.den) y.num (pos y.den) e)
@@ -113,7 +113,7 @@ plus_zero_fits m x y f e = common_at m x y x.den 1
     none : (z : ℤ) → z +ℤ pos 0 ≡ z
     none z = omega (arith, sums)
 
--- over one denominator
+-- the sum of two fractions with one denominator
 pub same_den_sum : (x y : Fraction) → x.den ≡ y.den → over (x.num +ℤ y.num) (pos x.den) ≡ add x y
 same_den_sum x y e = same_values _ _ _ _ _ _ (over-is (x.num +ℤ y.num) (pos x.den) (omega (arith, ints, x.positive)))
     (add-is x y _ _ _ _ (is_self x) (is_self y)) (cross x.num (pos x.den) y.num (pos y.den) (ap pos e))
@@ -150,7 +150,7 @@ same_den_too_wide m x y e h f = h (subst (λ t. Within m t) (λ i. one_right x.n
     (subst₂ (λ (u v : ℕ). Within m (x.num *ℤ pos v +ℤ y.num *ℤ pos u)) (sym (same_part x y e).0)
     (sym (same_part x y e).1) f.total))
 
--- the same of what is stored
+-- these short cuts, of what is stored
 pub stored_zero : (m a b : ℤ) (x : Fraction) → IsStored m a b → over a b ≡ x → a ≡ pos 0 → x.num ≡ pos 0
 stored_zero m a b x s e z = sym (stored-num m a b x s e) ∙ z
 

@@ -11,7 +11,7 @@ use Rattle.stack_algebra.proofs.Fractions.{mul, of}
 abbrev pub common_multiple : ℕ → ℕ → ℕ
 common_multiple a b = a / gcd a b * b
 
--- and that of all denominators; 1 for the empty list
+-- the least common multiple of all denominators; 1 for the empty list
 unfoldable pub scale_of : List Fraction → ℕ
 scale_of [] = 1
 scale_of (x ∷ xs) = common_multiple x.den (scale_of xs)
@@ -26,7 +26,7 @@ pub record IsFirstTooWide (xs : List Fraction) (i : ℕ) : Type 0 where
   pub is_too_wide : greatest_number < scale_of (take (i + 1) xs)
   pub fits_before : (k : ℕ) → k ≤ i → scale_of (take k xs) ≤ greatest_number
 
--- it is the least common multiple: each denominator divides it, and it divides each number that they all
+-- n is the least common multiple of the denominators: each of them divides it, and it divides each number that they all
 -- divide
 pub record IsLeastMultiple (xs : List Fraction) (n : ℕ) : Type 0 where
   pub common : AllByRecursion (λ x. x.den ∣ n) xs

@@ -19,27 +19,17 @@ WiderIsNeverTooWide = (m n : ℤ) (op : Op) (x y : Fraction) → unsigned_abs m 
 abbrev pub widest : ℤ
 widest = pos greatest_number
 
--- there a whole number is too wide exactly where it doesn't fit
+-- at 128 bits a whole number is too wide exactly where it doesn't fit
 abbrev pub WholeIsTooWideAtWidest : Type 0
 WholeIsTooWideAtWidest = (n : ℤ) → is_too_wide widest Whole (of n) (of n) ≡ not (fits_whole n)
-
--- the parts of a number of any width make the same number at 128 bits, and nothing is too wide
-pub record MadeAgain (x : Fraction) : Type 0 where
-  pub num : is_too_wide widest Whole (of x.num) (of x.num) ≡ false
-  pub den : is_too_wide widest Whole (of (pos x.den)) (of (pos x.den)) ≡ false
-  pub quotient : is_too_wide widest Quotient (of x.num) (of (pos x.den)) ≡ false
-  pub value : op_value Quotient (of x.num) (of (pos x.den)) ≡ x
-
--- each number that fits a greatest value of at most 2^127 - 1 is made again so
-abbrev pub PartsMakeTheNumber : Type 0
-PartsMakeTheNumber = (m : ℤ) (x : Fraction) → unsigned_abs m ≤ greatest_number → fraction_fits m x ≡ true → MadeAgain x
 
 -- the answer of an operation that isn't too wide fits
 abbrev pub AnswersFit : Type 0
 AnswersFit = (m : ℤ) (op : Op) (x y : Fraction) → fraction_fits m x ≡ true → is_too_wide m op x y ≡ false →
     fraction_fits m (op_value op x y) ≡ true
 
--- a whole number that isn't too wide fits, and 0, 1 and -1 are too wide for no width; nor is what is 0, or less 0
+-- a whole number that isn't too wide fits; 0, 1 and -1 are never too wide; nor is a product that is 0, a number less 0,
+-- or 0 over a number
 pub record SmallIsNeverTooWide (m : ℤ) : Type 0 where
   pub whole_fits : (n : ℤ) → is_too_wide m Whole (of n) (of n) ≡ false → fraction_fits m (of n) ≡ true
   pub small : (n : ℤ) → unsigned_abs n ≤ 1 → is_too_wide m Whole (of n) (of n) ≡ false
@@ -49,7 +39,7 @@ pub record SmallIsNeverTooWide (m : ℤ) : Type 0 where
   pub quotient : (x y : Fraction) → is_zero x ≡ true →
       (op_value Quotient x y ≡ x) × (is_too_wide m Quotient x y ≡ false)
 
--- so it is for each greatest value from 1 to 2^127 - 1
+-- so it is at each greatest value from 1 to 2^127 - 1
 abbrev pub SmallFits : Type 0
 SmallFits = (m : ℤ) → IsWidth m → SmallIsNeverTooWide m
 

@@ -14,6 +14,6 @@ is_zero_whole (pos zero) = true
 is_zero_whole (pos (suc n)) = false
 is_zero_whole (negsuc n) = false
 
--- the value is 0
+-- the value of a fraction is 0
 abbrev pub is_zero : Fraction → Bool
 is_zero x = is_zero_whole x.num

@@ -18,13 +18,13 @@ pub record Fits (m : ℤ) (x : Fraction) : Type 0 where
   pub num : nat_abs x.num ≤ nat_abs m
   pub den : x.den ≤ nat_abs m
 
--- the fields of a fraction
+-- n over d in lowest terms, neither of them more than m in size
 pub record IsStored (m n d : ℤ) : Type 0 where
   pub lowest : IsLowest n d
   pub num : nat_abs n ≤ nat_abs m
   pub den : nat_abs d ≤ nat_abs m
 
--- the fields of a fraction, each the one value of its integer
+-- the fields of a stored fraction, each the one value of its integer
 pub record IsHeld {T : Type 0} (m : ℤ) (value : T → ℤ) (back : ℤ → T) (num den : T) : Type 0 where
   pub stored : IsStored m (value num) (value den)
   pub num_back : back (value num) ≡ num
@@ -36,7 +36,7 @@ pub is_held : {T : Type 0} (m : ℤ) (value : T → ℤ) (back : ℤ → T) (num
     IsHeld m value back num den
 is_held m value back num den law s = record { stored = s; num_back = law num s.num; den_back = law den s.den }
 
--- a fraction's parts n over d
+-- n and d are the parts of a fraction
 pub record IsInParts (x : Fraction) (n d : ℤ) : Type 0 where
   pub lowest : IsLowest n d
   pub value : over n d ≡ x
@@ -77,7 +77,7 @@ pub record CommonFits (m a c d p q : ℤ) : Type 0 where
   pub right : Within m (c *ℤ p)
   pub total : Within m (a *ℤ q +ℤ c *ℤ p)
 
--- the sum over the least common denominator
+-- what is made for the sum of two fractions over the least common denominator
 abbrev pub SumFits : ℤ → Fraction → Fraction → Type 0
 SumFits m x y = let g = pos (gcd x.den y.den) in
     CommonFits m x.num y.num (pos y.den) (quot_z (pos x.den) g) (quot_z (pos y.den) g)

@@ -20,11 +20,11 @@ pub record IsWidth (m : ℤ) : Type 0 where
 abbrev pub is_within : ℤ → ℤ → Bool
 is_within m z = nat_le (unsigned_abs z) (unsigned_abs m)
 
--- so are a numerator and a denominator
+-- a numerator and a denominator are at most m in size
 abbrev pub fraction_fits : ℤ → Fraction → Bool
 fraction_fits m x = is_within m x.num && nat_le x.den (unsigned_abs m)
 
--- over the least common denominator: that denominator, and either term
+-- the least common denominator of x and y
 abbrev pub common_denominator : Fraction → Fraction → ℤ
 common_denominator x y = pos (x.den / gcd x.den y.den) *ℤ pos y.den
 
@@ -36,13 +36,13 @@ left_term x y = x.num *ℤ pos (y.den / gcd x.den y.den)
 abbrev pub right_term : Fraction → Fraction → ℤ
 right_term x y = y.num *ℤ pos (x.den / gcd x.den y.den)
 
--- none of these is too wide, nor is the sum before it is reduced
+-- neither the least common denominator nor either term nor the sum, before it is reduced, is too wide
 abbrev pub sum_fits : ℤ → Fraction → Fraction → Bool
 sum_fits m x y =
     is_within m (common_denominator x y) && is_within m (left_term x y) && is_within m (right_term x y)
     && is_within m (left_term x y +ℤ right_term x y)
 
--- an operation is too wide for m. Of a whole number x counts alone, which is whole
+-- whether an operation is too wide for m. Of a whole number x counts alone, which is whole
 abbrev pub is_too_wide : ℤ → Op → Fraction → Fraction → Bool
 is_too_wide m Whole x y = not (is_within m x.num)
 is_too_wide m Sum x y = not (sum_fits m x y)
@@ -50,7 +50,7 @@ is_too_wide m Difference x y = not (sum_fits m x (neg y))
 is_too_wide m Product x y = not (fraction_fits m (mul x y))
 is_too_wide m Quotient x y = not (fraction_fits m (mul (inv y) x))
 
--- and its value
+-- the value of an operation
 abbrev pub op_value : Op → Fraction → Fraction → Fraction
 op_value Whole x y = x
 op_value Sum x y = add x y

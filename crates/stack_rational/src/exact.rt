@@ -2,6 +2,7 @@
 
 use crate::frac::Frac;
 use crate::integer::Integer;
+use crate::of_wholes::over;
 use std::cmp::Ordering;
 
 /// An operation on exact numbers.
@@ -15,7 +16,7 @@ pub enum Op {
     Quotient,
 }
 
-/// That the answer of an operation would be more than the greatest value.
+/// An operation is too wide: its answer, or a number on the way to it, would be more than the greatest value.
 #[derive(Clone, Copy, Debug, PartialEq, Eq)]
 pub struct OpWide {
     /// The call that was refused.
@@ -105,6 +106,10 @@ pub trait Exact: Copy {
         ensures den { result.1 ≡ pos (exact self).den }
         ensures fits { fraction_fits MAX (exact self) ≡ true };
 
+    /// The same number at 128 bits. Never refused, since its parts fit there.
+    fn widened(self) -> Frac<i128>
+        ensures { result ≡ exact self };
+
     // The greatest value lies between 1 and that of 128 bits.
     ghost max_law: { IsWidth MAX };
 }
@@ -177,5 +182,10 @@ impl<T: Integer> Exact for Frac<T> {
 
     fn parts(self) -> (i128, i128) {
         self.both()
+    }
+
+    fn widened(self) -> Frac<i128> {
+        let (n, d) = self.both();
+        over(n, d)
     }
 }

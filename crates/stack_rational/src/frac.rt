@@ -64,7 +64,7 @@ impl<T: Integer> Clone for Frac<T> {
     }
 }
 
-/// That an answer would be more than the greatest value.
+/// An answer, or a number on the way to it, would be more than the greatest value.
 #[derive(Clone, Copy, Debug, PartialEq, Eq, Drop)]
 pub struct PartWide;
 
@@ -97,8 +97,8 @@ fn reduced<T: Integer>(num: T, den: T) -> Frac<T>
     made(n, d)
 }
 
-/// The same, where the denominator is a multiple of g and each common divisor divides g: a divisor with g is
-/// found sooner.
+/// A numerator over a positive denominator, in lowest terms, where the denominator is a multiple of g and each common
+/// divisor divides g: a divisor with g is found sooner.
 fn reduced_by<T: Integer>(num: T, den: T, g: T) -> Frac<T>
     requires num { Within T.MAX (T.value num) }
     requires den { Within T.MAX (T.value den) }
@@ -113,14 +113,14 @@ fn reduced_by<T: Integer>(num: T, den: T, g: T) -> Frac<T>
 }
 
 impl<T: Integer> Frac<T> {
-    /// 0.
+    /// The number 0.
     pub fn nothing() -> Self
         ensures { result ≡ of (pos 0) }
     {
         made(T::zero(), T::one())
     }
 
-    /// 1.
+    /// The number 1.
     pub fn unit() -> Self
         ensures { result ≡ of (pos 1) }
     {
@@ -154,7 +154,7 @@ impl<T: Integer> Frac<T> {
         self.times_crosswise(other)
     }
 
-    /// The same by parts that are divided crosswise: a/b * c/d = (a/g)(c/h) / ((b/h)(d/g)), with g = gcd(a, d) and
+    /// The product by parts that are divided crosswise: a/b * c/d = (a/g)(c/h) / ((b/h)(d/g)), with g = gcd(a, d) and
     /// h = gcd(c, b).
     fn times_crosswise(self, other: Self) -> Result<Self, PartWide>
         ensures ok { IfOk result (λ r. r ≡ mul self other) }
@@ -196,7 +196,7 @@ impl<T: Integer> Frac<T> {
         self.plus_over_common(other)
     }
 
-    /// The same over the least common denominator: with g = gcd(b, d), a/b + c/d = (a(d/g) + c(b/g)) / ((b/g)d),
+    /// The sum over the least common denominator: with g = gcd(b, d), a/b + c/d = (a(d/g) + c(b/g)) / ((b/g)d),
     /// where only divisors of g can be left in common.
     fn plus_over_common(self, other: Self) -> Result<Self, PartWide>
         ensures ok { IfOk result (λ r. r ≡ add self other) }
@@ -226,7 +226,7 @@ impl<T: Integer> Frac<T> {
         made(opposite(self.num), self.den)
     }
 
-    /// One by a number that isn't 0.
+    /// 1 over a number that isn't 0.
     pub fn inverted(self) -> Self
         requires { self.num ≢ pos 0 }
         ensures { result ≡ inv self }
@@ -257,7 +257,7 @@ impl<T: Integer> Frac<T> {
         other.inverted().times(self)
     }
 
-    /// The order.
+    /// The order of the values.
     pub fn compare(self, other: Self) -> Ordering
         ensures { result ≡ order_of self other }
     {
@@ -290,7 +290,7 @@ impl<T: Integer> Frac<T> {
         self.num.is_zero()
     }
 
-    /// -1, 0 or 1.
+    /// The sign: -1, 0 or 1.
     pub fn signum(self) -> i32
         ensures { result ≡ signum self.num }
     {

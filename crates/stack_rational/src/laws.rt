@@ -1,17 +1,12 @@
 //! Laws of exact numbers, each a clause of a function that does nothing.
 
-ghost use Rattle.stack_rational.specs.Laws.{WiderIsNeverTooWide, PartsMakeTheNumber, AnswersFit, SmallFits};
+ghost use Rattle.stack_rational.specs.Laws.{WiderIsNeverTooWide, AnswersFit, SmallFits};
 ghost use Rattle.stack_rational.specs.Laws.{WholeIsTooWideAtWidest, OrderLaws};
 
 /// An operation that isn't too wide at a smaller greatest value isn't too wide at a greater one, and gives the same
 /// value.
 pub fn wider_law()
     ensures { WiderIsNeverTooWide }
-{}
-
-/// The parts of every number make the same number at 128 bits, never refused.
-pub fn parts_law()
-    ensures { PartsMakeTheNumber }
 {}
 
 /// An answer that isn't refused fits; nothing is refused of 0, 1 and -1; at 128 bits a whole number is refused

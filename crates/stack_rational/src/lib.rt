@@ -1,7 +1,7 @@
 //! Exact fractions of 8, 64 and 128 bits.
 //!
 //! ```text
-//! let half = Frac::<i64>::from_whole(1)?.quotient(Frac::from_whole(2)?)?;
+//! let half = Frac::<i128>::from_whole(1)?.quotient(Frac::from_whole(2)?)?; // by the trait `Exact`
 //! half.sum(half)?.parts() == (1, 1)
 //! common_scale(&[half]) == Ok(2)
 //! ```
@@ -14,12 +14,14 @@ mod frac;
 mod halves;
 mod integer;
 mod laws;
+mod of_wholes;
 mod scale;
 
 pub use exact::{Exact, Op, OpWide};
 pub use frac::Frac;
 pub use integer::Integer;
-pub use laws::{fraction_fitting_law, order_law, parts_law, wider_law};
+pub use laws::{fraction_fitting_law, order_law, wider_law};
+pub use of_wholes::{over, whole};
 pub use scale::{ScaleWide, common_scale, scale_law};
 
 #[cfg(test)]

@@ -6,7 +6,7 @@ ghost use Rattle.stack_rational.specs.CommonScale.{IsFirstTooWide, ScaleIsLeastM
 
 use crate::frac::Frac;
 
-/// That the running multiple is more than 2^127 - 1 in size.
+/// The running multiple is more than 2^127 - 1 in size.
 #[derive(Clone, Copy, Debug, PartialEq, Eq)]
 pub struct ScaleWide {
     /// The first item at which it is.

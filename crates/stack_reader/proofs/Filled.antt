@@ -38,7 +38,7 @@ pub put_on : (word : List ℕ) (t s r : Members) (v d : Data) → t ≡ put_memb
     → t ≡ put_member word d r
 put_on word t s r v d e g h = e ∙ (λ i. put_member word (h i) (g i))
 
--- one value more
+-- a list of values that a loop fills, with one value more
 pub more : {X : Type 0} (f : X → Data) (vs next : List Value) (xs : List X) (i : ℕ) (v : Value) (d : X)
     → next ≡ vs ++ v ∷ [] → view v ≡ f (get_or xs i d) → i < length xs
     → map view vs ≡ map f (take i xs) → map view next ≡ map f (take (i + 1) xs)
@@ -47,7 +47,7 @@ more f vs next xs i v d h is lt before =
     ∙ (ap (λ y. map f (take i xs) ++ y ∷ []) is
     ∙ sym (ap (map f) (take_more xs i d lt) ∙ map-append f (take i xs) (get_or xs i d ∷ [])))))
 
--- all of them, each by way of g
+-- a list that a loop has filled has all values, each by way of g
 pub all : {X Y : Type 0} (f : Y → Data) (g : X → Y) (vs : List Value) (xs : List X) (i : ℕ) → length xs ≤ i
     → map view vs ≡ map (λ x. f (g x)) (take i xs) → items_view vs ≡ items_of (map f (map g xs))
 all f g vs xs i le h = ap items_of (h ∙ (ap (map (λ x. f (g x))) (take_all i xs le) ∙ sym (map-map f g xs)))

@@ -22,7 +22,7 @@ model_back s sound =
     (parts_back (relisted s) sound.version.known (relisted_of_version s sound.version))
     ∙ ap within_file (taken s sound)
 
--- as shallow as a reader takes
+-- the table of a structure is as shallow as a reader takes
 shallow : (ms : Members) (s : Structure) → ms ≡ parts_data (relisted s) → members_depth ms ≤ 80
 shallow ms s same =
     let few = parts_depth (relisted s) in
@@ -34,7 +34,7 @@ pub table_back : (bytes : List ℕ) (s : Structure) (ms : Members) → IsUtf8 by
     → ms ≡ parts_data (relisted s) → document_table bytes ≡ Ok (parts_data (relisted s))
 table_back bytes s ms u h same = table_read bytes ms (u, h (shallow ms s same)) ∙ ap Ok same
 
--- and their structure is that structure
+-- the structure that such bytes describe is that structure
 pub read_back : (bytes : List ℕ) (s : Structure) (ms : Members) → IsUtf8 bytes
     → (members_depth ms ≤ 80 → parse_document bytes ≡ Some ms)
     → ms ≡ parts_data (relisted s) → IsSound s → structure_of bytes ≡ Ok s

@@ -25,7 +25,7 @@ abbrev pub wholes_of : Data → Option (List ℤ)
 wholes_of (array items) = wholes_of_items items
 wholes_of _ = None
 
--- an array of such arrays
+-- the lists of an array of arrays of whole numbers
 abbrev pub lists_of_items : Items → Option (List (List ℤ))
 lists_of_items no_items = Some []
 lists_of_items (item d rest) = with_first (wholes_of d) (lists_of_items rest)

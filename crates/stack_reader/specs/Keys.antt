@@ -24,26 +24,26 @@ word_of At = codes "at"
 word_of Force = codes "force"
 word_of Load = codes "load"
 
--- of a whole file of version 2
+-- the keys at the top of a file of version 2
 abbrev pub top_keys : List Key
 top_keys = Version ∷ Sway ∷ Material ∷ Joint ∷ Block ∷ Load ∷ []
 
--- of any other file: `sway` and `joint` are of version 2 alone
+-- the keys at the top of any other file: `sway` and `joint` are of version 2 alone
 abbrev pub first_top_keys : List Key
 first_top_keys = Version ∷ Material ∷ Block ∷ Load ∷ []
 
--- those of a material, which must all stand
+-- the keys of a material, which must all stand
 abbrev pub material_keys : List Key
 material_keys = Name ∷ Weight ∷ Friction ∷ []
 
--- those of a joint, which must all stand
+-- the keys of a joint, which must all stand
 abbrev pub joint_keys : List Key
 joint_keys = First ∷ Second ∷ Friction ∷ []
 
--- those of a block, of which `fixed` alone may be missing
+-- the keys of a block, of which `fixed` alone may be missing
 abbrev pub block_keys : List Key
 block_keys = Name ∷ Material ∷ Fixed ∷ Corners ∷ []
 
--- those of a load, which must all stand
+-- the keys of a load, which must all stand
 abbrev pub load_keys : List Key
 load_keys = Block ∷ Kind ∷ At ∷ Force ∷ []

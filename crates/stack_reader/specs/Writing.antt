@@ -64,7 +64,7 @@ abbrev pub with_tables : {A : Type 0} → Key → (A → Members) → List A →
 with_tables key data_of [] rest = rest
 with_tables key data_of (x ∷ xs) rest = member (word_of key) (array (tables_data data_of (x ∷ xs))) rest
 
--- these tables at a key, unless there are none
+-- the members with these tables at a key, unless there are none
 abbrev pub put_tables : List ℕ → Items → Members → Members
 put_tables word no_items ms = ms
 put_tables word (item d rest) ms = put_member word (array (item d rest)) ms

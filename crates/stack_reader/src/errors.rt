@@ -4,9 +4,10 @@ use stack_model::{Key, ModelError, Spot};
 use std::alloc::{AllocError, AllocFailed};
 use thiserror::Error;
 
-/// The first fault of a model file: the bytes, then the shape of the whole document, then its content. At the
-/// top an unknown key comes first, then the forms of `material`, `block` and `load`; then comes each material,
-/// each block and each load, in each an unknown key first and then its keys one by one.
+/// The first fault of a model file: the bytes, then the shape of the whole document, then its content. At the top an
+/// unknown key comes first, then the forms of `version`, `sway` and the lists; then comes each material, each joint,
+/// each block and each load, in each an unknown key first and then its keys one by one. `sway` and `joint` are known in
+/// version 2 alone.
 #[derive(Clone, Copy, Debug, PartialEq, Eq, Error)]
 pub enum ReadError {
     /// The bytes are no TOML document.
@@ -24,7 +25,7 @@ pub enum ReadError {
     /// The content has this fault; never `Memory`.
     #[error("{0}")]
     Model(ModelError),
-    /// Memory was wanting.
+    /// Memory ran out.
     #[error("out of memory")]
     Memory,
 }

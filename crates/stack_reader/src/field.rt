@@ -42,6 +42,7 @@ fn has_only_keys(table: &Table, known: &[Key]) -> bool
     true
 }
 
+/// Refuses a table with a key that isn't one of the known ones.
 pub fn refuse_unknown(table: &Table, spot: Spot, known: &[Key]) -> Result<(), ReadError>
     ensures { GivesRead (λ x. x) result (known_only spot known.now (table_view table.now)) }
 {
@@ -61,6 +62,7 @@ fn required_at<'a>(table: &'a Table, spot: Spot, key: Key) -> Result<&'a Value, 
     }
 }
 
+/// The text at a key that must stand.
 #[tactic(auto, unfolding(crate::specs::Forms::field))]
 pub fn text_at(alloc: Global, table: &Table, spot: Spot, key: Key) -> Result<String, ReadError>
     ensures { GivesRead string_bytes result (field as_str spot key (table_view table.now)) }
@@ -72,6 +74,7 @@ pub fn text_at(alloc: Global, table: &Table, spot: Spot, key: Key) -> Result<Str
     }
 }
 
+/// The whole number at a key that must stand.
 #[tactic(auto, unfolding(crate::specs::Forms::field))]
 pub fn whole_at(table: &Table, spot: Spot, key: Key) -> Result<i64, ReadError>
     ensures { GivesRead (λ z. z) result (field as_integer spot key (table_view table.now)) }
@@ -120,6 +123,7 @@ pub fn wholes_in(alloc: Global, value: &Value) -> Result<Option<Vec<i64>>, Alloc
     }
 }
 
+/// The whole numbers of the array at a key that must stand.
 #[tactic(auto, unfolding(crate::specs::Forms::field))]
 pub fn wholes_at(alloc: Global, table: &Table, spot: Spot, key: Key) -> Result<Vec<i64>, ReadError>
     ensures { GivesRead numbers_view result (field wholes_of spot key (table_view table.now)) }
@@ -154,6 +158,7 @@ fn lists_in(alloc: Global, value: &Value) -> Result<Option<Vec<Vec<i64>>>, Alloc
     }
 }
 
+/// The lists of whole numbers of the array at a key that must stand.
 #[tactic(auto, unfolding(crate::specs::Forms::field))]
 pub fn lists_at(
     alloc: Global,

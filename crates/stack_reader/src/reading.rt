@@ -41,7 +41,8 @@ fn model(alloc: Global, parts: Parts) -> Result<Model, ReadError>
     }
 }
 
-/// The model that the bytes of a TOML file describe, or their first fault.
+/// The model that the bytes of a TOML file describe, or their first fault. `toml` decides what a document is. Memory
+/// may run out at any time.
 #[tactic(auto, unfolding(crate::specs::Reading::structure_of, crate::specs::Reading::model_of))]
 pub fn read_model(alloc: Global, text: &[u8]) -> Result<Model, ReadError>
     ensures { GivesRead model_view result (structure_of text.now) }

@@ -11,7 +11,7 @@ const POST: &str = "[[material]]\nname = \"stone\"\nweight = 1\nfriction = [1, 2
     [[block]]\nname = \"post\"\nmaterial = \"stone\"\ncorners = [[0, 0], [0, 4], [2, 4], [2, 0]]\n\n\
     [[load]]\nblock = \"post\"\nkind = \"live\"\nat = [0, 4]\nforce = [1, 0]\n";
 
-/// What stands before and behind it in version 2.
+/// The head of the post's file in version 2, and a joint that stands behind its blocks.
 const HEAD: &str = "version = 2\nsway = [1, -2]\n\n";
 
 const JOINT: &str = "\n[[joint]]\nfirst = \"stone\"\nsecond = \"stone\"\nfriction = [3, 4]\n";

@@ -71,7 +71,7 @@ corner_at ps e box x y (inr p) (inr q) = let (i, (lt, c, d)) = box.upper in
 corner_at ps e box x y (inl p) (inr q) = let (i, (lt, c, d)) = box.left in
     (i, (lt, subst (λ o. corner_of ps i ≡ o) (λ k. pt (sym p k) (sym q k)) c))
 
--- and lie within them
+-- the corners of a rectangle lie within its ranges
 pub record IsCornerWithin (e : Extent) (c : Point) : Type 0 where
   pub x_low : e.x.low ≼ c.x
   pub x_high : c.x ≼ e.x.high

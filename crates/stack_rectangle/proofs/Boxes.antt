@@ -50,7 +50,7 @@ pub record IsBox (ps : List Point) (e : Extent) : Type 0 where
 abbrev extent : ℤ → ℤ → ℤ → ℤ → Extent
 extent x u y v = record { x = record { low = x; high = u }; y = record { low = y; high = v } }
 
--- the four lists that do
+-- the four lists that go round a rectangle, by the corner that they begin at
 from_low_left : (x u y v : ℤ) → x ≺ u → y ≺ v
     → IsBox (pt x y ∷ pt u y ∷ pt u v ∷ pt x v ∷ []) (extent x u y v)
 from_low_left x u y v h k = record {

@@ -63,16 +63,16 @@ abbrev pub level_frame : Extent → Extent → Frame
 level_frame a b =
     if int_le a.y.high b.y.low then record { tx = pos 1; ty = pos 0 } else record { tx = negsuc 0; ty = pos 0 }
 
--- that of an upright joint: downwards where the later rectangle lies right of the earlier one, else upwards
+-- the tangent of an upright joint: downwards where the later rectangle lies right of the earlier one, else upwards
 abbrev pub upright_frame : Extent → Extent → Frame
 upright_frame a b =
     if int_le a.x.high b.x.low then record { tx = pos 0; ty = negsuc 0 } else record { tx = pos 0; ty = pos 1 }
 
--- the corners of what two ranges span: the least x and y, the greatest x and y
+-- the corner of what two ranges span with the least x and y
 abbrev pub least_corner : Range → Range → Point
 least_corner x y = record { x = x.low; y = y.low }
 
--- the one with the greatest x and y
+-- the corner of what two ranges span with the greatest x and y
 abbrev pub greatest : Range → Range → Point
 greatest x y = record { x = x.high; y = y.high }
 
@@ -85,14 +85,14 @@ contacts_in Single Many from to a b = Some (AtTwo from to (upright_frame a b))
 contacts_in Single Single from to a b = Some (Touching from)
 contacts_in _ _ from to a b = Some Free
 
--- the contacts of an earlier and a later rectangle of these ranges, and of two lists
+-- the contacts of an earlier and a later rectangle of these ranges
 abbrev pub contacts_of : Extent → Extent → Option Contacts
 contacts_of a b =
     let x = common_of a.x b.x in
     let y = common_of a.y b.y in
     contacts_in (count_of x) (count_of y) (least_corner x y) (greatest x y) a b
 
--- the same for the rectangles of two lists of corners, the earlier one first
+-- the contacts of the rectangles of two lists of corners, the earlier one first
 abbrev pub contacts_by_ranges : List Point → List Point → Option Contacts
 contacts_by_ranges ps qs = contacts_of (extent_of ps) (extent_of qs)
 
@@ -108,7 +108,7 @@ abbrev pub RangesTellSeparation : Type 0
 RangesTellSeparation = (ps qs : List Point) → IsRectangle ps → IsRectangle qs
     → MatchOption (contacts_by_ranges ps qs) (¬ (AreSeparated ps qs)) (λ c. AreSeparated ps qs)
 
--- where they tell none, the contacts that they tell are exactly those of the two as polygons
+-- where the ranges tell no overlap, the contacts that they tell are exactly those of the two as polygons
 abbrev pub RangesTellContacts : Type 0
 RangesTellContacts = (ps qs : List Point) → IsRectangle ps → IsRectangle qs
     → IfSome (contacts_by_ranges ps qs) (λ c. AreContacts ps qs c)

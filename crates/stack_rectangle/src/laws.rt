@@ -1,4 +1,4 @@
-//! The law, as a clause of a function that does nothing.
+//! The law of two rectangles, as clauses of a function that does nothing.
 
 ghost use Rattle.stack_rectangle.specs.Rectangles.{RangesTellOverlaps, RangesTellSeparation, RangesTellContacts};
 

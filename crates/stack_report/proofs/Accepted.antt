@@ -24,7 +24,7 @@ use Rattle.stack_checker.specs.WrittenForces.{written_forces}
 use Rattle.stack_checker.specs.WrittenMotions.{written_motion, written_collapse, written_bound}
 use Rattle.stack_checker.specs.WrittenCheck.{in_part, tests_of, answer_of, written_check}
 use Rattle.stack_checker.proofs.Settled.{Settled}
-use Rattle.stack_checker.proofs.ForcesSettled.{IsTooWide, forces_settle}
+use Rattle.stack_checker.proofs.ForcesSettled.{MeetsTests, forces_settle}
 use Rattle.stack_report.specs.Tabling.{HasMoves, IsCarrying, IsRising, IsWhole}
 
 -- all tests of a part are passed
@@ -40,31 +40,31 @@ two_parts (Err (Rejected reason)) t h = absurd cc
 two_parts (Err (TooWide at)) t h = absurd cc
 
 module _ (s : Surveyed) where
-  -- what they settle holds
+  -- what a passed part settles holds
   holds : {P : Type 0} (r : Result ⊤ Stop) → r ≡ Ok tt → Settled s P r → P
   holds (Ok done) e h = h.is
   holds (Err (Rejected reason)) e h = absurd cc
   holds (Err (TooWide at)) e h = absurd cc
 
-  is_too_wide : (signs : Signs) (f : ForcesValue) → written_forces signs s f ≡ Ok tt → IsTooWide signs s f
-  is_too_wide signs f e = holds (written_forces signs s f) e (forces_settle signs s f)
+  meets_tests : (signs : Signs) (f : ForcesValue) → written_forces signs s f ≡ Ok tt → MeetsTests signs s f
+  meets_tests signs f e = holds (written_forces signs s f) e (forces_settle signs s f)
 
   standing_carries : (f : ForcesValue) → written_forces standing s f ≡ Ok tt → IsCarrying s f
-  standing_carries f e = let p = is_too_wide standing f e in record {
+  standing_carries f e = let p = meets_tests standing f e in record {
     count = sym (length-map f.parts part_of_pair) ∙ p.forces.count;
     scale = p.scaled;
     factor = omega (arith, ints, p.driven);
   }
 
   loaded_carries : (f : ForcesValue) → written_forces loaded s f ≡ Ok tt → IsCarrying s f
-  loaded_carries f e = let p = is_too_wide loaded f e in record {
+  loaded_carries f e = let p = meets_tests loaded f e in record {
     count = sym (length-map f.parts part_of_pair) ∙ p.forces.count;
     scale = p.scaled;
     factor = p.driven;
   }
 
   rising_rises : (r : ForcesValue) → written_forces rising s r ≡ Ok tt → IsRising s r
-  rising_rises r e = let p = is_too_wide rising r e in record {
+  rising_rises r e = let p = meets_tests rising r e in record {
     count = sym (length-map r.parts part_of_pair) ∙ p.forces.count;
     factor = p.driven;
   }

@@ -15,8 +15,9 @@ use Rattle.stack_equilibrium.specs.declared.block.Push.{Push}
 use Rattle.stack_statics.specs.Balance.{force_x_of, force_y_of}
 use Rattle.stack_equilibrium.specs.SurveyScene.{scene_bearing_of}
 use Rattle.stack_algebra.proofs.Conjunctions.{left_true, right_true}
-use Rattle.stack_report.specs.declared.force.RealForce.{RealForce}
-use Rattle.stack_report.specs.ForceNumbers.{x_fits, y_fits, force_fits, written_x, written_y, written_real_force}
+use Rattle.stack_equilibrium.specs.declared.force.Force.{Force}
+use Rattle.stack_equilibrium.specs.WrittenSums.{joint_at, written_force_x, written_force_y, written_bearing_force}
+use Rattle.stack_report.specs.ForceNumbers.{x_fits, y_fits, force_fits}
 
 abbrev made_if : {B : Type 0} → Bool → B → Result B Wide
 made_if b x = if b then Ok x else Err (record {})
@@ -47,32 +48,33 @@ x_of t f = f.b.value *ℤ t.tx -ℤ f.a.value *ℤ t.ty
 abbrev pub y_of : Frame → Push → ℤ
 y_of t f = f.a.value *ℤ t.tx +ℤ f.b.value *ℤ t.ty
 
-x_is : (t : Frame) (f : Push) → written_x t f ≡ made_if (x_fits t f.a.value f.b.value) (whole (x_of t f))
-unfolding written_x
-x_is t f = after (f.b.value *ℤ t.tx) _ _ _ (after (f.a.value *ℤ t.ty) _ _ _ refl)
+module _ (z : Bearing) (f : Push) where
+  x_is : written_force_x (joint_at z.at z) f ≡ made_if (x_fits z.frame f.a.value f.b.value) (whole (x_of z.frame f))
+  unfolding written_force_x
+  x_is = after (f.b.value *ℤ z.frame.tx) _ _ _ (after (f.a.value *ℤ z.frame.ty) _ _ _ refl)
 
-y_is : (t : Frame) (f : Push) → written_y t f ≡ made_if (y_fits t f.a.value f.b.value) (whole (y_of t f))
-unfolding written_y
-y_is t f = after (f.a.value *ℤ t.tx) _ _ _ (after (f.b.value *ℤ t.ty) _ _ _ refl)
+  y_is : written_force_y (joint_at z.at z) f ≡ made_if (y_fits z.frame f.a.value f.b.value) (whole (y_of z.frame f))
+  unfolding written_force_y
+  y_is = after (f.a.value *ℤ z.frame.tx) _ _ _ (after (f.b.value *ℤ z.frame.ty) _ _ _ refl)
 
-abbrev force_with : Bearing → Push → RealForce
+abbrev force_with : Bearing → Push → Force
 force_with z f = record { x = whole (x_of z.frame f); y = whole (y_of z.frame f) }
 
-force_is : (z : Bearing) (f : Push) → written_real_force z f ≡ made_if (force_fits z f) (force_with z f)
-unfolding written_real_force
-force_is z f = both (written_x z.frame f) _ _ _ (whole (x_of z.frame f)) _ (x_is z.frame f)
-    (mapped (written_y z.frame f) _ (λ y. record { x = whole (x_of z.frame f); y = y })
-    (whole (y_of z.frame f)) (y_is z.frame f))
+force_is : (z : Bearing) (f : Push) → written_bearing_force z f ≡ made_if (force_fits z f) (force_with z f)
+unfolding written_bearing_force
+force_is z f = both (written_force_x (joint_at z.at z) f) _ _ _ (whole (x_of z.frame f)) _ (x_is z f)
+    (mapped (written_force_y (joint_at z.at z) f) _ (λ y. record { x = whole (x_of z.frame f); y = y })
+    (whole (y_of z.frame f)) (y_is z f))
 
 -- a force that is made
-pub record IsForce (z : Bearing) (f : Push) (r : RealForce) : Type 0 where
+pub record IsForce (z : Bearing) (f : Push) (r : Force) : Type 0 where
   pub fits : force_fits z f ≡ true
   pub x : r.x.value ≡ force_x_of (scene_bearing_of z) (record { a = f.a.value; b = f.b.value })
   pub y : r.y.value ≡ force_y_of (scene_bearing_of z) (record { a = f.a.value; b = f.b.value })
   pub x_fits : IsFitting r.x.value
   pub y_fits : IsFitting r.y.value
 
--- its last numbers fit
+-- the last number of each half of a force's six fits
 last_fit : (a b c d e f : Bool) → ((a && (b && c)) && (d && (e && f))) ≡ true → (c ≡ true) × (f ≡ true)
 last_fit a b c d e f h = (
   right_true b c (right_true a (b && c) (left_true (a && (b && c)) (d && (e && f)) h)),
@@ -82,7 +84,7 @@ last_fit a b c d e f h = (
 turned : (a b tx ty : ℤ) → b *ℤ tx -ℤ a *ℤ ty ≡ a *ℤ neg_ℤ ty +ℤ b *ℤ tx
 turned a b tx ty = simp expand (omega (arith, sums))
 
-pub force_ok : (z : Bearing) (f : Push) (r : RealForce) → written_real_force z f ≡ Ok r → IsForce z f r
+pub force_ok : (z : Bearing) (f : Push) (r : Force) → written_bearing_force z f ≡ Ok r → IsForce z f r
 force_ok z f r h = go (force_fits z f) refl (sym (force_is z f) ∙ h)
   where
     a : ℤ
@@ -99,12 +101,12 @@ force_ok z f r h = go (force_fits z f) refl (sym (force_is z f) ∙ h)
           fits = e;
           x = sym (λ i. (is i).x.value) ∙ turned a b z.frame.tx z.frame.ty;
           y = sym (λ i. (is i).y.value);
-          x_fits = subst (λ (r : RealForce). IsFitting r.x.value) is (ltb-true _ _ fit.0);
-          y_fits = subst (λ (r : RealForce). IsFitting r.y.value) is (ltb-true _ _ fit.1);
+          x_fits = subst (λ (r : Force). IsFitting r.x.value) is (ltb-true _ _ fit.0);
+          y_fits = subst (λ (r : Force). IsFitting r.y.value) is (ltb-true _ _ fit.1);
         }
     go false e h = absurd cc
 
-pub force_err : (z : Bearing) (f : Push) (w : Wide) → written_real_force z f ≡ Err w → force_fits z f ≡ false
+pub force_err : (z : Bearing) (f : Push) (w : Wide) → written_bearing_force z f ≡ Err w → force_fits z f ≡ false
 force_err z f w h = go (force_fits z f) refl (sym (force_is z f) ∙ h)
   where
     go : (t : Bool) → force_fits z f ≡ t → made_if t (force_with z f) ≡ Err w → force_fits z f ≡ false

@@ -10,23 +10,23 @@ use Rattle.std.proofs.lemmas.List.{get_or_default}
 use Rattle.stack_whole.specs.declared.whole.Wide.{Wide}
 use Rattle.stack_contact.specs.declared.types.Bearing.{Bearing}
 use Rattle.stack_equilibrium.specs.declared.block.Push.{Push}
-use Rattle.stack_report.specs.declared.force.RealForce.{RealForce}
+use Rattle.stack_equilibrium.specs.declared.force.Force.{Force}
 use Rattle.stack_report.specs.declared.errors.ReportError.{ReportError}
 use Rattle.stack_report.specs.declared.errors.ReportError.TheVariants.{TooWide, Memory}
 use Rattle.stack_equilibrium.specs.SurveyScene.{no_bearing}
-use Rattle.stack_equilibrium.specs.WrittenSums.{push_at}
+use Rattle.stack_equilibrium.specs.WrittenSums.{push_at, written_bearing_force}
 use Rattle.stack_model.specs.Structure.{Structure}
 use Rattle.stack_certificate.specs.Certificate.{MotionValue}
 use Rattle.stack_report.specs.ContactTable.{name_of, lines_from}
-use Rattle.stack_report.specs.ForceNumbers.{one_spot, force_spot, written_real_force}
+use Rattle.stack_report.specs.ForceNumbers.{one_spot, force_spot}
 use Rattle.stack_report.specs.ForceTable.{lowest_ratio, force_text, force_line, move_text, body_move_line}
 use Rattle.stack_report.specs.Tabling.{Adds}
 use Rattle.stack_report.proofs.ForcesMade.{force_ok, force_err}
 use Rattle.stack_report.proofs.LineByLine.{one_more}
 
 -- the line of a bearing whose numbers fit, and none where one is too wide
-pub one_line : (i : ℕ) (z : Bearing) (f : Push) (r : RealForce) (d : ℤ) (k : ℕ) (text : List ℕ) (t : String Global) →
-    written_real_force z f ≡ Ok r →
+pub one_line : (i : ℕ) (z : Bearing) (f : Push) (r : Force) (d : ℤ) (k : ℕ) (text : List ℕ) (t : String Global) →
+    written_bearing_force z f ≡ Ok r →
     string_bytes t ≡ text ++ (force_text k (lowest_ratio r.x.value d) (lowest_ratio r.y.value d) ++ 10 ∷ []) →
     Adds (Ok t) text (one_spot i z f) (force_line d k z f)
 one_line i z f r d k text t h e = let m = force_ok z f r h in (
@@ -34,7 +34,8 @@ one_line i z f r d k text t h e = let m = force_ok z f r h in (
   e ∙ (λ j. text ++ (force_text k (lowest_ratio (m.x j) d) (lowest_ratio (m.y j) d) ++ 10 ∷ [])),
 )
 
-pub none_made : (i : ℕ) (z : Bearing) (f : Push) (w : Wide) → written_real_force z f ≡ Err w → one_spot i z f ≡ Some i
+pub none_made : (i : ℕ) (z : Bearing) (f : Push) (w : Wide) → written_bearing_force z f ≡ Err w →
+    one_spot i z f ≡ Some i
 none_made i z f w h = ap (λ b. only_if (not b) i) (force_err z f w h)
 
 -- what stops the lines of a list at an item stops them all

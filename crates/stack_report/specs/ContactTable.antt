@@ -12,7 +12,7 @@ use Rattle.stack_contact.specs.Surveyed.{Surveyed}
 abbrev pub name_of : Structure → ℕ → List ℕ
 name_of s i = (body_of s i).name
 
--- two numbers
+-- two numbers with a space between them
 unfoldable pub pair_text : ℤ → ℤ → List ℕ
 pair_text a b = signed_decimal a ++ codes " " ++ signed_decimal b
 
@@ -38,7 +38,7 @@ abbrev pub touch_text : ℕ → List ℕ → List ℕ → Touch → List ℕ
 touch_text k first second z =
     codes "touch " ++ decimal (k + 1) ++ codes " " ++ first ++ codes " " ++ second ++ codes " " ++ point_text z.at
 
--- their lines in a structure, each with its line feed
+-- the line of bearing number k, with the names of its two bodies
 abbrev pub bearing_line : Structure → ℕ → Bearing → List ℕ
 bearing_line s k z = bearing_text k (name_of s z.first) (name_of s z.second) z ++ 10 ∷ []
 

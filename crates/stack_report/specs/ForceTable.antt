@@ -34,11 +34,11 @@ factor_line f = codes "factor " ++ ratio_text (lowest_ratio f.factor f.scale) ++
 abbrev pub force_text : ℕ → (x y : Ratio) → List ℕ
 force_text k x y = codes "force " ++ decimal (k + 1) ++ codes " " ++ ratio_text x ++ codes " " ++ ratio_text y
 
--- what a bearing exerts on its later body with a push, over d
+-- what a bearing exerts on its later body with a push, over d, to the right
 abbrev pub exerted_x : Bearing → Push → (d : ℤ) → Ratio
 exerted_x z f d = lowest_ratio (force_x_of (scene_bearing_of z) (record { a = f.a.value; b = f.b.value })) d
 
--- the same upwards
+-- what a bearing exerts on its later body with a push, over d, upwards
 abbrev pub exerted_y : Bearing → Push → (d : ℤ) → Ratio
 exerted_y z f d = lowest_ratio (force_y_of (scene_bearing_of z) (record { a = f.a.value; b = f.b.value })) d
 
@@ -46,11 +46,11 @@ exerted_y z f d = lowest_ratio (force_y_of (scene_bearing_of z) (record { a = f.
 abbrev pub force_line : (d : ℤ) → ℕ → Bearing → Push → List ℕ
 force_line d k z f = force_text k (exerted_x z f d) (exerted_y z f d) ++ 10 ∷ []
 
--- those of a list
+-- the lines of all bearings, each with its force over d
 abbrev pub bearing_lines : (d : ℤ) → List Bearing → List (ℤ × ℤ) → List ℕ
 bearing_lines d bs parts = lines_from (λ k z. force_line d k z (push_at parts k)) 0 bs
 
--- each a sixth of its part over this number
+-- the lines of all bearings, each force a sixth of its part over this number
 abbrev pub forces_part : Surveyed → (over : ℤ) → List (ℤ × ℤ) → List ℕ
 forces_part s over parts = bearing_lines (pos 6 *ℤ over) s.bearings parts
 
@@ -59,7 +59,7 @@ abbrev pub move_text : List ℕ → ℤ × ℤ × ℤ → List ℕ
 move_text name m = codes "move " ++ name ++ codes " " ++ signed_decimal m.0 ++ codes " " ++ signed_decimal m.1
     ++ codes " " ++ signed_decimal m.2
 
--- that of free block number b, which is body i
+-- the line of free block number b, which is body i, with its move
 abbrev pub body_move_line : Structure → MotionValue → (b i : ℕ) → List ℕ
 body_move_line s y b i = move_text (name_of s i) (get_or y b (pos 0, pos 0, pos 0)) ++ 10 ∷ []
 
@@ -67,7 +67,7 @@ body_move_line s y b i = move_text (name_of s i) (get_or y b (pos 0, pos 0, pos 
 abbrev pub moves_part : Surveyed → MotionValue → List ℕ
 moves_part s y = lines_from (body_move_line s.structure y) 0 (frees_of s.structure.bodies)
 
--- the forces that carry the loads, with their factor; and further ones, without end
+-- the forces that carry the loads, behind the line of their factor
 abbrev pub carried_part : Surveyed → ForcesValue → List ℕ
 carried_part s f = factor_line f ++ forces_part s f.scale f.parts
 

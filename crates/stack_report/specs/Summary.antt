@@ -1,7 +1,7 @@
 -- The summary of the judgement of a wall: its number; how many free blocks, bearings and touches its survey has;
 -- the form of the certificate; the factor, where that is the greatest; and whether no number of the
 -- table and of the run is too wide for 64 bits.
-use Rattle.std.specs.Prelude.{ℕ, Bool, true, false, List, [], ◌∷◌, ◌++◌, length, codes, decimal}
+use Rattle.std.specs.Prelude.{ℕ, Bool, true, false, List, [], ◌∷◌, ◌++◌, length, codes}
 use Rattle.stack_contact.specs.Surveyed.{Surveyed}
 use Rattle.stack_contact.specs.FreeBlocks.{frees_of}
 use Rattle.stack_certificate.specs.Certificate.{CertificateValue, stands, collapses, greatest, unbounded}

@@ -11,7 +11,7 @@ use Rattle.stack_certificate.specs.Certificate.{greatest, unbounded}
 use Rattle.stack_report.specs.declared.errors.ReportError.{ReportError}
 use Rattle.stack_report.specs.declared.errors.ReportError.TheVariants.{TooWide, Memory}
 use Rattle.stack_report.specs.ForceNumbers.{wide_index}
-use Rattle.stack_report.specs.declared.force.RealForce.{RealForce}
+use Rattle.stack_equilibrium.specs.declared.force.Force.{Force}
 use Rattle.stack_report.specs.declared.force_lines.ForceLine.{ForceLine}
 use Rattle.stack_report.specs.ForceTable.{lowest_ratio, forces_text}
 
@@ -21,7 +21,7 @@ Tables (Ok v) s c = (wide_index s c ≡ None) × (v.items ≡ forces_text s c)
 Tables (Err (TooWide i)) s c = wide_index s c ≡ Some i
 Tables (Err Memory) s c = ⊤
 
--- the same of more lines behind a text
+-- exactly these further lines behind a text where no number of them is too wide, or the index of the first that is
 abbrev pub Adds : Result (String Global) ReportError → (text : List ℕ) → (wide : Option ℕ) → (more : List ℕ)
     → Type 0
 Adds (Ok t) text wide more = (wide ≡ None) × (string_bytes t ≡ text ++ more)
@@ -29,7 +29,7 @@ Adds (Err (TooWide i)) text wide more = wide ≡ Some i
 Adds (Err Memory) text wide more = ⊤
 
 -- the line of bearing number k with this force over d
-abbrev pub line_over : (d : ℤ) → ℕ → RealForce → ForceLine
+abbrev pub line_over : (d : ℤ) → ℕ → Force → ForceLine
 line_over d k f = record { index = k; x = lowest_ratio f.x.value d; y = lowest_ratio f.y.value d }
 
 -- a number that others are divided by
@@ -41,13 +41,13 @@ pub record IsScale (d : ℤ) : Type 0 where
 abbrev pub HasParts : Surveyed → List (ℤ × ℤ) → Type 0
 HasParts s parts = length parts ≡ length s.bearings
 
--- forces that carry loads, further ones, and a motion
+-- forces that carry loads: a part for each bearing, over a scale above 0, and a factor that isn't negative
 pub record IsCarrying (s : Surveyed) (f : ForcesValue) : Type 0 where
   pub count : HasParts s f.parts
   pub scale : pos 0 ≺ f.scale
   pub factor : pos 0 ≼ f.factor
 
--- further ones: a part for each bearing, over a factor above 0
+-- further forces: a part for each bearing, over a factor above 0
 pub record IsRising (s : Surveyed) (r : ForcesValue) : Type 0 where
   pub count : HasParts s r.parts
   pub factor : pos 0 ≺ r.factor

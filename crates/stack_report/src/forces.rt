@@ -14,14 +14,15 @@ ghost use Rattle.stack_report.specs.Tabling.{Tables, Adds, line_over, IsScale, H
 ghost use Rattle.stack_report.specs.Tabling.{HasMoves, IsWhole};
 
 use crate::errors::ReportError;
-use crate::force::{RealForce, force_of};
 use crate::force_lines::{ForceLine, MoveLine};
 use crate::lines::name;
 use crate::ratio::lowest_terms;
 use stack_certificate::types::{Certificate, Forces, Motion};
 use stack_checker::types::Check;
 use stack_contact::types::{Bearing, Survey};
+use stack_equilibrium::bearing_force;
 use stack_equilibrium::block::{Push, push_of};
+use stack_equilibrium::force::Force;
 use stack_whole::{Whole, Wide};
 use std::alloc::{AllocError, Global};
 use std::fmt::Write;
@@ -38,7 +39,7 @@ pub fn with_factor(mut text: String, f: &Forces) -> Result<String, AllocError>
 }
 
 /// The line of bearing `index` with a force that is divided by a number.
-fn line_of(index: usize, force: RealForce, over: Whole) -> ForceLine
+fn line_of(index: usize, force: Force, over: Whole) -> ForceLine
     requires x { IsFitting force.x.value }
     requires y { IsFitting force.y.value }
     requires over { IsScale over.value }
@@ -72,7 +73,7 @@ fn with_bearing(
     requires { IsScale over.value }
     ensures { Adds result (string_bytes text) (one_spot index bearing push) (force_line over.value k bearing push) }
 {
-    match force_of(bearing, push) {
+    match bearing_force(bearing, push) {
         Ok(force) => Ok(with_line(text, line_of(k, force, over))?),
         Err(Wide) => Err(ReportError::TooWide { index }),
     }
@@ -207,7 +208,7 @@ fn lines(alloc: Global, s: &Survey, c: &Certificate) -> Result<String, ReportErr
 /// `TooWide` exactly where a number is more than 2^127 - 1 in size, with the index of the first one. Index 0 is six
 /// times the scale. Index k is bearing number k, from 1, with the parts a and b and the tangent (tx, ty): b*tx,
 /// a*ty, their difference, a*tx, b*ty, their sum. With K bearings, index K + 1 is six times the factor of further
-/// forces, and index K + 1 + k is bearing number k again. `Memory` where memory is wanting. After Livesley (1978).
+/// forces, and index K + 1 + k is bearing number k again. `Memory` where memory ran out. After Livesley (1978).
 pub fn force_table(alloc: Global, s: &Survey, c: &Certificate) -> Result<Vec<u8>, ReportError>
     requires { written_check s.now (certificate_view c.now) ≡ Check.Accepted }
     ensures { Tables result s.now (certificate_view c.now) }

@@ -8,7 +8,6 @@
 
 mod contacts;
 mod errors;
-mod force;
 mod force_lines;
 mod forces;
 mod lines;

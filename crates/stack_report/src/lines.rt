@@ -30,16 +30,16 @@ pub fn name(model: &Model, i: usize) -> &str
 
 /// Two numbers.
 #[derive(Clone, Copy, Debug, PartialEq, Eq)]
-struct Pair {
+struct TwoNumbers {
     a: i64,
     b: i64,
 }
 
 /// The coordinates of a point.
-fn point(at: Point) -> Pair
+fn point(at: Point) -> TwoNumbers
     ensures { result ≡ record { a = at.x; b = at.y } }
 {
-    Pair { a: at.x, b: at.y }
+    TwoNumbers { a: at.x, b: at.y }
 }
 
 /// The tangent and the coefficient of friction of a bearing.
@@ -50,7 +50,7 @@ struct Directions {
 
 /// The numbers of a bearing: its point, its tangent and its coefficient of friction.
 #[derive(Clone, Copy, Debug, PartialEq, Eq)]
-struct Numbers {
+struct BearingNumbers {
     bearing: Bearing,
 }
 
@@ -72,7 +72,7 @@ pub struct TouchLine<'a> {
     pub touch: Touch,
 }
 
-impl fmt::Display for Pair {
+impl fmt::Display for TwoNumbers {
     ghost output = { λ p. Some (pair_text p.a p.b) };
 
     #[tactic(auto, unfolding(crate::specs::ContactTable::pair_text))]
@@ -86,11 +86,11 @@ impl fmt::Display for Directions {
 
     #[tactic(auto, unfolding(crate::specs::ContactTable::directions_text))]
     fn fmt<W: fmt::Write>(&self, f: &mut fmt::Formatter<W>) -> fmt::Result {
-        let tangent = Pair {
+        let tangent = TwoNumbers {
             a: self.bearing.frame.tx,
             b: self.bearing.frame.ty,
         };
-        let friction = Pair {
+        let friction = TwoNumbers {
             a: self.bearing.cone.p,
             b: self.bearing.cone.q,
         };
@@ -98,7 +98,7 @@ impl fmt::Display for Directions {
     }
 }
 
-impl fmt::Display for Numbers {
+impl fmt::Display for BearingNumbers {
     ghost output = { λ n. Some (bearing_numbers n.bearing) };
 
     #[tactic(auto, unfolding(crate::specs::ContactTable::bearing_numbers))]
@@ -115,7 +115,7 @@ impl fmt::Display for BearingLine<'_> {
     ghost output = { λ l. Some (bearing_text l.index l.first.now l.second.now l.bearing) };
 
     fn fmt<W: fmt::Write>(&self, f: &mut fmt::Formatter<W>) -> fmt::Result {
-        let numbers = Numbers {
+        let numbers = BearingNumbers {
             bearing: self.bearing,
         };
         write!(

@@ -1,13 +1,11 @@
 //! Fractions in lowest terms.
 
-ghost use Rattle.std.specs.Prelude.{◌≡◌, ◌≢◌, pos, Some};
+ghost use Rattle.std.specs.Prelude.{◌≡◌, pos, Some};
 ghost use Rattle.stack_algebra.specs.IntegerOrder.{◌≺◌};
-ghost use Rattle.stack_algebra.proofs.Fractions.{of};
-ghost use Rattle.stack_algebra.proofs.Over.{over};
 ghost use Rattle.stack_whole.specs.Whole.{IsFitting};
 ghost use Rattle.stack_report.specs.ForceTable.{lowest_ratio, ratio_text};
 
-use stack_rational::{Exact, Frac};
+use stack_rational::{Exact, over};
 use stack_whole::Whole;
 use std::fmt;
 
@@ -27,30 +25,6 @@ impl fmt::Display for Ratio {
     }
 }
 
-/// A number that fits, as a fraction.
-fn fraction(number: Whole) -> Frac<i128>
-    requires { IsFitting number.value }
-    ensures { result ≡ of number.value }
-{
-    match Frac::from_whole(number.value) {
-        Ok(fraction) => fraction,
-        Err(_) => unreachable!(),
-    }
-}
-
-/// The quotient of two numbers that fit: in lowest terms its parts are no greater.
-fn quotient(n: Whole, d: Whole) -> Frac<i128>
-    requires numerator { IsFitting n.value }
-    requires denominator { IsFitting d.value }
-    requires positive { pos 0 ≺ d.value }
-    ensures { result ≡ over n.value d.value }
-{
-    match fraction(n).quotient(fraction(d)) {
-        Ok(quotient) => quotient,
-        Err(_) => unreachable!(),
-    }
-}
-
 /// `n` over `d`, which is positive, in lowest terms.
 pub fn lowest_terms(n: Whole, d: Whole) -> Ratio
     requires numerator { IsFitting n.value }
@@ -58,6 +32,6 @@ pub fn lowest_terms(n: Whole, d: Whole) -> Ratio
     requires positive { pos 0 ≺ d.value }
     ensures { result ≡ lowest_ratio n.value d.value }
 {
-    let (num, den) = quotient(n, d).parts();
+    let (num, den) = over(n.value, d.value).parts();
     Ratio { num, den }
 }

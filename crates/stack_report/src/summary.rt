@@ -98,7 +98,7 @@ fn lines(
 /// The summary of the judgement of wall `number`, as text: the lines `sample NUMBER`, `blocks COUNT` of the free
 /// blocks, `bearings COUNT`, `touches COUNT`, `verdict FORM` with the form of the certificate, which the check
 /// accepts; `factor N/D` where that is the greatest, in lowest terms; and `narrow yes` or `narrow no`, as it is
-/// told. Refused only for want of memory.
+/// told. `AllocError` where memory ran out.
 pub fn sample_summary(
     alloc: Global,
     number: u32,

@@ -127,7 +127,7 @@ fn accepted(
     }
 }
 
-/// Of the post, pushed at its upper left corner.
+/// The certificate of the post, pushed at its upper left corner.
 fn tipping(alloc: Global) -> Result<Certificate, Fail> {
     let carried = forces(alloc, 1, 2, &[(0, 0), (48, -12)])?;
     let mut moves = Vec::new(alloc);

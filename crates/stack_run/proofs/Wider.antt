@@ -27,21 +27,21 @@ abbrev SameSpot : {P : Type 0} → Option P → Option P → Type 0
 SameSpot (Some s) y = Unit {0}
 SameSpot None y = y ≡ None
 
--- choices
+-- y is x, unless x is refused, for choices
 abbrev SameChoice : Choice → Choice → Type 0
 SameChoice (refused s) y = Unit {0}
 SameChoice stays y = y ≡ stays
 SameChoice (rises c) y = y ≡ rises c
 SameChoice (due r c) y = y ≡ due r c
 
--- stops
+-- y is x, unless x is refused, for the stops of a phase
 abbrev SameStop : {C : Type 0} → PhaseStop C → PhaseStop C → Type 0
 SameStop (wide_at p k s) y = Unit {0}
 SameStop (settled l d T) y = y ≡ settled l d T
 SameStop (unlimited T c) y = y ≡ unlimited T c
 SameStop spent y = y ≡ spent
 
--- ends
+-- y is x, unless x is refused, for ends
 abbrev SameEnd : {C : Type 0} → End C → End C → Type 0
 SameEnd (wide p k s) y = Unit {0}
 SameEnd (infeasible T) y = y ≡ infeasible T
@@ -51,20 +51,20 @@ SameEnd (ray T c) y = y ≡ ray T c
 SameEnd over y = y ≡ over
 SameEnd never y = y ≡ never
 
--- searches
+-- the first of two items under both rules
 or_else-same : {P : Type 0} (x x' y y' : Option P) → SameSpot x x' → SameSpot y y' →
     SameSpot (or_else x y) (or_else x' y')
 or_else-same (Some s) x' y y' h k = tt
 or_else-same None x' (Some s) y' h k = tt
 or_else-same None x' None y' h k = ap (λ o. or_else o y') h ∙ k
 
--- the first item
+-- the first item of a search under both rules
 first-same : {P : Type 0} (n : ℕ) (f f' : ℕ → Option P) → ((i : ℕ) → SameSpot (f i) (f' i)) →
     SameSpot (first n f) (first n f')
 first-same zero f f' h = refl
 first-same (suc n) f f' h = or_else-same (first n f) (first n f') (f n) (f' n) (first-same n f f' h) (h n)
 
--- under a test
+-- an item under a test
 where_true : {P : Type 0} (b : Bool) (x x' : Option P) → SameSpot x x' →
     SameSpot (cond b x None) (cond b x' None)
 where_true true x x' h = h
@@ -82,7 +82,7 @@ only_if-same false b s h = ap (λ b. only_if b s) (h refl)
 
 module _ (F : Ordered) (S : Shape) (narrow broad : Op → F.C → F.C → Bool)
     (less_too_wide : (o : Op) (x y : F.C) → narrow o x y ≡ false → broad o x y ≡ false) where
-  -- spots of a turn
+  -- an operation's spot under both rules
   spot_if-same : (o : Op) (s : Step) (x y : F.C) (i j : ℕ) →
       SameSpot (spot_if F narrow o s x y i j) (spot_if F broad o s x y i j)
   spot_if-same o s x y i j = only_if-same (narrow o x y) (broad o x y) _ (less_too_wide o x y)
@@ -111,14 +111,14 @@ module _ (F : Ordered) (S : Shape) (narrow broad : Op → F.C → F.C → Bool)
           (spot_if-same Difference Subtract (T.cell i j)
           (F.mul (T.cell i c) (divided F (T.cell r) (T.cell r c) j)) i j)
 
-  -- choices
+  -- a choice by its ratio and its row under both rules
   chosen_at-same : (c : ℕ) (i i' r : Option ℕ) → SameSpot i i' →
       SameChoice (chosen_at c i r) (chosen_at c i' r)
   chosen_at-same c (Some i) i' r h = tt
   chosen_at-same c None i' None h = ap (λ i. chosen_at c i None) h
   chosen_at-same c None i' (Some r) h = ap (λ i. chosen_at c i (Some r)) h
 
-  -- the choice
+  -- the choice of a turn under both rules
   choose-same : (T : Tabled F.C) (among : ℕ) → SameChoice (choose F S narrow T among) (choose F S broad T among)
   choose-same T among = go (entering F S T among)
     where
@@ -127,7 +127,7 @@ module _ (F : Ordered) (S : Shape) (narrow broad : Op → F.C → F.C → Bool)
       go (Some c) = chosen_at-same c (ratio_row F S narrow T c) (ratio_row F S broad T c) (leaving F S T c)
           (ratio_row-same T c)
 
-  -- stops
+  -- stops that are the same
   by_equal : (x y z : PhaseStop F.C) → z ≡ y → SameStop x y → SameStop x z
   by_equal x y z e h = subst (λ z. SameStop x z) (sym e) h
 
@@ -148,7 +148,7 @@ module _ (F : Ordered) (S : Shape) (narrow broad : Op → F.C → F.C → Bool)
   on_choice-same phase left done T pivot pivot' (due r c) y h k =
       by_equal _ (pivot' r c) _ (ap (on_choice phase left done T pivot') h) (k r c)
 
-  -- a phase
+  -- a phase under both rules
   turns-same : (phase among left done : ℕ) (T : Tabled F.C) →
       SameStop (turns F S narrow phase among left done T) (turns F S broad phase among left done T)
   turns-same phase among zero done T =
@@ -159,7 +159,7 @@ module _ (F : Ordered) (S : Shape) (narrow broad : Op → F.C → F.C → Bool)
       (turns F S broad phase among left (suc done)) (pivoted_at F S T r c) _ _ (pivot_spot-same T r c)
       (turns-same phase among left (suc done) (pivoted_at F S T r c)))
 
-  -- phase 2
+  -- phase 2 at a row whose basic column is artificial, under both rules
   drive_at-same : (left done : ℕ) (T : Tabled F.C) (i : ℕ) (o : Option ℕ) →
       SameStop (drive_at F S narrow left done T i o) (drive_at F S broad left done T i o)
   drive_at-same left done T i None = refl
@@ -168,7 +168,7 @@ module _ (F : Ordered) (S : Shape) (narrow broad : Op → F.C → F.C → Bool)
       (settled left (suc done))
       (pivoted_at F S T i c) _ _ (pivot_spot-same T i c) refl
 
-  -- at a row
+  -- phase 2 at any row
   drive_row-same : (left done : ℕ) (T : Tabled F.C) (i : ℕ) →
       SameStop (drive_row F S narrow left done T i) (drive_row F S broad left done T i)
   drive_row-same left done T i = go (leb (plain S) (T.basic i))
@@ -179,7 +179,7 @@ module _ (F : Ordered) (S : Shape) (narrow broad : Op → F.C → F.C → Bool)
       go true = drive_at-same left done T i (driven_column F S T i)
       go false = refl
 
-  -- one phase after another
+  -- one phase after another, under both rules
   after-same : (x y : PhaseStop F.C) (next next' : ℕ → ℕ → Tabled F.C → PhaseStop F.C) → SameStop x y →
       ((l d : ℕ) (T : Tabled F.C) → SameStop (next l d T) (next' l d T)) →
       SameStop (after_phase x next) (after_phase y next')
@@ -188,21 +188,21 @@ module _ (F : Ordered) (S : Shape) (narrow broad : Op → F.C → F.C → Bool)
   after-same (unlimited T c) y next next' h g = ap (λ z. after_phase z next') h
   after-same spent y next next' h g = ap (λ z. after_phase z next') h
 
-  -- all rows
+  -- phase 2 at all rows
   drives-same : (n left done : ℕ) (T : Tabled F.C) →
       SameStop (drives F S narrow n left done T) (drives F S broad n left done T)
   drives-same zero left done T = refl
   drives-same (suc n) left done T =
       after-same _ _ _ _ (drives-same n left done T) (λ l d U. drive_row-same l d U n)
 
-  -- ends
+  -- the end of a run that comes to phase 3, under both rules
   third_end-same : (x y : PhaseStop F.C) → SameStop x y → SameEnd (third_end x) (third_end y)
   third_end-same (wide_at p k s) y h = tt
   third_end-same (settled l d T) y h = ap (third_end) h
   third_end-same (unlimited T c) y h = ap (third_end) h
   third_end-same spent y h = ap (third_end) h
 
-  -- past phase 1
+  -- a run past phase 1 under both rules
   past_first-same : (left done : ℕ) (T : Tabled F.C) (k : ℕ) →
       SameEnd (past_first F S narrow left done T k) (past_first F S broad left done T k)
   past_first-same left done T zero = refl
@@ -210,7 +210,7 @@ module _ (F : Ordered) (S : Shape) (narrow broad : Op → F.C → F.C → Bool)
       (after-same _ _ _ _ (drives-same S.rows left done (clear_objective F S T))
       (λ l d U. turns-same 3 (plain S) l d (set_factor_objective F S U)))
 
-  -- by phase 1
+  -- a run by its phase 1 under both rules
   end_by_equal : (x y z : End F.C) → z ≡ y → SameEnd x y → SameEnd x z
   end_by_equal x y z e h = subst (λ z. SameEnd x z) (sym e) h
 
@@ -226,12 +226,12 @@ module _ (F : Ordered) (S : Shape) (narrow broad : Op → F.C → F.C → Bool)
   first_end-same (unlimited T c) y h = ap (first_end F S broad) h
   first_end-same spent y h = ap (first_end F S broad) h
 
-  -- the run
+  -- the whole run under both rules
   pub written_run-same : (budget : ℕ) (T : Tabled F.C) →
       SameEnd (written_run F S narrow budget T) (written_run F S broad budget T)
   written_run-same budget T = first_end-same _ _ (turns-same 1 S.contacts budget 0 T)
 
--- an end that is no refusal
+-- where the stricter run isn't refused, the other one is the same
 same_end : {C : Type 0} (x y : End C) → IsNowhereTooWide x → SameEnd x y → y ≡ x
 same_end (wide p k s) y n h = absurd n
 same_end (infeasible T) y n h = h
@@ -241,7 +241,7 @@ same_end (ray T c) y n h = h
 same_end over y n h = h
 same_end never y n h = h
 
--- at widths
+-- a run at a greatest value and at a greater one
 pub wider_run_is_same : WiderRunIsSame
 wider_run_is_same m n P budget w h = same_end (run_at m P budget) (run_at n P budget) h
     (written_run-same ordered_fractions P.shape (is_too_wide m) (is_too_wide n)

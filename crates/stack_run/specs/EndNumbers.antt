@@ -42,7 +42,8 @@ module _ (F : Ordered) where
     abbrev pub bound_multiplier : ℕ → F.C
     bound_multiplier k = signed (flipped P k) (objective F P.shape T (plain P.shape + k))
 
-    -- at the end of phase 1: the same of that cell less 1
+    -- multipliers of the problem's rows, at the end of phase 1: the objective cell of each row's artificial column less
+    -- 1, with the other sign where the row is flipped
     abbrev pub collapse_multiplier : ℕ → F.C
     collapse_multiplier k =
         signed (flipped P k) (less F (objective F P.shape T (plain P.shape + k)) (F.of (pos 1)))

@@ -17,7 +17,7 @@ Rule = Op → Fraction → Fraction → Bool
 abbrev pub run_of : (P : Problem) → Rule → (budget : ℕ) → End Fraction
 run_of P rule budget = written_run ordered_fractions P.shape rule budget (written_table ordered_fractions P)
 
--- and at a greatest value
+-- the written run of a problem at a greatest value
 abbrev pub run_at : ℤ → (P : Problem) → (budget : ℕ) → End Fraction
 run_at max P budget = run_of P (is_too_wide max) budget
 

@@ -76,7 +76,7 @@ module _ (F : Ordered) (S : Shape) where
   driven_column T i = least (plain S) (λ j. not (is_nought (F.sign (T.cell i j))))
 
 module _ (F : Ordered) (S : Shape) (is_too_wide : Op → F.C → F.C → Bool) where
-  -- by the entering column
+  -- the choice of a turn, by its entering column
   abbrev pub chosen_in : Tabled F.C → Option ℕ → Choice
   chosen_in T None = stays
   chosen_in T (Some c) = chosen_at c (ratio_row F S is_too_wide T c) (leaving F S T c)
@@ -110,12 +110,12 @@ module _ (F : Ordered) (S : Shape) (is_too_wide : Op → F.C → F.C → Bool) w
   drives zero left done T = settled left done T
   drives (suc n) left done T = after_phase (drives n left done T) (λ l d U. drive_row l d U n)
 
-  -- phases 2 and 3
+  -- phases 2 and 3, from the end of phase 1
   abbrev pub raise : (left done : ℕ) → Tabled F.C → PhaseStop F.C
   raise left done T = after_phase (drives S.rows left done (clear_objective F S T))
       (λ l d U. turns 3 (plain S) l d (set_factor_objective F S U))
 
-  -- past phase 1, by the number of factor columns
+  -- a run past phase 1, by the number of factor columns
   abbrev pub past_first : (left done : ℕ) → Tabled F.C → ℕ → End F.C
   past_first left done T zero = feasible T
   past_first left done T (suc n) = third_end (raise left done T)
@@ -128,6 +128,6 @@ module _ (F : Ordered) (S : Shape) (is_too_wide : Op → F.C → F.C → Bool) w
   first_end (wide_at p k s) = wide p k s
   first_end spent = over
 
-  -- the written run
+  -- the written run of a table with a budget of pivots
   abbrev pub written_run : (budget : ℕ) → Tabled F.C → End F.C
   written_run budget T = first_end (turns 1 S.contacts budget 0 T)

@@ -34,7 +34,7 @@ module _ (S : Shape) (T : Tabled Fraction) (i : ℕ) where
   abbrev pub driven_item : ℕ → Option ℕ
   driven_item j = only_if (not (is_nought (ordered_fractions.sign (T.cell i j)))) j
 
-  -- by what is read there
+  -- column j is driven, by what is read there
   pub driven_at : (j : ℕ) (x : Fraction) (b : Bool) → x ≡ T.cell i j → b ≡ is_nought (sign_of x.num) →
       driven_item j ≡ only_if (not b) j
   driven_at j x b e h = ap (λ b. only_if (not b) j)

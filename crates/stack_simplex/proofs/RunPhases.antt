@@ -37,7 +37,7 @@ module _ (max : ℤ) (S S' : Shape) (T U : Tabled Fraction) (budget : ℕ) (k : 
     (first : settled k.left k.done U ≡ turns ordered_fractions S (is_too_wide max) 1 S.contacts budget 0 T)
     (enough : is_negative_sign (ordered_fractions.sign (right ordered_fractions S' U S'.rows)) ≡ false)
     (factor : S'.factors ≡ 1) where
-  -- phase 3
+  -- phase 3 on a table, with pivots left and done
   abbrev on_third : ℕ → ℕ → Tabled Fraction → PhaseStop Fraction
   on_third l d V = turns ordered_fractions S (is_too_wide max) 3 (plain S) l d
       (set_factor_objective ordered_fractions S V)
@@ -52,7 +52,7 @@ module _ (max : ℤ) (S S' : Shape) (T U : Tabled Fraction) (budget : ℕ) (k : 
       ∙ ap (past_first ordered_fractions S (is_too_wide max) k.left k.done U)
       (ap (λ (S : Shape). S.factors) (sym same) ∙ factor)
 
-  -- by the answer of phase 2
+  -- the run by the answer of phase 2
   second_is : (X : PhaseStop Fraction) → X ≡ drives ordered_fractions S' (is_too_wide max) S'.rows k.left k.done
       (clear_objective ordered_fractions S' U) →
       written_run ordered_fractions S (is_too_wide max) budget T ≡ third_end (after_phase X on_third)
@@ -61,7 +61,7 @@ module _ (max : ℤ) (S S' : Shape) (T U : Tabled Fraction) (budget : ℕ) (k : 
       (clear_objective ordered_fractions S U))
       (sym same) ∙ sym h)
 
-  -- phase 2 refuses
+  -- the run where phase 2 refuses
   pub second_refuses : (e : RunError) →
       refusal_of e ≡ drives ordered_fractions S' (is_too_wide max) S'.rows k.left k.done
       (clear_objective ordered_fractions S' U) →
@@ -72,7 +72,7 @@ module _ (max : ℤ) (S S' : Shape) (T U : Tabled Fraction) (budget : ℕ) (k : 
   module _ (S'' : Shape) (V : Tabled Fraction) (l : Pivots) (same' : S'' ≡ S')
       (second : settled l.left l.done V ≡ drives ordered_fractions S' (is_too_wide max) S'.rows k.left k.done
       (clear_objective ordered_fractions S' U)) where
-    -- by the answer of phase 3
+    -- the run by the answer of phase 3
     third_is : (X : PhaseStop Fraction) → X ≡ turns ordered_fractions S'' (is_too_wide max) 3 (plain S'') l.left l.done
         (set_factor_objective ordered_fractions S'' V) →
         third_end X ≡ written_run ordered_fractions S (is_too_wide max) budget T
@@ -100,7 +100,7 @@ module _ (max : ℤ) (S : Shape) (T : Tabled Fraction) (budget : ℕ) where
       ((λ i. turns ordered_fractions (h.shape i) (is_too_wide max) 1 (h.shape i).contacts budget 0 (h.table i))
       ∙ sym e)
 
-  -- and its run gives what its end should
+  -- the run of a written table gives what its end should
   pub gives : EndsGive → (P : Problem) → IsTableOf P S T → (x : End Fraction) →
       x ≡ written_run ordered_fractions S (is_too_wide max) budget T → EndGives ordered_fractions P x
   gives law P h x e = subst (λ y. EndGives ordered_fractions P y)

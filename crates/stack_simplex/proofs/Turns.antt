@@ -8,7 +8,7 @@ use Rattle.stack_table.specs.Table.{Shape, Tabled, pivoted_at}
 use Rattle.stack_table.specs.Spots.{pivot_spot}
 use Rattle.stack_bland.specs.Choice.{entering, leaving, ratio_row}
 use Rattle.stack_run.specs.WrittenRun.{PhaseStop, wide_at}
-use Rattle.stack_duality.proofs.Turn.{turn_spent, turn_passing, turn_pivots}
+use Rattle.stack_duality.proofs.Turn.{turn_spent, turn_too_wide, turn_pivots}
 use Rattle.stack_simplex.specs.declared.pivots.Pivots.{Pivots}
 use Rattle.stack_simplex.specs.declared.refusal.RunError.{RunError}
 use Rattle.stack_simplex.specs.declared.refusal.RunError.TheVariants.{TooWide, Spent}
@@ -23,17 +23,17 @@ module _ (max : ℤ) (S : Shape) (phase among : ℕ) (T : Tabled Fraction) (r c 
     (enters : entering ordered_fractions S T among ≡ Some c)
     (ratios : ratio_row ordered_fractions S (is_too_wide max) T c ≡ None)
     (leaves : leaving ordered_fractions S T c ≡ Some r) where
-  -- and refused
+  -- a pivot that is due is refused
   pub turn_refuses : (k : Pivots) (e : RunError) →
       IsStopped phase k e (pivot_spot ordered_fractions (is_too_wide max) S T r c) →
       refusal_of e ≡ phase_from max S phase among k T
   turn_refuses k (TooWide p) h = (λ i. wide_at (h.in_phase i) (h.next_pivot i) (spot_of p))
-      ∙ sym (turn_passing ordered_fractions S (is_too_wide max) phase among T r c enters ratios leaves k.left k.done
+      ∙ sym (turn_too_wide ordered_fractions S (is_too_wide max) phase among T r c enters ratios leaves k.left k.done
       (spot_of p) h.some_left h.first)
   turn_refuses k Spent h =
       sym (turn_spent ordered_fractions S (is_too_wide max) phase among T r c enters ratios leaves k.left k.done h)
 
-  -- and done
+  -- a pivot that is due is done
   pub turn_goes_on : (k l : Pivots) (U : Tabled Fraction) →
       IsPivoted k l (pivot_spot ordered_fractions (is_too_wide max) S T r c) →
       U ≡ pivoted_at ordered_fractions S T r c →
@@ -61,6 +61,6 @@ module _ (max : ℤ) (S S' : Shape) (phase among : ℕ) (l : Pivots) (T U : Tabl
   loop_goes_on x k e h = ap (λ (S : Shape). phase_from max S phase among k U) (sym same)
       ∙ ap (λ (x : Turn). turn_answer max S' phase among U (Ok x)) (sym e) ∙ h ∙ carried
 
--- and has fewer pivots left
+-- a turn that goes on has fewer pivots left
 pub has_fewer : (before k : Pivots) (x : Turn) → x ≡ GoesOn k → HasFewer before x → k.left < before.left
 has_fewer before k x e h = subst (λ (x : Turn). HasFewer before x) e h

@@ -11,7 +11,7 @@ use Rattle.stack_simplex.specs.declared.refusal.RunError.{RunError}
 use Rattle.stack_simplex.specs.declared.refusal.RunError.TheVariants.{TooWide, Spent}
 use Rattle.stack_simplex.specs.Stops.{spot_of}
 
--- the last table
+-- the last table of a run
 abbrev pub last_of : {V : Type 0} {number : Ghosts V} → Ended V number → Table V number
 last_of (Infeasible t) = t
 last_of (Feasible t) = t
@@ -25,7 +25,7 @@ ended_as (Feasible t) = feasible (table_of t)
 ended_as (Optimal t) = optimal (table_of t)
 ended_as (Ray t c) = ray (table_of t) c
 
--- and a refusal
+-- the value of the written run that a refusal tells
 abbrev pub refused_as : RunError → End Fraction
 refused_as (TooWide p) = wide p.phase p.pivot (spot_of p)
 refused_as Spent = over

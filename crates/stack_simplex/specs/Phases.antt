@@ -33,7 +33,7 @@ abbrev pub phase_answer : Tabled Fraction → Result PhaseEnd RunError → Phase
 phase_answer T (Ok x) = stop_of T x
 phase_answer T (Err e) = refusal_of e
 
--- and that of a turn: the phase stops, or what is left of it is to be done
+-- what the answer of a turn says: the phase stops, or what is left of it is to be done
 abbrev pub turn_answer : ℤ → Shape → (phase among : ℕ) → Tabled Fraction → Result Turn RunError → PhaseStop Fraction
 turn_answer max S phase among T (Ok (Stops x)) = stop_of T x
 turn_answer max S phase among T (Ok (GoesOn k)) = phase_from max S phase among k T
@@ -44,7 +44,7 @@ abbrev pub HasFewer : Pivots → Turn → Type 0
 HasFewer before (Stops x) = ⊤
 HasFewer before (GoesOn k) = k.left < before.left
 
--- and that of phase 2
+-- what the answer of phase 2 says, with the table that is left
 abbrev pub pivots_answer : Tabled Fraction → Result Pivots RunError → PhaseStop Fraction
 pivots_answer T (Ok k) = settled k.left k.done T
 pivots_answer T (Err e) = refusal_of e

@@ -8,12 +8,12 @@ use Rattle.stack_table.specs.Problem.{Problem}
 use Rattle.stack_table.specs.WrittenTable.{written_table}
 use Rattle.stack_table.specs.Lent.{IsProblem, problem_of}
 
--- the written table of P
+-- T is the written table of P, and S its shape
 pub record IsTableOf (P : Problem) (S : Shape) (T : Tabled Fraction) : Type 0 where
   pub shape : P.shape ≡ S
   pub table : written_table ordered_fractions P ≡ T
 
--- that of some problem that meets the condition of a table
+-- T is the written table of some problem that meets the condition of a table
 pub record IsWrittenTable (S : Shape) (T : Tabled Fraction) : Type 0 where
   pub problem : Lent
   pub condition : IsProblem problem

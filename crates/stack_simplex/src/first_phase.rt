@@ -1,7 +1,6 @@
 //! Phase 1: the artificial columns are driven to 0 as far as the contact columns can.
 
 ghost use Rattle.std.specs.Prelude.{◌≡◌, OnOk};
-ghost use Rattle.stack_algebra.specs.Ordered.{sign_of};
 ghost use Rattle.stack_algebra.proofs.OrderedFractions.{ordered_fractions};
 ghost use Rattle.stack_rational.specs.TooWide.{is_too_wide};
 ghost use Rattle.stack_table.specs.Table.{right};
@@ -18,18 +17,12 @@ use stack_duality::run_laws;
 use stack_rational::Exact;
 use stack_table::Table;
 
-fn is_negative<S: Exact>(x: S) -> bool
-    ensures { result ≡ is_negative_sign (sign_of (S.exact x).num) }
-{
-    x.sign() < 0
-}
-
 /// Whether the objective's right side is negative.
 pub fn falls_short<S: Exact>(t: &Table<S>) -> bool
     ensures { result ≡ is_negative_sign (ordered_fractions.sign
         (right ordered_fractions (shape_of_table t.now) (table_of t.now) (shape_of_table t.now).rows)) }
 {
-    is_negative(t.cell(t.rows(), t.columns()))
+    t.cell(t.rows(), t.columns()).sign() < 0
 }
 
 /// Phase 1 of a written table, within a budget.

@@ -6,7 +6,7 @@
 //! ```text
 //! match run(table, budget)? {
 //!     Ended::Infeasible(last) => .., // no forces balance the dead loads
-//!     Ended::Feasible(last) => .., // some do
+//!     Ended::Feasible(last) => .., // some do, and no live loads are asked about
 //!     Ended::Optimal(last) => .., // at the greatest factor
 //!     Ended::Ray { table, column } => .., // at factors without end
 //! }
@@ -31,23 +31,23 @@ mod ended;
 mod first_phase;
 mod pivots;
 mod refusal;
-mod rising_phase;
 mod second_phase;
+mod third_phase;
 mod turn;
 
 pub use budget::enough;
 pub use ended::Ended;
 use first_phase::{falls_short, first_phase};
 pub use refusal::{RunError, RunPlace};
-use rising_phase::third_phase;
 use second_phase::second_phase;
 use stack_circles::budget_law;
 use stack_duality::run_laws;
 use stack_rational::Exact;
 use stack_table::Table;
+use third_phase::third_phase;
 use turn::PhaseEnd;
 
-/// The three phases.
+/// The run by its three phases.
 fn run_phases<S: Exact>(t: Table<S>, budget: u32) -> Result<Ended<S>, RunError>
     requires { IsWrittenTable (shape_of_table t) (table_of t) }
     ensures shape { IfOk result (λ e. shape_of_table (last_of e) ≡ shape_of_table t) }

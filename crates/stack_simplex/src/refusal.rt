@@ -15,7 +15,7 @@ pub struct RunPlace {
 /// Why a run has no end.
 #[derive(Clone, Copy, Debug, PartialEq, Eq, Drop)]
 pub enum RunError {
-    /// An operation is more than the greatest value.
+    /// The first operation that is too wide.
     TooWide(RunPlace),
     /// A pivot is due, and the budget's pivots are done.
     Spent,

@@ -4,7 +4,7 @@ ghost use Rattle.std.specs.Prelude.{◌≡◌, ◌<◌, pos, OnOk};
 ghost use Rattle.stack_algebra.specs.Ordered.{sign_of};
 ghost use Rattle.stack_algebra.proofs.OrderedFractions.{ordered_fractions};
 ghost use Rattle.stack_rational.specs.TooWide.{is_too_wide};
-ghost use Rattle.stack_table.specs.Table.{plain, clear_objective};
+ghost use Rattle.stack_table.specs.Table.{clear_objective};
 ghost use Rattle.stack_table.specs.Seen.{shape_of_table, table_of, flips_of};
 ghost use Rattle.stack_bland.specs.Choice.{is_nought};
 ghost use Rattle.stack_run.specs.WrittenRun.{driven_column, drive_row, drives};
@@ -15,13 +15,6 @@ use crate::refusal::RunError;
 use crate::turn::due_pivot;
 use stack_rational::Exact;
 use stack_table::Table;
-
-/// The columns before the artificial ones.
-pub fn plain_columns<S: Exact>(t: &Table<S>) -> usize
-    ensures { result ≡ plain (shape_of_table t.now) }
-{
-    t.columns() - t.rows()
-}
 
 fn is_zero<S: Exact>(x: S) -> bool
     ensures { result ≡ is_nought (sign_of (S.exact x).num) }
@@ -34,7 +27,7 @@ fn driven_column<S: Exact>(t: &Table<S>, row: usize) -> Option<usize>
     requires { row < (shape_of_table t.now).rows }
     ensures { result ≡ driven_column ordered_fractions (shape_of_table t.now) (table_of t.now) row }
 {
-    for j in 0..plain_columns(t) {
+    for j in 0..t.plain() {
         if !is_zero(t.cell(row, j)) {
             return Some(j);
         }
@@ -51,7 +44,7 @@ fn drive_row<S: Exact>(t: &mut Table<S>, pivots: Pivots, row: usize) -> Result<P
         ≡ drive_row ordered_fractions (shape_of_table t.old) (is_too_wide S.MAX) pivots.left pivots.done
         (table_of t.old) row }
 {
-    if t.basic(row) < plain_columns(t) {
+    if t.basic(row) < t.plain() {
         return Ok(pivots);
     }
     match driven_column(t, row) {
@@ -60,7 +53,7 @@ fn drive_row<S: Exact>(t: &mut Table<S>, pivots: Pivots, row: usize) -> Result<P
     }
 }
 
-/// Phase 2.
+/// Phase 2: the objective row is set to 0, and in each row an artificial basic column is taken out, where that can be.
 pub fn second_phase<S: Exact>(t: &mut Table<S>, pivots: Pivots) -> Result<Pivots, RunError>
     ensures shape { OnOk result (shape_of_table t.new ≡ shape_of_table t.old) }
     ensures flips { OnOk result (flips_of t.new ≡ flips_of t.old) }

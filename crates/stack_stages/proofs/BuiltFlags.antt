@@ -25,7 +25,7 @@ built_part v s first flags e h =
     (λ j. surveyed_part (λ i. flags_say (length s.bodies) (is_fixed_or_among s first) flags h i j) v)
     ∙ ap (λ (t : Structure). surveyed_part (is_built t first) v) e
 
--- one flag a body
+-- there is one flag for each body
 pub one_each : (v : Surveyed) (s : Structure) (keeps : ℕ → Bool) (flags : List Bool) → s ≡ v.structure
     → AreFlags (length s.bodies) keeps flags → length flags ≡ length v.structure.bodies
 one_each v s keeps flags e h = h.count ∙ ap (λ (t : Structure). length t.bodies) e

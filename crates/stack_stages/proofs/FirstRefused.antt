@@ -17,7 +17,7 @@ module _ (v : Surveyed) (order : List ℕ) (budget : ℕ) where
   abbrev next : ℕ → Judgement
   next k = judgement Dead (surveyed_stage v order (suc k)) budget
 
-  -- one more stands
+  -- one more stage stands
   one_more : (k : ℕ) (f : ForcesValue) → StandBefore v order budget k → next k ≡ certified (stands f)
       → StandBefore v order budget (suc k)
   one_more k f h e i l = elim (cases_lt i k) [
@@ -28,7 +28,7 @@ module _ (v : Surveyed) (order : List ℕ) (budget : ℕ) where
       last : (i k : ℕ) → i < suc k → k ≤ i → k ≡ i
       last i k l le = omega (arith, l, le)
 
-  -- of the stages behind stage k
+  -- the first stage behind stage k that isn't judged to stand
   first_of : (left k : ℕ) (fs : List ForcesValue) → StandBefore v order budget k → k + left ≡ length order
       → AreUnjudged v order budget (staged_from v order budget left k fs)
   first_of zero k fs h c = tt
@@ -50,14 +50,14 @@ module _ (v : Surveyed) (order : List ℕ) (budget : ℕ) where
       go spent e more = record { before = k; is_next = refl; within = within; earlier = h; is = e }
       go unjudged e more = tt
 
-  -- of all of them
+  -- the first stage of all that isn't judged to stand
   first_unjudged : AreUnjudged v order budget (staged v order budget)
   first_unjudged = first_of (length order) 0 [] (λ k l. absurd (omega (arith, l))) (all_left (length order))
     where
       all_left : (n : ℕ) → 0 + n ≡ n
       all_left n = omega arith
 
-  -- so a stage that is refused is the first
+  -- a stage that is refused is the first that doesn't stand
   pub refuses_first : (f : StagesError) → GivesStages (Err f) (staged v order budget)
       → RefusesFirst (Err f) v order budget
   refuses_first (errors.TooWide stage p) g = subst (AreUnjudged v order budget) g first_unjudged

@@ -67,7 +67,7 @@ module _ (s : Structure) (different : AreDifferent (body_names s.bodies)) where
         is = (bytes_eq-Decides line (block_line (body_of s n))).0 t.1;
       }
 
-  -- and the other way round
+  -- a body that has this line passes
   passes : (line : List ℕ) (n : ℕ) → IsNamed line n → is_free_line line (body_of s n) ≡ true
   passes line n h = λ i. not (h.free i) && (bytes_eq-Decides line (block_line (body_of s n))).1 h.is i
 

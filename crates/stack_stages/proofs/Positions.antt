@@ -36,7 +36,7 @@ module _ {A : Type 0} (p : A → Bool) (xs : List A) (d : A) where
           go true e = let l = ltb-true n n e in absurd (omega (arith, l))
           go false e = refl
 
-  -- and none passes where none is found
+  -- where none is found, none passes
   pub none_passes : position p xs ≡ None → (k : ℕ) → k < length xs → p (get_or xs k d) ≡ false
   none_passes h k l = go (nat_lt (position_or_len p xs) (length xs)) refl h
     where

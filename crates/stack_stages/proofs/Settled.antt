@@ -34,7 +34,7 @@ module _ (v : Surveyed) (sound : IsSound v.structure) (survey : IsSurvey v.struc
       stands_is_carried (scene_of (surveyed_stage v order (suc k))) (forces_of f)
       (h k f (slice_get-get_or fs k none (subst (λ m. k < m) (sym e) l))).holds
 
-  -- one that collapses by a motion isn't, at any scale
+  -- a stage that collapses by a motion isn't carried, at any scale
   pub settled : (x : Staged) → AreTrue v order x → AreSettled v order x
   settled (all_stand fs) h = carried fs (length order) h.0 h.1
   settled (falls fs m) h = (

@@ -57,7 +57,7 @@ module _ (v : Surveyed) (order : List ℕ) (budget : ℕ) where
       go zero c e = absurd (omega (arith, l, c))
       go (suc left) c e = record { left = left; count = omega (arith, c); is = e }
 
-  -- it stands
+  -- a stage that is judged to stand is one more that stands
   pub stands_too : (k : ℕ) (fs : List ForcesValue) (f : ForcesValue) → IsStagedTo k fs → k < length order
       → next k ≡ certified (stands f) → IsJudged Dead (surveyed_stage v order (suc k)) (stands f)
       → IsStagedTo (suc k) (fs ++ f ∷ [])
@@ -90,7 +90,7 @@ module _ (v : Surveyed) (order : List ℕ) (budget : ℕ) where
       standing i g at (inl a) = h.standing i g a
       standing i g at (inr a) = at_end i a.0 g a.1.0 a.1.1
 
-  -- it ends the work
+  -- a stage that is judged otherwise ends the work
   pub judged_so : (k : ℕ) (fs : List ForcesValue) (j : Judgement) (x : Staged) → IsStagedTo k fs → k < length order
       → next k ≡ j → ((more : List ForcesValue → Staged) → staged_by more (suc k) fs j ≡ x)
       → staged v order budget ≡ x
@@ -108,7 +108,7 @@ module _ (v : Surveyed) (order : List ℕ) (budget : ℕ) where
       go zero c e = (sym e, (h.standing, h.as_many ∙ (omega (arith, c))))
       go (suc left) c e = absurd (omega (arith, c, l))
 
-  -- the same of what is known of the judgement of stage k + 1
+  -- where stage k + 1 is judged to stand, one more stands
   pub goes_on : (k n : ℕ) (fs more : List ForcesValue) (f : ForcesValue) → IsStagedTo k fs → k < length order
       → n ≡ suc k → judgement Dead (surveyed_stage v order n) budget ≡ certified (stands f)
       → IsJudged Dead (surveyed_stage v order n) (stands f) → more ≡ fs ++ f ∷ [] → IsStagedTo n more

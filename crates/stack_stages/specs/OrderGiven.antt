@@ -5,7 +5,7 @@ use Rattle.stack_model.specs.Structure.{Structure}
 use Rattle.stack_stages.specs.declared.errors.OrderError.{OrderError}
 use Rattle.stack_stages.specs.OrderRead.{ReadsOrder}
 
--- without where the list lies in memory
+-- what is answered, without where the list lies in memory
 abbrev pub order_view : Result (Vec ℕ Global) OrderError → Result (List ℕ) OrderError
 order_view (Ok order) = Ok order.items
 order_view (Err e) = Err e

@@ -13,7 +13,7 @@ use Rattle.stack_stages.specs.Order.{IsOrder}
 abbrev pub block_line : NamedBody → List ℕ
 block_line b = b.name ++ 10 ∷ []
 
--- the line of a free one
+-- whether this is the line of a body that is free
 abbrev pub is_free_line : List ℕ → NamedBody → Bool
 is_free_line line b = not b.fixed && bytes_eq line (block_line b)
 
@@ -21,7 +21,7 @@ is_free_line line b = not b.fixed && bytes_eq line (block_line b)
 abbrev pub block_of : Structure → List ℕ → Option ℕ
 block_of s line = position (is_free_line line) s.bodies
 
--- where it isn't one of these already
+-- a number, where it isn't one of these already
 abbrev pub unless_among : List ℕ → Option ℕ → Option ℕ
 unless_among ns None = None
 unless_among ns (Some n) = if list_any (λ m. nat_eq m n) ns then None else Some n

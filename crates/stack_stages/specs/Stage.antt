@@ -9,7 +9,7 @@ use Rattle.stack_part.specs.Part.{part_of, surveyed_part}
 abbrev pub is_fixed_or_among : Structure → List ℕ → ℕ → Bool
 is_fixed_or_among s first i = (body_of s i).fixed || list_any (λ n. nat_eq n i) first
 
--- there is such a body i
+-- body i is fixed, or is one of these bodies, and there is such a body
 abbrev pub is_built : Structure → List ℕ → ℕ → Bool
 is_built s first i = nat_lt i (length s.bodies) && is_fixed_or_among s first i
 
@@ -18,6 +18,6 @@ is_built s first i = nat_lt i (length s.bodies) && is_fixed_or_among s first i
 abbrev pub stage : Structure → List ℕ → ℕ → Structure
 stage s order k = part_of (is_built s (take k order)) s
 
--- its survey: the bearings and the touches of the whole whose bodies are both built
+-- the survey of stage k: the bearings and the touches of the whole whose bodies are both built
 abbrev pub surveyed_stage : Surveyed → List ℕ → ℕ → Surveyed
 surveyed_stage v order k = surveyed_part (is_built v.structure (take k order)) v

@@ -32,14 +32,14 @@ staged_by more stage fs (too_wide p) = too_wide_at stage p
 staged_by more stage fs spent = spent_at stage
 staged_by more stage fs unjudged = all_stand fs
 
--- of the stages behind stage k, which are so many
+-- what comes of the stages behind stage k, which are so many
 abbrev pub staged_from : Surveyed → List ℕ → (budget : ℕ) → (left k : ℕ) → List ForcesValue → Staged
 staged_from v order budget zero k fs = all_stand fs
 staged_from v order budget (suc left) k fs =
     staged_by (staged_from v order budget left (suc k)) (suc k) fs
     (judgement Dead (surveyed_stage v order (suc k)) budget)
 
--- of all of them
+-- what comes of all stages of an order
 abbrev pub staged : Surveyed → List ℕ → (budget : ℕ) → Staged
 staged v order budget = staged_from v order budget (length order) 0 []
 
@@ -60,7 +60,7 @@ AreTrue v order (spent_at stage) = ⊥
 abbrev pub AreCarried : Surveyed → List ℕ → ℕ → Type 0
 AreCarried v order n = (k : ℕ) → k < n → Carries (scene_of (surveyed_stage v order (suc k))) (pos 0) (pos 1)
 
--- all are carried, or the first ones are, and those of the next at no scale
+-- the dead loads of all stages are carried, or those of the first stages are, and those of the next at no scale
 abbrev pub AreSettled : Surveyed → List ℕ → Staged → Type 0
 AreSettled v order (all_stand fs) = AreCarried v order (length order)
 AreSettled v order (falls fs m) = AreCarried v order (length fs)
@@ -73,7 +73,7 @@ abbrev pub StandBefore : Surveyed → List ℕ → (budget : ℕ) → ℕ → Ty
 StandBefore v order budget n = (k : ℕ) → k < n →
     (f : ForcesValue) × (judgement Dead (surveyed_stage v order (suc k)) budget ≡ certified (stands f))
 
--- this stage, from 1, is so judged, and all before it to stand
+-- stage number `stage`, from 1, is judged so, and all before it to stand
 pub record IsFirst (v : Surveyed) (order : List ℕ) (budget stage : ℕ) (j : Judgement) : Type 0 where
   pub before : ℕ
   pub is_next : stage ≡ suc before

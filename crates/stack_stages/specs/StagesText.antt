@@ -9,7 +9,7 @@ use Rattle.stack_stages.specs.Staged.{Staged, all_stand, falls, too_wide_at, spe
 abbrev pub stands_line : ℕ → List ℕ
 stands_line k = codes "stage " ++ decimal k ++ codes " stands\n"
 
--- the line of one that collapses
+-- the line of a stage that collapses
 abbrev pub collapses_line : ℕ → List ℕ
 collapses_line k = codes "stage " ++ decimal k ++ codes " collapses\n"
 
@@ -22,7 +22,7 @@ stand_lines (suc n) = stand_lines n ++ stands_line (suc n)
 abbrev pub falls_text : ℕ → MotionValue → List ℕ
 falls_text n m = stand_lines n ++ collapses_line (suc n) ++ certificate_text (collapses m)
 
--- the whole text; a stage that isn't judged has none
+-- the whole text of what comes of stages; a stage that isn't judged has none
 abbrev pub stages_text : Staged → List ℕ
 stages_text (all_stand fs) = stand_lines (length fs) ++ codes "all stand\n"
 stages_text (falls fs m) = falls_text (length fs) m

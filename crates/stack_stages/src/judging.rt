@@ -69,9 +69,9 @@ fn judge_stage(
 /// Judges the stages of an order, from `read_order`, one after the other, each within the budget of pivots: forces that
 /// carry each of them, or those of the stages before the first that collapses, and the motion by which that does.
 ///
-/// Refused is the first stage of whose run, of what is made of its end, or of the check of that a number is more than
-/// 2^127 - 1 in size, or in whose run a pivot is due when the budget's are done; all before it stand. Want of memory
-/// comes at any time. After Livesley (1978).
+/// Refused is the first stage with a number of more than 2^127 - 1 in size, in its run, in what is made of its end or
+/// in the check of that, or with a run in which a pivot is due when the budget's are done; all stages before it stand.
+/// Memory may run out at any time. After Livesley (1978).
 pub fn stages(
     alloc: Global,
     s: &Survey,

@@ -48,7 +48,8 @@ fn falls_text(alloc: Global, before: &[Forces], motion: Motion) -> Result<Vec<u8
 }
 
 /// The text of what comes of stages: the line `stage K stands` for each that stands, counted from 1; then the line
-/// `all stand`, or the line `stage K collapses` and the text of the certificate of that stage.
+/// `all stand`, or the line `stage K collapses` and the text of the certificate of that stage. `AllocError` where
+/// memory ran out.
 pub fn write_stages(alloc: Global, found: Stages) -> Result<Vec<u8>, AllocError>
     requires { CanPrint (stages_view found) }
     ensures { IfOk result (λ t. t.items ≡ stages_text (stages_view found)) }

@@ -21,7 +21,7 @@ mirrored f g each o (p ∷ q ∷ rest) = (λ i. each o p q i +ℤ mirrored f g e
     both : (a b : ℤ) → neg_ℤ a +ℤ neg_ℤ b ≡ neg_ℤ (a +ℤ b)
     both a b = omega (arith, sums)
 
--- twice the area
+-- twice the area of a triangle is the opposite in the mirror
 area-turns : (ox oy px py qx qy : ℤ) →
     (py -ℤ oy) *ℤ (qx -ℤ ox) -ℤ (px -ℤ ox) *ℤ (qy -ℤ oy)
     ≡ neg_ℤ ((px -ℤ ox) *ℤ (qy -ℤ oy) -ℤ (py -ℤ oy) *ℤ (qx -ℤ ox))

@@ -29,7 +29,7 @@ last : Point → List Point → Point
 last p [] = p
 last p (q ∷ rest) = last q rest
 
--- over the closed outline
+-- the sum of a number of each edge over the closed outline
 closed : (Point → Point → ℤ) → Point → List Point → ℤ
 closed f p rest = edges f p rest +ℤ f (last p rest) p
 
@@ -125,7 +125,7 @@ fan-moment o p (q ∷ rest) =
     on : (a b c d e : ℤ) → (a +ℤ b -ℤ c) +ℤ (d +ℤ c -ℤ e) ≡ (a +ℤ d) +ℤ b -ℤ e
     on a b c d e = omega (arith, sums)
 
--- and over the closed outline
+-- the triangles over the closed outline
 closed-area : (o : Point) (rest : List Point) → sum_of_triangles triangle_of o rest ≡ closed area o rest
 unfolding closed edges last
 closed-area o [] = plain o.x o.y

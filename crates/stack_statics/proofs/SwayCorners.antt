@@ -37,7 +37,7 @@ module _ (o : Point) (xs : List Point) (c : Point) (ys : List Point) where
           h +ℤ pos 3 *ℤ x *ℤ a ≡ k
       plain h a k x y e = simp expand (omega (arith, sums, simp expand at e))
 
--- the same of the moments about level lines, in the mirror
+-- the sums of the moments about level lines, in the mirror
 module _ (o : Point) (xs : List Point) (c : Point) (ys : List Point) where
   level : sum_of_triangles level_moment_of_triangle c (ys ++ o ∷ xs)
       +ℤ pos 3 *ℤ (c.y -ℤ o.y) *ℤ sum_of_triangles triangle_of c (ys ++ o ∷ xs)

@@ -37,7 +37,7 @@ module _ (g : Point → ℤ) where
           ≡ (t *ℤ (x +ℤ u +ℤ v) +ℤ m) -ℤ pos 3 *ℤ x *ℤ (t +ℤ a)
       one x u v t m a = simp expand (omega (arith, sums))
 
--- by the sums over the fan
+-- the first moments about the lines through the corner, by the sums over the fan
 pub about_y_is : (o : Point) (rest : List Point) → sum_of_triangles moment_of_triangle o rest
     ≡ (six_moments_of (o ∷ rest)).0 -ℤ pos 3 *ℤ o.x *ℤ twice_area_of (o ∷ rest)
 about_y_is o rest = moved (λ p. p.x) o rest

@@ -11,15 +11,15 @@ use Rattle.stack_frame.specs.Admitted.{IsAdmitted}
 use Rattle.stack_statics.specs.declared.wrench.Wrench.{Wrench}
 use Rattle.stack_statics.specs.Scene.{BearingPart, SceneBody, SceneBearing, Scene}
 
--- the force of a part on the later body: a times the normal (-ty, tx) plus b times the tangent (tx, ty)
+-- the force of a part on the later body along x: a times the normal (-ty, tx) plus b times the tangent (tx, ty)
 abbrev pub force_x_of : SceneBearing → BearingPart → ℤ
 force_x_of z f = f.a *ℤ neg_ℤ z.ty +ℤ f.b *ℤ z.tx
 
--- that force along y
+-- the force of a part on the later body along y
 abbrev pub force_y_of : SceneBearing → BearingPart → ℤ
 force_y_of z f = f.a *ℤ z.tx +ℤ f.b *ℤ z.ty
 
--- its moment about the first corner of a body
+-- the moment of that force about the first corner of a body
 abbrev pub moment_of : SceneBody → SceneBearing → BearingPart → ℤ
 moment_of b z f = (z.px -ℤ b.ox) *ℤ force_y_of z f -ℤ (z.py -ℤ b.oy) *ℤ force_x_of z f
 
@@ -28,19 +28,19 @@ moment_of b z f = (z.px -ℤ b.ox) *ℤ force_y_of z f -ℤ (z.py -ℤ b.oy) *�
 abbrev pub bearing_side : ℕ → SceneBearing → ℤ
 bearing_side i z = cond (eqb i z.second) (pos 1) (cond (eqb i z.first) (negsuc 0) (pos 0))
 
--- the three sums of body i: its bearings' forces, scale times its dead loads and factor times its live loads
+-- the sum of body i along x: the forces of its bearings, scale times its dead loads and factor times its live loads
 abbrev pub sum_x_of : Scene → (ℕ → BearingPart) → ℤ → ℤ → ℕ → ℤ
 sum_x_of s f scale factor i =
     sum_to s.bearings (λ k. bearing_side i (s.bearing k) *ℤ force_x_of (s.bearing k) (f k))
     +ℤ scale *ℤ (s.body i).dead.fx +ℤ factor *ℤ (s.body i).live.fx
 
--- along y: the forces of its bearings, scale times its dead loads and factor times its live loads
+-- the sum of body i along y: the forces of its bearings, scale times its dead loads and factor times its live loads
 abbrev pub sum_y_of : Scene → (ℕ → BearingPart) → ℤ → ℤ → ℕ → ℤ
 sum_y_of s f scale factor i =
     sum_to s.bearings (λ k. bearing_side i (s.bearing k) *ℤ force_y_of (s.bearing k) (f k))
     +ℤ scale *ℤ (s.body i).dead.fy +ℤ factor *ℤ (s.body i).live.fy
 
--- and the moments of all these about its first corner
+-- the sum of body i about its first corner: the moments of all these
 abbrev pub sum_m_of : Scene → (ℕ → BearingPart) → ℤ → ℤ → ℕ → ℤ
 sum_m_of s f scale factor i =
     sum_to s.bearings (λ k. bearing_side i (s.bearing k) *ℤ moment_of (s.body i) (s.bearing k) (f k))

@@ -30,7 +30,7 @@ BearingsWork = (s : Scene) (y : ℕ → Move) (z : SceneBearing) (f : BearingPar
     sum_to s.bodies (λ i. power_of (exerted_on s i z f) (y i))
     ≡ f.a *ℤ opening_of s y z +ℤ f.b *ℤ slide_of s y z
 
--- what stands is carried
+-- where the dead loads stand by a true certificate, they are carried
 abbrev pub StandsIsCarried : Type 0
 StandsIsCarried = (s : Scene) (f : SceneForces) → IsTrueStands s f → Carries s (pos 0) (pos 1)
 
@@ -39,12 +39,12 @@ abbrev pub CollapseExcludesBalance : Type 0
 CollapseExcludesBalance = (s : Scene) (moves : List Move) (D : ℤ) →
     IsProper s → IsTrueCollapse s moves → pos 0 ≺ D → ¬ (Carries s (pos 0) D)
 
--- the greatest factor is carried
+-- the factor of a true certificate of the greatest is carried
 abbrev pub GreatestIsCarried : Type 0
 GreatestIsCarried = (s : Scene) (f : SceneForces) (moves : List Move) → IsTrueGreatest s f moves →
     Carries s f.factor f.scale
 
--- and no greater one is, whatever its denominator
+-- no factor greater than that is carried, whatever its denominator
 abbrev pub GreatestBoundsEveryFactor : Type 0
 GreatestBoundsEveryFactor = (s : Scene) (f : SceneForces) (moves : List Move) →
     IsProper s → IsTrueGreatest s f moves →
@@ -56,7 +56,7 @@ UnboundedCarriesAbove = (s : Scene) (base ray : SceneForces) →
     IsProper s → IsTrueUnbounded s base ray →
     (L D : ℤ) → pos 0 ≺ D → base.factor *ℤ D ≼ L *ℤ base.scale → Carries s L D
 
--- and where the dead loads stand too, every factor from 0 up
+-- every factor from 0 up is carried, where the dead loads stand too
 abbrev pub UnboundedCarriesAll : Type 0
 UnboundedCarriesAll = (s : Scene) (base ray : SceneForces) →
     IsProper s → IsTrueUnbounded s base ray → Carries s (pos 0) (pos 1) →

@@ -9,11 +9,11 @@ use Rattle.stack_algebra.specs.IntegerOrder.{◌≼◌, abs}
 use Rattle.stack_statics.specs.declared.wrench.Wrench.{Wrench}
 use Rattle.stack_statics.specs.Scene.{Move, SceneBearing, Scene}
 
--- the velocity of body i at the point of a bearing
+-- the velocity of body i along x, at the point of a bearing
 abbrev pub velocity_x_of : Scene → (ℕ → Move) → SceneBearing → ℕ → ℤ
 velocity_x_of s y z i = (y i).u -ℤ (y i).r *ℤ (z.py -ℤ (s.body i).oy)
 
--- that velocity along y
+-- the velocity of body i along y, at the point of a bearing
 abbrev pub velocity_y_of : Scene → (ℕ → Move) → SceneBearing → ℕ → ℤ
 velocity_y_of s y z i = (y i).v +ℤ (y i).r *ℤ (z.px -ℤ (s.body i).ox)
 
@@ -23,7 +23,7 @@ opening_of s y z =
     neg_ℤ z.ty *ℤ (velocity_x_of s y z z.second -ℤ velocity_x_of s y z z.first)
     +ℤ z.tx *ℤ (velocity_y_of s y z z.second -ℤ velocity_y_of s y z z.first)
 
--- and along the tangent (tx, ty)
+-- the later body's velocity less the earlier's, along the tangent (tx, ty)
 abbrev pub slide_of : Scene → (ℕ → Move) → SceneBearing → ℤ
 slide_of s y z =
     z.tx *ℤ (velocity_x_of s y z z.second -ℤ velocity_x_of s y z z.first)
@@ -50,10 +50,10 @@ pub record IsUnresisted (s : Scene) (y : ℕ → Move) : Type 0 where
 abbrev pub power_of : Wrench → Move → ℤ
 power_of w y = y.u *ℤ w.fx +ℤ y.v *ℤ w.fy +ℤ y.r *ℤ w.m
 
--- the work of the dead and of the live loads on a motion
+-- the work of the dead loads on a motion
 abbrev pub dead_power_of : Scene → (ℕ → Move) → ℤ
 dead_power_of s y = sum_to s.bodies (λ i. power_of (s.body i).dead (y i))
 
--- that of the live loads
+-- the work of the live loads on a motion
 abbrev pub live_power_of : Scene → (ℕ → Move) → ℤ
 live_power_of s y = sum_to s.bodies (λ i. power_of (s.body i).live (y i))

@@ -116,7 +116,7 @@ one_too_wide_or_all_fit ns = (λ p all. not_both ns all p, λ h. go h (either ns
     go h (inl all) = absurd (h all)
     go h (inr p) = p
 
--- after one that fits
+-- where one number is too wide and the first fits, one of the rest is too wide
 later : (n : ℤ) (ns : List ℤ) (k : ℕ) (x : ℤ) → IsFitting n → k < length (n ∷ ns) → get_or (n ∷ ns) k x ≡ x →
     IsTooWide x → OneIsTooWide ns
 later n ns zero x h l e p = let m = ap nat_abs e in absurd (omega (arith, h, m, p))

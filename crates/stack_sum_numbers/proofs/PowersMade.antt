@@ -17,7 +17,7 @@ use Rattle.stack_equilibrium.specs.SurveyScene.{scene_of}
 use Rattle.stack_equilibrium.specs.Held.{move_at}
 use Rattle.stack_equilibrium.specs.WrittenPowers.{with_product, with_work, with_block, summed_power, told_power}
 use Rattle.stack_equilibrium.specs.WrittenPowers.{written_power}
-use Rattle.stack_equilibrium.specs.Answers.{power_of}
+use Rattle.stack_equilibrium.specs.Answers.{asked_power_of}
 use Rattle.stack_equilibrium.proofs.ScenePowers.{power_is}
 use Rattle.stack_sum_numbers.specs.InTurn.{IsMadeOf}
 use Rattle.stack_sum_numbers.specs.PowerNumbers.{loads_of_free, move_of_free, work_on_first, work_numbers}
@@ -87,9 +87,9 @@ work_is_made q s y =
     (λ all. ap told_power (h.made.1 all)) (λ p. told_err (summed_power q s y) (h.refused.1 p))
 
 pub power_is_made : (q : Question) (s : Surveyed) (y : MotionValue) →
-    IsMadeOf (power_numbers q s y) (power_of q (scene_of s) (move_at s y)) (written_power q s y)
+    IsMadeOf (power_numbers q s y) (asked_power_of q (scene_of s) (move_at s y)) (written_power q s y)
 power_is_made q s y =
     let h = work_is_made q s y in
-    from_each (power_numbers q s y) (power_of q (scene_of s) (move_at s y)) (written_power q s y)
+    from_each (power_numbers q s y) (asked_power_of q (scene_of s) (move_at s y)) (written_power q s y)
     (λ all. h.made.1 all ∙ ap Ok (power_is q s y (work_on_first q s y (length (frees_of s.structure.bodies)))
     (h.made.1 all))) h.refused.1

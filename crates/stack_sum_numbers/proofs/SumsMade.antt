@@ -104,7 +104,7 @@ module _ (axis : Axis) (block : Block) (bearings : List Bearing) (parts : List (
   abbrev body : scene.SceneBody
   body = body_of_block block
 
-  -- the force of bearing k
+  -- the force of bearing k is made of its numbers
   force_at : (k : ℕ) → InOrder (force_numbers axis body (bearing_in bearings k) (part_in parts k))
       (whole (force_on axis body (bearing_in bearings k) (part_in parts k)))
       (written_force axis (joint_at block.corner (bearing k)) (push_at parts k))
@@ -116,7 +116,7 @@ module _ (axis : Axis) (block : Block) (bearings : List Bearing) (parts : List (
   abbrev borne : ℕ → ℤ
   borne n = borne_by_first axis block bearings parts n
 
-  -- the sum with bearing k
+  -- the sum with bearing k is made of its numbers
   bearing_made : (k : ℕ) → InOrder (bearing_numbers axis block bearings parts k) (whole (borne (suc k)))
       (bearing_at axis block parts k (whole (borne k)) (bearing k))
   unfolding with_bearing
@@ -126,7 +126,7 @@ module _ (axis : Axis) (block : Block) (bearings : List Bearing) (parts : List (
       (force_on axis body (bearing_in bearings k) (part_in parts k)) (borne k)
       (nat_eq block.body (bearing k).second) (nat_eq block.body (bearing k).first) (force_at k)
 
-  -- all bearings
+  -- the sum with all bearings is made of their numbers
   bearings_made : InOrder (lists_in_turn (length bearings) (bearing_numbers axis block bearings parts))
       (whole (borne (length bearings))) (steps (bearing_at axis block parts) 0 (whole (pos 0)) bearings)
   bearings_made = steps_in_turn (bearing_at axis block parts) (bearing_numbers axis block bearings parts) borne 0

@@ -52,7 +52,7 @@ module _ (numbers : Axis → List ℤ) where
   one_first M Y f g = absurd (not_both (numbers Y) f.1 g.1)
   one_first M M f g = refl
 
-  -- it is told by what it is where all fit, and by the axis where one is too wide
+  -- three sums are told by what they are where all fit, and by the axis where one is too wide
   told : (w : Wrench) (r : Result Wrench SumWide) →
       (((axis : Axis) → AllFit (numbers axis)) × (r ≡ Ok w))
       ⊎ ((axis : Axis) × IsFirstWide numbers axis × (r ≡ Err (wide axis))) →

@@ -12,7 +12,7 @@ use Rattle.stack_equilibrium.specs.declared.types.Axis.TheVariants.{X, Y, M}
 abbrev pub AllFit : List ℤ → Type 0
 AllFit numbers = All IsFitting numbers
 
--- one of them is more
+-- one number of the list is more than 2^127 - 1 in size
 abbrev pub OneIsTooWide : List ℤ → Type 0
 OneIsTooWide numbers = Any IsTooWide numbers
 

@@ -12,14 +12,14 @@ use Rattle.stack_statics.specs.Motions as motions
 use Rattle.stack_equilibrium.specs.SurveyScene.{scene_of, loads_on}
 use Rattle.stack_equilibrium.specs.Held.{move_of_triple, move_at}
 use Rattle.stack_equilibrium.specs.WrittenPowers.{written_power}
-use Rattle.stack_equilibrium.specs.Answers.{power_of}
+use Rattle.stack_equilibrium.specs.Answers.{asked_power_of}
 use Rattle.stack_sum_numbers.specs.InTurn.{lists_in_turn, IsMadeOf}
 
 -- the loads on free block number b
 abbrev pub loads_of_free : Question → Surveyed → ℕ → Wrench
 loads_of_free q s b = loads_on q s.structure (free_of s.structure.bodies b)
 
--- its move
+-- the move of free block number b
 abbrev pub move_of_free : MotionValue → ℕ → Move
 move_of_free y b = move_of_triple (get_or y b (pos 0, pos 0, pos 0))
 
@@ -46,9 +46,9 @@ module _ (q : Question) (s : Surveyed) (y : MotionValue) where
 -- one of them is too wide
 abbrev pub PowerIsMadeOfItsNumbers : Type 0
 PowerIsMadeOfItsNumbers = (q : Question) (s : Surveyed) (y : MotionValue) →
-    IsMadeOf (power_numbers q s y) (power_of q (scene_of s) (move_at s y)) (written_power q s y)
+    IsMadeOf (power_numbers q s y) (asked_power_of q (scene_of s) (move_at s y)) (written_power q s y)
 
--- and that is the work on all free blocks, added up in their order
+-- the power of the scene's loads is the work on all free blocks, added up in their order
 abbrev pub PowerIsTheWorkOnFreeBlocks : Type 0
 PowerIsTheWorkOnFreeBlocks = (q : Question) (s : Surveyed) (y : MotionValue) →
     IsMadeOf (power_numbers q s y) (work_on_first q s y (length (frees_of s.structure.bodies)))

@@ -16,12 +16,12 @@ module _ (s : Surveyed) (y : MotionValue) (z : Bearing) where
   abbrev pub x_rate : ℕ → ℤ
   x_rate i = velocity_x_of (scene_of s) (move_at s y) (scene_bearing_of z) i
 
-  -- and along y
+  -- the velocity of body i at the bearing, along y
   abbrev pub y_rate : ℕ → ℤ
   y_rate i = velocity_y_of (scene_of s) (move_at s y) (scene_bearing_of z) i
 
-  -- its numbers: r*ly and the velocity along x, r*lx and that along y, with (lx, ly) the point less the body's first
-  -- stored corner; none of a fixed body
+  -- the numbers of body i's velocity: r*ly and the velocity along x, r*lx and that along y, with (lx, ly) the point
+  -- less the body's first stored corner; none of a fixed body
   abbrev pub velocity_numbers : ℕ → List ℤ
   velocity_numbers i =
       if (body_of s.structure i).fixed then []
@@ -32,7 +32,7 @@ module _ (s : Surveyed) (y : MotionValue) (z : Bearing) where
   abbrev pub x_difference : ℤ
   x_difference = x_rate z.second -ℤ x_rate z.first
 
-  -- and along y
+  -- the later body's velocity less the earlier's, along y
   abbrev pub y_difference : ℤ
   y_difference = y_rate z.second -ℤ y_rate z.first
 
@@ -40,7 +40,7 @@ module _ (s : Surveyed) (y : MotionValue) (z : Bearing) where
   abbrev pub exact_opening : ℤ
   exact_opening = opening_of (scene_of s) (move_at s y) (scene_bearing_of z)
 
-  -- how fast they slide along it
+  -- how fast the two bodies slide along the bearing
   abbrev pub exact_slide : ℤ
   exact_slide = slide_of (scene_of s) (move_at s y) (scene_bearing_of z)
 

@@ -39,21 +39,21 @@ force_on X body z f = force_x_of z f
 force_on Y body z f = force_y_of z f
 force_on M body z f = moment_of body z f
 
--- its numbers along x: b*tx, a*ty and the force
+-- the numbers of the force along x: b*tx, a*ty and the force
 abbrev pub x_numbers : scene.SceneBearing → scene.BearingPart → List ℤ
 x_numbers z f = (f.b *ℤ z.tx) ∷ (f.a *ℤ z.ty) ∷ force_x_of z f ∷ []
 
--- along y: a*tx, b*ty and the force
+-- the numbers of the force along y: a*tx, b*ty and the force
 abbrev pub y_numbers : scene.SceneBearing → scene.BearingPart → List ℤ
 y_numbers z f = (f.a *ℤ z.tx) ∷ (f.b *ℤ z.ty) ∷ force_y_of z f ∷ []
 
--- of the moment: those along x, those along y, the force along y times its arm, the force along x times its arm,
--- and the moment
+-- the numbers of the moment: those along x, those along y, the force along y times its arm, the force along x times its
+-- arm, and the moment
 abbrev pub moment_numbers : scene.SceneBody → scene.SceneBearing → scene.BearingPart → List ℤ
 moment_numbers body z f = x_numbers z f ++ y_numbers z f ++
     ((z.px -ℤ body.ox) *ℤ force_y_of z f) ∷ ((z.py -ℤ body.oy) *ℤ force_x_of z f) ∷ moment_of body z f ∷ []
 
--- those of the force along an axis
+-- the numbers of the force, or of the moment, along an axis
 abbrev pub force_numbers : Axis → scene.SceneBody → scene.SceneBearing → scene.BearingPart → List ℤ
 force_numbers X body z f = x_numbers z f
 force_numbers Y body z f = y_numbers z f
@@ -105,7 +105,7 @@ sum_numbers axis block scale factor bearings parts =
     lists_in_turn (length bearings) (bearing_numbers axis block bearings parts)
     ++ load_numbers axis block bearings parts scale factor
 
--- the three exact sums
+-- the three exact sums of a block
 abbrev pub exact_sums : Block → ℤ → ℤ → List Bearing → List (ℤ × ℤ) → Wrench
 exact_sums block scale factor bearings parts = record {
   fx = exact_sum X block bearings parts scale factor;
@@ -117,7 +117,7 @@ exact_sums block scale factor bearings parts = record {
 abbrev pub sum_numbers_at : Surveyed → ForcesValue → ℕ → Axis → List ℤ
 sum_numbers_at s f i axis = sum_numbers axis (block_of s.structure i) f.scale f.factor s.bearings f.parts
 
--- its sums, as the scene of the survey has them
+-- the exact sums of body i, as the scene of the survey has them
 abbrev pub scene_sums : Surveyed → ForcesValue → ℕ → Wrench
 scene_sums s f i = record {
   fx = sum_x_of (scene_of s) (part_at f) f.scale f.factor i;
@@ -133,7 +133,7 @@ SumIsMadeOfItsNumbers = (axis : Axis) (block : Block) (scale factor : ℤ) (bear
     (whole (exact_sum axis block bearings parts scale factor))
     (written_sum axis block (whole scale) (whole factor) bearings parts)
 
--- the exact sum is the last of them
+-- the exact sum is the last number of the list
 abbrev pub NumbersEndInTheSum : Type 0
 NumbersEndInTheSum = (axis : Axis) (block : Block) (scale factor : ℤ) (bearings : List Bearing)
     (parts : List (ℤ × ℤ)) → EndsIn (sum_numbers axis block scale factor bearings parts)
@@ -146,7 +146,7 @@ SumsAreMadeOfTheirNumbers = (block : Block) (scale factor : ℤ) (bearings : Lis
     (exact_sums block scale factor bearings parts)
     (written_sums block (whole scale) (whole factor) bearings parts)
 
--- and so are those of each body of a survey; the exact ones are those of its scene
+-- the three written sums of each body of a survey are refused so; the exact ones are those of its scene
 abbrev pub SurveySumsAreMadeOfTheirNumbers : Type 0
 SurveySumsAreMadeOfTheirNumbers = (s : Surveyed) (f : ForcesValue) (i : ℕ) →
     AreMadeOf (sum_numbers_at s f i) (scene_sums s f i) (written_sums_at s f i)

@@ -19,7 +19,7 @@ use Rattle.stack_sum_numbers.specs.PowerNumbers.{power_numbers}
 abbrev pub left_foot : Bearing
 left_foot = level_bearing (at_point (pos 0) (pos 0))
 
--- its right foot
+-- the post's right foot
 abbrev pub right_foot : Bearing
 right_foot = level_bearing (at_point (pos 2) (pos 0))
 
@@ -27,7 +27,7 @@ right_foot = level_bearing (at_point (pos 2) (pos 0))
 abbrev pub ground_block : Block
 ground_block = block_of drawn_post 0
 
--- the post
+-- the post, as a block
 abbrev pub post_block : Block
 post_block = block_of drawn_post 1
 
@@ -43,7 +43,7 @@ two_bearings =
     }
     ∷ right_foot ∷ []
 
--- what they bear where the post tips
+-- what these two bearings bear where the post tips
 abbrev pub two_pairs : List (ℤ × ℤ)
 two_pairs = (pos 7, pos 3) ∷ (pos 48, negative 12) ∷ []
 
@@ -55,7 +55,7 @@ one_pair a b = (a, b) ∷ []
 abbrev pub greatest_fitting : ℤ
 greatest_fitting = pos greatest_number
 
--- the next one, which is too wide
+-- the number after that, which is too wide
 abbrev pub least_too_wide : ℤ
 least_too_wide = pos (2 ^ 127)
 
@@ -92,7 +92,7 @@ pub record WorkedSumsAtTheLimit : Type 0 where
   pub about_first : written_sums post_block (whole (pos 1)) (whole (pos 0)) (right_foot ∷ [])
       (one_pair greatest_fitting (pos 0)) ≡ Err (record { axis = M })
 
--- how the surveyed_post open and slide where the post tips
+-- how the post's two feet open and slide where it tips
 pub record WorkedRates : Type 0 where
   pub left_opens : gap_numbers surveyed_post tipping_motion left_foot
       ≡ pos 0 ∷ pos 0 ∷ pos 0 ∷ pos 2 ∷ pos 0 ∷ pos 2 ∷ pos 2 ∷ pos 0 ∷ pos 2 ∷ pos 0 ∷ pos 0 ∷ pos 0 ∷ []

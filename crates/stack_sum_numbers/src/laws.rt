@@ -1,4 +1,4 @@
-//! The laws, each a clause of a function that does nothing.
+//! The laws of the numbers of written sums, each a clause of a function that does nothing.
 
 ghost use Rattle.stack_sum_numbers.specs.InTurn.{OneIsTooWideOrAllFit};
 ghost use Rattle.stack_sum_numbers.specs.SumNumbers.{SumIsMadeOfItsNumbers, NumbersEndInTheSum};

@@ -103,7 +103,7 @@ module _ (m : ℤ) (ample : IsAmple m) where
         (objective_place ordered_fractions (is_too_wide m) (shape_of_problem P)
         (first_row ordered_fractions (problem_of P))) (λ j l. column_none j)
 
-    -- so the error is want of memory
+    -- so the error of an ample width is want of memory
     pub only_memory : (e : BuildError) → TellsFirst e (wide_place ordered_fractions (is_too_wide m) (problem_of P)) →
         e ≡ Memory
     only_memory (Wide i j) t = absurd (let k = sym never ∙ t in cc)

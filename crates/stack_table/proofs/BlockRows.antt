@@ -88,7 +88,7 @@ module _ {V : Type 0} (e : V → Fraction) where
         go (no k) = cell_past w _ (r + 1 + i) j (omega (arith, k))
             ∙ sym (cell_past w below i j (omega (arith, k)))
 
-  -- another row in the place of one
+  -- a row is put in the place of another
   pub other_kept : (w r : ℕ) (above own new below : List V) → length above ≡ r * w → length own ≡ w →
       length new ≡ w → (i j : ℕ) → i ≢ r →
       cell_of e w (above ++ (new ++ below)) i j ≡ cell_of e w (above ++ (own ++ below)) i j
@@ -103,7 +103,7 @@ module _ {V : Type 0} (e : V → Fraction) where
           ∙ sym (cell_below w r above own below la lo (i - (r + 1)) j)
           ∙ ap (λ z. cell_of e w (above ++ (own ++ below)) z j) (sym k)
 
-  -- the last row
+  -- a last row is put behind the rows above it
   pub last_own : (w r : ℕ) (above last : List V) → length above ≡ r * w → length last ≡ w → (j : ℕ) →
       cell_of e w (above ++ last) r j ≡ item_value e last j
   last_own w r above last la ll j = ap (λ ys. cell_of e w (above ++ ys) r j) (sym (append-nil last))
@@ -176,7 +176,7 @@ module _ {V : Type 0} (e : V → Fraction) where
       fitting = λ i. ap (fraction_fits m) (value_at-drop n xs i) ∙ h.fitting (n + i);
     }
 
-    -- every cell fits
+    -- every cell of a block fits
     pub fits_cell : (w : ℕ) (xs : List V) (ms : List Bool) (i j : ℕ) → IsBlock m e xs ms →
         fraction_fits m (cell_of e w xs i j) ≡ true
     fits_cell w xs ms i j h = go (dec_lt j w)

@@ -17,7 +17,7 @@ module _ {V : Type 0} (e : V → Fraction) where
     put = λ k l. absurd (omega (arith, l));
   }
 
-  -- one cell more
+  -- a block that grows by one cell more
   pub grown_more : (m : ℤ) (old xs ys : List V) (j : ℕ) (f : ℕ → Fraction) (x : V) → Grows e old xs j f →
       ys ≡ xs ++ x ∷ [] → e x ≡ f j → Grows e old ys (j + 1) f
   grown_more m old xs ys j f x h new here = record {
@@ -46,7 +46,7 @@ module _ {V : Type 0} (e : V → Fraction) where
           ∙ sym (cell_in e w xs i j d)
       go (no d) = cell_past e w ys i j (omega (arith, d)) ∙ sym (cell_past e w xs i j (omega (arith, d)))
 
-  -- the row after them
+  -- the row that was put after those that were there
   pub next_cells : (w n : ℕ) (f : ℕ → Fraction) (xs ys : List V) → length xs ≡ n * w → Grows e xs ys w f →
       (j : ℕ) → j < w → cell_of e w ys n j ≡ f j
   next_cells w n f xs ys l h j d = cell_in e w ys n j d ∙ ap (λ z. item_value e ys (z + j)) (sym l) ∙ h.put j d

@@ -41,7 +41,7 @@ right_small [] i h = omega arith
 right_small (x ∷ xs) zero h = h.0
 right_small (x ∷ xs) (suc i) h = right_small xs i h.1
 
--- each column's entries
+-- a column without entries meets the condition, and so does each of a list
 no_entries : (rows : ℕ) → IsColumn rows []
 no_entries rows = record { below = tt; rising = λ k l. absurd (omega (arith, l)); small = tt }
 
@@ -71,7 +71,7 @@ turned_small : (b : Bool) (z : ℤ) → IsBelowBound z → IsBelowBound (turned 
 turned_small true z h = omega (arith, ints, h)
 turned_small false z h = h
 
--- of three cases
+-- a number of three cases is 0
 all_zero : (a b c : Bool) (x y z : ℤ) → x ≡ pos 0 → (b ≡ true → y ≡ pos 0) → z ≡ pos 0 →
     cond a x (cond b y (cond c z (pos 0))) ≡ pos 0
 all_zero true b c x y z hx hy hz = hx
@@ -98,7 +98,7 @@ module _ (P : Lent) (h : IsProblem P) (i : ℕ) where
       (either (eqb j (columns S)) (turned b ((problem_of P).load i)) (pos 0)
       (turned_small b ((problem_of P).load i) load_is_small) (omega arith)))
 
-  -- past the rows
+  -- numbers past the rows are 0
   module _ (past : P.rows ≤ i) where
     pub no_load : (problem_of P).load i ≡ pos 0
     no_load = get_or_past P.right.items i (pos 0) (omega (arith, h.right_long, past))
@@ -118,7 +118,7 @@ module _ (P : Lent) (h : IsProblem P) (i : ℕ) where
         (ne_eqb j (plain S + i) (λ d. let l = ltb-true j (columns S) e in
         omega (arith, past, d, l)))) (turned_none _ no_load)
 
--- past the columns
+-- numbers past the columns are 0
 pub number_beyond : (P : Problem) (i j : ℕ) → columns P.shape < j → number_at P i j ≡ pos 0
 number_beyond P i j l = cond_false (ltb j (plain P.shape)) _ _ (le-ltb j (plain P.shape) (omega (arith, l)))
     ∙ cond_false (ltb j (columns P.shape)) _ _ (le-ltb j (columns P.shape) (omega (arith, l)))

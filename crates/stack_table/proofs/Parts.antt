@@ -49,7 +49,7 @@ module _ {V : Type 0} (e : V → Fraction) (m : ℤ) where
   block_three above own below ms os bs h k l =
       block_join e m above (own ++ below) ms (os ++ bs) h (block_join e m own below os bs k l)
 
-  -- one more cell
+  -- a list with one more cell
   pub pushed_last : (xs : List V) (x : V) (n : ℕ) → length xs ≡ n → item_value e (xs ++ x ∷ []) n ≡ e x
   pushed_last xs x n l = let z : n ≡ n + 0 = omega arith in ap (item_value e (xs ++ x ∷ [])) z
       ∙ value_at-right e xs (x ∷ []) n 0 l
@@ -76,7 +76,7 @@ module _ {V : Type 0} (e : V → Fraction) (w r : ℕ) (cells above last : List 
       ∙ ap (λ ys. cell_of e w (above ++ ys) i j) (sym (append-nil last))
       ∙ cell_above e w r above last [] la ll i j l)
 
-  -- another last row
+  -- a block with another last row
   pub last_changed : (new : List V) (o : ℕ → Fraction) → length new ≡ length last →
       ((j : ℕ) → item_value e new j ≡ o j) →
       (i j : ℕ) → cell_of e w (above ++ new) i j ≡ changed (cell_of e w cells) r o i j

@@ -19,7 +19,7 @@ use Rattle.stack_table.proofs.Blocks.{value_at-index}
 use Rattle.stack_table.proofs.BlockRows.{cell_above, cell_own, cell_below}
 use Rattle.stack_table.proofs.RowSteps.{divide_same, reduce_same, reduced_same, divided_same}
 
--- row by row
+-- the first place of a pivot that is too wide, row by row
 module _ (m : ℤ) (width : ℕ) (cell : ℕ → ℕ → Fraction) (r c : ℕ) where
   pub pivot_row : (j : ℕ) → next ordered_fractions cell r c r j ≡ divided ordered_fractions (cell r)
       (cell r c) j
@@ -128,7 +128,7 @@ module _ {V : Type 0} (e : V → Fraction) (m : ℤ) (w r c : ℕ) (cells above 
         ∙ sym (ap (λ n. rows_spot ordered_fractions (is_too_wide m) (h - r) n (cell_of e n below)
         (item_value e new) c (r + 1)) wide) ∙ k
 
-    -- and the other rows are reduced
+    -- the block once the other rows are reduced
     pub after : (above' below' : List V) → length above' ≡ length above →
         ((i j : ℕ) → cell_of e (length new) above' i j ≡ reduced ordered_fractions
         (cell_of e (length new) above i) (item_value e new) (cell_of e (length new) above i c) j) →

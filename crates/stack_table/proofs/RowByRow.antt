@@ -59,7 +59,7 @@ pub flip_is : (P : Lent) → IsProblem P → (i : ℕ) (z : ℤ) → z ≡ (prob
 flip_is P h i z e = ap (λ t. lt_z t (pos 0)) (small_back z ((problem_of P).load i) e (load_is_small P h i))
     ∙ below_is ((problem_of P).load i)
 
--- and past the rows it isn't
+-- past the rows none is flipped
 pub flips_are : (P : Lent) → IsProblem P → (fs : List Bool) → length fs ≡ P.rows →
     ((i : ℕ) → i < P.rows → get_or fs i false ≡ flipped (problem_of P) i) →
     (i : ℕ) → get_or fs i false ≡ flipped (problem_of P) i
@@ -87,7 +87,7 @@ tells_row m P i e l n =
     (objective_places ordered_fractions (is_too_wide m) P.shape (first_row ordered_fractions P)))
     (first_found P.shape.rows i (row_place ordered_fractions (is_too_wide m) P) p l n h))
 
--- 0 less zeros
+-- 0 less zeros is 0
 less_all-zero : (n : ℕ) (f : ℕ → Fraction) → ((i : ℕ) → f i ≡ of (pos 0)) →
     less_all ordered_fractions n f ≡ of (pos 0)
 less_all-zero zero f h = refl

@@ -83,7 +83,7 @@ module _ (m : ℤ) (f g : ℕ → Fraction) (k : Fraction) (row j : ℕ) where
         z ≡ reduced ordered_fractions f g k j
     reduced_here z e d = d ∙ (λ i. op_value Difference (sym fj i) ((e ∙ ap (mul k) (sym gj)) i))
 
--- the same for equal counts, rows and numbers
+-- the same places for equal counts, rows and numbers
 pub divide_same : (m : ℤ) (row n n' : ℕ) (f f' : ℕ → Fraction) (d d' : Fraction) → n ≡ n' →
     ((j : ℕ) → f j ≡ f' j) → d ≡ d' →
     divide_spot ordered_fractions (is_too_wide m) n f d row ≡ divide_spot ordered_fractions (is_too_wide m) n' f' d' row

@@ -7,6 +7,6 @@ use Rattle.stack_table.specs.WrittenTable.{number_at}
 abbrev pub IsDue : Problem → ℕ → ℕ → ℕ → Type 0
 IsDue P i j due = (k : ℕ) → i ≤ k → k < due → number_at P k j ≡ pos 0
 
--- so has each column
+-- each column has its due row in the list, from row i on
 abbrev pub AreDue : Problem → ℕ → List ℕ → Type 0
 AreDue P i dues = (j : ℕ) → IsDue P i j (get_or dues j 0)

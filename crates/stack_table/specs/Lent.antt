@@ -33,7 +33,7 @@ entries_at P j = cond (ltb j (length P.contact.items))
     (get_or (map (λ c. c.entries.items) P.contact.items) j [])
     (cond (eqb j (length P.contact.items)) (factor_entries P.factor) [])
 
--- its rows, its contact columns, and whether it has a factor column
+-- the shape of a problem: its rows, its contact columns, and whether it has a factor column
 abbrev pub shape_of_problem : Lent → Shape
 shape_of_problem P = record {
   rows = P.rows;

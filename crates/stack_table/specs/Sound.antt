@@ -6,22 +6,22 @@ use Rattle.stack_table.specs.declared.problem.Column.{Column}
 use Rattle.stack_table.specs.declared.problem.Problem.{Problem as Lent}
 use Rattle.stack_table.specs.Lent.{factor_entries}
 
--- a number is below the bound of loads in size
+-- whether a number is below the bound of loads in size
 abbrev pub is_small : ℤ → Bool
 is_small z = nat_lt (unsigned_abs z) load_bound
 
--- small entries in rising rows, from row `from` on and below `rows`
+-- whether these are small entries in rising rows, from row `from` on and below `rows`
 abbrev pub is_column : (rows from : ℕ) → List Entry → Bool
 is_column rows from [] = true
 is_column rows from (x ∷ xs) =
     nat_le from x.row && (nat_lt x.row rows && (is_small x.value && is_column rows (suc x.row) xs))
 
--- each of these columns has such entries, from row 0 on
+-- whether each of these columns has such entries, from row 0 on
 abbrev pub are_columns : ℕ → List Column → Bool
 are_columns rows [] = true
 are_columns rows (c ∷ cs) = is_column rows 0 c.entries.items && are_columns rows cs
 
--- all of these numbers are small
+-- whether all of these numbers are small
 abbrev pub are_small : List ℤ → Bool
 are_small [] = true
 are_small (z ∷ zs) = is_small z && are_small zs

@@ -50,19 +50,19 @@ module _ (F : Ordered) (S : Shape) where
   abbrev pub pivoted_at : Tabled F.C → ℕ → ℕ → Tabled F.C
   pivoted_at T r c = record { cell = next F T.cell r c; basic = changed T.basic r c }
 
-  -- a new objective row
+  -- the table with a new objective row
   abbrev pub with_objective : Tabled F.C → (ℕ → F.C) → Tabled F.C
   with_objective T o = record { cell = changed T.cell S.rows o; basic = T.basic }
 
-  -- that of the third phase
+  -- the objective row of the third phase, by the row in which the factor is basic
   abbrev pub factor_objective : Tabled F.C → Option ℕ → ℕ → F.C
   factor_objective T row = factor_row F T.cell S.contacts row
 
-  -- the objective row of the second phase is 0
+  -- the table of the second phase, whose objective row is 0
   abbrev pub clear_objective : Tabled F.C → Tabled F.C
   clear_objective T = with_objective T (λ j. F.of (pos 0))
 
-  -- and that of the third phase is the factor's
+  -- the table of the third phase, whose objective row is that of the factor
   abbrev pub set_factor_objective : Tabled F.C → Tabled F.C
   set_factor_objective T = with_objective T
       (factor_objective T (least S.rows (λ r. eqb (T.basic r) S.contacts)))

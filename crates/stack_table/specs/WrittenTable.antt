@@ -38,15 +38,15 @@ module _ (F : Ordered) where
   objective_over S cell j = cond (is_artificial S j) (F.of (pos 0)) (less_all S.rows (λ i. cell i j))
 
 module _ (F : Ordered) (P : Problem) where
-  -- row i, and the objective row
+  -- row i of the written table, where it is not the objective row
   abbrev pub first_row : ℕ → ℕ → F.C
   first_row i j = F.of (number_at P i j)
 
-  -- the objective row over these rows, with which phase 1 begins
+  -- the objective row over the first rows, with which phase 1 begins
   abbrev pub first_objective : ℕ → F.C
   first_objective = objective_over F P.shape first_row
 
-  -- the table
+  -- the written table of a problem
   abbrev pub written_table : Tabled F.C
   written_table = record {
     cell = changed first_row P.shape.rows first_objective;
@@ -58,17 +58,17 @@ module _ (F : Ordered) (is_too_wide : Op → F.C → F.C → Bool) where
   abbrev pub partial_place : BuildError → (ℕ → F.C) → ℕ → Option BuildError
   partial_place place f i = only_if (is_too_wide Difference (less_all F i f) (f i)) place
 
-  -- of the objective row over given cells: in column j, and in all columns
+  -- the first partial difference of column j of the objective row that is too wide, over given cells
   abbrev pub objective_place : Shape → (ℕ → ℕ → F.C) → ℕ → Option BuildError
   objective_place S cell j = cond (is_artificial S j) None
       (first S.rows (partial_place (Wide S.rows j) (λ i. cell i j)))
 
-  -- the first partial difference of that row that is too wide, column by column
+  -- the first partial difference of the objective row that is too wide, column by column
   abbrev pub objective_places : Shape → (ℕ → ℕ → F.C) → Option BuildError
   objective_places S cell = first (width S) (objective_place S cell)
 
   module _ (P : Problem) where
-    -- in row i and column j, and in row i
+    -- the place in row i and column j, where the number there is too wide
     abbrev pub number_place : ℕ → ℕ → Option BuildError
     number_place i j = only_if (is_too_wide Whole (first_row F P i j) (first_row F P i j)) (Wide i j)
 
@@ -76,6 +76,6 @@ module _ (F : Ordered) (is_too_wide : Op → F.C → F.C → Bool) where
     abbrev pub row_place : ℕ → Option BuildError
     row_place i = first (width P.shape) (number_place i)
 
-    -- of the whole table, in the written order
+    -- the first place of the whole table that is too wide, in the written order
     abbrev pub wide_place : Option BuildError
     wide_place = or_else (first P.shape.rows row_place) (objective_places P.shape (first_row F P))

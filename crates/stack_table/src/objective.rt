@@ -11,7 +11,7 @@ ghost use Rattle.stack_table.specs.Block.{cell_of, item_value, IsBlock};
 
 use stack_rational::Exact;
 
-/// -1.
+/// The number -1.
 fn minus_one<S: Exact>() -> S
     ensures value { S.exact result ≡ of (negsuc 0) }
     ensures fits { fraction_fits S.MAX (S.exact result) ≡ true }

@@ -33,7 +33,7 @@ fn is_column(entries: &[Entry], rows: usize) -> bool
     true
 }
 
-/// Whether each column is one.
+/// Whether each column has small entries in rising rows below `rows`.
 pub fn are_columns(columns: &[Column], rows: usize) -> bool
     ensures { result ≡ are_columns rows columns.now }
 {
@@ -57,7 +57,7 @@ pub fn are_small(numbers: &[i128]) -> bool
     true
 }
 
-/// Whether the factor column, if there is one, is a column.
+/// Whether the factor column, if there is one, has small entries in rising rows below `rows`.
 pub fn is_factor(factor: &Option<Column>, rows: usize) -> bool
     ensures { result ≡ is_column rows 0 (factor_entries factor.now) }
 {

@@ -1,7 +1,7 @@
 //! The table of a run.
 
 ghost use Rattle.std.specs.Prelude.{◌≡◌, ℕ, suc, ◌*◌, ◌<◌, length, get_or};
-ghost use Rattle.stack_table.specs.Table.{width, columns};
+ghost use Rattle.stack_table.specs.Table.{width, columns, plain};
 ghost use Rattle.stack_table.specs.Block.{shape_of, IsBlock};
 
 use crate::building::{artificial, push_objective, push_row};
@@ -102,6 +102,7 @@ impl<S: Exact> Table<S> {
         })
     }
 
+    /// The number of rows, without the objective row.
     pub fn rows(&self) -> usize
         ensures { result ≡ (shape_of_table self.now).rows }
     {
@@ -115,18 +116,28 @@ impl<S: Exact> Table<S> {
         self.listed.len() - 1
     }
 
+    /// The columns before the artificial ones.
+    pub fn plain(&self) -> usize
+        ensures { result ≡ plain (shape_of_table self.now) }
+    {
+        self.columns() - self.rows
+    }
+
+    /// The number of contact columns.
     pub fn contacts(&self) -> usize
         ensures { result ≡ (shape_of_table self.now).contacts }
     {
         self.contacts
     }
 
+    /// Whether there is a factor column, behind the contact columns.
     pub fn has_factor(&self) -> bool
         ensures { (shape_of_table self.now).factors ≡ cond result 1 0 }
     {
         self.has_factor
     }
 
+    /// The cell in a row and a column; row `rows` is the objective row, column `columns` the right side.
     pub fn cell(&self, i: usize, j: usize) -> S
         requires i_in { i ≤ (shape_of_table self.now).rows }
         requires j_in { j ≤ columns (shape_of_table self.now) }

@@ -1,11 +1,11 @@
 -- Limits that more than one crate needs.
 use Rattle.std.specs.Prelude.{ℕ, ◌<◌, ◌^◌, ℤ, nat_abs}
 
--- a survey's bearings, and so a certificate's parts
+-- how many bearings a survey may have, and so how many parts a list of forces
 abbrev pub most_bearings : ℕ
 most_bearings = 1024
 
--- a model's free blocks, and so a motion's moves
+-- how many free blocks a model may have, and so how many moves a motion
 abbrev pub most_free : ℕ
 most_free = 128
 

@@ -9,15 +9,15 @@ use Rattle.stack_whole.specs.declared.whole.Whole.{Whole}
 abbrev pub greatest_number : ℕ
 greatest_number = 2 ^ 127 - 1
 
--- the size is at most that, as a fact and as a test
+-- a number fits: its size is at most that
 abbrev pub IsFitting : ℤ → Type 0
 IsFitting z = nat_abs z < 2 ^ 127
 
--- the same by a test
+-- whether a number fits
 abbrev pub fits : ℤ → Bool
 fits z = nat_lt (nat_abs z) (2 ^ 127)
 
--- it is more
+-- a number is too wide: its size is more than that
 abbrev pub IsTooWide : ℤ → Type 0
 IsTooWide z = 2 ^ 127 ≤ nat_abs z
 
@@ -25,7 +25,7 @@ IsTooWide z = 2 ^ 127 ≤ nat_abs z
 abbrev pub made : ℤ → Result Whole Wide
 made z = if fits z then Ok (record { value = z }) else Err (record {})
 
--- the same, of what 128 bits may hold
+-- a number that 128 bits hold, where there is one and it isn't too wide
 abbrev pub kept : Option ℤ → Result Whole Wide
 kept None = Err (record {})
 kept (Some z) = made z

@@ -46,28 +46,28 @@ impl Whole {
         }
     }
 
-    /// The product of both.
+    /// The product of both. `Wide` exactly where it is more than 2^127 - 1 in size.
     pub fn product(self, other: Whole) -> Result<Whole, Wide>
         ensures { result ≡ made (self.value *ℤ other.value) }
     {
         keep(self.value.checked_mul(other.value))
     }
 
-    /// The sum of both.
+    /// The sum of both. `Wide` exactly where it is more than 2^127 - 1 in size.
     pub fn sum(self, other: Whole) -> Result<Whole, Wide>
         ensures { result ≡ made (self.value +ℤ other.value) }
     {
         keep(self.value.checked_add(other.value))
     }
 
-    /// This number less the other.
+    /// This number less the other. `Wide` exactly where the difference is more than 2^127 - 1 in size.
     pub fn difference(self, other: Whole) -> Result<Whole, Wide>
         ensures { result ≡ made (self.value -ℤ other.value) }
     {
         keep(self.value.checked_sub(other.value))
     }
 
-    /// Its size.
+    /// The size of this number. `Wide` exactly where it is more than 2^127 - 1.
     pub fn size(self) -> Result<Whole, Wide>
         ensures { result ≡ made (pos (nat_abs self.value)) }
     {

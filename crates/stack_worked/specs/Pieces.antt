@@ -64,7 +64,7 @@ scene_of_lists bodies bearings = record {
 abbrev pub forces_with : ℤ → ℤ → List BearingPart → SceneForces
 forces_with scale factor parts = record { scale = scale; factor = factor; parts = parts }
 
--- at scale 1 and without live loads
+-- forces at scale 1 that carry no live loads, with these parts
 abbrev pub standing_forces : List BearingPart → SceneForces
 standing_forces parts = forces_with (pos 1) (pos 0) parts
 

@@ -9,7 +9,7 @@ use Rattle.stack_worked.specs.Pieces.{negative, at_point, upright, body_with, fi
 use Rattle.stack_worked.specs.Pieces.{bearing_between, scene_of_lists, forces_with}
 use Rattle.stack_worked.specs.Pieces.{bearing_part, straight, move}
 
--- the ground, from (-10, -1) to (10, 0), and a post on it, 2 wide and 4 high
+-- the ground, from (-10, -1) to (10, 0)
 abbrev pub ground_corners : List Point
 ground_corners = upright (negative 10) (pos 10) (negative 1) (pos 0)
 
@@ -17,7 +17,7 @@ ground_corners = upright (negative 10) (pos 10) (negative 1) (pos 0)
 abbrev pub post_corners : List Point
 post_corners = upright (pos 0) (pos 2) (pos 0) (pos 4)
 
--- with friction p over q and a live load
+-- the post on the ground, with friction p over q and a live load
 abbrev pub post_scene : ℤ → ℤ → Wrench → Scene
 post_scene p q live = scene_of_lists
     (fixed_body ground_corners ∷ body_with true post_corners live ∷ [])
@@ -28,33 +28,33 @@ post_scene p q live = scene_of_lists
 abbrev pub push : Wrench
 push = load_wrench (at_point (pos 0) (pos 0)) (at_point (pos 0) (pos 4)) (pos 1) (pos 0)
 
--- no load but its weight, and friction 1 over 1
+-- the post with no load but its weight, and friction 1 over 1
 abbrev pub standing_post : Scene
 standing_post = post_scene (pos 1) (pos 1) no_load
 
--- with the push, and friction 1 over 1
+-- the post with the push, and friction 1 over 1
 abbrev pub pushed_post : Scene
 pushed_post = post_scene (pos 1) (pos 1) push
 
--- with the push, and friction of a tenth
+-- the post with the push, and friction of a tenth
 abbrev pub sliding_post : Scene
 sliding_post = post_scene (pos 1) (pos 10) push
 
--- pressed down by one unit at the middle of its head
+-- the post pressed down by one unit at the middle of its head
 abbrev pub pressed_post : Scene
 pressed_post = post_scene (pos 1) (pos 1)
     (load_wrench (at_point (pos 0) (pos 0)) (at_point (pos 1) (pos 4)) (pos 0) (negative 1))
 
--- pushed from both sides at one point
+-- the post pushed from both sides at one point
 abbrev pub clamped_post : Scene
 clamped_post = post_scene (pos 1) (pos 1)
     (wrench_sum push (load_wrench (at_point (pos 0) (pos 0)) (at_point (pos 0) (pos 4)) (negative 1) (pos 0)))
 
--- half the weight on each corner
+-- half the post's weight on each corner of its foot
 abbrev pub standing_parts : List BearingPart
 standing_parts = straight (pos 24) ∷ straight (pos 24) ∷ []
 
--- the parts that hold the pushed post as it tips, and its motion
+-- the parts that hold the pushed post as it tips
 abbrev pub tipping_parts : List BearingPart
 tipping_parts = straight (pos 0) ∷ bearing_part (pos 48) (negative 12) ∷ []
 
@@ -70,7 +70,7 @@ two_idle_parts = straight (pos 0) ∷ straight (pos 0) ∷ []
 abbrev pub tipping_move : List Move
 tipping_move = move (pos 0) (pos 2) (negative 1) ∷ []
 
--- those that hold it as it slides, where the friction is a tenth
+-- the forces that hold the post as it slides, where the friction is a tenth
 abbrev pub sliding_forces : SceneForces
 sliding_forces = forces_with (pos 25) (pos 20) (bearing_part (pos 360) (negative 36)
     ∷ bearing_part (pos 840) (negative 84) ∷ [])
@@ -84,19 +84,19 @@ slope_scene p q = scene_of_lists
     (bearing_between 0 1 (at_point (pos 4) (pos 3)) (pos 4) (pos 3) p q
     ∷ bearing_between 0 1 (at_point (pos 8) (pos 6)) (pos 4) (pos 3) p q ∷ [])
 
--- with friction 3 over 4, which is as steep as the slope
+-- the block on the slope with friction 3 over 4, which is as steep as the slope
 abbrev pub block_on_slope : Scene
 block_on_slope = slope_scene (pos 3) (pos 4)
 
--- with friction 7 over 10, which is less
+-- the block on the slope with friction 7 over 10, which is less
 abbrev pub block_on_slick_slope : Scene
 block_on_slick_slope = slope_scene (pos 7) (pos 10)
 
--- what the slope bears where its friction just holds, and the motion of the block where it doesn't
+-- what the slope bears where its friction just holds the block
 abbrev pub slope_forces : SceneForces
 slope_forces = forces_with (pos 4) (pos 0) (bearing_part (pos 84) (pos 63) ∷ bearing_part (pos 12) (pos 9) ∷ [])
 
--- down the slope, and off it by 7 tenths of that way, without turning
+-- the block moves down the slope, and off it by 7 tenths of that way, without turning
 abbrev pub slipping_move : List Move
 slipping_move = move (negative 61) (negative 2) (pos 0) ∷ []
 
@@ -115,15 +115,15 @@ keystone_scene p q = scene_of_lists
     ∷ bearing_between 1 2 (at_point (pos 1) (pos 0)) (pos 1) (pos 4) p q
     ∷ bearing_between 1 2 (at_point (pos 2) (pos 4)) (pos 1) (pos 4) p q ∷ [])
 
--- without friction; with as much as its faces lean; and with more
+-- the keystone without friction
 abbrev pub smooth_keystone : Scene
 smooth_keystone = keystone_scene (pos 0) (pos 1)
 
--- with friction 1 over 4, as the faces lean
+-- the keystone with friction 1 over 4, as its faces lean
 abbrev pub rough_keystone : Scene
 rough_keystone = keystone_scene (pos 1) (pos 4)
 
--- with friction 3 over 10, which is more
+-- the keystone with friction 3 over 10, which is more
 abbrev pub gripped_keystone : Scene
 gripped_keystone = keystone_scene (pos 3) (pos 10)
 
@@ -152,11 +152,11 @@ overhanging_scene live = scene_of_lists
     (bearing_between 0 1 (at_point (negative 1) (pos 0)) (pos 1) (pos 0) (pos 0) (pos 1)
     ∷ bearing_between 0 1 (at_point (pos 0) (pos 0)) (pos 1) (pos 0) (pos 0) (pos 1) ∷ [])
 
--- with no load but its weight, whose middle is beyond the edge
+-- the block with no load but its weight, whose middle is beyond the edge
 abbrev pub overhanging_block : Scene
 overhanging_block = overhanging_scene no_load
 
--- pressed down by one unit at its outer upper corner
+-- the block pressed down by one unit at its outer upper corner
 abbrev pub loaded_overhanging_block : Scene
 loaded_overhanging_block = overhanging_scene
     (load_wrench (at_point (negative 1) (pos 0)) (at_point (pos 3) (pos 1)) (pos 0) (negative 1))

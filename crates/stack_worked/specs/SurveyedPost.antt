@@ -20,7 +20,7 @@ use Rattle.stack_worked.specs.Scenes.{ground_corners, post_corners, pushed_post}
 abbrev pub drawn_body : List ℕ → Bool → List Point → NamedBody
 drawn_body name fixed corners = record { name = name; material = 0; fixed = fixed; corners = corners }
 
--- one stone of unit weight, with friction 1 over 1; the ground and the post; and the push
+-- the drawing: one stone of unit weight, with friction 1 over 1; the ground and the post; and the push
 abbrev pub drawn_post : Structure
 drawn_post = first_structure
     (record { name = codes "stone"; weight = pos 1; p = pos 1; q = pos 1 } ∷ [])
@@ -37,12 +37,12 @@ level_bearing at = record {
   cone = cone (pos 1) (pos 1);
 }
 
--- at both ends of its foot, and it touches nothing
+-- the survey of the drawing: the post bears at both ends of its foot, and touches nothing
 abbrev pub surveyed_post : Surveyed
 surveyed_post = surveyed drawn_post
     (level_bearing (at_point (pos 0) (pos 0)) ∷ level_bearing (at_point (pos 2) (pos 0)) ∷ []) []
 
--- the pushed post's forces as a certificate has them, and the motion in which it tips
+-- the pushed post's forces as a certificate has them, with a scale and a factor
 abbrev pub post_forces : ℤ → ℤ → ForcesValue
 post_forces scale factor = record {
   scale = scale;

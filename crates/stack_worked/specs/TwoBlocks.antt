@@ -23,7 +23,7 @@ column_scene live = scene_of_lists
 abbrev pub low_column : Scene
 low_column = column_scene no_load
 
--- pushed to the right by one unit at its upper left corner
+-- the column pushed to the right by one unit at its upper left corner
 abbrev pub pushed_column : Scene
 pushed_column = column_scene (load_wrench (at_point (pos 0) (pos 1)) (at_point (pos 0) (pos 2)) (pos 1) (pos 0))
 
@@ -31,13 +31,13 @@ pushed_column = column_scene (load_wrench (at_point (pos 0) (pos 1)) (at_point (
 abbrev pub column_parts : List BearingPart
 column_parts = straight (pos 12) ∷ straight (pos 12) ∷ straight (pos 6) ∷ straight (pos 6) ∷ []
 
--- what holds it as the upper block slides off
+-- the forces that hold the pushed column as its upper block slides off
 abbrev pub pushed_column_forces : SceneForces
 pushed_column_forces = forces_with (pos 2) (pos 2)
     (bearing_part (pos 12) (negative 3) ∷ bearing_part (pos 36) (negative 9) ∷ bearing_part (pos 6) (negative 3)
     ∷ bearing_part (pos 18) (negative 9) ∷ [])
 
--- the lower block stays and the upper one slides, rising by half of its way; and the same the other way round
+-- the lower block stays and the upper one slides, rising by half of its way
 abbrev pub upper_slides : List Move
 upper_slides = move (pos 0) (pos 0) (pos 0) ∷ move (pos 2) (pos 1) (pos 0) ∷ []
 
@@ -70,8 +70,7 @@ abbrev pub brick_forces : SceneForces
 brick_forces = standing_forces
     (straight (pos 0) ∷ straight (pos 60480000) ∷ straight (pos 0) ∷ straight (pos 30240000) ∷ [])
 
--- both turn about the table's edge as one, the upper one with its first corner at d - 1260; and each with the
--- move of the other
+-- both bricks turn about the table's edge as one, the upper one with its first corner at d - 1260
 abbrev pub tipping_bricks : ℤ → List Move
 tipping_bricks d =
     move (pos 0) (pos 3780) (negative 1) ∷ move (pos 1000) (pos 1260 -ℤ d) (negative 1) ∷ []

@@ -4,7 +4,7 @@ use Rattle.stack_algebra.specs.IntegerOrder.{◌≼◌, ◌≺◌}
 use Rattle.stack_statics.specs.Balance.{Carries}
 use Rattle.stack_worked.specs.Scenes.{pushed_post, pressed_post, block_on_slope, block_on_slick_slope}
 
--- of a post and of a block on a slope
+-- the factors that a post and a block on a slope carry
 pub record FactorsOfWorkedScenes : Type 0 where
   -- the pushed post bears twice the push and no more, over whatever denominator
   pub post_carries_two : Carries pushed_post (pos 2) (pos 1)

@@ -14,7 +14,7 @@ use Rattle.stack_worked.specs.TwoBlocks.{low_column, pushed_column, two_bricks, 
 use Rattle.stack_worked.specs.TwoBlocks.{pushed_column_forces, brick_forces, upper_slides, lower_slides}
 use Rattle.stack_worked.specs.TwoBlocks.{tipping_bricks, exchanged_bricks}
 
--- true certificates
+-- certificates that are true of the worked structures
 pub record TrueOfWorkedScenes : Type 0 where
   pub post_stands : IsTrueStands standing_post (standing_forces standing_parts)
   pub post_tips_at_two : IsTrueGreatest pushed_post (forces_with (pos 1) (pos 2) tipping_parts) tipping_move

@@ -1,4 +1,4 @@
-//! The laws, as clauses of functions that do nothing.
+//! What is true of the worked structures, as clauses of functions that do nothing.
 
 ghost use Rattle.stack_worked.specs.WorkedScenes.{TrueOfWorkedScenes, FalseOfWorkedScenes};
 ghost use Rattle.stack_worked.specs.WorkedFactors.{FactorsOfWorkedScenes};

@@ -75,7 +75,7 @@ pub factor_cast : (z : ℤ) → negsuc 999 ≼ z → z ≼ pos 1000 → to_z w64
 factor_cast z a b = cast z (record { least = omega (arith, sums); most = omega (arith, sums) })
 
 module _ (s : Surveyed) (i j : ℕ) where
-  -- where no number is too wide
+  -- the reach of a greatest factor, where no number of it is too wide
   pub bounded_is : (m n : ℤ) (f : ForcesValue) (y : MotionValue) (m' n' p q r p' q' r' : ℤ) (x : PointValue) →
       m' ≡ m → n' ≡ n → p' ≡ p → q' ≡ q → r' ≡ r →
       written_power Live (directed_survey s i j (pos 1) (pos 0)) y ≡ Ok p →
@@ -143,7 +143,7 @@ module _ (s : Surveyed) (i j : ℕ) where
       ∙ ap (λ (x : Surveyed). length (frees_of x.structure.bodies)) ev
       ∙ sym (ap (λ (x : Surveyed). length (frees_of x.structure.bodies)) ew)
 
-  -- and the same dead power
+  -- each directed survey has the same dead power
   pub less_dead_is : (m n : ℤ) (v : Surveyed) (y : MotionValue) → ArePair s.structure i j →
       v ≡ directed_survey s i j m n → less_dead v y ≡ (half_of s i j y).2
   less_dead_is m n v y pair e = ap (λ x. less_dead x y) e ∙ ap neg_ℤ (directed_dead_power s i j m n y pair)

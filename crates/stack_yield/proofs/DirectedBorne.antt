@@ -65,7 +65,7 @@ times_borne bs m l a b f h =
 abbrev stand_in : Load
 stand_in = record { body = 0; live = false; at = origin; fx = pos 0; fy = pos 0 }
 
--- the second load
+-- what is left of the second load
 pub left_second : (i j : ℕ) (m n z : ℤ) (k : ℕ) (l x : Load) → not l.live ≡ false → (k ≡ i → ⊥) → k ≡ j →
     AreFactors m n → x ≡ times_load (to_z w64 (of_z w64 n)) l → x ∷ [] ≡ directed_load i j m n k l
 left_second i j m n z k l x live other here f e =

@@ -140,7 +140,7 @@ test_is m n h =
           ((Decides-int_eq n (pos 0)).1 z.1);
     }
 
--- what a test keeps
+-- a direction that passes a test is kept
 kept : (test : Bool) (d : ℤ × ℤ) → test ≡ true → cond test (Some d) None ≡ Some d
 kept true d h = refl
 kept false d h = cc
@@ -161,7 +161,7 @@ direction_found d bytes is =
     kept (is_direction guess.0 guess.1 && bytes_eq bytes (direction_text guess)) guess (rw (fits, text) refl)
     ∙ ap Some same
 
--- and what it finds is the direction whose line the bytes are
+-- what direction_of finds is the direction whose line the bytes are
 pub found_direction : (d : ℤ × ℤ) (bytes : List ℕ) → direction_of bytes ≡ Some d → IsDirectionLine d bytes
 unfolding direction_of
 found_direction d bytes e =
@@ -171,7 +171,7 @@ found_direction d bytes e =
     let is : bytes ≡ direction_text guess = (bytes_eq-Decides bytes (direction_text guess)).0 p.1 in
     (test_is d.0 d.1 (ap (λ e. is_direction e.0 e.1) (sym k.1) ∙ p.0), is ∙ ap direction_text k.1)
 
--- it finds none where they are none
+-- direction_of finds none where the bytes are no direction's line
 pub no_direction_found : (bytes : List ℕ) → ((d : ℤ × ℤ) → ¬ IsDirectionLine d bytes) → direction_of bytes ≡ None
 no_direction_found bytes none = by_cases (direction_of bytes) refl
   where

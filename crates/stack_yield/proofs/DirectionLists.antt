@@ -43,7 +43,7 @@ begun [] ds none h = cc
 begun (b ∷ bs) ds none h = some_lines (b == 10) b (cut bs)
     ∙ ap (λ es. onto es (directions_from 1 (cond (b == 10) ((10 ∷ []) ∷ cut bs) (onto_first b (cut bs))))) (sym none)
 
--- one more direction
+-- a line that is one more direction
 pub read_on : (text rest line after : List ℕ) (k : ℕ) (ds : List (ℤ × ℤ)) (d : ℤ × ℤ) → k ≤ 64 →
     cut rest ≡ line ∷ cut after → IsDirectionLine d line →
     directions_of text ≡ onto ds (directions_from k (cut rest)) →
@@ -73,7 +73,7 @@ too_many text [] k ds many some so_far = cc
 too_many text (b ∷ bs) k ds many some so_far =
     so_far ∙ ap (onto ds) (many_lines k (lt-ltb 64 k many) (b == 10) b (cut bs))
 
--- a line that is none
+-- a line that is no direction
 pub stopped : (text rest line after : List ℕ) (k : ℕ) (ds : List (ℤ × ℤ)) → k ≤ 64 → cut rest ≡ line ∷ cut after →
     ((d : ℤ × ℤ) → ¬ IsDirectionLine d line) →
     directions_of text ≡ onto ds (directions_from k (cut rest)) → directions_of text ≡ Err k
@@ -83,7 +83,7 @@ stopped text rest line after k ds few is none so_far =
     ∙ (λ i. onto ds (if here i then Err k else with_direction k (no_direction_found line none i)
     (directions_from (suc k) (cut after))))
 
--- the end
+-- the end of the text
 pub closed : (text rest : List ℕ) (k : ℕ) (ds : List (ℤ × ℤ)) → (length rest == 0) ≡ true →
     directions_of text ≡ onto ds (directions_from k (cut rest)) → directions_of text ≡ Ok ds
 unfolding cut

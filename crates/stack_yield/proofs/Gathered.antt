@@ -73,7 +73,7 @@ module _ (s : Surveyed) (i j budget : ℕ) where
     within = omega arith;
   })
 
-  -- direction number k
+  -- what comes of direction number k, behind the reaches so far
   next : (ds : List (ℤ × ℤ)) (rs : List ReachValue) (k : ℕ) (d : ℤ × ℤ) (o : Outcome) → k < length ds →
       IsGathered ds rs k → direction_outcome s i j budget (get_or ds k d) ≡ o →
       outcomes s i j budget ds ≡ onto rs (and_then k o (outcomes_from s i j budget (suc k) (drop (suc k) ds)))

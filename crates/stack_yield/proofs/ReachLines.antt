@@ -7,7 +7,7 @@ use Rattle.stack_yield.specs.declared.types.Reach.{Reach}
 use Rattle.stack_yield.specs.Kept.{reach_view}
 use Rattle.stack_yield.specs.RegionText.{reach_text, reach_lines, count_line}
 
--- one reach more
+-- the text of the reaches so far, with one more
 pub one_more : (rs : List Reach) (k : ℕ) (r : Reach) (text longer whole : List ℕ) → k < length rs →
     r ≡ get_or rs k r → longer ≡ text ++ reach_text (reach_view r) →
     text ++ reach_lines (map reach_view (drop k rs)) ≡ whole →
@@ -19,7 +19,7 @@ one_more rs k r text longer whole lt is added so_far =
     ∙ ap (λ (x : Reach). text ++ (reach_text (reach_view x) ++ rest)) is
     ∙ ap (λ ls. text ++ reach_lines (map reach_view ls)) (sym (drop-cons rs k r lt)) ∙ so_far)
 
--- all reaches
+-- the text of all reaches
 pub no_more : (rs : List Reach) (k : ℕ) (text whole : List ℕ) → length rs ≤ k →
     text ++ reach_lines (map reach_view (drop k rs)) ≡ whole → text ≡ whole
 no_more rs k text whole le so_far = sym (append-nil text)

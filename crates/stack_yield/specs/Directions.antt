@@ -22,7 +22,7 @@ pub record IsDirection (m n : ℤ) : Type 0 where
   pub limits : AreFactors m n
   pub some : ¬ ((m ≡ pos 0) × (n ≡ pos 0))
 
--- the same as a test
+-- whether two factors are a direction
 abbrev pub is_direction : ℤ → ℤ → Bool
 is_direction m n = is_between (negsuc 999) (pos 1000) m && is_between (negsuc 999) (pos 1000) n
     && not (int_eq m (pos 0) && int_eq n (pos 0))
@@ -31,7 +31,7 @@ is_direction m n = is_between (negsuc 999) (pos 1000) m && is_between (negsuc 99
 abbrev pub direction_body : ℤ × ℤ → List ℕ
 direction_body d = codes "dir " ++ two_text d.0 d.1
 
--- and with it
+-- the line of a direction with its line feed
 abbrev pub direction_text : ℤ × ℤ → List ℕ
 direction_text d = direction_body d ++ 10 ∷ []
 
@@ -39,7 +39,7 @@ direction_text d = direction_body d ++ 10 ∷ []
 abbrev pub IsDirectionBody : ℤ × ℤ → List ℕ → Type 0
 IsDirectionBody d bytes = IsDirection d.0 d.1 × (bytes ≡ direction_body d)
 
--- and with it
+-- the bytes are the line of this direction with its line feed
 abbrev pub IsDirectionLine : ℤ × ℤ → List ℕ → Type 0
 IsDirectionLine d bytes = IsDirection d.0 d.1 × (bytes ≡ direction_text d)
 
@@ -65,7 +65,7 @@ directions_from k [] = Ok []
 directions_from k (line ∷ more) = if nat_lt most_directions k then Err k
     else with_direction k (direction_of line) (directions_from (suc k) more)
 
--- of all lines; a text without a line is faulty at line 1
+-- the directions of all lines of a text; a text without a line is faulty at line 1
 abbrev pub directions_of_lines : List (List ℕ) → Result (List (ℤ × ℤ)) ℕ
 directions_of_lines [] = Err 1
 directions_of_lines (line ∷ more) = directions_from 1 (line ∷ more)
@@ -97,6 +97,6 @@ pub record IsFaultyFrom (first n : ℕ) (lines : List (List ℕ)) : Type 0 where
   pub at : slice_get lines place ≡ Some bytes
   pub here : (n ≡ most_directions + 1) ⊎ ((d : ℤ × ℤ) → ¬ IsDirectionLine d bytes)
 
--- of all lines; where there are none it is line 1
+-- of all lines of a text, number n is the first faulty one; where there are none it is line 1
 abbrev pub IsFaulty : (n : ℕ) → List (List ℕ) → Type 0
 IsFaulty n lines = ((lines ≡ []) × (n ≡ 1)) ⊎ IsFaultyFrom 1 n lines

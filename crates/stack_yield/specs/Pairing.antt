@@ -35,7 +35,7 @@ abbrev pub Pairs : Structure → (i j : ℕ) → Result (ℕ × ℕ) NoPair → 
 Pairs s i j (Ok r) = (i ≡ r.0 + 1) × ((j ≡ r.1 + 1) × ArePair s r.0 r.1)
 Pairs s i j (Err e) = IsInTheWay s i j e.load
 
--- the same as a test
+-- whether a load is live, with no component of more than 1,000,000 in size
 abbrev pub is_slight_load : Load → Bool
 is_slight_load l = l.live && (is_between (negsuc 999999) (pos 1000000) l.fx
     && is_between (negsuc 999999) (pos 1000000) l.fy)
@@ -55,7 +55,7 @@ paired i j (Some a) (Some b) = if nat_eq i j then Err j else Ok (a, b)
 abbrev pub pair_of : Structure → (i j : ℕ) → Result (ℕ × ℕ) ℕ
 pair_of s i j = paired i j (slight_number s i) (slight_number s j)
 
--- what is returned is that
+-- what is returned are the two loads, or the number that is in the way
 abbrev pub GivesPair : Result (ℕ × ℕ) NoPair → Result (ℕ × ℕ) ℕ → Type 0
 GivesPair (Ok r) p = p ≡ Ok r
 GivesPair (Err e) p = p ≡ Err e.load

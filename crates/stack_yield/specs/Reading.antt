@@ -12,7 +12,7 @@ GivesDirections (Ok ds) text = directions_of text ≡ Ok ds.items
 GivesDirections (Err (Line number)) text = directions_of text ≡ Err number
 GivesDirections (Err Memory) text = ⊤
 
--- the same by meaning
+-- the directions of which the text consists, or the number of its first faulty line, by meaning
 abbrev pub ReadsDirections : Result (Vec (ℤ × ℤ) Global) DirectionsError → List ℕ → Type 0
 ReadsDirections (Ok ds) text = AreDirections ds.items text
 ReadsDirections (Err (Line number)) text = IsFaulty number (cut text)

@@ -9,11 +9,11 @@ use Rattle.stack_report.specs.declared.ratio.Ratio.{Ratio}
 use Rattle.stack_report.specs.ForceTable.{ratio_text}
 use Rattle.stack_pairs.specs.Reaches.{PointValue, HalfValue, ReachValue, RegionValue, collapse, points}
 
--- a coordinate
+-- a coordinate as a fraction
 abbrev pub ratio_of : ℤ × ℤ → Ratio
 ratio_of x = record { num = x.0; den = x.1 }
 
--- both coordinates, or that there is no end
+-- both coordinates of a point, or that there is no end
 abbrev pub distance_text : Option PointValue → List ℕ
 distance_text None = codes "unlimited\n"
 distance_text (Some p) = codes "reach " ++ ratio_text (ratio_of p.0) ++ codes " " ++ ratio_text (ratio_of p.1)
@@ -34,16 +34,16 @@ half_line (Some h) = codes "half " ++ signed_decimal h.0 ++ codes " " ++ signed_
 abbrev pub reach_text : ReachValue → List ℕ
 reach_text r = direction_line r ++ half_line r.half
 
--- those of a list
+-- the lines of all reaches of a list
 abbrev pub reach_lines : List ReachValue → List ℕ
 reach_lines [] = []
 reach_lines (r ∷ rs) = reach_text r ++ reach_lines rs
 
--- the first line
+-- the first line of a region, with the number of its directions
 abbrev pub count_line : ℕ → List ℕ
 count_line n = codes "region " ++ decimal n ++ codes "\n"
 
--- the whole text
+-- the whole text of a region
 abbrev pub region_text : RegionValue → List ℕ
 region_text (collapse y) = certificate_text (collapses y)
 region_text (points rs) = count_line (length rs) ++ reach_lines rs

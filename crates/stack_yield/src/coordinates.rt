@@ -1,47 +1,22 @@
 //! The point that a direction reaches.
 
-ghost use Rattle.std.specs.Prelude.{◌≡◌, ◌*ℤ◌, pos};
+ghost use Rattle.std.specs.Prelude.{◌≡◌, pos};
 ghost use Rattle.stack_algebra.specs.IntegerOrder.{◌≺◌};
 ghost use Rattle.stack_algebra.proofs.Fractions.{of, mul};
-ghost use Rattle.stack_algebra.proofs.Over.{over};
 ghost use Rattle.stack_whole.specs.Whole.{IsFitting};
 ghost use Rattle.stack_certificate.specs.Certificate.{forces_view};
 ghost use Rattle.stack_yield.specs.Coordinates.{fitting_terms, point_made};
 
 use stack_certificate::types::Forces;
-use stack_rational::{Exact, Frac};
+use stack_rational::{Exact, Frac, over, whole};
 use stack_whole::Whole;
-
-/// A number that fits, as a fraction.
-fn fraction(number: Whole) -> Frac<i128>
-    requires { IsFitting number.value }
-    ensures { result ≡ of number.value }
-{
-    match Frac::from_whole(number.value) {
-        Ok(fraction) => fraction,
-        Err(_) => unreachable!(),
-    }
-}
-
-/// The quotient of two numbers that fit: in lowest terms its parts are no greater.
-fn quotient(n: Whole, d: Whole) -> Frac<i128>
-    requires numerator { IsFitting n.value }
-    requires denominator { IsFitting d.value }
-    requires positive { pos 0 ≺ d.value }
-    ensures { result ≡ over n.value d.value }
-{
-    match fraction(n).quotient(fraction(d)) {
-        Ok(quotient) => quotient,
-        Err(_) => unreachable!(),
-    }
-}
 
 /// A coordinate: a number that fits times a fraction, in lowest terms. `None` exactly where a term is too wide.
 fn coordinate(m: Whole, x: Frac<i128>) -> Option<(i128, i128)>
     requires { IsFitting m.value }
     ensures { result ≡ fitting_terms (mul (of m.value) x) }
 {
-    match fraction(m).product(x) {
+    match whole(m.value).product(x) {
         Ok(product) => Some(product.parts()),
         Err(_) => None,
     }
@@ -56,7 +31,7 @@ pub fn point(m: Whole, n: Whole, f: &Forces) -> Option<((i128, i128), (i128, i12
     requires positive { pos 0 ≺ f.now.scale }
     ensures { result ≡ point_made m.value n.value (forces_view f.now) }
 {
-    let factor = quotient(Whole { value: f.factor }, Whole { value: f.scale });
+    let factor = over(f.factor, f.scale);
     match coordinate(m, factor) {
         Some(x) => match coordinate(n, factor) {
             Some(y) => Some((x, y)),

@@ -8,7 +8,7 @@ use crate::errors::DirectionsError;
 use stack_certificate::{after, cut_line, read_two};
 use std::alloc::Global;
 
-/// At most so many directions.
+/// A text has at most this many directions.
 const MOST_DIRECTIONS: usize = 64;
 
 /// Two numbers from -1,000 to 1,000 that aren't both 0.
@@ -55,7 +55,8 @@ fn direction(bytes: &[u8]) -> Option<(i64, i64)>
 }
 
 /// The directions of a text, in the order of its lines: 1 to 64 lines `dir M N` with whole numbers from -1,000 to
-/// 1,000, not both 0. `Line` exactly where a line is faulty, with the number of the first one.
+/// 1,000, not both 0. `Line` exactly where a line is faulty, with the number of the first one. Memory may run out at
+/// any time.
 pub fn read_directions(alloc: Global, text: &[u8]) -> Result<Vec<(i64, i64)>, DirectionsError>
     ensures gives { GivesDirections result text.now }
     ensures reads { ReadsDirections result text.now }

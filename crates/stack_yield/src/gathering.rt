@@ -47,9 +47,9 @@ fn refused(stop: Stop, k: usize) -> RegionError
 /// `read_directions`, and what forbids more. Each direction is judged within the budget of pivots; where the dead loads
 /// fall, that is the answer.
 ///
-/// Refused is the first direction of whose judgement, of the powers of the loads on its motion, or of its point a
-/// number is more than 2^127 - 1 in size, or in whose run a pivot is due when the budget's are done. Want of memory
-/// comes at any time. After Livesley (1978).
+/// Refused is the first direction with a number of more than 2^127 - 1 in size, in its judgement, in the powers of the
+/// loads on its motion or in its point, or with a run in which a pivot is due when the budget's are done. Memory may
+/// run out at any time. After Livesley (1978).
 pub fn region(
     alloc: Global,
     s: &Survey,

@@ -48,7 +48,7 @@ pub enum Turn {
     Falls(Motion),
 }
 
-/// Less the power of the dead loads on a motion of a certificate that was accepted.
+/// Minus the power of the dead loads on a motion of a certificate that was accepted.
 fn dead_power(judged: &Survey, forces: &Forces, motion: &Motion) -> i128
     requires { IsJudged questions.Live judged.now (greatest (forces_view forces.now) (motion_view motion.now)) }
     ensures value { result ≡ less_dead judged.now (motion_view motion.now) }

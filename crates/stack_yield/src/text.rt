@@ -85,7 +85,7 @@ fn reaches_text(alloc: Global, reaches: &[Reach]) -> Result<String, AllocError>
 
 /// The text of a region: the line `region COUNT`, and for each direction the line `dir M N reach X Y`, with X and Y as
 /// fractions in lowest terms, and the line `half P Q R`; or the line `dir M N unlimited` alone. Of a collapse the text
-/// of its certificate.
+/// of its certificate. `AllocError` where memory ran out.
 pub fn write_region(alloc: Global, region: Region) -> Result<Vec<u8>, AllocError>
     requires { CanPrint (region_view region) }
     ensures { IfOk result (λ t. t.items ≡ region_text (region_view region)) }

@@ -51,7 +51,7 @@ pub enum RegionError {
         direction: usize,
         place: RegionPlace,
     },
-    /// In the direction a pivot is due, and the budget's are done.
+    /// A pivot of the direction is due, and the budget's are done.
     Spent {
         direction: usize,
     },

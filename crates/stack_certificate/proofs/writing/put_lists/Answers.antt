@@ -1,5 +1,5 @@
 use Rattle.std.proofs.lemmas.Result.{on_ok_weaker}
-use Rattle.stack_certificate.specs.declared.line.Form.TheVariants.{Greatest, Unbounded}
+use Rattle.stack_certificate.specs.declared.line.CertificateForm.TheVariants.{Greatest, Unbounded}
 use Rattle.stack_certificate.specs.declared.line.Line.TheVariants as lines
 use Rattle.stack_certificate.specs.Certificate.{forces_view, motion_view}
 use Rattle.stack_certificate.specs.CertificateText.{forces_lines, motion_lines}

@@ -5,7 +5,7 @@ use Rattle.std.proofs.lemmas.Int.{ints}
 use Rattle.stack_rational.proofs.Steps.{div-size}
 use Rattle.stack_rational.proofs.integer.part.Goals as goal
 
--- src/lib.rt:135:32
+-- a quotient by a positive number is within the type
 pub div-requires : goal.div-requires
 div-requires g c = g.met.T.Num.can_div_law c.args.a c.args.g
     (λ e. (
@@ -19,7 +19,7 @@ div-requires g c = g.met.T.Num.can_div_law c.args.a c.args.g
       )),
     ))
 
--- src/lib.rt:129:1
+-- a quotient is no greater in size than the number
 pub returns-else-is_one-clause-size : goal.returns-else-is_one-clause-size
 returns-else-is_one-clause-size g c = omega (
   arith,

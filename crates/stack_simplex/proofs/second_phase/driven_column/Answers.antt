@@ -9,7 +9,7 @@ use Rattle.stack_simplex.proofs.second_phase.driven_column.Goals as goal
 pub returns-then-not-is_zero : goal.returns-then-not-is_zero
 returns-then-not-is_zero g c = let t = c.args.t.now in let j = c.loop-j.j in
     sym (first_found (plain (shape_of_table t)) j (driven_item (shape_of_table t) (table_of t) c.args.row) j
-    (subst (λ n. j < n) c.plain_columns-j-end.ensures c.loop-j-test.true) c.loop-j.invariant
+    (subst (λ n. j < n) c.plain-j-end.ensures c.loop-j-test.true) c.loop-j.invariant
     (driven_at (shape_of_table t) (table_of t) c.args.row j (g.S.Exact.exact c.cell.result) c.is_zero.result
     c.cell.ensures c.is_zero.ensures ∙ ap (λ b. only_if (not b) j) c.if-not-is_zero.true))
 

@@ -2,6 +2,6 @@ use Rattle.stack_part.specs.Kept.{AreFlags}
 use Rattle.stack_stages.specs.Stage.{is_fixed_or_among}
 use Rattle.stack_stages.proofs.stage.built.Given as goal
 
--- so it is of the bodies so far
+-- of each body so far the list says whether it is built
 abbrev pub invariant-loop-i : goal.invariant-loop-i
 invariant-loop-i l = AreFlags l.i (is_fixed_or_among l.model l.first) l.flags.items

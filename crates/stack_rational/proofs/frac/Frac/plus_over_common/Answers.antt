@@ -32,7 +32,7 @@ reduced_by-requires-clause-outer g c = total-outer (sum c.self.invariant.stored 
     c.self.view_is c.other.view_is c.shared.ensures)
     c.in-Some.ensures c.in-Some-times.ensures c.in-Some-times-2.ensures c.in-Some-plus.ensures
 
--- the sum
+-- what is made is the sum
 pub returns-clause-ok : goal.returns-clause-ok
 returns-clause-ok g c = c.reduced_by.ensures ∙ sum-value (sum c.self.invariant.stored c.other.invariant.stored
     c.self.view_is c.other.view_is c.shared.ensures)
