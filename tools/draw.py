@@ -12,18 +12,19 @@ Nothing here is proved. The weight and each load are 1, so a factor times the we
 in kN; the friction is 7/10, of walls 1/2. An arch is half a ring of as many voussoirs, WIDTH wide outside and an eighth
 of that thick, on two springers, with a live load down at the outer end of the joint after its first quarter of
 voussoirs, from the right: a quarter of the arc, and in half a circle near the springing. For a quarter of the span move
-`at` to half the inner radius from the middle, and `block` to the voussoir under it. A ring is an arch by the radius of
-its middle line and its thickness, over so many DEGREES, 180 if none are given, on springers square to its ends: one of
-4 m in the clear, 0.5 m thick, on 1 cm is `ring 9 225 50`. A half has
-the right half of such a ring, of 180 degrees, and at its crown an upright wall without friction: by symmetry it stands
-exactly where the whole ring does. A wall has bricks 20 long and 10 high in running bond, BRICKS in each even course; an
-odd one is shifted by SHIFT units, 10 if none is given, and its ends are closed by shorter bricks. With the shift 0 all
-joints are common. Courses count from 0. Coursed stone has level courses, 8 to 14 high, of STONES stones each, about 20
-long, whose heights and lengths are drawn at random by SEED. Rubble has SIDE courses of SIDE stones of four corners,
-about 20 units wide, whose common corners are drawn at random by SEED. Walls, coursed stone and rubble are pushed to the
-right at their upper left corner. With `sway X Y` that sway stands in place of the live load. With `joint P Q` what is
-fixed is of a material of its own, and P over Q its friction with the others. docs/other_solvers.md and
-docs/published.md tell what comes of them.
+`at` to half the inner radius from the middle, and `block` to the voussoir under it; for the crown `at` is 0 and the
+outer radius, and `block` the middle voussoir. A ring is an arch by the radius of its middle line and its thickness,
+over so many DEGREES, 180 if none are given, on springers square to its ends: one of 4 m in the clear, 0.5 m thick, on 1
+cm is `ring 9 225 50`. A half is the right half of a ring of twice as many voussoirs and 180 degrees, with an upright
+wall without friction at its crown: by symmetry it stands exactly where that ring does, while its `load` is another
+question. A wall has bricks 20 long and 10 high in running bond, BRICKS in each even course; an odd one is shifted by
+SHIFT units, 10 if none is given, and its ends are closed by shorter bricks. With the shift 0 all joints are common, and
+`wall 5 1 0` is a pier of five blocks. Courses count from 0. Coursed stone has level courses, 8 to 14 high, of STONES
+stones each, about 20 long, whose heights and lengths are drawn at random by SEED. Rubble has SIDE courses of SIDE
+stones of four corners, about 20 units wide, whose common corners are drawn at random by SEED. Walls, coursed stone and
+rubble are pushed to the right at their upper left corner. With `sway X Y` that sway stands in place of the live load.
+With `joint P Q` what is fixed is of a material of its own, and P over Q its friction with the others.
+docs/other_solvers.md and docs/published.md tell what comes of them.
 """
 import math
 import random
