@@ -84,8 +84,9 @@ module _ {S : Type 0} (shelf : Ghosts S) where
     asks = grew_more (shelf.asked old) (shelf.asked mid) (shelf.asked new) p.names q.names p.asks q.asks;
     comes = comes_on R view (shelf.holds old) w f p.names q.names x result p.comes
         (subst (λ h. Returns R h (f (view x)) q.names result) p.holds q.comes);
-    cause = caused_sooner result (Rose (shelf.faults mid) (shelf.faults new))
-        (Rose (shelf.faults old) (shelf.faults new)) (rose_sooner (shelf.faults old) (shelf.faults mid) (shelf.faults new) p.later) q.cause;
+    cause = let sooner = rose_sooner (shelf.faults old) (shelf.faults mid) (shelf.faults new) p.later in
+        caused_sooner result (Rose (shelf.faults mid) (shelf.faults new))
+        (Rose (shelf.faults old) (shelf.faults new)) sooner q.cause;
     holds = q.holds ∙ p.holds;
     later = let a = p.later in let b = q.later in omega (arith, a, b);
   }
