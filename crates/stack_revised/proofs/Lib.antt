@@ -9,6 +9,7 @@ pub mod Ratios
 pub mod Basics
 pub mod Linear
 pub mod Bounds
+pub mod Tops
 pub mod Entered
 pub mod RevisedRows
 pub mod FirstRows
@@ -21,6 +22,7 @@ pub mod Casts
 pub mod Marks
 pub mod PivotLoop
 pub mod Division
+pub mod Kept
 pub mod ObjectivePut
 pub mod RightSide
 pub mod PhaseTurns
@@ -32,3 +34,4 @@ pub mod EndedRuns
 pub mod MadeCells
 pub mod RowByCells
 pub mod CellSteps
+pub mod ShortNumbers

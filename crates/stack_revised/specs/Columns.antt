@@ -80,6 +80,17 @@ abbrev pub revised_cell : {V : Type 0} → (V → ℤ) → (m : ℕ) → List (C
     (ns ds : List V) → ℕ → ℕ → Fraction
 revised_cell value m columns own ns ds i j = over (revised_number value m columns own ns ds i j) (under_at value ds i)
 
+-- the numbers of a column, row by row
+abbrev pub AreEntered : {V : Type 0} → (V → ℤ) → (m : ℕ) → List (Column V) → (own ns ds : List V) → (column : ℕ) →
+    List V → Type 0
+AreEntered value m columns own ns ds column entered = (i : ℕ) → i ≤ m →
+    number_at value entered i ≡ revised_number value m columns own ns ds i column
+
+-- all numbers of the rows but row i stay
+abbrev pub AreKept : {V : Type 0} → (V → ℤ) → (m : ℕ) → List (Column V) → (own ns ds ns' ds' : List V) → ℕ → Type 0
+AreKept value m columns own ns ds ns' ds' i = (k j : ℕ) → (k ≡ i → ⊥) →
+    revised_number value m columns own ns' ds' k j ≡ revised_number value m columns own ns ds k j
+
 -- the number and the cell of one row without own cells
 abbrev pub row_number : {V : Type 0} → (V → ℤ) → (m : ℕ) → List (Column V) → List V → ℤ → ℕ → ℤ
 row_number value m columns row d j = number m (length columns) (first_at value columns) plain_own d

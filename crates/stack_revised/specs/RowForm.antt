@@ -1,7 +1,7 @@
 -- A row as whole numbers over one positive denominator, which needn't be the least.
 use Rattle.std.specs.Prelude.{◌≡◌, ℕ, suc, ◌+◌, ◌*◌, ◌<◌, ◌≤◌, cond, ltb, List, map, get_or, ℤ, pos, ◌*ℤ◌}
 use Rattle.std.specs.Prelude.{◌-ℤ◌, ◌<ℤ◌, None}
-use Rattle.std.specs.Prelude.{unsigned_abs, take, drop, ◌-◌, ◌^◌, Bool, true, false}
+use Rattle.std.specs.Prelude.{unsigned_abs, take, drop, ◌-◌, ◌^◌, ◌≢◌, Bool, true, false, length}
 use Rattle.stack_algebra.specs.Fraction.{Fraction}
 use Rattle.stack_algebra.proofs.OrderedFractions.{ordered_fractions}
 use Rattle.stack_rational.specs.TooWide.{fraction_fits, is_too_wide}
@@ -22,6 +22,26 @@ number_at value xs k = at_value value (pos 0) xs k
 -- the denominator of row i, 1 past the last row
 abbrev pub under_at : {V : Type 0} → (V → ℤ) → List V → ℕ → ℤ
 under_at value xs i = at_value value (pos 1) xs i
+
+-- no number of a row but its last one, the right side, is greater in size than its top
+abbrev pub IsTopped : {V : Type 0} → (V → ℤ) → List V → ℕ → Type 0
+IsTopped value xs top = (j : ℕ) → suc j < length xs → unsigned_abs (number_at value xs j) ≤ top
+
+-- so it is in each row of a block by the size of the number beside it, where that isn't 0
+abbrev pub AreTopped : {V : Type 0} → (V → ℤ) → (width : ℕ) → (ns tops : List V) → Type 0
+AreTopped value width ns tops = (i : ℕ) → number_at value tops i ≢ pos 0 → (j : ℕ) → suc j < width →
+    unsigned_abs (cell_at value (pos 0) width ns i j) ≤ unsigned_abs (number_at value tops i)
+
+-- what a row step with the factors k and t makes of a row has the top r, by a top of the row and one of the pivot row
+pub record HasStepTop {V : Type 0} (value : V → ℤ) (row : List V) (k t : ℤ) (p : ℕ) (r : ℤ) : Type 0 where
+  pub top : ℕ
+  pub each : IsTopped value row top
+  pub sum : top * unsigned_abs k + unsigned_abs t * p ≤ unsigned_abs r
+
+-- so it is for the sizes of what the step adds up in each column
+abbrev pub IsStepTopped : {V : Type 0} → (V → ℤ) → (row pivot : List V) → (k t r : ℤ) → Type 0
+IsStepTopped value row pivot k t r = (j : ℕ) → suc j < length row → unsigned_abs (number_at value row j)
+    * unsigned_abs k + unsigned_abs t * unsigned_abs (number_at value pivot j) ≤ unsigned_abs r
 
 -- all denominators are positive
 abbrev pub ArePositive : {V : Type 0} → (V → ℤ) → List V → Type 0

@@ -9,16 +9,16 @@ ghost use Rattle.stack_rational.specs.TooWide.{is_too_wide};
 ghost use Rattle.stack_table.specs.Table.{plain};
 ghost use Rattle.stack_bland.specs.BySign.{by_sign};
 ghost use Rattle.stack_bland.specs.Choice.{entering, goes_first, leaving, ratio_row};
-ghost use Rattle.stack_revised.specs.Seen.{shape_of_revised, table_of_revised};
+ghost use Rattle.stack_revised.specs.Seen.{shape_of_revised, table_of_revised, IsEntered};
 
 use crate::revised_table::RevisedTable;
 use crate::whole::Whole;
 use std::cmp::Ordering;
 
-/// The least column below `among` with a negative objective cell.
+/// The least column below `among` with a negative objective cell, number by number.
 ///
 /// None where a number doesn't fit.
-pub fn entering<T: Whole>(t: &RevisedTable<T>, among: usize) -> Option<Option<usize>>
+fn entering_by_numbers<T: Whole>(t: &RevisedTable<T>, among: usize) -> Option<Option<usize>>
     requires { among ≤ plain (shape_of_revised t.now) }
     ensures value { IfSome result (λ r.
         r ≡ entering ordered_fractions (shape_of_revised t.now) (table_of_revised t.now) among) }
@@ -32,6 +32,21 @@ pub fn entering<T: Whole>(t: &RevisedTable<T>, among: usize) -> Option<Option<us
         }
     }
     Some(None)
+}
+
+/// The least column below `among` with a negative objective cell.
+///
+/// None where a number doesn't fit.
+pub fn entering<T: Whole>(t: &RevisedTable<T>, among: usize) -> Option<Option<usize>>
+    requires { among ≤ plain (shape_of_revised t.now) }
+    ensures value { IfSome result (λ r.
+        r ≡ entering ordered_fractions (shape_of_revised t.now) (table_of_revised t.now) among) }
+    ensures below { IfSome result (λ r. IfSome r (λ j. j < among)) }
+{
+    match t.short_entering(among) {
+        Some(found) => Some(found),
+        None => entering_by_numbers(t, among),
+    }
 }
 
 /// A row that may leave, and its ratio: the right side to its positive cell.
@@ -69,10 +84,11 @@ fn better<T: Whole>(
 }
 
 /// Among the rows with a positive cell in the column, the one with the least ratio of right side to cell; among equal
-/// ratios, the one with the least basic column. The objective row isn't one of them. No ratio is too wide. None where
-/// a number doesn't fit or two ratios can't be compared.
+/// ratios, the one with the least basic column. The objective row isn't one of them. No ratio is too wide. The numbers
+/// of the column are kept. None where two ratios can't be compared.
 pub fn leaving<T: Whole>(t: &RevisedTable<T>, column: usize) -> Option<Option<usize>>
-    requires { column < plain (shape_of_revised t.now) }
+    requires column_in { column < plain (shape_of_revised t.now) }
+    requires entered { IsEntered t.now column }
     ensures ok { IfSome result (λ r.
         r ≡ leaving ordered_fractions (shape_of_revised t.now) (table_of_revised t.now) column) }
     ensures none { OnSome result (ratio_row ordered_fractions (shape_of_revised t.now) (is_too_wide T.MAX)
@@ -80,7 +96,7 @@ pub fn leaving<T: Whole>(t: &RevisedTable<T>, column: usize) -> Option<Option<us
 {
     let mut best: Option<Candidate<T>> = None;
     for i in 0..t.rows() {
-        let cell = t.number(i, column)?;
+        let cell = t.entered(i);
         if cell.is_positive() {
             let own = t.right(i);
             let next = better(

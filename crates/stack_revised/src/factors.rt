@@ -1,6 +1,6 @@
 //! What a row step takes of the pivot row, and whether it fits.
 
-ghost use Rattle.std.specs.Prelude.{◌≡◌, ◌≤◌, ◌+◌, ◌*◌, pos, ◌*ℤ◌, ◌<ℤ◌, unsigned_abs, IfSome, true};
+ghost use Rattle.std.specs.Prelude.{◌≡◌, ◌≢◌, ◌≤◌, ◌+◌, ◌*◌, pos, ◌*ℤ◌, ◌<ℤ◌, unsigned_abs, IfSome, true};
 ghost use Rattle.stack_revised.specs.RowForm.{IsFitting, IsShort};
 
 use crate::whole::Whole;
@@ -37,6 +37,17 @@ fn most_of<T: Whole>(factors: Factors<T>, own: T, pivot: T) -> Option<T>
     let right = factors.less.times(pivot)?;
     let most = left.sizes(right)?;
     Some(most)
+}
+
+/// The same, and 0 where it doesn't fit.
+pub fn top_after<T: Whole>(factors: Factors<T>, own: T, pivot: T) -> T
+    ensures { T.value result ≢ pos 0 → unsigned_abs (T.value own) * unsigned_abs (T.value factors.times)
+        + unsigned_abs (T.value factors.less) * unsigned_abs (T.value pivot) ≤ unsigned_abs (T.value result) }
+{
+    match most_of(factors, own, pivot) {
+        Some(most) => most,
+        None => T::zero(),
+    }
 }
 
 /// Whether a step of numbers of at most these sizes fits 64 bits.

@@ -96,6 +96,16 @@ pub fn fill<T: Whole>(
     Some(())
 }
 
+/// The number 1. Unsettled where it doesn't fit.
+pub fn one<T: Whole>() -> Result<T, RevisedStop>
+    ensures { IfOk result (λ r. T.value r ≡ pos 1) }
+{
+    match T::from_wide(1) {
+        Some(one) => Ok(one),
+        None => Err(RevisedStop::Unsettled),
+    }
+}
+
 /// A number as often as is told.
 pub fn repeated<T: Whole>(alloc: Global, number: T, count: usize) -> Result<Vec<T>, RevisedStop>
     ensures long { IfOk result (λ r. length r.items ≡ count) }

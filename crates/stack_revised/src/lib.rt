@@ -38,6 +38,7 @@ mod remaking;
 pub mod revised_table;
 mod row;
 mod running;
+mod short;
 mod spots;
 pub mod stops;
 mod turn;

@@ -2,9 +2,9 @@
 
 ghost use Rattle.std.specs.Prelude.{◌≡◌, ℕ, suc, ◌+◌, ◌*◌, ◌<◌, ◌≤◌, ◌+ℤ◌, ◌*ℤ◌, length, unsigned_abs, IfSome};
 ghost use Rattle.stack_algebra.specs.Sums.{sum_of};
-ghost use Rattle.std.specs.Prelude.{ℤ};
-ghost use Rattle.stack_revised.specs.RowForm.{number_at, AreWithin, IsBound};
-ghost use Rattle.stack_revised.specs.Columns.{revised_own, revised_number, row_number};
+ghost use Rattle.std.specs.Prelude.{ℤ, OnSome};
+ghost use Rattle.stack_revised.specs.RowForm.{number_at, AreWithin, IsBound, IsTopped};
+ghost use Rattle.stack_revised.specs.Columns.{revised_own, revised_number, row_number, AreEntered};
 
 use crate::columns::Cell;
 use crate::first::First;
@@ -74,6 +74,30 @@ pub fn number_of<T: Whole>(
     Some(number)
 }
 
+/// Makes the numbers of a plain column, row by row. None where one doesn't fit.
+pub fn enter_column<T: Whole>(
+    first: &First<T>,
+    own: &[T],
+    numbers: &[T],
+    unders: &[T],
+    entered: &mut [T],
+    column: usize,
+) -> Option<()>
+    requires long { length entered.old ≡ suc first.now.rows }
+    requires whole { length numbers.now ≡ suc first.now.rows * suc first.now.rows }
+    requires unders { length unders.now ≡ suc first.now.rows }
+    requires column_in { column < length first.now.columns.items }
+    requires own_in { length own.now ≡ length first.now.columns.items }
+    ensures { OnSome result (AreEntered T.value first.now.rows first.now.columns.items own.now numbers.now unders.now
+        column entered.new) }
+{
+    for i in 0..entered.len() {
+        let number = number_of(first, own, numbers, unders, i, column)?;
+        entered[i] = number;
+    }
+    Some(())
+}
+
 /// Whichever is the greater in size. Most numbers of a row are 0.
 fn greater<T: Whole>(most: T, number: T) -> T
     ensures own { unsigned_abs (T.value most) ≤ unsigned_abs (T.value result) }
@@ -109,24 +133,25 @@ fn joined_in<T: Whole>(numbers: &[T], count: usize) -> u128
     size
 }
 
-/// A number that is no less in size than each of the first numbers.
-fn size_over<T: Whole>(numbers: &[T], count: usize) -> Option<T>
-    requires { count ≤ length numbers.now }
-    ensures { IfSome result (λ r. (k : ℕ) → k < count → unsigned_abs (number_at T.value numbers.now k)
-        ≤ unsigned_abs (T.value r)) }
+/// A number that is no less in size than each of the first numbers: of the bits of their sizes, or else the greatest.
+pub fn size_over<T: Whole>(numbers: &[T], count: usize) -> T
+    requires { length numbers.now ≡ suc count }
+    ensures { IsTopped T.value numbers.now (unsigned_abs (T.value result)) }
 {
-    let size = T::of_size(joined_in(numbers, count))?;
-    Some(size)
+    match T::of_size(joined_in(numbers, count)) {
+        Some(size) => size,
+        None => widest_of(numbers, count),
+    }
 }
 
-/// A bound of all numbers of a row over this denominator. None where it doesn't fit.
-pub fn bound<T: Whole>(first: &First<T>, numbers: &[T], under: T, greatest: T) -> Option<T>
-    requires { length numbers.now ≡ suc first.now.rows }
+/// A bound of all numbers of a row over this denominator, by its top. None where it doesn't fit.
+pub fn bound<T: Whole>(first: &First<T>, numbers: &[T], under: T, greatest: T, top: T) -> Option<T>
+    requires width { length numbers.now ≡ suc first.now.rows }
+    requires topped { IsTopped T.value numbers.now (unsigned_abs (T.value top)) }
     ensures { IfSome result (λ b. IsBound T.value first.now.rows numbers.now (T.value under) (T.value first.now.most)
         (T.value greatest) (T.value b)) }
 {
-    let most = size_over(numbers, first.rows)?;
-    let combined = most.times(first.most)?;
+    let combined = top.times(first.most)?;
     let own = under.times(greatest)?;
     let both = combined.sizes(own)?;
     Some(both.wider(numbers[first.rows]))

@@ -4,11 +4,12 @@ ghost use Rattle.std.specs.Prelude.{◌≡◌, ◌≢◌, ◌<◌, pos, OnOk, If
 ghost use Rattle.stack_algebra.specs.Ordered.{sign_of};
 ghost use Rattle.stack_algebra.proofs.OrderedFractions.{ordered_fractions};
 ghost use Rattle.stack_rational.specs.TooWide.{is_too_wide};
-ghost use Rattle.stack_table.specs.Table.{plain, right, clear_objective, set_factor_objective};
+ghost use Rattle.stack_table.specs.Table.{plain, right, clear_objective, set_factor_objective, pivoted_at};
+ghost use Rattle.stack_table.specs.Spots.{pivot_spot};
 ghost use Rattle.stack_bland.specs.Choice.{is_negative_sign};
 ghost use Rattle.stack_run.specs.WrittenRun.{turns, driven_column, drive_row, drives, written_run};
 ghost use Rattle.stack_revised.specs.Seen.{shape_of_revised, table_of_revised};
-ghost use Rattle.stack_revised.specs.Tells.{TellsPivots, TellsPhase, TellsRun};
+ghost use Rattle.stack_revised.specs.Tells.{TellsPivot, TellsPivots, TellsPhase, TellsRun};
 
 use crate::pivots::Pivots;
 use crate::revised_table::RevisedTable;
@@ -59,6 +60,29 @@ fn first_phase<T: Whole>(t: &mut RevisedTable<T>, budget: u32) -> Result<Pivots,
     }
 }
 
+/// A pivot of phase 2 that is due, at a column whose numbers aren't kept yet.
+fn driven_pivot<T: Whole>(
+    t: &mut RevisedTable<T>,
+    pivots: Pivots,
+    row: usize,
+    column: usize,
+) -> Result<Pivots, Stop>
+    requires row_in { row < (shape_of_revised t.old).rows }
+    requires column_in { column < plain (shape_of_revised t.old) }
+    requires cell { ((table_of_revised t.old).cell row column).num ≢ pos 0 }
+    ensures shape { OnOk result (shape_of_revised t.new ≡ shape_of_revised t.old) }
+    ensures table { OnOk result (table_of_revised t.new
+        ≡ pivoted_at ordered_fractions (shape_of_revised t.old) (table_of_revised t.old) row column) }
+    ensures counted { TellsPivot result 2 pivots
+        (pivot_spot ordered_fractions (is_too_wide T.MAX) (shape_of_revised t.old)
+        (table_of_revised t.old) row column) }
+{
+    match t.enter(column) {
+        Some(()) => due_pivot(t, 2, pivots, row, column),
+        None => Err(Stop::Unsettled),
+    }
+}
+
 /// A pivot that takes the row's artificial column out, where there is a column to bring in.
 fn drive_row<T: Whole>(t: &mut RevisedTable<T>, pivots: Pivots, row: usize) -> Result<Pivots, Stop>
     requires { row < (shape_of_revised t.old).rows }
@@ -73,7 +97,7 @@ fn drive_row<T: Whole>(t: &mut RevisedTable<T>, pivots: Pivots, row: usize) -> R
     match driven_column(t, row) {
         None => Err(Stop::Unsettled),
         Some(None) => Ok(pivots),
-        Some(Some(column)) => due_pivot(t, 2, pivots, row, column),
+        Some(Some(column)) => driven_pivot(t, pivots, row, column),
     }
 }
 

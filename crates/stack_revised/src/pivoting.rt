@@ -13,10 +13,12 @@ ghost use Rattle.stack_revised.specs.RowForm.{under_at, ArePositive, AreWithin, 
 ghost use Rattle.stack_revised.specs.RowForm.{IsRowReduced, IsReady, IsPlaced, IsDividedRow, IsPivotedCells};
 ghost use Rattle.stack_revised.specs.CellSteps.{TellsSpot};
 ghost use Rattle.stack_revised.specs.Columns.{IsOwn, greatest_at, row_number, row_cell, revised_number, revised_cell};
+ghost use Rattle.stack_revised.specs.Columns.{AreEntered, AreKept};
+ghost use Rattle.stack_revised.specs.RowForm.{number_at, IsTopped, AreTopped, HasStepTop, IsStepTopped};
 
-use crate::factors::{Factors, factors_of, is_short, step_under};
+use crate::factors::{Factors, factors_of, is_short, step_under, top_after};
 use crate::first::First;
-use crate::making::{bound, greatest_in, number_of};
+use crate::making::{bound, greatest_in, size_over};
 use crate::remaking::remake_lent;
 use crate::row::{find_jumps, reduce_row, settle};
 use crate::spots::{RowStep, is_widest, row_spot};
@@ -30,7 +32,7 @@ fn greatest_of<T: Whole>(rows: usize, greatest: T, i: usize) -> T
     if i == rows { greatest } else { T::zero() }
 }
 
-/// A bound of row i.
+/// A bound of row i, by its top.
 fn bound_at<T: Whole>(
     first: &First<T>,
     numbers: &[T],
@@ -38,58 +40,185 @@ fn bound_at<T: Whole>(
     most: T,
     width: usize,
     i: usize,
+    top: T,
 ) -> Option<T>
     requires width { width ≡ suc first.now.rows }
     requires room { i * width + width ≤ length numbers.now }
     requires row_in { i < length unders.now }
+    requires topped { IsTopped T.value (take (i * width + width - i * width) (drop (i * width) numbers.now))
+        (unsigned_abs (T.value top)) }
     ensures { IfSome result (λ b. IsBound T.value first.now.rows
         (take (i * width + width - i * width) (drop (i * width) numbers.now)) (under_at T.value unders.now i)
         (T.value first.now.most) (T.value most) (T.value b)) }
 {
     let from = i * width;
-    let own_bound = bound(first, &numbers[from..from + width], unders[i], most)?;
+    let own_bound = bound(first, &numbers[from..from + width], unders[i], most, top)?;
     Some(own_bound)
 }
 
-/// The denominator of a row before it is reduced, and whether its step fits 64 bits.
+/// The denominator of a row before it is reduced, whether its step fits 64 bits, and its top then, 0 where none is
+/// known.
 #[derive(Clone, Copy)]
 struct Ready<T> {
     over: T,
     short: bool,
+    top: T,
 }
 
-/// The denominator of a step of row i before it is reduced. None where it or a bound of the step doesn't fit.
-fn bounded_under<T: Whole>(
+/// The denominator of the pivot row, a bound of its numbers, and its top.
+#[derive(Clone, Copy)]
+struct Divided<T> {
+    under: T,
+    most: T,
+    top: T,
+}
+
+/// What a step of row i, of this top, takes. None where its denominator or a bound of it doesn't fit.
+fn bounded_by<T: Whole>(
     first: &First<T>,
     greatest: T,
     numbers: &[T],
     unders: &[T],
-    pivot_bound: T,
+    divided: Divided<T>,
+    factors: Factors<T>,
+    i: usize,
+    top: T,
+) -> Option<Ready<T>>
+    requires room { i * suc first.now.rows + suc first.now.rows ≤ length numbers.now }
+    requires row_in { i < length unders.now }
+    requires topped { IsTopped T.value (take (i * suc first.now.rows + suc first.now.rows - i * suc first.now.rows)
+        (drop (i * suc first.now.rows) numbers.now)) (unsigned_abs (T.value top)) }
+    ensures topped { IfSome result (λ r. T.value r.top ≢ pos 0 → HasStepTop T.value
+        (take (i * suc first.now.rows + suc first.now.rows - i * suc first.now.rows)
+        (drop (i * suc first.now.rows) numbers.now)) (T.value factors.times) (T.value factors.less)
+        (unsigned_abs (T.value divided.top)) (T.value r.top)) }
+    ensures bounded { IfSome result (λ r. IsBounded T.MAX T.value first.now.rows
+        (take (i * suc first.now.rows + suc first.now.rows - i * suc first.now.rows)
+        (drop (i * suc first.now.rows) numbers.now)) (under_at T.value unders.now i) (T.value first.now.most)
+        (greatest_at first.now.rows (T.value greatest) i) (T.value factors.times) (T.value factors.less)
+        (unsigned_abs (T.value divided.most)) (T.value r.over) r.short) }
+{
+    let most = greatest_of(first.rows, greatest, i);
+    let width = first.rows + 1;
+    let own_bound = bound_at(first, numbers, unders, most, width, i, top)?;
+    let over = step_under(unders[i], factors, own_bound, divided.most)?;
+    Some(Ready {
+        over,
+        short: is_short(factors, own_bound, divided.most),
+        top: top_after(factors, top, divided.top),
+    })
+}
+
+/// The same by the top that is kept of row i. None where none is known, too.
+fn bounded_as_kept<T: Whole>(
+    first: &First<T>,
+    greatest: T,
+    numbers: &[T],
+    unders: &[T],
+    tops: &[T],
+    divided: Divided<T>,
     factors: Factors<T>,
     i: usize,
 ) -> Option<Ready<T>>
     requires room { i * suc first.now.rows + suc first.now.rows ≤ length numbers.now }
     requires row_in { i < length unders.now }
-    ensures { IfSome result (λ r. IsBounded T.MAX T.value first.now.rows
+    requires top_in { i < length tops.now }
+    requires topped { AreTopped T.value (suc first.now.rows) numbers.now tops.now }
+    ensures topped { IfSome result (λ r. T.value r.top ≢ pos 0 → HasStepTop T.value
+        (take (i * suc first.now.rows + suc first.now.rows - i * suc first.now.rows)
+        (drop (i * suc first.now.rows) numbers.now)) (T.value factors.times) (T.value factors.less)
+        (unsigned_abs (T.value divided.top)) (T.value r.top)) }
+    ensures bounded { IfSome result (λ r. IsBounded T.MAX T.value first.now.rows
         (take (i * suc first.now.rows + suc first.now.rows - i * suc first.now.rows)
         (drop (i * suc first.now.rows) numbers.now)) (under_at T.value unders.now i) (T.value first.now.most)
         (greatest_at first.now.rows (T.value greatest) i) (T.value factors.times) (T.value factors.less)
-        (unsigned_abs (T.value pivot_bound)) (T.value r.over) r.short) }
+        (unsigned_abs (T.value divided.most)) (T.value r.over) r.short) }
 {
-    let most = greatest_of(first.rows, greatest, i);
+    let top = tops[i];
+    if top.is_zero() {
+        return None;
+    }
+    let ready = bounded_by(first, greatest, numbers, unders, divided, factors, i, top)?;
+    Some(ready)
+}
+
+/// The same by the top of its numbers.
+fn bounded_anew<T: Whole>(
+    first: &First<T>,
+    greatest: T,
+    numbers: &[T],
+    unders: &[T],
+    divided: Divided<T>,
+    factors: Factors<T>,
+    i: usize,
+) -> Option<Ready<T>>
+    requires room { i * suc first.now.rows + suc first.now.rows ≤ length numbers.now }
+    requires row_in { i < length unders.now }
+    ensures topped { IfSome result (λ r. T.value r.top ≢ pos 0 → HasStepTop T.value
+        (take (i * suc first.now.rows + suc first.now.rows - i * suc first.now.rows)
+        (drop (i * suc first.now.rows) numbers.now)) (T.value factors.times) (T.value factors.less)
+        (unsigned_abs (T.value divided.top)) (T.value r.top)) }
+    ensures bounded { IfSome result (λ r. IsBounded T.MAX T.value first.now.rows
+        (take (i * suc first.now.rows + suc first.now.rows - i * suc first.now.rows)
+        (drop (i * suc first.now.rows) numbers.now)) (under_at T.value unders.now i) (T.value first.now.most)
+        (greatest_at first.now.rows (T.value greatest) i) (T.value factors.times) (T.value factors.less)
+        (unsigned_abs (T.value divided.most)) (T.value r.over) r.short) }
+{
     let width = first.rows + 1;
-    let own_bound = bound_at(first, numbers, unders, most, width, i)?;
-    let over = step_under(unders[i], factors, own_bound, pivot_bound)?;
-    Some(Ready {
-        over,
-        short: is_short(factors, own_bound, pivot_bound),
-    })
+    let from = i * width;
+    let top = size_over(&numbers[from..from + width], first.rows);
+    let ready = bounded_by(first, greatest, numbers, unders, divided, factors, i, top)?;
+    Some(ready)
+}
+
+/// The same by the top that is kept of row i, or by that of its numbers where the step doesn't fit by that.
+fn bounded_under<T: Whole>(
+    first: &First<T>,
+    greatest: T,
+    numbers: &[T],
+    unders: &[T],
+    tops: &[T],
+    divided: Divided<T>,
+    factors: Factors<T>,
+    i: usize,
+) -> Option<Ready<T>>
+    requires room { i * suc first.now.rows + suc first.now.rows ≤ length numbers.now }
+    requires row_in { i < length unders.now }
+    requires top_in { i < length tops.now }
+    requires topped { AreTopped T.value (suc first.now.rows) numbers.now tops.now }
+    ensures topped { IfSome result (λ r. T.value r.top ≢ pos 0 → HasStepTop T.value
+        (take (i * suc first.now.rows + suc first.now.rows - i * suc first.now.rows)
+        (drop (i * suc first.now.rows) numbers.now)) (T.value factors.times) (T.value factors.less)
+        (unsigned_abs (T.value divided.top)) (T.value r.top)) }
+    ensures bounded { IfSome result (λ r. IsBounded T.MAX T.value first.now.rows
+        (take (i * suc first.now.rows + suc first.now.rows - i * suc first.now.rows)
+        (drop (i * suc first.now.rows) numbers.now)) (under_at T.value unders.now i) (T.value first.now.most)
+        (greatest_at first.now.rows (T.value greatest) i) (T.value factors.times) (T.value factors.less)
+        (unsigned_abs (T.value divided.most)) (T.value r.over) r.short) }
+{
+    match bounded_as_kept(first, greatest, numbers, unders, tops, divided, factors, i) {
+        Some(ready) => Some(ready),
+        None => bounded_anew(first, greatest, numbers, unders, divided, factors, i),
+    }
+}
+
+/// The top of a row after it is reduced: 0, that none is known, where another denominator tells that it was divided.
+fn top_kept<T: Whole>(after: T, ready: Ready<T>) -> T
+    ensures same { T.value result ≢ pos 0 → T.value after ≡ T.value ready.over }
+    ensures top { T.value result ≢ pos 0 → T.value result ≡ T.value ready.top }
+{
+    if after.wide() == ready.over.wide() {
+        ready.top
+    } else {
+        T::zero()
+    }
 }
 
 /// Takes a multiple of the pivot row from row i.
 fn reduce_lent<T: Whole>(
     numbers: &mut [T],
     unders: &mut [T],
+    tops: &mut [T],
     pivot: &[T],
     jumps: &[usize],
     factors: Factors<T>,
@@ -104,7 +233,14 @@ fn reduce_lent<T: Whole>(
     requires ready { IsReady T.MAX T.value (take (i * length pivot.now + length pivot.now - i * length pivot.now)
         (drop (i * length pivot.now) numbers.old)) pivot.now (T.value factors.times) (T.value factors.less)
         ready.short }
+    requires top_in { i < length tops.old }
+    requires topped { AreTopped T.value (length pivot.now) numbers.old tops.old }
+    requires step { T.value ready.top ≢ pos 0 → IsStepTopped T.value
+        (take (i * length pivot.now + length pivot.now - i * length pivot.now)
+        (drop (i * length pivot.now) numbers.old)) pivot.now (T.value factors.times) (T.value factors.less)
+        (T.value ready.top) }
     ensures positive { ArePositive T.value unders.new }
+    ensures topped { OnSome result (AreTopped T.value (length pivot.now) numbers.new tops.new) }
     ensures ok { OnSome result (IsRowTaken T.value (length pivot.now) numbers.old unders.old pivot.now
         (T.value ready.over) (T.value factors.times) (T.value factors.less) i numbers.new unders.new) }
 {
@@ -119,6 +255,7 @@ fn reduce_lent<T: Whole>(
         ready.short,
     )?;
     unders[i] = after;
+    tops[i] = top_kept(after, ready);
     Some(())
 }
 
@@ -191,9 +328,10 @@ fn reduce_row_at<T: Whole>(
     greatest: T,
     numbers: &mut [T],
     unders: &mut [T],
+    tops: &mut [T],
     pivot: &[T],
     jumps: &[usize],
-    pivot_bound: T,
+    divided: Divided<T>,
     s: RowStep<T>,
     i: usize,
 ) -> Result<(), Refusal>
@@ -207,8 +345,14 @@ fn reduce_row_at<T: Whole>(
     requires positive { ArePositive T.value unders.old }
     requires pivot_under { pos 0 <ℤ T.value s.pivot_under }
     requires within { AreWithin (row_number T.value first.now.rows first.now.columns.items pivot.now
-        (T.value s.pivot_under)) (T.value pivot_bound) }
+        (T.value s.pivot_under)) (T.value divided.most) }
+    requires top_in { i < length tops.old }
+    requires topped { AreTopped T.value (length pivot.now) numbers.old tops.old }
+    requires pivot_topped { IsTopped T.value pivot.now (unsigned_abs (T.value divided.top)) }
     ensures positive { ArePositive T.value unders.new }
+    ensures topped { OnOk result (AreTopped T.value (length pivot.now) numbers.new tops.new) }
+    ensures kept { OnOk result (AreKept T.value first.now.rows first.now.columns.items own.now numbers.old unders.old
+        numbers.new unders.new i) }
     ensures ok { OnOk result (IsOwn T.value own.now (T.value greatest) → (column : ℕ) → T.value s.factor
         ≡ revised_number T.value first.now.rows first.now.columns.items own.now numbers.old unders.old i column →
         IsRowReduced T.MAX (suc (length first.now.columns.items + first.now.rows))
@@ -225,82 +369,80 @@ fn reduce_row_at<T: Whole>(
         Some(factors) => factors,
         None => return Err(Refusal::Unsettled),
     };
-    let ready = match bounded_under(first, greatest, numbers, unders, pivot_bound, factors, i) {
+    let ready = match bounded_under(first, greatest, numbers, unders, tops, divided, factors, i) {
         Some(ready) => ready,
-        None => return reduce_by_cells(first, own, numbers, unders, pivot, s, factors, i),
+        None => {
+            tops[i] = T::zero();
+            return reduce_by_cells(first, own, numbers, unders, pivot, s, factors, i);
+        }
     };
-    match reduce_lent(numbers, unders, pivot, jumps, factors, ready, i) {
+    match reduce_lent(numbers, unders, tops, pivot, jumps, factors, ready, i) {
         Some(()) => Ok(()),
         None => Err(Refusal::Unsettled),
     }
 }
 
-/// Takes from row i its cell in the column times the pivot row. A row that is marked fits, so that it stays where its
-/// cell is 0; a row that is reduced is marked.
+/// Takes from row i its cell in the column, whose number is the factor, times the pivot row. A row that is marked
+/// fits, so that it stays where its cell is 0; a row that is reduced is marked.
 fn reduce_at<T: Whole>(
     first: &First<T>,
     own: &[T],
     greatest: T,
     numbers: &mut [T],
     unders: &mut [T],
+    tops: &mut [T],
     pivot: &[T],
     jumps: &[usize],
-    under: T,
-    pivot_bound: T,
+    divided: Divided<T>,
     marks: &mut [bool],
+    factor: T,
     i: usize,
     column: usize,
 ) -> Result<(), Refusal>
     requires width { length pivot.now ≡ suc first.now.rows }
     requires room { i * length pivot.now + length pivot.now ≤ length numbers.old }
     requires row_in { i < length unders.old }
-    requires column_in { column < length first.now.columns.items }
     requires own_in { length own.now ≡ length first.now.columns.items }
     requires mark_in { i < length marks.old }
     requires long { length jumps.now ≡ length pivot.now }
     requires jumps { AreJumps T.value pivot.now jumps.now }
     requires positive { ArePositive T.value unders.old }
-    requires under { pos 0 <ℤ T.value under }
-    requires within { AreWithin (row_number T.value first.now.rows first.now.columns.items pivot.now (T.value under))
-        (T.value pivot_bound) }
+    requires under { pos 0 <ℤ T.value divided.under }
+    requires within { AreWithin (row_number T.value first.now.rows first.now.columns.items pivot.now
+        (T.value divided.under)) (T.value divided.most) }
+    requires top_in { i < length tops.old }
+    requires topped { AreTopped T.value (length pivot.now) numbers.old tops.old }
+    requires pivot_topped { IsTopped T.value pivot.now (unsigned_abs (T.value divided.top)) }
+    requires factor { T.value factor
+        ≡ revised_number T.value first.now.rows first.now.columns.items own.now numbers.old unders.old i column }
     ensures positive { ArePositive T.value unders.new }
+    ensures topped { OnOk result (AreTopped T.value (length pivot.now) numbers.new tops.new) }
+    ensures kept { OnOk result (AreKept T.value first.now.rows first.now.columns.items own.now numbers.old unders.old
+        numbers.new unders.new i) }
     ensures ok { OnOk result (IsOwn T.value own.now (T.value greatest) → AreMarked T.MAX
         (revised_cell T.value first.now.rows first.now.columns.items own.now numbers.old unders.old) marks.old →
         IsRowReduced T.MAX (suc (length first.now.columns.items + first.now.rows))
         (revised_cell T.value first.now.rows first.now.columns.items own.now numbers.old unders.old)
-        (row_cell T.value first.now.rows first.now.columns.items pivot.now (T.value under)) i column
+        (row_cell T.value first.now.rows first.now.columns.items pivot.now (T.value divided.under)) i column
         (revised_cell T.value first.now.rows first.now.columns.items own.now numbers.new unders.new)
         × AreMarked T.MAX
         (revised_cell T.value first.now.rows first.now.columns.items own.now numbers.new unders.new) marks.new) }
     ensures wide { IfErr result (λ e. TellsSpot e (reduce_spot ordered_fractions (is_too_wide T.MAX)
         (suc (length first.now.columns.items + first.now.rows))
         (revised_cell T.value first.now.rows first.now.columns.items own.now numbers.old unders.old i)
-        (row_cell T.value first.now.rows first.now.columns.items pivot.now (T.value under))
+        (row_cell T.value first.now.rows first.now.columns.items pivot.now (T.value divided.under))
         (revised_cell T.value first.now.rows first.now.columns.items own.now numbers.old unders.old i column) i)) }
 {
-    let factor = match number_of(first, own, numbers, unders, i, column) {
-        Some(factor) => factor,
-        None => return Err(Refusal::Unsettled),
-    };
     if stays(factor, marks, i) {
         return Ok(());
     }
     let s = RowStep {
         under: unders[i],
-        pivot_under: under,
+        pivot_under: divided.under,
         factor,
     };
     match reduce_row_at(
-        first,
-        own,
-        greatest,
-        numbers,
-        unders,
-        pivot,
-        jumps,
-        pivot_bound,
-        s,
-        i,
+        first, own, greatest, numbers, unders, tops, pivot, jumps, divided, s, i,
     ) {
         Ok(()) => {
             marks[i] = true;
@@ -325,20 +467,14 @@ pub fn put_row<T: Whole>(numbers: &mut [T], unders: &mut [T], pivot: &[T], under
     unders[i] = under;
 }
 
-/// The denominator of the pivot row, and a bound of its numbers.
-#[derive(Clone, Copy)]
-struct Divided<T> {
-    under: T,
-    most: T,
-}
-
 /// A bound of all numbers of a row without own cells: that of its artificial numbers, or else the greatest of all.
-fn pivot_bound<T: Whole>(first: &First<T>, row: &[T], under: T) -> Option<T>
-    requires { length row.now ≡ suc first.now.rows }
+fn pivot_bound<T: Whole>(first: &First<T>, row: &[T], under: T, top: T) -> Option<T>
+    requires width { length row.now ≡ suc first.now.rows }
+    requires topped { IsTopped T.value row.now (unsigned_abs (T.value top)) }
     ensures { IfSome result (λ b. AreWithin (row_number T.value first.now.rows first.now.columns.items row.now
         (T.value under)) (T.value b)) }
 {
-    match bound(first, row, under, T::zero()) {
+    match bound(first, row, under, T::zero(), top) {
         Some(most) => Some(most),
         None => {
             let most = greatest_in(first, row)?;
@@ -347,44 +483,46 @@ fn pivot_bound<T: Whole>(first: &First<T>, row: &[T], under: T) -> Option<T>
     }
 }
 
-/// The pivot row, divided by its cell in the column. None where a number doesn't fit.
+/// The pivot row, divided by its cell in the column, whose number is the factor. None where a number doesn't fit.
 fn divide_row<T: Whole>(
     first: &First<T>,
     own: &[T],
     numbers: &[T],
     unders: &[T],
     pivot: &mut [T],
+    factor: T,
     row: usize,
     column: usize,
 ) -> Option<Divided<T>>
     requires width { length pivot.old ≡ suc first.now.rows }
     requires room { row * length pivot.old + length pivot.old ≤ length numbers.now }
-    requires unders { row < length unders.now }
     requires row_in { row < first.now.rows }
-    requires column_in { column < length first.now.columns.items }
-    requires own_in { length own.now ≡ length first.now.columns.items }
     requires positive { ArePositive T.value unders.now }
+    requires factor { T.value factor
+        ≡ revised_number T.value first.now.rows first.now.columns.items own.now numbers.now unders.now row column }
     requires cell { revised_number T.value first.now.rows first.now.columns.items own.now numbers.now unders.now
         row column
         ≢ pos 0 }
     ensures positive { IfSome result (λ d. pos 0 <ℤ T.value d.under) }
+    ensures topped { IfSome result (λ d. IsTopped T.value pivot.new (unsigned_abs (T.value d.top))) }
     ensures within { IfSome result (λ d. AreWithin (row_number T.value first.now.rows first.now.columns.items
         pivot.new (T.value d.under)) (T.value d.most)) }
     ensures ok { IfSome result (λ d. IsDividedRow T.MAX
         (revised_cell T.value first.now.rows first.now.columns.items own.now numbers.now unders.now row) column
         (row_cell T.value first.now.rows first.now.columns.items pivot.new (T.value d.under))) }
 {
-    let factor = number_of(first, own, numbers, unders, row, column)?;
     let width = pivot.len();
     let from = row * width;
     pivot.copy_from_slice(&numbers[from..from + width]);
     let under = settle(pivot, factor)?;
-    let most = pivot_bound(first, pivot, under)?;
-    Some(Divided { under, most })
+    let top = size_over(pivot, first.rows);
+    let most = pivot_bound(first, pivot, under, top)?;
+    Some(Divided { under, most, top })
 }
 
-/// A pivot at a row and a column of a block whose objective row has the number `rows`. `pivot` is room for a row.
-/// Refused at the first operation that is too wide, or where a number doesn't fit.
+/// A pivot at a row and a column of a block whose objective row has the number `rows`. `pivot` is room for a row, and
+/// `entered` has the numbers of the column. Refused at the first operation that is too wide, or where a number doesn't
+/// fit.
 fn pivot_block<T: Whole>(
     first: &First<T>,
     own: &[T],
@@ -394,19 +532,25 @@ fn pivot_block<T: Whole>(
     pivot: &mut [T],
     jumps: &mut [usize],
     marks: &mut [bool],
+    tops: &mut [T],
+    entered: &[T],
     row: usize,
     column: usize,
 ) -> Result<(), Refusal>
     requires width { length pivot.old ≡ suc first.now.rows }
     requires jumps { length jumps.old ≡ suc first.now.rows }
     requires marks { length marks.old ≡ suc first.now.rows }
+    requires tops { length tops.old ≡ suc first.now.rows }
+    requires topped { AreTopped T.value (length pivot.old) numbers.old tops.old }
+    requires long { length entered.now ≡ suc first.now.rows }
     requires marked { AreMarked T.MAX
         (revised_cell T.value first.now.rows first.now.columns.items own.now numbers.old unders.old) marks.old }
     requires whole { length numbers.old ≡ suc first.now.rows * length pivot.old }
     requires unders { length unders.old ≡ suc first.now.rows }
     requires row_in { row < first.now.rows }
-    requires column_in { column < length first.now.columns.items }
     requires own_in { length own.now ≡ length first.now.columns.items }
+    requires entered { AreEntered T.value first.now.rows first.now.columns.items own.now numbers.old unders.old column
+        entered.now }
     requires own { IsOwn T.value own.now (T.value greatest) }
     requires positive { ArePositive T.value unders.old }
     requires cell { revised_number T.value first.now.rows first.now.columns.items own.now numbers.old unders.old
@@ -417,13 +561,23 @@ fn pivot_block<T: Whole>(
         + first.now.rows)) (revised_cell T.value first.now.rows first.now.columns.items own.now numbers.old
         unders.old) row
         column (revised_cell T.value first.now.rows first.now.columns.items own.now numbers.new unders.new)) }
+    ensures topped { OnOk result (AreTopped T.value (length pivot.old) numbers.new tops.new) }
     ensures marked { OnOk result (AreMarked T.MAX
         (revised_cell T.value first.now.rows first.now.columns.items own.now numbers.new unders.new) marks.new) }
     ensures wide { IfErr result (λ e. TellsSpot e (cells_spot ordered_fractions (is_too_wide T.MAX)
         (suc first.now.rows) (suc (length first.now.columns.items + first.now.rows))
         (revised_cell T.value first.now.rows first.now.columns.items own.now numbers.old unders.old) row column)) }
 {
-    let divided = match divide_row(first, own, numbers, unders, pivot, row, column) {
+    let divided = match divide_row(
+        first,
+        own,
+        numbers,
+        unders,
+        pivot,
+        entered[row],
+        row,
+        column,
+    ) {
         Some(divided) => divided,
         None => return Err(Refusal::Unsettled),
     };
@@ -433,21 +587,12 @@ fn pivot_block<T: Whole>(
             continue;
         }
         reduce_at(
-            first,
-            own,
-            greatest,
-            numbers,
-            unders,
-            pivot,
-            jumps,
-            divided.under,
-            divided.most,
-            marks,
-            i,
-            column,
+            first, own, greatest, numbers, unders, tops, pivot, jumps, divided, marks, entered[i],
+            i, column,
         )?;
     }
     put_row(numbers, unders, pivot, divided.under, row);
+    tops[row] = divided.top;
     marks[row] = true;
     Ok(())
 }
@@ -461,7 +606,16 @@ fn unmark(marks: &mut [bool])
     }
 }
 
-/// The same; where it is refused no row is marked.
+/// Leaves no top known.
+fn forget<T: Whole>(tops: &mut [T])
+    ensures { (i : ℕ) → number_at T.value tops.new i ≡ pos 0 }
+{
+    for i in 0..tops.len() {
+        tops[i] = T::zero();
+    }
+}
+
+/// The same; where it is refused no row is marked, and no top known.
 pub fn pivot_or_unmark<T: Whole>(
     first: &First<T>,
     own: &[T],
@@ -471,19 +625,25 @@ pub fn pivot_or_unmark<T: Whole>(
     pivot: &mut [T],
     jumps: &mut [usize],
     marks: &mut [bool],
+    tops: &mut [T],
+    entered: &[T],
     row: usize,
     column: usize,
 ) -> Result<(), Refusal>
     requires width { length pivot.old ≡ suc first.now.rows }
     requires jumps { length jumps.old ≡ suc first.now.rows }
     requires marks { length marks.old ≡ suc first.now.rows }
+    requires tops { length tops.old ≡ suc first.now.rows }
+    requires topped { AreTopped T.value (length pivot.old) numbers.old tops.old }
+    requires long { length entered.now ≡ suc first.now.rows }
     requires marked { AreMarked T.MAX
         (revised_cell T.value first.now.rows first.now.columns.items own.now numbers.old unders.old) marks.old }
     requires whole { length numbers.old ≡ suc first.now.rows * length pivot.old }
     requires unders { length unders.old ≡ suc first.now.rows }
     requires row_in { row < first.now.rows }
-    requires column_in { column < length first.now.columns.items }
     requires own_in { length own.now ≡ length first.now.columns.items }
+    requires entered { AreEntered T.value first.now.rows first.now.columns.items own.now numbers.old unders.old column
+        entered.now }
     requires own { IsOwn T.value own.now (T.value greatest) }
     requires positive { ArePositive T.value unders.old }
     requires cell { revised_number T.value first.now.rows first.now.columns.items own.now numbers.old unders.old
@@ -494,6 +654,7 @@ pub fn pivot_or_unmark<T: Whole>(
         + first.now.rows)) (revised_cell T.value first.now.rows first.now.columns.items own.now numbers.old
         unders.old) row
         column (revised_cell T.value first.now.rows first.now.columns.items own.now numbers.new unders.new)) }
+    ensures topped { AreTopped T.value (length pivot.old) numbers.new tops.new }
     ensures marked { AreMarked T.MAX
         (revised_cell T.value first.now.rows first.now.columns.items own.now numbers.new unders.new) marks.new }
     ensures wide { IfErr result (λ e. TellsSpot e (cells_spot ordered_fractions (is_too_wide T.MAX)
@@ -501,11 +662,12 @@ pub fn pivot_or_unmark<T: Whole>(
         (revised_cell T.value first.now.rows first.now.columns.items own.now numbers.old unders.old) row column)) }
 {
     match pivot_block(
-        first, own, greatest, numbers, unders, pivot, jumps, marks, row, column,
+        first, own, greatest, numbers, unders, pivot, jumps, marks, tops, entered, row, column,
     ) {
         Ok(()) => Ok(()),
         Err(e) => {
             unmark(marks);
+            forget(tops);
             Err(e)
         }
     }

@@ -3,15 +3,16 @@
 ghost use Rattle.std.specs.Prelude.{◌≡◌, ℕ, suc, ◌+◌, ◌*◌, ◌<◌, length, get_or};
 ghost use Rattle.stack_table.specs.Table.{plain, columns};
 ghost use Rattle.stack_table.specs.Block.{shape_of};
-ghost use Rattle.stack_revised.specs.RowForm.{ArePositive, AreMarked};
+ghost use Rattle.stack_revised.specs.RowForm.{ArePositive, AreMarked, AreTopped};
 ghost use Rattle.stack_revised.specs.Columns.{IsOwn, revised_cell};
 
 use crate::building::{first_of, own_cells};
-use crate::filling::{fill, first_basics, no_marks, repeated};
+use crate::filling::{fill, first_basics, no_marks, one, repeated};
 use crate::first::First;
-use crate::making::{number_of, widest_of};
+use crate::making::{enter_column, number_of, widest_of};
 use crate::objective::{clear_row, factor_row, row_with, set_only};
 use crate::pivoting::{pivot_or_unmark, put_row};
+use crate::short::short_negative;
 use crate::stops::{Refusal, RevisedStop};
 use crate::whole::Whole;
 use stack_table::problem::Problem;
@@ -32,10 +33,14 @@ pub struct RevisedTable<T: Whole> {
     basic: Vec<usize>,
     /// Room for the pivot row.
     pivot: Vec<T>,
+    /// Room for the numbers of the entering column, row by row.
+    entered: Vec<T>,
     /// Room for the next column of the pivot row beside each, in which it has something.
     jumps: Vec<usize>,
     /// Rows all of whose cells are known to fit.
     marks: Vec<bool>,
+    /// A top of each row, 0 where none is known.
+    tops: Vec<T>,
     contacts: usize,
     has_factor: bool,
     ghost wide: { length pivot.items ≡ suc first.rows },
@@ -47,8 +52,11 @@ pub struct RevisedTable<T: Whole> {
     ghost positive: { ArePositive T.value unders.items },
     ghost one_jump: { length jumps.items ≡ suc first.rows },
     ghost one_mark: { length marks.items ≡ suc first.rows },
+    ghost one_number: { length entered.items ≡ suc first.rows },
     ghost marked: { AreMarked T.MAX (revised_cell T.value first.rows first.columns.items own.items numbers.items
         unders.items) marks.items },
+    ghost one_top: { length tops.items ≡ suc first.rows },
+    ghost topped: { AreTopped T.value (suc first.rows) numbers.items tops.items },
     ghost basics: { length basic.items ≡ first.rows },
     ghost basics_in: { (i : ℕ) → i < first.rows →
         get_or basic.items i 0 < columns (shape_of first.rows contacts has_factor) },
@@ -57,14 +65,15 @@ pub struct RevisedTable<T: Whole> {
 impl<T: Whole> RevisedTable<T> {
     ghost use Rattle.std.specs.Prelude.{◌≢◌, ◌≤◌, ◌<ℤ◌, pos, cond, OnSome, None, IfSome, IfOk, OnOk, IfErr};
     ghost use Rattle.stack_revised.specs.CellSteps.{TellsSpot};
-    ghost use Rattle.stack_revised.specs.RowForm.{under_at};
+    ghost use Rattle.stack_revised.specs.RowForm.{number_at, under_at};
     ghost use Rattle.stack_algebra.proofs.OrderedFractions.{ordered_fractions};
     ghost use Rattle.stack_rational.specs.TooWide.{is_too_wide};
     ghost use Rattle.stack_table.specs.Table.{pivoted_at, clear_objective, set_factor_objective};
     ghost use Rattle.stack_table.specs.Spots.{pivot_spot};
     ghost use Rattle.stack_table.specs.Lent.{IsProblem, shape_of_problem, problem_of};
     ghost use Rattle.stack_table.specs.WrittenTable.{written_table};
-    ghost use Rattle.stack_revised.specs.Seen.{shape_of_revised, table_of_revised, number_in};
+    ghost use Rattle.stack_revised.specs.Seen.{shape_of_revised, table_of_revised, number_in, IsEntered};
+    ghost use Rattle.stack_revised.specs.ShortRow.{least_negative};
 
     /// The written table of a problem. All memory of a run is taken here. Unsettled where a number doesn't fit.
     pub fn of_problem(alloc: Global, p: &Problem) -> Result<RevisedTable<T>, RevisedStop>
@@ -72,10 +81,7 @@ impl<T: Whole> RevisedTable<T> {
         ensures shape { IfOk result (λ t. shape_of_revised t ≡ shape_of_problem p.now) }
         ensures ok { IfOk result (λ t. table_of_revised t ≡ written_table ordered_fractions (problem_of p.now)) }
     {
-        let one = match T::from_wide(1) {
-            Some(one) => one,
-            None => return Err(RevisedStop::Unsettled),
-        };
+        let one = one()?;
         let first = first_of(alloc, p)?;
         let own = own_cells(alloc, first.columns.as_slice())?;
         let greatest = widest_of(own.as_slice(), own.len());
@@ -83,8 +89,10 @@ impl<T: Whole> RevisedTable<T> {
         let mut numbers = repeated(alloc, T::zero(), width * width)?;
         let mut unders = repeated(alloc, one, width)?;
         let mut pivot = repeated(alloc, T::zero(), width)?;
+        let entered = repeated(alloc, T::zero(), width)?;
         let jumps = first_basics(alloc, 0, width)?;
         let marks = no_marks(alloc, width)?;
+        let tops = repeated(alloc, T::zero(), width)?;
         let basic = first_basics(alloc, first.columns.len(), p.rows)?;
         match fill(
             numbers.as_mut_slice(),
@@ -104,8 +112,10 @@ impl<T: Whole> RevisedTable<T> {
             unders,
             basic,
             pivot,
+            entered,
             jumps,
             marks,
+            tops,
             contacts: p.contact.len(),
             has_factor: p.factor.is_some(),
         })
@@ -161,6 +171,49 @@ impl<T: Whole> RevisedTable<T> {
         )
     }
 
+    /// Makes the numbers of a plain column, row by row, and keeps them. None where a number doesn't fit.
+    pub fn enter(&mut self, column: usize) -> Option<()>
+        requires { column < plain (shape_of_revised self.old) }
+        ensures shape { shape_of_revised self.new ≡ shape_of_revised self.old }
+        ensures table { table_of_revised self.new ≡ table_of_revised self.old }
+        ensures entered { OnSome result (IsEntered self.new column) }
+    {
+        enter_column(
+            &self.first,
+            self.own.as_slice(),
+            self.numbers.as_slice(),
+            self.unders.as_slice(),
+            self.entered.as_mut_slice(),
+            column,
+        )
+    }
+
+    /// The number of a row that was kept last.
+    pub fn entered(&self, i: usize) -> T
+        requires { i ≤ (shape_of_revised self.now).rows }
+        ensures { T.value result ≡ number_at T.value self.now.entered.items i }
+    {
+        self.entered[i]
+    }
+
+    /// The least column below `among` with a negative number in the objective row, by numbers of 64 bits. None where a
+    /// bound of them doesn't fit these.
+    pub fn short_entering(&self, among: usize) -> Option<Option<usize>>
+        requires { among ≤ plain (shape_of_revised self.now) }
+        ensures value { IfSome result (λ r. r
+            ≡ least_negative (number_in self.now (shape_of_revised self.now).rows) among) }
+        ensures below { IfSome result (λ r. IfSome r (λ j. j < among)) }
+    {
+        short_negative(
+            &self.first,
+            self.own.as_slice(),
+            self.numbers.as_slice(),
+            self.unders.as_slice(),
+            self.greatest,
+            among,
+        )
+    }
+
     /// The right side of a row, over its denominator.
     pub fn right(&self, i: usize) -> T
         requires { i ≤ (shape_of_revised self.now).rows }
@@ -187,12 +240,13 @@ impl<T: Whole> RevisedTable<T> {
         self.unders[i]
     }
 
-    /// A pivot at a row and a column whose cell isn't 0. Refused at the first operation that is too wide, or where a
-    /// number doesn't fit; the table is spent then.
+    /// A pivot at a row and a column whose numbers are kept, and whose cell in the row isn't 0. Refused at the first
+    /// operation that is too wide, or where a number doesn't fit; the table is spent then.
     pub fn pivot(&mut self, row: usize, column: usize) -> Result<(), Refusal>
         requires row_in { row < (shape_of_revised self.old).rows }
         requires column_in { column < plain (shape_of_revised self.old) }
         requires cell { ((table_of_revised self.old).cell row column).num ≢ pos 0 }
+        requires entered { IsEntered self.old column }
         ensures shape { OnOk result (shape_of_revised self.new ≡ shape_of_revised self.old) }
         ensures ok { OnOk result (table_of_revised self.new
             ≡ pivoted_at ordered_fractions (shape_of_revised self.old) (table_of_revised self.old) row column) }
@@ -211,6 +265,8 @@ impl<T: Whole> RevisedTable<T> {
             self.pivot.as_mut_slice(),
             self.jumps.as_mut_slice(),
             self.marks.as_mut_slice(),
+            self.tops.as_mut_slice(),
+            self.entered.as_slice(),
             row,
             column,
         )
@@ -234,6 +290,7 @@ impl<T: Whole> RevisedTable<T> {
             self.first.rows,
         );
         self.marks[self.first.rows] = false;
+        self.tops[self.first.rows] = T::zero();
         Some(())
     }
 
@@ -266,6 +323,7 @@ impl<T: Whole> RevisedTable<T> {
             self.first.rows,
         );
         self.marks[self.first.rows] = false;
+        self.tops[self.first.rows] = T::zero();
         Some(())
     }
 }

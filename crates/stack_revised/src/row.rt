@@ -115,9 +115,17 @@ fn divisor_of<T: Whole>(by: T) -> Divisor<T> {
     }
 }
 
+/// A common divisor of a denominator and the last number of its row, the right side: it has little more than all have.
+fn divisor_with_last<T: Whole>(numbers: &[T], under: T) -> T {
+    match numbers.last() {
+        Some(right) => right.divisor(under),
+        None => under,
+    }
+}
+
 /// A number that should divide a denominator and all numbers of its row.
 fn content<T: Whole>(numbers: &[T], under: T) -> T {
-    let mut common = divisor_of(under);
+    let mut common = divisor_of(divisor_with_last(numbers, under));
     if common.by.is_one() {
         return common.by;
     }

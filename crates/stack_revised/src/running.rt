@@ -1,6 +1,6 @@
-//! The run of a problem: at 64 bits, and where that isn't settled at 128.
+//! The run of a problem: at 64 bits where its rows are few, and where that isn't settled at 128.
 
-ghost use Rattle.std.specs.Prelude.{◌≡◌, ◌≢◌, ℕ, ◌<◌, false, length, get_or, IfOk, IfErr};
+ghost use Rattle.std.specs.Prelude.{◌≡◌, ◌≢◌, ℕ, ◌<◌, ◌-◌, ◌^◌, pos, false, length, get_or, IfOk, IfErr};
 ghost use Rattle.stack_rational.specs.Laws.{widest};
 ghost use Rattle.stack_table.specs.Problem.{flipped};
 ghost use Rattle.stack_table.specs.Table.{plain};
@@ -146,6 +146,22 @@ fn run_at_width<T: Whole>(alloc: Global, p: &Problem, budget: u32) -> Result<Las
     last_of(alloc, table, kind, flipped)
 }
 
+/// The most rows of a run that begins at 64 bits: one of more seldom comes to its end there.
+const MOST_NARROW_ROWS: usize = 250;
+
+/// The run at 64 bits, unsettled where the rows are many.
+fn run_narrow(alloc: Global, p: &Problem, budget: u32) -> Result<Last<Narrow>, RevisedStop>
+    requires { IsProblem p.now }
+    ensures shape { IfOk result (λ l. shape_of_last l ≡ shape_of_problem p.now) }
+    ensures flips { IfOk result (λ l. flips_of_last l ≡ flipped (problem_of p.now)) }
+    ensures value { TellsLast result (run_at (pos (2 ^ 63 - 1)) (problem_of p.now) budget) }
+{
+    if p.rows > MOST_NARROW_ROWS {
+        return Err(RevisedStop::Unsettled);
+    }
+    run_at_width::<Narrow>(alloc, p, budget)
+}
+
 /// The run of a problem within a budget of pivots: its end is that of the written run at 128 bits, with its last table.
 ///
 /// Refused at the first operation that is too wide for 128 bits, and spent where the written run is over its budget,
@@ -159,7 +175,7 @@ pub fn run_revised(alloc: Global, p: &Problem, budget: u32) -> Result<RevisedEnd
     ensures value { Tells result (run_at widest (problem_of p.now) budget) }
 {
     wider_run_law();
-    match run_at_width::<Narrow>(alloc, p, budget) {
+    match run_narrow(alloc, p, budget) {
         Ok(last) => return Ok(RevisedEnd::AtNarrow(last)),
         Err(RevisedStop::Spent) => return Err(RevisedStop::Spent),
         Err(RevisedStop::Memory) => return Err(RevisedStop::Memory),

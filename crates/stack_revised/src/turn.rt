@@ -5,7 +5,7 @@ ghost use Rattle.stack_algebra.proofs.OrderedFractions.{ordered_fractions};
 ghost use Rattle.stack_rational.specs.TooWide.{is_too_wide};
 ghost use Rattle.stack_table.specs.Table.{plain, pivoted_at};
 ghost use Rattle.stack_table.specs.Spots.{pivot_spot};
-ghost use Rattle.stack_revised.specs.Seen.{shape_of_revised, table_of_revised};
+ghost use Rattle.stack_revised.specs.Seen.{shape_of_revised, table_of_revised, IsEntered};
 ghost use Rattle.stack_revised.specs.Tells.{TellsPivot, TellsTurn, TellsPhase, HasFewer, phase_from, stop_at};
 
 use crate::choices::{entering, leaving};
@@ -31,7 +31,8 @@ fn stopped_at(refusal: Refusal, phase: u8, pivot: u64) -> Stop
     }
 }
 
-/// A pivot that is due. Refused where no pivot is left, and else at the first operation that is too wide.
+/// A pivot that is due at a column whose numbers are kept. Refused where no pivot is left, and else at the first
+/// operation that is too wide.
 pub fn due_pivot<T: Whole>(
     t: &mut RevisedTable<T>,
     phase: u8,
@@ -42,6 +43,7 @@ pub fn due_pivot<T: Whole>(
     requires row_in { row < (shape_of_revised t.old).rows }
     requires column_in { column < plain (shape_of_revised t.old) }
     requires cell { ((table_of_revised t.old).cell row column).num ≢ pos 0 }
+    requires entered { IsEntered t.old column }
     ensures shape { OnOk result (shape_of_revised t.new ≡ shape_of_revised t.old) }
     ensures table { OnOk result (table_of_revised t.new
         ≡ pivoted_at ordered_fractions (shape_of_revised t.old) (table_of_revised t.old) row column) }
@@ -80,6 +82,10 @@ fn take_turn<T: Whole>(
         Some(None) => return Ok(Turn::Stops(PhaseEnd::Settled(pivots))),
         None => return Err(Stop::Unsettled),
     };
+    match t.enter(column) {
+        Some(()) => {}
+        None => return Err(Stop::Unsettled),
+    }
     let row = match leaving(t, column) {
         Some(Some(row)) => row,
         Some(None) => return Ok(Turn::Stops(PhaseEnd::Unlimited(column))),

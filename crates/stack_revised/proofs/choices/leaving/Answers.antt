@@ -40,17 +40,19 @@ loop-i-preserved g c = elim c.if-is_positive.branch [
       let T = table_of_revised t in
       let i = c.loop-i.i in
       let k = c.args.column in
+      let is : v c.entered-cell.result ≡ number_in t i k = c.entered-cell.ensures
+      ∙ c.requires.entered i (omega (arith, c.loop-i-test.true, c.rows-i-end.ensures)) in
       let sign = cell_sign (number_in t i k) (under_at v t.unders.items i) (t.positive i) in
-      let above = subst (λ z. pos 0 ≺ z) c.in_ok-cell.ensures (c.is_positive.ensures.above w.if-is_positive.true) in
+      let above = subst (λ z. pos 0 ≺ z) is (c.is_positive.ensures.above w.if-is_positive.true) in
       rw w.best-is (record {
         fits = fits_more (λ i. number_in t i k) i g.T.Whole.MAX
-            (v c.in_ok-cell.cell) c.loop-i.invariant.fits
-            c.in_ok-cell.ensures (g.met.T.Whole.fits_law c.in_ok-cell.cell);
+            (v c.entered-cell.result) c.loop-i.invariant.fits
+            is (g.met.T.Whole.fits_law c.entered-cell.result);
         held = held_positive v (λ i. T.cell i k) (ratio ordered_fractions S T k) T.basic i c.loop-i.best
-            w.in_ok-next.next w.right-own.result c.in_ok-cell.cell c.loop-i.invariant.held
-            (ap is_plus (sign ∙ ap sign_of (sym c.in_ok-cell.ensures)) ∙ sym c.is_positive.ensures.sign
+            w.in_ok-next.next w.right-own.result c.entered-cell.result c.loop-i.invariant.held
+            (ap is_plus (sign ∙ ap sign_of (sym is)) ∙ sym c.is_positive.ensures.sign
             ∙ w.if-is_positive.true)
-            ((λ z. over (w.right-own.ensures z) (c.in_ok-cell.ensures z))
+            ((λ z. over (w.right-own.ensures z) (is z))
             ∙ sym (ratio_over (number_in t i (columns S)) (number_in t i k)
             (under_at v t.unders.items i) (t.positive i) above))
             (c.is_positive.ensures.above w.if-is_positive.true)
@@ -63,14 +65,16 @@ loop-i-preserved g c = elim c.if-is_positive.branch [
       let T = table_of_revised t in
       let i = c.loop-i.i in
       let k = c.args.column in
+      let is : v c.entered-cell.result ≡ number_in t i k = c.entered-cell.ensures
+      ∙ c.requires.entered i (omega (arith, c.loop-i-test.true, c.rows-i-end.ensures)) in
       let sign = cell_sign (number_in t i k) (under_at v t.unders.items i) (t.positive i) in
       rw w.best-is (record {
         fits = fits_more (λ i. number_in t i k) i g.T.Whole.MAX
-            (v c.in_ok-cell.cell) c.loop-i.invariant.fits
-            c.in_ok-cell.ensures (g.met.T.Whole.fits_law c.in_ok-cell.cell);
+            (v c.entered-cell.result) c.loop-i.invariant.fits
+            is (g.met.T.Whole.fits_law c.entered-cell.result);
         held = held_other v (λ i. T.cell i k) (ratio ordered_fractions S T k) T.basic i c.loop-i.best
             c.loop-i.invariant.held
-            (ap is_plus (sign ∙ ap sign_of (sym c.in_ok-cell.ensures)) ∙ sym c.is_positive.ensures.sign
+            (ap is_plus (sign ∙ ap sign_of (sym is)) ∙ sym c.is_positive.ensures.sign
             ∙ w.if-is_positive.false);
       })
 ]

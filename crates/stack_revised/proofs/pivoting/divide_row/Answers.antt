@@ -16,17 +16,17 @@ returns-clause-ok g c =
     let r = c.args.row in
     let new = c.settle.new.numbers in
     let e = c.in_ok-under.under in
-    let same : IsSameRow v (take (r * w + w - r * w) (drop (r * w) ns)) (v c.in_ok-factor.factor) new (v e) =
-    subst (λ (xs : List V). IsSameRow v xs (v c.in_ok-factor.factor) new
+    let same : IsSameRow v (take (r * w + w - r * w) (drop (r * w) ns)) (v c.args.factor) new (v e) =
+    subst (λ (xs : List V). IsSameRow v xs (v c.args.factor) new
     (v e)) c.copy_from_slice.ensures.after c.in_ok-under.ensures in
     record {
       cell = pivot_row_is v f.rows C own ns ds g.T.Whole.MAX g.met.T.Whole.fits_law c.requires.positive r
-          c.args.column w c.requires.row_in c.requires.width c.requires.room new c.in_ok-factor.factor e
-          c.in_ok-most.most c.in_ok-factor.ensures c.requires.cell same c.in_ok-most.ensures;
+          c.args.column w c.requires.row_in c.requires.width c.requires.room new c.args.factor e
+          c.in_ok-most.most c.requires.factor c.requires.cell same c.in_ok-most.ensures;
       none = pivot_row_none v f.rows C own ns ds g.T.Whole.MAX g.met.T.Whole.fits_law c.requires.positive r
-          c.args.column w c.requires.row_in c.requires.width c.requires.room new c.in_ok-factor.factor e
-          c.in_ok-most.most c.in_ok-factor.ensures c.requires.cell same c.in_ok-most.ensures;
+          c.args.column w c.requires.row_in c.requires.width c.requires.room new c.args.factor e
+          c.in_ok-most.most c.requires.factor c.requires.cell same c.in_ok-most.ensures;
       fits = pivot_row_fits v f.rows C own ns ds g.T.Whole.MAX g.met.T.Whole.fits_law c.requires.positive r
-          c.args.column w c.requires.row_in c.requires.width c.requires.room new c.in_ok-factor.factor e
-          c.in_ok-most.most c.in_ok-factor.ensures c.requires.cell same c.in_ok-most.ensures;
+          c.args.column w c.requires.row_in c.requires.width c.requires.room new c.args.factor e
+          c.in_ok-most.most c.requires.factor c.requires.cell same c.in_ok-most.ensures;
     }

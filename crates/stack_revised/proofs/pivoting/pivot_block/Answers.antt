@@ -1,12 +1,14 @@
-use Rattle.std.proofs.Common.{◌≡◌, ap, subst, ◌∙◌, ℕ, suc, ◌+◌, ◌*◌, length}
-use Rattle.std.proofs.Common.{arith}
+use Rattle.std.proofs.Common.{◌≡◌, refl, sym, ap, subst, ◌∙◌, ℕ, suc, ◌+◌, ◌*◌, length}
+use Rattle.std.proofs.Common.{arith, pos}
 use Rattle.std.proofs.lemmas.Result.{err_from_is_err_and}
 use Rattle.stack_rational.specs.TooWide.{fraction_fits}
 use Rattle.stack_table.proofs.BlockRows.{row_in}
-use Rattle.stack_revised.specs.RowForm.{IsPlaced}
+use Rattle.stack_revised.specs.RowForm.{IsPlaced, AreTopped}
 use Rattle.stack_revised.specs.Columns.{revised_cell, row_cell}
+use Rattle.stack_revised.proofs.Numbers.{at-index}
 use Rattle.stack_revised.proofs.Marks.{marked_anew}
-use Rattle.stack_revised.proofs.PivotLoop.{so_far_reduces, so_far_skips, pivoted_cells, tells_refused}
+use Rattle.stack_revised.proofs.Tops.{placed_topped}
+use Rattle.stack_revised.proofs.PivotLoop.{so_far_begins, so_far_reduces, so_far_skips, pivoted_cells, tells_refused}
 use Rattle.stack_revised.proofs.Division.{placed_own, placed_other, cell_outside_zero}
 use Rattle.stack_revised.proofs.Division.{cell_outside_fits}
 use Rattle.stack_revised.proofs.pivoting.pivot_block.Goals as goal
@@ -15,6 +17,37 @@ pub divide_row-requires-clause-room : goal.divide_row-requires-clause-room
 divide_row-requires-clause-room g c = row_in c.args.row (suc c.args.first.now.rows) (length c.args.pivot.now)
     (length c.args.numbers.now) (omega (arith, c.requires.row_in)) c.requires.whole
 
+pub divide_row-requires-clause-factor : goal.divide_row-requires-clause-factor
+divide_row-requires-clause-factor g c = sym (at-index g.T.Whole.value (pos 0) c.args.entered.now c.args.row
+    c.index-entered-row.result (omega (arith, c.requires.row_in, c.requires.long)) c.index-entered-row.is)
+    ∙ c.requires.entered c.args.row (omega (arith, c.requires.row_in))
+
+pub reduce_at-requires-clause-factor : goal.reduce_at-requires-clause-factor
+reduce_at-requires-clause-factor g c =
+    sym (at-index g.T.Whole.value (pos 0) c.args.entered.now c.loop-i.i c.index-entered-i.result
+    (omega (arith, c.loop-i-test.true, c.requires.unders, c.requires.long)) c.index-entered-i.is)
+    ∙ c.requires.entered c.loop-i.i (omega (arith, c.loop-i-test.true, c.requires.unders))
+    ∙ sym (c.loop-i.invariant.kept c.loop-i.i (omega arith))
+
+pub reduce_at-requires-clause-topped : goal.reduce_at-requires-clause-topped
+reduce_at-requires-clause-topped g c = subst (λ (w : ℕ). AreTopped g.T.Whole.value w c.loop-i.numbers c.loop-i.tops)
+    (sym c.divide_row.auto.pivot) c.loop-i.invariant.topped
+
+pub loop-i-init : goal.loop-i-init
+loop-i-init g c =
+    let v = g.T.Whole.value in
+    let f = c.args.first.now in
+    record {
+      positive = c.requires.positive;
+      marked = c.requires.marked;
+      topped = c.requires.topped;
+      so_far = so_far_begins g.T.Whole.MAX (suc (length f.columns.items + f.rows))
+          (revised_cell v f.rows f.columns.items c.args.own.now c.args.numbers.now c.args.unders.now)
+          (row_cell v f.rows f.columns.items c.divide_row.new.pivot (v c.in-Some.divided.under))
+          c.args.row c.args.column;
+      kept = λ k l. refl;
+    }
+
 pub loop-i-preserved-then-i-row : goal.loop-i-preserved-then-i-row
 loop-i-preserved-then-i-row g c =
     let v = g.T.Whole.value in
@@ -22,12 +55,14 @@ loop-i-preserved-then-i-row g c =
     record {
       positive = c.loop-i.invariant.positive;
       marked = c.loop-i.invariant.marked;
+      topped = c.loop-i.invariant.topped;
       so_far = so_far_skips g.T.Whole.MAX (suc (length f.columns.items + f.rows))
           (revised_cell v f.rows f.columns.items c.args.own.now c.args.numbers.now c.args.unders.now)
           (row_cell v f.rows f.columns.items c.divide_row.new.pivot (v c.in-Some.divided.under))
           c.args.row c.args.column
           (revised_cell v f.rows f.columns.items c.args.own.now c.loop-i.numbers c.loop-i.unders) c.loop-i.i
           c.if-i-row.true c.loop-i.invariant.so_far;
+      kept = λ k l. c.loop-i.invariant.kept k (omega (arith, l));
     }
 
 pub loop-i-preserved : goal.loop-i-preserved
@@ -38,6 +73,8 @@ loop-i-preserved g c =
     record {
       positive = c.in_ok-reduce_at.ensures.positive;
       marked = step.1;
+      topped = subst (λ (w : ℕ). AreTopped v w c.reduce_at.new.numbers c.reduce_at.new.tops) c.divide_row.auto.pivot
+          c.in_ok-reduce_at.ensures.topped;
       so_far = so_far_reduces g.T.Whole.MAX (suc (length f.columns.items + f.rows))
           (revised_cell v f.rows f.columns.items c.args.own.now c.args.numbers.now c.args.unders.now)
           (row_cell v f.rows f.columns.items c.divide_row.new.pivot (v c.in-Some.divided.under))
@@ -45,6 +82,8 @@ loop-i-preserved g c =
           (revised_cell v f.rows f.columns.items c.args.own.now c.loop-i.numbers c.loop-i.unders)
           (revised_cell v f.rows f.columns.items c.args.own.now c.reduce_at.new.numbers c.reduce_at.new.unders)
           c.loop-i.i c.if-i-row.false c.loop-i.invariant.so_far step.0;
+      kept = λ k l. c.in_ok-reduce_at.ensures.kept k c.args.column (λ p. omega (arith, l, p))
+          ∙ c.loop-i.invariant.kept k (omega (arith, l));
     }
 
 pub returns-in_err-reduce_at-clause-wide : goal.returns-in_err-reduce_at-clause-wide
@@ -100,6 +139,21 @@ returns-clause-ok g c =
     c.requires.width placed c.requires.row_in)
     (placed_other v M C own c.loop-i.numbers c.loop-i.unders c.put_row.new.numbers c.put_row.new.unders new e r w
     c.requires.width placed)
+
+pub returns-clause-topped : goal.returns-clause-topped
+returns-clause-topped g c =
+    let v = g.T.Whole.value in
+    let new = c.divide_row.new.pivot in
+    let e = v c.in-Some.divided.under in
+    let w = length c.args.pivot.now in
+    let r = c.args.row in
+    let long : length new ≡ w = c.divide_row.auto.pivot in
+    let placed : IsPlaced v w c.loop-i.numbers c.loop-i.unders new e r c.put_row.new.numbers c.put_row.new.unders =
+    subst (λ (n : ℕ). IsPlaced v n c.loop-i.numbers c.loop-i.unders new e r c.put_row.new.numbers
+    c.put_row.new.unders) long c.put_row.ensures in
+    placed_topped v w c.loop-i.numbers c.loop-i.unders new e r c.put_row.new.numbers c.put_row.new.unders
+    c.loop-i.tops c.in-Some.divided.top (omega (arith, c.loop-i.auto.tops, c.requires.tops, c.requires.row_in))
+    long c.loop-i.invariant.topped placed (λ n. c.in-Some.ensures.topped)
 
 pub returns-clause-marked : goal.returns-clause-marked
 returns-clause-marked g c =

@@ -1,4 +1,4 @@
-use Rattle.std.proofs.Common.{sym, ap, ◌∙◌, subst, suc, ◌+◌, ◌*◌, ◌≤◌, length, pos}
+use Rattle.std.proofs.Common.{sym, ap, ◌∙◌, subst, suc, ◌+◌, length, pos}
 use Rattle.stack_algebra.specs.Fraction.{Fraction}
 use Rattle.stack_algebra.proofs.Over.{over}
 use Rattle.stack_algebra.proofs.OrderedFractions.{ordered_fractions}
@@ -13,10 +13,6 @@ use Rattle.stack_revised.proofs.Steps.{row_stays}
 use Rattle.stack_revised.proofs.Marks.{marked_anew}
 use Rattle.stack_revised.proofs.pivoting.reduce_at.Goals as goal
 
-pub number_of-requires-clause-room : goal.number_of-requires-clause-room
-number_of-requires-clause-room g c = subst (λ w. c.args.i * w + w
-    ≤ length c.args.numbers.now) c.requires.width c.requires.room
-
 pub reduce_row_at-requires-clause-under : goal.reduce_row_at-requires-clause-under
 reduce_row_at-requires-clause-under g c = sym (at-index g.T.Whole.value (pos 1) c.args.unders.now c.args.i
     c.index-unders-i.result c.requires.row_in c.index-unders-i.is)
@@ -30,10 +26,10 @@ returns-then-stays-clause-ok g c = λ ho hm.
       row_stays v f.rows f.columns.items (v f.most) f.first c.args.own.now (v c.args.greatest) ho
           c.args.numbers.now c.args.unders.now i w c.requires.width c.requires.room
           g.T.Whole.MAX g.met.T.Whole.max_law c.requires.positive
-          (row_cell v f.rows f.columns.items c.args.pivot.now (v c.args.under)) c.args.column
+          (row_cell v f.rows f.columns.items c.args.pivot.now (v c.args.divided.under)) c.args.column
           (suc (length f.columns.items + f.rows))
           (hm i (c.stays.ensures.marked c.if-stays.true))
-          (ap is_zero_whole (sym c.in-Some.ensures) ∙ c.stays.ensures.zero c.if-stays.true),
+          (ap is_zero_whole (sym c.requires.factor) ∙ c.stays.ensures.zero c.if-stays.true),
       hm,
     )
 
@@ -43,9 +39,9 @@ returns-in-Ok-clause-ok g c = λ ho hm.
     let f = c.args.first.now in
     let reduced : IsRowReduced g.T.Whole.MAX (suc (length f.columns.items + f.rows))
     (revised_cell v f.rows f.columns.items c.args.own.now c.args.numbers.now c.args.unders.now)
-    (row_cell v f.rows f.columns.items c.args.pivot.now (v c.args.under)) c.args.i c.args.column
+    (row_cell v f.rows f.columns.items c.args.pivot.now (v c.args.divided.under)) c.args.i c.args.column
     (revised_cell v f.rows f.columns.items c.args.own.now c.reduce_row_at.new.numbers c.reduce_row_at.new.unders) =
-    c.in-Ok.ensures.ok ho c.args.column c.in-Some.ensures in (
+    c.in-Ok.ensures.ok ho c.args.column c.requires.factor in (
       reduced,
       marked_anew g.T.Whole.MAX
           (revised_cell v f.rows f.columns.items c.args.own.now c.args.numbers.now c.args.unders.now)
@@ -61,6 +57,6 @@ returns-in-Err-clause-wide g c =
     subst (λ (k : Fraction). TellsSpot c.in-Err.e (reduce_spot ordered_fractions (is_too_wide g.T.Whole.MAX)
     (suc (length f.columns.items + f.rows))
     (revised_cell v f.rows f.columns.items c.args.own.now c.args.numbers.now c.args.unders.now c.args.i)
-    (row_cell v f.rows f.columns.items c.args.pivot.now (v c.args.under)) k c.args.i))
-    (λ z. over (c.in-Some.ensures z) (sym (at-index v (pos 1) c.args.unders.now c.args.i
+    (row_cell v f.rows f.columns.items c.args.pivot.now (v c.args.divided.under)) k c.args.i))
+    (λ z. over (c.requires.factor z) (sym (at-index v (pos 1) c.args.unders.now c.args.i
     c.index-unders-i.result c.requires.row_in c.index-unders-i.is) z)) c.in-Err.ensures.wide

@@ -1,5 +1,5 @@
 use Rattle.std.proofs.Common.{◌≡◌, refl, sym, ap, subst, ◌∙◌, ℕ, suc, length, get_or, pos, List, ◌≢◌, cond}
-use Rattle.std.proofs.Common.{arith, false, unsigned_abs}
+use Rattle.std.proofs.Common.{arith, false, unsigned_abs, set}
 use Rattle.std.proofs.lemmas.List.{with_items_is, length-set}
 use Rattle.std.proofs.lemmas.Bool.{ne_eqb}
 use Rattle.std.specs.Vec.{with_items}
@@ -9,6 +9,7 @@ use Rattle.stack_revised.specs.RowForm.{number_at, ArePositive, IsPlaced}
 use Rattle.stack_revised.specs.Columns.{revised_cell, IsOwn}
 use Rattle.stack_revised.proofs.ObjectivePut.{own_cell, objective_put, zero_row_is}
 use Rattle.stack_revised.proofs.Marks.{marked_less}
+use Rattle.stack_revised.proofs.Tops.{placed_unknown, topped_same}
 use Rattle.stack_revised.proofs.revised_table.RevisedTable.clear_objective.Goals as goal
 
 pub returns-clause-ok : goal.returns-clause-ok
@@ -54,6 +55,9 @@ returns-clause-ok g c =
 
 pub invariant_of-self-clause-one_jump : goal.invariant_of-self-clause-one_jump
 invariant_of-self-clause-one_jump g c = c.args.self.now.one_jump
+
+pub invariant_of-self-clause-one_number : goal.invariant_of-self-clause-one_number
+invariant_of-self-clause-one_number g c = c.args.self.now.one_number
 
 pub invariant_of-self-clause-one_mark : goal.invariant_of-self-clause-one_mark
 invariant_of-self-clause-one_mark g c =
@@ -135,3 +139,36 @@ invariant_of-self-clause-positive g c =
     subst (λ (xs : List g.row.T.Denot). ArePositive g.T.Whole.value xs)
     (sym (with_items_is s.unders c.put_row.new.unders
     (c.put_row.auto.unders ∙ ap length c.as_mut_slice-4.ensures.value ∙ sym s.unders.ok.0))) c.put_row.ensures.positive
+
+pub invariant_of-self-clause-one_top : goal.invariant_of-self-clause-one_top
+invariant_of-self-clause-one_top g c =
+    length-set c.args.self.now.tops.items c.args.self.now.first.rows c.zero.result ∙ c.args.self.now.one_top
+
+pub invariant_of-self-clause-topped : goal.invariant_of-self-clause-topped
+invariant_of-self-clause-topped g c =
+    let s = c.args.self.now in
+    let v = g.T.Whole.value in
+    let M = s.first.rows in
+    let V = g.row.T.Denot in
+    let d = v c.in_ok-one.one in
+    let row = c.as_slice.result.now in
+    let plong = c.clear_row.auto.row ∙ ap length c.as_mut_slice.ensures.value in
+    let piv : row ≡ c.clear_row.new.row =
+    c.as_slice.ensures.value ∙ with_items_is s.pivot c.clear_row.new.row (plong ∙ sym s.pivot.ok.0) in
+    let w : length row ≡ suc M = ap length piv ∙ plong ∙ s.wide in
+    let numbers : (with_items s.numbers c.put_row.new.numbers).items ≡ c.put_row.new.numbers =
+    with_items_is s.numbers c.put_row.new.numbers (c.put_row.auto.numbers
+    ∙ ap length c.as_mut_slice-3.ensures.value ∙ sym s.numbers.ok.0) in
+    let placed : IsPlaced v (length row) s.numbers.items s.unders.items row d M c.put_row.new.numbers
+    c.put_row.new.unders =
+    subst (λ (ns : List V). IsPlaced v (length row) ns s.unders.items row d M c.put_row.new.numbers
+    c.put_row.new.unders) c.as_mut_slice-3.ensures.value
+    (subst (λ (ds : List V). IsPlaced v (length row) c.as_mut_slice-3.result.now ds row d M c.put_row.new.numbers
+    c.put_row.new.unders) c.as_mut_slice-4.ensures.value c.put_row.ensures) in
+    let ts = set s.tops.items M c.zero.result in
+    topped_same v (length row) (suc M) c.put_row.new.numbers (with_items s.numbers c.put_row.new.numbers).items ts ts
+    w (sym numbers) refl
+    (placed_unknown v (length row) s.numbers.items s.unders.items row d M c.put_row.new.numbers c.put_row.new.unders
+    s.tops.items c.zero.result (omega (arith, s.one_top))
+    (topped_same v (suc M) (length row) s.numbers.items s.numbers.items s.tops.items s.tops.items (sym w) refl refl
+    s.topped) placed c.zero.ensures)

@@ -15,13 +15,14 @@ use Rattle.stack_revised.specs.Columns.{cells_at, rises, revised_cell}
 use Rattle.stack_revised.specs.FirstTable.{load_at, IsFirstRow, less_loads, less_cells}
 use Rattle.stack_revised.proofs.FirstTables.{first_cell, first_basics, all_positive, own_within, factor_is}
 use Rattle.stack_revised.proofs.Marks.{none_marked, all_off}
+use Rattle.stack_revised.proofs.Tops.{none_topped, all_unknown}
 use Rattle.stack_revised.proofs.revised_table.RevisedTable.of_problem.Goals as goal
 
 pub fill-requires-clause-positive : goal.fill-requires-clause-positive
 fill-requires-clause-positive g c = subst (λ (xs : List g.row.T.Denot). ArePositive g.T.Whole.value xs)
     (sym c.as_mut_slice-2.ensures.value) (all_positive g.T.Whole.value c.in_ok-unders.unders.items
-    (c.args.p.now.rows + 1) (g.T.Whole.value c.in-Some.one) c.in_ok-unders.ensures.long c.in_ok-unders.ensures.each
-    c.in-Some.ensures)
+    (c.args.p.now.rows + 1) (g.T.Whole.value c.in_ok-one.one) c.in_ok-unders.ensures.long c.in_ok-unders.ensures.each
+    c.in_ok-one.ensures)
 
 pub invariant_of-result-clause-whole : goal.invariant_of-result-clause-whole
 invariant_of-result-clause-whole g c =
@@ -92,13 +93,13 @@ returns-clause-ok g c =
     let first : (i : ℕ) → i < P.rows → IsFirstRow v P.rows ns ds i (load_at P.right.items i) =
     λ i l. subst (λ (r : List ℤ). IsFirstRow v P.rows ns ds i (load_at r i)) right
     (subst (λ n. IsFirstRow v n ns ds i (load_at R i)) long
-    (c.in-Some-fill.ensures.rows i (subst (λ n. i < n) (sym long) l))) in
+    (c.in-Some.ensures.rows i (subst (λ n. i < n) (sym long) l))) in
     let last : (j : ℕ) → cell_at v (pos 0) (suc P.rows) ns P.rows j
     ≡ cond (eqb j P.rows) (less_loads P.right.items P.rows) (pos 0) =
     λ j. subst (λ (r : List ℤ). cell_at v (pos 0) (suc P.rows) ns P.rows j
     ≡ cond (eqb j P.rows) (less_loads r P.rows) (pos 0)) right
     (subst (λ n. cell_at v (pos 0) (suc n) ns n j ≡ cond (eqb j n) (less_loads R n) (pos 0)) long
-    (c.in-Some-fill.ensures.last j)) in
+    (c.in-Some.ensures.last j)) in
     let cells : (i j : ℕ) → revised_cell v f.rows C c.in_ok-own.own.items (with_items c.in_ok-numbers.numbers ns).items
     (with_items c.in_ok-unders.unders ds).items i j ≡ changed (first_row ordered_fractions (problem_of P)) P.rows
     (first_objective ordered_fractions (problem_of P)) i j =
@@ -106,7 +107,7 @@ returns-clause-ok g c =
     ∙ first_cell v P c.requires C c.in_ok-own.own.items ns ds c.in_ok-first.ensures.long c.in_ok-first.ensures.turned
     rising own (same_numbers ∙ c.in_ok-numbers.ensures.long ∙ ap (λ n. n * n) (add-one P.rows))
     (same_unders ∙ c.in_ok-unders.ensures.long ∙ add-one P.rows) first last
-    (subst (λ n. under_at v ds n ≡ pos 1) long c.in-Some-fill.ensures.under) i j in
+    (subst (λ n. under_at v ds n ≡ pos 1) long c.in-Some.ensures.under) i j in
     let basics = first_basics P c.in_ok-basic.basic.items c.in_ok-basic.ensures.long
     (λ i l. c.in_ok-basic.ensures.each i l
     ∙ ap (λ n. n + i) (c.len-2.ensures ∙ f.columns.ok.0 ∙ c.in_ok-first.ensures.long)) in
@@ -114,6 +115,10 @@ returns-clause-ok g c =
 
 pub invariant_of-result-clause-one_jump : goal.invariant_of-result-clause-one_jump
 invariant_of-result-clause-one_jump g c = c.in_ok-jumps.ensures.long ∙ add-one c.args.p.now.rows
+    ∙ ap suc (sym c.in_ok-first.ensures.rows)
+
+pub invariant_of-result-clause-one_number : goal.invariant_of-result-clause-one_number
+invariant_of-result-clause-one_number g c = c.in_ok-entered.ensures.long ∙ add-one c.args.p.now.rows
     ∙ ap suc (sym c.in_ok-first.ensures.rows)
 
 pub invariant_of-result-clause-one_mark : goal.invariant_of-result-clause-one_mark
@@ -128,3 +133,15 @@ invariant_of-result-clause-marked g c =
     (with_items c.in_ok-unders.unders c.fill.new.unders).items)
     c.in_ok-marks.marks.items (all_off c.in_ok-marks.marks.items (c.args.p.now.rows + 1)
     (omega (arith, c.in_ok-marks.ensures.long)) c.in_ok-marks.ensures.off)
+
+pub invariant_of-result-clause-one_top : goal.invariant_of-result-clause-one_top
+invariant_of-result-clause-one_top g c = c.in_ok-tops.ensures.long ∙ add-one c.args.p.now.rows
+    ∙ ap suc (sym c.in_ok-first.ensures.rows)
+
+pub invariant_of-result-clause-topped : goal.invariant_of-result-clause-topped
+invariant_of-result-clause-topped g c =
+    let v = g.T.Whole.value in
+    let ts = c.in_ok-tops.tops.items in
+    none_topped v (suc c.in_ok-first.first.rows) (with_items c.in_ok-numbers.numbers c.fill.new.numbers).items ts
+    (all_unknown v ts (c.args.p.now.rows + 1) (omega (arith, c.in_ok-tops.ensures.long))
+    (λ i l. c.in_ok-tops.ensures.each (pos 0) i l ∙ c.zero-4.ensures))

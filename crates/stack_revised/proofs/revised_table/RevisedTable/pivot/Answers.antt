@@ -14,8 +14,10 @@ use Rattle.stack_revised.specs.RowForm.{under_at, ArePositive, IsPivotedCells}
 use Rattle.stack_revised.specs.Columns.{revised_number, revised_cell}
 use Rattle.stack_revised.specs.Seen.{number_in, shape_of_revised, table_of_revised}
 use lib.IntN.{ℤ}
+use Rattle.stack_revised.proofs.Kept.{entered_same}
 use Rattle.stack_revised.proofs.Steps.{zero_cell}
 use Rattle.stack_revised.proofs.Marks.{marked_same, on_ok, err_same}
+use Rattle.stack_revised.proofs.Tops.{topped_same}
 use Rattle.stack_revised.proofs.Basics.{basic_changed, basic_below}
 use Rattle.stack_revised.proofs.revised_table.RevisedTable.pivot.Goals as goal
 
@@ -28,6 +30,17 @@ pivot_or_unmark-requires-clause-cell g c =
     (sym (λ z. revised_number v s.first.rows s.first.columns.items (c.as_slice.ensures.value z)
     (c.as_mut_slice.ensures.value z)
     (c.as_mut_slice-2.ensures.value z) c.args.row c.args.column) ∙ e))
+
+pub pivot_or_unmark-requires-clause-entered : goal.pivot_or_unmark-requires-clause-entered
+pivot_or_unmark-requires-clause-entered g c =
+    let s = c.args.self.now in
+    entered_same g.T.Whole.value s.first.rows s.first.columns.items s.own.items c.as_slice.result.now s.numbers.items
+    c.as_mut_slice.result.now s.unders.items c.as_mut_slice-2.result.now s.entered.items c.as_slice-2.result.now
+    c.args.column (sym c.as_slice.ensures.value) (sym c.as_mut_slice.ensures.value)
+    (sym c.as_mut_slice-2.ensures.value) c.as_slice-2.ensures.value c.requires.entered
+
+pub invariant_of-self-clause-one_number : goal.invariant_of-self-clause-one_number
+invariant_of-self-clause-one_number g c = c.args.self.now.one_number
 
 pub invariant_of-self-clause-wide : goal.invariant_of-self-clause-wide
 invariant_of-self-clause-wide g c =
@@ -183,3 +196,31 @@ returns-clause-wide g c =
     (suc (s.plain z + s.first.rows)) (revised_cell v s.first.rows C (c.as_slice.ensures.value z)
     (c.as_mut_slice.ensures.value z) (c.as_mut_slice-2.ensures.value z)) c.args.row c.args.column)
     c.pivot_or_unmark.ensures.wide
+
+pub pivot_or_unmark-requires-clause-topped : goal.pivot_or_unmark-requires-clause-topped
+pivot_or_unmark-requires-clause-topped g c =
+    let s = c.args.self.now in
+    topped_same g.T.Whole.value (suc s.first.rows) (length c.as_mut_slice-3.result.now) s.numbers.items
+    c.as_mut_slice.result.now s.tops.items c.as_mut_slice-6.result.now
+    (sym (ap length c.as_mut_slice-3.ensures.value ∙ s.wide)) (sym c.as_mut_slice.ensures.value)
+    (sym c.as_mut_slice-6.ensures.value) s.topped
+
+pub invariant_of-self-clause-one_top : goal.invariant_of-self-clause-one_top
+invariant_of-self-clause-one_top g c =
+    let s = c.args.self.now in
+    let same = c.pivot_or_unmark.auto.tops ∙ ap length c.as_mut_slice-6.ensures.value in
+    ap length (with_items_is s.tops c.pivot_or_unmark.new.tops (same ∙ sym s.tops.ok.0)) ∙ same ∙ s.one_top
+
+pub invariant_of-self-clause-topped : goal.invariant_of-self-clause-topped
+invariant_of-self-clause-topped g c =
+    let s = c.args.self.now in
+    let numbers : (with_items s.numbers c.pivot_or_unmark.new.numbers).items ≡ c.pivot_or_unmark.new.numbers =
+    with_items_is s.numbers c.pivot_or_unmark.new.numbers
+    (c.pivot_or_unmark.auto.numbers ∙ ap length c.as_mut_slice.ensures.value ∙ sym s.numbers.ok.0) in
+    let tops : (with_items s.tops c.pivot_or_unmark.new.tops).items ≡ c.pivot_or_unmark.new.tops =
+    with_items_is s.tops c.pivot_or_unmark.new.tops
+    (c.pivot_or_unmark.auto.tops ∙ ap length c.as_mut_slice-6.ensures.value ∙ sym s.tops.ok.0) in
+    topped_same g.T.Whole.value (length c.as_mut_slice-3.result.now) (suc s.first.rows)
+    c.pivot_or_unmark.new.numbers (with_items s.numbers c.pivot_or_unmark.new.numbers).items
+    c.pivot_or_unmark.new.tops (with_items s.tops c.pivot_or_unmark.new.tops).items
+    (ap length c.as_mut_slice-3.ensures.value ∙ s.wide) (sym numbers) (sym tops) c.pivot_or_unmark.ensures.topped

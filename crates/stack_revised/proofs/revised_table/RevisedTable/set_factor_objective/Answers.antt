@@ -1,5 +1,5 @@
 use Rattle.std.proofs.Common.{◌≡◌, refl, sym, ap, subst, ◌∙◌, ℕ, suc, ◌+◌, ◌*◌, ◌<◌, ◌≤◌, length, get_or, pos}
-use Rattle.std.proofs.Common.{List, Option, eqb, cond, arith, ◌≢◌, false}
+use Rattle.std.proofs.Common.{List, Option, eqb, cond, arith, ◌≢◌, false, set}
 use Rattle.std.proofs.lemmas.List.{with_items_is, length-set}
 use Rattle.std.proofs.lemmas.Bool.{ne_eqb}
 use Rattle.std.specs.Vec.{with_items}
@@ -11,6 +11,7 @@ use Rattle.stack_table.proofs.BlockRows.{row_in}
 use Rattle.stack_revised.specs.RowForm.{number_at, ArePositive, IsPlaced}
 use Rattle.stack_revised.specs.Columns.{revised_cell, IsFactorRow, IsOwn}
 use Rattle.stack_revised.proofs.Marks.{marked_less}
+use Rattle.stack_revised.proofs.Tops.{placed_unknown, topped_same}
 use Rattle.stack_revised.proofs.ObjectivePut.{own_cell, objective_put, factor_is, found_below, only_within}
 use Rattle.stack_revised.proofs.revised_table.RevisedTable.set_factor_objective.Goals as goal
 
@@ -158,6 +159,9 @@ returns-clause-ok g c =
 pub invariant_of-self-2-clause-one_jump : goal.invariant_of-self-2-clause-one_jump
 invariant_of-self-2-clause-one_jump g c = c.args.self.now.one_jump
 
+pub invariant_of-self-2-clause-one_number : goal.invariant_of-self-2-clause-one_number
+invariant_of-self-2-clause-one_number g c = c.args.self.now.one_number
+
 pub invariant_of-self-2-clause-one_mark : goal.invariant_of-self-2-clause-one_mark
 invariant_of-self-2-clause-one_mark g c =
     length-set c.args.self.now.marks.items c.args.self.now.first.rows false ∙ c.args.self.now.one_mark
@@ -202,3 +206,36 @@ invariant_of-self-2-clause-marked g c =
     marked_less g.T.Whole.MAX old (revised_cell v M C (with_items s.own c.set_only.new.row).items
     (with_items s.numbers c.put_row.new.numbers).items (with_items s.unders c.put_row.new.unders).items)
     s.marks.items M (omega (arith, s.one_mark)) s.marked other
+
+pub invariant_of-self-2-clause-one_top : goal.invariant_of-self-2-clause-one_top
+invariant_of-self-2-clause-one_top g c =
+    length-set c.args.self.now.tops.items c.args.self.now.first.rows c.zero.result ∙ c.args.self.now.one_top
+
+pub invariant_of-self-2-clause-topped : goal.invariant_of-self-2-clause-topped
+invariant_of-self-2-clause-topped g c =
+    let s = c.args.self.now in
+    let v = g.T.Whole.value in
+    let M = s.first.rows in
+    let V = g.row.T.Denot in
+    let d = v c.in_ok-under.under in
+    let row = c.as_slice-5.result.now in
+    let plong = c.factor_row.auto.pivot ∙ ap length c.as_mut_slice.ensures.value in
+    let piv : row ≡ c.factor_row.new.pivot =
+    c.as_slice-5.ensures.value ∙ with_items_is s.pivot c.factor_row.new.pivot (plong ∙ sym s.pivot.ok.0) in
+    let w : length row ≡ suc M = ap length piv ∙ plong ∙ s.wide in
+    let numbers : (with_items s.numbers c.put_row.new.numbers).items ≡ c.put_row.new.numbers =
+    with_items_is s.numbers c.put_row.new.numbers (c.put_row.auto.numbers
+    ∙ ap length c.as_mut_slice-3.ensures.value ∙ sym s.numbers.ok.0) in
+    let placed : IsPlaced v (length row) s.numbers.items s.unders.items row d M c.put_row.new.numbers
+    c.put_row.new.unders =
+    subst (λ (ns : List V). IsPlaced v (length row) ns s.unders.items row d M c.put_row.new.numbers
+    c.put_row.new.unders) c.as_mut_slice-3.ensures.value
+    (subst (λ (ds : List V). IsPlaced v (length row) c.as_mut_slice-3.result.now ds row d M c.put_row.new.numbers
+    c.put_row.new.unders) c.as_mut_slice-4.ensures.value c.put_row.ensures) in
+    let ts = set s.tops.items M c.zero.result in
+    topped_same v (length row) (suc M) c.put_row.new.numbers (with_items s.numbers c.put_row.new.numbers).items ts ts
+    w (sym numbers) refl
+    (placed_unknown v (length row) s.numbers.items s.unders.items row d M c.put_row.new.numbers c.put_row.new.unders
+    s.tops.items c.zero.result (omega (arith, s.one_top))
+    (topped_same v (suc M) (length row) s.numbers.items s.numbers.items s.tops.items s.tops.items (sym w) refl refl
+    s.topped) placed c.zero.ensures)

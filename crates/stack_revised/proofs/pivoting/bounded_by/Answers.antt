@@ -1,16 +1,30 @@
 use mathlib.Core.Path.{subst₂}
 use Rattle.std.proofs.Common.{sym, subst, ℕ, ◌+◌, ◌-◌, ◌*◌, take, drop, pos, unsigned_abs, add-one}
 use lib.IntN.{ℤ}
-use Rattle.stack_revised.specs.RowForm.{under_at, IsBound, IsFitting}
+use Rattle.stack_revised.specs.RowForm.{under_at, IsBound, IsFitting, IsTopped}
 use Rattle.stack_revised.proofs.Covered.{room_of}
 use Rattle.stack_revised.proofs.Numbers.{at-index}
-use Rattle.stack_revised.proofs.pivoting.bounded_under.Goals as goal
+use Rattle.stack_revised.proofs.pivoting.bounded_by.Goals as goal
+
+pub bound_at-requires-clause-topped : goal.bound_at-requires-clause-topped
+bound_at-requires-clause-topped g c =
+    let v = g.T.Whole.value in
+    let i = c.args.i in
+    subst (λ (w : ℕ). IsTopped v (take (i * w + w - i * w) (drop (i * w) c.args.numbers.now))
+    (unsigned_abs (v c.args.top))) (sym (add-one c.args.first.now.rows)) c.requires.topped
+
+pub returns-clause-topped : goal.returns-clause-topped
+returns-clause-topped g c = λ n. record {
+  top = unsigned_abs (g.T.Whole.value c.args.top);
+  each = c.requires.topped;
+  sum = c.top_after.ensures n;
+}
 
 pub bound_at-requires-clause-room : goal.bound_at-requires-clause-room
 bound_at-requires-clause-room g c = room_of c.args.i c.args.first.now.rows _ c.requires.room
 
-pub returns : goal.returns
-returns g c =
+pub returns-clause-bounded : goal.returns-clause-bounded
+returns-clause-bounded g c =
     let v = g.T.Whole.value in
     let f = c.args.first.now in
     let i = c.args.i in
@@ -21,7 +35,7 @@ returns g c =
           (under_at v c.args.unders.now i) (v f.most) z (v c.in_ok-own_bound.own_bound))
           (add-one f.rows) c.greatest_of-most.ensures c.in_ok-own_bound.ensures;
       fitting = subst (λ (z : ℤ). IsFitting g.T.Whole.MAX z (v c.args.factors.times) (v c.args.factors.less)
-          (unsigned_abs (v c.in_ok-own_bound.own_bound)) (unsigned_abs (v c.args.pivot_bound)) (v c.in_ok-over.over))
+          (unsigned_abs (v c.in_ok-own_bound.own_bound)) (unsigned_abs (v c.args.divided.most)) (v c.in_ok-over.over))
           (sym (at-index v (pos 1) c.args.unders.now i c.index-unders-i.result c.requires.row_in c.index-unders-i.is))
           c.in_ok-over.ensures;
       short = c.is_short.ensures;
