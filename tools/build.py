@@ -1,0 +1,181 @@
+#!/usr/bin/env python3
+"""Proves and builds the program and all crates below it, several crates side by side.
+
+`pungiroe` calls it where the program is missing or older than its sources. rt holds the folders of a crate and of all
+below it while it works, so each crate is proved in a copy of the sources, over the libraries that are made already, and
+its library then goes to its place in this clone. A crate begins once all that it stands on is made, that with the most
+work behind it first. A line for each goes to standard error; what rt says goes to crates/stack_cli/out/build.log. The
+status is 0 where the program is built.
+"""
+import os
+import shutil
+import subprocess
+import sys
+import tempfile
+from concurrent.futures import FIRST_COMPLETED, ThreadPoolExecutor, wait
+
+TOP = os.path.dirname(os.path.dirname(os.path.realpath(__file__)))
+PROGRAM = "stack_cli"
+LOG = f"{TOP}/crates/{PROGRAM}/out/build.log"
+# What the proof of a crate takes at most, in bytes of memory.
+MEMORY = 5_000_000_000
+# What rt keeps of a crate.
+PARTS = ("incremental", "rlib")
+
+
+def listed():
+    """What crates.txt says of each crate: the crates that it names, those of the toolchain too."""
+    with open(f"{TOP}/crates.txt") as file:
+        lines = (line.split("#")[0].partition(":") for line in file)
+        return {name.strip(): others.split() for name, colon, others in lines if colon}
+
+
+def crates_below(program):
+    """The program and all crates below it, lowest first, each with those of the repository that it names."""
+    named, found = listed(), {}
+
+    def add(name):
+        if name in named and name not in found:
+            for other in named[name]:
+                add(other)
+            found[name] = [other for other in named[name] if other in named]
+
+    add(program)
+    return found
+
+
+def below(crates, name):
+    """All crates that one stands on."""
+    found = set(crates[name])
+    for other in crates[name]:
+        found |= below(crates, other)
+    return found
+
+
+def size_of(name):
+    """The bytes of a crate's sources."""
+    sizes = 0
+    for at, folders, files in os.walk(f"{TOP}/crates/{name}"):
+        folders[:] = [folder for folder in folders if folder != "out"]
+        sizes += sum(os.path.getsize(f"{at}/{file}") for file in files if file.endswith((".rt", ".antt")))
+    return sizes
+
+
+def work_behind(crates):
+    """How much work begins with each crate and goes on with those that wait for it, in bytes of sources."""
+    behind = {}
+    for name in reversed([*crates]):
+        behind[name] = size_of(name) + max((behind[it] for it in crates if name in crates[it]), default=0)
+    return behind
+
+
+def processors():
+    return len(os.sched_getaffinity(0))
+
+
+def places():
+    """How many crates are proved side by side: one a processor, as far as there is memory."""
+    with open("/proc/meminfo") as file:
+        free = next(1024 * int(line.split()[1]) for line in file if line.startswith("MemAvailable:"))
+    return max(1, min(processors(), free // MEMORY))
+
+
+def lend(folder, copy):
+    """Gives a copy what stands in a folder, as links where that can be."""
+    if not os.path.isdir(folder):
+        return
+    try:
+        shutil.copytree(folder, copy, copy_function=os.link)
+    except OSError:
+        shutil.rmtree(copy, ignore_errors=True)
+        shutil.copytree(folder, copy)
+
+
+def prepare(crates, name, copy):
+    """Makes a copy of a crate and of all below it, with what is kept of them."""
+    named, all_of_them = listed(), (*below(crates, name), name)
+    os.makedirs(copy)
+    shutil.copy(f"{TOP}/HANDLES", copy)
+    with open(f"{copy}/crates.txt", "w") as file:
+        file.writelines(f"{it}: {' '.join(named[it])}\n" for it in all_of_them)
+    for it in all_of_them:
+        shutil.copytree(f"{TOP}/crates/{it}", f"{copy}/crates/{it}", ignore=shutil.ignore_patterns("out"))
+        for part in PARTS if it == name else PARTS[1:]:
+            lend(f"{TOP}/crates/{it}/out/{part}", f"{copy}/crates/{it}/out/{part}")
+
+
+def take(name, copy):
+    """Takes what was made of a crate from a copy."""
+    for part in PARTS:
+        made, here = f"{copy}/crates/{name}/out/{part}", f"{TOP}/crates/{name}/out/{part}"
+        if os.path.isdir(made):
+            shutil.rmtree(here, ignore_errors=True)
+            os.makedirs(os.path.dirname(here), exist_ok=True)
+            shutil.move(made, here)
+
+
+def prove(crates, name, copy, jobs):
+    """Proves a crate in a copy and makes its library. Gives whether it is proved, and what rt said."""
+    prepare(crates, name, copy)
+    ran = subprocess.run(
+        ["rt", "lib", "--jobs", str(jobs)],
+        cwd=f"{copy}/crates/{name}",
+        stdin=subprocess.DEVNULL,
+        stdout=subprocess.PIPE,
+        stderr=subprocess.STDOUT,
+        errors="replace",
+    )
+    take(name, copy)
+    shutil.rmtree(copy, ignore_errors=True)
+    return ran.returncode == 0, ran.stdout
+
+
+def prove_all(crates, log, room):
+    """Proves all crates but the program. Gives whether all are proved."""
+    behind, most = work_behind(crates), places()
+    left = sorted((it for it in crates if it != PROGRAM), key=lambda it: -behind[it])
+    done, running = set(), {}
+    with ThreadPoolExecutor(most) as pool:
+        while left or running:
+            ready = [it for it in left if done.issuperset(crates[it])][: most - len(running)]
+            for name in ready:
+                left.remove(name)
+                number = len(crates) - len(left) - 1
+                print(f"proving {number} of {len(crates)}: {name}", file=sys.stderr, flush=True)
+                jobs = max(2, processors() // (len(running) + len(ready)))
+                running[pool.submit(prove, crates, name, f"{room}/{name}", jobs)] = name
+            for ended in wait(running, return_when=FIRST_COMPLETED).done:
+                name = running.pop(ended)
+                well, said = ended.result()
+                log.write(f"== {name}\n{said}")
+                if not well:
+                    return False
+                done.add(name)
+    return True
+
+
+def make_program(crates, log):
+    """Proves and builds the program, and runs it once with no words, which it answers with the status 2."""
+    print(f"proving {len(crates)} of {len(crates)}: {PROGRAM}", file=sys.stderr, flush=True)
+    ran = subprocess.run(
+        ["rt", "run"],
+        cwd=f"{TOP}/crates/{PROGRAM}",
+        stdin=subprocess.DEVNULL,
+        stdout=subprocess.PIPE,
+        stderr=subprocess.STDOUT,
+        errors="replace",
+    )
+    log.write(f"== {PROGRAM}\n{ran.stdout}")
+    return ran.returncode == 2 and "words" in ran.stdout.splitlines()[-3:]
+
+
+def main():
+    crates = crates_below(PROGRAM)
+    os.makedirs(os.path.dirname(LOG), exist_ok=True)
+    # Beside the clone's own files, so that libraries can be lent as links.
+    beside = f"{TOP}/.git" if os.path.isdir(f"{TOP}/.git") else None
+    with open(LOG, "w") as log, tempfile.TemporaryDirectory(prefix="pungiroe-", dir=beside) as room:
+        return 0 if prove_all(crates, log, room) and make_program(crates, log) else 1
+
+
+sys.exit(main())
