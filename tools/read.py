@@ -17,7 +17,7 @@ bearing to the second: 0 and 1 are the ends of the joint. A joint that bears not
 ray of `unbounded` the same lines begin with `ray`.
 
 The second is of the motion, with an opening and a slide for each bearing, in the order of the bearings. WORD is
-`closed`, `hinge X Y` where the joint opens about that bearing, `slides` where it opens no more than its friction asks
+`closed`, `hinge X Y` where the joint turns about that bearing, `slides` where it opens no more than its friction asks
 of a slide, and `opens` else. Then comes a line for each free block: `block NAME turns about X Y at R`,
 counter-clockwise where R is above 0, `block NAME moves U V`, or `block NAME is still`. Of a motion signs and ratios
 count, and sizes don't.
@@ -147,10 +147,10 @@ def rates_of(bearing, moves, corners):
     return bearing.parts(pair[1][0] - pair[0][0], pair[1][1] - pair[0][1])
 
 
-def word_of(bearings, rates):
-    """What a joint does on a motion."""
+def word_of(bearings, rates, turns):
+    """What a joint does on a motion. `turns`: whether one of its bodies turns at another rate than the other."""
     still = [rate == (0, 0) for rate in rates]
-    if all(still):
+    if all(still) and not turns:
         return "closed"
     if any(still):
         return f"hinge {point(bearings[still.index(True)].at)}"
@@ -186,7 +186,9 @@ def main():
             rates = [rates_of(bearing, table.moves, corners) for bearing in bearings]
             length = bearings[0].length()
             openings, slides = (" ".join(number(rate[axis] / length) for rate in rates) for axis in (0, 1))
-            print(f"joint {first} {second} opening {openings} slide {slides} {word_of(bearings, rates)}")
+            first_turn, second_turn = (table.moves.get(name, (0, 0, 0))[2] for name in (first, second))
+            word = word_of(bearings, rates, first_turn != second_turn)
+            print(f"joint {first} {second} opening {openings} slide {slides} {word}")
         for name, move in table.moves.items():
             print(turning(name, move, corners[name]))
 
