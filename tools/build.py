@@ -4,8 +4,8 @@
 `pungiroe` calls it where the program is missing or older than its sources. rt holds the folders of a crate and of all
 below it while it works, so each crate is proved in a copy of the sources, over the libraries that are made already, and
 its library then goes to its place in this clone. A crate begins once all that it stands on is made, that with the most
-work behind it first. A line for each goes to standard error; what rt says goes to crates/stack_cli/out/build.log. The
-status is 0 where the program is built.
+work behind it first; of those under way each stands back the further, the less work it has behind it. A line for each
+goes to standard error; what rt says goes to crates/stack_cli/out/build.log. The status is 0 where the program is built.
 """
 import fcntl
 import glob
@@ -14,13 +14,21 @@ import shutil
 import subprocess
 import sys
 import tempfile
+import time
 from concurrent.futures import FIRST_COMPLETED, ThreadPoolExecutor, wait
 
 TOP = os.path.dirname(os.path.dirname(os.path.realpath(__file__)))
 PROGRAM = "stack_cli"
 LOG = f"{TOP}/crates/{PROGRAM}/out/build.log"
+STARTED = time.monotonic()
 # What the proof of a crate takes at most, in bytes of memory.
 MEMORY = 5_000_000_000
+# How many provers work on the crate with the most work behind it, and on another, at most.
+PROVERS, PROVERS_BESIDE = 4, 2
+# How far a crate without any work behind it stands back behind that with the most, in steps of `nice`.
+STANDS_BACK = 20
+# What any crate takes beside its functions, as bytes of sources.
+LEAST_WORK = 4_000
 # What rt keeps of a crate.
 PARTS = ("incremental", "rlib")
 
@@ -54,20 +62,17 @@ def below(crates, name):
     return found
 
 
-def size_of(name):
-    """The bytes of a crate's sources."""
-    sizes = 0
-    for at, folders, files in os.walk(f"{TOP}/crates/{name}"):
-        folders[:] = [folder for folder in folders if folder != "out"]
-        sizes += sum(os.path.getsize(f"{at}/{file}") for file in files if file.endswith((".rt", ".antt")))
-    return sizes
+def work_of(name):
+    """The work on a crate: it goes by the bytes of its functions, and hardly by those of its lemmas."""
+    files = [f for f in glob.glob(f"{TOP}/crates/{name}/src/**/*.rt", recursive=True) if "/src/tests" not in f]
+    return LEAST_WORK + sum(map(os.path.getsize, files))
 
 
 def work_behind(crates):
-    """How much work begins with each crate and goes on with those that wait for it, in bytes of sources."""
+    """How much work begins with each crate and goes on with those that wait for it."""
     behind = {}
     for name in reversed([*crates]):
-        behind[name] = size_of(name) + max((behind[it] for it in crates if name in crates[it]), default=0)
+        behind[name] = work_of(name) + max((behind[it] for it in crates if name in crates[it]), default=0)
     return behind
 
 
@@ -116,11 +121,12 @@ def take(name, copy):
             shutil.move(made, here)
 
 
-def prove(crates, name, copy, jobs):
+def prove(crates, name, copy, back):
     """Proves a crate in a copy and makes its library. Gives whether it is proved, and what rt said."""
     prepare(crates, name, copy)
+    jobs = min(processors(), PROVERS_BESIDE if back else PROVERS)
     ran = subprocess.run(
-        ["rt", "lib", "--jobs", str(jobs)],
+        ["nice", "-n", str(back), "rt", "lib", "--jobs", str(jobs)],
         cwd=f"{copy}/crates/{name}",
         stdin=subprocess.DEVNULL,
         stdout=subprocess.PIPE,
@@ -130,6 +136,12 @@ def prove(crates, name, copy, jobs):
     take(name, copy)
     shutil.rmtree(copy, ignore_errors=True)
     return ran.returncode == 0, ran.stdout
+
+
+def tell(crates, number, name):
+    """Tells which crate is under way, and how long the whole took so far."""
+    minutes = (time.monotonic() - STARTED) / 60
+    print(f"{minutes:4.0f} min, proving {number} of {len(crates)}: {name}", file=sys.stderr, flush=True)
 
 
 def prove_all(crates, log, room):
@@ -142,10 +154,10 @@ def prove_all(crates, log, room):
             ready = [it for it in left if done.issuperset(crates[it])][: most - len(running)]
             for name in ready:
                 left.remove(name)
-                number = len(crates) - len(left) - 1
-                print(f"proving {number} of {len(crates)}: {name}", file=sys.stderr, flush=True)
-                jobs = max(2, processors() // (len(running) + len(ready)))
-                running[pool.submit(prove, crates, name, f"{room}/{name}", jobs)] = name
+                tell(crates, len(crates) - len(left) - 1, name)
+                most_behind = max(behind[it] for it in (*running.values(), *left, name))
+                back = round(STANDS_BACK * (1 - behind[name] / most_behind))
+                running[pool.submit(prove, crates, name, f"{room}/{name}", back)] = name
             for ended in wait(running, return_when=FIRST_COMPLETED).done:
                 name = running.pop(ended)
                 well, said = ended.result()
@@ -158,9 +170,9 @@ def prove_all(crates, log, room):
 
 def make_program(crates, log):
     """Proves and builds the program, and runs it once with no words, which it answers with the status 2."""
-    print(f"proving {len(crates)} of {len(crates)}: {PROGRAM}", file=sys.stderr, flush=True)
+    tell(crates, len(crates), PROGRAM)
     ran = subprocess.run(
-        ["rt", "run"],
+        ["rt", "run", "--jobs", str(min(processors(), PROVERS))],
         cwd=f"{TOP}/crates/{PROGRAM}",
         stdin=subprocess.DEVNULL,
         stdout=subprocess.PIPE,
@@ -183,7 +195,7 @@ def main():
         for left in glob.glob(f"{beside}/pungiroe-*") if beside.startswith(TOP) else []:
             shutil.rmtree(left, ignore_errors=True)
         print(f"the program is proved and built first: {len(crates)} crates, {places()} at a time", file=sys.stderr)
-        print("on four processors that takes from half an hour to an hour", file=sys.stderr)
+        print("on four idle processors that takes some half an hour", file=sys.stderr)
         with tempfile.TemporaryDirectory(prefix="pungiroe-", dir=beside) as room:
             return 0 if prove_all(crates, log, room) and make_program(crates, log) else 1
 
