@@ -15,7 +15,7 @@ use Rattle.stack_last.specs.declared.kind.EndKind.TheVariants as kinds
 use Rattle.stack_last.specs.Ends.{end_at}
 use Rattle.stack_revised.specs.declared.ended.RevisedEnd.{RevisedEnd}
 use Rattle.stack_revised.specs.declared.ended.RevisedEnd.TheVariants.{AtNarrow, AtWide}
-use Rattle.stack_revised.specs.Seen.{table_of_revised}
+use Rattle.stack_inverse.specs.Seen.{table_of_revised}
 use Rattle.stack_revised.specs.Ended.{kind_of_end, shape_of_end, table_of_end, flips_of_end, value_of_end, reads_column}
 use Rattle.stack_extract.specs.Ends.{IsLastOf, ReadsRay}
 use Rattle.stack_judge.proofs.Judgements.{last_of_survey}

@@ -11,7 +11,7 @@ use Rattle.stack_table.specs.Problem.{Problem}
 use Rattle.stack_table.specs.WrittenTable.{written_table}
 use Rattle.stack_run.specs.WrittenRun.{End, over, written_run}
 use Rattle.stack_run.specs.ProblemRun.{run_at, IsNowhereTooWide, WiderRunIsSame}
-use Rattle.stack_revised.specs.declared.whole.Whole.{Ghosts}
+use Rattle.stack_rows.specs.declared.whole.Whole.{Ghosts}
 use Rattle.stack_last.specs.declared.kind.EndKind.{EndKind}
 use Rattle.stack_last.specs.declared.kind.EndKind.TheVariants.{Infeasible, Feasible, Optimal, Ray}
 use Rattle.stack_revised.specs.declared.stops.RevisedStop.{RevisedStop}

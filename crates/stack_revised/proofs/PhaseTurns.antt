@@ -10,7 +10,8 @@ use Rattle.stack_algebra.proofs.OrderedFractions.{ordered_fractions}
 use Rattle.stack_rational.specs.TooWide.{is_too_wide}
 use Rattle.stack_table.specs.Table.{Shape, Tabled, plain, right, pivoted_at, clear_objective, set_factor_objective}
 use Rattle.stack_table.specs.Spots.{pivot_spot}
-use Rattle.stack_bland.specs.Choice.{is_nought, is_negative_sign, ratio, entering, leaving, ratio_row}
+use Rattle.stack_bland.specs.Choice.{is_nought, is_negative_sign}
+use Rattle.stack_bland.specs.Choice.{ratio, entering, leaving, ratio_row}
 use Rattle.stack_run.specs.WrittenRun.{PhaseStop, settled, unlimited, wide_at, spent, turns, driven_column}
 use Rattle.stack_run.specs.WrittenRun.{drive_row, drives}
 use Rattle.stack_run.specs.WrittenRun.{infeasible, after_phase, raise, third_end, past_first, first_end}
@@ -21,12 +22,12 @@ use Rattle.stack_duality.proofs.Turn.{drives_on, drives_too_wide, drives_spent}
 use Rattle.stack_revised.specs.declared.pivots.Pivots.{Pivots}
 use Rattle.stack_simplex.specs.Stops.{spot_of}
 use Rattle.stack_table.specs.declared.types.PivotWide.{PivotWide}
-use Rattle.stack_revised.specs.declared.stops.Refusal.{Refusal}
-use Rattle.stack_revised.specs.declared.stops.Refusal.TheVariants as refusals
+use Rattle.stack_inverse.specs.declared.stops.Refusal.{Refusal}
+use Rattle.stack_inverse.specs.declared.stops.Refusal.TheVariants as refusals
 use Rattle.stack_revised.specs.declared.stops.Stop.{Stop}
 use Rattle.stack_revised.specs.declared.stops.Stop.TheVariants.{TooWide, Spent, Unsettled}
 use Rattle.stack_revised.specs.Tells.{IsPivoted, TellsPivot, TellsStop, TellsEnd, phase_from, stop_at}
-use Rattle.stack_revised.specs.CellSteps.{TellsSpot}
+use Rattle.stack_inverse.specs.CellSteps.{TellsSpot}
 
 module _ (S : Shape) (T : Tabled Fraction) where
   -- the leaving row is a row, and its cell isn't 0

@@ -3,7 +3,7 @@ use Rattle.std.specs.Prelude.{◌≡◌, ℕ, Bool, false, eqb, get_or, ⊤, Res
 use Rattle.stack_algebra.specs.Fraction.{Fraction}
 use Rattle.stack_table.specs.Table.{Shape, Tabled}
 use Rattle.stack_run.specs.WrittenRun.{End, wide, over}
-use Rattle.stack_revised.specs.declared.whole.Whole.{Ghosts}
+use Rattle.stack_rows.specs.declared.whole.Whole.{Ghosts}
 use Rattle.stack_last.specs.declared.kind.EndKind.{EndKind}
 use Rattle.stack_last.specs.declared.kind.EndKind.TheVariants.{Infeasible, Feasible, Optimal, Ray}
 use Rattle.stack_revised.specs.declared.stops.RevisedStop.{RevisedStop}
@@ -14,7 +14,7 @@ use Rattle.stack_simplex.specs.Stops.{spot_of}
 use Rattle.stack_revised.specs.declared.last.Last.{Last}
 use Rattle.stack_revised.specs.declared.ended.RevisedEnd.{RevisedEnd}
 use Rattle.stack_revised.specs.declared.ended.RevisedEnd.TheVariants.{AtNarrow, AtWide}
-use Rattle.stack_revised.specs.Seen.{shape_of_revised, table_of_revised}
+use Rattle.stack_inverse.specs.Seen.{shape_of_revised, table_of_revised}
 use Rattle.stack_last.specs.Ends.{end_at}
 
 -- the last table's shape

@@ -10,8 +10,8 @@ use Rattle.stack_run.specs.WrittenRun.{wide, over}
 use Rattle.stack_simplex.specs.declared.refusal.RunPlace.{RunPlace}
 use Rattle.stack_simplex.specs.Stops.{spot_of}
 use Rattle.stack_revised.specs.declared.pivots.Pivots.{Pivots}
-use Rattle.stack_revised.specs.declared.stops.Refusal.{Refusal}
-use Rattle.stack_revised.specs.declared.stops.Refusal.TheVariants as refusals
+use Rattle.stack_inverse.specs.declared.stops.Refusal.{Refusal}
+use Rattle.stack_inverse.specs.declared.stops.Refusal.TheVariants as refusals
 use Rattle.stack_revised.specs.declared.stops.Stop.{Stop}
 use Rattle.stack_revised.specs.declared.stops.Stop.TheVariants.{TooWide, Spent, Unsettled}
 use Rattle.stack_revised.specs.declared.stops.PhaseEnd.{PhaseEnd}

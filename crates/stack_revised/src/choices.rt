@@ -9,10 +9,10 @@ ghost use Rattle.stack_rational.specs.TooWide.{is_too_wide};
 ghost use Rattle.stack_table.specs.Table.{plain};
 ghost use Rattle.stack_bland.specs.BySign.{by_sign};
 ghost use Rattle.stack_bland.specs.Choice.{entering, goes_first, leaving, ratio_row};
-ghost use Rattle.stack_revised.specs.Seen.{shape_of_revised, table_of_revised, IsEntered};
+ghost use Rattle.stack_inverse.specs.Seen.{shape_of_revised, table_of_revised, IsEntered};
 
-use crate::revised_table::RevisedTable;
-use crate::whole::Whole;
+use stack_inverse::revised_table::RevisedTable;
+use stack_rows::whole::Whole;
 use std::cmp::Ordering;
 
 /// The least column below `among` with a negative objective cell, number by number.

@@ -1,8 +1,8 @@
 //! The end of a run at either width.
 
 use crate::last::Last;
-use crate::narrow::Narrow;
-use crate::wide::Wide;
+use stack_rows::narrow::Narrow;
+use stack_rows::wide::Wide;
 
 /// How a run ends, and its last table, in numbers of 64 bits or of 128.
 #[derive(Drop)]

@@ -1,13 +1,13 @@
 //! The last table of a run, and what is read of it.
 
 ghost use Rattle.std.specs.Prelude.{◌≡◌, ℕ, ◌<◌, length};
-ghost use Rattle.stack_revised.specs.RowForm.{number_at};
-ghost use Rattle.stack_revised.specs.Seen.{shape_of_revised, number_in};
+ghost use Rattle.stack_rows.specs.RowForm.{number_at};
+ghost use Rattle.stack_inverse.specs.Seen.{shape_of_revised, number_in};
 ghost use Rattle.stack_last.specs.declared.kind.EndKind.TheVariants as end_kind;
 
-use crate::revised_table::RevisedTable;
-use crate::whole::Whole;
+use stack_inverse::revised_table::RevisedTable;
 use stack_last::EndKind;
+use stack_rows::whole::Whole;
 
 /// How a run ends, and its last table.
 #[derive(Drop)]

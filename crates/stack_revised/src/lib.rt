@@ -1,8 +1,7 @@
 //! The revised simplex run: the written run by the artificial columns of its table alone, in whole numbers.
 //!
-//! Each row of the table is kept as whole numbers over one denominator: one for each artificial column, which make
-//! the inverse of the basis, and the right side. A number of a plain column is made from these and the first rows
-//! where it is needed. After the revised simplex method of Dantzig and Orchard-Hays (1954).
+//! The table is kept as the inverse of its basis (stack_inverse). After the revised simplex method of Dantzig and
+//! Orchard-Hays (1954).
 //!
 //! ```text
 //! match run_revised(alloc, &problem, budget) {
@@ -15,36 +14,15 @@
 //! ```
 #![tactic(auto)]
 
-mod building;
-mod cells;
 mod choices;
-pub mod columns;
-mod common;
 pub mod ended;
-mod factors;
-mod filling;
-pub mod first;
 pub mod last;
-mod making;
-pub mod narrow;
-mod narrowing;
-pub mod objective;
 pub mod phases;
-mod pivoting;
 pub mod pivots;
-mod products;
 mod reading;
-mod remaking;
-pub mod revised_table;
-mod row;
 mod running;
-mod short;
-mod spots;
 pub mod stops;
 mod turn;
-pub mod whole;
-pub mod wide;
-mod widening;
 
 pub use ended::RevisedEnd;
 pub use running::run_revised;

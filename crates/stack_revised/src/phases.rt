@@ -8,15 +8,15 @@ ghost use Rattle.stack_table.specs.Table.{plain, right, clear_objective, set_fac
 ghost use Rattle.stack_table.specs.Spots.{pivot_spot};
 ghost use Rattle.stack_bland.specs.Choice.{is_negative_sign};
 ghost use Rattle.stack_run.specs.WrittenRun.{turns, driven_column, drive_row, drives, written_run};
-ghost use Rattle.stack_revised.specs.Seen.{shape_of_revised, table_of_revised};
+ghost use Rattle.stack_inverse.specs.Seen.{shape_of_revised, table_of_revised};
 ghost use Rattle.stack_revised.specs.Tells.{TellsPivot, TellsPivots, TellsPhase, TellsRun};
 
 use crate::pivots::Pivots;
-use crate::revised_table::RevisedTable;
 use crate::stops::{PhaseEnd, Stop};
 use crate::turn::{due_pivot, run_phase};
-use crate::whole::Whole;
+use stack_inverse::revised_table::RevisedTable;
 use stack_last::EndKind;
+use stack_rows::whole::Whole;
 
 /// The least column before the artificial ones in which the row isn't 0.
 ///

@@ -1,16 +1,16 @@
 //! What is read of the last table: an end at either width is a last table.
 
 ghost use Rattle.std.specs.Prelude.{◌≡◌};
-ghost use Rattle.stack_revised.specs.Seen.{table_of_revised};
+ghost use Rattle.stack_inverse.specs.Seen.{table_of_revised};
 ghost use Rattle.stack_revised.specs.Ended.{shape_of_last, flips_of_last, reads_column, kind_of_end};
 ghost use Rattle.stack_revised.specs.Ended.{shape_of_end, table_of_end, flips_of_end};
 
-use crate::cells::cell;
 use crate::ended::RevisedEnd;
 use crate::last::Last;
-use crate::whole::Whole;
 use stack_last::LastTable;
 use stack_rational::Frac;
+use stack_rows::cells::cell;
+use stack_rows::whole::Whole;
 
 impl<T: Whole> LastTable for Last<T> {
     ghost shape = { λ l. shape_of_last l };

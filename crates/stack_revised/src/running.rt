@@ -6,9 +6,9 @@ ghost use Rattle.stack_table.specs.Problem.{flipped};
 ghost use Rattle.stack_table.specs.Table.{plain};
 ghost use Rattle.stack_table.specs.Lent.{IsProblem, shape_of_problem, problem_of};
 ghost use Rattle.stack_run.specs.ProblemRun.{run_at};
-ghost use Rattle.stack_revised.specs.RowForm.{number_at};
-ghost use Rattle.stack_revised.specs.Seen.{shape_of_revised, table_of_revised, number_in};
-ghost use Rattle.stack_revised.specs.FirstTable.{flips};
+ghost use Rattle.stack_rows.specs.RowForm.{number_at};
+ghost use Rattle.stack_inverse.specs.Seen.{shape_of_revised, table_of_revised, number_in};
+ghost use Rattle.stack_inverse.specs.FirstTable.{flips};
 ghost use Rattle.stack_revised.specs.Ended.{shape_of_last, flips_of_last, value_of_last, shape_of_end, flips_of_end};
 ghost use Rattle.stack_revised.specs.Ended.{TellsLast, Tells, TellsNothing, stopped_as};
 ghost use Rattle.stack_last.specs.Ends.{end_at};
@@ -17,13 +17,14 @@ ghost use Rattle.stack_revised.specs.declared.stops.RevisedStop.TheVariants as r
 
 use crate::ended::RevisedEnd;
 use crate::last::Last;
-use crate::narrow::Narrow;
 use crate::phases::run_table;
-use crate::revised_table::RevisedTable;
 use crate::stops::{RevisedStop, Stop};
-use crate::whole::Whole;
-use crate::wide::Wide;
+use stack_inverse::revised_table::RevisedTable;
+use stack_inverse::stops::NoTable;
 use stack_last::EndKind;
+use stack_rows::narrow::Narrow;
+use stack_rows::whole::Whole;
+use stack_rows::wide::Wide;
 use stack_run::wider_run_law;
 use stack_table::problem::Problem;
 use std::alloc::Global;
@@ -136,8 +137,8 @@ fn run_at_width<T: Whole>(alloc: Global, p: &Problem, budget: u32) -> Result<Las
     };
     let mut table = match RevisedTable::<T>::of_problem(alloc, p) {
         Ok(table) => table,
-        Err(RevisedStop::Memory) => return Err(RevisedStop::Memory),
-        Err(_) => return Err(RevisedStop::Unsettled),
+        Err(NoTable::Memory) => return Err(RevisedStop::Memory),
+        Err(NoTable::Unsettled) => return Err(RevisedStop::Unsettled),
     };
     let kind = match run_table(&mut table, budget) {
         Ok(kind) => kind,
@@ -146,7 +147,8 @@ fn run_at_width<T: Whole>(alloc: Global, p: &Problem, budget: u32) -> Result<Las
     last_of(alloc, table, kind, flipped)
 }
 
-/// The most rows of a run that begins at 64 bits: one of more seldom comes to its end there.
+/// The most rows of a run that begins at 64 bits. A longer one may come to its end there too, but mostly it would be
+/// done twice.
 const MOST_NARROW_ROWS: usize = 250;
 
 /// The run at 64 bits, unsettled where the rows are many.

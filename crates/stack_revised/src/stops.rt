@@ -2,17 +2,7 @@
 
 use crate::pivots::Pivots;
 use stack_simplex::RunPlace;
-use stack_table::types::PivotWide;
 use std::alloc::{AllocError, AllocFailed};
-
-/// Why a pivot isn't done.
-#[derive(Clone, Copy, Debug, PartialEq, Eq, Drop)]
-pub enum Refusal {
-    /// The first operation that is too wide.
-    TooWide(PivotWide),
-    /// A number that the rows make doesn't fit. It tells nothing of the written run.
-    Unsettled,
-}
 
 /// Why a run over rows has no end.
 #[derive(Clone, Copy, Debug, PartialEq, Eq, Drop)]

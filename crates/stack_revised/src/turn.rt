@@ -5,14 +5,15 @@ ghost use Rattle.stack_algebra.proofs.OrderedFractions.{ordered_fractions};
 ghost use Rattle.stack_rational.specs.TooWide.{is_too_wide};
 ghost use Rattle.stack_table.specs.Table.{plain, pivoted_at};
 ghost use Rattle.stack_table.specs.Spots.{pivot_spot};
-ghost use Rattle.stack_revised.specs.Seen.{shape_of_revised, table_of_revised, IsEntered};
+ghost use Rattle.stack_inverse.specs.Seen.{shape_of_revised, table_of_revised, IsEntered};
 ghost use Rattle.stack_revised.specs.Tells.{TellsPivot, TellsTurn, TellsPhase, HasFewer, phase_from, stop_at};
 
 use crate::choices::{entering, leaving};
 use crate::pivots::Pivots;
-use crate::revised_table::RevisedTable;
-use crate::stops::{PhaseEnd, Refusal, Stop, Turn};
-use crate::whole::Whole;
+use crate::stops::{PhaseEnd, Stop, Turn};
+use stack_inverse::revised_table::RevisedTable;
+use stack_inverse::stops::Refusal;
+use stack_rows::whole::Whole;
 use stack_simplex::RunPlace;
 
 /// Why a phase stops where a pivot of it isn't done.

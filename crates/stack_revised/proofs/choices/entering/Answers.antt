@@ -1,9 +1,9 @@
 use Rattle.std.proofs.Common.{sym, ◌∙◌}
 use Rattle.stack_algebra.specs.Search.{least}
 use Rattle.stack_bland.specs.Choice.{is_negative_sign}
-use Rattle.stack_revised.specs.RowForm.{under_at}
-use Rattle.stack_revised.specs.Seen.{number_in}
-use Rattle.stack_revised.proofs.Ratios.{cell_sign}
+use Rattle.stack_rows.specs.RowForm.{under_at}
+use Rattle.stack_inverse.specs.Seen.{number_in}
+use Rattle.stack_rows.proofs.Ratios.{cell_sign}
 use Rattle.stack_revised.proofs.choices.entering.Goals as goal
 
 pub returns-in-Some-clause-value : goal.returns-in-Some-clause-value

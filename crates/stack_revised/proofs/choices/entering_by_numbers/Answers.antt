@@ -2,9 +2,9 @@ use Rattle.std.proofs.Common.{sym, ap, ◌∙◌}
 use Rattle.stack_algebra.specs.Ordered.{sign_of}
 use Rattle.stack_algebra.proofs.Search.{only_if, first_found, first_more}
 use Rattle.stack_bland.specs.Choice.{is_negative_sign}
-use Rattle.stack_revised.specs.RowForm.{under_at}
-use Rattle.stack_revised.specs.Seen.{table_of_revised, number_in}
-use Rattle.stack_revised.proofs.Ratios.{cell_sign}
+use Rattle.stack_rows.specs.RowForm.{under_at}
+use Rattle.stack_inverse.specs.Seen.{table_of_revised, number_in}
+use Rattle.stack_rows.proofs.Ratios.{cell_sign}
 use Rattle.stack_revised.proofs.choices.entering_by_numbers.Goals as goal
 
 pub returns-then-is_negative-clause-value : goal.returns-then-is_negative-clause-value

@@ -1,7 +1,7 @@
 use Rattle.std.proofs.Common.{◌≡◌, None}
 use Rattle.stack_algebra.proofs.OrderedFractions.{ordered_fractions}
 use Rattle.stack_bland.specs.Choice.{entering}
-use Rattle.stack_revised.specs.Seen.{shape_of_revised, table_of_revised}
+use Rattle.stack_inverse.specs.Seen.{shape_of_revised, table_of_revised}
 use Rattle.stack_revised.proofs.choices.entering_by_numbers.Given as goal
 
 abbrev pub invariant-loop-j : goal.invariant-loop-j

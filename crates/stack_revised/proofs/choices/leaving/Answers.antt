@@ -5,12 +5,14 @@ use Rattle.stack_algebra.proofs.Order.{◌≺◌}
 use Rattle.stack_algebra.proofs.OrderedFractions.{ordered_fractions}
 use Rattle.stack_algebra.proofs.Over.{over}
 use Rattle.stack_table.specs.Table.{columns}
-use Rattle.stack_bland.specs.Choice.{is_plus, ratio, best}
-use Rattle.stack_revised.specs.RowForm.{under_at}
-use Rattle.stack_revised.specs.Seen.{shape_of_revised, table_of_revised, number_in}
-use Rattle.stack_revised.proofs.Covered.{fits_more}
-use Rattle.stack_revised.proofs.Ratios.{HoldsBest, ratios_none, held_positive, held_other, cell_sign, ratio_over}
-use Rattle.stack_revised.proofs.RightSide.{right_fits}
+use Rattle.stack_bland.specs.Choice.{is_plus}
+use Rattle.stack_bland.specs.Choice.{ratio, best}
+use Rattle.stack_rows.specs.RowForm.{under_at}
+use Rattle.stack_inverse.specs.Seen.{shape_of_revised, table_of_revised, number_in}
+use Rattle.stack_inverse.proofs.Covered.{fits_more}
+use Rattle.stack_revised.proofs.HeldRow.{HoldsBest, ratios_none, held_positive, held_other}
+use Rattle.stack_rows.proofs.Ratios.{cell_sign, ratio_over}
+use Rattle.stack_inverse.proofs.RightSide.{right_fits}
 use Rattle.stack_revised.proofs.choices.leaving.Goals as goal
 use Rattle.stack_revised.proofs.choices.leaving.Goals.{then-is_positive+in_ok-next, else-is_positive}
 

@@ -1,8 +1,8 @@
 use Rattle.std.proofs.Common.{ℕ, ◌<◌, ◌≤◌, unsigned_abs}
 use Rattle.stack_algebra.proofs.OrderedFractions.{ordered_fractions}
 use Rattle.stack_bland.specs.Choice.{ratio, best}
-use Rattle.stack_revised.specs.Seen.{shape_of_revised, table_of_revised, number_in}
-use Rattle.stack_revised.proofs.Ratios.{HoldsBest}
+use Rattle.stack_inverse.specs.Seen.{shape_of_revised, table_of_revised, number_in}
+use Rattle.stack_revised.proofs.HeldRow.{HoldsBest}
 use Rattle.stack_revised.proofs.choices.leaving.Given as goal
 
 abbrev pub invariant-loop-i : goal.invariant-loop-i

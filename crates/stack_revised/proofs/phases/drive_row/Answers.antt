@@ -1,5 +1,5 @@
 use Rattle.std.proofs.Common.{arith, sym, ◌∙◌}
-use Rattle.stack_revised.specs.Seen.{shape_of_revised, table_of_revised}
+use Rattle.stack_inverse.specs.Seen.{shape_of_revised, table_of_revised}
 use Rattle.stack_revised.proofs.PhaseTurns.{driven_below, driven_nonzero}
 use Rattle.stack_revised.proofs.phases.drive_row.Goals as goal
 

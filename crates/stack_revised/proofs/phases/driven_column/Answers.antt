@@ -5,9 +5,9 @@ use Rattle.stack_algebra.proofs.Search.{first_found, first_more}
 use Rattle.stack_table.specs.Table.{plain}
 use Rattle.stack_bland.specs.Choice.{is_nought}
 use Rattle.stack_rational.specs.Order.{is_zero_whole}
-use Rattle.stack_revised.specs.RowForm.{under_at}
-use Rattle.stack_revised.specs.Seen.{shape_of_revised, table_of_revised, number_in}
-use Rattle.stack_revised.proofs.Ratios.{cell_sign, nought_of}
+use Rattle.stack_rows.specs.RowForm.{under_at}
+use Rattle.stack_inverse.specs.Seen.{shape_of_revised, table_of_revised, number_in}
+use Rattle.stack_rows.proofs.Ratios.{cell_sign, nought_of}
 use Rattle.stack_revised.proofs.PhaseTurns.{driven_item, driven_at}
 use Rattle.stack_revised.proofs.phases.driven_column.Goals as goal
 

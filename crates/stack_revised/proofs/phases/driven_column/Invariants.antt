@@ -1,6 +1,6 @@
 use Rattle.std.proofs.Common.{◌≡◌, None}
 use Rattle.stack_algebra.specs.Search.{first}
-use Rattle.stack_revised.specs.Seen.{shape_of_revised, table_of_revised}
+use Rattle.stack_inverse.specs.Seen.{shape_of_revised, table_of_revised}
 use Rattle.stack_revised.proofs.PhaseTurns.{driven_item}
 use Rattle.stack_revised.proofs.phases.driven_column.Given as goal
 

@@ -7,7 +7,7 @@ use Rattle.stack_rational.specs.TooWide.{is_too_wide}
 use Rattle.stack_table.specs.Table.{Shape, Tabled, plain, pivoted_at}
 use Rattle.stack_table.specs.Spots.{pivot_spot}
 use Rattle.stack_revised.specs.Tells.{TellsPivot}
-use Rattle.stack_revised.specs.Seen.{shape_of_revised, table_of_revised}
+use Rattle.stack_inverse.specs.Seen.{shape_of_revised, table_of_revised}
 use Rattle.stack_revised.proofs.phases.driven_pivot.Goals as goal
 
 pub due_pivot-requires-clause-row_in : goal.due_pivot-requires-clause-row_in

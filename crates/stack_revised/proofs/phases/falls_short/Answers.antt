@@ -2,9 +2,9 @@ use Rattle.std.proofs.Common.{sym, ap, ◌∙◌}
 use Rattle.stack_algebra.specs.Ordered.{sign_of}
 use Rattle.stack_table.specs.Table.{columns}
 use Rattle.stack_bland.specs.Choice.{is_negative_sign}
-use Rattle.stack_revised.specs.RowForm.{under_at}
-use Rattle.stack_revised.specs.Seen.{shape_of_revised, number_in}
-use Rattle.stack_revised.proofs.Ratios.{cell_sign}
+use Rattle.stack_rows.specs.RowForm.{under_at}
+use Rattle.stack_inverse.specs.Seen.{shape_of_revised, number_in}
+use Rattle.stack_rows.proofs.Ratios.{cell_sign}
 use Rattle.stack_revised.proofs.phases.falls_short.Goals as goal
 
 pub returns : goal.returns

@@ -1,7 +1,7 @@
 use Rattle.std.proofs.Common.{ap, ◌∙◌, arith}
 use Rattle.stack_algebra.proofs.OrderedFractions.{ordered_fractions}
 use Rattle.stack_table.specs.Table.{Shape, clear_objective}
-use Rattle.stack_revised.specs.Seen.{shape_of_revised, table_of_revised}
+use Rattle.stack_inverse.specs.Seen.{shape_of_revised, table_of_revised}
 use Rattle.stack_revised.proofs.PhaseTurns.{row_stops, row_settles}
 use Rattle.stack_revised.proofs.phases.second_phase.Goals as goal
 

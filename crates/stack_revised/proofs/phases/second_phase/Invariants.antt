@@ -3,7 +3,7 @@ use Rattle.stack_algebra.proofs.OrderedFractions.{ordered_fractions}
 use Rattle.stack_rational.specs.TooWide.{is_too_wide}
 use Rattle.stack_table.specs.Table.{clear_objective}
 use Rattle.stack_run.specs.WrittenRun.{settled, drives}
-use Rattle.stack_revised.specs.Seen.{shape_of_revised, table_of_revised}
+use Rattle.stack_inverse.specs.Seen.{shape_of_revised, table_of_revised}
 use Rattle.stack_revised.proofs.phases.second_phase.Given as goal
 
 -- the rows so far

@@ -3,7 +3,7 @@ use Rattle.stack_algebra.proofs.OrderedFractions.{ordered_fractions}
 use Rattle.stack_rational.specs.TooWide.{is_too_wide}
 use Rattle.stack_table.specs.Table.{plain}
 use Rattle.stack_run.specs.WrittenRun.{turns}
-use Rattle.stack_revised.specs.Seen.{table_of_revised}
+use Rattle.stack_inverse.specs.Seen.{table_of_revised}
 use Rattle.stack_revised.specs.Tells.{TellsPhase}
 use Rattle.stack_revised.proofs.phases.third_phase.Goals as goal
 

@@ -1,7 +1,7 @@
 use Rattle.std.proofs.Common.{◌≡◌, ap, ◌∙◌, ◌+◌, length, pos}
 use Rattle.std.proofs.lemmas.List.{length_push}
-use Rattle.stack_revised.specs.Seen.{number_in}
-use Rattle.stack_revised.proofs.Grown.{grown_by}
+use Rattle.stack_inverse.specs.Seen.{number_in}
+use Rattle.stack_inverse.proofs.Grown.{grown_by}
 use Rattle.stack_revised.proofs.running.column_of.Goals as goal
 
 pub loop-i-preserved : goal.loop-i-preserved

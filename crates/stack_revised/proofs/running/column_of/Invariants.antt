@@ -1,6 +1,6 @@
 use Rattle.std.proofs.Common.{◌≡◌, ℕ, ◌<◌, length}
-use Rattle.stack_revised.specs.RowForm.{number_at}
-use Rattle.stack_revised.specs.Seen.{number_in}
+use Rattle.stack_rows.specs.RowForm.{number_at}
+use Rattle.stack_inverse.specs.Seen.{number_in}
 use Rattle.stack_revised.proofs.running.column_of.Given as goal
 
 abbrev pub invariant-loop-i : goal.invariant-loop-i

@@ -1,5 +1,5 @@
 use Rattle.std.proofs.Common.{◌≡◌, ℕ, ◌<◌, length, get_or, false}
-use Rattle.stack_revised.specs.FirstTable.{flips}
+use Rattle.stack_inverse.specs.FirstTable.{flips}
 use Rattle.stack_revised.proofs.running.flips.Given as goal
 
 abbrev pub invariant-loop-i : goal.invariant-loop-i

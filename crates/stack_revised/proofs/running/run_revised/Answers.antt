@@ -1,5 +1,5 @@
 use Rattle.stack_table.specs.Lent.{problem_of}
-use Rattle.stack_revised.specs.Seen.{table_of_revised}
+use Rattle.stack_inverse.specs.Seen.{table_of_revised}
 use Rattle.stack_revised.proofs.EndedRuns.{narrow_end, narrow_over, over_told}
 use Rattle.stack_revised.proofs.running.run_revised.Goals as goal
 

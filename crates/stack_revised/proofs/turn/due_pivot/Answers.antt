@@ -4,7 +4,7 @@ use Rattle.stack_rational.specs.TooWide.{is_too_wide}
 use Rattle.stack_table.specs.Spots.{pivot_spot}
 use Rattle.stack_revised.specs.declared.stops.Stop.{Stop}
 use Rattle.stack_revised.specs.Tells.{TellsPivot}
-use Rattle.stack_revised.specs.Seen.{shape_of_revised, table_of_revised}
+use Rattle.stack_inverse.specs.Seen.{shape_of_revised, table_of_revised}
 use Rattle.stack_revised.proofs.PhaseTurns.{refusal_tells}
 use Rattle.stack_revised.proofs.turn.due_pivot.Goals as goal
 

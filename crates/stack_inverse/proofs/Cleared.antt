@@ -1,0 +1,37 @@
+-- A row that is cleared.
+use Rattle.std.proofs.Common.{◌≡◌, sym, ap, ◌∙◌, ℕ, ◌<◌, ◌≤◌, ◌+◌, List, length, set, arith, cond, eqb}
+use Rattle.std.proofs.lemmas.Bool.{ne_eqb, eq-eqb}
+use native.Mathlib.Decide.{ℕ_discrete, dec_lt}
+use lib.IntN.{ℤ, pos}
+use Rattle.stack_rows.specs.RowForm.{number_at}
+use Rattle.stack_rows.proofs.Numbers.{at-past, at-set_same, at-set_other}
+
+module _ {V : Type 0} (value : V → ℤ) where
+  -- one number more is 0
+  pub cleared_more : (row : List V) (zero : V) (j : ℕ) → j < length row → value zero ≡ pos 0 →
+      ((i : ℕ) → i < j → number_at value row i ≡ pos 0) → (i : ℕ) → i < j + 1 → number_at value (set row j zero) i
+      ≡ pos 0
+  cleared_more row zero j lt e h i l = go (ℕ_discrete i j)
+    where
+      go : Dec (i ≡ j) → number_at value (set row j zero) i ≡ pos 0
+      go (yes d) = ap (number_at value (set row j zero)) d ∙ at-set_same value (pos 0) row j zero lt ∙ e
+      go (no d) = at-set_other value (pos 0) row j i zero d ∙ h i (omega (arith, l, d))
+
+  -- where all that stand there are 0, all are
+  pub cleared_all : (row : List V) (j : ℕ) → length row ≤ j → ((i : ℕ) → i < j → number_at value row i ≡ pos 0) →
+      (i : ℕ) → number_at value row i ≡ pos 0
+  cleared_all row j l h i = go (dec_lt i j)
+    where
+      go : Dec (i < j) → number_at value row i ≡ pos 0
+      go (yes d) = h i d
+      go (no d) = at-past value (pos 0) row i (omega (arith, l, d))
+
+  -- a number that is put into such a row
+  pub only_at : (row : List V) (c : ℕ) (x : V) → c < length row → ((i : ℕ) → number_at value row i ≡ pos 0) → (j : ℕ) →
+      number_at value (set row c x) j ≡ cond (eqb j c) (value x) (pos 0)
+  only_at row c x lt h j = go (ℕ_discrete j c)
+    where
+      go : Dec (j ≡ c) → number_at value (set row c x) j ≡ cond (eqb j c) (value x) (pos 0)
+      go (yes d) = ap (number_at value (set row c x)) d ∙ at-set_same value (pos 0) row c x lt
+          ∙ sym (ap (λ b. cond b (value x) (pos 0)) (eq-eqb j c d))
+      go (no d) = at-set_other value (pos 0) row c j x d ∙ h j ∙ sym (ap (λ b. cond b (value x) (pos 0)) (ne_eqb j c d))

@@ -1,0 +1,188 @@
+-- A new objective row that is put into the block.
+use Rattle.std.proofs.Common.{◌≡◌, ◌≢◌, refl, sym, ap, subst, ◌∙◌, ℕ, suc, ◌<◌, ◌≤◌, ◌+◌, ◌-◌, List, length}
+use Rattle.std.proofs.Common.{Bool, true, false, cond, eqb, ltb, Option, Some, None, unsigned_abs, arith}
+use Rattle.stack_algebra.specs.Search.{least}
+use Rattle.stack_algebra.proofs.Search.{least-some}
+use Rattle.std.specs.Prelude.{IfSome}
+use native.Mathlib.Decide.{ℕ_discrete}
+use Rattle.std.proofs.lemmas.Bool.{ne_eqb, eq-eqb, lt-ltb}
+use lib.IntN.{ℤ, pos, negsuc, ◌+ℤ◌, ◌*ℤ◌}
+use Rattle.stack_algebra.specs.Fraction.{Fraction}
+use Rattle.stack_algebra.specs.Rows.{changed}
+use Rattle.stack_algebra.proofs.Fractions.{of}
+use Rattle.stack_algebra.proofs.Over.{over, of-over}
+use Rattle.stack_inverse.specs.declared.columns.Column.{Column}
+use Rattle.stack_rows.specs.RowForm.{cell_at, number_at, under_at, ArePositive}
+use Rattle.stack_inverse.specs.RowBlock.{IsPlaced}
+use Rattle.stack_inverse.specs.Columns.{combined, by_place, number, first_at, revised_own, revised_cell, IsFactorRow}
+use Rattle.stack_inverse.proofs.FirstRows.{nothing_gives, own_row, factor_cell}
+use Rattle.stack_inverse.proofs.Steps.{over_zero}
+use Rattle.stack_table.specs.Table.{factor_row}
+use Rattle.stack_algebra.proofs.OrderedFractions.{ordered_fractions}
+use Rattle.stack_inverse.proofs.Division.{none_there}
+
+-- where all is 0
+nothing_at : (b c d : Bool) → by_place b c d (pos 0) (pos 0) (pos 0) ≡ pos 0
+nothing_at true c d = refl
+nothing_at false true d = refl
+nothing_at false false true = refl
+nothing_at false false false = refl
+
+module _ {V : Type 0} (value : V → ℤ) (m : ℕ) (columns : List (Column V)) where
+  -- a row with its own cells
+  abbrev pub own_cell : List V → List V → ℤ → ℕ → Fraction
+  own_cell own row d j = over (number m (length columns) (first_at value columns) (number_at value own) d
+      (number_at value row) (number_at value row m) j) d
+
+  module _ (own own' ns ds ns' ds' row : List V) (d : ℤ) (w : ℕ) (e : w
+      ≡ suc m) (p : IsPlaced value w ns ds row d m ns' ds')
+      (f : ℕ → Fraction) (is : (j : ℕ) → own_cell own' row d j ≡ f j) where
+    -- the table with the new objective row
+    pub objective_put : (i j : ℕ) → revised_cell value m columns own' ns' ds' i j
+        ≡ changed (revised_cell value m columns own ns ds) m f i j
+    objective_put i j = go (ℕ_discrete i m)
+      where
+        put : (k : ℕ) → cell_at value (pos 0) (suc m) ns' m k ≡ number_at value row k
+        put k = ap (λ w. cell_at value (pos 0) w ns' m k) (sym e) ∙ p.own k
+
+        at_m : revised_cell value m columns own' ns' ds' m j ≡ own_cell own' row d j
+        at_m = λ z. over (number m (length columns) (first_at value columns)
+            (λ k. ap (λ b. cond b (number_at value own' k) (pos 0)) (eq-eqb m m refl) z)
+            (p.own_under z) (λ k. put k z) (put m z) j) (p.own_under z)
+
+        kept : (n : i ≢ m) (k : ℕ) → cell_at value (pos 0) (suc m) ns' i k ≡ cell_at value (pos 0) (suc m) ns i k
+        kept n k = ap (λ w. cell_at value (pos 0) w ns' i k) (sym e) ∙ p.other i k n
+            ∙ ap (λ w. cell_at value (pos 0) w ns i k) e
+
+        bare : (n : i ≢ m) (k : ℕ) → revised_own value m own' i k ≡ revised_own value m own i k
+        bare n k = ap (λ b. cond b (number_at value own' k) (pos 0)) (ne_eqb i m n)
+            ∙ sym (ap (λ b. cond b (number_at value own k) (pos 0)) (ne_eqb i m n))
+
+        go : Dec (i ≡ m) → revised_cell value m columns own' ns' ds' i j
+            ≡ changed (revised_cell value m columns own ns ds) m f i j
+        go (yes q) = ap (λ k. revised_cell value m columns own' ns' ds' k j) q ∙ at_m ∙ is j
+            ∙ sym (ap (λ k. changed (revised_cell value m columns own ns ds) m f k j) q
+            ∙ ap (λ b. cond b f (revised_cell value m columns own ns ds m) j) (eq-eqb m m refl))
+        go (no n) = (λ z. over (number m (length columns) (first_at value columns) (λ k. bare n k z)
+            (p.other_under i n z) (λ k. kept n k z) (kept n m z) j) (p.other_under i n z))
+            ∙ sym (ap (λ b. cond b f (revised_cell value m columns own ns ds i) j) (ne_eqb i m n))
+
+  -- a row that is 0
+  pub zero_row_is : (own row : List V) (d : ℤ) → d ≡ pos 1 → ((j : ℕ) → number_at value own j ≡ pos 0) →
+      ((j : ℕ) → number_at value row j ≡ pos 0) → (j : ℕ) → own_cell own row d j ≡ of (pos 0)
+  zero_row_is own row d hd ho hr j = (λ z. over (number m (length columns) (first_at value columns) (λ k. ho k z) (hd z)
+      (λ k. hr k z) (hr m z) j) (hd z))
+      ∙ ap (λ z. over z (pos 1)) (ap (λ z. by_place (ltb j (length columns)) (ltb j (length columns + m))
+      (eqb j (length columns + m)) (pos 1 *ℤ pos 0 +ℤ z) (pos 0) (pos 0)) (nothing_gives m
+      (λ r. first_at value columns r j))
+      ∙ none_there (ltb j (length columns)) (ltb j (length columns + m)) (eqb j (length columns + m)) (pos 1))
+      ∙ of-over (pos 0)
+
+  at_plain : (b c d : Bool) (x y z : ℤ) → b ≡ true → by_place b c d x y z ≡ x
+  at_plain b c d x y z h = ap (λ t. by_place t c d x y z) h
+
+  module _ (own own' ns ds row : List V) (d : ℤ) (column : ℕ) (lt : column < length columns)
+      (positive : ArePositive value ds)
+      (ho : (j : ℕ) → number_at value own' j ≡ cond (eqb j column) (negsuc 0) (pos 0)) where
+    elsewhere : (j k : ℕ) → k ≢ column → number_at value own' k ≡ pos 0
+    elsewhere j k n = ho k ∙ ap (λ b. cond b (negsuc 0) (pos 0)) (ne_eqb k column n)
+
+    there : number_at value own' column ≡ negsuc 0
+    there = ho column ∙ ap (λ b. cond b (negsuc 0) (pos 0)) (eq-eqb column column refl)
+
+    -- the cell depends on the own cell of its own column alone
+    by_own : (j : ℕ) (o a : ℕ → ℤ) (s e x y : ℤ) → o j ≡ y →
+        number m (length columns) (first_at value columns) o e a s j
+        ≡ by_place (ltb j (length columns)) (ltb j (length columns + m)) (eqb j (length columns + m))
+        (e *ℤ y +ℤ combined m a (λ r. first_at value columns r j)) (a (j - length columns)) s
+    by_own j o a s e x y h = ap (λ z. by_place (ltb j (length columns)) (ltb j (length columns + m))
+        (eqb j (length columns + m))
+        (e *ℤ z +ℤ combined m a (λ r. first_at value columns r j)) (a (j - length columns)) s) h
+
+    -- the factor's row without its own cell is the objective row of phase 3
+    pub factor_is : (o : Option ℕ) → IfSome o (λ r. r < m) →
+        IsFactorRow value m columns own ns ds column o row d → (j : ℕ) →
+        own_cell own' row d j ≡ factor_row ordered_fractions (revised_cell value m columns own ns ds) column o j
+    factor_is None q h j = go (ℕ_discrete j column)
+      where
+        same : own_cell own' row d j ≡ over (number m (length columns) (first_at value columns)
+            (number_at value own') (pos 1)
+            (λ r. pos 0) (pos 0) j) (pos 1)
+        same = λ z. over (number m (length columns) (first_at value columns) (number_at value own') (h.1 z)
+            (λ k. h.0 k z) (h.0 m z) j)
+            (h.1 z)
+
+        go : Dec (j ≡ column) → own_cell own' row d j
+            ≡ factor_row ordered_fractions (revised_cell value m columns own ns ds) column None j
+        go (yes e) = same ∙ ap (λ z. over z (pos 1)) (own_row m (length columns) (first_at value columns)
+            (number_at value own') (pos 0) j
+            ∙ at_plain (ltb j (length columns)) (ltb j (length columns + m)) (eqb j (length columns + m))
+            (number_at value own' j) (pos 0) (pos 0) (ap (λ k. ltb k (length columns)) e
+            ∙ lt-ltb column (length columns) lt)
+            ∙ ap (number_at value own') e ∙ there)
+            ∙ of-over (negsuc 0) ∙ sym (ap (λ b. cond b (of (negsuc 0)) (of (pos 0))) (eq-eqb j column e))
+        go (no n) = same ∙ ap (λ z. over z (pos 1)) (own_row m (length columns) (first_at value columns)
+            (number_at value own') (pos 0) j
+            ∙ ap (λ z. by_place (ltb j (length columns)) (ltb j (length columns + m))
+            (eqb j (length columns + m)) z (pos 0) (pos 0))
+            (elsewhere j j n) ∙ nothing_at (ltb j (length columns)) (ltb j (length columns + m))
+            (eqb j (length columns + m)))
+            ∙ of-over (pos 0) ∙ sym (ap (λ b. cond b (of (negsuc 0)) (of (pos 0))) (ne_eqb j column n))
+    factor_is (Some r) q h j = go (ℕ_discrete j column)
+      where
+        e : ℤ
+        e = under_at value ds r
+
+        same : own_cell own' row d j ≡ over (number m (length columns) (first_at value columns) (number_at value own')
+            (under_at value ds r) (λ k. cell_at value (pos 0) (suc m) ns r k)
+            (cell_at value (pos 0) (suc m) ns r m) j) (under_at value ds r)
+        same = λ z. over (number m (length columns) (first_at value columns) (number_at value own') (h.1 z)
+            (λ k. h.0 k z) (h.0 m z) j)
+            (h.1 z)
+
+        bare : (k : ℕ) → revised_own value m own r k ≡ pos 0
+        bare k = ap (λ b. cond b (number_at value own k) (pos 0)) (ne_eqb r m (λ p. omega (arith, q, p)))
+
+        a : ℕ → ℤ
+        a k = cell_at value (pos 0) (suc m) ns r k
+
+        unit : under_at value ds r *ℤ pos 0 +ℤ combined m (λ k. cell_at value (pos 0) (suc m) ns r k)
+            (λ r. first_at value columns r column) ≡ under_at value ds r
+        unit = sym (by_own column (revised_own value m own r) a (a m) e (pos 0) (pos 0) (bare column)
+            ∙ at_plain (ltb column (length columns)) (ltb column (length columns + m)) (eqb column (length columns + m))
+            (under_at value ds r *ℤ pos 0 +ℤ combined m (λ k. cell_at value (pos 0) (suc m) ns r k)
+            (λ r. first_at value columns r column))
+            (cell_at value (pos 0) (suc m) ns r (column - length columns)) (cell_at value (pos 0) (suc m) ns r m)
+            (lt-ltb column (length columns) lt)) ∙ h.2
+
+        go : Dec (j ≡ column) → own_cell own' row d j
+            ≡ factor_row ordered_fractions (revised_cell value m columns own ns ds) column (Some r) j
+        go (yes p) = same ∙ ap (λ z. over z e) (ap (λ k. number m (length columns) (first_at value columns)
+            (number_at value own') e a (a m) k) p
+            ∙ by_own column (number_at value own') a (a m) e (pos 0) (negsuc 0) there
+            ∙ at_plain (ltb column (length columns)) (ltb column (length columns + m)) (eqb column (length columns + m))
+            (under_at value ds r *ℤ negsuc 0 +ℤ combined m (λ k. cell_at value (pos 0) (suc m) ns r k)
+            (λ r. first_at value columns r column))
+            (cell_at value (pos 0) (suc m) ns r (column - length columns)) (cell_at value (pos 0) (suc m) ns r m)
+            (lt-ltb column (length columns) lt)
+            ∙ factor_cell m (length columns) (first_at value columns) e a column unit)
+            ∙ over_zero e (positive r)
+            ∙ sym (ap (λ b. cond b (of (pos 0)) (revised_cell value m columns own ns ds r j)) (eq-eqb j column p))
+        go (no n) = same ∙ ap (λ z. over z e) (by_own j (number_at value own') a (a m) e (pos 0) (pos 0)
+            (elsewhere j j n)
+            ∙ sym (by_own j (revised_own value m own r) a (a m) e (pos 0) (pos 0) (bare j)))
+            ∙ sym (ap (λ b. cond b (of (pos 0)) (revised_cell value m columns own ns ds r j)) (ne_eqb j column n))
+
+-- a row that is found is one of the rows
+pub found_below : (m : ℕ) (p : ℕ → Bool) (o : Option ℕ) → o ≡ least m p → (P : ℕ → Type 0) → ((r : ℕ) → r < m → P r) →
+    IfSome o P
+found_below m p None e P h = tt
+found_below m p (Some r) e P h = h r (least-some m p r (sym e)).below
+
+-- a number in one column alone is within itself
+pub only_within : (c j : ℕ) (z y : ℤ) → z ≡ cond (eqb j c) y (pos 0) → unsigned_abs z ≤ unsigned_abs y
+only_within c j z y h = subst (λ z. unsigned_abs z ≤ unsigned_abs y) (sym h) (go (eqb j c))
+  where
+    go : (b : Bool) → unsigned_abs (cond b y (pos 0)) ≤ unsigned_abs y
+    go true = omega arith
+    go false = omega arith

@@ -1,0 +1,10 @@
+use Rattle.std.proofs.Common.{◌≡◌, drop}
+use lib.IntN.{◌-ℤ◌}
+use Rattle.stack_algebra.specs.Sums.{sum_of}
+use Rattle.stack_inverse.specs.FirstTable.{less_cells}
+use Rattle.stack_inverse.proofs.building.less_cells.Given as goal
+
+-- what is left less the values of the cells that are left
+abbrev pub invariant-loop-cell : goal.invariant-loop-cell
+invariant-loop-cell g l = g.T.Whole.value l.rest -ℤ sum_of (λ x. g.T.Whole.value x.value) (drop l.cell-index l.cells)
+    ≡ less_cells g.T.Whole.value l.cells

@@ -1,0 +1,45 @@
+use Rattle.std.proofs.Common.{length, subst, ◌≤◌, ◌-◌, ◌^◌, pos, unsigned_abs}
+use lib.IntN.{ℤ, ◌-ℤ◌}
+use Rattle.stack_inverse.specs.ShortRow.{products_in}
+use Rattle.stack_rows.proofs.Numbers.{at-index}
+use Rattle.stack_inverse.proofs.ShortNumbers.{products_more, own_fits, left_fit, row_below}
+use Rattle.stack_inverse.proofs.short.less_products.Goals as goal
+
+pub less_product-sum-requires-clause-number : goal.less_product-sum-requires-clause-number
+less_product-sum-requires-clause-number g c =
+    let row = c.args.row.now in
+    let x = c.cell-item.result in
+    let lt = row_below (length row) c.loop-cell.cell-index c.args.cells.now x c.requires.rows c.loop-cell-test.true
+    c.cell-item.is in
+    let read = at-index g.T.Whole.value (pos 0) row x.row c.index-row-cell.result lt c.index-row-cell.is in
+    subst (λ (z : ℤ). unsigned_abs z ≤ 2 ^ 63 - 1) read (c.requires.numbers x.row)
+
+pub less_product-sum-requires-clause-both : goal.less_product-sum-requires-clause-both
+less_product-sum-requires-clause-both g c =
+    let v = g.T.Whole.value in
+    let row = c.args.row.now in
+    let x = c.cell-item.result in
+    let k = c.loop-cell.cell-index in
+    let lt = row_below (length row) k c.args.cells.now x c.requires.rows c.loop-cell-test.true c.cell-item.is in
+    let read = at-index v (pos 0) row x.row c.index-row-cell.result lt c.index-row-cell.is in
+    own_fits v row c.args.cells.now k x c.loop-cell-test.true c.cell-item.is (v c.index-row-cell.result) read
+    (v c.loop-cell.sum) (2 ^ 63 - 1) c.loop-cell.invariant.together
+
+pub loop-cell-preserved : goal.loop-cell-preserved
+loop-cell-preserved g c =
+    let v = g.T.Whole.value in
+    let row = c.args.row.now in
+    let cells = c.args.cells.now in
+    let x = c.cell-item.result in
+    let k = c.loop-cell.cell-index in
+    let number = c.index-row-cell.result in
+    let lt = row_below (length row) k cells x c.requires.rows c.loop-cell-test.true c.cell-item.is in
+    let read = at-index v (pos 0) row x.row number lt c.index-row-cell.is in
+    record {
+      rest = products_more v row cells k x c.loop-cell-test.true c.cell-item.is (v number) read
+          (v c.loop-cell.sum) (v c.less_product-sum.result) (v c.args.start -ℤ products_in v row cells)
+          c.loop-cell.invariant.rest c.less_product-sum.ensures;
+      together = left_fit v row cells k x c.loop-cell-test.true c.cell-item.is (v number) read
+          (v c.loop-cell.sum) (v c.less_product-sum.result) (2 ^ 63 - 1) c.loop-cell.invariant.together
+          c.less_product-sum.ensures;
+    }

@@ -1,0 +1,10 @@
+use Rattle.stack_inverse.proofs.ShortNumbers.{short_row}
+use Rattle.stack_inverse.proofs.short.negative_in.Goals as goal
+
+pub first_negative-requires-clause-short : goal.first_negative-requires-clause-short
+first_negative-requires-clause-short g c =
+    let v = g.T.Whole.value in
+    let f = c.args.first.now in
+    short_row v f.rows f.columns.items c.args.own.now c.args.row.now (v c.args.under) (v f.most) (v c.args.greatest)
+    (v c.in_ok-most.most) f.first c.requires.within c.requires.width c.requires.positive c.in_ok-most.ensures
+    (c.is_short.ensures c.if-not-is_short.false)

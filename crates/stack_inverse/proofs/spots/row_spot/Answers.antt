@@ -1,0 +1,62 @@
+use Rattle.std.proofs.Common.{sym, subst, suc, ◌+◌, length, Option, Some, None, arith}
+use Rattle.stack_algebra.proofs.Search.{first_found, first_more, first-none, first_all-none}
+use Rattle.stack_algebra.proofs.Over.{over}
+use Rattle.stack_table.specs.declared.types.Step.{Step}
+use Rattle.stack_rows.specs.RowForm.{under_at}
+use Rattle.stack_inverse.specs.Columns.{revised_number, row_number}
+use Rattle.stack_inverse.specs.CellSteps.{TellsStep}
+use Rattle.stack_inverse.proofs.CellSteps.{step_told}
+use Rattle.stack_inverse.proofs.spots.row_spot.Goals as goal
+
+pub loop-j-preserved : goal.loop-j-preserved
+loop-j-preserved g c =
+    let v = g.T.Whole.value in
+    let f = c.args.first.now in
+    first_more c.loop-j.j _ c.loop-j.invariant
+    (step_told (revised_number v f.rows f.columns.items c.args.own.now c.args.numbers.now c.args.unders.now c.args.i)
+    (row_number v f.rows f.columns.items c.args.pivot.now (v c.args.s.pivot_under))
+    (under_at v c.args.unders.now c.args.i)
+    (v c.args.s.pivot_under) (over (v c.args.s.factor) (v c.args.s.under)) c.args.i c.loop-j.j None
+    (v c.in_ok-number.number) (v c.in_ok-other.other) (v c.args.s.under) c.in_ok-number.ensures
+    (c.in_ok-other.ensures (v c.args.s.pivot_under)) c.requires.under
+    (subst (λ (o : Option Step). TellsStep o (over (v c.in_ok-number.number) (v c.args.s.under))
+    (over (v c.in_ok-other.other) (v c.args.s.pivot_under)) (over (v c.args.s.factor) (v c.args.s.under)))
+    c.in-None.is c.step_spot.ensures))
+
+pub returns-in-Some : goal.returns-in-Some
+returns-in-Some g c =
+    let v = g.T.Whole.value in
+    let f = c.args.first.now in
+    sym (first_found (suc (length f.columns.items + f.rows)) c.loop-j.j _ _
+    (omega (
+      arith,
+      c.loop-j-test.true,
+      c.in_ok-columns.ensures,
+      c.len-plain.ensures,
+      f.columns.ok.0,
+      c.requires.width,
+    )) c.loop-j.invariant
+    (step_told (revised_number v f.rows f.columns.items c.args.own.now c.args.numbers.now c.args.unders.now c.args.i)
+    (row_number v f.rows f.columns.items c.args.pivot.now (v c.args.s.pivot_under))
+    (under_at v c.args.unders.now c.args.i)
+    (v c.args.s.pivot_under) (over (v c.args.s.factor) (v c.args.s.under)) c.args.i c.loop-j.j (Some c.in-Some.step)
+    (v c.in_ok-number.number) (v c.in_ok-other.other) (v c.args.s.under) c.in_ok-number.ensures
+    (c.in_ok-other.ensures (v c.args.s.pivot_under)) c.requires.under
+    (subst (λ (o : Option Step). TellsStep o (over (v c.in_ok-number.number) (v c.args.s.under))
+    (over (v c.in_ok-other.other) (v c.args.s.pivot_under)) (over (v c.args.s.factor) (v c.args.s.under)))
+    c.in-Some.is c.step_spot.ensures)))
+
+pub returns : goal.returns
+returns g c =
+    let v = g.T.Whole.value in
+    let f = c.args.first.now in
+    sym (first_all-none (suc (length f.columns.items + f.rows)) _ (λ k l. first-none c.loop-j.j _ c.loop-j.invariant k
+    (omega (
+      arith,
+      l,
+      c.loop-j-test.false,
+      c.in_ok-columns.ensures,
+      c.len-plain.ensures,
+      f.columns.ok.0,
+      c.requires.width,
+    ))))

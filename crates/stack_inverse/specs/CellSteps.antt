@@ -1,0 +1,33 @@
+-- What is told of a row step cell by cell: the reduced cell, or the written step that is too wide for 128 bits.
+use Rattle.std.specs.Prelude.{◌≡◌, ℕ, ⊤, Option, Some, None, Result, Ok, Err}
+use Rattle.stack_algebra.specs.Fraction.{Fraction}
+use Rattle.stack_algebra.proofs.OrderedFractions.{ordered_fractions}
+use Rattle.stack_rational.specs.Laws.{widest}
+use Rattle.stack_rational.specs.TooWide.{is_too_wide}
+use Rattle.stack_table.specs.declared.types.Step.{Step}
+use Rattle.stack_table.specs.declared.types.PivotWide.{PivotWide}
+use Rattle.stack_table.specs.Spots.{reduced, reduce_item}
+use Rattle.stack_inverse.specs.declared.stops.Refusal.{Refusal}
+use Rattle.stack_inverse.specs.declared.stops.Refusal.TheVariants.{TooWide, Unsettled}
+
+-- the place of a step
+abbrev pub spot_at : (row column : ℕ) → Option Step → Option PivotWide
+spot_at i j None = None
+spot_at i j (Some s) = Some (record { row = i; column = j; step = s })
+
+-- the cell x less k times the pivot row's cell y, at which nothing is too wide; or the step that is
+abbrev pub TellsCell : Result Fraction Step → (x y k : Fraction) → Type 0
+TellsCell (Ok z) x y k = (z ≡ reduced ordered_fractions (λ _. x) (λ _. y) k 0)
+    × ((i j : ℕ) → reduce_item ordered_fractions (is_too_wide widest) (λ _. x) (λ _. y) k i j ≡ None)
+TellsCell (Err s) x y k = (i j : ℕ) →
+    reduce_item ordered_fractions (is_too_wide widest) (λ _. x) (λ _. y) k i j ≡ spot_at i j (Some s)
+
+-- the step alone
+abbrev pub TellsStep : Option Step → (x y k : Fraction) → Type 0
+TellsStep o x y k = (i j : ℕ) →
+    reduce_item ordered_fractions (is_too_wide widest) (λ _. x) (λ _. y) k i j ≡ spot_at i j o
+
+-- what a refusal says of the first place that is too wide
+abbrev pub TellsSpot : Refusal → Option PivotWide → Type 0
+TellsSpot (TooWide p) spot = spot ≡ Some p
+TellsSpot Unsettled spot = ⊤

@@ -1,0 +1,110 @@
+-- A table whose rows are kept in their artificial columns and their right side alone: the numbers in the plain columns
+-- are made from the first rows.
+use Rattle.std.specs.Prelude.{◌≡◌, ℕ, suc, ◌+◌, ◌-◌, ◌<◌, ◌≤◌, Bool, true, leb, ◌&&◌, cond, eqb, ltb, List, []}
+use Rattle.std.specs.Prelude.{◌∷◌, length, ℤ, pos, Option, Some, None}
+use Rattle.std.specs.Prelude.{◌*ℤ◌, ◌+ℤ◌, unsigned_abs}
+use Rattle.stack_algebra.specs.Fraction.{Fraction}
+use Rattle.stack_algebra.specs.Sums.{sum_to, sum_below}
+use Rattle.stack_algebra.proofs.Over.{over}
+use Rattle.stack_inverse.specs.declared.columns.Cell.{Cell}
+use Rattle.stack_inverse.specs.declared.columns.Column.{Column}
+use Rattle.stack_rows.specs.RowForm.{at_value, cell_at, number_at, under_at}
+
+-- the number of a row in a column f of the first rows
+abbrev pub combined : ℕ → (ℕ → ℤ) → (ℕ → ℤ) → ℤ
+combined m a f = sum_to m (λ r. a r *ℤ f r)
+
+-- the sum of the sizes of a column
+abbrev pub sizes : ℕ → (ℕ → ℤ) → ℕ
+sizes m f = sum_below 0 ◌+◌ m (λ r. unsigned_abs (f r))
+
+-- a number by where its column stands: plain, artificial, the right side, or past it
+abbrev pub by_place : (plain artificial last : Bool) → (x y z : ℤ) → ℤ
+by_place b c d x y z = cond b x (cond c y (cond d z (pos 0)))
+
+-- m rows, n plain columns, and the first rows in these: the number of a row over d with these own cells, artificial
+-- cells and right side
+abbrev pub number : (m n : ℕ) (F : ℕ → ℕ → ℤ) (own : ℕ → ℤ) (d : ℤ) (a : ℕ → ℤ) (s : ℤ) → ℕ → ℤ
+number m n F own d a s j = by_place (ltb j n) (ltb j (n + m)) (eqb j (n + m))
+    (d *ℤ own j +ℤ combined m a (λ r. F r j)) (a (j - n)) s
+
+-- no own cells
+abbrev pub plain_own : ℕ → ℤ
+plain_own j = pos 0
+
+-- the number in a row of a column of cells, 0 where none stands there
+abbrev pub entry_of : {V : Type 0} → (V → ℤ) → List (Cell V) → ℕ → ℤ
+entry_of value [] i = pos 0
+entry_of value (x ∷ xs) i = cond (eqb x.row i) (value x.value) (entry_of value xs i)
+
+-- each cell stands below m, in a row from `from` on that is below those of the cells after it
+abbrev pub rises : {V : Type 0} → (m from : ℕ) → List (Cell V) → Bool
+rises m from [] = true
+rises m from (x ∷ xs) = leb from x.row && (ltb x.row m && rises m (suc x.row) xs)
+
+-- the cells of column j
+abbrev pub cells_at : {V : Type 0} → List (Column V) → ℕ → List (Cell V)
+cells_at columns j = at_value (λ c. c.cells.items) [] columns j
+
+-- the first rows
+abbrev pub first_at : {V : Type 0} → (V → ℤ) → List (Column V) → ℕ → ℕ → ℤ
+first_at value columns r j = entry_of value (cells_at columns j) r
+
+-- columns of m rows, none of which has a greater sum of sizes than `most`
+pub record AreFirst {V : Type 0} (value : V → ℤ) (m n : ℕ) (columns : List (Column V)) (most : ℤ)
+    : Type 0 where
+  pub rising : (j : ℕ) → j < n → rises m 0 (cells_at columns j) ≡ true
+  pub within : (j : ℕ) → j < n → sizes m (λ r. first_at value columns r j) ≤ unsigned_abs most
+  pub some : 0 < unsigned_abs most
+
+-- own cells, none greater than `greatest`
+abbrev pub IsOwn : {V : Type 0} → (V → ℤ) → List V → ℤ → Type 0
+IsOwn value own greatest = (j : ℕ) → unsigned_abs (number_at value own j) ≤ unsigned_abs greatest
+
+-- those of row i, of which only the objective row m has some; and their bound
+abbrev pub revised_own : {V : Type 0} → (V → ℤ) → ℕ → List V → ℕ → ℕ → ℤ
+revised_own value m own i j = cond (eqb i m) (number_at value own j) (pos 0)
+
+abbrev pub greatest_at : ℕ → ℤ → ℕ → ℤ
+greatest_at m greatest i = cond (eqb i m) greatest (pos 0)
+
+-- the number in row i and column j of a block of rows of m artificial numbers and a right side
+abbrev pub revised_number : {V : Type 0} → (V → ℤ) → (m : ℕ) → List (Column V) → (own : List V) →
+    (ns ds : List V) → ℕ → ℕ → ℤ
+revised_number value m columns own ns ds i j = number m (length columns) (first_at value columns)
+    (revised_own value m own i) (under_at value ds i) (cell_at value (pos 0) (suc m) ns i)
+    (cell_at value (pos 0) (suc m) ns i m) j
+
+-- and the cell
+abbrev pub revised_cell : {V : Type 0} → (V → ℤ) → (m : ℕ) → List (Column V) → (own : List V) →
+    (ns ds : List V) → ℕ → ℕ → Fraction
+revised_cell value m columns own ns ds i j = over (revised_number value m columns own ns ds i j) (under_at value ds i)
+
+-- the numbers of a column, row by row
+abbrev pub AreEntered : {V : Type 0} → (V → ℤ) → (m : ℕ) → List (Column V) → (own ns ds : List V) → (column : ℕ) →
+    List V → Type 0
+AreEntered value m columns own ns ds column entered = (i : ℕ) → i ≤ m →
+    number_at value entered i ≡ revised_number value m columns own ns ds i column
+
+-- all numbers of the rows but row i stay
+abbrev pub AreKept : {V : Type 0} → (V → ℤ) → (m : ℕ) → List (Column V) → (own ns ds ns' ds' : List V) → ℕ → Type 0
+AreKept value m columns own ns ds ns' ds' i = (k j : ℕ) → (k ≡ i → ⊥) →
+    revised_number value m columns own ns' ds' k j ≡ revised_number value m columns own ns ds k j
+
+-- the number and the cell of one row without own cells
+abbrev pub row_number : {V : Type 0} → (V → ℤ) → (m : ℕ) → List (Column V) → List V → ℤ → ℕ → ℤ
+row_number value m columns row d j = number m (length columns) (first_at value columns) plain_own d
+    (number_at value row) (number_at value row m) j
+
+abbrev pub row_cell : {V : Type 0} → (V → ℤ) → (m : ℕ) → List (Column V) → List V → ℤ → ℕ →
+    Fraction
+row_cell value m columns row d j = over (row_number value m columns row d j) d
+
+-- the numbers with which phase 3 begins: those of the factor's row, whose cell in the factor's column is 1; 0 over 1
+-- without such a row
+abbrev pub IsFactorRow : {V : Type 0} → (V → ℤ) → (m : ℕ) → List (Column V) → (own ns ds : List V) → (column : ℕ) →
+    Option ℕ → (row : List V) → ℤ → Type 0
+IsFactorRow value m columns own ns ds column None row d = ((j : ℕ) → number_at value row j ≡ pos 0) × (d ≡ pos 1)
+IsFactorRow value m columns own ns ds column (Some r) row d =
+    ((j : ℕ) → number_at value row j ≡ cell_at value (pos 0) (suc m) ns r j) × (d ≡ under_at value ds r)
+    × (revised_number value m columns own ns ds r column ≡ under_at value ds r)

@@ -1,0 +1,50 @@
+-- The first rows of a problem in columns of cells, and the table with which a run begins.
+use Rattle.std.specs.Prelude.{◌≡◌, ℕ, suc, ◌+◌, ◌<◌, ⊤, Bool, cond, eqb, List, [], ◌∷◌, length, get_or, ℤ, pos, ◌-ℤ◌}
+use Rattle.std.specs.Prelude.{unsigned_abs}
+use Rattle.stack_algebra.specs.Sums.{sum_to, sum_of, sum_among}
+use Rattle.stack_table.specs.declared.problem.Entry.{Entry}
+use Rattle.stack_table.specs.declared.problem.Problem.{Problem as Lent}
+use Rattle.stack_table.specs.Problem.{is_below_zero, turned}
+use Rattle.stack_table.specs.Lent.{entries_at}
+use Rattle.stack_inverse.specs.declared.columns.Cell.{Cell}
+use Rattle.stack_inverse.specs.declared.columns.Column.{Column}
+use Rattle.stack_rows.specs.RowForm.{cell_at, under_at}
+use Rattle.stack_inverse.specs.Columns.{cells_at}
+
+-- whether a row is flipped, by the right sides
+abbrev pub flips : List ℤ → ℕ → Bool
+flips right i = is_below_zero (get_or right i (pos 0))
+
+-- the right side of a row, flipped as the row is
+abbrev pub load_at : List ℤ → ℕ → ℤ
+load_at right i = turned (flips right i) (get_or right i (pos 0))
+
+-- cells are the entries of a column, each flipped as its row is
+abbrev pub AreTurned : {V : Type 0} → (V → ℤ) → List ℤ → List Entry → List (Cell V) → Type 0
+AreTurned value right [] [] = ⊤
+AreTurned value right [] (c ∷ cs) = ⊥
+AreTurned value right (x ∷ xs) [] = ⊥
+AreTurned value right (x ∷ xs) (c ∷ cs) =
+    (c.row ≡ x.row) × (value c.value ≡ turned (flips right x.row) x.value) × AreTurned value right xs cs
+
+-- so in each column
+abbrev pub AreFirstColumns : {V : Type 0} → (V → ℤ) → Lent → List (Column V) → Type 0
+AreFirstColumns value P columns =
+    (j : ℕ) → j < length columns → AreTurned value P.right.items (entries_at P j) (cells_at columns j)
+
+-- the sum of the sizes of cells
+abbrev pub sizes_in : {V : Type 0} → (V → ℤ) → List (Cell V) → ℕ
+sizes_in value cells = sum_among 0 ◌+◌ (λ x. unsigned_abs (value x.value)) cells
+
+-- 0 less the values of cells
+abbrev pub less_cells : {V : Type 0} → (V → ℤ) → List (Cell V) → ℤ
+less_cells value cells = pos 0 -ℤ sum_of (λ x. value x.value) cells
+
+-- row i of a block of rows of m artificial numbers and a right side: 1 in its own artificial column, over 1
+pub record IsFirstRow {V : Type 0} (value : V → ℤ) (m : ℕ) (ns ds : List V) (i : ℕ) (load : ℤ) : Type 0 where
+  pub number : (j : ℕ) → cell_at value (pos 0) (suc m) ns i j ≡ cond (eqb j m) load (cond (eqb j i) (pos 1) (pos 0))
+  pub under : under_at value ds i ≡ pos 1
+
+-- 0 less the right sides of the first n rows
+abbrev pub less_loads : List ℤ → ℕ → ℤ
+less_loads right n = pos 0 -ℤ sum_to n (load_at right)

@@ -1,0 +1,6 @@
+pub mod RowBlock
+pub mod CellSteps
+pub mod Columns
+pub mod ShortRow
+pub mod Seen
+pub mod FirstTable

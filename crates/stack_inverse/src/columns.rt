@@ -1,0 +1,16 @@
+//! The first rows of a problem, column by column.
+
+use stack_rows::whole::Whole;
+
+/// A number in a row.
+#[derive(Clone, Copy)]
+pub struct Cell<T> {
+    pub row: usize,
+    pub value: T,
+}
+
+/// A column of the first rows, flipped as they are, by rising rows.
+#[derive(Drop)]
+pub struct Column<T: Whole> {
+    pub cells: Vec<Cell<T>>,
+}

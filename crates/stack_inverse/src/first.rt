@@ -1,0 +1,17 @@
+//! The first rows, and a bound of their columns.
+
+ghost use Rattle.std.specs.Prelude.{length};
+ghost use Rattle.stack_inverse.specs.Columns.{AreFirst};
+
+use crate::columns::Column;
+use stack_rows::whole::Whole;
+
+/// The first rows in the plain columns.
+#[derive(Drop)]
+pub struct First<T: Whole> {
+    pub columns: Vec<Column<T>>,
+    /// At least the sum of the sizes of each column, and at least 1.
+    pub most: T,
+    pub rows: usize,
+    ghost first: { AreFirst T.value rows (length columns.items) columns.items (T.value most) },
+}

@@ -1,0 +1,26 @@
+//! The table of a revised run: the inverse of its basis in whole numbers, from which the plain columns are made.
+//!
+//! Each row of the table is kept as whole numbers over one denominator: one for each artificial column, which make
+//! the inverse of the basis, and the right side. A number of a plain column is made from these and the first rows
+//! where it is needed. After the revised simplex method of Dantzig and Orchard-Hays (1954).
+//!
+//! ```text
+//! let mut table = RevisedTable::<Wide>::of_problem(alloc, &problem)?; // the written table
+//! table.enter(column) == Some(()); // the numbers of the column are made and kept
+//! table.pivot(row, column)?; // the table after the pivot, or the first operation that is too wide
+//! ```
+#![tactic(auto)]
+
+mod bounding;
+mod building;
+pub mod columns;
+mod filling;
+pub mod first;
+mod making;
+mod objective;
+mod pivoting;
+mod remaking;
+pub mod revised_table;
+mod short;
+mod spots;
+pub mod stops;

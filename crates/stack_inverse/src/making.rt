@@ -1,0 +1,189 @@
+//! Numbers of the plain columns, made from those of the artificial ones, and their bound.
+
+ghost use Rattle.std.specs.Prelude.{◌≡◌, ℕ, suc, ◌+◌, ◌*◌, ◌<◌, ◌≤◌, ◌+ℤ◌, ◌*ℤ◌, length, unsigned_abs, IfSome};
+ghost use Rattle.stack_algebra.specs.Sums.{sum_of};
+ghost use Rattle.std.specs.Prelude.{ℤ, OnSome};
+ghost use Rattle.stack_rows.specs.RowForm.{number_at};
+ghost use Rattle.stack_inverse.specs.RowBlock.{AreWithin, IsBound, IsTopped};
+ghost use Rattle.stack_inverse.specs.Columns.{revised_own, revised_number, row_number, AreEntered};
+
+use crate::columns::Cell;
+use crate::first::First;
+use stack_rows::whole::Whole;
+
+/// A sum and the product of two numbers. Most numbers of a row are 0.
+fn added<T: Whole>(sum: T, number: T, by: T) -> Option<T>
+    ensures { IfSome result (λ r. T.value r ≡ T.value sum +ℤ T.value number *ℤ T.value by) }
+{
+    if number.is_zero() {
+        return Some(sum);
+    }
+    let product = number.times(by)?;
+    let next = sum.plus(product)?;
+    Some(next)
+}
+
+/// A number and the products of a row with the numbers of a column.
+fn sum_over<T: Whole>(cells: &[Cell<T>], numbers: &[T], start: T) -> Option<T>
+    ensures { IfSome result (λ r. T.value r ≡ T.value start
+        +ℤ sum_of (λ x. number_at T.value numbers.now x.row *ℤ T.value x.value) cells.now) }
+{
+    let mut sum = start;
+    for cell in cells {
+        if cell.row >= numbers.len() {
+            return None;
+        }
+        let next = added(sum, numbers[cell.row], cell.value)?;
+        sum = next;
+    }
+    Some(sum)
+}
+
+/// The own number of a row: the objective row's, and 0 in the others.
+fn own_of<T: Whole>(rows: usize, own: &[T], i: usize, j: usize) -> T
+    requires { j < length own.now }
+    ensures { T.value result ≡ revised_own T.value rows own.now i j }
+{
+    if i == rows { own[j] } else { T::zero() }
+}
+
+/// The number in a row and a plain column, over the denominator of the row. None where a number doesn't fit.
+pub fn number_of<T: Whole>(
+    first: &First<T>,
+    own: &[T],
+    numbers: &[T],
+    unders: &[T],
+    i: usize,
+    j: usize,
+) -> Option<T>
+    requires room { i * suc first.now.rows + suc first.now.rows ≤ length numbers.now }
+    requires row_in { i < length unders.now }
+    requires column_in { j < length first.now.columns.items }
+    requires own_in { j < length own.now }
+    ensures { IfSome result (λ r. T.value r ≡ revised_number T.value first.now.rows first.now.columns.items own.now
+        numbers.now unders.now i j) }
+{
+    let width = first.rows + 1;
+    let from = i * width;
+    let own_cell = own_of(first.rows, own, i, j);
+    let start = added(T::zero(), own_cell, unders[i])?;
+    let number = sum_over(
+        first.columns[j].cells.as_slice(),
+        &numbers[from..from + width],
+        start,
+    )?;
+    Some(number)
+}
+
+/// Makes the numbers of a plain column, row by row. None where one doesn't fit.
+pub fn enter_column<T: Whole>(
+    first: &First<T>,
+    own: &[T],
+    numbers: &[T],
+    unders: &[T],
+    entered: &mut [T],
+    column: usize,
+) -> Option<()>
+    requires long { length entered.old ≡ suc first.now.rows }
+    requires whole { length numbers.now ≡ suc first.now.rows * suc first.now.rows }
+    requires unders { length unders.now ≡ suc first.now.rows }
+    requires column_in { column < length first.now.columns.items }
+    requires own_in { length own.now ≡ length first.now.columns.items }
+    ensures { OnSome result (AreEntered T.value first.now.rows first.now.columns.items own.now numbers.now unders.now
+        column entered.new) }
+{
+    for i in 0..entered.len() {
+        let number = number_of(first, own, numbers, unders, i, column)?;
+        entered[i] = number;
+    }
+    Some(())
+}
+
+/// Whichever is the greater in size. Most numbers of a row are 0.
+fn greater<T: Whole>(most: T, number: T) -> T
+    ensures own { unsigned_abs (T.value most) ≤ unsigned_abs (T.value result) }
+    ensures other { unsigned_abs (T.value number) ≤ unsigned_abs (T.value result) }
+{
+    if number.is_zero() {
+        return most;
+    }
+    most.wider(number)
+}
+
+/// The greatest in size of the first numbers.
+pub fn widest_of<T: Whole>(numbers: &[T], count: usize) -> T
+    requires { count ≤ length numbers.now }
+    ensures { (k : ℕ) → k < count → unsigned_abs (number_at T.value numbers.now k) ≤ unsigned_abs (T.value result) }
+{
+    let mut most = T::zero();
+    for k in 0..count {
+        most = greater(most, numbers[k]);
+    }
+    most
+}
+
+/// The bits of the sizes of the first numbers together.
+fn joined_in<T: Whole>(numbers: &[T], count: usize) -> u128
+    requires { count ≤ length numbers.now }
+    ensures { (k : ℕ) → k < count → unsigned_abs (number_at T.value numbers.now k) ≤ result }
+{
+    let mut size = 0;
+    for k in 0..count {
+        size = numbers[k].joined(size);
+    }
+    size
+}
+
+/// A number that is no less in size than each of the first numbers: of the bits of their sizes, or else the greatest.
+pub fn size_over<T: Whole>(numbers: &[T], count: usize) -> T
+    requires { length numbers.now ≡ suc count }
+    ensures { IsTopped T.value numbers.now (unsigned_abs (T.value result)) }
+{
+    match T::of_size(joined_in(numbers, count)) {
+        Some(size) => size,
+        None => widest_of(numbers, count),
+    }
+}
+
+/// A bound of all numbers of a row over this denominator, by its top. None where it doesn't fit.
+pub fn bound<T: Whole>(first: &First<T>, numbers: &[T], under: T, greatest: T, top: T) -> Option<T>
+    requires width { length numbers.now ≡ suc first.now.rows }
+    requires topped { IsTopped T.value numbers.now (unsigned_abs (T.value top)) }
+    ensures { IfSome result (λ b. IsBound T.value first.now.rows numbers.now (T.value under) (T.value first.now.most)
+        (T.value greatest) (T.value b)) }
+{
+    let combined = top.times(first.most)?;
+    let own = under.times(greatest)?;
+    let both = combined.sizes(own)?;
+    Some(both.wider(numbers[first.rows]))
+}
+
+/// The number of a row without own cells in any column, the right side last. None where it doesn't fit.
+pub fn row_number<T: Whole>(first: &First<T>, row: &[T], j: usize) -> Option<T>
+    requires width { length row.now ≡ suc first.now.rows }
+    requires column_in { j < suc (length first.now.columns.items + first.now.rows) }
+    ensures { IfSome result (λ r. (d : ℤ) → T.value r ≡ row_number T.value first.now.rows first.now.columns.items
+        row.now d j) }
+{
+    let plain = first.columns.len();
+    if j < plain {
+        let number = sum_over(first.columns[j].cells.as_slice(), row, T::zero())?;
+        return Some(number);
+    }
+    let k = j - plain;
+    Some(row[k])
+}
+
+/// The greatest in size of all numbers of a row without own cells. None where one doesn't fit.
+pub fn greatest_in<T: Whole>(first: &First<T>, row: &[T]) -> Option<T>
+    requires { length row.now ≡ suc first.now.rows }
+    ensures { IfSome result (λ b. (d : ℤ) → AreWithin (row_number T.value first.now.rows first.now.columns.items
+        row.now d) (T.value b)) }
+{
+    let mut most = widest_of(row, row.len());
+    for j in 0..first.columns.len() {
+        let number = row_number(first, row, j)?;
+        most = most.wider(number);
+    }
+    Some(most)
+}

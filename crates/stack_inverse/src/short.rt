@@ -1,0 +1,152 @@
+//! The least plain column with a negative number in the objective row, whose numbers are made in 64 bits.
+
+ghost use Rattle.std.specs.Prelude.{◌≡◌, ℕ, suc, ◌+◌, ◌*◌, ◌-◌, ◌^◌, ◌<◌, ◌≤◌, pos, ◌-ℤ◌, ◌*ℤ◌, ◌<ℤ◌, length};
+ghost use Rattle.std.specs.Prelude.{unsigned_abs, IfSome};
+ghost use Rattle.std.specs.List.{AllByRecursion};
+ghost use Rattle.stack_rows.specs.RowForm.{number_at, ArePositive};
+ghost use Rattle.stack_inverse.specs.Columns.{IsOwn, revised_number};
+ghost use Rattle.stack_inverse.specs.ShortRow.{products_in, product_sizes, own_number, IsShortRow, least_negative};
+
+use crate::columns::Cell;
+use crate::first::First;
+use crate::making::{bound, size_over};
+use stack_rows::whole::Whole;
+
+/// A number less a product. Most numbers of a row are 0.
+fn less_product<T: Whole>(sum: T, number: T, by: T, one: T) -> T
+    requires one { T.value one ≡ pos 1 }
+    requires number { unsigned_abs (T.value number) ≤ 2 ^ 63 - 1 }
+    requires both { unsigned_abs (T.value sum) + unsigned_abs (T.value number) * unsigned_abs (T.value by)
+        ≤ 2 ^ 63 - 1 }
+    ensures { T.value result ≡ T.value sum -ℤ T.value number *ℤ T.value by }
+{
+    if number.is_zero() {
+        return sum;
+    }
+    sum.short_step(number, one, by)
+}
+
+/// A number less the products of a row with the numbers of a column.
+fn less_products<T: Whole>(cells: &[Cell<T>], row: &[T], start: T, one: T) -> T
+    requires one { T.value one ≡ pos 1 }
+    requires rows { AllByRecursion (λ x. x.row < length row.now) cells.now }
+    requires numbers { (r : ℕ) → unsigned_abs (number_at T.value row.now r) ≤ 2 ^ 63 - 1 }
+    requires together { unsigned_abs (T.value start) + product_sizes T.value row.now cells.now ≤ 2 ^ 63 - 1 }
+    ensures { T.value result ≡ T.value start -ℤ products_in T.value row.now cells.now }
+{
+    let mut sum = start;
+    for cell in cells {
+        let number = row[cell.row];
+        sum = less_product(sum, number, cell.value, one);
+    }
+    sum
+}
+
+/// The opposite of the number of a row in a plain column.
+fn opposite_number<T: Whole>(
+    first: &First<T>,
+    own: &[T],
+    row: &[T],
+    under: T,
+    one: T,
+    j: usize,
+) -> T
+    requires one { T.value one ≡ pos 1 }
+    requires width { length row.now ≡ suc first.now.rows }
+    requires column_in { j < length first.now.columns.items }
+    requires own_in { j < length own.now }
+    requires short { IsShortRow T.value first.now.columns.items own.now row.now (T.value under) }
+    ensures { T.value result ≡ pos 0 -ℤ own_number T.value first.now.rows first.now.columns.items own.now row.now
+        (T.value under) j }
+{
+    let start = less_product(T::zero(), own[j], under, one);
+    less_products(first.columns[j].cells.as_slice(), row, start, one)
+}
+
+/// The least column below `among` in which a row has a negative number.
+fn first_negative<T: Whole>(
+    first: &First<T>,
+    own: &[T],
+    row: &[T],
+    under: T,
+    one: T,
+    among: usize,
+) -> Option<usize>
+    requires one { T.value one ≡ pos 1 }
+    requires width { length row.now ≡ suc first.now.rows }
+    requires among { among ≤ length first.now.columns.items }
+    requires owns { length own.now ≡ length first.now.columns.items }
+    requires short { IsShortRow T.value first.now.columns.items own.now row.now (T.value under) }
+    ensures value { result ≡ least_negative (own_number T.value first.now.rows first.now.columns.items own.now row.now
+        (T.value under)) among }
+    ensures below { IfSome result (λ j. j < among) }
+{
+    for j in 0..among {
+        let opposite = opposite_number(first, own, row, under, one, j);
+        if opposite.is_positive() {
+            return Some(j);
+        }
+    }
+    None
+}
+
+/// The same where a bound of the row's numbers fits 64 bits. None where it doesn't.
+fn negative_in<T: Whole>(
+    first: &First<T>,
+    own: &[T],
+    row: &[T],
+    under: T,
+    greatest: T,
+    among: usize,
+) -> Option<Option<usize>>
+    requires width { length row.now ≡ suc first.now.rows }
+    requires among { among ≤ length first.now.columns.items }
+    requires owns { length own.now ≡ length first.now.columns.items }
+    requires within { IsOwn T.value own.now (T.value greatest) }
+    requires positive { pos 0 <ℤ T.value under }
+    ensures value { IfSome result (λ r. r ≡ least_negative (own_number T.value first.now.rows
+        first.now.columns.items own.now row.now (T.value under)) among) }
+    ensures below { IfSome result (λ r. IfSome r (λ j. j < among)) }
+{
+    let one = T::from_wide(1)?;
+    let top = size_over(row, first.rows);
+    let most = bound(first, row, under, greatest, top)?;
+    if !most.is_short() {
+        return None;
+    }
+    Some(first_negative(first, own, row, under, one, among))
+}
+
+/// The least column below `among` in which the objective row has a negative number. None where a bound of its numbers
+/// doesn't fit 64 bits.
+pub fn short_negative<T: Whole>(
+    first: &First<T>,
+    own: &[T],
+    numbers: &[T],
+    unders: &[T],
+    greatest: T,
+    among: usize,
+) -> Option<Option<usize>>
+    requires room { first.now.rows * suc first.now.rows + suc first.now.rows ≤ length numbers.now }
+    requires row_in { first.now.rows < length unders.now }
+    requires among { among ≤ length first.now.columns.items }
+    requires owns { length own.now ≡ length first.now.columns.items }
+    requires within { IsOwn T.value own.now (T.value greatest) }
+    requires positive { ArePositive T.value unders.now }
+    ensures value { IfSome result (λ r. r ≡ least_negative (revised_number T.value first.now.rows
+        first.now.columns.items own.now numbers.now unders.now first.now.rows) among) }
+    ensures below { IfSome result (λ r. IfSome r (λ j. j < among)) }
+{
+    let width = first.rows + 1;
+    let from = first.rows * width;
+    let under = unders[first.rows];
+    let found = negative_in(
+        first,
+        own,
+        &numbers[from..from + width],
+        under,
+        greatest,
+        among,
+    )?;
+    Some(found)
+}

@@ -1,0 +1,165 @@
+//! The cells of a row step, one by one, at 128 bits.
+
+ghost use Rattle.std.specs.Prelude.{◌≡◌, true, suc, ◌+◌, ◌*◌, ◌<◌, ◌≤◌, pos, ◌*ℤ◌, ◌<ℤ◌, length, IfSome};
+ghost use Rattle.stack_algebra.proofs.Over.{over};
+ghost use Rattle.stack_algebra.proofs.OrderedFractions.{ordered_fractions};
+ghost use Rattle.stack_rational.specs.Laws.{widest};
+ghost use Rattle.stack_rational.specs.TooWide.{is_too_wide};
+ghost use Rattle.stack_table.specs.Spots.{reduce_spot};
+ghost use Rattle.stack_rows.specs.RowForm.{under_at, ArePositive};
+ghost use Rattle.stack_inverse.specs.Columns.{revised_cell, revised_number, row_cell};
+ghost use Rattle.stack_inverse.specs.CellSteps.{TellsCell, TellsStep};
+
+use crate::first::First;
+use crate::making::{number_of, row_number};
+use stack_rational::{Exact, Frac};
+use stack_rows::cells::cell;
+use stack_rows::factors::{Factors, step_under};
+use stack_rows::whole::Whole;
+use stack_table::types::{PivotWide, Step};
+
+/// What a row step is made of: the denominators of the row and of the pivot row, and the row's number in the pivot's
+/// column.
+#[derive(Clone, Copy)]
+pub struct RowStep<T> {
+    pub under: T,
+    pub pivot_under: T,
+    pub factor: T,
+}
+
+/// The cells of a row and of the pivot row in a column, and the row's cell in the pivot's column.
+#[derive(Clone, Copy)]
+struct Cells {
+    own: Frac<i128>,
+    pivot: Frac<i128>,
+    factor: Frac<i128>,
+}
+
+/// The cell less the factor times the pivot row's, or the step that is too wide.
+fn reduced(c: Cells) -> Result<Frac<i128>, Step>
+    ensures { TellsCell result c.own c.pivot c.factor }
+{
+    let product = match c.factor.product(c.pivot) {
+        Ok(product) => product,
+        Err(_) => return Err(Step::Multiply),
+    };
+    match c.own.difference(product) {
+        Ok(rest) => Ok(rest),
+        Err(_) => Err(Step::Subtract),
+    }
+}
+
+/// The cell that a row step makes of two numbers of a column, or the step that is too wide.
+pub fn reduced_cell<T: Whole>(s: RowStep<T>, own: T, pivot: T) -> Result<Frac<i128>, Step>
+    requires under { pos 0 <ℤ T.value s.under }
+    requires pivot_under { pos 0 <ℤ T.value s.pivot_under }
+    ensures { TellsCell result (over (T.value own) (T.value s.under)) (over (T.value pivot) (T.value s.pivot_under))
+        (over (T.value s.factor) (T.value s.under)) }
+{
+    reduced(Cells {
+        own: cell(own, s.under),
+        pivot: cell(pivot, s.pivot_under),
+        factor: cell(s.factor, s.under),
+    })
+}
+
+/// The step in a column that is too wide, if there is one.
+fn step_spot<T: Whole>(s: RowStep<T>, factors: Factors<T>, own: T, pivot: T) -> Option<Step>
+    requires widest { T.MAX ≡ widest }
+    requires under { pos 0 <ℤ T.value s.under }
+    requires pivot_under { pos 0 <ℤ T.value s.pivot_under }
+    requires some { pos 0 <ℤ T.value factors.times }
+    requires cross { T.value s.factor *ℤ T.value factors.times ≡ T.value factors.less *ℤ T.value s.pivot_under }
+    ensures { TellsStep result (over (T.value own) (T.value s.under)) (over (T.value pivot) (T.value s.pivot_under))
+        (over (T.value s.factor) (T.value s.under)) }
+{
+    match step_under(s.under, factors, own, pivot) {
+        Some(_over) => return None,
+        None => {}
+    }
+    match reduced_cell(s, own, pivot) {
+        Ok(_) => None,
+        Err(step) => Some(step),
+    }
+}
+
+/// The number in a row and any column, the right side last. None where it doesn't fit.
+fn number_in<T: Whole>(
+    first: &First<T>,
+    own: &[T],
+    numbers: &[T],
+    unders: &[T],
+    i: usize,
+    j: usize,
+) -> Option<T>
+    requires room { i * suc first.now.rows + suc first.now.rows ≤ length numbers.now }
+    requires row_in { i < length unders.now }
+    requires column_in { j < suc (length first.now.columns.items + first.now.rows) }
+    requires own_in { length own.now ≡ length first.now.columns.items }
+    ensures { IfSome result (λ r. T.value r ≡ revised_number T.value first.now.rows first.now.columns.items own.now
+        numbers.now unders.now i j) }
+{
+    let plain = first.columns.len();
+    if j < plain {
+        let number = number_of(first, own, numbers, unders, i, j)?;
+        return Some(number);
+    }
+    let width = first.rows + 1;
+    let k = i * width + (j - plain);
+    Some(numbers[k])
+}
+
+/// Whether the greatest size is that of 128 bits.
+pub fn is_widest<T: Whole>() -> bool
+    ensures { result ≡ true → T.MAX ≡ widest }
+{
+    match T::from_wide(170141183460469231731687303715884105727) {
+        Some(_most) => true,
+        None => false,
+    }
+}
+
+/// The first step of a row that is too wide, if there is one. None where a number doesn't fit.
+pub fn row_spot<T: Whole>(
+    first: &First<T>,
+    own: &[T],
+    numbers: &[T],
+    unders: &[T],
+    pivot: &[T],
+    s: RowStep<T>,
+    factors: Factors<T>,
+    i: usize,
+) -> Option<Option<PivotWide>>
+    requires widest { T.MAX ≡ widest }
+    requires width { length pivot.now ≡ suc first.now.rows }
+    requires room { i * suc first.now.rows + suc first.now.rows ≤ length numbers.now }
+    requires row_in { i < length unders.now }
+    requires own_in { length own.now ≡ length first.now.columns.items }
+    requires under { T.value s.under ≡ under_at T.value unders.now i }
+    requires positive { ArePositive T.value unders.now }
+    requires pivot_under { pos 0 <ℤ T.value s.pivot_under }
+    requires some { pos 0 <ℤ T.value factors.times }
+    requires cross { T.value s.factor *ℤ T.value factors.times ≡ T.value factors.less *ℤ T.value s.pivot_under }
+    ensures { IfSome result (λ r. r ≡ reduce_spot ordered_fractions (is_too_wide widest)
+        (suc (length first.now.columns.items + first.now.rows))
+        (revised_cell T.value first.now.rows first.now.columns.items own.now numbers.now unders.now i)
+        (row_cell T.value first.now.rows first.now.columns.items pivot.now (T.value s.pivot_under))
+        (over (T.value s.factor) (T.value s.under)) i) }
+{
+    let plain = first.columns.len();
+    let rest = pivot.len();
+    let columns = plain.checked_add(rest)?;
+    for j in 0..columns {
+        let number = number_in(first, own, numbers, unders, i, j)?;
+        let other = row_number(first, pivot, j)?;
+        match step_spot(s, factors, number, other) {
+            Some(step) => return Some(Some(PivotWide {
+                row: i,
+                column: j,
+                step,
+            })),
+            None => {}
+        }
+    }
+    Some(None)
+}

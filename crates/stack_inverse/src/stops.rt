@@ -1,0 +1,43 @@
+//! Why there is no table of a problem, and why a pivot isn't done.
+
+use stack_table::types::PivotWide;
+use std::alloc::{AllocError, AllocFailed};
+
+/// Why a pivot isn't done.
+#[derive(Clone, Copy, Debug, PartialEq, Eq, Drop)]
+pub enum Refusal {
+    /// The first operation that is too wide.
+    TooWide(PivotWide),
+    /// A number that the rows make doesn't fit. It tells nothing of the written run.
+    Unsettled,
+}
+
+/// Why a problem has no table.
+#[derive(Clone, Copy, Debug, PartialEq, Eq, Drop)]
+pub enum NoTable {
+    /// A number of the table doesn't fit. It tells nothing of the written run.
+    Unsettled,
+    Memory,
+}
+
+impl From<AllocError> for NoTable {
+    ghost use Rattle.std.specs.Prelude.{◌≡◌};
+    ghost use Rattle.stack_inverse.specs.declared.stops.NoTable.TheVariants as no_table;
+
+    ghost from_gives = { λ _ e. e ≡ no_table.Memory };
+
+    fn from(_e: AllocError) -> NoTable {
+        NoTable::Memory
+    }
+}
+
+impl<T: Drop> From<AllocFailed<T>> for NoTable {
+    ghost use Rattle.std.specs.Prelude.{◌≡◌};
+    ghost use Rattle.stack_inverse.specs.declared.stops.NoTable.TheVariants as no_table;
+
+    ghost from_gives = { λ _ e. e ≡ no_table.Memory };
+
+    fn from(_e: AllocFailed<T>) -> NoTable {
+        NoTable::Memory
+    }
+}

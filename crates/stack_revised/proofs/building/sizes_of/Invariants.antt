@@ -1,8 +1,0 @@
-use Rattle.std.proofs.Common.{◌≤◌, ◌+◌, drop, unsigned_abs}
-use Rattle.stack_revised.specs.FirstTable.{sizes_in}
-use Rattle.stack_revised.proofs.building.sizes_of.Given as goal
-
--- the sizes so far, and those of the cells that are left
-abbrev pub invariant-loop-cell : goal.invariant-loop-cell
-invariant-loop-cell g l = sizes_in g.T.Whole.value l.cells
-    ≤ unsigned_abs (g.T.Whole.value l.sum) + sizes_in g.T.Whole.value (drop l.cell-index l.cells)

@@ -1,6 +1,0 @@
-use Rattle.std.proofs.Common.{◌≡◌, ℕ, ◌<◌, pos}
-use Rattle.stack_revised.specs.RowForm.{number_at}
-use Rattle.stack_revised.proofs.objective.clear_row.Given as goal
-
-abbrev pub invariant-loop-j : goal.invariant-loop-j
-invariant-loop-j g l = (i : ℕ) → i < l.j → number_at g.T.Whole.value l.row i ≡ pos 0

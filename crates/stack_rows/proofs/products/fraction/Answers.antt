@@ -1,0 +1,28 @@
+use Rattle.std.proofs.Common.{◌≡◌, sym, ap, rules, ◌∙◌, true, false, pos, ◌<ℤ◌, arith}
+use mir.Val.{SFits}
+use mir.Facts.{to_z-of_z}
+use Rattle.std.specs.Int.{w128}
+use Rattle.std.proofs.lemmas.Int.{ints}
+use Rattle.stack_algebra.proofs.Fractions.{of, mul}
+use Rattle.stack_algebra.proofs.FractionField.{inv}
+use Rattle.stack_algebra.proofs.Over.{of-over}
+use Rattle.stack_rational.specs.Order.{is_zero_whole}
+use Rattle.stack_rows.proofs.Ratios.{ratio_over}
+use Rattle.stack_rows.proofs.products.fraction.Goals as goal
+
+pub quotient-requires : goal.quotient-requires
+quotient-requires c = λ e. let k : true ≡ false = sym (c.is_zero.ensures ∙ ap is_zero_whole e)
+    ∙ c.if-is_zero.false in cc
+
+pub returns-in-Ok-quotient : goal.returns-in-Ok-quotient
+returns-in-Ok-quotient c =
+    let n : SFits w128 c.args.q.number = search rules in
+    let d : SFits w128 c.args.q.under = search rules in
+    let p : pos 0 <ℤ c.args.q.under = search rules in (
+      p,
+      c.in-Ok-quotient.ensures.ok
+          ∙ (λ i. mul (inv (c.in-Ok-from_whole.ensures.ok i)) (c.in-Ok.ensures.ok i))
+          ∙ (λ i. mul (inv (of (to_z-of_z d i))) (of (to_z-of_z n i)))
+          ∙ (λ i. mul (inv (sym (of-over c.args.q.under) i)) (sym (of-over c.args.q.number) i))
+          ∙ ratio_over c.args.q.number c.args.q.under (pos 1) (omega (arith, ints)) p,
+    )

@@ -1,0 +1,15 @@
+use Rattle.std.proofs.Common.{◌≡◌, ℕ, ◌<◌, ◌≤◌, ◌-◌, length}
+use lib.IntN.{◌*ℤ◌, ◌-ℤ◌}
+use Rattle.stack_rows.specs.RowForm.{number_at}
+use Rattle.stack_rows.proofs.row.subtract.Given as goal
+
+abbrev pub invariant-loop-j : goal.invariant-loop-j
+invariant-loop-j g l = record {
+  done : (i : ℕ) → i < l.j → number_at g.T.Whole.value l.numbers i
+      ≡ number_at g.T.Whole.value l.fn.numbers i *ℤ g.T.Whole.value l.k
+      -ℤ g.T.Whole.value l.t *ℤ number_at g.T.Whole.value l.pivot i;
+  rest : (i : ℕ) → l.j ≤ i → number_at g.T.Whole.value l.numbers i ≡ number_at g.T.Whole.value l.fn.numbers i;
+}
+
+abbrev pub decreases-loop-j : goal.decreases-loop-j
+decreases-loop-j g l = length l.numbers - l.j
