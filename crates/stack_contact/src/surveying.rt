@@ -7,7 +7,6 @@ ghost use Rattle.stack_whole.specs.Limits.{most_free};
 ghost use Rattle.stack_contact.specs.FreeBlocks.{frees_of, free_of, frees_before};
 ghost use Rattle.stack_contact.specs.Surveyed.{Surveys, IsSurvey, surveyed};
 
-use crate::laws::one_survey;
 use crate::lists::all_found;
 use crate::types::{Bearing, Survey, SurveyError, Touch};
 use stack_model::Model;
@@ -40,14 +39,13 @@ pub fn survey_again(alloc: Global, s: &Survey, model: Model) -> Result<Survey, A
     requires bodies { (model_view model).bodies ≡ s.now.structure.bodies }
     ensures { IfOk result (λ r. r ≡ surveyed (model_view model) s.now.bearings s.now.touches) }
 {
-    one_survey();
-    let _survey = s.bearings();
-    match survey(alloc, model) {
-        Ok(other) => Ok(other),
-        Err(SurveyError::Memory) => Err(AllocError),
-        Err(SurveyError::Overlap { .. }) => unreachable!(),
-        Err(SurveyError::TooManyBearings { .. }) => unreachable!(),
-    }
+    let bearings = Vec::from_slice(alloc, s.bearings())?;
+    let touches = Vec::from_slice(alloc, s.touches())?;
+    Ok(Survey {
+        model,
+        bearings,
+        touches,
+    })
 }
 
 impl Survey {

@@ -11,6 +11,7 @@
 
 mod bodies;
 mod content;
+mod copying;
 mod errors;
 mod joints;
 mod kept;

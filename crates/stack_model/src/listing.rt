@@ -1,4 +1,4 @@
-//! The parts of a model, as a file lists them, and the model with other loads.
+//! The parts of a model, as a file lists them.
 
 ghost use Rattle.std.specs.Prelude.{◌≡◌, ◌<◌, ◌∷◌, [], IfOk, IsOk, Ok, map, option_map, length};
 ghost use Rattle.std.specs.List.{All};
@@ -13,7 +13,6 @@ ghost use Rattle.stack_model.specs.Raw.{lists_view};
 ghost use Rattle.stack_model.specs.Relisted.{coordinates, kind_word, material_listed, joint_listed, body_listed};
 ghost use Rattle.stack_model.specs.Relisted.{load_listed, sway_relisted, relisted};
 
-use crate::errors::ModelError;
 use crate::model::{Model, is_still};
 use crate::raw::{Parts, RawBlock, RawJoint, RawLoad, RawMaterial};
 use crate::types::Load;
@@ -189,19 +188,6 @@ fn parts_with(
     })
 }
 
-/// The model of parts without a fault.
-fn model_of(alloc: Global, parts: Parts) -> Result<Model, AllocError>
-    requires version { IsOfVersion (raw_parts parts) }
-    requires taken { IsOk (content_of (raw_parts parts)) }
-    ensures { IfOk result (λ m. content_of (raw_parts parts) ≡ Ok (model_view m)) }
-{
-    match Model::new(alloc, parts) {
-        Ok(model) => Ok(model),
-        Err(ModelError::Memory) => Err(AllocError),
-        Err(_) => unreachable!(),
-    }
-}
-
 impl Model {
     /// Parts of which `Model::new` makes the same model, unless memory runs out. `AllocError` where it ran out here.
     pub fn parts(&self, alloc: Global) -> Result<Parts, AllocError>
@@ -211,21 +197,5 @@ impl Model {
     {
         let _bodies = self.bodies();
         parts_with(alloc, self, self.all_loads(), self.sway())
-    }
-
-    /// The model with the same version, materials, joints and bodies, and with these loads and this sway. Each load is
-    /// within the limits and on a free body, there are at most 256, and the sway is (0, 0) unless the version is 2.
-    /// `AllocError` where memory ran out.
-    pub fn with_loads(
-        &self,
-        alloc: Global,
-        loads: &[Load],
-        sway: (i64, i64),
-    ) -> Result<Model, AllocError>
-        requires { MayBear (model_view self.now) loads.now sway }
-        ensures { IfOk result (λ m. model_view m ≡ bearing (model_view self.now) loads.now sway) }
-    {
-        let parts = parts_with(alloc, self, loads, sway)?;
-        model_of(alloc, parts)
     }
 }

@@ -1,6 +1,6 @@
 //! A model: its version, its sway, and the lists of its materials, joints, bodies and loads.
 
-ghost use Rattle.std.specs.Prelude.{◌≡◌, ◌↔◌, ◌<◌, ◌≤◌, ◌||◌, not, IsTrue, IfSome, false, length, map};
+ghost use Rattle.std.specs.Prelude.{◌≡◌, ◌↔◌, ◌<◌, ◌≤◌, ◌||◌, not, IsTrue, IfSome, false, length, map, IfOk};
 ghost use Rattle.std.specs.List.{list_any};
 ghost use Rattle.stack_model.specs.Parts.{IsOfVersion};
 ghost use Rattle.stack_polygon.specs.Limits.{IsPolygon};
@@ -15,15 +15,17 @@ ghost use Rattle.stack_model.specs.Gives.{Gives};
 ghost use Rattle.stack_model.specs.Content.{content_of};
 ghost use Rattle.stack_model.specs.Kept.{material_view, body_view, material_alone, body_alone};
 ghost use Rattle.stack_model.specs.ModelView.{model_view};
+ghost use Rattle.stack_model.specs.Borne.{MayBear, bearing};
 
 use crate::content::{bodies, head, joints, loads};
+use crate::copying::{bodies_again, materials_again};
 use crate::errors::ModelError;
 use crate::joints::terms_between;
 use crate::kept::{Head, KeptBody, KeptMaterial};
 use crate::raw::Parts;
 use crate::types::{Body, Joint, Load, Material};
 use stack_polygon::Polygon;
-use std::alloc::Global;
+use std::alloc::{AllocError, Global};
 
 /// A version, a sway, and materials, joints, bodies and loads, each numbered from 0 in the order of the file.
 #[derive(Debug, Drop)]
@@ -109,6 +111,29 @@ impl Model {
             bodies,
             loads,
         }
+    }
+
+    /// The model with the same version, materials, joints and bodies, and with these loads and this sway. Each load is
+    /// within the limits and on a free body, there are at most 256, and the sway is (0, 0) unless the version is 2.
+    /// `AllocError` where memory ran out.
+    pub fn with_loads(
+        &self,
+        alloc: Global,
+        loads: &[Load],
+        sway: (i64, i64),
+    ) -> Result<Model, AllocError>
+        requires { MayBear (model_view self.now) loads.now sway }
+        ensures { IfOk result (λ m. model_view m ≡ bearing (model_view self.now) loads.now sway) }
+    {
+        let head = Head {
+            version: self.head.version,
+            sway,
+        };
+        let materials = materials_again(alloc, self.materials.as_slice())?;
+        let joints = Vec::from_slice(alloc, self.joints.as_slice())?;
+        let bodies = bodies_again(alloc, self.bodies.as_slice())?;
+        let loads = Vec::from_slice(alloc, loads)?;
+        Ok(Model::of(head, materials, joints, bodies, loads))
     }
 
     /// The version of its file, 1 or 2.

@@ -15,6 +15,7 @@ use crate::lists::{first_far, first_unclear, reverse};
 use crate::point::{Point, Span};
 use crate::spans::span_of;
 use crate::turns::{next, triangle};
+use std::alloc::{AllocError, Global};
 use std::marker::Model;
 
 /// Three to 32 corners, counter-clockwise, each strictly left of every edge that it isn't an end of.
@@ -62,6 +63,14 @@ impl Polygon {
                 }
             }
         }
+    }
+
+    /// The same polygon, kept once more. `AllocError` where memory ran out.
+    pub fn again(&self, alloc: Global) -> Result<Polygon, AllocError>
+        ensures { IfOk result (λ p. p ≡ self.now) }
+    {
+        let corners = Vec::from_slice(alloc, self.corners.as_slice())?;
+        Ok(Polygon { corners })
     }
 
     /// The number of corners, 3 to 32.

@@ -1,24 +1,13 @@
-use Rattle.std.proofs.Common.{sym, ◌∙◌}
-use Rattle.stack_contact.specs.Surveyed.{surveyed}
-use Rattle.stack_contact.proofs.SameContacts.{same_contacts, is_answer, is_memory}
+use Rattle.std.proofs.Common.{◌≡◌, sym, ◌∙◌, subst}
+use Rattle.stack_contact.specs.Surveyed.{surveyed, IsSurvey}
+use Rattle.stack_contact.proofs.SameContacts.{same_contacts}
 use Rattle.stack_contact.proofs.surveying.survey_again.Goals as goal
 
-pub unreachable-requires : goal.unreachable-requires
-unreachable-requires c =
-    let e = sym c.in-Err-Overlap.field-0-is ∙ is_memory c.one_survey.ensures c.args.model c.in-Err-Overlap.field-0
-    (surveyed c.args.model c.args.s.now.bearings c.args.s.now.touches)
-    (same_contacts c.args.s.now c.args.model c.requires.materials c.requires.joints c.requires.bodies
-    c.bearings-survey.ensures.survey) (c.in-Err-Overlap.ensures) in cc e
-
-pub unreachable-requires-in-Err-TooManyBearings : goal.unreachable-requires-in-Err-TooManyBearings
-unreachable-requires-in-Err-TooManyBearings c =
-    let e = sym c.in-Err-TooManyBearings.field-0-is ∙ is_memory c.one_survey.ensures c.args.model
-    c.in-Err-TooManyBearings.field-0 (surveyed c.args.model c.args.s.now.bearings c.args.s.now.touches)
-    (same_contacts c.args.s.now c.args.model c.requires.materials c.requires.joints c.requires.bodies
-    c.bearings-survey.ensures.survey) (c.in-Err-TooManyBearings.ensures) in cc e
-
-pub returns-in-Ok : goal.returns-in-Ok
-returns-in-Ok c = is_answer c.one_survey.ensures c.args.model c.in-Ok.other
-    (surveyed c.args.model c.args.s.now.bearings c.args.s.now.touches)
-    (same_contacts c.args.s.now c.args.model c.requires.materials c.requires.joints c.requires.bodies
-    c.bearings-survey.ensures.survey) c.in-Ok.ensures
+pub invariant_of-result : goal.invariant_of-result
+invariant_of-result c =
+    let m = c.args.model in
+    subst (λ bs. IsSurvey m (surveyed m bs c.in_ok-touches.touches.items))
+    (sym (c.in_ok-bearings.ensures.items ∙ c.bearings.ensures.value))
+    (subst (λ ts. IsSurvey m (surveyed m c.args.s.now.bearings ts))
+    (sym (c.in_ok-touches.ensures.items ∙ c.touches.ensures))
+    (same_contacts c.args.s.now m c.requires.materials c.requires.joints c.requires.bodies c.bearings.ensures.survey))
