@@ -68,27 +68,3 @@ same_contacts v t m j b h =
     subst (λ s. IsSurvey s (surveyed s v.bearings v.touches)) same
     (with_other_loads s.materials s.joints s.bodies s.version t.version s.sway t.sway s.loads t.loads v.bearings
     v.touches h)
-
-abbrev answered : Surveyed → Result Surveyed SurveyError
-answered v = Ok v
-
--- whatever is answered to such a structure, but for want of memory, is this survey
-pub is_answer : StructuresHaveOneSurvey → (t : Structure) (v w : Surveyed) → IsSurvey t w → IsSurvey t v → v ≡ w
-is_answer law t v w hw hv = go (law t (Ok v) (Ok w) hv hw)
-  where
-    go : (answered v ≡ Err Memory) ⊎ ((answered w ≡ Err Memory) ⊎ (answered v ≡ answered w)) → v ≡ w
-    go (inl e) = absurd (cc e)
-    go (inr (inl e)) = absurd (cc e)
-    go (inr (inr e)) = cc e
-
-abbrev refused : SurveyError → Result Surveyed SurveyError
-refused e = Err e
-
-pub is_memory : StructuresHaveOneSurvey → (t : Structure) (e : SurveyError) (w : Surveyed) → IsSurvey t w →
-    Surveys t (Err e) → e ≡ Memory
-is_memory law t e w hw he = go (law t (Err e) (Ok w) he hw)
-  where
-    go : (refused e ≡ Err Memory) ⊎ ((answered w ≡ Err Memory) ⊎ (refused e ≡ answered w)) → e ≡ Memory
-    go (inl p) = cc p
-    go (inr (inl p)) = absurd (cc p)
-    go (inr (inr p)) = absurd (cc p)

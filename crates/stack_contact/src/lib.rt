@@ -17,7 +17,7 @@ mod sweeping;
 pub mod types;
 
 pub use pair::contacts;
-pub use surveying::{survey, survey_again};
+pub use surveying::{survey, survey_again, survey_of};
 
 #[cfg(test)]
 mod tests;

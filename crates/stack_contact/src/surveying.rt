@@ -31,6 +31,18 @@ pub fn survey(alloc: Global, model: Model) -> Result<Survey, SurveyError>
     })
 }
 
+/// The survey of a model that has these bearings and these touches.
+pub fn survey_of(model: Model, bearings: Vec<Bearing>, touches: Vec<Touch>) -> Survey
+    requires { IsSurvey (model_view model) (surveyed (model_view model) bearings.items touches.items) }
+    ensures { result ≡ surveyed (model_view model) bearings.items touches.items }
+{
+    Survey {
+        model,
+        bearings,
+        touches,
+    }
+}
+
 /// The survey of a model whose materials, joints and bodies are those of a survey: its bearings and its touches are the
 /// same, whatever its loads and its sway. `AllocError` where memory ran out.
 pub fn survey_again(alloc: Global, s: &Survey, model: Model) -> Result<Survey, AllocError>

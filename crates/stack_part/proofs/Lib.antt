@@ -1,5 +1,6 @@
 pub mod KeptItems
 pub mod PickedItems
+pub mod PickedSoFar
 pub mod PartSurveys
 pub mod KeptSoFar
 pub mod KeptLists

@@ -7,6 +7,7 @@
 //! ```
 #![tactic(auto)]
 
+mod contacts;
 mod keeping;
 pub mod laws;
 mod models;

@@ -4,10 +4,10 @@ ghost use Rattle.std.specs.Prelude.{◌≡◌, length, IfOk};
 ghost use Rattle.stack_part.specs.Kept.{flag_at};
 ghost use Rattle.stack_part.specs.Part.{surveyed_part};
 
+use crate::contacts::{kept_bearings, kept_touches};
 use crate::models::part;
-use stack_contact::laws::one_survey;
-use stack_contact::survey;
-use stack_contact::types::{Survey, SurveyError};
+use stack_contact::survey_of;
+use stack_contact::types::Survey;
 use std::alloc::{AllocError, Global};
 
 /// The survey of the bodies that are kept, as `part` has them: its bearings and its touches are those of the whole
@@ -17,13 +17,8 @@ pub fn survey_part(alloc: Global, s: &Survey, keeps: &[bool]) -> Result<Survey, 
     requires { length keeps.now ≡ length s.now.structure.bodies }
     ensures { IfOk result (λ p. p ≡ surveyed_part (flag_at keeps.now) s.now) }
 {
-    one_survey();
-    let _survey = s.bearings();
     let model = part(alloc, s.model(), keeps)?;
-    match survey(alloc, model) {
-        Ok(other) => Ok(other),
-        Err(SurveyError::Memory) => Err(AllocError),
-        Err(SurveyError::Overlap { .. }) => unreachable!(),
-        Err(SurveyError::TooManyBearings { .. }) => unreachable!(),
-    }
+    let bearings = kept_bearings(alloc, s.bearings(), keeps)?;
+    let touches = kept_touches(alloc, s.touches(), keeps)?;
+    Ok(survey_of(model, bearings, touches))
 }

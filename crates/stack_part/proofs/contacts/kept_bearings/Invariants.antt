@@ -1,0 +1,7 @@
+use Rattle.std.proofs.Common.{◌≡◌, take}
+use Rattle.stack_part.specs.Kept.{flag_at}
+use Rattle.stack_part.specs.Part.{bearings_among}
+use Rattle.stack_part.proofs.contacts.kept_bearings.Given as goal
+
+abbrev pub invariant-loop-k : goal.invariant-loop-k
+invariant-loop-k l = l.list.items ≡ bearings_among (flag_at l.keeps) (take l.k l.bearings)
