@@ -3,5 +3,6 @@ pub mod Faults
 pub mod Shelves
 pub mod Sinks
 pub mod Held
+pub mod Streams
 pub mod Memory
 pub mod Seen

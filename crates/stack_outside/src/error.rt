@@ -16,6 +16,10 @@ pub enum ShelfError {
     Memory,
 }
 
+/// One call of the system failed.
+#[derive(Clone, Copy, Debug, PartialEq, Eq)]
+pub struct CallFailed;
+
 /// The device failed, or had no room.
 #[derive(Clone, Copy, Debug, PartialEq, Eq)]
 pub struct SinkFailed;

@@ -14,18 +14,22 @@
 mod error;
 mod memory_shelf;
 mod memory_sink;
+mod raw;
 mod real_shelf;
 mod real_sink;
 mod shelf;
 mod sink;
+mod system;
 
-pub use error::{ShelfError, SinkFailed};
+pub use error::{CallFailed, ShelfError, SinkFailed};
 pub use memory_shelf::MemoryShelf;
 pub use memory_sink::MemorySink;
+pub use raw::{RawFile, RawFiles, RawStream};
 pub use real_shelf::RealShelf;
 pub use real_sink::{RealSink, Stream};
 pub use shelf::Shelf;
 pub use sink::Sink;
+pub use system::{SystemFile, SystemFiles, SystemStream};
 
 #[cfg(test)]
 mod tests;

@@ -1,6 +1,9 @@
-//! Shelves and sinks in memory, with their faults.
+//! Shelves and sinks in memory, with their faults, and the real ones over fakes and over the system.
+
+mod fakes;
 
 use super::*;
+use fakes::{FakeFiles, FakeStream};
 use std::fs;
 use std::test::*;
 
@@ -60,5 +63,70 @@ fn the_real_sink_writes_both_streams(rt: HostRuntime) -> Result<(), Fail> {
     let mut err = RealSink::new(&rt, Stream::Fault);
     assert!(rt; out.put(b"a line on standard output\n").is_ok());
     assert!(rt; err.put(b"a line on standard error\n").is_ok());
+    Ok(())
+}
+
+#[test]
+fn a_shelf_over_files_that_give_little_reads_all_or_fails(rt: HostRuntime) -> Result<(), Fail> {
+    let alloc = rt.alloc();
+    let bytes = b"block of stone".as_slice();
+    for step in 1..16 {
+        let files = FakeFiles {
+            bytes,
+            step,
+            fails: 0,
+        };
+        let mut shelf = RealShelf::over(files, alloc);
+        let read = shelf.read("plan", 14).ok().ok_or("held")?;
+        assert_eq!(rt; read.as_slice(), bytes, "at {step}");
+        assert!(rt; matches!(shelf.read("plan", 13), Err(ShelfError::TooLong)));
+    }
+    for fails in 1..9 {
+        let files = FakeFiles {
+            bytes,
+            step: 2,
+            fails,
+        };
+        let mut shelf = RealShelf::over(files, alloc);
+        assert!(rt;
+            matches!(shelf.read("plan", 14), Err(ShelfError::Failed)),
+            "at {fails}"
+        );
+    }
+    Ok(())
+}
+
+#[test]
+fn a_sink_over_streams_that_take_little_writes_all_or_a_front(rt: HostRuntime) -> Result<(), Fail> {
+    let alloc = rt.alloc();
+    for (step, fails, want) in [
+        (1, 0, 5),
+        (2, 0, 5),
+        (9, 0, 5),
+        (2, 1, 0),
+        (2, 3, 4),
+        (0, 0, 0),
+    ] {
+        let output = FakeStream {
+            bytes: Vec::new(alloc),
+            step,
+            calls: 0,
+            fails,
+        };
+        let fault = FakeStream {
+            bytes: Vec::new(alloc),
+            step,
+            calls: 0,
+            fails,
+        };
+        let mut sink = RealSink::over(Stream::Output, output, fault);
+        assert_eq!(rt;
+            sink.put(b"stone").is_ok(),
+            want == 5,
+            "at {step} and {fails}"
+        );
+        assert_eq!(rt; sink.output.bytes.as_slice(), &b"stone"[..want]);
+        assert_eq!(rt; sink.fault.bytes.len(), 0);
+    }
     Ok(())
 }

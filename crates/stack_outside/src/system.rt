@@ -1,0 +1,100 @@
+//! The calls of the system, and the whole trusted edge: one line, `fs::open` in `open`. The kit doesn't say what a name
+//! holds, so that nothing shows that this line opens the file asked for and does nothing else. All else here is proved:
+//! that reads and writes are handed on as they are, over any reader and any writer of the kit. Which stream is which is
+//! a matter of types, as each handle writes to its own. Of real files and streams the kit tells no bytes, and so the
+//! real devices tell none.
+
+ghost use Rattle.std.specs.Prelude.{◌≡◌, None};
+
+use crate::error::CallFailed;
+use crate::raw::{RawFile, RawFiles, RawStream};
+use crate::real_shelf::RealShelf;
+use crate::real_sink::{RealSink, Stream};
+use std::alloc::Global;
+use std::fs;
+use std::io::{Error, Read, Write};
+use std::rt::Files;
+
+/// The files of the system, by their paths.
+#[derive(Drop)]
+pub struct SystemFiles<'a, R: Files> {
+    rt: &'a R,
+}
+
+/// A file that is open for reading. It tells what its reader does.
+#[derive(Drop)]
+pub struct SystemFile<F: Read + Drop> {
+    reader: F,
+}
+
+/// A stream. It tells what its writer does.
+#[derive(Drop)]
+pub struct SystemStream<W: Write + Drop> {
+    writer: W,
+}
+
+impl From<Error> for CallFailed {
+    fn from(_e: Error) -> CallFailed {
+        CallFailed
+    }
+}
+
+impl<'a, R: Files> RawFiles for SystemFiles<'a, R> {
+    type File = SystemFile<R::File>;
+
+    ghost holds = { λ s name. None };
+
+    // Of no file is it known that no call fails.
+    ghost never_fails = { λ s name. ⊥ };
+
+    fn open(&self, name: &str) -> Result<SystemFile<R::File>, CallFailed> {
+        Ok(SystemFile {
+            reader: fs::open(self.rt, name)?,
+        })
+    }
+}
+
+impl<F: Read + Drop> RawFile for SystemFile<F> {
+    ghost left = { λ s. F.remaining s.reader };
+
+    ghost never_fails = { λ s. ⊥ };
+
+    fn read_some(&mut self, room: &mut [u8]) -> Result<usize, CallFailed> {
+        Ok(self.reader.read(room)?)
+    }
+}
+
+impl<W: Write + Drop> RawStream for SystemStream<W> {
+    ghost taken = { λ s. W.contents s.writer };
+
+    ghost never_fails = { λ s. ⊥ };
+
+    fn write_some(&mut self, piece: &[u8]) -> Result<usize, CallFailed> {
+        Ok(self.writer.write(piece)?)
+    }
+}
+
+impl<'a, R: Files> RealShelf<SystemFiles<'a, R>> {
+    /// The files of the system, with no fault yet; reads take their memory from `alloc`.
+    pub fn new(rt: &'a R, alloc: Global) -> RealShelf<SystemFiles<'a, R>>
+        ensures { result.faults ≡ 0 }
+    {
+        RealShelf::over(SystemFiles { rt }, alloc)
+    }
+}
+
+impl RealSink {
+    /// The standard stream, with no fault yet.
+    pub fn new(rt: &HostRuntime, stream: Stream) -> RealSink
+        ensures stream { result.stream ≡ stream }
+        ensures faults { result.faults ≡ 0 }
+    {
+        let output = SystemStream {
+            writer: rt.stdout(),
+        };
+        let fault = SystemStream {
+            writer: rt.stderr(),
+        };
+        RealSink::over(stream, output, fault)
+    }
+}
