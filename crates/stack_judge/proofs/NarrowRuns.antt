@@ -18,7 +18,7 @@ use Rattle.stack_run.specs.ProblemRun.{IsNowhereTooWide, WiderRunIsSame}
 use Rattle.stack_posing.specs.Posed.{posed}
 use Rattle.stack_simplex.specs.declared.ended.Ended.{Ended}
 use Rattle.stack_simplex.specs.declared.ended.Ended.TheVariants as ends
-use Rattle.stack_simplex.specs.declared.refusal.RunPlace.{RunPlace}
+use Rattle.stack_run.specs.declared.place.RunPlace.{RunPlace}
 use Rattle.stack_simplex.specs.declared.refusal.RunError.TheVariants as runs
 use Rattle.stack_simplex.specs.Ends.{ended_as, refused_as}
 use Rattle.stack_judge.specs.Judgement.{survey_run}

@@ -14,7 +14,7 @@ use Rattle.stack_equilibrium.specs.SurveyScene.{scene_of}
 use Rattle.stack_table.specs.declared.types.PivotWide.{PivotWide}
 use Rattle.stack_run.specs.WrittenRun.{End, infeasible, feasible, optimal, ray, wide, over, never}
 use Rattle.stack_run.specs.ProblemRun.{run_at}
-use Rattle.stack_simplex.specs.declared.refusal.RunPlace.{RunPlace}
+use Rattle.stack_run.specs.declared.place.RunPlace.{RunPlace}
 use Rattle.stack_posing.specs.Posed.{posed}
 use Rattle.stack_certified.specs.Certified.{end_certificate}
 use Rattle.stack_judge.specs.declared.types.JudgePlace.{JudgePlace}

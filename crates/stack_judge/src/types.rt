@@ -5,7 +5,7 @@ ghost use Rattle.stack_judge.specs.declared.types.JudgeError.TheVariants as judg
 
 use stack_checker::types::CheckPlace;
 use stack_extract::ExtractPlace;
-use stack_simplex::RunPlace;
+use stack_run::RunPlace;
 use std::alloc::AllocError;
 
 /// Where a number is more than 2^127 - 1 in size.

@@ -8,7 +8,7 @@ use Rattle.stack_checker.specs.declared.types.Part.TheVariants as parts
 use Rattle.stack_reader.specs.declared.errors.ReadError.{ReadError}
 use Rattle.stack_table.specs.declared.types.Step.{Step}
 use Rattle.stack_table.specs.declared.types.Step.TheVariants as steps
-use Rattle.stack_simplex.specs.declared.refusal.RunPlace.{RunPlace}
+use Rattle.stack_run.specs.declared.place.RunPlace.{RunPlace}
 use Rattle.stack_extract.specs.declared.types.Numbers.{Numbers}
 use Rattle.stack_extract.specs.declared.types.Numbers.TheVariants as numbers
 use Rattle.stack_extract.specs.declared.types.EndStep.{EndStep}

@@ -16,7 +16,7 @@ use stack_model::ModelError;
 use stack_overhang::StackError;
 use stack_reader::ReadError;
 use stack_report::number;
-use stack_simplex::RunPlace;
+use stack_run::RunPlace;
 use stack_stages::OrderError;
 use stack_table::types::Step;
 use stack_yield::{DirectionsError, NoPair};

@@ -19,14 +19,15 @@ use Rattle.stack_run.specs.WrittenRun.{written_run}
 use Rattle.stack_duality.proofs.BestRow.{best-some}
 use Rattle.stack_duality.proofs.Turn.{turn_settled, turn_unlimited, turn_spent, turn_too_wide, turn_pivots}
 use Rattle.stack_duality.proofs.Turn.{drives_on, drives_too_wide, drives_spent}
-use Rattle.stack_revised.specs.declared.pivots.Pivots.{Pivots}
-use Rattle.stack_simplex.specs.Stops.{spot_of}
+use Rattle.stack_run.specs.declared.pivots.Pivots.{Pivots}
+use Rattle.stack_run.specs.PhaseStops.{spot_of}
 use Rattle.stack_table.specs.declared.types.PivotWide.{PivotWide}
 use Rattle.stack_inverse.specs.declared.stops.Refusal.{Refusal}
 use Rattle.stack_inverse.specs.declared.stops.Refusal.TheVariants as refusals
 use Rattle.stack_revised.specs.declared.stops.Stop.{Stop}
 use Rattle.stack_revised.specs.declared.stops.Stop.TheVariants.{TooWide, Spent, Unsettled}
-use Rattle.stack_revised.specs.Tells.{IsPivoted, TellsPivot, TellsStop, TellsEnd, phase_from, stop_at}
+use Rattle.stack_run.specs.PhaseStops.{IsPivoted, phase_from}
+use Rattle.stack_revised.specs.Tells.{TellsPivot, TellsStop, TellsEnd, stop_at}
 use Rattle.stack_inverse.specs.CellSteps.{TellsSpot}
 
 module _ (S : Shape) (T : Tabled Fraction) where

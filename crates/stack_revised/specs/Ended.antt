@@ -10,7 +10,7 @@ use Rattle.stack_revised.specs.declared.stops.RevisedStop.{RevisedStop}
 use Rattle.stack_revised.specs.declared.stops.RevisedStop.TheVariants.{TooWide, Spent, Unsettled, Memory}
 use Rattle.stack_revised.specs.declared.stops.Stop.{Stop}
 use Rattle.stack_revised.specs.declared.stops.Stop.TheVariants as stops
-use Rattle.stack_simplex.specs.Stops.{spot_of}
+use Rattle.stack_run.specs.PhaseStops.{spot_of}
 use Rattle.stack_revised.specs.declared.last.Last.{Last}
 use Rattle.stack_revised.specs.declared.ended.RevisedEnd.{RevisedEnd}
 use Rattle.stack_revised.specs.declared.ended.RevisedEnd.TheVariants.{AtNarrow, AtWide}

@@ -1,43 +1,26 @@
 -- What the answers of phases and runs over rows tell of the written run at a width. `Unsettled` tells nothing.
-use Rattle.std.specs.Prelude.{◌≡◌, ℕ, suc, ◌<◌, ℤ, ⊤, Option, Some, None, Result, Ok, Err}
+use Rattle.std.specs.Prelude.{◌≡◌, ℕ, ℤ, ⊤, Option, Result, Ok, Err}
 use Rattle.stack_algebra.specs.Fraction.{Fraction}
-use Rattle.stack_algebra.proofs.OrderedFractions.{ordered_fractions}
-use Rattle.stack_rational.specs.TooWide.{is_too_wide}
 use Rattle.stack_table.specs.declared.types.PivotWide.{PivotWide}
 use Rattle.stack_table.specs.Table.{Shape, Tabled}
-use Rattle.stack_run.specs.WrittenRun.{PhaseStop, settled, unlimited, wide_at, spent, turns, End}
+use Rattle.stack_run.specs.WrittenRun.{PhaseStop, settled, wide_at, spent, End}
 use Rattle.stack_run.specs.WrittenRun.{wide, over}
-use Rattle.stack_simplex.specs.declared.refusal.RunPlace.{RunPlace}
-use Rattle.stack_simplex.specs.Stops.{spot_of}
-use Rattle.stack_revised.specs.declared.pivots.Pivots.{Pivots}
+use Rattle.stack_run.specs.PhaseStops.{spot_of, IsPivoted, IsTooWideAt, phase_from, stop_of}
+use Rattle.stack_run.specs.declared.pivots.Pivots.{Pivots}
 use Rattle.stack_inverse.specs.declared.stops.Refusal.{Refusal}
 use Rattle.stack_inverse.specs.declared.stops.Refusal.TheVariants as refusals
 use Rattle.stack_revised.specs.declared.stops.Stop.{Stop}
 use Rattle.stack_revised.specs.declared.stops.Stop.TheVariants.{TooWide, Spent, Unsettled}
-use Rattle.stack_revised.specs.declared.stops.PhaseEnd.{PhaseEnd}
-use Rattle.stack_revised.specs.declared.stops.PhaseEnd.TheVariants.{Settled, Unlimited}
-use Rattle.stack_revised.specs.declared.stops.Turn.{Turn}
-use Rattle.stack_revised.specs.declared.stops.Turn.TheVariants.{Stops, GoesOn}
+use Rattle.stack_run.specs.declared.stops.PhaseEnd.{PhaseEnd}
+use Rattle.stack_run.specs.declared.stops.Turn.{Turn}
+use Rattle.stack_run.specs.declared.stops.Turn.TheVariants.{Stops, GoesOn}
 use Rattle.stack_last.specs.declared.kind.EndKind.{EndKind}
 use Rattle.stack_last.specs.Ends.{end_at}
-
--- a pivot that is nowhere too wide: one more is done, one less is left
-pub record IsPivoted (before after : Pivots) (spot : Option PivotWide) : Type 0 where
-  pub done : after.done ≡ suc before.done
-  pub left : before.left ≡ suc after.left
-  pub is_nowhere_too_wide : spot ≡ None
-
--- a pivot that is first too wide at the place
-pub record IsWideAt (phase : ℕ) (before : Pivots) (p : RunPlace) (spot : Option PivotWide) : Type 0 where
-  pub some_left : 0 < before.left
-  pub in_phase : p.phase ≡ phase
-  pub next_pivot : p.pivot ≡ suc before.done
-  pub first : spot ≡ Some (spot_of p)
 
 -- what the answer of a pivot that is due says
 abbrev pub TellsPivot : Result Pivots Stop → (phase : ℕ) → Pivots → Option PivotWide → Type 0
 TellsPivot (Ok k) phase before spot = IsPivoted before k spot
-TellsPivot (Err (TooWide p)) phase before spot = IsWideAt phase before p spot
+TellsPivot (Err (TooWide p)) phase before spot = IsTooWideAt phase before p spot
 TellsPivot (Err Spent) phase before spot = before.left ≡ 0
 TellsPivot (Err Unsettled) phase before spot = ⊤
 
@@ -46,15 +29,6 @@ abbrev pub stop_at : Refusal → (phase pivot : ℕ) → Stop
 stop_at (refusals.TooWide spot) phase pivot =
     TooWide (record { phase = phase; pivot = pivot; row = spot.row; column = spot.column; step = spot.step })
 stop_at refusals.Unsettled phase pivot = Unsettled
-
--- a phase of the written run at a greatest value, from a table and the pivots done and left
-abbrev pub phase_from : ℤ → Shape → (phase among : ℕ) → Pivots → Tabled Fraction → PhaseStop Fraction
-phase_from max S phase among k T = turns ordered_fractions S (is_too_wide max) phase among k.left k.done T
-
--- what an end of a phase says, with the table that is left
-abbrev pub stop_of : Tabled Fraction → PhaseEnd → PhaseStop Fraction
-stop_of T (Settled k) = settled k.left k.done T
-stop_of T (Unlimited c) = unlimited T c
 
 -- what a refusal says of a phase
 abbrev pub TellsStop : Stop → PhaseStop Fraction → Type 0
@@ -72,11 +46,6 @@ abbrev pub TellsTurn : ℤ → Shape → (phase among : ℕ) → Tabled Fraction
 TellsTurn max S phase among T (Ok (Stops x)) X = stop_of T x ≡ X
 TellsTurn max S phase among T (Ok (GoesOn k)) X = phase_from max S phase among k T ≡ X
 TellsTurn max S phase among T (Err e) X = TellsStop e X
-
--- a turn that goes on leaves fewer pivots
-abbrev pub HasFewer : Pivots → Turn → Type 0
-HasFewer before (Stops x) = ⊤
-HasFewer before (GoesOn k) = k.left < before.left
 
 -- and that of phases 1 and 2
 abbrev pub TellsPivots : Tabled Fraction → Result Pivots Stop → PhaseStop Fraction → Type 0

@@ -18,7 +18,6 @@ mod choices;
 pub mod ended;
 pub mod last;
 pub mod phases;
-pub mod pivots;
 mod reading;
 mod running;
 pub mod stops;

@@ -11,12 +11,12 @@ ghost use Rattle.stack_run.specs.WrittenRun.{turns, driven_column, drive_row, dr
 ghost use Rattle.stack_inverse.specs.Seen.{shape_of_revised, table_of_revised};
 ghost use Rattle.stack_revised.specs.Tells.{TellsPivot, TellsPivots, TellsPhase, TellsRun};
 
-use crate::pivots::Pivots;
-use crate::stops::{PhaseEnd, Stop};
+use crate::stops::Stop;
 use crate::turn::{due_pivot, run_phase};
 use stack_inverse::revised_table::RevisedTable;
 use stack_last::EndKind;
 use stack_rows::whole::Whole;
+use stack_run::{PhaseEnd, Pivots};
 
 /// The least column before the artificial ones in which the row isn't 0.
 ///

@@ -1,7 +1,6 @@
 //! How phases and runs over rows stop.
 
-use crate::pivots::Pivots;
-use stack_simplex::RunPlace;
+use stack_run::RunPlace;
 use std::alloc::{AllocError, AllocFailed};
 
 /// Why a run over rows has no end.
@@ -47,19 +46,4 @@ impl<T: Drop> From<AllocFailed<T>> for RevisedStop {
     fn from(_e: AllocFailed<T>) -> RevisedStop {
         RevisedStop::Memory
     }
-}
-
-/// How a phase stops where nothing is refused.
-pub enum PhaseEnd {
-    /// No column enters.
-    Settled(Pivots),
-    /// The column enters, and no row leaves.
-    Unlimited(usize),
-}
-
-/// What a turn does where nothing is refused.
-pub enum Turn {
-    Stops(PhaseEnd),
-    /// A pivot is done.
-    GoesOn(Pivots),
 }

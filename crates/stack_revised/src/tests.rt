@@ -1,11 +1,9 @@
-//! Runs worked by hand, beside the run of their tables.
+//! Runs worked by hand.
 
 use crate::ended::RevisedEnd;
 use crate::{RevisedStop, run_revised};
 use stack_last::EndKind;
-use stack_rational::Frac;
-use stack_simplex::{Ended, RunError, RunPlace, run};
-use stack_table::Table;
+use stack_run::RunPlace;
 use stack_table::problem::{Column, Entry, Problem};
 use stack_table::types::Step;
 use std::alloc::{AllocError, Global};
@@ -71,7 +69,7 @@ fn kind_of(kind: EndKind) -> Outcome {
     }
 }
 
-/// What the run by the artificial columns tells of a sound problem.
+/// What the run of a sound problem tells.
 fn told(alloc: Global, p: &Problem, budget: u32) -> Outcome {
     if budget == 0 {
         return Outcome::Nothing;
@@ -89,45 +87,18 @@ fn told(alloc: Global, p: &Problem, budget: u32) -> Outcome {
     }
 }
 
-/// What the run of its table tells.
-fn told_by_table(alloc: Global, p: &Problem, budget: u32) -> Outcome {
-    if budget == 0 {
-        return Outcome::Nothing;
-    }
-    if !p.is_sound() {
-        return Outcome::Nothing;
-    }
-    let table = match Table::<Frac<i128>>::build(alloc, p) {
-        Ok(table) => table,
-        Err(_) => return Outcome::Nothing,
-    };
-    match run(table, budget) {
-        Ok(Ended::Infeasible(_)) => Outcome::Infeasible,
-        Ok(Ended::Feasible(_)) => Outcome::Feasible,
-        Ok(Ended::Optimal(_)) => Outcome::Optimal,
-        Ok(Ended::Ray { column, .. }) => Outcome::Ray(column),
-        Err(RunError::Spent) => Outcome::Spent,
-        Err(RunError::TooWide(place)) => Outcome::TooWide(place),
-    }
-}
-
-/// Both tell this.
-fn both(alloc: Global, p: &Problem, budget: u32, outcome: Outcome) -> bool {
-    told(alloc, p, budget) == outcome && told_by_table(alloc, p, budget) == outcome
-}
-
 /// A post 2 wide and 4 high. A push of one unit at its upper left corner is borne up to the factor 2.
 #[test]
 fn a_post_stands_after_four_pivots_and_is_pushed_for_five(rt: HostRuntime) -> Result<(), Fail> {
     let alloc = rt.alloc();
     let contact = [[1, 1, 0, 0], [-1, 1, 0, 0], [1, 1, 2, 0], [-1, 1, 2, 0]];
     let post = problem(alloc, &contact, None, &[0, 48, 48])?;
-    assert!(rt; both(alloc, &post, 3, Outcome::Spent));
-    assert!(rt; both(alloc, &post, 4, Outcome::Feasible));
+    assert!(rt; told(alloc, &post, 3) == Outcome::Spent);
+    assert!(rt; told(alloc, &post, 4) == Outcome::Feasible);
     let push = column(alloc, &[6, 0, -24])?;
     let pushed = problem(alloc, &contact, Some(push), &[0, 48, 48])?;
-    assert!(rt; both(alloc, &pushed, 4, Outcome::Spent));
-    assert!(rt; both(alloc, &pushed, 5, Outcome::Optimal));
+    assert!(rt; told(alloc, &pushed, 4) == Outcome::Spent);
+    assert!(rt; told(alloc, &pushed, 5) == Outcome::Optimal);
     Ok(())
 }
 
@@ -136,15 +107,15 @@ fn a_post_stands_after_four_pivots_and_is_pushed_for_five(rt: HostRuntime) -> Re
 fn the_other_ends_are_told(rt: HostRuntime) -> Result<(), Fail> {
     let alloc = rt.alloc();
     let pulled = problem(alloc, &[[-1, 0, 0, 0]], None, &[1])?;
-    assert!(rt; both(alloc, &pulled, 1, Outcome::Infeasible));
+    assert!(rt; told(alloc, &pulled, 1) == Outcome::Infeasible);
     let push = column(alloc, &[-1])?;
     let pressed = problem(alloc, &[[1, 0, 0, 0]], Some(push), &[1])?;
-    assert!(rt; both(alloc, &pressed, 1, Outcome::Ray(1)));
+    assert!(rt; told(alloc, &pressed, 1) == Outcome::Ray(1));
     let nothing = column(alloc, &[])?;
     let doubled = problem(alloc, &[[1, 1, 0, 0]], Some(nothing), &[1, 1])?;
-    assert!(rt; both(alloc, &doubled, 1, Outcome::Ray(1)));
+    assert!(rt; told(alloc, &doubled, 1) == Outcome::Ray(1));
     let empty = problem(alloc, &[], None, &[])?;
-    assert!(rt; both(alloc, &empty, 1, Outcome::Feasible));
+    assert!(rt; told(alloc, &empty, 1) == Outcome::Feasible);
     Ok(())
 }
 
@@ -163,8 +134,8 @@ fn beales_example_ends(rt: HostRuntime) -> Result<(), Fail> {
     ];
     let factor = column(alloc, &[0, 0, 0, 100])?;
     let example = problem(alloc, &contact, Some(factor), &[0, 0, -1, 0])?;
-    assert!(rt; both(alloc, &example, 9, Outcome::Spent));
-    assert!(rt; both(alloc, &example, 10, Outcome::Optimal));
+    assert!(rt; told(alloc, &example, 9) == Outcome::Spent);
+    assert!(rt; told(alloc, &example, 10) == Outcome::Optimal);
     Ok(())
 }
 
@@ -179,7 +150,7 @@ fn wide_entries_are_taken_at_128_bits(rt: HostRuntime) -> Result<(), Fail> {
         None,
         &[large, large],
     )?;
-    assert!(rt; both(alloc, &wide, 2, Outcome::Feasible));
+    assert!(rt; told(alloc, &wide, 2) == Outcome::Feasible);
     Ok(())
 }
 
@@ -201,7 +172,7 @@ fn a_refused_run_has_one_place(rt: HostRuntime) -> Result<(), Fail> {
         column: 1,
         step: Step::Multiply,
     };
-    assert!(rt; both(alloc, &apart, 9, Outcome::TooWide(place)));
+    assert!(rt; told(alloc, &apart, 9) == Outcome::TooWide(place));
     Ok(())
 }
 
@@ -216,7 +187,7 @@ fn a_row_whose_bound_does_not_fit_goes_on(rt: HostRuntime) -> Result<(), Fail> {
         None,
         &[large, large - 1],
     )?;
-    assert!(rt; both(alloc, &close, 1, Outcome::Spent));
-    assert!(rt; both(alloc, &close, 2, Outcome::Feasible));
+    assert!(rt; told(alloc, &close, 1) == Outcome::Spent);
+    assert!(rt; told(alloc, &close, 2) == Outcome::Feasible);
     Ok(())
 }

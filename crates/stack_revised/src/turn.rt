@@ -6,15 +6,15 @@ ghost use Rattle.stack_rational.specs.TooWide.{is_too_wide};
 ghost use Rattle.stack_table.specs.Table.{plain, pivoted_at};
 ghost use Rattle.stack_table.specs.Spots.{pivot_spot};
 ghost use Rattle.stack_inverse.specs.Seen.{shape_of_revised, table_of_revised, IsEntered};
-ghost use Rattle.stack_revised.specs.Tells.{TellsPivot, TellsTurn, TellsPhase, HasFewer, phase_from, stop_at};
+ghost use Rattle.stack_run.specs.PhaseStops.{HasFewer, phase_from};
+ghost use Rattle.stack_revised.specs.Tells.{TellsPivot, TellsTurn, TellsPhase, stop_at};
 
 use crate::choices::{entering, leaving};
-use crate::pivots::Pivots;
-use crate::stops::{PhaseEnd, Stop, Turn};
+use crate::stops::Stop;
 use stack_inverse::revised_table::RevisedTable;
 use stack_inverse::stops::Refusal;
 use stack_rows::whole::Whole;
-use stack_simplex::RunPlace;
+use stack_run::{PhaseEnd, Pivots, RunPlace, Turn};
 
 /// Why a phase stops where a pivot of it isn't done.
 fn stopped_at(refusal: Refusal, phase: u8, pivot: u64) -> Stop

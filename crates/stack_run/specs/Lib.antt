@@ -1,3 +1,4 @@
 pub mod WrittenRun
 pub mod ProblemRun
 pub mod EndNumbers
+pub mod PhaseStops

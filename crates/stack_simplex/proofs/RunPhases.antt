@@ -14,11 +14,12 @@ use Rattle.stack_duality.specs.FourEnds.{EndGives}
 use Rattle.stack_duality.specs.Laws.{EndsGive, SomeRowLeaves}
 use Rattle.stack_circles.specs.Enough.{enough_of}
 use Rattle.stack_circles.specs.Laws.{EnoughSuffices}
-use Rattle.stack_simplex.specs.declared.pivots.Pivots.{Pivots}
+use Rattle.stack_run.specs.declared.pivots.Pivots.{Pivots}
 use Rattle.stack_simplex.specs.declared.refusal.RunError.{RunError}
 use Rattle.stack_simplex.specs.declared.refusal.RunError.TheVariants.{TooWide, Spent}
-use Rattle.stack_simplex.specs.declared.turn.PhaseEnd.{PhaseEnd}
-use Rattle.stack_simplex.specs.Phases.{refusal_of, stop_of}
+use Rattle.stack_run.specs.declared.stops.PhaseEnd.{PhaseEnd}
+use Rattle.stack_run.specs.PhaseStops.{stop_of}
+use Rattle.stack_simplex.specs.Phases.{refusal_of}
 use Rattle.stack_simplex.specs.Written.{IsTableOf, IsWrittenTable}
 use Rattle.stack_simplex.specs.Ends.{refused_as}
 

@@ -7,10 +7,10 @@ use Rattle.stack_rational.specs.TooWide.{is_too_wide}
 use Rattle.stack_table.specs.Table.{Shape, Tabled}
 use Rattle.stack_run.specs.WrittenRun.{settled, drive_row, drives}
 use Rattle.stack_duality.proofs.Turn.{drives_on, drives_too_wide, drives_spent}
-use Rattle.stack_simplex.specs.declared.pivots.Pivots.{Pivots}
+use Rattle.stack_run.specs.declared.pivots.Pivots.{Pivots}
 use Rattle.stack_simplex.specs.declared.refusal.RunError.{RunError}
 use Rattle.stack_simplex.specs.declared.refusal.RunError.TheVariants.{TooWide, Spent}
-use Rattle.stack_simplex.specs.Stops.{spot_of}
+use Rattle.stack_run.specs.PhaseStops.{spot_of}
 use Rattle.stack_simplex.specs.Phases.{refusal_of}
 
 -- the rows after row i, where the rows before it left the table U and the pivots k

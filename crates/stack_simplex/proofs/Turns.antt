@@ -9,14 +9,16 @@ use Rattle.stack_table.specs.Spots.{pivot_spot}
 use Rattle.stack_bland.specs.Choice.{entering, leaving, ratio_row}
 use Rattle.stack_run.specs.WrittenRun.{PhaseStop, wide_at}
 use Rattle.stack_duality.proofs.Turn.{turn_spent, turn_too_wide, turn_pivots}
-use Rattle.stack_simplex.specs.declared.pivots.Pivots.{Pivots}
+use Rattle.stack_run.specs.declared.pivots.Pivots.{Pivots}
 use Rattle.stack_simplex.specs.declared.refusal.RunError.{RunError}
 use Rattle.stack_simplex.specs.declared.refusal.RunError.TheVariants.{TooWide, Spent}
-use Rattle.stack_simplex.specs.declared.turn.PhaseEnd.{PhaseEnd}
-use Rattle.stack_simplex.specs.declared.turn.Turn.{Turn}
-use Rattle.stack_simplex.specs.declared.turn.Turn.TheVariants.{Stops, GoesOn}
-use Rattle.stack_simplex.specs.Stops.{spot_of, IsPivoted, IsStopped}
-use Rattle.stack_simplex.specs.Phases.{phase_from, refusal_of, stop_of, turn_answer, HasFewer}
+use Rattle.stack_run.specs.declared.stops.PhaseEnd.{PhaseEnd}
+use Rattle.stack_run.specs.declared.stops.Turn.{Turn}
+use Rattle.stack_run.specs.declared.stops.Turn.TheVariants.{Stops, GoesOn}
+use Rattle.stack_run.specs.PhaseStops.{spot_of, IsPivoted}
+use Rattle.stack_simplex.specs.Stops.{IsStopped}
+use Rattle.stack_run.specs.PhaseStops.{phase_from, stop_of, HasFewer}
+use Rattle.stack_simplex.specs.Phases.{refusal_of, turn_answer}
 
 -- a pivot at (r, c) is due
 module _ (max : ℤ) (S : Shape) (phase among : ℕ) (T : Tabled Fraction) (r c : ℕ)

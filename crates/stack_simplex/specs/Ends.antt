@@ -9,7 +9,7 @@ use Rattle.stack_simplex.specs.declared.ended.Ended.{Ended}
 use Rattle.stack_simplex.specs.declared.ended.Ended.TheVariants.{Infeasible, Feasible, Optimal, Ray}
 use Rattle.stack_simplex.specs.declared.refusal.RunError.{RunError}
 use Rattle.stack_simplex.specs.declared.refusal.RunError.TheVariants.{TooWide, Spent}
-use Rattle.stack_simplex.specs.Stops.{spot_of}
+use Rattle.stack_run.specs.PhaseStops.{spot_of}
 
 -- the last table of a run
 abbrev pub last_of : {V : Type 0} {number : Ghosts V} → Ended V number → Table V number

@@ -1,32 +1,20 @@
 -- A phase of the written run as a call gives it: what its answer says, and what a turn's answer says of it.
-use Rattle.std.specs.Prelude.{ℕ, ◌<◌, ℤ, ⊤, Result, Ok, Err}
+use Rattle.std.specs.Prelude.{ℕ, ℤ, Result, Ok, Err}
 use Rattle.stack_algebra.specs.Fraction.{Fraction}
-use Rattle.stack_algebra.proofs.OrderedFractions.{ordered_fractions}
-use Rattle.stack_rational.specs.TooWide.{is_too_wide}
 use Rattle.stack_table.specs.Table.{Shape, Tabled}
-use Rattle.stack_run.specs.WrittenRun.{PhaseStop, settled, unlimited, wide_at, spent, turns}
-use Rattle.stack_simplex.specs.declared.pivots.Pivots.{Pivots}
+use Rattle.stack_run.specs.WrittenRun.{PhaseStop, settled, wide_at, spent}
+use Rattle.stack_run.specs.declared.pivots.Pivots.{Pivots}
 use Rattle.stack_simplex.specs.declared.refusal.RunError.{RunError}
 use Rattle.stack_simplex.specs.declared.refusal.RunError.TheVariants.{TooWide, Spent}
-use Rattle.stack_simplex.specs.declared.turn.PhaseEnd.{PhaseEnd}
-use Rattle.stack_simplex.specs.declared.turn.PhaseEnd.TheVariants.{Settled, Unlimited}
-use Rattle.stack_simplex.specs.declared.turn.Turn.{Turn}
-use Rattle.stack_simplex.specs.declared.turn.Turn.TheVariants.{Stops, GoesOn}
-use Rattle.stack_simplex.specs.Stops.{spot_of}
-
--- a phase of the written run at a greatest value, from a table and the pivots done and left
-abbrev pub phase_from : ℤ → Shape → (phase among : ℕ) → Pivots → Tabled Fraction → PhaseStop Fraction
-phase_from max S phase among k T = turns ordered_fractions S (is_too_wide max) phase among k.left k.done T
+use Rattle.stack_run.specs.declared.stops.PhaseEnd.{PhaseEnd}
+use Rattle.stack_run.specs.declared.stops.Turn.{Turn}
+use Rattle.stack_run.specs.declared.stops.Turn.TheVariants.{Stops, GoesOn}
+use Rattle.stack_run.specs.PhaseStops.{spot_of, phase_from, stop_of}
 
 -- what a refusal says
 abbrev pub refusal_of : RunError → PhaseStop Fraction
 refusal_of (TooWide p) = wide_at p.phase p.pivot (spot_of p)
 refusal_of Spent = spent
-
--- what an end says, with the table that is left
-abbrev pub stop_of : Tabled Fraction → PhaseEnd → PhaseStop Fraction
-stop_of T (Settled k) = settled k.left k.done T
-stop_of T (Unlimited c) = unlimited T c
 
 -- what the answer of a phase says
 abbrev pub phase_answer : Tabled Fraction → Result PhaseEnd RunError → PhaseStop Fraction
@@ -38,11 +26,6 @@ abbrev pub turn_answer : ℤ → Shape → (phase among : ℕ) → Tabled Fracti
 turn_answer max S phase among T (Ok (Stops x)) = stop_of T x
 turn_answer max S phase among T (Ok (GoesOn k)) = phase_from max S phase among k T
 turn_answer max S phase among T (Err e) = refusal_of e
-
--- a turn that goes on leaves fewer pivots
-abbrev pub HasFewer : Pivots → Turn → Type 0
-HasFewer before (Stops x) = ⊤
-HasFewer before (GoesOn k) = k.left < before.left
 
 -- what the answer of phase 2 says, with the table that is left
 abbrev pub pivots_answer : Tabled Fraction → Result Pivots RunError → PhaseStop Fraction

@@ -10,11 +10,11 @@ ghost use Rattle.stack_run.specs.WrittenRun.{turns};
 ghost use Rattle.stack_simplex.specs.Phases.{pivots_answer};
 ghost use Rattle.stack_simplex.specs.Written.{IsWrittenTable};
 
-use crate::pivots::Pivots;
 use crate::refusal::RunError;
-use crate::turn::{PhaseEnd, run_phase};
+use crate::turn::run_phase;
 use stack_duality::run_laws;
 use stack_rational::Exact;
+use stack_run::{PhaseEnd, Pivots};
 use stack_table::Table;
 
 /// Whether the objective's right side is negative.

@@ -29,7 +29,6 @@ ghost use Rattle.stack_simplex.specs.Ends.{last_of, run_end};
 mod budget;
 mod ended;
 mod first_phase;
-mod pivots;
 mod refusal;
 mod second_phase;
 mod third_phase;
@@ -38,14 +37,15 @@ mod turn;
 pub use budget::enough;
 pub use ended::Ended;
 use first_phase::{falls_short, first_phase};
-pub use refusal::{RunError, RunPlace};
+pub use refusal::RunError;
 use second_phase::second_phase;
 use stack_circles::budget_law;
 use stack_duality::run_laws;
 use stack_rational::Exact;
+use stack_run::PhaseEnd;
+pub use stack_run::RunPlace;
 use stack_table::Table;
 use third_phase::third_phase;
-use turn::PhaseEnd;
 
 /// The run by its three phases.
 fn run_phases<S: Exact>(t: Table<S>, budget: u32) -> Result<Ended<S>, RunError>

@@ -10,10 +10,10 @@ ghost use Rattle.stack_bland.specs.Choice.{is_nought};
 ghost use Rattle.stack_run.specs.WrittenRun.{driven_column, drive_row, drives};
 ghost use Rattle.stack_simplex.specs.Phases.{pivots_answer};
 
-use crate::pivots::Pivots;
 use crate::refusal::RunError;
 use crate::turn::due_pivot;
 use stack_rational::Exact;
+use stack_run::Pivots;
 use stack_table::Table;
 
 fn is_zero<S: Exact>(x: S) -> bool

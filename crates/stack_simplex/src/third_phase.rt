@@ -8,10 +8,10 @@ ghost use Rattle.stack_table.specs.Seen.{shape_of_table, table_of, flips_of};
 ghost use Rattle.stack_run.specs.WrittenRun.{turns};
 ghost use Rattle.stack_simplex.specs.Phases.{phase_answer};
 
-use crate::pivots::Pivots;
 use crate::refusal::RunError;
-use crate::turn::{PhaseEnd, run_phase};
+use crate::turn::run_phase;
 use stack_rational::Exact;
+use stack_run::{PhaseEnd, Pivots};
 use stack_table::Table;
 
 /// Phase 3, with the factor's objective.

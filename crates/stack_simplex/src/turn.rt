@@ -6,30 +6,16 @@ ghost use Rattle.stack_rational.specs.TooWide.{is_too_wide};
 ghost use Rattle.stack_table.specs.Table.{columns, pivoted_at};
 ghost use Rattle.stack_table.specs.Spots.{pivot_spot};
 ghost use Rattle.stack_table.specs.Seen.{shape_of_table, table_of, flips_of};
-ghost use Rattle.stack_simplex.specs.Stops.{IsPivoted, IsStopped};
-ghost use Rattle.stack_simplex.specs.Phases.{phase_from, turn_answer, phase_answer, HasFewer};
+ghost use Rattle.stack_run.specs.PhaseStops.{IsPivoted, phase_from, HasFewer};
+ghost use Rattle.stack_simplex.specs.Stops.{IsStopped};
+ghost use Rattle.stack_simplex.specs.Phases.{turn_answer, phase_answer};
 
-use crate::pivots::Pivots;
-use crate::refusal::{RunError, RunPlace};
+use crate::refusal::RunError;
 use stack_bland::{entering, leaving};
 use stack_rational::Exact;
+use stack_run::{PhaseEnd, Pivots, RunPlace, Turn};
 use stack_table::Table;
 use stack_table::types::Step;
-
-/// How a phase stops where nothing is refused.
-pub enum PhaseEnd {
-    /// No column enters.
-    Settled(Pivots),
-    /// The column enters, and no row leaves.
-    Unlimited(usize),
-}
-
-/// What a turn does where nothing is refused.
-pub enum Turn {
-    Stops(PhaseEnd),
-    /// A pivot is done.
-    GoesOn(Pivots),
-}
 
 /// A pivot that is due. Refused where no pivot is left, and else at the first operation that is too wide.
 pub fn due_pivot<S: Exact>(

@@ -1,7 +1,7 @@
 use Rattle.std.proofs.Common.{sym, ap, ◌∙◌, cond}
 use Rattle.std.proofs.lemmas.Result.{err_from_is_err_and}
 use Rattle.stack_table.specs.Seen.{shape_of_table, table_of}
-use Rattle.stack_simplex.specs.declared.turn.PhaseEnd.TheVariants.{Settled, Unlimited}
+use Rattle.stack_run.specs.declared.stops.PhaseEnd.TheVariants.{Settled, Unlimited}
 use Rattle.stack_simplex.proofs.RunPhases.{second_refuses, third_refuses, third_ends}
 use Rattle.stack_simplex.proofs.run_phases.Goals as goal
 

@@ -3,7 +3,7 @@ use Rattle.stack_algebra.proofs.OrderedFractions.{ordered_fractions}
 use Rattle.stack_rational.specs.TooWide.{is_too_wide}
 use Rattle.stack_table.specs.Table.{plain, set_factor_objective}
 use Rattle.stack_run.specs.WrittenRun.{settled, unlimited, turns}
-use Rattle.stack_revised.specs.declared.stops.PhaseEnd.{PhaseEnd}
+use Rattle.stack_run.specs.declared.stops.PhaseEnd.{PhaseEnd}
 use Rattle.stack_inverse.specs.Seen.{shape_of_revised, table_of_revised}
 use Rattle.stack_revised.specs.Tells.{TellsPhase}
 use Rattle.stack_revised.proofs.PhaseTurns.{first_stops, second_stops, third_is, third_stops}

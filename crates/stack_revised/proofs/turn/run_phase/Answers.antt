@@ -1,8 +1,9 @@
 use Rattle.std.proofs.Common.{sym, subst, ◌∙◌, ◌≤◌, Ok}
 use Rattle.stack_table.specs.Table.{Shape, plain}
-use Rattle.stack_revised.specs.declared.stops.Turn.{Turn}
+use Rattle.stack_run.specs.declared.stops.Turn.{Turn}
 use Rattle.stack_inverse.specs.Seen.{shape_of_revised, table_of_revised}
-use Rattle.stack_revised.specs.Tells.{TellsTurn, stop_of, phase_from}
+use Rattle.stack_run.specs.PhaseStops.{stop_of, phase_from}
+use Rattle.stack_revised.specs.Tells.{TellsTurn}
 use Rattle.stack_revised.proofs.PhaseTurns.{loop_tells, loop_stops, loop_goes_on}
 use Rattle.stack_revised.proofs.turn.run_phase.Goals as goal
 

@@ -1,7 +1,7 @@
 use Rattle.std.proofs.Common.{◌≡◌, ◌≤◌}
 use Rattle.stack_table.specs.Table.{plain}
 use Rattle.stack_inverse.specs.Seen.{shape_of_revised, table_of_revised}
-use Rattle.stack_revised.specs.Tells.{phase_from}
+use Rattle.stack_run.specs.PhaseStops.{phase_from}
 use Rattle.stack_revised.proofs.turn.run_phase.Given as goal
 
 -- what was to be done is what is left to do

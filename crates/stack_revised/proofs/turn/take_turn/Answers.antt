@@ -3,7 +3,8 @@ use Rattle.std.specs.Prelude.{IfSome}
 use Rattle.stack_algebra.proofs.OrderedFractions.{ordered_fractions}
 use Rattle.stack_table.specs.Table.{Shape, plain}
 use Rattle.stack_bland.specs.Choice.{entering}
-use Rattle.stack_revised.specs.Tells.{TellsStop, phase_from}
+use Rattle.stack_run.specs.PhaseStops.{phase_from}
+use Rattle.stack_revised.specs.Tells.{TellsStop}
 use Rattle.stack_inverse.specs.Seen.{shape_of_revised, table_of_revised}
 use Rattle.stack_revised.proofs.PhaseTurns.{leaving_below, leaving_nonzero, rises_at, stops, goes_on}
 use Rattle.stack_revised.proofs.turn.take_turn.Goals as goal

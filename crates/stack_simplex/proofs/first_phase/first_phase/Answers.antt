@@ -3,8 +3,8 @@ use Rattle.stack_algebra.proofs.OrderedFractions.{ordered_fractions}
 use Rattle.stack_rational.specs.TooWide.{is_too_wide}
 use Rattle.stack_table.specs.Seen.{shape_of_table, table_of}
 use Rattle.stack_run.specs.WrittenRun.{turns}
-use Rattle.stack_simplex.specs.declared.turn.PhaseEnd.{PhaseEnd}
-use Rattle.stack_simplex.specs.Phases.{stop_of}
+use Rattle.stack_run.specs.declared.stops.PhaseEnd.{PhaseEnd}
+use Rattle.stack_run.specs.PhaseStops.{stop_of}
 use Rattle.stack_simplex.proofs.RunPhases.{never_unlimited}
 use Rattle.stack_simplex.proofs.first_phase.first_phase.Goals as goal
 

@@ -1,7 +1,7 @@
 use Rattle.std.proofs.Common.{◌≡◌, ◌≤◌}
 use Rattle.stack_table.specs.Table.{columns}
 use Rattle.stack_table.specs.Seen.{shape_of_table, table_of, flips_of}
-use Rattle.stack_simplex.specs.Phases.{phase_from}
+use Rattle.stack_run.specs.PhaseStops.{phase_from}
 use Rattle.stack_simplex.proofs.turn.run_phase.Given as goal
 
 -- what was to be done is what is left to do
