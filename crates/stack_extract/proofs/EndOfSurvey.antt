@@ -17,7 +17,7 @@ use Rattle.stack_run.specs.WrittenRun.{written_run}
 use Rattle.stack_posing.specs.Posed.{posed}
 use Rattle.stack_simplex.specs.declared.ended.Ended.{Ended}
 use Rattle.stack_simplex.specs.Ends.{ended_as, last_of}
-use Rattle.stack_simplex.specs.Written.{IsWrittenTable}
+use Rattle.stack_tableau.specs.Written.{IsWrittenTable}
 use Rattle.stack_extract.specs.Ends.{IsEndOfSurvey}
 
 module _ {V : Type 0} {number : Ghosts V} (p : Lent) (t : Table V number)

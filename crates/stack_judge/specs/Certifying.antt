@@ -15,7 +15,7 @@ use Rattle.stack_table.specs.Seen.{shape_of_table, table_of, flips_of}
 use Rattle.stack_run.specs.WrittenRun.{End}
 use Rattle.stack_simplex.specs.declared.refusal.RunError.{RunError}
 use Rattle.stack_simplex.specs.declared.refusal.RunError.TheVariants as runs
-use Rattle.stack_simplex.specs.Written.{IsTableOf, IsWrittenTable}
+use Rattle.stack_tableau.specs.Written.{IsTableOf, IsWrittenTable}
 use Rattle.stack_posing.specs.Posed.{posed}
 use Rattle.stack_certified.specs.Certified.{end_certificate}
 use Rattle.stack_revised.specs.declared.stops.RevisedStop.{RevisedStop}

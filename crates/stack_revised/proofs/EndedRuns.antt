@@ -1,5 +1,5 @@
 -- What the end of a run at one width says.
-use Rattle.std.proofs.Common.{◌≡◌, sym, subst, ◌∙◌, ℕ, ◌≤◌, ◌^◌, ◌-◌, Result, Ok, Err, unsigned_abs, arith}
+use Rattle.std.proofs.Common.{◌≡◌, false, sym, subst, ◌∙◌, ℕ, ◌≤◌, ◌^◌, ◌-◌, Result, Ok, Err, unsigned_abs, arith}
 use Rattle.std.specs.Prelude.{IfOk, IfErr}
 use lib.IntN.{ℤ, pos}
 use Rattle.stack_algebra.specs.Fraction.{Fraction}
@@ -16,9 +16,9 @@ use Rattle.stack_last.specs.declared.kind.EndKind.{EndKind}
 use Rattle.stack_last.specs.declared.kind.EndKind.TheVariants.{Infeasible, Feasible, Optimal, Ray}
 use Rattle.stack_revised.specs.declared.stops.RevisedStop.{RevisedStop}
 use Rattle.stack_revised.specs.declared.stops.RevisedStop.TheVariants.{TooWide, Spent, Unsettled, Memory}
-use Rattle.stack_revised.specs.declared.stops.Stop.{Stop}
-use Rattle.stack_revised.specs.declared.stops.Stop.TheVariants as stops
-use Rattle.stack_revised.specs.Tells.{TellsEnd}
+use Rattle.stack_tableau.specs.declared.stops.Stop.{Stop}
+use Rattle.stack_tableau.specs.declared.stops.Stop.TheVariants as stops
+use Rattle.stack_tableau.specs.Tells.{TellsEnd}
 use Rattle.stack_revised.specs.declared.last.Last.{Last}
 use Rattle.stack_last.specs.Ends.{end_at}
 use Rattle.stack_revised.specs.Ended.{value_of_last, TellsLast, TellsNothing, tells_stop, stopped_as}
@@ -38,7 +38,7 @@ tells_last (Err Unsettled) X h k = tt
 tells_last (Err Memory) X h k = tt
 
 -- a run over rows that is stopped
-pub stop_told : (e : Stop) (X : End Fraction) → TellsEnd e X → tells_stop (stopped_as e) X
+pub stop_told : (e : Stop) (X : End Fraction) → TellsEnd false e X → tells_stop (stopped_as e) X
 stop_told (stops.TooWide p) X h = h
 stop_told stops.Spent X h = h
 stop_told stops.Unsettled X h = tt

@@ -1,3 +1,2 @@
-pub mod HeldRow
-pub mod PhaseTurns
+mod Ratio
 pub mod EndedRuns

@@ -8,8 +8,8 @@ use Rattle.stack_last.specs.declared.kind.EndKind.{EndKind}
 use Rattle.stack_last.specs.declared.kind.EndKind.TheVariants.{Infeasible, Feasible, Optimal, Ray}
 use Rattle.stack_revised.specs.declared.stops.RevisedStop.{RevisedStop}
 use Rattle.stack_revised.specs.declared.stops.RevisedStop.TheVariants.{TooWide, Spent, Unsettled, Memory}
-use Rattle.stack_revised.specs.declared.stops.Stop.{Stop}
-use Rattle.stack_revised.specs.declared.stops.Stop.TheVariants as stops
+use Rattle.stack_tableau.specs.declared.stops.Stop.{Stop}
+use Rattle.stack_tableau.specs.declared.stops.Stop.TheVariants as stops
 use Rattle.stack_run.specs.PhaseStops.{spot_of}
 use Rattle.stack_revised.specs.declared.last.Last.{Last}
 use Rattle.stack_revised.specs.declared.ended.RevisedEnd.{RevisedEnd}

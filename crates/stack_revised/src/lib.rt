@@ -17,11 +17,10 @@
 mod choices;
 pub mod ended;
 pub mod last;
-pub mod phases;
 mod reading;
 mod running;
 pub mod stops;
-mod turn;
+mod tableau;
 
 pub use ended::RevisedEnd;
 pub use running::run_revised;

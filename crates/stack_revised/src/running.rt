@@ -17,8 +17,8 @@ ghost use Rattle.stack_revised.specs.declared.stops.RevisedStop.TheVariants as r
 
 use crate::ended::RevisedEnd;
 use crate::last::Last;
-use crate::phases::run_table;
-use crate::stops::{RevisedStop, Stop};
+use crate::stops::RevisedStop;
+use crate::tableau::Revised;
 use stack_inverse::revised_table::RevisedTable;
 use stack_inverse::stops::NoTable;
 use stack_last::EndKind;
@@ -27,6 +27,7 @@ use stack_rows::whole::Whole;
 use stack_rows::wide::Wide;
 use stack_run::wider_run_law;
 use stack_table::problem::Problem;
+use stack_tableau::{Stop, run_table};
 use std::alloc::Global;
 
 /// Whether each row is flipped.
@@ -135,16 +136,17 @@ fn run_at_width<T: Whole>(alloc: Global, p: &Problem, budget: u32) -> Result<Las
         Ok(flipped) => flipped,
         Err(_) => return Err(RevisedStop::Memory),
     };
-    let mut table = match RevisedTable::<T>::of_problem(alloc, p) {
+    let table = match RevisedTable::<T>::of_problem(alloc, p) {
         Ok(table) => table,
         Err(NoTable::Memory) => return Err(RevisedStop::Memory),
         Err(NoTable::Unsettled) => return Err(RevisedStop::Unsettled),
     };
-    let kind = match run_table(&mut table, budget) {
+    let mut revised = Revised { table };
+    let kind = match run_table(&mut revised, budget) {
         Ok(kind) => kind,
         Err(stop) => return Err(stopped(stop)),
     };
-    last_of(alloc, table, kind, flipped)
+    last_of(alloc, revised.table, kind, flipped)
 }
 
 /// The most rows of a run that begins at 64 bits. A longer one may come to its end there too, but mostly it would be

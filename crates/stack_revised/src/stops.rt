@@ -1,18 +1,7 @@
-//! How phases and runs over rows stop.
+//! Why a run of a problem has no end.
 
 use stack_run::RunPlace;
 use std::alloc::{AllocError, AllocFailed};
-
-/// Why a run over rows has no end.
-#[derive(Clone, Copy, Debug, PartialEq, Eq, Drop)]
-pub enum Stop {
-    /// The first operation that is too wide.
-    TooWide(RunPlace),
-    /// A pivot is due, and the budget's pivots are done.
-    Spent,
-    /// A number that the rows make doesn't fit. It tells nothing of the written run.
-    Unsettled,
-}
 
 /// Why a run of a problem has no end.
 #[derive(Clone, Copy, Debug, PartialEq, Eq, Drop)]

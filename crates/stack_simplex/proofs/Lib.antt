@@ -1,4 +1,1 @@
-mod Choices
-mod Turns
-mod SecondPhase
 mod RunPhases

@@ -23,29 +23,23 @@ ghost use Rattle.stack_run.specs.WrittenRun.{written_run};
 ghost use Rattle.stack_duality.specs.FourEnds.{EndGives};
 ghost use Rattle.stack_circles.specs.Enough.{enough_of};
 ghost use Rattle.stack_simplex.specs.declared.refusal.RunError.TheVariants.{Spent};
-ghost use Rattle.stack_simplex.specs.Written.{IsTableOf, IsWrittenTable};
+ghost use Rattle.stack_tableau.specs.Written.{IsTableOf, IsWrittenTable};
 ghost use Rattle.stack_simplex.specs.Ends.{last_of, run_end};
 
 mod budget;
 mod ended;
-mod first_phase;
 mod refusal;
-mod second_phase;
-mod third_phase;
-mod turn;
 
 pub use budget::enough;
 pub use ended::Ended;
-use first_phase::{falls_short, first_phase};
 pub use refusal::RunError;
-use second_phase::second_phase;
 use stack_circles::budget_law;
 use stack_duality::run_laws;
+use stack_last::EndKind;
 use stack_rational::Exact;
-use stack_run::PhaseEnd;
 pub use stack_run::RunPlace;
 use stack_table::Table;
-use third_phase::third_phase;
+use stack_tableau::{Stop, run_table};
 
 /// The run by its three phases.
 fn run_phases<S: Exact>(t: Table<S>, budget: u32) -> Result<Ended<S>, RunError>
@@ -56,17 +50,15 @@ fn run_phases<S: Exact>(t: Table<S>, budget: u32) -> Result<Ended<S>, RunError>
         ≡ written_run ordered_fractions (shape_of_table t) (is_too_wide S.MAX) budget (table_of t) }
 {
     let mut t = t;
-    let pivots = first_phase(&mut t, budget)?;
-    if falls_short(&t) {
-        return Ok(Ended::Infeasible(t));
-    }
-    if !t.has_factor() {
-        return Ok(Ended::Feasible(t));
-    }
-    let pivots = second_phase(&mut t, pivots)?;
-    match third_phase(&mut t, pivots)? {
-        PhaseEnd::Settled(_) => Ok(Ended::Optimal(t)),
-        PhaseEnd::Unlimited(column) => Ok(Ended::Ray { table: t, column }),
+    match run_table(&mut t, budget) {
+        Ok(EndKind::Infeasible) => Ok(Ended::Infeasible(t)),
+        Ok(EndKind::Feasible) => Ok(Ended::Feasible(t)),
+        Ok(EndKind::Optimal) => Ok(Ended::Optimal(t)),
+        Ok(EndKind::Ray { column }) => Ok(Ended::Ray { table: t, column }),
+        Err(Stop::TooWide(place)) => Err(RunError::TooWide(place)),
+        Err(Stop::Spent) => Err(RunError::Spent),
+        // The plain table settles all.
+        Err(Stop::Unsettled) => unreachable!(),
     }
 }
 

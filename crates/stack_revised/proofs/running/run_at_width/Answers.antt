@@ -43,8 +43,18 @@ returns-clause-value g c =
     let X = run_at g.T.Whole.MAX (problem_of c.args.p.now) c.args.budget in
     tells_last c.last_of.result X (if_ok c.last_of.result
     (λ (l : Last g.row.T.Denot g.T.Whole). value_of_last l
-    ≡ end_at c.in-Ok-run_table.kind (table_of_revised c.run_table.new.t))
+    ≡ end_at c.in-Ok-run_table.kind (table_of_revised c.run_table.new.t.table))
     (λ (l : Last g.row.T.Denot g.T.Whole). value_of_last l ≡ X)
     (λ l h. h ∙ c.in-Ok-run_table.ensures.value ∙ run_is g.T.Whole.MAX (problem_of c.args.p.now) c.args.budget
     (shape_of_revised t) (table_of_revised t) c.in-Ok-of_problem.ensures.shape c.in-Ok-of_problem.ensures.ok)
     c.last_of.ensures.value) c.last_of.ensures.unsettled
+
+pub run_table-requires : goal.run_table-requires
+run_table-requires g c = record {
+  problem = c.args.p.now;
+  condition = c.requires;
+  is_its_table = record {
+    shape = sym c.in-Ok-of_problem.ensures.shape;
+    table = sym c.in-Ok-of_problem.ensures.ok;
+  };
+}

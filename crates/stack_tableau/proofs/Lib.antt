@@ -1,0 +1,3 @@
+mod BestSoFar
+mod Turns
+mod RunPhases

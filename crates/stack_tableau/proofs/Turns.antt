@@ -1,0 +1,177 @@
+-- What a choice says of its row, and what the answer of a turn says of the phase.
+use Rattle.std.proofs.Common.{◌≡◌, ◌≢◌, refl, sym, ap, subst, ◌∙◌, ℕ, zero, suc, ◌<◌, Bool, false, cond, Option, Some}
+use Rattle.std.proofs.Common.{None, Result, Err, arith}
+use lib.IntN.{ℤ, pos}
+use Rattle.stack_algebra.specs.Fraction.{Fraction}
+use Rattle.stack_algebra.specs.Ordered.{sign_of}
+use Rattle.stack_algebra.specs.Search.{only_if}
+use Rattle.stack_algebra.proofs.Search.{least-some, first, first_found}
+use Rattle.stack_algebra.proofs.OrderedFractions.{ordered_fractions}
+use Rattle.stack_rational.specs.TooWide.{is_too_wide}
+use Rattle.stack_rational.specs.declared.exact.Op.TheVariants.{Quotient}
+use Rattle.stack_table.specs.declared.types.PivotWide.{PivotWide}
+use Rattle.stack_table.specs.Table.{Shape, Tabled, columns, pivoted_at}
+use Rattle.stack_table.specs.Spots.{pivot_spot}
+use Rattle.stack_bland.specs.Choice.{is_negative_sign, is_plus, ratio, ratio_item, ratio_row, entering, leaving}
+use Rattle.stack_run.specs.WrittenRun.{Choice, stays, rises, due, refused, PhaseStop, settled, unlimited, wide_at}
+use Rattle.stack_run.specs.WrittenRun.{spent, on_spot, on_choice, chosen_at, chosen_in, choose, turns}
+use Rattle.stack_run.specs.declared.pivots.Pivots.{Pivots}
+use Rattle.stack_run.specs.PhaseStops.{spot_of, IsPivoted, phase_from}
+use Rattle.stack_duality.proofs.BestRow.{best-some}
+use Rattle.stack_tableau.specs.declared.stops.Refusal.{Refusal}
+use Rattle.stack_tableau.specs.declared.stops.Refusal.TheVariants as refusals
+use Rattle.stack_tableau.specs.declared.stops.Stop.{Stop}
+use Rattle.stack_tableau.specs.declared.stops.Stop.TheVariants.{TooWide, Spent, Unsettled}
+use Rattle.stack_tableau.specs.Answers.{TellsSpot, TellsNoRatio}
+use Rattle.stack_tableau.specs.Tells.{TellsRefused, TellsRow, TellsPivot, TellsStop, stop_at}
+
+-- a row whose cell isn't positive has no ratio that is too wide
+pub no_item : (max : ℤ) (S : Shape) (T : Tabled Fraction) (c i : ℕ) → is_plus (sign_of (T.cell i c).num) ≡ false →
+    ratio_item ordered_fractions S (is_too_wide max) T c i ≡ None
+no_item max S T c i p =
+    ap (λ b. cond b (only_if (is_too_wide max Quotient (T.cell i (columns S)) (T.cell i c)) i) None) p
+
+-- the first ratio that is too wide refuses the choice
+pub row_refused : (settles : Bool) (max : ℤ) (S : Shape) (T : Tabled Fraction) (c i : ℕ) (e : Refusal)
+    (o : Option ℕ) → i < S.rows → first i (ratio_item ordered_fractions S (is_too_wide max) T c) ≡ None →
+    TellsNoRatio settles e c i (ratio_item ordered_fractions S (is_too_wide max) T c i) →
+    TellsRefused settles e (chosen_at c (ratio_row ordered_fractions S (is_too_wide max) T c) o)
+row_refused settles max S T c i (refusals.TooWide p) o l n h = ap refused h.1
+    ∙ ap (λ x. chosen_at c x o) (sym (first_found S.rows i (ratio_item ordered_fractions S (is_too_wide max) T c) i l n
+    h.0))
+row_refused settles max S T c i refusals.Unsettled o l n h = h
+
+module _ (S : Shape) (T : Tabled Fraction) (c r : ℕ) (e : Some r ≡ leaving ordered_fractions S T c) where
+  -- the leaving row is a row, and its cell isn't 0
+  pub leaving_below : r < S.rows
+  leaving_below =
+      (best-some ordered_fractions (λ i. T.cell i c) (ratio ordered_fractions S T c) T.basic S.rows r (sym e)).below
+
+  pub leaving_nonzero : (T.cell r c).num ≢ pos 0
+  leaving_nonzero z =
+      let b = best-some ordered_fractions (λ i. T.cell i c) (ratio ordered_fractions S T c) T.basic S.rows r
+      (sym e) in
+      let s = sym b.positive ∙ ap sign_of z in cc
+
+-- the entering column is one of those asked for
+pub entering_below : (S : Shape) (T : Tabled Fraction) (among c : ℕ) →
+    Some c ≡ entering ordered_fractions S T among → c < among
+entering_below S T among c e =
+    (least-some among (λ j. is_negative_sign (ordered_fractions.sign (T.cell S.rows j))) c (sym e)).below
+
+-- one column enters, where the cells of it are made in a table with the same content
+pub one_enters : (max : ℤ) (S S' : Shape) (T T' : Tabled Fraction) (among : ℕ) → S' ≡ S → T' ≡ T →
+    (settles : Bool) (c : ℕ) (r : Result (Option ℕ) Refusal) → Some c ≡ entering ordered_fractions S T among →
+    TellsRow settles c r (chosen_at c (ratio_row ordered_fractions S' (is_too_wide max) T' c)
+    (leaving ordered_fractions S' T' c)) →
+    TellsRow settles c r (choose ordered_fractions S (is_too_wide max) T among)
+one_enters max S S' T T' among p q settles c r e h = subst (TellsRow settles c r)
+    ((λ z. chosen_at c (ratio_row ordered_fractions (p z) (is_too_wide max) (q z) c)
+    (leaving ordered_fractions (p z) (q z) c))
+    ∙ ap (chosen_in ordered_fractions S (is_too_wide max) T) e) h
+
+-- a turn
+module _ (settles : Bool) (max : ℤ) (S : Shape) (phase among : ℕ) (T : Tabled Fraction) where
+  -- what is done after a pivot
+  abbrev after : (left done : ℕ) → ℕ → ℕ → PhaseStop Fraction
+  after left done r c =
+      on_spot phase done (turns ordered_fractions S (is_too_wide max) phase among left (suc done))
+      (pivoted_at ordered_fractions S T r c) (pivot_spot ordered_fractions (is_too_wide max) S T r c)
+
+  abbrev is_chosen : Choice → Type 0
+  is_chosen x = x ≡ choose ordered_fractions S (is_too_wide max) T among
+
+  abbrev from_here : (left done : ℕ) → PhaseStop Fraction
+  from_here left done = turns ordered_fractions S (is_too_wide max) phase among left done T
+
+  -- no column enters
+  pub settles_at : (left done : ℕ) → is_chosen stays → settled left done T ≡ from_here left done
+  settles_at zero done e = ap (on_choice phase zero done T (λ r c. spent)) e
+  settles_at (suc left) done e = ap (on_choice phase (suc left) done T (after left done)) e
+
+  -- no row leaves
+  pub rises_at : (left done c : ℕ) → is_chosen (rises c) → unlimited T c ≡ from_here left done
+  rises_at zero done c e = ap (on_choice phase zero done T (λ r c. spent)) e
+  rises_at (suc left) done c e = ap (on_choice phase (suc left) done T (after left done)) e
+
+  -- the choice is refused
+  refused_at : (left done : ℕ) (s : PivotWide) → is_chosen (refused s) →
+      wide_at phase (suc done) s ≡ from_here left done
+  refused_at zero done s e = ap (on_choice phase zero done T (λ r c. spent)) e
+  refused_at (suc left) done s e = ap (on_choice phase (suc left) done T (after left done)) e
+
+  pub choice_stops : (e : Refusal) (left done pivot : ℕ) → pivot ≡ suc done →
+      TellsRefused settles e (choose ordered_fractions S (is_too_wide max) T among) →
+      TellsStop settles (stop_at e phase pivot) (from_here left done)
+  choice_stops (refusals.TooWide s) left done pivot k h =
+      ap (λ p. wide_at phase p s) k ∙ refused_at left done s h
+  choice_stops refusals.Unsettled left done pivot k h = h
+
+  -- a pivot is due
+  module _ (r c : ℕ) (e : is_chosen (due r c)) where
+    spent_at : (left done : ℕ) → left ≡ 0 → spent ≡ from_here left done
+    spent_at zero done z = ap (on_choice phase zero done T (λ r c. spent)) e
+    spent_at (suc left) done z = absurd (omega arith)
+
+    by_spot : (left done : ℕ) (o : Option PivotWide) → pivot_spot ordered_fractions (is_too_wide max) S T r c ≡ o →
+        on_spot phase done (turns ordered_fractions S (is_too_wide max) phase among left (suc done))
+        (pivoted_at ordered_fractions S T r c) o ≡ from_here (suc left) done
+    by_spot left done o h = ap (on_spot phase done (turns ordered_fractions S (is_too_wide max) phase among left
+        (suc done)) (pivoted_at ordered_fractions S T r c)) (sym h)
+        ∙ ap (on_choice phase (suc left) done T (after left done)) e
+
+    wide_here : (left done : ℕ) (s : PivotWide) → 0 < left →
+        pivot_spot ordered_fractions (is_too_wide max) S T r c ≡ Some s →
+        wide_at phase (suc done) s ≡ from_here left done
+    wide_here zero done s l h = absurd (omega arith)
+    wide_here (suc left) done s l h = by_spot left done (Some s) h
+
+    -- the pivot isn't done
+    pub pivot_stops : (k : Pivots) (x : Stop) →
+        TellsPivot settles (Err x) phase k (pivot_spot ordered_fractions (is_too_wide max) S T r c) →
+        TellsStop settles x (from_here k.left k.done)
+    pivot_stops k (TooWide p) h = (λ i. wide_at (h.in_phase i) (h.next_pivot i) (spot_of p))
+        ∙ wide_here k.left k.done (spot_of p) h.some_left h.first
+    pivot_stops k Spent h = spent_at k.left k.done h
+    pivot_stops k Unsettled h = h
+
+    -- the pivot is done
+    pub goes_on : (k l : Pivots) (U : Tabled Fraction) →
+        IsPivoted k l (pivot_spot ordered_fractions (is_too_wide max) S T r c) →
+        U ≡ pivoted_at ordered_fractions S T r c →
+        phase_from max S phase among l U ≡ phase_from max S phase among k T
+    goes_on k l U h u =
+        (λ z. turns ordered_fractions S (is_too_wide max) phase among l.left (h.done z) (u z))
+        ∙ by_spot l.left k.done None h.is_nowhere_too_wide
+        ∙ ap (λ n. turns ordered_fractions S (is_too_wide max) phase among n k.done T) (sym h.left)
+
+-- a turn of the loop, whose table has the shape of the first
+module _ (settles : Bool) (max : ℤ) (S S' : Shape) (phase among : ℕ) (l : Pivots) (T U : Tabled Fraction)
+    (X : PhaseStop Fraction) (same : S' ≡ S) (so_far : phase_from max S phase among l T ≡ X) where
+  carried : phase_from max S' phase among l T ≡ X
+  carried = ap (λ (S : Shape). phase_from max S phase among l T) same ∙ so_far
+
+  -- the end of a phase tells the phase
+  pub loop_tells : (Y : PhaseStop Fraction) → Y ≡ phase_from max S' phase among l T → Y ≡ X
+  loop_tells Y h = h ∙ carried
+
+  -- and so does a refusal
+  pub loop_stops : (e : Stop) → TellsStop settles e (phase_from max S' phase among l T) → TellsStop settles e X
+  loop_stops e h = subst (TellsStop settles e) carried h
+
+  -- and each turn what is left of it
+  pub loop_goes_on : (k : Pivots) → phase_from max S' phase among k U ≡ phase_from max S' phase among l T →
+      phase_from max S phase among k U ≡ X
+  loop_goes_on k h = ap (λ (S : Shape). phase_from max S phase among k U) (sym same) ∙ h ∙ carried
+
+-- a pivot that isn't done tells where it is too wide
+pub refusal_tells : (settles : Bool) (e : Refusal) (phase : ℕ) (before : Pivots) (pivot : ℕ)
+    (spot : Option PivotWide) → 0 < before.left → pivot ≡ suc before.done → TellsSpot settles e spot
+    → TellsPivot settles (Err (stop_at e phase pivot)) phase before spot
+refusal_tells settles (refusals.TooWide s) phase before pivot spot some next tells = record {
+  some_left = some;
+  in_phase = refl;
+  next_pivot = next;
+  first = tells;
+}
+refusal_tells settles refusals.Unsettled phase before pivot spot some next tells = tells

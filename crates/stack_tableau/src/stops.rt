@@ -1,0 +1,24 @@
+//! Why a choice or a pivot isn't made, and why a run has no end.
+
+use stack_run::RunPlace;
+use stack_table::types::PivotWide;
+
+/// Why a choice or a pivot isn't made.
+#[derive(Clone, Copy, Debug, PartialEq, Eq, Drop)]
+pub enum Refusal {
+    /// The first operation that is too wide.
+    TooWide(PivotWide),
+    /// A number that the table makes doesn't fit. It tells nothing of the written run.
+    Unsettled,
+}
+
+/// Why a run has no end.
+#[derive(Clone, Copy, Debug, PartialEq, Eq, Drop)]
+pub enum Stop {
+    /// The first operation that is too wide.
+    TooWide(RunPlace),
+    /// A pivot is due, and the budget's pivots are done.
+    Spent,
+    /// A number that the table makes doesn't fit. It tells nothing of the written run.
+    Unsettled,
+}
