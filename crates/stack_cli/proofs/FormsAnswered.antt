@@ -1,7 +1,7 @@
 -- What the status of a run of `contacts`, `stack` and `sample` says, out of the theorem on the top call.
 use Rattle.std.proofs.Common.{◌≡◌, ◌≢◌, refl, sym, subst, ap, ◌∙◌, ℕ, ◌<◌, List, [], ◌∷◌, Option, Some, Result, Ok, Err}
 use Rattle.std.proofs.Common.{inl, inr, ◌⊎◌, arith}
-use Rattle.stack_outside.specs.Seen.{ShelfSeen, StreamSeen, Took}
+use Rattle.stack_outside.specs.Seen.{ShelfSeen, StreamSeen, NeitherFailed, Took}
 use Rattle.stack_model.specs.Structure.{Structure}
 use Rattle.stack_reader.specs.Reading.{structure_of}
 use Rattle.stack_overhang.specs.declared.error.StackError.{StackError}
@@ -10,15 +10,18 @@ use Rattle.stack_contact.specs.Surveyed.{Surveyed, IsSurvey}
 use Rattle.stack_certificate.specs.Certificate.{CertificateValue}
 use Rattle.stack_equilibrium.specs.declared.types.Question.TheVariants.{Live}
 use Rattle.stack_judge.specs.Judgement.{Judgement, certified, too_wide, spent, unjudged, judgement}
+use Rattle.stack_judge.specs.declared.types.JudgePlace.{JudgePlace}
+use Rattle.stack_judge.proofs.EachJudged.{each_end_is_judged}
 use Rattle.stack_judge.specs.Judged.{IsJudged}
 use Rattle.stack_judge.specs.NarrowWork.{is_narrow}
 use Rattle.stack_report.specs.ContactTable.{contacts_text}
 use Rattle.stack_report.specs.Summary.{summary_text}
 use Rattle.stack_forms.specs.declared.forms.Kind.{Kind}
 use Rattle.stack_lines.specs.declared.answer.Verdict.TheVariants.{Affirmed}
-use Rattle.stack_lines.specs.Refusals.{Refusal, words, file, faulty, output, memory, size, status_of}
+use Rattle.stack_lines.specs.Refusals.{Refusal, words, file, faulty, output, memory, size, over_budget, status_of}
+use Rattle.stack_lines.specs.declared.refusal.Within.TheVariants.{Whole}
 use Rattle.stack_forms.specs.Forms.{Form, contacts, stack, sample}
-use Rattle.stack_forms.specs.Judging.{default_budget}
+use Rattle.stack_forms.specs.Judging.{default_budget, wide_fault}
 use Rattle.stack_lines.specs.Answers.{Due, exactly, document, summary, IsAnswer, verdict_status}
 use Rattle.stack_forms.specs.Work.{gives, ◌>>=◌, Found, Holds, MayFind, Ends}
 use Rattle.stack_forms.specs.Surveying.{survey_step, surveyed_file}
@@ -30,6 +33,7 @@ use Rattle.stack_cli.specs.MainTheorem.{Cause, IsGivenOut, RunMeets}
 use Rattle.stack_cli.specs.Said.{Writes, ContactsSay, StackSays, SampleSays}
 use Rattle.stack_forms.proofs.Ways.{goes_on, came_from}
 use Rattle.stack_forms.proofs.AcceptedFiles.{only_accepted, all_accepted}
+use Rattle.stack_cli.proofs.Deciding.{wide_is_seven, wide_settled}
 use Rattle.stack_cli.proofs.SettledEnds.{given_or_memory}
 
 -- exactly this text, affirmed, was given out, unless memory is wanting
@@ -219,6 +223,21 @@ sample_way holds number s v c is survey judged =
           (Ok (summary number v c (is_narrow Live v default_budget)))) (sym judged) (refl, refl),
     ))
 
+-- the work on a wall that has this survey and this judgement ends so
+sample_ends : (holds : Holds) (number : ℕ) (s : Structure) (v : Surveyed) (j : Judgement) (end : Result Due Refusal)
+    → sample_of number ≡ Ok s → IsSurvey s v → judgement Live v default_budget ≡ j
+    → Ends holds (sample_step number v j) [] end → Ends holds (sample_work number) [] end
+unfolding sample_work
+sample_ends holds number s v j end is survey judged h =
+    subst (λ r. Ends holds (built_step r >>= wall_sampled number) [] end) (sym is)
+    (inr (Ok v, survey, subst (λ x. Ends holds (sample_step number v x) [] end) (sym judged) h))
+
+sample_size : (holds : Holds) (number : ℕ) → sample_of number ≡ Err built.Size
+    → Ends holds (sample_work number) [] (Err (faulty size))
+unfolding sample_work
+sample_size holds number is =
+    subst (λ r. Ends holds (built_step r >>= wall_sampled number) [] (Err (faulty size))) (sym is) (refl, inl refl)
+
 module _ (status : ℕ) (shelf : ShelfSeen) (out err : StreamSeen) (number : ℕ)
     (m : RunMeets status (Some (sample number)) shelf out err) where
   summing : status < 2 → (status ≡ 0) × ((s : Structure) × (v : Surveyed) × (c : CertificateValue)
@@ -239,6 +258,57 @@ module _ (status : ℕ) (shelf : ShelfSeen) (out err : StreamSeen) (number : ℕ
   summed v c (inr g) =
       inl (g.3 ∙ ap verdict_status g.2.is_verdict, subst (Took out) g.2.is_text g.4)
 
+  -- a refusal's status, or memory is wanting
+  has_status : (n : ℕ) (r : Refusal) → status_of r ≡ n → (status ≡ 11) ⊎ IsGivenOut (Err r) status out err
+      → (status ≡ n) ⊎ (status ≡ 11)
+  has_status n r e (inl eleven) = inr eleven
+  has_status n r e (inr g) = inl (g.0 ∙ e)
+
+  given_wide : NeitherFailed shelf out → (s : Structure) (v : Surveyed) (p : JudgePlace) → sample_of number ≡ Ok s
+      → IsSurvey s v → judgement Live v default_budget ≡ too_wide p
+      → (status ≡ 11) ⊎ IsGivenOut (Err (faulty (wide_fault v.structure p))) status out err
+  given_wide neither s v p is survey judged = given_or_memory m neither [] tt
+      (Err (faulty (wide_fault v.structure p))) (wide_settled Whole v.structure p)
+      (sample_ends shelf.holds number s v (too_wide p) (Err (faulty (wide_fault v.structure p))) is survey judged
+      (refl, inl refl))
+
+  given_spent : NeitherFailed shelf out → (s : Structure) (v : Surveyed) → sample_of number ≡ Ok s
+      → IsSurvey s v → judgement Live v default_budget ≡ spent
+      → (status ≡ 11) ⊎ IsGivenOut (Err (faulty (over_budget default_budget))) status out err
+  given_spent neither s v is survey judged = given_or_memory m neither [] tt
+      (Err (faulty (over_budget default_budget))) tt
+      (sample_ends shelf.holds number s v spent (Err (faulty (over_budget default_budget))) is survey judged
+      (refl, inl refl))
+
+  abbrev Only : Surveyed → Type 0
+  Only v = (status ≡ 0) ⊎ ((((p : JudgePlace) × (judgement Live v default_budget ≡ too_wide p)) × (status ≡ 7))
+      ⊎ (((judgement Live v default_budget ≡ spent) × (status ≡ 8)) ⊎ (status ≡ 11)))
+
+  told_only : (v : Surveyed) (text : List ℕ) → Writes text status out ⊎ (status ≡ 11) → Only v
+  told_only v text (inl w) = inl w.0
+  told_only v text (inr eleven) = inr (inr (inr eleven))
+
+  wide_only : (v : Surveyed) (p : JudgePlace) → judgement Live v default_budget ≡ too_wide p
+      → (status ≡ 7) ⊎ (status ≡ 11) → Only v
+  wide_only v p judged (inl seven) = inr (inl ((p, judged), seven))
+  wide_only v p judged (inr eleven) = inr (inr (inr eleven))
+
+  spent_only : (v : Surveyed) → judgement Live v default_budget ≡ spent → (status ≡ 8) ⊎ (status ≡ 11) → Only v
+  spent_only v judged (inl eight) = inr (inr (inl (judged, eight)))
+  spent_only v judged (inr eleven) = inr (inr (inr eleven))
+
+  by_judgement : NeitherFailed shelf out → (s : Structure) (v : Surveyed) → sample_of number ≡ Ok s → IsSurvey s v
+      → (j : Judgement) → judgement Live v default_budget ≡ j → Only v
+  by_judgement neither s v is survey (certified c) judged = told_only v _ (summed v c (given_or_memory m neither [] tt
+      (Ok (summary number v c (is_narrow Live v default_budget))) tt
+      (sample_way shelf.holds number s v c is survey judged)))
+  by_judgement neither s v is survey (too_wide p) judged = wide_only v p judged
+      (has_status 7 (faulty (wide_fault v.structure p)) (wide_is_seven Whole v.structure p)
+      (given_wide neither s v p is survey judged))
+  by_judgement neither s v is survey spent judged = spent_only v judged
+      (has_status 8 (faulty (over_budget default_budget)) refl (given_spent neither s v is survey judged))
+  by_judgement neither s v is survey unjudged judged = absurd (each_end_is_judged Live v default_budget judged)
+
   sample_answer : SampleSays number status shelf out
   sample_answer = record {
     never_denied = λ e. let h = (summing (omega (arith, e))).0 in absurd (omega (arith, h, e));
@@ -246,6 +316,13 @@ module _ (status : ℕ) (shelf : ShelfSeen) (out err : StreamSeen) (number : ℕ
     complete = λ neither s v c is survey judged. summed v c (given_or_memory m neither [] tt
         (Ok (summary number v c (is_narrow Live v default_budget))) tt
         (sample_way shelf.holds number s v c is survey judged));
+    without_size = λ neither is. has_status 5 (faulty size) refl
+        (given_or_memory m neither [] tt (Err (faulty size)) tt (sample_size shelf.holds number is));
+    wide = λ neither s v p is survey judged. has_status 7 (faulty (wide_fault v.structure p))
+        (wide_is_seven Whole v.structure p) (given_wide neither s v p is survey judged);
+    over_budget = λ neither s v is survey judged. has_status 8 (faulty (over_budget default_budget)) refl
+        (given_spent neither s v is survey judged);
+    only = λ neither s v is survey. by_judgement neither s v is survey (judgement Live v default_budget) refl;
   }
 
 pub sample_says : {status : ℕ} {form : Option Form} {shelf : ShelfSeen} {out err : StreamSeen}

@@ -39,11 +39,11 @@ not_false : (b : Bool) → not b ≡ false → b ≡ true
 not_false true h = refl
 not_false false h = absurd cc
 
-has_one : (q : Question) (v : Surveyed) → lacks_live q v.structure ≡ false → ¬ (LacksLive q v)
+pub has_one : (q : Question) (v : Surveyed) → lacks_live q v.structure ≡ false → ¬ (LacksLive q v)
 has_one Dead v h none = none
 has_one Live v h none = none (lists_some v.structure (not_false (lists_live v.structure) h))
 
-lacks : (q : Question) (v : Surveyed) → lacks_live q v.structure ≡ true → LacksLive q v
+pub lacks : (q : Question) (v : Surveyed) → lacks_live q v.structure ≡ true → LacksLive q v
 lacks Dead v h = absurd cc
 lacks Live v h = lists_nothing v.structure h
 

@@ -19,4 +19,9 @@ mod LengthAnswered
 mod TableAnswered
 mod FormsAnswered
 mod PrintedAnswered
+mod Deciding
+mod RangeDecided
+mod StagesDecided
+mod RegionDecided
+mod FurtherFaults
 mod RunSaid

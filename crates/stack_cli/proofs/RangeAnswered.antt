@@ -5,7 +5,7 @@ use Rattle.stack_outside.specs.Seen.{ShelfSeen, StreamSeen, Took}
 use Rattle.stack_contact.specs.Surveyed.{Surveyed}
 use Rattle.stack_equilibrium.specs.declared.types.Question.TheVariants.{Live}
 use Rattle.stack_range.specs.Ranged.{RangeValue, collapsing, between}
-use Rattle.stack_range.specs.RangeJudgement.{RangeJudgement, told, wide_on, spent_on, range_judgement}
+use Rattle.stack_range.specs.RangeJudgement.{RangeJudgement, told, wide_on, spent_on, no_range, range_judgement}
 use Rattle.stack_lines.specs.declared.answer.Verdict.{Verdict}
 use Rattle.stack_forms.specs.Forms.{Form, ranges}
 use Rattle.stack_lines.specs.Refusals.{no_live}
@@ -30,6 +30,7 @@ step_ends : (holds : Holds) (budget : ℕ) (v : Surveyed) (j : RangeJudgement) (
 step_ends holds budget v (told r) names due p = (r, p.1)
 step_ends holds budget v (wide_on side place) names due p = absurd p.1
 step_ends holds budget v (spent_on side) names due p = absurd p.1
+step_ends holds budget v no_range names due p = absurd p.1
 
 -- and only where a live load is listed
 told_ends : (holds : Holds) (budget : ℕ) (v : Surveyed) (b : Bool) (names : List (List ℕ)) (due : Due)

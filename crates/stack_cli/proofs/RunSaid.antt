@@ -7,12 +7,16 @@ use Rattle.stack_cli.specs.Printed.{PrintedIsAccepted}
 use Rattle.stack_cli.specs.RunSaid.{RunSays}
 use Rattle.stack_cli.proofs.CertificateFile.{certificate_says}
 use Rattle.stack_cli.proofs.CheckAnswered.{check_says}
+use Rattle.stack_cli.proofs.FurtherFaults.{only_orders, only_directions, only_pairs}
 use Rattle.stack_cli.proofs.FormsAnswered.{contacts_say, stack_says, sample_says}
 use Rattle.stack_cli.proofs.HeadlineHolds.{headline_of}
 use Rattle.stack_cli.proofs.LengthAnswered.{length_says}
 use Rattle.stack_cli.proofs.ModelAnswered.{model_says}
 use Rattle.stack_cli.proofs.PrintedAnswered.{prints_truly, accepted_again}
 use Rattle.stack_cli.proofs.RangeAnswered.{range_says}
+use Rattle.stack_cli.proofs.RangeDecided.{range_decides}
+use Rattle.stack_cli.proofs.RegionDecided.{region_decides, pair_decides}
+use Rattle.stack_cli.proofs.StagesDecided.{stages_decide}
 use Rattle.stack_cli.proofs.StagesAnswered.{stages_say}
 use Rattle.stack_cli.proofs.TableAnswered.{table_says}
 use Rattle.stack_cli.proofs.YieldAnswered.{region_says}
@@ -34,4 +38,11 @@ run_says law m = record {
   ranged = range_says m;
   staged = stages_say m;
   yielded = region_says m;
+  ranges_decided = range_decides m;
+  stages_decided = stages_decide m;
+  regions_decided = region_decides m;
+  pairs_decided = pair_decides m;
+  only_orders = only_orders m;
+  only_directions = only_directions m;
+  only_pairs = only_pairs m;
 }

@@ -6,7 +6,7 @@ use Rattle.std.proofs.Math.Dec.{ltb}
 use Rattle.stack_outside.specs.Seen.{ShelfSeen, StreamSeen, Took}
 use Rattle.stack_contact.specs.Surveyed.{Surveyed}
 use Rattle.stack_stages.specs.OrderRead.{order_of}
-use Rattle.stack_stages.specs.Staged.{Staged, all_stand, falls, too_wide_at, spent_at, staged}
+use Rattle.stack_stages.specs.Staged.{Staged, all_stand, falls, too_wide_at, spent_at, no_stages, staged}
 use Rattle.stack_lines.specs.declared.answer.Verdict.{Verdict}
 use Rattle.stack_lines.specs.declared.refusal.Input.TheVariants as inputs
 use Rattle.stack_forms.specs.Forms.{Form, builds}
@@ -33,6 +33,7 @@ step_ends holds budget v order (all_stand fs) names due p = (all_stand fs, p.1)
 step_ends holds budget v order (falls fs m) names due p = (falls fs m, p.1)
 step_ends holds budget v order (too_wide_at k place) names due p = absurd p.1
 step_ends holds budget v order (spent_at k) names due p = absurd p.1
+step_ends holds budget v order no_stages names due p = absurd p.1
 
 module _ (holds : Holds) (budget : ℕ) (bytes : List ℕ) (v : Surveyed) (model : IsAcceptedModel bytes v)
     (due : Due) where
@@ -109,6 +110,7 @@ says bytes text status out files (falls fs m) verdict answer is at put = record 
 }
 says bytes text status out files (too_wide_at k p) verdict answer is at put = absurd is.are_true
 says bytes text status out files (spent_at k) verdict answer is at put = absurd is.are_true
+says bytes text status out files no_stages verdict answer is at put = absurd is.are_true
 
 -- the same of a run that answered
 answered_say : (model name bytes text : List ℕ) (budget status : ℕ) (shelf : ShelfSeen) (names : List (List ℕ))

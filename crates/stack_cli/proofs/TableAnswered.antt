@@ -21,7 +21,8 @@ use Rattle.stack_forms.specs.Checking.{certificate_due}
 use Rattle.stack_forms.specs.Tables.{tables_text, tabled_by, table_due, table_work}
 use Rattle.stack_forms.specs.OneEnd.{IsSettled}
 use Rattle.stack_cli.specs.MainTheorem.{Answered, IsGivenOut, RunMeets}
-use Rattle.stack_cli.specs.Accepted.{HoldTrueCertificate, HoldFalseCertificate, IsWideCheck}
+use Rattle.stack_cli.specs.Accepted.{ModelAndCertificate, HoldTrueCertificate, HoldFalseCertificate}
+use Rattle.stack_cli.specs.Accepted.{IsWideCheck}
 use Rattle.stack_cli.specs.Said.{Writes, TableSays}
 use Rattle.stack_cli.proofs.CertificateSaid.{SaidOf, MeansRejected, hold_true, hold_false, said_from}
 use Rattle.stack_cli.proofs.CertificateEnds.{end_by, given_by}
@@ -147,6 +148,28 @@ module _ (status : ℕ) (shelf : ShelfSeen) (out err : StreamSeen) (model name b
       (written_check h.files.survey h.files.certificate) refl
       (given (written_check h.files.survey h.files.certificate) refl)
 
+-- a false certificate is rejected, unless a number of the check is too wide
+module _ (status : ℕ) (shelf : ShelfSeen) (out err : StreamSeen) (model name bytes text : List ℕ)
+    (m : RunMeets status (Some (tables model name)) shelf out err)
+    (told : shelf.holds model ≡ Some bytes) (held : shelf.holds name ≡ Some text) (neither : NeitherFailed shelf out)
+    (short : length text ≤ greatest_file) (files : ModelAndCertificate bytes text)
+    (not_true : ¬ (IsTrueCertificate files.survey files.certificate)) where
+  rejects : (k : Check) → written_check files.survey files.certificate ≡ k
+      → (status ≡ 11) ⊎ IsGivenOut (end_by (due_end files.survey files.certificate) files.survey k) status out err
+      → (status ≡ 1) ⊎ ((IsWideCheck files × (status ≡ 7)) ⊎ (status ≡ 11))
+  rejects k is (inl eleven) = inr (inr eleven)
+  rejects Accepted is (inr g) = absurd (not_true (accepted_is_true files.survey files.certificate is))
+  rejects (Rejected part reason) is (inr g) = inl (g.3 ∙ ap verdict_status g.2.0)
+  rejects (TooWide place) is (inr g) = inr (inl ((place, is), g.0))
+
+  false_one : (status ≡ 1) ⊎ ((IsWideCheck files × (status ≡ 7)) ⊎ (status ≡ 11))
+  false_one = rejects (written_check files.survey files.certificate) refl (given_by table_due (tables model name) status
+      shelf out err model name bytes text (λ names end w. w) m told held neither short files
+      (due_end files.survey files.certificate)
+      (listed_settled files.survey files.certificate (wide_index files.survey files.certificate))
+      (listed_ends shelf.holds files.survey files.certificate (wide_index files.survey files.certificate))
+      (written_check files.survey files.certificate) refl)
+
 pub table_says : {status : ℕ} {form : Option Form} {shelf : ShelfSeen} {out err : StreamSeen}
     → RunMeets status form shelf out err
     → (model name bytes text : List ℕ) → form ≡ Some (tables model name) → shelf.holds model ≡ Some bytes
@@ -159,4 +182,6 @@ table_says {status} {form} {shelf} {out} {err} m model name bytes text is told h
       listed = λ e. (by (omega (arith, e))).listed e;
       rejected = λ e. (by (omega (arith, e))).rejected e;
       complete = λ neither short h. completes status shelf out err model name bytes text n told held neither short h;
+      false_one = λ neither short files not_true. false_one status shelf out err model name bytes text n told held
+          neither short files not_true;
     }

@@ -9,7 +9,7 @@ use Rattle.stack_contact.specs.Surveyed.{Surveyed}
 use Rattle.stack_pairs.specs.Reaches.{RegionValue, collapse, points}
 use Rattle.stack_yield.specs.Directions.{directions_of, AreDirections}
 use Rattle.stack_yield.specs.Pairing.{is_slight_load, slight_number, paired, pair_of}
-use Rattle.stack_yield.specs.Outcomes.{Outcomes, answered, passes_at, spends_at, outcomes}
+use Rattle.stack_yield.specs.Outcomes.{Outcomes, answered, passes_at, spends_at, no_outcomes, outcomes}
 use Rattle.stack_yield.proofs.DirectionLists.{is_read}
 use Rattle.stack_lines.specs.declared.answer.Verdict.{Verdict}
 use Rattle.stack_lines.specs.declared.refusal.Input.TheVariants as inputs
@@ -69,6 +69,7 @@ step_ends : (holds : Holds) (budget : ℕ) (v : Surveyed) (i j : ℕ) (ds : List
 step_ends holds budget v i j ds (answered r) names due p = (r, p.1)
 step_ends holds budget v i j ds (passes_at k place) names due p = absurd p.1
 step_ends holds budget v i j ds (spends_at k) names due p = absurd p.1
+step_ends holds budget v i j ds no_outcomes names due p = absurd p.1
 
 module _ (holds : Holds) (budget : ℕ) (bytes : List ℕ) (v : Surveyed) (model : IsAcceptedModel bytes v) (i j : ℕ)
     (due : Due) where
@@ -156,7 +157,7 @@ says : (bytes text : List ℕ) (i j status : ℕ) (out : StreamSeen) (files : Mo
 says bytes text i j status out files (points rs) verdict answer is at put = record {
   bounds = λ e. (
     answer,
-    record { files = files; reaches = rs; are_points = is.tells; is_answer = is.is_text },
+    record { files = files; reaches = rs; are_points = is.tells; are_judged = is.judged; is_answer = is.is_text },
     put,
   );
   falls = λ e. let h : status ≡ 0 = at ∙ ap verdict_status is.is_verdict in absurd (omega (arith, h, e));
@@ -165,7 +166,7 @@ says bytes text i j status out files (collapse y) verdict answer is at put = rec
   bounds = λ e. let h : status ≡ 1 = at ∙ ap verdict_status is.is_verdict in absurd (omega (arith, h, e));
   falls = λ e. (
     answer,
-    record { files = files; motion = y; is_true = is.tells; is_answer = is.is_text },
+    record { files = files; motion = y; is_judged = is.judged; is_answer = is.is_text },
     put,
   );
 }

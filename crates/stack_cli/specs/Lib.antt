@@ -11,4 +11,9 @@ pub mod LengthSaid
 pub mod RangeSaid
 pub mod StagesSaid
 pub mod RegionSaid
+pub mod Decided
+pub mod RangeDecided
+pub mod StagesDecided
+pub mod RegionDecided
+pub mod FurtherFaults
 pub mod RunSaid

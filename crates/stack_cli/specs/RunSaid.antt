@@ -1,24 +1,31 @@
 -- What a run says in plain words, by the form of its words and the bytes of its files where the shelf tells them: one
 -- field a promise. It follows from the theorem on the order of work, and is read without it.
-use Rattle.std.specs.Prelude.{◌≡◌, ℕ, ◌<◌, List, ◌∷◌, Option, Some}
+use Rattle.std.specs.Prelude.{◌≡◌, ℕ, ◌<◌, List, ◌∷◌, Option, Some, Err}
 use Rattle.stack_outside.specs.Seen.{ShelfSeen, StreamSeen, NeitherFailed}
 use Rattle.stack_contact.specs.Surveyed.{Surveyed}
 use Rattle.stack_certificate.specs.Certificate.{CertificateValue}
 use Rattle.stack_certificate.specs.CertificateText.{IsCertificateText}
 use Rattle.stack_equilibrium.specs.declared.types.Question.{Question}
 use Rattle.stack_judge.specs.Judged.{IsJudged}
+use Rattle.stack_yield.specs.Pairing.{pair_of}
+use Rattle.stack_lines.specs.Refusals.{no_pair}
 use Rattle.stack_forms.specs.declared.forms.Kind.{Kind}
 use Rattle.stack_forms.specs.AcceptedModel.{IsAcceptedModel}
 use Rattle.stack_forms.specs.Forms.{Form, files_of, judges, check, tables, contacts, stack, sample, ranges, builds}
 use Rattle.stack_forms.specs.Forms.{yields}
 use Rattle.stack_cli.specs.Accepted.{CheckSays}
+use Rattle.stack_cli.specs.Decided.{IsShort}
+use Rattle.stack_cli.specs.FurtherFaults.{HasFaultyOrder, HasFaultyDirections, HasNoPair}
 use Rattle.stack_cli.specs.Headline.{Judging, PrintsOfFile}
 use Rattle.stack_cli.specs.LengthSaid.{LengthSays}
-use Rattle.stack_cli.specs.ModelSaid.{ModelSays, ReadsCertificate, CertificateSays}
+use Rattle.stack_cli.specs.ModelSaid.{IsRefused, ModelSays, ReadsCertificate, CertificateSays}
 use Rattle.stack_cli.specs.Printed.{IsAcceptedAgain}
+use Rattle.stack_cli.specs.RangeDecided.{RangeDecides}
 use Rattle.stack_cli.specs.RangeSaid.{RangeSays}
+use Rattle.stack_cli.specs.RegionDecided.{RegionDecides}
 use Rattle.stack_cli.specs.RegionSaid.{RegionSays}
 use Rattle.stack_cli.specs.Said.{ContactsSay, TableSays, StackSays, SampleSays}
+use Rattle.stack_cli.specs.StagesDecided.{StagesDecide}
 use Rattle.stack_cli.specs.StagesSaid.{StagesSay}
 
 pub record RunSays (status : ℕ) (form : Option Form) (shelf : ShelfSeen) (out err : StreamSeen) : Type 0 where
@@ -68,3 +75,31 @@ pub record RunSays (status : ℕ) (form : Option Form) (shelf : ShelfSeen) (out 
   pub yielded : (model : List ℕ) (i j : ℕ) (name : List ℕ) (budget : ℕ) (bytes text : List ℕ)
       → form ≡ Some (yields model i j name budget) → shelf.holds model ≡ Some bytes → shelf.holds name ≡ Some text
       → RegionSays bytes text i j status out
+  -- which status of `range` comes of which cause, and that it's told where no step refuses
+  pub ranges_decided : (model : List ℕ) (budget : ℕ) (bytes : List ℕ) (v : Surveyed)
+      → form ≡ Some (ranges model budget) → shelf.holds model ≡ Some bytes → IsAcceptedModel bytes v
+      → NeitherFailed shelf out → RangeDecides v budget status out err
+  -- the same of `stages`
+  pub stages_decided : (model name : List ℕ) (budget : ℕ) (bytes text : List ℕ) (v : Surveyed)
+      → form ≡ Some (builds model name budget) → shelf.holds model ≡ Some bytes → shelf.holds name ≡ Some text
+      → IsAcceptedModel bytes v → IsShort text → NeitherFailed shelf out
+      → StagesDecide v text budget status out err
+  -- the same of `yield`
+  pub regions_decided : (model : List ℕ) (i j : ℕ) (name : List ℕ) (budget : ℕ) (bytes text : List ℕ) (v : Surveyed)
+      → form ≡ Some (yields model i j name budget) → shelf.holds model ≡ Some bytes → shelf.holds name ≡ Some text
+      → IsAcceptedModel bytes v → IsShort text → NeitherFailed shelf out
+      → RegionDecides v i j text budget status out err
+  -- a number of `yield` that names no load is refused whatever the directions' file holds
+  pub pairs_decided : (model : List ℕ) (i j : ℕ) (name : List ℕ) (budget : ℕ) (bytes : List ℕ) (v : Surveyed)
+      (number : ℕ) → form ≡ Some (yields model i j name budget) → shelf.holds model ≡ Some bytes
+      → IsAcceptedModel bytes v → NeitherFailed shelf out → pair_of v.structure i j ≡ Err number
+      → IsRefused (no_pair number) status out err
+  -- 13 comes of no other cause than a faulty line of the order, 14 of the directions, and 15 of a number that names no
+  -- load, whatever the devices do
+  pub only_orders : (model name : List ℕ) (budget : ℕ) (bytes text : List ℕ) → form ≡ Some (builds model name budget)
+      → shelf.holds model ≡ Some bytes → shelf.holds name ≡ Some text → status ≡ 13 → HasFaultyOrder bytes text
+  pub only_directions : (model : List ℕ) (i j : ℕ) (name : List ℕ) (budget : ℕ) (bytes text : List ℕ)
+      → form ≡ Some (yields model i j name budget) → shelf.holds model ≡ Some bytes → shelf.holds name ≡ Some text
+      → status ≡ 14 → HasFaultyDirections bytes text i j
+  pub only_pairs : (model : List ℕ) (i j : ℕ) (name : List ℕ) (budget : ℕ) (bytes : List ℕ)
+      → form ≡ Some (yields model i j name budget) → shelf.holds model ≡ Some bytes → status ≡ 15 → HasNoPair bytes i j

@@ -9,7 +9,9 @@ use Rattle.stack_overhang.specs.declared.error.StackError.TheVariants.{Size}
 use Rattle.stack_contact.specs.Surveyed.{Surveyed, IsSurvey}
 use Rattle.stack_certificate.specs.Certificate.{CertificateValue}
 use Rattle.stack_equilibrium.specs.declared.types.Question.TheVariants.{Live}
-use Rattle.stack_judge.specs.Judgement.{judgement, certified}
+use Rattle.stack_equilibrium.specs.Truth.{IsTrueCertificate}
+use Rattle.stack_judge.specs.Judgement.{judgement, certified, too_wide, spent}
+use Rattle.stack_judge.specs.declared.types.JudgePlace.{JudgePlace}
 use Rattle.stack_judge.specs.Judged.{IsJudged}
 use Rattle.stack_judge.specs.NarrowWork.{is_narrow}
 use Rattle.stack_report.specs.ContactTable.{contacts_text}
@@ -22,7 +24,8 @@ use Rattle.stack_forms.specs.Stacking.{stack_of}
 use Rattle.stack_forms.specs.Sampling.{sample_of}
 use Rattle.stack_forms.specs.Tables.{tables_text}
 use Rattle.stack_forms.specs.AcceptedModel.{IsAcceptedModel}
-use Rattle.stack_cli.specs.Accepted.{HoldTrueCertificate, HoldFalseCertificate, IsWideCheck}
+use Rattle.stack_cli.specs.Accepted.{ModelAndCertificate, HoldTrueCertificate, HoldFalseCertificate}
+use Rattle.stack_cli.specs.Accepted.{IsWideCheck}
 
 -- This text was written whole, with status 0.
 abbrev pub Writes : List ℕ → (status : ℕ) → StreamSeen → Type 0
@@ -38,7 +41,7 @@ pub record ContactsSay (bytes : List ℕ) (status : ℕ) (shelf : ShelfSeen) (ou
 
 -- `table`: with 0 the certificate is true of the model, no number of its table is too wide, and both tables were
 -- written; with 1 it isn't true, and the line of the rejection was written. A true one is listed, unless a number of
--- the check or of the table is too wide.
+-- the check or of the table is too wide. A false one is rejected, unless one of the check is.
 pub record TableSays (bytes text : List ℕ) (status : ℕ) (shelf : ShelfSeen) (out : StreamSeen)
     : Type 0 where
   pub listed : status ≡ 0 → (h : HoldTrueCertificate bytes text)
@@ -49,6 +52,9 @@ pub record TableSays (bytes text : List ℕ) (status : ℕ) (shelf : ShelfSeen) 
       → Writes (tables_text h.files.survey h.files.certificate) status out
       ⊎ (((IsWideCheck h.files ⊎ ((index : ℕ) × (wide_index h.files.survey h.files.certificate ≡ Some index)))
       × (status ≡ 7)) ⊎ (status ≡ 11))
+  pub false_one : NeitherFailed shelf out → length text ≤ greatest_file → (files : ModelAndCertificate bytes text)
+      → ¬ (IsTrueCertificate files.survey files.certificate)
+      → (status ≡ 1) ⊎ ((IsWideCheck files × (status ≡ 7)) ⊎ (status ≡ 11))
 
 -- `stack`: a document was written that reads to the built-in structure of this kind and size; status 5 comes exactly
 -- where there is no such size.
@@ -62,7 +68,8 @@ pub record StackSays (kind : Kind) (n status : ℕ) (shelf : ShelfSeen) (out : S
   pub only_without_size : status ≡ 5 → stack_of kind n ≡ Err Size
 
 -- `sample`: the wall with this number has this survey, the certificate of its live question is true, so that a factor
--- it prints is the greatest, and its summary was written.
+-- it prints is the greatest, and its summary was written. Each cause of a refusal has its status: a number past the
+-- greatest, a number of the judgement that is too wide, its budget that is spent.
 pub record SampleSays (number status : ℕ) (shelf : ShelfSeen) (out : StreamSeen) : Type 0 where
   pub never_denied : status ≢ 1
   pub summed : status ≡ 0 → (s : Structure) × (v : Surveyed) × (c : CertificateValue) × (sample_of number ≡ Ok s)
@@ -71,3 +78,12 @@ pub record SampleSays (number status : ℕ) (shelf : ShelfSeen) (out : StreamSee
   pub complete : NeitherFailed shelf out → (s : Structure) (v : Surveyed) (c : CertificateValue)
       → sample_of number ≡ Ok s → IsSurvey s v → judgement Live v default_budget ≡ certified c
       → Writes (summary_text number v c (is_narrow Live v default_budget)) status out ⊎ (status ≡ 11)
+  pub without_size : NeitherFailed shelf out → sample_of number ≡ Err Size → (status ≡ 5) ⊎ (status ≡ 11)
+  pub wide : NeitherFailed shelf out → (s : Structure) (v : Surveyed) (p : JudgePlace) → sample_of number ≡ Ok s
+      → IsSurvey s v → judgement Live v default_budget ≡ too_wide p → (status ≡ 7) ⊎ (status ≡ 11)
+  pub over_budget : NeitherFailed shelf out → (s : Structure) (v : Surveyed) → sample_of number ≡ Ok s → IsSurvey s v
+      → judgement Live v default_budget ≡ spent → (status ≡ 8) ⊎ (status ≡ 11)
+  -- where the wall has a survey, these are all
+  pub only : NeitherFailed shelf out → (s : Structure) (v : Surveyed) → sample_of number ≡ Ok s → IsSurvey s v
+      → (status ≡ 0) ⊎ ((((p : JudgePlace) × (judgement Live v default_budget ≡ too_wide p)) × (status ≡ 7))
+      ⊎ (((judgement Live v default_budget ≡ spent) × (status ≡ 8)) ⊎ (status ≡ 11)))

@@ -16,15 +16,15 @@ use Rattle.stack_checker.specs.WrittenCheck.{written_check}
 use Rattle.stack_judge.specs.declared.types.JudgePlace.{JudgePlace}
 use Rattle.stack_judge.specs.declared.types.JudgePlace.TheVariants as places
 use Rattle.stack_judge.specs.Judgement.{Judgement, certified, too_wide, spent, unjudged, judgement}
-use Rattle.stack_range.specs.RangeJudgement.{RangeJudgement, told, wide_on, spent_on, range_judgement}
+use Rattle.stack_range.specs.RangeJudgement.{RangeJudgement, told, wide_on, spent_on, no_range, range_judgement}
 use Rattle.stack_report.specs.ForceNumbers.{wide_index}
 use Rattle.stack_stages.specs.Stage.{stage}
 use Rattle.stack_stages.specs.OrderRead.{order_of}
-use Rattle.stack_stages.specs.Staged.{Staged, all_stand, falls, too_wide_at, spent_at, staged}
+use Rattle.stack_stages.specs.Staged.{Staged, all_stand, falls, too_wide_at, spent_at, no_stages, staged}
 use Rattle.stack_yield.specs.declared.types.RegionPlace.{RegionPlace}
 use Rattle.stack_yield.specs.declared.types.RegionPlace.TheVariants as region_places
 use Rattle.stack_yield.specs.Directions.{directions_of}
-use Rattle.stack_yield.specs.Outcomes.{Outcomes, answered, passes_at, spends_at, outcomes}
+use Rattle.stack_yield.specs.Outcomes.{Outcomes, answered, passes_at, spends_at, no_outcomes, outcomes}
 use Rattle.stack_yield.specs.Pairing.{pair_of}
 use Rattle.stack_lines.specs.declared.refusal.Input.{Input}
 use Rattle.stack_lines.specs.declared.refusal.Input.TheVariants as inputs
@@ -90,6 +90,7 @@ module _ (n : ℕ) (few : n < 6) where
   side_avoids budget v (told r) = tt
   side_avoids budget v (wide_on side p) = wide_avoids _ v.structure p
   side_avoids budget v (spent_on side) = λ e. absurd (omega (arith, e, few))
+  side_avoids budget v no_range = λ e. absurd (omega (arith, e, few))
 
   pub range_avoids : (budget : ℕ) (v : Surveyed) (b : Bool)
       → Avoids n (if b then refuses no_live else range_step budget v (range_judgement v budget))
@@ -105,6 +106,7 @@ module _ (n : ℕ) (few : n < 6) where
   stage_avoids budget v order (falls fs m) = tt
   stage_avoids budget v order (too_wide_at k p) = wide_avoids (Stage k) (stage v.structure order k) p
   stage_avoids budget v order (spent_at k) = λ e. absurd (omega (arith, e, few))
+  stage_avoids budget v order no_stages = λ e. absurd (omega (arith, e, few))
 
   pub loads_avoid : (r : Result (ℕ × ℕ) ℕ) → Avoids n (loads_step r)
   loads_avoid (Ok loads) = tt
@@ -125,6 +127,7 @@ module _ (n : ℕ) (few : n < 6) where
   region_avoids budget v i j ds (answered r) = tt
   region_avoids budget v i j ds (passes_at k p) = toward_avoids (k + 1) v.structure p
   region_avoids budget v i j ds (spends_at k) = λ e. absurd (omega (arith, e, few))
+  region_avoids budget v i j ds no_outcomes = λ e. absurd (omega (arith, e, few))
 
 long_avoids : (input : Input) (b : Bool) (bytes : List ℕ)
     → Avoids 5 (if b then refuses (long input) else gives bytes)

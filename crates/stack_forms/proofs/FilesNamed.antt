@@ -33,13 +33,13 @@ use Rattle.stack_forms.specs.Sampling.{sample_of, sample_step, wall_sampled, sam
 use Rattle.stack_report.specs.ForceNumbers.{wide_index}
 use Rattle.stack_overhang.specs.declared.error.StackError.{StackError}
 use Rattle.stack_forms.specs.Ranging.{range_step, range_told, range_work}
-use Rattle.stack_range.specs.RangeJudgement.{RangeJudgement, told, wide_on, spent_on, range_judgement}
+use Rattle.stack_range.specs.RangeJudgement.{RangeJudgement, told, wide_on, spent_on, no_range, range_judgement}
 use Rattle.stack_stages.specs.OrderRead.{order_of}
-use Rattle.stack_stages.specs.Staged.{Staged, all_stand, falls, too_wide_at, spent_at, staged}
+use Rattle.stack_stages.specs.Staged.{Staged, all_stand, falls, too_wide_at, spent_at, no_stages, staged}
 use Rattle.stack_forms.specs.Building.{order_step, stages_step, ordered_file, stages_work}
 use Rattle.stack_yield.specs.Directions.{directions_of}
 use Rattle.stack_yield.specs.Pairing.{pair_of}
-use Rattle.stack_yield.specs.Outcomes.{Outcomes, answered, passes_at, spends_at, outcomes}
+use Rattle.stack_yield.specs.Outcomes.{Outcomes, answered, passes_at, spends_at, no_outcomes, outcomes}
 use Rattle.stack_forms.specs.Yielding.{loads_step, directions_step, region_step, directed_file, paired_file, yield_work}
 use Rattle.stack_forms.specs.Progress.{ToldNames, GrewBy, Way}
 
@@ -160,6 +160,7 @@ range_asks : (budget : ℕ) (v : Surveyed) (j : RangeJudgement) → AsksOnly (ra
 range_asks budget v (told r) = refl
 range_asks budget v (wide_on side p) = tt
 range_asks budget v (spent_on side) = tt
+range_asks budget v no_range = tt
 
 range_told_asks : (budget : ℕ) (v : Surveyed) → AsksOnly (range_told budget v) []
 range_told_asks budget v = elim (lacks_live Live v.structure)
@@ -175,6 +176,7 @@ stages_asks budget v order (all_stand fs) = refl
 stages_asks budget v order (falls fs m) = refl
 stages_asks budget v order (too_wide_at k p) = tt
 stages_asks budget v order (spent_at k) = tt
+stages_asks budget v order no_stages = tt
 
 ordered_asks : (name : List ℕ) (budget : ℕ) (v : Surveyed) → AsksOnly (ordered_file name budget v) (name ∷ [])
 unfolding ordered_file
@@ -196,6 +198,7 @@ region_asks : (budget : ℕ) (v : Surveyed) (i j : ℕ) (ds : List (ℤ × ℤ))
 region_asks budget v i j ds (answered r) = refl
 region_asks budget v i j ds (passes_at k p) = tt
 region_asks budget v i j ds (spends_at k) = tt
+region_asks budget v i j ds no_outcomes = tt
 
 directed_asks : (name : List ℕ) (budget : ℕ) (v : Surveyed) (loads : ℕ × ℕ)
     → AsksOnly (directed_file name budget v loads) (name ∷ [])

@@ -10,7 +10,8 @@ use Rattle.stack_stages.specs.declared.errors.OrderError.{OrderError}
 use Rattle.stack_stages.specs.declared.errors.OrderError.TheVariants as reading
 use Rattle.stack_stages.specs.OrderRead.{order_of}
 use Rattle.stack_stages.specs.OrderGiven.{GivesOrder}
-use Rattle.stack_stages.specs.Staged.{Staged, all_stand, falls, too_wide_at, spent_at, staged, AreTrue, IsFirst}
+use Rattle.stack_stages.specs.Staged.{Staged, all_stand, falls, too_wide_at, spent_at, no_stages, staged}
+use Rattle.stack_stages.specs.Staged.{AreTrue, IsFirst}
 use Rattle.stack_lines.specs.declared.answer.Answer.{Answer}
 use Rattle.stack_lines.specs.declared.refusal.Refusal.{Refusal as CodeRefusal}
 use Rattle.stack_lines.specs.declared.refusal.Refusal.TheVariants as code
@@ -40,6 +41,7 @@ module _ (v : Surveyed) (order : List ℕ) (budget : ℕ) (holds : Holds) where
   own_end (falls fs m) h = (refl, refl)
   own_end (too_wide_at k p) h = absurd h
   own_end (spent_at k) h = absurd h
+  own_end no_stages h = absurd h
 
   -- so it is where this is what comes of them within the budget
   pub stages_told : (x : Staged) → AreTrue v order x → staged v order budget ≡ x

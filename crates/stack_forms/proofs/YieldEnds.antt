@@ -11,8 +11,9 @@ use Rattle.stack_yield.specs.declared.errors.DirectionsError.TheVariants as read
 use Rattle.stack_yield.specs.Directions.{directions_of}
 use Rattle.stack_yield.specs.Reading.{GivesDirections}
 use Rattle.stack_yield.specs.Pairing.{pair_of, GivesPair}
-use Rattle.stack_yield.specs.Outcomes.{Outcome, reaches, falls, passes, spends, Outcomes, answered, passes_at}
-use Rattle.stack_yield.specs.Outcomes.{spends_at, with_reach, and_then, direction_outcome, outcomes_from, outcomes}
+use Rattle.stack_yield.specs.Outcomes.{Outcome, reaches, falls, passes, spends, no_outcome, Outcomes, answered}
+use Rattle.stack_yield.specs.Outcomes.{passes_at, spends_at, no_outcomes, with_reach, and_then, direction_outcome}
+use Rattle.stack_yield.specs.Outcomes.{outcomes_from, outcomes}
 use Rattle.stack_outside.specs.Seen.{ShelfSeen}
 use Rattle.stack_lines.specs.declared.answer.Answer.{Answer}
 use Rattle.stack_lines.specs.declared.refusal.Refusal.{Refusal as CodeRefusal}
@@ -31,6 +32,7 @@ abbrev passing : Outcomes → ℕ
 passing (answered r) = 0
 passing (passes_at k p) = k
 passing (spends_at k) = 0
+passing no_outcomes = 0
 
 -- with a reach before them, directions pass where they do alone
 passes_behind : (r : ReachValue) (x : Outcomes) (n : ℕ) (p : RegionPlace) → with_reach r x ≡ passes_at n p
@@ -39,6 +41,7 @@ passes_behind r (answered (points rs)) n p is = absurd cc
 passes_behind r (answered (collapse y)) n p is = absurd cc
 passes_behind r (passes_at k q) n p is = is
 passes_behind r (spends_at k) n p is = absurd cc
+passes_behind r no_outcomes n p is = absurd cc
 
 -- the first direction passes, or one behind it
 next_passes : (k m : ℕ) (o : Outcome) (x : Outcomes) (n : ℕ) (p : RegionPlace) → (x ≡ passes_at n p → n < suc k + m)
@@ -47,6 +50,7 @@ next_passes k m (reaches r) x n p more is = let h = more (passes_behind r x n p 
 next_passes k m (falls y) x n p more is = absurd cc
 next_passes k m (passes q) x n p more is = let h = ap passing is in omega (arith, h)
 next_passes k m spends x n p more is = absurd cc
+next_passes k m no_outcome x n p more is = absurd cc
 
 -- a direction that passes is one of those that are numbered from k on
 passes_among : (v : Surveyed) (i j budget k : ℕ) (ds : List (ℤ × ℤ)) (n : ℕ) (p : RegionPlace)

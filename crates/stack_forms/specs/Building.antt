@@ -4,10 +4,10 @@ use Rattle.std.specs.Prelude.{ℕ, List, Result, Ok, Err}
 use Rattle.stack_contact.specs.Surveyed.{Surveyed}
 use Rattle.stack_stages.specs.Stage.{stage}
 use Rattle.stack_stages.specs.OrderRead.{order_of}
-use Rattle.stack_stages.specs.Staged.{Staged, all_stand, falls, too_wide_at, spent_at, staged}
+use Rattle.stack_stages.specs.Staged.{Staged, all_stand, falls, too_wide_at, spent_at, no_stages, staged}
 use Rattle.stack_lines.specs.declared.refusal.Input.TheVariants as inputs
 use Rattle.stack_lines.specs.declared.refusal.Within.TheVariants.{Stage}
-use Rattle.stack_lines.specs.Refusals.{order_line, over_budget}
+use Rattle.stack_lines.specs.Refusals.{order_line, over_budget, memory}
 use Rattle.stack_lines.specs.Answers.{Due, stages_due}
 use Rattle.stack_forms.specs.Judging.{wide_within}
 use Rattle.stack_forms.specs.Work.{Work, gives, refuses, ◌>>=◌}
@@ -19,12 +19,13 @@ order_step (Ok order) = gives order
 order_step (Err number) = refuses (order_line number)
 
 -- That all stand and that one falls are both answers; a number that is too wide and a budget that is spent are refused.
--- The blocks of a stage are told by the stage's own numbers.
+-- The blocks of a stage are told by the stage's own numbers. Nothing else comes.
 abbrev pub stages_step : (budget : ℕ) → Surveyed → List ℕ → Staged → Work Due
 stages_step budget v order (all_stand fs) = gives (stages_due v order (all_stand fs))
 stages_step budget v order (falls fs m) = gives (stages_due v order (falls fs m))
 stages_step budget v order (too_wide_at k p) = refuses (wide_within (Stage k) (stage v.structure order k) p)
 stages_step budget v order (spent_at k) = refuses (over_budget budget)
+stages_step budget v order no_stages = refuses memory
 
 -- An order's text, up to what comes of its stages.
 abbrev pub ordered : (budget : ℕ) → Surveyed → List ℕ → Work Due

@@ -4,10 +4,10 @@ use Rattle.stack_contact.specs.Surveyed.{Surveyed}
 use Rattle.stack_equilibrium.specs.declared.types.Question.TheVariants.{Live}
 use Rattle.stack_range.specs.declared.types.Side.{Side}
 use Rattle.stack_range.specs.declared.types.Side.TheVariants.{Greatest, Least}
-use Rattle.stack_range.specs.RangeJudgement.{RangeJudgement, told, wide_on, spent_on, range_judgement}
+use Rattle.stack_range.specs.RangeJudgement.{RangeJudgement, told, wide_on, spent_on, no_range, range_judgement}
 use Rattle.stack_lines.specs.declared.refusal.Within.{Within}
 use Rattle.stack_lines.specs.declared.refusal.Within.TheVariants.{Whole, LeastSide}
-use Rattle.stack_lines.specs.Refusals.{over_budget, no_live}
+use Rattle.stack_lines.specs.Refusals.{over_budget, no_live, memory}
 use Rattle.stack_lines.specs.Answers.{Due, ranged}
 use Rattle.stack_forms.specs.Judging.{lacks_live, wide_within}
 use Rattle.stack_forms.specs.Work.{Work, gives, refuses, ◌>>=◌}
@@ -18,11 +18,12 @@ abbrev pub within_of : Side → Within
 within_of Greatest = Whole
 within_of Least = LeastSide
 
--- A range is given out; a number that is too wide and a budget that is spent are refused.
+-- A range is given out; a number that is too wide and a budget that is spent are refused. Nothing else comes.
 abbrev pub range_step : (budget : ℕ) → Surveyed → RangeJudgement → Work Due
 range_step budget v (told r) = gives (ranged v r)
 range_step budget v (wide_on side p) = refuses (wide_within (within_of side) v.structure p)
 range_step budget v (spent_on side) = refuses (over_budget budget)
+range_step budget v no_range = refuses memory
 
 -- Where no live load is listed, nothing is judged.
 abbrev pub range_told : (budget : ℕ) → Surveyed → Work Due

@@ -7,11 +7,11 @@ use Rattle.stack_yield.specs.declared.types.RegionPlace.{RegionPlace}
 use Rattle.stack_yield.specs.declared.types.RegionPlace.TheVariants as places
 use Rattle.stack_yield.specs.Directions.{directions_of}
 use Rattle.stack_yield.specs.Pairing.{pair_of}
-use Rattle.stack_yield.specs.Outcomes.{Outcomes, answered, passes_at, spends_at, outcomes}
+use Rattle.stack_yield.specs.Outcomes.{Outcomes, answered, passes_at, spends_at, no_outcomes, outcomes}
 use Rattle.stack_lines.specs.declared.refusal.Input.TheVariants as inputs
 use Rattle.stack_lines.specs.declared.refusal.Within.TheVariants.{Direction}
 use Rattle.stack_lines.specs.declared.refusal.ReachPlace.TheVariants.{First, Second, Point}
-use Rattle.stack_lines.specs.Refusals.{Fault, directions_line, wide_reach, over_budget, no_pair}
+use Rattle.stack_lines.specs.Refusals.{Fault, directions_line, wide_reach, over_budget, no_pair, memory}
 use Rattle.stack_lines.specs.Answers.{Due, region_due}
 use Rattle.stack_forms.specs.Judging.{wide_within}
 use Rattle.stack_forms.specs.Work.{Work, gives, refuses, ◌>>=◌}
@@ -36,11 +36,12 @@ wide_toward number s places.Second = wide_reach (Direction number) Second
 wide_toward number s places.Point = wide_reach (Direction number) Point
 
 -- A region is given out; a number that is too wide and a budget that is spent are refused. Directions are told by their
--- numbers from 1.
+-- numbers from 1. Nothing else comes.
 abbrev pub region_step : (budget : ℕ) → Surveyed → (i j : ℕ) → List (ℤ × ℤ) → Outcomes → Work Due
 region_step budget v i j ds (answered r) = gives (region_due v i j ds r)
 region_step budget v i j ds (passes_at k p) = refuses (wide_toward (k + 1) v.structure p)
 region_step budget v i j ds (spends_at k) = refuses (over_budget budget)
+region_step budget v i j ds no_outcomes = refuses memory
 
 -- A text of directions, up to the region of two loads in them.
 abbrev pub directed : (budget : ℕ) → Surveyed → ℕ × ℕ → List ℕ → Work Due

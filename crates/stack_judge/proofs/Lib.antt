@@ -5,3 +5,4 @@ mod NarrowRuns
 mod Budgets
 mod RevisedRuns
 pub mod EachJudged
+pub mod JudgedValues

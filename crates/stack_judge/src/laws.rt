@@ -1,6 +1,7 @@
 //! Laws of the judgement of a survey, each a clause of a function that does nothing.
 
 ghost use Rattle.stack_judge.specs.Judgement.{EachEndIsJudged};
+ghost use Rattle.stack_judge.specs.Judged.{JudgementsAreOfTheQuestion, JudgementsAreCertified, JudgementsAreJudged};
 ghost use Rattle.stack_judge.specs.ProblemColumns.{TablesHaveThese};
 
 use stack_equations::free_body_laws;
@@ -13,7 +14,12 @@ pub fn columns_law()
     free_body_laws();
 }
 
-/// Each end of a run is judged: a certificate is found, a number is too wide, or the budget is spent.
+/// Each end of a run is judged: a certificate is found, a number is too wide, or the budget is spent. A certificate
+/// answers the question. It is true and tells whether the dead loads stand, where the scene is proper; of a survey of
+/// a structure within its limits it is accepted, its numbers fit and its lists are few.
 pub fn judgement_law()
-    ensures { EachEndIsJudged }
+    ensures ends { EachEndIsJudged }
+    ensures question { JudgementsAreOfTheQuestion }
+    ensures certified { JudgementsAreCertified }
+    ensures judged { JudgementsAreJudged }
 {}

@@ -16,6 +16,7 @@ use Rattle.stack_stages.specs.Staged.{Staged, falls, AreTrue, AreSettled}
 use Rattle.stack_stages.specs.StagesText.{stages_text}
 use Rattle.stack_pairs.specs.Reaches.{RegionValue, collapse, points, RegionTells}
 use Rattle.stack_pairs.specs.Directed.{ArePair}
+use Rattle.stack_yield.specs.JudgedReaches.{RegionIsJudged}
 use Rattle.stack_yield.specs.RegionText.{region_text}
 use Rattle.stack_lines.specs.declared.answer.Verdict.{Verdict}
 use Rattle.stack_lines.specs.declared.answer.Verdict.TheVariants.{Affirmed, Denied}
@@ -92,6 +93,7 @@ pub record IsRegionOf (v : Surveyed) (i j : ℕ) (ds : List (ℤ × ℤ)) (r : R
     (text : List ℕ) : Type 0 where
   pub are_loads : ArePair v.structure i j
   pub tells : RegionTells v i j ds r
+  pub judged : RegionIsJudged v i j r
   pub is_verdict : verdict ≡ region_verdict r
   pub is_text : text ≡ region_text r
 

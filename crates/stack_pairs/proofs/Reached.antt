@@ -257,6 +257,11 @@ all_tell s i j [] proper pair h = All-nil (ReachTells s i j)
 all_tell s i j (r ∷ rs) proper pair h =
     All-cons (ReachTells s i j) r rs (reaches_tell s i j r proper pair h.0) (all_tell s i j rs proper pair h.1)
 
+pub carried_pairs_mix : CarriedPairsMix
+carried_pairs_mix s i j proper a b D a' b' D' p q hp hq some c d =
+    mixtures_are_carried (scene_of s) (wrench_on s.structure i) (wrench_on s.structure j) a b D a' b' D' p q proper
+    hp hq some c d
+
 pub regions_tell : RegionsTell
 regions_tell s i j ds [] proper pair some is h = absurd (omega arith)
 regions_tell s i j ds (r ∷ rs) proper pair some is h = record {
@@ -264,9 +269,5 @@ regions_tell s i j ds (r ∷ rs) proper pair some is h = record {
   each = h;
   nothing = reaches_stand s i j r proper pair h.0;
   tell = all_tell s i j (r ∷ rs) proper pair h;
+  mixtures = carried_pairs_mix s i j proper;
 }
-
-pub carried_pairs_mix : CarriedPairsMix
-carried_pairs_mix s i j a b D a' b' D' p q proper hp hq some c d =
-    mixtures_are_carried (scene_of s) (wrench_on s.structure i) (wrench_on s.structure j) a b D a' b' D' p q proper
-    hp hq some c d

@@ -123,13 +123,20 @@ ReachTells s i j r = Tells s i j r.m r.n r.point r.half
 abbrev pub direction_of_reach : ReachValue → ℤ × ℤ
 direction_of_reach r = (r.m, r.n)
 
+-- every mixture of two pairs that are carried is carried
+abbrev pub PairsMix : Surveyed → (i j : ℕ) → Type 0
+PairsMix s i j = (a b D a' b' D' p q : ℤ) → pos 0 ≼ p → pos 0 ≼ q → ¬ ((p ≡ pos 0) × (q ≡ pos 0)) →
+    CarriesPair s i j a b D → CarriesPair s i j a' b' D' →
+    CarriesPair s i j (p *ℤ a +ℤ q *ℤ a') (p *ℤ b +ℤ q *ℤ b') (p *ℤ D +ℤ q *ℤ D')
+
 -- a reach for each of these directions, in their order, each with a true certificate; both loads may be nothing; and
--- each reach tells what is carried
+-- each reach tells what is carried. What the points span is carried, since mixtures are
 pub record ArePoints (s : Surveyed) (i j : ℕ) (ds : List (ℤ × ℤ)) (rs : List ReachValue) : Type 0 where
   pub directions : map direction_of_reach rs ≡ ds
   pub each : AllByRecursion (IsReach s i j) rs
   pub nothing : CarriesPair s i j (pos 0) (pos 0) (pos 1)
   pub tell : All (ReachTells s i j) rs
+  pub mixtures : PairsMix s i j
 
 -- what a region says: the dead loads collapse, or it has points
 abbrev pub RegionTells : Surveyed → (i j : ℕ) → List (ℤ × ℤ) → RegionValue → Type 0

@@ -14,13 +14,13 @@ use Rattle.stack_range.specs.Ranged.{between, AnswersBySides, end_view, side_jud
 use Rattle.stack_range.specs.RangeJudgement.{told, by_least, by_sides, JudgesRange}
 
 -- where the greatest side has an end, the least side decides
-on_least : (high : EndValue) (one two : Judgement) → one ≡ certified (end_certificate high) →
+pub on_least : (high : EndValue) (one two : Judgement) → one ≡ certified (end_certificate high) →
     by_sides one two ≡ by_least high two
 on_least (at f y) one two e = ap (λ j. by_sides j two) e
 on_least (unlimited base ray) one two e = ap (λ j. by_sides j two) e
 
 -- where it has an end too, the range is told
-told_both : (low high : EndValue) (two : Judgement) → two ≡ certified (end_certificate low) →
+pub told_both : (low high : EndValue) (two : Judgement) → two ≡ certified (end_certificate low) →
     by_least high two ≡ told (between low high)
 told_both (at f y) high two e = ap (by_least high) e
 told_both (unlimited base ray) high two e = ap (by_least high) e

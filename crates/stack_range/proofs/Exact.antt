@@ -75,7 +75,7 @@ within s (at f y) n D proper h c = by_lt_z (f.factor *ℤ D) (n *ℤ f.scale)
 within s (unlimited base ray) n D proper h c = tt
 
 -- the reversed scene has the same bearings
-proper_too : (s : Scene) → IsProper s → IsProper (reversed_scene s)
+pub proper_too : (s : Scene) → IsProper s → IsProper (reversed_scene s)
 proper_too s proper k l = let h = proper k l in record {
   second_exists = h.second_exists;
   first_before_second = h.first_before_second;

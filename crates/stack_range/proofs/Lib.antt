@@ -6,3 +6,4 @@ mod ReversedLoads
 mod Sides
 mod Printable
 mod AsJudgement
+pub mod BothSides

@@ -1,5 +1,5 @@
 -- The laws of the range of factors.
-use Rattle.std.specs.Prelude.{◌≡◌, ◌↔◌, ℤ, pos, neg_ℤ, ◌*ℤ◌}
+use Rattle.std.specs.Prelude.{◌≡◌, ◌↔◌, ℕ, ℤ, pos, neg_ℤ, ◌*ℤ◌}
 use Rattle.stack_algebra.specs.IntegerOrder.{◌≼◌, ◌≺◌}
 use Rattle.stack_contact.specs.Surveyed.{Surveyed}
 use Rattle.stack_statics.specs.Scene.{Scene, IsProper}
@@ -8,6 +8,7 @@ use Rattle.stack_equilibrium.specs.SurveyScene.{scene_of}
 use Rattle.stack_equilibrium.specs.Truth.{IsTrueCertificate}
 use Rattle.stack_range.specs.Reversed.{reversed_scene, reversed_survey}
 use Rattle.stack_range.specs.CarriedFactors.{CarriesAt, EndValue, end_certificate, AreCarriedBetween}
+use Rattle.stack_range.specs.RangeJudgement.{RangeJudgement, range_judgement, AreSides}
 
 -- N over E lies between L over D and L' over D', which are carried: it is carried
 abbrev pub WhatLiesBetweenIsCarried : Type 0
@@ -27,3 +28,8 @@ abbrev pub RangesAreExact : Type 0
 RangesAreExact = (v : Surveyed) (low high : EndValue) → IsProper (scene_of v) →
     IsTrueCertificate v (end_certificate high) → IsTrueCertificate (reversed_survey v) (end_certificate low) →
     AreCarriedBetween v low high
+
+-- the judgement of a range is this exactly where those of its sides are so: none is left over
+abbrev pub RangesAreBySides : Type 0
+RangesAreBySides = (v : Surveyed) (budget : ℕ) (j : RangeJudgement) → IsProper (scene_of v) →
+    (range_judgement v budget ≡ j) ↔ AreSides v budget j

@@ -12,25 +12,27 @@ use Rattle.stack_range.specs.declared.types.Range.{Range}
 use Rattle.stack_range.specs.declared.types.RangeError.{RangeError}
 use Rattle.stack_range.specs.declared.types.RangeError.TheVariants as errors
 use Rattle.stack_range.specs.Reversed.{reversed_survey}
-use Rattle.stack_range.specs.CarriedFactors.{EndValue, at, unlimited}
-use Rattle.stack_range.specs.Ranged.{RangeValue, collapsing, between, range_view}
+use Rattle.stack_range.specs.CarriedFactors.{EndValue, at, unlimited, end_certificate}
+use Rattle.stack_range.specs.Ranged.{RangeValue, collapsing, between, range_view, side_judgement, IsReached}
 
 -- the range is told, a number of a side is too wide, or the budget is spent on a side
 pub data RangeJudgement : Type 0 where
   told : RangeValue → RangeJudgement
   wide_on : Side → JudgePlace → RangeJudgement
   spent_on : Side → RangeJudgement
+  -- none of these, which never comes
+  no_range : RangeJudgement
 
 -- the range by the judgement of the least side, with the other end. No other certificate comes there: the dead loads
 -- stand; and no end is left unjudged
 abbrev pub by_least : EndValue → Judgement → RangeJudgement
 by_least high (certified (greatest f y)) = told (between (at f y) high)
 by_least high (certified (unbounded base ray)) = told (between (unlimited base ray) high)
-by_least high (certified (collapses y)) = told (collapsing y)
-by_least high (certified (stands f)) = spent_on Least
+by_least high (certified (collapses y)) = no_range
+by_least high (certified (stands f)) = no_range
 by_least high (too_wide p) = wide_on Least p
 by_least high spent = spent_on Least
-by_least high unjudged = spent_on Least
+by_least high unjudged = no_range
 
 -- the range by the judgements of both sides, the greatest first. `stands` never comes of live loads, and no end is left
 -- unjudged
@@ -38,14 +40,24 @@ abbrev pub by_sides : Judgement → Judgement → RangeJudgement
 by_sides (certified (greatest f y)) least = by_least (at f y) least
 by_sides (certified (unbounded base ray)) least = by_least (unlimited base ray) least
 by_sides (certified (collapses y)) least = told (collapsing y)
-by_sides (certified (stands f)) least = spent_on Greatest
+by_sides (certified (stands f)) least = no_range
 by_sides (too_wide p) least = wide_on Greatest p
 by_sides spent least = spent_on Greatest
-by_sides unjudged least = spent_on Greatest
+by_sides unjudged least = no_range
 
 -- what comes of a survey within a budget of pivots a side, by the written runs of both sides
 abbrev pub range_judgement : Surveyed → (budget : ℕ) → RangeJudgement
 range_judgement v budget = by_sides (judgement Live v budget) (judgement Live (reversed_survey v) budget)
+
+-- what a judgement of a range says of those of its sides: a collapse is that of the greatest side, a range has both
+-- ends, and the side that is refused is one that is judged at all
+abbrev pub AreSides : Surveyed → (budget : ℕ) → RangeJudgement → Type 0
+AreSides v budget (told (collapsing y)) = side_judgement Greatest v budget ≡ certified (collapses y)
+AreSides v budget (told (between low high)) = (side_judgement Greatest v budget ≡ certified (end_certificate high))
+    × (side_judgement Least v budget ≡ certified (end_certificate low))
+AreSides v budget (wide_on side p) = IsReached side v budget × (side_judgement side v budget ≡ too_wide p)
+AreSides v budget (spent_on side) = IsReached side v budget × (side_judgement side v budget ≡ spent)
+AreSides v budget no_range = ⊥
 
 -- what is answered: exactly this, unless no live load is listed. `Memory` may come at any time
 abbrev pub JudgesRange : Result Range RangeError → Surveyed → (budget : ℕ) → Type 0

@@ -4,3 +4,4 @@ pub mod FirstRefused
 pub mod Settled
 pub mod Positions
 pub mod OrderLines
+pub mod FirstDecides

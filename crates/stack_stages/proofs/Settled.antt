@@ -15,8 +15,8 @@ use Rattle.stack_part.specs.Part.{surveyed_part}
 use Rattle.stack_part.proofs.PartSound.{part_sound}
 use Rattle.stack_part.proofs.PartSurveys.{part_surveyed}
 use Rattle.stack_stages.specs.Stage.{is_built, surveyed_stage}
-use Rattle.stack_stages.specs.Staged.{Staged, all_stand, falls, too_wide_at, spent_at, AreStanding, AreTrue, AreCarried}
-use Rattle.stack_stages.specs.Staged.{AreSettled}
+use Rattle.stack_stages.specs.Staged.{Staged, all_stand, falls, too_wide_at, spent_at, no_stages, AreStanding}
+use Rattle.stack_stages.specs.Staged.{AreTrue, AreCarried, AreSettled}
 
 module _ (v : Surveyed) (sound : IsSound v.structure) (survey : IsSurvey v.structure v) (order : List ℕ) where
   -- the scene of a stage is that of a sound structure and its survey
@@ -45,3 +45,4 @@ module _ (v : Surveyed) (sound : IsSound v.structure) (survey : IsSurvey v.struc
   )
   settled (too_wide_at stage p) h = h
   settled (spent_at stage) h = h
+  settled no_stages h = h

@@ -1,5 +1,5 @@
 -- What comes of the stages of an order, one after the other: all stand, one falls, or one isn't judged.
-use Rattle.std.specs.Prelude.{◌≡◌, ℕ, zero, suc, ◌<◌, List, [], ◌∷◌, ◌++◌, length, Some, slice_get, ⊤}
+use Rattle.std.specs.Prelude.{◌≡◌, ℕ, zero, suc, ◌<◌, List, [], ◌∷◌, ◌++◌, length, Some, slice_get}
 use lib.IntN.{ℤ, pos}
 use Rattle.stack_algebra.specs.IntegerOrder.{◌≺◌}
 use Rattle.stack_contact.specs.Surveyed.{Surveyed}
@@ -14,23 +14,24 @@ use Rattle.stack_judge.specs.Judged.{IsJudged}
 use Rattle.stack_stages.specs.Stage.{surveyed_stage}
 
 -- each stage stands by its forces; the first ones stand, and the next collapses by a motion; a number of this stage,
--- from 1, is too wide; its budget is spent
+-- from 1, is too wide; its budget is spent; or none of these, which never comes
 pub data Staged : Type 0 where
   all_stand : List ForcesValue → Staged
   falls : List ForcesValue → MotionValue → Staged
   too_wide_at : (stage : ℕ) → JudgePlace → Staged
   spent_at : (stage : ℕ) → Staged
+  no_stages : Staged
 
 -- what comes of a stage, behind those that stand by these forces. The dead loads alone are asked about, so a
 -- certificate is one of standing or of a collapse; and no end is left unjudged
 abbrev pub staged_by : (List ForcesValue → Staged) → (stage : ℕ) → List ForcesValue → Judgement → Staged
 staged_by more stage fs (certified (stands f)) = more (fs ++ f ∷ [])
 staged_by more stage fs (certified (collapses m)) = falls fs m
-staged_by more stage fs (certified (greatest f m)) = all_stand fs
-staged_by more stage fs (certified (unbounded f r)) = all_stand fs
+staged_by more stage fs (certified (greatest f m)) = no_stages
+staged_by more stage fs (certified (unbounded f r)) = no_stages
 staged_by more stage fs (too_wide p) = too_wide_at stage p
 staged_by more stage fs spent = spent_at stage
-staged_by more stage fs unjudged = all_stand fs
+staged_by more stage fs unjudged = no_stages
 
 -- what comes of the stages behind stage k, which are so many
 abbrev pub staged_from : Surveyed → List ℕ → (budget : ℕ) → (left k : ℕ) → List ForcesValue → Staged
@@ -55,6 +56,7 @@ AreTrue v order (falls fs m) = AreStanding v order fs × (length fs < length ord
     × IsJudged Dead (surveyed_stage v order (suc (length fs))) (collapses m)
 AreTrue v order (too_wide_at stage p) = ⊥
 AreTrue v order (spent_at stage) = ⊥
+AreTrue v order no_stages = ⊥
 
 -- the dead loads of the first stages are carried
 abbrev pub AreCarried : Surveyed → List ℕ → ℕ → Type 0
@@ -67,6 +69,7 @@ AreSettled v order (falls fs m) = AreCarried v order (length fs)
     × ((D : ℤ) → pos 0 ≺ D → ¬ (Carries (scene_of (surveyed_stage v order (suc (length fs)))) (pos 0) D))
 AreSettled v order (too_wide_at stage p) = ⊥
 AreSettled v order (spent_at stage) = ⊥
+AreSettled v order no_stages = ⊥
 
 -- the first n stages are judged to stand
 abbrev pub StandBefore : Surveyed → List ℕ → (budget : ℕ) → ℕ → Type 0
@@ -81,9 +84,32 @@ pub record IsFirst (v : Surveyed) (order : List ℕ) (budget stage : ℕ) (j : J
   pub earlier : StandBefore v order budget before
   pub is : judgement Dead (surveyed_stage v order stage) budget ≡ j
 
--- which stage isn't judged, and why: a number of it is too wide, or its budget is spent
-abbrev pub AreUnjudged : Surveyed → List ℕ → (budget : ℕ) → Staged → Type 0
-AreUnjudged v order budget (all_stand fs) = ⊤
-AreUnjudged v order budget (falls fs m) = ⊤
-AreUnjudged v order budget (too_wide_at stage p) = IsFirst v order budget stage (too_wide p)
-AreUnjudged v order budget (spent_at stage) = IsFirst v order budget stage spent
+-- each stage is judged to stand
+abbrev pub AllAreJudged : Surveyed → List ℕ → (budget : ℕ) → Type 0
+AllAreJudged v order budget = StandBefore v order budget (length order)
+
+-- what comes of stages, by their judgements: all are judged to stand; or of the first that isn't, that it collapses,
+-- that a number of it is too wide or that its budget is spent
+abbrev pub AreByStages : Surveyed → List ℕ → (budget : ℕ) → Staged → Type 0
+AreByStages v order budget (all_stand fs) = AllAreJudged v order budget
+AreByStages v order budget (falls fs m) = IsFirst v order budget (suc (length fs)) (certified (collapses m))
+AreByStages v order budget (too_wide_at stage p) = IsFirst v order budget stage (too_wide p)
+AreByStages v order budget (spent_at stage) = IsFirst v order budget stage spent
+AreByStages v order budget no_stages = ⊥
+
+-- the judgement of all stages says this of each, and none is left over
+abbrev pub StagesAreByStages : Type 0
+StagesAreByStages = (v : Surveyed) (order : List ℕ) (budget : ℕ) → AreByStages v order budget (staged v order budget)
+
+-- the first stage of which a number is too wide, or whose budget is spent, is what comes of all; and where all are
+-- judged to stand, so does all
+pub record FirstStagesDecide (v : Surveyed) (order : List ℕ) (budget : ℕ) : Type 0 where
+  pub wide : (stage : ℕ) (p : JudgePlace) → IsFirst v order budget stage (too_wide p)
+      → staged v order budget ≡ too_wide_at stage p
+  pub over_budget : (stage : ℕ) → IsFirst v order budget stage spent → staged v order budget ≡ spent_at stage
+  pub fall : (stage : ℕ) (m : MotionValue) → IsFirst v order budget stage (certified (collapses m))
+      → (fs : List ForcesValue) × (staged v order budget ≡ falls fs m) × (stage ≡ suc (length fs))
+  pub stand : AllAreJudged v order budget → (fs : List ForcesValue) × (staged v order budget ≡ all_stand fs)
+
+abbrev pub StagesAreDecided : Type 0
+StagesAreDecided = (v : Surveyed) (order : List ℕ) (budget : ℕ) → FirstStagesDecide v order budget

@@ -3,7 +3,7 @@
 use Rattle.std.specs.Prelude.{ℕ, zero, suc, List, [], ◌++◌, codes, decimal, length, ⊤}
 use Rattle.stack_certificate.specs.Certificate.{MotionValue, collapses}
 use Rattle.stack_certificate.specs.CertificateText.{CertificateFits, certificate_text}
-use Rattle.stack_stages.specs.Staged.{Staged, all_stand, falls, too_wide_at, spent_at}
+use Rattle.stack_stages.specs.Staged.{Staged, all_stand, falls, too_wide_at, spent_at, no_stages}
 
 -- the line of a stage that stands
 abbrev pub stands_line : ℕ → List ℕ
@@ -28,6 +28,7 @@ stages_text (all_stand fs) = stand_lines (length fs) ++ codes "all stand\n"
 stages_text (falls fs m) = falls_text (length fs) m
 stages_text (too_wide_at stage p) = []
 stages_text (spent_at stage) = []
+stages_text no_stages = []
 
 -- what comes of stages can be printed: whatever is told can
 abbrev pub CanPrint : Staged → Type 0

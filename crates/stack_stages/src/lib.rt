@@ -11,6 +11,7 @@
 
 mod errors;
 mod judging;
+mod laws;
 mod lines;
 mod reading;
 mod stage;
@@ -19,6 +20,7 @@ pub mod types;
 
 pub use errors::OrderError;
 pub use judging::stages;
+pub use laws::stages_laws;
 pub use reading::read_order;
 pub use stage::stage_of;
 pub use text::write_stages;

@@ -17,10 +17,12 @@ use Rattle.stack_certificate.specs.declared.types.Motion.{Motion}
 use Rattle.stack_certificate.specs.Certificate.{motion_view}
 use Rattle.stack_yield.specs.declared.directing.Towards.{Towards}
 use Rattle.stack_yield.specs.declared.types.RegionError.{RegionError}
+use Rattle.stack_yield.specs.declared.types.RegionError.TheVariants as errors
 use Rattle.std.proofs.Common.{take, Option, Some, None}
 use Rattle.stack_certificate.specs.Certificate.{stands, collapses, greatest, unbounded}
 use Rattle.stack_equilibrium.specs.declared.types.PowerWide.{PowerWide}
 use Rattle.stack_equilibrium.specs.declared.types.Question.TheVariants.{Live}
+use Rattle.stack_judge.specs.Judged.{IsJudged}
 use Rattle.stack_judge.specs.Judgement.{Judgement, certified, too_wide, spent, unjudged, judgement}
 use Rattle.stack_pairs.specs.Directed.{directed_survey}
 use Rattle.stack_pairs.specs.Reaches.{PointValue, direction_of_reach, reach_of}
@@ -32,9 +34,13 @@ use Rattle.stack_yield.specs.declared.judging.Stop.{Stop}
 use Rattle.stack_yield.specs.declared.judging.Stop.TheVariants.{Passes, Spends, Wants}
 use Rattle.stack_yield.specs.Kept.{reach_view}
 use Rattle.stack_yield.specs.Outcomes.{Outcome, reaches, falls, passes, spends, direction_outcome}
-use Rattle.stack_yield.specs.Outcomes.{Outcomes, answered, passes_at, spends_at, with_reach, and_then}
+use Rattle.stack_yield.specs.Outcomes.{Outcomes, answered, passes_at, spends_at, no_outcomes, with_reach, and_then}
 use Rattle.stack_yield.specs.Outcomes.{outcomes_from, outcomes}
-use Rattle.stack_yield.specs.Regions.{turn_outcome, IsOutcome, IsFall, TurnHolds, Regions, refused_as, towards_of}
+use Rattle.stack_yield.specs.Regions.{turn_outcome, IsOutcome, TurnHolds, Regions, RefusesFirst, refused_as}
+use Rattle.stack_yield.specs.Regions.{towards_of}
+use Rattle.stack_yield.specs.ByDirections.{AreByDirections}
+use Rattle.stack_yield.specs.JudgedReaches.{ReachIsJudged}
+use Rattle.stack_yield.proofs.FirstDirection.{by_directions}
 
 -- reaches in front of what comes
 abbrev pub onto : List ReachValue → Outcomes → Outcomes
@@ -42,24 +48,28 @@ onto rs (answered (points qs)) = answered (points (rs ++ qs))
 onto rs (answered (collapse y)) = answered (collapse y)
 onto rs (passes_at k p) = passes_at k p
 onto rs (spends_at k) = spends_at k
+onto rs no_outcomes = no_outcomes
 
 onto_more : (rs : List ReachValue) (r : ReachValue) (o : Outcomes) → onto rs (with_reach r o) ≡ onto (rs ++ r ∷ []) o
 onto_more rs r (answered (points qs)) = ap (λ xs. answered (points xs)) (sym (append_assoc rs (r ∷ []) qs))
 onto_more rs r (answered (collapse y)) = refl
 onto_more rs r (passes_at k p) = refl
 onto_more rs r (spends_at k) = refl
+onto_more rs r no_outcomes = refl
 
 onto_nothing : (o : Outcomes) → o ≡ onto [] o
 onto_nothing (answered (points qs)) = refl
 onto_nothing (answered (collapse y)) = refl
 onto_nothing (passes_at k p) = refl
 onto_nothing (spends_at k) = refl
+onto_nothing no_outcomes = refl
 
 module _ (s : Surveyed) (i j budget : ℕ) where
   -- how far the directions ds have come: the reaches rs of the first k
   pub record IsGathered (ds : List (ℤ × ℤ)) (rs : List ReachValue) (k : ℕ) : Type 0 where
     pub outcomes : outcomes s i j budget ds ≡ onto rs (outcomes_from s i j budget k (drop k ds))
     pub each : AllByRecursion (IsReach s i j) rs
+    pub judged : AllByRecursion (ReachIsJudged s i j) rs
     pub directions : map direction_of_reach rs ≡ take k ds
     pub counted : length rs ≡ k
     pub within : k ≤ length ds
@@ -68,6 +78,7 @@ module _ (s : Surveyed) (i j budget : ℕ) where
   begun ds rs e = subst (λ xs. IsGathered ds (map reach_view xs) 0) (sym e) (record {
     outcomes = onto_nothing (outcomes s i j budget ds);
     each = tt;
+    judged = tt;
     directions = refl;
     counted = refl;
     within = omega arith;
@@ -80,10 +91,10 @@ module _ (s : Surveyed) (i j budget : ℕ) where
   next ds rs k d o lt g e = g.outcomes ∙ ap (λ xs. onto rs (outcomes_from s i j budget k xs)) (drop-cons ds k d lt)
       ∙ ap (λ x. onto rs (and_then k x (outcomes_from s i j budget (suc k) (drop (suc k) ds)))) e
 
-  all_more : (rs : List ReachValue) (r : ReachValue) → AllByRecursion (IsReach s i j) rs → IsReach s i j r →
-      AllByRecursion (IsReach s i j) (rs ++ r ∷ [])
-  all_more [] r h g = (g, tt)
-  all_more (x ∷ rs) r h g = (h.0, all_more rs r h.1 g)
+  all_more : (P : ReachValue → Type 0) (rs : List ReachValue) (r : ReachValue) → AllByRecursion P rs → P r →
+      AllByRecursion P (rs ++ r ∷ [])
+  all_more P [] r h g = (g, tt)
+  all_more P (x ∷ rs) r h g = (h.0, all_more P rs r h.1 g)
 
   length_more : (rs : List ReachValue) (r : ReachValue) → length (rs ++ r ∷ []) ≡ suc (length rs)
   length_more [] r = refl
@@ -109,8 +120,7 @@ module _ (s : Surveyed) (i j budget : ℕ) where
       (reach_of s i j m n (greatest f y)) v h))
   outcome_direction m n (certified (unbounded f r)) v h =
       let same : reach_of s i j m n (unbounded f r) ≡ v = cc in ap direction_of_reach (sym same)
-  outcome_direction m n (certified (stands f)) v h =
-      let same : reach_of s i j m n (stands f) ≡ v = cc in ap direction_of_reach (sym same)
+  outcome_direction m n (certified (stands f)) v h = absurd (cc)
   outcome_direction m n (certified (collapses y)) v h = absurd (cc)
   outcome_direction m n (too_wide p) v h = absurd (cc)
   outcome_direction m n spent v h = absurd (cc)
@@ -118,13 +128,15 @@ module _ (s : Surveyed) (i j budget : ℕ) where
 
   pub one_more : (ds : List (ℤ × ℤ)) (rs more : List Reach) (k : ℕ) (d : ℤ × ℤ) (r : Reach) → k < length ds →
       IsGathered ds (map reach_view rs) k → direction_outcome s i j budget (get_or ds k d) ≡ reaches (reach_view r) →
-      IsReach s i j (reach_view r) → more ≡ rs ++ r ∷ [] → IsGathered ds (map reach_view more) (k + 1)
+      IsReach s i j (reach_view r) × ReachIsJudged s i j (reach_view r) → more ≡ rs ++ r ∷ [] →
+      IsGathered ds (map reach_view more) (k + 1)
   one_more ds rs more k d r lt g e h is =
       subst (λ xs. IsGathered ds xs (k + 1)) (sym (ap (map reach_view) is ∙ map-append reach_view rs (r ∷ [])))
       (subst (IsGathered ds (map reach_view rs ++ reach_view r ∷ [])) (sym (add-one k)) (record {
         outcomes = next ds (map reach_view rs) k d (reaches (reach_view r)) lt g e
             ∙ onto_more (map reach_view rs) (reach_view r) (outcomes_from s i j budget (suc k) (drop (suc k) ds));
-        each = all_more (map reach_view rs) (reach_view r) g.each h;
+        each = all_more (IsReach s i j) (map reach_view rs) (reach_view r) g.each h.0;
+        judged = all_more (ReachIsJudged s i j) (map reach_view rs) (reach_view r) g.judged h.1;
         directions = one_direction ds (map reach_view rs) (reach_view r) k d lt g.directions
             (outcome_direction (get_or ds k d).0 (get_or ds k d).1 (judgement Live
             (directed_survey s i j (get_or ds k d).0 (get_or ds k d).1) budget) (reach_view r) e);
@@ -149,11 +161,11 @@ module _ (s : Surveyed) (i j budget : ℕ) where
   reached o r t x h e is = ok_outcome o r t h e ∙ ap turn_outcome is
 
   pub reach_holds : (r : Result Turn Stop) (t : Turn) (x : Reach) → IfOk r (λ y. TurnHolds s i j y) → r ≡ Ok t →
-      t ≡ Reaches x → IsReach s i j (reach_view x)
+      t ≡ Reaches x → IsReach s i j (reach_view x) × ReachIsJudged s i j (reach_view x)
   reach_holds r t x h e is = subst (TurnHolds s i j) is (subst (λ y. IfOk y (λ z. TurnHolds s i j z)) e h)
 
   pub fall_holds : (r : Result Turn Stop) (t : Turn) (y : Motion) → IfOk r (λ x. TurnHolds s i j x) → r ≡ Ok t →
-      t ≡ Falls y → IsFall s (motion_view y)
+      t ≡ Falls y → IsJudged Live s (collapses (motion_view y))
   fall_holds r t y h e is = subst (TurnHolds s i j) is (subst (λ x. IfOk x (λ z. TurnHolds s i j z)) e h)
 
   pub fallen : (ds : List (ℤ × ℤ)) (rs : List ReachValue) (k : ℕ) (d : ℤ × ℤ) (r : Result Turn Stop) (t : Turn)
@@ -181,3 +193,10 @@ module _ (s : Surveyed) (i j budget : ℕ) where
       RegionTells s i j ds (points rs)
   all_told law proper pair ds rs k some ended g =
       law s i j ds rs proper pair (omega (arith, some, ended, g.counted)) (g.directions ∙ take_all k ds ended) g.each
+
+  -- a direction that is refused is the first that has no reach
+  pub refuses_first : (ds : List (ℤ × ℤ)) (e : RegionError) → Regions (Err e) s i j budget ds →
+      RefusesFirst (Err e) s i j budget ds
+  refuses_first ds (errors.TooWide k p) g = subst (AreByDirections s i j budget ds) g (by_directions s i j budget ds)
+  refuses_first ds (errors.Spent k) g = subst (AreByDirections s i j budget ds) g (by_directions s i j budget ds)
+  refuses_first ds errors.Memory g = tt

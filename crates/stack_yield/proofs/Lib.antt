@@ -7,3 +7,5 @@ pub mod BoundedReaches
 pub mod DirectedLive
 pub mod Gathered
 pub mod ReachLines
+pub mod FirstDirection
+mod FallsOfModel

@@ -1,9 +1,9 @@
 -- What the code answers of directions, against what is defined; want of memory is free.
 use Rattle.std.specs.Prelude.{◌≡◌, ℕ, ℤ, List, Result, Ok, Err, ⊤}
 use Rattle.stack_contact.specs.Surveyed.{Surveyed}
-use Rattle.stack_certificate.specs.Certificate.{MotionValue, motion_view, collapses}
-use Rattle.stack_certificate.specs.CertificateText.{CertificateFits}
-use Rattle.stack_equilibrium.specs.Truth.{IsTrueCertificate}
+use Rattle.stack_certificate.specs.Certificate.{motion_view, collapses}
+use Rattle.stack_equilibrium.specs.declared.types.Question.TheVariants.{Live}
+use Rattle.stack_judge.specs.Judged.{IsJudged}
 use Rattle.stack_pairs.specs.Reaches.{IsReach}
 use Rattle.stack_yield.specs.declared.directing.Towards.{Towards}
 use Rattle.stack_yield.specs.declared.judging.Turn.{Turn}
@@ -14,7 +14,9 @@ use Rattle.stack_yield.specs.declared.types.Region.{Region}
 use Rattle.stack_yield.specs.declared.types.RegionError.{RegionError}
 use Rattle.stack_yield.specs.declared.types.RegionError.TheVariants.{TooWide, Spent, Memory}
 use Rattle.stack_yield.specs.Kept.{reach_view, region_view}
+use Rattle.stack_yield.specs.JudgedReaches.{ReachIsJudged}
 use Rattle.stack_yield.specs.Outcomes.{Outcome, reaches, falls, passes, spends}
+use Rattle.stack_yield.specs.ByDirections.{IsFirstDirection}
 use Rattle.stack_yield.specs.Outcomes.{answered, passes_at, spends_at, outcomes}
 
 -- what a direction gives
@@ -29,15 +31,10 @@ IsOutcome (Err (Passes p)) o = o ≡ passes p
 IsOutcome (Err Spends) o = o ≡ spends
 IsOutcome (Err Wants) o = ⊤
 
--- a collapse is a true one, and can be printed
-pub record IsFall (s : Surveyed) (y : MotionValue) : Type 0 where
-  pub holds : IsTrueCertificate s (collapses y)
-  pub fits : CertificateFits (collapses y)
-
--- a reach is one of the survey, and a collapse a true one
+-- a reach is one of the survey, with a certificate that is judged; a collapse is a judged one of the survey itself
 abbrev pub TurnHolds : Surveyed → (i j : ℕ) → Turn → Type 0
-TurnHolds s i j (Reaches r) = IsReach s i j (reach_view r)
-TurnHolds s i j (Falls y) = IsFall s (motion_view y)
+TurnHolds s i j (Reaches r) = IsReach s i j (reach_view r) × ReachIsJudged s i j (reach_view r)
+TurnHolds s i j (Falls y) = IsJudged Live s (collapses (motion_view y))
 
 -- what is answered of all directions
 abbrev pub Regions : Result Region RegionError → Surveyed → (i j budget : ℕ) → List (ℤ × ℤ) → Type 0
@@ -45,6 +42,13 @@ Regions (Ok r) s i j budget ds = outcomes s i j budget ds ≡ answered (region_v
 Regions (Err (TooWide k p)) s i j budget ds = outcomes s i j budget ds ≡ passes_at k p
 Regions (Err (Spent k)) s i j budget ds = outcomes s i j budget ds ≡ spends_at k
 Regions (Err Memory) s i j budget ds = ⊤
+
+-- a direction that is refused is the first that has no reach, and why it has none
+abbrev pub RefusesFirst : Result Region RegionError → Surveyed → (i j budget : ℕ) → List (ℤ × ℤ) → Type 0
+RefusesFirst (Ok r) s i j budget ds = ⊤
+RefusesFirst (Err (TooWide k p)) s i j budget ds = IsFirstDirection s i j budget ds k (passes p)
+RefusesFirst (Err (Spent k)) s i j budget ds = IsFirstDirection s i j budget ds k spends
+RefusesFirst (Err Memory) s i j budget ds = ⊤
 
 -- why there is no region where direction number k has no reach
 abbrev pub refused_as : Stop → ℕ → RegionError

@@ -6,7 +6,8 @@ ghost use Rattle.stack_pairs.specs.Directed.{ArePair};
 ghost use Rattle.stack_pairs.specs.Reaches.{RegionTells};
 ghost use Rattle.stack_yield.specs.Directions.{IsDirection};
 ghost use Rattle.stack_yield.specs.Kept.{region_view};
-ghost use Rattle.stack_yield.specs.Regions.{Regions, refused_as, towards_of};
+ghost use Rattle.stack_yield.specs.JudgedReaches.{RegionIsJudged};
+ghost use Rattle.stack_yield.specs.Regions.{Regions, RefusesFirst, refused_as, towards_of};
 ghost use Rattle.stack_yield.specs.RegionText.{CanPrint};
 
 use crate::directing::{Towards, directed};
@@ -64,6 +65,8 @@ pub fn region(
     requires few { length dirs.now ≤ 64 }
     requires budget { budget ≢ 0 }
     ensures regions { Regions result s.now i j budget dirs.now }
+    ensures refused { RefusesFirst result s.now i j budget dirs.now }
+    ensures judged { IfOk result (λ r. RegionIsJudged s.now i j (region_view r)) }
     ensures tells { IfOk result (λ r. RegionTells s.now i j dirs.now (region_view r)) }
     ensures printable { IfOk result (λ r. CanPrint (region_view r)) }
 {

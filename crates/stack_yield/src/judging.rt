@@ -16,8 +16,8 @@ use crate::directing::{Towards, survey_towards};
 use crate::types::{Reach, RegionPlace};
 use stack_certificate::types::{Certificate, Forces, Motion};
 use stack_contact::types::Survey;
-use stack_equilibrium::power;
 use stack_equilibrium::types::Question;
+use stack_equilibrium::{power, proper};
 use stack_judge::{JudgeError, judge};
 use stack_whole::Whole;
 use std::alloc::{AllocError, Global};
@@ -118,6 +118,8 @@ fn certificate_turn(
     ensures outcome { IsOutcome result (certificate_outcome s.now t.i t.j t.m t.n (certificate_view certificate)) }
     ensures holds { IfOk result (λ r. TurnHolds s.now t.i t.j r) }
 {
+    // a law of surveys, by which a collapse is one of the survey itself
+    proper(s);
     match certificate {
         Certificate::Collapses(motion) => Ok(Turn::Falls(motion)),
         Certificate::Greatest(forces, motion) => {

@@ -16,6 +16,7 @@ mod directions;
 mod errors;
 mod gathering;
 mod judging;
+mod laws;
 mod naming;
 mod text;
 pub mod types;
@@ -24,6 +25,7 @@ pub use directing::directed;
 pub use directions::read_directions;
 pub use errors::{DirectionsError, NoPair};
 pub use gathering::region;
+pub use laws::directions_laws;
 pub use naming::pair;
 pub use text::write_region;
 

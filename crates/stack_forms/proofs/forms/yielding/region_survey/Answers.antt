@@ -22,6 +22,7 @@ returns-in-Ok-write_region c holds = (
   record {
     are_loads = c.requires.loads;
     tells = c.in-Ok.ensures.tells;
+    judged = c.in-Ok.ensures.judged;
     is_verdict = c.region_verdict-verdict.ensures;
     is_text = c.in-Ok-write_region.ensures;
   },
