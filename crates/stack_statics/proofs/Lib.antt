@@ -2,6 +2,7 @@ pub mod BearingWork
 pub mod Work
 pub mod Mixtures
 pub mod CertificateLaws
+pub mod Shares
 pub mod Outlines
 pub mod FanSums
 pub mod Mirrors

@@ -6,4 +6,5 @@ pub mod Sway
 pub mod SwayLaws
 pub mod Certificates
 pub mod Laws
+pub mod Shares
 pub mod Weights

@@ -5,6 +5,8 @@ ghost use Rattle.stack_statics.specs.SwayLaws.{SwayActsAtCentroid, SwayDownIsWei
 ghost use Rattle.stack_statics.specs.SwayLaws.{AnyCornerSwaysTheSame};
 ghost use Rattle.stack_statics.specs.Laws.{StandsIsCarried, CollapseExcludesBalance, GreatestIsCarried};
 ghost use Rattle.stack_statics.specs.Laws.{GreatestBoundsEveryFactor, UnboundedCarriesAbove, UnboundedCarriesAll};
+ghost use Rattle.stack_statics.specs.Shares.{StandingShareIsCarried, FallingShareIsNotCarried, CarriedHasNoGaps};
+ghost use Rattle.stack_statics.specs.Shares.{NothingAboveIsCarried};
 
 /// A bearing's force does on a motion of both its bodies what its parts do on the opening and the slide, and
 /// balanced forces do no work on a motion of the free bodies. After Livesley (1978).
@@ -22,6 +24,15 @@ pub fn certificate_laws()
     ensures bound { GreatestBoundsEveryFactor }
     ensures above { UnboundedCarriesAbove }
     ensures all { UnboundedCarriesAll }
+{}
+
+/// A share of the live loads is taken as dead: where it stands, its factor is carried, and where it collapses, it isn't.
+/// What is carried has no gaps, so nothing above such a share is carried. After Livesley (1978).
+pub fn share_law()
+    ensures carried { StandingShareIsCarried }
+    ensures beyond { FallingShareIsNotCarried }
+    ensures between { CarriedHasNoGaps }
+    ensures above { NothingAboveIsCarried }
 {}
 
 /// A body's weight is the same whichever of its corners is the first.

@@ -11,4 +11,4 @@
 mod laws;
 pub mod wrench;
 
-pub use laws::{centroid_law, certificate_laws, sway_laws, virtual_work, weight_law};
+pub use laws::{centroid_law, certificate_laws, share_law, sway_laws, virtual_work, weight_law};
