@@ -17,7 +17,7 @@ fn greatest_of<T: Whole>(rows: usize, greatest: T, i: usize) -> T
     if i == rows { greatest } else { T::zero() }
 }
 
-/// A bound of row i, by its top.
+/// A bound of row i, by its top. May give up; no clause says when.
 fn bound_at<T: Whole>(
     first: &First<T>,
     numbers: &[T],
@@ -56,7 +56,7 @@ pub struct Divided<T> {
     pub top: T,
 }
 
-/// What a step of row i, of this top, takes. None where its denominator or a bound of it doesn't fit.
+/// What a step of row i, of this top, takes. May give up; no clause says when.
 fn bounded_by<T: Whole>(
     first: &First<T>,
     greatest: T,
@@ -86,7 +86,7 @@ fn bounded_by<T: Whole>(
     })
 }
 
-/// The same by the top that is kept of row i. None where none is known, too.
+/// The same by the top that is kept of row i. May give up, where no top is known too.
 fn bounded_as_kept<T: Whole>(
     first: &First<T>,
     greatest: T,
@@ -138,7 +138,7 @@ fn bounded_anew<T: Whole>(
     Some(ready)
 }
 
-/// The same by the top that is kept of row i, or by that of its numbers where the step doesn't fit by that.
+/// The same by the top that is kept of row i, or else by that of its numbers. May give up; no clause says when.
 pub fn bounded_under<T: Whole>(
     first: &First<T>,
     greatest: T,
@@ -164,7 +164,8 @@ pub fn bounded_under<T: Whole>(
     }
 }
 
-/// A bound of all numbers of a row without own cells: that of its artificial numbers, or else the greatest of all.
+/// A bound of all numbers of a row without own cells: that of its artificial numbers, or else the greatest of all. May
+/// give up; no clause says when.
 pub fn pivot_bound<T: Whole>(first: &First<T>, row: &[T], under: T, top: T) -> Option<T>
     requires width { length row.now ≡ suc first.now.rows }
     requires topped { IsTopped T.value row.now (unsigned_abs (T.value top)) }

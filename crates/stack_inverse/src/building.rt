@@ -16,7 +16,7 @@ use stack_rows::whole::Whole;
 use stack_table::problem::{Entry, Problem};
 use std::alloc::Global;
 
-/// A number of a row, flipped as the row is. None where it doesn't fit.
+/// A number of a row, flipped as the row is. May give up; no clause says when.
 pub fn turned<T: Whole>(right: &[i128], row: usize, number: i128) -> Option<T>
     requires { row < length right.now }
     ensures { IfSome result (λ r. T.value r ≡ turned (flips right.now row) number) }

@@ -70,7 +70,7 @@ fn put_first_rows<T: Whole>(
     Some(rest)
 }
 
-/// Puts the first rows and the objective row of phase 1. None where a number doesn't fit.
+/// Puts the first rows and the objective row of phase 1. May give up; no clause says when.
 pub fn fill<T: Whole>(
     numbers: &mut [T],
     unders: &mut [T],
@@ -97,7 +97,7 @@ pub fn fill<T: Whole>(
     Some(())
 }
 
-/// The number 1. Unsettled where it doesn't fit.
+/// The number 1. May give up; no clause says when.
 pub fn one<T: Whole>() -> Result<T, NoTable>
     ensures { IfOk result (λ r. T.value r ≡ pos 1) }
 {

@@ -4,6 +4,9 @@
 //! the inverse of the basis, and the right side. A number of a plain column is made from these and the first rows
 //! where it is needed. After the revised simplex method of Dantzig and Orchard-Hays (1954).
 //!
+//! A call may give up, with None or `Unsettled`: mostly since a number doesn't fit, and no clause says when. That says
+//! nothing of the written run. What a call answers else is exact.
+//!
 //! ```text
 //! let mut table = RevisedTable::<Wide>::of_problem(alloc, &problem)?; // the written table
 //! table.enter(column) == Some(()); // the numbers of the column are made and kept

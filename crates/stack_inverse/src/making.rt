@@ -47,7 +47,7 @@ fn own_of<T: Whole>(rows: usize, own: &[T], i: usize, j: usize) -> T
     if i == rows { own[j] } else { T::zero() }
 }
 
-/// The number in a row and a plain column, over the denominator of the row. None where a number doesn't fit.
+/// The number in a row and a plain column, over the denominator of the row. May give up; no clause says when.
 pub fn number_of<T: Whole>(
     first: &First<T>,
     own: &[T],
@@ -75,7 +75,7 @@ pub fn number_of<T: Whole>(
     Some(number)
 }
 
-/// Makes the numbers of a plain column, row by row. None where one doesn't fit.
+/// Makes the numbers of a plain column, row by row. May give up; no clause says when.
 pub fn enter_column<T: Whole>(
     first: &First<T>,
     own: &[T],
@@ -145,7 +145,7 @@ pub fn size_over<T: Whole>(numbers: &[T], count: usize) -> T
     }
 }
 
-/// A bound of all numbers of a row over this denominator, by its top. None where it doesn't fit.
+/// A bound of all numbers of a row over this denominator, by its top. May give up; no clause says when.
 pub fn bound<T: Whole>(first: &First<T>, numbers: &[T], under: T, greatest: T, top: T) -> Option<T>
     requires width { length numbers.now ≡ suc first.now.rows }
     requires topped { IsTopped T.value numbers.now (unsigned_abs (T.value top)) }
@@ -158,7 +158,7 @@ pub fn bound<T: Whole>(first: &First<T>, numbers: &[T], under: T, greatest: T, t
     Some(both.wider(numbers[first.rows]))
 }
 
-/// The number of a row without own cells in any column, the right side last. None where it doesn't fit.
+/// The number of a row without own cells in any column, the right side last. May give up; no clause says when.
 pub fn row_number<T: Whole>(first: &First<T>, row: &[T], j: usize) -> Option<T>
     requires width { length row.now ≡ suc first.now.rows }
     requires column_in { j < suc (length first.now.columns.items + first.now.rows) }
@@ -174,7 +174,7 @@ pub fn row_number<T: Whole>(first: &First<T>, row: &[T], j: usize) -> Option<T>
     Some(row[k])
 }
 
-/// The greatest in size of all numbers of a row without own cells. None where one doesn't fit.
+/// The greatest in size of all numbers of a row without own cells. May give up; no clause says when.
 pub fn greatest_in<T: Whole>(first: &First<T>, row: &[T]) -> Option<T>
     requires { length row.now ≡ suc first.now.rows }
     ensures { IfSome result (λ b. (d : ℤ) → AreWithin (row_number T.value first.now.rows first.now.columns.items

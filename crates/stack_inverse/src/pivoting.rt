@@ -289,7 +289,7 @@ pub fn put_row<T: Whole>(numbers: &mut [T], unders: &mut [T], pivot: &[T], under
     unders[i] = under;
 }
 
-/// The pivot row, divided by its cell in the column, whose number is the factor. None where a number doesn't fit.
+/// The pivot row, divided by its cell in the column, whose number is the factor. May give up; no clause says when.
 fn divide_row<T: Whole>(
     first: &First<T>,
     own: &[T],
@@ -327,8 +327,8 @@ fn divide_row<T: Whole>(
 }
 
 /// A pivot at a row and a column of a block whose objective row has the number `rows`. `pivot` is room for a row, and
-/// `entered` has the numbers of the column. Refused at the first operation that is too wide, or where a number doesn't
-/// fit.
+/// `entered` has the numbers of the column. `TooWide` names the first operation that is too wide; no clause says when
+/// the pivot is given up.
 fn pivot_block<T: Whole>(
     first: &First<T>,
     own: &[T],

@@ -36,7 +36,7 @@ fn common_under<T: Whole>(numbers: &[T], pivot: &[T], s: RowStep<T>) -> Option<T
     Some(common)
 }
 
-/// The number of the reduced cell over this denominator. None where it isn't whole or doesn't fit.
+/// The number of the reduced cell over this denominator. May give up; no clause says when.
 fn remade<T: Whole>(s: RowStep<T>, own: T, pivot: T, common: T) -> Option<T>
     requires under { pos 0 <ℤ T.value s.under }
     requires pivot_under { pos 0 <ℤ T.value s.pivot_under }
@@ -74,7 +74,7 @@ fn remake<T: Whole>(numbers: &mut [T], pivot: &[T], s: RowStep<T>, common: T) ->
     true
 }
 
-/// Makes row i of a block anew from its reduced cells. None where these have no common denominator that fits.
+/// Makes row i of a block anew from its reduced cells, over a common denominator. May give up; no clause says when.
 pub fn remake_lent<T: Whole>(
     numbers: &mut [T],
     unders: &mut [T],

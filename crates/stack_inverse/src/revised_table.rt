@@ -76,7 +76,7 @@ impl<T: Whole> RevisedTable<T> {
     ghost use Rattle.stack_inverse.specs.Seen.{shape_of_revised, table_of_revised, number_in, IsEntered};
     ghost use Rattle.stack_inverse.specs.ShortRow.{least_negative};
 
-    /// The written table of a problem. All memory of a run is taken here. Unsettled where a number doesn't fit.
+    /// The written table of a problem. All memory of a run is taken here. May give up; no clause says when.
     pub fn of_problem(alloc: Global, p: &Problem) -> Result<RevisedTable<T>, NoTable>
         requires { IsProblem p.now }
         ensures shape { IfOk result (λ t. shape_of_revised t ≡ shape_of_problem p.now) }
@@ -156,7 +156,7 @@ impl<T: Whole> RevisedTable<T> {
         self.basic[i]
     }
 
-    /// The number in a row and a plain column, over the denominator of the row. None where a number doesn't fit.
+    /// The number in a row and a plain column, over the denominator of the row. May give up; no clause says when.
     pub fn number(&self, i: usize, j: usize) -> Option<T>
         requires i_in { i ≤ (shape_of_revised self.now).rows }
         requires j_in { j < plain (shape_of_revised self.now) }
@@ -172,7 +172,7 @@ impl<T: Whole> RevisedTable<T> {
         )
     }
 
-    /// Makes the numbers of a plain column, row by row, and keeps them. None where a number doesn't fit.
+    /// Makes the numbers of a plain column, row by row, and keeps them. May give up; no clause says when.
     pub fn enter(&mut self, column: usize) -> Option<()>
         requires { column < plain (shape_of_revised self.old) }
         ensures shape { shape_of_revised self.new ≡ shape_of_revised self.old }
@@ -197,8 +197,8 @@ impl<T: Whole> RevisedTable<T> {
         self.entered[i]
     }
 
-    /// The least column below `among` with a negative number in the objective row, by numbers of 64 bits. None where a
-    /// bound of them doesn't fit these.
+    /// The least column below `among` with a negative number in the objective row, by numbers of 64 bits. May give up,
+    /// mostly since a bound of the numbers doesn't fit these; no clause says when.
     pub fn short_entering(&self, among: usize) -> Option<Option<usize>>
         requires { among ≤ plain (shape_of_revised self.now) }
         ensures value { IfSome result (λ r. r
@@ -241,8 +241,8 @@ impl<T: Whole> RevisedTable<T> {
         self.unders[i]
     }
 
-    /// A pivot at a row and a column whose numbers are kept, and whose cell in the row isn't 0. Refused at the first
-    /// operation that is too wide, or where a number doesn't fit; the table is spent then.
+    /// A pivot at a row and a column whose numbers are kept, and whose cell in the row isn't 0. `TooWide` names the
+    /// first operation that is too wide. It may also be given up; no clause says when. Both leave the table spent.
     pub fn pivot(&mut self, row: usize, column: usize) -> Result<(), Refusal>
         requires row_in { row < (shape_of_revised self.old).rows }
         requires column_in { column < plain (shape_of_revised self.old) }
@@ -273,7 +273,7 @@ impl<T: Whole> RevisedTable<T> {
         )
     }
 
-    /// Sets the objective row to 0, its right side too.
+    /// Sets the objective row to 0, its right side too. May give up; no clause says when.
     pub fn clear_objective(&mut self) -> Option<()>
         ensures shape { OnSome result (shape_of_revised self.new ≡ shape_of_revised self.old) }
         ensures ok { OnSome result (table_of_revised self.new
@@ -296,7 +296,7 @@ impl<T: Whole> RevisedTable<T> {
     }
 
     /// Sets the objective row to that of the factor: the row in which it is basic without its own cell, and where it
-    /// isn't basic -1 in its column alone. None where the factor's cell of that row isn't 1, which never comes.
+    /// isn't basic -1 in its column alone. May give up; no clause says when.
     pub fn set_factor_objective(&mut self) -> Option<()>
         requires { (shape_of_revised self.old).factors ≡ 1 }
         ensures shape { OnSome result (shape_of_revised self.new ≡ shape_of_revised self.old) }

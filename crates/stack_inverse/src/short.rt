@@ -90,7 +90,7 @@ fn first_negative<T: Whole>(
     None
 }
 
-/// The same where a bound of the row's numbers fits 64 bits. None where it doesn't.
+/// The same where a bound of the row's numbers fits 64 bits. May give up; no clause says when.
 fn negative_in<T: Whole>(
     first: &First<T>,
     own: &[T],
@@ -117,8 +117,8 @@ fn negative_in<T: Whole>(
     Some(first_negative(first, own, row, under, one, among))
 }
 
-/// The least column below `among` in which the objective row has a negative number. None where a bound of its numbers
-/// doesn't fit 64 bits.
+/// The least column below `among` in which the objective row has a negative number, where a bound of its numbers fits
+/// 64 bits. May give up; no clause says when.
 pub fn short_negative<T: Whole>(
     first: &First<T>,
     own: &[T],

@@ -83,7 +83,7 @@ fn step_spot<T: Whole>(s: RowStep<T>, factors: Factors<T>, own: T, pivot: T) -> 
     }
 }
 
-/// The number in a row and any column, the right side last. None where it doesn't fit.
+/// The number in a row and any column, the right side last. May give up; no clause says when.
 fn number_in<T: Whole>(
     first: &First<T>,
     own: &[T],
@@ -119,7 +119,7 @@ pub fn is_widest<T: Whole>() -> bool
     }
 }
 
-/// The first step of a row that is too wide, if there is one. None where a number doesn't fit.
+/// The first step of a row that is too wide, if there is one. May give up; no clause says when.
 pub fn row_spot<T: Whole>(
     first: &First<T>,
     own: &[T],

@@ -8,14 +8,16 @@ use std::alloc::{AllocError, AllocFailed};
 pub enum Refusal {
     /// The first operation that is too wide.
     TooWide(PivotWide),
-    /// A number that the rows make doesn't fit. It tells nothing of the written run.
+    /// The pivot is given up, mostly since a number that the rows make doesn't fit. No clause says when, and it says
+    /// nothing of the written run.
     Unsettled,
 }
 
 /// Why a problem has no table.
 #[derive(Clone, Copy, Debug, PartialEq, Eq, Drop)]
 pub enum NoTable {
-    /// A number of the table doesn't fit. It tells nothing of the written run.
+    /// The table is given up, mostly since one of its numbers doesn't fit. No clause says when, and it says nothing of
+    /// the written run.
     Unsettled,
     Memory,
 }

@@ -11,7 +11,7 @@ use stack_rows::whole::Whole;
 
 /// The least column below `among` with a negative objective cell, number by number.
 ///
-/// None where a number doesn't fit.
+/// May give up; no clause says when.
 fn entering_by_numbers<T: Whole>(t: &RevisedTable<T>, among: usize) -> Option<Option<usize>>
     requires { among ≤ plain (shape_of_revised t.now) }
     ensures value { IfSome result (λ r.
@@ -30,7 +30,7 @@ fn entering_by_numbers<T: Whole>(t: &RevisedTable<T>, among: usize) -> Option<Op
 
 /// The least column below `among` with a negative objective cell.
 ///
-/// None where a number doesn't fit.
+/// May give up; no clause says when.
 pub fn entering<T: Whole>(t: &RevisedTable<T>, among: usize) -> Option<Option<usize>>
     requires { among ≤ plain (shape_of_revised t.now) }
     ensures value { IfSome result (λ r.

@@ -42,7 +42,7 @@ fn flips(alloc: Global, right: &[i128]) -> Result<Vec<bool>, RevisedStop>
     Ok(flipped)
 }
 
-/// The numbers of a column, row by row. Unsettled where one doesn't fit.
+/// The numbers of a column, row by row. May give up; no clause says when.
 fn column_of<T: Whole>(
     alloc: Global,
     t: &RevisedTable<T>,
@@ -168,9 +168,9 @@ fn run_narrow(alloc: Global, p: &Problem, budget: u32) -> Result<Last<Narrow>, R
 
 /// The run of a problem within a budget of pivots: its end is that of the written run at 128 bits, with its last table.
 ///
-/// Refused at the first operation that is too wide for 128 bits, and spent where the written run is over its budget,
-/// whichever comes first: exactly there. Unsettled where a number that this run makes doesn't fit: that tells nothing
-/// of the written run, and nor does want of memory.
+/// `TooWide` names the first operation of the written run that is too wide for 128 bits, and comes only where there is
+/// one. `Spent` comes only where the written run is over its budget. The run may also be given up, mostly since a number
+/// that it makes doesn't fit: no clause says when. That says nothing of the written run, and want of memory neither.
 pub fn run_revised(alloc: Global, p: &Problem, budget: u32) -> Result<RevisedEnd, RevisedStop>
     requires problem { IsProblem p.now }
     requires some { budget ≢ 0 }

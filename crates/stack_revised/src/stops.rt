@@ -10,7 +10,8 @@ pub enum RevisedStop {
     TooWide(RunPlace),
     /// A pivot is due, and the budget's pivots are done.
     Spent,
-    /// A number that the run makes doesn't fit. It tells nothing of the written run.
+    /// The run is given up, mostly since a number that it makes doesn't fit. No clause says when, and it says nothing
+    /// of the written run.
     Unsettled,
     Memory,
 }

@@ -4,3 +4,4 @@ pub mod Ratios
 pub mod Combined
 pub mod Jumps
 pub mod Casts
+pub mod CommonDivisors

@@ -1,7 +1,7 @@
 //! Rows of whole numbers over one denominator, at 64 and at 128 bits: their steps and their division.
 //!
-//! An answer that is there is exact. None comes where a number doesn't fit, but that it comes there alone no clause
-//! says: a run over such rows is one that may tell nothing. No call takes memory.
+//! An answer that is there is exact. A call may also give up: it answers None, mostly since a number doesn't fit. No
+//! clause says when, so a run over such rows may say nothing of the written run. No call takes memory.
 //!
 //! ```text
 //! factors_of(number, under) == Some(factors) // how often the pivot row is taken from a row with this number

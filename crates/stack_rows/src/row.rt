@@ -5,7 +5,7 @@ ghost use Rattle.std.specs.Prelude.{true};
 ghost use Rattle.stack_rows.specs.RowForm.{number_at, AreJumps, IsShort, IsReady, IsCombined, IsSameRow, IsTaken};
 
 use crate::factors::Factors;
-use crate::whole::Whole;
+use crate::whole::{Divider, Whole};
 
 /// A number of a row, times k and less t times that of the pivot row.
 fn term<T: Whole>(number: T, other: T, k: T, t: T, short: bool) -> T
@@ -98,23 +98,6 @@ fn change<T: Whole>(
     }
 }
 
-/// What a row is divided by, with its inverse.
-#[derive(Clone, Copy)]
-struct Divisor<T> {
-    by: T,
-    twos: u32,
-    inverse: T,
-}
-
-/// A number to divide by, with its inverse.
-fn divisor_of<T: Whole>(by: T) -> Divisor<T> {
-    Divisor {
-        by,
-        twos: by.twos(),
-        inverse: by.inverse(),
-    }
-}
-
 /// A common divisor of a denominator and the last number of its row, the right side: it has little more than all have.
 fn divisor_with_last<T: Whole>(numbers: &[T], under: T) -> T {
     match numbers.last() {
@@ -125,14 +108,14 @@ fn divisor_with_last<T: Whole>(numbers: &[T], under: T) -> T {
 
 /// A number that should divide a denominator and all numbers of its row.
 fn content<T: Whole>(numbers: &[T], under: T) -> T {
-    let mut common = divisor_of(divisor_with_last(numbers, under));
+    let mut common = divisor_with_last(numbers, under).divider();
     if common.by.is_one() {
         return common.by;
     }
     for j in 0..numbers.len() {
         let number = numbers[j];
         if !goes_into(number, common) {
-            common = divisor_of(number.divisor(common.by));
+            common = number.divisor(common.by).divider();
             if common.by.is_one() {
                 return common.by;
             }
@@ -142,26 +125,23 @@ fn content<T: Whole>(numbers: &[T], under: T) -> T {
 }
 
 /// Whether a number goes into another.
-fn goes_into<T: Whole>(number: T, divisor: Divisor<T>) -> bool {
+fn goes_into<T: Whole>(number: T, divider: Divider<T>) -> bool {
     if number.is_zero() {
         return true;
     }
-    number
-        .exact(divisor.by, divisor.twos, divisor.inverse)
-        .is_some()
+    number.exact(divider).is_some()
 }
 
-/// Divides each number of a row, where all quotients are whole.
+/// Divides each number of a row, and gives whether it did. No clause says when it doesn't.
 fn divide_all<T: Whole>(numbers: &mut [T], by: T) -> bool
     ensures { result ≡ true → (j : ℕ) → number_at T.value numbers.new j *ℤ T.value by
         ≡ number_at T.value numbers.old j }
 {
-    let twos = by.twos();
-    let inverse = by.inverse();
+    let divider = by.divider();
     for j in 0..numbers.len() {
         let number = numbers[j];
         if !number.is_zero() {
-            match number.exact(by, twos, inverse) {
+            match number.exact(divider) {
                 Some(quotient) => numbers[j] = quotient,
                 None => return false,
             }
@@ -177,7 +157,7 @@ struct Share<T> {
     rest: T,
 }
 
-/// A number or its opposite, whichever goes into another a positive number of times.
+/// A number or its opposite, whichever goes into another a positive number of times. May give up; no clause says when.
 fn part<T: Whole>(number: T, by: T) -> Option<Share<T>>
     ensures { IfSome result (λ p. (T.value p.rest *ℤ T.value p.by ≡ T.value number) × (pos 0 <ℤ T.value p.rest)) }
 {
@@ -197,6 +177,7 @@ fn part<T: Whole>(number: T, by: T) -> Option<Share<T>>
 }
 
 /// Divides a row and its denominator, of either sign, by what they have in common. The denominator is positive then.
+/// May give up; no clause says when.
 pub fn settle<T: Whole>(numbers: &mut [T], under: T) -> Option<T>
     ensures { IfSome result (λ e. IsSameRow T.value numbers.old (T.value under) numbers.new (T.value e)) }
 {
@@ -212,7 +193,7 @@ pub fn settle<T: Whole>(numbers: &mut [T], under: T) -> Option<T>
     }
 }
 
-/// The same for a row that is great; another stays as it is.
+/// The same for a row that is great; another stays as it is, if its denominator is positive.
 fn settle_great<T: Whole>(numbers: &mut [T], under: T, great: bool) -> Option<T>
     ensures { IfSome result (λ e. IsSameRow T.value numbers.old (T.value under) numbers.new (T.value e)) }
 {
@@ -222,7 +203,8 @@ fn settle_great<T: Whole>(numbers: &mut [T], under: T, great: bool) -> Option<T>
     settle(numbers, under)
 }
 
-/// Takes a multiple of the pivot row from a row, and reduces it. `over` is its denominator before it is reduced.
+/// Takes a multiple of the pivot row from a row, and reduces it. `over` is its denominator before it is reduced. May
+/// give up; no clause says when.
 pub fn reduce_row<T: Whole>(
     numbers: &mut [T],
     pivot: &[T],

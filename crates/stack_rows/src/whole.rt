@@ -1,11 +1,22 @@
-//! Whole numbers of one width, whose operations answer nothing where a number doesn't fit.
+//! Whole numbers of one width, whose operations may give up.
 
 use std::cmp::Ordering;
 
+/// A number to divide by, with what makes the division quick: how often 2 goes into the number, and the inverse of what
+/// is left of it then, modulo a power of 2.
+#[derive(Clone, Copy)]
+pub struct Divider<T> {
+    pub by: T,
+    pub(crate) twos: u32,
+    pub(crate) inverse: T,
+}
+
 /// A whole number of at most the greatest size.
 ///
-/// Only what is answered is exact: none tells nothing, and a divisor is any number.
+/// An answer that is there is exact. An operation may give up and answer None: mostly since a number doesn't fit, and a
+/// division since the quotient isn't whole. No clause says when.
 pub trait Whole: Copy {
+    ghost use Prim.Native.Nat.{◌∣◌};
     ghost use Rattle.std.specs.Prelude.{◌≡◌, ℤ, pos, ◌*ℤ◌, ◌-ℤ◌, ◌+ℤ◌, ◌+◌, ◌*◌, ◌^◌, ◌-◌, ◌≤◌, ◌<ℤ◌, unsigned_abs};
     ghost use Rattle.std.specs.Prelude.{IfSome, true};
     ghost use Rattle.stack_rational.specs.TooWide.{IsWidth};
@@ -57,7 +68,7 @@ pub trait Whole: Copy {
         ensures { IfSome result (λ r.
             unsigned_abs (value self) + unsigned_abs (value other) ≤ unsigned_abs (value r)) };
 
-    /// Whether it fits 64 bits.
+    /// Whether it fits 64 bits. No clause says when the answer is no.
     fn is_short(self) -> bool
         ensures { result ≡ true → unsigned_abs (value self) ≤ 2 ^ 63 - 1 };
 
@@ -77,24 +88,24 @@ pub trait Whole: Copy {
             + unsigned_abs (value t) * unsigned_abs (value other) ≤ 2 ^ 63 - 1 }
         ensures { value result ≡ value self *ℤ value k -ℤ value t *ℤ value other };
 
-    /// A number that should divide both.
-    fn divisor(self, other: Self) -> Self;
+    /// A common divisor of both. No clause says that it is the greatest.
+    fn divisor(self, other: Self) -> Self
+        ensures own { unsigned_abs (value result) ∣ unsigned_abs (value self) }
+        ensures other { unsigned_abs (value result) ∣ unsigned_abs (value other) };
 
-    /// How often 2 goes into it.
-    fn twos(self) -> u32;
+    /// The number as one to divide by.
+    fn divider(self) -> Divider<Self>
+        ensures { result.by ≡ self };
 
-    /// The inverse, modulo a power of 2, of what is left of it without these.
-    fn inverse(self) -> Self;
+    /// The quotient, by one product in place of a division.
+    fn exact(self, divider: Divider<Self>) -> Option<Self>
+        ensures { IfSome result (λ r. value r *ℤ value divider.by ≡ value self) };
 
-    /// The quotient, where it is whole, by the inverse of what it is divided by: one product in place of a division.
-    fn exact(self, other: Self, twos: u32, inverse: Self) -> Option<Self>
-        ensures { IfSome result (λ r. value r *ℤ value other ≡ value self) };
-
-    /// The quotient, where it is whole.
+    /// The quotient.
     fn divided(self, other: Self) -> Option<Self>
         ensures { IfSome result (λ r. value r *ℤ value other ≡ value self) };
 
-    /// The order of two ratios to positive numbers. None where their cross products can't be compared.
+    /// The order of two ratios to positive numbers.
     fn order(self, under: Self, other: Self, other_under: Self) -> Option<Ordering>
         ensures { IfSome result (λ o. o
             ≡ by_sign (sign_of (value self *ℤ value other_under -ℤ value other *ℤ value under))) };
@@ -102,11 +113,13 @@ pub trait Whole: Copy {
     fn is_zero(self) -> bool
         ensures { result ≡ is_zero_whole (value self) };
 
+    /// Whether it is 1. No clause says when the answer is no.
     fn is_one(self) -> bool
         ensures { result ≡ true → value self ≡ pos 1 };
 
-    /// Whether a row of such numbers may be left as it is.
-    fn is_small(self) -> bool;
+    /// Whether it is so small that a row of such numbers may be left as it is. No clause says when the answer is no.
+    fn is_small(self) -> bool
+        ensures { result ≡ true → unsigned_abs (value self) ≤ 2 ^ 80 };
 
     fn is_positive(self) -> bool
         ensures sign { result ≡ is_plus (sign_of (value self)) }

@@ -4,7 +4,7 @@ ghost use Rattle.std.specs.Prelude.{◌≡◌, ◌≤◌, ◌≤ℤ◌, ◌+◌,
 
 use crate::common::{of_numbers, word_inverse, word_step};
 use crate::products::{Ratios, compare};
-use crate::whole::Whole;
+use crate::whole::{Divider, Whole};
 use crate::wide::Wide;
 use std::cmp::Ordering;
 
@@ -94,11 +94,13 @@ fn low(n: i128) -> i64 {
 }
 
 /// The quotient by the inverse, where it is whole and it and what is divided by are numbers of 64 bits.
-fn short_exact(a: Wide, b: Wide, twos: u32, inverse: Wide) -> Option<i64>
-    ensures { IfSome result (λ r. r *ℤ b.number ≡ a.number) }
+fn short_exact(a: Wide, divider: Divider<Wide>) -> Option<i64>
+    ensures { IfSome result (λ r. r *ℤ divider.by.number ≡ a.number) }
 {
-    let right = short(b)?;
-    let quotient = low(a.number.wrapping_shr(twos)).wrapping_mul(low(inverse.number));
+    let right = short(divider.by)?;
+    let quotient = low(a.number.wrapping_shr(divider.twos)).wrapping_mul(low(
+        divider.inverse.number,
+    ));
     if product_of(quotient, right) == a.number {
         Some(quotient)
     } else {
@@ -107,14 +109,17 @@ fn short_exact(a: Wide, b: Wide, twos: u32, inverse: Wide) -> Option<i64>
 }
 
 /// The inverse of the odd part of a number modulo 2^128, by one more such step.
-fn inverse_of(n: i128) -> i128 {
-    let twos = n.trailing_zeros();
+fn inverse_of(n: Wide) -> Wide {
+    let twos = n.number.trailing_zeros();
     if 128 <= twos {
         return n;
     }
-    let odd = n >> twos;
+    let odd = n.number >> twos;
     let inverse = word_inverse(low(odd)) as i128;
-    inverse.wrapping_mul(2i128.wrapping_sub(odd.wrapping_mul(inverse)))
+    match wide(inverse.wrapping_mul(2i128.wrapping_sub(odd.wrapping_mul(inverse)))) {
+        Some(inverse) => inverse,
+        None => n,
+    }
 }
 
 impl Whole for Wide {
@@ -215,37 +220,32 @@ impl Whole for Wide {
 
     fn divisor(self, other: Self) -> Self {
         let common = of_numbers(self.number.unsigned_abs(), other.number.unsigned_abs());
-        if common <= 170141183460469231731687303715884105727 {
-            match wide(common as i128) {
-                Some(number) => number,
-                None => other,
-            }
-        } else {
-            other
+        match Self::of_size(common) {
+            Some(number) => number,
+            None => Wide { number: 1 },
         }
     }
 
-    fn twos(self) -> u32 {
-        self.number.trailing_zeros()
-    }
-
-    fn inverse(self) -> Self {
-        match wide(inverse_of(self.number)) {
-            Some(inverse) => inverse,
-            None => self,
+    fn divider(self) -> Divider<Self> {
+        Divider {
+            by: self,
+            twos: self.number.trailing_zeros(),
+            inverse: inverse_of(self),
         }
     }
 
-    fn exact(self, other: Self, twos: u32, inverse: Self) -> Option<Self> {
-        match short_exact(self, other, twos, inverse) {
+    fn exact(self, divider: Divider<Self>) -> Option<Self>
+        ensures { IfSome result (λ r. r.number *ℤ divider.by.number ≡ self.number) }
+    {
+        match short_exact(self, divider) {
             Some(quotient) => return wide(quotient as i128),
             None => {}
         }
-        if 128 <= twos {
+        if 128 <= divider.twos {
             return None;
         }
-        let number = wide((self.number >> twos).wrapping_mul(inverse.number))?;
-        let product = number.times(other)?;
+        let number = wide((self.number >> divider.twos).wrapping_mul(divider.inverse.number))?;
+        let product = number.times(divider.by)?;
         if product.number == self.number {
             Some(number)
         } else {
@@ -286,8 +286,7 @@ impl Whole for Wide {
     }
 
     fn is_small(self) -> bool {
-        let high = low(self.number.wrapping_shr(64));
-        -65536 <= high && high < 65536
+        -1208925819614629174706176 <= self.number && self.number < 1208925819614629174706176
     }
 
     fn is_positive(self) -> bool {

@@ -8,7 +8,8 @@ use stack_table::types::PivotWide;
 pub enum Refusal {
     /// The first operation that is too wide.
     TooWide(PivotWide),
-    /// A number that the table makes doesn't fit. It tells nothing of the written run.
+    /// It is given up, mostly since a number that the table makes doesn't fit. No clause says when, and it says nothing
+    /// of the written run.
     Unsettled,
 }
 
@@ -19,6 +20,7 @@ pub enum Stop {
     TooWide(RunPlace),
     /// A pivot is due, and the budget's pivots are done.
     Spent,
-    /// A number that the table makes doesn't fit. It tells nothing of the written run.
+    /// The run is given up, mostly since a number that the table makes doesn't fit. No clause says when, and it says
+    /// nothing of the written run.
     Unsettled,
 }

@@ -4,8 +4,8 @@ use crate::stops::Refusal;
 use stack_rational::OpWide;
 use std::cmp::Ordering;
 
-/// The table of a run, whatever stores it. What a call answers is exact; it answers nothing, or `Unsettled`, only where
-/// a number that it makes doesn't fit, and a table that settles all never does. No call takes memory.
+/// The table of a run, whatever stores it. What a call answers is exact. A call may also give up, with None or
+/// `Unsettled`: no clause says when, but a table that settles all never does. No call takes memory.
 pub trait Tableau {
     ghost use Rattle.std.specs.Prelude.{◌≡◌, ◌≢◌, ℕ, ◌<◌, ◌≤◌, ℤ, pos, Bool, cond, OnOk, OnSome, IfOk, IfSome};
     ghost use Rattle.stack_algebra.specs.Fraction.{Fraction};

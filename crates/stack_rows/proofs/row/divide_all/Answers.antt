@@ -19,7 +19,7 @@ loop-j-preserved g c = elim c.if-not-is_zero.branch [
       c.index-numbers-j.is in
       let here : P j (number_at v (set c.loop-j.numbers j w.in-Some.quotient) j) =
       ap (λ z. z *ℤ v c.args.by) (at-set_same v (pos 0) c.loop-j.numbers j w.in-Some.quotient lt)
-      ∙ w.in-Some.ensures ∙ sym old in
+      ∙ ap (λ d. v w.in-Some.quotient *ℤ v d) (sym c.divider-divider.ensures) ∙ w.in-Some.ensures ∙ sym old in
       let other = λ (k : ℕ) (n : k ≢ j). at-set_other v (pos 0) c.loop-j.numbers j k w.in-Some.quotient n in
       rw w.numbers-is (record {
         done = λ k l. done_more P (number_at v c.args.numbers.now) (number_at v c.loop-j.numbers)
