@@ -49,7 +49,7 @@ pub trait Whole: Copy {
     fn plus(self, other: Self) -> Option<Self>
         ensures { IfSome result (λ r. value r ≡ value self +ℤ value other) };
 
-    /// Whichever is the greater in size.
+    /// A number at least as great in size as either.
     fn wider(self, other: Self) -> Self
         ensures own { unsigned_abs (value self) ≤ unsigned_abs (value result) }
         ensures other { unsigned_abs (value other) ≤ unsigned_abs (value result) };
