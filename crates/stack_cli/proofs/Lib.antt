@@ -25,3 +25,4 @@ mod StagesDecided
 mod RegionDecided
 mod FurtherFaults
 mod RunSaid
+mod Refusing

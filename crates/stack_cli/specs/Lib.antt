@@ -17,3 +17,4 @@ pub mod StagesDecided
 pub mod RegionDecided
 pub mod FurtherFaults
 pub mod RunSaid
+pub mod Runs

@@ -9,8 +9,7 @@ ghost use Rattle.stack_forms.specs.Progress.{Works};
 ghost use Rattle.stack_cli.specs.Words.{form_of, texts};
 ghost use Rattle.stack_cli.specs.Delivery.{with_line_feed, TakesMemory, Delivers, SaysLine};
 ghost use Rattle.stack_cli.specs.OnePut.{PutsAnswer, PutsLine};
-ghost use Rattle.stack_cli.specs.MainTheorem.{RunMeets};
-ghost use Rattle.stack_cli.specs.RunSaid.{RunSays};
+ghost use Rattle.stack_cli.specs.Runs.{Runs};
 
 use crate::laws::printed_is_accepted;
 use crate::words::parse_form;
@@ -96,11 +95,11 @@ pub fn answer_words<F: Shelf>(
 /// The whole answer is built before it is written, in one put on `out`. A refusal puts one line on `err`, and nothing
 /// on `out` unless `out` failed; where `err` fails the status stays. Where memory is wanting the status is 11.
 ///
-/// The clause `says` has each promise in plain words, one field a promise (`RunSays`): of `stand` and `load` the
-/// headline, that what is printed is true and is accepted by `check`; what each other form prints means, and when it
-/// comes; and how faulty files and files that are too long are refused. The clause `meets` is the theorem on the order
-/// of work, from which they follow. The clauses `one_put` and `one_line`: `out` is called once for an answer and never
-/// for a refusal, and `err` once for a refusal and never for an answer.
+/// Its clause has one field a promise (`Runs`). The field `says` has each in plain words (`RunSays`): of `stand` and
+/// `load` the headline, that what is printed is true and is accepted by `check`; what each other form prints means, and
+/// when it comes; and how faulty files and files that are too long are refused. The field `meets` is the theorem on the
+/// order of work, from which they follow. The fields `one_put` and `one_line`: `out` is called once for an answer and
+/// never for a refusal, and `err` once for a refusal and never for an answer.
 pub fn run<F: Shelf, O: Sink, E: Sink>(
     alloc: Global,
     words: &[String],
@@ -108,16 +107,8 @@ pub fn run<F: Shelf, O: Sink, E: Sink>(
     out: &mut O,
     err: &mut E,
 ) -> u8
-    ensures meets { RunMeets result (form_of (texts words.now)) (seen_shelf F.Shelf shelf.old shelf.new)
+    ensures { Runs result (form_of (texts words.now)) (seen_shelf F.Shelf shelf.old shelf.new)
         (seen_stream O.Sink out.old out.new) (seen_stream E.Sink err.old err.new) }
-    ensures says { RunSays result (form_of (texts words.now)) (seen_shelf F.Shelf shelf.old shelf.new)
-        (seen_stream O.Sink out.old out.new) (seen_stream E.Sink err.old err.new) }
-    ensures one_put { PutsAnswer result (seen_stream O.Sink out.old out.new) }
-    ensures one_line { PutsLine result (seen_stream E.Sink err.old err.new) }
-    ensures holds { F.holds shelf.new ≡ F.holds shelf.old }
-    ensures shelf_later { F.faults shelf.old ≤ F.faults shelf.new }
-    ensures out_later { O.faults out.old ≤ O.faults out.new }
-    ensures err_later { E.faults err.old ≤ E.faults err.new }
 {
     printed_is_accepted();
     let worked = answer_words(alloc, words, shelf);

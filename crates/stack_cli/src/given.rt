@@ -1,16 +1,13 @@
 //! The words as the runtime gives them.
 
-ghost use Rattle.std.specs.Prelude.{◌≡◌, ◌≤◌, Err};
+ghost use Rattle.std.specs.Prelude.{◌≡◌};
 ghost use Rattle.stack_outside.specs.Seen.{seen_shelf, seen_stream};
-ghost use Rattle.stack_forms.specs.Progress.{Works};
 ghost use Rattle.stack_cli.specs.Words.{form_of_given};
-ghost use Rattle.stack_cli.specs.OnePut.{PutsAnswer, PutsLine};
-ghost use Rattle.stack_cli.specs.MainTheorem.{RunMeets};
-ghost use Rattle.stack_cli.specs.RunSaid.{RunSays};
+ghost use Rattle.stack_cli.specs.Runs.{Runs};
 
-use crate::command::{answer_words, deliver};
+use crate::command::{deliver, run};
 use crate::laws::printed_is_accepted;
-use stack_lines::{Answer, Refusal};
+use stack_lines::Refusal;
 use stack_outside::{Shelf, Sink};
 use std::alloc::Global;
 
@@ -25,20 +22,8 @@ pub enum Given {
     Memory,
 }
 
-/// The answer to the words that were given, or why they have none. Words of which one can't be read are no form.
-fn answer_given<F: Shelf>(alloc: Global, given: Given, shelf: &mut F) -> Result<Answer, Refusal>
-    ensures works { Works (form_of_given given) (seen_shelf F.Shelf shelf.old shelf.new) result }
-    ensures unreadable { given ≡ Given.Unreadable → result ≡ Err Refusal.Words }
-    ensures memory { given ≡ Given.Memory → result ≡ Err Refusal.Memory }
-{
-    match given {
-        Given::Words(words) => answer_words(alloc, words.as_slice(), shelf),
-        Given::Unreadable => Err(Refusal::Words),
-        Given::Memory => Err(Refusal::Memory),
-    }
-}
-
-/// Does what the words ask for, as `run` does.
+/// Does what the words ask for, as `run` does. Words of which one can't be read have no form, and none for which memory
+/// was wanting.
 pub fn run_given<F: Shelf, O: Sink, E: Sink>(
     alloc: Global,
     given: Given,
@@ -46,20 +31,15 @@ pub fn run_given<F: Shelf, O: Sink, E: Sink>(
     out: &mut O,
     err: &mut E,
 ) -> u8
-    ensures meets { RunMeets result (form_of_given given) (seen_shelf F.Shelf shelf.old shelf.new)
+    ensures runs { Runs result (form_of_given given) (seen_shelf F.Shelf shelf.old shelf.new)
         (seen_stream O.Sink out.old out.new) (seen_stream E.Sink err.old err.new) }
-    ensures says { RunSays result (form_of_given given) (seen_shelf F.Shelf shelf.old shelf.new)
-        (seen_stream O.Sink out.old out.new) (seen_stream E.Sink err.old err.new) }
-    ensures one_put { PutsAnswer result (seen_stream O.Sink out.old out.new) }
-    ensures one_line { PutsLine result (seen_stream E.Sink err.old err.new) }
     ensures unreadable { given ≡ Given.Unreadable → result ≡ 2 }
     ensures memory { given ≡ Given.Memory → result ≡ 11 }
-    ensures holds { F.holds shelf.new ≡ F.holds shelf.old }
-    ensures shelf_later { F.faults shelf.old ≤ F.faults shelf.new }
-    ensures out_later { O.faults out.old ≤ O.faults out.new }
-    ensures err_later { E.faults err.old ≤ E.faults err.new }
 {
     printed_is_accepted();
-    let worked = answer_given(alloc, given, shelf);
-    deliver(alloc, worked, out, err)
+    match given {
+        Given::Words(words) => run(alloc, words.as_slice(), shelf, out, err),
+        Given::Unreadable => deliver(alloc, Err(Refusal::Words), out, err),
+        Given::Memory => deliver(alloc, Err(Refusal::Memory), out, err),
+    }
 }

@@ -11,30 +11,23 @@
 pub mod command;
 pub mod given;
 pub mod laws;
+pub mod standard;
 pub mod words;
 
-use given::{Given, run_given};
-use stack_outside::{RealShelf, RealSink, Stream};
+use stack_outside::{RealShelf, standard_error, standard_output};
+use standard::{run_standard, words_given};
 use std::env;
-use std::io::ErrorKind;
 use std::process::ExitCode;
 
 /// The program over the real devices: its words after its own name, files by their paths, standard output and
 /// standard error.
 fn main(rt: HostRuntime) -> ExitCode {
     let alloc = rt.alloc();
-    let given = match env::args(&rt) {
-        Ok(args) => match args.skip(1).collect::<Vec<String>>(alloc) {
-            Ok(words) => Given::Words(words),
-            Err(_) => Given::Memory,
-        },
-        Err(e) if e.kind() == ErrorKind::OutOfMemory => Given::Memory,
-        Err(_) => Given::Unreadable,
-    };
+    let given = words_given(alloc, env::args(&rt));
     let mut shelf = RealShelf::new(&rt, alloc);
-    let mut out = RealSink::new(&rt, Stream::Output);
-    let mut err = RealSink::new(&rt, Stream::Fault);
-    ExitCode::from(run_given(alloc, given, &mut shelf, &mut out, &mut err))
+    let mut out = standard_output(&rt);
+    let mut err = standard_error(&rt);
+    ExitCode::from(run_standard(alloc, given, &mut shelf, &mut out, &mut err))
 }
 
 #[cfg(test)]

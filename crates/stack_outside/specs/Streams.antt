@@ -1,14 +1,10 @@
--- Which of two streams a sink writes to: what holds of the one, of both.
-use Rattle.std.specs.Prelude.{ℕ, List, Option}
-use Rattle.stack_outside.specs.declared.real_sink.Stream.{Stream}
-use Rattle.stack_outside.specs.declared.real_sink.Stream.TheVariants.{Output, Fault}
+-- Which of the two standard streams a stream is.
+use Rattle.stack_outside.specs.declared.stream.EitherStream.{EitherStream}
+use Rattle.stack_outside.specs.declared.stream.EitherStream.TheVariants as either
+use Rattle.stack_outside.specs.declared.stream.Stream.{Stream}
+use Rattle.stack_outside.specs.declared.stream.Stream.TheVariants.{Output, Fault}
 
--- What the stream has taken, of what standard output and standard error have.
-abbrev pub at_stream : Stream → Option (List ℕ) → Option (List ℕ) → Option (List ℕ)
-at_stream Output output fault = output
-at_stream Fault output fault = fault
-
--- What is a fact of the stream, of a fact on standard output and one on standard error.
-abbrev pub AtStream : Stream → Type 0 → Type 0 → Type 0
-AtStream Output output fault = output
-AtStream Fault output fault = fault
+-- A stream for the output is standard output, one for the errors standard error.
+abbrev pub stream_of : {O E : Type 0} → EitherStream O E → Stream
+stream_of (either.Output o) = Output
+stream_of (either.Fault e) = Fault

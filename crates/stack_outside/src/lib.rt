@@ -19,6 +19,7 @@ mod real_shelf;
 mod real_sink;
 mod shelf;
 mod sink;
+mod stream;
 mod system;
 
 pub use error::{CallFailed, ShelfError, SinkFailed};
@@ -26,10 +27,13 @@ pub use memory_shelf::MemoryShelf;
 pub use memory_sink::MemorySink;
 pub use raw::{RawFile, RawFiles, RawStream};
 pub use real_shelf::RealShelf;
-pub use real_sink::{RealSink, Stream};
+pub use real_sink::RealSink;
 pub use shelf::Shelf;
 pub use sink::Sink;
-pub use system::{SystemFile, SystemFiles, SystemStream};
+pub use stream::{EitherStream, Stream};
+pub use system::{
+    FaultSink, OutputSink, SystemFile, SystemFiles, SystemStream, standard_error, standard_output,
+};
 
 #[cfg(test)]
 mod tests;

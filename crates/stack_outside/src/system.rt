@@ -9,10 +9,11 @@ ghost use Rattle.std.specs.Prelude.{◌≡◌, None};
 use crate::error::CallFailed;
 use crate::raw::{RawFile, RawFiles, RawStream};
 use crate::real_shelf::RealShelf;
-use crate::real_sink::{RealSink, Stream};
+use crate::real_sink::RealSink;
+use crate::stream::{EitherStream, Stream};
 use std::alloc::Global;
 use std::fs;
-use std::io::{Error, Read, Write};
+use std::io::{Error, Read, Stderr, Stdout, Write};
 use std::rt::Files;
 
 /// The files of the system, by their paths.
@@ -84,17 +85,46 @@ impl<'a, R: Files> RealShelf<SystemFiles<'a, R>> {
 }
 
 impl RealSink {
+    ghost use Rattle.stack_outside.specs.Streams.{stream_of};
+
     /// The standard stream, with no fault yet.
     pub fn new(rt: &HostRuntime, stream: Stream) -> RealSink
-        ensures stream { result.stream ≡ stream }
+        ensures stream { stream_of result.stream ≡ stream }
         ensures faults { result.faults ≡ 0 }
     {
-        let output = SystemStream {
-            writer: rt.stdout(),
+        let standard = match stream {
+            Stream::Output => EitherStream::Output(SystemStream {
+                writer: rt.stdout(),
+            }),
+            Stream::Fault => EitherStream::Fault(SystemStream {
+                writer: rt.stderr(),
+            }),
         };
-        let fault = SystemStream {
-            writer: rt.stderr(),
-        };
-        RealSink::over(stream, output, fault)
+        RealSink::over(standard)
     }
+}
+
+/// A sink over standard output. It is of another type than one over standard error, so that no call takes one for the
+/// other.
+pub type OutputSink = RealSink<SystemStream<Stdout>>;
+
+/// A sink over standard error.
+pub type FaultSink = RealSink<SystemStream<Stderr>>;
+
+/// Standard output, with no fault yet.
+pub fn standard_output(rt: &HostRuntime) -> OutputSink
+    ensures faults { result.faults ≡ 0 }
+{
+    RealSink::over(SystemStream {
+        writer: rt.stdout(),
+    })
+}
+
+/// Standard error, with no fault yet.
+pub fn standard_error(rt: &HostRuntime) -> FaultSink
+    ensures faults { result.faults ≡ 0 }
+{
+    RealSink::over(SystemStream {
+        writer: rt.stderr(),
+    })
 }

@@ -63,6 +63,10 @@ fn the_real_sink_writes_both_streams(rt: HostRuntime) -> Result<(), Fail> {
     let mut err = RealSink::new(&rt, Stream::Fault);
     assert!(rt; out.put(b"a line on standard output\n").is_ok());
     assert!(rt; err.put(b"a line on standard error\n").is_ok());
+    let mut out = standard_output(&rt);
+    let mut err = standard_error(&rt);
+    assert!(rt; out.put(b"another on standard output\n").is_ok());
+    assert!(rt; err.put(b"another on standard error\n").is_ok());
     Ok(())
 }
 
@@ -107,26 +111,19 @@ fn a_sink_over_streams_that_take_little_writes_all_or_a_front(rt: HostRuntime) -
         (2, 3, 4),
         (0, 0, 0),
     ] {
-        let output = FakeStream {
+        let stream = FakeStream {
             bytes: Vec::new(alloc),
             step,
             calls: 0,
             fails,
         };
-        let fault = FakeStream {
-            bytes: Vec::new(alloc),
-            step,
-            calls: 0,
-            fails,
-        };
-        let mut sink = RealSink::over(Stream::Output, output, fault);
+        let mut sink = RealSink::over(stream);
         assert_eq!(rt;
             sink.put(b"stone").is_ok(),
             want == 5,
             "at {step} and {fails}"
         );
-        assert_eq!(rt; sink.output.bytes.as_slice(), &b"stone"[..want]);
-        assert_eq!(rt; sink.fault.bytes.len(), 0);
+        assert_eq!(rt; sink.stream.bytes.as_slice(), &b"stone"[..want]);
     }
     Ok(())
 }

@@ -2,9 +2,18 @@ use Rattle.stack_cli.proofs.Consequences.{run_meets}
 use Rattle.stack_cli.proofs.RunSaid.{run_says}
 use Rattle.stack_cli.proofs.command.run.Goals as goal
 
-pub returns-clause-meets : goal.returns-clause-meets
-returns-clause-meets g c =
-    run_meets _ _ _ _ c.answer_words-worked.result _ c.answer_words-worked.ensures c.deliver.ensures.delivers
-
-pub returns-clause-says : goal.returns-clause-says
-returns-clause-says g c = run_says c.printed_is_accepted.ensures.accepted (returns-clause-meets g c)
+pub returns : goal.returns
+returns g c =
+    let works = c.answer_words-worked.ensures in
+    let delivers = c.deliver.ensures in
+    let meets = run_meets _ _ _ _ c.answer_words-worked.result _ works delivers.delivers in
+    record {
+      meets = meets;
+      says = run_says c.printed_is_accepted.ensures.accepted meets;
+      one_put = delivers.one_put;
+      one_line = delivers.one_line;
+      holds = works.holds;
+      shelf_later = works.later;
+      out_later = delivers.out_later;
+      err_later = delivers.err_later;
+    }

@@ -1,18 +1,23 @@
-use Rattle.stack_cli.proofs.Consequences.{run_meets, words_status, memory_status}
-use Rattle.stack_cli.proofs.RunSaid.{run_says}
+use Rattle.stack_cli.proofs.Consequences.{words_status, memory_status}
+use Rattle.stack_cli.proofs.Outcomes.{none_works, memory_works}
+use Rattle.stack_cli.proofs.Refusing.{refused_runs}
 use Rattle.stack_cli.proofs.given.run_given.Goals as goal
 
-pub returns-clause-meets : goal.returns-clause-meets
-returns-clause-meets g c =
-    run_meets _ _ _ _ c.answer_given-worked.result _ c.answer_given-worked.ensures.works c.deliver.ensures.delivers
+pub returns-in-Words-clause-runs : goal.returns-in-Words-clause-runs
+returns-in-Words-clause-runs g c = rw c.in-Words.is c.run.ensures
 
-pub returns-clause-says : goal.returns-clause-says
-returns-clause-says g c = run_says c.printed_is_accepted.ensures.accepted (returns-clause-meets g c)
+pub returns-in-Unreadable-clause-runs : goal.returns-in-Unreadable-clause-runs
+returns-in-Unreadable-clause-runs g c = let d = c.deliver-in-Unreadable.ensures in
+    rw c.in-Unreadable.is (refused_runs c.printed_is_accepted.ensures.accepted g.F.Shelf c.args.shelf.now _ _ _ _
+    (none_works g.F.Shelf c.args.shelf.now) d.delivers d.one_put d.one_line d.out_later d.err_later)
 
-pub returns-clause-unreadable : goal.returns-clause-unreadable
-returns-clause-unreadable g c is = words_status c.answer_given-worked.result _ _ _
-    (c.answer_given-worked.ensures.unreadable is) c.deliver.ensures.delivers
+pub returns-in-Unreadable-clause-unreadable : goal.returns-in-Unreadable-clause-unreadable
+returns-in-Unreadable-clause-unreadable g c is = words_status _ _ _ _ refl c.deliver-in-Unreadable.ensures.delivers
 
-pub returns-clause-memory : goal.returns-clause-memory
-returns-clause-memory g c is = memory_status c.answer_given-worked.result _ _ _
-    (c.answer_given-worked.ensures.memory is) c.deliver.ensures.delivers
+pub returns-in-Memory-clause-runs : goal.returns-in-Memory-clause-runs
+returns-in-Memory-clause-runs g c = let d = c.deliver-in-Memory.ensures in
+    rw c.in-Memory.is (refused_runs c.printed_is_accepted.ensures.accepted g.F.Shelf c.args.shelf.now _ _ _ _
+    (memory_works g.F.Shelf c.args.shelf.now) d.delivers d.one_put d.one_line d.out_later d.err_later)
+
+pub returns-in-Memory-clause-memory : goal.returns-in-Memory-clause-memory
+returns-in-Memory-clause-memory g c is = memory_status _ _ _ _ refl c.deliver-in-Memory.ensures.delivers
