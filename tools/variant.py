@@ -4,118 +4,80 @@
     tools/variant.py reversed MODEL
     tools/variant.py stage MODEL ORDER K
     tools/variant.py direction MODEL I J M N
+    tools/variant.py share MODEL N D
 
-Nothing here is proved. `reversed` is the model of the least side of a range: the force of each live load and the sway
-have the opposite sign. `stage` is that of stage K of an order of building: all fixed bodies, the blocks of the first K
-lines of ORDER, and the loads on these. `direction` is that of a direction (M, N) of two live loads, I and J by their
-numbers from 1 among all loads of the file: the other live loads and the sway are left out, and the forces of I and J
-are multiplied by M and by N. All else stays as it is and in its order, but comments, which are lost. docs/formats.md
-says what each is for.
+Nothing here is proved. Each form prints one model:
 
-The model is one that the program accepts. The status is 2 where the words are no form, and 70 where MODEL is no TOML
-1.0, a file isn't read, or a number names nothing. Python 3.11 or later.
+- `reversed`: the force of each live load and the sway have the opposite sign. This is the model of the least side of a
+  range.
+- `stage`: all fixed bodies, the blocks of the first K lines of ORDER, and the loads on these. This is the model of
+  stage K of an order of building.
+- `direction`: the forces of the live loads I and J, by their numbers from 1 among all loads of the file, are multiplied
+  by M and by N. The other live loads and the sway are left out. This is the model of the direction (M, N).
+- `share`: D times the dead loads and N times the live ones, the sway with them, are dead. There are no live loads. If
+  it stands, the structure carries N/D of its live loads. docs/formats.md says how the sway becomes forces.
+
+All else stays as it is and in its order. Comments are lost. MODEL must be a model that the program accepts. If the
+words are no form, the exit status is 2. It is 70 if MODEL is not TOML 1.0, if a file can't be read, if a number names
+nothing, or if a share passes a limit of the program. Python 3.11 or later.
 """
-import json
 import signal
 import sys
-import tomllib
-from pathlib import Path
 
-LISTS = ("material", "joint", "block", "load")
-
-
-def stop(said, status=70):
-    print(said, file=sys.stderr)
-    sys.exit(status)
-
-
-def text_of(name):
-    try:
-        return Path(name).read_bytes().decode("utf-8-sig")
-    except (OSError, ValueError) as fault:
-        stop(f"variant: {name}: {fault}")
-
-
-def read(name):
-    try:
-        return tomllib.loads(text_of(name))
-    except tomllib.TOMLDecodeError as fault:
-        stop(f"variant: {name}: not TOML 1.0: {fault}")
-
-
-def loads_of(model):
-    return model.get("load", [])
-
-
-def live_loads(model):
-    return [load for load in loads_of(model) if load["kind"] == "live"]
+from model import Refused, printed, read, share, stop, text_of
 
 
 def times(load, factor):
-    load["force"] = [factor * part for part in load["force"]]
+    load.force = [factor * part for part in load.force]
 
 
-def reverse(model):
-    for load in live_loads(model):
+def turned(model):
+    for load in model.live_loads():
         times(load, -1)
-    if "sway" in model:
-        model["sway"] = [-part for part in model["sway"]]
+    if model.sway:
+        model.sway = [-part for part in model.sway]
+    return model
 
 
-def keep_stage(model, order, count):
+def stage(model, order, count):
     lines = text_of(order).splitlines()
-    free = [block["name"] for block in model.get("block", []) if not block.get("fixed", False)]
-    if not 0 <= count <= len(lines) or not set(lines[:count]) <= set(free):
-        stop(f"variant: {order}: no {count} lines of free blocks")
+    if not 0 <= count <= len(lines) or not set(lines[:count]) <= {block.name for block in model.free_blocks()}:
+        raise Refused(f"{order}: no {count} lines of free blocks")
     kept = lines[:count]
-    model["block"] = [block for block in model.get("block", []) if block.get("fixed", False) or block["name"] in kept]
-    model["load"] = [load for load in loads_of(model) if load["block"] in kept]
+    model.blocks = [block for block in model.blocks if block.fixed or block.name in kept]
+    model.loads = [load for load in model.loads if load.block in kept]
+    return model
 
 
-def keep_direction(model, i, j, m, n):
-    loads = loads_of(model)
+def direction(model, i, j, m, n):
     for number in (i, j):
-        if not 1 <= number <= len(loads) or loads[number - 1]["kind"] != "live" or i == j:
-            stop(f"variant: no pair {number}")
-    for number, factor in ((i, m), (j, n)):
-        times(loads[number - 1], factor)
-    pair = loads[i - 1], loads[j - 1]
-    model["load"] = [load for load in loads if load["kind"] != "live" or any(load is one for one in pair)]
-    model.pop("sway", None)
+        if not 1 <= number <= len(model.loads) or model.loads[number - 1].kind != "live" or i == j:
+            raise Refused(f"no pair {number}")
+    pair = model.loads[i - 1], model.loads[j - 1]
+    for load, factor in zip(pair, (m, n)):
+        times(load, factor)
+    model.loads = [load for load in model.loads if load.kind != "live" or any(load is one for one in pair)]
+    model.sway = None
+    return model
 
 
-def value(item):
-    """A value as TOML. Strings of an accepted model are ASCII without control characters."""
-    return json.dumps(item)
-
-
-def printed(model):
-    pieces = ["\n".join(f"{key} = {value(model[key])}" for key in ("version", "sway") if key in model)]
-    for kind in LISTS:
-        for item in model.get(kind, []):
-            pieces.append("\n".join([f"[[{kind}]]", *(f"{key} = {value(item[key])}" for key in item)]))
-    return "\n\n".join(piece for piece in pieces if piece)
+# The change of each form, and how many words follow the model.
+FORMS = {"reversed": (turned, 0), "stage": (stage, 2), "direction": (direction, 4), "share": (share, 2)}
 
 
 def main(words):
     signal.signal(signal.SIGPIPE, signal.SIG_DFL)
+    if len(words) < 2 or words[0] not in FORMS or len(words) != 2 + FORMS[words[0]][1]:
+        stop(__doc__.rstrip(), 2)
+    form, name, *rest = words
     try:
-        form, name, *rest = words
-        if form == "reversed" and not rest:
-            change, given = reverse, []
-        elif form == "stage":
-            order, count = rest
-            change, given = keep_stage, [order, int(count)]
-        elif form == "direction":
-            i, j, m, n = map(int, rest)
-            change, given = keep_direction, [i, j, m, n]
-        else:
-            raise ValueError
+        numbers = [word if form == "stage" and k == 0 else int(word) for k, word in enumerate(rest)]
     except ValueError:
         stop(__doc__.rstrip(), 2)
-    model = read(name)
-    change(model, *given)
-    print(printed(model))
+    try:
+        print(printed(FORMS[form][0](read(name), *numbers)), end="")
+    except Refused as fault:
+        stop(f"variant: {fault}")
 
 
 main(sys.argv[1:])
