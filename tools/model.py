@@ -75,6 +75,12 @@ class Model:
     def has_live(self):
         return any(self.sway or ()) or bool(self.live_loads())
 
+    def turned(self):
+        """The reversed model: the force of each live load and the sway have the opposite sign."""
+        loads = [replace(load, force=[-part for part in load.force]) if load.kind == "live" else load
+                 for load in self.loads]
+        return replace(self, sway=self.sway and [-part for part in self.sway], loads=loads)
+
 
 @dataclass
 class Bearing:

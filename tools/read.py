@@ -1,60 +1,49 @@
 #!/usr/bin/env python3
 """Reads a certificate by joints and blocks: thrusts, hinges, slides and turning centres.
 
-    tools/read.py MODEL CERT
+    tools/read.py MODEL CERT [PART]
 
-Nothing here is proved. The program prints `table MODEL CERT`, so the certificate is one that the check accepts; what is
-worked out of it here is rounded to six digits. A joint is what two bodies share, and has one bearing or two. Of each
-the script prints a line
+Nothing here is proved. CERT is a certificate that `check` accepts, or an answer of `range`. The program prints `table
+MODEL CERT`; the values that are computed from it here are rounded to six digits. A joint is what two bodies share; it
+has one bearing or two. The script prints these lines:
 
+    factor N/D = DECIMAL
     joint FIRST SECOND N .. T .. force FX FY at X Y way W
     joint FIRST SECOND opening .. slide .. WORD
+    closed FIRST/SECOND ..
+    block NAME turns about X Y at R
+    together NAME NAME .. turn about X Y at R
+    still NAME ..
 
-The first is of the forces: N presses, T acts along the joint, on the later body along the tangent (TX, TY) of the table
-of contacts, and both together are the force (FX, FY) on it, to the right and upwards. At X Y is the place of the
-thrust, the mean of the bearings weighted by their normal forces, and W is how far it is on the way from the first
-bearing to the second: 0 and 1 are the ends of the joint. A joint that bears nothing has `bears nothing` instead. Of the
-ray of `unbounded` the same lines begin with `ray`.
+The first `joint` line is of the forces. N presses and T acts along the joint, on the later body, along the tangent (TX,
+TY) of the table of contacts. The force (FX, FY) is both together, to the right and upwards. The thrust is at X Y, the
+mean of the bearings weighted by their normal forces. W is how far that is on the way from the first bearing to the
+second: 0 and 1 are the ends of the joint. A joint without a force has `bears nothing` instead. In the ray of
+`unbounded` the same lines begin with `ray`.
 
-The second is of the motion, with an opening and a slide for each bearing, in the order of the bearings. WORD is
-`closed`, `hinge X Y` where the joint turns about that bearing, `slides` where it opens no more than its friction asks
-of a slide, and `opens` else. Then comes a line for each free block: `block NAME turns about X Y at R`,
-counter-clockwise where R is above 0, `block NAME moves U V`, or `block NAME is still`. Of a motion signs and ratios
-count, and sizes don't.
+The second `joint` line is of the motion, with an opening and a slide for each bearing. WORD is `hinge X Y` where the
+joint turns about that bearing, `slides` where it opens no more than its friction demands of a slide, and `opens`
+otherwise. One line names all joints that stay closed. Then come the motions of the blocks, counter-clockwise where R is
+above 0; blocks that move as one body share a line with `together`. A block that doesn't turn `moves U V`. One line
+names all blocks that are still. Only the signs and ratios of a motion matter.
 
-The status is that of the program; 70 means that it couldn't be run. The environment variable PUNGIROE names the
-program, which is else the script `pungiroe` in the folder above this one. Python 3.11 or later. docs/reading.md
-explains it all.
+For an answer of `range` the first line is `range N/D = DECIMAL to N/D = DECIMAL`. Then come the line `greatest` and
+the lines of that end, and the line `least` and the lines of the other one, whose factor is below 0.
+
+With PART, as 0.001, a movement counts as none if it is at most this part of the greatest opening or slide of a joint.
+It is 0 if it isn't given.
+
+The exit status is that of the program. It is 70 if a file can't be read or the program can't be run, and 2 if the words
+are no form. Python 3.11 or later. docs/reading.md explains the lines.
 """
-import os
 import signal
-import subprocess
 import sys
-import tomllib
+import tempfile
 from dataclasses import dataclass
 from fractions import Fraction
-from math import hypot
 from pathlib import Path
 
-PROGRAM = os.environ.get("PUNGIROE") or str(Path(__file__).resolve().parent.parent / "pungiroe")
-
-
-@dataclass
-class Bearing:
-    """A line of the table of contacts."""
-    first: str
-    second: str
-    at: tuple
-    tangent: tuple
-    friction: Fraction
-
-    def parts(self, x, y):
-        """A vector's products with the normal and with the tangent: its parts along both times the tangent's length."""
-        tx, ty = self.tangent
-        return tx * y - ty * x, tx * x + ty * y
-
-    def length(self):
-        return hypot(*self.tangent)
+from model import Refused, answer, bearings_of, read, stop, text_of, write
 
 
 @dataclass
@@ -66,9 +55,23 @@ class Table:
     moves: dict
 
 
-def stop(said, status=70):
-    print(said, file=sys.stderr)
-    sys.exit(status)
+def table_of(model, certificate):
+    printed = answer("table", model, certificate)
+    table, word = Table(bearings_of(printed), None, {}, {}), "joint"
+    for line in printed.splitlines():
+        head, *items = line.split()
+        if head == "factor":
+            table.factor = Fraction(items[0])
+        elif head == "ray":
+            word = "ray"
+        elif head == "force":
+            table.forces.setdefault(word, []).append((Fraction(items[1]), Fraction(items[2])))
+        elif head == "move":
+            table.moves[items[0]] = tuple(map(int, items[1:]))
+    return table
+
+
+# Numbers
 
 
 def number(value):
@@ -80,38 +83,12 @@ def point(at):
     return f"{number(at[0])} {number(at[1])}"
 
 
-def table_of(model, certificate):
-    try:
-        done = subprocess.run([PROGRAM, "table", model, certificate], stdout=subprocess.PIPE, text=True)
-    except OSError as fault:
-        stop(f"read: {PROGRAM}: {fault.strerror}")
-    if done.returncode != 0:
-        sys.stdout.write(done.stdout)
-        sys.exit(done.returncode)
-    table, word = Table([], None, {}, {}), "joint"
-    for line in done.stdout.splitlines():
-        head, *items = line.split()
-        if head == "bearing":
-            x, y, tx, ty, p, q = map(int, items[3:])
-            table.bearings.append(Bearing(items[1], items[2], (x, y), (tx, ty), Fraction(p, q)))
-        elif head == "factor":
-            table.factor = items[0]
-        elif head == "ray":
-            word = "ray"
-        elif head == "force":
-            table.forces.setdefault(word, []).append((Fraction(items[1]), Fraction(items[2])))
-        elif head == "move":
-            table.moves[items[0]] = tuple(map(int, items[1:]))
-    return table
-
-
-def first_corners(model):
-    """The first corner of each body by name. The program has accepted the model, so nothing is tested here."""
-    try:
-        document = tomllib.loads(Path(model).read_bytes().decode("utf-8-sig"))
-    except ValueError as fault:
-        stop(f"read: {model}: not TOML 1.0: {fault}")
-    return {item["name"]: item["corners"][0] for item in document.get("block", [])}
+def fraction(value):
+    """A fraction and its decimal, or a word as it is."""
+    if value == "unlimited":
+        return value
+    value = Fraction(value)
+    return f"{value.numerator}/{value.denominator} = {number(value)}"
 
 
 def joints_of(bearings):
@@ -120,6 +97,9 @@ def joints_of(bearings):
     for index, bearing in enumerate(bearings):
         joints.setdefault((bearing.first, bearing.second), []).append(index)
     return joints
+
+
+# Forces
 
 
 def thrust(bearings, forces):
@@ -134,63 +114,153 @@ def thrust(bearings, forces):
     return f"N {number(presses / length)} T {number(slides / length)} force {point(force)} at {point(at)}{way}"
 
 
+# Motions
+
+
 def velocity(move, corner, at):
     """The velocity of the point of a block."""
     (u, v, turn), lx, ly = move, at[0] - corner[0], at[1] - corner[1]
     return u - turn * ly, v + turn * lx
 
 
-def rates_of(bearing, moves, corners):
-    """The opening and the slide of a bearing, times the tangent's length."""
-    # The later body's velocity less the earlier's.
-    pair = [velocity(moves.get(name, (0, 0, 0)), corners[name], bearing.at) for name in (bearing.first, bearing.second)]
-    return bearing.parts(pair[1][0] - pair[0][0], pair[1][1] - pair[0][1])
+class Motion:
+    """The motion of a table: the rates of each bearing, and the size below which a movement counts as none."""
 
+    def __init__(self, table, blocks, part):
+        self.bearings, self.moves = table.bearings, table.moves
+        self.corners = {block.name: block.corners for block in blocks}
+        self.rates = [self.rates_of(bearing) for bearing in self.bearings]
+        sizes = [abs(rate) / bearing.length() for bearing, pair in zip(self.bearings, self.rates) for rate in pair]
+        self.least = part and part * max(sizes, default=0)
 
-def word_of(bearings, rates, turns):
-    """What a joint does on a motion. `turns`: whether one of its bodies turns at another rate than the other."""
-    still = [rate == (0, 0) for rate in rates]
-    if all(still) and not turns:
-        return "closed"
-    if any(still):
-        return f"hinge {point(bearings[still.index(True)].at)}"
-    for bearing, (opening, slide) in zip(bearings, rates):
-        if slide and opening == bearing.friction * abs(slide):
-            return "slides"
-    return "opens"
+    def at(self, name, place):
+        """The velocity of a place as a point of a body. Fixed bodies are still."""
+        return velocity(self.moves.get(name, (0, 0, 0)), self.corners[name][0], place)
 
+    def rates_of(self, bearing):
+        """The opening and the slide of a bearing, times the tangent's length."""
+        # The later body's velocity less the earlier's.
+        pair = [self.at(name, bearing.at) for name in (bearing.first, bearing.second)]
+        return bearing.parts(pair[1][0] - pair[0][0], pair[1][1] - pair[0][1])
 
-def turning(name, move, corner):
-    u, v, turn = move
-    if turn:
+    def small(self, *amounts):
+        return all(abs(amount) <= self.least for amount in amounts)
+
+    def as_one(self, first, second):
+        """Whether two bodies move as one: at all corners of either, or at those of the one that isn't fixed."""
+        places = [at for name in (first, second) if name in self.moves for at in self.corners[name]]
+        pairs = [(self.at(first, at), self.at(second, at)) for at in places]
+        return all(self.small(one[0] - other[0], one[1] - other[1]) for one, other in pairs)
+
+    def joint(self, first, second, indices):
+        """What a joint does: its openings and slides, and a word; None where it stays closed."""
+        bearings, rates = ([items[k] for k in indices] for items in (self.bearings, self.rates))
+        if self.as_one(first, second):
+            return None
+        length = bearings[0].length()
+        openings, slides = (" ".join(number(rate[axis] / length) for rate in rates) for axis in (0, 1))
+        return f"opening {openings} slide {slides} {self.word(bearings, rates)}"
+
+    def word(self, bearings, rates):
+        length = bearings[0].length()
+        for bearing, (opening, slide) in zip(bearings, rates):
+            if self.small(opening / length, slide / length):
+                return f"hinge {point(bearing.at)}"
+        for bearing, (opening, slide) in zip(bearings, rates):
+            lift = Fraction(bearing.p, bearing.q) * abs(slide)
+            if not self.small(slide / length) and self.small((opening - lift) / length):
+                return "slides"
+        return "opens"
+
+    def groups(self):
+        """The blocks that move, those that move as one together, and the blocks that are still."""
+        moving, still = [], []
+        for name, move in self.moves.items():
+            if all(self.small(*self.at(name, at)) for at in self.corners[name]):
+                still.append(name)
+            elif fellows := next((names for names in moving if self.as_one(names[0], name)), None):
+                fellows.append(name)
+            else:
+                moving.append([name])
+        return moving, still
+
+    def turning(self, names):
+        """How a group of blocks moves."""
+        u, v, turn = self.moves[names[0]]
+        alone, corner = len(names) == 1, self.corners[names[0]][0]
+        head = f"block {names[0]}" if alone else f"together {' '.join(names)}"
+        if not turn:
+            return f"{head} {'moves' if alone else 'move'} {number(u)} {number(v)}"
         centre = corner[0] - Fraction(v, turn), corner[1] + Fraction(u, turn)
-        return f"block {name} turns about {point(centre)} at {turn}"
-    return f"block {name} moves {u} {v}" if u or v else f"block {name} is still"
+        return f"{head} {'turns' if alone else 'turn'} about {point(centre)} at {number(turn)}"
 
 
-def main():
-    signal.signal(signal.SIGPIPE, signal.SIG_DFL)
-    if len(sys.argv) != 3:
-        stop(__doc__.rstrip(), 2)
-    table = table_of(*sys.argv[1:])
-    corners = first_corners(sys.argv[1])
+def lines_of(table, blocks, part, sign=1):
+    """The lines of a certificate. In the reversed model the sign of the factor is -1."""
     joints = joints_of(table.bearings)
-    if table.factor:
-        print(f"factor {table.factor}")
+    if table.factor is not None:
+        yield f"factor {fraction(sign * table.factor)}"
     for word, forces in table.forces.items():
         for (first, second), indices in joints.items():
-            print(word, first, second, thrust([table.bearings[k] for k in indices], [forces[k] for k in indices]))
-    if table.moves:
-        for (first, second), indices in joints.items():
-            bearings = [table.bearings[k] for k in indices]
-            rates = [rates_of(bearing, table.moves, corners) for bearing in bearings]
-            length = bearings[0].length()
-            openings, slides = (" ".join(number(rate[axis] / length) for rate in rates) for axis in (0, 1))
-            first_turn, second_turn = (table.moves.get(name, (0, 0, 0))[2] for name in (first, second))
-            word = word_of(bearings, rates, first_turn != second_turn)
-            print(f"joint {first} {second} opening {openings} slide {slides} {word}")
-        for name, move in table.moves.items():
-            print(turning(name, move, corners[name]))
+            bears = thrust([table.bearings[k] for k in indices], [forces[k] for k in indices])
+            yield f"{word} {first} {second} {bears}"
+    if not table.moves:
+        return
+    motion, closed = Motion(table, blocks, part), []
+    for (first, second), indices in joints.items():
+        if does := motion.joint(first, second, indices):
+            yield f"joint {first} {second} {does}"
+        else:
+            closed.append(f"{first}/{second}")
+    if closed:
+        yield f"closed {' '.join(closed)}"
+    moving, still = motion.groups()
+    yield from map(motion.turning, moving)
+    if still:
+        yield f"still {' '.join(still)}"
 
 
-main()
+def range_of(name):
+    """The text of an answer of `range`, or None."""
+    try:
+        text = text_of(name)
+    except Refused:
+        return None
+    return text if text.startswith("range ") else None
+
+
+def lines_of_range(name, said, part):
+    """The lines of an answer of `range`."""
+    model = read(name)
+    head, _, ends = said.partition("\n")
+    least, greatest = head.split()[1:]
+    yield f"range {fraction(least)} to {fraction(greatest)}"
+    for word, text, of, sign in zip(("greatest", "least"), ends.split("reversed\n"), (model, model.turned()), (1, -1)):
+        with tempfile.TemporaryDirectory() as folder:
+            certificate, turned = Path(folder, "certificate"), Path(folder, "model.toml")
+            certificate.write_text(text, newline="\n")
+            write(turned, of)
+            table = table_of(name if sign == 1 else turned, certificate)
+        yield word
+        yield from lines_of(table, model.blocks, part, sign)
+
+
+def main(words):
+    signal.signal(signal.SIGPIPE, signal.SIG_DFL)
+    try:
+        name, certificate, part = words if len(words) == 3 else [*words, "0"]
+        part = float(part)
+    except ValueError:
+        stop(__doc__.rstrip(), 2)
+    try:
+        if said := range_of(certificate):
+            lines = lines_of_range(name, said, part)
+        else:
+            lines = lines_of(table_of(name, certificate), read(name).blocks, part)
+        for line in lines:
+            print(line)
+    except Refused as fault:
+        stop(f"read: {fault}")
+
+
+main(sys.argv[1:])

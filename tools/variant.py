@@ -24,19 +24,11 @@ nothing, or if a share passes a limit of the program. Python 3.11 or later.
 import signal
 import sys
 
-from model import Refused, printed, read, share, stop, text_of
+from model import Model, Refused, printed, read, share, stop, text_of
 
 
 def times(load, factor):
     load.force = [factor * part for part in load.force]
-
-
-def turned(model):
-    for load in model.live_loads():
-        times(load, -1)
-    if model.sway:
-        model.sway = [-part for part in model.sway]
-    return model
 
 
 def stage(model, order, count):
@@ -62,7 +54,7 @@ def direction(model, i, j, m, n):
 
 
 # The change of each form, and how many words follow the model.
-FORMS = {"reversed": (turned, 0), "stage": (stage, 2), "direction": (direction, 4), "share": (share, 2)}
+FORMS = {"reversed": (Model.turned, 0), "stage": (stage, 2), "direction": (direction, 4), "share": (share, 2)}
 
 
 def main(words):
