@@ -30,8 +30,9 @@ names all blocks that are still. Only the signs and ratios of a motion matter.
 For an answer of `range` the first line is `range N/D = DECIMAL to N/D = DECIMAL`. Then come the line `greatest` and
 the lines of that end, and the line `least` and the lines of the other one, whose factor is below 0.
 
-With PART, as 0.001, a movement counts as none if it is at most this part of the greatest opening or slide of a joint.
-It is 0 if it isn't given.
+A movement counts as none if it is at most this PART of the greatest opening or slide of a joint. PART is a millionth,
+0.000001, if it isn't given. Where a motion has numbers above a million, it is divided by the rate of the block that
+turns fastest, whose rate is then 1 or -1, or by the greatest velocity if no block turns.
 
 The exit status is that of the program. It is 70 if a file can't be read or the program can't be run, and 2 if the words
 are no form. Python 3.11 or later. docs/reading.md explains the lines.
@@ -74,13 +75,13 @@ def table_of(model, certificate):
 # Numbers
 
 
-def number(value):
-    """Six digits of a number; 0 has no sign."""
-    return f"{float(value):.6g}" if abs(float(value)) > 1e-9 else "0"
+def number(value, least=1e-9):
+    """Six digits of a number; 0 where it is below the least."""
+    return f"{float(value):.6g}" if abs(float(value)) > least else "0"
 
 
 def point(at):
-    return f"{number(at[0])} {number(at[1])}"
+    return f"{number(at[0], 1e-4)} {number(at[1], 1e-4)}"
 
 
 def fraction(value):
@@ -117,6 +118,15 @@ def thrust(bearings, forces):
 # Motions
 
 
+def shortened(moves):
+    """A motion in shorter numbers, where it has long ones."""
+    turns, numbers = [abs(move[2]) for move in moves.values()], [abs(part) for move in moves.values() for part in move]
+    if max(numbers, default=0) <= 10**6:
+        return moves
+    unit = max(turns) or max(numbers)
+    return {name: tuple(Fraction(part, unit) for part in move) for name, move in moves.items()}
+
+
 def velocity(move, corner, at):
     """The velocity of the point of a block."""
     (u, v, turn), lx, ly = move, at[0] - corner[0], at[1] - corner[1]
@@ -127,11 +137,11 @@ class Motion:
     """The motion of a table: the rates of each bearing, and the size below which a movement counts as none."""
 
     def __init__(self, table, blocks, part):
-        self.bearings, self.moves = table.bearings, table.moves
+        self.bearings, self.moves = table.bearings, shortened(table.moves)
         self.corners = {block.name: block.corners for block in blocks}
         self.rates = [self.rates_of(bearing) for bearing in self.bearings]
         sizes = [abs(rate) / bearing.length() for bearing, pair in zip(self.bearings, self.rates) for rate in pair]
-        self.least = part and part * max(sizes, default=0)
+        self.least = part * max(sizes, default=0)
 
     def at(self, name, place):
         """The velocity of a place as a point of a body. Fixed bodies are still."""
@@ -146,6 +156,9 @@ class Motion:
     def small(self, *amounts):
         return all(abs(amount) <= self.least for amount in amounts)
 
+    def number(self, amount):
+        return number(0 if self.small(amount) else amount)
+
     def as_one(self, first, second):
         """Whether two bodies move as one: at all corners of either, or at those of the one that isn't fixed."""
         places = [at for name in (first, second) if name in self.moves for at in self.corners[name]]
@@ -158,7 +171,7 @@ class Motion:
         if self.as_one(first, second):
             return None
         length = bearings[0].length()
-        openings, slides = (" ".join(number(rate[axis] / length) for rate in rates) for axis in (0, 1))
+        openings, slides = (" ".join(self.number(rate[axis] / length) for rate in rates) for axis in (0, 1))
         return f"opening {openings} slide {slides} {self.word(bearings, rates)}"
 
     def word(self, bearings, rates):
@@ -186,12 +199,13 @@ class Motion:
 
     def turning(self, names):
         """How a group of blocks moves."""
-        u, v, turn = self.moves[names[0]]
-        alone, corner = len(names) == 1, self.corners[names[0]][0]
+        (u, v, turn), corner = self.moves[names[0]], self.corners[names[0]][0]
+        alone = len(names) == 1
         head = f"block {names[0]}" if alone else f"together {' '.join(names)}"
-        if not turn:
-            return f"{head} {'moves' if alone else 'move'} {number(u)} {number(v)}"
-        centre = corner[0] - Fraction(v, turn), corner[1] + Fraction(u, turn)
+        places = [at for name in names for at in self.corners[name]]
+        if all(self.small(turn * (at[axis] - corner[axis])) for at in places for axis in (0, 1)):
+            return f"{head} {'moves' if alone else 'move'} {self.number(u)} {self.number(v)}"
+        centre = corner[0] - Fraction(v) / turn, corner[1] + Fraction(u) / turn
         return f"{head} {'turns' if alone else 'turn'} about {point(centre)} at {number(turn)}"
 
 
@@ -248,7 +262,7 @@ def lines_of_range(name, said, part):
 def main(words):
     signal.signal(signal.SIGPIPE, signal.SIG_DFL)
     try:
-        name, certificate, part = words if len(words) == 3 else [*words, "0"]
+        name, certificate, part = words if len(words) == 3 else [*words, "0.000001"]
         part = float(part)
     except ValueError:
         stop(__doc__.rstrip(), 2)
