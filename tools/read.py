@@ -31,8 +31,8 @@ For an answer of `range` the first line is `range N/D = DECIMAL to N/D = DECIMAL
 the lines of that end, and the line `least` and the lines of the other one, whose factor is below 0.
 
 A movement counts as none if it is at most this PART of the greatest opening or slide of a joint. PART is a millionth,
-0.000001, if it isn't given. Where a motion has numbers above a million, it is divided by the rate of the block that
-turns fastest, whose rate is then 1 or -1, or by the greatest velocity if no block turns.
+0.000001, if it isn't given. If a block turns at a rate above a million, all rates are divided by the greatest one, so
+that the fastest block turns at 1 or -1. If no block turns, the same holds for the greatest velocity.
 
 The exit status is that of the program. It is 70 if a file can't be read or the program can't be run, and 2 if the words
 are no form. Python 3.11 or later. docs/reading.md explains the lines.
@@ -120,10 +120,10 @@ def thrust(bearings, forces):
 
 def shortened(moves):
     """A motion in shorter numbers, where it has long ones."""
-    turns, numbers = [abs(move[2]) for move in moves.values()], [abs(part) for move in moves.values() for part in move]
-    if max(numbers, default=0) <= 10**6:
+    unit = max((abs(move[2]) for move in moves.values()), default=0)
+    unit = unit or max((abs(part) for move in moves.values() for part in move), default=0)
+    if unit <= 10**6:
         return moves
-    unit = max(turns) or max(numbers)
     return {name: tuple(Fraction(part, unit) for part in move) for name, move in moves.items()}
 
 
