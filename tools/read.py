@@ -277,4 +277,5 @@ def main(words):
         stop(f"read: {fault}")
 
 
-main(sys.argv[1:])
+if __name__ == "__main__":
+    main(sys.argv[1:])

@@ -256,4 +256,5 @@ def main(words):
             print(laid_out(first, exact, decimals, last))
 
 
-main(sys.argv[1:])
+if __name__ == "__main__":
+    main(sys.argv[1:])

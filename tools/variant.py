@@ -72,4 +72,5 @@ def main(words):
         stop(f"variant: {fault}")
 
 
-main(sys.argv[1:])
+if __name__ == "__main__":
+    main(sys.argv[1:])
