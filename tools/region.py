@@ -11,23 +11,27 @@ factors of the loads I and J are a and b. The script prints these lines, fractio
     refused M N REASON
     half P Q R = P Q R
     corner A B = A B WORD
+    endless A B = A B WORD
     dir M N
     settled
 
 A `point` is the furthest that the structure carries in the direction (M, N). In an `unlimited` direction there is no
 limit. If the numbers of a direction are too wide for the program, it is `refused`, and the others are asked without it.
 A `half` says that P*a + Q*b is at most R for all that the structure carries. Its numbers are in lowest terms; in
-decimals the greater of P and Q is 1 or -1. Together the half-planes bound a polygon, whose corners are listed
-counter-clockwise. WORD is `safe` if the corner lies in what the points, the unlimited directions and no load at all
-span, and `open` otherwise.
+decimals the greater of P and Q is 1 or -1. Together the half-planes bound a polygon. Its corners are listed
+counter-clockwise, and then the directions in which its sides go on without end, if it has such sides. WORD is `safe` if
+the corner lies in what the points, the unlimited directions and no load at all span, or if the direction is unlimited.
+It is `near` if the structure carries 999/1000 of the corner, or of the side as far as a thousand times the size of the
+greatest corner, and `open` otherwise.
 
-The lines `dir` are the directions to ask next: towards the open corners, and along the sides that go on without end.
+The lines `dir` are the directions to ask next: towards the corners that aren't safe, and along the sides that go on.
 They have the form of DIRS, so this loop adds them until there are none:
 
     while tools/region.py MODEL I J DIRS | grep '^dir ' >>DIRS; do :; done
 
-The last line is `settled` if nothing is open: then the polygon is the region. It is `unsettled` if something is open
-and no further direction can be asked: DIRS has 64 lines, or no whole numbers of at most 1,000 lie nearer to the corner.
+The last line is `settled` if all is safe: then the polygon is the region. It is `settled to a thousandth` if all is
+safe or near, and no direction meets what is near exactly: a direction has whole numbers of at most 1,000. It is
+`unsettled` if something is open and no new direction comes nearer, or DIRS has its 64 lines.
 
 With `csv` the same lines have decimals alone, and commas between their words.
 
@@ -45,6 +49,7 @@ from pathlib import Path
 from model import Refused, program, stop, text_of
 
 MOST, LINES = 1000, 64  # the greatest number of a direction, and the most lines of a file of directions
+NEAR, FAR = Fraction(999, 1000), 1000
 
 
 @dataclass
@@ -127,17 +132,34 @@ def hull(points):
     return chain(ordered) + chain(ordered[::-1]) or ordered
 
 
-def safe_bounds(region):
-    """Half-planes (normal, most) whose common part is what points, unlimited directions and no load at all span.
+class Safe:
+    """What the points, the unlimited directions and no load at all span, by half-planes (normal, most).
 
     Each of its sides is along a side of the hull of the points, or along an unlimited direction.
     """
-    corners = hull([(Fraction(0), Fraction(0)), *region.points.values()])
-    along = [(x - before[0], y - before[1]) for (x, y), before in zip(corners, corners[-1:] + corners)]
-    along += [*region.unlimited, (1, 0), (0, 1)]
-    normals = [sign for x, y in along for sign in ((x, y), (-x, -y), (-y, x), (y, -x))]
-    return [(normal, max(dot(normal, corner) for corner in corners)) for normal in normals
-            if all(dot(normal, direction) <= 0 for direction in region.unlimited)]
+
+    def __init__(self, region):
+        self.unlimited = region.unlimited
+        corners = hull([(Fraction(0), Fraction(0)), *region.points.values()])
+        along = [(x - before[0], y - before[1]) for (x, y), before in zip(corners, corners[-1:] + corners)]
+        along += [*self.unlimited, (1, 0), (0, 1)]
+        normals = [sign for x, y in along for sign in ((x, y), (-x, -y), (-y, x), (y, -x))]
+        self.bounds = [(normal, max(dot(normal, corner) for corner in corners)) for normal in normals
+                       if all(dot(normal, direction) <= 0 for direction in self.unlimited)]
+
+    def holds(self, at, part=1):
+        return all(part * dot(normal, at) <= most for normal, most in self.bounds)
+
+    def of_corner(self, at):
+        return "safe" if self.holds(at) else "near" if self.holds(at, NEAR) else "open"
+
+    def of_side(self, ray, corners):
+        """Whether the sides that go on in a direction are safe, or near as far out as corners may be looked at."""
+        if in_cone(ray, self.unlimited):
+            return "safe"
+        far = FAR * (max(abs(part) for at in corners for part in at) or 1) / Fraction(max(map(abs, ray)))
+        ends = [(x + far * ray[0], y + far * ray[1]) for x, y in corners]
+        return "near" if all(self.holds(at, NEAR) for at in ends) else "open"
 
 
 def in_cone(direction, rays):
@@ -170,6 +192,12 @@ def corners_of(halves):
     return sorted(found, key=lambda at: atan2(at[1] - middle[1], at[0] - middle[0]))
 
 
+def feet_of(halves):
+    """The point of each side that is nearest to no load at all, where that belongs to the polygon."""
+    found = [(Fraction(p * r, p * p + q * q), Fraction(q * r, p * p + q * q)) for p, q, r in halves]
+    return [at for at in found if all(dot(half, at) <= half[2] for half in halves)]
+
+
 def endless(halves):
     """Directions that span those in which the half-planes bound nothing."""
     candidates = [(sign * -q, sign * p) for p, q, _ in halves for sign in (1, -1)]
@@ -190,13 +218,12 @@ def askable(direction):
     return ratio.numerator, ratio.denominator if n > 0 else -ratio.denominator
 
 
-def next_directions(region, corners):
-    """The directions to ask next, and whether something is open."""
-    wanted = [whole(at) for at, word in corners if word == "open"]
-    wanted += [ray for ray in endless(region.halves) if not in_cone(ray, region.unlimited)]
+def next_directions(region, found):
+    """The directions to ask next, from directions and their words: open ones, and near ones that can be met exactly."""
     asked = region.asked()
-    found = [one for one in dict.fromkeys(map(askable, wanted)) if one not in asked]
-    return found[:max(0, LINES - len(asked))], bool(wanted)
+    wanted = [askable(direction) for direction, word in found
+              if word == "open" or word == "near" and askable(direction) == direction]
+    return [one for one in dict.fromkeys(wanted) if one not in asked][:max(0, LINES - len(asked))]
 
 
 # Lines
@@ -221,16 +248,22 @@ def lines_of(region):
     for half in region.halves:
         size = max(abs(half[0]), abs(half[1])) or 1
         yield ("half",), half, [Fraction(part, size) for part in half], ()
-    bounds = safe_bounds(region)
-    corners = [(at, "safe" if all(dot(normal, at) <= most for normal, most in bounds) else "open")
-               for at in corners_of(region.halves)]
-    for at, word in corners:
+    safe, corners = Safe(region), corners_of(region.halves)
+    ends = [(at, safe.of_corner(at)) for at in corners]
+    starts = corners or feet_of(region.halves) or [(0, 0)]
+    sides = [(ray, safe.of_side(ray, starts)) for ray in endless(region.halves)]
+    for at, word in ends:
         yield ("corner",), at, at, (word,)
-    directions, wanted = next_directions(region, corners)
+    for ray, word in sides:
+        size = max(map(abs, ray))
+        yield ("endless",), ray, [Fraction(part, size) for part in ray], (word,)
+    directions = next_directions(region, [(whole(at), word) for at, word in ends] + sides)
     for direction in directions:
         yield ("dir", *direction), (), (), ()
+    words = {word for _, word in ends + sides}
     if not directions:
-        yield ("unsettled" if wanted else "settled",), (), (), ()
+        said = "unsettled" if "open" in words else "settled to a thousandth" if "near" in words else "settled"
+        yield (said,), (), (), ()
 
 
 def laid_out(first, exact, decimals, last):

@@ -211,7 +211,7 @@ def polygon(points, unlimited=(), halves=()):
     points = {direction: tuple(map(Fraction, at)) for direction, at in points.items()}
     found = region.Region(points, list(unlimited), {}, list(halves))
     return [" ".join(map(str, (*first, *last))) for first, _, _, last in region.lines_of(found)
-            if first[0] in ("corner", "dir", "settled", "unsettled")]
+            if first[0] not in ("point", "unlimited", "half", "endless")]
 
 
 class Regions(unittest.TestCase):
@@ -232,6 +232,7 @@ class Regions(unittest.TestCase):
 
     def test_unlimited_directions_settle_what_nothing_bounds(self):
         self.assertEqual(polygon([], [], []), ["dir 1 0", "dir 0 1", "dir -1 0", "dir 0 -1"])
+        self.assertEqual(region.Safe(region.Region()).of_side((1, 0), [(0, 0)]), "open")
         self.assertEqual(polygon([], [(1, 0), (-1, 1), (-1, -1)], []), ["settled"])
         # A half-plane, a strip and a wedge.
         self.assertEqual(polygon([(2, 0)], [], self.SIDES[:1]), ["dir 0 1", "dir 0 -1", "dir -1 0"])
@@ -249,9 +250,11 @@ class Regions(unittest.TestCase):
 
     def test_what_no_direction_meets_stays_unsettled(self):
         halves = [(1, 0, 2001), (0, 1, 2000), (-1, 0, 1), (0, -1, 1)]
-        points = {(1, 1): (2000, 2000), (1, 0): (2001, -1), (0, 1): (-1, 2000), (-1, -1): (-1, -1)}
+        points = {(1, 1): (1500, 1500), (1, 0): (2001, -1), (0, 1): (-1, 2000), (-1, -1): (-1, -1)}
         self.assertEqual(polygon(points, halves=halves),
                          ["corner safe", "corner safe", "corner open", "corner safe", "unsettled"])
+        self.assertEqual(polygon({**points, (1, 1): (2000, 2000)}, halves=halves),
+                         ["corner safe", "corner safe", "corner near", "corner safe", "settled to a thousandth"])
 
 
 class Drawings(unittest.TestCase):
