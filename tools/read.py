@@ -37,6 +37,7 @@ that the fastest block turns at 1 or -1. If no block turns, the same holds for t
 The exit status is that of the program. It is 70 if a file can't be read or the program can't be run, and 2 if the words
 are no form. Python 3.11 or later. docs/reading.md explains the lines.
 """
+import re
 import signal
 import sys
 import tempfile
@@ -80,7 +81,12 @@ def number(value, least=1e-9):
     return f"{float(value):.6g}" if abs(float(value)) > least else "0"
 
 
+def numbers(pair):
+    return f"{number(pair[0])} {number(pair[1])}"
+
+
 def point(at):
+    """A place, to the ten-thousandth of a unit of the grid where that is more than six digits."""
     return f"{number(at[0], 1e-4)} {number(at[1], 1e-4)}"
 
 
@@ -112,7 +118,7 @@ def thrust(bearings, forces):
     at = [sum(part[0] * bearing.at[axis] for part, bearing in zip(parts, bearings)) / presses for axis in (0, 1)]
     way = f" way {number(parts[1][0] / presses)}" if len(parts) == 2 else ""
     length, force = bearings[0].length(), [sum(force[axis] for force in forces) for axis in (0, 1)]
-    return f"N {number(presses / length)} T {number(slides / length)} force {point(force)} at {point(at)}{way}"
+    return f"N {number(presses / length)} T {number(slides / length)} force {numbers(force)} at {point(at)}{way}"
 
 
 # Motions
@@ -240,7 +246,7 @@ def range_of(name):
         text = text_of(name)
     except Refused:
         return None
-    return text if text.startswith("range ") else None
+    return text if re.match(r"range \S+ \S+\n", text) else None
 
 
 def lines_of_range(name, said, part):
