@@ -10,11 +10,13 @@ import unittest
 from fractions import Fraction
 from math import atan2, gcd, pi
 from tempfile import NamedTemporaryFile
+from unittest import mock
 
 import draw
 import read
 import region
-from model import Bearing, Block, Load, Material, Model, Refused, model_of, printed, read as read_model, share, wrenches
+from model import (Answer, Bearing, Block, Load, Material, Model, Refused, model_of, printed, read as read_model, share,
+                   wrenches)
 
 SQUARE = [[0, 0], [2, 0], [2, 4], [0, 4]]
 
@@ -241,6 +243,16 @@ class Regions(unittest.TestCase):
         wedge = [(1, -1, 0), (-1, -1, 0)]
         self.assertEqual(polygon([], [(0, 1)], wedge), ["corner safe", "dir 1 1", "dir -1 1"])
         self.assertEqual(polygon([], [(1, 1), (-1, 1)], wedge), ["corner safe", "settled"])
+
+    def test_a_direction_that_is_too_wide_is_left_out(self):
+        said = [Answer(7, "", "wide dir 2 run 1 2 3 4 divide"),
+                Answer(0, "region 2\ndir 1 0 reach 2/1 0/1\nhalf 24 -6 48\ndir 0 1 unlimited\n", "")]
+        with NamedTemporaryFile() as file, mock.patch.object(region, "program", lambda *words: said.pop(0)):
+            file.write(b"dir 1 0\ndir 3 1\ndir 0 1\n")
+            file.flush()
+            found = region.region_of("model", 1, 2, file.name)
+        self.assertEqual(found, region.Region({(1, 0): (2, 0)}, [(0, 1)], {(3, 1): "wide run 1 2 3 4 divide"},
+                                              [(4, -1, 8)]))
 
     def test_a_direction_has_at_most_a_thousand(self):
         self.assertEqual(region.askable((2001, 2000)), (1, 1))
