@@ -58,7 +58,7 @@ def defined(model, n, d):
 
 
 def drawn_at_random(draws):
-    """A model of triangles and quadrilaterals at random places: its blocks may overlap, as nothing here asks for more."""
+    """A model of triangles and quadrilaterals at random places. Its blocks may overlap: no test asks for more."""
     blocks, loads = [Block(name="ground", material="a", fixed=True, corners=SQUARE)], []
     for number in range(draws.randint(1, 4)):
         x, y, a, b, c, d = (draws.randint(1, 50) for _ in range(6))
