@@ -116,7 +116,7 @@ def thrust(bearings, forces):
     if presses == 0:
         return "bears nothing"
     at = [sum(part[0] * bearing.at[axis] for part, bearing in zip(parts, bearings)) / presses for axis in (0, 1)]
-    way = f" way {number(parts[1][0] / presses)}" if len(parts) == 2 else ""
+    way = f" way {number(parts[1][0] / presses, 1e-6)}" if len(parts) == 2 else ""
     length, force = bearings[0].length(), [sum(force[axis] for force in forces) for axis in (0, 1)]
     return f"N {number(presses / length)} T {number(slides / length)} force {numbers(force)} at {point(at)}{way}"
 
