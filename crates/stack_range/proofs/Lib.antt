@@ -1,6 +1,7 @@
 mod Between
 mod Turned
 mod ReversedScenes
+mod ReversedContacts
 mod Exact
 mod ReversedLoads
 mod Sides

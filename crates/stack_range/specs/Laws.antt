@@ -1,12 +1,13 @@
 -- The laws of the range of factors.
 use Rattle.std.specs.Prelude.{◌≡◌, ◌↔◌, ℕ, ℤ, pos, neg_ℤ, ◌*ℤ◌}
 use Rattle.stack_algebra.specs.IntegerOrder.{◌≼◌, ◌≺◌}
-use Rattle.stack_contact.specs.Surveyed.{Surveyed}
+use Rattle.stack_model.specs.Structure.{Structure}
+use Rattle.stack_contact.specs.Surveyed.{Surveyed, IsSurvey}
 use Rattle.stack_statics.specs.Scene.{Scene, IsProper}
 use Rattle.stack_statics.specs.Balance.{Carries}
 use Rattle.stack_equilibrium.specs.SurveyScene.{scene_of}
 use Rattle.stack_equilibrium.specs.Truth.{IsTrueCertificate}
-use Rattle.stack_range.specs.Reversed.{reversed_scene, reversed_survey}
+use Rattle.stack_range.specs.Reversed.{reversed, reversed_scene, reversed_survey}
 use Rattle.stack_range.specs.CarriedFactors.{CarriesAt, EndValue, end_certificate, AreCarriedBetween}
 use Rattle.stack_range.specs.RangeJudgement.{RangeJudgement, range_judgement, AreSides}
 
@@ -14,6 +15,10 @@ use Rattle.stack_range.specs.RangeJudgement.{RangeJudgement, range_judgement, Ar
 abbrev pub WhatLiesBetweenIsCarried : Type 0
 WhatLiesBetweenIsCarried = (s : Scene) (L D L' D' N E : ℤ) → IsProper s → pos 0 ≺ D → pos 0 ≺ D' → pos 0 ≺ E →
     L *ℤ E ≼ N *ℤ D → N *ℤ D' ≼ L' *ℤ E → Carries s L D → Carries s L' D' → Carries s N E
+
+-- the reversed survey is the survey of the reversed structure: its bearings and touches are exactly that structure's
+abbrev pub ReversedIsSurveyed : Type 0
+ReversedIsSurveyed = (s : Structure) (v : Surveyed) → IsSurvey s v → IsSurvey (reversed s) (reversed_survey v)
 
 -- the scene of a reversed survey is the reversed scene
 abbrev pub ReversedScenesAreTheirs : Type 0
