@@ -38,7 +38,7 @@ use Rattle.stack_yield.specs.LessDead.{less_dead}
 use Rattle.stack_yield.specs.Kept.{reach_view}
 use Rattle.stack_yield.specs.JudgedReaches.{ReachIsJudged}
 use Rattle.stack_yield.specs.Outcomes.{reaches, passes, unless_wide, bounded}
-use Rattle.stack_yield.specs.Regions.{turn_outcome, IsOutcome, TurnHolds}
+use Rattle.stack_yield.specs.Regions.{turn_outcome, IsOutcome, TurnFits, TurnHolds}
 use Rattle.stack_yield.proofs.Accepted.{moves_counted}
 
 fitting_is : (x : Fraction) (t : ℤ × ℤ) → fitting_terms x ≡ Some t → terms_of x ≡ t
@@ -125,27 +125,34 @@ module _ (s : Surveyed) (i j : ℕ) where
   is_reach m n v (stands f) e h is = absurd is
   is_reach m n v (collapses y) e h is = absurd is
 
-  -- and judged of its directed survey
-  pub reach_judged : (m n : ℤ) (v : Surveyed) (c : CertificateValue) → v ≡ directed_survey s i j m n →
-      IsJudged Live v c → IsReaching c → ReachIsJudged s i j (reach_of s i j m n c)
-  reach_judged m n v (greatest f y) e h is = subst (λ t. IsJudged Live t (greatest f y)) e h
-  reach_judged m n v (unbounded f r) e h is = subst (λ t. IsJudged Live t (unbounded f r)) e h
-  reach_judged m n v (stands f) e h is = absurd is
-  reach_judged m n v (collapses y) e h is = absurd is
+  -- one without end is judged of its directed survey, and has no further numbers
+  pub endless_judged : (m n : ℤ) (v : Surveyed) (f r : ForcesValue) → v ≡ directed_survey s i j m n →
+      IsJudged Live v (unbounded f r) → ReachIsJudged s i j (reach_of s i j m n (unbounded f r))
+  endless_judged m n v f r e h =
+      record { judged = subst (λ t. IsJudged Live t (unbounded f r)) e h; point_fits = tt; half_fits = tt }
 
-  turn_holds : (v : ReachValue) (t : Turn) → turn_outcome t ≡ reaches v → IsReach s i j v → ReachIsJudged s i j v →
-      TurnHolds s i j t
-  turn_holds v (Reaches r) e h k =
-      let same : v ≡ reach_view r = cc in (subst (IsReach s i j) same h, subst (ReachIsJudged s i j) same k)
-  turn_holds v (Falls y) e h k = absurd (cc)
+  -- a reach of a greatest factor is judged of it too, where its numbers fit
+  turn_holds : (m n : ℤ) (f : ForcesValue) (y : MotionValue) (t : Turn) →
+      turn_outcome t ≡ reaches (reach_of s i j m n (greatest f y)) → IsReach s i j (reach_of s i j m n (greatest f y)) →
+      IsJudged Live (directed_survey s i j m n) (greatest f y) → TurnFits t → TurnHolds s i j t
+  turn_holds m n f y (Reaches r) e h k fits =
+      let same : reach_of s i j m n (greatest f y) ≡ reach_view r = cc in (
+        subst (IsReach s i j) same h,
+        record {
+          judged = subst (λ (v : ReachValue). IsJudged Live (directed_survey s i j v.m v.n) v.certificate) same k;
+          point_fits = fits.0;
+          half_fits = fits.1;
+        },
+      )
+  turn_holds m n f y (Falls x) e h k fits = absurd (cc)
 
   pub bounded_holds : (m n : ℤ) (f : ForcesValue) (y : MotionValue) (v : Surveyed) (r : Result Turn Stop) →
       v ≡ directed_survey s i j m n → IsJudged Live v (greatest f y) → IsOutcome r (bounded s i j m n f y) →
-      IfOk r (TurnHolds s i j)
-  bounded_holds m n f y v (Ok t) e h o = turn_holds (reach_of s i j m n (greatest f y)) t
+      IfOk r TurnFits → IfOk r (TurnHolds s i j)
+  bounded_holds m n f y v (Ok t) e h o fits = turn_holds m n f y t
       (reach_or_stop _ _ _ (reach_of s i j m n (greatest f y)) t o) (is_reach m n v (greatest f y) e h tt)
-      (reach_judged m n v (greatest f y) e h tt)
-  bounded_holds m n f y v (Err x) e h o = tt
+      (subst (λ t. IsJudged Live t (greatest f y)) e h) fits
+  bounded_holds m n f y v (Err x) e h o fits = tt
 
   -- each directed survey has as many free blocks
   pub moves_for : (m n a b : ℤ) (v w : Surveyed) (f : ForcesValue) (y : MotionValue) →

@@ -3,6 +3,7 @@ pub mod DirectionLists
 pub mod DirectedBorne
 pub mod Points
 pub mod Accepted
+mod FittingReaches
 pub mod BoundedReaches
 pub mod DirectedLive
 pub mod Gathered

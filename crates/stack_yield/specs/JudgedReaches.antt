@@ -1,17 +1,31 @@
--- What the certificates of a region are: each is judged, so it is true of its directed survey and accepted, and its
--- numbers fit 128 bits.
-use Rattle.std.specs.Prelude.{ℕ}
+-- What the certificates and the numbers of a region are: each certificate is judged, so it is true of its directed
+-- survey and accepted; and all numbers fit 128 bits.
+use Rattle.std.specs.Prelude.{ℕ, Option, Some, None, ⊤}
 use Rattle.std.specs.List.{AllByRecursion}
+use Rattle.stack_whole.specs.Whole.{IsFitting}
 use Rattle.stack_contact.specs.Surveyed.{Surveyed}
 use Rattle.stack_certificate.specs.Certificate.{collapses}
 use Rattle.stack_equilibrium.specs.declared.types.Question.TheVariants.{Live}
 use Rattle.stack_judge.specs.Judged.{IsJudged}
 use Rattle.stack_pairs.specs.Directed.{directed_survey}
-use Rattle.stack_pairs.specs.Reaches.{ReachValue, RegionValue, collapse, points}
+use Rattle.stack_pairs.specs.Reaches.{PointValue, HalfValue, ReachValue, RegionValue, collapse, points}
 
--- the certificate of a reach is judged, of the survey towards its direction
-abbrev pub ReachIsJudged : Surveyed → (i j : ℕ) → ReachValue → Type 0
-ReachIsJudged s i j r = IsJudged Live (directed_survey s i j r.m r.n) r.certificate
+-- the numerators and denominators of a point are at most 2^127 - 1 in size
+abbrev pub PointFits : Option PointValue → Type 0
+PointFits None = ⊤
+PointFits (Some p) = (IsFitting p.0.0 × IsFitting p.0.1) × (IsFitting p.1.0 × IsFitting p.1.1)
+
+-- so are the numbers of a half-plane
+abbrev pub HalfFits : Option HalfValue → Type 0
+HalfFits None = ⊤
+HalfFits (Some h) = IsFitting h.0 × IsFitting h.1 × IsFitting h.2
+
+-- the certificate of a reach is judged, of the survey towards its direction, and the numbers of its point and of its
+-- half-plane fit
+pub record ReachIsJudged (s : Surveyed) (i j : ℕ) (r : ReachValue) : Type 0 where
+  pub judged : IsJudged Live (directed_survey s i j r.m r.n) r.certificate
+  pub point_fits : PointFits r.point
+  pub half_fits : HalfFits r.half
 
 -- so is each of a region; a collapse is judged of the survey as it is, with all its live loads and its sway
 abbrev pub RegionIsJudged : Surveyed → (i j : ℕ) → RegionValue → Type 0

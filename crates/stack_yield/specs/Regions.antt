@@ -14,7 +14,7 @@ use Rattle.stack_yield.specs.declared.types.Region.{Region}
 use Rattle.stack_yield.specs.declared.types.RegionError.{RegionError}
 use Rattle.stack_yield.specs.declared.types.RegionError.TheVariants.{TooWide, Spent, Memory}
 use Rattle.stack_yield.specs.Kept.{reach_view, region_view}
-use Rattle.stack_yield.specs.JudgedReaches.{ReachIsJudged}
+use Rattle.stack_yield.specs.JudgedReaches.{PointFits, HalfFits, ReachIsJudged}
 use Rattle.stack_yield.specs.Outcomes.{Outcome, reaches, falls, passes, spends}
 use Rattle.stack_yield.specs.ByDirections.{IsFirstDirection}
 use Rattle.stack_yield.specs.Outcomes.{answered, passes_at, spends_at, outcomes}
@@ -30,6 +30,11 @@ IsOutcome (Ok t) o = o ≡ turn_outcome t
 IsOutcome (Err (Passes p)) o = o ≡ passes p
 IsOutcome (Err Spends) o = o ≡ spends
 IsOutcome (Err Wants) o = ⊤
+
+-- the numbers of the point and the half-plane of what a direction gives fit
+abbrev pub TurnFits : Turn → Type 0
+TurnFits (Reaches r) = PointFits r.point × HalfFits r.half
+TurnFits (Falls y) = ⊤
 
 -- a reach is one of the survey, with a certificate that is judged; a collapse is a judged one of the survey itself
 abbrev pub TurnHolds : Surveyed → (i j : ℕ) → Turn → Type 0

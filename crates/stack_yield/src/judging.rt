@@ -9,7 +9,7 @@ ghost use Rattle.stack_pairs.specs.Directed.{directed_survey, ArePair, AreFactor
 ghost use Rattle.stack_yield.specs.declared.judging.Stop.TheVariants as stops;
 ghost use Rattle.stack_yield.specs.LessDead.{less_dead};
 ghost use Rattle.stack_yield.specs.Outcomes.{bounded, certificate_outcome, direction_outcome};
-ghost use Rattle.stack_yield.specs.Regions.{IsOutcome, TurnHolds};
+ghost use Rattle.stack_yield.specs.Regions.{IsOutcome, TurnFits, TurnHolds};
 
 use crate::coordinates::point;
 use crate::directing::{Towards, survey_towards};
@@ -79,7 +79,8 @@ fn bounded_reach(
     requires first { first.now ≡ directed_survey s.now t.i t.j (pos 1) (pos 0) }
     requires second { second.now ≡ directed_survey s.now t.i t.j (pos 0) (pos 1) }
     requires judged { IsJudged questions.Live judged.now (greatest (forces_view forces) (motion_view motion)) }
-    ensures { IsOutcome result (bounded s.now t.i t.j t.m t.n (forces_view forces) (motion_view motion)) }
+    ensures outcome { IsOutcome result (bounded s.now t.i t.j t.m t.n (forces_view forces) (motion_view motion)) }
+    ensures fits { IfOk result TurnFits }
 {
     let Ok(p) = power(first, &motion, Question::Live) else {
         return Err(Stop::Passes(RegionPlace::First));

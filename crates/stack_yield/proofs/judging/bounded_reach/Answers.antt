@@ -7,6 +7,7 @@ use Rattle.stack_equilibrium.specs.WrittenPowers.{written_power}
 use Rattle.stack_pairs.specs.Directed.{directed_survey}
 use Rattle.stack_yield.proofs.Accepted.{power_fits}
 use Rattle.stack_yield.proofs.BoundedReaches.{bounded_is, moves_for, less_dead_is, point_told, half_told, factor_cast}
+use Rattle.stack_yield.proofs.FittingReaches.{point_fits, half_fits}
 use Rattle.stack_yield.proofs.Points.{fitting_cast}
 use Rattle.stack_yield.proofs.judging.bounded_reach.Goals as goal
 
@@ -20,8 +21,8 @@ power-requires-2 c = moves_for c.args.s.now c.args.t.i c.args.t.j c.args.t.m c.a
     c.args.judged.now c.args.second.now (forces_view c.args.forces) (motion_view c.args.motion) c.requires.towards
     c.requires.second c.requires.judged
 
-pub returns : goal.returns
-returns c =
+pub returns-clause-outcome : goal.returns-clause-outcome
+returns-clause-outcome c =
     let y : MotionValue = motion_view c.args.motion in
     let f : ForcesValue = forces_view c.args.forces in
     let k = c.requires.factors in
@@ -47,3 +48,16 @@ returns c =
     (c.dead_power-r.ensures.value ∙ less_dead_is c.args.s.now c.args.t.i c.args.t.j c.args.t.m c.args.t.n
     c.args.judged.now y
     c.requires.pair c.requires.towards)
+
+pub returns-clause-fits : goal.returns-clause-fits
+returns-clause-fits c =
+    let y : MotionValue = motion_view c.args.motion in
+    let f : ForcesValue = forces_view c.args.forces in
+    let fp = power_fits Live c.args.first.now y c.in-Ok.p (sym c.power.ensures.written ∙ c.in-Ok.is) in
+    let fq = power_fits Live c.args.second.now y c.in-Ok-power.q
+    (sym c.power-2.ensures.written ∙ c.in-Ok-power.is) in
+    let fr = c.dead_power-r.ensures.fits in (
+      point_fits c.widened.result.value c.widened-2.result.value f c.in-Some.at (sym c.point.ensures ∙ c.in-Some.is),
+      half_fits c.in-Ok.p c.in-Ok-power.q c.dead_power-r.result _ _ _ (fitting_cast c.in-Ok.p fp)
+          (fitting_cast c.in-Ok-power.q fq) (fitting_cast c.dead_power-r.result fr) fp fq fr,
+    )

@@ -21,4 +21,4 @@ returns-in-Greatest-clause-holds c = bounded_holds c.args.s.now c.args.t.i c.arg
     (forces_view c.in-Greatest.forces) (motion_view c.in-Greatest.motion) c.args.judged.now c.bounded_reach.result
     c.requires.towards
     (subst (λ (x : Certificate). IsJudged Live c.args.judged.now (certificate_view x)) c.in-Greatest.is
-    c.requires.judged) c.bounded_reach.ensures
+    c.requires.judged) c.bounded_reach.ensures.outcome c.bounded_reach.ensures.fits
