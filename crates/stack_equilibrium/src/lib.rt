@@ -27,7 +27,9 @@ pub use loads::{dead, live};
 pub use openings::opening;
 pub use powers::power;
 pub use residues::residue;
-pub use stack_statics::{centroid_law, certificate_laws, share_law, sway_laws, virtual_work, weight_law};
+pub use stack_statics::{
+    centroid_law, certificate_laws, share_law, sway_laws, virtual_work, weight_law,
+};
 pub use sums::bearing_force;
 pub use surveys::{proper, written_laws};
 
