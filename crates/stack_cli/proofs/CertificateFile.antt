@@ -3,7 +3,7 @@ use Rattle.std.proofs.Common.{◌≡◌, ◌≢◌, refl, sym, subst, ap, ◌∙
 use Rattle.std.proofs.Common.{Option, None, Result, Ok, Err, inl, inr, ◌⊎◌, length, arith}
 use Rattle.std.specs.Prelude.{if◌then◌else◌}
 use Rattle.std.proofs.Math.Dec.{ltb}
-use Rattle.std.proofs.lemmas.Bool.{ltb-false, ltb-true, le-ltb, lt-ltb}
+use Rattle.std.proofs.lemmas.Bool.{ltb-false, ltb-true, le-ltb}
 use Rattle.stack_outside.specs.Seen.{ShelfSeen, StreamSeen, NeitherFailed}
 use Rattle.stack_contact.specs.Surveyed.{Surveyed}
 use Rattle.stack_certificate.specs.Certificate.{CertificateValue}
@@ -37,32 +37,30 @@ abbrev on_file : (Surveyed → CertificateValue → Work Due) → List ℕ → S
 on_file last name v = read inputs.Certificate name
     >>= λ text. (certificate_step (certificate_of text) >>= last v)
 
--- what is done with it refuses neither as too long nor for a line
+-- what is done with it doesn't refuse for a line
 abbrev IsLast : (Surveyed → CertificateValue → Work Due) → Type 0
-IsLast last = (v : Surveyed) (c : CertificateValue) → Avoids 4 (last v c) × Avoids 6 (last v c)
+IsLast last = (v : Surveyed) (c : CertificateValue) → Avoids 6 (last v c)
 
 abbrev Reads : Form → List ℕ → List ℕ → Type 0
 Reads form model name = (last : Surveyed → CertificateValue → Work Due)
     × (work_of form ≡ surveyed_file model >>= on_file last name) × IsLast last
 
-index_last : (v : Surveyed) (c : CertificateValue) (o : Option ℕ)
-    → Avoids 4 (tabled_by v c o) × Avoids 6 (tabled_by v c o)
-index_last v c None = (tt, tt)
-index_last v c (Some index) = (λ e. absurd (omega (arith, e)), λ e. absurd (omega (arith, e)))
+index_last : (v : Surveyed) (c : CertificateValue) (o : Option ℕ) → Avoids 6 (tabled_by v c o)
+index_last v c None = tt
+index_last v c (Some index) = λ e. absurd (omega (arith, e))
 
-due_last : (due : Accepting) → ((v : Surveyed) (c : CertificateValue) → Avoids 4 (due v c) × Avoids 6 (due v c))
-    → (v : Surveyed) (c : CertificateValue) (k : Check)
-    → Avoids 4 (certificate_due due v c k) × Avoids 6 (certificate_due due v c k)
+due_last : (due : Accepting) → ((v : Surveyed) (c : CertificateValue) → Avoids 6 (due v c))
+    → (v : Surveyed) (c : CertificateValue) (k : Check) → Avoids 6 (certificate_due due v c k)
 due_last due h v c Accepted = h v c
-due_last due h v c (Rejected part reason) = (tt, tt)
-due_last due h v c (TooWide place) = (λ e. absurd (omega (arith, e)), λ e. absurd (omega (arith, e)))
+due_last due h v c (Rejected part reason) = tt
+due_last due h v c (TooWide place) = λ e. absurd (omega (arith, e))
 
 reads : (form : Form) (model name : List ℕ) → ReadsCertificate form model name → Reads form model name
 unfolding certificate_work checked_file
 reads form model name (inl is) = subst (λ f. Reads f model name) (sym is) (
   λ v c. certificate_due accepted_due v c (written_check v c),
   refl,
-  λ v c. due_last accepted_due (λ w d. (tt, tt)) v c (written_check v c),
+  λ v c. due_last accepted_due (λ w d. tt) v c (written_check v c),
 )
 reads form model name (inr is) = subst (λ f. Reads f model name) (sym is) (
   λ v c. certificate_due table_due v c (written_check v c),
@@ -73,10 +71,6 @@ reads form model name (inr is) = subst (λ f. Reads f model name) (sym is) (
 -- the ends of that work on a file that is told
 module _ (holds : Holds) (last : Surveyed → CertificateValue → Work Due) (name text : List ℕ)
     (held : holds name ≡ Some text) (v : Surveyed) where
-  long_ends : greatest_file < length text → Ends holds (on_file last name v) (name ∷ [])
-      (Err (faulty (long inputs.Certificate)))
-  long_ends more = (refl, inr (text, rw held refl, rw (lt-ltb greatest_file (length text) more) (refl, inl refl)))
-
   line_ends : length text ≤ greatest_file → (number : ℕ) → certificate_of text ≡ Err number
       → Ends holds (on_file last name v) (name ∷ []) (Err (faulty (certificate_line number)))
   line_ends short number is =
@@ -117,9 +111,6 @@ module _ (holds : Holds) (last : Surveyed → CertificateValue → Work Due) (n 
       subst (λ t. WhyText t n r) (told_bytes (holds name) text p.0 held p.1)
       (bytes_why (ltb greatest_file (length p.0)) p.0 ns refl p.2)
 
-abbrev IsLong : List ℕ → List ℕ → Type 0
-IsLong bytes text = (greatest_file < length bytes) ⊎ (greatest_file < length text)
-
 abbrev HasLine : List ℕ → Type 0
 HasLine text = (length text ≤ greatest_file) × (number : ℕ) × (certificate_of text ≡ Err number)
 
@@ -128,13 +119,6 @@ module _ (holds : Holds) (r : Refusal) (model name bytes text : List ℕ) (told 
   other : (n : ℕ) (q : Refusal) → status_of r ≡ n → status_of q ≢ n → r ≡ q → ⊥
   other n q at not_at same = not_at (sym (ap status_of same) ∙ at)
 
-  long_model : status_of r ≡ 4 → Why bytes r → IsLong bytes text
-  long_model four (for_memory same) = absurd (other 4 (faulty memory) four (λ e. absurd (omega (arith, e))) same)
-  long_model four (for_file same) = absurd (other 4 (file inputs.Model) four (λ e. absurd (omega (arith, e))) same)
-  long_model four (for_length more same) = inl more
-  long_model four (for_fault short f same) =
-      absurd (other 4 _ four (λ e. model_status bytes f 4 e (λ h. absurd (omega (arith, h)))) same)
-
   no_line : status_of r ≡ 6 → Why bytes r → ⊥
   no_line six (for_memory same) = other 6 (faulty memory) six (λ e. absurd (omega (arith, e))) same
   no_line six (for_file same) = other 6 (file inputs.Model) six (λ e. absurd (omega (arith, e))) same
@@ -142,27 +126,16 @@ module _ (holds : Holds) (r : Refusal) (model name bytes text : List ℕ) (told 
   no_line six (for_fault short f same) =
       other 6 _ six (λ e. model_status bytes f 6 e (λ h. absurd (omega (arith, h)))) same
 
-  long_text : status_of r ≡ 4 → WhyText text 4 r → IsLong bytes text
-  long_text four (for_text more same) = inr more
-  long_text four (for_line short number is same) =
-      absurd (other 4 (faulty (certificate_line number)) four (λ e. absurd (omega (arith, e))) same)
-
   has_line : status_of r ≡ 6 → WhyText text 6 r → HasLine text
   has_line six (for_text more same) =
       absurd (other 6 (faulty (long inputs.Certificate)) six (λ e. absurd (omega (arith, e))) same)
   has_line six (for_line short number is same) = (short, number, is)
 
-  long_came : (last : Surveyed → CertificateValue → Work Due) → IsLast last → status_of r ≡ 4
-      → CameOf holds (surveyed_file model) (on_file last name) r → IsLong bytes text
-  long_came last is four (inl c) = long_model four (surveyed_why holds r model bytes c.0 told c.1)
-  long_came last is four (inr c) = long_text four (text_why holds last 4 (λ e. absurd (omega (arith, e)))
-      (λ e. absurd (omega (arith, e))) (λ v d. (is v d).0) c.0 r four name text c.2 held c.4)
-
   line_came : (last : Surveyed → CertificateValue → Work Due) → IsLast last → status_of r ≡ 6
       → CameOf holds (surveyed_file model) (on_file last name) r → HasLine text
   line_came last is six (inl c) = absurd (no_line six (surveyed_why holds r model bytes c.0 told c.1))
   line_came last is six (inr c) = has_line six (text_why holds last 6 (λ e. absurd (omega (arith, e)))
-      (λ e. absurd (omega (arith, e))) (λ v d. (is v d).1) c.0 r six name text c.2 held c.4)
+      (λ e. absurd (omega (arith, e))) is c.0 r six name text c.2 held c.4)
 
 -- a refusal with one of the statuses of the work is one of it
 pub caused_by : (n : ℕ) (r : Refusal) (form : Form) (shelf : ShelfSeen) (names : List (List ℕ)) (out : StreamSeen)
@@ -196,15 +169,8 @@ module _ (status : ℕ) (form : Form) (shelf : ShelfSeen) (out err : StreamSeen)
 
   says : CertificateSays bytes text status shelf out err
   says = record {
-    long_one = λ neither v accepted more. refuses_as neither v accepted
-        (long inputs.Certificate) tt (long_ends shelf.holds w.0 name text held v more);
     faulty_one = λ neither v accepted short number is. refuses_as neither v accepted
         (certificate_line number) tt (line_ends shelf.holds w.0 name text held v short number is);
-    only_long = λ four. let r = m.refused (omega (arith, four)) in
-        let at = sym r.is_status ∙ four in
-        long_came shelf.holds r.refusal model name bytes text told held w.0 w.2 at
-        (came 4 r.refusal at (λ e. absurd (omega (arith, e))) (λ e. absurd (omega (arith, e)))
-        (λ e. absurd (omega (arith, e))) (λ e. absurd (omega (arith, e))) r.cause);
     only_faulty = λ six. let r = m.refused (omega (arith, six)) in
         let at = sym r.is_status ∙ six in
         line_came shelf.holds r.refusal model name bytes text told held w.0 w.2 at

@@ -49,12 +49,10 @@ pub record ModelSays (bytes : List ℕ) (status : ℕ) (shelf : ShelfSeen) (out 
 abbrev pub ReadsCertificate : Form → (model name : List ℕ) → Type 0
 ReadsCertificate form model name = (form ≡ check model name) ⊎ (form ≡ tables model name)
 
--- What a run of `check` or `table` says of the certificate's file, beside an accepted model.
+-- What a run of `check` or `table` says of the certificate's text, beside an accepted model. Of a file that is too long
+-- LengthSaid speaks.
 pub record CertificateSays (bytes text : List ℕ) (status : ℕ) (shelf : ShelfSeen) (out err : StreamSeen) : Type 0 where
-  pub long_one : NeitherFailed shelf out → (v : Surveyed) → IsAcceptedModel bytes v → greatest_file < length text
-      → IsRefused (long inputs.Certificate) status out err
   pub faulty_one : NeitherFailed shelf out → (v : Surveyed) → IsAcceptedModel bytes v → length text ≤ greatest_file
       → (number : ℕ) → certificate_of text ≡ Err number
       → IsRefused (certificate_line number) status out err
-  pub only_long : status ≡ 4 → (greatest_file < length bytes) ⊎ (greatest_file < length text)
   pub only_faulty : status ≡ 6 → (length text ≤ greatest_file) × (number : ℕ) × (certificate_of text ≡ Err number)
