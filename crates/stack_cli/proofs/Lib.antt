@@ -23,6 +23,10 @@ mod Deciding
 mod RangeDecided
 mod StagesDecided
 mod RegionDecided
-mod FurtherFaults
+mod FurtherSteps
+mod RangeRefused
+mod StagesRefused
+mod RegionRefused
+mod PairsRefused
 mod RunSaid
 mod Refusing

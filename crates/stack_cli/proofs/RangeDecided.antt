@@ -159,10 +159,10 @@ module _ (model : List ℕ) (budget : ℕ) (bytes : List ℕ) (v : Surveyed) (st
     complete = completes v budget status out err cases_are;
     without_live = given_lacking;
     wide = λ live side p on. given_wide side p live (of_sides (wide_on side p) on);
-    spends = λ live side on. given_spent side live (of_sides (spent_on side) on);
-    falls = λ live y is. written (collapsing y) (given_told (collapsing y) live (of_sides (told (collapsing y)) is));
-    only_falls = only_falls v budget status out err cases_are;
-    ranges = λ live low high g l. written (between low high)
+    over = λ live side on. given_spent side live (of_sides (spent_on side) on);
+    fall = λ live y is. written (collapsing y) (given_told (collapsing y) live (of_sides (told (collapsing y)) is));
+    only_fall = only_falls v budget status out err cases_are;
+    range = λ live low high g l. written (between low high)
         (given_told (between low high) live (of_sides (told (between low high)) (g, l)));
   }
 

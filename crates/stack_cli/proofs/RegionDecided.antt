@@ -269,7 +269,7 @@ module _ (model : List ℕ) (i j : ℕ) (name : List ℕ) (budget : ℕ) (bytes 
       only_faulty = only_faulty v i j text budget status out err cases_are;
       wide = λ loads ds n k p f. given_wide loads ds k p n
           ((directions_are_decided v loads.0 loads.1 budget ds).wide k p f);
-      spent = λ loads ds n k f. given_spent loads ds k n
+      over = λ loads ds n k f. given_spent loads ds k n
           ((directions_are_decided v loads.0 loads.1 budget ds).over_budget k f);
       fall = λ loads ds n k y f. written loads ds (collapse y) n
           ((directions_are_decided v loads.0 loads.1 budget ds).fall k y f);

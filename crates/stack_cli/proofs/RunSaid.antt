@@ -7,17 +7,20 @@ use Rattle.stack_cli.specs.Printed.{PrintedIsAccepted}
 use Rattle.stack_cli.specs.RunSaid.{RunSays}
 use Rattle.stack_cli.proofs.CertificateFile.{certificate_says}
 use Rattle.stack_cli.proofs.CheckAnswered.{check_says}
-use Rattle.stack_cli.proofs.FurtherFaults.{only_orders, only_directions, only_pairs}
 use Rattle.stack_cli.proofs.FormsAnswered.{contacts_say, stack_says, sample_says}
 use Rattle.stack_cli.proofs.HeadlineHolds.{headline_of}
 use Rattle.stack_cli.proofs.LengthAnswered.{length_says}
 use Rattle.stack_cli.proofs.ModelAnswered.{model_says}
+use Rattle.stack_cli.proofs.PairsRefused.{only_pairs}
 use Rattle.stack_cli.proofs.PrintedAnswered.{prints_truly, accepted_again}
 use Rattle.stack_cli.proofs.RangeAnswered.{range_says}
 use Rattle.stack_cli.proofs.RangeDecided.{range_decides}
+use Rattle.stack_cli.proofs.RangeRefused.{range_refuses}
 use Rattle.stack_cli.proofs.RegionDecided.{region_decides, pair_decides}
+use Rattle.stack_cli.proofs.RegionRefused.{region_refuses}
 use Rattle.stack_cli.proofs.StagesDecided.{stages_decide}
 use Rattle.stack_cli.proofs.StagesAnswered.{stages_say}
+use Rattle.stack_cli.proofs.StagesRefused.{stages_refuse}
 use Rattle.stack_cli.proofs.TableAnswered.{table_says}
 use Rattle.stack_cli.proofs.YieldAnswered.{region_says}
 
@@ -42,7 +45,8 @@ run_says law m = record {
   stages_decided = stages_decide m;
   regions_decided = region_decides m;
   pairs_decided = pair_decides m;
-  only_orders = only_orders m;
-  only_directions = only_directions m;
+  ranges_refused = range_refuses m;
+  stages_refused = stages_refuse m;
+  regions_refused = region_refuses m;
   only_pairs = only_pairs m;
 }

@@ -212,7 +212,7 @@ module _ (model name : List ℕ) (budget : ℕ) (bytes text : List ℕ) (v : Sur
     faulty_one = given_line;
     only_faulty = only_faulty v text budget status out err cases_are;
     wide = λ order is k p f. given_wide order k p is ((stages_are_decided v order budget).wide k p f);
-    spends = λ order is k f. given_spent order k is ((stages_are_decided v order budget).over_budget k f);
+    over = λ order is k f. given_spent order k is ((stages_are_decided v order budget).over_budget k f);
     fall = λ order is k y f. let d = (stages_are_decided v order budget).fall k y f in
         with_forces order k y d.0 d.2 (fall_written order d.0 y is d.1);
     only_fall = only_fall v text budget status out err cases_are;

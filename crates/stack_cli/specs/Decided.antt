@@ -1,4 +1,4 @@
--- How the forms that judge more than once end, beside their answers.
+-- How the forms that judge more than once end: with a refusal, or with an answer that is written whole.
 use Rattle.std.specs.Prelude.{◌≡◌, ℕ, ◌≤◌, ℤ, List, length}
 use Rattle.stack_outside.specs.Seen.{StreamSeen, Took, TookNothing}
 use Rattle.stack_contact.specs.Surveyed.{Surveyed}
@@ -28,7 +28,7 @@ pub record WritesRange (v : Surveyed) (r : RangeValue) (status : ℕ) (out : Str
   pub is_status : status ≡ verdict_status (range_verdict r)
   pub is_written : Took out (range_text r)
 
--- What comes of the stages, truly, was written whole; the status is 1 exactly where one falls.
+-- This answer of the stages, which is true, was written whole; the status is 1 exactly where one falls.
 pub record WritesStages (v : Surveyed) (order : List ℕ) (x : Staged) (status : ℕ) (out : StreamSeen) : Type 0 where
   pub are_true : AreTrue v order x
   pub are_settled : AreSettled v order x

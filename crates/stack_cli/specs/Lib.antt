@@ -16,5 +16,6 @@ pub mod RangeDecided
 pub mod StagesDecided
 pub mod RegionDecided
 pub mod FurtherFaults
+pub mod FurtherRefusals
 pub mod RunSaid
 pub mod Runs

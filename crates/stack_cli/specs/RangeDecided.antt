@@ -1,4 +1,4 @@
--- Which status of `range` comes of which cause, on an accepted model, where neither the shelf nor the output failed.
+-- Which status of `range` has which cause, on an accepted model, where neither the shelf nor the output failed.
 use Rattle.std.specs.Prelude.{◌≡◌, ℕ, ◌⊎◌}
 use Rattle.stack_outside.specs.Seen.{StreamSeen}
 use Rattle.stack_contact.specs.Surveyed.{Surveyed}
@@ -27,8 +27,8 @@ module _ (v : Surveyed) (budget : ℕ) where
   abbrev pub IsSpentOn : Side → Type 0
   IsSpentOn side = IsReached side v budget × (side_judgement side v budget ≡ spent)
 
--- What came of it: the range that its sides have, a number of a side that is too wide, a side whose budget is spent, no
--- live load, want of memory. One case holds, since their statuses differ.
+-- How the run ends: it writes the range that its sides have; a number of a side is too wide; the budget of a side is
+-- spent; no live load is listed; or memory runs out. Exactly one case holds, since their statuses differ.
 pub data RangeCase (v : Surveyed) (budget status : ℕ) (out err : StreamSeen) : Type 0 where
   is_told : (r : RangeValue) → ¬ (LacksLive Live v) → AreSides v budget (told r) → WritesRange v r status out
       → RangeCase v budget status out err
@@ -39,8 +39,7 @@ pub data RangeCase (v : Surveyed) (budget status : ℕ) (out err : StreamSeen) :
   lacks_live : LacksLive Live v → Refuses no_live status out err → RangeCase v budget status out err
   wants_memory : Leaves status 11 out → RangeCase v budget status out err
 
--- Each cause has its status with its line, unless memory is wanting; and where no step refuses, the range is written
--- whole.
+-- Each cause has its status and its line, unless memory runs out. If no step refuses, the range is written whole.
 pub record RangeDecides (v : Surveyed) (budget status : ℕ) (out err : StreamSeen) : Type 0 where
   pub cases : RangeCase v budget status out err
   pub complete : ¬ (LacksLive Live v) → ((side : Side) (p : JudgePlace) → ¬ (IsWideOn v budget side p))
@@ -49,15 +48,15 @@ pub record RangeDecides (v : Surveyed) (budget status : ℕ) (out err : StreamSe
   pub without_live : LacksLive Live v → IsRefused no_live status out err
   pub wide : ¬ (LacksLive Live v) → (side : Side) (p : JudgePlace) → IsWideOn v budget side p
       → IsRefused (wide_within (within_of side) v.structure p) status out err
-  pub spends : ¬ (LacksLive Live v) → (side : Side) → IsSpentOn v budget side
+  pub over : ¬ (LacksLive Live v) → (side : Side) → IsSpentOn v budget side
       → IsRefused (over_budget budget) status out err
-  -- 1 comes exactly where the greatest side collapses
-  pub falls : ¬ (LacksLive Live v) → (y : MotionValue) → side_judgement Greatest v budget ≡ certified (collapses y)
+  -- 1 comes exactly where the greatest side collapses,
+  pub fall : ¬ (LacksLive Live v) → (y : MotionValue) → side_judgement Greatest v budget ≡ certified (collapses y)
       → WritesRange v (collapsing y) status out ⊎ Leaves status 11 out
-  pub only_falls : status ≡ 1
+  pub only_fall : status ≡ 1
       → (y : MotionValue) × (side_judgement Greatest v budget ≡ certified (collapses y))
-  -- and 0 exactly where both sides have ends
-  pub ranges : ¬ (LacksLive Live v) → (low high : EndValue)
+  -- and 0 where both sides have ends
+  pub range : ¬ (LacksLive Live v) → (low high : EndValue)
       → side_judgement Greatest v budget ≡ certified (end_certificate high)
       → side_judgement Least v budget ≡ certified (end_certificate low)
       → WritesRange v (between low high) status out ⊎ Leaves status 11 out

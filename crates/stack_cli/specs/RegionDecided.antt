@@ -1,5 +1,5 @@
--- Which status of `yield` comes of which cause, beside an accepted model, where neither the shelf nor the output failed
--- and the directions' file isn't too long.
+-- Which status of `yield` has which cause, beside an accepted model, where neither the shelf nor the output failed and
+-- the directions' file isn't too long.
 use Rattle.std.specs.Prelude.{◌≡◌, ℕ, ◌+◌, ◌⊎◌, ℤ, List, Ok, Err, length}
 use Rattle.stack_outside.specs.Seen.{StreamSeen}
 use Rattle.stack_contact.specs.Surveyed.{Surveyed}
@@ -21,9 +21,9 @@ pub record Named (v : Surveyed) (i j : ℕ) (text : List ℕ) (loads : ℕ × �
   pub pair : pair_of v.structure i j ≡ Ok loads
   pub directions : directions_of text ≡ Ok ds
 
--- What came of it: a number that names no load; a faulty line of the directions; what the directions are judged to be,
--- each to have a reach or the first that has none to collapse; a number of that direction that is too wide, or that its
--- budget is spent; want of memory. One case holds, since their statuses differ.
+-- How the run ends: a number names no load; the directions have a faulty line; it writes the reach of each direction,
+-- or the collapse of the first that has none; the first direction that has none has a number that is too wide, or its
+-- budget is spent; or memory runs out. Exactly one case holds, since their statuses differ.
 pub data RegionCase (v : Surveyed) (i j : ℕ) (text : List ℕ) (budget status : ℕ) (out err : StreamSeen) : Type 0 where
   is_unpaired : (number : ℕ) → pair_of v.structure i j ≡ Err number → Refuses (no_pair number) status out err
       → RegionCase v i j text budget status out err
@@ -40,8 +40,7 @@ pub data RegionCase (v : Surveyed) (i j : ℕ) (text : List ℕ) (budget status 
       → RegionCase v i j text budget status out err
   wants_memory : Leaves status 11 out → RegionCase v i j text budget status out err
 
--- Each cause has its status with its line, unless memory is wanting; and where no step refuses, the region is written
--- whole.
+-- Each cause has its status and its line, unless memory runs out. If no step refuses, the region is written whole.
 pub record RegionDecides (v : Surveyed) (i j : ℕ) (text : List ℕ) (budget status : ℕ) (out err : StreamSeen)
     : Type 0 where
   pub cases : RegionCase v i j text budget status out err
@@ -61,9 +60,9 @@ pub record RegionDecides (v : Surveyed) (i j : ℕ) (text : List ℕ) (budget st
   pub wide : (loads : ℕ × ℕ) (ds : List (ℤ × ℤ)) → Named v i j text loads ds → (k : ℕ) (p : RegionPlace)
       → IsFirstDirection v loads.0 loads.1 budget ds k (passes p)
       → IsRefused (wide_toward (k + 1) v.structure p) status out err
-  pub spent : (loads : ℕ × ℕ) (ds : List (ℤ × ℤ)) → Named v i j text loads ds → (k : ℕ)
+  pub over : (loads : ℕ × ℕ) (ds : List (ℤ × ℤ)) → Named v i j text loads ds → (k : ℕ)
       → IsFirstDirection v loads.0 loads.1 budget ds k spends → IsRefused (over_budget budget) status out err
-  -- 1 comes exactly where a direction is the first to have no reach, and collapses
+  -- 1 comes exactly where the first direction that has no reach collapses,
   pub fall : (loads : ℕ × ℕ) (ds : List (ℤ × ℤ)) → Named v i j text loads ds → (k : ℕ) (y : MotionValue)
       → IsFirstDirection v loads.0 loads.1 budget ds k (falls y)
       → WritesRegion v loads.0 loads.1 ds (collapse y) status out ⊎ Leaves status 11 out

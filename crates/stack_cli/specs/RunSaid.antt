@@ -15,7 +15,8 @@ use Rattle.stack_forms.specs.Forms.{Form, files_of, judges, check, tables, conta
 use Rattle.stack_forms.specs.Forms.{yields}
 use Rattle.stack_cli.specs.Accepted.{CheckSays}
 use Rattle.stack_cli.specs.Decided.{IsShort}
-use Rattle.stack_cli.specs.FurtherFaults.{HasFaultyOrder, HasFaultyDirections, HasNoPair}
+use Rattle.stack_cli.specs.FurtherFaults.{HasNoPair}
+use Rattle.stack_cli.specs.FurtherRefusals.{RangeRefusals, StagesRefusals, RegionRefusals}
 use Rattle.stack_cli.specs.Headline.{Judging, PrintsOfFile}
 use Rattle.stack_cli.specs.LengthSaid.{LengthSays}
 use Rattle.stack_cli.specs.ModelSaid.{IsRefused, ModelSays, ReadsCertificate, CertificateSays}
@@ -94,12 +95,17 @@ pub record RunSays (status : ℕ) (form : Option Form) (shelf : ShelfSeen) (out 
       (number : ℕ) → form ≡ Some (yields model i j name budget) → shelf.holds model ≡ Some bytes
       → IsAcceptedModel bytes v → NeitherFailed shelf out → pair_of v.structure i j ≡ Err number
       → IsRefused (no_pair number) status out err
-  -- 13 comes of no other cause than a faulty line of the order, 14 of the directions, and 15 of a number that names no
-  -- load, whatever the devices do
-  pub only_orders : (model name : List ℕ) (budget : ℕ) (bytes text : List ℕ) → form ≡ Some (builds model name budget)
-      → shelf.holds model ≡ Some bytes → shelf.holds name ≡ Some text → status ≡ 13 → HasFaultyOrder bytes text
-  pub only_directions : (model : List ℕ) (i j : ℕ) (name : List ℕ) (budget : ℕ) (bytes text : List ℕ)
+  -- whatever the devices do: why `range` refuses with 7, 8 or 9
+  pub ranges_refused : (model : List ℕ) (budget : ℕ) (bytes : List ℕ) → form ≡ Some (ranges model budget)
+      → shelf.holds model ≡ Some bytes → RangeRefusals bytes budget status out err
+  -- why `stages` refuses with 7, 8 or 13
+  pub stages_refused : (model name : List ℕ) (budget : ℕ) (bytes text : List ℕ)
+      → form ≡ Some (builds model name budget) → shelf.holds model ≡ Some bytes → shelf.holds name ≡ Some text
+      → StagesRefusals bytes text budget status out err
+  -- why `yield` refuses with 7, 8 or 14
+  pub regions_refused : (model : List ℕ) (i j : ℕ) (name : List ℕ) (budget : ℕ) (bytes text : List ℕ)
       → form ≡ Some (yields model i j name budget) → shelf.holds model ≡ Some bytes → shelf.holds name ≡ Some text
-      → status ≡ 14 → HasFaultyDirections bytes text i j
+      → RegionRefusals bytes text i j budget status out err
+  -- and with 15: a number names no load
   pub only_pairs : (model : List ℕ) (i j : ℕ) (name : List ℕ) (budget : ℕ) (bytes : List ℕ)
       → form ≡ Some (yields model i j name budget) → shelf.holds model ≡ Some bytes → status ≡ 15 → HasNoPair bytes i j

@@ -1,5 +1,5 @@
--- Which status of `stages` comes of which cause, beside an accepted model, where neither the shelf nor the output
--- failed and the order's file isn't too long.
+-- Which status of `stages` has which cause, beside an accepted model, where neither the shelf nor the output failed and
+-- the order's file isn't too long.
 use Rattle.std.specs.Prelude.{◌≡◌, ℕ, suc, ◌⊎◌, List, Ok, Err, length}
 use Rattle.stack_outside.specs.Seen.{StreamSeen}
 use Rattle.stack_contact.specs.Surveyed.{Surveyed}
@@ -16,9 +16,9 @@ use Rattle.stack_cli.specs.Decided.{Refuses, WritesStages}
 use Rattle.stack_cli.specs.Headline.{Leaves}
 use Rattle.stack_cli.specs.ModelSaid.{IsRefused}
 
--- What came of it: a faulty line of the order; what its stages are judged to be, each to stand or the first to
--- collapse; the first that doesn't stand has a number that is too wide, or its budget is spent; want of memory. One
--- case holds, since their statuses differ.
+-- How the run ends: the order has a faulty line; it writes that each stage stands, or which is the first to collapse;
+-- the first stage that isn't judged to stand has a number that is too wide, or its budget is spent; or memory runs out.
+-- Exactly one case holds, since their statuses differ.
 pub data StagesCase (v : Surveyed) (text : List ℕ) (budget status : ℕ) (out err : StreamSeen) : Type 0 where
   is_faulty : (number : ℕ) → order_of v.structure text ≡ Err number → Refuses (order_line number) status out err
       → StagesCase v text budget status out err
@@ -32,8 +32,7 @@ pub data StagesCase (v : Surveyed) (text : List ℕ) (budget status : ℕ) (out 
       → Refuses (over_budget budget) status out err → StagesCase v text budget status out err
   wants_memory : Leaves status 11 out → StagesCase v text budget status out err
 
--- Each cause has its status with its line, unless memory is wanting; and where no step refuses, what comes of the
--- stages is written whole.
+-- Each cause has its status and its line, unless memory runs out. If no step refuses, the answer is written whole.
 pub record StagesDecide (v : Surveyed) (text : List ℕ) (budget status : ℕ) (out err : StreamSeen) : Type 0 where
   pub cases : StagesCase v text budget status out err
   pub complete : (order : List ℕ) → order_of v.structure text ≡ Ok order
@@ -48,9 +47,9 @@ pub record StagesDecide (v : Surveyed) (text : List ℕ) (budget status : ℕ) (
   pub wide : (order : List ℕ) → order_of v.structure text ≡ Ok order → (k : ℕ) (p : JudgePlace)
       → IsFirst v order budget k (too_wide p)
       → IsRefused (wide_within (Stage k) (stage v.structure order k) p) status out err
-  pub spends : (order : List ℕ) → order_of v.structure text ≡ Ok order → (k : ℕ) → IsFirst v order budget k spent
+  pub over : (order : List ℕ) → order_of v.structure text ≡ Ok order → (k : ℕ) → IsFirst v order budget k spent
       → IsRefused (over_budget budget) status out err
-  -- 1 comes exactly where a stage is the first not to stand, and collapses
+  -- 1 comes exactly where the first stage that isn't judged to stand collapses,
   pub fall : (order : List ℕ) → order_of v.structure text ≡ Ok order → (k : ℕ) (m : MotionValue)
       → IsFirst v order budget k (certified (collapses m))
       → ((fs : List ForcesValue) × WritesStages v order (falls fs m) status out × (k ≡ suc (length fs)))
