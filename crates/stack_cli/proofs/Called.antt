@@ -1,5 +1,5 @@
 -- How often a run puts on its streams, where they count their calls.
-use Rattle.std.proofs.Common.{◌≡◌, ℕ, ◌+◌, ◌<◌, ◌≤◌, ◌⊎◌, inl, inr, Option, Some, ap}
+use Rattle.std.proofs.Common.{◌≡◌, ◌≢◌, ℕ, ◌+◌, ◌<◌, ◌≤◌, ◌⊎◌, inl, inr, Option, Some, ap}
 use Rattle.std.proofs.Common.{◌∙◌, arith}
 use Rattle.std.specs.Option.{option_map}
 use Rattle.std.proofs.lemmas.Bool.{lt-ltb, le-ltb}
@@ -25,9 +25,10 @@ pub answer_put : (status : ℕ) (out : StreamSeen) → (status < 2) ⊎ (status 
     → out.calls_after ≡ option_map counted out.calls → PutsAnswer status out
 answer_put status out which call n told low = inl (more out.calls out.calls_after n call told low, which)
 
--- A refusal puts nothing on the output.
-pub nothing_put : (status : ℕ) (out : StreamSeen) → 2 ≤ status → out.calls_after ≡ out.calls → PutsAnswer status out
-nothing_put status out high same n told low = inr (same ∙ told, high)
+-- A refusal but that the output failed puts nothing on the output.
+pub nothing_put : (status : ℕ) (out : StreamSeen) → 2 ≤ status → status ≢ 10 → out.calls_after ≡ out.calls
+    → PutsAnswer status out
+nothing_put status out high other same n told low = inr (same ∙ told, high, other)
 
 -- An answer says nothing on the error stream.
 pub no_line : (status : ℕ) (err : StreamSeen) → status < 2 → err.calls_after ≡ err.calls → PutsLine status err

@@ -1,6 +1,7 @@
 mod SettledEnds
 mod Outcomes
 mod Consequences
+mod Puts
 mod Called
 mod ModelProper
 mod WordNumbers

@@ -1,17 +1,17 @@
 -- How often one run puts on its streams, where these tell it: an answer goes out in one piece, and so does the line
 -- of a refusal. So nothing is put twice, in pieces or tried again.
-use Rattle.std.specs.Prelude.{◌≡◌, ℕ, ◌+◌, ◌^◌, ◌-◌, ◌<◌, ◌≤◌, ◌⊎◌, Some, nat_lt, if◌then◌else◌}
+use Rattle.std.specs.Prelude.{◌≡◌, ◌≢◌, ℕ, ◌+◌, ◌^◌, ◌-◌, ◌<◌, ◌≤◌, ◌⊎◌, Some, nat_lt, if◌then◌else◌}
 use Rattle.stack_outside.specs.Seen.{StreamSeen}
 
 -- A count up to here still tells each call of a run.
 abbrev pub greatest_start : ℕ
 greatest_start = 2 ^ 64 - 4
 
--- Once on the output where the run answered, or where the output failed; where it refused, never.
+-- Once on the output where the run answered, or where the output failed, status 10; where it refused otherwise, never.
 abbrev pub PutsAnswer : (status : ℕ) → (out : StreamSeen) → Type 0
 PutsAnswer status out = (n : ℕ) → out.calls ≡ Some n → n ≤ greatest_start →
     ((out.calls_after ≡ Some (n + 1)) × ((status < 2) ⊎ (status ≡ 10)))
-    ⊎ ((out.calls_after ≡ Some n) × (2 ≤ status))
+    ⊎ ((out.calls_after ≡ Some n) × (2 ≤ status) × (status ≢ 10))
 
 -- Never on the error stream where the run answered, and once where it refused.
 abbrev pub PutsLine : (status : ℕ) → (err : StreamSeen) → Type 0

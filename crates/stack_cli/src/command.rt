@@ -1,6 +1,6 @@
 //! The top call.
 
-ghost use Rattle.std.specs.Prelude.{◌≡◌, ◌≤◌, ◌⊎◌, IfSome, IfNone};
+ghost use Rattle.std.specs.Prelude.{◌≡◌, ◌≢◌, ◌≤◌, ◌⊎◌, Err, IfSome, IfNone};
 ghost use Rattle.std.specs.Option.{option_map};
 ghost use Rattle.stack_outside.specs.Faults.{counted};
 ghost use Rattle.stack_outside.specs.Seen.{seen_shelf, seen_stream};
@@ -52,7 +52,8 @@ fn say<E: Sink>(alloc: Global, refusal: Refusal, err: &mut E) -> Refusal
     Refusal::Memory
 }
 
-/// Writes the answer in one put on `out`, or the line of the refusal on `err`, and gives the status.
+/// Writes the answer in one put on `out`, or the line of the refusal on `err`, and gives the status. That the output
+/// failed is no refusal of work.
 #[tactic(auto, using(crate::proofs::Outcomes::line_put))]
 pub fn deliver<O: Sink, E: Sink>(
     alloc: Global,
@@ -62,7 +63,7 @@ pub fn deliver<O: Sink, E: Sink>(
 ) -> u8
     ensures delivers { Delivers worked result (seen_stream O.Sink out.old out.new)
         (seen_stream E.Sink err.old err.new) }
-    ensures one_put { PutsAnswer result (seen_stream O.Sink out.old out.new) }
+    ensures one_put { worked ≢ Err Refusal.Output → PutsAnswer result (seen_stream O.Sink out.old out.new) }
     ensures one_line { PutsLine result (seen_stream E.Sink err.old err.new) }
     ensures out_later { O.faults out.old ≤ O.faults out.new }
     ensures err_later { E.faults err.old ≤ E.faults err.new }

@@ -1,4 +1,5 @@
 use Rattle.stack_cli.proofs.Consequences.{run_meets}
+use Rattle.stack_cli.proofs.Puts.{work_refuses_otherwise}
 use Rattle.stack_cli.proofs.RunSaid.{run_says}
 use Rattle.stack_cli.proofs.command.run.Goals as goal
 
@@ -10,7 +11,7 @@ returns g c =
     record {
       meets = meets;
       says = run_says c.printed_is_accepted.ensures.accepted meets;
-      one_put = delivers.one_put;
+      one_put = delivers.one_put (work_refuses_otherwise _ _ _ works);
       one_line = delivers.one_line;
       holds = works.holds;
       shelf_later = works.later;

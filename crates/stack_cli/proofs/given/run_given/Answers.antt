@@ -9,7 +9,7 @@ returns-in-Words-clause-runs g c = rw c.in-Words.is c.run.ensures
 pub returns-in-Unreadable-clause-runs : goal.returns-in-Unreadable-clause-runs
 returns-in-Unreadable-clause-runs g c = let d = c.deliver-in-Unreadable.ensures in
     rw c.in-Unreadable.is (refused_runs c.printed_is_accepted.ensures.accepted g.F.Shelf c.args.shelf.now _ _ _ _
-    (none_works g.F.Shelf c.args.shelf.now) d.delivers d.one_put d.one_line d.out_later d.err_later)
+    (none_works g.F.Shelf c.args.shelf.now) d.delivers (d.one_put (λ same. cc)) d.one_line d.out_later d.err_later)
 
 pub returns-in-Unreadable-clause-unreadable : goal.returns-in-Unreadable-clause-unreadable
 returns-in-Unreadable-clause-unreadable g c is = words_status _ _ _ _ refl c.deliver-in-Unreadable.ensures.delivers
@@ -17,7 +17,7 @@ returns-in-Unreadable-clause-unreadable g c is = words_status _ _ _ _ refl c.del
 pub returns-in-Memory-clause-runs : goal.returns-in-Memory-clause-runs
 returns-in-Memory-clause-runs g c = let d = c.deliver-in-Memory.ensures in
     rw c.in-Memory.is (refused_runs c.printed_is_accepted.ensures.accepted g.F.Shelf c.args.shelf.now _ _ _ _
-    (memory_works g.F.Shelf c.args.shelf.now) d.delivers d.one_put d.one_line d.out_later d.err_later)
+    (memory_works g.F.Shelf c.args.shelf.now) d.delivers (d.one_put (λ same. cc)) d.one_line d.out_later d.err_later)
 
 pub returns-in-Memory-clause-memory : goal.returns-in-Memory-clause-memory
 returns-in-Memory-clause-memory g c is = memory_status _ _ _ _ refl c.deliver-in-Memory.ensures.delivers
