@@ -1,305 +1,341 @@
 #!/usr/bin/env python3
-"""Finds a certificate with another solver, and has the program check it.
+"""Finds a certificate where the program refuses a model as too wide, and has the program check it.
 
-    tools/solve.py MODEL stand|load CERT
+    tools/solve.py MODEL stand CERT
+    tools/solve.py MODEL load CERT [MICRO]
+    tools/solve.py MODEL range CERT [MICRO]
 
-Nothing here is proved. The program lists the contacts of MODEL, `esolver` (QSopt_ex, Debian's package qsopt-ex) solves
-linear programs in exact fractions, and their values become a certificate in whole numbers, which is written to CERT.
-Then `check MODEL CERT` judges it, and only its `accepted` counts. On standard error stand the form, the factor of the
-certificate and the bits of its longest number, on standard output the answer of `check`, whose status is kept. The
-status 70 means that esolver or the program couldn't be run, or found nothing.
+Nothing here is proved: only the `accepted` of `check` counts, and nothing is announced that `check` didn't accept.
+`stand` and `load` ask what the program's own forms ask, and write the certificate to CERT. On standard output stands
+its form, for `greatest` the factor, and `accepted`.
 
-The environment variable PUNGIROE names the program, which is else the script `pungiroe` in the folder above this one.
-Python 3.11 or later. docs/other_solvers.md explains the linear programs.
+Where no certificate of the greatest factor fits into 127 bits, CERT says that the dead loads stand, and two shares of
+the live loads come close to the factor. (CERT is without `.cert` at its end in these names.)
+
+    CERT-carried.toml, CERT-carried.cert    `carried N/D accepted`: N/D of the live loads is carried
+    CERT-beyond.toml, CERT-beyond.cert      `beyond N/D accepted`: N/D of the live loads isn't
+
+Each model is the one that `tools/variant.py share MODEL N D` prints. Both are at most MICRO millionths of the factor
+apart, 2 if no number is given; where nothing so near is found, wider ones are tried.
+
+`range` settles the model and then the reversed one, CERT-reversed.toml with CERT-reversed.cert; the program's `load`
+answers where it can. What is found behind the line `reversed` is of that model.
+
+The status is 0 where all that was asked is accepted, also for a collapse; 2 for wrong words, 9 without a live load, 70
+where something wasn't found, with the reason on standard error; or that of `contacts`, which refuses the model.
+
+`esolver` (QSopt_ex, Debian's package qsopt-ex) solves the linear programs. The environment variable PUNGIROE names the
+program, which is else the script `pungiroe` in the folder above this one. Python 3.11 or later.
+docs/other_solvers.md explains the method.
 """
-import os
-import subprocess
+import shutil
 import sys
-import tempfile
-import tomllib
-from dataclasses import dataclass
+import threading
+import time
 from fractions import Fraction
-from math import gcd, lcm
+from math import ceil, floor
 from pathlib import Path
 
-PROGRAM = os.environ.get("PUNGIROE") or str(Path(__file__).resolve().parent.parent / "pungiroe")
+import model as models
+import statics
+from programs import NoAnswer
+from statics import GREATEST, Never, NotFound, Structure, short_forces, short_motion, work
+
+PATIENCE = 2  # seconds until what is at work is told
 
 
-@dataclass
-class Block:
-    """A free block: its number among them, its first corner, and its wrenches (x, y, moment) in sixths."""
-    number: int
-    corner: tuple
-    dead: list
-    live: list
+class Progress:
+    """Tells on standard error what is at work, once some time has passed."""
+
+    def __init__(self):
+        self.stage, self.late = "the contacts", False
+        self.start = time.monotonic()
+        self.timer = threading.Timer(PATIENCE, self.begin)
+        self.timer.daemon = True
+        self.timer.start()
+
+    def begin(self):
+        self.late = True
+        self.tell()
+
+    def tell(self):
+        print(f"solve: {time.monotonic() - self.start:.0f} s: {self.stage}", file=sys.stderr, flush=True)
+
+    def __call__(self, stage):
+        self.stage = stage
+        if self.late:
+            self.tell()
 
 
-@dataclass
-class Bearing:
-    """A line of the table of contacts."""
-    first: str
-    second: str
-    at: tuple
-    tangent: tuple
-    p: int
-    q: int
+# Certificates
 
 
-def stop(said, status=70):
-    print(said, file=sys.stderr)
-    sys.exit(status)
+def forces_lines(scale, factor, parts):
+    return [f"forces {scale} {factor}", *(f"push {a} {b}" for a, b in parts)]
 
 
-def program(*words):
-    """The program's status and output. Its error line goes where ours do."""
-    try:
-        done = subprocess.run([PROGRAM, *words], stdout=subprocess.PIPE, text=True)
-    except OSError as fault:
-        stop(f"solve: {PROGRAM}: {fault.strerror}")
-    return done.returncode, done.stdout
-
-
-# The model
-
-
-def wrench(force, at, corner):
-    """A force at a point, with its moment about a corner, counter-clockwise."""
-    (fx, fy), lx, ly = force, at[0] - corner[0], at[1] - corner[1]
-    return [fx, fy, lx * fy - ly * fx]
-
-
-def share(corners, unit, sway):
-    """The load of a sway on a block, in sixths about its first corner, over the triangles of that corner.
-
-    The sway (0, -1) is the block's weight.
-    """
-    (ox, oy), (sx, sy), twice, across, up = corners[0], sway, 0, 0, 0
-    for (ax, ay), (bx, by) in zip(corners[1:], corners[2:]):
-        ax, ay, bx, by = ax - ox, ay - oy, bx - ox, by - oy
-        c = ax * by - ay * bx
-        twice += c
-        across += c * (ax + bx)
-        up += c * (ay + by)
-    unit *= 1 if twice > 0 else -1  # a clockwise list
-    return [3 * unit * twice * sx, 3 * unit * twice * sy, unit * (across * sy - up * sx)]
-
-
-def free_blocks(model):
-    """The free blocks by name, and whether a live load is listed. The program has accepted the model, so nothing is
-    tested here. Joints show in the table of contacts alone."""
-    try:
-        document = tomllib.loads(Path(model).read_bytes().decode("utf-8-sig"))
-    except ValueError as fault:
-        stop(f"solve: {model}: not TOML 1.0: {fault}")
-    units = {item["name"]: item["weight"] for item in document.get("material", [])}
-    sway = document.get("sway", [0, 0])
-    blocks = {}
-    for item in document.get("block", []):
-        if not item.get("fixed", False):
-            corners, unit = item["corners"], units[item["material"]]
-            dead, live = share(corners, unit, (0, -1)), share(corners, unit, sway)
-            blocks[item["name"]] = Block(len(blocks), corners[0], dead, live)
-    for item in document.get("load", []):
-        block = blocks[item["block"]]
-        loads = block.live if item["kind"] == "live" else block.dead
-        for axis, amount in enumerate(wrench(item["force"], item["at"], block.corner)):
-            loads[axis] += 6 * amount
-    return blocks, any(sway) or any(item["kind"] == "live" for item in document.get("load", []))
-
-
-def bearings_of(model):
-    """The bearings that the program lists, in its order."""
-    status, table = program("contacts", model)
-    if status != 0:
-        sys.exit(status)
-    found = []
-    for line in table.splitlines():
-        word, *items = line.split()
-        if word == "bearing":
-            x, y, tx, ty, p, q = map(int, items[3:])
-            found.append(Bearing(items[1], items[2], (x, y), (tx, ty), p, q))
-    return found
-
-
-# The linear programs. Their rows are the three sums of each free block, in order: 3 * number + axis. A column is a
-# dictionary from rows to whole numbers.
-
-
-def columns_of(bearing, blocks):
-    """The columns of three parts of a bearing: the normal (1, 0), and the edges of its cone, (q, p) and (q, -p)."""
-    (tx, ty), columns = bearing.tangent, []
-    for a, b in (1, 0), (bearing.q, bearing.p), (bearing.q, -bearing.p):
-        force = b * tx - a * ty, a * tx + b * ty
-        column = {}
-        for name, side in (bearing.first, -1), (bearing.second, 1):
-            if name in blocks:
-                block = blocks[name]
-                for axis, amount in enumerate(wrench(force, bearing.at, block.corner)):
-                    column[3 * block.number + axis] = side * amount
-        columns.append(column)
-    return columns
-
-
-def rows_of(wrenches):
-    """The loads on the rows, from a wrench for each free block."""
-    return dict(enumerate(amount for load in wrenches for amount in load))
-
-
-def terms(row):
-    """A row's terms, each on a line of its own."""
-    return [f"{'-' if amount < 0 else '+'} {abs(amount)} {name}" for name, amount in row.items() if amount]
-
-
-def solve(goal, top, columns, rest):
-    """The status, the values of the columns by name, and the dual values of the rows by number.
-
-    The columns in amounts from 0 up come to -rest in each row, t keeps to `top`, and the sum that `goal` names is the
-    greatest or the least.
-    """
-    rows = {}
-    for name, column in columns.items():
-        for row, amount in column.items():
-            rows.setdefault(row, {})[name] = amount
-    sense, costs = goal
-    lines = [sense, "obj:", *terms(costs), "Subject To", f"top: t {top}"]
-    for number, row in sorted(rows.items()):
-        if any(row.values()):
-            lines += [f"r{number}:", *terms(row), f"= {-rest.get(number, 0)}"]
-    with tempfile.TemporaryDirectory() as folder:
-        Path(folder, "problem.lp").write_text("\n".join(lines + ["End", ""]))
-        try:
-            subprocess.run(["esolver", "-L", "-O", "answer", "problem.lp"], cwd=folder, capture_output=True)
-        except OSError:
-            stop("solve: esolver isn't installed (Debian's package qsopt-ex)")
-        answer = Path(folder, "answer")
-        said = answer.read_text().splitlines() if answer.exists() else ["status none"]
-    status, part = said[0].split()[-1], None
-    values, duals = {}, {}
-    for line in said[1:]:
-        if line.endswith(":"):
-            part = {"VARS:": values, "PI:": duals}.get(line)
-        elif part is not None:
-            name, value = line.split(" = ")
-            part[name] = Fraction(value)
-    return status, values, duals
-
-
-# The certificate
-
-
-def whole(numbers):
-    """The least whole numbers in the same proportion."""
-    scale = lcm(*(number.denominator for number in numbers))
-    scaled = [int(number * scale) for number in numbers]
-    common = gcd(*scaled) or 1
-    return [number // common for number in scaled]
-
-
-def names(number):
-    """The names of a bearing's three columns."""
-    return f"n{number}", f"w{number}", f"v{number}"
+def motion_lines(motion):
+    moves = zip(motion[::3], motion[1::3], motion[2::3])
+    return ["motion", *("move %d %d %d" % move for move in moves)]
 
 
 def bits(lines):
     return max((int(word).bit_length() for line in lines for word in line.split()[1:]), default=0)
 
 
-class Problem:
-    """The problem of a model: its bearings, its columns, and the loads on its rows."""
-
-    def __init__(self, bearings, blocks):
-        self.bearings = bearings
-        self.columns = {}
-        for number, bearing in enumerate(bearings):
-            self.columns.update(zip(names(number), columns_of(bearing, blocks)))
-        self.dead = rows_of(block.dead for block in blocks.values())
-        self.live = rows_of(block.live for block in blocks.values())
-
-    def motion(self, duals):
-        """The lines of a motion: three rows make a block's move."""
-        numbers = whole([duals.get(f"r{row}", Fraction(0)) for row in self.dead])
-        return ["motion"] + ["move %d %d %d" % move for move in zip(numbers[::3], numbers[1::3], numbers[2::3])]
-
-    def fall(self):
-        """A motion on which the dead loads gain power, or None where forces carry them."""
-        status, values, duals = solve(("Maximize", {"t": 1}), "<= 1", {**self.columns, "t": self.dead}, {})
-        if status != "OPTIMAL":
-            stop(f"solve: esolver, of the dead loads: {status}")
-        return None if values.get("t") else self.motion(duals)
-
-    def greatest(self):
-        """The greatest factor and a motion that forbids more, or None where factors rise without end."""
-        status, values, duals = solve(("Maximize", {"t": 1}), ">= 0", {**self.columns, "t": self.live}, self.dead)
-        if status not in ("OPTIMAL", "UNBOUNDED"):
-            stop(f"solve: esolver, of the live loads: {status}")
-        return None if status == "UNBOUNDED" else (values.get("t", Fraction(0)), self.motion(duals))
-
-    def forces(self, scale, factor):
-        """The lines of forces that carry so many times the dead and so many times the live loads.
-
-        Of all such forces those that cost least: a column costs by its length and its bearing's place in the table of
-        contacts, the edges of a cone some more. In trials the fractions of such forces were shorter than of most. Of a
-        few costs the first is taken whose numbers are short, or the one whose numbers are shortest.
-        """
-        rest = {row: scale * self.dead[row] + factor * self.live[row] for row in self.dead}
-        found = []
-        for more, power in (2, 2), (1, 2), (10, 2), (1, 1):
-            costs = {}
-            for number, bearing in enumerate(self.bearings):
-                cost = (abs(bearing.tangent[0]) + abs(bearing.tangent[1])) * (number + 1) ** power
-                costs.update(zip(names(number), (cost, more * bearing.q * cost, more * bearing.q * cost)))
-            status, values, _ = solve(("Minimize", costs), "= 0", self.columns, rest)
-            if status != "OPTIMAL":
-                stop(f"solve: esolver, of the forces: {status}")
-            found.append(self.listed(values, scale, factor))
-            if bits(found[-1]) <= 100:
-                break
-        return min(found, key=bits)
-
-    def listed(self, values, scale, factor):
-        """A list of forces. The amounts n, w and v of a bearing's columns make the part n + q*(w + v), p*(w - v)."""
-        numbers = [Fraction(scale), Fraction(factor)]
-        for number, bearing in enumerate(self.bearings):
-            n, w, v = (values.get(name, Fraction(0)) for name in names(number))
-            numbers += [n + bearing.q * (w + v), bearing.p * (w - v)]
-        numbers = whole(numbers)
-        pairs = list(zip(numbers[::2], numbers[1::2]))
-        return ["forces %d %d" % pairs[0]] + ["push %d %d" % pair for pair in pairs[1:]]
-
-    def certificate(self, question):
-        fall = self.fall()
-        if fall:
-            return ["collapses", *fall, "end"]
-        if question == "stand":
-            return ["stands", *self.forces(1, 0), "end"]
-        found = self.greatest()
-        if found is None:
-            return ["unbounded", *self.forces(1, 0), *self.forces(0, 1), "end"]
-        factor, motion = found
-        return ["greatest", *self.forces(factor.denominator, factor.numerator), *motion, "end"]
+def simplest(low, high):
+    """The fraction of the least terms from low to high, both from 0 up."""
+    whole = floor(low)
+    return Fraction(ceil(low)) if ceil(low) <= high else whole + 1 / simplest(1 / (high - whole), 1 / (low - whole))
 
 
-def main():
-    if len(sys.argv) != 4 or sys.argv[2] not in ("stand", "load"):
-        stop(__doc__.rstrip(), 2)
-    model, question, name = sys.argv[1:]
-    bearings = bearings_of(model)
-    blocks, has_live = free_blocks(model)
-    if question == "load" and not has_live:
-        stop("no live load", 9)
-    lines = Problem(bearings, blocks).certificate(question)
+def ratio(x):
+    return f"{x.numerator}/{x.denominator}"
+
+
+def decimal(x, rounded=round):
+    """About nine digits of a number from 0 up."""
+    places = max(0, 9 - len(str(floor(x))))
+    digits = str(rounded(x * 10**places)).rjust(places + 1, "0")
+    return (digits[:-places] + "." + digits[-places:]).rstrip("0").rstrip(".") if places else digits
+
+
+class Sides:
+    """What is known of the greatest factor: `carried` is carried and `beyond` isn't, None where there is no limit."""
+
+    def __init__(self, carried=None, beyond=None):
+        self.carried, self.beyond = carried, beyond
+
+
+# The questions
+
+
+class Solver:
+    """A model, where its certificates go, and what is told while they are found."""
+
+    def __init__(self, name, stem, cert, part, progress):
+        """`part` is how far a share may be from the factor, as a part of it."""
+        self.name, self.stem, self.cert, self.part, self.progress = name, stem, cert, part, progress
+        self.table = models.answer("contacts", name)
+        self.model = models.read(name)
+        self.structure = Structure(self.model, self.table)
+        self.opened, self.missing = None, False
+
+    def opening(self):
+        if self.opened is None:
+            self.progress("a motion that opens the joints")
+            self.opened = statics.opening(self.structure)
+        return self.opened
+
+    def accepted(self, model, name, lines):
+        """Writes a certificate; it must be accepted."""
+        lines = [*lines, "end"]
+        if bits(lines) > GREATEST.bit_length():
+            raise NotFound(f"a certificate of {bits(lines)} bits")
+        try:
+            Path(name).write_text("\n".join([*lines, ""]), newline="\n")
+        except OSError as fault:
+            raise models.Refused(f"{name}: {fault.strerror}") from None
+        self.progress("the check")
+        done = models.program("check", model, name)
+        if done.status != 0:
+            raise NotFound(f"the check of a certificate of {bits(lines)} bits says {(done.output or done.error).strip()}")
+        print(f"{name}: {bits(lines)} bits", file=sys.stderr, flush=True)
+
+    def collapse(self):
+        self.progress("a collapse")
+        motion = short_motion(self.structure, statics.fall(self.structure), self.opening,
+                              lambda moves: work(self.structure.dead, moves) > 0)
+        self.accepted(self.name, self.cert, ["collapses", *motion_lines(motion)])
+        print("collapses accepted", flush=True)
+
+    def stands(self, amounts):
+        scale, parts = short_forces(self.structure, amounts, self.structure.dead)
+        self.accepted(self.name, self.cert, ["stands", *forces_lines(scale, 0, parts)])
+        print("stands accepted", flush=True)
+
+    def dead_forces(self):
+        self.progress("forces for the dead loads")
+        return statics.inner(self.structure, self.structure.dead)
+
+    def stand(self):
+        found = self.dead_forces()
+        self.stands(found[0]) if found else self.collapse()
+
+    def load(self):
+        """Settles `load`; what is known of the factor, or None for a collapse."""
+        dead = self.dead_forces()
+        if dead is None:
+            self.collapse()
+            return None
+        self.progress("the greatest factor")
+        top = statics.raised(self.structure)
+        if top is None:
+            self.unbounded(dead[0])
+            return Sides()
+        factor, motion, amounts = top
+        try:
+            self.greatest(factor, motion)
+            print(f"greatest {ratio(factor)} accepted, {decimal(factor)}", flush=True)
+            return Sides(factor, factor)
+        except (NotFound, NoAnswer, OverflowError) as fault:
+            print(f"solve: no certificate of the greatest factor, about {decimal(factor)}: {fault}", file=sys.stderr)
+        return self.shares(factor, motion, amounts, dead[0])
+
+    def unbounded(self, dead):
+        self.progress("forces for the live loads alone")
+        structure = self.structure
+        scale, parts = short_forces(structure, dead, structure.dead)
+        factor, ray = short_forces(structure, statics.inner(structure, structure.live)[0], structure.live)
+        lines = ["unbounded", *forces_lines(scale, 0, parts), *forces_lines(0, factor, ray)]
+        self.accepted(self.name, self.cert, lines)
+        print("unbounded accepted", flush=True)
+
+    def greatest(self, factor, motion):
+        """The certificate of the factor itself. No edge on which the motion gains power is in use there, and so all
+        forces without these edges have this factor."""
+        n, d = factor.numerator, factor.denominator
+        if max(n, d, *map(abs, motion)) > GREATEST:
+            raise NotFound("the factor or its motion is longer than 127 bits")
+        structure = self.structure
+        self.progress("forces at the greatest factor")
+        edges = [k for k, edge in enumerate(structure.edges) if not work(edge.column, motion)]
+        amounts, _ = statics.inner(structure, structure.dead, structure.live, None, edges)
+        scale, parts = short_forces(structure, {k: d * x for k, x in amounts.items()}, structure.loads(d, n))
+        lines = ["greatest", *forces_lines(scale * d, scale * n, parts), *motion_lines(motion)]
+        self.accepted(self.name, self.cert, lines)
+
+    # Shares
+
+    def shares(self, factor, motion, amounts, dead):
+        """That the dead loads stand, and a share on each side of the factor."""
+        Path(self.cert).unlink(missing_ok=True)
+        found = Sides(Fraction(0))
+        try:
+            self.stands(dead)
+        except (NotFound, OverflowError) as fault:
+            self.lacks("a certificate that the dead loads stand", fault)
+        self.progress("forces inside the cones below the factor")
+        inside = statics.inner(self.structure, self.structure.dead, self.structure.live, factor)
+        below = [(Fraction(0), dead), (inside[1], inside[0]), (factor, amounts)]
+        found.carried = self.nearest("carried", factor, lambda gap: self.carried(factor, below, gap))
+        found.beyond = self.nearest("beyond", factor, lambda gap: self.beyond(factor, motion, gap))
+        return found
+
+    def lacks(self, what, fault):
+        print(f"solve: {what} wasn't found: {fault}", file=sys.stderr, flush=True)
+        self.missing = True
+
+    def nearest(self, word, factor, certified):
+        """The share that is accepted at the least distance tried, or None."""
+        part = self.part
+        while True:
+            try:
+                self.progress(f"a share {word}")
+                share = certified(part * (factor or 1))
+                print(f"{word} {ratio(share)} accepted, {decimal(share, floor if word == 'carried' else ceil)}", flush=True)
+                return share
+            except (NotFound, NoAnswer, OverflowError, models.Refused) as fault:
+                part *= 8
+                if part >= 1 or isinstance(fault, Never):
+                    self.lacks(f"a share {word}", fault)
+                    for end in "toml", "cert":
+                        Path(f"{self.stem}-{word}.{end}").unlink(missing_ok=True)
+                    return None
+
+    def shared(self, word, share, lines):
+        """Writes the model of a share, and its certificate, which must be accepted."""
+        name = f"{self.stem}-{word}"
+        model = models.share(self.model, share.numerator, share.denominator)
+        models.write(name + ".toml", model)
+        self.accepted(name + ".toml", name + ".cert", lines(model))
+        return share
+
+    def carried(self, factor, below, gap):
+        """A share below the factor, with forces between known ones at factors below it and above."""
+        share = simplest(factor - gap, factor - gap / 2) if factor else factor
+        (low, lower), (high, upper) = next(pair for pair in zip(below, below[1:]) if pair[1][0] >= share)
+        part = (share - low) / (high - low) if high > low else Fraction(0)
+        amounts = {k: (1 - part) * lower.get(k, 0) + part * upper.get(k, 0) for k in {**lower, **upper}}
+        return self.shared("carried", share, lambda model: self.standing(model, share, amounts))
+
+    def standing(self, model, share, amounts):
+        """The lines of forces that carry the dead loads of a share's model, near amounts for the share itself."""
+        load = [amount for dead, _ in models.wrenches(model).values() for amount in dead]
+        own = [x + share * y for x, y in zip(self.structure.dead, self.structure.live)]
+        times = next((x / y for x, y in zip(load, own) if y), 1)
+        wanted = {k: times * x for k, x in amounts.items() if x}
+        return ["stands", *self.scaled(*short_forces(self.structure, wanted, load))]
+
+    def scaled(self, scale, parts):
+        return forces_lines(scale, 0, parts)
+
+    def beyond(self, factor, motion, gap):
+        """A share above the factor, with a motion near the one that forbids more."""
+        structure, least = self.structure, factor + gap / 2
+        share = simplest(least, factor + gap)
+        moves = short_motion(structure, motion, self.opening,
+                             lambda y: work(structure.dead, y) + least * work(structure.live, y) > 0)
+        return self.shared("beyond", share, lambda model: ["collapses", *motion_lines(moves)])
+
+
+def by_program(solver):
+    """The side that the program's own `load` finds, accepted: a pair of its line and what is known, or None."""
+    solver.progress("the program's load")
+    done = models.program("load", solver.name)
+    if done.status not in (0, 1):
+        return None
+    lines = done.output.splitlines()[:-1]
+    solver.accepted(solver.name, solver.cert, lines)
+    form, (_, scale, factor) = lines[0], lines[1].split() if lines[0] != "collapses" else ("", "1", "0")
+    if form == "greatest":
+        top = Fraction(int(factor), int(scale))
+        return f"greatest {ratio(top)} accepted, {decimal(top)}", Sides(top, top)
+    return f"{form} accepted", Sides() if form == "unbounded" else None
+
+
+def side(solver):
+    found = by_program(solver)
+    if found is None:
+        return solver.load()
+    print(found[0], flush=True)
+    return found[1]
+
+
+def whole_range(solver):
+    """Both sides in turn, and what they come to."""
+    greatest = side(solver)
+    if greatest is None:
+        return
+    stem = f"{solver.stem}-reversed"
+    models.write(stem + ".toml", solver.model.turned())
+    print("reversed", flush=True)
+    other = Solver(stem + ".toml", stem, stem + ".cert", solver.part, solver.progress)
+    least = side(other)
+    solver.missing = solver.missing or other.missing
+    if least is None:
+        return
+    low = "unlimited" if least.carried is None and not other.missing else ratio(-least.carried)
+    high = "unlimited" if greatest.carried is None else ratio(greatest.carried)
+    print(f"range {low} {high}")
+
+
+def main(words):
+    if len(words) not in (3, 4) or words[1] not in ("stand", "load", "range") or not all(w.isdigit() for w in words[3:]):
+        models.stop(__doc__.rstrip(), 2)
+    if shutil.which("esolver") is None:
+        models.stop("solve: esolver isn't installed: apt-get install qsopt-ex")
+    name, question, cert = words[:3]
+    part = Fraction(int(words[3]) if words[3:] else 2, 2 * 10**6)
     try:
-        Path(name).write_text("\n".join([*lines, ""]), newline="\n")
-    except OSError as fault:
-        stop(f"solve: {name}: {fault.strerror}")
-    said = lines[0]
-    if said == "greatest":
-        _, scale, factor = lines[1].split()
-        said += f" {Fraction(int(factor), int(scale))}"
-    print(f"{said}, numbers of up to {bits(lines)} bits", file=sys.stderr, flush=True)
-    status, answer = program("check", model, name)
-    sys.stdout.write(answer)
-    sys.exit(status)
+        solver = Solver(name, cert.removesuffix(".cert"), cert, part, Progress())
+        if question != "stand" and not solver.model.has_live():
+            models.stop("no live load", 9)
+        {"stand": solver.stand, "load": solver.load, "range": lambda: whole_range(solver)}[question]()
+    except (NotFound, NoAnswer, models.Refused, OverflowError) as fault:
+        models.stop(f"solve: {fault}")
+    return 70 if solver.missing else 0
 
 
-main()
+if __name__ == "__main__":
+    sys.exit(main(sys.argv[1:]))
