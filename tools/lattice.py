@@ -14,7 +14,6 @@ import random
 from fractions import Fraction
 from heapq import heappop, heappush
 from itertools import count, repeat
-from math import gcd
 from operator import mul
 
 TOGETHER = 24  # so many vectors are reduced together, or a few more where the sums need them
@@ -261,7 +260,7 @@ def parted(group, vectors):
 
 
 class Lattice:
-    """The whole vectors of unknowns that have no sums. Rows of no group are carried along, and needn't come to 0."""
+    """The whole vectors of unknowns that have no sums. Each row is in one of the groups."""
 
     def __init__(self, columns, groups, lengths=None):
         """A column is a dictionary from rows to amounts. An unknown's length is 1 where none is given."""
@@ -295,7 +294,7 @@ class Lattice:
 
     def reached(self, vector):
         """The groups in which a vector has sums."""
-        return {self.group_of[row] for row in vector.sums if row in self.group_of}
+        return {self.group_of[row] for row in vector.sums}
 
     def cleared(self, group, taken):
         """The vectors that take the place of those taken, without sums in the group."""
@@ -319,7 +318,3 @@ class Lattice:
         for pivots, plane in self.steps:
             more = plane.shortened(pivots.cleared(more))
         return [x + y for x, y in zip(whole, more.unknowns(len(whole)))]
-
-    def divisor(self, row):
-        """What divides the sum of every vector of the lattice in a row of no group."""
-        return gcd(*(vector.sums.get(row, 0) for vector in self.basis))

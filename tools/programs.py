@@ -57,8 +57,8 @@ class Program:
 
     def impossible(self):
         """Whether a row without terms already says that there are no values."""
-        return any(not terms(row.terms) and not {"=": 0 == row.right, "<=": 0 <= row.right, ">=": 0 >= row.right}[row.sign]
-                   for row in self.rows)
+        holds = {"=": lambda right: right == 0, "<=": lambda right: right >= 0, ">=": lambda right: right <= 0}
+        return any(not terms(row.terms) and not holds[row.sign](row.right) for row in self.rows)
 
     def best(self):
         """The values where the sum is greatest; or `INFEASIBLE` or `UNBOUNDED`, as esolver has it."""

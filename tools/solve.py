@@ -42,6 +42,7 @@ from programs import NoAnswer
 from statics import GREATEST, Never, NotFound, Structure, short_forces, short_motion, work
 
 PATIENCE = 2  # seconds until what is at work is told
+UNLIMITED, COLLAPSES = "unlimited", "collapses"
 
 
 class Progress:
@@ -100,13 +101,6 @@ def decimal(x, rounded=round):
     return (digits[:-places] + "." + digits[-places:]).rstrip("0").rstrip(".") if places else digits
 
 
-class Sides:
-    """What is known of the greatest factor: `carried` is carried and `beyond` isn't, None where there is no limit."""
-
-    def __init__(self, carried=None, beyond=None):
-        self.carried, self.beyond = carried, beyond
-
-
 # The questions
 
 
@@ -139,7 +133,8 @@ class Solver:
         self.progress("the check")
         done = models.program("check", model, name)
         if done.status != 0:
-            raise NotFound(f"the check of a certificate of {bits(lines)} bits says {(done.output or done.error).strip()}")
+            said = (done.output or done.error).strip()
+            raise NotFound(f"the check of a certificate of {bits(lines)} bits says {said}")
         print(f"{name}: {bits(lines)} bits", file=sys.stderr, flush=True)
 
     def collapse(self):
@@ -163,21 +158,22 @@ class Solver:
         self.stands(found[0]) if found else self.collapse()
 
     def load(self):
-        """Settles `load`; what is known of the factor, or None for a collapse."""
+        """Settles `load`. What is given is a pair of the share carried and the least one known not to be, None where
+        one wasn't found; `UNLIMITED` where factors rise without end, and `COLLAPSES`."""
         dead = self.dead_forces()
         if dead is None:
             self.collapse()
-            return None
+            return COLLAPSES
         self.progress("the greatest factor")
         top = statics.raised(self.structure)
         if top is None:
             self.unbounded(dead[0])
-            return Sides()
+            return UNLIMITED
         factor, motion, amounts = top
         try:
             self.greatest(factor, motion)
             print(f"greatest {ratio(factor)} accepted, {decimal(factor)}", flush=True)
-            return Sides(factor, factor)
+            return factor, factor
         except (NotFound, NoAnswer, OverflowError) as fault:
             print(f"solve: no certificate of the greatest factor, about {decimal(factor)}: {fault}", file=sys.stderr)
         return self.shares(factor, motion, amounts, dead[0])
@@ -210,7 +206,6 @@ class Solver:
     def shares(self, factor, motion, amounts, dead):
         """That the dead loads stand, and a share on each side of the factor."""
         Path(self.cert).unlink(missing_ok=True)
-        found = Sides(Fraction(0))
         try:
             self.stands(dead)
         except (NotFound, OverflowError) as fault:
@@ -218,9 +213,8 @@ class Solver:
         self.progress("forces inside the cones below the factor")
         inside = statics.inner(self.structure, self.structure.dead, self.structure.live, factor)
         below = [(Fraction(0), dead), (inside[1], inside[0]), (factor, amounts)]
-        found.carried = self.nearest("carried", factor, lambda gap: self.carried(factor, below, gap))
-        found.beyond = self.nearest("beyond", factor, lambda gap: self.beyond(factor, motion, gap))
-        return found
+        return (self.nearest("carried", factor, lambda gap: self.carried(factor, below, gap)),
+                self.nearest("beyond", factor, lambda gap: self.beyond(factor, motion, gap)))
 
     def lacks(self, what, fault):
         print(f"solve: {what} wasn't found: {fault}", file=sys.stderr, flush=True)
@@ -233,7 +227,8 @@ class Solver:
             try:
                 self.progress(f"a share {word}")
                 share = certified(part * (factor or 1))
-                print(f"{word} {ratio(share)} accepted, {decimal(share, floor if word == 'carried' else ceil)}", flush=True)
+                rounded = floor if word == "carried" else ceil
+                print(f"{word} {ratio(share)} accepted, {decimal(share, rounded)}", flush=True)
                 return share
             except (NotFound, NoAnswer, OverflowError, models.Refused) as fault:
                 part *= 8
@@ -265,10 +260,8 @@ class Solver:
         own = [x + share * y for x, y in zip(self.structure.dead, self.structure.live)]
         times = next((x / y for x, y in zip(load, own) if y), 1)
         wanted = {k: times * x for k, x in amounts.items() if x}
-        return ["stands", *self.scaled(*short_forces(self.structure, wanted, load))]
-
-    def scaled(self, scale, parts):
-        return forces_lines(scale, 0, parts)
+        scale, parts = short_forces(self.structure, wanted, load)
+        return ["stands", *forces_lines(scale, 0, parts)]
 
     def beyond(self, factor, motion, gap):
         """A share above the factor, with a motion near the one that forbids more."""
@@ -279,61 +272,65 @@ class Solver:
         return self.shared("beyond", share, lambda model: ["collapses", *motion_lines(moves)])
 
 
+# A range
+
+
 def by_program(solver):
-    """The side that the program's own `load` finds, accepted: a pair of its line and what is known, or None."""
+    """What the program's own `load` finds, accepted, as `Solver.load` gives it; None where the program refuses."""
     solver.progress("the program's load")
     done = models.program("load", solver.name)
     if done.status not in (0, 1):
         return None
     lines = done.output.splitlines()[:-1]
     solver.accepted(solver.name, solver.cert, lines)
-    form, (_, scale, factor) = lines[0], lines[1].split() if lines[0] != "collapses" else ("", "1", "0")
-    if form == "greatest":
-        top = Fraction(int(factor), int(scale))
-        return f"greatest {ratio(top)} accepted, {decimal(top)}", Sides(top, top)
-    return f"{form} accepted", Sides() if form == "unbounded" else None
-
-
-def side(solver):
-    found = by_program(solver)
-    if found is None:
-        return solver.load()
-    print(found[0], flush=True)
-    return found[1]
+    if lines[0] != "greatest":
+        print(f"{lines[0]} accepted", flush=True)
+        return COLLAPSES if lines[0] == "collapses" else UNLIMITED
+    _, scale, factor = lines[1].split()
+    top = Fraction(int(factor), int(scale))
+    print(f"greatest {ratio(top)} accepted, {decimal(top)}", flush=True)
+    return top, top
 
 
 def whole_range(solver):
-    """Both sides in turn, and what they come to."""
-    greatest = side(solver)
-    if greatest is None:
+    """Both sides in turn, and at last, in factors of the model itself, from where to where is carried."""
+    greatest = by_program(solver) or solver.load()
+    if greatest == COLLAPSES:
         return
     stem = f"{solver.stem}-reversed"
     models.write(stem + ".toml", solver.model.turned())
     print("reversed", flush=True)
     other = Solver(stem + ".toml", stem, stem + ".cert", solver.part, solver.progress)
-    least = side(other)
+    least = by_program(other) or other.load()
     solver.missing = solver.missing or other.missing
-    if least is None:
-        return
-    low = "unlimited" if least.carried is None and not other.missing else ratio(-least.carried)
-    high = "unlimited" if greatest.carried is None else ratio(greatest.carried)
-    print(f"range {low} {high}")
+    ends = [end if end == UNLIMITED else end[0] and ratio(sign * end[0]) for sign, end in ((-1, least), (1, greatest))]
+    if None not in ends:
+        exact = all(end == UNLIMITED or end[0] == end[1] for end in (least, greatest))
+        print("range {} {}".format(*ends) if exact else "carried from {} to {}".format(*ends), flush=True)
+
+
+def faultless(words):
+    counts = {"stand": (3,), "load": (3, 4), "range": (3, 4)}
+    return len(words) > 2 and len(words) in counts.get(words[1], ()) and all(w.isdigit() and int(w) for w in words[3:])
 
 
 def main(words):
-    if len(words) not in (3, 4) or words[1] not in ("stand", "load", "range") or not all(w.isdigit() for w in words[3:]):
+    if not faultless(words):
         models.stop(__doc__.rstrip(), 2)
     if shutil.which("esolver") is None:
         models.stop("solve: esolver isn't installed: apt-get install qsopt-ex")
     name, question, cert = words[:3]
     part = Fraction(int(words[3]) if words[3:] else 2, 2 * 10**6)
+    progress = Progress()
     try:
-        solver = Solver(name, cert.removesuffix(".cert"), cert, part, Progress())
+        solver = Solver(name, cert.removesuffix(".cert"), cert, part, progress)
         if question != "stand" and not solver.model.has_live():
             models.stop("no live load", 9)
         {"stand": solver.stand, "load": solver.load, "range": lambda: whole_range(solver)}[question]()
     except (NotFound, NoAnswer, models.Refused, OverflowError) as fault:
         models.stop(f"solve: {fault}")
+    finally:
+        progress.timer.cancel()
     return 70 if solver.missing else 0
 
 

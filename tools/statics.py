@@ -2,17 +2,19 @@
 
 Nothing here is proved. A structure's rows are the sums of its free blocks: x, y and moment, three for each, in order.
 A force of a bearing has the whole parts (a, b). The edges of its cone are (q, p) and (q, -p), or (1, 0) without
-friction. Forces are amounts of edges, or parts of bearings; a motion is a number for each row. Amounts are a dictionary from edges, by their numbers, to fractions above 0.
+friction. Forces are amounts of edges, a dictionary from the edges' numbers to fractions, or parts of all bearings. A
+motion is a number for each row.
 """
 from collections import namedtuple
 from fractions import Fraction
-from math import gcd, lcm
+from math import gcd, isqrt, lcm
 
 import model as models
-from lattice import Lattice, NoVector
+from lattice import Lattice, NoVector, Reduction, dot
 from programs import Program, Row
 
 GREATEST = 2**127 - 1  # of the numbers of a certificate
+SMALL = 60  # so many vectors of a basis can be reduced all together
 # `inset` is a thousand times the least amounts of both edges of a cone that allow for rounding both parts.
 Edge = namedtuple("Edge", "bearing part inset column")
 
@@ -215,7 +217,7 @@ class Rounding:
         for amount, column in zip(self.base, columns):
             for row, x in column.items():
                 rest[row] += amount * x
-        columns.append({"scale": 1, **{row: x for row, x in rest.items() if x}})
+        columns.append({row: x for row, x in rest.items() if x})
         weight = max(1, int(min(rooms, default=1)))
         self.lattice = Lattice(columns, structure.blocks, [1] * len(self.pieces) + [weight])
 
@@ -245,12 +247,32 @@ class Rounding:
         longest = max(map(abs, self.base), default=0).bit_length()
         found = least(self.at, max(0, 124 - longest))
         if found is None:
-            divisor = self.lattice.divisor("scale")
-            if divisor == 0 or divisor > GREATEST:
-                raise Never("there are no forces of 127 bits: the scale of all that balance is a multiple of a number of "
-                            f"{divisor.bit_length()} bits")
+            if len(self.lattice.basis) <= SMALL:
+                self.refute()
             raise NotFound("no forces of 127 bits were found")
         return found
+
+    def refute(self):
+        """Raises `Never` where a reduced basis shows that there are no forces of 127 bits.
+
+        A vector that isn't a combination of the first few is at least as long as the least of the others' orthogonal
+        parts, after Gram and Schmidt. The scale of forces isn't 0. So the first few may be those of the scale 0.
+        """
+        vectors = []
+        for vector in self.lattice.basis:
+            *whole, scale = vector.unknowns(len(self.base) + 1)
+            vectors.append([x + scale * base for x, base in zip(whole, self.base)] + [scale])
+        vectors.sort(key=lambda one: dot(one, one))
+        reduced = Reduction([[dot(u, v) for v in vectors] for u in vectors])
+        scales = [dot(row, [one[-1] for one in vectors]) for row in reduced.rows]
+        squares = [reduced.d[k + 1] // reduced.d[k] for k in range(len(vectors))]
+        first = next((k for k, scale in enumerate(scales) if scale), None)
+        if first is None:
+            raise Never("there are no whole forces: the scale of all that balance is 0")
+        square = max(min(squares[k:]) for k in range(first + 1))
+        number = isqrt(square // (len(self.base) + 1))  # the greatest of so many numbers is at least so great
+        if number > GREATEST:
+            raise Never(f"there are no forces of 127 bits: whole forces that balance need {number.bit_length()} or more")
 
 
 def short_forces(structure, amounts, load):

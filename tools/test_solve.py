@@ -1,0 +1,252 @@
+#!/usr/bin/env python3
+"""Tests of lattice.py, programs.py, statics.py and solve.py, which call `esolver` and the program.
+
+    python3 tools/test_solve.py
+
+Small bases are worked by hand. 100 models drawn at random have the answers that the program's `stand` and `load` give.
+Walls, facades, rubble and a swaying wall of fixed seeds have certificates that `check` accepts.
+"""
+import contextlib
+import io
+import math
+import random
+import unittest
+from dataclasses import replace
+from fractions import Fraction
+from pathlib import Path
+from tempfile import TemporaryDirectory
+
+import draw
+import lattice
+import model as models
+import programs
+import solve
+from lattice import Lattice, Plane, Reduction, Vector, grows
+from model import Block, Load, Material, Model
+
+
+class Lattices(unittest.TestCase):
+    def test_a_long_vector_is_shortened_by_the_one_before_it(self):
+        # (1, 0) and (4, 1), whose products are 1, 4 and 17: the second less four times the first is (0, 1).
+        self.assertEqual(Reduction([[1, 4], [4, 17]]).rows, [[1, 0], [-4, 1]])
+
+    def test_the_shorter_vector_comes_first(self):
+        # (3, 0) and (1, 1), whose products are 9, 3 and 2: the second is much the shorter. (3, 0) less twice (1, 1) is
+        # (1, -2).
+        self.assertEqual(Reduction([[9, 3], [3, 2]]).rows, [[0, 1], [1, -2]])
+
+    def test_nearest_plane_takes_off_whole_multiples(self):
+        # (2, 0) and (1, 3). (6, 7) less twice (1, 3) is (4, 1), less twice (2, 0) is (0, 1).
+        basis = [Vector({}, [2, 0], unknown=0), Vector({}, [1, 3], unknown=1)]
+        short = Plane(basis).shortened(Vector({}, [6, 7]))
+        self.assertEqual(short.shadow, [0, 1])
+        self.assertEqual(short.unknowns(2), [-2, -2])
+
+    def test_sums_grow_to_the_lattice_that_they_reach(self):
+        # 6 and then 4 reach all even numbers; 10 adds nothing, 3 makes all whole ones.
+        reached = [None]
+        self.assertEqual([grows(reached, [x]) for x in (6, 4, 10, 3, 5)], [True, True, False, True, False])
+        self.assertEqual(abs(reached[0][0]), 1)
+
+    def test_the_basis_of_one_sum(self):
+        # 2x + 3y = 0: all multiples of (3, -2).
+        found = Lattice([{"sum": 2}, {"sum": 3}], [["sum"]])
+        self.assertIn([vector.unknowns(2) for vector in found.basis], ([[3, -2]], [[-3, 2]]))
+
+    def test_a_vector_near_another(self):
+        # (10, -6) has the sum 2; (9, -6) is the nearest without one.
+        self.assertEqual(Lattice([{"sum": 2}, {"sum": 3}], [["sum"]]).near([10, -6]), [9, -6])
+
+    def test_two_groups_of_sums(self):
+        # x + 2y = 0 and 3y - z = 0: all multiples of (-2, 1, 3).
+        found = Lattice([{"a": 1}, {"a": 2, "b": 3}, {"b": -1}], [["a"], ["b"]])
+        self.assertEqual([[abs(x) for x in vector.unknowns(3)] for vector in found.basis], [[2, 1, 3]])
+
+    def test_sums_that_nothing_changes(self):
+        # 4x + 6y is even.
+        pivots = Lattice([{"sum": 4}, {"sum": 6}], [["sum"]]).steps[0][0]
+        with self.assertRaises(lattice.NoVector):
+            pivots.cleared(Vector({"sum": 3}, []))
+
+
+class Programs(unittest.TestCase):
+    def test_a_greatest_value_and_its_duals(self):
+        # x + y is greatest at (1, 3/2): it is a quarter of 2x + 4y, at most 8, and half of x, at most 1.
+        rows = [programs.Row({"x": 2, "y": 4}, "<=", 8), programs.Row({"x": 1}, "<=", 1)]
+        found = programs.Program({"x": 1, "y": 1}, rows).best()
+        self.assertEqual((found.value("x"), found.value("y")), (1, Fraction(3, 2)))
+        self.assertEqual(found.duals, [Fraction(1, 4), Fraction(1, 2)])
+
+    def test_no_values_and_no_limit(self):
+        self.assertEqual(programs.Program({}, [programs.Row({"x": 1}, "=", -1)]).best(), "INFEASIBLE")
+        self.assertEqual(programs.Program({}, [programs.Row({}, "=", -1)]).best(), "INFEASIBLE")
+        self.assertEqual(programs.Program({"x": 1}, [programs.Row({"x": 1}, ">=", 1)]).best(), "UNBOUNDED")
+
+
+class Fractions(unittest.TestCase):
+    def test_the_simplest_fraction(self):
+        for low, high, simplest in (("3/10", "4/10", "1/3"), ("5/2", "7/2", "3"), ("0", "1/5", "0"),
+                                    ("2/5", "2/5", "2/5"), ("31/10", "32/10", "16/5")):
+            self.assertEqual(solve.simplest(Fraction(low), Fraction(high)), Fraction(simplest))
+
+    def test_decimals(self):
+        third = Fraction(1, 3)
+        self.assertEqual([solve.decimal(third, way) for way in (round, math.floor, math.ceil)],
+                         ["0.33333333", "0.33333333", "0.33333334"])
+        self.assertEqual([solve.decimal(Fraction(x)) for x in ("5733/5", "0", "7", "12345678901")],
+                         ["1146.6", "0", "7", "12345678901"])
+
+
+def rows(said):
+    """The lines of an answer without their decimals."""
+    return [line.split(", ")[0] for line in said.splitlines()]
+
+
+class Asked(unittest.TestCase):
+    """Questions about models in a folder of their own."""
+
+    def setUp(self):
+        folder = TemporaryDirectory()
+        self.addCleanup(folder.cleanup)
+        self.name, self.cert = f"{folder.name}/model.toml", f"{folder.name}/answer.cert"
+
+    def asked(self, question, *more):
+        """The status, the lines of the answer and what stands on standard error."""
+        out, err = io.StringIO(), io.StringIO()
+        with contextlib.redirect_stdout(out), contextlib.redirect_stderr(err):
+            try:
+                status = solve.main([self.name, question, self.cert, *more])
+            except SystemExit as end:
+                status = end.code
+        return status, rows(out.getvalue()), err.getvalue()
+
+    def write(self, model):
+        models.write(self.name, model)
+
+    def draw(self, *words):
+        out = io.StringIO()
+        with contextlib.redirect_stdout(out):
+            draw.main(list(words))
+        Path(self.name).write_text(out.getvalue())
+
+
+def at_random(draws):
+    """A wall of one to three courses of one to three stones, some beside one another, with loads or a sway."""
+    pick, blocks, foot = draws.randint, [], 0
+    for course in range(pick(1, 3)):
+        left, head = pick(-6, 6), foot + pick(2, 8)
+        for number in range(pick(1, 3)):
+            right, lean = left + pick(3, 12), pick(-1, 1)
+            corners = [[left, foot], [right, foot], [right, head], [left, head]]
+            if number == 0:
+                corners[3][0] += lean
+            blocks.append(Block(name=f"s{course}-{number}", material="stone", corners=corners))
+            left = right
+        foot = head
+    ground = Block(name="ground", material="stone", fixed=True, corners=[[-30, -5], [60, -5], [60, 0], [-30, 0]])
+    loads = [Load(draws.choice(blocks).name, draws.choice(("dead", "live", "live")), [pick(-6, 20), pick(0, foot)],
+                  [pick(-9, 9), pick(-9, 3)]) for _ in range(pick(0, 3))]
+    sway = [pick(-2, 2), pick(-1, 1)] if draws.random() < 0.4 else None
+    stone = Material("stone", pick(1, 5), [pick(1, 9), 10])
+    return Model(2 if sway else None, sway, [stone], [], [ground, *blocks], loads)
+
+
+class BesideTheProgram(Asked):
+    def found(self, question):
+        """The form and the factor that the program finds, as a line of an answer; 9 without a live load."""
+        done = models.program(question, self.name)
+        if done.status not in (0, 1):
+            return done.status
+        form, first, *_ = done.output.splitlines()
+        return form + (" {2}/{1}".format(*first.split()) if form == "greatest" else "") + " accepted"
+
+    def test_100_models_at_random(self):
+        draws, forms = random.Random(2024), []
+        for _ in range(100):
+            model = at_random(draws)
+            self.write(model)
+            stands, carries = self.found("stand"), self.found("load")
+            self.assertEqual(self.asked("stand")[:2], (0, [stands]))
+            status, lines, _ = self.asked("load")
+            self.assertEqual(status if status else lines[0], carries)
+            forms.append(str(carries).split()[0])
+            if forms[-1] == "greatest":
+                self.shares(Fraction(carries.split()[1]))
+        self.assertTrue({"greatest", "collapses", "unbounded"} < set(forms))
+
+    def shares(self, factor):
+        """Both shares, as if no certificate of the factor fitted."""
+        with contextlib.redirect_stdout(io.StringIO()) as out, contextlib.redirect_stderr(io.StringIO()):
+            solver = solve.Solver(self.name, self.cert, self.cert, Fraction(1, 1000), lambda stage: None)
+            top = solve.statics.raised(solver.structure)
+            self.assertEqual(top[0], factor)
+            carried, beyond = solver.shares(*top, solver.dead_forces()[0])
+        self.assertEqual([line.split()[0] for line in rows(out.getvalue())], ["stands", "carried", "beyond"])
+        gap = Fraction(1, 1000) * (factor or 1)
+        self.assertTrue(factor - gap <= carried <= factor < beyond <= factor + gap)
+
+
+class Walls(Asked):
+    def settled(self, question, *words):
+        """All that is said, in one word a line."""
+        self.draw(*words)
+        status, lines, err = self.asked(question)
+        self.assertEqual(status, 0, err)
+        self.assertTrue(all(line.endswith(" accepted") for line in lines), lines)
+        return [line.split()[0] for line in lines]
+
+    def test_coursed_stone(self):
+        self.assertEqual(self.settled("stand", "coursed", "7", "8", "1"), ["stands"])
+        self.assertEqual(self.settled("load", "coursed", "6", "6", "1"), ["greatest"])
+
+    def test_a_swaying_wall(self):
+        self.assertEqual(self.settled("load", "sway", "1", "0", "coursed", "6", "8", "4"), ["greatest"])
+
+    def test_rubble(self):
+        self.assertEqual(self.settled("stand", "rubble", "6", "1"), ["stands"])
+
+    def test_facades(self):
+        for seed in ("1", "2"):
+            self.assertEqual(self.settled("load", "sway", "1", "0", "facade", seed), ["stands", "carried", "beyond"])
+
+    def test_a_given_gap(self):
+        self.draw("sway", "1", "0", "facade", "1")
+        lines = self.asked("load", "2000")[1]
+        carried, beyond = (Fraction(line.split()[1]) for line in lines[1:])
+        self.assertTrue(carried < beyond < carried * Fraction(1003, 1000))
+
+    def test_a_range(self):
+        self.draw("sway", "1", "0", "wall", "2", "2")
+        self.assertEqual(self.asked("range")[1][1], "reversed")
+
+
+class Irregular(Asked):
+    def test_an_arch_of_20_irregular_voussoirs_has_no_certificate(self):
+        draws, inner, outer = random.Random(1), 2000, 2400
+        turns = [math.pi * (1 - (k + (draws.uniform(-0.3, 0.3) if 0 < k < 20 else 0)) / 20) for k in range(21)]
+        ends = [[[round(r * math.cos(turn)), round(r * math.sin(turn))] for r in (inner, outer)] for turn in turns]
+        springers = [[[x, -300], [x + 1000, -300], [x + 1000, 0], [x, 0]] for x in (-2700, 1700)]
+        blocks = [Block(name=f"fixed{k}", material="stone", fixed=True, corners=one) for k, one in enumerate(springers)]
+        for k, ((a, b), (c, d)) in enumerate(zip(ends, ends[1:])):
+            blocks.append(Block(name=f"v{k}", material="stone", corners=[a, c, d, b]))
+        self.write(Model(None, None, [Material("stone", 1, [7, 10])], [], blocks, []))
+        status, lines, err = self.asked("stand")
+        self.assertEqual((status, lines), (70, []))
+        self.assertIn("there are no forces of 127 bits: whole forces that balance need ", err)
+
+
+class Refusals(Asked):
+    def test_wrong_words(self):
+        self.write(at_random(random.Random(1)))
+        self.assertEqual([self.asked(*words)[0] for words in (("stand", "5"), ("load", "x"), ("yield",))], [2, 2, 2])
+
+    def test_no_live_load(self):
+        self.write(replace(at_random(random.Random(1)), sway=None, loads=[]))
+        self.assertEqual(self.asked("load")[0], 9)
+
+    def test_no_model(self):
+        self.assertEqual(self.asked("stand")[0], 3)
+
+
+if __name__ == "__main__":
+    unittest.main()
