@@ -158,7 +158,10 @@ class BesideTheProgram(Asked):
         if done.status not in (0, 1):
             return done.status
         form, first, *_ = done.output.splitlines()
-        return form + (" {2}/{1}".format(*first.split()) if form == "greatest" else "") + " accepted"
+        if form != "greatest":
+            return f"{form} accepted"
+        _, scale, factor = first.split()
+        return f"greatest {solve.ratio(Fraction(int(factor), int(scale)))} accepted"
 
     def test_100_models_at_random(self):
         draws, forms = random.Random(2024), []
