@@ -1,18 +1,16 @@
+use Rattle.std.proofs.Common.{refl}
 use Rattle.stack_cli.proofs.Consequences.{words_status, memory_status}
 use Rattle.stack_cli.proofs.Outcomes.{none_works, memory_works}
 use Rattle.stack_cli.proofs.Refusing.{refused_runs}
 use Rattle.stack_cli.proofs.given.run_given.Goals as goal
 
-pub returns-in-Words-clause-runs : goal.returns-in-Words-clause-runs
-returns-in-Words-clause-runs g c = rw c.in-Words.is c.run.ensures
-
 pub returns-in-Unreadable-clause-runs : goal.returns-in-Unreadable-clause-runs
-returns-in-Unreadable-clause-runs g c = let d = c.deliver-in-Unreadable.ensures in
+returns-in-Unreadable-clause-runs g c = let d = c.deliver.ensures in
     rw c.in-Unreadable.is (refused_runs c.printed_is_accepted.ensures.accepted g.F.Shelf c.args.shelf.now _ _ _ _
     (none_works g.F.Shelf c.args.shelf.now) d.delivers (d.one_put (λ same. cc)) d.one_line d.out_later d.err_later)
 
 pub returns-in-Unreadable-clause-unreadable : goal.returns-in-Unreadable-clause-unreadable
-returns-in-Unreadable-clause-unreadable g c is = words_status _ _ _ _ refl c.deliver-in-Unreadable.ensures.delivers
+returns-in-Unreadable-clause-unreadable g c is = words_status _ _ _ _ refl c.deliver.ensures.delivers
 
 pub returns-in-Memory-clause-runs : goal.returns-in-Memory-clause-runs
 returns-in-Memory-clause-runs g c = let d = c.deliver-in-Memory.ensures in
