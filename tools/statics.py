@@ -212,6 +212,7 @@ class Rounding:
                 self.amounts.append(Fraction(parts[number][axis]) / piece[axis])
             rooms.append(self.room(number, parts[number], len(of)))
         self.base = [round(x) for x in self.amounts]
+        self.longest = max((int(abs(x)) for part in parts.values() for x in part), default=0).bit_length()
         columns = [structure.column(number, piece) for number, piece in self.pieces]
         rest = dict(enumerate(load))
         for amount, column in zip(self.base, columns):
@@ -244,8 +245,7 @@ class Rounding:
 
     def least(self):
         """The scale and the parts at the least scale that works."""
-        longest = max(map(abs, self.base), default=0).bit_length()
-        found = least(self.at, max(0, 124 - longest))
+        found = least(self.at, max(0, 124 - self.longest))
         if found is None:
             if len(self.lattice.basis) <= SMALL:
                 self.refute()
@@ -272,7 +272,8 @@ class Rounding:
         square = max(min(squares[k:]) for k in range(first + 1))
         number = isqrt(square // (len(self.base) + 1))  # the greatest of so many numbers is at least so great
         if number > GREATEST:
-            raise Never(f"there are no forces of 127 bits: whole forces that balance need {number.bit_length()} or more")
+            need = number.bit_length()
+            raise Never(f"there are no forces of 127 bits: whole forces that balance need {need} or more")
 
 
 def short_forces(structure, amounts, load):
