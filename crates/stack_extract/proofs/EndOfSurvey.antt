@@ -15,8 +15,8 @@ use Rattle.stack_table.specs.Seen.{shape_of_table, table_of, flips_of}
 use Rattle.stack_table.specs.Lent.{IsProblem, shape_of_problem, problem_of}
 use Rattle.stack_run.specs.WrittenRun.{written_run}
 use Rattle.stack_posing.specs.Posed.{posed}
-use Rattle.stack_simplex.specs.declared.ended.Ended.{Ended}
-use Rattle.stack_simplex.specs.Ends.{ended_as, last_of}
+use Rattle.stack_tableau.specs.declared.ended.Ended.{Ended}
+use Rattle.stack_tableau.specs.LastTables.{ended_as, last_of}
 use Rattle.stack_tableau.specs.Written.{IsWrittenTable}
 use Rattle.stack_extract.specs.Ends.{IsEndOfSurvey}
 

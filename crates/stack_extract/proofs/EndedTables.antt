@@ -15,16 +15,16 @@ use Rattle.stack_table.specs.declared.table.Table.{Table}
 use Rattle.stack_table.specs.Table.{plain, width}
 use Rattle.stack_table.specs.Seen.{shape_of_table, table_of, flips_of}
 use Rattle.stack_run.specs.WrittenRun.{End, infeasible, feasible, optimal, ray, wide, over, never}
-use Rattle.stack_duality.specs.FourEnds.{EndGives}
-use Rattle.stack_duality.specs.Laws.{EndsGive}
+use Rattle.stack_run.specs.FourEnds.{EndGives}
+use Rattle.stack_run.specs.EndLaws.{EndsGive}
 use Rattle.stack_posing.specs.Posed.{posed, posed_shape}
-use Rattle.stack_simplex.specs.declared.ended.Ended.{Ended}
-use Rattle.stack_simplex.specs.declared.ended.Ended.TheVariants.{Infeasible, Feasible, Optimal, Ray}
-use Rattle.stack_simplex.specs.Ends.{ended_as, last_of}
-use Rattle.stack_certified.specs.Laws.{IsEndOfRun}
-use Rattle.stack_last.specs.declared.kind.EndKind.{EndKind}
-use Rattle.stack_last.specs.declared.kind.EndKind.TheVariants as kinds
-use Rattle.stack_last.specs.Ends.{end_at}
+use Rattle.stack_tableau.specs.declared.ended.Ended.{Ended}
+use Rattle.stack_tableau.specs.declared.ended.Ended.TheVariants.{Infeasible, Feasible, Optimal, Ray}
+use Rattle.stack_tableau.specs.LastTables.{ended_as, last_of}
+use Rattle.stack_extract.specs.EndLaws.{IsEndOfRun}
+use Rattle.stack_tableau.specs.declared.end_kind.EndKind.{EndKind}
+use Rattle.stack_tableau.specs.declared.end_kind.EndKind.TheVariants as kinds
+use Rattle.stack_tableau.specs.EndKinds.{end_at}
 use Rattle.stack_extract.specs.declared.types.ExtractError.{ExtractError}
 use Rattle.stack_extract.specs.Places.{TellsPlace, forces_place, ray_place}
 use Rattle.stack_extract.specs.Ends.{IsEndOfSurvey, IsEndOfSome, IsLastOf, IsLastOfSome, kind_of, ReadsRay}

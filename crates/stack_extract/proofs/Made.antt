@@ -23,15 +23,15 @@ use Rattle.stack_table.specs.Table.{Shape, Tabled}
 use Rattle.stack_table.specs.Problem.{flipped, turned}
 use Rattle.stack_run.specs.WrittenRun.{End, infeasible, optimal, ray}
 use Rattle.stack_posing.specs.Posed.{posed, posed_shape}
-use Rattle.stack_last.specs.declared.kind.EndKind.{EndKind}
-use Rattle.stack_last.specs.declared.kind.EndKind.TheVariants as kinds
-use Rattle.stack_last.specs.Ends.{end_at}
-use Rattle.stack_certified.specs.WrittenLists.{forces_list, ray_list, bound_list, collapse_list}
-use Rattle.stack_certified.specs.WrittenLists.{forces_number, ray_number}
-use Rattle.stack_certified.specs.WholeLists.{whole_list, amount, NonePulls}
-use Rattle.stack_equations.specs.FreeBodies.{free_bodies}
-use Rattle.stack_certified.specs.Certified.{forces_value, pair_at, triple_at, motion_value}
-use Rattle.stack_certified.specs.Laws.{EndPushes, EndsPush}
+use Rattle.stack_tableau.specs.declared.end_kind.EndKind.{EndKind}
+use Rattle.stack_tableau.specs.declared.end_kind.EndKind.TheVariants as kinds
+use Rattle.stack_tableau.specs.EndKinds.{end_at}
+use Rattle.stack_extract.specs.WrittenLists.{forces_list, ray_list, bound_list, collapse_list}
+use Rattle.stack_extract.specs.WrittenLists.{forces_number, ray_number}
+use Rattle.stack_extract.specs.WholeLists.{whole_list, amount, NonePulls}
+use Rattle.stack_posing.specs.FreeBodies.{free_bodies}
+use Rattle.stack_extract.specs.Certified.{forces_value, pair_at, triple_at, motion_value}
+use Rattle.stack_extract.specs.EndLaws.{EndPushes, EndsPush}
 use Rattle.stack_extract.specs.declared.types.Numbers.{Numbers}
 use Rattle.stack_extract.specs.declared.types.Numbers.TheVariants.{Forces, Motion, Ray}
 use Rattle.stack_extract.specs.declared.types.EndStep.TheVariants.{Whole}

@@ -15,8 +15,8 @@ use Rattle.stack_contact.specs.declared.types.Bearing.{Bearing}
 use Rattle.stack_equilibrium.specs.declared.block.Push.{Push}
 use Rattle.stack_equilibrium.specs.SurveyScene.{no_bearing}
 use Rattle.stack_equilibrium.proofs.InOrder.{bind_ok}
-use Rattle.stack_certified.specs.WholeLists.{amount}
-use Rattle.stack_certified.specs.Certified.{pair_between, pair_at}
+use Rattle.stack_extract.specs.WholeLists.{amount}
+use Rattle.stack_extract.specs.Certified.{pair_between, pair_at}
 use Rattle.stack_extract.specs.declared.types.Numbers.{Numbers}
 use Rattle.stack_extract.specs.declared.types.EndStep.TheVariants.{Part}
 use Rattle.stack_extract.specs.Places.{extract_place, part_fits, part_spot, part_place, AreParts}

@@ -23,8 +23,8 @@ use Rattle.stack_rational.specs.CommonScale.{scale_of, times_scale, IsFirstTooWi
 use Rattle.stack_rational.proofs.Multiples.{scale_positive}
 use Rattle.stack_rational.proofs.RunningMultiple.{held}
 use Rattle.stack_table.specs.Table.{Shape, Tabled}
-use Rattle.stack_certified.specs.WrittenLists.{bound_number}
-use Rattle.stack_certified.specs.WholeLists.{whole_list, amount}
+use Rattle.stack_extract.specs.WrittenLists.{bound_number}
+use Rattle.stack_extract.specs.WholeLists.{whole_list, amount}
 use Rattle.stack_extract.specs.declared.types.Numbers.{Numbers}
 use Rattle.stack_extract.specs.declared.types.Numbers.TheVariants.{Motion}
 use Rattle.stack_extract.specs.declared.types.EndStep.TheVariants.{Shift, Scale, Whole}

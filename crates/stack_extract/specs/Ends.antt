@@ -13,16 +13,16 @@ use Rattle.stack_table.specs.Problem.{flipped, turned}
 use Rattle.stack_table.specs.Seen.{shape_of_table, flips_of}
 use Rattle.stack_table.specs.Table.{Shape, Tabled}
 use Rattle.stack_run.specs.WrittenRun.{End, infeasible, feasible, optimal, ray, wide, over, never}
-use Rattle.stack_last.specs.declared.kind.EndKind.{EndKind}
-use Rattle.stack_last.specs.declared.kind.EndKind.TheVariants as kinds
+use Rattle.stack_tableau.specs.declared.end_kind.EndKind.{EndKind}
+use Rattle.stack_tableau.specs.declared.end_kind.EndKind.TheVariants as kinds
 use Rattle.stack_posing.specs.Posed.{posed, posed_shape}
-use Rattle.stack_simplex.specs.declared.ended.Ended.{Ended}
-use Rattle.stack_simplex.specs.declared.ended.Ended.TheVariants.{Infeasible, Feasible, Optimal, Ray}
-use Rattle.stack_simplex.specs.Ends.{ended_as, last_of}
-use Rattle.stack_certified.specs.WholeLists.{whole_list, amount}
-use Rattle.stack_certified.specs.Certified.{forces_value, triple_at, end_forces, end_ray, end_collapse}
-use Rattle.stack_certified.specs.Certified.{end_bound}
-use Rattle.stack_certified.specs.Laws.{IsEndOfRun}
+use Rattle.stack_tableau.specs.declared.ended.Ended.{Ended}
+use Rattle.stack_tableau.specs.declared.ended.Ended.TheVariants.{Infeasible, Feasible, Optimal, Ray}
+use Rattle.stack_tableau.specs.LastTables.{ended_as, last_of}
+use Rattle.stack_extract.specs.WholeLists.{whole_list, amount}
+use Rattle.stack_extract.specs.Certified.{forces_value, triple_at, end_forces, end_ray, end_collapse}
+use Rattle.stack_extract.specs.Certified.{end_bound}
+use Rattle.stack_extract.specs.EndLaws.{IsEndOfRun}
 use Rattle.stack_extract.specs.declared.types.Numbers.{Numbers}
 use Rattle.stack_extract.specs.declared.types.ExtractPlace.{ExtractPlace}
 use Rattle.stack_extract.specs.Places.{push_place, forces_place, ray_place, collapse_place, bound_place}

@@ -1,3 +1,9 @@
 pub mod Places
 pub mod WrittenPart
 pub mod Ends
+pub mod WrittenLists
+pub mod WholeLists
+pub mod WholeBalance
+pub mod WholeEnds
+pub mod Certified
+pub mod EndLaws

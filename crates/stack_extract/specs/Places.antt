@@ -18,9 +18,9 @@ use Rattle.stack_equilibrium.specs.declared.types.Question.{Question}
 use Rattle.stack_equilibrium.specs.SurveyScene.{no_bearing, scene_of}
 use Rattle.stack_table.specs.Table.{Shape, Tabled}
 use Rattle.stack_posing.specs.Posed.{posed_shape}
-use Rattle.stack_certified.specs.WrittenLists.{forces_list, ray_list, bound_number, bound_list, collapse_list}
-use Rattle.stack_certified.specs.WholeLists.{whole_list, amount}
-use Rattle.stack_certified.specs.Certified.{pair_at}
+use Rattle.stack_extract.specs.WrittenLists.{forces_list, ray_list, bound_number, bound_list, collapse_list}
+use Rattle.stack_extract.specs.WholeLists.{whole_list, amount}
+use Rattle.stack_extract.specs.Certified.{pair_at}
 use Rattle.stack_extract.specs.declared.types.Numbers.{Numbers}
 use Rattle.stack_extract.specs.declared.types.Numbers.TheVariants.{Forces, Motion, Ray}
 use Rattle.stack_extract.specs.declared.types.EndStep.{EndStep}

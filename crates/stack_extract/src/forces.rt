@@ -3,11 +3,11 @@
 ghost use Rattle.std.specs.Prelude.{◌≡◌, suc, ◌*◌, length, IfOk, IfErr, true};
 ghost use Rattle.stack_certificate.specs.Certificate.{forces_view};
 ghost use Rattle.stack_equilibrium.specs.declared.types.Question.{Question};
-ghost use Rattle.stack_certified.specs.WholeLists.{whole_list, NonePulls};
-ghost use Rattle.stack_simplex.specs.Ends.{ended_as, last_of};
+ghost use Rattle.stack_extract.specs.WholeLists.{whole_list, NonePulls};
+ghost use Rattle.stack_tableau.specs.LastTables.{ended_as, last_of};
 ghost use Rattle.stack_table.specs.Seen.{table_of};
 ghost use Rattle.stack_run.specs.WrittenRun.{ray};
-ghost use Rattle.stack_last.specs.Ends.{end_at};
+ghost use Rattle.stack_tableau.specs.EndKinds.{end_at};
 ghost use Rattle.stack_extract.specs.Places.{TellsPlace, push_place, forces_place, ray_place};
 ghost use Rattle.stack_extract.specs.Ends.{
   AreForcesFrom,
@@ -23,18 +23,17 @@ ghost use Rattle.stack_extract.specs.Ends.{
   entering_of,
 };
 
+use crate::certified_laws;
 use crate::numbers::{forces_numbers, ray_numbers};
 use crate::parts::force_parts;
 use crate::types::{ExtractError, Numbers};
 use crate::wholes::whole_numbers;
 use stack_certificate::types::Forces;
-use stack_certified::certified_laws;
 use stack_contact::types::Survey;
-use stack_duality::run_laws;
-use stack_last::{EndKind, LastTable};
 use stack_rational::{Exact, Frac};
-use stack_simplex::Ended;
+use stack_run::run_laws;
 use stack_table::Table;
+use stack_tableau::{EndKind, Ended, LastTable};
 use std::alloc::Global;
 
 /// Forces from the numbers of the contact columns and of the factor, at their common scale.

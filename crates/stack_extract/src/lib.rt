@@ -1,4 +1,6 @@
-//! From the end of a run to the forces, the ray or the motion of its certificate, in whole numbers.
+//! From the end of a run to the forces, the ray or the motion of its certificate, in whole numbers. From the fractions
+//! of a last table come whole numbers, each end's lists at their common scale, and from these the certificate: laws say
+//! that it is true.
 //!
 //! ```text
 //! // The end of the run of a survey's problem; a post on the ground stands.
@@ -7,6 +9,7 @@
 //! ```
 #![tactic(auto)]
 
+mod end_laws;
 mod forces;
 mod motions;
 mod numbers;
@@ -14,6 +17,7 @@ mod parts;
 mod types;
 mod wholes;
 
+pub use end_laws::{certified_laws, end_law};
 pub use forces::{forces_at, forces_of, kind_of, last_table, ray_at, ray_of};
 pub use motions::{motion_at, motion_of};
 pub use stack_posing::pose;

@@ -7,11 +7,11 @@ ghost use Rattle.stack_contact.specs.FreeBlocks.{frees_of};
 ghost use Rattle.stack_certificate.specs.Certificate.{motion_view};
 ghost use Rattle.stack_equilibrium.specs.declared.types.Question.{Question};
 ghost use Rattle.stack_table.specs.Problem.{turned};
-ghost use Rattle.stack_last.specs.Ends.{end_at};
-ghost use Rattle.stack_certified.specs.WrittenLists.{bound_list, collapse_list};
-ghost use Rattle.stack_certified.specs.WholeLists.{amount};
-ghost use Rattle.stack_certified.specs.Certified.{triple_at};
-ghost use Rattle.stack_simplex.specs.Ends.{ended_as};
+ghost use Rattle.stack_tableau.specs.EndKinds.{end_at};
+ghost use Rattle.stack_extract.specs.WrittenLists.{bound_list, collapse_list};
+ghost use Rattle.stack_extract.specs.WholeLists.{amount};
+ghost use Rattle.stack_extract.specs.Certified.{triple_at};
+ghost use Rattle.stack_tableau.specs.LastTables.{ended_as};
 ghost use Rattle.stack_extract.specs.declared.types.Numbers.TheVariants as numbers;
 ghost use Rattle.stack_extract.specs.Places.{TellsPlace, list_place, shifted_place};
 ghost use Rattle.stack_extract.specs.Ends.{
@@ -32,9 +32,8 @@ use crate::types::{ExtractError, Numbers};
 use crate::wholes::whole_numbers;
 use stack_certificate::types::Motion;
 use stack_contact::types::Survey;
-use stack_last::{EndKind, LastTable};
 use stack_rational::{Exact, Frac};
-use stack_simplex::Ended;
+use stack_tableau::{EndKind, Ended, LastTable};
 use stack_whole::Whole;
 use std::alloc::{AllocError, Global};
 

@@ -3,7 +3,7 @@
 ghost use Rattle.std.specs.Prelude.{◌≡◌, ◌≤◌, ◌<◌, IfOk, IfErr, IfSome, OnOk, None, ◌++◌, ◌∷◌, [], true};
 ghost use Rattle.stack_algebra.proofs.OrderedFractions.{ordered_fractions};
 ghost use Rattle.stack_run.specs.EndNumbers.{basic_row, value, rate};
-ghost use Rattle.stack_certified.specs.WrittenLists.{
+ghost use Rattle.stack_extract.specs.WrittenLists.{
   forces_number,
   forces_list,
   ray_number,
@@ -15,8 +15,8 @@ ghost use Rattle.stack_certified.specs.WrittenLists.{
 ghost use Rattle.stack_extract.specs.Places.{TellsPlace, shift_place};
 
 use crate::types::{EndStep, ExtractError, Numbers, too_wide};
-use stack_last::LastTable;
 use stack_rational::{Exact, Frac};
+use stack_tableau::LastTable;
 use std::alloc::{AllocError, Global};
 
 /// The row in which a column is basic.

@@ -2,7 +2,7 @@
 
 ghost use Rattle.std.specs.Prelude.{◌≡◌, pos, ◌*◌, ◌≤◌, ◌<◌, ◌≤ℤ◌, ◌-ℤ◌, ◌++◌, ◌∷◌, [], length, IfOk, IfErr};
 ghost use Rattle.stack_whole.specs.Whole.{whole};
-ghost use Rattle.stack_certified.specs.WholeLists.{amount, NonePulls};
+ghost use Rattle.stack_extract.specs.WholeLists.{amount, NonePulls};
 ghost use Rattle.stack_extract.specs.Places.{AreParts, TellsPlace, part_place};
 ghost use Rattle.stack_extract.specs.WrittenPart.{written_part};
 

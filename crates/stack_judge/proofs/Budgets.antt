@@ -9,10 +9,10 @@ use Rattle.stack_certificate.specs.Certificate.{CertificateValue}
 use Rattle.stack_equilibrium.specs.declared.types.Question.{Question}
 use Rattle.stack_equilibrium.specs.declared.types.Question.TheVariants.{Dead, Live}
 use Rattle.stack_equilibrium.specs.SurveyScene.{scene_of}
-use Rattle.stack_equations.specs.FreeBodies.{FreeNumbersAreThoseOfSurveys}
+use Rattle.stack_posing.specs.FreeBodies.{FreeNumbersAreThoseOfSurveys}
 use Rattle.stack_run.specs.WrittenRun.{End, infeasible, feasible, optimal, ray, wide, over, never}
-use Rattle.stack_circles.specs.Enough.{enough_of}
-use Rattle.stack_circles.specs.Laws.{EnoughSuffices}
+use Rattle.stack_run.specs.Enough.{enough_of}
+use Rattle.stack_run.specs.CircleLaws.{EnoughSuffices}
 use Rattle.stack_posing.specs.Posed.{posed}
 use Rattle.stack_judge.specs.declared.types.JudgePlace.{JudgePlace}
 use Rattle.stack_judge.specs.declared.types.JudgeError.{JudgeError}

@@ -10,8 +10,8 @@ use Rattle.stack_equilibrium.specs.declared.types.Question.{Question}
 use Rattle.stack_equilibrium.specs.SurveyScene.{scene_of}
 use Rattle.stack_table.specs.Problem.{Problem}
 use Rattle.stack_run.specs.WrittenRun.{End, infeasible, feasible, optimal, ray, wide, over, never}
-use Rattle.stack_duality.specs.FourEnds.{EndGives}
-use Rattle.stack_duality.proofs.FourEnds.{ends_give}
+use Rattle.stack_run.specs.FourEnds.{EndGives}
+use Rattle.stack_run.proofs.FourEnds.{ends_give}
 use Rattle.stack_posing.specs.Posed.{posed}
 use Rattle.stack_judge.specs.declared.types.JudgePlace.{JudgePlace}
 use Rattle.stack_judge.specs.EndPlace.{end_place}

@@ -22,9 +22,9 @@ use Rattle.stack_checker.proofs.Verdicts.{rejected_is_false}
 use Rattle.stack_checker.proofs.Consequences.{shows_standing, shows_fall, shows_carried, shows_bound, shows_above}
 use Rattle.stack_checker.proofs.Consequences.{shows_all}
 use Rattle.stack_run.specs.WrittenRun.{End, infeasible, feasible, optimal, ray, wide, over, never}
-use Rattle.stack_certified.specs.Certified.{end_certificate}
-use Rattle.stack_certified.specs.Laws.{IsEndOfRun, IsEndOf}
-use Rattle.stack_certified.proofs.EndCertificates.{ends_are_certified, ends_are_of_the_question}
+use Rattle.stack_extract.specs.Certified.{end_certificate}
+use Rattle.stack_extract.specs.EndLaws.{IsEndOfRun, IsEndOf}
+use Rattle.stack_extract.proofs.EndCertificates.{ends_are_certified, ends_are_of_the_question}
 use Rattle.stack_judge.specs.declared.types.JudgePlace.{JudgePlace}
 use Rattle.stack_judge.specs.EndPlace.{lists_place, in_check, check_place, end_place}
 use Rattle.stack_judge.specs.Judgement.{certified, judged_by, judgement_of, survey_run}

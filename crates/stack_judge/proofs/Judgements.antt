@@ -17,20 +17,20 @@ use Rattle.stack_posing.specs.Posed.{posed}
 use Rattle.stack_simplex.specs.declared.refusal.RunError.{RunError}
 use Rattle.stack_simplex.specs.declared.refusal.RunError.TheVariants as runs
 use Rattle.stack_simplex.specs.Ends as ended
-use Rattle.stack_last.specs.declared.kind.EndKind.{EndKind}
-use Rattle.stack_last.specs.declared.kind.EndKind.TheVariants as kinds
-use Rattle.stack_last.specs.Ends.{end_at}
+use Rattle.stack_tableau.specs.declared.end_kind.EndKind.{EndKind}
+use Rattle.stack_tableau.specs.declared.end_kind.EndKind.TheVariants as kinds
+use Rattle.stack_tableau.specs.EndKinds.{end_at}
 use Rattle.stack_extract.specs.Ends.{IsEndOfSurvey, IsLastOf}
 use Rattle.stack_contact.specs.Surveyed.{Surveyed}
 use Rattle.stack_certificate.specs.declared.types.Certificate.{Certificate}
 use Rattle.stack_equilibrium.specs.declared.types.Question.{Question}
 use Rattle.stack_run.specs.WrittenRun.{End, written_run}
 use Rattle.stack_run.specs.ProblemRun.{run_at}
-use Rattle.stack_certified.specs.Certified.{end_certificate}
+use Rattle.stack_extract.specs.Certified.{end_certificate}
 use Rattle.stack_rational.specs.declared.exact.Exact.{Ghosts}
-use Rattle.stack_simplex.specs.declared.ended.Ended.{Ended}
-use Rattle.stack_simplex.specs.declared.ended.Ended.TheVariants as ends
-use Rattle.stack_simplex.specs.Ends.{ended_as, last_of}
+use Rattle.stack_tableau.specs.declared.ended.Ended.{Ended}
+use Rattle.stack_tableau.specs.declared.ended.Ended.TheVariants as ends
+use Rattle.stack_tableau.specs.LastTables.{ended_as, last_of}
 use Rattle.stack_judge.specs.declared.types.JudgeError.{JudgeError}
 use Rattle.stack_judge.specs.declared.types.JudgeError.TheVariants as errors
 use Rattle.stack_judge.specs.EndPlace.{end_place}

@@ -16,11 +16,12 @@ use Rattle.stack_table.specs.WrittenTable.{wide_place}
 use Rattle.stack_run.specs.WrittenRun.{End, infeasible, feasible, optimal, ray, wide, over, never}
 use Rattle.stack_run.specs.ProblemRun.{IsNowhereTooWide, WiderRunIsSame}
 use Rattle.stack_posing.specs.Posed.{posed}
-use Rattle.stack_simplex.specs.declared.ended.Ended.{Ended}
-use Rattle.stack_simplex.specs.declared.ended.Ended.TheVariants as ends
+use Rattle.stack_tableau.specs.declared.ended.Ended.{Ended}
+use Rattle.stack_tableau.specs.declared.ended.Ended.TheVariants as ends
 use Rattle.stack_run.specs.declared.place.RunPlace.{RunPlace}
 use Rattle.stack_simplex.specs.declared.refusal.RunError.TheVariants as runs
-use Rattle.stack_simplex.specs.Ends.{ended_as, refused_as}
+use Rattle.stack_tableau.specs.LastTables.{ended_as}
+use Rattle.stack_simplex.specs.Ends.{refused_as}
 use Rattle.stack_judge.specs.Judgement.{survey_run}
 use Rattle.stack_judge.specs.NarrowWork.{narrow, narrow_place, has_no_place, narrow_run, is_nowhere_too_wide, is_narrow}
 

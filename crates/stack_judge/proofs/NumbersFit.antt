@@ -23,16 +23,16 @@ use Rattle.stack_certificate.specs.CertificateText.{PartFits, MoveFits, ForcesFi
 use Rattle.stack_certificate.specs.CertificateText.{ForcesAreFew, MotionIsFew, IsFew}
 use Rattle.stack_equilibrium.specs.declared.types.Question.{Question}
 use Rattle.stack_equilibrium.specs.SurveyScene.{scene_of, no_bearing}
-use Rattle.stack_equations.specs.FreeBodies.{free_bodies}
-use Rattle.stack_equations.proofs.FreeBodies.{free_numbers_are_those_of_surveys}
+use Rattle.stack_posing.specs.FreeBodies.{free_bodies}
+use Rattle.stack_posing.proofs.FreeBodies.{free_numbers_are_those_of_surveys}
 use Rattle.stack_table.specs.Table.{Tabled}
 use Rattle.stack_table.specs.Problem.{Problem, flipped, turned}
 use Rattle.stack_run.specs.WrittenRun.{End, infeasible, feasible, optimal, ray, wide, over, never}
 use Rattle.stack_posing.specs.Posed.{posed, posed_shape}
-use Rattle.stack_certified.specs.WrittenLists.{forces_list, ray_list, bound_list, collapse_list}
-use Rattle.stack_certified.specs.WholeLists.{whole_list, amount, multiplier}
-use Rattle.stack_certified.specs.Certified.{pair_between, pair_at, forces_value, triple_at, motion_value}
-use Rattle.stack_certified.specs.Certified.{end_forces, end_ray, end_collapse, end_bound, end_certificate}
+use Rattle.stack_extract.specs.WrittenLists.{forces_list, ray_list, bound_list, collapse_list}
+use Rattle.stack_extract.specs.WholeLists.{whole_list, amount, multiplier}
+use Rattle.stack_extract.specs.Certified.{pair_between, pair_at, forces_value, triple_at, motion_value}
+use Rattle.stack_extract.specs.Certified.{end_forces, end_ray, end_collapse, end_bound, end_certificate}
 use Rattle.stack_extract.specs.declared.types.Numbers.{Numbers}
 use Rattle.stack_extract.specs.declared.types.Numbers.TheVariants.{Forces, Motion, Ray}
 use Rattle.stack_extract.specs.declared.types.EndStep.TheVariants.{Part}

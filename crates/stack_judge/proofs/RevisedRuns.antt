@@ -10,9 +10,9 @@ use Rattle.stack_table.specs.Lent.{problem_of, shape_of_problem}
 use Rattle.stack_table.specs.Problem.{Problem, flipped}
 use Rattle.stack_run.specs.ProblemRun.{run_at}
 use Rattle.stack_posing.specs.Posed.{posed}
-use Rattle.stack_last.specs.declared.kind.EndKind.{EndKind}
-use Rattle.stack_last.specs.declared.kind.EndKind.TheVariants as kinds
-use Rattle.stack_last.specs.Ends.{end_at}
+use Rattle.stack_tableau.specs.declared.end_kind.EndKind.{EndKind}
+use Rattle.stack_tableau.specs.declared.end_kind.EndKind.TheVariants as kinds
+use Rattle.stack_tableau.specs.EndKinds.{end_at}
 use Rattle.stack_revised.specs.declared.ended.RevisedEnd.{RevisedEnd}
 use Rattle.stack_revised.specs.declared.ended.RevisedEnd.TheVariants.{AtNarrow, AtWide}
 use Rattle.stack_inverse.specs.Seen.{table_of_revised}

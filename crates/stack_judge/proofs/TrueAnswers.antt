@@ -11,8 +11,8 @@ use Rattle.stack_checker.specs.declared.types.Check.TheVariants.{Accepted}
 use Rattle.stack_checker.specs.WrittenCheck.{written_check}
 use Rattle.stack_checker.specs.Shown.{Shows}
 use Rattle.stack_run.specs.WrittenRun.{End}
-use Rattle.stack_certified.specs.Certified.{end_certificate}
-use Rattle.stack_certified.specs.Laws.{IsEndOfRun, EndsAreCertified}
+use Rattle.stack_extract.specs.Certified.{end_certificate}
+use Rattle.stack_extract.specs.EndLaws.{IsEndOfRun, EndsAreCertified}
 use Rattle.stack_judge.specs.Judged.{IsJudged}
 use Rattle.stack_judge.specs.EndPlace.{lists_place}
 use Rattle.stack_judge.proofs.NumbersFit.{certificate_fits, certificate_few, fits_if, few_if}

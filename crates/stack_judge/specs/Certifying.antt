@@ -17,7 +17,7 @@ use Rattle.stack_simplex.specs.declared.refusal.RunError.{RunError}
 use Rattle.stack_simplex.specs.declared.refusal.RunError.TheVariants as runs
 use Rattle.stack_tableau.specs.Written.{IsTableOf, IsWrittenTable}
 use Rattle.stack_posing.specs.Posed.{posed}
-use Rattle.stack_certified.specs.Certified.{end_certificate}
+use Rattle.stack_extract.specs.Certified.{end_certificate}
 use Rattle.stack_revised.specs.declared.stops.RevisedStop.{RevisedStop}
 use Rattle.stack_revised.specs.declared.stops.RevisedStop.TheVariants as stops
 use Rattle.stack_extract.specs.declared.types.ExtractError.{ExtractError}

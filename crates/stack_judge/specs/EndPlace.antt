@@ -10,7 +10,7 @@ use Rattle.stack_checker.specs.declared.types.Check.{Check}
 use Rattle.stack_checker.specs.declared.types.Check.TheVariants as checks
 use Rattle.stack_checker.specs.WrittenCheck.{written_check}
 use Rattle.stack_run.specs.WrittenRun.{End, infeasible, feasible, optimal, ray, wide, over, never}
-use Rattle.stack_certified.specs.Certified.{end_certificate}
+use Rattle.stack_extract.specs.Certified.{end_certificate}
 use Rattle.stack_extract.specs.declared.types.ExtractPlace.{ExtractPlace}
 use Rattle.stack_extract.specs.Places.{forces_place, ray_place, collapse_place, bound_place}
 use Rattle.stack_judge.specs.declared.types.JudgePlace.{JudgePlace}

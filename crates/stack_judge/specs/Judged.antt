@@ -9,7 +9,7 @@ use Rattle.stack_equilibrium.specs.declared.types.Question.{Question}
 use Rattle.stack_equilibrium.specs.Truth.{IsTrueCertificate, IsOfQuestion}
 use Rattle.stack_statics.specs.Scene.{IsProper}
 use Rattle.stack_equilibrium.specs.SurveyScene.{scene_of}
-use Rattle.stack_certified.specs.Laws.{TellsOfDeadLoads, IsCertified}
+use Rattle.stack_extract.specs.EndLaws.{TellsOfDeadLoads, IsCertified}
 use Rattle.stack_checker.specs.declared.types.Check.TheVariants.{Accepted}
 use Rattle.stack_checker.specs.WrittenCheck.{written_check}
 use Rattle.stack_checker.specs.Shown.{Shows}

@@ -16,7 +16,7 @@ use Rattle.stack_run.specs.WrittenRun.{End, infeasible, feasible, optimal, ray, 
 use Rattle.stack_run.specs.ProblemRun.{run_at}
 use Rattle.stack_run.specs.declared.place.RunPlace.{RunPlace}
 use Rattle.stack_posing.specs.Posed.{posed}
-use Rattle.stack_certified.specs.Certified.{end_certificate}
+use Rattle.stack_extract.specs.Certified.{end_certificate}
 use Rattle.stack_judge.specs.declared.types.JudgePlace.{JudgePlace}
 use Rattle.stack_judge.specs.declared.types.JudgePlace.TheVariants as places
 use Rattle.stack_judge.specs.declared.types.JudgeError.{JudgeError}

@@ -3,24 +3,24 @@
 ghost use Rattle.std.specs.Prelude.{IfOk};
 ghost use Rattle.stack_certificate.specs.Certificate.{certificate_view};
 ghost use Rattle.stack_equilibrium.specs.declared.types.Question.{Question};
-ghost use Rattle.stack_simplex.specs.Ends.{ended_as};
-ghost use Rattle.stack_last.specs.Ends.{end_at};
+ghost use Rattle.stack_tableau.specs.LastTables.{ended_as};
+ghost use Rattle.stack_tableau.specs.EndKinds.{end_at};
 ghost use Rattle.stack_extract.specs.Ends.{IsEndOfSurvey, IsEndOfSome, IsLastOf, IsLastOfSome, ReadsRay};
 ghost use Rattle.stack_judge.specs.Judged.{IsJudged};
 ghost use Rattle.stack_judge.specs.Certifying.{MakesCertificate, GivesChecked};
 
 use crate::types::{JudgeError, JudgePlace};
 use stack_certificate::types::Certificate;
-use stack_certified::certified_laws;
 use stack_checker::check;
 use stack_checker::types::Check;
 use stack_contact::types::Survey;
-use stack_duality::run_laws;
 use stack_equilibrium::proper;
-use stack_extract::{ExtractError, forces_at, kind_of, last_table, motion_at, ray_at};
-use stack_last::{EndKind, LastTable};
+use stack_extract::{
+    ExtractError, certified_laws, forces_at, kind_of, last_table, motion_at, ray_at,
+};
 use stack_rational::Exact;
-use stack_simplex::Ended;
+use stack_run::run_laws;
+use stack_tableau::{EndKind, Ended, LastTable};
 use std::alloc::Global;
 
 /// The certificate that an end of a survey's run is.

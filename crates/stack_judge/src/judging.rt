@@ -2,7 +2,7 @@
 
 ghost use Rattle.std.specs.Prelude.{◌≡◌, ◌≢◌, ◌↔◌, ℕ, ◌≤◌, Some, Err, IfOk, IsTrue};
 ghost use Rattle.stack_certificate.specs.Certificate.{certificate_view};
-ghost use Rattle.stack_circles.specs.Enough.{enough_of};
+ghost use Rattle.stack_run.specs.Enough.{enough_of};
 ghost use Rattle.stack_judge.specs.declared.types.JudgeError.TheVariants as judge_error;
 ghost use Rattle.stack_judge.specs.ProblemColumns.{problem_columns};
 ghost use Rattle.stack_judge.specs.Judgement.{LacksLive, Judges};
@@ -16,12 +16,12 @@ use crate::narrow::judge_narrow;
 use crate::revised::judge_revised;
 use crate::types::{JudgeError, JudgePlace};
 use stack_certificate::types::Certificate;
-use stack_circles::budget_law;
 use stack_contact::types::Survey;
 use stack_equilibrium::proper;
 use stack_equilibrium::types::Question;
 use stack_extract::pose;
 use stack_rational::Frac;
+use stack_run::budget_law;
 use stack_simplex::{RunError, run};
 use stack_table::Table;
 use stack_table::problem::BuildError;

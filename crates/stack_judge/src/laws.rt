@@ -4,7 +4,7 @@ ghost use Rattle.stack_judge.specs.Judgement.{EachEndIsJudged};
 ghost use Rattle.stack_judge.specs.Judged.{JudgementsAreOfTheQuestion, JudgementsAreCertified, JudgementsAreJudged};
 ghost use Rattle.stack_judge.specs.ProblemColumns.{TablesHaveThese};
 
-use stack_equations::free_body_laws;
+use stack_posing::free_body_laws;
 
 /// The table of a survey's problem has two columns for each bearing, one for the live loads where these are asked
 /// about, and three for each free block, beside the right side.

@@ -13,8 +13,8 @@ use stack_certificate::types::Certificate;
 use stack_contact::types::Survey;
 use stack_equilibrium::types::Question;
 use stack_extract::pose;
-use stack_last::EndKind;
 use stack_revised::{RevisedEnd, RevisedStop, run_revised};
+use stack_tableau::EndKind;
 use std::alloc::Global;
 
 /// How a run ended.

@@ -16,8 +16,8 @@ use Rattle.stack_equilibrium.specs.declared.types.Question.TheVariants.{Dead}
 use Rattle.stack_equilibrium.specs.LoadSizes.{IsSmall}
 use Rattle.stack_equilibrium.specs.SurveyScene.{scene_of}
 use Rattle.stack_equilibrium.specs.Answers.{body_in, body_number}
-use Rattle.stack_equations.specs.Edges.{edge_on}
-use Rattle.stack_equations.specs.ByNumber.{dead_on}
+use Rattle.stack_posing.specs.Edges.{edge_on}
+use Rattle.stack_posing.specs.ByNumber.{dead_on}
 use Rattle.stack_table.specs.declared.problem.Column.{Column}
 use Rattle.stack_table.specs.declared.problem.Entry.{Entry}
 use Rattle.stack_posing.specs.Posed.{share, row_share, right_share, column_on}

@@ -9,10 +9,10 @@ use Rattle.stack_equilibrium.specs.declared.types.Question.{Question}
 use Rattle.stack_equilibrium.specs.declared.types.Question.TheVariants.{Live}
 use Rattle.stack_equilibrium.specs.SurveyScene.{scene_of}
 use Rattle.stack_equilibrium.specs.Answers.{body_number}
-use Rattle.stack_equations.specs.FreeBodies.{free_at, free_bodies, AreFreeBlocks}
-use Rattle.stack_equations.specs.Edges.{edge_on}
-use Rattle.stack_equations.specs.ByNumber.{dead_on, live_on}
-use Rattle.stack_equations.proofs.FreeBodies.{free_numbers_are_those_of_surveys}
+use Rattle.stack_posing.specs.FreeBodies.{free_at, free_bodies, AreFreeBlocks}
+use Rattle.stack_posing.specs.Edges.{edge_on}
+use Rattle.stack_posing.specs.ByNumber.{dead_on, live_on}
+use Rattle.stack_posing.proofs.FreeBodies.{free_numbers_are_those_of_surveys}
 use Rattle.stack_posing.specs.Posed.{share, row_share, column_on, no_wrench, factor_on, posed}
 use Rattle.stack_posing.specs.PosedSurvey.{IsPosedBy, SurveysArePosed}
 

@@ -19,7 +19,7 @@ use Rattle.stack_statics.specs.Scene.{SceneBearing}
 use Rattle.stack_equilibrium.specs.SurveyScene.{scene_of, bearing_of}
 use Rattle.stack_equilibrium.specs.Answers.{body_number}
 use Rattle.stack_equilibrium.proofs.FreeNumbers.{before_is, all_before}
-use Rattle.stack_equations.specs.Edges.{edge_on}
+use Rattle.stack_posing.specs.Edges.{edge_on}
 use Rattle.stack_table.specs.declared.problem.Entry.{Entry}
 use Rattle.stack_posing.specs.Posed.{row_share, no_wrench}
 use Rattle.stack_posing.specs.Entries.{AreEntries, with_wrench}

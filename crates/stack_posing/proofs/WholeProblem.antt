@@ -17,9 +17,9 @@ use Rattle.stack_statics.specs.declared.wrench.Wrench.{Wrench}
 use Rattle.stack_equilibrium.specs.declared.types.Question.{Question}
 use Rattle.stack_equilibrium.specs.declared.types.Question.TheVariants.{Dead, Live}
 use Rattle.stack_equilibrium.specs.SurveyScene.{scene_of}
-use Rattle.stack_equations.specs.FreeBodies.{free_bodies}
-use Rattle.stack_equations.specs.Edges.{edge_on}
-use Rattle.stack_equations.specs.ByNumber.{live_on}
+use Rattle.stack_posing.specs.FreeBodies.{free_bodies}
+use Rattle.stack_posing.specs.Edges.{edge_on}
+use Rattle.stack_posing.specs.ByNumber.{live_on}
 use Rattle.stack_table.specs.declared.problem.Column.{Column}
 use Rattle.stack_table.specs.declared.problem.Entry.{Entry}
 use Rattle.stack_table.specs.declared.problem.Problem.{Problem as Lent}

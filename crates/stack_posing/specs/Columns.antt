@@ -6,7 +6,7 @@ use Rattle.stack_contact.specs.FreeBlocks.{frees_of}
 use Rattle.stack_equilibrium.specs.declared.types.Question.{Question}
 use Rattle.stack_equilibrium.specs.declared.types.Question.TheVariants.{Dead, Live}
 use Rattle.stack_equilibrium.specs.SurveyScene.{scene_of}
-use Rattle.stack_equations.specs.ByNumber.{live_on}
+use Rattle.stack_posing.specs.ByNumber.{live_on}
 use Rattle.stack_table.specs.declared.problem.Column.{Column}
 use Rattle.stack_table.specs.declared.problem.Entry.{Entry}
 use Rattle.stack_posing.specs.Posed.{row_share, column_on}

@@ -2,3 +2,8 @@ pub mod Posed
 pub mod PosedSurvey
 pub mod Entries
 pub mod Columns
+pub mod FreeBodies
+pub mod Edges
+pub mod Equations
+pub mod MovesByNumber
+pub mod ByNumber

@@ -6,9 +6,9 @@ use Rattle.stack_statics.specs.declared.wrench.Wrench.{Wrench}
 use Rattle.stack_equilibrium.specs.declared.types.Question.{Question}
 use Rattle.stack_equilibrium.specs.declared.types.Question.TheVariants.{Dead, Live}
 use Rattle.stack_statics.specs.Scene.{Scene}
-use Rattle.stack_equations.specs.FreeBodies.{free_at, free_bodies}
-use Rattle.stack_equations.specs.Edges.{edge_on}
-use Rattle.stack_equations.specs.ByNumber.{dead_on, live_on}
+use Rattle.stack_posing.specs.FreeBodies.{free_at, free_bodies}
+use Rattle.stack_posing.specs.Edges.{edge_on}
+use Rattle.stack_posing.specs.ByNumber.{dead_on, live_on}
 use Rattle.stack_table.specs.Table.{Shape}
 use Rattle.stack_table.specs.Problem.{Problem}
 

@@ -13,7 +13,7 @@ use Rattle.stack_contact.specs.Surveyed.{Surveyed}
 use Rattle.stack_certificate.specs.declared.types.Motion.{Motion}
 use Rattle.stack_statics.specs.Balance.{Carries}
 use Rattle.stack_equilibrium.specs.SurveyScene.{scene_of}
-use Rattle.stack_certified.specs.Laws.{TellsOfDeadLoads}
+use Rattle.stack_extract.specs.EndLaws.{TellsOfDeadLoads}
 use Rattle.stack_range.specs.declared.types.Side.TheVariants.{Greatest, Least}
 use Rattle.stack_range.specs.declared.types.End.{End}
 use Rattle.stack_range.specs.declared.types.RangeError.{RangeError}

@@ -12,15 +12,15 @@ use Rattle.stack_table.specs.WrittenTable.{written_table}
 use Rattle.stack_run.specs.WrittenRun.{End, over, written_run}
 use Rattle.stack_run.specs.ProblemRun.{run_at, IsNowhereTooWide, WiderRunIsSame}
 use Rattle.stack_rows.specs.declared.whole.Whole.{Ghosts}
-use Rattle.stack_last.specs.declared.kind.EndKind.{EndKind}
-use Rattle.stack_last.specs.declared.kind.EndKind.TheVariants.{Infeasible, Feasible, Optimal, Ray}
+use Rattle.stack_tableau.specs.declared.end_kind.EndKind.{EndKind}
+use Rattle.stack_tableau.specs.declared.end_kind.EndKind.TheVariants.{Infeasible, Feasible, Optimal, Ray}
 use Rattle.stack_revised.specs.declared.stops.RevisedStop.{RevisedStop}
 use Rattle.stack_revised.specs.declared.stops.RevisedStop.TheVariants.{TooWide, Spent, Unsettled, Memory}
 use Rattle.stack_tableau.specs.declared.stops.Stop.{Stop}
 use Rattle.stack_tableau.specs.declared.stops.Stop.TheVariants as stops
 use Rattle.stack_tableau.specs.Tells.{TellsEnd}
 use Rattle.stack_revised.specs.declared.last.Last.{Last}
-use Rattle.stack_last.specs.Ends.{end_at}
+use Rattle.stack_tableau.specs.EndKinds.{end_at}
 use Rattle.stack_revised.specs.Ended.{value_of_last, TellsLast, TellsNothing, tells_stop, stopped_as}
 
 -- the run of a table that is the written one is the run of its problem

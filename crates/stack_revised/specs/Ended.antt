@@ -4,8 +4,8 @@ use Rattle.stack_algebra.specs.Fraction.{Fraction}
 use Rattle.stack_table.specs.Table.{Shape, Tabled}
 use Rattle.stack_run.specs.WrittenRun.{End, wide, over}
 use Rattle.stack_rows.specs.declared.whole.Whole.{Ghosts}
-use Rattle.stack_last.specs.declared.kind.EndKind.{EndKind}
-use Rattle.stack_last.specs.declared.kind.EndKind.TheVariants.{Infeasible, Feasible, Optimal, Ray}
+use Rattle.stack_tableau.specs.declared.end_kind.EndKind.{EndKind}
+use Rattle.stack_tableau.specs.declared.end_kind.EndKind.TheVariants.{Infeasible, Feasible, Optimal, Ray}
 use Rattle.stack_revised.specs.declared.stops.RevisedStop.{RevisedStop}
 use Rattle.stack_revised.specs.declared.stops.RevisedStop.TheVariants.{TooWide, Spent, Unsettled, Memory}
 use Rattle.stack_tableau.specs.declared.stops.Stop.{Stop}
@@ -15,7 +15,7 @@ use Rattle.stack_revised.specs.declared.last.Last.{Last}
 use Rattle.stack_revised.specs.declared.ended.RevisedEnd.{RevisedEnd}
 use Rattle.stack_revised.specs.declared.ended.RevisedEnd.TheVariants.{AtNarrow, AtWide}
 use Rattle.stack_inverse.specs.Seen.{shape_of_revised, table_of_revised}
-use Rattle.stack_last.specs.Ends.{end_at}
+use Rattle.stack_tableau.specs.EndKinds.{end_at}
 
 -- the last table's shape
 abbrev pub shape_of_last : {V : Type 0} {number : Ghosts V} → Last V number → Shape

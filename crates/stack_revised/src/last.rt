@@ -3,11 +3,11 @@
 ghost use Rattle.std.specs.Prelude.{◌≡◌, ℕ, ◌<◌, length};
 ghost use Rattle.stack_rows.specs.RowForm.{number_at};
 ghost use Rattle.stack_inverse.specs.Seen.{shape_of_revised, number_in};
-ghost use Rattle.stack_last.specs.declared.kind.EndKind.TheVariants as end_kind;
+ghost use Rattle.stack_tableau.specs.declared.end_kind.EndKind.TheVariants as end_kind;
 
 use stack_inverse::revised_table::RevisedTable;
-use stack_last::EndKind;
 use stack_rows::whole::Whole;
+use stack_tableau::EndKind;
 
 /// How a run ends, and its last table.
 #[derive(Drop)]

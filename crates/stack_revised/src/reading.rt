@@ -7,10 +7,10 @@ ghost use Rattle.stack_revised.specs.Ended.{shape_of_end, table_of_end, flips_of
 
 use crate::ended::RevisedEnd;
 use crate::last::Last;
-use stack_last::LastTable;
 use stack_rational::Frac;
 use stack_rows::cells::cell;
 use stack_rows::whole::Whole;
+use stack_tableau::LastTable;
 
 impl<T: Whole> LastTable for Last<T> {
     ghost shape = { λ l. shape_of_last l };

@@ -11,8 +11,8 @@ ghost use Rattle.stack_inverse.specs.Seen.{shape_of_revised, table_of_revised, n
 ghost use Rattle.stack_inverse.specs.FirstTable.{flips};
 ghost use Rattle.stack_revised.specs.Ended.{shape_of_last, flips_of_last, value_of_last, shape_of_end, flips_of_end};
 ghost use Rattle.stack_revised.specs.Ended.{TellsLast, Tells, TellsNothing, stopped_as};
-ghost use Rattle.stack_last.specs.Ends.{end_at};
-ghost use Rattle.stack_last.specs.declared.kind.EndKind.TheVariants as end_kind;
+ghost use Rattle.stack_tableau.specs.EndKinds.{end_at};
+ghost use Rattle.stack_tableau.specs.declared.end_kind.EndKind.TheVariants as end_kind;
 ghost use Rattle.stack_revised.specs.declared.stops.RevisedStop.TheVariants as revised_stop;
 
 use crate::ended::RevisedEnd;
@@ -21,13 +21,12 @@ use crate::stops::RevisedStop;
 use crate::tableau::Revised;
 use stack_inverse::revised_table::RevisedTable;
 use stack_inverse::stops::NoTable;
-use stack_last::EndKind;
 use stack_rows::narrow::Narrow;
 use stack_rows::whole::Whole;
 use stack_rows::wide::Wide;
 use stack_run::wider_run_law;
 use stack_table::problem::Problem;
-use stack_tableau::{Stop, run_table};
+use stack_tableau::{EndKind, Stop, run_table};
 use std::alloc::Global;
 
 /// Whether each row is flipped.

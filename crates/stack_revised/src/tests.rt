@@ -2,10 +2,10 @@
 
 use crate::ended::RevisedEnd;
 use crate::{RevisedStop, run_revised};
-use stack_last::EndKind;
 use stack_run::RunPlace;
 use stack_table::problem::{Column, Entry, Problem};
 use stack_table::types::Step;
+use stack_tableau::EndKind;
 use std::alloc::{AllocError, Global};
 use std::test::Fail;
 

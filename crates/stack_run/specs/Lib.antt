@@ -2,3 +2,12 @@ pub mod WrittenRun
 pub mod ProblemRun
 pub mod EndNumbers
 pub mod PhaseStops
+pub mod LeavingRow
+pub mod Balance
+pub mod PhaseTables
+pub mod FourEnds
+pub mod EndLaws
+pub mod BasicSets
+pub mod Reached
+pub mod Enough
+pub mod CircleLaws

@@ -9,10 +9,10 @@ use Rattle.stack_table.specs.Problem.{Problem}
 use Rattle.stack_table.specs.Lent.{problem_of}
 use Rattle.stack_run.specs.WrittenRun.{End, over}
 use Rattle.stack_run.specs.WrittenRun.{written_run}
-use Rattle.stack_duality.specs.FourEnds.{EndGives}
-use Rattle.stack_duality.specs.Laws.{EndsGive}
-use Rattle.stack_circles.specs.Enough.{enough_of}
-use Rattle.stack_circles.specs.Laws.{EnoughSuffices}
+use Rattle.stack_run.specs.FourEnds.{EndGives}
+use Rattle.stack_run.specs.EndLaws.{EndsGive}
+use Rattle.stack_run.specs.Enough.{enough_of}
+use Rattle.stack_run.specs.CircleLaws.{EnoughSuffices}
 use Rattle.stack_tableau.specs.Written.{IsTableOf, IsWrittenTable}
 
 module _ (max : ℤ) (S : Shape) (T : Tabled Fraction) (budget : ℕ) where

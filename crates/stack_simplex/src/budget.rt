@@ -1,7 +1,7 @@
 //! A budget of pivots that is never spent.
 
 ghost use Rattle.std.specs.Prelude.{◌≡◌};
-ghost use Rattle.stack_circles.specs.Enough.{enough_of};
+ghost use Rattle.stack_run.specs.Enough.{enough_of};
 
 /// The most columns whose bound fits 32 bits.
 const MOST_COLUMNS: usize = 30;

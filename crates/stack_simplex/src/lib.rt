@@ -20,26 +20,24 @@ ghost use Rattle.stack_table.specs.Table.{columns};
 ghost use Rattle.stack_table.specs.Problem.{Problem};
 ghost use Rattle.stack_table.specs.Seen.{shape_of_table, table_of, flips_of};
 ghost use Rattle.stack_run.specs.WrittenRun.{written_run};
-ghost use Rattle.stack_duality.specs.FourEnds.{EndGives};
-ghost use Rattle.stack_circles.specs.Enough.{enough_of};
+ghost use Rattle.stack_run.specs.FourEnds.{EndGives};
+ghost use Rattle.stack_run.specs.Enough.{enough_of};
 ghost use Rattle.stack_simplex.specs.declared.refusal.RunError.TheVariants.{Spent};
 ghost use Rattle.stack_tableau.specs.Written.{IsTableOf, IsWrittenTable};
-ghost use Rattle.stack_simplex.specs.Ends.{last_of, run_end};
+ghost use Rattle.stack_tableau.specs.LastTables.{last_of};
+ghost use Rattle.stack_simplex.specs.Ends.{run_end};
 
 mod budget;
-mod ended;
 mod refusal;
 
 pub use budget::enough;
-pub use ended::Ended;
 pub use refusal::RunError;
-use stack_circles::budget_law;
-use stack_duality::run_laws;
-use stack_last::EndKind;
 use stack_rational::Exact;
 pub use stack_run::RunPlace;
+use stack_run::{budget_law, run_laws};
 use stack_table::Table;
-use stack_tableau::{Stop, run_table};
+pub use stack_tableau::Ended;
+use stack_tableau::{EndKind, Stop, run_table};
 
 /// The run by its three phases.
 fn run_phases<S: Exact>(t: Table<S>, budget: u32) -> Result<Ended<S>, RunError>

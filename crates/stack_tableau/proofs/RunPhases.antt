@@ -15,8 +15,8 @@ use Rattle.stack_run.specs.WrittenRun.{PhaseStop, settled, unlimited, turns, dri
 use Rattle.stack_run.specs.WrittenRun.{infeasible, after_phase, raise, third_end, past_first, first_end, written_run}
 use Rattle.stack_run.specs.PhaseStops.{spot_of}
 use Rattle.stack_run.specs.declared.pivots.Pivots.{Pivots}
-use Rattle.stack_duality.specs.Laws.{SomeRowLeaves}
-use Rattle.stack_duality.proofs.Turn.{drives_on, drives_too_wide, drives_spent}
+use Rattle.stack_run.specs.EndLaws.{SomeRowLeaves}
+use Rattle.stack_run.proofs.OneTurn.{drives_on, drives_too_wide, drives_spent}
 use Rattle.stack_tableau.specs.declared.stops.Stop.{Stop}
 use Rattle.stack_tableau.specs.declared.stops.Stop.TheVariants.{TooWide, Spent, Unsettled}
 use Rattle.stack_tableau.specs.Tells.{TellsStop, TellsEnd}

@@ -17,7 +17,7 @@ use Rattle.stack_run.specs.WrittenRun.{Choice, stays, rises, due, refused, Phase
 use Rattle.stack_run.specs.WrittenRun.{spent, on_spot, on_choice, chosen_at, chosen_in, choose, turns}
 use Rattle.stack_run.specs.declared.pivots.Pivots.{Pivots}
 use Rattle.stack_run.specs.PhaseStops.{spot_of, IsPivoted, phase_from}
-use Rattle.stack_duality.proofs.BestRow.{best-some}
+use Rattle.stack_run.proofs.BestRow.{best-some}
 use Rattle.stack_tableau.specs.declared.stops.Refusal.{Refusal}
 use Rattle.stack_tableau.specs.declared.stops.Refusal.TheVariants as refusals
 use Rattle.stack_tableau.specs.declared.stops.Stop.{Stop}

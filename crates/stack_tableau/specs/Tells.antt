@@ -14,8 +14,8 @@ use Rattle.stack_tableau.specs.declared.stops.Refusal.{Refusal}
 use Rattle.stack_tableau.specs.declared.stops.Refusal.TheVariants as refusals
 use Rattle.stack_tableau.specs.declared.stops.Stop.{Stop}
 use Rattle.stack_tableau.specs.declared.stops.Stop.TheVariants.{TooWide, Spent, Unsettled}
-use Rattle.stack_last.specs.declared.kind.EndKind.{EndKind}
-use Rattle.stack_last.specs.Ends.{end_at}
+use Rattle.stack_tableau.specs.declared.end_kind.EndKind.{EndKind}
+use Rattle.stack_tableau.specs.EndKinds.{end_at}
 use Rattle.stack_tableau.specs.declared.choices.Chosen.{Chosen}
 use Rattle.stack_tableau.specs.declared.choices.Chosen.TheVariants.{Stays, Rises, Due}
 

@@ -1,4 +1,5 @@
-//! The simplex run over any table that answers what its phases ask: three phases to one of four ends.
+//! The simplex run over any table that answers what its phases ask: three phases to one of four ends. And what is asked
+//! of the last table of a run, whatever stores it.
 //!
 //! ```text
 //! match run_table(&mut table, budget) {
@@ -11,12 +12,18 @@
 #![tactic(auto)]
 
 pub mod choices;
+mod end_kind;
+mod ended;
+mod last_table;
 pub mod phases;
 mod plain;
 pub mod stops;
 pub mod tableau;
 pub mod turn;
 
+pub use end_kind::EndKind;
+pub use ended::Ended;
+pub use last_table::LastTable;
 pub use phases::run_table;
 pub use stops::{Refusal, Stop};
 pub use tableau::Tableau;

@@ -10,12 +10,11 @@ ghost use Rattle.stack_tableau.specs.Answers.{IsAnswered};
 ghost use Rattle.stack_tableau.specs.Tells.{TellsPivot, TellsPivots, TellsPhase, TellsRun};
 ghost use Rattle.stack_tableau.specs.Written.{IsWrittenTable};
 
+use crate::EndKind;
 use crate::stops::Stop;
 use crate::tableau::Tableau;
 use crate::turn::{due_pivot, run_phase};
-use stack_duality::run_laws;
-use stack_last::EndKind;
-use stack_run::{PhaseEnd, Pivots};
+use stack_run::{PhaseEnd, Pivots, run_laws};
 
 /// Phase 1 of a written table, within a budget: the artificial columns are driven to 0 as far as the contact columns
 /// can.

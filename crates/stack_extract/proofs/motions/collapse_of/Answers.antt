@@ -1,5 +1,5 @@
 use Rattle.std.proofs.Common.{length, ap, ◌∙◌}
-use Rattle.stack_certified.specs.WrittenLists.{collapse_number}
+use Rattle.stack_extract.specs.WrittenLists.{collapse_number}
 use Rattle.stack_algebra.proofs.Listed.{length_listed}
 use Rattle.stack_extract.proofs.motions.collapse_of.Goals as goal
 

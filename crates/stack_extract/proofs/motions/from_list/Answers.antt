@@ -1,7 +1,7 @@
 use Rattle.std.proofs.Common.{List, ap, ◌∙◌, arith}
 use lib.IntN.{ℤ}
 use Rattle.stack_whole.specs.Whole.{fits}
-use Rattle.stack_certified.specs.WholeLists.{amount}
+use Rattle.stack_extract.specs.WholeLists.{amount}
 use Rattle.stack_extract.specs.declared.types.Numbers.TheVariants.{Motion}
 use Rattle.stack_extract.proofs.Made.{each_fits, as_many}
 use Rattle.stack_extract.proofs.motions.from_list.Goals as goal

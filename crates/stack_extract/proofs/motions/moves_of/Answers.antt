@@ -1,6 +1,6 @@
 use Rattle.stack_table.specs.Problem.{turned}
-use Rattle.stack_certified.specs.WholeLists.{amount}
-use Rattle.stack_certified.specs.Certified.{triple_at}
+use Rattle.stack_extract.specs.WholeLists.{amount}
+use Rattle.stack_extract.specs.Certified.{triple_at}
 use Rattle.stack_extract.proofs.TableReads.{grown}
 use Rattle.stack_extract.proofs.motions.moves_of.Goals as goal
 

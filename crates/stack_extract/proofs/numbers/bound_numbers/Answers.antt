@@ -1,4 +1,4 @@
-use Rattle.stack_certified.specs.WrittenLists.{bound_number}
+use Rattle.stack_extract.specs.WrittenLists.{bound_number}
 use Rattle.stack_extract.proofs.TableReads.{grown}
 use Rattle.stack_extract.proofs.numbers.bound_numbers.Goals as goal
 

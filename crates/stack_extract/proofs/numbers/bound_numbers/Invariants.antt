@@ -1,6 +1,6 @@
 use Rattle.std.proofs.Common.{◌≡◌}
 use Rattle.stack_algebra.specs.Listed.{listed}
-use Rattle.stack_certified.specs.WrittenLists.{bound_number}
+use Rattle.stack_extract.specs.WrittenLists.{bound_number}
 use Rattle.stack_extract.proofs.numbers.bound_numbers.Given as goal
 
 abbrev pub invariant-loop-row : goal.invariant-loop-row

@@ -1,5 +1,5 @@
 use Rattle.std.proofs.Common.{suc, arith}
-use Rattle.stack_certified.specs.WrittenLists.{forces_number}
+use Rattle.stack_extract.specs.WrittenLists.{forces_number}
 use Rattle.stack_extract.proofs.TableReads.{grown, whole}
 use Rattle.stack_extract.proofs.numbers.forces_numbers.Goals as goal
 

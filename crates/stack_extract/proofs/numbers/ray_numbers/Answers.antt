@@ -1,5 +1,5 @@
 use Rattle.std.proofs.Common.{suc, arith}
-use Rattle.stack_certified.specs.WrittenLists.{ray_number}
+use Rattle.stack_extract.specs.WrittenLists.{ray_number}
 use Rattle.stack_extract.proofs.TableReads.{grown, whole}
 use Rattle.stack_extract.proofs.numbers.ray_numbers.Goals as goal
 

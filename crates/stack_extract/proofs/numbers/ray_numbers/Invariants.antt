@@ -1,6 +1,6 @@
 use Rattle.std.proofs.Common.{◌≡◌}
 use Rattle.stack_algebra.specs.Listed.{listed}
-use Rattle.stack_certified.specs.WrittenLists.{ray_number}
+use Rattle.stack_extract.specs.WrittenLists.{ray_number}
 use Rattle.stack_extract.proofs.numbers.ray_numbers.Given as goal
 
 abbrev pub invariant-loop-column : goal.invariant-loop-column

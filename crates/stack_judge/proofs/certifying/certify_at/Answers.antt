@@ -1,6 +1,6 @@
 use Rattle.std.proofs.Common.{refl, sym, subst, ◌≤◌}
 use Rattle.stack_certificate.specs.Certificate.{certificate_view}
-use Rattle.stack_last.specs.Ends.{end_at}
+use Rattle.stack_tableau.specs.EndKinds.{end_at}
 use Rattle.stack_judge.proofs.TrueAnswers.{judged}
 use Rattle.stack_judge.proofs.certifying.certify_at.Goals as goal
 

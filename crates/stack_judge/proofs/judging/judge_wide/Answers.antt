@@ -1,6 +1,7 @@
 use Rattle.std.proofs.Common.{sym, subst, Err}
 use Rattle.stack_rational.specs.Laws.{widest}
-use Rattle.stack_simplex.specs.Ends.{ended_as, refused_as}
+use Rattle.stack_tableau.specs.LastTables.{ended_as}
+use Rattle.stack_simplex.specs.Ends.{refused_as}
 use Rattle.stack_judge.proofs.Judgements.{runs_survey, end_of_survey, ended_judges, run_refused}
 use Rattle.stack_judge.specs.Judgement.{Judges}
 use Rattle.stack_judge.proofs.judging.judge_wide.Goals as goal

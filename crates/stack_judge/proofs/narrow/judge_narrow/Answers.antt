@@ -1,6 +1,7 @@
 use Rattle.std.proofs.Common.{◌≡◌, true, subst, sym, ap, ◌∙◌}
 use Rattle.std.specs.Prelude.{IfSome, is_some}
-use Rattle.stack_simplex.specs.Ends.{ended_as, refused_as}
+use Rattle.stack_tableau.specs.LastTables.{ended_as}
+use Rattle.stack_simplex.specs.Ends.{refused_as}
 use Rattle.stack_simplex.specs.declared.refusal.RunError.TheVariants as runs
 use Rattle.stack_judge.specs.Certifying.{IsTableOfSurvey}
 use Rattle.stack_judge.specs.NarrowWork.{narrow, narrow_place, has_no_place, is_nowhere_too_wide, is_narrow}

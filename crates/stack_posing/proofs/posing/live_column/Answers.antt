@@ -1,6 +1,6 @@
 use Rattle.std.proofs.Common.{◌<◌, subst}
 use Rattle.stack_equilibrium.specs.SurveyScene.{scene_of}
-use Rattle.stack_equations.specs.ByNumber.{live_on}
+use Rattle.stack_posing.specs.ByNumber.{live_on}
 use Rattle.stack_posing.proofs.PosedParts.{next_block}
 use Rattle.stack_posing.proofs.posing.live_column.Goals as goal
 

@@ -1,6 +1,6 @@
 use Rattle.std.proofs.Common.{◌*◌}
 use Rattle.stack_equilibrium.specs.SurveyScene.{scene_of}
-use Rattle.stack_equations.specs.ByNumber.{live_on}
+use Rattle.stack_posing.specs.ByNumber.{live_on}
 use Rattle.stack_posing.specs.Posed.{row_share}
 use Rattle.stack_posing.specs.Entries.{AreEntries}
 use Rattle.stack_posing.proofs.posing.live_column.Given as goal

@@ -1,7 +1,7 @@
 use Rattle.std.proofs.Common.{◌≡◌, false, rules}
 use Rattle.stack_model.specs.Structure.{body_at}
 use Rattle.stack_equilibrium.specs.SurveyScene.{scene_of}
-use Rattle.stack_equations.specs.Edges.{edge_on}
+use Rattle.stack_posing.specs.Edges.{edge_on}
 use Rattle.stack_posing.proofs.TwoBodies.{free_answer}
 use Rattle.stack_posing.proofs.posing.with_body.Goals as goal
 

@@ -10,7 +10,7 @@ use Rattle.stack_algebra.specs.Fraction.{Fraction}
 use mathlib.Core.Path.{subst₂}
 use Rattle.stack_revised.specs.declared.last.Last.{Last}
 use Rattle.stack_inverse.specs.Seen.{shape_of_revised, table_of_revised}
-use Rattle.stack_last.specs.Ends.{end_at}
+use Rattle.stack_tableau.specs.EndKinds.{end_at}
 use Rattle.stack_inverse.specs.FirstTable.{flips}
 use Rattle.stack_revised.specs.Ended.{flips_of_last, value_of_last, tells_stop}
 use Rattle.stack_revised.proofs.EndedRuns.{run_is, tells_last, stop_told, if_ok}

@@ -1,5 +1,5 @@
 use Rattle.std.proofs.Common.{arith}
-use Rattle.stack_circles.proofs.Budgets.{shifted}
+use Rattle.stack_run.proofs.Budgets.{shifted}
 use Rattle.stack_simplex.proofs.budget.enough.Goals as goal
 
 pub returns : goal.returns

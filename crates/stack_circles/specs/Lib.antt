@@ -1,4 +1,0 @@
-pub mod BasicSets
-pub mod Reached
-pub mod Enough
-pub mod Laws

@@ -1,5 +1,0 @@
-pub mod FreeBodies
-pub mod EdgeSums
-pub mod Solutions
-pub mod Moves
-pub mod ByNumber
