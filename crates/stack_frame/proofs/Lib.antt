@@ -1,4 +1,3 @@
-pub mod DivisionSteps
 pub mod LowestTerms
 pub mod FramesOfDirections
 pub mod LesserCones

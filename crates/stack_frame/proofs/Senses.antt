@@ -9,7 +9,7 @@ use Rattle.std.proofs.lemmas.Int.{ints}
 use Rattle.stack_algebra.specs.Gcd.{gcd}
 use Rattle.stack_algebra.specs.IntegerOrder.{◌≼◌, ◌≺◌}
 use Rattle.stack_algebra.proofs.Integers.{sums, expand}
-use Rattle.stack_algebra.proofs.Order.{mul_nonneg, mul_pos, square_nonneg}
+use Rattle.stack_algebra.proofs.Order.{mul_pos, square_nonneg}
 use Rattle.stack_algebra.proofs.CommonDivisor.{gcd-left, gcd-right, gcd-swap}
 use Rattle.stack_algebra.proofs.CrossProducts.{cancel, positive_cancel}
 use Rattle.stack_frame.specs.declared.frame.Frame.{Frame}

@@ -1,13 +1,14 @@
 -- Divisors of odd numbers, and the greatest common divisor with the factors of 2 taken out.
 use mathlib.Core.Path.{◌≡◌, refl, sym, ap, subst, subst₂, ◌∙◌}
-use Prim.Native.Nat.{ℕ, zero, suc, ◌+◌, ◌-◌, ◌*◌, ◌/◌, ◌%◌, ◌^◌, ◌<◌, ◌≤◌, ◌∣◌}
+use Prim.Native.Nat.{ℕ, zero, suc, ◌+◌, ◌-◌, ◌*◌, ◌/◌, ◌%◌, ◌^◌, ◌<◌, ◌≤◌, ◌∣◌, min}
 use native.Mathlib.Nat.{dvd_refl, dvd_trans, dvd-one, dvd-mul_right, dvd-mul_right_of_dvd, dvd-add, dvd-add_iff_right}
 use native.Mathlib.Nat.{mod-eq-zero_of_dvd, le_of_dvd, mul-dvd-mul_right, mod-add-div, eq-zero_of_zero-dvd}
 use native.Mathlib.Nat.{mod-eq_of_lt}
+use native.Mathlib.Decide.{dec_lt}
 use native.Mathlib.Omega.{arith}
 use Rattle.std.proofs.Math.Nat.{pow-suc, pow-succ', div-div-eq-div-mul}
 use Rattle.std.proofs.lemmas.Nat.{pow-add}
-use Rattle.std.specs.Int.{IsGcd, bit_at}
+use Rattle.std.specs.Int.{IsGcd, abs_diff, bit_at}
 use Rattle.std.proofs.lemmas.Nat.Gcd.{same_from_IsGcd}
 use Rattle.stack_algebra.specs.Gcd.{gcd}
 use Rattle.stack_algebra.proofs.CommonDivisor.{gcd-is, gcd-left, gcd-right, gcd-product, gcd-scaled, dvd_of_gcd-one}
@@ -53,17 +54,89 @@ without_twos p q k d o h m = dvd_of_gcd-one (2 ^ k) d q (powers_apart k d (odd_d
     turn : (x y : ℕ) → x * y ≡ y * x
     turn x y = omega arith
 
--- a step of the loop: y less x without its factors of 2
-pub odd_step : (x y z k n : ℕ) → x % 2 ≡ 1 → x < y → y - x ≡ z * 2 ^ k → IsGcd x z n → IsGcd x y n
-odd_step x y z k n o l e is = (
-  is.0,
-  subst (λ t. n ∣ t) (whole x y l) (dvd-add n is.0 (subst (λ t. n ∣ t) (sym e) (dvd-mul_right_of_dvd n is.1 (2 ^ k)))),
-  λ d h m. is.2 d h (without_twos x z k d o h
-      (subst (λ t. d ∣ t) e ((dvd-add_iff_right d h).1 (subst (λ t. d ∣ t) (sym (whole x y l)) m)))),
+-- the lesser of two odd numbers is odd
+pub odd_lesser : (x z m : ℕ) → x % 2 ≡ 1 → z % 2 ≡ 1 → m ≡ min x z → m % 2 ≡ 1
+odd_lesser x z m o p is = go (dec_lt x z)
+  where
+    go : Dec (x < z) → m % 2 ≡ 1
+    go (yes l) = omega (arith, o, is, l)
+    go (no l) = omega (arith, p, is, l)
+
+-- what divides the lesser of two numbers and their difference divides both
+of_difference : (x z e : ℕ) → e ∣ min x z → e ∣ abs_diff x z → (e ∣ x) × (e ∣ z)
+of_difference x z e h d = go (dec_lt x z)
+  where
+    go : Dec (x < z) → (e ∣ x) × (e ∣ z)
+    go (yes l) = (subst (λ n. e ∣ n) first h, subst (λ n. e ∣ n) both (dvd-add e h d))
+      where
+        first : min x z ≡ x
+        first = omega (arith, l)
+
+        both : min x z + abs_diff x z ≡ z
+        both = omega (arith, l)
+    go (no l) = (subst (λ n. e ∣ n) both (dvd-add e h d), subst (λ n. e ∣ n) second h)
+      where
+        second : min x z ≡ z
+        second = omega (arith, l)
+
+        both : min x z + abs_diff x z ≡ x
+        both = omega (arith, l)
+
+-- and the other way round
+to_difference : (x z e : ℕ) → e ∣ x → e ∣ z → (e ∣ min x z) × (e ∣ abs_diff x z)
+to_difference x z e h k = go (dec_lt x z)
+  where
+    go : Dec (x < z) → (e ∣ min x z) × (e ∣ abs_diff x z)
+    go (yes l) = (subst (λ n. e ∣ n) (sym least) h, (dvd-add_iff_right e h).1 (subst (λ n. e ∣ n) (sym both) k))
+      where
+        least : min x z ≡ x
+        least = omega (arith, l)
+
+        both : x + abs_diff x z ≡ z
+        both = omega (arith, l)
+    go (no l) = (subst (λ n. e ∣ n) (sym least) k, (dvd-add_iff_right e k).1 (subst (λ n. e ∣ n) (sym both) h))
+      where
+        least : min x z ≡ z
+        least = omega (arith, l)
+
+        both : z + abs_diff x z ≡ x
+        both = omega (arith, l)
+
+-- a step of the loop: of an odd number and another without its factors of 2 the lesser and the difference are taken
+pub odd_step : (x y z k m d n : ℕ) → x % 2 ≡ 1 → z * 2 ^ k ≡ y → m ≡ min x z → d ≡ abs_diff x z → IsGcd m d n
+    → IsGcd x y n
+odd_step x y z k m d n o e em ed is = (
+  both.0,
+  subst (λ t. n ∣ t) e (dvd-mul_right_of_dvd n both.1 (2 ^ k)),
+  λ c h l. let parts = to_difference x z c h (without_twos x z k c o h (subst (λ t. c ∣ t) (sym e) l)) in
+      is.2 c (subst (λ t. c ∣ t) (sym em) parts.0) (subst (λ t. c ∣ t) (sym ed) parts.1),
 )
   where
-    whole : (x y : ℕ) → x < y → x + (y - x) ≡ y
-    whole x y l = omega arith
+    both : (n ∣ x) × (n ∣ z)
+    both = of_difference x z n (subst (λ t. n ∣ t) em is.0) (subst (λ t. n ∣ t) ed is.1)
+
+-- and the numbers together fall: both are positive, and the greater one isn't greater than before
+pub step_falls : (x y z k m d : ℕ) → x % 2 ≡ 1 → z % 2 ≡ 1 → z * 2 ^ k ≡ y → m ≡ min x z → d ≡ abs_diff x z
+    → m + d < x + y
+step_falls x y z k m d o p e em ed = go (dec_lt x z)
+  where
+    power : (k : ℕ) → 1 ≤ 2 ^ k
+    power zero = omega arith
+    power (suc k) = omega (arith, power k, pow-suc 2 k)
+
+    least : (a b : ℕ) → 1 ≤ b → a ≤ a * b
+    least a zero l = absurd (omega arith)
+    least a (suc b) l = omega (arith, mul-suc a b)
+      where
+        mul-suc : (a b : ℕ) → a * suc b ≡ a + a * b
+        mul-suc a b = omega arith
+
+    grows : z ≤ y
+    grows = subst (λ t. z ≤ t) e (least z (2 ^ k) (power k))
+
+    go : Dec (x < z) → m + d < x + y
+    go (yes l) = omega (arith, o, em, ed, l, grows)
+    go (no l) = omega (arith, p, em, ed, l, grows)
 
 -- the factors of 2 are put back, where the first number has no more of them
 pub with_twos : (p q i j g : ℕ) → p % 2 ≡ 1 → i ≤ j → IsGcd p q g → IsGcd (p * 2 ^ i) (q * 2 ^ j) (g * 2 ^ i)
@@ -99,10 +172,6 @@ multiple_of_power (suc k) n h = (λ t. n / pow-suc 2 k t * pow-suc 2 k t)
 
     doubled : (a b : ℕ) → a % 2 ≡ 0 → a / 2 * (b * 2) ≡ a * b
     doubled a b e = omega (arith, ap (λ z. z * b) (half a e))
-
--- a number is its own divisor
-pub of_same : (x y : ℕ) → x ≡ y → IsGcd x y x
-of_same x y e = (dvd_refl x, subst (λ z. x ∣ z) e (dvd_refl x), λ d h k. h)
 
 -- a shift that loses nothing, since it gives a divisor
 pub shifted_divisor : (a b p q i j g : ℕ) → 0 < a → a < 2 ^ 64 → p * 2 ^ i ≡ a → q * 2 ^ j ≡ b → p % 2 ≡ 1 →

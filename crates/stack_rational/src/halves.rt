@@ -1,6 +1,7 @@
 //! The greatest common divisor of numbers without a sign. By remainders until both numbers have 64 bits, and then
 //! by halves: a remainder costs many times what a shift does.
 
+ghost use Prim.Native.Nat.{min};
 ghost use Rattle.std.specs.Prelude.{◌≡◌, ◌<◌, ◌%◌, ◌*◌, ◌^◌};
 ghost use Rattle.std.specs.Int.{IsGcd};
 
@@ -24,20 +25,25 @@ fn without_twos(n: u64) -> OddPart
     }
 }
 
-/// The greatest common divisor of two odd numbers.
-fn divisor_of_odds(a: u64, b: u64) -> u64
-    requires a { a % 2 ≡ 1 }
-    requires b { b % 2 ≡ 1 }
-    ensures { IsGcd a b result }
+/// The lesser of two numbers.
+fn lesser(x: u64, y: u64) -> u64
+    ensures { result ≡ min x y }
 {
-    let mut x = a;
-    let mut y = b;
-    'steps: while x != y {
-        if x < y {
-            y = without_twos(y - x).odd;
-        } else {
-            x = without_twos(x - y).odd;
-        }
+    if x < y { x } else { y }
+}
+
+/// The greatest common divisor of an odd number and another one, by differences: a choice without a branch is faster
+/// than the step that takes the lesser number from the greater.
+fn divisor_of_odd(odd: u64, other: u64) -> u64
+    requires { odd % 2 ≡ 1 }
+    ensures { IsGcd odd other result }
+{
+    let mut x = odd;
+    let mut y = other;
+    'steps: while y != 0 {
+        let part = without_twos(y).odd;
+        y = x.abs_diff(part);
+        x = lesser(x, part);
     }
     x
 }
@@ -54,7 +60,7 @@ pub fn divisor_of_words(a: u64, b: u64) -> u64
     }
     let left = without_twos(a);
     let right = without_twos(b);
-    let odd = divisor_of_odds(left.odd, right.odd);
+    let odd = divisor_of_odd(left.odd, right.odd);
     if left.twos <= right.twos {
         odd << left.twos
     } else {

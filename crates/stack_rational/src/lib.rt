@@ -19,6 +19,7 @@ mod scale;
 
 pub use exact::{Exact, Op, OpWide};
 pub use frac::Frac;
+pub use halves::{divisor_of, divisor_of_words};
 pub use integer::Integer;
 pub use laws::{fraction_fitting_law, order_law, wider_law};
 pub use of_wholes::{over, whole};

@@ -10,7 +10,6 @@
 #![tactic(auto)]
 
 pub mod cells;
-mod common;
 pub mod factors;
 pub mod narrow;
 mod narrowing;
@@ -19,3 +18,4 @@ pub mod row;
 pub mod whole;
 pub mod wide;
 mod widening;
+mod words;

@@ -2,10 +2,11 @@
 
 ghost use Rattle.std.specs.Prelude.{◌≡◌, ◌≤◌, ◌≤ℤ◌, ◌+◌, ◌*◌, ◌^◌, ◌-◌, ◌*ℤ◌, ◌-ℤ◌, pos, unsigned_abs, IfSome};
 
-use crate::common::{of_numbers, word_inverse, word_step};
 use crate::products::{Ratios, compare};
 use crate::whole::{Divider, Whole};
 use crate::wide::Wide;
+use crate::words::{word_inverse, word_step};
+use stack_rational::divisor_of;
 use std::cmp::Ordering;
 
 fn wide(n: i128) -> Option<Wide>
@@ -219,7 +220,7 @@ impl Whole for Wide {
     }
 
     fn divisor(self, other: Self) -> Self {
-        let common = of_numbers(self.number.unsigned_abs(), other.number.unsigned_abs());
+        let common = divisor_of(self.number.unsigned_abs(), other.number.unsigned_abs());
         match Self::of_size(common) {
             Some(number) => number,
             None => Wide { number: 1 },

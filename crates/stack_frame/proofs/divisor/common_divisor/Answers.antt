@@ -1,9 +1,8 @@
-use Rattle.std.proofs.Common.{◌∙◌, arith}
-use Rattle.stack_frame.proofs.DivisionSteps.{gcd-step, gcd-done}
+use Rattle.std.proofs.lemmas.Nat.Gcd.{same_from_IsGcd}
+use Rattle.stack_algebra.specs.Gcd.{gcd}
+use Rattle.stack_algebra.proofs.CommonDivisor.{gcd-is}
 use Rattle.stack_frame.proofs.divisor.common_divisor.Goals as goal
 
-pub loop-lesser-preserved : goal.loop-lesser-preserved
-loop-lesser-preserved c = gcd-step _ _ c.loop-lesser-test.true ∙ c.loop-lesser.invariant
-
 pub returns : goal.returns
-returns c = gcd-done _ _ _ (omega arith) c.loop-lesser.invariant
+returns c = same_from_IsGcd c.args.a c.args.b c.divisor_of_words.result (gcd c.args.a c.args.b)
+    c.divisor_of_words.ensures (gcd-is c.args.a c.args.b)

@@ -12,7 +12,7 @@ returns-clause-own c = elim c.match-of_size.branch [
   | in-Some k ↦
       let fits : SFits w128 c.args.self.number = search rules in
       let size = c.unsigned_abs.ensures.value ∙ ap unsigned_abs (to_z-of_z fits) in
-      rw k.result-is (sized_divisor (sym k.in-Some.ensures) size c.of_numbers-common.ensures.left)
+      rw k.result-is (sized_divisor (sym k.in-Some.ensures) size c.divisor_of-common.ensures.0)
   | in-None k ↦ rw k.result-is (one-dvd _)
 ]
 
@@ -21,6 +21,6 @@ returns-clause-other c = elim c.match-of_size.branch [
   | in-Some k ↦
       let fits : SFits w128 c.args.other.number = search rules in
       let size = c.unsigned_abs-2.ensures.value ∙ ap unsigned_abs (to_z-of_z fits) in
-      rw k.result-is (sized_divisor (sym k.in-Some.ensures) size c.of_numbers-common.ensures.right)
+      rw k.result-is (sized_divisor (sym k.in-Some.ensures) size c.divisor_of-common.ensures.1)
   | in-None k ↦ rw k.result-is (one-dvd _)
 ]

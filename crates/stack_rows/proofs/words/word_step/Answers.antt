@@ -1,6 +1,6 @@
 use mir.Syntax.{w64}
 use Rattle.stack_rows.proofs.Casts.{cast_step, cast_step_fits}
-use Rattle.stack_rows.proofs.common.word_step.Goals as goal
+use Rattle.stack_rows.proofs.words.word_step.Goals as goal
 
 pub returns-clause-value : goal.returns-clause-value
 returns-clause-value c = cast_step w64 c.args.number c.args.other c.args.k c.args.t c.word_product-left.result
