@@ -12,3 +12,5 @@ pub mod Sound
 pub mod Taken
 pub mod Borne
 pub mod JointLaws
+pub mod Keeping
+pub mod Part

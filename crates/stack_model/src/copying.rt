@@ -17,7 +17,7 @@ fn material_again(alloc: Global, kept: &KeptMaterial) -> Result<KeptMaterial, Al
 }
 
 /// A body, kept once more.
-fn body_again(alloc: Global, kept: &KeptBody) -> Result<KeptBody, AllocError>
+pub fn body_again(alloc: Global, kept: &KeptBody) -> Result<KeptBody, AllocError>
     ensures { IfOk result (λ b. body_view b ≡ body_view kept.now) }
 {
     Ok(KeptBody {

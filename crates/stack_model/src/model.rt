@@ -16,12 +16,15 @@ ghost use Rattle.stack_model.specs.Content.{content_of};
 ghost use Rattle.stack_model.specs.Kept.{material_view, body_view, material_alone, body_alone};
 ghost use Rattle.stack_model.specs.ModelView.{model_view};
 ghost use Rattle.stack_model.specs.Borne.{MayBear, bearing};
+ghost use Rattle.stack_model.specs.Keeping.{flag_at};
+ghost use Rattle.stack_model.specs.Part.{part_of};
 
 use crate::content::{bodies, head, joints, loads};
 use crate::copying::{bodies_again, materials_again};
 use crate::errors::ModelError;
 use crate::joints::terms_between;
 use crate::kept::{Head, KeptBody, KeptMaterial};
+use crate::parting::{kept_bodies, kept_loads};
 use crate::raw::Parts;
 use crate::types::{Body, Joint, Load, Material};
 use stack_polygon::Polygon;
@@ -134,6 +137,19 @@ impl Model {
         let bodies = bodies_again(alloc, self.bodies.as_slice())?;
         let loads = Vec::from_slice(alloc, loads)?;
         Ok(Model::of(head, materials, joints, bodies, loads))
+    }
+
+    /// The model of the bodies that are kept, in their order, with the loads on them, and with all materials, all joints
+    /// and the sway. `keeps` says of each body whether it is kept; past its end none is. `AllocError` where memory ran
+    /// out.
+    pub fn part(&self, alloc: Global, keeps: &[bool]) -> Result<Model, AllocError>
+        ensures { IfOk result (λ m. model_view m ≡ part_of (flag_at keeps.now) (model_view self.now)) }
+    {
+        let materials = materials_again(alloc, self.materials.as_slice())?;
+        let joints = Vec::from_slice(alloc, self.joints.as_slice())?;
+        let bodies = kept_bodies(alloc, self.bodies.as_slice(), keeps)?;
+        let loads = kept_loads(alloc, self.loads.as_slice(), keeps)?;
+        Ok(Model::of(self.head, materials, joints, bodies, loads))
     }
 
     /// The version of its file, 1 or 2.

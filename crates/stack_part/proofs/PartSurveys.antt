@@ -12,12 +12,13 @@ use Rattle.stack_contact.specs.ContactLists.{corners_of, IsPair, ComesBefore, fr
 use Rattle.stack_contact.specs.ContactLists.{friction_between}
 use Rattle.stack_contact.specs.ContactLists.{IsBearing, AreBearings, IsTouch, AreTouches}
 use Rattle.stack_contact.specs.Surveyed.{Surveyed, IsSurvey, AreSeparated}
-use Rattle.stack_part.specs.Kept.{kept_before}
-use Rattle.stack_part.specs.Part.{part_of, bearing_among, bearings_among, touch_among, touches_among}
+use Rattle.stack_model.specs.Keeping.{kept_before}
+use Rattle.stack_model.specs.Part.{part_of}
+use Rattle.stack_part.specs.Part.{bearing_among, bearings_among, touch_among, touches_among}
 use Rattle.stack_part.specs.Part.{surveyed_part}
 use Rattle.stack_part.specs.Laws.{PartsAreSurveyed}
-use Rattle.stack_part.proofs.KeptItems.{before_rises, items_rise, item_of, at_number}
-use Rattle.stack_part.proofs.PickedItems.{picked_from, picked_has, picked_few, picked_ordered}
+use Rattle.stack_model.proofs.KeptItems.{before_rises, items_rise, item_of, at_number}
+use Rattle.stack_model.proofs.PickedItems.{picked_from, picked_has, picked_few, picked_ordered}
 
 module _ (keeps : ℕ → Bool) (s : Structure) where
   -- the number of a kept body among the kept ones

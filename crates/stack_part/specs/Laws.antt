@@ -1,13 +1,9 @@
 -- Laws of parts, whichever bodies are kept.
 use Rattle.std.specs.Prelude.{ℕ, Bool}
 use Rattle.stack_model.specs.Structure.{Structure}
-use Rattle.stack_model.specs.Sound.{IsSound}
 use Rattle.stack_contact.specs.Surveyed.{Surveyed, IsSurvey}
-use Rattle.stack_part.specs.Part.{part_of, surveyed_part}
-
--- what holds of the structure of every model holds of its part
-abbrev pub PartsAreSound : Type 0
-PartsAreSound = (keeps : ℕ → Bool) (s : Structure) → IsSound s → IsSound (part_of keeps s)
+use Rattle.stack_model.specs.Part.{part_of}
+use Rattle.stack_part.specs.Part.{surveyed_part}
 
 -- the part of a survey is the survey of the part
 abbrev pub PartsAreSurveyed : Type 0

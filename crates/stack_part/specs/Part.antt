@@ -1,21 +1,10 @@
--- The part of a structure, and of its survey: the bodies that are kept, with their loads and their contacts.
+-- The part of a survey: the bodies that are kept, with their loads and their contacts.
 use Rattle.std.specs.Prelude.{ℕ, Bool, ◌&&◌, List}
-use Rattle.stack_model.specs.declared.types.Load.{Load}
-use Rattle.stack_model.specs.Structure.{Structure, structure_with}
+use Rattle.stack_model.specs.Keeping.{kept_before, picked}
+use Rattle.stack_model.specs.Part.{part_of}
 use Rattle.stack_contact.specs.declared.types.Bearing.{Bearing}
 use Rattle.stack_contact.specs.declared.types.Touch.{Touch}
 use Rattle.stack_contact.specs.Surveyed.{Surveyed, surveyed}
-use Rattle.stack_part.specs.Kept.{kept, kept_before, picked}
-
--- a load on the same body among the kept ones
-abbrev pub load_among : (ℕ → Bool) → Load → Load
-load_among keeps l = record {
-  body = kept_before keeps l.body;
-  live = l.live;
-  at = l.at;
-  fx = l.fx;
-  fy = l.fy;
-}
 
 -- a bearing of the same bodies among the kept ones
 abbrev pub bearing_among : (ℕ → Bool) → Bearing → Bearing
@@ -34,11 +23,6 @@ touch_among keeps z = record {
   second = kept_before keeps z.second;
   at = z.at;
 }
-
--- the structure of the kept bodies, with the loads on them, all materials, all joints and the sway
-abbrev pub part_of : (ℕ → Bool) → Structure → Structure
-part_of keeps s = structure_with s.version s.sway s.materials s.joints (kept keeps s.bodies)
-    (picked (λ l. keeps l.body) (load_among keeps) s.loads)
 
 -- the bearings whose bodies are both kept
 abbrev pub bearings_among : (ℕ → Bool) → List Bearing → List Bearing

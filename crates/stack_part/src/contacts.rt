@@ -1,34 +1,12 @@
 //! The contacts between kept bodies.
 
 ghost use Rattle.std.specs.Prelude.{◌≡◌, [], ◌∷◌, ◌++◌, ◌&&◌, IfOk, if◌then◌else◌};
-ghost use Rattle.stack_part.specs.Kept.{flag_at, kept_before};
+ghost use Rattle.stack_model.specs.Keeping.{flag_at};
 ghost use Rattle.stack_part.specs.Part.{bearing_among, touch_among, bearings_among, touches_among};
 
-use stack_contact::types::{Bearing, Survey, Touch};
+use stack_contact::types::{Bearing, Touch};
+use stack_model::keeping::{among, flag};
 use std::alloc::{AllocError, Global};
-
-/// Whether body `i` is kept; past the end none is.
-fn flag(keeps: &[bool], i: usize) -> bool
-    ensures { result ≡ flag_at keeps.now i }
-{
-    match keeps.get(i) {
-        Some(keep) => *keep,
-        None => false,
-    }
-}
-
-/// The number of body `i` among the kept ones.
-fn among(keeps: &[bool], i: usize) -> usize
-    ensures { result ≡ kept_before (flag_at keeps.now) i }
-{
-    let mut count = 0;
-    for j in 0..i {
-        if flag(keeps, j) {
-            count += 1;
-        }
-    }
-    count
-}
 
 /// Whether two bodies are kept, both of them.
 fn are_kept(keeps: &[bool], first: usize, second: usize) -> bool

@@ -8,7 +8,6 @@
 #![tactic(auto)]
 
 mod contacts;
-mod keeping;
 pub mod laws;
 mod models;
 mod surveys;

@@ -1,7 +1,7 @@
 //! The survey of a part of a structure.
 
 ghost use Rattle.std.specs.Prelude.{◌≡◌, length, IfOk};
-ghost use Rattle.stack_part.specs.Kept.{flag_at};
+ghost use Rattle.stack_model.specs.Keeping.{flag_at};
 ghost use Rattle.stack_part.specs.Part.{surveyed_part};
 
 use crate::contacts::{kept_bearings, kept_touches};

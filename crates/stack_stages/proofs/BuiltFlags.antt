@@ -4,7 +4,7 @@ use Rattle.std.proofs.lemmas.Bool.{cases_lt, lt-ltb, le-ltb}
 use Rattle.std.proofs.lemmas.List.{get_or_past}
 use Rattle.stack_model.specs.Structure.{Structure}
 use Rattle.stack_contact.specs.Surveyed.{Surveyed}
-use Rattle.stack_part.specs.Kept.{flag_at, AreFlags}
+use Rattle.stack_model.specs.Keeping.{flag_at, AreFlags}
 use Rattle.stack_part.specs.Part.{surveyed_part}
 use Rattle.stack_stages.specs.Stage.{is_fixed_or_among, is_built}
 

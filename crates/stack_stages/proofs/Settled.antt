@@ -12,7 +12,7 @@ use Rattle.stack_equilibrium.specs.SurveyScene.{scene_of}
 use Rattle.stack_equilibrium.proofs.BearingSizes.{survey_proper}
 use Rattle.stack_statics.proofs.CertificateLaws.{stands_is_carried, collapse_excludes_balance}
 use Rattle.stack_part.specs.Part.{surveyed_part}
-use Rattle.stack_part.proofs.PartSound.{part_sound}
+use Rattle.stack_model.proofs.PartSound.{part_sound}
 use Rattle.stack_part.proofs.PartSurveys.{part_surveyed}
 use Rattle.stack_stages.specs.Stage.{is_built, surveyed_stage}
 use Rattle.stack_stages.specs.Staged.{Staged, all_stand, falls, too_wide_at, spent_at, no_stages, AreStanding}

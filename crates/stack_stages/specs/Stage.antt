@@ -3,7 +3,8 @@ use Rattle.std.specs.Prelude.{ℕ, nat_eq, nat_lt, Bool, ◌||◌, ◌&&◌, Lis
 use Rattle.std.specs.List.{list_any}
 use Rattle.stack_model.specs.Structure.{Structure, body_of}
 use Rattle.stack_contact.specs.Surveyed.{Surveyed}
-use Rattle.stack_part.specs.Part.{part_of, surveyed_part}
+use Rattle.stack_model.specs.Part.{part_of}
+use Rattle.stack_part.specs.Part.{surveyed_part}
 
 -- body i is fixed, or is one of these
 abbrev pub is_fixed_or_among : Structure → List ℕ → ℕ → Bool

@@ -2,7 +2,7 @@
 
 ghost use Rattle.std.specs.Prelude.{◌≡◌, ◌<◌, ◌≤◌, length, IfOk};
 ghost use Rattle.stack_model.specs.ModelView.{model_view};
-ghost use Rattle.stack_part.specs.Kept.{AreFlags};
+ghost use Rattle.stack_model.specs.Keeping.{AreFlags};
 ghost use Rattle.stack_stages.specs.Stage.{is_fixed_or_among as is_fixed_or_among_of, surveyed_stage};
 
 use stack_contact::types::Survey;

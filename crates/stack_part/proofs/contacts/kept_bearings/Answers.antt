@@ -1,7 +1,7 @@
 use Rattle.std.proofs.Common.{◌≡◌, refl, ◌&&◌}
-use Rattle.stack_part.specs.Kept.{flag_at}
+use Rattle.stack_model.specs.Keeping.{flag_at}
 use Rattle.stack_part.specs.Part.{bearing_among}
-use Rattle.stack_part.proofs.PickedSoFar.{picked_more}
+use Rattle.stack_model.proofs.PickedSoFar.{picked_more}
 use Rattle.stack_part.proofs.contacts.kept_bearings.Goals as goal
 
 pub loop-k-preserved : goal.loop-k-preserved

@@ -1,5 +1,5 @@
 use Rattle.std.proofs.Common.{◌≡◌, take}
-use Rattle.stack_part.specs.Kept.{flag_at}
+use Rattle.stack_model.specs.Keeping.{flag_at}
 use Rattle.stack_part.specs.Part.{touches_among}
 use Rattle.stack_part.proofs.contacts.kept_touches.Given as goal
 

@@ -1,8 +1,9 @@
 use Rattle.std.proofs.Common.{◌≡◌, sym, ap, ◌∙◌, subst}
 use Rattle.stack_model.specs.Structure.{Structure}
 use Rattle.stack_contact.specs.Surveyed.{Surveyed, surveyed, IsSurvey}
-use Rattle.stack_part.specs.Kept.{flag_at}
-use Rattle.stack_part.specs.Part.{part_of, bearings_among, touches_among}
+use Rattle.stack_model.specs.Keeping.{flag_at}
+use Rattle.stack_model.specs.Part.{part_of}
+use Rattle.stack_part.specs.Part.{bearings_among, touches_among}
 use Rattle.stack_part.proofs.PartSurveys.{survey_of_part}
 use Rattle.stack_part.proofs.surveys.survey_part.Goals as goal
 

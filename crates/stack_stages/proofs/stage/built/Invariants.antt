@@ -1,4 +1,4 @@
-use Rattle.stack_part.specs.Kept.{AreFlags}
+use Rattle.stack_model.specs.Keeping.{AreFlags}
 use Rattle.stack_stages.specs.Stage.{is_fixed_or_among}
 use Rattle.stack_stages.proofs.stage.built.Given as goal
 

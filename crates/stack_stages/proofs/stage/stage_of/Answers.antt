@@ -1,6 +1,6 @@
 use Rattle.std.proofs.Common.{◌≡◌, sym, ap, subst, ◌∙◌, length, take}
 use Rattle.std.specs.Result.{IfOk}
-use Rattle.stack_part.specs.Kept.{AreFlags}
+use Rattle.stack_model.specs.Keeping.{AreFlags}
 use Rattle.stack_stages.specs.Stage.{is_fixed_or_among}
 use Rattle.stack_stages.proofs.BuiltFlags.{built_part, one_each}
 use Rattle.stack_stages.proofs.stage.stage_of.Goals as goal

@@ -4,7 +4,7 @@ use Rattle.std.proofs.Common.{List, [], ◌∷◌, length, arith, Some}
 use Rattle.std.specs.Prelude.{slice_get}
 use Rattle.std.specs.Bool.{if◌then◌else◌}
 use Rattle.std.proofs.lemmas.Option.{same_Some}
-use Rattle.stack_part.specs.Kept.{picked}
+use Rattle.stack_model.specs.Keeping.{picked}
 
 module _ {A : Type 0} (keeps : A → Bool) (changed : A → A) where
   -- the item z was y, which is item m

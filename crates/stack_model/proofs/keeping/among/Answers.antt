@@ -1,8 +1,8 @@
-use Rattle.std.proofs.Common.{◌≡◌, sym, ◌∙◌, true, false, arith}
-use Rattle.stack_part.specs.Kept.{flag_at}
-use Rattle.stack_part.proofs.PickedSoFar.{kept_on, kept_off}
-use Rattle.stack_part.proofs.contacts.among.Goals.{then-flag, else-flag}
-use Rattle.stack_part.proofs.contacts.among.Goals as goal
+use Rattle.std.proofs.Common.{sym, ◌∙◌, arith}
+use Rattle.stack_model.specs.Keeping.{flag_at}
+use Rattle.stack_model.proofs.PickedSoFar.{kept_on, kept_off}
+use Rattle.stack_model.proofs.keeping.among.Goals.{then-flag, else-flag}
+use Rattle.stack_model.proofs.keeping.among.Goals as goal
 
 pub loop-j-preserved : goal.loop-j-preserved
 loop-j-preserved c = let h = c.loop-j.invariant in let b = h.1 in elim c.if-flag.branch [

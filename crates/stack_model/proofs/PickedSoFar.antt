@@ -3,7 +3,7 @@ use Rattle.std.proofs.Common.{◌≡◌, refl, sym, ap, ◌∙◌, ℕ, zero, su
 use Rattle.std.proofs.Common.{List, [], ◌∷◌, ◌++◌, length, get_or, take, arith}
 use Rattle.std.proofs.lemmas.List.{take_more, take_all}
 use Rattle.std.specs.Bool.{if◌then◌else◌}
-use Rattle.stack_part.specs.Kept.{later, kept_before, picked}
+use Rattle.stack_model.specs.Keeping.{later, kept_before, picked}
 
 -- one number more before
 pub kept_step : (keeps : ℕ → Bool) (j : ℕ)

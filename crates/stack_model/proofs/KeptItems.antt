@@ -4,7 +4,7 @@ use Rattle.std.proofs.Common.{List, [], ◌∷◌, length, get_or, arith}
 use Rattle.std.specs.Bool.{if◌then◌else◌}
 use Rattle.std.proofs.Common.{inl, inr}
 use Rattle.std.proofs.lemmas.Bool.{cases_lt}
-use Rattle.stack_part.specs.Kept.{later, kept, kept_before}
+use Rattle.stack_model.specs.Keeping.{later, kept, kept_before}
 
 -- a later kept number has more kept ones before it
 pub before_rises : (keeps : ℕ → Bool) (i j : ℕ) → keeps i ≡ true → i < j

@@ -1,19 +1,19 @@
--- The part of a sound structure is sound, and what it lists are the kept items of what the structure lists.
+-- The part of a sound structure is sound.
 use Rattle.std.proofs.Common.{◌≡◌, sym, ap, subst, ◌∙◌, ℕ, ◌<◌, ◌≤◌, Bool, true, false, not}
 use Rattle.std.proofs.Common.{List, [], length, get_or, arith}
 use Rattle.std.proofs.lemmas.List.{length-map, get_or-map}
 use Rattle.std.proofs.lemmas.Option.{slice_get-get_or, get_or_from_slice_get, slice_get_within}
-use Rattle.stack_model.specs.Parts.{LoadPart}
-use Rattle.stack_model.specs.Structure.{NamedBody, Structure, body_at, body_of, load_of}
+use Rattle.stack_model.specs.declared.types.Joint.{Joint}
+use Rattle.stack_model.specs.declared.types.Load.{Load}
+use Rattle.stack_model.specs.Structure.{NamedMaterial, NamedBody, Structure, structure_with, body_at, body_of, load_of}
 use Rattle.stack_model.specs.Structure.{IsPlaced, IsCarried}
 use Rattle.stack_model.specs.Content.{body_names}
-use Rattle.stack_model.specs.Relisted.{body_listed, load_listed, relisted}
 use Rattle.stack_model.specs.Sound.{IsSound, AreDifferent}
-use Rattle.stack_part.specs.Kept.{kept, kept_before}
-use Rattle.stack_part.specs.Part.{part_of, load_among}
-use Rattle.stack_part.proofs.KeptItems.{items_rise, item_of, at_number}
-use Rattle.stack_part.proofs.KeptLists.{kept_map, picked_map, kept_few, kept_counted}
-use Rattle.stack_part.proofs.PickedItems.{picked_from, picked_few}
+use Rattle.stack_model.specs.Keeping.{kept, kept_before, picked}
+use Rattle.stack_model.specs.Part.{part_of, load_among}
+use Rattle.stack_model.proofs.KeptItems.{items_rise, item_of, at_number}
+use Rattle.stack_model.proofs.KeptLists.{kept_few, kept_counted}
+use Rattle.stack_model.proofs.PickedItems.{picked_from, picked_few}
 
 module _ (keeps : ℕ → Bool) (s : Structure) (h : IsSound s) where
   -- the structure of the kept bodies
@@ -119,13 +119,9 @@ module _ (keeps : ℕ → Bool) (s : Structure) (h : IsSound s) where
     different_pairs = h.different_pairs;
   }
 
-  -- the blocks of the part are the kept ones
-  pub blocks_kept : (relisted part).blocks ≡ kept keeps (relisted s).blocks
-  blocks_kept = kept_map (body_listed s.materials) keeps s.bodies
-
-  -- the loads of the part are those on kept bodies, since a load names its block
-  pub loads_kept : (relisted part).loads ≡ kept (λ i. keeps (load_of s i).body) (relisted s).loads
-  loads_kept = picked_map (load_listed part.bodies) (load_listed s.bodies) (λ l. keeps l.body) (load_among keeps) _
-      s.loads (λ i l k. λ j. let r : LoadPart = record (load_listed s.bodies (load_of s i)) {
-        block = ((body_same i l k).1 j).name;
-      } in r)
+-- a structure of these lists is the part
+pub of_lists : (keeps : ℕ → Bool) (s : Structure) (ms : List NamedMaterial) (js : List Joint) (bs : List NamedBody)
+    (ls : List Load) → ms ≡ s.materials → js ≡ s.joints → bs ≡ kept keeps s.bodies
+    → ls ≡ picked (λ l. keeps l.body) (load_among keeps) s.loads
+    → structure_with s.version s.sway ms js bs ls ≡ part_of keeps s
+of_lists keeps s ms js bs ls m j b l = λ i. structure_with s.version s.sway (m i) (j i) (b i) (l i)
