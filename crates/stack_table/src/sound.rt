@@ -6,11 +6,14 @@ ghost use Rattle.stack_table.specs.Sound.{is_small, is_column, are_columns, are_
 
 use crate::problem::{Column, Entry};
 
+/// What no number of a problem reaches in size: 2^100, the bound of loads.
+const NUMBER_BOUND: u128 = 1 << 100;
+
 /// Whether a number is below 2^100 in size.
 fn is_small(number: i128) -> bool
     ensures { result ≡ is_small number }
 {
-    number.unsigned_abs() < 1 << 100
+    number.unsigned_abs() < NUMBER_BOUND
 }
 
 /// Whether entries stand in rising rows below `rows`, and are small.

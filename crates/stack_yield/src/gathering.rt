@@ -4,7 +4,7 @@ ghost use Rattle.std.specs.Prelude.{◌≡◌, ◌≢◌, ◌≤◌, IfOk, lengt
 ghost use Rattle.std.specs.List.{All};
 ghost use Rattle.stack_pairs.specs.Directed.{ArePair};
 ghost use Rattle.stack_pairs.specs.Reaches.{RegionTells};
-ghost use Rattle.stack_yield.specs.Directions.{IsDirection};
+ghost use Rattle.stack_yield.specs.Directions.{IsDirection, most_directions};
 ghost use Rattle.stack_yield.specs.Kept.{region_view};
 ghost use Rattle.stack_yield.specs.JudgedReaches.{RegionIsJudged};
 ghost use Rattle.stack_yield.specs.Regions.{Regions, RefusesFirst, refused_as, towards_of};
@@ -62,7 +62,7 @@ pub fn region(
     requires pair { ArePair s.now.structure i j }
     requires directions { All (λ d. IsDirection d.0 d.1) dirs.now }
     requires some { 1 ≤ length dirs.now }
-    requires few { length dirs.now ≤ 64 }
+    requires few { length dirs.now ≤ most_directions }
     requires budget { budget ≢ 0 }
     ensures regions { Regions result s.now i j budget dirs.now }
     ensures refused { RefusesFirst result s.now i j budget dirs.now }

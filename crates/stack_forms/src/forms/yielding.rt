@@ -4,7 +4,7 @@ ghost use Rattle.std.specs.Prelude.{◌≡◌, ◌≢◌, ◌≤◌, ◌<◌, �
 ghost use Rattle.std.specs.List.{All};
 ghost use Rattle.stack_outside.specs.Seen.{seen_shelf};
 ghost use Rattle.stack_pairs.specs.Directed.{ArePair};
-ghost use Rattle.stack_yield.specs.Directions.{IsDirection};
+ghost use Rattle.stack_yield.specs.Directions.{IsDirection, most_directions};
 ghost use Rattle.stack_yield.specs.Kept.{region_view};
 ghost use Rattle.stack_yield.specs.Outcomes.{outcomes};
 ghost use Rattle.stack_lines.specs.Answers.{region_verdict as region_verdict_of};
@@ -58,7 +58,7 @@ fn wide_direction(alloc: Global, survey: &Survey, number: usize, place: RegionPl
 
 /// The number from 1 of a direction with this number from 0.
 fn direction_number(direction: usize) -> usize
-    requires { direction < 64 }
+    requires { direction < most_directions }
     ensures { result ≡ direction + 1 }
 {
     direction + 1
@@ -75,7 +75,7 @@ fn region_survey(
     requires loads { ArePair survey.now.structure loads.0 loads.1 }
     requires directions { All (λ d. IsDirection d.0 d.1) directions.now }
     requires some { 1 ≤ length directions.now }
-    requires few { length directions.now ≤ 64 }
+    requires few { length directions.now ≤ most_directions }
     requires budget { budget ≢ 0 }
     ensures { DoesAlone AnswersDue (region_step budget survey.now loads.0 loads.1 directions.now
         (outcomes survey.now loads.0 loads.1 budget directions.now)) result }
