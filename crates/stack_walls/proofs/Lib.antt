@@ -1,0 +1,7 @@
+mod Courses
+mod Sides
+mod Numbers
+mod Neighbours
+mod Ends
+mod Counting
+mod WallLaws
