@@ -1,12 +1,12 @@
 -- Where the bodies of a wall lie: body 0 is the ground, and each other one a brick, by its course and its place in it.
 use Rattle.std.proofs.Common.{◌≡◌, refl, sym, ap, ◌∙◌, subst, ℕ, zero, suc, ◌+◌, ◌*◌, ◌-◌, ◌/◌, ◌%◌, ◌<◌, ◌≤◌, length, get_or}
-use Rattle.std.proofs.Common.{◌⊎◌, inl, inr, true, arith, List}
+use Rattle.std.proofs.Common.{◌⊎◌, inl, inr, true, false, arith}
 use Rattle.std.proofs.lemmas.List.{length-append, get_or_append_left, get_or-append_right}
 use Rattle.std.proofs.lemmas.Nat.{div-add-mod', div_below, mod_below, mul-le}
 use Rattle.std.proofs.Math.Nat.{suc-mul}
 use Rattle.stack_algebra.proofs.Listed.{listed, length_listed, listed_item}
 use Rattle.stack_algebra.proofs.Conjunctions.{both_true}
-use Rattle.stack_polygon.specs.declared.point.Point.{Point}
+use Rattle.stack_model.specs.Structure.{body_of}
 use Rattle.stack_overhang.specs.declared.types.Rectangle.{Rectangle}
 use Rattle.stack_overhang.specs.declared.types.Row.{Row}
 use Rattle.stack_overhang.specs.declared.types.Wall.{Wall}
@@ -62,21 +62,32 @@ pub record IsBrick (w : Wall) (i a j : ℕ) : Type 0 where
 abbrev pub brick : Wall → ℕ → ℕ → Rectangle
 brick w a j = brick_of (course_of w (a + 1)) j
 
+below_all : (w : Wall) (a j : ℕ) → a < w.courses → j < w.bricks
+    → a * w.bricks + j < length (bricks_of (courses_of w))
+below_all w a j lt le =
+    let count = count_of w.bricks w.courses (λ k. course_of w (k + 1)) (λ k. refl) in
+    let m = mul-le (suc a) w.bricks w.courses w.bricks (omega (arith, lt)) (omega arith) in
+    let e = once_more a w.bricks in
+    omega (arith, count, m, le, e)
+
 pub brick_corners : (w : Wall) (i a j : ℕ) → IsBrick w i a j
     → corners_of (wall_structure w) i ≡ rectangle_corners (brick w a j)
 brick_corners w i a j h =
     let all = bricks_of (courses_of w) in
     let k = a * w.bricks + j in
-    let count = count_of w.bricks w.courses (λ k. course_of w (k + 1)) (λ k. refl) in
-    let below : k < length all = omega (arith, count, in_all w a j h.course h.place) in
+    let below : k < length all = below_all w a j h.course h.place in
     ap (corners_of (wall_structure w)) h.number
     ∙ ap (λ b. b.corners) (listed_item (length all) (λ k. brick_body k (brick_at all k)) k _ below)
     ∙ ap rectangle_corners (brick_by w.bricks w.courses (λ k. course_of w (k + 1)) (λ k. refl) a j k _ refl
     h.course h.place)
-  where
-    in_all : (w : Wall) (a j : ℕ) → a < w.courses → j < w.bricks → a * w.bricks + j < w.courses * w.bricks
-    in_all w a j lt le = let m = mul-le (suc a) w.bricks w.courses w.bricks (omega (arith, lt)) (omega arith) in
-        let e = once_more a w.bricks in omega (arith, m, le, e)
+
+pub brick_free : (w : Wall) (i a j : ℕ) → IsBrick w i a j → (body_of (wall_structure w) i).fixed ≡ false
+brick_free w i a j h =
+    let all = bricks_of (courses_of w) in
+    let k = a * w.bricks + j in
+    let below : k < length all = below_all w a j h.course h.place in
+    ap (λ i. (body_of (wall_structure w) i).fixed) h.number
+    ∙ ap (λ b. b.fixed) (listed_item (length all) (λ k. brick_body k (brick_at all k)) k _ below)
 
 -- each body is the ground or a brick
 pub each_body : (w : Wall) → IsWall w → (i : ℕ) → i < length (wall_structure w).bodies

@@ -4,4 +4,5 @@ mod Numbers
 mod Neighbours
 mod Ends
 mod Counting
+mod Existence
 mod WallLaws

@@ -1,13 +1,13 @@
 -- Each two bodies of a wall are apart, and which of them have a point in common.
 use Rattle.std.proofs.Common.{◌≡◌, refl, sym, ap, ◌∙◌, subst, subst₂, ℕ, zero, suc, ◌+◌, ◌*◌, ◌-◌, ◌<◌, ◌≤◌, ◌%◌, length}
-use Rattle.std.proofs.Common.{◌⊎◌, inl, inr, Bool, true, false, ℤ, pos, ◌+ℤ◌, ◌*ℤ◌, arith}
+use Rattle.std.proofs.Common.{◌⊎◌, inl, inr, Bool, true, false, ◌&&◌, ℤ, pos, ◌+ℤ◌, ◌*ℤ◌, arith}
 use Rattle.std.specs.Prelude.{◌==◌, if◌then◌else◌}
 use Rattle.std.proofs.lemmas.Int.{ints}
 use Rattle.std.proofs.lemmas.Nat.{mul-le}
 use Rattle.stack_algebra.proofs.Integers.{sums}
 use Rattle.stack_algebra.proofs.Order.{◌≼◌, ◌≺◌}
 use Rattle.stack_polygon.specs.declared.point.Point.{Point}
-use Rattle.stack_model.specs.Structure.{Structure}
+use Rattle.stack_model.specs.Structure.{Structure, body_of}
 use Rattle.stack_overlap.specs.Separation.{IsCommon}
 use Rattle.stack_contact.specs.ContactLists.{corners_of, IsPair}
 use Rattle.stack_contact.specs.Surveyed.{AreSeparated, AreApart}
@@ -16,7 +16,7 @@ use Rattle.stack_overhang.specs.declared.types.Wall.{Wall}
 use Rattle.stack_overhang.specs.Bricks.{rectangle_corners}
 use Rattle.stack_overhang.specs.Limits.{IsWall, is_placed}
 use Rattle.stack_overhang.specs.Wall.{course_of, ground_rectangle, wall_structure}
-use Rattle.stack_walls.proofs.Courses.{once_more, IsBrick, brick, brick_corners, brick_placed, each_body}
+use Rattle.stack_walls.proofs.Courses.{once_more, IsBrick, brick, brick_corners, brick_free, brick_placed, each_body}
 use Rattle.stack_rectangle.specs.Rectangles.{IsRectangle}
 use Rattle.stack_walls.proofs.Sides.{point_at, is_rectangle, HasArea, has_area, beside, below, within}
 use Rattle.stack_walls.proofs.Numbers.{IsBase, few_bricks, on_base, on_same, on_next}
@@ -89,6 +89,22 @@ module _ (w : Wall) (h : IsWall w) where
           (sym (brick_corners w j y.0 y.1 y.2))
           (two_bricks x.0 x.1 y.0 y.1 x.2.course x.2.place y.2.course y.2.place
           (in_order x.0 x.1 y.0 y.1 w.bricks y.2.place (ordered i j _ _ x.2.number y.2.number pair.in_order)))
+
+  -- each two bodies in order are a pair, since only the ground is fixed
+  pub pairs : (i j : ℕ) → i < j → j < length s.bodies → IsPair s i j
+  pairs i j before lt = record {
+    in_order = before;
+    is_body = lt;
+    not_both_fixed = go (each_body w h j lt);
+  }
+    where
+      neither : (b c : Bool) → c ≡ false → b && c ≡ false
+      neither true c e = e
+      neither false c e = refl
+
+      go : (j ≡ 0) ⊎ ((a : ℕ) × (m : ℕ) × IsBrick w j a m) → (body_of s i).fixed && (body_of s j).fixed ≡ false
+      go (inl e) = absurd (omega (arith, e, before))
+      go (inr y) = neither (body_of s i).fixed (body_of s j).fixed (brick_free w j y.0 y.1 y.2)
 
   -- the corners of each body are those of a rectangle
   pub rectangles : (i : ℕ) → i < length s.bodies → IsRectangle (corners_of s i)

@@ -1,7 +1,7 @@
--- Each wall can be surveyed, and what can be surveyed isn't refused.
+-- Each wall has a survey, and what has one isn't refused.
 use Rattle.std.proofs.Common.{◌≡◌, refl, sym, subst₂, ℕ, zero, suc, ◌+◌, ◌/◌, ◌<◌, ◌≤◌, ◌⊎◌, inl, inr, List, [], ◌∷◌}
-use Rattle.std.proofs.Common.{length, Some, arith}
-use Rattle.std.specs.Prelude.{slice_get}
+use Rattle.std.proofs.Common.{length, Option, Some, None, Result, Ok, Err, arith}
+use Rattle.std.specs.Prelude.{slice_get, MatchOption, IfSome}
 use Rattle.std.proofs.lemmas.Nat.{mod_below}
 use Rattle.stack_algebra.proofs.Integers.{sums}
 use Rattle.stack_polygon.specs.declared.point.Point.{Point}
@@ -11,19 +11,25 @@ use Rattle.stack_overlap.proofs.Separated.{apart-first, apart-second}
 use Rattle.stack_model.specs.Structure.{Structure}
 use Rattle.stack_contact.specs.declared.types.Bearing.{Bearing}
 use Rattle.stack_contact.specs.declared.types.SurveyError.{SurveyError}
-use Rattle.stack_contact.specs.declared.types.SurveyError.TheVariants.{Overlap, TooManyBearings, Memory}
+use Rattle.stack_contact.specs.declared.types.SurveyError.TheVariants.{Memory}
 use Rattle.stack_contact.specs.ContactLists.{corners_of, IsPair, ComesBefore, IsBearing, AreBearings}
-use Rattle.stack_contact.specs.Surveyed.{AreSeparated, Surveys}
+use Rattle.stack_contact.specs.declared.types.Touch.{Touch}
+use Rattle.stack_contact.specs.declared.types.Contacts.{Contacts}
+use Rattle.stack_contact.specs.PairContacts.{AreContacts}
+use Rattle.stack_contact.specs.Found.{AreAllFound}
+use Rattle.stack_contact.proofs.OneSurvey.{one-survey}
+use Rattle.stack_contact.specs.Surveyed.{AreSeparated, AreApart, Surveyed, surveyed}
 use Rattle.stack_overhang.specs.declared.types.Wall.{Wall}
 use Rattle.stack_overhang.specs.Limits.{IsWall}
 use Rattle.stack_overhang.specs.Wall.{drawn, wall_by, wall_structure}
 use Rattle.stack_rectangle.specs.Rectangles.{IsRectangle, contacts_by_ranges, RangesTellSeparation, RangesTellContacts}
-use Rattle.stack_walls.specs.Surveying.{CanBeSurveyed, WallsCanBeSurveyed, NumbersCanBeSurveyed, NoneIsRefused}
+use Rattle.stack_walls.specs.Surveying.{HasSurvey, WallsHaveSurveys, DrawnWallsHaveSurveys, SurveyedIsntRefused}
 use Rattle.stack_walls.proofs.Sides.{point_at}
 use Rattle.stack_walls.proofs.Numbers.{IsBase, base_below, base_before, base_same}
 use Rattle.stack_walls.proofs.Ends.{at_itself, IsEndOf, bears_at_end, ends_in_order}
 use Rattle.stack_walls.proofs.Counting.{no_more}
-use Rattle.stack_walls.proofs.Neighbours.{apart, rectangles, neighbours}
+use Rattle.stack_walls.proofs.Neighbours.{apart, pairs, rectangles, neighbours}
+use Rattle.stack_walls.proofs.Existence.{IsClear, all_contacts}
 
 -- an item of a list by its number
 item : {X : Type 0} (xs : List X) (k : ℕ) → k < length xs → (x : X) × (slice_get xs k ≡ Some x)
@@ -106,11 +112,41 @@ module _ (tells : RangesTellSeparation) (told : RangesTellContacts) (w : Wall) (
       grows k l r q lt (y, at_k, a) (z, at_l, b) =
           ranks_grow y z r q (all.each k y at_k).pair a b (all.in_order k l y z lt at_k at_l)
 
-  can_be_surveyed : CanBeSurveyed s
-  can_be_surveyed = record { apart = apart w h; clear = clear; few = few }
+  -- what two bodies have in common
+  contacts : (i j : ℕ) → i < j → j < length s.bodies → IsClear s i j
+  contacts i j before lt =
+      let pair = pairs w h i j before lt in
+      let first = first_rectangle i j pair in
+      let second = second_rectangle i j pair in
+      go pair (contacts_by_ranges (corners_of s i) (corners_of s j))
+      (tells (corners_of s i) (corners_of s j) first second) (told (corners_of s i) (corners_of s j) first second)
+    where
+      go : IsPair s i j → (o : Option Contacts) → MatchOption o (¬ (AreApart s i j)) (λ c. AreApart s i j)
+          → IfSome o (λ c. AreContacts (corners_of s i) (corners_of s j) c) → IsClear s i j
+      go pair None n c = absurd (n (apart w h i j pair))
+      go pair (Some o) n c = record {
+        pair = pair;
+        apart = n;
+        clear = clear i j pair;
+        contacts = o;
+        are_contacts = c;
+      }
 
-pub walls_surveyed : RangesTellSeparation → RangesTellContacts → WallsCanBeSurveyed
-walls_surveyed tells told w h = can_be_surveyed tells told w h
+  has_survey : HasSurvey s
+  has_survey = by (all_contacts s (λ i lt. (rectangles w h i lt).polygon) contacts)
+    where
+      by : (zs : List Bearing) × (ts : List Touch) × AreAllFound s zs ts → HasSurvey s
+      by (zs, ts, all) = (surveyed s zs ts, record {
+        structure = refl;
+        apart = all.apart;
+        clear = all.clear;
+        bearings = all.bearings;
+        few = few zs all.bearings;
+        touches = all.touches;
+      })
+
+pub walls_have_surveys : RangesTellSeparation → RangesTellContacts → WallsHaveSurveys
+walls_have_surveys tells told w h = has_survey tells told w h
 
 -- each number draws a wall within the limits
 is_wall : (number : ℕ) → IsWall (wall_by number)
@@ -128,12 +164,20 @@ is_wall number =
       most_shift = omega (arith, shift);
     }
 
-pub numbers_surveyed : RangesTellSeparation → RangesTellContacts → NumbersCanBeSurveyed
-numbers_surveyed tells told number = walls_surveyed tells told (wall_by number) (is_wall number)
+pub drawn_walls_have_surveys : RangesTellSeparation → RangesTellContacts → DrawnWallsHaveSurveys
+drawn_walls_have_surveys tells told number = walls_have_surveys tells told (wall_by number) (is_wall number)
 
-pub none_is_refused : NoneIsRefused
-none_is_refused s (Overlap i j) c first = absurd (first.overlaps (c.apart i j first.pair))
-none_is_refused s (TooManyBearings count) c many =
-    let few = c.few many.bearings many.are_all in
-    absurd (omega (arith, few, many.counted, many.many))
-none_is_refused s Memory c e = refl
+-- the two answers of a survey
+abbrev made : Surveyed → Result Surveyed SurveyError
+made v = Ok v
+
+abbrev refused : SurveyError → Result Surveyed SurveyError
+refused e = Err e
+
+pub surveyed_isnt_refused : SurveyedIsntRefused
+surveyed_isnt_refused t e v h = go (one-survey t (Ok v.0) (Err e) v.1 h)
+  where
+    go : (made v.0 ≡ refused Memory) ⊎ ((refused e ≡ refused Memory) ⊎ (made v.0 ≡ refused e)) → e ≡ Memory
+    go (inl f) = absurd (cc f)
+    go (inr (inl f)) = cc
+    go (inr (inr f)) = absurd (cc f)
