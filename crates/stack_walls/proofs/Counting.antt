@@ -1,5 +1,5 @@
 -- So many numbers below a bound that grow one after the other are no more than the bound.
-use Rattle.std.proofs.Common.{◌≡◌, ℕ, zero, suc, ◌<◌, ◌≤◌, arith}
+use Rattle.std.proofs.Common.{ℕ, zero, suc, ◌<◌, ◌≤◌, arith}
 
 module _ (n bound : ℕ) (R : ℕ → ℕ → Type 0) (has : (k : ℕ) → k < n → (r : ℕ) × R k r × (r < bound))
     (grows : (k l r q : ℕ) → k < l → R k r → R l q → r < q) where

@@ -1,5 +1,5 @@
 -- Where the bodies of a wall lie: body 0 is the ground, and each other one a brick, by its course and its place in it.
-use Rattle.std.proofs.Common.{◌≡◌, refl, sym, ap, ◌∙◌, subst, ℕ, zero, suc, ◌+◌, ◌*◌, ◌-◌, ◌/◌, ◌%◌, ◌<◌, ◌≤◌, length, get_or}
+use Rattle.std.proofs.Common.{◌≡◌, refl, sym, ap, ◌∙◌, ℕ, zero, suc, ◌+◌, ◌*◌, ◌-◌, ◌/◌, ◌%◌, ◌<◌, length, get_or}
 use Rattle.std.proofs.Common.{◌⊎◌, inl, inr, true, false, arith}
 use Rattle.std.proofs.lemmas.List.{length-append, get_or_append_left, get_or-append_right}
 use Rattle.std.proofs.lemmas.Nat.{div-add-mod', div_below, mod_below, mul-le}
@@ -12,8 +12,8 @@ use Rattle.stack_overhang.specs.declared.types.Row.{Row}
 use Rattle.stack_overhang.specs.declared.types.Wall.{Wall}
 use Rattle.stack_overhang.specs.Bricks.{rectangle_corners, brick_of, bricks_in, bricks_of, brick_at}
 use Rattle.stack_overhang.specs.Built.{brick_body}
-use Rattle.stack_overhang.specs.Limits.{IsWall, is_placed, are_rows, is_row}
-use Rattle.stack_overhang.specs.Wall.{course_of, courses_of, ground_rectangle, wall_structure}
+use Rattle.stack_overhang.specs.Limits.{IsWall, is_placed, are_rows}
+use Rattle.stack_overhang.specs.Wall.{course_of, courses_of, wall_structure}
 use Rattle.stack_overhang.proofs.Laid.{wall_laid}
 use Rattle.stack_overhang.proofs.Rows.{row_at, is_placed_brick}
 use Rattle.stack_contact.specs.ContactLists.{corners_of}
@@ -99,11 +99,15 @@ each_body w h (suc k) lt =
     let bodies = length_listed (length all) (λ k. brick_body k (brick_at all k)) in
     let some = h.least_bricks in
     let below : k < w.courses * w.bricks = omega (arith, lt, bodies, count) in
-    inr (k / w.bricks, k % w.bricks, record {
-      number = ap suc (sym (div-add-mod' k w.bricks));
-      course = div_below k w.bricks w.courses (omega (arith, some)) below;
-      place = mod_below k w.bricks (omega (arith, some));
-    })
+    inr (
+      k / w.bricks,
+      k % w.bricks,
+      record {
+        number = ap suc (sym (div-add-mod' k w.bricks));
+        course = div_below k w.bricks w.courses (omega (arith, some)) below;
+        place = mod_below k w.bricks (omega (arith, some));
+      },
+    )
 
 -- the corners of each brick are within the limits of coordinates
 pub brick_placed : (w : Wall) → IsWall w → (a j : ℕ) → a < w.courses → j < w.bricks → is_placed (brick w a j) ≡ true

@@ -1,9 +1,8 @@
 -- A bearing of two rectangles that are apart is at the first or at the second end of what they have in common.
-use Rattle.std.proofs.Common.{◌≡◌, refl, sym, ap, ◌∙◌, subst, ℕ, ◌+◌, ◌<◌, ◌≤◌, ℤ, pos, ◌*ℤ◌, ◌⊎◌, inl, inr, List, Some, None}
+use Rattle.std.proofs.Common.{◌≡◌, refl, sym, ◌∙◌, subst, ℕ, ◌<◌, ◌≤◌, ℤ, pos, ◌*ℤ◌, ◌⊎◌, inl, inr, List, Some, None}
 use Rattle.std.proofs.Common.{Option, arith}
 use Rattle.std.specs.Prelude.{MatchOption, IfSome}
 use Rattle.stack_algebra.proofs.Integers.{expand, sums}
-use Rattle.stack_algebra.proofs.Order.{◌≼◌, ◌≺◌}
 use Rattle.stack_polygon.specs.declared.point.Point.{Point}
 use Rattle.stack_polygon.specs.Plane.{IsAt}
 use Rattle.stack_frame.specs.declared.frame.Frame.{Frame}

@@ -69,6 +69,9 @@ module _ (s : Structure) (polygons : (i : ℕ) → i < length s.bodies → IsPol
 
   pub all_contacts : (zs : List Bearing) × (ts : List Touch) × AreAllFound s zs ts
   all_contacts =
-      let found = rows (length s.bodies) (omega arith) in
-      (found.0, found.1, all-found s (length s.bodies) (suc (length s.bodies)) (length s.bodies) refl (omega arith)
-      found.0 found.1 found.2)
+      let found = rows (length s.bodies) (omega arith) in (
+        found.0,
+        found.1,
+        all-found s (length s.bodies) (suc (length s.bodies)) (length s.bodies) refl (omega arith)
+            found.0 found.1 found.2,
+      )

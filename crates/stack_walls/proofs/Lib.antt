@@ -5,4 +5,4 @@ mod Neighbours
 mod Ends
 mod Counting
 mod Existence
-mod WallLaws
+pub mod WallLaws

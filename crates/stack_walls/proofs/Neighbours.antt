@@ -1,20 +1,18 @@
 -- Each two bodies of a wall are apart, and which of them have a point in common.
-use Rattle.std.proofs.Common.{◌≡◌, refl, sym, ap, ◌∙◌, subst, subst₂, ℕ, zero, suc, ◌+◌, ◌*◌, ◌-◌, ◌<◌, ◌≤◌, ◌%◌, length}
+use Rattle.std.proofs.Common.{◌≡◌, refl, sym, ap, subst, subst₂, ℕ, suc, ◌+◌, ◌*◌, ◌-◌, ◌<◌, ◌≤◌, ◌%◌, length}
 use Rattle.std.proofs.Common.{◌⊎◌, inl, inr, Bool, true, false, ◌&&◌, ℤ, pos, ◌+ℤ◌, ◌*ℤ◌, arith}
 use Rattle.std.specs.Prelude.{◌==◌, if◌then◌else◌}
 use Rattle.std.proofs.lemmas.Int.{ints}
 use Rattle.std.proofs.lemmas.Nat.{mul-le}
-use Rattle.stack_algebra.proofs.Integers.{sums}
-use Rattle.stack_algebra.proofs.Order.{◌≼◌, ◌≺◌}
+use Rattle.stack_algebra.proofs.Order.{◌≼◌}
 use Rattle.stack_polygon.specs.declared.point.Point.{Point}
 use Rattle.stack_model.specs.Structure.{Structure, body_of}
 use Rattle.stack_overlap.specs.Separation.{IsCommon}
 use Rattle.stack_contact.specs.ContactLists.{corners_of, IsPair}
 use Rattle.stack_contact.specs.Surveyed.{AreSeparated, AreApart}
-use Rattle.stack_overhang.specs.declared.types.Rectangle.{Rectangle}
 use Rattle.stack_overhang.specs.declared.types.Wall.{Wall}
 use Rattle.stack_overhang.specs.Bricks.{rectangle_corners}
-use Rattle.stack_overhang.specs.Limits.{IsWall, is_placed}
+use Rattle.stack_overhang.specs.Limits.{IsWall}
 use Rattle.stack_overhang.specs.Wall.{course_of, ground_rectangle, wall_structure}
 use Rattle.stack_walls.proofs.Courses.{once_more, IsBrick, brick, brick_corners, brick_free, brick_placed, each_body}
 use Rattle.stack_rectangle.specs.Rectangles.{IsRectangle}
@@ -29,7 +27,8 @@ start w a = (course_of w (a + 1)).left
 start_within : (w : Wall) → w.shift ≤ 10 → (a : ℕ) → (pos 0 ≼ start w a) × (start w a ≼ pos 10)
 start_within w h a = go ((a + 1) % 2 == 0)
   where
-    go : (even : Bool) → (pos 0 ≼ if even then pos w.shift else pos 0) × ((if even then pos w.shift else pos 0) ≼ pos 10)
+    go : (even : Bool) → (pos 0 ≼ if even then pos w.shift else pos 0)
+        × ((if even then pos w.shift else pos 0) ≼ pos 10)
     go true = (omega (arith, ints), omega (arith, ints, h))
     go false = (omega (arith, ints), omega (arith, ints))
 
@@ -133,8 +132,7 @@ module _ (w : Wall) (h : IsWall w) where
       let r = within (brick w a j) (point_at p) (area a j la lj) both.first in
       let q = within (brick w c m) (point_at p) (area c m lc lm) both.second in
       let u = start_within w h.most_shift a in
-      let v = start_within w h.most_shift c in
-      (
+      let v = start_within w h.most_shift c in (
         higher a c p.y (level a) (level c) r.top q.bottom,
         further (start w a) (start w c) j m p.x u.1 v.0 r.right q.left,
         further (start w c) (start w a) m j p.x v.1 u.0 q.right r.left,

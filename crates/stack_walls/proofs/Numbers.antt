@@ -1,6 +1,6 @@
 -- A number for each two bodies of a wall that have a point in common. It grows with the pair, by two at least, and it
 -- stays below 822.
-use Rattle.std.proofs.Common.{◌≡◌, refl, sym, ap, ◌∙◌, ℕ, zero, suc, ◌+◌, ◌*◌, ◌-◌, ◌<◌, ◌≤◌, ◌⊎◌, inl, inr, arith}
+use Rattle.std.proofs.Common.{◌≡◌, refl, ap, ◌∙◌, ℕ, suc, ◌+◌, ◌*◌, ◌-◌, ◌<◌, ◌≤◌, ◌⊎◌, inl, inr, arith}
 use Rattle.std.proofs.lemmas.Nat.{mul-le}
 use Rattle.stack_contact.specs.ContactLists.{PairBefore}
 use Rattle.stack_walls.proofs.Courses.{none_times, once_more}
@@ -84,28 +84,32 @@ few_bricks b a l n most few la ll =
 
 pub on_base : (b a m i j : ℕ) → i ≡ 0 → a ≡ 0 → j ≡ suc (a * b + m) → m < b → b ≤ 10 → (n : ℕ) × IsBase b i j n
 on_base b a m i j e first number lt few =
-    let none : a * b ≡ 0 = ap (λ k. k * b) first ∙ none_times b in
-    (2 * j, inl (record {
-      first = e;
-      least = omega (arith, number);
-      most = omega (arith, number, none, lt, few);
-      value = refl;
-    }))
+    let none : a * b ≡ 0 = ap (λ k. k * b) first ∙ none_times b in (
+      2 * j,
+      inl (record {
+        first = e;
+        least = omega (arith, number);
+        most = omega (arith, number, none, lt, few);
+        value = refl;
+      }),
+    )
 
 pub on_same : (b a l c m i j : ℕ) → a * b + l < 100 → i ≡ suc (a * b + l) → j ≡ suc (c * b + m) → c ≡ a → m ≡ l + 1
     → (n : ℕ) × IsBase b i j n
 on_same b a l c m i j few first second same next =
-    let row : c * b ≡ a * b = ap (λ k. k * b) same in
-    (22 + 8 * (a * b + l) + 2 * 0, inr (record {
-      brick = a * b + l;
-      further = 1;
-      slot = 0;
-      first = first;
-      few = few;
-      second = omega (arith, first, second, row, next);
-      is_slot = inl (refl, refl);
-      value = refl;
-    }))
+    let row : c * b ≡ a * b = ap (λ k. k * b) same in (
+      22 + 8 * (a * b + l) + 2 * 0,
+      inr (record {
+        brick = a * b + l;
+        further = 1;
+        slot = 0;
+        first = first;
+        few = few;
+        second = omega (arith, first, second, row, next);
+        is_slot = inl (refl, refl);
+        value = refl;
+      }),
+    )
 
 slot_of : (b m l : ℕ) → 2 ≤ b → m ≤ l + 1 → l ≤ m + 1 → (t : ℕ) × IsSlot b (b + m - l) t
 slot_of b m l some after before = go (cases (b + m - l) (omega (arith, some, before)))
@@ -121,14 +125,16 @@ pub on_next : (b a l c m i j : ℕ) → 2 ≤ b → a * b + l < 100 → i ≡ su
     → m ≤ l + 1 → l ≤ m + 1 → (n : ℕ) × IsBase b i j n
 on_next b a l c m i j some few first second next after before =
     let row : c * b ≡ b + a * b = ap (λ k. k * b) next ∙ once_more a b in
-    let t = slot_of b m l some after before in
-    (22 + 8 * (a * b + l) + 2 * t.0, inr (record {
-      brick = a * b + l;
-      further = b + m - l;
-      slot = t.0;
-      first = first;
-      few = few;
-      second = omega (arith, first, second, row, some, before);
-      is_slot = t.1;
-      value = refl;
-    }))
+    let t = slot_of b m l some after before in (
+      22 + 8 * (a * b + l) + 2 * t.0,
+      inr (record {
+        brick = a * b + l;
+        further = b + m - l;
+        slot = t.0;
+        first = first;
+        few = few;
+        second = omega (arith, first, second, row, some, before);
+        is_slot = t.1;
+        value = refl;
+      }),
+    )

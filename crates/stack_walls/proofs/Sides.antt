@@ -1,5 +1,5 @@
 -- Two rectangles side by side, or one above the other: an edge separates them. And where their common points lie.
-use Rattle.std.proofs.Common.{◌≡◌, refl, ℕ, zero, suc, ◌<◌, ℤ, pos, negsuc, ◌-ℤ◌, ◌*ℤ◌, Bool, true, ◌&&◌, length, inl, inr, arith}
+use Rattle.std.proofs.Common.{◌≡◌, refl, ℕ, zero, suc, ◌<◌, ℤ, pos, ◌-ℤ◌, ◌*ℤ◌, true, ◌&&◌, inl, inr, arith}
 use Rattle.std.specs.Prelude.{int_lt}
 use Rattle.std.proofs.lemmas.Int.{ints}
 use Rattle.stack_algebra.proofs.Conjunctions.{both_true}
@@ -7,10 +7,9 @@ use Rattle.stack_algebra.proofs.Integers.{expand, sums}
 use Rattle.stack_algebra.proofs.Order.{◌≼◌, ◌≺◌, mul_nonneg, nonneg-cancel}
 use Rattle.stack_polygon.specs.declared.point.Point.{Point}
 use Rattle.stack_polygon.specs.Plane.{Triple}
-use Rattle.stack_polygon.specs.Corners.{corner_of, side_of, IsInside}
+use Rattle.stack_polygon.specs.Corners.{IsInside}
 use Rattle.stack_polygon.specs.Limits.{is_near, are_in_range}
 use Rattle.stack_model.proofs.Points.{outlined}
-use Rattle.stack_overlap.specs.Separation.{Separates}
 use Rattle.stack_contact.specs.Surveyed.{AreSeparated}
 use Rattle.stack_overhang.specs.declared.types.Rectangle.{Rectangle}
 use Rattle.stack_overhang.specs.Bricks.{rectangle_corners}
@@ -68,14 +67,17 @@ pub beside : (r q : Rectangle) → HasArea r → HasArea q → r.right ≼ q.lef
 beside r q a b on =
     let up : pos 0 ≼ r.top -ℤ r.bottom = let t = a.tall in omega (arith, sums) in
     let far : r.right ≼ q.right = let t = b.wide in omega (arith, sums) in
-    inl (1, record {
-      is_edge = omega arith;
-      apart = below_four _
-          (beyond_right r.right (r.top -ℤ r.bottom) q.left (q.bottom -ℤ r.bottom) up on)
-          (beyond_right r.right (r.top -ℤ r.bottom) q.right (q.bottom -ℤ r.bottom) up far)
-          (beyond_right r.right (r.top -ℤ r.bottom) q.right (q.top -ℤ r.bottom) up far)
-          (beyond_right r.right (r.top -ℤ r.bottom) q.left (q.top -ℤ r.bottom) up on);
-    })
+    inl (
+      1,
+      record {
+        is_edge = omega arith;
+        apart = below_four _
+            (beyond_right r.right (r.top -ℤ r.bottom) q.left (q.bottom -ℤ r.bottom) up on)
+            (beyond_right r.right (r.top -ℤ r.bottom) q.right (q.bottom -ℤ r.bottom) up far)
+            (beyond_right r.right (r.top -ℤ r.bottom) q.right (q.top -ℤ r.bottom) up far)
+            (beyond_right r.right (r.top -ℤ r.bottom) q.left (q.top -ℤ r.bottom) up on);
+      },
+    )
 
 -- one ends where the other begins, or before, from the bottom up
 pub below : (r q : Rectangle) → HasArea r → HasArea q → r.top ≼ q.bottom
@@ -83,14 +85,17 @@ pub below : (r q : Rectangle) → HasArea r → HasArea q → r.top ≼ q.bottom
 below r q a b on =
     let back : r.left -ℤ r.right ≼ pos 0 = let t = a.wide in omega (arith, sums) in
     let far : r.top ≼ q.top = let t = b.tall in omega (arith, sums) in
-    inl (2, record {
-      is_edge = omega arith;
-      apart = below_four _
-          (beyond_top r.top (r.left -ℤ r.right) (q.left -ℤ r.right) q.bottom back on)
-          (beyond_top r.top (r.left -ℤ r.right) (q.right -ℤ r.right) q.bottom back on)
-          (beyond_top r.top (r.left -ℤ r.right) (q.right -ℤ r.right) q.top back far)
-          (beyond_top r.top (r.left -ℤ r.right) (q.left -ℤ r.right) q.top back far);
-    })
+    inl (
+      2,
+      record {
+        is_edge = omega arith;
+        apart = below_four _
+            (beyond_top r.top (r.left -ℤ r.right) (q.left -ℤ r.right) q.bottom back on)
+            (beyond_top r.top (r.left -ℤ r.right) (q.right -ℤ r.right) q.bottom back on)
+            (beyond_top r.top (r.left -ℤ r.right) (q.right -ℤ r.right) q.top back far)
+            (beyond_top r.top (r.left -ℤ r.right) (q.left -ℤ r.right) q.top back far);
+      },
+    )
 
 -- a whole point as a point of the plane
 abbrev pub point_at : Point → Triple

@@ -3,9 +3,6 @@ use Rattle.std.proofs.Common.{◌≡◌, refl, sym, subst₂, ℕ, zero, suc, �
 use Rattle.std.proofs.Common.{length, Option, Some, None, Result, Ok, Err, arith}
 use Rattle.std.specs.Prelude.{slice_get, MatchOption, IfSome}
 use Rattle.std.proofs.lemmas.Nat.{mod_below}
-use Rattle.stack_algebra.proofs.Integers.{sums}
-use Rattle.stack_polygon.specs.declared.point.Point.{Point}
-use Rattle.stack_polygon.specs.Plane.{IsAt}
 use Rattle.stack_overlap.specs.Separation.{Overlaps}
 use Rattle.stack_overlap.proofs.Separated.{apart-first, apart-second}
 use Rattle.stack_model.specs.Structure.{Structure}
@@ -71,15 +68,18 @@ module _ (tells : RangesTellSeparation) (told : RangesTellContacts) (w : Wall) (
       (first_rectangle z.first z.second b.pair) (second_rectangle z.first z.second b.pair)
       (apart w h z.first z.second b.pair) z.frame z.at bears in
       let low = base_below w.bricks z.first z.second base.0 base.1 in
-      let one = end.2 in
-      (base.0 + end.0, record {
-        base = base.0;
-        end = end.0;
-        is_base = base.1;
-        is_end = end.1;
-        most = one;
-        sum = refl;
-      }, omega (arith, low, one))
+      let one = end.2 in (
+        base.0 + end.0,
+        record {
+          base = base.0;
+          end = end.0;
+          is_base = base.1;
+          is_end = end.1;
+          most = one;
+          sum = refl;
+        },
+        omega (arith, low, one),
+      )
 
   ranks_grow : (y z : Bearing) (r q : ℕ) → IsPair s y.first y.second → IsRank y r → IsRank z q
       → ComesBefore y.first y.second y.at z.first z.second z.at → r < q
@@ -136,14 +136,17 @@ module _ (tells : RangesTellSeparation) (told : RangesTellContacts) (w : Wall) (
   has_survey = by (all_contacts s (λ i lt. (rectangles w h i lt).polygon) contacts)
     where
       by : (zs : List Bearing) × (ts : List Touch) × AreAllFound s zs ts → HasSurvey s
-      by (zs, ts, all) = (surveyed s zs ts, record {
-        structure = refl;
-        apart = all.apart;
-        clear = all.clear;
-        bearings = all.bearings;
-        few = few zs all.bearings;
-        touches = all.touches;
-      })
+      by (zs, ts, all) = (
+        surveyed s zs ts,
+        record {
+          structure = refl;
+          apart = all.apart;
+          clear = all.clear;
+          bearings = all.bearings;
+          few = few zs all.bearings;
+          touches = all.touches;
+        },
+      )
 
 pub walls_have_surveys : RangesTellSeparation → RangesTellContacts → WallsHaveSurveys
 walls_have_surveys tells told w h = has_survey tells told w h
