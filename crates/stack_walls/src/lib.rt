@@ -1,4 +1,4 @@
-//! Each built-in wall can be surveyed: laws only. None of its bodies overlap, and it never has too many bearings.
+//! Each built-in wall has a survey: no two of its bodies overlap, and its bearings aren't too many. Laws only.
 #![tactic(auto)]
 
 mod laws;
