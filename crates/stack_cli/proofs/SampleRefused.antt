@@ -18,14 +18,13 @@ use Rattle.stack_equilibrium.specs.declared.types.Question.TheVariants.{Live}
 use Rattle.stack_judge.specs.Judgement.{Judgement, certified, too_wide, spent, unjudged, judgement}
 use Rattle.stack_judge.specs.declared.types.JudgePlace.{JudgePlace}
 use Rattle.stack_lines.specs.declared.refusal.Within.TheVariants.{Whole}
-use Rattle.stack_lines.specs.Refusals.{Refusal, Fault, faulty, memory, size, over_budget, status_of}
-use Rattle.stack_lines.specs.Answers.{Due}
+use Rattle.stack_lines.specs.Refusals.{Refusal, faulty, memory, size, over_budget, status_of}
 use Rattle.stack_forms.specs.Forms.{sample}
 use Rattle.stack_forms.specs.Judging.{default_budget, wide_fault}
 use Rattle.stack_forms.specs.Sampling.{sample_of, sample_step, sampled, wall_sampled, sample_work}
 use Rattle.stack_forms.specs.Stacking.{built_step}
 use Rattle.stack_forms.specs.Surveying.{survey_step}
-use Rattle.stack_forms.specs.Work.{◌>>=◌, Found, Holds, MayFind, Ends, EndsRefusing}
+use Rattle.stack_forms.specs.Work.{◌>>=◌, Found, Holds, MayFind, Ends}
 use Rattle.stack_cli.specs.MainTheorem.{RunMeets}
 use Rattle.stack_cli.proofs.CertificateFile.{caused_by}
 use Rattle.stack_cli.proofs.Deciding.{wide_is_seven}
@@ -39,11 +38,14 @@ data SampleWhy (number : ℕ) (r : Refusal) : Type 0 where
   for_budget : (s : Structure) (v : Surveyed) → sample_of number ≡ Ok s → IsSurvey s v
       → judgement Live v default_budget ≡ spent → r ≡ faulty (over_budget default_budget) → SampleWhy number r
 
+abbrev made : Structure → Result Structure StackError
+made s = Ok s
+
 -- the wall of a number within the limits has a survey
 pub wall_surveyed : DrawnWallsHaveSurveys → (number : ℕ) (s : Structure) → sample_of number ≡ Ok s → HasSurvey s
 wall_surveyed drawn number s is = go (is_size 0 999999 number) is
   where
-    go : (b : Bool) → (if b then Ok (wall_of number) else Err built.Size) ≡ Ok s → HasSurvey s
+    go : (b : Bool) → (if b then made (wall_of number) else Err built.Size) ≡ made s → HasSurvey s
     go true e = let same : wall_of number ≡ s = cc in subst HasSurvey same (drawn number)
     go false e = absurd (cc)
 
