@@ -1,5 +1,5 @@
 -- No end of the run of a survey's problem is left unjudged.
-use Rattle.std.proofs.Common.{◌≡◌, ◌≢◌, Option, Some, None}
+use Rattle.std.proofs.Common.{◌≢◌, Option, Some, None}
 use Rattle.stack_algebra.specs.Fraction.{Fraction}
 use Rattle.stack_algebra.proofs.OrderedFractions.{ordered_fractions}
 use Rattle.stack_rational.specs.Laws.{widest}

@@ -2,10 +2,12 @@
 
 ghost use Rattle.std.specs.Prelude.{◌≡◌, ◌≢◌, IfOk, IfSome};
 ghost use Rattle.stack_certificate.specs.Certificate.{certificate_view};
-ghost use Rattle.stack_revised.specs.Ended.{kind_of_end};
+ghost use Rattle.stack_equilibrium.specs.declared.types.Question.{Question};
+ghost use Rattle.stack_extract.specs.Ends.{IsLastOf, IsLastOfSome};
+ghost use Rattle.stack_revised.specs.Ended.{shape_of_last, flips_of_last, value_of_last};
 ghost use Rattle.stack_judge.specs.Judgement.{LacksLive, Judges};
 ghost use Rattle.stack_judge.specs.Judged.{IsJudged};
-ghost use Rattle.stack_judge.specs.Certifying.{stopped_answer};
+ghost use Rattle.stack_judge.specs.Certifying.{GivesChecked, stopped_answer};
 
 use crate::certifying::certify_at;
 use crate::types::{JudgeError, JudgePlace};
@@ -13,18 +15,23 @@ use stack_certificate::types::Certificate;
 use stack_contact::types::Survey;
 use stack_equilibrium::types::Question;
 use stack_extract::pose;
-use stack_revised::{RevisedEnd, RevisedStop, run_revised};
-use stack_tableau::EndKind;
+use stack_revised::{Last, RevisedEnd, RevisedStop, run_revised};
+use stack_rows::whole::Whole;
 use std::alloc::Global;
 
-/// How a run ended.
-fn kind_of(end: &RevisedEnd) -> EndKind
-    ensures { result ≡ kind_of_end end.now }
+/// The certificate of an end of a survey's run over rows: as `certify_at`.
+fn certify_last<T: Whole>(
+    alloc: Global,
+    s: &Survey,
+    last: &Last<T>,
+) -> Result<Certificate, JudgeError>
+    requires { IsLastOfSome s.now (shape_of_last last.now) (flips_of_last last.now) (value_of_last last.now) }
+    ensures gives { (q : Question) → IsLastOf q s.now (shape_of_last last.now) (flips_of_last last.now)
+        (value_of_last last.now) → GivesChecked result q s.now (value_of_last last.now) }
+    ensures judged { (q : Question) → IsLastOf q s.now (shape_of_last last.now) (flips_of_last last.now)
+        (value_of_last last.now) → IfOk result (λ c. IsJudged q s.now (certificate_view c)) }
 {
-    match end {
-        RevisedEnd::AtNarrow(last) => last.kind,
-        RevisedEnd::AtWide(last) => last.kind,
-    }
+    certify_at(alloc, s, last.kind, last)
 }
 
 /// What a revised run that has no end tells of the judgement; None where it isn't settled.
@@ -56,7 +63,8 @@ pub fn judge_revised(
         Err(_) => return Some(Err(JudgeError::Memory)),
     };
     match run_revised(alloc, &problem, budget) {
-        Ok(end) => Some(certify_at(alloc, s, kind_of(&end), &end)),
+        Ok(RevisedEnd::AtNarrow(last)) => Some(certify_last(alloc, s, &last)),
+        Ok(RevisedEnd::AtWide(last)) => Some(certify_last(alloc, s, &last)),
         Err(stop) => stopped(stop, budget),
     }
 }

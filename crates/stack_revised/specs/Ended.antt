@@ -1,7 +1,7 @@
 -- What the answer of a run of a problem says: how it ends, with its last table.
 use Rattle.std.specs.Prelude.{◌≡◌, ℕ, Bool, false, eqb, get_or, ⊤, Result, Ok, Err}
 use Rattle.stack_algebra.specs.Fraction.{Fraction}
-use Rattle.stack_table.specs.Table.{Shape, Tabled}
+use Rattle.stack_table.specs.Table.{Shape}
 use Rattle.stack_run.specs.WrittenRun.{End, wide, over}
 use Rattle.stack_rows.specs.declared.whole.Whole.{Ghosts}
 use Rattle.stack_tableau.specs.declared.end_kind.EndKind.{EndKind}
@@ -36,19 +36,10 @@ reads_column Feasible j = false
 reads_column Optimal j = false
 reads_column (Ray c) j = eqb j c
 
--- an end at either width: how it ends, its shape, its last table, whether a row was flipped, and the value that it
--- tells
-abbrev pub kind_of_end : RevisedEnd → EndKind
-kind_of_end (AtNarrow l) = l.kind
-kind_of_end (AtWide l) = l.kind
-
+-- an end at either width: its shape, whether a row was flipped, and the value that it tells
 abbrev pub shape_of_end : RevisedEnd → Shape
 shape_of_end (AtNarrow l) = shape_of_last l
 shape_of_end (AtWide l) = shape_of_last l
-
-abbrev pub table_of_end : RevisedEnd → Tabled Fraction
-table_of_end (AtNarrow l) = table_of_revised l.table
-table_of_end (AtWide l) = table_of_revised l.table
 
 abbrev pub flips_of_end : RevisedEnd → ℕ → Bool
 flips_of_end (AtNarrow l) = flips_of_last l

@@ -23,6 +23,7 @@ pub mod stops;
 mod tableau;
 
 pub use ended::RevisedEnd;
+pub use last::Last;
 pub use running::run_revised;
 pub use stops::RevisedStop;
 

@@ -1,11 +1,9 @@
-//! What is read of the last table: an end at either width is a last table.
+//! What is read of the last table.
 
 ghost use Rattle.std.specs.Prelude.{◌≡◌};
 ghost use Rattle.stack_inverse.specs.Seen.{table_of_revised};
-ghost use Rattle.stack_revised.specs.Ended.{shape_of_last, flips_of_last, reads_column, kind_of_end};
-ghost use Rattle.stack_revised.specs.Ended.{shape_of_end, table_of_end, flips_of_end};
+ghost use Rattle.stack_revised.specs.Ended.{shape_of_last, flips_of_last, reads_column};
 
-use crate::ended::RevisedEnd;
 use crate::last::Last;
 use stack_rational::Frac;
 use stack_rows::cells::cell;
@@ -55,72 +53,5 @@ impl<T: Whole> LastTable for Last<T> {
 
     fn cell_of(&self, i: usize, _j: usize) -> Frac<i128> {
         cell(self.column[i], self.table.under(i))
-    }
-}
-
-impl LastTable for RevisedEnd {
-    ghost shape = { λ e. shape_of_end e };
-
-    ghost table = { λ e. table_of_end e };
-
-    ghost flips = { λ e. flips_of_end e };
-
-    // The column of a ray.
-    ghost reads = { λ e j. reads_column (kind_of_end e) j };
-
-    fn row_count(&self) -> usize {
-        match self {
-            RevisedEnd::AtNarrow(last) => last.row_count(),
-            RevisedEnd::AtWide(last) => last.row_count(),
-        }
-    }
-
-    fn contact_count(&self) -> usize {
-        match self {
-            RevisedEnd::AtNarrow(last) => last.contact_count(),
-            RevisedEnd::AtWide(last) => last.contact_count(),
-        }
-    }
-
-    fn plain_count(&self) -> usize {
-        match self {
-            RevisedEnd::AtNarrow(last) => last.plain_count(),
-            RevisedEnd::AtWide(last) => last.plain_count(),
-        }
-    }
-
-    fn basic_of(&self, i: usize) -> usize {
-        match self {
-            RevisedEnd::AtNarrow(last) => last.basic_of(i),
-            RevisedEnd::AtWide(last) => last.basic_of(i),
-        }
-    }
-
-    fn is_flipped(&self, i: usize) -> bool {
-        match self {
-            RevisedEnd::AtNarrow(last) => last.is_flipped(i),
-            RevisedEnd::AtWide(last) => last.is_flipped(i),
-        }
-    }
-
-    fn right_of(&self, i: usize) -> Frac<i128> {
-        match self {
-            RevisedEnd::AtNarrow(last) => last.right_of(i),
-            RevisedEnd::AtWide(last) => last.right_of(i),
-        }
-    }
-
-    fn multiplier_of(&self, i: usize) -> Frac<i128> {
-        match self {
-            RevisedEnd::AtNarrow(last) => last.multiplier_of(i),
-            RevisedEnd::AtWide(last) => last.multiplier_of(i),
-        }
-    }
-
-    fn cell_of(&self, i: usize, j: usize) -> Frac<i128> {
-        match self {
-            RevisedEnd::AtNarrow(last) => last.cell_of(i, j),
-            RevisedEnd::AtWide(last) => last.cell_of(i, j),
-        }
     }
 }

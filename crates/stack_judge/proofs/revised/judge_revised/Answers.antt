@@ -1,30 +1,33 @@
+use Rattle.std.proofs.Common.{sym, ap, ◌∙◌}
+use Rattle.stack_inverse.specs.Seen.{table_of_revised}
+use Rattle.stack_revised.specs.Ended.{shape_of_last, flips_of_last, value_of_last}
+use Rattle.stack_revised.specs.Ended.{shape_of_end, flips_of_end, value_of_end}
 use Rattle.stack_judge.proofs.Judgements.{end_judges}
-use Rattle.stack_judge.proofs.RevisedRuns.{reads_ray, ends_survey, last_of_revised}
+use Rattle.stack_judge.proofs.RevisedRuns.{ends_survey, last_of_revised}
 use Rattle.stack_judge.proofs.revised.judge_revised.Goals as goal
 
-pub certify_at-requires-clause-end : goal.certify_at-requires-clause-end
-certify_at-requires-clause-end c = (
-  c.args.q,
-  last_of_revised c.args.q c.args.s.now c.args.budget c.in-Ok.problem c.in-Ok.ensures.problem
-      c.in-Ok-run_revised.end c.kind_of.result c.kind_of.ensures c.in-Ok-run_revised.ensures.shape
-      c.in-Ok-run_revised.ensures.flips c.in-Ok-run_revised.ensures.value,
-)
-
-pub certify_at-requires-clause-reads : goal.certify_at-requires-clause-reads
-certify_at-requires-clause-reads c = reads_ray c.in-Ok-run_revised.end c.kind_of.result c.kind_of.ensures
-
-pub returns-in-Ok-run_revised-clause-judges : goal.returns-in-Ok-run_revised-clause-judges
-returns-in-Ok-run_revised-clause-judges c = end_judges c.args.q c.args.s.now c.args.budget c.kind_of.result _
-    c.certify_at.result c.requires.live
-    (ends_survey c.args.q c.args.s.now c.args.budget c.in-Ok.problem c.in-Ok.ensures.problem
-    c.in-Ok-run_revised.end c.kind_of.result c.kind_of.ensures c.in-Ok-run_revised.ensures.value)
-    (c.certify_at.ensures.gives c.args.q
+pub returns-in-Ok-AtNarrow-clause-judges : goal.returns-in-Ok-AtNarrow-clause-judges
+returns-in-Ok-AtNarrow-clause-judges c =
+    let last = c.in-Ok-AtNarrow.last in
+    let value = sym (ap value_of_end c.in-Ok-AtNarrow.field-0-is) ∙ c.in-Ok-AtNarrow.ensures.value in
+    end_judges c.args.q c.args.s.now c.args.budget last.kind (table_of_revised last.table) c.certify_last.result
+    c.requires.live
+    (ends_survey c.args.q c.args.s.now c.args.budget c.in-Ok.problem c.in-Ok.ensures.problem (value_of_last last) value)
+    (c.certify_last.ensures.gives c.args.q
     (last_of_revised c.args.q c.args.s.now c.args.budget c.in-Ok.problem c.in-Ok.ensures.problem
-    c.in-Ok-run_revised.end c.kind_of.result c.kind_of.ensures c.in-Ok-run_revised.ensures.shape
-    c.in-Ok-run_revised.ensures.flips c.in-Ok-run_revised.ensures.value))
+    (shape_of_last last) (flips_of_last last) (value_of_last last)
+    (sym (ap shape_of_end c.in-Ok-AtNarrow.field-0-is) ∙ c.in-Ok-AtNarrow.ensures.shape)
+    (sym (ap flips_of_end c.in-Ok-AtNarrow.field-0-is) ∙ c.in-Ok-AtNarrow.ensures.flips) value))
 
-pub returns-in-Ok-run_revised-clause-judged : goal.returns-in-Ok-run_revised-clause-judged
-returns-in-Ok-run_revised-clause-judged c = c.certify_at.ensures.judged c.args.q
+pub returns-in-Ok-AtWide-clause-judges : goal.returns-in-Ok-AtWide-clause-judges
+returns-in-Ok-AtWide-clause-judges c =
+    let last = c.in-Ok-AtWide.last in
+    let value = sym (ap value_of_end c.in-Ok-AtWide.field-0-is) ∙ c.in-Ok-AtWide.ensures.value in
+    end_judges c.args.q c.args.s.now c.args.budget last.kind (table_of_revised last.table) c.certify_last-in-Ok-AtWide.result
+    c.requires.live
+    (ends_survey c.args.q c.args.s.now c.args.budget c.in-Ok.problem c.in-Ok.ensures.problem (value_of_last last) value)
+    (c.certify_last-in-Ok-AtWide.ensures.gives c.args.q
     (last_of_revised c.args.q c.args.s.now c.args.budget c.in-Ok.problem c.in-Ok.ensures.problem
-    c.in-Ok-run_revised.end c.kind_of.result c.kind_of.ensures c.in-Ok-run_revised.ensures.shape
-    c.in-Ok-run_revised.ensures.flips c.in-Ok-run_revised.ensures.value)
+    (shape_of_last last) (flips_of_last last) (value_of_last last)
+    (sym (ap shape_of_end c.in-Ok-AtWide.field-0-is) ∙ c.in-Ok-AtWide.ensures.shape)
+    (sym (ap flips_of_end c.in-Ok-AtWide.field-0-is) ∙ c.in-Ok-AtWide.ensures.flips) value))
