@@ -1,11 +1,11 @@
 #!/usr/bin/env python3
 """Proves and builds the program and all crates below it, several crates side by side.
 
-`pungiroe` calls it where the program is missing or older than its sources. rt holds the folders of a crate and of all
-below it while it works, so each crate is proved in a copy of the sources, over the libraries that are made already, and
-its library then goes to its place in this clone. A crate begins once all that it stands on is made, that with the most
-work behind it first; of those under way each stands back the further, the less work it has behind it. A line for each
-goes to standard error; what rt says goes to crates/stack_cli/out/build.log. The status is 0 where the program is built.
+`pungiroe` calls it if the program is missing or older than its sources. rt holds the folders of a crate and of all
+below it while it works. So each crate is proved in a copy of the sources, over the libraries that are made already, and
+its library then goes to its place in this clone. A crate begins once all that it stands on is made. The crate with the
+most work behind it goes first; the less work a crate has behind it, the lower its priority. A line for each crate goes
+to standard error; what rt says goes to crates/stack_cli/out/build.log. The exit status is 0 if the program is built.
 """
 import fcntl
 import glob

@@ -1,11 +1,13 @@
 #!/usr/bin/env python3
 """Refuses each allocation of the built program in turn, outside the gate.
 
-Run at the top of the repository once ./pungiroe is built: tools/fail_allocations.py
-It needs a C compiler, with which it makes a library that stands before malloc and realloc. For each call of the program
-below it counts up: the Nth allocation fails, until there are fewer than N. Each time the status has to be 11, with
-nothing on standard output and at most the line `memory` on standard error, or the answer the one without a failure.
-The library fails one allocation only, so a program that tried again would show as the usual answer."""
+Run it at the top of the repository once ./pungiroe is built: tools/fail_allocations.py
+
+It needs a C compiler, and makes a library with it that replaces malloc and realloc. It repeats each call of the program
+below: the first time the first allocation fails, then the second, until there are no more. Each time the status must
+be 11, with nothing on standard output and at most the line `memory` on standard error; or the answer must be the usual
+one. The library fails one allocation only, so a program that tried again would print the usual answer.
+"""
 import os
 import subprocess
 import sys

@@ -189,6 +189,26 @@ fn a_sway_acts_at_the_centroid_beside_the_live_loads(rt: HostRuntime) -> Result<
     Ok(())
 }
 
+/// The triangle weighs 9, and its centroid is 8/3 to the right of its first corner and 1 above it. The sway (1, 0) is 9
+/// to the right there, which turns by -9*1. The sway (2, -1) is 18 to the right and 9 downwards, which turn by
+/// -18*1 - 9*8/3 = -42. Six times each are the loads, and -6*9*8/3 = -144 is the moment of the weight.
+#[test]
+fn a_triangle_sways_by_all_three_parts_about_its_first_corner(rt: HostRuntime) -> Result<(), Fail> {
+    let gable = Block {
+        name: "gable",
+        fixed: false,
+        corners: &[[1, 2], [7, 2], [3, 5]],
+    };
+    let pushed = surveyed(&rt, &[1, 1], &[GROUND, gable], &[], [1, 0])?;
+    assert_eq!(rt; pushed.free_count(), 1);
+    assert_eq!(rt; dead(&pushed, 0), wrench(0, -54, -144));
+    assert_eq!(rt; live(&pushed, 0), wrench(54, 0, -54));
+    let aslant = surveyed(&rt, &[1, 1], &[GROUND, gable], &[], [2, -1])?;
+    assert_eq!(rt; aslant.free_count(), 1);
+    assert_eq!(rt; live(&aslant, 0), wrench(108, -54, -252));
+    Ok(())
+}
+
 #[test]
 fn a_bearing_acts_on_both_bodies_and_on_no_other(rt: HostRuntime) -> Result<(), Fail> {
     let lower = Block {
