@@ -15,7 +15,8 @@ use Rattle.stack_cli.proofs.Consequences.{run_meets}
 use Rattle.stack_cli.proofs.RunSaid.{run_says}
 
 pub refused_runs : PrintedIsAccepted → DrawnWallsHaveSurveys → {F : Type 0} (shelf : ShelfGhosts F) (old : F)
-    (r : CodeRefusal) (status : ℕ) (out err : StreamSeen) → Works None (seen_shelf shelf old old) (Err r) → Delivers (Err r) status out err
+    (r : CodeRefusal) (status : ℕ) (out err : StreamSeen) → Works None (seen_shelf shelf old old) (Err r)
+    → Delivers (Err r) status out err
     → PutsAnswer status out → PutsLine status err → out.faults ≤ out.faults_after → err.faults ≤ err.faults_after
     → Runs status None (seen_shelf shelf old old) out err
 refused_runs law drawn shelf old r status out err works delivers one_put one_line out_later err_later =

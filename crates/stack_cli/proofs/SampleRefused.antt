@@ -1,7 +1,7 @@
 -- Why `sample` refuses, out of the theorem on the top call, whatever the devices did: its number is too great, a number
--- of the judgement of its wall is too wide, or the budget is spent. Its wall has a survey, so it isn't refused for that.
-use Rattle.std.proofs.Common.{◌≡◌, ◌≢◌, refl, sym, subst, ap, ◌∙◌, ℕ, ◌≤◌, Bool, true, false, List, Some, Result, Ok, Err}
-use Rattle.std.proofs.Common.{inl, inr, arith}
+-- of the judgement of its wall is too wide, or the budget is spent. Its wall has a survey, so surveying never refuses.
+use Rattle.std.proofs.Common.{◌≡◌, ◌≢◌, refl, sym, subst, ap, ◌∙◌, ℕ, ◌≤◌, Bool, true, false, List, Some, Result, Ok}
+use Rattle.std.proofs.Common.{Err, inl, inr, arith}
 use Rattle.std.specs.Prelude.{if◌then◌else◌}
 use Rattle.stack_outside.specs.Seen.{ShelfSeen, StreamSeen}
 use Rattle.stack_model.specs.Structure.{Structure}
@@ -102,8 +102,8 @@ module _ (drawn : DrawnWallsHaveSurveys) (status : ℕ) (shelf : ShelfSeen) (out
       record {
         refusal = r.refusal;
         at = at;
-        why = by_work drawn shelf.holds number r.refusal m.names (caused_by status r.refusal (sample number) shelf m.names
-            out at (λ e. absurd (omega (arith, e, above))) (λ e. absurd (omega (arith, e, above)))
+        why = by_work drawn shelf.holds number r.refusal m.names (caused_by status r.refusal (sample number) shelf
+            m.names out at (λ e. absurd (omega (arith, e, above))) (λ e. absurd (omega (arith, e, above)))
             (λ e. absurd (omega (arith, e, below))) (λ e. absurd (omega (arith, e, below))) r.cause);
       }
 
@@ -119,8 +119,8 @@ module _ (drawn : DrawnWallsHaveSurveys) (status : ℕ) (shelf : ShelfSeen) (out
       go r at (for_size is e) = is
       go r at (for_width s v p is survey judged e) = absurd (two 7 5 (faulty (wide_fault v.structure p)) r
           (wide_is_seven Whole v.structure p) e at five (λ e. absurd (omega (arith, e))))
-      go r at (for_budget s v is survey judged e) = absurd (two 8 5 (faulty (over_budget default_budget)) r refl e at five
-          (λ e. absurd (omega (arith, e))))
+      go r at (for_budget s v is survey judged e) = absurd (two 8 5 (faulty (over_budget default_budget)) r refl e at
+          five (λ e. absurd (omega (arith, e))))
 
   pub has_wide : status ≡ 7 → (s : Structure) × (v : Surveyed) × (p : JudgePlace) × (sample_of number ≡ Ok s)
       × IsSurvey s v × (judgement Live v default_budget ≡ too_wide p)
