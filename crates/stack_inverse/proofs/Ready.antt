@@ -30,8 +30,8 @@ module _ {V : Type 0} (value : V → ℤ) (m : ℕ) (columns : List (Column V)) 
     where
       go : Dec (j < suc m) → unsigned_abs (number_at value row j) ≤ unsigned_abs p
       go (yes l) = subst (λ z. unsigned_abs z ≤ unsigned_abs p) (sym (row_read value m columns (length columns + j)
-          row d (number_at value row j) (length columns) j refl (omega arith) (omega arith) (omega (arith, l)) refl))
-          (h (length columns + j))
+          plain_own row d (number_at value row j) (length columns) j refl (omega arith) (omega arith)
+          (omega (arith, l)) refl)) (h (length columns + j))
       go (no l) = subst (λ z. unsigned_abs z ≤ unsigned_abs p) (sym (at-past value (pos 0) row j (omega (arith, n, l))))
           (none_within p)
 

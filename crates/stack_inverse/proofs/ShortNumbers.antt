@@ -1,6 +1,6 @@
 -- Numbers of a row that are made in 64 bits, by a bound of them.
 use Rattle.std.proofs.Common.{◌≡◌, refl, sym, ap, subst, ◌∙◌, ℕ, zero, suc, ◌+◌, ◌-◌, ◌*◌, ◌^◌, ◌<◌, ◌≤◌, Bool}
-use Rattle.std.proofs.Common.{true, false, cond, eqb, ltb, List, [], ◌∷◌, length, get_or, take, drop, drop-cons}
+use Rattle.std.proofs.Common.{true, false, cond, eqb, ltb, List, [], ◌∷◌, length, get_or, drop, drop-cons}
 use Rattle.std.proofs.Common.{add-one, arith, mul-le-mul}
 use Rattle.std.specs.List.{AllByRecursion}
 use Rattle.std.proofs.lemmas.Bool.{lt-ltb, eq-eqb}
@@ -15,13 +15,12 @@ use Rattle.stack_rational.specs.Order.{is_zero_whole}
 use Rattle.stack_bland.specs.Choice.{is_negative_sign, is_plus}
 use Rattle.stack_inverse.specs.declared.columns.Cell.{Cell}
 use Rattle.stack_inverse.specs.declared.columns.Column.{Column}
-use Rattle.stack_rows.specs.RowForm.{cell_at, number_at, under_at}
+use Rattle.stack_rows.specs.RowForm.{number_at}
 use Rattle.stack_inverse.specs.RowBlock.{IsBound}
-use Rattle.stack_inverse.specs.Columns.{combined, sizes, by_place, number, entry_of, rises, cells_at, first_at}
-use Rattle.stack_inverse.specs.Columns.{AreFirst, IsOwn, revised_own, revised_number}
+use Rattle.stack_inverse.specs.Columns.{combined, sizes, by_place, number, entry_of, rises, cells_at}
+use Rattle.stack_inverse.specs.Columns.{AreFirst, IsOwn, revised_own, number_with}
 use Rattle.stack_inverse.specs.ShortRow.{products_in, product_sizes, own_number, IsShortRow}
 use Rattle.stack_rows.proofs.Numbers.{at-past}
-use Rattle.stack_inverse.proofs.NumberBlock.{part_value}
 use Rattle.stack_inverse.proofs.Linear.{combined_within}
 use Rattle.stack_inverse.proofs.Entered.{Rises, rises_of, over_entries}
 
@@ -284,17 +283,11 @@ module _ {V : Type 0} (value : V → ℤ) where
       together = sums_fit;
     }
 
--- the number of a row of a block that is lent as a slice
-pub lent_number : {V : Type 0} (value : V → ℤ) (m : ℕ) (columns : List (Column V)) (own ns ds : List V) (w : ℕ) →
-    w ≡ suc m → m * w + w ≤ length ns → (d : ℤ) → under_at value ds m ≡ d → (j : ℕ) →
-    own_number value m columns own (take (m * w + w - m * w) (drop (m * w) ns)) d j
-    ≡ revised_number value m columns own ns ds m j
-lent_number {V = V} value m columns own ns ds w e room d hd j = λ z. number m (length columns) (first_at value columns)
-    (λ k. own_is k z) (sym hd z) (λ k. cell_is k z) (cell_is m z) j
+-- the number of the objective row by its own cells
+pub objective_number : {V : Type 0} (value : V → ℤ) (m : ℕ) (columns : List (Column V)) (own row : List V) (d : ℤ)
+    (j : ℕ) → own_number value m columns own row d j
+    ≡ number_with value m columns (revised_own value m own m) row d j
+objective_number value m columns own row d j = λ z. number_with value m columns (λ k. own_is k z) row d j
   where
     own_is : (k : ℕ) → number_at value own k ≡ revised_own value m own m k
     own_is k = sym (ap (λ b. cond b (number_at value own k) (pos 0)) (eq-eqb m m refl))
-
-    cell_is : (k : ℕ) → number_at value (take (m * w + w - m * w) (drop (m * w) ns)) k
-        ≡ cell_at value (pos 0) (suc m) ns m k
-    cell_is k = part_value value (pos 0) w m ns room k ∙ ap (λ (n : ℕ). cell_at value (pos 0) n ns m k) e

@@ -1,6 +1,6 @@
 //! The first rows of a problem: their columns, their sizes and what they leave in the objective row.
 
-ghost use Rattle.std.specs.Prelude.{◌≡◌, ℕ, ◌<◌, ◌≤◌, map, length, get_or, pos, [], unsigned_abs, IfOk, IfSome};
+ghost use Rattle.std.specs.Prelude.{◌≡◌, ℕ, ◌<◌, ◌≤◌, map, length, get_or, [], unsigned_abs, IfOk, IfSome};
 ghost use Rattle.std.specs.List.{AllByRecursion};
 ghost use Rattle.stack_table.specs.Table.{plain};
 ghost use Rattle.stack_table.specs.Problem.{turned};
@@ -11,6 +11,8 @@ ghost use Rattle.stack_inverse.specs.FirstTable.{flips, AreTurned, AreFirstColum
 
 use crate::columns::{Cell, Column};
 use crate::first::First;
+use crate::making::widest_of;
+use crate::plain::Plain;
 use crate::stops::NoTable;
 use stack_rows::whole::Whole;
 use stack_table::problem::{Entry, Problem};
@@ -166,5 +168,24 @@ pub fn first_of<T: Whole>(alloc: Global, p: &Problem) -> Result<First<T>, NoTabl
         columns,
         most,
         rows: p.rows,
+    })
+}
+
+/// The first rows of a problem, and the own cells of the objective row of phase 1.
+pub fn plain_of<T: Whole>(alloc: Global, p: &Problem) -> Result<Plain<T>, NoTable>
+    requires { IsProblem p.now }
+    ensures rows { IfOk result (λ g. g.first.rows ≡ p.now.rows) }
+    ensures long { IfOk result (λ g. length g.first.columns.items ≡ plain (shape_of_problem p.now)) }
+    ensures turned { IfOk result (λ g. AreFirstColumns T.value p.now g.first.columns.items) }
+    ensures cells { IfOk result (λ g. (j : ℕ) → j < length g.first.columns.items →
+        number_at T.value g.own.items j ≡ less_cells T.value (cells_at g.first.columns.items j)) }
+{
+    let first = first_of(alloc, p)?;
+    let own = own_cells(alloc, first.columns.as_slice())?;
+    let greatest = widest_of(own.as_slice(), own.len());
+    Ok(Plain {
+        first,
+        own,
+        greatest,
     })
 }

@@ -5,10 +5,13 @@ ghost use Rattle.stack_algebra.specs.Sums.{sum_of};
 ghost use Rattle.std.specs.Prelude.{ℤ, OnSome};
 ghost use Rattle.stack_rows.specs.RowForm.{number_at};
 ghost use Rattle.stack_inverse.specs.RowBlock.{AreWithin, IsBound, IsTopped};
-ghost use Rattle.stack_inverse.specs.Columns.{revised_own, revised_number, row_number, AreEntered};
+ghost use Rattle.stack_inverse.specs.Columns.{revised_own, row_number, AreEntered};
+ghost use Rattle.stack_inverse.specs.RowsSeen.{seen_of, seen_at, number_in_row};
 
 use crate::columns::Cell;
 use crate::first::First;
+use crate::plain::Plain;
+use crate::row::Row;
 use stack_rows::whole::Whole;
 
 /// A sum and the product of two numbers. Most numbers of a row are 0.
@@ -40,36 +43,27 @@ fn sum_over<T: Whole>(cells: &[Cell<T>], numbers: &[T], start: T) -> Option<T>
 }
 
 /// The own number of a row: the objective row's, and 0 in the others.
-fn own_of<T: Whole>(rows: usize, own: &[T], i: usize, j: usize) -> T
-    requires { j < length own.now }
-    ensures { T.value result ≡ revised_own T.value rows own.now i j }
+fn own_of<T: Whole>(plain: &Plain<T>, i: usize, j: usize) -> T
+    requires { j < length plain.now.own.items }
+    ensures { T.value result ≡ revised_own T.value plain.now.first.rows plain.now.own.items i j }
 {
-    if i == rows { own[j] } else { T::zero() }
+    if i == plain.first.rows {
+        plain.own[j]
+    } else {
+        T::zero()
+    }
 }
 
-/// The number in a row and a plain column, over the denominator of the row. May give up; no clause says when.
-pub fn number_of<T: Whole>(
-    first: &First<T>,
-    own: &[T],
-    numbers: &[T],
-    unders: &[T],
-    i: usize,
-    j: usize,
-) -> Option<T>
-    requires room { i * suc first.now.rows + suc first.now.rows ≤ length numbers.now }
-    requires row_in { i < length unders.now }
-    requires column_in { j < length first.now.columns.items }
-    requires own_in { j < length own.now }
-    ensures { IfSome result (λ r. T.value r ≡ revised_number T.value first.now.rows first.now.columns.items own.now
-        numbers.now unders.now i j) }
+/// The number of row i in a plain column, over its denominator. May give up; no clause says when.
+pub fn number_of<T: Whole>(plain: &Plain<T>, row: &Row<T>, i: usize, j: usize) -> Option<T>
+    requires { j < length plain.now.first.columns.items }
+    ensures { IfSome result (λ r. T.value r ≡ number_in_row plain.now (seen_of row.now) i j) }
 {
-    let width = first.rows + 1;
-    let from = i * width;
-    let own_cell = own_of(first.rows, own, i, j);
-    let start = added(T::zero(), own_cell, unders[i])?;
+    let own_cell = own_of(plain, i, j);
+    let start = added(T::zero(), own_cell, row.under)?;
     let number = sum_over(
-        first.columns[j].cells.as_slice(),
-        &numbers[from..from + width],
+        plain.first.columns[j].cells.as_slice(),
+        row.numbers.as_slice(),
         start,
     )?;
     Some(number)
@@ -77,23 +71,19 @@ pub fn number_of<T: Whole>(
 
 /// Makes the numbers of a plain column, row by row. May give up; no clause says when.
 pub fn enter_column<T: Whole>(
-    first: &First<T>,
-    own: &[T],
-    numbers: &[T],
-    unders: &[T],
+    plain: &Plain<T>,
+    rows: &[Row<T>],
     entered: &mut [T],
     column: usize,
 ) -> Option<()>
-    requires long { length entered.old ≡ suc first.now.rows }
-    requires whole { length numbers.now ≡ suc first.now.rows * suc first.now.rows }
-    requires unders { length unders.now ≡ suc first.now.rows }
-    requires column_in { column < length first.now.columns.items }
-    requires own_in { length own.now ≡ length first.now.columns.items }
-    ensures { OnSome result (AreEntered T.value first.now.rows first.now.columns.items own.now numbers.now unders.now
-        column entered.new) }
+    requires long { length entered.old ≡ suc plain.now.first.rows }
+    requires height { length rows.now ≡ suc plain.now.first.rows }
+    requires column_in { column < length plain.now.first.columns.items }
+    ensures { OnSome result (AreEntered T.value plain.now.first.rows plain.now.first.columns.items plain.now.own.items
+        (seen_at rows.now) column entered.new) }
 {
     for i in 0..entered.len() {
-        let number = number_of(first, own, numbers, unders, i, column)?;
+        let number = number_of(plain, &rows[i], i, column)?;
         entered[i] = number;
     }
     Some(())

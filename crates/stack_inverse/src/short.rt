@@ -3,13 +3,15 @@
 ghost use Rattle.std.specs.Prelude.{◌≡◌, ℕ, suc, ◌+◌, ◌*◌, ◌-◌, ◌^◌, ◌<◌, ◌≤◌, pos, ◌-ℤ◌, ◌*ℤ◌, ◌<ℤ◌, length};
 ghost use Rattle.std.specs.Prelude.{unsigned_abs, IfSome};
 ghost use Rattle.std.specs.List.{AllByRecursion};
-ghost use Rattle.stack_rows.specs.RowForm.{number_at, ArePositive};
-ghost use Rattle.stack_inverse.specs.Columns.{IsOwn, revised_number};
+ghost use Rattle.stack_rows.specs.RowForm.{number_at};
+ghost use Rattle.stack_inverse.specs.Columns.{IsOwn};
 ghost use Rattle.stack_inverse.specs.ShortRow.{products_in, product_sizes, own_number, IsShortRow, least_negative};
 
 use crate::columns::Cell;
 use crate::first::First;
 use crate::making::{bound, size_over};
+use crate::plain::Plain;
+use crate::row::Row;
 use stack_rows::whole::Whole;
 
 /// A number less a product. Most numbers of a row are 0.
@@ -120,33 +122,22 @@ fn negative_in<T: Whole>(
 /// The least column below `among` in which the objective row has a negative number, where a bound of its numbers fits
 /// 64 bits. May give up; no clause says when.
 pub fn short_negative<T: Whole>(
-    first: &First<T>,
-    own: &[T],
-    numbers: &[T],
-    unders: &[T],
-    greatest: T,
+    plain: &Plain<T>,
+    row: &Row<T>,
     among: usize,
 ) -> Option<Option<usize>>
-    requires room { first.now.rows * suc first.now.rows + suc first.now.rows ≤ length numbers.now }
-    requires row_in { first.now.rows < length unders.now }
-    requires among { among ≤ length first.now.columns.items }
-    requires owns { length own.now ≡ length first.now.columns.items }
-    requires within { IsOwn T.value own.now (T.value greatest) }
-    requires positive { ArePositive T.value unders.now }
-    ensures value { IfSome result (λ r. r ≡ least_negative (revised_number T.value first.now.rows
-        first.now.columns.items own.now numbers.now unders.now first.now.rows) among) }
+    requires width { length row.now.numbers.items ≡ suc plain.now.first.rows }
+    requires among { among ≤ length plain.now.first.columns.items }
+    ensures value { IfSome result (λ r. r ≡ least_negative (own_number T.value plain.now.first.rows
+        plain.now.first.columns.items plain.now.own.items row.now.numbers.items (T.value row.now.under)) among) }
     ensures below { IfSome result (λ r. IfSome r (λ j. j < among)) }
 {
-    let width = first.rows + 1;
-    let from = first.rows * width;
-    let under = unders[first.rows];
-    let found = negative_in(
-        first,
-        own,
-        &numbers[from..from + width],
-        under,
-        greatest,
+    negative_in(
+        &plain.first,
+        plain.own.as_slice(),
+        row.numbers.as_slice(),
+        row.under,
+        plain.greatest,
         among,
-    )?;
-    Some(found)
+    )
 }
