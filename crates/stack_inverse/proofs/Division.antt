@@ -89,10 +89,10 @@ module _ {V : Type 0} (value : V → ℤ) (m : ℕ) (columns : List (Column V)) 
       ∙ over_fits max (pos 0) (pos 1) (omega (arith, ints)) (omega arith) (omega (arith, ints, is.some))
 
   module _ (max : ℤ) (fits : (x : V) → unsigned_abs (value x) ≤ unsigned_abs max) (own row : List V) (d : ℤ)
-      (positive : pos 0 ≺ d) (r c : ℕ) (l : r < m) (pivot : List V) (factor under bound : V)
+      (positive : pos 0 ≺ d) (r c : ℕ) (l : r < m) (pivot : List V) (factor under whole_top : V)
       (hf : value factor ≡ number_with value m columns (revised_own value m own r) row d c)
       (some : value factor ≢ pos 0) (s : IsSameRow value row (value factor) pivot (value under))
-      (b : AreWithin (row_number value m columns pivot (value under)) (value bound)) where
+      (b : AreWithin (row_number value m columns pivot (value under)) (value whole_top)) where
     some_there : number_with value m columns (revised_own value m own r) row d c ≢ pos 0
     some_there e = some (hf ∙ e)
 
@@ -104,7 +104,7 @@ module _ {V : Type 0} (value : V → ℤ) (m : ℕ) (columns : List (Column V)) 
         ∙ ap (λ z. z *ℤ value under) (row_is_plain own row d r (λ p. omega (arith, l, p)) j)
 
     within : (j : ℕ) → unsigned_abs (row_number value m columns pivot (value under) j) ≤ unsigned_abs max
-    within j = omega (arith, b j, fits bound)
+    within j = omega (arith, b j, fits whole_top)
 
     -- the pivot row is the written row, divided by its cell; no written quotient is too wide, and its cells fit
     pub pivot_row : IsDividedRow max (cell_with value m columns (revised_own value m own r) row d) c

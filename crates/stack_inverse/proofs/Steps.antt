@@ -18,8 +18,8 @@ use Rattle.stack_table.specs.Spots.{reduced, reduce_item}
 use Rattle.stack_table.proofs.RowSteps.{row_skips}
 use Rattle.stack_inverse.specs.declared.columns.Column.{Column}
 use Rattle.stack_rows.specs.RowForm.{number_at, IsTaken}
-use Rattle.stack_inverse.specs.RowBlock.{AreWithin, AllFit, IsBound, IsBounded, IsReduced}
-use Rattle.stack_inverse.specs.Columns.{first_at, AreFirst, IsOwn, revised_own, greatest_at}
+use Rattle.stack_inverse.specs.RowBlock.{AreWithin, AllFit, IsWholeTop, FitsByTop, IsReduced}
+use Rattle.stack_inverse.specs.Columns.{first_at, AreFirst, IsOwn, revised_own, own_top_at}
 use Rattle.stack_inverse.specs.Columns.{number_with, cell_with, row_number, row_cell}
 use Rattle.stack_rows.proofs.OverOneDenominator.{same_over}
 use Rattle.stack_inverse.proofs.RevisedRows.{number_within, row_takes, row_none, row_fits}
@@ -41,23 +41,24 @@ own_within : (b : Bool) (x y : ℤ) → unsigned_abs x ≤ unsigned_abs y → un
 own_within true x y h = h
 own_within false x y h = omega arith
 
--- 0 is within any bound
+-- 0 is within any top
 pub none_within : (y : ℤ) → unsigned_abs (pos 0) ≤ unsigned_abs y
 none_within y = omega arith
 
 module _ {V : Type 0} (value : V → ℤ) (m : ℕ) (columns : List (Column V)) where
-  -- the own cells of row i are within their bound
-  pub own_bound : (own : List V) (greatest : ℤ) → IsOwn value own greatest → (i j : ℕ) →
-      unsigned_abs (revised_own value m own i j) ≤ unsigned_abs (greatest_at m greatest i)
-  own_bound own greatest is_own i j = own_within (eqb i m) (number_at value own j) greatest (is_own j)
+  -- the own cells of row i are within their top
+  pub own_below : (own : List V) (own_top : ℤ) → IsOwn value own own_top → (i j : ℕ) →
+      unsigned_abs (revised_own value m own i j) ≤ unsigned_abs (own_top_at m own_top i)
+  own_below own own_top is_own i j = own_within (eqb i m) (number_at value own j) own_top (is_own j)
 
-  -- all numbers of a row are within its bound
-  pub bounded : (most : ℤ) → AreFirst value m (length columns) columns most → (o : ℕ → ℤ) (row : List V) (d g b : ℤ) →
-      ((j : ℕ) → unsigned_abs (o j) ≤ unsigned_abs g) → IsBound value m row d most g b → (j : ℕ) →
+  -- all numbers of a row are within their top
+  pub by_top : (column_top : ℤ) → AreFirst value m (length columns) columns column_top → (o : ℕ → ℤ) (row : List V)
+      (d g b : ℤ) →
+      ((j : ℕ) → unsigned_abs (o j) ≤ unsigned_abs g) → IsWholeTop value m row d column_top g b → (j : ℕ) →
       unsigned_abs (number_with value m columns o row d j) ≤ unsigned_abs b
-  bounded most first o row d g b ho h j = number_within m (length columns) (first_at value columns) o d
-      (number_at value row) (number_at value row m) h.top (unsigned_abs most) (unsigned_abs g) (unsigned_abs b) h.each
-      h.right h.sum first.within first.some (λ j l. ho j) j
+  by_top column_top first o row d g b ho h j = number_within m (length columns) (first_at value columns) o d
+      (number_at value row) (number_at value row m) h.top (unsigned_abs column_top) (unsigned_abs g) (unsigned_abs b)
+      h.each h.right h.sum first.within first.some (λ j l. ho j) j
 
   module _ (max : ℤ) (o : ℕ → ℤ) (row : List V) (d : ℤ) (positive : pos 0 ≺ d) where
     -- a row whose number in the column is 0, and whose cells fit, stays
@@ -101,27 +102,28 @@ module _ {V : Type 0} (value : V → ℤ) (m : ℕ) (columns : List (Column V)) 
           (number_at value row) e (number_at value pivot m) (number_at value pivot) k t after (number_at value new m)
           (number_at value new) (λ r l. taken r) (taken m) max column positive he hk x.positive cross j
 
-      -- and by bounds of both rows its cells fit
-      pub row_bounded : (most g p : ℤ) → AreFirst value m (length columns) columns most →
+      -- and by tops of both rows its cells fit
+      pub row_by_tops : (column_top g p : ℤ) → AreFirst value m (length columns) columns column_top →
           ((j : ℕ) → unsigned_abs (o j) ≤ unsigned_abs g) → (i width : ℕ) (told : Bool) →
-          IsBounded max value m row d most g k t (unsigned_abs p) w told →
+          FitsByTop max value m row d column_top g k t (unsigned_abs p) w told →
           AreWithin (row_number value m columns pivot e) p →
           IsReduced max width (cell_with value m columns o row d) (row_cell value m columns pivot e) i column
           (cell_with value m columns o new after)
-      row_bounded most g p first ho i width told b kp = record {
+      row_by_tops column_top g p first ho i width told b kp = record {
         own = taken_own;
         fits = λ j. row_fits m (length columns) (first_at value columns) o d (number_at value row m)
             (number_at value row) e (number_at value pivot m) (number_at value pivot) k t after (number_at value new m)
-            (number_at value new) (λ r l. taken r) (taken m) max column (unsigned_abs b.bound) (unsigned_abs p) positive
-            he hk x.positive cross within kp b.fitting.fits small j;
+            (number_at value new) (λ r l. taken r) (taken m) max column (unsigned_abs b.whole_top) (unsigned_abs p)
+            positive he hk x.positive cross within kp b.fitting.fits small j;
         none = first_all-none width _ (λ j l. row_none m (length columns) (first_at value columns) o d
             (number_at value row m) (number_at value row) e (number_at value pivot m) (number_at value pivot) k t after
-            (number_at value new m) (number_at value new) (λ r l. taken r) (taken m) max column (unsigned_abs b.bound)
-            (unsigned_abs p) positive he hk x.positive cross within kp b.fitting.fits small i j);
+            (number_at value new m) (number_at value new) (λ r l. taken r) (taken m) max column
+            (unsigned_abs b.whole_top) (unsigned_abs p) positive he hk x.positive cross within kp b.fitting.fits small
+            i j);
       }
         where
-          within : (j : ℕ) → unsigned_abs (number_with value m columns o row d j) ≤ unsigned_abs b.bound
-          within = bounded most first o row d g b.bound ho b.is_bound
+          within : (j : ℕ) → unsigned_abs (number_with value m columns o row d j) ≤ unsigned_abs b.whole_top
+          within = by_top column_top first o row d g b.whole_top ho b.is_whole_top
 
           small : unsigned_abs (d *ℤ k) ≤ unsigned_abs max
           small = subst (λ z. unsigned_abs z ≤ unsigned_abs max) hw b.fitting.small

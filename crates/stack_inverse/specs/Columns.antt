@@ -50,23 +50,23 @@ cells_at columns j = at_value (λ c. c.cells.items) [] columns j
 abbrev pub first_at : {V : Type 0} → (V → ℤ) → List (Column V) → ℕ → ℕ → ℤ
 first_at value columns r j = entry_of value (cells_at columns j) r
 
--- columns of m rows, none of which has a greater sum of sizes than `most`
-pub record AreFirst {V : Type 0} (value : V → ℤ) (m n : ℕ) (columns : List (Column V)) (most : ℤ)
+-- columns of m rows, none of which has a greater sum of sizes than `column_top`
+pub record AreFirst {V : Type 0} (value : V → ℤ) (m n : ℕ) (columns : List (Column V)) (column_top : ℤ)
     : Type 0 where
   pub rising : (j : ℕ) → j < n → rises m 0 (cells_at columns j) ≡ true
-  pub within : (j : ℕ) → j < n → sizes m (λ r. first_at value columns r j) ≤ unsigned_abs most
-  pub some : 0 < unsigned_abs most
+  pub within : (j : ℕ) → j < n → sizes m (λ r. first_at value columns r j) ≤ unsigned_abs column_top
+  pub some : 0 < unsigned_abs column_top
 
--- own cells, none greater than `greatest`
+-- own cells, none greater in size than `own_top`
 abbrev pub IsOwn : {V : Type 0} → (V → ℤ) → List V → ℤ → Type 0
-IsOwn value own greatest = (j : ℕ) → unsigned_abs (number_at value own j) ≤ unsigned_abs greatest
+IsOwn value own own_top = (j : ℕ) → unsigned_abs (number_at value own j) ≤ unsigned_abs own_top
 
--- those of row i, of which only the objective row m has some; and their bound
+-- those of row i, of which only the objective row m has some; and their top
 abbrev pub revised_own : {V : Type 0} → (V → ℤ) → ℕ → List V → ℕ → ℕ → ℤ
 revised_own value m own i j = cond (eqb i m) (number_at value own j) (pos 0)
 
-abbrev pub greatest_at : ℕ → ℤ → ℕ → ℤ
-greatest_at m greatest i = cond (eqb i m) greatest (pos 0)
+abbrev pub own_top_at : ℕ → ℤ → ℕ → ℤ
+own_top_at m own_top i = cond (eqb i m) own_top (pos 0)
 
 -- what is seen of a row: its numbers, its denominator, and whether its cells are known to fit
 pub record RowSeen (V : Type 0) : Type 0 where

@@ -1,4 +1,4 @@
--- Rows of a table: what bounds their numbers, and what a pivot makes of them.
+-- Rows of a table: tops of their numbers, and what a pivot makes of them.
 use Rattle.std.specs.Prelude.{◌≡◌, ◌≢◌, ℕ, suc, ◌+◌, ◌*◌, ◌<◌, ◌≤◌, Bool, true, None, List, length, ℤ, pos}
 use Rattle.std.specs.Prelude.{unsigned_abs}
 use Rattle.stack_algebra.specs.Fraction.{Fraction}
@@ -28,12 +28,12 @@ IsStepTopped value row pivot k t r = (j : ℕ) → suc j < length row → unsign
 abbrev pub AreWithin : (ℕ → ℤ) → ℤ → Type 0
 AreWithin f b = (j : ℕ) → unsigned_abs (f j) ≤ unsigned_abs b
 
--- a bound of all numbers of a row over d, by that of the columns and that of own cells
-pub record IsBound {V : Type 0} (value : V → ℤ) (m : ℕ) (row : List V) (d most greatest b : ℤ) : Type 0 where
+-- a top of all numbers of a row over d, by those of its artificial numbers, of the columns and of own cells
+pub record IsWholeTop {V : Type 0} (value : V → ℤ) (m : ℕ) (row : List V) (d column_top own_top b : ℤ) : Type 0 where
   pub top : ℕ
   pub each : (r : ℕ) → r < m → unsigned_abs (number_at value row r) ≤ top
   pub right : unsigned_abs (number_at value row m) ≤ unsigned_abs b
-  pub sum : top * unsigned_abs most + unsigned_abs d * unsigned_abs greatest ≤ unsigned_abs b
+  pub sum : top * unsigned_abs column_top + unsigned_abs d * unsigned_abs own_top ≤ unsigned_abs b
 
 -- cells fit
 abbrev pub AllFit : ℤ → (ℕ → Fraction) → Type 0
@@ -43,20 +43,20 @@ AllFit m cell = (j : ℕ) → fraction_fits m (cell j) ≡ true
 abbrev pub AreMarked : {V : Type 0} → ℤ → (ℕ → ℕ → Fraction) → (ℕ → RowSeen V) → Type 0
 AreMarked m cell s = (i : ℕ) → (s i).fits ≡ true → AllFit m (cell i)
 
--- what a step of a row over d makes fits m, by a bound of the row's numbers; where that is told, it fits 64 bits
-pub record IsBounded {V : Type 0} (m : ℤ) (value : V → ℤ) (rows : ℕ) (row : List V) (d most greatest k t : ℤ)
+-- what a step of a row over d makes fits m, by a top of all its numbers; where that is told, it fits 64 bits
+pub record FitsByTop {V : Type 0} (m : ℤ) (value : V → ℤ) (rows : ℕ) (row : List V) (d column_top own_top k t : ℤ)
     (p : ℕ) (r : ℤ) (told : Bool) : Type 0 where
-  pub bound : ℤ
-  pub is_bound : IsBound value rows row d most greatest bound
-  pub fitting : IsFitting m d k t (unsigned_abs bound) p r
-  pub short : told ≡ true → IsShort k t (unsigned_abs bound) p
+  pub whole_top : ℤ
+  pub is_whole_top : IsWholeTop value rows row d column_top own_top whole_top
+  pub fitting : IsFitting m d k t (unsigned_abs whole_top) p r
+  pub short : told ≡ true → IsShort k t (unsigned_abs whole_top) p
 
 -- what a step of a row takes: `over` is the denominator before it is reduced, what the step makes fits m and, where
 -- that is told, 64 bits, and it has this top where that isn't 0
-pub record IsStepReady {V : Type 0} (m : ℤ) (value : V → ℤ) (rows : ℕ) (row : List V) (d most greatest k t : ℤ)
+pub record IsStepReady {V : Type 0} (m : ℤ) (value : V → ℤ) (rows : ℕ) (row : List V) (d column_top own_top k t : ℤ)
     (p pivot_top : ℕ) (over : ℤ) (told : Bool) (top : ℤ) : Type 0 where
   pub topped : top ≢ pos 0 → HasStepTop value row k t pivot_top top
-  pub bounded : IsBounded m value rows row d most greatest k t p over told
+  pub by_top : FitsByTop m value rows row d column_top own_top k t p over told
 
 -- row i is reduced by the row g, its cells fit and nothing that is written is too wide
 pub record IsReduced (m : ℤ) (width : ℕ) (old g : ℕ → Fraction) (i column : ℕ) (new : ℕ → Fraction) : Type 0 where

@@ -48,4 +48,4 @@ pub record IsPivotRow {V : Type 0} {number : Ghosts V} (p : Plain V number) (q :
   pub jumps : AreJumps number.value q.numbers.items q.jumps.items
   pub topped : IsTopped number.value q.numbers.items (unsigned_abs (number.value q.top))
   pub within : AreWithin (row_number number.value p.first.rows p.first.columns.items q.numbers.items
-      (number.value q.under)) (number.value q.bound)
+      (number.value q.under)) (number.value q.whole_top)

@@ -1,22 +1,22 @@
-//! What bounds the numbers of a row step: by a top of the row that is kept, or by that of its numbers.
+//! Whether a row step fits: by a top of the row that is kept, or by that of its numbers.
 
 ghost use Rattle.std.specs.Prelude.{◌≡◌, suc, length, IfSome, unsigned_abs};
 ghost use Rattle.stack_inverse.specs.RowBlock.{IsTopped, AreWithin, IsStepReady};
-ghost use Rattle.stack_inverse.specs.Columns.{greatest_at, row_number};
+ghost use Rattle.stack_inverse.specs.Columns.{own_top_at, row_number};
 
 use crate::first::First;
-use crate::making::{bound, greatest_in, size_over};
+use crate::making::{top_in, top_over, whole_top};
 use crate::plain::Plain;
 use crate::row::{PivotRow, Row};
 use stack_rows::factors::{Factors, is_short, step_under, top_after};
 use stack_rows::whole::Whole;
 
-/// The bound of the own cells of row i.
-pub fn greatest_of<T: Whole>(plain: &Plain<T>, i: usize) -> T
-    ensures { T.value result ≡ greatest_at plain.now.first.rows (T.value plain.now.greatest) i }
+/// A top of the own cells of row i.
+pub fn own_top_of<T: Whole>(plain: &Plain<T>, i: usize) -> T
+    ensures { T.value result ≡ own_top_at plain.now.first.rows (T.value plain.now.own_top) i }
 {
     if i == plain.first.rows {
-        plain.greatest
+        plain.own_top
     } else {
         T::zero()
     }
@@ -37,21 +37,21 @@ fn ready_by<T: Whole>(
     row: &Row<T>,
     pivot: &PivotRow<T>,
     factors: Factors<T>,
-    greatest: T,
+    own_top: T,
     top: T,
 ) -> Option<Ready<T>>
     requires width { length row.now.numbers.items ≡ suc first.now.rows }
     requires topped { IsTopped T.value row.now.numbers.items (unsigned_abs (T.value top)) }
     ensures { IfSome result (λ r. IsStepReady T.MAX T.value first.now.rows row.now.numbers.items
-        (T.value row.now.under) (T.value first.now.most) (T.value greatest) (T.value factors.times)
-        (T.value factors.less) (unsigned_abs (T.value pivot.now.bound)) (unsigned_abs (T.value pivot.now.top))
+        (T.value row.now.under) (T.value first.now.top) (T.value own_top) (T.value factors.times)
+        (T.value factors.less) (unsigned_abs (T.value pivot.now.whole_top)) (unsigned_abs (T.value pivot.now.top))
         (T.value r.over) r.short (T.value r.top)) }
 {
-    let own = bound(first, row.numbers.as_slice(), row.under, greatest, top)?;
-    let over = step_under(row.under, factors, own, pivot.bound)?;
+    let own = whole_top(first, row.numbers.as_slice(), row.under, own_top, top)?;
+    let over = step_under(row.under, factors, own, pivot.whole_top)?;
     Some(Ready {
         over,
-        short: is_short(factors, own, pivot.bound),
+        short: is_short(factors, own, pivot.whole_top),
         top: top_after(factors, top, pivot.top),
     })
 }
@@ -62,38 +62,38 @@ pub fn ready_for<T: Whole>(
     row: &Row<T>,
     pivot: &PivotRow<T>,
     factors: Factors<T>,
-    greatest: T,
+    own_top: T,
 ) -> Option<Ready<T>>
     requires { length row.now.numbers.items ≡ suc first.now.rows }
     ensures { IfSome result (λ r. IsStepReady T.MAX T.value first.now.rows row.now.numbers.items
-        (T.value row.now.under) (T.value first.now.most) (T.value greatest) (T.value factors.times)
-        (T.value factors.less) (unsigned_abs (T.value pivot.now.bound)) (unsigned_abs (T.value pivot.now.top))
+        (T.value row.now.under) (T.value first.now.top) (T.value own_top) (T.value factors.times)
+        (T.value factors.less) (unsigned_abs (T.value pivot.now.whole_top)) (unsigned_abs (T.value pivot.now.top))
         (T.value r.over) r.short (T.value r.top)) }
 {
     if !row.top.is_zero() {
-        match ready_by(first, row, pivot, factors, greatest, row.top) {
+        match ready_by(first, row, pivot, factors, own_top, row.top) {
             Some(ready) => return Some(ready),
             None => {}
         }
     }
-    let top = size_over(row.numbers.as_slice(), first.rows);
-    let ready = ready_by(first, row, pivot, factors, greatest, top)?;
+    let top = top_over(row.numbers.as_slice(), first.rows);
+    let ready = ready_by(first, row, pivot, factors, own_top, top)?;
     Some(ready)
 }
 
-/// A bound of all numbers of a row without own cells: that of its artificial numbers, or else the greatest of all. May
-/// give up; no clause says when.
-pub fn pivot_bound<T: Whole>(first: &First<T>, row: &[T], under: T, top: T) -> Option<T>
+/// A top of all numbers of a row without own cells: by that of its artificial numbers, or else by each. May give up; no
+/// clause says when.
+pub fn pivot_top<T: Whole>(first: &First<T>, row: &[T], under: T, top: T) -> Option<T>
     requires width { length row.now ≡ suc first.now.rows }
     requires topped { IsTopped T.value row.now (unsigned_abs (T.value top)) }
     ensures { IfSome result (λ b. AreWithin (row_number T.value first.now.rows first.now.columns.items row.now
         (T.value under)) (T.value b)) }
 {
-    match bound(first, row, under, T::zero(), top) {
-        Some(most) => Some(most),
+    match whole_top(first, row, under, T::zero(), top) {
+        Some(all) => Some(all),
         None => {
-            let most = greatest_in(first, row)?;
-            Some(most)
+            let all = top_in(first, row)?;
+            Some(all)
         }
     }
 }

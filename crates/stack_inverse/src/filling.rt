@@ -141,7 +141,7 @@ pub fn pivot_room<T: Whole>(alloc: Global, one: T, width: usize) -> Result<Pivot
         numbers,
         jumps,
         under: one,
-        bound: T::zero(),
+        whole_top: T::zero(),
         top: T::zero(),
     })
 }

@@ -1,10 +1,10 @@
-//! Numbers of the plain columns, made from those of the artificial ones, and their bound.
+//! Numbers of the plain columns, made from those of the artificial ones, and their top.
 
 ghost use Rattle.std.specs.Prelude.{◌≡◌, ℕ, suc, ◌+◌, ◌*◌, ◌<◌, ◌≤◌, ◌+ℤ◌, ◌*ℤ◌, length, unsigned_abs, IfSome};
 ghost use Rattle.stack_algebra.specs.Sums.{sum_of};
 ghost use Rattle.std.specs.Prelude.{ℤ, OnSome};
 ghost use Rattle.stack_rows.specs.RowForm.{number_at};
-ghost use Rattle.stack_inverse.specs.RowBlock.{AreWithin, IsBound, IsTopped};
+ghost use Rattle.stack_inverse.specs.RowBlock.{AreWithin, IsWholeTop, IsTopped};
 ghost use Rattle.stack_inverse.specs.Columns.{revised_own, row_number, AreEntered};
 ghost use Rattle.stack_inverse.specs.RowsSeen.{seen_of, seen_at, number_in_row};
 
@@ -90,26 +90,26 @@ pub fn enter_column<T: Whole>(
 }
 
 /// Whichever is the greater in size. Most numbers of a row are 0.
-fn greater<T: Whole>(most: T, number: T) -> T
-    ensures own { unsigned_abs (T.value most) ≤ unsigned_abs (T.value result) }
+fn greater<T: Whole>(top: T, number: T) -> T
+    ensures own { unsigned_abs (T.value top) ≤ unsigned_abs (T.value result) }
     ensures other { unsigned_abs (T.value number) ≤ unsigned_abs (T.value result) }
 {
     if number.is_zero() {
-        return most;
+        return top;
     }
-    most.wider(number)
+    top.wider(number)
 }
 
-/// The greatest in size of the first numbers.
-pub fn widest_of<T: Whole>(numbers: &[T], count: usize) -> T
+/// A top of the first numbers: whichever of them is the greatest in size.
+pub fn top_of<T: Whole>(numbers: &[T], count: usize) -> T
     requires { count ≤ length numbers.now }
     ensures { (k : ℕ) → k < count → unsigned_abs (number_at T.value numbers.now k) ≤ unsigned_abs (T.value result) }
 {
-    let mut most = T::zero();
+    let mut top = T::zero();
     for k in 0..count {
-        most = greater(most, numbers[k]);
+        top = greater(top, numbers[k]);
     }
-    most
+    top
 }
 
 /// The bits of the sizes of the first numbers together.
@@ -124,26 +124,33 @@ fn joined_in<T: Whole>(numbers: &[T], count: usize) -> u128
     size
 }
 
-/// A number that is no less in size than each of the first numbers: of the bits of their sizes, or else the greatest.
-pub fn size_over<T: Whole>(numbers: &[T], count: usize) -> T
+/// A top of all numbers but the last: of the bits of their sizes together, or else whichever is the greatest in size.
+pub fn top_over<T: Whole>(numbers: &[T], count: usize) -> T
     requires { length numbers.now ≡ suc count }
     ensures { IsTopped T.value numbers.now (unsigned_abs (T.value result)) }
 {
     match T::of_size(joined_in(numbers, count)) {
         Some(size) => size,
-        None => widest_of(numbers, count),
+        None => top_of(numbers, count),
     }
 }
 
-/// A bound of all numbers of a row over this denominator, by its top. May give up; no clause says when.
-pub fn bound<T: Whole>(first: &First<T>, numbers: &[T], under: T, greatest: T, top: T) -> Option<T>
+/// A top of all numbers of a row over this denominator, by that of its artificial numbers. May give up; no clause says
+/// when.
+pub fn whole_top<T: Whole>(
+    first: &First<T>,
+    numbers: &[T],
+    under: T,
+    own_top: T,
+    top: T,
+) -> Option<T>
     requires width { length numbers.now ≡ suc first.now.rows }
     requires topped { IsTopped T.value numbers.now (unsigned_abs (T.value top)) }
-    ensures { IfSome result (λ b. IsBound T.value first.now.rows numbers.now (T.value under) (T.value first.now.most)
-        (T.value greatest) (T.value b)) }
+    ensures { IfSome result (λ b. IsWholeTop T.value first.now.rows numbers.now (T.value under) (T.value first.now.top)
+        (T.value own_top) (T.value b)) }
 {
-    let combined = top.times(first.most)?;
-    let own = under.times(greatest)?;
+    let combined = top.times(first.top)?;
+    let own = under.times(own_top)?;
     let both = combined.sizes(own)?;
     Some(both.wider(numbers[first.rows]))
 }
@@ -164,16 +171,16 @@ pub fn row_number<T: Whole>(first: &First<T>, row: &[T], j: usize) -> Option<T>
     Some(row[k])
 }
 
-/// The greatest in size of all numbers of a row without own cells. May give up; no clause says when.
-pub fn greatest_in<T: Whole>(first: &First<T>, row: &[T]) -> Option<T>
+/// A top of all numbers of a row without own cells, by each of them. May give up; no clause says when.
+pub fn top_in<T: Whole>(first: &First<T>, row: &[T]) -> Option<T>
     requires { length row.now ≡ suc first.now.rows }
     ensures { IfSome result (λ b. (d : ℤ) → AreWithin (row_number T.value first.now.rows first.now.columns.items
         row.now d) (T.value b)) }
 {
-    let mut most = widest_of(row, row.len());
+    let mut top = top_of(row, row.len());
     for j in 0..first.columns.len() {
         let number = row_number(first, row, j)?;
-        most = most.wider(number);
+        top = top.wider(number);
     }
-    Some(most)
+    Some(top)
 }

@@ -11,8 +11,8 @@ ghost use Rattle.stack_inverse.specs.Columns.{AreWide, IsPut, AreEntered};
 ghost use Rattle.stack_inverse.specs.RowsSeen.{seen_of, seen_at, number_in_row, cell_in_row, cells_of_rows, pivot_cell};
 ghost use Rattle.stack_inverse.specs.RowsSeen.{IsPivotRow, columns_of};
 
-use crate::bounding::pivot_bound;
-use crate::making::size_over;
+use crate::bounding::pivot_top;
+use crate::making::top_over;
 use crate::plain::Plain;
 use crate::reducing::reduce;
 use crate::row::{PivotRow, Row};
@@ -45,11 +45,11 @@ fn divide<T: Whole>(
         .as_mut_slice()
         .copy_from_slice(row.numbers.as_slice());
     let under = settle(pivot.numbers.as_mut_slice(), factor)?;
-    let top = size_over(pivot.numbers.as_slice(), plain.first.rows);
-    let bound = pivot_bound(&plain.first, pivot.numbers.as_slice(), under, top)?;
+    let top = top_over(pivot.numbers.as_slice(), plain.first.rows);
+    let whole_top = pivot_top(&plain.first, pivot.numbers.as_slice(), under, top)?;
     find_jumps(pivot.numbers.as_slice(), pivot.jumps.as_mut_slice());
     pivot.under = under;
-    pivot.bound = bound;
+    pivot.whole_top = whole_top;
     pivot.top = top;
     Some(())
 }

@@ -11,8 +11,7 @@ use stack_rows::whole::Whole;
 pub struct Plain<T: Whole> {
     pub first: First<T>,
     pub own: Vec<T>,
-    /// No own cell is greater in size.
-    pub greatest: T,
+    pub own_top: T,
     ghost owns: { length own.items ≡ length first.columns.items },
-    ghost within: { IsOwn T.value own.items (T.value greatest) },
+    ghost within: { IsOwn T.value own.items (T.value own_top) },
 }

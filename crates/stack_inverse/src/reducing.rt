@@ -12,7 +12,7 @@ ghost use Rattle.stack_inverse.specs.RowBlock.{IsStepTopped, IsReduced, AllFit};
 ghost use Rattle.stack_inverse.specs.CellSteps.{TellsSpot};
 ghost use Rattle.stack_inverse.specs.RowsSeen.{seen_of, number_in_row, cell_in_row, pivot_cell, IsPivotRow, columns_of};
 
-use crate::bounding::{Ready, greatest_of, ready_for};
+use crate::bounding::{Ready, own_top_of, ready_for};
 use crate::plain::Plain;
 use crate::remaking::remake_row;
 use crate::row::{PivotRow, Row};
@@ -34,8 +34,8 @@ fn top_kept<T: Whole>(after: T, ready: Ready<T>) -> T
     }
 }
 
-/// Takes a multiple of the pivot row from a row, by bounds of both. May give up; no clause says when.
-fn step_by_bounds<T: Whole>(
+/// Takes a multiple of the pivot row from a row, where it fits by tops of both. May give up; no clause says when.
+fn step_by_tops<T: Whole>(
     row: &mut Row<T>,
     pivot: &PivotRow<T>,
     factors: Factors<T>,
@@ -108,7 +108,7 @@ fn step_by_cells<T: Whole>(
     }
 }
 
-/// The same by bounds, or cell by cell where these don't fit.
+/// The same by tops, or cell by cell where the step doesn't fit by these.
 fn step<T: Whole>(
     plain: &Plain<T>,
     row: &mut Row<T>,
@@ -133,7 +133,7 @@ fn step<T: Whole>(
         Some(factors) => factors,
         None => return Err(Refusal::Unsettled),
     };
-    let ready = match ready_for(&plain.first, row, pivot, factors, greatest_of(plain, i)) {
+    let ready = match ready_for(&plain.first, row, pivot, factors, own_top_of(plain, i)) {
         Some(ready) => ready,
         None => {
             let s = RowStep {
@@ -144,7 +144,7 @@ fn step<T: Whole>(
             return step_by_cells(plain, row, pivot, s, factors, i);
         }
     };
-    match step_by_bounds(row, pivot, factors, ready) {
+    match step_by_tops(row, pivot, factors, ready) {
         Some(()) => Ok(()),
         None => Err(Refusal::Unsettled),
     }

@@ -158,7 +158,7 @@ impl<T: Whole> RevisedTable<T> {
     }
 
     /// The least column below `among` with a negative number in the objective row, by numbers of 64 bits. May give up,
-    /// mostly since a bound of the numbers doesn't fit these; no clause says when.
+    /// mostly since a top of the numbers doesn't fit these; no clause says when.
     pub fn short_entering(&self, among: usize) -> Option<Option<usize>>
         requires { among ≤ plain (shape_of_revised self.now) }
         ensures value { IfSome result (λ r. r
@@ -230,7 +230,7 @@ impl<T: Whole> RevisedTable<T> {
         let last = self.given.first.rows;
         clear_row(self.pivot.numbers.as_mut_slice());
         clear_row(self.given.own.as_mut_slice());
-        self.given.greatest = T::zero();
+        self.given.own_top = T::zero();
         put_row(
             self.rows.as_mut_slice(),
             last,
@@ -261,7 +261,7 @@ impl<T: Whole> RevisedTable<T> {
             row,
         )?;
         clear_row(self.given.own.as_mut_slice());
-        self.given.greatest = minus_one;
+        self.given.own_top = minus_one;
         set_only(self.given.own.as_mut_slice(), self.contacts, minus_one);
         put_row(
             self.rows.as_mut_slice(),

@@ -1,4 +1,8 @@
 //! A row of a table, and the pivot row.
+//!
+//! How great a number may be is told in two words here. The `widest` number is the limit of a type. A `top` of numbers
+//! is one that none of them passes in size: `top` of a row is one of its artificial numbers, `whole_top` of its numbers
+//! in all columns, `own_top` of own cells, and `top` of the first rows of the sums of sizes of their columns.
 
 ghost use Rattle.std.specs.Prelude.{◌≡◌, ◌≢◌, pos, ◌<ℤ◌, unsigned_abs, length};
 ghost use Rattle.stack_inverse.specs.RowBlock.{IsTopped};
@@ -10,7 +14,7 @@ use stack_rows::whole::Whole;
 pub struct Row<T: Whole> {
     pub numbers: Vec<T>,
     pub under: T,
-    /// No number but the right side is greater in size; 0 where none is known.
+    /// 0 where none is known.
     pub top: T,
     /// Whether all its cells are known to fit.
     pub fits: bool,
@@ -25,9 +29,7 @@ pub struct PivotRow<T: Whole> {
     /// Beside each number the next column in which the row has something.
     pub jumps: Vec<usize>,
     pub under: T,
-    /// No number in any column is greater in size.
-    pub bound: T,
-    /// No number but the right side is greater in size.
+    pub whole_top: T,
     pub top: T,
     ghost long: { length jumps.items ≡ length numbers.items },
 }

@@ -9,10 +9,10 @@ use Rattle.stack_inverse.proofs.building.plain_of.Goals as goal
 pub invariant_of-result-clause-within : goal.invariant_of-result-clause-within
 invariant_of-result-clause-within g c =
     let v = g.T.Whole.value in
-    let w = v c.widest_of-greatest.result in
+    let w = v c.top_of-own_top.result in
     own_within v c.in_ok-own.own.items c.len.result w (sym (c.len.ensures ∙ c.in_ok-own.own.ok.0))
     (subst (λ (xs : List g.row.T.Denot). (k : ℕ) → k < c.len.result → unsigned_abs (number_at v xs k) ≤ unsigned_abs w)
-    c.as_slice-2.ensures.value c.widest_of-greatest.ensures)
+    c.as_slice-2.ensures.value c.top_of-own_top.ensures)
 
 pub returns-clause-cells : goal.returns-clause-cells
 returns-clause-cells g c =

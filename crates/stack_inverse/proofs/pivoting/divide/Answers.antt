@@ -25,10 +25,10 @@ returns-clause-pivot g c =
       jumps = subst₂ (λ (xs : List g.row.T.Denot) (js : List ℕ). AreJumps v xs js) c.as_slice-4.ensures.value
           (sym (with_items_is q.jumps c.find_jumps.new.jumps (c.find_jumps.auto.jumps
           ∙ ap length c.as_mut_slice-3.ensures.value ∙ sym q.jumps.ok.0))) c.find_jumps.ensures;
-      topped = subst (λ (xs : List g.row.T.Denot). IsTopped v xs (unsigned_abs (v c.size_over-top.result)))
-          c.as_slice-2.ensures.value c.size_over-top.ensures;
+      topped = subst (λ (xs : List g.row.T.Denot). IsTopped v xs (unsigned_abs (v c.top_over-top.result)))
+          c.as_slice-2.ensures.value c.top_over-top.ensures;
       within = subst (λ (xs : List g.row.T.Denot). AreWithin (row_number v f.rows f.columns.items xs under)
-          (v c.in_ok-bound.bound)) c.as_slice-3.ensures.value c.in_ok-bound.ensures;
+          (v c.in_ok-whole_top.whole_top)) c.as_slice-3.ensures.value c.in_ok-whole_top.ensures;
     }
 
 pub returns-clause-ok : goal.returns-clause-ok
@@ -47,9 +47,9 @@ returns-clause-ok g c =
     pivot_row v f.rows f.columns.items g.T.Whole.MAX g.met.T.Whole.fits_law p.own.items r.numbers.items (v r.under)
     r.positive c.args.r c.args.column c.requires.row_in
     (with_items (with_items q.numbers c.copy_from_slice.new.self) c.settle.new.numbers).items c.args.factor under
-    c.in_ok-bound.bound c.requires.factor c.requires.some
+    c.in_ok-whole_top.whole_top c.requires.factor c.requires.some
     (subst₂ (λ (xs ys : List g.row.T.Denot). IsSameRow v xs (v c.args.factor) ys (v under))
     (c.as_mut_slice-2.ensures.value ∙ first ∙ c.copy_from_slice.ensures.after ∙ c.as_slice.ensures.value) (sym new)
     c.in_ok-under.ensures)
     (subst (λ (xs : List g.row.T.Denot). AreWithin (row_number v f.rows f.columns.items xs (v under))
-    (v c.in_ok-bound.bound)) c.as_slice-3.ensures.value c.in_ok-bound.ensures)
+    (v c.in_ok-whole_top.whole_top)) c.as_slice-3.ensures.value c.in_ok-whole_top.ensures)

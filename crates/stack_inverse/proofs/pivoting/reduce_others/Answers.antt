@@ -63,8 +63,8 @@ loop-i-preserved g c =
       done = λ column h k l d. done_set rows i new lt (λ (k : ℕ) (s : RowSeen g.row.T.Denot). IsReduced m (columns_of p)
           (cells_of_rows p c.args.rows.now k) (pivot_cell p q) k column (cell_in_row p s k)) c.args.row
           (c.loop-i.invariant.done column h)
-          (subst (λ (s : RowSeen g.row.T.Denot). IsReduced m (columns_of p) (cell_in_row p s i) (pivot_cell p q) i column
-          (cell_in_row p (seen_of new) i)) e (here column h)) k l d;
+          (subst (λ (s : RowSeen g.row.T.Denot). IsReduced m (columns_of p) (cell_in_row p s i) (pivot_cell p q) i
+          column (cell_in_row p (seen_of new) i)) e (here column h)) k l d;
     }
 
 pub returns-in-Err-clause-wide : goal.returns-in-Err-clause-wide

@@ -12,13 +12,13 @@ use Rattle.stack_inverse.specs.Columns.{revised_own}
 use Rattle.stack_inverse.specs.RowsSeen.{seen_of, number_in_row, cell_in_row, pivot_cell, columns_of}
 use Rattle.stack_inverse.proofs.Kept.{ok_both, on_err}
 use Rattle.stack_inverse.proofs.Ready.{ready}
-use Rattle.stack_inverse.proofs.Steps.{own_bound, row_bounded}
+use Rattle.stack_inverse.proofs.Steps.{own_below, row_by_tops}
 use Rattle.stack_inverse.proofs.Tops.{step_topped}
 use Rattle.stack_inverse.proofs.RowByCells.{row_by_cells}
 use Rattle.stack_inverse.proofs.reducing.step.Goals as goal
 
-pub step_by_bounds-requires-clause-step : goal.step_by_bounds-requires-clause-step
-step_by_bounds-requires-clause-step g c = λ n.
+pub step_by_tops-requires-clause-step : goal.step_by_tops-requires-clause-step
+step_by_tops-requires-clause-step g c = λ n.
     let v = g.T.Whole.value in
     let r = c.args.row.now in
     let q = c.args.pivot.now in
@@ -26,19 +26,20 @@ step_by_bounds-requires-clause-step g c = λ n.
     (v c.in-Some-ready_for.ready.top) (unsigned_abs (v q.top)) (c.requires.pivot.width ∙ sym c.requires.width)
     (c.in-Some-ready_for.ensures.topped n) c.requires.pivot.topped
 
-pub step_by_bounds-requires-clause-ready : goal.step_by_bounds-requires-clause-ready
-step_by_bounds-requires-clause-ready g c =
+pub step_by_tops-requires-clause-ready : goal.step_by_tops-requires-clause-ready
+step_by_tops-requires-clause-ready g c =
     let v = g.T.Whole.value in
     let f = c.args.plain.now.first in
     let r = c.args.row.now in
     let q = c.args.pivot.now in
     let s = c.in-Some-ready_for.ready in
-    ready v f.rows f.columns.items (v f.most) f.first g.T.Whole.MAX r.numbers.items q.numbers.items (v r.under)
-    (v q.under) (v c.greatest_of.result) (v c.in-Some.factors.times) (v c.in-Some.factors.less) (v q.bound) (v s.over)
-    s.short c.requires.width c.requires.pivot.width c.in-Some-ready_for.ensures.bounded c.requires.pivot.within
+    ready v f.rows f.columns.items (v f.top) f.first g.T.Whole.MAX r.numbers.items q.numbers.items (v r.under)
+    (v q.under) (v c.own_top_of.result) (v c.in-Some.factors.times) (v c.in-Some.factors.less) (v q.whole_top)
+    (v s.over) s.short c.requires.width c.requires.pivot.width c.in-Some-ready_for.ensures.by_top
+    c.requires.pivot.within
 
-pub returns-in-Some-step_by_bounds-clause-ok : goal.returns-in-Some-step_by_bounds-clause-ok
-returns-in-Some-step_by_bounds-clause-ok g c = λ column hf.
+pub returns-in-Some-step_by_tops-clause-ok : goal.returns-in-Some-step_by_tops-clause-ok
+returns-in-Some-step_by_tops-clause-ok g c = λ column hf.
     let v = g.T.Whole.value in
     let p = c.args.plain.now in
     let f = p.first in
@@ -47,15 +48,15 @@ returns-in-Some-step_by_bounds-clause-ok g c = λ column hf.
     let i = c.args.i in
     let s = c.in-Some-ready_for.ready in
     let o = revised_own v f.rows p.own.items i in
-    let new = c.step_by_bounds.new.row in
-    row_bounded v f.rows f.columns.items g.T.Whole.MAX o r.numbers.items (v r.under) r.positive new.numbers.items
+    let new = c.step_by_tops.new.row in
+    row_by_tops v f.rows f.columns.items g.T.Whole.MAX o r.numbers.items (v r.under) r.positive new.numbers.items
     q.numbers.items (v new.under) (v q.under) (v s.over) (v c.in-Some.factors.times) (v c.in-Some.factors.less)
     (v c.args.factor) column c.requires.pivot.positive c.in-Some.ensures.some
-    c.in-Some-ready_for.ensures.bounded.fitting.under hf c.in-Some.ensures.cross c.in-Some-step_by_bounds.ensures.ok
-    (v f.most) (v c.greatest_of.result) (v q.bound) f.first
-    (λ j. subst (λ (z : ℤ). unsigned_abs (o j) ≤ unsigned_abs z) (sym c.greatest_of.ensures)
-    (own_bound v f.rows f.columns.items p.own.items (v p.greatest) p.within i j)) i (columns_of p) s.short
-    c.in-Some-ready_for.ensures.bounded c.requires.pivot.within
+    c.in-Some-ready_for.ensures.by_top.fitting.under hf c.in-Some.ensures.cross c.in-Some-step_by_tops.ensures.ok
+    (v f.top) (v c.own_top_of.result) (v q.whole_top) f.first
+    (λ j. subst (λ (z : ℤ). unsigned_abs (o j) ≤ unsigned_abs z) (sym c.own_top_of.ensures)
+    (own_below v f.rows f.columns.items p.own.items (v p.own_top) p.within i j)) i (columns_of p) s.short
+    c.in-Some-ready_for.ensures.by_top c.requires.pivot.within
 
 pub returns-in-None-ready_for-clause-ok : goal.returns-in-None-ready_for-clause-ok
 returns-in-None-ready_for-clause-ok g c =

@@ -4,7 +4,7 @@ use Rattle.std.proofs.lemmas.List.{with_items_is}
 use lib.IntN.{ℤ}
 use Rattle.stack_inverse.specs.RowBlock.{IsTopped, IsStepTopped}
 use Rattle.stack_inverse.proofs.Tops.{taken_topped}
-use Rattle.stack_inverse.proofs.reducing.step_by_bounds.Goals as goal
+use Rattle.stack_inverse.proofs.reducing.step_by_tops.Goals as goal
 
 pub invariant_of-row-2 : goal.invariant_of-row-2
 invariant_of-row-2 g c =
