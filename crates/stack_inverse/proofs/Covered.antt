@@ -1,5 +1,5 @@
 -- A size that covers the first numbers.
-use Rattle.std.proofs.Common.{◌≡◌, sym, subst, ℕ, suc, ◌<◌, ◌≤◌, ◌+◌, ◌*◌, unsigned_abs, arith, add-one}
+use Rattle.std.proofs.Common.{◌≡◌, sym, subst, ℕ, ◌<◌, ◌≤◌, ◌+◌, unsigned_abs, arith}
 use native.Mathlib.Decide.{ℕ_discrete}
 use lib.IntN.{ℤ}
 
@@ -12,10 +12,6 @@ covers_more f k m n h hm hk i l = go (ℕ_discrete i k)
     go : Dec (i ≡ k) → unsigned_abs (f i) ≤ unsigned_abs n
     go (yes e) = subst (λ j. unsigned_abs (f j) ≤ unsigned_abs n) (sym e) hk
     go (no d) = omega (arith, h i (omega (arith, l, d)), hm)
-
--- the room of a row, by a width that is written as a sum
-pub room_of : (i m n : ℕ) → i * suc m + suc m ≤ n → i * (m + 1) + (m + 1) ≤ n
-room_of i m n h = subst (λ w. i * w + w ≤ n) (sym (add-one m)) h
 
 -- one number more fits
 pub fits_more : (f : ℕ → ℤ) (k : ℕ) (m x : ℤ) → ((i : ℕ) → i < k → unsigned_abs (f i) ≤ unsigned_abs m) → x ≡ f k →

@@ -1,27 +1,26 @@
 -- The pivot row, divided by its number in the pivot's column; and the cells past the last row.
-use Rattle.std.proofs.Common.{◌≡◌, ◌≢◌, refl, sym, ap, subst, ◌∙◌, ℕ, suc, ◌<◌, ◌≤◌, ◌+◌, ◌-◌, ◌*◌, List, length}
-use Rattle.std.proofs.Common.{take, drop}
-use Rattle.std.proofs.Common.{None, Bool, true, false, cond, eqb, ltb, unsigned_abs, arith}
+use Rattle.std.proofs.Common.{◌≡◌, ◌≢◌, refl, sym, ap, ◌∙◌, ℕ, ◌<◌, ◌≤◌, ◌+◌, ◌-◌, List, [], length}
+use Rattle.std.proofs.Common.{Bool, true, false, cond, eqb, ltb, unsigned_abs, arith}
 use Rattle.std.proofs.lemmas.Bool.{ne_eqb}
+use Rattle.std.proofs.lemmas.Int.{ints}
 use lib.IntN.{ℤ, pos, ◌+ℤ◌, ◌*ℤ◌}
 use Rattle.stack_algebra.proofs.Integers.{expand, sums}
+use Rattle.stack_algebra.proofs.Order.{◌≺◌}
+use Rattle.stack_algebra.proofs.Fractions.{of}
 use Rattle.stack_algebra.proofs.Over.{over}
-use Rattle.stack_algebra.proofs.OrderedFractions.{ordered_fractions}
 use Rattle.stack_rational.specs.Order.{is_zero}
-use Rattle.stack_rational.specs.TooWide.{IsWidth, fraction_fits, is_too_wide}
+use Rattle.stack_rational.specs.TooWide.{IsWidth, fraction_fits}
 use Rattle.stack_rational.proofs.Fitting.{is_zero-of}
-use Rattle.stack_table.specs.Spots.{divided, divide_item}
 use Rattle.stack_inverse.specs.declared.columns.Column.{Column}
-use Rattle.stack_rows.specs.RowForm.{cell_at, number_at, under_at, ArePositive, IsSameRow}
-use Rattle.stack_inverse.specs.RowBlock.{AreWithin, IsPlaced}
-use Rattle.stack_inverse.specs.Columns.{combined, by_place, number, first_at, revised_own}
-use Rattle.stack_inverse.specs.Columns.{revised_number, revised_cell, row_number, row_cell}
-use Rattle.stack_inverse.proofs.NumberBlock.{part_value, cell_outside}
+use Rattle.stack_rows.specs.RowForm.{number_at, IsSameRow}
+use Rattle.stack_inverse.specs.RowBlock.{AreWithin, IsDividedRow}
+use Rattle.stack_inverse.specs.Columns.{combined, by_place, first_at, revised_own, RowSeen, no_row, IsPut}
+use Rattle.stack_inverse.specs.Columns.{number_with, cell_with, revised_cell, row_number, row_cell}
 use Rattle.stack_inverse.proofs.Linear.{combined_same}
 use Rattle.stack_inverse.proofs.FirstRows.{nothing_gives}
 use Rattle.stack_rows.proofs.OverOneDenominator.{over_fits}
 use Rattle.stack_inverse.proofs.Bounds.{division_is, division_none}
-use Rattle.stack_inverse.proofs.Steps.{under_fits, over_zero}
+use Rattle.stack_inverse.proofs.Steps.{over_zero}
 
 -- by the place of a column
 placed_same : (b c d : Bool) (x y z x' y' z' q e : ℤ) → x' *ℤ q ≡ x *ℤ e → (b ≡ false → c ≡ true → y' *ℤ q ≡ y *ℤ e) →
@@ -58,102 +57,75 @@ module _ {V : Type 0} (value : V → ℤ) (m : ℕ) (columns : List (Column V)) 
       ∙ ap (λ z. z *ℤ value g) (sym (no_own d (combined m (number_at value old) (λ r. first_at value columns r j)))))
       (λ b h. s.cross (j - length columns)) (s.cross m)
 
-  module _ (own ns ds : List V) where
-    -- a row that isn't the objective row has no own cells
-    pub row_is_plain : (r : ℕ) → r < m → (w : ℕ) → w ≡ suc m → r * w + w ≤ length ns → (j : ℕ) →
-        row_number value m columns (take (r * w + w - r * w) (drop (r * w) ns)) (under_at value ds r) j
-        ≡ revised_number value m columns own ns ds r j
-    row_is_plain r l w e room j = λ z. number m (length columns) (first_at value columns)
-        (λ k. sym (ap (λ b. cond b (number_at value own k) (pos 0)) (ne_eqb r m (λ p. omega (arith, l, p)))) z)
-        (under_at value ds r)
-        (λ k. (part_value value (pos 0) w r ns room k ∙ ap (λ w. cell_at value (pos 0) w ns r k) e) z)
-        ((part_value value (pos 0) w r ns room m ∙ ap (λ w. cell_at value (pos 0) w ns r m) e) z) j
+  -- a row that isn't the objective row has no own cells
+  pub row_is_plain : (own row : List V) (d : ℤ) (r : ℕ) → (r ≢ m) → (j : ℕ) → row_number value m columns row d j
+      ≡ number_with value m columns (revised_own value m own r) row d j
+  row_is_plain own row d r n j = λ z. number_with value m columns
+      (λ k. sym (ap (λ b. cond b (number_at value own k) (pos 0)) (ne_eqb r m n)) z) row d j
 
-    -- past the last row all is 0
-    pub number_outside : (k j : ℕ) → length ns ≡ suc m * suc m → suc m ≤ k →
-        revised_number value m columns own ns ds k j ≡ pos 0
-    number_outside k j whole l = (λ z. number m (length columns) (first_at value columns)
-        (λ i. ap (λ b. cond b (number_at value own i) (pos 0)) (ne_eqb k m (λ p. omega (arith, l, p))) z)
-        (under_at value ds k) (λ i. cell_outside value (pos 0) (suc m) (suc m) ns k i whole l z)
-        (cell_outside value (pos 0) (suc m) (suc m) ns k m whole l z) j)
-        ∙ ap (λ z. by_place (ltb j (length columns)) (ltb j (length columns + m)) (eqb j (length columns + m))
-        (under_at value ds k *ℤ pos 0 +ℤ z) (pos 0) (pos 0)) (nothing_gives m (λ r. first_at value columns r j))
-        ∙ none_there (ltb j (length columns)) (ltb j (length columns + m)) (eqb j (length columns + m))
-        (under_at value ds k)
+  -- past the last row all is 0
+  number_outside : (own : List V) (k j : ℕ) → m < k →
+      number_with value m columns (revised_own value m own k) [] (pos 1) j ≡ pos 0
+  number_outside own k j l = sym (row_is_plain own [] (pos 1) k (λ p. omega (arith, l, p)) j)
+      ∙ ap (λ z. by_place (ltb j (length columns)) (ltb j (length columns + m)) (eqb j (length columns + m))
+      (pos 1 *ℤ pos 0 +ℤ z) (pos 0) (pos 0)) (nothing_gives m (λ r. first_at value columns r j))
+      ∙ none_there (ltb j (length columns)) (ltb j (length columns + m)) (eqb j (length columns + m)) (pos 1)
 
-    -- so is each cell there
-    pub cell_outside_zero : (k j : ℕ) → ArePositive value ds → length ns ≡ suc m * suc m → suc m ≤ k →
-        is_zero (revised_cell value m columns own ns ds k j) ≡ true
-    cell_outside_zero k j h whole l = ap is_zero (ap (λ n. over n (under_at value ds k)) (number_outside k j whole l)
-        ∙ over_zero (under_at value ds k) (h k)) ∙ is_zero-of
+  cell_outside : (own : List V) (s : ℕ → RowSeen V) (k j : ℕ) → m < k → s k ≡ no_row →
+      revised_cell value m columns own s k j ≡ of (pos 0)
+  cell_outside own s k j l e = ap (λ (r : RowSeen V). cell_with value m columns (revised_own value m own k) r.numbers
+      r.under j) e ∙ ap (λ n. over n (pos 1)) (number_outside own k j l) ∙ over_zero (pos 1) (omega (arith, ints))
 
-    -- and it fits
-    pub cell_outside_fits : (max : ℤ) → ((x : V) → unsigned_abs (value x) ≤ unsigned_abs max) → IsWidth max →
-        (k j : ℕ) →
-        ArePositive value ds → length ns ≡ suc m * suc m → suc m ≤ k →
-        fraction_fits max (revised_cell value m columns own ns ds k j) ≡ true
-    cell_outside_fits max fits is k j h whole l = over_fits max (revised_number value m columns own ns ds k j)
-        (under_at value ds k) (h k) (subst (λ z. unsigned_abs z
-        ≤ unsigned_abs max) (sym (number_outside k j whole l)) (omega arith))
-        (under_fits max value fits is ds k)
+  -- so is each cell there
+  pub cell_outside_zero : (own : List V) (s : ℕ → RowSeen V) (k j : ℕ) → m < k → s k ≡ no_row →
+      is_zero (revised_cell value m columns own s k j) ≡ true
+  cell_outside_zero own s k j l e = ap is_zero (cell_outside own s k j l e) ∙ is_zero-of
 
-    module _ (max : ℤ)
-        (fits : (x : V) → unsigned_abs (value x) ≤ unsigned_abs max) (positive : ArePositive value ds)
-        (r c w : ℕ) (l : r < m) (e : w ≡ suc m) (room : r * w + w ≤ length ns) (pivot : List V) (factor under bound : V)
-        (hf : value factor ≡ revised_number value m columns own ns ds r c)
-        (some : revised_number value m columns own ns ds r c ≢ pos 0)
-        (s : IsSameRow value (take (r * w + w - r * w) (drop (r * w) ns)) (value factor) pivot (value under))
-        (b : AreWithin (row_number value m columns pivot (value under)) (value bound)) where
-      cross : (j : ℕ) → row_number value m columns pivot (value under) j *ℤ revised_number value m columns own ns ds r c
-          ≡ revised_number value m columns own ns ds r j *ℤ value under
-      cross j = ap (λ z. row_number value m columns pivot (value under) j *ℤ z) (sym hf)
-          ∙ number_same (take (r * w + w - r * w) (drop (r * w) ns)) pivot (value factor) (value under)
-          (under_at value ds r)
-          under s j
-          ∙ ap (λ z. z *ℤ value under) (row_is_plain r l w e room j)
+  -- and it fits
+  pub cell_outside_fits : (own : List V) (s : ℕ → RowSeen V) (max : ℤ) → IsWidth max → (k j : ℕ) → m < k →
+      s k ≡ no_row → fraction_fits max (revised_cell value m columns own s k j) ≡ true
+  cell_outside_fits own s max is k j l e = ap (fraction_fits max) (cell_outside own s k j l e)
+      ∙ ap (fraction_fits max) (sym (over_zero (pos 1) (omega (arith, ints))))
+      ∙ over_fits max (pos 0) (pos 1) (omega (arith, ints)) (omega arith) (omega (arith, ints, is.some))
 
-      within : (j : ℕ) → unsigned_abs (row_number value m columns pivot (value under) j) ≤ unsigned_abs max
-      within j = omega (arith, b j, fits bound)
+  module _ (max : ℤ) (fits : (x : V) → unsigned_abs (value x) ≤ unsigned_abs max) (own row : List V) (d : ℤ)
+      (positive : pos 0 ≺ d) (r c : ℕ) (l : r < m) (pivot : List V) (factor under whole_top : V)
+      (hf : value factor ≡ number_with value m columns (revised_own value m own r) row d c)
+      (some : value factor ≢ pos 0) (s : IsSameRow value row (value factor) pivot (value under))
+      (b : AreWithin (row_number value m columns pivot (value under)) (value whole_top)) where
+    some_there : number_with value m columns (revised_own value m own r) row d c ≢ pos 0
+    some_there e = some (hf ∙ e)
 
-      -- the pivot row is the written row, divided by its cell
-      pub pivot_row_is : (j : ℕ) → row_cell value m columns pivot (value under) j
-          ≡ divided ordered_fractions (revised_cell value m columns own ns ds r)
-          (revised_cell value m columns own ns ds r c) j
-      pivot_row_is j = division_is max (revised_number value m columns own ns ds r)
-          (row_number value m columns pivot (value under)) (under_at value ds r)
-          (revised_number value m columns own ns ds r c)
-          (value under) (unsigned_abs max) (positive r) s.positive some cross within (fits under) (omega arith) j
+    cross : (j : ℕ) → row_number value m columns pivot (value under) j
+        *ℤ number_with value m columns (revised_own value m own r) row d c
+        ≡ number_with value m columns (revised_own value m own r) row d j *ℤ value under
+    cross j = ap (λ z. row_number value m columns pivot (value under) j *ℤ z) (sym hf)
+        ∙ number_same row pivot (value factor) (value under) d under s j
+        ∙ ap (λ z. z *ℤ value under) (row_is_plain own row d r (λ p. omega (arith, l, p)) j)
 
-      -- and no written quotient is too wide
-      pub pivot_row_none : (row j : ℕ) → divide_item ordered_fractions (is_too_wide max)
-          (revised_cell value m columns own ns ds r) (revised_cell value m columns own ns ds r c) row j ≡ None
-      pivot_row_none row j = division_none max (revised_number value m columns own ns ds r)
-          (row_number value m columns pivot (value under)) (under_at value ds r)
-          (revised_number value m columns own ns ds r c)
-          (value under) (unsigned_abs max) (positive r) s.positive some cross within (fits under) (omega arith) row j
+    within : (j : ℕ) → unsigned_abs (row_number value m columns pivot (value under) j) ≤ unsigned_abs max
+    within j = omega (arith, b j, fits whole_top)
 
-      -- and its cells fit
-      pub pivot_row_fits : (j : ℕ) → fraction_fits max (row_cell value m columns pivot (value under) j) ≡ true
-      pivot_row_fits j = over_fits max (row_number value m columns pivot (value under) j) (value under) s.positive
-          (within j) (fits under)
+    -- the pivot row is the written row, divided by its cell; no written quotient is too wide, and its cells fit
+    pub pivot_row : IsDividedRow max (cell_with value m columns (revised_own value m own r) row d) c
+        (row_cell value m columns pivot (value under))
+    pivot_row = record {
+      cell = λ j. division_is max (number_with value m columns (revised_own value m own r) row d)
+          (row_number value m columns pivot (value under)) d
+          (number_with value m columns (revised_own value m own r) row d c)
+          (value under) (unsigned_abs max) positive s.positive some_there cross within (fits under) (omega arith) j;
+      none = λ i j. division_none max (number_with value m columns (revised_own value m own r) row d)
+          (row_number value m columns pivot (value under)) d
+          (number_with value m columns (revised_own value m own r) row d c)
+          (value under) (unsigned_abs max) positive s.positive some_there cross within (fits under) (omega arith) i j;
+      fits = λ j. over_fits max (row_number value m columns pivot (value under) j) (value under) s.positive
+          (within j) (fits under);
+    }
 
-    -- the block after the pivot row is put
-    module _ (ns' ds' : List V) (pivot : List V) (under : ℤ) (r w : ℕ) (e : w
-        ≡ suc m) (p : IsPlaced value w ns ds pivot under r ns' ds') where
-      -- a row that is put has the cells of its numbers
-      pub placed_own : r < m → (j : ℕ) → revised_cell value m columns own ns' ds' r j
-          ≡ row_cell value m columns pivot under j
-      placed_own l j = λ z. over (number m (length columns) (first_at value columns)
-          (λ k. ap (λ b. cond b (number_at value own k) (pos 0)) (ne_eqb r m (λ p. omega (arith, l, p))) z)
-          (p.own_under z) (λ k. (ap (λ w. cell_at value (pos 0) w ns' r k) (sym e) ∙ p.own k) z)
-          ((ap (λ w. cell_at value (pos 0) w ns' r m) (sym e) ∙ p.own m) z) j) (p.own_under z)
-
-      -- and the other rows keep theirs
-      pub placed_other : (k j : ℕ) → k ≢ r → revised_cell value m columns own ns' ds' k j
-          ≡ revised_cell value m columns own ns ds k j
-      placed_other k j n = λ z. over (number m (length columns) (first_at value columns) (revised_own value m own k)
-          (p.other_under k n z) (λ i. kept i z) (kept m z) j) (p.other_under k n z)
-        where
-          kept : (i : ℕ) → cell_at value (pos 0) (suc m) ns' k i ≡ cell_at value (pos 0) (suc m) ns k i
-          kept i = ap (λ w. cell_at value (pos 0) w ns' k i) (sym e) ∙ p.other k i n
-              ∙ ap (λ w. cell_at value (pos 0) w ns k i) e
+  -- a row that is put has the cells of its numbers
+  pub put_own : (own : List V) (s t : ℕ → RowSeen V) (r : ℕ) (pivot : List V) (under : ℤ) (told : Bool) → r < m →
+      IsPut s r pivot under told t → (j : ℕ) → revised_cell value m columns own t r j
+      ≡ row_cell value m columns pivot under j
+  put_own own s t r pivot under told l p j = (λ z. cell_with value m columns (revised_own value m own r)
+      (p.own_numbers z) (p.own_under z) j)
+      ∙ sym (ap (λ n. over n under) (row_is_plain own pivot under r (λ p. omega (arith, l, p)) j))

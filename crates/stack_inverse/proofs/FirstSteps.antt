@@ -1,5 +1,5 @@
 -- The turns of the loops that build the first table.
-use Rattle.std.proofs.Common.{◌≡◌, sym, ap, subst, ◌∙◌, ℕ, suc, ◌+◌, ◌<◌, ◌≤◌, cond, eqb, List, [], ◌∷◌}
+use Rattle.std.proofs.Common.{◌≡◌, sym, ap, subst, ◌∙◌, ℕ, suc, ◌+◌, ◌<◌, ◌≤◌, cond, eqb, Bool, false, List, [], ◌∷◌}
 use Rattle.std.proofs.Common.{◌++◌, length, get_or, set, take, drop, drop-cons, add-one, arith}
 use Rattle.std.proofs.lemmas.Bool.{ne_eqb, eq-eqb}
 use Rattle.std.proofs.lemmas.List.{take_more}
@@ -10,8 +10,8 @@ use Rattle.stack_algebra.specs.Sums.{sum_of}
 use Rattle.stack_table.specs.declared.problem.Entry.{Entry}
 use Rattle.stack_table.specs.Problem.{turned}
 use Rattle.stack_inverse.specs.declared.columns.Cell.{Cell}
-use Rattle.stack_rows.specs.RowForm.{number_at, cell_at}
-use Rattle.stack_inverse.specs.RowBlock.{IsPlaced}
+use Rattle.stack_rows.specs.RowForm.{number_at}
+use Rattle.stack_inverse.specs.Columns.{RowSeen, IsPut}
 use Rattle.stack_inverse.specs.FirstTable.{flips, load_at, AreTurned, IsFirstRow, less_loads}
 use Rattle.stack_rows.proofs.Numbers.{at-set_same, at-set_other}
 use Rattle.stack_inverse.proofs.TurnedColumns.{turned_more}
@@ -71,34 +71,40 @@ module _ {V : Type 0} (value : V → ℤ) (m : ℕ) where
       go (no d) = at-set_other value (pos 0) row m j x d ∙ h j ∙ ap (λ z. cond (eqb j i) z (pos 0)) h1
           ∙ sym (ap (λ b. cond b load (cond (eqb j i) (pos 1) (pos 0))) (ne_eqb j m d))
 
-  module _ (w : ℕ) (hw : w ≡ suc m) (ns ds row ns' ds' : List V) (d : ℤ) (i : ℕ)
-      (p : IsPlaced value w ns ds row d i ns' ds') where
+  module _ (s t : ℕ → RowSeen V) (row : List V) (d : ℤ) (told : Bool) (i : ℕ) (p : IsPut s i row d told t) where
     -- another row stays
-    row_kept : (k : ℕ) (load : ℤ) → (k ≡ i → ⊥) → IsFirstRow value m ns ds k load → IsFirstRow value m ns' ds' k load
+    row_kept : (k : ℕ) (load : ℤ) → (k ≡ i → ⊥) → IsFirstRow value m s k load → IsFirstRow value m t k load
     row_kept k load n h = record {
-      number = λ j. ap (λ v. cell_at value (pos 0) v ns' k j) (sym hw) ∙ p.other k j n
-          ∙ ap (λ v. cell_at value (pos 0) v ns k j) hw ∙ h.number j;
-      under = p.other_under k n ∙ h.under;
+      number = λ j. ap (λ (r : RowSeen V). number_at value r.numbers j) (p.other k n) ∙ h.number j;
+      under = ap (λ (r : RowSeen V). r.under) (p.other k n) ∙ h.under;
     }
 
     -- one row more is a first row
     pub rows_more : (loads : ℕ → ℤ) → ((j : ℕ) → number_at value row j
         ≡ cond (eqb j m) (loads i) (cond (eqb j i) (pos 1) (pos 0))) → d ≡ pos 1 →
-        ((k : ℕ) → k < i → IsFirstRow value m ns ds k (loads k)) → (k : ℕ) → k < i + 1 →
-        IsFirstRow value m ns' ds' k (loads k)
+        ((k : ℕ) → k < i → IsFirstRow value m s k (loads k)) → (k : ℕ) → k < i + 1 →
+        IsFirstRow value m t k (loads k)
     rows_more loads is hd h k l = go (ℕ_discrete k i)
       where
-        here : IsFirstRow value m ns' ds' i (loads i)
+        here : IsFirstRow value m t i (loads i)
         here = record {
-          number = λ j. ap (λ v. cell_at value (pos 0) v ns' i j) (sym hw) ∙ p.own j ∙ is j;
+          number = λ j. ap (λ xs. number_at value xs j) p.own_numbers ∙ is j;
           under = p.own_under ∙ hd;
         }
 
-        go : Dec (k ≡ i) → IsFirstRow value m ns' ds' k (loads k)
-        go (yes e) = subst (λ n. IsFirstRow value m ns' ds' n (loads n)) (sym e) here
+        go : Dec (k ≡ i) → IsFirstRow value m t k (loads k)
+        go (yes e) = subst (λ n. IsFirstRow value m t n (loads n)) (sym e) here
         go (no n) = row_kept k (loads k) n (h k (omega (arith, l, n)))
 
     -- the rows above stay
-    pub rows_kept : (loads : ℕ → ℤ) → ((k : ℕ) → k < i → IsFirstRow value m ns ds k (loads k)) → (k : ℕ) → k < i →
-        IsFirstRow value m ns' ds' k (loads k)
+    pub rows_kept : (loads : ℕ → ℤ) → ((k : ℕ) → k < i → IsFirstRow value m s k (loads k)) → (k : ℕ) → k < i →
+        IsFirstRow value m t k (loads k)
     rows_kept loads h k l = row_kept k (loads k) (λ e. omega (arith, e, l)) (h k l)
+
+    -- a row that is put and isn't told to fit isn't marked
+    pub unmarked_put : told ≡ false → ((k : ℕ) → (s k).fits ≡ false) → (k : ℕ) → (t k).fits ≡ false
+    unmarked_put e h k = go (ℕ_discrete k i)
+      where
+        go : Dec (k ≡ i) → (t k).fits ≡ false
+        go (yes q) = ap (λ n. (t n).fits) q ∙ p.own_fits ∙ e
+        go (no n) = ap (λ (r : RowSeen V). r.fits) (p.other k n) ∙ h k

@@ -7,7 +7,6 @@ use Rattle.std.proofs.lemmas.List.{get_or_past}
 use native.Mathlib.Decide.{ℕ_discrete, dec_lt}
 use lib.IntN.{ℤ, pos, negsuc, neg_ℤ, ◌+ℤ◌, ◌-ℤ◌, ◌*ℤ◌}
 use Rattle.std.proofs.lemmas.Int.{ints}
-use Rattle.stack_algebra.proofs.Order.{◌≺◌}
 use Rattle.stack_algebra.specs.Rows.{changed}
 use Rattle.stack_algebra.specs.Sums.{sum_to, at}
 use Rattle.stack_algebra.proofs.Integers.{expand, sums}
@@ -26,15 +25,14 @@ use Rattle.stack_table.proofs.Numbers.{number_past}
 use Rattle.stack_table.proofs.FirstObjective.{artificial_yes, artificial_not, less_all-same}
 use Rattle.stack_table.proofs.RowByRow.{objective_beyond}
 use Rattle.stack_inverse.specs.declared.columns.Column.{Column}
-use Rattle.stack_rows.specs.RowForm.{at_value, cell_at, number_at, under_at, ArePositive}
+use Rattle.stack_rows.specs.RowForm.{number_at}
 use Rattle.stack_inverse.specs.Columns.{by_place, number, plain_own, cells_at, rises, first_at}
-use Rattle.stack_inverse.specs.Columns.{revised_own, revised_cell, IsOwn}
+use Rattle.stack_inverse.specs.Columns.{revised_own, RowSeen, no_row, cell_with, revised_cell, IsOwn}
 use Rattle.stack_inverse.specs.FirstTable.{load_at, AreFirstColumns, less_cells, IsFirstRow}
 use Rattle.stack_inverse.specs.FirstTable.{less_loads}
-use Rattle.stack_inverse.proofs.FirstRows.{nothing_gives, own_row}
+use Rattle.stack_inverse.proofs.FirstRows.{own_row}
 use Rattle.stack_inverse.proofs.FirstRows as first
 use Rattle.stack_rows.proofs.Numbers.{at-past}
-use Rattle.stack_inverse.proofs.NumberBlock.{cell_outside}
 use Rattle.stack_inverse.proofs.TurnedColumns.{entry_turned, less_rows}
 
 -- the opposite of an integer
@@ -71,15 +69,16 @@ number_same m n F own own' d a b s t h hs j ho = placed_same (ltb j n) (ltb j (n
     (λ f e. h (j - n) (omega (arith, ltb-false j n f, ltb-true j (n + m) e))) hs
 
 -- the numbers of the first table by row and column, of a problem whose columns are turned
-module _ {V : Type 0} (value : V → ℤ) (P : Lent) (problem : IsProblem P) (cs : List (Column V)) (own ns ds : List V)
+module _ {V : Type 0} (value : V → ℤ) (P : Lent) (problem : IsProblem P) (cs : List (Column V)) (own : List V)
+    (s : ℕ → RowSeen V)
     (long : length cs ≡ plain (shape_of_problem P)) (turned_cells : AreFirstColumns value P cs)
     (rising : (j : ℕ) → j < length cs → rises P.rows 0 (cells_at cs j) ≡ true)
     (own_is : (j : ℕ) → j < length cs → number_at value own j ≡ less_cells value (cells_at cs j))
-    (whole : length ns ≡ suc P.rows * suc P.rows) (unders : length ds ≡ suc P.rows)
-    (row_is : (i : ℕ) → i < P.rows → IsFirstRow value P.rows ns ds i (load_at P.right.items i))
-    (last_is : (j : ℕ) → cell_at value (pos 0) (suc P.rows) ns P.rows j
+    (past : (i : ℕ) → P.rows < i → s i ≡ no_row)
+    (row_is : (i : ℕ) → i < P.rows → IsFirstRow value P.rows s i (load_at P.right.items i))
+    (last_is : (j : ℕ) → number_at value (s P.rows).numbers j
     ≡ cond (eqb j P.rows) (less_loads P.right.items P.rows) (pos 0))
-    (last_under : under_at value ds P.rows ≡ pos 1) where
+    (last_under : (s P.rows).under ≡ pos 1) where
   abbrev S : Shape
   S = shape_of_problem P
 
@@ -115,14 +114,13 @@ module _ {V : Type 0} (value : V → ℤ) (P : Lent) (problem : IsProblem P) (cs
           ∙ sym (ne_eqb j (plain S + i) (λ e. d (omega (arith, e, l, long)))))
 
   -- the cell by its row's numbers
-  cell_of_row : (i : ℕ) (a o : ℕ → ℤ) (s : ℤ) → ((r : ℕ) → r < m → cell_at value (pos 0) (suc m) ns i r ≡ a r) →
-      cell_at value (pos 0) (suc m) ns i m ≡ s → under_at value ds i ≡ pos 1 → (j : ℕ) →
-      revised_own value m own i j ≡ o j → revised_cell value m cs own ns ds i j ≡ of (number m n F o (pos 1) a s j)
-  cell_of_row i a o s ha hs hd j ho = (λ z. over (number m n F (revised_own value m own i) (hd z)
-      (cell_at value (pos 0) (suc m) ns i) (cell_at value (pos 0) (suc m) ns i m) j) (hd z))
+  cell_of_row : (i : ℕ) (a o : ℕ → ℤ) (x : ℤ) → ((r : ℕ) → r < m → number_at value (s i).numbers r ≡ a r) →
+      number_at value (s i).numbers m ≡ x → (s i).under ≡ pos 1 → (j : ℕ) →
+      revised_own value m own i j ≡ o j → revised_cell value m cs own s i j ≡ of (number m n F o (pos 1) a x j)
+  cell_of_row i a o x ha hs hd j ho = (λ z. cell_with value m cs (revised_own value m own i) (s i).numbers (hd z) j)
       ∙ ap (λ z. over z (pos 1)) (number_same m n F (revised_own value m own i) o (pos 1)
-      (cell_at value (pos 0) (suc m) ns i) a (cell_at value (pos 0) (suc m) ns i m) s ha hs j ho)
-      ∙ of-over (number m n F o (pos 1) a s j)
+      (number_at value (s i).numbers) a (number_at value (s i).numbers m) x ha hs j ho)
+      ∙ of-over (number m n F o (pos 1) a x j)
 
   -- own cells stand in the objective row alone
   no_own : (i j : ℕ) → i ≢ m → revised_own value m own i j ≡ pos 0
@@ -138,7 +136,7 @@ module _ {V : Type 0} (value : V → ℤ) (P : Lent) (problem : IsProblem P) (cs
       ∙ by_shape j (turned (flipped Q i) (Q.entry i j)) (cond (eqb j (plain S + i)) (pos 1) (pos 0))
       (load_at P.right.items i)
 
-  above : (i j : ℕ) → i < m → revised_cell value m cs own ns ds i j ≡ first_row ordered_fractions Q i j
+  above : (i j : ℕ) → i < m → revised_cell value m cs own s i j ≡ first_row ordered_fractions Q i j
   above i j l = cell_of_row i (at integers i (pos 1)) plain_own (load_at P.right.items i)
       (λ r k. (row_is i l).number r ∙ ap (λ b. cond b (load_at P.right.items i) (cond (eqb r i) (pos 1) (pos 0)))
       (ne_eqb r m (λ e. omega (arith, k, e))))
@@ -146,11 +144,11 @@ module _ {V : Type 0} (value : V → ℤ) (P : Lent) (problem : IsProblem P) (cs
       (eq-eqb m m refl)) ((row_is i l).under) j (no_own i j (λ e. omega (arith, l, e)))
       ∙ ap of (number_of_row i j l)
 
-  below : (i j : ℕ) → m < i → revised_cell value m cs own ns ds i j ≡ first_row ordered_fractions Q i j
+  below : (i j : ℕ) → m < i → revised_cell value m cs own s i j ≡ first_row ordered_fractions Q i j
   below i j l = cell_of_row i (λ r. pos 0) plain_own (pos 0)
-      (λ r k. cell_outside value (pos 0) (suc m) (suc m) ns i r whole l)
-      (cell_outside value (pos 0) (suc m) (suc m) ns i m whole l)
-      (at-past value (pos 1) ds i (omega (arith, unders, l))) j (no_own i j (λ e. omega (arith, l, e)))
+      (λ r k. ap (λ (x : RowSeen V). number_at value x.numbers r) (past i l))
+      (ap (λ (x : RowSeen V). number_at value x.numbers m) (past i l))
+      (ap (λ (x : RowSeen V). x.under) (past i l)) j (no_own i j (λ e. omega (arith, l, e)))
       ∙ ap of (own_row m n F plain_own (pos 0) j ∙ nothing (ltb j n) (ltb j (n + m)) (eqb j (n + m)))
       ∙ sym (ap of (number_past P problem i (omega (arith, l)) j))
     where
@@ -199,7 +197,7 @@ module _ {V : Type 0} (value : V → ℤ) (P : Lent) (problem : IsProblem P) (cs
       (less_loads P.right.items m))
       ∙ sym (objective_beyond Q j (omega (arith, l, e, long)))
 
-  objective_is : (j : ℕ) → revised_cell value m cs own ns ds m j ≡ first_objective ordered_fractions Q j
+  objective_is : (j : ℕ) → revised_cell value m cs own s m j ≡ first_objective ordered_fractions Q j
   objective_is j = cell_of_row m (λ r. pos 0) (number_at value own) (less_loads P.right.items m)
       (λ r k. last_is r ∙ ap (λ b. cond b (less_loads P.right.items m) (pos 0)) (ne_eqb r m (λ e. omega (arith, k, e))))
       (last_is m ∙ ap (λ b. cond b (less_loads P.right.items m) (pos 0)) (eq-eqb m m refl)) last_under j
@@ -208,13 +206,13 @@ module _ {V : Type 0} (value : V → ℤ) (P : Lent) (problem : IsProblem P) (cs
       ∙ objective_at j (dec_lt j n) (dec_lt j (n + m)) (ℕ_discrete j (n + m))
 
   -- each cell is that of the written table
-  pub first_cell : (i j : ℕ) → revised_cell value m cs own ns ds i j
+  pub first_cell : (i j : ℕ) → revised_cell value m cs own s i j
       ≡ changed (first_row ordered_fractions Q) m (first_objective ordered_fractions Q) i j
   first_cell i j = go (ℕ_discrete i m) (dec_lt i m)
     where
-      go : Dec (i ≡ m) → Dec (i < m) → revised_cell value m cs own ns ds i j
+      go : Dec (i ≡ m) → Dec (i < m) → revised_cell value m cs own s i j
           ≡ changed (first_row ordered_fractions Q) m (first_objective ordered_fractions Q) i j
-      go (yes e) c = ap (λ k. revised_cell value m cs own ns ds k j) e ∙ objective_is j
+      go (yes e) c = ap (λ k. revised_cell value m cs own s k j) e ∙ objective_is j
           ∙ sym (ap (λ b. cond b (first_objective ordered_fractions Q) (first_row ordered_fractions Q i) j)
           (eq-eqb i m e))
       go (no d) (yes l) = above i j l
@@ -234,15 +232,6 @@ first_basics P bs long h i = go (dec_lt i P.rows)
     go (yes l) = h i l ∙ sym (ap (λ b. cond b (plain (shape_of_problem P) + i) 0) (lt-ltb i P.rows l))
     go (no l) = get_or_past bs i 0 (omega (arith, l, long))
         ∙ sym (ap (λ b. cond b (plain (shape_of_problem P) + i) 0) (le-ltb i P.rows (omega (arith, l))))
-
--- denominators that are 1 are positive
-pub all_positive : {V : Type 0} (value : V → ℤ) (xs : List V) (n : ℕ) (y : ℤ) → length xs ≡ n →
-    ((z : ℤ) (i : ℕ) → i < n → at_value value z xs i ≡ y) → y ≡ pos 1 → ArePositive value xs
-all_positive value xs n y long each is i = go (dec_lt i n)
-  where
-    go : Dec (i < n) → pos 0 ≺ under_at value xs i
-    go (yes l) = subst (λ z. pos 0 ≺ z) (sym (each (pos 1) i l ∙ is)) (omega (arith, ints))
-    go (no l) = subst (λ z. pos 0 ≺ z) (sym (at-past value (pos 1) xs i (omega (arith, l, long)))) (omega (arith, ints))
 
 -- numbers that are covered up to their count are covered
 pub own_within : {V : Type 0} (value : V → ℤ) (xs : List V) (n : ℕ) (w : ℤ) → length xs ≡ n →

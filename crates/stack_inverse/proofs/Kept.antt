@@ -1,31 +1,32 @@
--- The numbers of rows that stay, and those of a column that are kept.
-use Rattle.std.proofs.Common.{◌≡◌, sym, ap, ◌∙◌, ℕ, suc, List, length, Option, Some, None}
-use Rattle.std.specs.Prelude.{OnSome}
-use lib.IntN.{ℤ, pos}
-use Rattle.stack_inverse.specs.declared.columns.Column.{Column}
-use Rattle.stack_rows.specs.RowForm.{cell_at, number_at}
-use Rattle.stack_inverse.specs.RowBlock.{IsPlaced}
-use Rattle.stack_inverse.specs.Columns.{number, first_at, revised_own, revised_number, AreEntered, AreKept}
+-- What follows of what holds of an answer.
+use Rattle.std.proofs.Common.{◌≡◌, subst, Option, Some, None, Result, Ok, Err}
+use Rattle.std.specs.Prelude.{OnSome, OnOk, IfErr}
+use Rattle.stack_table.specs.declared.types.PivotWide.{PivotWide}
+use Rattle.stack_inverse.specs.declared.stops.Refusal.{Refusal}
+use Rattle.stack_inverse.specs.CellSteps.{TellsSpot}
 
--- what holds of a value that is there, where more does
+-- of a value that is there
 pub on_some : {A : Type 0} (o : Option A) (P Q : Type 0) → (P → Q) → OnSome o P → OnSome o Q
 on_some (Some x) P Q h k = h k
 on_some None P Q h k = tt
 
-module _ {V : Type 0} (value : V → ℤ) (m : ℕ) (columns : List (Column V)) where
-  -- where one row is put, the others keep their numbers
-  pub placed_keeps : (own ns ds ns' ds' row : List V) (d : ℤ) (i w : ℕ) → w ≡ suc m →
-      IsPlaced value w ns ds row d i ns' ds' → AreKept value m columns own ns ds ns' ds' i
-  placed_keeps own ns ds ns' ds' row d i w e p k j n = λ z. number m (length columns) (first_at value columns)
-      (revised_own value m own k) (p.other_under k n z) (λ r. kept r z) (kept m z) j
-    where
-      kept : (r : ℕ) → cell_at value (pos 0) (suc m) ns' k r ≡ cell_at value (pos 0) (suc m) ns k r
-      kept r = ap (λ w. cell_at value (pos 0) w ns' k r) (sym e) ∙ p.other k r n
-          ∙ ap (λ w. cell_at value (pos 0) w ns k r) e
+-- of an answer that isn't refused
+pub on_ok : {A E : Type 0} (r : Result A E) (P Q : Type 0) → (P → Q) → OnOk r P → OnOk r Q
+on_ok (Ok x) P Q h k = h k
+on_ok (Err e) P Q h k = tt
 
-  -- the numbers of a column of the same lists
-  pub entered_same : (own own' ns ns' ds ds' entered entered' : List V) (column : ℕ) → own ≡ own' → ns ≡ ns' →
-      ds ≡ ds' → entered' ≡ entered → AreEntered value m columns own ns ds column entered →
-      AreEntered value m columns own' ns' ds' column entered'
-  entered_same own own' ns ns' ds ds' entered entered' column p q r s h i l = ap (λ xs. number_at value xs i) s ∙ h i l
-      ∙ (λ z. revised_number value m columns (p z) (q z) (r z) i column)
+-- a refusal says the same of the same place
+pub err_same : {A : Type 0} (r : Result A Refusal) (s t : Option PivotWide) → s ≡ t →
+    IfErr r (λ e. TellsSpot e s) → IfErr r (λ e. TellsSpot e t)
+err_same (Ok x) s t h k = tt
+err_same (Err e) s t h k = subst (TellsSpot e) h k
+
+-- what follows of two things that hold of an answer
+pub ok_both : {A E : Type 0} (r : Result A E) (P Q R : Type 0) → (P → Q → R) → OnOk r P → OnOk r Q → OnOk r R
+ok_both (Ok x) P Q R h k l = h k l
+ok_both (Err e) P Q R h k l = tt
+
+-- of a refusal
+pub on_err : {A E : Type 0} (r : Result A E) (P Q : E → Type 0) → ((e : E) → P e → Q e) → IfErr r P → IfErr r Q
+on_err (Ok x) P Q h k = tt
+on_err (Err e) P Q h k = h e k

@@ -1,5 +1,4 @@
 pub mod StepCell
-pub mod NumberBlock
 pub mod PutRow
 pub mod Covered
 pub mod Basics
@@ -14,9 +13,9 @@ pub mod Made
 pub mod Cleared
 pub mod Steps
 pub mod Ready
-pub mod Marks
 pub mod PivotLoop
 pub mod Division
+pub mod PivotedRows
 pub mod Kept
 pub mod ObjectivePut
 pub mod RightSide

@@ -1,5 +1,5 @@
 -- A number over a positive one is a fraction that fits 128 bits.
-use Rattle.std.proofs.Common.{◌≡◌, ◌≢◌, sym, ap, ◌∙◌, ℕ, suc, ◌+◌, ◌≤◌, ◌<◌, Bool, true, false}
+use Rattle.std.proofs.Common.{◌≡◌, ◌≢◌, sym, ap, ◌∙◌, ℕ, ◌+◌, ◌≤◌, ◌<◌, Bool, true, false}
 use Rattle.std.proofs.Common.{not, arith}
 use Rattle.std.proofs.Common.{List, length, eqb, ltb}
 use Rattle.std.proofs.lemmas.Bool.{le-leb, le-ltb, lt-ltb}
@@ -15,8 +15,8 @@ use Rattle.stack_rational.specs.Laws.{widest}
 use Rattle.stack_rational.specs.TooWide.{fraction_fits, is_too_wide}
 use Rattle.stack_rational.proofs.WideWholes.{num_of}
 use Rattle.stack_inverse.specs.declared.columns.Column.{Column}
-use Rattle.stack_rows.specs.RowForm.{cell_at}
-use Rattle.stack_inverse.specs.Columns.{by_place, revised_number}
+use Rattle.stack_rows.specs.RowForm.{number_at}
+use Rattle.stack_inverse.specs.Columns.{by_place, number_with}
 use Rattle.stack_rows.proofs.OverOneDenominator.{over_fits}
 use Rattle.stack_rows.proofs.Ratios.{ratio_over}
 
@@ -39,12 +39,12 @@ pub some_under : (d : ℤ) → pos 0 ≺ d → (of d).num ≢ pos 0
 some_under d h = λ e. omega (arith, ints, h, sym (num_of d) ∙ e)
 
 -- the number in a row's artificial column
-pub artificial_is : {V : Type 0} (value : V → ℤ) (m : ℕ) (columns : List (Column V)) (own ns ds : List V) (i j r : ℕ) →
-    j ≡ length columns + r → r < m → revised_number value m columns own ns ds i j ≡ cell_at value (pos 0) (suc m) ns i r
-artificial_is value m columns own ns ds i j r e l = past (ltb j (length columns)) (ltb j (length columns + m))
+pub artificial_is : {V : Type 0} (value : V → ℤ) (m : ℕ) (columns : List (Column V)) (o : ℕ → ℤ) (row : List V) (d : ℤ)
+    (j r : ℕ) → j ≡ length columns + r → r < m → number_with value m columns o row d j ≡ number_at value row r
+artificial_is value m columns o row d j r e l = past (ltb j (length columns)) (ltb j (length columns + m))
     (eqb j (length columns + m)) _ _ _ (le-ltb j (length columns) (omega (arith, e)))
     (lt-ltb j (length columns + m) (omega (arith, e, l)))
-    ∙ ap (cell_at value (pos 0) (suc m) ns i) (omega (arith, e))
+    ∙ ap (number_at value row) (omega (arith, e))
   where
     past : (b c d : Bool) (x y z : ℤ) → b ≡ false → c ≡ true → by_place b c d x y z ≡ y
     past b c d x y z hb hc = λ i. by_place (hb i) (hc i) d x y z

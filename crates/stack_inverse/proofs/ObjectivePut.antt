@@ -1,5 +1,5 @@
 -- A new objective row that is put into the block.
-use Rattle.std.proofs.Common.{◌≡◌, ◌≢◌, refl, sym, ap, subst, ◌∙◌, ℕ, suc, ◌<◌, ◌≤◌, ◌+◌, ◌-◌, List, length}
+use Rattle.std.proofs.Common.{◌≡◌, ◌≢◌, refl, sym, ap, subst, ◌∙◌, ℕ, ◌<◌, ◌≤◌, ◌+◌, ◌-◌, List, length}
 use Rattle.std.proofs.Common.{Bool, true, false, cond, eqb, ltb, Option, Some, None, unsigned_abs, arith}
 use Rattle.stack_algebra.specs.Search.{least}
 use Rattle.stack_algebra.proofs.Search.{least-some}
@@ -12,9 +12,10 @@ use Rattle.stack_algebra.specs.Rows.{changed}
 use Rattle.stack_algebra.proofs.Fractions.{of}
 use Rattle.stack_algebra.proofs.Over.{over, of-over}
 use Rattle.stack_inverse.specs.declared.columns.Column.{Column}
-use Rattle.stack_rows.specs.RowForm.{cell_at, number_at, under_at, ArePositive}
-use Rattle.stack_inverse.specs.RowBlock.{IsPlaced}
-use Rattle.stack_inverse.specs.Columns.{combined, by_place, number, first_at, revised_own, revised_cell, IsFactorRow}
+use Rattle.stack_algebra.proofs.Order.{◌≺◌}
+use Rattle.stack_rows.specs.RowForm.{number_at}
+use Rattle.stack_inverse.specs.Columns.{combined, by_place, number, first_at, revised_own, RowSeen, IsPut}
+use Rattle.stack_inverse.specs.Columns.{cell_with, revised_cell, IsFactorRow}
 use Rattle.stack_inverse.proofs.FirstRows.{nothing_gives, own_row, factor_cell}
 use Rattle.stack_inverse.proofs.Steps.{over_zero}
 use Rattle.stack_table.specs.Table.{factor_row}
@@ -31,41 +32,36 @@ nothing_at false false false = refl
 module _ {V : Type 0} (value : V → ℤ) (m : ℕ) (columns : List (Column V)) where
   -- a row with its own cells
   abbrev pub own_cell : List V → List V → ℤ → ℕ → Fraction
-  own_cell own row d j = over (number m (length columns) (first_at value columns) (number_at value own) d
-      (number_at value row) (number_at value row m) j) d
+  own_cell own row d j = cell_with value m columns (number_at value own) row d j
 
-  module _ (own own' ns ds ns' ds' row : List V) (d : ℤ) (w : ℕ) (e : w
-      ≡ suc m) (p : IsPlaced value w ns ds row d m ns' ds')
+  module _ (own own' : List V) (s t : ℕ → RowSeen V) (row : List V) (d : ℤ) (told : Bool) (p : IsPut s m row d told t)
       (f : ℕ → Fraction) (is : (j : ℕ) → own_cell own' row d j ≡ f j) where
+    -- the other rows stay
+    pub others_stay : (k j : ℕ) → k ≢ m →
+        revised_cell value m columns own' t k j ≡ revised_cell value m columns own s k j
+    others_stay k j n = λ z. cell_with value m columns (λ i. bare i z) (p.other k n z).numbers (p.other k n z).under j
+      where
+        bare : (i : ℕ) → revised_own value m own' k i ≡ revised_own value m own k i
+        bare i = ap (λ b. cond b (number_at value own' i) (pos 0)) (ne_eqb k m n)
+            ∙ sym (ap (λ b. cond b (number_at value own i) (pos 0)) (ne_eqb k m n))
+
     -- the table with the new objective row
-    pub objective_put : (i j : ℕ) → revised_cell value m columns own' ns' ds' i j
-        ≡ changed (revised_cell value m columns own ns ds) m f i j
+    pub objective_put : (i j : ℕ) → revised_cell value m columns own' t i j
+        ≡ changed (revised_cell value m columns own s) m f i j
     objective_put i j = go (ℕ_discrete i m)
       where
-        put : (k : ℕ) → cell_at value (pos 0) (suc m) ns' m k ≡ number_at value row k
-        put k = ap (λ w. cell_at value (pos 0) w ns' m k) (sym e) ∙ p.own k
-
-        at_m : revised_cell value m columns own' ns' ds' m j ≡ own_cell own' row d j
-        at_m = λ z. over (number m (length columns) (first_at value columns)
+        at_m : revised_cell value m columns own' t m j ≡ own_cell own' row d j
+        at_m = λ z. cell_with value m columns
             (λ k. ap (λ b. cond b (number_at value own' k) (pos 0)) (eq-eqb m m refl) z)
-            (p.own_under z) (λ k. put k z) (put m z) j) (p.own_under z)
+            (p.own_numbers z) (p.own_under z) j
 
-        kept : (n : i ≢ m) (k : ℕ) → cell_at value (pos 0) (suc m) ns' i k ≡ cell_at value (pos 0) (suc m) ns i k
-        kept n k = ap (λ w. cell_at value (pos 0) w ns' i k) (sym e) ∙ p.other i k n
-            ∙ ap (λ w. cell_at value (pos 0) w ns i k) e
-
-        bare : (n : i ≢ m) (k : ℕ) → revised_own value m own' i k ≡ revised_own value m own i k
-        bare n k = ap (λ b. cond b (number_at value own' k) (pos 0)) (ne_eqb i m n)
-            ∙ sym (ap (λ b. cond b (number_at value own k) (pos 0)) (ne_eqb i m n))
-
-        go : Dec (i ≡ m) → revised_cell value m columns own' ns' ds' i j
-            ≡ changed (revised_cell value m columns own ns ds) m f i j
-        go (yes q) = ap (λ k. revised_cell value m columns own' ns' ds' k j) q ∙ at_m ∙ is j
-            ∙ sym (ap (λ k. changed (revised_cell value m columns own ns ds) m f k j) q
-            ∙ ap (λ b. cond b f (revised_cell value m columns own ns ds m) j) (eq-eqb m m refl))
-        go (no n) = (λ z. over (number m (length columns) (first_at value columns) (λ k. bare n k z)
-            (p.other_under i n z) (λ k. kept n k z) (kept n m z) j) (p.other_under i n z))
-            ∙ sym (ap (λ b. cond b f (revised_cell value m columns own ns ds i) j) (ne_eqb i m n))
+        go : Dec (i ≡ m) → revised_cell value m columns own' t i j
+            ≡ changed (revised_cell value m columns own s) m f i j
+        go (yes q) = ap (λ k. revised_cell value m columns own' t k j) q ∙ at_m ∙ is j
+            ∙ sym (ap (λ k. changed (revised_cell value m columns own s) m f k j) q
+            ∙ ap (λ b. cond b f (revised_cell value m columns own s m) j) (eq-eqb m m refl))
+        go (no n) = others_stay i j n
+            ∙ sym (ap (λ b. cond b f (revised_cell value m columns own s i) j) (ne_eqb i m n))
 
   -- a row that is 0
   pub zero_row_is : (own row : List V) (d : ℤ) → d ≡ pos 1 → ((j : ℕ) → number_at value own j ≡ pos 0) →
@@ -81,8 +77,8 @@ module _ {V : Type 0} (value : V → ℤ) (m : ℕ) (columns : List (Column V)) 
   at_plain : (b c d : Bool) (x y z : ℤ) → b ≡ true → by_place b c d x y z ≡ x
   at_plain b c d x y z h = ap (λ t. by_place t c d x y z) h
 
-  module _ (own own' ns ds row : List V) (d : ℤ) (column : ℕ) (lt : column < length columns)
-      (positive : ArePositive value ds)
+  module _ (own own' : List V) (s : ℕ → RowSeen V) (row : List V) (d : ℤ) (column : ℕ) (lt : column < length columns)
+      (positive : (i : ℕ) → pos 0 ≺ (s i).under)
       (ho : (j : ℕ) → number_at value own' j ≡ cond (eqb j column) (negsuc 0) (pos 0)) where
     elsewhere : (j k : ℕ) → k ≢ column → number_at value own' k ≡ pos 0
     elsewhere j k n = ho k ∙ ap (λ b. cond b (negsuc 0) (pos 0)) (ne_eqb k column n)
@@ -101,8 +97,8 @@ module _ {V : Type 0} (value : V → ℤ) (m : ℕ) (columns : List (Column V)) 
 
     -- the factor's row without its own cell is the objective row of phase 3
     pub factor_is : (o : Option ℕ) → IfSome o (λ r. r < m) →
-        IsFactorRow value m columns own ns ds column o row d → (j : ℕ) →
-        own_cell own' row d j ≡ factor_row ordered_fractions (revised_cell value m columns own ns ds) column o j
+        IsFactorRow value m columns own s column o row d → (j : ℕ) →
+        own_cell own' row d j ≡ factor_row ordered_fractions (revised_cell value m columns own s) column o j
     factor_is None q h j = go (ℕ_discrete j column)
       where
         same : own_cell own' row d j ≡ over (number m (length columns) (first_at value columns)
@@ -113,7 +109,7 @@ module _ {V : Type 0} (value : V → ℤ) (m : ℕ) (columns : List (Column V)) 
             (h.1 z)
 
         go : Dec (j ≡ column) → own_cell own' row d j
-            ≡ factor_row ordered_fractions (revised_cell value m columns own ns ds) column None j
+            ≡ factor_row ordered_fractions (revised_cell value m columns own s) column None j
         go (yes e) = same ∙ ap (λ z. over z (pos 1)) (own_row m (length columns) (first_at value columns)
             (number_at value own') (pos 0) j
             ∙ at_plain (ltb j (length columns)) (ltb j (length columns + m)) (eqb j (length columns + m))
@@ -131,47 +127,47 @@ module _ {V : Type 0} (value : V → ℤ) (m : ℕ) (columns : List (Column V)) 
     factor_is (Some r) q h j = go (ℕ_discrete j column)
       where
         e : ℤ
-        e = under_at value ds r
+        e = (s r).under
 
         same : own_cell own' row d j ≡ over (number m (length columns) (first_at value columns) (number_at value own')
-            (under_at value ds r) (λ k. cell_at value (pos 0) (suc m) ns r k)
-            (cell_at value (pos 0) (suc m) ns r m) j) (under_at value ds r)
+            ((s r).under) (λ k. number_at value (s r).numbers k)
+            (number_at value (s r).numbers m) j) ((s r).under)
         same = λ z. over (number m (length columns) (first_at value columns) (number_at value own') (h.1 z)
-            (λ k. h.0 k z) (h.0 m z) j)
+            (number_at value (h.0 z)) (number_at value (h.0 z) m) j)
             (h.1 z)
 
         bare : (k : ℕ) → revised_own value m own r k ≡ pos 0
         bare k = ap (λ b. cond b (number_at value own k) (pos 0)) (ne_eqb r m (λ p. omega (arith, q, p)))
 
         a : ℕ → ℤ
-        a k = cell_at value (pos 0) (suc m) ns r k
+        a k = number_at value (s r).numbers k
 
-        unit : under_at value ds r *ℤ pos 0 +ℤ combined m (λ k. cell_at value (pos 0) (suc m) ns r k)
-            (λ r. first_at value columns r column) ≡ under_at value ds r
+        unit : (s r).under *ℤ pos 0 +ℤ combined m (λ k. number_at value (s r).numbers k)
+            (λ r. first_at value columns r column) ≡ (s r).under
         unit = sym (by_own column (revised_own value m own r) a (a m) e (pos 0) (pos 0) (bare column)
             ∙ at_plain (ltb column (length columns)) (ltb column (length columns + m)) (eqb column (length columns + m))
-            (under_at value ds r *ℤ pos 0 +ℤ combined m (λ k. cell_at value (pos 0) (suc m) ns r k)
+            ((s r).under *ℤ pos 0 +ℤ combined m (λ k. number_at value (s r).numbers k)
             (λ r. first_at value columns r column))
-            (cell_at value (pos 0) (suc m) ns r (column - length columns)) (cell_at value (pos 0) (suc m) ns r m)
+            (number_at value (s r).numbers (column - length columns)) (number_at value (s r).numbers m)
             (lt-ltb column (length columns) lt)) ∙ h.2
 
         go : Dec (j ≡ column) → own_cell own' row d j
-            ≡ factor_row ordered_fractions (revised_cell value m columns own ns ds) column (Some r) j
+            ≡ factor_row ordered_fractions (revised_cell value m columns own s) column (Some r) j
         go (yes p) = same ∙ ap (λ z. over z e) (ap (λ k. number m (length columns) (first_at value columns)
             (number_at value own') e a (a m) k) p
             ∙ by_own column (number_at value own') a (a m) e (pos 0) (negsuc 0) there
             ∙ at_plain (ltb column (length columns)) (ltb column (length columns + m)) (eqb column (length columns + m))
-            (under_at value ds r *ℤ negsuc 0 +ℤ combined m (λ k. cell_at value (pos 0) (suc m) ns r k)
+            ((s r).under *ℤ negsuc 0 +ℤ combined m (λ k. number_at value (s r).numbers k)
             (λ r. first_at value columns r column))
-            (cell_at value (pos 0) (suc m) ns r (column - length columns)) (cell_at value (pos 0) (suc m) ns r m)
+            (number_at value (s r).numbers (column - length columns)) (number_at value (s r).numbers m)
             (lt-ltb column (length columns) lt)
             ∙ factor_cell m (length columns) (first_at value columns) e a column unit)
             ∙ over_zero e (positive r)
-            ∙ sym (ap (λ b. cond b (of (pos 0)) (revised_cell value m columns own ns ds r j)) (eq-eqb j column p))
+            ∙ sym (ap (λ b. cond b (of (pos 0)) (revised_cell value m columns own s r j)) (eq-eqb j column p))
         go (no n) = same ∙ ap (λ z. over z e) (by_own j (number_at value own') a (a m) e (pos 0) (pos 0)
             (elsewhere j j n)
             ∙ sym (by_own j (revised_own value m own r) a (a m) e (pos 0) (pos 0) (bare j)))
-            ∙ sym (ap (λ b. cond b (of (pos 0)) (revised_cell value m columns own ns ds r j)) (ne_eqb j column n))
+            ∙ sym (ap (λ b. cond b (of (pos 0)) (revised_cell value m columns own s r j)) (ne_eqb j column n))
 
 -- a row that is found is one of the rows
 pub found_below : (m : ℕ) (p : ℕ → Bool) (o : Option ℕ) → o ≡ least m p → (P : ℕ → Type 0) → ((r : ℕ) → r < m → P r) →

@@ -1,27 +1,117 @@
--- A row that is put into a block.
-use Rattle.std.proofs.Common.{◌≡◌, sym, ap, subst, ◌∙◌, ℕ, ◌<◌, ◌≤◌, ◌+◌, ◌-◌, ◌*◌, List, length, set}
+-- A row of many that is written.
+use Rattle.std.proofs.Common.{◌≡◌, ◌≢◌, sym, ap, subst, ◌∙◌, ℕ, suc, ◌+◌, ◌<◌, ◌≤◌, Bool, true, false, List, [], ◌∷◌}
+use Rattle.std.proofs.Common.{length, set, slice_index_or, get_or, zero, arith}
 use native.Mathlib.Decide.{ℕ_discrete}
-use borrow.Rule.Slice.PartMut.{put_mid}
 use lib.IntN.{ℤ, pos}
+use Rattle.std.proofs.lemmas.Int.{ints}
+use Rattle.stack_algebra.specs.Fraction.{Fraction}
 use Rattle.stack_algebra.proofs.Order.{◌≺◌}
-use Rattle.stack_rows.specs.RowForm.{number_at, under_at, ArePositive}
-use Rattle.stack_inverse.specs.RowBlock.{IsPlaced}
-use Rattle.stack_rows.proofs.Numbers.{at-set_same, at-set_other}
-use Rattle.stack_inverse.proofs.NumberBlock.{put_own, put_other}
+use Rattle.stack_rational.specs.TooWide.{fraction_fits}
+use Rattle.stack_rows.specs.declared.whole.Whole.{Ghosts}
+use Rattle.stack_rows.proofs.Numbers.{at-index, at-set_same, at-set_other, at-past}
+use Rattle.stack_inverse.specs.declared.row.Row.{Row}
+use Rattle.stack_inverse.specs.RowBlock.{AllFit, AreMarked}
+use Rattle.stack_inverse.specs.Columns.{RowSeen, no_row, AreWide, IsPut}
+use Rattle.stack_inverse.specs.RowsSeen.{seen_of, seen_at}
 
--- the row has its numbers, and the others stay
-pub row_placed : {V : Type 0} (value : V → ℤ) (w : ℕ) (ns ds row ys : List V) (i : ℕ) (e : V) →
-    i * w + w ≤ length ns → i < length ds → ArePositive value ds → length row ≡ w → ys ≡ row → pos 0 ≺ value e →
-    IsPlaced value w ns ds row (value e) i (put_mid (i * w) (i * w + w - i * w) ns ys) (set ds i e)
-row_placed value w ns ds row ys i e room lt h long same he = record {
-  positive = λ k. positive k (ℕ_discrete k i);
-  own = λ j. put_own value (pos 0) w i ns room ys j (ap length same ∙ long) ∙ ap (λ xs. number_at value xs j) same;
-  own_under = at-set_same value (pos 1) ds i e lt;
-  other = λ k j n. put_other value (pos 0) w i ns room ys k j (ap length same ∙ long) n;
-  other_under = λ k n. at-set_other value (pos 1) ds i k e n;
-}
+module _ {V : Type 0} {number : Ghosts V} where
+  -- each denominator is positive
+  pub under_positive : (rows : List (Row V number)) (i : ℕ) → pos 0 ≺ (seen_at rows i).under
+  under_positive [] i = omega (arith, ints)
+  under_positive (r ∷ rs) zero = r.positive
+  under_positive (r ∷ rs) (suc i) = under_positive rs i
+
+  -- past the last row there is none
+  pub seen_past : (rows : List (Row V number)) (n k : ℕ) → length rows ≡ n → n ≤ k → seen_at rows k ≡ no_row
+  seen_past rows n k e l = at-past seen_of no_row rows k (omega (arith, e, l))
+
+  -- a row that is lent
+  pub seen_index : (rows : List (Row V number)) (i : ℕ) (x : Row V number) → i < length rows →
+      x ≡ slice_index_or rows i x → seen_of (slice_index_or rows i x) ≡ seen_at rows i
+  seen_index rows i x l e = ap (λ (r : Row V number). seen_of r) (sym e) ∙ sym (at-index seen_of no_row rows i x l e)
+
+  pub seen_get : (rows : List (Row V number)) (i : ℕ) (x : Row V number) → i < length rows → x ≡ get_or rows i x →
+      seen_of x ≡ seen_at rows i
+  seen_get rows i x l e = sym (at-index seen_of no_row rows i x l e)
+
+  -- its width
+  pub width_get : (m : ℕ) (rows : List (Row V number)) (i : ℕ) (x : Row V number) → length rows ≡ suc m → i ≤ m →
+      AreWide m (seen_at rows) → x ≡ get_or rows i x → length x.numbers.items ≡ suc m
+  width_get m rows i x h l wide e = ap (λ (s : RowSeen V). length s.numbers)
+      (seen_get rows i x (omega (arith, h, l)) e) ∙ wide i l
+
+  module _ (rows : List (Row V number)) (i : ℕ) (new : Row V number) (lt : i < length rows) where
+    -- it, and the others
+    pub own : seen_at (set rows i new) i ≡ seen_of new
+    own = at-set_same seen_of no_row rows i new lt
+
+    pub other : (k : ℕ) → k ≢ i → seen_at (set rows i new) k ≡ seen_at rows k
+    other k n = at-set_other seen_of no_row rows i k new n
+
+    -- all are as wide as before
+    pub wide_set : (m : ℕ) → AreWide m (seen_at rows) → length new.numbers.items ≡ suc m →
+        AreWide m (seen_at (set rows i new))
+    wide_set m h e k l = go (ℕ_discrete k i)
+      where
+        go : Dec (k ≡ i) → length (seen_at (set rows i new) k).numbers ≡ suc m
+        go (yes p) = ap (λ (s : RowSeen V). length s.numbers) (ap (seen_at (set rows i new)) p ∙ own) ∙ e
+        go (no n) = ap (λ (s : RowSeen V). length s.numbers) (other k n) ∙ h k l
+
+    -- what is done of the rows before it is done of it too
+    pub done_set : (P : ℕ → RowSeen V → Type 0) (r : ℕ) → ((k : ℕ) → k < i → k ≢ r → P k (seen_at rows k)) →
+        P i (seen_of new) → (k : ℕ) → k < i + 1 → k ≢ r → P k (seen_at (set rows i new) k)
+    done_set P r h here k l d = go (ℕ_discrete k i)
+      where
+        go : Dec (k ≡ i) → P k (seen_at (set rows i new) k)
+        go (yes p) = subst (λ n. P n (seen_at (set rows i new) n)) (sym p) (subst (λ s. P i s) (sym own) here)
+        go (no n) = subst (λ s. P k s) (sym (other k n)) (h k (omega (arith, l, n)) d)
+
+    -- the rows behind it are as they were
+    pub left_set : (first : ℕ → RowSeen V) → ((k : ℕ) → i ≤ k → seen_at rows k ≡ first k) → (k : ℕ) → i + 1 ≤ k →
+        seen_at (set rows i new) k ≡ first k
+    left_set first h k l = other k (λ p. omega (arith, l, p)) ∙ h k (omega (arith, l))
+
+    -- where all rows that are marked fit, and it too if it is, they do
+    pub marked_set : (max : ℤ) (cell : ℕ → RowSeen V → ℕ → Fraction) →
+        AreMarked max (λ k. cell k (seen_at rows k)) (seen_at rows) →
+        (new.fits ≡ true → AllFit max (cell i (seen_of new))) →
+        AreMarked max (λ k. cell k (seen_at (set rows i new) k)) (seen_at (set rows i new))
+    marked_set max cell h here k = go (ℕ_discrete k i)
+      where
+        go : Dec (k ≡ i) → (seen_at (set rows i new) k).fits ≡ true →
+            AllFit max (cell k (seen_at (set rows i new) k))
+        go (yes p) = subst (λ n. (seen_at (set rows i new) n).fits ≡ true →
+            AllFit max (cell n (seen_at (set rows i new) n))) (sym p)
+            (subst (λ (s : RowSeen V). s.fits ≡ true → AllFit max (cell i s)) (sym own) here)
+        go (no n) = subst (λ (s : RowSeen V). s.fits ≡ true → AllFit max (cell k s)) (sym (other k n)) (h k)
+
+    -- a row of these numbers is put
+    pub put_is : (numbers : List V) (under : ℤ) (fits : Bool) → new.numbers.items ≡ numbers →
+        number.value new.under ≡ under → new.fits ≡ fits →
+        IsPut (seen_at rows) i numbers under fits (seen_at (set rows i new))
+    put_is numbers under fits hn hu hf = record {
+      own_numbers = ap (λ (s : RowSeen V). s.numbers) own ∙ hn;
+      own_under = ap (λ (s : RowSeen V). s.under) own ∙ hu;
+      own_fits = ap (λ (s : RowSeen V). s.fits) own ∙ hf;
+      other = other;
+    }
+
+-- where a row is put, all are as wide as before
+pub wide_put : {V : Type 0} (m : ℕ) (s t : ℕ → RowSeen V) (i : ℕ) (numbers : List V) (under : ℤ) (fits : Bool) →
+    IsPut s i numbers under fits t → length numbers ≡ suc m → AreWide m s → AreWide m t
+wide_put {V = V} m s t i numbers under fits p e h k l = go (ℕ_discrete k i)
   where
-    positive : (k : ℕ) → Dec (k ≡ i) → pos 0 ≺ under_at value (set ds i e) k
-    positive k (yes p) = subst (λ z. pos 0 ≺ z) (sym (ap (under_at value (set ds i e)) p
-        ∙ at-set_same value (pos 1) ds i e lt)) he
-    positive k (no p) = subst (λ z. pos 0 ≺ z) (sym (at-set_other value (pos 1) ds i k e p)) (h k)
+    go : Dec (k ≡ i) → length (t k).numbers ≡ suc m
+    go (yes q) = ap (λ n. length (t n).numbers) q ∙ ap (λ (xs : List V). length xs) p.own_numbers ∙ e
+    go (no n) = ap (λ (s : RowSeen V). length s.numbers) (p.other k n) ∙ h k l
+
+-- where it isn't marked, nothing is said of it
+pub marked_put : {V : Type 0} (max : ℤ) (s t : ℕ → RowSeen V) (i : ℕ) (numbers : List V) (under : ℤ)
+    (old new : ℕ → ℕ → Fraction) → IsPut s i numbers under false t → ((k j : ℕ) → k ≢ i → new k j ≡ old k j) →
+    AreMarked max old s → AreMarked max new t
+marked_put {V = V} max s t i numbers under old new p same h k e j = go (ℕ_discrete k i)
+  where
+    go : Dec (k ≡ i) → fraction_fits max (new k j) ≡ true
+    go (yes q) = let b : false ≡ true = sym p.own_fits ∙ sym (ap (λ n. (t n).fits) q) ∙ e in absurd cc
+    go (no n) = ap (fraction_fits max) (same k j n)
+        ∙ h k (sym (ap (λ (s : RowSeen V). s.fits) (p.other k n)) ∙ e) j

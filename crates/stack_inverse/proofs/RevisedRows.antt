@@ -1,4 +1,4 @@
--- A row by its artificial cells and its right side: its numbers in all columns, a row step on them, and their bound.
+-- A row by its artificial cells and its right side: its numbers in all columns, a row step on them, and their top.
 use Rattle.std.proofs.Common.{◌≡◌, refl, ap, ◌∙◌, ℕ, ◌+◌, ◌-◌, ◌*◌, ◌<◌, ◌≤◌, Bool, true, false}
 use Rattle.std.proofs.Common.{eqb, ltb, None, arith, mul-le-mul}
 use Rattle.std.proofs.lemmas.Bool.{ltb-true, ltb-false}
@@ -66,16 +66,16 @@ artificial_within y a c r s hy hc h = let u : a * 1 ≤ a * c = mul-le-mul (omeg
 
 -- m rows, n plain columns, and the first rows in these
 module _ (m n : ℕ) (F : ℕ → ℕ → ℤ) where
-  -- its bound: a greatest artificial number, column sum and own cell
-  pub number_within : (own : ℕ → ℤ) (d : ℤ) (a : ℕ → ℤ) (s : ℤ) (most column greatest b : ℕ) →
-      ((r : ℕ) → r < m → nat_abs (a r) ≤ most) → nat_abs s ≤ b → most * column + nat_abs d * greatest ≤ b →
+  -- its top, by those of its artificial numbers, of column sums and of own cells
+  pub number_within : (own : ℕ → ℤ) (d : ℤ) (a : ℕ → ℤ) (s : ℤ) (top column own_top b : ℕ) →
+      ((r : ℕ) → r < m → nat_abs (a r) ≤ top) → nat_abs s ≤ b → top * column + nat_abs d * own_top ≤ b →
       ((j : ℕ) → j < n → sizes m (λ r. F r j) ≤ column) → 0 < column →
-      ((j : ℕ) → j < n → nat_abs (own j) ≤ greatest) → (j : ℕ) → nat_abs (number m n F own d a s j) ≤ b
-  number_within own d a s most column greatest b ha hs h hc some ho j =
+      ((j : ℕ) → j < n → nat_abs (own j) ≤ own_top) → (j : ℕ) → nat_abs (number m n F own d a s j) ≤ b
+  number_within own d a s top column own_top b ha hs h hc some ho j =
       place_within (ltb j n) (ltb j (n + m)) (eqb j (n + m)) (d *ℤ own j +ℤ combined m a (λ r. F r j)) (a (j - n)) s b
-      (λ e. plain_within (own j) (combined m a (λ r. F r j)) d most column greatest (sizes m (λ r. F r j)) b
-      (combined_within m most a (λ r. F r j) ha) (hc j (ltb-true j n e)) (ho j (ltb-true j n e)) h)
-      (λ e k. artificial_within (a (j - n)) most column (nat_abs d * greatest) b
+      (λ e. plain_within (own j) (combined m a (λ r. F r j)) d top column own_top (sizes m (λ r. F r j)) b
+      (combined_within m top a (λ r. F r j) ha) (hc j (ltb-true j n e)) (ho j (ltb-true j n e)) h)
+      (λ e k. artificial_within (a (j - n)) top column (nat_abs d * own_top) b
       (ha (j - n) (omega (arith, ltb-false j n e, ltb-true j (n + m) k))) some h)
       hs
 

@@ -1,14 +1,15 @@
 -- The right side of a row, and its size.
-use Rattle.std.proofs.Common.{◌≡◌, sym, ap, ℕ, zero, suc, ◌≤◌, ◌+◌, ◌*◌, List, [], ◌∷◌, Bool, true, false}
-use Rattle.std.proofs.Common.{cond, eqb, ltb, length, unsigned_abs, subst, arith}
+use Rattle.std.proofs.Common.{◌≡◌, sym, ap, ℕ, zero, suc, ◌≤◌, ◌+◌, List, [], ◌∷◌, Bool, true, false}
+use Rattle.std.proofs.Common.{eqb, ltb, length, unsigned_abs, subst, arith}
 use Rattle.std.proofs.lemmas.Bool.{le-ltb, eq-eqb}
-use lib.IntN.{ℤ, pos}
+use lib.IntN.{ℤ}
 use Rattle.stack_table.specs.Table.{columns}
 use Rattle.stack_rows.specs.declared.whole.Whole.{Ghosts}
 use Rattle.stack_inverse.specs.declared.revised_table.RevisedTable.{RevisedTable}
 use Rattle.stack_inverse.specs.declared.columns.Column.{Column}
-use Rattle.stack_rows.specs.RowForm.{cell_at, number_at}
-use Rattle.stack_inverse.specs.Columns.{by_place, revised_number}
+use Rattle.stack_rows.specs.RowForm.{number_at}
+use Rattle.stack_inverse.specs.Columns.{by_place, revised_own, number_with}
+use Rattle.stack_inverse.specs.RowsSeen.{seen_at}
 use Rattle.stack_inverse.specs.Seen.{shape_of_revised, number_in}
 
 -- each number of a list fits
@@ -18,23 +19,14 @@ number_fits m value h [] j = omega arith
 number_fits m value h (x ∷ xs) zero = h x
 number_fits m value h (x ∷ xs) (suc j) = number_fits m value h xs j
 
--- and each of a block
-pub cell_fits : {V : Type 0} (m : ℤ) (value : V → ℤ) → ((x : V) → unsigned_abs (value x) ≤ unsigned_abs m) → (w : ℕ)
-    (xs : List V) (i j : ℕ) → unsigned_abs (cell_at value (pos 0) w xs i j) ≤ unsigned_abs m
-cell_fits m value fits w xs i j = go (ltb j w)
-  where
-    go : (b : Bool) → unsigned_abs (cond b (number_at value xs (i * w + j)) (pos 0)) ≤ unsigned_abs m
-    go true = number_fits m value fits xs (i * w + j)
-    go false = omega arith
-
 -- past the plain and the artificial columns
 past_all : (b c d : Bool) (x y z : ℤ) → b ≡ false → c ≡ false → d ≡ true → by_place b c d x y z ≡ z
 past_all b c d x y z hb hc hd = λ i. by_place (hb i) (hc i) (hd i) x y z
 
 -- the number in the column of the right side
-pub right_is : {V : Type 0} (value : V → ℤ) (m : ℕ) (columns : List (Column V)) (own ns ds : List V) (i j : ℕ) →
-    j ≡ length columns + m → revised_number value m columns own ns ds i j ≡ cell_at value (pos 0) (suc m) ns i m
-right_is value m columns own ns ds i j e = past_all (ltb j (length columns)) (ltb j (length columns + m))
+pub right_is : {V : Type 0} (value : V → ℤ) (m : ℕ) (columns : List (Column V)) (o : ℕ → ℤ) (row : List V) (d : ℤ)
+    (j : ℕ) → j ≡ length columns + m → number_with value m columns o row d j ≡ number_at value row m
+right_is value m columns o row d j e = past_all (ltb j (length columns)) (ltb j (length columns + m))
     (eqb j (length columns + m)) _ _ _ (le-ltb j (length columns) (omega (arith, e)))
     (le-ltb j (length columns + m) (omega (arith, e))) (eq-eqb j (length columns + m) e)
 
@@ -42,6 +34,7 @@ right_is value m columns own ns ds i j e = past_all (ltb j (length columns)) (lt
 pub right_fits : {V : Type 0} {number : Ghosts V} (m : ℤ) → ((x : V) → unsigned_abs (number.value x) ≤ unsigned_abs m) →
     (t : RevisedTable V number) (i : ℕ) → unsigned_abs (number_in t i (columns (shape_of_revised t))) ≤ unsigned_abs m
 right_fits {number = number} m fits t i = subst (λ z. unsigned_abs z ≤ unsigned_abs m)
-    (sym (right_is number.value t.first.rows t.first.columns.items t.own.items t.numbers.items t.unders.items i
-    (columns (shape_of_revised t)) (ap (λ n. n + t.first.rows) (sym t.plain))))
-    (cell_fits m number.value fits (suc t.first.rows) t.numbers.items i t.first.rows)
+    (sym (right_is number.value t.given.first.rows t.given.first.columns.items
+    (revised_own number.value t.given.first.rows t.given.own.items i) (seen_at t.rows.items i).numbers
+    (seen_at t.rows.items i).under (columns (shape_of_revised t)) (ap (λ n. n + t.given.first.rows)
+    (sym t.plain_count)))) (number_fits m number.value fits (seen_at t.rows.items i).numbers t.given.first.rows)

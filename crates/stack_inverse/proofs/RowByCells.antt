@@ -17,24 +17,22 @@ use Rattle.stack_algebra.proofs.Order.{◌≺◌}
 use Rattle.stack_algebra.proofs.Over.{over}
 use Rattle.stack_algebra.proofs.OrderedFractions.{ordered_fractions}
 use Rattle.stack_rational.specs.declared.exact.Op.TheVariants.{Difference, Product}
-use Rattle.stack_rational.specs.TooWide.{IsWidth, fraction_fits, sum_fits, is_too_wide, left_term, common_denominator}
+use Rattle.stack_rational.specs.TooWide.{fraction_fits, sum_fits, is_too_wide, left_term, common_denominator}
 use Rattle.stack_rational.proofs.Crosswise.{positive-part}
 use Rattle.stack_rational.proofs.Fitting.{answer_fits, fits-of}
 use Rattle.stack_table.specs.declared.types.Step.TheVariants.{Multiply, Subtract}
 use Rattle.stack_table.specs.Spots.{reduced, reduce_item, reduce_spot}
 use Rattle.stack_inverse.specs.declared.columns.Column.{Column}
 use Rattle.stack_inverse.specs.declared.columns.Cell.{Cell}
-use Rattle.stack_rows.specs.RowForm.{at_value, cell_at, number_at, under_at, ArePositive}
-use Rattle.stack_inverse.specs.RowBlock.{AreWithin}
-use Rattle.stack_inverse.specs.RowBlock.{IsRowTaken, IsRowReduced}
-use Rattle.stack_inverse.specs.Columns.{by_place, combined, entry_of, rises, cells_at, revised_number, revised_cell}
-use Rattle.stack_inverse.specs.Columns.{AreFirst, IsOwn, row_number, row_cell}
+use Rattle.stack_rows.specs.RowForm.{number_at, IsTaken}
+use Rattle.stack_inverse.specs.RowBlock.{AreWithin, AllFit, IsReduced}
+use Rattle.stack_inverse.specs.Columns.{by_place, combined, entry_of, rises, cells_at, number_with, cell_with}
+use Rattle.stack_inverse.specs.Columns.{row_number, row_cell}
 use Rattle.stack_inverse.proofs.Entered.{rises_of, over_entries}
-use Rattle.stack_inverse.proofs.NumberBlock.{cell_in}
 use Rattle.stack_algebra.specs.Sums.{sum_of}
 use Rattle.stack_algebra.proofs.Integers.{expand, sums}
 use Rattle.stack_rows.proofs.OverOneDenominator.{over_fits, within_multiple}
-use Rattle.stack_inverse.proofs.Steps.{under_fits, taken_own, taken_other}
+use Rattle.stack_inverse.proofs.Steps.{taken_own}
 
 -- where a sum isn't too wide its first number fits
 first_fits : (m : ℤ) (x y : Fraction) → sum_fits m x y ≡ true → fraction_fits m x ≡ true
@@ -87,29 +85,27 @@ item_fits m f g k i j h = answer_fits m Difference (f j) (mul k (g j))
 past_place : (b c d : Bool) (x y z : ℤ) → b ≡ false → c ≡ false → d ≡ false → by_place b c d x y z ≡ pos 0
 past_place b c d x y z hb hc hd = λ i. by_place (hb i) (hc i) (hd i) x y z
 
-module _ {V : Type 0} (value : V → ℤ) (m : ℕ) (columns : List (Column V)) (own : List V) (max : ℤ)
-    (value_fits : (x : V) → nat_abs (value x) ≤ nat_abs max) (is : IsWidth max) where
-  past_fits : (ns ds : List V) → ArePositive value ds → (i j : ℕ) → length columns + m < j →
-      fraction_fits max (revised_cell value m columns own ns ds i j) ≡ true
-  past_fits ns ds positive i j l = over_fits max (revised_number value m columns own ns ds i j) (under_at value ds i)
-      (positive i) (subst (λ z. nat_abs z ≤ nat_abs max) (sym (past_place (ltb j (length columns))
+module _ {V : Type 0} (value : V → ℤ) (m : ℕ) (columns : List (Column V)) (max : ℤ) (o : ℕ → ℤ) (row : List V)
+    (d : ℤ) (positive : pos 0 ≺ d) (within : nat_abs d ≤ nat_abs max) where
+  -- the cell past the right side fits
+  pub past_fits : (j : ℕ) → length columns + m < j → fraction_fits max (cell_with value m columns o row d j) ≡ true
+  past_fits j l = over_fits max (number_with value m columns o row d j) d positive
+      (subst (λ z. nat_abs z ≤ nat_abs max) (sym (past_place (ltb j (length columns))
       (ltb j (length columns + m)) (eqb j (length columns + m)) _ _ _ (le-ltb j (length columns) (omega (arith, l)))
       (le-ltb j (length columns + m) (omega (arith, l))) (ne_eqb j (length columns + m) (λ e. omega (arith, e, l)))))
-      (omega arith)) (under_fits max value value_fits is ds i)
+      (omega arith)) within
 
-  -- the cells of a row that is reduced where nothing is too wide
-  pub by_cells_fit : (ns ds ns' ds' : List V) → ArePositive value ds' → (g : ℕ → Fraction) (k : Fraction) (i : ℕ) →
-      ((j : ℕ) → revised_cell value m columns own ns' ds' i j
-      ≡ reduced ordered_fractions (revised_cell value m columns own ns ds i) g k j) →
-      reduce_spot ordered_fractions (is_too_wide max) (suc (length columns + m))
-      (revised_cell value m columns own ns ds i) g k i ≡ None → (j : ℕ) →
-      fraction_fits max (revised_cell value m columns own ns' ds' i j) ≡ true
-  by_cells_fit ns ds ns' ds' positive g k i own_is none j = go (dec_lt j (suc (length columns + m)))
+  -- the cells of a row that is made where nothing is too wide
+  pub by_cells_fit : (old g : ℕ → Fraction) (k : Fraction) (i : ℕ) →
+      ((j : ℕ) → cell_with value m columns o row d j ≡ reduced ordered_fractions old g k j) →
+      reduce_spot ordered_fractions (is_too_wide max) (suc (length columns + m)) old g k i ≡ None →
+      AllFit max (cell_with value m columns o row d)
+  by_cells_fit old g k i own_is none j = go (dec_lt j (suc (length columns + m)))
     where
-      go : Dec (j < suc (length columns + m)) → fraction_fits max (revised_cell value m columns own ns' ds' i j) ≡ true
-      go (yes l) = ap (fraction_fits max) (own_is j) ∙ item_fits max (revised_cell value m columns own ns ds i) g k i j
+      go : Dec (j < suc (length columns + m)) → fraction_fits max (cell_with value m columns o row d j) ≡ true
+      go (yes l) = ap (fraction_fits max) (own_is j) ∙ item_fits max old g k i j
           (first-none (suc (length columns + m)) _ none j l)
-      go (no l) = past_fits ns' ds' positive i j (omega (arith, l))
+      go (no l) = past_fits j (omega (arith, l))
 
 -- an artificial number or the right side, by its place
 placed_read : (n m j : ℕ) (x : ℤ) (a : ℕ → ℤ) → n ≤ j → j < suc (n + m) →
@@ -141,19 +137,11 @@ all_within value m columns row d b cells made j = go (dec_lt j (length columns))
         (omega arith)
 
 module _ {V : Type 0} (value : V → ℤ) (m : ℕ) (columns : List (Column V)) (j : ℕ) where
-  -- a number that is read in a row, and in a block
-  pub row_read : (row : List V) (d r : ℤ) (p k : ℕ) → p ≡ length columns → k ≡ j - p → p ≤ j →
-      j < suc (length columns + m) → number_at value row k ≡ r → r ≡ row_number value m columns row d j
-  row_read row d r p k hp hk h l e = sym e ∙ ap (number_at value row) (hk ∙ ap (λ n. j - n) hp)
+  -- a number that is read in a row
+  pub row_read : (o : ℕ → ℤ) (row : List V) (d r : ℤ) (p k : ℕ) → p ≡ length columns → k ≡ j - p → p ≤ j →
+      j < suc (length columns + m) → number_at value row k ≡ r → r ≡ number_with value m columns o row d j
+  row_read o row d r p k hp hk h l e = sym e ∙ ap (number_at value row) (hk ∙ ap (λ n. j - n) hp)
       ∙ placed_read (length columns) m j _ (number_at value row) (omega (arith, h, hp)) l
-
-  pub block_read : (own ns ds : List V) (i w p k : ℕ) (r : ℤ) → p ≡ length columns → k ≡ i * w + (j - p) → p ≤ j →
-      j < suc (length columns + m) → w ≡ suc m → at_value value (pos 0) ns k ≡ r →
-      r ≡ revised_number value m columns own ns ds i j
-  block_read own ns ds i w p k r hp hk h l hw e = sym e
-      ∙ ap (at_value value (pos 0) ns) (hk ∙ (λ z. i * hw z + (j - hp z)))
-      ∙ sym (cell_in value (pos 0) (suc m) ns i (j - length columns) (omega (arith, h, hp, l)))
-      ∙ placed_read (length columns) m j _ (cell_at value (pos 0) (suc m) ns i) (omega (arith, h, hp)) l
 
   -- and one that is made in a row without own cells
   pub row_made : (row : List V) (cells : List (Cell V)) (z r d : ℤ) → j < length columns →
@@ -171,40 +159,30 @@ module _ {V : Type 0} (value : V → ℤ) (m : ℕ) (columns : List (Column V)) 
       no_own : (d x : ℤ) → pos 0 +ℤ x ≡ d *ℤ pos 0 +ℤ x
       no_own d x = simp expand (omega (arith, sums))
 
--- a row that is reduced cell by cell and put back
-pub row_put_by_cells : {V : Type 0} (value : V → ℤ) (m : ℕ) (columns : List (Column V)) (most : ℤ)
-    (first : AreFirst value m (length columns) columns most) (own : List V) (greatest : ℤ) →
-    IsOwn value own greatest → (ns ds : List V) (i w : ℕ) → w ≡ suc m → i * w + w ≤ length ns → (max : ℤ)
-    (value_fits : (x : V) → nat_abs (value x) ≤ nat_abs max) → IsWidth max → (pivot : List V)
-    (d under f : ℤ) (column : ℕ) (ns' ds' : List V) → ArePositive value ds → ArePositive value ds' → pos 0 ≺ under →
-    d ≡ under_at value ds i → f ≡ revised_number value m columns own ns ds i column →
-    IsRowTaken value w ns ds pivot (d *ℤ under) under f i ns' ds' →
-    reduce_spot ordered_fractions (is_too_wide max) (suc (length columns + m))
-    (revised_cell value m columns own ns ds i)
+-- a row that is reduced cell by cell
+pub row_by_cells : {V : Type 0} (value : V → ℤ) (m : ℕ) (columns : List (Column V)) (max : ℤ) (o : ℕ → ℤ)
+    (row new pivot : List V) (d after under f : ℤ) (i column : ℕ) → pos 0 ≺ d → pos 0 ≺ under →
+    nat_abs after ≤ nat_abs max → f ≡ number_with value m columns o row d column →
+    IsTaken value row (d *ℤ under) pivot under f new after →
+    reduce_spot ordered_fractions (is_too_wide max) (suc (length columns + m)) (cell_with value m columns o row d)
     (row_cell value m columns pivot under) (over f d) i ≡ None →
-    IsRowReduced max (suc (length columns + m)) (revised_cell value m columns own ns ds)
-    (row_cell value m columns pivot under) i column (revised_cell value m columns own ns' ds')
-row_put_by_cells value m columns most first own greatest is_own ns ds i w e room max value_fits is
-    pivot d under f column
-    ns' ds' positive positive' hu hd hf x none = record {
-      own = own_is;
-      other = taken_other value m columns most first own greatest is_own ns ds i w e room max pivot
-          under (d *ℤ under) under f
-          f column ns' ds' positive hu (ap (λ z. z *ℤ under) hd) hu hf refl x;
-      fits = by_cells_fit value m columns own max value_fits is ns ds ns' ds' positive'
-          (row_cell value m columns pivot under) (revised_cell value m columns own ns ds i column) i own_is none_is;
-      none = none_is;
-    }
+    IsReduced max (suc (length columns + m)) (cell_with value m columns o row d) (row_cell value m columns pivot under)
+    i column (cell_with value m columns o new after)
+row_by_cells value m columns max o row new pivot d after under f i column hd hu fits hf x none = record {
+  own = own_is;
+  fits = by_cells_fit value m columns max o new after x.positive fits (cell_with value m columns o row d)
+      (row_cell value m columns pivot under) (cell_with value m columns o row d column) i own_is none_is;
+  none = none_is;
+}
   where
-    own_is : (j : ℕ) → revised_cell value m columns own ns' ds' i j
-        ≡ reduced ordered_fractions (revised_cell value m columns own ns ds i)
-        (row_cell value m columns pivot under) (revised_cell value m columns own ns ds i column) j
-    own_is = taken_own value m columns most first own greatest is_own ns ds i w e room max pivot
-        under (d *ℤ under) under
-        f f column ns' ds' positive hu (ap (λ z. z *ℤ under) hd) hu hf refl x
+    own_is : (j : ℕ) → cell_with value m columns o new after j
+        ≡ reduced ordered_fractions (cell_with value m columns o row d) (row_cell value m columns pivot under)
+        (cell_with value m columns o row d column) j
+    own_is = taken_own value m columns max o row d hd new pivot after under (d *ℤ under) under f f column hu hu refl hf
+        refl x
 
     none_is : reduce_spot ordered_fractions (is_too_wide max) (suc (length columns + m))
-        (revised_cell value m columns own ns ds i) (row_cell value m columns pivot under)
-        (revised_cell value m columns own ns ds i column) i ≡ None
+        (cell_with value m columns o row d) (row_cell value m columns pivot under)
+        (cell_with value m columns o row d column) i ≡ None
     none_is = sym (λ z. reduce_spot ordered_fractions (is_too_wide max) (suc (length columns + m))
-        (revised_cell value m columns own ns ds i) (row_cell value m columns pivot under) (over (hf z) (hd z)) i) ∙ none
+        (cell_with value m columns o row d) (row_cell value m columns pivot under) (over (hf z) d) i) ∙ none

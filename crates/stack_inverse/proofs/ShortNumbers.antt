@@ -1,6 +1,6 @@
--- Numbers of a row that are made in 64 bits, by a bound of them.
+-- Numbers of a row that are made in 64 bits, by a top of them.
 use Rattle.std.proofs.Common.{◌≡◌, refl, sym, ap, subst, ◌∙◌, ℕ, zero, suc, ◌+◌, ◌-◌, ◌*◌, ◌^◌, ◌<◌, ◌≤◌, Bool}
-use Rattle.std.proofs.Common.{true, false, cond, eqb, ltb, List, [], ◌∷◌, length, get_or, take, drop, drop-cons}
+use Rattle.std.proofs.Common.{true, false, cond, eqb, ltb, List, [], ◌∷◌, length, get_or, drop, drop-cons}
 use Rattle.std.proofs.Common.{add-one, arith, mul-le-mul}
 use Rattle.std.specs.List.{AllByRecursion}
 use Rattle.std.proofs.lemmas.Bool.{lt-ltb, eq-eqb}
@@ -15,13 +15,12 @@ use Rattle.stack_rational.specs.Order.{is_zero_whole}
 use Rattle.stack_bland.specs.Choice.{is_negative_sign, is_plus}
 use Rattle.stack_inverse.specs.declared.columns.Cell.{Cell}
 use Rattle.stack_inverse.specs.declared.columns.Column.{Column}
-use Rattle.stack_rows.specs.RowForm.{cell_at, number_at, under_at}
-use Rattle.stack_inverse.specs.RowBlock.{IsBound}
-use Rattle.stack_inverse.specs.Columns.{combined, sizes, by_place, number, entry_of, rises, cells_at, first_at}
-use Rattle.stack_inverse.specs.Columns.{AreFirst, IsOwn, revised_own, revised_number}
+use Rattle.stack_rows.specs.RowForm.{number_at}
+use Rattle.stack_inverse.specs.RowBlock.{IsWholeTop}
+use Rattle.stack_inverse.specs.Columns.{combined, sizes, by_place, number, entry_of, rises, cells_at}
+use Rattle.stack_inverse.specs.Columns.{AreFirst, IsOwn, revised_own, number_with}
 use Rattle.stack_inverse.specs.ShortRow.{products_in, product_sizes, own_number, IsShortRow}
 use Rattle.stack_rows.proofs.Numbers.{at-past}
-use Rattle.stack_inverse.proofs.NumberBlock.{part_value}
 use Rattle.stack_inverse.proofs.Linear.{combined_within}
 use Rattle.stack_inverse.proofs.Entered.{Rises, rises_of, over_entries}
 
@@ -239,62 +238,56 @@ module _ {V : Type 0} (value : V → ℤ) where
       same : sizes m (entry_of size_of xs) ≡ sizes m (entry_of value xs)
       same = λ i. sum_below 0 ◌+◌ m (λ r. entry_size xs r i)
 
-  -- a row over a positive denominator, whose bound fits 64 bits
-  module _ (m : ℕ) (columns : List (Column V)) (own row : List V) (d most greatest b : ℤ)
-      (first : AreFirst value m (length columns) columns most) (is_own : IsOwn value own greatest)
-      (width : length row ≡ suc m) (positive : pos 0 ≺ d) (bounds : IsBound value m row d most greatest b)
+  -- a row over a positive denominator, whose top fits 64 bits
+  module _ (m : ℕ) (columns : List (Column V)) (own row : List V) (d column_top own_top b : ℤ)
+      (first : AreFirst value m (length columns) columns column_top) (is_own : IsOwn value own own_top)
+      (width : length row ≡ suc m) (positive : pos 0 ≺ d) (tops : IsWholeTop value m row d column_top own_top b)
       (fits : nat_abs b ≤ 2 ^ 63 - 1) where
-    own_within : nat_abs greatest ≤ nat_abs d * nat_abs greatest
-    own_within = factor_within (nat_abs d) (nat_abs greatest) (omega (arith, ints, positive))
+    own_within : nat_abs own_top ≤ nat_abs d * nat_abs own_top
+    own_within = factor_within (nat_abs d) (nat_abs own_top) (omega (arith, ints, positive))
 
-    top_within : bounds.top ≤ bounds.top * nat_abs most
-    top_within = let u : bounds.top * 1 ≤ bounds.top * nat_abs most = mul-le-mul (omega arith) first.some in
+    top_within : tops.top ≤ tops.top * nat_abs column_top
+    top_within = let u : tops.top * 1 ≤ tops.top * nat_abs column_top = mul-le-mul (omega arith) first.some in
         omega (arith, u)
 
     number_fits : (r : ℕ) → nat_abs (number_at value row r) ≤ 2 ^ 63 - 1
     number_fits r = go (dec_lt r m) (dec_lt m r)
       where
         go : Dec (r < m) → Dec (m < r) → nat_abs (number_at value row r) ≤ 2 ^ 63 - 1
-        go (yes l) k = omega (arith, bounds.each r l, top_within, bounds.sum, fits)
+        go (yes l) k = omega (arith, tops.each r l, top_within, tops.sum, fits)
         go (no n) (yes k) = omega (arith, ap nat_abs (at-past value (pos 0) row r (omega (arith, k, width))))
         go (no n) (no k) = let e : m ≡ r = omega (arith, n, k) in
-            subst (λ i. nat_abs (number_at value row i) ≤ 2 ^ 63 - 1) e (omega (arith, bounds.right, fits))
+            subst (λ i. nat_abs (number_at value row i) ≤ 2 ^ 63 - 1) e (omega (arith, tops.right, fits))
 
     sums_fit : (j : ℕ) → j < length columns →
         nat_abs (number_at value own j) * nat_abs d + product_sizes value row (cells_at columns j) ≤ 2 ^ 63 - 1
-    sums_fit j l = let u : nat_abs (number_at value own j) * nat_abs d ≤ nat_abs greatest * nat_abs d =
+    sums_fit j l = let u : nat_abs (number_at value own j) * nat_abs d ≤ nat_abs own_top * nat_abs d =
         mul-le-mul (is_own j) (omega arith) in
-        let w : bounds.top * sizes m (entry_of value (cells_at columns j)) ≤ bounds.top * nat_abs most =
+        let w : tops.top * sizes m (entry_of value (cells_at columns j)) ≤ tops.top * nat_abs column_top =
         mul-le-mul (omega arith) (first.within j l) in
         omega (
           arith,
           u,
           w,
-          products_within m bounds.top row (cells_at columns j) (rises_of m 0 (cells_at columns j) (first.rising j l))
-              bounds.each,
-          bounds.sum,
+          products_within m tops.top row (cells_at columns j) (rises_of m 0 (cells_at columns j) (first.rising j l))
+              tops.each,
+          tops.sum,
           fits,
         )
 
     -- all that its numbers are made of fits
     pub short_row : IsShortRow value columns own row d
     short_row = record {
-      own_cells = λ j. omega (arith, is_own j, own_within, bounds.sum, fits);
+      own_cells = λ j. omega (arith, is_own j, own_within, tops.sum, fits);
       numbers = number_fits;
       together = sums_fit;
     }
 
--- the number of a row of a block that is lent as a slice
-pub lent_number : {V : Type 0} (value : V → ℤ) (m : ℕ) (columns : List (Column V)) (own ns ds : List V) (w : ℕ) →
-    w ≡ suc m → m * w + w ≤ length ns → (d : ℤ) → under_at value ds m ≡ d → (j : ℕ) →
-    own_number value m columns own (take (m * w + w - m * w) (drop (m * w) ns)) d j
-    ≡ revised_number value m columns own ns ds m j
-lent_number {V = V} value m columns own ns ds w e room d hd j = λ z. number m (length columns) (first_at value columns)
-    (λ k. own_is k z) (sym hd z) (λ k. cell_is k z) (cell_is m z) j
+-- the number of the objective row by its own cells
+pub objective_number : {V : Type 0} (value : V → ℤ) (m : ℕ) (columns : List (Column V)) (own row : List V) (d : ℤ)
+    (j : ℕ) → own_number value m columns own row d j
+    ≡ number_with value m columns (revised_own value m own m) row d j
+objective_number value m columns own row d j = λ z. number_with value m columns (λ k. own_is k z) row d j
   where
     own_is : (k : ℕ) → number_at value own k ≡ revised_own value m own m k
     own_is k = sym (ap (λ b. cond b (number_at value own k) (pos 0)) (eq-eqb m m refl))
-
-    cell_is : (k : ℕ) → number_at value (take (m * w + w - m * w) (drop (m * w) ns)) k
-        ≡ cell_at value (pos 0) (suc m) ns m k
-    cell_is k = part_value value (pos 0) w m ns room k ∙ ap (λ (n : ℕ). cell_at value (pos 0) n ns m k) e

@@ -177,11 +177,11 @@ entries_are P h j = either_column P.rows (ltb j (length P.contact.items)) _ _
     (record { below = tt; rising = λ k l. absurd (omega (arith, l)); small = tt }))
 
 -- the columns of a problem's first rows, and a number that covers their sizes
-pub first_columns : {V : Type 0} (value : V → ℤ) (P : Lent) → IsProblem P → (cs : List (Column V)) (most : ℤ) →
-    AreFirstColumns value P cs → 0 < unsigned_abs most →
-    ((j : ℕ) → j < length cs → sizes_in value (cells_at cs j) ≤ unsigned_abs most) →
-    AreFirst value P.rows (length cs) cs most
-first_columns value P h cs most turned some covers = record {
+pub first_columns : {V : Type 0} (value : V → ℤ) (P : Lent) → IsProblem P → (cs : List (Column V)) (column_top : ℤ) →
+    AreFirstColumns value P cs → 0 < unsigned_abs column_top →
+    ((j : ℕ) → j < length cs → sizes_in value (cells_at cs j) ≤ unsigned_abs column_top) →
+    AreFirst value P.rows (length cs) cs column_top
+first_columns value P h cs column_top turned some covers = record {
   rising = λ j l. column_rises value P.right.items P.rows (entries_at P j) (cells_at cs j) (turned j l)
       (entries_are P h j);
   within = λ j l. omega (arith, sizes_within value P.rows (cells_at cs j), covers j l);

@@ -1,12 +1,12 @@
 -- What is told of a row step cell by cell: the reduced cell, or the written step that is too wide for 128 bits.
-use Rattle.std.specs.Prelude.{◌≡◌, ℕ, ⊤, Option, Some, None, Result, Ok, Err}
+use Rattle.std.specs.Prelude.{◌≡◌, ◌≢◌, ℕ, ◌<◌, ℤ, ⊤, Option, Some, None, Result, Ok, Err}
 use Rattle.stack_algebra.specs.Fraction.{Fraction}
 use Rattle.stack_algebra.proofs.OrderedFractions.{ordered_fractions}
 use Rattle.stack_rational.specs.Laws.{widest}
 use Rattle.stack_rational.specs.TooWide.{is_too_wide}
 use Rattle.stack_table.specs.declared.types.Step.{Step}
 use Rattle.stack_table.specs.declared.types.PivotWide.{PivotWide}
-use Rattle.stack_table.specs.Spots.{reduced, reduce_item}
+use Rattle.stack_table.specs.Spots.{reduced, reduce_item, reduce_spot}
 use Rattle.stack_inverse.specs.declared.stops.Refusal.{Refusal}
 use Rattle.stack_inverse.specs.declared.stops.Refusal.TheVariants.{TooWide, Unsettled}
 
@@ -31,3 +31,16 @@ TellsStep o x y k = (i j : ℕ) →
 abbrev pub TellsSpot : Refusal → Option PivotWide → Type 0
 TellsSpot (TooWide p) spot = spot ≡ Some p
 TellsSpot Unsettled spot = ⊤
+
+-- what a refusal of a row says of the first place that is too wide, where the rows before it but row r were reduced by
+-- the row g without one
+pub record RefusesAt (m : ℤ) (width : ℕ) (old : ℕ → ℕ → Fraction) (g : ℕ → Fraction) (r c k : ℕ) (e : Refusal)
+    : Type 0 where
+  pub apart : k ≢ r
+  pub before : (i : ℕ) → i < k → i ≢ r → reduce_spot ordered_fractions (is_too_wide m) width (old i) g (old i c) i
+      ≡ None
+  pub here : TellsSpot e (reduce_spot ordered_fractions (is_too_wide m) width (old k) g (old k c) k)
+
+abbrev pub IsRefused : (m : ℤ) → (height width : ℕ) → (old : ℕ → ℕ → Fraction) → (g : ℕ → Fraction) → (r c : ℕ) →
+    Refusal → Type 0
+IsRefused m height width old g r c e = (k : ℕ) × (k < height) × RefusesAt m width old g r c k e

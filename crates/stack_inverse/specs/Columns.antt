@@ -1,6 +1,6 @@
 -- A table whose rows are kept in their artificial columns and their right side alone: the numbers in the plain columns
 -- are made from the first rows.
-use Rattle.std.specs.Prelude.{◌≡◌, ℕ, suc, ◌+◌, ◌-◌, ◌<◌, ◌≤◌, Bool, true, leb, ◌&&◌, cond, eqb, ltb, List, []}
+use Rattle.std.specs.Prelude.{◌≡◌, ℕ, suc, ◌+◌, ◌-◌, ◌<◌, ◌≤◌, Bool, true, false, leb, ◌&&◌, cond, eqb, ltb, List, []}
 use Rattle.std.specs.Prelude.{◌∷◌, length, ℤ, pos, Option, Some, None}
 use Rattle.std.specs.Prelude.{◌*ℤ◌, ◌+ℤ◌, unsigned_abs}
 use Rattle.stack_algebra.specs.Fraction.{Fraction}
@@ -8,7 +8,7 @@ use Rattle.stack_algebra.specs.Sums.{sum_to, sum_below}
 use Rattle.stack_algebra.proofs.Over.{over}
 use Rattle.stack_inverse.specs.declared.columns.Cell.{Cell}
 use Rattle.stack_inverse.specs.declared.columns.Column.{Column}
-use Rattle.stack_rows.specs.RowForm.{at_value, cell_at, number_at, under_at}
+use Rattle.stack_rows.specs.RowForm.{at_value, number_at}
 
 -- the number of a row in a column f of the first rows
 abbrev pub combined : ℕ → (ℕ → ℤ) → (ℕ → ℤ) → ℤ
@@ -50,51 +50,76 @@ cells_at columns j = at_value (λ c. c.cells.items) [] columns j
 abbrev pub first_at : {V : Type 0} → (V → ℤ) → List (Column V) → ℕ → ℕ → ℤ
 first_at value columns r j = entry_of value (cells_at columns j) r
 
--- columns of m rows, none of which has a greater sum of sizes than `most`
-pub record AreFirst {V : Type 0} (value : V → ℤ) (m n : ℕ) (columns : List (Column V)) (most : ℤ)
+-- columns of m rows, none of which has a greater sum of sizes than `column_top`
+pub record AreFirst {V : Type 0} (value : V → ℤ) (m n : ℕ) (columns : List (Column V)) (column_top : ℤ)
     : Type 0 where
   pub rising : (j : ℕ) → j < n → rises m 0 (cells_at columns j) ≡ true
-  pub within : (j : ℕ) → j < n → sizes m (λ r. first_at value columns r j) ≤ unsigned_abs most
-  pub some : 0 < unsigned_abs most
+  pub within : (j : ℕ) → j < n → sizes m (λ r. first_at value columns r j) ≤ unsigned_abs column_top
+  pub some : 0 < unsigned_abs column_top
 
--- own cells, none greater than `greatest`
+-- own cells, none greater in size than `own_top`
 abbrev pub IsOwn : {V : Type 0} → (V → ℤ) → List V → ℤ → Type 0
-IsOwn value own greatest = (j : ℕ) → unsigned_abs (number_at value own j) ≤ unsigned_abs greatest
+IsOwn value own own_top = (j : ℕ) → unsigned_abs (number_at value own j) ≤ unsigned_abs own_top
 
--- those of row i, of which only the objective row m has some; and their bound
+-- those of row i, of which only the objective row m has some; and their top
 abbrev pub revised_own : {V : Type 0} → (V → ℤ) → ℕ → List V → ℕ → ℕ → ℤ
 revised_own value m own i j = cond (eqb i m) (number_at value own j) (pos 0)
 
-abbrev pub greatest_at : ℕ → ℤ → ℕ → ℤ
-greatest_at m greatest i = cond (eqb i m) greatest (pos 0)
+abbrev pub own_top_at : ℕ → ℤ → ℕ → ℤ
+own_top_at m own_top i = cond (eqb i m) own_top (pos 0)
 
--- the number in row i and column j of a block of rows of m artificial numbers and a right side
-abbrev pub revised_number : {V : Type 0} → (V → ℤ) → (m : ℕ) → List (Column V) → (own : List V) →
-    (ns ds : List V) → ℕ → ℕ → ℤ
-revised_number value m columns own ns ds i j = number m (length columns) (first_at value columns)
-    (revised_own value m own i) (under_at value ds i) (cell_at value (pos 0) (suc m) ns i)
-    (cell_at value (pos 0) (suc m) ns i m) j
+-- what is seen of a row: its numbers, its denominator, and whether its cells are known to fit
+pub record RowSeen (V : Type 0) : Type 0 where
+  pub numbers : List V
+  pub under : ℤ
+  pub fits : Bool
+
+-- where there is no row
+abbrev pub no_row : {V : Type 0} → RowSeen V
+no_row = record { numbers = []; under = pos 1; fits = false }
+
+-- the number and the cell of a row with these own cells
+abbrev pub number_with : {V : Type 0} → (V → ℤ) → (m : ℕ) → List (Column V) → (own : ℕ → ℤ) → (row : List V) → ℤ → ℕ → ℤ
+number_with value m columns own row d j = number m (length columns) (first_at value columns) own d
+    (number_at value row) (number_at value row m) j
+
+abbrev pub cell_with : {V : Type 0} → (V → ℤ) → (m : ℕ) → List (Column V) → (own : ℕ → ℤ) → (row : List V) → ℤ → ℕ →
+    Fraction
+cell_with value m columns own row d j = over (number_with value m columns own row d j) d
+
+-- the number in row i and column j, of rows of m artificial numbers and a right side
+abbrev pub revised_number : {V : Type 0} → (V → ℤ) → (m : ℕ) → List (Column V) → (own : List V) → (ℕ → RowSeen V) →
+    ℕ → ℕ → ℤ
+revised_number value m columns own s i j = number_with value m columns (revised_own value m own i) (s i).numbers
+    (s i).under j
 
 -- and the cell
-abbrev pub revised_cell : {V : Type 0} → (V → ℤ) → (m : ℕ) → List (Column V) → (own : List V) →
-    (ns ds : List V) → ℕ → ℕ → Fraction
-revised_cell value m columns own ns ds i j = over (revised_number value m columns own ns ds i j) (under_at value ds i)
+abbrev pub revised_cell : {V : Type 0} → (V → ℤ) → (m : ℕ) → List (Column V) → (own : List V) → (ℕ → RowSeen V) →
+    ℕ → ℕ → Fraction
+revised_cell value m columns own s i j = cell_with value m columns (revised_own value m own i) (s i).numbers
+    (s i).under j
+
+-- each of m rows and of the objective row has m artificial numbers and a right side
+abbrev pub AreWide : {V : Type 0} → (m : ℕ) → (ℕ → RowSeen V) → Type 0
+AreWide m s = (i : ℕ) → i ≤ m → length (s i).numbers ≡ suc m
+
+-- row i is put, and the others stay
+pub record IsPut {V : Type 0} (s : ℕ → RowSeen V) (i : ℕ) (numbers : List V) (under : ℤ) (fits : Bool)
+    (t : ℕ → RowSeen V) : Type 0 where
+  pub own_numbers : (t i).numbers ≡ numbers
+  pub own_under : (t i).under ≡ under
+  pub own_fits : (t i).fits ≡ fits
+  pub other : (k : ℕ) → (k ≡ i → ⊥) → t k ≡ s k
 
 -- the numbers of a column, row by row
-abbrev pub AreEntered : {V : Type 0} → (V → ℤ) → (m : ℕ) → List (Column V) → (own ns ds : List V) → (column : ℕ) →
-    List V → Type 0
-AreEntered value m columns own ns ds column entered = (i : ℕ) → i ≤ m →
-    number_at value entered i ≡ revised_number value m columns own ns ds i column
-
--- all numbers of the rows but row i stay
-abbrev pub AreKept : {V : Type 0} → (V → ℤ) → (m : ℕ) → List (Column V) → (own ns ds ns' ds' : List V) → ℕ → Type 0
-AreKept value m columns own ns ds ns' ds' i = (k j : ℕ) → (k ≡ i → ⊥) →
-    revised_number value m columns own ns' ds' k j ≡ revised_number value m columns own ns ds k j
+abbrev pub AreEntered : {V : Type 0} → (V → ℤ) → (m : ℕ) → List (Column V) → (own : List V) → (ℕ → RowSeen V) →
+    (column : ℕ) → List V → Type 0
+AreEntered value m columns own s column entered = (i : ℕ) → i ≤ m →
+    number_at value entered i ≡ revised_number value m columns own s i column
 
 -- the number and the cell of one row without own cells
 abbrev pub row_number : {V : Type 0} → (V → ℤ) → (m : ℕ) → List (Column V) → List V → ℤ → ℕ → ℤ
-row_number value m columns row d j = number m (length columns) (first_at value columns) plain_own d
-    (number_at value row) (number_at value row m) j
+row_number value m columns row d j = number_with value m columns plain_own row d j
 
 abbrev pub row_cell : {V : Type 0} → (V → ℤ) → (m : ℕ) → List (Column V) → List V → ℤ → ℕ →
     Fraction
@@ -102,9 +127,8 @@ row_cell value m columns row d j = over (row_number value m columns row d j) d
 
 -- the numbers with which phase 3 begins: those of the factor's row, whose cell in the factor's column is 1; 0 over 1
 -- without such a row
-abbrev pub IsFactorRow : {V : Type 0} → (V → ℤ) → (m : ℕ) → List (Column V) → (own ns ds : List V) → (column : ℕ) →
-    Option ℕ → (row : List V) → ℤ → Type 0
-IsFactorRow value m columns own ns ds column None row d = ((j : ℕ) → number_at value row j ≡ pos 0) × (d ≡ pos 1)
-IsFactorRow value m columns own ns ds column (Some r) row d =
-    ((j : ℕ) → number_at value row j ≡ cell_at value (pos 0) (suc m) ns r j) × (d ≡ under_at value ds r)
-    × (revised_number value m columns own ns ds r column ≡ under_at value ds r)
+abbrev pub IsFactorRow : {V : Type 0} → (V → ℤ) → (m : ℕ) → List (Column V) → (own : List V) → (ℕ → RowSeen V) →
+    (column : ℕ) → Option ℕ → (row : List V) → ℤ → Type 0
+IsFactorRow value m columns own s column None row d = ((j : ℕ) → number_at value row j ≡ pos 0) × (d ≡ pos 1)
+IsFactorRow value m columns own s column (Some r) row d = (row ≡ (s r).numbers) × (d ≡ (s r).under)
+    × (revised_number value m columns own s r column ≡ (s r).under)

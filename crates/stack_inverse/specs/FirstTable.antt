@@ -1,5 +1,5 @@
 -- The first rows of a problem in columns of cells, and the table with which a run begins.
-use Rattle.std.specs.Prelude.{◌≡◌, ℕ, suc, ◌+◌, ◌<◌, ⊤, Bool, cond, eqb, List, [], ◌∷◌, length, get_or, ℤ, pos, ◌-ℤ◌}
+use Rattle.std.specs.Prelude.{◌≡◌, ℕ, ◌+◌, ◌<◌, ⊤, Bool, cond, eqb, List, [], ◌∷◌, length, get_or, ℤ, pos, ◌-ℤ◌}
 use Rattle.std.specs.Prelude.{unsigned_abs}
 use Rattle.stack_algebra.specs.Sums.{sum_to, sum_of, sum_among}
 use Rattle.stack_table.specs.declared.problem.Entry.{Entry}
@@ -8,8 +8,8 @@ use Rattle.stack_table.specs.Problem.{is_below_zero, turned}
 use Rattle.stack_table.specs.Lent.{entries_at}
 use Rattle.stack_inverse.specs.declared.columns.Cell.{Cell}
 use Rattle.stack_inverse.specs.declared.columns.Column.{Column}
-use Rattle.stack_rows.specs.RowForm.{cell_at, under_at}
-use Rattle.stack_inverse.specs.Columns.{cells_at}
+use Rattle.stack_rows.specs.RowForm.{number_at}
+use Rattle.stack_inverse.specs.Columns.{RowSeen, cells_at}
 
 -- whether a row is flipped, by the right sides
 abbrev pub flips : List ℤ → ℕ → Bool
@@ -40,10 +40,10 @@ sizes_in value cells = sum_among 0 ◌+◌ (λ x. unsigned_abs (value x.value)) 
 abbrev pub less_cells : {V : Type 0} → (V → ℤ) → List (Cell V) → ℤ
 less_cells value cells = pos 0 -ℤ sum_of (λ x. value x.value) cells
 
--- row i of a block of rows of m artificial numbers and a right side: 1 in its own artificial column, over 1
-pub record IsFirstRow {V : Type 0} (value : V → ℤ) (m : ℕ) (ns ds : List V) (i : ℕ) (load : ℤ) : Type 0 where
-  pub number : (j : ℕ) → cell_at value (pos 0) (suc m) ns i j ≡ cond (eqb j m) load (cond (eqb j i) (pos 1) (pos 0))
-  pub under : under_at value ds i ≡ pos 1
+-- row i, of m artificial numbers and a right side: 1 in its own artificial column, over 1
+pub record IsFirstRow {V : Type 0} (value : V → ℤ) (m : ℕ) (s : ℕ → RowSeen V) (i : ℕ) (load : ℤ) : Type 0 where
+  pub number : (j : ℕ) → number_at value (s i).numbers j ≡ cond (eqb j m) load (cond (eqb j i) (pos 1) (pos 0))
+  pub under : (s i).under ≡ pos 1
 
 -- 0 less the right sides of the first n rows
 abbrev pub less_loads : List ℤ → ℕ → ℤ

@@ -1,6 +1,6 @@
 //! The first rows of a problem: their columns, their sizes and what they leave in the objective row.
 
-ghost use Rattle.std.specs.Prelude.{◌≡◌, ℕ, ◌<◌, ◌≤◌, map, length, get_or, pos, [], unsigned_abs, IfOk, IfSome};
+ghost use Rattle.std.specs.Prelude.{◌≡◌, ℕ, ◌<◌, ◌≤◌, map, length, get_or, [], unsigned_abs, IfOk, IfSome};
 ghost use Rattle.std.specs.List.{AllByRecursion};
 ghost use Rattle.stack_table.specs.Table.{plain};
 ghost use Rattle.stack_table.specs.Problem.{turned};
@@ -11,6 +11,8 @@ ghost use Rattle.stack_inverse.specs.FirstTable.{flips, AreTurned, AreFirstColum
 
 use crate::columns::{Cell, Column};
 use crate::first::First;
+use crate::making::top_of;
+use crate::plain::Plain;
 use crate::stops::NoTable;
 use stack_rows::whole::Whole;
 use stack_table::problem::{Entry, Problem};
@@ -107,18 +109,18 @@ fn sizes_of<T: Whole>(cells: &[Cell<T>]) -> Option<T>
 }
 
 /// A number that isn't 0, and at least as great as the sum of the sizes of each column.
-pub fn most_of<T: Whole>(columns: &[Column<T>]) -> Option<T>
+pub fn column_top<T: Whole>(columns: &[Column<T>]) -> Option<T>
     ensures some { IfSome result (λ r. 0 < unsigned_abs (T.value r)) }
-    ensures most { IfSome result (λ r. (j : ℕ) → j < length columns.now →
+    ensures top { IfSome result (λ r. (j : ℕ) → j < length columns.now →
         sizes_in T.value (cells_at columns.now j) ≤ unsigned_abs (T.value r)) }
 {
     let one = T::from_wide(1)?;
-    let mut most = one;
+    let mut top = one;
     for j in 0..columns.len() {
         let sizes = sizes_of(columns[j].cells.as_slice())?;
-        most = most.wider(sizes);
+        top = top.wider(sizes);
     }
-    Some(most)
+    Some(top)
 }
 
 /// 0 less the values of cells.
@@ -158,13 +160,32 @@ pub fn first_of<T: Whole>(alloc: Global, p: &Problem) -> Result<First<T>, NoTabl
     ensures turned { IfOk result (λ f. AreFirstColumns T.value p.now f.columns.items) }
 {
     let columns = plain_columns(alloc, p)?;
-    let most = match most_of(columns.as_slice()) {
-        Some(most) => most,
+    let top = match column_top(columns.as_slice()) {
+        Some(top) => top,
         None => return Err(NoTable::Unsettled),
     };
     Ok(First {
         columns,
-        most,
+        top,
         rows: p.rows,
+    })
+}
+
+/// The first rows of a problem, and the own cells of the objective row of phase 1.
+pub fn plain_of<T: Whole>(alloc: Global, p: &Problem) -> Result<Plain<T>, NoTable>
+    requires { IsProblem p.now }
+    ensures rows { IfOk result (λ g. g.first.rows ≡ p.now.rows) }
+    ensures long { IfOk result (λ g. length g.first.columns.items ≡ plain (shape_of_problem p.now)) }
+    ensures turned { IfOk result (λ g. AreFirstColumns T.value p.now g.first.columns.items) }
+    ensures cells { IfOk result (λ g. (j : ℕ) → j < length g.first.columns.items →
+        number_at T.value g.own.items j ≡ less_cells T.value (cells_at g.first.columns.items j)) }
+{
+    let first = first_of(alloc, p)?;
+    let own = own_cells(alloc, first.columns.as_slice())?;
+    let own_top = top_of(own.as_slice(), own.len());
+    Ok(Plain {
+        first,
+        own,
+        own_top,
     })
 }

@@ -1,69 +1,66 @@
 //! The numbers with which a run begins, row by row.
 
-ghost use Rattle.std.specs.Prelude.{◌≡◌, ◌≢◌, ℕ, suc, ◌+◌, ◌*◌, ◌<◌, ◌≤◌, ◌^◌, length, get_or, pos, eqb, cond};
-ghost use Rattle.std.specs.Prelude.{ℤ, false, OnSome, IfSome, IfOk};
-ghost use Rattle.stack_rows.specs.RowForm.{at_value, cell_at, number_at, under_at, ArePositive};
-ghost use Rattle.stack_inverse.specs.RowBlock.{IsPlaced};
+ghost use Rattle.std.specs.Prelude.{◌≡◌, ℕ, suc, ◌+◌, ◌<◌, ◌^◌, length, get_or, pos, eqb, cond, ℤ, false};
+ghost use Rattle.std.specs.Prelude.{OnSome, IfSome, IfOk};
+ghost use Rattle.stack_rows.specs.RowForm.{at_value, number_at};
+ghost use Rattle.stack_inverse.specs.Columns.{AreWide, IsPut};
+ghost use Rattle.stack_inverse.specs.RowsSeen.{seen_at};
 ghost use Rattle.stack_inverse.specs.FirstTable.{load_at, IsFirstRow, less_loads};
 
 use crate::building::turned;
 use crate::objective::set_only;
 use crate::pivoting::put_row;
+use crate::row::{PivotRow, Row};
 use crate::stops::NoTable;
 use stack_rows::whole::Whole;
 use std::alloc::Global;
 
 /// Puts the first row i, over 1. Gives its right side.
 fn put_first_row<T: Whole>(
+    rows: &mut [Row<T>],
     numbers: &mut [T],
-    unders: &mut [T],
-    row: &mut [T],
     right: &[i128],
     one: T,
     i: usize,
 ) -> Option<T>
     requires row_in { i < length right.now }
-    requires width { length row.old ≡ suc (length right.now) }
-    requires room { i * length row.old + length row.old ≤ length numbers.old }
-    requires under_in { i < length unders.old }
+    requires width { length numbers.old ≡ suc (length right.now) }
+    requires height { length rows.old ≡ suc (length right.now) }
+    requires wide { AreWide (length right.now) (seen_at rows.old) }
     requires one { T.value one ≡ pos 1 }
-    requires positive { ArePositive T.value unders.old }
-    ensures positive { ArePositive T.value unders.new }
     ensures load { IfSome result (λ s. T.value s ≡ load_at right.now i) }
-    ensures placed { OnSome result (IsPlaced T.value (suc (length right.now)) numbers.old unders.old row.new
-        (T.value one)
-        i numbers.new unders.new) }
-    ensures row { OnSome result ((j : ℕ) → number_at T.value row.new j
+    ensures put { OnSome result (IsPut (seen_at rows.old) i numbers.new (T.value one) false (seen_at rows.new)) }
+    ensures row { OnSome result ((j : ℕ) → number_at T.value numbers.new j
         ≡ cond (eqb j (length right.now)) (load_at right.now i) (cond (eqb j i) (pos 1) (pos 0))) }
 {
     let load = turned(right, i, right[i])?;
-    set_only(row, i, one);
-    row[right.len()] = load;
-    put_row(numbers, unders, row, one, i);
+    set_only(numbers, i, one);
+    numbers[right.len()] = load;
+    put_row(rows, i, numbers, one, T::zero(), false);
     Some(load)
 }
 
 /// Puts the first rows, each over 1. Gives 0 less their right sides.
 fn put_first_rows<T: Whole>(
+    rows: &mut [Row<T>],
     numbers: &mut [T],
-    unders: &mut [T],
-    row: &mut [T],
     right: &[i128],
     one: T,
 ) -> Option<T>
-    requires width { length row.old ≡ suc (length right.now) }
-    requires whole { length numbers.old ≡ suc (length right.now) * length row.old }
-    requires unders { length unders.old ≡ suc (length right.now) }
+    requires width { length numbers.old ≡ suc (length right.now) }
+    requires height { length rows.old ≡ suc (length right.now) }
+    requires wide { AreWide (length right.now) (seen_at rows.old) }
+    requires unmarked { (i : ℕ) → (seen_at rows.old i).fits ≡ false }
     requires one { T.value one ≡ pos 1 }
-    requires positive { ArePositive T.value unders.old }
-    ensures positive { ArePositive T.value unders.new }
+    ensures wide { OnSome result (AreWide (length right.now) (seen_at rows.new)) }
+    ensures unmarked { OnSome result ((i : ℕ) → (seen_at rows.new i).fits ≡ false) }
     ensures rest { IfSome result (λ s. T.value s ≡ less_loads right.now (length right.now)) }
     ensures rows { OnSome result ((i : ℕ) → i < length right.now →
-        IsFirstRow T.value (length right.now) numbers.new unders.new i (load_at right.now i)) }
+        IsFirstRow T.value (length right.now) (seen_at rows.new) i (load_at right.now i)) }
 {
     let mut rest = T::zero();
     for i in 0..right.len() {
-        let load = put_first_row(numbers, unders, row, right, one, i)?;
+        let load = put_first_row(rows, numbers, right, one, i)?;
         let next = rest.less(load)?;
         rest = next;
     }
@@ -71,29 +68,23 @@ fn put_first_rows<T: Whole>(
 }
 
 /// Puts the first rows and the objective row of phase 1. May give up; no clause says when.
-pub fn fill<T: Whole>(
-    numbers: &mut [T],
-    unders: &mut [T],
-    row: &mut [T],
-    right: &[i128],
-    one: T,
-) -> Option<()>
-    requires width { length row.old ≡ suc (length right.now) }
-    requires whole { length numbers.old ≡ suc (length right.now) * length row.old }
-    requires unders { length unders.old ≡ suc (length right.now) }
+pub fn fill<T: Whole>(rows: &mut [Row<T>], numbers: &mut [T], right: &[i128], one: T) -> Option<()>
+    requires width { length numbers.old ≡ suc (length right.now) }
+    requires height { length rows.old ≡ suc (length right.now) }
+    requires wide { AreWide (length right.now) (seen_at rows.old) }
+    requires unmarked { (i : ℕ) → (seen_at rows.old i).fits ≡ false }
     requires one { T.value one ≡ pos 1 }
-    requires positive { ArePositive T.value unders.old }
-    ensures positive { ArePositive T.value unders.new }
+    ensures wide { OnSome result (AreWide (length right.now) (seen_at rows.new)) }
+    ensures unmarked { OnSome result ((i : ℕ) → (seen_at rows.new i).fits ≡ false) }
     ensures rows { OnSome result ((i : ℕ) → i < length right.now →
-        IsFirstRow T.value (length right.now) numbers.new unders.new i (load_at right.now i)) }
-    ensures last { OnSome result ((j : ℕ) →
-        cell_at T.value (pos 0) (suc (length right.now)) numbers.new (length right.now) j
+        IsFirstRow T.value (length right.now) (seen_at rows.new) i (load_at right.now i)) }
+    ensures last { OnSome result ((j : ℕ) → number_at T.value (seen_at rows.new (length right.now)).numbers j
         ≡ cond (eqb j (length right.now)) (less_loads right.now (length right.now)) (pos 0)) }
-    ensures under { OnSome result (under_at T.value unders.new (length right.now) ≡ pos 1) }
+    ensures under { OnSome result ((seen_at rows.new (length right.now)).under ≡ pos 1) }
 {
-    let rest = put_first_rows(numbers, unders, row, right, one)?;
-    set_only(row, right.len(), rest);
-    put_row(numbers, unders, row, one, right.len());
+    let rest = put_first_rows(rows, numbers, right, one)?;
+    set_only(numbers, right.len(), rest);
+    put_row(rows, right.len(), numbers, one, T::zero(), false);
     Some(())
 }
 
@@ -119,16 +110,40 @@ pub fn repeated<T: Whole>(alloc: Global, number: T, count: usize) -> Result<Vec<
     Ok(list)
 }
 
-/// As many marks, all off.
-pub fn no_marks(alloc: Global, count: usize) -> Result<Vec<bool>, NoTable>
-    ensures long { IfOk result (λ m. length m.items ≡ count) }
-    ensures off { IfOk result (λ m. (i : ℕ) → i < count → get_or m.items i false ≡ false) }
+/// Room for as many rows as each has numbers, none known to fit.
+pub fn rows_of<T: Whole>(alloc: Global, one: T, width: usize) -> Result<Vec<Row<T>>, NoTable>
+    requires { T.value one ≡ pos 1 }
+    ensures height { IfOk result (λ r. length r.items ≡ width) }
+    ensures wide { IfOk result (λ r. (i : ℕ) → i < width → length (seen_at r.items i).numbers ≡ width) }
+    ensures unmarked { IfOk result (λ r. (i : ℕ) → i < width → (seen_at r.items i).fits ≡ false) }
 {
-    let mut marks = Vec::with_capacity(alloc, count)?;
-    for i in 0..count {
-        marks.push(false)?;
+    let mut rows = Vec::with_capacity(alloc, width)?;
+    for i in 0..width {
+        let numbers = repeated(alloc, T::zero(), width)?;
+        rows.push(Row {
+            numbers,
+            under: one,
+            top: T::zero(),
+            fits: false,
+        })?;
     }
-    Ok(marks)
+    Ok(rows)
+}
+
+/// Room for a pivot row of as many numbers.
+pub fn pivot_room<T: Whole>(alloc: Global, one: T, width: usize) -> Result<PivotRow<T>, NoTable>
+    requires { width < 2 ^ 63 }
+    ensures { IfOk result (λ p. length p.numbers.items ≡ width) }
+{
+    let numbers = repeated(alloc, T::zero(), width)?;
+    let jumps = first_basics(alloc, 0, width)?;
+    Ok(PivotRow {
+        numbers,
+        jumps,
+        under: one,
+        whole_top: T::zero(),
+        top: T::zero(),
+    })
 }
 
 /// The first basic columns: the artificial ones, in the order of their rows.

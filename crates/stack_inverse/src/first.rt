@@ -1,4 +1,4 @@
-//! The first rows, and a bound of their columns.
+//! The first rows, and a top of their columns.
 
 ghost use Rattle.std.specs.Prelude.{length};
 ghost use Rattle.stack_inverse.specs.Columns.{AreFirst};
@@ -11,7 +11,7 @@ use stack_rows::whole::Whole;
 pub struct First<T: Whole> {
     pub columns: Vec<Column<T>>,
     /// At least the sum of the sizes of each column, and at least 1.
-    pub most: T,
+    pub top: T,
     pub rows: usize,
-    ghost first: { AreFirst T.value rows (length columns.items) columns.items (T.value most) },
+    ghost first: { AreFirst T.value rows (length columns.items) columns.items (T.value top) },
 }

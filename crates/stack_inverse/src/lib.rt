@@ -16,14 +16,17 @@
 
 mod bounding;
 mod building;
-pub mod columns;
+mod columns;
 mod filling;
-pub mod first;
+mod first;
 mod making;
 mod objective;
 mod pivoting;
+mod plain;
+mod reducing;
 mod remaking;
 pub mod revised_table;
+mod row;
 mod short;
 mod spots;
 pub mod stops;

@@ -1,14 +1,17 @@
-//! Numbers of the plain columns, made from those of the artificial ones, and their bound.
+//! Numbers of the plain columns, made from those of the artificial ones, and their top.
 
 ghost use Rattle.std.specs.Prelude.{◌≡◌, ℕ, suc, ◌+◌, ◌*◌, ◌<◌, ◌≤◌, ◌+ℤ◌, ◌*ℤ◌, length, unsigned_abs, IfSome};
 ghost use Rattle.stack_algebra.specs.Sums.{sum_of};
 ghost use Rattle.std.specs.Prelude.{ℤ, OnSome};
 ghost use Rattle.stack_rows.specs.RowForm.{number_at};
-ghost use Rattle.stack_inverse.specs.RowBlock.{AreWithin, IsBound, IsTopped};
-ghost use Rattle.stack_inverse.specs.Columns.{revised_own, revised_number, row_number, AreEntered};
+ghost use Rattle.stack_inverse.specs.RowBlock.{AreWithin, IsWholeTop, IsTopped};
+ghost use Rattle.stack_inverse.specs.Columns.{revised_own, row_number, AreEntered};
+ghost use Rattle.stack_inverse.specs.RowsSeen.{seen_of, seen_at, number_in_row};
 
 use crate::columns::Cell;
 use crate::first::First;
+use crate::plain::Plain;
+use crate::row::Row;
 use stack_rows::whole::Whole;
 
 /// A sum and the product of two numbers. Most numbers of a row are 0.
@@ -40,36 +43,27 @@ fn sum_over<T: Whole>(cells: &[Cell<T>], numbers: &[T], start: T) -> Option<T>
 }
 
 /// The own number of a row: the objective row's, and 0 in the others.
-fn own_of<T: Whole>(rows: usize, own: &[T], i: usize, j: usize) -> T
-    requires { j < length own.now }
-    ensures { T.value result ≡ revised_own T.value rows own.now i j }
+fn own_of<T: Whole>(plain: &Plain<T>, i: usize, j: usize) -> T
+    requires { j < length plain.now.own.items }
+    ensures { T.value result ≡ revised_own T.value plain.now.first.rows plain.now.own.items i j }
 {
-    if i == rows { own[j] } else { T::zero() }
+    if i == plain.first.rows {
+        plain.own[j]
+    } else {
+        T::zero()
+    }
 }
 
-/// The number in a row and a plain column, over the denominator of the row. May give up; no clause says when.
-pub fn number_of<T: Whole>(
-    first: &First<T>,
-    own: &[T],
-    numbers: &[T],
-    unders: &[T],
-    i: usize,
-    j: usize,
-) -> Option<T>
-    requires room { i * suc first.now.rows + suc first.now.rows ≤ length numbers.now }
-    requires row_in { i < length unders.now }
-    requires column_in { j < length first.now.columns.items }
-    requires own_in { j < length own.now }
-    ensures { IfSome result (λ r. T.value r ≡ revised_number T.value first.now.rows first.now.columns.items own.now
-        numbers.now unders.now i j) }
+/// The number of row i in a plain column, over its denominator. May give up; no clause says when.
+pub fn number_of<T: Whole>(plain: &Plain<T>, row: &Row<T>, i: usize, j: usize) -> Option<T>
+    requires { j < length plain.now.first.columns.items }
+    ensures { IfSome result (λ r. T.value r ≡ number_in_row plain.now (seen_of row.now) i j) }
 {
-    let width = first.rows + 1;
-    let from = i * width;
-    let own_cell = own_of(first.rows, own, i, j);
-    let start = added(T::zero(), own_cell, unders[i])?;
+    let own_cell = own_of(plain, i, j);
+    let start = added(T::zero(), own_cell, row.under)?;
     let number = sum_over(
-        first.columns[j].cells.as_slice(),
-        &numbers[from..from + width],
+        plain.first.columns[j].cells.as_slice(),
+        row.numbers.as_slice(),
         start,
     )?;
     Some(number)
@@ -77,49 +71,45 @@ pub fn number_of<T: Whole>(
 
 /// Makes the numbers of a plain column, row by row. May give up; no clause says when.
 pub fn enter_column<T: Whole>(
-    first: &First<T>,
-    own: &[T],
-    numbers: &[T],
-    unders: &[T],
+    plain: &Plain<T>,
+    rows: &[Row<T>],
     entered: &mut [T],
     column: usize,
 ) -> Option<()>
-    requires long { length entered.old ≡ suc first.now.rows }
-    requires whole { length numbers.now ≡ suc first.now.rows * suc first.now.rows }
-    requires unders { length unders.now ≡ suc first.now.rows }
-    requires column_in { column < length first.now.columns.items }
-    requires own_in { length own.now ≡ length first.now.columns.items }
-    ensures { OnSome result (AreEntered T.value first.now.rows first.now.columns.items own.now numbers.now unders.now
-        column entered.new) }
+    requires long { length entered.old ≡ suc plain.now.first.rows }
+    requires height { length rows.now ≡ suc plain.now.first.rows }
+    requires column_in { column < length plain.now.first.columns.items }
+    ensures { OnSome result (AreEntered T.value plain.now.first.rows plain.now.first.columns.items plain.now.own.items
+        (seen_at rows.now) column entered.new) }
 {
     for i in 0..entered.len() {
-        let number = number_of(first, own, numbers, unders, i, column)?;
+        let number = number_of(plain, &rows[i], i, column)?;
         entered[i] = number;
     }
     Some(())
 }
 
 /// Whichever is the greater in size. Most numbers of a row are 0.
-fn greater<T: Whole>(most: T, number: T) -> T
-    ensures own { unsigned_abs (T.value most) ≤ unsigned_abs (T.value result) }
+fn greater<T: Whole>(top: T, number: T) -> T
+    ensures own { unsigned_abs (T.value top) ≤ unsigned_abs (T.value result) }
     ensures other { unsigned_abs (T.value number) ≤ unsigned_abs (T.value result) }
 {
     if number.is_zero() {
-        return most;
+        return top;
     }
-    most.wider(number)
+    top.wider(number)
 }
 
-/// The greatest in size of the first numbers.
-pub fn widest_of<T: Whole>(numbers: &[T], count: usize) -> T
+/// A top of the first numbers: whichever of them is the greatest in size.
+pub fn top_of<T: Whole>(numbers: &[T], count: usize) -> T
     requires { count ≤ length numbers.now }
     ensures { (k : ℕ) → k < count → unsigned_abs (number_at T.value numbers.now k) ≤ unsigned_abs (T.value result) }
 {
-    let mut most = T::zero();
+    let mut top = T::zero();
     for k in 0..count {
-        most = greater(most, numbers[k]);
+        top = greater(top, numbers[k]);
     }
-    most
+    top
 }
 
 /// The bits of the sizes of the first numbers together.
@@ -134,26 +124,33 @@ fn joined_in<T: Whole>(numbers: &[T], count: usize) -> u128
     size
 }
 
-/// A number that is no less in size than each of the first numbers: of the bits of their sizes, or else the greatest.
-pub fn size_over<T: Whole>(numbers: &[T], count: usize) -> T
+/// A top of all numbers but the last: of the bits of their sizes together, or else whichever is the greatest in size.
+pub fn top_over<T: Whole>(numbers: &[T], count: usize) -> T
     requires { length numbers.now ≡ suc count }
     ensures { IsTopped T.value numbers.now (unsigned_abs (T.value result)) }
 {
     match T::of_size(joined_in(numbers, count)) {
         Some(size) => size,
-        None => widest_of(numbers, count),
+        None => top_of(numbers, count),
     }
 }
 
-/// A bound of all numbers of a row over this denominator, by its top. May give up; no clause says when.
-pub fn bound<T: Whole>(first: &First<T>, numbers: &[T], under: T, greatest: T, top: T) -> Option<T>
+/// A top of all numbers of a row over this denominator, by that of its artificial numbers. May give up; no clause says
+/// when.
+pub fn whole_top<T: Whole>(
+    first: &First<T>,
+    numbers: &[T],
+    under: T,
+    own_top: T,
+    top: T,
+) -> Option<T>
     requires width { length numbers.now ≡ suc first.now.rows }
     requires topped { IsTopped T.value numbers.now (unsigned_abs (T.value top)) }
-    ensures { IfSome result (λ b. IsBound T.value first.now.rows numbers.now (T.value under) (T.value first.now.most)
-        (T.value greatest) (T.value b)) }
+    ensures { IfSome result (λ b. IsWholeTop T.value first.now.rows numbers.now (T.value under) (T.value first.now.top)
+        (T.value own_top) (T.value b)) }
 {
-    let combined = top.times(first.most)?;
-    let own = under.times(greatest)?;
+    let combined = top.times(first.top)?;
+    let own = under.times(own_top)?;
     let both = combined.sizes(own)?;
     Some(both.wider(numbers[first.rows]))
 }
@@ -174,16 +171,16 @@ pub fn row_number<T: Whole>(first: &First<T>, row: &[T], j: usize) -> Option<T>
     Some(row[k])
 }
 
-/// The greatest in size of all numbers of a row without own cells. May give up; no clause says when.
-pub fn greatest_in<T: Whole>(first: &First<T>, row: &[T]) -> Option<T>
+/// A top of all numbers of a row without own cells, by each of them. May give up; no clause says when.
+pub fn top_in<T: Whole>(first: &First<T>, row: &[T]) -> Option<T>
     requires { length row.now ≡ suc first.now.rows }
     ensures { IfSome result (λ b. (d : ℤ) → AreWithin (row_number T.value first.now.rows first.now.columns.items
         row.now d) (T.value b)) }
 {
-    let mut most = widest_of(row, row.len());
+    let mut top = top_of(row, row.len());
     for j in 0..first.columns.len() {
         let number = row_number(first, row, j)?;
-        most = most.wider(number);
+        top = top.wider(number);
     }
-    Some(most)
+    Some(top)
 }

@@ -1,12 +1,14 @@
 //! The later objective rows.
 
-ghost use Rattle.std.specs.Prelude.{◌≡◌, ℕ, suc, ◌+◌, ◌*◌, ◌<◌, ◌≤◌, length, pos, ◌<ℤ◌, eqb, cond, get_or, IfSome};
+ghost use Rattle.std.specs.Prelude.{◌≡◌, ℕ, suc, ◌<◌, length, pos, ◌<ℤ◌, eqb, cond, get_or, IfSome};
 ghost use Rattle.stack_algebra.specs.Search.{least};
-ghost use Rattle.stack_rows.specs.RowForm.{number_at, ArePositive};
-ghost use Rattle.stack_inverse.specs.Columns.{IsFactorRow};
+ghost use Rattle.stack_rows.specs.RowForm.{number_at};
+ghost use Rattle.stack_inverse.specs.Columns.{IsFactorRow, AreWide};
+ghost use Rattle.stack_inverse.specs.RowsSeen.{seen_at};
 
-use crate::first::First;
 use crate::making::number_of;
+use crate::plain::Plain;
+use crate::row::Row;
 use stack_rows::whole::Whole;
 
 /// The first row whose basic column is this one.
@@ -39,33 +41,29 @@ pub fn set_only<T: Whole>(row: &mut [T], column: usize, number: T)
     row[column] = number;
 }
 
-/// A row of a block, whose cell in the column has to be 1, and its denominator; without a row, 0 over 1.
+/// The numbers of a row whose cell in the column has to be 1, and its denominator; without a row, 0 over 1. May give
+/// up; no clause says when.
 pub fn factor_row<T: Whole>(
-    first: &First<T>,
-    own: &[T],
-    pivot: &mut [T],
-    numbers: &[T],
-    unders: &[T],
+    plain: &Plain<T>,
+    rows: &[Row<T>],
+    numbers: &mut [T],
     column: usize,
     row: Option<usize>,
 ) -> Option<T>
-    requires width { length pivot.old ≡ suc first.now.rows }
-    requires column_in { column < length first.now.columns.items }
-    requires own_in { column < length own.now }
-    requires row_in { IfSome row (λ r. r * length pivot.old + length pivot.old ≤ length numbers.now) }
-    requires under_in { IfSome row (λ r. r < length unders.now) }
-    requires positive { ArePositive T.value unders.now }
+    requires width { length numbers.old ≡ suc plain.now.first.rows }
+    requires wide { AreWide plain.now.first.rows (seen_at rows.now) }
+    requires column_in { column < length plain.now.first.columns.items }
+    requires row_in { IfSome row (λ r. r < plain.now.first.rows) }
+    requires height { length rows.now ≡ suc plain.now.first.rows }
     ensures positive { IfSome result (λ d. pos 0 <ℤ T.value d) }
-    ensures ok { IfSome result (λ d. IsFactorRow T.value first.now.rows first.now.columns.items own.now numbers.now
-        unders.now column row pivot.new (T.value d)) }
+    ensures ok { IfSome result (λ d. IsFactorRow T.value plain.now.first.rows plain.now.first.columns.items
+        plain.now.own.items (seen_at rows.now) column row numbers.new (T.value d)) }
 {
     match row {
         Some(r) => {
-            let cell = number_of(first, own, numbers, unders, r, column)?;
-            let width = pivot.len();
-            let from = r * width;
-            pivot.copy_from_slice(&numbers[from..from + width]);
-            let under = unders[r];
+            let cell = number_of(plain, &rows[r], r, column)?;
+            numbers.copy_from_slice(rows[r].numbers.as_slice());
+            let under = rows[r].under;
             let rest = cell.less(under)?;
             if !rest.is_zero() {
                 return None;
@@ -73,7 +71,7 @@ pub fn factor_row<T: Whole>(
             Some(under)
         }
         None => {
-            clear_row(pivot);
+            clear_row(numbers);
             let one = T::from_wide(1)?;
             Some(one)
         }

@@ -1,10 +1,9 @@
 //! A row that is made anew from its reduced cells, over a common denominator.
 
-ghost use Rattle.std.specs.Prelude.{◌≡◌, ℕ, suc, ◌+◌, ◌*◌, ◌<◌, ◌≤◌, pos, ◌*ℤ◌, ◌-ℤ◌, ◌<ℤ◌, length, IfSome, OnSome};
-ghost use Rattle.std.specs.Prelude.{IfOk, IfErr, OnOk, true};
-ghost use Rattle.stack_rows.specs.RowForm.{number_at, under_at, ArePositive};
-ghost use Rattle.stack_inverse.specs.RowBlock.{IsRowTaken};
+ghost use Rattle.std.specs.Prelude.{◌≡◌, ℕ, pos, ◌*ℤ◌, ◌-ℤ◌, ◌<ℤ◌, true, length, IfSome, OnSome};
+ghost use Rattle.stack_rows.specs.RowForm.{number_at, IsTaken};
 
+use crate::row::Row;
 use crate::spots::{RowStep, reduced_cell};
 use stack_rational::Exact;
 use stack_rows::whole::Whole;
@@ -74,33 +73,24 @@ fn remake<T: Whole>(numbers: &mut [T], pivot: &[T], s: RowStep<T>, common: T) ->
     true
 }
 
-/// Makes row i of a block anew from its reduced cells, over a common denominator. May give up; no clause says when.
-pub fn remake_lent<T: Whole>(
-    numbers: &mut [T],
-    unders: &mut [T],
-    pivot: &[T],
-    s: RowStep<T>,
-    i: usize,
-) -> Option<()>
-    requires room { i * length pivot.now + length pivot.now ≤ length numbers.old }
-    requires row_in { i < length unders.old }
-    requires positive { ArePositive T.value unders.old }
-    requires under { T.value s.under ≡ under_at T.value unders.old i }
+/// Makes a row anew from its reduced cells, over a common denominator. May give up; no clause says when.
+pub fn remake_row<T: Whole>(row: &mut Row<T>, pivot: &[T], s: RowStep<T>) -> Option<()>
+    requires width { length pivot.now ≡ length row.old.numbers.items }
+    requires under { T.value s.under ≡ T.value row.old.under }
     requires pivot_under { pos 0 <ℤ T.value s.pivot_under }
-    ensures positive { ArePositive T.value unders.new }
-    ensures ok { OnSome result (IsRowTaken T.value (length pivot.now) numbers.old unders.old pivot.now
-        (T.value s.under *ℤ T.value s.pivot_under) (T.value s.pivot_under) (T.value s.factor) i
-        numbers.new unders.new) }
+    ensures width { length row.new.numbers.items ≡ length row.old.numbers.items }
+    ensures mark { row.new.fits ≡ row.old.fits }
+    ensures ok { OnSome result (IsTaken T.value row.old.numbers.items (T.value s.under *ℤ T.value s.pivot_under)
+        pivot.now (T.value s.pivot_under) (T.value s.factor) row.new.numbers.items (T.value row.new.under)) }
 {
-    let width = pivot.len();
-    let from = i * width;
-    let common = common_under(&numbers[from..from + width], pivot, s)?;
+    let common = common_under(row.numbers.as_slice(), pivot, s)?;
     if !common.is_positive() {
         return None;
     }
-    if !remake(&mut numbers[from..from + width], pivot, s, common) {
+    row.top = T::zero();
+    if !remake(row.numbers.as_mut_slice(), pivot, s, common) {
         return None;
     }
-    unders[i] = common;
+    row.under = common;
     Some(())
 }

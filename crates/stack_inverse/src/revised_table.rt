@@ -1,18 +1,19 @@
 //! The table of a run by its artificial columns.
 
-ghost use Rattle.std.specs.Prelude.{◌≡◌, ℕ, suc, ◌+◌, ◌*◌, ◌<◌, length, get_or};
+ghost use Rattle.std.specs.Prelude.{◌≡◌, ℕ, suc, ◌+◌, ◌<◌, length, get_or};
 ghost use Rattle.stack_table.specs.Table.{plain, columns};
 ghost use Rattle.stack_table.specs.Block.{shape_of};
-ghost use Rattle.stack_rows.specs.RowForm.{ArePositive};
-ghost use Rattle.stack_inverse.specs.RowBlock.{AreMarked, AreTopped};
-ghost use Rattle.stack_inverse.specs.Columns.{IsOwn, revised_cell};
+ghost use Rattle.stack_inverse.specs.RowBlock.{AreMarked};
+ghost use Rattle.stack_inverse.specs.Columns.{AreWide};
+ghost use Rattle.stack_inverse.specs.RowsSeen.{seen_at, cells_of_rows};
 
-use crate::building::{first_of, own_cells};
-use crate::filling::{fill, first_basics, no_marks, one, repeated};
-use crate::first::First;
-use crate::making::{enter_column, number_of, widest_of};
+use crate::building::plain_of;
+use crate::filling::{fill, first_basics, one, pivot_room, repeated, rows_of};
+use crate::making::{enter_column, number_of};
 use crate::objective::{clear_row, factor_row, row_with, set_only};
-use crate::pivoting::{pivot_or_unmark, put_row};
+use crate::pivoting::{pivot_rows, put_row};
+use crate::plain::Plain;
+use crate::row::{PivotRow, Row};
 use crate::short::short_negative;
 use crate::stops::{NoTable, Refusal};
 use stack_rows::whole::Whole;
@@ -22,58 +23,39 @@ use std::alloc::Global;
 /// The exact table of a run. Row `rows` is the objective row.
 #[derive(Drop)]
 pub struct RevisedTable<T: Whole> {
-    first: First<T>,
-    /// The own cells of the objective row, and a bound of them.
-    own: Vec<T>,
-    greatest: T,
-    /// Row by row, the objective row last; each row by its artificial columns, the right side last.
-    numbers: Vec<T>,
-    /// The denominator of each row.
-    unders: Vec<T>,
+    given: Plain<T>,
+    /// The objective row last.
+    rows: Vec<Row<T>>,
     /// The basic column of each row.
     basic: Vec<usize>,
     /// Room for the pivot row.
-    pivot: Vec<T>,
+    pivot: PivotRow<T>,
     /// Room for the numbers of the entering column, row by row.
     entered: Vec<T>,
-    /// Room for the next column of the pivot row beside each, in which it has something.
-    jumps: Vec<usize>,
-    /// Rows all of whose cells are known to fit.
-    marks: Vec<bool>,
-    /// A top of each row, 0 where none is known.
-    tops: Vec<T>,
     contacts: usize,
     has_factor: bool,
-    ghost wide: { length pivot.items ≡ suc first.rows },
-    ghost whole: { length numbers.items ≡ suc first.rows * suc first.rows },
-    ghost one_each: { length unders.items ≡ suc first.rows },
-    ghost plain: { length first.columns.items ≡ plain (shape_of first.rows contacts has_factor) },
-    ghost owns: { length own.items ≡ length first.columns.items },
-    ghost within: { IsOwn T.value own.items (T.value greatest) },
-    ghost positive: { ArePositive T.value unders.items },
-    ghost one_jump: { length jumps.items ≡ suc first.rows },
-    ghost one_mark: { length marks.items ≡ suc first.rows },
-    ghost one_number: { length entered.items ≡ suc first.rows },
-    ghost marked: { AreMarked T.MAX (revised_cell T.value first.rows first.columns.items own.items numbers.items
-        unders.items) marks.items },
-    ghost one_top: { length tops.items ≡ suc first.rows },
-    ghost topped: { AreTopped T.value (suc first.rows) numbers.items tops.items },
-    ghost basics: { length basic.items ≡ first.rows },
-    ghost basics_in: { (i : ℕ) → i < first.rows →
-        get_or basic.items i 0 < columns (shape_of first.rows contacts has_factor) },
+    ghost plain_count: { length given.first.columns.items ≡ plain (shape_of given.first.rows contacts has_factor) },
+    ghost height: { length rows.items ≡ suc given.first.rows },
+    ghost wide: { AreWide given.first.rows (seen_at rows.items) },
+    ghost marked: { AreMarked T.MAX (cells_of_rows given rows.items) (seen_at rows.items) },
+    ghost room: { length pivot.numbers.items ≡ suc given.first.rows },
+    ghost one_number: { length entered.items ≡ suc given.first.rows },
+    ghost basics: { length basic.items ≡ given.first.rows },
+    ghost basics_in: { (i : ℕ) → i < given.first.rows →
+        get_or basic.items i 0 < columns (shape_of given.first.rows contacts has_factor) },
 }
 
 impl<T: Whole> RevisedTable<T> {
     ghost use Rattle.std.specs.Prelude.{◌≢◌, ◌≤◌, ◌<ℤ◌, pos, cond, OnSome, None, IfSome, IfOk, OnOk, IfErr};
     ghost use Rattle.stack_inverse.specs.CellSteps.{TellsSpot};
-    ghost use Rattle.stack_rows.specs.RowForm.{number_at, under_at};
+    ghost use Rattle.stack_rows.specs.RowForm.{number_at};
     ghost use Rattle.stack_algebra.proofs.OrderedFractions.{ordered_fractions};
     ghost use Rattle.stack_rational.specs.TooWide.{is_too_wide};
     ghost use Rattle.stack_table.specs.Table.{pivoted_at, clear_objective, set_factor_objective};
     ghost use Rattle.stack_table.specs.Spots.{pivot_spot};
     ghost use Rattle.stack_table.specs.Lent.{IsProblem, shape_of_problem, problem_of};
     ghost use Rattle.stack_table.specs.WrittenTable.{written_table};
-    ghost use Rattle.stack_inverse.specs.Seen.{shape_of_revised, table_of_revised, number_in, IsEntered};
+    ghost use Rattle.stack_inverse.specs.Seen.{shape_of_revised, table_of_revised, number_in, under_in, IsEntered};
     ghost use Rattle.stack_inverse.specs.ShortRow.{least_negative};
 
     /// The written table of a problem. All memory of a run is taken here. May give up; no clause says when.
@@ -83,22 +65,15 @@ impl<T: Whole> RevisedTable<T> {
         ensures ok { IfOk result (λ t. table_of_revised t ≡ written_table ordered_fractions (problem_of p.now)) }
     {
         let one = one()?;
-        let first = first_of(alloc, p)?;
-        let own = own_cells(alloc, first.columns.as_slice())?;
-        let greatest = widest_of(own.as_slice(), own.len());
+        let given = plain_of(alloc, p)?;
         let width = p.rows + 1;
-        let mut numbers = repeated(alloc, T::zero(), width * width)?;
-        let mut unders = repeated(alloc, one, width)?;
-        let mut pivot = repeated(alloc, T::zero(), width)?;
+        let mut rows = rows_of(alloc, one, width)?;
+        let mut pivot = pivot_room(alloc, one, width)?;
         let entered = repeated(alloc, T::zero(), width)?;
-        let jumps = first_basics(alloc, 0, width)?;
-        let marks = no_marks(alloc, width)?;
-        let tops = repeated(alloc, T::zero(), width)?;
-        let basic = first_basics(alloc, first.columns.len(), p.rows)?;
+        let basic = first_basics(alloc, given.first.columns.len(), p.rows)?;
         match fill(
-            numbers.as_mut_slice(),
-            unders.as_mut_slice(),
-            pivot.as_mut_slice(),
+            rows.as_mut_slice(),
+            pivot.numbers.as_mut_slice(),
             p.right.as_slice(),
             one,
         ) {
@@ -106,17 +81,11 @@ impl<T: Whole> RevisedTable<T> {
             None => return Err(NoTable::Unsettled),
         }
         Ok(RevisedTable {
-            first,
-            own,
-            greatest,
-            numbers,
-            unders,
+            given,
+            rows,
             basic,
             pivot,
             entered,
-            jumps,
-            marks,
-            tops,
             contacts: p.contact.len(),
             has_factor: p.factor.is_some(),
         })
@@ -125,14 +94,14 @@ impl<T: Whole> RevisedTable<T> {
     pub fn rows(&self) -> usize
         ensures { result ≡ (shape_of_revised self.now).rows }
     {
-        self.first.rows
+        self.given.first.rows
     }
 
     /// The columns before the artificial ones.
     pub fn plain(&self) -> usize
         ensures { result ≡ plain (shape_of_revised self.now) }
     {
-        self.first.columns.len()
+        self.given.first.columns.len()
     }
 
     pub fn contacts(&self) -> usize
@@ -162,14 +131,7 @@ impl<T: Whole> RevisedTable<T> {
         requires j_in { j < plain (shape_of_revised self.now) }
         ensures { IfSome result (λ r. T.value r ≡ number_in self.now i j) }
     {
-        number_of(
-            &self.first,
-            self.own.as_slice(),
-            self.numbers.as_slice(),
-            self.unders.as_slice(),
-            i,
-            j,
-        )
+        number_of(&self.given, &self.rows[i], i, j)
     }
 
     /// Makes the numbers of a plain column, row by row, and keeps them. May give up; no clause says when.
@@ -180,10 +142,8 @@ impl<T: Whole> RevisedTable<T> {
         ensures entered { OnSome result (IsEntered self.new column) }
     {
         enter_column(
-            &self.first,
-            self.own.as_slice(),
-            self.numbers.as_slice(),
-            self.unders.as_slice(),
+            &self.given,
+            self.rows.as_slice(),
             self.entered.as_mut_slice(),
             column,
         )
@@ -198,21 +158,14 @@ impl<T: Whole> RevisedTable<T> {
     }
 
     /// The least column below `among` with a negative number in the objective row, by numbers of 64 bits. May give up,
-    /// mostly since a bound of the numbers doesn't fit these; no clause says when.
+    /// mostly since a top of the numbers doesn't fit these; no clause says when.
     pub fn short_entering(&self, among: usize) -> Option<Option<usize>>
         requires { among ≤ plain (shape_of_revised self.now) }
         ensures value { IfSome result (λ r. r
             ≡ least_negative (number_in self.now (shape_of_revised self.now).rows) among) }
         ensures below { IfSome result (λ r. IfSome r (λ j. j < among)) }
     {
-        short_negative(
-            &self.first,
-            self.own.as_slice(),
-            self.numbers.as_slice(),
-            self.unders.as_slice(),
-            self.greatest,
-            among,
-        )
+        short_negative(&self.given, &self.rows[self.given.first.rows], among)
     }
 
     /// The right side of a row, over its denominator.
@@ -220,7 +173,7 @@ impl<T: Whole> RevisedTable<T> {
         requires { i ≤ (shape_of_revised self.now).rows }
         ensures { T.value result ≡ number_in self.now i (columns (shape_of_revised self.now)) }
     {
-        self.numbers[i * self.pivot.len() + self.first.rows]
+        self.rows[i].numbers[self.given.first.rows]
     }
 
     /// The number of the objective row in a row's artificial column, over the denominator of the objective row.
@@ -229,16 +182,16 @@ impl<T: Whole> RevisedTable<T> {
         ensures { T.value result ≡ number_in self.now (shape_of_revised self.now).rows
             (plain (shape_of_revised self.now) + i) }
     {
-        self.numbers[self.first.rows * self.pivot.len() + i]
+        self.rows[self.given.first.rows].numbers[i]
     }
 
     /// The denominator of a row.
     pub fn under(&self, i: usize) -> T
         requires { i ≤ (shape_of_revised self.now).rows }
-        ensures value { T.value result ≡ under_at T.value self.now.unders.items i }
+        ensures value { T.value result ≡ under_in self.now i }
         ensures positive { pos 0 <ℤ T.value result }
     {
-        self.unders[i]
+        self.rows[i].under
     }
 
     /// A pivot at a row and a column whose numbers are kept, and whose cell in the row isn't 0. `TooWide` names the
@@ -257,16 +210,10 @@ impl<T: Whole> RevisedTable<T> {
             (shape_of_revised self.old) (table_of_revised self.old) row column)) }
     {
         self.basic[row] = column;
-        pivot_or_unmark(
-            &self.first,
-            self.own.as_slice(),
-            self.greatest,
-            self.numbers.as_mut_slice(),
-            self.unders.as_mut_slice(),
-            self.pivot.as_mut_slice(),
-            self.jumps.as_mut_slice(),
-            self.marks.as_mut_slice(),
-            self.tops.as_mut_slice(),
+        pivot_rows(
+            &self.given,
+            self.rows.as_mut_slice(),
+            &mut self.pivot,
             self.entered.as_slice(),
             row,
             column,
@@ -280,18 +227,18 @@ impl<T: Whole> RevisedTable<T> {
             ≡ clear_objective ordered_fractions (shape_of_revised self.old) (table_of_revised self.old)) }
     {
         let one = T::from_wide(1)?;
-        clear_row(self.pivot.as_mut_slice());
-        clear_row(self.own.as_mut_slice());
-        self.greatest = T::zero();
+        let last = self.given.first.rows;
+        clear_row(self.pivot.numbers.as_mut_slice());
+        clear_row(self.given.own.as_mut_slice());
+        self.given.own_top = T::zero();
         put_row(
-            self.numbers.as_mut_slice(),
-            self.unders.as_mut_slice(),
-            self.pivot.as_slice(),
+            self.rows.as_mut_slice(),
+            last,
+            self.pivot.numbers.as_slice(),
             one,
-            self.first.rows,
+            T::zero(),
+            false,
         );
-        self.marks[self.first.rows] = false;
-        self.tops[self.first.rows] = T::zero();
         Some(())
     }
 
@@ -304,27 +251,26 @@ impl<T: Whole> RevisedTable<T> {
             ≡ set_factor_objective ordered_fractions (shape_of_revised self.old) (table_of_revised self.old)) }
     {
         let minus_one = T::from_wide(-1)?;
+        let last = self.given.first.rows;
         let row = row_with(self.basic.as_slice(), self.contacts);
         let under = factor_row(
-            &self.first,
-            self.own.as_slice(),
-            self.pivot.as_mut_slice(),
-            self.numbers.as_slice(),
-            self.unders.as_slice(),
+            &self.given,
+            self.rows.as_slice(),
+            self.pivot.numbers.as_mut_slice(),
             self.contacts,
             row,
         )?;
-        set_only(self.own.as_mut_slice(), self.contacts, minus_one);
-        self.greatest = minus_one;
+        clear_row(self.given.own.as_mut_slice());
+        self.given.own_top = minus_one;
+        set_only(self.given.own.as_mut_slice(), self.contacts, minus_one);
         put_row(
-            self.numbers.as_mut_slice(),
-            self.unders.as_mut_slice(),
-            self.pivot.as_slice(),
+            self.rows.as_mut_slice(),
+            last,
+            self.pivot.numbers.as_slice(),
             under,
-            self.first.rows,
+            T::zero(),
+            false,
         );
-        self.marks[self.first.rows] = false;
-        self.tops[self.first.rows] = T::zero();
         Some(())
     }
 }

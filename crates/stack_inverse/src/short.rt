@@ -3,13 +3,15 @@
 ghost use Rattle.std.specs.Prelude.{◌≡◌, ℕ, suc, ◌+◌, ◌*◌, ◌-◌, ◌^◌, ◌<◌, ◌≤◌, pos, ◌-ℤ◌, ◌*ℤ◌, ◌<ℤ◌, length};
 ghost use Rattle.std.specs.Prelude.{unsigned_abs, IfSome};
 ghost use Rattle.std.specs.List.{AllByRecursion};
-ghost use Rattle.stack_rows.specs.RowForm.{number_at, ArePositive};
-ghost use Rattle.stack_inverse.specs.Columns.{IsOwn, revised_number};
+ghost use Rattle.stack_rows.specs.RowForm.{number_at};
+ghost use Rattle.stack_inverse.specs.Columns.{IsOwn};
 ghost use Rattle.stack_inverse.specs.ShortRow.{products_in, product_sizes, own_number, IsShortRow, least_negative};
 
 use crate::columns::Cell;
 use crate::first::First;
-use crate::making::{bound, size_over};
+use crate::making::{top_over, whole_top};
+use crate::plain::Plain;
+use crate::row::Row;
 use stack_rows::whole::Whole;
 
 /// A number less a product. Most numbers of a row are 0.
@@ -90,63 +92,52 @@ fn first_negative<T: Whole>(
     None
 }
 
-/// The same where a bound of the row's numbers fits 64 bits. May give up; no clause says when.
+/// The same where a top of the row's numbers fits 64 bits. May give up; no clause says when.
 fn negative_in<T: Whole>(
     first: &First<T>,
     own: &[T],
     row: &[T],
     under: T,
-    greatest: T,
+    own_top: T,
     among: usize,
 ) -> Option<Option<usize>>
     requires width { length row.now ≡ suc first.now.rows }
     requires among { among ≤ length first.now.columns.items }
     requires owns { length own.now ≡ length first.now.columns.items }
-    requires within { IsOwn T.value own.now (T.value greatest) }
+    requires within { IsOwn T.value own.now (T.value own_top) }
     requires positive { pos 0 <ℤ T.value under }
     ensures value { IfSome result (λ r. r ≡ least_negative (own_number T.value first.now.rows
         first.now.columns.items own.now row.now (T.value under)) among) }
     ensures below { IfSome result (λ r. IfSome r (λ j. j < among)) }
 {
     let one = T::from_wide(1)?;
-    let top = size_over(row, first.rows);
-    let most = bound(first, row, under, greatest, top)?;
-    if !most.is_short() {
+    let top = top_over(row, first.rows);
+    let whole_top = whole_top(first, row, under, own_top, top)?;
+    if !whole_top.is_short() {
         return None;
     }
     Some(first_negative(first, own, row, under, one, among))
 }
 
-/// The least column below `among` in which the objective row has a negative number, where a bound of its numbers fits
-/// 64 bits. May give up; no clause says when.
+/// The least column below `among` in which the objective row has a negative number, where a top of its numbers fits 64
+/// bits. May give up; no clause says when.
 pub fn short_negative<T: Whole>(
-    first: &First<T>,
-    own: &[T],
-    numbers: &[T],
-    unders: &[T],
-    greatest: T,
+    plain: &Plain<T>,
+    row: &Row<T>,
     among: usize,
 ) -> Option<Option<usize>>
-    requires room { first.now.rows * suc first.now.rows + suc first.now.rows ≤ length numbers.now }
-    requires row_in { first.now.rows < length unders.now }
-    requires among { among ≤ length first.now.columns.items }
-    requires owns { length own.now ≡ length first.now.columns.items }
-    requires within { IsOwn T.value own.now (T.value greatest) }
-    requires positive { ArePositive T.value unders.now }
-    ensures value { IfSome result (λ r. r ≡ least_negative (revised_number T.value first.now.rows
-        first.now.columns.items own.now numbers.now unders.now first.now.rows) among) }
+    requires width { length row.now.numbers.items ≡ suc plain.now.first.rows }
+    requires among { among ≤ length plain.now.first.columns.items }
+    ensures value { IfSome result (λ r. r ≡ least_negative (own_number T.value plain.now.first.rows
+        plain.now.first.columns.items plain.now.own.items row.now.numbers.items (T.value row.now.under)) among) }
     ensures below { IfSome result (λ r. IfSome r (λ j. j < among)) }
 {
-    let width = first.rows + 1;
-    let from = first.rows * width;
-    let under = unders[first.rows];
-    let found = negative_in(
-        first,
-        own,
-        &numbers[from..from + width],
-        under,
-        greatest,
+    negative_in(
+        &plain.first,
+        plain.own.as_slice(),
+        row.numbers.as_slice(),
+        row.under,
+        plain.own_top,
         among,
-    )?;
-    Some(found)
+    )
 }

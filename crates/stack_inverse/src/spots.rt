@@ -1,17 +1,18 @@
 //! The cells of a row step, one by one, at 128 bits.
 
-ghost use Rattle.std.specs.Prelude.{◌≡◌, true, suc, ◌+◌, ◌*◌, ◌<◌, ◌≤◌, pos, ◌*ℤ◌, ◌<ℤ◌, length, IfSome};
+ghost use Rattle.std.specs.Prelude.{◌≡◌, true, suc, ◌+◌, ◌<◌, pos, ◌*ℤ◌, ◌<ℤ◌, length, IfSome};
 ghost use Rattle.stack_algebra.proofs.Over.{over};
 ghost use Rattle.stack_algebra.proofs.OrderedFractions.{ordered_fractions};
 ghost use Rattle.stack_rational.specs.Laws.{widest};
 ghost use Rattle.stack_rational.specs.TooWide.{is_too_wide};
 ghost use Rattle.stack_table.specs.Spots.{reduce_spot};
-ghost use Rattle.stack_rows.specs.RowForm.{under_at, ArePositive};
-ghost use Rattle.stack_inverse.specs.Columns.{revised_cell, revised_number, row_cell};
+ghost use Rattle.stack_inverse.specs.Columns.{row_cell};
+ghost use Rattle.stack_inverse.specs.RowsSeen.{seen_of, number_in_row, cell_in_row};
 ghost use Rattle.stack_inverse.specs.CellSteps.{TellsCell, TellsStep};
 
-use crate::first::First;
 use crate::making::{number_of, row_number};
+use crate::plain::Plain;
+use crate::row::Row;
 use stack_rational::{Exact, Frac};
 use stack_rows::cells::cell;
 use stack_rows::factors::{Factors, step_under};
@@ -83,30 +84,18 @@ fn step_spot<T: Whole>(s: RowStep<T>, factors: Factors<T>, own: T, pivot: T) -> 
     }
 }
 
-/// The number in a row and any column, the right side last. May give up; no clause says when.
-fn number_in<T: Whole>(
-    first: &First<T>,
-    own: &[T],
-    numbers: &[T],
-    unders: &[T],
-    i: usize,
-    j: usize,
-) -> Option<T>
-    requires room { i * suc first.now.rows + suc first.now.rows ≤ length numbers.now }
-    requires row_in { i < length unders.now }
-    requires column_in { j < suc (length first.now.columns.items + first.now.rows) }
-    requires own_in { length own.now ≡ length first.now.columns.items }
-    ensures { IfSome result (λ r. T.value r ≡ revised_number T.value first.now.rows first.now.columns.items own.now
-        numbers.now unders.now i j) }
+/// The number of row i in any column, the right side last. May give up; no clause says when.
+fn number_in<T: Whole>(plain: &Plain<T>, row: &Row<T>, i: usize, j: usize) -> Option<T>
+    requires width { length row.now.numbers.items ≡ suc plain.now.first.rows }
+    requires column_in { j < suc (length plain.now.first.columns.items + plain.now.first.rows) }
+    ensures { IfSome result (λ r. T.value r ≡ number_in_row plain.now (seen_of row.now) i j) }
 {
-    let plain = first.columns.len();
-    if j < plain {
-        let number = number_of(first, own, numbers, unders, i, j)?;
+    let count = plain.first.columns.len();
+    if j < count {
+        let number = number_of(plain, row, i, j)?;
         return Some(number);
     }
-    let width = first.rows + 1;
-    let k = i * width + (j - plain);
-    Some(numbers[k])
+    Some(row.numbers[j - count])
 }
 
 /// Whether the greatest size is that of 128 bits.
@@ -119,39 +108,33 @@ pub fn is_widest<T: Whole>() -> bool
     }
 }
 
-/// The first step of a row that is too wide, if there is one. May give up; no clause says when.
+/// The first step of row i that is too wide, if there is one. May give up; no clause says when.
 pub fn row_spot<T: Whole>(
-    first: &First<T>,
-    own: &[T],
-    numbers: &[T],
-    unders: &[T],
+    plain: &Plain<T>,
+    row: &Row<T>,
     pivot: &[T],
     s: RowStep<T>,
     factors: Factors<T>,
     i: usize,
 ) -> Option<Option<PivotWide>>
     requires widest { T.MAX ≡ widest }
-    requires width { length pivot.now ≡ suc first.now.rows }
-    requires room { i * suc first.now.rows + suc first.now.rows ≤ length numbers.now }
-    requires row_in { i < length unders.now }
-    requires own_in { length own.now ≡ length first.now.columns.items }
-    requires under { T.value s.under ≡ under_at T.value unders.now i }
-    requires positive { ArePositive T.value unders.now }
+    requires width { length row.now.numbers.items ≡ suc plain.now.first.rows }
+    requires pivot_width { length pivot.now ≡ suc plain.now.first.rows }
+    requires under { T.value s.under ≡ T.value row.now.under }
     requires pivot_under { pos 0 <ℤ T.value s.pivot_under }
     requires some { pos 0 <ℤ T.value factors.times }
     requires cross { T.value s.factor *ℤ T.value factors.times ≡ T.value factors.less *ℤ T.value s.pivot_under }
     ensures { IfSome result (λ r. r ≡ reduce_spot ordered_fractions (is_too_wide widest)
-        (suc (length first.now.columns.items + first.now.rows))
-        (revised_cell T.value first.now.rows first.now.columns.items own.now numbers.now unders.now i)
-        (row_cell T.value first.now.rows first.now.columns.items pivot.now (T.value s.pivot_under))
+        (suc (length plain.now.first.columns.items + plain.now.first.rows)) (cell_in_row plain.now (seen_of row.now) i)
+        (row_cell T.value plain.now.first.rows plain.now.first.columns.items pivot.now (T.value s.pivot_under))
         (over (T.value s.factor) (T.value s.under)) i) }
 {
-    let plain = first.columns.len();
+    let count = plain.first.columns.len();
     let rest = pivot.len();
-    let columns = plain.checked_add(rest)?;
+    let columns = count.checked_add(rest)?;
     for j in 0..columns {
-        let number = number_in(first, own, numbers, unders, i, j)?;
-        let other = row_number(first, pivot, j)?;
+        let number = number_in(plain, row, i, j)?;
+        let other = row_number(&plain.first, pivot, j)?;
         match step_spot(s, factors, number, other) {
             Some(step) => return Some(Some(PivotWide {
                 row: i,

@@ -1,25 +1,14 @@
 -- A row as whole numbers over one positive denominator, which needn't be the least.
-use Rattle.std.specs.Prelude.{◌≡◌, ℕ, suc, ◌+◌, ◌-◌, ◌*◌, ◌^◌, ◌<◌, ◌≤◌, Bool, true, cond, ltb, List, map, get_or}
+use Rattle.std.specs.Prelude.{◌≡◌, ℕ, suc, ◌+◌, ◌-◌, ◌*◌, ◌^◌, ◌<◌, ◌≤◌, Bool, true, List, map, get_or}
 use Rattle.std.specs.Prelude.{ℤ, pos, ◌*ℤ◌, ◌-ℤ◌, ◌<ℤ◌, unsigned_abs}
 
--- the value of item k, z past the last item; and in row i and column j of rows of one width
+-- the value of item k, z past the last item
 abbrev pub at_value : {V C : Type 0} → (V → C) → C → List V → ℕ → C
 at_value e z xs k = get_or (map e xs) k z
-
-abbrev pub cell_at : {V C : Type 0} → (V → C) → C → (width : ℕ) → List V → ℕ → ℕ → C
-cell_at e z width xs i j = cond (ltb j width) (at_value e z xs (i * width + j)) z
 
 -- item k of a list, 0 past its end
 abbrev pub number_at : {V : Type 0} → (V → ℤ) → List V → ℕ → ℤ
 number_at value xs k = at_value value (pos 0) xs k
-
--- the denominator of row i, 1 past the last row
-abbrev pub under_at : {V : Type 0} → (V → ℤ) → List V → ℕ → ℤ
-under_at value xs i = at_value value (pos 1) xs i
-
--- all denominators are positive
-abbrev pub ArePositive : {V : Type 0} → (V → ℤ) → List V → Type 0
-ArePositive value ds = (i : ℕ) → pos 0 <ℤ under_at value ds i
 
 -- a row step with the factors k and t fits 64 bits: with a number of at most b and one of at most p in the pivot row
 pub record IsShort (k t : ℤ) (b p : ℕ) : Type 0 where

@@ -8,9 +8,9 @@ use Rattle.stack_inverse.proofs.building.first_of.Goals as goal
 pub invariant_of-result : goal.invariant_of-result
 invariant_of-result g c =
     let v = g.T.Whole.value in
-    let most = v c.in-Some.most in
+    let top = v c.in-Some.top in
     record {
-      first = first_columns v c.args.p.now c.requires c.in_ok-columns.columns.items most c.in_ok-columns.ensures.turned
+      first = first_columns v c.args.p.now c.requires c.in_ok-columns.columns.items top c.in_ok-columns.ensures.turned
           c.in-Some.ensures.some (subst (λ (cs : List (Column g.row.T.Denot)). (j : ℕ) → j < length cs →
-          sizes_in v (cells_at cs j) ≤ unsigned_abs most) c.as_slice.ensures.value c.in-Some.ensures.most);
+          sizes_in v (cells_at cs j) ≤ unsigned_abs top) c.as_slice.ensures.value c.in-Some.ensures.top);
     }

@@ -1,5 +1,5 @@
 use Rattle.std.proofs.Common.{◌≡◌, refl, ◌∙◌, ◌-◌, ◌<◌, pos, arith, length}
-use Rattle.stack_inverse.specs.Columns.{cells_at}
+use Rattle.stack_inverse.specs.Columns.{cells_at, plain_own}
 use Rattle.stack_rows.proofs.Numbers.{at-index}
 use Rattle.stack_inverse.proofs.Made.{cells_of}
 use Rattle.stack_inverse.proofs.RowByCells.{row_made, row_read}
@@ -25,7 +25,7 @@ pub returns : goal.returns
 returns g c = λ d.
     let v = g.T.Whole.value in
     let f = c.args.first.now in
-    row_read v f.rows f.columns.items c.args.j c.args.row.now d (v c.index-row-k.result) c.len-plain.result
+    row_read v f.rows f.columns.items c.args.j plain_own c.args.row.now d (v c.index-row-k.result) c.len-plain.result
     (c.args.j - c.len-plain.result) (c.len-plain.ensures ∙ f.columns.ok.0) refl
     (omega (arith, c.if-j-plain.false)) c.requires.column_in
     (at-index v (pos 0) c.args.row.now (c.args.j - c.len-plain.result) c.index-row-k.result

@@ -1,8 +1,11 @@
-use Rattle.std.proofs.Common.{refl, length}
-use Rattle.stack_inverse.proofs.PutRow.{row_placed}
+use Rattle.std.proofs.Common.{refl, sym, ap, ◌∙◌, length, slice_index_or}
+use Rattle.std.proofs.lemmas.List.{with_items_is}
+use Rattle.stack_inverse.proofs.PutRow.{put_is}
 use Rattle.stack_inverse.proofs.pivoting.put_row.Goals as goal
 
 pub returns : goal.returns
-returns g c = row_placed g.T.Whole.value (length c.args.pivot.now) c.args.numbers.now c.args.unders.now
-    c.args.pivot.now c.copy_from_slice.new.self c.args.i c.args.under c.requires.room c.requires.row_in
-    c.requires.positive refl c.copy_from_slice.ensures.after c.requires.under
+returns g c =
+    let r = slice_index_or c.args.rows.now c.args.i c.index-rows-i.result in
+    put_is c.args.rows.now c.args.i _ c.requires.row_in c.args.numbers.now (g.T.Whole.value c.args.under) c.args.fits
+    (with_items_is r.numbers c.copy_from_slice.new.self (c.copy_from_slice.auto.self
+    ∙ ap length c.as_mut_slice.ensures.value ∙ sym r.numbers.ok.0) ∙ c.copy_from_slice.ensures.after) refl refl

@@ -5,6 +5,6 @@ pub first_negative-requires-clause-short : goal.first_negative-requires-clause-s
 first_negative-requires-clause-short g c =
     let v = g.T.Whole.value in
     let f = c.args.first.now in
-    short_row v f.rows f.columns.items c.args.own.now c.args.row.now (v c.args.under) (v f.most) (v c.args.greatest)
-    (v c.in_ok-most.most) f.first c.requires.within c.requires.width c.requires.positive c.in_ok-most.ensures
-    (c.is_short.ensures c.if-not-is_short.false)
+    short_row v f.rows f.columns.items c.args.own.now c.args.row.now (v c.args.under) (v f.top) (v c.args.own_top)
+    (v c.in_ok-whole_top.whole_top) f.first c.requires.within c.requires.width c.requires.positive
+    c.in_ok-whole_top.ensures (c.is_short.ensures c.if-not-is_short.false)

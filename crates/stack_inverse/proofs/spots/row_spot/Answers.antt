@@ -2,8 +2,7 @@ use Rattle.std.proofs.Common.{sym, subst, suc, ◌+◌, length, Option, Some, No
 use Rattle.stack_algebra.proofs.Search.{first_found, first_more, first-none, first_all-none}
 use Rattle.stack_algebra.proofs.Over.{over}
 use Rattle.stack_table.specs.declared.types.Step.{Step}
-use Rattle.stack_rows.specs.RowForm.{under_at}
-use Rattle.stack_inverse.specs.Columns.{revised_number, row_number}
+use Rattle.stack_inverse.specs.Columns.{revised_own, number_with, row_number}
 use Rattle.stack_inverse.specs.CellSteps.{TellsStep}
 use Rattle.stack_inverse.proofs.CellSteps.{step_told}
 use Rattle.stack_inverse.proofs.spots.row_spot.Goals as goal
@@ -11,12 +10,14 @@ use Rattle.stack_inverse.proofs.spots.row_spot.Goals as goal
 pub loop-j-preserved : goal.loop-j-preserved
 loop-j-preserved g c =
     let v = g.T.Whole.value in
-    let f = c.args.first.now in
+    let p = c.args.plain.now in
+    let f = p.first in
+    let row = c.args.row.now in
     first_more c.loop-j.j _ c.loop-j.invariant
-    (step_told (revised_number v f.rows f.columns.items c.args.own.now c.args.numbers.now c.args.unders.now c.args.i)
+    (step_told (number_with v f.rows f.columns.items (revised_own v f.rows p.own.items c.args.i) row.numbers.items
+    (v row.under))
     (row_number v f.rows f.columns.items c.args.pivot.now (v c.args.s.pivot_under))
-    (under_at v c.args.unders.now c.args.i)
-    (v c.args.s.pivot_under) (over (v c.args.s.factor) (v c.args.s.under)) c.args.i c.loop-j.j None
+    (v row.under) (v c.args.s.pivot_under) (over (v c.args.s.factor) (v c.args.s.under)) c.args.i c.loop-j.j None
     (v c.in_ok-number.number) (v c.in_ok-other.other) (v c.args.s.under) c.in_ok-number.ensures
     (c.in_ok-other.ensures (v c.args.s.pivot_under)) c.requires.under
     (subst (λ (o : Option Step). TellsStep o (over (v c.in_ok-number.number) (v c.args.s.under))
@@ -26,20 +27,23 @@ loop-j-preserved g c =
 pub returns-in-Some : goal.returns-in-Some
 returns-in-Some g c =
     let v = g.T.Whole.value in
-    let f = c.args.first.now in
+    let p = c.args.plain.now in
+    let f = p.first in
+    let row = c.args.row.now in
     sym (first_found (suc (length f.columns.items + f.rows)) c.loop-j.j _ _
     (omega (
       arith,
       c.loop-j-test.true,
       c.in_ok-columns.ensures,
-      c.len-plain.ensures,
+      c.len-count.ensures,
       f.columns.ok.0,
-      c.requires.width,
+      c.requires.pivot_width,
     )) c.loop-j.invariant
-    (step_told (revised_number v f.rows f.columns.items c.args.own.now c.args.numbers.now c.args.unders.now c.args.i)
+    (step_told (number_with v f.rows f.columns.items (revised_own v f.rows p.own.items c.args.i) row.numbers.items
+    (v row.under))
     (row_number v f.rows f.columns.items c.args.pivot.now (v c.args.s.pivot_under))
-    (under_at v c.args.unders.now c.args.i)
-    (v c.args.s.pivot_under) (over (v c.args.s.factor) (v c.args.s.under)) c.args.i c.loop-j.j (Some c.in-Some.step)
+    (v row.under) (v c.args.s.pivot_under) (over (v c.args.s.factor) (v c.args.s.under)) c.args.i c.loop-j.j
+    (Some c.in-Some.step)
     (v c.in_ok-number.number) (v c.in_ok-other.other) (v c.args.s.under) c.in_ok-number.ensures
     (c.in_ok-other.ensures (v c.args.s.pivot_under)) c.requires.under
     (subst (λ (o : Option Step). TellsStep o (over (v c.in_ok-number.number) (v c.args.s.under))
@@ -49,14 +53,16 @@ returns-in-Some g c =
 pub returns : goal.returns
 returns g c =
     let v = g.T.Whole.value in
-    let f = c.args.first.now in
+    let p = c.args.plain.now in
+    let f = p.first in
+    let row = c.args.row.now in
     sym (first_all-none (suc (length f.columns.items + f.rows)) _ (λ k l. first-none c.loop-j.j _ c.loop-j.invariant k
     (omega (
       arith,
       l,
       c.loop-j-test.false,
       c.in_ok-columns.ensures,
-      c.len-plain.ensures,
+      c.len-count.ensures,
       f.columns.ok.0,
-      c.requires.width,
+      c.requires.pivot_width,
     ))))

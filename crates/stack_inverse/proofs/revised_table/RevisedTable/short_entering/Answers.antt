@@ -1,20 +1,26 @@
-use Rattle.std.proofs.Common.{◌≡◌, subst, List}
+use Rattle.std.proofs.Common.{◌≡◌, ap, subst, ◌∙◌, ℕ, arith}
 use Rattle.std.specs.Prelude.{IfSome}
-use Rattle.stack_inverse.specs.Columns.{revised_number}
+use lib.IntN.{ℤ}
+use Rattle.stack_inverse.specs.Columns.{RowSeen}
+use Rattle.stack_inverse.specs.RowsSeen.{number_in_row}
 use Rattle.stack_inverse.specs.ShortRow.{least_negative}
+use Rattle.stack_inverse.proofs.PutRow.{width_get, seen_get}
+use Rattle.stack_inverse.proofs.ShortNumbers.{objective_number}
 use Rattle.stack_inverse.proofs.revised_table.RevisedTable.short_entering.Goals as goal
+
+pub short_negative-requires-clause-width : goal.short_negative-requires-clause-width
+short_negative-requires-clause-width g c =
+    let s = c.args.self.now in
+    width_get s.given.first.rows s.rows.items s.given.first.rows c.index.result.now s.height (omega arith) s.wide
+    c.index.ensures
 
 pub returns-clause-value : goal.returns-clause-value
 returns-clause-value g c =
+    let s = c.args.self.now in
     let v = g.T.Whole.value in
-    let f = c.args.self.now.first in
-    let own = c.args.self.now.own.items in
-    let ns = c.args.self.now.numbers.items in
-    let found = c.short_negative.result in
-    subst (λ (ds : List g.row.T.Denot). IfSome found (λ r. r ≡ least_negative (revised_number v f.rows f.columns.items
-    own ns ds f.rows) c.args.among)) c.as_slice-3.ensures.value
-    (subst (λ (xs : List g.row.T.Denot). IfSome found (λ r. r ≡ least_negative (revised_number v f.rows
-    f.columns.items own xs c.as_slice-3.result.now f.rows) c.args.among)) c.as_slice-2.ensures.value
-    (subst (λ (xs : List g.row.T.Denot). IfSome found (λ r. r ≡ least_negative (revised_number v f.rows
-    f.columns.items xs c.as_slice-2.result.now c.as_slice-3.result.now f.rows) c.args.among)) c.as_slice.ensures.value
-    c.short_negative.ensures.value))
+    let m = s.given.first.rows in
+    let x = c.index.result.now in
+    let seen = seen_get s.rows.items m x (omega (arith, s.height)) c.index.ensures in
+    subst (λ (f : ℕ → ℤ). IfSome c.short_negative.result (λ r. r ≡ least_negative f c.args.among))
+    (λ z j. (objective_number v m s.given.first.columns.items s.given.own.items x.numbers.items (v x.under) j
+    ∙ ap (λ (r : RowSeen g.row.T.Denot). number_in_row s.given r m j) seen) z) c.short_negative.ensures.value

@@ -1,9 +1,9 @@
 use Rattle.std.proofs.Common.{◌≡◌, sym, ap, subst, ◌∙◌, get_or, ◌≤◌, unsigned_abs, arith}
 use Rattle.stack_algebra.specs.Ordered.{sign_of}
 use Rattle.stack_bland.specs.Choice.{is_plus}
-use Rattle.stack_rows.specs.RowForm.{under_at}
 use Rattle.stack_rows.proofs.Ratios.{cell_sign}
-use Rattle.stack_inverse.specs.Seen.{shape_of_revised, number_in}
+use Rattle.stack_inverse.specs.Seen.{shape_of_revised, number_in, under_in}
+use Rattle.stack_inverse.proofs.PutRow.{under_positive}
 use Rattle.stack_inverse.proofs.RightSide.{right_fits}
 use Rattle.stack_revised.proofs.Ratio.{is_ratio}
 use Rattle.stack_revised.proofs.tableau.RevisedTableau.ratio_of.Goals as goal
@@ -15,7 +15,7 @@ returns-then-not-is_positive g c =
     let k = c.args._column in
     let is : g.T.Whole.value c.entered-cell.result ≡ number_in t i k = c.entered-cell.ensures
     ∙ c.requires.at_hand i (omega (arith, c.requires.i_in)) in
-    ap is_plus (cell_sign (number_in t i k) (under_at g.T.Whole.value t.unders.items i) (t.positive i)
+    ap is_plus (cell_sign (number_in t i k) (under_in t i) (under_positive t.rows.items i)
     ∙ ap sign_of (sym is)) ∙ sym c.is_positive.ensures.sign ∙ c.if-not-is_positive.true
 
 pub returns : goal.returns
@@ -27,7 +27,7 @@ returns g c =
     let k = c.args._column in
     let is : v c.entered-cell.result ≡ number_in t i k = c.entered-cell.ensures
     ∙ c.requires.at_hand i (omega (arith, c.requires.i_in)) in
-    is_ratio m (number_in t) (under_at v t.unders.items) t.positive (λ i. get_or t.basic.items i 0)
+    is_ratio m (number_in t) (under_in t) (under_positive t.rows.items) (λ i. get_or t.basic.items i 0)
     (shape_of_revised t) k i (v c.right-right.result) (v c.entered-cell.result) c.right-right.ensures is
     (ap (λ z. is_plus (sign_of z)) (sym is) ∙ sym c.is_positive.ensures.sign ∙ c.if-not-is_positive.false)
     (right_fits m g.met.T.Whole.fits_law t i)

@@ -1,0 +1,71 @@
+-- The rows after a pivot.
+use Rattle.std.proofs.Common.{◌≡◌, ◌≢◌, sym, ap, subst, ◌∙◌, ℕ, suc, ◌+◌, ◌<◌, ◌≤◌, true, false, List, length, arith}
+use native.Mathlib.Decide.{ℕ_discrete, dec_lt}
+use lib.IntN.{ℤ}
+use Rattle.stack_algebra.specs.Fraction.{Fraction}
+use Rattle.stack_algebra.proofs.OrderedFractions.{ordered_fractions}
+use Rattle.stack_rational.specs.Order.{is_zero}
+use Rattle.stack_rational.specs.TooWide.{IsWidth, fraction_fits, is_too_wide}
+use Rattle.stack_table.specs.Spots.{cells_spot}
+use Rattle.stack_inverse.specs.declared.columns.Column.{Column}
+use Rattle.stack_inverse.specs.declared.stops.Refusal.{Refusal}
+use Rattle.stack_inverse.specs.CellSteps.{TellsSpot, IsRefused}
+use Rattle.stack_inverse.specs.RowBlock.{IsDividedRow, IsReduced, IsPivotedCells, AreMarked}
+use Rattle.stack_inverse.specs.Columns.{RowSeen, no_row, IsPut, revised_own, cell_with, revised_cell, row_cell}
+use Rattle.stack_inverse.proofs.Division.{cell_outside_zero, cell_outside_fits, put_own}
+use Rattle.stack_inverse.proofs.PivotLoop.{pivoted_cells, tells_refused}
+
+-- the pivot row is divided, and the rows past the last one are none
+module _ {V : Type 0} (value : V → ℤ) (m : ℕ) (columns : List (Column V)) (own : List V) (max : ℤ) (is : IsWidth max)
+    (s : ℕ → RowSeen V) (numbers : List V) (under : ℤ) (r c : ℕ)
+    (divided : IsDividedRow max (revised_cell value m columns own s r) c (row_cell value m columns numbers under))
+    (past : (k : ℕ) → m < k → s k ≡ no_row) where
+  outside : (k : ℕ) → suc m ≤ k → (j : ℕ) → is_zero (revised_cell value m columns own s k j) ≡ true
+  outside k l j = cell_outside_zero value m columns own s k j (omega (arith, l)) (past k (omega (arith, l)))
+
+  outside_fits : (k : ℕ) → suc m ≤ k → (j : ℕ) → fraction_fits max (revised_cell value m columns own s k j) ≡ true
+  outside_fits k l j = cell_outside_fits value m columns own s max is k j (omega (arith, l)) (past k (omega (arith, l)))
+
+  -- what is refused of a row is refused of the pivot
+  pub refused : (e : Refusal) → IsRefused max (suc m) (suc (length columns + m)) (revised_cell value m columns own s)
+      (row_cell value m columns numbers under) r c e →
+      TellsSpot e (cells_spot ordered_fractions (is_too_wide max) (suc m) (suc (length columns + m))
+      (revised_cell value m columns own s) r c)
+  refused e x = tells_refused max is (suc m) (suc (length columns + m)) (revised_cell value m columns own s)
+      (row_cell value m columns numbers under) r c divided.cell divided.none outside outside_fits e x
+
+  -- the other rows are reduced, and the pivot row is put
+  module _ (u t : ℕ → RowSeen V) (l : r < m) (past_too : (k : ℕ) → m < k → u k ≡ no_row)
+      (put : IsPut u r numbers under true t)
+      (each : (k : ℕ) → k < suc m → (k ≢ r) → IsReduced max (suc (length columns + m))
+      (revised_cell value m columns own s k) (row_cell value m columns numbers under) k c
+      (revised_cell value m columns own u k)) where
+    stays : (k j : ℕ) → k ≢ r → revised_cell value m columns own t k j ≡ revised_cell value m columns own u k j
+    stays k j n = λ z. cell_with value m columns (revised_own value m own k) (put.other k n z).numbers
+        (put.other k n z).under j
+
+    past_stays : (k : ℕ) → suc m ≤ k → (j : ℕ) → k ≢ r →
+        revised_cell value m columns own t k j ≡ revised_cell value m columns own s k j
+    past_stays k q j n = stays k j n ∙ (λ z. cell_with value m columns (revised_own value m own k)
+        ((past_too k (omega (arith, q)) ∙ sym (past k (omega (arith, q)))) z).numbers
+        ((past_too k (omega (arith, q)) ∙ sym (past k (omega (arith, q)))) z).under j)
+
+    pub pivoted : IsPivotedCells max (suc m) (suc (length columns + m)) (revised_cell value m columns own s) r c
+        (revised_cell value m columns own t)
+    pivoted = pivoted_cells max is (suc m) (suc (length columns + m)) (revised_cell value m columns own s)
+        (row_cell value m columns numbers under) r c divided.cell divided.none outside outside_fits
+        (revised_cell value m columns own t) (put_own value m columns own u t r numbers under true l put)
+        (λ k q n. subst (λ (f : ℕ → Fraction). IsReduced max (suc (length columns + m))
+        (revised_cell value m columns own s k) (row_cell value m columns numbers under) k c f)
+        (λ z j. sym (stays k j n) z) (each k q n)) past_stays
+
+    -- and all cells fit
+    pub marked : AreMarked max (revised_cell value m columns own t) t
+    marked k e j = go (ℕ_discrete k r) (dec_lt k (suc m))
+      where
+        go : Dec (k ≡ r) → Dec (k < suc m) → fraction_fits max (revised_cell value m columns own t k j) ≡ true
+        go (yes q) d = ap (λ n. fraction_fits max (revised_cell value m columns own t n j)) q
+            ∙ ap (fraction_fits max) (put_own value m columns own u t r numbers under true l put j) ∙ divided.fits j
+        go (no n) (yes q) = ap (fraction_fits max) (stays k j n) ∙ (each k q n).fits j
+        go (no n) (no q) = let b : false ≡ true = sym (ap (λ (x : RowSeen V). x.fits) (put.other k n
+            ∙ past_too k (omega (arith, q)))) ∙ e in absurd cc

@@ -1,7 +1,0 @@
-use Rattle.std.proofs.Common.{ℕ, ◌<◌, ◌≤◌, unsigned_abs}
-use Rattle.stack_rows.specs.RowForm.{number_at}
-use Rattle.stack_inverse.proofs.making.widest_of.Given as goal
-
-abbrev pub invariant-loop-k : goal.invariant-loop-k
-invariant-loop-k g l = (i : ℕ) → i < l.k →
-    unsigned_abs (number_at g.T.Whole.value l.numbers i) ≤ unsigned_abs (g.T.Whole.value l.most)

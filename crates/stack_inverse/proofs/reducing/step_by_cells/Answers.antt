@@ -1,0 +1,31 @@
+use Rattle.std.proofs.Common.{sym, ◌∙◌}
+use Rattle.stack_algebra.proofs.Over.{over}
+use Rattle.stack_algebra.proofs.OrderedFractions.{ordered_fractions}
+use Rattle.stack_rational.specs.TooWide.{is_too_wide}
+use Rattle.stack_table.specs.Spots.{reduce_spot}
+use Rattle.stack_inverse.specs.Columns.{row_cell}
+use Rattle.stack_inverse.specs.RowsSeen.{seen_of, cell_in_row, columns_of}
+use Rattle.stack_inverse.proofs.reducing.step_by_cells.Goals as goal
+
+pub row_spot-requires-clause-widest : goal.row_spot-requires-clause-widest
+row_spot-requires-clause-widest g c = c.is_widest.ensures c.if-not-is_widest.false
+
+pub returns-in-Some-Some-clause-wide : goal.returns-in-Some-Some-clause-wide
+returns-in-Some-Some-clause-wide g c =
+    let v = g.T.Whole.value in
+    let p = c.args.plain.now in
+    let s = c.args.s in
+    (λ z. reduce_spot ordered_fractions (is_too_wide (c.is_widest.ensures c.if-not-is_widest.false z)) (columns_of p)
+    (cell_in_row p (seen_of c.args.row.now) c.args.i) (row_cell v p.first.rows p.first.columns.items
+    (sym c.as_slice.ensures.value z) (sym c.requires.pivot_under z)) (over (v s.factor) (v s.under)) c.args.i)
+    ∙ sym (sym c.in-Some-Some.field-0-is ∙ c.in-Some-Some.ensures)
+
+pub returns-in-Some-clause-none : goal.returns-in-Some-clause-none
+returns-in-Some-clause-none g c =
+    let v = g.T.Whole.value in
+    let p = c.args.plain.now in
+    let s = c.args.s in
+    (λ z. reduce_spot ordered_fractions (is_too_wide (c.is_widest.ensures c.if-not-is_widest.false z)) (columns_of p)
+    (cell_in_row p (seen_of c.args.row.now) c.args.i) (row_cell v p.first.rows p.first.columns.items
+    (sym c.as_slice.ensures.value z) (sym c.requires.pivot_under z)) (over (v s.factor) (v s.under)) c.args.i)
+    ∙ sym (sym c.in-Some-None.field-0-is ∙ c.in-Some-None.ensures)
