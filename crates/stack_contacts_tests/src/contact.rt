@@ -1,0 +1,196 @@
+//! Contacts of pairs and surveys of models, worked by hand.
+
+use crate::drawings::{Block, Drawing, GROUND, at, bearing, model_of};
+use stack_contact::types::{Contacts, SurveyError, Touch};
+use stack_contact::{contacts, survey, survey_again};
+use stack_frame::Frame;
+use stack_polygon::Polygon;
+use std::alloc::Global;
+use std::test::*;
+
+fn polygon(alloc: Global, corners: &[(i64, i64)]) -> Result<Polygon, Fail> {
+    let mut points = Vec::new(alloc);
+    for (x, y) in corners {
+        points.push(at(*x, *y))?;
+    }
+    Ok(Polygon::new(points)?)
+}
+
+fn pair(
+    alloc: Global,
+    first: &[(i64, i64)],
+    second: &[(i64, i64)],
+) -> Result<Option<Contacts>, Fail> {
+    let p = polygon(alloc, first)?;
+    let q = polygon(alloc, second)?;
+    Ok(contacts(&p, &q))
+}
+
+const BASE: [(i64, i64); 4] = [(0, 0), (10, 0), (10, 2), (0, 2)];
+
+#[test]
+fn a_block_on_part_of_a_face_bears_at_two_points(rt: HostRuntime) -> Result<(), Fail> {
+    let found = pair(rt.alloc(), &BASE, &[(4, 2), (14, 2), (14, 4), (4, 4)])?;
+    let bears = Contacts::AtTwo {
+        from: at(4, 2),
+        to: at(10, 2),
+        frame: Frame { tx: 1, ty: 0 },
+    };
+    assert_eq!(rt; found, Some(bears));
+    Ok(())
+}
+
+#[test]
+fn a_stone_on_its_point_bears_there(rt: HostRuntime) -> Result<(), Fail> {
+    let found = pair(rt.alloc(), &BASE, &[(4, 2), (5, 3), (4, 4), (3, 3)])?;
+    let bears = Contacts::AtOne {
+        at: at(4, 2),
+        frame: Frame { tx: 1, ty: 0 },
+    };
+    assert_eq!(rt; found, Some(bears));
+    Ok(())
+}
+
+#[test]
+fn a_corner_on_a_corner_touches(rt: HostRuntime) -> Result<(), Fail> {
+    let found = pair(rt.alloc(), &BASE, &[(10, 2), (12, 2), (12, 4), (10, 4)])?;
+    assert_eq!(rt; found, Some(Contacts::Touching(at(10, 2))));
+    Ok(())
+}
+
+#[test]
+fn blocks_apart_are_free_and_blocks_that_overlap_have_no_contacts(
+    rt: HostRuntime,
+) -> Result<(), Fail> {
+    let far = pair(rt.alloc(), &BASE, &[(20, 2), (22, 2), (22, 4), (20, 4)])?;
+    assert_eq!(rt; far, Some(Contacts::Free));
+    let over = pair(rt.alloc(), &BASE, &[(4, 1), (14, 1), (14, 4), (4, 4)])?;
+    assert_eq!(rt; over, None);
+    Ok(())
+}
+
+/// The ground; three fixed blocks, of which the first overlaps it, the second lies beside it, and the third bears on
+/// the second; a post on the ground, and a block that touches it at its corner.
+const SIX: Drawing = Drawing {
+    blocks: &[
+        GROUND,
+        Block {
+            name: "over",
+            fixed: true,
+            low: [5, -1],
+            high: [15, 0],
+        },
+        Block {
+            name: "beside",
+            fixed: true,
+            low: [-12, -1],
+            high: [-10, 0],
+        },
+        Block {
+            name: "above",
+            fixed: true,
+            low: [-12, 0],
+            high: [-10, 1],
+        },
+        Block {
+            name: "post",
+            fixed: false,
+            low: [0, 0],
+            high: [2, 4],
+        },
+        Block {
+            name: "touching",
+            fixed: false,
+            low: [2, 4],
+            high: [4, 6],
+        },
+    ],
+    weights: &[],
+    joint: None,
+    sway: [0, 0],
+};
+
+#[test]
+fn a_survey_lists_bearings_touches_and_free_blocks(rt: HostRuntime) -> Result<(), Fail> {
+    let alloc = rt.alloc();
+    let six = survey(alloc, model_of(alloc, SIX)?)?;
+    let bearings = [bearing(0, 4, at(0, 0), 2), bearing(0, 4, at(2, 0), 2)];
+    let touch = Touch {
+        first: 4,
+        second: 5,
+        at: at(2, 4),
+    };
+    assert_eq!(rt; six.bearings(), bearings.as_slice());
+    assert_eq!(rt; six.touches(), [touch].as_slice());
+    assert_eq!(rt; six.model().bodies(), 6);
+    assert_eq!(rt; six.free_count(), 2);
+    assert_eq!(rt; six.free(1), 5);
+    assert_eq!(rt; six.free_number(5), 1);
+    let again = survey_again(alloc, &six, six.model().with_loads(alloc, &[], (0, 0))?)?;
+    assert_eq!(rt; again.bearings(), bearings.as_slice());
+    assert_eq!(rt; again.touches(), [touch].as_slice());
+    Ok(())
+}
+
+const LEFT: Block = Block {
+    name: "left",
+    fixed: false,
+    low: [0, 0],
+    high: [2, 2],
+};
+/// It overlaps the left one.
+const OVER_LEFT: Block = Block {
+    name: "over_left",
+    fixed: false,
+    low: [1, 1],
+    high: [3, 3],
+};
+/// It overlaps the ground.
+const SUNK: Block = Block {
+    name: "sunk",
+    fixed: false,
+    low: [5, -1],
+    high: [7, 1],
+};
+
+const RIGHT: Block = Block {
+    name: "right",
+    fixed: false,
+    low: [10, 0],
+    high: [12, 2],
+};
+/// It overlaps the right one.
+const OVER_RIGHT: Block = Block {
+    name: "over_right",
+    fixed: false,
+    low: [11, 1],
+    high: [13, 3],
+};
+
+/// Why these blocks have no survey.
+fn refused(alloc: Global, blocks: &'static [Block]) -> Result<Option<SurveyError>, Fail> {
+    let drawing = Drawing { blocks, ..SIX };
+    Ok(survey(alloc, model_of(alloc, drawing)?).err())
+}
+
+#[test]
+fn the_first_pair_that_overlaps_is_named(rt: HostRuntime) -> Result<(), Fail> {
+    let overlap = SurveyError::Overlap {
+        first: 0,
+        second: 3,
+    };
+    let found = refused(rt.alloc(), &[GROUND, LEFT, OVER_LEFT, SUNK])?;
+    assert_eq!(rt; found, Some(overlap));
+    Ok(())
+}
+
+#[test]
+fn the_first_pair_is_named_where_another_lies_further_left(rt: HostRuntime) -> Result<(), Fail> {
+    let overlap = SurveyError::Overlap {
+        first: 0,
+        second: 1,
+    };
+    let found = refused(rt.alloc(), &[RIGHT, OVER_RIGHT, LEFT, OVER_LEFT])?;
+    assert_eq!(rt; found, Some(overlap));
+    Ok(())
+}

@@ -1,0 +1,121 @@
+//! Rows at the three widths, and agreement with plain arithmetic that uses nothing of this crate.
+
+use stack_rational::{Exact, Frac, Op, OpWide, ScaleWide, common_scale};
+use std::cmp::Ordering;
+
+mod plain;
+
+/// n over d, if both fit.
+fn fraction<E: Exact>(n: i128, d: i128) -> Option<E> {
+    let Ok(num) = E::from_whole(n) else {
+        return None;
+    };
+    let Ok(den) = E::from_whole(d) else {
+        return None;
+    };
+    match apply(Op::Quotient, num, den) {
+        Ok(x) => Some(x),
+        Err(_) => None,
+    }
+}
+
+/// The answer of an operation; a quotient by 0 isn't asked for.
+fn apply<E: Exact>(op: Op, left: E, right: E) -> Result<E, OpWide> {
+    match op {
+        Op::Whole => Ok(left),
+        Op::Sum => left.sum(right),
+        Op::Difference => left.difference(right),
+        Op::Product => left.product(right),
+        Op::Quotient => {
+            if right.is_zero() {
+                Ok(left)
+            } else {
+                left.quotient(right)
+            }
+        }
+    }
+}
+
+/// The answer of an operation, on parts and as parts.
+fn answer<E: Exact>(op: Op, a: i128, b: i128, c: i128, d: i128) -> Result<(i128, i128), OpWide> {
+    let Some(left) = fraction::<E>(a, b) else {
+        return Err(OpWide { op: Op::Whole });
+    };
+    let Some(right) = fraction::<E>(c, d) else {
+        return Err(OpWide { op: Op::Whole });
+    };
+    match apply(op, left, right) {
+        Ok(x) => Ok(x.parts()),
+        Err(e) => Err(e),
+    }
+}
+
+fn order<E: Exact>(a: i128, b: i128, c: i128, d: i128) -> Option<Ordering> {
+    let left = fraction::<E>(a, b)?;
+    let right = fraction::<E>(c, d)?;
+    Some(left.order(right))
+}
+
+/// What holds at every width.
+fn holds_at_a_width<E: Exact>() -> bool {
+    answer::<E>(Op::Sum, 1, 2, 1, 3) == Ok((5, 6))
+        && answer::<E>(Op::Difference, 1, 2, 1, 2) == Ok((0, 1))
+        && answer::<E>(Op::Product, 100, 3, 3, 100) == Ok((1, 1))
+        && answer::<E>(Op::Quotient, 100, 127, 100, 127) == Ok((1, 1))
+        && answer::<E>(Op::Quotient, 1, 2, -3, 4) == Ok((-2, 3))
+        && answer::<E>(Op::Sum, E::MAX, 1, 1, 1) == Err(OpWide { op: Op::Sum })
+        && answer::<E>(Op::Difference, -E::MAX, 1, 1, 1) == Err(OpWide { op: Op::Difference })
+        && order::<E>(-127, 1, 127, 1) == Some(Ordering::Less)
+        && order::<E>(100, 127, 101, 126) == Some(Ordering::Less)
+        && order::<E>(2, 4, 1, 2) == Some(Ordering::Equal)
+}
+
+#[test]
+fn one_body_holds_at_8_64_and_128_bits(rt: HostRuntime) {
+    assert!(rt; holds_at_a_width::<Frac<i8>>());
+    assert!(rt; holds_at_a_width::<Frac<i64>>());
+    assert!(rt; holds_at_a_width::<Frac<i128>>());
+}
+
+#[test]
+fn rows_at_8_bits(rt: HostRuntime) {
+    assert!(rt; answer::<Frac<i8>>(Op::Whole, -128, 1, 1, 1) == Err(OpWide { op: Op::Whole }));
+    assert!(rt; answer::<Frac<i8>>(Op::Sum, 1, 127, 1, 126) == Err(OpWide { op: Op::Sum }));
+    assert!(rt; answer::<Frac<i8>>(Op::Sum, 65, 2, 65, 2) == Err(OpWide { op: Op::Sum }));
+    assert!(rt; answer::<Frac<i8>>(Op::Sum, 1, 6, 1, 10) == Ok((4, 15)));
+    assert!(rt; answer::<Frac<i8>>(Op::Product, 12, 1, 12, 1) == Err(OpWide { op: Op::Product }));
+    assert!(rt; answer::<Frac<i8>>(Op::Quotient, 12, 1, 1, 12) == Err(OpWide { op: Op::Quotient }));
+}
+
+/// The common scale of two fractions, and the first of them at a scale.
+fn scaled(
+    first: (i128, i128),
+    second: (i128, i128),
+    scale: i128,
+) -> Option<(Result<i128, ScaleWide>, Option<i128>)> {
+    let left = fraction::<Frac<i128>>(first.0, first.1)?;
+    let right = fraction::<Frac<i128>>(second.0, second.1)?;
+    let at_scale = if 0 < scale { left.scaled(scale) } else { None };
+    Some((common_scale(&[left, right]), at_scale))
+}
+
+#[test]
+fn a_list_has_a_common_scale(rt: HostRuntime) {
+    let wide = Err(ScaleWide { index: 1 });
+    assert!(rt; scaled((3, 4), (5, 6), 12) == Some((Ok(12), Some(9))));
+    assert!(rt; scaled((1, i128::MAX), (1, 2), i128::MAX) == Some((wide, Some(1))));
+    assert!(rt; common_scale(&[]) == Ok(1));
+}
+
+#[test]
+fn signs_and_the_numbers_0_and_1(rt: HostRuntime) {
+    let sign = match fraction::<Frac<i64>>(-3, 7) {
+        Some(x) => x.sign(),
+        None => 0,
+    };
+    assert!(rt; sign == -1);
+    let zero: Frac<i64> = Exact::zero();
+    let one: Frac<i64> = Exact::one();
+    assert!(rt; zero.is_zero() && zero.sign() == 0 && zero.parts() == (0, 1));
+    assert!(rt; !one.is_zero() && one.sign() == 1 && one.parts() == (1, 1));
+}

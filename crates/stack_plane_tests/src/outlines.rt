@@ -1,0 +1,31 @@
+//! Points and polygons by their coordinates.
+
+ghost use Rattle.std.specs.Prelude.{◌≡◌};
+
+use stack_polygon::{Point, Polygon, PolygonError};
+use std::alloc::Global;
+use std::test::Fail;
+
+pub fn at(x: i64, y: i64) -> Point
+    ensures x { result.x ≡ x }
+    ensures y { result.y ≡ y }
+{
+    Point { x, y }
+}
+
+/// What becomes of a list of corners.
+pub fn outline(
+    alloc: Global,
+    corners: &[(i64, i64)],
+) -> Result<Result<Polygon, PolygonError>, Fail> {
+    let mut points = Vec::new(alloc);
+    for (x, y) in corners {
+        points.push(at(*x, *y))?;
+    }
+    Ok(Polygon::new(points))
+}
+
+/// The polygon with these corners.
+pub fn polygon_of(alloc: Global, corners: &[(i64, i64)]) -> Result<Polygon, Fail> {
+    Ok(outline(alloc, corners)??)
+}

@@ -1,0 +1,115 @@
+//! Small structures worked by hand: their loads, sums, openings, powers and columns.
+
+use crate::drawings::{Borne, Drawing, GROUND, PUSHED, STANDING, forces, motion, surveyed};
+use stack_contact::types::Survey;
+use stack_equilibrium::types::{Question, SumWide, Wrench};
+use stack_equilibrium::{column, dead, live, opening, power, residue};
+use std::alloc::Global;
+use std::test::*;
+
+/// The residue of the first free block.
+fn residue_of(alloc: Global, s: &Survey, borne: Borne) -> Result<Result<Wrench, SumWide>, Fail> {
+    let forces = forces(alloc, borne)?;
+    if forces.parts.len() != s.bearings().len() {
+        return Err(Fail::from("another number of parts"));
+    }
+    if s.free_count() == 0 {
+        return Err(Fail::from("no free block"));
+    }
+    Ok(residue(s, &forces, 0))
+}
+
+fn wrench(fx: i128, fy: i128, m: i128) -> Wrench {
+    Wrench { fx, fy, m }
+}
+
+#[test]
+fn the_pushed_post_tips_at_twice_the_push(rt: HostRuntime) -> Result<(), Fail> {
+    let alloc = rt.alloc();
+    let s = surveyed(alloc, PUSHED)?;
+    assert_eq!(rt; s.free_count(), 1);
+    assert_eq!(rt; s.bearings().len(), 2);
+    assert_eq!(rt; dead(&s, 0), wrench(0, -48, -48));
+    assert_eq!(rt; live(&s, 0), wrench(6, 0, -24));
+    let held = residue_of(alloc, &s, (1, 2, &[(0, 0), (48, -12)]))?;
+    assert_eq!(rt; held, Ok(wrench(0, 0, 0)));
+    let heavier = residue_of(alloc, &s, (1, 2, &[(0, 0), (49, -12)]))?;
+    assert_eq!(rt; heavier, Ok(wrench(0, 1, 2)));
+    let tips = motion(alloc, &[(0, 2, -1)])?;
+    assert_eq!(rt; tips.moves.len(), 1);
+    assert_eq!(rt; opening(&s, &tips, 0), Ok((2, 0)));
+    assert_eq!(rt; opening(&s, &tips, 1), Ok((0, 0)));
+    assert_eq!(rt; power(&s, &tips, Question::Live), Ok(24));
+    assert_eq!(rt; power(&s, &tips, Question::Dead), Ok(-48));
+    Ok(())
+}
+
+#[test]
+fn a_sway_acts_at_the_centroid_beside_the_live_loads(rt: HostRuntime) -> Result<(), Fail> {
+    let alloc = rt.alloc();
+    let swayed = Drawing {
+        sway: [1, 0],
+        ..STANDING
+    };
+    let s = surveyed(alloc, swayed)?;
+    assert_eq!(rt; s.free_count(), 1);
+    assert_eq!(rt; dead(&s, 0), wrench(0, -48, -48));
+    assert_eq!(rt; live(&s, 0), wrench(48, 0, -96));
+    let both = Drawing {
+        sway: [1, -2],
+        ..PUSHED
+    };
+    let pushed = surveyed(alloc, both)?;
+    assert_eq!(rt; pushed.free_count(), 1);
+    assert_eq!(rt; live(&pushed, 0), wrench(54, -96, -216));
+    Ok(())
+}
+
+/// A triangle above the ground, which is swayed to the right.
+const GABLE: Drawing = Drawing {
+    bodies: &[GROUND, &[[1, 2], [7, 2], [3, 5]]],
+    sway: [1, 0],
+    ..STANDING
+};
+
+/// The triangle weighs 9, and its centroid is 8/3 to the right of its first corner and 1 above it. The sway (1, 0) is 9
+/// to the right there, which turns by -9*1. The sway (2, -1) is 18 to the right and 9 downwards, which turn by
+/// -18*1 - 9*8/3 = -42. Six times each are the loads, and -6*9*8/3 = -144 is the moment of the weight.
+#[test]
+fn a_triangle_sways_by_all_three_parts_about_its_first_corner(rt: HostRuntime) -> Result<(), Fail> {
+    let alloc = rt.alloc();
+    let pushed = surveyed(alloc, GABLE)?;
+    assert_eq!(rt; pushed.free_count(), 1);
+    assert_eq!(rt; dead(&pushed, 0), wrench(0, -54, -144));
+    assert_eq!(rt; live(&pushed, 0), wrench(54, 0, -54));
+    let aslant = Drawing {
+        sway: [2, -1],
+        ..GABLE
+    };
+    let aslant = surveyed(alloc, aslant)?;
+    assert_eq!(rt; aslant.free_count(), 1);
+    assert_eq!(rt; live(&aslant, 0), wrench(108, -54, -252));
+    Ok(())
+}
+
+/// A flat block on the ground, and another on it.
+const TWO: Drawing = Drawing {
+    friction: [1, 2],
+    bodies: &[
+        GROUND,
+        &[[0, 0], [2, 0], [2, 1], [0, 1]],
+        &[[0, 1], [2, 1], [2, 2], [0, 2]],
+    ],
+    ..STANDING
+};
+
+#[test]
+fn a_bearing_acts_on_both_bodies_and_on_no_other(rt: HostRuntime) -> Result<(), Fail> {
+    let s = surveyed(rt.alloc(), TWO)?;
+    assert_eq!(rt; s.free_count(), 2);
+    assert_eq!(rt; s.bearings().len(), 4);
+    assert_eq!(rt; column(&s, 0, true, 1), wrench(0, 0, 0));
+    assert_eq!(rt; column(&s, 2, true, 1), wrench(1, 2, 0));
+    assert_eq!(rt; column(&s, 2, true, 0), wrench(-1, -2, 1));
+    Ok(())
+}
