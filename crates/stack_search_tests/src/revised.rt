@@ -1,7 +1,7 @@
 //! Runs worked by hand.
 
 use crate::problems::{column, problem};
-use stack_last::EndKind;
+use stack_tableau::EndKind;
 use stack_revised::ended::RevisedEnd;
 use stack_revised::{RevisedStop, run_revised};
 use stack_run::RunPlace;
