@@ -7,6 +7,7 @@ use Rattle.stack_reader.specs.Reading.{structure_of}
 use Rattle.stack_overhang.specs.declared.error.StackError.{StackError}
 use Rattle.stack_overhang.specs.declared.error.StackError.TheVariants as built
 use Rattle.stack_contact.specs.Surveyed.{Surveyed, IsSurvey}
+use Rattle.stack_walls.specs.Surveying.{DrawnWallsHaveSurveys}
 use Rattle.stack_certificate.specs.Certificate.{CertificateValue}
 use Rattle.stack_equilibrium.specs.declared.types.Question.TheVariants.{Live}
 use Rattle.stack_judge.specs.Judgement.{Judgement, certified, too_wide, spent, unjudged, judgement}
@@ -34,6 +35,7 @@ use Rattle.stack_cli.specs.Said.{Writes, ContactsSay, StackSays, SampleSays}
 use Rattle.stack_forms.proofs.Ways.{goes_on, came_from}
 use Rattle.stack_forms.proofs.AcceptedFiles.{only_accepted, all_accepted}
 use Rattle.stack_cli.proofs.Deciding.{wide_is_seven, wide_settled}
+use Rattle.stack_cli.proofs.SampleRefused.{wall_surveyed, too_great, has_wide, has_spent}
 use Rattle.stack_cli.proofs.SettledEnds.{given_or_memory}
 
 -- exactly this text, affirmed, was given out, unless memory is wanting
@@ -238,7 +240,7 @@ unfolding sample_work
 sample_size holds number is =
     subst (λ r. Ends holds (built_step r >>= wall_sampled number) [] (Err (faulty size))) (sym is) (refl, inl refl)
 
-module _ (status : ℕ) (shelf : ShelfSeen) (out err : StreamSeen) (number : ℕ)
+module _ (drawn : DrawnWallsHaveSurveys) (status : ℕ) (shelf : ShelfSeen) (out err : StreamSeen) (number : ℕ)
     (m : RunMeets status (Some (sample number)) shelf out err) where
   summing : status < 2 → (status ≡ 0) × ((s : Structure) × (v : Surveyed) × (c : CertificateValue)
       × (sample_of number ≡ Ok s) × IsSurvey s v × IsJudged Live v c
@@ -312,22 +314,26 @@ module _ (status : ℕ) (shelf : ShelfSeen) (out err : StreamSeen) (number : ℕ
   sample_answer : SampleSays number status shelf out
   sample_answer = record {
     never_denied = λ e. let h = (summing (omega (arith, e))).0 in absurd (omega (arith, h, e));
+    surveyed = λ s is. wall_surveyed drawn number s is;
     summed = λ e. (summing (omega (arith, e))).1;
     complete = λ neither s v c is survey judged. summed v c (given_or_memory m neither [] tt
         (Ok (summary number v c (is_narrow Live v default_budget))) tt
         (sample_way shelf.holds number s v c is survey judged));
     without_size = λ neither is. has_status 5 (faulty size) refl
         (given_or_memory m neither [] tt (Err (faulty size)) tt (sample_size shelf.holds number is));
+    only_without_size = too_great drawn status shelf out err number m;
     wide = λ neither s v p is survey judged. has_status 7 (faulty (wide_fault v.structure p))
         (wide_is_seven Whole v.structure p) (given_wide neither s v p is survey judged);
+    only_wide = has_wide drawn status shelf out err number m;
     over_budget = λ neither s v is survey judged. has_status 8 (faulty (over_budget default_budget)) refl
         (given_spent neither s v is survey judged);
+    only_over_budget = has_spent drawn status shelf out err number m;
     only = λ neither s v is survey. by_judgement neither s v is survey (judgement Live v default_budget) refl;
   }
 
-pub sample_says : {status : ℕ} {form : Option Form} {shelf : ShelfSeen} {out err : StreamSeen}
-    → RunMeets status form shelf out err
+pub sample_says : DrawnWallsHaveSurveys → {status : ℕ} {form : Option Form} {shelf : ShelfSeen}
+    {out err : StreamSeen} → RunMeets status form shelf out err
     → (number : ℕ) → form ≡ Some (sample number) → SampleSays number status shelf out
-sample_says {status} {form} {shelf} {out} {err} m number is =
-    sample_answer status shelf out err number
+sample_says drawn {status} {form} {shelf} {out} {err} m number is =
+    sample_answer drawn status shelf out err number
     (subst (λ f. RunMeets status f shelf out err) is m)

@@ -18,6 +18,7 @@ mod CertificateEnds
 mod CertificateFile
 mod LengthAnswered
 mod TableAnswered
+mod SampleRefused
 mod FormsAnswered
 mod PrintedAnswered
 mod Deciding

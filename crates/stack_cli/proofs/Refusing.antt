@@ -3,6 +3,7 @@ use Rattle.std.specs.Prelude.{◌≤◌, ℕ, Option, None, Result, Err}
 use native.Mathlib.Omega.{arith}
 use Rattle.stack_outside.specs.declared.shelf.Shelf.{Ghosts as ShelfGhosts}
 use Rattle.stack_outside.specs.Seen.{StreamSeen, seen_shelf}
+use Rattle.stack_walls.specs.Surveying.{DrawnWallsHaveSurveys}
 use Rattle.stack_lines.specs.declared.answer.Answer.{Answer}
 use Rattle.stack_lines.specs.declared.refusal.Refusal.{Refusal as CodeRefusal}
 use Rattle.stack_forms.specs.Progress.{Works}
@@ -13,15 +14,16 @@ use Rattle.stack_cli.specs.Runs.{Runs}
 use Rattle.stack_cli.proofs.Consequences.{run_meets}
 use Rattle.stack_cli.proofs.RunSaid.{run_says}
 
-pub refused_runs : PrintedIsAccepted → {F : Type 0} (shelf : ShelfGhosts F) (old : F) (r : CodeRefusal) (status : ℕ)
-    (out err : StreamSeen) → Works None (seen_shelf shelf old old) (Err r) → Delivers (Err r) status out err
+pub refused_runs : PrintedIsAccepted → DrawnWallsHaveSurveys → {F : Type 0} (shelf : ShelfGhosts F) (old : F)
+    (r : CodeRefusal) (status : ℕ) (out err : StreamSeen) → Works None (seen_shelf shelf old old) (Err r)
+    → Delivers (Err r) status out err
     → PutsAnswer status out → PutsLine status err → out.faults ≤ out.faults_after → err.faults ≤ err.faults_after
     → Runs status None (seen_shelf shelf old old) out err
-refused_runs law shelf old r status out err works delivers one_put one_line out_later err_later =
+refused_runs law drawn shelf old r status out err works delivers one_put one_line out_later err_later =
     let meets = run_meets None (seen_shelf shelf old old) out err (Err r) status works delivers in
     record {
       meets = meets;
-      says = run_says law meets;
+      says = run_says law drawn meets;
       one_put = one_put;
       one_line = one_line;
       holds = works.holds;

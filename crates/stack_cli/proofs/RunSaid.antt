@@ -1,6 +1,7 @@
 -- What a run says in plain words, out of the theorem on the order of work.
 use Rattle.std.proofs.Common.{ℕ, Option}
 use Rattle.stack_outside.specs.Seen.{ShelfSeen, StreamSeen}
+use Rattle.stack_walls.specs.Surveying.{DrawnWallsHaveSurveys}
 use Rattle.stack_forms.specs.Forms.{Form}
 use Rattle.stack_cli.specs.MainTheorem.{RunMeets}
 use Rattle.stack_cli.specs.Printed.{PrintedIsAccepted}
@@ -24,9 +25,9 @@ use Rattle.stack_cli.proofs.StagesRefused.{stages_refuse}
 use Rattle.stack_cli.proofs.TableAnswered.{table_says}
 use Rattle.stack_cli.proofs.YieldAnswered.{region_says}
 
-pub run_says : PrintedIsAccepted → {status : ℕ} {form : Option Form} {shelf : ShelfSeen} {out err : StreamSeen}
-    → RunMeets status form shelf out err → RunSays status form shelf out err
-run_says law m = record {
+pub run_says : PrintedIsAccepted → DrawnWallsHaveSurveys → {status : ℕ} {form : Option Form} {shelf : ShelfSeen}
+    {out err : StreamSeen} → RunMeets status form shelf out err → RunSays status form shelf out err
+run_says law drawn m = record {
   headline = headline_of m;
   printed = prints_truly m;
   accepted = check_says m;
@@ -34,7 +35,7 @@ run_says law m = record {
   tabled = table_says m;
   listed = contacts_say m;
   stacked = stack_says m;
-  sampled = sample_says m;
+  sampled = sample_says drawn m;
   model = model_says m;
   certificate = certificate_says m;
   length = length_says m;

@@ -17,6 +17,7 @@ use Rattle.stack_judge.specs.NarrowWork.{is_narrow}
 use Rattle.stack_report.specs.ContactTable.{contacts_text}
 use Rattle.stack_report.specs.ForceNumbers.{wide_index}
 use Rattle.stack_report.specs.Summary.{summary_text}
+use Rattle.stack_walls.specs.Surveying.{HasSurvey}
 use Rattle.stack_forms.specs.declared.forms.Kind.{Kind}
 use Rattle.stack_forms.specs.Judging.{default_budget}
 use Rattle.stack_forms.specs.Surveying.{greatest_file}
@@ -68,10 +69,13 @@ pub record StackSays (kind : Kind) (n status : ℕ) (shelf : ShelfSeen) (out : S
   pub only_without_size : status ≡ 5 → stack_of kind n ≡ Err Size
 
 -- `sample`: the wall with this number has this survey, the certificate of its live question is true, so that a factor
--- it prints is the greatest, and its summary was written. Each cause of a refusal has its status: a number past the
--- greatest, a number of the judgement that is too wide, its budget that is spent.
+-- it prints is the greatest, and its summary was written. Each cause of a refusal has its status, and these statuses
+-- have no other cause, whatever the devices did: a number past the greatest, a number of the judgement that is too
+-- wide, its budget that is spent.
 pub record SampleSays (number status : ℕ) (shelf : ShelfSeen) (out : StreamSeen) : Type 0 where
   pub never_denied : status ≢ 1
+  -- each wall has a survey, so surveying it is never refused
+  pub surveyed : (s : Structure) → sample_of number ≡ Ok s → HasSurvey s
   pub summed : status ≡ 0 → (s : Structure) × (v : Surveyed) × (c : CertificateValue) × (sample_of number ≡ Ok s)
       × IsSurvey s v × IsJudged Live v c
       × Took out (summary_text number v c (is_narrow Live v default_budget))
@@ -79,11 +83,16 @@ pub record SampleSays (number status : ℕ) (shelf : ShelfSeen) (out : StreamSee
       → sample_of number ≡ Ok s → IsSurvey s v → judgement Live v default_budget ≡ certified c
       → Writes (summary_text number v c (is_narrow Live v default_budget)) status out ⊎ (status ≡ 11)
   pub without_size : NeitherFailed shelf out → sample_of number ≡ Err Size → (status ≡ 5) ⊎ (status ≡ 11)
+  pub only_without_size : status ≡ 5 → sample_of number ≡ Err Size
   pub wide : NeitherFailed shelf out → (s : Structure) (v : Surveyed) (p : JudgePlace) → sample_of number ≡ Ok s
       → IsSurvey s v → judgement Live v default_budget ≡ too_wide p → (status ≡ 7) ⊎ (status ≡ 11)
+  pub only_wide : status ≡ 7 → (s : Structure) × (v : Surveyed) × (p : JudgePlace) × (sample_of number ≡ Ok s)
+      × IsSurvey s v × (judgement Live v default_budget ≡ too_wide p)
   pub over_budget : NeitherFailed shelf out → (s : Structure) (v : Surveyed) → sample_of number ≡ Ok s → IsSurvey s v
       → judgement Live v default_budget ≡ spent → (status ≡ 8) ⊎ (status ≡ 11)
-  -- where the wall has a survey, these are all
+  pub only_over_budget : status ≡ 8 → (s : Structure) × (v : Surveyed) × (sample_of number ≡ Ok s)
+      × IsSurvey s v × (judgement Live v default_budget ≡ spent)
+  -- of a wall these are all
   pub only : NeitherFailed shelf out → (s : Structure) (v : Surveyed) → sample_of number ≡ Ok s → IsSurvey s v
       → (status ≡ 0) ⊎ ((((p : JudgePlace) × (judgement Live v default_budget ≡ too_wide p)) × (status ≡ 7))
       ⊎ (((judgement Live v default_budget ≡ spent) × (status ≡ 8)) ⊎ (status ≡ 11)))

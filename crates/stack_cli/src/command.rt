@@ -16,6 +16,7 @@ use crate::words::parse_form;
 use stack_forms::answer_form;
 use stack_lines::{Answer, Refusal};
 use stack_outside::{Shelf, Sink, SinkFailed};
+use stack_walls::walls_can_be_surveyed;
 use std::alloc::Global;
 
 /// The line of a refusal that tells nothing but which it is, with its line feed. It takes no memory.
@@ -112,6 +113,7 @@ pub fn run<F: Shelf, O: Sink, E: Sink>(
         (seen_stream O.Sink out.old out.new) (seen_stream E.Sink err.old err.new) }
 {
     printed_is_accepted();
+    walls_can_be_surveyed();
     let worked = answer_words(alloc, words, shelf);
     deliver(alloc, worked, out, err)
 }

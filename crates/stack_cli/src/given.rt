@@ -9,6 +9,7 @@ use crate::command::{deliver, run};
 use crate::laws::printed_is_accepted;
 use stack_lines::Refusal;
 use stack_outside::{Shelf, Sink};
+use stack_walls::walls_can_be_surveyed;
 use std::alloc::Global;
 
 /// What the runtime gave of the words after the program's own name.
@@ -37,6 +38,7 @@ pub fn run_given<F: Shelf, O: Sink, E: Sink>(
     ensures memory { given ≡ Given.Memory → result ≡ 11 }
 {
     printed_is_accepted();
+    walls_can_be_surveyed();
     match given {
         Given::Words(words) => run(alloc, words.as_slice(), shelf, out, err),
         Given::Unreadable => deliver(alloc, Err(Refusal::Words), out, err),

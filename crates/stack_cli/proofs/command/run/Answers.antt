@@ -10,7 +10,7 @@ returns g c =
     let meets = run_meets _ _ _ _ c.answer_words-worked.result _ works delivers.delivers in
     record {
       meets = meets;
-      says = run_says c.printed_is_accepted.ensures.accepted meets;
+      says = run_says c.printed_is_accepted.ensures.accepted c.walls_can_be_surveyed.ensures.drawn meets;
       one_put = delivers.one_put (work_refuses_otherwise _ _ _ works);
       one_line = delivers.one_line;
       holds = works.holds;

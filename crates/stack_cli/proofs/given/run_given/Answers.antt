@@ -6,7 +6,8 @@ use Rattle.stack_cli.proofs.given.run_given.Goals as goal
 
 pub returns-in-Unreadable-clause-runs : goal.returns-in-Unreadable-clause-runs
 returns-in-Unreadable-clause-runs g c = let d = c.deliver.ensures in
-    rw c.in-Unreadable.is (refused_runs c.printed_is_accepted.ensures.accepted g.F.Shelf c.args.shelf.now _ _ _ _
+    rw c.in-Unreadable.is (refused_runs c.printed_is_accepted.ensures.accepted
+    c.walls_can_be_surveyed.ensures.drawn g.F.Shelf c.args.shelf.now _ _ _ _
     (none_works g.F.Shelf c.args.shelf.now) d.delivers (d.one_put (λ same. cc)) d.one_line d.out_later d.err_later)
 
 pub returns-in-Unreadable-clause-unreadable : goal.returns-in-Unreadable-clause-unreadable
@@ -14,7 +15,8 @@ returns-in-Unreadable-clause-unreadable g c is = words_status _ _ _ _ refl c.del
 
 pub returns-in-Memory-clause-runs : goal.returns-in-Memory-clause-runs
 returns-in-Memory-clause-runs g c = let d = c.deliver-in-Memory.ensures in
-    rw c.in-Memory.is (refused_runs c.printed_is_accepted.ensures.accepted g.F.Shelf c.args.shelf.now _ _ _ _
+    rw c.in-Memory.is (refused_runs c.printed_is_accepted.ensures.accepted
+    c.walls_can_be_surveyed.ensures.drawn g.F.Shelf c.args.shelf.now _ _ _ _
     (memory_works g.F.Shelf c.args.shelf.now) d.delivers (d.one_put (λ same. cc)) d.one_line d.out_later d.err_later)
 
 pub returns-in-Memory-clause-memory : goal.returns-in-Memory-clause-memory
