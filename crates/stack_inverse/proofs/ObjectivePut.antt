@@ -34,8 +34,7 @@ module _ {V : Type 0} (value : V → ℤ) (m : ℕ) (columns : List (Column V)) 
   abbrev pub own_cell : List V → List V → ℤ → ℕ → Fraction
   own_cell own row d j = cell_with value m columns (number_at value own) row d j
 
-  module _ (own own' : List V) (s t : ℕ → RowSeen V) (row : List V) (d : ℤ) (told : Bool) (p : IsPut s m row d told t)
-      (f : ℕ → Fraction) (is : (j : ℕ) → own_cell own' row d j ≡ f j) where
+  module _ (own own' : List V) (s t : ℕ → RowSeen V) (row : List V) (d : ℤ) (p : IsPut s m row d false t) where
     -- the other rows stay
     pub others_stay : (k j : ℕ) → k ≢ m →
         revised_cell value m columns own' t k j ≡ revised_cell value m columns own s k j
@@ -46,9 +45,9 @@ module _ {V : Type 0} (value : V → ℤ) (m : ℕ) (columns : List (Column V)) 
             ∙ sym (ap (λ b. cond b (number_at value own i) (pos 0)) (ne_eqb k m n))
 
     -- the table with the new objective row
-    pub objective_put : (i j : ℕ) → revised_cell value m columns own' t i j
-        ≡ changed (revised_cell value m columns own s) m f i j
-    objective_put i j = go (ℕ_discrete i m)
+    pub objective_put : (f : ℕ → Fraction) → ((j : ℕ) → own_cell own' row d j ≡ f j) → (i j : ℕ) →
+        revised_cell value m columns own' t i j ≡ changed (revised_cell value m columns own s) m f i j
+    objective_put f is i j = go (ℕ_discrete i m)
       where
         at_m : revised_cell value m columns own' t m j ≡ own_cell own' row d j
         at_m = λ z. cell_with value m columns

@@ -77,24 +77,22 @@ fn reduce_others<T: Whole>(
     pivot: &PivotRow<T>,
     entered: &[T],
     row: usize,
+    column: usize,
 ) -> Result<(), Refusal>
     requires height { length rows.old ≡ suc plain.now.first.rows }
     requires wide { AreWide plain.now.first.rows (seen_at rows.old) }
     requires pivot { IsPivotRow plain.now pivot.now }
-    requires entered { length entered.now ≡ suc plain.now.first.rows }
+    requires long { length entered.now ≡ suc plain.now.first.rows }
+    requires entered { AreEntered T.value plain.now.first.rows plain.now.first.columns.items plain.now.own.items
+        (seen_at rows.old) column entered.now }
     requires marked { AreMarked T.MAX (cells_of_rows plain.now rows.old) (seen_at rows.old) }
     ensures wide { AreWide plain.now.first.rows (seen_at rows.new) }
-    ensures marked { (column : ℕ) → AreEntered T.value plain.now.first.rows plain.now.first.columns.items
-        plain.now.own.items (seen_at rows.old) column entered.now →
-        AreMarked T.MAX (cells_of_rows plain.now rows.new) (seen_at rows.new) }
-    ensures ok { OnOk result ((column : ℕ) → AreEntered T.value plain.now.first.rows plain.now.first.columns.items
-        plain.now.own.items (seen_at rows.old) column entered.now → (k : ℕ) → k < suc plain.now.first.rows → (k ≢ row) →
+    ensures marked { AreMarked T.MAX (cells_of_rows plain.now rows.new) (seen_at rows.new) }
+    ensures ok { OnOk result ((k : ℕ) → k < suc plain.now.first.rows → (k ≢ row) →
         IsReduced T.MAX (columns_of plain.now) (cells_of_rows plain.now rows.old k) (pivot_cell plain.now pivot.now) k
         column (cells_of_rows plain.now rows.new k)) }
-    ensures refused { IfErr result (λ e. (column : ℕ) → AreEntered T.value plain.now.first.rows
-        plain.now.first.columns.items plain.now.own.items (seen_at rows.old) column entered.now →
-        IsRefused T.MAX (suc plain.now.first.rows) (columns_of plain.now) (cells_of_rows plain.now rows.old)
-        (pivot_cell plain.now pivot.now) row column e) }
+    ensures refused { IfErr result (λ e. IsRefused T.MAX (suc plain.now.first.rows) (columns_of plain.now)
+        (cells_of_rows plain.now rows.old) (pivot_cell plain.now pivot.now) row column e) }
 {
     for i in 0..rows.len() {
         if i == row {
@@ -139,7 +137,7 @@ pub fn pivot_rows<T: Whole>(
         Some(()) => {}
         None => return Err(Refusal::Unsettled),
     }
-    match reduce_others(plain, rows, pivot, entered, row) {
+    match reduce_others(plain, rows, pivot, entered, row, column) {
         Ok(()) => {
             put_row(
                 rows,

@@ -32,7 +32,7 @@ returns-in-Ok-clause-marked g c =
     (λ k l. seen_past c.args.rows.now (suc f.rows) k c.requires.height (omega (arith, l)))
     (seen_at c.reduce_others.new.rows) (seen_at c.put_row.new.rows) c.requires.row_in
     (λ k l. seen_past c.reduce_others.new.rows (suc f.rows) k (c.reduce_others.auto.rows ∙ c.requires.height)
-    (omega (arith, l))) put (c.in-Ok.ensures.ok c.args.column c.requires.entered)
+    (omega (arith, l))) put c.in-Ok.ensures.ok
 
 pub returns-in-Ok-clause-ok : goal.returns-in-Ok-clause-ok
 returns-in-Ok-clause-ok g c =
@@ -54,7 +54,7 @@ returns-in-Ok-clause-ok g c =
     (λ k l. seen_past c.args.rows.now (suc f.rows) k c.requires.height (omega (arith, l)))
     (seen_at c.reduce_others.new.rows) (seen_at c.put_row.new.rows) c.requires.row_in
     (λ k l. seen_past c.reduce_others.new.rows (suc f.rows) k (c.reduce_others.auto.rows ∙ c.requires.height)
-    (omega (arith, l))) put (c.in-Ok.ensures.ok c.args.column c.requires.entered)
+    (omega (arith, l))) put c.in-Ok.ensures.ok
 
 pub returns-in-Err-clause-refused : goal.returns-in-Err-clause-refused
 returns-in-Err-clause-refused g c =
@@ -71,7 +71,4 @@ returns-in-Err-clause-refused g c =
     refused v f.rows f.columns.items p.own.items m g.met.T.Whole.max_law (seen_at c.args.rows.now) q.numbers.items
     (v q.under) r c.args.column divided
     (λ k l. seen_past c.args.rows.now (suc f.rows) k c.requires.height (omega (arith, l))) c.in-Err.e
-    (c.in-Err.ensures.refused c.args.column c.requires.entered)
-
-pub returns-in-Err-clause-marked : goal.returns-in-Err-clause-marked
-returns-in-Err-clause-marked g c = c.reduce_others.ensures.marked c.args.column c.requires.entered
+    c.in-Err.ensures.refused

@@ -1,13 +1,11 @@
-use Rattle.std.proofs.Common.{◌≡◌, sym, ap, subst, ◌∙◌, ℕ, ◌<◌, suc, length, pos, true, false, slice_index_or}
-use Rattle.std.proofs.Common.{arith}
+use Rattle.std.proofs.Common.{◌≡◌, sym, ap, subst, ◌∙◌, ℕ, ◌<◌, suc, length, pos, true, false, slice_index_or, arith}
 use Rattle.stack_algebra.proofs.OrderedFractions.{ordered_fractions}
 use Rattle.stack_rational.specs.TooWide.{is_too_wide}
-use Rattle.stack_rows.specs.RowForm.{number_at}
 use Rattle.stack_rows.proofs.Numbers.{at-index}
 use Rattle.stack_table.specs.Spots.{reduce_spot}
 use Rattle.stack_inverse.specs.RowBlock.{AllFit, IsReduced}
 use Rattle.stack_inverse.specs.CellSteps.{TellsSpot}
-use Rattle.stack_inverse.specs.Columns.{RowSeen, AreEntered}
+use Rattle.stack_inverse.specs.Columns.{RowSeen}
 use Rattle.stack_inverse.specs.RowsSeen.{seen_of, seen_at, number_in_row, cell_in_row, cells_of_rows, columns_of}
 use Rattle.stack_inverse.specs.RowsSeen.{pivot_cell}
 use Rattle.stack_inverse.proofs.PutRow.{seen_index, wide_set, done_set, left_set, marked_set}
@@ -18,7 +16,7 @@ loop-i-preserved-then-i-row g c = record {
   wide = c.loop-i.invariant.wide;
   left = λ k l. c.loop-i.invariant.left k (omega (arith, l));
   marked = c.loop-i.invariant.marked;
-  done = λ column e k l d. c.loop-i.invariant.done column e k (omega (arith, l, d, c.if-i-row.true)) d;
+  done = λ k l d. c.loop-i.invariant.done k (omega (arith, l, d, c.if-i-row.true)) d;
 }
 
 pub reduce-requires-clause-width : goal.reduce-requires-clause-width
@@ -32,39 +30,37 @@ reduce-requires-clause-width g c =
 pub loop-i-preserved : goal.loop-i-preserved
 loop-i-preserved g c =
     let v = g.T.Whole.value in
-    let m = g.T.Whole.MAX in
     let p = c.args.plain.now in
-    let q = c.args.pivot.now in
     let rows = c.loop-i.rows in
     let i = c.loop-i.i in
     let x = c.index-rows-i.result in
-    let new = c.reduce.new.row in
-    let old = seen_at c.args.rows.now in
     let lt : i < length rows = omega (arith, c.loop-i-test.true, c.loop-i.auto.rows, c.loop-i.auto.i-end) in
     let in_height : i < suc p.first.rows = omega (arith, lt, c.loop-i.auto.rows, c.requires.height) in
     let seen : seen_of (slice_index_or rows i x) ≡ seen_at rows i = seen_index rows i x lt c.index-rows-i.is in
     let e : seen_of (slice_index_or rows i x) ≡ seen_at c.args.rows.now i =
     seen ∙ c.loop-i.invariant.left i (omega arith) in
-    let f : v c.index-entered-i.result ≡ number_at v c.args.entered.now i =
+    let factor : v c.index-entered-i.result ≡ number_in_row p (seen_of (slice_index_or rows i x)) i c.args.column =
     sym (at-index v (pos 0) c.args.entered.now i c.index-entered-i.result
-    (omega (arith, in_height, c.requires.entered)) c.index-entered-i.is) in
-    let here = λ (column : ℕ) (h : AreEntered v p.first.rows p.first.columns.items p.own.items old column
-    c.args.entered.now). c.in-Ok.ensures.ok column (f ∙ h i (omega (arith, in_height))
-    ∙ ap (λ (s : RowSeen g.row.T.Denot). number_in_row p s i column) (sym e))
+    (omega (arith, in_height, c.requires.long)) c.index-entered-i.is) ∙ c.requires.entered i (omega (arith, in_height))
+    ∙ ap (λ (s : RowSeen g.row.T.Denot). number_in_row p s i c.args.column) (sym e) in
+    let m = g.T.Whole.MAX in
+    let q = c.args.pivot.now in
+    let new = c.reduce.new.row in
+    let here = c.in-Ok.ensures.ok c.args.column factor
     (subst (λ (s : RowSeen g.row.T.Denot). s.fits ≡ true → AllFit m (cell_in_row p s i)) (sym seen)
-    (c.loop-i.invariant.marked column h i)) in
+    (c.loop-i.invariant.marked i)) in
     record {
       wide = wide_set rows i new lt p.first.rows c.loop-i.invariant.wide (c.reduce.ensures.width
           ∙ ap (λ (s : RowSeen g.row.T.Denot). length s.numbers) seen
           ∙ c.loop-i.invariant.wide i (omega (arith, in_height)));
-      left = left_set rows i new lt old c.loop-i.invariant.left;
-      marked = λ column h. marked_set rows i new lt m (λ (k : ℕ) (s : RowSeen g.row.T.Denot). cell_in_row p s k)
-          (c.loop-i.invariant.marked column h) (λ _. (here column h).fits);
-      done = λ column h k l d. done_set rows i new lt (λ (k : ℕ) (s : RowSeen g.row.T.Denot). IsReduced m (columns_of p)
-          (cells_of_rows p c.args.rows.now k) (pivot_cell p q) k column (cell_in_row p s k)) c.args.row
-          (c.loop-i.invariant.done column h)
+      left = left_set rows i new lt (seen_at c.args.rows.now) c.loop-i.invariant.left;
+      marked = marked_set rows i new lt m (λ (k : ℕ) (s : RowSeen g.row.T.Denot). cell_in_row p s k)
+          c.loop-i.invariant.marked (λ _. here.fits);
+      done = λ k l d. done_set rows i new lt (λ (k : ℕ) (s : RowSeen g.row.T.Denot). IsReduced m (columns_of p)
+          (cells_of_rows p c.args.rows.now k) (pivot_cell p q) k c.args.column (cell_in_row p s k)) c.args.row
+          c.loop-i.invariant.done
           (subst (λ (s : RowSeen g.row.T.Denot). IsReduced m (columns_of p) (cell_in_row p s i) (pivot_cell p q) i
-          column (cell_in_row p (seen_of new) i)) e (here column h)) k l d;
+          c.args.column (cell_in_row p (seen_of new) i)) e here) k l d;
     }
 
 pub returns-in-Err-clause-wide : goal.returns-in-Err-clause-wide
@@ -78,43 +74,41 @@ returns-in-Err-clause-wide g c =
     c.index-rows-i.is) ∙ c.loop-i.invariant.wide i (omega (arith, lt, c.loop-i.auto.rows, c.requires.height)))
 
 pub returns-in-Err-clause-marked : goal.returns-in-Err-clause-marked
-returns-in-Err-clause-marked g c = λ column h.
+returns-in-Err-clause-marked g c =
     let p = c.args.plain.now in
     let rows = c.loop-i.rows in
     let i = c.loop-i.i in
     let lt : i < length rows = omega (arith, c.loop-i-test.true, c.loop-i.auto.rows, c.loop-i.auto.i-end) in
     marked_set rows i c.reduce.new.row lt g.T.Whole.MAX (λ (k : ℕ) (s : RowSeen g.row.T.Denot). cell_in_row p s k)
-    (c.loop-i.invariant.marked column h)
-    (λ d. let b : false ≡ true = sym c.in-Err.ensures.unmarked ∙ d in absurd cc)
+    c.loop-i.invariant.marked (λ d. let b : false ≡ true = sym c.in-Err.ensures.unmarked ∙ d in absurd cc)
 
 pub returns-in-Err-clause-refused : goal.returns-in-Err-clause-refused
-returns-in-Err-clause-refused g c = λ column h.
+returns-in-Err-clause-refused g c =
     let v = g.T.Whole.value in
-    let m = g.T.Whole.MAX in
     let p = c.args.plain.now in
-    let q = c.args.pivot.now in
     let rows = c.loop-i.rows in
     let i = c.loop-i.i in
     let x = c.index-rows-i.result in
     let lt : i < length rows = omega (arith, c.loop-i-test.true, c.loop-i.auto.rows, c.loop-i.auto.i-end) in
     let in_height : i < suc p.first.rows = omega (arith, lt, c.loop-i.auto.rows, c.requires.height) in
+    let seen : seen_of (slice_index_or rows i x) ≡ seen_at rows i = seen_index rows i x lt c.index-rows-i.is in
     let e : seen_of (slice_index_or rows i x) ≡ seen_at c.args.rows.now i =
-    seen_index rows i x lt c.index-rows-i.is ∙ c.loop-i.invariant.left i (omega arith) in
-    let f : v c.index-entered-i.result ≡ number_at v c.args.entered.now i =
+    seen ∙ c.loop-i.invariant.left i (omega arith) in
+    let factor : v c.index-entered-i.result ≡ number_in_row p (seen_of (slice_index_or rows i x)) i c.args.column =
     sym (at-index v (pos 0) c.args.entered.now i c.index-entered-i.result
-    (omega (arith, in_height, c.requires.entered)) c.index-entered-i.is) in (
+    (omega (arith, in_height, c.requires.long)) c.index-entered-i.is) ∙ c.requires.entered i (omega (arith, in_height))
+    ∙ ap (λ (s : RowSeen g.row.T.Denot). number_in_row p s i c.args.column) (sym e) in (
       i,
       in_height,
       record {
         apart = c.if-i-row.false;
-        before = λ k l d. (c.loop-i.invariant.done column h k l d).none;
-        here = subst (λ (s : RowSeen g.row.T.Denot). TellsSpot c.in-Err.e (reduce_spot ordered_fractions (is_too_wide m)
-            (columns_of p) (cell_in_row p s i) (pivot_cell p q) (cell_in_row p s i column) i)) e
-            (c.in-Err.ensures.wide column (f ∙ h i (omega (arith, in_height))
-            ∙ ap (λ (s : RowSeen g.row.T.Denot). number_in_row p s i column) (sym e)));
+        before = λ k l d. (c.loop-i.invariant.done k l d).none;
+        here = subst (λ (s : RowSeen g.row.T.Denot). TellsSpot c.in-Err.e (reduce_spot ordered_fractions
+            (is_too_wide g.T.Whole.MAX) (columns_of p) (cell_in_row p s i) (pivot_cell p c.args.pivot.now)
+            (cell_in_row p s i c.args.column) i)) e (c.in-Err.ensures.wide c.args.column factor);
       },
     )
 
 pub returns-clause-ok : goal.returns-clause-ok
-returns-clause-ok g c = λ column h k l d. c.loop-i.invariant.done column h k
+returns-clause-ok g c = λ k l d. c.loop-i.invariant.done k
     (omega (arith, l, c.loop-i-test.false, c.loop-i.auto.rows, c.loop-i.auto.i-end, c.requires.height)) d

@@ -1,17 +1,16 @@
 use Rattle.std.proofs.Common.{◌≡◌, ◌≢◌, ℕ, ◌<◌, ◌≤◌}
 use Rattle.stack_inverse.specs.RowBlock.{IsReduced, AreMarked}
-use Rattle.stack_inverse.specs.Columns.{AreWide, AreEntered}
+use Rattle.stack_inverse.specs.Columns.{AreWide}
 use Rattle.stack_inverse.specs.RowsSeen.{seen_at, cells_of_rows, cell_in_row, columns_of, pivot_cell}
 use Rattle.stack_inverse.proofs.pivoting.reduce_others.Given as goal
 
 -- the rows before row i are reduced, but for the pivot row; the others are as they were
 abbrev pub invariant-loop-i : goal.invariant-loop-i
-invariant-loop-i g l = let v = g.T.Whole.value in let f = l.plain.first in record {
-  wide : AreWide f.rows (seen_at l.rows);
+invariant-loop-i g l = record {
+  wide : AreWide l.plain.first.rows (seen_at l.rows);
   left : (k : ℕ) → l.i ≤ k → seen_at l.rows k ≡ seen_at l.fn.rows k;
-  marked : (column : ℕ) → AreEntered v f.rows f.columns.items l.plain.own.items (seen_at l.fn.rows) column l.entered →
-      AreMarked g.T.Whole.MAX (cells_of_rows l.plain l.rows) (seen_at l.rows);
-  done : (column : ℕ) → AreEntered v f.rows f.columns.items l.plain.own.items (seen_at l.fn.rows) column l.entered →
-      (k : ℕ) → k < l.i → (k ≢ l.row) → IsReduced g.T.Whole.MAX (columns_of l.plain) (cells_of_rows l.plain l.fn.rows k)
-      (pivot_cell l.plain l.pivot) k column (cell_in_row l.plain (seen_at l.rows k) k);
+  marked : AreMarked g.T.Whole.MAX (cells_of_rows l.plain l.rows) (seen_at l.rows);
+  done : (k : ℕ) → k < l.i → (k ≢ l.row) → IsReduced g.T.Whole.MAX (columns_of l.plain)
+      (cells_of_rows l.plain l.fn.rows k) (pivot_cell l.plain l.pivot) k l.column
+      (cell_in_row l.plain (seen_at l.rows k) k);
 }

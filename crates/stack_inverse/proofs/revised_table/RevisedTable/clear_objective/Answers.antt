@@ -1,13 +1,14 @@
-use Rattle.std.proofs.Common.{◌≡◌, ◌≢◌, refl, sym, ap, subst, ◌∙◌, ℕ, suc, length, get_or, List, pos, false}
+use mathlib.Core.Path.{subst₂}
+use Rattle.std.proofs.Common.{◌≡◌, sym, ap, ◌∙◌, suc, length, get_or, List, pos, false}
 use Rattle.std.proofs.lemmas.List.{with_items_is}
 use Rattle.std.specs.Vec.{with_items}
 use Rattle.stack_algebra.proofs.Fractions.{of}
 use Rattle.stack_rows.specs.RowForm.{number_at}
 use Rattle.stack_inverse.specs.declared.row.Row.{Row}
-use Rattle.stack_inverse.specs.Columns.{AreWide, IsPut, revised_cell}
+use Rattle.stack_inverse.specs.Columns.{IsPut, revised_cell}
 use Rattle.stack_inverse.specs.RowsSeen.{seen_at}
 use Rattle.stack_inverse.proofs.PutRow.{wide_put, marked_put}
-use Rattle.stack_inverse.proofs.ObjectivePut.{own_cell, objective_put, others_stay, zero_row_is}
+use Rattle.stack_inverse.proofs.ObjectivePut.{objective_put, others_stay, zero_row_is}
 use Rattle.stack_inverse.proofs.revised_table.RevisedTable.clear_objective.Goals as goal
 
 pub invariant_of-self-5 : goal.invariant_of-self-5
@@ -19,34 +20,23 @@ invariant_of-self-5 g c =
     let d = v c.in_ok-one.one in
     let row = c.as_slice.result.now in
     let new = c.put_row.new.rows in
-    let owns = c.clear_row-2.new.row in
     let plong = c.clear_row.auto.row ∙ ap length c.as_mut_slice.ensures.value in
-    let piv = with_items_is s.pivot.numbers c.clear_row.new.row (plong ∙ sym s.pivot.numbers.ok.0) in
-    let own : (with_items s.given.own owns).items ≡ owns = with_items_is s.given.own owns
-    (c.clear_row-2.auto.row ∙ ap length c.as_mut_slice-2.ensures.value ∙ sym s.given.own.ok.0) in
+    let long : length (with_items s.pivot.numbers c.clear_row.new.row).items ≡ suc M =
+    ap length (with_items_is s.pivot.numbers c.clear_row.new.row (plong ∙ sym s.pivot.numbers.ok.0)) ∙ plong ∙ s.room in
     let tall = c.put_row.auto.rows ∙ ap length c.as_mut_slice-3.ensures.value in
-    let rows : (with_items s.rows new).items ≡ new = with_items_is s.rows new (tall ∙ sym s.rows.ok.0) in
-    let long : length (with_items s.pivot.numbers c.clear_row.new.row).items ≡ suc M = ap length piv ∙ plong ∙ s.room in
-    let put : IsPut (seen_at s.rows.items) M row d false (seen_at new) =
-    subst (λ (rs : List (Row g.row.T.Denot g.T.Whole)). IsPut (seen_at rs) M row d false (seen_at new))
-    c.as_mut_slice-3.ensures.value c.put_row.ensures in
-    let f = own_cell v M C owns row d in
-    let cells : (k j : ℕ) → k ≢ M → revised_cell v M C (with_items s.given.own owns).items
-    (seen_at (with_items s.rows new).items) k j ≡ revised_cell v M C s.given.own.items (seen_at s.rows.items) k j =
-    λ k j n. (λ z. revised_cell v M C (own z) (seen_at (rows z)) k j)
-    ∙ others_stay v M C s.given.own.items owns (seen_at s.rows.items) (seen_at new) row d false put f (λ j. refl) k j
-    n in
+    let rows = with_items_is s.rows new (tall ∙ sym s.rows.ok.0) in
+    let t = seen_at (with_items s.rows new).items in
+    let own = (with_items s.given.own c.clear_row-2.new.row).items in
+    let put : IsPut (seen_at s.rows.items) M row d false (seen_at (with_items s.rows new).items) =
+    subst₂ (λ (xs ys : List (Row g.row.T.Denot g.T.Whole)). IsPut (seen_at xs) M row d false (seen_at ys))
+    c.as_mut_slice-3.ensures.value (sym rows) c.put_row.ensures in
     record {
       plain_count = s.plain_count;
       height = ap length rows ∙ tall ∙ s.height;
-      wide = subst (λ (rs : List (Row g.row.T.Denot g.T.Whole)). AreWide M (seen_at rs)) (sym rows)
-          (wide_put M (seen_at s.rows.items) (seen_at new) M row d false put (ap length c.as_slice.ensures.value ∙ long)
-          s.wide);
-      marked = marked_put g.T.Whole.MAX (seen_at s.rows.items) (seen_at (with_items s.rows new).items) M row d
-          (revised_cell v M C s.given.own.items (seen_at s.rows.items))
-          (revised_cell v M C (with_items s.given.own owns).items (seen_at (with_items s.rows new).items))
-          (subst (λ (rs : List (Row g.row.T.Denot g.T.Whole)). IsPut (seen_at s.rows.items) M row d false (seen_at rs))
-          (sym rows) put) cells s.marked;
+      wide = wide_put M (seen_at s.rows.items) t M row d false put (ap length c.as_slice.ensures.value ∙ long) s.wide;
+      marked = marked_put g.T.Whole.MAX (seen_at s.rows.items) t M row d
+          (revised_cell v M C s.given.own.items (seen_at s.rows.items)) (revised_cell v M C own t) put
+          (others_stay v M C s.given.own.items own (seen_at s.rows.items) t row d put) s.marked;
       room = long;
       one_number = s.one_number;
       basics = s.basics;
@@ -62,22 +52,19 @@ returns-clause-ok g c =
     let d = v c.in_ok-one.one in
     let row = c.as_slice.result.now in
     let new = c.put_row.new.rows in
-    let owns = c.clear_row-2.new.row in
     let plong = c.clear_row.auto.row ∙ ap length c.as_mut_slice.ensures.value in
     let piv : row ≡ c.clear_row.new.row = c.as_slice.ensures.value
     ∙ with_items_is s.pivot.numbers c.clear_row.new.row (plong ∙ sym s.pivot.numbers.ok.0) in
-    let own : (with_items s.given.own owns).items ≡ owns = with_items_is s.given.own owns
+    let own = with_items_is s.given.own c.clear_row-2.new.row
     (c.clear_row-2.auto.row ∙ ap length c.as_mut_slice-2.ensures.value ∙ sym s.given.own.ok.0) in
-    let rows : (with_items s.rows new).items ≡ new = with_items_is s.rows new (c.put_row.auto.rows
-    ∙ ap length c.as_mut_slice-3.ensures.value ∙ sym s.rows.ok.0) in
-    let put : IsPut (seen_at s.rows.items) M row d false (seen_at new) =
-    subst (λ (rs : List (Row g.row.T.Denot g.T.Whole)). IsPut (seen_at rs) M row d false (seen_at new))
-    c.as_mut_slice-3.ensures.value c.put_row.ensures in
-    let zeros : (j : ℕ) → number_at v row j ≡ pos 0 = λ j. ap (λ (xs : List g.row.T.Denot). number_at v xs j) piv
-    ∙ c.clear_row.ensures j in
-    λ z. record {
-      cell = λ i j. ((λ z. revised_cell v M C (own z) (seen_at (rows z)) i j)
-          ∙ objective_put v M C s.given.own.items owns (seen_at s.rows.items) (seen_at new) row d false put
-          (λ j. of (pos 0)) (zero_row_is v M C owns row d c.in_ok-one.ensures c.clear_row-2.ensures zeros) i j) z;
-      basic = λ i. get_or s.basic.items i 0;
-    }
+    let rows = with_items_is s.rows new (c.put_row.auto.rows ∙ ap length c.as_mut_slice-3.ensures.value
+    ∙ sym s.rows.ok.0) in
+    let put : IsPut (seen_at s.rows.items) M row d false (seen_at (with_items s.rows new).items) =
+    subst₂ (λ (xs ys : List (Row g.row.T.Denot g.T.Whole)). IsPut (seen_at xs) M row d false (seen_at ys))
+    c.as_mut_slice-3.ensures.value (sym rows) c.put_row.ensures in
+    let cells = objective_put v M C s.given.own.items (with_items s.given.own c.clear_row-2.new.row).items
+    (seen_at s.rows.items) (seen_at (with_items s.rows new).items) row d put (λ j. of (pos 0))
+    (zero_row_is v M C (with_items s.given.own c.clear_row-2.new.row).items row d c.in_ok-one.ensures
+    (λ j. ap (λ (xs : List g.row.T.Denot). number_at v xs j) own ∙ c.clear_row-2.ensures j)
+    (λ j. ap (λ (xs : List g.row.T.Denot). number_at v xs j) piv ∙ c.clear_row.ensures j)) in
+    λ z. record { cell = λ i j. cells i j z; basic = λ i. get_or s.basic.items i 0 }

@@ -1,15 +1,17 @@
-use Rattle.std.proofs.Common.{◌≡◌, ◌≢◌, refl, sym, ap, subst, ◌∙◌, ℕ, ◌<◌, suc, length, get_or, List, Option, pos}
+use mathlib.Core.Path.{subst₂}
+use Rattle.std.proofs.Common.{◌≡◌, refl, sym, ap, subst, ◌∙◌, ℕ, ◌<◌, suc, length, get_or, List, Option, pos}
 use Rattle.std.proofs.Common.{false, eqb, cond, arith}
 use Rattle.std.proofs.lemmas.List.{with_items_is}
 use Rattle.std.specs.Vec.{with_items}
 use Rattle.stack_algebra.proofs.OrderedFractions.{ordered_fractions}
 use Rattle.stack_algebra.specs.Search.{least}
 use Rattle.stack_table.specs.Table.{factor_row}
+use Rattle.stack_rows.specs.RowForm.{number_at}
 use Rattle.stack_inverse.specs.declared.row.Row.{Row}
-use Rattle.stack_inverse.specs.Columns.{AreWide, IsPut, IsFactorRow, revised_cell}
+use Rattle.stack_inverse.specs.Columns.{IsPut, IsFactorRow, revised_cell}
 use Rattle.stack_inverse.specs.RowsSeen.{seen_at}
 use Rattle.stack_inverse.proofs.PutRow.{wide_put, marked_put, under_positive}
-use Rattle.stack_inverse.proofs.ObjectivePut.{own_cell, objective_put, others_stay, factor_is, found_below}
+use Rattle.stack_inverse.proofs.ObjectivePut.{objective_put, others_stay, factor_is, found_below}
 use Rattle.stack_inverse.proofs.revised_table.RevisedTable.set_factor_objective.Goals as goal
 
 pub factor_row-requires-clause-row_in : goal.factor_row-requires-clause-row_in
@@ -37,36 +39,25 @@ invariant_of-self-6 g c =
     let d = v c.in_ok-under.under in
     let row = c.as_slice-3.result.now in
     let new = c.put_row.new.rows in
-    let owns = c.set_only.new.row in
+    let cleared = with_items s.given.own c.clear_row.new.row in
     let plong = c.factor_row.auto.numbers ∙ ap length c.as_mut_slice.ensures.value in
     let piv = with_items_is s.pivot.numbers c.factor_row.new.numbers (plong ∙ sym s.pivot.numbers.ok.0) in
-    let cleared = with_items s.given.own c.clear_row.new.row in
-    let own : (with_items cleared owns).items ≡ owns = with_items_is cleared owns
-    (c.set_only.auto.row ∙ ap length c.as_mut_slice-3.ensures.value ∙ sym cleared.ok.0) in
     let tall = c.put_row.auto.rows ∙ ap length c.as_mut_slice-4.ensures.value in
-    let rows : (with_items s.rows new).items ≡ new = with_items_is s.rows new (tall ∙ sym s.rows.ok.0) in
-    let put : IsPut (seen_at s.rows.items) M row d false (seen_at new) =
-    subst (λ (rs : List (Row g.row.T.Denot g.T.Whole)). IsPut (seen_at rs) M row d false (seen_at new))
-    c.as_mut_slice-4.ensures.value c.put_row.ensures in
+    let rows = with_items_is s.rows new (tall ∙ sym s.rows.ok.0) in
+    let put : IsPut (seen_at s.rows.items) M row d false (seen_at (with_items s.rows new).items) =
+    subst₂ (λ (xs ys : List (Row g.row.T.Denot g.T.Whole)). IsPut (seen_at xs) M row d false (seen_at ys))
+    c.as_mut_slice-4.ensures.value (sym rows) c.put_row.ensures in
+    let t = seen_at (with_items s.rows new).items in
+    let own = (with_items cleared c.set_only.new.row).items in
     let long : length (with_items s.pivot.numbers c.factor_row.new.numbers).items ≡ suc M =
     ap length piv ∙ plong ∙ s.room in
-    let f = own_cell v M C owns row d in
-    let cells : (k j : ℕ) → k ≢ M → revised_cell v M C (with_items cleared owns).items
-    (seen_at (with_items s.rows new).items) k j ≡ revised_cell v M C s.given.own.items (seen_at s.rows.items) k j =
-    λ k j n. (λ z. revised_cell v M C (own z) (seen_at (rows z)) k j)
-    ∙ others_stay v M C s.given.own.items owns (seen_at s.rows.items) (seen_at new) row d false put f (λ j. refl) k j
-    n in
     record {
       plain_count = s.plain_count;
       height = ap length rows ∙ tall ∙ s.height;
-      wide = subst (λ (rs : List (Row g.row.T.Denot g.T.Whole)). AreWide M (seen_at rs)) (sym rows)
-          (wide_put M (seen_at s.rows.items) (seen_at new) M row d false put
-          (ap length c.as_slice-3.ensures.value ∙ long) s.wide);
-      marked = marked_put g.T.Whole.MAX (seen_at s.rows.items) (seen_at (with_items s.rows new).items) M row d
-          (revised_cell v M C s.given.own.items (seen_at s.rows.items))
-          (revised_cell v M C (with_items cleared owns).items (seen_at (with_items s.rows new).items))
-          (subst (λ (rs : List (Row g.row.T.Denot g.T.Whole)). IsPut (seen_at s.rows.items) M row d false (seen_at rs))
-          (sym rows) put) cells s.marked;
+      wide = wide_put M (seen_at s.rows.items) t M row d false put (ap length c.as_slice-3.ensures.value ∙ long) s.wide;
+      marked = marked_put g.T.Whole.MAX (seen_at s.rows.items) t M row d
+          (revised_cell v M C s.given.own.items (seen_at s.rows.items)) (revised_cell v M C own t) put
+          (others_stay v M C s.given.own.items own (seen_at s.rows.items) t row d put) s.marked;
       room = long;
       one_number = s.one_number;
       basics = s.basics;
@@ -82,17 +73,16 @@ returns-clause-ok g c =
     let d = v c.in_ok-under.under in
     let row = c.as_slice-3.result.now in
     let new = c.put_row.new.rows in
-    let owns = c.set_only.new.row in
+    let cleared = with_items s.given.own c.clear_row.new.row in
     let plong = c.factor_row.auto.numbers ∙ ap length c.as_mut_slice.ensures.value in
     let piv = with_items_is s.pivot.numbers c.factor_row.new.numbers (plong ∙ sym s.pivot.numbers.ok.0) in
-    let cleared = with_items s.given.own c.clear_row.new.row in
-    let own : (with_items cleared owns).items ≡ owns = with_items_is cleared owns
-    (c.set_only.auto.row ∙ ap length c.as_mut_slice-3.ensures.value ∙ sym cleared.ok.0) in
     let tall = c.put_row.auto.rows ∙ ap length c.as_mut_slice-4.ensures.value in
-    let rows : (with_items s.rows new).items ≡ new = with_items_is s.rows new (tall ∙ sym s.rows.ok.0) in
-    let put : IsPut (seen_at s.rows.items) M row d false (seen_at new) =
-    subst (λ (rs : List (Row g.row.T.Denot g.T.Whole)). IsPut (seen_at rs) M row d false (seen_at new))
-    c.as_mut_slice-4.ensures.value c.put_row.ensures in
+    let rows = with_items_is s.rows new (tall ∙ sym s.rows.ok.0) in
+    let put : IsPut (seen_at s.rows.items) M row d false (seen_at (with_items s.rows new).items) =
+    subst₂ (λ (xs ys : List (Row g.row.T.Denot g.T.Whole)). IsPut (seen_at xs) M row d false (seen_at ys))
+    c.as_mut_slice-4.ensures.value (sym rows) c.put_row.ensures in
+    let own = with_items_is cleared c.set_only.new.row
+    (c.set_only.auto.row ∙ ap length c.as_mut_slice-3.ensures.value ∙ sym cleared.ok.0) in
     let old = revised_cell v M C s.given.own.items (seen_at s.rows.items) in
     let o = least M (λ r. eqb (get_or s.basic.items r 0) s.contacts) in
     let found : c.row_with-row.result ≡ o = c.row_with-row.ensures
@@ -101,17 +91,15 @@ returns-clause-ok g c =
     let factor : IsFactorRow v M C s.given.own.items (seen_at s.rows.items) s.contacts o row d =
     subst (λ (rs : List (Row g.row.T.Denot g.T.Whole)). IsFactorRow v M C s.given.own.items (seen_at rs) s.contacts o
     row d) c.as_slice-2.ensures.value
-    (subst (λ (x : Option ℕ). IsFactorRow v M C s.given.own.items (seen_at c.as_slice-2.result.now) s.contacts x row d)
-    found (subst (λ (xs : List g.row.T.Denot). IsFactorRow v M C s.given.own.items (seen_at c.as_slice-2.result.now)
-    s.contacts c.row_with-row.result xs d) (sym (c.as_slice-3.ensures.value ∙ piv)) c.in_ok-under.ensures.ok)) in
-    let is : (j : ℕ) → own_cell v M C owns row d j ≡ factor_row ordered_fractions old s.contacts o j =
-    factor_is v M C s.given.own.items owns (seen_at s.rows.items) row d s.contacts
-    (omega (arith, s.plain_count, c.requires)) (under_positive s.rows.items)
-    (λ j. c.set_only.ensures j ∙ ap (λ y. cond (eqb j s.contacts) y (pos 0)) c.in_ok-minus_one.ensures) o
-    (found_below M (λ r. eqb (get_or s.basic.items r 0) s.contacts) o refl (λ r. r < M) (λ r l. l)) factor in
-    λ z. record {
-      cell = λ i j. ((λ z. revised_cell v M C (own z) (seen_at (rows z)) i j)
-          ∙ objective_put v M C s.given.own.items owns (seen_at s.rows.items) (seen_at new) row d false put
-          (factor_row ordered_fractions old s.contacts o) is i j) z;
-      basic = λ i. get_or s.basic.items i 0;
-    }
+    (subst₂ (λ (x : Option ℕ) (xs : List g.row.T.Denot). IsFactorRow v M C s.given.own.items
+    (seen_at c.as_slice-2.result.now) s.contacts x xs d) found (sym (c.as_slice-3.ensures.value ∙ piv))
+    c.in_ok-under.ensures.ok) in
+    let cells = objective_put v M C s.given.own.items (with_items cleared c.set_only.new.row).items
+    (seen_at s.rows.items) (seen_at (with_items s.rows new).items) row d put
+    (factor_row ordered_fractions old s.contacts o)
+    (factor_is v M C s.given.own.items (with_items cleared c.set_only.new.row).items (seen_at s.rows.items) row d
+    s.contacts (omega (arith, s.plain_count, c.requires)) (under_positive s.rows.items)
+    (λ j. ap (λ (xs : List g.row.T.Denot). number_at v xs j) own ∙ c.set_only.ensures j
+    ∙ ap (λ y. cond (eqb j s.contacts) y (pos 0)) c.in_ok-minus_one.ensures) o
+    (found_below M (λ r. eqb (get_or s.basic.items r 0) s.contacts) o refl (λ r. r < M) (λ r l. l)) factor) in
+    λ z. record { cell = λ i j. cells i j z; basic = λ i. get_or s.basic.items i 0 }
