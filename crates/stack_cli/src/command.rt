@@ -5,13 +5,13 @@ ghost use Rattle.std.specs.Option.{option_map};
 ghost use Rattle.stack_outside.specs.Faults.{counted};
 ghost use Rattle.stack_outside.specs.Seen.{seen_shelf, seen_stream};
 ghost use Rattle.stack_lines.specs.Refusals.{refusal_view, refusal_line};
-ghost use Rattle.stack_forms.specs.Progress.{Works};
+ghost use Rattle.stack_lines.specs.Progress.{Works};
 ghost use Rattle.stack_cli.specs.Words.{form_of, texts};
-ghost use Rattle.stack_cli.specs.Delivery.{with_line_feed, TakesMemory, Delivers, SaysLine};
-ghost use Rattle.stack_cli.specs.OnePut.{PutsAnswer, PutsLine};
-ghost use Rattle.stack_cli.specs.Runs.{Runs};
+ghost use Rattle.stack_said.specs.Delivery.{with_line_feed, TakesMemory, Delivers, SaysLine};
+ghost use Rattle.stack_said.specs.OnePut.{PutsAnswer, PutsLine};
+ghost use Rattle.stack_said.specs.Runs.{Runs};
 
-use crate::laws::printed_is_accepted;
+use stack_said::printed_is_accepted;
 use crate::words::parse_form;
 use stack_forms::answer_form;
 use stack_lines::{Answer, Refusal};
@@ -34,7 +34,7 @@ fn constant_line(refusal: &Refusal) -> Option<&'static str>
 
 /// Puts the refusal's line on `err`, in one put, and gives the refusal: where memory for the line is wanting, that
 /// refusal.
-#[tactic(auto, using(crate::proofs::Outcomes::line_put))]
+#[tactic(auto, using(stack_said::proofs::Outcomes::line_put))]
 fn say<E: Sink>(alloc: Global, refusal: Refusal, err: &mut E) -> Refusal
     ensures which { (result ≡ refusal) ⊎ (TakesMemory (refusal_view refusal) × (result ≡ Refusal.Memory)) }
     ensures line { SaysLine (refusal_view result) (seen_stream E.Sink err.old err.new) }
@@ -55,7 +55,7 @@ fn say<E: Sink>(alloc: Global, refusal: Refusal, err: &mut E) -> Refusal
 
 /// Writes the answer in one put on `out`, or the line of the refusal on `err`, and gives the status. That the output
 /// failed is no refusal of work.
-#[tactic(auto, using(crate::proofs::Outcomes::line_put))]
+#[tactic(auto, using(stack_said::proofs::Outcomes::line_put))]
 pub fn deliver<O: Sink, E: Sink>(
     alloc: Global,
     worked: Result<Answer, Refusal>,

@@ -3,10 +3,10 @@
 ghost use Rattle.std.specs.Prelude.{◌≡◌};
 ghost use Rattle.stack_outside.specs.Seen.{seen_shelf, seen_stream};
 ghost use Rattle.stack_cli.specs.Words.{form_of_given};
-ghost use Rattle.stack_cli.specs.Runs.{Runs};
+ghost use Rattle.stack_said.specs.Runs.{Runs};
 
 use crate::command::{deliver, run};
-use crate::laws::printed_is_accepted;
+use stack_said::printed_is_accepted;
 use stack_lines::Refusal;
 use stack_outside::{Shelf, Sink};
 use stack_walls::walls_can_be_surveyed;

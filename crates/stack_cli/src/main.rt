@@ -10,7 +10,6 @@
 
 pub mod command;
 pub mod given;
-pub mod laws;
 pub mod standard;
 pub mod words;
 

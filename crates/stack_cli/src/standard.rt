@@ -3,7 +3,7 @@
 ghost use Rattle.std.specs.Prelude.{◌≡◌};
 ghost use Rattle.stack_outside.specs.Seen.{seen_shelf, seen_untold};
 ghost use Rattle.stack_cli.specs.Words.{form_of_given};
-ghost use Rattle.stack_cli.specs.Runs.{Runs};
+ghost use Rattle.stack_said.specs.Runs.{Runs};
 
 use crate::given::{Given, run_given};
 use stack_outside::{FaultSink, OutputSink, Shelf};

@@ -10,4 +10,5 @@ mod forms;
 mod reading;
 mod surveying;
 
-pub use forms::{DEFAULT_BUDGET, Form, Kind, answer_form};
+pub use forms::answer_form;
+pub use stack_lines::{DEFAULT_BUDGET, Form, Kind};

@@ -1,4 +1,5 @@
-//! What the program says: its statuses, the lines of its refusals, and the texts of its answers.
+//! What the program says: its statuses, the lines of its refusals, and the texts of its answers. And the forms of words,
+//! with the order of work on each: definitions and laws, of which no function is made here.
 //!
 //! ```text
 //! Verdict::Denied.status() // 1
@@ -8,8 +9,10 @@
 #![tactic(auto)]
 
 mod answer;
+pub mod form;
 mod model_lines;
 mod refusal;
 
 pub use answer::{Answer, Verdict, rejection, wide_place};
+pub use form::{Asked, DEFAULT_BUDGET, Form, Kind};
 pub use refusal::{Input, Place, ReachPlace, Refusal, Within};

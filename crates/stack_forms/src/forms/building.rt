@@ -7,9 +7,9 @@ ghost use Rattle.stack_stages.specs.Staged.{staged};
 ghost use Rattle.stack_stages.specs.Gives.{stages_view};
 ghost use Rattle.stack_lines.specs.Answers.{stages_verdict as stages_verdict_of};
 ghost use Rattle.stack_lines.specs.Refusals.{refusal_view, faulty};
-ghost use Rattle.stack_forms.specs.Judging.{wide_within};
-ghost use Rattle.stack_forms.specs.Building.{stages_step, ordered, ordered_file, stages_work};
-ghost use Rattle.stack_forms.specs.Progress.{Does, DoesAlone, AnswersDue};
+ghost use Rattle.stack_lines.specs.Judging.{wide_within};
+ghost use Rattle.stack_lines.specs.Building.{stages_step, ordered, ordered_file, stages_work};
+ghost use Rattle.stack_lines.specs.Progress.{Does, DoesAlone, AnswersDue};
 
 use crate::forms::judging::wide;
 use crate::reading::read_file;

@@ -5,9 +5,9 @@ ghost use Rattle.stack_outside.specs.Seen.{seen_shelf};
 ghost use Rattle.stack_certificate.specs.Certificate.{certificate_view};
 ghost use Rattle.stack_checker.specs.WrittenCheck.{written_check};
 ghost use Rattle.stack_checker.specs.declared.types.Check.TheVariants.{Accepted};
-ghost use Rattle.stack_forms.specs.Checking.{check_step, certificate_due, checked, checked_file, certificate_work};
-ghost use Rattle.stack_forms.specs.Tables.{due_of};
-ghost use Rattle.stack_forms.specs.Progress.{Does, DoesAlone, AnswersDue};
+ghost use Rattle.stack_lines.specs.Checking.{check_step, certificate_due, checked, checked_file, certificate_work};
+ghost use Rattle.stack_lines.specs.Tables.{due_of};
+ghost use Rattle.stack_lines.specs.Progress.{Does, DoesAlone, AnswersDue};
 
 use crate::forms::tabling::tables;
 use crate::reading::read_file;
@@ -15,18 +15,9 @@ use crate::surveying::survey_file;
 use stack_certificate::types::{Certificate, TextError};
 use stack_checker::types::Check;
 use stack_contact::types::Survey;
-use stack_lines::{Answer, Input, Refusal, Verdict, Within, rejection, wide_place};
+use stack_lines::{Answer, Asked, Input, Refusal, Verdict, Within, rejection, wide_place};
 use stack_outside::Shelf;
 use std::alloc::Global;
-
-/// What is asked of an accepted certificate.
-#[derive(Clone, Copy, Debug, PartialEq, Eq)]
-pub enum Asked {
-    /// That it is accepted.
-    Acceptance,
-    /// Its tables.
-    Tables,
-}
 
 /// The answer to what a check gives, or the refusal of a sum that is too wide.
 fn check_answer(alloc: Global, survey: &Survey, check: Check) -> Result<Answer, Refusal>

@@ -9,9 +9,9 @@ ghost use Rattle.stack_yield.specs.Kept.{region_view};
 ghost use Rattle.stack_yield.specs.Outcomes.{outcomes};
 ghost use Rattle.stack_lines.specs.Answers.{region_verdict as region_verdict_of};
 ghost use Rattle.stack_lines.specs.Refusals.{refusal_view, faulty};
-ghost use Rattle.stack_forms.specs.Yielding.{wide_toward, region_step, directed, directed_file, paired_file};
-ghost use Rattle.stack_forms.specs.Yielding.{yield_work};
-ghost use Rattle.stack_forms.specs.Progress.{Does, DoesAlone, AnswersDue};
+ghost use Rattle.stack_lines.specs.Yielding.{wide_toward, region_step, directed, directed_file, paired_file};
+ghost use Rattle.stack_lines.specs.Yielding.{yield_work};
+ghost use Rattle.stack_lines.specs.Progress.{Does, DoesAlone, AnswersDue};
 
 use crate::forms::judging::wide;
 use crate::reading::read_file;

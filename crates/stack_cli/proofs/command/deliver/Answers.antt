@@ -1,7 +1,7 @@
 use Rattle.std.proofs.Common.{refl}
 use Rattle.stack_outside.specs.Seen.{seen_stream}
-use Rattle.stack_cli.proofs.Outcomes.{kept_same, refusal_told}
-use Rattle.stack_cli.proofs.Puts.{puts_nothing}
+use Rattle.stack_said.proofs.Outcomes.{kept_same, refusal_told}
+use Rattle.stack_said.proofs.Puts.{puts_nothing}
 use Rattle.stack_cli.proofs.command.deliver.Goals as goal
 
 pub returns-clause-delivers : goal.returns-clause-delivers

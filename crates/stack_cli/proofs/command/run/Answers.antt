@@ -1,6 +1,6 @@
-use Rattle.stack_cli.proofs.Consequences.{run_meets}
-use Rattle.stack_cli.proofs.Puts.{work_refuses_otherwise}
-use Rattle.stack_cli.proofs.RunSaid.{run_says}
+use Rattle.stack_said.proofs.Consequences.{run_meets}
+use Rattle.stack_said.proofs.Puts.{work_refuses_otherwise}
+use Rattle.stack_said.proofs.RunSaid.{run_says}
 use Rattle.stack_cli.proofs.command.run.Goals as goal
 
 pub returns : goal.returns

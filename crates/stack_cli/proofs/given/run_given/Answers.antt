@@ -1,7 +1,7 @@
 use Rattle.std.proofs.Common.{refl}
-use Rattle.stack_cli.proofs.Consequences.{words_status, memory_status}
-use Rattle.stack_cli.proofs.Outcomes.{none_works, memory_works}
-use Rattle.stack_cli.proofs.Refusing.{refused_runs}
+use Rattle.stack_said.proofs.Consequences.{words_status, memory_status}
+use Rattle.stack_said.proofs.Outcomes.{none_works, memory_works}
+use Rattle.stack_said.proofs.Refusing.{refused_runs}
 use Rattle.stack_cli.proofs.given.run_given.Goals as goal
 
 pub returns-in-Unreadable-clause-runs : goal.returns-in-Unreadable-clause-runs

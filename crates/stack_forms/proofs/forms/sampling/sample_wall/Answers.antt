@@ -4,12 +4,12 @@ use Rattle.stack_model.specs.Structure.{HasLive}
 use Rattle.stack_contact.specs.Surveyed.{Surveyed}
 use Rattle.stack_lines.specs.declared.answer.Answer.{Answer}
 use Rattle.stack_lines.specs.Answers.{Due}
-use Rattle.stack_forms.specs.Work.{surveys}
-use Rattle.stack_forms.specs.Surveying.{survey_step}
-use Rattle.stack_forms.specs.Progress.{IsSeenSurvey, AnswersDue}
-use Rattle.stack_forms.specs.Sampling.{sampled}
-use Rattle.stack_forms.proofs.AcceptedFiles.{same_structure}
-use Rattle.stack_forms.proofs.Steps.{alone_then, alone_refused}
+use Rattle.stack_lines.specs.Work.{surveys}
+use Rattle.stack_lines.specs.Surveying.{survey_step}
+use Rattle.stack_lines.specs.Progress.{IsSeenSurvey, AnswersDue}
+use Rattle.stack_lines.specs.Sampling.{sampled}
+use Rattle.stack_lines.proofs.AcceptedFiles.{same_structure}
+use Rattle.stack_lines.proofs.Steps.{alone_then, alone_refused}
 use Rattle.stack_forms.proofs.forms.sampling.sample_wall.Goals as goal
 
 pub sample_survey-requires : goal.sample_survey-requires

@@ -1,5 +1,0 @@
-use Rattle.stack_cli.proofs.ModelProper.{accepted_proper}
-use Rattle.stack_cli.proofs.laws.accepted_models_are_proper.Goals as goal
-
-pub returns : goal.returns
-returns c = accepted_proper

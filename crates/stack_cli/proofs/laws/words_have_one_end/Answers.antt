@@ -1,5 +1,0 @@
-use Rattle.stack_forms.proofs.OneEnd.{words_end}
-use Rattle.stack_cli.proofs.laws.words_have_one_end.Goals as goal
-
-pub returns : goal.returns
-returns c = words_end

@@ -1,0 +1,176 @@
+-- What the work returned and what was given out, against the ways through the work.
+use Rattle.std.proofs.Common.{◌≡◌, ℕ, ◌<◌, ◌≤◌, ◌⊎◌, inl, inr, List, [], ◌∷◌, Option, Some, None, Result}
+use Rattle.std.proofs.Common.{Ok, Err, OnErr, subst, sym, ap, refl, arith}
+use Rattle.std.specs.Bool.{⊤}
+use Rattle.std.specs.Io.KnownBytes.{Appends, Keeps}
+use Rattle.stack_outside.specs.declared.error.SinkFailed.{SinkFailed}
+use Rattle.stack_outside.specs.declared.shelf.Shelf.{Ghosts}
+use Rattle.stack_outside.specs.Seen.{ShelfSeen, StreamSeen, TookNothing, seen_shelf}
+use Rattle.stack_outside.specs.Sinks.{Puts}
+use Rattle.stack_lines.specs.declared.answer.Answer.{Answer}
+use Rattle.stack_lines.specs.declared.answer.Verdict.{Verdict}
+use Rattle.stack_lines.specs.declared.answer.Verdict.TheVariants.{Affirmed, Denied}
+use Rattle.stack_lines.specs.declared.refusal.Refusal.{Refusal as CodeRefusal}
+use Rattle.stack_lines.specs.declared.refusal.Refusal.TheVariants as code
+use Rattle.stack_lines.specs.Forms.{Form, work_of}
+use Rattle.stack_lines.specs.Refusals.{Refusal, words, file, faulty, output, refusal_view, status_of, Fault, long}
+use Rattle.stack_lines.specs.Refusals.{content, overlap, many_bearings, certificate_line, wide_check, memory, size}
+use Rattle.stack_lines.specs.Refusals.{order_line, directions_line, wide_run, wide_end, wide_reach, wide_table}
+use Rattle.stack_lines.specs.Refusals.{over_budget, no_live, no_pair}
+use Rattle.stack_lines.specs.Answers.{Due, verdict_status}
+use Rattle.stack_lines.specs.Work.{Work, gives, refuses, reads, surveys, Holds, Ends}
+use Rattle.stack_lines.specs.Progress.{Returns, AnswersDue, Way, ReturnsAnswer, Does, Works}
+use Rattle.stack_lines.proofs.Steps.{none_asked}
+use Rattle.stack_said.specs.Delivery.{SaysLine, TakesMemory, Delivers}
+
+-- An error stream that didn't fail took the whole line.
+pub line_put : (old new : Option (List ℕ)) (piece : List ℕ) (result : Result ⊤ SinkFailed) (P : Type 0)
+    → Puts old new piece result → OnErr result P → ¬ P → Appends old new piece
+line_put old new piece (Ok done) P puts cause not = puts
+line_put old new piece (Err e) P puts cause not = absurd (not cause)
+
+-- A refusal was told, or memory for its line was wanting.
+told_as : (r q : CodeRefusal) → (q ≡ r) ⊎ (TakesMemory (refusal_view r) × (q ≡ code.Memory))
+    → (refusal_view q ≡ refusal_view r) ⊎ (TakesMemory (refusal_view r) × (refusal_view q ≡ faulty memory))
+told_as r q (inl same) = inl (ap refusal_view same)
+told_as r q (inr want) = inr (want.0, ap refusal_view want.1)
+
+pub kept_same : (b : Option (List ℕ)) → Keeps b b
+kept_same None = tt
+kept_same (Some bytes) = refl
+
+pub refusal_told : (worked : Result Answer CodeRefusal) (r q : CodeRefusal) (status : ℕ) (out err : StreamSeen)
+    → worked ≡ Err r → (q ≡ r) ⊎ (TakesMemory (refusal_view r) × (q ≡ code.Memory))
+    → status ≡ status_of (refusal_view q) → TookNothing out → SaysLine (refusal_view q) err
+    → Delivers worked status out err
+refusal_told worked r q status out err is which status_is keeps line =
+    subst (λ w. Delivers w status out err) (sym is) (record {
+      told = refusal_view q;
+      which = told_as r q which;
+      is_status = status_is;
+      is_kept = keeps;
+      line = line;
+    })
+
+-- Refusals that work can come to.
+abbrev IsOfWork : Refusal → Type 0
+IsOfWork words = ⊥
+IsOfWork output = ⊥
+IsOfWork _ = ⊤
+
+of_work : {A : Type 0} (holds : Holds) (w : Work A) (names : List (List ℕ)) (r : Refusal) → Ends holds w names (Err r)
+    → IsOfWork r
+of_work holds (gives x) names r p = subst IsOfWork (sym p.1) tt
+of_work holds (refuses q) names r (none, inl same) = subst IsOfWork (sym same) tt
+of_work holds (refuses q) names r (none, inr same) = subst IsOfWork (sym same) tt
+of_work holds (reads input name k) [] r p = subst IsOfWork (sym p) tt
+of_work holds (reads input name k) (n ∷ ns) r (same, inl h) = subst IsOfWork (sym h.1) tt
+of_work holds (reads input name k) (n ∷ ns) r (same, inr h) = of_work holds (k h.0) ns r h.2
+of_work holds (surveys s k) names r (inl h) = subst IsOfWork (sym h.1) tt
+of_work holds (surveys s k) names r (inr h) = of_work holds (k h.0) names r h.2
+
+abbrev pub refusal_or : Refusal → Result Due Refusal → Refusal
+refusal_or r (Ok due) = r
+refusal_or r (Err q) = q
+
+abbrev pub IsWords : Result Due Refusal → Type 0
+IsWords (Err words) = ⊤
+IsWords _ = ⊥
+
+pub not_output : (holds : Holds) (form : Option Form) (names : List (List ℕ)) → Way holds form names (Err output) → ⊥
+not_output holds None names way = subst IsWords (sym way.1) tt
+not_output holds (Some form) names way = of_work holds (work_of form) names output way
+
+pub only_none : (holds : Holds) (form : Option Form) (names : List (List ℕ)) → Way holds form names (Err words)
+    → form ≡ None
+only_none holds None names way = refl
+only_none holds (Some form) names way = absurd (of_work holds (work_of form) names words way)
+
+pub below_two : (v : Verdict) → verdict_status v < 2
+below_two Affirmed = omega arith
+below_two Denied = omega arith
+
+pub fault_above : (f : Fault) → 4 ≤ status_of (faulty f)
+fault_above (long input) = omega arith
+fault_above (content e) = omega arith
+fault_above (overlap first second) = omega arith
+fault_above (many_bearings count) = omega arith
+fault_above size = omega arith
+fault_above (certificate_line number) = omega arith
+fault_above (order_line number) = omega arith
+fault_above (directions_line number) = omega arith
+fault_above (wide_check within part place) = omega arith
+fault_above (wide_run within place) = omega arith
+fault_above (wide_end within place) = omega arith
+fault_above (wide_reach within place) = omega arith
+fault_above (wide_table index) = omega arith
+fault_above (over_budget budget) = omega arith
+fault_above no_live = omega arith
+fault_above (no_pair load) = omega arith
+fault_above memory = omega arith
+
+pub fault_past_output : (f : Fault) → 10 ≡ status_of (faulty f) → ⊥
+fault_past_output (long input) is = omega arith
+fault_past_output (content e) is = omega arith
+fault_past_output (overlap first second) is = omega arith
+fault_past_output (many_bearings count) is = omega arith
+fault_past_output size is = omega arith
+fault_past_output (certificate_line number) is = omega arith
+fault_past_output (order_line number) is = omega arith
+fault_past_output (directions_line number) is = omega arith
+fault_past_output (wide_check within part place) is = omega arith
+fault_past_output (wide_run within place) is = omega arith
+fault_past_output (wide_end within place) is = omega arith
+fault_past_output (wide_reach within place) is = omega arith
+fault_past_output (wide_table index) is = omega arith
+fault_past_output (over_budget budget) is = omega arith
+fault_past_output no_live is = omega arith
+fault_past_output (no_pair load) is = omega arith
+fault_past_output memory is = omega arith
+
+pub from_two : (r : Refusal) → 2 ≤ status_of r
+from_two words = omega arith
+from_two (file input) = omega arith
+from_two (faulty f) = let h = fault_above f in omega (arith, h)
+from_two output = omega arith
+
+-- Work that a form asks for is work on words.
+returned : (holds : Holds) (form : Form) (names : List (List ℕ)) (result : Result Answer CodeRefusal)
+    → Returns AnswersDue holds (work_of form) names result → ReturnsAnswer holds (Some form) names result
+returned holds form names (Ok a) h = h
+returned holds form names (Err code.Memory) h = (Err (faulty memory), h)
+returned holds form names (Err r) h = h
+
+pub form_works : (form : Form) (shelf : ShelfSeen) (result : Result Answer CodeRefusal)
+    → Does AnswersDue (work_of form) shelf result → Works (Some form) shelf result
+form_works form shelf result d = record {
+  names = d.names;
+  asks = d.asks;
+  comes = returned shelf.holds form d.names result d.comes;
+  cause = d.cause;
+  holds = d.holds;
+  later = d.later;
+}
+
+-- Words without a form ask for nothing.
+module _ {S : Type 0} (shelf : Ghosts S) (old : S) where
+  pub none_works : Works None (seen_shelf shelf old old) (Err code.Words)
+  none_works = record {
+    names = [];
+    asks = none_asked (shelf.asked old);
+    comes = (refl, refl);
+    cause = tt;
+    holds = refl;
+    later = omega arith;
+  }
+
+  -- Nor do words for which memory was wanting.
+  pub memory_works : Works None (seen_shelf shelf old old) (Err code.Memory)
+  memory_works = record {
+    names = [];
+    asks = none_asked (shelf.asked old);
+    comes = (Err words, (refl, refl));
+    cause = tt;
+    holds = refl;
+    later = omega arith;
+  }

@@ -1,0 +1,42 @@
+-- What `stand` and `load` print is accepted: `check` of the printed text with the same model comes to that answer,
+-- and to no other but for want of memory and devices that fail. And it is short enough to be read.
+use Rattle.std.specs.Prelude.{◌≡◌, ℕ, ◌<◌, ◌⊎◌, List, [], ◌∷◌, Some, Result, Ok, length}
+use Rattle.stack_outside.specs.Seen.{ShelfSeen, StreamSeen, ShelfFailed, StreamFailed, Took}
+use Rattle.stack_contact.specs.Surveyed.{Surveyed}
+use Rattle.stack_certificate.specs.Certificate.{CertificateValue}
+use Rattle.stack_certificate.specs.CertificateText.{IsCertificateText, text_bound}
+use Rattle.stack_equilibrium.specs.declared.types.Question.{Question}
+use Rattle.stack_judge.specs.Judged.{IsJudged}
+use Rattle.stack_lines.specs.declared.answer.Verdict.TheVariants.{Affirmed}
+use Rattle.stack_lines.specs.Refusals.{Refusal}
+use Rattle.stack_lines.specs.Answers.{Due, exactly}
+use Rattle.stack_lines.specs.CheckText.{accepted_text}
+use Rattle.stack_lines.specs.Work.{Holds, Ends}
+use Rattle.stack_lines.specs.Checking.{check_work}
+use Rattle.stack_lines.specs.AcceptedModel.{IsAcceptedModel}
+use Rattle.stack_lines.specs.OneEnd.{IsSettled}
+
+-- How a check ends that accepts: with `accepted`, and status 0.
+abbrev pub acceptance : Result Due Refusal
+acceptance = Ok (exactly Affirmed accepted_text)
+
+-- A printed certificate is accepted with its own model, and no other settled end comes of its check.
+abbrev pub PrintedIsAccepted : Type 0
+PrintedIsAccepted = (q : Question) (v : Surveyed) (c : CertificateValue) (holds : Holds)
+    (model name bytes text : List ℕ)
+    → holds model ≡ Some bytes → IsAcceptedModel bytes v → IsJudged q v c → IsCertificateText c text
+    → holds name ≡ Some text → Ends holds (check_work model name) (model ∷ name ∷ []) acceptance
+    × ((names : List (List ℕ)) (end : Result Due Refusal) → Ends holds (check_work model name) names end → IsSettled end
+    → end ≡ acceptance)
+
+-- A printed certificate has fewer than 180,000 bytes, and so it isn't refused as too long.
+abbrev pub PrintedIsShort : Type 0
+PrintedIsShort = (q : Question) (v : Surveyed) (c : CertificateValue) (text : List ℕ) → IsJudged q v c
+    → IsCertificateText c text → length text < text_bound
+
+-- What a run of `check` on a printed certificate and its model comes to: `accepted`, with status 0; or the shelf
+-- failed, with 3, or the output, with 10; or memory is wanting.
+abbrev pub IsAcceptedAgain : (status : ℕ) → ShelfSeen → (out : StreamSeen) → Type 0
+IsAcceptedAgain status shelf out =
+    ((status ≡ 0) × Took out accepted_text)
+    ⊎ (((status ≡ 3) × ShelfFailed shelf) ⊎ (((status ≡ 10) × StreamFailed out) ⊎ (status ≡ 11)))
