@@ -15,6 +15,3 @@ mod signs;
 
 pub use entering_column::entering;
 pub use leaving_row::{RatioWide, leaving};
-
-#[cfg(test)]
-mod tests;

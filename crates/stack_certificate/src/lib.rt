@@ -23,6 +23,3 @@ pub use number::read_number;
 pub use reading::{cut_line, read_certificate};
 pub use split::{after, split_once};
 pub use writing::write_certificate;
-
-#[cfg(test)]
-mod tests;

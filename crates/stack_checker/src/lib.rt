@@ -19,6 +19,3 @@ pub mod types;
 
 pub use checking::check;
 pub use laws::check_laws;
-
-#[cfg(test)]
-mod tests;

@@ -18,6 +18,3 @@ pub mod types;
 
 pub use pair::contacts;
 pub use surveying::{survey, survey_again, survey_of};
-
-#[cfg(test)]
-mod tests;

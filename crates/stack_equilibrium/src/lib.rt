@@ -32,6 +32,3 @@ pub use stack_statics::{
 };
 pub use sums::bearing_force;
 pub use surveys::{proper, written_laws};
-
-#[cfg(test)]
-mod tests;

@@ -22,6 +22,3 @@ pub use forces::{forces_at, forces_of, kind_of, last_table, ray_at, ray_of};
 pub use motions::{motion_at, motion_of};
 pub use stack_posing::pose;
 pub use types::{EndStep, ExtractError, ExtractPlace, Numbers};
-
-#[cfg(test)]
-mod tests;

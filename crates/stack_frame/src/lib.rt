@@ -17,6 +17,3 @@ mod laws;
 pub use cone::{Cone, cone_of};
 pub use frame::{Frame, frame_of};
 pub use laws::{one_cone, one_frame, wide_by_products};
-
-#[cfg(test)]
-mod tests;

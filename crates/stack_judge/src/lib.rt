@@ -20,6 +20,3 @@ mod types;
 pub use judging::{judge, judge_marked};
 pub use laws::{columns_law, judgement_law};
 pub use types::{JudgeError, JudgePlace};
-
-#[cfg(test)]
-mod tests;

@@ -35,6 +35,3 @@ pub use model::{Model, is_still};
 pub use places::{Key, Spot, What};
 pub use raw::{Parts, RawBlock, RawJoint, RawLoad, RawMaterial};
 pub use types::{Body, Joint, Load, Material};
-
-#[cfg(test)]
-mod tests;

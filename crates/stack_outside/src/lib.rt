@@ -34,6 +34,3 @@ pub use stream::{EitherStream, Stream};
 pub use system::{
     FaultSink, OutputSink, SystemFile, SystemFiles, SystemStream, standard_error, standard_output,
 };
-
-#[cfg(test)]
-mod tests;

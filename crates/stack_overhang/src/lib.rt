@@ -22,6 +22,3 @@ mod walls;
 pub use error::StackError;
 pub use stacks::{harmonic, slab, triangle};
 pub use walls::wall;
-
-#[cfg(test)]
-mod tests;

@@ -19,6 +19,3 @@ pub mod types;
 pub use boxes::apart;
 pub use separating::separator;
 pub use shared::common;
-
-#[cfg(test)]
-mod tests;

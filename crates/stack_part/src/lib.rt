@@ -14,6 +14,3 @@ mod surveys;
 
 pub use models::part;
 pub use surveys::survey_part;
-
-#[cfg(test)]
-mod tests;

@@ -25,6 +25,3 @@ pub use laws::convexity_by_test;
 pub use point::{Point, Span};
 pub use polygon::Polygon;
 pub use turns::{advance, next, triangle};
-
-#[cfg(test)]
-mod tests;

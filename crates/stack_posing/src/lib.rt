@@ -17,6 +17,3 @@ mod posing;
 pub use equation_laws::{edge_laws, free_body_laws, motion_laws, solution_laws};
 pub use laws::survey_law;
 pub use posing::pose;
-
-#[cfg(test)]
-mod tests;

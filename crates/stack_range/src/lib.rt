@@ -18,6 +18,3 @@ pub use laws::range_laws;
 pub use ranging::range;
 pub use reversing::other_side;
 pub use text::write_range;
-
-#[cfg(test)]
-mod tests;

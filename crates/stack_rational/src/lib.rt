@@ -24,6 +24,3 @@ pub use integer::Integer;
 pub use laws::{fraction_fitting_law, order_law, wider_law};
 pub use of_wholes::{over, whole};
 pub use scale::{ScaleWide, common_scale, scale_law};
-
-#[cfg(test)]
-mod tests;

@@ -20,6 +20,3 @@ pub use errors::ReadError;
 pub use keys::word;
 pub use reading::read_model;
 pub use writing::write_model;
-
-#[cfg(test)]
-mod tests;

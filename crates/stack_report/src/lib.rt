@@ -19,6 +19,3 @@ pub use errors::ReportError;
 pub use forces::force_table;
 pub use lines::number;
 pub use summary::sample_summary;
-
-#[cfg(test)]
-mod tests;

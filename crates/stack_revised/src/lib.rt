@@ -26,6 +26,3 @@ pub use ended::RevisedEnd;
 pub use last::Last;
 pub use running::run_revised;
 pub use stops::RevisedStop;
-
-#[cfg(test)]
-mod tests;

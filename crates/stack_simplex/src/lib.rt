@@ -82,6 +82,3 @@ pub fn run<S: Exact>(t: Table<S>, budget: u32) -> Result<Ended<S>, RunError>
     budget_law();
     run_phases(t, budget)
 }
-
-#[cfg(test)]
-mod tests;

@@ -24,6 +24,3 @@ pub use laws::stages_laws;
 pub use reading::read_order;
 pub use stage::stage_of;
 pub use text::write_stages;
-
-#[cfg(test)]
-mod tests;

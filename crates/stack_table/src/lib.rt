@@ -19,6 +19,3 @@ pub mod table;
 pub mod types;
 
 pub use table::Table;
-
-#[cfg(test)]
-mod tests;

@@ -15,6 +15,3 @@ mod whole;
 
 pub use laws::fitting_law;
 pub use whole::{Whole, Wide};
-
-#[cfg(test)]
-mod tests;

@@ -28,6 +28,3 @@ pub use gathering::region;
 pub use laws::directions_laws;
 pub use naming::pair;
 pub use text::write_region;
-
-#[cfg(test)]
-mod tests;
