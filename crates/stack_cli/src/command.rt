@@ -11,11 +11,11 @@ ghost use Rattle.stack_said.specs.Delivery.{with_line_feed, TakesMemory, Deliver
 ghost use Rattle.stack_said.specs.OnePut.{PutsAnswer, PutsLine};
 ghost use Rattle.stack_said.specs.Runs.{Runs};
 
-use stack_said::printed_is_accepted;
 use crate::words::parse_form;
 use stack_forms::answer_form;
 use stack_lines::{Answer, Refusal};
 use stack_outside::{Shelf, Sink, SinkFailed};
+use stack_said::printed_is_accepted;
 use stack_walls::walls_can_be_surveyed;
 use std::alloc::Global;
 

@@ -6,9 +6,9 @@ ghost use Rattle.stack_cli.specs.Words.{form_of_given};
 ghost use Rattle.stack_said.specs.Runs.{Runs};
 
 use crate::command::{deliver, run};
-use stack_said::printed_is_accepted;
 use stack_lines::Refusal;
 use stack_outside::{Shelf, Sink};
+use stack_said::printed_is_accepted;
 use stack_walls::walls_can_be_surveyed;
 use std::alloc::Global;
 

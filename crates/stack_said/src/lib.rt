@@ -5,6 +5,6 @@
 mod laws;
 
 pub use laws::{
-    accepted_is_true_of_files, accepted_models_are_proper, goes_on_with_accepted_models, printed_is_accepted,
-    words_have_one_end,
+    accepted_is_true_of_files, accepted_models_are_proper, goes_on_with_accepted_models,
+    printed_is_accepted, words_have_one_end,
 };

@@ -1,12 +1,12 @@
 //! Runs worked by hand.
 
 use crate::problems::{column, problem};
-use stack_tableau::EndKind;
 use stack_revised::ended::RevisedEnd;
 use stack_revised::{RevisedStop, run_revised};
 use stack_run::RunPlace;
 use stack_table::problem::Problem;
 use stack_table::types::Step;
+use stack_tableau::EndKind;
 use std::alloc::Global;
 use std::test::Fail;
 
