@@ -17,7 +17,7 @@ use Rattle.stack_inverse.specs.declared.columns.Cell.{Cell}
 use Rattle.stack_inverse.specs.declared.columns.Column.{Column}
 use Rattle.stack_rows.specs.RowForm.{number_at}
 use Rattle.stack_inverse.specs.RowBlock.{IsWholeTop}
-use Rattle.stack_inverse.specs.Columns.{combined, sizes, by_place, number, entry_of, rises, cells_at}
+use Rattle.stack_inverse.specs.Columns.{combined, sizes, by_place, entry_of, rises, cells_at}
 use Rattle.stack_inverse.specs.Columns.{AreFirst, IsOwn, revised_own, number_with}
 use Rattle.stack_inverse.specs.ShortRow.{products_in, product_sizes, own_number, IsShortRow}
 use Rattle.stack_rows.proofs.Numbers.{at-past}

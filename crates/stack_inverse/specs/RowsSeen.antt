@@ -1,5 +1,5 @@
 -- What is seen of the rows of a table, and of the pivot row.
-use Rattle.std.specs.Prelude.{◌≡◌, ℕ, suc, ◌+◌, ◌<◌, true, List, length, ℤ, pos, ◌<ℤ◌}
+use Rattle.std.specs.Prelude.{◌≡◌, ℕ, suc, ◌+◌, List, length, ℤ, pos, ◌<ℤ◌}
 use Rattle.std.specs.Prelude.{unsigned_abs}
 use Rattle.stack_algebra.specs.Fraction.{Fraction}
 use Rattle.stack_rows.specs.declared.whole.Whole.{Ghosts}
