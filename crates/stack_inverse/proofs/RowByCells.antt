@@ -8,7 +8,7 @@ use Rattle.std.proofs.lemmas.Int.{ints, unsigned_abs-mul}
 use Rattle.std.proofs.lemmas.Bool.{leb-true, le-ltb, lt-ltb, eq-eqb, ne_eqb}
 use Rattle.stack_algebra.specs.Fraction.{Fraction}
 use Rattle.stack_algebra.specs.Gcd.{gcd}
-use Rattle.stack_algebra.specs.Search.{first, only_if}
+use Rattle.stack_algebra.specs.Search.{only_if}
 use Rattle.stack_algebra.proofs.Search.{first-none, or_none, only_if-none}
 use Rattle.stack_algebra.proofs.CommonDivisor.{gcd-left, gcd-right}
 use Rattle.stack_algebra.proofs.Conjunctions.{not-false, left_true, right_true}
