@@ -16,7 +16,7 @@ the live loads come close to the factor. (CERT is without `.cert` at its end in 
     CERT-beyond.toml, CERT-beyond.cert      `beyond N/D accepted`: N/D of the live loads isn't
 
 Each model is the one that `tools/variant.py share MODEL N D` prints. Both are at most MICRO millionths of the factor
-apart, 2 if no number is given; where nothing so near is found, wider ones are tried.
+apart, 2 if no number is given and 1,000,000 at most; where nothing so near is found, wider ones are tried.
 
 `range` settles the model and then the reversed one, CERT-reversed.toml with CERT-reversed.cert; the program's `load`
 answers where it can. What is found behind the line `reversed` is of that model.
@@ -122,7 +122,7 @@ class Solver:
         return self.opened
 
     def accepted(self, model, name, lines):
-        """Writes a certificate; it must be accepted."""
+        """Writes a certificate, which must be accepted: else it is taken away, and nothing is announced."""
         lines = [*lines, "end"]
         if bits(lines) > GREATEST.bit_length():
             raise NotFound(f"a certificate of {bits(lines)} bits")
@@ -132,7 +132,8 @@ class Solver:
             raise models.Refused(f"{name}: {fault.strerror}") from None
         self.progress("the check")
         done = models.program("check", model, name)
-        if done.status != 0:
+        if (done.status, done.output) != (0, "accepted\n"):
+            Path(name).unlink()
             said = (done.output or done.error).strip()
             raise NotFound(f"the check of a certificate of {bits(lines)} bits says {said}")
         print(f"{name}: {bits(lines)} bits", file=sys.stderr, flush=True)
@@ -311,7 +312,8 @@ def whole_range(solver):
 
 def faultless(words):
     counts = {"stand": (3,), "load": (3, 4), "range": (3, 4)}
-    return len(words) > 2 and len(words) in counts.get(words[1], ()) and all(w.isdigit() and int(w) for w in words[3:])
+    return (len(words) > 2 and len(words) in counts.get(words[1], ())
+            and all(word.isdecimal() and 1 <= int(word) <= 10**6 for word in words[3:]))
 
 
 def main(words):

@@ -180,10 +180,11 @@ def opening(structure):
 
 def least(works, most=127):
     """What `works` gives at the least scale, a number of bits up to `most`, at which it gives something: about so,
-    since a greater scale nearly always does where a lesser one does. None where it never does."""
+    since a greater scale nearly always does where a lesser one does. None where it never does. Most need few bits, so
+    the range isn't halved, but a quarter of it is tried."""
     low, high, found = -1, most, works(most)
     while found is not None and high - low > 1:
-        middle = (low + high) // 2
+        middle = low + max(1, (high - low) // 4)
         other = works(middle)
         low, high, found = (middle, high, found) if other is None else (low, middle, other)
     return found
