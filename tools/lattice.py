@@ -11,7 +11,6 @@ vectors of signs drawn at random: lengths and angles are measured on it, and so 
 exact. Its unknowns are worked out where they are asked for.
 """
 import random
-from fractions import Fraction
 from heapq import heappop, heappush
 from itertools import count, repeat
 from operator import mul
@@ -141,8 +140,8 @@ class Reduction:
 
 
 def grows(echelon, sums):
-    """Takes sums into the lattice of those reached, which has a row in echelon form or None for each place; says
-    whether it grew."""
+    """Takes sums into the lattice of those reached, and says whether it grew. The lattice is held in echelon form, as
+    in Hermite's normal form: a row, or None, for each place."""
     grew = False
     for place, row in enumerate(echelon):
         if sums[place] and row is None:
@@ -211,8 +210,11 @@ class Step:
 
 
 def inverted(columns, size):
-    """The matrix of whole numbers, over a divisor, that makes of a sum of columns of this size how many of each: after
-    Gauss, Jordan and Bareiss. It is None where the columns aren't independent."""
+    """The inverse of some columns of a size: a matrix of whole numbers, and what to divide by. Multiplied by a sum of
+    columns, it gives how many there are of each, and zeros. It is None where the columns aren't independent.
+
+    Gauss and Jordan's elimination, with Bareiss's divisions, which leave no remainder.
+    """
     table = [[column[k] for column in columns] + [int(i == k) for i in range(size)] for k in range(size)]
     last = 1
     for c in range(len(columns)):

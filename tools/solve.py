@@ -39,7 +39,7 @@ from pathlib import Path
 import model as models
 import statics
 from programs import NoAnswer
-from statics import GREATEST, Never, NotFound, Structure, short_forces, short_motion, work
+from statics import GREATEST, NotFound, Structure, short_forces, short_motion, work
 
 PATIENCE = 2  # seconds until what is at work is told
 UNLIMITED, COLLAPSES = "unlimited", "collapses"
@@ -175,7 +175,7 @@ class Solver:
             self.greatest(factor, motion)
             print(f"greatest {ratio(factor)} accepted, {decimal(factor)}", flush=True)
             return factor, factor
-        except (NotFound, NoAnswer, OverflowError) as fault:
+        except (NotFound, NoAnswer, ArithmeticError) as fault:
             print(f"solve: no certificate of the greatest factor, about {decimal(factor)}: {fault}", file=sys.stderr)
         return self.shares(factor, motion, amounts, dead[0])
 
@@ -209,7 +209,7 @@ class Solver:
         Path(self.cert).unlink(missing_ok=True)
         try:
             self.stands(dead)
-        except (NotFound, OverflowError) as fault:
+        except (NotFound, ArithmeticError) as fault:
             self.lacks("a certificate that the dead loads stand", fault)
         self.progress("forces inside the cones below the factor")
         inside = statics.inner(self.structure, self.structure.dead, self.structure.live, factor)
@@ -231,9 +231,9 @@ class Solver:
                 rounded = floor if word == "carried" else ceil
                 print(f"{word} {ratio(share)} accepted, {decimal(share, rounded)}", flush=True)
                 return share
-            except (NotFound, NoAnswer, OverflowError, models.Refused) as fault:
+            except (NotFound, NoAnswer, ArithmeticError, models.Refused) as fault:
                 part *= 8
-                if part >= 1 or isinstance(fault, Never):
+                if part >= 1:
                     self.lacks(f"a share {word}", fault)
                     for end in "toml", "cert":
                         Path(f"{self.stem}-{word}.{end}").unlink(missing_ok=True)
@@ -329,7 +329,7 @@ def main(words):
         if question != "stand" and not solver.model.has_live():
             models.stop("no live load", 9)
         {"stand": solver.stand, "load": solver.load, "range": lambda: whole_range(solver)}[question]()
-    except (NotFound, NoAnswer, models.Refused, OverflowError) as fault:
+    except (NotFound, NoAnswer, models.Refused, ArithmeticError) as fault:
         models.stop(f"solve: {fault}")
     finally:
         progress.timer.cancel()
