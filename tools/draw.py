@@ -6,7 +6,7 @@
     tools/draw.py [sway X Y] [joint P Q] half VOUSSOIRS RADIUS THICKNESS
     tools/draw.py [sway X Y] [joint P Q] wall COURSES BRICKS [SHIFT]
     tools/draw.py [sway X Y] [joint P Q] coursed COURSES STONES SEED [LEAN]
-    tools/draw.py [sway X Y] [joint P Q] rubble SIDE SEED
+    tools/draw.py [sway X Y] [joint P Q] rubble COURSES [STONES] SEED
     tools/draw.py [sway X Y] [joint P Q] facade [SEED]
 
 Nothing here is proved. The weight and each load are 1, so a factor times the weight of a square of the grid, 1 deep, is
@@ -30,7 +30,8 @@ all fixed bodies are of a material of their own, and P over Q is its friction wi
   joints are common, and `wall 5 1 0` is a pier of five blocks.
 - `coursed`: horizontal courses, 8 to 14 high, of STONES stones each, about 20 long. SEED draws their heights and
   lengths at random. With LEAN each vertical joint is off plumb by at most so many units, at random; up to 5 are safe.
-- `rubble`: SIDE courses of SIDE stones of four corners, about 20 units wide. SEED draws their common corners at random.
+- `rubble`: courses of STONES stones each, as many as there are COURSES if no number is given. The stones have four
+  corners and are about 20 units wide. SEED draws their common corners at random.
 - `facade`: two storeys of twelve stones, with a window and a lintel in each, on a grid of 1 cm. SEED draws its
   dimensions at random; without one it is symmetric.
 
@@ -192,20 +193,21 @@ def coursed(courses, stones, seed, lean=0):
     return ARCH, bodies, (f"s{courses - 1}-0", (0, foot), (1, 0))
 
 
-def rubble(side, seed):
+def rubble(courses, *rest):
+    stones, seed = rest if len(rest) == 2 else (courses, *rest)
     draw = random.Random(seed)
     corner = {}
-    for row in range(side + 1):
-        for column in range(side + 1):
-            across = 0 if column in (0, side) else draw.randint(-3, 3)
-            up = 0 if row in (0, side) else draw.randint(-3, 3)
+    for row in range(courses + 1):
+        for column in range(stones + 1):
+            across = 0 if column in (0, stones) else draw.randint(-3, 3)
+            up = 0 if row in (0, courses) else draw.randint(-3, 3)
             corner[row, column] = (20 * column + across, 20 * row + up)
-    bodies = [("ground", True, rectangle(-20, -10, 20 * side + 20, 0))]
-    for row in range(side):
-        for column in range(side):
+    bodies = [("ground", True, rectangle(-20, -10, 20 * stones + 20, 0))]
+    for row in range(courses):
+        for column in range(stones):
             corners = [corner[row + i, column + j] for i, j in ((0, 0), (0, 1), (1, 1), (1, 0))]
             bodies.append((f"s{row}-{column}", False, corners))
-    return ARCH, bodies, (f"s{side - 1}-0", corner[side, 0], (1, 0))
+    return ARCH, bodies, (f"s{courses - 1}-0", corner[courses, 0], (1, 0))
 
 
 def facade(seed=None):

@@ -11,13 +11,13 @@ vectors of signs drawn at random: lengths and angles are measured on it, and so 
 exact. Its unknowns are worked out where they are asked for.
 """
 import random
-from fractions import Fraction
 from heapq import heappop, heappush
 from itertools import count, repeat
 from operator import mul
 
 TOGETHER = 24  # so many vectors are reduced together, or a few more where the sums need them
 SHADOW = 64  # the numbers of a shadow
+SURE = 2**46  # multiples below this, found in floating point, are right to a small part of 1
 
 
 class NoVector(Exception):
@@ -76,8 +76,7 @@ class Reduction:
     Number Theory. `rows` is the unimodular matrix that makes the reduced basis of the given one."""
 
     def __init__(self, products):
-        self.size = len(products)
-        self.products = [row[:] for row in products]
+        self.size, self.products = len(products), products
         self.rows = [[int(i == j) for j in range(self.size)] for i in range(self.size)]
         self.d = [1] + [0] * self.size  # the determinants of the leading products
         self.lam = [[0] * self.size for _ in range(self.size)]
@@ -101,40 +100,33 @@ class Reduction:
 
     def take(self, k):
         """The first step at a vector: its projections on those before it."""
-        d, lam = self.d, self.lam
+        d, lam, mine = self.d, self.lam, self.lam[k]
         for j in range(k + 1):
-            x = self.products[k][j]
+            x, other = dot(self.products[k], self.rows[j]), lam[j]
             for i in range(j):
-                x = (d[i + 1] * x - lam[k][i] * lam[j][i]) // d[i]
-            lam[k][j] = x
-        d[k + 1] = lam[k][k]
+                x = (d[i + 1] * x - mine[i] * other[i]) // d[i]
+            mine[j] = x
+        d[k + 1] = mine[k]
         self.known = k
 
     def shorten(self, k, other):
         """Takes a multiple of an earlier vector off, so that their projection is at most a half."""
-        d, lam = self.d, self.lam
-        q = (2 * lam[k][other] + d[other + 1]) // (2 * d[other + 1])
-        if q:
-            for table in self.rows, self.products:
-                table[k] = [x - q * y for x, y in zip(table[k], table[other])]
-            for row in self.products:
-                row[k] -= q * row[other]
-            lam[k][other] -= q * d[other + 1]
-            for i in range(other):
-                lam[k][i] -= q * lam[other][i]
+        mine, d = self.lam[k], self.d[other + 1]
+        if -d <= 2 * mine[other] < d:
+            return
+        q = (2 * mine[other] + d) // (2 * d)
+        self.rows[k] = [x - q * y for x, y in zip(self.rows[k], self.rows[other])]
+        mine[other] -= q * d
+        mine[:other] = [x - q * y for x, y in zip(mine[:other], self.lam[other])]
 
     def out_of_order(self, k):
         """Lovasz's condition, with 3/4, fails."""
         return 4 * self.d[k + 1] * self.d[k - 1] < 3 * self.d[k] ** 2 - 4 * self.lam[k][k - 1] ** 2
 
     def swap(self, k):
-        d, lam = self.d, self.lam
-        for table in self.rows, self.products:
-            table[k], table[k - 1] = table[k - 1], table[k]
-        for row in self.products:
-            row[k], row[k - 1] = row[k - 1], row[k]
-        for j in range(k - 1):
-            lam[k][j], lam[k - 1][j] = lam[k - 1][j], lam[k][j]
+        d, lam, rows = self.d, self.lam, self.rows
+        rows[k], rows[k - 1] = rows[k - 1], rows[k]
+        lam[k][:k - 1], lam[k - 1][:k - 1] = lam[k - 1][:k - 1], lam[k][:k - 1]
         side = lam[k][k - 1]
         new = (d[k - 1] * d[k + 1] + side * side) // d[k]
         for i in range(k + 1, self.known + 1):
@@ -144,55 +136,12 @@ class Reduction:
         d[k] = new
 
 
-class Plane:
-    """Babai's nearest plane on a reduced basis. What is to be taken off is found in floating point and taken off
-    exactly, until nothing is left to take."""
-
-    def __init__(self, basis):
-        self.basis = basis
-        self.products = [[dot(u.shadow, v.shadow) for v in basis] for u in basis]
-        self.mu, self.squares = [], []  # of Gram and Schmidt
-        for products in self.products:
-            parts = self.projections(products)
-            self.mu.append([x / y for x, y in zip(parts, self.squares)])
-            self.squares.append(products[len(parts)] - dot(self.mu[-1], parts))
-
-    def projections(self, products):
-        """From a vector's products with the basis, those with the orthogonal vectors."""
-        parts = []
-        for product, mu in zip(products, self.mu):
-            parts.append(float(product) - dot(mu, parts))
-        return parts
-
-    def to_take(self, products):
-        parts = [x / y for x, y in zip(self.projections(products), self.squares)]
-        times = [0] * len(parts)
-        for i in range(len(parts) - 1, -1, -1):
-            if q := round(parts[i]):
-                times[i] = q
-                parts[:i] = [x - q * y for x, y in zip(parts, self.mu[i])]
-        return times
-
-    def shortened(self, vector):
-        products = [dot(vector.shadow, v.shadow) for v in self.basis]
-        taken = [0] * len(self.basis)
-        for _ in range(20):
-            times = self.to_take(products)
-            if not any(times):
-                break
-            for i, q in enumerate(times):
-                if q:
-                    taken[i] -= q
-                    products = [x - q * y for x, y in zip(products, self.products[i])]
-        return combined([(1, vector), *zip(taken, self.basis)]) if any(taken) else vector
-
-
 # Sums
 
 
 def grows(echelon, sums):
-    """Takes sums into the lattice of those reached, which has a row in echelon form or None for each place; says
-    whether it grew."""
+    """Takes sums into the lattice of those reached, and says whether it grew. The lattice is held in echelon form, as
+    in Hermite's normal form: a row, or None, for each place."""
     grew = False
     for place, row in enumerate(echelon):
         if sums[place] and row is None:
@@ -206,54 +155,94 @@ def grows(echelon, sums):
     return grew
 
 
-class Pivots:
-    """Vectors with independent sums in the rows of a group, which clear these sums in others."""
+class Step:
+    """Vectors reduced together at a group of rows, with what Gram and Schmidt make of them in floating point.
 
-    def __init__(self, group, vectors):
+    The first of them have no sums in the group. The last, the pivots, have independent ones: whole multiples of them
+    clear the sums of other vectors there. Babai's nearest plane then keeps these short.
+    """
+
+    def __init__(self, group, vectors, reduction):
         self.group, self.vectors = group, vectors
-        self.ends = [vector.at(group) for vector in vectors]
-        self.inverse = self.inverted()
+        ends = [vector.at(group) for vector in vectors]
+        self.plain = sum(not any(end) for end in ends)  # how many have no sums in the group
+        self.inverse, self.divisor = inverted(ends[self.plain:], len(group))
+        self.mu = [[x / y for x, y in zip(row[:k], reduction.d[1:])] for k, row in enumerate(reduction.lam)]
+        self.squares = [y / x for x, y in zip(reduction.d, reduction.d[1:])]
+        self.shadows = [[*map(float, vector.shadow)] for vector in vectors[:self.plain]]
 
-    def inverted(self):
-        """The matrix that makes multiples of the pivots of sums, or None where their sums aren't independent."""
-        size = len(self.group)
-        table = [[Fraction(end[k]) for end in self.ends] + [Fraction(int(i == k)) for i in range(size)]
-                 for k in range(size)]
-        for c in range(len(self.ends)):
-            p = next((i for i in range(c, size) if table[i][c]), None)
-            if p is None:
-                return None
-            table[c], table[p] = table[p], table[c]
-            table[c] = [x / table[c][c] for x in table[c]]
-            for i in range(size):
-                if i != c and table[i][c]:
-                    table[i] = [x - table[i][c] * y for x, y in zip(table[i], table[c])]
-        return [row[len(self.ends):] for row in table]
+    def multiples(self, vector):
+        """How many times each pivot has a vector's sums in the group."""
+        sums, pivots = vector.at(self.group), len(self.vectors) - self.plain
+        if not any(sums):
+            return [0] * pivots
+        times = [dot(row, sums) for row in self.inverse]
+        if any(x % self.divisor for x in times) or any(times[pivots:]):
+            raise NoVector
+        return [x // self.divisor for x in times[:pivots]]
 
     def cleared(self, vector):
-        """The vector without its sums in the group."""
-        sums = vector.at(self.group)
-        if not any(sums):
-            return vector
-        times = [dot(row, sums) for row in self.inverse]
-        if any(x.denominator > 1 for x in times) or any(times[len(self.ends):]):
-            raise NoVector
-        return combined([(1, vector), *((-int(x), pivot) for x, pivot in zip(times, self.vectors))])
+        """The vector without its sums in the group, and shortened: what is taken off is whole, but found in floating
+        point, so where it's much it is looked for again."""
+        for _ in range(20):
+            taken = self.nearest(vector, self.multiples(vector))
+            if any(taken):
+                vector = combined([(1, vector), *((-x, other) for x, other in zip(taken, self.vectors))])
+            if max(map(abs, taken), default=0) < SURE:
+                break
+        return vector
+
+    def nearest(self, vector, pivots):
+        """The multiples of all vectors to take off, those of the pivots given."""
+        shadow, parts = [*map(float, vector.shadow)], []
+        for other, mu in zip(self.shadows, self.mu):
+            parts.append(dot(shadow, other) - dot(mu, parts))
+        parts = [x / y for x, y in zip(parts, self.squares)]
+        taken = [0] * self.plain + pivots
+        for times, mu in zip(pivots, self.mu[self.plain:]):
+            if times:
+                parts = [x - times * y for x, y in zip(parts, mu)]
+        for k in range(self.plain - 1, -1, -1):
+            if times := round(parts[k]):
+                taken[k] = times
+                parts[:k] = [x - times * y for x, y in zip(parts, self.mu[k])]
+        return taken
+
+
+def inverted(columns, size):
+    """The inverse of some columns of a size: a matrix of whole numbers, and what to divide by. Multiplied by a sum of
+    columns, it gives how many there are of each, and zeros. It is None where the columns aren't independent.
+
+    Gauss and Jordan's elimination, with Bareiss's divisions, which leave no remainder.
+    """
+    table = [[column[k] for column in columns] + [int(i == k) for i in range(size)] for k in range(size)]
+    last = 1
+    for c in range(len(columns)):
+        p = next((i for i in range(c, size) if table[i][c]), None)
+        if p is None:
+            return None, 1
+        table[c], table[p] = table[p], table[c]
+        for i in range(size):
+            if i != c:
+                table[i] = [(table[c][c] * x - table[i][c] * y) // last for x, y in zip(table[i], table[c])]
+        last = table[c][c]
+    return [row[len(columns):] for row in table], last
 
 
 def parted(group, vectors):
-    """Vectors with sums in a group, reduced together: those that have none there now, and the pivots.
+    """Vectors with sums in a group, reduced together, as a step.
 
-    The sums count as a part of a vector's length. Where they weigh enough, the pivots come apart from the others.
+    The sums count as a part of a vector's length. Where they weigh enough, the pivots come last.
     """
-    products = [[dot(u.shadow, v.shadow) for v in vectors] for u in vectors]
+    products = [[dot(u.shadow, v.shadow) for v in vectors[:k + 1]] for k, u in enumerate(vectors)]
     sums = [vector.at(group) for vector in vectors]
     for bits in count(40, 40):
         weighed = [[x + (dot(s, t) << bits) for x, t in zip(row, sums)] for row, s in zip(products, sums)]
-        made = [combined(zip(times, vectors)) for times in Reduction(weighed).rows]
-        pivots = Pivots(group, [vector for vector in made if any(vector.at(group))])
-        if len(pivots.ends) <= len(group) and pivots.inverse is not None:
-            return [vector for vector in made if not any(vector.at(group))], pivots
+        reduction = Reduction(weighed)
+        made = [combined(zip(times, vectors)) for times in reduction.rows]
+        step = Step(group, made, reduction)
+        if step.inverse is not None and not any(any(vector.at(group)) for vector in made[:step.plain]):
+            return step
 
 
 # The lattice
@@ -303,10 +292,9 @@ class Lattice:
         for vector in taken:
             grew = grows(reached, vector.at(group))
             (first if grew or len(first) < min(6 + bits // 2, TOGETHER) else others).append(vector)
-        still, pivots = parted(group, first)
-        plane = Plane(still)
-        self.steps.append((pivots, plane))
-        return still + [plane.shortened(pivots.cleared(vector)) for vector in others]
+        step = parted(group, first)
+        self.steps.append(step)
+        return step.vectors[:step.plain] + [step.cleared(vector) for vector in others]
 
     def near(self, whole):
         """A vector of the lattice near a whole one: the whole one's sums are cleared group by group."""
@@ -315,6 +303,6 @@ class Lattice:
             for row, x in column.items() if amount else ():
                 sums[row] = sums.get(row, 0) + amount * x
         more = Vector(sums, [0] * SHADOW)
-        for pivots, plane in self.steps:
-            more = plane.shortened(pivots.cleared(more))
+        for step in self.steps:
+            more = step.cleared(more)
         return [x + y for x, y in zip(whole, more.unknowns(len(whole)))]

@@ -16,7 +16,7 @@ the live loads come close to the factor. (CERT is without `.cert` at its end in 
     CERT-beyond.toml, CERT-beyond.cert      `beyond N/D accepted`: N/D of the live loads isn't
 
 Each model is the one that `tools/variant.py share MODEL N D` prints. Both are at most MICRO millionths of the factor
-apart, 2 if no number is given; where nothing so near is found, wider ones are tried.
+apart, 2 if no number is given and 1,000,000 at most; where nothing so near is found, wider ones are tried.
 
 `range` settles the model and then the reversed one, CERT-reversed.toml with CERT-reversed.cert; the program's `load`
 answers where it can. What is found behind the line `reversed` is of that model.
@@ -39,7 +39,7 @@ from pathlib import Path
 import model as models
 import statics
 from programs import NoAnswer
-from statics import GREATEST, Never, NotFound, Structure, short_forces, short_motion, work
+from statics import GREATEST, NotFound, Structure, short_forces, short_motion, work
 
 PATIENCE = 2  # seconds until what is at work is told
 UNLIMITED, COLLAPSES = "unlimited", "collapses"
@@ -122,7 +122,7 @@ class Solver:
         return self.opened
 
     def accepted(self, model, name, lines):
-        """Writes a certificate; it must be accepted."""
+        """Writes a certificate, which must be accepted: else it is taken away, and nothing is announced."""
         lines = [*lines, "end"]
         if bits(lines) > GREATEST.bit_length():
             raise NotFound(f"a certificate of {bits(lines)} bits")
@@ -132,7 +132,8 @@ class Solver:
             raise models.Refused(f"{name}: {fault.strerror}") from None
         self.progress("the check")
         done = models.program("check", model, name)
-        if done.status != 0:
+        if (done.status, done.output) != (0, "accepted\n"):
+            Path(name).unlink()
             said = (done.output or done.error).strip()
             raise NotFound(f"the check of a certificate of {bits(lines)} bits says {said}")
         print(f"{name}: {bits(lines)} bits", file=sys.stderr, flush=True)
@@ -174,7 +175,7 @@ class Solver:
             self.greatest(factor, motion)
             print(f"greatest {ratio(factor)} accepted, {decimal(factor)}", flush=True)
             return factor, factor
-        except (NotFound, NoAnswer, OverflowError) as fault:
+        except (NotFound, NoAnswer, ArithmeticError) as fault:
             print(f"solve: no certificate of the greatest factor, about {decimal(factor)}: {fault}", file=sys.stderr)
         return self.shares(factor, motion, amounts, dead[0])
 
@@ -208,7 +209,7 @@ class Solver:
         Path(self.cert).unlink(missing_ok=True)
         try:
             self.stands(dead)
-        except (NotFound, OverflowError) as fault:
+        except (NotFound, ArithmeticError) as fault:
             self.lacks("a certificate that the dead loads stand", fault)
         self.progress("forces inside the cones below the factor")
         inside = statics.inner(self.structure, self.structure.dead, self.structure.live, factor)
@@ -230,9 +231,9 @@ class Solver:
                 rounded = floor if word == "carried" else ceil
                 print(f"{word} {ratio(share)} accepted, {decimal(share, rounded)}", flush=True)
                 return share
-            except (NotFound, NoAnswer, OverflowError, models.Refused) as fault:
+            except (NotFound, NoAnswer, ArithmeticError, models.Refused) as fault:
                 part *= 8
-                if part >= 1 or isinstance(fault, Never):
+                if part >= 1:
                     self.lacks(f"a share {word}", fault)
                     for end in "toml", "cert":
                         Path(f"{self.stem}-{word}.{end}").unlink(missing_ok=True)
@@ -311,7 +312,8 @@ def whole_range(solver):
 
 def faultless(words):
     counts = {"stand": (3,), "load": (3, 4), "range": (3, 4)}
-    return len(words) > 2 and len(words) in counts.get(words[1], ()) and all(w.isdigit() and int(w) for w in words[3:])
+    return (len(words) > 2 and len(words) in counts.get(words[1], ())
+            and all(word.isdecimal() and 1 <= int(word) <= 10**6 for word in words[3:]))
 
 
 def main(words):
@@ -327,7 +329,7 @@ def main(words):
         if question != "stand" and not solver.model.has_live():
             models.stop("no live load", 9)
         {"stand": solver.stand, "load": solver.load, "range": lambda: whole_range(solver)}[question]()
-    except (NotFound, NoAnswer, models.Refused, OverflowError) as fault:
+    except (NotFound, NoAnswer, models.Refused, ArithmeticError) as fault:
         models.stop(f"solve: {fault}")
     finally:
         progress.timer.cancel()

@@ -23,10 +23,6 @@ class NotFound(Exception):
     """No such forces, or no such motion; says why."""
 
 
-class Never(NotFound):
-    """There are none."""
-
-
 def work(load, motion):
     """The power of a load, or of a column, on a motion."""
     return sum(amount * motion[row] for row, amount in (load.items() if isinstance(load, dict) else enumerate(load)))
@@ -180,10 +176,11 @@ def opening(structure):
 
 def least(works, most=127):
     """What `works` gives at the least scale, a number of bits up to `most`, at which it gives something: about so,
-    since a greater scale nearly always does where a lesser one does. None where it never does."""
+    since a greater scale nearly always does where a lesser one does. None where it never does. Most need few bits, so
+    the range isn't halved, but a quarter of it is tried."""
     low, high, found = -1, most, works(most)
     while found is not None and high - low > 1:
-        middle = (low + high) // 2
+        middle = low + max(1, (high - low) // 4)
         other = works(middle)
         low, high, found = (middle, high, found) if other is None else (low, middle, other)
     return found
@@ -253,7 +250,7 @@ class Rounding:
         return found
 
     def refute(self):
-        """Raises `Never` where a reduced basis shows that there are no forces of 127 bits.
+        """Raises `NotFound` where a reduced basis shows that there are no forces of 127 bits.
 
         A vector that isn't a combination of the first few is at least as long as the least of the others' orthogonal
         parts, after Gram and Schmidt. The scale of forces isn't 0. So the first few may be those of the scale 0.
@@ -268,12 +265,12 @@ class Rounding:
         squares = [reduced.d[k + 1] // reduced.d[k] for k in range(len(vectors))]
         first = next((k for k, scale in enumerate(scales) if scale), None)
         if first is None:
-            raise Never("there are no whole forces: the scale of all that balance is 0")
+            raise NotFound("there are no whole forces: the scale of all that balance is 0")
         square = max(min(squares[k:]) for k in range(first + 1))
         number = isqrt(square // (len(self.base) + 1))  # the greatest of so many numbers is at least so great
         if number > GREATEST:
             need = number.bit_length()
-            raise Never(f"there are no forces of 127 bits: whole forces that balance need {need} or more")
+            raise NotFound(f"there are no forces of 127 bits: whole forces that balance need {need} or more")
 
 
 def short_forces(structure, amounts, load):

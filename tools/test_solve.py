@@ -15,13 +15,14 @@ from dataclasses import replace
 from fractions import Fraction
 from pathlib import Path
 from tempfile import TemporaryDirectory
+from unittest import mock
 
 import draw
 import lattice
 import model as models
 import programs
 import solve
-from lattice import Lattice, Plane, Reduction, Vector, grows
+from lattice import Lattice, Reduction, Step, Vector, grows, inverted
 from model import Block, Load, Material, Model
 
 
@@ -36,11 +37,21 @@ class Lattices(unittest.TestCase):
         self.assertEqual(Reduction([[9, 3], [3, 2]]).rows, [[0, 1], [1, -2]])
 
     def test_nearest_plane_takes_off_whole_multiples(self):
-        # (2, 0) and (1, 3). (6, 7) less twice (1, 3) is (4, 1), less twice (2, 0) is (0, 1).
-        basis = [Vector({}, [2, 0], unknown=0), Vector({}, [1, 3], unknown=1)]
-        short = Plane(basis).shortened(Vector({}, [6, 7]))
+        # (2, 0) and (-1, 3). (6, 7) less twice (-1, 3) is (8, 1), less four times (2, 0) is (0, 1).
+        basis = [Vector({}, [2, 0], unknown=0), Vector({}, [-1, 3], unknown=1)]
+        short = Step([], basis, Reduction([[4], [-2, 10]])).cleared(Vector({}, [6, 7]))
         self.assertEqual(short.shadow, [0, 1])
-        self.assertEqual(short.unknowns(2), [-2, -2])
+        self.assertEqual(short.unknowns(2), [-4, -2])
+
+    def test_sums_in_pivots(self):
+        # (5, 7) is 11 times (1, 1) and -2 times (3, 2); of (1, 2, 0) and (0, 1, 1) a sum must be x, 2x + y, y.
+        rows, divisor = inverted([[1, 1], [3, 2]], 2)
+        self.assertEqual([sum(x * y for x, y in zip(row, (5, 7))) / divisor for row in rows], [11, -2])
+        rows, divisor = inverted([[1, 2, 0], [0, 1, 1]], 3)
+        for sums, rest in ((3, 10, 4), False), ((3, 10, 5), True):
+            times = [sum(x * y for x, y in zip(row, sums)) / divisor for row in rows]
+            self.assertEqual((times[:2] == [3, 4], times[2] != 0), (True, rest))
+        self.assertIsNone(inverted([[1, 2], [2, 4]], 2)[0])
 
     def test_sums_grow_to_the_lattice_that_they_reach(self):
         # 6 and then 4 reach all even numbers; 10 adds nothing, 3 makes all whole ones.
@@ -64,9 +75,9 @@ class Lattices(unittest.TestCase):
 
     def test_sums_that_nothing_changes(self):
         # 4x + 6y is even.
-        pivots = Lattice([{"sum": 4}, {"sum": 6}], [["sum"]]).steps[0][0]
+        step = Lattice([{"sum": 4}, {"sum": 6}], [["sum"]]).steps[0]
         with self.assertRaises(lattice.NoVector):
-            pivots.cleared(Vector({"sum": 3}, []))
+            step.cleared(Vector({"sum": 3}, []))
 
 
 class Programs(unittest.TestCase):
@@ -223,6 +234,55 @@ class Walls(Asked):
         self.assertEqual(self.asked("range")[1][1], "reversed")
 
 
+# A program that rejects certificates with a word in their first line, and asks the real one all else.
+STAND_IN = """#!/bin/sh
+if [ "$1" = check ] && head -n 1 "$3" | grep -q -e '{}'; then
+    echo 'rejected by hand'
+    exit {}
+fi
+exec '{}' "$@"
+"""
+
+
+class Rejections(Asked):
+    """Nothing is announced that the program's `check` didn't accept."""
+
+    def rejecting(self, word, status, question):
+        """What is said where `check` rejects certificates with this word, and what all certificates left begin with."""
+        folder = Path(self.name).parent
+        stand_in = folder / "program"
+        stand_in.write_text(STAND_IN.format(word, status, Path(models.PROGRAM).resolve()))
+        stand_in.chmod(0o700)
+        with mock.patch.object(models, "PROGRAM", str(stand_in)):
+            status, lines, _ = self.asked(question)
+        left = {path.name: path.read_text().split()[0] for path in folder.glob("*.cert")}
+        return status, [line for line in lines if line != "reversed"], left
+
+    def test_what_is_always_rejected_is_never_announced(self):
+        stone = [Material("stone", 1, [1, 1])]
+        ground = Block(name="ground", material="stone", fixed=True, corners=[[0, -1], [9, -1], [9, 0], [0, 0]])
+        for at in (0, 7):  # a post on the ground, and one that falls
+            post = Block(name="post", material="stone", corners=[[at, 0], [at + 4, 0], [at + 4, 2], [at, 2]])
+            for force in ([1, 0], [0, -1]):  # of the first a greatest factor, and none
+                self.write(Model(None, None, stone, [], [ground, post], [Load("post", "live", [at + 1, 2], force)]))
+                for question in "stand", "load", "range":
+                    for status in 1, 0:
+                        self.assertEqual(self.rejecting("", status, question), (70, [], {}))
+
+    def test_a_greatest_factor_that_is_rejected_gives_way_to_shares(self):
+        self.draw("sway", "1", "0", "wall", "2", "2")
+        status, lines, left = self.rejecting("greatest", 6, "load")
+        self.assertEqual((status, [line.split()[0] for line in lines]), (0, ["stands", "carried", "beyond"]))
+        self.assertEqual(left, {"answer.cert": "stands", "answer-carried.cert": "stands",
+                                "answer-beyond.cert": "collapses"})
+
+    def test_a_share_that_is_rejected_is_missing(self):
+        self.draw("sway", "1", "0", "wall", "2", "2")
+        status, lines, left = self.rejecting("greatest\\|collapses", 1, "load")
+        self.assertEqual((status, [line.split()[0] for line in lines]), (70, ["stands", "carried"]))
+        self.assertEqual(left, {"answer.cert": "stands", "answer-carried.cert": "stands"})
+
+
 class Irregular(Asked):
     def test_an_arch_of_20_irregular_voussoirs_has_no_certificate(self):
         draws, inner, outer = random.Random(1), 2000, 2400
@@ -241,7 +301,8 @@ class Irregular(Asked):
 class Refusals(Asked):
     def test_wrong_words(self):
         self.write(at_random(random.Random(1)))
-        self.assertEqual([self.asked(*words)[0] for words in (("stand", "5"), ("load", "x"), ("yield",))], [2, 2, 2])
+        words = ("stand", "5"), ("load", "x"), ("load", "0"), ("range", "1000001"), ("load", "\u00b2"), ("yield",)
+        self.assertEqual([self.asked(*some)[0] for some in words], [2] * len(words))
 
     def test_no_live_load(self):
         self.write(replace(at_random(random.Random(1)), sway=None, loads=[]))

@@ -297,6 +297,10 @@ class Drawings(unittest.TestCase):
                 self.assertEqual((times * x, times * y), (end[0] - start[0], end[1] - start[1]))
                 self.assertTrue(draw.of_primes(times, (2, 5)))
 
+    def test_rubble_has_as_many_stones_as_courses_if_no_number_is_given(self):
+        self.assertEqual(draw.rubble(4, 1), draw.rubble(4, 4, 1))
+        self.assertEqual(len(draw.rubble(2, 3, 1)[1]), 7)
+
     def test_stones_off_plumb_share_their_corners(self):
         _, bodies, _ = draw.coursed(4, 5, 3, 5)
         for (_, _, one), (_, _, other) in zip(bodies[1:], bodies[2:]):
