@@ -1,5 +1,5 @@
 -- The first rows of a problem in columns of cells, and the table with which a run begins.
-use Rattle.std.specs.Prelude.{◌≡◌, ℕ, ◌<◌, ⊤, Bool, cond, eqb, List, [], ◌∷◌, length, get_or, ℤ, pos, ◌-ℤ◌}
+use Rattle.std.specs.Prelude.{◌≡◌, ℕ, ◌+◌, ◌<◌, ⊤, Bool, cond, eqb, List, [], ◌∷◌, length, get_or, ℤ, pos, ◌-ℤ◌}
 use Rattle.std.specs.Prelude.{unsigned_abs}
 use Rattle.stack_algebra.specs.Sums.{sum_to, sum_of, sum_among}
 use Rattle.stack_table.specs.declared.problem.Entry.{Entry}
