@@ -108,6 +108,14 @@ class Fractions(unittest.TestCase):
                          ["1146.6", "0", "7", "12345678901"])
 
 
+class Scales(unittest.TestCase):
+    def test_the_least_scale_that_works(self):
+        for most in (0, 1, 5, 127):
+            for bits in range(most + 1):
+                self.assertEqual(solve.statics.least(lambda tried: tried if tried >= bits else None, most), bits)
+            self.assertIsNone(solve.statics.least(lambda tried: None, most))
+
+
 def rows(said):
     """The lines of an answer without their decimals."""
     return [line.split(", ")[0] for line in said.splitlines()]
