@@ -58,8 +58,8 @@ yielding model (Some i) (Some j) directions (Some budget) = Some (yields model i
 yielding model _ j directions budget = None
 
 -- The kind of a built-in stack.
-abbrev pub kind_of : List ℕ → Option Kind
-kind_of word = if bytes_eq word (codes "harmonic") then Some Harmonic
+abbrev pub stack_kind : List ℕ → Option Kind
+stack_kind word = if bytes_eq word (codes "harmonic") then Some Harmonic
     else (if bytes_eq word (codes "triangle") then Some Triangle
     else (if bytes_eq word (codes "slab") then Some Slab else None))
 
@@ -79,7 +79,7 @@ form_of_two word last = if bytes_eq word (codes "contacts") then Some (contacts 
 abbrev pub form_of_three : List ℕ → List ℕ → List ℕ → Option Form
 form_of_three word next last = if bytes_eq word (codes "check") then Some (check next last)
     else (if bytes_eq word (codes "table") then Some (tables next last)
-    else (if bytes_eq word (codes "stack") then stacking (kind_of next) (number_spelled last)
+    else (if bytes_eq word (codes "stack") then stacking (stack_kind next) (number_spelled last)
     else (if bytes_eq word (codes "range") then ranging next (budget_of last)
     else (if bytes_eq word (codes "stages") then staging next last (Some default_budget)
     else judging (question_of word) next (budget_of last)))))

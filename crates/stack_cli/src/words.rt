@@ -4,7 +4,7 @@ ghost use Rattle.std.specs.Prelude.{◌≡◌, ◌≢◌, IfSome};
 ghost use Rattle.std.specs.Option.{option_map};
 ghost use Rattle.stack_cli.specs.Words.{form_of, texts, question_of as question_of_word};
 ghost use Rattle.stack_cli.specs.Words.{number_spelled as number_of_word, budget_of as budget_of_word};
-ghost use Rattle.stack_cli.specs.Words.{judging as judging_of, kind_of as kind_of_word, stacking as stacking_of};
+ghost use Rattle.stack_cli.specs.Words.{judging as judging_of, stack_kind as kind_of_word, stacking as stacking_of};
 ghost use Rattle.stack_cli.specs.Words.{form_of_two as form_of_two_words, form_of_three as form_of_three_words};
 ghost use Rattle.stack_cli.specs.Words.{form_of_four as form_of_four_words, ranging as ranging_of};
 ghost use Rattle.stack_cli.specs.Words.{staging as staging_of, yielding as yielding_of};

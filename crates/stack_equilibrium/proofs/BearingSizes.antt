@@ -37,7 +37,7 @@ use Rattle.stack_contact.proofs.AcrossLines.{senses}
 use Rattle.stack_contact.proofs.AlongEdge.{step-parallel}
 use Rattle.stack_statics.specs.Scene.{IsProper}
 use Rattle.stack_equilibrium.specs.SurveyScene.{scene_of, bearing_of}
-use Rattle.stack_equilibrium.specs.Columns.{IsBounded}
+use Rattle.stack_equilibrium.specs.Columns.{HasBearingLimits}
 use Rattle.stack_equilibrium.proofs.SurveyBearings.{bearing_is}
 
 -- a point with whole coordinates
@@ -236,7 +236,7 @@ module _ (s : Structure) (sound : IsSound s) where
   polygon i l = (sound.bodies i l).polygon
 
   bounded : ((i j : ℕ) → IsPair s i j → AreSeparated (corners_of s i) (corners_of s j)) → (z : Bearing) →
-      IsBearing s z → IsBounded z
+      IsBearing s z → HasBearingLimits z
   bounded apart z h =
       let one = polygon z.first (first_is_body z h) in
       let two = polygon z.second h.pair.is_body in
@@ -255,7 +255,7 @@ module _ (s : Structure) (sound : IsSound s) where
       }
 
 pub survey_bounded : (s : Surveyed) → IsSound s.structure → IsSurvey s.structure s → (k : ℕ) →
-    k < length s.bearings → IsBounded (bearing_of s k)
+    k < length s.bearings → HasBearingLimits (bearing_of s k)
 survey_bounded s sound survey k l = bounded s.structure sound survey.apart (bearing_of s k)
     (bearing_is s survey k l)
 

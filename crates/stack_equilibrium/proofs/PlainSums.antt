@@ -14,11 +14,11 @@ use Rattle.stack_equilibrium.specs.declared.types.Axis.TheVariants.{X, Y, M}
 use Rattle.stack_whole.specs.declared.whole.Wide.{Wide}
 use Rattle.stack_whole.specs.declared.whole.Whole.{Whole}
 use Rattle.stack_equilibrium.specs.declared.block.Push.{Push}
-use Rattle.stack_equilibrium.specs.declared.block.Joint.{Joint}
+use Rattle.stack_equilibrium.specs.declared.block.Lever.{Lever}
 use Rattle.stack_equilibrium.specs.declared.block.Block.{Block}
 use Rattle.stack_equilibrium.specs.SurveyScene.{scene_bearing_of, no_bearing}
 use Rattle.stack_whole.specs.Whole.{made, fits, whole}
-use Rattle.stack_equilibrium.specs.WrittenSums.{push_at, joint_at, written_force_x, written_force_y, written_moment}
+use Rattle.stack_equilibrium.specs.WrittenSums.{push_at, lever_at, written_force_x, written_force_y, written_moment}
 use Rattle.stack_equilibrium.specs.WrittenSums.{written_force, bearing_at, with_bearing, axis_part, written_sum}
 use Rattle.stack_equilibrium.proofs.InOrder.{bind_ok}
 
@@ -41,26 +41,26 @@ both_is op u v r h =
     ∙ (λ i. op (made_is u p.value p.before i) (made_is v q.value q.before i))
 
 -- the force of a push on the second body, along x and along y
-abbrev pub push_x : Joint → Push → ℤ
+abbrev pub push_x : Lever → Push → ℤ
 push_x z f = f.b.value *ℤ z.tx.value -ℤ f.a.value *ℤ z.ty.value
 
-abbrev pub push_y : Joint → Push → ℤ
+abbrev pub push_y : Lever → Push → ℤ
 push_y z f = f.a.value *ℤ z.tx.value +ℤ f.b.value *ℤ z.ty.value
 
-abbrev pub force_along : Axis → Joint → Push → ℤ
+abbrev pub force_along : Axis → Lever → Push → ℤ
 force_along X z f = push_x z f
 force_along Y z f = push_y z f
 force_along M z f = z.lx.value *ℤ push_y z f -ℤ z.ly.value *ℤ push_x z f
 
-force_x_is : (z : Joint) (f : Push) (r : Whole) → written_force_x z f ≡ Ok r → r.value ≡ push_x z f
+force_x_is : (z : Lever) (f : Push) (r : Whole) → written_force_x z f ≡ Ok r → r.value ≡ push_x z f
 unfolding written_force_x
 force_x_is z f r h = both_is ◌-ℤ◌ (f.b.value *ℤ z.tx.value) (f.a.value *ℤ z.ty.value) r h
 
-force_y_is : (z : Joint) (f : Push) (r : Whole) → written_force_y z f ≡ Ok r → r.value ≡ push_y z f
+force_y_is : (z : Lever) (f : Push) (r : Whole) → written_force_y z f ≡ Ok r → r.value ≡ push_y z f
 unfolding written_force_y
 force_y_is z f r h = both_is ◌+ℤ◌ (f.a.value *ℤ z.tx.value) (f.b.value *ℤ z.ty.value) r h
 
-moment_is : (z : Joint) (f : Push) (r : Whole) → written_moment z f ≡ Ok r → r.value ≡ force_along M z f
+moment_is : (z : Lever) (f : Push) (r : Whole) → written_moment z f ≡ Ok r → r.value ≡ force_along M z f
 unfolding written_moment
 moment_is z f r h =
     let p = bind_ok (written_force_x z f) (λ x. written_force_y z f >>= λ y. made (z.lx.value *ℤ y.value) >>=
@@ -70,7 +70,7 @@ moment_is z f r h =
     both_is ◌-ℤ◌ (z.lx.value *ℤ q.value.value) (z.ly.value *ℤ p.value.value) r q.after
     ∙ (λ i. z.lx.value *ℤ force_y_is z f q.value q.before i -ℤ z.ly.value *ℤ force_x_is z f p.value p.before i)
 
-force_is : (axis : Axis) (z : Joint) (f : Push) (r : Whole) → written_force axis z f ≡ Ok r → r.value
+force_is : (axis : Axis) (z : Lever) (f : Push) (r : Whole) → written_force axis z f ≡ Ok r → r.value
     ≡ force_along axis z f
 force_is X z f r h = force_x_is z f r h
 force_is Y z f r h = force_y_is z f r h
@@ -102,12 +102,12 @@ added force e a r false false is h = same a.value r.value e (cc)
 -- a bearing adds its force with the sign of its side
 added_is : (axis : Axis) (block : Block) (f : Push) (a : Whole) (z : Bearing) (r : Whole) →
     with_bearing axis block f a z ≡ Ok r
-    → r.value ≡ a.value +ℤ bearing_side block.body (scene_bearing_of z) *ℤ force_along axis (joint_at block.corner z)
+    → r.value ≡ a.value +ℤ bearing_side block.body (scene_bearing_of z) *ℤ force_along axis (lever_at block.corner z)
     f
 unfolding with_bearing
-added_is axis block f a z r h = added (written_force axis (joint_at block.corner z) f)
-    (force_along axis (joint_at block.corner z) f) a r (nat_eq block.body z.second) (nat_eq block.body z.first)
-    (force_is axis (joint_at block.corner z) f) h
+added_is axis block f a z r h = added (written_force axis (lever_at block.corner z) f)
+    (force_along axis (lever_at block.corner z) f) a r (nat_eq block.body z.second) (nat_eq block.body z.first)
+    (force_is axis (lever_at block.corner z) f) h
 
 -- a sum that is made one item after the other
 pub steps_sum : {X : Type 0} (f : ℕ → Whole → X → Result Whole Wide) (g : ℕ → X →
@@ -137,7 +137,7 @@ steps_sum f g i a (x ∷ xs) d r adds h =
 abbrev pub borne_along : Axis → Block → List Bearing → List (ℤ × ℤ) → ℤ
 borne_along axis block bearings parts = sum_to (length bearings) (λ k.
     bearing_side block.body (scene_bearing_of (get_or bearings k no_bearing))
-    *ℤ force_along axis (joint_at block.corner (get_or bearings k no_bearing)) (push_at parts k))
+    *ℤ force_along axis (lever_at block.corner (get_or bearings k no_bearing)) (push_at parts k))
 
 -- a sum of what is borne and two loads, each of which is made before it is added
 with_loads : (borne : Result Whole Wide) (total dead live : ℤ) (r : Whole) →
@@ -167,7 +167,7 @@ borne_is : (axis : Axis) (block : Block) (bearings : List Bearing) (parts : List
     → r.value ≡ borne_along axis block bearings parts
 borne_is axis block bearings parts r h =
     steps_sum (bearing_at axis block parts)
-    (λ k z. bearing_side block.body (scene_bearing_of z) *ℤ force_along axis (joint_at block.corner z)
+    (λ k z. bearing_side block.body (scene_bearing_of z) *ℤ force_along axis (lever_at block.corner z)
     (push_at parts k))
     0 (whole (pos 0)) bearings no_bearing r (λ k a z r e. added_is axis block (push_at parts k) a z r e) h
     ∙ from_nothing (sum_to (length bearings) (λ k. term k (0 + k)))
@@ -176,7 +176,7 @@ borne_is axis block bearings parts r h =
   where
     term : ℕ → ℕ → ℤ
     term k n = bearing_side block.body (scene_bearing_of (get_or bearings k no_bearing))
-        *ℤ force_along axis (joint_at block.corner (get_or bearings k no_bearing)) (push_at parts n)
+        *ℤ force_along axis (lever_at block.corner (get_or bearings k no_bearing)) (push_at parts n)
 
     from_nothing : (t : ℤ) → pos 0 +ℤ t ≡ t
     from_nothing t = omega (arith, sums)

@@ -13,7 +13,7 @@ use Rattle.stack_certificate.specs.Certificate.{MotionValue}
 use Rattle.stack_equilibrium.specs.declared.types.VelocityWide.{VelocityWide}
 use Rattle.stack_whole.specs.declared.whole.Wide.{Wide}
 use Rattle.stack_whole.specs.declared.whole.Whole.{Whole}
-use Rattle.stack_equilibrium.specs.declared.block.Joint.{Joint}
+use Rattle.stack_equilibrium.specs.declared.block.Lever.{Lever}
 use Rattle.stack_equilibrium.specs.declared.velocity.BlockMove.{BlockMove}
 use Rattle.stack_equilibrium.specs.declared.velocity.Velocity.{Velocity}
 use Rattle.stack_equilibrium.specs.declared.velocity.Gap.{Gap}
@@ -23,7 +23,7 @@ use Rattle.stack_statics.specs.Certificates.{still, free_before}
 use Rattle.stack_equilibrium.specs.SurveyScene.{first_corner_of, bearing_of, scene_bearing_of, scene_of}
 use Rattle.stack_equilibrium.specs.Held.{move_of_triple, moves_of, move_at}
 use Rattle.stack_whole.specs.Whole.{made, whole}
-use Rattle.stack_equilibrium.specs.WrittenSums.{joint_at}
+use Rattle.stack_equilibrium.specs.WrittenSums.{lever_at}
 use Rattle.stack_equilibrium.specs.WrittenVelocities.{block_move_at, at_rest, written_velocity, velocity_at}
 use Rattle.stack_equilibrium.specs.WrittenVelocities.{written_difference, written_normal, written_tangential}
 use Rattle.stack_equilibrium.specs.WrittenVelocities.{written_gap, gap_at, told_gap, written_opening}
@@ -37,7 +37,7 @@ record Is (v : Velocity) (x y : ℤ) : Type 0 where
   is_x : v.x.value ≡ x
   is_y : v.y.value ≡ y
 
-block_velocity : (y : BlockMove) (z : Joint) (v : Velocity) → written_velocity y z ≡ Ok v →
+block_velocity : (y : BlockMove) (z : Lever) (v : Velocity) → written_velocity y z ≡ Ok v →
     Is v (y.u.value -ℤ y.r.value *ℤ z.ly.value) (y.v.value +ℤ y.r.value *ℤ z.lx.value)
 unfolding written_velocity
 block_velocity y z v h =
@@ -83,7 +83,7 @@ module _ (s : Surveyed) (y : MotionValue) (z : Bearing) where
       go : (f : Bool) →
           (let r : Result Velocity Wide = if f then Ok at_rest
           else written_velocity (block_move_at y (frees_before s.structure.bodies i))
-          (joint_at (first_corner_of s.structure i) z) in r) ≡ Ok v →
+          (lever_at (first_corner_of s.structure i) z) in r) ≡ Ok v →
           Is v (along_x i (cond (not f) (get_or (moves_of y) (free_before (scene_of s) i) still) still))
           (along_y i (cond (not f) (get_or (moves_of y) (free_before (scene_of s) i) still) still))
       go true e =
@@ -96,7 +96,7 @@ module _ (s : Surveyed) (y : MotionValue) (z : Bearing) where
           }
       go false e =
           let k = block_velocity (block_move_at y (frees_before s.structure.bodies i))
-          (joint_at (first_corner_of s.structure i) z) v e in
+          (lever_at (first_corner_of s.structure i) z) v e in
           record { is_x = k.is_x ∙ ap (along_x i) told; is_y = k.is_y ∙ ap (along_y i) told }
 
 difference_is : (a b v : Velocity) → written_difference a b ≡ Ok v →

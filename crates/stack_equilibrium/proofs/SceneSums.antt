@@ -16,13 +16,13 @@ use Rattle.stack_equilibrium.specs.declared.types.Axis.{Axis}
 use Rattle.stack_equilibrium.specs.declared.types.Axis.TheVariants.{X, Y, M}
 use Rattle.stack_whole.specs.declared.whole.Wide.{Wide}
 use Rattle.stack_whole.specs.declared.whole.Whole.{Whole}
-use Rattle.stack_equilibrium.specs.declared.block.Joint.{Joint}
+use Rattle.stack_equilibrium.specs.declared.block.Lever.{Lever}
 use Rattle.stack_statics.specs.Scene as scene
 use Rattle.stack_statics.specs.Balance.{bearing_side, force_x_of, force_y_of}
 use Rattle.stack_equilibrium.specs.SurveyScene.{no_bearing, first_corner_of, scene_bearing_of}
 use Rattle.stack_equilibrium.specs.Held.{part_of_pair, part_at}
 use Rattle.stack_whole.specs.Whole.{whole}
-use Rattle.stack_equilibrium.specs.WrittenSums.{push_at, joint_at, axis_part, written_sum, written_sums}
+use Rattle.stack_equilibrium.specs.WrittenSums.{push_at, lever_at, axis_part, written_sum, written_sums}
 use Rattle.stack_equilibrium.specs.WrittenSums.{written_sums_at, written_residue, on_axis, block_of}
 use Rattle.stack_equilibrium.specs.Answers.{AreSums, body_number}
 use Rattle.stack_equilibrium.proofs.InOrder.{bind_ok}
@@ -52,30 +52,30 @@ module _ (s : Surveyed) (f : ForcesValue) (i : ℕ) where
   abbrev pair : ℕ → ℤ × ℤ
   pair k = get_or f.parts k (pos 0, pos 0)
 
-  along_x : (k : ℕ) → push_x (joint_at (first_corner_of s.structure i) (bearing k)) (push_at f.parts k)
+  along_x : (k : ℕ) → push_x (lever_at (first_corner_of s.structure i) (bearing k)) (push_at f.parts k)
       ≡ force_x_of (scene_bearing_of (bearing k)) (part k)
   along_x k = turned (pair k).0 (pair k).1 (bearing k).frame.tx (bearing k).frame.ty
       ∙ ap (force_x_of (scene_bearing_of (bearing k))) (sym (part_is f.parts k))
 
-  along_y : (k : ℕ) → push_y (joint_at (first_corner_of s.structure i) (bearing k)) (push_at f.parts k)
+  along_y : (k : ℕ) → push_y (lever_at (first_corner_of s.structure i) (bearing k)) (push_at f.parts k)
       ≡ force_y_of (scene_bearing_of (bearing k)) (part k)
   along_y k = ap (force_y_of (scene_bearing_of (bearing k))) (sym (part_is f.parts k))
 
   abbrev side : ℕ → ℤ
   side k = bearing_side i (scene_bearing_of (bearing k))
 
-  abbrev joint : ℕ → Joint
-  joint k = joint_at (first_corner_of s.structure i) (bearing k)
+  abbrev lever : ℕ → Lever
+  lever k = lever_at (first_corner_of s.structure i) (bearing k)
 
   borne_x : borne_along X (block_of s.structure i) s.bearings f.parts
       ≡ sum_to (length s.bearings) (λ k. side k *ℤ force_x_of (scene_bearing_of (bearing k)) (part k))
-  borne_x = sum_same integers (length s.bearings) (λ k. side k *ℤ force_along X (joint k) (push_at f.parts k))
+  borne_x = sum_same integers (length s.bearings) (λ k. side k *ℤ force_along X (lever k) (push_at f.parts k))
       (λ k. side k *ℤ force_x_of (scene_bearing_of (bearing k)) (part k))
       (λ k l. ap (λ t. side k *ℤ t) (along_x k))
 
   borne_y : borne_along Y (block_of s.structure i) s.bearings f.parts
       ≡ sum_to (length s.bearings) (λ k. side k *ℤ force_y_of (scene_bearing_of (bearing k)) (part k))
-  borne_y = sum_same integers (length s.bearings) (λ k. side k *ℤ force_along Y (joint k) (push_at f.parts k))
+  borne_y = sum_same integers (length s.bearings) (λ k. side k *ℤ force_along Y (lever k) (push_at f.parts k))
       (λ k. side k *ℤ force_y_of (scene_bearing_of (bearing k)) (part k))
       (λ k l. ap (λ t. side k *ℤ t) (along_y k))
 
@@ -91,7 +91,7 @@ module _ (s : Surveyed) (f : ForcesValue) (i : ℕ) where
 
   borne_m : borne_along M (block_of s.structure i) s.bearings f.parts
       ≡ sum_to (length s.bearings) (λ k. side k *ℤ moment k)
-  borne_m = sum_same integers (length s.bearings) (λ k. side k *ℤ force_along M (joint k) (push_at f.parts k))
+  borne_m = sum_same integers (length s.bearings) (λ k. side k *ℤ force_along M (lever k) (push_at f.parts k))
       (λ k. side k *ℤ moment k)
       (λ k l j. side k *ℤ (lx k *ℤ along_y k j -ℤ ly k *ℤ along_x k j))
 

@@ -14,7 +14,7 @@ use Rattle.stack_whole.specs.Whole.{whole}
 use Rattle.stack_equilibrium.specs.LoadSizes.{IsMoment, arm_between, moment_with}
 
 -- a bearing's point is in range, its tangent is no longer than an edge, and its friction within the limits
-pub record IsBounded (z : Bearing) : Type 0 where
+pub record HasBearingLimits (z : Bearing) : Type 0 where
   pub at : IsInRange z.at
   pub tx : IsStep z.frame.tx
   pub ty : IsStep z.frame.ty

@@ -3,7 +3,7 @@ use Rattle.std.specs.Prelude.{ℕ, ℤ, List, map}
 use Rattle.stack_contact.specs.Surveyed.{Surveyed}
 use Rattle.stack_certificate.specs.Certificate.{ForcesValue, MotionValue}
 use Rattle.stack_statics.specs.Scene.{BearingPart, Move}
-use Rattle.stack_statics.specs.Certificates.{SceneForces, part_of, move_of}
+use Rattle.stack_statics.specs.Certificates.{SceneForces, scene_part_at, move_of}
 use Rattle.stack_equilibrium.specs.SurveyScene.{scene_of}
 
 -- a pair of numbers as a bearing's part, along the normal and along the tangent
@@ -24,7 +24,7 @@ moves_of y = map move_of_triple y
 
 -- what bearing k bears
 abbrev pub part_at : ForcesValue → ℕ → BearingPart
-part_at f k = part_of (forces_of f) k
+part_at f k = scene_part_at (forces_of f) k
 
 -- how body i of a survey moves: the moves are those of its free blocks, in order
 abbrev pub move_at : Surveyed → MotionValue → ℕ → Move

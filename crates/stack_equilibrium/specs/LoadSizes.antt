@@ -22,7 +22,7 @@ abbrev pub IsForce : ℤ → Type 0
 IsForce z = IsWithin 1 4000000000 z
 
 -- a force is within this limit along x and along y
-pub record AreForces (f : Force) : Type 0 where
+pub record HasForceLimits (f : Force) : Type 0 where
   pub x : IsForce f.x.value
   pub y : IsForce f.y.value
 

@@ -11,7 +11,7 @@ use Rattle.stack_statics.specs.declared.wrench.Wrench.{Wrench}
 use Rattle.stack_equilibrium.specs.declared.types.Question.{Question}
 use Rattle.stack_equilibrium.specs.declared.types.Question.TheVariants.{Dead, Live}
 use Rattle.stack_statics.specs.Scene as scene
-use Rattle.stack_statics.specs.Sway.{sway_of}
+use Rattle.stack_statics.specs.Sway.{sway_load}
 use Rattle.stack_statics.specs.Loads.{no_load, wrench_sum, total_of, weight_of, load_wrench}
 
 -- the first stored corner of body i
@@ -27,8 +27,8 @@ abbrev pub weight_at : model.Structure → ℕ → Wrench
 weight_at s i = weight_of (unit_weight_of s i) (model.body_of s i).corners
 
 -- the load of the sway on body i, about its first corner, in sixths of a unit of force
-abbrev pub sway_at : model.Structure → ℕ → Wrench
-sway_at s i = sway_of s.sway (unit_weight_of s i) (model.body_of s i).corners
+abbrev pub sway_load_at : model.Structure → ℕ → Wrench
+sway_load_at s i = sway_load s.sway (unit_weight_of s i) (model.body_of s i).corners
 
 -- a listed load is one of those that are asked about
 abbrev pub is_asked : Question → Load → Bool
@@ -46,7 +46,7 @@ listed_on q s i = total_of (length s.loads) (λ n. acting q i (first_corner_of s
 -- all loads on body i: its weight is a dead one, and the load of the sway a live one
 abbrev pub loads_on : Question → model.Structure → ℕ → Wrench
 loads_on Dead s i = wrench_sum (weight_at s i) (listed_on Dead s i)
-loads_on Live s i = wrench_sum (sway_at s i) (listed_on Live s i)
+loads_on Live s i = wrench_sum (sway_load_at s i) (listed_on Live s i)
 
 -- a body is free or fixed, and its moments are taken about its first stored corner
 abbrev pub scene_body_of : model.Structure → ℕ → scene.SceneBody

@@ -16,7 +16,7 @@ use Rattle.stack_equilibrium.specs.declared.types.Axis.TheVariants.{X, Y, M}
 use Rattle.stack_whole.specs.declared.whole.Wide.{Wide}
 use Rattle.stack_whole.specs.declared.whole.Whole.{Whole}
 use Rattle.stack_equilibrium.specs.declared.block.Push.{Push}
-use Rattle.stack_equilibrium.specs.declared.block.Joint.{Joint}
+use Rattle.stack_equilibrium.specs.declared.block.Lever.{Lever}
 use Rattle.stack_equilibrium.specs.declared.block.Block.{Block}
 use Rattle.stack_equilibrium.specs.declared.force.Force.{Force}
 use Rattle.stack_whole.specs.Whole.{made, whole}
@@ -27,8 +27,8 @@ abbrev pub push_at : List (ℤ × ℤ) → ℕ → Push
 push_at parts k = let p = get_or parts k (pos 0, pos 0) in record { a = whole p.0; b = whole p.1 }
 
 -- a bearing as a block meets it: its tangent, and its point less the block's first stored corner
-abbrev pub joint_at : Point → Bearing → Joint
-joint_at o z = record {
+abbrev pub lever_at : Point → Bearing → Lever
+lever_at o z = record {
   tx = whole z.frame.tx;
   ty = whole z.frame.ty;
   lx = whole (z.at.x -ℤ o.x);
@@ -36,14 +36,14 @@ joint_at o z = record {
 }
 
 -- the force on the second body along x: b*tx, a*ty and their difference
-unfoldable pub written_force_x : Joint → Push → Result Whole Wide
+unfoldable pub written_force_x : Lever → Push → Result Whole Wide
 written_force_x z f = do
   axis_part ← made (f.b.value *ℤ z.tx.value)
   across ← made (f.a.value *ℤ z.ty.value)
   made (axis_part.value -ℤ across.value)
 
 -- the force on the second body along y: a*tx, b*ty and their sum
-unfoldable pub written_force_y : Joint → Push → Result Whole Wide
+unfoldable pub written_force_y : Lever → Push → Result Whole Wide
 written_force_y z f = do
   across ← made (f.a.value *ℤ z.tx.value)
   axis_part ← made (f.b.value *ℤ z.ty.value)
@@ -53,12 +53,12 @@ written_force_y z f = do
 -- own point
 unfoldable pub written_bearing_force : Bearing → Push → Result Force Wide
 written_bearing_force z f = do
-  x ← written_force_x (joint_at z.at z) f
-  y ← written_force_y (joint_at z.at z) f
+  x ← written_force_x (lever_at z.at z) f
+  y ← written_force_y (lever_at z.at z) f
   Ok (record { x = x; y = y })
 
 -- the moment of that force: lx times the force along y, ly times that along x, and their difference
-unfoldable pub written_moment : Joint → Push → Result Whole Wide
+unfoldable pub written_moment : Lever → Push → Result Whole Wide
 written_moment z f = do
   x ← written_force_x z f
   y ← written_force_y z f
@@ -67,7 +67,7 @@ written_moment z f = do
   made (turned.value -ℤ back.value)
 
 -- the force along x or along y, or the moment: the one that the sum along an axis adds up
-abbrev pub written_force : Axis → Joint → Push → Result Whole Wide
+abbrev pub written_force : Axis → Lever → Push → Result Whole Wide
 written_force X z f = written_force_x z f
 written_force Y z f = written_force_y z f
 written_force M z f = written_moment z f
@@ -77,10 +77,10 @@ written_force M z f = written_moment z f
 unfoldable pub with_bearing : Axis → Block → Push → Whole → Bearing → Result Whole Wide
 with_bearing axis block f so_far z =
     if nat_eq block.body z.second then (do
-      force ← written_force axis (joint_at block.corner z) f
+      force ← written_force axis (lever_at block.corner z) f
       made (so_far.value +ℤ force.value))
     else (if nat_eq block.body z.first then (do
-      force ← written_force axis (joint_at block.corner z) f
+      force ← written_force axis (lever_at block.corner z) f
       made (so_far.value -ℤ force.value))
     else Ok so_far)
 

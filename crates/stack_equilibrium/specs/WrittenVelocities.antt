@@ -10,13 +10,13 @@ use Rattle.stack_certificate.specs.Certificate.{MotionValue}
 use Rattle.stack_equilibrium.specs.declared.types.VelocityWide.{VelocityWide}
 use Rattle.stack_whole.specs.declared.whole.Wide.{Wide}
 use Rattle.stack_whole.specs.declared.whole.Whole.{Whole}
-use Rattle.stack_equilibrium.specs.declared.block.Joint.{Joint}
+use Rattle.stack_equilibrium.specs.declared.block.Lever.{Lever}
 use Rattle.stack_equilibrium.specs.declared.velocity.BlockMove.{BlockMove}
 use Rattle.stack_equilibrium.specs.declared.velocity.Velocity.{Velocity}
 use Rattle.stack_equilibrium.specs.declared.velocity.Gap.{Gap}
 use Rattle.stack_whole.specs.Whole.{made, whole}
 use Rattle.stack_equilibrium.specs.SurveyScene.{first_corner_of, bearing_of}
-use Rattle.stack_equilibrium.specs.WrittenSums.{joint_at}
+use Rattle.stack_equilibrium.specs.WrittenSums.{lever_at}
 
 -- the move of free block number b
 abbrev pub block_move_at : MotionValue → ℕ → BlockMove
@@ -26,8 +26,8 @@ block_move_at y b = let m = get_or y b (pos 0, pos 0, pos 0) in record {
   r = whole m.2;
 }
 
--- the velocity of a block at a joint: r*ly and u less that product, then r*lx and v with that product
-unfoldable pub written_velocity : BlockMove → Joint → Result Velocity Wide
+-- the velocity of a block at a bearing: r*ly and u less that product, then r*lx and v with that product
+unfoldable pub written_velocity : BlockMove → Lever → Result Velocity Wide
 written_velocity y z = do
   back ← made (y.r.value *ℤ z.ly.value)
   x ← made (y.u.value -ℤ back.value)
@@ -44,7 +44,7 @@ abbrev pub velocity_at : Surveyed → MotionValue → Bearing → ℕ → Result
 velocity_at s y z i =
     if (body_of s.structure i).fixed then Ok at_rest
     else written_velocity (block_move_at y (frees_before s.structure.bodies i))
-    (joint_at (first_corner_of s.structure i) z)
+    (lever_at (first_corner_of s.structure i) z)
 
 -- the later body's velocity less the earlier's, along x and then along y
 unfoldable pub written_difference : Velocity → Velocity → Result Velocity Wide

@@ -2,7 +2,7 @@
 
 ghost use Rattle.std.specs.Prelude.{◌≡◌, ◌<◌, ◌-ℤ◌, length};
 ghost use Rattle.stack_whole.specs.Whole.{whole};
-ghost use Rattle.stack_equilibrium.specs.WrittenSums.{push_at, joint_at, axis_part};
+ghost use Rattle.stack_equilibrium.specs.WrittenSums.{push_at, lever_at, axis_part};
 
 use crate::force::step;
 use crate::types::{Axis, Wrench};
@@ -17,9 +17,10 @@ pub struct Push {
     pub b: Whole,
 }
 
-/// A bearing as a block meets it: its tangent, and its point less the block's first stored corner.
+/// A bearing as a block meets it: its tangent, and its point less the block's first stored corner, which is the arm
+/// of a force there.
 #[derive(Clone, Copy, Debug, PartialEq, Eq)]
-pub struct Joint {
+pub struct Lever {
     pub tx: Whole,
     pub ty: Whole,
     pub lx: Whole,
@@ -46,11 +47,11 @@ pub fn number_along(axis: Axis, wrench: Wrench) -> Whole
     }
 }
 
-/// The joint of a bearing at a block with this first stored corner.
-pub fn joint_of(corner: Point, bearing: Bearing) -> Joint
-    ensures { result ≡ joint_at corner bearing }
+/// The lever of a bearing at a block with this first stored corner.
+pub fn lever_of(corner: Point, bearing: Bearing) -> Lever
+    ensures { result ≡ lever_at corner bearing }
 {
-    Joint {
+    Lever {
         tx: Whole::widened(bearing.frame.tx),
         ty: Whole::widened(bearing.frame.ty),
         lx: step(bearing.at.x, corner.x),

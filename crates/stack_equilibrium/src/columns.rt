@@ -8,8 +8,9 @@ ghost use Rattle.stack_contact.specs.FreeBlocks.{frees_of};
 ghost use Rattle.stack_statics.specs.Balance.{bearing_side};
 ghost use Rattle.stack_equilibrium.specs.SurveyScene.{bearing_of, scene_bearing_of};
 ghost use Rattle.stack_whole.specs.Whole.{whole};
-ghost use Rattle.stack_equilibrium.specs.LoadSizes.{AreForces, IsForce, IsMoment, IsSmall};
-ghost use Rattle.stack_equilibrium.specs.Columns.{IsBounded, IsRate, IsShare, IsEdgeWrench, lean_of, edge_force_of};
+ghost use Rattle.stack_equilibrium.specs.LoadSizes.{HasForceLimits, IsForce, IsMoment, IsSmall};
+ghost use Rattle.stack_equilibrium.specs.Columns.{HasBearingLimits, IsRate, IsShare, IsEdgeWrench, lean_of};
+ghost use Rattle.stack_equilibrium.specs.Columns.{edge_force_of};
 ghost use Rattle.stack_statics.specs.Loads.{wrench_times};
 ghost use Rattle.stack_equilibrium.specs.Columns.{edge_wrench_of};
 ghost use Rattle.stack_equilibrium.specs.Answers.{body_number, column_of};
@@ -90,9 +91,9 @@ fn combined(q: Whole, normal: Whole, lean: Whole, tangent: Whole) -> Whole
 
 /// The force along an edge of the cone, on the second body.
 fn edge_force(z: Bearing, plus: bool) -> Force
-    requires { IsBounded z }
+    requires { HasBearingLimits z }
     ensures value { result ≡ edge_force_of z plus }
-    ensures size { AreForces result }
+    ensures size { HasForceLimits result }
 {
     let q = denominator(z.cone);
     let lean = lean(z.cone, plus);
@@ -107,7 +108,7 @@ fn edge_force(z: Bearing, plus: bool) -> Force
 /// The wrench about a corner of the force along an edge of the cone.
 fn edge_wrench(corner: Point, z: Bearing, plus: bool) -> Wrench
     requires corner { IsInRange corner }
-    requires bearing { IsBounded z }
+    requires bearing { HasBearingLimits z }
     ensures value { result ≡ edge_wrench_of corner z plus }
     ensures size { IsEdgeWrench result }
 {
@@ -161,7 +162,7 @@ fn exerted(i: usize, z: Bearing, wrench: Wrench) -> Wrench
 fn bounded_bearing(s: &Survey, k: usize) -> Bearing
     requires { k < length s.now.bearings }
     ensures value { result ≡ bearing_of s.now k }
-    ensures size { IsBounded result }
+    ensures size { HasBearingLimits result }
 {
     let _all = s.bearings();
     let _bodies = s.model().bodies();

@@ -4,7 +4,7 @@ ghost use Rattle.std.specs.Prelude.{◌≡◌, ◌*ℤ◌, ◌-ℤ◌};
 ghost use Rattle.stack_polygon.specs.Sizes.{IsStep};
 ghost use Rattle.stack_polygon.specs.Limits.{IsInRange, IsNear};
 ghost use Rattle.stack_whole.specs.Whole.{whole};
-ghost use Rattle.stack_equilibrium.specs.LoadSizes.{IsForce, AreForces, AreSteps, IsTurn, IsMoment, arm_between};
+ghost use Rattle.stack_equilibrium.specs.LoadSizes.{IsForce, HasForceLimits, AreSteps, IsTurn, IsMoment, arm_between};
 ghost use Rattle.stack_equilibrium.specs.LoadSizes.{moment_with};
 
 use stack_polygon::Point;
@@ -72,7 +72,7 @@ fn less(turn: Whole, back: Whole) -> Whole
 /// The moment of a force, counter-clockwise.
 pub fn moment(arm: Arm, force: Force) -> Whole
     requires arm { AreSteps arm }
-    requires force { AreForces force }
+    requires force { HasForceLimits force }
     ensures value { result ≡ whole (moment_with arm force) }
     ensures size { IsMoment result.value }
 {

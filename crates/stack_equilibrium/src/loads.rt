@@ -6,7 +6,7 @@ ghost use Rattle.stack_model.specs.ModelView.{model_view};
 ghost use Rattle.stack_contact.specs.FreeBlocks.{frees_of};
 ghost use Rattle.stack_equilibrium.specs.declared.types.Question.TheVariants as questions;
 ghost use Rattle.stack_statics.specs.Loads.{wrench_sum, load_wrench};
-ghost use Rattle.stack_equilibrium.specs.LoadSizes.{IsSmall, AreForces, IsMoment, IsLimited, AreLoads, IsWeight};
+ghost use Rattle.stack_equilibrium.specs.LoadSizes.{IsSmall, HasForceLimits, IsMoment, IsLimited, AreLoads, IsWeight};
 ghost use Rattle.stack_equilibrium.specs.LoadSizes.{force_in, sixfold_of};
 ghost use Rattle.stack_equilibrium.specs.SwaySizes.{IsSwayLoad};
 ghost use Rattle.stack_equilibrium.specs.SurveyScene.{is_asked, acting, listed_on, loads_on};
@@ -42,7 +42,7 @@ fn acts_on(question: Question, i: usize, load: Load) -> bool
 fn force_of(load: Load) -> Force
     requires { IsLimited load }
     ensures value { result ≡ force_in load }
-    ensures size { AreForces result }
+    ensures size { HasForceLimits result }
 {
     Force {
         x: Whole::widened(load.fx),
@@ -52,7 +52,7 @@ fn force_of(load: Load) -> Force
 
 /// Six times a force and its moment.
 fn sixfold(force: Force, moment: Whole) -> Wrench
-    requires force { AreForces force }
+    requires force { HasForceLimits force }
     requires moment { IsMoment moment.value }
     ensures value { result ≡ sixfold_of force moment.value }
     ensures size { AreLoads 1 result }

@@ -9,7 +9,7 @@ ghost use Rattle.stack_equilibrium.specs.WrittenVelocities.{block_move_at, veloc
 ghost use Rattle.stack_equilibrium.specs.WrittenVelocities.{written_opening};
 ghost use Rattle.stack_equilibrium.specs.Answers.{AreRates};
 
-use crate::block::joint_of;
+use crate::block::lever_of;
 use crate::types::VelocityWide;
 use crate::velocity::{BlockMove, Gap, Velocity, difference, gap_of, rest, velocity_of};
 use stack_certificate::types::Motion;
@@ -45,8 +45,8 @@ fn velocity_at(
     }
     let outline = s.model().polygon(i);
     let _corners = outline.len();
-    let joint = joint_of(outline.corner(0), z);
-    velocity_of(joint, block_move(moves, s.free_number(i)))
+    let lever = lever_of(outline.corner(0), z);
+    velocity_of(lever, block_move(moves, s.free_number(i)))
 }
 
 /// How a bearing of the survey opens and slides.

@@ -8,27 +8,27 @@ ghost use Rattle.stack_equilibrium.specs.WrittenSums.{written_bearing_force};
 ghost use Rattle.stack_equilibrium.specs.WrittenSums.{written_force, with_bearing, bearing_at, written_sum, on_axis};
 ghost use Rattle.stack_equilibrium.specs.WrittenSums.{written_sums};
 
-use crate::block::{Block, Joint, Push, joint_of, number_along, push_of};
+use crate::block::{Block, Lever, Push, lever_of, number_along, push_of};
 use crate::force::Force;
 use crate::types::{Axis, SumWide, Wrench};
 use stack_contact::types::Bearing;
 use stack_whole::{Whole, Wide};
 
 #[tactic(auto, unfolding(crate::specs::WrittenSums::written_force_x))]
-fn force_x(joint: Joint, push: Push) -> Result<Whole, Wide>
-    ensures { result ≡ written_force_x joint push }
+fn force_x(lever: Lever, push: Push) -> Result<Whole, Wide>
+    ensures { result ≡ written_force_x lever push }
 {
-    let along = push.b.product(joint.tx)?;
-    let across = push.a.product(joint.ty)?;
+    let along = push.b.product(lever.tx)?;
+    let across = push.a.product(lever.ty)?;
     along.difference(across)
 }
 
 #[tactic(auto, unfolding(crate::specs::WrittenSums::written_force_y))]
-fn force_y(joint: Joint, push: Push) -> Result<Whole, Wide>
-    ensures { result ≡ written_force_y joint push }
+fn force_y(lever: Lever, push: Push) -> Result<Whole, Wide>
+    ensures { result ≡ written_force_y lever push }
 {
-    let across = push.a.product(joint.tx)?;
-    let along = push.b.product(joint.ty)?;
+    let across = push.a.product(lever.tx)?;
+    let along = push.b.product(lever.ty)?;
     across.sum(along)
 }
 
@@ -38,30 +38,30 @@ fn force_y(joint: Joint, push: Push) -> Result<Whole, Wide>
 pub fn bearing_force(bearing: Bearing, push: Push) -> Result<Force, Wide>
     ensures { result ≡ written_bearing_force bearing push }
 {
-    let joint = joint_of(bearing.at, bearing);
-    let x = force_x(joint, push)?;
-    let y = force_y(joint, push)?;
+    let lever = lever_of(bearing.at, bearing);
+    let x = force_x(lever, push)?;
+    let y = force_y(lever, push)?;
     Ok(Force { x, y })
 }
 
 #[tactic(auto, unfolding(crate::specs::WrittenSums::written_moment))]
-fn moment(joint: Joint, push: Push) -> Result<Whole, Wide>
-    ensures { result ≡ written_moment joint push }
+fn moment(lever: Lever, push: Push) -> Result<Whole, Wide>
+    ensures { result ≡ written_moment lever push }
 {
-    let x = force_x(joint, push)?;
-    let y = force_y(joint, push)?;
-    let turned = joint.lx.product(y)?;
-    let back = joint.ly.product(x)?;
+    let x = force_x(lever, push)?;
+    let y = force_y(lever, push)?;
+    let turned = lever.lx.product(y)?;
+    let back = lever.ly.product(x)?;
     turned.difference(back)
 }
 
-fn force(axis: Axis, joint: Joint, push: Push) -> Result<Whole, Wide>
-    ensures { result ≡ written_force axis joint push }
+fn force(axis: Axis, lever: Lever, push: Push) -> Result<Whole, Wide>
+    ensures { result ≡ written_force axis lever push }
 {
     match axis {
-        Axis::X => force_x(joint, push),
-        Axis::Y => force_y(joint, push),
-        Axis::M => moment(joint, push),
+        Axis::X => force_x(lever, push),
+        Axis::Y => force_y(lever, push),
+        Axis::M => moment(lever, push),
     }
 }
 
@@ -75,12 +75,12 @@ fn add_bearing(
 ) -> Result<Whole, Wide>
     ensures { result ≡ with_bearing axis block push so_far z }
 {
-    let joint = joint_of(block.corner, z);
+    let lever = lever_of(block.corner, z);
     if block.body == z.second {
-        let acting = force(axis, joint, push)?;
+        let acting = force(axis, lever, push)?;
         so_far.sum(acting)
     } else if block.body == z.first {
-        let acting = force(axis, joint, push)?;
+        let acting = force(axis, lever, push)?;
         so_far.difference(acting)
     } else {
         Ok(so_far)

@@ -4,7 +4,7 @@ ghost use Rattle.std.specs.Prelude.{◌≡◌, ◌*ℤ◌, ◌-ℤ◌, pos};
 ghost use Rattle.stack_polygon.specs.Sizes.{IsWithin};
 ghost use Rattle.stack_whole.specs.Whole.{whole};
 ghost use Rattle.stack_statics.specs.Weights.{IsUnitWeight};
-ghost use Rattle.stack_statics.specs.Sway.{sway_of, sway_by};
+ghost use Rattle.stack_statics.specs.Sway.{sway_load, sway_by};
 ghost use Rattle.stack_equilibrium.specs.SwaySizes.{IsShareOfWeight, IsSwayLoad};
 
 use crate::types::Wrench;
@@ -81,7 +81,7 @@ pub fn sway_on(x: i64, y: i64, unit: i64, outline: &Polygon) -> Wrench
     requires x { IsShareOfWeight x }
     requires y { IsShareOfWeight y }
     requires unit { IsUnitWeight unit }
-    ensures value { result ≡ sway_of (x, y) unit outline.now }
+    ensures value { result ≡ sway_load (x, y) unit outline.now }
     ensures size { IsSwayLoad result }
 {
     let _len = outline.len();

@@ -5,7 +5,7 @@ ghost use Rattle.stack_whole.specs.Whole.{whole};
 ghost use Rattle.stack_equilibrium.specs.WrittenVelocities.{written_velocity, written_difference, written_normal};
 ghost use Rattle.stack_equilibrium.specs.WrittenVelocities.{written_tangential, written_gap, at_rest};
 
-use crate::block::Joint;
+use crate::block::Lever;
 use stack_contact::types::Bearing;
 use stack_whole::{Whole, Wide};
 
@@ -42,9 +42,9 @@ pub fn rest() -> Velocity
     }
 }
 
-/// The velocity of a block at a joint.
+/// The velocity of a block at a bearing.
 #[tactic(auto, unfolding(crate::specs::WrittenVelocities::written_velocity))]
-pub fn velocity_of(at: Joint, block: BlockMove) -> Result<Velocity, Wide>
+pub fn velocity_of(at: Lever, block: BlockMove) -> Result<Velocity, Wide>
     ensures { result ≡ written_velocity block at }
 {
     let back = block.r.product(at.ly)?;

@@ -23,7 +23,7 @@ use Rattle.stack_posing.specs.Equations.{IsSolution}
 use Rattle.stack_posing.specs.MovesByNumber.{power_by, AreUnopposed}
 use Rattle.stack_posing.specs.ByNumber.{dead_on, live_on}
 use Rattle.stack_posing.specs.Posed.{share, row_share, column_on, no_wrench, factor_on, factors_of, posed}
-use Rattle.stack_extract.specs.WholeBalance.{AreAmounts, column_work, load_work, AreUnresisted}
+use Rattle.stack_extract.specs.WholeBalance.{AreAmounts, whole_column_work, whole_load_work, AreUnresisted}
 use Rattle.stack_extract.specs.Certified.{triple_at}
 
 -- amounts of columns by bearings
@@ -143,11 +143,11 @@ module _ (q : Question) (s : Scene) where
         *ℤ row_at q s g w (3 * b + 2) b 2 (omega (arith, l)) (three_third b).0 (three_third b).1 n)
 
     -- a column times the multipliers is the power of its wrench on each body
-    column_is : (j : ℕ) → column_work (posed q s) y j ≡ power_by s (moves y) (column_on q s j)
+    column_is : (j : ℕ) → whole_column_work (posed q s) y j ≡ power_by s (moves y) (column_on q s j)
     column_is j = rows_of (λ z. z) (column_on q s j)
 
     -- the right side, and the factor's column
-    pub load_is : load_work (posed q s) y ≡ neg_ℤ (power_by s (moves y) (dead_on s))
+    pub load_is : whole_load_work (posed q s) y ≡ neg_ℤ (power_by s (moves y) (dead_on s))
     load_is = rows_of neg_ℤ (dead_on s)
         ∙ sum_same integers (free_bodies s) _ _ (λ b l. negated (y (3 * b)) (y (3 * b + 1)) (y (3 * b + 2))
         (dead_on s (free_at s b)).fx (dead_on s (free_at s b)).fy (dead_on s (free_at s b)).m)
@@ -157,7 +157,7 @@ module _ (q : Question) (s : Scene) where
             u *ℤ neg_ℤ x +ℤ v *ℤ neg_ℤ y +ℤ r *ℤ neg_ℤ m ≡ neg_ℤ (u *ℤ x +ℤ v *ℤ y +ℤ r *ℤ m)
         negated u v r x y m = simp expand (omega (arith, sums))
 
-    pub factor_work : column_work (posed q s) y (2 * s.bearings) ≡ power_by s (moves y) (factor_on q s)
+    pub factor_work : whole_column_work (posed q s) y (2 * s.bearings) ≡ power_by s (moves y) (factor_on q s)
     factor_work = column_is (2 * s.bearings) ∙ (λ n. power_by s (moves y) (λ i. factor_column q s i n))
 
     -- no edge opposes the moves

@@ -16,13 +16,13 @@ use Rattle.stack_rational.specs.CommonScale.{scale_of}
 use Rattle.stack_table.specs.Table.{Tabled, plain}
 use Rattle.stack_table.specs.Problem.{Problem, flipped}
 use Rattle.stack_run.specs.WrittenRun.{End, infeasible, feasible, optimal, ray, wide, over, never}
-use Rattle.stack_run.specs.EndNumbers.{signed, value, rate, bound_multiplier, collapse_multiplier}
+use Rattle.stack_run.specs.EndNumbers.{negated_if, column_value, rate, bound_multiplier, collapse_multiplier}
 use Rattle.stack_run.specs.Balance as fractional
 use Rattle.stack_run.specs.FourEnds.{EndGives, IsThirdEnd}
 use Rattle.stack_run.proofs.FourEnds.{ends_give}
 use Rattle.stack_extract.specs.WrittenLists.{forces_number, forces_list, ray_list, bound_number, collapse_number}
 use Rattle.stack_extract.specs.WholeLists.{whole_list, amount, multiplier, NonePulls}
-use Rattle.stack_extract.specs.WholeBalance.{AreAmounts, column_work, load_work, AreUnresisted, AreRefuting}
+use Rattle.stack_extract.specs.WholeBalance.{AreAmounts, whole_column_work, whole_load_work, AreUnresisted, AreRefuting}
 use Rattle.stack_extract.specs.WholeBalance.{AreBounding, StandsInWhole}
 use Rattle.stack_extract.specs.WholeEnds.{AreForces, AreLoaded, EndIsWhole, EndsAreWhole}
 use Rattle.stack_extract.proofs.WholeNumbers.{IsWhole, of_same, whole_nonneg, whole_positive, whole_negative, whole_sum}
@@ -86,7 +86,7 @@ module _ (P : Problem) where
       xs = listed w s.amounts
 
   -- multipliers of the rows from the numbers of a list, with the signs of flipped rows
-  module _ (f v : ℕ → Fraction) (e : (k : ℕ) → k < m → v k ≡ signed ordered_fractions (flipped P k) (f k)) where
+  module _ (f v : ℕ → Fraction) (e : (k : ℕ) → k < m → v k ≡ negated_if ordered_fractions (flipped P k) (f k)) where
     abbrev c : ℤ
     c = pos (scale_of (listed m f))
 
@@ -97,10 +97,10 @@ module _ (P : Problem) where
     are_whole : Wholes m c v y
     are_whole k l = ap (mul (of c)) (e k l) ∙ whole_turned c (flipped P k) (f k) _ (scaled-is m f k l)
 
-    work_whole : (j : ℕ) → IsWhole c (fractional.column_work ordered_fractions P v j) (column_work P y j)
+    work_whole : (j : ℕ) → IsWhole c (fractional.column_work ordered_fractions P v j) (whole_column_work P y j)
     work_whole j = whole_dot m c (λ k. P.entry k j) v y are_whole
 
-    load_whole : IsWhole c (fractional.load_work ordered_fractions P v) (load_work P y)
+    load_whole : IsWhole c (fractional.load_work ordered_fractions P v) (whole_load_work P y)
     load_whole = whole_dot m c P.load v y are_whole
 
     -- so the whole multipliers refute and bound
@@ -158,12 +158,12 @@ module _ (P : Problem) where
   module _ (few : P.shape.factors ≤ 1) where
     -- the forces of a last table
     forces_of : (T : Tabled Fraction) →
-        fractional.Balances ordered_fractions P (value ordered_fractions P.shape T) (of (pos 1)) → AreForces P T
+        fractional.Balances ordered_fractions P (column_value ordered_fractions P.shape T) (of (pos 1)) → AreForces P T
     forces_of T b = record {
       positive = scale_above (forces_list P.shape T);
       balances = subst (AreAmounts P (amount (whole_list (forces_list P.shape T)))) (once _)
-          (balancing few (value ordered_fractions P.shape T) (pos 1) b);
-      pushes = pushes few (value ordered_fractions P.shape T) (pos 1) b;
+          (balancing few (column_value ordered_fractions P.shape T) (pos 1) b);
+      pushes = pushes few (column_value ordered_fractions P.shape T) (pos 1) b;
     }
 
     loaded_of : (T : Tabled Fraction) → IsThirdEnd ordered_fractions P T → AreLoaded P T
@@ -182,13 +182,13 @@ module _ (P : Problem) where
       forces = forces_of T h.balances;
       no_factor = let e = h.without_factor in nothing _ _ _
           (scaled-is (suc P.shape.contacts) (forces_number P.shape T) P.shape.contacts (omega arith))
-          (no_number few (value ordered_fractions P.shape T) P.shape.contacts (omega (arith, e)));
+          (no_number few (column_value ordered_fractions P.shape T) P.shape.contacts (omega (arith, e)));
     }
     end_is_whole (optimal T) h = record {
       loaded = loaded_of T h.third;
       bounding = bounding (bound_number P.shape T) (bound_multiplier ordered_fractions P T) (λ k l. refl)
-          (value ordered_fractions P.shape T) _ _
-          (column_whole few (value ordered_fractions P.shape T) P.shape.contacts h.third.with_factor) h.bounds;
+          (column_value ordered_fractions P.shape T) _ _
+          (column_whole few (column_value ordered_fractions P.shape T) P.shape.contacts h.third.with_factor) h.bounds;
     }
     end_is_whole (ray T c) h = record {
       loaded = loaded_of T h.third;

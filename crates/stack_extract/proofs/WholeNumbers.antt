@@ -14,7 +14,7 @@ use Rattle.stack_algebra.proofs.Sums.{sum, sum_same, sum_scale}
 use Rattle.stack_algebra.proofs.Fractions.{of, of-is, mul, den_pos, neg_is, fractions}
 use Rattle.stack_algebra.proofs.OrderedFractions.{ordered_fractions, sign_is, is_plus, not_below}
 use Rattle.stack_table.specs.Problem.{turned}
-use Rattle.stack_run.specs.EndNumbers.{signed}
+use Rattle.stack_run.specs.EndNumbers.{negated_if}
 
 -- x times c is the whole number z
 abbrev pub IsWhole : ℤ → Fraction → ℤ → Type 0
@@ -89,7 +89,7 @@ whole_dot n c k x z h = ap (mul (of c)) (sum_same fractions n _ _ (λ j l. fract
 
 -- the sign of a flipped row
 pub whole_turned : (c : ℤ) (b : Bool) (x : Fraction) (z : ℤ) → IsWhole c x z →
-    IsWhole c (signed ordered_fractions b x) (turned b z)
+    IsWhole c (negated_if ordered_fractions b x) (turned b z)
 whole_turned c true x z e = ap (mul (of c)) (neg_is x) ∙ left_comm fractions (of c) (of (negsuc 0)) x
     ∙ ap (mul (of (negsuc 0))) e ∙ sym (fractions.of_mul (negsuc 0) z) ∙ ap of (sym (neg_is_mul z))
 whole_turned c false x z e = e

@@ -8,12 +8,12 @@ use Rattle.stack_algebra.specs.Rows.{less}
 use Rattle.stack_algebra.proofs.Fractions.{of}
 use Rattle.stack_algebra.proofs.OrderedFractions.{ordered_fractions}
 use Rattle.stack_table.specs.Table.{Shape, Tabled, plain, objective}
-use Rattle.stack_run.specs.EndNumbers.{value, rate}
+use Rattle.stack_run.specs.EndNumbers.{column_value, rate}
 
 module _ (S : Shape) (T : Tabled Fraction) where
   -- the value of column j; 0 for the factor where it has no column
   abbrev pub forces_number : ℕ → Fraction
-  forces_number j = cond (ltb j (plain S)) (value ordered_fractions S T j) (of (pos 0))
+  forces_number j = cond (ltb j (plain S)) (column_value ordered_fractions S T j) (of (pos 0))
 
   -- the values of the contact columns, and then of the factor
   abbrev pub forces_list : List Fraction

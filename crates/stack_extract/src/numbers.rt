@@ -2,7 +2,7 @@
 
 ghost use Rattle.std.specs.Prelude.{◌≡◌, ◌≤◌, ◌<◌, IfOk, IfErr, IfSome, OnOk, None, ◌++◌, ◌∷◌, [], true};
 ghost use Rattle.stack_algebra.proofs.OrderedFractions.{ordered_fractions};
-ghost use Rattle.stack_run.specs.EndNumbers.{basic_row, value, rate};
+ghost use Rattle.stack_run.specs.EndNumbers.{basic_row, column_value, rate};
 ghost use Rattle.stack_extract.specs.WrittenLists.{
   forces_number,
   forces_list,
@@ -33,11 +33,11 @@ fn basic_row<L: LastTable>(t: &L, column: usize) -> Option<usize>
 
 /// The value of a column: the right side of the row in which it is basic, else 0.
 fn value<L: LastTable>(t: &L, column: usize) -> Frac<i128>
-    ensures { result ≡ value ordered_fractions (L.shape t.now) (L.table t.now) column }
+    ensures { result ≡ column_value ordered_fractions (L.shape t.now) (L.table t.now) column }
 {
     match basic_row(t, column) {
         Some(row) => t.right_of(row),
-        None => Frac::nothing(),
+        None => Frac::zero(),
     }
 }
 
@@ -47,11 +47,11 @@ fn rate<L: LastTable>(t: &L, entering: usize, column: usize) -> Frac<i128>
     ensures { result ≡ rate ordered_fractions (L.shape t.now) (L.table t.now) entering column }
 {
     if column == entering {
-        return Frac::unit();
+        return Frac::one();
     }
     match basic_row(t, column) {
         Some(row) => t.cell_of(row, entering).negated(),
-        None => Frac::nothing(),
+        None => Frac::zero(),
     }
 }
 
@@ -62,7 +62,7 @@ fn forces_number<L: LastTable>(t: &L, column: usize) -> Frac<i128>
     if column < t.plain_count() {
         value(t, column)
     } else {
-        Frac::nothing()
+        Frac::zero()
     }
 }
 
@@ -74,7 +74,7 @@ fn ray_number<L: LastTable>(t: &L, entering: usize, column: usize) -> Frac<i128>
     if column < t.plain_count() {
         rate(t, entering, column)
     } else {
-        Frac::nothing()
+        Frac::zero()
     }
 }
 
@@ -151,7 +151,7 @@ pub(crate) fn collapse_numbers<L: LastTable>(
 {
     let mut numbers = Vec::new(alloc);
     for row in 0..t.row_count() {
-        match bound_number(t, row).difference(Frac::unit()) {
+        match bound_number(t, row).difference(Frac::one()) {
             Ok(number) => numbers = longer(numbers, number)?,
             Err(_) => return Err(too_wide(Numbers::Motion, EndStep::Shift, row)),
         }

@@ -15,7 +15,7 @@ use Rattle.stack_table.specs.declared.types.Step.{Step}
 use Rattle.stack_table.specs.declared.types.Step.TheVariants.{Multiply, Subtract}
 use Rattle.stack_table.specs.Spots.{reduced, reduce_item}
 use Rattle.stack_table.proofs.RowSteps.{product_too_wide, difference_too_wide, neither_too_wide, reduced_here}
-use Rattle.stack_rows.specs.RowForm.{IsFitting}
+use Rattle.stack_rows.specs.RowForm.{StepFits}
 use Rattle.stack_inverse.specs.CellSteps.{spot_at, TellsStep}
 use Rattle.stack_inverse.proofs.Bounds.{step_none}
 use Rattle.stack_inverse.proofs.StepCell.{step_cell}
@@ -43,7 +43,7 @@ module _ (x y k : Fraction) where
 
 -- where the numbers of a cell fit, nothing that is written there is too wide
 pub fits_at : (m n d r e f k t w : ℤ) → m ≡ widest → pos 0 ≺ d → pos 0 ≺ e → pos 0 ≺ k → f *ℤ k ≡ t *ℤ e →
-    IsFitting m d k t (nat_abs n) (nat_abs r) w → TellsStep None (over n d) (over r e) (over f d)
+    StepFits m d k t (nat_abs n) (nat_abs r) w → TellsStep None (over n d) (over r e) (over f d)
 fits_at m n d r e f k t w is hd he hk c h = subst (λ m. (i j : ℕ) → reduce_item ordered_fractions (is_too_wide m)
     (λ _. over n d) (λ _. over r e) (over f d) i j ≡ None) is
     (λ i j. step_none m (λ _. n) (λ _. r) d e f k t (nat_abs n) (nat_abs r) hd he hk c (λ _. omega arith)

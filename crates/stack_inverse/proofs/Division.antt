@@ -11,7 +11,7 @@ use Rattle.stack_algebra.proofs.Over.{over}
 use Rattle.stack_rational.specs.Order.{is_zero}
 use Rattle.stack_rational.specs.TooWide.{IsWidth, fraction_fits}
 use Rattle.stack_rational.proofs.Fitting.{is_zero-of}
-use Rattle.stack_inverse.specs.declared.columns.Column.{Column}
+use Rattle.stack_inverse.specs.declared.columns.FirstColumn.{FirstColumn}
 use Rattle.stack_rows.specs.RowForm.{number_at, IsSameRow}
 use Rattle.stack_inverse.specs.RowBlock.{AreWithin, IsDividedRow}
 use Rattle.stack_inverse.specs.Columns.{combined, by_place, first_at, revised_own, RowSeen, no_row, IsPut}
@@ -44,7 +44,7 @@ none_there false true d x = refl
 none_there false false true x = refl
 none_there false false false x = refl
 
-module _ {V : Type 0} (value : V → ℤ) (m : ℕ) (columns : List (Column V)) where
+module _ {V : Type 0} (value : V → ℤ) (m : ℕ) (columns : List (FirstColumn V)) where
   -- the same row over another denominator, in all columns
   pub number_same : (old new : List V) (q e d : ℤ) (g : V) → IsSameRow value old q new (value g) → (j : ℕ) →
       row_number value m columns new (value g) j *ℤ q ≡ row_number value m columns old d j *ℤ value g

@@ -15,16 +15,17 @@ use Rattle.stack_algebra.proofs.Fractions.{of, add, neg, of_add, of_mul, neg_is}
 use Rattle.stack_algebra.proofs.Over.{over, of-over}
 use Rattle.stack_algebra.proofs.Sums.{sum_same}
 use Rattle.stack_algebra.proofs.OrderedFractions.{ordered_fractions}
-use Rattle.stack_table.specs.declared.problem.Column.{Column as Given}
+use Rattle.stack_table.specs.declared.problem.Column.{FirstColumn as Given}
 use Rattle.stack_table.specs.declared.problem.Problem.{Problem as Lent}
 use Rattle.stack_table.specs.Table.{Shape, plain, columns}
 use Rattle.stack_table.specs.Problem.{Problem, turned, flipped}
 use Rattle.stack_table.specs.Lent.{IsProblem, shape_of_problem, problem_of, entries_at, factor_count}
-use Rattle.stack_table.specs.WrittenTable.{number_at as number_in, first_row, first_objective, less_all, first_basic}
+use Rattle.stack_table.specs.WrittenTable.{written_number as number_in, first_row, first_objective, less_all}
+use Rattle.stack_table.specs.WrittenTable.{first_basic}
 use Rattle.stack_table.proofs.Numbers.{number_past}
 use Rattle.stack_table.proofs.FirstObjective.{artificial_yes, artificial_not, less_all-same}
 use Rattle.stack_table.proofs.RowByRow.{objective_beyond}
-use Rattle.stack_inverse.specs.declared.columns.Column.{Column}
+use Rattle.stack_inverse.specs.declared.columns.FirstColumn.{FirstColumn}
 use Rattle.stack_rows.specs.RowForm.{number_at}
 use Rattle.stack_inverse.specs.Columns.{by_place, number, plain_own, cells_at, rises, first_at}
 use Rattle.stack_inverse.specs.Columns.{revised_own, RowSeen, no_row, cell_with, revised_cell, IsOwn}
@@ -69,7 +70,7 @@ number_same m n F own own' d a b s t h hs j ho = placed_same (ltb j n) (ltb j (n
     (λ f e. h (j - n) (omega (arith, ltb-false j n f, ltb-true j (n + m) e))) hs
 
 -- the numbers of the first table by row and column, of a problem whose columns are turned
-module _ {V : Type 0} (value : V → ℤ) (P : Lent) (problem : IsProblem P) (cs : List (Column V)) (own : List V)
+module _ {V : Type 0} (value : V → ℤ) (P : Lent) (problem : IsProblem P) (cs : List (FirstColumn V)) (own : List V)
     (s : ℕ → RowSeen V)
     (long : length cs ≡ plain (shape_of_problem P)) (turned_cells : AreFirstColumns value P cs)
     (rising : (j : ℕ) → j < length cs → rises P.rows 0 (cells_at cs j) ≡ true)

@@ -2,7 +2,7 @@
 use Rattle.std.proofs.Common.{◌≡◌, subst, Option, Some, None, Result, Ok, Err}
 use Rattle.std.specs.Prelude.{OnSome, OnOk, IfErr}
 use Rattle.stack_table.specs.declared.types.PivotWide.{PivotWide}
-use Rattle.stack_inverse.specs.declared.stops.Refusal.{Refusal}
+use Rattle.stack_inverse.specs.declared.stops.PivotRefusal.{PivotRefusal}
 use Rattle.stack_inverse.specs.CellSteps.{TellsSpot}
 
 -- of a value that is there
@@ -16,7 +16,7 @@ on_ok (Ok x) P Q h k = h k
 on_ok (Err e) P Q h k = tt
 
 -- a refusal says the same of the same place
-pub err_same : {A : Type 0} (r : Result A Refusal) (s t : Option PivotWide) → s ≡ t →
+pub err_same : {A : Type 0} (r : Result A PivotRefusal) (s t : Option PivotWide) → s ≡ t →
     IfErr r (λ e. TellsSpot e s) → IfErr r (λ e. TellsSpot e t)
 err_same (Ok x) s t h k = tt
 err_same (Err e) s t h k = subst (TellsSpot e) h k

@@ -6,13 +6,14 @@ use Rattle.std.proofs.lemmas.List.{get_or-map}
 use lib.IntN.{ℤ, ◌+ℤ◌, ◌*ℤ◌}
 use Rattle.stack_algebra.specs.Sums.{sum_of}
 use Rattle.stack_inverse.specs.declared.columns.Cell.{Cell}
-use Rattle.stack_inverse.specs.declared.columns.Column.{Column}
+use Rattle.stack_inverse.specs.declared.columns.FirstColumn.{FirstColumn}
 use Rattle.stack_rows.specs.RowForm.{number_at}
 use Rattle.stack_inverse.specs.Columns.{combined, by_place, entry_of, rises, cells_at, number_with}
 use Rattle.stack_rows.proofs.Numbers.{at-index}
 use Rattle.stack_inverse.proofs.Entered.{rises_of, over_entries}
 
-module _ {V : Type 0} (value : V → ℤ) (m : ℕ) (columns : List (Column V)) (o : ℕ → ℤ) (row : List V) (d : ℤ) (j : ℕ)
+module _ {V : Type 0} (value : V → ℤ) (m : ℕ) (columns : List (FirstColumn V)) (o : ℕ → ℤ) (row : List V) (d : ℤ)
+    (j : ℕ)
     (lt : j < length columns) (rising : rises m 0 (cells_at columns j) ≡ true) where
   -- the sum over the cells of its column makes the number
   pub number_made : (cells : List (Cell V)) → cells ≡ cells_at columns j → (start y result : ℤ) → start ≡ d *ℤ y →
@@ -27,12 +28,12 @@ module _ {V : Type 0} (value : V → ℤ) (m : ℕ) (columns : List (Column V)) 
       (number_at value row (j - length columns)) (number_at value row m)) (lt-ltb j (length columns) lt))
 
 -- the cells of a column that is lent
-pub cells_of : {V : Type 0} (columns : List (Column V)) (j : ℕ) (x : Column V) → j < length columns → x
+pub cells_of : {V : Type 0} (columns : List (FirstColumn V)) (j : ℕ) (x : FirstColumn V) → j < length columns → x
     ≡ get_or columns j x →
     x.cells.items ≡ cells_at columns j
-cells_of {V = V} columns j x l h = sym (at-index (λ (c : Column V). c.cells.items) [] columns j x l h)
+cells_of {V = V} columns j x l h = sym (at-index (λ (c : FirstColumn V). c.cells.items) [] columns j x l h)
 
 -- and by a default
-pub cells_lent : {V : Type 0} (columns : List (Column V)) (j : ℕ) (d : Column V) → j < length columns →
+pub cells_lent : {V : Type 0} (columns : List (FirstColumn V)) (j : ℕ) (d : FirstColumn V) → j < length columns →
     (get_or columns j d).cells.items ≡ cells_at columns j
-cells_lent {V = V} columns j d l = sym (get_or-map (λ (c : Column V). c.cells.items) columns j d [] l)
+cells_lent {V = V} columns j d l = sym (get_or-map (λ (c : FirstColumn V). c.cells.items) columns j d [] l)

@@ -14,7 +14,7 @@ use Rattle.stack_rational.specs.declared.exact.Op.TheVariants.{Whole, Quotient}
 use Rattle.stack_rational.specs.Laws.{widest}
 use Rattle.stack_rational.specs.TooWide.{fraction_fits, is_too_wide}
 use Rattle.stack_rational.proofs.WideWholes.{num_of}
-use Rattle.stack_inverse.specs.declared.columns.Column.{Column}
+use Rattle.stack_inverse.specs.declared.columns.FirstColumn.{FirstColumn}
 use Rattle.stack_rows.specs.RowForm.{number_at}
 use Rattle.stack_inverse.specs.Columns.{by_place, number_with}
 use Rattle.stack_rows.proofs.OverOneDenominator.{over_fits}
@@ -39,7 +39,8 @@ pub some_under : (d : ℤ) → pos 0 ≺ d → (of d).num ≢ pos 0
 some_under d h = λ e. omega (arith, ints, h, sym (num_of d) ∙ e)
 
 -- the number in a row's artificial column
-pub artificial_is : {V : Type 0} (value : V → ℤ) (m : ℕ) (columns : List (Column V)) (o : ℕ → ℤ) (row : List V) (d : ℤ)
+pub artificial_is : {V : Type 0} (value : V → ℤ) (m : ℕ) (columns : List (FirstColumn V)) (o : ℕ → ℤ) (row : List V)
+    (d : ℤ)
     (j r : ℕ) → j ≡ length columns + r → r < m → number_with value m columns o row d j ≡ number_at value row r
 artificial_is value m columns o row d j r e l = past (ltb j (length columns)) (ltb j (length columns + m))
     (eqb j (length columns + m)) _ _ _ (le-ltb j (length columns) (omega (arith, e)))

@@ -11,7 +11,7 @@ use Rattle.stack_algebra.specs.Fraction.{Fraction}
 use Rattle.stack_algebra.specs.Rows.{changed}
 use Rattle.stack_algebra.proofs.Fractions.{of}
 use Rattle.stack_algebra.proofs.Over.{over, of-over}
-use Rattle.stack_inverse.specs.declared.columns.Column.{Column}
+use Rattle.stack_inverse.specs.declared.columns.FirstColumn.{FirstColumn}
 use Rattle.stack_algebra.proofs.Order.{◌≺◌}
 use Rattle.stack_rows.specs.RowForm.{number_at}
 use Rattle.stack_inverse.specs.Columns.{combined, by_place, number, first_at, revised_own, RowSeen, IsPut}
@@ -29,7 +29,7 @@ nothing_at false true d = refl
 nothing_at false false true = refl
 nothing_at false false false = refl
 
-module _ {V : Type 0} (value : V → ℤ) (m : ℕ) (columns : List (Column V)) where
+module _ {V : Type 0} (value : V → ℤ) (m : ℕ) (columns : List (FirstColumn V)) where
   -- a row with its own cells
   abbrev pub own_cell : List V → List V → ℤ → ℕ → Fraction
   own_cell own row d j = cell_with value m columns (number_at value own) row d j

@@ -15,10 +15,10 @@ use Rattle.stack_rational.specs.Order.{is_zero}
 use Rattle.stack_rational.specs.TooWide.{IsWidth, fraction_fits, is_too_wide}
 use Rattle.stack_table.specs.Spots.{divided, reduced, divide_item, reduce_spot, row_spot, cells_spot}
 use Rattle.stack_table.proofs.RowSteps.{row_skips, reduced_same}
-use Rattle.stack_inverse.specs.declared.stops.Refusal.{Refusal}
-use Rattle.stack_inverse.specs.declared.stops.Refusal.TheVariants.{TooWide, Unsettled}
-use Rattle.stack_inverse.specs.CellSteps.{TellsSpot, IsRefused}
-use Rattle.stack_inverse.specs.RowBlock.{IsReduced, IsPivotedCells}
+use Rattle.stack_inverse.specs.declared.stops.PivotRefusal.{PivotRefusal}
+use Rattle.stack_inverse.specs.declared.stops.PivotRefusal.TheVariants.{TooWide, Unsettled}
+use Rattle.stack_inverse.specs.CellSteps.{TellsSpot, PivotIsRefused}
+use Rattle.stack_inverse.specs.RowBlock.{IsReducedRow, IsPivotedCells}
 
 -- in the pivot row no other step is written
 spot_skips : (m : ℤ) (width : ℕ) (old : ℕ → ℕ → Fraction) (r c k : ℕ) → k ≡ r →
@@ -43,7 +43,7 @@ module _ (m : ℤ) (is : IsWidth m) (height width : ℕ) (old : ℕ → ℕ → 
     (outside_fits : (k : ℕ) → height ≤ k → (j : ℕ) → fraction_fits m (old k j) ≡ true) where
   -- where no step of another row is too wide
   pub pivoted_cells : (new : ℕ → ℕ → Fraction) → ((j : ℕ) → new r j ≡ g j) →
-      ((k : ℕ) → k < height → k ≢ r → IsReduced m width (old k) g k c (new k)) →
+      ((k : ℕ) → k < height → k ≢ r → IsReducedRow m width (old k) g k c (new k)) →
       ((k : ℕ) → height ≤ k → (j : ℕ) → k ≢ r → new k j ≡ old k j) → IsPivotedCells m height width old r c new
   pivoted_cells new own each past = record {
     cell = λ k j. cell k j (ℕ_discrete k r);
@@ -94,7 +94,7 @@ module _ (m : ℤ) (is : IsWidth m) (height width : ℕ) (old : ℕ → ℕ → 
       before k b (no q) = spot_is m width old g r c g_is k q ∙ h k b q
 
   -- what a refusal of a row says of the row it says of the pivot
-  pub tells_refused : (e : Refusal) → IsRefused m height width old g r c e →
+  pub tells_refused : (e : PivotRefusal) → PivotIsRefused m height width old g r c e →
       TellsSpot e (cells_spot ordered_fractions (is_too_wide m) height width old r c)
   tells_refused (TooWide p) x = refused_at x.0 x.1 x.2.apart x.2.before p x.2.here
   tells_refused Unsettled x = tt

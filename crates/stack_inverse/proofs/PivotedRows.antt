@@ -7,16 +7,17 @@ use Rattle.stack_algebra.proofs.OrderedFractions.{ordered_fractions}
 use Rattle.stack_rational.specs.Order.{is_zero}
 use Rattle.stack_rational.specs.TooWide.{IsWidth, fraction_fits, is_too_wide}
 use Rattle.stack_table.specs.Spots.{cells_spot}
-use Rattle.stack_inverse.specs.declared.columns.Column.{Column}
-use Rattle.stack_inverse.specs.declared.stops.Refusal.{Refusal}
-use Rattle.stack_inverse.specs.CellSteps.{TellsSpot, IsRefused}
-use Rattle.stack_inverse.specs.RowBlock.{IsDividedRow, IsReduced, IsPivotedCells, AreMarked}
+use Rattle.stack_inverse.specs.declared.columns.FirstColumn.{FirstColumn}
+use Rattle.stack_inverse.specs.declared.stops.PivotRefusal.{PivotRefusal}
+use Rattle.stack_inverse.specs.CellSteps.{TellsSpot, PivotIsRefused}
+use Rattle.stack_inverse.specs.RowBlock.{IsDividedRow, IsReducedRow, IsPivotedCells, AreMarked}
 use Rattle.stack_inverse.specs.Columns.{RowSeen, no_row, IsPut, revised_own, cell_with, revised_cell, row_cell}
 use Rattle.stack_inverse.proofs.Division.{cell_outside_zero, cell_outside_fits, put_own}
 use Rattle.stack_inverse.proofs.PivotLoop.{pivoted_cells, tells_refused}
 
 -- the pivot row is divided, and the rows past the last one are none
-module _ {V : Type 0} (value : V → ℤ) (m : ℕ) (columns : List (Column V)) (own : List V) (max : ℤ) (is : IsWidth max)
+module _ {V : Type 0} (value : V → ℤ) (m : ℕ) (columns : List (FirstColumn V)) (own : List V) (max : ℤ)
+    (is : IsWidth max)
     (s : ℕ → RowSeen V) (numbers : List V) (under : ℤ) (r c : ℕ)
     (divided : IsDividedRow max (revised_cell value m columns own s r) c (row_cell value m columns numbers under))
     (past : (k : ℕ) → m < k → s k ≡ no_row) where
@@ -27,7 +28,8 @@ module _ {V : Type 0} (value : V → ℤ) (m : ℕ) (columns : List (Column V)) 
   outside_fits k l j = cell_outside_fits value m columns own s max is k j (omega (arith, l)) (past k (omega (arith, l)))
 
   -- what is refused of a row is refused of the pivot
-  pub refused : (e : Refusal) → IsRefused max (suc m) (suc (length columns + m)) (revised_cell value m columns own s)
+  pub refused : (e : PivotRefusal) →
+      PivotIsRefused max (suc m) (suc (length columns + m)) (revised_cell value m columns own s)
       (row_cell value m columns numbers under) r c e →
       TellsSpot e (cells_spot ordered_fractions (is_too_wide max) (suc m) (suc (length columns + m))
       (revised_cell value m columns own s) r c)
@@ -37,7 +39,7 @@ module _ {V : Type 0} (value : V → ℤ) (m : ℕ) (columns : List (Column V)) 
   -- the other rows are reduced, and the pivot row is put
   module _ (u t : ℕ → RowSeen V) (l : r < m) (past_too : (k : ℕ) → m < k → u k ≡ no_row)
       (put : IsPut u r numbers under true t)
-      (each : (k : ℕ) → k < suc m → (k ≢ r) → IsReduced max (suc (length columns + m))
+      (each : (k : ℕ) → k < suc m → (k ≢ r) → IsReducedRow max (suc (length columns + m))
       (revised_cell value m columns own s k) (row_cell value m columns numbers under) k c
       (revised_cell value m columns own u k)) where
     stays : (k j : ℕ) → k ≢ r → revised_cell value m columns own t k j ≡ revised_cell value m columns own u k j
@@ -55,7 +57,7 @@ module _ {V : Type 0} (value : V → ℤ) (m : ℕ) (columns : List (Column V)) 
     pivoted = pivoted_cells max is (suc m) (suc (length columns + m)) (revised_cell value m columns own s)
         (row_cell value m columns numbers under) r c divided.cell divided.none outside outside_fits
         (revised_cell value m columns own t) (put_own value m columns own u t r numbers under true l put)
-        (λ k q n. subst (λ (f : ℕ → Fraction). IsReduced max (suc (length columns + m))
+        (λ k q n. subst (λ (f : ℕ → Fraction). IsReducedRow max (suc (length columns + m))
         (revised_cell value m columns own s k) (row_cell value m columns numbers under) k c f)
         (λ z j. sym (stays k j n) z) (each k q n)) past_stays
 

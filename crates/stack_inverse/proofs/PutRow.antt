@@ -7,10 +7,10 @@ use Rattle.std.proofs.lemmas.Int.{ints}
 use Rattle.stack_algebra.specs.Fraction.{Fraction}
 use Rattle.stack_algebra.proofs.Order.{◌≺◌}
 use Rattle.stack_rational.specs.TooWide.{fraction_fits}
-use Rattle.stack_rows.specs.declared.whole.Whole.{Ghosts}
+use Rattle.stack_rows.specs.declared.whole.RowNumber.{Ghosts}
 use Rattle.stack_rows.proofs.Numbers.{at-index, at-set_same, at-set_other, at-past}
 use Rattle.stack_inverse.specs.declared.row.Row.{Row}
-use Rattle.stack_inverse.specs.RowBlock.{AllFit, AreMarked}
+use Rattle.stack_inverse.specs.RowBlock.{AllNumbersFit, AreMarked}
 use Rattle.stack_inverse.specs.Columns.{RowSeen, no_row, AreWide, IsPut}
 use Rattle.stack_inverse.specs.RowsSeen.{seen_of, seen_at}
 
@@ -74,16 +74,16 @@ module _ {V : Type 0} {number : Ghosts V} where
     -- where all rows that are marked fit, and it too if it is, they do
     pub marked_set : (max : ℤ) (cell : ℕ → RowSeen V → ℕ → Fraction) →
         AreMarked max (λ k. cell k (seen_at rows k)) (seen_at rows) →
-        (new.fits ≡ true → AllFit max (cell i (seen_of new))) →
+        (new.fits ≡ true → AllNumbersFit max (cell i (seen_of new))) →
         AreMarked max (λ k. cell k (seen_at (set rows i new) k)) (seen_at (set rows i new))
     marked_set max cell h here k = go (ℕ_discrete k i)
       where
         go : Dec (k ≡ i) → (seen_at (set rows i new) k).fits ≡ true →
-            AllFit max (cell k (seen_at (set rows i new) k))
+            AllNumbersFit max (cell k (seen_at (set rows i new) k))
         go (yes p) = subst (λ n. (seen_at (set rows i new) n).fits ≡ true →
-            AllFit max (cell n (seen_at (set rows i new) n))) (sym p)
-            (subst (λ (s : RowSeen V). s.fits ≡ true → AllFit max (cell i s)) (sym own) here)
-        go (no n) = subst (λ (s : RowSeen V). s.fits ≡ true → AllFit max (cell k s)) (sym (other k n)) (h k)
+            AllNumbersFit max (cell n (seen_at (set rows i new) n))) (sym p)
+            (subst (λ (s : RowSeen V). s.fits ≡ true → AllNumbersFit max (cell i s)) (sym own) here)
+        go (no n) = subst (λ (s : RowSeen V). s.fits ≡ true → AllNumbersFit max (cell k s)) (sym (other k n)) (h k)
 
     -- a row of these numbers is put
     pub put_is : (numbers : List V) (under : ℤ) (fits : Bool) → new.numbers.items ≡ numbers →

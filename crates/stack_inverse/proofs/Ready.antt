@@ -3,8 +3,8 @@ use Rattle.std.proofs.Common.{◌≡◌, refl, sym, subst, ℕ, suc, ◌<◌, �
 use Rattle.std.proofs.Common.{unsigned_abs, arith}
 use native.Mathlib.Decide.{dec_lt}
 use lib.IntN.{ℤ, pos}
-use Rattle.stack_inverse.specs.declared.columns.Column.{Column}
-use Rattle.stack_rows.specs.RowForm.{number_at, IsShort, IsReady}
+use Rattle.stack_inverse.specs.declared.columns.FirstColumn.{FirstColumn}
+use Rattle.stack_rows.specs.RowForm.{number_at, StepIsShort, RowStepFits}
 use Rattle.stack_inverse.specs.RowBlock.{AreWithin, FitsByTop}
 use Rattle.stack_inverse.specs.Columns.{AreFirst, plain_own, row_number}
 use Rattle.stack_inverse.proofs.Bounds.{both_sizes}
@@ -13,7 +13,7 @@ use Rattle.stack_inverse.proofs.RowByCells.{row_read}
 use Rattle.stack_inverse.proofs.Steps.{by_top, none_within}
 
 -- with lesser numbers, too
-pub short_less : (k t : ℤ) (a b p q : ℕ) → a ≤ b → p ≤ q → IsShort k t b q → IsShort k t a p
+pub short_less : (k t : ℤ) (a b p q : ℕ) → a ≤ b → p ≤ q → StepIsShort k t b q → StepIsShort k t a p
 short_less k t a b p q l n h = record {
   own = omega (arith, l, h.own);
   pivot = omega (arith, n, h.pivot);
@@ -22,7 +22,7 @@ short_less k t a b p q l n h = record {
   both = both_sizes a p (unsigned_abs k) b (unsigned_abs t) q (2 ^ 63 - 1) l n h.both;
 }
 
-module _ {V : Type 0} (value : V → ℤ) (m : ℕ) (columns : List (Column V)) where
+module _ {V : Type 0} (value : V → ℤ) (m : ℕ) (columns : List (FirstColumn V)) where
   -- the numbers that a row is kept by are among all its numbers
   pub kept_within : (row : List V) (d p : ℤ) → length row ≡ suc m → AreWithin (row_number value m columns row d) p →
       (j : ℕ) → unsigned_abs (number_at value row j) ≤ unsigned_abs p
@@ -39,7 +39,7 @@ module _ {V : Type 0} (value : V → ℤ) (m : ℕ) (columns : List (Column V)) 
   pub ready : (column_top : ℤ) → AreFirst value m (length columns) columns column_top → (max : ℤ) (row pivot : List V)
       (d e g k t p r : ℤ) (told : Bool) → length row ≡ suc m → length pivot ≡ suc m →
       FitsByTop max value m row d column_top g k t (unsigned_abs p) r told →
-      AreWithin (row_number value m columns pivot e) p → IsReady max value row pivot k t told
+      AreWithin (row_number value m columns pivot e) p → RowStepFits max value row pivot k t told
   ready column_top first max row pivot d e g k t p r told nr np b h = record {
     fits = λ j. both_sizes (unsigned_abs (number_at value row j)) (unsigned_abs (number_at value pivot j))
         (unsigned_abs k) (unsigned_abs b.whole_top) (unsigned_abs t) (unsigned_abs p) (unsigned_abs max) (own j)

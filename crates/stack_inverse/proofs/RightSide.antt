@@ -4,9 +4,9 @@ use Rattle.std.proofs.Common.{eqb, ltb, length, unsigned_abs, subst, arith}
 use Rattle.std.proofs.lemmas.Bool.{le-ltb, eq-eqb}
 use lib.IntN.{ℤ}
 use Rattle.stack_table.specs.Table.{columns}
-use Rattle.stack_rows.specs.declared.whole.Whole.{Ghosts}
+use Rattle.stack_rows.specs.declared.whole.RowNumber.{Ghosts}
 use Rattle.stack_inverse.specs.declared.revised_table.RevisedTable.{RevisedTable}
-use Rattle.stack_inverse.specs.declared.columns.Column.{Column}
+use Rattle.stack_inverse.specs.declared.columns.FirstColumn.{FirstColumn}
 use Rattle.stack_rows.specs.RowForm.{number_at}
 use Rattle.stack_inverse.specs.Columns.{by_place, revised_own, number_with}
 use Rattle.stack_inverse.specs.RowsSeen.{seen_at}
@@ -24,7 +24,7 @@ past_all : (b c d : Bool) (x y z : ℤ) → b ≡ false → c ≡ false → d �
 past_all b c d x y z hb hc hd = λ i. by_place (hb i) (hc i) (hd i) x y z
 
 -- the number in the column of the right side
-pub right_is : {V : Type 0} (value : V → ℤ) (m : ℕ) (columns : List (Column V)) (o : ℕ → ℤ) (row : List V) (d : ℤ)
+pub right_is : {V : Type 0} (value : V → ℤ) (m : ℕ) (columns : List (FirstColumn V)) (o : ℕ → ℤ) (row : List V) (d : ℤ)
     (j : ℕ) → j ≡ length columns + m → number_with value m columns o row d j ≡ number_at value row m
 right_is value m columns o row d j e = past_all (ltb j (length columns)) (ltb j (length columns + m))
     (eqb j (length columns + m)) _ _ _ (le-ltb j (length columns) (omega (arith, e)))

@@ -22,10 +22,10 @@ use Rattle.stack_rational.proofs.Crosswise.{positive-part}
 use Rattle.stack_rational.proofs.Fitting.{answer_fits, fits-of}
 use Rattle.stack_table.specs.declared.types.Step.TheVariants.{Multiply, Subtract}
 use Rattle.stack_table.specs.Spots.{reduced, reduce_item, reduce_spot}
-use Rattle.stack_inverse.specs.declared.columns.Column.{Column}
+use Rattle.stack_inverse.specs.declared.columns.FirstColumn.{FirstColumn}
 use Rattle.stack_inverse.specs.declared.columns.Cell.{Cell}
 use Rattle.stack_rows.specs.RowForm.{number_at, IsTaken}
-use Rattle.stack_inverse.specs.RowBlock.{AreWithin, AllFit, IsReduced}
+use Rattle.stack_inverse.specs.RowBlock.{AreWithin, AllNumbersFit, IsReducedRow}
 use Rattle.stack_inverse.specs.Columns.{by_place, combined, entry_of, rises, cells_at, number_with, cell_with}
 use Rattle.stack_inverse.specs.Columns.{row_number, row_cell}
 use Rattle.stack_inverse.proofs.Entered.{rises_of, over_entries}
@@ -85,7 +85,7 @@ item_fits m f g k i j h = answer_fits m Difference (f j) (mul k (g j))
 past_place : (b c d : Bool) (x y z : ℤ) → b ≡ false → c ≡ false → d ≡ false → by_place b c d x y z ≡ pos 0
 past_place b c d x y z hb hc hd = λ i. by_place (hb i) (hc i) (hd i) x y z
 
-module _ {V : Type 0} (value : V → ℤ) (m : ℕ) (columns : List (Column V)) (max : ℤ) (o : ℕ → ℤ) (row : List V)
+module _ {V : Type 0} (value : V → ℤ) (m : ℕ) (columns : List (FirstColumn V)) (max : ℤ) (o : ℕ → ℤ) (row : List V)
     (d : ℤ) (positive : pos 0 ≺ d) (within : nat_abs d ≤ nat_abs max) where
   -- the cell past the right side fits
   pub past_fits : (j : ℕ) → length columns + m < j → fraction_fits max (cell_with value m columns o row d j) ≡ true
@@ -99,7 +99,7 @@ module _ {V : Type 0} (value : V → ℤ) (m : ℕ) (columns : List (Column V)) 
   pub by_cells_fit : (old g : ℕ → Fraction) (k : Fraction) (i : ℕ) →
       ((j : ℕ) → cell_with value m columns o row d j ≡ reduced ordered_fractions old g k j) →
       reduce_spot ordered_fractions (is_too_wide max) (suc (length columns + m)) old g k i ≡ None →
-      AllFit max (cell_with value m columns o row d)
+      AllNumbersFit max (cell_with value m columns o row d)
   by_cells_fit old g k i own_is none j = go (dec_lt j (suc (length columns + m)))
     where
       go : Dec (j < suc (length columns + m)) → fraction_fits max (cell_with value m columns o row d j) ≡ true
@@ -119,7 +119,7 @@ placed_read n m j x a h l = go (dec_lt j (n + m))
         (eq-eqb j (n + m) (omega (arith, l, k)) i) x (a (j - n)) (a m))
 
 -- a number that covers the artificial numbers of a row, its right side and those that are made covers all
-pub all_within : {V : Type 0} (value : V → ℤ) (m : ℕ) (columns : List (Column V)) (row : List V) (d b : ℤ) →
+pub all_within : {V : Type 0} (value : V → ℤ) (m : ℕ) (columns : List (FirstColumn V)) (row : List V) (d b : ℤ) →
     ((k : ℕ) → k < suc m → nat_abs (number_at value row k) ≤ nat_abs b) →
     ((j : ℕ) → j < length columns → nat_abs (row_number value m columns row d j) ≤ nat_abs b) →
     AreWithin (row_number value m columns row d) b
@@ -136,7 +136,7 @@ all_within value m columns row d b cells made j = go (dec_lt j (length columns))
         (le-ltb j (length columns + m) (omega (arith, k))) (ne_eqb j (length columns + m) (λ e. omega (arith, e, k)))))
         (omega arith)
 
-module _ {V : Type 0} (value : V → ℤ) (m : ℕ) (columns : List (Column V)) (j : ℕ) where
+module _ {V : Type 0} (value : V → ℤ) (m : ℕ) (columns : List (FirstColumn V)) (j : ℕ) where
   -- a number that is read in a row
   pub row_read : (o : ℕ → ℤ) (row : List V) (d r : ℤ) (p k : ℕ) → p ≡ length columns → k ≡ j - p → p ≤ j →
       j < suc (length columns + m) → number_at value row k ≡ r → r ≡ number_with value m columns o row d j
@@ -160,13 +160,14 @@ module _ {V : Type 0} (value : V → ℤ) (m : ℕ) (columns : List (Column V)) 
       no_own d x = simp expand (omega (arith, sums))
 
 -- a row that is reduced cell by cell
-pub row_by_cells : {V : Type 0} (value : V → ℤ) (m : ℕ) (columns : List (Column V)) (max : ℤ) (o : ℕ → ℤ)
+pub row_by_cells : {V : Type 0} (value : V → ℤ) (m : ℕ) (columns : List (FirstColumn V)) (max : ℤ) (o : ℕ → ℤ)
     (row new pivot : List V) (d after under f : ℤ) (i column : ℕ) → pos 0 ≺ d → pos 0 ≺ under →
     nat_abs after ≤ nat_abs max → f ≡ number_with value m columns o row d column →
     IsTaken value row (d *ℤ under) pivot under f new after →
     reduce_spot ordered_fractions (is_too_wide max) (suc (length columns + m)) (cell_with value m columns o row d)
     (row_cell value m columns pivot under) (over f d) i ≡ None →
-    IsReduced max (suc (length columns + m)) (cell_with value m columns o row d) (row_cell value m columns pivot under)
+    IsReducedRow max (suc (length columns + m)) (cell_with value m columns o row d)
+        (row_cell value m columns pivot under)
     i column (cell_with value m columns o new after)
 row_by_cells value m columns max o row new pivot d after under f i column hd hu fits hf x none = record {
   own = own_is;

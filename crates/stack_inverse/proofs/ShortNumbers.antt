@@ -14,7 +14,7 @@ use Rattle.stack_algebra.proofs.Order.{◌≺◌, ◌≼◌, mul_nonneg}
 use Rattle.stack_rational.specs.Order.{is_zero_whole}
 use Rattle.stack_bland.specs.Choice.{is_negative_sign, is_plus}
 use Rattle.stack_inverse.specs.declared.columns.Cell.{Cell}
-use Rattle.stack_inverse.specs.declared.columns.Column.{Column}
+use Rattle.stack_inverse.specs.declared.columns.FirstColumn.{FirstColumn}
 use Rattle.stack_rows.specs.RowForm.{number_at}
 use Rattle.stack_inverse.specs.RowBlock.{IsWholeTop}
 use Rattle.stack_inverse.specs.Columns.{combined, sizes, by_place, entry_of, rises, cells_at}
@@ -154,7 +154,7 @@ pub negative_by_opposite : (n o : ℤ) (b : Bool) → b ≡ is_plus (sign_of o) 
 negative_by_opposite n o b h e = h ∙ ap (λ z. is_plus (sign_of z)) e ∙ opposite_sign n
 
 -- the product of the denominator and an own cell fits
-pub start_fits : {V : Type 0} (value : V → ℤ) (columns : List (Column V)) (own row : List V) (j : ℕ) (d z o : ℤ) →
+pub start_fits : {V : Type 0} (value : V → ℤ) (columns : List (FirstColumn V)) (own row : List V) (j : ℕ) (d z o : ℤ) →
     j < length columns → z ≡ pos 0 → number_at value own j ≡ o → IsShortRow value columns own row d →
     nat_abs z + nat_abs o * nat_abs d ≤ 2 ^ 63 - 1
 start_fits value columns own row j d z o l hz read h = start (nat_abs z) (nat_abs o) (nat_abs (number_at value own j))
@@ -165,7 +165,7 @@ start_fits value columns own row j d z o l hz read h = start (nat_abs z) (nat_ab
     start z o p d r M hz e h = let u : p * d ≡ o * d = ap (λ n. n * d) e in omega (arith, hz, u, h)
 
 -- that product is taken from 0, and then those of a column whose cells are lent
-module _ {V : Type 0} (value : V → ℤ) (columns : List (Column V)) (own row : List V) (j : ℕ) (d z o s : ℤ)
+module _ {V : Type 0} (value : V → ℤ) (columns : List (FirstColumn V)) (own row : List V) (j : ℕ) (d z o s : ℤ)
     (lt : j < length columns) (cells : List (Cell V)) (is : cells ≡ cells_at columns j)
     (zero_is : z ≡ pos 0) (read : number_at value own j ≡ o) (hs : s ≡ z -ℤ o *ℤ d) where
   -- all of them fit
@@ -239,7 +239,7 @@ module _ {V : Type 0} (value : V → ℤ) where
       same = λ i. sum_below 0 ◌+◌ m (λ r. entry_size xs r i)
 
   -- a row over a positive denominator, whose top fits 64 bits
-  module _ (m : ℕ) (columns : List (Column V)) (own row : List V) (d column_top own_top b : ℤ)
+  module _ (m : ℕ) (columns : List (FirstColumn V)) (own row : List V) (d column_top own_top b : ℤ)
       (first : AreFirst value m (length columns) columns column_top) (is_own : IsOwn value own own_top)
       (width : length row ≡ suc m) (positive : pos 0 ≺ d) (tops : IsWholeTop value m row d column_top own_top b)
       (fits : nat_abs b ≤ 2 ^ 63 - 1) where
@@ -284,7 +284,7 @@ module _ {V : Type 0} (value : V → ℤ) where
     }
 
 -- the number of the objective row by its own cells
-pub objective_number : {V : Type 0} (value : V → ℤ) (m : ℕ) (columns : List (Column V)) (own row : List V) (d : ℤ)
+pub objective_number : {V : Type 0} (value : V → ℤ) (m : ℕ) (columns : List (FirstColumn V)) (own row : List V) (d : ℤ)
     (j : ℕ) → own_number value m columns own row d j
     ≡ number_with value m columns (revised_own value m own m) row d j
 objective_number value m columns own row d j = λ z. number_with value m columns (λ k. own_is k z) row d j

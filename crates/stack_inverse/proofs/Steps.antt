@@ -16,9 +16,9 @@ use Rattle.stack_rational.proofs.WideWholes.{num_of}
 use Rattle.stack_rational.proofs.Fitting.{is_zero_whole-num, is_zero-of}
 use Rattle.stack_table.specs.Spots.{reduced, reduce_item}
 use Rattle.stack_table.proofs.RowSteps.{row_skips}
-use Rattle.stack_inverse.specs.declared.columns.Column.{Column}
+use Rattle.stack_inverse.specs.declared.columns.FirstColumn.{FirstColumn}
 use Rattle.stack_rows.specs.RowForm.{number_at, IsTaken}
-use Rattle.stack_inverse.specs.RowBlock.{AreWithin, AllFit, IsWholeTop, FitsByTop, IsReduced}
+use Rattle.stack_inverse.specs.RowBlock.{AreWithin, AllNumbersFit, IsWholeTop, FitsByTop, IsReducedRow}
 use Rattle.stack_inverse.specs.Columns.{first_at, AreFirst, IsOwn, revised_own, own_top_at}
 use Rattle.stack_inverse.specs.Columns.{number_with, cell_with, row_number, row_cell}
 use Rattle.stack_rows.proofs.OverOneDenominator.{same_over}
@@ -45,7 +45,7 @@ own_within false x y h = omega arith
 pub none_within : (y : ℤ) → unsigned_abs (pos 0) ≤ unsigned_abs y
 none_within y = omega arith
 
-module _ {V : Type 0} (value : V → ℤ) (m : ℕ) (columns : List (Column V)) where
+module _ {V : Type 0} (value : V → ℤ) (m : ℕ) (columns : List (FirstColumn V)) where
   -- the own cells of row i are within their top
   pub own_below : (own : List V) (own_top : ℤ) → IsOwn value own own_top → (i j : ℕ) →
       unsigned_abs (revised_own value m own i j) ≤ unsigned_abs (own_top_at m own_top i)
@@ -63,9 +63,9 @@ module _ {V : Type 0} (value : V → ℤ) (m : ℕ) (columns : List (Column V)) 
   module _ (max : ℤ) (o : ℕ → ℤ) (row : List V) (d : ℤ) (positive : pos 0 ≺ d) where
     -- a row whose number in the column is 0, and whose cells fit, stays
     pub row_stays : IsWidth max → (g : ℕ → Fraction) (i column width : ℕ) →
-        AllFit max (cell_with value m columns o row d) →
+        AllNumbersFit max (cell_with value m columns o row d) →
         is_zero_whole (number_with value m columns o row d column) ≡ true →
-        IsReduced max width (cell_with value m columns o row d) g i column (cell_with value m columns o row d)
+        IsReducedRow max width (cell_with value m columns o row d) g i column (cell_with value m columns o row d)
     row_stays is g i column width fit z = record {
       own = λ j. sym (skips j).0;
       fits = fit;
@@ -107,7 +107,7 @@ module _ {V : Type 0} (value : V → ℤ) (m : ℕ) (columns : List (Column V)) 
           ((j : ℕ) → unsigned_abs (o j) ≤ unsigned_abs g) → (i width : ℕ) (told : Bool) →
           FitsByTop max value m row d column_top g k t (unsigned_abs p) w told →
           AreWithin (row_number value m columns pivot e) p →
-          IsReduced max width (cell_with value m columns o row d) (row_cell value m columns pivot e) i column
+          IsReducedRow max width (cell_with value m columns o row d) (row_cell value m columns pivot e) i column
           (cell_with value m columns o new after)
       row_by_tops column_top g p first ho i width told b kp = record {
         own = taken_own;

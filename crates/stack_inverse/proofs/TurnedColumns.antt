@@ -11,11 +11,11 @@ use Rattle.stack_algebra.proofs.Integers.{one_mul}
 use Rattle.stack_algebra.specs.Sums.{sum_to, sum_of}
 use Rattle.stack_table.specs.declared.problem.Entry.{Entry}
 use Rattle.stack_table.specs.Problem.{turned}
-use Rattle.stack_table.specs.declared.problem.Column.{Column as Given}
+use Rattle.stack_table.specs.declared.problem.Column.{FirstColumn as Given}
 use Rattle.stack_table.specs.declared.problem.Problem.{Problem as Lent}
 use Rattle.stack_table.specs.Lent.{entry_in, entries_at, factor_entries, IsColumn, IsProblem}
 use Rattle.stack_inverse.specs.declared.columns.Cell.{Cell}
-use Rattle.stack_inverse.specs.declared.columns.Column.{Column}
+use Rattle.stack_inverse.specs.declared.columns.FirstColumn.{FirstColumn}
 use Rattle.stack_inverse.specs.Columns.{sizes, entry_of, rises, cells_at, AreFirst}
 use Rattle.stack_inverse.specs.FirstTable.{flips, AreTurned, AreFirstColumns, sizes_in, less_cells}
 use Rattle.stack_inverse.proofs.Entered.{rises_of, over_entries}
@@ -177,7 +177,8 @@ entries_are P h j = either_column P.rows (ltb j (length P.contact.items)) _ _
     (record { below = tt; rising = λ k l. absurd (omega (arith, l)); small = tt }))
 
 -- the columns of a problem's first rows, and a number that covers their sizes
-pub first_columns : {V : Type 0} (value : V → ℤ) (P : Lent) → IsProblem P → (cs : List (Column V)) (column_top : ℤ) →
+pub first_columns : {V : Type 0} (value : V → ℤ) (P : Lent) → IsProblem P →
+    (cs : List (FirstColumn V)) (column_top : ℤ) →
     AreFirstColumns value P cs → 0 < unsigned_abs column_top →
     ((j : ℕ) → j < length cs → sizes_in value (cells_at cs j) ≤ unsigned_abs column_top) →
     AreFirst value P.rows (length cs) cs column_top

@@ -7,7 +7,7 @@ use Rattle.stack_algebra.specs.Fraction.{Fraction}
 use Rattle.stack_algebra.specs.Sums.{sum_to, sum_below}
 use Rattle.stack_algebra.proofs.Over.{over}
 use Rattle.stack_inverse.specs.declared.columns.Cell.{Cell}
-use Rattle.stack_inverse.specs.declared.columns.Column.{Column}
+use Rattle.stack_inverse.specs.declared.columns.FirstColumn.{FirstColumn}
 use Rattle.stack_rows.specs.RowForm.{at_value, number_at}
 
 -- the number of a row in a column f of the first rows
@@ -43,15 +43,15 @@ rises m from [] = true
 rises m from (x ∷ xs) = leb from x.row && (ltb x.row m && rises m (suc x.row) xs)
 
 -- the cells of column j
-abbrev pub cells_at : {V : Type 0} → List (Column V) → ℕ → List (Cell V)
+abbrev pub cells_at : {V : Type 0} → List (FirstColumn V) → ℕ → List (Cell V)
 cells_at columns j = at_value (λ c. c.cells.items) [] columns j
 
 -- the first rows
-abbrev pub first_at : {V : Type 0} → (V → ℤ) → List (Column V) → ℕ → ℕ → ℤ
+abbrev pub first_at : {V : Type 0} → (V → ℤ) → List (FirstColumn V) → ℕ → ℕ → ℤ
 first_at value columns r j = entry_of value (cells_at columns j) r
 
 -- columns of m rows, none of which has a greater sum of sizes than `column_top`
-pub record AreFirst {V : Type 0} (value : V → ℤ) (m n : ℕ) (columns : List (Column V)) (column_top : ℤ)
+pub record AreFirst {V : Type 0} (value : V → ℤ) (m n : ℕ) (columns : List (FirstColumn V)) (column_top : ℤ)
     : Type 0 where
   pub rising : (j : ℕ) → j < n → rises m 0 (cells_at columns j) ≡ true
   pub within : (j : ℕ) → j < n → sizes m (λ r. first_at value columns r j) ≤ unsigned_abs column_top
@@ -79,22 +79,24 @@ abbrev pub no_row : {V : Type 0} → RowSeen V
 no_row = record { numbers = []; under = pos 1; fits = false }
 
 -- the number and the cell of a row with these own cells
-abbrev pub number_with : {V : Type 0} → (V → ℤ) → (m : ℕ) → List (Column V) → (own : ℕ → ℤ) → (row : List V) → ℤ → ℕ → ℤ
+abbrev pub number_with : {V : Type 0} → (V → ℤ) → (m : ℕ) → List (FirstColumn V) → (own : ℕ → ℤ) → (row : List V) → ℤ →
+    ℕ → ℤ
 number_with value m columns own row d j = number m (length columns) (first_at value columns) own d
     (number_at value row) (number_at value row m) j
 
-abbrev pub cell_with : {V : Type 0} → (V → ℤ) → (m : ℕ) → List (Column V) → (own : ℕ → ℤ) → (row : List V) → ℤ → ℕ →
+abbrev pub cell_with : {V : Type 0} → (V → ℤ) → (m : ℕ) → List (FirstColumn V) → (own : ℕ → ℤ) → (row : List V) → ℤ →
+    ℕ →
     Fraction
 cell_with value m columns own row d j = over (number_with value m columns own row d j) d
 
 -- the number in row i and column j, of rows of m artificial numbers and a right side
-abbrev pub revised_number : {V : Type 0} → (V → ℤ) → (m : ℕ) → List (Column V) → (own : List V) → (ℕ → RowSeen V) →
+abbrev pub revised_number : {V : Type 0} → (V → ℤ) → (m : ℕ) → List (FirstColumn V) → (own : List V) → (ℕ → RowSeen V) →
     ℕ → ℕ → ℤ
 revised_number value m columns own s i j = number_with value m columns (revised_own value m own i) (s i).numbers
     (s i).under j
 
 -- and the cell
-abbrev pub revised_cell : {V : Type 0} → (V → ℤ) → (m : ℕ) → List (Column V) → (own : List V) → (ℕ → RowSeen V) →
+abbrev pub revised_cell : {V : Type 0} → (V → ℤ) → (m : ℕ) → List (FirstColumn V) → (own : List V) → (ℕ → RowSeen V) →
     ℕ → ℕ → Fraction
 revised_cell value m columns own s i j = cell_with value m columns (revised_own value m own i) (s i).numbers
     (s i).under j
@@ -112,22 +114,22 @@ pub record IsPut {V : Type 0} (s : ℕ → RowSeen V) (i : ℕ) (numbers : List 
   pub other : (k : ℕ) → (k ≡ i → ⊥) → t k ≡ s k
 
 -- the numbers of a column, row by row
-abbrev pub AreEntered : {V : Type 0} → (V → ℤ) → (m : ℕ) → List (Column V) → (own : List V) → (ℕ → RowSeen V) →
+abbrev pub AreEntered : {V : Type 0} → (V → ℤ) → (m : ℕ) → List (FirstColumn V) → (own : List V) → (ℕ → RowSeen V) →
     (column : ℕ) → List V → Type 0
 AreEntered value m columns own s column entered = (i : ℕ) → i ≤ m →
     number_at value entered i ≡ revised_number value m columns own s i column
 
 -- the number and the cell of one row without own cells
-abbrev pub row_number : {V : Type 0} → (V → ℤ) → (m : ℕ) → List (Column V) → List V → ℤ → ℕ → ℤ
+abbrev pub row_number : {V : Type 0} → (V → ℤ) → (m : ℕ) → List (FirstColumn V) → List V → ℤ → ℕ → ℤ
 row_number value m columns row d j = number_with value m columns plain_own row d j
 
-abbrev pub row_cell : {V : Type 0} → (V → ℤ) → (m : ℕ) → List (Column V) → List V → ℤ → ℕ →
+abbrev pub row_cell : {V : Type 0} → (V → ℤ) → (m : ℕ) → List (FirstColumn V) → List V → ℤ → ℕ →
     Fraction
 row_cell value m columns row d j = over (row_number value m columns row d j) d
 
 -- the numbers with which phase 3 begins: those of the factor's row, whose cell in the factor's column is 1; 0 over 1
 -- without such a row
-abbrev pub IsFactorRow : {V : Type 0} → (V → ℤ) → (m : ℕ) → List (Column V) → (own : List V) → (ℕ → RowSeen V) →
+abbrev pub IsFactorRow : {V : Type 0} → (V → ℤ) → (m : ℕ) → List (FirstColumn V) → (own : List V) → (ℕ → RowSeen V) →
     (column : ℕ) → Option ℕ → (row : List V) → ℤ → Type 0
 IsFactorRow value m columns own s column None row d = ((j : ℕ) → number_at value row j ≡ pos 0) × (d ≡ pos 1)
 IsFactorRow value m columns own s column (Some r) row d = (row ≡ (s r).numbers) × (d ≡ (s r).under)

@@ -7,7 +7,7 @@ use Rattle.stack_table.specs.declared.problem.Problem.{Problem as Lent}
 use Rattle.stack_table.specs.Problem.{is_below_zero, turned}
 use Rattle.stack_table.specs.Lent.{entries_at}
 use Rattle.stack_inverse.specs.declared.columns.Cell.{Cell}
-use Rattle.stack_inverse.specs.declared.columns.Column.{Column}
+use Rattle.stack_inverse.specs.declared.columns.FirstColumn.{FirstColumn}
 use Rattle.stack_rows.specs.RowForm.{number_at}
 use Rattle.stack_inverse.specs.Columns.{RowSeen, cells_at}
 
@@ -28,7 +28,7 @@ AreTurned value right (x ∷ xs) (c ∷ cs) =
     (c.row ≡ x.row) × (value c.value ≡ turned (flips right x.row) x.value) × AreTurned value right xs cs
 
 -- so in each column
-abbrev pub AreFirstColumns : {V : Type 0} → (V → ℤ) → Lent → List (Column V) → Type 0
+abbrev pub AreFirstColumns : {V : Type 0} → (V → ℤ) → Lent → List (FirstColumn V) → Type 0
 AreFirstColumns value P columns =
     (j : ℕ) → j < length columns → AreTurned value P.right.items (entries_at P j) (cells_at columns j)
 

@@ -6,7 +6,7 @@ use Rattle.stack_algebra.specs.Rows.{next}
 use Rattle.stack_algebra.proofs.OrderedFractions.{ordered_fractions}
 use Rattle.stack_rational.specs.TooWide.{fraction_fits, is_too_wide}
 use Rattle.stack_table.specs.Spots.{divided, reduced, divide_item, reduce_spot, cells_spot}
-use Rattle.stack_rows.specs.RowForm.{number_at, IsShort, IsFitting}
+use Rattle.stack_rows.specs.RowForm.{number_at, StepIsShort, StepFits}
 use Rattle.stack_inverse.specs.Columns.{RowSeen}
 
 -- no number of a row but its last one, the right side, is greater in size than its top
@@ -36,20 +36,20 @@ pub record IsWholeTop {V : Type 0} (value : V → ℤ) (m : ℕ) (row : List V) 
   pub sum : top * unsigned_abs column_top + unsigned_abs d * unsigned_abs own_top ≤ unsigned_abs b
 
 -- cells fit
-abbrev pub AllFit : ℤ → (ℕ → Fraction) → Type 0
-AllFit m cell = (j : ℕ) → fraction_fits m (cell j) ≡ true
+abbrev pub AllNumbersFit : ℤ → (ℕ → Fraction) → Type 0
+AllNumbersFit m cell = (j : ℕ) → fraction_fits m (cell j) ≡ true
 
 -- in a row that is marked no cell is too wide for m
 abbrev pub AreMarked : {V : Type 0} → ℤ → (ℕ → ℕ → Fraction) → (ℕ → RowSeen V) → Type 0
-AreMarked m cell s = (i : ℕ) → (s i).fits ≡ true → AllFit m (cell i)
+AreMarked m cell s = (i : ℕ) → (s i).fits ≡ true → AllNumbersFit m (cell i)
 
 -- what a step of a row over d makes fits m, by a top of all its numbers; where that is told, it fits 64 bits
 pub record FitsByTop {V : Type 0} (m : ℤ) (value : V → ℤ) (rows : ℕ) (row : List V) (d column_top own_top k t : ℤ)
     (p : ℕ) (r : ℤ) (told : Bool) : Type 0 where
   pub whole_top : ℤ
   pub is_whole_top : IsWholeTop value rows row d column_top own_top whole_top
-  pub fitting : IsFitting m d k t (unsigned_abs whole_top) p r
-  pub short : told ≡ true → IsShort k t (unsigned_abs whole_top) p
+  pub fitting : StepFits m d k t (unsigned_abs whole_top) p r
+  pub short : told ≡ true → StepIsShort k t (unsigned_abs whole_top) p
 
 -- what a step of a row takes: `over` is the denominator before it is reduced, what the step makes fits m and, where
 -- that is told, 64 bits, and it has this top where that isn't 0
@@ -59,9 +59,9 @@ pub record IsStepReady {V : Type 0} (m : ℤ) (value : V → ℤ) (rows : ℕ) (
   pub by_top : FitsByTop m value rows row d column_top own_top k t p over told
 
 -- row i is reduced by the row g, its cells fit and nothing that is written is too wide
-pub record IsReduced (m : ℤ) (width : ℕ) (old g : ℕ → Fraction) (i column : ℕ) (new : ℕ → Fraction) : Type 0 where
+pub record IsReducedRow (m : ℤ) (width : ℕ) (old g : ℕ → Fraction) (i column : ℕ) (new : ℕ → Fraction) : Type 0 where
   pub own : (j : ℕ) → new j ≡ reduced ordered_fractions old g (old column) j
-  pub fits : AllFit m new
+  pub fits : AllNumbersFit m new
   pub none : reduce_spot ordered_fractions (is_too_wide m) width old g (old column) i ≡ None
 
 -- the pivot row is divided, its cells fit and nothing that is written is too wide

@@ -2,7 +2,7 @@
 use Rattle.std.specs.Prelude.{◌≡◌, ℕ, suc, ◌+◌, List, length, ℤ, pos, ◌<ℤ◌}
 use Rattle.std.specs.Prelude.{unsigned_abs}
 use Rattle.stack_algebra.specs.Fraction.{Fraction}
-use Rattle.stack_rows.specs.declared.whole.Whole.{Ghosts}
+use Rattle.stack_rows.specs.declared.whole.RowNumber.{Ghosts}
 use Rattle.stack_rows.specs.RowForm.{at_value, AreJumps}
 use Rattle.stack_inverse.specs.declared.plain.Plain.{Plain}
 use Rattle.stack_inverse.specs.declared.row.Row.{Row}

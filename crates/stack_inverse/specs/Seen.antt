@@ -3,7 +3,7 @@ use Rattle.std.specs.Prelude.{ℕ, get_or, ℤ}
 use Rattle.stack_algebra.specs.Fraction.{Fraction}
 use Rattle.stack_table.specs.Table.{Shape, Tabled}
 use Rattle.stack_table.specs.Block.{shape_of}
-use Rattle.stack_rows.specs.declared.whole.Whole.{Ghosts}
+use Rattle.stack_rows.specs.declared.whole.RowNumber.{Ghosts}
 use Rattle.stack_inverse.specs.declared.revised_table.RevisedTable.{RevisedTable}
 use Rattle.stack_inverse.specs.Columns.{revised_number, AreEntered}
 use Rattle.stack_inverse.specs.RowsSeen.{seen_at, cells_of_rows}

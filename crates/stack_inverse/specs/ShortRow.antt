@@ -5,7 +5,7 @@ use Rattle.stack_algebra.specs.Search.{least}
 use Rattle.stack_algebra.specs.Sums.{sum_of, sum_among}
 use Rattle.stack_bland.specs.Choice.{is_negative_sign}
 use Rattle.stack_inverse.specs.declared.columns.Cell.{Cell}
-use Rattle.stack_inverse.specs.declared.columns.Column.{Column}
+use Rattle.stack_inverse.specs.declared.columns.FirstColumn.{FirstColumn}
 use Rattle.stack_rows.specs.RowForm.{number_at}
 use Rattle.stack_inverse.specs.Columns.{number, first_at, cells_at}
 
@@ -19,13 +19,13 @@ product_sizes value row cells = sum_among 0 ◌+◌ (λ x. unsigned_abs (number_
     * unsigned_abs (value x.value)) cells
 
 -- the number of a row over d in a column, with these own cells
-abbrev pub own_number : {V : Type 0} → (V → ℤ) → (m : ℕ) → List (Column V) → (own row : List V) → ℤ → ℕ → ℤ
+abbrev pub own_number : {V : Type 0} → (V → ℤ) → (m : ℕ) → List (FirstColumn V) → (own row : List V) → ℤ → ℕ → ℤ
 own_number value m columns own row d j = number m (length columns) (first_at value columns) (number_at value own) d
     (number_at value row) (number_at value row m) j
 
 -- each own cell and each number of the row fits 64 bits, and so do in each column the sizes of all that its number is
 -- made of together
-pub record IsShortRow {V : Type 0} (value : V → ℤ) (columns : List (Column V)) (own row : List V) (d : ℤ)
+pub record IsShortRow {V : Type 0} (value : V → ℤ) (columns : List (FirstColumn V)) (own row : List V) (d : ℤ)
     : Type 0 where
   pub own_cells : (j : ℕ) → unsigned_abs (number_at value own j) ≤ 2 ^ 63 - 1
   pub numbers : (r : ℕ) → unsigned_abs (number_at value row r) ≤ 2 ^ 63 - 1

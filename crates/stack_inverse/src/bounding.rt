@@ -9,10 +9,10 @@ use crate::making::{top_in, top_over, whole_top};
 use crate::plain::Plain;
 use crate::row::{PivotRow, Row};
 use stack_rows::factors::{Factors, is_short, step_under, top_after};
-use stack_rows::whole::Whole;
+use stack_rows::whole::RowNumber;
 
 /// A top of the own cells of row i.
-pub fn own_top_of<T: Whole>(plain: &Plain<T>, i: usize) -> T
+pub fn own_top_of<T: RowNumber>(plain: &Plain<T>, i: usize) -> T
     ensures { T.value result ≡ own_top_at plain.now.first.rows (T.value plain.now.own_top) i }
 {
     if i == plain.first.rows {
@@ -32,7 +32,7 @@ pub struct Ready<T> {
 }
 
 /// What a step of a row of this top takes. May give up; no clause says when.
-fn ready_by<T: Whole>(
+fn ready_by<T: RowNumber>(
     first: &First<T>,
     row: &Row<T>,
     pivot: &PivotRow<T>,
@@ -57,7 +57,7 @@ fn ready_by<T: Whole>(
 }
 
 /// The same by the top that is kept, or by that of its numbers where the step doesn't fit by that.
-pub fn ready_for<T: Whole>(
+pub fn ready_for<T: RowNumber>(
     first: &First<T>,
     row: &Row<T>,
     pivot: &PivotRow<T>,
@@ -83,7 +83,7 @@ pub fn ready_for<T: Whole>(
 
 /// A top of all numbers of a row without own cells: by that of its artificial numbers, or else by each. May give up; no
 /// clause says when.
-pub fn pivot_top<T: Whole>(first: &First<T>, row: &[T], under: T, top: T) -> Option<T>
+pub fn pivot_top<T: RowNumber>(first: &First<T>, row: &[T], under: T, top: T) -> Option<T>
     requires width { length row.now ≡ suc first.now.rows }
     requires topped { IsTopped T.value row.now (unsigned_abs (T.value top)) }
     ensures { IfSome result (λ b. AreWithin (row_number T.value first.now.rows first.now.columns.items row.now

@@ -9,17 +9,17 @@ ghost use Rattle.stack_rows.specs.RowForm.{number_at};
 ghost use Rattle.stack_inverse.specs.Columns.{cells_at};
 ghost use Rattle.stack_inverse.specs.FirstTable.{flips, AreTurned, AreFirstColumns, sizes_in, less_cells};
 
-use crate::columns::{Cell, Column};
+use crate::columns::{Cell, FirstColumn};
 use crate::first::First;
 use crate::making::top_of;
 use crate::plain::Plain;
 use crate::stops::NoTable;
-use stack_rows::whole::Whole;
+use stack_rows::whole::RowNumber;
 use stack_table::problem::{Entry, Problem};
 use std::alloc::Global;
 
 /// A number of a row, flipped as the row is. May give up; no clause says when.
-pub fn turned<T: Whole>(right: &[i128], row: usize, number: i128) -> Option<T>
+pub fn turned<T: RowNumber>(right: &[i128], row: usize, number: i128) -> Option<T>
     requires { row < length right.now }
     ensures { IfSome result (λ r. T.value r ≡ turned (flips right.now row) number) }
 {
@@ -32,7 +32,7 @@ pub fn turned<T: Whole>(right: &[i128], row: usize, number: i128) -> Option<T>
 }
 
 /// The cell of an entry.
-fn cell_of_entry<T: Whole>(right: &[i128], entry: Entry) -> Option<Cell<T>>
+fn cell_of_entry<T: RowNumber>(right: &[i128], entry: Entry) -> Option<Cell<T>>
     requires { entry.row < length right.now }
     ensures row { IfSome result (λ c. c.row ≡ entry.row) }
     ensures value { IfSome result (λ c. T.value c.value ≡ turned (flips right.now entry.row) entry.value) }
@@ -45,7 +45,7 @@ fn cell_of_entry<T: Whole>(right: &[i128], entry: Entry) -> Option<Cell<T>>
 }
 
 /// The cells of a column.
-pub fn cells_of<T: Whole>(
+pub fn cells_of<T: RowNumber>(
     alloc: Global,
     entries: &[Entry],
     right: &[i128],
@@ -65,7 +65,7 @@ pub fn cells_of<T: Whole>(
 }
 
 /// The contact columns, with room for one more.
-fn contact_columns<T: Whole>(alloc: Global, p: &Problem) -> Result<Vec<Column<T>>, NoTable>
+fn contact_columns<T: RowNumber>(alloc: Global, p: &Problem) -> Result<Vec<FirstColumn<T>>, NoTable>
     requires { IsProblem p.now }
     ensures long { IfOk result (λ c. length c.items ≡ length p.now.contact.items) }
     ensures turned { IfOk result (λ c. (j : ℕ) → j < length p.now.contact.items → AreTurned T.value
@@ -74,13 +74,13 @@ fn contact_columns<T: Whole>(alloc: Global, p: &Problem) -> Result<Vec<Column<T>
     let mut columns = Vec::with_capacity(alloc, p.contact.len() + 1)?;
     for j in 0..p.contact.len() {
         let cells = cells_of(alloc, p.contact[j].entries.as_slice(), p.right.as_slice())?;
-        columns.push(Column { cells })?;
+        columns.push(FirstColumn { cells })?;
     }
     Ok(columns)
 }
 
 /// The plain columns: the contact columns, and then the factor's.
-pub fn plain_columns<T: Whole>(alloc: Global, p: &Problem) -> Result<Vec<Column<T>>, NoTable>
+pub fn plain_columns<T: RowNumber>(alloc: Global, p: &Problem) -> Result<Vec<FirstColumn<T>>, NoTable>
     requires { IsProblem p.now }
     ensures long { IfOk result (λ c. length c.items ≡ plain (shape_of_problem p.now)) }
     ensures turned { IfOk result (λ c. AreFirstColumns T.value p.now c.items) }
@@ -89,7 +89,7 @@ pub fn plain_columns<T: Whole>(alloc: Global, p: &Problem) -> Result<Vec<Column<
     match &p.factor {
         Some(factor) => {
             let cells = cells_of(alloc, factor.entries.as_slice(), p.right.as_slice())?;
-            columns.push(Column { cells })?;
+            columns.push(FirstColumn { cells })?;
             Ok(columns)
         }
         None => Ok(columns),
@@ -97,7 +97,7 @@ pub fn plain_columns<T: Whole>(alloc: Global, p: &Problem) -> Result<Vec<Column<
 }
 
 /// A number at least as great as the sum of the sizes of cells.
-fn sizes_of<T: Whole>(cells: &[Cell<T>]) -> Option<T>
+fn sizes_of<T: RowNumber>(cells: &[Cell<T>]) -> Option<T>
     ensures { IfSome result (λ r. sizes_in T.value cells.now ≤ unsigned_abs (T.value r)) }
 {
     let mut sum = T::zero();
@@ -109,7 +109,7 @@ fn sizes_of<T: Whole>(cells: &[Cell<T>]) -> Option<T>
 }
 
 /// A number that isn't 0, and at least as great as the sum of the sizes of each column.
-pub fn column_top<T: Whole>(columns: &[Column<T>]) -> Option<T>
+pub fn column_top<T: RowNumber>(columns: &[FirstColumn<T>]) -> Option<T>
     ensures some { IfSome result (λ r. 0 < unsigned_abs (T.value r)) }
     ensures top { IfSome result (λ r. (j : ℕ) → j < length columns.now →
         sizes_in T.value (cells_at columns.now j) ≤ unsigned_abs (T.value r)) }
@@ -124,7 +124,7 @@ pub fn column_top<T: Whole>(columns: &[Column<T>]) -> Option<T>
 }
 
 /// 0 less the values of cells.
-fn less_cells<T: Whole>(cells: &[Cell<T>]) -> Option<T>
+fn less_cells<T: RowNumber>(cells: &[Cell<T>]) -> Option<T>
     ensures { IfSome result (λ r. T.value r ≡ less_cells T.value cells.now) }
 {
     let mut rest = T::zero();
@@ -136,7 +136,7 @@ fn less_cells<T: Whole>(cells: &[Cell<T>]) -> Option<T>
 }
 
 /// In each column 0 less its values: the own cells of the objective row of phase 1.
-pub fn own_cells<T: Whole>(alloc: Global, columns: &[Column<T>]) -> Result<Vec<T>, NoTable>
+pub fn own_cells<T: RowNumber>(alloc: Global, columns: &[FirstColumn<T>]) -> Result<Vec<T>, NoTable>
     ensures long { IfOk result (λ own. length own.items ≡ length columns.now) }
     ensures cells { IfOk result (λ own. (j : ℕ) → j < length columns.now →
         number_at T.value own.items j ≡ less_cells T.value (cells_at columns.now j)) }
@@ -153,7 +153,7 @@ pub fn own_cells<T: Whole>(alloc: Global, columns: &[Column<T>]) -> Result<Vec<T
 }
 
 /// The first rows of a problem.
-pub fn first_of<T: Whole>(alloc: Global, p: &Problem) -> Result<First<T>, NoTable>
+pub fn first_of<T: RowNumber>(alloc: Global, p: &Problem) -> Result<First<T>, NoTable>
     requires { IsProblem p.now }
     ensures rows { IfOk result (λ f. f.rows ≡ p.now.rows) }
     ensures long { IfOk result (λ f. length f.columns.items ≡ plain (shape_of_problem p.now)) }
@@ -172,7 +172,7 @@ pub fn first_of<T: Whole>(alloc: Global, p: &Problem) -> Result<First<T>, NoTabl
 }
 
 /// The first rows of a problem, and the own cells of the objective row of phase 1.
-pub fn plain_of<T: Whole>(alloc: Global, p: &Problem) -> Result<Plain<T>, NoTable>
+pub fn plain_of<T: RowNumber>(alloc: Global, p: &Problem) -> Result<Plain<T>, NoTable>
     requires { IsProblem p.now }
     ensures rows { IfOk result (λ g. g.first.rows ≡ p.now.rows) }
     ensures long { IfOk result (λ g. length g.first.columns.items ≡ plain (shape_of_problem p.now)) }

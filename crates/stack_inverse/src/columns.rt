@@ -1,6 +1,6 @@
 //! The first rows of a problem, column by column.
 
-use stack_rows::whole::Whole;
+use stack_rows::whole::RowNumber;
 
 /// A number in a row.
 #[derive(Clone, Copy)]
@@ -11,6 +11,6 @@ pub struct Cell<T> {
 
 /// A column of the first rows, flipped as they are, by rising rows.
 #[derive(Drop)]
-pub struct Column<T: Whole> {
+pub struct FirstColumn<T: RowNumber> {
     pub cells: Vec<Cell<T>>,
 }

@@ -12,11 +12,11 @@ use crate::objective::set_only;
 use crate::pivoting::put_row;
 use crate::row::{PivotRow, Row};
 use crate::stops::NoTable;
-use stack_rows::whole::Whole;
+use stack_rows::whole::RowNumber;
 use std::alloc::Global;
 
 /// Puts the first row i, over 1. Gives its right side.
-fn put_first_row<T: Whole>(
+fn put_first_row<T: RowNumber>(
     rows: &mut [Row<T>],
     numbers: &mut [T],
     right: &[i128],
@@ -41,7 +41,7 @@ fn put_first_row<T: Whole>(
 }
 
 /// Puts the first rows, each over 1. Gives 0 less their right sides.
-fn put_first_rows<T: Whole>(
+fn put_first_rows<T: RowNumber>(
     rows: &mut [Row<T>],
     numbers: &mut [T],
     right: &[i128],
@@ -68,7 +68,7 @@ fn put_first_rows<T: Whole>(
 }
 
 /// Puts the first rows and the objective row of phase 1. May give up; no clause says when.
-pub fn fill<T: Whole>(rows: &mut [Row<T>], numbers: &mut [T], right: &[i128], one: T) -> Option<()>
+pub fn fill<T: RowNumber>(rows: &mut [Row<T>], numbers: &mut [T], right: &[i128], one: T) -> Option<()>
     requires width { length numbers.old ≡ suc (length right.now) }
     requires height { length rows.old ≡ suc (length right.now) }
     requires wide { AreWide (length right.now) (seen_at rows.old) }
@@ -89,7 +89,7 @@ pub fn fill<T: Whole>(rows: &mut [Row<T>], numbers: &mut [T], right: &[i128], on
 }
 
 /// The number 1. May give up; no clause says when.
-pub fn one<T: Whole>() -> Result<T, NoTable>
+pub fn one<T: RowNumber>() -> Result<T, NoTable>
     ensures { IfOk result (λ r. T.value r ≡ pos 1) }
 {
     match T::from_wide(1) {
@@ -99,7 +99,7 @@ pub fn one<T: Whole>() -> Result<T, NoTable>
 }
 
 /// A number as often as is told.
-pub fn repeated<T: Whole>(alloc: Global, number: T, count: usize) -> Result<Vec<T>, NoTable>
+pub fn repeated<T: RowNumber>(alloc: Global, number: T, count: usize) -> Result<Vec<T>, NoTable>
     ensures long { IfOk result (λ r. length r.items ≡ count) }
     ensures each { IfOk result (λ r. (z : ℤ) (i : ℕ) → i < count → at_value T.value z r.items i ≡ T.value number) }
 {
@@ -111,7 +111,7 @@ pub fn repeated<T: Whole>(alloc: Global, number: T, count: usize) -> Result<Vec<
 }
 
 /// Room for as many rows as each has numbers, none known to fit.
-pub fn rows_of<T: Whole>(alloc: Global, one: T, width: usize) -> Result<Vec<Row<T>>, NoTable>
+pub fn rows_of<T: RowNumber>(alloc: Global, one: T, width: usize) -> Result<Vec<Row<T>>, NoTable>
     requires { T.value one ≡ pos 1 }
     ensures height { IfOk result (λ r. length r.items ≡ width) }
     ensures wide { IfOk result (λ r. (i : ℕ) → i < width → length (seen_at r.items i).numbers ≡ width) }
@@ -131,7 +131,7 @@ pub fn rows_of<T: Whole>(alloc: Global, one: T, width: usize) -> Result<Vec<Row<
 }
 
 /// Room for a pivot row of as many numbers.
-pub fn pivot_room<T: Whole>(alloc: Global, one: T, width: usize) -> Result<PivotRow<T>, NoTable>
+pub fn pivot_room<T: RowNumber>(alloc: Global, one: T, width: usize) -> Result<PivotRow<T>, NoTable>
     requires { width < 2 ^ 63 }
     ensures { IfOk result (λ p. length p.numbers.items ≡ width) }
 {

@@ -3,13 +3,13 @@
 ghost use Rattle.std.specs.Prelude.{length};
 ghost use Rattle.stack_inverse.specs.Columns.{AreFirst};
 
-use crate::columns::Column;
-use stack_rows::whole::Whole;
+use crate::columns::FirstColumn;
+use stack_rows::whole::RowNumber;
 
 /// The first rows in the plain columns.
 #[derive(Drop)]
-pub struct First<T: Whole> {
-    pub columns: Vec<Column<T>>,
+pub struct First<T: RowNumber> {
+    pub columns: Vec<FirstColumn<T>>,
     /// At least the sum of the sizes of each column, and at least 1.
     pub top: T,
     pub rows: usize,

@@ -12,10 +12,10 @@ use crate::columns::Cell;
 use crate::first::First;
 use crate::plain::Plain;
 use crate::row::Row;
-use stack_rows::whole::Whole;
+use stack_rows::whole::RowNumber;
 
 /// A sum and the product of two numbers. Most numbers of a row are 0.
-fn added<T: Whole>(sum: T, number: T, by: T) -> Option<T>
+fn added<T: RowNumber>(sum: T, number: T, by: T) -> Option<T>
     ensures { IfSome result (λ r. T.value r ≡ T.value sum +ℤ T.value number *ℤ T.value by) }
 {
     if number.is_zero() {
@@ -27,7 +27,7 @@ fn added<T: Whole>(sum: T, number: T, by: T) -> Option<T>
 }
 
 /// A number and the products of a row with the numbers of a column.
-fn sum_over<T: Whole>(cells: &[Cell<T>], numbers: &[T], start: T) -> Option<T>
+fn sum_over<T: RowNumber>(cells: &[Cell<T>], numbers: &[T], start: T) -> Option<T>
     ensures { IfSome result (λ r. T.value r ≡ T.value start
         +ℤ sum_of (λ x. number_at T.value numbers.now x.row *ℤ T.value x.value) cells.now) }
 {
@@ -43,7 +43,7 @@ fn sum_over<T: Whole>(cells: &[Cell<T>], numbers: &[T], start: T) -> Option<T>
 }
 
 /// The own number of a row: the objective row's, and 0 in the others.
-fn own_of<T: Whole>(plain: &Plain<T>, i: usize, j: usize) -> T
+fn own_of<T: RowNumber>(plain: &Plain<T>, i: usize, j: usize) -> T
     requires { j < length plain.now.own.items }
     ensures { T.value result ≡ revised_own T.value plain.now.first.rows plain.now.own.items i j }
 {
@@ -55,7 +55,7 @@ fn own_of<T: Whole>(plain: &Plain<T>, i: usize, j: usize) -> T
 }
 
 /// The number of row i in a plain column, over its denominator. May give up; no clause says when.
-pub fn number_of<T: Whole>(plain: &Plain<T>, row: &Row<T>, i: usize, j: usize) -> Option<T>
+pub fn number_of<T: RowNumber>(plain: &Plain<T>, row: &Row<T>, i: usize, j: usize) -> Option<T>
     requires { j < length plain.now.first.columns.items }
     ensures { IfSome result (λ r. T.value r ≡ number_in_row plain.now (seen_of row.now) i j) }
 {
@@ -70,7 +70,7 @@ pub fn number_of<T: Whole>(plain: &Plain<T>, row: &Row<T>, i: usize, j: usize) -
 }
 
 /// Makes the numbers of a plain column, row by row. May give up; no clause says when.
-pub fn enter_column<T: Whole>(
+pub fn enter_column<T: RowNumber>(
     plain: &Plain<T>,
     rows: &[Row<T>],
     entered: &mut [T],
@@ -90,7 +90,7 @@ pub fn enter_column<T: Whole>(
 }
 
 /// Whichever is the greater in size. Most numbers of a row are 0.
-fn greater<T: Whole>(top: T, number: T) -> T
+fn greater<T: RowNumber>(top: T, number: T) -> T
     ensures own { unsigned_abs (T.value top) ≤ unsigned_abs (T.value result) }
     ensures other { unsigned_abs (T.value number) ≤ unsigned_abs (T.value result) }
 {
@@ -101,7 +101,7 @@ fn greater<T: Whole>(top: T, number: T) -> T
 }
 
 /// A top of the first numbers: whichever of them is the greatest in size.
-pub fn top_of<T: Whole>(numbers: &[T], count: usize) -> T
+pub fn top_of<T: RowNumber>(numbers: &[T], count: usize) -> T
     requires { count ≤ length numbers.now }
     ensures { (k : ℕ) → k < count → unsigned_abs (number_at T.value numbers.now k) ≤ unsigned_abs (T.value result) }
 {
@@ -113,7 +113,7 @@ pub fn top_of<T: Whole>(numbers: &[T], count: usize) -> T
 }
 
 /// The bits of the sizes of the first numbers together.
-fn joined_in<T: Whole>(numbers: &[T], count: usize) -> u128
+fn joined_in<T: RowNumber>(numbers: &[T], count: usize) -> u128
     requires { count ≤ length numbers.now }
     ensures { (k : ℕ) → k < count → unsigned_abs (number_at T.value numbers.now k) ≤ result }
 {
@@ -125,7 +125,7 @@ fn joined_in<T: Whole>(numbers: &[T], count: usize) -> u128
 }
 
 /// A top of all numbers but the last: of the bits of their sizes together, or else whichever is the greatest in size.
-pub fn top_over<T: Whole>(numbers: &[T], count: usize) -> T
+pub fn top_over<T: RowNumber>(numbers: &[T], count: usize) -> T
     requires { length numbers.now ≡ suc count }
     ensures { IsTopped T.value numbers.now (unsigned_abs (T.value result)) }
 {
@@ -137,7 +137,7 @@ pub fn top_over<T: Whole>(numbers: &[T], count: usize) -> T
 
 /// A top of all numbers of a row over this denominator, by that of its artificial numbers. May give up; no clause says
 /// when.
-pub fn whole_top<T: Whole>(
+pub fn whole_top<T: RowNumber>(
     first: &First<T>,
     numbers: &[T],
     under: T,
@@ -156,7 +156,7 @@ pub fn whole_top<T: Whole>(
 }
 
 /// The number of a row without own cells in any column, the right side last. May give up; no clause says when.
-pub fn row_number<T: Whole>(first: &First<T>, row: &[T], j: usize) -> Option<T>
+pub fn row_number<T: RowNumber>(first: &First<T>, row: &[T], j: usize) -> Option<T>
     requires width { length row.now ≡ suc first.now.rows }
     requires column_in { j < suc (length first.now.columns.items + first.now.rows) }
     ensures { IfSome result (λ r. (d : ℤ) → T.value r ≡ row_number T.value first.now.rows first.now.columns.items
@@ -172,7 +172,7 @@ pub fn row_number<T: Whole>(first: &First<T>, row: &[T], j: usize) -> Option<T>
 }
 
 /// A top of all numbers of a row without own cells, by each of them. May give up; no clause says when.
-pub fn top_in<T: Whole>(first: &First<T>, row: &[T]) -> Option<T>
+pub fn top_in<T: RowNumber>(first: &First<T>, row: &[T]) -> Option<T>
     requires { length row.now ≡ suc first.now.rows }
     ensures { IfSome result (λ b. (d : ℤ) → AreWithin (row_number T.value first.now.rows first.now.columns.items
         row.now d) (T.value b)) }

@@ -9,7 +9,7 @@ ghost use Rattle.stack_inverse.specs.RowsSeen.{seen_at};
 use crate::making::number_of;
 use crate::plain::Plain;
 use crate::row::Row;
-use stack_rows::whole::Whole;
+use stack_rows::whole::RowNumber;
 
 /// The first row whose basic column is this one.
 pub fn row_with(basic: &[usize], column: usize) -> Option<usize>
@@ -23,7 +23,7 @@ pub fn row_with(basic: &[usize], column: usize) -> Option<usize>
     None
 }
 
-pub fn clear_row<T: Whole>(row: &mut [T])
+pub fn clear_row<T: RowNumber>(row: &mut [T])
     ensures { (j : ℕ) → number_at T.value row.new j ≡ pos 0 }
 {
     let zero = T::zero();
@@ -33,7 +33,7 @@ pub fn clear_row<T: Whole>(row: &mut [T])
 }
 
 /// A number in one column, and 0 in the others.
-pub fn set_only<T: Whole>(row: &mut [T], column: usize, number: T)
+pub fn set_only<T: RowNumber>(row: &mut [T], column: usize, number: T)
     requires { column < length row.old }
     ensures { (j : ℕ) → number_at T.value row.new j ≡ cond (eqb j column) (T.value number) (pos 0) }
 {
@@ -43,7 +43,7 @@ pub fn set_only<T: Whole>(row: &mut [T], column: usize, number: T)
 
 /// The numbers of a row whose cell in the column has to be 1, and its denominator; without a row, 0 over 1. May give
 /// up; no clause says when.
-pub fn factor_row<T: Whole>(
+pub fn factor_row<T: RowNumber>(
     plain: &Plain<T>,
     rows: &[Row<T>],
     numbers: &mut [T],

@@ -5,8 +5,8 @@ ghost use Rattle.std.specs.Prelude.{OnOk, IfErr};
 ghost use Rattle.stack_algebra.proofs.OrderedFractions.{ordered_fractions};
 ghost use Rattle.stack_rational.specs.TooWide.{is_too_wide};
 ghost use Rattle.stack_table.specs.Spots.{cells_spot};
-ghost use Rattle.stack_inverse.specs.RowBlock.{IsTopped, IsPivotedCells, IsDividedRow, IsReduced, AreMarked};
-ghost use Rattle.stack_inverse.specs.CellSteps.{TellsSpot, IsRefused};
+ghost use Rattle.stack_inverse.specs.RowBlock.{IsTopped, IsPivotedCells, IsDividedRow, IsReducedRow, AreMarked};
+ghost use Rattle.stack_inverse.specs.CellSteps.{TellsSpot, PivotIsRefused};
 ghost use Rattle.stack_inverse.specs.Columns.{AreWide, IsPut, AreEntered};
 ghost use Rattle.stack_inverse.specs.RowsSeen.{seen_of, seen_at, number_in_row, cell_in_row, cells_of_rows, pivot_cell};
 ghost use Rattle.stack_inverse.specs.RowsSeen.{IsPivotRow, columns_of};
@@ -16,13 +16,13 @@ use crate::making::top_over;
 use crate::plain::Plain;
 use crate::reducing::reduce;
 use crate::row::{PivotRow, Row};
-use crate::stops::Refusal;
+use crate::stops::PivotRefusal;
 use stack_rows::row::{find_jumps, settle};
-use stack_rows::whole::Whole;
+use stack_rows::whole::RowNumber;
 
 /// Divides row r, which isn't the objective row, by its cell in a column, whose number is the factor. May give up; no
 /// clause says when.
-fn divide<T: Whole>(
+fn divide<T: RowNumber>(
     plain: &Plain<T>,
     row: &Row<T>,
     pivot: &mut PivotRow<T>,
@@ -55,7 +55,7 @@ fn divide<T: Whole>(
 }
 
 /// Puts numbers over a denominator into row i, with their top, 0 where none is known, and whether the row's cells fit.
-pub fn put_row<T: Whole>(rows: &mut [Row<T>], i: usize, numbers: &[T], under: T, top: T, fits: bool)
+pub fn put_row<T: RowNumber>(rows: &mut [Row<T>], i: usize, numbers: &[T], under: T, top: T, fits: bool)
     requires row_in { i < length rows.old }
     requires width { length (seen_at rows.old i).numbers ≡ length numbers.now }
     requires under { pos 0 <ℤ T.value under }
@@ -71,14 +71,14 @@ pub fn put_row<T: Whole>(rows: &mut [Row<T>], i: usize, numbers: &[T], under: T,
 
 /// Reduces each row but the pivot's by the pivot row. `entered` has the numbers of the column. `TooWide` names the
 /// first operation that is too wide; no clause says when it is given up.
-fn reduce_others<T: Whole>(
+fn reduce_others<T: RowNumber>(
     plain: &Plain<T>,
     rows: &mut [Row<T>],
     pivot: &PivotRow<T>,
     entered: &[T],
     row: usize,
     column: usize,
-) -> Result<(), Refusal>
+) -> Result<(), PivotRefusal>
     requires height { length rows.old ≡ suc plain.now.first.rows }
     requires wide { AreWide plain.now.first.rows (seen_at rows.old) }
     requires pivot { IsPivotRow plain.now pivot.now }
@@ -89,9 +89,10 @@ fn reduce_others<T: Whole>(
     ensures wide { AreWide plain.now.first.rows (seen_at rows.new) }
     ensures marked { AreMarked T.MAX (cells_of_rows plain.now rows.new) (seen_at rows.new) }
     ensures ok { OnOk result ((k : ℕ) → k < suc plain.now.first.rows → (k ≢ row) →
-        IsReduced T.MAX (columns_of plain.now) (cells_of_rows plain.now rows.old k) (pivot_cell plain.now pivot.now) k
+        IsReducedRow T.MAX (columns_of plain.now) (cells_of_rows plain.now rows.old k) (pivot_cell plain.now pivot.now)
+            k
         column (cells_of_rows plain.now rows.new k)) }
-    ensures refused { IfErr result (λ e. IsRefused T.MAX (suc plain.now.first.rows) (columns_of plain.now)
+    ensures refused { IfErr result (λ e. PivotIsRefused T.MAX (suc plain.now.first.rows) (columns_of plain.now)
         (cells_of_rows plain.now rows.old) (pivot_cell plain.now pivot.now) row column e) }
 {
     for i in 0..rows.len() {
@@ -108,14 +109,14 @@ fn reduce_others<T: Whole>(
 
 /// A pivot at a row and a column, whose numbers are `entered`; `pivot` is room for the pivot row. `TooWide` names the
 /// first operation that is too wide; no clause says when the pivot is given up.
-pub fn pivot_rows<T: Whole>(
+pub fn pivot_rows<T: RowNumber>(
     plain: &Plain<T>,
     rows: &mut [Row<T>],
     pivot: &mut PivotRow<T>,
     entered: &[T],
     row: usize,
     column: usize,
-) -> Result<(), Refusal>
+) -> Result<(), PivotRefusal>
     requires height { length rows.old ≡ suc plain.now.first.rows }
     requires wide { AreWide plain.now.first.rows (seen_at rows.old) }
     requires room { length pivot.old.numbers.items ≡ suc plain.now.first.rows }
@@ -135,7 +136,7 @@ pub fn pivot_rows<T: Whole>(
 {
     match divide(plain, &rows[row], pivot, entered[row], row, column) {
         Some(()) => {}
-        None => return Err(Refusal::Unsettled),
+        None => return Err(PivotRefusal::Unsettled),
     }
     match reduce_others(plain, rows, pivot, entered, row, column) {
         Ok(()) => {

@@ -4,11 +4,11 @@ ghost use Rattle.std.specs.Prelude.{◌≡◌, length};
 ghost use Rattle.stack_inverse.specs.Columns.{IsOwn};
 
 use crate::first::First;
-use stack_rows::whole::Whole;
+use stack_rows::whole::RowNumber;
 
 /// The first rows, and the own cells of the objective row.
 #[derive(Drop)]
-pub struct Plain<T: Whole> {
+pub struct Plain<T: RowNumber> {
     pub first: First<T>,
     pub own: Vec<T>,
     pub own_top: T,

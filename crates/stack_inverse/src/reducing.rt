@@ -7,8 +7,8 @@ ghost use Rattle.stack_algebra.proofs.OrderedFractions.{ordered_fractions};
 ghost use Rattle.stack_rational.specs.Order.{is_zero_whole};
 ghost use Rattle.stack_rational.specs.TooWide.{is_too_wide};
 ghost use Rattle.stack_table.specs.Spots.{reduce_spot};
-ghost use Rattle.stack_rows.specs.RowForm.{AreJumps, IsReady, IsTaken};
-ghost use Rattle.stack_inverse.specs.RowBlock.{IsStepTopped, IsReduced, AllFit};
+ghost use Rattle.stack_rows.specs.RowForm.{AreJumps, RowStepFits, IsTaken};
+ghost use Rattle.stack_inverse.specs.RowBlock.{IsStepTopped, IsReducedRow, AllNumbersFit};
 ghost use Rattle.stack_inverse.specs.CellSteps.{TellsSpot};
 ghost use Rattle.stack_inverse.specs.RowsSeen.{seen_of, number_in_row, cell_in_row, pivot_cell, IsPivotRow, columns_of};
 
@@ -17,13 +17,13 @@ use crate::plain::Plain;
 use crate::remaking::remake_row;
 use crate::row::{PivotRow, Row};
 use crate::spots::{RowStep, is_widest, row_spot};
-use crate::stops::Refusal;
+use crate::stops::PivotRefusal;
 use stack_rows::factors::{Factors, factors_of};
 use stack_rows::row::reduce_row;
-use stack_rows::whole::Whole;
+use stack_rows::whole::RowNumber;
 
 /// The top of a row after it is reduced: 0, that none is known, where another denominator tells that it was divided.
-fn top_kept<T: Whole>(after: T, ready: Ready<T>) -> T
+fn top_kept<T: RowNumber>(after: T, ready: Ready<T>) -> T
     ensures same { T.value result ≢ pos 0 → T.value after ≡ T.value ready.over }
     ensures top { T.value result ≢ pos 0 → T.value result ≡ T.value ready.top }
 {
@@ -35,7 +35,7 @@ fn top_kept<T: Whole>(after: T, ready: Ready<T>) -> T
 }
 
 /// Takes a multiple of the pivot row from a row, where it fits by tops of both. May give up; no clause says when.
-fn step_by_tops<T: Whole>(
+fn step_by_tops<T: RowNumber>(
     row: &mut Row<T>,
     pivot: &PivotRow<T>,
     factors: Factors<T>,
@@ -43,7 +43,7 @@ fn step_by_tops<T: Whole>(
 ) -> Option<()>
     requires width { length pivot.now.numbers.items ≡ length row.old.numbers.items }
     requires jumps { AreJumps T.value pivot.now.numbers.items pivot.now.jumps.items }
-    requires ready { IsReady T.MAX T.value row.old.numbers.items pivot.now.numbers.items (T.value factors.times)
+    requires ready { RowStepFits T.MAX T.value row.old.numbers.items pivot.now.numbers.items (T.value factors.times)
         (T.value factors.less) ready.short }
     requires step { T.value ready.top ≢ pos 0 → IsStepTopped T.value row.old.numbers.items pivot.now.numbers.items
         (T.value factors.times) (T.value factors.less) (T.value ready.top) }
@@ -68,14 +68,14 @@ fn step_by_tops<T: Whole>(
 
 /// The same cell by cell: at 128 bits alone. `TooWide` names the first operation that is too wide; no clause says when
 /// the step is given up.
-fn step_by_cells<T: Whole>(
+fn step_by_cells<T: RowNumber>(
     plain: &Plain<T>,
     row: &mut Row<T>,
     pivot: &PivotRow<T>,
     s: RowStep<T>,
     factors: Factors<T>,
     i: usize,
-) -> Result<(), Refusal>
+) -> Result<(), PivotRefusal>
     requires width { length row.old.numbers.items ≡ suc plain.now.first.rows }
     requires pivot { IsPivotRow plain.now pivot.now }
     requires under { T.value s.under ≡ T.value row.old.under }
@@ -95,33 +95,33 @@ fn step_by_cells<T: Whole>(
         (over (T.value s.factor) (T.value s.under)) i)) }
 {
     if !is_widest::<T>() {
-        return Err(Refusal::Unsettled);
+        return Err(PivotRefusal::Unsettled);
     }
     match row_spot(plain, row, pivot.numbers.as_slice(), s, factors, i) {
         Some(None) => {}
-        Some(Some(spot)) => return Err(Refusal::TooWide(spot)),
-        None => return Err(Refusal::Unsettled),
+        Some(Some(spot)) => return Err(PivotRefusal::TooWide(spot)),
+        None => return Err(PivotRefusal::Unsettled),
     }
     match remake_row(row, pivot.numbers.as_slice(), s) {
         Some(()) => Ok(()),
-        None => Err(Refusal::Unsettled),
+        None => Err(PivotRefusal::Unsettled),
     }
 }
 
 /// The same by tops, or cell by cell where the step doesn't fit by these.
-fn step<T: Whole>(
+fn step<T: RowNumber>(
     plain: &Plain<T>,
     row: &mut Row<T>,
     pivot: &PivotRow<T>,
     factor: T,
     i: usize,
-) -> Result<(), Refusal>
+) -> Result<(), PivotRefusal>
     requires width { length row.old.numbers.items ≡ suc plain.now.first.rows }
     requires pivot { IsPivotRow plain.now pivot.now }
     ensures width { length row.new.numbers.items ≡ length row.old.numbers.items }
     ensures mark { row.new.fits ≡ row.old.fits }
     ensures ok { OnOk result ((column : ℕ) → T.value factor ≡ number_in_row plain.now (seen_of row.old) i column →
-        IsReduced T.MAX (columns_of plain.now) (cell_in_row plain.now (seen_of row.old) i)
+        IsReducedRow T.MAX (columns_of plain.now) (cell_in_row plain.now (seen_of row.old) i)
         (pivot_cell plain.now pivot.now) i column (cell_in_row plain.now (seen_of row.new) i)) }
     ensures wide { IfErr result (λ e. (column : ℕ) → T.value factor
         ≡ number_in_row plain.now (seen_of row.old) i column →
@@ -131,7 +131,7 @@ fn step<T: Whole>(
 {
     let factors = match factors_of(factor, pivot.under) {
         Some(factors) => factors,
-        None => return Err(Refusal::Unsettled),
+        None => return Err(PivotRefusal::Unsettled),
     };
     let ready = match ready_for(&plain.first, row, pivot, factors, own_top_of(plain, i)) {
         Some(ready) => ready,
@@ -146,12 +146,12 @@ fn step<T: Whole>(
     };
     match step_by_tops(row, pivot, factors, ready) {
         Some(()) => Ok(()),
-        None => Err(Refusal::Unsettled),
+        None => Err(PivotRefusal::Unsettled),
     }
 }
 
 /// Whether a row whose number in the pivot's column is the factor stays as it is.
-fn stays<T: Whole>(row: &Row<T>, factor: T) -> bool
+fn stays<T: RowNumber>(row: &Row<T>, factor: T) -> bool
     ensures zero { result ≡ true → is_zero_whole (T.value factor) ≡ true }
     ensures fits { result ≡ true → row.now.fits ≡ true }
 {
@@ -163,20 +163,20 @@ fn stays<T: Whole>(row: &Row<T>, factor: T) -> bool
 
 /// Takes from row i its cell in a column, whose number is the factor, times the pivot row. A row that is known to fit
 /// stays where its cell is 0, and one that is reduced fits; one whose step is refused is spent, and isn't known to fit.
-pub fn reduce<T: Whole>(
+pub fn reduce<T: RowNumber>(
     plain: &Plain<T>,
     row: &mut Row<T>,
     pivot: &PivotRow<T>,
     factor: T,
     i: usize,
-) -> Result<(), Refusal>
+) -> Result<(), PivotRefusal>
     requires width { length row.old.numbers.items ≡ suc plain.now.first.rows }
     requires pivot { IsPivotRow plain.now pivot.now }
     ensures width { length row.new.numbers.items ≡ length row.old.numbers.items }
     ensures unmarked { IfErr result (λ e. row.new.fits ≡ false) }
     ensures ok { OnOk result ((column : ℕ) → T.value factor ≡ number_in_row plain.now (seen_of row.old) i column →
-        (row.old.fits ≡ true → AllFit T.MAX (cell_in_row plain.now (seen_of row.old) i)) →
-        IsReduced T.MAX (columns_of plain.now) (cell_in_row plain.now (seen_of row.old) i)
+        (row.old.fits ≡ true → AllNumbersFit T.MAX (cell_in_row plain.now (seen_of row.old) i)) →
+        IsReducedRow T.MAX (columns_of plain.now) (cell_in_row plain.now (seen_of row.old) i)
         (pivot_cell plain.now pivot.now) i column (cell_in_row plain.now (seen_of row.new) i)) }
     ensures wide { IfErr result (λ e. (column : ℕ) → T.value factor
         ≡ number_in_row plain.now (seen_of row.old) i column →

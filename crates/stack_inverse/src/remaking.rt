@@ -6,10 +6,10 @@ ghost use Rattle.stack_rows.specs.RowForm.{number_at, IsTaken};
 use crate::row::Row;
 use crate::spots::{RowStep, reduced_cell};
 use stack_rational::Exact;
-use stack_rows::whole::Whole;
+use stack_rows::whole::RowNumber;
 
 /// A common multiple of two numbers, as a hint.
-fn multiple<T: Whole>(a: T, b: T) -> Option<T> {
+fn multiple<T: RowNumber>(a: T, b: T) -> Option<T> {
     let common = a.divisor(b);
     let part = a.divided(common)?;
     let product = part.times(b)?;
@@ -17,7 +17,7 @@ fn multiple<T: Whole>(a: T, b: T) -> Option<T> {
 }
 
 /// A common denominator of the reduced cells of a row, as a hint.
-fn common_under<T: Whole>(numbers: &[T], pivot: &[T], s: RowStep<T>) -> Option<T>
+fn common_under<T: RowNumber>(numbers: &[T], pivot: &[T], s: RowStep<T>) -> Option<T>
     requires width { length pivot.now ≡ length numbers.now }
     requires under { pos 0 <ℤ T.value s.under }
     requires pivot_under { pos 0 <ℤ T.value s.pivot_under }
@@ -36,7 +36,7 @@ fn common_under<T: Whole>(numbers: &[T], pivot: &[T], s: RowStep<T>) -> Option<T
 }
 
 /// The number of the reduced cell over this denominator. May give up; no clause says when.
-fn remade<T: Whole>(s: RowStep<T>, own: T, pivot: T, common: T) -> Option<T>
+fn remade<T: RowNumber>(s: RowStep<T>, own: T, pivot: T, common: T) -> Option<T>
     requires under { pos 0 <ℤ T.value s.under }
     requires pivot_under { pos 0 <ℤ T.value s.pivot_under }
     ensures { IfSome result (λ r. T.value r *ℤ (T.value s.under *ℤ T.value s.pivot_under)
@@ -55,7 +55,7 @@ fn remade<T: Whole>(s: RowStep<T>, own: T, pivot: T, common: T) -> Option<T>
 }
 
 /// Makes a row of its reduced cells over this denominator, where all numbers are whole and fit.
-fn remake<T: Whole>(numbers: &mut [T], pivot: &[T], s: RowStep<T>, common: T) -> bool
+fn remake<T: RowNumber>(numbers: &mut [T], pivot: &[T], s: RowStep<T>, common: T) -> bool
     requires width { length pivot.now ≡ length numbers.old }
     requires under { pos 0 <ℤ T.value s.under }
     requires pivot_under { pos 0 <ℤ T.value s.pivot_under }
@@ -74,7 +74,7 @@ fn remake<T: Whole>(numbers: &mut [T], pivot: &[T], s: RowStep<T>, common: T) ->
 }
 
 /// Makes a row anew from its reduced cells, over a common denominator. May give up; no clause says when.
-pub fn remake_row<T: Whole>(row: &mut Row<T>, pivot: &[T], s: RowStep<T>) -> Option<()>
+pub fn remake_row<T: RowNumber>(row: &mut Row<T>, pivot: &[T], s: RowStep<T>) -> Option<()>
     requires width { length pivot.now ≡ length row.old.numbers.items }
     requires under { T.value s.under ≡ T.value row.old.under }
     requires pivot_under { pos 0 <ℤ T.value s.pivot_under }

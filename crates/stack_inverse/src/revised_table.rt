@@ -15,14 +15,14 @@ use crate::pivoting::{pivot_rows, put_row};
 use crate::plain::Plain;
 use crate::row::{PivotRow, Row};
 use crate::short::short_negative;
-use crate::stops::{NoTable, Refusal};
-use stack_rows::whole::Whole;
+use crate::stops::{NoTable, PivotRefusal};
+use stack_rows::whole::RowNumber;
 use stack_table::problem::Problem;
 use std::alloc::Global;
 
 /// The exact table of a run. Row `rows` is the objective row.
 #[derive(Drop)]
-pub struct RevisedTable<T: Whole> {
+pub struct RevisedTable<T: RowNumber> {
     given: Plain<T>,
     /// The objective row last.
     rows: Vec<Row<T>>,
@@ -45,7 +45,7 @@ pub struct RevisedTable<T: Whole> {
         get_or basic.items i 0 < columns (shape_of given.first.rows contacts has_factor) },
 }
 
-impl<T: Whole> RevisedTable<T> {
+impl<T: RowNumber> RevisedTable<T> {
     ghost use Rattle.std.specs.Prelude.{◌≢◌, ◌≤◌, ◌<ℤ◌, pos, cond, OnSome, None, IfSome, IfOk, OnOk, IfErr};
     ghost use Rattle.stack_inverse.specs.CellSteps.{TellsSpot};
     ghost use Rattle.stack_rows.specs.RowForm.{number_at};
@@ -196,7 +196,7 @@ impl<T: Whole> RevisedTable<T> {
 
     /// A pivot at a row and a column whose numbers are kept, and whose cell in the row isn't 0. `TooWide` names the
     /// first operation that is too wide. It may also be given up; no clause says when. Both leave the table spent.
-    pub fn pivot(&mut self, row: usize, column: usize) -> Result<(), Refusal>
+    pub fn pivot(&mut self, row: usize, column: usize) -> Result<(), PivotRefusal>
         requires row_in { row < (shape_of_revised self.old).rows }
         requires column_in { column < plain (shape_of_revised self.old) }
         requires cell { ((table_of_revised self.old).cell row column).num ≢ pos 0 }

@@ -7,11 +7,11 @@
 ghost use Rattle.std.specs.Prelude.{◌≡◌, ◌≢◌, pos, ◌<ℤ◌, unsigned_abs, length};
 ghost use Rattle.stack_inverse.specs.RowBlock.{IsTopped};
 
-use stack_rows::whole::Whole;
+use stack_rows::whole::RowNumber;
 
 /// A row: its numbers over one denominator, by its artificial columns, the right side last.
 #[derive(Drop)]
-pub struct Row<T: Whole> {
+pub struct Row<T: RowNumber> {
     pub numbers: Vec<T>,
     pub under: T,
     /// 0 where none is known.
@@ -24,7 +24,7 @@ pub struct Row<T: Whole> {
 
 /// The pivot row, divided by its number in the pivot's column; before a pivot it is room for that.
 #[derive(Drop)]
-pub struct PivotRow<T: Whole> {
+pub struct PivotRow<T: RowNumber> {
     pub numbers: Vec<T>,
     /// Beside each number the next column in which the row has something.
     pub jumps: Vec<usize>,

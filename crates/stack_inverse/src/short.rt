@@ -12,10 +12,10 @@ use crate::first::First;
 use crate::making::{top_over, whole_top};
 use crate::plain::Plain;
 use crate::row::Row;
-use stack_rows::whole::Whole;
+use stack_rows::whole::RowNumber;
 
 /// A number less a product. Most numbers of a row are 0.
-fn less_product<T: Whole>(sum: T, number: T, by: T, one: T) -> T
+fn less_product<T: RowNumber>(sum: T, number: T, by: T, one: T) -> T
     requires one { T.value one ≡ pos 1 }
     requires number { unsigned_abs (T.value number) ≤ 2 ^ 63 - 1 }
     requires both { unsigned_abs (T.value sum) + unsigned_abs (T.value number) * unsigned_abs (T.value by)
@@ -29,7 +29,7 @@ fn less_product<T: Whole>(sum: T, number: T, by: T, one: T) -> T
 }
 
 /// A number less the products of a row with the numbers of a column.
-fn less_products<T: Whole>(cells: &[Cell<T>], row: &[T], start: T, one: T) -> T
+fn less_products<T: RowNumber>(cells: &[Cell<T>], row: &[T], start: T, one: T) -> T
     requires one { T.value one ≡ pos 1 }
     requires rows { AllByRecursion (λ x. x.row < length row.now) cells.now }
     requires numbers { (r : ℕ) → unsigned_abs (number_at T.value row.now r) ≤ 2 ^ 63 - 1 }
@@ -45,7 +45,7 @@ fn less_products<T: Whole>(cells: &[Cell<T>], row: &[T], start: T, one: T) -> T
 }
 
 /// The opposite of the number of a row in a plain column.
-fn opposite_number<T: Whole>(
+fn opposite_number<T: RowNumber>(
     first: &First<T>,
     own: &[T],
     row: &[T],
@@ -66,7 +66,7 @@ fn opposite_number<T: Whole>(
 }
 
 /// The least column below `among` in which a row has a negative number.
-fn first_negative<T: Whole>(
+fn first_negative<T: RowNumber>(
     first: &First<T>,
     own: &[T],
     row: &[T],
@@ -93,7 +93,7 @@ fn first_negative<T: Whole>(
 }
 
 /// The same where a top of the row's numbers fits 64 bits. May give up; no clause says when.
-fn negative_in<T: Whole>(
+fn negative_in<T: RowNumber>(
     first: &First<T>,
     own: &[T],
     row: &[T],
@@ -121,7 +121,7 @@ fn negative_in<T: Whole>(
 
 /// The least column below `among` in which the objective row has a negative number, where a top of its numbers fits 64
 /// bits. May give up; no clause says when.
-pub fn short_negative<T: Whole>(
+pub fn short_negative<T: RowNumber>(
     plain: &Plain<T>,
     row: &Row<T>,
     among: usize,

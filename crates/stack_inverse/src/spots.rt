@@ -16,7 +16,7 @@ use crate::row::Row;
 use stack_rational::{Exact, Frac};
 use stack_rows::cells::cell;
 use stack_rows::factors::{Factors, step_under};
-use stack_rows::whole::Whole;
+use stack_rows::whole::RowNumber;
 use stack_table::types::{PivotWide, Step};
 
 /// What a row step is made of: the denominators of the row and of the pivot row, and the row's number in the pivot's
@@ -51,7 +51,7 @@ fn reduced(c: Cells) -> Result<Frac<i128>, Step>
 }
 
 /// The cell that a row step makes of two numbers of a column, or the step that is too wide.
-pub fn reduced_cell<T: Whole>(s: RowStep<T>, own: T, pivot: T) -> Result<Frac<i128>, Step>
+pub fn reduced_cell<T: RowNumber>(s: RowStep<T>, own: T, pivot: T) -> Result<Frac<i128>, Step>
     requires under { pos 0 <ℤ T.value s.under }
     requires pivot_under { pos 0 <ℤ T.value s.pivot_under }
     ensures { TellsCell result (over (T.value own) (T.value s.under)) (over (T.value pivot) (T.value s.pivot_under))
@@ -65,7 +65,7 @@ pub fn reduced_cell<T: Whole>(s: RowStep<T>, own: T, pivot: T) -> Result<Frac<i1
 }
 
 /// The step in a column that is too wide, if there is one.
-fn step_spot<T: Whole>(s: RowStep<T>, factors: Factors<T>, own: T, pivot: T) -> Option<Step>
+fn step_spot<T: RowNumber>(s: RowStep<T>, factors: Factors<T>, own: T, pivot: T) -> Option<Step>
     requires widest { T.MAX ≡ widest }
     requires under { pos 0 <ℤ T.value s.under }
     requires pivot_under { pos 0 <ℤ T.value s.pivot_under }
@@ -85,7 +85,7 @@ fn step_spot<T: Whole>(s: RowStep<T>, factors: Factors<T>, own: T, pivot: T) -> 
 }
 
 /// The number of row i in any column, the right side last. May give up; no clause says when.
-fn number_in<T: Whole>(plain: &Plain<T>, row: &Row<T>, i: usize, j: usize) -> Option<T>
+fn number_in<T: RowNumber>(plain: &Plain<T>, row: &Row<T>, i: usize, j: usize) -> Option<T>
     requires width { length row.now.numbers.items ≡ suc plain.now.first.rows }
     requires column_in { j < suc (length plain.now.first.columns.items + plain.now.first.rows) }
     ensures { IfSome result (λ r. T.value r ≡ number_in_row plain.now (seen_of row.now) i j) }
@@ -99,7 +99,7 @@ fn number_in<T: Whole>(plain: &Plain<T>, row: &Row<T>, i: usize, j: usize) -> Op
 }
 
 /// Whether the greatest size is that of 128 bits.
-pub fn is_widest<T: Whole>() -> bool
+pub fn is_widest<T: RowNumber>() -> bool
     ensures { result ≡ true → T.MAX ≡ widest }
 {
     match T::from_wide(170141183460469231731687303715884105727) {
@@ -109,7 +109,7 @@ pub fn is_widest<T: Whole>() -> bool
 }
 
 /// The first step of row i that is too wide, if there is one. May give up; no clause says when.
-pub fn row_spot<T: Whole>(
+pub fn row_spot<T: RowNumber>(
     plain: &Plain<T>,
     row: &Row<T>,
     pivot: &[T],

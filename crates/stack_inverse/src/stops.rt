@@ -5,7 +5,7 @@ use std::alloc::{AllocError, AllocFailed};
 
 /// Why a pivot isn't done.
 #[derive(Clone, Copy, Debug, PartialEq, Eq, Drop)]
-pub enum Refusal {
+pub enum PivotRefusal {
     /// The first operation that is too wide.
     TooWide(PivotWide),
     /// The pivot is given up, mostly since a number that the rows make doesn't fit. No clause says when, and it says

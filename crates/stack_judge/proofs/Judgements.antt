@@ -119,6 +119,6 @@ module _ {V : Type 0} {number : Ghosts V} (q : Question) (v : Surveyed) (budget 
 
 -- a run without an end
 pub run_refused : (q : Question) (v : Surveyed) (budget : ℕ) (e : RunError) → ¬ (LacksLive q v)
-    → survey_run q v budget ≡ ended.refused_as e → Judges (Err (unjudged_as e budget)) q v budget
+    → survey_run q v budget ≡ ended.refused_end e → Judges (Err (unjudged_as e budget)) q v budget
 run_refused q v budget (runs.TooWide p) live run = (live, ap (judgement_of q v) run)
 run_refused q v budget runs.Spent live run = (live, ap (judgement_of q v) run, refl)

@@ -21,7 +21,7 @@ use Rattle.stack_tableau.specs.declared.ended.Ended.TheVariants as ends
 use Rattle.stack_run.specs.declared.place.RunPlace.{RunPlace}
 use Rattle.stack_simplex.specs.declared.refusal.RunError.TheVariants as runs
 use Rattle.stack_tableau.specs.LastTables.{ended_as}
-use Rattle.stack_simplex.specs.Ends.{refused_as}
+use Rattle.stack_simplex.specs.Ends.{refused_end}
 use Rattle.stack_judge.specs.Judgement.{survey_run}
 use Rattle.stack_judge.specs.NarrowWork.{narrow, narrow_place, has_no_place, narrow_run, is_nowhere_too_wide, is_narrow}
 
@@ -88,6 +88,6 @@ module _ (q : Question) (v : Surveyed) (budget : ℕ) (x : End Fraction) (run : 
   free_run table free = both (has_no_place (narrow_place q v)) (is_nowhere_too_wide (narrow_run q v budget)) table
       (ap is_nowhere_too_wide run ∙ free)
 
-  pub wide_run : (p : RunPlace) → x ≡ refused_as (runs.TooWide p) → is_narrow q v budget ≡ false
+  pub wide_run : (p : RunPlace) → x ≡ refused_end (runs.TooWide p) → is_narrow q v budget ≡ false
   wide_run p is = not_second (has_no_place (narrow_place q v)) (is_nowhere_too_wide (narrow_run q v budget))
       (ap is_nowhere_too_wide (run ∙ is))

@@ -16,11 +16,11 @@ use stack_contact::types::Survey;
 use stack_equilibrium::types::Question;
 use stack_extract::pose;
 use stack_revised::{Last, RevisedEnd, RevisedStop, run_revised};
-use stack_rows::whole::Whole;
+use stack_rows::whole::RowNumber;
 use std::alloc::Global;
 
 /// The certificate of an end of a survey's run over rows: as `certify_at`.
-fn certify_last<T: Whole>(
+fn certify_last<T: RowNumber>(
     alloc: Global,
     s: &Survey,
     last: &Last<T>,

@@ -19,7 +19,7 @@ use Rattle.stack_judge.specs.Judgement.{Judgement, certified, too_wide, spent, u
 use Rattle.stack_range.specs.RangeJudgement.{RangeJudgement, told, wide_on, spent_on, no_range, range_judgement}
 use Rattle.stack_report.specs.ForceNumbers.{wide_index}
 use Rattle.stack_stages.specs.Stage.{stage}
-use Rattle.stack_stages.specs.OrderRead.{order_of}
+use Rattle.stack_stages.specs.OrderRead.{told_order}
 use Rattle.stack_stages.specs.Staged.{Staged, all_stand, falls, too_wide_at, spent_at, no_stages, staged}
 use Rattle.stack_yield.specs.declared.types.RegionPlace.{RegionPlace}
 use Rattle.stack_yield.specs.declared.types.RegionPlace.TheVariants as region_places
@@ -42,8 +42,9 @@ use Rattle.stack_lines.specs.Listing.{contacts_due, contacts_work}
 use Rattle.stack_lines.specs.Judging.{lacks_live, wide_within, judged_step, judged, judge_work}
 use Rattle.stack_lines.specs.Tables.{tabled_by, table_due}
 use Rattle.stack_lines.specs.Ranging.{range_step, range_told, range_work}
-use Rattle.stack_lines.specs.Building.{order_step, stages_step, ordered, ordered_file, stages_work}
-use Rattle.stack_lines.specs.Yielding.{loads_step, directions_step, wide_toward, region_step, directed, directed_file}
+use Rattle.stack_lines.specs.Building.{order_step, stages_step, order_work, ordered_file, stages_work}
+use Rattle.stack_lines.specs.Yielding.{loads_step, directions_step, wide_toward, region_step, directions_work}
+use Rattle.stack_lines.specs.Yielding.{directed_file}
 use Rattle.stack_lines.specs.Yielding.{paired_file, yield_work}
 use Rattle.stack_lines.proofs.RefusedFrom.{Avoids, avoids_then}
 
@@ -150,14 +151,16 @@ checked_avoids due h name v = avoids_then 5 (read inputs.Certificate name) (chec
 
 ordered_avoids : (name : List ℕ) (budget : ℕ) (v : Surveyed) → Avoids 5 (ordered_file name budget v)
 unfolding ordered_file
-ordered_avoids name budget v = avoids_then 5 (read inputs.Order name) (ordered budget v) (read_avoids inputs.Order name)
-    (λ text. avoids_then 5 (order_step (order_of v.structure text)) _ (order_avoids 5 five (order_of v.structure text))
+ordered_avoids name budget v =
+    avoids_then 5 (read inputs.Order name) (order_work budget v) (read_avoids inputs.Order name)
+    (λ text. avoids_then 5 (order_step (told_order v.structure text)) _
+        (order_avoids 5 five (told_order v.structure text))
     (λ order. stage_avoids 5 five budget v order (staged v order budget)))
 
 directed_avoids : (name : List ℕ) (budget : ℕ) (v : Surveyed) (loads : ℕ × ℕ)
     → Avoids 5 (directed_file name budget v loads)
 unfolding directed_file
-directed_avoids name budget v loads = avoids_then 5 (read inputs.Directions name) (directed budget v loads)
+directed_avoids name budget v loads = avoids_then 5 (read inputs.Directions name) (directions_work budget v loads)
     (read_avoids inputs.Directions name)
     (λ text. avoids_then 5 (directions_step (directions_of text)) _ (directions_avoid 5 five (directions_of text))
     (λ ds. region_avoids 5 five budget v loads.0 loads.1 ds (outcomes v loads.0 loads.1 budget ds)))

@@ -34,7 +34,7 @@ use Rattle.stack_report.specs.ForceNumbers.{wide_index}
 use Rattle.stack_overhang.specs.declared.error.StackError.{StackError}
 use Rattle.stack_lines.specs.Ranging.{range_step, range_told, range_work}
 use Rattle.stack_range.specs.RangeJudgement.{RangeJudgement, told, wide_on, spent_on, no_range, range_judgement}
-use Rattle.stack_stages.specs.OrderRead.{order_of}
+use Rattle.stack_stages.specs.OrderRead.{told_order}
 use Rattle.stack_stages.specs.Staged.{Staged, all_stand, falls, too_wide_at, spent_at, no_stages, staged}
 use Rattle.stack_lines.specs.Building.{order_step, stages_step, ordered_file, stages_work}
 use Rattle.stack_yield.specs.Directions.{directions_of}
@@ -182,7 +182,7 @@ ordered_asks : (name : List ℕ) (budget : ℕ) (v : Surveyed) → AsksOnly (ord
 unfolding ordered_file
 ordered_asks name budget v =
     asks_then (read inputs.Order name) _ (name ∷ []) [] (read_asks inputs.Order name)
-    (λ text. asks_then (order_step (order_of v.structure text)) _ [] [] (order_asks (order_of v.structure text))
+    (λ text. asks_then (order_step (told_order v.structure text)) _ [] [] (order_asks (told_order v.structure text))
     (λ order. stages_asks budget v order (staged v order budget)))
 
 loads_asks : (r : Result (ℕ × ℕ) ℕ) → AsksOnly (loads_step r) []

@@ -22,10 +22,11 @@ wide_or_memory r q (inl same) = inl same
 wide_or_memory r q (inr same) = inr (ap refusal_view same)
 
 module _ (number : ℕ) (v : Surveyed) where
-  pub summed : (c : CertificateValue) (narrow : Bool) (r : Result Answer CodeRefusal)
+  pub summary_ends : (c : CertificateValue) (narrow : Bool) (r : Result Answer CodeRefusal)
       → judgement Live v default_budget ≡ certified c → narrow ≡ is_narrow Live v default_budget
       → DoesAlone AnswersDue (gives (summary number v c narrow)) r → DoesAlone AnswersDue (sampled number v) r
-  summed c narrow r is mark done = λ holds. subst (λ j. Returns AnswersDue holds (sample_step number v j) [] r) (sym is)
+  summary_ends c narrow r is mark done =
+      λ holds. subst (λ j. Returns AnswersDue holds (sample_step number v j) [] r) (sym is)
       (subst (λ b. Returns AnswersDue holds (gives (summary number v c b)) [] r) mark (done holds))
 
   pub too_wide_ends : (p : JudgePlace) (r : CodeRefusal) → judgement Live v default_budget ≡ too_wide p

@@ -8,10 +8,10 @@ use Rattle.stack_judge.specs.Judgement.{Judgement}
 use Rattle.stack_stages.specs.Stage.{stage}
 use Rattle.stack_stages.specs.declared.errors.OrderError.{OrderError}
 use Rattle.stack_stages.specs.declared.errors.OrderError.TheVariants as reading
-use Rattle.stack_stages.specs.OrderRead.{order_of}
+use Rattle.stack_stages.specs.OrderRead.{told_order}
 use Rattle.stack_stages.specs.OrderGiven.{GivesOrder}
 use Rattle.stack_stages.specs.Staged.{Staged, all_stand, falls, too_wide_at, spent_at, no_stages, staged}
-use Rattle.stack_stages.specs.Staged.{AreTrue, IsFirst}
+use Rattle.stack_stages.specs.Staged.{AreTrue, IsFirstStage}
 use Rattle.stack_lines.specs.declared.answer.Answer.{Answer}
 use Rattle.stack_lines.specs.declared.refusal.Refusal.{Refusal as CodeRefusal}
 use Rattle.stack_lines.specs.declared.refusal.Refusal.TheVariants as code
@@ -21,12 +21,12 @@ use Rattle.stack_lines.specs.Answers.{Due, stages_due}
 use Rattle.stack_lines.specs.Work.{Work, ◌>>=◌, Holds, Ends}
 use Rattle.stack_lines.specs.Judging.{wide_within}
 use Rattle.stack_lines.specs.Errors.{from_order}
-use Rattle.stack_lines.specs.Building.{order_step, stages_step, ordered}
+use Rattle.stack_lines.specs.Building.{order_step, stages_step, order_work}
 use Rattle.stack_lines.specs.Progress.{Returns, DoesAlone, AnswersDue}
 use Rattle.stack_lines.proofs.Ways.{wanting}
 
 -- a stage that isn't judged is one of the order
-pub is_stage : (v : Surveyed) (order : List ℕ) (budget k : ℕ) (j : Judgement) → IsFirst v order budget k j
+pub is_stage : (v : Surveyed) (order : List ℕ) (budget k : ℕ) (j : Judgement) → IsFirstStage v order budget k j
     → k ≤ length order
 is_stage v order budget k j h = let a = h.is_next in let b = h.within in omega (arith, a, b)
 
@@ -76,17 +76,18 @@ module _ (v : Surveyed) (text : List ℕ) (budget : ℕ) (s : Structure) (same :
   an_order ns = Ok ns
 
   -- what comes of an order that was read
-  pub order_judged : (items ns : List ℕ) (result : Result Answer CodeRefusal) → order_of s text ≡ an_order items
+  pub order_judged : (items ns : List ℕ) (result : Result Answer CodeRefusal) → told_order s text ≡ an_order items
       → ns ≡ items → DoesAlone AnswersDue (stages_step budget v ns (staged v ns budget)) result
-      → DoesAlone AnswersDue (ordered budget v text) result
+      → DoesAlone AnswersDue (order_work budget v text) result
   order_judged items ns result is e done holds = subst (λ r. Returns AnswersDue holds (after_text r) [] result)
-      (sym (ap (λ t. order_of t text) (sym same) ∙ (is ∙ ap an_order (sym e)))) (done holds)
+      (sym (ap (λ t. told_order t text) (sym same) ∙ (is ∙ ap an_order (sym e)))) (done holds)
 
   -- a text that is read as none, or want of memory
   pub order_refused : (e : OrderError) (r : CodeRefusal) (holds : Holds) → GivesOrder s (Err e) text
-      → refusal_view r ≡ faulty (from_order e) → Ends holds (ordered budget v text) [] (Err (refusal_view r))
-  order_refused (reading.Line number) r holds g h = subst (λ q. Ends holds (ordered budget v text) [] (Err q)) (sym h)
+      → refusal_view r ≡ faulty (from_order e) → Ends holds (order_work budget v text) [] (Err (refusal_view r))
+  order_refused (reading.Line number) r holds g h =
+      subst (λ q. Ends holds (order_work budget v text) [] (Err q)) (sym h)
       (subst (λ t. Ends holds (after_text t) [] (Err (faulty (order_line number))))
-      (sym (ap (λ t. order_of t text) (sym same) ∙ g.0)) (refl, inl refl))
-  order_refused reading.Memory r holds g h = subst (λ q. Ends holds (ordered budget v text) [] (Err q)) (sym h)
-      (wanting holds (ordered budget v text))
+      (sym (ap (λ t. told_order t text) (sym same) ∙ g.0)) (refl, inl refl))
+  order_refused reading.Memory r holds g h = subst (λ q. Ends holds (order_work budget v text) [] (Err q)) (sym h)
+      (wanting holds (order_work budget v text))

@@ -22,7 +22,8 @@ use Rattle.stack_lines.specs.Refusals.{Refusal, refusal_view, faulty, directions
 use Rattle.stack_lines.specs.Answers.{Due, region_due}
 use Rattle.stack_lines.specs.Work.{Work, ◌>>=◌, Holds, Ends}
 use Rattle.stack_lines.specs.Errors.{from_directions}
-use Rattle.stack_lines.specs.Yielding.{loads_step, directions_step, wide_toward, region_step, directed, directed_file}
+use Rattle.stack_lines.specs.Yielding.{loads_step, directions_step, wide_toward, region_step, directions_work}
+use Rattle.stack_lines.specs.Yielding.{directed_file}
 use Rattle.stack_lines.specs.Yielding.{paired_file}
 use Rattle.stack_lines.specs.Progress.{Returns, Does, DoesAlone, AnswersDue}
 use Rattle.stack_lines.proofs.Ways.{wanting}
@@ -108,20 +109,20 @@ module _ (v : Surveyed) (loads : ℕ × ℕ) (text : List ℕ) (budget : ℕ) wh
   pub directions_judged : (items ds : List (ℤ × ℤ)) (result : Result Answer CodeRefusal)
       → directions_of text ≡ some_directions items → ds ≡ items
       → DoesAlone AnswersDue (region_step budget v loads.0 loads.1 ds (outcomes v loads.0 loads.1 budget ds)) result
-      → DoesAlone AnswersDue (directed budget v loads text) result
+      → DoesAlone AnswersDue (directions_work budget v loads text) result
   directions_judged items ds result is e done holds = subst (λ r. Returns AnswersDue holds (after_text r) [] result)
       (sym (is ∙ ap some_directions (sym e))) (done holds)
 
   -- a text that is read as none, or want of memory
   pub directions_refused : (e : DirectionsError) (r : CodeRefusal) (holds : Holds) → GivesDirections (Err e) text
       → refusal_view r ≡ faulty (from_directions e)
-      → Ends holds (directed budget v loads text) [] (Err (refusal_view r))
+      → Ends holds (directions_work budget v loads text) [] (Err (refusal_view r))
   directions_refused (reading.Line number) r holds g h =
-      subst (λ q. Ends holds (directed budget v loads text) [] (Err q)) (sym h)
+      subst (λ q. Ends holds (directions_work budget v loads text) [] (Err q)) (sym h)
       (subst (λ t. Ends holds (after_text t) [] (Err (faulty (directions_line number)))) (sym g) (refl, inl refl))
   directions_refused reading.Memory r holds g h =
-      subst (λ q. Ends holds (directed budget v loads text) [] (Err q)) (sym h)
-      (wanting holds (directed budget v loads text))
+      subst (λ q. Ends holds (directions_work budget v loads text) [] (Err q)) (sym h)
+      (wanting holds (directions_work budget v loads text))
 
 module _ (v : Surveyed) (i j : ℕ) (name : List ℕ) (budget : ℕ) (s : Structure) (same : s ≡ v.structure) where
   -- the work after the loads, where the numbers name these

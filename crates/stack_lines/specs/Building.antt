@@ -3,7 +3,7 @@
 use Rattle.std.specs.Prelude.{ℕ, List, Result, Ok, Err}
 use Rattle.stack_contact.specs.Surveyed.{Surveyed}
 use Rattle.stack_stages.specs.Stage.{stage}
-use Rattle.stack_stages.specs.OrderRead.{order_of}
+use Rattle.stack_stages.specs.OrderRead.{told_order}
 use Rattle.stack_stages.specs.Staged.{Staged, all_stand, falls, too_wide_at, spent_at, no_stages, staged}
 use Rattle.stack_lines.specs.declared.refusal.Input.TheVariants as inputs
 use Rattle.stack_lines.specs.declared.refusal.Within.TheVariants.{Stage}
@@ -28,16 +28,16 @@ stages_step budget v order (spent_at k) = refuses (over_budget budget)
 stages_step budget v order no_stages = refuses memory
 
 -- An order's text, up to what comes of its stages.
-abbrev pub ordered : (budget : ℕ) → Surveyed → List ℕ → Work Due
-ordered budget survey text = do
-  order ← order_step (order_of survey.structure text)
+abbrev pub order_work : (budget : ℕ) → Surveyed → List ℕ → Work Due
+order_work budget survey text = do
+  order ← order_step (told_order survey.structure text)
   stages_step budget survey order (staged survey order budget)
 
 -- The order's file is read, and the stages of its order are judged.
 unfoldable pub ordered_file : List ℕ → (budget : ℕ) → Surveyed → Work Due
 ordered_file name budget survey = do
   text ← read inputs.Order name
-  ordered budget survey text
+  order_work budget survey text
 
 -- The model comes first: unless it has a survey, the order's file isn't asked for.
 unfoldable pub stages_work : List ℕ → List ℕ → (budget : ℕ) → Work Due

@@ -44,8 +44,8 @@ region_step budget v i j ds (spends_at k) = refuses (over_budget budget)
 region_step budget v i j ds no_outcomes = refuses memory
 
 -- A text of directions, up to the region of two loads in them.
-abbrev pub directed : (budget : ℕ) → Surveyed → ℕ × ℕ → List ℕ → Work Due
-directed budget v loads text = do
+abbrev pub directions_work : (budget : ℕ) → Surveyed → ℕ × ℕ → List ℕ → Work Due
+directions_work budget v loads text = do
   ds ← directions_step (directions_of text)
   region_step budget v loads.0 loads.1 ds (outcomes v loads.0 loads.1 budget ds)
 
@@ -53,7 +53,7 @@ directed budget v loads text = do
 unfoldable pub directed_file : List ℕ → (budget : ℕ) → Surveyed → ℕ × ℕ → Work Due
 directed_file name budget v loads = do
   text ← read inputs.Directions name
-  directed budget v loads text
+  directions_work budget v loads text
 
 -- The loads come first: unless both numbers name one, the directions aren't asked for.
 unfoldable pub paired_file : (i j : ℕ) → List ℕ → (budget : ℕ) → Surveyed → Work Due

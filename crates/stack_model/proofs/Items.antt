@@ -10,7 +10,7 @@ use Rattle.std.proofs.lemmas.List.{get_or_default, get_or-map, length-map}
 use Rattle.stack_model.specs.declared.types.Load.{Load}
 use Rattle.stack_model.specs.declared.kept.KeptBody.{KeptBody}
 use Rattle.stack_model.specs.declared.model.Model.TheInside.{Inside}
-use Rattle.stack_model.specs.Structure.{Structure, body_of, joint_of, IsPlaced, IsBetween, HasLive, is_still}
+use Rattle.stack_model.specs.Structure.{Structure, body_of, joint_of, HasBodyLimits, HasJointLimits, HasLive, is_still}
 use Rattle.stack_model.specs.Structure.{lists_live}
 use Rattle.stack_model.specs.declared.types.Joint.{Joint}
 use Rattle.stack_model.specs.Sound.{IsSound}
@@ -18,24 +18,24 @@ use Rattle.stack_model.specs.Kept.{body_view, inside_view}
 
 pub body_placed : (m : Inside) (s : Structure) (i : ℕ) (b : KeptBody) → inside_view m ≡ s
     → IsSound (inside_view m) → i < length s.bodies
-    → b ≡ get_or m.bodies.items i b → IsPlaced (length s.materials) (body_view b)
+    → b ≡ get_or m.bodies.items i b → HasBodyLimits (length s.materials) (body_view b)
 body_placed m s i b e h lt is =
     let below : i < length (map body_view m.bodies.items) =
     subst (λ (t : Structure). i < length t.bodies) (sym e) lt in
     let small : i < length m.bodies.items = subst (λ n. i < n) (length-map m.bodies.items body_view) below in
     let here : body_of (inside_view m) i ≡ body_view b = get_or-map body_view m.bodies.items i b _ small
     ∙ ap body_view (sym is) in
-    subst (λ (t : Structure). IsPlaced (length t.materials) (body_view b)) e
-    (subst (λ x. IsPlaced (length (inside_view m).materials) x) here (h.bodies i below))
+    subst (λ (t : Structure). HasBodyLimits (length t.materials) (body_view b)) e
+    (subst (λ x. HasBodyLimits (length (inside_view m).materials) x) here (h.bodies i below))
 
 pub joint_between : (m : Inside) (s : Structure) (i : ℕ) (j : Joint) → inside_view m ≡ s
     → IsSound (inside_view m) → i < length s.joints → j ≡ get_or m.joints.items i j
-    → IsBetween (length s.materials) j
+    → HasJointLimits (length s.materials) j
 joint_between m s i j e h lt is =
     let below : i < length m.joints.items = subst (λ (t : Structure). i < length t.joints) (sym e) lt in
     let here : joint_of (inside_view m) i ≡ j = get_or_default m.joints.items i _ j below ∙ sym is in
-    subst (λ (t : Structure). IsBetween (length t.materials) j) e
-    (subst (IsBetween (length (inside_view m).materials)) here (h.joints i below))
+    subst (λ (t : Structure). HasJointLimits (length t.materials) j) e
+    (subst (HasJointLimits (length (inside_view m).materials)) here (h.joints i below))
 
 -- a sway is (0, 0) where the test says so
 pub still : (z : ℤ × ℤ) → is_still z ≡ true → z ≡ (pos 0, pos 0)

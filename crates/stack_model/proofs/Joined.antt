@@ -9,7 +9,7 @@ use Rattle.stack_algebra.proofs.Conjunctions.{both_true}
 use Rattle.std.proofs.lemmas.List.{length-append, get_or_append_left}
 use Rattle.std.proofs.Math.Seq.{get_or-append_seam}
 use Rattle.stack_model.specs.declared.types.Joint.{Joint}
-use Rattle.stack_model.specs.Structure.{joins, joint_at, joint_terms, AreTermsBetween, AreTerms, IsBetween}
+use Rattle.stack_model.specs.Structure.{joins, joint_at, joint_terms, AreTermsBetween, AreTerms, HasJointLimits}
 use Rattle.stack_model.specs.JointLaws.{TermsInEitherOrder, JointsHaveTheirTerms}
 use Rattle.stack_model.specs.Sound.{AreOfDifferentPairs}
 
@@ -99,7 +99,7 @@ is_new_pair before x after different = go (joint_terms before x.first x.second) 
         absurd (cc)
 
 -- terms of a joint are within the limits, where each joint is
-pub terms_limits : (js : List Joint) (a b n : ℕ) → ((i : ℕ) → i < length js → IsBetween n (joint_at js i))
+pub terms_limits : (js : List Joint) (a b n : ℕ) → ((i : ℕ) → i < length js → HasJointLimits n (joint_at js i))
     → (o : Option (ℤ × ℤ)) → AreTermsBetween js a b o → IfSome o (λ t. AreTerms t)
 terms_limits js a b n all None h = tt
 terms_limits js a b n all (Some t) h =

@@ -6,7 +6,7 @@ use Rattle.std.proofs.lemmas.Option.{slice_get-get_or, get_or_from_slice_get, sl
 use Rattle.stack_model.specs.declared.types.Joint.{Joint}
 use Rattle.stack_model.specs.declared.types.Load.{Load}
 use Rattle.stack_model.specs.Structure.{NamedMaterial, NamedBody, Structure, structure_with, body_at, body_of, load_of}
-use Rattle.stack_model.specs.Structure.{IsPlaced, IsCarried}
+use Rattle.stack_model.specs.Structure.{HasBodyLimits, IsCarried}
 use Rattle.stack_model.specs.Content.{body_names}
 use Rattle.stack_model.specs.Sound.{IsSound, AreDifferent}
 use Rattle.stack_model.specs.Keeping.{kept, kept_before, picked}
@@ -88,11 +88,11 @@ module _ (keeps : ℕ → Bool) (s : Structure) (h : IsSound s) where
       ∙ same ∙ name_at part.bodies j w ∙ ap (λ b. b.name) f ∙ sym (name_at s.bodies q.0 (q.1).within))
 
   -- kept bodies are within the limits
-  placed : (i : ℕ) → i < length part.bodies → IsPlaced (length s.materials) (body_of part i)
+  placed : (i : ℕ) → i < length part.bodies → HasBodyLimits (length s.materials) (body_of part i)
   placed i l =
       let p = item_of keeps s.bodies i l in
       let e : body_of part i ≡ body_of s p.0 = (p.1).same _ in
-      subst (IsPlaced (length s.materials)) (sym e) (h.bodies p.0 (p.1).within)
+      subst (HasBodyLimits (length s.materials)) (sym e) (h.bodies p.0 (p.1).within)
 
   -- no more than what is no more than a limit
   no_more : (m n k : ℕ) → m ≤ n → n ≤ k → m ≤ k

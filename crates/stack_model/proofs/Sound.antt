@@ -14,7 +14,7 @@ use Rattle.stack_model.specs.declared.places.What.{What}
 use Rattle.stack_model.specs.declared.places.What.TheVariants as whats
 use Rattle.stack_model.specs.declared.errors.ModelError.{ModelError}
 use Rattle.stack_model.specs.Structure.{NamedMaterial, NamedBody, structure_with}
-use Rattle.stack_model.specs.Structure.{IsWithinLimits, IsBetween, IsPlaced}
+use Rattle.stack_model.specs.Structure.{IsWithinLimits, HasJointLimits, HasBodyLimits}
 use Rattle.stack_model.specs.Parts.{LoadPart, PartLists, IsOfVersion}
 use Rattle.stack_model.specs.Limits.{point_of, live_of, force_of}
 use Rattle.stack_model.specs.Content.{at_most, is_free, number_of}
@@ -128,9 +128,9 @@ sound parts sway ms js bs ls of_its_version head lists bodies loads =
     let u = counted (at_most 256 (length parts.loads) whats.Loads) (steps (add_load bs) 0 [] parts.loads) ls loads in
     let m = grown add_material IsWithinLimits (λ ms. AreDifferent (material_names ms))
     material_adds no_names parts.materials ms s.materials in
-    let j = grown (add_joint ms) (IsBetween (length ms)) AreOfDifferentPairs
+    let j = grown (add_joint ms) (HasJointLimits (length ms)) AreOfDifferentPairs
     (joint_adds ms) no_joints parts.joints js s.joints in
-    let b = grown (add_block ms) (IsPlaced (length ms)) AreApart
+    let b = grown (add_block ms) (HasBodyLimits (length ms)) AreApart
     (block_adds ms) no_bodies parts.blocks bs t.1 in
     let l = grown (add_load bs) (IsBorne bs) (λ _. ⊤) (load_adds bs) tt parts.loads ls u.1 in
     let few_m = few 64 _ _ whats.Materials tt m.count s.few_materials in

@@ -16,7 +16,8 @@ use Rattle.stack_model.specs.declared.places.What.TheVariants as whats
 use Rattle.stack_model.specs.declared.errors.ModelError.{ModelError}
 use Rattle.stack_model.specs.declared.errors.ModelError.TheVariants.{TooMany}
 use Rattle.stack_model.specs.Structure.{NamedMaterial, NamedBody, Structure, structure_with}
-use Rattle.stack_model.specs.Structure.{material_of, body_of, joint_terms, IsWithinLimits, IsBetween, IsPlaced}
+use Rattle.stack_model.specs.Structure.{material_of, body_of, joint_terms, IsWithinLimits, HasJointLimits}
+use Rattle.stack_model.specs.Structure.{HasBodyLimits}
 use Rattle.stack_model.specs.Structure.{IsCarried}
 use Rattle.stack_model.specs.Convex.{convex}
 use Rattle.stack_model.specs.Content.{unless, at_most, is_free, number_of, has_room}
@@ -62,7 +63,7 @@ module _ (s : Structure) (h : IsSound s) where
   unfolding add_joint
   joints_taken i before x after e =
       let t = item_at before x after s.joints _ e in
-      let j = subst (IsBetween (length s.materials)) t.1 (h.joints (length before) t.0) in
+      let j = subst (HasJointLimits (length s.materials)) t.1 (h.joints (length before) t.0) in
       joint_runs _ _ _ _ _ _ _ _ (λ a b. is_none (joint_terms before a b)) (λ f a b. before ++ made f a b ∷ [])
       (x.p, x.q) x.first x.second (passes_friction x.p x.q j.least_p j.most_p j.least_q j.most_q)
       (material_found x.first j.first) (material_found x.second j.second)
@@ -86,7 +87,7 @@ module _ (s : Structure) (h : IsSound s) where
   unfolding add_block with_body
   blocks_taken i before x after e =
       let t = item_at before x after s.bodies _ e in
-      let b = subst (IsPlaced (length s.materials)) t.1 (h.bodies (length before) t.0) in
+      let b = subst (HasBodyLimits (length s.materials)) t.1 (h.bodies (length before) t.0) in
       block_runs _ _ _ _ _ _ _ _ _ (convex i) _ (λ n qs. before ++ made n qs ∷ []) x.corners x.material x.corners
       (passes_name x.name b.named) (new_at (body_names before) (body_names after) x.name
       (subst AreDifferent (sym (parts_mapped _ before x after s.bodies e)) h.different_bodies))

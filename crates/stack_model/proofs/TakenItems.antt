@@ -14,7 +14,7 @@ use Rattle.stack_model.specs.declared.places.Spot.{Spot}
 use Rattle.stack_model.specs.declared.places.Key.{Key}
 use Rattle.stack_model.specs.declared.errors.ModelError.{ModelError}
 use Rattle.stack_model.specs.Structure.{NamedMaterial, NamedBody}
-use Rattle.stack_model.specs.Structure.{IsWithinLimits, IsBetween, IsPlaced, joint_terms}
+use Rattle.stack_model.specs.Structure.{IsWithinLimits, HasJointLimits, HasBodyLimits, joint_terms}
 use Rattle.stack_model.specs.Parts.{MaterialPart, JointPart, BlockPart}
 use Rattle.stack_model.specs.Limits.{is_name, is_between, friction_of, corner_list_of}
 use Rattle.stack_model.specs.Convex.{convex}
@@ -161,7 +161,7 @@ module _ (ms : List NamedMaterial) (name : List ℕ) (n : ℕ) (h : number_of na
       (number_below name (material_names ms) n h)
 
 pub joint_adds : (ms : List NamedMaterial) (i : ℕ) (js : List Joint) (j : JointPart) (ns : List Joint)
-    → add_joint ms i js j ≡ Ok ns → Adds (IsBetween (length ms)) AreOfDifferentPairs js ns
+    → add_joint ms i js j ≡ Ok ns → Adds (HasJointLimits (length ms)) AreOfDifferentPairs js ns
 unfolding add_joint
 joint_adds ms i js j ns h =
     let made = λ (f : ℤ × ℤ) (a b : ℕ). let r : Joint = record { first = a; second = b; p = f.0; q = f.1 } in r in
@@ -247,7 +247,7 @@ block_runs a c d e g s k o at outline_of room to ps n qs ha hc ho hn hq hr =
     ∙ ap (λ q. q >>= λ qs. Ok (to n qs)) hq
 
 pub block_adds : (ms : List NamedMaterial) (i : ℕ) (bs : List NamedBody) (b : BlockPart) (cs : List NamedBody)
-    → add_block ms i bs b ≡ Ok cs → Adds (IsPlaced (length ms)) AreApart bs cs
+    → add_block ms i bs b ≡ Ok cs → Adds (HasBodyLimits (length ms)) AreApart bs cs
 unfolding add_block with_body
 block_adds ms i bs b cs h =
     let made = λ (n : ℕ) (qs : List Point). let r : NamedBody = record {

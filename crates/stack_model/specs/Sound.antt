@@ -4,7 +4,7 @@ use Rattle.stack_whole.specs.Limits.{most_free}
 use Rattle.stack_model.specs.declared.types.Joint.{Joint}
 use Rattle.stack_model.specs.Limits.{most_materials, most_joints, most_bodies, most_fixed, most_loads, is_version}
 use Rattle.stack_model.specs.Structure.{NamedBody, Structure, material_of, joint_at, joint_of, body_of, load_of, joins}
-use Rattle.stack_model.specs.Structure.{IsWithinLimits, IsBetween, IsSway, IsPlaced, IsCarried}
+use Rattle.stack_model.specs.Structure.{IsWithinLimits, HasJointLimits, IsSway, HasBodyLimits, IsCarried}
 use Rattle.stack_model.specs.Content.{material_names, body_names}
 
 -- no two of these names are the same
@@ -35,8 +35,8 @@ pub record IsSound (s : Structure) : Type 0 where
   pub materials : (i : ℕ) → i < length s.materials → IsWithinLimits (material_of s i)
   pub version : IsOfItsVersion s
   pub sway : IsSway s.sway
-  pub joints : (i : ℕ) → i < length s.joints → IsBetween (length s.materials) (joint_of s i)
-  pub bodies : (i : ℕ) → i < length s.bodies → IsPlaced (length s.materials) (body_of s i)
+  pub joints : (i : ℕ) → i < length s.joints → HasJointLimits (length s.materials) (joint_of s i)
+  pub bodies : (i : ℕ) → i < length s.bodies → HasBodyLimits (length s.materials) (body_of s i)
   pub loads : (i : ℕ) → i < length s.loads → IsCarried (length s.bodies) (load_of s i)
   -- no load is on a fixed body
   pub free : (i : ℕ) → i < length s.loads → (body_of s (load_of s i).body).fixed ≡ false

@@ -113,7 +113,7 @@ pub record AreTerms (t : ℤ × ℤ) : Type 0 where
   pub most_q : t.1 ≼ pos 1000
 
 -- the limits of every joint: between two of so many materials, p from 0 to 1,000, q from 1 to 1,000
-pub record IsBetween (materials : ℕ) (j : Joint) : Type 0 where
+pub record HasJointLimits (materials : ℕ) (j : Joint) : Type 0 where
   pub first : j.first < materials
   pub second : j.second < materials
   pub least_p : pos 0 ≼ j.p
@@ -129,7 +129,7 @@ pub record IsSway (sway : ℤ × ℤ) : Type 0 where
   pub most_y : sway.1 ≼ pos 1000
 
 -- the limits of every body: a name as materials have it, one of so many materials, and the corners of a polygon
-pub record IsPlaced (materials : ℕ) (b : NamedBody) : Type 0 where
+pub record HasBodyLimits (materials : ℕ) (b : NamedBody) : Type 0 where
   pub named : IsName b.name
   pub has_material : b.material < materials
   pub polygon : IsPolygon b.corners

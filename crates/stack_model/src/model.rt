@@ -6,7 +6,7 @@ ghost use Rattle.stack_model.specs.Parts.{IsOfVersion};
 ghost use Rattle.stack_polygon.specs.Limits.{IsPolygon};
 ghost use Rattle.stack_model.specs.Limits.{most_materials, most_joints, most_bodies, most_loads};
 ghost use Rattle.stack_model.specs.Structure.{structure_with, material_of, joint_of, body_of, load_of, IsWithinLimits};
-ghost use Rattle.stack_model.specs.Structure.{IsBetween, IsSway, IsCarried, HasLive, lists_live};
+ghost use Rattle.stack_model.specs.Structure.{HasJointLimits, IsSway, IsCarried, HasLive, lists_live};
 ghost use Rattle.stack_model.specs.Structure.{is_still as is_still_of};
 ghost use Rattle.stack_model.specs.Structure.{joint_terms, AreTermsBetween, AreTerms};
 ghost use Rattle.stack_model.specs.Sound.{IsSound};
@@ -139,9 +139,9 @@ impl Model {
         Ok(Model::of(head, materials, joints, bodies, loads))
     }
 
-    /// The model of the bodies that are kept, in their order, with the loads on them, and with all materials, all joints
-    /// and the sway. `keeps` says of each body whether it is kept; past its end none is. `AllocError` where memory ran
-    /// out.
+    /// The model of the bodies that are kept, in their order, with the loads on them, and with all materials, all
+    /// joints and the sway. `keeps` says of each body whether it is kept; past its end none is. `AllocError` where
+    /// memory ran out.
     pub fn part(&self, alloc: Global, keeps: &[bool]) -> Result<Model, AllocError>
         ensures { IfOk result (λ m. model_view m ≡ part_of (flag_at keeps.now) (model_view self.now)) }
     {
@@ -179,7 +179,7 @@ impl Model {
     pub fn joint(&self, i: usize) -> Joint
         requires { i < length (model_view self.now).joints }
         ensures value { result ≡ joint_of (model_view self.now) i }
-        ensures between { IsBetween (length (model_view self.now).materials) result }
+        ensures between { HasJointLimits (length (model_view self.now).materials) result }
     {
         self.joints[i]
     }

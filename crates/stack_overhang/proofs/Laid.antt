@@ -11,7 +11,7 @@ use Rattle.stack_polygon.specs.Limits.{is_near, is_in_range}
 use Rattle.stack_polygon.proofs.Tested.{each_below}
 use Rattle.stack_model.specs.Limits.{is_name}
 use Rattle.stack_overhang.specs.declared.types.Rectangle.{Rectangle}
-use Rattle.stack_overhang.specs.declared.types.Row.{Row}
+use Rattle.stack_overhang.specs.declared.types.BrickRow.{BrickRow}
 use Rattle.stack_overhang.specs.declared.types.Wall.{Wall}
 use Rattle.stack_overhang.specs.Bricks.{brick_of, bricks_in, bricks_of, brick_at}
 use Rattle.stack_overhang.specs.Stacks.{harmonic_rows, brick_rows, triangle_counts, slab_counts}
@@ -29,7 +29,7 @@ all_listed p zero f each = refl
 all_listed p (suc n) f each = λ i. each 0 (omega arith) i
     && all_listed p n (λ k. f (suc k)) (λ k lt. each (suc k) (omega (arith, lt))) i
 
-all_placed : (rows : List Row) → are_rows rows ≡ true → list_all is_placed (bricks_of rows) ≡ true
+all_placed : (rows : List BrickRow) → are_rows rows ≡ true → list_all is_placed (bricks_of rows) ≡ true
 all_placed [] h = refl
 all_placed (r ∷ rows) h =
     let parts = both_true (is_row r) (are_rows rows) h in
@@ -54,7 +54,7 @@ below : (n m : ℕ) → nat_lt n m ≡ true → n < m
 below n m h = grind (arith, ints)
 
 -- rows within the limits, on such a base
-pub laid : (name : List ℕ) (base : Rectangle) (rows : List Row) → is_name name ≡ true → IsApart name
+pub laid : (name : List ℕ) (base : Rectangle) (rows : List BrickRow) → is_name name ≡ true → IsApart name
     → is_placed base ≡ true → are_laid rows ≡ true → AreTaken name base (bricks_of rows)
 laid name base rows named apart under h =
     let parts = both_true (are_rows rows) _ h in

@@ -14,7 +14,7 @@ use Rattle.stack_model.specs.Content.{at_most, add_load, content_of}
 use Rattle.stack_model.specs.Relisted.{material_listed}
 use Rattle.stack_overhang.specs.declared.error.StackError.{StackError}
 use Rattle.stack_overhang.specs.declared.types.Rectangle.{Rectangle}
-use Rattle.stack_overhang.specs.declared.types.Row.{Row}
+use Rattle.stack_overhang.specs.declared.types.BrickRow.{BrickRow}
 use Rattle.stack_overhang.specs.declared.types.Wall.{Wall}
 use Rattle.stack_overhang.specs.Bricks.{bricks_of}
 use Rattle.stack_overhang.specs.Built.{brick_material, built_bodies}
@@ -41,7 +41,7 @@ pub made : (r : Result Structure StackError) (read : Result Structure ModelError
 made (Ok m) read s h e = same_structure m s (sym e ∙ h)
 made (Err e) read s h k = tt
 
-pub stack_taken : (table : Rectangle) (rows : List Row) (bricks : List Rectangle) (mats : List MaterialPart)
+pub stack_taken : (table : Rectangle) (rows : List BrickRow) (bricks : List Rectangle) (mats : List MaterialPart)
     (blocks : List BlockPart) (loads : List LoadPart)
     → is_placed table ≡ true → are_laid rows ≡ true → bricks ≡ bricks_of rows
     → mats ≡ material_listed (brick_material (pos 0) (pos 1)) ∷ []

@@ -8,7 +8,7 @@ use Rattle.stack_algebra.proofs.Integers.{expand, sums}
 use Rattle.stack_algebra.proofs.Order.{◌≼◌, ◌≺◌, mul_nonneg, mul_le_left}
 use Rattle.stack_polygon.specs.Limits.{is_near, IsNear}
 use Rattle.stack_overhang.specs.declared.types.Rectangle.{Rectangle}
-use Rattle.stack_overhang.specs.declared.types.Row.{Row}
+use Rattle.stack_overhang.specs.declared.types.BrickRow.{BrickRow}
 use Rattle.stack_overhang.specs.Bricks.{brick_of}
 use Rattle.stack_overhang.specs.Limits.{is_placed, is_row, are_rows}
 use Rattle.stack_algebra.proofs.Conjunctions.{both_true}
@@ -18,7 +18,7 @@ near : (z : ℤ) → is_near z ≡ true → IsNear z
 near z h = record { low = grind (arith, ints); high = grind (arith, ints) }
 
 -- what the test of a row says of its brick j
-pub record IsWithin (r : Row) (j : ℕ) : Type 0 where
+pub record IsWithin (r : BrickRow) (j : ℕ) : Type 0 where
   pub long : pos 0 ≺ r.long
   pub high : pos 0 ≺ r.high
   pub left : IsNear r.left
@@ -36,7 +36,7 @@ within_row long left j n h lt e =
     let split : long *ℤ (pos j +ℤ pos 1) ≡ long *ℤ pos j +ℤ long = simp expand (omega (arith, sums)) in
     omega (arith, sums, split, m, e)
 
-pub within_it : (r : Row) (j : ℕ) → is_row r ≡ true → j < r.count → IsWithin r j
+pub within_it : (r : BrickRow) (j : ℕ) → is_row r ≡ true → j < r.count → IsWithin r j
 within_it r j h lt =
     let parts = both_true _ _ h in
     let sizes = both_true (int_lt (pos 0) r.long) _ parts.0 in
@@ -60,7 +60,7 @@ abbrev stored : ℤ → ℤ
 stored z = to_z w64 (of_z w64 z)
 
 -- what the sums of a brick's ends are
-pub record Begins (r : Row) (j : ℕ) : Type 0 where
+pub record Begins (r : BrickRow) (j : ℕ) : Type 0 where
   pub fits : FitsSigned w64 (stored r.left +ℤ stored (stored r.long *ℤ to_z w64 j))
   pub end_fits : FitsSigned w64 (stored (stored r.left +ℤ stored (stored r.long *ℤ to_z w64 j)) +ℤ stored r.long)
   pub left : stored (stored r.left +ℤ stored (stored r.long *ℤ to_z w64 j)) ≡ r.left +ℤ r.long *ℤ pos j
@@ -85,7 +85,7 @@ sums_of l g n a b c d e = record {
   right = omega (arith, ints);
 }
 
-pub begins : (r : Row) (j : ℕ) → j < 2 ^ 32 → is_row r ≡ true → j < r.count → Begins r j
+pub begins : (r : BrickRow) (j : ℕ) → j < 2 ^ 32 → is_row r ≡ true → j < r.count → Begins r j
 begins r j small laid lt =
     let w = within_it r j laid lt in
     let g = r.long *ℤ pos j in
@@ -110,7 +110,7 @@ begins r j small laid lt =
     spread_long l g n a b c d = omega (arith, ints)
 
 -- brick j of a row within the limits lies where the row says
-pub is_placed_brick : (r : Row) (j : ℕ) → is_row r ≡ true → j < r.count → is_placed (brick_of r j) ≡ true
+pub is_placed_brick : (r : BrickRow) (j : ℕ) → is_row r ≡ true → j < r.count → is_placed (brick_of r j) ≡ true
 is_placed_brick r j h lt =
     let w = within_it r j h lt in
     let g = r.long *ℤ pos j in
@@ -134,7 +134,8 @@ is_placed_brick r j h lt =
     to_near z a b = grind (arith, ints)
 
 -- each row passes the test that all pass
-pub row_at : (rows : List Row) (i : ℕ) (r : Row) → are_rows rows ≡ true → i < length rows → r ≡ get_or rows i r
+pub row_at : (rows : List BrickRow) (i : ℕ) (r : BrickRow) → are_rows rows ≡ true → i < length rows → r
+    ≡ get_or rows i r
     → is_row r ≡ true
 row_at rows i r h lt is = go (is_row r) refl
   where

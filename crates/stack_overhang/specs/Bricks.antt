@@ -3,7 +3,7 @@ use Rattle.std.specs.Prelude.{ℕ, ◌+◌, pos, ◌+ℤ◌, ◌*ℤ◌, List, [
 use Rattle.stack_algebra.specs.Listed.{listed}
 use Rattle.stack_polygon.specs.declared.point.Point.{Point}
 use Rattle.stack_overhang.specs.declared.types.Rectangle.{Rectangle}
-use Rattle.stack_overhang.specs.declared.types.Row.{Row}
+use Rattle.stack_overhang.specs.declared.types.BrickRow.{BrickRow}
 
 -- the corners of a rectangle, from its lower left one, counter-clockwise
 abbrev pub rectangle_corners : Rectangle → List Point
@@ -12,7 +12,7 @@ rectangle_corners r =
     ∷ record { x = r.right; y = r.top } ∷ record { x = r.left; y = r.top } ∷ []
 
 -- brick j of a row, from 0 at its left
-abbrev pub brick_of : Row → ℕ → Rectangle
+abbrev pub brick_of : BrickRow → ℕ → Rectangle
 brick_of r j = record {
   left = r.left +ℤ r.long *ℤ pos j;
   bottom = r.bottom;
@@ -21,11 +21,11 @@ brick_of r j = record {
 }
 
 -- all bricks of a row, from its left
-abbrev pub bricks_in : Row → List Rectangle
+abbrev pub bricks_in : BrickRow → List Rectangle
 bricks_in r = listed r.count (brick_of r)
 
 -- the bricks of all rows from the bottom, in each row from the left
-abbrev pub bricks_of : List Row → List Rectangle
+abbrev pub bricks_of : List BrickRow → List Rectangle
 bricks_of rows = flat_map bricks_in rows
 
 -- a rectangle by its number; past the end stands one that means nothing

@@ -6,23 +6,23 @@ use Rattle.stack_algebra.specs.Sums.{sum_to}
 use Rattle.stack_algebra.specs.Listed.{listed}
 use Rattle.stack_model.specs.Structure.{Structure}
 use Rattle.stack_overhang.specs.declared.types.Rectangle.{Rectangle}
-use Rattle.stack_overhang.specs.declared.types.Row.{Row}
+use Rattle.stack_overhang.specs.declared.types.BrickRow.{BrickRow}
 use Rattle.stack_overhang.specs.Bricks.{bricks_of}
 use Rattle.stack_overhang.specs.Built.{built}
 
 -- rows of bricks on a table
-abbrev pub stack_on : Rectangle → List Row → Structure
+abbrev pub stack_on : Rectangle → List BrickRow → Structure
 stack_on table rows = built (pos 0) (pos 1) (codes "table") table (bricks_of rows) []
 
 -- Of a harmonic stack of n bricks, the right end of brick i, from 1 at the bottom: the sum of 2520/k for k from n down
 -- to n - i + 1, each whole up to 10 bricks
-abbrev pub reach_of : ℕ → ℕ → ℤ
-reach_of n i = sum_to i (λ j. pos (2520 / (n - j)))
+abbrev pub right_end_of : ℕ → ℕ → ℤ
+right_end_of n i = sum_to i (λ j. pos (2520 / (n - j)))
 
 -- brick i alone, 5,040 long and 1,000 high
-abbrev pub harmonic_row : ℕ → ℕ → Row
+abbrev pub harmonic_row : ℕ → ℕ → BrickRow
 harmonic_row n i = record {
-  left = reach_of n i -ℤ pos 5040;
+  left = right_end_of n i -ℤ pos 5040;
   bottom = pos 1000 *ℤ pos (i - 1);
   count = 1;
   long = pos 5040;
@@ -30,7 +30,7 @@ harmonic_row n i = record {
 }
 
 -- bricks 1 to n, from the bottom, each a row by itself
-abbrev pub harmonic_rows : ℕ → List Row
+abbrev pub harmonic_rows : ℕ → List BrickRow
 harmonic_rows n = listed n (λ k. harmonic_row n (k + 1))
 
 -- the table of such bricks: twice as long as one and as high, with its upper right corner at (0, 0)
@@ -42,7 +42,7 @@ abbrev pub harmonic_of : ℕ → Structure
 harmonic_of n = stack_on long_table (harmonic_rows n)
 
 -- Row i, from 1 at the bottom, of c bricks 2 long and 1 high: its middle is the table's end
-abbrev pub centred : ℕ → ℕ → Row
+abbrev pub centred : ℕ → ℕ → BrickRow
 centred i c = record {
   left = neg_ℤ (pos c);
   bottom = pos (i - 1);
@@ -52,7 +52,7 @@ centred i c = record {
 }
 
 -- the rows with these numbers of bricks, from the bottom
-abbrev pub brick_rows : List ℕ → List Row
+abbrev pub brick_rows : List ℕ → List BrickRow
 brick_rows counts = listed (length counts) (λ k. centred (k + 1) (get_or counts k 0))
 
 -- the table of such rows: 20 long and 1 high, with its upper right corner at (0, 0)

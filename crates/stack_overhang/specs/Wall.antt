@@ -6,7 +6,7 @@ use Rattle.stack_algebra.specs.Listed.{listed}
 use Rattle.stack_model.specs.declared.types.Load.{Load}
 use Rattle.stack_model.specs.Structure.{Structure}
 use Rattle.stack_overhang.specs.declared.types.Rectangle.{Rectangle}
-use Rattle.stack_overhang.specs.declared.types.Row.{Row}
+use Rattle.stack_overhang.specs.declared.types.BrickRow.{BrickRow}
 use Rattle.stack_overhang.specs.declared.types.Wall.{Wall}
 use Rattle.stack_overhang.specs.Bricks.{bricks_of, brick_of}
 use Rattle.stack_overhang.specs.Built.{built}
@@ -25,7 +25,7 @@ wall_by n = record {
 }
 
 -- course i, from 1 at the bottom
-abbrev pub course_of : Wall → ℕ → Row
+abbrev pub course_of : Wall → ℕ → BrickRow
 course_of w i = record {
   left = (if i % 2 == 0 then pos w.shift else pos 0);
   bottom = pos 10 *ℤ pos (i - 1);
@@ -35,7 +35,7 @@ course_of w i = record {
 }
 
 -- all courses of a wall, from the bottom
-abbrev pub courses_of : Wall → List Row
+abbrev pub courses_of : Wall → List BrickRow
 courses_of w = listed w.courses (λ k. course_of w (k + 1))
 
 -- the first brick of the top course

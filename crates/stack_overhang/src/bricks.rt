@@ -4,11 +4,11 @@ ghost use Rattle.std.specs.Prelude.{◌≡◌, ◌<◌, ◌++◌, true, IfOk};
 ghost use Rattle.stack_overhang.specs.Bricks.{brick_of, bricks_in, bricks_of};
 ghost use Rattle.stack_overhang.specs.Limits.{is_row, are_rows};
 
-use crate::types::{Rectangle, Row};
+use crate::types::{Rectangle, BrickRow};
 use std::alloc::{AllocError, Global};
 
 /// Brick `j` of the row, from 0 at its left.
-pub fn brick(row: Row, j: u32) -> Rectangle
+pub fn brick(row: BrickRow, j: u32) -> Rectangle
     requires laid { is_row row ≡ true }
     requires below { j < row.count }
     ensures { result ≡ brick_of row j }
@@ -23,7 +23,7 @@ pub fn brick(row: Row, j: u32) -> Rectangle
 }
 
 /// These bricks, and those of the row.
-fn with_row(mut bricks: Vec<Rectangle>, row: Row) -> Result<Vec<Rectangle>, AllocError>
+fn with_row(mut bricks: Vec<Rectangle>, row: BrickRow) -> Result<Vec<Rectangle>, AllocError>
     requires { is_row row ≡ true }
     ensures { IfOk result (λ v. v.items ≡ bricks.items ++ bricks_in row) }
 {
@@ -34,7 +34,7 @@ fn with_row(mut bricks: Vec<Rectangle>, row: Row) -> Result<Vec<Rectangle>, Allo
 }
 
 /// The bricks of all rows.
-pub fn bricks(alloc: Global, rows: &[Row]) -> Result<Vec<Rectangle>, AllocError>
+pub fn bricks(alloc: Global, rows: &[BrickRow]) -> Result<Vec<Rectangle>, AllocError>
     requires { are_rows rows.now ≡ true }
     ensures { IfOk result (λ v. v.items ≡ bricks_of rows.now) }
 {

@@ -4,11 +4,11 @@ ghost use Rattle.std.specs.Prelude.{◌≡◌, ◌≤◌, ◌++◌, IfOk};
 ghost use Rattle.stack_overhang.specs.Stacks.{harmonic_rows, centred, brick_rows, triangle_counts, layer_of};
 ghost use Rattle.stack_overhang.specs.Stacks.{slab_counts};
 
-use crate::types::Row;
+use crate::types::BrickRow;
 use std::alloc::{AllocError, Global};
 
 /// The bricks of a harmonic stack, each a row of its own.
-pub fn harmonic_layers(alloc: Global, n: u32) -> Result<Vec<Row>, AllocError>
+pub fn harmonic_layers(alloc: Global, n: u32) -> Result<Vec<BrickRow>, AllocError>
     requires { n ≤ 10 }
     ensures { IfOk result (λ v. v.items ≡ harmonic_rows n) }
 {
@@ -16,7 +16,7 @@ pub fn harmonic_layers(alloc: Global, n: u32) -> Result<Vec<Row>, AllocError>
     let mut right: i64 = 0;
     for k in 0..n {
         right += (2520 / (n - k)) as i64;
-        rows.push(Row {
+        rows.push(BrickRow {
             left: right - 5040,
             bottom: 1000 * k as i64,
             count: 1,
@@ -28,12 +28,12 @@ pub fn harmonic_layers(alloc: Global, n: u32) -> Result<Vec<Row>, AllocError>
 }
 
 /// The rows with these numbers of bricks, from the bottom, each with its middle at 0.
-fn rows(alloc: Global, counts: &[u32]) -> Result<Vec<Row>, AllocError>
+fn rows(alloc: Global, counts: &[u32]) -> Result<Vec<BrickRow>, AllocError>
     ensures { IfOk result (λ v. v.items ≡ brick_rows counts.now) }
 {
     let mut rows = Vec::new(alloc);
     for (k, count) in counts.iter().enumerate() {
-        rows.push(Row {
+        rows.push(BrickRow {
             left: -(*count as i64),
             bottom: k as i64,
             count: *count,
@@ -45,7 +45,7 @@ fn rows(alloc: Global, counts: &[u32]) -> Result<Vec<Row>, AllocError>
 }
 
 /// The rows of an inverted triangle.
-pub fn triangle_layers(alloc: Global, m: u32) -> Result<Vec<Row>, AllocError>
+pub fn triangle_layers(alloc: Global, m: u32) -> Result<Vec<BrickRow>, AllocError>
     requires { m ≤ 10 }
     ensures { IfOk result (λ v. v.items ≡ brick_rows (triangle_counts m)) }
 {
@@ -69,7 +69,7 @@ fn with_layer(mut counts: Vec<u32>, r: u32) -> Result<Vec<u32>, AllocError>
 }
 
 /// The rows of a slab.
-pub fn slab_layers(alloc: Global, d: u32) -> Result<Vec<Row>, AllocError>
+pub fn slab_layers(alloc: Global, d: u32) -> Result<Vec<BrickRow>, AllocError>
     requires least { 1 ≤ d }
     requires most { d ≤ 6 }
     ensures { IfOk result (λ v. v.items ≡ brick_rows (slab_counts d)) }

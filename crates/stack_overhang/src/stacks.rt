@@ -12,7 +12,7 @@ use crate::error::StackError;
 use crate::layers::{harmonic_layers, slab_layers, triangle_layers};
 use crate::modelling::model;
 use crate::parts::{blocks, materials};
-use crate::types::{Rectangle, Row};
+use crate::types::{Rectangle, BrickRow};
 use stack_model::{Model, Parts};
 use std::alloc::Global;
 
@@ -33,7 +33,7 @@ const SHORT_TABLE: Rectangle = Rectangle {
 };
 
 /// Rows of bricks on a table.
-fn stack(alloc: Global, table: Rectangle, rows: &[Row]) -> Result<Model, StackError>
+fn stack(alloc: Global, table: Rectangle, rows: &[BrickRow]) -> Result<Model, StackError>
     requires table { is_placed table ≡ true }
     requires rows { are_laid rows.now ≡ true }
     ensures ok { IfOk result (λ m. model_view m ≡ stack_on table rows.now) }

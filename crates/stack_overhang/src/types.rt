@@ -11,7 +11,7 @@ pub struct Rectangle {
 
 /// Equal bricks side by side: where the first begins, their bottom, how many they are, how long and how high each is.
 #[derive(Clone, Copy, Debug, PartialEq, Eq)]
-pub struct Row {
+pub struct BrickRow {
     pub left: i64,
     pub bottom: i64,
     pub count: u32,

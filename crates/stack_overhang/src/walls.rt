@@ -12,7 +12,7 @@ use crate::bricks::{brick, bricks};
 use crate::error::StackError;
 use crate::modelling::model;
 use crate::parts::{blocks, materials, push_right};
-use crate::types::{Rectangle, Row, Wall};
+use crate::types::{Rectangle, BrickRow, Wall};
 use stack_model::{Model, Parts};
 use std::alloc::{AllocError, Global};
 
@@ -49,12 +49,12 @@ fn drawn_wall(number: u32) -> Wall
 }
 
 /// Course `i`, from 1 at the bottom; the even ones are shifted.
-fn course(w: Wall, i: u32) -> Row
+fn course(w: Wall, i: u32) -> BrickRow
     requires least { 1 ≤ i }
     requires most { i ≤ 10 }
     ensures { result ≡ course_of w i }
 {
-    Row {
+    BrickRow {
         left: if i % 2 == 0 { w.shift as i64 } else { 0 },
         bottom: 10 * (i - 1) as i64,
         count: w.bricks,
@@ -64,7 +64,7 @@ fn course(w: Wall, i: u32) -> Row
 }
 
 /// All courses, from the bottom.
-fn courses(alloc: Global, w: Wall) -> Result<Vec<Row>, AllocError>
+fn courses(alloc: Global, w: Wall) -> Result<Vec<BrickRow>, AllocError>
     requires { w.courses ≤ 10 }
     ensures { IfOk result (λ v. v.items ≡ courses_of w) }
 {

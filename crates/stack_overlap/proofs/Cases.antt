@@ -18,8 +18,8 @@ use Rattle.stack_overlap.specs.Forms.{IsMark, IsOnStretch, IsBetween, square}
 use Rattle.stack_polygon.specs.Plane.{Triple, IsAt}
 use Rattle.stack_overlap.specs.Separation.{IsCommon, Separates}
 use Rattle.stack_overlap.specs.CommonPoints.{IsCornerOf, IsBefore, IsCommonOf}
-use Rattle.stack_overlap.specs.Marks.{IsReach, IsCut}
-use Rattle.stack_overlap.specs.declared.marks.Reach.{Reach}
+use Rattle.stack_overlap.specs.Marks.{IsStretch, IsCut}
+use Rattle.stack_overlap.specs.declared.marks.Stretch.{Stretch}
 use Rattle.stack_overlap.proofs.ByForms.{convex-form, outer-form, shared-form, form-shared, within-form}
 use Rattle.stack_overlap.proofs.ByForms.{segment-form}
 use Rattle.stack_overlap.proofs.Identities.{reversed, along-reversed, square-reversed}
@@ -56,7 +56,7 @@ module _ (P Q : List Point) (convex_p : IsStrictlyConvex P) (three_p : 3 ≤ len
   long : pos 0 ≺ square a b
   long = edge_long P (convex-form P convex_p) three_p i h.is_edge
 
-  module _ (r : Reach) (reach : IsReach a b Q (length Q) r) (f t : ℤ)
+  module _ (r : Stretch) (reach : IsStretch a b Q (length Q) r) (f t : ℤ)
       (k : IsCut (square a b) r.low.place r.high.place f t) (F G : Point) (from : IsMark a b F f)
       (to : IsMark a b G t) where
     points : (X : Triple) → IsCommon P Q X ↔ IsOnStretch a b f t X

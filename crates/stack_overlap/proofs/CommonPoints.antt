@@ -16,8 +16,8 @@ use Rattle.stack_polygon.specs.Plane.{Triple}
 use Rattle.stack_overlap.specs.Forms.{LinearForm, IsOnStretch, IsBetween, value, at_corner, line, along, square, edge}
 use Rattle.stack_overlap.proofs.ByForms.{IsConvex, IsShared, IsOuter}
 use Rattle.stack_overlap.specs.CommonPoints.{IsCornerOf}
-use Rattle.stack_overlap.specs.Marks.{IsReach}
-use Rattle.stack_overlap.specs.declared.marks.Reach.{Reach}
+use Rattle.stack_overlap.specs.Marks.{IsStretch}
+use Rattle.stack_overlap.specs.declared.marks.Stretch.{Stretch}
 use Rattle.stack_overlap.proofs.Identities.{less, opposite, value-less, at-less, value-opposite, at-opposite}
 use Rattle.stack_overlap.proofs.Stretches.{between}
 use Rattle.stack_overlap.proofs.Support.{support}
@@ -54,7 +54,7 @@ module _ (P Q : List Point) (convex_p : IsConvex P) (three_p : 3 ≤ length P) (
       weight : (x y w : ℤ) → pos 0 ≺ w → (pos 0 *ℤ x +ℤ pos 0 *ℤ y +ℤ pos 1 *ℤ w) ≼ pos 0 → ⊥
       weight x y w p l = omega (arith, sums, simp expand at l)
 
-  module _ (r : Reach) (reach : IsReach a b Q (length Q) r) where
+  module _ (r : Stretch) (reach : IsStretch a b Q (length Q) r) where
     abbrev lo : ℤ
     lo = r.low.place
 

@@ -10,7 +10,7 @@ use Rattle.std.proofs.lemmas.Int.{ints}
 use Rattle.stack_polygon.specs.declared.point.Point.{Point}
 use Rattle.stack_overlap.specs.declared.types.Which.TheVariants.{First}
 use Rattle.stack_overlap.specs.declared.types.Common.TheVariants.{Nothing, Corner, OnEdge, Segment}
-use Rattle.stack_overlap.specs.declared.marks.Reach.{Reach}
+use Rattle.stack_overlap.specs.declared.marks.Stretch.{Stretch}
 use mathlib.Core.List.{List}
 use lib.ListN.{length}
 use Rattle.stack_algebra.specs.Search.{next_round}
@@ -18,7 +18,7 @@ use Rattle.stack_polygon.specs.Corners.{corner_of, IsStrictlyConvex}
 use Rattle.stack_overlap.specs.Forms.{at_corner, along, square}
 use Rattle.stack_overlap.specs.Separation.{Separates}
 use Rattle.stack_overlap.specs.CommonPoints.{IsBefore, IsCommonOf}
-use Rattle.stack_overlap.specs.Marks.{IsReach, NoneOnLine, IsClipped}
+use Rattle.stack_overlap.specs.Marks.{IsStretch, NoneOnLine, IsClipped}
 use Rattle.stack_overlap.proofs.ByForms.{convex-form, outer-form, shared-form}
 use Rattle.stack_overlap.proofs.Identities.{along-end}
 use Rattle.stack_overlap.proofs.CommonPoints.{nothing-common}
@@ -56,9 +56,9 @@ module _ (P Q : List Point) (convex_p : IsStrictlyConvex P) (three_p : 3 ≤ len
       (outer-form P i Q h)
       (at-edge (λ x y. NoneOnLine x y Q (length Q)) n) X (shared-form P Q X m)
 
-  module _ (r s : Reach) (reach : IsReach a b Q (length Q) r) (clip : IsClipped a b r s) where
-    reach' : IsReach (corner_of P i) (corner_of P (next_round (length P) i)) Q (length Q) r
-    reach' = at-edge (λ x y. IsReach x y Q (length Q) r) reach
+  module _ (r s : Stretch) (reach : IsStretch a b Q (length Q) r) (clip : IsClipped a b r s) where
+    reach' : IsStretch (corner_of P i) (corner_of P (next_round (length P) i)) Q (length Q) r
+    reach' = at-edge (λ x y. IsStretch x y Q (length Q) r) reach
 
     clip' : IsClipped (corner_of P i) (corner_of P (next_round (length P) i)) r s
     clip' = at-edge (λ x y. IsClipped x y r s) clip

@@ -10,26 +10,26 @@ use Rattle.std.proofs.Common.{below_more, MatchOption, None, Some}
 use Rattle.std.specs.declared.option.Option.{Option}
 use Rattle.stack_polygon.specs.declared.point.Point.{Point}
 use Rattle.stack_overlap.specs.declared.marks.Mark.{Mark}
-use Rattle.stack_overlap.specs.declared.marks.Reach.{Reach}
+use Rattle.stack_overlap.specs.declared.marks.Stretch.{Stretch}
 use mathlib.Core.List.{List}
 use lib.ListN.{length}
 use Rattle.stack_polygon.specs.Corners.{corner_of}
 use Rattle.stack_overlap.specs.Forms.{at_corner, line, along, square}
 use Rattle.stack_overlap.specs.CommonPoints.{IsCornerOf}
-use Rattle.stack_overlap.specs.Marks.{IsMarked, IsReach, NoneOnLine, IsLower, IsHigher, IsWider, IsClipped}
+use Rattle.stack_overlap.specs.Marks.{IsMarked, IsStretch, NoneOnLine, IsLower, IsHigher, IsWider, IsClipped}
 use Rattle.stack_overlap.proofs.Identities.{line-start, line-end, along-start, along-end}
 
 -- what is known of the corners below n
-abbrev pub IsReached : Point → Point → List Point → ℕ → Option Reach → Type 0
-IsReached a b Q n best = MatchOption best (NoneOnLine a b Q n) (λ r. IsReach a b Q n r)
+abbrev pub IsReached : Point → Point → List Point → ℕ → Option Stretch → Type 0
+IsReached a b Q n best = MatchOption best (NoneOnLine a b Q n) (λ r. IsStretch a b Q n r)
 
 -- the bounds at corner j
-abbrev IsBound : Point → Point → List Point → Reach → ℕ → Type 0
+abbrev IsBound : Point → Point → List Point → Stretch → ℕ → Type 0
 IsBound a b Q r j = at_corner (line a b) (corner_of Q j) ≡ pos 0
     → (r.low.place ≼ at_corner (along a b) (corner_of Q j)) × (at_corner (along a b) (corner_of Q j) ≼ r.high.place)
 
 -- a corner that isn't on the line
-pub reached-past : (a b : Point) (Q : List Point) (n : ℕ) (best : Option Reach)
+pub reached-past : (a b : Point) (Q : List Point) (n : ℕ) (best : Option Stretch)
     → ¬ (at_corner (line a b) (corner_of Q n) ≡ pos 0) → IsReached a b Q n best → IsReached a b Q (n + 1) best
 reached-past a b Q n None d h = below_more (λ j. ¬ (at_corner (line a b) (corner_of Q j) ≡ pos 0)) n h d
 reached-past a b Q n (Some r) d h =
@@ -42,10 +42,10 @@ reached-past a b Q n (Some r) d h =
     }
 
 -- a corner on the line
-pub reached-more : (a b : Point) (Q : List Point) (n : ℕ) (best : Option Reach) (m : Mark) (s : Reach)
+pub reached-more : (a b : Point) (Q : List Point) (n : ℕ) (best : Option Stretch) (m : Mark) (s : Stretch)
     → n < length Q → m.at ≡ corner_of Q n → IsMarked a b m →
     MatchOption best ((s.low ≡ m) × (s.high ≡ m)) (λ r. IsWider r m s) → IsReached a b Q n best
-    → IsReach a b Q (n + 1) s
+    → IsStretch a b Q (n + 1) s
 reached-more a b Q n None m s hn e k w h = record {
   low = subst (IsMarked a b) (sym w.0) k;
   high = subst (IsMarked a b) (sym w.1) k;
@@ -94,7 +94,7 @@ reached-more a b Q n (Some r) m s hn e k w h = record {
     above e f = omega (arith, sums)
 
 -- the later of two beginnings and the earlier of two ends
-pub clip : (a b : Point) (r s : Reach) (m n : Mark) → IsHigher r.low m s.low → IsLower r.high n s.high
+pub clip : (a b : Point) (r s : Stretch) (m n : Mark) → IsHigher r.low m s.low → IsLower r.high n s.high
     → m.place ≡ pos 0 → m.at ≡ a → n.place ≡ square a b → n.at ≡ b →
     IsMarked a b r.low → IsMarked a b r.high → IsClipped a b r s
 clip a b r s m n h l em ea en eb kl kh = record {

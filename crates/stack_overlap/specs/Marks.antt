@@ -12,7 +12,7 @@ use Rattle.stack_overlap.specs.declared.types.Which.TheVariants.{First, Second}
 use Rattle.stack_overlap.specs.declared.types.Common.{Common}
 use Rattle.stack_overlap.specs.declared.types.Common.TheVariants.{Nothing, Corner, OnEdge, Segment}
 use Rattle.stack_overlap.specs.declared.marks.Mark.{Mark}
-use Rattle.stack_overlap.specs.declared.marks.Reach.{Reach}
+use Rattle.stack_overlap.specs.declared.marks.Stretch.{Stretch}
 use Rattle.stack_overlap.specs.Forms.{IsMark, at_corner, line, along, square}
 use Rattle.stack_overlap.specs.CommonPoints.{IsCornerOf}
 
@@ -21,7 +21,7 @@ abbrev pub IsMarked : Point → Point → Mark → Type 0
 IsMarked a b m = IsMark a b m.at m.place
 
 -- the first and the last, of the corners of Q below n, on the line from a to b
-pub record IsReach (a b : Point) (Q : List Point) (n : ℕ) (r : Reach) : Type 0 where
+pub record IsStretch (a b : Point) (Q : List Point) (n : ℕ) (r : Stretch) : Type 0 where
   pub low : IsMarked a b r.low
   pub high : IsMarked a b r.high
   pub low_corner : IsCornerOf Q r.low.at
@@ -46,7 +46,7 @@ pub record IsHigher (a b m : Mark) : Type 0 where
   pub second : b.place ≼ m.place
 
 -- s is r with one more mark
-pub record IsWider (r : Reach) (m : Mark) (s : Reach) : Type 0 where
+pub record IsWider (r : Stretch) (m : Mark) (s : Stretch) : Type 0 where
   pub low : IsLower r.low m s.low
   pub high : IsHigher r.high m s.high
 
@@ -60,7 +60,7 @@ pub record IsCut (N lo hi f t : ℤ) : Type 0 where
   pub to_one : (t ≡ hi) ⊎ (t ≡ N)
 
 -- s is the part of the reach r that lies between a and b
-pub record IsClipped (a b : Point) (r s : Reach) : Type 0 where
+pub record IsClipped (a b : Point) (r s : Stretch) : Type 0 where
   pub cut : IsCut (square a b) r.low.place r.high.place s.low.place s.high.place
   pub from : IsMarked a b s.low
   pub to : IsMarked a b s.high

@@ -18,7 +18,7 @@ pub struct Mark {
 
 /// The first and the last corner on a line.
 #[derive(Clone, Copy)]
-pub struct Reach {
+pub struct Stretch {
     pub low: Mark,
     pub high: Mark,
 }
@@ -101,12 +101,12 @@ pub fn higher(a: Mark, b: Mark) -> Mark
 }
 
 /// A reach with one more mark.
-pub fn wider(best: Option<Reach>, m: Mark) -> Reach
+pub fn wider(best: Option<Stretch>, m: Mark) -> Stretch
     ensures { MatchOption best ((result.low ≡ m) × (result.high ≡ m)) (λ r. IsWider r m result) }
 {
     match best {
-        None => Reach { low: m, high: m },
-        Some(r) => Reach {
+        None => Stretch { low: m, high: m },
+        Some(r) => Stretch {
             low: lower(r.low, m),
             high: higher(r.high, m),
         },

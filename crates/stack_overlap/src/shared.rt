@@ -6,10 +6,10 @@ ghost use Rattle.stack_polygon.specs.Limits.{IsInRange, IsPolygon};
 ghost use Rattle.stack_overlap.specs.Separation.{Separates, IsSeparatedBy, IsCommon};
 ghost use Rattle.stack_overlap.specs.Ends.{IsExtremeIn, IsEndAt};
 ghost use Rattle.stack_overlap.specs.CommonPoints.{IsBefore, IsCommonOf};
-ghost use Rattle.stack_overlap.specs.Marks.{IsMarked, IsReach, NoneOnLine, IsClipped, swapped};
+ghost use Rattle.stack_overlap.specs.Marks.{IsMarked, IsStretch, NoneOnLine, IsClipped, swapped};
 
 use crate::marks::{
-    Mark, Reach, higher, is_at_either, is_on_line, lower, mark_of, precedes, wider,
+    Mark, Stretch, higher, is_at_either, is_on_line, lower, mark_of, precedes, wider,
 };
 use crate::types::{Common, Edge, Which};
 use stack_polygon::{Point, Polygon, next};
@@ -22,13 +22,14 @@ fn is_before(a: Point, b: Point) -> bool
 }
 
 /// The first and the last corner of q on the line from a to b.
-fn reach_along(a: Point, b: Point, q: &Polygon) -> Option<Reach>
+fn stretch_along(a: Point, b: Point, q: &Polygon) -> Option<Stretch>
     requires a { IsInRange a }
     requires b { IsInRange b }
     ensures polygon { IsPolygon q.now }
-    ensures reach { MatchOption result (NoneOnLine a b q.now (length q.now)) (λ r. IsReach a b q.now (length q.now) r) }
+    ensures reach { MatchOption result (NoneOnLine a b q.now (length q.now))
+        (λ r. IsStretch a b q.now (length q.now) r) }
 {
-    let mut best: Option<Reach> = None;
+    let mut best: Option<Stretch> = None;
     for j in 0..q.len() {
         let at = q.corner(j);
         if is_on_line(a, b, at) {
@@ -39,14 +40,14 @@ fn reach_along(a: Point, b: Point, q: &Polygon) -> Option<Reach>
 }
 
 /// The part of a reach on the segment from a to b.
-fn clipped(a: Point, b: Point, r: Reach) -> Reach
+fn clipped(a: Point, b: Point, r: Stretch) -> Stretch
     requires a { IsInRange a }
     requires b { IsInRange b }
     requires low { IsMarked a b r.low }
     requires high { IsMarked a b r.high }
     ensures { IsClipped a b r result }
 {
-    Reach {
+    Stretch {
         low: higher(r.low, Mark { place: 0, at: a }),
         high: lower(r.high, mark_of(a, b, b)),
     }
@@ -59,7 +60,7 @@ fn common_on(p: &Polygon, i: usize, q: &Polygon) -> Common
 {
     let a = p.corner(i);
     let b = p.corner(next(p.len(), i));
-    match reach_along(a, b, q) {
+    match stretch_along(a, b, q) {
         None => Common::Nothing,
         Some(r) => {
             let s = clipped(a, b, r);

@@ -15,7 +15,7 @@ use Rattle.stack_model.specs.Structure.{Structure, body_of, load_of}
 use Rattle.stack_statics.specs.declared.wrench.Wrench.{Wrench}
 use Rattle.stack_equilibrium.specs.declared.types.Question.TheVariants.{Dead, Live}
 use Rattle.stack_statics.specs.Loads.{no_load, load_wrench, wrench_sum, sum_of_triangles, moment_of_triangle}
-use Rattle.stack_statics.specs.Sway.{sway_of, level_moment_of_triangle}
+use Rattle.stack_statics.specs.Sway.{sway_load, level_moment_of_triangle}
 use Rattle.stack_equilibrium.specs.SurveyScene.{acting, listed_on, loads_on, weight_at, unit_weight_of}
 use Rattle.stack_equilibrium.specs.SurveyScene.{first_corner_of, scene_bearing_of, bearing_of}
 use Rattle.stack_polygon.specs.Plane.{triangle_of}
@@ -206,7 +206,7 @@ no_turning : (a b : ℤ) → a *ℤ pos 0 -ℤ b *ℤ pos 0 ≡ pos 0
 no_turning a b = simp expand (omega (arith, sums))
 
 -- without a sway there is no load of it
-no_sway : (w : ℤ) (corners : List Point) → sway_of (pos 0, pos 0) w corners ≡ no_load
+no_sway : (w : ℤ) (corners : List Point) → sway_load (pos 0, pos 0) w corners ≡ no_load
 no_sway w [] = refl
 no_sway w (o ∷ rest) = λ r. record {
   fx = no_part (pos 3 *ℤ (w *ℤ sum_of_triangles triangle_of o rest)) r;

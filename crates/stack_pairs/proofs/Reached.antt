@@ -23,7 +23,7 @@ use Rattle.stack_statics.proofs.CertificateLaws.{greatest_is_carried, unbounded_
 use Rattle.stack_equilibrium.proofs.FreeNumbers.{before_is}
 use Rattle.stack_pairs.specs.Pairs.{toward, CarriesLoads, load_power_of}
 use Rattle.stack_pairs.specs.Directed.{ArePair, directed_survey, wrench_on, CarriesPair}
-use Rattle.stack_pairs.specs.Reaches.{ReachValue, IsReach, Bounds, CarriesAllAlong, ReachTells, point_of}
+use Rattle.stack_pairs.specs.Reaches.{ReachValue, IsReach, BoundsReach, CarriesAllAlong, ReachTells, reached_point}
 use Rattle.stack_pairs.specs.Reaches.{half_of, reach_of, IsReaching}
 use Rattle.stack_pairs.specs.Laws.{ReachesTell, ReachesStand, CollapsesAreOfTheSurvey, RegionsTell, CarriedPairsMix}
 use Rattle.stack_pairs.proofs.PairLaws.{proper_toward, factors_are_pairs, denominators_are_free, powers_add}
@@ -131,7 +131,7 @@ bounds_by : (s : Surveyed) (i j : ℕ) (m n L D x xd z zd P Q R : ℤ) (y : ℕ 
     pos 0 ≺ xd → pos 0 ≺ zd → x *ℤ D ≡ m *ℤ L *ℤ xd → z *ℤ D ≡ n *ℤ L *ℤ zd →
     load_power_of (scene_of s) (wrench_on s.structure i) y ≡ P →
     load_power_of (scene_of s) (wrench_on s.structure j) y ≡ Q → neg_ℤ (dead_power_of (scene_of s) y) ≡ R →
-    Bounds s i j m n ((x, xd), (z, zd)) (P, Q, R)
+    BoundsReach s i j m n ((x, xd), (z, zd)) (P, Q, R)
 bounds_by s i j m n L D x xd z zd P Q R y proper t hx hz ex ez eP eQ eR =
     let S = scene_of s in
     let v = wrench_on s.structure i in
@@ -179,7 +179,7 @@ half_second s i j y pair = sym (directed_power s i j (pos 0) (pos 1) y pair
 
 bounds : (s : Surveyed) (i j : ℕ) (m n : ℤ) (f : ForcesValue) (y : MotionValue) → IsProper (scene_of s) →
     ArePair s.structure i j → IsTrueGreatest (scene_of (directed_survey s i j m n)) (forces_of f) (moves_of y) →
-    Bounds s i j m n (point_of m n f) (half_of s i j y)
+    BoundsReach s i j m n (reached_point m n f) (half_of s i j y)
 bounds s i j m n f y proper pair g =
     let t = towards (scene_of s) (wrench_on s.structure i) (wrench_on s.structure j) m n (forces_of f) (moves_of y)
     (subst (λ x. IsTrueGreatest x (forces_of f) (moves_of y)) (directed_scene s i j m n pair) g) in

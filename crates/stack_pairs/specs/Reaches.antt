@@ -40,8 +40,8 @@ abbrev pub terms_of : Fraction → ℤ × ℤ
 terms_of x = (x.num, pos x.den)
 
 -- m and n times factor over scale
-abbrev pub point_of : ℤ → ℤ → ForcesValue → PointValue
-point_of m n f = (terms_of (over (m *ℤ f.factor) f.scale), terms_of (over (n *ℤ f.factor) f.scale))
+abbrev pub reached_point : ℤ → ℤ → ForcesValue → PointValue
+reached_point m n f = (terms_of (over (m *ℤ f.factor) f.scale), terms_of (over (n *ℤ f.factor) f.scale))
 
 -- the powers of load i alone and of load j alone on a motion, and minus the power of the dead loads
 abbrev pub half_of : Surveyed → (i j : ℕ) → MotionValue → HalfValue
@@ -57,7 +57,7 @@ reach_of s i j m n (greatest f y) = record {
   m = m;
   n = n;
   certificate = greatest f y;
-  point = Some (point_of m n f);
+  point = Some (reached_point m n f);
   half = Some (half_of s i j y);
 }
 reach_of s i j m n (unbounded f r) = record {
@@ -88,7 +88,7 @@ pub record IsReach (s : Surveyed) (i j : ℕ) (r : ReachValue) : Type 0 where
 -- The point is (m, n) times a fraction of at least 0. It is carried, over a common denominator. The half-plane holds
 -- all that is carried, the point lies on its edge, and in the direction it bounds, so no greater multiple of (m, n)
 -- is carried.
-pub record Bounds (s : Surveyed) (i j : ℕ) (m n : ℤ) (point : PointValue) (half : HalfValue) : Type 0 where
+pub record BoundsReach (s : Surveyed) (i j : ℕ) (m n : ℤ) (point : PointValue) (half : HalfValue) : Type 0 where
   pub x_positive : pos 0 ≺ point.0.1
   pub y_positive : pos 0 ≺ point.1.1
   pub factor : ℤ
@@ -109,15 +109,15 @@ abbrev pub CarriesAllAlong : Surveyed → (i j : ℕ) → ℤ → ℤ → Type 0
 CarriesAllAlong s i j m n = (w D : ℤ) → pos 0 ≼ w → pos 0 ≺ D → CarriesPair s i j (w *ℤ m) (w *ℤ n) D
 
 -- what a point and a half-plane say; where there is neither, every multiple is carried
-abbrev pub Tells : Surveyed → (i j : ℕ) → ℤ → ℤ → Option PointValue → Option HalfValue → Type 0
-Tells s i j m n (Some point) (Some half) = Bounds s i j m n point half
-Tells s i j m n None None = CarriesAllAlong s i j m n
-Tells s i j m n (Some point) None = ⊥
-Tells s i j m n None (Some half) = ⊥
+abbrev pub TellsCarried : Surveyed → (i j : ℕ) → ℤ → ℤ → Option PointValue → Option HalfValue → Type 0
+TellsCarried s i j m n (Some point) (Some half) = BoundsReach s i j m n point half
+TellsCarried s i j m n None None = CarriesAllAlong s i j m n
+TellsCarried s i j m n (Some point) None = ⊥
+TellsCarried s i j m n None (Some half) = ⊥
 
 -- what a reach says of what is carried
 abbrev pub ReachTells : Surveyed → (i j : ℕ) → ReachValue → Type 0
-ReachTells s i j r = Tells s i j r.m r.n r.point r.half
+ReachTells s i j r = TellsCarried s i j r.m r.n r.point r.half
 
 -- the direction of a reach
 abbrev pub direction_of_reach : ReachValue → ℤ × ℤ

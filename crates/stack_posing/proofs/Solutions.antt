@@ -8,7 +8,7 @@ use Rattle.stack_algebra.proofs.Listed.{length_listed, listed_item}
 use Rattle.stack_statics.specs.Scene.{BearingPart, SceneBearing, Scene, IsProper}
 use Rattle.stack_statics.specs.Balance.{force_x_of, force_y_of, moment_of, bearing_side, IsWithinCone}
 use Rattle.stack_statics.specs.Balance.{IsAdmissible, IsBalanced}
-use Rattle.stack_statics.specs.Certificates.{part_of, free_before}
+use Rattle.stack_statics.specs.Certificates.{scene_part_at, free_before}
 use Rattle.stack_posing.specs.Edges.{Amounts, part_from}
 use Rattle.stack_posing.specs.Equations.{IsSolvedAt, IsSolution, forces_from, SolutionsAreForces}
 use Rattle.stack_posing.proofs.FreeBodies.{before_less, free_found}
@@ -16,7 +16,7 @@ use Rattle.stack_posing.proofs.EdgeSums.{edges_exert_their_part, parts_between_e
 
 module _ (s : Scene) (scale factor : ℤ) (x : Amounts) where
   abbrev parts : ℕ → BearingPart
-  parts = part_of (forces_from s scale factor x)
+  parts = scene_part_at (forces_from s scale factor x)
 
   part_is : (k : ℕ) → k < s.bearings → parts k ≡ part_from s x k
   part_is k l = listed_item s.bearings (part_from s x) k (record { a = pos 0; b = pos 0 }) l

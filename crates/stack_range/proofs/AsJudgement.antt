@@ -9,18 +9,18 @@ use Rattle.stack_range.specs.declared.types.Range.{Range}
 use Rattle.stack_range.specs.declared.types.Range.TheVariants.{Collapses, Between}
 use Rattle.stack_range.specs.declared.types.RangeError.{RangeError}
 use Rattle.stack_range.specs.declared.types.RangeError.TheVariants.{TooWide, Spent, NoLive, Memory}
-use Rattle.stack_range.specs.CarriedFactors.{EndValue, at, unlimited, end_certificate}
+use Rattle.stack_range.specs.CarriedFactors.{EndValue, at, unlimited, range_end_certificate}
 use Rattle.stack_range.specs.Ranged.{between, AnswersBySides, end_view, side_judgement}
 use Rattle.stack_range.specs.RangeJudgement.{told, by_least, by_sides, JudgesRange}
 
 -- where the greatest side has an end, the least side decides
-pub on_least : (high : EndValue) (one two : Judgement) → one ≡ certified (end_certificate high) →
+pub on_least : (high : EndValue) (one two : Judgement) → one ≡ certified (range_end_certificate high) →
     by_sides one two ≡ by_least high two
 on_least (at f y) one two e = ap (λ j. by_sides j two) e
 on_least (unlimited base ray) one two e = ap (λ j. by_sides j two) e
 
 -- where it has an end too, the range is told
-pub told_both : (low high : EndValue) (two : Judgement) → two ≡ certified (end_certificate low) →
+pub told_both : (low high : EndValue) (two : Judgement) → two ≡ certified (range_end_certificate low) →
     by_least high two ≡ told (between low high)
 told_both (at f y) high two e = ap (by_least high) e
 told_both (unlimited base ray) high two e = ap (by_least high) e

@@ -13,7 +13,7 @@ use Rattle.stack_judge.proofs.EachJudged.{each_end_is_judged}
 use Rattle.stack_judge.proofs.JudgedValues.{of_the_question, are_certified}
 use Rattle.stack_range.specs.declared.types.Side.TheVariants.{Greatest, Least}
 use Rattle.stack_range.specs.Reversed.{reversed_survey}
-use Rattle.stack_range.specs.CarriedFactors.{EndValue, at, unlimited, end_certificate}
+use Rattle.stack_range.specs.CarriedFactors.{EndValue, at, unlimited, range_end_certificate}
 use Rattle.stack_range.specs.Ranged.{collapsing, between, side_judgement}
 use Rattle.stack_range.specs.RangeJudgement.{RangeJudgement, told, wide_on, spent_on, no_range, by_least, by_sides}
 use Rattle.stack_range.specs.RangeJudgement.{range_judgement, AreSides}
@@ -33,7 +33,7 @@ module _ (v : Surveyed) (budget : ℕ) (proper : IsProper (scene_of v)) where
 
   -- where the greatest side has an end, the least side decides
   by_end : (high : EndValue) → Carries (scene_of v) (pos 0) (pos 1)
-      → side_judgement Greatest v budget ≡ certified (end_certificate high) → (two : Judgement)
+      → side_judgement Greatest v budget ≡ certified (range_end_certificate high) → (two : Judgement)
       → side_judgement Least v budget ≡ two → AreSides v budget (by_least high two)
   by_end high c g (certified (greatest f y)) e = (g, e)
   by_end high c g (certified (unbounded base ray)) e = (g, e)

@@ -9,12 +9,12 @@ use Rattle.stack_statics.specs.Scene.{Scene, IsProper}
 use Rattle.stack_statics.specs.Balance.{IsBalanced, Carries}
 use Rattle.stack_equilibrium.specs.Held.{forces_of, moves_of}
 use Rattle.stack_equilibrium.specs.SurveyScene.{scene_of}
-use Rattle.stack_statics.specs.Certificates.{SceneForces, part_of, IsTrueLoaded, Certifies}
+use Rattle.stack_statics.specs.Certificates.{SceneForces, scene_part_at, IsTrueLoaded, Certifies}
 use Rattle.stack_equilibrium.specs.Truth.{held}
 use Rattle.stack_statics.proofs.CertificateLaws.{greatest_is_carried, greatest_bounds_every_factor}
 use Rattle.stack_statics.proofs.CertificateLaws.{unbounded_carries_above}
 use Rattle.stack_range.specs.Reversed.{reversed_scene}
-use Rattle.stack_range.specs.CarriedFactors.{EndValue, at, unlimited, end_certificate, IsWithin}
+use Rattle.stack_range.specs.CarriedFactors.{EndValue, at, unlimited, range_end_certificate, IsWithinEnd}
 use Rattle.stack_range.specs.Laws.{RangesAreExact}
 use Rattle.stack_range.proofs.Between.{what_lies_between_is_carried}
 use Rattle.stack_range.proofs.Turned.{scene_turns_factors}
@@ -32,18 +32,19 @@ record Reaches (s : Scene) (n D : ℤ) : Type 0 where
 loaded : (s : Scene) (f : SceneForces) → IsTrueLoaded s f → Carries s f.factor f.scale
 loaded s f h = record {
   k = pos 1;
-  parts = part_of f;
+  parts = scene_part_at f;
   positive = omega (arith, sums);
   admissible = h.forces.admissible;
-  balanced = subst₂ (IsBalanced s (part_of f)) (sym (one_times f.scale)) (sym (one_times f.factor)) h.forces.balanced;
+  balanced = subst₂ (IsBalanced s (scene_part_at f)) (sym (one_times f.scale)) (sym (one_times f.factor))
+      h.forces.balanced;
 }
   where
     one_times : (x : ℤ) → pos 1 *ℤ x ≡ x
     one_times x = simp expand (omega (arith, sums))
 
 -- an end reaches each factor that is within it
-reaches : (s : Scene) (e : EndValue) (n D : ℤ) → IsProper s → Certifies s (held (end_certificate e)) → pos 0 ≺ D →
-    IsWithin e n D → Reaches s n D
+reaches : (s : Scene) (e : EndValue) (n D : ℤ) → IsProper s → Certifies s (held (range_end_certificate e)) → pos 0 ≺ D →
+    IsWithinEnd e n D → Reaches s n D
 reaches s (at f y) n D proper h hd w = record {
   factor = f.factor;
   scale = f.scale;
@@ -68,8 +69,9 @@ reaches s (unlimited base ray) n D proper h hd w = by_lt_z (base.factor *ℤ D) 
     })
 
 -- each factor that is carried is within the end
-within : (s : Scene) (e : EndValue) (n D : ℤ) → IsProper s → Certifies s (held (end_certificate e)) → Carries s n D →
-    IsWithin e n D
+within : (s : Scene) (e : EndValue) (n D : ℤ) → IsProper s → Certifies s (held (range_end_certificate e)) →
+    Carries s n D →
+    IsWithinEnd e n D
 within s (at f y) n D proper h c = by_lt_z (f.factor *ℤ D) (n *ℤ f.scale)
     (λ l. absurd (greatest_bounds_every_factor s (forces_of f) (moves_of y) proper h n D l c)) (λ l. l)
 within s (unlimited base ray) n D proper h c = tt
@@ -83,17 +85,17 @@ proper_too s proper k l = let h = proper k l in record {
   numerator_nonneg = h.numerator_nonneg;
 }
 
-module _ (s : Scene) (low high : EndValue) (proper : IsProper s) (g : Certifies s (held (end_certificate high)))
-    (l : Certifies (reversed_scene s) (held (end_certificate low))) (n D : ℤ) (hd : pos 0 ≺ D) where
+module _ (s : Scene) (low high : EndValue) (proper : IsProper s) (g : Certifies s (held (range_end_certificate high)))
+    (l : Certifies (reversed_scene s) (held (range_end_certificate low))) (n D : ℤ) (hd : pos 0 ≺ D) where
   -- what is carried is within both ends
-  forth : Carries s n D → IsWithin high n D × IsWithin low (neg_ℤ n) D
+  forth : Carries s n D → IsWithinEnd high n D × IsWithinEnd low (neg_ℤ n) D
   forth c = (
     within s high n D proper g c,
     within (reversed_scene s) low (neg_ℤ n) D (proper_too s proper) l ((scene_turns_factors s n D).0 c),
   )
 
   -- what is within both ends lies between two factors that are carried
-  back : IsWithin high n D × IsWithin low (neg_ℤ n) D → Carries s n D
+  back : IsWithinEnd high n D × IsWithinEnd low (neg_ℤ n) D → Carries s n D
   back w =
       let up = reaches s high n D proper g hd w.0 in
       let down = reaches (reversed_scene s) low (neg_ℤ n) D (proper_too s proper) l hd w.1 in
@@ -111,5 +113,5 @@ module _ (s : Scene) (low high : EndValue) (proper : IsProper s) (g : Certifies 
 -- what is carried is exactly what is within both ends, for the scene of a survey
 pub ranges_are_exact : RangesAreExact
 ranges_are_exact v low high proper g l n D hd =
-    let t = subst (λ s. Certifies s (held (end_certificate low))) (reversed_scenes_are_theirs v) l in
+    let t = subst (λ s. Certifies s (held (range_end_certificate low))) (reversed_scenes_are_theirs v) l in
     (forth (scene_of v) low high proper g t n D hd, back (scene_of v) low high proper g t n D hd)

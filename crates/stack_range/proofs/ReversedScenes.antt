@@ -15,10 +15,11 @@ use Rattle.stack_equilibrium.specs.declared.types.Question.{Question}
 use Rattle.stack_equilibrium.specs.declared.types.Question.TheVariants.{Dead, Live}
 use Rattle.stack_statics.specs.Balance.{Carries}
 use Rattle.stack_statics.specs.Loads.{no_load, load_wrench, wrench_sum, sum_of_triangles, moment_of_triangle}
-use Rattle.stack_statics.specs.Sway.{sway_of, level_moment_of_triangle}
-use Rattle.stack_equilibrium.specs.SurveyScene.{acting, listed_on, first_corner_of, unit_weight_of, weight_at, sway_at}
+use Rattle.stack_statics.specs.Sway.{sway_load, level_moment_of_triangle}
+use Rattle.stack_equilibrium.specs.SurveyScene.{acting, listed_on, first_corner_of, unit_weight_of, weight_at}
+use Rattle.stack_equilibrium.specs.SurveyScene.{sway_load_at}
 use Rattle.stack_equilibrium.specs.SurveyScene.{loads_on, scene_bearing_of, bearing_of, scene_of}
-use Rattle.stack_range.specs.Reversed.{reversed_load, reversed_sway, reversed, opposite}
+use Rattle.stack_range.specs.Reversed.{reversed_load, reversed_sway, reversed_structure, opposite_wrench}
 use Rattle.stack_range.specs.Laws.{ReversedScenesAreTheirs, ReversalTurnsFactors}
 use Rattle.stack_range.proofs.Turned.{scene_turns_factors}
 
@@ -37,7 +38,7 @@ dead_same false live o at f g = refl
 -- live loads are opposite
 live_opposite : (here live : Bool) (o at : Point) (f g : ℤ) →
     (if here && live then load_wrench o at (if live then neg_ℤ f else f) (if live then neg_ℤ g else g)
-    else no_load) ≡ opposite (if here && live then load_wrench o at f g else no_load)
+    else no_load) ≡ opposite_wrench (if here && live then load_wrench o at f g else no_load)
 live_opposite true true o at f g = λ i. record {
   fx = mul_neg (pos 6) f i;
   fy = mul_neg (pos 6) g i;
@@ -56,7 +57,7 @@ opposite_turning a b x y = simp expand (omega (arith, sums))
 
 -- the load of a reversed sway is the opposite one
 sway_opposite : (sway : ℤ × ℤ) (w : ℤ) (corners : List Point) →
-    sway_of (reversed_sway sway) w corners ≡ opposite (sway_of sway w corners)
+    sway_load (reversed_sway sway) w corners ≡ opposite_wrench (sway_load sway w corners)
 sway_opposite sway w [] = refl
 sway_opposite sway w (o ∷ rest) = λ i. record {
   fx = opposite_part (pos 3 *ℤ (w *ℤ sum_of_triangles triangle_of o rest)) sway.0 i;
@@ -70,7 +71,7 @@ opposite_sum : (a b : ℤ) → neg_ℤ a +ℤ neg_ℤ b ≡ neg_ℤ (a +ℤ b)
 opposite_sum a b = omega (arith, sums)
 
 -- the sum of two opposite loads is the opposite of their sum
-opposite_both : (a b : Wrench) → wrench_sum (opposite a) (opposite b) ≡ opposite (wrench_sum a b)
+opposite_both : (a b : Wrench) → wrench_sum (opposite_wrench a) (opposite_wrench b) ≡ opposite_wrench (wrench_sum a b)
 opposite_both a b = λ i. record {
   fx = opposite_sum a.fx b.fx i;
   fy = opposite_sum a.fy b.fy i;
@@ -79,7 +80,7 @@ opposite_both a b = λ i. record {
 
 -- what each listed load exerts
 acts : (q : Question) (s : Structure) (i k : ℕ) → k < length s.loads →
-    acting q i (first_corner_of s i) (load_of (reversed s) k) ≡
+    acting q i (first_corner_of s i) (load_of (reversed_structure s) k) ≡
     acting q i (first_corner_of s i) (reversed_load (load_of s k))
 acts q s i k l = ap (acting q i (first_corner_of s i)) (get_or-map reversed_load s.loads k _ _ l)
 
@@ -100,7 +101,7 @@ module _ (s : Structure) (i : ℕ) where
 
   -- what load k exerts on body i, reversed
   abbrev at_reversed : Question → ℕ → Wrench
-  at_reversed q k = acting q i (first_corner_of s i) (load_of (reversed s) k)
+  at_reversed q k = acting q i (first_corner_of s i) (load_of (reversed_structure s) k)
 
   -- a dead load is the same
   dead_one : (k : ℕ) → k < length s.loads → at_reversed Dead k ≡ at_load Dead k
@@ -108,12 +109,12 @@ module _ (s : Structure) (i : ℕ) where
       dead_same (nat_eq n.body i) n.live (first_corner_of s i) n.at n.fx n.fy)
 
   -- a live load is opposite
-  live_one : (k : ℕ) → k < length s.loads → at_reversed Live k ≡ opposite (at_load Live k)
+  live_one : (k : ℕ) → k < length s.loads → at_reversed Live k ≡ opposite_wrench (at_load Live k)
   live_one k l = acts Live s i k l ∙ (let n = load_of s k in
       live_opposite (nat_eq n.body i) n.live (first_corner_of s i) n.at n.fx n.fy)
 
   -- the dead loads on a body are the same
-  listed_dead : listed_on Dead (reversed s) i ≡ listed_on Dead s i
+  listed_dead : listed_on Dead (reversed_structure s) i ≡ listed_on Dead s i
   listed_dead = λ j. record {
     fx = summed s (λ k. (at_reversed Dead k).fx) (λ k. (at_load Dead k).fx) (λ k l. ap (λ w. w.fx) (dead_one k l)) j;
     fy = summed s (λ k. (at_reversed Dead k).fy) (λ k. (at_load Dead k).fy) (λ k l. ap (λ w. w.fy) (dead_one k l)) j;
@@ -121,7 +122,7 @@ module _ (s : Structure) (i : ℕ) where
   }
 
   -- the listed live loads on a body are opposite
-  listed_live : listed_on Live (reversed s) i ≡ opposite (listed_on Live s i)
+  listed_live : listed_on Live (reversed_structure s) i ≡ opposite_wrench (listed_on Live s i)
   listed_live = λ j. record {
     fx = negated s (λ k. (at_reversed Live k).fx) (λ k. (at_load Live k).fx) (λ k l. ap (λ w. w.fx) (live_one k l)) j;
     fy = negated s (λ k. (at_reversed Live k).fy) (λ k. (at_load Live k).fy) (λ k l. ap (λ w. w.fy) (live_one k l)) j;
@@ -129,9 +130,9 @@ module _ (s : Structure) (i : ℕ) where
   }
 
   -- the live loads with the sway's load are opposite
-  all_live : loads_on Live (reversed s) i ≡ opposite (loads_on Live s i)
+  all_live : loads_on Live (reversed_structure s) i ≡ opposite_wrench (loads_on Live s i)
   all_live = (λ j. wrench_sum (sway_opposite s.sway (unit_weight_of s i) (body_of s i).corners j) (listed_live j))
-      ∙ opposite_both (sway_at s i) (listed_on Live s i)
+      ∙ opposite_both (sway_load_at s i) (listed_on Live s i)
 
 -- the scene, field by field
 pub reversed_scenes_are_theirs : ReversedScenesAreTheirs

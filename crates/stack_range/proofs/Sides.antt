@@ -20,13 +20,14 @@ use Rattle.stack_range.specs.declared.types.RangeError.{RangeError}
 use Rattle.stack_range.specs.declared.types.RangeError.TheVariants.{TooWide, Spent, NoLive, Memory}
 use Rattle.stack_range.specs.declared.ranging.OneSide.{OneSide}
 use Rattle.stack_range.specs.declared.ranging.OneSide.TheVariants.{Ends, Falls}
-use Rattle.stack_range.specs.Reversed.{reversed_load, reversed_sway, reversed, reversed_survey}
-use Rattle.stack_range.specs.CarriedFactors.{EndValue, at, unlimited, end_certificate}
+use Rattle.stack_range.specs.Reversed.{reversed_load, reversed_sway, reversed_structure, reversed_survey}
+use Rattle.stack_range.specs.CarriedFactors.{EndValue, at, unlimited, range_end_certificate}
 use Rattle.stack_range.specs.Ranged.{end_view, IsSideJudged, JudgesSide, AnswersBySides, IsRangeBetween}
 use Rattle.stack_range.specs.Laws.{ReversalTurnsFactors, RangesAreExact}
 
 -- the dead loads stand where an end is certified
-stands : (v : Surveyed) (e : EndValue) → TellsOfDeadLoads v (end_certificate e) → Carries (scene_of v) (pos 0) (pos 1)
+stands : (v : Surveyed) (e : EndValue) → TellsOfDeadLoads v (range_end_certificate e) →
+    Carries (scene_of v) (pos 0) (pos 1)
 stands v (at f y) h = h
 stands v (unlimited base ray) h = h
 
@@ -51,7 +52,7 @@ both_ends exact v w h k high low is_high is_low other greatest least =
     }
 
 -- a live load that is listed is listed reversed, and a sway that isn't (0, 0) isn't (0, 0) reversed
-live_too : (s : Structure) → HasLive s → HasLive (reversed s)
+live_too : (s : Structure) → HasLive s → HasLive (reversed_structure s)
 live_too s (inl h) = inl (
   h.0,
   (

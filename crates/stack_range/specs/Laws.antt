@@ -7,8 +7,8 @@ use Rattle.stack_statics.specs.Scene.{Scene, IsProper}
 use Rattle.stack_statics.specs.Balance.{Carries}
 use Rattle.stack_equilibrium.specs.SurveyScene.{scene_of}
 use Rattle.stack_equilibrium.specs.Truth.{IsTrueCertificate}
-use Rattle.stack_range.specs.Reversed.{reversed, reversed_scene, reversed_survey}
-use Rattle.stack_range.specs.CarriedFactors.{CarriesAt, EndValue, end_certificate, AreCarriedBetween}
+use Rattle.stack_range.specs.Reversed.{reversed_structure, reversed_scene, reversed_survey}
+use Rattle.stack_range.specs.CarriedFactors.{CarriesAt, EndValue, range_end_certificate, AreCarriedBetween}
 use Rattle.stack_range.specs.RangeJudgement.{RangeJudgement, range_judgement, AreSides}
 
 -- N over E lies between L over D and L' over D', which are carried: it is carried
@@ -18,7 +18,7 @@ WhatLiesBetweenIsCarried = (s : Scene) (L D L' D' N E : ℤ) → IsProper s → 
 
 -- the reversed survey is the survey of the reversed structure: its bearings and touches are exactly that structure's
 abbrev pub ReversedIsSurveyed : Type 0
-ReversedIsSurveyed = (s : Structure) (v : Surveyed) → IsSurvey s v → IsSurvey (reversed s) (reversed_survey v)
+ReversedIsSurveyed = (s : Structure) (v : Surveyed) → IsSurvey s v → IsSurvey (reversed_structure s) (reversed_survey v)
 
 -- the scene of a reversed survey is the reversed scene
 abbrev pub ReversedScenesAreTheirs : Type 0
@@ -31,7 +31,8 @@ ReversalTurnsFactors = (v : Surveyed) (n D : ℤ) → CarriesAt v n D ↔ Carrie
 -- true certificates of both sides tell exactly which factors are carried
 abbrev pub RangesAreExact : Type 0
 RangesAreExact = (v : Surveyed) (low high : EndValue) → IsProper (scene_of v) →
-    IsTrueCertificate v (end_certificate high) → IsTrueCertificate (reversed_survey v) (end_certificate low) →
+    IsTrueCertificate v (range_end_certificate high) →
+        IsTrueCertificate (reversed_survey v) (range_end_certificate low) →
     AreCarriedBetween v low high
 
 -- the judgement of a range is this exactly where those of its sides are so: none is left over

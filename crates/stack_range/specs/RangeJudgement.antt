@@ -12,7 +12,7 @@ use Rattle.stack_range.specs.declared.types.Range.{Range}
 use Rattle.stack_range.specs.declared.types.RangeError.{RangeError}
 use Rattle.stack_range.specs.declared.types.RangeError.TheVariants as errors
 use Rattle.stack_range.specs.Reversed.{reversed_survey}
-use Rattle.stack_range.specs.CarriedFactors.{EndValue, at, unlimited, end_certificate}
+use Rattle.stack_range.specs.CarriedFactors.{EndValue, at, unlimited, range_end_certificate}
 use Rattle.stack_range.specs.Ranged.{RangeValue, collapsing, between, range_view, side_judgement, IsReached}
 
 -- the range is told, a number of a side is too wide, or the budget is spent on a side
@@ -53,8 +53,9 @@ range_judgement v budget = by_sides (judgement Live v budget) (judgement Live (r
 -- ends, and the side that is refused is one that is judged at all
 abbrev pub AreSides : Surveyed → (budget : ℕ) → RangeJudgement → Type 0
 AreSides v budget (told (collapsing y)) = side_judgement Greatest v budget ≡ certified (collapses y)
-AreSides v budget (told (between low high)) = (side_judgement Greatest v budget ≡ certified (end_certificate high))
-    × (side_judgement Least v budget ≡ certified (end_certificate low))
+AreSides v budget (told (between low high)) =
+    (side_judgement Greatest v budget ≡ certified (range_end_certificate high))
+    × (side_judgement Least v budget ≡ certified (range_end_certificate low))
 AreSides v budget (wide_on side p) = IsReached side v budget × (side_judgement side v budget ≡ too_wide p)
 AreSides v budget (spent_on side) = IsReached side v budget × (side_judgement side v budget ≡ spent)
 AreSides v budget no_range = ⊥

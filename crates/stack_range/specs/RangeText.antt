@@ -9,7 +9,7 @@ use Rattle.stack_report.specs.declared.ratio.Ratio.{Ratio}
 use Rattle.stack_report.specs.ForceTable.{lowest_ratio, ratio_text}
 use Rattle.stack_range.specs.declared.types.Side.{Side}
 use Rattle.stack_range.specs.declared.types.Side.TheVariants.{Greatest, Least}
-use Rattle.stack_range.specs.CarriedFactors.{EndValue, at, unlimited, end_certificate}
+use Rattle.stack_range.specs.CarriedFactors.{EndValue, at, unlimited, range_end_certificate}
 use Rattle.stack_range.specs.Ranged.{RangeValue, collapsing, between}
 
 -- the factor of an end; on the least side it is minus that of the reversed structure
@@ -18,20 +18,21 @@ end_factor Greatest f = lowest_ratio f.factor f.scale
 end_factor Least f = lowest_ratio (neg_ℤ f.factor) f.scale
 
 -- the text of an end's factor, or `unlimited`
-abbrev pub end_text : Side → EndValue → List ℕ
-end_text side (at f y) = ratio_text (end_factor side f)
-end_text side (unlimited base ray) = codes "unlimited"
+abbrev pub range_end_text : Side → EndValue → List ℕ
+range_end_text side (at f y) = ratio_text (end_factor side f)
+range_end_text side (unlimited base ray) = codes "unlimited"
 
 -- the first line of a range, with the factors of both ends
 abbrev pub range_line : (low high : EndValue) → List ℕ
-range_line low high = codes "range " ++ end_text Least low ++ codes " " ++ end_text Greatest high ++ codes "\n"
+range_line low high = codes "range " ++ range_end_text Least low ++ codes " " ++ range_end_text Greatest high
+    ++ codes "\n"
 
 -- the whole text of a range
 abbrev pub range_text : RangeValue → List ℕ
 range_text (collapsing y) = certificate_text (collapses y)
 range_text (between low high) =
-    range_line low high ++ certificate_text (end_certificate high) ++ codes "reversed\n"
-    ++ certificate_text (end_certificate low)
+    range_line low high ++ certificate_text (range_end_certificate high) ++ codes "reversed\n"
+    ++ certificate_text (range_end_certificate low)
 
 -- the scale of a factor is positive
 abbrev pub HasScale : EndValue → Type 0
@@ -41,7 +42,7 @@ HasScale (unlimited base ray) = ⊤
 -- an end that can be printed
 pub record IsPrintable (e : EndValue) : Type 0 where
   pub scale : HasScale e
-  pub fits : CertificateFits (end_certificate e)
+  pub fits : CertificateFits (range_end_certificate e)
 
 -- both ends can be printed
 pub record AreEnds (low high : EndValue) : Type 0 where
@@ -49,6 +50,6 @@ pub record AreEnds (low high : EndValue) : Type 0 where
   pub greatest : IsPrintable high
 
 -- a range can be printed: every range that is told can
-abbrev pub CanPrint : RangeValue → Type 0
-CanPrint (collapsing y) = CertificateFits (collapses y)
-CanPrint (between low high) = AreEnds low high
+abbrev pub CanPrintRange : RangeValue → Type 0
+CanPrintRange (collapsing y) = CertificateFits (collapses y)
+CanPrintRange (between low high) = AreEnds low high

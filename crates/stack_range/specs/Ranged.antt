@@ -20,7 +20,7 @@ use Rattle.stack_range.specs.declared.types.RangeError.TheVariants as errors
 use Rattle.stack_range.specs.declared.ranging.OneSide.{OneSide}
 use Rattle.stack_range.specs.declared.ranging.OneSide.TheVariants as halves
 use Rattle.stack_range.specs.Reversed.{reversed_survey}
-use Rattle.stack_range.specs.CarriedFactors.{EndValue, at, unlimited, end_certificate, AreCarriedBetween}
+use Rattle.stack_range.specs.CarriedFactors.{EndValue, at, unlimited, range_end_certificate, AreCarriedBetween}
 
 -- a collapse, or both ends
 pub data RangeValue : Type 0 where
@@ -50,15 +50,15 @@ side_judgement side v budget = judgement Live (side_survey side v) budget
 abbrev pub IsReached : Side → Surveyed → (budget : ℕ) → Type 0
 IsReached sides.Greatest v budget = ⊤
 IsReached sides.Least v budget = (e : EndValue)
-    × (side_judgement sides.Greatest v budget ≡ certified (end_certificate e))
+    × (side_judgement sides.Greatest v budget ≡ certified (range_end_certificate e))
 
 -- what is answered: exactly this, but that `Memory` may come at any time
 abbrev pub AnswersBySides : Result Range RangeError → Surveyed → (budget : ℕ) → Type 0
 AnswersBySides (Ok (ranges.Collapses y)) v budget = (¬ (LacksLive Live v))
     × (side_judgement sides.Greatest v budget ≡ certified (collapses (motion_view y)))
 AnswersBySides (Ok (ranges.Between low high)) v budget = (¬ (LacksLive Live v))
-    × (side_judgement sides.Greatest v budget ≡ certified (end_certificate (end_view high)))
-    × (side_judgement sides.Least v budget ≡ certified (end_certificate (end_view low)))
+    × (side_judgement sides.Greatest v budget ≡ certified (range_end_certificate (end_view high)))
+    × (side_judgement sides.Least v budget ≡ certified (range_end_certificate (end_view low)))
 AnswersBySides (Err (errors.TooWide side p)) v budget = (¬ (LacksLive Live v)) × IsReached side v budget
     × (side_judgement side v budget ≡ too_wide p)
 AnswersBySides (Err (errors.Spent side)) v budget = (¬ (LacksLive Live v)) × IsReached side v budget
@@ -68,8 +68,8 @@ AnswersBySides (Err errors.Memory) v budget = ⊤
 
 -- the range between two ends: each a judged certificate of its side, and between them exactly what is carried
 pub record IsRangeBetween (v : Surveyed) (low high : EndValue) : Type 0 where
-  pub greatest_holds : IsJudged Live v (end_certificate high)
-  pub least_holds : IsJudged Live (reversed_survey v) (end_certificate low)
+  pub greatest_holds : IsJudged Live v (range_end_certificate high)
+  pub least_holds : IsJudged Live (reversed_survey v) (range_end_certificate low)
   pub exact : AreCarriedBetween v low high
 
 -- what a range says of the structure
@@ -79,7 +79,7 @@ IsRange v (between low high) = IsRangeBetween v low high
 
 -- the certificate of one side
 abbrev pub side_certificate : OneSide → CertificateValue
-side_certificate (halves.Ends e) = end_certificate (end_view e)
+side_certificate (halves.Ends e) = range_end_certificate (end_view e)
 side_certificate (halves.Falls y) = collapses (motion_view y)
 
 -- the certificate of a side is judged, and its scene is one that the laws speak of
@@ -98,8 +98,8 @@ JudgesSide (Err errors.NoLive) side v budget = LacksLive Live v
 JudgesSide (Err errors.Memory) side v budget = ⊤
 
 -- why the range isn't told where a side isn't judged
-abbrev pub refused_as : JudgeError → Side → RangeError
-refused_as (judge_errors.TooWide p) side = errors.TooWide side p
-refused_as (judge_errors.Spent n) side = errors.Spent side
-refused_as judge_errors.NoLive side = errors.NoLive
-refused_as judge_errors.Memory side = errors.Memory
+abbrev pub range_refusal : JudgeError → Side → RangeError
+range_refusal (judge_errors.TooWide p) side = errors.TooWide side p
+range_refusal (judge_errors.Spent n) side = errors.Spent side
+range_refusal judge_errors.NoLive side = errors.NoLive
+range_refusal judge_errors.Memory side = errors.Memory

@@ -23,20 +23,20 @@ abbrev pub reversed_sway : ℤ × ℤ → ℤ × ℤ
 reversed_sway sway = (neg_ℤ sway.0, neg_ℤ sway.1)
 
 -- a structure with all its live loads and its sway reversed
-abbrev pub reversed : Structure → Structure
-reversed s = bearing s (map reversed_load s.loads) (reversed_sway s.sway)
+abbrev pub reversed_structure : Structure → Structure
+reversed_structure s = bearing s (map reversed_load s.loads) (reversed_sway s.sway)
 
 -- the survey of the reversed structure, with its contacts, which are the same
 abbrev pub reversed_survey : Surveyed → Surveyed
-reversed_survey v = surveyed (reversed v.structure) v.bearings v.touches
+reversed_survey v = surveyed (reversed_structure v.structure) v.bearings v.touches
 
 -- the opposite of a force and a moment
-abbrev pub opposite : Wrench → Wrench
-opposite w = record { fx = neg_ℤ w.fx; fy = neg_ℤ w.fy; m = neg_ℤ w.m }
+abbrev pub opposite_wrench : Wrench → Wrench
+opposite_wrench w = record { fx = neg_ℤ w.fx; fy = neg_ℤ w.fy; m = neg_ℤ w.m }
 
 -- a body whose live loads are reversed
 abbrev pub reversed_body : SceneBody → SceneBody
-reversed_body b = record { free = b.free; ox = b.ox; oy = b.oy; dead = b.dead; live = opposite b.live }
+reversed_body b = record { free = b.free; ox = b.ox; oy = b.oy; dead = b.dead; live = opposite_wrench b.live }
 
 -- the scene of the reversed structure
 abbrev pub reversed_scene : Scene → Scene

@@ -4,9 +4,9 @@ ghost use Rattle.std.specs.Prelude.{◌≡◌, ◌≢◌, IfOk, MatchResult};
 ghost use Rattle.stack_certificate.specs.Certificate.{certificate_view};
 ghost use Rattle.stack_equilibrium.specs.declared.types.Question.TheVariants as questions;
 ghost use Rattle.stack_equilibrium.specs.Truth.{IsOfQuestion};
-ghost use Rattle.stack_range.specs.Ranged.{side_certificate, refused_as, range_view};
+ghost use Rattle.stack_range.specs.Ranged.{side_certificate, range_refusal, range_view};
 ghost use Rattle.stack_range.specs.Ranged.{JudgesSide, IsSideJudged, AnswersBySides, IsRange};
-ghost use Rattle.stack_range.specs.RangeText.{CanPrint};
+ghost use Rattle.stack_range.specs.RangeText.{CanPrintRange};
 ghost use Rattle.stack_range.specs.RangeJudgement.{JudgesRange};
 
 use crate::laws::range_laws;
@@ -41,7 +41,7 @@ fn side_of(certificate: Certificate) -> OneSide
 
 /// Why the range isn't told where a side isn't judged.
 fn refused(error: JudgeError, side: Side) -> RangeError
-    ensures { result ≡ refused_as error side }
+    ensures { result ≡ range_refusal error side }
 {
     match error {
         JudgeError::TooWide(place) => RangeError::TooWide { side, place },
@@ -69,7 +69,7 @@ fn by_sides(alloc: Global, s: &Survey, budget: u32) -> Result<Range, RangeError>
     requires { budget ≢ 0 }
     ensures by_sides { AnswersBySides result s.now budget }
     ensures exact { IfOk result (λ r. IsRange s.now (range_view r)) }
-    ensures printable { IfOk result (λ r. CanPrint (range_view r)) }
+    ensures printable { IfOk result (λ r. CanPrintRange (range_view r)) }
 {
     range_laws();
     let greatest = match judge_side(alloc, s, Side::Greatest, budget) {
@@ -97,7 +97,7 @@ pub fn range(alloc: Global, s: &Survey, budget: u32) -> Result<Range, RangeError
     ensures by_sides { AnswersBySides result s.now budget }
     ensures judges { JudgesRange result s.now budget }
     ensures exact { IfOk result (λ r. IsRange s.now (range_view r)) }
-    ensures printable { IfOk result (λ r. CanPrint (range_view r)) }
+    ensures printable { IfOk result (λ r. CanPrintRange (range_view r)) }
 {
     by_sides(alloc, s, budget)
 }

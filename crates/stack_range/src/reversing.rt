@@ -5,7 +5,7 @@ ghost use Rattle.stack_algebra.specs.IntegerOrder.{◌≼◌};
 ghost use Rattle.stack_model.specs.ModelView.{model_view};
 ghost use Rattle.stack_model.specs.Structure.{IsSway};
 ghost use Rattle.stack_range.specs.Reversed.{reversed_load as reversed_load_of, reversed_sway as reversed_sway_of};
-ghost use Rattle.stack_range.specs.Reversed.{reversed, reversed_survey};
+ghost use Rattle.stack_range.specs.Reversed.{reversed_structure, reversed_survey};
 
 use stack_contact::survey_again;
 use stack_contact::types::Survey;
@@ -52,7 +52,7 @@ fn reversed_sway(sway: (i64, i64)) -> (i64, i64)
 
 /// The reversed model: each live load's force and the sway with the opposite sign.
 fn reversed_model(alloc: Global, model: &Model) -> Result<Model, AllocError>
-    ensures { IfOk result (λ m. model_view m ≡ reversed (model_view model.now)) }
+    ensures { IfOk result (λ m. model_view m ≡ reversed_structure (model_view model.now)) }
 {
     let _bodies = model.bodies();
     let loads = reversed_loads(alloc, model)?;

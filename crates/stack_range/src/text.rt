@@ -4,10 +4,10 @@ ghost use Rattle.std.specs.Prelude.{◌≡◌, ◌++◌, IfOk, pos, neg_ℤ, str
 ghost use Rattle.stack_algebra.specs.IntegerOrder.{◌≺◌};
 ghost use Rattle.stack_whole.specs.Whole.{IsFitting};
 ghost use Rattle.stack_certificate.specs.Certificate.{certificate_view, forces_view};
-ghost use Rattle.stack_range.specs.CarriedFactors.{end_certificate};
+ghost use Rattle.stack_range.specs.CarriedFactors.{range_end_certificate};
 ghost use Rattle.stack_range.specs.Ranged.{between, end_view, range_view};
-ghost use Rattle.stack_range.specs.RangeText.{end_factor, end_text, range_line, range_text};
-ghost use Rattle.stack_range.specs.RangeText.{IsPrintable, AreEnds, CanPrint};
+ghost use Rattle.stack_range.specs.RangeText.{end_factor, range_end_text, range_line, range_text};
+ghost use Rattle.stack_range.specs.RangeText.{IsPrintable, AreEnds, CanPrintRange};
 
 use crate::types::{End, Range, Side};
 use stack_certificate::types::{Certificate, Forces};
@@ -42,7 +42,7 @@ fn factor_of(forces: &Forces, side: Side) -> Ratio
 /// The text with the factor of an end.
 fn with_end(mut text: String, end: &End, side: Side) -> Result<String, AllocError>
     requires { IsPrintable (end_view end.now) }
-    ensures { IfOk result (λ t. string_bytes t ≡ string_bytes text ++ end_text side (end_view end.now)) }
+    ensures { IfOk result (λ t. string_bytes t ≡ string_bytes text ++ range_end_text side (end_view end.now)) }
 {
     match end {
         End::At(forces, _) => {
@@ -69,7 +69,7 @@ fn line(alloc: Global, least: &End, greatest: &End) -> Result<String, AllocError
 
 /// The certificate of an end.
 fn certificate_of(end: End) -> Certificate
-    ensures { certificate_view result ≡ end_certificate (end_view end) }
+    ensures { certificate_view result ≡ range_end_certificate (end_view end) }
 {
     match end {
         End::At(forces, motion) => Certificate::Greatest(forces, motion),
@@ -95,7 +95,7 @@ fn ends(alloc: Global, least: End, greatest: End) -> Result<Vec<u8>, AllocError>
 /// greatest side's certificate, the line `reversed`, and that of the least side's. Of a collapse its text alone.
 /// `AllocError` where memory ran out.
 pub fn write_range(alloc: Global, range: Range) -> Result<Vec<u8>, AllocError>
-    requires { CanPrint (range_view range) }
+    requires { CanPrintRange (range_view range) }
     ensures { IfOk result (λ t. t.items ≡ range_text (range_view range)) }
 {
     match range {

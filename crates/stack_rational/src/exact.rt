@@ -126,66 +126,66 @@ impl<T: Integer> Exact for Frac<T> {
     const MAX: i128 = T::MAX;
 
     fn zero() -> Self {
-        Frac::nothing()
+        Frac::zero()
     }
 
     fn one() -> Self {
-        Frac::unit()
+        Frac::one()
     }
 
     fn from_whole(n: i128) -> Result<Self, OpWide> {
-        match Frac::whole(n) {
+        match Frac::from_whole(n) {
             Ok(x) => Ok(x),
             Err(_) => Err(OpWide { op: Op::Whole }),
         }
     }
 
     fn sum(self, other: Self) -> Result<Self, OpWide> {
-        match self.plus(other) {
+        match self.sum(other) {
             Ok(x) => Ok(x),
             Err(_) => Err(OpWide { op: Op::Sum }),
         }
     }
 
     fn difference(self, other: Self) -> Result<Self, OpWide> {
-        match self.less(other) {
+        match self.difference(other) {
             Ok(x) => Ok(x),
             Err(_) => Err(OpWide { op: Op::Difference }),
         }
     }
 
     fn product(self, other: Self) -> Result<Self, OpWide> {
-        match self.times(other) {
+        match self.product(other) {
             Ok(x) => Ok(x),
             Err(_) => Err(OpWide { op: Op::Product }),
         }
     }
 
     fn quotient(self, other: Self) -> Result<Self, OpWide> {
-        match self.by(other) {
+        match self.quotient(other) {
             Ok(x) => Ok(x),
             Err(_) => Err(OpWide { op: Op::Quotient }),
         }
     }
 
     fn order(self, other: Self) -> Ordering {
-        self.compare(other)
+        self.order(other)
     }
 
     fn is_zero(self) -> bool {
-        self.is_nothing()
+        self.is_zero()
     }
 
     fn sign(self) -> i32 {
-        self.signum()
+        self.sign()
     }
 
     fn parts(self) -> (i128, i128) {
-        self.both()
+        self.parts()
     }
 
     fn widened(self) -> Frac<i128> {
-        let (n, d) = self.both();
+        let (n, d) = self.parts();
         over(n, d)
     }
 }

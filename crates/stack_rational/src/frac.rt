@@ -114,21 +114,21 @@ fn reduced_by<T: Integer>(num: T, den: T, g: T) -> Frac<T>
 
 impl<T: Integer> Frac<T> {
     /// The number 0.
-    pub fn nothing() -> Self
+    pub fn zero() -> Self
         ensures { result ≡ of (pos 0) }
     {
         made(T::zero(), T::one())
     }
 
     /// The number 1.
-    pub fn unit() -> Self
+    pub fn one() -> Self
         ensures { result ≡ of (pos 1) }
     {
         made(T::one(), T::one())
     }
 
     /// A whole number, refused exactly where its size is more than the greatest value.
-    pub fn whole(n: i128) -> Result<Self, PartWide>
+    pub(crate) fn from_whole(n: i128) -> Result<Self, PartWide>
         ensures ok { IfOk result (λ r. r ≡ of n) }
         ensures fits { IfOk result (λ r. Within T.MAX n) }
         ensures err { OnErr result (¬ (Within T.MAX n)) }
@@ -140,23 +140,23 @@ impl<T: Integer> Frac<T> {
     }
 
     /// The product, refused exactly where its lowest terms are more than the greatest value.
-    pub fn times(self, other: Self) -> Result<Self, PartWide>
+    pub(crate) fn product(self, other: Self) -> Result<Self, PartWide>
         ensures ok { IfOk result (λ r. r ≡ mul self other) }
         ensures fits { IfOk result (λ r. Fits T.MAX (mul self other)) }
         ensures err { OnErr result (¬ (Fits T.MAX (mul self other))) }
     {
         if self.num.is_zero() {
-            return Ok(Frac::nothing());
+            return Ok(Frac::zero());
         }
         if other.num.is_zero() {
-            return Ok(Frac::nothing());
+            return Ok(Frac::zero());
         }
-        self.times_crosswise(other)
+        self.product_crosswise(other)
     }
 
     /// The product by parts that are divided crosswise: a/b * c/d = (a/g)(c/h) / ((b/h)(d/g)), with g = gcd(a, d) and
     /// h = gcd(c, b).
-    fn times_crosswise(self, other: Self) -> Result<Self, PartWide>
+    fn product_crosswise(self, other: Self) -> Result<Self, PartWide>
         ensures ok { IfOk result (λ r. r ≡ mul self other) }
         ensures fits { IfOk result (λ r. Fits T.MAX (mul self other)) }
         ensures err { OnErr result (¬ (Fits T.MAX (mul self other))) }
@@ -176,7 +176,7 @@ impl<T: Integer> Frac<T> {
 
     /// The sum, refused exactly where, over the least common denominator, that denominator, either
     /// term or the result is more than the greatest value.
-    pub fn plus(self, other: Self) -> Result<Self, PartWide>
+    pub(crate) fn sum(self, other: Self) -> Result<Self, PartWide>
         ensures ok { IfOk result (λ r. r ≡ add self other) }
         ensures fits { IfOk result (λ r. SumFits T.MAX self other) }
         ensures err { OnErr result (¬ (SumFits T.MAX self other)) }
@@ -193,12 +193,12 @@ impl<T: Integer> Frac<T> {
                 None => Err(PartWide),
             };
         }
-        self.plus_over_common(other)
+        self.sum_over_common(other)
     }
 
     /// The sum over the least common denominator: with g = gcd(b, d), a/b + c/d = (a(d/g) + c(b/g)) / ((b/g)d),
     /// where only divisors of g can be left in common.
-    fn plus_over_common(self, other: Self) -> Result<Self, PartWide>
+    fn sum_over_common(self, other: Self) -> Result<Self, PartWide>
         ensures ok { IfOk result (λ r. r ≡ add self other) }
         ensures fits { IfOk result (λ r. SumFits T.MAX self other) }
         ensures err { OnErr result (¬ (SumFits T.MAX self other)) }
@@ -239,26 +239,26 @@ impl<T: Integer> Frac<T> {
     }
 
     /// The difference, refused as the sum with the other sign.
-    pub fn less(self, other: Self) -> Result<Self, PartWide>
+    pub(crate) fn difference(self, other: Self) -> Result<Self, PartWide>
         ensures ok { IfOk result (λ r. r ≡ add self (neg other)) }
         ensures fits { IfOk result (λ r. SumFits T.MAX self (neg other)) }
         ensures err { OnErr result (¬ (SumFits T.MAX self (neg other))) }
     {
-        self.plus(other.negated())
+        self.sum(other.negated())
     }
 
     /// The quotient by a number that isn't 0, refused exactly where its lowest terms are more than the greatest value.
-    pub fn by(self, other: Self) -> Result<Self, PartWide>
+    pub(crate) fn quotient(self, other: Self) -> Result<Self, PartWide>
         requires { other.num ≢ pos 0 }
         ensures ok { IfOk result (λ r. r ≡ mul (inv other) self) }
         ensures fits { IfOk result (λ r. Fits T.MAX (mul (inv other) self)) }
         ensures err { OnErr result (¬ (Fits T.MAX (mul (inv other) self))) }
     {
-        other.inverted().times(self)
+        other.inverted().product(self)
     }
 
     /// The order of the values.
-    pub fn compare(self, other: Self) -> Ordering
+    pub(crate) fn order(self, other: Self) -> Ordering
         ensures { result ≡ order_of self other }
     {
         if is_minus(self.num) {
@@ -275,7 +275,7 @@ impl<T: Integer> Frac<T> {
     }
 
     /// The numerator and the denominator.
-    pub fn both(self) -> (i128, i128)
+    pub(crate) fn parts(self) -> (i128, i128)
         ensures num { result.0 ≡ self.num }
         ensures den { result.1 ≡ pos self.den }
         ensures fits { Fits T.MAX self }
@@ -284,14 +284,14 @@ impl<T: Integer> Frac<T> {
     }
 
     /// Whether the number is 0.
-    pub fn is_nothing(self) -> bool
+    pub(crate) fn is_zero(self) -> bool
         ensures { result ≡ is_zero_whole self.num }
     {
         self.num.is_zero()
     }
 
     /// The sign: -1, 0 or 1.
-    pub fn signum(self) -> i32
+    pub(crate) fn sign(self) -> i32
         ensures { result ≡ signum self.num }
     {
         if self.num.is_zero() {

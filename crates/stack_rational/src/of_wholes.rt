@@ -14,7 +14,7 @@ pub fn whole(n: i128) -> Frac<i128>
     requires { IsFitting n }
     ensures { result ≡ of n }
 {
-    match Frac::from_whole(n) {
+    match Exact::from_whole(n) {
         Ok(fraction) => fraction,
         Err(_) => unreachable!(),
     }
@@ -27,7 +27,7 @@ pub fn over(n: i128, d: i128) -> Frac<i128>
     requires positive { pos 0 ≺ d }
     ensures { result ≡ over n d }
 {
-    match whole(n).quotient(whole(d)) {
+    match Exact::quotient(whole(n), whole(d)) {
         Ok(quotient) => quotient,
         Err(_) => unreachable!(),
     }

@@ -2,7 +2,7 @@
 
 ghost use Rattle.std.specs.Prelude.{IfOk};
 ghost use Rattle.stack_yield.specs.Kept.{region_view};
-ghost use Rattle.stack_yield.specs.RegionText.{CanPrint};
+ghost use Rattle.stack_yield.specs.RegionText.{CanPrintRegion};
 
 use crate::drawings::{Drawing, HOVERING, Live, PRESSURE, PUSH, STANDING, surveyed};
 use stack_contact::types::Survey;
@@ -24,7 +24,7 @@ fn region_of(
     text: &[u8],
     budget: u32,
 ) -> Result<Result<Region, RegionError>, Fail>
-    ensures { IfOk result (λ r. IfOk r (λ g. CanPrint (region_view g))) }
+    ensures { IfOk result (λ r. IfOk r (λ g. CanPrintRegion (region_view g))) }
 {
     if budget == 0 {
         return Err(Fail::from("some pivots are needed"));

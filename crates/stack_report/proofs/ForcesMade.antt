@@ -16,7 +16,7 @@ use Rattle.stack_statics.specs.Balance.{force_x_of, force_y_of}
 use Rattle.stack_equilibrium.specs.SurveyScene.{scene_bearing_of}
 use Rattle.stack_algebra.proofs.Conjunctions.{left_true, right_true}
 use Rattle.stack_equilibrium.specs.declared.force.Force.{Force}
-use Rattle.stack_equilibrium.specs.WrittenSums.{joint_at, written_force_x, written_force_y, written_bearing_force}
+use Rattle.stack_equilibrium.specs.WrittenSums.{lever_at, written_force_x, written_force_y, written_bearing_force}
 use Rattle.stack_report.specs.ForceNumbers.{x_fits, y_fits, force_fits}
 
 abbrev made_if : {B : Type 0} → Bool → B → Result B Wide
@@ -49,11 +49,11 @@ abbrev pub y_of : Frame → Push → ℤ
 y_of t f = f.a.value *ℤ t.tx +ℤ f.b.value *ℤ t.ty
 
 module _ (z : Bearing) (f : Push) where
-  x_is : written_force_x (joint_at z.at z) f ≡ made_if (x_fits z.frame f.a.value f.b.value) (whole (x_of z.frame f))
+  x_is : written_force_x (lever_at z.at z) f ≡ made_if (x_fits z.frame f.a.value f.b.value) (whole (x_of z.frame f))
   unfolding written_force_x
   x_is = after (f.b.value *ℤ z.frame.tx) _ _ _ (after (f.a.value *ℤ z.frame.ty) _ _ _ refl)
 
-  y_is : written_force_y (joint_at z.at z) f ≡ made_if (y_fits z.frame f.a.value f.b.value) (whole (y_of z.frame f))
+  y_is : written_force_y (lever_at z.at z) f ≡ made_if (y_fits z.frame f.a.value f.b.value) (whole (y_of z.frame f))
   unfolding written_force_y
   y_is = after (f.a.value *ℤ z.frame.tx) _ _ _ (after (f.b.value *ℤ z.frame.ty) _ _ _ refl)
 
@@ -62,8 +62,8 @@ force_with z f = record { x = whole (x_of z.frame f); y = whole (y_of z.frame f)
 
 force_is : (z : Bearing) (f : Push) → written_bearing_force z f ≡ made_if (force_fits z f) (force_with z f)
 unfolding written_bearing_force
-force_is z f = both (written_force_x (joint_at z.at z) f) _ _ _ (whole (x_of z.frame f)) _ (x_is z f)
-    (mapped (written_force_y (joint_at z.at z) f) _ (λ y. record { x = whole (x_of z.frame f); y = y })
+force_is z f = both (written_force_x (lever_at z.at z) f) _ _ _ (whole (x_of z.frame f)) _ (x_is z f)
+    (mapped (written_force_y (lever_at z.at z) f) _ (λ y. record { x = whole (x_of z.frame f); y = y })
     (whole (y_of z.frame f)) (y_is z f))
 
 -- a force that is made

@@ -25,13 +25,14 @@ unfoldable pub directions_text : Bearing → List ℕ
 directions_text z = pair_text z.frame.tx z.frame.ty ++ codes " " ++ pair_text z.cone.p z.cone.q
 
 -- the point of a bearing, and then its tangent and its coefficient of friction
-unfoldable pub bearing_numbers : Bearing → List ℕ
-bearing_numbers z = point_text z.at ++ codes " " ++ directions_text z
+unfoldable pub point_and_directions : Bearing → List ℕ
+point_and_directions z = point_text z.at ++ codes " " ++ directions_text z
 
 -- bearing number k, from 0, between the bodies with these names
 abbrev pub bearing_text : ℕ → List ℕ → List ℕ → Bearing → List ℕ
 bearing_text k first second z =
-    codes "bearing " ++ decimal (k + 1) ++ codes " " ++ first ++ codes " " ++ second ++ codes " " ++ bearing_numbers z
+    codes "bearing " ++ decimal (k + 1) ++ codes " " ++ first ++ codes " " ++ second ++ codes " "
+        ++ point_and_directions z
 
 -- touch number k, from 0
 abbrev pub touch_text : ℕ → List ℕ → List ℕ → Touch → List ℕ

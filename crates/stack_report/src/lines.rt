@@ -2,7 +2,8 @@
 
 ghost use Rattle.std.specs.Prelude.{◌≡◌, ◌+◌, Some};
 ghost use Rattle.stack_model.specs.ModelView.{model_view};
-ghost use Rattle.stack_report.specs.ContactTable.{name_of, pair_text, directions_text, bearing_numbers, bearing_text};
+ghost use Rattle.stack_report.specs.ContactTable.{name_of, pair_text, directions_text, point_and_directions};
+ghost use Rattle.stack_report.specs.ContactTable.{bearing_text};
 ghost use Rattle.stack_report.specs.ContactTable.{touch_text};
 
 use stack_contact::types::{Bearing, Touch};
@@ -99,9 +100,9 @@ impl fmt::Display for Directions {
 }
 
 impl fmt::Display for BearingNumbers {
-    ghost output = { λ n. Some (bearing_numbers n.bearing) };
+    ghost output = { λ n. Some (point_and_directions n.bearing) };
 
-    #[tactic(auto, unfolding(crate::specs::ContactTable::bearing_numbers))]
+    #[tactic(auto, unfolding(crate::specs::ContactTable::point_and_directions))]
     fn fmt<W: fmt::Write>(&self, f: &mut fmt::Formatter<W>) -> fmt::Result {
         let at = point(self.bearing.at);
         let directions = Directions {

@@ -11,13 +11,13 @@ use Rattle.stack_table.specs.Problem.{Problem}
 use Rattle.stack_table.specs.WrittenTable.{written_table}
 use Rattle.stack_run.specs.WrittenRun.{End, over, written_run}
 use Rattle.stack_run.specs.ProblemRun.{run_at, IsNowhereTooWide, WiderRunIsSame}
-use Rattle.stack_rows.specs.declared.whole.Whole.{Ghosts}
+use Rattle.stack_rows.specs.declared.whole.RowNumber.{Ghosts}
 use Rattle.stack_tableau.specs.declared.end_kind.EndKind.{EndKind}
 use Rattle.stack_tableau.specs.declared.end_kind.EndKind.TheVariants.{Infeasible, Feasible, Optimal, Ray}
 use Rattle.stack_revised.specs.declared.stops.RevisedStop.{RevisedStop}
 use Rattle.stack_revised.specs.declared.stops.RevisedStop.TheVariants.{TooWide, Spent, Unsettled, Memory}
-use Rattle.stack_tableau.specs.declared.stops.Stop.{Stop}
-use Rattle.stack_tableau.specs.declared.stops.Stop.TheVariants as stops
+use Rattle.stack_tableau.specs.declared.stops.RunStop.{RunStop}
+use Rattle.stack_tableau.specs.declared.stops.RunStop.TheVariants as stops
 use Rattle.stack_tableau.specs.Tells.{TellsEnd}
 use Rattle.stack_revised.specs.declared.last.Last.{Last}
 use Rattle.stack_tableau.specs.EndKinds.{end_at}
@@ -38,7 +38,7 @@ tells_last (Err Unsettled) X h k = tt
 tells_last (Err Memory) X h k = tt
 
 -- a run over rows that is stopped
-pub stop_told : (e : Stop) (X : End Fraction) → TellsEnd false e X → tells_stop (stopped_as e) X
+pub stop_told : (e : RunStop) (X : End Fraction) → TellsEnd false e X → tells_stop (stopped_as e) X
 stop_told (stops.TooWide p) X h = h
 stop_told stops.Spent X h = h
 stop_told stops.Unsettled X h = tt

@@ -3,13 +3,13 @@ use Rattle.std.specs.Prelude.{◌≡◌, ℕ, Bool, false, eqb, get_or, ⊤, Res
 use Rattle.stack_algebra.specs.Fraction.{Fraction}
 use Rattle.stack_table.specs.Table.{Shape}
 use Rattle.stack_run.specs.WrittenRun.{End, wide, over}
-use Rattle.stack_rows.specs.declared.whole.Whole.{Ghosts}
+use Rattle.stack_rows.specs.declared.whole.RowNumber.{Ghosts}
 use Rattle.stack_tableau.specs.declared.end_kind.EndKind.{EndKind}
 use Rattle.stack_tableau.specs.declared.end_kind.EndKind.TheVariants.{Infeasible, Feasible, Optimal, Ray}
 use Rattle.stack_revised.specs.declared.stops.RevisedStop.{RevisedStop}
 use Rattle.stack_revised.specs.declared.stops.RevisedStop.TheVariants.{TooWide, Spent, Unsettled, Memory}
-use Rattle.stack_tableau.specs.declared.stops.Stop.{Stop}
-use Rattle.stack_tableau.specs.declared.stops.Stop.TheVariants as stops
+use Rattle.stack_tableau.specs.declared.stops.RunStop.{RunStop}
+use Rattle.stack_tableau.specs.declared.stops.RunStop.TheVariants as stops
 use Rattle.stack_run.specs.PhaseStops.{spot_of}
 use Rattle.stack_revised.specs.declared.last.Last.{Last}
 use Rattle.stack_revised.specs.declared.ended.RevisedEnd.{RevisedEnd}
@@ -57,7 +57,7 @@ tells_stop Unsettled X = ⊤
 tells_stop Memory X = ⊤
 
 -- a refusal of a run over rows
-abbrev pub stopped_as : Stop → RevisedStop
+abbrev pub stopped_as : RunStop → RevisedStop
 stopped_as (stops.TooWide p) = TooWide p
 stopped_as stops.Spent = Spent
 stopped_as stops.Unsettled = Unsettled
@@ -75,6 +75,6 @@ TellsLast (Ok l) X = value_of_last l ≡ X
 TellsLast (Err e) X = tells_stop e X
 
 -- what the answer of a run says of the written run: an end is its end with its last table
-abbrev pub Tells : Result RevisedEnd RevisedStop → End Fraction → Type 0
-Tells (Ok x) X = value_of_end x ≡ X
-Tells (Err e) X = tells_stop e X
+abbrev pub TellsWrittenRun : Result RevisedEnd RevisedStop → End Fraction → Type 0
+TellsWrittenRun (Ok x) X = value_of_end x ≡ X
+TellsWrittenRun (Err e) X = tells_stop e X

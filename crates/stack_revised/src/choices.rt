@@ -7,12 +7,12 @@ ghost use Rattle.stack_bland.specs.Choice.{entering};
 ghost use Rattle.stack_inverse.specs.Seen.{shape_of_revised, table_of_revised};
 
 use stack_inverse::revised_table::RevisedTable;
-use stack_rows::whole::Whole;
+use stack_rows::whole::RowNumber;
 
 /// The least column below `among` with a negative objective cell, number by number.
 ///
 /// May give up; no clause says when.
-fn entering_by_numbers<T: Whole>(t: &RevisedTable<T>, among: usize) -> Option<Option<usize>>
+fn entering_by_numbers<T: RowNumber>(t: &RevisedTable<T>, among: usize) -> Option<Option<usize>>
     requires { among ≤ plain (shape_of_revised t.now) }
     ensures value { IfSome result (λ r.
         r ≡ entering ordered_fractions (shape_of_revised t.now) (table_of_revised t.now) among) }
@@ -31,7 +31,7 @@ fn entering_by_numbers<T: Whole>(t: &RevisedTable<T>, among: usize) -> Option<Op
 /// The least column below `among` with a negative objective cell.
 ///
 /// May give up; no clause says when.
-pub fn entering<T: Whole>(t: &RevisedTable<T>, among: usize) -> Option<Option<usize>>
+pub fn entering<T: RowNumber>(t: &RevisedTable<T>, among: usize) -> Option<Option<usize>>
     requires { among ≤ plain (shape_of_revised t.now) }
     ensures value { IfSome result (λ r.
         r ≡ entering ordered_fractions (shape_of_revised t.now) (table_of_revised t.now) among) }

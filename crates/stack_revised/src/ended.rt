@@ -2,11 +2,11 @@
 
 use crate::last::Last;
 use stack_rows::narrow::Narrow;
-use stack_rows::wide::Wide;
+use stack_rows::wide::Broad;
 
 /// How a run ends, and its last table, in numbers of 64 bits or of 128.
 #[derive(Drop)]
 pub enum RevisedEnd {
     AtNarrow(Last<Narrow>),
-    AtWide(Last<Wide>),
+    AtWide(Last<Broad>),
 }

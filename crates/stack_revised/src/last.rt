@@ -6,12 +6,12 @@ ghost use Rattle.stack_inverse.specs.Seen.{shape_of_revised, number_in};
 ghost use Rattle.stack_tableau.specs.declared.end_kind.EndKind.TheVariants as end_kind;
 
 use stack_inverse::revised_table::RevisedTable;
-use stack_rows::whole::Whole;
+use stack_rows::whole::RowNumber;
 use stack_tableau::EndKind;
 
 /// How a run ends, and its last table.
 #[derive(Drop)]
-pub struct Last<T: Whole> {
+pub struct Last<T: RowNumber> {
     pub kind: EndKind,
     pub table: RevisedTable<T>,
     /// Whether each row was flipped.

@@ -7,10 +7,10 @@ ghost use Rattle.stack_revised.specs.Ended.{shape_of_last, flips_of_last, reads_
 use crate::last::Last;
 use stack_rational::Frac;
 use stack_rows::cells::cell;
-use stack_rows::whole::Whole;
+use stack_rows::whole::RowNumber;
 use stack_tableau::LastTable;
 
-impl<T: Whole> LastTable for Last<T> {
+impl<T: RowNumber> LastTable for Last<T> {
     ghost shape = { λ l. shape_of_last l };
 
     ghost table = { λ l. table_of_revised l.table };

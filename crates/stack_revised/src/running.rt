@@ -10,7 +10,7 @@ ghost use Rattle.stack_rows.specs.RowForm.{number_at};
 ghost use Rattle.stack_inverse.specs.Seen.{shape_of_revised, table_of_revised, number_in};
 ghost use Rattle.stack_inverse.specs.FirstTable.{flips};
 ghost use Rattle.stack_revised.specs.Ended.{shape_of_last, flips_of_last, value_of_last, shape_of_end, flips_of_end};
-ghost use Rattle.stack_revised.specs.Ended.{TellsLast, Tells, TellsNothing, stopped_as};
+ghost use Rattle.stack_revised.specs.Ended.{TellsLast, TellsWrittenRun, TellsNothing, stopped_as};
 ghost use Rattle.stack_tableau.specs.EndKinds.{end_at};
 ghost use Rattle.stack_tableau.specs.declared.end_kind.EndKind.TheVariants as end_kind;
 ghost use Rattle.stack_revised.specs.declared.stops.RevisedStop.TheVariants as revised_stop;
@@ -22,11 +22,11 @@ use crate::tableau::Revised;
 use stack_inverse::revised_table::RevisedTable;
 use stack_inverse::stops::NoTable;
 use stack_rows::narrow::Narrow;
-use stack_rows::whole::Whole;
-use stack_rows::wide::Wide;
+use stack_rows::whole::RowNumber;
+use stack_rows::wide::Broad;
 use stack_run::wider_run_law;
 use stack_table::problem::Problem;
-use stack_tableau::{EndKind, Stop, run_table};
+use stack_tableau::{EndKind, RunStop, run_table};
 use std::alloc::Global;
 
 /// Whether each row is flipped.
@@ -42,7 +42,7 @@ fn flips(alloc: Global, right: &[i128]) -> Result<Vec<bool>, RevisedStop>
 }
 
 /// The numbers of a column, row by row. May give up; no clause says when.
-fn column_of<T: Whole>(
+fn column_of<T: RowNumber>(
     alloc: Global,
     t: &RevisedTable<T>,
     column: usize,
@@ -64,7 +64,7 @@ fn column_of<T: Whole>(
 }
 
 /// The numbers of a ray's column; nothing at another end.
-fn read_column<T: Whole>(
+fn read_column<T: RowNumber>(
     alloc: Global,
     t: &RevisedTable<T>,
     kind: EndKind,
@@ -89,7 +89,7 @@ fn read_column<T: Whole>(
 }
 
 /// The end of a run with its last table.
-fn last_of<T: Whole>(
+fn last_of<T: RowNumber>(
     alloc: Global,
     table: RevisedTable<T>,
     kind: EndKind,
@@ -114,18 +114,18 @@ fn last_of<T: Whole>(
 }
 
 /// Why a run over rows has no end, as a run of a problem tells it.
-fn stopped(stop: Stop) -> RevisedStop
+fn stopped(stop: RunStop) -> RevisedStop
     ensures { result ≡ stopped_as stop }
 {
     match stop {
-        Stop::TooWide(place) => RevisedStop::TooWide(place),
-        Stop::Spent => RevisedStop::Spent,
-        Stop::Unsettled => RevisedStop::Unsettled,
+        RunStop::TooWide(place) => RevisedStop::TooWide(place),
+        RunStop::Spent => RevisedStop::Spent,
+        RunStop::Unsettled => RevisedStop::Unsettled,
     }
 }
 
 /// The run at one width.
-fn run_at_width<T: Whole>(alloc: Global, p: &Problem, budget: u32) -> Result<Last<T>, RevisedStop>
+fn run_at_width<T: RowNumber>(alloc: Global, p: &Problem, budget: u32) -> Result<Last<T>, RevisedStop>
     requires { IsProblem p.now }
     ensures shape { IfOk result (λ l. shape_of_last l ≡ shape_of_problem p.now) }
     ensures flips { IfOk result (λ l. flips_of_last l ≡ flipped (problem_of p.now)) }
@@ -168,14 +168,15 @@ fn run_narrow(alloc: Global, p: &Problem, budget: u32) -> Result<Last<Narrow>, R
 /// The run of a problem within a budget of pivots: its end is that of the written run at 128 bits, with its last table.
 ///
 /// `TooWide` names the first operation of the written run that is too wide for 128 bits, and comes only where there is
-/// one. `Spent` comes only where the written run is over its budget. The run may also be given up, mostly since a number
-/// that it makes doesn't fit: no clause says when. That says nothing of the written run, and want of memory neither.
+/// one. `Spent` comes only where the written run is over its budget. The run may also be given up, mostly since a
+/// number that it makes doesn't fit: no clause says when. That says nothing of the written run, and want of memory
+/// neither.
 pub fn run_revised(alloc: Global, p: &Problem, budget: u32) -> Result<RevisedEnd, RevisedStop>
     requires problem { IsProblem p.now }
     requires some { budget ≢ 0 }
     ensures shape { IfOk result (λ e. shape_of_end e ≡ shape_of_problem p.now) }
     ensures flips { IfOk result (λ e. flips_of_end e ≡ flipped (problem_of p.now)) }
-    ensures value { Tells result (run_at widest (problem_of p.now) budget) }
+    ensures value { TellsWrittenRun result (run_at widest (problem_of p.now) budget) }
 {
     wider_run_law();
     match run_narrow(alloc, p, budget) {
@@ -185,7 +186,7 @@ pub fn run_revised(alloc: Global, p: &Problem, budget: u32) -> Result<RevisedEnd
         Err(RevisedStop::TooWide(_)) => {}
         Err(RevisedStop::Unsettled) => {}
     }
-    match run_at_width::<Wide>(alloc, p, budget) {
+    match run_at_width::<Broad>(alloc, p, budget) {
         Ok(last) => Ok(RevisedEnd::AtWide(last)),
         Err(stop) => Err(stop),
     }

@@ -7,26 +7,26 @@ ghost use Rattle.stack_inverse.specs.Seen.{shape_of_revised, table_of_revised, I
 use crate::choices::entering;
 use stack_inverse::revised_table::RevisedTable;
 use stack_rational::OpWide;
-use stack_rows::whole::Whole;
-use stack_tableau::{Refusal, Tableau};
+use stack_rows::whole::RowNumber;
+use stack_tableau::{TurnRefusal, Tableau};
 use std::alloc::AllocError;
 use std::cmp::Ordering;
 
 /// The revised table of a run.
 #[derive(Drop)]
-pub struct Revised<T: Whole> {
+pub struct Revised<T: RowNumber> {
     pub table: RevisedTable<T>,
 }
 
 /// The right side of a row beside its positive cell.
 #[derive(Copy)]
-pub struct Pair<T: Whole> {
+pub struct RatioPair<T: RowNumber> {
     right: T,
     cell: T,
     ghost positive: { pos 0 <ℤ T.value cell },
 }
 
-impl<T: Whole> Clone for Pair<T> {
+impl<T: RowNumber> Clone for RatioPair<T> {
     ghost use Rattle.std.specs.Prelude.{⊤};
 
     ghost is_clone = { λ v w. w ≡ v };
@@ -38,8 +38,8 @@ impl<T: Whole> Clone for Pair<T> {
     }
 }
 
-impl<T: Whole> Tableau for Revised<T> {
-    type Ratio = Pair<T>;
+impl<T: RowNumber> Tableau for Revised<T> {
+    type Ratio = RatioPair<T>;
 
     ghost shape = { λ t. shape_of_revised t.table };
 
@@ -83,16 +83,16 @@ impl<T: Whole> Tableau for Revised<T> {
         self.table.enter(column)
     }
 
-    fn ratio_of(&self, i: usize, _column: usize) -> Result<Option<Pair<T>>, OpWide> {
+    fn ratio_of(&self, i: usize, _column: usize) -> Result<Option<RatioPair<T>>, OpWide> {
         let cell = self.table.entered(i);
         if !cell.is_positive() {
             return Ok(None);
         }
         let right = self.table.right(i);
-        Ok(Some(Pair { right, cell }))
+        Ok(Some(RatioPair { right, cell }))
     }
 
-    fn order_of(x: Pair<T>, y: Pair<T>) -> Option<Ordering> {
+    fn order_of(x: RatioPair<T>, y: RatioPair<T>) -> Option<Ordering> {
         let order = x.right.order(x.cell, y.right, y.cell)?;
         Some(order)
     }
@@ -106,11 +106,11 @@ impl<T: Whole> Tableau for Revised<T> {
         self.table.right(self.table.rows()).is_negative()
     }
 
-    fn pivot_at(&mut self, row: usize, column: usize) -> Result<(), Refusal> {
+    fn pivot_at(&mut self, row: usize, column: usize) -> Result<(), TurnRefusal> {
         match self.table.pivot(row, column) {
             Ok(()) => Ok(()),
-            Err(stack_inverse::stops::Refusal::TooWide(spot)) => Err(Refusal::TooWide(spot)),
-            Err(stack_inverse::stops::Refusal::Unsettled) => Err(Refusal::Unsettled),
+            Err(stack_inverse::stops::TurnRefusal::TooWide(spot)) => Err(TurnRefusal::TooWide(spot)),
+            Err(stack_inverse::stops::TurnRefusal::Unsettled) => Err(TurnRefusal::Unsettled),
         }
     }
 

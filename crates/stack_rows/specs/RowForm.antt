@@ -11,7 +11,7 @@ abbrev pub number_at : {V : Type 0} → (V → ℤ) → List V → ℕ → ℤ
 number_at value xs k = at_value value (pos 0) xs k
 
 -- a row step with the factors k and t fits 64 bits: with a number of at most b and one of at most p in the pivot row
-pub record IsShort (k t : ℤ) (b p : ℕ) : Type 0 where
+pub record StepIsShort (k t : ℤ) (b p : ℕ) : Type 0 where
   pub own : b ≤ 2 ^ 63 - 1
   pub pivot : p ≤ 2 ^ 63 - 1
   pub times : unsigned_abs k ≤ 2 ^ 63 - 1
@@ -19,10 +19,10 @@ pub record IsShort (k t : ℤ) (b p : ℕ) : Type 0 where
   pub both : b * unsigned_abs k + unsigned_abs t * p ≤ 2 ^ 63 - 1
 
 -- a row step isn't too wide for m in any column, and fits 64 bits in each where that is told
-pub record IsReady {V : Type 0} (m : ℤ) (value : V → ℤ) (row pivot : List V) (k t : ℤ) (told : Bool) : Type 0 where
+pub record RowStepFits {V : Type 0} (m : ℤ) (value : V → ℤ) (row pivot : List V) (k t : ℤ) (told : Bool) : Type 0 where
   pub fits : (j : ℕ) → unsigned_abs (number_at value row j) * unsigned_abs k
       + unsigned_abs t * unsigned_abs (number_at value pivot j) ≤ unsigned_abs m
-  pub short : told ≡ true → (j : ℕ) → IsShort k t (unsigned_abs (number_at value row j))
+  pub short : told ≡ true → (j : ℕ) → StepIsShort k t (unsigned_abs (number_at value row j))
       (unsigned_abs (number_at value pivot j))
 
 -- numbers times k less t times those of the pivot row
@@ -49,7 +49,7 @@ pub record IsTaken {V : Type 0} (value : V → ℤ) (old : List V) (w : ℤ) (pi
 
 -- what a row step over d makes of numbers of at most b, and of at most p in the pivot row, isn't too wide for m, nor
 -- is its denominator r before it is reduced
-pub record IsFitting (m d k t : ℤ) (b p : ℕ) (r : ℤ) : Type 0 where
+pub record StepFits (m d k t : ℤ) (b p : ℕ) (r : ℤ) : Type 0 where
   pub fits : b * unsigned_abs k + unsigned_abs t * p ≤ unsigned_abs m
   pub under : r ≡ d *ℤ k
   pub small : unsigned_abs r ≤ unsigned_abs m

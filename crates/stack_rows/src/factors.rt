@@ -1,9 +1,9 @@
 //! What a row step takes of the pivot row, and whether it fits.
 
 ghost use Rattle.std.specs.Prelude.{◌≡◌, ◌≢◌, ◌≤◌, ◌+◌, ◌*◌, pos, ◌*ℤ◌, ◌<ℤ◌, unsigned_abs, IfSome, true};
-ghost use Rattle.stack_rows.specs.RowForm.{IsFitting, IsShort};
+ghost use Rattle.stack_rows.specs.RowForm.{StepFits, StepIsShort};
 
-use crate::whole::Whole;
+use crate::whole::RowNumber;
 
 /// How many times as great a row's numbers are made, and how many times the pivot row's are then taken from them.
 #[derive(Clone, Copy)]
@@ -14,7 +14,7 @@ pub struct Factors<T> {
 
 /// The factors of a row step: they are to each other as the denominator of the pivot row to the row's number in the
 /// pivot's column. May give up; no clause says when.
-pub fn factors_of<T: Whole>(factor: T, pivot_under: T) -> Option<Factors<T>>
+pub fn factors_of<T: RowNumber>(factor: T, pivot_under: T) -> Option<Factors<T>>
     ensures some { IfSome result (λ r. pos 0 <ℤ T.value r.times) }
     ensures cross { IfSome result (λ r. T.value factor *ℤ T.value r.times
         ≡ T.value r.less *ℤ T.value pivot_under) }
@@ -29,7 +29,7 @@ pub fn factors_of<T: Whole>(factor: T, pivot_under: T) -> Option<Factors<T>>
 }
 
 /// At least what a step makes of numbers of at most these sizes. May give up; no clause says when.
-fn most_of<T: Whole>(factors: Factors<T>, own: T, pivot: T) -> Option<T>
+fn most_of<T: RowNumber>(factors: Factors<T>, own: T, pivot: T) -> Option<T>
     ensures { IfSome result (λ r. unsigned_abs (T.value own) * unsigned_abs (T.value factors.times)
         + unsigned_abs (T.value factors.less) * unsigned_abs (T.value pivot) ≤ unsigned_abs (T.value r)) }
 {
@@ -40,7 +40,7 @@ fn most_of<T: Whole>(factors: Factors<T>, own: T, pivot: T) -> Option<T>
 }
 
 /// The same, or 0, which says nothing: no clause says when it is 0.
-pub fn top_after<T: Whole>(factors: Factors<T>, own: T, pivot: T) -> T
+pub fn top_after<T: RowNumber>(factors: Factors<T>, own: T, pivot: T) -> T
     ensures { T.value result ≢ pos 0 → unsigned_abs (T.value own) * unsigned_abs (T.value factors.times)
         + unsigned_abs (T.value factors.less) * unsigned_abs (T.value pivot) ≤ unsigned_abs (T.value result) }
 {
@@ -51,8 +51,8 @@ pub fn top_after<T: Whole>(factors: Factors<T>, own: T, pivot: T) -> T
 }
 
 /// Whether a step of numbers of at most these sizes fits 64 bits. No clause says when the answer is no.
-pub fn is_short<T: Whole>(factors: Factors<T>, own: T, pivot: T) -> bool
-    ensures { result ≡ true → IsShort (T.value factors.times) (T.value factors.less)
+pub fn is_short<T: RowNumber>(factors: Factors<T>, own: T, pivot: T) -> bool
+    ensures { result ≡ true → StepIsShort (T.value factors.times) (T.value factors.less)
         (unsigned_abs (T.value own)) (unsigned_abs (T.value pivot)) }
 {
     if !own.is_short() {
@@ -75,8 +75,8 @@ pub fn is_short<T: Whole>(factors: Factors<T>, own: T, pivot: T) -> bool
 
 /// The denominator of a row before it is reduced, which fits with all that the step makes of numbers of at most these
 /// sizes. May give up; no clause says when.
-pub fn step_under<T: Whole>(under: T, factors: Factors<T>, own: T, pivot: T) -> Option<T>
-    ensures { IfSome result (λ r. IsFitting T.MAX (T.value under) (T.value factors.times) (T.value factors.less)
+pub fn step_under<T: RowNumber>(under: T, factors: Factors<T>, own: T, pivot: T) -> Option<T>
+    ensures { IfSome result (λ r. StepFits T.MAX (T.value under) (T.value factors.times) (T.value factors.less)
         (unsigned_abs (T.value own)) (unsigned_abs (T.value pivot)) (T.value r)) }
 {
     let _most = most_of(factors, own, pivot)?;

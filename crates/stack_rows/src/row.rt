@@ -2,16 +2,17 @@
 
 ghost use Rattle.std.specs.Prelude.{◌≡◌, ℕ, ◌<◌, ◌≤◌, ◌+◌, ◌*◌, pos, ◌*ℤ◌, ◌-ℤ◌, ◌<ℤ◌, unsigned_abs, length, IfSome};
 ghost use Rattle.std.specs.Prelude.{true};
-ghost use Rattle.stack_rows.specs.RowForm.{number_at, AreJumps, IsShort, IsReady, IsCombined, IsSameRow, IsTaken};
+ghost use Rattle.stack_rows.specs.RowForm.{number_at, AreJumps, StepIsShort, RowStepFits, IsCombined, IsSameRow};
+ghost use Rattle.stack_rows.specs.RowForm.{IsTaken};
 
 use crate::factors::Factors;
-use crate::whole::{Divider, Whole};
+use crate::whole::{Divider, RowNumber};
 
 /// A number of a row, times k and less t times that of the pivot row.
-fn term<T: Whole>(number: T, other: T, k: T, t: T, short: bool) -> T
+fn term<T: RowNumber>(number: T, other: T, k: T, t: T, short: bool) -> T
     requires fits { unsigned_abs (T.value number) * unsigned_abs (T.value k)
         + unsigned_abs (T.value t) * unsigned_abs (T.value other) ≤ unsigned_abs T.MAX }
-    requires short { short ≡ true → IsShort (T.value k) (T.value t) (unsigned_abs (T.value number))
+    requires short { short ≡ true → StepIsShort (T.value k) (T.value t) (unsigned_abs (T.value number))
         (unsigned_abs (T.value other)) }
     ensures { T.value result ≡ T.value number *ℤ T.value k -ℤ T.value t *ℤ T.value other }
 {
@@ -23,15 +24,15 @@ fn term<T: Whole>(number: T, other: T, k: T, t: T, short: bool) -> T
 }
 
 /// Whether one of the numbers of a row is great, as far as one is known.
-fn is_great<T: Whole>(known: bool, number: T) -> bool {
+fn is_great<T: RowNumber>(known: bool, number: T) -> bool {
     if number.is_small() { known } else { true }
 }
 
 /// Takes from a row, whose numbers are made k times as great, t times the pivot row. Gives whether it is great then,
 /// by its numbers or by what is known of it.
-fn combine<T: Whole>(numbers: &mut [T], pivot: &[T], k: T, t: T, short: bool, known: bool) -> bool
+fn combine<T: RowNumber>(numbers: &mut [T], pivot: &[T], k: T, t: T, short: bool, known: bool) -> bool
     requires width { length pivot.now ≡ length numbers.old }
-    requires ready { IsReady T.MAX T.value numbers.old pivot.now (T.value k) (T.value t) short }
+    requires ready { RowStepFits T.MAX T.value numbers.old pivot.now (T.value k) (T.value t) short }
     ensures { IsCombined T.value numbers.old pivot.now (T.value k) (T.value t) numbers.new }
 {
     let mut great = known;
@@ -44,12 +45,12 @@ fn combine<T: Whole>(numbers: &mut [T], pivot: &[T], k: T, t: T, short: bool, kn
 }
 
 /// Takes from a row t times the pivot row, in the columns alone in which this has something: k is 1.
-fn subtract<T: Whole>(numbers: &mut [T], pivot: &[T], jumps: &[usize], k: T, t: T, short: bool)
+fn subtract<T: RowNumber>(numbers: &mut [T], pivot: &[T], jumps: &[usize], k: T, t: T, short: bool)
     requires width { length pivot.now ≡ length numbers.old }
     requires long { length jumps.now ≡ length numbers.old }
     requires jumps { AreJumps T.value pivot.now jumps.now }
     requires one { T.value k ≡ pos 1 }
-    requires ready { IsReady T.MAX T.value numbers.old pivot.now (T.value k) (T.value t) short }
+    requires ready { RowStepFits T.MAX T.value numbers.old pivot.now (T.value k) (T.value t) short }
     ensures { IsCombined T.value numbers.old pivot.now (T.value k) (T.value t) numbers.new }
 {
     let mut j = 0;
@@ -60,7 +61,7 @@ fn subtract<T: Whole>(numbers: &mut [T], pivot: &[T], jumps: &[usize], k: T, t: 
 }
 
 /// Beside each column of a row the next one after it in which the row has something.
-pub fn find_jumps<T: Whole>(row: &[T], jumps: &mut [usize])
+pub fn find_jumps<T: RowNumber>(row: &[T], jumps: &mut [usize])
     requires { length jumps.old ≡ length row.now }
     ensures { AreJumps T.value row.now jumps.new }
 {
@@ -76,7 +77,7 @@ pub fn find_jumps<T: Whole>(row: &[T], jumps: &mut [usize])
 }
 
 /// The same by either way. A row that isn't multiplied isn't told to be great: its denominator stays.
-fn change<T: Whole>(
+fn change<T: RowNumber>(
     numbers: &mut [T],
     pivot: &[T],
     jumps: &[usize],
@@ -87,7 +88,8 @@ fn change<T: Whole>(
     requires width { length pivot.now ≡ length numbers.old }
     requires long { length jumps.now ≡ length numbers.old }
     requires jumps { AreJumps T.value pivot.now jumps.now }
-    requires ready { IsReady T.MAX T.value numbers.old pivot.now (T.value factors.times) (T.value factors.less) short }
+    requires ready { RowStepFits T.MAX T.value numbers.old pivot.now (T.value factors.times) (T.value factors.less)
+        short }
     ensures { IsCombined T.value numbers.old pivot.now (T.value factors.times) (T.value factors.less) numbers.new }
 {
     if factors.times.is_one() {
@@ -99,7 +101,7 @@ fn change<T: Whole>(
 }
 
 /// A common divisor of a denominator and the last number of its row, the right side: it has little more than all have.
-fn divisor_with_last<T: Whole>(numbers: &[T], under: T) -> T {
+fn divisor_with_last<T: RowNumber>(numbers: &[T], under: T) -> T {
     match numbers.last() {
         Some(right) => right.divisor(under),
         None => under,
@@ -107,7 +109,7 @@ fn divisor_with_last<T: Whole>(numbers: &[T], under: T) -> T {
 }
 
 /// A number that should divide a denominator and all numbers of its row.
-fn content<T: Whole>(numbers: &[T], under: T) -> T {
+fn content<T: RowNumber>(numbers: &[T], under: T) -> T {
     let mut common = divisor_with_last(numbers, under).divider();
     if common.by.is_one() {
         return common.by;
@@ -125,7 +127,7 @@ fn content<T: Whole>(numbers: &[T], under: T) -> T {
 }
 
 /// Whether a number goes into another.
-fn goes_into<T: Whole>(number: T, divider: Divider<T>) -> bool {
+fn goes_into<T: RowNumber>(number: T, divider: Divider<T>) -> bool {
     if number.is_zero() {
         return true;
     }
@@ -133,7 +135,7 @@ fn goes_into<T: Whole>(number: T, divider: Divider<T>) -> bool {
 }
 
 /// Divides each number of a row, and gives whether it did. No clause says when it doesn't.
-fn divide_all<T: Whole>(numbers: &mut [T], by: T) -> bool
+fn divide_all<T: RowNumber>(numbers: &mut [T], by: T) -> bool
     ensures { result ≡ true → (j : ℕ) → number_at T.value numbers.new j *ℤ T.value by
         ≡ number_at T.value numbers.old j }
 {
@@ -158,7 +160,7 @@ struct Share<T> {
 }
 
 /// A number or its opposite, whichever goes into another a positive number of times. May give up; no clause says when.
-fn part<T: Whole>(number: T, by: T) -> Option<Share<T>>
+fn part<T: RowNumber>(number: T, by: T) -> Option<Share<T>>
     ensures { IfSome result (λ p. (T.value p.rest *ℤ T.value p.by ≡ T.value number) × (pos 0 <ℤ T.value p.rest)) }
 {
     let rest = number.divided(by)?;
@@ -178,7 +180,7 @@ fn part<T: Whole>(number: T, by: T) -> Option<Share<T>>
 
 /// Divides a row and its denominator, of either sign, by what they have in common. The denominator is positive then.
 /// May give up; no clause says when.
-pub fn settle<T: Whole>(numbers: &mut [T], under: T) -> Option<T>
+pub fn settle<T: RowNumber>(numbers: &mut [T], under: T) -> Option<T>
     ensures { IfSome result (λ e. IsSameRow T.value numbers.old (T.value under) numbers.new (T.value e)) }
 {
     let common = content(numbers, under);
@@ -194,7 +196,7 @@ pub fn settle<T: Whole>(numbers: &mut [T], under: T) -> Option<T>
 }
 
 /// The same for a row that is great; another stays as it is, if its denominator is positive.
-fn settle_great<T: Whole>(numbers: &mut [T], under: T, great: bool) -> Option<T>
+fn settle_great<T: RowNumber>(numbers: &mut [T], under: T, great: bool) -> Option<T>
     ensures { IfSome result (λ e. IsSameRow T.value numbers.old (T.value under) numbers.new (T.value e)) }
 {
     if !great && under.is_positive() {
@@ -205,7 +207,7 @@ fn settle_great<T: Whole>(numbers: &mut [T], under: T, great: bool) -> Option<T>
 
 /// Takes a multiple of the pivot row from a row, and reduces it. `over` is its denominator before it is reduced. May
 /// give up; no clause says when.
-pub fn reduce_row<T: Whole>(
+pub fn reduce_row<T: RowNumber>(
     numbers: &mut [T],
     pivot: &[T],
     jumps: &[usize],
@@ -216,7 +218,8 @@ pub fn reduce_row<T: Whole>(
     requires width { length pivot.now ≡ length numbers.old }
     requires long { length jumps.now ≡ length numbers.old }
     requires jumps { AreJumps T.value pivot.now jumps.now }
-    requires ready { IsReady T.MAX T.value numbers.old pivot.now (T.value factors.times) (T.value factors.less) short }
+    requires ready { RowStepFits T.MAX T.value numbers.old pivot.now (T.value factors.times) (T.value factors.less)
+        short }
     ensures { IfSome result (λ e. IsTaken T.value numbers.old (T.value over) pivot.now (T.value factors.times)
         (T.value factors.less) numbers.new (T.value e)) }
 {

@@ -15,7 +15,7 @@ pub struct Divider<T> {
 ///
 /// An answer that is there is exact. An operation may give up and answer None: mostly since a number doesn't fit, and a
 /// division since the quotient isn't whole. No clause says when.
-pub trait Whole: Copy {
+pub trait RowNumber: Copy {
     ghost use Prim.Native.Nat.{◌∣◌};
     ghost use Rattle.std.specs.Prelude.{◌≡◌, ℤ, pos, ◌*ℤ◌, ◌-ℤ◌, ◌+ℤ◌, ◌+◌, ◌*◌, ◌^◌, ◌-◌, ◌≤◌, ◌<ℤ◌, unsigned_abs};
     ghost use Rattle.std.specs.Prelude.{IfSome, true};

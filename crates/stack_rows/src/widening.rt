@@ -3,23 +3,23 @@
 ghost use Rattle.std.specs.Prelude.{◌≡◌, ◌≤◌, ◌≤ℤ◌, ◌+◌, ◌*◌, ◌^◌, ◌-◌, ◌*ℤ◌, ◌-ℤ◌, pos, unsigned_abs, IfSome};
 
 use crate::products::{Ratios, compare};
-use crate::whole::{Divider, Whole};
-use crate::wide::Wide;
+use crate::whole::{Divider, RowNumber};
+use crate::wide::Broad;
 use crate::words::{word_inverse, word_step};
 use stack_rational::divisor_of;
 use std::cmp::Ordering;
 
-fn wide(n: i128) -> Option<Wide>
+fn wide(n: i128) -> Option<Broad>
     ensures { IfSome result (λ r. r.number ≡ n) }
 {
     if n == i128::MIN {
         return None;
     }
-    Some(Wide { number: n })
+    Some(Broad { number: n })
 }
 
 /// The size.
-fn size(n: Wide) -> Option<Wide>
+fn size(n: Broad) -> Option<Broad>
     ensures { IfSome result (λ r. (unsigned_abs r.number ≡ unsigned_abs n.number) × (pos 0 ≤ℤ r.number)) }
 {
     if n.number < 0 {
@@ -31,7 +31,7 @@ fn size(n: Wide) -> Option<Wide>
 }
 
 /// As a number of 64 bits, where it is one.
-fn short(n: Wide) -> Option<i64>
+fn short(n: Broad) -> Option<i64>
     ensures { IfSome result (λ r. r ≡ n.number) }
 {
     if n.number < -9223372036854775808 || 9223372036854775807 < n.number {
@@ -67,7 +67,7 @@ fn long_step(number: i128, other: i128, k: i128, t: i128) -> i128
 }
 
 /// The product, where both are numbers of 64 bits.
-fn short_product(a: Wide, b: Wide) -> Option<i128>
+fn short_product(a: Broad, b: Broad) -> Option<i128>
     ensures { IfSome result (λ r. r ≡ a.number *ℤ b.number) }
 {
     let left = short(a)?;
@@ -76,7 +76,7 @@ fn short_product(a: Wide, b: Wide) -> Option<i128>
 }
 
 /// The quotient, where both are numbers of 64 bits and it is whole.
-fn short_quotient(a: Wide, b: Wide) -> Option<i64>
+fn short_quotient(a: Broad, b: Broad) -> Option<i64>
     ensures { IfSome result (λ r. r *ℤ b.number ≡ a.number) }
 {
     let left = short(a)?;
@@ -95,7 +95,7 @@ fn low(n: i128) -> i64 {
 }
 
 /// The quotient by the inverse, where it is whole and it and what is divided by are numbers of 64 bits.
-fn short_exact(a: Wide, divider: Divider<Wide>) -> Option<i64>
+fn short_exact(a: Broad, divider: Divider<Broad>) -> Option<i64>
     ensures { IfSome result (λ r. r *ℤ divider.by.number ≡ a.number) }
 {
     let right = short(divider.by)?;
@@ -110,7 +110,7 @@ fn short_exact(a: Wide, divider: Divider<Wide>) -> Option<i64>
 }
 
 /// The inverse of the odd part of a number modulo 2^128, by one more such step.
-fn inverse_of(n: Wide) -> Wide {
+fn inverse_of(n: Broad) -> Broad {
     let twos = n.number.trailing_zeros();
     if 128 <= twos {
         return n;
@@ -123,7 +123,7 @@ fn inverse_of(n: Wide) -> Wide {
     }
 }
 
-impl Whole for Wide {
+impl RowNumber for Broad {
     ghost use Rattle.std.specs.Prelude.{◌^◌, ◌-◌};
     ghost use Rattle.std.proofs.Common.{lit<, refl};
     ghost use Rattle.stack_rational.specs.Widths.{width_of};
@@ -137,7 +137,7 @@ impl Whole for Wide {
     ghost fits_law = { λ x. x.fits };
 
     fn zero() -> Self {
-        Wide { number: 0 }
+        Broad { number: 0 }
     }
 
     fn from_wide(n: i128) -> Option<Self> {
@@ -202,7 +202,7 @@ impl Whole for Wide {
     }
 
     fn step(self, other: Self, k: Self, t: Self) -> Self {
-        Wide {
+        Broad {
             number: long_step(self.number, other.number, k.number, t.number),
         }
     }
@@ -214,7 +214,7 @@ impl Whole for Wide {
             k.number as i64,
             t.number as i64,
         );
-        Wide {
+        Broad {
             number: number as i128,
         }
     }
@@ -223,7 +223,7 @@ impl Whole for Wide {
         let common = divisor_of(self.number.unsigned_abs(), other.number.unsigned_abs());
         match Self::of_size(common) {
             Some(number) => number,
-            None => Wide { number: 1 },
+            None => Broad { number: 1 },
         }
     }
 

@@ -11,7 +11,7 @@ use Rattle.stack_table.specs.Table.{Tabled, plain, columns}
 use Rattle.stack_table.specs.Problem.{Problem, flipped}
 use Rattle.stack_table.specs.WrittenTable.{first_row, written_table}
 use Rattle.stack_run.specs.WrittenRun.{End, infeasible, feasible, optimal, ray, wide, over, never}
-use Rattle.stack_run.specs.EndNumbers.{signed, value, rate, bound_multiplier, collapse_multiplier}
+use Rattle.stack_run.specs.EndNumbers.{negated_if, column_value, rate, bound_multiplier, collapse_multiplier}
 use Rattle.stack_run.specs.PhaseTables.{own_first, own_third, IsFirst, ShowsMultipliers}
 use Rattle.stack_run.specs.FourEnds.{IsFirstEnd, IsThirdEnd, EndGives}
 use Rattle.stack_run.specs.EndLaws.{EndsGive, SomeRowLeaves}
@@ -59,13 +59,13 @@ module _ (F : Ordered) (P : Problem) where
   -- the multipliers of the ends, in the first rows
   collapsing : (T : Tabled F.C) (k : ℕ) → k < m →
       collapse_multiplier F P T k ≡ unflipped F P (motion F m w (own_first F m w) T.cell) k
-  collapsing T k l = ap (λ y. signed F (flipped P k) (less F (T.cell m (w + k)) y))
+  collapsing T k l = ap (λ y. negated_if F (flipped P k) (less F (T.cell m (w + k)) y))
       (sym (own-artificial F P k l))
 
   -- the multipliers of the last table of phase 3, in the first rows
   bounding : (T : Tabled F.C) → P.shape.contacts < w → (k : ℕ) → k < m →
       bound_multiplier F P T k ≡ unflipped F P (motion F m w (own_third F P.shape.contacts) T.cell) k
-  bounding T g k l = ap (signed F (flipped P k)) (sym (less_none (T.cell m (w + k)))
+  bounding T g k l = ap (negated_if F (flipped P k)) (sym (less_none (T.cell m (w + k)))
       ∙ ap (less F (T.cell m (w + k))) (sym (at-other F.ring P.shape.contacts (w + k) (F.of (negsuc 0))
       (λ e. omega (arith, g, e)))))
 
@@ -79,7 +79,7 @@ module _ (F : Ordered) (P : Problem) where
     table = h.third;
     shows = multipliers (own_third F P.shape.contacts) T h.third.tableau;
     stands = stand F P h.stands;
-    balances = balance F P (solution F m n T.cell T.basic) (value F P.shape T) (F.of (pos 1))
+    balances = balance F P (solution F m n T.cell T.basic) (column_value F P.shape T) (F.of (pos 1))
         (λ j l. value-is F P.shape A (own_third F P.shape.contacts) T h.third.tableau j (omega (arith, l)))
         h.balances;
   }
@@ -94,14 +94,14 @@ module _ (F : Ordered) (P : Problem) where
   end_of_rows (feasible T) h = record {
     without_factor = h.without_factor;
     first = first_end T h.first;
-    balances = balance F P (solution F m n T.cell T.basic) (value F P.shape T) (F.of (pos 1))
+    balances = balance F P (solution F m n T.cell T.basic) (column_value F P.shape T) (F.of (pos 1))
         (λ j l. value-is F P.shape A (own_first F m w) T h.first.tableau j (omega (arith, l))) h.balances;
   }
   end_of_rows (optimal T) h = record {
     third = third_end T h.raised;
     bounds = bound F P (motion F m w (own_third F P.shape.contacts) T.cell) (bound_multiplier F P T)
         (bounding T h.raised.with_factor)
-        (solution F m n T.cell T.basic) (value F P.shape T) h.raised.with_factor
+        (solution F m n T.cell T.basic) (column_value F P.shape T) h.raised.with_factor
         (value-is F P.shape A (own_third F P.shape.contacts) T h.raised.third.tableau P.shape.contacts
         (omega (arith, h.raised.with_factor))) h.bounds;
   }

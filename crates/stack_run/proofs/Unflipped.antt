@@ -8,7 +8,7 @@ use Rattle.stack_algebra.proofs.Sums.{sum, sum_same, sum_scale}
 use Rattle.stack_table.specs.Table.{plain, columns}
 use Rattle.stack_table.specs.Problem.{Problem, flipped, turned}
 use Rattle.stack_table.specs.WrittenTable.{first_row}
-use Rattle.stack_run.specs.EndNumbers.{signed}
+use Rattle.stack_run.specs.EndNumbers.{negated_if}
 use Rattle.stack_run.specs.Balance.{Balances, column_work, load_work, Refutes, Bounds, Rises, StandsAlone}
 use Rattle.stack_run.proofs.RowEnds as rows
 use Rattle.stack_run.proofs.WrittenRows.{plain_cell, right_cell}
@@ -29,7 +29,7 @@ module _ (F : Ordered) where
   turn_twice false x = ring1 F.ring (λ x. (num (pos 1) ⊗ (num (pos 1) ⊗ x), x)) refl x
 
   -- a multiplier of a flipped row, by an entry of it
-  moved : (b : Bool) (y : F.C) (z : ℤ) → F.mul y (F.of (turned b z)) ≡ F.mul (signed F b y) (F.of z)
+  moved : (b : Bool) (y : F.C) (z : ℤ) → F.mul y (F.of (turned b z)) ≡ F.mul (negated_if F b y) (F.of z)
   moved true y z = ap (F.mul y) (of_turned true z)
       ∙ ring2 F.ring (λ y e. (y ⊗ (num (negsuc 0) ⊗ e), Exp.neg y ⊗ e)) refl y (F.of z)
   moved false y z = refl
@@ -46,7 +46,7 @@ module _ (F : Ordered) (P : Problem) where
 
   -- the multipliers of the first rows as multipliers of the problem's rows
   abbrev pub unflipped : (ℕ → F.C) → ℕ → F.C
-  unflipped y k = signed F (flipped P k) (y k)
+  unflipped y k = negated_if F (flipped P k) (y k)
 
   module _ (y z : ℕ → F.C) (h : (k : ℕ) → k < m → z k ≡ unflipped y k) where
     -- the products of the first rows and of the rows with their multipliers are the same, in a column and on

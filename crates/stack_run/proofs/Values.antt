@@ -10,7 +10,7 @@ use Rattle.stack_algebra.proofs.Ring.{add-zero}
 use Rattle.stack_algebra.proofs.Sums.{sum_one, sum_zero, at, at-other, at-same}
 use Rattle.stack_algebra.proofs.Search.{least-none, least-some}
 use Rattle.stack_table.specs.Table.{Shape, Tabled, columns}
-use Rattle.stack_run.specs.EndNumbers.{basic_row, value_in, value, rate_in, rate}
+use Rattle.stack_run.specs.EndNumbers.{basic_row, value_in, column_value, rate_in, rate}
 use Rattle.stack_run.proofs.Solutions.{solution, ray_of}
 
 module _ (F : Ordered) (S : Shape) (A : ℕ → ℕ → F.C) (own : ℕ → F.C) (T : Tabled F.C)
@@ -40,7 +40,7 @@ module _ (F : Ordered) (S : Shape) (A : ℕ → ℕ → F.C) (own : ℕ → F.C)
   not_basic j e i l = eqb-false (T.basic i) j (least-none m (λ i. eqb (T.basic i) j) e i l)
 
   -- the solution at each column but the right side
-  pub value-is : (j : ℕ) → j < columns S → value F S T j ≡ solution F m (columns S) T.cell T.basic j
+  pub value-is : (j : ℕ) → j < columns S → column_value F S T j ≡ solution F m (columns S) T.cell T.basic j
   value-is j l = go (basic_row F S T j) refl
       ∙ sym (ap (F.add (spread F.ring m T.basic (λ i. T.cell i (columns S)) j))
       (at-other F.ring (columns S) j (F.of (negsuc 0)) (λ e. omega (arith, l, e))) ∙ add-zero F.ring _)

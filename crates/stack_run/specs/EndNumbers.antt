@@ -19,8 +19,8 @@ module _ (F : Ordered) (S : Shape) (T : Tabled F.C) where
   value_in (Some i) = right F S T i
 
   -- what the table gives column j where each column that isn't basic has 0
-  abbrev pub value : ℕ → F.C
-  value j = value_in (basic_row j)
+  abbrev pub column_value : ℕ → F.C
+  column_value j = value_in (basic_row j)
 
   -- the rate of a column on the ray of column c: 1 for c, less the row's cell in c for a basic column, else 0
   abbrev pub rate_in : ℕ → Option ℕ → F.C
@@ -33,17 +33,17 @@ module _ (F : Ordered) (S : Shape) (T : Tabled F.C) where
 
 module _ (F : Ordered) where
   -- a number with the other sign, or as it is
-  abbrev pub signed : Bool → F.C → F.C
-  signed b x = cond b (F.neg x) x
+  abbrev pub negated_if : Bool → F.C → F.C
+  negated_if b x = cond b (F.neg x) x
 
   module _ (P : Problem) (T : Tabled F.C) where
     -- multipliers of the problem's rows, at the end of phase 3: the objective cell of each row's artificial
     -- column, with the other sign where the row is flipped
     abbrev pub bound_multiplier : ℕ → F.C
-    bound_multiplier k = signed (flipped P k) (objective F P.shape T (plain P.shape + k))
+    bound_multiplier k = negated_if (flipped P k) (objective F P.shape T (plain P.shape + k))
 
     -- multipliers of the problem's rows, at the end of phase 1: the objective cell of each row's artificial column less
     -- 1, with the other sign where the row is flipped
     abbrev pub collapse_multiplier : ℕ → F.C
     collapse_multiplier k =
-        signed (flipped P k) (less F (objective F P.shape T (plain P.shape + k)) (F.of (pos 1)))
+        negated_if (flipped P k) (less F (objective F P.shape T (plain P.shape + k)) (F.of (pos 1)))

@@ -6,7 +6,7 @@ use Rattle.stack_table.specs.Table.{Tabled, plain, objective}
 use Rattle.stack_table.specs.Problem.{Problem}
 use Rattle.stack_table.specs.WrittenTable.{first_row}
 use Rattle.stack_run.specs.WrittenRun.{End, infeasible, feasible, optimal, ray, wide, over, never}
-use Rattle.stack_run.specs.EndNumbers.{value, rate, bound_multiplier, collapse_multiplier}
+use Rattle.stack_run.specs.EndNumbers.{column_value, rate, bound_multiplier, collapse_multiplier}
 use Rattle.stack_run.specs.Balance.{Balances, Refutes, Bounds, Rises, StandsAlone}
 use Rattle.stack_run.specs.PhaseTables.{own_first, own_third, IsFirst, IsThird, ShowsMultipliers}
 
@@ -25,7 +25,7 @@ module _ (F : Ordered) (P : Problem) where
   pub record IsFeasibleEnd (T : Tabled F.C) : Type 0 where
     pub without_factor : P.shape.factors ≡ 0
     pub first : IsFirstEnd T
-    pub balances : Balances F P (value F P.shape T) (F.of (pos 1))
+    pub balances : Balances F P (column_value F P.shape T) (F.of (pos 1))
 
   -- the last table of phase 3: its values balance, and some others do with the factor 0
   pub record IsThirdEnd (T : Tabled F.C) : Type 0 where
@@ -33,12 +33,12 @@ module _ (F : Ordered) (P : Problem) where
     pub table : IsThird F P.shape (first_row F P) T
     pub shows : ShowsMultipliers F P.shape (first_row F P) (own_third F P.shape.contacts) T
     pub stands : StandsAlone F P
-    pub balances : Balances F P (value F P.shape T) (F.of (pos 1))
+    pub balances : Balances F P (column_value F P.shape T) (F.of (pos 1))
 
   -- the last table of a run that ends as Optimal: its multipliers bound the factor
   pub record IsOptimalEnd (T : Tabled F.C) : Type 0 where
     pub third : IsThirdEnd T
-    pub bounds : Bounds F P (value F P.shape T) (bound_multiplier F P T)
+    pub bounds : Bounds F P (column_value F P.shape T) (bound_multiplier F P T)
 
   -- the last table of a run that ends as Ray with column c: its rates raise the factor
   pub record IsRayEnd (T : Tabled F.C) (c : ℕ) : Type 0 where

@@ -25,11 +25,12 @@ use Rattle.stack_lines.specs.Tables.{tabled_by, table_due}
 use Rattle.stack_lines.specs.AcceptedModel.{IsAcceptedModel}
 use Rattle.stack_lines.specs.OneEnd.{IsSettled}
 use Rattle.stack_said.specs.MainTheorem.{Cause, RunMeets}
-use Rattle.stack_said.specs.ModelSaid.{IsRefused, CertificateSays, ReadsCertificate}
+use Rattle.stack_said.specs.ModelSaid.{IsRefused, CertificateSays, FormReadsCertificate}
 use Rattle.stack_lines.proofs.Ways.{goes_on}
 use Rattle.stack_lines.proofs.AcceptedFiles.{told_bytes, all_accepted}
 use Rattle.stack_lines.proofs.RefusedFrom.{CameOf, refused_from, Avoids, avoids_end}
-use Rattle.stack_said.proofs.ModelAnswered.{Why, for_memory, for_file, for_length, for_fault, surveyed_why, model_status}
+use Rattle.stack_said.proofs.ModelAnswered.{Why, for_memory, for_file, for_length, for_fault, surveyed_why}
+use Rattle.stack_said.proofs.ModelAnswered.{model_status}
 use Rattle.stack_said.proofs.SettledEnds.{given_or_memory}
 
 -- the work on a certificate's file beside a survey, up to what is done with the certificate
@@ -55,7 +56,7 @@ due_last due h v c Accepted = h v c
 due_last due h v c (Rejected part reason) = tt
 due_last due h v c (TooWide place) = λ e. absurd (omega (arith, e))
 
-reads : (form : Form) (model name : List ℕ) → ReadsCertificate form model name → Reads form model name
+reads : (form : Form) (model name : List ℕ) → FormReadsCertificate form model name → Reads form model name
 unfolding certificate_work checked_file
 reads form model name (inl is) = subst (λ f. Reads f model name) (sym is) (
   λ v c. certificate_due accepted_due v c (written_check v c),
@@ -180,7 +181,7 @@ module _ (status : ℕ) (form : Form) (shelf : ShelfSeen) (out err : StreamSeen)
 
 pub certificate_says : {status : ℕ} {form : Option Form} {shelf : ShelfSeen} {out err : StreamSeen}
     → RunMeets status form shelf out err
-    → (f : Form) (model name bytes text : List ℕ) → form ≡ Some f → ReadsCertificate f model name
+    → (f : Form) (model name bytes text : List ℕ) → form ≡ Some f → FormReadsCertificate f model name
     → shelf.holds model ≡ Some bytes → shelf.holds name ≡ Some text
     → CertificateSays bytes text status shelf out err
 certificate_says {status} {form} {shelf} {out} {err} m f model name bytes text is named told held =

@@ -24,7 +24,7 @@ use Rattle.stack_lines.specs.Judging.{lacks_live, wide_fault, judged, judge_work
 use Rattle.stack_lines.specs.AcceptedModel.{IsAcceptedModel}
 use Rattle.stack_lines.specs.OneEnd.{IsSettled, IsSettledRefusal}
 use Rattle.stack_said.specs.MainTheorem.{IsGivenOut, RunMeets}
-use Rattle.stack_said.specs.Headline.{Prints, Leaves, IsWide, IsOver, Judging}
+use Rattle.stack_said.specs.Headline.{Prints, Leaves, IsWide, IsOverBudget, Judging}
 use Rattle.stack_lines.proofs.Ways.{goes_on}
 use Rattle.stack_said.proofs.SettledEnds.{kept_at_memory, given_or_memory as settled_given}
 use Rattle.stack_lines.proofs.AcceptedFiles.{all_accepted}
@@ -94,7 +94,7 @@ module _ (q : Question) (model : List ℕ) (budget : ℕ) (bytes : List ℕ) (v 
   abbrev Cases : Type 0
   Cases = Prints q v status out
       ⊎ ((IsWide q v budget × Leaves status 7 out)
-      ⊎ ((IsOver q v budget × Leaves status 8 out)
+      ⊎ ((IsOverBudget q v budget × Leaves status 8 out)
       ⊎ ((LacksLive q v × Leaves status 9 out)
       ⊎ Leaves status 11 out)))
 
@@ -117,7 +117,7 @@ module _ (q : Question) (model : List ℕ) (budget : ℕ) (bytes : List ℕ) (v 
   widely p is (inl eleven) = without_memory eleven
   widely p is (inr g) = inr (inl ((p, is), record { is_status = g.0 ∙ wide_status v.structure p; is_kept = g.1 }))
 
-  overly : IsOver q v budget → (status ≡ 11) ⊎ Given (Err (faulty (over_budget budget))) → Cases
+  overly : IsOverBudget q v budget → (status ≡ 11) ⊎ Given (Err (faulty (over_budget budget))) → Cases
   overly is (inl eleven) = without_memory eleven
   overly is (inr g) = inr (inr (inl (is, record { is_status = g.0; is_kept = g.1 })))
 
@@ -146,7 +146,7 @@ module _ (q : Question) (model : List ℕ) (budget : ℕ) (bytes : List ℕ) (v 
   by_loads true is = deadly (lacks q v is) (lacking_ends (lacks q v is))
   by_loads false is = of_judgement (has_one q v is) (judgement q v budget) refl
 
-  completes : Cases → ¬ (LacksLive q v) → ¬ (IsWide q v budget) → ¬ (IsOver q v budget)
+  completes : Cases → ¬ (LacksLive q v) → ¬ (IsWide q v budget) → ¬ (IsOverBudget q v budget)
       → Prints q v status out ⊎ Leaves status 11 out
   completes (inl p) live no_wide no_over = inl p
   completes (inr (inl w)) live no_wide no_over = absurd (no_wide w.0)

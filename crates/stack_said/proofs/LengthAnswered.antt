@@ -18,7 +18,7 @@ use Rattle.stack_equilibrium.specs.declared.types.Question.TheVariants.{Live}
 use Rattle.stack_checker.specs.WrittenCheck.{written_check}
 use Rattle.stack_judge.specs.Judgement.{Judgement, certified, too_wide, spent, unjudged, judgement}
 use Rattle.stack_report.specs.ForceNumbers.{wide_index}
-use Rattle.stack_stages.specs.OrderRead.{order_of}
+use Rattle.stack_stages.specs.OrderRead.{told_order}
 use Rattle.stack_stages.specs.Staged.{staged}
 use Rattle.stack_yield.specs.Directions.{directions_of}
 use Rattle.stack_yield.specs.Outcomes.{outcomes}
@@ -29,7 +29,7 @@ use Rattle.stack_lines.specs.Answers.{Due}
 use Rattle.stack_lines.specs.Errors.{from_read}
 use Rattle.stack_lines.specs.Refusals.{Refusal, faulty, memory, long, fault_status, status_of}
 use Rattle.stack_lines.specs.AcceptedModel.{IsAcceptedModel}
-use Rattle.stack_lines.specs.Building.{order_step, ordered, ordered_file, stages_work}
+use Rattle.stack_lines.specs.Building.{order_step, order_work, ordered_file, stages_work}
 use Rattle.stack_lines.specs.Checking.{Accepting, certificate_step, checked, checked_file}
 use Rattle.stack_lines.specs.Checking.{certificate_work, accepted_due}
 use Rattle.stack_lines.specs.Forms.{Form, files_of, check, contacts, judges, tables, stack, sample, ranges, builds}
@@ -43,7 +43,8 @@ use Rattle.stack_lines.specs.Stacking.{stack_of, built_step, stack_work}
 use Rattle.stack_lines.specs.Surveying.{greatest_file, read, model_step, survey_step, modelled, surveyed_file}
 use Rattle.stack_lines.specs.Tables.{table_due}
 use Rattle.stack_lines.specs.Work.{Work, gives, refuses, reads, surveys, ◌>>=◌, Found, Holds, Ends}
-use Rattle.stack_lines.specs.Yielding.{loads_step, directions_step, directed, directed_file, paired_file, yield_work}
+use Rattle.stack_lines.specs.Yielding.{loads_step, directions_step, directions_work, directed_file, paired_file}
+use Rattle.stack_lines.specs.Yielding.{yield_work}
 use Rattle.stack_lines.proofs.AcceptedFiles.{told_bytes, all_accepted}
 use Rattle.stack_lines.proofs.Beginnings.{certificate_avoids, table_avoids, due_avoids, wide_avoids, judged_avoids}
 use Rattle.stack_lines.proofs.Beginnings.{range_avoids, order_avoids, stage_avoids, loads_avoid, directions_avoid}
@@ -139,15 +140,15 @@ checked_only due h name v = only_then (read inputs.Certificate name) (checked du
 
 ordered_only : (name : List ℕ) (budget : ℕ) (v : Surveyed) → OnlyLong (ordered_file name budget v)
 unfolding ordered_file
-ordered_only name budget v = only_then (read inputs.Order name) (ordered budget v) (read_only inputs.Order name)
-    (λ text. only_then (order_step (order_of v.structure text)) _
-    (spared (order_step (order_of v.structure text)) (order_avoids 4 four (order_of v.structure text)))
+ordered_only name budget v = only_then (read inputs.Order name) (order_work budget v) (read_only inputs.Order name)
+    (λ text. only_then (order_step (told_order v.structure text)) _
+    (spared (order_step (told_order v.structure text)) (order_avoids 4 four (told_order v.structure text)))
     (λ order. spared _ (stage_avoids 4 four budget v order (staged v order budget))))
 
 directed_only : (name : List ℕ) (budget : ℕ) (v : Surveyed) (loads : ℕ × ℕ)
     → OnlyLong (directed_file name budget v loads)
 unfolding directed_file
-directed_only name budget v loads = only_then (read inputs.Directions name) (directed budget v loads)
+directed_only name budget v loads = only_then (read inputs.Directions name) (directions_work budget v loads)
     (read_only inputs.Directions name)
     (λ text. only_then (directions_step (directions_of text)) _
     (spared (directions_step (directions_of text)) (directions_avoid 4 four (directions_of text)))
@@ -242,11 +243,11 @@ further_ends holds (tables m n) v model name bytes text input told held is r mor
 further_ends holds (builds m n budget) v model name bytes text input told held is r more = moved _ holds r.0 r.1 r.2
     (goes_on holds (surveyed_file m) (ordered_file n budget) (m ∷ []) (n ∷ []) v (Err (faulty (long inputs.Order)))
     (all_accepted holds m bytes v (ap holds r.0 ∙ told) is)
-    (read_long holds inputs.Order n text (ordered budget v) (ap holds r.1 ∙ held) more))
+    (read_long holds inputs.Order n text (order_work budget v) (ap holds r.1 ∙ held) more))
 further_ends holds (yields m i j n budget) v model name bytes text input told held is r more = moved _ holds r.0 r.1 r.2
     (goes_on holds (surveyed_file m) (paired_file i j n budget) (m ∷ []) (n ∷ []) v
     (Err (faulty (long inputs.Directions))) (all_accepted holds m bytes v (ap holds r.0 ∙ told) is)
-    (rw r.4 (read_long holds inputs.Directions n text (directed budget v r.3) (ap holds r.1 ∙ held) more)))
+    (rw r.4 (read_long holds inputs.Directions n text (directions_work budget v r.3) (ap holds r.1 ∙ held) more)))
 further_ends holds (contacts m) v model name bytes text input told held is r more = absurd r
 further_ends holds (judges q m budget) v model name bytes text input told held is r more = absurd r
 further_ends holds (stack kind n) v model name bytes text input told held is r more = absurd r

@@ -14,7 +14,8 @@ use Rattle.stack_lines.specs.AcceptedModel.{IsAcceptedModel}
 use Rattle.stack_lines.specs.Forms.{Form, yields}
 use Rattle.stack_lines.specs.Surveying.{greatest_file, surveyed_file}
 use Rattle.stack_lines.specs.Work.{gives, refuses, ◌>>=◌, Holds, Ends}
-use Rattle.stack_lines.specs.Yielding.{loads_step, directions_step, region_step, directed, directed_file, paired_file}
+use Rattle.stack_lines.specs.Yielding.{loads_step, directions_step, region_step, directions_work, directed_file}
+use Rattle.stack_lines.specs.Yielding.{paired_file}
 use Rattle.stack_lines.specs.Yielding.{yield_work}
 use Rattle.stack_lines.proofs.AcceptedFiles.{only_accepted}
 use Rattle.stack_lines.proofs.RefusedFrom.{CameOf, refused_from}
@@ -45,7 +46,8 @@ module _ (r : Refusal) (n : ℕ) (at : status_of r ≡ n) (own : IsOwn n) (is : 
       (λ e. let h : 14 ≡ n = e in absurd (omega (arith, h, is))) p.1
 
   bytes_not : (v : Surveyed) (loads : ℕ × ℕ) (b : Bool) (text : List ℕ) (names : List (List ℕ))
-      → Ends holds ((if b then refuses (long inputs.Directions) else gives text) >>= directed budget v loads) names
+      → Ends holds ((if b then refuses (long inputs.Directions) else gives text) >>= directions_work budget v loads)
+          names
       (Err r) → ⊥
   bytes_not v loads true text names p = not_by r n at own (long inputs.Directions) (λ e. own.not_long (sym e)) p.1
   bytes_not v loads false text names p = text_not v loads (directions_of text) names p

@@ -20,7 +20,8 @@ use Rattle.stack_lines.specs.Forms.{Form, yields}
 use Rattle.stack_lines.specs.OneEnd.{IsSettled}
 use Rattle.stack_lines.specs.Surveying.{greatest_file, surveyed_file}
 use Rattle.stack_lines.specs.Work.{◌>>=◌, Ends}
-use Rattle.stack_lines.specs.Yielding.{loads_step, directions_step, wide_toward, region_step, directed, directed_file}
+use Rattle.stack_lines.specs.Yielding.{loads_step, directions_step, wide_toward, region_step, directions_work}
+use Rattle.stack_lines.specs.Yielding.{directed_file}
 use Rattle.stack_lines.specs.Yielding.{paired_file, yield_work}
 use Rattle.stack_lines.proofs.AcceptedFiles.{all_accepted}
 use Rattle.stack_lines.proofs.Ways.{goes_on}
@@ -161,14 +162,14 @@ module _ (model : List ℕ) (i j : ℕ) (name : List ℕ) (budget : ℕ) (bytes 
 
   module _ (text : List ℕ) (held : shelf.holds name ≡ Some text) (short : length text ≤ greatest_file) where
     file_ends : (loads : ℕ × ℕ) (end : Result Due Refusal) → pair_of v.structure i j ≡ Ok loads
-        → Ends shelf.holds (directed budget v loads text) [] end
+        → Ends shelf.holds (directions_work budget v loads text) [] end
         → Ends shelf.holds (paired_file i j name budget v) (name ∷ []) end
     unfolding directed_file
     file_ends loads end is h = pair_ends (Ok loads) (name ∷ []) end is
-        (read_on shelf.holds inputs.Directions name text (directed budget v loads) end held short h)
+        (read_on shelf.holds inputs.Directions name text (directions_work budget v loads) end held short h)
 
     given : (loads : ℕ × ℕ) (known : Result Due Refusal) → pair_of v.structure i j ≡ Ok loads → IsSettled known
-        → Ends shelf.holds (directed budget v loads text) [] known → Given known
+        → Ends shelf.holds (directions_work budget v loads text) [] known → Given known
     given loads known is settled h = settled_given m neither (model ∷ name ∷ []) ((bytes, told), ((text, held), tt))
         known settled (work_ends (name ∷ []) known (file_ends loads known is h))
 
@@ -185,7 +186,7 @@ module _ (model : List ℕ) (i j : ℕ) (name : List ℕ) (budget : ℕ) (bytes 
     step_end : (loads : ℕ × ℕ) (ds : List (ℤ × ℤ)) (o : Outcomes) (end : Result Due Refusal)
         → directions_of text ≡ Ok ds → outcomes v loads.0 loads.1 budget ds ≡ o
         → Ends shelf.holds (region_step budget v loads.0 loads.1 ds o) [] end
-        → Ends shelf.holds (directed budget v loads text) [] end
+        → Ends shelf.holds (directions_work budget v loads text) [] end
     step_end loads ds o end is comes h = subst (λ r. TextEnds loads r end) (sym is)
         (subst (λ x. Ends shelf.holds (region_step budget v loads.0 loads.1 ds x) [] end) (sym comes) h)
 

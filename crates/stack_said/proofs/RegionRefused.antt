@@ -14,7 +14,8 @@ use Rattle.stack_lines.specs.AcceptedModel.{IsAcceptedModel}
 use Rattle.stack_lines.specs.Forms.{Form, yields}
 use Rattle.stack_lines.specs.Surveying.{surveyed_file}
 use Rattle.stack_lines.specs.Work.{◌>>=◌, Holds, Ends}
-use Rattle.stack_lines.specs.Yielding.{loads_step, directions_step, region_step, directed, directed_file, paired_file}
+use Rattle.stack_lines.specs.Yielding.{loads_step, directions_step, region_step, directions_work, directed_file}
+use Rattle.stack_lines.specs.Yielding.{paired_file}
 use Rattle.stack_lines.specs.Yielding.{wide_toward, yield_work}
 use Rattle.stack_lines.proofs.AcceptedFiles.{only_accepted}
 use Rattle.stack_lines.proofs.RefusedFrom.{CameOf, refused_from}
@@ -92,7 +93,7 @@ module _ (r : Refusal) (n : ℕ) (at : status_of r ≡ n) (own : IsOwn n) (holds
       → Ends holds (directed_file name budget v loads) names (Err r) → Reason
   unfolding directed_file
   file_why name v loads names accepted held pair p =
-      let g = file_on r n at own holds inputs.Directions (directed budget v loads) name text names held p in
+      let g = file_on r n at own holds inputs.Directions (directions_work budget v loads) name text names held p in
       text_why v loads accepted g.short pair (directions_of text) refl g.names g.ends
 
   pair_why : (name : List ℕ) (v : Surveyed) → IsAcceptedModel bytes v → holds name ≡ Some text

@@ -5,7 +5,7 @@ use Rattle.std.specs.Prelude.{if◌then◌else◌}
 use Rattle.std.proofs.Math.Dec.{ltb}
 use Rattle.stack_outside.specs.Seen.{ShelfSeen, StreamSeen, Took}
 use Rattle.stack_contact.specs.Surveyed.{Surveyed}
-use Rattle.stack_stages.specs.OrderRead.{order_of}
+use Rattle.stack_stages.specs.OrderRead.{told_order}
 use Rattle.stack_stages.specs.Staged.{Staged, all_stand, falls, too_wide_at, spent_at, no_stages, staged}
 use Rattle.stack_lines.specs.declared.answer.Verdict.{Verdict}
 use Rattle.stack_lines.specs.declared.refusal.Input.TheVariants as inputs
@@ -14,7 +14,7 @@ use Rattle.stack_lines.specs.Refusals.{long}
 use Rattle.stack_lines.specs.Answers.{Due, stages_due, AreStagesOf, IsAnswer, verdict_status}
 use Rattle.stack_lines.specs.Work.{gives, refuses, ◌>>=◌, Holds, Ends}
 use Rattle.stack_lines.specs.Surveying.{greatest_file, surveyed_file}
-use Rattle.stack_lines.specs.Building.{order_step, stages_step, ordered, ordered_file, stages_work}
+use Rattle.stack_lines.specs.Building.{order_step, stages_step, order_work, ordered_file, stages_work}
 use Rattle.stack_lines.specs.AcceptedModel.{IsAcceptedModel}
 use Rattle.stack_said.specs.MainTheorem.{Answered, RunMeets}
 use Rattle.stack_said.specs.StagesSaid.{ModelAndOrder, StagesSay}
@@ -38,7 +38,7 @@ step_ends holds budget v order no_stages names due p = absurd p.1
 module _ (holds : Holds) (budget : ℕ) (bytes : List ℕ) (v : Surveyed) (model : IsAcceptedModel bytes v)
     (due : Due) where
   -- the same of a text that tells an order
-  text_ends : (text : List ℕ) (r : Result (List ℕ) ℕ) (names : List (List ℕ)) → order_of v.structure text ≡ r
+  text_ends : (text : List ℕ) (r : Result (List ℕ) ℕ) (names : List (List ℕ)) → told_order v.structure text ≡ r
       → Ends holds (order_step r >>= λ order. stages_step budget v order (staged v order budget)) names (Ok due)
       → Said bytes text due
   text_ends text (Ok order) names is p =
@@ -51,10 +51,11 @@ module _ (holds : Holds) (budget : ℕ) (bytes : List ℕ) (v : Surveyed) (model
 
   -- the same of the bytes of a file, where they aren't too many
   bytes_end : (text : List ℕ) (b : Bool) (names : List (List ℕ))
-      → Ends holds ((if b then refuses (long inputs.Order) else gives text) >>= λ t. ordered budget v t) names (Ok due)
+      → Ends holds ((if b then refuses (long inputs.Order) else gives text) >>= λ t. order_work budget v t) names
+          (Ok due)
       → Said bytes text due
   bytes_end text true names p = absurd p.1
-  bytes_end text false names p = text_ends text (order_of v.structure text) names refl p
+  bytes_end text false names p = text_ends text (told_order v.structure text) names refl p
 
   -- the same of a file whose bytes are told
   file_ends : (name text : List ℕ) (names : List (List ℕ)) → holds name ≡ Some text

@@ -4,14 +4,14 @@ use Rattle.std.proofs.Common.{Option, Result, Ok, Err, inl, inr, arith}
 use Rattle.stack_outside.specs.Seen.{ShelfSeen, StreamSeen}
 use Rattle.stack_contact.specs.Surveyed.{Surveyed}
 use Rattle.stack_stages.specs.Stage.{stage}
-use Rattle.stack_stages.specs.OrderRead.{order_of}
+use Rattle.stack_stages.specs.OrderRead.{told_order}
 use Rattle.stack_stages.specs.Staged.{Staged, all_stand, falls, too_wide_at, spent_at, no_stages, staged, AreByStages}
 use Rattle.stack_stages.proofs.FirstDecides.{stages_are_by_stages}
 use Rattle.stack_lines.specs.declared.refusal.Input.TheVariants as inputs
 use Rattle.stack_lines.specs.declared.refusal.Within.TheVariants.{Stage}
 use Rattle.stack_lines.specs.Refusals.{Refusal, faulty, order_line, over_budget, status_of}
 use Rattle.stack_lines.specs.AcceptedModel.{IsAcceptedModel}
-use Rattle.stack_lines.specs.Building.{order_step, stages_step, ordered, ordered_file, stages_work}
+use Rattle.stack_lines.specs.Building.{order_step, stages_step, order_work, ordered_file, stages_work}
 use Rattle.stack_lines.specs.Forms.{Form, builds}
 use Rattle.stack_lines.specs.Judging.{wide_within}
 use Rattle.stack_lines.specs.Surveying.{surveyed_file}
@@ -38,12 +38,12 @@ data StagesWhy (bytes text : List ℕ) (budget : ℕ) (r : Refusal) : Type 0 whe
 
 module _ (r : Refusal) (n : ℕ) (at : status_of r ≡ n) (own : IsOwn n) (holds : Holds) (bytes text : List ℕ)
     (budget : ℕ) where
-  abbrev files_of : (v : Surveyed) (order : List ℕ) → IsAcceptedModel bytes v → order_of v.structure text ≡ Ok order
+  abbrev files_of : (v : Surveyed) (order : List ℕ) → IsAcceptedModel bytes v → told_order v.structure text ≡ Ok order
       → ModelAndOrder bytes text
   files_of v order accepted is = record { survey = v; order = order; is_accepted = accepted; is_text = is }
 
   step_why : (v : Surveyed) (order : List ℕ) → IsAcceptedModel bytes v → IsShort text
-      → order_of v.structure text ≡ Ok order → (x : Staged) → AreByStages v order budget x → (names : List (List ℕ))
+      → told_order v.structure text ≡ Ok order → (x : Staged) → AreByStages v order budget x → (names : List (List ℕ))
       → Ends holds (stages_step budget v order x) names (Err r) → StagesWhy bytes text budget r
   step_why v order accepted short is (all_stand fs) first names p = absurd (no_memory r n at own p.1)
   step_why v order accepted short is (falls fs y) first names p = absurd (no_memory r n at own p.1)
@@ -63,7 +63,7 @@ module _ (r : Refusal) (n : ℕ) (at : status_of r ≡ n) (own : IsOwn n) (holds
   step_why v order accepted short is no_stages first names p = absurd first
 
   text_why : (v : Surveyed) → IsAcceptedModel bytes v → IsShort text → (t : Result (List ℕ) ℕ)
-      → order_of v.structure text ≡ t → (names : List (List ℕ))
+      → told_order v.structure text ≡ t → (names : List (List ℕ))
       → Ends holds (order_step t >>= λ order. stages_step budget v order (staged v order budget)) names (Err r)
       → StagesWhy bytes text budget r
   text_why v accepted short (Ok order) is names p = step_why v order accepted short is (staged v order budget)
@@ -80,8 +80,8 @@ module _ (r : Refusal) (n : ℕ) (at : status_of r ≡ n) (own : IsOwn n) (holds
       → Ends holds (ordered_file name budget v) names (Err r) → StagesWhy bytes text budget r
   unfolding ordered_file
   file_why name v names accepted held p =
-      let g = file_on r n at own holds inputs.Order (ordered budget v) name text names held p in
-      text_why v accepted g.short (order_of v.structure text) refl g.names g.ends
+      let g = file_on r n at own holds inputs.Order (order_work budget v) name text names held p in
+      text_why v accepted g.short (told_order v.structure text) refl g.names g.ends
 
   came_why : (model name : List ℕ) → holds model ≡ Some bytes → holds name ≡ Some text
       → CameOf holds (surveyed_file model) (ordered_file name budget) r → StagesWhy bytes text budget r

@@ -18,7 +18,8 @@ use Rattle.stack_lines.specs.Refusals.{long}
 use Rattle.stack_lines.specs.Answers.{Due, region_due, IsRegionOf, IsAnswer, verdict_status}
 use Rattle.stack_lines.specs.Work.{gives, refuses, ◌>>=◌, Holds, Ends}
 use Rattle.stack_lines.specs.Surveying.{greatest_file, surveyed_file}
-use Rattle.stack_lines.specs.Yielding.{loads_step, directions_step, region_step, directed, directed_file, paired_file}
+use Rattle.stack_lines.specs.Yielding.{loads_step, directions_step, region_step, directions_work, directed_file}
+use Rattle.stack_lines.specs.Yielding.{paired_file}
 use Rattle.stack_lines.specs.Yielding.{yield_work}
 use Rattle.stack_lines.specs.AcceptedModel.{IsAcceptedModel}
 use Rattle.stack_said.specs.MainTheorem.{Answered, RunMeets}
@@ -101,7 +102,8 @@ module _ (holds : Holds) (budget : ℕ) (bytes : List ℕ) (v : Surveyed) (model
 
   -- the same of the bytes of a file, where they aren't too many
   bytes_end : (loads : ℕ × ℕ) (text : List ℕ) (b : Bool) (names : List (List ℕ)) → AreNamed loads
-      → Ends holds ((if b then refuses (long inputs.Directions) else gives text) >>= λ t. directed budget v loads t)
+      → Ends holds ((if b then refuses (long inputs.Directions) else gives text) >>=
+          λ t. directions_work budget v loads t)
       names (Ok due)
       → Said bytes text i j due
   bytes_end loads text true names named p = absurd p.1

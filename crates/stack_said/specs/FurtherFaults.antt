@@ -6,8 +6,8 @@ use Rattle.stack_equilibrium.specs.declared.types.Question.TheVariants.{Live}
 use Rattle.stack_judge.specs.declared.types.JudgePlace.{JudgePlace}
 use Rattle.stack_judge.specs.Judgement.{too_wide, spent, LacksLive}
 use Rattle.stack_range.specs.declared.types.Side.{Side}
-use Rattle.stack_stages.specs.OrderRead.{order_of}
-use Rattle.stack_stages.specs.Staged.{IsFirst}
+use Rattle.stack_stages.specs.OrderRead.{told_order}
+use Rattle.stack_stages.specs.Staged.{IsFirstStage}
 use Rattle.stack_yield.specs.declared.types.RegionPlace.{RegionPlace}
 use Rattle.stack_yield.specs.ByDirections.{IsFirstDirection}
 use Rattle.stack_yield.specs.Directions.{directions_of}
@@ -48,7 +48,7 @@ pub record HasFaultyOrder (bytes text : List ℕ) : Type 0 where
   pub is_accepted : IsAcceptedModel bytes survey
   pub is_short : IsShort text
   pub number : ℕ
-  pub is_first : order_of survey.structure text ≡ Err number
+  pub is_first : told_order survey.structure text ≡ Err number
 
 -- Beside an accepted model, a file that isn't too long tells an order. This stage is the first that isn't judged to
 -- stand, and a number of it is too wide.
@@ -57,14 +57,14 @@ pub record HasWideStage (bytes text : List ℕ) (budget : ℕ) : Type 0 where
   pub is_short : IsShort text
   pub stage : ℕ
   pub place : JudgePlace
-  pub is_first : IsFirst files.survey files.order budget stage (too_wide place)
+  pub is_first : IsFirstStage files.survey files.order budget stage (too_wide place)
 
 -- The same of a stage whose budget is spent.
 pub record HasSpentStage (bytes text : List ℕ) (budget : ℕ) : Type 0 where
   pub files : ModelAndOrder bytes text
   pub is_short : IsShort text
   pub stage : ℕ
-  pub is_first : IsFirst files.survey files.order budget stage spent
+  pub is_first : IsFirstStage files.survey files.order budget stage spent
 
 -- Of the two numbers this is the first that is in the way, in an accepted model.
 pub record HasNoPair (bytes : List ℕ) (i j : ℕ) : Type 0 where

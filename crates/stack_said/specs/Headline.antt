@@ -41,21 +41,21 @@ module _ (q : Question) (v : Surveyed) (budget : ℕ) where
   IsWide = (p : JudgePlace) × (judgement q v budget ≡ too_wide p)
 
   -- A pivot is due when the budget's are done.
-  abbrev pub IsOver : Type 0
-  IsOver = survey_run q v budget ≡ over
+  abbrev pub IsOverBudget : Type 0
+  IsOverBudget = survey_run q v budget ≡ over
 
 -- The five cases, and that each cause of a refusal has its status, unless memory is wanting. The live load is looked
 -- for first.
 pub record Judging (q : Question) (v : Surveyed) (budget status : ℕ) (out : StreamSeen) : Type 0 where
   pub cases : Prints q v status out
       ⊎ ((IsWide q v budget × Leaves status 7 out)
-      ⊎ ((IsOver q v budget × Leaves status 8 out)
+      ⊎ ((IsOverBudget q v budget × Leaves status 8 out)
       ⊎ ((LacksLive q v × Leaves status 9 out)
       ⊎ Leaves status 11 out)))
   -- where there is what is asked about, nothing is too wide and the budget is enough, a true certificate is printed
   -- whole, or memory is wanting
-  pub complete : ¬ (LacksLive q v) → ¬ (IsWide q v budget) → ¬ (IsOver q v budget)
+  pub complete : ¬ (LacksLive q v) → ¬ (IsWide q v budget) → ¬ (IsOverBudget q v budget)
       → Prints q v status out ⊎ Leaves status 11 out
   pub without_live : LacksLive q v → (status ≡ 9) ⊎ (status ≡ 11)
   pub wide : ¬ (LacksLive q v) → IsWide q v budget → (status ≡ 7) ⊎ (status ≡ 11)
-  pub over_budget : ¬ (LacksLive q v) → IsOver q v budget → (status ≡ 8) ⊎ (status ≡ 11)
+  pub over_budget : ¬ (LacksLive q v) → IsOverBudget q v budget → (status ≡ 8) ⊎ (status ≡ 11)

@@ -46,8 +46,8 @@ pub record ModelSays (bytes : List ℕ) (status : ℕ) (shelf : ShelfSeen) (out 
   pub only_faulty : status ≡ 5 → (length bytes ≤ greatest_file) × ModelFault bytes
 
 -- `check` and `table` read a certificate after the model.
-abbrev pub ReadsCertificate : Form → (model name : List ℕ) → Type 0
-ReadsCertificate form model name = (form ≡ check model name) ⊎ (form ≡ tables model name)
+abbrev pub FormReadsCertificate : Form → (model name : List ℕ) → Type 0
+FormReadsCertificate form model name = (form ≡ check model name) ⊎ (form ≡ tables model name)
 
 -- What a run of `check` or `table` says of the certificate's text, beside an accepted model. Of a file that is too long
 -- LengthSaid speaks.

@@ -8,7 +8,7 @@ use Rattle.stack_judge.specs.declared.types.JudgePlace.{JudgePlace}
 use Rattle.stack_judge.specs.Judgement.{certified, too_wide, spent, LacksLive}
 use Rattle.stack_range.specs.declared.types.Side.{Side}
 use Rattle.stack_range.specs.declared.types.Side.TheVariants.{Greatest, Least}
-use Rattle.stack_range.specs.CarriedFactors.{EndValue, end_certificate}
+use Rattle.stack_range.specs.CarriedFactors.{EndValue, range_end_certificate}
 use Rattle.stack_range.specs.Ranged.{RangeValue, collapsing, between, side_judgement, IsReached}
 use Rattle.stack_range.specs.RangeJudgement.{told, AreSides}
 use Rattle.stack_lines.specs.Refusals.{no_live, over_budget}
@@ -57,6 +57,6 @@ pub record RangeDecides (v : Surveyed) (budget status : ℕ) (out err : StreamSe
       → (y : MotionValue) × (side_judgement Greatest v budget ≡ certified (collapses y))
   -- and 0 where both sides have ends
   pub range : ¬ (LacksLive Live v) → (low high : EndValue)
-      → side_judgement Greatest v budget ≡ certified (end_certificate high)
-      → side_judgement Least v budget ≡ certified (end_certificate low)
+      → side_judgement Greatest v budget ≡ certified (range_end_certificate high)
+      → side_judgement Least v budget ≡ certified (range_end_certificate low)
       → WritesRange v (between low high) status out ⊎ Leaves status 11 out

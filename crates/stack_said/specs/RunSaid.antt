@@ -19,7 +19,7 @@ use Rattle.stack_said.specs.FurtherFaults.{HasNoPair}
 use Rattle.stack_said.specs.FurtherRefusals.{RangeRefusals, StagesRefusals, RegionRefusals}
 use Rattle.stack_said.specs.Headline.{Judging, PrintsOfFile}
 use Rattle.stack_said.specs.LengthSaid.{LengthSays}
-use Rattle.stack_said.specs.ModelSaid.{IsRefused, ModelSays, ReadsCertificate, CertificateSays}
+use Rattle.stack_said.specs.ModelSaid.{IsRefused, ModelSays, FormReadsCertificate, CertificateSays}
 use Rattle.stack_said.specs.Printed.{IsAcceptedAgain}
 use Rattle.stack_said.specs.RangeDecided.{RangeDecides}
 use Rattle.stack_said.specs.RangeSaid.{RangeSays}
@@ -61,7 +61,7 @@ pub record RunSays (status : ℕ) (form : Option Form) (shelf : ShelfSeen) (out 
       → files_of (Some f) ≡ model ∷ more → shelf.holds model ≡ Some bytes
       → ModelSays bytes status shelf out err
   -- how a faulty certificate is refused, by `check` and `table`
-  pub certificate : (f : Form) (model name bytes text : List ℕ) → form ≡ Some f → ReadsCertificate f model name
+  pub certificate : (f : Form) (model name bytes text : List ℕ) → form ≡ Some f → FormReadsCertificate f model name
       → shelf.holds model ≡ Some bytes → shelf.holds name ≡ Some text
       → CertificateSays bytes text status shelf out err
   -- how a file that is too long is refused, by each form

@@ -5,7 +5,7 @@ use Rattle.std.specs.Prelude.{◌≡◌, ℕ, List, Ok}
 use Rattle.stack_outside.specs.Seen.{StreamSeen, Took}
 use Rattle.stack_contact.specs.Surveyed.{Surveyed}
 use Rattle.stack_certificate.specs.Certificate.{ForcesValue, MotionValue}
-use Rattle.stack_stages.specs.OrderRead.{order_of}
+use Rattle.stack_stages.specs.OrderRead.{told_order}
 use Rattle.stack_stages.specs.Staged.{all_stand, falls, AreTrue, AreSettled}
 use Rattle.stack_stages.specs.StagesText.{stages_text}
 use Rattle.stack_lines.specs.AcceptedModel.{IsAcceptedModel}
@@ -15,7 +15,7 @@ pub record ModelAndOrder (bytes text : List ℕ) : Type 0 where
   pub survey : Surveyed
   pub order : List ℕ
   pub is_accepted : IsAcceptedModel bytes survey
-  pub is_text : order_of survey.structure text ≡ Ok order
+  pub is_text : told_order survey.structure text ≡ Ok order
 
 -- Each stage stands by forces that are true of it and accepted, so each carries its dead loads. The answer says so.
 pub record HoldStages (bytes text answer : List ℕ) : Type 0 where

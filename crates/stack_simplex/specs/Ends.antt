@@ -10,11 +10,11 @@ use Rattle.stack_simplex.specs.declared.refusal.RunError.TheVariants.{TooWide, S
 use Rattle.stack_run.specs.PhaseStops.{spot_of}
 
 -- the value of the written run that a refusal tells
-abbrev pub refused_as : RunError → End Fraction
-refused_as (TooWide p) = wide p.phase p.pivot (spot_of p)
-refused_as Spent = over
+abbrev pub refused_end : RunError → End Fraction
+refused_end (TooWide p) = wide p.phase p.pivot (spot_of p)
+refused_end Spent = over
 
 -- what an answer tells of the written run: how it ends, or why it has no end
 abbrev pub run_end : {V : Type 0} {number : Ghosts V} → Result (Ended V number) RunError → End Fraction
 run_end (Ok x) = ended_as x
-run_end (Err e) = refused_as e
+run_end (Err e) = refused_end e

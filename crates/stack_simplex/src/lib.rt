@@ -37,7 +37,7 @@ pub use stack_run::RunPlace;
 use stack_run::{budget_law, run_laws};
 use stack_table::Table;
 pub use stack_tableau::Ended;
-use stack_tableau::{EndKind, Stop, run_table};
+use stack_tableau::{EndKind, RunStop, run_table};
 
 /// The run by its three phases.
 fn run_phases<S: Exact>(t: Table<S>, budget: u32) -> Result<Ended<S>, RunError>
@@ -53,10 +53,10 @@ fn run_phases<S: Exact>(t: Table<S>, budget: u32) -> Result<Ended<S>, RunError>
         Ok(EndKind::Feasible) => Ok(Ended::Feasible(t)),
         Ok(EndKind::Optimal) => Ok(Ended::Optimal(t)),
         Ok(EndKind::Ray { column }) => Ok(Ended::Ray { table: t, column }),
-        Err(Stop::TooWide(place)) => Err(RunError::TooWide(place)),
-        Err(Stop::Spent) => Err(RunError::Spent),
+        Err(RunStop::TooWide(place)) => Err(RunError::TooWide(place)),
+        Err(RunStop::Spent) => Err(RunError::Spent),
         // The plain table settles all.
-        Err(Stop::Unsettled) => unreachable!(),
+        Err(RunStop::Unsettled) => unreachable!(),
     }
 }
 

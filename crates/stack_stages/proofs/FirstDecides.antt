@@ -8,7 +8,7 @@ use Rattle.stack_equilibrium.specs.declared.types.Question.TheVariants.{Dead}
 use Rattle.stack_judge.specs.Judgement.{Judgement, certified, too_wide, spent, judgement}
 use Rattle.stack_stages.specs.Stage.{surveyed_stage}
 use Rattle.stack_stages.specs.Staged.{all_stand, too_wide_at, spent_at, staged_by, staged_from, staged}
-use Rattle.stack_stages.specs.Staged.{StandBefore, AllAreJudged, IsFirst, FirstStagesDecide, StagesAreDecided}
+use Rattle.stack_stages.specs.Staged.{StandBefore, AllAreJudged, IsFirstStage, FirstStagesDecide, StagesAreDecided}
 use Rattle.stack_stages.specs.Staged.{StagesAreByStages}
 use Rattle.stack_stages.proofs.FirstRefused.{by_stages}
 
@@ -69,7 +69,7 @@ module _ (v : Surveyed) (order : List ℕ) (budget : ℕ) where
       let r = all_on h left (suc k) (fs ++ s.0 ∷ []) (omega (arith, c)) in
       (r.0, ap (staged_by (staged_from v order budget left (suc k)) (suc k) fs) s.1 ∙ r.1)
 
-  from_first : (stage : ℕ) (j : Judgement) → (f : IsFirst v order budget stage j)
+  from_first : (stage : ℕ) (j : Judgement) → (f : IsFirstStage v order budget stage j)
       → IsReachedBy (length order) 0 f.before [] j
   from_first stage j f = reached f.before j f.earlier
       (subst (λ n. judgement Dead (surveyed_stage v order n) budget ≡ j) f.is_next f.is) (length order) 0 []

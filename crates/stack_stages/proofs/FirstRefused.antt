@@ -12,7 +12,7 @@ use Rattle.stack_stages.specs.Stage.{surveyed_stage}
 use Rattle.stack_stages.specs.Staged.{staged_by, staged_from, staged, StandBefore, AreByStages}
 use Rattle.stack_stages.specs.declared.types.StagesError.{StagesError}
 use Rattle.stack_stages.specs.declared.types.StagesError.TheVariants as errors
-use Rattle.stack_stages.specs.Gives.{GivesStages, RefusesFirst}
+use Rattle.stack_stages.specs.Gives.{GivesStages, RefusesFirstStage}
 
 module _ (v : Surveyed) (order : List ℕ) (budget : ℕ) where
   -- the judgement of the stage behind stage k
@@ -73,7 +73,7 @@ module _ (v : Surveyed) (order : List ℕ) (budget : ℕ) where
 
   -- a stage that is refused is the first that doesn't stand
   pub refuses_first : (f : StagesError) → GivesStages (Err f) (staged v order budget)
-      → RefusesFirst (Err f) v order budget
+      → RefusesFirstStage (Err f) v order budget
   refuses_first (errors.TooWide stage p) g = subst (AreByStages v order budget) g by_stages
   refuses_first (errors.Spent stage) g = subst (AreByStages v order budget) g by_stages
   refuses_first errors.Memory g = tt

@@ -19,9 +19,9 @@ use Rattle.stack_model.specs.Structure.{NamedBody, Structure, body_of}
 use Rattle.stack_model.specs.Content.{body_names}
 use Rattle.stack_model.specs.Sound.{AreDifferent}
 use Rattle.stack_stages.specs.Order.{IsOrder}
-use Rattle.stack_stages.specs.OrderRead.{block_line, is_free_line, block_of, unless_among, next_block, with_next}
+use Rattle.stack_stages.specs.OrderRead.{block_line, is_free_line, block_named, unless_among, next_block, with_next}
 use Rattle.stack_certificate.specs.FaultLine.{cut}
-use Rattle.stack_stages.specs.OrderRead.{order_over, order_of, order_lines, AreRead}
+use Rattle.stack_stages.specs.OrderRead.{order_over, told_order, order_lines, AreRead}
 use Rattle.stack_stages.proofs.Positions.{none_passes}
 
 -- two tests that hold together are the same
@@ -91,15 +91,15 @@ module _ (s : Structure) (different : AreDifferent (body_names s.bodies)) where
       ]
 
   -- the body that is found has this line
-  found : (line : List ℕ) (n : ℕ) → block_of s line ≡ Some n → IsNamed line n
+  found : (line : List ℕ) (n : ℕ) → block_named s line ≡ Some n → IsNamed line n
   found line n e = let p = position-Some (is_free_line line) s.bodies n _ e in named_so line n p.0 p.1
 
   -- a line that names no further block: if it is a block's, that one comes before
   faulty : (ns : List ℕ) (line : List ℕ) → next_block s ns line ≡ None → (n : ℕ) → IsNamed line n
       → (k : ℕ) × (slice_get ns k ≡ Some n)
-  faulty ns line e n h = go (block_of s line) refl e
+  faulty ns line e n h = go (block_named s line) refl e
     where
-      among : (m : ℕ) → block_of s line ≡ Some m → (t : Bool) → list_any (λ k. nat_eq k m) ns ≡ t
+      among : (m : ℕ) → block_named s line ≡ Some m → (t : Bool) → list_any (λ k. nat_eq k m) ns ≡ t
           → (if t then None else Some m) ≡ None → (k : ℕ) × (slice_get ns k ≡ Some n)
       among m f true g x =
           let a = Any-from_list_any (λ k. nat_eq k m) ns g in
@@ -107,7 +107,7 @@ module _ (s : Structure) (different : AreDifferent (body_names s.bodies)) where
           (a.0, slice_get-get_or ns a.0 a.1 a.2 ∙ ap Some (a.3 ∙ same))
       among m f false g x = absurd (cc)
 
-      go : (o : Option ℕ) → block_of s line ≡ o → unless_among ns o ≡ None → (k : ℕ) × (slice_get ns k ≡ Some n)
+      go : (o : Option ℕ) → block_named s line ≡ o → unless_among ns o ≡ None → (k : ℕ) × (slice_get ns k ≡ Some n)
       go None f x =
           let p : is_free_line line (body_of s n) ≡ false = none_passes (is_free_line line) s.bodies _ f n h.within in
           let q : true ≡ false = sym (passes line n h) ∙ p in
@@ -153,15 +153,15 @@ module _ (s : Structure) (different : AreDifferent (body_names s.bodies)) where
   -- one further block of an order
   further : (ns : List ℕ) (n : ℕ) (line : List ℕ) → IsOrder s ns → next_block s ns line ≡ Some n
       → IsOrder s (ns ++ n ∷ []) × (line ≡ block_line (body_of s n))
-  further ns n line h e = go (block_of s line) refl e
+  further ns n line h e = go (block_named s line) refl e
     where
-      among : (m : ℕ) → block_of s line ≡ Some m → (t : Bool) → list_any (λ k. nat_eq k m) ns ≡ t
+      among : (m : ℕ) → block_named s line ≡ Some m → (t : Bool) → list_any (λ k. nat_eq k m) ns ≡ t
           → (if t then None else Some m) ≡ Some n → IsNamed line n × (list_any (λ k. nat_eq k n) ns ≡ false)
       among m f true g x = absurd (cc)
       among m f false g x = let same = same_Some m n x in
           (subst (IsNamed line) same (found line m f), subst (λ n. list_any (λ k. nat_eq k n) ns ≡ false) same g)
 
-      go : (o : Option ℕ) → block_of s line ≡ o → unless_among ns o ≡ Some n
+      go : (o : Option ℕ) → block_named s line ≡ o → unless_among ns o ≡ Some n
           → IsOrder s (ns ++ n ∷ []) × (line ≡ block_line (body_of s n))
       go None f x = absurd (cc)
       go (Some m) f x = let r = among m f (list_any (λ k. nat_eq k m) ns) refl x in
@@ -206,20 +206,20 @@ module _ (s : Structure) (different : AreDifferent (body_names s.bodies)) where
   }
 
   -- what a text is read as
-  pub answered : (text : List ℕ) (r : Result (List ℕ) ℕ) → order_of s text ≡ r
-      → (order_of s text ≡ r) × AreRead s r (cut text)
+  pub answered : (text : List ℕ) (r : Result (List ℕ) ℕ) → told_order s text ≡ r
+      → (told_order s text ≡ r) × AreRead s r (cut text)
   answered text r e = (e, subst (λ r. AreRead s r (cut text)) e (read_so [] (cut text) (cut text) no_order refl))
 
   -- reading stops at a line that names no further block
-  pub stopped : (ns text rest line after : List ℕ) (m : ℕ) → order_over s ns (cut rest) ≡ order_of s text
+  pub stopped : (ns text rest line after : List ℕ) (m : ℕ) → order_over s ns (cut rest) ≡ told_order s text
       → cut rest ≡ line ∷ cut after → next_block s ns line ≡ None → m ≡ suc (length ns)
-      → order_of s text ≡ Err m
+      → told_order s text ≡ Err m
   stopped ns text rest line after m e c n k =
       sym e ∙ (ap (order_over s ns) c ∙ (ap (with_next (λ ms. order_over s ms (cut after)) ns) n ∙ ap Err (sym k)))
 
   -- reading is done where no line is left
-  pub closed : (ns text rest : List ℕ) → order_over s ns (cut rest) ≡ order_of s text → length rest ≡ 0
-      → order_of s text ≡ Ok ns
+  pub closed : (ns text rest : List ℕ) → order_over s ns (cut rest) ≡ told_order s text → length rest ≡ 0
+      → told_order s text ≡ Ok ns
   unfolding cut
   closed ns text [] e l = sym e
   closed ns text (b ∷ bs) e l = absurd (omega (arith, l))

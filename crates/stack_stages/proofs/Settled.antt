@@ -15,7 +15,7 @@ use Rattle.stack_part.specs.Part.{surveyed_part}
 use Rattle.stack_model.proofs.PartSound.{part_sound}
 use Rattle.stack_part.proofs.PartSurveys.{part_surveyed}
 use Rattle.stack_stages.specs.Stage.{is_built, surveyed_stage}
-use Rattle.stack_stages.specs.Staged.{Staged, all_stand, falls, too_wide_at, spent_at, no_stages, AreStanding}
+use Rattle.stack_stages.specs.Staged.{Staged, all_stand, falls, too_wide_at, spent_at, no_stages, AreStandingStages}
 use Rattle.stack_stages.specs.Staged.{AreTrue, AreCarried, AreSettled}
 
 module _ (v : Surveyed) (sound : IsSound v.structure) (survey : IsSurvey v.structure v) (order : List ℕ) where
@@ -27,7 +27,7 @@ module _ (v : Surveyed) (sound : IsSound v.structure) (survey : IsSurvey v.struc
       (part_surveyed keeps v.structure v survey)
 
   -- stages that stand by forces are carried
-  carried : (fs : List ForcesValue) (n : ℕ) → AreStanding v order fs → length fs ≡ n → AreCarried v order n
+  carried : (fs : List ForcesValue) (n : ℕ) → AreStandingStages v order fs → length fs ≡ n → AreCarried v order n
   carried fs n h e k l =
       let none : ForcesValue = record { scale = pos 0; factor = pos 0; parts = [] } in
       let f = get_or fs k none in

@@ -11,7 +11,7 @@ use Rattle.stack_judge.specs.Judgement.{Judgement, certified, too_wide, spent, j
 use Rattle.stack_judge.specs.Judged.{IsJudged}
 use Rattle.stack_stages.specs.Stage.{surveyed_stage}
 use Rattle.stack_stages.specs.Staged.{Staged, all_stand, falls, too_wide_at, spent_at, staged_by, staged_from}
-use Rattle.stack_stages.specs.Staged.{staged, AreStanding, AreTrue}
+use Rattle.stack_stages.specs.Staged.{staged, AreStandingStages, AreTrue}
 use Rattle.stack_stages.specs.declared.types.StagesError.{StagesError}
 use Rattle.stack_stages.specs.declared.types.StagesError.TheVariants as errors
 use Rattle.stack_stages.specs.Gives.{GivesOutcome, GivesStages}
@@ -23,7 +23,7 @@ module _ (v : Surveyed) (order : List ℕ) (budget : ℕ) where
     pub count : k + left ≡ length order
     pub as_many : length fs ≡ k
     pub is : staged_from v order budget left k fs ≡ staged v order budget
-    pub standing : AreStanding v order fs
+    pub standing : AreStandingStages v order fs
 
   -- at first no stage is judged
   pub none_yet : IsStagedTo 0 []
@@ -100,11 +100,11 @@ module _ (v : Surveyed) (order : List ℕ) (budget : ℕ) where
 
   -- no stage is left
   pub all_done : (k : ℕ) (fs : List ForcesValue) → IsStagedTo k fs → length order ≤ k
-      → (staged v order budget ≡ all_stand fs) × (AreStanding v order fs × (length fs ≡ length order))
+      → (staged v order budget ≡ all_stand fs) × (AreStandingStages v order fs × (length fs ≡ length order))
   all_done k fs h l = go h.left h.count h.is
     where
       go : (left : ℕ) → k + left ≡ length order → staged_from v order budget left k fs ≡ staged v order budget
-          → (staged v order budget ≡ all_stand fs) × (AreStanding v order fs × (length fs ≡ length order))
+          → (staged v order budget ≡ all_stand fs) × (AreStandingStages v order fs × (length fs ≡ length order))
       go zero c e = (sym e, (h.standing, h.as_many ∙ (omega (arith, c))))
       go (suc left) c e = absurd (omega (arith, c, l))
 

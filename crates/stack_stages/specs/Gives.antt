@@ -10,7 +10,7 @@ use Rattle.stack_stages.specs.declared.types.Stages.{Stages}
 use Rattle.stack_stages.specs.declared.types.Stages.TheVariants as answers
 use Rattle.stack_stages.specs.declared.types.StagesError.{StagesError}
 use Rattle.stack_stages.specs.declared.types.StagesError.TheVariants as errors
-use Rattle.stack_stages.specs.Staged.{Staged, all_stand, falls, too_wide_at, spent_at, IsFirst}
+use Rattle.stack_stages.specs.Staged.{Staged, all_stand, falls, too_wide_at, spent_at, IsFirstStage}
 use Rattle.stack_contact.specs.Surveyed.{Surveyed}
 
 -- what is answered, without where it lies in memory
@@ -45,8 +45,8 @@ GivesStages (Err (errors.Spent stage)) x = x ≡ spent_at stage
 GivesStages (Err errors.Memory) x = ⊤
 
 -- a stage that is refused is the first that doesn't stand
-abbrev pub RefusesFirst : Result Stages StagesError → Surveyed → List ℕ → (budget : ℕ) → Type 0
-RefusesFirst (Ok r) v order budget = ⊤
-RefusesFirst (Err (errors.TooWide stage p)) v order budget = IsFirst v order budget stage (too_wide p)
-RefusesFirst (Err (errors.Spent stage)) v order budget = IsFirst v order budget stage spent
-RefusesFirst (Err errors.Memory) v order budget = ⊤
+abbrev pub RefusesFirstStage : Result Stages StagesError → Surveyed → List ℕ → (budget : ℕ) → Type 0
+RefusesFirstStage (Ok r) v order budget = ⊤
+RefusesFirstStage (Err (errors.TooWide stage p)) v order budget = IsFirstStage v order budget stage (too_wide p)
+RefusesFirstStage (Err (errors.Spent stage)) v order budget = IsFirstStage v order budget stage spent
+RefusesFirstStage (Err errors.Memory) v order budget = ⊤

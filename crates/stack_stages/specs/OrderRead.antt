@@ -18,8 +18,8 @@ abbrev pub is_free_line : List ℕ → NamedBody → Bool
 is_free_line line b = not b.fixed && bytes_eq line (block_line b)
 
 -- the number of the free block whose line this is
-abbrev pub block_of : Structure → List ℕ → Option ℕ
-block_of s line = position (is_free_line line) s.bodies
+abbrev pub block_named : Structure → List ℕ → Option ℕ
+block_named s line = position (is_free_line line) s.bodies
 
 -- a number, where it isn't one of these already
 abbrev pub unless_among : List ℕ → Option ℕ → Option ℕ
@@ -28,7 +28,7 @@ unless_among ns (Some n) = if list_any (λ m. nat_eq m n) ns then None else Some
 
 -- the number of the next block of an order
 abbrev pub next_block : Structure → List ℕ → List ℕ → Option ℕ
-next_block s ns line = unless_among ns (block_of s line)
+next_block s ns line = unless_among ns (block_named s line)
 
 -- one more block, or the number of the line that tells none
 abbrev pub with_next : (List ℕ → Result (List ℕ) ℕ) → List ℕ → Option ℕ → Result (List ℕ) ℕ
@@ -41,8 +41,8 @@ order_over s ns [] = Ok ns
 order_over s ns (line ∷ more) = with_next (λ ms. order_over s ms more) ns (next_block s ns line)
 
 -- the order that a text tells, or the number of its first faulty line, from 1
-abbrev pub order_of : Structure → List ℕ → Result (List ℕ) ℕ
-order_of s text = order_over s [] (cut text)
+abbrev pub told_order : Structure → List ℕ → Result (List ℕ) ℕ
+told_order s text = order_over s [] (cut text)
 
 -- the lines of these blocks
 abbrev pub order_lines : Structure → List ℕ → List (List ℕ)
@@ -66,6 +66,6 @@ AreRead s (Err number) lines = IsFaultyLine s number lines
 
 -- what is answered, without where it lies in memory. `Memory` may come at any time
 abbrev pub ReadsOrder : Structure → Result (List ℕ) OrderError → List ℕ → Type 0
-ReadsOrder s (Ok ns) text = (order_of s text ≡ Ok ns) × AreRead s (Ok ns) (cut text)
-ReadsOrder s (Err (Line number)) text = (order_of s text ≡ Err number) × AreRead s (Err number) (cut text)
+ReadsOrder s (Ok ns) text = (told_order s text ≡ Ok ns) × AreRead s (Ok ns) (cut text)
+ReadsOrder s (Err (Line number)) text = (told_order s text ≡ Err number) × AreRead s (Err number) (cut text)
 ReadsOrder s (Err Memory) text = ⊤

@@ -45,14 +45,14 @@ abbrev pub staged : Surveyed → List ℕ → (budget : ℕ) → Staged
 staged v order budget = staged_from v order budget (length order) 0 []
 
 -- list k, from 1, makes a true certificate that stage k stands
-abbrev pub AreStanding : Surveyed → List ℕ → List ForcesValue → Type 0
-AreStanding v order fs = (k : ℕ) (f : ForcesValue) → slice_get fs k ≡ Some f
+abbrev pub AreStandingStages : Surveyed → List ℕ → List ForcesValue → Type 0
+AreStandingStages v order fs = (k : ℕ) (f : ForcesValue) → slice_get fs k ≡ Some f
     → IsJudged Dead (surveyed_stage v order (suc k)) (stands f)
 
 -- all stages stand, or the first ones do and the next one collapses
 abbrev pub AreTrue : Surveyed → List ℕ → Staged → Type 0
-AreTrue v order (all_stand fs) = AreStanding v order fs × (length fs ≡ length order)
-AreTrue v order (falls fs m) = AreStanding v order fs × (length fs < length order)
+AreTrue v order (all_stand fs) = AreStandingStages v order fs × (length fs ≡ length order)
+AreTrue v order (falls fs m) = AreStandingStages v order fs × (length fs < length order)
     × IsJudged Dead (surveyed_stage v order (suc (length fs))) (collapses m)
 AreTrue v order (too_wide_at stage p) = ⊥
 AreTrue v order (spent_at stage) = ⊥
@@ -77,7 +77,7 @@ StandBefore v order budget n = (k : ℕ) → k < n →
     (f : ForcesValue) × (judgement Dead (surveyed_stage v order (suc k)) budget ≡ certified (stands f))
 
 -- stage number `stage`, from 1, is judged so, and all before it to stand
-pub record IsFirst (v : Surveyed) (order : List ℕ) (budget stage : ℕ) (j : Judgement) : Type 0 where
+pub record IsFirstStage (v : Surveyed) (order : List ℕ) (budget stage : ℕ) (j : Judgement) : Type 0 where
   pub before : ℕ
   pub is_next : stage ≡ suc before
   pub within : before < length order
@@ -92,9 +92,9 @@ AllAreJudged v order budget = StandBefore v order budget (length order)
 -- that a number of it is too wide or that its budget is spent
 abbrev pub AreByStages : Surveyed → List ℕ → (budget : ℕ) → Staged → Type 0
 AreByStages v order budget (all_stand fs) = AllAreJudged v order budget
-AreByStages v order budget (falls fs m) = IsFirst v order budget (suc (length fs)) (certified (collapses m))
-AreByStages v order budget (too_wide_at stage p) = IsFirst v order budget stage (too_wide p)
-AreByStages v order budget (spent_at stage) = IsFirst v order budget stage spent
+AreByStages v order budget (falls fs m) = IsFirstStage v order budget (suc (length fs)) (certified (collapses m))
+AreByStages v order budget (too_wide_at stage p) = IsFirstStage v order budget stage (too_wide p)
+AreByStages v order budget (spent_at stage) = IsFirstStage v order budget stage spent
 AreByStages v order budget no_stages = ⊥
 
 -- the judgement of all stages says this of each, and none is left over
@@ -104,10 +104,10 @@ StagesAreByStages = (v : Surveyed) (order : List ℕ) (budget : ℕ) → AreBySt
 -- the first stage of which a number is too wide, or whose budget is spent, is what comes of all; and where all are
 -- judged to stand, so does all
 pub record FirstStagesDecide (v : Surveyed) (order : List ℕ) (budget : ℕ) : Type 0 where
-  pub wide : (stage : ℕ) (p : JudgePlace) → IsFirst v order budget stage (too_wide p)
+  pub wide : (stage : ℕ) (p : JudgePlace) → IsFirstStage v order budget stage (too_wide p)
       → staged v order budget ≡ too_wide_at stage p
-  pub over_budget : (stage : ℕ) → IsFirst v order budget stage spent → staged v order budget ≡ spent_at stage
-  pub fall : (stage : ℕ) (m : MotionValue) → IsFirst v order budget stage (certified (collapses m))
+  pub over_budget : (stage : ℕ) → IsFirstStage v order budget stage spent → staged v order budget ≡ spent_at stage
+  pub fall : (stage : ℕ) (m : MotionValue) → IsFirstStage v order budget stage (certified (collapses m))
       → (fs : List ForcesValue) × (staged v order budget ≡ falls fs m) × (stage ≡ suc (length fs))
   pub stand : AllAreJudged v order budget → (fs : List ForcesValue) × (staged v order budget ≡ all_stand fs)
 

@@ -31,6 +31,6 @@ stages_text (spent_at stage) = []
 stages_text no_stages = []
 
 -- what comes of stages can be printed: whatever is told can
-abbrev pub CanPrint : Staged → Type 0
-CanPrint (falls fs m) = CertificateFits (collapses m)
-CanPrint _ = ⊤
+abbrev pub CanPrintStages : Staged → Type 0
+CanPrintStages (falls fs m) = CertificateFits (collapses m)
+CanPrintStages _ = ⊤

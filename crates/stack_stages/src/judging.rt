@@ -9,8 +9,8 @@ ghost use Rattle.stack_judge.specs.Judged.{IsJudged};
 ghost use Rattle.stack_stages.specs.Stage.{surveyed_stage};
 ghost use Rattle.stack_stages.specs.Staged.{staged, AreTrue, AreSettled};
 ghost use Rattle.stack_stages.specs.Gives.{stages_view, outcome_view, unjudged_at, GivesOutcome, GivesStages};
-ghost use Rattle.stack_stages.specs.Gives.{RefusesFirst};
-ghost use Rattle.stack_stages.specs.StagesText.{CanPrint};
+ghost use Rattle.stack_stages.specs.Gives.{RefusesFirstStage};
+ghost use Rattle.stack_stages.specs.StagesText.{CanPrintStages};
 
 use crate::stage::stage_of;
 use crate::types::{Outcome, Stages, StagesError};
@@ -80,10 +80,10 @@ pub fn stages(
 ) -> Result<Stages, StagesError>
     requires { budget ≢ 0 }
     ensures gives { GivesStages result (staged s.now order.now budget) }
-    ensures refused { RefusesFirst result s.now order.now budget }
+    ensures refused { RefusesFirstStage result s.now order.now budget }
     ensures certified { IfOk result (λ r. AreTrue s.now order.now (stages_view r)) }
     ensures settled { IfOk result (λ r. AreSettled s.now order.now (stages_view r)) }
-    ensures printable { IfOk result (λ r. CanPrint (stages_view r)) }
+    ensures printable { IfOk result (λ r. CanPrintStages (stages_view r)) }
 {
     let _known = s.bearings();
     let _sound = s.model().bodies();

@@ -4,7 +4,7 @@ ghost use Rattle.std.specs.Prelude.{◌≡◌, ◌<◌, [], ◌∷◌, ◌++◌,
 ghost use Rattle.std.specs.Str.{bytes_eq};
 ghost use Rattle.stack_model.specs.Structure.{body_of};
 ghost use Rattle.stack_model.specs.ModelView.{model_view};
-ghost use Rattle.stack_stages.specs.OrderRead.{is_free_line, block_of, next_block as next_block_of};
+ghost use Rattle.stack_stages.specs.OrderRead.{is_free_line, block_named, next_block as next_block_of};
 
 use stack_model::Model;
 
@@ -31,7 +31,7 @@ fn names(model: &Model, i: usize, line: &[u8]) -> bool
 
 /// The number of the free block whose line this is.
 fn named(model: &Model, line: &[u8]) -> Option<usize>
-    ensures { result ≡ block_of (model_view model.now) line.now }
+    ensures { result ≡ block_named (model_view model.now) line.now }
 {
     for i in 0..model.bodies() {
         if names(model, i, line) {

@@ -4,7 +4,8 @@ ghost use Rattle.std.specs.Prelude.{◌≡◌, ◌++◌, IfOk, length, string_by
 ghost use Rattle.stack_certificate.specs.Certificate.{motion_view, collapses};
 ghost use Rattle.stack_certificate.specs.CertificateText.{CertificateFits};
 ghost use Rattle.stack_stages.specs.Gives.{stages_view};
-ghost use Rattle.stack_stages.specs.StagesText.{stands_line, stand_lines as lines_of_standing, stages_text, CanPrint};
+ghost use Rattle.stack_stages.specs.StagesText.{stands_line, stand_lines as lines_of_standing, stages_text};
+ghost use Rattle.stack_stages.specs.StagesText.{CanPrintStages};
 ghost use Rattle.stack_stages.specs.StagesText.{falls_text as text_of_falling};
 
 use crate::types::Stages;
@@ -51,7 +52,7 @@ fn falls_text(alloc: Global, before: &[Forces], motion: Motion) -> Result<Vec<u8
 /// `all stand`, or the line `stage K collapses` and the text of the certificate of that stage. `AllocError` where
 /// memory ran out.
 pub fn write_stages(alloc: Global, found: Stages) -> Result<Vec<u8>, AllocError>
-    requires { CanPrint (stages_view found) }
+    requires { CanPrintStages (stages_view found) }
     ensures { IfOk result (λ t. t.items ≡ stages_text (stages_view found)) }
 {
     match found {

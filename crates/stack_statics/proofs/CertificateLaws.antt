@@ -8,7 +8,7 @@ use Rattle.stack_algebra.proofs.Order.{◌≼◌, ◌≺◌, mul_pos, mul_nonneg
 use Rattle.stack_statics.specs.Scene.{BearingPart, Scene, IsProper}
 use Rattle.stack_statics.specs.Balance.{IsBalanced, IsAdmissible, Carries}
 use Rattle.stack_statics.specs.Motions.{dead_power_of, live_power_of}
-use Rattle.stack_statics.specs.Certificates.{SceneForces, part_of, move_of}
+use Rattle.stack_statics.specs.Certificates.{SceneForces, scene_part_at, move_of}
 use Rattle.stack_statics.specs.Laws.{StandsIsCarried, CollapseExcludesBalance, GreatestIsCarried}
 use Rattle.stack_statics.specs.Laws.{GreatestBoundsEveryFactor, UnboundedCarriesAbove, UnboundedCarriesAll}
 use Rattle.stack_statics.proofs.Work.{loads_lose}
@@ -17,10 +17,10 @@ use Rattle.stack_statics.proofs.Mixtures.{mixed, balanced_mixed, admissible_mixe
 pub stands_is_carried : StandsIsCarried
 stands_is_carried s f h = record {
   k = f.scale;
-  parts = part_of f;
+  parts = scene_part_at f;
   positive = h.scale_positive;
   admissible = h.forces.admissible;
-  balanced = subst₂ (IsBalanced s (part_of f)) (simp expand (omega (arith, sums)))
+  balanced = subst₂ (IsBalanced s (scene_part_at f)) (simp expand (omega (arith, sums)))
       (zero_is f.factor f.scale h.factor_zero) h.forces.balanced;
 }
   where
@@ -44,10 +44,10 @@ one_times x = simp expand (omega (arith, sums))
 pub greatest_is_carried : GreatestIsCarried
 greatest_is_carried s f moves g = record {
   k = pos 1;
-  parts = part_of f;
+  parts = scene_part_at f;
   positive = omega (arith, sums);
   admissible = g.loaded.forces.admissible;
-  balanced = subst₂ (IsBalanced s (part_of f)) (sym (one_times f.scale)) (sym (one_times f.factor))
+  balanced = subst₂ (IsBalanced s (scene_part_at f)) (sym (one_times f.scale)) (sym (one_times f.factor))
       g.loaded.forces.balanced;
 }
 
@@ -96,20 +96,20 @@ raised s f g D L rise L' D' proper hd hr hd' h af bf ag bg = record {
     factor D rise L' D' L = simp expand (omega (arith, sums))
 
 -- a ray of scale 0 balances its live loads alone
-ray_balanced : (s : Scene) (g : SceneForces) → g.scale ≡ pos 0 → IsBalanced s (part_of g) g.scale g.factor →
-    IsBalanced s (part_of g) (pos 0) g.factor
-ray_balanced s g e b = subst₂ (IsBalanced s (part_of g)) e (λ i. g.factor) b
+ray_balanced : (s : Scene) (g : SceneForces) → g.scale ≡ pos 0 → IsBalanced s (scene_part_at g) g.scale g.factor →
+    IsBalanced s (scene_part_at g) (pos 0) g.factor
+ray_balanced s g e b = subst₂ (IsBalanced s (scene_part_at g)) e (λ i. g.factor) b
 
 pub unbounded_carries_above : UnboundedCarriesAbove
 unbounded_carries_above s base ray proper u L D hd h =
-    raised s (part_of base) (part_of ray) base.scale base.factor ray.factor L D proper
+    raised s (scene_part_at base) (scene_part_at ray) base.scale base.factor ray.factor L D proper
     u.loaded.scale_positive u.rises.factor_positive hd h
     u.loaded.forces.admissible u.loaded.forces.balanced
     u.rises.forces.admissible (ray_balanced s ray u.rises.scale_zero u.rises.forces.balanced)
 
 pub unbounded_carries_all : UnboundedCarriesAll
 unbounded_carries_all s base ray proper u c L D hl hd =
-    raised s c.parts (part_of ray) (c.k *ℤ pos 1) (c.k *ℤ pos 0) ray.factor L D proper
+    raised s c.parts (scene_part_at ray) (c.k *ℤ pos 1) (c.k *ℤ pos 0) ray.factor L D proper
     (omega (arith, sums, c.positive, one_right c.k)) u.rises.factor_positive hd (below c.k L D c.positive hl)
     c.admissible c.balanced
     u.rises.forces.admissible (ray_balanced s ray u.rises.scale_zero u.rises.forces.balanced)

@@ -8,7 +8,7 @@ use Rattle.stack_algebra.proofs.Order.{◌≼◌, ◌≺◌, mul_pos, mul_nonneg
 use Rattle.stack_algebra.proofs.CrossProducts.{positive_cancel}
 use Rattle.stack_statics.specs.Scene.{BearingPart, Scene, IsProper}
 use Rattle.stack_statics.specs.Balance.{IsBalanced, Carries}
-use Rattle.stack_statics.specs.Certificates.{part_of}
+use Rattle.stack_statics.specs.Certificates.{scene_part_at}
 use Rattle.stack_statics.specs.Shares.{share_of, StandingShareIsCarried, FallingShareIsNotCarried, CarriedHasNoGaps}
 use Rattle.stack_statics.specs.Shares.{NothingAboveIsCarried}
 use Rattle.stack_statics.proofs.CertificateLaws.{collapse_excludes_balance}
@@ -38,11 +38,11 @@ to_share s f k N D h i l t = record {
 pub standing_share_is_carried : StandingShareIsCarried
 standing_share_is_carried s N D f h = record {
   k = f.scale;
-  parts = part_of f;
+  parts = scene_part_at f;
   positive = h.scale_positive;
   admissible = h.forces.admissible;
-  balanced = of_share s (part_of f) f.scale N D
-      (subst₂ (IsBalanced (share_of s N D) (part_of f)) (λ i. f.scale) h.factor_zero h.forces.balanced);
+  balanced = of_share s (scene_part_at f) f.scale N D
+      (subst₂ (IsBalanced (share_of s N D) (scene_part_at f)) (λ i. f.scale) h.factor_zero h.forces.balanced);
 }
 
 -- the share stands where the factor is carried

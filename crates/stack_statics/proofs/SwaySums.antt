@@ -8,7 +8,7 @@ use Rattle.stack_polygon.specs.Corners.{corner_of}
 use Rattle.stack_polygon.specs.Area.{twice_area_of, moment_about_y_of, moment_about_x_of, six_moments_of}
 use Rattle.stack_statics.specs.Loads.{sum_of_triangles, moment_of_triangle}
 use Rattle.stack_statics.proofs.FanSums.{fan_is}
-use Rattle.stack_statics.specs.Sway.{level_moment_of_triangle, sway_of, sway_by}
+use Rattle.stack_statics.specs.Sway.{level_moment_of_triangle, sway_load, sway_by}
 
 -- along one coordinate g: six times the first moment about the line through o, and about the axis
 module _ (g : Point → ℤ) where
@@ -52,7 +52,7 @@ about_x_is o rest = moved (λ p. p.y) o rest
 pub sways : (s : ℤ × ℤ) (w : ℤ) (ps : List Point) (area about_y about_x : ℤ) → area ≡ twice_area_of ps
     → about_y ≡ (six_moments_of ps).0 -ℤ pos 3 *ℤ (corner_of ps 0).x *ℤ twice_area_of ps
     → about_x ≡ (six_moments_of ps).1 -ℤ pos 3 *ℤ (corner_of ps 0).y *ℤ twice_area_of ps
-    → sway_by s w area about_y about_x ≡ sway_of s w ps
+    → sway_by s w area about_y about_x ≡ sway_load s w ps
 sways s w [] area about_y about_x is_area is_y is_x =
     (λ i. sway_by s w (is_area i) ((is_y ∙ nothing) i) ((is_x ∙ nothing) i))
     ∙ (λ i. record { fx = force w s.0 i; fy = force w s.1 i; m = turning w s.0 s.1 i })

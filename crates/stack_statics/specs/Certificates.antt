@@ -21,8 +21,8 @@ pub record SceneForces : Type 0 where
   pub parts : List BearingPart
 
 -- what a list of forces gives bearing k to bear; past its end that is nothing
-abbrev pub part_of : SceneForces → ℕ → BearingPart
-part_of f k = get_or f.parts k (record { a = pos 0; b = pos 0 })
+abbrev pub scene_part_at : SceneForces → ℕ → BearingPart
+scene_part_at f k = get_or f.parts k (record { a = pos 0; b = pos 0 })
 
 -- the move of a body that stays where it is
 abbrev pub still : Move
@@ -40,8 +40,8 @@ move_of s moves i = cond (s.body i).free (get_or moves (free_before s i) still) 
 -- forces with as many parts as bearings, admissible and balanced
 pub record AreBalanced (s : Scene) (f : SceneForces) : Type 0 where
   pub count : length f.parts ≡ s.bearings
-  pub admissible : IsAdmissible s (part_of f)
-  pub balanced : IsBalanced s (part_of f) f.scale f.factor
+  pub admissible : IsAdmissible s (scene_part_at f)
+  pub balanced : IsBalanced s (scene_part_at f) f.scale f.factor
 
 -- a motion with as many moves as free bodies, which no admissible force resists
 pub record IsFreeMotion (s : Scene) (moves : List Move) : Type 0 where

@@ -17,9 +17,9 @@ level_moment_of_triangle o p q = triangle_of o p q *ℤ heights_of o p q
 
 -- the load of the sway (s.0, s.1) on a body with these corners and this weight per unit of area, about its first
 -- corner
-abbrev pub sway_of : ℤ × ℤ → ℤ → List Point → Wrench
-sway_of s w [] = no_load
-sway_of s w (o ∷ rest) = record {
+abbrev pub sway_load : ℤ × ℤ → ℤ → List Point → Wrench
+sway_load s w [] = no_load
+sway_load s w (o ∷ rest) = record {
   fx = pos 3 *ℤ (w *ℤ sum_of_triangles triangle_of o rest) *ℤ s.0;
   fy = pos 3 *ℤ (w *ℤ sum_of_triangles triangle_of o rest) *ℤ s.1;
   m = w *ℤ sum_of_triangles moment_of_triangle o rest *ℤ s.1

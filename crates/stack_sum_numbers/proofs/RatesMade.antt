@@ -19,7 +19,7 @@ use Rattle.stack_statics.specs.Scene.{Move}
 use Rattle.stack_statics.specs.Certificates.{still, free_before}
 use Rattle.stack_equilibrium.specs.SurveyScene.{first_corner_of, bearing_of, scene_of}
 use Rattle.stack_equilibrium.specs.Held.{move_of_triple, moves_of}
-use Rattle.stack_equilibrium.specs.WrittenSums.{joint_at}
+use Rattle.stack_equilibrium.specs.WrittenSums.{lever_at}
 use Rattle.stack_equilibrium.specs.WrittenVelocities.{block_move_at, at_rest, written_velocity, velocity_at}
 use Rattle.stack_equilibrium.specs.WrittenVelocities.{written_difference, written_normal, written_tangential}
 use Rattle.stack_equilibrium.specs.WrittenVelocities.{written_gap, gap_at, told_gap, written_opening}
@@ -61,7 +61,7 @@ module _ (s : Surveyed) (y : MotionValue) (z : Bearing) (i : ℕ) where
 
   free_made : (n : ℕ) → InOrder (numbers_of (move_of_triple (triple n)))
       (velocity (x_of (move_of_triple (triple n))) (y_of (move_of_triple (triple n))))
-      (written_velocity (block_move_at y n) (joint_at (first_corner_of s.structure i) z))
+      (written_velocity (block_move_at y n) (lever_at (first_corner_of s.structure i) z))
   unfolding written_velocity
   free_made n = then_one ((triple n).2 *ℤ ly) _ _ _ (then_one ((triple n).0 -ℤ (triple n).2 *ℤ ly) _ _ _
       (then_one ((triple n).2 *ℤ lx) _ _ _ (then_one ((triple n).1 +ℤ (triple n).2 *ℤ lx) _ _ _ (none_more _))))
@@ -88,12 +88,12 @@ module _ (s : Surveyed) (y : MotionValue) (z : Bearing) (i : ℕ) where
       go : (f : Bool) → InOrder (if f then [] else numbers_of (move f))
           (velocity (x_of (move f)) (y_of (move f)))
           (if f then Ok at_rest else written_velocity (block_move_at y (frees_before s.structure.bodies i))
-          (joint_at (first_corner_of s.structure i) z))
+          (lever_at (first_corner_of s.structure i) z))
       go true = subst (λ v. InOrder [] v (Ok at_rest)) (λ j. velocity (resting_x ly j) (resting_y lx j))
           (none_more at_rest)
       go false = subst (λ m. InOrder (numbers_of m) (velocity (x_of m) (y_of m))
           (written_velocity (block_move_at y (frees_before s.structure.bodies i))
-          (joint_at (first_corner_of s.structure i) z))) told (free_made (frees_before s.structure.bodies i))
+          (lever_at (first_corner_of s.structure i) z))) told (free_made (frees_before s.structure.bodies i))
 
 difference_made : (ax ay bx by : ℤ) → InOrder ((ax -ℤ bx) ∷ (ay -ℤ by) ∷ []) (velocity (ax -ℤ bx) (ay -ℤ by))
     (written_difference (velocity ax ay) (velocity bx by))

@@ -17,7 +17,7 @@ use Rattle.stack_statics.specs.Scene as scene
 use Rattle.stack_statics.specs.Balance.{force_x_of, force_y_of, moment_of}
 use Rattle.stack_equilibrium.specs.SurveyScene.{scene_bearing_of, no_bearing}
 use Rattle.stack_equilibrium.specs.Held.{part_of_pair}
-use Rattle.stack_equilibrium.specs.WrittenSums.{axis_part, push_at, joint_at, written_force_x, written_force_y}
+use Rattle.stack_equilibrium.specs.WrittenSums.{axis_part, push_at, lever_at, written_force_x, written_force_y}
 use Rattle.stack_equilibrium.specs.WrittenSums.{written_moment, written_force, with_bearing, bearing_at, written_sum}
 use Rattle.stack_equilibrium.proofs.SceneSums.{part_is}
 use Rattle.stack_sum_numbers.specs.InTurn.{lists_in_turn, EndsIn, IsMadeOf}
@@ -41,30 +41,30 @@ module _ (block : Block) (z : Bearing) (p : ℤ × ℤ) where
   part = part_of_pair p
 
   x_made : InOrder (x_numbers at part) (whole (force_x_of at part))
-      (written_force_x (joint_at block.corner z) (push_of p))
+      (written_force_x (lever_at block.corner z) (push_of p))
   unfolding written_force_x
   x_made = subst (λ t. InOrder ((p.1 *ℤ z.frame.tx) ∷ (p.0 *ℤ z.frame.ty) ∷ t ∷ []) (whole t)
-      (written_force_x (joint_at block.corner z) (push_of p))) (turned p.0 p.1 z.frame.tx z.frame.ty)
+      (written_force_x (lever_at block.corner z) (push_of p))) (turned p.0 p.1 z.frame.tx z.frame.ty)
       (then_one (p.1 *ℤ z.frame.tx) _ _ _ (then_one (p.0 *ℤ z.frame.ty) _ _ _ (last_one _)))
 
   y_made : InOrder (y_numbers at part) (whole (force_y_of at part))
-      (written_force_y (joint_at block.corner z) (push_of p))
+      (written_force_y (lever_at block.corner z) (push_of p))
   unfolding written_force_y
   y_made = then_one (p.0 *ℤ z.frame.tx) _ _ _ (then_one (p.1 *ℤ z.frame.ty) _ _ _ (last_one _))
 
   moment_made : InOrder (moment_numbers (body_of_block block) at part)
-      (whole (moment_of (body_of_block block) at part)) (written_moment (joint_at block.corner z) (push_of p))
+      (whole (moment_of (body_of_block block) at part)) (written_moment (lever_at block.corner z) (push_of p))
   unfolding written_moment
-  moment_made = after_all (x_numbers at part) _ _ (written_force_x (joint_at block.corner z) (push_of p))
+  moment_made = after_all (x_numbers at part) _ _ (written_force_x (lever_at block.corner z) (push_of p))
       (whole (force_x_of at part)) _ x_made
-      (after_all (y_numbers at part) _ _ (written_force_y (joint_at block.corner z) (push_of p))
+      (after_all (y_numbers at part) _ _ (written_force_y (lever_at block.corner z) (push_of p))
       (whole (force_y_of at part)) _ y_made
       (then_one ((z.at.x -ℤ block.corner.x) *ℤ force_y_of at part) _ _ _
       (then_one ((z.at.y -ℤ block.corner.y) *ℤ force_x_of at part) _ _ _ (last_one _))))
 
   force_made : (axis : Axis) → InOrder (force_numbers axis (body_of_block block) at part)
       (whole (force_on axis (body_of_block block) at part))
-      (written_force axis (joint_at block.corner z) (push_of p))
+      (written_force axis (lever_at block.corner z) (push_of p))
   force_made X = x_made
   force_made Y = y_made
   force_made M = moment_made
@@ -107,10 +107,10 @@ module _ (axis : Axis) (block : Block) (bearings : List Bearing) (parts : List (
   -- the force of bearing k is made of its numbers
   force_at : (k : ℕ) → InOrder (force_numbers axis body (bearing_in bearings k) (part_in parts k))
       (whole (force_on axis body (bearing_in bearings k) (part_in parts k)))
-      (written_force axis (joint_at block.corner (bearing k)) (push_at parts k))
+      (written_force axis (lever_at block.corner (bearing k)) (push_at parts k))
   force_at k = subst (λ f. InOrder (force_numbers axis body (bearing_in bearings k) f)
       (whole (force_on axis body (bearing_in bearings k) f))
-      (written_force axis (joint_at block.corner (bearing k)) (push_at parts k))) (sym (part_is parts k))
+      (written_force axis (lever_at block.corner (bearing k)) (push_at parts k))) (sym (part_is parts k))
       (force_made block (bearing k) (pair k) axis)
 
   abbrev borne : ℕ → ℤ
@@ -121,7 +121,7 @@ module _ (axis : Axis) (block : Block) (bearings : List Bearing) (parts : List (
       (bearing_at axis block parts k (whole (borne k)) (bearing k))
   unfolding with_bearing
   bearing_made k =
-      added (written_force axis (joint_at block.corner (bearing k)) (push_at parts k))
+      added (written_force axis (lever_at block.corner (bearing k)) (push_at parts k))
       (force_numbers axis body (bearing_in bearings k) (part_in parts k))
       (force_on axis body (bearing_in bearings k) (part_in parts k)) (borne k)
       (nat_eq block.body (bearing k).second) (nat_eq block.body (bearing k).first) (force_at k)

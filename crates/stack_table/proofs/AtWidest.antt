@@ -18,7 +18,7 @@ use Rattle.stack_table.specs.Table.{width}
 use Rattle.stack_table.specs.Lent.{IsAmple, IsProblem, TellsFirst, shape_of_problem, problem_of}
 use Rattle.stack_whole.specs.Limits.{IsBelowBound}
 use Rattle.stack_table.specs.WrittenTable.{less_all, partial_place, is_artificial, objective_place, objective_places}
-use Rattle.stack_table.specs.WrittenTable.{first_row, number_at, number_place, row_place, wide_place}
+use Rattle.stack_table.specs.WrittenTable.{first_row, written_number, number_place, row_place, wide_place}
 use Rattle.stack_rational.proofs.Fitting.{sum_fits-of}
 use Rattle.stack_table.proofs.Numbers.{number_small}
 
@@ -67,7 +67,7 @@ module _ (m : ℤ) (ample : IsAmple m) where
 
   module _ (P : Lent) (h : IsProblem P) where
     abbrev number : ℕ → ℕ → ℤ
-    number = number_at (problem_of P)
+    number = written_number (problem_of P)
 
     row_none : (i : ℕ) → row_place ordered_fractions (is_too_wide m) (problem_of P) i ≡ None
     row_none i = first_all-none (width (shape_of_problem P))

@@ -14,8 +14,8 @@ use Rattle.stack_table.specs.declared.problem.Entry.{Entry}
 use Rattle.stack_table.specs.Table.{plain, columns}
 use Rattle.stack_table.specs.Problem.{Problem, flipped, turned}
 use Rattle.stack_table.specs.Lent.{entry_in}
-use Rattle.stack_table.specs.WrittenTable.{number_at}
-use Rattle.stack_table.specs.Due.{IsDue, AreDue}
+use Rattle.stack_table.specs.WrittenTable.{written_number}
+use Rattle.stack_table.specs.Due.{IsZeroBefore, AreDue}
 
 abbrev Rise : List Entry → Type 0
 Rise xs = IsStrictlyIncreasing (map (λ x. x.row) xs)
@@ -48,7 +48,7 @@ where_false : (b : Bool) (x y : ℤ) → b ≡ false → cond b x y ≡ y
 where_false b x y e = ap (λ a. cond a x y) e
 
 -- a column that isn't artificial has 0 where its entry is 0
-pub plain_nothing : (P : Problem) (i j : ℕ) → j < plain P.shape → P.entry i j ≡ pos 0 → number_at P i j ≡ pos 0
+pub plain_nothing : (P : Problem) (i j : ℕ) → j < plain P.shape → P.entry i j ≡ pos 0 → written_number P i j ≡ pos 0
 plain_nothing P i j l e = where_true (ltb j (plain P.shape)) _ _ (lt-ltb j (plain P.shape) l)
     ∙ ap (turned (flipped P i)) e ∙ go (flipped P i)
   where
@@ -58,7 +58,7 @@ plain_nothing P i j l e = where_true (ltb j (plain P.shape)) _ _ (lt-ltb j (plai
 
 -- an artificial column has 0 in all rows but its own
 pub not_own : (P : Problem) (i j : ℕ) → plain P.shape ≤ j → j < columns P.shape → j ≢ plain P.shape + i
-    → number_at P i j ≡ pos 0
+    → written_number P i j ≡ pos 0
 not_own P i j l m d = where_false (ltb j (plain P.shape)) _ _ (le-ltb j (plain P.shape) l)
     ∙ where_true (ltb j (columns P.shape)) _ _ (lt-ltb j (columns P.shape) m)
     ∙ ap (λ b. cond b (pos 1) (pos 0)) (ne_eqb j (plain P.shape + i) d)
@@ -74,13 +74,14 @@ none_due P dues n e j k l m = absurd (let z = ap (λ (ds : List ℕ). get_or ds 
 
 -- another row is due in one column
 pub due_set : (P : Problem) (i : ℕ) (dues : List ℕ) (j due : ℕ) → j < length dues → AreDue P i dues
-    → IsDue P i j due → AreDue P i (set dues j due)
+    → IsZeroBefore P i j due → AreDue P i (set dues j due)
 due_set P i dues j due l h d k = go (ℕ_discrete k j)
   where
-    go : Dec (k ≡ j) → IsDue P i k (get_or (set dues j due) k 0)
-    go (yes e) = subst (IsDue P i k) (sym (ap (λ n. get_or (set dues j due) n 0) e ∙ get_or-set_same dues j due 0 l))
-        (subst (λ n. IsDue P i n due) (sym e) d)
-    go (no e) = subst (IsDue P i k) (sym (get_or-set_other dues j k due 0 e)) (h k)
+    go : Dec (k ≡ j) → IsZeroBefore P i k (get_or (set dues j due) k 0)
+    go (yes e) = subst (IsZeroBefore P i k)
+        (sym (ap (λ n. get_or (set dues j due) n 0) e ∙ get_or-set_same dues j due 0 l))
+        (subst (λ n. IsZeroBefore P i n due) (sym e) d)
+    go (no e) = subst (IsZeroBefore P i k) (sym (get_or-set_other dues j k due 0 e)) (h k)
 
 -- what follows from what an answer tells, and from what a refusal tells
 pub then_ok : {V E : Type 0} (P Q R : V → Type 0) (r : Result V E) → ((x : V) → P x → Q x → R x) → IfOk r P

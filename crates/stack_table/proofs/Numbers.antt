@@ -17,7 +17,7 @@ use Rattle.stack_table.specs.Problem.{Problem, is_below_zero, flipped, turned}
 use Rattle.stack_table.specs.Lent.{IsColumn, IsProblem, entry_in, entries_at, factor_entries, shape_of_problem}
 use Rattle.stack_table.specs.Lent.{problem_of}
 use Rattle.stack_whole.specs.Limits.{IsBelowBound}
-use Rattle.stack_table.specs.WrittenTable.{number_at}
+use Rattle.stack_table.specs.WrittenTable.{written_number}
 
 -- an entry is small, and there is none past the rows
 entry_small : (xs : List Entry) (i : ℕ) → AllByRecursion (λ x. IsBelowBound x.value) xs →
@@ -89,7 +89,7 @@ module _ (P : Lent) (h : IsProblem P) (i : ℕ) where
   pub load_is_small : IsBelowBound ((problem_of P).load i)
   load_is_small = right_small P.right.items i h.right_small
 
-  pub number_small : (j : ℕ) → IsBelowBound (number_at (problem_of P) i j)
+  pub number_small : (j : ℕ) → IsBelowBound (written_number (problem_of P) i j)
   number_small j = let S = shape_of_problem P in let b = flipped (problem_of P) i in
       either (ltb j (plain S)) (turned b ((problem_of P).entry i j)) _
       (turned_small b ((problem_of P).entry i j) (entry_is_small j))
@@ -107,7 +107,7 @@ module _ (P : Lent) (h : IsProblem P) (i : ℕ) where
     turned_none z e = ap (turned (flipped (problem_of P) i)) e
         ∙ ap (λ v. turned (is_below_zero v) (pos 0)) no_load
 
-    pub number_past : (j : ℕ) → number_at (problem_of P) i j ≡ pos 0
+    pub number_past : (j : ℕ) → written_number (problem_of P) i j ≡ pos 0
     number_past j = let S = shape_of_problem P in
         all_zero (ltb j (plain S)) (ltb j (columns S)) (eqb j (columns S))
         (turned (flipped (problem_of P) i) ((problem_of P).entry i j))
@@ -119,7 +119,7 @@ module _ (P : Lent) (h : IsProblem P) (i : ℕ) where
         omega (arith, past, d, l)))) (turned_none _ no_load)
 
 -- numbers past the columns are 0
-pub number_beyond : (P : Problem) (i j : ℕ) → columns P.shape < j → number_at P i j ≡ pos 0
+pub number_beyond : (P : Problem) (i j : ℕ) → columns P.shape < j → written_number P i j ≡ pos 0
 number_beyond P i j l = cond_false (ltb j (plain P.shape)) _ _ (le-ltb j (plain P.shape) (omega (arith, l)))
     ∙ cond_false (ltb j (columns P.shape)) _ _ (le-ltb j (columns P.shape) (omega (arith, l)))
     ∙ cond_false (eqb j (columns P.shape)) _ _ (ne_eqb j (columns P.shape) (λ e. omega (arith, l, e)))

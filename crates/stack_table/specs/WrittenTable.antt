@@ -13,8 +13,8 @@ use Rattle.stack_table.specs.Problem.{Problem, flipped, turned}
 
 -- the number in row i and column j: plain columns, artificial columns, the right side. An artificial column has
 -- 1 in its own row, and isn't flipped
-abbrev pub number_at : Problem → ℕ → ℕ → ℤ
-number_at P i j = cond (ltb j (plain P.shape)) (turned (flipped P i) (P.entry i j))
+abbrev pub written_number : Problem → ℕ → ℕ → ℤ
+written_number P i j = cond (ltb j (plain P.shape)) (turned (flipped P i) (P.entry i j))
     (cond (ltb j (columns P.shape)) (cond (eqb j (plain P.shape + i)) (pos 1) (pos 0))
     (cond (eqb j (columns P.shape)) (turned (flipped P i) (P.load i)) (pos 0)))
 
@@ -40,7 +40,7 @@ module _ (F : Ordered) where
 module _ (F : Ordered) (P : Problem) where
   -- row i of the written table, where it is not the objective row
   abbrev pub first_row : ℕ → ℕ → F.C
-  first_row i j = F.of (number_at P i j)
+  first_row i j = F.of (written_number P i j)
 
   -- the objective row over the first rows, with which phase 1 begins
   abbrev pub first_objective : ℕ → F.C

@@ -12,9 +12,9 @@ ghost use Rattle.stack_table.specs.Table.{plain, width};
 ghost use Rattle.stack_table.specs.Block.{cell_of, item_value, IsBlock, Grows};
 ghost use Rattle.stack_table.specs.Problem.{turned};
 ghost use Rattle.stack_table.specs.Lent.{entry_in, IsProblem, shape_of_problem, problem_of, TellsFirst};
-ghost use Rattle.stack_table.specs.Due.{IsDue, AreDue};
+ghost use Rattle.stack_table.specs.Due.{IsZeroBefore, AreDue};
 ghost use Rattle.stack_whole.specs.Limits.{IsBelowBound};
-ghost use Rattle.stack_table.specs.WrittenTable.{number_at, number_place, first_row, row_place};
+ghost use Rattle.stack_table.specs.WrittenTable.{written_number, number_place, first_row, row_place};
 ghost use Rattle.stack_table.specs.WrittenTable.{less_all, partial_place};
 ghost use Rattle.stack_table.specs.WrittenTable.{is_artificial, objective_over, objective_place, objective_places};
 ghost use Rattle.stack_table.specs.declared.problem.BuildError.TheVariants.{Wide as AtPlace};
@@ -114,7 +114,7 @@ fn number(p: &Problem, artificial: usize, i: usize, j: usize) -> i128
     requires artificial { artificial ≡ plain (shape_of_problem p.now) }
     requires i_in { i < p.now.rows }
     requires j_in { j < width (shape_of_problem p.now) }
-    ensures { result ≡ number_at (problem_of p.now) i j }
+    ensures { result ≡ written_number (problem_of p.now) i j }
 {
     let flipped = p.right[i] < 0;
     if j < artificial {
@@ -130,8 +130,8 @@ fn number(p: &Problem, artificial: usize, i: usize, j: usize) -> i128
 fn next_due(p: &Problem, artificial: usize, due: usize, i: usize, j: usize) -> usize
     requires problem { IsProblem p.now }
     requires artificial { artificial ≡ plain (shape_of_problem p.now) }
-    requires due { IsDue (problem_of p.now) i j due }
-    ensures { IsDue (problem_of p.now) i j result }
+    requires due { IsZeroBefore (problem_of p.now) i j due }
+    ensures { IsZeroBefore (problem_of p.now) i j result }
 {
     if i <= due {
         return due;
@@ -160,7 +160,7 @@ fn first_cell<S: Exact>(
     requires artificial { artificial ≡ plain (shape_of_problem p.now) }
     requires i_in { i < p.now.rows }
     requires j_in { j < width (shape_of_problem p.now) }
-    requires due { IsDue (problem_of p.now) i j due }
+    requires due { IsZeroBefore (problem_of p.now) i j due }
     ensures ok { IfOk result (λ r. S.exact r ≡ first_row ordered_fractions (problem_of p.now) i j) }
     ensures small { IfOk result (λ r. fraction_fits S.MAX (S.exact r) ≡ true) }
     ensures fits { IfOk result (λ r.

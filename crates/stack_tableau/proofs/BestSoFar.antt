@@ -7,7 +7,7 @@ use Rattle.stack_algebra.specs.Fraction.{Fraction}
 use Rattle.stack_algebra.specs.Rows.{less}
 use Rattle.stack_algebra.proofs.OrderedFractions.{ordered_fractions}
 use Rattle.stack_bland.specs.Choice.{is_plus, goes_first, better, best}
-use Rattle.stack_tableau.specs.declared.choices.Candidate.{Candidate}
+use Rattle.stack_tableau.specs.declared.choices.LeavingRow.{LeavingRow}
 use Rattle.stack_tableau.specs.Best.{HoldsBest, HoldsNext}
 
 module _ {V : Type 0} (e : V → Fraction) (cell ratios : ℕ → Fraction) (basic : ℕ → ℕ) (i : ℕ) where
@@ -23,16 +23,16 @@ module _ {V : Type 0} (e : V → Fraction) (cell ratios : ℕ → Fraction) (bas
   more b p = ap (λ t. cond t (better ordered_fractions ratios basic i (best_at i)) (best_at i)) p
 
   -- a row with a positive cell
-  pub held_positive : (o : Option (Candidate V)) (r : Candidate V) (v : V) →
+  pub held_positive : (o : Option (LeavingRow V)) (r : LeavingRow V) (v : V) →
       is_plus (sign_of (cell i).num) ≡ true → e v ≡ ratios i →
       (o ≡ None → r ≡ record { row = i; ratio = v }) →
       IfSome o (λ b. r ≡ cond (before (e v) (e b.ratio) b.row) (record { row = i; ratio = v }) b) →
       HoldsNext e cell ratios basic i o (Some r)
   held_positive None r v p ev none some h =
-      subst (λ (z : Candidate V). HoldsBest e ratios (suc i) (Some z) (best_at (suc i))) (sym (none refl))
+      subst (λ (z : LeavingRow V). HoldsBest e ratios (suc i) (Some z) (best_at (suc i))) (sym (none refl))
       (more true p ∙ ap (better ordered_fractions ratios basic i) h, ev, omega arith)
   held_positive (Some q) r v p ev none some h =
-      subst (λ (z : Candidate V). HoldsBest e ratios (suc i) (Some z) (best_at (suc i))) (sym some)
+      subst (λ (z : LeavingRow V). HoldsBest e ratios (suc i) (Some z) (best_at (suc i))) (sym some)
       (go (before (e v) (e q.ratio) q.row) refl)
     where
       same : before (ratios i) (ratios q.row) q.row ≡ before (e v) (e q.ratio) q.row
@@ -48,7 +48,7 @@ module _ {V : Type 0} (e : V → Fraction) (cell ratios : ℕ → Fraction) (bas
       go false k = (next false k, h.1, omega (arith, h.2))
 
   -- another row
-  pub held_other : (o : Option (Candidate V)) → is_plus (sign_of (cell i).num) ≡ false →
+  pub held_other : (o : Option (LeavingRow V)) → is_plus (sign_of (cell i).num) ≡ false →
       HoldsNext e cell ratios basic i o o
   held_other None p h = more false p ∙ h
   held_other (Some q) p h = (more false p ∙ h.0, h.1, omega (arith, h.2))

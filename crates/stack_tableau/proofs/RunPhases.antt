@@ -17,8 +17,8 @@ use Rattle.stack_run.specs.PhaseStops.{spot_of}
 use Rattle.stack_run.specs.declared.pivots.Pivots.{Pivots}
 use Rattle.stack_run.specs.EndLaws.{SomeRowLeaves}
 use Rattle.stack_run.proofs.OneTurn.{drives_on, drives_too_wide, drives_spent}
-use Rattle.stack_tableau.specs.declared.stops.Stop.{Stop}
-use Rattle.stack_tableau.specs.declared.stops.Stop.TheVariants.{TooWide, Spent, Unsettled}
+use Rattle.stack_tableau.specs.declared.stops.RunStop.{RunStop}
+use Rattle.stack_tableau.specs.declared.stops.RunStop.TheVariants.{TooWide, Spent, Unsettled}
 use Rattle.stack_tableau.specs.Tells.{TellsStop, TellsEnd}
 use Rattle.stack_tableau.specs.Written.{IsWrittenTable}
 
@@ -52,7 +52,7 @@ module _ (settles : Bool) (max : ℤ) (S S' : Shape) (T U : Tabled Fraction) (n 
       ∙ ap (λ (S : Shape). drive_row ordered_fractions S (is_too_wide max) k.left k.done U i) (sym same)
 
   -- the row stops the phase
-  pub row_stops : (e : Stop) → i < n →
+  pub row_stops : (e : RunStop) → i < n →
       TellsStop settles e (drive_row ordered_fractions S' (is_too_wide max) k.left k.done U i) →
       TellsStop settles e (drives ordered_fractions S (is_too_wide max) n first.left first.done T)
   row_stops (TooWide p) l h = let m = n - suc i in let z : suc i + m ≡ n = omega arith in
@@ -73,20 +73,20 @@ module _ (settles : Bool) (max : ℤ) (S S' : Shape) (T U : Tabled Fraction) (n 
       ∙ up_to_row ∙ sym h
 
 -- a phase that is stopped stops the run
-pub first_stops : (settles : Bool) (max : ℤ) (S : Shape) (T : Tabled Fraction) (budget : ℕ) (e : Stop) →
+pub first_stops : (settles : Bool) (max : ℤ) (S : Shape) (T : Tabled Fraction) (budget : ℕ) (e : RunStop) →
     TellsStop settles e (turns ordered_fractions S (is_too_wide max) 1 S.contacts budget 0 T) →
     TellsEnd settles e (written_run ordered_fractions S (is_too_wide max) budget T)
 first_stops settles max S T budget (TooWide p) h = ap (first_end ordered_fractions S (is_too_wide max)) h
 first_stops settles max S T budget Spent h = ap (first_end ordered_fractions S (is_too_wide max)) h
 first_stops settles max S T budget Unsettled h = h
 
-third_stopped : (settles : Bool) (e : Stop) (X : PhaseStop Fraction) → TellsStop settles e X →
+third_stopped : (settles : Bool) (e : RunStop) (X : PhaseStop Fraction) → TellsStop settles e X →
     TellsEnd settles e (third_end X)
 third_stopped settles (TooWide p) X h = ap third_end h
 third_stopped settles Spent X h = ap third_end h
 third_stopped settles Unsettled X h = h
 
-after_stopped : (settles : Bool) (e : Stop) (X : PhaseStop Fraction)
+after_stopped : (settles : Bool) (e : RunStop) (X : PhaseStop Fraction)
     (next : ℕ → ℕ → Tabled Fraction → PhaseStop Fraction) →
     TellsStop settles e X → TellsEnd settles e (third_end (after_phase X next))
 after_stopped settles (TooWide p) X next h = ap (λ x. third_end (after_phase x next)) h
@@ -123,7 +123,7 @@ module _ (settles : Bool) (max : ℤ) (S S' : Shape) (T U : Tabled Fraction) (bu
       (sym same) ∙ sym h)
 
   -- phase 2 is stopped
-  pub second_stops : (e : Stop) →
+  pub second_stops : (e : RunStop) →
       TellsStop settles e (drives ordered_fractions S' (is_too_wide max) S'.rows k.left k.done
       (clear_objective ordered_fractions S' U)) →
       TellsEnd settles e (written_run ordered_fractions S (is_too_wide max) budget T)
@@ -145,7 +145,7 @@ module _ (settles : Bool) (max : ℤ) (S S' : Shape) (T U : Tabled Fraction) (bu
         (set_factor_objective ordered_fractions S V)) (same' ∙ same)) ∙ sym (second_is _ second)
 
     -- phase 3 is stopped
-    pub third_stops : (e : Stop) →
+    pub third_stops : (e : RunStop) →
         TellsStop settles e (turns ordered_fractions S'' (is_too_wide max) 3 (plain S'') l.left
         l.done (set_factor_objective ordered_fractions S'' V)) →
         TellsEnd settles e (written_run ordered_fractions S (is_too_wide max) budget T)

@@ -18,11 +18,11 @@ use Rattle.stack_run.specs.WrittenRun.{spent, on_spot, on_choice, chosen_at, cho
 use Rattle.stack_run.specs.declared.pivots.Pivots.{Pivots}
 use Rattle.stack_run.specs.PhaseStops.{spot_of, IsPivoted, phase_from}
 use Rattle.stack_run.proofs.BestRow.{best-some}
-use Rattle.stack_tableau.specs.declared.stops.Refusal.{Refusal}
-use Rattle.stack_tableau.specs.declared.stops.Refusal.TheVariants as refusals
-use Rattle.stack_tableau.specs.declared.stops.Stop.{Stop}
-use Rattle.stack_tableau.specs.declared.stops.Stop.TheVariants.{TooWide, Spent, Unsettled}
-use Rattle.stack_tableau.specs.Answers.{TellsSpot, TellsNoRatio}
+use Rattle.stack_tableau.specs.declared.stops.TurnRefusal.{TurnRefusal}
+use Rattle.stack_tableau.specs.declared.stops.TurnRefusal.TheVariants as refusals
+use Rattle.stack_tableau.specs.declared.stops.RunStop.{RunStop}
+use Rattle.stack_tableau.specs.declared.stops.RunStop.TheVariants.{TooWide, Spent, Unsettled}
+use Rattle.stack_tableau.specs.Answers.{TellsTurnRefusal, TellsNoRatio}
 use Rattle.stack_tableau.specs.Tells.{TellsRefused, TellsRow, TellsPivot, TellsStop, stop_at}
 
 -- a row whose cell isn't positive has no ratio that is too wide
@@ -32,7 +32,7 @@ no_item max S T c i p =
     ap (λ b. cond b (only_if (is_too_wide max Quotient (T.cell i (columns S)) (T.cell i c)) i) None) p
 
 -- the first ratio that is too wide refuses the choice
-pub row_refused : (settles : Bool) (max : ℤ) (S : Shape) (T : Tabled Fraction) (c i : ℕ) (e : Refusal)
+pub row_refused : (settles : Bool) (max : ℤ) (S : Shape) (T : Tabled Fraction) (c i : ℕ) (e : TurnRefusal)
     (o : Option ℕ) → i < S.rows → first i (ratio_item ordered_fractions S (is_too_wide max) T c) ≡ None →
     TellsNoRatio settles e c i (ratio_item ordered_fractions S (is_too_wide max) T c i) →
     TellsRefused settles e (chosen_at c (ratio_row ordered_fractions S (is_too_wide max) T c) o)
@@ -61,7 +61,7 @@ entering_below S T among c e =
 
 -- one column enters, where the cells of it are made in a table with the same content
 pub one_enters : (max : ℤ) (S S' : Shape) (T T' : Tabled Fraction) (among : ℕ) → S' ≡ S → T' ≡ T →
-    (settles : Bool) (c : ℕ) (r : Result (Option ℕ) Refusal) → Some c ≡ entering ordered_fractions S T among →
+    (settles : Bool) (c : ℕ) (r : Result (Option ℕ) TurnRefusal) → Some c ≡ entering ordered_fractions S T among →
     TellsRow settles c r (chosen_at c (ratio_row ordered_fractions S' (is_too_wide max) T' c)
     (leaving ordered_fractions S' T' c)) →
     TellsRow settles c r (choose ordered_fractions S (is_too_wide max) T among)
@@ -100,7 +100,7 @@ module _ (settles : Bool) (max : ℤ) (S : Shape) (phase among : ℕ) (T : Table
   refused_at zero done s e = ap (on_choice phase zero done T (λ r c. spent)) e
   refused_at (suc left) done s e = ap (on_choice phase (suc left) done T (after left done)) e
 
-  pub choice_stops : (e : Refusal) (left done pivot : ℕ) → pivot ≡ suc done →
+  pub choice_stops : (e : TurnRefusal) (left done pivot : ℕ) → pivot ≡ suc done →
       TellsRefused settles e (choose ordered_fractions S (is_too_wide max) T among) →
       TellsStop settles (stop_at e phase pivot) (from_here left done)
   choice_stops (refusals.TooWide s) left done pivot k h =
@@ -127,7 +127,7 @@ module _ (settles : Bool) (max : ℤ) (S : Shape) (phase among : ℕ) (T : Table
     wide_here (suc left) done s l h = by_spot left done (Some s) h
 
     -- the pivot isn't done
-    pub pivot_stops : (k : Pivots) (x : Stop) →
+    pub pivot_stops : (k : Pivots) (x : RunStop) →
         TellsPivot settles (Err x) phase k (pivot_spot ordered_fractions (is_too_wide max) S T r c) →
         TellsStop settles x (from_here k.left k.done)
     pivot_stops k (TooWide p) h = (λ i. wide_at (h.in_phase i) (h.next_pivot i) (spot_of p))
@@ -156,7 +156,7 @@ module _ (settles : Bool) (max : ℤ) (S S' : Shape) (phase among : ℕ) (l : Pi
   loop_tells Y h = h ∙ carried
 
   -- and so does a refusal
-  pub loop_stops : (e : Stop) → TellsStop settles e (phase_from max S' phase among l T) → TellsStop settles e X
+  pub loop_stops : (e : RunStop) → TellsStop settles e (phase_from max S' phase among l T) → TellsStop settles e X
   loop_stops e h = subst (TellsStop settles e) carried h
 
   -- and each turn what is left of it
@@ -165,8 +165,8 @@ module _ (settles : Bool) (max : ℤ) (S S' : Shape) (phase among : ℕ) (l : Pi
   loop_goes_on k h = ap (λ (S : Shape). phase_from max S phase among k U) (sym same) ∙ h ∙ carried
 
 -- a pivot that isn't done tells where it is too wide
-pub refusal_tells : (settles : Bool) (e : Refusal) (phase : ℕ) (before : Pivots) (pivot : ℕ)
-    (spot : Option PivotWide) → 0 < before.left → pivot ≡ suc before.done → TellsSpot settles e spot
+pub refusal_tells : (settles : Bool) (e : TurnRefusal) (phase : ℕ) (before : Pivots) (pivot : ℕ)
+    (spot : Option PivotWide) → 0 < before.left → pivot ≡ suc before.done → TellsTurnRefusal settles e spot
     → TellsPivot settles (Err (stop_at e phase pivot)) phase before spot
 refusal_tells settles (refusals.TooWide s) phase before pivot spot some next tells = record {
   some_left = some;

@@ -8,8 +8,8 @@ use Rattle.stack_table.specs.declared.types.PivotWide.{PivotWide}
 use Rattle.stack_table.specs.declared.types.Step.TheVariants.{Ratio}
 use Rattle.stack_table.specs.Table.{Shape, Tabled}
 use Rattle.stack_bland.specs.Choice.{is_plus, ratio, ratio_item}
-use Rattle.stack_tableau.specs.declared.stops.Refusal.{Refusal}
-use Rattle.stack_tableau.specs.declared.stops.Refusal.TheVariants.{TooWide, Unsettled}
+use Rattle.stack_tableau.specs.declared.stops.TurnRefusal.{TurnRefusal}
+use Rattle.stack_tableau.specs.declared.stops.TurnRefusal.TheVariants.{TooWide, Unsettled}
 
 -- nothing is answered only by a table that doesn't settle all
 abbrev pub IsAnswered : {A : Type 0} → Bool → Option A → Type 0
@@ -30,16 +30,16 @@ TellsRatio value max S T c i (Ok (Some r)) = IsRatio max S T c i (value r)
 TellsRatio value max S T c i (Err e) = ratio_item ordered_fractions S (is_too_wide max) T c i ≡ Some i
 
 -- what a refusal says of the first place that is too wide
-abbrev pub TellsSpot : Bool → Refusal → Option PivotWide → Type 0
-TellsSpot settles (TooWide p) spot = spot ≡ Some p
-TellsSpot settles Unsettled spot = settles ≡ false
+abbrev pub TellsTurnRefusal : Bool → TurnRefusal → Option PivotWide → Type 0
+TellsTurnRefusal settles (TooWide p) spot = spot ≡ Some p
+TellsTurnRefusal settles Unsettled spot = settles ≡ false
 
 -- why a row isn't taken among those that may leave: its ratio is too wide, or nothing is told
-abbrev pub TellsNoRatio : Bool → Refusal → (c i : ℕ) → Option ℕ → Type 0
+abbrev pub TellsNoRatio : Bool → TurnRefusal → (c i : ℕ) → Option ℕ → Type 0
 TellsNoRatio settles (TooWide p) c i item = (item ≡ Some i) × (p ≡ record { row = i; column = c; step = Ratio })
 TellsNoRatio settles Unsettled c i item = settles ≡ false
 
 -- what the answer of a pivot says of it
-abbrev pub TellsPivoted : {A : Type 0} → Bool → Result A Refusal → Option PivotWide → Type 0
+abbrev pub TellsPivoted : {A : Type 0} → Bool → Result A TurnRefusal → Option PivotWide → Type 0
 TellsPivoted settles (Ok x) spot = spot ≡ None
-TellsPivoted settles (Err e) spot = TellsSpot settles e spot
+TellsPivoted settles (Err e) spot = TellsTurnRefusal settles e spot

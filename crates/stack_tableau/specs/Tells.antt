@@ -10,10 +10,10 @@ use Rattle.stack_run.specs.declared.pivots.Pivots.{Pivots}
 use Rattle.stack_run.specs.declared.stops.PhaseEnd.{PhaseEnd}
 use Rattle.stack_run.specs.declared.stops.Turn.{Turn}
 use Rattle.stack_run.specs.declared.stops.Turn.TheVariants.{Stops, GoesOn}
-use Rattle.stack_tableau.specs.declared.stops.Refusal.{Refusal}
-use Rattle.stack_tableau.specs.declared.stops.Refusal.TheVariants as refusals
-use Rattle.stack_tableau.specs.declared.stops.Stop.{Stop}
-use Rattle.stack_tableau.specs.declared.stops.Stop.TheVariants.{TooWide, Spent, Unsettled}
+use Rattle.stack_tableau.specs.declared.stops.TurnRefusal.{TurnRefusal}
+use Rattle.stack_tableau.specs.declared.stops.TurnRefusal.TheVariants as refusals
+use Rattle.stack_tableau.specs.declared.stops.RunStop.{RunStop}
+use Rattle.stack_tableau.specs.declared.stops.RunStop.TheVariants.{TooWide, Spent, Unsettled}
 use Rattle.stack_tableau.specs.declared.end_kind.EndKind.{EndKind}
 use Rattle.stack_tableau.specs.EndKinds.{end_at}
 use Rattle.stack_tableau.specs.declared.choices.Chosen.{Chosen}
@@ -26,12 +26,12 @@ choice_of (Rises c) = rises c
 choice_of (Due r c) = due r c
 
 -- what a refusal says of a choice
-abbrev pub TellsRefused : Bool → Refusal → Choice → Type 0
+abbrev pub TellsRefused : Bool → TurnRefusal → Choice → Type 0
 TellsRefused settles (refusals.TooWide p) X = refused p ≡ X
 TellsRefused settles refusals.Unsettled X = settles ≡ false
 
 -- what the answer of a choice says of it
-abbrev pub TellsChoice : Bool → Result Chosen Refusal → Choice → Type 0
+abbrev pub TellsChoice : Bool → Result Chosen TurnRefusal → Choice → Type 0
 TellsChoice settles (Ok x) X = choice_of x ≡ X
 TellsChoice settles (Err e) X = TellsRefused settles e X
 
@@ -41,7 +41,7 @@ row_chosen c None = rises c
 row_chosen c (Some r) = due r c
 
 -- what the answer of the search for that row says
-abbrev pub TellsRow : Bool → ℕ → Result (Option ℕ) Refusal → Choice → Type 0
+abbrev pub TellsRow : Bool → ℕ → Result (Option ℕ) TurnRefusal → Choice → Type 0
 TellsRow settles c (Ok o) X = row_chosen c o ≡ X
 TellsRow settles c (Err e) X = TellsRefused settles e X
 
@@ -58,48 +58,48 @@ IsReady S T has (Rises c) = ⊤
 IsReady S T has (Due r c) = IsDue S T has r c
 
 -- what the answer of a pivot that is due says
-abbrev pub TellsPivot : Bool → Result Pivots Stop → (phase : ℕ) → Pivots → Option PivotWide → Type 0
+abbrev pub TellsPivot : Bool → Result Pivots RunStop → (phase : ℕ) → Pivots → Option PivotWide → Type 0
 TellsPivot settles (Ok k) phase before spot = IsPivoted before k spot
 TellsPivot settles (Err (TooWide p)) phase before spot = IsTooWideAt phase before p spot
 TellsPivot settles (Err Spent) phase before spot = before.left ≡ 0
 TellsPivot settles (Err Unsettled) phase before spot = settles ≡ false
 
 -- why a phase stops where a choice or a pivot of it isn't made
-abbrev pub stop_at : Refusal → (phase pivot : ℕ) → Stop
+abbrev pub stop_at : TurnRefusal → (phase pivot : ℕ) → RunStop
 stop_at (refusals.TooWide spot) phase pivot =
     TooWide (record { phase = phase; pivot = pivot; row = spot.row; column = spot.column; step = spot.step })
 stop_at refusals.Unsettled phase pivot = Unsettled
 
 -- what a refusal says of a phase
-abbrev pub TellsStop : Bool → Stop → PhaseStop Fraction → Type 0
+abbrev pub TellsStop : Bool → RunStop → PhaseStop Fraction → Type 0
 TellsStop settles (TooWide p) X = wide_at p.phase p.pivot (spot_of p) ≡ X
 TellsStop settles Spent X = spent ≡ X
 TellsStop settles Unsettled X = settles ≡ false
 
 -- what the answer of a phase says of it
-abbrev pub TellsPhase : Bool → Tabled Fraction → Result PhaseEnd Stop → PhaseStop Fraction → Type 0
+abbrev pub TellsPhase : Bool → Tabled Fraction → Result PhaseEnd RunStop → PhaseStop Fraction → Type 0
 TellsPhase settles T (Ok x) X = stop_of T x ≡ X
 TellsPhase settles T (Err e) X = TellsStop settles e X
 
 -- and that of a turn: the phase stops, or what is left of it is to be done
-abbrev pub TellsTurn : Bool → ℤ → Shape → (phase among : ℕ) → Tabled Fraction → Result Turn Stop →
+abbrev pub TellsTurn : Bool → ℤ → Shape → (phase among : ℕ) → Tabled Fraction → Result Turn RunStop →
     PhaseStop Fraction → Type 0
 TellsTurn settles max S phase among T (Ok (Stops x)) X = stop_of T x ≡ X
 TellsTurn settles max S phase among T (Ok (GoesOn k)) X = phase_from max S phase among k T ≡ X
 TellsTurn settles max S phase among T (Err e) X = TellsStop settles e X
 
 -- and that of phases 1 and 2
-abbrev pub TellsPivots : Bool → Tabled Fraction → Result Pivots Stop → PhaseStop Fraction → Type 0
+abbrev pub TellsPivots : Bool → Tabled Fraction → Result Pivots RunStop → PhaseStop Fraction → Type 0
 TellsPivots settles T (Ok k) X = settled k.left k.done T ≡ X
 TellsPivots settles T (Err e) X = TellsStop settles e X
 
 -- what a refusal says of the written run
-abbrev pub TellsEnd : Bool → Stop → End Fraction → Type 0
+abbrev pub TellsEnd : Bool → RunStop → End Fraction → Type 0
 TellsEnd settles (TooWide p) X = wide p.phase p.pivot (spot_of p) ≡ X
 TellsEnd settles Spent X = over ≡ X
 TellsEnd settles Unsettled X = settles ≡ false
 
 -- what the answer of a run says of the written run
-abbrev pub TellsRun : Bool → Tabled Fraction → Result EndKind Stop → End Fraction → Type 0
+abbrev pub TellsRun : Bool → Tabled Fraction → Result EndKind RunStop → End Fraction → Type 0
 TellsRun settles T (Ok x) X = end_at x T ≡ X
 TellsRun settles T (Err e) X = TellsEnd settles e X

@@ -12,14 +12,14 @@ ghost use Rattle.stack_tableau.specs.Answers.{IsAnswered, TellsNoRatio};
 ghost use Rattle.stack_tableau.specs.Best.{HoldsNext};
 ghost use Rattle.stack_tableau.specs.Tells.{TellsRow, TellsChoice, IsReady};
 
-use crate::stops::Refusal;
+use crate::stops::TurnRefusal;
 use crate::tableau::Tableau;
 use stack_table::types::{PivotWide, Step};
 use std::cmp::Ordering;
 
 /// A row that may leave, and its ratio.
 #[derive(Clone, Copy)]
-pub struct Candidate<R> {
+pub struct LeavingRow<R> {
     pub row: usize,
     pub ratio: R,
 }
@@ -37,9 +37,9 @@ pub enum Chosen {
 /// The better of a row and the best row before it: the lesser ratio, and then the lesser basic column.
 fn better<T: Tableau>(
     t: &T,
-    best: Option<Candidate<T::Ratio>>,
-    next: Candidate<T::Ratio>,
-) -> Option<Candidate<T::Ratio>>
+    best: Option<LeavingRow<T::Ratio>>,
+    next: LeavingRow<T::Ratio>,
+) -> Option<LeavingRow<T::Ratio>>
     requires next_in { next.row < (T.shape t.now).rows }
     requires best_in { IfSome best (λ b. b.row < (T.shape t.now).rows) }
     ensures none { IfSome result (λ r. best ≡ None → r ≡ next) }
@@ -65,10 +65,10 @@ fn better<T: Tableau>(
 /// The best row so far, with one row more.
 fn next_best<T: Tableau>(
     t: &T,
-    best: Option<Candidate<T::Ratio>>,
+    best: Option<LeavingRow<T::Ratio>>,
     i: usize,
     column: usize,
-) -> Result<Option<Candidate<T::Ratio>>, Refusal>
+) -> Result<Option<LeavingRow<T::Ratio>>, TurnRefusal>
     requires i_in { i < (T.shape t.now).rows }
     requires column_in { column < plain (T.shape t.now) }
     requires at_hand { T.has_at_hand t.now column }
@@ -82,11 +82,11 @@ fn next_best<T: Tableau>(
 {
     match t.ratio_of(i, column) {
         Ok(None) => Ok(best),
-        Ok(Some(ratio)) => match better(t, best, Candidate { row: i, ratio }) {
+        Ok(Some(ratio)) => match better(t, best, LeavingRow { row: i, ratio }) {
             Some(next) => Ok(Some(next)),
-            None => Err(Refusal::Unsettled),
+            None => Err(TurnRefusal::Unsettled),
         },
-        Err(_) => Err(Refusal::TooWide(PivotWide {
+        Err(_) => Err(TurnRefusal::TooWide(PivotWide {
             row: i,
             column,
             step: Step::Ratio,
@@ -99,7 +99,7 @@ fn next_best<T: Tableau>(
 /// column is positive.
 ///
 /// Refused at the first ratio that is too wide, by rising rows.
-pub fn leaving<T: Tableau>(t: &T, column: usize) -> Result<Option<usize>, Refusal>
+pub fn leaving<T: Tableau>(t: &T, column: usize) -> Result<Option<usize>, TurnRefusal>
     requires column_in { column < plain (T.shape t.now) }
     requires at_hand { T.has_at_hand t.now column }
     ensures ok { IfOk result (λ r. r ≡ leaving ordered_fractions (T.shape t.now) (T.table t.now) column) }
@@ -107,7 +107,7 @@ pub fn leaving<T: Tableau>(t: &T, column: usize) -> Result<Option<usize>, Refusa
         (ratio_row ordered_fractions (T.shape t.now) (is_too_wide T.MAX) (T.table t.now) column)
         (leaving ordered_fractions (T.shape t.now) (T.table t.now) column)) }
 {
-    let mut best: Option<Candidate<T::Ratio>> = None;
+    let mut best: Option<LeavingRow<T::Ratio>> = None;
     for i in 0..t.row_count() {
         match next_best(t, best, i, column) {
             Ok(next) => best = next,
@@ -121,7 +121,7 @@ pub fn leaving<T: Tableau>(t: &T, column: usize) -> Result<Option<usize>, Refusa
 }
 
 /// The choice of a turn whose entering columns are below `among`.
-pub fn choose<T: Tableau>(t: &mut T, among: usize) -> Result<Chosen, Refusal>
+pub fn choose<T: Tableau>(t: &mut T, among: usize) -> Result<Chosen, TurnRefusal>
     requires { among ≤ plain (T.shape t.old) }
     ensures shape { T.shape t.new ≡ T.shape t.old }
     ensures flips { T.flips t.new ≡ T.flips t.old }
@@ -133,11 +133,11 @@ pub fn choose<T: Tableau>(t: &mut T, among: usize) -> Result<Chosen, Refusal>
     let column = match t.entering_of(among) {
         Some(Some(column)) => column,
         Some(None) => return Ok(Chosen::Stays),
-        None => return Err(Refusal::Unsettled),
+        None => return Err(TurnRefusal::Unsettled),
     };
     match t.enter_column(column) {
         Some(()) => {}
-        None => return Err(Refusal::Unsettled),
+        None => return Err(TurnRefusal::Unsettled),
     }
     match leaving(t, column) {
         Ok(Some(row)) => Ok(Chosen::Due { row, column }),

@@ -4,9 +4,9 @@
 //! ```text
 //! match run_table(&mut table, budget) {
 //!     Ok(kind) => .., // the end of the written run, whose last table is left
-//!     Err(Stop::TooWide(place)) => .., // its first number that is too wide
-//!     Err(Stop::Spent) => .., // the written run is over its budget
-//!     Err(Stop::Unsettled) => .., // this tells nothing; it comes of no table that settles all
+//!     Err(RunStop::TooWide(place)) => .., // its first number that is too wide
+//!     Err(RunStop::Spent) => .., // the written run is over its budget
+//!     Err(RunStop::Unsettled) => .., // this tells nothing; it comes of no table that settles all
 //! }
 //! ```
 #![tactic(auto)]
@@ -25,5 +25,5 @@ pub use end_kind::EndKind;
 pub use ended::Ended;
 pub use last_table::LastTable;
 pub use phases::run_table;
-pub use stops::{Refusal, Stop};
+pub use stops::{TurnRefusal, RunStop};
 pub use tableau::Tableau;

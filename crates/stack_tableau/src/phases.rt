@@ -11,14 +11,14 @@ ghost use Rattle.stack_tableau.specs.Tells.{TellsPivot, TellsPivots, TellsPhase,
 ghost use Rattle.stack_tableau.specs.Written.{IsWrittenTable};
 
 use crate::EndKind;
-use crate::stops::Stop;
+use crate::stops::RunStop;
 use crate::tableau::Tableau;
 use crate::turn::{due_pivot, run_phase};
 use stack_run::{PhaseEnd, Pivots, run_laws};
 
 /// Phase 1 of a written table, within a budget: the artificial columns are driven to 0 as far as the contact columns
 /// can.
-fn first_phase<T: Tableau>(t: &mut T, budget: u32) -> Result<Pivots, Stop>
+fn first_phase<T: Tableau>(t: &mut T, budget: u32) -> Result<Pivots, RunStop>
     requires { IsWrittenTable (T.shape t.old) (T.table t.old) }
     ensures shape { OnOk result (T.shape t.new ≡ T.shape t.old) }
     ensures flips { OnOk result (T.flips t.new ≡ T.flips t.old) }
@@ -58,7 +58,7 @@ fn driven_pivot<T: Tableau>(
     pivots: Pivots,
     row: usize,
     column: usize,
-) -> Result<Pivots, Stop>
+) -> Result<Pivots, RunStop>
     requires row_in { row < (T.shape t.old).rows }
     requires column_in { column < plain (T.shape t.old) }
     requires cell { ((T.table t.old).cell row column).num ≢ pos 0 }
@@ -71,12 +71,12 @@ fn driven_pivot<T: Tableau>(
 {
     match t.enter_column(column) {
         Some(()) => due_pivot(t, 2, pivots, row, column),
-        None => Err(Stop::Unsettled),
+        None => Err(RunStop::Unsettled),
     }
 }
 
 /// A pivot that takes the row's artificial column out, where there is a column to bring in.
-fn drive_row<T: Tableau>(t: &mut T, pivots: Pivots, row: usize) -> Result<Pivots, Stop>
+fn drive_row<T: Tableau>(t: &mut T, pivots: Pivots, row: usize) -> Result<Pivots, RunStop>
     requires { row < (T.shape t.old).rows }
     ensures shape { OnOk result (T.shape t.new ≡ T.shape t.old) }
     ensures flips { OnOk result (T.flips t.new ≡ T.flips t.old) }
@@ -87,14 +87,14 @@ fn drive_row<T: Tableau>(t: &mut T, pivots: Pivots, row: usize) -> Result<Pivots
         return Ok(pivots);
     }
     match driven_column(t, row) {
-        None => Err(Stop::Unsettled),
+        None => Err(RunStop::Unsettled),
         Some(None) => Ok(pivots),
         Some(Some(column)) => driven_pivot(t, pivots, row, column),
     }
 }
 
 /// Phase 2: the objective row is set to 0, and in each row an artificial basic column is taken out, where that can be.
-fn second_phase<T: Tableau>(t: &mut T, pivots: Pivots) -> Result<Pivots, Stop>
+fn second_phase<T: Tableau>(t: &mut T, pivots: Pivots) -> Result<Pivots, RunStop>
     ensures shape { OnOk result (T.shape t.new ≡ T.shape t.old) }
     ensures flips { OnOk result (T.flips t.new ≡ T.flips t.old) }
     ensures answer { TellsPivots T.settles (T.table t.new) result
@@ -103,7 +103,7 @@ fn second_phase<T: Tableau>(t: &mut T, pivots: Pivots) -> Result<Pivots, Stop>
 {
     match t.clear_objective_row() {
         Some(()) => {}
-        None => return Err(Stop::Unsettled),
+        None => return Err(RunStop::Unsettled),
     }
     let mut pivots = pivots;
     for row in 0..t.row_count() {
@@ -116,7 +116,7 @@ fn second_phase<T: Tableau>(t: &mut T, pivots: Pivots) -> Result<Pivots, Stop>
 }
 
 /// Phase 3, with the factor's objective: the factor rises as far as it can.
-fn third_phase<T: Tableau>(t: &mut T, pivots: Pivots) -> Result<PhaseEnd, Stop>
+fn third_phase<T: Tableau>(t: &mut T, pivots: Pivots) -> Result<PhaseEnd, RunStop>
     requires { (T.shape t.old).factors ≡ 1 }
     ensures shape { OnOk result (T.shape t.new ≡ T.shape t.old) }
     ensures flips { OnOk result (T.flips t.new ≡ T.flips t.old) }
@@ -126,14 +126,14 @@ fn third_phase<T: Tableau>(t: &mut T, pivots: Pivots) -> Result<PhaseEnd, Stop>
 {
     match t.set_factor_row() {
         Some(()) => {}
-        None => return Err(Stop::Unsettled),
+        None => return Err(RunStop::Unsettled),
     }
     let among = t.plain_count();
     run_phase(t, 3, among, pivots)
 }
 
 /// The run of a written table within a budget of pivots, in place: exactly the written run at the width of its numbers.
-pub fn run_table<T: Tableau>(t: &mut T, budget: u32) -> Result<EndKind, Stop>
+pub fn run_table<T: Tableau>(t: &mut T, budget: u32) -> Result<EndKind, RunStop>
     requires { IsWrittenTable (T.shape t.old) (T.table t.old) }
     ensures shape { OnOk result (T.shape t.new ≡ T.shape t.old) }
     ensures flips { OnOk result (T.flips t.new ≡ T.flips t.old) }

@@ -7,7 +7,7 @@ ghost use Rattle.stack_algebra.specs.Rows.{less};
 ghost use Rattle.stack_table.specs.Seen.{shape_of_table, table_of, flips_of};
 ghost use Rattle.stack_bland.specs.BySign.{by_sign};
 
-use crate::stops::Refusal;
+use crate::stops::TurnRefusal;
 use crate::tableau::Tableau;
 use stack_bland::entering;
 use stack_rational::{Exact, OpWide};
@@ -82,10 +82,10 @@ impl<S: Exact> Tableau for Table<S> {
         self.cell(self.rows(), self.columns()).sign() < 0
     }
 
-    fn pivot_at(&mut self, row: usize, column: usize) -> Result<(), Refusal> {
+    fn pivot_at(&mut self, row: usize, column: usize) -> Result<(), TurnRefusal> {
         match self.pivot(row, column) {
             Ok(()) => Ok(()),
-            Err(spot) => Err(Refusal::TooWide(spot)),
+            Err(spot) => Err(TurnRefusal::TooWide(spot)),
         }
     }
 

@@ -5,7 +5,7 @@ use stack_table::types::PivotWide;
 
 /// Why a choice or a pivot isn't made.
 #[derive(Clone, Copy, Debug, PartialEq, Eq, Drop)]
-pub enum Refusal {
+pub enum TurnRefusal {
     /// The first operation that is too wide.
     TooWide(PivotWide),
     /// It is given up, mostly since a number that the table makes doesn't fit. No clause says when, and it says nothing
@@ -15,7 +15,7 @@ pub enum Refusal {
 
 /// Why a run has no end.
 #[derive(Clone, Copy, Debug, PartialEq, Eq, Drop)]
-pub enum Stop {
+pub enum RunStop {
     /// The first operation that is too wide.
     TooWide(RunPlace),
     /// A pivot is due, and the budget's pivots are done.

@@ -1,6 +1,6 @@
 //! A table of a run, as its phases ask it.
 
-use crate::stops::Refusal;
+use crate::stops::TurnRefusal;
 use stack_rational::OpWide;
 use std::cmp::Ordering;
 
@@ -105,7 +105,7 @@ pub trait Tableau {
 
     /// A pivot at a row and a column at hand whose cell in the row isn't 0. Refused at the first operation that is too
     /// wide; the table is spent then.
-    fn pivot_at(&mut self, row: usize, column: usize) -> Result<(), Refusal>
+    fn pivot_at(&mut self, row: usize, column: usize) -> Result<(), TurnRefusal>
         requires row_in { row < (shape self.old).rows }
         requires column_in { column < plain (shape self.old) }
         requires cell { ((table self.old).cell row column).num ≢ pos 0 }

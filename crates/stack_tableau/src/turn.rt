@@ -9,23 +9,23 @@ ghost use Rattle.stack_run.specs.PhaseStops.{HasFewer, phase_from};
 ghost use Rattle.stack_tableau.specs.Tells.{TellsPivot, TellsTurn, TellsPhase, stop_at, IsDue};
 
 use crate::choices::{Chosen, choose};
-use crate::stops::{Refusal, Stop};
+use crate::stops::{TurnRefusal, RunStop};
 use crate::tableau::Tableau;
 use stack_run::{PhaseEnd, Pivots, RunPlace, Turn};
 
 /// Why a phase stops where a choice or a pivot of it isn't made.
-fn stopped_at(refusal: Refusal, phase: u8, pivot: u64) -> Stop
+fn stopped_at(refusal: TurnRefusal, phase: u8, pivot: u64) -> RunStop
     ensures { result ≡ stop_at refusal phase pivot }
 {
     match refusal {
-        Refusal::TooWide(spot) => Stop::TooWide(RunPlace {
+        TurnRefusal::TooWide(spot) => RunStop::TooWide(RunPlace {
             phase,
             pivot,
             row: spot.row,
             column: spot.column,
             step: spot.step,
         }),
-        Refusal::Unsettled => Stop::Unsettled,
+        TurnRefusal::Unsettled => RunStop::Unsettled,
     }
 }
 
@@ -36,7 +36,7 @@ pub fn due_pivot<T: Tableau>(
     pivots: Pivots,
     row: usize,
     column: usize,
-) -> Result<Pivots, Stop>
+) -> Result<Pivots, RunStop>
     requires { IsDue (T.shape t.old) (T.table t.old) (T.has_at_hand t.old) row column }
     ensures shape { OnOk result (T.shape t.new ≡ T.shape t.old) }
     ensures flips { OnOk result (T.flips t.new ≡ T.flips t.old) }
@@ -46,7 +46,7 @@ pub fn due_pivot<T: Tableau>(
         (pivot_spot ordered_fractions (is_too_wide T.MAX) (T.shape t.old) (T.table t.old) row column) }
 {
     if pivots.left == 0 {
-        return Err(Stop::Spent);
+        return Err(RunStop::Spent);
     }
     let pivot = pivots.done + 1;
     match t.pivot_at(row, column) {
@@ -59,7 +59,7 @@ pub fn due_pivot<T: Tableau>(
 }
 
 /// A turn of a phase whose entering columns are below `among`.
-fn take_turn<T: Tableau>(t: &mut T, phase: u8, among: usize, pivots: Pivots) -> Result<Turn, Stop>
+fn take_turn<T: Tableau>(t: &mut T, phase: u8, among: usize, pivots: Pivots) -> Result<Turn, RunStop>
     requires { among ≤ plain (T.shape t.old) }
     ensures shape { OnOk result (T.shape t.new ≡ T.shape t.old) }
     ensures flips { OnOk result (T.flips t.new ≡ T.flips t.old) }
@@ -84,7 +84,7 @@ pub fn run_phase<T: Tableau>(
     phase: u8,
     among: usize,
     pivots: Pivots,
-) -> Result<PhaseEnd, Stop>
+) -> Result<PhaseEnd, RunStop>
     requires { among ≤ plain (T.shape t.old) }
     ensures shape { OnOk result (T.shape t.new ≡ T.shape t.old) }
     ensures flips { OnOk result (T.flips t.new ≡ T.flips t.old) }

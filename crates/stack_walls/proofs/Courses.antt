@@ -8,7 +8,7 @@ use Rattle.stack_algebra.proofs.Listed.{listed, length_listed, listed_item}
 use Rattle.stack_algebra.proofs.Conjunctions.{both_true}
 use Rattle.stack_model.specs.Structure.{body_of}
 use Rattle.stack_overhang.specs.declared.types.Rectangle.{Rectangle}
-use Rattle.stack_overhang.specs.declared.types.Row.{Row}
+use Rattle.stack_overhang.specs.declared.types.BrickRow.{BrickRow}
 use Rattle.stack_overhang.specs.declared.types.Wall.{Wall}
 use Rattle.stack_overhang.specs.Bricks.{rectangle_corners, brick_of, bricks_in, bricks_of, brick_at}
 use Rattle.stack_overhang.specs.Built.{brick_body}
@@ -25,18 +25,18 @@ pub once_more : (n b : ℕ) → suc n * b ≡ b + n * b
 once_more n b = let e = suc-mul n b in omega (arith, e)
 
 -- a row of b bricks has b bricks
-row_count : (b : ℕ) (r : Row) → r.count ≡ b → length (bricks_in r) ≡ b
+row_count : (b : ℕ) (r : BrickRow) → r.count ≡ b → length (bricks_in r) ≡ b
 row_count b r same = length_listed r.count (brick_of r) ∙ same
 
 -- n rows of b bricks each have n times b bricks
-count_of : (b n : ℕ) (f : ℕ → Row) → ((k : ℕ) → (f k).count ≡ b) → length (bricks_of (listed n f)) ≡ n * b
+count_of : (b n : ℕ) (f : ℕ → BrickRow) → ((k : ℕ) → (f k).count ≡ b) → length (bricks_of (listed n f)) ≡ n * b
 count_of b zero f same = sym (none_times b)
 count_of b (suc n) f same =
     length-append (bricks_in (f 0)) (bricks_of (listed n (λ k. f (suc k))))
     ∙ (λ i. row_count b (f 0) (same 0) i + count_of b n (λ k. f (suc k)) (λ k. same (suc k)) i) ∙ sym (once_more n b)
 
 -- the brick with number a * b + j is brick j of row a
-brick_by : (b n : ℕ) (f : ℕ → Row) → ((k : ℕ) → (f k).count ≡ b) → (a j k : ℕ) (d : Rectangle) → k ≡ a * b + j
+brick_by : (b n : ℕ) (f : ℕ → BrickRow) → ((k : ℕ) → (f k).count ≡ b) → (a j k : ℕ) (d : Rectangle) → k ≡ a * b + j
     → a < n → j < b → get_or (bricks_of (listed n f)) k d ≡ brick_of (f a) j
 brick_by b zero f same a j k d e lt le = absurd (omega (arith, lt))
 brick_by b (suc n) f same zero j k d e lt le =

@@ -26,9 +26,9 @@ abbrev pub made : ℤ → Result Whole Wide
 made z = if fits z then Ok (record { value = z }) else Err (record {})
 
 -- a number that 128 bits hold, where there is one and it isn't too wide
-abbrev pub kept : Option ℤ → Result Whole Wide
-kept None = Err (record {})
-kept (Some z) = made z
+abbrev pub made_or_wide : Option ℤ → Result Whole Wide
+made_or_wide None = Err (record {})
+made_or_wide (Some z) = made z
 
 -- a number as it is, of which no size is asked
 abbrev pub whole : ℤ → Whole

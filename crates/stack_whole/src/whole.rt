@@ -1,7 +1,7 @@
 //! Whole numbers of at most 2^127 - 1 in size.
 
 ghost use Rattle.std.specs.Prelude.{◌≡◌, ◌+ℤ◌, ◌*ℤ◌, ◌-ℤ◌, pos, nat_abs};
-ghost use Rattle.stack_whole.specs.Whole.{made, kept, whole};
+ghost use Rattle.stack_whole.specs.Whole.{made, made_or_wide, whole};
 
 /// A result is more than 2^127 - 1 in size.
 #[derive(Clone, Copy, Debug, PartialEq, Eq)]
@@ -15,7 +15,7 @@ pub struct Whole {
 
 /// The number, unless it is too wide, as the least number of 128 bits is.
 fn keep(number: Option<i128>) -> Result<Whole, Wide>
-    ensures { result ≡ kept number }
+    ensures { result ≡ made_or_wide number }
 {
     match number {
         Some(value) => {

@@ -26,19 +26,19 @@ use Rattle.stack_equilibrium.specs.Held.{move_at}
 use Rattle.stack_equilibrium.specs.WrittenPowers.{written_power}
 use Rattle.stack_judge.specs.Judged.{IsJudged}
 use Rattle.stack_pairs.specs.Directed.{directed_survey, ArePair}
-use Rattle.stack_pairs.specs.Reaches.{PointValue, ReachValue, terms_of, point_of, half_of, reach_of}
+use Rattle.stack_pairs.specs.Reaches.{PointValue, ReachValue, terms_of, reached_point, half_of, reach_of}
 use Rattle.stack_pairs.specs.Reaches.{IsReaching, IsReach}
 use Rattle.stack_pairs.proofs.Reached.{directed_dead_power}
-use Rattle.stack_yield.specs.declared.judging.Turn.{Turn}
-use Rattle.stack_yield.specs.declared.judging.Turn.TheVariants.{Reaches, Falls}
-use Rattle.stack_yield.specs.declared.judging.Stop.{Stop}
+use Rattle.stack_yield.specs.declared.judging.DirectionAnswer.{DirectionAnswer}
+use Rattle.stack_yield.specs.declared.judging.DirectionAnswer.TheVariants.{Reaches, Falls}
+use Rattle.stack_yield.specs.declared.judging.DirectionStop.{DirectionStop}
 use Rattle.stack_yield.specs.declared.types.RegionPlace.TheVariants as places
 use Rattle.stack_yield.specs.Coordinates.{fitting_terms, both_coordinates, coordinate_of, point_made}
 use Rattle.stack_yield.specs.LessDead.{less_dead}
 use Rattle.stack_yield.specs.Kept.{reach_view}
 use Rattle.stack_yield.specs.JudgedReaches.{ReachIsJudged}
 use Rattle.stack_yield.specs.Outcomes.{reaches, passes, unless_wide, bounded}
-use Rattle.stack_yield.specs.Regions.{turn_outcome, IsOutcome, TurnFits, TurnHolds}
+use Rattle.stack_yield.specs.Regions.{outcome_of_answer, IsOutcome, AnswerFits, AnswerHolds}
 use Rattle.stack_yield.proofs.Accepted.{moves_counted}
 
 fitting_is : (x : Fraction) (t : ℤ × ℤ) → fitting_terms x ≡ Some t → terms_of x ≡ t
@@ -48,11 +48,11 @@ fitting_is x t h = go (fraction_fits widest x) h
     go true h = cc
     go false h = absurd (cc)
 
-point_is : (m n : ℤ) (f : ForcesValue) (p : PointValue) → point_made m n f ≡ Some p → point_of m n f ≡ p
+point_is : (m n : ℤ) (f : ForcesValue) (p : PointValue) → point_made m n f ≡ Some p → reached_point m n f ≡ p
 point_is m n f p h = go (coordinate_of m f) refl (coordinate_of n f) refl h
   where
     go : (x : Option (ℤ × ℤ)) → coordinate_of m f ≡ x → (y : Option (ℤ × ℤ)) → coordinate_of n f ≡ y →
-        both_coordinates x y ≡ Some p → point_of m n f ≡ p
+        both_coordinates x y ≡ Some p → reached_point m n f ≡ p
     go (Some x) ex (Some y) ey h =
         let same : (x, y) ≡ p = cc in
         (λ i. (
@@ -104,8 +104,8 @@ module _ (s : Surveyed) (i j : ℕ) where
   first_wide m n f y e w = ap (λ r. unless_wide r (written_power Live (directed_survey s i j (pos 0) (pos 1)) y)
       (point_made m n f) (reach_of s i j m n (greatest f y))) w
 
-  reach_or_stop : (a b : Result ℤ PowerWide) (o : Option PointValue) (v : ReachValue) (t : Turn) →
-      unless_wide a b o v ≡ turn_outcome t → turn_outcome t ≡ reaches v
+  reach_or_stop : (a b : Result ℤ PowerWide) (o : Option PointValue) (v : ReachValue) (t : DirectionAnswer) →
+      unless_wide a b o v ≡ outcome_of_answer t → outcome_of_answer t ≡ reaches v
   reach_or_stop (Ok p) (Ok q) (Some x) v t h = sym h
   reach_or_stop (Ok p) (Ok q) None v (Reaches r) h = absurd (cc)
   reach_or_stop (Ok p) (Ok q) None v (Falls y) h = absurd (cc)
@@ -132,10 +132,11 @@ module _ (s : Surveyed) (i j : ℕ) where
       record { judged = subst (λ t. IsJudged Live t (unbounded f r)) e h; point_fits = tt; half_fits = tt }
 
   -- a reach of a greatest factor is judged of it too, where its numbers fit
-  turn_holds : (m n : ℤ) (f : ForcesValue) (y : MotionValue) (t : Turn) →
-      turn_outcome t ≡ reaches (reach_of s i j m n (greatest f y)) → IsReach s i j (reach_of s i j m n (greatest f y)) →
-      IsJudged Live (directed_survey s i j m n) (greatest f y) → TurnFits t → TurnHolds s i j t
-  turn_holds m n f y (Reaches r) e h k fits =
+  answer_holds : (m n : ℤ) (f : ForcesValue) (y : MotionValue) (t : DirectionAnswer) →
+      outcome_of_answer t ≡ reaches (reach_of s i j m n (greatest f y)) →
+          IsReach s i j (reach_of s i j m n (greatest f y)) →
+      IsJudged Live (directed_survey s i j m n) (greatest f y) → AnswerFits t → AnswerHolds s i j t
+  answer_holds m n f y (Reaches r) e h k fits =
       let same : reach_of s i j m n (greatest f y) ≡ reach_view r = cc in (
         subst (IsReach s i j) same h,
         record {
@@ -144,12 +145,13 @@ module _ (s : Surveyed) (i j : ℕ) where
           half_fits = fits.1;
         },
       )
-  turn_holds m n f y (Falls x) e h k fits = absurd (cc)
+  answer_holds m n f y (Falls x) e h k fits = absurd (cc)
 
-  pub bounded_holds : (m n : ℤ) (f : ForcesValue) (y : MotionValue) (v : Surveyed) (r : Result Turn Stop) →
+  pub bounded_holds : (m n : ℤ) (f : ForcesValue) (y : MotionValue) (v : Surveyed)
+      (r : Result DirectionAnswer DirectionStop) →
       v ≡ directed_survey s i j m n → IsJudged Live v (greatest f y) → IsOutcome r (bounded s i j m n f y) →
-      IfOk r TurnFits → IfOk r (TurnHolds s i j)
-  bounded_holds m n f y v (Ok t) e h o fits = turn_holds m n f y t
+      IfOk r AnswerFits → IfOk r (AnswerHolds s i j)
+  bounded_holds m n f y v (Ok t) e h o fits = answer_holds m n f y t
       (reach_or_stop _ _ _ (reach_of s i j m n (greatest f y)) t o) (is_reach m n v (greatest f y) e h tt)
       (subst (λ t. IsJudged Live t (greatest f y)) e h) fits
   bounded_holds m n f y v (Err x) e h o fits = tt

@@ -28,15 +28,16 @@ use Rattle.stack_pairs.specs.Directed.{directed_survey}
 use Rattle.stack_pairs.specs.Reaches.{PointValue, direction_of_reach, reach_of}
 use Rattle.stack_yield.specs.Outcomes.{unless_wide, outcome_of}
 use Rattle.stack_yield.specs.declared.types.Reach.{Reach}
-use Rattle.stack_yield.specs.declared.judging.Turn.{Turn}
-use Rattle.stack_yield.specs.declared.judging.Turn.TheVariants.{Reaches, Falls}
-use Rattle.stack_yield.specs.declared.judging.Stop.{Stop}
-use Rattle.stack_yield.specs.declared.judging.Stop.TheVariants.{Passes, Spends, Wants}
+use Rattle.stack_yield.specs.declared.judging.DirectionAnswer.{DirectionAnswer}
+use Rattle.stack_yield.specs.declared.judging.DirectionAnswer.TheVariants.{Reaches, Falls}
+use Rattle.stack_yield.specs.declared.judging.DirectionStop.{DirectionStop}
+use Rattle.stack_yield.specs.declared.judging.DirectionStop.TheVariants as stops
 use Rattle.stack_yield.specs.Kept.{reach_view}
 use Rattle.stack_yield.specs.Outcomes.{Outcome, reaches, falls, passes, spends, direction_outcome}
 use Rattle.stack_yield.specs.Outcomes.{Outcomes, answered, passes_at, spends_at, no_outcomes, with_reach, and_then}
 use Rattle.stack_yield.specs.Outcomes.{outcomes_from, outcomes}
-use Rattle.stack_yield.specs.Regions.{turn_outcome, IsOutcome, TurnHolds, Regions, RefusesFirst, refused_as}
+use Rattle.stack_yield.specs.Regions.{outcome_of_answer, IsOutcome, AnswerHolds, Regions, RefusesFirstDirection}
+use Rattle.stack_yield.specs.Regions.{region_refusal}
 use Rattle.stack_yield.specs.Regions.{towards_of}
 use Rattle.stack_yield.specs.ByDirections.{AreByDirections}
 use Rattle.stack_yield.specs.JudgedReaches.{ReachIsJudged}
@@ -145,48 +146,54 @@ module _ (s : Surveyed) (i j budget : ℕ) where
       }))
 
   -- what a direction's call told, by the list's item
-  pub outcome_told : (d : ℤ × ℤ) (t : Towards) (r : Result Turn Stop) → t ≡ towards_of i j d →
+  pub outcome_told : (d : ℤ × ℤ) (t : Towards) (r : Result DirectionAnswer DirectionStop) → t ≡ towards_of i j d →
       IsOutcome r (direction_outcome s t.i t.j budget (t.m, t.n)) → IsOutcome r (direction_outcome s i j budget d)
   outcome_told d t r e h = subst (λ (x : Towards). IsOutcome r (direction_outcome s x.i x.j budget (x.m, x.n))) e h
 
-  pub holds_told : (d : ℤ × ℤ) (t : Towards) (r : Result Turn Stop) → t ≡ towards_of i j d →
-      IfOk r (λ x. TurnHolds s t.i t.j x) → IfOk r (λ x. TurnHolds s i j x)
-  holds_told d t r e h = subst (λ (x : Towards). IfOk r (λ y. TurnHolds s x.i x.j y)) e h
+  pub holds_told : (d : ℤ × ℤ) (t : Towards) (r : Result DirectionAnswer DirectionStop) → t ≡ towards_of i j d →
+      IfOk r (λ x. AnswerHolds s t.i t.j x) → IfOk r (λ x. AnswerHolds s i j x)
+  holds_told d t r e h = subst (λ (x : Towards). IfOk r (λ y. AnswerHolds s x.i x.j y)) e h
 
-  ok_outcome : (o : Outcome) (r : Result Turn Stop) (t : Turn) → IsOutcome r o → r ≡ Ok t → o ≡ turn_outcome t
+  ok_outcome : (o : Outcome) (r : Result DirectionAnswer DirectionStop) (t : DirectionAnswer) → IsOutcome r o → r
+      ≡ Ok t → o ≡ outcome_of_answer t
   ok_outcome o r t h e = subst (λ x. IsOutcome x o) e h
 
-  pub reached : (o : Outcome) (r : Result Turn Stop) (t : Turn) (x : Reach) → IsOutcome r o → r ≡ Ok t → t ≡ Reaches x →
+  pub reached : (o : Outcome) (r : Result DirectionAnswer DirectionStop) (t : DirectionAnswer) (x : Reach) →
+      IsOutcome r o → r ≡ Ok t → t ≡ Reaches x →
       o ≡ reaches (reach_view x)
-  reached o r t x h e is = ok_outcome o r t h e ∙ ap turn_outcome is
+  reached o r t x h e is = ok_outcome o r t h e ∙ ap outcome_of_answer is
 
-  pub reach_holds : (r : Result Turn Stop) (t : Turn) (x : Reach) → IfOk r (λ y. TurnHolds s i j y) → r ≡ Ok t →
+  pub reach_holds : (r : Result DirectionAnswer DirectionStop) (t : DirectionAnswer) (x : Reach) →
+      IfOk r (λ y. AnswerHolds s i j y) → r ≡ Ok t →
       t ≡ Reaches x → IsReach s i j (reach_view x) × ReachIsJudged s i j (reach_view x)
-  reach_holds r t x h e is = subst (TurnHolds s i j) is (subst (λ y. IfOk y (λ z. TurnHolds s i j z)) e h)
+  reach_holds r t x h e is = subst (AnswerHolds s i j) is (subst (λ y. IfOk y (λ z. AnswerHolds s i j z)) e h)
 
-  pub fall_holds : (r : Result Turn Stop) (t : Turn) (y : Motion) → IfOk r (λ x. TurnHolds s i j x) → r ≡ Ok t →
+  pub fall_holds : (r : Result DirectionAnswer DirectionStop) (t : DirectionAnswer) (y : Motion) →
+      IfOk r (λ x. AnswerHolds s i j x) → r ≡ Ok t →
       t ≡ Falls y → IsJudged Live s (collapses (motion_view y))
-  fall_holds r t y h e is = subst (TurnHolds s i j) is (subst (λ x. IfOk x (λ z. TurnHolds s i j z)) e h)
+  fall_holds r t y h e is = subst (AnswerHolds s i j) is (subst (λ x. IfOk x (λ z. AnswerHolds s i j z)) e h)
 
-  pub fallen : (ds : List (ℤ × ℤ)) (rs : List ReachValue) (k : ℕ) (d : ℤ × ℤ) (r : Result Turn Stop) (t : Turn)
+  pub fallen : (ds : List (ℤ × ℤ)) (rs : List ReachValue) (k : ℕ) (d : ℤ × ℤ) (r : Result DirectionAnswer DirectionStop)
+      (t : DirectionAnswer)
       (y : Motion) → k < length ds → IsGathered ds rs k →
       IsOutcome r (direction_outcome s i j budget (get_or ds k d)) → r ≡ Ok t → t ≡ Falls y →
       outcomes s i j budget ds ≡ answered (collapse (motion_view y))
   fallen ds rs k d r t y lt g h e is = next ds rs k d (falls (motion_view y)) lt g
-      (ok_outcome (direction_outcome s i j budget (get_or ds k d)) r t h e ∙ ap turn_outcome is)
+      (ok_outcome (direction_outcome s i j budget (get_or ds k d)) r t h e ∙ ap outcome_of_answer is)
 
-  pub stopped : (ds : List (ℤ × ℤ)) (rs : List ReachValue) (k : ℕ) (d : ℤ × ℤ) (r : Result Turn Stop) (x : Stop)
+  pub stopped : (ds : List (ℤ × ℤ)) (rs : List ReachValue) (k : ℕ) (d : ℤ × ℤ)
+      (r : Result DirectionAnswer DirectionStop) (x : DirectionStop)
       (e : RegionError) → k < length ds → IsGathered ds rs k →
-      IsOutcome r (direction_outcome s i j budget (get_or ds k d)) → r ≡ Err x → e ≡ refused_as x k →
+      IsOutcome r (direction_outcome s i j budget (get_or ds k d)) → r ≡ Err x → e ≡ region_refusal x k →
       Regions (Err e) s i j budget ds
   stopped ds rs k d r x e lt g h was is = subst (λ t. Regions (Err t) s i j budget ds) (sym is)
       (go x (subst (λ t. IsOutcome t (direction_outcome s i j budget (get_or ds k d))) was h))
     where
-      go : (x : Stop) → IsOutcome (Err x) (direction_outcome s i j budget (get_or ds k d)) →
-          Regions (Err (refused_as x k)) s i j budget ds
-      go (Passes p) o = next ds rs k d (passes p) lt g o
-      go Spends o = next ds rs k d spends lt g o
-      go Wants o = tt
+      go : (x : DirectionStop) → IsOutcome (Err x) (direction_outcome s i j budget (get_or ds k d)) →
+          Regions (Err (region_refusal x k)) s i j budget ds
+      go (stops.TooWide p) o = next ds rs k d (passes p) lt g o
+      go stops.Spent o = next ds rs k d spends lt g o
+      go stops.Memory o = tt
 
   pub all_told : RegionsTell → IsProper (scene_of s) → ArePair s.structure i j → (ds : List (ℤ × ℤ))
       (rs : List ReachValue) (k : ℕ) → 1 ≤ length ds → length ds ≤ k → IsGathered ds rs k →
@@ -196,7 +203,7 @@ module _ (s : Surveyed) (i j budget : ℕ) where
 
   -- a direction that is refused is the first that has no reach
   pub refuses_first : (ds : List (ℤ × ℤ)) (e : RegionError) → Regions (Err e) s i j budget ds →
-      RefusesFirst (Err e) s i j budget ds
+      RefusesFirstDirection (Err e) s i j budget ds
   refuses_first ds (errors.TooWide k p) g = subst (AreByDirections s i j budget ds) g (by_directions s i j budget ds)
   refuses_first ds (errors.Spent k) g = subst (AreByDirections s i j budget ds) g (by_directions s i j budget ds)
   refuses_first ds errors.Memory g = tt

@@ -5,7 +5,7 @@ use Rattle.std.proofs.Math.ListN.{drop_of_length-le}
 use Rattle.std.proofs.lemmas.List.{append-nil, length-map}
 use Rattle.stack_yield.specs.declared.types.Reach.{Reach}
 use Rattle.stack_yield.specs.Kept.{reach_view}
-use Rattle.stack_yield.specs.RegionText.{reach_text, reach_lines, count_line}
+use Rattle.stack_yield.specs.RegionText.{reach_text, reach_lines, region_line}
 
 -- the text of the reaches so far, with one more
 pub one_more : (rs : List Reach) (k : ℕ) (r : Reach) (text longer whole : List ℕ) → k < length rs →
@@ -26,8 +26,8 @@ no_more rs k text whole le so_far = sym (append-nil text)
     ∙ ap (λ ls. text ++ reach_lines (map reach_view ls)) (sym (drop_of_length-le rs le)) ∙ so_far
 
 -- behind the line that counts them
-pub behind_count : (rs : List Reach) (head whole : List ℕ) → head ≡ count_line (length rs) →
+pub behind_count : (rs : List Reach) (head whole : List ℕ) → head ≡ region_line (length rs) →
     whole ≡ head ++ reach_lines (map reach_view rs) →
-    whole ≡ count_line (length (map reach_view rs)) ++ reach_lines (map reach_view rs)
+    whole ≡ region_line (length (map reach_view rs)) ++ reach_lines (map reach_view rs)
 behind_count rs head whole counted is = is ∙ ap (λ t. t ++ reach_lines (map reach_view rs)) counted
-    ∙ ap (λ n. count_line n ++ reach_lines (map reach_view rs)) (sym (length-map rs reach_view))
+    ∙ ap (λ n. region_line n ++ reach_lines (map reach_view rs)) (sym (length-map rs reach_view))

@@ -44,20 +44,21 @@ module _ (s : Surveyed) (i j budget : ℕ) where
 
   -- a number of it is too wide: of its judgement; or of a greatest factor the power of the first load, else that of the
   -- second, else a coordinate
-  abbrev pub IsTooWide : ℤ × ℤ → RegionPlace → Type 0
-  IsTooWide d (places.Judge p) = judgement_towards d ≡ too_wide p
-  IsTooWide d places.First = (f : ForcesValue) × (y : MotionValue) × HasGreatest d f y
+  abbrev pub DirectionIsTooWide : ℤ × ℤ → RegionPlace → Type 0
+  DirectionIsTooWide d (places.Judge p) = judgement_towards d ≡ too_wide p
+  DirectionIsTooWide d places.First = (f : ForcesValue) × (y : MotionValue) × HasGreatest d f y
       × (e : PowerWide) × (written_power Live (directed_survey s i j (pos 1) (pos 0)) y ≡ Err e)
-  IsTooWide d places.Second = (f : ForcesValue) × (y : MotionValue) × HasGreatest d f y × FirstIsMade y
+  DirectionIsTooWide d places.Second = (f : ForcesValue) × (y : MotionValue) × HasGreatest d f y × FirstIsMade y
       × (e : PowerWide) × (written_power Live (directed_survey s i j (pos 0) (pos 1)) y ≡ Err e)
-  IsTooWide d places.Point = (f : ForcesValue) × (y : MotionValue) × HasGreatest d f y × FirstIsMade y × SecondIsMade y
+  DirectionIsTooWide d places.Point = (f : ForcesValue) × (y : MotionValue) × HasGreatest d f y × FirstIsMade y
+      × SecondIsMade y
       × (point_made d.0 d.1 f ≡ None)
 
   -- what comes of a direction, by its judgement
   abbrev pub IsOutcomeOf : ℤ × ℤ → Outcome → Type 0
   IsOutcomeOf d (reaches r) = HasReach d
   IsOutcomeOf d (falls y) = judgement_towards d ≡ certified (collapses y)
-  IsOutcomeOf d (passes p) = IsTooWide d p
+  IsOutcomeOf d (passes p) = DirectionIsTooWide d p
   IsOutcomeOf d spends = judgement_towards d ≡ spent
   IsOutcomeOf d no_outcome = ⊥
 

@@ -40,15 +40,15 @@ reach_lines [] = []
 reach_lines (r ∷ rs) = reach_text r ++ reach_lines rs
 
 -- the first line of a region, with the number of its directions
-abbrev pub count_line : ℕ → List ℕ
-count_line n = codes "region " ++ decimal n ++ codes "\n"
+abbrev pub region_line : ℕ → List ℕ
+region_line n = codes "region " ++ decimal n ++ codes "\n"
 
 -- the whole text of a region
 abbrev pub region_text : RegionValue → List ℕ
 region_text (collapse y) = certificate_text (collapses y)
-region_text (points rs) = count_line (length rs) ++ reach_lines rs
+region_text (points rs) = region_line (length rs) ++ reach_lines rs
 
 -- a region can be printed: every region that is told can
-abbrev pub CanPrint : RegionValue → Type 0
-CanPrint (collapse y) = CertificateFits (collapses y)
-CanPrint (points rs) = ⊤
+abbrev pub CanPrintRegion : RegionValue → Type 0
+CanPrintRegion (collapse y) = CertificateFits (collapses y)
+CanPrintRegion (points rs) = ⊤

@@ -5,7 +5,7 @@ ghost use Rattle.stack_model.specs.ModelView.{model_view};
 ghost use Rattle.stack_model.specs.Structure.{load_of};
 ghost use Rattle.stack_pairs.specs.Directed.{times_load, directed_load, directed_from, directed_survey};
 ghost use Rattle.stack_pairs.specs.Directed.{ArePair, AreFactors};
-ghost use Rattle.stack_yield.specs.Directing.{IsSlightForce, IsLimitedFactor, listed};
+ghost use Rattle.stack_yield.specs.Directing.{IsSlightForce, IsLimitedFactor, load_or_none};
 
 use stack_contact::survey_again;
 use stack_contact::types::Survey;
@@ -41,7 +41,7 @@ fn left(model: &Model, t: Towards, k: usize) -> Option<Load>
     requires pair { ArePair (model_view model.now) t.i t.j }
     requires factors { AreFactors t.m t.n }
     requires listed { k < length (model_view model.now).loads }
-    ensures { listed result ≡ directed_load t.i t.j t.m t.n k (load_of (model_view model.now) k) }
+    ensures { load_or_none result ≡ directed_load t.i t.j t.m t.n k (load_of (model_view model.now) k) }
 {
     let load = model.load(k);
     if !load.live {

@@ -7,11 +7,11 @@ ghost use Rattle.stack_pairs.specs.Reaches.{RegionTells};
 ghost use Rattle.stack_yield.specs.Directions.{IsDirection, most_directions};
 ghost use Rattle.stack_yield.specs.Kept.{region_view};
 ghost use Rattle.stack_yield.specs.JudgedReaches.{RegionIsJudged};
-ghost use Rattle.stack_yield.specs.Regions.{Regions, RefusesFirst, refused_as, towards_of};
-ghost use Rattle.stack_yield.specs.RegionText.{CanPrint};
+ghost use Rattle.stack_yield.specs.Regions.{Regions, RefusesFirstDirection, region_refusal, towards_of};
+ghost use Rattle.stack_yield.specs.RegionText.{CanPrintRegion};
 
 use crate::directing::{Towards, directed};
-use crate::judging::{Stop, Turn, judge_direction};
+use crate::judging::{DirectionStop, DirectionAnswer, judge_direction};
 use crate::types::{Region, RegionError};
 use stack_contact::types::Survey;
 use stack_equilibrium::proper;
@@ -31,16 +31,16 @@ fn towards(i: usize, j: usize, d: &(i64, i64)) -> Towards
 }
 
 /// Why there is no region where direction `k` has no reach.
-fn refused(stop: Stop, k: usize) -> RegionError
-    ensures { result ≡ refused_as stop k }
+fn refused(stop: DirectionStop, k: usize) -> RegionError
+    ensures { result ≡ region_refusal stop k }
 {
     match stop {
-        Stop::Passes(place) => RegionError::TooWide {
+        DirectionStop::TooWide(place) => RegionError::TooWide {
             direction: k,
             place,
         },
-        Stop::Spends => RegionError::Spent { direction: k },
-        Stop::Wants => RegionError::Memory,
+        DirectionStop::Spent => RegionError::Spent { direction: k },
+        DirectionStop::Memory => RegionError::Memory,
     }
 }
 
@@ -65,10 +65,10 @@ pub fn region(
     requires few { length dirs.now ≤ most_directions }
     requires budget { budget ≢ 0 }
     ensures regions { Regions result s.now i j budget dirs.now }
-    ensures refused { RefusesFirst result s.now i j budget dirs.now }
+    ensures refused { RefusesFirstDirection result s.now i j budget dirs.now }
     ensures judged { IfOk result (λ r. RegionIsJudged s.now i j (region_view r)) }
     ensures tells { IfOk result (λ r. RegionTells s.now i j dirs.now (region_view r)) }
-    ensures printable { IfOk result (λ r. CanPrint (region_view r)) }
+    ensures printable { IfOk result (λ r. CanPrintRegion (region_view r)) }
 {
     reach_laws();
     proper(s);
@@ -77,8 +77,8 @@ pub fn region(
     let mut reaches = Vec::new(alloc);
     for k in 0..dirs.len() {
         match judge_direction(alloc, s, &first, &second, towards(i, j, &dirs[k]), budget) {
-            Ok(Turn::Reaches(reach)) => reaches.push(reach)?,
-            Ok(Turn::Falls(motion)) => return Ok(Region::Collapses(motion)),
+            Ok(DirectionAnswer::Reaches(reach)) => reaches.push(reach)?,
+            Ok(DirectionAnswer::Falls(motion)) => return Ok(Region::Collapses(motion)),
             Err(stop) => return Err(refused(stop, k)),
         }
     }

@@ -6,10 +6,10 @@ ghost use Rattle.stack_certificate.specs.Certificate.{forces_view, motion_view, 
 ghost use Rattle.stack_equilibrium.specs.declared.types.Question.TheVariants as questions;
 ghost use Rattle.stack_judge.specs.Judged.{IsJudged};
 ghost use Rattle.stack_pairs.specs.Directed.{directed_survey, ArePair, AreFactors};
-ghost use Rattle.stack_yield.specs.declared.judging.Stop.TheVariants as stops;
+ghost use Rattle.stack_yield.specs.declared.judging.DirectionStop.TheVariants as stops;
 ghost use Rattle.stack_yield.specs.LessDead.{less_dead};
 ghost use Rattle.stack_yield.specs.Outcomes.{bounded, certificate_outcome, direction_outcome};
-ghost use Rattle.stack_yield.specs.Regions.{IsOutcome, TurnFits, TurnHolds};
+ghost use Rattle.stack_yield.specs.Regions.{IsOutcome, AnswerFits, AnswerHolds};
 
 use crate::coordinates::point;
 use crate::directing::{Towards, survey_towards};
@@ -24,26 +24,26 @@ use std::alloc::{AllocError, Global};
 
 /// Why a direction has no reach.
 #[derive(Clone, Copy, Debug, PartialEq, Eq)]
-pub enum Stop {
+pub enum DirectionStop {
     /// The first number that is more than 2^127 - 1 in size.
-    Passes(RegionPlace),
+    TooWide(RegionPlace),
     /// A pivot is due when the budget's are done.
-    Spends,
+    Spent,
     /// Memory ran out.
-    Wants,
+    Memory,
 }
 
-impl From<AllocError> for Stop {
-    ghost from_gives = { λ _ e. e ≡ stops.Wants };
+impl From<AllocError> for DirectionStop {
+    ghost from_gives = { λ _ e. e ≡ stops.Memory };
 
-    fn from(_e: AllocError) -> Stop {
-        Stop::Wants
+    fn from(_e: AllocError) -> DirectionStop {
+        DirectionStop::Memory
     }
 }
 
 /// What comes of a direction: a reach, or that the dead loads fall.
 #[derive(Drop)]
-pub enum Turn {
+pub enum DirectionAnswer {
     Reaches(Reach),
     Falls(Motion),
 }
@@ -72,7 +72,7 @@ fn bounded_reach(
     t: Towards,
     forces: Forces,
     motion: Motion,
-) -> Result<Turn, Stop>
+) -> Result<DirectionAnswer, DirectionStop>
     requires pair { ArePair s.now.structure t.i t.j }
     requires factors { AreFactors t.m t.n }
     requires towards { judged.now ≡ directed_survey s.now t.i t.j t.m t.n }
@@ -80,19 +80,19 @@ fn bounded_reach(
     requires second { second.now ≡ directed_survey s.now t.i t.j (pos 0) (pos 1) }
     requires judged { IsJudged questions.Live judged.now (greatest (forces_view forces) (motion_view motion)) }
     ensures outcome { IsOutcome result (bounded s.now t.i t.j t.m t.n (forces_view forces) (motion_view motion)) }
-    ensures fits { IfOk result TurnFits }
+    ensures fits { IfOk result AnswerFits }
 {
     let Ok(p) = power(first, &motion, Question::Live) else {
-        return Err(Stop::Passes(RegionPlace::First));
+        return Err(DirectionStop::TooWide(RegionPlace::First));
     };
     let Ok(q) = power(second, &motion, Question::Live) else {
-        return Err(Stop::Passes(RegionPlace::Second));
+        return Err(DirectionStop::TooWide(RegionPlace::Second));
     };
     let r = dead_power(judged, &forces, &motion);
     let Some(at) = point(Whole::widened(t.m), Whole::widened(t.n), &forces) else {
-        return Err(Stop::Passes(RegionPlace::Point));
+        return Err(DirectionStop::TooWide(RegionPlace::Point));
     };
-    Ok(Turn::Reaches(Reach {
+    Ok(DirectionAnswer::Reaches(Reach {
         m: t.m,
         n: t.n,
         certificate: Certificate::Greatest(forces, motion),
@@ -102,14 +102,14 @@ fn bounded_reach(
 }
 
 /// What a certificate of a direction says.
-fn certificate_turn(
+fn certificate_answer(
     s: &Survey,
     judged: &Survey,
     first: &Survey,
     second: &Survey,
     t: Towards,
     certificate: Certificate,
-) -> Result<Turn, Stop>
+) -> Result<DirectionAnswer, DirectionStop>
     requires pair { ArePair s.now.structure t.i t.j }
     requires factors { AreFactors t.m t.n }
     requires towards { judged.now ≡ directed_survey s.now t.i t.j t.m t.n }
@@ -117,16 +117,16 @@ fn certificate_turn(
     requires second { second.now ≡ directed_survey s.now t.i t.j (pos 0) (pos 1) }
     requires judged { IsJudged questions.Live judged.now (certificate_view certificate) }
     ensures outcome { IsOutcome result (certificate_outcome s.now t.i t.j t.m t.n (certificate_view certificate)) }
-    ensures holds { IfOk result (λ r. TurnHolds s.now t.i t.j r) }
+    ensures holds { IfOk result (λ r. AnswerHolds s.now t.i t.j r) }
 {
     // a law of surveys, by which a collapse is one of the survey itself
     proper(s);
     match certificate {
-        Certificate::Collapses(motion) => Ok(Turn::Falls(motion)),
+        Certificate::Collapses(motion) => Ok(DirectionAnswer::Falls(motion)),
         Certificate::Greatest(forces, motion) => {
             bounded_reach(s, judged, first, second, t, forces, motion)
         }
-        Certificate::Unbounded(base, ray) => Ok(Turn::Reaches(Reach {
+        Certificate::Unbounded(base, ray) => Ok(DirectionAnswer::Reaches(Reach {
             m: t.m,
             n: t.n,
             certificate: Certificate::Unbounded(base, ray),
@@ -145,21 +145,21 @@ pub fn judge_direction(
     second: &Survey,
     t: Towards,
     budget: u32,
-) -> Result<Turn, Stop>
+) -> Result<DirectionAnswer, DirectionStop>
     requires budget { budget ≢ 0 }
     requires pair { ArePair s.now.structure t.i t.j }
     requires factors { AreFactors t.m t.n }
     requires first { first.now ≡ directed_survey s.now t.i t.j (pos 1) (pos 0) }
     requires second { second.now ≡ directed_survey s.now t.i t.j (pos 0) (pos 1) }
     ensures outcome { IsOutcome result (direction_outcome s.now t.i t.j budget (t.m, t.n)) }
-    ensures holds { IfOk result (λ r. TurnHolds s.now t.i t.j r) }
+    ensures holds { IfOk result (λ r. AnswerHolds s.now t.i t.j r) }
 {
     let judged = survey_towards(alloc, s, t)?;
     match judge(alloc, &judged, Question::Live, budget) {
-        Ok(certificate) => certificate_turn(s, &judged, first, second, t, certificate),
-        Err(JudgeError::TooWide(place)) => Err(Stop::Passes(RegionPlace::Judge(place))),
-        Err(JudgeError::Spent { .. }) => Err(Stop::Spends),
+        Ok(certificate) => certificate_answer(s, &judged, first, second, t, certificate),
+        Err(JudgeError::TooWide(place)) => Err(DirectionStop::TooWide(RegionPlace::Judge(place))),
+        Err(JudgeError::Spent { .. }) => Err(DirectionStop::Spent),
         Err(JudgeError::NoLive) => unreachable!(),
-        Err(JudgeError::Memory) => Err(Stop::Wants),
+        Err(JudgeError::Memory) => Err(DirectionStop::Memory),
     }
 }

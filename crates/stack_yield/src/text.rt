@@ -3,7 +3,7 @@
 ghost use Rattle.std.specs.Prelude.{◌≡◌, ◌++◌, IfOk, length, map, string_bytes};
 ghost use Rattle.stack_yield.specs.Kept.{reach_view, region_view};
 ghost use Rattle.stack_yield.specs.RegionText.{ratio_of, distance_text, direction_line, half_line, reach_text};
-ghost use Rattle.stack_yield.specs.RegionText.{reach_lines, count_line, region_text, CanPrint};
+ghost use Rattle.stack_yield.specs.RegionText.{reach_lines, region_line, region_text, CanPrintRegion};
 ghost use Rattle.stack_pairs.specs.Reaches.{points};
 
 use crate::types::{Reach, Region};
@@ -87,7 +87,7 @@ fn reaches_text(alloc: Global, reaches: &[Reach]) -> Result<String, AllocError>
 /// fractions in lowest terms, and the line `half P Q R`; or the line `dir M N unlimited` alone. Of a collapse the text
 /// of its certificate. `AllocError` where memory ran out.
 pub fn write_region(alloc: Global, region: Region) -> Result<Vec<u8>, AllocError>
-    requires { CanPrint (region_view region) }
+    requires { CanPrintRegion (region_view region) }
     ensures { IfOk result (λ t. t.items ≡ region_text (region_view region)) }
 {
     match region {

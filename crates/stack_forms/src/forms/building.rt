@@ -8,10 +8,10 @@ ghost use Rattle.stack_stages.specs.Gives.{stages_view};
 ghost use Rattle.stack_lines.specs.Answers.{stages_verdict as stages_verdict_of};
 ghost use Rattle.stack_lines.specs.Refusals.{refusal_view, faulty};
 ghost use Rattle.stack_lines.specs.Judging.{wide_within};
-ghost use Rattle.stack_lines.specs.Building.{stages_step, ordered, ordered_file, stages_work};
+ghost use Rattle.stack_lines.specs.Building.{stages_step, order_work, ordered_file, stages_work};
 ghost use Rattle.stack_lines.specs.Progress.{Does, DoesAlone, AnswersDue};
 
-use crate::forms::judging::wide;
+use crate::forms::judging::wide_refusal;
 use crate::reading::read_file;
 use crate::surveying::survey_file;
 use stack_contact::types::Survey;
@@ -45,7 +45,7 @@ fn wide_stage(
         (stage_structure survey.now.structure order.now number) place)) ⊎ (result ≡ Refusal.Memory) }
 {
     match stage_of(alloc, survey, order, number) {
-        Ok(stage) => wide(alloc, &stage, Within::Stage { number }, place),
+        Ok(stage) => wide_refusal(alloc, &stage, Within::Stage { number }, place),
         Err(_) => Refusal::Memory,
     }
 }
@@ -77,7 +77,7 @@ fn stages_survey(
 /// What comes of the stages of the order in a text.
 fn order_text(alloc: Global, text: &[u8], survey: &Survey, budget: u32) -> Result<Answer, Refusal>
     requires { budget ≢ 0 }
-    ensures { DoesAlone AnswersDue (ordered budget survey.now text.now) result }
+    ensures { DoesAlone AnswersDue (order_work budget survey.now text.now) result }
 {
     match read_order(alloc, survey.model(), text) {
         Ok(order) => stages_survey(alloc, survey, order.as_slice(), budget),

@@ -29,7 +29,7 @@ fn verdict_of(certificate: &Certificate) -> Verdict
 }
 
 /// The refusal of a number that is too wide.
-pub fn wide(alloc: Global, survey: &Survey, within: Within, place: JudgePlace) -> Refusal
+pub fn wide_refusal(alloc: Global, survey: &Survey, within: Within, place: JudgePlace) -> Refusal
     ensures { (refusal_view result ≡ faulty (wide_within within survey.now.structure place))
         ⊎ (result ≡ Refusal.Memory) }
 {
@@ -62,7 +62,7 @@ fn judge_survey(
             verdict: verdict_of(&certificate),
             text: write_certificate(alloc, &certificate)?,
         }),
-        Err(JudgeError::TooWide(place)) => Err(wide(alloc, survey, Within::Whole, place)),
+        Err(JudgeError::TooWide(place)) => Err(wide_refusal(alloc, survey, Within::Whole, place)),
         Err(JudgeError::Spent { budget }) => Err(Refusal::Spent { budget }),
         Err(JudgeError::NoLive) => Err(Refusal::NoLive),
         Err(JudgeError::Memory) => Err(Refusal::Memory),

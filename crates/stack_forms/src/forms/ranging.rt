@@ -7,7 +7,7 @@ ghost use Rattle.stack_lines.specs.Answers.{range_verdict as range_verdict_of};
 ghost use Rattle.stack_lines.specs.Ranging.{within_of, range_told, range_work};
 ghost use Rattle.stack_lines.specs.Progress.{Does, DoesAlone, AnswersDue};
 
-use crate::forms::judging::wide;
+use crate::forms::judging::wide_refusal;
 use crate::surveying::survey_file;
 use stack_contact::types::Survey;
 use stack_lines::{Answer, Refusal, Verdict, Within};
@@ -49,7 +49,7 @@ fn range_survey(alloc: Global, survey: &Survey, budget: u32) -> Result<Answer, R
                 Err(_) => Err(Refusal::Memory),
             }
         }
-        Err(RangeError::TooWide { side, place }) => Err(wide(alloc, survey, within(side), place)),
+        Err(RangeError::TooWide { side, place }) => Err(wide_refusal(alloc, survey, within(side), place)),
         Err(RangeError::Spent { .. }) => Err(Refusal::Spent { budget }),
         Err(RangeError::NoLive) => Err(Refusal::NoLive),
         Err(RangeError::Memory) => Err(Refusal::Memory),

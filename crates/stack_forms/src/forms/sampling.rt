@@ -12,7 +12,7 @@ ghost use Rattle.stack_lines.specs.Stacking.{built_step};
 ghost use Rattle.stack_lines.specs.Sampling.{sample_of, sampled, wall_sampled, sample_work};
 ghost use Rattle.stack_lines.specs.Progress.{DoesAlone, IsModel, AnswersDue};
 
-use crate::forms::judging::wide;
+use crate::forms::judging::wide_refusal;
 use crate::surveying::survey_model;
 use stack_certificate::types::Certificate;
 use stack_contact::types::Survey;
@@ -25,7 +25,7 @@ use stack_report::sample_summary;
 use std::alloc::Global;
 
 /// The wall with this number.
-fn built(alloc: Global, number: u32) -> Result<Model, Refusal>
+fn build_wall(alloc: Global, number: u32) -> Result<Model, Refusal>
     ensures does { DoesAlone IsModel (built_step (sample_of number)) result }
     ensures live { IfOk result (λ m. HasLive (model_view m)) }
 {
@@ -36,7 +36,7 @@ fn built(alloc: Global, number: u32) -> Result<Model, Refusal>
 }
 
 /// The summary of a certificate.
-fn summed(
+fn summary_answer(
     alloc: Global,
     number: u32,
     survey: &Survey,
@@ -59,8 +59,8 @@ fn sample_survey(alloc: Global, number: u32, survey: &Survey) -> Result<Answer, 
     ensures { DoesAlone AnswersDue (sampled number survey.now) result }
 {
     match judge_marked(alloc, survey, Question::Live, DEFAULT_BUDGET) {
-        Ok((certificate, narrow)) => summed(alloc, number, survey, &certificate, narrow),
-        Err(JudgeError::TooWide(place)) => Err(wide(alloc, survey, Within::Whole, place)),
+        Ok((certificate, narrow)) => summary_answer(alloc, number, survey, &certificate, narrow),
+        Err(JudgeError::TooWide(place)) => Err(wide_refusal(alloc, survey, Within::Whole, place)),
         Err(JudgeError::Spent { budget }) => Err(Refusal::Spent { budget }),
         Err(JudgeError::NoLive) => unreachable!(),
         Err(JudgeError::Memory) => Err(Refusal::Memory),
@@ -82,7 +82,7 @@ fn sample_wall(alloc: Global, number: u32, model: Model) -> Result<Answer, Refus
 pub fn sample_form(alloc: Global, number: u32) -> Result<Answer, Refusal>
     ensures { DoesAlone AnswersDue (sample_work number) result }
 {
-    match built(alloc, number) {
+    match build_wall(alloc, number) {
         Ok(model) => sample_wall(alloc, number, model),
         Err(refusal) => Err(refusal),
     }

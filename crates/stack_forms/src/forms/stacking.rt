@@ -24,7 +24,7 @@ fn stack(alloc: Global, kind: Kind, size: u32) -> Result<Model, StackError>
 }
 
 /// The same, or the refusal of its size.
-fn built(alloc: Global, kind: Kind, size: u32) -> Result<Model, Refusal>
+fn build_stack(alloc: Global, kind: Kind, size: u32) -> Result<Model, Refusal>
     ensures { DoesAlone IsModel (built_step (stack_of kind size)) result }
 {
     match stack(alloc, kind, size) {
@@ -47,7 +47,7 @@ fn described(alloc: Global, model: &Model) -> Result<Answer, Refusal>
 pub fn stack_form(alloc: Global, kind: Kind, size: u32) -> Result<Answer, Refusal>
     ensures { DoesAlone AnswersDue (stack_work kind size) result }
 {
-    match built(alloc, kind, size) {
+    match build_stack(alloc, kind, size) {
         Ok(model) => described(alloc, &model),
         Err(refusal) => Err(refusal),
     }

@@ -9,11 +9,11 @@ ghost use Rattle.stack_yield.specs.Kept.{region_view};
 ghost use Rattle.stack_yield.specs.Outcomes.{outcomes};
 ghost use Rattle.stack_lines.specs.Answers.{region_verdict as region_verdict_of};
 ghost use Rattle.stack_lines.specs.Refusals.{refusal_view, faulty};
-ghost use Rattle.stack_lines.specs.Yielding.{wide_toward, region_step, directed, directed_file, paired_file};
+ghost use Rattle.stack_lines.specs.Yielding.{wide_toward, region_step, directions_work, directed_file, paired_file};
 ghost use Rattle.stack_lines.specs.Yielding.{yield_work};
 ghost use Rattle.stack_lines.specs.Progress.{Does, DoesAlone, AnswersDue};
 
-use crate::forms::judging::wide;
+use crate::forms::judging::wide_refusal;
 use crate::reading::read_file;
 use crate::surveying::survey_file;
 use stack_contact::types::Survey;
@@ -40,7 +40,7 @@ fn wide_direction(alloc: Global, survey: &Survey, number: usize, place: RegionPl
 {
     let within = Within::Direction { number };
     match place {
-        RegionPlace::Judge(place) => wide(alloc, survey, within, place),
+        RegionPlace::Judge(place) => wide_refusal(alloc, survey, within, place),
         RegionPlace::First => Refusal::WideReach {
             within,
             place: ReachPlace::First,
@@ -106,7 +106,7 @@ fn directions_text(
 ) -> Result<Answer, Refusal>
     requires loads { ArePair survey.now.structure loads.0 loads.1 }
     requires budget { budget ≢ 0 }
-    ensures { DoesAlone AnswersDue (directed budget survey.now loads text.now) result }
+    ensures { DoesAlone AnswersDue (directions_work budget survey.now loads text.now) result }
 {
     match read_directions(alloc, text) {
         Ok(directions) => region_survey(alloc, survey, loads, directions.as_slice(), budget),

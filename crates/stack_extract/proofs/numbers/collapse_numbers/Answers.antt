@@ -9,18 +9,18 @@ pub loop-row-preserved : goal.loop-row-preserved
 loop-row-preserved g c = (
   grown (collapse_number (g.L.LastTable.shape c.args.t.now) (g.L.LastTable.table c.args.t.now)) c.loop-row.row
       c.in-Ok.number c.loop-row.numbers.items _
-      (c.in-Ok.ensures.ok ∙ (λ i. add (c.bound_number.ensures i) (neg (c.unit.ensures i))))
+      (c.in-Ok.ensures.ok ∙ (λ i. add (c.bound_number.ensures i) (neg (c.one.ensures i))))
       c.loop-row.invariant.0
       c.in_ok-numbers-in-Ok.ensures,
   shift_fits (g.L.LastTable.shape c.args.t.now)
-      (g.L.LastTable.table c.args.t.now) c.loop-row.row c.bound_number.result c.unit.result
-      c.bound_number.ensures c.unit.ensures c.in-Ok.ensures.fits c.loop-row.invariant.1,
+      (g.L.LastTable.table c.args.t.now) c.loop-row.row c.bound_number.result c.one.result
+      c.bound_number.ensures c.one.ensures c.in-Ok.ensures.fits c.loop-row.invariant.1,
 )
 
 pub returns-in-Err-clause-wide : goal.returns-in-Err-clause-wide
 returns-in-Err-clause-wide g c = told c.too_wide.result _ _ c.too_wide.ensures
     (shift_too_wide (g.L.LastTable.shape c.args.t.now) (g.L.LastTable.table c.args.t.now) c.loop-row.row
-    c.bound_number.result c.unit.result
+    c.bound_number.result c.one.result
     (omega (arith, c.loop-row-test.true, c.row_count-row-end.ensures)) c.bound_number.ensures
-    c.unit.ensures
+    c.one.ensures
     c.in-Err.ensures.wide c.loop-row.invariant.1)

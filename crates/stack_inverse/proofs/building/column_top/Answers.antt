@@ -7,7 +7,7 @@ use Rattle.stack_inverse.proofs.building.column_top.Goals as goal
 
 pub loop-j-preserved : goal.loop-j-preserved
 loop-j-preserved g c =
-    let v = g.T.Whole.value in
+    let v = g.T.RowNumber.value in
     let cells : c.as_slice.result.now ≡ cells_at c.args.columns.now c.loop-j.j = c.as_slice.ensures.value
     ∙ cells_lent c.args.columns.now c.loop-j.j c.index-columns-j.result c.loop-j-test.true in
     record {

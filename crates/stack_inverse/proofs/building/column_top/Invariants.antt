@@ -5,7 +5,7 @@ use Rattle.stack_inverse.proofs.building.column_top.Given as goal
 
 abbrev pub invariant-loop-j : goal.invariant-loop-j
 invariant-loop-j g l = record {
-  some : 0 < unsigned_abs (g.T.Whole.value l.top);
+  some : 0 < unsigned_abs (g.T.RowNumber.value l.top);
   top : (k : ℕ) → k < l.j →
-      sizes_in g.T.Whole.value (cells_at l.columns k) ≤ unsigned_abs (g.T.Whole.value l.top);
+      sizes_in g.T.RowNumber.value (cells_at l.columns k) ≤ unsigned_abs (g.T.RowNumber.value l.top);
 }

@@ -2,15 +2,15 @@ use Rattle.std.proofs.Common.{◌≡◌, ◌<◌, sym, ap, subst, ◌∙◌, ◌
 use Rattle.std.proofs.lemmas.List.{length_push, get_or-map}
 use lib.IntN.{ℤ}
 use Rattle.stack_table.specs.declared.problem.Entry.{Entry}
-use Rattle.stack_table.specs.declared.problem.Column.{Column as Given}
-use Rattle.stack_inverse.specs.declared.columns.Column.{Column}
+use Rattle.stack_table.specs.declared.problem.Column.{FirstColumn as Given}
+use Rattle.stack_inverse.specs.declared.columns.FirstColumn.{FirstColumn}
 use Rattle.stack_inverse.specs.FirstTable.{AreTurned}
 use Rattle.stack_inverse.proofs.Grown.{grown_by}
 use Rattle.stack_inverse.proofs.building.contact_columns.Goals as goal
 
 pub loop-j-preserved : goal.loop-j-preserved
 loop-j-preserved g c =
-    let v = g.T.Whole.value in
+    let v = g.T.RowNumber.value in
     let P = c.args.p.now in
     let j = c.loop-j.j in
     let cells = c.in_ok-cells.cells.items in
@@ -27,7 +27,7 @@ loop-j-preserved g c =
     record {
       long = ap length c.in_ok-push.ensures.items ∙ length_push c.loop-j.columns.items _
           ∙ ap (λ n. n + 1) c.loop-j.invariant.long;
-      turned = λ k l. grown_by (λ (c : Column g.row.T.Denot). c.cells.items) []
+      turned = λ k l. grown_by (λ (c : FirstColumn g.row.T.Denot). c.cells.items) []
           (λ k z. AreTurned v P.right.items (get_or (map (λ (c : Given). c.entries.items) P.contact.items) k []) z)
           c.loop-j.columns.items c.push.new.self.items _ j c.in_ok-push.ensures.items c.loop-j.invariant.long
           c.loop-j.invariant.turned here k l;

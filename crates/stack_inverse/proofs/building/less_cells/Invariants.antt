@@ -6,5 +6,6 @@ use Rattle.stack_inverse.proofs.building.less_cells.Given as goal
 
 -- what is left less the values of the cells that are left
 abbrev pub invariant-loop-cell : goal.invariant-loop-cell
-invariant-loop-cell g l = g.T.Whole.value l.rest -ℤ sum_of (λ x. g.T.Whole.value x.value) (drop l.cell-index l.cells)
-    ≡ less_cells g.T.Whole.value l.cells
+invariant-loop-cell g l = g.T.RowNumber.value l.rest -ℤ sum_of (λ x. g.T.RowNumber.value x.value)
+    (drop l.cell-index l.cells)
+    ≡ less_cells g.T.RowNumber.value l.cells

@@ -8,5 +8,5 @@ abbrev pub invariant-loop-j : goal.invariant-loop-j
 invariant-loop-j g l = record {
   long : length l.own.items ≡ l.j;
   cells : (k : ℕ) → k < l.j →
-      number_at g.T.Whole.value l.own.items k ≡ less_cells g.T.Whole.value (cells_at l.columns k);
+      number_at g.T.RowNumber.value l.own.items k ≡ less_cells g.T.RowNumber.value (cells_at l.columns k);
 }

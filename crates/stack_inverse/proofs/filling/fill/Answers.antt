@@ -6,7 +6,7 @@ use Rattle.stack_inverse.proofs.filling.fill.Goals as goal
 
 pub returns-clause-rows : goal.returns-clause-rows
 returns-clause-rows g c =
-    let v = g.T.Whole.value in
+    let v = g.T.RowNumber.value in
     let right = c.args.right.now in
     rows_kept v (length right) (seen_at c.put_first_rows.new.rows) (seen_at c.put_row.new.rows)
     c.set_only.new.row (v c.args.one) false (length right) c.put_row.ensures (load_at right) c.in_ok-rest.ensures.rows

@@ -7,7 +7,7 @@ use Rattle.stack_inverse.proofs.filling.put_first_rows.Goals as goal
 
 pub loop-i-preserved : goal.loop-i-preserved
 loop-i-preserved g c =
-    let v = g.T.Whole.value in
+    let v = g.T.RowNumber.value in
     let right = c.args.right.now in
     let s = seen_at c.loop-i.rows in
     let t = seen_at c.put_first_row.new.rows in

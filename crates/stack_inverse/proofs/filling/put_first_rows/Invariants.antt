@@ -8,6 +8,6 @@ abbrev pub invariant-loop-i : goal.invariant-loop-i
 invariant-loop-i g l = record {
   wide : AreWide (length l.right) (seen_at l.rows);
   unmarked : (k : ℕ) → (seen_at l.rows k).fits ≡ false;
-  rest : g.T.Whole.value l.rest ≡ less_loads l.right l.i;
-  rows : (k : ℕ) → k < l.i → IsFirstRow g.T.Whole.value (length l.right) (seen_at l.rows) k (load_at l.right k);
+  rest : g.T.RowNumber.value l.rest ≡ less_loads l.right l.i;
+  rows : (k : ℕ) → k < l.i → IsFirstRow g.T.RowNumber.value (length l.right) (seen_at l.rows) k (load_at l.right k);
 }

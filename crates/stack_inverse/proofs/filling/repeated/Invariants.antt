@@ -6,5 +6,5 @@ use Rattle.stack_inverse.proofs.filling.repeated.Given as goal
 abbrev pub invariant-loop-i : goal.invariant-loop-i
 invariant-loop-i g l = record {
   long : length l.list.items ≡ l.i;
-  each : (z : ℤ) (k : ℕ) → k < l.i → at_value g.T.Whole.value z l.list.items k ≡ g.T.Whole.value l.number;
+  each : (z : ℤ) (k : ℕ) → k < l.i → at_value g.T.RowNumber.value z l.list.items k ≡ g.T.RowNumber.value l.number;
 }

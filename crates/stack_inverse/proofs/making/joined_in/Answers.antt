@@ -6,7 +6,7 @@ use Rattle.stack_inverse.proofs.making.joined_in.Goals as goal
 
 pub loop-k-preserved : goal.loop-k-preserved
 loop-k-preserved g c =
-    let v = g.T.Whole.value in
+    let v = g.T.RowNumber.value in
     covers_more (number_at v c.args.numbers.now) c.loop-k.k (pos c.loop-k.size) (pos c.joined-size.result)
     c.loop-k.invariant
     c.joined-size.ensures.other

@@ -7,7 +7,7 @@ use Rattle.stack_inverse.proofs.making.row_number.Goals as goal
 
 pub returns-then-j-plain : goal.returns-then-j-plain
 returns-then-j-plain g c = λ d.
-    let v = g.T.Whole.value in
+    let v = g.T.RowNumber.value in
     let f = c.args.first.now in
     let below : c.args.j < length f.columns.items = omega (
       arith,
@@ -23,7 +23,7 @@ returns-then-j-plain g c = λ d.
 
 pub returns : goal.returns
 returns g c = λ d.
-    let v = g.T.Whole.value in
+    let v = g.T.RowNumber.value in
     let f = c.args.first.now in
     row_read v f.rows f.columns.items c.args.j plain_own c.args.row.now d (v c.index-row-k.result) c.len-plain.result
     (c.args.j - c.len-plain.result) (c.len-plain.ensures ∙ f.columns.ok.0) refl

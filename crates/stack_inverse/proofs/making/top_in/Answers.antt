@@ -12,7 +12,7 @@ loop-j-init g c = record {
 
 pub loop-j-preserved : goal.loop-j-preserved
 loop-j-preserved g c =
-    let v = g.T.Whole.value in
+    let v = g.T.RowNumber.value in
     let f = c.args.first.now in
     record {
       cells = λ k l. omega (arith, c.loop-j.invariant.cells k l, c.wider-top.ensures.own);
@@ -23,7 +23,7 @@ loop-j-preserved g c =
 
 pub returns : goal.returns
 returns g c = λ d.
-    let v = g.T.Whole.value in
+    let v = g.T.RowNumber.value in
     let f = c.args.first.now in
     all_within v f.rows f.columns.items c.args.row.now d (v c.loop-j.top) c.loop-j.invariant.cells
     (λ i l. c.loop-j.invariant.made d i (omega (arith, l, c.loop-j-test.false)))

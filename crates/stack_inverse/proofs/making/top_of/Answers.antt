@@ -6,7 +6,7 @@ use Rattle.stack_inverse.proofs.making.top_of.Goals as goal
 
 pub loop-k-preserved : goal.loop-k-preserved
 loop-k-preserved g c =
-    let v = g.T.Whole.value in
+    let v = g.T.RowNumber.value in
     covers_more (number_at v c.args.numbers.now) c.loop-k.k (v c.loop-k.top) (v c.greater-top.result)
     c.loop-k.invariant
     c.greater-top.ensures.own

@@ -4,4 +4,4 @@ use Rattle.stack_inverse.proofs.making.top_of.Given as goal
 
 abbrev pub invariant-loop-k : goal.invariant-loop-k
 invariant-loop-k g l = (i : ℕ) → i < l.k →
-    unsigned_abs (number_at g.T.Whole.value l.numbers i) ≤ unsigned_abs (g.T.Whole.value l.top)
+    unsigned_abs (number_at g.T.RowNumber.value l.numbers i) ≤ unsigned_abs (g.T.RowNumber.value l.top)

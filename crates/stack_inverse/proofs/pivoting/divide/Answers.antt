@@ -10,7 +10,7 @@ use Rattle.stack_inverse.proofs.pivoting.divide.Goals as goal
 
 pub returns-clause-pivot : goal.returns-clause-pivot
 returns-clause-pivot g c =
-    let v = g.T.Whole.value in
+    let v = g.T.RowNumber.value in
     let f = c.args.plain.now.first in
     let q = c.args.pivot.now in
     let under = v c.in_ok-under.under in
@@ -33,7 +33,7 @@ returns-clause-pivot g c =
 
 pub returns-clause-ok : goal.returns-clause-ok
 returns-clause-ok g c =
-    let v = g.T.Whole.value in
+    let v = g.T.RowNumber.value in
     let p = c.args.plain.now in
     let f = p.first in
     let q = c.args.pivot.now in
@@ -44,7 +44,8 @@ returns-clause-ok g c =
     let settled = c.settle.auto.numbers ∙ ap length c.as_mut_slice-2.ensures.value in
     let new = with_items_is (with_items q.numbers c.copy_from_slice.new.self) c.settle.new.numbers
     (settled ∙ sym (with_items q.numbers c.copy_from_slice.new.self).ok.0) in
-    pivot_row v f.rows f.columns.items g.T.Whole.MAX g.met.T.Whole.fits_law p.own.items r.numbers.items (v r.under)
+    pivot_row v f.rows f.columns.items g.T.RowNumber.MAX g.met.T.RowNumber.fits_law p.own.items r.numbers.items
+        (v r.under)
     r.positive c.args.r c.args.column c.requires.row_in
     (with_items (with_items q.numbers c.copy_from_slice.new.self) c.settle.new.numbers).items c.args.factor under
     c.in_ok-whole_top.whole_top c.requires.factor c.requires.some

@@ -3,7 +3,7 @@ use Rattle.stack_algebra.proofs.OrderedFractions.{ordered_fractions}
 use Rattle.stack_rational.specs.TooWide.{is_too_wide}
 use Rattle.stack_rows.proofs.Numbers.{at-index}
 use Rattle.stack_table.specs.Spots.{reduce_spot}
-use Rattle.stack_inverse.specs.RowBlock.{AllFit, IsReduced}
+use Rattle.stack_inverse.specs.RowBlock.{AllNumbersFit, IsReducedRow}
 use Rattle.stack_inverse.specs.CellSteps.{TellsSpot}
 use Rattle.stack_inverse.specs.Columns.{RowSeen}
 use Rattle.stack_inverse.specs.RowsSeen.{seen_of, seen_at, number_in_row, cell_in_row, cells_of_rows, columns_of}
@@ -29,7 +29,7 @@ reduce-requires-clause-width g c =
 
 pub loop-i-preserved : goal.loop-i-preserved
 loop-i-preserved g c =
-    let v = g.T.Whole.value in
+    let v = g.T.RowNumber.value in
     let p = c.args.plain.now in
     let rows = c.loop-i.rows in
     let i = c.loop-i.i in
@@ -43,11 +43,11 @@ loop-i-preserved g c =
     sym (at-index v (pos 0) c.args.entered.now i c.index-entered-i.result
     (omega (arith, in_height, c.requires.long)) c.index-entered-i.is) ∙ c.requires.entered i (omega (arith, in_height))
     ∙ ap (λ (s : RowSeen g.row.T.Denot). number_in_row p s i c.args.column) (sym e) in
-    let m = g.T.Whole.MAX in
+    let m = g.T.RowNumber.MAX in
     let q = c.args.pivot.now in
     let new = c.reduce.new.row in
     let here = c.in-Ok.ensures.ok c.args.column factor
-    (subst (λ (s : RowSeen g.row.T.Denot). s.fits ≡ true → AllFit m (cell_in_row p s i)) (sym seen)
+    (subst (λ (s : RowSeen g.row.T.Denot). s.fits ≡ true → AllNumbersFit m (cell_in_row p s i)) (sym seen)
     (c.loop-i.invariant.marked i)) in
     record {
       wide = wide_set rows i new lt p.first.rows c.loop-i.invariant.wide (c.reduce.ensures.width
@@ -56,10 +56,10 @@ loop-i-preserved g c =
       left = left_set rows i new lt (seen_at c.args.rows.now) c.loop-i.invariant.left;
       marked = marked_set rows i new lt m (λ (k : ℕ) (s : RowSeen g.row.T.Denot). cell_in_row p s k)
           c.loop-i.invariant.marked (λ _. here.fits);
-      done = λ k l d. done_set rows i new lt (λ (k : ℕ) (s : RowSeen g.row.T.Denot). IsReduced m (columns_of p)
+      done = λ k l d. done_set rows i new lt (λ (k : ℕ) (s : RowSeen g.row.T.Denot). IsReducedRow m (columns_of p)
           (cells_of_rows p c.args.rows.now k) (pivot_cell p q) k c.args.column (cell_in_row p s k)) c.args.row
           c.loop-i.invariant.done
-          (subst (λ (s : RowSeen g.row.T.Denot). IsReduced m (columns_of p) (cell_in_row p s i) (pivot_cell p q) i
+          (subst (λ (s : RowSeen g.row.T.Denot). IsReducedRow m (columns_of p) (cell_in_row p s i) (pivot_cell p q) i
           c.args.column (cell_in_row p (seen_of new) i)) e here) k l d;
     }
 
@@ -79,12 +79,12 @@ returns-in-Err-clause-marked g c =
     let rows = c.loop-i.rows in
     let i = c.loop-i.i in
     let lt : i < length rows = omega (arith, c.loop-i-test.true, c.loop-i.auto.rows, c.loop-i.auto.i-end) in
-    marked_set rows i c.reduce.new.row lt g.T.Whole.MAX (λ (k : ℕ) (s : RowSeen g.row.T.Denot). cell_in_row p s k)
+    marked_set rows i c.reduce.new.row lt g.T.RowNumber.MAX (λ (k : ℕ) (s : RowSeen g.row.T.Denot). cell_in_row p s k)
     c.loop-i.invariant.marked (λ d. let b : false ≡ true = sym c.in-Err.ensures.unmarked ∙ d in absurd cc)
 
 pub returns-in-Err-clause-refused : goal.returns-in-Err-clause-refused
 returns-in-Err-clause-refused g c =
-    let v = g.T.Whole.value in
+    let v = g.T.RowNumber.value in
     let p = c.args.plain.now in
     let rows = c.loop-i.rows in
     let i = c.loop-i.i in
@@ -104,7 +104,7 @@ returns-in-Err-clause-refused g c =
         apart = c.if-i-row.false;
         before = λ k l d. (c.loop-i.invariant.done k l d).none;
         here = subst (λ (s : RowSeen g.row.T.Denot). TellsSpot c.in-Err.e (reduce_spot ordered_fractions
-            (is_too_wide g.T.Whole.MAX) (columns_of p) (cell_in_row p s i) (pivot_cell p c.args.pivot.now)
+            (is_too_wide g.T.RowNumber.MAX) (columns_of p) (cell_in_row p s i) (pivot_cell p c.args.pivot.now)
             (cell_in_row p s i c.args.column) i)) e (c.in-Err.ensures.wide c.args.column factor);
       },
     )

@@ -1,5 +1,5 @@
 use Rattle.std.proofs.Common.{◌≡◌, ◌≢◌, ℕ, ◌<◌, ◌≤◌}
-use Rattle.stack_inverse.specs.RowBlock.{IsReduced, AreMarked}
+use Rattle.stack_inverse.specs.RowBlock.{IsReducedRow, AreMarked}
 use Rattle.stack_inverse.specs.Columns.{AreWide}
 use Rattle.stack_inverse.specs.RowsSeen.{seen_at, cells_of_rows, cell_in_row, columns_of, pivot_cell}
 use Rattle.stack_inverse.proofs.pivoting.reduce_others.Given as goal
@@ -9,8 +9,8 @@ abbrev pub invariant-loop-i : goal.invariant-loop-i
 invariant-loop-i g l = record {
   wide : AreWide l.plain.first.rows (seen_at l.rows);
   left : (k : ℕ) → l.i ≤ k → seen_at l.rows k ≡ seen_at l.fn.rows k;
-  marked : AreMarked g.T.Whole.MAX (cells_of_rows l.plain l.rows) (seen_at l.rows);
-  done : (k : ℕ) → k < l.i → (k ≢ l.row) → IsReduced g.T.Whole.MAX (columns_of l.plain)
+  marked : AreMarked g.T.RowNumber.MAX (cells_of_rows l.plain l.rows) (seen_at l.rows);
+  done : (k : ℕ) → k < l.i → (k ≢ l.row) → IsReducedRow g.T.RowNumber.MAX (columns_of l.plain)
       (cells_of_rows l.plain l.fn.rows k) (pivot_cell l.plain l.pivot) k l.column
       (cell_in_row l.plain (seen_at l.rows k) k);
 }

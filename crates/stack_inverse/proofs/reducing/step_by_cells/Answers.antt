@@ -12,7 +12,7 @@ row_spot-requires-clause-widest g c = c.is_widest.ensures c.if-not-is_widest.fal
 
 pub returns-in-Some-Some-clause-wide : goal.returns-in-Some-Some-clause-wide
 returns-in-Some-Some-clause-wide g c =
-    let v = g.T.Whole.value in
+    let v = g.T.RowNumber.value in
     let p = c.args.plain.now in
     let s = c.args.s in
     (λ z. reduce_spot ordered_fractions (is_too_wide (c.is_widest.ensures c.if-not-is_widest.false z)) (columns_of p)
@@ -22,7 +22,7 @@ returns-in-Some-Some-clause-wide g c =
 
 pub returns-in-Some-clause-none : goal.returns-in-Some-clause-none
 returns-in-Some-clause-none g c =
-    let v = g.T.Whole.value in
+    let v = g.T.RowNumber.value in
     let p = c.args.plain.now in
     let s = c.args.s in
     (λ z. reduce_spot ordered_fractions (is_too_wide (c.is_widest.ensures c.if-not-is_widest.false z)) (columns_of p)

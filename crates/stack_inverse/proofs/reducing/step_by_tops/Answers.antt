@@ -8,7 +8,7 @@ use Rattle.stack_inverse.proofs.reducing.step_by_tops.Goals as goal
 
 pub invariant_of-row-2 : goal.invariant_of-row-2
 invariant_of-row-2 g c =
-    let v = g.T.Whole.value in
+    let v = g.T.RowNumber.value in
     let r = c.args.row.now in
     let k = v c.args.factors.times in
     let t = v c.args.factors.less in

@@ -7,7 +7,7 @@ use Rattle.stack_inverse.proofs.remaking.remade.Goals as goal
 
 pub returns : goal.returns
 returns g c =
-    let v = g.T.Whole.value in
+    let v = g.T.RowNumber.value in
     let n : SFits w128 c.parts-parts.result.0 = search rules in
     let d : SFits w128 c.parts-parts.result.1 = search rules in
     remade (v c.args.own) (v c.args.s.under) (v c.args.pivot) (v c.args.s.pivot_under) (v c.args.s.factor)

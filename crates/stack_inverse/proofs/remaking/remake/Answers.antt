@@ -9,7 +9,7 @@ use Rattle.stack_inverse.proofs.remaking.remake.Goals as goal
 
 pub loop-j-preserved : goal.loop-j-preserved
 loop-j-preserved g c =
-    let v = g.T.Whole.value in
+    let v = g.T.RowNumber.value in
     let i = c.loop-j.invariant in
     let j = c.loop-j.j in
     let d = v c.args.s.under in
@@ -40,22 +40,22 @@ loop-j-preserved g c =
 pub returns : goal.returns
 returns g c h = all
   where
-    all : (i : ℕ) → number_at g.T.Whole.value c.loop-j.numbers i
-        *ℤ (g.T.Whole.value c.args.s.under *ℤ g.T.Whole.value c.args.s.pivot_under)
-        ≡ (number_at g.T.Whole.value c.args.numbers.now i *ℤ g.T.Whole.value c.args.s.pivot_under
-        -ℤ g.T.Whole.value c.args.s.factor *ℤ number_at g.T.Whole.value c.args.pivot.now i)
-        *ℤ g.T.Whole.value c.args.common
+    all : (i : ℕ) → number_at g.T.RowNumber.value c.loop-j.numbers i
+        *ℤ (g.T.RowNumber.value c.args.s.under *ℤ g.T.RowNumber.value c.args.s.pivot_under)
+        ≡ (number_at g.T.RowNumber.value c.args.numbers.now i *ℤ g.T.RowNumber.value c.args.s.pivot_under
+        -ℤ g.T.RowNumber.value c.args.s.factor *ℤ number_at g.T.RowNumber.value c.args.pivot.now i)
+        *ℤ g.T.RowNumber.value c.args.common
     all i = go (dec_lt i c.loop-j.j)
       where
-        go : Dec (i < c.loop-j.j) → number_at g.T.Whole.value c.loop-j.numbers i
-            *ℤ (g.T.Whole.value c.args.s.under *ℤ g.T.Whole.value c.args.s.pivot_under)
-            ≡ (number_at g.T.Whole.value c.args.numbers.now i *ℤ g.T.Whole.value c.args.s.pivot_under
-            -ℤ g.T.Whole.value c.args.s.factor *ℤ number_at g.T.Whole.value c.args.pivot.now i)
-            *ℤ g.T.Whole.value c.args.common
+        go : Dec (i < c.loop-j.j) → number_at g.T.RowNumber.value c.loop-j.numbers i
+            *ℤ (g.T.RowNumber.value c.args.s.under *ℤ g.T.RowNumber.value c.args.s.pivot_under)
+            ≡ (number_at g.T.RowNumber.value c.args.numbers.now i *ℤ g.T.RowNumber.value c.args.s.pivot_under
+            -ℤ g.T.RowNumber.value c.args.s.factor *ℤ number_at g.T.RowNumber.value c.args.pivot.now i)
+            *ℤ g.T.RowNumber.value c.args.common
         go (yes l) = c.loop-j.invariant.done i l
         go (no l) = remade_past _ _ _ _ _ _ _
-            (at-past g.T.Whole.value (pos 0) c.args.numbers.now i (omega (arith, l, c.loop-j-test.false)))
-            (at-past g.T.Whole.value (pos 0) c.args.pivot.now i
+            (at-past g.T.RowNumber.value (pos 0) c.args.numbers.now i (omega (arith, l, c.loop-j-test.false)))
+            (at-past g.T.RowNumber.value (pos 0) c.args.pivot.now i
             (omega (arith, l, c.loop-j-test.false, c.requires.width)))
-            (at-past g.T.Whole.value (pos 0) c.loop-j.numbers i
+            (at-past g.T.RowNumber.value (pos 0) c.loop-j.numbers i
             (omega (arith, l, c.loop-j-test.false, c.loop-j.auto.numbers)))

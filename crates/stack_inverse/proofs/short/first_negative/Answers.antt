@@ -8,7 +8,7 @@ use Rattle.stack_inverse.proofs.short.first_negative.Goals as goal
 
 pub returns-then-is_positive-clause-value : goal.returns-then-is_positive-clause-value
 returns-then-is_positive-clause-value g c =
-    let v = g.T.Whole.value in
+    let v = g.T.RowNumber.value in
     let f = c.args.first.now in
     let j = c.loop-j.j in
     let number = own_number v f.rows f.columns.items c.args.own.now c.args.row.now (v c.args.under) in
@@ -19,7 +19,7 @@ returns-then-is_positive-clause-value g c =
 
 pub loop-j-preserved : goal.loop-j-preserved
 loop-j-preserved g c =
-    let v = g.T.Whole.value in
+    let v = g.T.RowNumber.value in
     let f = c.args.first.now in
     let j = c.loop-j.j in
     let number = own_number v f.rows f.columns.items c.args.own.now c.args.row.now (v c.args.under) in

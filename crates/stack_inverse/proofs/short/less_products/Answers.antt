@@ -11,12 +11,12 @@ less_product-sum-requires-clause-number g c =
     let x = c.cell-item.result in
     let lt = row_below (length row) c.loop-cell.cell-index c.args.cells.now x c.requires.rows c.loop-cell-test.true
     c.cell-item.is in
-    let read = at-index g.T.Whole.value (pos 0) row x.row c.index-row-cell.result lt c.index-row-cell.is in
+    let read = at-index g.T.RowNumber.value (pos 0) row x.row c.index-row-cell.result lt c.index-row-cell.is in
     subst (λ (z : ℤ). unsigned_abs z ≤ 2 ^ 63 - 1) read (c.requires.numbers x.row)
 
 pub less_product-sum-requires-clause-both : goal.less_product-sum-requires-clause-both
 less_product-sum-requires-clause-both g c =
-    let v = g.T.Whole.value in
+    let v = g.T.RowNumber.value in
     let row = c.args.row.now in
     let x = c.cell-item.result in
     let k = c.loop-cell.cell-index in
@@ -27,7 +27,7 @@ less_product-sum-requires-clause-both g c =
 
 pub loop-cell-preserved : goal.loop-cell-preserved
 loop-cell-preserved g c =
-    let v = g.T.Whole.value in
+    let v = g.T.RowNumber.value in
     let row = c.args.row.now in
     let cells = c.args.cells.now in
     let x = c.cell-item.result in

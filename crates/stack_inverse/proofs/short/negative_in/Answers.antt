@@ -3,7 +3,7 @@ use Rattle.stack_inverse.proofs.short.negative_in.Goals as goal
 
 pub first_negative-requires-clause-short : goal.first_negative-requires-clause-short
 first_negative-requires-clause-short g c =
-    let v = g.T.Whole.value in
+    let v = g.T.RowNumber.value in
     let f = c.args.first.now in
     short_row v f.rows f.columns.items c.args.own.now c.args.row.now (v c.args.under) (v f.top) (v c.args.own_top)
     (v c.in_ok-whole_top.whole_top) f.first c.requires.within c.requires.width c.requires.positive

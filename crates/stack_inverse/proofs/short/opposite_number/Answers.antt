@@ -8,13 +8,13 @@ use Rattle.stack_inverse.proofs.short.opposite_number.Goals as goal
 
 pub less_product-start-requires-clause-number : goal.less_product-start-requires-clause-number
 less_product-start-requires-clause-number g c =
-    let read = at-index g.T.Whole.value (pos 0) c.args.own.now c.args.j c.index-own-j.result c.requires.own_in
+    let read = at-index g.T.RowNumber.value (pos 0) c.args.own.now c.args.j c.index-own-j.result c.requires.own_in
     c.index-own-j.is in
     subst (λ (z : ℤ). unsigned_abs z ≤ 2 ^ 63 - 1) read (c.requires.short.own_cells c.args.j)
 
 pub less_product-start-requires-clause-both : goal.less_product-start-requires-clause-both
 less_product-start-requires-clause-both g c =
-    let v = g.T.Whole.value in
+    let v = g.T.RowNumber.value in
     let read = at-index v (pos 0) c.args.own.now c.args.j c.index-own-j.result c.requires.own_in c.index-own-j.is in
     start_fits v c.args.first.now.columns.items c.args.own.now c.args.row.now c.args.j (v c.args.under)
     (v c.zero.result) (v c.index-own-j.result) c.requires.column_in c.zero.ensures read c.requires.short
@@ -30,7 +30,7 @@ less_products-requires-clause-rows g c =
 
 pub less_products-requires-clause-together : goal.less_products-requires-clause-together
 less_products-requires-clause-together g c =
-    let v = g.T.Whole.value in
+    let v = g.T.RowNumber.value in
     let f = c.args.first.now in
     let j = c.args.j in
     let read = at-index v (pos 0) c.args.own.now j c.index-own-j.result c.requires.own_in c.index-own-j.is in
@@ -42,7 +42,7 @@ less_products-requires-clause-together g c =
 
 pub returns : goal.returns
 returns g c =
-    let v = g.T.Whole.value in
+    let v = g.T.RowNumber.value in
     let f = c.args.first.now in
     let j = c.args.j in
     let read = at-index v (pos 0) c.args.own.now j c.index-own-j.result c.requires.own_in c.index-own-j.is in

@@ -9,7 +9,7 @@ use Rattle.stack_inverse.proofs.spots.row_spot.Goals as goal
 
 pub loop-j-preserved : goal.loop-j-preserved
 loop-j-preserved g c =
-    let v = g.T.Whole.value in
+    let v = g.T.RowNumber.value in
     let p = c.args.plain.now in
     let f = p.first in
     let row = c.args.row.now in
@@ -26,7 +26,7 @@ loop-j-preserved g c =
 
 pub returns-in-Some : goal.returns-in-Some
 returns-in-Some g c =
-    let v = g.T.Whole.value in
+    let v = g.T.RowNumber.value in
     let p = c.args.plain.now in
     let f = p.first in
     let row = c.args.row.now in
@@ -52,7 +52,7 @@ returns-in-Some g c =
 
 pub returns : goal.returns
 returns g c =
-    let v = g.T.Whole.value in
+    let v = g.T.RowNumber.value in
     let p = c.args.plain.now in
     let f = p.first in
     let row = c.args.row.now in

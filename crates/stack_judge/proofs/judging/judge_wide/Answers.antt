@@ -1,7 +1,7 @@
 use Rattle.std.proofs.Common.{sym, subst, Err}
 use Rattle.stack_rational.specs.Laws.{widest}
 use Rattle.stack_tableau.specs.LastTables.{ended_as}
-use Rattle.stack_simplex.specs.Ends.{refused_as}
+use Rattle.stack_simplex.specs.Ends.{refused_end}
 use Rattle.stack_judge.proofs.Judgements.{runs_survey, end_of_survey, ended_judges, run_refused}
 use Rattle.stack_judge.specs.Judgement.{Judges}
 use Rattle.stack_judge.proofs.judging.judge_wide.Goals as goal
@@ -25,4 +25,4 @@ pub returns-in-Err-clause-judges : goal.returns-in-Err-clause-judges
 returns-in-Err-clause-judges c = subst (λ e. Judges (Err e) c.args.q c.args.s.now c.args.budget)
     (sym c.refused.ensures) (run_refused c.args.q c.args.s.now c.args.budget c.in-Err.error c.requires.live
     (runs_survey c.args.q c.args.s.now c.args.budget c.in_ok-table.table c.in_ok-table.ensures widest
-    (refused_as c.in-Err.error) c.in-Err.ensures.value))
+    (refused_end c.in-Err.error) c.in-Err.ensures.value))

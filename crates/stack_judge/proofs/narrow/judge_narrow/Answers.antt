@@ -1,7 +1,7 @@
 use Rattle.std.proofs.Common.{◌≡◌, true, subst, sym, ap, ◌∙◌}
 use Rattle.std.specs.Prelude.{IfSome, is_some}
 use Rattle.stack_tableau.specs.LastTables.{ended_as}
-use Rattle.stack_simplex.specs.Ends.{refused_as}
+use Rattle.stack_simplex.specs.Ends.{refused_end}
 use Rattle.stack_simplex.specs.declared.refusal.RunError.TheVariants as runs
 use Rattle.stack_judge.specs.Certifying.{IsTableOfSurvey}
 use Rattle.stack_judge.specs.NarrowWork.{narrow, narrow_place, has_no_place, is_nowhere_too_wide, is_narrow}
@@ -35,16 +35,16 @@ pub returns-in-Err-TooWide-clause-none : goal.returns-in-Err-TooWide-clause-none
 returns-in-Err-TooWide-clause-none c = λ same.
     let h = subst (λ o. IfSome o (λ t. IsTableOfSurvey c.args.q c.args.s.now t)) c.in-Ok-Some.field-0-is
     c.in-Ok-Some.ensures.some in
-    wide_run c.args.q c.args.s.now c.args.budget (refused_as c.in-Err-TooWide.field-0)
-    (runs_survey c.args.q c.args.s.now c.args.budget c.in-Ok-Some.table h narrow (refused_as c.in-Err-TooWide.field-0)
-    c.in-Err-TooWide.ensures.value) c.in-Err-TooWide.field-0-0 (ap refused_as c.in-Err-TooWide.field-0-is)
+    wide_run c.args.q c.args.s.now c.args.budget (refused_end c.in-Err-TooWide.field-0)
+    (runs_survey c.args.q c.args.s.now c.args.budget c.in-Ok-Some.table h narrow (refused_end c.in-Err-TooWide.field-0)
+    c.in-Err-TooWide.ensures.value) c.in-Err-TooWide.field-0-0 (ap refused_end c.in-Err-TooWide.field-0-is)
 
 pub returns-in-Err-Spent-clause-judges : goal.returns-in-Err-Spent-clause-judges
 returns-in-Err-Spent-clause-judges c =
     let h = subst (λ o. IfSome o (λ t. IsTableOfSurvey c.args.q c.args.s.now t)) c.in-Ok-Some.field-0-is
     c.in-Ok-Some.ensures.some in
-    let is = ap refused_as c.in-Err-Spent.field-0-is in
+    let is = ap refused_end c.in-Err-Spent.field-0-is in
     run_refused c.args.q c.args.s.now c.args.budget runs.Spent c.requires.live
-    (same_run c.args.q c.args.s.now c.args.budget (refused_as c.in-Err-Spent.field-0)
-    (runs_survey c.args.q c.args.s.now c.args.budget c.in-Ok-Some.table h narrow (refused_as c.in-Err-Spent.field-0)
+    (same_run c.args.q c.args.s.now c.args.budget (refused_end c.in-Err-Spent.field-0)
+    (runs_survey c.args.q c.args.s.now c.args.budget c.in-Ok-Some.table h narrow (refused_end c.in-Err-Spent.field-0)
     c.in-Err-Spent.ensures.value) c.wider_run_law.ensures (ap is_nowhere_too_wide is) ∙ is)

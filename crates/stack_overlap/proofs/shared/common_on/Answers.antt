@@ -10,7 +10,7 @@ use Rattle.stack_overlap.proofs.shared.common_on.Goals as goal
 pub returns-in-None : goal.returns-in-None
 returns-in-None c =
     let p = c.len.ensures.polygon in
-    let q = c.reach_along.ensures.polygon in
+    let q = c.stretch_along.ensures.polygon in
     let eb = c.corner-b.ensures.value ∙ ap (corner_of c.args.p.now)
     (c.next.ensures ∙ ap (λ n. next_round n c.args.i) c.len.ensures.value) in
     none-answer c.args.p.now c.args.q.now p.convex p.least q.convex q.least c.args.i c.requires c.corner-a.result
@@ -20,7 +20,7 @@ returns-in-None c =
 pub returns-then-precedes : goal.returns-then-precedes
 returns-then-precedes c =
     let p = c.len.ensures.polygon in
-    let q = c.reach_along.ensures.polygon in
+    let q = c.stretch_along.ensures.polygon in
     let eb = c.corner-b.ensures.value ∙ ap (corner_of c.args.p.now)
     (c.next.ensures ∙ ap (λ n. next_round n c.args.i) c.len.ensures.value) in
     past-answer c.args.p.now c.args.q.now p.convex p.least q.convex q.least c.args.i c.requires c.corner-a.result
@@ -31,7 +31,7 @@ returns-then-precedes c =
 pub returns-then-is_before : goal.returns-then-is_before
 returns-then-is_before c =
     let p = c.len.ensures.polygon in
-    let q = c.reach_along.ensures.polygon in
+    let q = c.stretch_along.ensures.polygon in
     let eb = c.corner-b.ensures.value ∙ ap (corner_of c.args.p.now)
     (c.next.ensures ∙ ap (λ n. next_round n c.args.i) c.len.ensures.value) in
     segment-answer c.args.p.now c.args.q.now p.convex p.least q.convex q.least c.args.i c.requires
@@ -42,7 +42,7 @@ returns-then-is_before c =
 pub returns-else-is_before : goal.returns-else-is_before
 returns-else-is_before c =
     let p = c.len.ensures.polygon in
-    let q = c.reach_along.ensures.polygon in
+    let q = c.stretch_along.ensures.polygon in
     let eb = c.corner-b.ensures.value ∙ ap (corner_of c.args.p.now)
     (c.next.ensures ∙ ap (λ n. next_round n c.args.i) c.len.ensures.value) in
     back-answer c.args.p.now c.args.q.now p.convex p.least q.convex q.least c.args.i c.requires c.corner-a.result
@@ -54,7 +54,7 @@ returns-else-is_before c =
 pub returns-then-is_at_either : goal.returns-then-is_at_either
 returns-then-is_at_either c =
     let p = c.len.ensures.polygon in
-    let q = c.reach_along.ensures.polygon in
+    let q = c.stretch_along.ensures.polygon in
     let eb = c.corner-b.ensures.value ∙ ap (corner_of c.args.p.now)
     (c.next.ensures ∙ ap (λ n. next_round n c.args.i) c.len.ensures.value) in
     corner-answer c.args.p.now c.args.q.now p.convex p.least q.convex q.least c.args.i c.requires c.corner-a.result
@@ -72,7 +72,7 @@ returns-then-is_at_either c =
 pub returns-else-is_at_either : goal.returns-else-is_at_either
 returns-else-is_at_either c =
     let p = c.len.ensures.polygon in
-    let q = c.reach_along.ensures.polygon in
+    let q = c.stretch_along.ensures.polygon in
     let eb = c.corner-b.ensures.value ∙ ap (corner_of c.args.p.now)
     (c.next.ensures ∙ ap (λ n. next_round n c.args.i) c.len.ensures.value) in
     on-answer c.args.p.now c.args.q.now p.convex p.least q.convex q.least c.args.i c.requires c.corner-a.result

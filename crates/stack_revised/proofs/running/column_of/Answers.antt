@@ -8,7 +8,7 @@ pub loop-i-preserved : goal.loop-i-preserved
 loop-i-preserved g c = record {
   long = ap length c.in_ok-push.ensures.items ∙ length_push c.loop-i.numbers.items c.in-Some.number
       ∙ ap (λ n. n + 1) c.loop-i.invariant.long;
-  each = λ k l. grown_by g.T.Whole.value (pos 0) (λ k z. z ≡ number_in c.args.t.now k c.args.column)
+  each = λ k l. grown_by g.T.RowNumber.value (pos 0) (λ k z. z ≡ number_in c.args.t.now k c.args.column)
       c.loop-i.numbers.items c.push.new.self.items c.in-Some.number c.loop-i.i c.in_ok-push.ensures.items
       c.loop-i.invariant.long c.loop-i.invariant.each c.in-Some.ensures k l;
 }

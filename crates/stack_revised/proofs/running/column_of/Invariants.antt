@@ -6,5 +6,5 @@ use Rattle.stack_revised.proofs.running.column_of.Given as goal
 abbrev pub invariant-loop-i : goal.invariant-loop-i
 invariant-loop-i g l = record {
   long : length l.numbers.items ≡ l.i;
-  each : (k : ℕ) → k < l.i → number_at g.T.Whole.value l.numbers.items k ≡ number_in l.t k l.column;
+  each : (k : ℕ) → k < l.i → number_at g.T.RowNumber.value l.numbers.items k ≡ number_in l.t k l.column;
 }

@@ -20,7 +20,7 @@ pub returns-in-Err-run_table-clause-value : goal.returns-in-Err-run_table-clause
 returns-in-Err-run_table-clause-value g c =
     let t = c.in-Ok-of_problem.table in
     subst₂ (λ (e : RevisedStop) (X : End Fraction). tells_stop e X) (sym c.stopped.ensures)
-    (run_is g.T.Whole.MAX (problem_of c.args.p.now) c.args.budget (shape_of_revised t) (table_of_revised t)
+    (run_is g.T.RowNumber.MAX (problem_of c.args.p.now) c.args.budget (shape_of_revised t) (table_of_revised t)
     c.in-Ok-of_problem.ensures.shape c.in-Ok-of_problem.ensures.ok)
     (stop_told c.in-Err-run_table.stop _ c.in-Err-run_table.ensures.value)
 
@@ -40,12 +40,12 @@ returns-clause-flips g c =
 pub returns-clause-value : goal.returns-clause-value
 returns-clause-value g c =
     let t = c.in-Ok-of_problem.table in
-    let X = run_at g.T.Whole.MAX (problem_of c.args.p.now) c.args.budget in
+    let X = run_at g.T.RowNumber.MAX (problem_of c.args.p.now) c.args.budget in
     tells_last c.last_of.result X (if_ok c.last_of.result
-    (λ (l : Last g.row.T.Denot g.T.Whole). value_of_last l
+    (λ (l : Last g.row.T.Denot g.T.RowNumber). value_of_last l
     ≡ end_at c.in-Ok-run_table.kind (table_of_revised c.run_table.new.t.table))
-    (λ (l : Last g.row.T.Denot g.T.Whole). value_of_last l ≡ X)
-    (λ l h. h ∙ c.in-Ok-run_table.ensures.value ∙ run_is g.T.Whole.MAX (problem_of c.args.p.now) c.args.budget
+    (λ (l : Last g.row.T.Denot g.T.RowNumber). value_of_last l ≡ X)
+    (λ l h. h ∙ c.in-Ok-run_table.ensures.value ∙ run_is g.T.RowNumber.MAX (problem_of c.args.p.now) c.args.budget
     (shape_of_revised t) (table_of_revised t) c.in-Ok-of_problem.ensures.shape c.in-Ok-of_problem.ensures.ok)
     c.last_of.ensures.value) c.last_of.ensures.unsettled
 

@@ -4,7 +4,7 @@ use Rattle.stack_rows.proofs.factors.most_of.Goals as goal
 
 pub returns : goal.returns
 returns g c =
-    let v = g.T.Whole.value in
+    let v = g.T.RowNumber.value in
     omega (
       arith,
       c.in_ok-most.ensures,

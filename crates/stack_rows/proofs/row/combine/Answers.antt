@@ -8,7 +8,7 @@ use Rattle.stack_rows.proofs.row.combine.Goals as goal
 
 pub loop-j-preserved : goal.loop-j-preserved
 loop-j-preserved g c =
-    let v = g.T.Whole.value in
+    let v = g.T.RowNumber.value in
     let i = c.loop-j.invariant in
     let j = c.loop-j.j in
     let P : ℕ → ℤ → Type 0 = λ i z. z ≡ number_at v c.args.numbers.now i *ℤ v c.args.k
@@ -32,12 +32,13 @@ loop-j-preserved g c =
 pub returns : goal.returns
 returns g c = λ i. go i (dec_lt i c.loop-j.j)
   where
-    go : (i : ℕ) → Dec (i < c.loop-j.j) → number_at g.T.Whole.value c.loop-j.numbers i
-        ≡ number_at g.T.Whole.value c.args.numbers.now i *ℤ g.T.Whole.value c.args.k
-        -ℤ g.T.Whole.value c.args.t *ℤ number_at g.T.Whole.value c.args.pivot.now i
+    go : (i : ℕ) → Dec (i < c.loop-j.j) → number_at g.T.RowNumber.value c.loop-j.numbers i
+        ≡ number_at g.T.RowNumber.value c.args.numbers.now i *ℤ g.T.RowNumber.value c.args.k
+        -ℤ g.T.RowNumber.value c.args.t *ℤ number_at g.T.RowNumber.value c.args.pivot.now i
     go i (yes l) = c.loop-j.invariant.done i l
     go i (no l) = combined_past _ _ _ _ _
-        (at-past g.T.Whole.value (pos 0) c.args.numbers.now i (omega (arith, l, c.loop-j-test.false)))
-        (at-past g.T.Whole.value (pos 0) c.args.pivot.now i (omega (arith, l, c.loop-j-test.false, c.requires.width)))
-        (at-past g.T.Whole.value (pos 0) c.loop-j.numbers i
+        (at-past g.T.RowNumber.value (pos 0) c.args.numbers.now i (omega (arith, l, c.loop-j-test.false)))
+        (at-past g.T.RowNumber.value (pos 0) c.args.pivot.now i
+            (omega (arith, l, c.loop-j-test.false, c.requires.width)))
+        (at-past g.T.RowNumber.value (pos 0) c.loop-j.numbers i
         (omega (arith, l, c.loop-j-test.false, c.loop-j.auto.numbers)))

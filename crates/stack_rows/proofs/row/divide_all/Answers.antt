@@ -10,7 +10,7 @@ use Rattle.stack_rows.proofs.row.divide_all.Goals.{then-not-is_zero+in-Some, els
 pub loop-j-preserved : goal.loop-j-preserved
 loop-j-preserved g c = elim c.if-not-is_zero.branch [
   | then-not-is_zero+in-Some w ↦
-      let v = g.T.Whole.value in
+      let v = g.T.RowNumber.value in
       let i = c.loop-j.invariant in
       let j = c.loop-j.j in
       let P : ℕ → ℤ → Type 0 = λ i z. z *ℤ v c.args.by ≡ number_at v c.args.numbers.now i in
@@ -28,7 +28,7 @@ loop-j-preserved g c = elim c.if-not-is_zero.branch [
             (number_at v (set c.loop-j.numbers j w.in-Some.quotient)) j i.done i.rest here other k (omega (arith, l));
       })
   | else-not-is_zero w ↦
-      let v = g.T.Whole.value in
+      let v = g.T.RowNumber.value in
       let i = c.loop-j.invariant in
       let j = c.loop-j.j in
       let P : ℕ → ℤ → Type 0 = λ i z. z *ℤ v c.args.by ≡ number_at v c.args.numbers.now i in
@@ -48,16 +48,16 @@ loop-j-preserved g c = elim c.if-not-is_zero.branch [
 pub returns : goal.returns
 returns g c h = all
   where
-    all : (i : ℕ) → number_at g.T.Whole.value c.loop-j.numbers i *ℤ g.T.Whole.value c.args.by
-        ≡ number_at g.T.Whole.value c.args.numbers.now i
+    all : (i : ℕ) → number_at g.T.RowNumber.value c.loop-j.numbers i *ℤ g.T.RowNumber.value c.args.by
+        ≡ number_at g.T.RowNumber.value c.args.numbers.now i
     all i = go (dec_lt i c.loop-j.j)
       where
         go : Dec (i < c.loop-j.j) →
-            number_at g.T.Whole.value c.loop-j.numbers i *ℤ g.T.Whole.value c.args.by
-            ≡ number_at g.T.Whole.value c.args.numbers.now i
+            number_at g.T.RowNumber.value c.loop-j.numbers i *ℤ g.T.RowNumber.value c.args.by
+            ≡ number_at g.T.RowNumber.value c.args.numbers.now i
         go (yes l) = c.loop-j.invariant.done i l
-        go (no l) = ap (λ z. z *ℤ g.T.Whole.value c.args.by)
-            (at-past g.T.Whole.value (pos 0) c.loop-j.numbers i
+        go (no l) = ap (λ z. z *ℤ g.T.RowNumber.value c.args.by)
+            (at-past g.T.RowNumber.value (pos 0) c.loop-j.numbers i
             (omega (arith, l, c.loop-j-test.false, c.loop-j.auto.numbers)))
-            ∙ zero-*ℤ (g.T.Whole.value c.args.by)
-            ∙ sym (at-past g.T.Whole.value (pos 0) c.args.numbers.now i (omega (arith, l, c.loop-j-test.false)))
+            ∙ zero-*ℤ (g.T.RowNumber.value c.args.by)
+            ∙ sym (at-past g.T.RowNumber.value (pos 0) c.args.numbers.now i (omega (arith, l, c.loop-j-test.false)))

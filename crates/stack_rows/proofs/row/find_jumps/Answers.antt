@@ -7,7 +7,7 @@ use Rattle.stack_rows.proofs.row.find_jumps.Goals as goal
 
 pub loop-j-preserved : goal.loop-j-preserved
 loop-j-preserved g c =
-    let v = g.T.Whole.value in
+    let v = g.T.RowNumber.value in
     let i = c.loop-j.invariant in
     let j = c.loop-j.j - 1 in
     let row = c.args.row.now in

@@ -7,8 +7,8 @@ invariant-loop-j g l = record {
   below : l.j ≤ length l.row;
   after : l.j ≤ l.next;
   further : (i : ℕ) → l.j ≤ i → i < get_or l.jumps i (suc i);
-  nothing : (i k : ℕ) → l.j ≤ i → i < k → k < get_or l.jumps i (suc i) → number_at g.T.Whole.value l.row k ≡ pos 0;
-  until : (k : ℕ) → l.j ≤ k → k < l.next → number_at g.T.Whole.value l.row k ≡ pos 0;
+  nothing : (i k : ℕ) → l.j ≤ i → i < k → k < get_or l.jumps i (suc i) → number_at g.T.RowNumber.value l.row k ≡ pos 0;
+  until : (k : ℕ) → l.j ≤ k → k < l.next → number_at g.T.RowNumber.value l.row k ≡ pos 0;
 }
 
 abbrev pub decreases-loop-j : goal.decreases-loop-j

@@ -5,10 +5,10 @@ use Rattle.stack_rows.proofs.row.subtract.Given as goal
 
 abbrev pub invariant-loop-j : goal.invariant-loop-j
 invariant-loop-j g l = record {
-  done : (i : ℕ) → i < l.j → number_at g.T.Whole.value l.numbers i
-      ≡ number_at g.T.Whole.value l.fn.numbers i *ℤ g.T.Whole.value l.k
-      -ℤ g.T.Whole.value l.t *ℤ number_at g.T.Whole.value l.pivot i;
-  rest : (i : ℕ) → l.j ≤ i → number_at g.T.Whole.value l.numbers i ≡ number_at g.T.Whole.value l.fn.numbers i;
+  done : (i : ℕ) → i < l.j → number_at g.T.RowNumber.value l.numbers i
+      ≡ number_at g.T.RowNumber.value l.fn.numbers i *ℤ g.T.RowNumber.value l.k
+      -ℤ g.T.RowNumber.value l.t *ℤ number_at g.T.RowNumber.value l.pivot i;
+  rest : (i : ℕ) → l.j ≤ i → number_at g.T.RowNumber.value l.numbers i ≡ number_at g.T.RowNumber.value l.fn.numbers i;
 }
 
 abbrev pub decreases-loop-j : goal.decreases-loop-j

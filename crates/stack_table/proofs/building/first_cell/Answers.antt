@@ -9,7 +9,7 @@ use Rattle.stack_rational.proofs.Fitting.{zero_fits, whole_answers}
 use Rattle.stack_rational.proofs.WideWholes.{num_of}
 use Rattle.stack_table.specs.declared.problem.BuildError.TheVariants.{Wide}
 use Rattle.stack_table.specs.Lent.{problem_of}
-use Rattle.stack_table.specs.WrittenTable.{number_at}
+use Rattle.stack_table.specs.WrittenTable.{written_number}
 use Rattle.stack_table.proofs.Numbers.{number_small, small_back}
 use Rattle.stack_table.proofs.DueRows.{then_ok, then_err}
 use Rattle.stack_table.proofs.building.first_cell.Goals as goal
@@ -28,7 +28,7 @@ returns-then-i-due-clause-fits g c =
 
 pub returns-clause-ok : goal.returns-clause-ok
 returns-clause-ok g c =
-    let n = small_back c.number.result (number_at (problem_of c.args.p.now) c.args.i c.args.j) c.number.ensures
+    let n = small_back c.number.result (written_number (problem_of c.args.p.now) c.args.i c.args.j) c.number.ensures
     (number_small c.args.p.now c.requires.problem c.args.i c.args.j) in
     subst (λ (z : ℤ). IfOk c.from_whole.result (λ r. g.S.Exact.exact r ≡ of z)) n c.from_whole.ensures.ok
 
@@ -40,7 +40,7 @@ returns-clause-small g c = then_ok _ _ _ c.from_whole.result
 pub returns-clause-fits : goal.returns-clause-fits
 returns-clause-fits g c =
     let m = g.S.Exact.MAX in
-    let n = small_back c.number.result (number_at (problem_of c.args.p.now) c.args.i c.args.j) c.number.ensures
+    let n = small_back c.number.result (written_number (problem_of c.args.p.now) c.args.i c.args.j) c.number.ensures
     (number_small c.args.p.now c.requires.problem c.args.i c.args.j) in
     then_ok _ _ _ c.from_whole.result (λ r e h. ap (λ b. only_if b (Wide c.args.i c.args.j)) h)
     c.from_whole.ensures.ok
@@ -50,7 +50,7 @@ returns-clause-fits g c =
 pub returns-clause-wide : goal.returns-clause-wide
 returns-clause-wide g c =
     let m = g.S.Exact.MAX in
-    let n = small_back c.number.result (number_at (problem_of c.args.p.now) c.args.i c.args.j) c.number.ensures
+    let n = small_back c.number.result (written_number (problem_of c.args.p.now) c.args.i c.args.j) c.number.ensures
     (number_small c.args.p.now c.requires.problem c.args.i c.args.j) in
     then_err _ _ c.from_whole.result (λ e h. ap (λ b. only_if b (Wide c.args.i c.args.j)) h)
     (subst (λ (z : ℤ). IfErr c.from_whole.result (λ e. is_too_wide m Whole (of z) (of z) ≡ true)) n

@@ -1,13 +1,13 @@
 use Rattle.std.proofs.Common.{Err, subst}
 use Rattle.stack_stages.specs.Staged.{staged}
-use Rattle.stack_stages.specs.Gives.{stages_view, GivesStages, RefusesFirst}
+use Rattle.stack_stages.specs.Gives.{stages_view, GivesStages, RefusesFirstStage}
 use Rattle.stack_lines.specs.Answers.{stages_due}
 use Rattle.stack_lines.proofs.StagesEnds.{is_stage, stages_told, stage_wide, stage_spent}
 use Rattle.stack_forms.proofs.forms.building.stages_survey.Goals as goal
 
 pub wide_stage-requires : goal.wide_stage-requires
 wide_stage-requires c =
-    let h = subst (λ e. RefusesFirst (Err e) c.args.survey.now c.args.order.now c.args.budget)
+    let h = subst (λ e. RefusesFirstStage (Err e) c.args.survey.now c.args.order.now c.args.budget)
     c.in-Err-TooWide.field-0-is c.in-Err-TooWide.ensures.refused in
     is_stage c.args.survey.now c.args.order.now c.args.budget c.in-Err-TooWide.stage _ h
 

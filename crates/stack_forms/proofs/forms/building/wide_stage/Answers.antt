@@ -8,6 +8,6 @@ use Rattle.stack_forms.proofs.forms.building.wide_stage.Goals as goal
 
 pub returns-in-Ok : goal.returns-in-Ok
 returns-in-Ok c = subst
-    (λ (v : Surveyed). (refusal_view c.wide.result
-    ≡ faulty (wide_within (Stage c.args.number) v.structure c.args.place)) ⊎ (c.wide.result ≡ Memory))
-    c.in-Ok.ensures c.wide.ensures
+    (λ (v : Surveyed). (refusal_view c.wide_refusal.result
+    ≡ faulty (wide_within (Stage c.args.number) v.structure c.args.place)) ⊎ (c.wide_refusal.result ≡ Memory))
+    c.in-Ok.ensures c.wide_refusal.ensures

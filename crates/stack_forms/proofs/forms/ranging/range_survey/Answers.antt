@@ -24,7 +24,7 @@ returns-in-Err-TooWide c holds =
     let h = subst (λ e. JudgesRange (Err e) c.args.survey.now c.args.budget) c.in-Err-TooWide.field-0-is
     c.in-Err-TooWide.ensures.judges in
     side_ends c.args.survey.now c.args.budget holds c.in-Err-TooWide.side c.in-Err-TooWide.place c.within.result
-    c.wide.result c.within.ensures h.0 h.1 c.wide.ensures
+    c.wide_refusal.result c.within.ensures h.0 h.1 c.wide_refusal.ensures
 
 pub returns-in-Err-Spent : goal.returns-in-Err-Spent
 returns-in-Err-Spent c holds =

@@ -14,7 +14,7 @@ use Rattle.stack_inverse.proofs.revised_table.RevisedTable.clear_objective.Goals
 pub invariant_of-self-5 : goal.invariant_of-self-5
 invariant_of-self-5 g c =
     let s = c.args.self.now in
-    let v = g.T.Whole.value in
+    let v = g.T.RowNumber.value in
     let M = s.given.first.rows in
     let C = s.given.first.columns.items in
     let d = v c.in_ok-one.one in
@@ -28,13 +28,13 @@ invariant_of-self-5 g c =
     let t = seen_at (with_items s.rows new).items in
     let own = (with_items s.given.own c.clear_row-2.new.row).items in
     let put : IsPut (seen_at s.rows.items) M row d false (seen_at (with_items s.rows new).items) =
-    subst₂ (λ (xs ys : List (Row g.row.T.Denot g.T.Whole)). IsPut (seen_at xs) M row d false (seen_at ys))
+    subst₂ (λ (xs ys : List (Row g.row.T.Denot g.T.RowNumber)). IsPut (seen_at xs) M row d false (seen_at ys))
     c.as_mut_slice-3.ensures.value (sym rows) c.put_row.ensures in
     record {
       plain_count = s.plain_count;
       height = ap length rows ∙ tall ∙ s.height;
       wide = wide_put M (seen_at s.rows.items) t M row d false put (ap length c.as_slice.ensures.value ∙ long) s.wide;
-      marked = marked_put g.T.Whole.MAX (seen_at s.rows.items) t M row d
+      marked = marked_put g.T.RowNumber.MAX (seen_at s.rows.items) t M row d
           (revised_cell v M C s.given.own.items (seen_at s.rows.items)) (revised_cell v M C own t) put
           (others_stay v M C s.given.own.items own (seen_at s.rows.items) t row d put) s.marked;
       room = long;
@@ -46,7 +46,7 @@ invariant_of-self-5 g c =
 pub returns-clause-ok : goal.returns-clause-ok
 returns-clause-ok g c =
     let s = c.args.self.now in
-    let v = g.T.Whole.value in
+    let v = g.T.RowNumber.value in
     let M = s.given.first.rows in
     let C = s.given.first.columns.items in
     let d = v c.in_ok-one.one in
@@ -60,7 +60,7 @@ returns-clause-ok g c =
     let rows = with_items_is s.rows new (c.put_row.auto.rows ∙ ap length c.as_mut_slice-3.ensures.value
     ∙ sym s.rows.ok.0) in
     let put : IsPut (seen_at s.rows.items) M row d false (seen_at (with_items s.rows new).items) =
-    subst₂ (λ (xs ys : List (Row g.row.T.Denot g.T.Whole)). IsPut (seen_at xs) M row d false (seen_at ys))
+    subst₂ (λ (xs ys : List (Row g.row.T.Denot g.T.RowNumber)). IsPut (seen_at xs) M row d false (seen_at ys))
     c.as_mut_slice-3.ensures.value (sym rows) c.put_row.ensures in
     let cells = objective_put v M C s.given.own.items (with_items s.given.own c.clear_row-2.new.row).items
     (seen_at s.rows.items) (seen_at (with_items s.rows new).items) row d put (λ j. of (pos 0))

@@ -11,7 +11,7 @@ use Rattle.stack_inverse.proofs.revised_table.RevisedTable.enter.Goals as goal
 pub returns-clause-entered : goal.returns-clause-entered
 returns-clause-entered g c =
     let s = c.args.self.now in
-    let v = g.T.Whole.value in
+    let v = g.T.RowNumber.value in
     let p = s.given in
     let f = p.first in
     let new = c.enter_column.new.entered in
@@ -21,5 +21,6 @@ returns-clause-entered g c =
     on_some c.enter_column.result
     (AreEntered v f.rows f.columns.items p.own.items (seen_at c.as_slice.result.now) k new)
     (AreEntered v f.rows f.columns.items p.own.items (seen_at s.rows.items) k (with_items s.entered new).items)
-    (subst₂ (λ (rs : List (Row g.row.T.Denot g.T.Whole)) (es : List g.row.T.Denot). AreEntered v f.rows f.columns.items
+    (subst₂ (λ (rs : List (Row g.row.T.Denot g.T.RowNumber)) (es : List g.row.T.Denot). AreEntered v f.rows
+        f.columns.items
     p.own.items (seen_at rs) k es) c.as_slice.ensures.value (sym kept)) c.enter_column.ensures

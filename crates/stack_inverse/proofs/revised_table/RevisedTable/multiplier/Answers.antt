@@ -21,7 +21,7 @@ index-requires-2 g c =
 pub returns : goal.returns
 returns g c =
     let s = c.args.self.now in
-    let v = g.T.Whole.value in
+    let v = g.T.RowNumber.value in
     let m = s.given.first.rows in
     let x = c.index.result.now in
     let y = c.index-2.result.now in

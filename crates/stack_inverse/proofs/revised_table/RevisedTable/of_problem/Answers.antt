@@ -38,9 +38,9 @@ invariant_of-result g c =
     record {
       plain_count = count;
       height = ap length is ∙ same ∙ c.in_ok-rows.ensures.height ∙ tall;
-      wide = subst₂ (λ (m : ℕ) (rs : List (Row g.row.T.Denot g.T.Whole)). AreWide m (seen_at rs)) long (sym is)
+      wide = subst₂ (λ (m : ℕ) (rs : List (Row g.row.T.Denot g.T.RowNumber)). AreWide m (seen_at rs)) long (sym is)
           c.in-Some.ensures.wide;
-      marked = λ i e. let b : false ≡ true = sym (subst (λ (rs : List (Row g.row.T.Denot g.T.Whole)). (i : ℕ) →
+      marked = λ i e. let b : false ≡ true = sym (subst (λ (rs : List (Row g.row.T.Denot g.T.RowNumber)). (i : ℕ) →
           (seen_at rs i).fits ≡ false) (sym is) c.in-Some.ensures.unmarked i) ∙ e in absurd cc;
       room = ap length (with_items_is numbers c.fill.new.numbers (filled ∙ sym numbers.ok.0)) ∙ filled
           ∙ c.in_ok-pivot.ensures ∙ tall;
@@ -56,7 +56,7 @@ invariant_of-result g c =
 
 pub returns-clause-ok : goal.returns-clause-ok
 returns-clause-ok g c =
-    let v = g.T.Whole.value in
+    let v = g.T.RowNumber.value in
     let P = c.args.p.now in
     let G = c.in_ok-given.given in
     let C = G.first.columns.items in

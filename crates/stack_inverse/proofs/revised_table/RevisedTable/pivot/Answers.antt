@@ -23,19 +23,20 @@ use Rattle.stack_inverse.proofs.revised_table.RevisedTable.pivot.Goals as goal
 pub pivot_rows-requires-clause-wide : goal.pivot_rows-requires-clause-wide
 pivot_rows-requires-clause-wide g c =
     let s = c.args.self.now in
-    subst (λ (rs : List (Row g.row.T.Denot g.T.Whole)). AreWide s.given.first.rows (seen_at rs))
+    subst (λ (rs : List (Row g.row.T.Denot g.T.RowNumber)). AreWide s.given.first.rows (seen_at rs))
     (sym c.as_mut_slice.ensures.value) s.wide
 
 pub pivot_rows-requires-clause-marked : goal.pivot_rows-requires-clause-marked
 pivot_rows-requires-clause-marked g c =
     let s = c.args.self.now in
-    subst (λ (rs : List (Row g.row.T.Denot g.T.Whole)). AreMarked g.T.Whole.MAX (cells_of_rows s.given rs) (seen_at rs))
+    subst (λ (rs : List (Row g.row.T.Denot g.T.RowNumber)). AreMarked g.T.RowNumber.MAX (cells_of_rows s.given rs)
+        (seen_at rs))
     (sym c.as_mut_slice.ensures.value) s.marked
 
 pub pivot_rows-requires-clause-entered : goal.pivot_rows-requires-clause-entered
 pivot_rows-requires-clause-entered g c =
     let s = c.args.self.now in
-    subst₂ (λ (rs : List (Row g.row.T.Denot g.T.Whole)) (es : List g.row.T.Denot). AreEntered g.T.Whole.value
+    subst₂ (λ (rs : List (Row g.row.T.Denot g.T.RowNumber)) (es : List g.row.T.Denot). AreEntered g.T.RowNumber.value
     s.given.first.rows s.given.first.columns.items s.given.own.items (seen_at rs) c.args.column es)
     (sym c.as_mut_slice.ensures.value) (sym c.as_slice.ensures.value) c.requires.entered
 
@@ -44,14 +45,15 @@ pivot_rows-requires-clause-some g c =
     let s = c.args.self.now in
     let r = c.args.row in
     λ e. c.requires.cell (zero_cell (number_in s r c.args.column) (under_in s r) (under_positive s.rows.items r)
-    (subst (λ (rs : List (Row g.row.T.Denot g.T.Whole)). number_in_row s.given (seen_at rs r) r c.args.column ≡ pos 0)
+    (subst (λ (rs : List (Row g.row.T.Denot g.T.RowNumber)). number_in_row s.given (seen_at rs r) r c.args.column
+        ≡ pos 0)
     c.as_mut_slice.ensures.value e))
 
 pub invariant_of-self-clause-wide : goal.invariant_of-self-clause-wide
 invariant_of-self-clause-wide g c =
     let s = c.args.self.now in
     let new = c.pivot_rows.new.rows in
-    subst (λ (rs : List (Row g.row.T.Denot g.T.Whole)). AreWide s.given.first.rows (seen_at rs))
+    subst (λ (rs : List (Row g.row.T.Denot g.T.RowNumber)). AreWide s.given.first.rows (seen_at rs))
     (sym (with_items_is s.rows new (c.pivot_rows.auto.rows ∙ ap length c.as_mut_slice.ensures.value ∙ sym s.rows.ok.0)))
     c.pivot_rows.ensures.wide
 
@@ -59,7 +61,8 @@ pub invariant_of-self-clause-marked : goal.invariant_of-self-clause-marked
 invariant_of-self-clause-marked g c =
     let s = c.args.self.now in
     let new = c.pivot_rows.new.rows in
-    subst (λ (rs : List (Row g.row.T.Denot g.T.Whole)). AreMarked g.T.Whole.MAX (cells_of_rows s.given rs) (seen_at rs))
+    subst (λ (rs : List (Row g.row.T.Denot g.T.RowNumber)). AreMarked g.T.RowNumber.MAX (cells_of_rows s.given rs)
+        (seen_at rs))
     (sym (with_items_is s.rows new (c.pivot_rows.auto.rows ∙ ap length c.as_mut_slice.ensures.value ∙ sym s.rows.ok.0)))
     c.pivot_rows.ensures.marked
 
@@ -84,11 +87,11 @@ pub returns-clause-none : goal.returns-clause-none
 returns-clause-none g c =
     let s = c.args.self.now in
     let m = s.given.first.rows in
-    on_ok c.pivot_rows.result (IsPivotedCells g.T.Whole.MAX (suc m) (columns_of s.given)
+    on_ok c.pivot_rows.result (IsPivotedCells g.T.RowNumber.MAX (suc m) (columns_of s.given)
     (cells_of_rows s.given c.as_mut_slice.result.now) c.args.row c.args.column
-    (cells_of_rows s.given c.pivot_rows.new.rows)) (pivot_spot ordered_fractions (is_too_wide g.T.Whole.MAX)
+    (cells_of_rows s.given c.pivot_rows.new.rows)) (pivot_spot ordered_fractions (is_too_wide g.T.RowNumber.MAX)
     (shape_of_revised s) (table_of_revised s) c.args.row c.args.column ≡ None)
-    (λ h. sym (λ z. cells_spot ordered_fractions (is_too_wide g.T.Whole.MAX) (suc m) (suc (s.plain_count z + m))
+    (λ h. sym (λ z. cells_spot ordered_fractions (is_too_wide g.T.RowNumber.MAX) (suc m) (suc (s.plain_count z + m))
     (cells_of_rows s.given (c.as_mut_slice.ensures.value z)) c.args.row c.args.column) ∙ h.none)
     c.pivot_rows.ensures.ok
 
@@ -97,7 +100,7 @@ returns-clause-wide g c =
     let s = c.args.self.now in
     let m = s.given.first.rows in
     err_same c.pivot_rows.result _ _
-    (λ z. cells_spot ordered_fractions (is_too_wide g.T.Whole.MAX) (suc m) (suc (s.plain_count z + m))
+    (λ z. cells_spot ordered_fractions (is_too_wide g.T.RowNumber.MAX) (suc m) (suc (s.plain_count z + m))
     (cells_of_rows s.given (c.as_mut_slice.ensures.value z)) c.args.row c.args.column)
     c.pivot_rows.ensures.refused
 
@@ -116,7 +119,7 @@ returns-clause-ok g c =
       cell = cells_of_rows s.given (with_items s.rows new).items;
       basic = λ i. get_or (set s.basic.items r k) i 0;
     } in
-    on_ok c.pivot_rows.result (IsPivotedCells g.T.Whole.MAX (suc m) (columns_of s.given)
+    on_ok c.pivot_rows.result (IsPivotedCells g.T.RowNumber.MAX (suc m) (columns_of s.given)
     (cells_of_rows s.given c.as_mut_slice.result.now) r k (cells_of_rows s.given new))
     (T ≡ pivoted_at ordered_fractions (shape_of_revised s) (table_of_revised s) r k)
     (λ h. λ z. record {

@@ -27,13 +27,13 @@ put_row-requires-clause-width g c =
     let M = s.given.first.rows in
     let plong = c.factor_row.auto.numbers ∙ ap length c.as_mut_slice.ensures.value in
     let piv = with_items_is s.pivot.numbers c.factor_row.new.numbers (plong ∙ sym s.pivot.numbers.ok.0) in
-    ap (λ (rs : List (Row g.row.T.Denot g.T.Whole)). length (seen_at rs M).numbers) c.as_mut_slice-4.ensures.value
+    ap (λ (rs : List (Row g.row.T.Denot g.T.RowNumber)). length (seen_at rs M).numbers) c.as_mut_slice-4.ensures.value
     ∙ s.wide M (omega arith) ∙ sym (ap length c.as_slice-3.ensures.value ∙ ap length piv ∙ plong ∙ s.room)
 
 pub invariant_of-self-6 : goal.invariant_of-self-6
 invariant_of-self-6 g c =
     let s = c.args.self.now in
-    let v = g.T.Whole.value in
+    let v = g.T.RowNumber.value in
     let M = s.given.first.rows in
     let C = s.given.first.columns.items in
     let d = v c.in_ok-under.under in
@@ -45,7 +45,7 @@ invariant_of-self-6 g c =
     let tall = c.put_row.auto.rows ∙ ap length c.as_mut_slice-4.ensures.value in
     let rows = with_items_is s.rows new (tall ∙ sym s.rows.ok.0) in
     let put : IsPut (seen_at s.rows.items) M row d false (seen_at (with_items s.rows new).items) =
-    subst₂ (λ (xs ys : List (Row g.row.T.Denot g.T.Whole)). IsPut (seen_at xs) M row d false (seen_at ys))
+    subst₂ (λ (xs ys : List (Row g.row.T.Denot g.T.RowNumber)). IsPut (seen_at xs) M row d false (seen_at ys))
     c.as_mut_slice-4.ensures.value (sym rows) c.put_row.ensures in
     let t = seen_at (with_items s.rows new).items in
     let own = (with_items cleared c.set_only.new.row).items in
@@ -55,7 +55,7 @@ invariant_of-self-6 g c =
       plain_count = s.plain_count;
       height = ap length rows ∙ tall ∙ s.height;
       wide = wide_put M (seen_at s.rows.items) t M row d false put (ap length c.as_slice-3.ensures.value ∙ long) s.wide;
-      marked = marked_put g.T.Whole.MAX (seen_at s.rows.items) t M row d
+      marked = marked_put g.T.RowNumber.MAX (seen_at s.rows.items) t M row d
           (revised_cell v M C s.given.own.items (seen_at s.rows.items)) (revised_cell v M C own t) put
           (others_stay v M C s.given.own.items own (seen_at s.rows.items) t row d put) s.marked;
       room = long;
@@ -67,7 +67,7 @@ invariant_of-self-6 g c =
 pub returns-clause-ok : goal.returns-clause-ok
 returns-clause-ok g c =
     let s = c.args.self.now in
-    let v = g.T.Whole.value in
+    let v = g.T.RowNumber.value in
     let M = s.given.first.rows in
     let C = s.given.first.columns.items in
     let d = v c.in_ok-under.under in
@@ -79,7 +79,7 @@ returns-clause-ok g c =
     let tall = c.put_row.auto.rows ∙ ap length c.as_mut_slice-4.ensures.value in
     let rows = with_items_is s.rows new (tall ∙ sym s.rows.ok.0) in
     let put : IsPut (seen_at s.rows.items) M row d false (seen_at (with_items s.rows new).items) =
-    subst₂ (λ (xs ys : List (Row g.row.T.Denot g.T.Whole)). IsPut (seen_at xs) M row d false (seen_at ys))
+    subst₂ (λ (xs ys : List (Row g.row.T.Denot g.T.RowNumber)). IsPut (seen_at xs) M row d false (seen_at ys))
     c.as_mut_slice-4.ensures.value (sym rows) c.put_row.ensures in
     let own = with_items_is cleared c.set_only.new.row
     (c.set_only.auto.row ∙ ap length c.as_mut_slice-3.ensures.value ∙ sym cleared.ok.0) in
@@ -89,7 +89,8 @@ returns-clause-ok g c =
     ∙ (λ z. least ((ap length c.as_slice.ensures.value ∙ s.basics) z)
     (λ r. eqb (get_or (c.as_slice.ensures.value z) r 0) s.contacts)) in
     let factor : IsFactorRow v M C s.given.own.items (seen_at s.rows.items) s.contacts o row d =
-    subst (λ (rs : List (Row g.row.T.Denot g.T.Whole)). IsFactorRow v M C s.given.own.items (seen_at rs) s.contacts o
+    subst (λ (rs : List (Row g.row.T.Denot g.T.RowNumber)). IsFactorRow v M C s.given.own.items (seen_at rs) s.contacts
+        o
     row d) c.as_slice-2.ensures.value
     (subst₂ (λ (x : Option ℕ) (xs : List g.row.T.Denot). IsFactorRow v M C s.given.own.items
     (seen_at c.as_slice-2.result.now) s.contacts x xs d) found (sym (c.as_slice-3.ensures.value ∙ piv))

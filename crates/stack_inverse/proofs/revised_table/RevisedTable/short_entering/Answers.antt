@@ -17,7 +17,7 @@ short_negative-requires-clause-width g c =
 pub returns-clause-value : goal.returns-clause-value
 returns-clause-value g c =
     let s = c.args.self.now in
-    let v = g.T.Whole.value in
+    let v = g.T.RowNumber.value in
     let m = s.given.first.rows in
     let x = c.index.result.now in
     let seen = seen_get s.rows.items m x (omega (arith, s.height)) c.index.ensures in

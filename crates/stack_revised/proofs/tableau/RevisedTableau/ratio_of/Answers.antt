@@ -13,15 +13,15 @@ returns-then-not-is_positive g c =
     let t = c.args.self.now.table in
     let i = c.args.i in
     let k = c.args._column in
-    let is : g.T.Whole.value c.entered-cell.result ≡ number_in t i k = c.entered-cell.ensures
+    let is : g.T.RowNumber.value c.entered-cell.result ≡ number_in t i k = c.entered-cell.ensures
     ∙ c.requires.at_hand i (omega (arith, c.requires.i_in)) in
     ap is_plus (cell_sign (number_in t i k) (under_in t i) (under_positive t.rows.items i)
     ∙ ap sign_of (sym is)) ∙ sym c.is_positive.ensures.sign ∙ c.if-not-is_positive.true
 
 pub returns : goal.returns
 returns g c =
-    let m = g.T.Whole.MAX in
-    let v = g.T.Whole.value in
+    let m = g.T.RowNumber.MAX in
+    let v = g.T.RowNumber.value in
     let t = c.args.self.now.table in
     let i = c.args.i in
     let k = c.args._column in
@@ -30,5 +30,5 @@ returns g c =
     is_ratio m (number_in t) (under_in t) (under_positive t.rows.items) (λ i. get_or t.basic.items i 0)
     (shape_of_revised t) k i (v c.right-right.result) (v c.entered-cell.result) c.right-right.ensures is
     (ap (λ z. is_plus (sign_of z)) (sym is) ∙ sym c.is_positive.ensures.sign ∙ c.if-not-is_positive.false)
-    (right_fits m g.met.T.Whole.fits_law t i)
-    (subst (λ z. unsigned_abs z ≤ unsigned_abs m) is (g.met.T.Whole.fits_law c.entered-cell.result))
+    (right_fits m g.met.T.RowNumber.fits_law t i)
+    (subst (λ z. unsigned_abs z ≤ unsigned_abs m) is (g.met.T.RowNumber.fits_law c.entered-cell.result))

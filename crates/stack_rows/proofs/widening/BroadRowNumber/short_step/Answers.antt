@@ -1,0 +1,23 @@
+use Rattle.std.proofs.Common.{◌≡◌, ap, ◌∙◌, ◌≤◌, ◌-◌, ◌^◌, arith}
+use lib.IntN.{ℤ, nat_abs, ◌-ℤ◌, ◌*ℤ◌}
+use mir.Syntax.{w64, w128}
+use mir.Val.{to_z, of_z}
+use mir.Facts.{to_z-of_z}
+use Rattle.stack_rational.specs.Widths.{signed-keeps}
+use Rattle.stack_rows.proofs.widening.BroadRowNumber.short_step.Goals as goal
+
+-- the casts of a number of 64 bits
+narrowed : (x : ℤ) → nat_abs x ≤ 2 ^ 63 - 1 → to_z w64 (of_z w64 (to_z w128 (of_z w128 x))) ≡ x
+narrowed x h = ap (λ z. to_z w64 (of_z w64 z)) (to_z-of_z (signed-keeps w128 x (omega (arith, h))))
+    ∙ to_z-of_z (signed-keeps w64 x h)
+
+pub returns : goal.returns
+returns c =
+    let n = c.word_step-number.result in
+    let fits = c.word_step-number.ensures.fits in
+    ap (λ z. to_z w128 (of_z w128 z)) (to_z-of_z (signed-keeps w64 n fits))
+    ∙ to_z-of_z (signed-keeps w128 n (omega (arith, fits))) ∙ c.word_step-number.ensures.value
+    ∙ (λ i. narrowed c.args.self.number c.requires.own i
+    *ℤ narrowed c.args.k.number c.requires.times i
+    -ℤ narrowed c.args.t.number c.requires.less i
+    *ℤ narrowed c.args.other.number c.requires.other i)

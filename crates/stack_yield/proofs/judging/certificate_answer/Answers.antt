@@ -1,0 +1,24 @@
+use Rattle.std.proofs.Common.{subst}
+use Rattle.stack_contact.specs.Surveyed.{Surveyed}
+use Rattle.stack_certificate.specs.Certificate.{forces_view, motion_view, certificate_view, collapses}
+use Rattle.stack_certificate.specs.declared.types.Certificate.{Certificate}
+use Rattle.stack_equilibrium.specs.declared.types.Question.TheVariants.{Live}
+use Rattle.stack_judge.specs.Judged.{IsJudged}
+use Rattle.stack_yield.proofs.BoundedReaches.{bounded_holds}
+use Rattle.stack_yield.proofs.FallsOfModel.{falls_of_model}
+use Rattle.stack_yield.proofs.judging.certificate_answer.Goals as goal
+
+pub returns-in-Collapses-clause-holds : goal.returns-in-Collapses-clause-holds
+returns-in-Collapses-clause-holds c =
+    let h = subst (λ (x : Certificate). IsJudged Live c.args.judged.now (certificate_view x)) c.in-Collapses.is
+    c.requires.judged in
+    falls_of_model c.args.s.now c.args.t.i c.args.t.j c.args.t.m c.args.t.n (motion_view c.in-Collapses.motion)
+    c.requires.pair c.proper.ensures
+    (subst (λ (v : Surveyed). IsJudged Live v (collapses (motion_view c.in-Collapses.motion))) c.requires.towards h)
+
+pub returns-in-Greatest-clause-holds : goal.returns-in-Greatest-clause-holds
+returns-in-Greatest-clause-holds c = bounded_holds c.args.s.now c.args.t.i c.args.t.j c.args.t.m c.args.t.n
+    (forces_view c.in-Greatest.forces) (motion_view c.in-Greatest.motion) c.args.judged.now c.bounded_reach.result
+    c.requires.towards
+    (subst (λ (x : Certificate). IsJudged Live c.args.judged.now (certificate_view x)) c.in-Greatest.is
+    c.requires.judged) c.bounded_reach.ensures.outcome c.bounded_reach.ensures.fits
