@@ -1,12 +1,12 @@
 -- Fractions that are not negative, and the right sides of a table after a pivot.
-use mathlib.Core.Path.{◌≡◌, refl, ap, subst, ◌∙◌}
+use mathlib.Core.Path.{◌≡◌}
 use native.Mathlib.Omega.{arith}
 use lib.IntN.{ℤ, pos, ◌+ℤ◌, ◌*ℤ◌}
 use Rattle.stack_algebra.proofs.Integers.{expand, sums}
 use Rattle.stack_algebra.proofs.Order.{◌≼◌, ◌≺◌, mul_nonneg, nonneg-cancel}
-use Rattle.stack_algebra.proofs.Ring.{Exp, num, ◌⊕◌, ◌⊖◌, ◌⊗◌, ring4, ring5}
+use Rattle.stack_algebra.proofs.Ring.{num}
 use Rattle.stack_algebra.specs.Fraction.{Fraction}
-use Rattle.stack_algebra.proofs.Fractions.{IsOver, is_self, add, add-is, mul, mul-is, of, neg, fractions, den_pos}
+use Rattle.stack_algebra.proofs.Fractions.{IsOver, is_self, add, add-is, den_pos}
 
 pub record NonNeg (x : Fraction) : Type 0 where
   pub num : pos 0 ≼ x.num
@@ -18,10 +18,6 @@ nonneg_cross x d n p hd hp e h = let k = mul_nonneg n d h (omega (arith, sums)) 
 pub nonneg_is : (x : Fraction) (n p : ℤ) → IsOver x n p → pos 0 ≼ n → NonNeg x
 nonneg_is x n p i h = record { num = nonneg_cross x.num (pos x.den) n p (den_pos x) i.positive i.cross h }
 
-pub nonneg_mul : (x y : Fraction) → NonNeg x → NonNeg y → NonNeg (mul x y)
-nonneg_mul x y h k = nonneg_is (mul x y) _ _ (mul-is x y _ _ _ _ (is_self x) (is_self y))
-    (mul_nonneg x.num y.num h.num k.num)
-
 nonneg_sum : (a b c d : ℤ) → pos 0 ≺ b → pos 0 ≺ d → pos 0 ≼ a → pos 0 ≼ c → pos 0 ≼ a *ℤ d +ℤ c *ℤ b
 nonneg_sum a b c d hb hd ha hc = omega
     (arith, sums, mul_nonneg a d ha (omega (arith, sums)), mul_nonneg c b hc (omega (arith, sums)))
@@ -29,22 +25,3 @@ nonneg_sum a b c d hb hd ha hc = omega
 pub nonneg_add : (x y : Fraction) → NonNeg x → NonNeg y → NonNeg (add x y)
 nonneg_add x y h k = nonneg_is (add x y) _ _ (add-is x y _ _ _ _ (is_self x) (is_self y))
     (nonneg_sum x.num (pos x.den) y.num (pos y.den) (den_pos x) (den_pos y) h.num k.num)
-
--- a right side after a pivot is not negative: in the pivot's row, in a row whose cell is not positive, and in
--- a row whose ratio is no less
-pub right_side-own : (q b : Fraction) → NonNeg q → NonNeg b → NonNeg (mul q b)
-right_side-own = nonneg_mul
-
-pub right_side-down : (t f q b : Fraction) → NonNeg t → NonNeg (neg f) → NonNeg q → NonNeg b →
-    NonNeg (add t (neg (mul f (mul q b))))
-right_side-down t f q b ht hf hq hb = subst NonNeg
-    (ring4 fractions (λ t f q b. (t ⊕ Exp.neg f ⊗ (q ⊗ b), t ⊖ f ⊗ (q ⊗ b))) refl t f q b)
-    (nonneg_add t (mul (neg f) (mul q b)) ht (nonneg_mul (neg f) (mul q b) hf (nonneg_mul q b hq hb)))
-
-pub right_side-ratio : (t f q b g : Fraction) → mul g f ≡ of (pos 1) → NonNeg f →
-    NonNeg (add (mul g t) (neg (mul q b))) → NonNeg (add t (neg (mul f (mul q b))))
-right_side-ratio t f q b g one hf h = subst NonNeg
-    (ring5 fractions (λ t f q b g. (f ⊗ (g ⊗ t ⊖ q ⊗ b), (g ⊗ f) ⊗ t ⊖ f ⊗ (q ⊗ b))) refl t f q b g
-    ∙ ap (λ z. add (mul z t) (neg (mul f (mul q b)))) one
-    ∙ ring4 fractions (λ t f q b. (num (pos 1) ⊗ t ⊖ f ⊗ (q ⊗ b), t ⊖ f ⊗ (q ⊗ b))) refl t f q b)
-    (nonneg_mul f (add (mul g t) (neg (mul q b))) hf h)

@@ -1,5 +1,5 @@
 -- The list of the first values of a function: its length, its items, one more item, the same list, its map.
-use Rattle.std.proofs.Common.{◌≡◌, refl, ap, ℕ, zero, suc, ◌<◌, [], ◌∷◌, ◌++◌, length, get_or, map, arith}
+use Rattle.std.proofs.Common.{◌≡◌, refl, ap, ℕ, zero, suc, ◌<◌, ◌∷◌, ◌++◌, length, get_or, map, arith}
 pub use Rattle.stack_algebra.specs.Listed.{listed}
 
 pub length_listed : {X : Type 0} (n : ℕ) (f : ℕ → X) → length (listed n f) ≡ n
@@ -16,12 +16,6 @@ listed_item (suc n) f (suc k) d l = listed_item n (λ k. f (suc k)) k d (omega a
 pub listed_more : {X : Type 0} (n : ℕ) (f : ℕ → X) → listed (suc n) f ≡ listed n f ++ f n ∷ []
 listed_more zero f = refl
 listed_more (suc n) f = ap (λ xs. f 0 ∷ xs) (listed_more n (λ k. f (suc k)))
-
--- equal values make one list
-pub listed_same : {X : Type 0} (n : ℕ) (f g : ℕ → X) → ((k : ℕ) → k < n → f k ≡ g k) → listed n f ≡ listed n g
-listed_same zero f g h = refl
-listed_same (suc n) f g h = λ i. h 0 (omega arith) i
-    ∷ listed_same n (λ k. f (suc k)) (λ k. g (suc k)) (λ k l. h (suc k) (omega (arith, l))) i
 
 pub map_listed : {X Y : Type 0} (g : X → Y) (n : ℕ) (f : ℕ → X) → map g (listed n f) ≡ listed n (λ k. g (f k))
 map_listed g zero f = refl

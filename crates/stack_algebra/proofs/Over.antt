@@ -13,8 +13,8 @@ use Rattle.stack_algebra.proofs.Integers.{expand, sums}
 use Rattle.stack_algebra.proofs.Order.{◌≺◌, mul_pos}
 use Rattle.stack_algebra.specs.Gcd.{gcd}
 use Rattle.stack_algebra.specs.Fraction.{Fraction, signed, low_num, low_den}
-use Rattle.stack_algebra.proofs.Fractions.{IsOver, is_self, reduce, reduce_is, same_values, of, of-is, add, mul}
-use Rattle.stack_algebra.proofs.Fractions.{add-is, mul-is}
+use Rattle.stack_algebra.proofs.Fractions.{IsOver, is_self, reduce, reduce_is, same_values, of, of-is, add}
+use Rattle.stack_algebra.proofs.Fractions.{add-is}
 
 -- z over d in lowest terms; 0 where the denominator is not positive
 pub over : ℤ → ℤ → Fraction
@@ -55,11 +55,6 @@ lowest-over x = record { positive = omega (arith, ints, x.positive); lowest = x.
 pub over_own : (x : Fraction) → over x.num (pos x.den) ≡ x
 over_own x = same_values _ _ _ _ _ _ (over-is x.num (pos x.den) (omega (arith, ints, x.positive))) (is_self x)
     refl
-
-pub mul-over : (x y : Fraction) → mul x y ≡ over (x.num *ℤ y.num) (pos x.den *ℤ pos y.den)
-mul-over x y = same_values _ _ (x.num *ℤ y.num) (pos x.den *ℤ pos y.den) (x.num *ℤ y.num)
-    (pos x.den *ℤ pos y.den) (mul-is x y _ _ _ _ (is_self x) (is_self y))
-    (over-is _ _ (mul-is x y _ _ _ _ (is_self x) (is_self y)).positive) refl
 
 pub of-over : (k : ℤ) → over k (pos 1) ≡ of k
 of-over k = same_values _ _ k (pos 1) k (pos 1) (over-is k (pos 1) (omega (arith, ints))) (of-is k) refl

@@ -107,23 +107,6 @@ least-some n p j e = let s = first-some n _ j e in let t = only_if-some (p s.ind
     subst (λ i. IsLeast n p i) t.1
     (record { below = s.below; has = t.0; none_before = least-none s.index p s.none_before })
 
--- the one of some number below n, or the other of each
-pub search_below : {A B : ℕ → Type 0} (n : ℕ) → AllBelow n (λ i. A i ⊎ B i) → SomeBelow n A ⊎ AllBelow n B
-search_below zero h = inr (λ i l. absurd (omega (arith, l)))
-search_below {A} {B} (suc n) h = go (search_below n (λ i l. h i (omega arith))) (h n (omega arith))
-  where
-    all_more : AllBelow n B → B n → AllBelow (suc n) B
-    all_more r b i l = last (ℕ_discrete i n)
-      where
-        last : Dec (i ≡ n) → B i
-        last (yes e) = subst B (sym e) b
-        last (no d) = r i (omega (arith, l, d))
-
-    go : SomeBelow n A ⊎ AllBelow n B → A n ⊎ B n → SomeBelow (suc n) A ⊎ AllBelow (suc n) B
-    go (inl s) c = inl (record { index = s.index; below = omega (arith, s.below); holds = s.holds })
-    go (inr r) (inl a) = inl (record { index = n; below = omega arith; holds = a })
-    go (inr r) (inr b) = inr (all_more r b)
-
 -- 0 comes after the last index, and one more after each other
 abbrev pub IsAfter : ℕ → ℕ → ℕ → Type 0
 IsAfter n i k = ((suc i ≡ n) × (k ≡ 0)) ⊎ ((suc i < n) × (k ≡ suc i))
@@ -135,15 +118,3 @@ next_round-cases n i l = go (eqb (suc i) n) (eqb→eq (suc i) n)
     go : (b : Bool) → (T b → suc i ≡ n) → (suc i ≡ n → T b) → IsAfter n i (cond b 0 (suc i))
     go true e d = inl (e tt, refl)
     go false e d = let other : suc i ≢ n = d in inr (omega arith, refl)
-
-pub next_round_below : (n i : ℕ) → i < n → next_round n i < n
-next_round_below n i l = omega (arith, next_round-cases n i l)
-
--- an index, the next and the one after are different, of three or more
-pub next_round_other : (n i : ℕ) → 3 ≤ n → i < n →
-    (next_round n i ≢ i) × (next_round n (next_round n i) ≢ i) ×
-    (next_round n (next_round n i) ≢ next_round n i)
-next_round_other n i three l =
-    let c = next_round-cases n i l in
-    let d = next_round-cases n (next_round n i) (next_round_below n i l) in
-    (λ e. omega (arith, c, e), λ e. omega (arith, c, d, e), λ e. omega (arith, d, e))

@@ -48,9 +48,6 @@ module _ (F : Ordered) where
   pub zero_between : (x : F.C) → NonNeg F x → NonNeg F (F.neg x) → x ≡ F.of (pos 0)
   zero_between x h k = F.zero_by_sign x (neither (F.sign x) h.fact (λ e. k.fact (F.sign-neg x ∙ e)))
 
-  pub minus_not-nonneg : (x : F.C) → F.sign x ≡ minus → NonNeg F x → ⊥
-  minus_not-nonneg x e h = h.fact e
-
   pub nonneg_by : (x y : F.C) → x ≡ y → NonNeg F x → NonNeg F y
   nonneg_by x y e h = subst (λ z. NonNeg F z) e h
 

@@ -1,17 +1,14 @@
 -- Sums over the indices below n, and over a list, in any commutative ring.
+use Rattle.std.proofs.Common.{arith, add-one}
 use mathlib.Core.Path.{◌≡◌, refl, sym, ap, ◌∙◌}
 use mathlib.Core.Logic.{◌≢◌}
 use mathlib.Core.Bool.{Bool, true, false, cond}
-use mathlib.Core.List.{List, [], ◌∷◌, ◌++◌}
+use mathlib.Core.List.{List, ◌∷◌, ◌++◌}
 use Prim.Native.Nat.{ℕ, zero, suc, ◌<◌, ◌+◌}
-use native.Mathlib.Omega.{arith}
-use native.Mathlib.Numerals.{add-one}
-use lib.ListN.{length, get_or, take}
+use lib.ListN.{length, get_or}
 use native.Mathlib.Decide.{ℕ_discrete}
 use lib.Dec.{T, eqb, eqb→eq, eqb_refl}
 use lib.IntN.{pos, negsuc}
-use Rattle.std.specs.List.{AllByRecursion as ByRecursion}
-use Rattle.std.proofs.lemmas.List.{take_more}
 pub use Rattle.stack_algebra.specs.Sums.{sum, sum_over, at}
 use Rattle.stack_algebra.proofs.Ring.{Ring, add_left_comm, mul_add, add-zero}
 
@@ -79,35 +76,6 @@ module _ (R : Ring) where
   pub sum_at : (n k : ℕ) (x : R.C) → k < n → sum R n (at R k x) ≡ x
   sum_at n k x l = sum_one n k (at R k x) l (λ i m d. at-other k i x d) ∙ at-same k x
 
-  -- sums over a list are linear
-  pub over_add : {X : Type 0} (f g : X → R.C) (xs : List X) → sum_over R (λ x. R.add (f x) (g x)) xs
-      ≡ R.add (sum_over R f xs) (sum_over R g xs)
-  over_add f g [] = sym (R.zero_add (R.of (pos 0)))
-  over_add f g (x ∷ xs) = ap (λ z. R.add (R.add (f x) (g x)) z) (over_add f g xs)
-      ∙ four_add (f x) (g x) (sum_over R f xs) (sum_over R g xs)
-
-  pub over_scale : {X : Type 0} (c : R.C) (f : X → R.C) (xs : List X) → sum_over R (λ x. R.mul c (f x)) xs
-      ≡ R.mul c (sum_over R f xs)
-  over_scale c f [] = sym (R.mul_comm c (R.of (pos 0)) ∙ R.zero_mul c)
-  over_scale c f (x ∷ xs) = ap (λ z. R.add (R.mul c (f x)) z) (over_scale c f xs)
-      ∙ sym (mul_add R c (f x) (sum_over R f xs))
-
-  pub over_zero : {X : Type 0} (xs : List X) → sum_over R (λ x. R.of (pos 0)) xs ≡ R.of (pos 0)
-  over_zero [] = refl
-  over_zero (x ∷ xs) = R.zero_add (sum_over R (λ x. R.of (pos 0)) xs) ∙ over_zero xs
-
-  -- a sum over indices of sums over a list, the other way round
-  pub sum_over-swap : {X : Type 0} (n : ℕ) (f : ℕ → X → R.C) (xs : List X) →
-      sum R n (λ i. sum_over R (f i) xs) ≡ sum_over R (λ x. sum R n (λ i. f i x)) xs
-  sum_over-swap n f [] = sum_zero n (λ i. R.of (pos 0)) (λ i l. refl)
-  sum_over-swap n f (x ∷ xs) = sum_add n (λ i. f i x) (λ i. sum_over R (f i) xs)
-      ∙ ap (λ z. R.add (sum R n (λ i. f i x)) z) (sum_over-swap n f xs)
-
-  pub over_same : {X : Type 0} (f g : X → R.C) (xs : List X) → ByRecursion (λ x. f x ≡ g x) xs →
-      sum_over R f xs ≡ sum_over R g xs
-  over_same f g [] h = refl
-  over_same f g (x ∷ xs) h = λ i. R.add (h.0 i) (over_same f g xs h.1 i)
-
   -- a sum with its first term apart
   pub sum-first : (n : ℕ) (f : ℕ → R.C) → sum R (suc n) f ≡ R.add (f 0) (sum R n (λ i. f (suc i)))
   sum-first zero f = R.add_comm (R.of (pos 0)) (f 0)
@@ -138,9 +106,3 @@ module _ (R : Ring) where
   over-append f [] ys = sym (R.zero_add (sum_over R f ys))
   over-append f (x ∷ xs) ys = ap (R.add (f x)) (over-append f xs ys)
       ∙ sym (R.add_assoc (f x) (sum_over R f xs) (sum_over R f ys))
-
-  pub over_more : {X : Type 0} (f : X → R.C) (xs : List X) (i : ℕ) (d : X) → i < length xs →
-      sum_over R f (take (i + 1) xs) ≡ R.add (sum_over R f (take i xs)) (f (get_or xs i d))
-  over_more f xs i d l = ap (sum_over R f) (take_more xs i d l)
-      ∙ over-append f (take i xs) (get_or xs i d ∷ [])
-      ∙ ap (R.add (sum_over R f (take i xs))) (add-zero R (f (get_or xs i d)))

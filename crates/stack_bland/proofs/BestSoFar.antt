@@ -1,7 +1,6 @@
 -- The turn of the loop that looks for the leaving row.
-use Rattle.std.proofs.Common.{◌≡◌, refl, sym, ap, subst, ◌∙◌, ℕ, ◌<◌, ◌+◌, Bool, true, false, cond, Option, Some}
-use Rattle.std.proofs.Common.{None, arith, add-one}
-use Rattle.std.specs.Prelude.{IfSome}
+use Rattle.std.proofs.Common.{◌≡◌, refl, sym, ap, subst, ◌∙◌, ℕ, ◌<◌, ◌+◌, Bool, true, false, cond, Option, Some, None}
+use Rattle.std.proofs.Common.{arith, add-one, IfSome}
 use Rattle.stack_algebra.specs.Ordered.{sign_of}
 use Rattle.stack_algebra.specs.Fraction.{Fraction}
 use Rattle.stack_algebra.specs.Rows.{less}

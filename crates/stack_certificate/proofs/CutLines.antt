@@ -1,7 +1,6 @@
 -- Lines, taken apart.
 use Rattle.std.proofs.Common.{◌≡◌, ◌≢◌, ℕ, suc, ◌+◌, ◌<◌, ◌%◌, ◌^◌, ℤ, pos, negsuc, List, [], ◌∷◌, ◌++◌, true, not}
-use Rattle.std.proofs.Common.{◌==◌, refl, sym, ◌∙◌, arith}
-use Rattle.std.proofs.Common.{Option, Some, None, IfSome, IfNone, Bor}
+use Rattle.std.proofs.Common.{◌==◌, refl, sym, ◌∙◌, arith, Option, Some, None, IfSome, IfNone, Bor}
 use Rattle.std.specs.Option.{MatchOption}
 use Rattle.std.specs.Fmt.{decimal, signed_decimal}
 use Rattle.std.proofs.lemmas.Fmt.{decimal_by_steps_wide}

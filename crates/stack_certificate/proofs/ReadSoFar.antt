@@ -1,5 +1,5 @@
 -- A text that is read line by line: what is known on the way, and what it comes to.
-use Rattle.std.proofs.Common.{◌≡◌, ℕ, suc, ◌+◌, ◌==◌, List, [], ◌∷◌, length, true, refl, sym, ap, ◌∙◌, arith, Some}
+use Rattle.std.proofs.Common.{◌≡◌, ℕ, suc, ◌+◌, ◌==◌, List, ◌∷◌, length, true, refl, sym, ap, ◌∙◌, arith, Some}
 use Rattle.std.proofs.Common.{None, Err}
 use Rattle.std.specs.Option.{option_and_then}
 use Rattle.std.proofs.lemmas.Bool.Decides.{nat_tests}
@@ -14,9 +14,6 @@ use Rattle.stack_certificate.proofs.ReadLines.{line_found, no_line_found}
 pub record IsRead (text : List ℕ) (p : Progress) (rest : List ℕ) (number : ℕ) : Type 0 where
   pub runs : progress_over start (cut text) ≡ progress_over p (cut rest)
   pub counts : suc (accepted start (cut text)) ≡ number + accepted p (cut rest)
-
-pub nothing_read : (text : List ℕ) → IsRead text start text 1
-nothing_read text = record { runs = refl; counts = omega arith }
 
 -- after a line that may come
 pub read_on : (text : List ℕ) (p q : Progress) (rest bytes after : List ℕ) (line : Line) (number : ℕ)

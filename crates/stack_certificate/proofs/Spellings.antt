@@ -1,8 +1,8 @@
 -- What parsing a number's spelling gives.
 use Rattle.std.proofs.Common.{◌≡◌, ℕ, zero, suc, ◌^◌, ◌<◌, ◌≤◌, ℤ, pos, negsuc, List, ◌∷◌, Result, Ok, Err, refl, ap}
-use Rattle.std.proofs.Common.{◌∙◌, arith}
+use Rattle.std.proofs.Common.{◌∙◌, arith, of_z, to_z, Bool, true, false, SFits, neg_ℤ}
 use Rattle.std.specs.Fmt.{decimal, signed_decimal}
-use Rattle.std.specs.Str.{IsUtf8, IsAscii}
+use Rattle.std.specs.Str.{IsUtf8, IsAscii, bytes_eq}
 use Rattle.std.specs.Str.Parse.{ParsesSigned, digits_value, AllDigits}
 use Rattle.std.proofs.lemmas.Fmt.{decimal_is_IsNumeral_wide, IsAscii-decimal_wide}
 use Rattle.std.proofs.lemmas.Str.Parse.{IsNumeralModel, numerals_by_value, tells_digits, parse_signed_plain}
@@ -10,11 +10,7 @@ use Rattle.std.proofs.lemmas.Str.Parse.{parse_signed_minus, not_in_digits}
 use Rattle.std.proofs.lemmas.Str.{IsUtf8-from_ascii}
 use Rattle.std.specs.Int.{w128}
 use Rattle.std.specs.Result.{OkIff}
-use Rattle.std.specs.Prelude.{neg_ℤ}
-use Rattle.std.proofs.Common.{of_z, to_z, Bool, true, false}
 use Rattle.std.proofs.lemmas.Int.{to_z-of_z, ints}
-use Rattle.std.proofs.Common.{SFits}
-use Rattle.std.specs.Str.{bytes_eq}
 use Rattle.std.proofs.lemmas.Slice.Eq.{bytes_eq-Decides}
 use Rattle.stack_whole.specs.Whole.{IsFitting}
 use Rattle.stack_certificate.specs.Numbers.{IsNumber}

@@ -1,8 +1,7 @@
 -- What the written check of a list of forces settles: whether they are admissible and balanced, and whether
 -- their scale and their factor have the signs that are asked for.
-use Rattle.std.proofs.Common.{◌≡◌, refl, sym, ap, ◌∙◌, ℕ, ◌+◌, ◌<◌, ℤ, pos, nat_abs, ◌*ℤ◌, Bool, true, false}
-use Rattle.std.proofs.Common.{not, List, length, get_or, subst, arith}
-use Rattle.std.specs.Prelude.{int_le}
+use Rattle.std.proofs.Common.{◌≡◌, refl, sym, ap, ◌∙◌, ℕ, ◌+◌, ◌<◌, ℤ, pos, nat_abs, ◌*ℤ◌, Bool, true, false, not, List}
+use Rattle.std.proofs.Common.{length, get_or, subst, arith, int_le}
 use Rattle.std.specs.Bool.{nat_eq}
 use Rattle.std.proofs.lemmas.List.{length-map}
 use Rattle.stack_algebra.specs.Steps.{steps}
@@ -30,12 +29,10 @@ use Rattle.stack_checker.specs.declared.sign.WantedSign.TheVariants.{Zero}
 use Rattle.stack_checker.specs.declared.sign.Signs.{Signs}
 use Rattle.stack_checker.specs.Signs.{has_sign}
 use Rattle.stack_checker.specs.WrittenTests.{demand}
-use Rattle.stack_checker.specs.WrittenForces.{written_cone, cone_at, written_balance, balance_at}
-use Rattle.stack_checker.specs.WrittenForces.{written_forces}
-use Rattle.stack_checker.proofs.Settled.{Settled, settled_as, settled_demand, settled_both, settled_made}
-use Rattle.stack_checker.proofs.Settled.{settled_sums, settled_each}
-use Rattle.stack_checker.proofs.SignTests.{le_decides, zero_decides, same_decides, HasSign}
-use Rattle.stack_checker.proofs.SignTests.{sign_decides}
+use Rattle.stack_checker.specs.WrittenForces.{written_cone, cone_at, written_balance, balance_at, written_forces}
+use Rattle.stack_checker.proofs.Settled.{Settled, settled_as, settled_demand, settled_both, settled_made, settled_sums}
+use Rattle.stack_checker.proofs.Settled.{settled_each}
+use Rattle.stack_checker.proofs.SignTests.{le_decides, zero_decides, same_decides, HasSign, sign_decides}
 
 module _ (s : Surveyed) where
   cone_settles : (k : ℕ) (p q : Whole) (f : Push) → k < length s.bearings →

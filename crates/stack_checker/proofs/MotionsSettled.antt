@@ -1,9 +1,7 @@
 -- What the written check of a motion settles: whether no bearing resists it, and whether the loads gain power
 -- on it.
-use Rattle.std.proofs.Common.{◌≡◌, refl, sym, ap, ◌∙◌, ℕ, ◌<◌, ℤ, pos, nat_abs, ◌+ℤ◌, ◌*ℤ◌, Bool, true, false}
-use Rattle.std.proofs.Common.{cond, length, Result, Ok, Err}
-use Rattle.std.proofs.Common.{get_or, subst}
-use Rattle.std.specs.Prelude.{int_le}
+use Rattle.std.proofs.Common.{◌≡◌, refl, sym, ap, ◌∙◌, ℕ, ◌<◌, ℤ, pos, nat_abs, ◌+ℤ◌, ◌*ℤ◌, Bool, true, false, cond}
+use Rattle.std.proofs.Common.{length, Result, Ok, Err, get_or, subst, int_le}
 use Rattle.std.specs.Bool.{⊤, nat_eq}
 use Rattle.std.proofs.lemmas.List.{length-map}
 use Rattle.stack_algebra.specs.Steps.{◌>>=◌, steps}
@@ -14,8 +12,7 @@ use Rattle.stack_certificate.specs.Certificate.{ForcesValue, MotionValue}
 use Rattle.stack_equilibrium.specs.declared.types.PowerWide.{PowerWide}
 use Rattle.stack_equilibrium.specs.declared.types.Question.TheVariants.{Dead, Live}
 use Rattle.stack_whole.specs.declared.whole.Whole.{Whole}
-use Rattle.stack_statics.specs.Motions.{opening_of, slide_of, IsStill, KeepsFixedStill, dead_power_of}
-use Rattle.stack_statics.specs.Motions.{live_power_of}
+use Rattle.stack_statics.specs.Motions.{opening_of, slide_of, IsStill, KeepsFixedStill, dead_power_of, live_power_of}
 use Rattle.stack_statics.specs.Certificates.{free_before, still, IsFreeMotion, IsTrueCollapse}
 use Rattle.stack_equilibrium.specs.SurveyScene.{no_bearing, bearing_of, scene_of}
 use Rattle.stack_equilibrium.specs.Held.{move_of_triple, moves_of, move_at}
@@ -31,10 +28,10 @@ use Rattle.stack_equilibrium.specs.declared.velocity.Gap.{Gap}
 use Rattle.stack_checker.specs.declared.powers.Powers.{Powers}
 use Rattle.stack_checker.specs.Signs.{has_sign}
 use Rattle.stack_checker.specs.WrittenTests.{demand, power_or_stop}
-use Rattle.stack_checker.specs.WrittenMotions.{written_resistance, resistance_at, written_motion}
-use Rattle.stack_checker.specs.WrittenMotions.{written_collapse, written_powers, written_meeting, written_bound}
-use Rattle.stack_checker.proofs.Settled.{Settled, settled_as, settled_demand, settled_both, settled_made}
-use Rattle.stack_checker.proofs.Settled.{settled_gap, settled_work, settled_each}
+use Rattle.stack_checker.specs.WrittenMotions.{written_resistance, resistance_at, written_motion, written_collapse}
+use Rattle.stack_checker.specs.WrittenMotions.{written_powers, written_meeting, written_bound}
+use Rattle.stack_checker.proofs.Settled.{Settled, settled_as, settled_demand, settled_both, settled_made, settled_gap}
+use Rattle.stack_checker.proofs.Settled.{settled_work, settled_each}
 use Rattle.stack_checker.proofs.SignTests.{le_decides, same_decides, sign_decides}
 use Rattle.stack_equilibrium.proofs.FreeNumbers.{all_before}
 use Rattle.stack_equilibrium.proofs.SceneRates.{rates_are}

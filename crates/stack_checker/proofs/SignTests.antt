@@ -1,7 +1,6 @@
 -- What the tests of a number decide.
-use Rattle.std.proofs.Common.{◌≡◌, ℕ, ℤ, pos, arith}
+use Rattle.std.proofs.Common.{◌≡◌, ℕ, ℤ, pos, arith, int_le, int_lt}
 use Rattle.std.specs.Bool.{nat_eq, Decides}
-use Rattle.std.specs.Prelude.{int_le, int_lt}
 use Rattle.std.proofs.lemmas.Int.{ints}
 use Rattle.std.proofs.lemmas.Bool.Decides.{Decides-eqb, Decides-int_eq}
 use Rattle.stack_algebra.proofs.Order.{◌≼◌, ◌≺◌}

@@ -1,8 +1,7 @@
 -- The number that a word spells, and the budget.
+use Rattle.std.proofs.Common.{◌≡◌, refl, sym, subst, ◌∙◌, ℕ, ◌<◌, ◌^◌, Bool, true, false, List, Some, None, Result, Ok}
+use Rattle.std.proofs.Common.{Err, arith, ◌&&◌, decimal, nat_lt, if◌then◌else◌}
 use Rattle.stack_algebra.proofs.Conjunctions.{left_true, right_true}
-use Rattle.std.proofs.Common.{◌≡◌, refl, sym, subst, ◌∙◌, ℕ, ◌<◌, ◌^◌, Bool, true, false, List, Some, None}
-use Rattle.std.proofs.Common.{Result, Ok, Err, arith, ◌&&◌}
-use Rattle.std.specs.Prelude.{decimal, nat_lt, if◌then◌else◌}
 use Rattle.std.specs.Str.{bytes_eq}
 use Rattle.std.specs.Str.Parse.{digits_value, ParsesUnsigned}
 use Rattle.std.proofs.lemmas.Bool.{ltb-true, lt-ltb}

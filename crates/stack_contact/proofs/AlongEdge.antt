@@ -1,10 +1,9 @@
 -- Along an edge that separates two polygons: which directions have them on their two sides.
-use native.Mathlib.Omega.{arith}
+use Rattle.std.proofs.Common.{arith, inl, inr}
 use lib.IntN.{ℤ, pos, ◌+ℤ◌, ◌-ℤ◌, ◌*ℤ◌, neg_ℤ, *ℤ_comm}
 use mathlib.Core.List.{List}
 use lib.ListN.{length}
 use mathlib.Core.Path.{◌≡◌, sym, ap, ◌∙◌, subst}
-use mathlib.Core.Logic.{inl, inr}
 use Prim.Native.Nat.{ℕ, ◌<◌, ◌≤◌}
 use Rattle.stack_algebra.proofs.Integers.{sums, expand}
 use Rattle.stack_algebra.proofs.Order.{◌≼◌, ◌≺◌, mul_nonneg, mul_pos, nonneg-cancel}

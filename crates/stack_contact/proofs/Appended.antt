@@ -1,11 +1,10 @@
 -- Items of a list that another one is appended to.
+use Rattle.std.proofs.Common.{arith, ◌++◌, Some, slice_get}
 use mathlib.Core.Path.{◌≡◌, sym, subst}
 use mathlib.Core.Logic.{◌⊎◌, inl, inr}
 use mathlib.Core.List.{List, [], ◌∷◌}
 use Prim.Native.Nat.{ℕ, zero, suc, ◌+◌, ◌<◌}
-use native.Mathlib.Omega.{arith}
 use lib.ListN.{length}
-use Rattle.std.specs.Prelude.{◌++◌, Some, slice_get}
 use Rattle.std.proofs.lemmas.Option.{slice_get_within}
 use Rattle.stack_polygon.specs.declared.point.Point.{Point}
 use Rattle.stack_contact.specs.ContactLists.{PairBefore, ComesBefore}

@@ -1,10 +1,8 @@
 -- What is found grows by the contacts of a pair.
+use Rattle.std.proofs.Common.{inl, inr, arith, ◌++◌, Some, slice_get}
 use mathlib.Core.Path.{◌≡◌, refl, sym, subst, subst₂}
-use mathlib.Core.Logic.{inl, inr}
 use mathlib.Core.List.{List}
 use Prim.Native.Nat.{ℕ, zero, suc}
-use native.Mathlib.Omega.{arith}
-use Rattle.std.specs.Prelude.{◌++◌, Some, slice_get}
 use Rattle.std.proofs.lemmas.Option.{same_Some}
 use Rattle.stack_polygon.specs.Plane.{Triple, IsAt}
 use Rattle.stack_frame.specs.declared.frame.Frame.{Frame}
@@ -16,8 +14,8 @@ use Rattle.stack_contact.specs.declared.types.Touch.{Touch}
 use Rattle.stack_contact.specs.declared.types.Contacts.{Contacts}
 use Rattle.stack_contact.specs.declared.types.Contacts.TheVariants.{Free, Touching, AtOne, AtTwo}
 use Rattle.stack_contact.specs.Bearings.{Bears, Touches}
-use Rattle.stack_contact.specs.ContactLists.{corners_of, friction_between, IsPair, ComesBefore, IsBearing}
-use Rattle.stack_contact.specs.ContactLists.{IsBearingOf, IsTouch, IsTouchOf}
+use Rattle.stack_contact.specs.ContactLists.{corners_of, friction_between, IsPair, ComesBefore, IsBearing, IsBearingOf}
+use Rattle.stack_contact.specs.ContactLists.{IsTouch, IsTouchOf}
 use Rattle.stack_contact.specs.PairContacts.{AreContacts, IsBearingAt, IsTouchAt, IsInOrder}
 use Rattle.stack_contact.specs.Surveyed.{AreApart}
 use Rattle.stack_contact.specs.Found.{bearings_in, touches_in, AreBearingsTo, AreTouchesTo, AreFound}

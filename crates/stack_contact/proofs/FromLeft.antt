@@ -1,14 +1,13 @@
 -- The bodies from left to right: all of them, and in order.
-use Rattle.std.proofs.Common.{◌≡◌, ℕ, ◌+◌, ◌<◌, ℤ, List, [], ◌∷◌, ◌++◌, length, false, ◌⊎◌, inl, inr}
-use Rattle.std.proofs.Common.{sym, ap, ◌∙◌, subst, arith}
+use Rattle.std.proofs.Common.{◌≡◌, ℕ, ◌+◌, ◌<◌, ℤ, List, ◌∷◌, ◌++◌, length, false, ◌⊎◌, inl, inr, sym, ap, ◌∙◌, subst}
+use Rattle.std.proofs.Common.{arith, Ordering}
 use Rattle.std.specs.List.{All, Contains}
 use Rattle.std.specs.List.Sorted.{IsPermutation, IsSorted}
-use Rattle.std.proofs.Common.{Ordering}
 use Rattle.std.specs.Ordering.{nat_cmp, int_cmp, ordering_then, is_lt}
 use Rattle.std.specs.Cmp.{IsTotalOrder, int_cmp_total, nat_cmp_total, on_total, then_total}
 use Rattle.std.proofs.lemmas.Int.{ints}
 use Rattle.std.proofs.lemmas.List.{get_or_default}
-use Rattle.std.proofs.lemmas.List.Elements.{All-push, All-nil, Contains-push, Contains-append_left}
+use Rattle.std.proofs.lemmas.List.Elements.{All-push, Contains-push, Contains-append_left}
 use Rattle.std.proofs.lemmas.List.Sorted.{All-permutation, Contains-permutation, sorted_far, ranks_by}
 use native.Mathlib.Decide.{ℕ_discrete}
 use Rattle.stack_algebra.specs.IntegerOrder.{◌≼◌}
@@ -31,9 +30,6 @@ pub record ArePlacedTo (s : Structure) (n : ℕ) (bs : List Placed) : Type 0 whe
   pub all : (i : ℕ) → i < n → (b : Placed) × (Contains bs b × (b.body ≡ i))
 
 module _ (s : Structure) where
-  pub none-placed : ArePlacedTo s 0 []
-  none-placed = record { each = All-nil (IsPlacedBody s); all = λ i l. absurd (omega arith) }
-
   pub one-placed : (i : ℕ) (P : List Point) (a : Span) (b : Placed) → i < length s.bodies → P ≡ corners_of s i
       → IsPolygon P → IsSpanOf P a → b.x0 ≡ a.x0 → b.body ≡ i → IsPlacedBody s b
   one-placed i P a b l e p h x f = record {

@@ -1,12 +1,11 @@
 -- A structure has one survey: its lists of contacts are told by their items, and their items by their points.
+use Rattle.std.proofs.Common.{arith, Some, slice_get, Ok, Err}
 use mathlib.Core.Path.{◌≡◌, refl, sym, ap, ◌∙◌, subst}
 use mathlib.Core.Logic.{◌⊎◌, inl, inr}
 use mathlib.Core.List.{List}
 use Prim.Native.Nat.{ℕ, zero, suc, ◌<◌, ◌≤◌}
-use native.Mathlib.Omega.{arith}
 use lib.IntN.{ℤ, pos, ◌*ℤ◌}
 use lib.ListN.{length}
-use Rattle.std.specs.Prelude.{Some, slice_get, Ok, Err}
 use Rattle.std.proofs.lemmas.Int.{ints}
 use Rattle.stack_polygon.specs.declared.point.Point.{Point}
 use Rattle.stack_polygon.specs.Plane.{IsAt}

@@ -1,7 +1,6 @@
 -- The pairs by first and second body, each once.
-use Rattle.std.proofs.Common.{◌≡◌, List, Bool, true, Ordering, Less, Equal, Greater}
-use Rattle.std.proofs.Common.{inl, inr, refl, sym, subst, arith}
-use Rattle.std.specs.Prelude.{◌&&◌, nat_eq}
+use Rattle.std.proofs.Common.{◌≡◌, List, Bool, true, Ordering, Less, Equal, Greater, inl, inr, refl, sym, subst, arith}
+use Rattle.std.proofs.Common.{◌&&◌, nat_eq}
 use Rattle.std.specs.List.{dedup}
 use Rattle.std.specs.List.Sorted.{IsPermutation, IsSorted, IsStrictlySortedBy}
 use Rattle.std.specs.Ordering.{nat_cmp, ordering_then, eq_by_cmp}

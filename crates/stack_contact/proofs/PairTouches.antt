@@ -1,11 +1,10 @@
 -- Where a pair touches.
-use native.Mathlib.Omega.{arith}
+use Rattle.std.proofs.Common.{arith, ◌↔◌}
 use lib.IntN.{ℤ, pos, ◌*ℤ◌, *ℤ_comm}
 use mathlib.Core.List.{List}
 use lib.ListN.{length}
 use mathlib.Core.Path.{◌≡◌, sym, ◌∙◌}
 use Prim.Native.Nat.{ℕ, ◌≤◌}
-use Rattle.std.specs.Prelude.{◌↔◌}
 use Rattle.std.proofs.lemmas.Int.{ints}
 use Rattle.stack_algebra.proofs.Order.{◌≺◌}
 use Rattle.stack_polygon.specs.declared.point.Point.{Point}

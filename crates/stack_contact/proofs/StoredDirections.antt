@@ -1,5 +1,5 @@
 -- What 64 bits keep of the direction of an edge.
-use native.Mathlib.Omega.{arith}
+use Rattle.std.proofs.Common.{arith, w64, to_z, of_z}
 use lib.IntN.{ℤ, pos, negsuc, ◌+ℤ◌, ◌-ℤ◌, ◌*ℤ◌}
 use mathlib.Core.List.{List}
 use lib.ListN.{length}
@@ -15,8 +15,6 @@ use Rattle.stack_overlap.specs.Forms.{square}
 use Rattle.stack_overlap.proofs.ByForms.{convex-form}
 use Rattle.stack_overlap.proofs.Identities.{square-reversed}
 use Rattle.stack_overlap.proofs.Edges.{edge_long}
-use mir.Syntax.{w64}
-use mir.Val.{to_z, of_z}
 use Rattle.stack_polygon.specs.Limits.{IsInRange, IsPolygon}
 use Rattle.stack_polygon.proofs.Stored.{near-stored}
 use Rattle.stack_frame.specs.Directions.{IsFrameOf}

@@ -1,9 +1,8 @@
 -- What the sweep has looked at grows body by body.
-use Rattle.std.proofs.Common.{◌≡◌, ℕ, zero, suc, ◌+◌, ◌<◌, ◌≤◌, ℤ, List, [], ◌∷◌, ◌++◌, length, Bool, true, false}
-use Rattle.std.proofs.Common.{◌⊎◌, inl, inr, refl, sym, ap, ◌∙◌, subst, subst₂, arith}
-use Rattle.std.specs.Prelude.{◌&&◌}
+use Rattle.std.proofs.Common.{◌≡◌, ℕ, zero, suc, ◌+◌, ◌<◌, ◌≤◌, ℤ, List, ◌∷◌, ◌++◌, length, Bool, true, false, ◌⊎◌, inl}
+use Rattle.std.proofs.Common.{inr, refl, sym, ap, ◌∙◌, subst, subst₂, arith, ◌&&◌}
 use Rattle.std.specs.List.{Contains}
-use Rattle.std.proofs.lemmas.List.Elements.{All-push, All-nil, Contains-push, Contains-append_left}
+use Rattle.std.proofs.lemmas.List.Elements.{All-push, Contains-push, Contains-append_left}
 use native.Mathlib.Decide.{ℕ_discrete}
 use Rattle.stack_algebra.specs.IntegerOrder.{◌≼◌, ◌≺◌}
 use Rattle.stack_algebra.proofs.Integers.{sums}
@@ -21,22 +20,9 @@ use Rattle.stack_contact.specs.NearPairs.{IsSwept, AreSwept, AreNearPairs}
 use Rattle.stack_contact.proofs.FoundSteps.{before-next}
 use Rattle.stack_contact.proofs.FarBodies.{far-back, far-apart, far-beyond}
 
-both-back : (a b : Bool) → (a && b) ≡ true → (b && a) ≡ true
-both-back true true h = refl
-both-back true false h = absurd (cc h)
-both-back false b h = absurd (cc h)
-
 module _ (s : Structure) (one other : ℕ) (ps : List Pair) where
   same : IsListed s ps one other → IsListed s ps other one → IsSwept s one other ps ps
   same h k = record { pairs = λ a. a; keeps = λ p c. c; forth = h; back = k }
-
-  -- two fixed bodies are no pair
-  pub both-fixed : ((body_of s one).fixed && (body_of s other).fixed) ≡ true → IsSwept s one other ps ps
-  both-fixed e = same (λ p. absurd (never e p.not_both_fixed))
-      (λ p. absurd (never (both-back (body_of s one).fixed (body_of s other).fixed e) p.not_both_fixed))
-    where
-      never : {t : Bool} → t ≡ true → t ≡ false → ⊥
-      never e f = absurd (cc (sym e ∙ f))
 
   pub spans-apart : (P Q : List Point) → P ≡ corners_of s one → Q ≡ corners_of s other → IsPolygon P
       → IsPolygon Q → (a b : Span) → IsSpanOf P a → IsSpanOf Q b → AreDisjoint a b → IsSwept s one other ps ps
@@ -96,17 +82,6 @@ module _ (s : Structure) (bs : List Placed) where
       | inr f ↦ λ q. inl (far-back s (placed_body bs a) (placed_body bs b) f)
     ];
   }
-
-  pub first-swept : AreSwept s bs 0 (suc 0) []
-  first-swept = record {
-    pairs = All-nil (λ (p : Pair). IsPair s p.first p.second);
-    forth = λ a b l o p. absurd (none a b l p);
-    back = λ a b l o p. absurd (none a b l p);
-  }
-    where
-      none : (a b : ℕ) → a < b → PairBefore a b 0 (suc 0) → ⊥
-      none a b l (inl m) = omega arith
-      none a b l (inr (e, m)) = omega arith
 
   pub next-swept : (k m : ℕ) (ps qs : List Pair) → AreSwept s bs k m ps
       → IsSwept s (placed_body bs k) (placed_body bs m) ps qs → AreSwept s bs k (m + 1) qs

@@ -1,8 +1,8 @@
 -- The bearings of a survey are within the limits: their points lie in polygons, their tangents run along edges,
 -- and their friction is that of a material.
 use Rattle.std.proofs.Common.{◌≡◌, refl, sym, ap, subst, ◌∙◌, ℕ, zero, suc, ◌*◌, ◌<◌, ◌≤◌, ℤ, pos, negsuc, ◌+ℤ◌, ◌-ℤ◌}
-use Rattle.std.proofs.Common.{◌*ℤ◌, nat_abs, List, length, ◌⊎◌, inl, inr, Bool, true, false, arith}
-use Rattle.std.specs.Prelude.{int_le, if◌then◌else◌}
+use Rattle.std.proofs.Common.{◌*ℤ◌, nat_abs, List, length, ◌⊎◌, inl, inr, Bool, true, false, arith, int_le}
+use Rattle.std.proofs.Common.{if◌then◌else◌, Option, Some, None, IfSome}
 use Rattle.std.proofs.lemmas.Int.{ints}
 use Rattle.std.proofs.Math.Nat.{le-mul_of_pos_right}
 use Rattle.stack_algebra.proofs.Integers.{sums, expand}
@@ -18,8 +18,7 @@ use Rattle.stack_frame.specs.Directions.{IsLowest, IsFrameOf, IsParallelInSense}
 use Rattle.stack_frame.specs.Cones.{IsCoefficient, cone, lesser_of, lowest}
 use Rattle.stack_frame.proofs.LowestTerms.{abs-times}
 use Rattle.stack_frame.proofs.LesserCones.{lesser-first, lesser-second, lowest-is}
-use Rattle.std.specs.Prelude.{Option, Some, None, IfSome}
-use Rattle.stack_model.specs.Structure.{joint_terms, AreTerms}
+use Rattle.stack_model.specs.Structure.{joint_terms, AreTerms, Structure, body_of}
 use Rattle.stack_model.proofs.Joined.{terms_between, terms_limits}
 use Rattle.stack_frame.proofs.Senses.{frames-by-parallels, lowest-long}
 use Rattle.stack_overlap.specs.Separation.{IsCommon, Separates}
@@ -27,7 +26,6 @@ use Rattle.stack_overlap.specs.Forms.{LinearForm, value, at_corner, square}
 use Rattle.stack_overlap.proofs.ByForms.{IsConvex, IsInside, convex-form, inside-form, outer-form}
 use Rattle.stack_overlap.proofs.Edges.{edge_long}
 use Rattle.stack_overlap.proofs.Support.{support, next_below}
-use Rattle.stack_model.specs.Structure.{Structure, body_of}
 use Rattle.stack_model.specs.Sound.{IsSound}
 use Rattle.stack_contact.specs.declared.types.Bearing.{Bearing}
 use Rattle.stack_contact.specs.Bearings.{IsParallel, IsAlong, Bears, HasSecond, IsCornerOnEdge, IsLoneCorner}

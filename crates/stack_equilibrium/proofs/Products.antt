@@ -5,8 +5,7 @@ use mir.Syntax.{w64, w128}
 use Rattle.std.proofs.lemmas.Int.{ints, to_z-of_z, fits_signed_mul}
 use Rattle.stack_algebra.proofs.Integers.{sums, expand}
 use Rattle.stack_algebra.proofs.Order.{mul-bounds}
-use Rattle.stack_polygon.specs.Sizes.{IsStep}
-use Rattle.stack_polygon.specs.Sizes.{IsThreeCoordinates, IsWithin}
+use Rattle.stack_polygon.specs.Sizes.{IsStep, IsThreeCoordinates, IsWithin}
 use Rattle.stack_equilibrium.specs.LoadSizes.{IsForce, IsTurn, IsMoment}
 use Rattle.stack_equilibrium.specs.Columns.{IsRate, IsShare}
 

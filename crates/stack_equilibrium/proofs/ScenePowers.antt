@@ -1,7 +1,6 @@
 -- Where no number of a written power is too wide, it is the work of the scene's loads.
-use Rattle.std.proofs.Common.{◌≡◌, refl, sym, ap, ◌∙◌, ℕ, ◌+◌, ℤ, pos, ◌+ℤ◌, ◌*ℤ◌, Bool, true, false, cond, not}
-use Rattle.std.proofs.Common.{length, get_or, Result, Ok, Err, arith}
-use Rattle.std.specs.Prelude.{IfOk}
+use Rattle.std.proofs.Common.{◌≡◌, refl, sym, ap, ◌∙◌, ℕ, ◌+◌, ℤ, pos, ◌+ℤ◌, ◌*ℤ◌, Bool, true, false, cond, not, length}
+use Rattle.std.proofs.Common.{get_or, Result, Ok, Err, arith, IfOk}
 use Rattle.std.proofs.Math.ListN.{get_or-map}
 use Rattle.stack_algebra.specs.Steps.{◌>>=◌}
 use Rattle.stack_algebra.specs.Sums.{sum_to}

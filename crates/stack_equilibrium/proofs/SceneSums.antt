@@ -1,7 +1,6 @@
 -- The plain sums of a block are the sums of its body in the survey's scene.
-use Rattle.std.proofs.Common.{◌≡◌, sym, ap, ◌∙◌, ℕ, ℤ, pos, ◌+ℤ◌, ◌-ℤ◌, ◌*ℤ◌, neg_ℤ, List, length, get_or, map}
-use Rattle.std.proofs.Common.{Result, Ok, Err, arith}
-use Rattle.std.specs.Prelude.{IfOk}
+use Rattle.std.proofs.Common.{◌≡◌, sym, ap, ◌∙◌, ℕ, ℤ, pos, ◌+ℤ◌, ◌-ℤ◌, ◌*ℤ◌, neg_ℤ, List, length, get_or, map, Result}
+use Rattle.std.proofs.Common.{Ok, Err, arith, IfOk}
 use Rattle.std.proofs.Math.ListN.{get_or-map}
 use Rattle.stack_algebra.specs.Sums.{sum_to}
 use Rattle.stack_algebra.proofs.Integers.{expand, sums}

@@ -1,10 +1,9 @@
 -- The sway's load is small. Twice the area of a triangle in range is at most 4 * 10^12: with three heights, each x
 -- counts for the difference of the other two, and the three differences are together at most 4,000,000.
-use Rattle.std.proofs.Common.{◌≡◌, sym, subst, ◌∙◌, ℕ, suc, ◌+◌, ◌*◌, ◌<◌, ◌≤◌, ℤ, pos, ◌+ℤ◌, ◌-ℤ◌}
-use Rattle.std.proofs.Common.{◌*ℤ◌, neg_ℤ, nat_abs, List, [], ◌∷◌, length, get_or, arith, to_z, of_z, SFits, lit<}
+use Rattle.std.proofs.Common.{◌≡◌, sym, subst, ◌∙◌, ℕ, suc, ◌+◌, ◌*◌, ◌<◌, ◌≤◌, ℤ, pos, ◌+ℤ◌, ◌-ℤ◌, ◌*ℤ◌, neg_ℤ}
+use Rattle.std.proofs.Common.{nat_abs, List, [], ◌∷◌, length, get_or, arith, to_z, of_z, SFits, lit<, mul-le-mul_right}
 use mir.Syntax.{w128}
 use Rattle.std.proofs.lemmas.Int.{ints, unsigned_abs-mul, to_z-of_z, fits_signed_mul}
-use native.Mathlib.Nat.{mul-le-mul_right}
 use Rattle.stack_algebra.proofs.Integers.{sums, expand}
 use Rattle.stack_algebra.proofs.Order.{◌≼◌, mul-bounds}
 use Rattle.stack_polygon.specs.declared.point.Point.{Point}

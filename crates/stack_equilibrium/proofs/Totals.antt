@@ -3,7 +3,7 @@ use Rattle.std.proofs.Common.{◌≡◌, ap, ◌∙◌, ℕ, suc, ◌+◌, ◌�
 use Rattle.std.proofs.lemmas.Int.{ints}
 use Rattle.stack_statics.specs.declared.wrench.Wrench.{Wrench}
 use Rattle.stack_statics.specs.Loads.{wrench_sum, total_of}
-use Rattle.stack_equilibrium.specs.LoadSizes.{AreLoads, IsSmall}
+use Rattle.stack_equilibrium.specs.LoadSizes.{AreLoads}
 
 pub one_more : (n : ℕ) (f : ℕ → Wrench) (total one w : Wrench) → total ≡ total_of n f → one ≡ f n →
     w ≡ wrench_sum total one → w ≡ total_of (n + 1) f
@@ -18,11 +18,4 @@ within_256 n w l h = record {
   fx = record { low = omega (arith, ints, h.fx.low); high = omega (arith, ints, h.fx.high) };
   fy = record { low = omega (arith, ints, h.fy.low); high = omega (arith, ints, h.fy.high) };
   m = record { low = omega (arith, ints, h.m.low); high = omega (arith, ints, h.m.high) };
-}
-
-pub loads_are_small : (w : Wrench) → AreLoads 256 w → IsSmall w
-loads_are_small w h = record {
-  fx = omega (arith, ints, h.fx.low, h.fx.high);
-  fy = omega (arith, ints, h.fy.low, h.fy.high);
-  m = omega (arith, ints, h.m.low, h.m.high);
 }

@@ -1,6 +1,5 @@
 -- The end of a run with its table, as an end and a last table.
-use Rattle.std.proofs.Common.{◌≡◌, refl, sym, ap, subst, ◌∙◌, ℕ, ◌<◌, true, arith, Result}
-use Rattle.std.specs.Prelude.{IfOk, IfErr, ltb}
+use Rattle.std.proofs.Common.{◌≡◌, refl, sym, ap, subst, ◌∙◌, ℕ, ◌<◌, true, arith, Result, IfOk, IfErr, ltb}
 use Rattle.std.proofs.lemmas.Bool.{lt-ltb}
 use Rattle.stack_algebra.specs.Fraction.{Fraction}
 use Rattle.stack_algebra.proofs.OrderedFractions.{ordered_fractions}
@@ -27,9 +26,8 @@ use Rattle.stack_tableau.specs.declared.end_kind.EndKind.TheVariants as kinds
 use Rattle.stack_tableau.specs.EndKinds.{end_at}
 use Rattle.stack_extract.specs.declared.types.ExtractError.{ExtractError}
 use Rattle.stack_extract.specs.Places.{TellsPlace, forces_place, ray_place}
-use Rattle.stack_extract.specs.Ends.{IsEndOfSurvey, IsEndOfSome, IsLastOf, IsLastOfSome, kind_of, ReadsRay}
-use Rattle.stack_extract.specs.Ends.{HasForces, HasMotion, HasRay, entering_of, AreForcesOf, IsRayOf, IsMotionOf}
-use Rattle.stack_extract.specs.Ends.{motion_place}
+use Rattle.stack_extract.specs.Ends.{IsEndOfSurvey, IsEndOfSome, IsLastOf, IsLastOfSome, kind_of, ReadsRay, HasForces}
+use Rattle.stack_extract.specs.Ends.{HasMotion, HasRay, entering_of, AreForcesOf, IsRayOf, IsMotionOf, motion_place}
 
 same_kind : {V : Type 0} {number : Ghosts V} (e : Ended V number)
     → end_at (kind_of e) (table_of (last_of e)) ≡ ended_as e

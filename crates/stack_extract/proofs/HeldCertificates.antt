@@ -9,8 +9,7 @@ use Rattle.stack_equilibrium.specs.declared.types.Question.{Question}
 use Rattle.stack_equilibrium.specs.declared.types.Question.TheVariants.{Dead, Live}
 use Rattle.stack_statics.specs.Scene.{Move, Scene, IsProper}
 use Rattle.stack_statics.specs.Balance.{Carries}
-use Rattle.stack_statics.specs.Certificates.{SceneForces, IsTrueStands, IsTrueCollapse, IsTrueGreatest}
-use Rattle.stack_statics.specs.Certificates.{IsTrueUnbounded}
+use Rattle.stack_statics.specs.Certificates.{SceneForces, IsTrueStands, IsTrueCollapse, IsTrueGreatest, IsTrueUnbounded}
 use Rattle.stack_equilibrium.specs.Held.{part_of_pair, forces_of, move_of_triple, moves_of}
 use Rattle.stack_equilibrium.specs.SurveyScene.{scene_of}
 use Rattle.stack_statics.proofs.CertificateLaws.{stands_is_carried}

@@ -1,7 +1,6 @@
 -- The first bearing whose parts are too wide, as a loop finds it.
-use Rattle.std.proofs.Common.{◌≡◌, refl, sym, ap, ◌∙◌, ℕ, ◌+◌, ◌*◌, ◌<◌, ◌≤◌, Bool, true, false, not}
-use Rattle.std.proofs.Common.{◌&&◌, List, [], ◌∷◌, ◌++◌, length, get_or, Some, None, Result, Ok, Err, arith}
-use Rattle.std.specs.Prelude.{if◌then◌else◌}
+use Rattle.std.proofs.Common.{◌≡◌, refl, sym, ap, ◌∙◌, ℕ, ◌+◌, ◌*◌, ◌<◌, Bool, true, false, not, ◌&&◌, List, ◌∷◌, ◌++◌}
+use Rattle.std.proofs.Common.{length, get_or, Some, None, Result, Ok, Err, if◌then◌else◌}
 use lib.IntN.{ℤ, ◌+ℤ◌, ◌-ℤ◌, ◌*ℤ◌}
 use Rattle.stack_algebra.specs.Search.{first, only_if}
 use Rattle.stack_algebra.specs.Steps.{◌>>=◌}
@@ -19,7 +18,7 @@ use Rattle.stack_extract.specs.WholeLists.{amount}
 use Rattle.stack_extract.specs.Certified.{pair_between, pair_at}
 use Rattle.stack_extract.specs.declared.types.Numbers.{Numbers}
 use Rattle.stack_extract.specs.declared.types.EndStep.TheVariants.{Part}
-use Rattle.stack_extract.specs.Places.{extract_place, part_fits, part_spot, part_place, AreParts}
+use Rattle.stack_extract.specs.Places.{extract_place, part_fits, part_spot, part_place}
 use Rattle.stack_extract.specs.WrittenPart.{written_part}
 use Rattle.stack_extract.proofs.TableReads.{grown}
 
@@ -120,9 +119,6 @@ module _ (l : Numbers) (bs : List Bearing) (zs : List ℤ) where
     pub parts : ps ≡ listed k (pair_at bs zs)
     pub fit : first k (part_spot l bs zs) ≡ None
 
-  pub no_parts : PartsSoFar 0 []
-  no_parts = record { parts = refl; fit = refl }
-
   module _ (k : ℕ) (z : Bearing) (w v : Number) (ps : List (ℤ × ℤ)) (h : IsBearingAt bs zs k z w v)
       (f : PartsSoFar k ps) where
     spot_is : (b : Bool) → part_fits z w.value v.value ≡ b →
@@ -142,10 +138,3 @@ module _ (l : Numbers) (bs : List Bearing) (zs : List ℤ) where
         ≡ Some (extract_place l Part k)
     part_too_wide x e = first_found (length bs) k (part_spot l bs zs) (extract_place l Part k) h.within f.fit
         (spot_is false (part_wide z w v x e))
-
-  pub all_parts : (k : ℕ) (ps : List (ℤ × ℤ)) → length bs ≤ k → k ≤ length bs → PartsSoFar k ps →
-      AreParts l bs zs ps
-  all_parts k ps a b f = let end : length bs ≡ k = omega (arith, a, b) in record {
-    fits = ap (λ n. first n (part_spot l bs zs)) end ∙ f.fit;
-    parts = f.parts ∙ ap (λ n. listed n (pair_at bs zs)) (sym end);
-  }

@@ -9,8 +9,7 @@ use Rattle.stack_algebra.specs.Fraction.{Fraction}
 use Rattle.stack_algebra.proofs.Integers.{expand, sums}
 use Rattle.stack_algebra.proofs.Ring.{four}
 use Rattle.stack_algebra.proofs.Listed.{listed}
-use Rattle.stack_algebra.proofs.Fractions.{of, mul}
-use Rattle.stack_algebra.proofs.Fractions.{fractions}
+use Rattle.stack_algebra.proofs.Fractions.{of, mul, fractions}
 use Rattle.stack_algebra.proofs.OrderedFractions.{ordered_fractions}
 use Rattle.stack_rational.specs.CommonScale.{scale_of}
 use Rattle.stack_table.specs.Table.{Tabled, plain}

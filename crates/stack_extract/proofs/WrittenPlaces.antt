@@ -1,14 +1,12 @@
 -- The first place that is too wide, as a loop finds it.
-use Rattle.std.proofs.Common.{◌≡◌, refl, sym, ap, subst, ◌∙◌, ℕ, zero, suc, ◌+◌, ◌^◌, ◌<◌, ◌≤◌, true, false}
-use Rattle.std.proofs.Common.{not}
-use Rattle.std.proofs.Common.{List, [], ◌∷◌, ◌++◌, map, length, get_or, take, Option, Some, None, arith}
-use Rattle.std.specs.Prelude.{nat_le, nat_lt, unsigned_abs}
+use Rattle.std.proofs.Common.{◌≡◌, refl, sym, ap, subst, ◌∙◌, ℕ, zero, suc, ◌+◌, ◌^◌, ◌<◌, ◌≤◌, true, false, not, List}
+use Rattle.std.proofs.Common.{◌∷◌, ◌++◌, map, length, get_or, take, Option, Some, None, arith, nat_le, nat_lt}
+use Rattle.std.proofs.Common.{unsigned_abs, to_z, of_z}
 use Rattle.std.proofs.lemmas.Bool.{lt-ltb, le-ltb, le-leb, lt-leb}
 use Rattle.std.proofs.lemmas.List.{take_more}
 use Rattle.std.proofs.lemmas.Int.{ints}
 use lib.IntN.{ℤ, pos, nat_abs}
 use mir.Syntax.{w128}
-use mir.Val.{to_z, of_z}
 use Rattle.stack_algebra.specs.IntegerOrder.{◌≺◌}
 use Rattle.stack_algebra.specs.Fraction.{Fraction}
 use Rattle.stack_algebra.specs.Search.{or_else, first, only_if}
@@ -32,8 +30,7 @@ use Rattle.stack_extract.specs.declared.types.ExtractPlace.{ExtractPlace}
 use Rattle.stack_extract.specs.declared.types.ExtractError.{ExtractError}
 use Rattle.stack_extract.specs.declared.types.ExtractError.TheVariants.{TooWide}
 use Rattle.stack_extract.specs.Places.{extract_place, TellsPlace, scale_spot, whole_spot, list_place, AreWhole}
-use Rattle.stack_extract.specs.Places.{shift_spot}
-use Rattle.stack_extract.specs.Places.{shift_place}
+use Rattle.stack_extract.specs.Places.{shift_spot, shift_place}
 
 -- an error at a place tells it
 pub told : (e : ExtractError) (p : ExtractPlace) (o : Option ExtractPlace) → e ≡ TooWide p → o ≡ Some p →
@@ -120,9 +117,6 @@ module _ (l : Numbers) (xs : List Fraction) where
   pub record AreSoFar (i : ℕ) (zs : List ℤ) : Type 0 where
     pub numbers : zs ≡ map (times_scale (scale_of xs)) (take i xs)
     pub fit : first i (whole_spot l xs) ≡ None
-
-  pub none_yet : AreSoFar 0 []
-  none_yet = record { numbers = refl; fit = refl }
 
   pub one_more : (i : ℕ) (zs us : List ℤ) (x : Fraction) (s n : ℤ) → i < length xs → x ≡ get_or xs i x →
       s ≡ pos (scale_of xs) → Within widest (times_scale (unsigned_abs s) x) → n ≡ times_scale

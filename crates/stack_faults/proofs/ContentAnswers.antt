@@ -1,9 +1,7 @@
 -- What content as a whole answers.
-use Rattle.std.proofs.Common.{◌≡◌, sym, ap, ◌∙◌, subst, ℕ, Bool, true, false, not, List, [], ◌∷◌, length}
-use Rattle.std.proofs.Common.{Option, Some, None, refl, ℤ, map}
-use Rattle.std.specs.Prelude.{is_none}
-use Rattle.std.proofs.Common.{Result, Ok, Err}
-use Rattle.std.specs.Prelude.{nat_le, nat_lt, ⊤}
+use Rattle.std.proofs.Common.{◌≡◌, sym, ap, ◌∙◌, subst, ℕ, Bool, true, false, not, List, [], ◌∷◌, length, Option, Some}
+use Rattle.std.proofs.Common.{None, refl, ℤ, map, Result, Ok, Err}
+use Rattle.std.specs.Prelude.{is_none, nat_le, nat_lt, ⊤}
 use Rattle.stack_algebra.specs.Steps.{◌>>=◌, steps}
 use Rattle.stack_algebra.specs.Search.{or_else}
 use Rattle.stack_model.specs.declared.places.What.{What}
@@ -17,13 +15,12 @@ use Rattle.stack_model.specs.Structure.{NamedMaterial, NamedBody, Structure, str
 use Rattle.stack_model.specs.Parts.{PartLists}
 use Rattle.stack_model.specs.Limits.{most_materials, most_joints, most_bodies, most_loads, is_version, sway_of}
 use Rattle.stack_model.specs.Relisted.{joint_listed}
-use Rattle.stack_model.specs.Content.{unless, ranged, at_most, sway_listed, head_of, add_material, add_joint}
-use Rattle.stack_model.specs.Content.{add_block, add_load, joints_of, bodies_of, loads_of}
-use Rattle.stack_model.specs.Content.{content_of}
+use Rattle.stack_model.specs.Content.{unless, ranged, at_most, sway_listed, head_of, add_material, add_joint, add_block}
+use Rattle.stack_model.specs.Content.{add_load, joints_of, bodies_of, loads_of, content_of}
 use Rattle.stack_faults.specs.FaultLists.{faults_where, earliest, answered_fault}
 use Rattle.stack_faults.specs.ContentFaults.{number_faults, faults_by, causes_of_material, causes_of_block}
-use Rattle.stack_faults.specs.ContentFaults.{causes_of_load, material_faults, block_faults, load_faults}
-use Rattle.stack_faults.specs.ContentFaults.{is_bad_sway, head_faults, joint_faults, causes_of_joint, content_faults}
+use Rattle.stack_faults.specs.ContentFaults.{causes_of_load, material_faults, block_faults, load_faults, is_bad_sway}
+use Rattle.stack_faults.specs.ContentFaults.{head_faults, joint_faults, causes_of_joint, content_faults}
 use Rattle.stack_faults.specs.AsListed.{IsSwayOf, IsStructureOf, StructureAsListed}
 use Rattle.stack_faults.proofs.Firsts.{Answers, answers_fault, bind_told, earliest-append, earliest_five}
 use Rattle.stack_faults.proofs.Names.{over_limit}

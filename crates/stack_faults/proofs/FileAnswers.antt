@@ -1,8 +1,6 @@
 -- What a table answers as a whole, and a file's bytes.
-use Rattle.std.proofs.Common.{◌≡◌, refl, sym, ap, ◌∙◌, ℕ, zero, suc, Bool, true, false, List, [], ◌∷◌}
-use Rattle.std.proofs.Common.{◌++◌, map, length}
-use Rattle.std.proofs.Common.{Option, Some, None, Result, Ok, Err, option_map}
-use Rattle.std.specs.Prelude.{if◌then◌else◌, nat_lt, not}
+use Rattle.std.proofs.Common.{◌≡◌, refl, sym, ap, ◌∙◌, ℕ, zero, suc, Bool, true, false, List, [], ◌∷◌, ◌++◌, map}
+use Rattle.std.proofs.Common.{length, Option, Some, None, Result, Ok, Err, option_map, if◌then◌else◌, nat_lt, not}
 use Rattle.std.specs.Str.{is_utf8}
 use Rattle.std.proofs.lemmas.List.{map-append}
 use Rattle.toml.specs.Data.{Members}
@@ -24,12 +22,11 @@ use Rattle.stack_reader.specs.declared.errors.ReadError.TheVariants.{NotToml, Mo
 use Rattle.stack_reader.specs.Shape.{parts_of_document}
 use Rattle.stack_reader.specs.Reading.{parsed, document_table, from_content, within_file, model_of, structure_of}
 use Rattle.stack_faults.specs.FaultLists.{faults_where, faults_below, earliest, answered_fault}
-use Rattle.stack_faults.specs.ContentFaults.{number_faults, causes_of_material, causes_of_block}
-use Rattle.stack_faults.specs.ContentFaults.{causes_of_load}
-use Rattle.stack_faults.specs.ContentFaults.{material_faults, block_faults, load_faults, content_faults}
-use Rattle.stack_faults.specs.ContentFaults.{faults_by, is_bad_sway, head_faults, joint_faults, causes_of_joint}
-use Rattle.stack_faults.specs.TableFaults.{shape_faults, faults_of_listed, table_faults}
-use Rattle.stack_faults.specs.TableFaults.{faults_of_document, file_faults}
+use Rattle.stack_faults.specs.ContentFaults.{number_faults, causes_of_material, causes_of_block, causes_of_load}
+use Rattle.stack_faults.specs.ContentFaults.{material_faults, block_faults, load_faults, content_faults, faults_by}
+use Rattle.stack_faults.specs.ContentFaults.{is_bad_sway, head_faults, joint_faults, causes_of_joint}
+use Rattle.stack_faults.specs.TableFaults.{shape_faults, faults_of_listed, table_faults, faults_of_document}
+use Rattle.stack_faults.specs.TableFaults.{file_faults}
 use Rattle.stack_faults.proofs.Firsts.{earliest-append}
 use Rattle.stack_faults.proofs.ContentAnswers.{content_first}
 use Rattle.stack_faults.proofs.TableAnswers.{shape_told}

@@ -1,8 +1,6 @@
 -- The outline of a list of points, by cases on its tests.
-use Rattle.std.proofs.Common.{◌≡◌, ◌≢◌, refl, ap, ℕ, zero, suc, ◌<◌, Bool, true, false, ◌&&◌, List}
-use Rattle.std.proofs.Common.{length, inl, inr, arith}
-use Rattle.std.proofs.Common.{Ok, Err}
-use Rattle.std.specs.Prelude.{MatchResult, if◌then◌else◌}
+use Rattle.std.proofs.Common.{◌≡◌, ◌≢◌, refl, ap, ℕ, zero, suc, ◌<◌, Bool, true, false, ◌&&◌, List, length, inl, inr}
+use Rattle.std.proofs.Common.{arith, Ok, Err, MatchResult, if◌then◌else◌}
 use Rattle.stack_algebra.specs.Search.{next_round}
 use Rattle.stack_algebra.proofs.Search.{IsAfter, next_round-cases}
 use Rattle.stack_polygon.specs.declared.point.Point.{Point}
@@ -10,8 +8,7 @@ use Rattle.stack_polygon.specs.Corners.{reversed, IsStrictlyConvex}
 use Rattle.stack_polygon.specs.Outlines.{all_below, first_failing, is_clear, is_convex}
 use Rattle.stack_polygon.specs.Admission.{IsFirstUnclear}
 use Rattle.stack_polygon.proofs.Tested.{each_below, clear_from, to_clear, convex_from, to_convex}
-use Rattle.stack_faults.specs.Outline.{IsOutlineOf, HasNoOutline, OutlineByMeaning}
-use Rattle.stack_faults.specs.Outline.{FewPointsAreTheirOutline}
+use Rattle.stack_faults.specs.Outline.{IsOutlineOf, HasNoOutline, OutlineByMeaning, FewPointsAreTheirOutline}
 
 -- i is the first number below n that doesn't pass
 record IsFirstFailing (p : ℕ → Bool) (n i : ℕ) : Type 0 where

@@ -1,7 +1,7 @@
 -- What the run over the joints answers.
-use Rattle.std.proofs.Common.{arith, take, ◌+◌, ◌≡◌, refl, sym, ap, ◌∙◌, subst, ℕ, ◌<◌, ℤ, Bool, true, false, not}
-use Rattle.std.proofs.Common.{◌&&◌, ◌||◌, List, [], ◌∷◌, ◌++◌, map, length, get_or, Option, Some, None, Ok, option_map}
-use Rattle.std.specs.Prelude.{is_none, find, nat_eq, cond}
+use Rattle.std.proofs.Common.{arith, take, ◌+◌, ◌≡◌, refl, sym, ap, ◌∙◌, subst, ℕ, ◌<◌, ℤ, Bool, true, false, not, ◌&&◌}
+use Rattle.std.proofs.Common.{◌||◌, List, [], ◌∷◌, ◌++◌, map, length, get_or, Option, Some, None, Ok, option_map}
+use Rattle.std.proofs.Common.{is_none, find, nat_eq, cond}
 use Rattle.std.specs.List.{list_any}
 use Rattle.std.specs.Str.{bytes_eq}
 use Rattle.std.proofs.lemmas.Int.{ints}
@@ -21,8 +21,7 @@ use Rattle.stack_model.specs.Limits.{friction_of}
 use Rattle.stack_model.specs.Content.{unless, ranged, found, number_of, material_names, add_joint}
 use Rattle.stack_faults.specs.FaultLists.{earliest}
 use Rattle.stack_faults.specs.ContentFaults.{joint_written, lists_material, names_the_same, lists_joint}
-use Rattle.stack_faults.specs.ContentFaults.{causes_of_joint}
-use Rattle.stack_faults.specs.ContentFaults.{faults_by}
+use Rattle.stack_faults.specs.ContentFaults.{causes_of_joint, faults_by}
 use Rattle.stack_faults.proofs.Firsts.{Answers, first_cause, answers_weaker}
 use Rattle.stack_faults.proofs.Names.{not_not, lacking, one_more, any-map}
 use Rattle.stack_faults.proofs.Walks.{listed}

@@ -1,9 +1,6 @@
 -- What the run over the loads answers.
-use Rattle.std.proofs.Common.{arith, take, ◌+◌, ◌≡◌, refl, sym, ap, ◌∙◌, subst, ℕ, ◌<◌, ℤ, Bool, true}
-use Rattle.std.proofs.Common.{false, not}
-use Rattle.std.proofs.Common.{List, [], ◌∷◌, ◌++◌}
-use Rattle.std.proofs.Common.{map, length, get_or, Option, Some, None, Ok}
-use Rattle.std.specs.Prelude.{is_none, find}
+use Rattle.std.proofs.Common.{arith, take, ◌+◌, ◌≡◌, refl, sym, ap, ◌∙◌, subst, ℕ, ◌<◌, ℤ, Bool, true, false, not, List}
+use Rattle.std.proofs.Common.{[], ◌∷◌, ◌++◌, map, length, get_or, Option, Some, None, Ok, is_none, find}
 use Rattle.std.specs.Str.{bytes_eq}
 use Rattle.std.proofs.lemmas.List.{get_or-map, length-map, take_all}
 use Rattle.std.proofs.lemmas.List.Quantifiers.{position-Some}
@@ -21,8 +18,7 @@ use Rattle.stack_model.proofs.Limited.{number_below, named}
 use Rattle.stack_model.specs.Limits.{live_of, point_of, force_of}
 use Rattle.stack_model.specs.Content.{unless, ranged, found, is_free, number_of, body_names, add_load}
 use Rattle.stack_faults.specs.FaultLists.{earliest}
-use Rattle.stack_faults.specs.ContentFaults.{load_written, lists_block, is_fixed_block, names_fixed}
-use Rattle.stack_faults.specs.ContentFaults.{causes_of_load}
+use Rattle.stack_faults.specs.ContentFaults.{load_written, lists_block, is_fixed_block, names_fixed, causes_of_load}
 use Rattle.stack_faults.specs.ContentFaults.{faults_by}
 use Rattle.stack_faults.proofs.Firsts.{Answers, first_cause, answers_weaker}
 use Rattle.stack_faults.proofs.Names.{not_not, lacking, find_first}

@@ -1,8 +1,6 @@
 -- What the run over the materials answers.
-use Rattle.std.proofs.Common.{arith, sym, ◌≡◌, refl, ap, ◌∙◌, ℕ, ◌+◌, ◌<◌, ℤ, pos, Bool, true, false, not}
-use Rattle.std.proofs.Common.{List, [], ◌∷◌, ◌++◌}
-use Rattle.std.proofs.Common.{map, length, take, Option, Some, None, Ok}
-use Rattle.std.specs.Prelude.{is_none}
+use Rattle.std.proofs.Common.{arith, sym, ◌≡◌, refl, ap, ◌∙◌, ℕ, ◌+◌, ◌<◌, ℤ, pos, Bool, true, false, not, List, []}
+use Rattle.std.proofs.Common.{◌∷◌, ◌++◌, map, length, take, Option, Some, None, Ok, is_none}
 use Rattle.std.proofs.lemmas.List.{take_all}
 use Rattle.std.proofs.lemmas.Simd.{map-map}
 use Rattle.stack_algebra.specs.Steps.{◌>>=◌, steps}
@@ -17,8 +15,7 @@ use Rattle.stack_model.specs.Limits.{is_name, is_between, friction_of}
 use Rattle.stack_model.specs.Content.{unless, ranged, is_new, material_names, with_material, add_material}
 use Rattle.stack_model.specs.Relisted.{material_listed}
 use Rattle.stack_faults.specs.FaultLists.{earliest}
-use Rattle.stack_faults.specs.ContentFaults.{material_written, lists_material, causes_of_material}
-use Rattle.stack_faults.specs.ContentFaults.{faults_by}
+use Rattle.stack_faults.specs.ContentFaults.{material_written, lists_material, causes_of_material, faults_by}
 use Rattle.stack_faults.proofs.Firsts.{Answers, first_cause, answers_weaker}
 use Rattle.stack_faults.proofs.Names.{seen}
 use Rattle.stack_faults.proofs.Written.{one_more_same, friction_back}

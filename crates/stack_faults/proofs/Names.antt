@@ -1,8 +1,7 @@
 -- Names and flags of what is listed, against those of what was collected from it.
-use Rattle.std.proofs.Common.{◌≡◌, refl, sym, ap, ◌∙◌, ℕ, zero, suc, ◌+◌, ◌<◌, ◌≤◌, Bool, true, false}
-use Rattle.std.proofs.Common.{not, ◌||◌, cond}
-use Rattle.std.proofs.Common.{List, [], ◌∷◌, ◌++◌, map, length, get_or, take, Some, None, arith}
-use Rattle.std.specs.Prelude.{is_none, nat_lt, nat_le, ◌==◌, count_by, find}
+use Rattle.std.proofs.Common.{◌≡◌, refl, sym, ap, ◌∙◌, ℕ, zero, suc, ◌+◌, ◌<◌, ◌≤◌, Bool, true, false, not, ◌||◌, cond}
+use Rattle.std.proofs.Common.{List, [], ◌∷◌, ◌++◌, map, length, get_or, take, Some, None, arith, is_none, nat_lt}
+use Rattle.std.proofs.Common.{nat_le, ◌==◌, count_by, find}
 use Rattle.std.specs.List.{list_any, position_or_len}
 use Rattle.std.specs.Str.{bytes_eq}
 use Rattle.std.proofs.lemmas.Bool.{ltb-true, ltb-false, leb-true, leb-false, lt-ltb, le-ltb, eq-eqb, ne_eqb}

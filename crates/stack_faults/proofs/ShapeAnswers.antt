@@ -1,9 +1,7 @@
 -- What the tables of items answer.
-use Rattle.std.proofs.Common.{◌≡◌, refl, sym, ◌∙◌, ℕ, ℤ, Bool, true, false, not, List, [], ◌∷◌}
-use Rattle.std.proofs.Common.{Option, Some, None, Result, Ok, Err, option_map}
-use Rattle.std.specs.Prelude.{is_none, if◌then◌else◌}
-use Rattle.toml.specs.Data.{Data, Members, get_member, as_str, as_integer}
-use Rattle.toml.specs.Data.{as_bool}
+use Rattle.std.proofs.Common.{◌≡◌, refl, sym, ◌∙◌, ℕ, ℤ, Bool, true, false, not, List, [], ◌∷◌, Option, Some, None}
+use Rattle.std.proofs.Common.{Result, Ok, Err, option_map, is_none, if◌then◌else◌}
+use Rattle.toml.specs.Data.{Data, Members, get_member, as_str, as_integer, as_bool}
 use Rattle.stack_algebra.specs.Steps.{◌>>=◌}
 use Rattle.stack_algebra.specs.Search.{or_else}
 use Rattle.stack_model.specs.declared.places.Spot.{Spot}
@@ -13,14 +11,13 @@ use Rattle.stack_model.specs.declared.places.Key.TheVariants as keys
 use Rattle.stack_model.specs.Parts.{MaterialPart, JointPart, BlockPart, LoadPart}
 use Rattle.stack_reader.specs.declared.errors.ReadError.TheVariants.{UnknownKey, Missing, Kind}
 use Rattle.stack_reader.specs.Keys.{word_of, material_keys, joint_keys, block_keys, load_keys}
-use Rattle.stack_reader.specs.Forms.{wholes_of, lists_of, has_only, known_only, required, in_form, field}
-use Rattle.stack_reader.specs.Forms.{truth_at}
+use Rattle.stack_reader.specs.Forms.{wholes_of, lists_of, has_only, known_only, required, in_form, field, truth_at}
 use Rattle.stack_reader.specs.Shape.{material_part, joint_part, block_part, load_part, known_at_top, version_at}
 use Rattle.stack_reader.specs.Shape.{sway_at, head_of_document}
 use Rattle.stack_faults.specs.FaultLists.{faults_where, earliest, answered_fault}
-use Rattle.stack_faults.specs.TableFaults.{is_of_another_form, unknown_key_faults, key_faults}
-use Rattle.stack_faults.specs.TableFaults.{optional_key_faults, joint_table_faults}
-use Rattle.stack_faults.specs.TableFaults.{material_table_faults, block_table_faults, load_table_faults}
+use Rattle.stack_faults.specs.TableFaults.{is_of_another_form, unknown_key_faults, key_faults, optional_key_faults}
+use Rattle.stack_faults.specs.TableFaults.{joint_table_faults, material_table_faults, block_table_faults}
+use Rattle.stack_faults.specs.TableFaults.{load_table_faults}
 use Rattle.stack_faults.proofs.Firsts.{earliest_four, earliest_five}
 
 tested_told : {A E : Type 0} (b : Bool) (x : A) (e : E) → answered_fault (if b then Ok x else Err e)

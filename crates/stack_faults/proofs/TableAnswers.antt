@@ -1,6 +1,5 @@
 -- What a table answers: its lists, and then each item of them.
-use Rattle.std.proofs.Common.{◌≡◌, refl, sym, ap, ◌∙◌, ℕ, zero, suc, ◌+◌, Bool, true, false, List, []}
-use Rattle.std.proofs.Common.{◌∷◌, length}
+use Rattle.std.proofs.Common.{◌≡◌, refl, sym, ap, ◌∙◌, ℕ, zero, suc, ◌+◌, Bool, true, false, List, [], ◌∷◌, length}
 use Rattle.std.proofs.Common.{get_or, Option, Some, None, Result, Ok, Err, arith}
 use Rattle.std.specs.Prelude.{is_none, if◌then◌else◌, option_and_then, ⊤, ℤ}
 use Rattle.toml.specs.Data.{Data, array, table, Items, no_items, item, Members, no_members, get_member, as_integer}
@@ -16,17 +15,14 @@ use Rattle.stack_reader.specs.declared.errors.ReadError.TheVariants.{Kind}
 use Rattle.stack_reader.specs.Keys.{word_of}
 use Rattle.stack_reader.specs.Forms.{are_tables, tables_of, wholes_of, in_form}
 use Rattle.stack_reader.specs.Shape.{known_at_top, head_of_document, list_at, material_part, joint_part, block_part}
-use Rattle.stack_reader.specs.Shape.{load_part, in_table, each_of}
-use Rattle.stack_reader.specs.Shape.{parts_of_document}
+use Rattle.stack_reader.specs.Shape.{load_part, in_table, each_of, parts_of_document}
 use Rattle.stack_faults.specs.FaultLists.{faults_where, earliest, answered_fault}
-use Rattle.stack_faults.specs.TableFaults.{is_of_another_form, unknown_key_faults, optional_key_faults}
-use Rattle.stack_faults.specs.TableFaults.{top_faults, joint_table_faults}
-use Rattle.stack_faults.specs.TableFaults.{material_table_faults, block_table_faults, load_table_faults}
-use Rattle.stack_faults.specs.TableFaults.{tables_in, tables_or_none, tables_listed, faults_of_tables}
-use Rattle.stack_faults.specs.TableFaults.{shape_faults}
-use Rattle.stack_faults.proofs.Firsts.{Answers, answers_fault, answers_weaker, bind_told, answers_of}
-use Rattle.stack_faults.proofs.Firsts.{earliest-below, earliest_five}
-use Rattle.stack_faults.proofs.Firsts.{earliest_seven}
+use Rattle.stack_faults.specs.TableFaults.{is_of_another_form, unknown_key_faults, optional_key_faults, top_faults}
+use Rattle.stack_faults.specs.TableFaults.{joint_table_faults, material_table_faults, block_table_faults}
+use Rattle.stack_faults.specs.TableFaults.{load_table_faults, tables_in, tables_or_none, tables_listed}
+use Rattle.stack_faults.specs.TableFaults.{faults_of_tables, shape_faults}
+use Rattle.stack_faults.proofs.Firsts.{Answers, answers_fault, answers_weaker, bind_told, answers_of, earliest-below}
+use Rattle.stack_faults.proofs.Firsts.{earliest_five, earliest_seven}
 use Rattle.stack_faults.proofs.ShapeAnswers.{head_told, material_told, joint_told, block_told, load_told}
 
 or_none : {E : Type 0} (o : Option E) → or_else o None ≡ o

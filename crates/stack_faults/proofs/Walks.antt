@@ -1,8 +1,6 @@
 -- A run over the items of a list, against the faults of the items by number.
-use Rattle.std.proofs.Common.{◌≡◌, refl, sym, ◌∙◌, subst, ℕ, zero, suc, ◌+◌, ◌<◌, Bool, List, length}
-use Rattle.std.proofs.Common.{get_or}
-use Rattle.std.proofs.Common.{drop, arith}
-use Rattle.std.proofs.Common.{Option, None, Result, Ok, Err}
+use Rattle.std.proofs.Common.{◌≡◌, refl, sym, ◌∙◌, subst, ℕ, zero, suc, ◌+◌, ◌<◌, Bool, List, length, get_or, drop}
+use Rattle.std.proofs.Common.{arith, Option, None, Result, Ok, Err}
 use Rattle.std.proofs.lemmas.List.{drop_all, drop_more}
 use Rattle.stack_algebra.specs.Steps.{◌>>=◌, steps}
 use Rattle.stack_algebra.specs.Search.{first}

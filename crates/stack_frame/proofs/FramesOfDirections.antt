@@ -1,13 +1,11 @@
 -- A direction divided by the greatest common divisor of its parts is its frame, and it has no other one.
+use Rattle.std.proofs.Common.{arith, w64, SFits, to_z, of_z}
 use mathlib.Core.Path.{◌≡◌, sym, ap, subst, ◌∙◌}
 use mathlib.Core.Logic.{◌≢◌, ◌⊎◌, inl, inr}
 use Prim.Native.Nat.{ℕ, zero, suc, ◌*◌, ◌<◌, ◌≤◌, ◌∣◌}
 use native.Mathlib.Nat.{dvd_antisymm, dvd-mul_right, le_of_dvd, pos_of_dvd_of_pos}
-use native.Mathlib.Omega.{arith}
 use lib.IntN.{ℤ, pos, negsuc, ◌*ℤ◌, nat_abs}
 use lib.Signed.{quot_z}
-use mir.Syntax.{w64}
-use mir.Val.{SFits, to_z, of_z}
 use mir.Facts.{to_z-of_z, to_z_pos}
 use Rattle.std.proofs.lemmas.Int.{ints, quot_fits}
 use Rattle.stack_algebra.specs.Gcd.{gcd}

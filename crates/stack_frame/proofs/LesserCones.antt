@@ -1,15 +1,12 @@
 -- The lesser of two coefficients, with its terms divided by their greatest common divisor, is what it is called,
 -- and there is no other one.
+use Rattle.std.proofs.Common.{arith, w64, to_z, of_z, int_le}
 use mathlib.Core.Path.{◌≡◌, sym, ap, subst, ◌∙◌}
 use mathlib.Core.Logic.{◌⊎◌, inl, inr}
 use mathlib.Core.Bool.{true, false}
 use Prim.Native.Nat.{ℕ, zero, suc, ◌*◌, ◌/◌, ◌<◌, ◌≤◌}
 use native.Mathlib.Nat.{mul-div_cancel', mul_comm}
-use native.Mathlib.Omega.{arith}
 use lib.IntN.{ℤ, pos, negsuc, ◌-ℤ◌, ◌*ℤ◌, nat_abs}
-use mir.Syntax.{w64}
-use mir.Val.{to_z, of_z}
-use Rattle.std.specs.Prelude.{int_le}
 use Rattle.std.proofs.lemmas.Int.{ints}
 use Rattle.stack_algebra.specs.Gcd.{gcd}
 use Rattle.stack_algebra.specs.IntegerOrder.{◌≼◌, ◌≺◌}

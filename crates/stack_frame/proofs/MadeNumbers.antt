@@ -1,10 +1,9 @@
 -- What the numbers of a test against a cone show.
+use Rattle.std.proofs.Common.{arith, Bool, false, int_le, int_lt, IsTrue, IfOk, IsErr, ◌↔◌, Result, Ok, Err}
 use mathlib.Core.Path.{◌≡◌, refl, sym, ap, subst, ◌∙◌}
 use mathlib.Core.Logic.{◌⊎◌, inl, inr}
 use Prim.Native.Nat.{zero, suc, ◌≤◌, ◌^◌}
-use native.Mathlib.Omega.{arith}
 use lib.IntN.{ℤ, pos, negsuc, ◌*ℤ◌, nat_abs}
-use Rattle.std.specs.Prelude.{Bool, false, int_le, int_lt, IsTrue, IfOk, IsErr, ◌↔◌, Result, Ok, Err}
 use Rattle.std.proofs.lemmas.Int.{ints}
 use Rattle.stack_algebra.specs.IntegerOrder.{◌≼◌, abs}
 use Rattle.stack_algebra.specs.Steps.{◌>>=◌}

@@ -1,6 +1,5 @@
 -- Where bounds of the numbers of two rows fit, nothing that a row step or a division writes is too wide.
-use Rattle.std.proofs.Common.{◌≡◌, ◌≢◌, sym, ap, ◌∙◌, ℕ, ◌+◌, ◌*◌, ◌≤◌, true, false, not, arith}
-use Rattle.std.proofs.Common.{None, mul-le-mul}
+use Rattle.std.proofs.Common.{◌≡◌, ◌≢◌, sym, ap, ◌∙◌, ℕ, ◌+◌, ◌*◌, ◌≤◌, true, false, not, arith, None, mul-le-mul}
 use lib.IntN.{ℤ, pos, nat_abs, neg_ℤ, ◌+ℤ◌, ◌-ℤ◌, ◌*ℤ◌}
 use Rattle.std.proofs.lemmas.Int.{ints, unsigned_abs-mul}
 use Rattle.stack_algebra.specs.Search.{or_else, only_if}

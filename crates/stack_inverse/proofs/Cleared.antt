@@ -1,10 +1,10 @@
 -- A row that is cleared.
-use Rattle.std.proofs.Common.{◌≡◌, sym, ap, ◌∙◌, ℕ, ◌<◌, ◌≤◌, ◌+◌, List, length, set, arith, cond, eqb}
+use Rattle.std.proofs.Common.{◌≡◌, sym, ap, ◌∙◌, ℕ, ◌<◌, ◌+◌, List, length, set, arith, cond, eqb}
 use Rattle.std.proofs.lemmas.Bool.{ne_eqb, eq-eqb}
-use native.Mathlib.Decide.{ℕ_discrete, dec_lt}
+use native.Mathlib.Decide.{ℕ_discrete}
 use lib.IntN.{ℤ, pos}
 use Rattle.stack_rows.specs.RowForm.{number_at}
-use Rattle.stack_rows.proofs.Numbers.{at-past, at-set_same, at-set_other}
+use Rattle.stack_rows.proofs.Numbers.{at-set_same, at-set_other}
 
 module _ {V : Type 0} (value : V → ℤ) where
   -- one number more is 0
@@ -16,15 +16,6 @@ module _ {V : Type 0} (value : V → ℤ) where
       go : Dec (i ≡ j) → number_at value (set row j zero) i ≡ pos 0
       go (yes d) = ap (number_at value (set row j zero)) d ∙ at-set_same value (pos 0) row j zero lt ∙ e
       go (no d) = at-set_other value (pos 0) row j i zero d ∙ h i (omega (arith, l, d))
-
-  -- where all that stand there are 0, all are
-  pub cleared_all : (row : List V) (j : ℕ) → length row ≤ j → ((i : ℕ) → i < j → number_at value row i ≡ pos 0) →
-      (i : ℕ) → number_at value row i ≡ pos 0
-  cleared_all row j l h i = go (dec_lt i j)
-    where
-      go : Dec (i < j) → number_at value row i ≡ pos 0
-      go (yes d) = h i d
-      go (no d) = at-past value (pos 0) row i (omega (arith, l, d))
 
   -- a number that is put into such a row
   pub only_at : (row : List V) (c : ℕ) (x : V) → c < length row → ((i : ℕ) → number_at value row i ≡ pos 0) → (j : ℕ) →

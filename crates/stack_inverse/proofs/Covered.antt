@@ -12,8 +12,3 @@ covers_more f k m n h hm hk i l = go (ℕ_discrete i k)
     go : Dec (i ≡ k) → unsigned_abs (f i) ≤ unsigned_abs n
     go (yes e) = subst (λ j. unsigned_abs (f j) ≤ unsigned_abs n) (sym e) hk
     go (no d) = omega (arith, h i (omega (arith, l, d)), hm)
-
--- one number more fits
-pub fits_more : (f : ℕ → ℤ) (k : ℕ) (m x : ℤ) → ((i : ℕ) → i < k → unsigned_abs (f i) ≤ unsigned_abs m) → x ≡ f k →
-    unsigned_abs x ≤ unsigned_abs m → (i : ℕ) → i < k + 1 → unsigned_abs (f i) ≤ unsigned_abs m
-fits_more f k m x h e hx = covers_more f k m m h (omega arith) (subst (λ z. unsigned_abs z ≤ unsigned_abs m) e hx)

@@ -1,7 +1,6 @@
 -- A sum over all rows of a column is the sum over its entries.
-use Rattle.std.proofs.Common.{◌≡◌, refl, sym, ap, subst, ◌∙◌, ℕ, suc, ◌<◌, ◌≤◌, Bool, true, false, ◌&&◌, cond, eqb}
-use Rattle.std.proofs.Common.{ltb, leb, List, [], ◌∷◌}
-use Rattle.std.proofs.Common.{arith}
+use Rattle.std.proofs.Common.{◌≡◌, refl, sym, ap, subst, ◌∙◌, ℕ, suc, ◌<◌, ◌≤◌, Bool, true, false, ◌&&◌, cond, eqb, ltb}
+use Rattle.std.proofs.Common.{leb, List, [], ◌∷◌, arith}
 use Rattle.std.proofs.lemmas.Bool.{ne_eqb, ltb-true, leb-true}
 use native.Mathlib.Decide.{ℕ_discrete}
 use lib.Dec.{T, eqb_refl}

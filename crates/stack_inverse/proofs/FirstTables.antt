@@ -1,7 +1,6 @@
 -- The table with which a run begins is the written table of its problem.
-use Rattle.std.proofs.Common.{◌≡◌, ◌≢◌, refl, sym, ap, ◌∙◌, ℕ, zero, suc, ◌+◌, ◌-◌, ◌<◌, ◌≤◌, Bool, true, false}
-use Rattle.std.proofs.Common.{cond, eqb, ltb, List, length, get_or, arith, unsigned_abs, subst, Option, Some, None}
-use Rattle.std.specs.Prelude.{is_some}
+use Rattle.std.proofs.Common.{◌≡◌, ◌≢◌, refl, sym, ap, ◌∙◌, ℕ, zero, suc, ◌+◌, ◌-◌, ◌<◌, ◌≤◌, Bool, true, false, cond}
+use Rattle.std.proofs.Common.{eqb, ltb, List, length, get_or, arith, unsigned_abs, subst, Option, Some, None, is_some}
 use Rattle.std.proofs.lemmas.Bool.{ne_eqb, eq-eqb, lt-ltb, le-ltb, ltb-true, ltb-false}
 use Rattle.std.proofs.lemmas.List.{get_or_past}
 use native.Mathlib.Decide.{ℕ_discrete, dec_lt}
@@ -27,10 +26,9 @@ use Rattle.stack_table.proofs.FirstObjective.{artificial_yes, artificial_not, le
 use Rattle.stack_table.proofs.RowByRow.{objective_beyond}
 use Rattle.stack_inverse.specs.declared.columns.FirstColumn.{FirstColumn}
 use Rattle.stack_rows.specs.RowForm.{number_at}
-use Rattle.stack_inverse.specs.Columns.{by_place, number, plain_own, cells_at, rises, first_at}
-use Rattle.stack_inverse.specs.Columns.{revised_own, RowSeen, no_row, cell_with, revised_cell, IsOwn}
-use Rattle.stack_inverse.specs.FirstTable.{load_at, AreFirstColumns, less_cells, IsFirstRow}
-use Rattle.stack_inverse.specs.FirstTable.{less_loads}
+use Rattle.stack_inverse.specs.Columns.{by_place, number, plain_own, cells_at, rises, first_at, revised_own, RowSeen}
+use Rattle.stack_inverse.specs.Columns.{no_row, cell_with, revised_cell, IsOwn}
+use Rattle.stack_inverse.specs.FirstTable.{load_at, AreFirstColumns, less_cells, IsFirstRow, less_loads}
 use Rattle.stack_inverse.proofs.FirstRows.{own_row}
 use Rattle.stack_inverse.proofs.FirstRows as first
 use Rattle.stack_rows.proofs.Numbers.{at-past}

@@ -1,6 +1,5 @@
 -- What follows of what holds of an answer.
-use Rattle.std.proofs.Common.{◌≡◌, subst, Option, Some, None, Result, Ok, Err}
-use Rattle.std.specs.Prelude.{OnSome, OnOk, IfErr}
+use Rattle.std.proofs.Common.{◌≡◌, subst, Option, Some, None, Result, Ok, Err, OnSome, OnOk, IfErr}
 use Rattle.stack_table.specs.declared.types.PivotWide.{PivotWide}
 use Rattle.stack_inverse.specs.declared.stops.PivotRefusal.{PivotRefusal}
 use Rattle.stack_inverse.specs.CellSteps.{TellsSpot}

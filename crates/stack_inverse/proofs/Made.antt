@@ -1,6 +1,5 @@
 -- A number that is made over the cells of its column.
-use Rattle.std.proofs.Common.{◌≡◌, sym, ap, ◌∙◌, ℕ, ◌<◌, ◌+◌, ◌-◌, List, length, get_or}
-use Rattle.std.proofs.Common.{[], true, ltb, eqb}
+use Rattle.std.proofs.Common.{◌≡◌, sym, ap, ◌∙◌, ℕ, ◌<◌, ◌+◌, ◌-◌, List, length, get_or, [], true, ltb, eqb}
 use Rattle.std.proofs.lemmas.Bool.{lt-ltb}
 use Rattle.std.proofs.lemmas.List.{get_or-map}
 use lib.IntN.{ℤ, ◌+ℤ◌, ◌*ℤ◌}

@@ -1,9 +1,8 @@
 -- A new objective row that is put into the block.
-use Rattle.std.proofs.Common.{◌≡◌, ◌≢◌, refl, sym, ap, subst, ◌∙◌, ℕ, ◌<◌, ◌≤◌, ◌+◌, ◌-◌, List, length}
-use Rattle.std.proofs.Common.{Bool, true, false, cond, eqb, ltb, Option, Some, None, unsigned_abs, arith}
+use Rattle.std.proofs.Common.{◌≡◌, ◌≢◌, refl, sym, ap, ◌∙◌, ℕ, ◌<◌, ◌+◌, ◌-◌, List, length, Bool, true, false, cond}
+use Rattle.std.proofs.Common.{eqb, ltb, Option, Some, None, arith, IfSome}
 use Rattle.stack_algebra.specs.Search.{least}
 use Rattle.stack_algebra.proofs.Search.{least-some}
-use Rattle.std.specs.Prelude.{IfSome}
 use native.Mathlib.Decide.{ℕ_discrete}
 use Rattle.std.proofs.lemmas.Bool.{ne_eqb, eq-eqb, lt-ltb}
 use lib.IntN.{ℤ, pos, negsuc, ◌+ℤ◌, ◌*ℤ◌}
@@ -14,8 +13,8 @@ use Rattle.stack_algebra.proofs.Over.{over, of-over}
 use Rattle.stack_inverse.specs.declared.columns.FirstColumn.{FirstColumn}
 use Rattle.stack_algebra.proofs.Order.{◌≺◌}
 use Rattle.stack_rows.specs.RowForm.{number_at}
-use Rattle.stack_inverse.specs.Columns.{combined, by_place, number, first_at, revised_own, RowSeen, IsPut}
-use Rattle.stack_inverse.specs.Columns.{cell_with, revised_cell, IsFactorRow}
+use Rattle.stack_inverse.specs.Columns.{combined, by_place, number, first_at, revised_own, RowSeen, IsPut, cell_with}
+use Rattle.stack_inverse.specs.Columns.{revised_cell, IsFactorRow}
 use Rattle.stack_inverse.proofs.FirstRows.{nothing_gives, own_row, factor_cell}
 use Rattle.stack_inverse.proofs.Steps.{over_zero}
 use Rattle.stack_table.specs.Table.{factor_row}
@@ -173,11 +172,3 @@ pub found_below : (m : ℕ) (p : ℕ → Bool) (o : Option ℕ) → o ≡ least 
     IfSome o P
 found_below m p None e P h = tt
 found_below m p (Some r) e P h = h r (least-some m p r (sym e)).below
-
--- a number in one column alone is within itself
-pub only_within : (c j : ℕ) (z y : ℤ) → z ≡ cond (eqb j c) y (pos 0) → unsigned_abs z ≤ unsigned_abs y
-only_within c j z y h = subst (λ z. unsigned_abs z ≤ unsigned_abs y) (sym h) (go (eqb j c))
-  where
-    go : (b : Bool) → unsigned_abs (cond b y (pos 0)) ≤ unsigned_abs y
-    go true = omega arith
-    go false = omega arith

@@ -1,6 +1,5 @@
 -- A pivot over cells, row by row.
-use Rattle.std.proofs.Common.{◌≡◌, ◌≢◌, refl, sym, ap, ◌∙◌, ℕ, ◌<◌, ◌≤◌}
-use Rattle.std.proofs.Common.{Some, None, true, cond, arith}
+use Rattle.std.proofs.Common.{◌≡◌, ◌≢◌, refl, sym, ap, ◌∙◌, ℕ, ◌<◌, ◌≤◌, Some, None, true, cond, arith}
 use Rattle.stack_table.specs.declared.types.PivotWide.{PivotWide}
 use native.Mathlib.Decide.{ℕ_discrete, dec_lt}
 use lib.IntN.{ℤ}

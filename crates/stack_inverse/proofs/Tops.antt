@@ -1,9 +1,7 @@
 -- Tops of rows: no number but the last, the right side, is greater in size.
-use Rattle.std.proofs.Common.{◌≡◌, ◌≢◌, sym, ap, subst, ◌∙◌, ℕ, ◌≤◌, ◌+◌, ◌*◌, List, length}
-use Rattle.std.proofs.Common.{unsigned_abs, arith, true, false}
+use Rattle.std.proofs.Common.{◌≡◌, sym, ap, subst, ◌∙◌, ℕ, ◌≤◌, ◌+◌, ◌*◌, List, length, unsigned_abs, arith}
 use Rattle.std.proofs.lemmas.Int.{ints, unsigned_abs-mul}
 use Rattle.stack_algebra.proofs.Integers.{expand}
-use Rattle.stack_rational.specs.Order.{is_zero_whole}
 use lib.IntN.{ℤ, pos, ◌*ℤ◌, ◌-ℤ◌}
 use Rattle.stack_algebra.proofs.CrossProducts.{cancel}
 use Rattle.stack_algebra.proofs.Order.{◌≺◌}
@@ -31,10 +29,6 @@ step_size x w y k t p e r he same h l = subst (λ z. unsigned_abs z ≤ r) (sym 
       where
         commuted : (a b c : ℤ) → a *ℤ c ≡ b *ℤ c → c *ℤ a ≡ c *ℤ b
         commuted a b c q = simp expand q
-
--- a number that isn't 0
-pub not_zero : (x : ℤ) → is_zero_whole x ≡ false → x ≢ pos 0
-not_zero x h e = let b : false ≡ true = sym h ∙ ap is_zero_whole e in absurd cc
 
 module _ {V : Type 0} (value : V → ℤ) where
   -- the sizes of what a step adds up, by the tops of both rows

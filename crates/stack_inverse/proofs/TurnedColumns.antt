@@ -1,7 +1,6 @@
 -- Columns of cells that are made of columns of entries.
-use Rattle.std.proofs.Common.{◌≡◌, refl, sym, ap, ◌∙◌, ℕ, zero, suc, ◌+◌, ◌<◌, ◌≤◌, Bool, true, false, ◌&&◌, cond}
-use Rattle.std.proofs.Common.{eqb, ltb}
-use Rattle.std.proofs.Common.{leb, List, [], ◌∷◌, ◌++◌, map, length, get_or, unsigned_abs, add-one, arith, subst}
+use Rattle.std.proofs.Common.{◌≡◌, refl, sym, ap, ◌∙◌, ℕ, zero, suc, ◌+◌, ◌<◌, ◌≤◌, Bool, true, false, ◌&&◌, cond, eqb}
+use Rattle.std.proofs.Common.{ltb, leb, List, [], ◌∷◌, ◌++◌, map, length, get_or, unsigned_abs, add-one, arith, subst}
 use Rattle.std.specs.List.{AllByRecursion, slice_index}
 use Rattle.std.proofs.lemmas.Bool.{ne_eqb, eq-eqb, lt-ltb, le-ltb, le-leb}
 use Rattle.std.proofs.lemmas.List.{length-map}

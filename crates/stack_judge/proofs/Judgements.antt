@@ -1,6 +1,5 @@
 -- The judgement of a survey by what was made of its run.
-use Rattle.std.proofs.Common.{◌≡◌, refl, sym, ap, ◌∙◌, ℕ, Bool, true, false, Result, Ok, Err}
-use Rattle.std.specs.Prelude.{◌↔◌, IsTrue}
+use Rattle.std.proofs.Common.{◌≡◌, refl, sym, ap, ◌∙◌, ℕ, Bool, Result, Ok, Err}
 use lib.IntN.{ℤ}
 use Rattle.stack_algebra.specs.Fraction.{Fraction}
 use Rattle.stack_algebra.proofs.OrderedFractions.{ordered_fractions}
@@ -75,10 +74,6 @@ last_of_survey q v m budget S flips x run shape same = record {
   shape = shape;
   flips_are = same;
 }
-
--- a live load is listed where the test says so
-pub has_some : {P : Type 0} (b : Bool) → b ≡ false → IsTrue b ↔ P → ¬ P
-has_some b f h l = let e : true ≡ false = sym (h.1 l) ∙ f in absurd cc
 
 -- the written table of the problem that was posed
 pub table_of_posed : {V : Type 0} {number : Ghosts V} (q : Question) (v : Surveyed) (p : Lent) (t : Table V number)

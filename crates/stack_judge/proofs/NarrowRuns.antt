@@ -1,7 +1,6 @@
 -- A run at 64 bits that is nowhere too wide is the survey's, and what it comes to is the judgement.
 use Rattle.std.proofs.Common.{◌≡◌, refl, sym, ap, subst, ◌∙◌, ℕ, ◌≤◌, Bool, true, false, ◌&&◌, Some, None, Result, Ok}
-use Rattle.std.proofs.Common.{Err, arith}
-use Rattle.std.specs.Prelude.{unsigned_abs, IfOk}
+use Rattle.std.proofs.Common.{Err, arith, unsigned_abs, IfOk}
 use Rattle.stack_algebra.specs.Fraction.{Fraction}
 use Rattle.stack_algebra.proofs.OrderedFractions.{ordered_fractions}
 use Rattle.stack_rational.specs.Laws.{widest}
@@ -48,10 +47,6 @@ both : (a b : Bool) → a ≡ true → b ≡ true → a && b ≡ true
 both true b h k = k
 both false b h k = absurd cc
 
-not_first : (a b : Bool) → a ≡ false → a && b ≡ false
-not_first true b h = absurd cc
-not_first false b h = refl
-
 not_second : (a b : Bool) → b ≡ false → a && b ≡ false
 not_second true b h = h
 not_second false b h = refl
@@ -71,11 +66,6 @@ pub some_place : (q : Question) (v : Surveyed) (P : Problem) (e : BuildError) �
     → wide_place ordered_fractions (is_too_wide narrow) P ≡ Some e → false ≡ has_no_place (narrow_place q v)
 some_place q v P e is h = sym (ap (λ R. has_no_place (wide_place ordered_fractions (is_too_wide narrow) R)) (sym is)
     ∙ ap has_no_place h)
-
--- where a number of the table is too wide, the work isn't narrow
-pub wide_table : (q : Question) (v : Surveyed) (budget : ℕ) → has_no_place (narrow_place q v) ≡ false
-    → is_narrow q v budget ≡ false
-wide_table q v budget h = not_first (has_no_place (narrow_place q v)) (is_nowhere_too_wide (narrow_run q v budget)) h
 
 module _ (q : Question) (v : Surveyed) (budget : ℕ) (x : End Fraction) (run : narrow_run q v budget ≡ x) where
   -- the run of the survey

@@ -1,8 +1,7 @@
 -- Where no number of an end's lists is too wide, all numbers of its certificate fit; and its lists are no longer than a
 -- survey's.
-use Rattle.std.proofs.Common.{◌≡◌, refl, sym, ap, subst, ℕ, zero, suc, ◌+◌, ◌*◌, ◌<◌, ◌≤◌, Bool, true, false}
-use Rattle.std.proofs.Common.{not, List, [], ◌∷◌}
-use Rattle.std.proofs.Common.{length, get_or, take, Option, Some, None, arith, ◌&&◌}
+use Rattle.std.proofs.Common.{◌≡◌, refl, sym, ap, subst, ℕ, zero, suc, ◌+◌, ◌*◌, ◌<◌, ◌≤◌, Bool, true, false, not, List}
+use Rattle.std.proofs.Common.{[], ◌∷◌, length, get_or, take, Option, Some, None, arith, ◌&&◌}
 use Rattle.std.specs.List.{All}
 use Rattle.std.specs.Bool.{⊤}
 use Rattle.std.proofs.lemmas.Bool.{ltb-true, ltb-false}
@@ -31,15 +30,15 @@ use Rattle.stack_run.specs.WrittenRun.{End, infeasible, feasible, optimal, ray, 
 use Rattle.stack_posing.specs.Posed.{posed, posed_shape}
 use Rattle.stack_extract.specs.WrittenLists.{forces_list, ray_list, bound_list, collapse_list}
 use Rattle.stack_extract.specs.WholeLists.{whole_list, amount, multiplier}
-use Rattle.stack_extract.specs.Certified.{pair_between, pair_at, forces_value, triple_at, motion_value}
-use Rattle.stack_extract.specs.Certified.{end_forces, end_ray, end_collapse, end_bound, end_certificate}
+use Rattle.stack_extract.specs.Certified.{pair_between, pair_at, forces_value, triple_at, motion_value, end_forces}
+use Rattle.stack_extract.specs.Certified.{end_ray, end_collapse, end_bound, end_certificate}
 use Rattle.stack_extract.specs.declared.types.Numbers.{Numbers}
 use Rattle.stack_extract.specs.declared.types.Numbers.TheVariants.{Forces, Motion, Ray}
 use Rattle.stack_extract.specs.declared.types.EndStep.TheVariants.{Part}
 use Rattle.stack_extract.specs.declared.types.ExtractPlace.{ExtractPlace}
 use Rattle.stack_extract.specs.Places.{extract_place, scale_spot, whole_spot, list_place, part_fits, part_spot}
-use Rattle.stack_extract.specs.Places.{part_place, push_place, forces_place, ray_place, collapse_place}
-use Rattle.stack_extract.specs.Places.{bound_place, shift_place}
+use Rattle.stack_extract.specs.Places.{part_place, push_place, forces_place, ray_place, collapse_place, bound_place}
+use Rattle.stack_extract.specs.Places.{shift_place}
 use Rattle.stack_judge.specs.EndPlace.{in_end, lists_place}
 use Rattle.stack_algebra.proofs.Conjunctions.{left_true, right_true}
 

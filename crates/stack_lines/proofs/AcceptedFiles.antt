@@ -1,8 +1,6 @@
 -- The work up to the survey comes to one exactly for the files that are accepted models.
 use Rattle.std.proofs.Common.{◌≡◌, ℕ, ◌≤◌, List, [], ◌∷◌, Bool, true, false, Option, Some, None, Result, Ok, Err, inl}
-use Rattle.std.proofs.Common.{inr, length}
-use Rattle.std.proofs.Common.{subst, sym, ap, ◌∙◌, refl}
-use Rattle.std.specs.Prelude.{if◌then◌else◌}
+use Rattle.std.proofs.Common.{inr, length, subst, sym, ap, ◌∙◌, refl, if◌then◌else◌}
 use Rattle.std.proofs.Math.Dec.{ltb}
 use Rattle.std.proofs.lemmas.Bool.{ltb-false, le-ltb}
 use Rattle.stack_model.specs.Structure.{Structure}

@@ -1,8 +1,7 @@
 -- The work on a form of words that names files begins with the survey of the first, and no refusal after that has the
 -- status of a faulty model.
 use Rattle.std.proofs.Common.{◌≡◌, refl, subst, ap, ℕ, ◌+◌, ◌<◌, ℤ, Bool, true, false, List, [], ◌∷◌, Option, Some}
-use Rattle.std.proofs.Common.{None, Result, Ok, Err, length, arith}
-use Rattle.std.specs.Prelude.{if◌then◌else◌}
+use Rattle.std.proofs.Common.{None, Result, Ok, Err, length, arith, if◌then◌else◌}
 use Rattle.std.proofs.Math.Dec.{ltb}
 use Rattle.stack_model.specs.Structure.{Structure}
 use Rattle.stack_contact.specs.Surveyed.{Surveyed}
@@ -36,16 +35,15 @@ use Rattle.stack_lines.specs.Forms.{files_of, work_of}
 use Rattle.stack_lines.specs.Answers.{Due}
 use Rattle.stack_lines.specs.Work.{Work, gives, refuses, ◌>>=◌}
 use Rattle.stack_lines.specs.Surveying.{greatest_file, read, surveyed_file}
-use Rattle.stack_lines.specs.Checking.{Accepting, certificate_step, certificate_due, checked}
-use Rattle.stack_lines.specs.Checking.{checked_file, certificate_work, accepted_due}
+use Rattle.stack_lines.specs.Checking.{Accepting, certificate_step, certificate_due, checked, checked_file}
+use Rattle.stack_lines.specs.Checking.{certificate_work, accepted_due}
 use Rattle.stack_lines.specs.Listing.{contacts_due, contacts_work}
 use Rattle.stack_lines.specs.Judging.{lacks_live, wide_within, judged_step, judged, judge_work}
 use Rattle.stack_lines.specs.Tables.{tabled_by, table_due}
 use Rattle.stack_lines.specs.Ranging.{range_step, range_told, range_work}
 use Rattle.stack_lines.specs.Building.{order_step, stages_step, order_work, ordered_file, stages_work}
 use Rattle.stack_lines.specs.Yielding.{loads_step, directions_step, wide_toward, region_step, directions_work}
-use Rattle.stack_lines.specs.Yielding.{directed_file}
-use Rattle.stack_lines.specs.Yielding.{paired_file, yield_work}
+use Rattle.stack_lines.specs.Yielding.{directed_file, paired_file, yield_work}
 use Rattle.stack_lines.proofs.RefusedFrom.{Avoids, avoids_then}
 
 -- the work after the survey of the model

@@ -1,9 +1,8 @@
 -- The names of a structure's bodies, one after the other.
-use Rattle.std.proofs.Common.{◌≡◌, ℕ, ◌+◌, ◌<◌, ◌≤◌, true, List, [], ◌∷◌, ◌++◌, map, take, length, get_or, subst, sym}
-use Rattle.std.proofs.Common.{ap, ◌∙◌}
-use Rattle.std.specs.Prelude.{String, string_bytes}
+use Rattle.std.proofs.Common.{◌≡◌, ℕ, ◌+◌, ◌<◌, true, List, ◌∷◌, ◌++◌, map, take, length, get_or, subst, sym, ap, ◌∙◌}
+use Rattle.std.proofs.Common.{String, string_bytes}
 use Rattle.std.specs.declared.alloc.Global.{Global}
-use Rattle.std.proofs.lemmas.List.{take_more, take_all, get_or-map, length-map, map-append}
+use Rattle.std.proofs.lemmas.List.{take_more, get_or-map, length-map, map-append}
 use Rattle.stack_model.specs.Structure.{NamedBody, Structure, body_of}
 use Rattle.stack_lines.specs.Surveying.{structure_names}
 
@@ -26,8 +25,3 @@ one_more_name s i names longer name lt is added so_far =
     ∙ ap (λ xs. xs ++ string_bytes name ∷ []) so_far
     ∙ ap (λ x. take i (structure_names s) ++ x ∷ []) (is ∙ sym (name_is s i lt))
     ∙ sym (take_more (structure_names s) i [] (below s i lt))
-
-pub all_names : (s : Structure) (i : ℕ) (names : List (String Global)) → length s.bodies ≤ i
-    → map string_bytes names ≡ take i (structure_names s) → map string_bytes names ≡ structure_names s
-all_names s i names le so_far =
-    so_far ∙ take_all i (structure_names s) (subst (λ n. n ≤ i) (sym (length-map s.bodies name_in)) le)

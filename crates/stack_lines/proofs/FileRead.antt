@@ -1,9 +1,8 @@
 -- A file that was read, or not, as the work of reading it.
 use Rattle.std.proofs.Common.{◌≡◌, ℕ, suc, ◌<◌, ◌≤◌, List, [], ◌∷◌, inl, inr, length, replicate, Option, Some, None}
-use Rattle.std.proofs.Common.{Result, Ok, Err, Vec, subst, sym, refl, ◌∙◌, append-nil, arith}
+use Rattle.std.proofs.Common.{Result, Ok, Err, Vec, subst, sym, refl, ◌∙◌, append-nil, arith, IfSome}
 use Rattle.std.specs.Bool.{⊤}
 use Rattle.std.specs.declared.alloc.Global.{Global}
-use Rattle.std.specs.Prelude.{IfSome}
 use Rattle.std.proofs.lemmas.Bool.{le-ltb, lt-ltb}
 use Rattle.std.proofs.lemmas.List.{length-replicate}
 use Rattle.stack_outside.specs.declared.error.ShelfError.{ShelfError}

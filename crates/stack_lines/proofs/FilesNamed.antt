@@ -1,8 +1,7 @@
 -- The work on a form asks for no files but those that its words name, in their order.
 use Rattle.std.proofs.Common.{◌≡◌, ℕ, ℤ, suc, true, false, List, [], ◌∷◌, ◌++◌, take, inl, inr, Option, Some, None}
-use Rattle.std.proofs.Common.{Result, Ok, Err, length, subst, sym, refl, ◌∙◌, ap}
+use Rattle.std.proofs.Common.{Result, Ok, Err, length, subst, sym, refl, ◌∙◌, ap, nat_lt, if◌then◌else◌}
 use Rattle.std.specs.Bool.{⊤}
-use Rattle.std.specs.Prelude.{nat_lt, if◌then◌else◌}
 use Rattle.stack_model.specs.Structure.{Structure}
 use Rattle.stack_reader.specs.declared.errors.ReadError.{ReadError}
 use Rattle.stack_reader.specs.Reading.{structure_of}

@@ -1,7 +1,6 @@
 -- The ends of the work on a judgement.
-use Rattle.std.proofs.Common.{◌≡◌, refl, sym, subst, ◌∙◌, ℕ, Bool, true, false, not, [], Result}
-use Rattle.std.proofs.Common.{Ok, Err, inl}
-use Rattle.std.specs.Prelude.{if◌then◌else◌}
+use Rattle.std.proofs.Common.{◌≡◌, refl, sym, subst, ◌∙◌, ℕ, Bool, true, false, not, [], Result, Ok, Err, inl}
+use Rattle.std.proofs.Common.{if◌then◌else◌}
 use Rattle.stack_model.specs.Structure.{Structure, HasLive, lists_live}
 use Rattle.stack_model.proofs.Items.{found_live}
 use Rattle.stack_contact.specs.Surveyed.{Surveyed}

@@ -23,8 +23,7 @@ use Rattle.stack_lines.specs.Answers.{Due, region_due}
 use Rattle.stack_lines.specs.Work.{Work, ◌>>=◌, Holds, Ends}
 use Rattle.stack_lines.specs.Errors.{from_directions}
 use Rattle.stack_lines.specs.Yielding.{loads_step, directions_step, wide_toward, region_step, directions_work}
-use Rattle.stack_lines.specs.Yielding.{directed_file}
-use Rattle.stack_lines.specs.Yielding.{paired_file}
+use Rattle.stack_lines.specs.Yielding.{directed_file, paired_file}
 use Rattle.stack_lines.specs.Progress.{Returns, Does, DoesAlone, AnswersDue}
 use Rattle.stack_lines.proofs.Ways.{wanting}
 

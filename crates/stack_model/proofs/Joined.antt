@@ -1,8 +1,7 @@
 -- Joints that are each between materials which no earlier one is between are between different pairs.
 use Rattle.std.proofs.Common.{◌≡◌, refl, sym, ap, ◌∙◌, subst, ℕ, zero, suc, ◌<◌, ◌≤◌, Bool, true, false, inl, inr}
-use Rattle.std.proofs.Common.{Option}
-use Rattle.std.proofs.Common.{Some, None, option_map, List, [], ◌∷◌, ◌++◌, length, get_or, find, arith}
-use Rattle.std.specs.Prelude.{is_none, cond, IfSome, nat_eq, ◌&&◌, ◌||◌, ℤ}
+use Rattle.std.proofs.Common.{Option, Some, None, option_map, List, [], ◌∷◌, ◌++◌, length, get_or, find, arith, is_none}
+use Rattle.std.proofs.Common.{cond, IfSome, nat_eq, ◌&&◌, ◌||◌, ℤ}
 use Rattle.std.proofs.lemmas.Bool.{cases_lt}
 use Rattle.std.proofs.lemmas.Int.{ints}
 use Rattle.stack_algebra.proofs.Conjunctions.{both_true}

@@ -1,17 +1,14 @@
 -- Values within their limits: what the tests say.
+use Rattle.std.proofs.Common.{◌≡◌, ℕ, ◌<◌, ℤ, pos, negsuc, Bool, true, false, ◌&&◌, List, [], ◌∷◌, length, get_or, Some}
+use Rattle.std.proofs.Common.{None, refl, subst, arith, ◌≤◌, int_le, nat_le, if◌then◌else◌}
 use Rattle.stack_algebra.proofs.Conjunctions.{both_true}
-use Rattle.std.proofs.Common.{◌≡◌, ℕ, ◌<◌, ℤ, pos, negsuc, Bool, true, false, ◌&&◌, List, [], ◌∷◌, length}
-use Rattle.std.proofs.Common.{get_or}
-use Rattle.std.proofs.Common.{Some, None, refl, subst, arith}
 use Rattle.std.proofs.lemmas.Int.{ints}
-use Rattle.std.specs.Prelude.{◌≤◌, int_le, nat_le, if◌then◌else◌}
 use Rattle.std.specs.List.{list_all}
 use Rattle.std.specs.Str.{bytes_eq}
 use Rattle.std.proofs.lemmas.Slice.Eq.{bytes_eq-Decides}
 use Rattle.std.proofs.lemmas.List.Quantifiers.{position-Some}
 use Rattle.stack_algebra.proofs.Order.{◌≼◌}
-use Rattle.stack_model.specs.Limits.{IsName, is_name, is_name_byte, is_between, friction_of, sway_of}
-use Rattle.stack_model.specs.Limits.{force_of}
+use Rattle.stack_model.specs.Limits.{IsName, is_name, is_name_byte, is_between, friction_of, sway_of, force_of}
 use Rattle.stack_model.specs.Content.{number_of}
 
 pub between : (low high z : ℤ) → is_between low high z ≡ true → (low ≼ z) × (z ≼ high)

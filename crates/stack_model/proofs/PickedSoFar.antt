@@ -1,7 +1,7 @@
 -- A loop that picks items, one after the other, and the number among those that are kept.
-use Rattle.std.proofs.Common.{◌≡◌, refl, sym, ap, ◌∙◌, ℕ, zero, suc, ◌+◌, ◌<◌, ◌≤◌, Bool, true, false}
-use Rattle.std.proofs.Common.{List, [], ◌∷◌, ◌++◌, length, get_or, take, arith}
-use Rattle.std.proofs.lemmas.List.{take_more, take_all}
+use Rattle.std.proofs.Common.{◌≡◌, refl, sym, ap, ◌∙◌, ℕ, zero, suc, ◌+◌, ◌<◌, Bool, true, false}
+use Rattle.std.proofs.Common.{List, ◌∷◌, ◌++◌, length, get_or, take, arith}
+use Rattle.std.proofs.lemmas.List.{take_more}
 use Rattle.std.specs.Bool.{if◌then◌else◌}
 use Rattle.stack_model.specs.Keeping.{later, kept_before, picked}
 
@@ -60,7 +60,3 @@ module _ {A : Type 0} (keeps : A → Bool) (changed : A → A) where
       h ∙ (ap (λ ys. ys ++ (if keeps x then changed x ∷ [] else [])) before
       ∙ (sym (picked_last (take i xs) x) ∙ (ap (λ y. picked keeps changed (take i xs ++ y ∷ [])) is
       ∙ sym (ap (picked keeps changed) (take_more xs i d lt)))))
-
-  pub picked_all : (vs xs : List A) (i : ℕ) → length xs ≤ i → vs ≡ picked keeps changed (take i xs)
-      → vs ≡ picked keeps changed xs
-  picked_all vs xs i le h = h ∙ ap (picked keeps changed) (take_all i xs le)

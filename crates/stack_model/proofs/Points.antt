@@ -1,8 +1,7 @@
 -- Corner lists within the limits, the lists of numbers that they stand for, and their outlines.
+use Rattle.std.proofs.Common.{◌≡◌, ℕ, suc, ◌≤◌, ℤ, Bool, true, false, ◌&&◌, List, [], ◌∷◌, map, length, Option, Some}
+use Rattle.std.proofs.Common.{None, Ok, Err, refl, ap, ◌∙◌, subst, arith, if◌then◌else◌}
 use Rattle.stack_algebra.proofs.Conjunctions.{both_true}
-use Rattle.std.proofs.Common.{◌≡◌, ℕ, suc, ◌≤◌, ℤ, Bool, true, false, ◌&&◌, List, [], ◌∷◌, map, length, Option}
-use Rattle.std.proofs.Common.{Some, None, Ok, Err, refl, ap, ◌∙◌, subst, arith}
-use Rattle.std.specs.Prelude.{if◌then◌else◌}
 use Rattle.std.proofs.lemmas.Int.{ints}
 use Rattle.std.proofs.lemmas.List.{length-map}
 use Rattle.stack_polygon.specs.declared.point.Point.{Point}

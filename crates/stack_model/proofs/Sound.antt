@@ -1,8 +1,6 @@
 -- What was checked holds of the structure.
-use Rattle.std.proofs.Common.{◌≡◌, ℕ, ◌<◌, ◌≤◌, ℤ, Bool, true, false, not, List, [], ◌∷◌, ◌++◌}
-use Rattle.std.proofs.Common.{length}
-use Rattle.std.proofs.Common.{Result, Ok, Err, refl, sym, ap, ◌∙◌, subst, arith}
-use Rattle.std.specs.Prelude.{nat_le}
+use Rattle.std.proofs.Common.{◌≡◌, ℕ, ◌<◌, ◌≤◌, ℤ, Bool, true, false, not, List, [], ◌∷◌, ◌++◌, length, Result, Ok, Err}
+use Rattle.std.proofs.Common.{refl, sym, ap, ◌∙◌, subst, arith, nat_le}
 use Rattle.std.specs.Bool.{⊤}
 use Rattle.std.proofs.lemmas.List.{length-map}
 use Rattle.std.proofs.lemmas.Int.{ints}
@@ -13,13 +11,12 @@ use Rattle.stack_model.specs.declared.types.Load.{Load}
 use Rattle.stack_model.specs.declared.places.What.{What}
 use Rattle.stack_model.specs.declared.places.What.TheVariants as whats
 use Rattle.stack_model.specs.declared.errors.ModelError.{ModelError}
-use Rattle.stack_model.specs.Structure.{NamedMaterial, NamedBody, structure_with}
-use Rattle.stack_model.specs.Structure.{IsWithinLimits, HasJointLimits, HasBodyLimits}
+use Rattle.stack_model.specs.Structure.{NamedMaterial, NamedBody, structure_with, IsWithinLimits, HasJointLimits}
+use Rattle.stack_model.specs.Structure.{HasBodyLimits}
 use Rattle.stack_model.specs.Parts.{LoadPart, PartLists, IsOfVersion}
 use Rattle.stack_model.specs.Limits.{point_of, live_of, force_of}
-use Rattle.stack_model.specs.Content.{at_most, is_free, number_of}
-use Rattle.stack_model.specs.Content.{material_names, body_names, add_material}
-use Rattle.stack_model.specs.Content.{add_joint, add_block, add_load, head_of, joints_of, bodies_of, loads_of}
+use Rattle.stack_model.specs.Content.{at_most, is_free, number_of, material_names, body_names, add_material, add_joint}
+use Rattle.stack_model.specs.Content.{add_block, add_load, head_of, joints_of, bodies_of, loads_of}
 use Rattle.stack_polygon.proofs.Ranges.{in_range}
 use Rattle.stack_model.proofs.Points.{point_taken}
 use Rattle.stack_model.specs.Borne.{IsBorne}

@@ -1,9 +1,7 @@
 -- A structure within the limits is taken without a fault where it is listed.
 use Rattle.std.proofs.Common.{◌≡◌, ℕ, ◌<◌, ◌≤◌, ℤ, pos, Bool, true, false, not, List, [], ◌∷◌, ◌++◌, map, length}
-use Rattle.std.proofs.Common.{get_or}
-use Rattle.std.proofs.Common.{Some, Result, Ok, refl, sym, ap, ◌∙◌, subst}
+use Rattle.std.proofs.Common.{get_or, Some, Result, Ok, refl, sym, ap, ◌∙◌, subst, is_none}
 use Rattle.std.specs.Bool.{⊤}
-use Rattle.std.specs.Prelude.{is_none}
 use Rattle.std.proofs.lemmas.Bool.{le-leb, lt-ltb}
 use Rattle.std.proofs.lemmas.List.{length-map, get_or-map}
 use Rattle.stack_algebra.specs.Steps.{◌>>=◌, steps}
@@ -15,14 +13,12 @@ use Rattle.stack_model.specs.declared.places.What.{What}
 use Rattle.stack_model.specs.declared.places.What.TheVariants as whats
 use Rattle.stack_model.specs.declared.errors.ModelError.{ModelError}
 use Rattle.stack_model.specs.declared.errors.ModelError.TheVariants.{TooMany}
-use Rattle.stack_model.specs.Structure.{NamedMaterial, NamedBody, Structure, structure_with}
-use Rattle.stack_model.specs.Structure.{material_of, body_of, joint_terms, IsWithinLimits, HasJointLimits}
-use Rattle.stack_model.specs.Structure.{HasBodyLimits}
-use Rattle.stack_model.specs.Structure.{IsCarried}
+use Rattle.stack_model.specs.Structure.{NamedMaterial, NamedBody, Structure, structure_with, material_of, body_of}
+use Rattle.stack_model.specs.Structure.{joint_terms, IsWithinLimits, HasJointLimits, HasBodyLimits, IsCarried}
 use Rattle.stack_model.specs.Convex.{convex}
-use Rattle.stack_model.specs.Content.{unless, at_most, is_free, number_of, has_room}
-use Rattle.stack_model.specs.Content.{material_names, body_names, with_material, add_material, with_body}
-use Rattle.stack_model.specs.Content.{add_joint, add_block, add_load, joints_of, bodies_of, loads_of, content_of}
+use Rattle.stack_model.specs.Content.{unless, at_most, is_free, number_of, has_room, material_names, body_names}
+use Rattle.stack_model.specs.Content.{with_material, add_material, with_body, add_joint, add_block, add_load, joints_of}
+use Rattle.stack_model.specs.Content.{bodies_of, loads_of, content_of}
 use Rattle.stack_model.specs.Relisted.{material_listed, joint_listed, body_listed, load_listed, relisted}
 use Rattle.stack_model.specs.Sound.{IsSound, AreDifferent, AreOfDifferentPairs, free_among, fixed_among}
 use Rattle.stack_model.proofs.Points.{point_again, corners_again}
@@ -31,8 +27,7 @@ use Rattle.stack_model.proofs.Joined.{is_new_pair}
 use Rattle.stack_model.proofs.TakenItems.{material_runs, joint_runs, block_runs, load_runs}
 use Rattle.stack_model.specs.Taken.{SoundIsTaken}
 use Rattle.stack_model.proofs.Passing.{is_within, passes_name, passes_friction, passes_sway, passes_force}
-use Rattle.stack_model.proofs.Passing.{passes_corners}
-use Rattle.stack_model.proofs.Passing.{passes_convex, kind_again, number_at, new_at, room_at}
+use Rattle.stack_model.proofs.Passing.{passes_corners, passes_convex, kind_again, number_at, new_at, room_at}
 use Rattle.stack_model.proofs.Listed.{EachTaken, all_taken, item_at, parts_mapped}
 
 module _ (s : Structure) (h : IsSound s) where

@@ -1,8 +1,6 @@
 -- What holds of a material, a body and a load that was taken after others.
-use Rattle.std.proofs.Common.{◌≡◌, ℕ, ◌<◌, ℤ, pos, Bool, true, false, List, [], ◌∷◌, ◌++◌}
-use Rattle.std.proofs.Common.{length}
-use Rattle.std.proofs.Common.{Option, Some, None, Result, Ok, Err, refl, ap, ◌∙◌, subst, arith}
-use Rattle.std.specs.Prelude.{nat_lt}
+use Rattle.std.proofs.Common.{◌≡◌, ℕ, ◌<◌, ℤ, pos, Bool, true, false, List, ◌∷◌, ◌++◌, length, Option, Some, None}
+use Rattle.std.proofs.Common.{Result, Ok, Err, refl, ap, ◌∙◌, subst, arith, nat_lt, is_none}
 use Rattle.std.specs.Bool.{⊤}
 use Rattle.std.proofs.lemmas.List.{length-map}
 use Rattle.std.proofs.lemmas.Int.{ints}
@@ -13,15 +11,13 @@ use Rattle.stack_model.specs.declared.types.Load.{Load}
 use Rattle.stack_model.specs.declared.places.Spot.{Spot}
 use Rattle.stack_model.specs.declared.places.Key.{Key}
 use Rattle.stack_model.specs.declared.errors.ModelError.{ModelError}
-use Rattle.stack_model.specs.Structure.{NamedMaterial, NamedBody}
-use Rattle.stack_model.specs.Structure.{IsWithinLimits, HasJointLimits, HasBodyLimits, joint_terms}
+use Rattle.stack_model.specs.Structure.{NamedMaterial, NamedBody, IsWithinLimits, HasJointLimits, HasBodyLimits}
+use Rattle.stack_model.specs.Structure.{joint_terms}
 use Rattle.stack_model.specs.Parts.{MaterialPart, JointPart, BlockPart}
 use Rattle.stack_model.specs.Limits.{is_name, is_between, friction_of, corner_list_of}
 use Rattle.stack_model.specs.Convex.{convex}
-use Rattle.stack_model.specs.Content.{unless, ranged, found, is_new, number_of, has_room}
-use Rattle.stack_model.specs.Content.{material_names, body_names, with_material, add_material, with_body}
-use Rattle.stack_model.specs.Content.{add_joint, add_block}
-use Rattle.std.specs.Prelude.{is_none}
+use Rattle.stack_model.specs.Content.{unless, ranged, found, is_new, number_of, has_room, material_names, body_names}
+use Rattle.stack_model.specs.Content.{with_material, add_material, with_body, add_joint, add_block}
 use Rattle.stack_model.specs.Sound.{AreDifferent, AreOfDifferentPairs, fixed_among, free_among}
 use Rattle.stack_model.proofs.Joined.{one_more_joint}
 use Rattle.stack_model.proofs.Apart.{AreApart, HasRoom, one_more_material, one_more_body}
@@ -38,10 +34,6 @@ held false e x h = absurd (cc)
 pub there : {A : Type 0} (s : Spot) (k : Key) (o : Option A) (x : A) → ranged s k o ≡ Ok x → o ≡ Some x
 there s k (Some y) x h = cc
 there s k None x h = absurd (cc)
-
-met : (o : Option ℕ) (e : ModelError) (n : ℕ) → found o e ≡ Ok n → o ≡ Some n
-met (Some m) e n h = cc
-met None e n h = absurd (cc)
 
 -- the steps of a material
 record MaterialSteps (a b c : Bool) (o : Option (ℤ × ℤ)) (to : ℤ × ℤ → List NamedMaterial)

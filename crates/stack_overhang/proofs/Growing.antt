@@ -1,6 +1,5 @@
 -- A list that a loop fills, one item a turn.
-use Rattle.std.proofs.Common.{◌≡◌, ℕ, ◌+◌, ◌≤◌, List, [], ◌∷◌, ◌++◌, refl, sym, ap, ◌∙◌, subst, arith, add-one}
-use Rattle.std.proofs.Common.{append_assoc}
+use Rattle.std.proofs.Common.{◌≡◌, ℕ, ◌+◌, List, ◌∷◌, ◌++◌, sym, ap, ◌∙◌, add-one, append_assoc}
 use Rattle.stack_algebra.proofs.Listed.{listed, listed_more}
 
 module _ {X : Type 0} (f : ℕ → X) where
@@ -18,11 +17,3 @@ module _ {X : Type 0} (f : ℕ → X) where
   one_more_after front xs next i x h is so_far =
       h ∙ (λ j. so_far j ++ is j ∷ []) ∙ append_assoc front (listed i f) (f i ∷ [])
       ∙ ap (λ ys. front ++ ys) (longer i)
-
-  -- a list that a loop has filled has all values
-  pub no_more : (xs : List X) (i n : ℕ) → i ≤ n → n ≤ i → xs ≡ listed i f → xs ≡ listed n f
-  no_more xs i n le ge so_far = so_far ∙ ap (λ k. listed k f) (omega arith)
-
-  pub no_more_after : (front xs : List X) (i n : ℕ) → i ≤ n → n ≤ i → xs ≡ front ++ listed i f
-      → xs ≡ front ++ listed n f
-  no_more_after front xs i n le ge so_far = so_far ∙ ap (λ k. front ++ listed k f) (omega arith)

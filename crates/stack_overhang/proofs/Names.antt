@@ -1,10 +1,9 @@
 -- The names of bricks: each is a name, and none is that of another brick.
 use Rattle.std.proofs.Common.{◌≡◌, ℕ, zero, suc, ◌+◌, ◌<◌, ◌≤◌, ◌^◌, Bool, true, false, not, ◌||◌, List, [], ◌∷◌}
-use Rattle.std.proofs.Common.{length, get_or, drop, Some, None, refl, sym, ap, ◌∙◌, subst, arith, add-one}
+use Rattle.std.proofs.Common.{length, get_or, drop, Some, None, refl, sym, ap, ◌∙◌, subst, arith, add-one, cond, nat_lt}
 use Rattle.std.specs.List.{list_any, All, position_or_len}
 use Rattle.std.proofs.lemmas.Int.{ints}
 use Rattle.std.specs.Str.{bytes_eq}
-use Rattle.std.specs.Prelude.{cond, nat_lt}
 use Rattle.std.specs.Fmt.{digits}
 use Rattle.std.proofs.lemmas.Fmt.{decimal_injective}
 use Rattle.std.proofs.lemmas.Slice.Eq.{bytes_eq-Decides}

@@ -1,8 +1,7 @@
 -- The parts of a built-in model are taken without a fault, and make its structure.
 use Rattle.std.proofs.Common.{◌≡◌, ℕ, zero, suc, ◌+◌, ◌<◌, ◌≤◌, ℤ, pos, Bool, true, false, not, List, [], ◌∷◌, ◌++◌}
 use Rattle.std.proofs.Common.{map, length, get_or, Option, Some, None, Result, Ok, Err, refl, sym, ap, ◌∙◌, subst}
-use Rattle.std.proofs.Common.{arith, add-one}
-use Rattle.std.specs.Prelude.{nat_le, nat_lt, codes, count_by, cond}
+use Rattle.std.proofs.Common.{arith, add-one, nat_le, nat_lt, codes, count_by, cond}
 use Rattle.std.specs.Bool.{⊤}
 use Rattle.std.proofs.lemmas.Int.{ints}
 use Rattle.std.proofs.lemmas.List.Sums.{sum_by-append}
@@ -24,8 +23,8 @@ use Rattle.stack_polygon.specs.Limits.{is_in_range}
 use Rattle.stack_model.specs.Limits.{is_name, friction_of, point_of}
 use Rattle.stack_model.specs.Convex.{convex}
 use Rattle.stack_model.specs.Content.{unless, at_most, ranged, found, is_new, is_free, number_of, has_room}
-use Rattle.stack_model.specs.Content.{material_names, body_names, with_material, add_material, with_body}
-use Rattle.stack_model.specs.Content.{add_block, add_load, head_of, joints_of, bodies_of, loads_of, content_of}
+use Rattle.stack_model.specs.Content.{material_names, body_names, with_material, add_material, with_body, add_block}
+use Rattle.stack_model.specs.Content.{add_load, head_of, joints_of, bodies_of, loads_of, content_of}
 use Rattle.stack_model.specs.Relisted.{material_listed, coordinates}
 use Rattle.stack_model.proofs.Points.{point_again}
 use Rattle.stack_overhang.specs.declared.types.Rectangle.{Rectangle}

@@ -1,19 +1,17 @@
 -- Convexity, insides and separation in the language of linear forms.
+use Rattle.std.proofs.Common.{arith, ◌↔◌}
 use mathlib.Core.Path.{◌≡◌, sym, ◌∙◌, subst}
 use mathlib.Core.Logic.{◌≢◌}
 use mathlib.Core.List.{List}
 use Prim.Native.Nat.{ℕ, ◌<◌}
-use native.Mathlib.Omega.{arith}
 use lib.IntN.{ℤ, pos, ◌+ℤ◌, ◌-ℤ◌, ◌*ℤ◌}
 use lib.ListN.{length}
-use Rattle.std.specs.Prelude.{◌↔◌}
 use Rattle.stack_algebra.specs.Search.{next_round}
 use Rattle.stack_algebra.proofs.Integers.{sums, expand}
 use Rattle.stack_algebra.proofs.Order.{◌≼◌, ◌≺◌}
 use Rattle.stack_polygon.specs.declared.point.Point.{Point}
 use Rattle.stack_polygon.specs.Plane.{Triple, triangle_of, left_of, advance_of, ahead_of}
-use Rattle.stack_polygon.specs.Corners.{corner_of, end_of, IsStrictlyConvex, IsStrictlyInside}
-use Rattle.stack_polygon.specs.Corners.{IsInside as IsInsideOf}
+use Rattle.stack_polygon.specs.Corners.{corner_of, end_of, IsStrictlyConvex, IsStrictlyInside, IsInside as IsInsideOf}
 use Rattle.stack_overlap.specs.Forms.{value, at_corner, line, along, square, edge, IsBetween}
 use Rattle.stack_overlap.specs.Separation.{IsCommon, Separates, NoneSeparates}
 use Rattle.stack_overlap.specs.CommonPoints.{IsOnSegment, IsStrictlyBetween}

@@ -1,12 +1,11 @@
 -- The four cases of the common points.
+use Rattle.std.proofs.Common.{arith, ◌↔◌}
 use mathlib.Core.Path.{◌≡◌, sym, ap, ◌∙◌, subst}
 use mathlib.Core.Logic.{◌⊎◌, inl, inr}
 use Prim.Native.Nat.{ℕ, ◌≤◌}
-use native.Mathlib.Omega.{arith}
 use lib.IntN.{ℤ, pos, ◌-ℤ◌, ◌*ℤ◌, neg_ℤ}
 use Rattle.stack_algebra.proofs.Integers.{sums, expand}
 use Rattle.stack_algebra.proofs.Order.{◌≼◌, ◌≺◌}
-use Rattle.std.specs.Prelude.{◌↔◌}
 use Rattle.stack_polygon.specs.declared.point.Point.{Point}
 use Rattle.stack_overlap.specs.declared.types.Which.TheVariants.{First}
 use Rattle.stack_overlap.specs.declared.types.Common.TheVariants.{Nothing, Corner, OnEdge, Segment}
@@ -20,8 +19,7 @@ use Rattle.stack_overlap.specs.Separation.{IsCommon, Separates}
 use Rattle.stack_overlap.specs.CommonPoints.{IsCornerOf, IsBefore, IsCommonOf}
 use Rattle.stack_overlap.specs.Marks.{IsStretch, IsCut}
 use Rattle.stack_overlap.specs.declared.marks.Stretch.{Stretch}
-use Rattle.stack_overlap.proofs.ByForms.{convex-form, outer-form, shared-form, form-shared, within-form}
-use Rattle.stack_overlap.proofs.ByForms.{segment-form}
+use Rattle.stack_overlap.proofs.ByForms.{convex-form, outer-form, shared-form, form-shared, within-form, segment-form}
 use Rattle.stack_overlap.proofs.Identities.{reversed, along-reversed, square-reversed}
 use Rattle.stack_overlap.proofs.Support.{next_below}
 use Rattle.stack_overlap.proofs.Edges.{edge_long, start-mark, end-mark}

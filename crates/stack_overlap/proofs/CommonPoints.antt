@@ -1,12 +1,11 @@
 -- The common points of two outlines that an edge separates.
+use Rattle.std.proofs.Common.{arith, ◌↔◌}
 use mathlib.Core.Path.{◌≡◌, sym, subst}
 use mathlib.Core.Logic.{◌⊎◌, inl, inr}
 use Prim.Native.Nat.{ℕ, ◌<◌, ◌≤◌}
-use native.Mathlib.Omega.{arith}
 use lib.IntN.{ℤ, pos, ◌+ℤ◌, ◌-ℤ◌, ◌*ℤ◌, neg_ℤ}
 use Rattle.stack_algebra.proofs.Integers.{sums, expand}
 use Rattle.stack_algebra.proofs.Order.{◌≼◌, ◌≺◌, mul_le_right}
-use Rattle.std.specs.Prelude.{◌↔◌}
 use Rattle.stack_polygon.specs.declared.point.Point.{Point}
 use mathlib.Core.List.{List}
 use lib.ListN.{length}

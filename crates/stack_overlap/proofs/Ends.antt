@@ -1,11 +1,10 @@
 -- The ends of a stretch of a line, and of the common points.
+use Rattle.std.proofs.Common.{arith, ◌↔◌}
 use mathlib.Core.Path.{◌≡◌, sym, ap, ◌∙◌, subst}
 use mathlib.Core.Logic.{◌⊎◌, inl, inr}
 use mathlib.Core.List.{List}
-use native.Mathlib.Omega.{arith}
 use lib.IntN.{ℤ, pos, ◌+ℤ◌, ◌-ℤ◌, ◌*ℤ◌, neg_ℤ, *ℤ_comm}
 use Rattle.std.proofs.lemmas.Int.{ints}
-use Rattle.std.specs.Prelude.{◌↔◌}
 use Rattle.stack_algebra.proofs.Integers.{sums, expand, pos-left}
 use Rattle.stack_algebra.proofs.Order.{◌≼◌, ◌≺◌, mul_nonneg, mul_pos, mul_le_right, square_nonneg, nonneg-cancel}
 use Rattle.stack_polygon.specs.declared.point.Point.{Point}
@@ -17,8 +16,8 @@ use Rattle.stack_overlap.specs.Separation.{IsCommon}
 use Rattle.stack_overlap.specs.CommonPoints.{IsBefore, IsCommonOf}
 use Rattle.stack_overlap.specs.Ends.{IsMidpoint, IsExtremeIn, IsEndAt}
 use Rattle.stack_overlap.proofs.ByForms.{segment-form}
-use Rattle.stack_overlap.proofs.Identities.{less, opposite, value-less, value-opposite, place, value-place}
-use Rattle.stack_overlap.proofs.Identities.{line-start, line-end, along-start, along-end}
+use Rattle.stack_overlap.proofs.Identities.{less, opposite, value-less, value-opposite, place, value-place, line-start}
+use Rattle.stack_overlap.proofs.Identities.{line-end, along-start, along-end}
 use Rattle.stack_overlap.proofs.Midpoints.{reflection, value-reflection, reflection-midpoint, value-midpoint}
 use Rattle.stack_overlap.proofs.Pieces.{value-at}
 use Rattle.stack_overlap.proofs.Stretches.{is-mark}

@@ -1,12 +1,11 @@
 -- Pieces of a line: empty, one point, or a segment.
+use Rattle.std.proofs.Common.{arith, ◌↔◌}
 use mathlib.Core.Path.{◌≡◌, sym, ap, ◌∙◌, subst}
-use native.Mathlib.Omega.{arith}
 use lib.IntN.{ℤ, pos, ◌+ℤ◌, ◌-ℤ◌, ◌*ℤ◌, *ℤ_comm}
 use Rattle.stack_algebra.proofs.CrossProducts.{cancel}
 use Rattle.stack_algebra.proofs.Integers.{sums, expand}
 use Rattle.stack_algebra.proofs.Order.{◌≼◌, ◌≺◌, mul_nonneg, mul_pos, nonneg-cancel}
 use Rattle.std.proofs.lemmas.Int.{ints}
-use Rattle.std.specs.Prelude.{◌↔◌}
 use Rattle.stack_polygon.specs.declared.point.Point.{Point}
 use Rattle.stack_overlap.specs.Forms.{IsMark, LinearForm, IsOnStretch, IsBetween, value, at_corner, line, along, square}
 use Rattle.stack_polygon.specs.Plane.{Triple, IsAt}

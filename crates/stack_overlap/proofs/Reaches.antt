@@ -1,12 +1,10 @@
 -- The first and the last corner on a line, as the code finds and cuts them.
+use Rattle.std.proofs.Common.{below_more, MatchOption, None, Some, inl, inr, arith}
 use mathlib.Core.Path.{◌≡◌, sym, ap, ◌∙◌, subst}
-use mathlib.Core.Logic.{inl, inr}
 use Prim.Native.Nat.{ℕ, ◌<◌, ◌+◌}
-use native.Mathlib.Omega.{arith}
 use lib.IntN.{ℤ, pos}
 use Rattle.stack_algebra.proofs.Integers.{sums}
 use Rattle.stack_algebra.proofs.Order.{◌≼◌}
-use Rattle.std.proofs.Common.{below_more, MatchOption, None, Some}
 use Rattle.std.specs.declared.option.Option.{Option}
 use Rattle.stack_polygon.specs.declared.point.Point.{Point}
 use Rattle.stack_overlap.specs.declared.marks.Mark.{Mark}

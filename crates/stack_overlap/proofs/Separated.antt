@@ -1,11 +1,10 @@
 -- A pair overlaps exactly where no edge separates it.
+use Rattle.std.proofs.Common.{below_more, arith}
 use mathlib.Core.Logic.{◌⊎◌, inl, inr}
 use mathlib.Core.List.{List}
 use Prim.Native.Nat.{ℕ, zero, suc, ◌<◌, ◌≤◌}
-use native.Mathlib.Omega.{arith}
 use lib.IntN.{ℤ, pos}
 use lib.ListN.{length}
-use Rattle.std.proofs.Common.{below_more}
 use Rattle.stack_algebra.proofs.Integers.{sums}
 use Rattle.stack_algebra.proofs.Order.{◌≼◌, ◌≺◌}
 use Rattle.stack_polygon.specs.declared.point.Point.{Point}

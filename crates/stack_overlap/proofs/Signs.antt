@@ -1,15 +1,12 @@
 -- Signs, and what the search for a separating edge learns at each corner.
+use Rattle.std.proofs.Common.{IsTrue, arith, w32, to_z, of_z}
 use mathlib.Core.Path.{◌≡◌, refl, sym, ap, subst}
 use Prim.Native.Nat.{zero, suc}
-use native.Mathlib.Omega.{arith}
 use lib.IntN.{ℤ, pos, negsuc}
 use lib.Signed.{lt_z}
-use mir.Syntax.{w32}
-use mir.Val.{to_z, of_z}
 use Rattle.stack_algebra.proofs.Integers.{sums}
 use Rattle.stack_algebra.proofs.Order.{◌≼◌, ◌≺◌}
 use Rattle.std.proofs.lemmas.Int.{ints}
-use Rattle.std.proofs.Common.{IsTrue}
 use Rattle.stack_polygon.specs.declared.point.Point.{Point}
 use Rattle.stack_algebra.specs.IntegerOrder.{signum}
 

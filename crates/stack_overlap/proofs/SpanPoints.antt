@@ -1,7 +1,6 @@
 -- Spans with no point in common, and the spans of polygons.
-use Rattle.std.proofs.Common.{◌≡◌, ℕ, ◌<◌, ℤ, pos, negsuc, ◌+ℤ◌, ◌-ℤ◌, ◌*ℤ◌, List, length}
-use Rattle.std.proofs.Common.{Bool, true, false, cond, ◌⊎◌, inl, inr, refl, arith}
-use Rattle.std.specs.Prelude.{◌↔◌, int_lt, IsTrue}
+use Rattle.std.proofs.Common.{◌≡◌, ℕ, ◌<◌, ℤ, pos, negsuc, ◌+ℤ◌, ◌-ℤ◌, ◌*ℤ◌, List, length, Bool, true, false, cond, ◌⊎◌}
+use Rattle.std.proofs.Common.{inl, inr, refl, arith, ◌↔◌, int_lt, IsTrue}
 use Rattle.std.specs.Int.{int_min, int_max}
 use Rattle.std.proofs.lemmas.Int.{ints}
 use Rattle.stack_algebra.specs.IntegerOrder.{◌≼◌, ◌≺◌}
@@ -136,10 +135,6 @@ other-apart a b x h f y k = (
     | inr m ↦ k.1 m
   ],
 )
-
--- a span that begins beyond another's end
-pub beyond : (a b : Span) → a.x1 ≺ b.x0 → AreDisjoint a b
-beyond a b h X (m, n) = no-number b.x0 a.x1 X.x X.w X.positive h n.from_x0 m.to_x1
 
 -- a point inside a polygon lies within its span
 pub inside-span : (P : List Point) → IsPolygon P → (s : Span) → IsSpanOf P s → (X : Triple) → IsInside P X

@@ -1,7 +1,6 @@
 -- The loads of a directed survey on each body.
-use Rattle.std.proofs.Common.{◌≡◌, ◌≢◌, refl, sym, ap, ◌∙◌, ℕ, zero, suc, ◌+◌, ◌<◌, Bool, true, false}
-use Rattle.std.proofs.Common.{List, [], ◌∷◌, length, get_or, arith}
-use Rattle.std.specs.Prelude.{nat_eq, ◌&&◌, not, if◌then◌else◌}
+use Rattle.std.proofs.Common.{◌≡◌, ◌≢◌, refl, sym, ap, ◌∙◌, ℕ, zero, suc, ◌+◌, ◌<◌, Bool, true, false, List, ◌∷◌}
+use Rattle.std.proofs.Common.{length, get_or, arith, nat_eq, ◌&&◌, not, if◌then◌else◌}
 use lib.IntN.{ℤ, pos, ◌+ℤ◌, ◌-ℤ◌, ◌*ℤ◌}
 use Rattle.std.proofs.lemmas.Bool.{ne_eqb, eq-eqb, eqb-true}
 use Rattle.stack_algebra.specs.Sums.{sum_to, sum_of}
@@ -16,12 +15,11 @@ use Rattle.stack_statics.specs.declared.wrench.Wrench.{Wrench}
 use Rattle.stack_equilibrium.specs.declared.types.Question.TheVariants.{Dead, Live}
 use Rattle.stack_statics.specs.Loads.{no_load, load_wrench, wrench_sum, sum_of_triangles, moment_of_triangle}
 use Rattle.stack_statics.specs.Sway.{sway_load, level_moment_of_triangle}
-use Rattle.stack_equilibrium.specs.SurveyScene.{acting, listed_on, loads_on, weight_at, unit_weight_of}
-use Rattle.stack_equilibrium.specs.SurveyScene.{first_corner_of, scene_bearing_of, bearing_of}
+use Rattle.stack_equilibrium.specs.SurveyScene.{acting, listed_on, loads_on, weight_at, unit_weight_of, first_corner_of}
+use Rattle.stack_equilibrium.specs.SurveyScene.{scene_bearing_of, bearing_of}
 use Rattle.stack_polygon.specs.Plane.{triangle_of}
 use Rattle.stack_pairs.specs.Pairs.{times_wrench}
-use Rattle.stack_pairs.specs.Directed.{times_load, directed_load, directed_from, directed_structure, wrench_on}
-use Rattle.stack_pairs.specs.Directed.{ArePair}
+use Rattle.stack_pairs.specs.Directed.{times_load, directed_load, directed_from, directed_structure, wrench_on, ArePair}
 use Rattle.stack_pairs.specs.Laws.{DirectedScenesAreToward}
 
 -- the number g of load i, among loads that are numbered from k on
@@ -120,10 +118,6 @@ dead_sum g live i j m n k (l ∷ ls) =
 -- what load_of gives past the end
 abbrev stand_in : Load
 stand_in = record { body = 0; live = false; at = origin; fx = pos 0; fy = pos 0 }
-
--- a component of a wrench, of the loads on one body
-abbrev component : (Wrench → ℤ) → (b : ℕ) → Point → Load → ℤ
-component c b o l = c (acting Live b o l)
 
 module _ (c : Wrench → ℤ) (zero_has_none : c no_load ≡ pos 0)
     (grows : (m : ℤ) (o at : Point) (f g : ℤ) →

@@ -1,6 +1,5 @@
 -- The survey of a part is the part of a survey.
-use Rattle.std.proofs.Common.{◌≡◌, refl, sym, ap, subst, ◌∙◌, ℕ, Bool, true}
-use Rattle.std.proofs.Common.{List, arith, ◌&&◌, inl, inr}
+use Rattle.std.proofs.Common.{◌≡◌, refl, sym, ap, subst, ◌∙◌, ℕ, Bool, true, List, arith, ◌&&◌, inl, inr}
 use Rattle.stack_algebra.proofs.Conjunctions.{both_true}
 use Rattle.stack_polygon.specs.declared.point.Point.{Point}
 use Rattle.stack_overlap.specs.Separation.{Overlaps}
@@ -8,14 +7,12 @@ use Rattle.stack_model.specs.Structure.{Structure, body_of}
 use Rattle.stack_contact.specs.declared.types.Bearing.{Bearing}
 use Rattle.stack_contact.specs.declared.types.Touch.{Touch}
 use Rattle.stack_contact.specs.Bearings.{Bears, Touches}
-use Rattle.stack_contact.specs.ContactLists.{corners_of, IsPair, ComesBefore, friction_of_materials}
-use Rattle.stack_contact.specs.ContactLists.{friction_between}
+use Rattle.stack_contact.specs.ContactLists.{corners_of, IsPair, ComesBefore, friction_of_materials, friction_between}
 use Rattle.stack_contact.specs.ContactLists.{IsBearing, AreBearings, IsTouch, AreTouches}
 use Rattle.stack_contact.specs.Surveyed.{Surveyed, IsSurvey, AreSeparated}
 use Rattle.stack_model.specs.Keeping.{kept_before}
 use Rattle.stack_model.specs.Part.{part_of}
-use Rattle.stack_part.specs.Part.{bearing_among, bearings_among, touch_among, touches_among}
-use Rattle.stack_part.specs.Part.{surveyed_part}
+use Rattle.stack_part.specs.Part.{bearing_among, bearings_among, touch_among, touches_among, surveyed_part}
 use Rattle.stack_part.specs.Laws.{PartsAreSurveyed}
 use Rattle.stack_model.proofs.KeptItems.{before_rises, items_rise, item_of, at_number}
 use Rattle.stack_model.proofs.PickedItems.{picked_from, picked_has, picked_few, picked_ordered}

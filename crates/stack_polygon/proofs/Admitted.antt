@@ -1,12 +1,10 @@
 -- What a list of corners becomes, by meaning and by tests, is one answer.
+use Rattle.std.proofs.Common.{inl, inr, arith, Ok, Err, if◌then◌else◌}
 use mathlib.Core.Path.{◌≡◌, refl, sym, ap, ◌∙◌, subst}
-use mathlib.Core.Logic.{inl, inr}
 use mathlib.Core.Bool.{Bool, true, false}
 use mathlib.Core.List.{List}
 use Prim.Native.Nat.{ℕ, zero, suc, ◌<◌}
-use native.Mathlib.Omega.{arith}
 use lib.ListN.{length}
-use Rattle.std.specs.Prelude.{Ok, Err, if◌then◌else◌}
 use Rattle.std.proofs.lemmas.Int.{ints}
 use Rattle.stack_polygon.specs.declared.point.Point.{Point}
 use Rattle.stack_polygon.specs.declared.errors.PolygonError.{PolygonError}
@@ -14,8 +12,8 @@ use Rattle.stack_polygon.specs.declared.errors.PolygonError.TheVariants.{Corners
 use Rattle.stack_polygon.specs.Corners.{corner_of, reversed, IsStrictlyConvex}
 use Rattle.stack_polygon.specs.Limits.{AreInRange, is_in_range, are_in_range}
 use Rattle.stack_polygon.specs.Outlines.{all_below, first_failing, is_clear, is_convex, outline_of}
-use Rattle.stack_polygon.specs.Admission.{IsCount, IsFirstUnclear, IsAdmittedAs, IsRefusedAs}
-use Rattle.stack_polygon.specs.Admission.{is_count, first_far_of, polygon_of, with_edge}
+use Rattle.stack_polygon.specs.Admission.{IsCount, IsFirstUnclear, IsAdmittedAs, IsRefusedAs, is_count, first_far_of}
+use Rattle.stack_polygon.specs.Admission.{polygon_of, with_edge}
 use Rattle.stack_polygon.proofs.Ranges.{length-reversed, range-reversed, all_in_range, in_range, to_range}
 use Rattle.stack_polygon.proofs.Ranges.{to_all_in_range}
 use Rattle.stack_polygon.proofs.Tested.{each_below, below_each, clear_from, to_clear, convex_from, to_convex}

@@ -1,7 +1,6 @@
 -- The span of one corner more.
-use Rattle.std.proofs.Common.{◌≡◌, ℕ, ◌+◌, ℤ, List, Bool, true, false, cond, refl, sym, subst, arith}
-use Rattle.std.proofs.Common.{below_more}
-use Rattle.std.specs.Prelude.{int_lt}
+use Rattle.std.proofs.Common.{◌≡◌, ℕ, ◌+◌, ℤ, List, Bool, true, false, cond, refl, sym, subst, arith, below_more}
+use Rattle.std.proofs.Common.{int_lt}
 use Rattle.std.specs.Int.{int_min, int_max}
 use Rattle.std.proofs.lemmas.Int.{ints}
 use Rattle.stack_algebra.specs.IntegerOrder.{◌≼◌}

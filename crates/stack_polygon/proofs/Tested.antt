@@ -1,14 +1,13 @@
 -- The tests of outlines decide the facts.
+use Rattle.std.proofs.Common.{arith, ◌==◌, int_lt}
 use mathlib.Core.Path.{◌≡◌, refl, ap, ◌∙◌}
 use mathlib.Core.Logic.{◌⊎◌, inl, inr}
 use mathlib.Core.Bool.{Bool, true, false, ◌&&◌, ◌||◌}
 use mathlib.Core.List.{List}
 use Prim.Native.Nat.{ℕ, zero, suc, ◌<◌}
-use native.Mathlib.Omega.{arith}
 use lib.IntN.{ℤ, pos}
 use lib.ListN.{length}
 use Rattle.stack_algebra.proofs.Conjunctions.{both_true}
-use Rattle.std.specs.Prelude.{◌==◌, int_lt}
 use Rattle.std.proofs.lemmas.Int.{ints}
 use Rattle.std.proofs.lemmas.Bool.Decides.{Decides-eqb}
 use Rattle.stack_algebra.specs.IntegerOrder.{◌≺◌}

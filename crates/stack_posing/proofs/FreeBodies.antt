@@ -1,6 +1,6 @@
 -- The free bodies of a scene by their numbers, and sums over them.
-use Rattle.std.proofs.Common.{◌≡◌, refl, sym, ap, ◌∙◌, ℕ, zero, suc, ◌+◌, ◌<◌, Bool, true, false, not}
-use Rattle.std.proofs.Common.{cond, ◌&&◌, eqb, arith}
+use Rattle.std.proofs.Common.{◌≡◌, refl, sym, ap, ◌∙◌, ℕ, zero, suc, ◌+◌, ◌<◌, Bool, true, false, not, cond, ◌&&◌, eqb}
+use Rattle.std.proofs.Common.{arith}
 use Rattle.std.proofs.lemmas.Bool.{eq-eqb}
 use native.Mathlib.Decide.{ℕ_discrete}
 use lib.Dec.{T, eqb→eq}
@@ -15,8 +15,7 @@ use Rattle.stack_equilibrium.specs.SurveyScene.{scene_of}
 use Rattle.stack_equilibrium.proofs.FreeNumbers.{before_is, all_before}
 use Rattle.stack_contact.specs.FreeBlocks.{free_of}
 use Rattle.stack_contact.proofs.Frees.{free_block}
-use Rattle.stack_posing.specs.FreeBodies.{free_below, free_at, FreeBodiesAreFound}
-use Rattle.stack_posing.specs.FreeBodies.{FreeNumbersAreThoseOfSurveys}
+use Rattle.stack_posing.specs.FreeBodies.{free_below, free_at, FreeBodiesAreFound, FreeNumbersAreThoseOfSurveys}
 
 pub eqb-other : (a b : ℕ) → (a ≡ b → ⊥) → eqb a b ≡ false
 eqb-other a b d = go (eqb a b) (eqb→eq a b)

@@ -15,8 +15,7 @@ use Rattle.stack_statics.specs.Certificates.{still, free_before, move_of}
 use Rattle.stack_statics.proofs.BearingWork.{exerted_power}
 use Rattle.stack_posing.specs.FreeBodies.{free_bodies}
 use Rattle.stack_posing.specs.Edges.{edge_on}
-use Rattle.stack_posing.specs.MovesByNumber.{moves_from, power_by, PowersAreByNumber}
-use Rattle.stack_posing.specs.MovesByNumber.{UnopposedMovesAreMotions}
+use Rattle.stack_posing.specs.MovesByNumber.{moves_from, power_by, PowersAreByNumber, UnopposedMovesAreMotions}
 use Rattle.stack_posing.proofs.FreeBodies.{before_less, over_free}
 
 at_rest : (x y m : ℤ) → pos 0 ≡ pos 0 *ℤ x +ℤ pos 0 *ℤ y +ℤ pos 0 *ℤ m

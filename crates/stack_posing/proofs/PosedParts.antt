@@ -1,11 +1,10 @@
 -- The parts of the problem of a survey as they are made, block by block and bearing by bearing.
-use Rattle.std.proofs.Common.{◌≡◌, refl, sym, ap, subst, ◌∙◌, ℕ, zero, suc, ◌+◌, ◌*◌, ◌<◌, ◌≤◌, Bool, true, false}
-use Rattle.std.proofs.Common.{List, [], ◌∷◌, ◌++◌}
-use Rattle.std.proofs.Common.{map, length, get_or, cond, eqb, ltb, arith, neg_ℤ, ◌/◌, ◌%◌}
+use Rattle.std.proofs.Common.{◌≡◌, refl, sym, ap, subst, ◌∙◌, ℕ, zero, suc, ◌+◌, ◌*◌, ◌<◌, ◌≤◌, true, false, List, ◌∷◌}
+use Rattle.std.proofs.Common.{◌++◌, map, length, get_or, eqb, arith, neg_ℤ, ◌/◌, ◌%◌}
 use Rattle.std.specs.List.{AllByRecursion}
-use Rattle.std.proofs.lemmas.List.{get_or_append_left, get_or_push, get_or-map, length-append, length-map, map-append}
+use Rattle.std.proofs.lemmas.List.{get_or_append_left, get_or_push, length-append, length-map, map-append}
 use native.Mathlib.Decide.{dec_le}
-use lib.IntN.{ℤ, pos, negsuc, nat_abs}
+use lib.IntN.{ℤ, pos, negsuc}
 use Rattle.stack_algebra.specs.Listed.{listed}
 use Rattle.stack_algebra.proofs.Listed.{listed_more}
 use Rattle.stack_whole.specs.Limits.{IsBelowBound}
@@ -23,7 +22,7 @@ use Rattle.stack_table.specs.declared.problem.Entry.{Entry}
 use Rattle.stack_posing.specs.Posed.{share, row_share, right_share, column_on}
 use Rattle.stack_posing.specs.Entries.{AreEntries, with_wrench, opposites}
 use Rattle.stack_posing.specs.Columns.{rows_of, entries_of, AreColumns}
-use Rattle.stack_posing.proofs.SurveyEntries.{row_is, edge_is, pair_first, pair_second}
+use Rattle.stack_posing.proofs.SurveyEntries.{row_is, edge_is}
 use Rattle.stack_posing.proofs.GrowingEntries.{one_block}
 
 -- the rows of free block b, of a wrench on each body
@@ -151,7 +150,3 @@ next_bearing v k cs one new c d l first second plus minus h = subst (AreColumns 
         (arith, a, e, m, q))))
         (edge_column_is v j k 1 d.entries.items (omega (arith, l, m))
         (omega (arith, m, q)) (omega (arith, m, q)) minus)
-
--- before the first bearing there is no column
-pub no_columns : (v : Surveyed) → AreColumns v 0 []
-no_columns v = record { count = refl; columns = λ j l. absurd (omega (arith, l)) }

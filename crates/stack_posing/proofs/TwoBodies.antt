@@ -1,7 +1,6 @@
 -- The column of an edge, body by body: it has entries for the two bodies of its bearing alone.
 use Rattle.std.proofs.Common.{◌≡◌, refl, sym, ap, subst, ◌∙◌, ℕ, zero, suc, ◌+◌, ◌-◌, ◌*◌, ◌<◌, ◌≤◌, Bool, true, false}
-use Rattle.std.proofs.Common.{List, [], length, cond, eqb, not, arith, Result, Ok, Err, Vec}
-use Rattle.std.specs.Prelude.{IfOk}
+use Rattle.std.proofs.Common.{List, [], length, cond, eqb, not, arith, Result, Ok, Err, Vec, IfOk}
 use Rattle.std.specs.declared.alloc.AllocError.{AllocError}
 use Rattle.std.specs.declared.alloc.Global.{Global}
 use lib.IntN.{ℤ, pos, negsuc, ◌*ℤ◌}

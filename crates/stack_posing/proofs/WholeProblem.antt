@@ -1,7 +1,6 @@
 -- The parts together are the problem of the survey, and meet the condition of a table.
-use Rattle.std.proofs.Common.{◌≡◌, refl, sym, ap, subst, ◌∙◌, ℕ, zero, suc, ◌+◌, ◌*◌, ◌<◌, ◌≤◌, ◌%◌, Bool, true}
-use Rattle.std.proofs.Common.{false, List, [], ◌∷◌}
-use Rattle.std.proofs.Common.{length, get_or, cond, eqb, ltb, arith, Option, Some, None, Vec, ◌/◌}
+use Rattle.std.proofs.Common.{◌≡◌, refl, sym, ap, subst, ◌∙◌, ℕ, zero, suc, ◌+◌, ◌*◌, ◌<◌, ◌≤◌, ◌%◌, Bool, true, false}
+use Rattle.std.proofs.Common.{List, [], ◌∷◌, length, get_or, cond, eqb, ltb, arith, Option, Some, None, Vec, ◌/◌}
 use Rattle.std.specs.declared.alloc.Global.{Global}
 use Rattle.std.specs.List.{AllByRecursion}
 use Rattle.std.proofs.lemmas.Bool.{lt-ltb, le-ltb, eq-eqb}

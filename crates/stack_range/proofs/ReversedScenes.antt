@@ -1,7 +1,6 @@
 -- The scene of a reversed survey is the reversed scene, so reversal turns factors round.
-use Rattle.std.proofs.Common.{◌≡◌, ℕ, ◌<◌, Bool, true, false, not, ◌&&◌, List, [], ◌∷◌, length, map}
-use Rattle.std.proofs.Common.{refl, sym, subst, ap, ◌∙◌, arith}
-use Rattle.std.specs.Prelude.{◌↔◌, ℤ, pos, neg_ℤ, ◌+ℤ◌, ◌-ℤ◌, ◌*ℤ◌, nat_eq, if◌then◌else◌}
+use Rattle.std.proofs.Common.{◌≡◌, ℕ, ◌<◌, Bool, true, false, not, ◌&&◌, List, [], ◌∷◌, length, map, refl, sym, subst}
+use Rattle.std.proofs.Common.{ap, ◌∙◌, arith, ◌↔◌, ℤ, pos, neg_ℤ, ◌+ℤ◌, ◌-ℤ◌, ◌*ℤ◌, nat_eq, if◌then◌else◌}
 use Rattle.std.proofs.lemmas.List.{length-map, get_or-map}
 use Rattle.stack_algebra.specs.Sums.{sum_to}
 use Rattle.stack_algebra.proofs.Integers.{expand, sums, mul_neg}
@@ -17,8 +16,7 @@ use Rattle.stack_statics.specs.Balance.{Carries}
 use Rattle.stack_statics.specs.Loads.{no_load, load_wrench, wrench_sum, sum_of_triangles, moment_of_triangle}
 use Rattle.stack_statics.specs.Sway.{sway_load, level_moment_of_triangle}
 use Rattle.stack_equilibrium.specs.SurveyScene.{acting, listed_on, first_corner_of, unit_weight_of, weight_at}
-use Rattle.stack_equilibrium.specs.SurveyScene.{sway_load_at}
-use Rattle.stack_equilibrium.specs.SurveyScene.{loads_on, scene_bearing_of, bearing_of, scene_of}
+use Rattle.stack_equilibrium.specs.SurveyScene.{sway_load_at, loads_on, scene_bearing_of, bearing_of, scene_of}
 use Rattle.stack_range.specs.Reversed.{reversed_load, reversed_sway, reversed_structure, opposite_wrench}
 use Rattle.stack_range.specs.Laws.{ReversedScenesAreTheirs, ReversalTurnsFactors}
 use Rattle.stack_range.proofs.Turned.{scene_turns_factors}

@@ -1,8 +1,7 @@
 -- A factor is carried exactly where the reversed scene carries the one of the other sign.
+use Rattle.std.proofs.Common.{arith, ◌↔◌}
 use mathlib.Core.Path.{◌≡◌}
-use native.Mathlib.Omega.{arith}
 use lib.IntN.{ℤ, ◌*ℤ◌, neg_ℤ}
-use Rattle.std.specs.Prelude.{◌↔◌}
 use Rattle.stack_algebra.proofs.Integers.{expand, sums}
 use Rattle.stack_statics.specs.Scene.{Scene}
 use Rattle.stack_statics.specs.Balance.{Carries}

@@ -1,12 +1,9 @@
 -- A number of the type at 128 bits.
+use Rattle.std.proofs.Common.{arith, SFits, to_z, of_z, to_z-of_z, Option, Some, None, IfSome}
 use mathlib.Core.Path.{◌≡◌, ap, subst, ◌∙◌}
 use Prim.Native.Nat.{◌<◌, ◌^◌}
-use native.Mathlib.Omega.{arith}
 use lib.IntN.{ℤ, nat_abs}
 use mir.Syntax.{w128}
-use mir.Val.{SFits, to_z, of_z}
-use mir.Facts.{to_z-of_z}
-use Rattle.std.specs.Prelude.{Option, Some, None, IfSome}
 use Rattle.std.proofs.lemmas.Int.{fits_signed_from_abs}
 use Rattle.num_traits.specs.Laws.{ChecksSigned}
 use Rattle.stack_rational.specs.Stored.{Within}

@@ -1,13 +1,12 @@
 -- The order of two fractions by their whole parts.
+use Rattle.std.proofs.Common.{arith, int_lt, T, ◌↔◌}
 use mathlib.Core.Path.{◌≡◌, refl, sym, ap, subst, subst₂, ◌∙◌}
 use Prim.Native.Nat.{zero, suc, ◌+◌, ◌<◌}
-use native.Mathlib.Omega.{arith}
 use lib.IntN.{ℤ, pos, negsuc, nat_abs, neg_ℤ, ◌+ℤ◌, ◌-ℤ◌, ◌*ℤ◌}
 use lib.Signed.{quot_z, rem_z, lt_z_yes, lt_z_no}
 use mathlib.Core.Bool.{Bool, true, false, not}
-use Rattle.std.specs.Prelude.{int_lt, T, ◌↔◌}
 use Rattle.std.specs.declared.cmp.Ordering.{Ordering}
-use Rattle.std.specs.Ordering.{MatchOrdering}
+use Rattle.std.specs.Ordering.{MatchOrdering, int_cmp}
 use Rattle.std.proofs.lemmas.Cmp.{int_ranked}
 use Rattle.stack_algebra.specs.Fraction.{Fraction}
 use Rattle.stack_algebra.proofs.Over.{over}
@@ -15,7 +14,6 @@ use Rattle.stack_rational.specs.Stored.{Split, InStep, IsStored}
 use Rattle.stack_rational.specs.Order.{order_of}
 use Rattle.stack_rational.proofs.Crosswise.{stored-num, stored-den}
 use Rattle.std.proofs.lemmas.Int.{ints, quot-rem}
-use Rattle.std.specs.Ordering.{int_cmp}
 use Rattle.std.specs.declared.cmp.Ordering.TheVariants.{Less, Equal, Greater}
 use Rattle.stack_algebra.proofs.Integers.{expand, sums}
 use Rattle.stack_algebra.proofs.Order.{◌≺◌, ◌≼◌, mul_pos, mul_nonneg}

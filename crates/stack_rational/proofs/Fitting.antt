@@ -1,13 +1,12 @@
 -- What isn't too wide fits, and what is 0 is never too wide.
+use Rattle.std.proofs.Common.{arith, ℕ, ◌^◌, true, false, not, nat_le, nat_lt}
 use mathlib.Core.Path.{◌≡◌, refl, sym, ap, ◌∙◌}
 use mathlib.Core.Logic.{◌≢◌}
 use Prim.Native.Nat.{zero, suc, ◌/◌, ◌≤◌}
-use native.Mathlib.Omega.{arith}
 use lib.IntN.{ℤ, pos, negsuc, nat_abs, ◌+ℤ◌, ◌*ℤ◌}
 use Rattle.std.proofs.lemmas.Int.{ints}
 use Rattle.std.proofs.lemmas.Bool.{le-leb, leb-true}
 use Rattle.std.proofs.Math.Nat.{div-le_self}
-use Rattle.std.specs.Prelude.{ℕ, ◌^◌, true, false, not, nat_le, nat_lt}
 use Rattle.stack_whole.specs.Whole.{greatest_number}
 use Rattle.stack_algebra.specs.Ordered.{Sign, minus, nought, plus, opposite, product_sign, sign_of}
 use Rattle.stack_algebra.specs.Fraction.{Fraction, low_num, low_den}
@@ -140,9 +139,6 @@ module _ (m : ℤ) (w : IsWidth m) where
   pub small_whole : (n : ℤ) → nat_abs n ≤ 1 → is_too_wide m Whole (of n) (of n) ≡ false
   small_whole n h = ap not (le-leb (nat_abs (of n).num) (nat_abs m)
       (omega (arith, ints, ap nat_abs (num_of n), w.some, h)))
-
-  pub whole_zero : is_too_wide m Whole (of (pos 0)) (of (pos 0)) ≡ false
-  whole_zero = small_whole (pos 0) (omega arith)
 
   pub minus_one-fits : is_too_wide m Whole (of (negsuc 0)) (of (negsuc 0)) ≡ false
   minus_one-fits = small_whole (negsuc 0) (omega arith)

@@ -1,9 +1,8 @@
 -- The quotient of two numbers that fit is the first over the second in lowest terms, and fits.
-use Rattle.std.proofs.Common.{◌≡◌, sym, ap, subst, ◌∙◌, ℕ, ◌<◌, ◌/◌, ◌≢◌, ◌*ℤ◌, false, true, not, arith}
+use Rattle.std.proofs.Common.{◌≡◌, sym, ap, subst, ◌∙◌, ℕ, ◌<◌, ◌/◌, ◌≢◌, ◌*ℤ◌, false, true, not, arith, to_z, of_z}
+use Rattle.std.proofs.Common.{to_z-of_z}
 use lib.IntN.{ℤ, pos, negsuc, nat_abs}
 use mir.Syntax.{w128}
-use mir.Val.{to_z, of_z}
-use mir.Facts.{to_z-of_z}
 use Rattle.std.proofs.lemmas.Int.{ints}
 use Rattle.std.proofs.lemmas.Bool.{le-leb}
 use Rattle.std.proofs.Math.Nat.{div-le_self}

@@ -1,14 +1,12 @@
 -- A loop that joins one denominator after the other.
+use Rattle.std.proofs.Common.{arith, to_z, of_z, to_z-of_z}
 use mathlib.Core.Path.{◌≡◌, refl, sym, ap, subst, ◌∙◌}
 use mathlib.Core.List.{List}
 use Prim.Native.Nat.{ℕ, ◌+◌, ◌<◌, ◌≤◌}
-use native.Mathlib.Omega.{arith}
 use native.Mathlib.Decide.{ℕ_discrete}
 use lib.ListN.{take, length, get_or}
 use lib.IntN.{ℤ, pos, nat_abs}
 use mir.Syntax.{w128}
-use mir.Val.{to_z, of_z}
-use mir.Facts.{to_z-of_z}
 use Rattle.std.proofs.lemmas.Int.{ints}
 use Rattle.stack_rational.specs.Widths.{signed-keeps}
 use Rattle.stack_algebra.specs.IntegerOrder.{◌≺◌}

@@ -1,10 +1,9 @@
 -- What fits a greatest value fits a greater one.
+use Rattle.std.proofs.Common.{arith, true, not}
 use mathlib.Core.Path.{◌≡◌, ap}
 use Prim.Native.Nat.{◌≤◌}
-use native.Mathlib.Omega.{arith}
 use lib.IntN.{ℤ, nat_abs, ◌+ℤ◌}
 use Rattle.std.proofs.lemmas.Bool.{le-leb, leb-true}
-use Rattle.std.specs.Prelude.{true, not}
 use Rattle.stack_algebra.specs.Fraction.{Fraction}
 use Rattle.stack_algebra.proofs.Fractions.{neg, mul}
 use Rattle.stack_algebra.proofs.FractionField.{inv}

@@ -1,13 +1,12 @@
 -- Tables and lists that are filled step by step.
-use Rattle.std.proofs.Common.{◌≡◌, ℕ, ◌+◌, ◌<◌, ◌≤◌, List, [], ◌∷◌, ◌++◌, map, take, length, get_or, String}
-use Rattle.std.proofs.Common.{Global}
+use Rattle.std.proofs.Common.{◌≡◌, ℕ, ◌+◌, ◌<◌, ◌≤◌, List, ◌∷◌, ◌++◌, map, take, length, get_or, String, Global}
 use Rattle.std.proofs.Common.{Ordering, Less, Equal, Greater, string_bytes, refl, sym, ap, ◌∙◌}
 use Rattle.std.proofs.lemmas.List.{map-append, take_more, take_all}
 use Rattle.std.proofs.lemmas.Simd.{map-map}
 use Rattle.std.specs.String.{string_cmp}
 use Rattle.std.specs.BTreeMap.{insert_entry}
 use Rattle.std.specs.Ordering.{match_ordering}
-use Rattle.toml.specs.Data.{Data, Members, member}
+use Rattle.toml.specs.Data.{Data, member}
 use Rattle.toml.specs.declared.value.Value.{Value}
 use Rattle.toml.specs.View.{view, items_of, items_view, members_view}
 use Rattle.toml.proofs.Views.{Entry}
@@ -32,11 +31,6 @@ is_put k v (e ∷ es) = put_at (string_cmp k e.0) k v e es (is_put k v es)
 pub was_put : (k : String Global) (v : Value) (word : List ℕ) (es : List Entry) → string_bytes k ≡ word
     → members_view (insert_entry string_cmp es k v) ≡ put_member word (view v) (members_view es)
 was_put k v word es same = is_put k v es ∙ ap (λ w. put_member w (view v) (members_view es)) same
-
--- one put after another
-pub put_on : (word : List ℕ) (t s r : Members) (v d : Data) → t ≡ put_member word v s → s ≡ r → v ≡ d
-    → t ≡ put_member word d r
-put_on word t s r v d e g h = e ∙ (λ i. put_member word (h i) (g i))
 
 -- a list of values that a loop fills, with one value more
 pub more : {X : Type 0} (f : X → Data) (vs next : List Value) (xs : List X) (i : ℕ) (v : Value) (d : X)

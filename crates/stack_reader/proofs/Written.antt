@@ -1,16 +1,13 @@
 -- What is written is read back: the tables of items, and of the whole.
-use Rattle.std.proofs.Common.{◌≡◌, ◌≢◌, ℕ, ◌+◌, ◌≤◌, ℤ, pos, Bool, true, false, List, [], ◌∷◌, map, Option, Some}
-use Rattle.std.proofs.Common.{None, sym, ◌∙◌}
-use Rattle.std.proofs.Common.{Result, Ok, Err, option_map}
-use Rattle.std.proofs.Common.{refl, ap, arith}
-use Rattle.toml.specs.Data.{Data, string, integer, boolean, array, Items, Members}
-use Rattle.toml.specs.Data.{no_members, member, get_member}
+use Rattle.std.proofs.Common.{◌≡◌, ◌≢◌, ℕ, ◌+◌, ◌≤◌, ℤ, pos, Bool, true, false, List, [], ◌∷◌, map, Option, Some, None}
+use Rattle.std.proofs.Common.{sym, ◌∙◌, Result, Ok, Err, option_map, refl, ap, arith, if◌then◌else◌}
+use Rattle.toml.specs.Data.{Data, string, integer, boolean, array, Items, Members, no_members, member, get_member}
 use Rattle.toml.specs.Data.{items_depth, members_depth}
 use Rattle.toml.specs.View.{items_of}
 use Rattle.stack_model.specs.declared.places.Key.{Key}
 use Rattle.stack_model.specs.declared.places.Key.TheVariants as keys
 use Rattle.stack_model.specs.Parts.{MaterialPart, JointPart, BlockPart, LoadPart, PartLists, IsOfVersion}
-use Rattle.stack_model.specs.Limits.{is_version}
+use Rattle.stack_model.specs.Limits.{is_version, with_first}
 use Rattle.stack_model.proofs.Limited.{between}
 use Rattle.std.specs.Ordering.{int_eq, nat_cmp, match_ordering}
 use Rattle.std.specs.Cmp.Lexicographic.{slice_cmp}
@@ -21,8 +18,6 @@ use Rattle.stack_model.specs.declared.places.Spot.TheVariants as spots
 use Rattle.stack_reader.specs.declared.errors.ReadError.TheVariants.{UnknownKey}
 use Rattle.std.specs.Cmp.{signed_Decides}
 use Rattle.std.proofs.lemmas.Int.{ints}
-use Rattle.std.specs.Prelude.{if◌then◌else◌}
-use Rattle.stack_model.specs.Limits.{with_first}
 use Rattle.stack_algebra.specs.IntegerOrder.{◌≼◌}
 use Rattle.stack_reader.specs.declared.errors.ReadError.{ReadError}
 use Rattle.stack_reader.specs.Keys.{word_of, top_keys, first_top_keys}
@@ -30,9 +25,7 @@ use Rattle.stack_reader.specs.Forms.{wholes_of_items, lists_of_items, are_tables
 use Rattle.stack_reader.specs.Shape.{list_at, is_second, version_at, sway_at, material_part, joint_part, block_part}
 use Rattle.stack_reader.specs.Shape.{load_part, in_table, each_of, head_of_document, parts_of_document}
 use Rattle.stack_reader.specs.Writing.{with_tables, wholes_data, material_data, joint_data, block_data, first_data}
-use Rattle.stack_reader.specs.Writing.{second_data, head_data, with_sway}
-use Rattle.stack_reader.specs.Writing.{load_data}
-use Rattle.stack_reader.specs.Writing.{tables_data, parts_data}
+use Rattle.stack_reader.specs.Writing.{second_data, head_data, with_sway, load_data, tables_data, parts_data}
 
 wholes_back : (zs : List ℤ) → wholes_of_items (items_of (map integer zs)) ≡ Some zs
 wholes_back [] = refl

@@ -1,8 +1,6 @@
 -- The points of a rectangle are those of its ranges, those strictly inside it the ones strictly between their
 -- ends.
-use Rattle.std.proofs.Common.{◌≡◌, ℕ, ◌<◌, ℤ, ◌*ℤ◌, List, length, Bool, ◌⊎◌, inl, inr, sym, subst, subst₂}
-use Rattle.std.proofs.Common.{arith}
-use Rattle.std.specs.Prelude.{◌↔◌}
+use Rattle.std.proofs.Common.{◌≡◌, ℕ, ◌<◌, ℤ, ◌*ℤ◌, List, length, Bool, ◌⊎◌, inl, inr, sym, subst, subst₂, arith, ◌↔◌}
 use Rattle.stack_algebra.specs.IntegerOrder.{◌≼◌}
 use Rattle.stack_algebra.proofs.Integers.{sums}
 use Rattle.stack_polygon.specs.declared.point.Point.{Point}
@@ -10,8 +8,8 @@ use Rattle.stack_polygon.specs.Plane.{Triple}
 use Rattle.stack_polygon.specs.Corners.{corner_of, end_of}
 use Rattle.stack_overlap.specs.CommonPoints.{IsCornerOf}
 use Rattle.stack_rectangle.specs.Rectangles.{Range, Extent}
-use Rattle.stack_rectangle.proofs.LevelEdges.{pt, Before, IsLeft}
-use Rattle.stack_rectangle.proofs.LevelEdges.{level_kept, level_turned, upright_kept, upright_turned}
+use Rattle.stack_rectangle.proofs.LevelEdges.{pt, Before, IsLeft, level_kept, level_turned, upright_kept}
+use Rattle.stack_rectangle.proofs.LevelEdges.{upright_turned}
 use Rattle.stack_rectangle.proofs.Boxes.{HasEdge, IsSide, IsBox, low_left, low_right, high_right, high_left}
 
 -- z over w lies in a range, or strictly between its ends

@@ -1,7 +1,6 @@
 -- Rectangles that lie one beside the other: the side that separates them, and the tangent along it.
-use Rattle.std.proofs.Common.{◌≡◌, ℕ, ◌<◌, ℤ, pos, negsuc, ◌-ℤ◌, ◌*ℤ◌, List, length, true, false, ◌⊎◌, inl, inr}
-use Rattle.std.proofs.Common.{sym, subst₂, arith}
-use Rattle.std.specs.Prelude.{int_le}
+use Rattle.std.proofs.Common.{◌≡◌, ℕ, ◌<◌, ℤ, pos, negsuc, ◌-ℤ◌, ◌*ℤ◌, List, length, true, false, ◌⊎◌, inl, inr, sym}
+use Rattle.std.proofs.Common.{subst₂, arith, int_le}
 use native.Mathlib.Nat.{dvd-one}
 use Rattle.std.proofs.lemmas.Int.{ints}
 use Rattle.stack_algebra.specs.IntegerOrder.{◌≼◌, ◌≺◌}

@@ -1,8 +1,7 @@
 -- A rectangle's four sides, by its ranges.
+use Rattle.std.proofs.Common.{◌≡◌, ℕ, zero, suc, ◌<◌, ℤ, pos, negsuc, ◌-ℤ◌, ◌*ℤ◌, neg_ℤ, List, [], ◌∷◌, length, true}
+use Rattle.std.proofs.Common.{false, ◌⊎◌, inl, inr, refl, sym, subst, ◌∙◌, arith, int_lt}
 use Rattle.stack_algebra.proofs.CrossProducts.{positive_cancel}
-use Rattle.std.proofs.Common.{◌≡◌, ℕ, zero, suc, ◌<◌, ℤ, pos, negsuc, ◌-ℤ◌, ◌*ℤ◌, neg_ℤ, List, [], ◌∷◌, length}
-use Rattle.std.proofs.Common.{true, false, ◌⊎◌, inl, inr, refl, sym, subst, ◌∙◌, arith}
-use Rattle.std.specs.Prelude.{int_lt}
 use Rattle.std.proofs.lemmas.Int.{ints}
 use Rattle.stack_algebra.specs.IntegerOrder.{◌≺◌}
 use Rattle.stack_algebra.proofs.Integers.{sums, expand}

@@ -1,6 +1,6 @@
 -- The contacts of two rectangles by their ranges are those of the two polygons.
-use Rattle.std.proofs.Common.{◌≡◌, ℤ, pos, ◌+ℤ◌, List, true, inl, inr, refl, arith}
-use Rattle.std.specs.Prelude.{Option, Some, None, IfSome, MatchOption, ◌↔◌}
+use Rattle.std.proofs.Common.{◌≡◌, ℤ, pos, ◌+ℤ◌, List, true, inl, inr, refl, arith, Option, Some, None, IfSome}
+use Rattle.std.proofs.Common.{MatchOption, ◌↔◌}
 use Rattle.std.proofs.lemmas.Int.{ints}
 use Rattle.stack_algebra.specs.IntegerOrder.{◌≼◌, ◌≺◌}
 use Rattle.stack_algebra.proofs.Integers.{sums, expand}
@@ -17,16 +17,14 @@ use Rattle.stack_overlap.proofs.Separated.{apart-first, apart-second}
 use Rattle.stack_contact.specs.declared.types.Contacts.{Contacts}
 use Rattle.stack_contact.specs.PairContacts.{AreContacts, contacts_by}
 use Rattle.stack_contact.specs.Surveyed.{AreSeparated}
-use Rattle.stack_rectangle.specs.Rectangles.{IsRectangle, Range, Extent, extent_of, common_of, count_of}
-use Rattle.stack_rectangle.specs.Rectangles.{least_corner, greatest, contacts_in, contacts_by_ranges}
-use Rattle.stack_rectangle.specs.Rectangles.{level_frame, upright_frame}
+use Rattle.stack_rectangle.specs.Rectangles.{IsRectangle, Range, Extent, extent_of, common_of, count_of, least_corner}
+use Rattle.stack_rectangle.specs.Rectangles.{greatest, contacts_in, contacts_by_ranges, level_frame, upright_frame}
 use Rattle.stack_contact.proofs.OnePair.{are-contacts}
 use Rattle.stack_rectangle.proofs.Boxes.{IsBox, boxed}
 use Rattle.stack_rectangle.proofs.BoxPoints.{IsBetween, points, corner_at}
 use Rattle.stack_rectangle.proofs.BoxSides.{AreDivided, divided_by_x, divided_by_y}
 use Rattle.stack_rectangle.proofs.BoxCommons.{commons, level_segment, upright_segment, one_point}
-use Rattle.stack_rectangle.proofs.CommonRanges.{of_common, Sized, empty, single, many, sized}
-use Rattle.stack_rectangle.proofs.CommonRanges.{no_number, beside, ends}
+use Rattle.stack_rectangle.proofs.CommonRanges.{of_common, Sized, empty, single, many, sized, no_number, beside, ends}
 
 -- the two overlap, or these are their contacts
 pub record Tells (ps qs : List Point) (o : Option Contacts) : Type 0 where

@@ -1,7 +1,6 @@
 -- The numbers of a force are made where none of them is too wide.
 use Rattle.std.proofs.Common.{◌≡◌, refl, sym, ap, subst, ◌∙◌, arith, ◌+ℤ◌, ◌-ℤ◌, ◌*ℤ◌, Bool, true, false, Result, Ok}
-use Rattle.std.proofs.Common.{Err}
-use Rattle.std.specs.Prelude.{◌&&◌, if◌then◌else◌}
+use Rattle.std.proofs.Common.{Err, ◌&&◌, if◌then◌else◌}
 use lib.IntN.{ℤ, neg_ℤ}
 use Rattle.std.proofs.lemmas.Bool.{ltb-true}
 use Rattle.stack_algebra.specs.Steps.{◌>>=◌}

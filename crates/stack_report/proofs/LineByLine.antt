@@ -1,7 +1,6 @@
 -- A loop that adds one line after the other to a text.
-use Rattle.std.proofs.Common.{◌≡◌, ℕ, ◌+◌, ◌<◌, ◌≤◌, List, [], ◌∷◌, ◌++◌, length, get_or, drop, refl, sym, ap, ◌∙◌}
+use Rattle.std.proofs.Common.{◌≡◌, ℕ, ◌+◌, ◌<◌, List, ◌∷◌, ◌++◌, length, get_or, drop, refl, sym, ap, ◌∙◌}
 use Rattle.std.proofs.Common.{add-one, drop-cons, append_assoc}
-use Rattle.std.proofs.Math.ListN.{drop_of_length-le}
 use Rattle.stack_report.specs.ContactTable.{lines_from}
 
 module _ {A : Type 0} (line : ℕ → A → List ℕ) (zs : List A) (k : ℕ) where
@@ -15,9 +14,3 @@ module _ {A : Type 0} (line : ℕ → A → List ℕ) (zs : List A) (k : ℕ) wh
       ap (λ t. t ++ lines_from line (k + 1) (drop (k + 1) zs)) added
       ∙ append_assoc text (line k z) (lines_from line (k + 1) (drop (k + 1) zs))
       ∙ ap (λ t. text ++ t) (sym one) ∙ so_far
-
-  pub no_more : (text whole : List ℕ) → length zs ≤ k → text ++ lines_from line k (drop k zs) ≡ whole
-      → text ++ [] ≡ whole
-  no_more text whole le so_far =
-      let none : lines_from line k (drop k zs) ≡ [] = rw (drop_of_length-le zs le) refl in
-      ap (λ t. text ++ t) (sym none) ∙ so_far

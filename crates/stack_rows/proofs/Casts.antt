@@ -1,9 +1,8 @@
 -- A difference of two products, as a goal shows it with its casts.
-use Rattle.std.proofs.Common.{◌≡◌, sym, ap, subst, ◌∙◌, ◌≤◌, ◌+◌, ◌-◌, ◌*◌, ◌^◌, arith}
+use Rattle.std.proofs.Common.{◌≡◌, sym, ap, subst, ◌∙◌, ◌≤◌, ◌+◌, ◌-◌, ◌*◌, ◌^◌, arith, to_z-of_z}
 use lib.IntN.{ℤ, nat_abs, ◌-ℤ◌, ◌*ℤ◌}
 use Rattle.std.specs.Int.{Width}
 use mir.Val.{SFits, hbits, to_z, of_z}
-use mir.Facts.{to_z-of_z}
 use Rattle.std.proofs.lemmas.Int.{ints, unsigned_abs-mul}
 use Rattle.stack_rational.specs.Widths.{signed-keeps}
 

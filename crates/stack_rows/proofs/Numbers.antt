@@ -1,9 +1,6 @@
 -- The values of a list that is written item by item.
-use Rattle.std.proofs.Common.{◌≡◌, ◌≢◌, sym, ap, subst, ◌∙◌, ℕ, zero, suc, ◌<◌, ◌≤◌, List, [], ◌∷◌, map, length, get_or}
-use Rattle.std.proofs.Common.{set, arith, unsigned_abs}
-use lib.IntN.{ℤ, pos}
-use Rattle.std.proofs.lemmas.Int.{ints}
-use Rattle.std.proofs.Common.{get_or-set_same, get_or-set_other}
+use Rattle.std.proofs.Common.{◌≡◌, ◌≢◌, sym, ap, subst, ◌∙◌, ℕ, zero, suc, ◌<◌, ◌≤◌, List, ◌∷◌, map, length, get_or}
+use Rattle.std.proofs.Common.{set, arith, get_or-set_same, get_or-set_other}
 use Rattle.std.proofs.lemmas.List.{map-set, get_or-map, length-map, get_or_past}
 use native.Mathlib.Decide.{ℕ_discrete, dec_lt}
 
@@ -40,13 +37,6 @@ module _ {C : Type 0} (P : ℕ → C → Type 0) (old now next : ℕ → C) (j :
   -- and one less is as it was
   pub rest_less : (i : ℕ) → suc j ≤ i → next i ≡ old i
   rest_less i l = other i (λ d. omega (arith, l, d)) ∙ rest i (omega (arith, l))
-
--- each number of a list fits, where each item does; past the end 0 does
-pub fits_at : {V : Type 0} (value : V → ℤ) (m : ℤ) → ((x : V) → unsigned_abs (value x) ≤ unsigned_abs m) →
-    (xs : List V) (i : ℕ) → unsigned_abs (get_or (map value xs) i (pos 0)) ≤ unsigned_abs m
-fits_at value m h [] i = omega (arith, ints)
-fits_at value m h (x ∷ xs) zero = h x
-fits_at value m h (x ∷ xs) (suc i) = fits_at value m h xs i
 
 -- a loop that jumps from item j to item n: P holds of what it has passed, since it holds of what stays between the two
 module _ {C : Type 0} (P : ℕ → C → Type 0) (old now next : ℕ → C) (j n : ℕ) (further : j < n)

@@ -1,7 +1,7 @@
 -- The bound on the pivots of a run, and where it fits 32 bits.
 use Rattle.std.proofs.Common.{◌≡◌, sym, ap, ◌∙◌, ℕ, zero, suc, ◌<◌, ◌≤◌, ◌+◌, ◌-◌, ◌*◌, ◌^◌, ◌%◌, Bool, true, false}
 use Rattle.std.proofs.Common.{cond, leb, Some, None, arith}
-use Rattle.std.proofs.lemmas.Bool.{le-leb, lt-leb}
+use Rattle.std.proofs.lemmas.Bool.{le-leb}
 use Rattle.std.proofs.Math.Nat.{pow-suc}
 use Rattle.stack_run.specs.Enough.{enough_of}
 
@@ -19,9 +19,6 @@ within_32_bits c l = let e : c + (30 - c) ≡ 30 = omega arith in
 -- what is enough, up to 30 columns and beyond
 pub enough-some : (c : ℕ) → c ≤ 30 → enough_of c ≡ Some (3 * 2 ^ c)
 enough-some c l = ap (λ b. cond b (Some (3 * 2 ^ c)) None) (le-leb c 30 l)
-
-pub enough-none : (c : ℕ) → 30 < c → enough_of c ≡ None
-enough-none c l = ap (λ b. cond b (Some (3 * 2 ^ c)) None) (lt-leb c 30 l)
 
 -- 3 shifted by the columns
 pub shifted : (c : ℕ) → c ≤ 30 → Some (3 * 2 ^ c % 4294967296) ≡ enough_of c

@@ -6,12 +6,10 @@ use lib.IntN.{pos, negsuc}
 use Rattle.stack_algebra.proofs.Ring.{Ring, Exp, num, ◌⊕◌, ◌⊖◌, ◌⊗◌, ring1, ring2, ring3, mul-zero, add-zero}
 use Rattle.stack_algebra.proofs.Sums.{sum, sum_same, sum_zero, sum_scale, at, at-other, at-same}
 use Rattle.stack_algebra.specs.Ordered.{Ordered, minus, plus, opposite}
-use Rattle.stack_algebra.specs.Rows.{NonNeg}
+use Rattle.stack_algebra.specs.Rows.{NonNeg, dot, Annuls, Combination, spread, Tableau}
 use Rattle.stack_algebra.proofs.Signs.{nonneg_add, nonneg_mul, nonneg_neg, nonneg_by, nonneg_plus, nonneg_sum}
 use Rattle.stack_algebra.proofs.Signs.{zero_between, zero_parts, plus_add}
-use Rattle.stack_algebra.specs.Rows.{dot, Annuls, Combination, spread}
 use Rattle.stack_algebra.proofs.Combinations.{multiplier_is, dot_spread}
-use Rattle.stack_algebra.specs.Rows.{Tableau}
 use Rattle.stack_run.specs.PhaseTables.{own_first, own_third}
 use Rattle.stack_run.proofs.RowEnds.{Balances, work, Refutes, Bounds, Rises}
 use Rattle.stack_run.proofs.Solutions.{dot_at, dot_comm, solution, ray_of, solution_annulled, ray_annulled}

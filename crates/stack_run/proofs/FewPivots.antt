@@ -1,6 +1,6 @@
 -- A run has fewer pivots than three times the number of sets of columns, so none is over a budget of 3*2^columns.
-use Rattle.std.proofs.Common.{◌≡◌, ◌≢◌, refl, ℕ, zero, suc, ◌≤◌, ◌+◌, ◌-◌, ◌*◌, ◌^◌, Bool, true}
-use Rattle.std.proofs.Common.{false, cond, leb, arith, Option, Some, None}
+use Rattle.std.proofs.Common.{◌≡◌, ◌≢◌, refl, ℕ, zero, suc, ◌≤◌, ◌+◌, ◌-◌, ◌*◌, ◌^◌, Bool, true, false, cond, leb}
+use Rattle.std.proofs.Common.{arith, Option, Some, None}
 use Rattle.stack_algebra.specs.Ordered.{Ordered, Sign, minus, nought, plus}
 use Rattle.stack_rational.specs.declared.exact.Op.{Op}
 use Rattle.stack_table.specs.declared.types.PivotWide.{PivotWide}
@@ -8,9 +8,8 @@ use Rattle.stack_table.specs.Table.{Shape, Tabled, plain, columns, right, pivote
 use Rattle.stack_table.specs.Table.{set_factor_objective}
 use Rattle.stack_table.specs.Spots.{pivot_spot}
 use Rattle.stack_bland.specs.Choice.{is_negative_sign}
-use Rattle.stack_run.specs.WrittenRun.{PhaseStop, settled, unlimited}
-use Rattle.stack_run.specs.WrittenRun.{wide_at, spent, infeasible, over, on_spot, turns, after_phase}
-use Rattle.stack_run.specs.WrittenRun.{driven_column, drive_at, drive_row, drives, third_end, past_first}
+use Rattle.stack_run.specs.WrittenRun.{PhaseStop, settled, unlimited, wide_at, spent, infeasible, over, on_spot, turns}
+use Rattle.stack_run.specs.WrittenRun.{after_phase, driven_column, drive_at, drive_row, drives, third_end, past_first}
 use Rattle.stack_run.specs.WrittenRun.{first_end, written_run}
 use Rattle.stack_run.specs.PhaseTables.{own_first, own_third, IsFirst, IsThird}
 use Rattle.stack_run.proofs.Duality.{some_row_leaves}

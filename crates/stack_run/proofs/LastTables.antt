@@ -9,14 +9,13 @@ use Rattle.stack_table.specs.Table.{set_factor_objective}
 use Rattle.stack_table.specs.Spots.{pivot_spot}
 use Rattle.stack_bland.specs.Choice.{is_negative_sign}
 use Rattle.stack_run.specs.WrittenRun.{Choice, stays, rises, due, refused, choose, PhaseStop, settled, unlimited}
-use Rattle.stack_run.specs.WrittenRun.{wide_at, spent, End, infeasible, after_phase, on_spot, on_choice, turns}
-use Rattle.stack_run.specs.WrittenRun.{drives, third_end, past_first, first_end, written_run}
+use Rattle.stack_run.specs.WrittenRun.{wide_at, spent, End, infeasible, after_phase, on_spot, on_choice, turns, drives}
+use Rattle.stack_run.specs.WrittenRun.{third_end, past_first, first_end, written_run}
 use Rattle.stack_run.specs.PhaseTables.{IsFirst}
 use Rattle.stack_run.proofs.ThreePhases.{Second}
 use Rattle.stack_run.proofs.RunEnds.{Settled, drives_keep}
 use Rattle.stack_run.specs.Reached.{then_on, unrefused, turned_by, after_turns, ComesToSecond, ReachesInFirst}
-use Rattle.stack_run.specs.Reached.{ReachesInThird, Phase, phase_1, phase_2, phase_3, ReachesIn, SomeDone}
-use Rattle.stack_run.specs.Reached.{LastReached}
+use Rattle.stack_run.specs.Reached.{ReachesInThird, Phase, phase_1, phase_2, phase_3, ReachesIn, SomeDone, LastReached}
 use Rattle.stack_run.proofs.Turning.{Before, before}
 use Rattle.stack_run.proofs.SetNumbers.{below_power}
 use Rattle.stack_run.proofs.SecondPhase.{settled-done}

@@ -84,14 +84,6 @@ module _ (F : Ordered) (m n : ℕ) (A : ℕ → ℕ → F.C) (own : ℕ → F.C)
       IsBasic m basic j → cell m j ≡ F.of (pos 0)
   unit_in cell basic t j h = ap (cell m) (sym h.there) ∙ t.objective_unit h.row h.below
 
-  -- with the same set of basic columns the objective rows are the same
-  pub same_objective : (cell cell' : ℕ → ℕ → F.C) (basic basic' : ℕ → ℕ) → Tableau F m n A own cell basic →
-      Tableau F m n A own cell' basic' → SameSet m basic basic' → (s : ℕ) → s < n → cell m s ≡ cell' m s
-  same_objective cell cell' basic basic' t t' h s l = objective_between cell cell' basic basic' t t' s l
-      ∙ ap (F.add (cell' m s)) (sum_zero F.ring m _ (λ i k. ap (λ z. F.mul z (F.neg (cell i s)))
-      (unit_in cell' basic' t' (basic i) ((h (basic i)).0 (record { row = i; below = k; there = refl })))
-      ∙ F.zero_mul _)) ∙ add-zero F.ring _
-
   -- with the same set of basic columns their right sides are the same
   pub same_value : (cell cell' : ℕ → ℕ → F.C) (basic basic' : ℕ → ℕ) → Tableau F m n A own cell basic →
       Tableau F m n A own cell' basic' → SameSet m basic basic' → cell m n ≡ cell' m n

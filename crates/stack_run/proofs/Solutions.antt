@@ -4,11 +4,9 @@ use lib.IntN.{pos, negsuc}
 use Rattle.stack_algebra.proofs.Ring.{Ring, Exp, num, ◌⊕◌, ◌⊖◌, ◌⊗◌, ring1, ring3, mul-zero}
 use Rattle.stack_algebra.proofs.Sums.{sum, sum_one, sum_zero, sum_add, at, at-other, at-same}
 use Rattle.stack_algebra.specs.Ordered.{Ordered}
-use Rattle.stack_algebra.specs.Rows.{NonNeg}
+use Rattle.stack_algebra.specs.Rows.{NonNeg, dot, Annuls, spread, Tableau}
 use Rattle.stack_algebra.proofs.Signs.{nonneg_zero, nonneg_sum}
-use Rattle.stack_algebra.specs.Rows.{dot, Annuls, spread}
 use Rattle.stack_algebra.proofs.Combinations.{dot_own_cells, dot_spread}
-use Rattle.stack_algebra.specs.Rows.{Tableau}
 
 module _ (R : Ring) where
   -- products with sums, with one item, and the other way round

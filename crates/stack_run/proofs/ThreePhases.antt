@@ -6,17 +6,15 @@ use native.Mathlib.Decide.{ℕ_discrete}
 use lib.IntN.{pos, negsuc}
 use Rattle.stack_algebra.proofs.Ring.{num, ◌⊕◌, ◌⊖◌, ◌⊗◌, ring1, ring2, add-zero}
 use Rattle.stack_algebra.proofs.Sums.{sum, sum_zero, at-other, at-same}
-use Rattle.stack_algebra.proofs.Pivots.{pivoted-other, column_kept}
+use Rattle.stack_algebra.proofs.Pivots.{pivoted-other, column_kept, changed-same, changed-other}
 use Rattle.stack_algebra.specs.Ordered.{Ordered, Sign, minus, nought, plus}
 use Rattle.stack_algebra.specs.Search.{least}
 use Rattle.stack_algebra.proofs.Signs.{nonneg_by}
 use Rattle.stack_algebra.proofs.Search.{IsLeast, least-none, least-some}
-use Rattle.stack_algebra.specs.Rows.{none, dot, Combination}
-use Rattle.stack_algebra.specs.Rows.{changed, Tableau, next}
-use Rattle.stack_algebra.proofs.Pivots.{changed-same, changed-other}
+use Rattle.stack_algebra.specs.Rows.{none, dot, Combination, changed, Tableau, next}
 use Rattle.stack_algebra.proofs.Tableaus.{tableau_after, right_sides}
-use Rattle.stack_table.specs.Table.{Shape, Tabled, plain, columns, right, pivoted_at, with_objective}
-use Rattle.stack_table.specs.Table.{factor_objective, clear_objective, set_factor_objective}
+use Rattle.stack_table.specs.Table.{Shape, Tabled, plain, columns, right, pivoted_at, with_objective, factor_objective}
+use Rattle.stack_table.specs.Table.{clear_objective, set_factor_objective}
 use Rattle.stack_bland.specs.Choice.{is_negative_sign, is_nought}
 use Rattle.stack_run.specs.PhaseTables.{own_first, own_third, IsFirst, IsThird}
 use Rattle.stack_run.proofs.RowEnds.{StandsAlone}

@@ -1,7 +1,6 @@
 -- What an answer of the work on a certificate says of its two files, out of what it says of a survey and a certificate.
 use Rattle.std.proofs.Common.{◌≡◌, refl, subst, ℕ, Bool, true, false, List, [], ◌∷◌, Some, Result, Ok, Err, inl, inr}
-use Rattle.std.proofs.Common.{length}
-use Rattle.std.specs.Prelude.{if◌then◌else◌}
+use Rattle.std.proofs.Common.{length, if◌then◌else◌}
 use Rattle.std.proofs.Math.Dec.{ltb}
 use Rattle.stack_contact.specs.Surveyed.{Surveyed}
 use Rattle.stack_certificate.specs.Certificate.{CertificateValue}

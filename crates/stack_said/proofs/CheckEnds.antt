@@ -1,6 +1,5 @@
 -- The answers that the work on `check` ends with, and what they say of its two files.
-use Rattle.std.proofs.Common.{◌≡◌, refl, sym, subst, ap, ◌∙◌, ℕ, List, Some, Result, Ok}
-use Rattle.std.proofs.Common.{Err}
+use Rattle.std.proofs.Common.{◌≡◌, refl, sym, subst, ap, ◌∙◌, ℕ, List, Some, Result, Ok, Err}
 use Rattle.stack_model.specs.Structure.{Structure}
 use Rattle.stack_reader.specs.declared.errors.ReadError.{ReadError}
 use Rattle.stack_contact.specs.Surveyed.{Surveyed, IsSurvey}

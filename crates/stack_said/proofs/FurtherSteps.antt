@@ -1,7 +1,6 @@
 -- How a form that judges more than once comes to a refusal of its own: neither its model nor a device is the cause.
 use Rattle.std.proofs.Common.{◌≡◌, ◌≢◌, refl, sym, subst, ap, ◌∙◌, ℕ, ◌≤◌, Bool, true, false, List, [], ◌∷◌, Some}
-use Rattle.std.proofs.Common.{Result, Ok, Err, inl, inr, length, arith}
-use Rattle.std.specs.Prelude.{if◌then◌else◌}
+use Rattle.std.proofs.Common.{Result, Ok, Err, inl, inr, length, arith, if◌then◌else◌}
 use Rattle.std.proofs.Math.Dec.{ltb}
 use Rattle.std.proofs.lemmas.Bool.{ltb-false}
 use Rattle.stack_outside.specs.Seen.{ShelfSeen, StreamSeen}

@@ -2,7 +2,6 @@ pub mod SettledEnds
 pub mod Outcomes
 pub mod Consequences
 pub mod Puts
-pub mod Called
 pub mod ModelProper
 pub mod HeadlineHolds
 pub mod PrintedAccepted

@@ -1,7 +1,6 @@
 -- How a run refuses the model that its words name first, out of the theorem on the top call.
 use Rattle.std.proofs.Common.{◌≡◌, ◌≢◌, refl, sym, subst, ap, ◌∙◌, ℕ, ◌<◌, ◌≤◌, Bool, true, false, List, [], ◌∷◌}
-use Rattle.std.proofs.Common.{Option, Some, Result, Ok, Err, inl, inr, ◌⊎◌, length, arith}
-use Rattle.std.specs.Prelude.{if◌then◌else◌}
+use Rattle.std.proofs.Common.{Option, Some, Result, Ok, Err, inl, inr, ◌⊎◌, length, arith, if◌then◌else◌}
 use Rattle.std.proofs.Math.Dec.{ltb}
 use Rattle.std.proofs.lemmas.Bool.{ltb-false, ltb-true, le-ltb, lt-ltb}
 use Rattle.stack_outside.specs.Seen.{ShelfSeen, StreamSeen, NeitherFailed}

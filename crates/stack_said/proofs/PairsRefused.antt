@@ -1,7 +1,6 @@
 -- Status 15 comes of no other cause than a number that names no load, out of the theorem on the top call.
-use Rattle.std.proofs.Common.{◌≡◌, refl, sym, subst, ◌∙◌, ℕ, ◌<◌, ℤ, Bool, true, false, List, [], ◌∷◌, Some}
-use Rattle.std.proofs.Common.{Option, Result, Ok, Err, inl, inr, length, arith}
-use Rattle.std.specs.Prelude.{if◌then◌else◌}
+use Rattle.std.proofs.Common.{◌≡◌, refl, sym, subst, ◌∙◌, ℕ, ◌<◌, ℤ, Bool, true, false, List, [], ◌∷◌, Some, Option}
+use Rattle.std.proofs.Common.{Result, Ok, Err, inl, inr, length, arith, if◌then◌else◌}
 use Rattle.std.proofs.Math.Dec.{ltb}
 use Rattle.stack_outside.specs.Seen.{ShelfSeen, StreamSeen}
 use Rattle.stack_contact.specs.Surveyed.{Surveyed}
@@ -15,8 +14,7 @@ use Rattle.stack_lines.specs.Forms.{Form, yields}
 use Rattle.stack_lines.specs.Surveying.{greatest_file, surveyed_file}
 use Rattle.stack_lines.specs.Work.{gives, refuses, ◌>>=◌, Holds, Ends}
 use Rattle.stack_lines.specs.Yielding.{loads_step, directions_step, region_step, directions_work, directed_file}
-use Rattle.stack_lines.specs.Yielding.{paired_file}
-use Rattle.stack_lines.specs.Yielding.{yield_work}
+use Rattle.stack_lines.specs.Yielding.{paired_file, yield_work}
 use Rattle.stack_lines.proofs.AcceptedFiles.{only_accepted}
 use Rattle.stack_lines.proofs.RefusedFrom.{CameOf, refused_from}
 use Rattle.stack_said.specs.FurtherFaults.{HasNoPair}

@@ -1,6 +1,5 @@
 -- A printed certificate is accepted by `check` with its own model, and is short enough to be read.
-use Rattle.std.proofs.Common.{◌≡◌, refl, sym, subst, ℕ, ◌≤◌, ◌<◌, List, [], ◌∷◌, Some, Ok, inr}
-use Rattle.std.proofs.Common.{length, arith}
+use Rattle.std.proofs.Common.{◌≡◌, refl, sym, subst, ℕ, ◌≤◌, ◌<◌, List, [], ◌∷◌, Some, Ok, inr, length, arith}
 use Rattle.std.proofs.lemmas.Bool.{le-ltb}
 use Rattle.stack_contact.specs.Surveyed.{Surveyed}
 use Rattle.stack_certificate.specs.Certificate.{CertificateValue}

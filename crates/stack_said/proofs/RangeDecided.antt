@@ -1,7 +1,6 @@
 -- Which status of `range` comes of which cause, out of the theorem on the top call and of the one end of its work.
-use Rattle.std.proofs.Common.{◌≡◌, refl, sym, subst, ap, ◌∙◌, ℕ, Bool, true, false, List, [], ◌∷◌, Option, Some}
-use Rattle.std.proofs.Common.{Result, Ok, Err, inl, inr, ◌⊎◌, arith}
-use Rattle.std.specs.Prelude.{if◌then◌else◌}
+use Rattle.std.proofs.Common.{◌≡◌, refl, sym, subst, ap, ◌∙◌, ℕ, Bool, true, false, List, [], ◌∷◌, Option, Some, Result}
+use Rattle.std.proofs.Common.{Ok, Err, inl, inr, ◌⊎◌, arith, if◌then◌else◌}
 use Rattle.stack_outside.specs.Seen.{ShelfSeen, StreamSeen, NeitherFailed, Took}
 use Rattle.stack_contact.specs.Surveyed.{Surveyed}
 use Rattle.stack_certificate.specs.Certificate.{MotionValue, collapses}
@@ -31,8 +30,7 @@ use Rattle.stack_said.specs.Headline.{Leaves}
 use Rattle.stack_said.specs.MainTheorem.{IsGivenOut, RunMeets}
 use Rattle.stack_said.specs.ModelSaid.{IsRefused}
 use Rattle.stack_said.specs.RangeDecided.{IsWideOn, IsSpentOn, RangeCase, is_told, is_wide, is_spent}
-use Rattle.stack_said.specs.RangeDecided.{lacks_live as none_listed}
-use Rattle.stack_said.specs.RangeDecided.{wants_memory, RangeDecides}
+use Rattle.stack_said.specs.RangeDecided.{lacks_live as none_listed, wants_memory, RangeDecides}
 use Rattle.stack_said.proofs.Deciding.{wide_is_seven, wide_settled}
 use Rattle.stack_said.proofs.HeadlineHolds.{has_one, lacks}
 use Rattle.stack_said.proofs.ModelProper.{accepted_proper}

@@ -1,6 +1,5 @@
 -- A run without words, or without memory for them: it has no form, asks for no file, and refuses.
-use Rattle.std.specs.Prelude.{◌≤◌, ℕ, Option, None, Result, Err}
-use native.Mathlib.Omega.{arith}
+use Rattle.std.proofs.Common.{◌≤◌, ℕ, Option, None, Result, Err, arith}
 use Rattle.stack_outside.specs.declared.shelf.Shelf.{Ghosts as ShelfGhosts}
 use Rattle.stack_outside.specs.Seen.{StreamSeen, seen_shelf}
 use Rattle.stack_walls.specs.Surveying.{DrawnWallsHaveSurveys}

@@ -21,8 +21,7 @@ use Rattle.stack_lines.specs.OneEnd.{IsSettled}
 use Rattle.stack_lines.specs.Surveying.{greatest_file, surveyed_file}
 use Rattle.stack_lines.specs.Work.{◌>>=◌, Ends}
 use Rattle.stack_lines.specs.Yielding.{loads_step, directions_step, wide_toward, region_step, directions_work}
-use Rattle.stack_lines.specs.Yielding.{directed_file}
-use Rattle.stack_lines.specs.Yielding.{paired_file, yield_work}
+use Rattle.stack_lines.specs.Yielding.{directed_file, paired_file, yield_work}
 use Rattle.stack_lines.proofs.AcceptedFiles.{all_accepted}
 use Rattle.stack_lines.proofs.Ways.{goes_on}
 use Rattle.stack_said.specs.Decided.{Refuses, WritesRegion}

@@ -1,6 +1,6 @@
 -- Why `yield` refuses, out of the theorem on the top call.
-use Rattle.std.proofs.Common.{◌≡◌, ◌≢◌, refl, sym, subst, ap, ◌∙◌, ℕ, ◌+◌, ◌<◌, ℤ, List, [], ◌∷◌, Some}
-use Rattle.std.proofs.Common.{Option, Result, Ok, Err, inl, inr, arith}
+use Rattle.std.proofs.Common.{◌≡◌, ◌≢◌, refl, sym, subst, ap, ◌∙◌, ℕ, ◌+◌, ◌<◌, ℤ, List, [], ◌∷◌, Some, Option, Result}
+use Rattle.std.proofs.Common.{Ok, Err, inl, inr, arith}
 use Rattle.stack_outside.specs.Seen.{ShelfSeen, StreamSeen}
 use Rattle.stack_contact.specs.Surveyed.{Surveyed}
 use Rattle.stack_yield.specs.ByDirections.{AreByDirections}
@@ -15,8 +15,7 @@ use Rattle.stack_lines.specs.Forms.{Form, yields}
 use Rattle.stack_lines.specs.Surveying.{surveyed_file}
 use Rattle.stack_lines.specs.Work.{◌>>=◌, Holds, Ends}
 use Rattle.stack_lines.specs.Yielding.{loads_step, directions_step, region_step, directions_work, directed_file}
-use Rattle.stack_lines.specs.Yielding.{paired_file}
-use Rattle.stack_lines.specs.Yielding.{wide_toward, yield_work}
+use Rattle.stack_lines.specs.Yielding.{paired_file, wide_toward, yield_work}
 use Rattle.stack_lines.proofs.AcceptedFiles.{only_accepted}
 use Rattle.stack_lines.proofs.RefusedFrom.{CameOf, refused_from}
 use Rattle.stack_said.specs.Decided.{IsShort, Refuses}

@@ -1,8 +1,7 @@
 -- Why `sample` refuses, out of the theorem on the top call, whatever the devices did: its number is too great, a number
 -- of the judgement of its wall is too wide, or the budget is spent. Its wall has a survey, so surveying never refuses.
 use Rattle.std.proofs.Common.{◌≡◌, ◌≢◌, refl, sym, subst, ap, ◌∙◌, ℕ, ◌≤◌, Bool, true, false, List, Some, Result, Ok}
-use Rattle.std.proofs.Common.{Err, inl, inr, arith}
-use Rattle.std.specs.Prelude.{if◌then◌else◌}
+use Rattle.std.proofs.Common.{Err, inl, inr, arith, if◌then◌else◌}
 use Rattle.stack_outside.specs.Seen.{ShelfSeen, StreamSeen}
 use Rattle.stack_model.specs.Structure.{Structure}
 use Rattle.stack_overhang.specs.declared.error.StackError.{StackError}

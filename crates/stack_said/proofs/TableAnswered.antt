@@ -1,6 +1,6 @@
 -- What the status of a run of `table` says of its two files, out of the theorem on the top call.
-use Rattle.std.proofs.Common.{◌≡◌, refl, subst, ap, ◌∙◌, ℕ, ◌<◌, ◌≤◌, List, [], Option}
-use Rattle.std.proofs.Common.{Some, None, Result, Ok, Err, inl, inr, ◌⊎◌, length, arith}
+use Rattle.std.proofs.Common.{◌≡◌, refl, subst, ap, ◌∙◌, ℕ, ◌<◌, ◌≤◌, List, [], Option, Some, None, Result, Ok, Err}
+use Rattle.std.proofs.Common.{inl, inr, ◌⊎◌, length, arith}
 use Rattle.stack_outside.specs.Seen.{ShelfSeen, StreamSeen, NeitherFailed, Took}
 use Rattle.stack_contact.specs.Surveyed.{Surveyed}
 use Rattle.stack_certificate.specs.Certificate.{CertificateValue}
@@ -21,8 +21,7 @@ use Rattle.stack_lines.specs.Checking.{certificate_due}
 use Rattle.stack_lines.specs.Tables.{tables_text, tabled_by, table_due, table_work}
 use Rattle.stack_lines.specs.OneEnd.{IsSettled}
 use Rattle.stack_said.specs.MainTheorem.{Answered, IsGivenOut, RunMeets}
-use Rattle.stack_said.specs.Accepted.{ModelAndCertificate, HoldTrueCertificate, HoldFalseCertificate}
-use Rattle.stack_said.specs.Accepted.{IsWideCheck}
+use Rattle.stack_said.specs.Accepted.{ModelAndCertificate, HoldTrueCertificate, HoldFalseCertificate, IsWideCheck}
 use Rattle.stack_said.specs.Said.{Writes, TableSays}
 use Rattle.stack_said.proofs.CertificateSaid.{SaidOf, MeansRejected, hold_true, hold_false, said_from}
 use Rattle.stack_said.proofs.CertificateEnds.{end_by, given_by}

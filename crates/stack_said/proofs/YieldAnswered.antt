@@ -1,7 +1,6 @@
 -- What the status of a run of `yield` says of its two files, out of the theorem on the top call.
 use Rattle.std.proofs.Common.{◌≡◌, refl, sym, subst, ap, ◌∙◌, ℕ, zero, suc, ◌+◌, ◌<◌, ℤ, Bool, true, false, List, []}
-use Rattle.std.proofs.Common.{◌∷◌, Option, Some, None, Result, Ok, Err, inl, inr, length, arith}
-use Rattle.std.specs.Prelude.{nat_eq, if◌then◌else◌}
+use Rattle.std.proofs.Common.{◌∷◌, Option, Some, None, Result, Ok, Err, inl, inr, length, arith, nat_eq, if◌then◌else◌}
 use Rattle.std.proofs.Math.Dec.{ltb}
 use Rattle.stack_outside.specs.Seen.{ShelfSeen, StreamSeen, Took}
 use Rattle.stack_model.specs.Structure.{Structure, load_of}
@@ -19,8 +18,7 @@ use Rattle.stack_lines.specs.Answers.{Due, region_due, IsRegionOf, IsAnswer, ver
 use Rattle.stack_lines.specs.Work.{gives, refuses, ◌>>=◌, Holds, Ends}
 use Rattle.stack_lines.specs.Surveying.{greatest_file, surveyed_file}
 use Rattle.stack_lines.specs.Yielding.{loads_step, directions_step, region_step, directions_work, directed_file}
-use Rattle.stack_lines.specs.Yielding.{paired_file}
-use Rattle.stack_lines.specs.Yielding.{yield_work}
+use Rattle.stack_lines.specs.Yielding.{paired_file, yield_work}
 use Rattle.stack_lines.specs.AcceptedModel.{IsAcceptedModel}
 use Rattle.stack_said.specs.MainTheorem.{Answered, RunMeets}
 use Rattle.stack_said.specs.RegionSaid.{ModelAndDirections, RegionSays}

@@ -7,8 +7,7 @@ use Rattle.stack_rational.specs.TooWide.{is_too_wide}
 use Rattle.stack_table.specs.Table.{Shape, Tabled, columns}
 use Rattle.stack_table.specs.Problem.{Problem}
 use Rattle.stack_table.specs.Lent.{problem_of}
-use Rattle.stack_run.specs.WrittenRun.{End, over}
-use Rattle.stack_run.specs.WrittenRun.{written_run}
+use Rattle.stack_run.specs.WrittenRun.{End, over, written_run}
 use Rattle.stack_run.specs.FourEnds.{EndGives}
 use Rattle.stack_run.specs.EndLaws.{EndsGive}
 use Rattle.stack_run.specs.Enough.{enough_of}

@@ -1,14 +1,13 @@
 -- Lines that tell an order of building.
-use Rattle.std.proofs.Common.{◌≡◌, refl, sym, ap, subst, ◌∙◌, ℕ, suc, ◌<◌, ◌≤◌, Bool, true, false, not, ◌&&◌}
-use Rattle.std.proofs.Common.{List, [], ◌∷◌, ◌++◌, length, get_or, Option, Some, None, Result, Ok, Err, arith}
-use Rattle.std.proofs.Common.{append_assoc, length-append, inl, inr}
-use Rattle.std.specs.Prelude.{slice_get, nat_eq, if◌then◌else◌}
+use Rattle.std.proofs.Common.{◌≡◌, refl, sym, ap, subst, ◌∙◌, ℕ, suc, ◌<◌, ◌≤◌, Bool, true, false, not, ◌&&◌, List, []}
+use Rattle.std.proofs.Common.{◌∷◌, ◌++◌, length, get_or, Option, Some, None, Result, Ok, Err, arith, append_assoc}
+use Rattle.std.proofs.Common.{length-append, inl, inr, slice_get, nat_eq, if◌then◌else◌}
 use Rattle.std.specs.Str.{bytes_eq}
 use Rattle.std.specs.List.{list_any}
 use Rattle.std.proofs.lemmas.Bool.{cases_lt, eq-eqb}
 use Rattle.std.proofs.lemmas.Bool.Decides.{Decides-eqb}
-use Rattle.std.proofs.lemmas.List.{append_cancel_left, append_cancel_right, append-nil, map-append}
-use Rattle.std.proofs.lemmas.List.{get_or_append_left, length-map, get_or-map}
+use Rattle.std.proofs.lemmas.List.{append_cancel_left, append_cancel_right, append-nil, map-append, get_or_append_left}
+use Rattle.std.proofs.lemmas.List.{length-map, get_or-map}
 use Rattle.std.proofs.lemmas.List.Folds.{list_any_at, Any-from_list_any}
 use Rattle.std.proofs.lemmas.List.Quantifiers.{position-Some}
 use Rattle.std.proofs.lemmas.Option.{slice_get-get_or, same_Some}
@@ -20,8 +19,8 @@ use Rattle.stack_model.specs.Content.{body_names}
 use Rattle.stack_model.specs.Sound.{AreDifferent}
 use Rattle.stack_stages.specs.Order.{IsOrder}
 use Rattle.stack_stages.specs.OrderRead.{block_line, is_free_line, block_named, unless_among, next_block, with_next}
-use Rattle.stack_certificate.specs.FaultLine.{cut}
 use Rattle.stack_stages.specs.OrderRead.{order_over, told_order, order_lines, AreRead}
+use Rattle.stack_certificate.specs.FaultLine.{cut}
 use Rattle.stack_stages.proofs.Positions.{none_passes}
 
 -- two tests that hold together are the same

@@ -1,7 +1,6 @@
 -- True certificates of stages settle which stages are carried.
-use Rattle.std.proofs.Common.{refl, sym, subst, ℕ, suc, ◌<◌, List, [], length, take, ◌≡◌}
+use Rattle.std.proofs.Common.{refl, sym, subst, ℕ, suc, ◌<◌, List, [], length, take, ◌≡◌, get_or}
 use lib.IntN.{pos}
-use Rattle.std.specs.Prelude.{get_or}
 use Rattle.std.proofs.lemmas.Option.{slice_get-get_or}
 use Rattle.stack_model.specs.Sound.{IsSound}
 use Rattle.stack_contact.specs.Surveyed.{Surveyed, IsSurvey}

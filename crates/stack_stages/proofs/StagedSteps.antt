@@ -1,7 +1,6 @@
 -- Stages that are judged one after the other come to what comes of all of them.
-use Rattle.std.proofs.Common.{◌≡◌, refl, sym, ap, subst, ◌∙◌, ℕ, zero, suc, ◌+◌, ◌<◌, ◌≤◌, List, [], ◌∷◌, ◌++◌}
-use Rattle.std.proofs.Common.{length, Some, Err, arith, length-append, inl, inr}
-use Rattle.std.specs.Prelude.{slice_get, ◌⊎◌}
+use Rattle.std.proofs.Common.{◌≡◌, refl, sym, ap, subst, ◌∙◌, ℕ, zero, suc, ◌+◌, ◌<◌, ◌≤◌, List, [], ◌∷◌, ◌++◌, length}
+use Rattle.std.proofs.Common.{Some, Err, arith, length-append, inl, inr, slice_get, ◌⊎◌}
 use Rattle.std.proofs.lemmas.Option.{same_Some}
 use Rattle.stack_contact.specs.Surveyed.{Surveyed}
 use Rattle.stack_contact.proofs.Appended.{get-either}
@@ -10,8 +9,8 @@ use Rattle.stack_equilibrium.specs.declared.types.Question.TheVariants.{Dead}
 use Rattle.stack_judge.specs.Judgement.{Judgement, certified, too_wide, spent, judgement}
 use Rattle.stack_judge.specs.Judged.{IsJudged}
 use Rattle.stack_stages.specs.Stage.{surveyed_stage}
-use Rattle.stack_stages.specs.Staged.{Staged, all_stand, falls, too_wide_at, spent_at, staged_by, staged_from}
-use Rattle.stack_stages.specs.Staged.{staged, AreStandingStages, AreTrue}
+use Rattle.stack_stages.specs.Staged.{Staged, all_stand, falls, too_wide_at, spent_at, staged_by, staged_from, staged}
+use Rattle.stack_stages.specs.Staged.{AreStandingStages, AreTrue}
 use Rattle.stack_stages.specs.declared.types.StagesError.{StagesError}
 use Rattle.stack_stages.specs.declared.types.StagesError.TheVariants as errors
 use Rattle.stack_stages.specs.Gives.{GivesOutcome, GivesStages}

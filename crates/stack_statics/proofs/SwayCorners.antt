@@ -1,7 +1,6 @@
 -- The sway of an outline doesn't depend on the corner that it is told from: it is so for the weight, and for the
 -- weight in the mirror.
-use Rattle.std.proofs.Common.{◌≡◌, sym, ap, ◌∙◌, ℤ, pos, ◌+ℤ◌, ◌-ℤ◌, ◌*ℤ◌, neg_ℤ, List, ◌∷◌}
-use Rattle.std.proofs.Common.{◌++◌, map, arith}
+use Rattle.std.proofs.Common.{◌≡◌, sym, ap, ◌∙◌, ℤ, pos, ◌+ℤ◌, ◌-ℤ◌, ◌*ℤ◌, neg_ℤ, List, ◌∷◌, ◌++◌, map, arith}
 use Rattle.std.proofs.lemmas.List.{map-append}
 use Rattle.stack_algebra.proofs.Integers.{expand, sums}
 use Rattle.stack_polygon.specs.declared.point.Point.{Point}

@@ -1,7 +1,6 @@
 -- The written power of loads on a motion is made of its numbers.
-use Rattle.std.proofs.Common.{◌≡◌, refl, ap, subst, ◌∙◌, ℕ, suc, ◌+◌, ℤ, ◌+ℤ◌, ◌*ℤ◌, List, [], ◌∷◌}
-use Rattle.std.proofs.Common.{length, get_or, Result, Ok, Err, arith}
-use Rattle.std.specs.Prelude.{IsErr}
+use Rattle.std.proofs.Common.{◌≡◌, refl, ap, subst, ◌∙◌, ℕ, suc, ◌+◌, ℤ, ◌+ℤ◌, ◌*ℤ◌, List, [], ◌∷◌, length, get_or}
+use Rattle.std.proofs.Common.{Result, Ok, Err, arith, IsErr}
 use Rattle.std.proofs.lemmas.Bool.{false≢true}
 use Rattle.stack_algebra.proofs.Integers.{sums}
 use Rattle.stack_contact.specs.Surveyed.{Surveyed}
@@ -22,8 +21,7 @@ use Rattle.stack_equilibrium.proofs.ScenePowers.{power_is}
 use Rattle.stack_sum_numbers.specs.InTurn.{IsMadeOf}
 use Rattle.stack_sum_numbers.specs.PowerNumbers.{loads_of_free, move_of_free, work_on_first, work_numbers}
 use Rattle.stack_sum_numbers.specs.PowerNumbers.{power_numbers}
-use Rattle.stack_sum_numbers.proofs.Chains.{InOrder, last_one, then_one, after_all, steps_in_turn}
-use Rattle.stack_sum_numbers.proofs.Chains.{from_each, is_made}
+use Rattle.stack_sum_numbers.proofs.Chains.{InOrder, last_one, then_one, after_all, steps_in_turn, from_each, is_made}
 
 product_made : (a rate force : ℤ) → InOrder ((rate *ℤ force) ∷ (a +ℤ rate *ℤ force) ∷ [])
     (whole (a +ℤ rate *ℤ force)) (with_product (whole a) (whole rate) force)

@@ -1,7 +1,6 @@
 -- The written opening and slide of a bearing are made of their numbers.
 use Rattle.std.proofs.Common.{◌≡◌, refl, sym, ap, subst, ◌∙◌, ℕ, ℤ, pos, ◌+ℤ◌, ◌-ℤ◌, ◌*ℤ◌, neg_ℤ, Bool, true, false}
-use Rattle.std.proofs.Common.{cond, not, List, [], ◌∷◌, get_or, Result, Ok, Err, arith}
-use Rattle.std.specs.Prelude.{IsErr, if◌then◌else◌}
+use Rattle.std.proofs.Common.{cond, not, List, [], ◌∷◌, get_or, Result, Ok, Err, arith, IsErr, if◌then◌else◌}
 use Rattle.std.proofs.Math.ListN.{get_or-map}
 use Rattle.std.proofs.lemmas.Bool.{false≢true}
 use Rattle.stack_algebra.proofs.Integers.{expand, sums}
@@ -27,8 +26,8 @@ use Rattle.stack_equilibrium.proofs.FreeNumbers.{before_is}
 use Rattle.stack_sum_numbers.specs.InTurn.{IsMadeOf}
 use Rattle.stack_sum_numbers.specs.RateNumbers.{x_rate, y_rate, velocity_numbers, x_difference, y_difference}
 use Rattle.stack_sum_numbers.specs.RateNumbers.{exact_opening, exact_slide, gap_numbers}
-use Rattle.stack_sum_numbers.proofs.Chains.{InOrder, none_more, last_one, then_one, after_all, told_as}
-use Rattle.stack_sum_numbers.proofs.Chains.{from_each, is_made}
+use Rattle.stack_sum_numbers.proofs.Chains.{InOrder, none_more, last_one, then_one, after_all, told_as, from_each}
+use Rattle.stack_sum_numbers.proofs.Chains.{is_made}
 
 abbrev velocity : ℤ → ℤ → Velocity
 velocity x y = record { x = whole x; y = whole y }

@@ -1,6 +1,5 @@
 -- The three written sums of a block, of the first axis one of whose numbers is too wide.
-use Rattle.std.proofs.Common.{◌≡◌, refl, ap, subst, ◌∙◌, ◌⊎◌, inl, inr, ℕ, ℤ, List, Result, Ok, Err}
-use Rattle.std.specs.Prelude.{IsErr}
+use Rattle.std.proofs.Common.{◌≡◌, refl, ap, subst, ◌∙◌, ◌⊎◌, inl, inr, ℕ, ℤ, List, Result, Ok, Err, IsErr}
 use Rattle.std.proofs.lemmas.Bool.{false≢true}
 use Rattle.stack_algebra.specs.Steps.{◌>>=◌}
 use Rattle.stack_contact.specs.declared.types.Bearing.{Bearing}

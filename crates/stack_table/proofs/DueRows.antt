@@ -1,17 +1,15 @@
 -- The row that is due in a column: entries before it are of earlier rows, the others of later ones.
-use Rattle.std.proofs.Common.{◌≡◌, ◌≢◌, refl, sym, ap, subst, ◌∙◌, ℕ, zero, suc, ◌+◌, ◌<◌, ◌≤◌, Bool, true, false, cond}
-use Rattle.std.proofs.Common.{ltb, replicate, List, [], ◌∷◌, map, length, drop, get_or, set, get_or-set_same}
-use Rattle.std.proofs.Common.{get_or-set_other}
-use Rattle.std.proofs.Common.{Result, Ok, Err, arith}
-use Rattle.std.specs.Prelude.{IfOk, IfErr}
+use Rattle.std.proofs.Common.{◌≡◌, refl, sym, ap, subst, ◌∙◌, ℕ, zero, suc, ◌+◌, ◌<◌, Bool, true, false, cond, ltb}
+use Rattle.std.proofs.Common.{replicate, List, ◌∷◌, map, length, drop, get_or, set, get_or-set_same, get_or-set_other}
+use Rattle.std.proofs.Common.{Result, Ok, Err, arith, IfOk, IfErr}
 use Rattle.std.specs.List.{slice_index}
 use Rattle.std.specs.List.Sorted.{IsStrictlyIncreasing}
 use Rattle.std.proofs.lemmas.List.{get_or-replicate, get_or_past, length-replicate}
-use Rattle.std.proofs.lemmas.Bool.{lt-ltb, le-ltb, ne_eqb}
+use Rattle.std.proofs.lemmas.Bool.{lt-ltb, ne_eqb}
 use native.Mathlib.Decide.{ℕ_discrete, dec_lt}
 use lib.IntN.{ℤ, pos}
 use Rattle.stack_table.specs.declared.problem.Entry.{Entry}
-use Rattle.stack_table.specs.Table.{plain, columns}
+use Rattle.stack_table.specs.Table.{plain}
 use Rattle.stack_table.specs.Problem.{Problem, flipped, turned}
 use Rattle.stack_table.specs.Lent.{entry_in}
 use Rattle.stack_table.specs.WrittenTable.{written_number}
@@ -44,9 +42,6 @@ stops_here (x ∷ xs) (suc k) i d h l m = stops_here xs k i d (later_rise x xs h
 where_true : (b : Bool) (x y : ℤ) → b ≡ true → cond b x y ≡ x
 where_true b x y e = ap (λ a. cond a x y) e
 
-where_false : (b : Bool) (x y : ℤ) → b ≡ false → cond b x y ≡ y
-where_false b x y e = ap (λ a. cond a x y) e
-
 -- a column that isn't artificial has 0 where its entry is 0
 pub plain_nothing : (P : Problem) (i j : ℕ) → j < plain P.shape → P.entry i j ≡ pos 0 → written_number P i j ≡ pos 0
 plain_nothing P i j l e = where_true (ltb j (plain P.shape)) _ _ (lt-ltb j (plain P.shape) l)
@@ -55,13 +50,6 @@ plain_nothing P i j l e = where_true (ltb j (plain P.shape)) _ _ (lt-ltb j (plai
     go : (b : Bool) → turned b (pos 0) ≡ pos 0
     go true = refl
     go false = refl
-
--- an artificial column has 0 in all rows but its own
-pub not_own : (P : Problem) (i j : ℕ) → plain P.shape ≤ j → j < columns P.shape → j ≢ plain P.shape + i
-    → written_number P i j ≡ pos 0
-not_own P i j l m d = where_false (ltb j (plain P.shape)) _ _ (le-ltb j (plain P.shape) l)
-    ∙ where_true (ltb j (columns P.shape)) _ _ (lt-ltb j (columns P.shape) m)
-    ∙ ap (λ b. cond b (pos 1) (pos 0)) (ne_eqb j (plain P.shape + i) d)
 
 -- row 0 is due in each column at first
 pub none_due : (P : Problem) (dues : List ℕ) (n : ℕ) → dues ≡ replicate n 0 → AreDue P 0 dues

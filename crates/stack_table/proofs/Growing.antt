@@ -1,5 +1,5 @@
 -- A block that grows within its room: what is there keeps its value.
-use Rattle.std.proofs.Common.{◌≡◌, refl, sym, ap, ◌∙◌, ℕ, ◌+◌, ◌*◌, ◌<◌, List, [], ◌∷◌, ◌++◌, length, get_or, arith}
+use Rattle.std.proofs.Common.{◌≡◌, sym, ap, ◌∙◌, ℕ, ◌+◌, ◌*◌, ◌<◌, List, ◌∷◌, ◌++◌, length, get_or, arith}
 use Rattle.std.proofs.Common.{length-append}
 use Rattle.std.proofs.lemmas.List.{get_or_append_left, get_or_push}
 use native.Mathlib.Decide.{ℕ_discrete, dec_lt}
@@ -10,13 +10,6 @@ use Rattle.stack_table.proofs.BlockRows.{row_in, cell_in, cell_past, value_at-le
 use Rattle.stack_table.proofs.Parts.{pushed_last}
 
 module _ {V : Type 0} (e : V → Fraction) where
-  pub grown_none : (xs : List V) (f : ℕ → Fraction) → Grows e xs xs 0 f
-  grown_none xs f = record {
-    longer = omega arith;
-    kept = λ k l. refl;
-    put = λ k l. absurd (omega (arith, l));
-  }
-
   -- a block that grows by one cell more
   pub grown_more : (m : ℤ) (old xs ys : List V) (j : ℕ) (f : ℕ → Fraction) (x : V) → Grows e old xs j f →
       ys ≡ xs ++ x ∷ [] → e x ≡ f j → Grows e old ys (j + 1) f

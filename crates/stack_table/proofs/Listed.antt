@@ -1,5 +1,5 @@
 -- A list of the columns that aren't 0, as it grows.
-use Rattle.std.proofs.Common.{◌≡◌, ◌≢◌, refl, sym, ap, ◌∙◌, ℕ, zero, suc, ◌<◌, ◌≤◌, ◌+◌, List, length, get_or, set}
+use Rattle.std.proofs.Common.{◌≡◌, ◌≢◌, refl, ap, ◌∙◌, ℕ, zero, suc, ◌<◌, ◌≤◌, ◌+◌, List, length, get_or, set}
 use Rattle.std.proofs.Common.{take, arith, Bool, true, add-one, get_or-set_same, get_or-set_other}
 use Rattle.std.proofs.lemmas.List.{get_or-take}
 use native.Mathlib.Decide.{ℕ_discrete}
@@ -8,15 +8,6 @@ use Rattle.stack_table.specs.Columns.{reach, ListsNonzero}
 reach_set : (xs : List ℕ) (n y k : ℕ) → k ≤ n → reach (set xs n y) k ≡ reach xs k
 reach_set xs n y zero l = refl
 reach_set xs n y (suc k) l = ap suc (get_or-set_other xs n k y 0 (λ p. omega (arith, l, p)))
-
-pub listed_none : (p : ℕ → Bool) (xs : List ℕ) → ListsNonzero p xs 0 0
-listed_none p xs = record {
-  below = λ k l. absurd (omega (arith, l));
-  rises = λ k l. absurd (omega (arith, l));
-  between = λ k l j h i. absurd (omega (arith, l));
-  reached = omega arith;
-  after = λ j h l. absurd (omega (arith, l));
-}
 
 pub listed_skip : (p : ℕ → Bool) (xs : List ℕ) (n j : ℕ) → ListsNonzero p xs n j → p j ≡ true
     → ListsNonzero p xs n (j + 1)
@@ -71,17 +62,6 @@ listed_more p xs n j room h = record {
         h.after i (omega (arith, same k l, ap (reach xs) d, a)) (omega (arith, at k d, b))
     between k l i a b (no d) =
         h.between k (omega (arith, l, d)) i (omega (arith, same k l, a)) (omega (arith, other k d, b))
-
--- the same list of the same columns
-pub listed_same : (p q : ℕ → Bool) (xs : List ℕ) (n bound : ℕ) → ((j : ℕ) → p j ≡ q j) → ListsNonzero p xs n bound →
-    ListsNonzero q xs n bound
-listed_same p q xs n bound e h = record {
-  below = h.below;
-  rises = h.rises;
-  between = λ k l j a b. sym (e j) ∙ h.between k l j a b;
-  reached = h.reached;
-  after = λ j a b. sym (e j) ∙ h.after j a b;
-}
 
 reach_take : (xs : List ℕ) (n k : ℕ) → k ≤ n → reach (take n xs) k ≡ reach xs k
 reach_take xs n zero l = refl

@@ -1,9 +1,7 @@
 -- A block in parts, as two splits lend it, and a block of rows above its last row.
-use Rattle.std.proofs.Common.{◌≡◌, refl, sym, ap, ◌∙◌, ℕ, zero, suc, ◌<◌, ◌≤◌, ◌+◌, ◌*◌, List, [], ◌∷◌}
-use Rattle.std.proofs.Common.{◌++◌, length, take, drop, arith, Bool, true}
-use Rattle.std.proofs.Common.{length-drop, append-nil}
+use Rattle.std.proofs.Common.{◌≡◌, refl, sym, ap, ◌∙◌, ℕ, zero, suc, ◌<◌, ◌≤◌, ◌+◌, ◌*◌, List, [], ◌∷◌, ◌++◌, length}
+use Rattle.std.proofs.Common.{take, drop, arith, Bool, true, length-drop, append-nil, subst₂}
 use Rattle.std.proofs.Math.Nat.{suc-mul}
-use mathlib.Core.Path.{subst₂}
 use native.Mathlib.Decide.{ℕ_discrete}
 use lib.IntN.{ℤ}
 use Rattle.stack_algebra.specs.Fraction.{Fraction}
@@ -14,8 +12,7 @@ use Rattle.stack_table.specs.Block.{item_value, mark_at, cell_of, IsBlock}
 use Rattle.stack_rational.specs.Order.{is_zero}
 use Rattle.stack_rational.proofs.Fitting.{is_zero-of}
 use Rattle.stack_table.proofs.BlockRows.{value_at-right, cell_above, last_own, last_kept, block_join, block_take}
-use Rattle.stack_table.proofs.BlockRows.{zero_fits}
-use Rattle.stack_table.proofs.BlockRows.{block_drop}
+use Rattle.stack_table.proofs.BlockRows.{zero_fits, block_drop}
 
 -- the blocks of three parts, lent by two splits
 pub record Parted {V : Type 0} (m : ℤ) (e : V → Fraction) (above own below : List V)

@@ -1,17 +1,15 @@
 -- The written table, row by row and then the objective row.
-use Rattle.std.proofs.Common.{◌≡◌, ◌≢◌, refl, sym, ap, subst, ◌∙◌, ℕ, zero, suc, ◌+◌, ◌*◌, ◌<◌, Bool, true, false}
-use Rattle.std.proofs.Common.{not, cond, List, [], length, get_or, Option, Some, None, arith}
+use Rattle.std.proofs.Common.{◌≡◌, ◌≢◌, refl, sym, ap, subst, ◌∙◌, ℕ, zero, suc, ◌+◌, ◌*◌, ◌<◌, Bool, true, false, not}
+use Rattle.std.proofs.Common.{cond, List, [], length, get_or, Option, Some, None, arith, subst₂, to_z, of_z}
 use Rattle.std.proofs.lemmas.List.{get_or_past}
 use Rattle.std.proofs.lemmas.Bool.{lt-ltb, le-ltb}
 use Rattle.std.proofs.lemmas.Int.{ints}
 use Rattle.std.proofs.Math.Nat.{suc-mul}
-use mathlib.Core.Path.{subst₂}
 use native.Mathlib.Decide.{ℕ_discrete, dec_lt}
 use lib.Dec.{T}
 use lib.IntN.{ℤ, pos, negsuc}
 use lib.Signed.{lt_z, lt_z_yes, lt_z_no, ◌<ℤ◌, ◌≤ℤ◌}
 use mir.Syntax.{w128}
-use mir.Val.{to_z, of_z}
 use Rattle.stack_algebra.specs.Fraction.{Fraction}
 use Rattle.stack_algebra.proofs.Fractions.{of, add, neg, fractions}
 use Rattle.stack_algebra.proofs.OrderedFractions.{ordered_fractions}

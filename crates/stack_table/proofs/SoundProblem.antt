@@ -1,10 +1,8 @@
 -- What the test of a problem tells.
-use Rattle.std.proofs.Common.{◌≡◌, sym, subst, ℕ, zero, suc, ◌<◌, true, List, [], ◌∷◌, map}
-use Rattle.std.proofs.Common.{length, add-one, arith}
-use Rattle.std.specs.Prelude.{nat_le, nat_lt}
-use Rattle.std.specs.List.{slice_index}
+use Rattle.std.proofs.Common.{◌≡◌, sym, subst, ℕ, zero, suc, ◌<◌, true, List, [], ◌∷◌, map, length, add-one, arith}
+use Rattle.std.proofs.Common.{nat_le, nat_lt}
+use Rattle.std.specs.List.{slice_index, AllByRecursion}
 use Rattle.std.proofs.lemmas.List.{length-map}
-use Rattle.std.specs.List.{AllByRecursion}
 use Rattle.std.specs.List.Sorted.{IsStrictlyIncreasing}
 use Rattle.std.proofs.lemmas.Bool.{leb-true, ltb-true}
 use lib.IntN.{ℤ, nat_abs}

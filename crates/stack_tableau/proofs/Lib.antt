@@ -1,3 +1,2 @@
-mod BestSoFar
 mod Turns
 mod RunPhases

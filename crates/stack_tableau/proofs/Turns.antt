@@ -1,19 +1,17 @@
 -- What a choice says of its row, and what the answer of a turn says of the phase.
-use Rattle.std.proofs.Common.{◌≡◌, ◌≢◌, refl, sym, ap, subst, ◌∙◌, ℕ, zero, suc, ◌<◌, Bool, false, cond, Option, Some}
+use Rattle.std.proofs.Common.{◌≡◌, ◌≢◌, sym, ap, subst, ◌∙◌, ℕ, zero, suc, ◌<◌, Bool, Option, Some}
 use Rattle.std.proofs.Common.{None, Result, Err, arith}
 use lib.IntN.{ℤ, pos}
 use Rattle.stack_algebra.specs.Fraction.{Fraction}
 use Rattle.stack_algebra.specs.Ordered.{sign_of}
-use Rattle.stack_algebra.specs.Search.{only_if}
 use Rattle.stack_algebra.proofs.Search.{least-some, first, first_found}
 use Rattle.stack_algebra.proofs.OrderedFractions.{ordered_fractions}
 use Rattle.stack_rational.specs.TooWide.{is_too_wide}
-use Rattle.stack_rational.specs.declared.exact.Op.TheVariants.{Quotient}
 use Rattle.stack_table.specs.declared.types.PivotWide.{PivotWide}
-use Rattle.stack_table.specs.Table.{Shape, Tabled, columns, pivoted_at}
+use Rattle.stack_table.specs.Table.{Shape, Tabled, pivoted_at}
 use Rattle.stack_table.specs.Spots.{pivot_spot}
-use Rattle.stack_bland.specs.Choice.{is_negative_sign, is_plus, ratio, ratio_item, ratio_row, entering, leaving}
-use Rattle.stack_run.specs.WrittenRun.{Choice, stays, rises, due, refused, PhaseStop, settled, unlimited, wide_at}
+use Rattle.stack_bland.specs.Choice.{is_negative_sign, ratio, ratio_item, ratio_row, entering, leaving}
+use Rattle.stack_run.specs.WrittenRun.{Choice, due, refused, PhaseStop, wide_at}
 use Rattle.stack_run.specs.WrittenRun.{spent, on_spot, on_choice, chosen_at, chosen_in, choose, turns}
 use Rattle.stack_run.specs.declared.pivots.Pivots.{Pivots}
 use Rattle.stack_run.specs.PhaseStops.{spot_of, IsPivoted, phase_from}
@@ -22,14 +20,8 @@ use Rattle.stack_tableau.specs.declared.stops.TurnRefusal.{TurnRefusal}
 use Rattle.stack_tableau.specs.declared.stops.TurnRefusal.TheVariants as refusals
 use Rattle.stack_tableau.specs.declared.stops.RunStop.{RunStop}
 use Rattle.stack_tableau.specs.declared.stops.RunStop.TheVariants.{TooWide, Spent, Unsettled}
-use Rattle.stack_tableau.specs.Answers.{TellsTurnRefusal, TellsNoRatio}
-use Rattle.stack_tableau.specs.Tells.{TellsRefused, TellsRow, TellsPivot, TellsStop, stop_at}
-
--- a row whose cell isn't positive has no ratio that is too wide
-pub no_item : (max : ℤ) (S : Shape) (T : Tabled Fraction) (c i : ℕ) → is_plus (sign_of (T.cell i c).num) ≡ false →
-    ratio_item ordered_fractions S (is_too_wide max) T c i ≡ None
-no_item max S T c i p =
-    ap (λ b. cond b (only_if (is_too_wide max Quotient (T.cell i (columns S)) (T.cell i c)) i) None) p
+use Rattle.stack_tableau.specs.Answers.{TellsNoRatio}
+use Rattle.stack_tableau.specs.Tells.{TellsRefused, TellsRow, TellsPivot, TellsStop}
 
 -- the first ratio that is too wide refuses the choice
 pub row_refused : (settles : Bool) (max : ℤ) (S : Shape) (T : Tabled Fraction) (c i : ℕ) (e : TurnRefusal)
@@ -83,29 +75,6 @@ module _ (settles : Bool) (max : ℤ) (S : Shape) (phase among : ℕ) (T : Table
 
   abbrev from_here : (left done : ℕ) → PhaseStop Fraction
   from_here left done = turns ordered_fractions S (is_too_wide max) phase among left done T
-
-  -- no column enters
-  pub settles_at : (left done : ℕ) → is_chosen stays → settled left done T ≡ from_here left done
-  settles_at zero done e = ap (on_choice phase zero done T (λ r c. spent)) e
-  settles_at (suc left) done e = ap (on_choice phase (suc left) done T (after left done)) e
-
-  -- no row leaves
-  pub rises_at : (left done c : ℕ) → is_chosen (rises c) → unlimited T c ≡ from_here left done
-  rises_at zero done c e = ap (on_choice phase zero done T (λ r c. spent)) e
-  rises_at (suc left) done c e = ap (on_choice phase (suc left) done T (after left done)) e
-
-  -- the choice is refused
-  refused_at : (left done : ℕ) (s : PivotWide) → is_chosen (refused s) →
-      wide_at phase (suc done) s ≡ from_here left done
-  refused_at zero done s e = ap (on_choice phase zero done T (λ r c. spent)) e
-  refused_at (suc left) done s e = ap (on_choice phase (suc left) done T (after left done)) e
-
-  pub choice_stops : (e : TurnRefusal) (left done pivot : ℕ) → pivot ≡ suc done →
-      TellsRefused settles e (choose ordered_fractions S (is_too_wide max) T among) →
-      TellsStop settles (stop_at e phase pivot) (from_here left done)
-  choice_stops (refusals.TooWide s) left done pivot k h =
-      ap (λ p. wide_at phase p s) k ∙ refused_at left done s h
-  choice_stops refusals.Unsettled left done pivot k h = h
 
   -- a pivot is due
   module _ (r c : ℕ) (e : is_chosen (due r c)) where
@@ -163,15 +132,3 @@ module _ (settles : Bool) (max : ℤ) (S S' : Shape) (phase among : ℕ) (l : Pi
   pub loop_goes_on : (k : Pivots) → phase_from max S' phase among k U ≡ phase_from max S' phase among l T →
       phase_from max S phase among k U ≡ X
   loop_goes_on k h = ap (λ (S : Shape). phase_from max S phase among k U) (sym same) ∙ h ∙ carried
-
--- a pivot that isn't done tells where it is too wide
-pub refusal_tells : (settles : Bool) (e : TurnRefusal) (phase : ℕ) (before : Pivots) (pivot : ℕ)
-    (spot : Option PivotWide) → 0 < before.left → pivot ≡ suc before.done → TellsTurnRefusal settles e spot
-    → TellsPivot settles (Err (stop_at e phase pivot)) phase before spot
-refusal_tells settles (refusals.TooWide s) phase before pivot spot some next tells = record {
-  some_left = some;
-  in_phase = refl;
-  next_pivot = next;
-  first = tells;
-}
-refusal_tells settles refusals.Unsettled phase before pivot spot some next tells = tells

@@ -1,7 +1,6 @@
 -- A bearing of two rectangles that are apart is at the first or at the second end of what they have in common.
 use Rattle.std.proofs.Common.{◌≡◌, refl, sym, ◌∙◌, subst, ℕ, ◌<◌, ◌≤◌, ℤ, pos, ◌*ℤ◌, ◌⊎◌, inl, inr, List, Some, None}
-use Rattle.std.proofs.Common.{Option, arith}
-use Rattle.std.specs.Prelude.{MatchOption, IfSome}
+use Rattle.std.proofs.Common.{Option, arith, MatchOption, IfSome}
 use Rattle.stack_algebra.proofs.Integers.{expand, sums}
 use Rattle.stack_polygon.specs.declared.point.Point.{Point}
 use Rattle.stack_polygon.specs.Plane.{IsAt}

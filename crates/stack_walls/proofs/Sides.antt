@@ -1,6 +1,5 @@
 -- Two rectangles side by side, or one above the other: an edge separates them. And where their common points lie.
-use Rattle.std.proofs.Common.{◌≡◌, refl, ℕ, zero, suc, ◌<◌, ℤ, pos, ◌-ℤ◌, ◌*ℤ◌, true, ◌&&◌, inl, inr, arith}
-use Rattle.std.specs.Prelude.{int_lt}
+use Rattle.std.proofs.Common.{◌≡◌, refl, ℕ, zero, suc, ◌<◌, ℤ, pos, ◌-ℤ◌, ◌*ℤ◌, true, ◌&&◌, inl, inr, arith, int_lt}
 use Rattle.std.proofs.lemmas.Int.{ints}
 use Rattle.stack_algebra.proofs.Conjunctions.{both_true}
 use Rattle.stack_algebra.proofs.Integers.{expand, sums}

@@ -1,7 +1,6 @@
 -- Each wall has a survey, and what has one isn't refused.
 use Rattle.std.proofs.Common.{◌≡◌, refl, sym, subst₂, ℕ, zero, suc, ◌+◌, ◌/◌, ◌<◌, ◌≤◌, ◌⊎◌, inl, inr, List, [], ◌∷◌}
-use Rattle.std.proofs.Common.{length, Option, Some, None, Result, Ok, Err, arith}
-use Rattle.std.specs.Prelude.{slice_get, MatchOption, IfSome}
+use Rattle.std.proofs.Common.{length, Option, Some, None, Result, Ok, Err, arith, slice_get, MatchOption, IfSome}
 use Rattle.std.proofs.lemmas.Nat.{mod_below}
 use Rattle.stack_overlap.specs.Separation.{Overlaps}
 use Rattle.stack_overlap.proofs.Separated.{apart-first, apart-second}

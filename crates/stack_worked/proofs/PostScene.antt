@@ -1,9 +1,8 @@
 -- The scene of the drawn post is the one worked by hand, so the same certificates are true of both.
+use Rattle.std.proofs.Common.{arith, false, nat_eq}
 use mathlib.Core.Path.{◌≡◌, refl, sym, subst}
 use Prim.Native.Nat.{ℕ, zero, suc}
-use native.Mathlib.Omega.{arith}
 use lib.IntN.{pos}
-use Rattle.std.specs.Prelude.{false, nat_eq}
 use Rattle.std.proofs.lemmas.Bool.{ne_eqb}
 use Rattle.std.proofs.lemmas.Int.{ints}
 use Rattle.stack_certificate.specs.Certificate.{CertificateValue, stands, collapses}

@@ -1,11 +1,10 @@
 -- The survey of the drawn post: the ground and the post are rectangles, so their ranges tell their contacts.
+use Rattle.std.proofs.Common.{arith, Some, slice_get}
 use mathlib.Core.Path.{◌≡◌, refl, sym, subst}
 use mathlib.Core.Logic.{inl, inr, ◌⊎◌, ◌≢◌}
 use Prim.Native.Nat.{ℕ, zero, suc, ◌<◌}
-use native.Mathlib.Omega.{arith}
 use lib.IntN.{ℤ, pos, negsuc}
 use Rattle.stack_algebra.specs.IntegerOrder.{◌≼◌}
-use Rattle.std.specs.Prelude.{Some, slice_get}
 use Rattle.std.proofs.lemmas.Int.{ints}
 use Rattle.std.proofs.lemmas.Option.{same_Some, slice_get_within}
 use Rattle.stack_algebra.specs.Gcd.{gcd}
@@ -23,8 +22,7 @@ use Rattle.stack_contact.specs.PairContacts.{AreContacts}
 use Rattle.stack_contact.specs.ContactLists.{corners_of, IsPair, ComesBefore, IsBearing, IsBearingOf, AreBearings}
 use Rattle.stack_contact.specs.ContactLists.{friction_between, IsTouchOf, AreTouches}
 use Rattle.stack_contact.specs.Surveyed.{AreApart}
-use Rattle.stack_rectangle.specs.Rectangles.{IsRectangle, RangesTellOverlaps, RangesTellSeparation}
-use Rattle.stack_rectangle.specs.Rectangles.{RangesTellContacts}
+use Rattle.stack_rectangle.specs.Rectangles.{IsRectangle, RangesTellOverlaps, RangesTellSeparation, RangesTellContacts}
 use Rattle.stack_worked.specs.Pieces.{at_point, upright}
 use Rattle.stack_worked.specs.Scenes.{ground_corners, post_corners}
 use Rattle.stack_worked.specs.SurveyedPost.{drawn_post, level_bearing, surveyed_post, PostIsSurveyed}

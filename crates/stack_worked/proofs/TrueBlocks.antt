@@ -3,9 +3,8 @@ use Rattle.std.proofs.Common.{refl, arith}
 use Rattle.std.proofs.lemmas.Int.{ints}
 use Rattle.stack_statics.specs.Certificates.{IsTrueStands, IsTrueCollapse, IsTrueGreatest, IsTrueUnbounded}
 use Rattle.stack_worked.specs.Scenes.{block_on_slope, block_on_slick_slope, slope_forces, slipping_move}
-use Rattle.stack_worked.specs.Scenes.{smooth_keystone, rough_keystone, gripped_keystone}
-use Rattle.stack_worked.specs.Scenes.{idle_keystone_forces, grip, rising_move, overhanging_block}
-use Rattle.stack_worked.specs.Scenes.{toppling_move}
+use Rattle.stack_worked.specs.Scenes.{smooth_keystone, rough_keystone, gripped_keystone, idle_keystone_forces, grip}
+use Rattle.stack_worked.specs.Scenes.{rising_move, overhanging_block, toppling_move}
 use Rattle.stack_worked.proofs.ClosedFacts.{below_two, below_three, below_four, part_holds, in_balance, at_rest}
 
 pub block_just_holds : IsTrueStands block_on_slope slope_forces

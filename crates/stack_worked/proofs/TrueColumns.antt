@@ -1,12 +1,10 @@
 -- The true certificates of the worked structures of two free blocks, by computation.
-use Rattle.std.proofs.Common.{refl, arith}
-use Rattle.std.specs.Prelude.{pos}
+use Rattle.std.proofs.Common.{refl, arith, pos}
 use Rattle.std.proofs.lemmas.Int.{ints}
 use Rattle.stack_statics.specs.Certificates.{IsTrueStands, IsTrueCollapse, IsTrueGreatest}
 use Rattle.stack_worked.specs.Pieces.{standing_forces}
-use Rattle.stack_worked.specs.TwoBlocks.{low_column, pushed_column, column_parts, pushed_column_forces}
-use Rattle.stack_worked.specs.TwoBlocks.{upper_slides, two_bricks, two_shifted_bricks, brick_forces}
-use Rattle.stack_worked.specs.TwoBlocks.{tipping_bricks}
+use Rattle.stack_worked.specs.TwoBlocks.{low_column, pushed_column, column_parts, pushed_column_forces, upper_slides}
+use Rattle.stack_worked.specs.TwoBlocks.{two_bricks, two_shifted_bricks, brick_forces, tipping_bricks}
 use Rattle.stack_worked.proofs.ClosedFacts.{below_three, below_four, part_holds, in_balance, at_rest}
 
 pub column_stands : IsTrueStands low_column (standing_forces column_parts)

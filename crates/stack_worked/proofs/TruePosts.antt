@@ -1,12 +1,10 @@
 -- The true certificates of the worked posts, by computation.
-use Rattle.std.proofs.Common.{refl, arith}
-use Rattle.std.specs.Prelude.{pos, [], ◌∷◌}
+use Rattle.std.proofs.Common.{refl, arith, pos, [], ◌∷◌}
 use Rattle.std.proofs.lemmas.Int.{ints}
 use Rattle.stack_statics.specs.Certificates.{IsTrueStands, IsTrueGreatest, IsTrueUnbounded}
 use Rattle.stack_worked.specs.Pieces.{forces_with, standing_forces, straight, move}
 use Rattle.stack_worked.specs.Scenes.{standing_post, pushed_post, sliding_post, pressed_post, clamped_post}
-use Rattle.stack_worked.specs.Scenes.{standing_parts, tipping_parts, two_idle_parts, tipping_move}
-use Rattle.stack_worked.specs.Scenes.{sliding_forces}
+use Rattle.stack_worked.specs.Scenes.{standing_parts, tipping_parts, two_idle_parts, tipping_move, sliding_forces}
 use Rattle.stack_worked.proofs.ClosedFacts.{below_two, part_holds, in_balance, at_rest}
 
 pub post_stands : IsTrueStands standing_post (standing_forces standing_parts)

@@ -1,6 +1,5 @@
 -- What an accepted greatest factor shows of the numbers of its check: the dead power is made. And powers fit.
-use Rattle.std.proofs.Common.{◌≡◌, refl, sym, ◌∙◌, subst, ℕ, ◌+◌, List, [], ◌∷◌, length}
-use Rattle.std.proofs.Common.{Result, Ok, Err, arith}
+use Rattle.std.proofs.Common.{◌≡◌, refl, sym, ◌∙◌, subst, ℕ, ◌+◌, List, [], ◌∷◌, length, Result, Ok, Err, arith}
 use Rattle.std.specs.Prelude.{⊤}
 use lib.IntN.{ℤ, pos, ◌+ℤ◌, ◌-ℤ◌, ◌*ℤ◌}
 use Rattle.std.proofs.lemmas.Int.{ints}
@@ -19,8 +18,8 @@ use Rattle.stack_equilibrium.specs.declared.velocity.BlockMove.{BlockMove}
 use Rattle.stack_equilibrium.specs.declared.types.Question.{Question}
 use Rattle.stack_equilibrium.specs.declared.types.Question.TheVariants.{Dead, Live}
 use Rattle.stack_equilibrium.specs.Held.{move_of_triple}
-use Rattle.stack_equilibrium.specs.WrittenPowers.{with_product, with_work, with_block, summed_power}
-use Rattle.stack_equilibrium.specs.WrittenPowers.{told_power, written_power}
+use Rattle.stack_equilibrium.specs.WrittenPowers.{with_product, with_work, with_block, summed_power, told_power}
+use Rattle.stack_equilibrium.specs.WrittenPowers.{written_power}
 use Rattle.stack_equilibrium.specs.WrittenVelocities.{block_move_at}
 use Rattle.stack_equilibrium.specs.SurveyScene.{loads_on}
 use Rattle.stack_equilibrium.proofs.FreeNumbers.{all_before}

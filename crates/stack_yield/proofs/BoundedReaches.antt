@@ -1,10 +1,7 @@
 -- The reach of a greatest factor, as the code makes it.
 use Rattle.std.proofs.Common.{◌≡◌, refl, sym, ap, ◌∙◌, subst, ℕ, Option, Some, None, Result, Ok, Err, Bool, true, false}
-use Rattle.std.specs.Prelude.{IfOk, if◌then◌else◌, length}
+use Rattle.std.proofs.Common.{IfOk, if◌then◌else◌, length, arith, w64, to_z, of_z}
 use lib.IntN.{ℤ, pos, negsuc, neg_ℤ, ◌*ℤ◌}
-use native.Mathlib.Omega.{arith}
-use mir.Syntax.{w64}
-use mir.Val.{to_z, of_z}
 use Rattle.stack_algebra.proofs.Integers.{sums}
 use Rattle.stack_algebra.specs.IntegerOrder.{◌≼◌}
 use Rattle.stack_whole.specs.declared.whole.Whole.{Whole}
@@ -16,8 +13,8 @@ use Rattle.stack_rational.specs.Laws.{widest}
 use Rattle.stack_rational.specs.TooWide.{fraction_fits}
 use Rattle.stack_contact.specs.Surveyed.{Surveyed}
 use Rattle.stack_contact.specs.FreeBlocks.{frees_of}
-use Rattle.stack_certificate.specs.Certificate.{ForcesValue, MotionValue, CertificateValue}
-use Rattle.stack_certificate.specs.Certificate.{stands, collapses, greatest, unbounded}
+use Rattle.stack_certificate.specs.Certificate.{ForcesValue, MotionValue, CertificateValue, stands, collapses, greatest}
+use Rattle.stack_certificate.specs.Certificate.{unbounded}
 use Rattle.stack_equilibrium.specs.declared.types.PowerWide.{PowerWide}
 use Rattle.stack_equilibrium.specs.declared.types.Question.TheVariants.{Live}
 use Rattle.stack_statics.specs.Motions.{live_power_of}
@@ -26,18 +23,16 @@ use Rattle.stack_equilibrium.specs.Held.{move_at}
 use Rattle.stack_equilibrium.specs.WrittenPowers.{written_power}
 use Rattle.stack_judge.specs.Judged.{IsJudged}
 use Rattle.stack_pairs.specs.Directed.{directed_survey, ArePair}
-use Rattle.stack_pairs.specs.Reaches.{PointValue, ReachValue, terms_of, reached_point, half_of, reach_of}
-use Rattle.stack_pairs.specs.Reaches.{IsReaching, IsReach}
+use Rattle.stack_pairs.specs.Reaches.{PointValue, ReachValue, terms_of, reached_point, half_of, reach_of, IsReaching}
+use Rattle.stack_pairs.specs.Reaches.{IsReach}
 use Rattle.stack_pairs.proofs.Reached.{directed_dead_power}
 use Rattle.stack_yield.specs.declared.judging.DirectionAnswer.{DirectionAnswer}
 use Rattle.stack_yield.specs.declared.judging.DirectionAnswer.TheVariants.{Reaches, Falls}
 use Rattle.stack_yield.specs.declared.judging.DirectionStop.{DirectionStop}
-use Rattle.stack_yield.specs.declared.types.RegionPlace.TheVariants as places
 use Rattle.stack_yield.specs.Coordinates.{fitting_terms, both_coordinates, coordinate_of, point_made}
 use Rattle.stack_yield.specs.LessDead.{less_dead}
 use Rattle.stack_yield.specs.Kept.{reach_view}
-use Rattle.stack_yield.specs.JudgedReaches.{ReachIsJudged}
-use Rattle.stack_yield.specs.Outcomes.{reaches, passes, unless_wide, bounded}
+use Rattle.stack_yield.specs.Outcomes.{reaches, unless_wide, bounded}
 use Rattle.stack_yield.specs.Regions.{outcome_of_answer, IsOutcome, AnswerFits, AnswerHolds}
 use Rattle.stack_yield.proofs.Accepted.{moves_counted}
 
@@ -99,11 +94,6 @@ module _ (s : Surveyed) (i j : ℕ) where
         half = Some (sym (ep ∙ hp) t, sym (eq ∙ hq) t, sym (er ∙ hr) t);
       }))
 
-  pub first_wide : (m n : ℤ) (f : ForcesValue) (y : MotionValue) (e : PowerWide) →
-      written_power Live (directed_survey s i j (pos 1) (pos 0)) y ≡ Err e → bounded s i j m n f y ≡ passes places.First
-  first_wide m n f y e w = ap (λ r. unless_wide r (written_power Live (directed_survey s i j (pos 0) (pos 1)) y)
-      (point_made m n f) (reach_of s i j m n (greatest f y))) w
-
   reach_or_stop : (a b : Result ℤ PowerWide) (o : Option PointValue) (v : ReachValue) (t : DirectionAnswer) →
       unless_wide a b o v ≡ outcome_of_answer t → outcome_of_answer t ≡ reaches v
   reach_or_stop (Ok p) (Ok q) (Some x) v t h = sym h
@@ -124,12 +114,6 @@ module _ (s : Surveyed) (i j : ℕ) where
       record { holds = k.holds; form = tt; stands = k.dead_loads; is = refl }
   is_reach m n v (stands f) e h is = absurd is
   is_reach m n v (collapses y) e h is = absurd is
-
-  -- one without end is judged of its directed survey, and has no further numbers
-  pub endless_judged : (m n : ℤ) (v : Surveyed) (f r : ForcesValue) → v ≡ directed_survey s i j m n →
-      IsJudged Live v (unbounded f r) → ReachIsJudged s i j (reach_of s i j m n (unbounded f r))
-  endless_judged m n v f r e h =
-      record { judged = subst (λ t. IsJudged Live t (unbounded f r)) e h; point_fits = tt; half_fits = tt }
 
   -- a reach of a greatest factor is judged of it too, where its numbers fit
   answer_holds : (m n : ℤ) (f : ForcesValue) (y : MotionValue) (t : DirectionAnswer) →

@@ -1,7 +1,6 @@
 -- The loads of a directed structure are within the limits.
-use Rattle.std.proofs.Common.{◌≡◌, refl, sym, ◌∙◌, subst, ℕ, suc, ◌+◌, ◌<◌, ◌≤◌, Bool, true, false, arith}
-use Rattle.std.proofs.Common.{List, [], ◌∷◌, length, get_or, w64, to_z, of_z, nat_abs}
-use Rattle.std.specs.Prelude.{nat_eq, not, if◌then◌else◌}
+use Rattle.std.proofs.Common.{◌≡◌, refl, sym, ◌∙◌, subst, ℕ, suc, ◌+◌, ◌<◌, ◌≤◌, Bool, true, false, arith, List, []}
+use Rattle.std.proofs.Common.{◌∷◌, length, get_or, w64, to_z, of_z, nat_abs, nat_eq, not, if◌then◌else◌}
 use Rattle.std.specs.List.{All}
 use Rattle.std.proofs.lemmas.Bool.{eqb-true, ne_eqb, eq-eqb}
 use Rattle.std.proofs.lemmas.Int.{ints, to_z-of_z}

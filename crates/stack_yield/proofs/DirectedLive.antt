@@ -1,7 +1,6 @@
 -- A directed structure lists live loads.
 use Rattle.std.proofs.Common.{◌≡◌, inl, sym, subst, ℕ, zero, suc, ◌+◌, ◌<◌, Bool, true, false, List, [], ◌∷◌, ◌++◌}
-use Rattle.std.proofs.Common.{length, get_or, arith}
-use Rattle.std.specs.Prelude.{nat_eq, if◌then◌else◌}
+use Rattle.std.proofs.Common.{length, get_or, arith, nat_eq, if◌then◌else◌}
 use Rattle.std.proofs.lemmas.Bool.{eq-eqb}
 use lib.IntN.{ℤ, pos}
 use Rattle.stack_polygon.specs.Corners.{origin}

@@ -1,7 +1,7 @@
 -- The line of a direction, found in its bytes.
 use Rattle.std.proofs.Common.{◌≡◌, ℕ, suc, ℤ, pos, negsuc, List, [], ◌∷◌, ◌++◌, Bool, true, false, not, ◌&&◌, ◌==◌}
-use Rattle.std.proofs.Common.{cond, codes, get_or, refl, sym, ap, ◌∙◌, subst, arith, Option, Some, None, IfNone}
-use Rattle.std.specs.Prelude.{neg_ℤ}
+use Rattle.std.proofs.Common.{cond, codes, get_or, refl, sym, ap, ◌∙◌, subst, arith, Option, Some, None, IfNone, neg_ℤ}
+use Rattle.std.proofs.Common.{int_le}
 use Rattle.std.specs.Fmt.{decimal, signed_decimal}
 use Rattle.std.specs.Str.{bytes_eq}
 use Rattle.std.specs.Str.Parse.{digits_value}
@@ -13,7 +13,6 @@ use Rattle.std.proofs.lemmas.Bool.{and_parts}
 use Rattle.std.proofs.lemmas.Bool.Decides.{nat_tests, Decides-int_eq}
 use Rattle.std.proofs.lemmas.Int.{ints}
 use Rattle.std.specs.Ordering.{int_eq}
-use Rattle.std.specs.Prelude.{int_le}
 use Rattle.stack_algebra.specs.IntegerOrder.{◌≼◌}
 use Rattle.stack_model.specs.Limits.{is_between}
 use Rattle.stack_model.proofs.Limited.{between}

@@ -1,17 +1,15 @@
 -- The directions of a text, line after line.
-use Rattle.std.proofs.Common.{◌≡◌, ℕ, zero, suc, ◌+◌, ◌<◌, ◌≤◌, ℤ, List, [], ◌∷◌, ◌++◌, Bool, true, false, length}
-use Rattle.std.proofs.Common.{cond, refl, sym, ap, ◌∙◌, subst, arith, Option, Some, None, Result, Ok, Err, append_assoc}
-use Rattle.std.proofs.Common.{map, ◌⊎◌, inl, inr, ltb-false, ltb-true}
-use Rattle.std.specs.Prelude.{nat_lt, if◌then◌else◌, ◌==◌}
+use Rattle.std.proofs.Common.{◌≡◌, ℕ, zero, suc, ◌+◌, ◌<◌, ◌≤◌, ℤ, List, [], ◌∷◌, ◌++◌, Bool, true, false, length, cond}
+use Rattle.std.proofs.Common.{refl, sym, ap, ◌∙◌, subst, arith, Option, Some, None, Result, Ok, Err, append_assoc, map}
+use Rattle.std.proofs.Common.{◌⊎◌, inl, inr, ltb-false, ltb-true, nat_lt, if◌then◌else◌, ◌==◌, add-one}
 use Rattle.std.specs.List.{All}
 use Rattle.std.proofs.lemmas.List.Elements.{All-nil, All-cons}
-use native.Mathlib.Numerals.{add-one}
 use Rattle.std.proofs.lemmas.Bool.{lt-ltb, le-ltb, eqb-true}
 use Rattle.std.proofs.lemmas.List.{append-nil}
 use Rattle.stack_certificate.specs.FaultLine.{onto_first, cut}
-use Rattle.stack_yield.specs.Directions.{direction_text, IsDirectionLine, direction_of}
-use Rattle.stack_yield.specs.Directions.{with_direction, directions_from, directions_of_lines, directions_of}
-use Rattle.stack_yield.specs.Directions.{IsDirection, AreDirections, IsGood, IsFaultyFrom, IsFaulty}
+use Rattle.stack_yield.specs.Directions.{direction_text, IsDirectionLine, direction_of, with_direction, directions_from}
+use Rattle.stack_yield.specs.Directions.{directions_of_lines, directions_of, IsDirection, AreDirections, IsGood}
+use Rattle.stack_yield.specs.Directions.{IsFaultyFrom, IsFaulty}
 use Rattle.stack_yield.proofs.DirectionLines.{direction_found, no_direction_found, found_direction}
 
 -- what was read, in front of what comes

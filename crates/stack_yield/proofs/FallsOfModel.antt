@@ -1,12 +1,10 @@
 -- A collapse of a directed survey is judged of the survey itself: its check makes the same numbers.
 use Rattle.std.proofs.Common.{◌≡◌, refl, sym, ◌∙◌, ℕ, arith}
-use Rattle.std.specs.Bool.{⊤}
 use lib.IntN.{ℤ, pos}
 use Rattle.stack_algebra.specs.IntegerOrder.{◌≺◌}
 use Rattle.stack_algebra.proofs.Integers.{sums}
 use Rattle.stack_algebra.specs.Steps.{◌>>=◌, steps}
 use Rattle.stack_whole.specs.Whole.{whole}
-use Rattle.stack_contact.specs.declared.types.Bearing.{Bearing}
 use Rattle.stack_contact.specs.FreeBlocks.{frees_of}
 use Rattle.stack_contact.specs.Surveyed.{Surveyed}
 use Rattle.stack_certificate.specs.Certificate.{MotionValue, collapses}
@@ -31,16 +29,6 @@ use Rattle.stack_pairs.proofs.DirectedLoads.{directed_dead}
 use Rattle.stack_pairs.proofs.Reached.{collapses_are_of_the_survey}
 
 module _ (s : Surveyed) (i j : ℕ) (m n : ℤ) (y : MotionValue) where
-  -- bodies move alike at each bearing
-  same_gap : (z : Bearing) → gap_at (directed_survey s i j m n) y z ≡ gap_at s y z
-  unfolding gap_at
-  same_gap z = refl
-
-  same_resistance : (k : ℕ) (done : ⊤) (z : Bearing) → resistance_at (directed_survey s i j m n) y k done z
-      ≡ resistance_at s y k done z
-  unfolding resistance_at gap_at
-  same_resistance k done z = refl
-
   same_motion : written_motion (directed_survey s i j m n) y ≡ written_motion s y
   unfolding written_motion resistance_at gap_at
   same_motion = refl

@@ -1,8 +1,6 @@
 -- The numbers of a point that is made fit, and so do those of a half-plane.
-use Rattle.std.proofs.Common.{◌≡◌, refl, sym, subst, Option, Some, None, Bool, true, false}
-use Rattle.std.specs.Prelude.{if◌then◌else◌}
+use Rattle.std.proofs.Common.{◌≡◌, refl, sym, subst, Option, Some, None, Bool, true, false, if◌then◌else◌, arith}
 use lib.IntN.{ℤ, pos, ◌*ℤ◌}
-use native.Mathlib.Omega.{arith}
 use Rattle.stack_whole.specs.Whole.{IsFitting}
 use Rattle.stack_algebra.specs.Fraction.{Fraction}
 use Rattle.stack_algebra.proofs.Over.{over}

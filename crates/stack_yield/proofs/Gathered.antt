@@ -1,44 +1,37 @@
 -- Directions one after the other.
-use Rattle.std.proofs.Common.{◌≡◌, refl, sym, ap, ◌∙◌, subst, ℕ, suc, ◌+◌, ◌<◌, ◌≤◌, List, [], ◌∷◌, ◌++◌, length}
-use Rattle.std.proofs.Common.{get_or, map, drop, Result, Ok, Err, append_assoc, arith}
-use native.Mathlib.Numerals.{add-one}
+use Rattle.std.proofs.Common.{◌≡◌, refl, sym, ap, ◌∙◌, subst, ℕ, suc, ◌+◌, ◌<◌, ◌≤◌, List, ◌∷◌, ◌++◌, length, get_or}
+use Rattle.std.proofs.Common.{map, drop, Result, Ok, Err, append_assoc, arith, take, Option, Some, None, add-one, IfOk}
 use Rattle.std.specs.List.{AllByRecursion}
-use Rattle.std.specs.Prelude.{IfOk}
 use Rattle.std.proofs.Math.Seq.{drop-cons}
 use Rattle.std.proofs.lemmas.List.{map-append, take_more, take_all}
 use lib.IntN.{ℤ}
 use Rattle.stack_contact.specs.Surveyed.{Surveyed}
 use Rattle.stack_statics.specs.Scene.{IsProper}
 use Rattle.stack_equilibrium.specs.SurveyScene.{scene_of}
-use Rattle.stack_pairs.specs.Directed.{ArePair}
-use Rattle.stack_pairs.specs.Reaches.{ReachValue, collapse, points, IsReach, RegionTells}
+use Rattle.stack_pairs.specs.Directed.{ArePair, directed_survey}
+use Rattle.stack_pairs.specs.Reaches.{ReachValue, collapse, points, IsReach, RegionTells, PointValue}
+use Rattle.stack_pairs.specs.Reaches.{direction_of_reach, reach_of}
 use Rattle.stack_pairs.specs.Laws.{RegionsTell}
 use Rattle.stack_certificate.specs.declared.types.Motion.{Motion}
-use Rattle.stack_certificate.specs.Certificate.{motion_view}
+use Rattle.stack_certificate.specs.Certificate.{motion_view, stands, collapses, greatest, unbounded}
 use Rattle.stack_yield.specs.declared.directing.Towards.{Towards}
 use Rattle.stack_yield.specs.declared.types.RegionError.{RegionError}
 use Rattle.stack_yield.specs.declared.types.RegionError.TheVariants as errors
-use Rattle.std.proofs.Common.{take, Option, Some, None}
-use Rattle.stack_certificate.specs.Certificate.{stands, collapses, greatest, unbounded}
 use Rattle.stack_equilibrium.specs.declared.types.PowerWide.{PowerWide}
 use Rattle.stack_equilibrium.specs.declared.types.Question.TheVariants.{Live}
 use Rattle.stack_judge.specs.Judged.{IsJudged}
 use Rattle.stack_judge.specs.Judgement.{Judgement, certified, too_wide, spent, unjudged, judgement}
-use Rattle.stack_pairs.specs.Directed.{directed_survey}
-use Rattle.stack_pairs.specs.Reaches.{PointValue, direction_of_reach, reach_of}
-use Rattle.stack_yield.specs.Outcomes.{unless_wide, outcome_of}
+use Rattle.stack_yield.specs.Outcomes.{unless_wide, outcome_of, Outcome, reaches, falls, passes, spends}
+use Rattle.stack_yield.specs.Outcomes.{direction_outcome, Outcomes, answered, passes_at, spends_at, no_outcomes}
+use Rattle.stack_yield.specs.Outcomes.{with_reach, and_then, outcomes_from, outcomes}
 use Rattle.stack_yield.specs.declared.types.Reach.{Reach}
 use Rattle.stack_yield.specs.declared.judging.DirectionAnswer.{DirectionAnswer}
 use Rattle.stack_yield.specs.declared.judging.DirectionAnswer.TheVariants.{Reaches, Falls}
 use Rattle.stack_yield.specs.declared.judging.DirectionStop.{DirectionStop}
 use Rattle.stack_yield.specs.declared.judging.DirectionStop.TheVariants as stops
 use Rattle.stack_yield.specs.Kept.{reach_view}
-use Rattle.stack_yield.specs.Outcomes.{Outcome, reaches, falls, passes, spends, direction_outcome}
-use Rattle.stack_yield.specs.Outcomes.{Outcomes, answered, passes_at, spends_at, no_outcomes, with_reach, and_then}
-use Rattle.stack_yield.specs.Outcomes.{outcomes_from, outcomes}
 use Rattle.stack_yield.specs.Regions.{outcome_of_answer, IsOutcome, AnswerHolds, Regions, RefusesFirstDirection}
-use Rattle.stack_yield.specs.Regions.{region_refusal}
-use Rattle.stack_yield.specs.Regions.{towards_of}
+use Rattle.stack_yield.specs.Regions.{region_refusal, towards_of}
 use Rattle.stack_yield.specs.ByDirections.{AreByDirections}
 use Rattle.stack_yield.specs.JudgedReaches.{ReachIsJudged}
 use Rattle.stack_yield.proofs.FirstDirection.{by_directions}
@@ -58,13 +51,6 @@ onto_more rs r (passes_at k p) = refl
 onto_more rs r (spends_at k) = refl
 onto_more rs r no_outcomes = refl
 
-onto_nothing : (o : Outcomes) → o ≡ onto [] o
-onto_nothing (answered (points qs)) = refl
-onto_nothing (answered (collapse y)) = refl
-onto_nothing (passes_at k p) = refl
-onto_nothing (spends_at k) = refl
-onto_nothing no_outcomes = refl
-
 module _ (s : Surveyed) (i j budget : ℕ) where
   -- how far the directions ds have come: the reaches rs of the first k
   pub record IsGathered (ds : List (ℤ × ℤ)) (rs : List ReachValue) (k : ℕ) : Type 0 where
@@ -74,16 +60,6 @@ module _ (s : Surveyed) (i j budget : ℕ) where
     pub directions : map direction_of_reach rs ≡ take k ds
     pub counted : length rs ≡ k
     pub within : k ≤ length ds
-
-  pub begun : (ds : List (ℤ × ℤ)) (rs : List Reach) → rs ≡ [] → IsGathered ds (map reach_view rs) 0
-  begun ds rs e = subst (λ xs. IsGathered ds (map reach_view xs) 0) (sym e) (record {
-    outcomes = onto_nothing (outcomes s i j budget ds);
-    each = tt;
-    judged = tt;
-    directions = refl;
-    counted = refl;
-    within = omega arith;
-  })
 
   -- what comes of direction number k, behind the reaches so far
   next : (ds : List (ℤ × ℤ)) (rs : List ReachValue) (k : ℕ) (d : ℤ × ℤ) (o : Outcome) → k < length ds →

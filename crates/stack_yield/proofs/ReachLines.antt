@@ -1,11 +1,11 @@
 -- Reaches printed one after the other.
-use Rattle.std.proofs.Common.{◌≡◌, ℕ, suc, ◌+◌, ◌<◌, ◌≤◌, List, [], ◌++◌, length, map, get_or, drop, sym, ap, ◌∙◌}
+use Rattle.std.proofs.Common.{◌≡◌, ℕ, suc, ◌+◌, ◌<◌, ◌≤◌, List, ◌++◌, length, map, get_or, drop, sym, ap, ◌∙◌}
 use Rattle.std.proofs.Common.{subst, add-one, drop-cons, append_assoc}
 use Rattle.std.proofs.Math.ListN.{drop_of_length-le}
-use Rattle.std.proofs.lemmas.List.{append-nil, length-map}
+use Rattle.std.proofs.lemmas.List.{append-nil}
 use Rattle.stack_yield.specs.declared.types.Reach.{Reach}
 use Rattle.stack_yield.specs.Kept.{reach_view}
-use Rattle.stack_yield.specs.RegionText.{reach_text, reach_lines, region_line}
+use Rattle.stack_yield.specs.RegionText.{reach_text, reach_lines}
 
 -- the text of the reaches so far, with one more
 pub one_more : (rs : List Reach) (k : ℕ) (r : Reach) (text longer whole : List ℕ) → k < length rs →
@@ -24,10 +24,3 @@ pub no_more : (rs : List Reach) (k : ℕ) (text whole : List ℕ) → length rs 
     text ++ reach_lines (map reach_view (drop k rs)) ≡ whole → text ≡ whole
 no_more rs k text whole le so_far = sym (append-nil text)
     ∙ ap (λ ls. text ++ reach_lines (map reach_view ls)) (sym (drop_of_length-le rs le)) ∙ so_far
-
--- behind the line that counts them
-pub behind_count : (rs : List Reach) (head whole : List ℕ) → head ≡ region_line (length rs) →
-    whole ≡ head ++ reach_lines (map reach_view rs) →
-    whole ≡ region_line (length (map reach_view rs)) ++ reach_lines (map reach_view rs)
-behind_count rs head whole counted is = is ∙ ap (λ t. t ++ reach_lines (map reach_view rs)) counted
-    ∙ ap (λ n. region_line n ++ reach_lines (map reach_view rs)) (sym (length-map rs reach_view))

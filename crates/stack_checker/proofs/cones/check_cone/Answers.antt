@@ -1,9 +1,6 @@
+use Rattle.std.proofs.Common.{rules, sym, ap, ◌∙◌, SFits, to_z-of_z, int_le, Err}
 use mir.Syntax.{w128}
-use mir.Val.{SFits}
-use mir.Facts.{to_z-of_z}
 use lib.IntN.{pos}
-use Rattle.std.proofs.Common.{rules, sym, ap, ◌∙◌}
-use Rattle.std.specs.Prelude.{int_le, Err}
 use Rattle.std.proofs.lemmas.Result.{err_from_is_err_and}
 use Rattle.stack_checker.proofs.ConeTests.{told, passed, refused, cone_pulls, cone_told}
 use Rattle.stack_checker.proofs.cones.check_cone.Goals as goal

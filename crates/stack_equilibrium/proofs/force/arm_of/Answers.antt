@@ -1,6 +1,4 @@
-use Rattle.std.proofs.Common.{sym, subst, rules, SFits}
-use mir.Facts.{to_z-of_z}
-use mir.Syntax.{w64}
+use Rattle.std.proofs.Common.{sym, subst, rules, SFits, to_z-of_z, w64}
 use Rattle.stack_polygon.specs.Limits.{IsNear}
 use Rattle.stack_equilibrium.proofs.force.arm_of.Goals as goal
 

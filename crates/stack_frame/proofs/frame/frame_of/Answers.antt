@@ -1,5 +1,4 @@
-use mir.Syntax.{w64}
-use mir.Val.{SFits}
+use Rattle.std.proofs.Common.{w64, SFits}
 use Rattle.stack_frame.proofs.FramesOfDirections.{divisor-at, frame-is, part-of, part-step}
 use Rattle.stack_frame.proofs.frame.frame_of.Goals as goal
 

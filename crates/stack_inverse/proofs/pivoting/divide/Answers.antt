@@ -1,5 +1,4 @@
-use mathlib.Core.Path.{subst₂}
-use Rattle.std.proofs.Common.{sym, ap, subst, ◌∙◌, ℕ, List, length, unsigned_abs}
+use Rattle.std.proofs.Common.{sym, ap, subst, ◌∙◌, ℕ, List, length, unsigned_abs, subst₂}
 use Rattle.std.proofs.lemmas.List.{with_items_is}
 use Rattle.std.specs.Vec.{with_items}
 use Rattle.stack_rows.specs.RowForm.{IsSameRow, AreJumps}

@@ -1,5 +1,4 @@
-use mathlib.Core.Path.{subst₂}
-use Rattle.std.proofs.Common.{sym, ap, subst, ◌∙◌, List, length, unsigned_abs}
+use Rattle.std.proofs.Common.{sym, ap, subst, ◌∙◌, List, length, unsigned_abs, subst₂}
 use Rattle.std.proofs.lemmas.List.{with_items_is}
 use lib.IntN.{ℤ}
 use Rattle.stack_inverse.specs.RowBlock.{IsTopped, IsStepTopped}

@@ -1,6 +1,4 @@
-use Rattle.std.proofs.Common.{◌∙◌, rules}
-use mir.Val.{SFits}
-use mir.Facts.{to_z-of_z}
+use Rattle.std.proofs.Common.{◌∙◌, rules, SFits, to_z-of_z}
 use Rattle.std.specs.Int.{w128}
 use Rattle.stack_inverse.proofs.CellSteps.{remade}
 use Rattle.stack_inverse.proofs.remaking.remade.Goals as goal

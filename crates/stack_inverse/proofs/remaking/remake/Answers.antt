@@ -1,5 +1,4 @@
-use mathlib.Core.Path.{subst₂}
-use Rattle.std.proofs.Common.{◌≡◌, ◌≢◌, sym, subst, ◌∙◌, ℕ, ◌<◌, pos, length, set, arith}
+use Rattle.std.proofs.Common.{◌≡◌, ◌≢◌, sym, subst, ◌∙◌, ℕ, ◌<◌, pos, length, set, arith, subst₂}
 use lib.IntN.{ℤ, ◌*ℤ◌, ◌-ℤ◌}
 use native.Mathlib.Decide.{dec_lt}
 use Rattle.stack_rows.specs.RowForm.{number_at}

@@ -1,5 +1,4 @@
-use Rattle.std.proofs.Common.{◌≡◌, true, subst, sym, ap, ◌∙◌}
-use Rattle.std.specs.Prelude.{IfSome, is_some}
+use Rattle.std.proofs.Common.{◌≡◌, true, subst, sym, ap, ◌∙◌, IfSome, is_some}
 use Rattle.stack_tableau.specs.LastTables.{ended_as}
 use Rattle.stack_simplex.specs.Ends.{refused_end}
 use Rattle.stack_simplex.specs.declared.refusal.RunError.TheVariants as runs

@@ -1,5 +1,4 @@
-use Rattle.std.proofs.Common.{◌≡◌, take}
-use Rattle.std.specs.Prelude.{flat_map}
+use Rattle.std.proofs.Common.{◌≡◌, take, flat_map}
 use Rattle.stack_overhang.specs.Bricks.{bricks_in}
 use Rattle.stack_overhang.proofs.bricks.bricks.Given as goal
 

@@ -1,5 +1,4 @@
-use Rattle.std.proofs.Common.{◌≡◌, ◌+◌, ◌-◌, ◌∷◌, arith, ap, ◌∙◌, subst, IfOk}
-use Rattle.std.specs.Prelude.{flat_map}
+use Rattle.std.proofs.Common.{◌≡◌, ◌+◌, ◌-◌, ◌∷◌, arith, ap, ◌∙◌, subst, IfOk, flat_map}
 use Rattle.stack_algebra.specs.Listed.{listed}
 use Rattle.stack_overhang.specs.Stacks.{brick_rows, layer_of, slab_counts}
 use Rattle.stack_overhang.proofs.SlabLayers.{one_layer_more}

@@ -1,5 +1,4 @@
-use Rattle.std.proofs.Common.{◌≡◌, ◌+◌, ◌-◌, ◌∷◌}
-use Rattle.std.specs.Prelude.{flat_map}
+use Rattle.std.proofs.Common.{◌≡◌, ◌+◌, ◌-◌, ◌∷◌, flat_map}
 use Rattle.stack_algebra.specs.Listed.{listed}
 use Rattle.stack_overhang.specs.Stacks.{layer_of}
 use Rattle.stack_overhang.proofs.layers.slab_layers.Given as goal

@@ -1,5 +1,4 @@
-use Rattle.std.proofs.Common.{◌∙◌, rules}
-use mir.Syntax.{w64}
+use Rattle.std.proofs.Common.{◌∙◌, rules, w64}
 use Rattle.std.proofs.lemmas.Int.{to_z-of_z}
 use Rattle.stack_overlap.proofs.ByForms.{side-form}
 use Rattle.stack_overlap.proofs.marks.turn.Goals as goal

@@ -1,6 +1,4 @@
-use mathlib.Core.Path.{sym, ap, ◌∙◌}
-use mathlib.Core.Logic.{inl, inr}
-use Rattle.std.proofs.Common.{IsTrue}
+use Rattle.std.proofs.Common.{IsTrue, sym, ap, ◌∙◌, inl, inr}
 use Rattle.stack_algebra.specs.Search.{next_round}
 use Rattle.stack_polygon.specs.Corners.{corner_of}
 use Rattle.stack_overlap.proofs.Finding.{none-answer, past-answer, segment-answer, back-answer, corner-answer}

@@ -1,7 +1,6 @@
+use Rattle.std.proofs.Common.{rules, IsTrue}
 use mathlib.Core.Path.{◌≡◌, sym, ap, ◌∙◌, subst}
 use Prim.Native.Nat.{◌<◌, ◌+◌}
-use Rattle.std.proofs.Common.{rules, IsTrue}
-use lib.ListN.{length}
 use lib.ListN.{length}
 use Rattle.stack_overlap.specs.Forms.{at_corner, line, along}
 use Rattle.stack_overlap.proofs.Reaches.{IsReached, reached-past, reached-more}

@@ -1,5 +1,4 @@
-use mathlib.Core.Path.{◌∙◌}
-use mir.Syntax.{w64}
+use Rattle.std.proofs.Common.{◌∙◌, w64}
 use Rattle.std.proofs.lemmas.Int.{to_z-of_z}
 use Rattle.stack_polygon.proofs.Stored.{moment-stored}
 use Rattle.stack_polygon.proofs.fan.moment.Goals as goal

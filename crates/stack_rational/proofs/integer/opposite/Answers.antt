@@ -1,5 +1,4 @@
-use mathlib.Core.Path.{ap}
-use native.Mathlib.Omega.{arith}
+use Rattle.std.proofs.Common.{ap, arith}
 use lib.IntN.{nat_abs}
 use Rattle.stack_rational.proofs.Steps.{abs_neg}
 use Rattle.stack_rational.proofs.integer.opposite.Goals as goal

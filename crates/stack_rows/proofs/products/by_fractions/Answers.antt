@@ -1,6 +1,4 @@
-use Rattle.std.proofs.Common.{ap, subst, rules, ◌∙◌, pos, ◌<ℤ◌}
-use mir.Val.{SFits}
-use mir.Facts.{to_z-of_z}
+use Rattle.std.proofs.Common.{ap, subst, rules, ◌∙◌, pos, ◌<ℤ◌, SFits, to_z-of_z}
 use Rattle.std.specs.Int.{w128}
 use Rattle.stack_algebra.specs.Ordered.{sign_of}
 use Rattle.stack_algebra.specs.Rows.{less}

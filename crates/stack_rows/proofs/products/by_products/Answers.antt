@@ -1,6 +1,4 @@
-use Rattle.std.proofs.Common.{sym, subst, rules, ◌∙◌, ◌-ℤ◌, ◌*ℤ◌}
-use mir.Val.{SFits}
-use mir.Facts.{to_z-of_z}
+use Rattle.std.proofs.Common.{sym, subst, rules, ◌∙◌, ◌-ℤ◌, ◌*ℤ◌, SFits, to_z-of_z}
 use Rattle.std.specs.Int.{w128}
 use Rattle.stack_algebra.specs.Ordered.{sign_of}
 use Rattle.stack_bland.specs.BySign.{by_sign}

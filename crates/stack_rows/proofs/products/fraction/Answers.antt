@@ -1,6 +1,4 @@
-use Rattle.std.proofs.Common.{◌≡◌, sym, ap, rules, ◌∙◌, true, false, pos, ◌<ℤ◌, arith}
-use mir.Val.{SFits}
-use mir.Facts.{to_z-of_z}
+use Rattle.std.proofs.Common.{◌≡◌, sym, ap, rules, ◌∙◌, true, false, pos, ◌<ℤ◌, arith, SFits, to_z-of_z}
 use Rattle.std.specs.Int.{w128}
 use Rattle.std.proofs.lemmas.Int.{ints}
 use Rattle.stack_algebra.proofs.Fractions.{of, mul}

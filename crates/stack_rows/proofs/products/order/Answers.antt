@@ -1,6 +1,4 @@
-use Rattle.std.proofs.Common.{sym, ap, subst, rules, true, false, not, ◌≡◌, ◌∙◌}
-use mir.Val.{SFits}
-use mir.Facts.{to_z-of_z}
+use Rattle.std.proofs.Common.{sym, ap, subst, rules, true, false, not, ◌≡◌, ◌∙◌, SFits, to_z-of_z}
 use Rattle.std.specs.Int.{w128}
 use lib.Dec.{T}
 use lib.Signed.{lt_z, lt_z_yes, lt_z_no}

@@ -2,8 +2,7 @@ use Rattle.std.proofs.Common.{◌≡◌, ◌≢◌, sym, ◌∙◌, ℕ, suc, �
 use lib.IntN.{ℤ, ◌*ℤ◌, ◌-ℤ◌}
 use native.Mathlib.Decide.{dec_lt}
 use Rattle.stack_rows.specs.RowForm.{number_at}
-use Rattle.stack_rows.proofs.Numbers.{at-past, at-index, at-set_same, at-set_other}
-use Rattle.stack_rows.proofs.Numbers.{item_same, done_jump, rest_jump}
+use Rattle.stack_rows.proofs.Numbers.{at-past, at-index, at-set_same, at-set_other, item_same, done_jump, rest_jump}
 use Rattle.std.proofs.lemmas.List.{length-set}
 use Rattle.stack_rows.proofs.Combined.{combined_past, combined_stays}
 use Rattle.stack_rows.proofs.row.subtract.Goals as goal

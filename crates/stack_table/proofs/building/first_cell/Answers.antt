@@ -1,5 +1,4 @@
-use Rattle.std.proofs.Common.{◌≡◌, ap, subst, ◌∙◌, ℤ, pos, not, true, false, arith}
-use Rattle.std.specs.Prelude.{IfOk, IfErr, unsigned_abs}
+use Rattle.std.proofs.Common.{◌≡◌, ap, subst, ◌∙◌, ℤ, pos, not, true, false, arith, IfOk, IfErr, unsigned_abs}
 use Rattle.std.proofs.lemmas.Bool.{le-leb}
 use Rattle.stack_algebra.proofs.Fractions.{of}
 use Rattle.stack_algebra.specs.Search.{only_if}

@@ -1,14 +1,12 @@
-use Rattle.std.proofs.Common.{◌≡◌, ap, subst, ◌∙◌, ℕ, ◌*◌, ◌<◌, length, cond, eqb, arith}
-use Rattle.std.specs.Prelude.{IfSome}
+use Rattle.std.proofs.Common.{◌≡◌, ap, subst, ◌∙◌, ℕ, ◌*◌, ◌<◌, length, cond, eqb, arith, IfSome}
 use Rattle.std.proofs.Math.Nat.{suc-mul}
 use lib.IntN.{pos, negsuc}
 use Rattle.stack_algebra.proofs.Fractions.{of}
 use Rattle.stack_rational.specs.TooWide.{fraction_fits}
 use Rattle.stack_rational.proofs.Fitting.{zero_fits}
 use Rattle.stack_table.specs.Block.{item_value, cell_of}
-use Rattle.stack_table.proofs.BlockRows.{row_in, block_join, part_block}
+use Rattle.stack_table.proofs.BlockRows.{row_in, block_join, part_block, part_value}
 use Rattle.stack_table.proofs.Parts.{two_parts, last_length, last_changed, first_rows}
-use Rattle.stack_table.proofs.BlockRows.{part_value}
 use Rattle.stack_table.proofs.objective.set_last.Goals as goal
 
 pub set_cell-requires-clause-block : goal.set_cell-requires-clause-block

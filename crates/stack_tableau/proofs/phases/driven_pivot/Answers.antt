@@ -1,6 +1,4 @@
-use mathlib.Core.Path.{subst₂}
-use Rattle.std.proofs.Common.{◌≡◌, ◌≢◌, sym, subst, ◌<◌, pos, ℕ, Bool}
-use Rattle.std.specs.Prelude.{OnOk}
+use Rattle.std.proofs.Common.{◌≡◌, ◌≢◌, sym, subst, ◌<◌, pos, ℕ, Bool, subst₂, OnOk}
 use Rattle.stack_algebra.specs.Fraction.{Fraction}
 use Rattle.stack_algebra.proofs.OrderedFractions.{ordered_fractions}
 use Rattle.stack_rational.specs.TooWide.{is_too_wide}

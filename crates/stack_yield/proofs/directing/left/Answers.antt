@@ -1,7 +1,6 @@
-use Rattle.std.proofs.Common.{◌≡◌, ap, ◌∙◌, subst, w64, to_z, of_z}
+use Rattle.std.proofs.Common.{◌≡◌, ap, ◌∙◌, subst, w64, to_z, of_z, not, false}
 use Rattle.stack_pairs.specs.Directed.{times_load}
 use Rattle.stack_model.specs.declared.types.Load.{Load}
-use Rattle.std.specs.Prelude.{not, false}
 use Rattle.stack_yield.proofs.DirectedBorne.{left_second}
 use Rattle.stack_yield.proofs.directing.left.Goals as goal
 

@@ -1,7 +1,5 @@
+use Rattle.std.proofs.Common.{rules, SFits, to_z-of_z}
 use mir.Syntax.{w128}
-use mir.Val.{SFits}
-use mir.Facts.{to_z-of_z}
-use Rattle.std.proofs.Common.{rules}
 use Rattle.stack_frame.proofs.MadeNumbers.{decided}
 use Rattle.stack_frame.proofs.cone.Cone.admits.Goals as goal
 

@@ -1,5 +1,4 @@
-use Rattle.std.proofs.Common.{subst, sym, ◌∙◌}
-use mir.Syntax.{w64}
+use Rattle.std.proofs.Common.{subst, sym, ◌∙◌, w64}
 use Rattle.std.proofs.lemmas.Int.{to_z-of_z}
 use Rattle.stack_frame.specs.Cones.{IsReduced, cone, lowest}
 use Rattle.stack_frame.proofs.LesserCones.{lowest-is}

@@ -1,5 +1,4 @@
-use mathlib.Core.Path.{subst₂}
-use Rattle.std.proofs.Common.{◌≡◌, sym, ap, ◌∙◌, suc, length, get_or, List, pos, false}
+use Rattle.std.proofs.Common.{◌≡◌, sym, ap, ◌∙◌, suc, length, get_or, List, pos, false, subst₂}
 use Rattle.std.proofs.lemmas.List.{with_items_is}
 use Rattle.std.specs.Vec.{with_items}
 use Rattle.stack_algebra.proofs.Fractions.{of}

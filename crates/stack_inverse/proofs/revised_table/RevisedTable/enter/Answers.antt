@@ -1,5 +1,4 @@
-use mathlib.Core.Path.{subst₂}
-use Rattle.std.proofs.Common.{◌≡◌, sym, ap, ◌∙◌, List, length}
+use Rattle.std.proofs.Common.{◌≡◌, sym, ap, ◌∙◌, List, length, subst₂}
 use Rattle.std.proofs.lemmas.List.{with_items_is}
 use Rattle.std.specs.Vec.{with_items}
 use Rattle.stack_inverse.specs.declared.row.Row.{Row}

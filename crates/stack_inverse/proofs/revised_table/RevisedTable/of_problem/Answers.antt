@@ -1,6 +1,5 @@
-use mathlib.Core.Path.{subst₂}
-use Rattle.std.proofs.Common.{◌≡◌, ◌<◌, ◌+◌, sym, ap, subst, ◌∙◌, ℕ, suc, List, length, cond, eqb, false, true}
-use Rattle.std.proofs.Common.{add-one, arith, pos}
+use Rattle.std.proofs.Common.{◌≡◌, ◌<◌, ◌+◌, sym, ap, subst, ◌∙◌, ℕ, suc, List, length, cond, eqb, false, true, add-one}
+use Rattle.std.proofs.Common.{arith, pos, subst₂}
 use Rattle.std.proofs.lemmas.List.{with_items_is}
 use Rattle.std.specs.Vec.{with_items}
 use lib.IntN.{ℤ}

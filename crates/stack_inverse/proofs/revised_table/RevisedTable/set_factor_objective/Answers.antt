@@ -1,6 +1,5 @@
-use mathlib.Core.Path.{subst₂}
-use Rattle.std.proofs.Common.{◌≡◌, refl, sym, ap, subst, ◌∙◌, ℕ, ◌<◌, suc, length, get_or, List, Option, pos}
-use Rattle.std.proofs.Common.{false, eqb, cond, arith}
+use Rattle.std.proofs.Common.{◌≡◌, refl, sym, ap, subst, ◌∙◌, ℕ, ◌<◌, suc, length, get_or, List, Option, pos, false}
+use Rattle.std.proofs.Common.{eqb, cond, arith, subst₂}
 use Rattle.std.proofs.lemmas.List.{with_items_is}
 use Rattle.std.specs.Vec.{with_items}
 use Rattle.stack_algebra.proofs.OrderedFractions.{ordered_fractions}

@@ -1,5 +1,4 @@
-use Rattle.std.proofs.Common.{Result, Ok, Err, ◌≡◌, ap, ◌∙◌}
-use Rattle.std.specs.Prelude.{IfOk}
+use Rattle.std.proofs.Common.{Result, Ok, Err, ◌≡◌, ap, ◌∙◌, IfOk}
 use Rattle.stack_model.specs.declared.raw.Parts.{Parts}
 use Rattle.stack_model.specs.Structure.{Structure}
 use Rattle.stack_model.specs.Sound.{IsSound}

@@ -1,5 +1,4 @@
-use Rattle.std.proofs.Common.{rules}
-use mathlib.Core.Path.{refl, subst}
+use Rattle.std.proofs.Common.{rules, refl, subst}
 use lib.ListN.{length}
 use Rattle.stack_polygon.specs.Corners.{IsStrictlyConvex}
 use Rattle.stack_polygon.specs.Admission.{IsCount}

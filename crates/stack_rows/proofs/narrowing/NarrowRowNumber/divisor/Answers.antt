@@ -1,8 +1,6 @@
+use Rattle.std.proofs.Common.{ap, sym, ◌∙◌, rules, unsigned_abs, SFits, to_z-of_z}
 use native.Mathlib.Nat.{one-dvd}
-use mir.Val.{SFits}
-use mir.Facts.{to_z-of_z}
 use Rattle.std.specs.Int.{w64}
-use Rattle.std.proofs.Common.{ap, sym, ◌∙◌, rules, unsigned_abs}
 use Rattle.stack_rows.proofs.CommonDivisors.{sized_divisor}
 use Rattle.stack_rows.proofs.narrowing.NarrowRowNumber.divisor.Goals as goal
 use Rattle.stack_rows.proofs.narrowing.NarrowRowNumber.divisor.Goals.{in-Some, in-None}

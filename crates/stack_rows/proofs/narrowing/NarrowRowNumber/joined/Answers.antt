@@ -1,6 +1,4 @@
-use Rattle.std.proofs.Common.{ap, rules, unsigned_abs, arith}
-use mir.Val.{SFits}
-use mir.Facts.{to_z-of_z}
+use Rattle.std.proofs.Common.{ap, rules, unsigned_abs, arith, SFits, to_z-of_z}
 use Rattle.std.specs.Int.{w64}
 use Rattle.std.proofs.lemmas.Nat.{le_or_l, le_or_r}
 use Rattle.stack_rows.proofs.narrowing.NarrowRowNumber.joined.Goals as goal

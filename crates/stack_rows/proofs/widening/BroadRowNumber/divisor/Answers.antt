@@ -1,8 +1,6 @@
+use Rattle.std.proofs.Common.{ap, sym, ◌∙◌, rules, unsigned_abs, SFits, to_z-of_z}
 use native.Mathlib.Nat.{one-dvd}
-use mir.Val.{SFits}
-use mir.Facts.{to_z-of_z}
 use Rattle.std.specs.Int.{w128}
-use Rattle.std.proofs.Common.{ap, sym, ◌∙◌, rules, unsigned_abs}
 use Rattle.stack_rows.proofs.CommonDivisors.{sized_divisor}
 use Rattle.stack_rows.proofs.widening.BroadRowNumber.divisor.Goals as goal
 use Rattle.stack_rows.proofs.widening.BroadRowNumber.divisor.Goals.{in-Some, in-None}

@@ -1,8 +1,6 @@
-use Rattle.std.proofs.Common.{◌≡◌, ap, ◌∙◌, ◌≤◌, ◌-◌, ◌^◌, arith}
+use Rattle.std.proofs.Common.{◌≡◌, ap, ◌∙◌, ◌≤◌, ◌-◌, ◌^◌, arith, to_z, of_z, to_z-of_z}
 use lib.IntN.{ℤ, nat_abs, ◌-ℤ◌, ◌*ℤ◌}
 use mir.Syntax.{w64, w128}
-use mir.Val.{to_z, of_z}
-use mir.Facts.{to_z-of_z}
 use Rattle.stack_rational.specs.Widths.{signed-keeps}
 use Rattle.stack_rows.proofs.widening.BroadRowNumber.short_step.Goals as goal
 

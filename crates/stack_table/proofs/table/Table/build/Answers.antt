@@ -1,9 +1,7 @@
 use Rattle.std.proofs.Common.{◌≡◌, refl, sym, ap, subst, ◌∙◌, suc, ◌+◌, ◌*◌, ◌<◌, get_or, Option, Some, None, cond}
-use Rattle.std.proofs.Common.{length, arith}
-use Rattle.std.specs.Prelude.{is_some}
-use Rattle.std.proofs.lemmas.List.{get_or_default, length_push}
+use Rattle.std.proofs.Common.{length, arith, is_some}
+use Rattle.std.proofs.lemmas.List.{get_or_default, length_push, with_items_is}
 use Rattle.std.proofs.lemmas.Result.{err_from_is_err_and}
-use Rattle.std.proofs.lemmas.List.{with_items_is}
 use Rattle.std.specs.Vec.{with_items}
 use Rattle.std.proofs.Math.Nat.{add-mul, suc-mul}
 use native.Mathlib.Decide.{ℕ_discrete}

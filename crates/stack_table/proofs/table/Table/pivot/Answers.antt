@@ -1,7 +1,6 @@
 use Rattle.std.proofs.Common.{◌≡◌, sym, ap, ◌∙◌, ℕ, suc, ◌*◌, ◌<◌, Bool, List, length, get_or, set, arith}
-use Rattle.std.proofs.Common.{get_or-set_same, get_or-set_other}
+use Rattle.std.proofs.Common.{get_or-set_same, get_or-set_other, subst₂}
 use Rattle.std.proofs.lemmas.List.{length-set, with_items_is}
-use mathlib.Core.Path.{subst₂}
 use Rattle.std.proofs.lemmas.Result.{err_from_is_err_and}
 use Rattle.std.specs.Vec.{with_items}
 use native.Mathlib.Decide.{ℕ_discrete}
