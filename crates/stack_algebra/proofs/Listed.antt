@@ -1,5 +1,5 @@
 -- The list of the first values of a function: its length, its items, one more item, the same list, its map.
-use Rattle.std.proofs.Common.{◌≡◌, refl, ap, ℕ, zero, suc, ◌<◌, ◌∷◌, ◌++◌, length, get_or, map, arith}
+use Rattle.std.proofs.Common.{◌≡◌, refl, ap, ℕ, zero, suc, ◌<◌, [], ◌∷◌, ◌++◌, length, get_or, map, arith}
 pub use Rattle.stack_algebra.specs.Listed.{listed}
 
 pub length_listed : {X : Type 0} (n : ℕ) (f : ℕ → X) → length (listed n f) ≡ n

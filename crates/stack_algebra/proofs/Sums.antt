@@ -3,7 +3,7 @@ use Rattle.std.proofs.Common.{arith, add-one}
 use mathlib.Core.Path.{◌≡◌, refl, sym, ap, ◌∙◌}
 use mathlib.Core.Logic.{◌≢◌}
 use mathlib.Core.Bool.{Bool, true, false, cond}
-use mathlib.Core.List.{List, ◌∷◌, ◌++◌}
+use mathlib.Core.List.{List, [], ◌∷◌, ◌++◌}
 use Prim.Native.Nat.{ℕ, zero, suc, ◌<◌, ◌+◌}
 use lib.ListN.{length, get_or}
 use native.Mathlib.Decide.{ℕ_discrete}

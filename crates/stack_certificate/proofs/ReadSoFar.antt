@@ -1,5 +1,5 @@
 -- A text that is read line by line: what is known on the way, and what it comes to.
-use Rattle.std.proofs.Common.{◌≡◌, ℕ, suc, ◌+◌, ◌==◌, List, ◌∷◌, length, true, refl, sym, ap, ◌∙◌, arith, Some}
+use Rattle.std.proofs.Common.{◌≡◌, ℕ, suc, ◌+◌, ◌==◌, List, [], ◌∷◌, length, true, refl, sym, ap, ◌∙◌, arith, Some}
 use Rattle.std.proofs.Common.{None, Err}
 use Rattle.std.specs.Option.{option_and_then}
 use Rattle.std.proofs.lemmas.Bool.Decides.{nat_tests}

@@ -1,6 +1,6 @@
 -- From a list of numbers to forces and moves, and from an end to its lists.
 use Rattle.std.proofs.Common.{◌≡◌, refl, sym, ap, subst, ◌∙◌, ℕ, suc, ◌*◌, ◌<◌, ◌≤◌, Bool, true, false, not, List, ◌∷◌}
-use Rattle.std.proofs.Common.{map, length, None, Result, Ok, Err, arith, IfOk}
+use Rattle.std.proofs.Common.{[], map, length, None, Result, Ok, Err, arith, IfOk}
 use lib.IntN.{ℤ}
 use Rattle.stack_algebra.specs.Fraction.{Fraction}
 use Rattle.stack_algebra.specs.Search.{first, only_if}

@@ -1,6 +1,6 @@
 -- The first bearing whose parts are too wide, as a loop finds it.
 use Rattle.std.proofs.Common.{◌≡◌, refl, sym, ap, ◌∙◌, ℕ, ◌+◌, ◌*◌, ◌<◌, Bool, true, false, not, ◌&&◌, List, ◌∷◌, ◌++◌}
-use Rattle.std.proofs.Common.{length, get_or, Some, None, Result, Ok, Err, if◌then◌else◌}
+use Rattle.std.proofs.Common.{[], length, get_or, Some, None, Result, Ok, Err, if◌then◌else◌}
 use lib.IntN.{ℤ, ◌+ℤ◌, ◌-ℤ◌, ◌*ℤ◌}
 use Rattle.stack_algebra.specs.Search.{first, only_if}
 use Rattle.stack_algebra.specs.Steps.{◌>>=◌}

@@ -1,5 +1,6 @@
 -- Reading a table: a search for the row of a basic column, and lists that grow.
-use Rattle.std.proofs.Common.{◌≡◌, sym, ap, ◌∙◌, ℕ, ◌+◌, ◌<◌, true, List, ◌∷◌, ◌++◌, eqb, Option, Some, None, add-one}
+use Rattle.std.proofs.Common.{◌≡◌, sym, ap, ◌∙◌, ℕ, ◌+◌, ◌<◌, true, List, [], ◌∷◌, ◌++◌, eqb, Option, Some, None}
+use Rattle.std.proofs.Common.{add-one}
 use Rattle.stack_algebra.specs.Search.{first, only_if, least}
 use Rattle.stack_algebra.proofs.Search.{first_found, least-some}
 use Rattle.stack_algebra.proofs.Listed.{listed, listed_more}

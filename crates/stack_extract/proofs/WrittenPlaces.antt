@@ -1,6 +1,6 @@
 -- The first place that is too wide, as a loop finds it.
 use Rattle.std.proofs.Common.{◌≡◌, refl, sym, ap, subst, ◌∙◌, ℕ, zero, suc, ◌+◌, ◌^◌, ◌<◌, ◌≤◌, true, false, not, List}
-use Rattle.std.proofs.Common.{◌∷◌, ◌++◌, map, length, get_or, take, Option, Some, None, arith, nat_le, nat_lt}
+use Rattle.std.proofs.Common.{[], ◌∷◌, ◌++◌, map, length, get_or, take, Option, Some, None, arith, nat_le, nat_lt}
 use Rattle.std.proofs.Common.{unsigned_abs, to_z, of_z}
 use Rattle.std.proofs.lemmas.Bool.{lt-ltb, le-ltb, le-leb, lt-leb}
 use Rattle.std.proofs.lemmas.List.{take_more}

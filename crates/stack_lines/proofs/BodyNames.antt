@@ -1,6 +1,6 @@
 -- The names of a structure's bodies, one after the other.
-use Rattle.std.proofs.Common.{◌≡◌, ℕ, ◌+◌, ◌<◌, true, List, ◌∷◌, ◌++◌, map, take, length, get_or, subst, sym, ap, ◌∙◌}
-use Rattle.std.proofs.Common.{String, string_bytes}
+use Rattle.std.proofs.Common.{◌≡◌, ℕ, ◌+◌, ◌<◌, true, List, [], ◌∷◌, ◌++◌, map, take, length, get_or, subst, sym, ap}
+use Rattle.std.proofs.Common.{◌∙◌, String, string_bytes}
 use Rattle.std.specs.declared.alloc.Global.{Global}
 use Rattle.std.proofs.lemmas.List.{take_more, get_or-map, length-map, map-append}
 use Rattle.stack_model.specs.Structure.{NamedBody, Structure, body_of}

@@ -1,6 +1,6 @@
 -- A loop that picks items, one after the other, and the number among those that are kept.
 use Rattle.std.proofs.Common.{◌≡◌, refl, sym, ap, ◌∙◌, ℕ, zero, suc, ◌+◌, ◌<◌, Bool, true, false}
-use Rattle.std.proofs.Common.{List, ◌∷◌, ◌++◌, length, get_or, take, arith}
+use Rattle.std.proofs.Common.{List, [], ◌∷◌, ◌++◌, length, get_or, take, arith}
 use Rattle.std.proofs.lemmas.List.{take_more}
 use Rattle.std.specs.Bool.{if◌then◌else◌}
 use Rattle.stack_model.specs.Keeping.{later, kept_before, picked}

@@ -1,5 +1,5 @@
 -- A list that a loop fills, one item a turn.
-use Rattle.std.proofs.Common.{◌≡◌, ℕ, ◌+◌, List, ◌∷◌, ◌++◌, sym, ap, ◌∙◌, add-one, append_assoc}
+use Rattle.std.proofs.Common.{◌≡◌, ℕ, ◌+◌, List, [], ◌∷◌, ◌++◌, sym, ap, ◌∙◌, add-one, append_assoc}
 use Rattle.stack_algebra.proofs.Listed.{listed, listed_more}
 
 module _ {X : Type 0} (f : ℕ → X) where

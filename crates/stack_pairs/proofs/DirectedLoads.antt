@@ -1,6 +1,6 @@
 -- The loads of a directed survey on each body.
 use Rattle.std.proofs.Common.{◌≡◌, ◌≢◌, refl, sym, ap, ◌∙◌, ℕ, zero, suc, ◌+◌, ◌<◌, Bool, true, false, List, ◌∷◌}
-use Rattle.std.proofs.Common.{length, get_or, arith, nat_eq, ◌&&◌, not, if◌then◌else◌}
+use Rattle.std.proofs.Common.{[], length, get_or, arith, nat_eq, ◌&&◌, not, if◌then◌else◌}
 use lib.IntN.{ℤ, pos, ◌+ℤ◌, ◌-ℤ◌, ◌*ℤ◌}
 use Rattle.std.proofs.lemmas.Bool.{ne_eqb, eq-eqb, eqb-true}
 use Rattle.stack_algebra.specs.Sums.{sum_to, sum_of}

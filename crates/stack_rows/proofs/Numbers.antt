@@ -1,5 +1,5 @@
 -- The values of a list that is written item by item.
-use Rattle.std.proofs.Common.{◌≡◌, ◌≢◌, sym, ap, subst, ◌∙◌, ℕ, zero, suc, ◌<◌, ◌≤◌, List, ◌∷◌, map, length, get_or}
+use Rattle.std.proofs.Common.{◌≡◌, ◌≢◌, sym, ap, subst, ◌∙◌, ℕ, zero, suc, ◌<◌, ◌≤◌, List, [], ◌∷◌, map, length, get_or}
 use Rattle.std.proofs.Common.{set, arith, get_or-set_same, get_or-set_other}
 use Rattle.std.proofs.lemmas.List.{map-set, get_or-map, length-map, get_or_past}
 use native.Mathlib.Decide.{ℕ_discrete, dec_lt}

@@ -1,7 +1,7 @@
 -- The row that is due in a column: entries before it are of earlier rows, the others of later ones.
 use Rattle.std.proofs.Common.{◌≡◌, refl, sym, ap, subst, ◌∙◌, ℕ, zero, suc, ◌+◌, ◌<◌, Bool, true, false, cond, ltb}
-use Rattle.std.proofs.Common.{replicate, List, ◌∷◌, map, length, drop, get_or, set, get_or-set_same, get_or-set_other}
-use Rattle.std.proofs.Common.{Result, Ok, Err, arith, IfOk, IfErr}
+use Rattle.std.proofs.Common.{replicate, List, [], ◌∷◌, map, length, drop, get_or, set, get_or-set_same}
+use Rattle.std.proofs.Common.{get_or-set_other, Result, Ok, Err, arith, IfOk, IfErr}
 use Rattle.std.specs.List.{slice_index}
 use Rattle.std.specs.List.Sorted.{IsStrictlyIncreasing}
 use Rattle.std.proofs.lemmas.List.{get_or-replicate, get_or_past, length-replicate}
