@@ -17,7 +17,7 @@ use stack_equilibrium::types::{PowerWide, Question};
 use stack_whole::Whole;
 
 /// The work of the live and of the dead loads on a motion, in sixths.
-#[derive(Clone, Copy, Debug, PartialEq, Eq)]
+#[derive(Clone, Copy)]
 pub struct Powers {
     pub live: Whole,
     pub dead: Whole,

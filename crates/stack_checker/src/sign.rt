@@ -6,7 +6,7 @@ ghost use Rattle.stack_checker.specs.Signs.{has_sign, standing, loaded, rising};
 use stack_whole::Whole;
 
 /// What a number is tested for.
-#[derive(Clone, Copy, Debug, PartialEq, Eq)]
+#[derive(Clone, Copy)]
 pub enum WantedSign {
     Zero,
     NotNegative,
@@ -27,7 +27,7 @@ impl WantedSign {
 }
 
 /// What the scale and the factor of a list of forces are tested for.
-#[derive(Clone, Copy, Debug, PartialEq, Eq)]
+#[derive(Clone, Copy)]
 pub struct Signs {
     pub scale: WantedSign,
     pub factor: WantedSign,

@@ -8,14 +8,14 @@ use crate::types::{Check, CheckAt, CheckPlace, Part, Reason};
 use stack_whole::{Whole, Wide};
 
 /// The first test that fails, or the first number that is too wide.
-#[derive(Clone, Copy, Debug, PartialEq, Eq)]
+#[derive(Clone, Copy)]
 pub enum Stop {
     Rejected(Reason),
     TooWide(CheckAt),
 }
 
 /// A stop, with the part of the certificate in which the tests end.
-#[derive(Clone, Copy, Debug, PartialEq, Eq)]
+#[derive(Clone, Copy)]
 pub struct PartStop {
     pub part: Part,
     pub stop: Stop,

@@ -19,7 +19,7 @@ pub struct Push {
 
 /// A bearing as a block meets it: its tangent, and its point less the block's first stored corner, which is the arm
 /// of a force there.
-#[derive(Clone, Copy, Debug, PartialEq, Eq)]
+#[derive(Clone, Copy)]
 pub struct Lever {
     pub tx: Whole,
     pub ty: Whole,

@@ -18,7 +18,7 @@ pub struct Force {
 }
 
 /// The way from a corner to a point.
-#[derive(Clone, Copy, Debug, PartialEq, Eq)]
+#[derive(Clone, Copy)]
 pub struct Arm {
     pub lx: Whole,
     pub ly: Whole,

@@ -11,7 +11,7 @@ use stack_whole::{Whole, Wide};
 
 /// How a free block moves: the velocity of its first stored corner to the right and upwards, and its turning
 /// rate, counter-clockwise.
-#[derive(Clone, Copy, Debug, PartialEq, Eq)]
+#[derive(Clone, Copy)]
 pub struct BlockMove {
     pub u: Whole,
     pub v: Whole,
@@ -19,14 +19,14 @@ pub struct BlockMove {
 }
 
 /// A velocity, or the difference of two: to the right and upwards.
-#[derive(Clone, Copy, Debug, PartialEq, Eq)]
+#[derive(Clone, Copy)]
 pub struct Velocity {
     pub x: Whole,
     pub y: Whole,
 }
 
 /// How a bearing opens and slides, as dot products with its normal and with its tangent.
-#[derive(Clone, Copy, Debug, PartialEq, Eq)]
+#[derive(Clone, Copy)]
 pub struct Gap {
     pub opening: Whole,
     pub slide: Whole,

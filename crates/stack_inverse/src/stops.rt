@@ -4,7 +4,7 @@ use stack_table::types::PivotWide;
 use std::alloc::{AllocError, AllocFailed};
 
 /// Why a pivot isn't done.
-#[derive(Clone, Copy, Debug, PartialEq, Eq, Drop)]
+#[derive(Clone, Copy, Drop)]
 pub enum PivotRefusal {
     /// The first operation that is too wide.
     TooWide(PivotWide),

@@ -12,7 +12,7 @@ use stack_report::number;
 use std::alloc::{AllocError, Global};
 
 /// What an answer says.
-#[derive(Clone, Copy, Debug, PartialEq, Eq)]
+#[derive(Clone, Copy)]
 pub enum Verdict {
     /// What was asked is so: a certificate is accepted, the structure carries what is asked, a table is given.
     Affirmed,
@@ -33,7 +33,7 @@ impl Verdict {
 }
 
 /// A whole answer, before it is written.
-#[derive(Debug, Drop)]
+#[derive(Drop)]
 pub struct Answer {
     pub verdict: Verdict,
     pub text: Vec<u8>,

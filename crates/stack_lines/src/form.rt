@@ -3,7 +3,7 @@
 use stack_equilibrium::types::Question;
 
 /// A kind of built-in stack.
-#[derive(Clone, Copy, Debug, PartialEq, Eq)]
+#[derive(Clone, Copy)]
 pub enum Kind {
     /// Bricks of which each is moved by half a brick over its number from the top.
     Harmonic,
@@ -14,7 +14,7 @@ pub enum Kind {
 }
 
 /// What the words ask for.
-#[derive(Clone, Copy, Debug, PartialEq, Eq)]
+#[derive(Clone, Copy)]
 pub enum Form<'a> {
     /// Checks a certificate for a model; the names of their files.
     Check {
@@ -71,7 +71,7 @@ pub enum Form<'a> {
 pub const DEFAULT_BUDGET: u32 = 20_000;
 
 /// What is asked of an accepted certificate.
-#[derive(Clone, Copy, Debug, PartialEq, Eq)]
+#[derive(Clone, Copy)]
 pub enum Asked {
     /// That it is accepted.
     Acceptance,

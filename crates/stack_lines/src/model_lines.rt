@@ -9,19 +9,19 @@ use stack_report::number;
 use std::fmt;
 
 /// An item of the file, or its top.
-#[derive(Clone, Copy, Debug, PartialEq, Eq)]
+#[derive(Clone, Copy)]
 struct SpotText {
     spot: Spot,
 }
 
 /// A fault of the content.
-#[derive(Clone, Copy, Debug, PartialEq, Eq)]
+#[derive(Clone, Copy)]
 struct ContentText {
     fault: ModelError,
 }
 
 /// A fault of the file, with its place and its key.
-#[derive(Clone, Copy, Debug, PartialEq, Eq)]
+#[derive(Clone, Copy)]
 pub struct FaultText {
     pub fault: ReadError,
 }

@@ -24,7 +24,7 @@ use std::alloc::AllocError;
 use std::fmt;
 
 /// A file that the words name.
-#[derive(Clone, Copy, Debug, PartialEq, Eq)]
+#[derive(Clone, Copy)]
 pub enum Input {
     /// The model's.
     Model,
@@ -37,7 +37,7 @@ pub enum Input {
 }
 
 /// Of which of a form's judgements a number is too wide.
-#[derive(Clone, Copy, Debug, PartialEq, Eq)]
+#[derive(Clone, Copy)]
 pub enum Within {
     /// Its only one, or its first.
     Whole,
@@ -50,7 +50,7 @@ pub enum Within {
 }
 
 /// Which number of a reach is too wide.
-#[derive(Clone, Copy, Debug, PartialEq, Eq)]
+#[derive(Clone, Copy)]
 pub enum ReachPlace {
     /// The power of the first load.
     First,
@@ -61,7 +61,7 @@ pub enum ReachPlace {
 }
 
 /// Where a check meets a number that is too wide.
-#[derive(Debug, Drop)]
+#[derive(Drop)]
 pub enum Place {
     /// At the cone of a bearing, counted from 0.
     Cone { k: usize },
@@ -76,7 +76,7 @@ pub enum Place {
 }
 
 /// Why a run refuses.
-#[derive(Debug, Drop)]
+#[derive(Drop)]
 pub enum Refusal {
     /// The words are no form.
     Words,
@@ -264,7 +264,7 @@ impl fmt::Display for Input {
 }
 
 /// One of the three sums of a block, told by the block's name.
-#[derive(Clone, Copy, Debug, PartialEq, Eq)]
+#[derive(Clone, Copy)]
 pub struct BlockSum<'a> {
     pub name: &'a str,
     pub axis: Axis,
@@ -299,7 +299,7 @@ impl fmt::Display for Place {
 }
 
 /// The cell of a table at which a run meets a number that is too wide, and the operation.
-#[derive(Clone, Copy, Debug, PartialEq, Eq)]
+#[derive(Clone, Copy)]
 struct RunSpot {
     place: RunPlace,
 }
@@ -328,7 +328,7 @@ impl fmt::Display for Within {
 }
 
 /// The place of a number in a check, with the part of the certificate.
-#[derive(Clone, Copy, Debug)]
+#[derive(Clone, Copy)]
 struct CheckSpot<'a> {
     part: Part,
     place: &'a Place,
@@ -344,7 +344,7 @@ impl fmt::Display for CheckSpot<'_> {
 }
 
 /// The place of a number in a run.
-#[derive(Clone, Copy, Debug, PartialEq, Eq)]
+#[derive(Clone, Copy)]
 struct RunText {
     place: RunPlace,
 }
@@ -360,7 +360,7 @@ impl fmt::Display for RunText {
 }
 
 /// The place of a number that is made of the end of a run.
-#[derive(Clone, Copy, Debug, PartialEq, Eq)]
+#[derive(Clone, Copy)]
 struct EndText {
     place: ExtractPlace,
 }

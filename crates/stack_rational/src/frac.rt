@@ -65,7 +65,7 @@ impl<T: Integer> Clone for Frac<T> {
 }
 
 /// An answer, or a number on the way to it, would be more than the greatest value.
-#[derive(Clone, Copy, Debug, PartialEq, Eq, Drop)]
+#[derive(Clone, Copy, Drop)]
 pub struct PartWide;
 
 /// The fraction with these parts, which are in lowest terms.

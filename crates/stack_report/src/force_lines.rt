@@ -8,7 +8,7 @@ use crate::ratio::Ratio;
 use std::fmt;
 
 /// The force of the bearing with this number, from 0, to the right and upwards.
-#[derive(Clone, Copy, Debug, PartialEq, Eq)]
+#[derive(Clone, Copy)]
 pub struct ForceLine {
     pub index: usize,
     pub x: Ratio,
@@ -16,7 +16,7 @@ pub struct ForceLine {
 }
 
 /// The move of the block with this name: the velocity of its first stored corner and its turning rate.
-#[derive(Clone, Copy, Debug, PartialEq, Eq)]
+#[derive(Clone, Copy)]
 pub struct MoveLine<'a> {
     pub name: &'a str,
     pub u: i128,

@@ -30,7 +30,7 @@ pub fn name(model: &Model, i: usize) -> &str
 }
 
 /// Two numbers.
-#[derive(Clone, Copy, Debug, PartialEq, Eq)]
+#[derive(Clone, Copy)]
 struct TwoNumbers {
     a: i64,
     b: i64,
@@ -44,19 +44,19 @@ fn point(at: Point) -> TwoNumbers
 }
 
 /// The tangent and the coefficient of friction of a bearing.
-#[derive(Clone, Copy, Debug, PartialEq, Eq)]
+#[derive(Clone, Copy)]
 struct Directions {
     bearing: Bearing,
 }
 
 /// The numbers of a bearing: its point, its tangent and its coefficient of friction.
-#[derive(Clone, Copy, Debug, PartialEq, Eq)]
+#[derive(Clone, Copy)]
 struct BearingNumbers {
     bearing: Bearing,
 }
 
 /// A bearing with its number, from 0, and the names of its bodies.
-#[derive(Clone, Copy, Debug, PartialEq, Eq)]
+#[derive(Clone, Copy)]
 pub struct BearingLine<'a> {
     pub index: usize,
     pub first: &'a str,
@@ -65,7 +65,7 @@ pub struct BearingLine<'a> {
 }
 
 /// A touch with its number, from 0, and the names of its bodies.
-#[derive(Clone, Copy, Debug, PartialEq, Eq)]
+#[derive(Clone, Copy)]
 pub struct TouchLine<'a> {
     pub index: usize,
     pub first: &'a str,

@@ -4,7 +4,7 @@ use stack_run::RunPlace;
 use stack_table::types::PivotWide;
 
 /// Why a choice or a pivot isn't made.
-#[derive(Clone, Copy, Debug, PartialEq, Eq, Drop)]
+#[derive(Clone, Copy, Drop)]
 pub enum TurnRefusal {
     /// The first operation that is too wide.
     TooWide(PivotWide),
@@ -14,7 +14,7 @@ pub enum TurnRefusal {
 }
 
 /// Why a run has no end.
-#[derive(Clone, Copy, Debug, PartialEq, Eq, Drop)]
+#[derive(Clone, Copy, Drop)]
 pub enum RunStop {
     /// The first operation that is too wide.
     TooWide(RunPlace),

@@ -28,7 +28,7 @@ fn times(m: i64, load: Load) -> Load
 }
 
 /// Two live loads by their numbers from 0, and a factor for each.
-#[derive(Clone, Copy, Debug, PartialEq, Eq)]
+#[derive(Clone, Copy)]
 pub struct Towards {
     pub i: usize,
     pub j: usize,

@@ -23,7 +23,7 @@ use stack_whole::Whole;
 use std::alloc::{AllocError, Global};
 
 /// Why a direction has no reach.
-#[derive(Clone, Copy, Debug, PartialEq, Eq)]
+#[derive(Clone, Copy)]
 pub enum DirectionStop {
     /// The first number that is more than 2^127 - 1 in size.
     TooWide(RegionPlace),
