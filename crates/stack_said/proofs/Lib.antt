@@ -29,4 +29,4 @@ pub mod StagesRefused
 pub mod RegionRefused
 pub mod PairsRefused
 pub mod RunSaid
-pub mod Refusing
+pub mod Running
