@@ -195,7 +195,7 @@ def main():
         for left in glob.glob(f"{beside}/pungiroe-*") if beside.startswith(TOP) else []:
             shutil.rmtree(left, ignore_errors=True)
         print(f"the program is proved and built first: {len(crates)} crates, {places()} at a time", file=sys.stderr)
-        print("on four idle processors that takes some half an hour", file=sys.stderr)
+        print("on four idle processors that takes some twenty minutes", file=sys.stderr)
         with tempfile.TemporaryDirectory(prefix="pungiroe-", dir=beside) as room:
             return 0 if prove_all(crates, log, room) and make_program(crates, log) else 1
 
