@@ -6,7 +6,7 @@ use Rattle.std.specs.Bool.{nat_eq}
 use Rattle.std.proofs.lemmas.List.{length-map}
 use Rattle.stack_algebra.specs.Steps.{steps}
 use Rattle.stack_algebra.proofs.Order.{◌≼◌, abs}
-use Rattle.stack_frame.specs.Cones.{cone}
+use Rattle.stack_frame.specs.Cones.{coefficient}
 use Rattle.stack_frame.specs.Admitted.{IsAdmitted}
 use Rattle.stack_model.specs.Structure.{body_of}
 use Rattle.stack_contact.specs.Surveyed.{Surveyed}
@@ -36,7 +36,7 @@ use Rattle.stack_checker.proofs.SignTests.{le_decides, zero_decides, same_decide
 
 module _ (s : Surveyed) where
   cone_settles : (k : ℕ) (p q : Whole) (f : Push) → k < length s.bearings →
-      Settled s (IsAdmitted (cone p.value q.value) f.a.value f.b.value) (written_cone k p q f)
+      Settled s (IsAdmitted (coefficient p.value q.value) f.a.value f.b.value) (written_cone k p q f)
   unfolding written_cone
   cone_settles k p q f l =
       settled_as s _ (λ h. record { pushes = h.0; within = h.1 }) (λ h. (h.pushes, h.within))

@@ -3,8 +3,9 @@ use Rattle.std.specs.Prelude.{◌≡◌, ℕ, ◌<◌, ◌⊎◌, ◌&&◌, ℤ,
 use Rattle.stack_polygon.specs.declared.point.Point.{Point}
 use Rattle.stack_polygon.specs.Plane.{Triple, IsAt}
 use Rattle.stack_frame.specs.declared.frame.Frame.{Frame}
+use Rattle.stack_frame.specs.declared.cone.Coefficient.{Coefficient}
 use Rattle.stack_frame.specs.declared.cone.Cone.{Cone}
-use Rattle.stack_frame.specs.Cones.{cone, lesser_of, lowest}
+use Rattle.stack_frame.specs.Cones.{coefficient, lesser_of, lowest}
 use Rattle.stack_model.specs.Structure.{Structure, material_of, body_of, joint_terms}
 use Rattle.stack_contact.specs.declared.types.Bearing.{Bearing}
 use Rattle.stack_contact.specs.declared.types.Touch.{Touch}
@@ -22,12 +23,12 @@ pub record IsPair (s : Structure) (i j : ℕ) : Type 0 where
   pub not_both_fixed : ((body_of s i).fixed && (body_of s j).fixed) ≡ false
 
 -- the friction of a material by itself
-abbrev pub material_friction : Structure → ℕ → Cone
-material_friction s m = let n = material_of s m in cone n.p n.q
+abbrev pub material_friction : Structure → ℕ → Coefficient
+material_friction s m = let n = material_of s m in coefficient n.p n.q
 
 -- the terms of a joint in lowest terms, or else the lesser of two coefficients
-abbrev pub joint_or_lesser : Option (ℤ × ℤ) → Cone → Cone → Cone
-joint_or_lesser (Some t) a b = lowest (cone t.0 t.1)
+abbrev pub joint_or_lesser : Option (ℤ × ℤ) → Coefficient → Coefficient → Cone
+joint_or_lesser (Some t) a b = lowest (coefficient t.0 t.1)
 joint_or_lesser None a b = lesser_of a b
 
 -- the friction between two materials, in lowest terms: that of their joint where one is listed, in either order, and

@@ -1,6 +1,6 @@
 -- What is so of the friction between two bodies.
 use Rattle.std.specs.Prelude.{◌≡◌, ℕ, [], Some, ℤ}
-use Rattle.stack_frame.specs.Cones.{cone, lesser_of, lowest}
+use Rattle.stack_frame.specs.Cones.{coefficient, lesser_of, lowest}
 use Rattle.stack_model.specs.Structure.{Structure, body_of, joint_terms}
 use Rattle.stack_contact.specs.ContactLists.{material_friction, friction_between}
 
@@ -16,4 +16,4 @@ LesserWithoutJoints = (s : Structure) (i j : ℕ) → s.joints ≡ [] →
 abbrev pub JointDecides : Type 0
 JointDecides = (s : Structure) (i j : ℕ) (t : ℤ × ℤ) →
     joint_terms s.joints (body_of s i).material (body_of s j).material ≡ Some t →
-    friction_between s i j ≡ lowest (cone t.0 t.1)
+    friction_between s i j ≡ lowest (coefficient t.0 t.1)

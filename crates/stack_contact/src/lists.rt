@@ -10,7 +10,7 @@ ghost use Rattle.stack_contact.specs.Found.{bearings_in, touches_in, AreFound, A
 use crate::pair::contacts;
 use crate::sweeping::{Pair, near_pairs};
 use crate::types::{Bearing, Contacts, SurveyError, Touch};
-use stack_frame::{Cone, cone_of};
+use stack_frame::{Coefficient, Cone, cone_of};
 use stack_model::Model;
 use std::alloc::{AllocError, Global};
 
@@ -22,13 +22,13 @@ pub struct Lists {
 }
 
 /// The coefficient of a material.
-fn friction(model: &Model, material: usize) -> Cone
+fn friction(model: &Model, material: usize) -> Coefficient
     requires { material < length (model_view model.now).materials }
     ensures is { result ≡ material_friction (model_view model.now) material }
     ensures within { IsCoefficient result }
 {
     let material = model.material(material);
-    Cone {
+    Coefficient {
         p: material.p,
         q: material.q,
     }

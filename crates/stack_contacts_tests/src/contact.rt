@@ -3,7 +3,7 @@
 use crate::drawings::{Block, Drawing, GROUND, at, bearing, model_of};
 use stack_contact::types::{Contacts, SurveyError, Touch};
 use stack_contact::{contacts, survey, survey_again};
-use stack_frame::Frame;
+use stack_frame::{Cone, frame_of};
 use stack_polygon::Polygon;
 use std::alloc::Global;
 use std::test::*;
@@ -34,7 +34,7 @@ fn a_block_on_part_of_a_face_bears_at_two_points(rt: HostRuntime) -> Result<(), 
     let bears = Contacts::AtTwo {
         from: at(4, 2),
         to: at(10, 2),
-        frame: Frame { tx: 1, ty: 0 },
+        frame: frame_of(1, 0),
     };
     assert_eq!(rt; found, Some(bears));
     Ok(())
@@ -45,7 +45,7 @@ fn a_stone_on_its_point_bears_there(rt: HostRuntime) -> Result<(), Fail> {
     let found = pair(rt.alloc(), &BASE, &[(4, 2), (5, 3), (4, 4), (3, 3)])?;
     let bears = Contacts::AtOne {
         at: at(4, 2),
-        frame: Frame { tx: 1, ty: 0 },
+        frame: frame_of(1, 0),
     };
     assert_eq!(rt; found, Some(bears));
     Ok(())
@@ -114,7 +114,8 @@ const SIX: Drawing = Drawing {
 fn a_survey_lists_bearings_touches_and_free_blocks(rt: HostRuntime) -> Result<(), Fail> {
     let alloc = rt.alloc();
     let six = survey(alloc, model_of(alloc, SIX)?)?;
-    let bearings = [bearing(0, 4, at(0, 0), 2), bearing(0, 4, at(2, 0), 2)];
+    let half = Cone::new(1, 2);
+    let bearings = [bearing(0, 4, at(0, 0), half), bearing(0, 4, at(2, 0), half)];
     let touch = Touch {
         first: 4,
         second: 5,

@@ -1,7 +1,7 @@
 //! Structures of rectangles of one stone, drawn as constants.
 
 use stack_contact::types::Bearing;
-use stack_frame::{Cone, Frame};
+use stack_frame::{Cone, frame_of};
 use stack_model::{Model, Parts, RawBlock, RawJoint, RawLoad, RawMaterial};
 use stack_polygon::Point;
 use std::alloc::Global;
@@ -45,14 +45,14 @@ pub fn at(x: i64, y: i64) -> Point {
     Point { x, y }
 }
 
-/// A bearing on a level face, with the friction 1/q.
-pub fn bearing(first: usize, second: usize, at: Point, q: i64) -> Bearing {
+/// A bearing on a level face.
+pub fn bearing(first: usize, second: usize, at: Point, cone: Cone) -> Bearing {
     Bearing {
         first,
         second,
         at,
-        frame: Frame { tx: 1, ty: 0 },
-        cone: Cone { p: 1, q },
+        frame: frame_of(1, 0),
+        cone,
     }
 }
 

@@ -3,6 +3,7 @@
 use crate::drawings::{Block, Drawing, GROUND, Weight, at, bearing, model_of};
 use stack_contact::survey;
 use stack_contact::types::{Survey, Touch};
+use stack_frame::Cone;
 use stack_model::{Load, Model};
 use stack_part::laws::part_laws;
 use stack_part::{part, survey_part};
@@ -94,7 +95,11 @@ fn a_survey_of_a_part_has_the_contacts_between_kept_bodies(rt: HostRuntime) -> R
     let alloc = rt.alloc();
     let whole = survey(alloc, model_of(alloc, POSTS)?)?;
     let without_b = surveyed(alloc, &whole, &[true, true, false, true])?;
-    let feet = [bearing(0, 1, at(0, 0), 3), bearing(0, 1, at(2, 0), 3)];
+    let third = Cone::new(1, 3);
+    let feet = [
+        bearing(0, 1, at(0, 0), third),
+        bearing(0, 1, at(2, 0), third),
+    ];
     let touch = Touch {
         first: 1,
         second: 2,
@@ -103,7 +108,10 @@ fn a_survey_of_a_part_has_the_contacts_between_kept_bodies(rt: HostRuntime) -> R
     assert_eq!(rt; without_b.bearings(), feet.as_slice());
     assert_eq!(rt; without_b.touches(), [touch].as_slice());
     let above = surveyed(alloc, &whole, &[false, true, true, false])?;
-    let top = [bearing(0, 1, at(0, 4), 3), bearing(0, 1, at(2, 4), 3)];
+    let top = [
+        bearing(0, 1, at(0, 4), third),
+        bearing(0, 1, at(2, 4), third),
+    ];
     assert_eq!(rt; above.bearings(), top.as_slice());
     assert_eq!(rt; above.touches().len(), 0);
     Ok(())

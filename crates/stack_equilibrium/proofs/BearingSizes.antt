@@ -12,10 +12,10 @@ use Rattle.stack_polygon.specs.Plane.{Triple, IsSamePoint, IsAt}
 use Rattle.stack_polygon.specs.Corners.{corner_of, end_of}
 use Rattle.stack_polygon.specs.Limits.{IsNear, IsInRange, IsPolygon}
 use Rattle.stack_frame.specs.declared.frame.Frame.{Frame}
-use Rattle.stack_frame.specs.declared.cone.Cone.{Cone}
+use Rattle.stack_frame.specs.declared.cone.Coefficient.{Coefficient}
 use Rattle.stack_polygon.specs.Sizes.{IsStep}
 use Rattle.stack_frame.specs.Directions.{IsLowest, IsFrameOf, IsParallelInSense}
-use Rattle.stack_frame.specs.Cones.{IsCoefficient, cone, lesser_of, lowest}
+use Rattle.stack_frame.specs.Cones.{IsCoefficient, coefficient, lesser_of, lowest}
 use Rattle.stack_frame.proofs.LowestTerms.{abs-times}
 use Rattle.stack_frame.proofs.LesserCones.{lesser-first, lesser-second, lowest-is}
 use Rattle.stack_model.specs.Structure.{joint_terms, AreTerms, Structure, body_of}
@@ -193,7 +193,7 @@ tangent_step P Q hp hq apart t X h = go apart h.way
         corner (inr k) = polygon_edge P hp t h.lowest k.on_edge.0 k.on_edge.1.0.0 k.on_edge.1.1
 
 -- the lesser of two coefficients is one
-lesser_limits : (a b : Cone) → IsCoefficient a → IsCoefficient b → IsCoefficient (lesser_of a b)
+lesser_limits : (a b : Coefficient) → IsCoefficient a → IsCoefficient b → IsCoefficient (lesser_of a b)
 lesser_limits a b ha hb = go (int_le (a.p *ℤ b.q) (b.p *ℤ a.q)) refl
   where
     go : (t : Bool) → int_le (a.p *ℤ b.q) (b.p *ℤ a.q) ≡ t → IsCoefficient (if t then lowest a else lowest b)
@@ -225,7 +225,7 @@ module _ (s : Structure) (sound : IsSound s) where
 
       by_terms : (o : Option (ℤ × ℤ)) → IfSome o (λ t. AreTerms t) →
           IsCoefficient (joint_or_lesser o (material_friction s a) (material_friction s b))
-      by_terms (Some t) k = (lowest-is (cone t.0 t.1)
+      by_terms (Some t) k = (lowest-is (coefficient t.0 t.1)
           (record { p_least = k.least_p; p_greatest = k.most_p; q_least = k.least_q; q_greatest = k.most_q })).in_limits
       by_terms None k = lesser_limits (material_friction s a) (material_friction s b)
           (body_limits z.first (first_is_body z h)) (body_limits z.second h.pair.is_body)

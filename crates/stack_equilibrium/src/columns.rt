@@ -90,9 +90,9 @@ fn combined(q: Whole, normal: Whole, lean: Whole, tangent: Whole) -> Whole
 }
 
 /// The force along an edge of the cone, on the second body.
-fn edge_force(z: Bearing, plus: bool) -> Force
-    requires { HasBearingLimits z }
-    ensures value { result ≡ edge_force_of z plus }
+fn edge_force(z: &Bearing, plus: bool) -> Force
+    requires { HasBearingLimits z.now }
+    ensures value { result ≡ edge_force_of z.now plus }
     ensures size { HasForceLimits result }
 {
     let q = denominator(z.cone);
@@ -106,10 +106,10 @@ fn edge_force(z: Bearing, plus: bool) -> Force
 }
 
 /// The wrench about a corner of the force along an edge of the cone.
-fn edge_wrench(corner: Point, z: Bearing, plus: bool) -> Wrench
+fn edge_wrench(corner: Point, z: &Bearing, plus: bool) -> Wrench
     requires corner { IsInRange corner }
-    requires bearing { HasBearingLimits z }
-    ensures value { result ≡ edge_wrench_of corner z plus }
+    requires bearing { HasBearingLimits z.now }
+    ensures value { result ≡ edge_wrench_of corner z.now plus }
     ensures size { IsEdgeWrench result }
 {
     let force = edge_force(z, plus);
@@ -144,9 +144,9 @@ fn reaction(wrench: Wrench) -> Wrench
 }
 
 /// What a wrench on the second body is to body `i`.
-fn exerted(i: usize, z: Bearing, wrench: Wrench) -> Wrench
+fn exerted(i: usize, z: &Bearing, wrench: Wrench) -> Wrench
     requires { IsEdgeWrench wrench }
-    ensures value { result ≡ wrench_times (bearing_side i (scene_bearing_of z)) wrench }
+    ensures value { result ≡ wrench_times (bearing_side i (scene_bearing_of z.now)) wrench }
     ensures size { IsSmall result }
 {
     if i == z.second {
@@ -182,5 +182,9 @@ pub fn column(s: &Survey, k: usize, plus: bool, b: usize) -> Wrench
     let body = s.free(b);
     let outline = s.model().polygon(body);
     let _corners = outline.len();
-    exerted(body, bearing, edge_wrench(outline.corner(0), bearing, plus))
+    exerted(
+        body,
+        &bearing,
+        edge_wrench(outline.corner(0), &bearing, plus),
+    )
 }

@@ -33,19 +33,19 @@ pub fn block_move(moves: &[(i128, i128, i128)], b: usize) -> BlockMove
 fn velocity_at(
     s: &Survey,
     moves: &[(i128, i128, i128)],
-    z: Bearing,
+    z: &Bearing,
     i: usize,
 ) -> Result<Velocity, Wide>
     requires is_body { i < length s.now.structure.bodies }
     requires count { length moves.now ≡ length (frees_of s.now.structure.bodies) }
-    ensures { result ≡ velocity_at s.now moves.now z i }
+    ensures { result ≡ velocity_at s.now moves.now z.now i }
 {
     if s.model().body(i).fixed {
         return Ok(rest());
     }
     let outline = s.model().polygon(i);
     let _corners = outline.len();
-    let lever = lever_of(outline.corner(0), z);
+    let lever = lever_of(outline.corner(0), *z);
     velocity_of(lever, block_move(moves, s.free_number(i)))
 }
 
@@ -57,8 +57,8 @@ fn gap_at(s: &Survey, moves: &[(i128, i128, i128)], z: Bearing) -> Result<Gap, W
     requires count { length moves.now ≡ length (frees_of s.now.structure.bodies) }
     ensures { result ≡ gap_at s.now moves.now z }
 {
-    let later = velocity_at(s, moves, z, z.second)?;
-    let earlier = velocity_at(s, moves, z, z.first)?;
+    let later = velocity_at(s, moves, &z, z.second)?;
+    let earlier = velocity_at(s, moves, &z, z.first)?;
     let difference = difference(later, earlier)?;
     gap_of(z, difference)
 }

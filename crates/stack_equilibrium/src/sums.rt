@@ -75,11 +75,12 @@ fn add_bearing(
 ) -> Result<Whole, Wide>
     ensures { result ≡ with_bearing axis block push so_far z }
 {
+    let (first, second) = (z.first, z.second);
     let lever = lever_of(block.corner, z);
-    if block.body == z.second {
+    if block.body == second {
         let acting = force(axis, lever, push)?;
         so_far.sum(acting)
-    } else if block.body == z.first {
+    } else if block.body == first {
         let acting = force(axis, lever, push)?;
         so_far.difference(acting)
     } else {

@@ -13,9 +13,9 @@ use Rattle.stack_algebra.specs.IntegerOrder.{◌≼◌, ◌≺◌}
 use Rattle.stack_algebra.proofs.Integers.{sums, expand}
 use Rattle.stack_algebra.proofs.Order.{mul_nonneg, nonneg-sub, sub-nonneg, nonneg-cancel}
 use Rattle.stack_algebra.proofs.CommonDivisor.{gcd-left, gcd-right, gcd-pos, gcd-swap, gcd-quotients}
-use Rattle.stack_frame.specs.declared.cone.Cone.{Cone}
+use Rattle.stack_frame.specs.declared.cone.Coefficient.{Coefficient}
 use Rattle.stack_frame.specs.Directions.{IsLowest}
-use Rattle.stack_frame.specs.Cones.{IsCoefficient, IsAtMost, IsSameCone, IsReduced, IsLesser, lowest}
+use Rattle.stack_frame.specs.Cones.{IsCoefficient, IsCone, IsAtMost, IsSameNumber, IsReduced, IsLesser, lowest}
 use Rattle.stack_frame.specs.Cones.{CoefficientsHaveOneLesser}
 use Rattle.stack_frame.proofs.LowestTerms.{gcd_of_lowest, lowest_of_gcd, one-numerator}
 
@@ -40,7 +40,7 @@ reduced p q (suc g) u v h e f l m n k =
     across : (u g v : ℕ) → u * (g * v) ≡ g * u * v
     across u g v = omega arith
 
-pub lowest-is : (a : Cone) → IsCoefficient a → IsReduced a (lowest a)
+pub lowest-is : (a : Coefficient) → IsCoefficient a → IsReduced a (lowest a)
 lowest-is a h = subst (λ x. IsReduced x (lowest a)) whole
     (reduced p q (gcd p q) (p / gcd p q) (q / gcd p q) positive
     (mul-div_cancel' (gcd p q) (gcd-left p q)) (mul-div_cancel' (gcd p q) (gcd-right p q))
@@ -71,11 +71,16 @@ lowest-is a h = subst (λ x. IsReduced x (lowest a)) whole
     natural : (z : ℤ) → pos 0 ≼ z → pos (nat_abs z) ≡ z
     natural z h = omega (arith, ints)
 
-    whole : ◌≡◌ {A = Cone} (record { p = pos p; q = pos q }) a
+    whole : ◌≡◌ {A = Coefficient} (record { p = pos p; q = pos q }) a
     whole = λ i. record { p = natural a.p h.p_least i; q = natural a.q (least a.q h.q_least) i }
 
+-- what is a coefficient in lowest terms is a cone's
+pub lowest-cone : (a c : Coefficient) → IsCoefficient a → c ≡ lowest a → IsCone c
+lowest-cone a c h e = let r = lowest-is a h in
+    subst IsCone (sym e) (record { in_limits = r.in_limits; lowest = r.lowest })
+
 -- the divisor of the code isn't 0
-pub divisor-positive : (a : Cone) (p g : ℕ) → IsCoefficient a →
+pub divisor-positive : (a : Coefficient) (p g : ℕ) → IsCoefficient a →
     g ≡ gcd p (nat_abs (to_z w64 (of_z w64 a.q))) → 0 < g
 divisor-positive a p g h e = subst (λ n. 0 < n) (sym e)
     (gcd-pos p (nat_abs (to_z w64 (of_z w64 a.q))) (positive a.q h.q_least h.q_greatest))
@@ -84,7 +89,7 @@ divisor-positive a p g h e = subst (λ n. 0 < n) (sym e)
     positive z h k = omega (arith, ints)
 
 -- where a is at most b, and b at most c, a is at most c
-at_most_next : (a b c : Cone) → IsCoefficient a → IsCoefficient b → IsCoefficient c →
+at_most_next : (a b c : Coefficient) → IsCoefficient a → IsCoefficient b → IsCoefficient c →
     IsAtMost a b → IsAtMost b c → IsAtMost a c
 at_most_next a b c ha hb hc h k = cross a.p a.q b.p b.q c.p c.q ha.q_least hb.q_least hc.q_least h k
   where
@@ -103,13 +108,13 @@ at_most_next a b c ha hb hc h k = cross a.p a.q b.p b.q c.p c.q ha.q_least hb.q_
         (simp expand (omega (arith, sums, simp expand at m, simp expand at n))))
 
 -- equal coefficients are at most one another
-at_most_same : (a b : Cone) → IsSameCone a b → IsAtMost a b × IsAtMost b a
+at_most_same : (a b : Coefficient) → IsSameNumber a b → IsAtMost a b × IsAtMost b a
 at_most_same a b e = by (a.p *ℤ b.q) (b.p *ℤ a.q) e
   where
     by : (x y : ℤ) → x ≡ y → (x ≼ y) × (y ≼ x)
     by x y e = omega (arith, ints)
 
-pub lesser-first : (a b : Cone) → IsCoefficient a → IsCoefficient b → int_le (a.p *ℤ b.q) (b.p *ℤ a.q) ≡ true →
+pub lesser-first : (a b : Coefficient) → IsCoefficient a → IsCoefficient b → int_le (a.p *ℤ b.q) (b.p *ℤ a.q) ≡ true →
     IsLesser a b (lowest a)
 lesser-first a b ha hb t = let r = lowest-is a ha in record {
   in_limits = r.in_limits;
@@ -123,7 +128,7 @@ lesser-first a b ha hb t = let r = lowest-is a ha in record {
     is : (x y : ℤ) → int_le x y ≡ true → x ≼ y
     is x y e = grind (arith, ints)
 
-pub lesser-second : (a b : Cone) → IsCoefficient a → IsCoefficient b → int_le (a.p *ℤ b.q) (b.p *ℤ a.q) ≡ false →
+pub lesser-second : (a b : Coefficient) → IsCoefficient a → IsCoefficient b → int_le (a.p *ℤ b.q) (b.p *ℤ a.q) ≡ false →
     IsLesser a b (lowest b)
 lesser-second a b ha hb t = let r = lowest-is b hb in record {
   in_limits = r.in_limits;
@@ -138,11 +143,11 @@ lesser-second a b ha hb t = let r = lowest-is b hb in record {
     is x y e = grind (arith, ints)
 
 -- a lesser is at most another one, which is the same number as a or b
-at_most_lesser : (a b c d : Cone) → IsCoefficient a → IsCoefficient b →
+at_most_lesser : (a b c d : Coefficient) → IsCoefficient a → IsCoefficient b →
     IsLesser a b c → IsLesser a b d → IsAtMost c d
 at_most_lesser a b c d ha hb h k = go k.one
   where
-    go : IsSameCone d a ⊎ IsSameCone d b → IsAtMost c d
+    go : IsSameNumber d a ⊎ IsSameNumber d b → IsAtMost c d
     go (inl e) = at_most_next c a d h.in_limits ha k.in_limits h.first (at_most_same d a e).1
     go (inr e) = at_most_next c b d h.in_limits hb k.in_limits h.second (at_most_same d b e).1
 

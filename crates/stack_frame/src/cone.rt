@@ -1,13 +1,23 @@
 //! Cones of friction.
 
 ghost use Rattle.std.specs.Prelude.{◌≡◌, ◌↔◌, ◌*ℤ◌, int_le, IsTrue, IfOk, IsErr};
-ghost use Rattle.stack_frame.specs.Cones.{IsCoefficient, IsReduced, IsLesser, cone, lesser_of, lowest};
+ghost use Rattle.stack_frame.specs.Cones.{IsCoefficient, IsReduced, IsLesser, coefficient, lesser_of, lowest};
 ghost use Rattle.stack_frame.specs.Admitted.{IsAdmitted, IsTestTooWide, written_admission, written_test};
 
 use crate::divisor::common_divisor;
 use stack_whole::{Whole, Wide};
+use std::marker::Model;
 
-/// A coefficient of friction, `p` over `q` in lowest terms.
+/// A coefficient of friction as it is written, `p` over `q`.
+#[derive(Clone, Copy, Debug, PartialEq, Eq)]
+pub struct Coefficient {
+    /// The numerator, 0 to 1,000.
+    pub p: i64,
+    /// The denominator, 1 to 1,000.
+    pub q: i64,
+}
+
+/// A coefficient of friction in lowest terms, `p` over `q`.
 #[derive(Clone, Copy, Debug, PartialEq, Eq)]
 pub struct Cone {
     /// The numerator, 0 to 1,000.
@@ -16,15 +26,29 @@ pub struct Cone {
     pub q: i64,
 }
 
+impl Model for Cone {
+    ghost use Rattle.stack_frame.specs.declared.cone.Coefficient.{Coefficient};
+
+    ghost Value = { Coefficient };
+
+    ghost use Rattle.stack_frame.specs.Cones.{IsCone, coefficient};
+
+    ghost view = { λ c. coefficient c.p c.q };
+
+    ghost invariant = { λ c. IsCone (coefficient c.p c.q) };
+
+    ghost inverse = { λ c. record { p = c.p; q = c.q } };
+}
+
 impl Cone {
     /// The coefficient `p` over `q`, in lowest terms. The numerator is from 0 to 1,000, and the denominator from 1 to
     /// 1,000. Takes no memory.
     pub fn new(p: i64, q: i64) -> Cone
-        requires { IsCoefficient (cone p q) }
-        ensures value { result ≡ lowest (cone p q) }
-        ensures reduced { IsReduced (cone p q) result }
+        requires { IsCoefficient (coefficient p q) }
+        ensures value { result ≡ lowest (coefficient p q) }
+        ensures reduced { IsReduced (coefficient p q) result }
     {
-        reduced(Cone { p, q })
+        reduced(Coefficient { p, q })
     }
 
     /// Whether a force with the part `a` along the normal and the part `b` along the tangent pushes and stays
@@ -54,7 +78,7 @@ impl Cone {
 }
 
 /// A coefficient in lowest terms.
-fn reduced(of: Cone) -> Cone
+fn reduced(of: Coefficient) -> Cone
     requires { IsCoefficient of }
     ensures { result ≡ lowest of }
 {
@@ -68,7 +92,7 @@ fn reduced(of: Cone) -> Cone
 }
 
 /// Whether a coefficient is at most another one.
-fn is_at_most(a: Cone, b: Cone) -> bool
+fn is_at_most(a: Coefficient, b: Coefficient) -> bool
     requires a { IsCoefficient a }
     requires b { IsCoefficient b }
     ensures { result ≡ int_le (a.p *ℤ b.q) (b.p *ℤ a.q) }
@@ -77,7 +101,7 @@ fn is_at_most(a: Cone, b: Cone) -> bool
 }
 
 /// The lesser of two coefficients, in lowest terms.
-fn lesser(a: Cone, b: Cone) -> Cone
+fn lesser(a: Coefficient, b: Coefficient) -> Cone
     requires a { IsCoefficient a }
     requires b { IsCoefficient b }
     ensures value { result ≡ lesser_of a b }
@@ -93,10 +117,10 @@ fn lesser(a: Cone, b: Cone) -> Cone
 /// The lesser of the two coefficients `p1` over `q1` and `p2` over `q2`, in lowest terms. Each numerator is from 0
 /// to 1,000, and each denominator from 1 to 1,000.
 pub fn cone_of(p1: i64, q1: i64, p2: i64, q2: i64) -> Cone
-    requires first { IsCoefficient (cone p1 q1) }
-    requires second { IsCoefficient (cone p2 q2) }
-    ensures value { result ≡ lesser_of (cone p1 q1) (cone p2 q2) }
-    ensures lesser { IsLesser (cone p1 q1) (cone p2 q2) result }
+    requires first { IsCoefficient (coefficient p1 q1) }
+    requires second { IsCoefficient (coefficient p2 q2) }
+    ensures value { result ≡ lesser_of (coefficient p1 q1) (coefficient p2 q2) }
+    ensures lesser { IsLesser (coefficient p1 q1) (coefficient p2 q2) result }
 {
-    lesser(Cone { p: p1, q: q1 }, Cone { p: p2, q: q2 })
+    lesser(Coefficient { p: p1, q: q1 }, Coefficient { p: p2, q: q2 })
 }

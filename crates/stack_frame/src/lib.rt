@@ -4,7 +4,7 @@
 //!
 //! ```text
 //! frame_of(6, -4) == Frame { tx: 3, ty: -2 }
-//! Frame { tx: 4, ty: 3 }.normal() == (-3, 4)
+//! frame_of(4, 3).normal() == (-3, 4)
 //! cone_of(3, 4, 700, 1000) == Cone { p: 7, q: 10 }
 //! ```
 #![tactic(auto)]
@@ -14,6 +14,6 @@ mod divisor;
 mod frame;
 mod laws;
 
-pub use cone::{Cone, cone_of};
+pub use cone::{Coefficient, Cone, cone_of};
 pub use frame::{Frame, frame_of};
 pub use laws::{one_cone, one_frame, wide_by_products};

@@ -44,32 +44,33 @@ stops (TooWide i) n k spot text more before after l none h = first_found n k spo
 stops Memory n k spot text more before after l none h = tt
 
 -- the lines of the bearings of a list, up to one that stops them
-module _ (d : ℤ) (i k : ℕ) (bs : List Bearing) (parts : List (ℤ × ℤ)) (f : Push) (is : f ≡ push_at parts k)
-    (l : k < length bs) (none : first k (force_spot i bs parts) ≡ None) where
-  abbrev own : Bearing
-  own = get_or bs k no_bearing
+module _ (d : ℤ) (i k : ℕ) (bs : List Bearing) (z : Bearing) (found : z ≡ get_or bs k z) (parts : List (ℤ × ℤ))
+    (f : Push) (is : f ≡ push_at parts k) (l : k < length bs) (none : first k (force_spot i bs parts) ≡ None) where
+  own : z ≡ get_or bs k no_bearing
+  own = found ∙ get_or_default bs k z no_bearing l
 
   abbrev Line : Result (String Global) ReportError → List ℕ → Type 0
-  Line r text = Adds r text (one_spot (i + k) own f) (force_line d k own f)
+  Line r text = Adds r text (one_spot (i + k) z f) (force_line d k z f)
 
   pub bearing_stops : (e : ReportError) (text before after : List ℕ) → Line (Err e) text →
       Adds (Err e) before (first (length bs) (force_spot i bs parts)) after
   bearing_stops e text before after h = stops e (length bs) k (force_spot i bs parts) text
-      (force_line d k own (push_at parts k)) before after l none
-      (subst (λ f. Adds (Err e) text (one_spot (i + k) own f) (force_line d k own f)) is h)
+      (force_line d k z (push_at parts k)) before after l none
+      (subst (λ t. t) (λ j. Adds (Err e) text (one_spot (i + k) (own j) (is j)) (force_line d k z (is j))) h)
 
   abbrev line : ℕ → Bearing → List ℕ
   line k z = force_line d k z (push_at parts k)
 
   pub bearing_fits : (t : String Global) (text : List ℕ) → Line (Ok t) text →
       first (k + 1) (force_spot i bs parts) ≡ None
-  bearing_fits t text h = first_more k (force_spot i bs parts) none (ap (one_spot (i + k) own) (sym is) ∙ h.0)
+  bearing_fits t text h = first_more k (force_spot i bs parts) none
+      ((λ j. one_spot (i + k) (sym own j) (sym is j)) ∙ h.0)
 
   pub bearing_added : (t : String Global) (text whole : List ℕ) → Line (Ok t) text →
       text ++ lines_from line k (drop k bs) ≡ whole →
       string_bytes t ++ lines_from line (k + 1) (drop (k + 1) bs) ≡ whole
-  bearing_added t text whole h so_far = one_more line bs k own text (string_bytes t) whole l
-      (get_or_default bs k no_bearing own l) (h.1 ∙ ap (λ f. text ++ force_line d k own f) is) so_far
+  bearing_added t text whole h so_far = one_more line bs k z text (string_bytes t) whole l found
+      (h.1 ∙ ap (λ f. text ++ force_line d k z f) is) so_far
 
 -- the line of free block number b, which is body i
 pub move_added : (s : Structure) (y : MotionValue) (b : ℕ) (frees : List ℕ) (i : ℕ) (name : List ℕ)

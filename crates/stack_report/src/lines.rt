@@ -7,6 +7,7 @@ ghost use Rattle.stack_report.specs.ContactTable.{bearing_text};
 ghost use Rattle.stack_report.specs.ContactTable.{touch_text};
 
 use stack_contact::types::{Bearing, Touch};
+use stack_frame::{Cone, Frame};
 use stack_model::Model;
 use stack_polygon::Point;
 use std::fmt;
@@ -41,6 +42,26 @@ fn point(at: Point) -> TwoNumbers
     ensures { result ≡ record { a = at.x; b = at.y } }
 {
     TwoNumbers { a: at.x, b: at.y }
+}
+
+/// The parts of a tangent.
+fn tangent(frame: Frame) -> TwoNumbers
+    ensures { result ≡ record { a = frame.tx; b = frame.ty } }
+{
+    TwoNumbers {
+        a: frame.tx,
+        b: frame.ty,
+    }
+}
+
+/// The terms of a coefficient of friction.
+fn friction(cone: Cone) -> TwoNumbers
+    ensures { result ≡ record { a = cone.p; b = cone.q } }
+{
+    TwoNumbers {
+        a: cone.p,
+        b: cone.q,
+    }
 }
 
 /// The tangent and the coefficient of friction of a bearing.
@@ -87,14 +108,8 @@ impl fmt::Display for Directions {
 
     #[tactic(auto, unfolding(crate::specs::ContactTable::directions_text))]
     fn fmt<W: fmt::Write>(&self, f: &mut fmt::Formatter<W>) -> fmt::Result {
-        let tangent = TwoNumbers {
-            a: self.bearing.frame.tx,
-            b: self.bearing.frame.ty,
-        };
-        let friction = TwoNumbers {
-            a: self.bearing.cone.p,
-            b: self.bearing.cone.q,
-        };
+        let tangent = tangent(self.bearing.frame);
+        let friction = friction(self.bearing.cone);
         write!(f, "{tangent} {friction}")
     }
 }

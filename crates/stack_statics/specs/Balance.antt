@@ -6,7 +6,7 @@ use lib.Dec.{eqb}
 use lib.IntN.{ℤ, pos, negsuc, ◌+ℤ◌, ◌-ℤ◌, ◌*ℤ◌, neg_ℤ}
 use Rattle.stack_algebra.specs.Sums.{sum_to}
 use Rattle.stack_algebra.specs.IntegerOrder.{◌≺◌}
-use Rattle.stack_frame.specs.Cones.{cone}
+use Rattle.stack_frame.specs.Cones.{coefficient}
 use Rattle.stack_frame.specs.Admitted.{IsAdmitted}
 use Rattle.stack_statics.specs.declared.wrench.Wrench.{Wrench}
 use Rattle.stack_statics.specs.Scene.{BearingPart, SceneBody, SceneBearing, Scene}
@@ -71,7 +71,7 @@ IsBalanced s f scale factor = (i : ℕ) → i < s.bodies → (s.body i).free ≡
 
 -- a part pushes and stays within the cone of friction
 abbrev pub IsWithinCone : SceneBearing → BearingPart → Type 0
-IsWithinCone z f = IsAdmitted (cone z.p z.q) f.a f.b
+IsWithinCone z f = IsAdmitted (coefficient z.p z.q) f.a f.b
 
 -- every bearing pushes, and its part stays within its cone of friction
 abbrev pub IsAdmissible : Scene → (ℕ → BearingPart) → Type 0

@@ -2,7 +2,7 @@
 -- and false of that scene is true and false of the drawing.
 use Rattle.std.specs.Prelude.{◌≡◌, ◌↔◌, ℕ, ℤ, pos, List, [], ◌∷◌, Bool, true, false, Ok, codes}
 use Rattle.stack_polygon.specs.declared.point.Point.{Point}
-use Rattle.stack_frame.specs.Cones.{cone}
+use Rattle.stack_frame.specs.Cones.{coefficient}
 use Rattle.stack_model.specs.Structure.{NamedBody, Structure, first_structure}
 use Rattle.stack_model.specs.Content.{content_of}
 use Rattle.stack_model.specs.Relisted.{relisted}
@@ -34,7 +34,7 @@ level_bearing at = record {
   second = 1;
   at = at;
   frame = record { tx = pos 1; ty = pos 0 };
-  cone = cone (pos 1) (pos 1);
+  cone = coefficient (pos 1) (pos 1);
 }
 
 -- the survey of the drawing: the post bears at both ends of its foot, and touches nothing

@@ -12,14 +12,16 @@ returns-in_err-check_bearing c =
     let f = resistance_at c.args.s.now (motion_view c.args.motion.now) in
     rw (p.1, p.2)
     (step_out f c.bearings-bearing-items.result.now c.loop-k.k tt _ c.in_err-check_bearing.field-0.0 _
-    c.loop-k-test.true (sym c.check_bearing.ensures ∙ c.in_err-check_bearing.was) c.loop-k.invariant
+    c.loop-k-test.true (ap (f c.loop-k.k tt) (sym c.bearing-item.is) ∙ sym c.check_bearing.ensures
+    ∙ c.in_err-check_bearing.was) c.loop-k.invariant
     ∙ ap (steps f 0 tt) c.bearings-bearing-items.ensures.value)
 
 pub loop-k-preserved : goal.loop-k-preserved
 loop-k-preserved c =
     let f = resistance_at c.args.s.now (motion_view c.args.motion.now) in
     step_on f c.bearings-bearing-items.result.now c.loop-k.k tt tt _ _ c.loop-k-test.true
-    (sym c.check_bearing.ensures ∙ c.in_ok-check_bearing.was) c.loop-k.invariant
+    (ap (f c.loop-k.k tt) (sym c.bearing-item.is) ∙ sym c.check_bearing.ensures
+    ∙ c.in_ok-check_bearing.was) c.loop-k.invariant
 
 pub returns : goal.returns
 returns c =

@@ -1,4 +1,5 @@
-use Rattle.std.proofs.Common.{ℕ, refl, sym, ◌∙◌, ◌+◌, ◌<◌, ◌≤◌, get_or, arith}
+use Rattle.std.proofs.Common.{ℕ, sym, ◌∙◌, ◌+◌, ◌<◌, ◌≤◌, arith}
+use Rattle.std.proofs.lemmas.List.{get_or_default}
 use Rattle.stack_equilibrium.specs.SurveyScene.{no_bearing}
 use Rattle.stack_extract.proofs.WrittenPlaces.{told}
 use Rattle.stack_extract.proofs.PartPlaces.{one_part, part_too_wide}
@@ -10,11 +11,11 @@ next i n l = omega (arith, l)
 pub returns-in-Err-clause-wide : goal.returns-in-Err-clause-wide
 returns-in-Err-clause-wide c = told c.too_wide.result _ _ c.too_wide.ensures
     (part_too_wide c.args.which c.args.bearings.now c.args.numbers.now c.loop-k.k
-    (get_or c.args.bearings.now c.loop-k.k no_bearing) c.amount.result c.amount-in-loop-k.result
+    c.index-bearings-k.result c.amount.result c.amount-in-loop-k.result
     c.loop-k.parts.items
     (record {
       within = c.loop-k-test.true;
-      bearing = refl;
+      bearing = c.index-bearings-k.is ∙ get_or_default _ _ _ no_bearing c.loop-k-test.true;
       first = c.amount.ensures;
       second =
           c.amount-in-loop-k.ensures;
@@ -24,11 +25,11 @@ returns-in-Err-clause-wide c = told c.too_wide.result _ _ c.too_wide.ensures
 pub loop-k-preserved : goal.loop-k-preserved
 loop-k-preserved c = (
   one_part c.args.which c.args.bearings.now c.args.numbers.now c.loop-k.k
-      (get_or c.args.bearings.now c.loop-k.k no_bearing) c.amount.result c.amount-in-loop-k.result
+      c.index-bearings-k.result c.amount.result c.amount-in-loop-k.result
       c.loop-k.parts.items
       (record {
         within = c.loop-k-test.true;
-        bearing = refl;
+        bearing = c.index-bearings-k.is ∙ get_or_default _ _ _ no_bearing c.loop-k-test.true;
         first = c.amount.ensures;
         second =
             c.amount-in-loop-k.ensures;
