@@ -3,11 +3,18 @@ use Rattle.std.specs.Prelude.{◌≡◌, ◌↔◌, ℕ, ◌<◌, ◌≤◌, ℤ
 use Prim.Native.Nat.{◌∣◌}
 use Rattle.stack_algebra.specs.Gcd.{gcd}
 use Rattle.stack_algebra.specs.IntegerOrder.{◌≺◌}
+use Rattle.stack_polygon.specs.Sizes.{IsStep}
 use Rattle.stack_frame.specs.declared.frame.Frame.{Frame}
 
 -- no number but 1 divides both, so they aren't both 0
 abbrev pub IsLowest : ℤ → ℤ → Type 0
 IsLowest x y = (d : ℕ) → d ∣ nat_abs x → d ∣ nat_abs y → d ≡ 1
+
+-- what each frame is: in lowest terms, each part at most 2,000,000 in size
+pub record IsFrame (t : Frame) : Type 0 where
+  pub tx : IsStep t.tx
+  pub ty : IsStep t.ty
+  pub lowest : IsLowest t.tx t.ty
 
 -- t is the direction (dx, dy) in lowest terms: the direction is a positive multiple of t
 pub record IsFrameOf (dx dy : ℤ) (t : Frame) : Type 0 where

@@ -1,3 +1,4 @@
+pub mod Tangents
 pub mod Directions
 pub mod Cones
 pub mod Admitted

@@ -6,22 +6,34 @@ ghost use Rattle.stack_polygon.specs.Sizes.{IsStep};
 ghost use Rattle.stack_frame.specs.Directions.{IsFrameOf, IsGreatestDivisor, IsQuarterTurn};
 
 use crate::divisor::common_divisor;
+use std::marker::Model;
 
 /// The direction of a joint, its tangent in lowest terms. Its normal is `(-ty, tx)`.
 #[derive(Clone, Copy, Debug, PartialEq, Eq)]
 pub struct Frame {
-    /// To the right.
+    /// To the right, at most 2,000,000 in size.
     pub tx: i64,
-    /// Upwards.
+    /// Upwards, at most 2,000,000 in size.
     pub ty: i64,
 }
 
+impl Model for Frame {
+    ghost use Rattle.stack_frame.specs.Tangents.{Tangent};
+
+    ghost Value = { Tangent };
+
+    ghost use Rattle.stack_frame.specs.Directions.{IsFrame};
+
+    ghost view = { λ f. record { tx = f.tx; ty = f.ty } };
+
+    ghost invariant = { λ f. IsFrame (record { tx = f.tx; ty = f.ty }) };
+
+    ghost inverse = { λ t. record { tx = t.tx; ty = t.ty } };
+}
+
 impl Frame {
-    /// The normal: the tangent turned a quarter round to its left, with the tangent's length. Each part of the
-    /// tangent is at most 2,000,000 in size.
+    /// The normal: the tangent turned a quarter round to its left, with the tangent's length.
     pub fn normal(self) -> (i64, i64)
-        requires tx { IsStep self.tx }
-        requires ty { IsStep self.ty }
         ensures { IsQuarterTurn self result }
     {
         (-self.ty, self.tx)

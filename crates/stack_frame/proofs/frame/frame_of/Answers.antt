@@ -21,3 +21,10 @@ returns-clause-ty c =
     let d = divisor-at c.args.dx c.args.dy _ c.ranges.dx c.ranges.dy c.divisor_of-divisor.ensures in
     let z : SFits w64 c.quotient-2.result = record { sfits = c.quotient-2.type_inv } in
     part-step c.args.dy _ _ d.positive (part-of _ _ _ c.ranges.dy z c.quotient-2.ensures) c.requires.dy
+
+pub invariant_of-result : goal.invariant_of-result
+invariant_of-result c = record {
+  tx = returns-clause-tx c;
+  ty = returns-clause-ty c;
+  lowest = (returns-clause-direction c).lowest;
+}
