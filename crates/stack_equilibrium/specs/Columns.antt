@@ -2,23 +2,13 @@
 use Rattle.std.specs.Prelude.{ℤ, pos, negsuc, Bool, neg_ℤ, ◌+ℤ◌, ◌*ℤ◌, if◌then◌else◌}
 use Rattle.stack_algebra.specs.IntegerOrder.{◌≼◌}
 use Rattle.stack_polygon.specs.declared.point.Point.{Point}
-use Rattle.stack_polygon.specs.Limits.{IsInRange}
 use Rattle.stack_polygon.specs.Sizes.{IsWithin}
 use Rattle.stack_frame.specs.declared.cone.Cone.{Cone}
-use Rattle.stack_frame.specs.Cones.{IsCoefficient}
-use Rattle.stack_polygon.specs.Sizes.{IsStep}
 use Rattle.stack_contact.specs.declared.types.Bearing.{Bearing}
 use Rattle.stack_statics.specs.declared.wrench.Wrench.{Wrench}
 use Rattle.stack_equilibrium.specs.declared.force.Force.{Force}
 use Rattle.stack_whole.specs.Whole.{whole}
 use Rattle.stack_equilibrium.specs.LoadSizes.{IsMoment, arm_between, moment_with}
-
--- a bearing's point is in range, its tangent is no longer than an edge, and its friction within the limits
-pub record HasBearingLimits (z : Bearing) : Type 0 where
-  pub at : IsInRange z.at
-  pub tx : IsStep z.frame.tx
-  pub ty : IsStep z.frame.ty
-  pub cone : IsCoefficient z.cone
 
 -- a coefficient's numerator or denominator, with a sign
 pub record IsRate (z : ℤ) : Type 0 where

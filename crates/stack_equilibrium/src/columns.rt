@@ -1,7 +1,6 @@
 //! What an edge of a bearing's cone of friction exerts on a block.
 
 ghost use Rattle.std.specs.Prelude.{◌≡◌, ◌<◌, ◌*ℤ◌, ◌+ℤ◌, neg_ℤ, pos, negsuc, length};
-ghost use Rattle.stack_frame.specs.Cones.{IsCoefficient};
 ghost use Rattle.stack_polygon.specs.Sizes.{IsStep};
 ghost use Rattle.stack_polygon.specs.Limits.{IsInRange};
 ghost use Rattle.stack_contact.specs.FreeBlocks.{frees_of};
@@ -9,7 +8,7 @@ ghost use Rattle.stack_statics.specs.Balance.{bearing_side};
 ghost use Rattle.stack_equilibrium.specs.SurveyScene.{bearing_of, scene_bearing_of};
 ghost use Rattle.stack_whole.specs.Whole.{whole};
 ghost use Rattle.stack_equilibrium.specs.LoadSizes.{HasForceLimits, IsForce, IsMoment, IsSmall};
-ghost use Rattle.stack_equilibrium.specs.Columns.{HasBearingLimits, IsRate, IsShare, IsEdgeWrench, lean_of};
+ghost use Rattle.stack_equilibrium.specs.Columns.{IsRate, IsShare, IsEdgeWrench, lean_of};
 ghost use Rattle.stack_equilibrium.specs.Columns.{edge_force_of};
 ghost use Rattle.stack_statics.specs.Loads.{wrench_times};
 ghost use Rattle.stack_equilibrium.specs.Columns.{edge_wrench_of};
@@ -25,7 +24,6 @@ use stack_whole::Whole;
 
 /// The numerator of a cone, or minus it.
 fn lean(cone: Cone, plus: bool) -> Whole
-    requires { IsCoefficient cone }
     ensures value { result ≡ whole (lean_of cone plus) }
     ensures size { IsRate result.value }
 {
@@ -39,7 +37,6 @@ fn lean(cone: Cone, plus: bool) -> Whole
 
 /// The denominator of a cone.
 fn denominator(cone: Cone) -> Whole
-    requires { IsCoefficient cone }
     ensures value { result ≡ whole cone.q }
     ensures size { IsRate result.value }
 {
@@ -91,7 +88,6 @@ fn combined(q: Whole, normal: Whole, lean: Whole, tangent: Whole) -> Whole
 
 /// The force along an edge of the cone, on the second body.
 fn edge_force(z: &Bearing, plus: bool) -> Force
-    requires { HasBearingLimits z.now }
     ensures value { result ≡ edge_force_of z.now plus }
     ensures size { HasForceLimits result }
 {
@@ -108,7 +104,7 @@ fn edge_force(z: &Bearing, plus: bool) -> Force
 /// The wrench about a corner of the force along an edge of the cone.
 fn edge_wrench(corner: Point, z: &Bearing, plus: bool) -> Wrench
     requires corner { IsInRange corner }
-    requires bearing { HasBearingLimits z.now }
+    requires at { IsInRange z.now.at }
     ensures value { result ≡ edge_wrench_of corner z.now plus }
     ensures size { IsEdgeWrench result }
 {
@@ -158,11 +154,11 @@ fn exerted(i: usize, z: &Bearing, wrench: Wrench) -> Wrench
     }
 }
 
-/// Bearing `k` of the survey, with the sizes of its numbers.
+/// Bearing `k` of the survey, which lies in range.
 fn bounded_bearing(s: &Survey, k: usize) -> Bearing
     requires { k < length s.now.bearings }
     ensures value { result ≡ bearing_of s.now k }
-    ensures size { HasBearingLimits result }
+    ensures at { IsInRange result.at }
 {
     let _all = s.bearings();
     let _bodies = s.model().bodies();
