@@ -19,5 +19,6 @@ loop-k-preserved c = record {
       c.loop-k.invariant.fit c.in_ok-longer.longer (string_bytes c.loop-k.longer) c.in_ok-longer.ensures;
   lines = bearing_added c.args.over.value c.args.from c.loop-k.k c.args.bearings.now _
       c.index-bearings-k.is c.args.parts.now c.push_of.result c.push_of.ensures c.loop-k-test.true
-      c.loop-k.invariant.fit c.in_ok-longer.longer (string_bytes c.loop-k.longer) _ c.in_ok-longer.ensures c.loop-k.invariant.lines;
+      c.loop-k.invariant.fit c.in_ok-longer.longer (string_bytes c.loop-k.longer) _
+      c.in_ok-longer.ensures c.loop-k.invariant.lines;
 }
