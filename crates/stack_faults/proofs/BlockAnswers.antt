@@ -1,31 +1,28 @@
 -- What the run over the blocks answers.
 use Rattle.std.proofs.Common.{arith, below_more, ◌≡◌, refl, sym, ap, ◌∙◌, subst, ℕ, ◌+◌, ◌<◌, Bool, true, false, not}
-use Rattle.std.proofs.Common.{◌&&◌, List, [], ◌∷◌, ◌++◌, map, length, take, Option, Some, None, Result, Ok, Err}
-use Rattle.std.specs.Prelude.{is_none, nat_lt, ◌==◌, if◌then◌else◌, ⊤, count_by}
+use Rattle.std.proofs.Common.{◌&&◌, List, [], ◌∷◌, ◌++◌, map, length, take, Option, Some, None, Ok, Err}
+use Rattle.std.specs.Prelude.{nat_lt, ◌==◌, if◌then◌else◌, ⊤, count_by}
 use Rattle.std.proofs.lemmas.Bool.{ltb-true}
-use Rattle.std.proofs.lemmas.List.{take_all, get_or_append_left, get_or_push, length_push, get_or-map, length-map}
-use Rattle.stack_algebra.specs.Steps.{◌>>=◌, steps}
+use Rattle.std.proofs.lemmas.List.{take_all, get_or_append_left, get_or_push, length_push}
+use Rattle.stack_algebra.specs.Steps.{steps}
 use Rattle.stack_algebra.specs.Search.{or_else, only_if}
 use Rattle.stack_whole.specs.Limits.{most_free}
 use Rattle.stack_polygon.specs.declared.point.Point.{Point}
 use Rattle.stack_polygon.specs.Corners.{reversed}
 use Rattle.stack_polygon.specs.Outlines.{is_clear, is_convex, first_failing}
-use Rattle.stack_model.specs.declared.places.Spot.{Spot}
-use Rattle.stack_model.specs.declared.places.Key.{Key}
 use Rattle.stack_model.specs.declared.places.What.TheVariants as whats
 use Rattle.stack_model.specs.declared.errors.ModelError.{ModelError}
-use Rattle.stack_model.specs.declared.errors.ModelError.TheVariants.{Range, NotConvex, TooMany}
+use Rattle.stack_model.specs.declared.errors.ModelError.TheVariants.{NotConvex, TooMany}
 use Rattle.stack_model.specs.Structure.{NamedMaterial, NamedBody, body_at}
 use Rattle.stack_model.specs.Parts.{MaterialPart, BlockPart, PartLists}
 use Rattle.stack_model.specs.Limits.{most_fixed, is_name, corner_list_of}
 use Rattle.stack_model.specs.Convex.{at_block, convex}
-use Rattle.stack_model.specs.Content.{unless, ranged, found, is_new, number_of, has_room, material_names, body_names}
+use Rattle.stack_model.specs.Content.{unless, is_new, number_of, has_room, material_names, body_names}
 use Rattle.stack_model.specs.Content.{with_body, add_block}
 use Rattle.stack_model.specs.Sound.{fixed_among, free_among}
-use Rattle.stack_model.proofs.Limited.{number_below, named}
 use Rattle.stack_model.proofs.Apart.{AreApart, HasRoom, no_bodies, one_more_body}
 use Rattle.stack_faults.specs.FaultLists.{earliest}
-use Rattle.stack_faults.specs.ContentFaults.{block_written, lists_material, lists_block, fixed_written, free_written}
+use Rattle.stack_faults.specs.ContentFaults.{block_written, fixed_written, free_written}
 use Rattle.stack_faults.specs.ContentFaults.{is_crooked, unclear_edge, causes_of_block, faults_by}
 use Rattle.stack_faults.proofs.Firsts.{Answers, first_cause, answers_weaker}
 use Rattle.stack_faults.proofs.StepAnswers.{Meets, unless_step, ranged_step, found_step, try_step, last_step}

@@ -1,25 +1,23 @@
 -- What content as a whole answers.
 use Rattle.std.proofs.Common.{◌≡◌, sym, ap, subst, ℕ, Bool, true, false, not, List, [], ◌∷◌, ◌++◌, append_assoc, length, Option}
-use Rattle.std.proofs.Common.{Some, None, refl, ℤ, map, Result, Ok, Err}
+use Rattle.std.proofs.Common.{Some, None, refl, ℤ, map, Ok}
 use Rattle.std.specs.Prelude.{is_none, nat_le, nat_lt, ⊤}
 use Rattle.stack_algebra.specs.Steps.{◌>>=◌, steps}
-use Rattle.stack_algebra.specs.Search.{or_else}
 use Rattle.stack_model.specs.declared.places.What.{What}
 use Rattle.stack_model.specs.declared.places.What.TheVariants as whats
 use Rattle.stack_model.specs.declared.errors.ModelError.TheVariants.{Range, TooMany}
 use Rattle.stack_model.specs.declared.types.Joint.{Joint}
 use Rattle.stack_model.specs.declared.places.Spot.TheVariants as spots
 use Rattle.stack_model.specs.declared.places.Key.TheVariants as keys
-use Rattle.stack_model.specs.declared.errors.ModelError.{ModelError}
-use Rattle.stack_model.specs.Structure.{NamedMaterial, NamedBody, Structure, structure_with}
+use Rattle.stack_model.specs.Structure.{NamedMaterial, NamedBody, structure_with}
 use Rattle.stack_model.specs.Parts.{PartLists}
 use Rattle.stack_model.specs.Limits.{most_materials, most_joints, most_bodies, most_loads, is_version, sway_of}
 use Rattle.stack_model.specs.Relisted.{joint_listed}
 use Rattle.stack_model.specs.Content.{unless, ranged, at_most, sway_listed, head_of, add_material, add_joint, add_block}
 use Rattle.stack_model.specs.Content.{add_load, joints_of, bodies_of, loads_of, content_of}
 use Rattle.stack_faults.specs.FaultLists.{faults_where, earliest, answered_fault}
-use Rattle.stack_faults.specs.ContentFaults.{number_faults, faults_by, causes_of_material, causes_of_block}
-use Rattle.stack_faults.specs.ContentFaults.{causes_of_load, material_faults, block_faults, load_faults, is_bad_sway}
+use Rattle.stack_faults.specs.ContentFaults.{number_faults, faults_by, causes_of_material}
+use Rattle.stack_faults.specs.ContentFaults.{material_faults, block_faults, load_faults, is_bad_sway}
 use Rattle.stack_faults.specs.ContentFaults.{head_faults, joint_faults, causes_of_joint, content_faults}
 use Rattle.stack_faults.specs.AsListed.{IsSwayOf, IsStructureOf, StructureAsListed}
 use Rattle.stack_faults.proofs.Firsts.{Answers, answers_fault, then_told, last_told}

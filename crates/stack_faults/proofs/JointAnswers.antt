@@ -1,26 +1,22 @@
 -- What the run over the joints answers.
-use Rattle.std.proofs.Common.{arith, take, ◌+◌, ◌≡◌, refl, sym, ap, ◌∙◌, subst, ℕ, ◌<◌, ℤ, Bool, true, false, not, ◌&&◌}
-use Rattle.std.proofs.Common.{◌||◌, List, [], ◌∷◌, ◌++◌, map, length, get_or, Option, Some, None, Ok, option_map}
+use Rattle.std.proofs.Common.{arith, take, ◌+◌, ◌≡◌, refl, sym, ap, ◌∙◌, ℕ, ◌<◌, Bool, true, false, not, ◌&&◌}
+use Rattle.std.proofs.Common.{◌||◌, List, [], ◌∷◌, map, length, get_or, Option, Some, None, option_map}
 use Rattle.std.proofs.Common.{is_none, find, nat_eq, cond}
 use Rattle.std.specs.List.{list_any}
 use Rattle.std.specs.Str.{bytes_eq}
 use Rattle.std.proofs.lemmas.Int.{ints}
 use Rattle.std.proofs.lemmas.Slice.Eq.{bytes_eq-Decides}
-use Rattle.std.proofs.lemmas.List.{get_or-map, length-map, take_all}
-use Rattle.stack_algebra.specs.Steps.{◌>>=◌, steps}
+use Rattle.std.proofs.lemmas.List.{take_all}
+use Rattle.stack_algebra.specs.Steps.{steps}
 use Rattle.stack_model.specs.declared.types.Joint.{Joint}
-use Rattle.stack_model.specs.declared.places.Spot.{Spot}
-use Rattle.stack_model.specs.declared.places.Key.{Key}
-use Rattle.stack_model.specs.declared.errors.ModelError.{ModelError}
-use Rattle.stack_model.specs.declared.errors.ModelError.TheVariants.{Range}
 use Rattle.stack_model.specs.Structure.{NamedMaterial, material_at, joins, joint_terms}
 use Rattle.stack_model.specs.Parts.{MaterialPart, JointPart, PartLists}
 use Rattle.stack_model.specs.Relisted.{joint_listed}
-use Rattle.stack_model.proofs.Limited.{number_below, named}
+use Rattle.stack_model.proofs.Limited.{named}
 use Rattle.stack_model.specs.Limits.{friction_of}
-use Rattle.stack_model.specs.Content.{unless, ranged, found, number_of, material_names, add_joint}
+use Rattle.stack_model.specs.Content.{number_of, material_names, add_joint}
 use Rattle.stack_faults.specs.FaultLists.{earliest}
-use Rattle.stack_faults.specs.ContentFaults.{joint_written, lists_material, names_the_same, lists_joint}
+use Rattle.stack_faults.specs.ContentFaults.{joint_written, names_the_same, lists_joint}
 use Rattle.stack_faults.specs.ContentFaults.{causes_of_joint, faults_by}
 use Rattle.stack_faults.proofs.Firsts.{Answers, answers_weaker}
 use Rattle.stack_faults.proofs.StepAnswers.{Meets, ends, unless_step, ranged_step, both_step}

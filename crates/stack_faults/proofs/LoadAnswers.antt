@@ -1,24 +1,18 @@
 -- What the run over the loads answers.
-use Rattle.std.proofs.Common.{arith, take, ◌+◌, ◌≡◌, refl, sym, ap, ◌∙◌, subst, ℕ, ◌<◌, ℤ, Bool, true, false, not, List}
-use Rattle.std.proofs.Common.{[], ◌∷◌, ◌++◌, map, length, get_or, Option, Some, None, Ok, is_none, find}
+use Rattle.std.proofs.Common.{arith, take, ◌+◌, ◌≡◌, refl, sym, ap, ◌∙◌, subst, ℕ, ◌<◌, true, List}
+use Rattle.std.proofs.Common.{[], map, length, get_or, Some, find}
 use Rattle.std.specs.Str.{bytes_eq}
 use Rattle.std.proofs.lemmas.List.{get_or-map, length-map, take_all}
 use Rattle.std.proofs.lemmas.List.Quantifiers.{position-Some}
-use Rattle.stack_algebra.specs.Steps.{◌>>=◌, steps}
-use Rattle.stack_polygon.specs.declared.point.Point.{Point}
+use Rattle.stack_algebra.specs.Steps.{steps}
 use Rattle.stack_model.specs.declared.types.Load.{Load}
-use Rattle.stack_model.specs.declared.places.Spot.{Spot}
-use Rattle.stack_model.specs.declared.places.Key.{Key}
-use Rattle.stack_model.specs.declared.errors.ModelError.{ModelError}
-use Rattle.stack_model.specs.declared.errors.ModelError.TheVariants.{Range}
 use Rattle.stack_model.specs.Structure.{NamedBody, body_at}
 use Rattle.stack_model.specs.Parts.{BlockPart, LoadPart, PartLists}
 use Rattle.stack_model.specs.Relisted.{load_listed}
-use Rattle.stack_model.proofs.Limited.{number_below, named}
 use Rattle.stack_model.specs.Limits.{live_of, point_of, force_of}
-use Rattle.stack_model.specs.Content.{unless, ranged, found, is_free, number_of, body_names, add_load}
+use Rattle.stack_model.specs.Content.{is_free, number_of, body_names, add_load}
 use Rattle.stack_faults.specs.FaultLists.{earliest}
-use Rattle.stack_faults.specs.ContentFaults.{load_written, lists_block, is_fixed_block, names_fixed, causes_of_load}
+use Rattle.stack_faults.specs.ContentFaults.{load_written, is_fixed_block, names_fixed, causes_of_load}
 use Rattle.stack_faults.specs.ContentFaults.{faults_by}
 use Rattle.stack_faults.proofs.Firsts.{Answers, answers_weaker}
 use Rattle.stack_faults.proofs.StepAnswers.{Meets, ends, unless_step, ranged_step, found_step}

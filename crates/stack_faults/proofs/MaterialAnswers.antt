@@ -1,21 +1,16 @@
 -- What the run over the materials answers.
-use Rattle.std.proofs.Common.{arith, sym, ◌≡◌, refl, ap, ◌∙◌, ℕ, ◌+◌, ◌<◌, ℤ, pos, Bool, true, false, not, List, []}
-use Rattle.std.proofs.Common.{◌∷◌, ◌++◌, map, length, take, Option, Some, None, Ok, is_none}
+use Rattle.std.proofs.Common.{arith, sym, ◌≡◌, refl, ap, ◌∙◌, ℕ, ◌+◌, ◌<◌, pos, List, []}
+use Rattle.std.proofs.Common.{map, length, take}
 use Rattle.std.proofs.lemmas.List.{take_all}
 use Rattle.std.proofs.lemmas.Simd.{map-map}
-use Rattle.stack_algebra.specs.Steps.{◌>>=◌, steps}
-use Rattle.stack_algebra.specs.Search.{or_else, only_if}
-use Rattle.stack_model.specs.declared.places.Spot.{Spot}
-use Rattle.stack_model.specs.declared.places.Key.{Key}
-use Rattle.stack_model.specs.declared.errors.ModelError.{ModelError}
-use Rattle.stack_model.specs.declared.errors.ModelError.TheVariants.{Range}
+use Rattle.stack_algebra.specs.Steps.{steps}
 use Rattle.stack_model.specs.Structure.{NamedMaterial}
 use Rattle.stack_model.specs.Parts.{MaterialPart, PartLists}
 use Rattle.stack_model.specs.Limits.{is_name, is_between, friction_of}
-use Rattle.stack_model.specs.Content.{unless, ranged, is_new, material_names, with_material, add_material}
+use Rattle.stack_model.specs.Content.{is_new, material_names, with_material, add_material}
 use Rattle.stack_model.specs.Relisted.{material_listed}
 use Rattle.stack_faults.specs.FaultLists.{earliest}
-use Rattle.stack_faults.specs.ContentFaults.{material_written, lists_material, causes_of_material, faults_by}
+use Rattle.stack_faults.specs.ContentFaults.{material_written, causes_of_material, faults_by}
 use Rattle.stack_faults.proofs.Firsts.{Answers, answers_weaker}
 use Rattle.stack_faults.proofs.StepAnswers.{Meets, ends, unless_step, ranged_step}
 use Rattle.stack_faults.proofs.Names.{seen}

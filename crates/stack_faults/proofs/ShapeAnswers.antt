@@ -1,7 +1,7 @@
 -- What the tables of items answer.
 use Rattle.std.proofs.Common.{refl, ℕ, ℤ, Bool, true, false, not, List, [], ◌∷◌, ◌++◌, Option, Some}
 use Rattle.std.proofs.Common.{None}
-use Rattle.std.proofs.Common.{Result, Ok, Err, option_map, is_none, if◌then◌else◌}
+use Rattle.std.proofs.Common.{Ok, Err, option_map, is_none, if◌then◌else◌}
 use Rattle.toml.specs.Data.{Data, Members, get_member, as_str, as_integer, as_bool}
 use Rattle.stack_algebra.specs.Steps.{◌>>=◌}
 use Rattle.stack_model.specs.declared.places.Spot.{Spot}

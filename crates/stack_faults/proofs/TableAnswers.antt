@@ -1,23 +1,22 @@
 -- What a table answers: its lists, and then each item of them.
 use Rattle.std.proofs.Common.{◌≡◌, refl, sym, ap, ◌∙◌, ℕ, zero, suc, ◌+◌, Bool, true, false, List, [], ◌∷◌, length}
 use Rattle.std.proofs.Common.{get_or, Option, Some, None, Result, Ok, Err, arith}
-use Rattle.std.specs.Prelude.{is_none, if◌then◌else◌, option_and_then, ⊤, ℤ}
-use Rattle.toml.specs.Data.{Data, array, table, Items, no_items, item, Members, no_members, get_member, as_integer}
+use Rattle.std.specs.Prelude.{is_none, if◌then◌else◌, option_and_then}
+use Rattle.toml.specs.Data.{Data, array, table, Items, no_items, item, Members, no_members, get_member}
 use Rattle.stack_algebra.specs.Steps.{◌>>=◌}
 use Rattle.stack_algebra.specs.Search.{or_else, first}
 use Rattle.stack_algebra.proofs.Search.{first_same}
 use Rattle.stack_model.specs.declared.places.Spot.TheVariants as spots
 use Rattle.stack_model.specs.declared.places.Key.{Key}
 use Rattle.stack_model.specs.declared.places.Key.TheVariants as keys
-use Rattle.stack_model.specs.Parts.{MaterialPart, JointPart, BlockPart, LoadPart, PartLists}
 use Rattle.stack_reader.specs.declared.errors.ReadError.{ReadError}
 use Rattle.stack_reader.specs.declared.errors.ReadError.TheVariants.{Kind}
 use Rattle.stack_reader.specs.Keys.{word_of}
-use Rattle.stack_reader.specs.Forms.{are_tables, tables_of, wholes_of, in_form}
-use Rattle.stack_reader.specs.Shape.{known_at_top, head_of_document, list_at, material_part, joint_part, block_part}
+use Rattle.stack_reader.specs.Forms.{are_tables, tables_of, in_form}
+use Rattle.stack_reader.specs.Shape.{list_at, material_part, joint_part, block_part}
 use Rattle.stack_reader.specs.Shape.{load_part, in_table, each_of, parts_of_document}
 use Rattle.stack_faults.specs.FaultLists.{faults_where, earliest, answered_fault}
-use Rattle.stack_faults.specs.TableFaults.{is_of_another_form, unknown_key_faults, optional_key_faults, top_faults}
+use Rattle.stack_faults.specs.TableFaults.{is_of_another_form, optional_key_faults}
 use Rattle.stack_faults.specs.TableFaults.{joint_table_faults, material_table_faults, block_table_faults}
 use Rattle.stack_faults.specs.TableFaults.{load_table_faults, tables_in, tables_or_none, tables_listed}
 use Rattle.stack_faults.specs.TableFaults.{faults_of_tables, shape_faults}
