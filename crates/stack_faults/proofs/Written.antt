@@ -9,6 +9,7 @@ use Rattle.stack_polygon.specs.declared.point.Point.{Point}
 use Rattle.stack_polygon.specs.Limits.{is_near}
 use Rattle.stack_polygon.specs.Outlines.{outline_of}
 use Rattle.stack_model.specs.Limits.{is_between, friction_of, sway_of, point_of, live_of, force_of}
+use Rattle.stack_model.proofs.Limited.{friction_pair, sway_pair, force_pair}
 use Rattle.stack_model.specs.Convex.{at_block, convex}
 use Rattle.stack_model.specs.Relisted.{coordinates, kind_word}
 use Rattle.stack_faults.specs.Outline.{IsOutlineOf, HasNoOutline}
@@ -20,35 +21,14 @@ pub one_more_same : {X Y : Type 0} (f : X → Y) (xs : List X) (x : X) (ys : Lis
 one_more_same f xs x ys i d l same h = map-append f xs (x ∷ []) ∙ (λ k. h k ++ same k ∷ [])
     ∙ sym (take_more ys i d l)
 
--- what takes two numbers that pass, and nothing else, gives them back
-module _ (of : List ℤ → Option (ℤ × ℤ)) (p q : ℤ → Bool) (none : of [] ≡ None)
-    (one : (x : ℤ) → of (x ∷ []) ≡ None) (two : (x y : ℤ) → of (x ∷ y ∷ []) ≡ (if p x && q y then Some (x, y) else None))
-    (more : (x y z : ℤ) (zs : List ℤ) → of (x ∷ y ∷ z ∷ zs) ≡ None) where
-  pair_back : (zs : List ℤ) (f : ℤ × ℤ) → of zs ≡ Some f → f.0 ∷ f.1 ∷ [] ≡ zs
-  pair_back (x ∷ y ∷ []) f h = go (p x && q y) (sym (two x y) ∙ h)
-    where
-      go : (b : Bool) → (if b then Some (x, y) else None) ≡ Some f → f.0 ∷ f.1 ∷ [] ≡ x ∷ y ∷ []
-      go true e = let same : (x, y) ≡ f = cc in λ i. (sym same i).0 ∷ (sym same i).1 ∷ []
-      go false e = absurd cc
-  pair_back [] f h = absurd cc
-  pair_back (x ∷ []) f h = let e = one x in absurd cc
-  pair_back (x ∷ y ∷ z ∷ zs) f h = let e = more x y z zs in absurd cc
-
 pub friction_back : (zs : List ℤ) (f : ℤ × ℤ) → friction_of zs ≡ Some f → f.0 ∷ f.1 ∷ [] ≡ zs
-friction_back = pair_back friction_of (is_between (pos 0) (pos 1000)) (is_between (pos 1) (pos 1000)) refl
-    (λ x. refl) (λ x y. refl) (λ x y z zs. refl)
-
-abbrev is_share : ℤ → Bool
-is_share z = is_between (negsuc 999) (pos 1000) z
+friction_back zs f h = (friction_pair zs f h).same
 
 pub sway_back : (zs : List ℤ) (f : ℤ × ℤ) → sway_of zs ≡ Some f → f.0 ∷ f.1 ∷ [] ≡ zs
-sway_back = pair_back sway_of is_share is_share refl (λ x. refl) (λ x y. refl) (λ x y z zs. refl)
-
-abbrev is_part : ℤ → Bool
-is_part z = is_between (negsuc 999999999) (pos 1000000000) z
+sway_back zs f h = (sway_pair zs f h).same
 
 pub force_back : (zs : List ℤ) (f : ℤ × ℤ) → force_of zs ≡ Some f → f.0 ∷ f.1 ∷ [] ≡ zs
-force_back = pair_back force_of is_part is_part refl (λ x. refl) (λ x y. refl) (λ x y z zs. refl)
+force_back zs f h = (force_pair zs f h).same
 
 pub point_back : (zs : List ℤ) (c : Point) → point_of zs ≡ Some c → coordinates c ≡ zs
 point_back (x ∷ y ∷ []) c h = go (is_near x && is_near y) h
