@@ -1,6 +1,6 @@
 -- Values within their limits, as they were written.
-use Rattle.std.proofs.Common.{◌≡◌, refl, sym, ap, ◌∙◌, subst, ℕ, ◌+◌, ◌<◌, ℤ, pos, negsuc, Bool, true, false, ◌&&◌}
-use Rattle.std.proofs.Common.{List, [], ◌∷◌, ◌++◌, map, length, get_or, take, codes, Option, Some, None, Ok, Err}
+use Rattle.std.proofs.Common.{◌≡◌, refl, sym, ap, ◌∙◌, subst, ℕ, ◌+◌, ◌<◌, ℤ, Bool, true, false, ◌&&◌}
+use Rattle.std.proofs.Common.{List, [], ◌∷◌, ◌++◌, map, length, get_or, take, codes, Some, None, Ok, Err}
 use Rattle.std.proofs.Common.{Result, if◌then◌else◌, MatchResult}
 use Rattle.std.specs.Str.{bytes_eq}
 use Rattle.std.proofs.lemmas.Slice.Eq.{bytes_eq-Decides}
@@ -8,7 +8,7 @@ use Rattle.std.proofs.lemmas.List.{map-append, take_more}
 use Rattle.stack_polygon.specs.declared.point.Point.{Point}
 use Rattle.stack_polygon.specs.Limits.{is_near}
 use Rattle.stack_polygon.specs.Outlines.{outline_of}
-use Rattle.stack_model.specs.Limits.{is_between, friction_of, sway_of, point_of, live_of, force_of}
+use Rattle.stack_model.specs.Limits.{friction_of, sway_of, point_of, live_of, force_of}
 use Rattle.stack_model.proofs.Limited.{friction_pair, sway_pair, force_pair}
 use Rattle.stack_model.specs.Convex.{at_block, convex}
 use Rattle.stack_model.specs.Relisted.{coordinates, kind_word}

@@ -1,25 +1,18 @@
 -- A structure within the limits is taken without a fault where it is listed.
-use Rattle.std.proofs.Common.{◌≡◌, ℕ, ◌<◌, ◌≤◌, ℤ, pos, Bool, true, false, not, List, [], ◌∷◌, ◌++◌, map, length}
-use Rattle.std.proofs.Common.{get_or, Some, Result, Ok, refl, sym, ap, ◌∙◌, subst, is_none}
-use Rattle.std.specs.Bool.{⊤}
+use Rattle.std.proofs.Common.{◌≡◌, ℕ, ◌<◌, ◌≤◌, pos, Bool, true, false, not, List, [], ◌∷◌, ◌++◌, length}
+use Rattle.std.proofs.Common.{get_or, Some, Ok, refl, sym, ap, ◌∙◌, subst}
 use Rattle.std.proofs.lemmas.Bool.{le-leb, lt-ltb}
 use Rattle.std.proofs.lemmas.List.{length-map, get_or-map}
-use Rattle.stack_algebra.specs.Steps.{◌>>=◌, steps}
-use Rattle.stack_polygon.specs.declared.point.Point.{Point}
 use Rattle.stack_polygon.proofs.Ranges.{to_range}
-use Rattle.stack_model.specs.declared.types.Joint.{Joint}
-use Rattle.stack_model.specs.declared.types.Load.{Load}
 use Rattle.stack_model.specs.declared.places.What.{What}
 use Rattle.stack_model.specs.declared.places.What.TheVariants as whats
-use Rattle.stack_model.specs.declared.errors.ModelError.{ModelError}
 use Rattle.stack_model.specs.declared.errors.ModelError.TheVariants.{TooMany}
-use Rattle.stack_model.specs.Structure.{NamedMaterial, NamedBody, Structure, structure_with, material_of, body_of}
-use Rattle.stack_model.specs.Structure.{joint_terms, IsWithinLimits, HasJointLimits, HasBodyLimits, IsCarried}
-use Rattle.stack_model.specs.Convex.{convex}
-use Rattle.stack_model.specs.Content.{unless, at_most, is_free, number_of, has_room, material_names, body_names}
+use Rattle.stack_model.specs.Structure.{NamedMaterial, NamedBody, Structure, material_of, body_of}
+use Rattle.stack_model.specs.Structure.{IsWithinLimits, HasJointLimits, HasBodyLimits, IsCarried}
+use Rattle.stack_model.specs.Content.{unless, at_most, number_of, has_room, material_names, body_names}
 use Rattle.stack_model.specs.Content.{with_material, add_material, with_body, add_joint, add_block, add_load, joints_of}
 use Rattle.stack_model.specs.Content.{bodies_of, loads_of, content_of}
-use Rattle.stack_model.specs.Relisted.{material_listed, joint_listed, body_listed, load_listed, relisted}
+use Rattle.stack_model.specs.Relisted.{material_listed, joint_listed, body_listed, load_listed}
 use Rattle.stack_model.specs.Sound.{IsSound, AreDifferent, AreOfDifferentPairs, free_among, fixed_among}
 use Rattle.stack_model.proofs.Points.{point_again, corners_again}
 use Rattle.stack_model.proofs.Heads.{head_again}

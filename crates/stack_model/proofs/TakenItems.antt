@@ -1,22 +1,15 @@
 -- What holds of a material, a joint and a body that was taken after others.
-use Rattle.std.proofs.Common.{◌≡◌, ℕ, ◌<◌, ℤ, pos, Bool, true, false, List, [], ◌∷◌, ◌++◌, length, Option, Some, None}
-use Rattle.std.proofs.Common.{Result, Ok, Err, refl, ap, ◌∙◌, subst, arith, nat_lt, is_none}
-use Rattle.std.specs.Bool.{⊤}
+use Rattle.std.proofs.Common.{◌≡◌, ℕ, ◌<◌, pos, Bool, true, false, List, [], ◌∷◌, ◌++◌, length, Some}
+use Rattle.std.proofs.Common.{Ok, subst, arith, nat_lt, is_none}
 use Rattle.std.proofs.lemmas.List.{length-map}
 use Rattle.std.proofs.lemmas.Int.{ints}
-use Rattle.stack_algebra.specs.Steps.{◌>>=◌}
-use Rattle.stack_polygon.specs.declared.point.Point.{Point}
 use Rattle.stack_model.specs.declared.types.Joint.{Joint}
-use Rattle.stack_model.specs.declared.types.Load.{Load}
-use Rattle.stack_model.specs.declared.places.Spot.{Spot}
-use Rattle.stack_model.specs.declared.places.Key.{Key}
-use Rattle.stack_model.specs.declared.errors.ModelError.{ModelError}
 use Rattle.stack_model.specs.Structure.{NamedMaterial, NamedBody, IsWithinLimits, HasJointLimits, HasBodyLimits}
 use Rattle.stack_model.specs.Structure.{joint_terms}
 use Rattle.stack_model.specs.Parts.{MaterialPart, JointPart, BlockPart}
 use Rattle.stack_model.specs.Limits.{is_name, is_between, friction_of, corner_list_of}
 use Rattle.stack_model.specs.Convex.{convex}
-use Rattle.stack_model.specs.Content.{unless, ranged, found, is_new, number_of, has_room, material_names, body_names}
+use Rattle.stack_model.specs.Content.{is_new, number_of, has_room, material_names, body_names}
 use Rattle.stack_model.specs.Content.{with_material, add_material, with_body, add_joint, add_block}
 use Rattle.stack_model.specs.Sound.{AreDifferent, AreOfDifferentPairs, fixed_among, free_among}
 use Rattle.stack_model.proofs.Joined.{one_more_joint}

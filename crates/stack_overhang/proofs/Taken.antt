@@ -1,31 +1,25 @@
 -- The parts of a built-in model are taken without a fault, and make its structure.
 use Rattle.std.proofs.Common.{◌≡◌, ℕ, zero, suc, ◌+◌, ◌<◌, ◌≤◌, ℤ, pos, Bool, true, false, not, List, [], ◌∷◌, ◌++◌}
-use Rattle.std.proofs.Common.{map, length, get_or, Option, Some, None, Result, Ok, Err, refl, sym, ap, ◌∙◌, subst}
-use Rattle.std.proofs.Common.{arith, add-one, nat_le, nat_lt, codes, count_by, cond}
-use Rattle.std.specs.Bool.{⊤}
+use Rattle.std.proofs.Common.{map, length, Some, Result, Ok, refl, sym, ap, ◌∙◌, subst}
+use Rattle.std.proofs.Common.{arith, add-one, nat_le, nat_lt, count_by, cond}
 use Rattle.std.proofs.lemmas.Int.{ints}
 use Rattle.std.proofs.lemmas.List.Sums.{sum_by-append}
 use Rattle.stack_algebra.specs.Steps.{◌>>=◌, steps}
 use Rattle.stack_algebra.proofs.Listed.{listed, length_listed, listed_item, listed_more, map_listed}
 use Rattle.stack_polygon.specs.declared.point.Point.{Point}
 use Rattle.stack_model.specs.declared.types.Load.{Load}
-use Rattle.stack_model.specs.declared.places.Spot.{Spot}
-use Rattle.stack_model.specs.declared.places.Key.{Key}
-use Rattle.stack_model.specs.declared.places.What.{What}
 use Rattle.stack_model.specs.declared.places.What.TheVariants as whats
-use Rattle.stack_model.specs.declared.places.Key.TheVariants as keys
 use Rattle.stack_model.specs.declared.errors.ModelError.{ModelError}
-use Rattle.stack_model.specs.declared.errors.ModelError.TheVariants.{NoMaterial, TooMany}
+use Rattle.stack_model.specs.declared.errors.ModelError.TheVariants.{TooMany}
 use Rattle.stack_model.specs.declared.types.Joint.{Joint}
-use Rattle.stack_model.specs.Structure.{NamedMaterial, NamedBody, Structure, structure_with, first_structure, body_at}
-use Rattle.stack_model.specs.Parts.{MaterialPart, BlockPart, LoadPart, PartLists, first_parts}
+use Rattle.stack_model.specs.Structure.{NamedMaterial, NamedBody}
+use Rattle.stack_model.specs.Parts.{MaterialPart, BlockPart, LoadPart, first_parts}
 use Rattle.stack_polygon.specs.Limits.{is_in_range}
-use Rattle.stack_model.specs.Limits.{is_name, friction_of, point_of}
-use Rattle.stack_model.specs.Convex.{convex}
-use Rattle.stack_model.specs.Content.{unless, at_most, ranged, found, is_new, is_free, number_of, has_room}
-use Rattle.stack_model.specs.Content.{material_names, body_names, with_material, add_material, with_body, add_block}
+use Rattle.stack_model.specs.Limits.{is_name, friction_of}
+use Rattle.stack_model.specs.Content.{unless, at_most, is_new, is_free, number_of, has_room}
+use Rattle.stack_model.specs.Content.{body_names, with_material, add_material, with_body, add_block}
 use Rattle.stack_model.specs.Content.{add_load, head_of, joints_of, bodies_of, loads_of, content_of}
-use Rattle.stack_model.specs.Relisted.{material_listed, coordinates}
+use Rattle.stack_model.specs.Relisted.{material_listed}
 use Rattle.stack_model.proofs.Points.{point_again}
 use Rattle.stack_model.proofs.Chains.{any_runs, unless_runs, ranged_runs, found_runs}
 use Rattle.stack_overhang.specs.declared.types.Rectangle.{Rectangle}
