@@ -152,14 +152,7 @@ module _ (s : Structure) (bs : List Placed) where
   }
     where
       compare : (a b : ℕ) → (a < b) ⊎ ((b < a) ⊎ (a ≡ b))
-      compare zero zero = inr (inr refl)
-      compare zero (suc b) = inl (omega arith)
-      compare (suc a) zero = inr (inl (omega arith))
-      compare (suc a) (suc b) = elim (compare a b) [
-        | inl l ↦ inl (omega arith)
-        | inr (inl l) ↦ inr (inl (omega arith))
-        | inr (inr e) ↦ inr (inr (ap suc e))
-      ]
+      compare a b = grind arith
 
       settled : (i j a b : ℕ) → a < length bs → placed_body bs a ≡ i → b < length bs → placed_body bs b ≡ j → i < j
           → (a < b) ⊎ ((b < a) ⊎ (a ≡ b)) → IsListed s ps i j
