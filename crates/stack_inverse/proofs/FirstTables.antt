@@ -14,7 +14,7 @@ use Rattle.stack_algebra.proofs.Fractions.{of, add, neg, of_add, of_mul, neg_is}
 use Rattle.stack_algebra.proofs.Over.{over, of-over}
 use Rattle.stack_algebra.proofs.Sums.{sum_same}
 use Rattle.stack_algebra.proofs.OrderedFractions.{ordered_fractions}
-use Rattle.stack_table.specs.declared.problem.Column.{FirstColumn as Given}
+use Rattle.stack_table.specs.declared.problem.Column.{Column as Given}
 use Rattle.stack_table.specs.declared.problem.Problem.{Problem as Lent}
 use Rattle.stack_table.specs.Table.{Shape, plain, columns}
 use Rattle.stack_table.specs.Problem.{Problem, turned, flipped}

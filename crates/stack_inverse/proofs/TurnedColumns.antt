@@ -10,7 +10,7 @@ use Rattle.stack_algebra.proofs.Integers.{one_mul}
 use Rattle.stack_algebra.specs.Sums.{sum_to, sum_of}
 use Rattle.stack_table.specs.declared.problem.Entry.{Entry}
 use Rattle.stack_table.specs.Problem.{turned}
-use Rattle.stack_table.specs.declared.problem.Column.{FirstColumn as Given}
+use Rattle.stack_table.specs.declared.problem.Column.{Column as Given}
 use Rattle.stack_table.specs.declared.problem.Problem.{Problem as Lent}
 use Rattle.stack_table.specs.Lent.{entry_in, entries_at, factor_entries, IsColumn, IsProblem}
 use Rattle.stack_inverse.specs.declared.columns.Cell.{Cell}

@@ -32,7 +32,7 @@ point_and_directions z = point_text z.at ++ codes " " ++ directions_text z
 abbrev pub bearing_text : ℕ → List ℕ → List ℕ → Bearing → List ℕ
 bearing_text k first second z =
     codes "bearing " ++ decimal (k + 1) ++ codes " " ++ first ++ codes " " ++ second ++ codes " "
-        ++ point_and_directions z
+    ++ point_and_directions z
 
 -- touch number k, from 0
 abbrev pub touch_text : ℕ → List ℕ → List ℕ → Touch → List ℕ
