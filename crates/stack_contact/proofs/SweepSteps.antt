@@ -52,10 +52,7 @@ module _ (s : Structure) (one other : ℕ) (ps : List Pair) where
       listed i j e f = subst (Contains (ps ++ p ∷ [])) (λ n. record { first = e n; second = f n }) (Contains-push ps p)
 
       other_way : (a b : Bool) → (a && b) ≡ false → (b && a) ≡ false
-      other_way true true h = absurd (cc h)
-      other_way true false h = refl
-      other_way false true h = refl
-      other_way false false h = refl
+      other_way a b h = grind arith
 
       pair_is : (i j : ℕ) → i < j → j < length s.bodies → ((body_of s i).fixed && (body_of s j).fixed) ≡ false
           → p.first ≡ i → p.second ≡ j → IsPair s p.first p.second
