@@ -3,7 +3,7 @@ use Rattle.std.proofs.Common.{arith, Some, slice_get, Ok, Err}
 use mathlib.Core.Path.{◌≡◌, refl, sym, ap, ◌∙◌, subst}
 use mathlib.Core.Logic.{◌⊎◌, inl, inr}
 use mathlib.Core.List.{List}
-use Prim.Native.Nat.{ℕ, zero, suc, ◌<◌, ◌≤◌}
+use Prim.Native.Nat.{ℕ, ◌<◌, ◌≤◌}
 use lib.IntN.{ℤ, pos, ◌*ℤ◌}
 use lib.ListN.{length}
 use Rattle.std.proofs.lemmas.Int.{ints}

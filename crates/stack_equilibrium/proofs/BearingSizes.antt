@@ -22,10 +22,10 @@ use Rattle.stack_model.specs.Structure.{joint_terms, AreTerms, Structure, body_o
 use Rattle.stack_model.proofs.Joined.{terms_between, terms_limits}
 use Rattle.stack_frame.proofs.Senses.{frames-by-parallels, lowest-long}
 use Rattle.stack_overlap.specs.Separation.{IsCommon, Separates}
-use Rattle.stack_overlap.specs.Forms.{LinearForm, value, at_corner, square}
-use Rattle.stack_overlap.proofs.ByForms.{IsConvex, IsInside, convex-form, inside-form, outer-form}
+use Rattle.stack_overlap.specs.Forms.{square}
+use Rattle.stack_overlap.proofs.ByForms.{convex-form, inside-form, outer-form}
 use Rattle.stack_overlap.proofs.Edges.{edge_long}
-use Rattle.stack_overlap.proofs.Support.{support, next_below}
+use Rattle.stack_overlap.proofs.Support.{below-inside, next_below}
 use Rattle.stack_model.specs.Sound.{IsSound}
 use Rattle.stack_contact.specs.declared.types.Bearing.{Bearing}
 use Rattle.stack_contact.specs.Bearings.{IsParallel, IsAlong, Bears, HasSecond, IsCornerOnEdge, IsLoneCorner}
@@ -90,19 +90,6 @@ inside_near P polygon c below = record {
 
     corner_high_y : (x y : ℤ) → IsNear y → (pos 0 *ℤ x +ℤ pos 1 *ℤ y +ℤ negsuc 999999) ≼ pos 0
     corner_high_y x y h = omega (arith, ints, h.high)
-
--- a form that is at most 0 at each corner is at most 0 at a point inside
-below_inside : (P : List Point) → IsConvex P → 3 ≤ length P → (X : Triple) → IsInside P X → (g : LinearForm) →
-    ((j : ℕ) → j < length P → at_corner g (corner_of P j) ≼ pos 0) → value g X ≼ pos 0
-below_inside P convex three X inside g h = support P convex three X inside
-    (record { l = pos 0; m = pos 0; n = pos 0 }) g (λ j l. nothing (corner_of P j).x (corner_of P j).y)
-    (λ j l e. h j l) (nothing_there X.x X.y X.w)
-  where
-    nothing : (x y : ℤ) → (pos 0 *ℤ x +ℤ pos 0 *ℤ y +ℤ pos 0) ≼ pos 0
-    nothing x y = omega (arith, ints)
-
-    nothing_there : (x y w : ℤ) → pos 0 ≼ (pos 0 *ℤ x +ℤ pos 0 *ℤ y +ℤ pos 0 *ℤ w)
-    nothing_there x y w = omega (arith, ints)
 
 -- a divisor of a step is one
 part_step : (n : ℕ) (t d : ℤ) → 0 < n → d ≡ pos n *ℤ t → IsStep d → IsStep t
@@ -244,7 +231,7 @@ module _ (s : Structure) (sound : IsSound s) where
       z.frame (place_of z.at) bears in
       record {
         at = inside_near (corners_of s z.first) one z.at (λ l m n below.
-            below_inside (corners_of s z.first) (convex-form (corners_of s z.first) one.convex) one.least
+            below-inside (corners_of s z.first) (convex-form (corners_of s z.first) one.convex) one.least
             (place_of z.at) (inside-form (corners_of s z.first) (place_of z.at) bears.is_end.is_in.first)
             (record { l = l; m = m; n = n }) below);
         tx = t.0;

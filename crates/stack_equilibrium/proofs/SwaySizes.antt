@@ -5,7 +5,7 @@ use Rattle.std.proofs.Common.{nat_abs, List, [], ◌∷◌, length, get_or, arit
 use mir.Syntax.{w128}
 use Rattle.std.proofs.lemmas.Int.{ints, unsigned_abs-mul, to_z-of_z, fits_signed_mul}
 use Rattle.stack_algebra.proofs.Integers.{sums, expand}
-use Rattle.stack_algebra.proofs.Order.{◌≼◌, mul-bounds}
+use Rattle.stack_algebra.proofs.Order.{◌≼◌}
 use Rattle.stack_polygon.specs.declared.point.Point.{Point}
 use Rattle.stack_polygon.specs.Plane.{triangle_of}
 use Rattle.stack_polygon.specs.Corners.{origin}

@@ -1,5 +1,5 @@
 -- Numbers of a size: sums over the triangles of a chain, and products.
-use Rattle.std.proofs.Common.{◌≡◌, ℕ, suc, ◌+◌, ◌*◌, ◌<◌, ℤ, pos, ◌+ℤ◌, ◌*ℤ◌, neg_ℤ, List, [], ◌∷◌, length, get_or, arith}
+use Rattle.std.proofs.Common.{ℕ, suc, ◌<◌, ℤ, ◌+ℤ◌, ◌*ℤ◌, neg_ℤ, List, [], ◌∷◌, length, get_or, arith}
 use Rattle.std.proofs.lemmas.Int.{ints}
 use Rattle.stack_algebra.proofs.Integers.{sums, expand}
 use Rattle.stack_algebra.proofs.Order.{◌≼◌, mul-bounds}

@@ -2,8 +2,7 @@
 use Rattle.std.proofs.Common.{refl, ℕ, suc, ◌<◌, ◌≤◌, ℤ, pos, ◌+ℤ◌, ◌-ℤ◌, ◌*ℤ◌, neg_ℤ, List, [], ◌∷◌, length, get_or}
 use Rattle.std.proofs.Common.{arith}
 use Rattle.std.proofs.lemmas.Int.{ints}
-use Rattle.stack_algebra.proofs.Integers.{sums, expand}
-use Rattle.stack_algebra.proofs.Order.{◌≼◌, mul-bounds}
+use Rattle.stack_algebra.proofs.Order.{◌≼◌}
 use Rattle.stack_polygon.specs.declared.point.Point.{Point}
 use Rattle.stack_polygon.specs.Plane.{triangle_of}
 use Rattle.stack_polygon.specs.Corners.{origin}
