@@ -1,9 +1,8 @@
 -- What a level or an upright edge says of a point. Each lemma serves points left of an edge or on it, and
 -- points strictly left of it.
-use Rattle.std.proofs.Common.{◌≡◌, zero, suc, ℤ, pos, negsuc, ◌-ℤ◌, ◌*ℤ◌, neg_ℤ, Bool, true, false, sym, subst, arith}
+use Rattle.std.proofs.Common.{◌≡◌, ℤ, pos, ◌-ℤ◌, ◌*ℤ◌, neg_ℤ, Bool, true, false, arith}
 use Rattle.std.proofs.Common.{◌↔◌}
 use Rattle.stack_algebra.proofs.CrossProducts.{positive_cancel}
-use Rattle.std.proofs.lemmas.Int.{ints}
 use Rattle.stack_algebra.specs.IntegerOrder.{◌≼◌, ◌≺◌}
 use Rattle.stack_algebra.proofs.Integers.{sums, expand}
 use Rattle.stack_algebra.proofs.Order.{mul_nonneg, nonneg-cancel, mul_pos}
