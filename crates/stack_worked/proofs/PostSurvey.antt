@@ -1,19 +1,17 @@
 -- The survey of the drawn post: the ground and the post are rectangles, so their ranges tell their contacts.
 use Rattle.std.proofs.Common.{arith, Some, slice_get, true, ◌&&◌, int_le}
 use mathlib.Core.Path.{◌≡◌, refl, sym, subst}
-use mathlib.Core.Logic.{inl, inr, ◌⊎◌, ◌≢◌}
+use mathlib.Core.Logic.{inl, inr, ◌⊎◌}
 use Prim.Native.Nat.{ℕ, zero, suc, ◌<◌}
 use lib.IntN.{ℤ, pos, negsuc}
-use Rattle.stack_algebra.specs.IntegerOrder.{◌≼◌}
 use Rattle.std.proofs.lemmas.Int.{ints}
 use Rattle.stack_algebra.proofs.Conjunctions.{both_true}
 use Rattle.std.proofs.lemmas.Option.{same_Some, slice_get_within}
 use Rattle.stack_algebra.specs.Gcd.{gcd}
 use Rattle.stack_polygon.specs.Plane.{Triple, IsAt}
-use Rattle.stack_polygon.specs.Corners.{IsClear, IsStrictlyConvex}
 use Rattle.stack_polygon.specs.Outlines.{is_convex}
 use Rattle.stack_polygon.proofs.Tested.{convex_from}
-use Rattle.stack_polygon.specs.Limits.{IsNear, AreInRange}
+use Rattle.stack_polygon.specs.Limits.{IsNear}
 use Rattle.stack_frame.specs.declared.frame.Frame.{Frame}
 use Rattle.stack_overlap.specs.Separation.{Overlaps}
 use Rattle.stack_contact.specs.declared.types.Bearing.{Bearing}
