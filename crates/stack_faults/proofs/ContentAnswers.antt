@@ -1,5 +1,6 @@
 -- What content as a whole answers.
-use Rattle.std.proofs.Common.{◌≡◌, sym, ap, subst, ℕ, Bool, true, false, not, List, [], ◌∷◌, ◌++◌, append_assoc, length, Option}
+use Rattle.std.proofs.Common.{◌≡◌, sym, ap, subst, ℕ, Bool, true, false, not, List, [], ◌∷◌, ◌++◌, append_assoc}
+use Rattle.std.proofs.Common.{length, Option}
 use Rattle.std.proofs.Common.{Some, None, refl, ℤ, map, Ok}
 use Rattle.std.specs.Prelude.{is_none, nat_le, nat_lt, ⊤}
 use Rattle.stack_algebra.specs.Steps.{◌>>=◌, steps}

@@ -20,7 +20,8 @@ use Rattle.stack_faults.specs.TableFaults.{is_of_another_form, optional_key_faul
 use Rattle.stack_faults.specs.TableFaults.{joint_table_faults, material_table_faults, block_table_faults}
 use Rattle.stack_faults.specs.TableFaults.{load_table_faults, tables_in, tables_or_none, tables_listed}
 use Rattle.stack_faults.specs.TableFaults.{faults_of_tables, shape_faults}
-use Rattle.stack_faults.proofs.Firsts.{Answers, answers_weaker, earliest-below, Told, Finds, all_told, step, step_found, last}
+use Rattle.stack_faults.proofs.Firsts.{Answers, answers_weaker, earliest-below, Told, Finds, all_told, step}
+use Rattle.stack_faults.proofs.Firsts.{step_found, last}
 use Rattle.stack_faults.proofs.ShapeAnswers.{head_told, material_told, joint_told, block_told, load_told}
 
 or_none : {E : Type 0} (o : Option E) → or_else o None ≡ o

@@ -13,7 +13,8 @@ returns-in_err-material_item c =
     c.in_err-material_item.ensures c.loop-index.invariant)
 
 pub loop-index-preserved : goal.loop-index-preserved
-loop-index-preserved c = goes_on raw_material (in_table material_part keys.Material) _ _ _ _ c.index-items-index.result _ _
+loop-index-preserved c = goes_on raw_material (in_table material_part keys.Material) _ _ _ _
+    c.index-items-index.result _ _
     c.in_ok-push.ensures.items c.loop-index-test.true c.index-items-index.is c.in_ok-material_item.ensures
     c.loop-index.invariant
 
