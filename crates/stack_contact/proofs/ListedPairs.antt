@@ -1,6 +1,6 @@
 -- From one near pair to the next: the pairs between them have nothing in common.
 use Rattle.std.proofs.Common.{◌≡◌, ℕ, zero, suc, ◌+◌, ◌<◌, ◌≤◌, List, [], ◌∷◌, length, ◌⊎◌, inl, inr}
-use Rattle.std.proofs.Common.{refl, sym, ap, ◌∙◌, subst, subst₂, arith}
+use Rattle.std.proofs.Common.{refl, sym, ◌∙◌, subst, subst₂, arith}
 use lib.ListN.{get_or}
 use Rattle.std.proofs.lemmas.List.{get_or_default}
 use Rattle.std.proofs.lemmas.List.Elements.{All-get_or}
@@ -15,30 +15,16 @@ use Rattle.stack_contact.specs.NearPairs.{AreFar, pair, AreNearPairs, IsOrdered}
 use Rattle.stack_contact.proofs.FoundSteps.{skipped, before-next, later, start-found, all-found}
 
 same-before : (a b : ℕ) → PairBefore a b a b → ⊥
-same-before a b (inl l) = omega arith
-same-before a b (inr (e, l)) = omega arith
+same-before a b h = grind arith
 
 before-after : (a b c d : ℕ) → PairBefore a b c d → PairBefore c d a b → ⊥
-before-after a b c d (inl l) (inl m) = omega arith
-before-after a b c d (inl l) (inr (f, m)) = omega arith
-before-after a b c d (inr (e, l)) (inl m) = omega arith
-before-after a b c d (inr (e, l)) (inr (f, m)) = omega arith
+before-after a b c d h k = grind arith
 
 chain : (a b c d e f : ℕ) → PairBefore a b c d → PairBefore c d e f → PairBefore a b e f
-chain a b c d e f (inl l) (inl m) = inl (omega arith)
-chain a b c d e f (inl l) (inr (p, m)) = inl (omega arith)
-chain a b c d e f (inr (q, l)) (inl m) = inl (omega arith)
-chain a b c d e f (inr (q, l)) (inr (p, m)) = inr (omega arith, omega arith)
+chain a b c d e f h k = grind arith
 
 compare : (a b : ℕ) → (a < b) ⊎ ((b < a) ⊎ (a ≡ b))
-compare zero zero = inr (inr refl)
-compare zero (suc b) = inl (omega arith)
-compare (suc a) zero = inr (inl (omega arith))
-compare (suc a) (suc b) = elim (compare a b) [
-  | inl l ↦ inl (omega arith)
-  | inr (inl l) ↦ inr (inl (omega arith))
-  | inr (inr e) ↦ inr (inr (ap suc e))
-]
+compare a b = grind arith
 
 past-end : (ps : List Pair) (n : ℕ) (d : Pair) → length ps ≤ n → get_or ps n d ≡ d
 past-end [] n d l = refl
@@ -106,11 +92,7 @@ module _ (s : Structure) (ps : List Pair) where
         (inl (below-all n l))
 
     or-past : (n m : ℕ) → (n < m) ⊎ (m ≤ n)
-    or-past n m = elim (compare n m) [
-      | inl l ↦ inl l
-      | inr (inl l) ↦ inr (omega arith)
-      | inr (inr e) ↦ inr (omega arith)
-    ]
+    or-past n m = grind arith
 
     pub next-to : (n : ℕ) → n < length ps → (zs : List Bearing) (ts : List Touch)
         → (d : Pair) → AreFound s (get_or ps n d).first (suc (get_or ps n d).second) zs ts → AreFoundTo (n + 1) zs ts

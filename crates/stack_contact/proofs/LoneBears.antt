@@ -1,5 +1,5 @@
 -- Where two polygons with a lone common point bear.
-use Rattle.std.proofs.Common.{arith, inl, inr, ◌↔◌}
+use Rattle.std.proofs.Common.{arith, inl, inr, ◌⊎◌, ◌↔◌}
 use lib.IntN.{ℤ, pos, ◌+ℤ◌, ◌-ℤ◌, ◌*ℤ◌, neg_ℤ, *ℤ_comm}
 use mathlib.Core.List.{List}
 use lib.ListN.{length}
@@ -88,17 +88,15 @@ module _ (P Q : List Point) (convex_p : IsConvex P) (three_p : 3 ≤ length P) (
         (edge_long R convex three k hk) par (level-edge c d z.0 z.1)
 
     level_p : (X : Triple) → IsCommon P Q X → ¬ (IsCorner P X) → (k : ℕ) → k < length P
-        → IsBetween (corner_of P k) (end_of P k) X → (at_corner (line a b) (corner_of P k) ≡ pos 0)
-        × (at_corner (line a b)
-        (end_of P k) ≡ pos 0)
+        → IsBetween (corner_of P k) (end_of P k) X
+        → (at_corner (line a b) (corner_of P k) ≡ pos 0) × (at_corner (line a b) (end_of P k) ≡ pos 0)
     level_p X m alone k hk w = flat-edge P convex_p three_p k hk X w alone (line a b)
         (λ j hj. corner_inside P convex_p three_p i j h.is_edge hj)
         (on P Q convex_p three_p convex_q three_q i h X m)
 
     level_q : (X : Triple) → IsCommon P Q X → ¬ (IsCorner Q X) → (k : ℕ) → k < length Q
-        → IsBetween (corner_of Q k) (end_of Q k) X → (at_corner (line a b) (corner_of Q k) ≡ pos 0)
-        × (at_corner (line a b)
-        (end_of Q k) ≡ pos 0)
+        → IsBetween (corner_of Q k) (end_of Q k) X
+        → (at_corner (line a b) (corner_of Q k) ≡ pos 0) × (at_corner (line a b) (end_of Q k) ≡ pos 0)
     level_q X m alone k hk w = let r = flat-edge Q convex_q three_q k hk X w alone (opposite
         (line a b)) right_of (zero (value-opposite (line a b) X)
         (on P Q convex_p three_p convex_q three_q i h X m)) in
@@ -179,24 +177,21 @@ module _ (P Q : List Point) (convex_p : IsConvex P) (three_p : 3 ≤ length P) (
               ]) r.lowest r.earlier_right,
         )
 
+        corner : (w : Which) → IsOnOther P Q F w k → IsAt X F → IsTangent b a u
+            → IsCornerOnEdge P Q u X ⊎ IsCornerOnEdge Q P u X
+        corner First (c, o) e tangent = inr (corner-on Q P convex_p three_p X u e c k o tangent
+            (λ alone. level_p X ((points X).1 e) alone k o.0
+            (within-between (corner_of P k) (end_of P k) X e o.1)))
+        corner Second (c, o) e tangent = inl (corner-on P Q convex_q three_q X u e c k o tangent
+            (λ alone. level_q X ((points X).1 e) alone k o.0
+            (within-between (corner_of Q k) (end_of Q k) X e o.1)))
+
         back : (w : Which) → IsOnOther P Q F w k → IsAt X F → IsTangent b a u → Bears P Q u X
-        back First (c, o) e tangent = let m = (points X).1 e in record {
+        back w other e tangent = let m = (points X).1 e in record {
           is_end = lone-end X m;
           way = inr (record {
             lone = record { common = m; alone = λ Y y. same-at X Y F e ((points Y).0 y) };
-            corner = inr (corner-on Q P convex_p three_p X u e c k o tangent
-                (λ alone. level_p X m alone k o.0 (within-between (corner_of P k) (end_of P k) X e o.1)));
-          });
-          lowest = tangent.lowest;
-          later_left = left-of-edge P Q convex_p three_p convex_q three_q i h X u m tangent;
-          earlier_right = right-of-edge P Q convex_p three_p convex_q three_q i h X u m tangent;
-        }
-        back Second (c, o) e tangent = let m = (points X).1 e in record {
-          is_end = lone-end X m;
-          way = inr (record {
-            lone = record { common = m; alone = λ Y y. same-at X Y F e ((points Y).0 y) };
-            corner = inl (corner-on P Q convex_q three_q X u e c k o tangent
-                (λ alone. level_q X m alone k o.0 (within-between (corner_of Q k) (end_of Q k) X e o.1)));
+            corner = corner w other e tangent;
           });
           lowest = tangent.lowest;
           later_left = left-of-edge P Q convex_p three_p convex_q three_q i h X u m tangent;

@@ -3,7 +3,7 @@ use Rattle.std.proofs.Common.{arith, Some, slice_get, Ok, Err}
 use mathlib.Core.Path.{◌≡◌, refl, sym, ap, ◌∙◌, subst}
 use mathlib.Core.Logic.{◌⊎◌, inl, inr}
 use mathlib.Core.List.{List}
-use Prim.Native.Nat.{ℕ, zero, suc, ◌<◌, ◌≤◌}
+use Prim.Native.Nat.{ℕ, ◌<◌, ◌≤◌}
 use lib.IntN.{ℤ, pos, ◌*ℤ◌}
 use lib.ListN.{length}
 use Rattle.std.proofs.lemmas.Int.{ints}
@@ -73,27 +73,8 @@ module _ (s : Structure) where
   one-touches zs ws h g = same-list (λ (z : Touch). z.first) (λ z. z.second) (λ z. z.at) zs ws h.in_order
       g.in_order (touches-within zs ws h g) (touches-within ws zs g h)
 
-compare : (i k : ℕ) → (i < k) ⊎ ((k < i) ⊎ (i ≡ k))
-compare zero zero = inr (inr refl)
-compare zero (suc k) = inl (omega arith)
-compare (suc i) zero = inr (inl (omega arith))
-compare (suc i) (suc k) = go (compare i k)
-  where
-    go : (i < k) ⊎ ((k < i) ⊎ (i ≡ k)) → (suc i < suc k) ⊎ ((suc k < suc i) ⊎ (suc i ≡ suc k))
-    go (inl l) = inl (omega arith)
-    go (inr (inl l)) = inr (inl (omega arith))
-    go (inr (inr e)) = inr (inr (ap suc e))
-
 compare-pairs : (i j k l : ℕ) → PairBefore i j k l ⊎ (PairBefore k l i j ⊎ ((i ≡ k) × (j ≡ l)))
-compare-pairs i j k l = go (compare i k) (compare j l)
-  where
-    go : (i < k) ⊎ ((k < i) ⊎ (i ≡ k)) → (j < l) ⊎ ((l < j) ⊎ (j ≡ l))
-        → PairBefore i j k l ⊎ (PairBefore k l i j ⊎ ((i ≡ k) × (j ≡ l)))
-    go (inl p) q = inl (inl p)
-    go (inr (inl p)) q = inr (inl (inl p))
-    go (inr (inr e)) (inl q) = inl (inr (e, q))
-    go (inr (inr e)) (inr (inl q)) = inr (inl (inr (sym e, q)))
-    go (inr (inr e)) (inr (inr f)) = inr (inr (e, f))
+compare-pairs i j k l = grind arith
 
 too-many : (n c : ℕ) (m : ℕ) → n ≡ m → m ≡ c → n ≤ 1024 → 1024 < c → ⊥
 too-many n c m e f l h = omega arith

@@ -1,14 +1,13 @@
 -- Where a pair touches.
-use Rattle.std.proofs.Common.{arith, ◌↔◌}
+use Rattle.std.proofs.Common.{◌↔◌}
 use lib.IntN.{ℤ, pos, ◌*ℤ◌, *ℤ_comm}
 use mathlib.Core.List.{List}
 use lib.ListN.{length}
 use mathlib.Core.Path.{◌≡◌, sym, ◌∙◌}
 use Prim.Native.Nat.{ℕ, ◌≤◌}
-use Rattle.std.proofs.lemmas.Int.{ints}
 use Rattle.stack_algebra.proofs.Order.{◌≺◌}
 use Rattle.stack_polygon.specs.declared.point.Point.{Point}
-use Rattle.stack_polygon.specs.Plane.{Triple, IsSamePoint, IsAt}
+use Rattle.stack_polygon.specs.Plane.{Triple, IsAt}
 use Rattle.stack_frame.specs.declared.frame.Frame.{Frame}
 use Rattle.stack_overlap.specs.Separation.{IsCommon}
 use Rattle.stack_overlap.specs.declared.types.Which.{Which}
@@ -22,18 +21,12 @@ use Rattle.stack_algebra.proofs.CrossProducts.{cancel}
 use Rattle.stack_overlap.proofs.Ends.{same-at}
 use Rattle.stack_contact.specs.Bearings.{Touches}
 use Rattle.stack_contact.proofs.OnCorners.{corner-at, at-corner, within-no-corner}
+use Rattle.stack_contact.proofs.SegmentBears.{same-corner}
 use Rattle.stack_contact.proofs.EarlierEdge.{before-apart, start-between, end-between}
 use Rattle.stack_contact.specs.PairContacts.{IsTouchAt, contacts_by}
 
 nothing-touches : (P Q : List Point) → ((X : Triple) → ¬ (IsCommon P Q X)) → (X : Triple) → ¬ (Touches P Q X)
 nothing-touches P Q n X r = n X r.lone.common
-
--- a triple that means the corner of another
-same-corner : (X : Triple) (c : Point) → IsSamePoint X (place c) → IsAt X c
-same-corner X c s = record { x = one X.x ∙ s.x; y = one X.y ∙ s.y }
-  where
-    one : (x : ℤ) → x ≡ x *ℤ pos 1
-    one x = omega (arith, ints)
 
 -- a point at two corners, of which one is before the other
 at-two : (X : Triple) (c d : Point) → IsBefore c d → IsAt X c → IsAt X d → ⊥

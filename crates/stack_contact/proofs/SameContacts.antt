@@ -1,18 +1,14 @@
 -- Structures of the same materials, joints and bodies have the same contacts, whatever their loads and their sway.
 use mathlib.Core.Path.{◌≡◌, refl, sym, subst}
-use mathlib.Core.Logic.{◌⊎◌, inl, inr}
 use Prim.Native.Nat.{ℕ}
-use Rattle.std.specs.Prelude.{ℤ, List, Result, Ok, Err}
+use Rattle.std.specs.Prelude.{ℤ, List}
 use Rattle.stack_model.specs.declared.types.Joint.{Joint}
 use Rattle.stack_model.specs.declared.types.Load.{Load}
 use Rattle.stack_model.specs.Structure.{NamedMaterial, NamedBody, Structure, structure_with}
 use Rattle.stack_contact.specs.declared.types.Bearing.{Bearing}
 use Rattle.stack_contact.specs.declared.types.Touch.{Touch}
-use Rattle.stack_contact.specs.declared.types.SurveyError.{SurveyError}
-use Rattle.stack_contact.specs.declared.types.SurveyError.TheVariants.{Memory}
 use Rattle.stack_contact.specs.ContactLists.{IsPair, AreBearings, AreTouches}
-use Rattle.stack_contact.specs.Surveyed.{Surveyed, surveyed, IsSurvey, Surveys}
-use Rattle.stack_contact.specs.OneSurvey.{StructuresHaveOneSurvey}
+use Rattle.stack_contact.specs.Surveyed.{Surveyed, surveyed, IsSurvey}
 
 module _ (ms : List NamedMaterial) (js : List Joint) (bs : List NamedBody) (v w : ℤ) (x y : ℤ × ℤ)
     (ls ns : List Load) where

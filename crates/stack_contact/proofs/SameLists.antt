@@ -13,20 +13,13 @@ use Rattle.stack_contact.specs.ContactLists.{PairBefore, ComesBefore}
 use Rattle.stack_contact.proofs.Appended.{Rises}
 
 pub never-both-pairs : (i j k l : ℕ) → PairBefore i j k l → PairBefore k l i j → ⊥
-never-both-pairs i j k l (inl p) (inl q) = omega arith
-never-both-pairs i j k l (inl p) (inr (e, q)) = omega arith
-never-both-pairs i j k l (inr (e, p)) (inl q) = omega arith
-never-both-pairs i j k l (inr (e, p)) (inr (f, q)) = omega arith
+never-both-pairs i j k l p q = grind arith
 
 not-itself : (i j k l : ℕ) → PairBefore i j k l → i ≡ k → j ≡ l → ⊥
-not-itself i j k l (inl p) e f = omega arith
-not-itself i j k l (inr (g, p)) e f = omega arith
+not-itself i j k l p e f = grind arith
 
 never-both-points : (a b c d : ℤ) → (a ≺ c) ⊎ ((a ≡ c) × (b ≺ d)) → (c ≺ a) ⊎ ((c ≡ a) × (d ≺ b)) → ⊥
-never-both-points a b c d (inl p) (inl q) = omega (arith, ints)
-never-both-points a b c d (inl p) (inr (e, q)) = omega (arith, ints)
-never-both-points a b c d (inr (e, p)) (inl q) = omega (arith, ints)
-never-both-points a b c d (inr (e, p)) (inr (f, q)) = omega (arith, ints)
+never-both-points a b c d p q = grind (arith, ints)
 
 never-both : (i j : ℕ) (a : Point) (k l : ℕ) (b : Point) → ComesBefore i j a k l b → ComesBefore k l b i j a → ⊥
 never-both i j a k l b (inl p) (inl q) = never-both-pairs i j k l p q

@@ -25,6 +25,13 @@ use Rattle.stack_contact.specs.Bearings.{Bears}
 use Rattle.stack_contact.proofs.AcrossLines.{IsTangent}
 use Rattle.stack_contact.proofs.AlongEdge.{sense, on, left-of-edge, right-of-edge, step-parallel, parallel-step}
 
+-- a triple that means the corner of another
+pub same-corner : (X : Triple) (c : Point) → IsSamePoint X (place c) → IsAt X c
+same-corner X c s = record { x = one X.x ∙ s.x; y = one X.y ∙ s.y }
+  where
+    one : (x : ℤ) → x ≡ x *ℤ pos 1
+    one x = omega (arith, ints)
+
 module _ (P Q : List Point) (convex_p : IsConvex P) (three_p : 3 ≤ length P) (convex_q : IsConvex Q)
     (three_q : 3 ≤ length Q) (i : ℕ) (h : IsOuter P i Q) where
   abbrev a : Point
@@ -69,13 +76,6 @@ module _ (P Q : List Point) (convex_p : IsConvex P) (three_p : 3 ≤ length P) (
 
     place-at : (c : Point) → IsAt (place c) c
     place-at c = record { x = one c.x; y = one c.y }
-      where
-        one : (x : ℤ) → x ≡ x *ℤ pos 1
-        one x = omega (arith, ints)
-
-    -- a triple that means the corner of another
-    same-corner : (X : Triple) (c : Point) → IsSamePoint X (place c) → IsAt X c
-    same-corner X c s = record { x = one X.x ∙ s.x; y = one X.y ∙ s.y }
       where
         one : (x : ℤ) → x ≡ x *ℤ pos 1
         one x = omega (arith, ints)

@@ -1,6 +1,6 @@
 -- What the sweep has looked at grows body by body.
-use Rattle.std.proofs.Common.{◌≡◌, ℕ, zero, suc, ◌+◌, ◌<◌, ◌≤◌, ℤ, List, [], ◌∷◌, ◌++◌, length, Bool, true, false, ◌⊎◌}
-use Rattle.std.proofs.Common.{inl, inr, refl, sym, ap, ◌∙◌, subst, subst₂, arith, ◌&&◌}
+use Rattle.std.proofs.Common.{◌≡◌, ℕ, zero, suc, ◌+◌, ◌<◌, ◌≤◌, ℤ, List, [], ◌∷◌, ◌++◌, length, Bool, false, ◌⊎◌}
+use Rattle.std.proofs.Common.{inl, inr, sym, ap, ◌∙◌, subst, subst₂, arith, ◌&&◌}
 use Rattle.std.specs.List.{Contains}
 use Rattle.std.proofs.lemmas.List.Elements.{All-push, Contains-push, Contains-append_left}
 use native.Mathlib.Decide.{ℕ_discrete}
@@ -52,10 +52,7 @@ module _ (s : Structure) (one other : ℕ) (ps : List Pair) where
       listed i j e f = subst (Contains (ps ++ p ∷ [])) (λ n. record { first = e n; second = f n }) (Contains-push ps p)
 
       other_way : (a b : Bool) → (a && b) ≡ false → (b && a) ≡ false
-      other_way true true h = absurd (cc h)
-      other_way true false h = refl
-      other_way false true h = refl
-      other_way false false h = refl
+      other_way a b h = grind arith
 
       pair_is : (i j : ℕ) → i < j → j < length s.bodies → ((body_of s i).fixed && (body_of s j).fixed) ≡ false
           → p.first ≡ i → p.second ≡ j → IsPair s p.first p.second
@@ -152,14 +149,7 @@ module _ (s : Structure) (bs : List Placed) where
   }
     where
       compare : (a b : ℕ) → (a < b) ⊎ ((b < a) ⊎ (a ≡ b))
-      compare zero zero = inr (inr refl)
-      compare zero (suc b) = inl (omega arith)
-      compare (suc a) zero = inr (inl (omega arith))
-      compare (suc a) (suc b) = elim (compare a b) [
-        | inl l ↦ inl (omega arith)
-        | inr (inl l) ↦ inr (inl (omega arith))
-        | inr (inr e) ↦ inr (inr (ap suc e))
-      ]
+      compare a b = grind arith
 
       settled : (i j a b : ℕ) → a < length bs → placed_body bs a ≡ i → b < length bs → placed_body bs b ≡ j → i < j
           → (a < b) ⊎ ((b < a) ⊎ (a ≡ b)) → IsListed s ps i j

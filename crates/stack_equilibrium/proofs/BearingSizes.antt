@@ -15,9 +15,8 @@ use Rattle.stack_frame.specs.Cones.{IsCoefficient, coefficient, lesser_of, lowes
 use Rattle.stack_frame.proofs.LesserCones.{lesser-first, lesser-second, lowest-is}
 use Rattle.stack_model.specs.Structure.{joint_terms, AreTerms, Structure, body_of}
 use Rattle.stack_model.proofs.Joined.{terms_between, terms_limits}
-use Rattle.stack_overlap.specs.Forms.{LinearForm, value, at_corner}
-use Rattle.stack_overlap.proofs.ByForms.{IsConvex, IsInside, convex-form, inside-form}
-use Rattle.stack_overlap.proofs.Support.{support}
+use Rattle.stack_overlap.proofs.ByForms.{convex-form, inside-form}
+use Rattle.stack_overlap.proofs.Support.{below-inside}
 use Rattle.stack_model.specs.Sound.{IsSound}
 use Rattle.stack_contact.specs.declared.types.Bearing.{Bearing}
 use Rattle.stack_contact.specs.ContactLists.{IsBearing, corners_of, material_friction, joint_or_lesser}
@@ -79,19 +78,6 @@ inside_near P polygon c below = record {
     corner_high_y : (x y : ℤ) → IsNear y → (pos 0 *ℤ x +ℤ pos 1 *ℤ y +ℤ negsuc 999999) ≼ pos 0
     corner_high_y x y h = omega (arith, ints, h.high)
 
--- a form that is at most 0 at each corner is at most 0 at a point inside
-below_inside : (P : List Point) → IsConvex P → 3 ≤ length P → (X : Triple) → IsInside P X → (g : LinearForm) →
-    ((j : ℕ) → j < length P → at_corner g (corner_of P j) ≼ pos 0) → value g X ≼ pos 0
-below_inside P convex three X inside g h = support P convex three X inside
-    (record { l = pos 0; m = pos 0; n = pos 0 }) g (λ j l. nothing (corner_of P j).x (corner_of P j).y)
-    (λ j l e. h j l) (nothing_there X.x X.y X.w)
-  where
-    nothing : (x y : ℤ) → (pos 0 *ℤ x +ℤ pos 0 *ℤ y +ℤ pos 0) ≼ pos 0
-    nothing x y = omega (arith, ints)
-
-    nothing_there : (x y w : ℤ) → pos 0 ≼ (pos 0 *ℤ x +ℤ pos 0 *ℤ y +ℤ pos 0 *ℤ w)
-    nothing_there x y w = omega (arith, ints)
-
 -- the lesser of two coefficients is one
 lesser_limits : (a b : Coefficient) → IsCoefficient a → IsCoefficient b → IsCoefficient (lesser_of a b)
 lesser_limits a b ha hb = go (int_le (a.p *ℤ b.q) (b.p *ℤ a.q)) refl
@@ -135,7 +121,7 @@ module _ (s : Structure) (sound : IsSound s) where
       let P = corners_of s z.first in
       let one = (sound.bodies z.first (first_is_body z h)).polygon in
       let bears = h.bears (place_of z.at) (at_place z.at) in
-      inside_near P one z.at (λ l m n below. below_inside P (convex-form P one.convex) one.least (place_of z.at)
+      inside_near P one z.at (λ l m n below. below-inside P (convex-form P one.convex) one.least (place_of z.at)
       (inside-form P (place_of z.at) bears.is_end.is_in.first) (record { l = l; m = m; n = n }) below)
 
 pub survey_in_range : (s : Surveyed) → IsSound s.structure → IsSurvey s.structure s → (k : ℕ) →

@@ -2,6 +2,7 @@ pub mod InOrder
 pub mod PlainSums
 pub mod SceneSums
 pub mod Products
+pub mod TriangleSums
 pub mod WeightSizes
 pub mod Totals
 pub mod FreeNumbers

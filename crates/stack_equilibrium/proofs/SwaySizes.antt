@@ -5,7 +5,7 @@ use Rattle.std.proofs.Common.{nat_abs, List, [], ◌∷◌, length, get_or, arit
 use mir.Syntax.{w128}
 use Rattle.std.proofs.lemmas.Int.{ints, unsigned_abs-mul, to_z-of_z, fits_signed_mul}
 use Rattle.stack_algebra.proofs.Integers.{sums, expand}
-use Rattle.stack_algebra.proofs.Order.{◌≼◌, mul-bounds}
+use Rattle.stack_algebra.proofs.Order.{◌≼◌}
 use Rattle.stack_polygon.specs.declared.point.Point.{Point}
 use Rattle.stack_polygon.specs.Plane.{triangle_of}
 use Rattle.stack_polygon.specs.Corners.{origin}
@@ -14,6 +14,7 @@ use Rattle.stack_polygon.specs.Sizes.{IsWithin}
 use Rattle.stack_statics.specs.Loads.{moment_of_triangle, sum_of_triangles}
 use Rattle.stack_statics.specs.Weights.{IsUnitWeight}
 use Rattle.stack_statics.specs.Sway.{level_moment_of_triangle, sway_load}
+use Rattle.stack_equilibrium.proofs.TriangleSums.{summed, product_within}
 use Rattle.stack_equilibrium.specs.SwaySizes.{IsShareOfWeight, IsSwayLoad}
 
 -- a coordinate times a number
@@ -57,51 +58,9 @@ turned t x y z ht hx hy hz = go ((y -ℤ x) +ℤ (z -ℤ x))
   where
     go : (a : ℤ) → IsWithin 1 4000000 a → IsWithin 1 16000000000000000000 (t *ℤ a)
     go a ha =
-        let m = mul-bounds t a (pos 4000000000000) (pos 4000000) ht.high (omega (arith, ints, ht.low)) ha.high
-        (omega (arith, ints, ha.low)) in
-        let n = mul-bounds (neg_ℤ t) a (pos 4000000000000) (pos 4000000) (omega (arith, ints, ht.low))
-        (omega (arith, ints, ht.high)) ha.high (omega (arith, ints, ha.low)) in
-        record { low = omega (arith, sums, m); high = omega (arith, sums, simp expand at n) }
-
--- a bound of one triangle, for chains of any length
-record Bound (bound : ℕ) : Type 0 where
-  none : IsWithin 0 bound (pos 0)
-  lone : IsWithin 1 bound (pos 0)
-  more : (n : ℕ) (x s : ℤ) → IsWithin 1 bound x → IsWithin n bound s → IsWithin (suc n) bound (x +ℤ s)
-
-of_area : Bound 4000000000000
-of_area = record {
-  none = record { low = omega (arith, ints); high = omega (arith, ints) };
-  lone = record { low = omega (arith, ints); high = omega (arith, ints) };
-  more = λ n x s h k. record { low = omega (arith, ints); high = omega (arith, ints) };
-}
-
-of_moment : Bound 16000000000000000000
-of_moment = record {
-  none = record { low = omega (arith, ints); high = omega (arith, ints) };
-  lone = record { low = omega (arith, ints); high = omega (arith, ints) };
-  more = λ n x s h k. record { low = omega (arith, ints); high = omega (arith, ints) };
-}
-
--- a sum over a chain of corners in range
-summed : (f : Point → Point → Point → ℤ) (bound : ℕ) (o : Point) (rest : List Point) → Bound bound →
-    ((p q : Point) → IsInRange p → IsInRange q → IsWithin 1 bound (f o p q)) →
-    ((j : ℕ) → j < length rest → IsInRange (get_or rest j origin)) →
-    IsWithin (length rest) bound (sum_of_triangles f o rest)
-summed f bound o [] by each range = by.none
-summed f bound o (p ∷ []) by each range = by.lone
-summed f bound o (p ∷ q ∷ rest) by each range = by.more (suc (length rest)) (f o p q)
-    (sum_of_triangles f o (q ∷ rest)) (each p q (range 0 (omega arith)) (range 1 (omega arith)))
-    (summed f bound o (q ∷ rest) by each (λ j l. range (suc j) (omega arith)))
-
--- a product with a number of this size
-product_within : (w s B C : ℤ) → neg_ℤ C ≼ w → w ≼ C → neg_ℤ B ≼ s → s ≼ B →
-    (neg_ℤ (C *ℤ B) ≼ w *ℤ s) × (w *ℤ s ≼ C *ℤ B)
-product_within w s B C least most low high =
-    let m = mul-bounds w s C B most (omega (arith, sums, least)) high (omega (arith, sums, low)) in
-    let n = mul-bounds (neg_ℤ w) s C B (omega (arith, sums, least)) (omega (arith, sums, most)) high
-    (omega (arith, sums, low)) in
-    (simp expand (omega (arith, sums, simp expand at m)), simp expand (omega (arith, sums, simp expand at n)))
+        let p = product_within t a (pos 4000000) (pos 4000000000000) (omega (arith, ints, ht.low)) ht.high
+        (omega (arith, ints, ha.low)) ha.high in
+        record { low = omega (arith, ints); high = omega (arith, ints) }
 
 -- a number of so many triangles, times a unit weight and a part of the sway
 module _ (w x : ℤ) (hw : IsUnitWeight w) (hx : IsShareOfWeight x) where
@@ -137,10 +96,10 @@ sway_within s w (o ∷ rest) hx hy hw polygon = record {
   fy = force_within w s.1 hw hy (sum_of_triangles triangle_of o rest) (length rest) few area;
   m = less _ _
       (moment_within w s.1 hw hy (sum_of_triangles moment_of_triangle o rest) (length rest) few
-      (summed moment_of_triangle 16000000000000000000 o rest of_moment
+      (summed moment_of_triangle 16000000000000000000 o rest
       (λ p q hp hq. turned (triangle_of o p q) o.x p.x q.x (doubled o p q first hp hq) first.x hp.x hq.x) later))
       (moment_within w s.0 hw hx (sum_of_triangles level_moment_of_triangle o rest) (length rest) few
-      (summed level_moment_of_triangle 16000000000000000000 o rest of_moment
+      (summed level_moment_of_triangle 16000000000000000000 o rest
       (λ p q hp hq. turned (triangle_of o p q) o.y p.y q.y (doubled o p q first hp hq) first.y hp.y hq.y) later));
 }
   where
@@ -154,7 +113,7 @@ sway_within s w (o ∷ rest) hx hy hw polygon = record {
     few = omega (arith, polygon.most)
 
     area : IsWithin (length rest) 4000000000000 (sum_of_triangles triangle_of o rest)
-    area = summed triangle_of 4000000000000 o rest of_area (λ p q. doubled o p q first) later
+    area = summed triangle_of 4000000000000 o rest (λ p q. doubled o p q first) later
 
     less : (a b : ℤ) → IsWithin 31 16000000000000000000000000000 a → IsWithin 31 16000000000000000000000000000 b →
         IsWithin 31 32000000000000000000000000000 (a -ℤ b)

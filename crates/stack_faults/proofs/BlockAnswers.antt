@@ -1,34 +1,32 @@
 -- What the run over the blocks answers.
 use Rattle.std.proofs.Common.{arith, below_more, ◌≡◌, refl, sym, ap, ◌∙◌, subst, ℕ, ◌+◌, ◌<◌, Bool, true, false, not}
-use Rattle.std.proofs.Common.{◌&&◌, List, [], ◌∷◌, ◌++◌, map, length, take, Option, Some, None, Result, Ok, Err}
-use Rattle.std.specs.Prelude.{is_none, nat_lt, ◌==◌, if◌then◌else◌, ⊤, count_by}
+use Rattle.std.proofs.Common.{◌&&◌, List, [], ◌∷◌, ◌++◌, map, length, take, Option, Some, None, Ok, Err}
+use Rattle.std.specs.Prelude.{nat_lt, ◌==◌, if◌then◌else◌, ⊤, count_by}
 use Rattle.std.proofs.lemmas.Bool.{ltb-true}
-use Rattle.std.proofs.lemmas.List.{take_all, get_or_append_left, get_or_push, length_push, get_or-map, length-map}
-use Rattle.stack_algebra.specs.Steps.{◌>>=◌, steps}
+use Rattle.std.proofs.lemmas.List.{take_all, get_or_append_left, get_or_push, length_push}
+use Rattle.stack_algebra.specs.Steps.{steps}
 use Rattle.stack_algebra.specs.Search.{or_else, only_if}
 use Rattle.stack_whole.specs.Limits.{most_free}
 use Rattle.stack_polygon.specs.declared.point.Point.{Point}
 use Rattle.stack_polygon.specs.Corners.{reversed}
 use Rattle.stack_polygon.specs.Outlines.{is_clear, is_convex, first_failing}
-use Rattle.stack_model.specs.declared.places.Spot.{Spot}
-use Rattle.stack_model.specs.declared.places.Key.{Key}
 use Rattle.stack_model.specs.declared.places.What.TheVariants as whats
 use Rattle.stack_model.specs.declared.errors.ModelError.{ModelError}
-use Rattle.stack_model.specs.declared.errors.ModelError.TheVariants.{Range, NotConvex, TooMany}
+use Rattle.stack_model.specs.declared.errors.ModelError.TheVariants.{NotConvex, TooMany}
 use Rattle.stack_model.specs.Structure.{NamedMaterial, NamedBody, body_at}
 use Rattle.stack_model.specs.Parts.{MaterialPart, BlockPart, PartLists}
 use Rattle.stack_model.specs.Limits.{most_fixed, is_name, corner_list_of}
 use Rattle.stack_model.specs.Convex.{at_block, convex}
-use Rattle.stack_model.specs.Content.{unless, ranged, found, is_new, number_of, has_room, material_names, body_names}
+use Rattle.stack_model.specs.Content.{unless, is_new, number_of, has_room, material_names, body_names}
 use Rattle.stack_model.specs.Content.{with_body, add_block}
 use Rattle.stack_model.specs.Sound.{fixed_among, free_among}
-use Rattle.stack_model.proofs.Limited.{number_below, named}
 use Rattle.stack_model.proofs.Apart.{AreApart, HasRoom, no_bodies, one_more_body}
 use Rattle.stack_faults.specs.FaultLists.{earliest}
-use Rattle.stack_faults.specs.ContentFaults.{block_written, lists_material, lists_block, fixed_written, free_written}
+use Rattle.stack_faults.specs.ContentFaults.{block_written, fixed_written, free_written}
 use Rattle.stack_faults.specs.ContentFaults.{is_crooked, unclear_edge, causes_of_block, faults_by}
 use Rattle.stack_faults.proofs.Firsts.{Answers, first_cause, answers_weaker}
-use Rattle.stack_faults.proofs.Names.{at_limit, one_more, count-map, seen, lacking}
+use Rattle.stack_faults.proofs.StepAnswers.{Meets, unless_step, ranged_step, found_step, try_step, last_step}
+use Rattle.stack_faults.proofs.Names.{at_limit, one_more, count-map, seen, lacking, found_named}
 use Rattle.stack_faults.proofs.Walks.{listed}
 use Rattle.stack_faults.proofs.MaterialAnswers.{AreMaterialsOf, names_of}
 use Rattle.stack_faults.proofs.Written.{outlined}
@@ -79,46 +77,6 @@ room_told false bs h = go (nat_lt (free_among bs) most_free) refl
     )
     go false e t = ap (λ b. or_else (only_if b (TooMany whats.Free)) None) t
 
--- the steps of a block whose name and corners are within their limits; t is true where c isn't, u where none is
--- found
-body_told : {A : Type 0} (Q : A → Type 0) (R : Type 0) (c t u z : Bool) (e g x : ModelError)
-    (rows : List (Bool × ModelError)) (at : Option ℕ) (outline : Result (List Point) ModelError)
-    (room : Result ⊤ ModelError) (to : ℕ → List Point → A)
-    → t ≡ not c → u ≡ is_none at → Answers (λ _. ⊤) outline (only_if z x)
-    → Answers (λ _. R) room (first_cause rows)
-    → ((n : ℕ) (qs : List Point) → at ≡ Some n → outline ≡ Ok qs → c ≡ true → R → Q (to n qs))
-    → Answers Q (unless c e >>= λ _. found at g >>= λ n. outline >>= λ qs. room >>= λ _. Ok (to n qs))
-    (first_cause ((t, e) ∷ (u, g) ∷ (z, x) ∷ rows))
-body_told Q R false t u z e g x rows at outline room to ht hu ho hr h =
-    ap (λ t. first_cause ((t, e) ∷ (u, g) ∷ (z, x) ∷ rows)) ht
-body_told Q R true t u z e g x rows None outline room to ht hu ho hr h =
-    λ i. first_cause ((ht i, e) ∷ (hu i, g) ∷ (z, x) ∷ rows)
-body_told Q R true t u z e g x rows (Some n) (Err y) room to ht hu ho hr h =
-    λ i. or_else (only_if (ht i) e) (or_else (only_if (hu i) g) (or_else (ho i) (first_cause rows)))
-body_told Q R true t u z e g x rows (Some n) (Ok qs) (Err y) to ht hu ho hr h =
-    λ i. or_else (only_if (ht i) e) (or_else (only_if (hu i) g) (or_else (ho.0 i) (hr i)))
-body_told Q R true t u z e g x rows (Some n) (Ok qs) (Ok y) to ht hu ho hr h = (
-  λ i. or_else (only_if (ht i) e) (or_else (only_if (hu i) g) (or_else (ho.0 i) (hr.0 i))),
-  h n qs refl refl refl hr.1,
-)
-
--- the steps of any block
-steps_told : {A : Type 0} (Q : A → Type 0) (R : Type 0) (a c t u z : Bool) (d e g x : ModelError) (s : Spot)
-    (k : Key) (rows : List (Bool × ModelError)) (o : Option (List Point)) (at : Option ℕ)
-    (outline : List Point → Result (List Point) ModelError) (room : Result ⊤ ModelError)
-    (to : ℕ → List Point → A) → t ≡ not c → u ≡ is_none at
-    → ((ps : List Point) → o ≡ Some ps → Answers (λ _. ⊤) (outline ps) (only_if z x))
-    → Answers (λ _. R) room (first_cause rows)
-    → ((ps : List Point) (n : ℕ) (qs : List Point) → o ≡ Some ps → at ≡ Some n → outline ps ≡ Ok qs → c ≡ true
-    → R → Q (to n qs))
-    → Answers Q (unless a d >>= λ _. ranged s k o >>= λ ps. unless c e >>= λ _. found at g >>= λ n. outline ps
-    >>= λ qs. room >>= λ _. Ok (to n qs))
-    (first_cause ((not a, d) ∷ (is_none o, Range s k) ∷ (t, e) ∷ (u, g) ∷ (z, x) ∷ rows))
-steps_told Q R false c t u z d e g x s k rows o at outline room to ht hu ho hr h = refl
-steps_told Q R true c t u z d e g x s k rows None at outline room to ht hu ho hr h = refl
-steps_told Q R true c t u z d e g x s k rows (Some ps) at outline room to ht hu ho hr h =
-    body_told Q R c t u z e g x rows at (outline ps) room to ht hu (ho ps refl) hr (λ n qs. h ps n qs refl)
-
 -- what was collected has the names and the flags of these blocks, and keeps apart
 pub record AreBodiesOf (written : List BlockPart) (bs : List NamedBody) : Type 0 where
   pub names : body_names bs ≡ map (λ (b : BlockPart). b.name) written
@@ -161,13 +119,11 @@ new_body : (ms : List NamedMaterial) (b : BlockPart) (i : ℕ) (ps : List Point)
     → corner_list_of b.corners ≡ Some ps → number_of b.material (material_names ms) ≡ Some n → convex i ps ≡ Ok qs
     → IsBodyOf ms b (record { name = b.name; material = n; fixed = b.fixed; corners = qs })
 new_body ms b i ps n qs h e k =
-    let below : n < length ms = subst (λ m. n < m) (length-map ms (λ (m : NamedMaterial). m.name))
-    (number_below b.material (material_names ms) n e) in
+    let at = found_named (λ (m : NamedMaterial). m.name) b.material ms n _ e in
     record {
       name = refl;
-      material = below;
-      material_name = sym (get_or-map (λ (m : NamedMaterial). m.name) ms n _ [] below)
-          ∙ sym (named b.material (material_names ms) n e);
+      material = at.0;
+      material_name = at.1;
       fixed = refl;
       points = ps;
       written = h;
@@ -193,31 +149,20 @@ one_collected parts ms i bs c l h last new room = record {
 
 one_told : (parts : PartLists) (ms : List NamedMaterial) → AreMaterialsOf parts.materials ms → (i : ℕ)
     (bs : List NamedBody) → i < length parts.blocks → Collected parts ms (take i parts.blocks) i bs
-    → Answers (Collected parts ms (take (i + 1) parts.blocks) (i + 1)) (add_block ms i bs (block_written parts i))
-    (first_cause (causes_of_block parts i))
+    → Meets (Collected parts ms (take (i + 1) parts.blocks) (i + 1)) (add_block ms i bs (block_written parts i))
+    (causes_of_block parts i)
 unfolding add_block with_body
-one_told parts ms materials i bs l h =
-    let b = block_written parts i in
-    let made = λ (n : ℕ) (qs : List Point). let r : NamedBody = record {
-      name = b.name;
-      material = n;
-      fixed = b.fixed;
-      corners = qs;
-    } in r in
-    steps_told (Collected parts ms (take (i + 1) parts.blocks) (i + 1)) (HasRoom b.fixed bs) (is_name b.name)
-    (is_new b.name (body_names bs)) (lists_block b.name (take i parts.blocks))
-    (not (lists_material b.material parts.materials)) (is_crooked (corner_list_of b.corners)) _ _ _
-    (NotConvex i (unclear_edge (corner_list_of b.corners))) _ _
-    (room_causes b.fixed (fixed_written (take i parts.blocks)) (free_written (take i parts.blocks)))
-    (corner_list_of b.corners) (number_of b.material (material_names ms)) (convex i) (has_room b.fixed bs)
-    (λ n qs. bs ++ made n qs ∷ [])
+one_told parts ms materials i bs l h = let b = block_written parts i in
+    unless_step (is_name b.name) refl
+    (λ _. ranged_step (corner_list_of b.corners)
+    (λ ps corners. unless_step (is_new b.name (body_names bs))
     (seen (λ (b : BlockPart). b.name) b.name (take i parts.blocks) (body_names bs) h.bodies.names)
+    (λ new. found_step (number_of b.material (material_names ms))
     (lacking (λ (m : MaterialPart). m.name) b.material parts.materials (material_names ms)
     (names_of parts.materials ms materials))
-    (λ ps e. outline_told i ps (corner_list_of b.corners) e)
-    (room_written b.fixed (take i parts.blocks) bs h.bodies)
-    (λ ps n qs corners number outline new room. one_collected parts ms i bs (made n qs) l h
-    (new_body ms b i ps n qs corners number outline) new room)
+    (λ n number. try_step (convex i ps) (outline_told i ps (corner_list_of b.corners) corners)
+    (λ qs outline. last_step (has_room b.fixed bs) _ (room_written b.fixed (take i parts.blocks) bs h.bodies)
+    (one_collected parts ms i bs _ l h (new_body ms b i ps n qs corners number outline) new))))))
 
 -- all blocks have their bodies
 abbrev pub AreAll : PartLists → List NamedMaterial → List NamedBody → Type 0
@@ -232,7 +177,7 @@ blocks_told parts ms materials =
     (λ bs h. subst (λ written. Collected parts ms written (length parts.blocks) bs)
     (take_all (length parts.blocks) parts.blocks (omega arith)) h)
     (listed (add_block ms) parts.blocks _ (λ i. Collected parts ms (take i parts.blocks) i) (causes_of_block parts)
-    (one_told parts ms materials) [] (record {
+    (λ i bs l h. (one_told parts ms materials i bs l h).answers) [] (record {
       bodies = record { names = refl; flags = refl; apart = no_bodies };
       count = refl;
       each = λ k l. absurd (omega (arith, l));

@@ -1,6 +1,8 @@
 -- The earliest fault of lists that are joined, and what a run answers against a fault.
-use Rattle.std.proofs.Common.{◌≡◌, ◌↔◌, refl, sym, ap, ◌∙◌, ℕ, zero, suc, Bool, true, false, List, [], ◌∷◌, ◌++◌}
+use Rattle.std.proofs.Common.{◌≡◌, ◌↔◌, refl, sym, ap, subst, ◌∙◌, ℕ, zero, suc, Bool, true, false, List, [], ◌∷◌, ◌++◌}
 use Rattle.std.proofs.Common.{Option, Some, None, Result, Ok, Err}
+use Rattle.std.proofs.Common.{append_assoc}
+use Rattle.std.proofs.lemmas.List.{append-nil}
 use Rattle.std.specs.Prelude.{if◌then◌else◌, IsOk, ⊤}
 use Rattle.stack_algebra.specs.Steps.{◌>>=◌}
 use Rattle.stack_algebra.specs.Search.{or_else, only_if, first}
@@ -15,27 +17,6 @@ pub earliest-below : {E : Type 0} (n : ℕ) (f : ℕ → List E) → earliest (f
 earliest-below zero f = refl
 earliest-below (suc n) f = earliest-append (faults_below n f) (f n)
     ∙ ap (λ o. or_else o (earliest (f n))) (earliest-below n f)
-
--- the earliest of three lists, and of four
-pub earliest_three : {E : Type 0} (a b c : List E) → earliest (a ++ b ++ c)
-    ≡ or_else (or_else (earliest a) (earliest b)) (earliest c)
-earliest_three a b c = earliest-append (a ++ b) c ∙ ap (λ o. or_else o (earliest c)) (earliest-append a b)
-
-pub earliest_four : {E : Type 0} (a b c d : List E) → earliest (a ++ b ++ c ++ d)
-    ≡ or_else (or_else (or_else (earliest a) (earliest b)) (earliest c)) (earliest d)
-earliest_four a b c d = earliest-append (a ++ b ++ c) d ∙ ap (λ o. or_else o (earliest d)) (earliest_three a b c)
-
-pub earliest_five : {E : Type 0} (a b c d e : List E) → earliest (a ++ b ++ c ++ d ++ e)
-    ≡ or_else (or_else (or_else (or_else (earliest a) (earliest b)) (earliest c)) (earliest d)) (earliest e)
-earliest_five a b c d e = earliest-append (a ++ b ++ c ++ d) e
-    ∙ ap (λ o. or_else o (earliest e)) (earliest_four a b c d)
-
-pub earliest_seven : {E : Type 0} (a b c d e f g : List E) → earliest (a ++ b ++ c ++ d ++ e ++ f ++ g)
-    ≡ or_else (or_else (or_else (or_else (or_else (or_else (earliest a) (earliest b)) (earliest c)) (earliest d))
-    (earliest e)) (earliest f)) (earliest g)
-earliest_seven a b c d e f g = earliest-append (a ++ b ++ c ++ d ++ e ++ f) g
-    ∙ ap (λ o. or_else o (earliest g)) (earliest-append (a ++ b ++ c ++ d ++ e) f
-    ∙ ap (λ o. or_else o (earliest f)) (earliest_five a b c d e))
 
 -- the first of some causes that holds
 abbrev pub first_cause : {E : Type 0} → List (Bool × E) → Option E
@@ -66,20 +47,72 @@ pub answers_weaker : {A E : Type 0} (P Q : A → Type 0) (r : Result A E) (o : O
 answers_weaker P Q (Ok x) o f h = (h.0, f x h.1)
 answers_weaker P Q (Err e) o f h = h
 
--- a step and what follows it
-pub bind_told : {X Y E : Type 0} (P : X → Type 0) (Q : Y → Type 0) (r : Result X E) (k : X → Result Y E)
-    (a b : Option E) → Answers P r a → ((x : X) → P x → Answers Q (k x) b) → Answers Q (r >>= k) (or_else a b)
-bind_told P Q (Err e) k a b h f = ap (λ o. or_else o b) h
-bind_told {X} {Y} {E} P Q (Ok x) k a b h f = go (k x) (f x h.1)
-  where
-    go : (s : Result Y E) → Answers Q s b → Answers Q s (or_else a b)
-    go (Ok y) g = (λ i. or_else (h.0 i) (g.0 i), g.1)
-    go (Err e) g = λ i. or_else (h.0 i) (g i)
-
 -- what is answered, as a fault alone
 pub answers_of : {A E : Type 0} (r : Result A E) (o : Option E) → answered_fault r ≡ o → Answers (λ _. ⊤) r o
 answers_of (Ok x) o h = (sym h, tt)
 answers_of (Err e) o h = sym h
+
+-- a step answers the first faults, and what follows it the others
+pub then_told : {X Y E : Type 0} (P : X → Type 0) (Q : Y → Type 0) (r : Result X E) (k : X → Result Y E)
+    (xs ys : List E) → Answers P r (earliest xs) → ((x : X) → P x → Answers Q (k x) (earliest ys))
+    → Answers Q (r >>= k) (earliest (xs ++ ys))
+then_told P Q (Err e) k xs ys h f = earliest-append xs ys ∙ ap (λ o. or_else o (earliest ys)) h
+then_told P Q (Ok x) k xs ys h f = subst (Answers Q (k x))
+    (sym (earliest-append xs ys ∙ ap (λ o. or_else o (earliest ys)) h.0)) (f x h.1)
+
+-- a last step, and what is made of its value
+pub last_told : {X Y E : Type 0} (P : X → Type 0) (Q : Y → Type 0) (r : Result X E) (to : X → Y) (o : Option E)
+    → Answers P r o → ((x : X) → P x → Q (to x)) → Answers Q (r >>= λ x. Ok (to x)) o
+last_told P Q (Err e) to o h f = h
+last_told P Q (Ok x) to o h f = (h.0, f x h.1)
+
+-- a run answers the earliest of these faults, or a value where there are none
+pub record Told {A E : Type 0} (r : Result A E) (xs : List E) : Type 0 where
+  pub told : answered_fault r ≡ earliest xs
+
+-- some lists, one after the other, joined from the right and from the left
+abbrev joined : {E : Type 0} → List (List E) → List E
+joined [] = []
+joined (xs ∷ xss) = xs ++ joined xss
+
+abbrev pub joined_to : {E : Type 0} → List E → List (List E) → List E
+joined_to xs [] = xs
+joined_to xs (ys ∷ yss) = joined_to (xs ++ ys) yss
+
+same_joined : {E : Type 0} (xs : List E) (yss : List (List E)) → xs ++ joined yss ≡ joined_to xs yss
+same_joined xs [] = append-nil xs
+same_joined xs (ys ∷ yss) = sym (append_assoc xs ys (joined yss)) ∙ same_joined (xs ++ ys) yss
+
+-- a run of steps answers the earliest of the faults of each of them
+pub record Steps {A E : Type 0} (r : Result A E) (xss : List (List E)) : Type 0 where
+  pub told : answered_fault r ≡ earliest (joined xss)
+
+pub all_told : {A E : Type 0} {r : Result A E} {xs : List E} {xss : List (List E)} → Steps r (xs ∷ xss)
+    → Told r (joined_to xs xss)
+all_told {A} {E} {r} {xs} {xss} h = record { told = h.told ∙ ap earliest (same_joined xs xss) }
+
+-- a step and what follows it, which may need what a value of the step has
+pub record Finds {X E : Type 0} (P : X → Type 0) (r : Result X E) (xs : List E) : Type 0 where
+  pub found : Answers P r (earliest xs)
+
+pub step_found : {X Y E : Type 0} {P : X → Type 0} {r : Result X E} {k : X → Result Y E} {xs : List E}
+    {xss : List (List E)} → Finds P r xs → ((x : X) → P x → Steps (k x) xss) → Steps (r >>= k) (xs ∷ xss)
+step_found {X} {Y} {E} {P} {r} {k} {xs} {xss} h f = record {
+  told = answers_fault (λ _. ⊤) (r >>= k) (earliest (joined (xs ∷ xss)))
+      (then_told P (λ _. ⊤) r k xs (joined xss) h.found
+      (λ x p. answers_of (k x) (earliest (joined xss)) (f x p).told));
+}
+
+pub step : {X Y E : Type 0} {r : Result X E} {k : X → Result Y E} {xs : List E} {xss : List (List E)} → Told r xs
+    → ((x : X) → Steps (k x) xss) → Steps (r >>= k) (xs ∷ xss)
+step {X} {Y} {E} {r} {k} {xs} h f =
+    let found : Finds (λ _. ⊤) r xs = record { found = answers_of r (earliest xs) h.told } in
+    step_found found (λ x _. f x)
+
+-- the last step, and what is made of its value
+pub last : {X Y E : Type 0} {r : Result X E} {xs : List E} (to : X → Y) → Told r xs
+    → Steps (r >>= λ x. Ok (to x)) (xs ∷ [])
+last to h = step h (λ x. record { told = refl })
 
 -- a value comes exactly where there is no fault
 pub faultless : {A E : Type 0} (r : Result A E) (xs : List E) → answered_fault r ≡ earliest xs

@@ -3,7 +3,8 @@ pub mod Firsts
 pub mod Walks
 pub mod Names
 pub mod Written
-pub mod MaterialAnswers
+pub mod StepAnswers
+mod MaterialAnswers
 pub mod BlockAnswers
 pub mod LoadAnswers
 pub mod JointAnswers

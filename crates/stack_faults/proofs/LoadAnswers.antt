@@ -1,51 +1,25 @@
 -- What the run over the loads answers.
-use Rattle.std.proofs.Common.{arith, take, ◌+◌, ◌≡◌, refl, sym, ap, ◌∙◌, subst, ℕ, ◌<◌, ℤ, Bool, true, false, not, List}
-use Rattle.std.proofs.Common.{[], ◌∷◌, ◌++◌, map, length, get_or, Option, Some, None, Ok, is_none, find}
+use Rattle.std.proofs.Common.{arith, take, ◌+◌, ◌≡◌, refl, sym, ap, ◌∙◌, subst, ℕ, ◌<◌, true, List}
+use Rattle.std.proofs.Common.{[], map, length, get_or, Some, find}
 use Rattle.std.specs.Str.{bytes_eq}
 use Rattle.std.proofs.lemmas.List.{get_or-map, length-map, take_all}
 use Rattle.std.proofs.lemmas.List.Quantifiers.{position-Some}
-use Rattle.stack_algebra.specs.Steps.{◌>>=◌, steps}
-use Rattle.stack_polygon.specs.declared.point.Point.{Point}
+use Rattle.stack_algebra.specs.Steps.{steps}
 use Rattle.stack_model.specs.declared.types.Load.{Load}
-use Rattle.stack_model.specs.declared.places.Spot.{Spot}
-use Rattle.stack_model.specs.declared.places.Key.{Key}
-use Rattle.stack_model.specs.declared.errors.ModelError.{ModelError}
-use Rattle.stack_model.specs.declared.errors.ModelError.TheVariants.{Range}
 use Rattle.stack_model.specs.Structure.{NamedBody, body_at}
 use Rattle.stack_model.specs.Parts.{BlockPart, LoadPart, PartLists}
 use Rattle.stack_model.specs.Relisted.{load_listed}
-use Rattle.stack_model.proofs.Limited.{number_below, named}
 use Rattle.stack_model.specs.Limits.{live_of, point_of, force_of}
-use Rattle.stack_model.specs.Content.{unless, ranged, found, is_free, number_of, body_names, add_load}
+use Rattle.stack_model.specs.Content.{is_free, number_of, body_names, add_load}
 use Rattle.stack_faults.specs.FaultLists.{earliest}
-use Rattle.stack_faults.specs.ContentFaults.{load_written, lists_block, is_fixed_block, names_fixed, causes_of_load}
+use Rattle.stack_faults.specs.ContentFaults.{load_written, is_fixed_block, names_fixed, causes_of_load}
 use Rattle.stack_faults.specs.ContentFaults.{faults_by}
-use Rattle.stack_faults.proofs.Firsts.{Answers, first_cause, answers_weaker}
-use Rattle.stack_faults.proofs.Names.{not_not, lacking, find_first}
+use Rattle.stack_faults.proofs.Firsts.{Answers, answers_weaker}
+use Rattle.stack_faults.proofs.StepAnswers.{Meets, ends, unless_step, ranged_step, found_step}
+use Rattle.stack_faults.proofs.Names.{not_not, lacking, find_first, found_named}
 use Rattle.stack_faults.proofs.Walks.{listed}
 use Rattle.stack_faults.proofs.Written.{one_more_same, point_back, kind_back, force_back}
 use Rattle.stack_faults.proofs.BlockAnswers.{AreBodiesOf}
-
--- the steps of a load, over their tests; u is true where no body is found, v where the one that is isn't free
-steps_told : {A : Type 0} (Q : A → Type 0) (s : Spot) (j k l : Key) (d e : ModelError) (u v : Bool)
-    (o : Option Bool) (p : Option Point) (q : Option (ℤ × ℤ)) (at : Option ℕ) (free : ℕ → Bool)
-    (to : Bool → Point → ℤ × ℤ → ℕ → A) → u ≡ is_none at → ((n : ℕ) → at ≡ Some n → v ≡ not (free n))
-    → ((live : Bool) (c : Point) (f : ℤ × ℤ) (n : ℕ) → o ≡ Some live → p ≡ Some c → q ≡ Some f → at ≡ Some n
-    → Q (to live c f n))
-    → Answers Q (ranged s j o >>= λ live. ranged s k p >>= λ c. ranged s l q >>= λ f. found at d
-    >>= λ n. unless (free n) e >>= λ _. Ok (to live c f n))
-    (first_cause ((is_none o, Range s j) ∷ (is_none p, Range s k) ∷ (is_none q, Range s l) ∷ (u, d) ∷ (v, e) ∷ []))
-steps_told Q s j k l d e u v (Some live) (Some c) (Some f) (Some n) free to hu hv hq = last (free n) (hv n refl)
-  where
-    last : (b : Bool) → v ≡ not b → Answers Q (unless b e >>= λ _. Ok (to live c f n))
-        (first_cause ((u, d) ∷ (v, e) ∷ []))
-    last true h = (λ i. first_cause ((hu i, d) ∷ (h i, e) ∷ []), hq live c f n refl refl refl refl)
-    last false h = λ i. first_cause ((hu i, d) ∷ (h i, e) ∷ [])
-steps_told Q s j k l d e u v (Some live) (Some c) (Some f) None free to hu hv hq =
-    λ i. first_cause ((hu i, d) ∷ (v, e) ∷ [])
-steps_told Q s j k l d e u v (Some live) (Some c) None at free to hu hv hq = refl
-steps_told Q s j k l d e u v (Some live) None q at free to hu hv hq = refl
-steps_told Q s j k l d e u v None p q at free to hu hv hq = refl
 
 -- the first block of a name is fixed where the body of its number is
 fixed_found : (written : List BlockPart) (bs : List NamedBody) → AreBodiesOf written bs → (name : List ℕ) (n : ℕ)
@@ -73,44 +47,28 @@ fixed_found written bs h name n e =
 abbrev pub AreLoadsOf : List NamedBody → List LoadPart → List Load → Type 0
 AreLoadsOf bs written ls = map (load_listed bs) ls ≡ written
 
--- the body that was found has the name
-found_name : (name : List ℕ) (bs : List NamedBody) (n : ℕ) → number_of name (body_names bs) ≡ Some n
-    → (body_at bs n).name ≡ name
-found_name name bs n e =
-    let below : n < length bs = subst (λ m. n < m) (length-map bs (λ (b : NamedBody). b.name))
-    (number_below name (body_names bs) n e) in
-    sym (get_or-map (λ (b : NamedBody). b.name) bs n _ [] below) ∙ sym (named name (body_names bs) n e)
-
 one_told : (parts : PartLists) (bs : List NamedBody) → AreBodiesOf parts.blocks bs → (i : ℕ) (ls : List Load)
     → i < length parts.loads → AreLoadsOf bs (take i parts.loads) ls
-    → Answers (AreLoadsOf bs (take (i + 1) parts.loads)) (add_load bs i ls (load_written parts i))
-    (first_cause (causes_of_load parts i))
+    → Meets (AreLoadsOf bs (take (i + 1) parts.loads)) (add_load bs i ls (load_written parts i))
+    (causes_of_load parts i)
 unfolding add_load
 one_told parts bs h i ls lt so_far =
     let l = load_written parts i in
-    let made = λ (live : Bool) (c : Point) (f : ℤ × ℤ) (n : ℕ). let r : Load = record {
-      body = n;
-      live = live;
-      at = c;
-      fx = f.0;
-      fy = f.1;
-    } in r in
-    let same : (live : Bool) (c : Point) (f : ℤ × ℤ) (n : ℕ) → live_of l.kind ≡ Some live → point_of l.at ≡ Some c
-    → force_of l.force ≡ Some f → number_of l.block (body_names bs) ≡ Some n
-    → load_listed bs (made live c f n) ≡ l =
-    λ live c f n a p q e z. record {
-      block = found_name l.block bs n e z;
+    let has_name : (n : ℕ) → number_of l.block (body_names bs) ≡ Some n → (body_at bs n).name ≡ l.block =
+    λ n e. (found_named (λ (b : NamedBody). b.name) l.block bs n _ e).1 in
+    ranged_step (live_of l.kind)
+    (λ live a. ranged_step (point_of l.at)
+    (λ c p. ranged_step (force_of l.force)
+    (λ f q. found_step (number_of l.block (body_names bs))
+    (lacking (λ (b : BlockPart). b.name) l.block parts.blocks (body_names bs) h.names)
+    (λ n e. unless_step (is_free n bs)
+    (fixed_found parts.blocks bs h l.block n e ∙ sym (not_not (body_at bs n).fixed))
+    (λ _. ends (one_more_same (load_listed bs) ls _ parts.loads i _ lt (λ z. record {
+      block = has_name n e z;
       kind = kind_back l.kind live a z;
       at = point_back l.at c p z;
       force = force_back l.force f q z;
-    } in
-    steps_told (AreLoadsOf bs (take (i + 1) parts.loads)) _ _ _ _ _ _ (not (lists_block l.block parts.blocks))
-    (names_fixed l.block parts.blocks) (live_of l.kind) (point_of l.at) (force_of l.force)
-    (number_of l.block (body_names bs)) (λ n. is_free n bs) (λ live c f n. ls ++ made live c f n ∷ [])
-    (lacking (λ (b : BlockPart). b.name) l.block parts.blocks (body_names bs) h.names)
-    (λ n e. fixed_found parts.blocks bs h l.block n e ∙ sym (not_not (body_at bs n).fixed))
-    (λ live c f n a p q e. one_more_same (load_listed bs) ls (made live c f n) parts.loads i _ lt
-    (same live c f n a p q e) so_far)
+    }) so_far))))))
 
 pub loads_told : (parts : PartLists) (bs : List NamedBody) → AreBodiesOf parts.blocks bs
     → Answers (AreLoadsOf bs parts.loads) (steps (add_load bs) 0 [] parts.loads)
@@ -119,4 +77,4 @@ loads_told parts bs h =
     answers_weaker (AreLoadsOf bs (take (length parts.loads) parts.loads)) (AreLoadsOf bs parts.loads) _ _
     (λ ls e. e ∙ take_all (length parts.loads) parts.loads (omega arith))
     (listed (add_load bs) parts.loads _ (λ i. AreLoadsOf bs (take i parts.loads)) (causes_of_load parts)
-    (one_told parts bs h) [] refl)
+    (λ i ls lt so_far. (one_told parts bs h i ls lt so_far).answers) [] refl)

@@ -1,13 +1,14 @@
 -- Names and flags of what is listed, against those of what was collected from it.
-use Rattle.std.proofs.Common.{◌≡◌, refl, sym, ap, ◌∙◌, ℕ, zero, suc, ◌+◌, ◌<◌, ◌≤◌, Bool, true, false, not, ◌||◌, cond}
-use Rattle.std.proofs.Common.{List, [], ◌∷◌, ◌++◌, map, length, get_or, take, Some, None, arith, is_none, nat_lt}
+use Rattle.std.proofs.Common.{◌≡◌, refl, sym, ap, subst, ◌∙◌, ℕ, zero, suc, ◌+◌, ◌<◌, ◌≤◌, Bool, true, false, not, ◌||◌}
+use Rattle.std.proofs.Common.{cond, List, [], ◌∷◌, ◌++◌, map, length, get_or, take, Some, None, arith, is_none, nat_lt}
 use Rattle.std.proofs.Common.{nat_le, ◌==◌, count_by, find}
 use Rattle.std.specs.List.{list_any, position_or_len}
 use Rattle.std.specs.Str.{bytes_eq}
 use Rattle.std.proofs.lemmas.Bool.{ltb-true, ltb-false, leb-true, leb-false, lt-ltb, le-ltb, eq-eqb, ne_eqb}
-use Rattle.std.proofs.lemmas.List.{map-append, take_more}
+use Rattle.std.proofs.lemmas.List.{map-append, take_more, get_or-map, length-map}
 use Rattle.std.proofs.lemmas.List.Folds.{fold-map}
 use Rattle.stack_model.specs.Content.{is_new, number_of}
+use Rattle.stack_model.proofs.Limited.{number_below, named}
 
 pub not_not : (b : Bool) → not (not b) ≡ b
 not_not true = refl
@@ -87,3 +88,10 @@ find_first p [] n d l h b = absurd (omega (arith, l))
 find_first p (x ∷ xs) zero d l h b = ap (λ t. cond t (Some x) (find p xs)) h
 find_first p (x ∷ xs) (suc n) d l h b = ap (λ t. cond t (Some x) (find p xs)) (b 0 (omega arith))
     ∙ find_first p xs n d (omega (arith, l)) h (λ k m. b (suc k) (omega (arith, m)))
+
+-- the item whose number is found has the name
+pub found_named : {X : Type 0} (f : X → List ℕ) (name : List ℕ) (xs : List X) (n : ℕ) (d : X)
+    → number_of name (map f xs) ≡ Some n → (n < length xs) × (f (get_or xs n d) ≡ name)
+found_named f name xs n d e =
+    let below : n < length xs = subst (λ m. n < m) (length-map xs f) (number_below name (map f xs) n e) in
+    (below, sym (get_or-map f xs n d [] below) ∙ sym (named name (map f xs) n e))

@@ -1,28 +1,27 @@
 -- What a table answers: its lists, and then each item of them.
 use Rattle.std.proofs.Common.{◌≡◌, refl, sym, ap, ◌∙◌, ℕ, zero, suc, ◌+◌, Bool, true, false, List, [], ◌∷◌, length}
 use Rattle.std.proofs.Common.{get_or, Option, Some, None, Result, Ok, Err, arith}
-use Rattle.std.specs.Prelude.{is_none, if◌then◌else◌, option_and_then, ⊤, ℤ}
-use Rattle.toml.specs.Data.{Data, array, table, Items, no_items, item, Members, no_members, get_member, as_integer}
+use Rattle.std.specs.Prelude.{is_none, if◌then◌else◌, option_and_then}
+use Rattle.toml.specs.Data.{Data, array, table, Items, no_items, item, Members, no_members, get_member}
 use Rattle.stack_algebra.specs.Steps.{◌>>=◌}
 use Rattle.stack_algebra.specs.Search.{or_else, first}
 use Rattle.stack_algebra.proofs.Search.{first_same}
 use Rattle.stack_model.specs.declared.places.Spot.TheVariants as spots
 use Rattle.stack_model.specs.declared.places.Key.{Key}
 use Rattle.stack_model.specs.declared.places.Key.TheVariants as keys
-use Rattle.stack_model.specs.Parts.{MaterialPart, JointPart, BlockPart, LoadPart, PartLists}
 use Rattle.stack_reader.specs.declared.errors.ReadError.{ReadError}
 use Rattle.stack_reader.specs.declared.errors.ReadError.TheVariants.{Kind}
 use Rattle.stack_reader.specs.Keys.{word_of}
-use Rattle.stack_reader.specs.Forms.{are_tables, tables_of, wholes_of, in_form}
-use Rattle.stack_reader.specs.Shape.{known_at_top, head_of_document, list_at, material_part, joint_part, block_part}
+use Rattle.stack_reader.specs.Forms.{are_tables, tables_of, in_form}
+use Rattle.stack_reader.specs.Shape.{list_at, material_part, joint_part, block_part}
 use Rattle.stack_reader.specs.Shape.{load_part, in_table, each_of, parts_of_document}
 use Rattle.stack_faults.specs.FaultLists.{faults_where, earliest, answered_fault}
-use Rattle.stack_faults.specs.TableFaults.{is_of_another_form, unknown_key_faults, optional_key_faults, top_faults}
+use Rattle.stack_faults.specs.TableFaults.{is_of_another_form, optional_key_faults}
 use Rattle.stack_faults.specs.TableFaults.{joint_table_faults, material_table_faults, block_table_faults}
 use Rattle.stack_faults.specs.TableFaults.{load_table_faults, tables_in, tables_or_none, tables_listed}
 use Rattle.stack_faults.specs.TableFaults.{faults_of_tables, shape_faults}
-use Rattle.stack_faults.proofs.Firsts.{Answers, answers_fault, answers_weaker, bind_told, answers_of, earliest-below}
-use Rattle.stack_faults.proofs.Firsts.{earliest_five, earliest_seven}
+use Rattle.stack_faults.proofs.Firsts.{Answers, answers_weaker, earliest-below, Told, Finds, all_told, step}
+use Rattle.stack_faults.proofs.Firsts.{step_found, last}
 use Rattle.stack_faults.proofs.ShapeAnswers.{head_told, material_told, joint_told, block_told, load_told}
 
 or_none : {E : Type 0} (o : Option E) → or_else o None ≡ o
@@ -106,98 +105,27 @@ list_told key (Some d) = refl
 
 -- the tables at a key of the top, and then each of them
 items_told : {A : Type 0} (part : ℕ → Members → Result A ReadError) (key : Key)
-    (faults : ℕ → Members → List ReadError)
-    → ((i : ℕ) (ms : Members) → answered_fault (part i ms) ≡ earliest (faults i ms)) → (ms : Members)
-    → Answers (λ items. answered_fault (each_of (in_table part key) 0 items)
-    ≡ earliest (faults_of_tables faults (tables_listed key ms))) (list_at key (get_member (word_of key) ms))
-    (earliest (optional_key_faults tables_of spots.Top key ms))
-items_told part key faults told ms =
-    answers_weaker (AreListed (option_and_then tables_of (get_member (word_of key) ms))) _ _ _
-    (λ items h. each_told part key faults told items h.tables
-    ∙ ap (λ tables. earliest (faults_of_tables faults tables)) h.listed)
-    (list_told key (get_member (word_of key) ms))
+    (faults : ℕ → Members → List ReadError) → ((i : ℕ) (ms : Members) → Told (part i ms) (faults i ms))
+    → (ms : Members)
+    → Finds (λ items. Told (each_of (in_table part key) 0 items) (faults_of_tables faults (tables_listed key ms)))
+    (list_at key (get_member (word_of key) ms)) (optional_key_faults tables_of spots.Top key ms)
+items_told part key faults told ms = record {
+  found = answers_weaker (AreListed (option_and_then tables_of (get_member (word_of key) ms))) _ _ _
+      (λ items h. record {
+        told = each_told part key faults (λ i ms. (told i ms).told) items h.tables
+            ∙ ap (λ tables. earliest (faults_of_tables faults tables)) h.listed;
+      })
+      (list_told key (get_member (word_of key) ms));
+}
 
--- the first of many, grouped to the right
-regrouped : {E : Type 0} (a b c d e f g h i j k : Option E)
-    → or_else (or_else (or_else (or_else (or_else (or_else (or_else (or_else (or_else (or_else a b) c) d) e) f) g) h) i)
-    j) k
-    ≡ or_else (or_else (or_else a b) c)
-    (or_else d (or_else e (or_else f (or_else g (or_else h (or_else i (or_else j (or_else k None))))))))
-regrouped (Some x) b c d e f g h i j k = refl
-regrouped None (Some x) c d e f g h i j k = refl
-regrouped None None (Some x) d e f g h i j k = refl
-regrouped None None None (Some x) e f g h i j k = refl
-regrouped None None None None (Some x) f g h i j k = refl
-regrouped None None None None None (Some x) g h i j k = refl
-regrouped None None None None None None (Some x) h i j k = refl
-regrouped None None None None None None None (Some x) i j k = refl
-regrouped None None None None None None None None (Some x) j k = refl
-regrouped None None None None None None None None None (Some x) k = refl
-regrouped None None None None None None None None None None k = sym (or_none k)
-
--- the steps of a shape: where the lists have their form, each item answers
-module _ {H I A B C D S E : Type 0} (q : Result H E) (r s t u : Result I E) (f : I → Result A E) (g : I → Result B E)
-    (h : I → Result C E) (m : I → Result D E) (to : H → A → B → C → D → S) where
-  steps_told : (a b c d e w x y z : Option E) → answered_fault q ≡ a
-      → Answers (λ i. answered_fault (f i) ≡ w) r b → Answers (λ i. answered_fault (g i) ≡ x) s c
-      → Answers (λ i. answered_fault (h i) ≡ y) t d → Answers (λ i. answered_fault (m i) ≡ z) u e
-      → answered_fault (q >>= λ head. r >>= λ i. s >>= λ j. t >>= λ k. u >>= λ l. f i >>= λ fs. g j >>= λ gs. h k
-      >>= λ hs. m l >>= λ ls. Ok (to head fs gs hs ls))
-      ≡ or_else a (or_else b (or_else c (or_else d (or_else e (or_else w (or_else x (or_else y (or_else z None))))))))
-  steps_told a b c d e w x y z ha hb hc hd he =
-      answers_fault (λ _. ⊤) _ _ (bind_told (λ _. ⊤) (λ _. ⊤) q _ a _ (answers_of q a ha)
-      (λ head _. bind_told _ (λ _. ⊤) r _ b _ hb
-      (λ i hf. bind_told _ (λ _. ⊤) s _ c _ hc
-      (λ j hg. bind_told _ (λ _. ⊤) t _ d _ hd
-      (λ k hh. bind_told _ (λ _. ⊤) u _ e _ he
-      (λ l hm. bind_told (λ _. ⊤) (λ _. ⊤) (f i) _ w _ (answers_of (f i) w hf)
-      (λ fs _. bind_told (λ _. ⊤) (λ _. ⊤) (g j) _ x _ (answers_of (g j) x hg)
-      (λ gs _. bind_told (λ _. ⊤) (λ _. ⊤) (h k) _ y _ (answers_of (h k) y hh)
-      (λ hs _. bind_told (λ _. ⊤) (λ _. ⊤) (m l) (λ ls. let v : Result S E = Ok (to head fs gs hs ls) in v) z None
-      (answers_of (m l) z hm) (λ ls _. (refl, tt)))))))))))
+parts_told : (ms : Members) → Told (parts_of_document ms) (shape_faults ms)
+unfolding parts_of_document
+parts_told ms = all_told (step (head_told ms)
+    (λ _. step_found (items_told material_part keys.Material material_table_faults material_told ms)
+    (λ _ materials. step_found (items_told joint_part keys.Joint joint_table_faults joint_told ms)
+    (λ _ joints. step_found (items_told block_part keys.Block block_table_faults block_told ms)
+    (λ _ blocks. step_found (items_told load_part keys.Load load_table_faults load_told ms)
+    (λ _ loads. step materials (λ _. step joints (λ _. step blocks (λ _. last _ loads)))))))))
 
 pub shape_told : (ms : Members) → answered_fault (parts_of_document ms) ≡ earliest (shape_faults ms)
-unfolding parts_of_document
-shape_told ms =
-    let made : ℤ × Option (List ℤ) → List MaterialPart → List JointPart → List BlockPart → List LoadPart → PartLists =
-    λ head materials joints blocks loads. record {
-      version = head.0;
-      sway = head.1;
-      materials = materials;
-      joints = joints;
-      blocks = blocks;
-      loads = loads;
-    } in
-    let materials = faults_of_tables material_table_faults (tables_listed keys.Material ms) in
-    let joints = faults_of_tables joint_table_faults (tables_listed keys.Joint ms) in
-    let blocks = faults_of_tables block_table_faults (tables_listed keys.Block ms) in
-    let loads = faults_of_tables load_table_faults (tables_listed keys.Load ms) in
-    steps_told (head_of_document ms) (list_at keys.Material (get_member (word_of keys.Material) ms))
-    (list_at keys.Joint (get_member (word_of keys.Joint) ms))
-    (list_at keys.Block (get_member (word_of keys.Block) ms))
-    (list_at keys.Load (get_member (word_of keys.Load) ms))
-    (each_of (in_table material_part keys.Material) 0) (each_of (in_table joint_part keys.Joint) 0)
-    (each_of (in_table block_part keys.Block) 0)
-    (each_of (in_table load_part keys.Load) 0) made _ _ _ _ _ _ _ _ _ (head_told ms)
-    (items_told material_part keys.Material material_table_faults material_told ms)
-    (items_told joint_part keys.Joint joint_table_faults joint_told ms)
-    (items_told block_part keys.Block block_table_faults block_told ms)
-    (items_told load_part keys.Load load_table_faults load_told ms)
-    ∙ sym (regrouped (earliest (unknown_key_faults spots.Top (known_at_top ms) ms))
-    (earliest (optional_key_faults as_integer spots.Top keys.Version ms))
-    (earliest (optional_key_faults wholes_of spots.Top keys.Sway ms))
-    (earliest (optional_key_faults tables_of spots.Top keys.Material ms))
-    (earliest (optional_key_faults tables_of spots.Top keys.Joint ms))
-    (earliest (optional_key_faults tables_of spots.Top keys.Block ms))
-    (earliest (optional_key_faults tables_of spots.Top keys.Load ms))
-    (earliest materials) (earliest joints) (earliest blocks) (earliest loads))
-    ∙ (λ i. or_else (or_else (or_else (or_else (sym (earliest_seven
-    (unknown_key_faults spots.Top (known_at_top ms) ms)
-    (optional_key_faults as_integer spots.Top keys.Version ms)
-    (optional_key_faults wholes_of spots.Top keys.Sway ms)
-    (optional_key_faults tables_of spots.Top keys.Material ms)
-    (optional_key_faults tables_of spots.Top keys.Joint ms)
-    (optional_key_faults tables_of spots.Top keys.Block ms)
-    (optional_key_faults tables_of spots.Top keys.Load ms)) i)
-    (earliest materials)) (earliest joints)) (earliest blocks)) (earliest loads))
-    ∙ sym (earliest_five (top_faults ms) materials joints blocks loads)
+shape_told ms = (parts_told ms).told

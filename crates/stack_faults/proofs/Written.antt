@@ -1,6 +1,6 @@
 -- Values within their limits, as they were written.
-use Rattle.std.proofs.Common.{◌≡◌, refl, sym, ap, ◌∙◌, subst, ℕ, ◌+◌, ◌<◌, ℤ, pos, negsuc, Bool, true, false, ◌&&◌}
-use Rattle.std.proofs.Common.{List, [], ◌∷◌, ◌++◌, map, length, get_or, take, codes, Option, Some, None, Ok, Err}
+use Rattle.std.proofs.Common.{◌≡◌, refl, sym, ap, ◌∙◌, subst, ℕ, ◌+◌, ◌<◌, ℤ, Bool, true, false, ◌&&◌}
+use Rattle.std.proofs.Common.{List, [], ◌∷◌, ◌++◌, map, length, get_or, take, codes, Some, None, Ok, Err}
 use Rattle.std.proofs.Common.{Result, if◌then◌else◌, MatchResult}
 use Rattle.std.specs.Str.{bytes_eq}
 use Rattle.std.proofs.lemmas.Slice.Eq.{bytes_eq-Decides}
@@ -8,7 +8,8 @@ use Rattle.std.proofs.lemmas.List.{map-append, take_more}
 use Rattle.stack_polygon.specs.declared.point.Point.{Point}
 use Rattle.stack_polygon.specs.Limits.{is_near}
 use Rattle.stack_polygon.specs.Outlines.{outline_of}
-use Rattle.stack_model.specs.Limits.{is_between, friction_of, sway_of, point_of, live_of, force_of}
+use Rattle.stack_model.specs.Limits.{friction_of, sway_of, point_of, live_of, force_of}
+use Rattle.stack_model.proofs.Limited.{friction_pair, sway_pair, force_pair}
 use Rattle.stack_model.specs.Convex.{at_block, convex}
 use Rattle.stack_model.specs.Relisted.{coordinates, kind_word}
 use Rattle.stack_faults.specs.Outline.{IsOutlineOf, HasNoOutline}
@@ -20,55 +21,14 @@ pub one_more_same : {X Y : Type 0} (f : X → Y) (xs : List X) (x : X) (ys : Lis
 one_more_same f xs x ys i d l same h = map-append f xs (x ∷ []) ∙ (λ k. h k ++ same k ∷ [])
     ∙ sym (take_more ys i d l)
 
--- two numbers that pass
-abbrev pair_of : (ℤ → Bool) → (ℤ → Bool) → List ℤ → Option (ℤ × ℤ)
-pair_of p q (x ∷ y ∷ []) = if p x && q y then Some (x, y) else None
-pair_of p q _ = None
-
-pair_back : (p q : ℤ → Bool) (zs : List ℤ) (f : ℤ × ℤ) → pair_of p q zs ≡ Some f → f.0 ∷ f.1 ∷ [] ≡ zs
-pair_back p q (x ∷ y ∷ []) f h = go (p x && q y) h
-  where
-    go : (b : Bool) → (if b then Some (x, y) else None) ≡ Some f → f.0 ∷ f.1 ∷ [] ≡ x ∷ y ∷ []
-    go true e = let same : (x, y) ≡ f = cc in λ i. (sym same i).0 ∷ (sym same i).1 ∷ []
-    go false e = absurd cc
-pair_back p q [] f h = absurd cc
-pair_back p q (x ∷ []) f h = absurd cc
-pair_back p q (x ∷ y ∷ z ∷ zs) f h = absurd cc
-
-friction_pair : (zs : List ℤ) → friction_of zs
-    ≡ pair_of (is_between (pos 0) (pos 1000)) (is_between (pos 1) (pos 1000)) zs
-friction_pair [] = refl
-friction_pair (x ∷ []) = refl
-friction_pair (x ∷ y ∷ []) = refl
-friction_pair (x ∷ y ∷ z ∷ zs) = refl
-
 pub friction_back : (zs : List ℤ) (f : ℤ × ℤ) → friction_of zs ≡ Some f → f.0 ∷ f.1 ∷ [] ≡ zs
-friction_back zs f h = pair_back (is_between (pos 0) (pos 1000)) (is_between (pos 1) (pos 1000)) zs f
-    (sym (friction_pair zs) ∙ h)
-
-abbrev is_share : ℤ → Bool
-is_share z = is_between (negsuc 999) (pos 1000) z
-
-sway_pair : (zs : List ℤ) → sway_of zs ≡ pair_of is_share is_share zs
-sway_pair [] = refl
-sway_pair (x ∷ []) = refl
-sway_pair (x ∷ y ∷ []) = refl
-sway_pair (x ∷ y ∷ z ∷ zs) = refl
+friction_back zs f h = (friction_pair zs f h).same
 
 pub sway_back : (zs : List ℤ) (f : ℤ × ℤ) → sway_of zs ≡ Some f → f.0 ∷ f.1 ∷ [] ≡ zs
-sway_back zs f h = pair_back is_share is_share zs f (sym (sway_pair zs) ∙ h)
-
-abbrev is_part : ℤ → Bool
-is_part z = is_between (negsuc 999999999) (pos 1000000000) z
-
-force_pair : (zs : List ℤ) → force_of zs ≡ pair_of is_part is_part zs
-force_pair [] = refl
-force_pair (x ∷ []) = refl
-force_pair (x ∷ y ∷ []) = refl
-force_pair (x ∷ y ∷ z ∷ zs) = refl
+sway_back zs f h = (sway_pair zs f h).same
 
 pub force_back : (zs : List ℤ) (f : ℤ × ℤ) → force_of zs ≡ Some f → f.0 ∷ f.1 ∷ [] ≡ zs
-force_back zs f h = pair_back is_part is_part zs f (sym (force_pair zs) ∙ h)
+force_back zs f h = (force_pair zs f h).same
 
 pub point_back : (zs : List ℤ) (c : Point) → point_of zs ≡ Some c → coordinates c ≡ zs
 point_back (x ∷ y ∷ []) c h = go (is_near x && is_near y) h

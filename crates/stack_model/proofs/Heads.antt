@@ -15,7 +15,7 @@ use Rattle.stack_model.specs.Relisted.{sway_relisted, relisted}
 use Rattle.stack_model.specs.Sound.{IsOfItsVersion}
 use Rattle.stack_model.proofs.Items.{still}
 use Rattle.stack_model.proofs.Limited.{sway}
-use Rattle.stack_model.proofs.TakenItems.{there}
+use Rattle.stack_model.proofs.Chains.{there}
 
 -- what holds of the sway
 pub record IsHead (version : ℤ) (z : ℤ × ℤ) : Type 0 where

@@ -1,6 +1,6 @@
 -- Values within their limits: what the tests say.
-use Rattle.std.proofs.Common.{◌≡◌, ℕ, ◌<◌, ℤ, pos, negsuc, Bool, true, false, ◌&&◌, List, [], ◌∷◌, length, get_or, Some}
-use Rattle.std.proofs.Common.{None, refl, subst, arith, ◌≤◌, int_le, nat_le, if◌then◌else◌}
+use Rattle.std.proofs.Common.{◌≡◌, ℕ, ◌<◌, ℤ, pos, negsuc, Bool, true, false, ◌&&◌, List, [], ◌∷◌, length, get_or}
+use Rattle.std.proofs.Common.{Option, Some, None, refl, sym, ◌∙◌, subst, arith, ◌≤◌, int_le, nat_le, if◌then◌else◌}
 use Rattle.stack_algebra.proofs.Conjunctions.{both_true}
 use Rattle.std.proofs.lemmas.Int.{ints}
 use Rattle.std.specs.List.{list_all}
@@ -18,81 +18,75 @@ between low high z h = let p = both_true (int_le low z) (int_le z high) h in
     at_least : (x y : ℤ) → int_le x y ≡ true → x ≼ y
     at_least x y h = grind (arith, ints)
 
+-- two numbers that pass, one by one
+pub record IsPair (p q : ℤ → Bool) (zs : List ℤ) (f : ℤ × ℤ) : Type 0 where
+  pub first : p f.0 ≡ true
+  pub second : q f.1 ≡ true
+  pub same : f.0 ∷ f.1 ∷ [] ≡ zs
+
+-- what takes two numbers that pass, and nothing else
+module _ (of : List ℤ → Option (ℤ × ℤ)) (p q : ℤ → Bool) (none : of [] ≡ None)
+    (one : (x : ℤ) → of (x ∷ []) ≡ None)
+    (two : (x y : ℤ) → of (x ∷ y ∷ []) ≡ (if p x && q y then Some (x, y) else None))
+    (more : (x y z : ℤ) (zs : List ℤ) → of (x ∷ y ∷ z ∷ zs) ≡ None) where
+  pair : (zs : List ℤ) (f : ℤ × ℤ) → of zs ≡ Some f → IsPair p q zs f
+  pair (x ∷ y ∷ []) f h = go (p x && q y) refl (sym (two x y) ∙ h)
+    where
+      go : (b : Bool) → p x && q y ≡ b → (if b then Some (x, y) else None) ≡ Some f
+          → IsPair p q (x ∷ y ∷ []) f
+      go true t e =
+          let same : (x, y) ≡ f = cc in
+          let both = both_true (p x) (q y) t in
+          subst (IsPair p q (x ∷ y ∷ [])) same (record { first = both.0; second = both.1; same = refl })
+      go false t e = absurd (cc)
+  pair [] f h = absurd (cc)
+  pair (x ∷ []) f h = let e = one x in absurd (cc)
+  pair (x ∷ y ∷ z ∷ zs) f h = let e = more x y z zs in absurd (cc)
+
 -- a coefficient that was taken
 pub record IsCoefficient (f : ℤ × ℤ) : Type 0 where
   pub p : (pos 0 ≼ f.0) × (f.0 ≼ pos 1000)
   pub q : (pos 1 ≼ f.1) × (f.1 ≼ pos 1000)
 
+pub friction_pair : (zs : List ℤ) (f : ℤ × ℤ) → friction_of zs ≡ Some f
+    → IsPair (is_between (pos 0) (pos 1000)) (is_between (pos 1) (pos 1000)) zs f
+friction_pair = pair friction_of _ _ refl (λ x. refl) (λ x y. refl) (λ x y z zs. refl)
+
 pub coefficient : (zs : List ℤ) (f : ℤ × ℤ) → friction_of zs ≡ Some f → IsCoefficient f
-coefficient (p ∷ q ∷ []) f h = go (is_between (pos 0) (pos 1000) p)
-    (is_between (pos 1) (pos 1000) q) refl refl h
-  where
-    go : (a b : Bool) → is_between (pos 0) (pos 1000) p ≡ a → is_between (pos 1) (pos 1000) q ≡ b
-        → (if a && b then Some (p, q) else None) ≡ Some f → IsCoefficient f
-    go true true ea eb e =
-        let same : (p, q) ≡ f = cc in
-        subst IsCoefficient same
-        (record {
-          p = between (pos 0) (pos 1000) p ea;
-          q = between (pos 1) (pos 1000) q eb;
-        })
-    go true false ea eb e = absurd (cc)
-    go false b ea eb e = absurd (cc)
-coefficient [] f h = absurd (cc)
-coefficient (p ∷ []) f h = absurd (cc)
-coefficient (p ∷ q ∷ r ∷ zs) f h = absurd (cc)
+coefficient zs f h = let t = friction_pair zs f h in
+    record { p = between (pos 0) (pos 1000) f.0 t.first; q = between (pos 1) (pos 1000) f.1 t.second }
 
 -- a sway that was taken
 pub record IsTaken (z : ℤ × ℤ) : Type 0 where
   pub x : (negsuc 999 ≼ z.0) × (z.0 ≼ pos 1000)
   pub y : (negsuc 999 ≼ z.1) × (z.1 ≼ pos 1000)
 
-abbrev is_share : ℤ → Bool
+abbrev pub is_share : ℤ → Bool
 is_share z = is_between (negsuc 999) (pos 1000) z
 
+pub sway_pair : (zs : List ℤ) (z : ℤ × ℤ) → sway_of zs ≡ Some z → IsPair is_share is_share zs z
+sway_pair = pair sway_of _ _ refl (λ x. refl) (λ x y. refl) (λ x y z zs. refl)
+
 pub sway : (zs : List ℤ) (z : ℤ × ℤ) → sway_of zs ≡ Some z → IsTaken z
-sway (x ∷ y ∷ []) z h = go (is_share x) (is_share y) refl refl h
-  where
-    go : (a b : Bool) → is_share x ≡ a → is_share y ≡ b → (if a && b then Some (x, y) else None) ≡ Some z
-        → IsTaken z
-    go true true ea eb e =
-        let same : (x, y) ≡ z = cc in
-        subst IsTaken same
-        (record {
-          x = between (negsuc 999) (pos 1000) x ea;
-          y = between (negsuc 999) (pos 1000) y eb;
-        })
-    go true false ea eb e = absurd (cc)
-    go false b ea eb e = absurd (cc)
-sway [] z h = absurd (cc)
-sway (x ∷ []) z h = absurd (cc)
-sway (x ∷ y ∷ u ∷ zs) z h = absurd (cc)
+sway zs z h = let t = sway_pair zs z h in
+    record { x = between (negsuc 999) (pos 1000) z.0 t.first; y = between (negsuc 999) (pos 1000) z.1 t.second }
 
 -- a force that was taken
 pub record IsForce (f : ℤ × ℤ) : Type 0 where
   pub x : (negsuc 999999999 ≼ f.0) × (f.0 ≼ pos 1000000000)
   pub y : (negsuc 999999999 ≼ f.1) × (f.1 ≼ pos 1000000000)
 
-abbrev is_part : ℤ → Bool
+abbrev pub is_part : ℤ → Bool
 is_part z = is_between (negsuc 999999999) (pos 1000000000) z
 
+pub force_pair : (zs : List ℤ) (f : ℤ × ℤ) → force_of zs ≡ Some f → IsPair is_part is_part zs f
+force_pair = pair force_of _ _ refl (λ x. refl) (λ x y. refl) (λ x y z zs. refl)
+
 pub force : (zs : List ℤ) (f : ℤ × ℤ) → force_of zs ≡ Some f → IsForce f
-force (x ∷ y ∷ []) f h = go (is_part x) (is_part y) refl refl h
-  where
-    go : (a b : Bool) → is_part x ≡ a → is_part y ≡ b → (if a && b then Some (x, y) else None) ≡ Some f
-        → IsForce f
-    go true true ea eb e =
-        let same : (x, y) ≡ f = cc in
-        subst IsForce same
-        (record {
-          x = between (negsuc 999999999) (pos 1000000000) x ea;
-          y = between (negsuc 999999999) (pos 1000000000) y eb;
-        })
-    go true false ea eb e = absurd (cc)
-    go false b ea eb e = absurd (cc)
-force [] f h = absurd (cc)
-force (x ∷ []) f h = absurd (cc)
-force (x ∷ y ∷ z ∷ zs) f h = absurd (cc)
+force zs f h = let t = force_pair zs f h in record {
+  x = between (negsuc 999999999) (pos 1000000000) f.0 t.first;
+  y = between (negsuc 999999999) (pos 1000000000) f.1 t.second;
+}
 
 pub number_below : (name : List ℕ) (names : List (List ℕ)) (n : ℕ) → number_of name names ≡ Some n
     → n < length names

@@ -1,11 +1,10 @@
 -- What was checked holds of the structure.
 use Rattle.std.proofs.Common.{◌≡◌, ℕ, ◌<◌, ◌≤◌, ℤ, Bool, true, false, not, List, [], ◌∷◌, ◌++◌, length, Result, Ok, Err}
-use Rattle.std.proofs.Common.{refl, sym, ap, ◌∙◌, subst, arith, nat_le}
+use Rattle.std.proofs.Common.{refl, sym, subst, arith, nat_le}
 use Rattle.std.specs.Bool.{⊤}
 use Rattle.std.proofs.lemmas.List.{length-map}
 use Rattle.std.proofs.lemmas.Int.{ints}
 use Rattle.stack_algebra.specs.Steps.{◌>>=◌, steps}
-use Rattle.stack_polygon.specs.declared.point.Point.{Point}
 use Rattle.stack_model.specs.declared.types.Joint.{Joint}
 use Rattle.stack_model.specs.declared.types.Load.{Load}
 use Rattle.stack_model.specs.declared.places.What.{What}
@@ -26,7 +25,8 @@ use Rattle.stack_model.proofs.Heads.{head_is, of_version}
 use Rattle.stack_model.proofs.Apart.{AreApart, no_names, no_bodies}
 use Rattle.stack_model.proofs.Limited.{force, number_below}
 use Rattle.stack_model.proofs.Growth.{Adds, grown}
-use Rattle.stack_model.proofs.TakenItems.{held, material_adds, joint_adds, block_adds, load_steps}
+use Rattle.stack_model.proofs.Chains.{held, any_went, unless_went, ranged_went, found_went}
+use Rattle.stack_model.proofs.TakenItems.{material_adds, joint_adds, block_adds}
 
 not_fixed : (b : Bool) → not b ≡ true → b ≡ false
 not_fixed true h = absurd (cc)
@@ -36,35 +36,32 @@ load_adds : (bs : List NamedBody) (i : ℕ) (ls : List Load) (l : LoadPart) (ns 
     → add_load bs i ls l ≡ Ok ns → Adds (IsBorne bs) (λ _. ⊤) ls ns
 unfolding add_load
 load_adds bs i ls l ns h =
-    let made = λ (live : Bool) (c : Point) (f : ℤ × ℤ) (n : ℕ). let r : Load = record {
-      body = n;
-      live = live;
-      at = c;
-      fx = f.0;
-      fy = f.1;
-    } in r in
-    let s = load_steps _ _ _ _ _ _ (live_of l.kind) (point_of l.at) (force_of l.force)
-    (number_of l.block (body_names bs)) (λ n. is_free n bs)
-    (λ live c f n. ls ++ made live c f n ∷ []) ns h in
-    let f = force l.force s.parts s.force in
-    let below : s.number < length bs = subst (λ k. s.number < k) (length-map bs (λ (b : NamedBody). b.name))
-    (number_below l.block (body_names bs) s.number s.body) in
+    ranged_went _ _ (live_of l.kind) _ h
+    (λ live kind h. ranged_went _ _ (point_of l.at) _ h
+    (λ c place h. ranged_went _ _ (force_of l.force) _ h
+    (λ f taken h. found_went (number_of l.block (body_names bs)) _ _ h
+    (λ n number h. unless_went (is_free n bs) _ _ h
+    (λ free h.
+    let made : Load = record { body = n; live = live; at = c; fx = f.0; fy = f.1 } in
+    let is : ls ++ made ∷ [] ≡ ns = cc in
+    let parts = force l.force f taken in
     record {
-      item = made s.live s.point s.parts s.number;
-      is = s.is;
+      item = made;
+      is = is;
       keeps = record {
         carried = record {
-          on_body = below;
-          in_range = in_range s.point (point_taken l.at s.point s.place);
-          least_fx = f.x.0;
-          most_fx = f.x.1;
-          least_fy = f.y.0;
-          most_fy = f.y.1;
+          on_body = subst (λ k. n < k) (length-map bs (λ (b : NamedBody). b.name))
+              (number_below l.block (body_names bs) n number);
+          in_range = in_range c (point_taken l.at c place);
+          least_fx = parts.x.0;
+          most_fx = parts.x.1;
+          least_fy = parts.y.0;
+          most_fy = parts.y.1;
         };
-        free = not_fixed _ s.free;
+        free = not_fixed _ free;
       };
       stays = λ _. tt;
-    }
+    })))))
 
 -- as many as were listed are few where those were
 few : (limit n m : ℕ) (what : What) (x : ⊤) → m ≡ n → at_most limit n what ≡ Ok x → m ≤ limit
@@ -72,7 +69,7 @@ few limit n m what x same h =
     let t : nat_le n limit ≡ true = held (nat_le n limit) _ x h in
     subst (λ k. k ≤ limit) (sym same) (grind (arith, ints))
 
--- the steps of the two lists
+-- the two lists
 record ListSteps (u v : Result ⊤ ModelError) (r : Result (List NamedMaterial) ModelError)
     (k : List NamedMaterial → Result (List Joint) ModelError) (ms : List NamedMaterial)
     (js : List Joint) : Type 0 where
@@ -85,22 +82,11 @@ list_steps : (u v : Result ⊤ ModelError) (r : Result (List NamedMaterial) Mode
     (k : List NamedMaterial → Result (List Joint) ModelError) (both : List NamedMaterial × List Joint)
     → (u >>= λ _. r >>= λ ms. v >>= λ _. k ms >>= λ js. Ok (ms, js)) ≡ Ok both
     → ListSteps u v r k both.0 both.1
-list_steps (Ok t) (Ok w) (Ok ns) k both h = last (k ns) refl h
-  where
-    last : (q : Result (List Joint) ModelError) → k ns ≡ q → (q >>= λ cs. Ok (ns, cs)) ≡ Ok both
-        → ListSteps (Ok t) (Ok w) (Ok ns) k both.0 both.1
-    last (Ok cs) e h =
-        let same : (ns, cs) ≡ both = cc in
-        record {
-          few_materials = refl;
-          few_joints = refl;
-          materials = ap (λ b. Ok b.0) same;
-          joints = ap (λ b. k b.0) (sym same) ∙ (e ∙ ap (λ b. Ok b.1) same);
-        }
-    last (Err f) e h = absurd (cc)
-list_steps (Ok t) (Err e) (Ok ms) k both h = absurd (cc)
-list_steps (Ok t) v (Err e) k both h = absurd (cc)
-list_steps (Err e) v r k both h = absurd (cc)
+list_steps u v r k both h =
+    any_went u _ h (λ _ few h. any_went r _ h (λ ns materials h. any_went v _ h (λ _ few_joints h. any_went (k ns) _ h
+    (λ cs joints h. let same : (ns, cs) ≡ both = cc in
+    subst (λ x. ListSteps u v r k x.0 x.1) same
+    (record { few_materials = few; few_joints = few_joints; materials = materials; joints = joints })))))
 
 -- a list that is counted first
 counted : {A : Type 0} (u : Result ⊤ ModelError) (r : Result A ModelError) (x : A) → (u >>= λ _. r) ≡ Ok x

@@ -1,30 +1,23 @@
 -- A structure within the limits is taken without a fault where it is listed.
-use Rattle.std.proofs.Common.{◌≡◌, ℕ, ◌<◌, ◌≤◌, ℤ, pos, Bool, true, false, not, List, [], ◌∷◌, ◌++◌, map, length}
-use Rattle.std.proofs.Common.{get_or, Some, Result, Ok, refl, sym, ap, ◌∙◌, subst, is_none}
-use Rattle.std.specs.Bool.{⊤}
+use Rattle.std.proofs.Common.{◌≡◌, ℕ, ◌<◌, ◌≤◌, pos, Bool, true, false, not, List, [], ◌∷◌, ◌++◌, length}
+use Rattle.std.proofs.Common.{get_or, Some, Ok, refl, sym, ap, ◌∙◌, subst}
 use Rattle.std.proofs.lemmas.Bool.{le-leb, lt-ltb}
 use Rattle.std.proofs.lemmas.List.{length-map, get_or-map}
-use Rattle.stack_algebra.specs.Steps.{◌>>=◌, steps}
-use Rattle.stack_polygon.specs.declared.point.Point.{Point}
 use Rattle.stack_polygon.proofs.Ranges.{to_range}
-use Rattle.stack_model.specs.declared.types.Joint.{Joint}
-use Rattle.stack_model.specs.declared.types.Load.{Load}
 use Rattle.stack_model.specs.declared.places.What.{What}
 use Rattle.stack_model.specs.declared.places.What.TheVariants as whats
-use Rattle.stack_model.specs.declared.errors.ModelError.{ModelError}
 use Rattle.stack_model.specs.declared.errors.ModelError.TheVariants.{TooMany}
-use Rattle.stack_model.specs.Structure.{NamedMaterial, NamedBody, Structure, structure_with, material_of, body_of}
-use Rattle.stack_model.specs.Structure.{joint_terms, IsWithinLimits, HasJointLimits, HasBodyLimits, IsCarried}
-use Rattle.stack_model.specs.Convex.{convex}
-use Rattle.stack_model.specs.Content.{unless, at_most, is_free, number_of, has_room, material_names, body_names}
+use Rattle.stack_model.specs.Structure.{NamedMaterial, NamedBody, Structure, material_of, body_of}
+use Rattle.stack_model.specs.Structure.{IsWithinLimits, HasJointLimits, HasBodyLimits, IsCarried}
+use Rattle.stack_model.specs.Content.{unless, at_most, number_of, has_room, material_names, body_names}
 use Rattle.stack_model.specs.Content.{with_material, add_material, with_body, add_joint, add_block, add_load, joints_of}
 use Rattle.stack_model.specs.Content.{bodies_of, loads_of, content_of}
-use Rattle.stack_model.specs.Relisted.{material_listed, joint_listed, body_listed, load_listed, relisted}
+use Rattle.stack_model.specs.Relisted.{material_listed, joint_listed, body_listed, load_listed}
 use Rattle.stack_model.specs.Sound.{IsSound, AreDifferent, AreOfDifferentPairs, free_among, fixed_among}
 use Rattle.stack_model.proofs.Points.{point_again, corners_again}
 use Rattle.stack_model.proofs.Heads.{head_again}
 use Rattle.stack_model.proofs.Joined.{is_new_pair}
-use Rattle.stack_model.proofs.TakenItems.{material_runs, joint_runs, block_runs, load_runs}
+use Rattle.stack_model.proofs.Chains.{any_runs, unless_runs, ranged_runs, found_runs}
 use Rattle.stack_model.specs.Taken.{SoundIsTaken}
 use Rattle.stack_model.proofs.Passing.{is_within, passes_name, passes_friction, passes_sway, passes_force}
 use Rattle.stack_model.proofs.Passing.{passes_corners, passes_convex, kind_again, number_at, new_at, room_at}
@@ -36,14 +29,11 @@ module _ (s : Structure) (h : IsSound s) where
   materials_taken i before x after e =
       let t = item_at before x after s.materials _ e in
       let m = subst IsWithinLimits t.1 (h.materials (length before) t.0) in
-      material_runs _ _ _ _ _ _ _ _ _ (x.p, x.q) (λ f. before ++ made f ∷ []) (passes_name x.name m.named)
-      (is_within (pos 0) (pos 1000000) x.weight m.least_weight m.most_weight)
-      (new_at (material_names before) (material_names after) x.name
-      (subst AreDifferent (sym (parts_mapped _ before x after s.materials e)) h.different_materials))
-      (passes_friction x.p x.q m.least_p m.most_p m.least_q m.most_q)
-    where
-      made : ℤ × ℤ → NamedMaterial
-      made f = record { name = x.name; weight = x.weight; p = f.0; q = f.1 }
+      unless_runs _ (passes_name x.name m.named)
+      (unless_runs _ (is_within (pos 0) (pos 1000000) x.weight m.least_weight m.most_weight)
+      (ranged_runs _ _ _ (passes_friction x.p x.q m.least_p m.most_p m.least_q m.most_q)
+      (unless_runs _ (new_at (material_names before) (material_names after) x.name
+      (subst AreDifferent (sym (parts_mapped _ before x after s.materials e)) h.different_materials)) refl)))
 
   -- a material is found at its number by its name
   material_found : (k : ℕ) → k < length s.materials
@@ -59,13 +49,9 @@ module _ (s : Structure) (h : IsSound s) where
   joints_taken i before x after e =
       let t = item_at before x after s.joints _ e in
       let j = subst (HasJointLimits (length s.materials)) t.1 (h.joints (length before) t.0) in
-      joint_runs _ _ _ _ _ _ _ _ (λ a b. is_none (joint_terms before a b)) (λ f a b. before ++ made f a b ∷ [])
-      (x.p, x.q) x.first x.second (passes_friction x.p x.q j.least_p j.most_p j.least_q j.most_q)
-      (material_found x.first j.first) (material_found x.second j.second)
-      (is_new_pair before x after (subst AreOfDifferentPairs (sym e) h.different_pairs))
-    where
-      made : ℤ × ℤ → ℕ → ℕ → Joint
-      made f a b = record { first = a; second = b; p = f.0; q = f.1 }
+      ranged_runs _ _ _ (passes_friction x.p x.q j.least_p j.most_p j.least_q j.most_q)
+      (found_runs _ _ (material_found x.first j.first) (found_runs _ _ (material_found x.second j.second)
+      (unless_runs _ (is_new_pair before x after (subst AreOfDifferentPairs (sym e) h.different_pairs)) refl)))
 
   room_for : (before after : List NamedBody) (x : NamedBody) → before ++ x ∷ after ≡ s.bodies
       → has_room x.fixed before ≡ Ok tt
@@ -83,15 +69,12 @@ module _ (s : Structure) (h : IsSound s) where
   blocks_taken i before x after e =
       let t = item_at before x after s.bodies _ e in
       let b = subst (HasBodyLimits (length s.materials)) t.1 (h.bodies (length before) t.0) in
-      block_runs _ _ _ _ _ _ _ _ _ (convex i) _ (λ n qs. before ++ made n qs ∷ []) x.corners x.material x.corners
-      (passes_name x.name b.named) (new_at (body_names before) (body_names after) x.name
+      unless_runs _ (passes_name x.name b.named)
+      (ranged_runs _ _ _ (corners_again x.corners (passes_corners x.corners b.polygon))
+      (unless_runs _ (new_at (body_names before) (body_names after) x.name
       (subst AreDifferent (sym (parts_mapped _ before x after s.bodies e)) h.different_bodies))
-      (corners_again x.corners (passes_corners x.corners b.polygon))
-      (material_found x.material b.has_material)
-      (passes_convex i x.corners b.polygon) (room_for before after x e)
-    where
-      made : ℕ → List Point → NamedBody
-      made n qs = record { name = x.name; material = n; fixed = x.fixed; corners = qs }
+      (found_runs _ _ (material_found x.material b.has_material)
+      (any_runs _ (passes_convex i x.corners b.polygon) (any_runs _ (room_for before after x e) refl)))))
 
   loads_taken : EachTaken (add_load s.bodies) (load_listed s.bodies) s.loads
   unfolding add_load
@@ -101,44 +84,13 @@ module _ (s : Structure) (h : IsSound s) where
       let f = subst (λ l. (body_of s l.body).fixed ≡ false) t.1 (h.free (length before) t.0) in
       let named : get_or (body_names s.bodies) x.body [] ≡ (body_of s x.body).name =
       get_or-map (λ (b : NamedBody). b.name) s.bodies x.body _ [] l.on_body in
-      load_runs _ _ _ _ _ _ _ _ _ _ (λ n. is_free n s.bodies) (λ live c f n. before ++ made live c f n ∷ [])
-      x.live x.at (x.fx, x.fy) x.body (kind_again x.live) (point_again x.at (to_range x.at l.in_range))
-      (passes_force x.fx x.fy (l.least_fx, l.most_fx) (l.least_fy, l.most_fy))
-      (ap (λ name. number_of name (body_names s.bodies)) (sym named)
+      ranged_runs _ _ _ (kind_again x.live) (ranged_runs _ _ _ (point_again x.at (to_range x.at l.in_range))
+      (ranged_runs _ _ _ (passes_force x.fx x.fy (l.least_fx, l.most_fx) (l.least_fy, l.most_fy))
+      (found_runs _ _ (ap (λ name. number_of name (body_names s.bodies)) (sym named)
       ∙ number_at (body_names s.bodies) x.body
       (subst (λ n. x.body < n) (sym (length-map s.bodies (λ (b : NamedBody). b.name))) l.on_body)
       h.different_bodies)
-      (ap not f)
-    where
-      made : Bool → Point → ℤ × ℤ → ℕ → Load
-      made live c f n = record { body = n; live = live; at = c; fx = f.0; fy = f.1 }
-
-abbrev both_lists : List NamedMaterial → List Joint → Result (List NamedMaterial × List Joint) ModelError
-both_lists ms js = Ok (ms, js)
-
-list_runs : (u v : Result ⊤ ModelError) (r : Result (List NamedMaterial) ModelError) (k : List NamedMaterial
-    → Result (List Joint) ModelError) (ms : List NamedMaterial) (js : List Joint)
-    → u ≡ Ok tt → v ≡ Ok tt → r ≡ Ok ms → k ms ≡ Ok js
-    → (u >>= λ _. r >>= λ ms. v >>= λ _. k ms >>= λ js. both_lists ms js) ≡ both_lists ms js
-list_runs u v r k ms js hu hv hr hk =
-    (λ i. hu i >>= λ _. hr i >>= λ ms. hv i >>= λ _. k ms >>= λ js. both_lists ms js)
-    ∙ ap (λ q. q >>= λ js. both_lists ms js) hk
-
-counts : {A : Type 0} (u : Result ⊤ ModelError) (r : Result A ModelError) (x : A) → u ≡ Ok tt → r ≡ Ok x
-    → (u >>= λ _. r) ≡ Ok x
-counts u r x hu hr = (λ i. hu i >>= λ _. hr i)
-
-whole_runs : (version : ℤ) (h : Result (ℤ × ℤ) ModelError) (r : Result (List NamedMaterial × List Joint) ModelError)
-    (k : List NamedMaterial → Result (List NamedBody) ModelError) (l : List NamedBody → Result (List Load) ModelError)
-    (sway : ℤ × ℤ) (ms : List NamedMaterial) (js : List Joint) (bs : List NamedBody) (ls : List Load)
-    → h ≡ Ok sway → r ≡ both_lists ms js → k ms ≡ Ok bs → l bs ≡ Ok ls
-    → (h >>= λ sway. r >>= λ both. k both.0 >>= λ bs. l bs
-    >>= λ ls. Ok (structure_with version sway both.0 both.1 bs ls)) ≡ Ok (structure_with version sway ms js bs ls)
-whole_runs version h r k l sway ms js bs ls hh hr hk hl =
-    (λ i. hh i >>= λ sway. hr i >>= λ both. k both.0 >>= λ bs. l bs
-    >>= λ ls. Ok (structure_with version sway both.0 both.1 bs ls))
-    ∙ ap (λ q. q >>= λ bs. l bs >>= λ ls. Ok (structure_with version sway ms js bs ls)) hk
-    ∙ ap (λ q. q >>= λ ls. Ok (structure_with version sway ms js bs ls)) hl
+      (unless_runs _ (ap not f) refl))))
 
 -- so many listed items are few
 few : (limit n m : ℕ) (what : What) → m ≡ n → n ≤ limit → at_most limit m what ≡ Ok tt
@@ -148,14 +100,12 @@ pub taken : SoundIsTaken
 unfolding content_of joints_of bodies_of loads_of
 taken s h =
     let ms = s.materials in
-    let both = list_runs _ _ _ (λ ns. steps (add_joint ns) 0 [] (map (joint_listed ms) s.joints)) ms s.joints
-    (few 64 _ _ whats.Materials (length-map ms material_listed) h.few_materials)
-    (few 256 _ _ whats.Joints (length-map s.joints (joint_listed ms)) h.few_joints)
-    (all_taken add_material material_listed ms (materials_taken s h))
-    (all_taken (add_joint ms) (joint_listed ms) s.joints (joints_taken s h)) in
-    whole_runs s.version _ _ (λ ns. bodies_of ns (relisted s)) (λ cs. loads_of cs (relisted s)) s.sway ms s.joints
-    s.bodies s.loads (head_again s h.version.known (passes_sway s.sway h.sway)) both
-    (counts _ _ s.bodies (few 192 _ _ whats.Blocks (length-map s.bodies (body_listed ms)) h.few_bodies)
+    any_runs _ (head_again s h.version.known (passes_sway s.sway h.sway))
+    (any_runs _ (any_runs _ (few 64 _ _ whats.Materials (length-map ms material_listed) h.few_materials)
+    (any_runs _ (all_taken add_material material_listed ms (materials_taken s h))
+    (any_runs _ (few 256 _ _ whats.Joints (length-map s.joints (joint_listed ms)) h.few_joints)
+    (any_runs _ (all_taken (add_joint ms) (joint_listed ms) s.joints (joints_taken s h)) refl))))
+    (any_runs _ (any_runs _ (few 192 _ _ whats.Blocks (length-map s.bodies (body_listed ms)) h.few_bodies)
     (all_taken (add_block ms) (body_listed ms) s.bodies (blocks_taken s h)))
-    (counts _ _ s.loads (few 256 _ _ whats.Loads (length-map s.loads (load_listed s.bodies)) h.few_loads)
-    (all_taken (add_load s.bodies) (load_listed s.bodies) s.loads (loads_taken s h)))
+    (any_runs _ (any_runs _ (few 256 _ _ whats.Loads (length-map s.loads (load_listed s.bodies)) h.few_loads)
+    (all_taken (add_load s.bodies) (load_listed s.bodies) s.loads (loads_taken s h))) refl)))

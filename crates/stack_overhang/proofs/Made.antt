@@ -1,8 +1,7 @@
 -- The model that is made of parts without a fault is the built-in one.
-use Rattle.std.proofs.Common.{◌≡◌, ℕ, ◌+◌, ◌*◌, ◌-◌, ◌<◌, ◌≤◌, ℤ, pos, Bool, true, ◌&&◌, List, [], ◌∷◌, length, Some}
+use Rattle.std.proofs.Common.{◌≡◌, ℕ, ◌≤◌, pos, true, ◌&&◌, List, [], ◌∷◌, length, Some}
 use Rattle.std.proofs.Common.{inl, None, Result, Ok, Err, IfOk, refl, sym, ap, ◌∙◌, subst, arith}
 use Rattle.std.specs.Prelude.{codes, if◌then◌else◌, IsOk, is_ok}
-use Rattle.stack_algebra.specs.Listed.{listed}
 use Rattle.stack_algebra.specs.Steps.{steps}
 use Rattle.stack_polygon.proofs.Tested.{each_below}
 use Rattle.stack_model.specs.declared.places.What.TheVariants as whats

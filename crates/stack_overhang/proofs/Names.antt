@@ -1,7 +1,7 @@
 -- The names of bricks: each is a name, and none is that of another brick.
-use Rattle.std.proofs.Common.{◌≡◌, ℕ, zero, suc, ◌+◌, ◌<◌, ◌≤◌, ◌^◌, Bool, true, false, not, ◌||◌, List, [], ◌∷◌}
+use Rattle.std.proofs.Common.{◌≡◌, ℕ, zero, suc, ◌+◌, ◌<◌, ◌≤◌, Bool, true, false, not, ◌||◌, List, [], ◌∷◌}
 use Rattle.std.proofs.Common.{length, get_or, drop, Some, None, refl, sym, ap, ◌∙◌, subst, arith, add-one, cond, nat_lt}
-use Rattle.std.specs.List.{list_any, All, position_or_len}
+use Rattle.std.specs.List.{All, position_or_len}
 use Rattle.std.proofs.lemmas.Int.{ints}
 use Rattle.std.specs.Str.{bytes_eq}
 use Rattle.std.specs.Fmt.{digits}
@@ -10,7 +10,6 @@ use Rattle.std.proofs.lemmas.Slice.Eq.{bytes_eq-Decides}
 use Rattle.std.proofs.lemmas.List.Folds.{list_any_none}
 use Rattle.std.proofs.lemmas.List.Sums.{position_or_len_is}
 use Rattle.stack_algebra.proofs.Listed.{listed, length_listed, listed_item}
-use Rattle.stack_polygon.specs.Outlines.{all_below}
 use Rattle.stack_polygon.proofs.Tested.{each_below}
 use Rattle.stack_model.specs.Limits.{is_name}
 use Rattle.stack_model.specs.Content.{is_new, number_of}

@@ -1,5 +1,5 @@
 -- A rectangle with an area, within the limits of coordinates: its corner list is taken, and is its own outline.
-use Rattle.std.proofs.Common.{◌≡◌, ℕ, zero, suc, ◌<◌, ℤ, pos, ◌-ℤ◌, ◌*ℤ◌, Bool, true, false, ◌&&◌, map, Some, Ok, refl}
+use Rattle.std.proofs.Common.{◌≡◌, ℕ, zero, suc, ◌<◌, ℤ, pos, ◌-ℤ◌, ◌*ℤ◌, true, ◌&&◌, map, Some, Ok, refl}
 use Rattle.std.proofs.Common.{arith, int_lt}
 use Rattle.stack_algebra.proofs.Conjunctions.{both_true}
 use Rattle.std.proofs.lemmas.Int.{ints}

@@ -1,12 +1,11 @@
 -- Rows within the limits: what their tests say, and where their bricks lie.
-use Rattle.std.proofs.Common.{◌≡◌, ℕ, ◌+◌, ◌<◌, ◌^◌, ℤ, pos, negsuc, ◌+ℤ◌, ◌*ℤ◌, Bool, true, false, ◌&&◌, List, length}
+use Rattle.std.proofs.Common.{◌≡◌, ℕ, ◌<◌, ◌^◌, ℤ, pos, negsuc, ◌+ℤ◌, ◌*ℤ◌, Bool, true, false, ◌&&◌, List, length}
 use Rattle.std.proofs.Common.{get_or, refl, ap, sym, ◌∙◌, subst, arith, FitsSigned, to_z, of_z, w64, int_lt}
-use Rattle.std.proofs.lemmas.Int.{ints, to_z_pos, to_z-of_z}
+use Rattle.std.proofs.lemmas.Int.{ints, to_z_pos}
 use Rattle.std.proofs.lemmas.List.Folds.{list_all_at}
 use Rattle.stack_algebra.proofs.Integers.{expand, sums}
 use Rattle.stack_algebra.proofs.Order.{◌≼◌, ◌≺◌, mul_nonneg, mul_le_left}
 use Rattle.stack_polygon.specs.Limits.{is_near, IsNear}
-use Rattle.stack_overhang.specs.declared.types.Rectangle.{Rectangle}
 use Rattle.stack_overhang.specs.declared.types.BrickRow.{BrickRow}
 use Rattle.stack_overhang.specs.Bricks.{brick_of}
 use Rattle.stack_overhang.specs.Limits.{is_placed, is_row, are_rows}

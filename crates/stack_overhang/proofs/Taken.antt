@@ -1,32 +1,27 @@
 -- The parts of a built-in model are taken without a fault, and make its structure.
 use Rattle.std.proofs.Common.{◌≡◌, ℕ, zero, suc, ◌+◌, ◌<◌, ◌≤◌, ℤ, pos, Bool, true, false, not, List, [], ◌∷◌, ◌++◌}
-use Rattle.std.proofs.Common.{map, length, get_or, Option, Some, None, Result, Ok, Err, refl, sym, ap, ◌∙◌, subst}
-use Rattle.std.proofs.Common.{arith, add-one, nat_le, nat_lt, codes, count_by, cond}
-use Rattle.std.specs.Bool.{⊤}
+use Rattle.std.proofs.Common.{map, length, Some, Result, Ok, refl, sym, ap, ◌∙◌, subst}
+use Rattle.std.proofs.Common.{arith, add-one, nat_le, nat_lt, count_by, cond}
 use Rattle.std.proofs.lemmas.Int.{ints}
 use Rattle.std.proofs.lemmas.List.Sums.{sum_by-append}
 use Rattle.stack_algebra.specs.Steps.{◌>>=◌, steps}
 use Rattle.stack_algebra.proofs.Listed.{listed, length_listed, listed_item, listed_more, map_listed}
 use Rattle.stack_polygon.specs.declared.point.Point.{Point}
 use Rattle.stack_model.specs.declared.types.Load.{Load}
-use Rattle.stack_model.specs.declared.places.Spot.{Spot}
-use Rattle.stack_model.specs.declared.places.Key.{Key}
-use Rattle.stack_model.specs.declared.places.What.{What}
 use Rattle.stack_model.specs.declared.places.What.TheVariants as whats
-use Rattle.stack_model.specs.declared.places.Key.TheVariants as keys
 use Rattle.stack_model.specs.declared.errors.ModelError.{ModelError}
-use Rattle.stack_model.specs.declared.errors.ModelError.TheVariants.{NoMaterial, TooMany}
+use Rattle.stack_model.specs.declared.errors.ModelError.TheVariants.{TooMany}
 use Rattle.stack_model.specs.declared.types.Joint.{Joint}
-use Rattle.stack_model.specs.Structure.{NamedMaterial, NamedBody, Structure, structure_with, first_structure, body_at}
-use Rattle.stack_model.specs.Parts.{MaterialPart, BlockPart, LoadPart, PartLists, first_parts}
+use Rattle.stack_model.specs.Structure.{NamedMaterial, NamedBody}
+use Rattle.stack_model.specs.Parts.{MaterialPart, BlockPart, LoadPart, first_parts}
 use Rattle.stack_polygon.specs.Limits.{is_in_range}
-use Rattle.stack_model.specs.Limits.{is_name, friction_of, point_of}
-use Rattle.stack_model.specs.Convex.{convex}
-use Rattle.stack_model.specs.Content.{unless, at_most, ranged, found, is_new, is_free, number_of, has_room}
-use Rattle.stack_model.specs.Content.{material_names, body_names, with_material, add_material, with_body, add_block}
+use Rattle.stack_model.specs.Limits.{is_name, friction_of}
+use Rattle.stack_model.specs.Content.{unless, at_most, is_new, is_free, number_of, has_room}
+use Rattle.stack_model.specs.Content.{body_names, with_material, add_material, with_body, add_block}
 use Rattle.stack_model.specs.Content.{add_load, head_of, joints_of, bodies_of, loads_of, content_of}
-use Rattle.stack_model.specs.Relisted.{material_listed, coordinates}
+use Rattle.stack_model.specs.Relisted.{material_listed}
 use Rattle.stack_model.proofs.Points.{point_again}
+use Rattle.stack_model.proofs.Chains.{any_runs, unless_runs, ranged_runs, found_runs}
 use Rattle.stack_overhang.specs.declared.types.Rectangle.{Rectangle}
 use Rattle.stack_overhang.specs.Bricks.{rectangle_corners, brick_at, brick_name}
 use Rattle.stack_overhang.specs.Built.{brick_material, base_body, brick_body, brick_bodies, built_bodies, built}
@@ -43,18 +38,6 @@ steps_listed f (suc n) i after item each =
     ap (λ r. r >>= λ b. steps f (i + 1) b (listed n (λ k. item (suc k)))) (each i 0 (omega arith))
     ∙ steps_listed f n (i + 1) (λ k. after (suc k)) (λ k. item (suc k))
     (λ j k lt. each j (suc k) (omega (arith, lt)))
-
--- the steps of a block, where each went well
-block_runs : (a c : Bool) (d e g : ModelError) (s : Spot) (k : Key) (o : Option (List Point))
-    (at : Option ℕ) (outline_of : List Point → Result (List Point) ModelError) (room : Result ⊤ ModelError)
-    (to : ℕ → List Point → List NamedBody) (ps : List Point) (n : ℕ) (qs : List Point)
-    → a ≡ true → c ≡ true → o ≡ Some ps → at ≡ Some n → outline_of ps ≡ Ok qs → room ≡ Ok tt
-    → (unless a d >>= λ _. ranged s k o >>= λ ps. unless c e >>= λ _. found at g >>= λ n. outline_of ps
-    >>= λ qs. room >>= λ _. Ok (to n qs)) ≡ Ok (to n qs)
-block_runs a c d e g s k o at outline_of room to ps n qs ha hc ho hn hq hr =
-    (λ i. unless (ha i) d >>= λ _. ranged s k (ho i) >>= λ ps. unless (hc i) e >>= λ _. found (hn i) g
-    >>= λ n. outline_of ps >>= λ qs. hr i >>= λ _. Ok (to n qs))
-    ∙ ap (λ q. q >>= λ qs. Ok (to n qs)) hq
 
 abbrev body : List ℕ → Bool → Rectangle → NamedBody
 body name fixed r = record { name = name; material = 0; fixed = fixed; corners = rectangle_corners r }
@@ -73,10 +56,8 @@ module _ (p q : ℤ) where
       → add_block materials i bs (rectangle_part name fixed r) ≡ Ok (bs ++ body name fixed r ∷ [])
   unfolding add_block with_body
   block_taken i bs name fixed r named new t room =
-      block_runs (is_name name) (is_new name (body_names bs)) _ _ (NoMaterial i) _ _ _
-      (number_of (codes "brick") (material_names materials)) (convex i) (has_room fixed bs)
-      (λ n qs. bs ++ record { name = name; material = n; fixed = fixed; corners = qs } ∷ []) (rectangle_corners r) 0
-      (rectangle_corners r) named new t.corners refl (t.outline i) room
+      unless_runs _ named (ranged_runs _ _ _ t.corners (unless_runs _ new
+      (any_runs _ (t.outline i) (any_runs _ room refl))))
 
 -- a base and bricks on it that each are taken
 pub record AreTaken (name : List ℕ) (base : Rectangle) (bricks : List Rectangle) : Type 0 where
@@ -128,23 +109,6 @@ module _ (name : List ℕ) (base : Rectangle) (bricks : List Rectangle) where
 abbrev both_lists : List NamedMaterial → List Joint → Result (List NamedMaterial × List Joint) ModelError
 both_lists ms js = Ok (ms, js)
 
--- the steps of the materials, which no joint is between
-lists_run : (r : Result (List NamedMaterial) ModelError) (ms : List NamedMaterial) → r ≡ Ok ms
-    → (r >>= λ ms. both_lists ms []) ≡ both_lists ms []
-lists_run r ms h = ap (λ r. r >>= λ ms. both_lists ms []) h
-
-whole_runs : (r : Result (List NamedMaterial × List Joint) ModelError)
-    (k : List NamedMaterial → Result (List NamedBody) ModelError) (l : List NamedBody → Result (List Load) ModelError)
-    (ms : List NamedMaterial) (bs : List NamedBody) (ls : List Load)
-    → r ≡ both_lists ms [] → k ms ≡ Ok bs → l bs ≡ Ok ls
-    → (r >>= λ both. k both.0 >>= λ bs. l bs >>= λ ls. Ok (structure_with (pos 1) (pos 0, pos 0) both.0 both.1 bs ls))
-    ≡ Ok (first_structure ms bs ls)
-whole_runs r k l ms bs ls hr hk hl =
-    (λ i. hr i >>= λ both. k both.0 >>= λ bs. l bs
-    >>= λ ls. Ok (structure_with (pos 1) (pos 0, pos 0) both.0 both.1 bs ls))
-    ∙ ap (λ q. q >>= λ bs. l bs >>= λ ls. Ok (first_structure ms bs ls)) hk
-    ∙ ap (λ q. q >>= λ ls. Ok (first_structure ms bs ls)) hl
-
 pub all_taken : (p q : ℤ) (name : List ℕ) (base : Rectangle) (bricks : List Rectangle) (mats : List MaterialPart)
     (blocks : List BlockPart) (loads : List LoadPart) (ls : List Load)
     → friction_of (p ∷ q ∷ []) ≡ Some (p, q) → AreTaken name base bricks
@@ -163,30 +127,16 @@ all_taken p q name base bricks mats blocks loads ls rough t ms bs few taken =
       length_listed (length bricks)
           (λ k. brick_block k (brick_at bricks k)),
     )) in
-    whole_runs _ (λ ms. bodies_of ms (first_parts mats blocks loads))
-    (λ cs. loads_of cs (first_parts mats blocks loads))
-    (materials p q) (built_bodies name base bricks) ls
-    ((λ i. at_most 64 (length (ms i)) whats.Materials >>= λ _. steps add_material 0 [] (ms i) >>= λ ms.
-    both_lists ms [])
-    ∙ lists_run _ (materials p q) (material_taken p q rough))
-    ((λ i. unless (some i) (TooMany whats.Blocks) >>= λ _. steps (add_block (materials p q)) 0 [] (bs i))
+    let both : joints_of (first_parts mats blocks loads) ≡ both_lists (materials p q) [] =
+    (λ i. at_most 64 (length (ms i)) whats.Materials >>= λ _. steps add_material 0 [] (ms i) >>= λ ms. both_lists ms [])
+    ∙ any_runs _ (material_taken p q rough) refl in
+    any_runs _ both
+    (any_runs _ ((λ i. unless (some i) (TooMany whats.Blocks) >>= λ _. steps (add_block (materials p q)) 0 [] (bs i))
     ∙ bodies_taken name base bricks p q t)
-    ((λ i. few i >>= λ _. steps (add_load (built_bodies name base bricks)) 0 [] loads) ∙ taken)
+    (any_runs _ ((λ i. few i >>= λ _. steps (add_load (built_bodies name base bricks)) 0 [] loads) ∙ taken) refl))
   where
     at_most_of : (n m : ℕ) → n ≤ m → nat_le n m ≡ true
     at_most_of n m h = grind (arith, ints)
-
--- the steps of a load, where each went well
-load_runs : (s : Spot) (j k l : Key) (d e : ModelError) (o : Option Bool) (p : Option Point)
-    (q : Option (ℤ × ℤ)) (at : Option ℕ) (free : ℕ → Bool) (to : Bool → Point → ℤ × ℤ → ℕ → List Load)
-    (live : Bool) (c : Point) (f : ℤ × ℤ) (n : ℕ)
-    → o ≡ Some live → p ≡ Some c → q ≡ Some f → at ≡ Some n → free n ≡ true
-    → (ranged s j o >>= λ live. ranged s k p >>= λ c. ranged s l q >>= λ f. found at d
-    >>= λ n. unless (free n) e >>= λ _. Ok (to live c f n)) ≡ Ok (to live c f n)
-load_runs s j k l d e o p q at free to live c f n ho hp hq hn hf =
-    (λ i. ranged s j (ho i) >>= λ live. ranged s k (hp i) >>= λ c. ranged s l (hq i) >>= λ f. found (hn i) d
-    >>= λ n. unless (free n) e >>= λ _. Ok (to live c f n))
-    ∙ ap (λ b. unless b e >>= λ _. Ok (to live c f n)) hf
 
 -- on the upper left corner of brick k
 abbrev pub push_at : ℕ → Rectangle → Load
@@ -210,10 +160,7 @@ push_taken name base bricks k r apart lt few near =
     ap (number_of (brick_name k)) (names name base bricks (length bricks))
     ∙ numbered name (length bricks) k apart lt few in
     ap (λ r. r >>= λ b. steps (add_load bs) (0 + 1) b [])
-    (load_runs _ keys.Kind keys.At keys.Force _ _ _ (point_of (coordinates corner)) _
-    (number_of (brick_name k) (body_names bs)) (λ n. is_free n bs)
-    (λ live c f n. record { body = n; live = live; at = c; fx = f.0; fy = f.1 } ∷ []) true corner
-    (pos 1, pos 0) (k + 1) refl (point_again corner near) refl number free)
+    (ranged_runs _ _ _ (point_again corner near) (found_runs _ _ number (unless_runs _ free refl)))
   where
     free : is_free (k + 1) (built_bodies name base bricks) ≡ true
     free = subst (λ n. is_free n (built_bodies name base bricks) ≡ true) (sym (add-one k))

@@ -1,5 +1,5 @@
 -- When bricks on a base have no fault of content: the tests that a built-in model passes.
-use Rattle.std.specs.Prelude.{pos, ◌≤◌, ◌+ℤ◌, ◌*ℤ◌, Bool, ◌&&◌, List, length, nat_le, int_lt, int_le}
+use Rattle.std.specs.Prelude.{pos, ◌≤◌, ◌+ℤ◌, ◌*ℤ◌, Bool, ◌&&◌, List, length, nat_le, int_lt}
 use Rattle.std.specs.List.{list_all}
 use Rattle.stack_polygon.specs.Limits.{is_near}
 use Rattle.stack_whole.specs.Limits.{most_free}

@@ -4,7 +4,7 @@ ghost use Rattle.std.specs.Prelude.{◌≡◌, ◌<◌, ◌++◌, true, IfOk};
 ghost use Rattle.stack_overhang.specs.Bricks.{brick_of, bricks_in, bricks_of};
 ghost use Rattle.stack_overhang.specs.Limits.{is_row, are_rows};
 
-use crate::types::{Rectangle, BrickRow};
+use crate::types::{BrickRow, Rectangle};
 use std::alloc::{AllocError, Global};
 
 /// Brick `j` of the row, from 0 at its left.

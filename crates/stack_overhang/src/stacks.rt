@@ -12,7 +12,7 @@ use crate::error::StackError;
 use crate::layers::{harmonic_layers, slab_layers, triangle_layers};
 use crate::modelling::model;
 use crate::parts::{blocks, materials};
-use crate::types::{Rectangle, BrickRow};
+use crate::types::{BrickRow, Rectangle};
 use stack_model::{Model, Parts};
 use std::alloc::Global;
 

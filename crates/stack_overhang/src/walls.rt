@@ -12,7 +12,7 @@ use crate::bricks::{brick, bricks};
 use crate::error::StackError;
 use crate::modelling::model;
 use crate::parts::{blocks, materials, push_right};
-use crate::types::{Rectangle, BrickRow, Wall};
+use crate::types::{BrickRow, Rectangle, Wall};
 use stack_model::{Model, Parts};
 use std::alloc::{AllocError, Global};
 

@@ -1,7 +1,7 @@
 -- What the code for the common points may answer.
 use mathlib.Core.Path.{◌≡◌, refl, sym, ap, ◌∙◌, subst}
 use mathlib.Core.Logic.{◌⊎◌, inl, inr}
-use Prim.Native.Nat.{ℕ, zero, suc, ◌≤◌}
+use Prim.Native.Nat.{ℕ, zero, suc}
 use native.Mathlib.Omega.{arith}
 use lib.IntN.{ℤ, pos, negsuc, ◌-ℤ◌}
 use Rattle.stack_algebra.proofs.Integers.{sums}
@@ -14,7 +14,8 @@ use Rattle.stack_overlap.specs.declared.marks.Stretch.{Stretch}
 use mathlib.Core.List.{List}
 use lib.ListN.{length}
 use Rattle.stack_algebra.specs.Search.{next_round}
-use Rattle.stack_polygon.specs.Corners.{corner_of, IsStrictlyConvex}
+use Rattle.stack_polygon.specs.Corners.{corner_of}
+use Rattle.stack_polygon.specs.Limits.{IsPolygon}
 use Rattle.stack_overlap.specs.Forms.{at_corner, along, square}
 use Rattle.stack_overlap.specs.Separation.{Separates}
 use Rattle.stack_overlap.specs.CommonPoints.{IsBefore, IsCommonOf}
@@ -45,14 +46,15 @@ other-before c d n m = elim (three-ways c.x d.x) [
   ]
 ]
 
-module _ (P Q : List Point) (convex_p : IsStrictlyConvex P) (three_p : 3 ≤ length P)
-    (convex_q : IsStrictlyConvex Q) (three_q : 3 ≤ length Q) (i : ℕ) (h : Separates P i Q)
-    (a b : Point) (ea : a ≡ corner_of P i) (eb : b ≡ corner_of P (next_round (length P) i)) where
+module _ (P Q : List Point) (p : IsPolygon P) (q : IsPolygon Q) (i : ℕ) (h : Separates P i Q)
+    (a b : Point) {k n : ℕ} (ea : a ≡ corner_of P i) (eb : b ≡ corner_of P k) (ek : k ≡ next_round n i)
+    (en : n ≡ length P) where
   at-edge : (R : Point → Point → Type 0) → R a b → R (corner_of P i) (corner_of P (next_round (length P) i))
-  at-edge R r = subst (λ y. R (corner_of P i) y) eb (subst (λ x. R x b) ea r)
+  at-edge R r = subst (λ y. R (corner_of P i) y)
+      (eb ∙ ap (corner_of P) (ek ∙ ap (λ n. next_round n i) en)) (subst (λ x. R x b) ea r)
 
   pub none-answer : NoneOnLine a b Q (length Q) → IsCommonOf P Q Nothing
-  none-answer n X m = nothing-common P Q (convex-form P convex_p) three_p (convex-form Q convex_q) three_q i
+  none-answer n X m = nothing-common P Q (convex-form P p.convex) p.least (convex-form Q q.convex) q.least i
       (outer-form P i Q h)
       (at-edge (λ x y. NoneOnLine x y Q (length Q)) n) X (shared-form P Q X m)
 
@@ -65,19 +67,19 @@ module _ (P Q : List Point) (convex_p : IsStrictlyConvex P) (three_p : 3 ≤ len
 
     pub past-answer : s.high.place ≺ s.low.place → IsCommonOf P Q Nothing
     past-answer l =
-        nothing P Q convex_p three_p convex_q three_q i h r reach' s.low.place s.high.place clip'.cut s.low.at
+        nothing P Q p.convex p.least q.convex q.least i h r reach' s.low.place s.high.place clip'.cut s.low.at
         s.high.at clip'.from clip'.to l
 
     pub segment-answer : s.low.place ≺ s.high.place → IsBefore s.low.at s.high.at
         → IsCommonOf P Q (Segment s.low.at s.high.at)
     segment-answer l o =
-        segment P Q convex_p three_p convex_q three_q i h r reach' s.low.place s.high.place clip'.cut s.low.at
+        segment P Q p.convex p.least q.convex q.least i h r reach' s.low.place s.high.place clip'.cut s.low.at
         s.high.at clip'.from clip'.to l o
 
     pub back-answer : s.low.place ≺ s.high.place → ¬ (IsBefore s.low.at s.high.at)
         → IsCommonOf P Q (Segment s.high.at s.low.at)
     back-answer l n =
-        segment_back P Q convex_p three_p convex_q three_q i h r reach' s.low.place s.high.place clip'.cut s.low.at
+        segment_back P Q p.convex p.least q.convex q.least i h r reach' s.low.place s.high.place clip'.cut s.low.at
         s.high.at clip'.from clip'.to l
         (other-before s.low.at s.high.at n (λ e. apart l
         (sym clip'.from.place ∙ ap (λ c. at_corner (along (corner_of P i)
@@ -99,7 +101,7 @@ module _ (P Q : List Point) (convex_p : IsStrictlyConvex P) (three_p : 3 ≤ len
     pub corner-answer : ¬ (s.high.place ≺ s.low.place) → ¬ (s.low.place ≺ s.high.place)
         → (s.low.place ≡ pos 0) ⊎ (s.low.place ≡ at_corner (along a b) b) → IsCommonOf P Q (Corner s.low.at)
     corner-answer n m e =
-        corner P Q convex_p three_p convex_q three_q i h r reach' s.low.place s.high.place clip'.cut s.low.at
+        corner P Q p.convex p.least q.convex q.least i h r reach' s.low.place s.high.place clip'.cut s.low.at
         s.high.at clip'.from clip'.to (same n m)
         (elim e [ inl z ↦ inl z | inr z ↦ inr (z ∙ end-is) ])
 
@@ -107,5 +109,5 @@ module _ (P Q : List Point) (convex_p : IsStrictlyConvex P) (three_p : 3 ≤ len
         → ¬ (s.low.place ≡ at_corner (along a b) b) → IsCommonOf P Q
         (OnEdge s.low.at (record { which = First; index = i }))
     on-answer n m e f =
-        on_edge P Q convex_p three_p convex_q three_q i h r reach' s.low.place s.high.place clip'.cut s.low.at
+        on_edge P Q p.convex p.least q.convex q.least i h r reach' s.low.place s.high.place clip'.cut s.low.at
         s.high.at clip'.from clip'.to (same n m) e (λ z. f (z ∙ sym end-is))

@@ -90,22 +90,13 @@ module _ (P : List Point) (convex : IsConvex P) (three : 3 ≤ length P) where
       s : ℕ → ℤ
       s j = at_corner (edge P i) (corner_of P j)
 
-      one : {a b c : ℤ} → pos 0 ≺ a → pos 0 ≼ b → pos 0 ≼ c → pos 0 ≺ (a +ℤ b +ℤ c)
-      one p q r = omega (arith, sums)
-
-      two : {a b c : ℤ} → pos 0 ≼ a → pos 0 ≺ b → pos 0 ≼ c → pos 0 ≺ (a +ℤ b +ℤ c)
-      two p q r = omega (arith, sums)
-
-      last : {a b c : ℤ} → pos 0 ≼ a → pos 0 ≼ b → pos 0 ≺ c → pos 0 ≺ (a +ℤ b +ℤ c)
-      last p q r = omega (arith, sums)
-
       go : (0 ≡ i) ⊎ ((0 ≡ next_round (length P) i) ⊎ (pos 0 ≺ s 0))
           → (1 ≡ i) ⊎ ((1 ≡ next_round (length P) i) ⊎ (pos 0 ≺ s 1))
           → (2 ≡ i) ⊎ ((2 ≡ next_round (length P) i) ⊎ (pos 0 ≺ s 2)) →
           pos 0 ≼ s 0 → pos 0 ≼ s 1 → pos 0 ≼ s 2 → pos 0 ≺ (s 0 +ℤ s 1 +ℤ s 2)
-      go (inr (inr l)) y z p q r = one l q r
-      go x (inr (inr l)) z p q r = two p l r
-      go x y (inr (inr l)) p q r = last p q l
+      go (inr (inr l)) y z p q r = omega (arith, sums)
+      go x (inr (inr l)) z p q r = omega (arith, sums)
+      go x y (inr (inr l)) p q r = omega (arith, sums)
       go (inl a) (inl b) z p q r = absurd (omega (arith, a, b))
       go (inl a) y (inl c) p q r = absurd (omega (arith, a, c))
       go x (inl b) (inl c) p q r = absurd (omega (arith, b, c))

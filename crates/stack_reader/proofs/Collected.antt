@@ -1,7 +1,7 @@
 -- What a loop has collected, followed by what the items that are left give.
 use Rattle.std.proofs.Common.{◌≡◌, ℕ, ◌+◌, ◌<◌, ◌≤◌, List, [], ◌∷◌, ◌++◌, length, get_or, drop, Option, Result, Ok, Err}
-use Rattle.std.proofs.Common.{option_map, refl, sym, ap, ◌∙◌, append_assoc, add-one, drop-cons}
-use Rattle.std.proofs.lemmas.List.{append-nil}
+use Rattle.std.proofs.Common.{map, option_map, refl, sym, ap, ◌∙◌, append_assoc, add-one, drop-cons}
+use Rattle.std.proofs.lemmas.List.{append-nil, map_push}
 use Rattle.std.proofs.Math.ListN.{drop_of_length-le}
 use Rattle.toml.specs.declared.value.Value.{Value}
 use Rattle.toml.specs.Data.{Data, item}
@@ -31,16 +31,18 @@ regroup : {A : Type 0} (front : List A) (x : A) (read : Result (List A) ReadErro
 regroup {A} front x (Ok xs) = ap (λ (ys : List A). Ok ys) (simp append_assoc)
 regroup front x (Err e) = refl
 
-pub goes_on : {A : Type 0} (f : ℕ → Data → Result A ReadError) (front : List A) (vs : List Value) (i : ℕ)
-    (v : Value) (x : A) (total : Result (List A) ReadError)
-    → i < length vs → v ≡ get_or vs i v
-    → f i (view v) ≡ Ok x → before front (each_of f i (items_view (drop i vs))) ≡ total
-    → before (front ++ x ∷ []) (each_of f (i + 1) (items_view (drop (i + 1) vs))) ≡ total
+pub goes_on : {A V : Type 0} (raw : V → A) (f : ℕ → Data → Result A ReadError) (found next : List V)
+    (vs : List Value) (i : ℕ) (v : Value) (x : V) (total : Result (List A) ReadError)
+    → next ≡ found ++ x ∷ [] → i < length vs → v ≡ get_or vs i v
+    → f i (view v) ≡ Ok (raw x) → before (map raw found) (each_of f i (items_view (drop i vs))) ≡ total
+    → before (map raw next) (each_of f (i + 1) (items_view (drop (i + 1) vs))) ≡ total
 unfolding each_of
-goes_on f front vs i v x total lt is h so_far =
-    let one : before front (each_of f i (items_view (drop i vs))) ≡ before (front ++ x ∷ [])
+goes_on raw f found next vs i v x total more lt is h so_far =
+    let pushed : map raw next ≡ map raw found ++ raw x ∷ [] = ap (map raw) more ∙ map_push raw found x in
+    let one : before (map raw found) (each_of f i (items_view (drop i vs))) ≡ before (map raw next)
     (each_of f (i + 1) (items_view (drop (i + 1) vs))) =
-    rw (items_from vs i v lt is, h) (regroup front x (each_of f (i + 1) (items_view (drop (i + 1) vs)))) in
+    rw (items_from vs i v lt is, h, pushed)
+    (regroup (map raw found) (raw x) (each_of f (i + 1) (items_view (drop (i + 1) vs)))) in
     sym one ∙ so_far
 
 -- a refusal that is handed on

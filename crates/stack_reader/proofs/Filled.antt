@@ -1,7 +1,6 @@
 -- Tables and lists that are filled step by step.
-use Rattle.std.proofs.Common.{◌≡◌, ℕ, ◌+◌, ◌<◌, ◌≤◌, List, [], ◌∷◌, ◌++◌, map, take, length, get_or, String, Global}
+use Rattle.std.proofs.Common.{◌≡◌, ℕ, ◌≤◌, List, [], ◌∷◌, map, take, length, String, Global}
 use Rattle.std.proofs.Common.{Ordering, Less, Equal, Greater, string_bytes, refl, sym, ap, ◌∙◌}
-use Rattle.std.proofs.lemmas.List.{map-append, take_more, take_all}
 use Rattle.std.proofs.lemmas.Simd.{map-map}
 use Rattle.std.specs.String.{string_cmp}
 use Rattle.std.specs.BTreeMap.{insert_entry}
@@ -10,6 +9,7 @@ use Rattle.toml.specs.Data.{Data, member}
 use Rattle.toml.specs.declared.value.Value.{Value}
 use Rattle.toml.specs.View.{view, items_of, items_view, members_view}
 use Rattle.toml.proofs.Views.{Entry}
+use Rattle.stack_model.proofs.Filled.{all as filled}
 use Rattle.stack_reader.specs.Writing.{put_member}
 
 put_at : (o : Ordering) (k : String Global) (v : Value) (e : Entry) (es : List Entry)
@@ -32,16 +32,7 @@ pub was_put : (k : String Global) (v : Value) (word : List ℕ) (es : List Entry
     → members_view (insert_entry string_cmp es k v) ≡ put_member word (view v) (members_view es)
 was_put k v word es same = is_put k v es ∙ ap (λ w. put_member w (view v) (members_view es)) same
 
--- a list of values that a loop fills, with one value more
-pub more : {X : Type 0} (f : X → Data) (vs next : List Value) (xs : List X) (i : ℕ) (v : Value) (d : X)
-    → next ≡ vs ++ v ∷ [] → view v ≡ f (get_or xs i d) → i < length xs
-    → map view vs ≡ map f (take i xs) → map view next ≡ map f (take (i + 1) xs)
-more f vs next xs i v d h is lt before =
-    ap (map view) h ∙ (map-append view vs (v ∷ []) ∙ (ap (λ ys. ys ++ view v ∷ []) before
-    ∙ (ap (λ y. map f (take i xs) ++ y ∷ []) is
-    ∙ sym (ap (map f) (take_more xs i d lt) ∙ map-append f (take i xs) (get_or xs i d ∷ [])))))
-
 -- a list that a loop has filled has all values, each by way of g
-pub all : {X Y : Type 0} (f : Y → Data) (g : X → Y) (vs : List Value) (xs : List X) (i : ℕ) → length xs ≤ i
-    → map view vs ≡ map (λ x. f (g x)) (take i xs) → items_view vs ≡ items_of (map f (map g xs))
-all f g vs xs i le h = ap items_of (h ∙ (ap (map (λ x. f (g x))) (take_all i xs le) ∙ sym (map-map f g xs)))
+pub all : {X Y : Type 0} (f : Y → Data) (g : X → Y) (vs : List Value) (xs : List X) {n : ℕ} (i : ℕ)
+    → n ≡ length xs → n ≤ i → map view vs ≡ map (λ x. f (g x)) (take i xs) → items_view vs ≡ items_of (map f (map g xs))
+all f g vs xs i same le h = ap items_of (filled view (λ x. f (g x)) vs xs i same le h ∙ sym (map-map f g xs))

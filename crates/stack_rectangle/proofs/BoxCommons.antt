@@ -3,13 +3,12 @@
 use Rattle.std.proofs.Common.{◌≡◌, ℤ, pos, ◌+ℤ◌, ◌-ℤ◌, ◌*ℤ◌, List, false, sym, subst, arith, ◌↔◌}
 use Rattle.stack_algebra.specs.IntegerOrder.{◌≼◌, ◌≺◌}
 use Rattle.stack_algebra.proofs.Integers.{sums, expand}
-use Rattle.stack_algebra.proofs.Order.{mul_nonneg, nonneg-cancel}
 use Rattle.stack_polygon.specs.declared.point.Point.{Point}
 use Rattle.stack_polygon.specs.Plane.{Triple, IsAt}
 use Rattle.stack_overlap.specs.Separation.{IsCommon}
 use Rattle.stack_overlap.specs.CommonPoints.{IsOnSegment}
 use Rattle.stack_rectangle.specs.Rectangles.{Extent, common_of}
-use Rattle.stack_rectangle.proofs.LevelEdges.{pt}
+use Rattle.stack_rectangle.proofs.LevelEdges.{pt, kept}
 use Rattle.stack_rectangle.proofs.Boxes.{IsBox}
 use Rattle.stack_rectangle.proofs.BoxPoints.{IsWithin, points}
 use Rattle.stack_rectangle.proofs.CommonRanges.{to_common, of_common}
@@ -33,68 +32,34 @@ commons ps qs a b one other X = (
       },
 )
 
--- between the ends of a level segment
-level_on : (x u y X Y w : ℤ) → x ≺ u → (u -ℤ x) *ℤ (Y -ℤ y *ℤ w) -ℤ (y -ℤ y) *ℤ (X -ℤ x *ℤ w) ≡ pos 0
-    → (y *ℤ w ≼ Y) × (Y ≼ y *ℤ w)
-level_on x u y X Y w h e =
-    let p = nonneg-cancel (u -ℤ x) (Y -ℤ y *ℤ w) (omega (arith, sums))
-    (simp expand (omega (arith, sums, simp expand at e))) in
-    let q = nonneg-cancel (u -ℤ x) (y *ℤ w -ℤ Y) (omega (arith, sums))
-    (simp expand (omega (arith, sums, simp expand at e))) in
-    (omega (arith, sums), omega (arith, sums))
+-- on the line of a level segment
+level_line : (x u y X Y w : ℤ) → x ≺ u
+    → (u -ℤ x) *ℤ (Y -ℤ y *ℤ w) -ℤ (y -ℤ y) *ℤ (X -ℤ x *ℤ w) ≡ pos 0 ↔ (y *ℤ w ≼ Y) × (Y ≼ y *ℤ w)
+level_line x u y X Y w h = (
+  λ e. (
+    (kept false (u -ℤ x) (y *ℤ w) Y (omega (arith, sums))).0 (simp expand (omega (arith, sums, simp expand at e))),
+    (kept false (u -ℤ x) Y (y *ℤ w) (omega (arith, sums))).0 (simp expand (omega (arith, sums, simp expand at e))),
+  ),
+  λ p.
+      let e : Y ≡ y *ℤ w = omega (arith, sums) in
+      subst (λ z. (u -ℤ x) *ℤ (z -ℤ y *ℤ w) -ℤ (y -ℤ y) *ℤ (X -ℤ x *ℤ w) ≡ pos 0) (sym e)
+      (simp expand (omega (arith, sums))),
+)
 
-level_off : (x u y X Y w : ℤ) → y *ℤ w ≼ Y → Y ≼ y *ℤ w
-    → (u -ℤ x) *ℤ (Y -ℤ y *ℤ w) -ℤ (y -ℤ y) *ℤ (X -ℤ x *ℤ w) ≡ pos 0
-level_off x u y X Y w p q =
-    let e : Y ≡ y *ℤ w = omega (arith, sums) in
-    subst (λ z. (u -ℤ x) *ℤ (z -ℤ y *ℤ w) -ℤ (y -ℤ y) *ℤ (X -ℤ x *ℤ w) ≡ pos 0) (sym e)
-    (simp expand (omega (arith, sums)))
+-- ahead of one end on the way to the other
+ahead : (x u y X Y w : ℤ) → x ≺ u
+    → pos 0 ≼ (u -ℤ x) *ℤ (X -ℤ x *ℤ w) +ℤ (y -ℤ y) *ℤ (Y -ℤ y *ℤ w) ↔ x *ℤ w ≼ X
+ahead x u y X Y w h =
+    let e : (u -ℤ x) *ℤ (X -ℤ x *ℤ w) +ℤ (y -ℤ y) *ℤ (Y -ℤ y *ℤ w) ≡ (u -ℤ x) *ℤ (X -ℤ x *ℤ w) =
+    simp expand (omega (arith, sums)) in
+    rw e (kept false (u -ℤ x) (x *ℤ w) X (omega (arith, sums)))
 
-upright_on : (x y v X Y w : ℤ) → y ≺ v → (x -ℤ x) *ℤ (Y -ℤ y *ℤ w) -ℤ (v -ℤ y) *ℤ (X -ℤ x *ℤ w) ≡ pos 0
-    → (x *ℤ w ≼ X) × (X ≼ x *ℤ w)
-upright_on x y v X Y w h e =
-    let p = nonneg-cancel (v -ℤ y) (X -ℤ x *ℤ w) (omega (arith, sums))
-    (simp expand (omega (arith, sums, simp expand at e))) in
-    let q = nonneg-cancel (v -ℤ y) (x *ℤ w -ℤ X) (omega (arith, sums))
-    (simp expand (omega (arith, sums, simp expand at e))) in
-    (omega (arith, sums), omega (arith, sums))
-
-upright_off : (x y v X Y w : ℤ) → x *ℤ w ≼ X → X ≼ x *ℤ w
-    → (x -ℤ x) *ℤ (Y -ℤ y *ℤ w) -ℤ (v -ℤ y) *ℤ (X -ℤ x *ℤ w) ≡ pos 0
-upright_off x y v X Y w p q =
-    let e : X ≡ x *ℤ w = omega (arith, sums) in
-    subst (λ z. (x -ℤ x) *ℤ (Y -ℤ y *ℤ w) -ℤ (v -ℤ y) *ℤ (z -ℤ x *ℤ w) ≡ pos 0) (sym e)
-    (simp expand (omega (arith, sums)))
-
--- ahead of one end on the way to the other, by x alone, or by y alone
-ahead_x : (x u y X Y w : ℤ) → x ≺ u → pos 0 ≼ (u -ℤ x) *ℤ (X -ℤ x *ℤ w) +ℤ (y -ℤ y) *ℤ (Y -ℤ y *ℤ w)
-    → x *ℤ w ≼ X
-ahead_x x u y X Y w h e =
-    let p = nonneg-cancel (u -ℤ x) (X -ℤ x *ℤ w) (omega (arith, sums))
-    (simp expand (omega (arith, sums, simp expand at e))) in
-    omega (arith, sums)
-
-behind_x : (x u y X Y w : ℤ) → x ≺ u → pos 0 ≼ (x -ℤ u) *ℤ (X -ℤ u *ℤ w) +ℤ (y -ℤ y) *ℤ (Y -ℤ y *ℤ w)
-    → X ≼ u *ℤ w
-behind_x x u y X Y w h e =
-    let p = nonneg-cancel (u -ℤ x) (u *ℤ w -ℤ X) (omega (arith, sums))
-    (simp expand (omega (arith, sums, simp expand at e))) in
-    omega (arith, sums)
-
-x_ahead : (x u y X Y w : ℤ) → x ≺ u → x *ℤ w ≼ X
-    → pos 0 ≼ (u -ℤ x) *ℤ (X -ℤ x *ℤ w) +ℤ (y -ℤ y) *ℤ (Y -ℤ y *ℤ w)
-x_ahead x u y X Y w h e =
-    let m = mul_nonneg (u -ℤ x) (X -ℤ x *ℤ w) (omega (arith, sums)) (omega (arith, sums)) in
-    simp expand (omega (arith, sums, simp expand at m))
-
-x_behind : (x u y X Y w : ℤ) → x ≺ u → X ≼ u *ℤ w
-    → pos 0 ≼ (x -ℤ u) *ℤ (X -ℤ u *ℤ w) +ℤ (y -ℤ y) *ℤ (Y -ℤ y *ℤ w)
-x_behind x u y X Y w h e =
-    let m = mul_nonneg (u -ℤ x) (u *ℤ w -ℤ X) (omega (arith, sums)) (omega (arith, sums)) in
-    simp expand (omega (arith, sums, simp expand at m))
-
-swap : (a b : ℤ) → pos 0 ≼ a +ℤ b → pos 0 ≼ b +ℤ a
-swap a b h = omega (arith, sums)
+behind : (x u y X Y w : ℤ) → x ≺ u
+    → pos 0 ≼ (x -ℤ u) *ℤ (X -ℤ u *ℤ w) +ℤ (y -ℤ y) *ℤ (Y -ℤ y *ℤ w) ↔ X ≼ u *ℤ w
+behind x u y X Y w h =
+    let e : (x -ℤ u) *ℤ (X -ℤ u *ℤ w) +ℤ (y -ℤ y) *ℤ (Y -ℤ y *ℤ w) ≡ (u -ℤ x) *ℤ (u *ℤ w -ℤ X) =
+    simp expand (omega (arith, sums)) in
+    rw e (kept false (u -ℤ x) X (u *ℤ w) (omega (arith, sums)))
 
 pub level_segment : (x u y v : ℤ) → x ≺ u → y ≡ v → (X : Triple)
     → IsWithin false (record { x = record { low = x; high = u }; y = record { low = y; high = v } }) X
@@ -108,44 +73,37 @@ level_segment x u y v h e = subst (λ v. (X : Triple)
         ↔ IsOnSegment (pt x y) (pt u y) X
     same X = (
       λ c. record {
-        on_line = level_off x u y X.x X.y X.w c.1.0 c.1.1;
-        from_start = x_ahead x u y X.x X.y X.w h c.0.0;
-        from_end = x_behind x u y X.x X.y X.w h c.0.1;
+        on_line = (level_line x u y X.x X.y X.w h).1 c.1;
+        from_start = (ahead x u y X.x X.y X.w h).1 c.0.0;
+        from_end = (behind x u y X.x X.y X.w h).1 c.0.1;
       },
       λ s. (
-        (ahead_x x u y X.x X.y X.w h s.from_start, behind_x x u y X.x X.y X.w h s.from_end),
-        level_on x u y X.x X.y X.w h s.on_line,
+        ((ahead x u y X.x X.y X.w h).0 s.from_start, (behind x u y X.x X.y X.w h).0 s.from_end),
+        (level_line x u y X.x X.y X.w h).0 s.on_line,
       ),
     )
+
+-- with x and y exchanged
+abbrev mirrored : Point → Point
+mirrored o = pt o.y o.x
+
+abbrev mirror : Triple → Triple
+mirror X = record { x = X.y; y = X.x; w = X.w; positive = X.positive }
+
+mirrored_on : (a b : Point) (X : Triple) → IsOnSegment a b X → IsOnSegment (mirrored a) (mirrored b) (mirror X)
+mirrored_on a b X s = record {
+  on_line = omega (arith, sums);
+  from_start = omega (arith, sums);
+  from_end = omega (arith, sums);
+}
 
 pub upright_segment : (x u y v : ℤ) → x ≡ u → y ≺ v → (X : Triple)
     → IsWithin false (record { x = record { low = x; high = u }; y = record { low = y; high = v } }) X
     ↔ IsOnSegment (pt x y) (pt u v) X
-upright_segment x u y v e h = subst (λ u. (X : Triple)
-    → IsWithin false (record { x = record { low = x; high = u }; y = record { low = y; high = v } }) X
-    ↔ IsOnSegment (pt x y) (pt u v) X) e same
-  where
-    same : (X : Triple)
-        → IsWithin false (record { x = record { low = x; high = x }; y = record { low = y; high = v } }) X
-        ↔ IsOnSegment (pt x y) (pt x v) X
-    same X = (
-      λ c. record {
-        on_line = upright_off x y v X.x X.y X.w c.0.0 c.0.1;
-        from_start = swap ((v -ℤ y) *ℤ (X.y -ℤ y *ℤ X.w)) ((x -ℤ x) *ℤ (X.x -ℤ x *ℤ X.w))
-            (x_ahead y v x X.y X.x X.w h c.1.0);
-        from_end = swap ((y -ℤ v) *ℤ (X.y -ℤ v *ℤ X.w)) ((x -ℤ x) *ℤ (X.x -ℤ x *ℤ X.w))
-            (x_behind y v x X.y X.x X.w h c.1.1);
-      },
-      λ s. (
-        upright_on x y v X.x X.y X.w h s.on_line,
-        (
-          ahead_x y v x X.y X.x X.w h (swap ((x -ℤ x) *ℤ (X.x -ℤ x *ℤ X.w))
-              ((v -ℤ y) *ℤ (X.y -ℤ y *ℤ X.w)) s.from_start),
-          behind_x y v x X.y X.x X.w h (swap ((x -ℤ x) *ℤ (X.x -ℤ x *ℤ X.w))
-              ((y -ℤ v) *ℤ (X.y -ℤ v *ℤ X.w)) s.from_end),
-        ),
-      ),
-    )
+upright_segment x u y v e h X = let k = level_segment y v x u h e (mirror X) in (
+  λ c. mirrored_on (pt y x) (pt v u) (mirror X) (k.0 (c.1, c.0)),
+  λ s. let c = k.1 (mirrored_on (pt x y) (pt u v) X s) in (c.1, c.0),
+)
 
 -- one number by one number is one point
 pub one_point : (x u y v : ℤ) → x ≡ u → y ≡ v → (X : Triple)

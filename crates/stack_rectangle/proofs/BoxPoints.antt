@@ -60,14 +60,13 @@ IsEnd r z = (z ≡ r.low) ⊎ (z ≡ r.high)
 -- the corners of a rectangle are those of its ranges
 pub corner_at : (ps : List Point) (e : Extent) → IsBox ps e → (x y : ℤ) → IsEnd e.x x → IsEnd e.y y
     → IsCornerOf ps (pt x y)
-corner_at ps e box x y (inl p) (inl q) = let (i, (lt, c, d)) = box.lower in
-    (i, (lt, subst (λ o. corner_of ps i ≡ o) (λ k. pt (sym p k) (sym q k)) c))
-corner_at ps e box x y (inr p) (inl q) = let (i, (lt, c, d)) = box.right in
-    (i, (lt, subst (λ o. corner_of ps i ≡ o) (λ k. pt (sym p k) (sym q k)) c))
-corner_at ps e box x y (inr p) (inr q) = let (i, (lt, c, d)) = box.upper in
-    (i, (lt, subst (λ o. corner_of ps i ≡ o) (λ k. pt (sym p k) (sym q k)) c))
-corner_at ps e box x y (inl p) (inr q) = let (i, (lt, c, d)) = box.left in
-    (i, (lt, subst (λ o. corner_of ps i ≡ o) (λ k. pt (sym p k) (sym q k)) c))
+corner_at ps e box x y = elim [
+  | inl p ↦ elim [ inl q ↦ from box.lower p q | inr q ↦ from box.left p q ]
+  | inr p ↦ elim [ inl q ↦ from box.right p q | inr q ↦ from box.upper p q ]
+]
+  where
+    from : {d : Point} {u v : ℤ} → HasEdge ps (pt u v) d → x ≡ u → y ≡ v → IsCornerOf ps (pt x y)
+    from (i, (lt, c, _)) p q = (i, (lt, subst (λ o. corner_of ps i ≡ o) (λ k. pt (sym p k) (sym q k)) c))
 
 -- the corners of a rectangle lie within its ranges
 pub record IsCornerWithin (e : Extent) (c : Point) : Type 0 where

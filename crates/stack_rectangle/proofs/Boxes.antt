@@ -49,7 +49,7 @@ pub record IsBox (ps : List Point) (e : Extent) : Type 0 where
 abbrev extent : ℤ → ℤ → ℤ → ℤ → Extent
 extent x u y v = record { x = record { low = x; high = u }; y = record { low = y; high = v } }
 
--- the four lists that go round a rectangle, by the corner that they begin at
+-- the list that goes round a rectangle from its low left corner on
 from_low_left : (x u y v : ℤ) → x ≺ u → y ≺ v
     → IsBox (pt x y ∷ pt u y ∷ pt u v ∷ pt x v ∷ []) (extent x u y v)
 from_low_left x u y v h k = record {
@@ -70,64 +70,30 @@ from_low_left x u y v h k = record {
     sides (suc (suc (suc zero))) lt = inr (inr (refl, refl))
     sides (suc (suc (suc (suc i)))) lt = absurd (omega arith)
 
-from_low_right : (x u y v : ℤ) → x ≺ u → y ≺ v
-    → IsBox (pt u y ∷ pt u v ∷ pt x v ∷ pt x y ∷ []) (extent x u y v)
-from_low_right x u y v h k = record {
-  wide = h;
-  tall = k;
-  lower = (3, (omega arith, refl, refl));
-  right = (0, (omega arith, refl, refl));
-  upper = (1, (omega arith, refl, refl));
-  left = (2, (omega arith, refl, refl));
+-- what goes round from one corner also goes round from the next
+from_next : {a b c d : Point} {e : Extent} → IsBox (a ∷ b ∷ c ∷ d ∷ []) e → IsBox (b ∷ c ∷ d ∷ a ∷ []) e
+from_next {a} {b} {c} {d} {e} h = record {
+  wide = h.wide;
+  tall = h.tall;
+  lower = edge h.lower;
+  right = edge h.right;
+  upper = edge h.upper;
+  left = edge h.left;
   no_other = sides;
 }
   where
-    sides : (k : ℕ) → k < 4 → IsSide (extent x u y v) (corner_of (pt u y ∷ pt u v ∷ pt x v ∷ pt x y ∷ []) k)
-        (end_of (pt u y ∷ pt u v ∷ pt x v ∷ pt x y ∷ []) k)
-    sides zero lt = inl (inr (refl, refl))
-    sides (suc zero) lt = inr (inl (refl, refl))
-    sides (suc (suc zero)) lt = inr (inr (refl, refl))
-    sides (suc (suc (suc zero))) lt = inl (inl (refl, refl))
-    sides (suc (suc (suc (suc i)))) lt = absurd (omega arith)
+    edge : {p q : Point} → HasEdge (a ∷ b ∷ c ∷ d ∷ []) p q → HasEdge (b ∷ c ∷ d ∷ a ∷ []) p q
+    edge (zero, k) = (3, (omega arith, k.1, k.2))
+    edge (suc zero, k) = (0, (omega arith, k.1, k.2))
+    edge (suc (suc zero), k) = (1, (omega arith, k.1, k.2))
+    edge (suc (suc (suc zero)), k) = (2, (omega arith, k.1, k.2))
+    edge (suc (suc (suc (suc i))), k) = absurd (omega (arith, k.0))
 
-from_high_right : (x u y v : ℤ) → x ≺ u → y ≺ v
-    → IsBox (pt u v ∷ pt x v ∷ pt x y ∷ pt u y ∷ []) (extent x u y v)
-from_high_right x u y v h k = record {
-  wide = h;
-  tall = k;
-  lower = (2, (omega arith, refl, refl));
-  right = (3, (omega arith, refl, refl));
-  upper = (0, (omega arith, refl, refl));
-  left = (1, (omega arith, refl, refl));
-  no_other = sides;
-}
-  where
-    sides : (k : ℕ) → k < 4 → IsSide (extent x u y v) (corner_of (pt u v ∷ pt x v ∷ pt x y ∷ pt u y ∷ []) k)
-        (end_of (pt u v ∷ pt x v ∷ pt x y ∷ pt u y ∷ []) k)
-    sides zero lt = inr (inl (refl, refl))
-    sides (suc zero) lt = inr (inr (refl, refl))
-    sides (suc (suc zero)) lt = inl (inl (refl, refl))
-    sides (suc (suc (suc zero))) lt = inl (inr (refl, refl))
-    sides (suc (suc (suc (suc i)))) lt = absurd (omega arith)
-
-from_high_left : (x u y v : ℤ) → x ≺ u → y ≺ v
-    → IsBox (pt x v ∷ pt x y ∷ pt u y ∷ pt u v ∷ []) (extent x u y v)
-from_high_left x u y v h k = record {
-  wide = h;
-  tall = k;
-  lower = (1, (omega arith, refl, refl));
-  right = (2, (omega arith, refl, refl));
-  upper = (3, (omega arith, refl, refl));
-  left = (0, (omega arith, refl, refl));
-  no_other = sides;
-}
-  where
-    sides : (k : ℕ) → k < 4 → IsSide (extent x u y v) (corner_of (pt x v ∷ pt x y ∷ pt u y ∷ pt u v ∷ []) k)
-        (end_of (pt x v ∷ pt x y ∷ pt u y ∷ pt u v ∷ []) k)
-    sides zero lt = inr (inr (refl, refl))
-    sides (suc zero) lt = inl (inl (refl, refl))
-    sides (suc (suc zero)) lt = inl (inr (refl, refl))
-    sides (suc (suc (suc zero))) lt = inr (inl (refl, refl))
+    sides : (k : ℕ) → k < 4 → IsSide e (corner_of (b ∷ c ∷ d ∷ a ∷ []) k) (end_of (b ∷ c ∷ d ∷ a ∷ []) k)
+    sides zero lt = h.no_other 1 (omega arith)
+    sides (suc zero) lt = h.no_other 2 (omega arith)
+    sides (suc (suc zero)) lt = h.no_other 3 (omega arith)
+    sides (suc (suc (suc zero))) lt = h.no_other 0 (omega arith)
     sides (suc (suc (suc (suc i)))) lt = absurd (omega arith)
 
 rising : (x u : ℤ) → x ≺ u → range_between x u ≡ record { low = x; high = u }
@@ -167,7 +133,8 @@ across x y u v convex =
         let hx : u ≺ x = omega (arith, sums) in
         let hy : v ≺ y = omega (arith, sums) in
         subst (IsBox (pt x y ∷ pt u y ∷ pt u v ∷ pt x v ∷ []))
-        (λ i. record { x = sym (falling x u hx) i; y = sym (falling y v hy) i }) (from_high_right u x v y hx hy)
+        (λ i. record { x = sym (falling x u hx) i; y = sym (falling y v hy) i })
+        (from_next (from_next (from_low_left u x v y hx hy)))
 
 -- from (x, y) upright to (x, v), across to (u, v), and back
 upright : (x y u v : ℤ) → IsStrictlyConvex (pt x y ∷ pt x v ∷ pt u v ∷ pt u y ∷ [])
@@ -184,12 +151,14 @@ upright x y u v convex =
         let hx : u ≺ x = omega (arith, sums) in
         let hy : y ≺ v = omega (arith, sums) in
         subst (IsBox (pt x y ∷ pt x v ∷ pt u v ∷ pt u y ∷ []))
-        (λ i. record { x = sym (falling x u hx) i; y = sym (rising y v hy) i }) (from_low_right u x y v hx hy)
+        (λ i. record { x = sym (falling x u hx) i; y = sym (rising y v hy) i })
+        (from_next (from_low_left u x y v hx hy))
     go (inr h) =
         let hx : x ≺ u = omega (arith, sums) in
         let hy : v ≺ y = omega (arith, sums) in
         subst (IsBox (pt x y ∷ pt x v ∷ pt u v ∷ pt u y ∷ []))
-        (λ i. record { x = sym (rising x u hx) i; y = sym (falling y v hy) i }) (from_high_left x u v y hx hy)
+        (λ i. record { x = sym (rising x u hx) i; y = sym (falling y v hy) i })
+        (from_next (from_next (from_next (from_low_left x u v y hx hy))))
 
 -- two edges in a row aren't both level, nor both upright
 two_level : (a b c : Point) → pos 0 ≺ triangle_of a b c → a.y ≡ b.y → b.y ≡ c.y → ⊥

@@ -187,9 +187,7 @@ judged_end : (holds : Holds) (number : ℕ) (v : Surveyed) (j : Judgement) (name
     → Ends holds (sample_step number v j) names (Ok due)
     → (c : CertificateValue) × (summary number v c (is_narrow Live v default_budget) ≡ due)
 judged_end holds number v (certified c) names due p = (c, p.1)
-judged_end holds number v (too_wide place) names due p = absurd p.1
-judged_end holds number v spent names due p = absurd p.1
-judged_end holds number v unjudged names due p = absurd p.1
+judged_end holds number v _ names due p = absurd p.1
 
 found_end : (holds : Holds) (number : ℕ) (s : Structure) (found : Found) (names : List (List ℕ)) (due : Due)
     → sample_of number ≡ Ok s → MayFind s found

@@ -53,13 +53,10 @@ not_spent None c h = cc
 not_spent (Some p) c h = cc
 
 spent_only : (q : Question) (v : Surveyed) (x : End Fraction) → judgement_of q v x ≡ spent → x ≡ over
-spent_only q v (infeasible T) h = absurd (not_spent (end_place q v (infeasible T)) _ h)
-spent_only q v (feasible T) h = absurd (not_spent (end_place q v (feasible T)) _ h)
-spent_only q v (optimal T) h = absurd (not_spent (end_place q v (optimal T)) _ h)
-spent_only q v (ray T c) h = absurd (not_spent (end_place q v (ray T c)) _ h)
 spent_only q v (wide p k s) h = absurd cc
 spent_only q v over h = refl
 spent_only q v never h = absurd cc
+spent_only q v x h = absurd (not_spent (end_place q v x) _ h)
 
 wide_status : (s : Structure) (p : JudgePlace) → status_of (faulty (wide_fault s p)) ≡ 7
 wide_status s (places.Run p) = refl

@@ -248,11 +248,7 @@ further_ends holds (yields m i j n budget) v model name bytes text input told he
     (goes_on holds (surveyed_file m) (paired_file i j n budget) (m ∷ []) (n ∷ []) v
     (Err (faulty (long inputs.Directions))) (all_accepted holds m bytes v (ap holds r.0 ∙ told) is)
     (rw r.4 (read_long holds inputs.Directions n text (directions_work budget v r.3) (ap holds r.1 ∙ held) more)))
-further_ends holds (contacts m) v model name bytes text input told held is r more = absurd r
-further_ends holds (judges q m budget) v model name bytes text input told held is r more = absurd r
-further_ends holds (stack kind n) v model name bytes text input told held is r more = absurd r
-further_ends holds (sample n) v model name bytes text input told held is r more = absurd r
-further_ends holds (ranges m budget) v model name bytes text input told held is r more = absurd r
+further_ends holds _ v model name bytes text input told held is r more = absurd r
 
 says : (status : ℕ) (form : Form) (shelf : ShelfSeen) (out err : StreamSeen) → RunMeets status (Some form) shelf out err
     → LengthSays form status shelf out err

@@ -70,24 +70,13 @@ settled_fault _ some = tt
 -- each fault of a model has status 5
 content_status : (e : ModelError) → from_read (reading.Model e) ≢ memory
     → fault_status (from_read (reading.Model e)) ≡ 5
-content_status (contents.Range spot key) some = refl
-content_status (contents.SameName spot) some = refl
-content_status (contents.NoMaterial block) some = refl
-content_status (contents.NoBlock load) some = refl
-content_status (contents.NotConvex block edge) some = refl
-content_status (contents.LoadOnFixed load) some = refl
-content_status (contents.TooMany what) some = refl
 content_status contents.Memory some = absurd (some refl)
-content_status (contents.NoJointMaterial joint) some = refl
-content_status (contents.SameJoint joint) some = refl
+content_status _ some = refl
 
 pub read_status : (e : ReadError) → from_read e ≢ memory → fault_status (from_read e) ≡ 5
-read_status reading.NotToml some = refl
-read_status (reading.UnknownKey spot) some = refl
-read_status (reading.Missing spot key) some = refl
-read_status (reading.Kind spot key) some = refl
 read_status (reading.Model e) some = content_status e some
 read_status reading.Memory some = absurd (some refl)
+read_status _ some = refl
 
 pub model_status : (bytes : List ℕ) (f : ModelFault bytes) (n : ℕ) → status_of (faulty (model_fault f)) ≡ n → n ≢ 5 → ⊥
 model_status bytes (in_text e is some) n at other = other (sym at ∙ read_status e some)

@@ -91,42 +91,12 @@ below_two Affirmed = omega arith
 below_two Denied = omega arith
 
 pub fault_above : (f : Fault) → 4 ≤ status_of (faulty f)
-fault_above (long input) = omega arith
-fault_above (content e) = omega arith
-fault_above (overlap first second) = omega arith
-fault_above (many_bearings count) = omega arith
-fault_above size = omega arith
-fault_above (certificate_line number) = omega arith
-fault_above (order_line number) = omega arith
-fault_above (directions_line number) = omega arith
-fault_above (wide_check within part place) = omega arith
-fault_above (wide_run within place) = omega arith
-fault_above (wide_end within place) = omega arith
-fault_above (wide_reach within place) = omega arith
-fault_above (wide_table index) = omega arith
-fault_above (over_budget budget) = omega arith
-fault_above no_live = omega arith
-fault_above (no_pair load) = omega arith
 fault_above memory = omega arith
+fault_above _ = omega arith
 
 pub fault_past_output : (f : Fault) → 10 ≡ status_of (faulty f) → ⊥
-fault_past_output (long input) is = omega arith
-fault_past_output (content e) is = omega arith
-fault_past_output (overlap first second) is = omega arith
-fault_past_output (many_bearings count) is = omega arith
-fault_past_output size is = omega arith
-fault_past_output (certificate_line number) is = omega arith
-fault_past_output (order_line number) is = omega arith
-fault_past_output (directions_line number) is = omega arith
-fault_past_output (wide_check within part place) is = omega arith
-fault_past_output (wide_run within place) is = omega arith
-fault_past_output (wide_end within place) is = omega arith
-fault_past_output (wide_reach within place) is = omega arith
-fault_past_output (wide_table index) is = omega arith
-fault_past_output (over_budget budget) is = omega arith
-fault_past_output no_live is = omega arith
-fault_past_output (no_pair load) is = omega arith
 fault_past_output memory is = omega arith
+fault_past_output _ is = omega arith
 
 pub from_two : (r : Refusal) → 2 ≤ status_of r
 from_two words = omega arith

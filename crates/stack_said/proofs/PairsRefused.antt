@@ -45,7 +45,7 @@ module _ (r : Refusal) (n : ℕ) (at : status_of r ≡ n) (own : IsOwn n) (is : 
 
   bytes_not : (v : Surveyed) (loads : ℕ × ℕ) (b : Bool) (text : List ℕ) (names : List (List ℕ))
       → Ends holds ((if b then refuses (long inputs.Directions) else gives text) >>= directions_work budget v loads)
-          names
+      names
       (Err r) → ⊥
   bytes_not v loads true text names p = not_by r n at own (long inputs.Directions) (λ e. own.not_long (sym e)) p.1
   bytes_not v loads false text names p = text_not v loads (directions_of text) names p

@@ -31,9 +31,7 @@ judged_end : (holds : Holds) (q : Question) (budget : ℕ) (v : Surveyed) (j : J
     (due : Due) → Ends holds (judged_step q budget v j) names (Ok due)
     → (c : CertificateValue) × (certificate q v c ≡ due)
 judged_end holds q budget v (certified c) names due p = (c, p.1)
-judged_end holds q budget v (too_wide place) names due p = absurd p.1
-judged_end holds q budget v spent names due p = absurd p.1
-judged_end holds q budget v unjudged names due p = absurd p.1
+judged_end holds q budget v _ names due p = absurd p.1
 
 asked_end : (holds : Holds) (q : Question) (budget : ℕ) (v : Surveyed) (b : Bool) (names : List (List ℕ)) (due : Due)
     → Ends holds (if b then refuses no_live else judged_step q budget v (judgement q v budget)) names (Ok due)

@@ -31,25 +31,7 @@ IsOther _ = ⊤
 
 code_output : (r : CodeRefusal) → (r ≡ code.Output) ⊎ IsOther (refusal_view r)
 code_output code.Output = inl refl
-code_output code.Words = inr tt
-code_output (code.File input) = inr tt
-code_output (code.Long input) = inr tt
-code_output (code.Fault e) = inr tt
-code_output (code.Overlap first second) = inr tt
-code_output (code.ManyBearings count) = inr tt
-code_output code.Size = inr tt
-code_output (code.CertificateLine number) = inr tt
-code_output (code.OrderLine number) = inr tt
-code_output (code.DirectionsLine number) = inr tt
-code_output (code.WideCheck within part place) = inr tt
-code_output (code.WideRun within place) = inr tt
-code_output (code.WideEnd within place) = inr tt
-code_output (code.WideReach within place) = inr tt
-code_output (code.WideTable index) = inr tt
-code_output (code.Spent budget) = inr tt
-code_output code.NoLive = inr tt
-code_output (code.NoPair load) = inr tt
-code_output code.Memory = inr tt
+code_output _ = inr tt
 
 not_ten : (r q : CodeRefusal) → (q ≡ r) ⊎ (TakesMemory (refusal_view r) × (q ≡ code.Memory)) → r ≢ code.Output
     → status_of (refusal_view q) ≢ 10

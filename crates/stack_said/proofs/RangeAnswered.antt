@@ -28,9 +28,7 @@ Said bytes due = (v : Surveyed) × IsAcceptedModel bytes v × (r : RangeValue) �
 step_ends : (holds : Holds) (budget : ℕ) (v : Surveyed) (j : RangeJudgement) (names : List (List ℕ)) (due : Due)
     → Ends holds (range_step budget v j) names (Ok due) → (r : RangeValue) × (ranged v r ≡ due)
 step_ends holds budget v (told r) names due p = (r, p.1)
-step_ends holds budget v (wide_on side place) names due p = absurd p.1
-step_ends holds budget v (spent_on side) names due p = absurd p.1
-step_ends holds budget v no_range names due p = absurd p.1
+step_ends holds budget v _ names due p = absurd p.1
 
 -- and only where a live load is listed
 told_ends : (holds : Holds) (budget : ℕ) (v : Surveyed) (b : Bool) (names : List (List ℕ)) (due : Due)

@@ -17,7 +17,6 @@ use Rattle.stack_lines.specs.Surveying.{surveyed_file}
 use Rattle.stack_lines.specs.Work.{refuses, Holds, Ends}
 use Rattle.stack_lines.proofs.AcceptedFiles.{only_accepted}
 use Rattle.stack_lines.proofs.RefusedFrom.{CameOf, refused_from}
-use Rattle.stack_said.specs.Decided.{Refuses}
 use Rattle.stack_said.specs.FurtherFaults.{HasNoLive, HasWideSide, HasSpentSide}
 use Rattle.stack_said.specs.FurtherRefusals.{RangeRefusals}
 use Rattle.stack_said.specs.MainTheorem.{RunMeets}
@@ -87,43 +86,37 @@ module _ (model : List ℕ) (budget : ℕ) (bytes : List ℕ) (status : ℕ) (sh
       came_why b.refusal status b.at own shelf.holds bytes budget model held
       (refused_from shelf.holds (surveyed_file model) (range_told budget) b.names b.refusal b.ends)
 
-  live_of : (own : IsOwn status) → status ≡ 9 → RangeWhy bytes budget (by own).refusal
-      → HasNoLive bytes × Refuses no_live status out err
-  live_of own nine (for_live w e) = (w, (by own).says no_live e)
-  live_of own nine (for_width w e) =
-      let h : status ≡ 7 = sym (by own).at ∙ ap status_of e
+  -- what each cause says, at its status alone
+  refusals_by : (own : IsOwn status) → RangeWhy bytes budget (by own).refusal
+      → RangeRefusals bytes budget status out err
+  refusals_by own (for_live w e) = let at : status ≡ 9 = sym (by own).at ∙ ap status_of e in record {
+    without_live = λ is. (w, (by own).says no_live e);
+    wide = λ is. absurd (omega (arith, at, is));
+    over = λ is. absurd (omega (arith, at, is));
+  }
+  refusals_by own (for_width w e) =
+      let at : status ≡ 7 = sym (by own).at ∙ ap status_of e
       ∙ wide_is_seven (within_of w.side) w.survey.structure w.place in
-      absurd (omega (arith, h, nine))
-  live_of own nine (for_budget w e) = let h : status ≡ 8 = sym (by own).at ∙ ap status_of e in
-      absurd (omega (arith, h, nine))
+      record {
+        without_live = λ is. absurd (omega (arith, at, is));
+        wide = λ is. (w, (by own).says (wide_within (within_of w.side) w.survey.structure w.place) e);
+        over = λ is. absurd (omega (arith, at, is));
+      }
+  refusals_by own (for_budget w e) = let at : status ≡ 8 = sym (by own).at ∙ ap status_of e in record {
+    without_live = λ is. absurd (omega (arith, at, is));
+    wide = λ is. absurd (omega (arith, at, is));
+    over = λ is. (w, (by own).says (over_budget budget) e);
+  }
 
-  width_of : (own : IsOwn status) → status ≡ 7 → RangeWhy bytes budget (by own).refusal
-      → (w : HasWideSide bytes budget)
-      × Refuses (wide_within (within_of w.side) w.survey.structure w.place) status out err
-  width_of own seven (for_live w e) = let h : status ≡ 9 = sym (by own).at ∙ ap status_of e in
-      absurd (omega (arith, h, seven))
-  width_of own seven (for_width w e) = (w, (by own).says (wide_within (within_of w.side) w.survey.structure w.place) e)
-  width_of own seven (for_budget w e) = let h : status ≡ 8 = sym (by own).at ∙ ap status_of e in
-      absurd (omega (arith, h, seven))
-
-  budget_of : (own : IsOwn status) → status ≡ 8 → RangeWhy bytes budget (by own).refusal
-      → HasSpentSide bytes budget × Refuses (over_budget budget) status out err
-  budget_of own eight (for_live w e) = let h : status ≡ 9 = sym (by own).at ∙ ap status_of e in
-      absurd (omega (arith, h, eight))
-  budget_of own eight (for_width w e) =
-      let h : status ≡ 7 = sym (by own).at ∙ ap status_of e
-      ∙ wide_is_seven (within_of w.side) w.survey.structure w.place in
-      absurd (omega (arith, h, eight))
-  budget_of own eight (for_budget w e) = (w, (by own).says (over_budget budget) e)
-
-  own_at : (k : ℕ) → status ≡ k → 6 < k → k < 10 → IsOwn status
-  own_at k is above below = own_low status (omega (arith, is, above)) (omega (arith, is, below))
+  low : (k : ℕ) → status ≡ k → 6 < k → k < 10 → RangeRefusals bytes budget status out err
+  low k is above below = let own = own_low status (omega (arith, is, above)) (omega (arith, is, below)) in
+      refusals_by own (why own)
 
   refusals : RangeRefusals bytes budget status out err
   refusals = record {
-    without_live = λ nine. let own = own_at 9 nine (omega arith) (omega arith) in live_of own nine (why own);
-    wide = λ seven. let own = own_at 7 seven (omega arith) (omega arith) in width_of own seven (why own);
-    over = λ eight. let own = own_at 8 eight (omega arith) (omega arith) in budget_of own eight (why own);
+    without_live = λ is. (low 9 is (omega arith) (omega arith)).without_live is;
+    wide = λ is. (low 7 is (omega arith) (omega arith)).wide is;
+    over = λ is. (low 8 is (omega arith) (omega arith)).over is;
   }
 
 pub range_refuses : {status : ℕ} {form : Option Form} {shelf : ShelfSeen} {out err : StreamSeen}

@@ -18,7 +18,7 @@ use Rattle.stack_lines.specs.Yielding.{loads_step, directions_step, region_step,
 use Rattle.stack_lines.specs.Yielding.{paired_file, wide_toward, yield_work}
 use Rattle.stack_lines.proofs.AcceptedFiles.{only_accepted}
 use Rattle.stack_lines.proofs.RefusedFrom.{CameOf, refused_from}
-use Rattle.stack_said.specs.Decided.{IsShort, Refuses}
+use Rattle.stack_said.specs.Decided.{IsShort}
 use Rattle.stack_said.specs.FurtherFaults.{HasNoPair, HasFaultyDirections, HasWideDirection, HasSpentDirection}
 use Rattle.stack_said.specs.FurtherRefusals.{RegionRefusals}
 use Rattle.stack_said.specs.MainTheorem.{RunMeets}
@@ -129,60 +129,46 @@ module _ (model : List ℕ) (i j : ℕ) (name : List ℕ) (budget : ℕ) (bytes 
       came_why b.refusal status b.at own shelf.holds bytes text i j budget model name told held
       (refused_from shelf.holds (surveyed_file model) (paired_file i j name budget) b.names b.refusal b.ends)
 
-  -- the status of each cause
-  abbrev status_is : (own : IsOwn status) → Why own → ℕ
-  status_is own (for_pair w e) = 15
-  status_is own (for_line w e) = 14
-  status_is own (for_width w e) = 7
-  status_is own (for_budget w e) = 8
+  -- what each cause says, at its status alone
+  refusals_by : (own : IsOwn status) → Why own → RegionRefusals bytes text i j budget status out err
+  refusals_by own (for_pair w e) = let at : status ≡ 15 = sym (by own).at ∙ ap status_of e in record {
+    faulty = λ is. absurd (omega (arith, at, is));
+    wide = λ is. absurd (omega (arith, at, is));
+    over = λ is. absurd (omega (arith, at, is));
+    never_without_live = λ is. absurd (omega (arith, at, is));
+  }
+  refusals_by own (for_line w e) = let at : status ≡ 14 = sym (by own).at ∙ ap status_of e in record {
+    faulty = λ is. (w, (by own).says (directions_line w.number) e);
+    wide = λ is. absurd (omega (arith, at, is));
+    over = λ is. absurd (omega (arith, at, is));
+    never_without_live = λ is. absurd (omega (arith, at, is));
+  }
+  refusals_by own (for_width w e) =
+      let at : status ≡ 7 = sym (by own).at ∙ ap status_of e
+      ∙ toward_is_seven (w.direction + 1) w.survey.structure w.place in
+      record {
+        faulty = λ is. absurd (omega (arith, at, is));
+        wide = λ is. (w, (by own).says _ e);
+        over = λ is. absurd (omega (arith, at, is));
+        never_without_live = λ is. absurd (omega (arith, at, is));
+      }
+  refusals_by own (for_budget w e) = let at : status ≡ 8 = sym (by own).at ∙ ap status_of e in record {
+    faulty = λ is. absurd (omega (arith, at, is));
+    wide = λ is. absurd (omega (arith, at, is));
+    over = λ is. (w, (by own).says (over_budget budget) e);
+    never_without_live = λ is. absurd (omega (arith, at, is));
+  }
 
-  has_status : (own : IsOwn status) (w : Why own) → status ≡ status_is own w
-  has_status own (for_pair w e) = sym (by own).at ∙ ap status_of e
-  has_status own (for_line w e) = sym (by own).at ∙ ap status_of e
-  has_status own (for_width w e) = sym (by own).at ∙ ap status_of e
-      ∙ toward_is_seven (w.direction + 1) w.survey.structure w.place
-  has_status own (for_budget w e) = sym (by own).at ∙ ap status_of e
-
-  line_of : (own : IsOwn status) (w : Why own) → status_is own w ≡ 14
-      → (w : HasFaultyDirections bytes text i j) × Refuses (directions_line w.number) status out err
-  line_of own (for_pair w e) is = absurd (omega (arith, is))
-  line_of own (for_line w e) is = (w, (by own).says (directions_line w.number) e)
-  line_of own (for_width w e) is = absurd (omega (arith, is))
-  line_of own (for_budget w e) is = absurd (omega (arith, is))
-
-  width_of : (own : IsOwn status) (w : Why own) → status_is own w ≡ 7 → (w : HasWideDirection bytes text i j budget)
-      × Refuses (wide_toward (w.direction + 1) w.survey.structure w.place) status out err
-  width_of own (for_pair w e) is = absurd (omega (arith, is))
-  width_of own (for_line w e) is = absurd (omega (arith, is))
-  width_of own (for_width w e) is = (w, (by own).says _ e)
-  width_of own (for_budget w e) is = absurd (omega (arith, is))
-
-  budget_of : (own : IsOwn status) (w : Why own) → status_is own w ≡ 8
-      → HasSpentDirection bytes text i j budget × Refuses (over_budget budget) status out err
-  budget_of own (for_pair w e) is = absurd (omega (arith, is))
-  budget_of own (for_line w e) is = absurd (omega (arith, is))
-  budget_of own (for_width w e) is = absurd (omega (arith, is))
-  budget_of own (for_budget w e) is = (w, (by own).says (over_budget budget) e)
-
-  never_nine : (own : IsOwn status) (w : Why own) → status_is own w ≡ 9 → ⊥
-  never_nine own (for_pair w e) is = absurd (omega (arith, is))
-  never_nine own (for_line w e) is = absurd (omega (arith, is))
-  never_nine own (for_width w e) is = absurd (omega (arith, is))
-  never_nine own (for_budget w e) is = absurd (omega (arith, is))
-
-  at_status : (own : IsOwn status) (k : ℕ) → status ≡ k → status_is own (why own) ≡ k
-  at_status own k is = sym (has_status own (why own)) ∙ is
-
-  low : (k : ℕ) → status ≡ k → 6 < k → k < 10 → IsOwn status
-  low k is above below = own_low status (omega (arith, is, above)) (omega (arith, is, below))
+  low : (k : ℕ) → status ≡ k → 6 < k → k < 10 → RegionRefusals bytes text i j budget status out err
+  low k is above below = let own = own_low status (omega (arith, is, above)) (omega (arith, is, below)) in
+      refusals_by own (why own)
 
   refusals : RegionRefusals bytes text i j budget status out err
   refusals = record {
-    faulty = λ is. let own = own_high status (omega (arith, is)) in line_of own (why own) (at_status own 14 is);
-    wide = λ is. let own = low 7 is (omega arith) (omega arith) in width_of own (why own) (at_status own 7 is);
-    over = λ is. let own = low 8 is (omega arith) (omega arith) in budget_of own (why own) (at_status own 8 is);
-    never_without_live = λ is. let own = low 9 is (omega arith) (omega arith) in
-        never_nine own (why own) (at_status own 9 is);
+    faulty = λ is. let own = own_high status (omega (arith, is)) in (refusals_by own (why own)).faulty is;
+    wide = λ is. (low 7 is (omega arith) (omega arith)).wide is;
+    over = λ is. (low 8 is (omega arith) (omega arith)).over is;
+    never_without_live = λ is. (low 9 is (omega arith) (omega arith)).never_without_live is;
   }
 
 pub region_refuses : {status : ℕ} {form : Option Form} {shelf : ShelfSeen} {out err : StreamSeen}

@@ -30,9 +30,7 @@ step_ends : (holds : Holds) (budget : ℕ) (v : Surveyed) (order : List ℕ) (x 
     → (y : Staged) × (stages_due v order y ≡ due)
 step_ends holds budget v order (all_stand fs) names due p = (all_stand fs, p.1)
 step_ends holds budget v order (falls fs m) names due p = (falls fs m, p.1)
-step_ends holds budget v order (too_wide_at k place) names due p = absurd p.1
-step_ends holds budget v order (spent_at k) names due p = absurd p.1
-step_ends holds budget v order no_stages names due p = absurd p.1
+step_ends holds budget v order _ names due p = absurd p.1
 
 module _ (holds : Holds) (budget : ℕ) (bytes : List ℕ) (v : Surveyed) (model : IsAcceptedModel bytes v)
     (due : Due) where
@@ -51,7 +49,7 @@ module _ (holds : Holds) (budget : ℕ) (bytes : List ℕ) (v : Surveyed) (model
   -- the same of the bytes of a file, where they aren't too many
   bytes_end : (text : List ℕ) (b : Bool) (names : List (List ℕ))
       → Ends holds ((if b then refuses (long inputs.Order) else gives text) >>= λ t. order_work budget v t) names
-          (Ok due)
+      (Ok due)
       → Said bytes text due
   bytes_end text true names p = absurd p.1
   bytes_end text false names p = text_ends text (told_order v.structure text) names refl p

@@ -66,9 +66,7 @@ step_ends : (holds : Holds) (budget : ℕ) (v : Surveyed) (i j : ℕ) (ds : List
     (names : List (List ℕ)) (due : Due) → Ends holds (region_step budget v i j ds x) names (Ok due)
     → (r : RegionValue) × (region_due v i j ds r ≡ due)
 step_ends holds budget v i j ds (answered r) names due p = (r, p.1)
-step_ends holds budget v i j ds (passes_at k place) names due p = absurd p.1
-step_ends holds budget v i j ds (spends_at k) names due p = absurd p.1
-step_ends holds budget v i j ds no_outcomes names due p = absurd p.1
+step_ends holds budget v i j ds _ names due p = absurd p.1
 
 module _ (holds : Holds) (budget : ℕ) (bytes : List ℕ) (v : Surveyed) (model : IsAcceptedModel bytes v) (i j : ℕ)
     (due : Due) where
@@ -101,7 +99,7 @@ module _ (holds : Holds) (budget : ℕ) (bytes : List ℕ) (v : Surveyed) (model
   -- the same of the bytes of a file, where they aren't too many
   bytes_end : (loads : ℕ × ℕ) (text : List ℕ) (b : Bool) (names : List (List ℕ)) → AreNamed loads
       → Ends holds ((if b then refuses (long inputs.Directions) else gives text) >>=
-          λ t. directions_work budget v loads t)
+      λ t. directions_work budget v loads t)
       names (Ok due)
       → Said bytes text i j due
   bytes_end loads text true names named p = absurd p.1

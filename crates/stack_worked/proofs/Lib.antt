@@ -1,7 +1,5 @@
 mod ClosedFacts
-mod TruePosts
-mod TrueBlocks
-mod TrueColumns
+mod Certified
 mod TrueScenes
 mod FalseScenes
 mod PostSurvey

@@ -12,7 +12,7 @@ use Rattle.stack_equilibrium.specs.Truth.{held, IsTrueCertificate}
 use Rattle.stack_worked.specs.Scenes.{pushed_post}
 use Rattle.stack_worked.specs.SurveyedPost.{surveyed_post, post_forces, tipping_certificate, tipping_motion}
 use Rattle.stack_worked.specs.SurveyedPost.{PostSceneIsWorked, TheSameIsTrueOfThePost, CertificatesOfPost}
-use Rattle.stack_worked.proofs.TruePosts.{post_tips_at_two}
+use Rattle.stack_worked.proofs.TrueScenes.{true_of_worked_scenes}
 
 -- the post is no body past the end
 past_the_end : (i : ℕ) → nat_eq 1 (suc (suc i)) ≡ false
@@ -48,7 +48,7 @@ worked c = (the_same_is_true c).0
 
 pub certificates_of_post : CertificatesOfPost
 certificates_of_post = record {
-  tips_at_two = (the_same_is_true (tipping_certificate (pos 2))).1 post_tips_at_two;
+  tips_at_two = (the_same_is_true (tipping_certificate (pos 2))).1 true_of_worked_scenes.post_tips_at_two;
   does_not_tip_at_three = λ t. let w = worked (tipping_certificate (pos 3)) t in
       absurd (omega (arith, ints, (w.loaded.forces.balanced 1 (omega arith) refl).along_x));
   does_not_stand_by_them = λ t. let w = worked (stands (post_forces (pos 1) (pos 2))) t in

@@ -1,16 +1,17 @@
 -- The survey of the drawn post: the ground and the post are rectangles, so their ranges tell their contacts.
-use Rattle.std.proofs.Common.{arith, Some, slice_get}
+use Rattle.std.proofs.Common.{arith, Some, slice_get, true, ◌&&◌, int_le}
 use mathlib.Core.Path.{◌≡◌, refl, sym, subst}
-use mathlib.Core.Logic.{inl, inr, ◌⊎◌, ◌≢◌}
+use mathlib.Core.Logic.{inl, inr, ◌⊎◌}
 use Prim.Native.Nat.{ℕ, zero, suc, ◌<◌}
 use lib.IntN.{ℤ, pos, negsuc}
-use Rattle.stack_algebra.specs.IntegerOrder.{◌≼◌}
 use Rattle.std.proofs.lemmas.Int.{ints}
+use Rattle.stack_algebra.proofs.Conjunctions.{both_true}
 use Rattle.std.proofs.lemmas.Option.{same_Some, slice_get_within}
 use Rattle.stack_algebra.specs.Gcd.{gcd}
 use Rattle.stack_polygon.specs.Plane.{Triple, IsAt}
-use Rattle.stack_polygon.specs.Corners.{IsClear, IsStrictlyConvex}
-use Rattle.stack_polygon.specs.Limits.{IsNear, AreInRange}
+use Rattle.stack_polygon.specs.Outlines.{is_convex}
+use Rattle.stack_polygon.proofs.Tested.{convex_from}
+use Rattle.stack_polygon.specs.Limits.{IsNear}
 use Rattle.stack_frame.specs.declared.frame.Frame.{Frame}
 use Rattle.stack_overlap.specs.Separation.{Overlaps}
 use Rattle.stack_contact.specs.declared.types.Bearing.{Bearing}
@@ -28,64 +29,30 @@ use Rattle.stack_worked.specs.Scenes.{ground_corners, post_corners}
 use Rattle.stack_worked.specs.SurveyedPost.{drawn_post, level_bearing, surveyed_post, PostIsSurveyed}
 use Rattle.stack_worked.proofs.ClosedFacts.{below_four}
 
--- an upright rectangle is in range where its sides are
-near : {x0 x1 y0 y1 : ℤ} → IsNear x0 → IsNear x1 → IsNear y0 → IsNear y1 → AreInRange (upright x0 x1 y0 y1)
-near a b c d = below_four _ (record { x = a; y = c }) (record { x = b; y = c }) (record { x = b; y = d })
-    (record { x = a; y = d })
+near : (z : ℤ) → int_le (negsuc 999999) z && int_le z (pos 1000000) ≡ true → IsNear z
+near z h = let e = both_true (int_le (negsuc 999999) z) (int_le z (pos 1000000)) h in
+    record { low = grind (arith, ints); high = grind (arith, ints) }
 
--- a corner is the start or the end of an edge
-start : {A : Type 0} {i k : ℕ} → i ≢ i → i ≢ k → A
-start n m = absurd (n refl)
-
-end : {A : Type 0} {i k : ℕ} → k ≢ i → k ≢ k → A
-end n m = absurd (m refl)
-
-ground_is_convex : IsStrictlyConvex ground_corners
-ground_is_convex = below_four (IsClear ground_corners)
-    (below_four _ start end (λ n m. omega (arith, ints)) (λ n m. omega (arith, ints)))
-    (below_four _ (λ n m. omega (arith, ints)) start end (λ n m. omega (arith, ints)))
-    (below_four _ (λ n m. omega (arith, ints)) (λ n m. omega (arith, ints)) start end)
-    (below_four _ end (λ n m. omega (arith, ints)) (λ n m. omega (arith, ints)) start)
-
-post_is_convex : IsStrictlyConvex post_corners
-post_is_convex = below_four (IsClear post_corners)
-    (below_four _ start end (λ n m. omega (arith, ints)) (λ n m. omega (arith, ints)))
-    (below_four _ (λ n m. omega (arith, ints)) start end (λ n m. omega (arith, ints)))
-    (below_four _ (λ n m. omega (arith, ints)) (λ n m. omega (arith, ints)) start end)
-    (below_four _ end (λ n m. omega (arith, ints)) (λ n m. omega (arith, ints)) start)
-
-near_by : {z : ℤ} → negsuc 999999 ≼ z → z ≼ pos 1000000 → IsNear z
-near_by a b = record { low = a; high = b }
+-- an upright rectangle whose sides are in range and whose convexity computes
+rectangle : {x0 x1 y0 y1 : ℤ} → IsNear x0 → IsNear x1 → IsNear y0 → IsNear y1
+    → is_convex (upright x0 x1 y0 y1) ≡ true → IsRectangle (upright x0 x1 y0 y1)
+rectangle {x0} {x1} {y0} {y1} a b c d h = record {
+  polygon = record {
+    least = omega arith;
+    most = omega arith;
+    in_range = below_four _ (record { x = a; y = c }) (record { x = b; y = c }) (record { x = b; y = d })
+        (record { x = a; y = d });
+    convex = convex_from (upright x0 x1 y0 y1) h;
+  };
+  four = refl;
+  sides = below_four _ (inl refl) (inr refl) (inl refl) (inr refl);
+}
 
 ground_is_rectangle : IsRectangle ground_corners
-ground_is_rectangle = record {
-  polygon = record {
-    least = omega arith;
-    most = omega arith;
-    in_range = near (near_by (omega (arith, ints)) (omega (arith, ints)))
-        (near_by (omega (arith, ints)) (omega (arith, ints)))
-        (near_by (omega (arith, ints)) (omega (arith, ints)))
-        (near_by (omega (arith, ints)) (omega (arith, ints)));
-    convex = ground_is_convex;
-  };
-  four = refl;
-  sides = below_four _ (inl refl) (inr refl) (inl refl) (inr refl);
-}
+ground_is_rectangle = rectangle (near _ refl) (near _ refl) (near _ refl) (near _ refl) refl
 
 post_is_rectangle : IsRectangle post_corners
-post_is_rectangle = record {
-  polygon = record {
-    least = omega arith;
-    most = omega arith;
-    in_range = near (near_by (omega (arith, ints)) (omega (arith, ints)))
-        (near_by (omega (arith, ints)) (omega (arith, ints)))
-        (near_by (omega (arith, ints)) (omega (arith, ints)))
-        (near_by (omega (arith, ints)) (omega (arith, ints)));
-    convex = post_is_convex;
-  };
-  four = refl;
-  sides = below_four _ (inl refl) (inr refl) (inl refl) (inr refl);
-}
+post_is_rectangle = rectangle (near _ refl) (near _ refl) (near _ refl) (near _ refl) refl
 
 -- the ground and the post are the only pair
 pair : IsPair drawn_post 0 1

@@ -5,7 +5,7 @@ use Rattle.std.proofs.lemmas.Int.{ints}
 use Rattle.stack_algebra.specs.IntegerOrder.{◌≼◌, ◌≺◌}
 use Rattle.stack_algebra.proofs.Integers.{sums, expand}
 use Rattle.stack_statics.specs.declared.wrench.Wrench.{Wrench}
-use Rattle.stack_statics.specs.Scene.{IsProper}
+use Rattle.stack_statics.specs.Scene.{SceneBearing, Scene, IsProperBearing, IsProper}
 use Rattle.stack_statics.specs.Certificates.{IsTrueStands}
 use Rattle.stack_statics.specs.Laws.{StandsIsCarried, CollapseExcludesBalance, GreatestIsCarried}
 use Rattle.stack_statics.specs.Laws.{GreatestBoundsEveryFactor, UnboundedCarriesAll}
@@ -13,39 +13,23 @@ use Rattle.stack_worked.specs.Pieces.{standing_forces}
 use Rattle.stack_worked.specs.Scenes.{post_scene, slope_scene, pressed_post, standing_parts}
 use Rattle.stack_worked.specs.WorkedFactors.{FactorsOfWorkedScenes}
 use Rattle.stack_worked.proofs.ClosedFacts.{below_two}
-use Rattle.stack_worked.proofs.TruePosts.{post_tips_at_two, post_bears_any_pressure}
-use Rattle.stack_worked.proofs.TrueBlocks.{block_just_holds, block_slips}
+use Rattle.stack_worked.proofs.TrueScenes.{true_of_worked_scenes}
 
--- each bearing lies between the fixed body and the free one
+-- a bearing lies between the fixed body and the free one
+joins_both : {s : Scene} {z : SceneBearing} → s.bodies ≡ 2 → z.first ≡ 0 → z.second ≡ 1 → pos 0 ≺ z.q
+    → pos 0 ≼ z.p → IsProperBearing s z
+joins_both n a b h k = record {
+  second_exists = omega arith;
+  first_before_second = omega arith;
+  denominator_positive = h;
+  numerator_nonneg = k;
+}
+
 post_is_proper : {p q : ℤ} {w : Wrench} → pos 0 ≺ q → pos 0 ≼ p → IsProper (post_scene p q w)
-post_is_proper h k = below_two _
-    (record {
-      second_exists = omega arith;
-      first_before_second = omega arith;
-      denominator_positive = h;
-      numerator_nonneg = k;
-    })
-    (record {
-      second_exists = omega arith;
-      first_before_second = omega arith;
-      denominator_positive = h;
-      numerator_nonneg = k;
-    })
+post_is_proper h k = below_two _ (joins_both refl refl refl h k) (joins_both refl refl refl h k)
 
 slope_is_proper : {p q : ℤ} → pos 0 ≺ q → pos 0 ≼ p → IsProper (slope_scene p q)
-slope_is_proper h k = below_two _
-    (record {
-      second_exists = omega arith;
-      first_before_second = omega arith;
-      denominator_positive = h;
-      numerator_nonneg = k;
-    })
-    (record {
-      second_exists = omega arith;
-      first_before_second = omega arith;
-      denominator_positive = h;
-      numerator_nonneg = k;
-    })
+slope_is_proper h k = below_two _ (joins_both refl refl refl h k) (joins_both refl refl refl h k)
 
 over_one : (L n : ℤ) → n ≺ L → n ≺ L *ℤ pos 1
 over_one L n h = let e : L *ℤ pos 1 ≡ L = simp expand (omega (arith, sums)) in omega (arith, sums, e, h)
@@ -55,18 +39,18 @@ pressed_post_stands : IsTrueStands pressed_post (standing_forces standing_parts)
 pressed_post_stands = record {
   scale_positive = omega (arith, ints);
   factor_zero = refl;
-  forces = post_bears_any_pressure.loaded.forces;
+  forces = true_of_worked_scenes.post_bears_any_pressure.loaded.forces;
 }
 
 pub factors_of_worked_scenes : StandsIsCarried → CollapseExcludesBalance → GreatestIsCarried
     → GreatestBoundsEveryFactor → UnboundedCarriesAll → FactorsOfWorkedScenes
 factors_of_worked_scenes stands collapse greatest bound all = record {
-  post_carries_two = greatest _ _ _ post_tips_at_two;
+  post_carries_two = greatest _ _ _ true_of_worked_scenes.post_tips_at_two;
   post_carries_no_more = λ L D h. bound _ _ _ (post_is_proper (omega (arith, ints)) (omega (arith, ints)))
-      post_tips_at_two L D (over_one L (pos 2 *ℤ D) h);
+      true_of_worked_scenes.post_tips_at_two L D (over_one L (pos 2 *ℤ D) h);
   post_carries_any_pressure = all _ _ _ (post_is_proper (omega (arith, ints)) (omega (arith, ints)))
-      post_bears_any_pressure (stands _ _ pressed_post_stands);
-  slope_carries_its_block = stands _ _ block_just_holds;
+      true_of_worked_scenes.post_bears_any_pressure (stands _ _ pressed_post_stands);
+  slope_carries_its_block = stands _ _ true_of_worked_scenes.block_just_holds;
   slick_slope_does_not = λ D. collapse _ _ D (slope_is_proper (omega (arith, ints)) (omega (arith, ints)))
-      block_slips;
+      true_of_worked_scenes.block_slips;
 }

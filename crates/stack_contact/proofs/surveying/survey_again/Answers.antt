@@ -1,4 +1,4 @@
-use Rattle.std.proofs.Common.{◌≡◌, sym, ◌∙◌, subst}
+use Rattle.std.proofs.Common.{sym, ◌∙◌, subst}
 use Rattle.stack_contact.specs.Surveyed.{surveyed, IsSurvey}
 use Rattle.stack_contact.proofs.SameContacts.{same_contacts}
 use Rattle.stack_contact.proofs.surveying.survey_again.Goals as goal

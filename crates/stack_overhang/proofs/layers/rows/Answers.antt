@@ -1,4 +1,4 @@
-use Rattle.std.proofs.Common.{rules, ◌≡◌, ◌+◌, ◌-◌, ◌<◌, ◌^◌, ℕ, ℤ, pos, ◌-ℤ◌, get_or, arith, to_z, of_z, w64, neg_ℤ}
+use Rattle.std.proofs.Common.{rules, ◌≡◌, ◌+◌, ◌-◌, ◌<◌, ◌^◌, ℕ, pos, ◌-ℤ◌, get_or, arith, to_z, of_z, w64, neg_ℤ}
 use Rattle.std.proofs.lemmas.Int.{ints}
 use Rattle.stack_overhang.specs.Stacks.{centred}
 use Rattle.stack_overhang.proofs.Growing.{one_more}

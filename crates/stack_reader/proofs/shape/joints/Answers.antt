@@ -1,6 +1,4 @@
-use Rattle.std.proofs.Common.{◌≡◌, ◌++◌, ◌∷◌, [], map}
 use Rattle.std.proofs.lemmas.Result.{err_from_is_err_and}
-use Rattle.std.proofs.lemmas.List.{map_push}
 use Rattle.stack_model.specs.declared.places.Key.TheVariants as keys
 use Rattle.stack_model.specs.Raw.{raw_joint}
 use Rattle.stack_reader.specs.Shape.{joint_part, in_table}
@@ -15,13 +13,9 @@ returns-in_err-joint_item c =
     c.in_err-joint_item.ensures c.loop-index.invariant)
 
 pub loop-index-preserved : goal.loop-index-preserved
-loop-index-preserved c =
-    let x = c.in_ok-joint_item.field-0 in
-    let e : map raw_joint c.push.new.self.items ≡ map raw_joint c.loop-index.found.items ++ raw_joint x ∷ [] =
-    rw c.in_ok-push.ensures.items (map_push _ c.loop-index.found.items x) in
-    rw e (goes_on (in_table joint_part keys.Joint) _ _ _ c.index-items-index.result _ _
-    c.loop-index-test.true c.index-items-index.is
-    c.in_ok-joint_item.ensures c.loop-index.invariant)
+loop-index-preserved c = goes_on raw_joint (in_table joint_part keys.Joint) _ _ _ _ c.index-items-index.result _ _
+    c.in_ok-push.ensures.items c.loop-index-test.true c.index-items-index.is c.in_ok-joint_item.ensures
+    c.loop-index.invariant
 
 pub returns : goal.returns
 returns c = is_done (in_table joint_part keys.Joint) _ c.args.items.now c.loop-index.index _
