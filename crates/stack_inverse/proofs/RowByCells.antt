@@ -167,7 +167,7 @@ pub row_by_cells : {V : Type 0} (value : V → ℤ) (m : ℕ) (columns : List (F
     reduce_spot ordered_fractions (is_too_wide max) (suc (length columns + m)) (cell_with value m columns o row d)
     (row_cell value m columns pivot under) (over f d) i ≡ None →
     IsReducedRow max (suc (length columns + m)) (cell_with value m columns o row d)
-        (row_cell value m columns pivot under)
+    (row_cell value m columns pivot under)
     i column (cell_with value m columns o new after)
 row_by_cells value m columns max o row new pivot d after under f i column hd hu fits hf x none = record {
   own = own_is;

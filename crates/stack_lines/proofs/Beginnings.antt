@@ -152,7 +152,7 @@ unfolding ordered_file
 ordered_avoids name budget v =
     avoids_then 5 (read inputs.Order name) (order_work budget v) (read_avoids inputs.Order name)
     (λ text. avoids_then 5 (order_step (told_order v.structure text)) _
-        (order_avoids 5 five (told_order v.structure text))
+    (order_avoids 5 five (told_order v.structure text))
     (λ order. stage_avoids 5 five budget v order (staged v order budget)))
 
 directed_avoids : (name : List ℕ) (budget : ℕ) (v : Surveyed) (loads : ℕ × ℕ)

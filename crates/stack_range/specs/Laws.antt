@@ -32,7 +32,7 @@ ReversalTurnsFactors = (v : Surveyed) (n D : ℤ) → CarriesAt v n D ↔ Carrie
 abbrev pub RangesAreExact : Type 0
 RangesAreExact = (v : Surveyed) (low high : EndValue) → IsProper (scene_of v) →
     IsTrueCertificate v (range_end_certificate high) →
-        IsTrueCertificate (reversed_survey v) (range_end_certificate low) →
+    IsTrueCertificate (reversed_survey v) (range_end_certificate low) →
     AreCarriedBetween v low high
 
 -- the judgement of a range is this exactly where those of its sides are so: none is left over

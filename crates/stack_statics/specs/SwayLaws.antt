@@ -23,7 +23,7 @@ pub record IsForceAt (o : Point) (f g : ℤ) (X : Triple) (v : Wrench) : Type 0 
 abbrev pub SwayActsAtCentroid : Type 0
 SwayActsAtCentroid = (s : ℤ × ℤ) (w : ℤ) (ps : List Point) (X : Triple) → IsCentroid ps X →
     IsForceAt (corner_of ps 0) (neg_ℤ (weight_of w ps).fy *ℤ s.0) (neg_ℤ (weight_of w ps).fy *ℤ s.1) X
-        (sway_load s w ps)
+    (sway_load s w ps)
 
 -- a sway straight down is the weight
 abbrev pub SwayDownIsWeight : Type 0

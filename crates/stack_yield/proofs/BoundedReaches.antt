@@ -118,7 +118,7 @@ module _ (s : Surveyed) (i j : ℕ) where
   -- a reach of a greatest factor is judged of it too, where its numbers fit
   answer_holds : (m n : ℤ) (f : ForcesValue) (y : MotionValue) (t : DirectionAnswer) →
       outcome_of_answer t ≡ reaches (reach_of s i j m n (greatest f y)) →
-          IsReach s i j (reach_of s i j m n (greatest f y)) →
+      IsReach s i j (reach_of s i j m n (greatest f y)) →
       IsJudged Live (directed_survey s i j m n) (greatest f y) → AnswerFits t → AnswerHolds s i j t
   answer_holds m n f y (Reaches r) e h k fits =
       let same : reach_of s i j m n (greatest f y) ≡ reach_view r = cc in (

@@ -11,7 +11,7 @@ ghost use Rattle.stack_yield.specs.Regions.{Regions, RefusesFirstDirection, regi
 ghost use Rattle.stack_yield.specs.RegionText.{CanPrintRegion};
 
 use crate::directing::{Towards, directed};
-use crate::judging::{DirectionStop, DirectionAnswer, judge_direction};
+use crate::judging::{DirectionAnswer, DirectionStop, judge_direction};
 use crate::types::{Region, RegionError};
 use stack_contact::types::Survey;
 use stack_equilibrium::proper;

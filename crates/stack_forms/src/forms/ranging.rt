@@ -49,7 +49,12 @@ fn range_survey(alloc: Global, survey: &Survey, budget: u32) -> Result<Answer, R
                 Err(_) => Err(Refusal::Memory),
             }
         }
-        Err(RangeError::TooWide { side, place }) => Err(wide_refusal(alloc, survey, within(side), place)),
+        Err(RangeError::TooWide { side, place }) => Err(wide_refusal(
+            alloc,
+            survey,
+            within(side),
+            place,
+        )),
         Err(RangeError::Spent { .. }) => Err(Refusal::Spent { budget }),
         Err(RangeError::NoLive) => Err(Refusal::NoLive),
         Err(RangeError::Memory) => Err(Refusal::Memory),

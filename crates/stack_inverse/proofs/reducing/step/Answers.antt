@@ -73,7 +73,7 @@ returns-in-None-ready_for-clause-ok g c =
     new.numbers.items (v new.under)) (reduce_spot ordered_fractions (is_too_wide m) (columns_of p)
     (cell_in_row p (seen_of r) i) (pivot_cell p q) (over k (v r.under)) i ≡ None)
     ((column : ℕ) → k ≡ number_in_row p (seen_of r) i column →
-        IsReducedRow m (columns_of p) (cell_in_row p (seen_of r) i)
+    IsReducedRow m (columns_of p) (cell_in_row p (seen_of r) i)
     (pivot_cell p q) i column (cell_in_row p (seen_of new) i))
     (λ x n. λ column hf. row_by_cells v f.rows f.columns.items m (revised_own v f.rows p.own.items i) r.numbers.items
     new.numbers.items q.numbers.items (v r.under) (v new.under) (v q.under) k i column r.positive

@@ -16,7 +16,7 @@ returns-in-Err-TooWide c =
     let h = subst (λ e. Judges (Err e) Live c.args.survey.now default_budget) c.in-Err-TooWide.field-0-is
     c.in-Err-TooWide.ensures.judges in
     too_wide_ends c.args.number c.args.survey.now c.in-Err-TooWide.place c.wide_refusal.result h.1
-        c.wide_refusal.ensures
+    c.wide_refusal.ensures
 
 pub returns-in-Err-Spent : goal.returns-in-Err-Spent
 returns-in-Err-Spent c =

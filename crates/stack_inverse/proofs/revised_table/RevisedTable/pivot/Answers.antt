@@ -30,7 +30,7 @@ pub pivot_rows-requires-clause-marked : goal.pivot_rows-requires-clause-marked
 pivot_rows-requires-clause-marked g c =
     let s = c.args.self.now in
     subst (λ (rs : List (Row g.row.T.Denot g.T.RowNumber)). AreMarked g.T.RowNumber.MAX (cells_of_rows s.given rs)
-        (seen_at rs))
+    (seen_at rs))
     (sym c.as_mut_slice.ensures.value) s.marked
 
 pub pivot_rows-requires-clause-entered : goal.pivot_rows-requires-clause-entered
@@ -46,7 +46,7 @@ pivot_rows-requires-clause-some g c =
     let r = c.args.row in
     λ e. c.requires.cell (zero_cell (number_in s r c.args.column) (under_in s r) (under_positive s.rows.items r)
     (subst (λ (rs : List (Row g.row.T.Denot g.T.RowNumber)). number_in_row s.given (seen_at rs r) r c.args.column
-        ≡ pos 0)
+    ≡ pos 0)
     c.as_mut_slice.ensures.value e))
 
 pub invariant_of-self-clause-wide : goal.invariant_of-self-clause-wide
@@ -62,7 +62,7 @@ invariant_of-self-clause-marked g c =
     let s = c.args.self.now in
     let new = c.pivot_rows.new.rows in
     subst (λ (rs : List (Row g.row.T.Denot g.T.RowNumber)). AreMarked g.T.RowNumber.MAX (cells_of_rows s.given rs)
-        (seen_at rs))
+    (seen_at rs))
     (sym (with_items_is s.rows new (c.pivot_rows.auto.rows ∙ ap length c.as_mut_slice.ensures.value ∙ sym s.rows.ok.0)))
     c.pivot_rows.ensures.marked
 

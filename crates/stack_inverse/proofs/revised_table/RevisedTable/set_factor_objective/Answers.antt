@@ -89,7 +89,7 @@ returns-clause-ok g c =
     (λ r. eqb (get_or (c.as_slice.ensures.value z) r 0) s.contacts)) in
     let factor : IsFactorRow v M C s.given.own.items (seen_at s.rows.items) s.contacts o row d =
     subst (λ (rs : List (Row g.row.T.Denot g.T.RowNumber)). IsFactorRow v M C s.given.own.items (seen_at rs) s.contacts
-        o
+    o
     row d) c.as_slice-2.ensures.value
     (subst₂ (λ (x : Option ℕ) (xs : List g.row.T.Denot). IsFactorRow v M C s.given.own.items
     (seen_at c.as_slice-2.result.now) s.contacts x xs d) found (sym (c.as_slice-3.ensures.value ∙ piv))
