@@ -109,8 +109,8 @@ impl<T: RowNumber> Tableau for Revised<T> {
     fn pivot_at(&mut self, row: usize, column: usize) -> Result<(), TurnRefusal> {
         match self.table.pivot(row, column) {
             Ok(()) => Ok(()),
-            Err(stack_inverse::stops::TurnRefusal::TooWide(spot)) => Err(TurnRefusal::TooWide(spot)),
-            Err(stack_inverse::stops::TurnRefusal::Unsettled) => Err(TurnRefusal::Unsettled),
+            Err(stack_inverse::stops::PivotRefusal::TooWide(spot)) => Err(TurnRefusal::TooWide(spot)),
+            Err(stack_inverse::stops::PivotRefusal::Unsettled) => Err(TurnRefusal::Unsettled),
         }
     }
 
