@@ -80,7 +80,10 @@ fn contact_columns<T: RowNumber>(alloc: Global, p: &Problem) -> Result<Vec<First
 }
 
 /// The plain columns: the contact columns, and then the factor's.
-pub fn plain_columns<T: RowNumber>(alloc: Global, p: &Problem) -> Result<Vec<FirstColumn<T>>, NoTable>
+pub fn plain_columns<T: RowNumber>(
+    alloc: Global,
+    p: &Problem,
+) -> Result<Vec<FirstColumn<T>>, NoTable>
     requires { IsProblem p.now }
     ensures long { IfOk result (λ c. length c.items ≡ plain (shape_of_problem p.now)) }
     ensures turned { IfOk result (λ c. AreFirstColumns T.value p.now c.items) }

@@ -68,7 +68,12 @@ fn put_first_rows<T: RowNumber>(
 }
 
 /// Puts the first rows and the objective row of phase 1. May give up; no clause says when.
-pub fn fill<T: RowNumber>(rows: &mut [Row<T>], numbers: &mut [T], right: &[i128], one: T) -> Option<()>
+pub fn fill<T: RowNumber>(
+    rows: &mut [Row<T>],
+    numbers: &mut [T],
+    right: &[i128],
+    one: T,
+) -> Option<()>
     requires width { length numbers.old ≡ suc (length right.now) }
     requires height { length rows.old ≡ suc (length right.now) }
     requires wide { AreWide (length right.now) (seen_at rows.old) }

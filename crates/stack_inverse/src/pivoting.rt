@@ -55,7 +55,14 @@ fn divide<T: RowNumber>(
 }
 
 /// Puts numbers over a denominator into row i, with their top, 0 where none is known, and whether the row's cells fit.
-pub fn put_row<T: RowNumber>(rows: &mut [Row<T>], i: usize, numbers: &[T], under: T, top: T, fits: bool)
+pub fn put_row<T: RowNumber>(
+    rows: &mut [Row<T>],
+    i: usize,
+    numbers: &[T],
+    under: T,
+    top: T,
+    fits: bool,
+)
     requires row_in { i < length rows.old }
     requires width { length (seen_at rows.old i).numbers ≡ length numbers.now }
     requires under { pos 0 <ℤ T.value under }
@@ -90,7 +97,7 @@ fn reduce_others<T: RowNumber>(
     ensures marked { AreMarked T.MAX (cells_of_rows plain.now rows.new) (seen_at rows.new) }
     ensures ok { OnOk result ((k : ℕ) → k < suc plain.now.first.rows → (k ≢ row) →
         IsReducedRow T.MAX (columns_of plain.now) (cells_of_rows plain.now rows.old k) (pivot_cell plain.now pivot.now)
-            k
+        k
         column (cells_of_rows plain.now rows.new k)) }
     ensures refused { IfErr result (λ e. PivotIsRefused T.MAX (suc plain.now.first.rows) (columns_of plain.now)
         (cells_of_rows plain.now rows.old) (pivot_cell plain.now pivot.now) row column e) }

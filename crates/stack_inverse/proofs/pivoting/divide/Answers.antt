@@ -1,6 +1,5 @@
 use Rattle.std.proofs.Common.{sym, ap, subst, ◌∙◌, ℕ, List, length, unsigned_abs, subst₂}
-use Rattle.std.proofs.lemmas.List.{with_items_is}
-use Rattle.std.specs.Vec.{with_items}
+use Rattle.stack_rational.proofs.Common.{with_items_is, with_items}
 use Rattle.stack_rows.specs.RowForm.{IsSameRow, AreJumps}
 use Rattle.stack_inverse.specs.RowBlock.{IsTopped, AreWithin}
 use Rattle.stack_inverse.specs.Columns.{row_number}
@@ -44,7 +43,7 @@ returns-clause-ok g c =
     let new = with_items_is (with_items q.numbers c.copy_from_slice.new.self) c.settle.new.numbers
     (settled ∙ sym (with_items q.numbers c.copy_from_slice.new.self).ok.0) in
     pivot_row v f.rows f.columns.items g.T.RowNumber.MAX g.met.T.RowNumber.fits_law p.own.items r.numbers.items
-        (v r.under)
+    (v r.under)
     r.positive c.args.r c.args.column c.requires.row_in
     (with_items (with_items q.numbers c.copy_from_slice.new.self) c.settle.new.numbers).items c.args.factor under
     c.in_ok-whole_top.whole_top c.requires.factor c.requires.some

@@ -1,9 +1,5 @@
-use Rattle.std.proofs.Common.{◌≡◌, sym, ap, subst, ◌∙◌, ℕ, ◌≤◌, None, unsigned_abs}
-use lib.IntN.{ℤ, ◌*ℤ◌}
-use Rattle.stack_algebra.specs.Fraction.{Fraction}
-use Rattle.stack_algebra.proofs.Over.{over}
-use Rattle.stack_algebra.proofs.OrderedFractions.{ordered_fractions}
-use Rattle.stack_rational.specs.TooWide.{is_too_wide}
+use Rattle.std.proofs.Common.{◌≡◌, sym, ap, subst, ◌∙◌, ℕ, ◌≤◌, None, unsigned_abs, ℤ, ◌*ℤ◌}
+use Rattle.stack_rational.proofs.Common.{Fraction, over, ordered_fractions, is_too_wide}
 use Rattle.stack_table.specs.Spots.{reduce_spot}
 use Rattle.stack_rows.specs.RowForm.{IsTaken}
 use Rattle.stack_inverse.specs.RowBlock.{IsReducedRow}
@@ -73,7 +69,7 @@ returns-in-None-ready_for-clause-ok g c =
     new.numbers.items (v new.under)) (reduce_spot ordered_fractions (is_too_wide m) (columns_of p)
     (cell_in_row p (seen_of r) i) (pivot_cell p q) (over k (v r.under)) i ≡ None)
     ((column : ℕ) → k ≡ number_in_row p (seen_of r) i column →
-        IsReducedRow m (columns_of p) (cell_in_row p (seen_of r) i)
+    IsReducedRow m (columns_of p) (cell_in_row p (seen_of r) i)
     (pivot_cell p q) i column (cell_in_row p (seen_of new) i))
     (λ x n. λ column hf. row_by_cells v f.rows f.columns.items m (revised_own v f.rows p.own.items i) r.numbers.items
     new.numbers.items q.numbers.items (v r.under) (v new.under) (v q.under) k i column r.positive

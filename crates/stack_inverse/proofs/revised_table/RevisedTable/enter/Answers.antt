@@ -1,6 +1,5 @@
 use Rattle.std.proofs.Common.{◌≡◌, sym, ap, ◌∙◌, List, length, subst₂}
-use Rattle.std.proofs.lemmas.List.{with_items_is}
-use Rattle.std.specs.Vec.{with_items}
+use Rattle.stack_rational.proofs.Common.{with_items_is, with_items}
 use Rattle.stack_inverse.specs.declared.row.Row.{Row}
 use Rattle.stack_inverse.specs.Columns.{AreEntered}
 use Rattle.stack_inverse.specs.RowsSeen.{seen_at}
@@ -21,5 +20,5 @@ returns-clause-entered g c =
     (AreEntered v f.rows f.columns.items p.own.items (seen_at c.as_slice.result.now) k new)
     (AreEntered v f.rows f.columns.items p.own.items (seen_at s.rows.items) k (with_items s.entered new).items)
     (subst₂ (λ (rs : List (Row g.row.T.Denot g.T.RowNumber)) (es : List g.row.T.Denot). AreEntered v f.rows
-        f.columns.items
+    f.columns.items
     p.own.items (seen_at rs) k es) c.as_slice.ensures.value (sym kept)) c.enter_column.ensures

@@ -1,9 +1,6 @@
 use Rattle.std.proofs.Common.{◌≡◌, refl, sym, ap, subst, ◌∙◌, ℕ, ◌<◌, suc, length, get_or, List, Option, pos, false}
 use Rattle.std.proofs.Common.{eqb, cond, arith, subst₂}
-use Rattle.std.proofs.lemmas.List.{with_items_is}
-use Rattle.std.specs.Vec.{with_items}
-use Rattle.stack_algebra.proofs.OrderedFractions.{ordered_fractions}
-use Rattle.stack_algebra.specs.Search.{least}
+use Rattle.stack_rational.proofs.Common.{with_items_is, with_items, ordered_fractions, least}
 use Rattle.stack_table.specs.Table.{factor_row}
 use Rattle.stack_rows.specs.RowForm.{number_at}
 use Rattle.stack_inverse.specs.declared.row.Row.{Row}
@@ -89,7 +86,7 @@ returns-clause-ok g c =
     (λ r. eqb (get_or (c.as_slice.ensures.value z) r 0) s.contacts)) in
     let factor : IsFactorRow v M C s.given.own.items (seen_at s.rows.items) s.contacts o row d =
     subst (λ (rs : List (Row g.row.T.Denot g.T.RowNumber)). IsFactorRow v M C s.given.own.items (seen_at rs) s.contacts
-        o
+    o
     row d) c.as_slice-2.ensures.value
     (subst₂ (λ (x : Option ℕ) (xs : List g.row.T.Denot). IsFactorRow v M C s.given.own.items
     (seen_at c.as_slice-2.result.now) s.contacts x xs d) found (sym (c.as_slice-3.ensures.value ∙ piv))
