@@ -25,5 +25,5 @@ pub use end_kind::EndKind;
 pub use ended::Ended;
 pub use last_table::LastTable;
 pub use phases::run_table;
-pub use stops::{TurnRefusal, RunStop};
+pub use stops::{RunStop, TurnRefusal};
 pub use tableau::Tableau;

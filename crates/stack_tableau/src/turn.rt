@@ -9,7 +9,7 @@ ghost use Rattle.stack_run.specs.PhaseStops.{HasFewer, phase_from};
 ghost use Rattle.stack_tableau.specs.Tells.{TellsPivot, TellsTurn, TellsPhase, stop_at, IsDue};
 
 use crate::choices::{Chosen, choose};
-use crate::stops::{TurnRefusal, RunStop};
+use crate::stops::{RunStop, TurnRefusal};
 use crate::tableau::Tableau;
 use stack_run::{PhaseEnd, Pivots, RunPlace, Turn};
 
@@ -59,7 +59,12 @@ pub fn due_pivot<T: Tableau>(
 }
 
 /// A turn of a phase whose entering columns are below `among`.
-fn take_turn<T: Tableau>(t: &mut T, phase: u8, among: usize, pivots: Pivots) -> Result<Turn, RunStop>
+fn take_turn<T: Tableau>(
+    t: &mut T,
+    phase: u8,
+    among: usize,
+    pivots: Pivots,
+) -> Result<Turn, RunStop>
     requires { among ≤ plain (T.shape t.old) }
     ensures shape { OnOk result (T.shape t.new ≡ T.shape t.old) }
     ensures flips { OnOk result (T.flips t.new ≡ T.flips t.old) }
