@@ -125,7 +125,11 @@ fn stopped(stop: RunStop) -> RevisedStop
 }
 
 /// The run at one width.
-fn run_at_width<T: RowNumber>(alloc: Global, p: &Problem, budget: u32) -> Result<Last<T>, RevisedStop>
+fn run_at_width<T: RowNumber>(
+    alloc: Global,
+    p: &Problem,
+    budget: u32,
+) -> Result<Last<T>, RevisedStop>
     requires { IsProblem p.now }
     ensures shape { IfOk result (λ l. shape_of_last l ≡ shape_of_problem p.now) }
     ensures flips { IfOk result (λ l. flips_of_last l ≡ flipped (problem_of p.now)) }

@@ -8,7 +8,7 @@ use crate::choices::entering;
 use stack_inverse::revised_table::RevisedTable;
 use stack_rational::OpWide;
 use stack_rows::whole::RowNumber;
-use stack_tableau::{TurnRefusal, Tableau};
+use stack_tableau::{Tableau, TurnRefusal};
 use std::alloc::AllocError;
 use std::cmp::Ordering;
 
@@ -109,7 +109,9 @@ impl<T: RowNumber> Tableau for Revised<T> {
     fn pivot_at(&mut self, row: usize, column: usize) -> Result<(), TurnRefusal> {
         match self.table.pivot(row, column) {
             Ok(()) => Ok(()),
-            Err(stack_inverse::stops::PivotRefusal::TooWide(spot)) => Err(TurnRefusal::TooWide(spot)),
+            Err(stack_inverse::stops::PivotRefusal::TooWide(spot)) => Err(TurnRefusal::TooWide(
+                spot,
+            )),
             Err(stack_inverse::stops::PivotRefusal::Unsettled) => Err(TurnRefusal::Unsettled),
         }
     }
