@@ -1,5 +1,5 @@
 -- A size that covers the first numbers.
-use Rattle.std.proofs.Common.{◌≡◌, sym, subst, ℕ, ◌<◌, ◌≤◌, ◌+◌, unsigned_abs, arith, ℤ}
+use Rattle.std.proofs.Common.{sym, subst, ℕ, ◌<◌, ◌≤◌, ◌+◌, unsigned_abs, arith, ℤ}
 use Rattle.stack_rational.proofs.Common.{ℕ_discrete}
 
 -- one number more is covered

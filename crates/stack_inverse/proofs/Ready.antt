@@ -1,5 +1,5 @@
 -- A row step by tops of both rows: it isn't too wide in any column.
-use Rattle.std.proofs.Common.{◌≡◌, refl, sym, subst, ℕ, suc, ◌<◌, ◌≤◌, ◌+◌, ◌-◌, ◌^◌, List, length, Bool, unsigned_abs}
+use Rattle.std.proofs.Common.{◌≡◌, refl, sym, subst, ℕ, suc, ◌≤◌, ◌+◌, ◌-◌, ◌^◌, List, length, Bool, unsigned_abs}
 use Rattle.std.proofs.Common.{arith, ℤ, pos}
 use Rattle.stack_rational.proofs.Common.{dec_lt}
 use Rattle.stack_inverse.specs.declared.columns.FirstColumn.{FirstColumn}

@@ -1,5 +1,5 @@
 -- The first objective row, column by column: it depends on the rows alone.
-use Rattle.std.proofs.Common.{◌≡◌, refl, ap, ℕ, zero, suc, ◌<◌, ◌≤◌, true, false, cond, leb, ltb, ◌&&◌, Option, None}
+use Rattle.std.proofs.Common.{◌≡◌, refl, ap, ℕ, zero, suc, ◌<◌, ◌≤◌, true, false, cond, ltb, ◌&&◌, Option, None}
 use Rattle.std.proofs.Common.{arith, lt-ltb, le-ltb, le-leb, ℤ, pos}
 use Rattle.stack_rational.proofs.Common.{dec_le, Fraction, of, add, neg, ordered_fractions, first, only_if, is_too_wide}
 use Rattle.stack_rational.proofs.Common.{lt-leb, first_same}

@@ -1,5 +1,5 @@
 -- What a choice says of its row, and what the answer of a turn says of the phase.
-use Rattle.std.proofs.Common.{◌≡◌, ◌≢◌, sym, ap, subst, ◌∙◌, ℕ, zero, suc, ◌<◌, Bool, Option, Some, None, Result, Ok}
+use Rattle.std.proofs.Common.{◌≡◌, ◌≢◌, sym, ap, subst, ◌∙◌, ℕ, zero, suc, ◌<◌, Bool, Option, Some, None, Ok}
 use Rattle.std.proofs.Common.{Err, arith, ℤ, pos}
 use Rattle.stack_rational.proofs.Common.{Fraction, sign_of, least-some, first, first_found, ordered_fractions}
 use Rattle.stack_rational.proofs.Common.{is_too_wide}

@@ -1,5 +1,5 @@
-use Rattle.std.proofs.Common.{◌≡◌, sym, ap, ◌∙◌, ℕ, ◌<◌, length, set, true, arith, pos}
-use Rattle.stack_rational.proofs.Common.{of, is_zero, fraction_fits, ℕ_discrete, dec_lt}
+use Rattle.std.proofs.Common.{sym, ap, ◌∙◌, ◌<◌, length, set, true, arith}
+use Rattle.stack_rational.proofs.Common.{is_zero, fraction_fits, ℕ_discrete, dec_lt}
 use Rattle.stack_table.specs.Block.{item_value}
 use Rattle.stack_rational.proofs.Fitting.{is_zero-of, zero_fits}
 use Rattle.stack_table.proofs.Blocks.{value_at-past, value_at-set_same, value_at-set_other, block_set}

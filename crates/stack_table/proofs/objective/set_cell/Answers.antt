@@ -1,4 +1,4 @@
-use Rattle.std.proofs.Common.{◌≡◌, sym, ap, ◌∙◌, ℕ, set, cond, eqb, eq-eqb, ne_eqb}
+use Rattle.std.proofs.Common.{sym, ap, ◌∙◌, set, cond, eq-eqb, ne_eqb}
 use Rattle.stack_rational.proofs.Common.{ℕ_discrete}
 use Rattle.stack_table.specs.Block.{item_value}
 use Rattle.stack_table.proofs.Blocks.{value_at-set_same, value_at-set_other, block_set}

@@ -1,7 +1,7 @@
-use Rattle.std.proofs.Common.{◌≡◌, sym, ap, ◌∙◌, ℕ, suc, ◌*◌, ◌<◌, Bool, List, length, get_or, set, arith}
-use Rattle.std.proofs.Common.{get_or-set_same, get_or-set_other, subst₂, length-set}
-use Rattle.stack_rational.proofs.Common.{with_items_is, err_from_is_err_and, with_items, ℕ_discrete, changed, next}
-use Rattle.stack_rational.proofs.Common.{changed-same, changed-other, ordered_fractions, is_too_wide}
+use Rattle.std.proofs.Common.{◌≡◌, sym, ap, ◌∙◌, ℕ, suc, ◌*◌, Bool, List, length, get_or, set, arith}
+use Rattle.std.proofs.Common.{subst₂, length-set}
+use Rattle.stack_rational.proofs.Common.{with_items_is, err_from_is_err_and, with_items, changed, next}
+use Rattle.stack_rational.proofs.Common.{ordered_fractions, is_too_wide}
 use Rattle.stack_table.specs.Block.{IsBlock, cell_of, shape_of}
 use Rattle.stack_table.specs.Table.{width, columns}
 use Rattle.stack_table.specs.Spots.{cells_spot}
