@@ -1,10 +1,7 @@
 -- The turn of the loop that looks for the leaving row.
 use Rattle.std.proofs.Common.{◌≡◌, refl, sym, ap, subst, ◌∙◌, ℕ, ◌<◌, ◌+◌, Bool, true, false, cond, Option, Some, None}
 use Rattle.std.proofs.Common.{arith, add-one, IfSome}
-use Rattle.stack_algebra.specs.Ordered.{sign_of}
-use Rattle.stack_algebra.specs.Fraction.{Fraction}
-use Rattle.stack_algebra.specs.Rows.{less}
-use Rattle.stack_algebra.proofs.OrderedFractions.{ordered_fractions}
+use Rattle.stack_rational.proofs.Common.{sign_of, Fraction, less, ordered_fractions}
 use Rattle.stack_bland.specs.declared.leaving_row.Candidate.{Candidate}
 use Rattle.stack_bland.specs.Choice.{is_plus, goes_first, better, best}
 

@@ -1,15 +1,8 @@
 -- The sign of a whole number as code tests it, and the order of two fractions by the sign of their difference.
-use Rattle.std.proofs.Common.{◌≡◌, refl, ◌∙◌, zero, suc, arith}
-use Rattle.std.proofs.lemmas.Int.{ints}
-use lib.IntN.{ℤ, pos, negsuc, ◌*ℤ◌}
+use Rattle.std.proofs.Common.{◌≡◌, refl, ◌∙◌, zero, suc, arith, ℤ, pos, negsuc, ◌*ℤ◌}
+use Rattle.stack_rational.proofs.Common.{ints, Fraction, sign_of, less, expand, sums, add, neg, ordered_fractions}
+use Rattle.stack_rational.proofs.Common.{order_of}
 use Rattle.std.specs.Ordering.{int_cmp}
-use Rattle.stack_algebra.specs.Fraction.{Fraction}
-use Rattle.stack_algebra.specs.Ordered.{sign_of}
-use Rattle.stack_algebra.specs.Rows.{less}
-use Rattle.stack_algebra.proofs.Integers.{expand, sums}
-use Rattle.stack_algebra.proofs.Fractions.{add, neg}
-use Rattle.stack_algebra.proofs.OrderedFractions.{ordered_fractions}
-use Rattle.stack_rational.specs.Order.{order_of}
 use Rattle.stack_rational.proofs.WideWholes.{num_of, den_of}
 use Rattle.stack_rational.proofs.ByWholeParts.{cmp-less, cmp-equal, cmp-greater}
 use Rattle.stack_rational.proofs.TotalOrder.{order_laws}

@@ -1,9 +1,7 @@
 -- The certificate of each end is true, and of the question, and decides whether the dead loads stand; no amount is
 -- negative.
-use Rattle.std.proofs.Common.{subst, ◌≤◌, Option, Some, None, List, arith}
-use lib.IntN.{ℤ, pos}
-use Rattle.std.proofs.lemmas.Int.{ints}
-use Rattle.stack_algebra.specs.Fraction.{Fraction}
+use Rattle.std.proofs.Common.{subst, ◌≤◌, Option, Some, None, List, arith, ℤ, pos}
+use Rattle.stack_rational.proofs.Common.{ints, Fraction}
 use Rattle.stack_contact.specs.Surveyed.{Surveyed}
 use Rattle.stack_certificate.specs.Certificate.{CertificateValue, stands, collapses}
 use Rattle.stack_equilibrium.specs.declared.types.Question.{Question}

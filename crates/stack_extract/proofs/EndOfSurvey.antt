@@ -1,6 +1,6 @@
 -- The end of a run of the problem that is posed for a survey, as its calls tell it.
 use Rattle.std.proofs.Common.{◌≡◌, sym}
-use Rattle.stack_algebra.proofs.OrderedFractions.{ordered_fractions}
+use Rattle.stack_rational.proofs.Common.{ordered_fractions}
 use Rattle.stack_rational.specs.declared.exact.Exact.{Ghosts}
 use Rattle.stack_table.specs.declared.problem.Problem.{Problem as Lent}
 use Rattle.stack_table.specs.declared.table.Table.{Table}

@@ -1,8 +1,6 @@
 -- The end of a run with its table, as an end and a last table.
-use Rattle.std.proofs.Common.{◌≡◌, refl, sym, ap, subst, ◌∙◌, ℕ, ◌<◌, true, arith, Result, IfOk, IfErr, ltb}
-use Rattle.std.proofs.lemmas.Bool.{lt-ltb}
-use Rattle.stack_algebra.specs.Fraction.{Fraction}
-use Rattle.stack_algebra.proofs.OrderedFractions.{ordered_fractions}
+use Rattle.std.proofs.Common.{◌≡◌, refl, sym, ap, subst, ◌∙◌, ℕ, ◌<◌, true, arith, Result, IfOk, IfErr, ltb, lt-ltb}
+use Rattle.stack_rational.proofs.Common.{Fraction, ordered_fractions}
 use Rattle.stack_rational.specs.declared.exact.Exact.{Ghosts}
 use Rattle.stack_contact.specs.Surveyed.{Surveyed}
 use Rattle.stack_certificate.specs.declared.types.Forces.{Forces as Pushes}

@@ -1,8 +1,6 @@
 -- Lists of whole numbers that balance, refute, bound or raise the problem of a survey make true certificates.
-use Rattle.std.proofs.Common.{◌≡◌, sym, ap, subst, ◌∙◌, ℕ, ◌*◌, List, length, arith}
-use lib.IntN.{ℤ, pos, ◌+ℤ◌, ◌*ℤ◌, neg_ℤ}
-use Rattle.stack_algebra.specs.IntegerOrder.{◌≺◌}
-use Rattle.stack_algebra.proofs.Integers.{expand, sums}
+use Rattle.std.proofs.Common.{◌≡◌, sym, ap, subst, ◌∙◌, ℕ, ◌*◌, List, length, arith, ℤ, pos, ◌+ℤ◌, ◌*ℤ◌, neg_ℤ}
+use Rattle.stack_rational.proofs.Common.{◌≺◌, expand, sums}
 use Rattle.stack_algebra.proofs.Listed.{map_listed}
 use Rattle.stack_contact.specs.Surveyed.{Surveyed}
 use Rattle.stack_equilibrium.specs.declared.types.Question.{Question}

@@ -1,14 +1,11 @@
 -- From a list of numbers to forces and moves, and from an end to its lists.
 use Rattle.std.proofs.Common.{◌≡◌, refl, sym, ap, subst, ◌∙◌, ℕ, suc, ◌*◌, ◌<◌, ◌≤◌, Bool, true, false, not, List, ◌∷◌}
-use Rattle.std.proofs.Common.{[], map, length, None, Result, Ok, Err, arith, IfOk}
-use lib.IntN.{ℤ}
-use Rattle.stack_algebra.specs.Fraction.{Fraction}
-use Rattle.stack_algebra.specs.Search.{first, only_if}
-use Rattle.stack_algebra.proofs.Search.{first-none, or_none}
-use Rattle.stack_algebra.proofs.Listed.{listed, length_listed}
+use Rattle.std.proofs.Common.{[], map, length, None, Result, Ok, Err, arith, IfOk, ℤ}
+use Rattle.stack_rational.proofs.Common.{Fraction, first, only_if, listed, scale_of, first-none, length_listed}
+use Rattle.stack_rational.proofs.Common.{times_scale}
+use Rattle.stack_algebra.proofs.Search.{or_none}
 use Rattle.stack_whole.specs.Limits.{most_bearings}
 use Rattle.stack_whole.specs.Whole.{fits}
-use Rattle.stack_rational.specs.CommonScale.{scale_of, times_scale}
 use Rattle.stack_contact.specs.FreeBlocks.{frees_of}
 use Rattle.stack_contact.specs.Surveyed.{Surveyed}
 use Rattle.stack_certificate.specs.declared.types.Motion.{Motion as Moves}

@@ -1,11 +1,8 @@
 -- The first bearing whose parts are too wide, as a loop finds it.
 use Rattle.std.proofs.Common.{◌≡◌, refl, sym, ap, ◌∙◌, ℕ, ◌+◌, ◌*◌, ◌<◌, Bool, true, false, not, ◌&&◌, List, ◌∷◌, ◌++◌}
-use Rattle.std.proofs.Common.{[], length, get_or, Some, None, Result, Ok, Err, if◌then◌else◌}
-use lib.IntN.{ℤ, ◌+ℤ◌, ◌-ℤ◌, ◌*ℤ◌}
-use Rattle.stack_algebra.specs.Search.{first, only_if}
+use Rattle.std.proofs.Common.{[], length, get_or, Some, None, Result, Ok, Err, if◌then◌else◌, ℤ, ◌+ℤ◌, ◌-ℤ◌, ◌*ℤ◌}
+use Rattle.stack_rational.proofs.Common.{first, only_if, first_found, first_more, listed}
 use Rattle.stack_algebra.specs.Steps.{◌>>=◌}
-use Rattle.stack_algebra.proofs.Search.{first_found, first_more}
-use Rattle.stack_algebra.proofs.Listed.{listed}
 use Rattle.stack_frame.specs.declared.cone.Cone.{Cone}
 use Rattle.stack_whole.specs.declared.whole.Wide.{Wide}
 use Rattle.stack_whole.specs.declared.whole.Whole.{Whole as Number}

@@ -1,14 +1,9 @@
 -- The problem of a scene by pairs of columns and threes of rows: what balances its rows solves the equations of
 -- the free bodies, and multipliers of its rows are moves, whose products are the powers of edges and loads.
 use Rattle.std.proofs.Common.{◌≡◌, refl, sym, ap, subst, ◌∙◌, ℕ, ◌+◌, ◌*◌, ◌/◌, ◌%◌, ◌<◌, true, false, cond, eqb, ltb}
-use Rattle.std.proofs.Common.{arith}
-use Rattle.std.proofs.lemmas.Bool.{lt-ltb, le-ltb, eq-eqb}
-use lib.IntN.{ℤ, pos, ◌+ℤ◌, ◌*ℤ◌, neg_ℤ}
-use Rattle.stack_algebra.specs.IntegerOrder.{◌≼◌}
-use Rattle.stack_algebra.specs.Sums.{sum_to}
-use Rattle.stack_algebra.proofs.Integers.{expand, sums}
-use Rattle.stack_algebra.proofs.IntegerRing.{integers}
-use Rattle.stack_algebra.proofs.Sums.{sum_same, sum_plus, sum_neg}
+use Rattle.std.proofs.Common.{arith, lt-ltb, le-ltb, eq-eqb, ℤ, pos, ◌+ℤ◌, ◌*ℤ◌, neg_ℤ}
+use Rattle.stack_rational.proofs.Common.{◌≼◌, expand, sums, integers, sum_same, sum_to}
+use Rattle.stack_algebra.proofs.Sums.{sum_plus, sum_neg}
 use Rattle.stack_algebra.proofs.Indices.{pair_first, pair_second, three_first, three_second, three_third, sum_pairs}
 use Rattle.stack_algebra.proofs.Indices.{sum_threes}
 use Rattle.stack_statics.specs.declared.wrench.Wrench.{Wrench}

@@ -1,17 +1,10 @@
 -- What stands in a list of whole numbers: each number of the list times the common scale, and 0 past the end.
-use Rattle.std.proofs.Common.{◌≡◌, ◌≢◌, sym, ap, ◌∙◌, ℕ, zero, suc, ◌<◌, ◌≤◌, List, [], ◌∷◌, length, get_or, arith}
-use Prim.Native.Nat.{◌∣◌}
-use native.Mathlib.Decide.{dec_lt}
-use lib.IntN.{ℤ, pos}
-use Rattle.std.proofs.lemmas.Int.{ints}
+use Rattle.std.proofs.Common.{◌≡◌, ◌≢◌, sym, ap, ◌∙◌, ℕ, zero, suc, ◌<◌, ◌≤◌, List, [], ◌∷◌, length, get_or, arith, ℤ}
+use Rattle.std.proofs.Common.{pos}
+use Rattle.stack_rational.proofs.Common.{◌∣◌, dec_lt, ints, ◌≼◌, ◌≺◌, minus, Fraction, listed, of, ordered_fractions}
+use Rattle.stack_rational.proofs.Common.{scale_of, length_listed, times_scale}
 use Rattle.std.specs.List.{AllByRecursion}
-use Rattle.stack_algebra.specs.IntegerOrder.{◌≼◌, ◌≺◌}
-use Rattle.stack_algebra.specs.Ordered.{minus}
-use Rattle.stack_algebra.specs.Fraction.{Fraction}
-use Rattle.stack_algebra.proofs.Listed.{listed, length_listed, listed_item, map_listed}
-use Rattle.stack_algebra.proofs.Fractions.{of}
-use Rattle.stack_algebra.proofs.OrderedFractions.{ordered_fractions}
-use Rattle.stack_rational.specs.CommonScale.{scale_of, times_scale}
+use Rattle.stack_algebra.proofs.Listed.{listed_item, map_listed}
 use Rattle.stack_rational.proofs.Multiples.{scale_positive, scale_is_least_multiple, times_scale-is}
 use Rattle.stack_extract.specs.WholeLists.{whole_list, amount, NonePulls}
 use Rattle.stack_extract.proofs.WholeNumbers.{IsWhole, whole_nonneg}

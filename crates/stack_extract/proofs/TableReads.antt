@@ -1,9 +1,8 @@
 -- Reading a table: a search for the row of a basic column, and lists that grow.
 use Rattle.std.proofs.Common.{◌≡◌, sym, ap, ◌∙◌, ℕ, ◌+◌, ◌<◌, true, List, [], ◌∷◌, ◌++◌, eqb, Option, Some, None}
 use Rattle.std.proofs.Common.{add-one}
-use Rattle.stack_algebra.specs.Search.{first, only_if, least}
-use Rattle.stack_algebra.proofs.Search.{first_found, least-some}
-use Rattle.stack_algebra.proofs.Listed.{listed, listed_more}
+use Rattle.stack_rational.proofs.Common.{first, only_if, least, first_found, least-some, listed}
+use Rattle.stack_algebra.proofs.Listed.{listed_more}
 
 pub found_here : (basic : ℕ → ℕ) (n j i : ℕ) → i < n → eqb (basic i) j ≡ true →
     first i (λ i. only_if (eqb (basic i) j) i) ≡ None → Some i ≡ least n (λ i. eqb (basic i) j)

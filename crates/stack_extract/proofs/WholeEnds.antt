@@ -1,17 +1,9 @@
 -- Each end of the written run gives in whole numbers what it gives in fractions.
-use Rattle.std.proofs.Common.{◌≡◌, ◌≢◌, refl, sym, ap, subst, ◌∙◌, ℕ, suc, ◌<◌, ◌≤◌, cond, ltb, List, arith}
-use Rattle.std.proofs.lemmas.Bool.{lt-ltb, le-ltb}
-use native.Mathlib.Decide.{dec_lt}
-use lib.IntN.{ℤ, pos, ◌*ℤ◌}
-use Rattle.stack_algebra.specs.IntegerOrder.{◌≺◌}
-use Rattle.stack_algebra.specs.Ordered.{minus}
-use Rattle.stack_algebra.specs.Fraction.{Fraction}
-use Rattle.stack_algebra.proofs.Integers.{expand, sums}
+use Rattle.std.proofs.Common.{◌≡◌, ◌≢◌, refl, sym, ap, subst, ◌∙◌, ℕ, suc, ◌<◌, ◌≤◌, cond, ltb, List, arith, lt-ltb}
+use Rattle.std.proofs.Common.{le-ltb, ℤ, pos, ◌*ℤ◌}
+use Rattle.stack_rational.proofs.Common.{dec_lt, ◌≺◌, minus, Fraction, expand, sums, listed, of, mul, ordered_fractions}
+use Rattle.stack_rational.proofs.Common.{scale_of, fractions}
 use Rattle.stack_algebra.proofs.Ring.{four}
-use Rattle.stack_algebra.proofs.Listed.{listed}
-use Rattle.stack_algebra.proofs.Fractions.{of, mul, fractions}
-use Rattle.stack_algebra.proofs.OrderedFractions.{ordered_fractions}
-use Rattle.stack_rational.specs.CommonScale.{scale_of}
 use Rattle.stack_table.specs.Table.{Tabled, plain}
 use Rattle.stack_table.specs.Problem.{Problem, flipped}
 use Rattle.stack_run.specs.WrittenRun.{End, infeasible, feasible, optimal, ray, wide, over, never}

@@ -1,18 +1,13 @@
 -- Fractions times a common scale are whole numbers: signs, sums and products go over.
-use Rattle.std.proofs.Common.{◌≡◌, ◌≢◌, refl, sym, ap, subst, ◌∙◌, ℕ, zero, suc, ◌<◌, Bool, true, false, arith}
-use lib.IntN.{ℤ, pos, negsuc, ◌*ℤ◌}
-use Rattle.std.proofs.lemmas.Int.{ints}
-use Rattle.stack_algebra.specs.IntegerOrder.{◌≼◌, ◌≺◌}
-use Rattle.stack_algebra.specs.Sums.{sum_to}
-use Rattle.stack_algebra.specs.Ordered.{minus, plus, product_sign, sign_of}
-use Rattle.stack_algebra.specs.Fraction.{Fraction}
-use Rattle.stack_algebra.proofs.Integers.{expand, sums, neg_is_mul}
-use Rattle.stack_algebra.proofs.CrossProducts.{cancel}
+use Rattle.std.proofs.Common.{◌≡◌, ◌≢◌, refl, sym, ap, subst, ◌∙◌, ℕ, zero, suc, ◌<◌, Bool, true, false, arith, ℤ, pos}
+use Rattle.std.proofs.Common.{negsuc, ◌*ℤ◌}
+use Rattle.stack_rational.proofs.Common.{ints, ◌≼◌, ◌≺◌, minus, plus, sign_of, Fraction, expand, sums, integers}
+use Rattle.stack_rational.proofs.Common.{sum_same, of, mul, ordered_fractions, sum_to, product_sign, cancel, sum_scale}
+use Rattle.stack_rational.proofs.Common.{of-is, den_pos, neg_is, fractions, sign_is}
+use Rattle.stack_algebra.proofs.Integers.{neg_is_mul}
 use Rattle.stack_algebra.proofs.Ring.{left_comm}
-use Rattle.stack_algebra.proofs.IntegerRing.{integers}
-use Rattle.stack_algebra.proofs.Sums.{sum, sum_same, sum_scale}
-use Rattle.stack_algebra.proofs.Fractions.{of, of-is, mul, den_pos, neg_is, fractions}
-use Rattle.stack_algebra.proofs.OrderedFractions.{ordered_fractions, sign_is, is_plus, not_below}
+use Rattle.stack_algebra.proofs.Sums.{sum}
+use Rattle.stack_algebra.proofs.OrderedFractions.{is_plus, not_below}
 use Rattle.stack_table.specs.Problem.{turned}
 use Rattle.stack_run.specs.EndNumbers.{negated_if}
 

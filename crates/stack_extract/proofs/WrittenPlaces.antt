@@ -1,23 +1,13 @@
 -- The first place that is too wide, as a loop finds it.
 use Rattle.std.proofs.Common.{◌≡◌, refl, sym, ap, subst, ◌∙◌, ℕ, zero, suc, ◌+◌, ◌^◌, ◌<◌, ◌≤◌, true, false, not, List}
 use Rattle.std.proofs.Common.{[], ◌∷◌, ◌++◌, map, length, get_or, take, Option, Some, None, arith, nat_le, nat_lt}
-use Rattle.std.proofs.Common.{unsigned_abs, to_z, of_z}
-use Rattle.std.proofs.lemmas.Bool.{lt-ltb, le-ltb, le-leb, lt-leb}
-use Rattle.std.proofs.lemmas.List.{take_more}
-use Rattle.std.proofs.lemmas.Int.{ints}
-use lib.IntN.{ℤ, pos, nat_abs}
-use mir.Syntax.{w128}
-use Rattle.stack_algebra.specs.IntegerOrder.{◌≺◌}
-use Rattle.stack_algebra.specs.Fraction.{Fraction}
-use Rattle.stack_algebra.specs.Search.{or_else, first, only_if}
-use Rattle.stack_algebra.proofs.Search.{first_found, first_all-none, first_more}
-use Rattle.stack_algebra.proofs.Fractions.{of}
+use Rattle.std.proofs.Common.{unsigned_abs, to_z, of_z, lt-ltb, le-ltb, le-leb, ℤ, pos, nat_abs}
+use Rattle.stack_rational.proofs.Common.{ints, w128, ◌≺◌, Fraction, or_else, first, only_if, first_found}
+use Rattle.stack_rational.proofs.Common.{first_all-none, first_more, of, is_too_wide, Within, widest, scale_of, lt-leb}
+use Rattle.stack_rational.proofs.Common.{take_more, times_scale}
 use Rattle.stack_whole.specs.Whole.{greatest_number, fits}
 use Rattle.stack_rational.specs.declared.exact.Op.TheVariants.{Difference}
-use Rattle.stack_rational.specs.TooWide.{is_too_wide}
-use Rattle.stack_rational.specs.Stored.{Within}
-use Rattle.stack_rational.specs.Laws.{widest}
-use Rattle.stack_rational.specs.CommonScale.{scale_of, times_scale, IsFirstTooWide}
+use Rattle.stack_rational.specs.CommonScale.{IsFirstTooWide}
 use Rattle.stack_rational.proofs.Multiples.{scale_positive}
 use Rattle.stack_rational.proofs.RunningMultiple.{held}
 use Rattle.stack_table.specs.Table.{Shape, Tabled}

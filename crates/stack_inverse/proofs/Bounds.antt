@@ -1,15 +1,9 @@
 -- Where bounds of the numbers of two rows fit, nothing that a row step or a division writes is too wide.
-use Rattle.std.proofs.Common.{◌≡◌, ◌≢◌, sym, ap, ◌∙◌, ℕ, ◌+◌, ◌*◌, ◌≤◌, true, false, not, arith, None, mul-le-mul}
-use lib.IntN.{ℤ, pos, nat_abs, neg_ℤ, ◌+ℤ◌, ◌-ℤ◌, ◌*ℤ◌}
-use Rattle.std.proofs.lemmas.Int.{ints, unsigned_abs-mul}
-use Rattle.stack_algebra.specs.Search.{or_else, only_if}
-use Rattle.stack_algebra.proofs.Order.{◌≺◌, mul_pos}
-use Rattle.stack_algebra.proofs.Fractions.{add, mul, neg}
-use Rattle.stack_algebra.proofs.Over.{over}
-use Rattle.stack_algebra.proofs.OrderedFractions.{ordered_fractions}
+use Rattle.std.proofs.Common.{◌≡◌, ◌≢◌, sym, ap, ◌∙◌, ℕ, ◌+◌, ◌*◌, ◌≤◌, true, false, not, arith, None, mul-le-mul, ℤ}
+use Rattle.std.proofs.Common.{pos, nat_abs, neg_ℤ, ◌+ℤ◌, ◌-ℤ◌, ◌*ℤ◌}
+use Rattle.stack_rational.proofs.Common.{ints, unsigned_abs-mul, or_else, only_if, ◌≺◌, mul_pos, add, mul, neg, over}
+use Rattle.stack_rational.proofs.Common.{ordered_fractions, fraction_fits, is_too_wide, sum_fits, Within}
 use Rattle.stack_rational.specs.declared.exact.Op.TheVariants.{Difference, Product}
-use Rattle.stack_rational.specs.TooWide.{fraction_fits, is_too_wide, sum_fits}
-use Rattle.stack_rational.specs.Stored.{Within}
 use Rattle.stack_table.specs.declared.types.Step.TheVariants.{Divide, Multiply, Subtract}
 use Rattle.stack_table.specs.Spots.{divided, reduced, divide_item, reduce_item}
 use Rattle.stack_rows.proofs.OverOneDenominator.{over_fits, sum_fits_over, add_over, mul_over, quotient_over}

@@ -1,16 +1,10 @@
 -- A row step at one cell, and over a row.
-use Rattle.std.proofs.Common.{◌≡◌, refl, sym, ap, subst, ◌∙◌, ℕ, ◌≤◌, true, false, Option, Some, None, arith}
-use lib.IntN.{ℤ, pos, nat_abs, ◌*ℤ◌, ◌-ℤ◌}
-use Rattle.stack_algebra.specs.Fraction.{Fraction}
-use Rattle.stack_algebra.proofs.Fractions.{mul}
-use Rattle.stack_algebra.proofs.Integers.{expand, sums}
-use Rattle.stack_algebra.proofs.Order.{◌≺◌, mul_pos}
-use Rattle.stack_algebra.proofs.Over.{over, over-is}
-use Rattle.stack_algebra.proofs.OrderedFractions.{ordered_fractions}
+use Rattle.std.proofs.Common.{◌≡◌, refl, sym, ap, subst, ◌∙◌, ℕ, ◌≤◌, true, false, Option, Some, None, arith, ℤ, pos}
+use Rattle.std.proofs.Common.{nat_abs, ◌*ℤ◌, ◌-ℤ◌}
+use Rattle.stack_rational.proofs.Common.{Fraction, mul, expand, sums, ◌≺◌, mul_pos, over, over-is, ordered_fractions}
+use Rattle.stack_rational.proofs.Common.{widest, ints, IsWidth, is_too_wide}
 use Rattle.stack_rational.specs.declared.exact.Op.TheVariants.{Difference, Product}
-use Rattle.stack_rational.specs.Laws.{widest}
-use Rattle.std.proofs.lemmas.Int.{ints}
-use Rattle.stack_rational.specs.TooWide.{IsWidth, is_too_wide, op_value}
+use Rattle.stack_rational.specs.TooWide.{op_value}
 use Rattle.stack_table.specs.declared.types.Step.{Step}
 use Rattle.stack_table.specs.declared.types.Step.TheVariants.{Multiply, Subtract}
 use Rattle.stack_table.specs.Spots.{reduced, reduce_item}

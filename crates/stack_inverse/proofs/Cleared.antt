@@ -1,8 +1,7 @@
 -- A row that is cleared.
-use Rattle.std.proofs.Common.{◌≡◌, sym, ap, ◌∙◌, ℕ, ◌<◌, ◌+◌, List, length, set, arith, cond, eqb}
-use Rattle.std.proofs.lemmas.Bool.{ne_eqb, eq-eqb}
-use native.Mathlib.Decide.{ℕ_discrete}
-use lib.IntN.{ℤ, pos}
+use Rattle.std.proofs.Common.{◌≡◌, sym, ap, ◌∙◌, ℕ, ◌<◌, ◌+◌, List, length, set, arith, cond, eqb, ne_eqb, eq-eqb, ℤ}
+use Rattle.std.proofs.Common.{pos}
+use Rattle.stack_rational.proofs.Common.{ℕ_discrete}
 use Rattle.stack_rows.specs.RowForm.{number_at}
 use Rattle.stack_rows.proofs.Numbers.{at-set_same, at-set_other}
 
@@ -11,18 +10,16 @@ module _ {V : Type 0} (value : V → ℤ) where
   pub cleared_more : (row : List V) (zero : V) (j : ℕ) → j < length row → value zero ≡ pos 0 →
       ((i : ℕ) → i < j → number_at value row i ≡ pos 0) → (i : ℕ) → i < j + 1 → number_at value (set row j zero) i
       ≡ pos 0
-  cleared_more row zero j lt e h i l = go (ℕ_discrete i j)
-    where
-      go : Dec (i ≡ j) → number_at value (set row j zero) i ≡ pos 0
-      go (yes d) = ap (number_at value (set row j zero)) d ∙ at-set_same value (pos 0) row j zero lt ∙ e
-      go (no d) = at-set_other value (pos 0) row j i zero d ∙ h i (omega (arith, l, d))
+  cleared_more row zero j lt e h i l = elim (ℕ_discrete i j) [
+    | yes d ↦ ap (number_at value (set row j zero)) d ∙ at-set_same value (pos 0) row j zero lt ∙ e
+    | no d ↦ at-set_other value (pos 0) row j i zero d ∙ h i (omega (arith, l, d))
+  ]
 
   -- a number that is put into such a row
   pub only_at : (row : List V) (c : ℕ) (x : V) → c < length row → ((i : ℕ) → number_at value row i ≡ pos 0) → (j : ℕ) →
       number_at value (set row c x) j ≡ cond (eqb j c) (value x) (pos 0)
-  only_at row c x lt h j = go (ℕ_discrete j c)
-    where
-      go : Dec (j ≡ c) → number_at value (set row c x) j ≡ cond (eqb j c) (value x) (pos 0)
-      go (yes d) = ap (number_at value (set row c x)) d ∙ at-set_same value (pos 0) row c x lt
-          ∙ sym (ap (λ b. cond b (value x) (pos 0)) (eq-eqb j c d))
-      go (no d) = at-set_other value (pos 0) row c j x d ∙ h j ∙ sym (ap (λ b. cond b (value x) (pos 0)) (ne_eqb j c d))
+  only_at row c x lt h j = elim (ℕ_discrete j c) [
+    | yes d ↦ ap (number_at value (set row c x)) d ∙ at-set_same value (pos 0) row c x lt
+        ∙ sym (ap (λ b. cond b (value x) (pos 0)) (eq-eqb j c d))
+    | no d ↦ at-set_other value (pos 0) row c j x d ∙ h j ∙ sym (ap (λ b. cond b (value x) (pos 0)) (ne_eqb j c d))
+  ]

@@ -1,21 +1,13 @@
 -- The pivot row, divided by its number in the pivot's column; and the cells past the last row.
-use Rattle.std.proofs.Common.{◌≡◌, ◌≢◌, refl, sym, ap, ◌∙◌, ℕ, ◌<◌, ◌≤◌, ◌+◌, ◌-◌, List, [], length}
-use Rattle.std.proofs.Common.{Bool, true, false, cond, eqb, ltb, unsigned_abs, arith}
-use Rattle.std.proofs.lemmas.Bool.{ne_eqb}
-use Rattle.std.proofs.lemmas.Int.{ints}
-use lib.IntN.{ℤ, pos, ◌+ℤ◌, ◌*ℤ◌}
-use Rattle.stack_algebra.proofs.Integers.{expand, sums}
-use Rattle.stack_algebra.proofs.Order.{◌≺◌}
-use Rattle.stack_algebra.proofs.Fractions.{of}
-use Rattle.stack_algebra.proofs.Over.{over}
-use Rattle.stack_rational.specs.Order.{is_zero}
-use Rattle.stack_rational.specs.TooWide.{IsWidth, fraction_fits}
+use Rattle.std.proofs.Common.{◌≡◌, ◌≢◌, refl, sym, ap, ◌∙◌, ℕ, ◌<◌, ◌≤◌, ◌+◌, ◌-◌, List, [], length, Bool, true, false}
+use Rattle.std.proofs.Common.{cond, eqb, ltb, unsigned_abs, arith, ne_eqb, ℤ, pos, ◌+ℤ◌, ◌*ℤ◌}
+use Rattle.stack_rational.proofs.Common.{ints, expand, sums, ◌≺◌, of, over, is_zero, IsWidth, fraction_fits}
 use Rattle.stack_rational.proofs.Fitting.{is_zero-of}
 use Rattle.stack_inverse.specs.declared.columns.FirstColumn.{FirstColumn}
 use Rattle.stack_rows.specs.RowForm.{number_at, IsSameRow}
 use Rattle.stack_inverse.specs.RowBlock.{AreWithin, IsDividedRow}
-use Rattle.stack_inverse.specs.Columns.{combined, by_place, first_at, revised_own, RowSeen, no_row, IsPut}
-use Rattle.stack_inverse.specs.Columns.{number_with, cell_with, revised_cell, row_number, row_cell}
+use Rattle.stack_inverse.specs.Columns.{combined, by_place, first_at, revised_own, RowSeen, no_row, IsPut, number_with}
+use Rattle.stack_inverse.specs.Columns.{cell_with, revised_cell, row_number, row_cell}
 use Rattle.stack_inverse.proofs.Linear.{combined_same}
 use Rattle.stack_inverse.proofs.FirstRows.{nothing_gives}
 use Rattle.stack_rows.proofs.OverOneDenominator.{over_fits}

@@ -1,14 +1,10 @@
 -- A sum over all rows of a column is the sum over its entries.
 use Rattle.std.proofs.Common.{◌≡◌, refl, sym, ap, subst, ◌∙◌, ℕ, suc, ◌<◌, ◌≤◌, Bool, true, false, ◌&&◌, cond, eqb, ltb}
-use Rattle.std.proofs.Common.{leb, List, [], ◌∷◌, arith}
-use Rattle.std.proofs.lemmas.Bool.{ne_eqb, ltb-true, leb-true}
-use native.Mathlib.Decide.{ℕ_discrete}
-use lib.Dec.{T, eqb_refl}
-use lib.IntN.{ℤ, pos, ◌+ℤ◌, ◌*ℤ◌}
-use Rattle.stack_algebra.proofs.Integers.{expand, sums}
-use Rattle.stack_algebra.proofs.IntegerRing.{integers}
-use Rattle.stack_algebra.specs.Sums.{sum_of, at}
-use Rattle.stack_algebra.proofs.Sums.{sum_same, sum_add, sum_at, sum_zero, at-other, at-same}
+use Rattle.std.proofs.Common.{leb, List, [], ◌∷◌, arith, ne_eqb, ltb-true, leb-true, T, ℤ, pos, ◌+ℤ◌, ◌*ℤ◌}
+use Rattle.stack_rational.proofs.Common.{ℕ_discrete, expand, sums, integers, sum_of, at, sum_same, sum_zero, at-other}
+use Rattle.stack_rational.proofs.Common.{at-same}
+use lib.Dec.{eqb_refl}
+use Rattle.stack_algebra.proofs.Sums.{sum_add, sum_at}
 use Rattle.stack_inverse.specs.declared.columns.Cell.{Cell}
 use Rattle.stack_inverse.specs.Columns.{combined, entry_of, rises}
 

@@ -1,11 +1,8 @@
 -- The rows with which phases begin: of the first table, and the objective rows.
-use Rattle.std.proofs.Common.{◌≡◌, ap, ◌∙◌, ℕ, ◌+◌, ◌-◌, ◌<◌, eqb, ltb, arith}
-use lib.IntN.{ℤ, pos, negsuc, neg_ℤ, ◌+ℤ◌, ◌*ℤ◌, zero-*ℤ}
-use Rattle.std.proofs.lemmas.Int.{ints}
-use Rattle.stack_algebra.proofs.Integers.{expand, sums, one_mul}
-use Rattle.stack_algebra.proofs.IntegerRing.{integers}
-use Rattle.stack_algebra.specs.Sums.{at}
-use Rattle.stack_algebra.proofs.Sums.{sum_one, sum_zero, at-other, at-same}
+use Rattle.std.proofs.Common.{◌≡◌, ap, ◌∙◌, ℕ, ◌+◌, ◌-◌, ◌<◌, eqb, ltb, arith, ℤ, pos, negsuc, neg_ℤ, ◌+ℤ◌, ◌*ℤ◌}
+use Rattle.stack_rational.proofs.Common.{ints, expand, sums, integers, at, sum_zero, at-other, at-same, zero-*ℤ}
+use Rattle.stack_rational.proofs.Common.{sum_one}
+use Rattle.stack_algebra.proofs.Integers.{one_mul}
 use Rattle.stack_inverse.specs.Columns.{combined, by_place, number, plain_own}
 
 -- 1 at row i gives that row

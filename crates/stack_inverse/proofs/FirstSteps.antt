@@ -1,12 +1,8 @@
 -- The turns of the loops that build the first table.
 use Rattle.std.proofs.Common.{◌≡◌, sym, ap, subst, ◌∙◌, ℕ, suc, ◌+◌, ◌<◌, ◌≤◌, cond, eqb, Bool, false, List, [], ◌∷◌}
-use Rattle.std.proofs.Common.{◌++◌, length, get_or, set, take, drop, drop-cons, add-one, arith}
-use Rattle.std.proofs.lemmas.Bool.{ne_eqb, eq-eqb}
-use Rattle.std.proofs.lemmas.List.{take_more}
-use native.Mathlib.Decide.{ℕ_discrete}
-use lib.IntN.{ℤ, pos, ◌+ℤ◌, ◌-ℤ◌}
-use Rattle.std.proofs.lemmas.Int.{ints}
-use Rattle.stack_algebra.specs.Sums.{sum_of}
+use Rattle.std.proofs.Common.{◌++◌, length, get_or, set, take, drop, drop-cons, add-one, arith, ne_eqb, eq-eqb, ℤ, pos}
+use Rattle.std.proofs.Common.{◌+ℤ◌, ◌-ℤ◌}
+use Rattle.stack_rational.proofs.Common.{ℕ_discrete, ints, sum_of, take_more}
 use Rattle.stack_table.specs.declared.problem.Entry.{Entry}
 use Rattle.stack_table.specs.Problem.{turned}
 use Rattle.stack_inverse.specs.declared.columns.Cell.{Cell}
@@ -46,11 +42,10 @@ turned_next value right entries cs ys k d c l h new hr hv = subst
 -- one size more is covered
 pub covered_more : (f : ℕ → ℕ) (j m s n : ℕ) → ((k : ℕ) → k < j → f k ≤ m) → f j ≤ s → m ≤ n → s ≤ n → (k : ℕ) →
     k < j + 1 → f k ≤ n
-covered_more f j m s n h hj hm hs k l = go (ℕ_discrete k j)
-  where
-    go : Dec (k ≡ j) → f k ≤ n
-    go (yes e) = subst (λ i. f i ≤ n) (sym e) (omega (arith, hj, hs))
-    go (no d) = omega (arith, h k (omega (arith, l, d)), hm)
+covered_more f j m s n h hj hm hs k l = elim (ℕ_discrete k j) [
+  | yes e ↦ subst (λ i. f i ≤ n) (sym e) (omega (arith, hj, hs))
+  | no d ↦ omega (arith, h k (omega (arith, l, d)), hm)
+]
 
 -- one right side more is taken
 pub rest_more : (right : List ℤ) (i : ℕ) (r n l : ℤ) → r ≡ less_loads right i → l ≡ load_at right i → n ≡ r -ℤ l →
@@ -63,13 +58,12 @@ module _ {V : Type 0} (value : V → ℤ) (m : ℕ) where
   pub unit_row : (row : List V) (i : ℕ) (x : V) (one load : ℤ) → m < length row →
       ((j : ℕ) → number_at value row j ≡ cond (eqb j i) one (pos 0)) → one ≡ pos 1 → value x ≡ load → (j : ℕ) →
       number_at value (set row m x) j ≡ cond (eqb j m) load (cond (eqb j i) (pos 1) (pos 0))
-  unit_row row i x one load l h h1 hx j = go (ℕ_discrete j m)
-    where
-      go : Dec (j ≡ m) → number_at value (set row m x) j ≡ cond (eqb j m) load (cond (eqb j i) (pos 1) (pos 0))
-      go (yes e) = ap (number_at value (set row m x)) e ∙ at-set_same value (pos 0) row m x l ∙ hx
-          ∙ sym (ap (λ b. cond b load (cond (eqb j i) (pos 1) (pos 0))) (eq-eqb j m e))
-      go (no d) = at-set_other value (pos 0) row m j x d ∙ h j ∙ ap (λ z. cond (eqb j i) z (pos 0)) h1
-          ∙ sym (ap (λ b. cond b load (cond (eqb j i) (pos 1) (pos 0))) (ne_eqb j m d))
+  unit_row row i x one load l h h1 hx j = elim (ℕ_discrete j m) [
+    | yes e ↦ ap (number_at value (set row m x)) e ∙ at-set_same value (pos 0) row m x l ∙ hx
+        ∙ sym (ap (λ b. cond b load (cond (eqb j i) (pos 1) (pos 0))) (eq-eqb j m e))
+    | no d ↦ at-set_other value (pos 0) row m j x d ∙ h j ∙ ap (λ z. cond (eqb j i) z (pos 0)) h1
+        ∙ sym (ap (λ b. cond b load (cond (eqb j i) (pos 1) (pos 0))) (ne_eqb j m d))
+  ]
 
   module _ (s t : ℕ → RowSeen V) (row : List V) (d : ℤ) (told : Bool) (i : ℕ) (p : IsPut s i row d told t) where
     -- another row stays
@@ -84,17 +78,16 @@ module _ {V : Type 0} (value : V → ℤ) (m : ℕ) where
         ≡ cond (eqb j m) (loads i) (cond (eqb j i) (pos 1) (pos 0))) → d ≡ pos 1 →
         ((k : ℕ) → k < i → IsFirstRow value m s k (loads k)) → (k : ℕ) → k < i + 1 →
         IsFirstRow value m t k (loads k)
-    rows_more loads is hd h k l = go (ℕ_discrete k i)
+    rows_more loads is hd h k l = elim (ℕ_discrete k i) [
+      | yes e ↦ subst (λ n. IsFirstRow value m t n (loads n)) (sym e) here
+      | no n ↦ row_kept k (loads k) n (h k (omega (arith, l, n)))
+    ]
       where
         here : IsFirstRow value m t i (loads i)
         here = record {
           number = λ j. ap (λ xs. number_at value xs j) p.own_numbers ∙ is j;
           under = p.own_under ∙ hd;
         }
-
-        go : Dec (k ≡ i) → IsFirstRow value m t k (loads k)
-        go (yes e) = subst (λ n. IsFirstRow value m t n (loads n)) (sym e) here
-        go (no n) = row_kept k (loads k) n (h k (omega (arith, l, n)))
 
     -- the rows above stay
     pub rows_kept : (loads : ℕ → ℤ) → ((k : ℕ) → k < i → IsFirstRow value m s k (loads k)) → (k : ℕ) → k < i →
@@ -103,8 +96,7 @@ module _ {V : Type 0} (value : V → ℤ) (m : ℕ) where
 
     -- a row that is put and isn't told to fit isn't marked
     pub unmarked_put : told ≡ false → ((k : ℕ) → (s k).fits ≡ false) → (k : ℕ) → (t k).fits ≡ false
-    unmarked_put e h k = go (ℕ_discrete k i)
-      where
-        go : Dec (k ≡ i) → (t k).fits ≡ false
-        go (yes q) = ap (λ n. (t n).fits) q ∙ p.own_fits ∙ e
-        go (no n) = ap (λ (r : RowSeen V). r.fits) (p.other k n) ∙ h k
+    unmarked_put e h k = elim (ℕ_discrete k i) [
+      | yes q ↦ ap (λ n. (t n).fits) q ∙ p.own_fits ∙ e
+      | no n ↦ ap (λ (r : RowSeen V). r.fits) (p.other k n) ∙ h k
+    ]

@@ -1,19 +1,11 @@
 -- The table with which a run begins is the written table of its problem.
 use Rattle.std.proofs.Common.{◌≡◌, ◌≢◌, refl, sym, ap, ◌∙◌, ℕ, zero, suc, ◌+◌, ◌-◌, ◌<◌, ◌≤◌, Bool, true, false, cond}
 use Rattle.std.proofs.Common.{eqb, ltb, List, length, get_or, arith, unsigned_abs, subst, Option, Some, None, is_some}
-use Rattle.std.proofs.lemmas.Bool.{ne_eqb, eq-eqb, lt-ltb, le-ltb, ltb-true, ltb-false}
-use Rattle.std.proofs.lemmas.List.{get_or_past}
-use native.Mathlib.Decide.{ℕ_discrete, dec_lt}
-use lib.IntN.{ℤ, pos, negsuc, neg_ℤ, ◌+ℤ◌, ◌-ℤ◌, ◌*ℤ◌}
-use Rattle.std.proofs.lemmas.Int.{ints}
-use Rattle.stack_algebra.specs.Rows.{changed}
-use Rattle.stack_algebra.specs.Sums.{sum_to, at}
-use Rattle.stack_algebra.proofs.Integers.{expand, sums}
-use Rattle.stack_algebra.proofs.IntegerRing.{integers}
-use Rattle.stack_algebra.proofs.Fractions.{of, add, neg, of_add, of_mul, neg_is}
-use Rattle.stack_algebra.proofs.Over.{over, of-over}
-use Rattle.stack_algebra.proofs.Sums.{sum_same}
-use Rattle.stack_algebra.proofs.OrderedFractions.{ordered_fractions}
+use Rattle.std.proofs.Common.{ne_eqb, eq-eqb, lt-ltb, le-ltb, ltb-true, ltb-false, ℤ, pos, negsuc, neg_ℤ, ◌+ℤ◌, ◌-ℤ◌}
+use Rattle.std.proofs.Common.{◌*ℤ◌}
+use Rattle.stack_rational.proofs.Common.{get_or_past, ℕ_discrete, dec_lt, ints, changed, at, expand, sums, integers, of}
+use Rattle.stack_rational.proofs.Common.{add, neg, over, of-over, sum_same, ordered_fractions, sum_to, neg_is}
+use Rattle.stack_algebra.proofs.Fractions.{of_add, of_mul}
 use Rattle.stack_table.specs.declared.problem.Column.{Column as Given}
 use Rattle.stack_table.specs.declared.problem.Problem.{Problem as Lent}
 use Rattle.stack_table.specs.Table.{Shape, plain, columns}
@@ -104,13 +96,12 @@ module _ {V : Type 0} (value : V → ℤ) (P : Lent) (problem : IsProblem P) (cs
 
   -- an artificial number of row i
   artificial_number : (i j : ℕ) → n ≤ j → at integers i (pos 1) (j - n) ≡ cond (eqb j (plain S + i)) (pos 1) (pos 0)
-  artificial_number i j l = go (ℕ_discrete (j - n) i)
-    where
-      go : Dec (j - n ≡ i) → cond (eqb (j - n) i) (pos 1) (pos 0) ≡ cond (eqb j (plain S + i)) (pos 1) (pos 0)
-      go (yes e) = ap (λ b. cond b (pos 1) (pos 0)) (eq-eqb (j - n) i e
-          ∙ sym (eq-eqb j (plain S + i) (omega (arith, e, l, long))))
-      go (no d) = ap (λ b. cond b (pos 1) (pos 0)) (ne_eqb (j - n) i d
-          ∙ sym (ne_eqb j (plain S + i) (λ e. d (omega (arith, e, l, long)))))
+  artificial_number i j l = elim (ℕ_discrete (j - n) i) [
+    | yes e ↦ ap (λ b. cond b (pos 1) (pos 0)) (eq-eqb (j - n) i e
+        ∙ sym (eq-eqb j (plain S + i) (omega (arith, e, l, long))))
+    | no d ↦ ap (λ b. cond b (pos 1) (pos 0)) (ne_eqb (j - n) i d
+        ∙ sym (ne_eqb j (plain S + i) (λ e. d (omega (arith, e, l, long)))))
+  ]
 
   -- the cell by its row's numbers
   cell_of_row : (i : ℕ) (a o : ℕ → ℤ) (x : ℤ) → ((r : ℕ) → r < m → number_at value (s i).numbers r ≡ a r) →
@@ -225,22 +216,20 @@ module _ {V : Type 0} (value : V → ℤ) (P : Lent) (problem : IsProblem P) (cs
 pub first_basics : (P : Lent) (bs : List ℕ) → length bs ≡ P.rows →
     ((i : ℕ) → i < P.rows → get_or bs i 0 ≡ plain (shape_of_problem P) + i) → (i : ℕ) →
     get_or bs i 0 ≡ first_basic (problem_of P) i
-first_basics P bs long h i = go (dec_lt i P.rows)
-  where
-    go : Dec (i < P.rows) → get_or bs i 0 ≡ first_basic (problem_of P) i
-    go (yes l) = h i l ∙ sym (ap (λ b. cond b (plain (shape_of_problem P) + i) 0) (lt-ltb i P.rows l))
-    go (no l) = get_or_past bs i 0 (omega (arith, l, long))
-        ∙ sym (ap (λ b. cond b (plain (shape_of_problem P) + i) 0) (le-ltb i P.rows (omega (arith, l))))
+first_basics P bs long h i = elim (dec_lt i P.rows) [
+  | yes l ↦ h i l ∙ sym (ap (λ b. cond b (plain (shape_of_problem P) + i) 0) (lt-ltb i P.rows l))
+  | no l ↦ get_or_past bs i 0 (omega (arith, l, long))
+      ∙ sym (ap (λ b. cond b (plain (shape_of_problem P) + i) 0) (le-ltb i P.rows (omega (arith, l))))
+]
 
 -- numbers that are covered up to their count are covered
 pub own_within : {V : Type 0} (value : V → ℤ) (xs : List V) (n : ℕ) (w : ℤ) → length xs ≡ n →
     ((k : ℕ) → k < n → unsigned_abs (number_at value xs k) ≤ unsigned_abs w) → IsOwn value xs w
-own_within value xs n w long h j = go (dec_lt j n)
-  where
-    go : Dec (j < n) → unsigned_abs (number_at value xs j) ≤ unsigned_abs w
-    go (yes l) = h j l
-    go (no l) = subst (λ z. unsigned_abs z ≤ unsigned_abs w) (sym (at-past value (pos 0) xs j (omega (arith, l, long))))
-        (omega arith)
+own_within value xs n w long h j = elim (dec_lt j n) [
+  | yes l ↦ h j l
+  | no l ↦ subst (λ z. unsigned_abs z ≤ unsigned_abs w) (sym (at-past value (pos 0) xs j (omega (arith, l, long))))
+      (omega arith)
+]
 
 -- how many factor columns there are
 pub factor_is : (o : Option Given) → cond (is_some o) 1 0 ≡ factor_count o

@@ -1,7 +1,7 @@
 -- A list that grows by one item.
 use Rattle.std.proofs.Common.{◌≡◌, sym, ap, subst, ◌∙◌, ℕ, ◌+◌, ◌<◌, List, [], ◌∷◌, ◌++◌, map, length, get_or, arith}
-use Rattle.std.proofs.lemmas.List.{map-append, length-map, get_or_append_left, get_or_push}
-use native.Mathlib.Decide.{ℕ_discrete}
+use Rattle.stack_rational.proofs.Common.{length-map, ℕ_discrete, get_or_append_left}
+use Rattle.std.proofs.lemmas.List.{map-append, get_or_push}
 use Rattle.stack_rows.specs.RowForm.{at_value}
 
 -- where each value so far meets a property by its place, and the next one does, all do

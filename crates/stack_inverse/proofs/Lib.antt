@@ -1,7 +1,6 @@
 pub mod StepCell
 pub mod PutRow
 pub mod Covered
-pub mod Basics
 pub mod Linear
 pub mod Bounds
 pub mod Tops

@@ -1,9 +1,7 @@
 -- A number that is made over the cells of its column.
-use Rattle.std.proofs.Common.{◌≡◌, sym, ap, ◌∙◌, ℕ, ◌<◌, ◌+◌, ◌-◌, List, length, get_or, [], true, ltb, eqb}
-use Rattle.std.proofs.lemmas.Bool.{lt-ltb}
-use Rattle.std.proofs.lemmas.List.{get_or-map}
-use lib.IntN.{ℤ, ◌+ℤ◌, ◌*ℤ◌}
-use Rattle.stack_algebra.specs.Sums.{sum_of}
+use Rattle.std.proofs.Common.{◌≡◌, sym, ap, ◌∙◌, ℕ, ◌<◌, ◌+◌, ◌-◌, List, length, get_or, [], true, ltb, eqb, lt-ltb, ℤ}
+use Rattle.std.proofs.Common.{◌+ℤ◌, ◌*ℤ◌}
+use Rattle.stack_rational.proofs.Common.{sum_of, get_or-map}
 use Rattle.stack_inverse.specs.declared.columns.Cell.{Cell}
 use Rattle.stack_inverse.specs.declared.columns.FirstColumn.{FirstColumn}
 use Rattle.stack_rows.specs.RowForm.{number_at}

@@ -1,7 +1,6 @@
 -- A number over a positive one is a fraction that fits 128 bits.
-use Rattle.std.proofs.Common.{◌≡◌, ap, ◌∙◌, ℕ, ◌+◌, ◌<◌, Bool, true, false, arith, List, length, eqb, ltb}
-use Rattle.std.proofs.lemmas.Bool.{le-ltb, lt-ltb}
-use lib.IntN.{ℤ}
+use Rattle.std.proofs.Common.{◌≡◌, ap, ◌∙◌, ℕ, ◌+◌, ◌<◌, Bool, true, false, arith, List, length, eqb, ltb, le-ltb}
+use Rattle.std.proofs.Common.{lt-ltb, ℤ}
 use Rattle.stack_inverse.specs.declared.columns.FirstColumn.{FirstColumn}
 use Rattle.stack_rows.specs.RowForm.{number_at}
 use Rattle.stack_inverse.specs.Columns.{by_place, number_with}

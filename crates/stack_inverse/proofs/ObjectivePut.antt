@@ -1,24 +1,16 @@
 -- A new objective row that is put into the block.
 use Rattle.std.proofs.Common.{◌≡◌, ◌≢◌, refl, sym, ap, ◌∙◌, ℕ, ◌<◌, ◌+◌, ◌-◌, List, length, Bool, true, false, cond}
-use Rattle.std.proofs.Common.{eqb, ltb, Option, Some, None, arith, IfSome}
-use Rattle.stack_algebra.specs.Search.{least}
-use Rattle.stack_algebra.proofs.Search.{least-some}
-use native.Mathlib.Decide.{ℕ_discrete}
-use Rattle.std.proofs.lemmas.Bool.{ne_eqb, eq-eqb, lt-ltb}
-use lib.IntN.{ℤ, pos, negsuc, ◌+ℤ◌, ◌*ℤ◌}
-use Rattle.stack_algebra.specs.Fraction.{Fraction}
-use Rattle.stack_algebra.specs.Rows.{changed}
-use Rattle.stack_algebra.proofs.Fractions.{of}
-use Rattle.stack_algebra.proofs.Over.{over, of-over}
+use Rattle.std.proofs.Common.{eqb, ltb, Option, Some, None, arith, IfSome, ne_eqb, eq-eqb, lt-ltb, ℤ, pos, negsuc, ◌+ℤ◌}
+use Rattle.std.proofs.Common.{◌*ℤ◌}
+use Rattle.stack_rational.proofs.Common.{least, least-some, ℕ_discrete, Fraction, changed, of, over, of-over, ◌≺◌}
+use Rattle.stack_rational.proofs.Common.{ordered_fractions}
 use Rattle.stack_inverse.specs.declared.columns.FirstColumn.{FirstColumn}
-use Rattle.stack_algebra.proofs.Order.{◌≺◌}
 use Rattle.stack_rows.specs.RowForm.{number_at}
 use Rattle.stack_inverse.specs.Columns.{combined, by_place, number, first_at, revised_own, RowSeen, IsPut, cell_with}
 use Rattle.stack_inverse.specs.Columns.{revised_cell, IsFactorRow}
 use Rattle.stack_inverse.proofs.FirstRows.{nothing_gives, own_row, factor_cell}
 use Rattle.stack_inverse.proofs.Steps.{over_zero}
 use Rattle.stack_table.specs.Table.{factor_row}
-use Rattle.stack_algebra.proofs.OrderedFractions.{ordered_fractions}
 use Rattle.stack_inverse.proofs.Division.{none_there}
 
 -- where all is 0
@@ -46,20 +38,18 @@ module _ {V : Type 0} (value : V → ℤ) (m : ℕ) (columns : List (FirstColumn
     -- the table with the new objective row
     pub objective_put : (f : ℕ → Fraction) → ((j : ℕ) → own_cell own' row d j ≡ f j) → (i j : ℕ) →
         revised_cell value m columns own' t i j ≡ changed (revised_cell value m columns own s) m f i j
-    objective_put f is i j = go (ℕ_discrete i m)
+    objective_put f is i j = elim (ℕ_discrete i m) [
+      | yes q ↦ ap (λ k. revised_cell value m columns own' t k j) q ∙ at_m ∙ is j
+          ∙ sym (ap (λ k. changed (revised_cell value m columns own s) m f k j) q
+          ∙ ap (λ b. cond b f (revised_cell value m columns own s m) j) (eq-eqb m m refl))
+      | no n ↦ others_stay i j n
+          ∙ sym (ap (λ b. cond b f (revised_cell value m columns own s i) j) (ne_eqb i m n))
+    ]
       where
         at_m : revised_cell value m columns own' t m j ≡ own_cell own' row d j
         at_m = λ z. cell_with value m columns
             (λ k. ap (λ b. cond b (number_at value own' k) (pos 0)) (eq-eqb m m refl) z)
             (p.own_numbers z) (p.own_under z) j
-
-        go : Dec (i ≡ m) → revised_cell value m columns own' t i j
-            ≡ changed (revised_cell value m columns own s) m f i j
-        go (yes q) = ap (λ k. revised_cell value m columns own' t k j) q ∙ at_m ∙ is j
-            ∙ sym (ap (λ k. changed (revised_cell value m columns own s) m f k j) q
-            ∙ ap (λ b. cond b f (revised_cell value m columns own s m) j) (eq-eqb m m refl))
-        go (no n) = others_stay i j n
-            ∙ sym (ap (λ b. cond b f (revised_cell value m columns own s i) j) (ne_eqb i m n))
 
   -- a row that is 0
   pub zero_row_is : (own row : List V) (d : ℤ) → d ≡ pos 1 → ((j : ℕ) → number_at value own j ≡ pos 0) →
@@ -97,7 +87,22 @@ module _ {V : Type 0} (value : V → ℤ) (m : ℕ) (columns : List (FirstColumn
     pub factor_is : (o : Option ℕ) → IfSome o (λ r. r < m) →
         IsFactorRow value m columns own s column o row d → (j : ℕ) →
         own_cell own' row d j ≡ factor_row ordered_fractions (revised_cell value m columns own s) column o j
-    factor_is None q h j = go (ℕ_discrete j column)
+    factor_is None q h j = elim (ℕ_discrete j column) [
+      | yes e ↦ same ∙ ap (λ z. over z (pos 1)) (own_row m (length columns) (first_at value columns)
+          (number_at value own') (pos 0) j
+          ∙ at_plain (ltb j (length columns)) (ltb j (length columns + m)) (eqb j (length columns + m))
+          (number_at value own' j) (pos 0) (pos 0) (ap (λ k. ltb k (length columns)) e
+          ∙ lt-ltb column (length columns) lt)
+          ∙ ap (number_at value own') e ∙ there)
+          ∙ of-over (negsuc 0) ∙ sym (ap (λ b. cond b (of (negsuc 0)) (of (pos 0))) (eq-eqb j column e))
+      | no n ↦ same ∙ ap (λ z. over z (pos 1)) (own_row m (length columns) (first_at value columns)
+          (number_at value own') (pos 0) j
+          ∙ ap (λ z. by_place (ltb j (length columns)) (ltb j (length columns + m))
+          (eqb j (length columns + m)) z (pos 0) (pos 0))
+          (elsewhere j j n) ∙ nothing_at (ltb j (length columns)) (ltb j (length columns + m))
+          (eqb j (length columns + m)))
+          ∙ of-over (pos 0) ∙ sym (ap (λ b. cond b (of (negsuc 0)) (of (pos 0))) (ne_eqb j column n))
+    ]
       where
         same : own_cell own' row d j ≡ over (number m (length columns) (first_at value columns)
             (number_at value own') (pos 1)
@@ -105,24 +110,23 @@ module _ {V : Type 0} (value : V → ℤ) (m : ℕ) (columns : List (FirstColumn
         same = λ z. over (number m (length columns) (first_at value columns) (number_at value own') (h.1 z)
             (λ k. h.0 k z) (h.0 m z) j)
             (h.1 z)
-
-        go : Dec (j ≡ column) → own_cell own' row d j
-            ≡ factor_row ordered_fractions (revised_cell value m columns own s) column None j
-        go (yes e) = same ∙ ap (λ z. over z (pos 1)) (own_row m (length columns) (first_at value columns)
-            (number_at value own') (pos 0) j
-            ∙ at_plain (ltb j (length columns)) (ltb j (length columns + m)) (eqb j (length columns + m))
-            (number_at value own' j) (pos 0) (pos 0) (ap (λ k. ltb k (length columns)) e
-            ∙ lt-ltb column (length columns) lt)
-            ∙ ap (number_at value own') e ∙ there)
-            ∙ of-over (negsuc 0) ∙ sym (ap (λ b. cond b (of (negsuc 0)) (of (pos 0))) (eq-eqb j column e))
-        go (no n) = same ∙ ap (λ z. over z (pos 1)) (own_row m (length columns) (first_at value columns)
-            (number_at value own') (pos 0) j
-            ∙ ap (λ z. by_place (ltb j (length columns)) (ltb j (length columns + m))
-            (eqb j (length columns + m)) z (pos 0) (pos 0))
-            (elsewhere j j n) ∙ nothing_at (ltb j (length columns)) (ltb j (length columns + m))
-            (eqb j (length columns + m)))
-            ∙ of-over (pos 0) ∙ sym (ap (λ b. cond b (of (negsuc 0)) (of (pos 0))) (ne_eqb j column n))
-    factor_is (Some r) q h j = go (ℕ_discrete j column)
+    factor_is (Some r) q h j = elim (ℕ_discrete j column) [
+      | yes p ↦ same ∙ ap (λ z. over z e) (ap (λ k. number m (length columns) (first_at value columns)
+          (number_at value own') e a (a m) k) p
+          ∙ by_own column (number_at value own') a (a m) e (pos 0) (negsuc 0) there
+          ∙ at_plain (ltb column (length columns)) (ltb column (length columns + m)) (eqb column (length columns + m))
+          ((s r).under *ℤ negsuc 0 +ℤ combined m (λ k. number_at value (s r).numbers k)
+          (λ r. first_at value columns r column))
+          (number_at value (s r).numbers (column - length columns)) (number_at value (s r).numbers m)
+          (lt-ltb column (length columns) lt)
+          ∙ factor_cell m (length columns) (first_at value columns) e a column unit)
+          ∙ over_zero e (positive r)
+          ∙ sym (ap (λ b. cond b (of (pos 0)) (revised_cell value m columns own s r j)) (eq-eqb j column p))
+      | no n ↦ same ∙ ap (λ z. over z e) (by_own j (number_at value own') a (a m) e (pos 0) (pos 0)
+          (elsewhere j j n)
+          ∙ sym (by_own j (revised_own value m own r) a (a m) e (pos 0) (pos 0) (bare j)))
+          ∙ sym (ap (λ b. cond b (of (pos 0)) (revised_cell value m columns own s r j)) (ne_eqb j column n))
+    ]
       where
         e : ℤ
         e = (s r).under
@@ -148,24 +152,6 @@ module _ {V : Type 0} (value : V → ℤ) (m : ℕ) (columns : List (FirstColumn
             (λ r. first_at value columns r column))
             (number_at value (s r).numbers (column - length columns)) (number_at value (s r).numbers m)
             (lt-ltb column (length columns) lt)) ∙ h.2
-
-        go : Dec (j ≡ column) → own_cell own' row d j
-            ≡ factor_row ordered_fractions (revised_cell value m columns own s) column (Some r) j
-        go (yes p) = same ∙ ap (λ z. over z e) (ap (λ k. number m (length columns) (first_at value columns)
-            (number_at value own') e a (a m) k) p
-            ∙ by_own column (number_at value own') a (a m) e (pos 0) (negsuc 0) there
-            ∙ at_plain (ltb column (length columns)) (ltb column (length columns + m)) (eqb column (length columns + m))
-            ((s r).under *ℤ negsuc 0 +ℤ combined m (λ k. number_at value (s r).numbers k)
-            (λ r. first_at value columns r column))
-            (number_at value (s r).numbers (column - length columns)) (number_at value (s r).numbers m)
-            (lt-ltb column (length columns) lt)
-            ∙ factor_cell m (length columns) (first_at value columns) e a column unit)
-            ∙ over_zero e (positive r)
-            ∙ sym (ap (λ b. cond b (of (pos 0)) (revised_cell value m columns own s r j)) (eq-eqb j column p))
-        go (no n) = same ∙ ap (λ z. over z e) (by_own j (number_at value own') a (a m) e (pos 0) (pos 0)
-            (elsewhere j j n)
-            ∙ sym (by_own j (revised_own value m own r) a (a m) e (pos 0) (pos 0) (bare j)))
-            ∙ sym (ap (λ b. cond b (of (pos 0)) (revised_cell value m columns own s r j)) (ne_eqb j column n))
 
 -- a row that is found is one of the rows
 pub found_below : (m : ℕ) (p : ℕ → Bool) (o : Option ℕ) → o ≡ least m p → (P : ℕ → Type 0) → ((r : ℕ) → r < m → P r) →

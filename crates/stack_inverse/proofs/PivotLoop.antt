@@ -1,17 +1,10 @@
 -- A pivot over cells, row by row.
-use Rattle.std.proofs.Common.{◌≡◌, ◌≢◌, refl, sym, ap, ◌∙◌, ℕ, ◌<◌, ◌≤◌, Some, None, true, cond, arith}
+use Rattle.std.proofs.Common.{◌≡◌, ◌≢◌, refl, sym, ap, ◌∙◌, ℕ, ◌<◌, ◌≤◌, Some, None, true, cond, arith, ℤ, ne_eqb}
+use Rattle.std.proofs.Common.{eq-eqb}
+use Rattle.stack_rational.proofs.Common.{ℕ_discrete, dec_lt, Fraction, next, add, mul, neg, inv, ordered_fractions}
+use Rattle.stack_rational.proofs.Common.{first, or_else, first_all-none, first_found, is_zero, IsWidth, fraction_fits}
+use Rattle.stack_rational.proofs.Common.{is_too_wide}
 use Rattle.stack_table.specs.declared.types.PivotWide.{PivotWide}
-use native.Mathlib.Decide.{ℕ_discrete, dec_lt}
-use lib.IntN.{ℤ}
-use Rattle.std.proofs.lemmas.Bool.{ne_eqb, eq-eqb}
-use Rattle.stack_algebra.specs.Fraction.{Fraction}
-use Rattle.stack_algebra.specs.Rows.{next}
-use Rattle.stack_algebra.proofs.Fractions.{add, mul, neg}
-use Rattle.stack_algebra.proofs.FractionField.{inv}
-use Rattle.stack_algebra.proofs.OrderedFractions.{ordered_fractions}
-use Rattle.stack_algebra.proofs.Search.{first, or_else, first_all-none, first_found}
-use Rattle.stack_rational.specs.Order.{is_zero}
-use Rattle.stack_rational.specs.TooWide.{IsWidth, fraction_fits, is_too_wide}
 use Rattle.stack_table.specs.Spots.{divided, reduced, divide_item, reduce_spot, row_spot, cells_spot}
 use Rattle.stack_table.proofs.RowSteps.{row_skips, reduced_same}
 use Rattle.stack_inverse.specs.declared.stops.PivotRefusal.{PivotRefusal}

@@ -1,11 +1,7 @@
 -- The rows after a pivot.
-use Rattle.std.proofs.Common.{◌≡◌, ◌≢◌, sym, ap, subst, ◌∙◌, ℕ, suc, ◌+◌, ◌<◌, ◌≤◌, true, false, List, length, arith}
-use native.Mathlib.Decide.{ℕ_discrete, dec_lt}
-use lib.IntN.{ℤ}
-use Rattle.stack_algebra.specs.Fraction.{Fraction}
-use Rattle.stack_algebra.proofs.OrderedFractions.{ordered_fractions}
-use Rattle.stack_rational.specs.Order.{is_zero}
-use Rattle.stack_rational.specs.TooWide.{IsWidth, fraction_fits, is_too_wide}
+use Rattle.std.proofs.Common.{◌≡◌, ◌≢◌, sym, ap, subst, ◌∙◌, ℕ, suc, ◌+◌, ◌<◌, ◌≤◌, true, false, List, length, arith, ℤ}
+use Rattle.stack_rational.proofs.Common.{ℕ_discrete, dec_lt, Fraction, ordered_fractions, is_zero, IsWidth}
+use Rattle.stack_rational.proofs.Common.{fraction_fits, is_too_wide}
 use Rattle.stack_table.specs.Spots.{cells_spot}
 use Rattle.stack_inverse.specs.declared.columns.FirstColumn.{FirstColumn}
 use Rattle.stack_inverse.specs.declared.stops.PivotRefusal.{PivotRefusal}
@@ -52,22 +48,23 @@ module _ {V : Type 0} (value : V → ℤ) (m : ℕ) (columns : List (FirstColumn
         ((past_too k (omega (arith, q)) ∙ sym (past k (omega (arith, q)))) z).numbers
         ((past_too k (omega (arith, q)) ∙ sym (past k (omega (arith, q)))) z).under j)
 
-    pub pivoted : IsPivotedCells max (suc m) (suc (length columns + m)) (revised_cell value m columns own s) r c
-        (revised_cell value m columns own t)
-    pivoted = pivoted_cells max is (suc m) (suc (length columns + m)) (revised_cell value m columns own s)
-        (row_cell value m columns numbers under) r c divided.cell divided.none outside outside_fits
-        (revised_cell value m columns own t) (put_own value m columns own u t r numbers under true l put)
-        (λ k q n. subst (λ (f : ℕ → Fraction). IsReducedRow max (suc (length columns + m))
-        (revised_cell value m columns own s k) (row_cell value m columns numbers under) k c f)
-        (λ z j. sym (stays k j n) z) (each k q n)) past_stays
-
     -- and all cells fit
-    pub marked : AreMarked max (revised_cell value m columns own t) t
-    marked k e j = go (ℕ_discrete k r) (dec_lt k (suc m))
+    pub pivoted : IsPivotedCells max (suc m) (suc (length columns + m)) (revised_cell value m columns own s) r c
+        (revised_cell value m columns own t) × AreMarked max (revised_cell value m columns own t) t
+    pivoted = (
+      pivoted_cells max is (suc m) (suc (length columns + m)) (revised_cell value m columns own s)
+          (row_cell value m columns numbers under) r c divided.cell divided.none outside outside_fits
+          (revised_cell value m columns own t) (put_own value m columns own u t r numbers under true l put)
+          (λ k q n. subst (λ (f : ℕ → Fraction). IsReducedRow max (suc (length columns + m))
+          (revised_cell value m columns own s k) (row_cell value m columns numbers under) k c f)
+          (λ z j. sym (stays k j n) z) (each k q n)) past_stays,
+      λ k e j. go k e j (ℕ_discrete k r) (dec_lt k (suc m)),
+    )
       where
-        go : Dec (k ≡ r) → Dec (k < suc m) → fraction_fits max (revised_cell value m columns own t k j) ≡ true
-        go (yes q) d = ap (λ n. fraction_fits max (revised_cell value m columns own t n j)) q
+        go : (k : ℕ) → (t k).fits ≡ true → (j : ℕ) → Dec (k ≡ r) → Dec (k < suc m) →
+            fraction_fits max (revised_cell value m columns own t k j) ≡ true
+        go k e j (yes q) d = ap (λ n. fraction_fits max (revised_cell value m columns own t n j)) q
             ∙ ap (fraction_fits max) (put_own value m columns own u t r numbers under true l put j) ∙ divided.fits j
-        go (no n) (yes q) = ap (fraction_fits max) (stays k j n) ∙ (each k q n).fits j
-        go (no n) (no q) = let b : false ≡ true = sym (ap (λ (x : RowSeen V). x.fits) (put.other k n
+        go k e j (no n) (yes q) = ap (fraction_fits max) (stays k j n) ∙ (each k q n).fits j
+        go k e j (no n) (no q) = let b : false ≡ true = sym (ap (λ (x : RowSeen V). x.fits) (put.other k n
             ∙ past_too k (omega (arith, q)))) ∙ e in absurd cc

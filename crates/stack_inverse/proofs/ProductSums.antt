@@ -1,8 +1,6 @@
 -- A product that is added to a sum.
-use Rattle.std.proofs.Common.{◌≡◌, sym, ap, ◌∙◌, arith}
-use lib.IntN.{ℤ, pos, ◌+ℤ◌, ◌*ℤ◌, zero-*ℤ}
-use Rattle.std.proofs.lemmas.Int.{ints}
-use Rattle.stack_algebra.proofs.Integers.{expand, sums}
+use Rattle.std.proofs.Common.{◌≡◌, sym, ap, ◌∙◌, arith, ℤ, pos, ◌+ℤ◌, ◌*ℤ◌}
+use Rattle.stack_rational.proofs.Common.{ints, expand, sums, zero-*ℤ}
 
 -- a product with 0 adds nothing
 pub nothing_added : (s n b : ℤ) → n ≡ pos 0 → s ≡ s +ℤ n *ℤ b

@@ -1,12 +1,7 @@
 -- A row of many that is written.
 use Rattle.std.proofs.Common.{◌≡◌, ◌≢◌, sym, ap, subst, ◌∙◌, ℕ, suc, ◌+◌, ◌<◌, ◌≤◌, Bool, true, false, List, [], ◌∷◌}
-use Rattle.std.proofs.Common.{length, set, slice_index_or, get_or, zero, arith}
-use native.Mathlib.Decide.{ℕ_discrete}
-use lib.IntN.{ℤ, pos}
-use Rattle.std.proofs.lemmas.Int.{ints}
-use Rattle.stack_algebra.specs.Fraction.{Fraction}
-use Rattle.stack_algebra.proofs.Order.{◌≺◌}
-use Rattle.stack_rational.specs.TooWide.{fraction_fits}
+use Rattle.std.proofs.Common.{length, set, slice_index_or, get_or, zero, arith, ℤ, pos}
+use Rattle.stack_rational.proofs.Common.{ℕ_discrete, ints, Fraction, ◌≺◌, fraction_fits}
 use Rattle.stack_rows.specs.declared.whole.RowNumber.{Ghosts}
 use Rattle.stack_rows.proofs.Numbers.{at-index, at-set_same, at-set_other, at-past}
 use Rattle.stack_inverse.specs.declared.row.Row.{Row}
@@ -51,20 +46,18 @@ module _ {V : Type 0} {number : Ghosts V} where
     -- all are as wide as before
     pub wide_set : (m : ℕ) → AreWide m (seen_at rows) → length new.numbers.items ≡ suc m →
         AreWide m (seen_at (set rows i new))
-    wide_set m h e k l = go (ℕ_discrete k i)
-      where
-        go : Dec (k ≡ i) → length (seen_at (set rows i new) k).numbers ≡ suc m
-        go (yes p) = ap (λ (s : RowSeen V). length s.numbers) (ap (seen_at (set rows i new)) p ∙ own) ∙ e
-        go (no n) = ap (λ (s : RowSeen V). length s.numbers) (other k n) ∙ h k l
+    wide_set m h e k l = elim (ℕ_discrete k i) [
+      | yes p ↦ ap (λ (s : RowSeen V). length s.numbers) (ap (seen_at (set rows i new)) p ∙ own) ∙ e
+      | no n ↦ ap (λ (s : RowSeen V). length s.numbers) (other k n) ∙ h k l
+    ]
 
     -- what is done of the rows before it is done of it too
     pub done_set : (P : ℕ → RowSeen V → Type 0) (r : ℕ) → ((k : ℕ) → k < i → k ≢ r → P k (seen_at rows k)) →
         P i (seen_of new) → (k : ℕ) → k < i + 1 → k ≢ r → P k (seen_at (set rows i new) k)
-    done_set P r h here k l d = go (ℕ_discrete k i)
-      where
-        go : Dec (k ≡ i) → P k (seen_at (set rows i new) k)
-        go (yes p) = subst (λ n. P n (seen_at (set rows i new) n)) (sym p) (subst (λ s. P i s) (sym own) here)
-        go (no n) = subst (λ s. P k s) (sym (other k n)) (h k (omega (arith, l, n)) d)
+    done_set P r h here k l d = elim (ℕ_discrete k i) [
+      | yes p ↦ subst (λ n. P n (seen_at (set rows i new) n)) (sym p) (subst (λ s. P i s) (sym own) here)
+      | no n ↦ subst (λ s. P k s) (sym (other k n)) (h k (omega (arith, l, n)) d)
+    ]
 
     -- the rows behind it are as they were
     pub left_set : (first : ℕ → RowSeen V) → ((k : ℕ) → i ≤ k → seen_at rows k ≡ first k) → (k : ℕ) → i + 1 ≤ k →
@@ -76,14 +69,12 @@ module _ {V : Type 0} {number : Ghosts V} where
         AreMarked max (λ k. cell k (seen_at rows k)) (seen_at rows) →
         (new.fits ≡ true → AllNumbersFit max (cell i (seen_of new))) →
         AreMarked max (λ k. cell k (seen_at (set rows i new) k)) (seen_at (set rows i new))
-    marked_set max cell h here k = go (ℕ_discrete k i)
-      where
-        go : Dec (k ≡ i) → (seen_at (set rows i new) k).fits ≡ true →
-            AllNumbersFit max (cell k (seen_at (set rows i new) k))
-        go (yes p) = subst (λ n. (seen_at (set rows i new) n).fits ≡ true →
-            AllNumbersFit max (cell n (seen_at (set rows i new) n))) (sym p)
-            (subst (λ (s : RowSeen V). s.fits ≡ true → AllNumbersFit max (cell i s)) (sym own) here)
-        go (no n) = subst (λ (s : RowSeen V). s.fits ≡ true → AllNumbersFit max (cell k s)) (sym (other k n)) (h k)
+    marked_set max cell h here k = elim (ℕ_discrete k i) [
+      | yes p ↦ subst (λ n. (seen_at (set rows i new) n).fits ≡ true →
+          AllNumbersFit max (cell n (seen_at (set rows i new) n))) (sym p)
+          (subst (λ (s : RowSeen V). s.fits ≡ true → AllNumbersFit max (cell i s)) (sym own) here)
+      | no n ↦ subst (λ (s : RowSeen V). s.fits ≡ true → AllNumbersFit max (cell k s)) (sym (other k n)) (h k)
+    ]
 
     -- a row of these numbers is put
     pub put_is : (numbers : List V) (under : ℤ) (fits : Bool) → new.numbers.items ≡ numbers →
@@ -99,19 +90,17 @@ module _ {V : Type 0} {number : Ghosts V} where
 -- where a row is put, all are as wide as before
 pub wide_put : {V : Type 0} (m : ℕ) (s t : ℕ → RowSeen V) (i : ℕ) (numbers : List V) (under : ℤ) (fits : Bool) →
     IsPut s i numbers under fits t → length numbers ≡ suc m → AreWide m s → AreWide m t
-wide_put {V = V} m s t i numbers under fits p e h k l = go (ℕ_discrete k i)
-  where
-    go : Dec (k ≡ i) → length (t k).numbers ≡ suc m
-    go (yes q) = ap (λ n. length (t n).numbers) q ∙ ap (λ (xs : List V). length xs) p.own_numbers ∙ e
-    go (no n) = ap (λ (s : RowSeen V). length s.numbers) (p.other k n) ∙ h k l
+wide_put {V = V} m s t i numbers under fits p e h k l = elim (ℕ_discrete k i) [
+  | yes q ↦ ap (λ n. length (t n).numbers) q ∙ ap (λ (xs : List V). length xs) p.own_numbers ∙ e
+  | no n ↦ ap (λ (s : RowSeen V). length s.numbers) (p.other k n) ∙ h k l
+]
 
 -- where it isn't marked, nothing is said of it
 pub marked_put : {V : Type 0} (max : ℤ) (s t : ℕ → RowSeen V) (i : ℕ) (numbers : List V) (under : ℤ)
     (old new : ℕ → ℕ → Fraction) → IsPut s i numbers under false t → ((k j : ℕ) → k ≢ i → new k j ≡ old k j) →
     AreMarked max old s → AreMarked max new t
-marked_put {V = V} max s t i numbers under old new p same h k e j = go (ℕ_discrete k i)
-  where
-    go : Dec (k ≡ i) → fraction_fits max (new k j) ≡ true
-    go (yes q) = let b : false ≡ true = sym p.own_fits ∙ sym (ap (λ n. (t n).fits) q) ∙ e in absurd cc
-    go (no n) = ap (fraction_fits max) (same k j n)
-        ∙ h k (sym (ap (λ (s : RowSeen V). s.fits) (p.other k n)) ∙ e) j
+marked_put {V = V} max s t i numbers under old new p same h k e j = elim (ℕ_discrete k i) [
+  | yes q ↦ let b : false ≡ true = sym p.own_fits ∙ sym (ap (λ n. (t n).fits) q) ∙ e in absurd cc
+  | no n ↦ ap (fraction_fits max) (same k j n)
+      ∙ h k (sym (ap (λ (s : RowSeen V). s.fits) (p.other k n)) ∙ e) j
+]

@@ -1,8 +1,7 @@
 -- A row step by tops of both rows: it isn't too wide in any column.
-use Rattle.std.proofs.Common.{◌≡◌, refl, sym, subst, ℕ, suc, ◌<◌, ◌≤◌, ◌+◌, ◌-◌, ◌^◌, List, length, Bool}
-use Rattle.std.proofs.Common.{unsigned_abs, arith}
-use native.Mathlib.Decide.{dec_lt}
-use lib.IntN.{ℤ, pos}
+use Rattle.std.proofs.Common.{◌≡◌, refl, sym, subst, ℕ, suc, ◌≤◌, ◌+◌, ◌-◌, ◌^◌, List, length, Bool, unsigned_abs}
+use Rattle.std.proofs.Common.{arith, ℤ, pos}
+use Rattle.stack_rational.proofs.Common.{dec_lt}
 use Rattle.stack_inverse.specs.declared.columns.FirstColumn.{FirstColumn}
 use Rattle.stack_rows.specs.RowForm.{number_at, StepIsShort, RowStepFits}
 use Rattle.stack_inverse.specs.RowBlock.{AreWithin, FitsByTop}
@@ -26,14 +25,13 @@ module _ {V : Type 0} (value : V → ℤ) (m : ℕ) (columns : List (FirstColumn
   -- the numbers that a row is kept by are among all its numbers
   pub kept_within : (row : List V) (d p : ℤ) → length row ≡ suc m → AreWithin (row_number value m columns row d) p →
       (j : ℕ) → unsigned_abs (number_at value row j) ≤ unsigned_abs p
-  kept_within row d p n h j = go (dec_lt j (suc m))
-    where
-      go : Dec (j < suc m) → unsigned_abs (number_at value row j) ≤ unsigned_abs p
-      go (yes l) = subst (λ z. unsigned_abs z ≤ unsigned_abs p) (sym (row_read value m columns (length columns + j)
-          plain_own row d (number_at value row j) (length columns) j refl (omega arith) (omega arith)
-          (omega (arith, l)) refl)) (h (length columns + j))
-      go (no l) = subst (λ z. unsigned_abs z ≤ unsigned_abs p) (sym (at-past value (pos 0) row j (omega (arith, n, l))))
-          (none_within p)
+  kept_within row d p n h j = elim (dec_lt j (suc m)) [
+    | yes l ↦ subst (λ z. unsigned_abs z ≤ unsigned_abs p) (sym (row_read value m columns (length columns + j)
+        plain_own row d (number_at value row j) (length columns) j refl (omega arith) (omega arith)
+        (omega (arith, l)) refl)) (h (length columns + j))
+    | no l ↦ subst (λ z. unsigned_abs z ≤ unsigned_abs p) (sym (at-past value (pos 0) row j (omega (arith, n, l))))
+        (none_within p)
+  ]
 
   -- so tops of both rows tell
   pub ready : (column_top : ℤ) → AreFirst value m (length columns) columns column_top → (max : ℤ) (row pivot : List V)

@@ -1,15 +1,8 @@
 -- A row by its artificial cells and its right side: its numbers in all columns, a row step on them, and their top.
-use Rattle.std.proofs.Common.{◌≡◌, refl, ap, ◌∙◌, ℕ, ◌+◌, ◌-◌, ◌*◌, ◌<◌, ◌≤◌, Bool, true, false}
-use Rattle.std.proofs.Common.{eqb, ltb, None, arith, mul-le-mul}
-use Rattle.std.proofs.lemmas.Bool.{ltb-true, ltb-false}
-use lib.IntN.{ℤ, pos, nat_abs, ◌+ℤ◌, ◌-ℤ◌, ◌*ℤ◌}
-use Rattle.std.proofs.lemmas.Int.{ints, unsigned_abs-mul}
-use Rattle.stack_algebra.proofs.Integers.{expand, sums}
-use Rattle.stack_algebra.proofs.Order.{◌≺◌, mul_pos}
-use Rattle.stack_algebra.proofs.Over.{over}
-use Rattle.stack_algebra.proofs.OrderedFractions.{ordered_fractions}
-use Rattle.stack_rational.specs.TooWide.{fraction_fits, is_too_wide}
-use Rattle.stack_rational.specs.Stored.{Within}
+use Rattle.std.proofs.Common.{◌≡◌, refl, ap, ◌∙◌, ℕ, ◌+◌, ◌-◌, ◌*◌, ◌<◌, ◌≤◌, Bool, true, false, eqb, ltb, None, arith}
+use Rattle.std.proofs.Common.{mul-le-mul, ltb-true, ltb-false, ℤ, pos, nat_abs, ◌+ℤ◌, ◌-ℤ◌, ◌*ℤ◌}
+use Rattle.stack_rational.proofs.Common.{ints, unsigned_abs-mul, expand, sums, ◌≺◌, mul_pos, over, ordered_fractions}
+use Rattle.stack_rational.proofs.Common.{fraction_fits, is_too_wide, Within}
 use Rattle.stack_table.specs.Spots.{reduced, reduce_item}
 use Rattle.stack_inverse.proofs.Linear.{combined_step, combined_same, combined_within}
 use Rattle.stack_inverse.specs.Columns.{combined, sizes, by_place, plain_own, number}

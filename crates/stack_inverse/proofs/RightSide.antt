@@ -1,8 +1,6 @@
 -- The right side of a row, and its size.
-use Rattle.std.proofs.Common.{◌≡◌, sym, ap, ℕ, zero, suc, ◌≤◌, ◌+◌, List, [], ◌∷◌, Bool, true, false}
-use Rattle.std.proofs.Common.{eqb, ltb, length, unsigned_abs, subst, arith}
-use Rattle.std.proofs.lemmas.Bool.{le-ltb, eq-eqb}
-use lib.IntN.{ℤ}
+use Rattle.std.proofs.Common.{◌≡◌, sym, ap, ℕ, zero, suc, ◌≤◌, ◌+◌, List, [], ◌∷◌, Bool, true, false, eqb, ltb, length}
+use Rattle.std.proofs.Common.{unsigned_abs, subst, arith, le-ltb, eq-eqb, ℤ}
 use Rattle.stack_table.specs.Table.{columns}
 use Rattle.stack_rows.specs.declared.whole.RowNumber.{Ghosts}
 use Rattle.stack_inverse.specs.declared.revised_table.RevisedTable.{RevisedTable}

@@ -1,23 +1,13 @@
 -- A row that is reduced cell by cell: its cells fit where nothing that is written is too wide.
-use Rattle.std.proofs.Common.{◌≡◌, refl, sym, ap, subst, ◌∙◌, ℕ, suc, ◌+◌, ◌-◌, ◌*◌, ◌/◌, ◌<◌, ◌≤◌, Bool}
-use Rattle.std.proofs.Common.{true, false, None, List, length, eqb, ltb, arith, mul-le-mul}
-use native.Mathlib.Decide.{dec_lt}
-use native.Mathlib.Nat.{mul-div_cancel'}
-use lib.IntN.{ℤ, pos, nat_abs, ◌+ℤ◌, ◌*ℤ◌}
-use Rattle.std.proofs.lemmas.Int.{ints, unsigned_abs-mul}
-use Rattle.std.proofs.lemmas.Bool.{leb-true, le-ltb, lt-ltb, eq-eqb, ne_eqb}
-use Rattle.stack_algebra.specs.Fraction.{Fraction}
-use Rattle.stack_algebra.specs.Gcd.{gcd}
-use Rattle.stack_algebra.specs.Search.{only_if}
-use Rattle.stack_algebra.proofs.Search.{first-none, or_none, only_if-none}
-use Rattle.stack_algebra.proofs.CommonDivisor.{gcd-left, gcd-right}
-use Rattle.stack_algebra.proofs.Conjunctions.{not-false, left_true, right_true}
-use Rattle.stack_algebra.proofs.Fractions.{mul, neg, den_pos}
-use Rattle.stack_algebra.proofs.Order.{◌≺◌}
-use Rattle.stack_algebra.proofs.Over.{over}
-use Rattle.stack_algebra.proofs.OrderedFractions.{ordered_fractions}
+use Rattle.std.proofs.Common.{◌≡◌, refl, sym, ap, subst, ◌∙◌, ℕ, suc, ◌+◌, ◌-◌, ◌*◌, ◌/◌, ◌<◌, ◌≤◌, Bool, true, false}
+use Rattle.std.proofs.Common.{None, List, length, eqb, ltb, arith, mul-le-mul, ℤ, pos, nat_abs, ◌+ℤ◌, ◌*ℤ◌, leb-true}
+use Rattle.std.proofs.Common.{le-ltb, lt-ltb, eq-eqb, ne_eqb}
+use Rattle.stack_rational.proofs.Common.{dec_lt, mul-div_cancel', ints, unsigned_abs-mul, Fraction, gcd, only_if}
+use Rattle.stack_rational.proofs.Common.{gcd-left, gcd-right, mul, neg, ◌≺◌, over, ordered_fractions, fraction_fits}
+use Rattle.stack_rational.proofs.Common.{sum_fits, is_too_wide, sum_of, expand, sums, first-none, not-false, left_true}
+use Rattle.stack_rational.proofs.Common.{right_true, den_pos, left_term, common_denominator}
+use Rattle.stack_algebra.proofs.Search.{or_none, only_if-none}
 use Rattle.stack_rational.specs.declared.exact.Op.TheVariants.{Difference, Product}
-use Rattle.stack_rational.specs.TooWide.{fraction_fits, sum_fits, is_too_wide, left_term, common_denominator}
 use Rattle.stack_rational.proofs.Crosswise.{positive-part}
 use Rattle.stack_rational.proofs.Fitting.{answer_fits, fits-of}
 use Rattle.stack_table.specs.declared.types.Step.TheVariants.{Multiply, Subtract}
@@ -29,8 +19,6 @@ use Rattle.stack_inverse.specs.RowBlock.{AreWithin, AllNumbersFit, IsReducedRow}
 use Rattle.stack_inverse.specs.Columns.{by_place, combined, entry_of, rises, cells_at, number_with, cell_with}
 use Rattle.stack_inverse.specs.Columns.{row_number, row_cell}
 use Rattle.stack_inverse.proofs.Entered.{rises_of, over_entries}
-use Rattle.stack_algebra.specs.Sums.{sum_of}
-use Rattle.stack_algebra.proofs.Integers.{expand, sums}
 use Rattle.stack_rows.proofs.OverOneDenominator.{over_fits, within_multiple}
 use Rattle.stack_inverse.proofs.Steps.{taken_own}
 
@@ -100,23 +88,21 @@ module _ {V : Type 0} (value : V → ℤ) (m : ℕ) (columns : List (FirstColumn
       ((j : ℕ) → cell_with value m columns o row d j ≡ reduced ordered_fractions old g k j) →
       reduce_spot ordered_fractions (is_too_wide max) (suc (length columns + m)) old g k i ≡ None →
       AllNumbersFit max (cell_with value m columns o row d)
-  by_cells_fit old g k i own_is none j = go (dec_lt j (suc (length columns + m)))
-    where
-      go : Dec (j < suc (length columns + m)) → fraction_fits max (cell_with value m columns o row d j) ≡ true
-      go (yes l) = ap (fraction_fits max) (own_is j) ∙ item_fits max old g k i j
-          (first-none (suc (length columns + m)) _ none j l)
-      go (no l) = past_fits j (omega (arith, l))
+  by_cells_fit old g k i own_is none j = elim (dec_lt j (suc (length columns + m))) [
+    | yes l ↦ ap (fraction_fits max) (own_is j) ∙ item_fits max old g k i j
+        (first-none (suc (length columns + m)) _ none j l)
+    | no l ↦ past_fits j (omega (arith, l))
+  ]
 
 -- an artificial number or the right side, by its place
 placed_read : (n m j : ℕ) (x : ℤ) (a : ℕ → ℤ) → n ≤ j → j < suc (n + m) →
     a (j - n) ≡ by_place (ltb j n) (ltb j (n + m)) (eqb j (n + m)) x (a (j - n)) (a m)
-placed_read n m j x a h l = go (dec_lt j (n + m))
-  where
-    go : Dec (j < n + m) → a (j - n) ≡ by_place (ltb j n) (ltb j (n + m)) (eqb j (n + m)) x (a (j - n)) (a m)
-    go (yes k) = sym (λ i. by_place (le-ltb j n h i) (lt-ltb j (n + m) k i) (eqb j (n + m)) x (a (j - n)) (a m))
-    go (no k) = ap a (omega (arith, h, l, k))
-        ∙ sym (λ i. by_place (le-ltb j n h i) (le-ltb j (n + m) (omega (arith, k)) i)
-        (eq-eqb j (n + m) (omega (arith, l, k)) i) x (a (j - n)) (a m))
+placed_read n m j x a h l = elim (dec_lt j (n + m)) [
+  | yes k ↦ sym (λ i. by_place (le-ltb j n h i) (lt-ltb j (n + m) k i) (eqb j (n + m)) x (a (j - n)) (a m))
+  | no k ↦ ap a (omega (arith, h, l, k))
+      ∙ sym (λ i. by_place (le-ltb j n h i) (le-ltb j (n + m) (omega (arith, k)) i)
+      (eq-eqb j (n + m) (omega (arith, l, k)) i) x (a (j - n)) (a m))
+]
 
 -- a number that covers the artificial numbers of a row, its right side and those that are made covers all
 pub all_within : {V : Type 0} (value : V → ℤ) (m : ℕ) (columns : List (FirstColumn V)) (row : List V) (d b : ℤ) →

@@ -1,24 +1,19 @@
 -- Numbers of a row that are made in 64 bits, by a top of them.
-use Rattle.std.proofs.Common.{◌≡◌, refl, sym, ap, subst, ◌∙◌, ℕ, zero, suc, ◌+◌, ◌-◌, ◌*◌, ◌^◌, ◌<◌, ◌≤◌, Bool}
-use Rattle.std.proofs.Common.{true, false, cond, eqb, ltb, List, [], ◌∷◌, length, get_or, drop, drop-cons}
-use Rattle.std.proofs.Common.{add-one, arith, mul-le-mul}
+use Rattle.std.proofs.Common.{◌≡◌, refl, sym, ap, subst, ◌∙◌, ℕ, zero, suc, ◌+◌, ◌-◌, ◌*◌, ◌^◌, ◌<◌, ◌≤◌, Bool, true}
+use Rattle.std.proofs.Common.{false, cond, eqb, ltb, List, [], ◌∷◌, length, get_or, drop, drop-cons, add-one, arith}
+use Rattle.std.proofs.Common.{mul-le-mul, lt-ltb, eq-eqb, ℤ, pos, negsuc, nat_abs, ◌+ℤ◌, ◌-ℤ◌, ◌*ℤ◌}
+use Rattle.stack_rational.proofs.Common.{dec_lt, ints, unsigned_abs-mul, expand, sums, sum_of, sign_of, ◌≺◌, ◌≼◌}
+use Rattle.stack_rational.proofs.Common.{is_zero_whole}
 use Rattle.std.specs.List.{AllByRecursion}
-use Rattle.std.proofs.lemmas.Bool.{lt-ltb, eq-eqb}
-use native.Mathlib.Decide.{dec_lt}
-use lib.IntN.{ℤ, pos, negsuc, nat_abs, ◌+ℤ◌, ◌-ℤ◌, ◌*ℤ◌}
-use Rattle.std.proofs.lemmas.Int.{ints, unsigned_abs-mul}
-use Rattle.stack_algebra.proofs.Integers.{expand, sums}
-use Rattle.stack_algebra.specs.Sums.{sum_of, sum_among, sum_below}
-use Rattle.stack_algebra.specs.Ordered.{sign_of}
-use Rattle.stack_algebra.proofs.Order.{◌≺◌, ◌≼◌, mul_nonneg}
-use Rattle.stack_rational.specs.Order.{is_zero_whole}
+use Rattle.stack_algebra.specs.Sums.{sum_among, sum_below}
+use Rattle.stack_algebra.proofs.Order.{mul_nonneg}
 use Rattle.stack_bland.specs.Choice.{is_negative_sign, is_plus}
 use Rattle.stack_inverse.specs.declared.columns.Cell.{Cell}
 use Rattle.stack_inverse.specs.declared.columns.FirstColumn.{FirstColumn}
 use Rattle.stack_rows.specs.RowForm.{number_at}
 use Rattle.stack_inverse.specs.RowBlock.{IsWholeTop}
-use Rattle.stack_inverse.specs.Columns.{combined, sizes, by_place, entry_of, rises, cells_at}
-use Rattle.stack_inverse.specs.Columns.{AreFirst, IsOwn, revised_own, number_with}
+use Rattle.stack_inverse.specs.Columns.{combined, sizes, by_place, entry_of, rises, cells_at, AreFirst, IsOwn}
+use Rattle.stack_inverse.specs.Columns.{revised_own, number_with}
 use Rattle.stack_inverse.specs.ShortRow.{products_in, product_sizes, own_number, IsShortRow}
 use Rattle.stack_rows.proofs.Numbers.{at-past}
 use Rattle.stack_inverse.proofs.Linear.{combined_within}

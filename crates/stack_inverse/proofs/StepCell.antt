@@ -1,12 +1,6 @@
 -- The cell that a row step writes, as a number over the denominator of the step.
-use mathlib.Core.Path.{◌≡◌, sym, ap, ◌∙◌}
-use lib.IntN.{ℤ, pos, neg_ℤ, ◌-ℤ◌, ◌*ℤ◌}
-use Rattle.stack_algebra.proofs.Integers.{expand, sums}
-use Rattle.stack_algebra.proofs.Order.{◌≺◌, mul_pos}
-use Rattle.stack_algebra.proofs.Fractions.{add, mul, neg}
-use Rattle.stack_algebra.proofs.Over.{over}
-use Rattle.stack_algebra.proofs.OrderedFractions.{ordered_fractions}
-use native.Mathlib.Omega.{arith}
+use Rattle.std.proofs.Common.{◌≡◌, sym, ap, ◌∙◌, ℤ, pos, neg_ℤ, ◌-ℤ◌, ◌*ℤ◌, arith}
+use Rattle.stack_rational.proofs.Common.{expand, sums, ◌≺◌, mul_pos, add, mul, neg, over, ordered_fractions}
 use Rattle.stack_table.specs.Spots.{reduced}
 use Rattle.stack_rows.proofs.OverOneDenominator.{same_over, neg_over, add_over, mul_over}
 

@@ -1,17 +1,8 @@
 -- A row that is reduced.
-use Rattle.std.proofs.Common.{◌≡◌, sym, ap, subst, ◌∙◌, ℕ, ◌≤◌, List, length, None, Bool, true, false}
-use Rattle.std.proofs.Common.{cond, eqb, unsigned_abs, arith}
-use lib.IntN.{ℤ, pos, ◌-ℤ◌, ◌*ℤ◌}
-use Rattle.std.proofs.lemmas.Int.{ints}
-use Rattle.stack_algebra.specs.Fraction.{Fraction}
-use Rattle.stack_algebra.proofs.Order.{◌≺◌}
-use Rattle.stack_algebra.proofs.Fractions.{of}
-use Rattle.stack_algebra.proofs.Over.{over, of-over}
-use Rattle.stack_algebra.proofs.OrderedFractions.{ordered_fractions}
-use Rattle.stack_algebra.proofs.Integers.{expand, sums}
-use Rattle.stack_algebra.proofs.Search.{first_all-none}
-use Rattle.stack_rational.specs.Order.{is_zero_whole, is_zero}
-use Rattle.stack_rational.specs.TooWide.{IsWidth, is_too_wide}
+use Rattle.std.proofs.Common.{◌≡◌, sym, ap, subst, ◌∙◌, ℕ, ◌≤◌, List, length, None, Bool, true, false, cond, eqb}
+use Rattle.std.proofs.Common.{unsigned_abs, arith, ℤ, pos, ◌-ℤ◌, ◌*ℤ◌}
+use Rattle.stack_rational.proofs.Common.{ints, Fraction, ◌≺◌, of, over, of-over, ordered_fractions, expand, sums}
+use Rattle.stack_rational.proofs.Common.{first_all-none, is_zero_whole, is_zero, IsWidth, is_too_wide}
 use Rattle.stack_rational.proofs.WideWholes.{num_of}
 use Rattle.stack_rational.proofs.Fitting.{is_zero_whole-num, is_zero-of}
 use Rattle.stack_table.specs.Spots.{reduced, reduce_item}
@@ -19,8 +10,8 @@ use Rattle.stack_table.proofs.RowSteps.{row_skips}
 use Rattle.stack_inverse.specs.declared.columns.FirstColumn.{FirstColumn}
 use Rattle.stack_rows.specs.RowForm.{number_at, IsTaken}
 use Rattle.stack_inverse.specs.RowBlock.{AreWithin, AllNumbersFit, IsWholeTop, FitsByTop, IsReducedRow}
-use Rattle.stack_inverse.specs.Columns.{first_at, AreFirst, IsOwn, revised_own, own_top_at}
-use Rattle.stack_inverse.specs.Columns.{number_with, cell_with, row_number, row_cell}
+use Rattle.stack_inverse.specs.Columns.{first_at, AreFirst, IsOwn, revised_own, own_top_at, number_with, cell_with}
+use Rattle.stack_inverse.specs.Columns.{row_number, row_cell}
 use Rattle.stack_rows.proofs.OverOneDenominator.{same_over}
 use Rattle.stack_inverse.proofs.RevisedRows.{number_within, row_takes, row_none, row_fits}
 

@@ -1,10 +1,7 @@
 -- Tops of rows: no number but the last, the right side, is greater in size.
-use Rattle.std.proofs.Common.{◌≡◌, sym, ap, subst, ◌∙◌, ℕ, ◌≤◌, ◌+◌, ◌*◌, List, length, unsigned_abs, arith}
-use Rattle.std.proofs.lemmas.Int.{ints, unsigned_abs-mul}
-use Rattle.stack_algebra.proofs.Integers.{expand}
-use lib.IntN.{ℤ, pos, ◌*ℤ◌, ◌-ℤ◌}
-use Rattle.stack_algebra.proofs.CrossProducts.{cancel}
-use Rattle.stack_algebra.proofs.Order.{◌≺◌}
+use Rattle.std.proofs.Common.{◌≡◌, sym, ap, subst, ◌∙◌, ℕ, ◌≤◌, ◌+◌, ◌*◌, List, length, unsigned_abs, arith, ℤ, pos}
+use Rattle.std.proofs.Common.{◌*ℤ◌, ◌-ℤ◌}
+use Rattle.stack_rational.proofs.Common.{ints, unsigned_abs-mul, expand, ◌≺◌, cancel}
 use Rattle.stack_rows.specs.RowForm.{number_at, IsTaken}
 use Rattle.stack_inverse.specs.RowBlock.{IsTopped, HasStepTop, IsStepTopped}
 use Rattle.stack_inverse.proofs.Bounds.{both_sizes}

@@ -1,13 +1,10 @@
 -- Columns of cells that are made of columns of entries.
 use Rattle.std.proofs.Common.{◌≡◌, refl, sym, ap, ◌∙◌, ℕ, zero, suc, ◌+◌, ◌<◌, ◌≤◌, Bool, true, false, ◌&&◌, cond, eqb}
 use Rattle.std.proofs.Common.{ltb, leb, List, [], ◌∷◌, ◌++◌, map, length, get_or, unsigned_abs, add-one, arith, subst}
+use Rattle.std.proofs.Common.{ne_eqb, eq-eqb, lt-ltb, le-ltb, le-leb, ℤ, pos, ◌-ℤ◌}
+use Rattle.stack_rational.proofs.Common.{length-map, ℕ_discrete, dec_lt, sum_of, sum_to}
 use Rattle.std.specs.List.{AllByRecursion, slice_index}
-use Rattle.std.proofs.lemmas.Bool.{ne_eqb, eq-eqb, lt-ltb, le-ltb, le-leb}
-use Rattle.std.proofs.lemmas.List.{length-map}
-use native.Mathlib.Decide.{ℕ_discrete, dec_lt}
-use lib.IntN.{ℤ, pos, ◌-ℤ◌}
 use Rattle.stack_algebra.proofs.Integers.{one_mul}
-use Rattle.stack_algebra.specs.Sums.{sum_to, sum_of}
 use Rattle.stack_table.specs.declared.problem.Entry.{Entry}
 use Rattle.stack_table.specs.Problem.{turned}
 use Rattle.stack_table.specs.declared.problem.Column.{Column as Given}

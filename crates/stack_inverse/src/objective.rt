@@ -1,7 +1,6 @@
 //! The later objective rows.
 
-ghost use Rattle.std.specs.Prelude.{◌≡◌, ℕ, suc, ◌<◌, length, pos, ◌<ℤ◌, eqb, cond, get_or, IfSome};
-ghost use Rattle.stack_algebra.specs.Search.{least};
+ghost use Rattle.std.specs.Prelude.{◌≡◌, ℕ, suc, ◌<◌, length, pos, ◌<ℤ◌, eqb, cond, IfSome};
 ghost use Rattle.stack_rows.specs.RowForm.{number_at};
 ghost use Rattle.stack_inverse.specs.Columns.{IsFactorRow, AreWide};
 ghost use Rattle.stack_inverse.specs.RowsSeen.{seen_at};
@@ -10,18 +9,6 @@ use crate::making::number_of;
 use crate::plain::Plain;
 use crate::row::Row;
 use stack_rows::whole::RowNumber;
-
-/// The first row whose basic column is this one.
-pub fn row_with(basic: &[usize], column: usize) -> Option<usize>
-    ensures { result ≡ least (length basic.now) (λ r. eqb (get_or basic.now r 0) column) }
-{
-    for r in 0..basic.len() {
-        if basic[r] == column {
-            return Some(r);
-        }
-    }
-    None
-}
 
 pub fn clear_row<T: RowNumber>(row: &mut [T])
     ensures { (j : ℕ) → number_at T.value row.new j ≡ pos 0 }

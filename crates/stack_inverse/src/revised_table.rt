@@ -10,7 +10,7 @@ ghost use Rattle.stack_inverse.specs.RowsSeen.{seen_at, cells_of_rows};
 use crate::building::plain_of;
 use crate::filling::{fill, first_basics, one, pivot_room, repeated, rows_of};
 use crate::making::{enter_column, number_of};
-use crate::objective::{clear_row, factor_row, row_with, set_only};
+use crate::objective::{clear_row, factor_row, set_only};
 use crate::pivoting::{pivot_rows, put_row};
 use crate::plain::Plain;
 use crate::row::{PivotRow, Row};
@@ -18,6 +18,7 @@ use crate::short::short_negative;
 use crate::stops::{NoTable, PivotRefusal};
 use stack_rows::whole::RowNumber;
 use stack_table::problem::Problem;
+use stack_table::row_with;
 use std::alloc::Global;
 
 /// The exact table of a run. Row `rows` is the objective row.

@@ -1,13 +1,12 @@
 -- True certificates from solutions and moves.
-use Rattle.std.proofs.Common.{refl, sym, subst, ◌∙◌}
-use lib.IntN.{ℤ, pos, ◌+ℤ◌, ◌*ℤ◌}
+use Rattle.std.proofs.Common.{refl, sym, subst, ◌∙◌, ℤ, pos, ◌+ℤ◌, ◌*ℤ◌}
 use Rattle.stack_algebra.specs.IntegerOrder.{◌≼◌, ◌≺◌}
 use Rattle.stack_statics.specs.Scene.{Scene, IsProper}
 use Rattle.stack_statics.specs.Certificates.{IsTrueLoaded}
 use Rattle.stack_posing.specs.Edges.{Amounts}
 use Rattle.stack_posing.specs.Equations.{IsSolution, forces_from}
-use Rattle.stack_posing.specs.ByNumber.{dead_on, live_on, StandsBySolution, CollapsesByMoves}
-use Rattle.stack_posing.specs.ByNumber.{GreatestByBoth, UnboundedBySolutions}
+use Rattle.stack_posing.specs.ByNumber.{dead_on, live_on, StandsBySolution, CollapsesByMoves, GreatestByBoth}
+use Rattle.stack_posing.specs.ByNumber.{UnboundedBySolutions}
 use Rattle.stack_posing.proofs.Solutions.{solutions_are_forces}
 use Rattle.stack_posing.proofs.Moves.{powers_are_by_number, unopposed_moves_are_motions}
 

@@ -1,7 +1,6 @@
 -- Amounts of the edges of a cone exert what the part between them does, and this part lies in the cone.
-use Rattle.std.proofs.Common.{◌≡◌, arith}
+use Rattle.std.proofs.Common.{◌≡◌, arith, ℤ, pos, ◌+ℤ◌, ◌-ℤ◌, ◌*ℤ◌, neg_ℤ}
 use Rattle.std.proofs.lemmas.Int.{ints}
-use lib.IntN.{ℤ, pos, ◌+ℤ◌, ◌-ℤ◌, ◌*ℤ◌, neg_ℤ}
 use Rattle.stack_algebra.specs.IntegerOrder.{◌≼◌, ◌≺◌, abs}
 use Rattle.stack_algebra.proofs.Integers.{expand, sums}
 use Rattle.stack_algebra.proofs.Order.{mul_nonneg, nonneg-sub}

@@ -1,10 +1,7 @@
 -- The free bodies of a scene by their numbers, and sums over them.
 use Rattle.std.proofs.Common.{◌≡◌, refl, sym, ap, ◌∙◌, ℕ, zero, suc, ◌+◌, ◌<◌, Bool, true, false, not, cond, ◌&&◌, eqb}
-use Rattle.std.proofs.Common.{arith}
-use Rattle.std.proofs.lemmas.Bool.{eq-eqb}
+use Rattle.std.proofs.Common.{arith, eq-eqb, T, eqb→eq, ℤ, pos, ◌+ℤ◌}
 use native.Mathlib.Decide.{ℕ_discrete}
-use lib.Dec.{T, eqb→eq}
-use lib.IntN.{ℤ, pos, ◌+ℤ◌}
 use Rattle.stack_algebra.specs.Sums.{sum_to}
 use Rattle.stack_algebra.proofs.Integers.{sums}
 use Rattle.stack_algebra.proofs.IntegerRing.{integers}

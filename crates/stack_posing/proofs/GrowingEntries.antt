@@ -1,13 +1,11 @@
 -- A column of entries grows by one row, and by the three of a free block.
 use Rattle.std.proofs.Common.{◌≡◌, ◌≢◌, refl, sym, ap, subst, ◌∙◌, ℕ, zero, suc, ◌+◌, ◌*◌, ◌<◌, ◌≤◌, Bool, true, false}
-use Rattle.std.proofs.Common.{List, [], ◌∷◌, ◌++◌, cond, eqb, ltb, nat_le, nat_lt, ◌&&◌, arith, if◌then◌else◌}
+use Rattle.std.proofs.Common.{List, [], ◌∷◌, ◌++◌, cond, eqb, ltb, nat_le, nat_lt, ◌&&◌, arith, if◌then◌else◌, lt-ltb}
+use Rattle.std.proofs.Common.{le-ltb, le-leb, ltb-true, ltb-false, eq-eqb, T, eqb→eq, ℤ, pos, negsuc}
 use Rattle.stack_algebra.proofs.Conjunctions.{all_four}
 use Rattle.std.specs.Ordering.{int_eq}
 use Rattle.std.proofs.lemmas.Bool.Decides.{Decides-int_eq}
-use Rattle.std.proofs.lemmas.Bool.{lt-ltb, le-ltb, le-leb, ltb-true, ltb-false, eq-eqb}
 use native.Mathlib.Decide.{ℕ_discrete}
-use lib.Dec.{T, eqb→eq}
-use lib.IntN.{ℤ, pos, negsuc}
 use Rattle.stack_whole.specs.Limits.{load_bound, IsBelowBound}
 use Rattle.stack_statics.specs.declared.wrench.Wrench.{Wrench}
 use Rattle.stack_equilibrium.specs.LoadSizes.{IsSmall}

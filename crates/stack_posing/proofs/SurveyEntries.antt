@@ -1,7 +1,6 @@
 -- The entries of the problem of a survey are what its columns and loads are.
 use Rattle.std.proofs.Common.{◌≡◌, refl, sym, ap, ◌∙◌, ℕ, ◌+◌, ◌*◌, ◌/◌, ◌%◌, ◌<◌, cond, eqb, ltb, length, arith, neg_ℤ}
-use lib.IntN.{pos}
-use Rattle.std.proofs.lemmas.Bool.{lt-ltb, le-ltb, eq-eqb}
+use Rattle.std.proofs.Common.{pos, lt-ltb, le-ltb, eq-eqb}
 use Rattle.stack_contact.specs.FreeBlocks.{frees_of}
 use Rattle.stack_contact.specs.Surveyed.{Surveyed}
 use Rattle.stack_statics.specs.declared.wrench.Wrench.{Wrench}

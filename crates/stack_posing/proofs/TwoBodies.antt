@@ -1,9 +1,8 @@
 -- The column of an edge, body by body: it has entries for the two bodies of its bearing alone.
 use Rattle.std.proofs.Common.{◌≡◌, refl, sym, ap, subst, ◌∙◌, ℕ, zero, suc, ◌+◌, ◌-◌, ◌*◌, ◌<◌, ◌≤◌, Bool, true, false}
-use Rattle.std.proofs.Common.{List, [], length, cond, eqb, not, arith, Result, Ok, Err, Vec, IfOk}
+use Rattle.std.proofs.Common.{List, [], length, cond, eqb, not, arith, Result, Ok, Err, Vec, IfOk, ℤ, pos, negsuc, ◌*ℤ◌}
 use Rattle.std.specs.declared.alloc.AllocError.{AllocError}
 use Rattle.std.specs.declared.alloc.Global.{Global}
-use lib.IntN.{ℤ, pos, negsuc, ◌*ℤ◌}
 use Rattle.stack_algebra.proofs.Integers.{sums, expand}
 use Rattle.stack_model.specs.Structure.{body_at}
 use Rattle.stack_contact.specs.declared.types.Bearing.{Bearing}

@@ -1,12 +1,9 @@
 -- A number of the type at 128 bits.
-use Rattle.std.proofs.Common.{arith, SFits, to_z, of_z, to_z-of_z, Option, Some, None, IfSome}
-use mathlib.Core.Path.{◌≡◌, ap, subst, ◌∙◌}
-use Prim.Native.Nat.{◌<◌, ◌^◌}
-use lib.IntN.{ℤ, nat_abs}
-use mir.Syntax.{w128}
+use Rattle.std.proofs.Common.{arith, SFits, to_z, of_z, to_z-of_z, Option, Some, None, IfSome, ◌≡◌, ap, subst, ◌∙◌, ◌<◌}
+use Rattle.std.proofs.Common.{◌^◌, ℤ, nat_abs}
+use Rattle.stack_rational.proofs.Common.{w128, Within}
 use Rattle.std.proofs.lemmas.Int.{fits_signed_from_abs}
 use Rattle.num_traits.specs.Laws.{ChecksSigned}
-use Rattle.stack_rational.specs.Stored.{Within}
 
 fits-wide : (m v : ℤ) → Within m v → nat_abs m < 2 ^ 127 → SFits w128 v
 fits-wide m v h k = fits_signed_from_abs w128 v (omega (arith, h, k))

@@ -1,22 +1,16 @@
 -- The order of two fractions by their whole parts.
-use Rattle.std.proofs.Common.{arith, int_lt, T, ◌↔◌}
-use mathlib.Core.Path.{◌≡◌, refl, sym, ap, subst, subst₂, ◌∙◌}
-use Prim.Native.Nat.{zero, suc, ◌+◌, ◌<◌}
-use lib.IntN.{ℤ, pos, negsuc, nat_abs, neg_ℤ, ◌+ℤ◌, ◌-ℤ◌, ◌*ℤ◌}
+use Rattle.std.proofs.Common.{arith, int_lt, T, ◌↔◌, ◌≡◌, refl, sym, ap, subst, subst₂, ◌∙◌, zero, suc, ◌+◌, ◌<◌, ℤ}
+use Rattle.std.proofs.Common.{pos, negsuc, nat_abs, neg_ℤ, ◌+ℤ◌, ◌-ℤ◌, ◌*ℤ◌, Bool, true, false, not}
+use Rattle.stack_rational.proofs.Common.{Fraction, over, IsStored, ints, expand, sums, ◌≺◌, ◌≼◌, mul_pos, order_of}
 use lib.Signed.{quot_z, rem_z, lt_z_yes, lt_z_no}
-use mathlib.Core.Bool.{Bool, true, false, not}
 use Rattle.std.specs.declared.cmp.Ordering.{Ordering}
 use Rattle.std.specs.Ordering.{MatchOrdering, int_cmp}
 use Rattle.std.proofs.lemmas.Cmp.{int_ranked}
-use Rattle.stack_algebra.specs.Fraction.{Fraction}
-use Rattle.stack_algebra.proofs.Over.{over}
-use Rattle.stack_rational.specs.Stored.{Split, InStep, IsStored}
-use Rattle.stack_rational.specs.Order.{order_of}
+use Rattle.stack_rational.specs.Stored.{Split, InStep}
 use Rattle.stack_rational.proofs.Crosswise.{stored-num, stored-den}
-use Rattle.std.proofs.lemmas.Int.{ints, quot-rem}
+use Rattle.std.proofs.lemmas.Int.{quot-rem}
 use Rattle.std.specs.declared.cmp.Ordering.TheVariants.{Less, Equal, Greater}
-use Rattle.stack_algebra.proofs.Integers.{expand, sums}
-use Rattle.stack_algebra.proofs.Order.{◌≺◌, ◌≼◌, mul_pos, mul_nonneg}
+use Rattle.stack_algebra.proofs.Order.{mul_nonneg}
 use Rattle.stack_rational.proofs.Steps.{rem_smaller}
 
 pub cmp-less : (x y : ℤ) → x ≺ y → int_cmp x y ≡ Less
@@ -130,9 +124,9 @@ pub above-by : (r : ℤ) (b : Bool) → pos 0 ≼ r → (b ≡ true) ↔ (r ≡ 
 above-by r b l is e = above r l (λ z. let t = sym (is.1 z) ∙ e in cc)
 
 -- the order of what is stored
-pub stored-order : (m a b c d : ℤ) (x y : Fraction) → IsStored m a b → IsStored m c d → over a b ≡ x →
+pub stored-order : {m a b c d : ℤ} {x y : Fraction} → IsStored m a b → IsStored m c d → over a b ≡ x →
     over c d ≡ y → int_cmp (a *ℤ d) (c *ℤ b) ≡ order_of x y
-stored-order m a b c d x y s t u v = λ i. int_cmp (stored-num m a b x s u i *ℤ stored-den m c d y t v i)
+stored-order {m} {a} {b} {c} {d} {x} {y} s t u v = λ i. int_cmp (stored-num m a b x s u i *ℤ stored-den m c d y t v i)
     (stored-num m c d y t v i *ℤ stored-den m a b x s u i)
 
 opposite_cross : (a b c d : ℤ) → neg_ℤ c *ℤ b +ℤ c *ℤ b ≡ a *ℤ d +ℤ neg_ℤ a *ℤ d

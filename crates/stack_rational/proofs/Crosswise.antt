@@ -1,22 +1,16 @@
 -- A product from parts that are divided crosswise first.
-use mathlib.Core.Path.{◌≡◌, sym, ap, subst, subst₂, ◌∙◌}
-use Prim.Native.Nat.{ℕ, zero, suc, ◌<◌, ◌/◌, ◌*◌, ◌∣◌}
-use native.Mathlib.Nat.{mul-div_cancel', dvd_trans, dvd-mul_left, dvd-one, pos_of_dvd_of_pos, mul-zero}
-use native.Mathlib.Omega.{arith}
-use lib.IntN.{ℤ, pos, negsuc, nat_abs, neg_ℤ, ◌*ℤ◌}
-use lib.Signed.{quot_z, ◌≤ℤ◌}
-use Rattle.std.specs.Int.{IsGcd}
-use Rattle.std.proofs.lemmas.Int.{ints, unsigned_abs-mul}
+use Rattle.std.proofs.Common.{◌≡◌, sym, ap, subst, subst₂, ◌∙◌, ℕ, zero, suc, ◌<◌, ◌/◌, ◌*◌, mul-zero, arith, ℤ, pos}
+use Rattle.std.proofs.Common.{negsuc, nat_abs, neg_ℤ, ◌*ℤ◌, ◌≤ℤ◌}
+use Rattle.stack_rational.proofs.Common.{◌∣◌, mul-div_cancel', dvd_trans, IsGcd, ints, unsigned_abs-mul, expand, sums}
+use Rattle.stack_rational.proofs.Common.{◌≺◌, mul_pos, gcd, Fraction, gcd-left, gcd-right, mul, mul-is, same_values}
+use Rattle.stack_rational.proofs.Common.{over, over-is, IsStored, Within, dvd-mul_left, dvd-one, gcd-is, gcd-pos}
+use Rattle.stack_rational.proofs.Common.{gcd-product, gcd-swap, dvd-gcd, over-lowest, IsLowest, IsShared}
+use native.Mathlib.Nat.{pos_of_dvd_of_pos}
+use lib.Signed.{quot_z}
 use Rattle.std.proofs.lemmas.Nat.Gcd.{same_from_IsGcd}
-use Rattle.stack_algebra.proofs.Integers.{mul_neg, expand, sums}
-use Rattle.stack_algebra.proofs.Order.{◌≺◌, mul_pos}
-use Rattle.stack_algebra.specs.Gcd.{gcd}
-use Rattle.stack_algebra.specs.Fraction.{Fraction}
-use Rattle.stack_algebra.proofs.CommonDivisor.{gcd-is, gcd-left, gcd-right, gcd-pos, gcd-quotients, gcd-product}
-use Rattle.stack_algebra.proofs.CommonDivisor.{gcd-swap, dvd-gcd}
-use Rattle.stack_algebra.proofs.Fractions.{mul, mul-is, same_values}
-use Rattle.stack_algebra.proofs.Over.{over, over-is, over-lowest, IsLowest}
-use Rattle.stack_rational.specs.Stored.{Fits, IsStored, IsShared, IsInParts, Within}
+use Rattle.stack_algebra.proofs.Integers.{mul_neg}
+use Rattle.stack_algebra.proofs.CommonDivisor.{gcd-quotients}
+use Rattle.stack_rational.specs.Stored.{Fits, IsInParts}
 use Rattle.stack_rational.proofs.Steps.{div-abs}
 
 pub exact-part : (z : ℤ) (g : ℕ) → g ∣ nat_abs z → pos g *ℤ quot_z z (pos g) ≡ z

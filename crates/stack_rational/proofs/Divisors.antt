@@ -1,11 +1,6 @@
 -- The divisor of two numbers from that of their sizes.
-use mathlib.Core.Path.{◌≡◌, sym, ap, subst}
-use Prim.Native.Nat.{ℕ, ◌≤◌, ◌∣◌}
-use native.Mathlib.Nat.{one-dvd, dvd_refl}
-use native.Mathlib.Omega.{arith}
-use lib.IntN.{ℤ, pos, nat_abs}
-use Rattle.std.specs.Int.{IsGcd}
-use Rattle.stack_rational.specs.Stored.{Within}
+use Rattle.std.proofs.Common.{◌≡◌, sym, ap, subst, ℕ, ◌≤◌, arith, ℤ, pos, nat_abs}
+use Rattle.stack_rational.proofs.Common.{◌∣◌, IsGcd, Within, one-dvd, dvd_refl}
 use Rattle.stack_rational.proofs.OddDivisors.{divisor_within}
 
 -- a divisor of the sizes u and v of a and b, as the value d of a type

@@ -1,30 +1,20 @@
 -- What isn't too wide fits, and what is 0 is never too wide.
-use Rattle.std.proofs.Common.{arith, ℕ, ◌^◌, true, false, not, nat_le, nat_lt}
-use mathlib.Core.Path.{◌≡◌, refl, sym, ap, ◌∙◌}
-use mathlib.Core.Logic.{◌≢◌}
-use Prim.Native.Nat.{zero, suc, ◌/◌, ◌≤◌}
-use lib.IntN.{ℤ, pos, negsuc, nat_abs, ◌+ℤ◌, ◌*ℤ◌}
-use Rattle.std.proofs.lemmas.Int.{ints}
-use Rattle.std.proofs.lemmas.Bool.{le-leb, leb-true}
+use Rattle.std.proofs.Common.{arith, ℕ, ◌^◌, true, false, not, nat_le, nat_lt, ◌≡◌, refl, sym, ap, ◌∙◌, ◌≢◌, zero, suc}
+use Rattle.std.proofs.Common.{◌/◌, ◌≤◌, ℤ, pos, negsuc, nat_abs, ◌+ℤ◌, ◌*ℤ◌, le-leb, leb-true}
+use Rattle.stack_rational.proofs.Common.{ints, Sign, minus, nought, plus, sign_of, Fraction, gcd, ◌≺◌, mul_pos, expand}
+use Rattle.stack_rational.proofs.Common.{sums, gcd-left, gcd-right, add, mul, neg, of, inv, ordered_fractions, over}
+use Rattle.stack_rational.proofs.Common.{is_zero_whole, is_zero, IsWidth, fraction_fits, sum_fits, is_too_wide}
+use Rattle.stack_rational.proofs.Common.{opposite, product_sign, gcd-pos, abs_signed, den_pos, over-parts, over_own}
+use Rattle.stack_rational.proofs.Common.{SumFits, is_within, common_denominator, left_term, right_term, not-false}
+use Rattle.stack_rational.proofs.Common.{left_true, right_true, and_true}
 use Rattle.std.proofs.Math.Nat.{div-le_self}
 use Rattle.stack_whole.specs.Whole.{greatest_number}
-use Rattle.stack_algebra.specs.Ordered.{Sign, minus, nought, plus, opposite, product_sign, sign_of}
-use Rattle.stack_algebra.specs.Fraction.{Fraction, low_num, low_den}
-use Rattle.stack_algebra.specs.Gcd.{gcd}
-use Rattle.stack_algebra.proofs.Order.{◌≺◌, mul_pos}
-use Rattle.stack_algebra.proofs.Integers.{expand, sums}
-use Rattle.stack_algebra.proofs.CommonDivisor.{gcd-left, gcd-right, gcd-pos}
-use Rattle.stack_algebra.proofs.Fractions.{add, mul, neg, of, zero_mul, mul_comm, abs_signed, den_pos}
-use Rattle.stack_algebra.proofs.FractionField.{inv}
-use Rattle.stack_algebra.proofs.OrderedFractions.{ordered_fractions}
-use Rattle.stack_algebra.proofs.Over.{over, over-parts, over_own, add-common}
-use Rattle.stack_rational.specs.Stored.{Fits, SumFits}
+use Rattle.stack_algebra.specs.Fraction.{low_num, low_den}
+use Rattle.stack_algebra.proofs.Fractions.{zero_mul, mul_comm}
+use Rattle.stack_algebra.proofs.Over.{add-common}
+use Rattle.stack_rational.specs.Stored.{Fits}
 use Rattle.stack_rational.specs.declared.exact.Op.TheVariants.{Whole, Sum, Difference, Product, Quotient}
-use Rattle.stack_rational.specs.Order.{is_zero_whole, is_zero}
-use Rattle.stack_rational.specs.TooWide.{IsWidth, is_within, fraction_fits, sum_fits, is_too_wide, common_denominator}
-use Rattle.stack_rational.specs.TooWide.{left_term, right_term}
 use Rattle.stack_rational.specs.Laws.{AnswersFit, SmallFits, WholeIsTooWideAtWidest}
-use Rattle.stack_algebra.proofs.Conjunctions.{not-false, left_true, right_true, and_true}
 use Rattle.stack_rational.proofs.Crosswise.{exact-part, positive-part}
 use Rattle.stack_rational.proofs.WideWholes.{num_of, den_of}
 use Rattle.stack_rational.proofs.ShortCuts.{plus_zero, plus_zero_fits}

@@ -1,17 +1,10 @@
 -- The parts of a number with the other sign, and of one by a number.
-use Rattle.std.proofs.Common.{arith, Bool, true, false, int_lt}
-use mathlib.Core.Path.{◌≡◌, refl, sym, ap, ◌∙◌}
-use Prim.Native.Nat.{ℕ, zero, suc, ◌<◌}
-use lib.IntN.{ℤ, pos, negsuc, nat_abs, neg_ℤ, ◌*ℤ◌}
-use Rattle.std.proofs.lemmas.Int.{ints}
-use Rattle.stack_algebra.specs.IntegerOrder.{◌≼◌, ◌≺◌}
-use Rattle.stack_algebra.specs.Gcd.{gcd}
-use Rattle.stack_algebra.specs.Fraction.{Fraction, signed}
-use Rattle.stack_algebra.proofs.CommonDivisor.{gcd-swap}
-use Rattle.stack_algebra.proofs.Fractions.{neg, neg_own, same_values, abs_signed}
-use Rattle.stack_algebra.proofs.FractionField.{inv, inv-is}
-use Rattle.stack_algebra.proofs.Over.{over, over-is}
-use Rattle.stack_rational.specs.Stored.{Fits, IsStored}
+use Rattle.std.proofs.Common.{arith, Bool, true, false, int_lt, ◌≡◌, refl, sym, ap, ◌∙◌, ℕ, zero, suc, ◌<◌, ℤ, pos}
+use Rattle.std.proofs.Common.{negsuc, nat_abs, neg_ℤ, ◌*ℤ◌}
+use Rattle.stack_rational.proofs.Common.{ints, ◌≼◌, ◌≺◌, gcd, Fraction, neg, same_values, inv, over, over-is, IsStored}
+use Rattle.stack_rational.proofs.Common.{signed, gcd-swap, neg_own, abs_signed}
+use Rattle.stack_algebra.proofs.FractionField.{inv-is}
+use Rattle.stack_rational.specs.Stored.{Fits}
 use Rattle.stack_rational.proofs.Crosswise.{stored-num, stored-den}
 use Rattle.stack_rational.proofs.ByWholeParts.{yes-less, no-less}
 

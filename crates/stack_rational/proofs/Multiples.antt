@@ -1,26 +1,16 @@
 -- The least common multiple of denominators, and the running multiple of a loop.
-use mathlib.Core.Path.{◌≡◌, sym, ap, subst, ◌∙◌}
-use mathlib.Core.List.{List, [], ◌∷◌, ◌++◌}
-use Prim.Native.Nat.{ℕ, zero, suc, ◌+◌, ◌*◌, ◌/◌, ◌<◌, ◌∣◌}
-use native.Mathlib.Nat.{dvd_trans, dvd_antisymm, dvd-mul_left, dvd-mul_right, mul-div_cancel', mul-dvd-mul_left}
-use native.Mathlib.Nat.{dvd_of_mul-dvd-mul_left, one-dvd}
-use native.Mathlib.Omega.{arith}
-use lib.IntN.{ℤ, pos, negsuc, nat_abs, ◌*ℤ◌}
+use Rattle.std.proofs.Common.{◌≡◌, sym, ap, subst, ◌∙◌, List, [], ◌∷◌, ◌++◌, ℕ, zero, suc, ◌+◌, ◌*◌, ◌/◌, ◌<◌, arith, ℤ}
+use Rattle.std.proofs.Common.{pos, negsuc, nat_abs, ◌*ℤ◌, take, length, get_or}
+use Rattle.stack_rational.proofs.Common.{◌∣◌, dvd_trans, mul-div_cancel', IsGcd, ints, ◌≼◌, ◌≺◌, gcd, Fraction, expand}
+use Rattle.stack_rational.proofs.Common.{sums, of, mul-is, same_values, gcd-left, gcd-right, dvd-mul_left}
+use Rattle.stack_rational.proofs.Common.{dvd-mul_right, one-dvd, take_more, of-is, is_self, gcd-is, gcd-pos}
+use Rattle.stack_rational.proofs.Common.{common_multiple, times_scale}
+use native.Mathlib.Nat.{dvd_antisymm, mul-dvd-mul_left, dvd_of_mul-dvd-mul_left}
 use lib.Signed.{quot_z}
-use Rattle.std.specs.Int.{IsGcd}
-use Rattle.std.proofs.lemmas.Int.{ints}
 use Rattle.std.proofs.lemmas.Nat.Gcd.{same_from_IsGcd}
-use Rattle.stack_algebra.specs.IntegerOrder.{◌≼◌, ◌≺◌}
-use lib.ListN.{take, length, get_or}
 use Rattle.std.specs.List.{AllByRecursion}
-use Rattle.std.proofs.lemmas.List.{take_more}
-use Rattle.stack_algebra.specs.Gcd.{gcd}
-use Rattle.stack_algebra.specs.Fraction.{Fraction}
-use Rattle.stack_algebra.proofs.Integers.{expand, sums}
-use Rattle.stack_algebra.proofs.Fractions.{of, of-is, mul-is, is_self, same_values}
-use Rattle.stack_algebra.proofs.CommonDivisor.{gcd-is, gcd-left, gcd-right, gcd-scaled, gcd-pos}
-use Rattle.stack_rational.specs.CommonScale.{common_multiple, scale_of, times_scale, ScaleIsLeastMultiple}
-use Rattle.stack_rational.specs.CommonScale.{TimesScaleIsWhole}
+use Rattle.stack_algebra.proofs.CommonDivisor.{gcd-scaled}
+use Rattle.stack_rational.specs.CommonScale.{scale_of, ScaleIsLeastMultiple, TimesScaleIsWhole}
 
 -- two numbers divide their common multiple
 pub divides_left : (a b : ℕ) → a ∣ common_multiple a b

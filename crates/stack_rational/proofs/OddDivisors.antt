@@ -1,17 +1,14 @@
 -- Divisors of odd numbers, and the greatest common divisor with the factors of 2 taken out.
-use mathlib.Core.Path.{◌≡◌, refl, sym, ap, subst, subst₂, ◌∙◌}
-use Prim.Native.Nat.{ℕ, zero, suc, ◌+◌, ◌-◌, ◌*◌, ◌/◌, ◌%◌, ◌^◌, ◌<◌, ◌≤◌, ◌∣◌, min}
-use native.Mathlib.Nat.{dvd_refl, dvd_trans, dvd-one, dvd-mul_right, dvd-mul_right_of_dvd, dvd-add, dvd-add_iff_right}
-use native.Mathlib.Nat.{mod-eq-zero_of_dvd, le_of_dvd, mul-dvd-mul_right, mod-add-div, eq-zero_of_zero-dvd}
-use native.Mathlib.Nat.{mod-eq_of_lt}
-use native.Mathlib.Decide.{dec_lt}
-use native.Mathlib.Omega.{arith}
+use Rattle.std.proofs.Common.{◌≡◌, refl, sym, ap, subst, subst₂, ◌∙◌, ℕ, zero, suc, ◌+◌, ◌-◌, ◌*◌, ◌/◌, ◌%◌, ◌^◌, ◌<◌}
+use Rattle.std.proofs.Common.{◌≤◌, min, mod-eq_of_lt, arith, pow-add}
+use Rattle.stack_rational.proofs.Common.{◌∣◌, dvd_trans, dec_lt, IsGcd, gcd, gcd-left, gcd-right, dvd_refl, dvd-one}
+use Rattle.stack_rational.proofs.Common.{dvd-mul_right, gcd-is, gcd-product}
+use native.Mathlib.Nat.{dvd-mul_right_of_dvd, dvd-add, dvd-add_iff_right, mod-eq-zero_of_dvd, le_of_dvd}
+use native.Mathlib.Nat.{mul-dvd-mul_right, mod-add-div, eq-zero_of_zero-dvd}
 use Rattle.std.proofs.Math.Nat.{pow-suc, pow-succ', div-div-eq-div-mul}
-use Rattle.std.proofs.lemmas.Nat.{pow-add}
-use Rattle.std.specs.Int.{IsGcd, abs_diff, bit_at}
+use Rattle.std.specs.Int.{abs_diff, bit_at}
 use Rattle.std.proofs.lemmas.Nat.Gcd.{same_from_IsGcd}
-use Rattle.stack_algebra.specs.Gcd.{gcd}
-use Rattle.stack_algebra.proofs.CommonDivisor.{gcd-is, gcd-left, gcd-right, gcd-product, gcd-scaled, dvd_of_gcd-one}
+use Rattle.stack_algebra.proofs.CommonDivisor.{gcd-scaled, dvd_of_gcd-one}
 
 -- a divisor of an odd number is odd
 odd_divisor : (d n : ℕ) → n % 2 ≡ 1 → d ∣ n → d % 2 ≡ 1

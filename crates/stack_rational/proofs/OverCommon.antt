@@ -1,21 +1,12 @@
 -- Lowest terms, and a sum over the least common denominator.
-use mathlib.Core.Path.{◌≡◌, sym, ap, subst, subst₂, ◌∙◌}
-use Prim.Native.Nat.{ℕ, ◌∣◌}
-use native.Mathlib.Nat.{dvd_trans, dvd-mul_left}
-use native.Mathlib.Omega.{arith}
-use lib.IntN.{ℤ, pos, negsuc, nat_abs, ◌+ℤ◌, ◌*ℤ◌}
+use Rattle.std.proofs.Common.{◌≡◌, sym, ap, subst, subst₂, ◌∙◌, ℕ, arith, ℤ, pos, negsuc, nat_abs, ◌+ℤ◌, ◌*ℤ◌}
+use Rattle.stack_rational.proofs.Common.{◌∣◌, dvd_trans, IsGcd, ints, unsigned_abs-mul, expand, sums, ◌≺◌, mul_pos, gcd}
+use Rattle.stack_rational.proofs.Common.{Fraction, add, add-is, same_values, over, over-is, IsStored, Within}
+use Rattle.stack_rational.proofs.Common.{dvd-mul_left, gcd-is, over-lowest, over_own, IsLowest, IsShared, SumFits}
 use lib.Signed.{quot_z}
-use Rattle.std.specs.Int.{IsGcd}
-use Rattle.std.proofs.lemmas.Int.{ints, unsigned_abs-mul}
 use Rattle.std.proofs.lemmas.Nat.Gcd.{same_from_IsGcd}
-use Rattle.stack_algebra.proofs.Integers.{expand, sums}
-use Rattle.stack_algebra.proofs.Order.{◌≺◌, mul_pos}
-use Rattle.stack_algebra.specs.Gcd.{gcd}
-use Rattle.stack_algebra.specs.Fraction.{Fraction}
-use Rattle.stack_algebra.proofs.CommonDivisor.{gcd-is}
-use Rattle.stack_algebra.proofs.Fractions.{add, add-is, same_values}
-use Rattle.stack_algebra.proofs.Over.{over, over-is, over-lowest, over_own, over-quotients, lowest-over, IsLowest}
-use Rattle.stack_rational.specs.Stored.{IsStored, IsShared, IsInParts, Within, CommonFits, SumFits}
+use Rattle.stack_algebra.proofs.Over.{over-quotients, lowest-over}
+use Rattle.stack_rational.specs.Stored.{IsInParts, CommonFits}
 use Rattle.stack_rational.proofs.Crosswise.{parts_of, exact-part, positive-part}
 use Rattle.stack_rational.proofs.SharedDivisors.{shared_divides}
 

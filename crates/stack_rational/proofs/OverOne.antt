@@ -1,14 +1,7 @@
 -- A whole number, over 1.
-use mathlib.Core.Path.{◌≡◌, ap, ◌∙◌}
-use Prim.Native.Nat.{◌<◌}
-use native.Mathlib.Omega.{arith}
-use lib.IntN.{ℤ, pos, nat_abs}
-use Rattle.std.proofs.lemmas.Int.{ints}
-use Rattle.stack_algebra.specs.Gcd.{gcd}
+use Rattle.std.proofs.Common.{◌≡◌, ap, ◌∙◌, ◌<◌, arith, ℤ, pos, nat_abs}
+use Rattle.stack_rational.proofs.Common.{ints, gcd, of, over, of-over, IsStored, Within}
 use Rattle.stack_algebra.proofs.CommonDivisor.{gcd-unit}
-use Rattle.stack_algebra.proofs.Fractions.{of}
-use Rattle.stack_algebra.proofs.Over.{over, of-over}
-use Rattle.stack_rational.specs.Stored.{IsStored, Within}
 
 pub whole-stored : (m n k d : ℤ) → Within m k × (n ≡ k) → d ≡ pos 1 → 0 < nat_abs m → IsStored m n d
 whole-stored m n k d h e p = record {

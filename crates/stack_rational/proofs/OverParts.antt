@@ -1,23 +1,14 @@
 -- The quotient of two numbers that fit is the first over the second in lowest terms, and fits.
 use Rattle.std.proofs.Common.{◌≡◌, sym, ap, subst, ◌∙◌, ℕ, ◌<◌, ◌/◌, ◌≢◌, ◌*ℤ◌, false, true, not, arith, to_z, of_z}
-use Rattle.std.proofs.Common.{to_z-of_z}
-use lib.IntN.{ℤ, pos, negsuc, nat_abs}
-use mir.Syntax.{w128}
-use Rattle.std.proofs.lemmas.Int.{ints}
-use Rattle.std.proofs.lemmas.Bool.{le-leb}
+use Rattle.std.proofs.Common.{to_z-of_z, ℤ, pos, negsuc, nat_abs, le-leb}
+use Rattle.stack_rational.proofs.Common.{w128, ints, ◌≺◌, Fraction, gcd, expand, sums, of, mul, mul-is, same_values}
+use Rattle.stack_rational.proofs.Common.{inv, over, over-is, widest, fraction_fits, is_too_wide, signed, of-is}
+use Rattle.stack_rational.proofs.Common.{abs_signed, over-parts, signed-keeps}
 use Rattle.std.proofs.Math.Nat.{div-le_self}
-use Rattle.stack_algebra.specs.IntegerOrder.{◌≺◌}
-use Rattle.stack_algebra.specs.Fraction.{Fraction, IsOver, signed}
-use Rattle.stack_algebra.specs.Gcd.{gcd}
-use Rattle.stack_algebra.proofs.Integers.{expand, sums}
-use Rattle.stack_algebra.proofs.Fractions.{of, of-is, mul, mul-is, same_values, abs_signed}
-use Rattle.stack_algebra.proofs.FractionField.{inv, inv-is}
-use Rattle.stack_algebra.proofs.Over.{over, over-is, over-parts}
+use Rattle.stack_algebra.specs.Fraction.{IsOver}
+use Rattle.stack_algebra.proofs.FractionField.{inv-is}
 use Rattle.stack_whole.specs.Whole.{IsFitting}
 use Rattle.stack_rational.specs.declared.exact.Op.TheVariants.{Whole, Quotient}
-use Rattle.stack_rational.specs.Laws.{widest}
-use Rattle.stack_rational.specs.TooWide.{fraction_fits, is_too_wide}
-use Rattle.stack_rational.specs.Widths.{signed-keeps}
 use Rattle.stack_rational.proofs.Fitting.{fits-of}
 use Rattle.stack_rational.proofs.WideWholes.{num_of, den_of}
 

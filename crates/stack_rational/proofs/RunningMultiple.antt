@@ -1,20 +1,10 @@
 -- A loop that joins one denominator after the other.
-use Rattle.std.proofs.Common.{arith, to_z, of_z, to_z-of_z}
-use mathlib.Core.Path.{◌≡◌, refl, sym, ap, subst, ◌∙◌}
-use mathlib.Core.List.{List}
-use Prim.Native.Nat.{ℕ, ◌+◌, ◌<◌, ◌≤◌}
-use native.Mathlib.Decide.{ℕ_discrete}
-use lib.ListN.{take, length, get_or}
-use lib.IntN.{ℤ, pos, nat_abs}
-use mir.Syntax.{w128}
-use Rattle.std.proofs.lemmas.Int.{ints}
-use Rattle.stack_rational.specs.Widths.{signed-keeps}
-use Rattle.stack_algebra.specs.IntegerOrder.{◌≺◌}
-use Rattle.stack_algebra.specs.Fraction.{Fraction}
-use Rattle.stack_rational.specs.Stored.{Within}
-use Rattle.stack_rational.specs.Laws.{widest}
+use Rattle.std.proofs.Common.{arith, to_z, of_z, to_z-of_z, ◌≡◌, refl, sym, ap, subst, ◌∙◌, List, ℕ, ◌+◌, ◌<◌, ◌≤◌}
+use Rattle.std.proofs.Common.{take, length, get_or, ℤ, pos, nat_abs}
+use Rattle.stack_rational.proofs.Common.{ℕ_discrete, w128, ints, ◌≺◌, Fraction, Within, widest, signed-keeps}
+use Rattle.stack_rational.proofs.Common.{common_multiple}
 use Rattle.stack_whole.specs.Whole.{greatest_number}
-use Rattle.stack_rational.specs.CommonScale.{common_multiple, scale_of, IsFirstTooWide}
+use Rattle.stack_rational.specs.CommonScale.{scale_of, IsFirstTooWide}
 use Rattle.stack_rational.proofs.Multiples.{scale_of-more, scale_positive}
 
 -- s is the scale of the first i items, and none before was too wide

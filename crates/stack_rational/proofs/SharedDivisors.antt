@@ -1,17 +1,11 @@
 -- What a sum over the least common denominator has in common with that denominator: only what both denominators had.
-use mathlib.Core.Path.{◌≡◌, sym, ap, subst, ◌∙◌}
-use mathlib.Core.Logic.{◌≢◌}
-use Prim.Native.Nat.{ℕ, ◌+◌, ◌*◌, ◌/◌, ◌∣◌}
-use native.Mathlib.Nat.{dvd-add, dvd-add_iff_left, dvd-one, dvd_refl, dvd-mul_left, mul-div_cancel', dvd_trans}
-use native.Mathlib.Decide.{ℕ_discrete}
-use native.Mathlib.Omega.{arith}
-use lib.IntN.{ℤ, pos, nat_abs, ◌+ℤ◌, ◌*ℤ◌}
+use Rattle.std.proofs.Common.{◌≡◌, sym, ap, subst, ◌∙◌, ◌≢◌, ℕ, ◌+◌, ◌*◌, ◌/◌, arith, ℤ, pos, nat_abs, ◌+ℤ◌, ◌*ℤ◌}
+use Rattle.stack_rational.proofs.Common.{◌∣◌, mul-div_cancel', dvd_trans, ℕ_discrete, IsGcd, ints, unsigned_abs-mul}
+use Rattle.stack_rational.proofs.Common.{gcd, gcd-left, gcd-right, dvd-one, dvd_refl, dvd-mul_left, gcd-product}
+use Rattle.stack_rational.proofs.Common.{gcd-swap, dvd-gcd, IsLowest}
+use native.Mathlib.Nat.{dvd-add, dvd-add_iff_left}
 use lib.Signed.{quot_z}
-use Rattle.std.specs.Int.{IsGcd}
-use Rattle.std.proofs.lemmas.Int.{ints, unsigned_abs-mul}
-use Rattle.stack_algebra.specs.Gcd.{gcd}
-use Rattle.stack_algebra.proofs.CommonDivisor.{gcd-left, gcd-right, gcd-product, gcd-swap, dvd-gcd, dvd_of_gcd-one}
-use Rattle.stack_algebra.proofs.Over.{IsLowest}
+use Rattle.stack_algebra.proofs.CommonDivisor.{dvd_of_gcd-one}
 use Rattle.stack_rational.proofs.Steps.{div-abs}
 use Rattle.stack_rational.proofs.Crosswise.{coprime-parts, quotients}
 

@@ -1,17 +1,11 @@
 -- Zeros and equal denominators, which need no common divisor.
-use mathlib.Core.Path.{◌≡◌, sym, ap, subst, subst₂, ◌∙◌}
-use Prim.Native.Nat.{ℕ, ◌/◌, ◌<◌, ◌≤◌, ◌∣◌}
-use native.Mathlib.Nat.{dvd-zero, dvd_refl, dvd-one, dvd_antisymm, div-one, div_self}
-use native.Mathlib.Omega.{arith}
-use lib.IntN.{ℤ, pos, nat_abs, ◌+ℤ◌, ◌*ℤ◌}
-use Rattle.std.proofs.lemmas.Int.{ints}
-use Rattle.stack_algebra.specs.Gcd.{gcd}
-use Rattle.stack_algebra.specs.Fraction.{Fraction}
-use Rattle.stack_algebra.proofs.Integers.{expand, sums}
-use Rattle.stack_algebra.proofs.CommonDivisor.{dvd-gcd, gcd-left, gcd-right}
-use Rattle.stack_algebra.proofs.Fractions.{of, of-is, add, add-is, mul, mul-is, is_self, same_values}
-use Rattle.stack_algebra.proofs.Over.{over, over-is}
-use Rattle.stack_rational.specs.Stored.{Within, Fits, IsStored, CommonFits, SumFits}
+use Rattle.std.proofs.Common.{◌≡◌, sym, ap, subst, subst₂, ◌∙◌, ℕ, ◌/◌, ◌<◌, ◌≤◌, div-one, arith, ℤ, pos, nat_abs, ◌+ℤ◌}
+use Rattle.std.proofs.Common.{◌*ℤ◌}
+use Rattle.stack_rational.proofs.Common.{◌∣◌, ints, gcd, Fraction, expand, sums, gcd-left, gcd-right, of, add, add-is}
+use Rattle.stack_rational.proofs.Common.{mul, mul-is, same_values, over, over-is, Within, IsStored, dvd_refl, dvd-one}
+use Rattle.stack_rational.proofs.Common.{dvd-gcd, of-is, is_self, SumFits}
+use native.Mathlib.Nat.{dvd-zero, dvd_antisymm, div_self}
+use Rattle.stack_rational.specs.Stored.{Fits, CommonFits}
 use Rattle.stack_rational.proofs.WideWholes.{num_of, den_of}
 use Rattle.stack_rational.proofs.Crosswise.{stored-num, stored-den, stored-fits}
 

@@ -1,14 +1,8 @@
 -- The sign of what is stored.
-use Rattle.std.proofs.Common.{arith, Bool, true, false, int_lt, IsTrue, ◌↔◌}
-use mathlib.Core.Path.{◌≡◌, refl, sym, ap, ◌∙◌}
-use Prim.Native.Nat.{zero, suc}
-use lib.IntN.{ℤ, pos, negsuc}
-use Rattle.std.proofs.lemmas.Int.{ints}
-use Rattle.stack_algebra.specs.Fraction.{Fraction}
-use Rattle.stack_algebra.specs.IntegerOrder.{◌≼◌, ◌≺◌, signum}
-use Rattle.stack_algebra.proofs.Over.{over}
-use Rattle.stack_rational.specs.Stored.{IsStored}
-use Rattle.stack_rational.specs.Order.{is_zero_whole}
+use Rattle.std.proofs.Common.{arith, Bool, true, false, int_lt, IsTrue, ◌↔◌, ◌≡◌, refl, sym, ap, ◌∙◌, zero, suc, ℤ, pos}
+use Rattle.std.proofs.Common.{negsuc}
+use Rattle.stack_rational.proofs.Common.{ints, Fraction, ◌≼◌, ◌≺◌, over, IsStored, is_zero_whole}
+use Rattle.stack_algebra.specs.IntegerOrder.{signum}
 use Rattle.stack_rational.proofs.Crosswise.{stored-num}
 use Rattle.stack_rational.proofs.ByWholeParts.{yes-less, no-less}
 

@@ -1,18 +1,14 @@
 -- The order of fractions is total, and that of their difference and 0.
-use mathlib.Core.Path.{◌≡◌, refl, sym, ap, ◌∙◌}
-use native.Mathlib.Omega.{arith}
-use lib.IntN.{ℤ, pos, neg_ℤ, ◌+ℤ◌, ◌-ℤ◌, ◌*ℤ◌}
+use Rattle.std.proofs.Common.{◌≡◌, refl, sym, ap, ◌∙◌, arith, ℤ, pos, neg_ℤ, ◌+ℤ◌, ◌-ℤ◌, ◌*ℤ◌}
+use Rattle.stack_rational.proofs.Common.{◌≺◌, Fraction, expand, sums, mul_pos, add, neg, of, add-is, cancel, neg_own}
+use Rattle.stack_rational.proofs.Common.{is_self, den_pos, order_of}
 use Rattle.std.proofs.lemmas.Cmp.{int_ranked}
 use Rattle.std.specs.Ordering.{int_cmp, MatchOrdering}
 use Rattle.std.specs.declared.cmp.Ordering.{Ordering}
 use Rattle.std.specs.declared.cmp.Ordering.TheVariants.{Less, Equal, Greater}
-use Rattle.stack_algebra.specs.IntegerOrder.{◌≺◌}
-use Rattle.stack_algebra.specs.Fraction.{Fraction, IsOver}
-use Rattle.stack_algebra.proofs.Integers.{expand, sums}
-use Rattle.stack_algebra.proofs.Order.{mul_pos}
-use Rattle.stack_algebra.proofs.CrossProducts.{cancel, positive_cancel}
-use Rattle.stack_algebra.proofs.Fractions.{add, neg, of, add-is, neg_own, is_self, same_from_cross, den_pos}
-use Rattle.stack_rational.specs.Order.{order_of}
+use Rattle.stack_algebra.specs.Fraction.{IsOver}
+use Rattle.stack_algebra.proofs.CrossProducts.{positive_cancel}
+use Rattle.stack_algebra.proofs.Fractions.{same_from_cross}
 use Rattle.stack_rational.specs.Laws.{OrderLaws}
 use Rattle.stack_rational.proofs.ByWholeParts.{cmp-less, cmp-equal, cmp-greater}
 use Rattle.stack_rational.proofs.WideWholes.{num_of, den_of}

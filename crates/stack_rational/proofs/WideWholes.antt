@@ -1,16 +1,8 @@
 -- When a whole number is too wide: the numerator of its fraction is the number itself.
-use Rattle.std.proofs.Common.{arith, true, false, not}
-use mathlib.Core.Path.{◌≡◌, sym, ap, subst, ◌∙◌}
-use lib.IntN.{ℤ, pos, nat_abs}
-use Rattle.std.proofs.lemmas.Int.{ints}
-use Rattle.std.proofs.lemmas.Bool.{le-leb, lt-leb}
-use Rattle.stack_algebra.specs.Fraction.{Fraction}
-use Rattle.stack_algebra.proofs.Fractions.{of}
+use Rattle.std.proofs.Common.{arith, true, false, not, ◌≡◌, sym, ap, subst, ◌∙◌, ℤ, pos, nat_abs, le-leb}
+use Rattle.stack_rational.proofs.Common.{ints, Fraction, of, of-over, Within, is_too_wide, lt-leb, over-lowest}
 use Rattle.stack_algebra.proofs.CommonDivisor.{gcd-unit}
-use Rattle.stack_algebra.proofs.Over.{over-lowest, of-over}
 use Rattle.stack_rational.specs.declared.exact.Op.TheVariants.{Whole}
-use Rattle.stack_rational.specs.Stored.{Within}
-use Rattle.stack_rational.specs.TooWide.{is_too_wide}
 
 pub num_of : (n : ℤ) → (of n).num ≡ n
 num_of n = ap (λ (x : Fraction). x.num) (sym (of-over n))

@@ -1,16 +1,10 @@
 -- What fits a greatest value fits a greater one.
-use Rattle.std.proofs.Common.{arith, true, not}
-use mathlib.Core.Path.{◌≡◌, ap}
-use Prim.Native.Nat.{◌≤◌}
-use lib.IntN.{ℤ, nat_abs, ◌+ℤ◌}
-use Rattle.std.proofs.lemmas.Bool.{le-leb, leb-true}
-use Rattle.stack_algebra.specs.Fraction.{Fraction}
-use Rattle.stack_algebra.proofs.Fractions.{neg, mul}
-use Rattle.stack_algebra.proofs.FractionField.{inv}
+use Rattle.std.proofs.Common.{arith, true, not, ◌≡◌, ap, ◌≤◌, ℤ, nat_abs, ◌+ℤ◌, le-leb, leb-true}
+use Rattle.stack_rational.proofs.Common.{Fraction, neg, mul, inv, fraction_fits, sum_fits, is_within}
+use Rattle.stack_rational.proofs.Common.{common_denominator, left_term, right_term, not-false, left_true, right_true}
+use Rattle.stack_rational.proofs.Common.{and_true}
 use Rattle.stack_rational.specs.declared.exact.Op.TheVariants.{Whole, Sum, Difference, Product, Quotient}
-use Rattle.stack_rational.specs.TooWide.{is_within, fraction_fits, sum_fits, common_denominator, left_term, right_term}
 use Rattle.stack_rational.specs.Laws.{WiderIsNeverTooWide}
-use Rattle.stack_algebra.proofs.Conjunctions.{not-false, left_true, right_true, and_true}
 
 module _ (m n : ℤ) (wider : nat_abs m ≤ nat_abs n) where
   within : (z : ℤ) → is_within m z ≡ true → is_within n z ≡ true

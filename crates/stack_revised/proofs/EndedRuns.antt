@@ -1,11 +1,7 @@
 -- What the end of a run at one width says.
-use Rattle.std.proofs.Common.{◌≡◌, false, sym, subst, ◌∙◌, ℕ, ◌≤◌, ◌^◌, ◌-◌, Result, Ok, Err, unsigned_abs, arith}
-use Rattle.std.specs.Prelude.{IfOk, IfErr}
-use lib.IntN.{ℤ, pos}
-use Rattle.stack_algebra.specs.Fraction.{Fraction}
-use Rattle.stack_algebra.proofs.OrderedFractions.{ordered_fractions}
-use Rattle.stack_rational.specs.Laws.{widest}
-use Rattle.stack_rational.specs.TooWide.{is_too_wide}
+use Rattle.std.proofs.Common.{◌≡◌, false, sym, subst, ◌∙◌, ℕ, ◌≤◌, ◌^◌, ◌-◌, Result, Ok, Err, unsigned_abs, arith, IfOk}
+use Rattle.std.proofs.Common.{IfErr, ℤ, pos}
+use Rattle.stack_rational.proofs.Common.{Fraction, ordered_fractions, widest, is_too_wide}
 use Rattle.stack_table.specs.Table.{Shape, Tabled}
 use Rattle.stack_table.specs.Problem.{Problem}
 use Rattle.stack_table.specs.WrittenTable.{written_table}

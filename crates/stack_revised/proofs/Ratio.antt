@@ -1,13 +1,7 @@
 -- The ratio of a row whose numbers fit isn't too wide.
-use Rattle.std.proofs.Common.{◌≡◌, sym, ap, ◌∙◌, ℕ, true, cond, not, None}
-use lib.IntN.{ℤ, pos}
-use Rattle.stack_algebra.specs.Ordered.{sign_of}
-use Rattle.stack_algebra.specs.Search.{only_if}
-use Rattle.stack_algebra.proofs.Order.{◌≺◌}
-use Rattle.stack_algebra.proofs.Over.{over}
+use Rattle.std.proofs.Common.{◌≡◌, sym, ap, ◌∙◌, ℕ, true, cond, not, None, ℤ, pos}
+use Rattle.stack_rational.proofs.Common.{sign_of, only_if, ◌≺◌, over, fraction_fits, is_too_wide, Within}
 use Rattle.stack_rational.specs.declared.exact.Op.TheVariants.{Quotient}
-use Rattle.stack_rational.specs.TooWide.{fraction_fits, is_too_wide}
-use Rattle.stack_rational.specs.Stored.{Within}
 use Rattle.stack_table.specs.Table.{Shape, columns}
 use Rattle.stack_bland.specs.Choice.{is_plus}
 use Rattle.stack_tableau.specs.Answers.{IsRatio}

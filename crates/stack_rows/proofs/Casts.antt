@@ -1,10 +1,9 @@
 -- A difference of two products, as a goal shows it with its casts.
-use Rattle.std.proofs.Common.{◌≡◌, sym, ap, subst, ◌∙◌, ◌≤◌, ◌+◌, ◌-◌, ◌*◌, ◌^◌, arith, to_z-of_z}
-use lib.IntN.{ℤ, nat_abs, ◌-ℤ◌, ◌*ℤ◌}
+use Rattle.std.proofs.Common.{◌≡◌, sym, ap, subst, ◌∙◌, ◌≤◌, ◌+◌, ◌-◌, ◌*◌, ◌^◌, arith, to_z-of_z, ℤ, nat_abs, ◌-ℤ◌}
+use Rattle.std.proofs.Common.{◌*ℤ◌, SFits, to_z, of_z}
+use Rattle.stack_rational.proofs.Common.{ints, unsigned_abs-mul, signed-keeps}
 use Rattle.std.specs.Int.{Width}
-use mir.Val.{SFits, hbits, to_z, of_z}
-use Rattle.std.proofs.lemmas.Int.{ints, unsigned_abs-mul}
-use Rattle.stack_rational.specs.Widths.{signed-keeps}
+use mir.Val.{hbits}
 
 -- the size of a difference
 difference_size : (l r : ℤ) → nat_abs (l -ℤ r) ≤ nat_abs l + nat_abs r

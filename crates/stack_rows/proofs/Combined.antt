@@ -1,7 +1,6 @@
 -- One number of a row that is combined with the pivot row.
-use Rattle.std.proofs.Common.{◌≡◌, sym, ap, ◌∙◌, arith}
-use lib.IntN.{ℤ, pos, ◌*ℤ◌, ◌-ℤ◌}
-use Rattle.stack_algebra.proofs.Integers.{expand, sums}
+use Rattle.std.proofs.Common.{◌≡◌, sym, ap, ◌∙◌, arith, ℤ, pos, ◌*ℤ◌, ◌-ℤ◌}
+use Rattle.stack_rational.proofs.Common.{expand, sums}
 
 -- past the end of both rows
 pub combined_past : (k t old pivot new : ℤ) → old ≡ pos 0 → pivot ≡ pos 0 → new ≡ pos 0 →

@@ -1,6 +1,6 @@
 -- A common divisor as a number.
-use mathlib.Core.Path.{◌≡◌, subst}
-use Prim.Native.Nat.{ℕ, ◌∣◌}
+use Rattle.std.proofs.Common.{◌≡◌, subst, ℕ}
+use Rattle.stack_rational.proofs.Common.{◌∣◌}
 
 -- a divisor as a number, of what a number's size is
 pub sized_divisor : {g n a b : ℕ} → g ≡ n → a ≡ b → g ∣ a → n ∣ b

@@ -1,8 +1,8 @@
 -- The values of a list that is written item by item.
 use Rattle.std.proofs.Common.{◌≡◌, ◌≢◌, sym, ap, subst, ◌∙◌, ℕ, zero, suc, ◌<◌, ◌≤◌, List, [], ◌∷◌, map, length, get_or}
 use Rattle.std.proofs.Common.{set, arith, get_or-set_same, get_or-set_other}
-use Rattle.std.proofs.lemmas.List.{map-set, get_or-map, length-map, get_or_past}
-use native.Mathlib.Decide.{ℕ_discrete, dec_lt}
+use Rattle.stack_rational.proofs.Common.{length-map, get_or_past, ℕ_discrete, dec_lt, get_or-map}
+use Rattle.std.proofs.lemmas.List.{map-set}
 
 module _ {V C : Type 0} (e : V → C) (z : C) where
   -- past the end
@@ -28,11 +28,10 @@ module _ {C : Type 0} (P : ℕ → C → Type 0) (old now next : ℕ → C) (j :
     (other : (i : ℕ) → i ≢ j → next i ≡ now i) where
   -- P holds of one item more
   pub done_more : (i : ℕ) → i < suc j → P i (next i)
-  done_more i l = go (ℕ_discrete i j)
-    where
-      go : Dec (i ≡ j) → P i (next i)
-      go (yes d) = subst (λ k. P k (next k)) (sym d) here
-      go (no d) = subst (P i) (sym (other i d)) (done i (omega (arith, l, d)))
+  done_more i l = elim (ℕ_discrete i j) [
+    | yes d ↦ subst (λ k. P k (next k)) (sym d) here
+    | no d ↦ subst (P i) (sym (other i d)) (done i (omega (arith, l, d)))
+  ]
 
   -- and one less is as it was
   pub rest_less : (i : ℕ) → suc j ≤ i → next i ≡ old i
@@ -43,12 +42,11 @@ module _ {C : Type 0} (P : ℕ → C → Type 0) (old now next : ℕ → C) (j n
     (done : (i : ℕ) → i < j → P i (now i)) (rest : (i : ℕ) → j ≤ i → now i ≡ old i) (here : P j (next j))
     (other : (i : ℕ) → i ≢ j → next i ≡ now i) (between : (i : ℕ) → j < i → i < n → P i (old i)) where
   pub done_jump : (i : ℕ) → i < n → P i (next i)
-  done_jump i l = go (dec_lt i (suc j))
-    where
-      go : Dec (i < suc j) → P i (next i)
-      go (yes b) = done_more P old now next j done rest here other i b
-      go (no b) = subst (P i) (sym (rest_less P old now next j done rest here other i (omega (arith, b))))
-          (between i (omega (arith, b)) l)
+  done_jump i l = elim (dec_lt i (suc j)) [
+    | yes b ↦ done_more P old now next j done rest here other i b
+    | no b ↦ subst (P i) (sym (rest_less P old now next j done rest here other i (omega (arith, b))))
+        (between i (omega (arith, b)) l)
+  ]
 
   pub rest_jump : (i : ℕ) → n ≤ i → next i ≡ old i
   rest_jump i l = rest_less P old now next j done rest here other i (omega (arith, l, further))

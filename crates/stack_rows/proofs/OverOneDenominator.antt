@@ -1,30 +1,17 @@
 -- Numbers over one denominator: what is written of two of them is no wider than these numbers.
-use Rattle.std.proofs.Common.{arith, true}
-use mathlib.Core.Path.{◌≡◌, sym, ap, subst, ◌∙◌}
-use Prim.Native.Nat.{ℕ, zero, suc, ◌*◌, ◌/◌, ◌<◌, ◌≤◌, ◌∣◌}
-use native.Mathlib.Nat.{mul-div_cancel', dvd-mul_right}
+use Rattle.std.proofs.Common.{arith, true, ◌≡◌, sym, ap, subst, ◌∙◌, ℕ, zero, suc, ◌*◌, ◌/◌, ◌<◌, ◌≤◌, ℤ, pos, negsuc}
+use Rattle.std.proofs.Common.{nat_abs, neg_ℤ, ◌+ℤ◌, ◌*ℤ◌, le-leb, ◌≢◌}
+use Rattle.stack_rational.proofs.Common.{◌∣◌, mul-div_cancel', ints, unsigned_abs-mul, gcd, Fraction, expand, sums, ◌≺◌}
+use Rattle.stack_rational.proofs.Common.{mul_pos, gcd-left, gcd-right, add, add-is, mul, mul-is, neg, same_values, over}
+use Rattle.stack_rational.proofs.Common.{over-is, fraction_fits, sum_fits, Within, sign_of, nought, ordered_fractions}
+use Rattle.stack_rational.proofs.Common.{inv, dvd-mul_right, signed, neg_own, abs_signed, over-parts, common_multiple}
+use Rattle.stack_rational.proofs.Common.{common_denominator, left_term, right_term, sign_is, and_true}
 use Rattle.std.proofs.Math.Nat.{mul-div_cancel_left, div-le_self}
-use lib.IntN.{ℤ, pos, negsuc, nat_abs, neg_ℤ, ◌+ℤ◌, ◌*ℤ◌}
-use Rattle.std.proofs.lemmas.Int.{ints, unsigned_abs-mul}
-use Rattle.std.proofs.lemmas.Bool.{le-leb}
-use Rattle.stack_algebra.specs.Gcd.{gcd}
-use Rattle.stack_algebra.specs.Fraction.{Fraction, signed, low_num, low_den}
-use Rattle.stack_algebra.proofs.Integers.{expand, sums, neg_mul, add_mul}
-use Rattle.stack_algebra.proofs.Order.{◌≺◌, mul_pos}
-use Rattle.stack_algebra.proofs.CommonDivisor.{gcd-left, gcd-right}
-use Rattle.stack_algebra.proofs.Fractions.{add, add-is, mul, mul-is, neg, neg_own, same_values, abs_signed, mul_assoc}
-use Rattle.stack_algebra.proofs.Fractions.{one_mul}
-use Rattle.stack_algebra.proofs.Over.{over, over-is, over-parts}
-use Rattle.stack_rational.specs.CommonScale.{common_multiple}
-use Rattle.stack_rational.specs.TooWide.{fraction_fits, sum_fits, common_denominator, left_term, right_term}
-use Rattle.stack_rational.specs.Stored.{Within}
+use Rattle.stack_algebra.specs.Fraction.{low_num, low_den}
+use Rattle.stack_algebra.proofs.Integers.{neg_mul, add_mul}
+use Rattle.stack_algebra.proofs.Fractions.{mul_assoc, one_mul}
 use Rattle.stack_rational.proofs.Fitting.{fits-of, sign-not}
 use Rattle.stack_rational.proofs.Multiples.{divided}
-use Rattle.stack_algebra.specs.Ordered.{sign_of, nought}
-use Rattle.stack_algebra.proofs.OrderedFractions.{ordered_fractions, sign_is}
-use Rattle.stack_algebra.proofs.FractionField.{inv}
-use mathlib.Core.Logic.{◌≢◌}
-use Rattle.stack_algebra.proofs.Conjunctions.{and_true}
 
 -- the reduced fraction is no greater than its parts
 pub over_fits : (m z d : ℤ) → pos 0 ≺ d → Within m z → Within m d → fraction_fits m (over z d) ≡ true

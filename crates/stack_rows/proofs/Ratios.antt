@@ -1,19 +1,10 @@
 -- Signs and ratios of numbers in rows: the denominators don't count.
-use Rattle.std.proofs.Common.{◌≡◌, ◌≢◌, refl, ap, ◌∙◌, true, arith}
-use Prim.Native.Nat.{zero, suc}
-use lib.IntN.{ℤ, pos, negsuc, neg_ℤ, ◌+ℤ◌, ◌-ℤ◌, ◌*ℤ◌}
-use Rattle.std.proofs.lemmas.Int.{ints}
-use Rattle.stack_algebra.specs.Ordered.{sign_of, minus, nought, plus}
+use Rattle.std.proofs.Common.{◌≡◌, ◌≢◌, refl, ap, ◌∙◌, true, arith, zero, suc, ℤ, pos, negsuc, neg_ℤ, ◌+ℤ◌, ◌-ℤ◌, ◌*ℤ◌}
+use Rattle.stack_rational.proofs.Common.{ints, sign_of, minus, nought, plus, Fraction, less, ◌≺◌, ◌≼◌, add, mul, add-is}
+use Rattle.stack_rational.proofs.Common.{inv, over, over-is, ordered_fractions, is_zero_whole, sign_is}
 use Rattle.stack_bland.specs.Choice.{is_nought, is_plus}
-use Rattle.stack_algebra.specs.Fraction.{Fraction}
-use Rattle.stack_algebra.specs.Rows.{less}
-use Rattle.stack_algebra.proofs.Order.{◌≺◌, ◌≼◌}
 use Rattle.stack_algebra.proofs.Integers.{neg_mul}
-use Rattle.stack_algebra.proofs.Fractions.{add, mul, add-is}
-use Rattle.stack_algebra.proofs.FractionField.{inv}
-use Rattle.stack_algebra.proofs.Over.{over, over-is}
-use Rattle.stack_algebra.proofs.OrderedFractions.{ordered_fractions, sign_is, is_minus, is_plus as plus_is}
-use Rattle.stack_rational.specs.Order.{is_zero_whole}
+use Rattle.stack_algebra.proofs.OrderedFractions.{is_minus, is_plus as plus_is}
 use Rattle.stack_rows.proofs.OverOneDenominator.{neg_over, quotient_over}
 
 -- the order of two numbers by the sign of their difference

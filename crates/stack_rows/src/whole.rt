@@ -1,5 +1,6 @@
 //! Whole numbers of one width, whose operations may give up.
 
+use crate::products::{Ratios, compare};
 use std::cmp::Ordering;
 
 /// A number to divide by, with what makes the division quick: how often 2 goes into the number, and the inverse of what
@@ -108,14 +109,28 @@ pub trait RowNumber: Copy {
     /// The order of two ratios to positive numbers.
     fn order(self, under: Self, other: Self, other_under: Self) -> Option<Ordering>
         ensures { IfSome result (λ o. o
-            ≡ by_sign (sign_of (value self *ℤ value other_under -ℤ value other *ℤ value under))) };
+            ≡ by_sign (sign_of (value self *ℤ value other_under -ℤ value other *ℤ value under))) }
+    {
+        compare(Ratios {
+            left: self.wide(),
+            left_under: under.wide(),
+            right: other.wide(),
+            right_under: other_under.wide(),
+        })
+    }
 
     fn is_zero(self) -> bool
-        ensures { result ≡ is_zero_whole (value self) };
+        ensures { result ≡ is_zero_whole (value self) }
+    {
+        self.wide() == 0
+    }
 
     /// Whether it is 1. No clause says when the answer is no.
     fn is_one(self) -> bool
-        ensures { result ≡ true → value self ≡ pos 1 };
+        ensures { result ≡ true → value self ≡ pos 1 }
+    {
+        self.wide() == 1
+    }
 
     /// Whether it is so small that a row of such numbers may be left as it is. No clause says when the answer is no.
     fn is_small(self) -> bool
@@ -123,10 +138,16 @@ pub trait RowNumber: Copy {
 
     fn is_positive(self) -> bool
         ensures sign { result ≡ is_plus (sign_of (value self)) }
-        ensures above { result ≡ true → pos 0 <ℤ value self };
+        ensures above { result ≡ true → pos 0 <ℤ value self }
+    {
+        self.wide() > 0
+    }
 
     fn is_negative(self) -> bool
-        ensures { result ≡ is_negative_sign (sign_of (value self)) };
+        ensures { result ≡ is_negative_sign (sign_of (value self)) }
+    {
+        self.wide() < 0
+    }
 
     // The greatest size lies between 1 and that of 128 bits, and each number fits.
     ghost max_law: { IsWidth MAX };

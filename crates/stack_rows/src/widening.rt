@@ -2,12 +2,10 @@
 
 ghost use Rattle.std.specs.Prelude.{◌≡◌, ◌≤◌, ◌≤ℤ◌, ◌+◌, ◌*◌, ◌^◌, ◌-◌, ◌*ℤ◌, ◌-ℤ◌, pos, unsigned_abs, IfSome};
 
-use crate::products::{Ratios, compare};
 use crate::whole::{Divider, RowNumber};
 use crate::wide::Broad;
 use crate::words::{word_inverse, word_step};
 use stack_rational::divisor_of;
-use std::cmp::Ordering;
 
 fn wide(n: i128) -> Option<Broad>
     ensures { IfSome result (λ r. r.number ≡ n) }
@@ -269,32 +267,7 @@ impl RowNumber for Broad {
         }
     }
 
-    fn order(self, under: Self, other: Self, other_under: Self) -> Option<Ordering> {
-        compare(Ratios {
-            left: self.number,
-            left_under: under.number,
-            right: other.number,
-            right_under: other_under.number,
-        })
-    }
-
-    fn is_zero(self) -> bool {
-        self.number == 0
-    }
-
-    fn is_one(self) -> bool {
-        self.number == 1
-    }
-
     fn is_small(self) -> bool {
         -1208925819614629174706176 <= self.number && self.number < 1208925819614629174706176
-    }
-
-    fn is_positive(self) -> bool {
-        self.number > 0
-    }
-
-    fn is_negative(self) -> bool {
-        self.number < 0
     }
 }

@@ -1,16 +1,11 @@
 -- The written table is a table of phase 1, so the run of a problem gives what its end says over the first rows.
-use Rattle.std.proofs.Common.{◌≡◌, ◌≢◌, refl, sym, ap, subst, ◌∙◌, ℕ, zero, suc, ◌<◌, ◌≤◌, ◌+◌, ◌-◌, Bool, true}
-use Rattle.std.proofs.Common.{false, cond, ltb, leb, ◌&&◌, inr, arith}
-use Rattle.std.proofs.lemmas.Bool.{ltb-true, lt-ltb, leb-true, le-leb}
-use native.Mathlib.Decide.{dec_le, dec_lt}
-use lib.IntN.{pos, negsuc}
-use Rattle.stack_algebra.specs.Ordered.{Ordered}
-use Rattle.stack_algebra.specs.Rows.{none, dot, Combination}
-use Rattle.stack_algebra.proofs.Ring.{num, ◌⊕◌, ◌⊗◌, ring1, mul-zero}
-use Rattle.stack_algebra.proofs.Sums.{sum, sum_one, sum_zero, at-other, at-same}
-use Rattle.stack_algebra.proofs.Signs.{nonneg_by}
+use Rattle.std.proofs.Common.{◌≡◌, ◌≢◌, refl, sym, ap, subst, ◌∙◌, ℕ, zero, suc, ◌<◌, ◌≤◌, ◌+◌, ◌-◌, Bool, true, false}
+use Rattle.std.proofs.Common.{cond, ltb, leb, ◌&&◌, inr, arith, ltb-true, lt-ltb, leb-true, le-leb, pos, negsuc}
+use Rattle.stack_rational.proofs.Common.{dec_le, dec_lt, Ordered, num, ◌⊕◌, ◌⊗◌, ring1, sum_zero, at-other, at-same}
+use Rattle.stack_rational.proofs.Common.{nonneg_by, changed-same, none, dot, Combination, sum_one}
+use Rattle.stack_algebra.proofs.Ring.{mul-zero}
+use Rattle.stack_algebra.proofs.Sums.{sum}
 use Rattle.stack_algebra.proofs.Combinations.{combination_first}
-use Rattle.stack_algebra.proofs.Pivots.{changed-same}
 use Rattle.stack_rational.specs.declared.exact.Op.{Op}
 use Rattle.stack_table.specs.Table.{plain, columns}
 use Rattle.stack_table.specs.Problem.{Problem}

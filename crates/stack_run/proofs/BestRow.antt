@@ -1,13 +1,9 @@
 -- The row found as best: none has a lesser ratio, and none of the same ratio a lesser basic column.
-use Rattle.std.proofs.Common.{◌≡◌, ◌≢◌, refl, sym, ap, subst, ◌∙◌, ℕ, zero, suc, ◌<◌, Bool, true, false, cond}
-use Rattle.std.proofs.Common.{ltb, Option, Some, None, arith}
-use Rattle.std.proofs.lemmas.Bool.{ltb-true, ltb-false}
-use native.Mathlib.Decide.{ℕ_discrete}
-use lib.IntN.{pos}
-use Rattle.stack_algebra.proofs.Ring.{Exp, num, ◌⊕◌, ◌⊖◌, ring1, ring2, ring3}
-use Rattle.stack_algebra.specs.Ordered.{Ordered, Sign, minus, nought, plus}
-use Rattle.stack_algebra.specs.Rows.{less, NonNeg}
-use Rattle.stack_algebra.proofs.Signs.{nonneg_zero, zero_between, nonneg_add, nonneg_neg, nonneg_by}
+use Rattle.std.proofs.Common.{◌≡◌, ◌≢◌, refl, sym, ap, subst, ◌∙◌, ℕ, zero, suc, ◌<◌, Bool, true, false, cond, ltb}
+use Rattle.std.proofs.Common.{Option, Some, None, arith, ltb-true, ltb-false, pos}
+use Rattle.stack_rational.proofs.Common.{ℕ_discrete, Exp, num, ◌⊕◌, ◌⊖◌, ring1, ring2, ring3, Ordered, Sign, minus}
+use Rattle.stack_rational.proofs.Common.{nought, plus, less, NonNeg, nonneg_by, nonneg_zero, nonneg_add}
+use Rattle.stack_algebra.proofs.Signs.{zero_between, nonneg_neg}
 use Rattle.stack_bland.specs.Choice.{is_plus, goes_first, better, best}
 use Rattle.stack_run.specs.LeavingRow.{NoWorse, IsBest}
 

@@ -1,7 +1,6 @@
 -- The bound on the pivots of a run, and where it fits 32 bits.
 use Rattle.std.proofs.Common.{◌≡◌, sym, ap, ◌∙◌, ℕ, zero, suc, ◌<◌, ◌≤◌, ◌+◌, ◌-◌, ◌*◌, ◌^◌, ◌%◌, Bool, true, false}
-use Rattle.std.proofs.Common.{cond, leb, Some, None, arith}
-use Rattle.std.proofs.lemmas.Bool.{le-leb}
+use Rattle.std.proofs.Common.{cond, leb, Some, None, arith, le-leb}
 use Rattle.std.proofs.Math.Nat.{pow-suc}
 use Rattle.stack_run.specs.Enough.{enough_of}
 

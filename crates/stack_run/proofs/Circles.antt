@@ -1,9 +1,7 @@
 -- Within a phase of the written run no set of basic columns recurs, and a phase is short.
 use Rattle.std.proofs.Common.{◌≡◌, refl, sym, ap, subst, ◌∙◌, ℕ, suc, ◌<◌, ◌≤◌, ◌+◌, ◌-◌, ◌^◌, inl, inr, Bool, arith}
 use Rattle.std.proofs.Common.{Some}
-use native.Mathlib.Decide.{dec_le}
-use Rattle.stack_algebra.specs.Ordered.{Ordered}
-use Rattle.stack_algebra.specs.Rows.{Tableau}
+use Rattle.stack_rational.proofs.Common.{dec_le, Ordered, Tableau}
 use Rattle.stack_rational.specs.declared.exact.Op.{Op}
 use Rattle.stack_table.specs.Table.{Shape, Tabled, plain, columns, clear_objective, set_factor_objective}
 use Rattle.stack_run.specs.WrittenRun.{PhaseStop, settled, unlimited, wide_at, spent, turns, drives}
@@ -102,14 +100,13 @@ module _ (F : Ordered) (S : Shape) (is_too_wide : Op → F.C → F.C → Bool) (
     -- more pivots come with a later row
     in_order : (a b d e : ℕ) (T U : Tabled F.C) → ReachesInSecond F S is_too_wide budget T0 a d T →
         ReachesInSecond F S is_too_wide budget T0 b e U → d < e → a ≤ b
-    in_order a b d e T U s t l = go (dec_le a b)
+    in_order a b d e T U s t l = elim (dec_le a b) [
+      | yes k ↦ k
+      | no k ↦ absurd (backward (second_between b a e d U T (omega arith) t s))
+    ]
       where
         backward : Passed F S is_too_wide a e U d T → ⊥
         backward h = elim h.moved [ inl z ↦ omega (arith, l, z.0) | inr z ↦ omega (arith, l, z.0) ]
-
-        go : Dec (a ≤ b) → a ≤ b
-        go (yes k) = k
-        go (no k) = absurd (backward (second_between b a e d U T (omega arith) t s))
 
     -- no set recurs in phase 2
     second_recurs : (a b d e : ℕ) (T U : Tabled F.C) → ReachesInSecond F S is_too_wide budget T0 a d T →

@@ -1,14 +1,14 @@
 -- The four ends' tables give what they should: with each first row 1 in its own artificial column w + k and 0
 -- in the others.
-use Rattle.std.proofs.Common.{◌≡◌, ◌≢◌, refl, sym, ap, ◌∙◌, ℕ, zero, suc, ◌<◌, ◌≤◌, ◌+◌, ◌-◌, arith}
-use native.Mathlib.Decide.{ℕ_discrete}
-use lib.IntN.{pos, negsuc}
-use Rattle.stack_algebra.proofs.Ring.{Ring, Exp, num, ◌⊕◌, ◌⊖◌, ◌⊗◌, ring1, ring2, ring3, mul-zero, add-zero}
-use Rattle.stack_algebra.proofs.Sums.{sum, sum_same, sum_zero, sum_scale, at, at-other, at-same}
-use Rattle.stack_algebra.specs.Ordered.{Ordered, minus, plus, opposite}
-use Rattle.stack_algebra.specs.Rows.{NonNeg, dot, Annuls, Combination, spread, Tableau}
-use Rattle.stack_algebra.proofs.Signs.{nonneg_add, nonneg_mul, nonneg_neg, nonneg_by, nonneg_plus, nonneg_sum}
-use Rattle.stack_algebra.proofs.Signs.{zero_between, zero_parts, plus_add}
+use Rattle.std.proofs.Common.{◌≡◌, ◌≢◌, refl, sym, ap, ◌∙◌, ℕ, zero, suc, ◌<◌, ◌≤◌, ◌+◌, ◌-◌, arith, pos, negsuc}
+use Rattle.stack_rational.proofs.Common.{ℕ_discrete, Exp, num, ◌⊕◌, ◌⊖◌, ◌⊗◌, ring1, ring2, ring3, sum_same, sum_zero}
+use Rattle.stack_rational.proofs.Common.{at, at-other, at-same, Ordered, minus, plus, NonNeg, Tableau, nonneg_by}
+use Rattle.stack_rational.proofs.Common.{sum_scale, opposite, dot, Combination, spread, nonneg_add, nonneg_plus}
+use Rattle.stack_rational.proofs.Common.{nonneg_sum}
+use Rattle.stack_algebra.proofs.Ring.{Ring, mul-zero, add-zero}
+use Rattle.stack_algebra.proofs.Sums.{sum}
+use Rattle.stack_algebra.specs.Rows.{Annuls}
+use Rattle.stack_algebra.proofs.Signs.{nonneg_mul, nonneg_neg, zero_between, zero_parts, plus_add}
 use Rattle.stack_algebra.proofs.Combinations.{multiplier_is, dot_spread}
 use Rattle.stack_run.specs.PhaseTables.{own_first, own_third}
 use Rattle.stack_run.proofs.RowEnds.{Balances, work, Refutes, Bounds, Rises}

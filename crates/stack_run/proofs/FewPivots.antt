@@ -1,7 +1,7 @@
 -- A run has fewer pivots than three times the number of sets of columns, so none is over a budget of 3*2^columns.
 use Rattle.std.proofs.Common.{◌≡◌, ◌≢◌, refl, ℕ, zero, suc, ◌≤◌, ◌+◌, ◌-◌, ◌*◌, ◌^◌, Bool, true, false, cond, leb}
 use Rattle.std.proofs.Common.{arith, Option, Some, None}
-use Rattle.stack_algebra.specs.Ordered.{Ordered, Sign, minus, nought, plus}
+use Rattle.stack_rational.proofs.Common.{Ordered, Sign, minus, nought, plus}
 use Rattle.stack_rational.specs.declared.exact.Op.{Op}
 use Rattle.stack_table.specs.declared.types.PivotWide.{PivotWide}
 use Rattle.stack_table.specs.Table.{Shape, Tabled, plain, columns, right, pivoted_at, clear_objective}

@@ -1,12 +1,8 @@
 -- The ends of the written run of a problem give what they should, in the problem's own rows.
-use Rattle.std.proofs.Common.{◌≡◌, refl, sym, ap, ◌∙◌, ℕ, ◌+◌, ◌<◌, arith}
-use lib.IntN.{pos, negsuc}
-use Rattle.stack_algebra.specs.Ordered.{Ordered}
-use Rattle.stack_algebra.specs.Rows.{less, none, Combination, Tableau}
-use Rattle.stack_algebra.proofs.Ring.{num, ◌⊖◌, ring1}
-use Rattle.stack_algebra.proofs.Sums.{sum_same, at-other}
+use Rattle.std.proofs.Common.{◌≡◌, refl, sym, ap, ◌∙◌, ℕ, ◌+◌, ◌<◌, arith, pos, negsuc}
+use Rattle.stack_rational.proofs.Common.{Ordered, less, Tableau, num, ◌⊖◌, ring1, sum_same, at-other, ordered_fractions}
+use Rattle.stack_rational.proofs.Common.{none, Combination}
 use Rattle.stack_algebra.proofs.Combinations.{multiplier_is}
-use Rattle.stack_algebra.proofs.OrderedFractions.{ordered_fractions}
 use Rattle.stack_table.specs.Table.{Tabled, plain, columns}
 use Rattle.stack_table.specs.Problem.{Problem, flipped}
 use Rattle.stack_table.specs.WrittenTable.{first_row, written_table}

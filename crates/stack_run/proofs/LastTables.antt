@@ -1,7 +1,7 @@
 -- The last table of a run is one at which it stands.
 use Rattle.std.proofs.Common.{◌≡◌, ◌≢◌, refl, sym, ap, ◌∙◌, ℕ, zero, suc, ◌≤◌, ◌<◌, ◌+◌, ◌*◌, ◌^◌, Bool, cond, arith}
 use Rattle.std.proofs.Common.{Option, Some, None}
-use Rattle.stack_algebra.specs.Ordered.{Ordered, Sign, minus, nought, plus}
+use Rattle.stack_rational.proofs.Common.{Ordered, Sign, minus, nought, plus}
 use Rattle.stack_rational.specs.declared.exact.Op.{Op}
 use Rattle.stack_table.specs.declared.types.PivotWide.{PivotWide}
 use Rattle.stack_table.specs.Table.{Shape, Tabled, plain, columns, right, pivoted_at, clear_objective}

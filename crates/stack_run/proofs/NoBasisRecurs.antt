@@ -1,14 +1,14 @@
 -- Bland's rule: within a phase no set of basic columns recurs.
-use Rattle.std.proofs.Common.{◌≡◌, ◌≢◌, refl, sym, ap, subst, ◌∙◌, ℕ, zero, suc, ◌<◌, ◌≤◌, ◌+◌, ◌-◌, true, arith}
-use native.Mathlib.Decide.{ℕ_discrete, dec_le}
-use lib.IntN.{pos, negsuc}
-use Rattle.stack_algebra.proofs.Ring.{Exp, num, ◌⊕◌, ◌⊖◌, ◌⊗◌, ring1, ring2, ring3, mul-zero, add-zero}
-use Rattle.stack_algebra.proofs.Sums.{sum, sum_zero, at-other, at-same}
-use Rattle.stack_algebra.proofs.Pivots.{pivoted-other, column_kept, changed-same, changed-other}
-use Rattle.stack_algebra.specs.Ordered.{Ordered, Sign, minus, nought, plus, opposite, product_sign}
-use Rattle.stack_algebra.specs.Rows.{NonNeg, quotient, changed, Tableau, next}
-use Rattle.stack_algebra.proofs.Signs.{nonneg_plus, nonneg_by, nonneg_sum, nonneg_add, nonneg_mul, nonneg_neg-minus}
-use Rattle.stack_algebra.proofs.Signs.{zero_parts, inv-plus}
+use Rattle.std.proofs.Common.{◌≡◌, ◌≢◌, refl, sym, ap, subst, ◌∙◌, ℕ, zero, suc, ◌<◌, ◌≤◌, ◌+◌, ◌-◌, true, arith, pos}
+use Rattle.std.proofs.Common.{negsuc}
+use Rattle.stack_rational.proofs.Common.{ℕ_discrete, dec_le, Exp, num, ◌⊕◌, ◌⊖◌, ◌⊗◌, ring1, ring2, ring3, sum_zero}
+use Rattle.stack_rational.proofs.Common.{at-other, at-same, changed-same, changed-other, Ordered, Sign, minus, nought}
+use Rattle.stack_rational.proofs.Common.{plus, NonNeg, changed, Tableau, next, nonneg_by, pivoted-other, opposite}
+use Rattle.stack_rational.proofs.Common.{product_sign, quotient, nonneg_plus, nonneg_sum, nonneg_add}
+use Rattle.stack_algebra.proofs.Ring.{mul-zero, add-zero}
+use Rattle.stack_algebra.proofs.Sums.{sum}
+use Rattle.stack_algebra.proofs.Pivots.{column_kept}
+use Rattle.stack_algebra.proofs.Signs.{nonneg_mul, nonneg_neg-minus, zero_parts, inv-plus}
 use Rattle.stack_algebra.proofs.Combinations.{dot_own_cells}
 use Rattle.stack_table.specs.Table.{Shape, Tabled, columns, right, pivoted_at}
 use Rattle.stack_bland.specs.Choice.{is_negative_sign}
@@ -101,12 +101,11 @@ module _ (F : Ordered) (m n : ℕ) (A : ℕ → ℕ → F.C) (own : ℕ → F.C)
   -- no column is basic in two rows
   pub distinct : (cell : ℕ → ℕ → F.C) (basic : ℕ → ℕ) → Tableau F m n A own cell basic → (i k : ℕ) → i < m →
       k < m → basic i ≡ basic k → i ≡ k
-  distinct cell basic t i k li lk e = go (ℕ_discrete i k)
-    where
-      go : Dec (i ≡ k) → i ≡ k
-      go (yes d) = d
-      go (no d) = absurd (one_not-zero F (sym (at-same F.ring i (F.of (pos 1))) ∙ sym (t.unit i i li li)
-          ∙ ap (cell i) e ∙ t.unit i k li lk ∙ at-other F.ring k i (F.of (pos 1)) d))
+  distinct cell basic t i k li lk e = elim (ℕ_discrete i k) [
+    | yes d ↦ d
+    | no d ↦ absurd (one_not-zero F (sym (at-same F.ring i (F.of (pos 1))) ∙ sym (t.unit i i li li)
+        ∙ ap (cell i) e ∙ t.unit i k li lk ∙ at-other F.ring k i (F.of (pos 1)) d))
+  ]
 
 -- a sequence of tables of one phase, each from the one before it by its due pivot
 module _ (F : Ordered) (S : Shape) (A : ℕ → ℕ → F.C) (own : ℕ → F.C) (among : ℕ) (T : ℕ → Tabled F.C)
@@ -314,12 +313,11 @@ module _ (F : Ordered) (S : Shape) (A : ℕ → ℕ → F.C) (own : ℕ → F.C)
 
         -- s, the column that enters in the turn p, is below t
         s_below : c p < c g.index
-        s_below = go (ℕ_discrete (c p) (c g.index))
-          where
-            go : Dec (c p ≡ c g.index) → c p < c g.index
-            go (yes e) = absurd (not_basic-entering p lp
-                (record { row = r p; below = dp.leaves.below; there = leaves_t ∙ sym e }))
-            go (no d) = let l = g.most p lp in omega arith
+        s_below = elim (ℕ_discrete (c p) (c g.index)) [
+          | yes e ↦ absurd (not_basic-entering p lp
+              (record { row = r p; below = dp.leaves.below; there = leaves_t ∙ sym e }))
+          | no d ↦ let l = g.most p lp in omega arith
+        ]
 
         -- below t no objective cell of the turn q is negative
         below-nonneg : (j : ℕ) → j < c g.index → NonNeg F ((T g.index).cell m j)
@@ -335,13 +333,12 @@ module _ (F : Ordered) (S : Shape) (A : ℕ → ℕ → F.C) (own : ℕ → F.C)
         -- a basic column with such a cell is t or below
         at_most : (i : ℕ) → i < m → F.sign ((T g.index).cell m ((T p).basic i)) ≢ nought →
             (T p).basic i ≤ c g.index
-        at_most i l d = go (dec_le ((T p).basic i) (c g.index))
-          where
-            go : Dec ((T p).basic i ≤ c g.index) → (T p).basic i ≤ c g.index
-            go (yes k) = k
-            go (no k) = absurd (not_basic ((T p).basic i) d
-                (above_stays ((T p).basic i) (omega arith) p g.index lp g.below
-                (record { row = i; below = l; there = refl })))
+        at_most i l d = elim (dec_le ((T p).basic i) (c g.index)) [
+          | yes k ↦ k
+          | no k ↦ absurd (not_basic ((T p).basic i) d
+              (above_stays ((T p).basic i) (omega arith) p g.index lp g.below
+              (record { row = i; below = l; there = refl })))
+        ]
 
         -- a row whose product is positive would have left in place of t
         tie : (i : ℕ) → i < m → (T p).basic i < c g.index →

@@ -1,6 +1,6 @@
 -- A turn of a phase and the rows of phase 2, as the loops take them.
 use Rattle.std.proofs.Common.{◌≡◌, refl, sym, ap, ◌∙◌, ℕ, zero, suc, ◌+◌, ◌<◌, Bool, Option, Some, None, arith}
-use Rattle.stack_algebra.specs.Ordered.{Ordered}
+use Rattle.stack_rational.proofs.Common.{Ordered}
 use Rattle.stack_rational.specs.declared.exact.Op.{Op}
 use Rattle.stack_table.specs.declared.types.PivotWide.{PivotWide}
 use Rattle.stack_table.specs.declared.types.Step.TheVariants.{Ratio}
@@ -8,8 +8,8 @@ use Rattle.stack_table.specs.Table.{Shape, Tabled, pivoted_at}
 use Rattle.stack_table.specs.Spots.{pivot_spot}
 use Rattle.stack_bland.specs.Choice.{entering, leaving, ratio_row}
 use Rattle.stack_run.specs.WrittenRun.{Choice, stays, rises, due, refused, PhaseStop, settled, unlimited, wide_at}
-use Rattle.stack_run.specs.WrittenRun.{spent, after_phase, on_spot, on_choice, chosen_at, chosen_in, choose}
-use Rattle.stack_run.specs.WrittenRun.{turns, drive_row, drives}
+use Rattle.stack_run.specs.WrittenRun.{spent, after_phase, on_spot, on_choice, chosen_at, chosen_in, choose, turns}
+use Rattle.stack_run.specs.WrittenRun.{drive_row, drives}
 
 module _ (F : Ordered) (S : Shape) (is_too_wide : Op → F.C → F.C → Bool) where
   -- the choice by what is found: the column; the ratio that is too wide and the leaving row

@@ -1,15 +1,13 @@
 -- A phase has fewer pivots than there are sets of columns, so none is over a budget of 2^columns.
-use Rattle.std.proofs.Common.{◌≡◌, ◌≢◌, refl, sym, ap, subst, ℕ, zero, suc, ◌<◌, ◌≤◌, ◌+◌, ◌-◌, ◌^◌, Bool}
-use Rattle.std.proofs.Common.{arith, Option, Some, None}
-use native.Mathlib.Decide.{ℕ_discrete, dec_le}
-use Rattle.stack_algebra.specs.Ordered.{Ordered}
-use Rattle.stack_algebra.specs.Rows.{Tableau}
+use Rattle.std.proofs.Common.{◌≡◌, ◌≢◌, refl, sym, ap, subst, ℕ, zero, suc, ◌<◌, ◌≤◌, ◌+◌, ◌-◌, ◌^◌, Bool, arith}
+use Rattle.std.proofs.Common.{Option, Some, None}
+use Rattle.stack_rational.proofs.Common.{ℕ_discrete, dec_le, Ordered, Tableau}
 use Rattle.stack_rational.specs.declared.exact.Op.{Op}
 use Rattle.stack_table.specs.declared.types.PivotWide.{PivotWide}
 use Rattle.stack_table.specs.Table.{Shape, Tabled, plain, columns, pivoted_at}
 use Rattle.stack_table.specs.Spots.{pivot_spot}
-use Rattle.stack_run.specs.WrittenRun.{Choice, stays, rises, due, refused, choose, settled}
-use Rattle.stack_run.specs.WrittenRun.{spent, over, on_spot, on_choice, turns}
+use Rattle.stack_run.specs.WrittenRun.{Choice, stays, rises, due, refused, choose, settled, spent, over, on_spot}
+use Rattle.stack_run.specs.WrittenRun.{on_choice, turns}
 use Rattle.stack_run.proofs.TurnsKeep.{Due, Chosen, chosen}
 use Rattle.stack_run.proofs.ThreePhases.{due_tableau}
 use Rattle.stack_run.proofs.Pigeonhole.{pigeonhole}

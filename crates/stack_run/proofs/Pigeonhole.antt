@@ -1,7 +1,7 @@
 -- More numbers than places: two have the same place. After std_collections, whose lemma a crate cannot name.
-use Rattle.std.proofs.Common.{◌≡◌, refl, sym, ◌∙◌, ℕ, zero, suc, ◌<◌, ◌≤◌, ◌⊎◌, inl, inr, Bool, true, false, cond}
-use Rattle.std.proofs.Common.{eqb, arith}
-use Rattle.std.proofs.lemmas.Bool.{eqb-true, eqb-false}
+use Rattle.std.proofs.Common.{◌≡◌, refl, sym, ◌∙◌, ℕ, zero, suc, ◌<◌, ◌≤◌, ◌⊎◌, inl, inr, Bool, true, false, cond, eqb}
+use Rattle.std.proofs.Common.{arith, eqb-true}
+use Rattle.stack_rational.proofs.Common.{eqb-false}
 
 -- f, but f last in place of m
 abbrev avoiding : (ℕ → ℕ) → ℕ → ℕ → ℕ → ℕ

@@ -1,9 +1,8 @@
 -- What the four ends give over the first rows A: m rows, the columns below w that may enter, the right side in
 -- column n.
-use Rattle.std.specs.Prelude.{◌≡◌, ◌≢◌, ℕ, ◌<◌}
-use lib.IntN.{pos}
+use Rattle.std.proofs.Common.{◌≡◌, ◌≢◌, ℕ, ◌<◌, pos}
+use Rattle.stack_rational.proofs.Common.{Ordered, minus, plus}
 use Rattle.stack_algebra.specs.Sums.{sum}
-use Rattle.stack_algebra.specs.Ordered.{Ordered, minus, plus}
 
 module _ (F : Ordered) (m w n : ℕ) (A : ℕ → ℕ → F.C) where
   -- the columns below w in the amounts x, none negative, make the right side times the scale

@@ -1,10 +1,7 @@
 -- The three phases keep what they should, and so the ends of a run give over the first rows what they should.
 use Rattle.std.proofs.Common.{◌≡◌, ◌≢◌, refl, subst, ℕ, zero, suc, ◌<◌, ◌≤◌, Bool, true, false, cond, leb, not, arith}
-use Rattle.std.proofs.Common.{Option, Some, None}
-use Rattle.std.proofs.lemmas.Bool.{leb-true, leb-false}
-use lib.IntN.{pos}
-use Rattle.stack_algebra.specs.Ordered.{Ordered, Sign, minus, nought, plus}
-use Rattle.stack_algebra.proofs.Search.{least-none, least-some}
+use Rattle.std.proofs.Common.{Option, Some, None, leb-true, leb-false, pos}
+use Rattle.stack_rational.proofs.Common.{Ordered, Sign, minus, nought, plus, least-some, least-none}
 use Rattle.stack_rational.specs.declared.exact.Op.{Op}
 use Rattle.stack_table.specs.declared.types.PivotWide.{PivotWide}
 use Rattle.stack_table.specs.Table.{Shape, Tabled, plain, columns, right, objective, pivoted_at, clear_objective}
@@ -20,9 +17,9 @@ use Rattle.stack_run.proofs.Solutions.{solution, ray_of}
 use Rattle.stack_run.proofs.Duality.{motion, FirstRows, infeasible_refutes, feasible_balances, some_row_leaves}
 use Rattle.stack_run.proofs.Duality.{values_balance, optimal_bounds, ray_rises}
 use Rattle.stack_run.proofs.TurnsKeep.{Stopped, turns_keep}
-use Rattle.stack_run.proofs.ThreePhases.{Second, first_step, first_stands, third_step, second_begins}
-use Rattle.stack_run.proofs.ThreePhases.{second_pivot, second_skips, third_begins, sign-minus, sign_not-minus}
-use Rattle.stack_run.proofs.ThreePhases.{sign-nought, sign_not-nought}
+use Rattle.stack_run.proofs.ThreePhases.{Second, first_step, first_stands, third_step, second_begins, second_pivot}
+use Rattle.stack_run.proofs.ThreePhases.{second_skips, third_begins, sign-minus, sign_not-minus, sign-nought}
+use Rattle.stack_run.proofs.ThreePhases.{sign_not-nought}
 
 module _ (F : Ordered) (S : Shape) (A : ℕ → ℕ → F.C) where
   abbrev m : ℕ

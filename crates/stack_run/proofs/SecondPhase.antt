@@ -1,12 +1,7 @@
 -- Phase 2: each pivot takes an artificial column out, so no set of basic columns recurs.
 use Rattle.std.proofs.Common.{◌≡◌, refl, sym, ap, subst, ◌∙◌, ℕ, zero, suc, ◌<◌, ◌≤◌, ◌+◌, ◌⊎◌, inl, inr, Bool, true}
-use Rattle.std.proofs.Common.{false, cond, leb, not, arith, Option, Some, None}
-use Rattle.std.proofs.lemmas.Bool.{leb-true}
-use native.Mathlib.Decide.{ℕ_discrete}
-use Rattle.stack_algebra.specs.Ordered.{Ordered}
-use Rattle.stack_algebra.specs.Rows.{none, Tableau}
-use Rattle.stack_algebra.proofs.Pivots.{changed-same, changed-other}
-use Rattle.stack_algebra.proofs.Search.{least-some}
+use Rattle.std.proofs.Common.{false, cond, leb, not, arith, Option, Some, None, leb-true}
+use Rattle.stack_rational.proofs.Common.{ℕ_discrete, Ordered, Tableau, changed-same, changed-other, least-some, none}
 use Rattle.stack_rational.specs.declared.exact.Op.{Op}
 use Rattle.stack_table.specs.declared.types.PivotWide.{PivotWide}
 use Rattle.stack_table.specs.Table.{Shape, Tabled, plain, columns, pivoted_at}

@@ -1,9 +1,8 @@
 -- A set of basic columns as a number below 2^n: its binary digits say which columns are in it.
-use Rattle.std.proofs.Common.{◌≡◌, refl, sym, ap, subst, ◌∙◌, ℕ, zero, suc, ◌<◌, ◌+◌, ◌^◌, Bool, true, false, cond}
-use Rattle.std.proofs.Common.{eqb, ◌||◌, arith}
-use Rattle.std.proofs.lemmas.Bool.{eqb-true, eq-eqb}
+use Rattle.std.proofs.Common.{◌≡◌, refl, sym, ap, subst, ◌∙◌, ℕ, zero, suc, ◌<◌, ◌+◌, ◌^◌, Bool, true, false, cond, eqb}
+use Rattle.std.proofs.Common.{◌||◌, arith, eqb-true, eq-eqb}
+use Rattle.stack_rational.proofs.Common.{ℕ_discrete}
 use Rattle.std.proofs.Math.Nat.{pow-suc}
-use native.Mathlib.Decide.{ℕ_discrete}
 use Rattle.stack_run.specs.BasicSets.{IsBasic, SameSet}
 
 -- whether one of the first n has p

@@ -1,11 +1,10 @@
 -- Values and rays as vectors that the first rows annul, and what an objective counts on them.
-use Rattle.std.proofs.Common.{◌≡◌, refl, sym, ap, ◌∙◌, ℕ, suc, ◌<◌, Bool, true, false, cond, eqb, arith}
-use lib.IntN.{pos, negsuc}
-use Rattle.stack_algebra.proofs.Ring.{Ring, Exp, num, ◌⊕◌, ◌⊖◌, ◌⊗◌, ring1, ring3, mul-zero}
-use Rattle.stack_algebra.proofs.Sums.{sum, sum_one, sum_zero, sum_add, at, at-other, at-same}
-use Rattle.stack_algebra.specs.Ordered.{Ordered}
-use Rattle.stack_algebra.specs.Rows.{NonNeg, dot, Annuls, spread, Tableau}
-use Rattle.stack_algebra.proofs.Signs.{nonneg_zero, nonneg_sum}
+use Rattle.std.proofs.Common.{◌≡◌, refl, sym, ap, ◌∙◌, ℕ, suc, ◌<◌, Bool, true, false, cond, eqb, arith, pos, negsuc}
+use Rattle.stack_rational.proofs.Common.{Exp, num, ◌⊕◌, ◌⊖◌, ◌⊗◌, ring1, ring3, sum_zero, at, at-other, at-same}
+use Rattle.stack_rational.proofs.Common.{Ordered, NonNeg, Tableau, sum_one, dot, spread, nonneg_zero, nonneg_sum}
+use Rattle.stack_algebra.proofs.Ring.{Ring, mul-zero}
+use Rattle.stack_algebra.proofs.Sums.{sum, sum_add}
+use Rattle.stack_algebra.specs.Rows.{Annuls}
 use Rattle.stack_algebra.proofs.Combinations.{dot_own_cells, dot_spread}
 
 module _ (R : Ring) where

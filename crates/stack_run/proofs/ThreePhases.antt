@@ -1,17 +1,14 @@
 -- The tables of the three phases: each turn keeps them, and each phase begins with one.
 use Rattle.std.proofs.Common.{◌≡◌, ◌≢◌, refl, sym, ap, subst, ◌∙◌, ℕ, suc, ◌<◌, ◌≤◌, ◌⊎◌, inl, inr, true, false, eqb}
-use Rattle.std.proofs.Common.{not, arith, Option, Some, None}
-use Rattle.std.proofs.lemmas.Bool.{eqb-true, eqb-false}
-use native.Mathlib.Decide.{ℕ_discrete}
-use lib.IntN.{pos, negsuc}
-use Rattle.stack_algebra.proofs.Ring.{num, ◌⊕◌, ◌⊖◌, ◌⊗◌, ring1, ring2, add-zero}
-use Rattle.stack_algebra.proofs.Sums.{sum, sum_zero, at-other, at-same}
-use Rattle.stack_algebra.proofs.Pivots.{pivoted-other, column_kept, changed-same, changed-other}
-use Rattle.stack_algebra.specs.Ordered.{Ordered, Sign, minus, nought, plus}
-use Rattle.stack_algebra.specs.Search.{least}
-use Rattle.stack_algebra.proofs.Signs.{nonneg_by}
-use Rattle.stack_algebra.proofs.Search.{IsLeast, least-none, least-some}
-use Rattle.stack_algebra.specs.Rows.{none, dot, Combination, changed, Tableau, next}
+use Rattle.std.proofs.Common.{not, arith, Option, Some, None, eqb-true, pos, negsuc}
+use Rattle.stack_rational.proofs.Common.{ℕ_discrete, num, ◌⊕◌, ◌⊖◌, ◌⊗◌, ring1, ring2, sum_zero, at-other, at-same}
+use Rattle.stack_rational.proofs.Common.{changed-same, changed-other, Ordered, Sign, minus, nought, plus, least}
+use Rattle.stack_rational.proofs.Common.{nonneg_by, least-some, changed, Tableau, next, eqb-false, pivoted-other}
+use Rattle.stack_rational.proofs.Common.{least-none, none, dot, Combination}
+use Rattle.stack_algebra.proofs.Ring.{add-zero}
+use Rattle.stack_algebra.proofs.Sums.{sum}
+use Rattle.stack_algebra.proofs.Pivots.{column_kept}
+use Rattle.stack_algebra.proofs.Search.{IsLeast}
 use Rattle.stack_algebra.proofs.Tableaus.{tableau_after, right_sides}
 use Rattle.stack_table.specs.Table.{Shape, Tabled, plain, columns, right, pivoted_at, with_objective, factor_objective}
 use Rattle.stack_table.specs.Table.{clear_objective, set_factor_objective}

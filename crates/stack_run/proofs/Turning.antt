@@ -1,16 +1,15 @@
 -- The turns of a phase, and that the run goes on from each table at which it stands.
-use Rattle.std.proofs.Common.{◌≡◌, ◌≢◌, refl, sym, ap, subst, ◌∙◌, ℕ, zero, suc, ◌<◌, ◌≤◌, ◌+◌, ◌-◌, Bool, false}
-use Rattle.std.proofs.Common.{cond, arith, Option, Some, None}
-use native.Mathlib.Decide.{ℕ_discrete}
-use Rattle.stack_algebra.specs.Ordered.{Ordered, Sign, minus, nought, plus}
+use Rattle.std.proofs.Common.{◌≡◌, ◌≢◌, refl, sym, ap, subst, ◌∙◌, ℕ, zero, suc, ◌<◌, ◌≤◌, ◌+◌, ◌-◌, Bool, false, cond}
+use Rattle.std.proofs.Common.{arith, Option, Some, None}
+use Rattle.stack_rational.proofs.Common.{ℕ_discrete, Ordered, Sign, minus, nought, plus}
 use Rattle.stack_rational.specs.declared.exact.Op.{Op}
 use Rattle.stack_table.specs.declared.types.PivotWide.{PivotWide}
 use Rattle.stack_table.specs.Table.{Shape, Tabled, plain, pivoted_at, clear_objective, set_factor_objective}
 use Rattle.stack_table.specs.Spots.{pivot_spot}
 use Rattle.stack_bland.specs.Choice.{is_negative_sign}
-use Rattle.stack_run.specs.WrittenRun.{Choice, stays, rises, due, refused, choose, settled, infeasible}
-use Rattle.stack_run.specs.WrittenRun.{after_phase, on_spot, on_choice, turns, drive_row, drives, third_end}
-use Rattle.stack_run.specs.WrittenRun.{past_first, first_end, written_run}
+use Rattle.stack_run.specs.WrittenRun.{Choice, stays, rises, due, refused, choose, settled, infeasible, after_phase}
+use Rattle.stack_run.specs.WrittenRun.{on_spot, on_choice, turns, drive_row, drives, third_end, past_first, first_end}
+use Rattle.stack_run.specs.WrittenRun.{written_run}
 use Rattle.stack_run.specs.Reached.{then_on, unrefused, turned_by, after_turns, ComesToSecond, ReachesInSecond}
 use Rattle.stack_run.specs.Reached.{ReachesInThird, drives_from, third_from, second_from, GoesOn}
 use Rattle.stack_run.proofs.PhaseBudgets.{IsDue, row_of, column_of, moved, tables}

@@ -1,8 +1,7 @@
 -- What a choice says of its table, and that a phase keeps what each due pivot keeps.
 use Rattle.std.proofs.Common.{◌≡◌, ◌≢◌, refl, ℕ, zero, suc, ◌<◌, Bool, false, Option, Some, None}
-use Rattle.stack_algebra.specs.Ordered.{Ordered, plus}
-use Rattle.stack_algebra.specs.Rows.{quotient}
-use Rattle.stack_algebra.proofs.Search.{IsLeast, least-none, least-some}
+use Rattle.stack_rational.proofs.Common.{Ordered, plus, least-some, quotient, least-none}
+use Rattle.stack_algebra.proofs.Search.{IsLeast}
 use Rattle.stack_rational.specs.declared.exact.Op.{Op}
 use Rattle.stack_table.specs.declared.types.PivotWide.{PivotWide}
 use Rattle.stack_table.specs.Table.{Shape, Tabled, right, objective, pivoted_at}

@@ -1,10 +1,9 @@
 -- From the flipped first rows back to the rows of the problem.
-use Rattle.std.proofs.Common.{◌≡◌, ◌≢◌, refl, sym, ap, subst, ◌∙◌, ℕ, ◌<◌, Bool, true, false, cond, arith}
-use lib.IntN.{ℤ, pos, negsuc}
-use Rattle.stack_algebra.specs.Ordered.{Ordered, minus}
+use Rattle.std.proofs.Common.{◌≡◌, ◌≢◌, refl, sym, ap, subst, ◌∙◌, ℕ, ◌<◌, Bool, true, false, cond, arith, ℤ, pos}
+use Rattle.std.proofs.Common.{negsuc}
+use Rattle.stack_rational.proofs.Common.{Ordered, minus, num, Exp, ◌⊗◌, ring1, ring2, ring3, sum_same, sum_scale}
 use Rattle.stack_algebra.proofs.Integers.{neg_is_mul}
-use Rattle.stack_algebra.proofs.Ring.{num, Exp, ◌⊗◌, ring1, ring2, ring3}
-use Rattle.stack_algebra.proofs.Sums.{sum, sum_same, sum_scale}
+use Rattle.stack_algebra.proofs.Sums.{sum}
 use Rattle.stack_table.specs.Table.{plain, columns}
 use Rattle.stack_table.specs.Problem.{Problem, flipped, turned}
 use Rattle.stack_table.specs.WrittenTable.{first_row}

@@ -1,14 +1,9 @@
 -- The value and the rate of a column, by the row in which it is basic, are those of the sums over all rows.
 use Rattle.std.proofs.Common.{◌≡◌, ◌≢◌, refl, sym, ap, ◌∙◌, ℕ, ◌<◌, Bool, true, false, cond, eqb, Option, Some, None}
-use Rattle.std.proofs.Common.{arith}
-use Rattle.std.proofs.lemmas.Bool.{eqb-true, eqb-false}
-use native.Mathlib.Decide.{ℕ_discrete}
-use lib.IntN.{pos, negsuc}
-use Rattle.stack_algebra.specs.Ordered.{Ordered, minus}
-use Rattle.stack_algebra.specs.Rows.{spread, Tableau}
+use Rattle.std.proofs.Common.{arith, eqb-true, pos, negsuc}
+use Rattle.stack_rational.proofs.Common.{ℕ_discrete, Ordered, minus, Tableau, sum_zero, at, at-other, at-same}
+use Rattle.stack_rational.proofs.Common.{least-some, eqb-false, spread, sum_one, least-none}
 use Rattle.stack_algebra.proofs.Ring.{add-zero}
-use Rattle.stack_algebra.proofs.Sums.{sum_one, sum_zero, at, at-other, at-same}
-use Rattle.stack_algebra.proofs.Search.{least-none, least-some}
 use Rattle.stack_table.specs.Table.{Shape, Tabled, columns}
 use Rattle.stack_run.specs.EndNumbers.{basic_row, value_in, column_value, rate_in, rate}
 use Rattle.stack_run.proofs.Solutions.{solution, ray_of}

@@ -1,12 +1,9 @@
 -- A run under a rule that finds less too wide is the same run, unless the stricter one is refused.
-use Rattle.std.proofs.Common.{◌≡◌, refl, sym, ap, subst, ◌∙◌, ℕ, zero, suc, Bool, true, false, cond, leb, Option}
-use Rattle.std.proofs.Common.{Some, None}
-use Rattle.stack_algebra.specs.Ordered.{Ordered}
-use Rattle.stack_algebra.specs.Search.{first, or_else, only_if}
-use Rattle.stack_algebra.proofs.OrderedFractions.{ordered_fractions}
+use Rattle.std.proofs.Common.{◌≡◌, refl, sym, ap, subst, ◌∙◌, ℕ, zero, suc, Bool, true, false, cond, leb, Option, Some}
+use Rattle.std.proofs.Common.{None}
+use Rattle.stack_rational.proofs.Common.{Ordered, first, or_else, only_if, ordered_fractions, is_too_wide}
 use Rattle.stack_rational.specs.declared.exact.Op.{Op}
 use Rattle.stack_rational.specs.declared.exact.Op.TheVariants.{Difference, Product, Quotient}
-use Rattle.stack_rational.specs.TooWide.{is_too_wide}
 use Rattle.stack_rational.proofs.WiderAgrees.{wider_is_never_too_wide}
 use Rattle.stack_table.specs.declared.types.PivotWide.{PivotWide}
 use Rattle.stack_table.specs.declared.types.Step.{Step}
@@ -18,8 +15,8 @@ use Rattle.stack_table.specs.WrittenTable.{written_table}
 use Rattle.stack_bland.specs.Choice.{is_negative_sign, is_plus, entering, leaving, ratio_row}
 use Rattle.stack_run.specs.WrittenRun.{Choice, stays, rises, due, refused, PhaseStop, settled, unlimited, wide_at}
 use Rattle.stack_run.specs.WrittenRun.{spent, End, infeasible, feasible, optimal, ray, wide, over, never, after_phase}
-use Rattle.stack_run.specs.WrittenRun.{on_spot, on_choice, chosen_at, chosen_in, choose, turns, driven_column}
-use Rattle.stack_run.specs.WrittenRun.{drive_at, drive_row, drives, third_end, past_first, first_end, written_run}
+use Rattle.stack_run.specs.WrittenRun.{on_spot, on_choice, chosen_at, chosen_in, choose, turns, driven_column, drive_at}
+use Rattle.stack_run.specs.WrittenRun.{drive_row, drives, third_end, past_first, first_end, written_run}
 use Rattle.stack_run.specs.ProblemRun.{run_at, IsNowhereTooWide, WiderRunIsSame}
 
 -- y is x, unless x is refused: for spots, choices, stops and ends

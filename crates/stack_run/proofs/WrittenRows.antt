@@ -1,14 +1,8 @@
 -- The rows of a written table: plain columns, artificial unit columns, right sides that aren't negative.
 use Rattle.std.proofs.Common.{◌≡◌, refl, sym, ap, ◌∙◌, ℕ, zero, suc, ◌<◌, ◌≤◌, ◌+◌, Bool, true, false, cond, eqb, arith}
-use Rattle.std.proofs.lemmas.Bool.{lt-ltb, le-ltb, eq-eqb}
-use native.Mathlib.Decide.{ℕ_discrete}
-use lib.IntN.{ℤ, pos, negsuc}
-use Rattle.stack_algebra.specs.Ordered.{Ordered}
-use Rattle.stack_algebra.specs.Sums.{at}
-use Rattle.stack_algebra.specs.Rows.{NonNeg}
-use Rattle.stack_algebra.proofs.Sums.{at-other, at-same}
-use Rattle.stack_algebra.proofs.Signs.{nonneg_zero, nonneg_plus, nonneg_add, nonneg_by}
-use Rattle.stack_algebra.proofs.Pivots.{changed-other}
+use Rattle.std.proofs.Common.{lt-ltb, le-ltb, eq-eqb, ℤ, pos, negsuc}
+use Rattle.stack_rational.proofs.Common.{ℕ_discrete, Ordered, at, NonNeg, at-other, at-same, nonneg_by, changed-other}
+use Rattle.stack_rational.proofs.Common.{nonneg_zero, nonneg_plus, nonneg_add}
 use Rattle.stack_table.specs.Table.{plain, columns}
 use Rattle.stack_table.specs.Problem.{Problem, flipped, turned, is_below_zero}
 use Rattle.stack_table.specs.WrittenTable.{first_row, first_objective, first_basic, written_table}
@@ -54,13 +48,12 @@ module _ (F : Ordered) (P : Problem) where
 
   -- an artificial column is a unit column
   at-moved : (l k : ℕ) → at F.ring (w + l) (F.of (pos 1)) (w + k) ≡ at F.ring k (F.of (pos 1)) l
-  at-moved l k = go (ℕ_discrete l k)
-    where
-      go : Dec (l ≡ k) → at F.ring (w + l) (F.of (pos 1)) (w + k) ≡ at F.ring k (F.of (pos 1)) l
-      go (yes e) = ap (λ z. at F.ring (w + z) (F.of (pos 1)) (w + k)) e ∙ at-same F.ring (w + k) (F.of (pos 1))
-          ∙ sym (ap (at F.ring k (F.of (pos 1))) e ∙ at-same F.ring k (F.of (pos 1)))
-      go (no d) = at-other F.ring (w + l) (w + k) (F.of (pos 1)) (λ e. d (omega arith))
-          ∙ sym (at-other F.ring k l (F.of (pos 1)) d)
+  at-moved l k = elim (ℕ_discrete l k) [
+    | yes e ↦ ap (λ z. at F.ring (w + z) (F.of (pos 1)) (w + k)) e ∙ at-same F.ring (w + k) (F.of (pos 1))
+        ∙ sym (ap (at F.ring k (F.of (pos 1))) e ∙ at-same F.ring k (F.of (pos 1)))
+    | no d ↦ at-other F.ring (w + l) (w + k) (F.of (pos 1)) (λ e. d (omega arith))
+        ∙ sym (at-other F.ring k l (F.of (pos 1)) d)
+  ]
 
   -- each first row has 1 in its own artificial column, and 0 in the others
   pub first_rows : FirstRows F m w A

@@ -1,9 +1,6 @@
 -- What the written run of a written table gives.
-use Rattle.std.proofs.Common.{◌≡◌, sym, ap, subst, ◌∙◌, ℕ, ◌≤◌, Some}
-use lib.IntN.{ℤ}
-use Rattle.stack_algebra.specs.Fraction.{Fraction}
-use Rattle.stack_algebra.proofs.OrderedFractions.{ordered_fractions}
-use Rattle.stack_rational.specs.TooWide.{is_too_wide}
+use Rattle.std.proofs.Common.{◌≡◌, sym, ap, subst, ◌∙◌, ℕ, ◌≤◌, Some, ℤ}
+use Rattle.stack_rational.proofs.Common.{Fraction, ordered_fractions, is_too_wide}
 use Rattle.stack_table.specs.Table.{Shape, Tabled, columns}
 use Rattle.stack_table.specs.Problem.{Problem}
 use Rattle.stack_table.specs.Lent.{problem_of}

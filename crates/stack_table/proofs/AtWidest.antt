@@ -1,14 +1,11 @@
 -- Nothing of a written table is too wide for an ample greatest value.
-use Rattle.std.proofs.Common.{◌≡◌, refl, sym, ap, subst, ◌∙◌, ℕ, zero, suc, ◌*◌, ◌^◌, ◌≤◌, Bool, true, false, not}
-use Rattle.std.proofs.Common.{cond, None, arith}
-use Rattle.std.proofs.lemmas.Int.{ints}
-use lib.IntN.{ℤ, pos, negsuc, nat_abs, ◌+ℤ◌, ◌*ℤ◌}
-use Rattle.stack_algebra.proofs.Fractions.{of, add, neg, neg_is, of_add, of_mul}
-use Rattle.stack_algebra.proofs.OrderedFractions.{ordered_fractions}
-use Rattle.stack_algebra.proofs.Search.{first, or_else, only_if, first_all-none}
-use Rattle.stack_rational.specs.Stored.{Fits, SumFits, Within}
+use Rattle.std.proofs.Common.{◌≡◌, refl, sym, ap, subst, ◌∙◌, ℕ, zero, suc, ◌*◌, ◌^◌, ◌≤◌, Bool, true, false, not, cond}
+use Rattle.std.proofs.Common.{None, arith, ℤ, pos, negsuc, nat_abs, ◌+ℤ◌, ◌*ℤ◌}
+use Rattle.stack_rational.proofs.Common.{ints, of, add, neg, ordered_fractions, first, or_else, only_if, first_all-none}
+use Rattle.stack_rational.proofs.Common.{Within, is_too_wide, neg_is, SumFits}
+use Rattle.stack_algebra.proofs.Fractions.{of_add, of_mul}
+use Rattle.stack_rational.specs.Stored.{Fits}
 use Rattle.stack_rational.specs.declared.exact.Op.TheVariants.{Difference}
-use Rattle.stack_rational.specs.TooWide.{is_too_wide}
 use Rattle.stack_rational.proofs.WideWholes.{num_of, den_of, whole_fits}
 use Rattle.stack_rational.proofs.ShortCuts.{same_den_fits}
 use Rattle.stack_table.specs.declared.problem.BuildError.{BuildError}

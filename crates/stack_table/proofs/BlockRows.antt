@@ -1,20 +1,15 @@
 -- A block in parts: the rows above a row, that row, and the rows below it.
-use Rattle.std.proofs.Common.{◌≡◌, ◌≢◌, refl, sym, ap, ◌∙◌, ℕ, suc, ◌<◌, ◌≤◌, ◌+◌, ◌-◌, ◌*◌, List, []}
-use Rattle.std.proofs.Common.{◌++◌, map, length, get_or, take, drop, arith, Bool, true, cond, length-append}
-use Rattle.std.proofs.Common.{length-drop, append-nil}
-use Rattle.std.proofs.lemmas.List.{map-append, take-map, drop-map, get_or_append_left, get_or-append-add, get_or-take}
-use Rattle.std.proofs.lemmas.List.{get_or-drop, get_or_past, take-append-drop, length-take-le, length-map}
-use Rattle.std.proofs.lemmas.Bool.{lt-ltb, le-ltb}
+use Rattle.std.proofs.Common.{◌≡◌, ◌≢◌, refl, sym, ap, ◌∙◌, ℕ, suc, ◌<◌, ◌≤◌, ◌+◌, ◌-◌, ◌*◌, List, [], ◌++◌, map}
+use Rattle.std.proofs.Common.{length, get_or, take, drop, arith, Bool, true, cond, length-append, length-drop}
+use Rattle.std.proofs.Common.{append-nil, get_or-append-add, get_or-take, get_or-drop, take-append-drop, length-take-le}
+use Rattle.std.proofs.Common.{lt-ltb, le-ltb, ℤ, pos}
+use Rattle.stack_rational.proofs.Common.{get_or_past, length-map, dec_lt, Fraction, of, fraction_fits, is_zero}
+use Rattle.stack_rational.proofs.Common.{get_or_append_left}
+use Rattle.std.proofs.lemmas.List.{map-append, take-map, drop-map}
 use Rattle.std.proofs.lemmas.Nat.{mul-le}
 use Rattle.std.proofs.Math.Nat.{add-mul, suc-mul}
-use native.Mathlib.Decide.{dec_lt}
 use borrow.Rule.Slice.PartMut.{put_mid}
-use lib.IntN.{ℤ, pos}
-use Rattle.stack_algebra.specs.Fraction.{Fraction}
-use Rattle.stack_algebra.proofs.Fractions.{of}
-use Rattle.stack_rational.specs.TooWide.{fraction_fits}
 use Rattle.stack_table.specs.Block.{item_value, mark_at, cell_of, IsBlock}
-use Rattle.stack_rational.specs.Order.{is_zero}
 use Rattle.stack_rational.proofs.Fitting.{is_zero-of}
 use Rattle.stack_table.proofs.Blocks.{value_at-past}
 
@@ -50,30 +45,27 @@ module _ {V : Type 0} (e : V → Fraction) where
 
   pub cell_outside : (w n : ℕ) (xs : List V) (i j : ℕ) → length xs ≡ n * w → n ≤ i →
       cell_of e w xs i j ≡ of (pos 0)
-  cell_outside w n xs i j h l = go (dec_lt j w)
-    where
-      go : Dec (j < w) → cell_of e w xs i j ≡ of (pos 0)
-      go (yes k) = cell_in w xs i j k
-          ∙ value_at-past e xs (i * w + j) (omega (arith, h, mul-le n w i w l (omega arith)))
-      go (no k) = cell_past w xs i j (omega (arith, k))
+  cell_outside w n xs i j h l = elim (dec_lt j w) [
+    | yes k ↦ cell_in w xs i j k
+        ∙ value_at-past e xs (i * w + j) (omega (arith, h, mul-le n w i w l (omega arith)))
+    | no k ↦ cell_past w xs i j (omega (arith, k))
+  ]
 
   module _ (w r : ℕ) (above own below : List V) (la : length above ≡ r * w) (lo : length own ≡ w) where
     pub cell_above : (i j : ℕ) → i < r → cell_of e w (above ++ (own ++ below)) i j ≡ cell_of e w above i j
-    cell_above i j l = go (dec_lt j w)
-      where
-        go : Dec (j < w) → cell_of e w (above ++ (own ++ below)) i j ≡ cell_of e w above i j
-        go (yes k) = cell_in w _ i j k
-            ∙ value_at-left above (own ++ below) (i * w + j)
-            (omega (arith, la, row_in i r w (r * w) l refl, k)) ∙ sym (cell_in w above i j k)
-        go (no k) = cell_past w _ i j (omega (arith, k)) ∙ sym (cell_past w above i j (omega (arith, k)))
+    cell_above i j l = elim (dec_lt j w) [
+      | yes k ↦ cell_in w _ i j k
+          ∙ value_at-left above (own ++ below) (i * w + j)
+          (omega (arith, la, row_in i r w (r * w) l refl, k)) ∙ sym (cell_in w above i j k)
+      | no k ↦ cell_past w _ i j (omega (arith, k)) ∙ sym (cell_past w above i j (omega (arith, k)))
+    ]
 
     pub cell_own : (j : ℕ) → cell_of e w (above ++ (own ++ below)) r j ≡ item_value e own j
-    cell_own j = go (dec_lt j w)
-      where
-        go : Dec (j < w) → cell_of e w (above ++ (own ++ below)) r j ≡ item_value e own j
-        go (yes k) = cell_in w _ r j k ∙ value_at-right above (own ++ below) (r * w) j la
-            ∙ value_at-left own below j (omega (arith, lo, k))
-        go (no k) = cell_past w _ r j (omega (arith, k)) ∙ sym (value_at-past e own j (omega (arith, lo, k)))
+    cell_own j = elim (dec_lt j w) [
+      | yes k ↦ cell_in w _ r j k ∙ value_at-right above (own ++ below) (r * w) j la
+          ∙ value_at-left own below j (omega (arith, lo, k))
+      | no k ↦ cell_past w _ r j (omega (arith, k)) ∙ sym (value_at-past e own j (omega (arith, lo, k)))
+    ]
 
     pub cell_below : (i j : ℕ) → cell_of e w (above ++ (own ++ below)) (r + 1 + i) j ≡ cell_of e w below i j
     cell_below i j = go (dec_lt j w)
@@ -92,16 +84,15 @@ module _ {V : Type 0} (e : V → Fraction) where
   pub other_kept : (w r : ℕ) (above own new below : List V) → length above ≡ r * w → length own ≡ w →
       length new ≡ w → (i j : ℕ) → i ≢ r →
       cell_of e w (above ++ (new ++ below)) i j ≡ cell_of e w (above ++ (own ++ below)) i j
-  other_kept w r above own new below la lo ln i j d = go (dec_lt i r)
-    where
-      go : Dec (i < r) → cell_of e w (above ++ (new ++ below)) i j ≡ cell_of e w (above ++ (own ++ below)) i j
-      go (yes l) = cell_above w r above new below la ln i j l
-          ∙ sym (cell_above w r above own below la lo i j l)
-      go (no l) = let k : i ≡ r + 1 + (i - (r + 1)) = omega (arith, l, d) in
-          ap (λ z. cell_of e w (above ++ (new ++ below)) z j) k
-          ∙ cell_below w r above new below la ln (i - (r + 1)) j
-          ∙ sym (cell_below w r above own below la lo (i - (r + 1)) j)
-          ∙ ap (λ z. cell_of e w (above ++ (own ++ below)) z j) (sym k)
+  other_kept w r above own new below la lo ln i j d = elim (dec_lt i r) [
+    | yes l ↦ cell_above w r above new below la ln i j l
+        ∙ sym (cell_above w r above own below la lo i j l)
+    | no l ↦ let k : i ≡ r + 1 + (i - (r + 1)) = omega (arith, l, d) in
+        ap (λ z. cell_of e w (above ++ (new ++ below)) z j) k
+        ∙ cell_below w r above new below la ln (i - (r + 1)) j
+        ∙ sym (cell_below w r above own below la lo (i - (r + 1)) j)
+        ∙ ap (λ z. cell_of e w (above ++ (own ++ below)) z j) (sym k)
+  ]
 
   -- a last row is put behind the rows above it
   pub last_own : (w r : ℕ) (above last : List V) → length above ≡ r * w → length last ≡ w → (j : ℕ) →
@@ -179,11 +170,10 @@ module _ {V : Type 0} (e : V → Fraction) where
     -- every cell of a block fits
     pub fits_cell : (w : ℕ) (xs : List V) (ms : List Bool) (i j : ℕ) → IsBlock m e xs ms →
         fraction_fits m (cell_of e w xs i j) ≡ true
-    fits_cell w xs ms i j h = go (dec_lt j w)
-      where
-        go : Dec (j < w) → fraction_fits m (cell_of e w xs i j) ≡ true
-        go (yes l) = ap (fraction_fits m) (cell_in w xs i j l) ∙ h.fitting (i * w + j)
-        go (no l) = ap (fraction_fits m) (cell_past w xs i j (omega (arith, l))) ∙ zero_fits xs ms h
+    fits_cell w xs ms i j h = elim (dec_lt j w) [
+      | yes l ↦ ap (fraction_fits m) (cell_in w xs i j l) ∙ h.fitting (i * w + j)
+      | no l ↦ ap (fraction_fits m) (cell_past w xs i j (omega (arith, l))) ∙ zero_fits xs ms h
+    ]
 
     -- row i of a block, lent as a slice, and written back
     module _ (w i : ℕ) (xs : List V) (ms : List Bool) (h : IsBlock m e xs ms)

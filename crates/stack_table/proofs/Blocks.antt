@@ -1,14 +1,10 @@
 -- The fractions of a list that is written item by item, and the marks beside it.
 use Rattle.std.proofs.Common.{◌≡◌, ◌≢◌, sym, ap, ◌∙◌, ℕ, suc, ◌<◌, ◌≤◌, List, map, length, get_or, set, arith, Bool}
-use Rattle.std.proofs.Common.{true, get_or-set_same, get_or-set_other}
-use Rattle.std.proofs.lemmas.List.{map-set, get_or-map, length-map, length-set, get_or_past}
-use native.Mathlib.Decide.{ℕ_discrete, dec_lt}
-use lib.IntN.{ℤ, pos}
-use Rattle.stack_algebra.specs.Fraction.{Fraction}
-use Rattle.stack_algebra.proofs.Fractions.{of}
-use Rattle.stack_rational.specs.TooWide.{fraction_fits}
+use Rattle.std.proofs.Common.{true, get_or-set_same, get_or-set_other, length-set, ℤ, pos}
+use Rattle.stack_rational.proofs.Common.{length-map, get_or_past, ℕ_discrete, dec_lt, Fraction, of, fraction_fits}
+use Rattle.stack_rational.proofs.Common.{is_zero, get_or-map}
+use Rattle.std.proofs.lemmas.List.{map-set}
 use Rattle.stack_table.specs.Block.{item_value, mark_at, IsBlock}
-use Rattle.stack_rational.specs.Order.{is_zero}
 
 module _ {V : Type 0} (e : V → Fraction) where
   pub value_at-past : (xs : List V) (j : ℕ) → length xs ≤ j → item_value e xs j ≡ of (pos 0)

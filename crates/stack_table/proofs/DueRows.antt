@@ -1,13 +1,11 @@
 -- The row that is due in a column: entries before it are of earlier rows, the others of later ones.
 use Rattle.std.proofs.Common.{◌≡◌, refl, sym, ap, subst, ◌∙◌, ℕ, zero, suc, ◌+◌, ◌<◌, Bool, true, false, cond, ltb}
 use Rattle.std.proofs.Common.{replicate, List, [], ◌∷◌, map, length, drop, get_or, set, get_or-set_same}
-use Rattle.std.proofs.Common.{get_or-set_other, Result, Ok, Err, arith, IfOk, IfErr}
+use Rattle.std.proofs.Common.{get_or-set_other, Result, Ok, Err, arith, IfOk, IfErr, lt-ltb, ne_eqb, ℤ, pos}
+use Rattle.stack_rational.proofs.Common.{get_or_past, ℕ_discrete, dec_lt}
 use Rattle.std.specs.List.{slice_index}
 use Rattle.std.specs.List.Sorted.{IsStrictlyIncreasing}
-use Rattle.std.proofs.lemmas.List.{get_or-replicate, get_or_past, length-replicate}
-use Rattle.std.proofs.lemmas.Bool.{lt-ltb, ne_eqb}
-use native.Mathlib.Decide.{ℕ_discrete, dec_lt}
-use lib.IntN.{ℤ, pos}
+use Rattle.std.proofs.lemmas.List.{get_or-replicate, length-replicate}
 use Rattle.stack_table.specs.declared.problem.Entry.{Entry}
 use Rattle.stack_table.specs.Table.{plain}
 use Rattle.stack_table.specs.Problem.{Problem, flipped, turned}
@@ -63,13 +61,12 @@ none_due P dues n e j k l m = absurd (let z = ap (λ (ds : List ℕ). get_or ds 
 -- another row is due in one column
 pub due_set : (P : Problem) (i : ℕ) (dues : List ℕ) (j due : ℕ) → j < length dues → AreDue P i dues
     → IsZeroBefore P i j due → AreDue P i (set dues j due)
-due_set P i dues j due l h d k = go (ℕ_discrete k j)
-  where
-    go : Dec (k ≡ j) → IsZeroBefore P i k (get_or (set dues j due) k 0)
-    go (yes e) = subst (IsZeroBefore P i k)
-        (sym (ap (λ n. get_or (set dues j due) n 0) e ∙ get_or-set_same dues j due 0 l))
-        (subst (λ n. IsZeroBefore P i n due) (sym e) d)
-    go (no e) = subst (IsZeroBefore P i k) (sym (get_or-set_other dues j k due 0 e)) (h k)
+due_set P i dues j due l h d k = elim (ℕ_discrete k j) [
+  | yes e ↦ subst (IsZeroBefore P i k)
+      (sym (ap (λ n. get_or (set dues j due) n 0) e ∙ get_or-set_same dues j due 0 l))
+      (subst (λ n. IsZeroBefore P i n due) (sym e) d)
+  | no e ↦ subst (IsZeroBefore P i k) (sym (get_or-set_other dues j k due 0 e)) (h k)
+]
 
 -- what follows from what an answer tells, and from what a refusal tells
 pub then_ok : {V E : Type 0} (P Q R : V → Type 0) (r : Result V E) → ((x : V) → P x → Q x → R x) → IfOk r P

@@ -1,31 +1,23 @@
 -- The first objective row, column by column: it depends on the rows alone.
-use Rattle.std.proofs.Common.{◌≡◌, refl, ap, ℕ, zero, suc, ◌<◌, ◌≤◌, true, false, cond, leb, ltb, ◌&&◌, Option, None}
-use Rattle.std.proofs.Common.{arith}
-use Rattle.std.proofs.lemmas.Bool.{lt-ltb, le-ltb, le-leb, lt-leb}
-use native.Mathlib.Decide.{dec_le}
-use lib.IntN.{ℤ, pos}
-use Rattle.stack_algebra.specs.Fraction.{Fraction}
-use Rattle.stack_algebra.proofs.Fractions.{of, add, neg}
-use Rattle.stack_algebra.proofs.OrderedFractions.{ordered_fractions}
-use Rattle.stack_algebra.specs.Search.{first, only_if}
+use Rattle.std.proofs.Common.{◌≡◌, refl, ap, ℕ, zero, suc, ◌<◌, ◌≤◌, true, false, cond, ltb, ◌&&◌, Option, None}
+use Rattle.std.proofs.Common.{arith, lt-ltb, le-ltb, le-leb, ℤ, pos}
+use Rattle.stack_rational.proofs.Common.{dec_le, Fraction, of, add, neg, ordered_fractions, first, only_if, is_too_wide}
+use Rattle.stack_rational.proofs.Common.{lt-leb, first_same}
 use Rattle.stack_rational.specs.declared.exact.Op.TheVariants.{Difference}
-use Rattle.stack_rational.specs.TooWide.{is_too_wide}
 use Rattle.stack_table.specs.declared.problem.BuildError.{BuildError}
 use Rattle.stack_table.specs.declared.problem.BuildError.TheVariants.{Wide}
 use Rattle.stack_table.specs.Table.{Shape, plain, columns}
 use Rattle.stack_table.specs.WrittenTable.{less_all, partial_place, is_artificial, objective_over, objective_place}
-use Rattle.stack_algebra.proofs.Search.{first_same}
 
 -- which columns are artificial
 pub artificial_yes : (S : Shape) (j : ℕ) → plain S ≤ j → j < columns S → is_artificial S j ≡ true
 artificial_yes S j l h = (λ z. le-leb (plain S) j l z && lt-ltb j (columns S) h z)
 
 pub artificial_not : (S : Shape) (j : ℕ) → (plain S ≤ j → columns S ≤ j) → is_artificial S j ≡ false
-artificial_not S j h = go (dec_le (plain S) j)
-  where
-    go : Dec (plain S ≤ j) → leb (plain S) j && ltb j (columns S) ≡ false
-    go (yes l) = (λ z. le-leb (plain S) j l z && le-ltb j (columns S) (h l) z)
-    go (no l) = ap (λ b. b && ltb j (columns S)) (lt-leb (plain S) j (omega (arith, l)))
+artificial_not S j h = elim (dec_le (plain S) j) [
+  | yes l ↦ (λ z. le-leb (plain S) j l z && le-ltb j (columns S) (h l) z)
+  | no l ↦ ap (λ b. b && ltb j (columns S)) (lt-leb (plain S) j (omega (arith, l)))
+]
 
 pub less_all-same : (n : ℕ) (f g : ℕ → Fraction) → ((i : ℕ) → i < n → f i ≡ g i) →
     less_all ordered_fractions n f ≡ less_all ordered_fractions n g

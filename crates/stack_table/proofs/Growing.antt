@@ -1,10 +1,8 @@
 -- A block that grows within its room: what is there keeps its value.
 use Rattle.std.proofs.Common.{◌≡◌, sym, ap, ◌∙◌, ℕ, ◌+◌, ◌*◌, ◌<◌, List, [], ◌∷◌, ◌++◌, length, get_or, arith}
-use Rattle.std.proofs.Common.{length-append}
-use Rattle.std.proofs.lemmas.List.{get_or_append_left, get_or_push}
-use native.Mathlib.Decide.{ℕ_discrete, dec_lt}
-use lib.IntN.{ℤ}
-use Rattle.stack_algebra.specs.Fraction.{Fraction}
+use Rattle.std.proofs.Common.{length-append, ℤ}
+use Rattle.stack_rational.proofs.Common.{ℕ_discrete, dec_lt, Fraction, get_or_append_left}
+use Rattle.std.proofs.lemmas.List.{get_or_push}
 use Rattle.stack_table.specs.Block.{item_value, cell_of, Grows}
 use Rattle.stack_table.proofs.BlockRows.{row_in, cell_in, cell_past, value_at-left}
 use Rattle.stack_table.proofs.Parts.{pushed_last}
@@ -32,12 +30,11 @@ module _ {V : Type 0} (e : V → Fraction) where
   pub earlier_cells : (w n size : ℕ) (f : ℕ → Fraction) (xs ys : List V) → length xs ≡ n * w →
       Grows e xs ys size f →
       (i j : ℕ) → i < n → cell_of e w ys i j ≡ cell_of e w xs i j
-  earlier_cells w n size f xs ys l h i j k = go (dec_lt j w)
-    where
-      go : Dec (j < w) → cell_of e w ys i j ≡ cell_of e w xs i j
-      go (yes d) = cell_in e w ys i j d ∙ h.kept (i * w + j) (omega (arith, row_in i n w (length xs) k l, d))
-          ∙ sym (cell_in e w xs i j d)
-      go (no d) = cell_past e w ys i j (omega (arith, d)) ∙ sym (cell_past e w xs i j (omega (arith, d)))
+  earlier_cells w n size f xs ys l h i j k = elim (dec_lt j w) [
+    | yes d ↦ cell_in e w ys i j d ∙ h.kept (i * w + j) (omega (arith, row_in i n w (length xs) k l, d))
+        ∙ sym (cell_in e w xs i j d)
+    | no d ↦ cell_past e w ys i j (omega (arith, d)) ∙ sym (cell_past e w xs i j (omega (arith, d)))
+  ]
 
   -- the row that was put after those that were there
   pub next_cells : (w n : ℕ) (f : ℕ → Fraction) (xs ys : List V) → length xs ≡ n * w → Grows e xs ys w f →
@@ -48,11 +45,10 @@ module _ {V : Type 0} (e : V → Fraction) where
 pub pushed_all : {X : Type 0} (f : ℕ → X) (xs ys : List X) (x d : X) (i : ℕ) → ys ≡ xs ++ x ∷ [] →
     length xs ≡ i →
     ((k : ℕ) → k < i → get_or xs k d ≡ f k) → x ≡ f i → (k : ℕ) → k < i + 1 → get_or ys k d ≡ f k
-pushed_all f xs ys x d i e l h here k b = go (ℕ_discrete k i)
-  where
-    go : Dec (k ≡ i) → get_or ys k d ≡ f k
-    go (yes p) = ap (λ zs. get_or zs k d) e ∙ ap (λ n. get_or (xs ++ x ∷ []) n d) p ∙ get_or_push xs x d i l
-        ∙ here
-        ∙ ap f (sym p)
-    go (no p) = ap (λ zs. get_or zs k d) e ∙ get_or_append_left xs (x ∷ []) d k (omega (arith, l, b, p))
-        ∙ h k (omega (arith, b, p))
+pushed_all f xs ys x d i e l h here k b = elim (ℕ_discrete k i) [
+  | yes p ↦ ap (λ zs. get_or zs k d) e ∙ ap (λ n. get_or (xs ++ x ∷ []) n d) p ∙ get_or_push xs x d i l
+      ∙ here
+      ∙ ap f (sym p)
+  | no p ↦ ap (λ zs. get_or zs k d) e ∙ get_or_append_left xs (x ∷ []) d k (omega (arith, l, b, p))
+      ∙ h k (omega (arith, b, p))
+]

@@ -1,8 +1,7 @@
 -- A list of the columns that aren't 0, as it grows.
-use Rattle.std.proofs.Common.{◌≡◌, ◌≢◌, refl, ap, ◌∙◌, ℕ, zero, suc, ◌<◌, ◌≤◌, ◌+◌, List, length, get_or, set}
-use Rattle.std.proofs.Common.{take, arith, Bool, true, add-one, get_or-set_same, get_or-set_other}
-use Rattle.std.proofs.lemmas.List.{get_or-take}
-use native.Mathlib.Decide.{ℕ_discrete}
+use Rattle.std.proofs.Common.{◌≡◌, ◌≢◌, refl, ap, ◌∙◌, ℕ, zero, suc, ◌<◌, ◌≤◌, ◌+◌, List, length, get_or, set, take}
+use Rattle.std.proofs.Common.{arith, Bool, true, add-one, get_or-set_same, get_or-set_other, get_or-take}
+use Rattle.stack_rational.proofs.Common.{ℕ_discrete}
 use Rattle.stack_table.specs.Columns.{reach, ListsNonzero}
 
 reach_set : (xs : List ℕ) (n y k : ℕ) → k ≤ n → reach (set xs n y) k ≡ reach xs k

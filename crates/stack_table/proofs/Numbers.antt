@@ -1,12 +1,10 @@
 -- The numbers of a problem: below the bound in size, and 0 past its rows and columns.
 use Rattle.std.proofs.Common.{◌≡◌, refl, ap, ◌∙◌, ℕ, zero, suc, ◌+◌, ◌<◌, ◌≤◌, Bool, true, false, cond, eqb, ltb, List}
-use Rattle.std.proofs.Common.{[], ◌∷◌, map, length, get_or, arith, SFits, to_z, of_z, to_z-of_z}
+use Rattle.std.proofs.Common.{[], ◌∷◌, map, length, get_or, arith, SFits, to_z, of_z, to_z-of_z, ltb-true, le-ltb}
+use Rattle.std.proofs.Common.{ne_eqb, ℤ, pos}
+use Rattle.stack_rational.proofs.Common.{ints, get_or_past, w128}
 use Rattle.std.specs.List.{AllByRecursion}
-use Rattle.std.proofs.lemmas.Bool.{ltb-true, le-ltb, ne_eqb}
-use Rattle.std.proofs.lemmas.Int.{ints, fits_signed_from_abs}
-use Rattle.std.proofs.lemmas.List.{get_or_past}
-use mir.Syntax.{w128}
-use lib.IntN.{ℤ, pos}
+use Rattle.std.proofs.lemmas.Int.{fits_signed_from_abs}
 use Rattle.stack_table.specs.declared.problem.Entry.{Entry}
 use Rattle.stack_table.specs.declared.problem.Column.{Column}
 use Rattle.stack_table.specs.declared.problem.Problem.{Problem as Lent}

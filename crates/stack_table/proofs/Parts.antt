@@ -1,15 +1,10 @@
 -- A block in parts, as two splits lend it, and a block of rows above its last row.
 use Rattle.std.proofs.Common.{◌≡◌, refl, sym, ap, ◌∙◌, ℕ, zero, suc, ◌<◌, ◌≤◌, ◌+◌, ◌*◌, List, [], ◌∷◌, ◌++◌, length}
-use Rattle.std.proofs.Common.{take, drop, arith, Bool, true, length-drop, append-nil, subst₂}
+use Rattle.std.proofs.Common.{take, drop, arith, Bool, true, length-drop, append-nil, subst₂, ℤ}
+use Rattle.stack_rational.proofs.Common.{ℕ_discrete, Fraction, changed, changed-same, changed-other, fraction_fits}
+use Rattle.stack_rational.proofs.Common.{is_zero}
 use Rattle.std.proofs.Math.Nat.{suc-mul}
-use native.Mathlib.Decide.{ℕ_discrete}
-use lib.IntN.{ℤ}
-use Rattle.stack_algebra.specs.Fraction.{Fraction}
-use Rattle.stack_algebra.specs.Rows.{changed}
-use Rattle.stack_algebra.proofs.Pivots.{changed-same, changed-other}
-use Rattle.stack_rational.specs.TooWide.{fraction_fits}
 use Rattle.stack_table.specs.Block.{item_value, mark_at, cell_of, IsBlock}
-use Rattle.stack_rational.specs.Order.{is_zero}
 use Rattle.stack_rational.proofs.Fitting.{is_zero-of}
 use Rattle.stack_table.proofs.BlockRows.{value_at-right, cell_above, last_own, last_kept, block_join, block_take}
 use Rattle.stack_table.proofs.BlockRows.{zero_fits, block_drop}
@@ -66,26 +61,30 @@ module _ {V : Type 0} (e : V → Fraction) (m : ℤ) where
       fit (suc k) = zero_fits e m xs ms h
 
 -- a block of rows above its last row
-module _ {V : Type 0} (e : V → Fraction) (w r : ℕ) (cells above last : List V) (whole : cells ≡ above ++ last)
-    (la : length above ≡ r * w) (ll : length last ≡ w) where
+pub record EndsIn {V : Type 0} (w r : ℕ) (cells above last : List V) : Type 0 where
+  pub whole : cells ≡ above ++ last
+  pub rows_above : length above ≡ r * w
+  pub row_length : length last ≡ w
+
+module _ {V : Type 0} (e : V → Fraction) {w r : ℕ} {cells above last : List V} (p : EndsIn w r cells above last) where
   pub first_rows : (i j : ℕ) → i < r → cell_of e w above i j ≡ cell_of e w cells i j
-  first_rows i j l = sym (ap (λ ys. cell_of e w ys i j) whole
+  first_rows i j l = sym (ap (λ ys. cell_of e w ys i j) p.whole
       ∙ ap (λ ys. cell_of e w (above ++ ys) i j) (sym (append-nil last))
-      ∙ cell_above e w r above last [] la ll i j l)
+      ∙ cell_above e w r above last [] p.rows_above p.row_length i j l)
 
   -- a block with another last row
   pub last_changed : (new : List V) (o : ℕ → Fraction) → length new ≡ length last →
       ((j : ℕ) → item_value e new j ≡ o j) →
       (i j : ℕ) → cell_of e w (above ++ new) i j ≡ changed (cell_of e w cells) r o i j
-  last_changed new o ln h i j = go (ℕ_discrete i r)
-    where
-      go : Dec (i ≡ r) → cell_of e w (above ++ new) i j ≡ changed (cell_of e w cells) r o i j
-      go (yes d) = ap (λ z. cell_of e w (above ++ new) z j) d ∙ last_own e w r above new la (ln ∙ ll) j ∙ h j
-          ∙ sym (ap (λ z. changed (cell_of e w cells) r o z j) d
-          ∙ ap (λ (f : ℕ → Fraction). f j) (changed-same (cell_of e w cells) r o))
-      go (no d) = last_kept e w r above last new la ll (ln ∙ ll) i j d
-          ∙ ap (λ ys. cell_of e w ys i j) (sym whole)
-          ∙ sym (ap (λ (f : ℕ → Fraction). f j) (changed-other (cell_of e w cells) r o i d))
+  last_changed new o ln h i j = elim (ℕ_discrete i r) [
+    | yes d ↦ ap (λ z. cell_of e w (above ++ new) z j) d
+        ∙ last_own e w r above new p.rows_above (ln ∙ p.row_length) j ∙ h j
+        ∙ sym (ap (λ z. changed (cell_of e w cells) r o z j) d
+        ∙ ap (λ (f : ℕ → Fraction). f j) (changed-same (cell_of e w cells) r o))
+    | no d ↦ last_kept e w r above last new p.rows_above p.row_length (ln ∙ p.row_length) i j d
+        ∙ ap (λ ys. cell_of e w ys i j) (sym p.whole)
+        ∙ sym (ap (λ (f : ℕ → Fraction). f j) (changed-other (cell_of e w cells) r o i d))
+  ]
 
 pub two_parts : {V : Type 0} (e : V → Fraction) (m : ℤ) (cells : List V) (marks : List Bool) (n : ℕ) →
     n ≤ length cells → IsBlock m e cells marks →

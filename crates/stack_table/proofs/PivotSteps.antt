@@ -1,17 +1,10 @@
 -- A pivot row by row, over a block in three parts.
-use Rattle.std.proofs.Common.{◌≡◌, ◌≢◌, refl, sym, ap, ◌∙◌, ℕ, suc, ◌<◌, ◌≤◌, ◌+◌, ◌-◌, ◌*◌, List, ◌++◌, length}
-use Rattle.std.proofs.Common.{get_or, cond, Option, Some, None, arith}
-use Rattle.std.proofs.lemmas.Bool.{eq-eqb, ne_eqb}
-use native.Mathlib.Decide.{ℕ_discrete, dec_lt}
-use lib.IntN.{ℤ}
-use Rattle.stack_algebra.specs.Fraction.{Fraction}
-use Rattle.stack_algebra.specs.Rows.{next}
-use Rattle.stack_algebra.proofs.Fractions.{fractions}
-use Rattle.stack_algebra.proofs.FractionField.{inv}
-use Rattle.stack_algebra.proofs.Pivots.{pivoted-own, pivoted-other}
-use Rattle.stack_algebra.proofs.OrderedFractions.{ordered_fractions}
-use Rattle.stack_algebra.proofs.Search.{first, or_else, first_more, first_same, first_join, first_further}
-use Rattle.stack_rational.specs.TooWide.{is_too_wide}
+use Rattle.std.proofs.Common.{◌≡◌, ◌≢◌, refl, sym, ap, ◌∙◌, ℕ, suc, ◌<◌, ◌≤◌, ◌+◌, ◌-◌, ◌*◌, List, ◌++◌, length, get_or}
+use Rattle.std.proofs.Common.{cond, Option, Some, None, arith, eq-eqb, ne_eqb, ℤ}
+use Rattle.stack_rational.proofs.Common.{ℕ_discrete, dec_lt, Fraction, next, inv, ordered_fractions, first, or_else}
+use Rattle.stack_rational.proofs.Common.{first_more, is_too_wide, fractions, pivoted-other, first_same}
+use Rattle.stack_algebra.proofs.Pivots.{pivoted-own}
+use Rattle.stack_algebra.proofs.Search.{first_join, first_further}
 use Rattle.stack_table.specs.declared.types.PivotWide.{PivotWide}
 use Rattle.stack_table.specs.Block.{item_value, cell_of}
 use Rattle.stack_table.specs.Spots.{divided, reduced, divide_spot, reduce_spot, rows_spot, row_spot, cells_spot}
@@ -42,58 +35,68 @@ module _ (m : ℤ) (width : ℕ) (cell : ℕ → ℕ → Fraction) (r c : ℕ) w
       (cell i c) i)) (ne_eqb i r d)
 
 -- the three parts of a block, and the pivot's divisor x
-module _ {V : Type 0} (e : V → Fraction) (m : ℤ) (w r c : ℕ) (cells above own below : List V)
-    (whole : cells ≡ above ++ (own ++ below)) (la : length above ≡ r * w) (lo : length own ≡ w) (x : V)
-    (lc : c < w)
-    (is : x ≡ get_or own c x) where
+pub record IsSplit {V : Type 0} (e : V → Fraction) (w r c : ℕ) (cells above own below : List V) (x : V) : Type 0 where
+  pub whole : cells ≡ above ++ (own ++ below)
+  pub rows_above : length above ≡ r * w
+  pub row_length : length own ≡ w
+  pub column_in : c < w
+  pub divisor : x ≡ get_or own c x
+
+-- the pivot's row is divided
+pub record IsOwnDivided {V : Type 0} (e : V → Fraction) (m : ℤ) (r : ℕ) (own new : List V) (x : V) : Type 0 where
+  pub long : length new ≡ length own
+  pub value : (j : ℕ) → item_value e new j ≡ divided ordered_fractions (item_value e own) (e x) j
+  pub none : divide_spot ordered_fractions (is_too_wide m) (length own) (item_value e own) (e x) r ≡ None
+
+module _ {V : Type 0} {e : V → Fraction} (m : ℤ) {w r c : ℕ} {cells above own below : List V} {x : V}
+    (s : IsSplit e w r c cells above own below x) where
   abbrev old : ℕ → ℕ → Fraction
   old = cell_of e w cells
 
   own_is : (j : ℕ) → item_value e own j ≡ old r j
-  own_is j = sym (ap (λ ys. cell_of e w ys r j) whole ∙ cell_own e w r above own below la lo j)
+  own_is j = sym (ap (λ ys. cell_of e w ys r j) s.whole ∙ cell_own e w r above own below s.rows_above s.row_length j)
 
   pub divisor_is : e x ≡ old r c
-  divisor_is = sym (value_at-index e own c x (omega (arith, lo, lc)) is) ∙ own_is c
+  divisor_is = sym (value_at-index e own c x (omega (arith, s.row_length, s.column_in)) s.divisor) ∙ own_is c
 
   above_is : (i j : ℕ) → i < r → cell_of e w above i j ≡ old i j
-  above_is i j l = sym (ap (λ ys. cell_of e w ys i j) whole ∙ cell_above e w r above own below la lo i j l)
+  above_is i j l = sym (ap (λ ys. cell_of e w ys i j) s.whole
+      ∙ cell_above e w r above own below s.rows_above s.row_length i j l)
 
   below_is : (i j : ℕ) → cell_of e w below i j ≡ old (r + 1 + i) j
-  below_is i j = sym (ap (λ ys. cell_of e w ys (r + 1 + i) j) whole
-      ∙ cell_below e w r above own below la lo i j)
+  below_is i j = sym (ap (λ ys. cell_of e w ys (r + 1 + i) j) s.whole
+      ∙ cell_below e w r above own below s.rows_above s.row_length i j)
 
   divide_is : divide_spot ordered_fractions (is_too_wide m) (length own) (item_value e own) (e x) r
       ≡ divide_spot ordered_fractions (is_too_wide m) w (old r) (old r c) r
-  divide_is = divide_same m r (length own) w (item_value e own) (old r) (e x) (old r c) lo own_is divisor_is
+  divide_is = divide_same m r (length own) w (item_value e own) (old r) (e x) (old r c) s.row_length own_is divisor_is
 
-  pub spot_dividing : (h : ℕ) (s : PivotWide) →
-      divide_spot ordered_fractions (is_too_wide m) (length own) (item_value e own) (e x) r ≡ Some s →
-      cells_spot ordered_fractions (is_too_wide m) h w old r c ≡ Some s
-  spot_dividing h s k = ap (λ o. or_else o (first h (row_spot ordered_fractions (is_too_wide m) w old r c)))
+  pub spot_dividing : (h : ℕ) (p : PivotWide) →
+      divide_spot ordered_fractions (is_too_wide m) (length own) (item_value e own) (e x) r ≡ Some p →
+      cells_spot ordered_fractions (is_too_wide m) h w old r c ≡ Some p
+  spot_dividing h p k = ap (λ o. or_else o (first h (row_spot ordered_fractions (is_too_wide m) w old r c)))
       (sym divide_is ∙ k)
 
   -- once the row is divided
-  module _ (new : List V) (ln : length new ≡ length own)
-      (eg : (j : ℕ) → item_value e new j ≡ divided ordered_fractions (item_value e own) (e x) j)
-      (nd : divide_spot ordered_fractions (is_too_wide m) (length own) (item_value e own) (e x) r ≡ None) where
+  module _ {new : List V} (d : IsOwnDivided e m r own new x) where
     new_is : (j : ℕ) → item_value e new j ≡ divided ordered_fractions (old r) (old r c) j
-    new_is j = eg j ∙ divided_same (item_value e own) (old r) (e x) (old r c) j (own_is j) divisor_is
+    new_is j = d.value j ∙ divided_same (item_value e own) (old r) (e x) (old r c) j (own_is j) divisor_is
 
     wide : length new ≡ w
-    wide = ln ∙ lo
+    wide = d.long ∙ s.row_length
 
     rest : (h : ℕ) → cells_spot ordered_fractions (is_too_wide m) h w old r c ≡ first h
         (row_spot ordered_fractions (is_too_wide m) w old r c)
     rest h = ap (λ o. or_else o (first h (row_spot ordered_fractions (is_too_wide m) w old r c)))
-        (sym divide_is ∙ nd)
+        (sym divide_is ∙ d.none)
 
     row_is : (i row : ℕ) (p : ℕ → Fraction) → i ≢ r → row ≡ i → ((j : ℕ) → p j ≡ old i j) →
         reduce_spot ordered_fractions (is_too_wide m) w p (item_value e new) (p c) row ≡ row_spot ordered_fractions
         (is_too_wide m) w old r c i
-    row_is i row p d k h = ap (reduce_spot ordered_fractions (is_too_wide m) w p (item_value e new) (p c)) k
+    row_is i row p n k h = ap (reduce_spot ordered_fractions (is_too_wide m) w p (item_value e new) (p c)) k
         ∙ reduce_same m i w w p (old i) (item_value e new) (divided ordered_fractions (old r) (old r c)) (p c)
         (old i c) refl h new_is (h c)
-        ∙ sym (spot_other m w old r c i d)
+        ∙ sym (spot_other m w old r c i n)
 
     above_spot : rows_spot ordered_fractions (is_too_wide m) r (length new) (cell_of e (length new) above)
         (item_value e new) c 0
@@ -104,12 +107,12 @@ module _ {V : Type 0} (e : V → Fraction) (m : ℤ) (w r c : ℕ) (cells above 
         (λ i l. row_is i (0 + i) (cell_of e w above i) (λ d. omega (arith, l, d)) (omega arith)
         (λ j. above_is i j l))
 
-    pub spot_above : (h : ℕ) (s : PivotWide) → r ≤ h →
+    pub spot_above : (h : ℕ) (p : PivotWide) → r ≤ h →
         rows_spot ordered_fractions (is_too_wide m) r (length new) (cell_of e (length new) above)
-        (item_value e new) c 0 ≡ Some s →
-        cells_spot ordered_fractions (is_too_wide m) h w old r c ≡ Some s
-    spot_above h s l k = rest h
-        ∙ first_further r h (row_spot ordered_fractions (is_too_wide m) w old r c) s l (sym above_spot ∙ k)
+        (item_value e new) c 0 ≡ Some p →
+        cells_spot ordered_fractions (is_too_wide m) h w old r c ≡ Some p
+    spot_above h p l k = rest h
+        ∙ first_further r h (row_spot ordered_fractions (is_too_wide m) w old r c) p l (sym above_spot ∙ k)
 
     pub spot_below : (h : ℕ) (o : Option PivotWide) → r ≤ h →
         rows_spot ordered_fractions (is_too_wide m) r (length new) (cell_of e (length new) above)
@@ -138,7 +141,7 @@ module _ {V : Type 0} (e : V → Fraction) (m : ℤ) (w r c : ℕ) (cells above 
     after above' below' ls ha hb i j = go (ℕ_discrete i r) (dec_lt i r)
       where
         la' : length above' ≡ r * w
-        la' = ls ∙ la
+        la' = ls ∙ s.rows_above
 
         value : (i : ℕ) (p : ℕ → Fraction) → i ≢ r → ((j : ℕ) → p j ≡ old i j) →
             reduced ordered_fractions p (item_value e new) (p c) j ≡ next ordered_fractions old r c i j

@@ -1,22 +1,12 @@
 -- The written table, row by row and then the objective row.
 use Rattle.std.proofs.Common.{◌≡◌, ◌≢◌, refl, sym, ap, subst, ◌∙◌, ℕ, zero, suc, ◌+◌, ◌*◌, ◌<◌, Bool, true, false, not}
-use Rattle.std.proofs.Common.{cond, List, [], length, get_or, Option, Some, None, arith, subst₂, to_z, of_z}
-use Rattle.std.proofs.lemmas.List.{get_or_past}
-use Rattle.std.proofs.lemmas.Bool.{lt-ltb, le-ltb}
-use Rattle.std.proofs.lemmas.Int.{ints}
+use Rattle.std.proofs.Common.{cond, List, [], length, get_or, Option, Some, None, arith, subst₂, to_z, of_z, lt-ltb}
+use Rattle.std.proofs.Common.{le-ltb, T, ℤ, pos, negsuc, ◌<ℤ◌, ◌≤ℤ◌}
+use Rattle.stack_rational.proofs.Common.{get_or_past, ints, ℕ_discrete, dec_lt, w128, Fraction, of, add, neg}
+use Rattle.stack_rational.proofs.Common.{ordered_fractions, changed-same, changed-other, Exp, num, ◌⊕◌, ring1, first}
+use Rattle.stack_rational.proofs.Common.{or_else, first_found, IsWidth, is_too_wide, fractions, first_same}
 use Rattle.std.proofs.Math.Nat.{suc-mul}
-use native.Mathlib.Decide.{ℕ_discrete, dec_lt}
-use lib.Dec.{T}
-use lib.IntN.{ℤ, pos, negsuc}
-use lib.Signed.{lt_z, lt_z_yes, lt_z_no, ◌<ℤ◌, ◌≤ℤ◌}
-use mir.Syntax.{w128}
-use Rattle.stack_algebra.specs.Fraction.{Fraction}
-use Rattle.stack_algebra.proofs.Fractions.{of, add, neg, fractions}
-use Rattle.stack_algebra.proofs.OrderedFractions.{ordered_fractions}
-use Rattle.stack_algebra.proofs.Pivots.{changed-same, changed-other}
-use Rattle.stack_algebra.proofs.Ring.{Exp, num, ◌⊕◌, ring1}
-use Rattle.stack_algebra.proofs.Search.{first, or_else, first_found, first_same}
-use Rattle.stack_rational.specs.TooWide.{IsWidth, is_too_wide}
+use lib.Signed.{lt_z, lt_z_yes, lt_z_no}
 use Rattle.stack_table.specs.declared.problem.BuildError.{BuildError}
 use Rattle.stack_table.specs.declared.problem.BuildError.TheVariants.{Wide, Memory}
 use Rattle.stack_table.specs.declared.problem.Problem.{Problem as Lent}
@@ -61,12 +51,11 @@ flip_is P h i z e = ap (λ t. lt_z t (pos 0)) (small_back z ((problem_of P).load
 pub flips_are : (P : Lent) → IsProblem P → (fs : List Bool) → length fs ≡ P.rows →
     ((i : ℕ) → i < P.rows → get_or fs i false ≡ flipped (problem_of P) i) →
     (i : ℕ) → get_or fs i false ≡ flipped (problem_of P) i
-flips_are P h fs l each i = go (dec_lt i P.rows)
-  where
-    go : Dec (i < P.rows) → get_or fs i false ≡ flipped (problem_of P) i
-    go (yes d) = each i d
-    go (no d) = get_or_past fs i false (omega (arith, l, d))
-        ∙ sym (ap is_below_zero (no_load P h i (omega (arith, d))))
+flips_are P h fs l each i = elim (dec_lt i P.rows) [
+  | yes d ↦ each i d
+  | no d ↦ get_or_past fs i false (omega (arith, l, d))
+      ∙ sym (ap is_below_zero (no_load P h i (omega (arith, d))))
+]
 
 -- what an error tells further up
 tells : (e : BuildError) (o u : Option BuildError) → ((p : BuildError) → o ≡ Some p → u ≡ Some p) →

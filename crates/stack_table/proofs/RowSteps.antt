@@ -1,15 +1,11 @@
 -- The steps of a pivot at one cell: what they write, and where they are too wide.
-use Rattle.std.proofs.Common.{◌≡◌, sym, ap, ◌∙◌, ℕ, Bool, true, false, Some, None}
-use lib.IntN.{ℤ, pos}
-use Rattle.stack_algebra.specs.Fraction.{Fraction}
-use Rattle.stack_algebra.proofs.Fractions.{of, mul, mul_comm, zero_mul}
-use Rattle.stack_algebra.proofs.OrderedFractions.{ordered_fractions}
-use Rattle.stack_algebra.specs.Search.{or_else, only_if}
-use Rattle.stack_algebra.proofs.Search.{first_all-none}
+use Rattle.std.proofs.Common.{◌≡◌, sym, ap, ◌∙◌, ℕ, Bool, true, false, Some, None, ℤ, pos}
+use Rattle.stack_rational.proofs.Common.{Fraction, of, mul, ordered_fractions, or_else, only_if, first_all-none}
+use Rattle.stack_rational.proofs.Common.{IsWidth, fraction_fits, is_too_wide, is_zero}
+use Rattle.stack_algebra.proofs.Fractions.{mul_comm, zero_mul}
 use Rattle.stack_rational.specs.declared.exact.Op.TheVariants.{Difference, Product, Quotient}
-use Rattle.stack_rational.specs.TooWide.{IsWidth, fraction_fits, is_too_wide, op_value}
+use Rattle.stack_rational.specs.TooWide.{op_value}
 use Rattle.stack_table.specs.declared.types.Step.TheVariants.{Divide, Multiply, Subtract}
-use Rattle.stack_rational.specs.Order.{is_zero}
 use Rattle.stack_table.specs.Spots.{divided, reduced, divide_item, reduce_item, divide_spot, reduce_spot}
 use Rattle.stack_rational.proofs.Fitting.{zero_is, quotient_of_zero, product_of_zero, difference_of_zero}
 

@@ -1,13 +1,11 @@
 -- What the test of a problem tells.
 use Rattle.std.proofs.Common.{◌≡◌, sym, subst, ℕ, zero, suc, ◌<◌, true, List, [], ◌∷◌, map, length, add-one, arith}
-use Rattle.std.proofs.Common.{nat_le, nat_lt}
+use Rattle.std.proofs.Common.{nat_le, nat_lt, leb-true, ltb-true, ℤ, nat_abs}
+use Rattle.stack_rational.proofs.Common.{length-map, left_true, right_true}
 use Rattle.std.specs.List.{slice_index, AllByRecursion}
-use Rattle.std.proofs.lemmas.List.{length-map}
 use Rattle.std.specs.List.Sorted.{IsStrictlyIncreasing}
-use Rattle.std.proofs.lemmas.Bool.{leb-true, ltb-true}
-use lib.IntN.{ℤ, nat_abs}
 use Rattle.stack_whole.specs.Limits.{load_bound, IsBelowBound}
-use Rattle.stack_algebra.proofs.Conjunctions.{left_true, right_true, all_four}
+use Rattle.stack_algebra.proofs.Conjunctions.{all_four}
 use Rattle.stack_table.specs.declared.problem.Entry.{Entry}
 use Rattle.stack_table.specs.declared.problem.Column.{Column}
 use Rattle.stack_table.specs.Lent.{IsColumn}

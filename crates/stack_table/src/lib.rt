@@ -18,4 +18,5 @@ mod sound;
 pub mod table;
 pub mod types;
 
+pub use objective::row_with;
 pub use table::Table;

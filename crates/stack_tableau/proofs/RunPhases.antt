@@ -1,13 +1,7 @@
 -- The column of a row of phase 2, and what the answers of the phases tell of the written run.
 use Rattle.std.proofs.Common.{◌≡◌, ◌≢◌, refl, sym, ap, subst, ◌∙◌, ℕ, suc, ◌+◌, ◌-◌, ◌<◌, Bool, false, cond, not}
-use Rattle.std.proofs.Common.{Option, Some, arith, add-one}
-use lib.IntN.{ℤ, pos}
-use Rattle.stack_algebra.specs.Fraction.{Fraction}
-use Rattle.stack_algebra.specs.Ordered.{sign_of}
-use Rattle.stack_algebra.specs.Search.{only_if}
-use Rattle.stack_algebra.proofs.Search.{least-some}
-use Rattle.stack_algebra.proofs.OrderedFractions.{ordered_fractions}
-use Rattle.stack_rational.specs.TooWide.{is_too_wide}
+use Rattle.std.proofs.Common.{Option, Some, arith, add-one, ℤ, pos}
+use Rattle.stack_rational.proofs.Common.{Fraction, sign_of, only_if, least-some, ordered_fractions, is_too_wide}
 use Rattle.stack_table.specs.Table.{Shape, Tabled, plain, right, clear_objective, set_factor_objective}
 use Rattle.stack_table.specs.Lent.{problem_of}
 use Rattle.stack_bland.specs.Choice.{is_nought, is_negative_sign}
@@ -94,10 +88,20 @@ after_stopped settles Spent X next h = ap (λ x. third_end (after_phase x next))
 after_stopped settles Unsettled X next h = h
 
 -- a run past phase 1, which left the table U and the pivots k
-module _ (settles : Bool) (max : ℤ) (S S' : Shape) (T U : Tabled Fraction) (budget : ℕ) (k : Pivots) (same : S' ≡ S)
-    (first : settled k.left k.done U ≡ turns ordered_fractions S (is_too_wide max) 1 S.contacts budget 0 T)
-    (enough : is_negative_sign (ordered_fractions.sign (right ordered_fractions S' U S'.rows)) ≡ false)
-    (factor : S'.factors ≡ 1) where
+pub record IsPastFirst (max : ℤ) (S S' : Shape) (T U : Tabled Fraction) (budget : ℕ) (k : Pivots) : Type 0 where
+  pub same : S' ≡ S
+  pub first : settled k.left k.done U ≡ turns ordered_fractions S (is_too_wide max) 1 S.contacts budget 0 T
+  pub enough : is_negative_sign (ordered_fractions.sign (right ordered_fractions S' U S'.rows)) ≡ false
+  pub factor : S'.factors ≡ 1
+
+-- and past phase 2, which left the table V and the pivots l
+pub record IsPastSecond (max : ℤ) (S S' : Shape) (U V : Tabled Fraction) (k l : Pivots) : Type 0 where
+  pub same : S' ≡ S
+  pub second : settled l.left l.done V ≡ drives ordered_fractions S (is_too_wide max) S.rows k.left k.done
+      (clear_objective ordered_fractions S U)
+
+module _ (settles : Bool) {max : ℤ} {S S' : Shape} {T U : Tabled Fraction} {budget : ℕ} {k : Pivots}
+    (p : IsPastFirst max S S' T U budget k) where
   -- phase 3
   abbrev on_third : ℕ → ℕ → Tabled Fraction → PhaseStop Fraction
   on_third l d V = turns ordered_fractions S (is_too_wide max) 3 (plain S) l d
@@ -106,12 +110,12 @@ module _ (settles : Bool) (max : ℤ) (S S' : Shape) (T U : Tabled Fraction) (bu
   -- the run goes on with phases 2 and 3
   raised : written_run ordered_fractions S (is_too_wide max) budget T
       ≡ third_end (raise ordered_fractions S (is_too_wide max) k.left k.done U)
-  raised = ap (first_end ordered_fractions S (is_too_wide max)) (sym first)
+  raised = ap (first_end ordered_fractions S (is_too_wide max)) (sym p.first)
       ∙ ap (λ b. cond b (infeasible U) (past_first ordered_fractions S (is_too_wide max) k.left k.done U S.factors))
-      (ap (λ (S : Shape). is_negative_sign (ordered_fractions.sign (right ordered_fractions S U S.rows))) (sym same)
-      ∙ enough)
+      (ap (λ (S : Shape). is_negative_sign (ordered_fractions.sign (right ordered_fractions S U S.rows))) (sym p.same)
+      ∙ p.enough)
       ∙ ap (past_first ordered_fractions S (is_too_wide max) k.left k.done U)
-      (ap (λ (S : Shape). S.factors) (sym same) ∙ factor)
+      (ap (λ (S : Shape). S.factors) (sym p.same) ∙ p.factor)
 
   -- by the answer of phase 2
   second_is : (X : PhaseStop Fraction) → X ≡ drives ordered_fractions S' (is_too_wide max) S'.rows k.left k.done
@@ -120,7 +124,7 @@ module _ (settles : Bool) (max : ℤ) (S S' : Shape) (T U : Tabled Fraction) (bu
   second_is X h = raised ∙ ap (λ x. third_end (after_phase x on_third))
       (ap (λ (S : Shape). drives ordered_fractions S (is_too_wide max) S.rows k.left k.done
       (clear_objective ordered_fractions S U))
-      (sym same) ∙ sym h)
+      (sym p.same) ∙ sym h)
 
   -- phase 2 is stopped
   pub second_stops : (e : RunStop) →
@@ -132,9 +136,7 @@ module _ (settles : Bool) (max : ℤ) (S S' : Shape) (T U : Tabled Fraction) (bu
       subst (TellsEnd settles e) (sym (second_is X refl)) (after_stopped settles e X on_third h)
 
   -- phase 2 leaves the table V and the pivots l
-  module _ (S'' : Shape) (V : Tabled Fraction) (l : Pivots) (same' : S'' ≡ S')
-      (second : settled l.left l.done V ≡ drives ordered_fractions S' (is_too_wide max) S'.rows k.left k.done
-      (clear_objective ordered_fractions S' U)) where
+  module _ {S'' : Shape} {V : Tabled Fraction} {l : Pivots} (q : IsPastSecond max S' S'' U V k l) where
     -- by the answer of phase 3
     pub third_is : (X : PhaseStop Fraction) → X ≡ turns ordered_fractions S'' (is_too_wide max) 3
         (plain S'') l.left l.done
@@ -142,7 +144,7 @@ module _ (settles : Bool) (max : ℤ) (S S' : Shape) (T U : Tabled Fraction) (bu
         third_end X ≡ written_run ordered_fractions S (is_too_wide max) budget T
     third_is X h = ap third_end (h
         ∙ ap (λ (S : Shape). turns ordered_fractions S (is_too_wide max) 3 (plain S) l.left l.done
-        (set_factor_objective ordered_fractions S V)) (same' ∙ same)) ∙ sym (second_is _ second)
+        (set_factor_objective ordered_fractions S V)) (q.same ∙ p.same)) ∙ sym (second_is _ q.second)
 
     -- phase 3 is stopped
     pub third_stops : (e : RunStop) →

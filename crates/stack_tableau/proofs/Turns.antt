@@ -1,27 +1,26 @@
 -- What a choice says of its row, and what the answer of a turn says of the phase.
-use Rattle.std.proofs.Common.{◌≡◌, ◌≢◌, sym, ap, subst, ◌∙◌, ℕ, zero, suc, ◌<◌, Bool, Option, Some}
-use Rattle.std.proofs.Common.{None, Result, Err, arith}
-use lib.IntN.{ℤ, pos}
-use Rattle.stack_algebra.specs.Fraction.{Fraction}
-use Rattle.stack_algebra.specs.Ordered.{sign_of}
-use Rattle.stack_algebra.proofs.Search.{least-some, first, first_found}
-use Rattle.stack_algebra.proofs.OrderedFractions.{ordered_fractions}
-use Rattle.stack_rational.specs.TooWide.{is_too_wide}
+use Rattle.std.proofs.Common.{◌≡◌, ◌≢◌, sym, ap, subst, ◌∙◌, ℕ, zero, suc, ◌<◌, Bool, Option, Some, None, Ok}
+use Rattle.std.proofs.Common.{Err, arith, ℤ, pos}
+use Rattle.stack_rational.proofs.Common.{Fraction, sign_of, least-some, first, first_found, ordered_fractions}
+use Rattle.stack_rational.proofs.Common.{is_too_wide}
 use Rattle.stack_table.specs.declared.types.PivotWide.{PivotWide}
 use Rattle.stack_table.specs.Table.{Shape, Tabled, pivoted_at}
 use Rattle.stack_table.specs.Spots.{pivot_spot}
 use Rattle.stack_bland.specs.Choice.{is_negative_sign, ratio, ratio_item, ratio_row, entering, leaving}
-use Rattle.stack_run.specs.WrittenRun.{Choice, due, refused, PhaseStop, wide_at}
-use Rattle.stack_run.specs.WrittenRun.{spent, on_spot, on_choice, chosen_at, chosen_in, choose, turns}
+use Rattle.stack_run.specs.WrittenRun.{Choice, due, refused, PhaseStop, wide_at, spent, on_spot, on_choice, chosen_at}
+use Rattle.stack_run.specs.WrittenRun.{chosen_in, choose, turns}
 use Rattle.stack_run.specs.declared.pivots.Pivots.{Pivots}
-use Rattle.stack_run.specs.PhaseStops.{spot_of, IsPivoted, phase_from}
+use Rattle.stack_run.specs.PhaseStops.{spot_of, IsPivoted, phase_from, stop_of}
+use Rattle.stack_run.specs.declared.stops.PhaseEnd.{PhaseEnd}
+use Rattle.stack_run.specs.declared.stops.Turn.{Turn}
+use Rattle.stack_run.specs.declared.stops.Turn.TheVariants.{Stops, GoesOn}
 use Rattle.stack_run.proofs.BestRow.{best-some}
 use Rattle.stack_tableau.specs.declared.stops.TurnRefusal.{TurnRefusal}
 use Rattle.stack_tableau.specs.declared.stops.TurnRefusal.TheVariants as refusals
 use Rattle.stack_tableau.specs.declared.stops.RunStop.{RunStop}
 use Rattle.stack_tableau.specs.declared.stops.RunStop.TheVariants.{TooWide, Spent, Unsettled}
 use Rattle.stack_tableau.specs.Answers.{TellsNoRatio}
-use Rattle.stack_tableau.specs.Tells.{TellsRefused, TellsRow, TellsPivot, TellsStop}
+use Rattle.stack_tableau.specs.Tells.{TellsRefused, TellsRow, row_chosen, TellsPivot, TellsStop, TellsTurn}
 
 -- the first ratio that is too wide refuses the choice
 pub row_refused : (settles : Bool) (max : ℤ) (S : Shape) (T : Tabled Fraction) (c i : ℕ) (e : TurnRefusal)
@@ -52,15 +51,15 @@ entering_below S T among c e =
     (least-some among (λ j. is_negative_sign (ordered_fractions.sign (T.cell S.rows j))) c (sym e)).below
 
 -- one column enters, where the cells of it are made in a table with the same content
-pub one_enters : (max : ℤ) (S S' : Shape) (T T' : Tabled Fraction) (among : ℕ) → S' ≡ S → T' ≡ T →
-    (settles : Bool) (c : ℕ) (r : Result (Option ℕ) TurnRefusal) → Some c ≡ entering ordered_fractions S T among →
-    TellsRow settles c r (chosen_at c (ratio_row ordered_fractions S' (is_too_wide max) T' c)
+pub one_enters : (max : ℤ) {S S' : Shape} {T T' : Tabled Fraction} (among : ℕ) → S' ≡ S → T' ≡ T →
+    (settles : Bool) (c : ℕ) {o p : Option ℕ} → o ≡ p → Some c ≡ entering ordered_fractions S T among →
+    TellsRow settles c (Ok o) (chosen_at c (ratio_row ordered_fractions S' (is_too_wide max) T' c)
     (leaving ordered_fractions S' T' c)) →
-    TellsRow settles c r (choose ordered_fractions S (is_too_wide max) T among)
-one_enters max S S' T T' among p q settles c r e h = subst (TellsRow settles c r)
-    ((λ z. chosen_at c (ratio_row ordered_fractions (p z) (is_too_wide max) (q z) c)
+    TellsRow settles c (Ok p) (choose ordered_fractions S (is_too_wide max) T among)
+one_enters max {S = S} {T = T} among p q settles c k e h = ap (row_chosen c) (sym k) ∙ h
+    ∙ (λ z. chosen_at c (ratio_row ordered_fractions (p z) (is_too_wide max) (q z) c)
     (leaving ordered_fractions (p z) (q z) c))
-    ∙ ap (chosen_in ordered_fractions S (is_too_wide max) T) e) h
+    ∙ ap (chosen_in ordered_fractions S (is_too_wide max) T) e
 
 -- a turn
 module _ (settles : Bool) (max : ℤ) (S : Shape) (phase among : ℕ) (T : Tabled Fraction) where
@@ -115,20 +114,24 @@ module _ (settles : Bool) (max : ℤ) (S : Shape) (phase among : ℕ) (T : Table
         ∙ ap (λ n. turns ordered_fractions S (is_too_wide max) phase among n k.done T) (sym h.left)
 
 -- a turn of the loop, whose table has the shape of the first
-module _ (settles : Bool) (max : ℤ) (S S' : Shape) (phase among : ℕ) (l : Pivots) (T U : Tabled Fraction)
-    (X : PhaseStop Fraction) (same : S' ≡ S) (so_far : phase_from max S phase among l T ≡ X) where
+module _ (settles : Bool) (max : ℤ) {S S' : Shape} (phase among : ℕ) (l : Pivots) (T : Tabled Fraction)
+    {X : PhaseStop Fraction} (same : S' ≡ S) (so_far : phase_from max S phase among l T ≡ X) where
   carried : phase_from max S' phase among l T ≡ X
   carried = ap (λ (S : Shape). phase_from max S phase among l T) same ∙ so_far
 
-  -- the end of a phase tells the phase
-  pub loop_tells : (Y : PhaseStop Fraction) → Y ≡ phase_from max S' phase among l T → Y ≡ X
-  loop_tells Y h = h ∙ carried
-
-  -- and so does a refusal
+  -- a refusal tells the phase
   pub loop_stops : (e : RunStop) → TellsStop settles e (phase_from max S' phase among l T) → TellsStop settles e X
   loop_stops e h = subst (TellsStop settles e) carried h
 
-  -- and each turn what is left of it
-  pub loop_goes_on : (k : Pivots) → phase_from max S' phase among k U ≡ phase_from max S' phase among l T →
-      phase_from max S phase among k U ≡ X
-  loop_goes_on k h = ap (λ (S : Shape). phase_from max S phase among k U) (sym same) ∙ h ∙ carried
+  module _ (U : Tabled Fraction) {x : Turn}
+      (h : TellsTurn settles max S' phase among U (Ok x) (phase_from max S' phase among l T)) where
+    told : {y : Turn} → x ≡ y → TellsTurn settles max S' phase among U (Ok y) (phase_from max S' phase among l T)
+    told e = subst (λ (x : Turn). TellsTurn settles max S' phase among U (Ok x) (phase_from max S' phase among l T)) e h
+
+    -- and so does its end
+    pub loop_tells : (e : PhaseEnd) → x ≡ Stops e → stop_of U e ≡ X
+    loop_tells e p = told p ∙ carried
+
+    -- and each turn what is left of it
+    pub loop_goes_on : (k : Pivots) → x ≡ GoesOn k → phase_from max S phase among k U ≡ X
+    loop_goes_on k p = ap (λ (S : Shape). phase_from max S phase among k U) (sym same) ∙ told p ∙ carried

@@ -1,7 +1,5 @@
 use Rattle.std.proofs.Common.{sym, ap, ◌∙◌}
-use Rattle.stack_algebra.specs.Fraction.{Fraction}
-use Rattle.stack_algebra.specs.Ordered.{sign_of}
-use Rattle.stack_algebra.proofs.Search.{only_if, first_found, first_more}
+use Rattle.stack_rational.proofs.Common.{Fraction, sign_of, only_if, first_found, first_more}
 use Rattle.stack_table.specs.Seen.{table_of}
 use Rattle.stack_bland.specs.Choice.{is_negative_sign}
 use Rattle.stack_bland.proofs.entering_column.entering.Goals as goal

@@ -1,5 +1,5 @@
 use Rattle.std.proofs.Common.{◌≡◌, None}
-use Rattle.stack_algebra.proofs.OrderedFractions.{ordered_fractions}
+use Rattle.stack_rational.proofs.Common.{ordered_fractions}
 use Rattle.stack_table.specs.Seen.{shape_of_table, table_of}
 use Rattle.stack_bland.specs.Choice.{entering}
 use Rattle.stack_bland.proofs.entering_column.entering.Given as goal

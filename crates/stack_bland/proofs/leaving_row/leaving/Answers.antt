@@ -1,12 +1,7 @@
-use Rattle.std.proofs.Common.{◌≡◌, sym, ap, subst, ◌∙◌, ℕ, ◌<◌, Bool, true, false, cond, None}
-use lib.IntN.{ℤ}
-use Rattle.stack_algebra.specs.Fraction.{Fraction}
-use Rattle.stack_algebra.specs.Ordered.{sign_of}
-use Rattle.stack_algebra.specs.Rows.{quotient}
-use Rattle.stack_algebra.proofs.OrderedFractions.{ordered_fractions}
-use Rattle.stack_algebra.proofs.Search.{only_if, first_found, first_more}
+use Rattle.std.proofs.Common.{◌≡◌, sym, ap, subst, ◌∙◌, ℕ, ◌<◌, Bool, true, false, cond, None, ℤ}
+use Rattle.stack_rational.proofs.Common.{Fraction, sign_of, ordered_fractions, only_if, first_found, first_more}
+use Rattle.stack_rational.proofs.Common.{is_too_wide, quotient}
 use Rattle.stack_rational.specs.declared.exact.Op.TheVariants.{Quotient}
-use Rattle.stack_rational.specs.TooWide.{is_too_wide}
 use Rattle.stack_table.specs.Table.{Shape, Tabled, columns}
 use Rattle.stack_table.specs.Seen.{shape_of_table, table_of}
 use Rattle.stack_bland.specs.Choice.{is_plus, ratio, ratio_item}

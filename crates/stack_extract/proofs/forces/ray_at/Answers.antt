@@ -1,5 +1,5 @@
 use Rattle.std.proofs.Common.{sym, subst, ◌∙◌, List}
-use Rattle.stack_algebra.specs.Fraction.{Fraction}
+use Rattle.stack_rational.proofs.Common.{Fraction}
 use Rattle.stack_extract.specs.WholeLists.{whole_list, NonePulls}
 use Rattle.stack_extract.proofs.Made.{few_contacts, ray_list_is, ray_length, rates_push}
 use Rattle.stack_extract.proofs.forces.ray_at.Goals as goal

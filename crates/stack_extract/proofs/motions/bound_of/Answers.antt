@@ -1,6 +1,6 @@
 use Rattle.std.proofs.Common.{length, ap, ◌∙◌}
+use Rattle.stack_rational.proofs.Common.{length_listed}
 use Rattle.stack_extract.specs.WrittenLists.{bound_number}
-use Rattle.stack_algebra.proofs.Listed.{length_listed}
 use Rattle.stack_extract.proofs.motions.bound_of.Goals as goal
 
 pub from_list-requires-clause-listed : goal.from_list-requires-clause-listed

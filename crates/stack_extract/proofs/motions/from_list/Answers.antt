@@ -1,5 +1,4 @@
-use Rattle.std.proofs.Common.{List, ap, ◌∙◌, arith}
-use lib.IntN.{ℤ}
+use Rattle.std.proofs.Common.{List, ap, ◌∙◌, arith, ℤ}
 use Rattle.stack_whole.specs.Whole.{fits}
 use Rattle.stack_extract.specs.WholeLists.{amount}
 use Rattle.stack_extract.specs.declared.types.Numbers.TheVariants.{Motion}

@@ -1,5 +1,4 @@
-use Rattle.std.proofs.Common.{sym, ◌∙◌, arith}
-use Rattle.std.proofs.lemmas.Bool.{eq-eqb}
+use Rattle.std.proofs.Common.{sym, ◌∙◌, arith, eq-eqb}
 use Rattle.stack_extract.proofs.TableReads.{found_here}
 use Rattle.stack_extract.proofs.numbers.basic_row.Goals as goal
 

@@ -1,5 +1,5 @@
 use Rattle.std.proofs.Common.{◌≡◌, eqb, None}
-use Rattle.stack_algebra.specs.Search.{first, only_if}
+use Rattle.stack_rational.proofs.Common.{first, only_if}
 use Rattle.stack_extract.proofs.numbers.basic_row.Given as goal
 
 abbrev pub invariant-loop-row : goal.invariant-loop-row

@@ -1,5 +1,5 @@
 use Rattle.std.proofs.Common.{◌≡◌}
-use Rattle.stack_algebra.specs.Listed.{listed}
+use Rattle.stack_rational.proofs.Common.{listed}
 use Rattle.stack_extract.specs.WrittenLists.{bound_number}
 use Rattle.stack_extract.proofs.numbers.bound_numbers.Given as goal
 

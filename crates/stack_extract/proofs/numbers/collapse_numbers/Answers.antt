@@ -1,5 +1,5 @@
 use Rattle.std.proofs.Common.{◌∙◌, arith}
-use Rattle.stack_algebra.proofs.Fractions.{add, neg}
+use Rattle.stack_rational.proofs.Common.{add, neg}
 use Rattle.stack_extract.specs.WrittenLists.{collapse_number}
 use Rattle.stack_extract.proofs.TableReads.{grown}
 use Rattle.stack_extract.proofs.WrittenPlaces.{told, shift_too_wide, shift_fits}

@@ -1,6 +1,5 @@
 use Rattle.std.proofs.Common.{◌≡◌, None}
-use Rattle.stack_algebra.specs.Search.{first}
-use Rattle.stack_algebra.specs.Listed.{listed}
+use Rattle.stack_rational.proofs.Common.{first, listed}
 use Rattle.stack_extract.specs.WrittenLists.{collapse_number}
 use Rattle.stack_extract.specs.Places.{shift_spot}
 use Rattle.stack_extract.proofs.numbers.collapse_numbers.Given as goal

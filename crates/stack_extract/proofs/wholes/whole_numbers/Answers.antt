@@ -1,7 +1,7 @@
 use Rattle.std.proofs.Common.{ℕ, ◌+◌, ◌<◌, ◌≤◌, arith}
 use Rattle.stack_rational.proofs.RunningMultiple.{held}
-use Rattle.stack_extract.proofs.WrittenPlaces.{told, scale_too_wide, kept_scale, scale_stands, one_more}
-use Rattle.stack_extract.proofs.WrittenPlaces.{passes_here, all_whole}
+use Rattle.stack_extract.proofs.WrittenPlaces.{told, scale_too_wide, kept_scale, scale_stands, one_more, passes_here}
+use Rattle.stack_extract.proofs.WrittenPlaces.{all_whole}
 use Rattle.stack_extract.proofs.wholes.whole_numbers.Goals as goal
 
 next : (i n : ℕ) → i < n → i + 1 ≤ n

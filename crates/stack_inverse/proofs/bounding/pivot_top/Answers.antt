@@ -1,5 +1,4 @@
-use Rattle.std.proofs.Common.{subst, arith, pos}
-use lib.IntN.{ℤ}
+use Rattle.std.proofs.Common.{subst, arith, pos, ℤ}
 use Rattle.stack_inverse.specs.RowBlock.{IsWholeTop}
 use Rattle.stack_inverse.specs.Columns.{plain_own}
 use Rattle.stack_inverse.proofs.Steps.{by_top}

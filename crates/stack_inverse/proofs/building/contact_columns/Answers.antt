@@ -1,6 +1,5 @@
-use Rattle.std.proofs.Common.{◌≡◌, ◌<◌, sym, ap, subst, ◌∙◌, ◌+◌, List, map, length, get_or, []}
-use Rattle.std.proofs.lemmas.List.{length_push, get_or-map}
-use lib.IntN.{ℤ}
+use Rattle.std.proofs.Common.{◌≡◌, ◌<◌, sym, ap, subst, ◌∙◌, ◌+◌, List, map, length, get_or, [], ℤ}
+use Rattle.stack_rational.proofs.Common.{length_push, get_or-map}
 use Rattle.stack_table.specs.declared.problem.Entry.{Entry}
 use Rattle.stack_table.specs.declared.problem.Column.{Column as Given}
 use Rattle.stack_inverse.specs.declared.columns.FirstColumn.{FirstColumn}

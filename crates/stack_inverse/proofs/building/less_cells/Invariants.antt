@@ -1,6 +1,5 @@
-use Rattle.std.proofs.Common.{◌≡◌, drop}
-use lib.IntN.{◌-ℤ◌}
-use Rattle.stack_algebra.specs.Sums.{sum_of}
+use Rattle.std.proofs.Common.{◌≡◌, drop, ◌-ℤ◌}
+use Rattle.stack_rational.proofs.Common.{sum_of}
 use Rattle.stack_inverse.specs.FirstTable.{less_cells}
 use Rattle.stack_inverse.proofs.building.less_cells.Given as goal
 

@@ -1,5 +1,5 @@
 use Rattle.std.proofs.Common.{◌≡◌, refl, ap, ◌∙◌, ◌+◌, length}
-use Rattle.std.proofs.lemmas.List.{length_push}
+use Rattle.stack_rational.proofs.Common.{length_push}
 use Rattle.stack_inverse.proofs.Grown.{grown_by}
 use Rattle.stack_inverse.proofs.filling.repeated.Goals as goal
 

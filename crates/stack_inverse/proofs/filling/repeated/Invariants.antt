@@ -1,5 +1,4 @@
-use Rattle.std.proofs.Common.{◌≡◌, ℕ, ◌<◌, length}
-use lib.IntN.{ℤ}
+use Rattle.std.proofs.Common.{◌≡◌, ℕ, ◌<◌, length, ℤ}
 use Rattle.stack_rows.specs.RowForm.{at_value}
 use Rattle.stack_inverse.proofs.filling.repeated.Given as goal
 

@@ -1,5 +1,5 @@
 use Rattle.std.proofs.Common.{◌≡◌, refl, ap, ◌∙◌, ℕ, ◌+◌, length, false}
-use Rattle.std.proofs.lemmas.List.{length_push}
+use Rattle.stack_rational.proofs.Common.{length_push}
 use Rattle.stack_inverse.specs.Columns.{RowSeen, no_row}
 use Rattle.stack_inverse.specs.RowsSeen.{seen_of}
 use Rattle.stack_inverse.proofs.Grown.{grown_by}

@@ -1,6 +1,5 @@
-use Rattle.std.proofs.Common.{◌≡◌, subst, ◌∙◌, List}
-use lib.IntN.{◌+ℤ◌, ◌*ℤ◌}
-use Rattle.stack_algebra.specs.Sums.{sum_of}
+use Rattle.std.proofs.Common.{◌≡◌, subst, ◌∙◌, List, ◌+ℤ◌, ◌*ℤ◌}
+use Rattle.stack_rational.proofs.Common.{sum_of}
 use Rattle.stack_rows.specs.RowForm.{number_at}
 use Rattle.stack_inverse.specs.Columns.{cells_at, revised_own}
 use Rattle.stack_inverse.proofs.ProductSums.{product_alone}

@@ -1,6 +1,5 @@
-use Rattle.std.proofs.Common.{◌≡◌, drop}
-use lib.IntN.{◌+ℤ◌, ◌*ℤ◌}
-use Rattle.stack_algebra.specs.Sums.{sum_of}
+use Rattle.std.proofs.Common.{◌≡◌, drop, ◌+ℤ◌, ◌*ℤ◌}
+use Rattle.stack_rational.proofs.Common.{sum_of}
 use Rattle.stack_rows.specs.RowForm.{number_at}
 use Rattle.stack_inverse.proofs.making.sum_over.Given as goal
 

@@ -4,12 +4,6 @@ use Rattle.stack_inverse.proofs.Covered.{covers_more}
 use Rattle.stack_inverse.proofs.RowByCells.{all_within}
 use Rattle.stack_inverse.proofs.making.top_in.Goals as goal
 
-pub loop-j-init : goal.loop-j-init
-loop-j-init g c = record {
-  cells = λ k l. c.top_of-top.ensures k (omega (arith, l, c.requires));
-  made = λ d i l. absurd (omega (arith, l));
-}
-
 pub loop-j-preserved : goal.loop-j-preserved
 loop-j-preserved g c =
     let v = g.T.RowNumber.value in

@@ -1,5 +1,4 @@
-use Rattle.std.proofs.Common.{ℕ, suc, ◌<◌, ◌≤◌, unsigned_abs}
-use lib.IntN.{ℤ}
+use Rattle.std.proofs.Common.{ℕ, suc, ◌<◌, ◌≤◌, unsigned_abs, ℤ}
 use Rattle.stack_rows.specs.RowForm.{number_at}
 use Rattle.stack_inverse.specs.Columns.{row_number}
 use Rattle.stack_inverse.proofs.making.top_in.Given as goal

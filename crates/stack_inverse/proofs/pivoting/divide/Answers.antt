@@ -1,6 +1,5 @@
 use Rattle.std.proofs.Common.{sym, ap, subst, ◌∙◌, ℕ, List, length, unsigned_abs, subst₂}
-use Rattle.std.proofs.lemmas.List.{with_items_is}
-use Rattle.std.specs.Vec.{with_items}
+use Rattle.stack_rational.proofs.Common.{with_items_is, with_items}
 use Rattle.stack_rows.specs.RowForm.{IsSameRow, AreJumps}
 use Rattle.stack_inverse.specs.RowBlock.{IsTopped, AreWithin}
 use Rattle.stack_inverse.specs.Columns.{row_number}

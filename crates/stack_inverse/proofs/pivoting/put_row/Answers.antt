@@ -1,5 +1,5 @@
 use Rattle.std.proofs.Common.{refl, sym, ap, ◌∙◌, length, slice_index_or}
-use Rattle.std.proofs.lemmas.List.{with_items_is}
+use Rattle.stack_rational.proofs.Common.{with_items_is}
 use Rattle.stack_inverse.proofs.PutRow.{put_is}
 use Rattle.stack_inverse.proofs.pivoting.put_row.Goals as goal
 

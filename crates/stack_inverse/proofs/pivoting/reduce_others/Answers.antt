@@ -1,6 +1,5 @@
 use Rattle.std.proofs.Common.{◌≡◌, sym, ap, subst, ◌∙◌, ℕ, ◌<◌, suc, length, pos, true, false, slice_index_or, arith}
-use Rattle.stack_algebra.proofs.OrderedFractions.{ordered_fractions}
-use Rattle.stack_rational.specs.TooWide.{is_too_wide}
+use Rattle.stack_rational.proofs.Common.{ordered_fractions, is_too_wide}
 use Rattle.stack_rows.proofs.Numbers.{at-index}
 use Rattle.stack_table.specs.Spots.{reduce_spot}
 use Rattle.stack_inverse.specs.RowBlock.{AllNumbersFit, IsReducedRow}

@@ -1,5 +1,5 @@
 use Rattle.std.proofs.Common.{sym, ap, ◌∙◌}
-use Rattle.stack_rational.specs.Order.{is_zero_whole}
+use Rattle.stack_rational.proofs.Common.{is_zero_whole}
 use Rattle.stack_inverse.specs.Columns.{revised_own}
 use Rattle.stack_inverse.specs.RowsSeen.{pivot_cell, columns_of}
 use Rattle.stack_inverse.proofs.Steps.{row_stays}

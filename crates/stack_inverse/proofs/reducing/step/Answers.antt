@@ -1,9 +1,5 @@
-use Rattle.std.proofs.Common.{◌≡◌, sym, ap, subst, ◌∙◌, ℕ, ◌≤◌, None, unsigned_abs}
-use lib.IntN.{ℤ, ◌*ℤ◌}
-use Rattle.stack_algebra.specs.Fraction.{Fraction}
-use Rattle.stack_algebra.proofs.Over.{over}
-use Rattle.stack_algebra.proofs.OrderedFractions.{ordered_fractions}
-use Rattle.stack_rational.specs.TooWide.{is_too_wide}
+use Rattle.std.proofs.Common.{◌≡◌, sym, ap, subst, ◌∙◌, ℕ, ◌≤◌, None, unsigned_abs, ℤ, ◌*ℤ◌}
+use Rattle.stack_rational.proofs.Common.{Fraction, over, ordered_fractions, is_too_wide}
 use Rattle.stack_table.specs.Spots.{reduce_spot}
 use Rattle.stack_rows.specs.RowForm.{IsTaken}
 use Rattle.stack_inverse.specs.RowBlock.{IsReducedRow}

@@ -1,14 +1,9 @@
 use Rattle.std.proofs.Common.{sym, ◌∙◌}
-use Rattle.stack_algebra.proofs.Over.{over}
-use Rattle.stack_algebra.proofs.OrderedFractions.{ordered_fractions}
-use Rattle.stack_rational.specs.TooWide.{is_too_wide}
+use Rattle.stack_rational.proofs.Common.{over, ordered_fractions, is_too_wide}
 use Rattle.stack_table.specs.Spots.{reduce_spot}
 use Rattle.stack_inverse.specs.Columns.{row_cell}
 use Rattle.stack_inverse.specs.RowsSeen.{seen_of, cell_in_row, columns_of}
 use Rattle.stack_inverse.proofs.reducing.step_by_cells.Goals as goal
-
-pub row_spot-requires-clause-widest : goal.row_spot-requires-clause-widest
-row_spot-requires-clause-widest g c = c.is_widest.ensures c.if-not-is_widest.false
 
 pub returns-in-Some-Some-clause-wide : goal.returns-in-Some-Some-clause-wide
 returns-in-Some-Some-clause-wide g c =

@@ -1,6 +1,5 @@
-use Rattle.std.proofs.Common.{sym, ap, subst, ◌∙◌, List, length, unsigned_abs, subst₂}
-use Rattle.std.proofs.lemmas.List.{with_items_is}
-use lib.IntN.{ℤ}
+use Rattle.std.proofs.Common.{sym, ap, subst, ◌∙◌, List, length, unsigned_abs, subst₂, ℤ}
+use Rattle.stack_rational.proofs.Common.{with_items_is}
 use Rattle.stack_inverse.specs.RowBlock.{IsTopped, IsStepTopped}
 use Rattle.stack_inverse.proofs.Tops.{taken_topped}
 use Rattle.stack_inverse.proofs.reducing.step_by_tops.Goals as goal

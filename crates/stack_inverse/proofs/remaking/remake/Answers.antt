@@ -1,6 +1,5 @@
-use Rattle.std.proofs.Common.{◌≡◌, ◌≢◌, sym, subst, ◌∙◌, ℕ, ◌<◌, pos, length, set, arith, subst₂}
-use lib.IntN.{ℤ, ◌*ℤ◌, ◌-ℤ◌}
-use native.Mathlib.Decide.{dec_lt}
+use Rattle.std.proofs.Common.{◌≡◌, ◌≢◌, sym, subst, ◌∙◌, ℕ, ◌<◌, pos, length, set, arith, subst₂, ℤ, ◌*ℤ◌, ◌-ℤ◌}
+use Rattle.stack_rational.proofs.Common.{dec_lt}
 use Rattle.stack_rows.specs.RowForm.{number_at}
 use Rattle.stack_rows.proofs.Numbers.{at-past, at-index, at-set_same, at-set_other, done_more, rest_less}
 use Rattle.stack_inverse.proofs.CellSteps.{remade_past}
@@ -44,17 +43,12 @@ returns g c h = all
         ≡ (number_at g.T.RowNumber.value c.args.numbers.now i *ℤ g.T.RowNumber.value c.args.s.pivot_under
         -ℤ g.T.RowNumber.value c.args.s.factor *ℤ number_at g.T.RowNumber.value c.args.pivot.now i)
         *ℤ g.T.RowNumber.value c.args.common
-    all i = go (dec_lt i c.loop-j.j)
-      where
-        go : Dec (i < c.loop-j.j) → number_at g.T.RowNumber.value c.loop-j.numbers i
-            *ℤ (g.T.RowNumber.value c.args.s.under *ℤ g.T.RowNumber.value c.args.s.pivot_under)
-            ≡ (number_at g.T.RowNumber.value c.args.numbers.now i *ℤ g.T.RowNumber.value c.args.s.pivot_under
-            -ℤ g.T.RowNumber.value c.args.s.factor *ℤ number_at g.T.RowNumber.value c.args.pivot.now i)
-            *ℤ g.T.RowNumber.value c.args.common
-        go (yes l) = c.loop-j.invariant.done i l
-        go (no l) = remade_past _ _ _ _ _ _ _
-            (at-past g.T.RowNumber.value (pos 0) c.args.numbers.now i (omega (arith, l, c.loop-j-test.false)))
-            (at-past g.T.RowNumber.value (pos 0) c.args.pivot.now i
-            (omega (arith, l, c.loop-j-test.false, c.requires.width)))
-            (at-past g.T.RowNumber.value (pos 0) c.loop-j.numbers i
-            (omega (arith, l, c.loop-j-test.false, c.loop-j.auto.numbers)))
+    all i = elim (dec_lt i c.loop-j.j) [
+      | yes l ↦ c.loop-j.invariant.done i l
+      | no l ↦ remade_past _ _ _ _ _ _ _
+          (at-past g.T.RowNumber.value (pos 0) c.args.numbers.now i (omega (arith, l, c.loop-j-test.false)))
+          (at-past g.T.RowNumber.value (pos 0) c.args.pivot.now i
+          (omega (arith, l, c.loop-j-test.false, c.requires.width)))
+          (at-past g.T.RowNumber.value (pos 0) c.loop-j.numbers i
+          (omega (arith, l, c.loop-j-test.false, c.loop-j.auto.numbers)))
+    ]

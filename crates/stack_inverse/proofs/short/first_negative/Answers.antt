@@ -1,6 +1,5 @@
 use Rattle.std.proofs.Common.{sym, ap, ◌∙◌}
-use Rattle.stack_algebra.specs.Ordered.{sign_of}
-use Rattle.stack_algebra.proofs.Search.{only_if, first_found, first_more}
+use Rattle.stack_rational.proofs.Common.{sign_of, only_if, first_found, first_more}
 use Rattle.stack_bland.specs.Choice.{is_negative_sign}
 use Rattle.stack_inverse.specs.ShortRow.{own_number}
 use Rattle.stack_inverse.proofs.ShortNumbers.{negative_by_opposite}

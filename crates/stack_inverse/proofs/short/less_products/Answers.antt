@@ -1,29 +1,8 @@
-use Rattle.std.proofs.Common.{length, subst, ◌≤◌, ◌-◌, ◌^◌, pos, unsigned_abs}
-use lib.IntN.{ℤ, ◌-ℤ◌}
+use Rattle.std.proofs.Common.{length, ◌-◌, ◌^◌, pos, ◌-ℤ◌}
 use Rattle.stack_inverse.specs.ShortRow.{products_in}
 use Rattle.stack_rows.proofs.Numbers.{at-index}
-use Rattle.stack_inverse.proofs.ShortNumbers.{products_more, own_fits, left_fit, row_below}
+use Rattle.stack_inverse.proofs.ShortNumbers.{products_more, left_fit, row_below}
 use Rattle.stack_inverse.proofs.short.less_products.Goals as goal
-
-pub less_product-sum-requires-clause-number : goal.less_product-sum-requires-clause-number
-less_product-sum-requires-clause-number g c =
-    let row = c.args.row.now in
-    let x = c.cell-item.result in
-    let lt = row_below (length row) c.loop-cell.cell-index c.args.cells.now x c.requires.rows c.loop-cell-test.true
-    c.cell-item.is in
-    let read = at-index g.T.RowNumber.value (pos 0) row x.row c.index-row-cell.result lt c.index-row-cell.is in
-    subst (λ (z : ℤ). unsigned_abs z ≤ 2 ^ 63 - 1) read (c.requires.numbers x.row)
-
-pub less_product-sum-requires-clause-both : goal.less_product-sum-requires-clause-both
-less_product-sum-requires-clause-both g c =
-    let v = g.T.RowNumber.value in
-    let row = c.args.row.now in
-    let x = c.cell-item.result in
-    let k = c.loop-cell.cell-index in
-    let lt = row_below (length row) k c.args.cells.now x c.requires.rows c.loop-cell-test.true c.cell-item.is in
-    let read = at-index v (pos 0) row x.row c.index-row-cell.result lt c.index-row-cell.is in
-    own_fits v row c.args.cells.now k x c.loop-cell-test.true c.cell-item.is (v c.index-row-cell.result) read
-    (v c.loop-cell.sum) (2 ^ 63 - 1) c.loop-cell.invariant.together
 
 pub loop-cell-preserved : goal.loop-cell-preserved
 loop-cell-preserved g c =

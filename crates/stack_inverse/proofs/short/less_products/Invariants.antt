@@ -1,5 +1,4 @@
-use Rattle.std.proofs.Common.{◌≡◌, ◌≤◌, ◌+◌, ◌-◌, ◌^◌, drop, unsigned_abs}
-use lib.IntN.{◌-ℤ◌}
+use Rattle.std.proofs.Common.{◌≡◌, ◌≤◌, ◌+◌, ◌-◌, ◌^◌, drop, unsigned_abs, ◌-ℤ◌}
 use Rattle.stack_inverse.specs.ShortRow.{products_in, product_sizes}
 use Rattle.stack_inverse.proofs.short.less_products.Given as goal
 

@@ -1,5 +1,4 @@
-use Rattle.std.proofs.Common.{◌≡◌, ◌≤◌, ◌-◌, ◌^◌, subst, ◌∙◌, pos, unsigned_abs}
-use lib.IntN.{ℤ}
+use Rattle.std.proofs.Common.{◌≡◌, ◌≤◌, ◌-◌, ◌^◌, subst, ◌∙◌, pos, unsigned_abs, ℤ}
 use Rattle.stack_inverse.specs.Columns.{cells_at}
 use Rattle.stack_rows.proofs.Numbers.{at-index}
 use Rattle.stack_inverse.proofs.Made.{cells_of}

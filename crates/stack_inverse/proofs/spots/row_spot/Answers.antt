@@ -1,6 +1,5 @@
 use Rattle.std.proofs.Common.{sym, subst, suc, ◌+◌, length, Option, Some, None, arith}
-use Rattle.stack_algebra.proofs.Search.{first_found, first_more, first-none, first_all-none}
-use Rattle.stack_algebra.proofs.Over.{over}
+use Rattle.stack_rational.proofs.Common.{first_found, first_more, first-none, first_all-none, over}
 use Rattle.stack_table.specs.declared.types.Step.{Step}
 use Rattle.stack_inverse.specs.Columns.{revised_own, number_with, row_number}
 use Rattle.stack_inverse.specs.CellSteps.{TellsStep}

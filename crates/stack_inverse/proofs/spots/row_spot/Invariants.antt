@@ -1,9 +1,5 @@
 use Rattle.std.proofs.Common.{◌≡◌, None}
-use Rattle.stack_algebra.specs.Search.{first}
-use Rattle.stack_algebra.proofs.Over.{over}
-use Rattle.stack_algebra.proofs.OrderedFractions.{ordered_fractions}
-use Rattle.stack_rational.specs.Laws.{widest}
-use Rattle.stack_rational.specs.TooWide.{is_too_wide}
+use Rattle.stack_rational.proofs.Common.{first, over, ordered_fractions, widest, is_too_wide}
 use Rattle.stack_table.specs.Spots.{reduce_item}
 use Rattle.stack_inverse.specs.Columns.{row_cell}
 use Rattle.stack_inverse.specs.RowsSeen.{seen_of, cell_in_row}

@@ -1,4 +1,4 @@
-use mathlib.Core.Path.{refl, sym, ◌∙◌}
+use Rattle.std.proofs.Common.{refl, sym, ◌∙◌}
 use Rattle.stack_rational.proofs.ByWholeParts.{less-parts, rests, ends-equal, ends-greater, ends-less, next-step}
 use Rattle.stack_rational.proofs.ByWholeParts.{smaller-step, yes-less, above-by, cmp-less, cmp-greater}
 use Rattle.stack_rational.proofs.comparing.order_of_parts.Goals as goal

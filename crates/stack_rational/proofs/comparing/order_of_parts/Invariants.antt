@@ -1,6 +1,4 @@
-use mathlib.Core.Path.{◌≡◌}
-use lib.IntN.{◌*ℤ◌}
-use Rattle.std.specs.Prelude.{◌+◌, unsigned_abs}
+use Rattle.std.proofs.Common.{◌≡◌, ◌*ℤ◌, ◌+◌, unsigned_abs}
 use Rattle.std.specs.Ordering.{int_cmp}
 use Rattle.stack_rational.specs.Stored.{InStep}
 use Rattle.stack_rational.proofs.comparing.order_of_parts.Given as goal

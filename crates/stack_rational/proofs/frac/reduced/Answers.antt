@@ -1,4 +1,4 @@
-use mathlib.Core.Path.{◌∙◌}
+use Rattle.std.proofs.Common.{◌∙◌}
 use Rattle.stack_rational.proofs.OverCommon.{lowest}
 use Rattle.stack_rational.proofs.frac.reduced.Goals as goal
 

@@ -1,5 +1,5 @@
-use mathlib.Core.Path.{◌∙◌}
-use Rattle.stack_rational.specs.Stored.{IsShared}
+use Rattle.std.proofs.Common.{◌∙◌}
+use Rattle.stack_rational.proofs.Common.{IsShared}
 use Rattle.stack_rational.proofs.Crosswise.{positive-divisor}
 use Rattle.stack_rational.proofs.OverCommon.{lowest, shared_by}
 use Rattle.stack_rational.proofs.frac.reduced_by.Goals as goal

@@ -1,6 +1,5 @@
-use Rattle.std.proofs.Common.{subst, sym}
-use Prim.Native.Nat.{ℕ}
-use Rattle.std.specs.Int.{IsGcd}
+use Rattle.std.proofs.Common.{subst, sym, ℕ}
+use Rattle.stack_rational.proofs.Common.{IsGcd}
 use Rattle.std.proofs.lemmas.Nat.Gcd.{IsGcd-from_zero, IsGcd-from_mod}
 use Rattle.stack_rational.proofs.halves.divisor_of.Goals as goal
 

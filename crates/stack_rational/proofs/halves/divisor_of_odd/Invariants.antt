@@ -1,5 +1,5 @@
 use Rattle.std.proofs.Common.{◌≡◌, ◌%◌, ◌+◌, ℕ}
-use Rattle.std.specs.Int.{IsGcd}
+use Rattle.stack_rational.proofs.Common.{IsGcd}
 use Rattle.stack_rational.proofs.halves.divisor_of_odd.Given as goal
 
 abbrev pub invariant-steps : goal.invariant-steps

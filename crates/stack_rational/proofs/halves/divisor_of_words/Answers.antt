@@ -1,4 +1,4 @@
-use native.Mathlib.Omega.{arith}
+use Rattle.std.proofs.Common.{arith}
 use Rattle.std.proofs.lemmas.Nat.Gcd.{IsGcd-swap}
 use Rattle.stack_rational.proofs.OddDivisors.{shifted_divisor}
 use Rattle.stack_rational.proofs.halves.divisor_of_words.Goals as goal

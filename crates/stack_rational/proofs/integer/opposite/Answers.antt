@@ -1,5 +1,4 @@
-use Rattle.std.proofs.Common.{ap, arith}
-use lib.IntN.{nat_abs}
+use Rattle.std.proofs.Common.{ap, arith, nat_abs}
 use Rattle.stack_rational.proofs.Steps.{abs_neg}
 use Rattle.stack_rational.proofs.integer.opposite.Goals as goal
 

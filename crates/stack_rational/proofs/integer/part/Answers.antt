@@ -1,6 +1,5 @@
-use Rattle.std.proofs.Common.{ap, arith}
-use lib.IntN.{nat_abs}
-use Rattle.std.proofs.lemmas.Int.{ints}
+use Rattle.std.proofs.Common.{ap, arith, nat_abs}
+use Rattle.stack_rational.proofs.Common.{ints}
 use Rattle.stack_rational.proofs.Steps.{div-size}
 use Rattle.stack_rational.proofs.integer.part.Goals as goal
 

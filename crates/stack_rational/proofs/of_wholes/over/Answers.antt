@@ -1,5 +1,5 @@
 use Rattle.std.proofs.Common.{ap, ◌∙◌}
-use Rattle.stack_algebra.proofs.Fractions.{of}
+use Rattle.stack_rational.proofs.Common.{of}
 use Rattle.stack_rational.proofs.OverParts.{is_held, divisor_some, quotient_never_too_wide, quotient_of}
 use Rattle.stack_rational.proofs.of_wholes.over.Goals as goal
 

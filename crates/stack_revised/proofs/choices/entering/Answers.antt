@@ -1,5 +1,5 @@
 use Rattle.std.proofs.Common.{sym, ◌∙◌}
-use Rattle.stack_algebra.specs.Search.{least}
+use Rattle.stack_rational.proofs.Common.{least}
 use Rattle.stack_bland.specs.Choice.{is_negative_sign}
 use Rattle.stack_inverse.specs.Seen.{number_in, under_in}
 use Rattle.stack_inverse.proofs.PutRow.{under_positive}

@@ -1,5 +1,5 @@
 use Rattle.std.proofs.Common.{◌≡◌, ap, ◌∙◌, ◌+◌, length, pos}
-use Rattle.std.proofs.lemmas.List.{length_push}
+use Rattle.stack_rational.proofs.Common.{length_push}
 use Rattle.stack_inverse.specs.Seen.{number_in}
 use Rattle.stack_inverse.proofs.Grown.{grown_by}
 use Rattle.stack_revised.proofs.running.column_of.Goals as goal

@@ -1,12 +1,11 @@
-use Rattle.std.proofs.Common.{◌≡◌, sym, ap, subst, ◌∙◌, ℕ, ◌<◌, List, length, get_or, false, subst₂}
-use lib.IntN.{ℤ}
+use Rattle.std.proofs.Common.{◌≡◌, sym, ap, subst, ◌∙◌, ℕ, ◌<◌, List, length, get_or, false, subst₂, ℤ}
+use Rattle.stack_rational.proofs.Common.{Fraction}
 use Rattle.stack_table.specs.Problem.{flipped}
 use Rattle.stack_table.specs.Lent.{problem_of}
 use Rattle.stack_table.proofs.RowByRow.{flips_are}
 use Rattle.stack_run.specs.WrittenRun.{End}
 use Rattle.stack_run.specs.ProblemRun.{run_at}
 use Rattle.stack_revised.specs.declared.stops.RevisedStop.{RevisedStop}
-use Rattle.stack_algebra.specs.Fraction.{Fraction}
 use Rattle.stack_revised.specs.declared.last.Last.{Last}
 use Rattle.stack_inverse.specs.Seen.{shape_of_revised, table_of_revised}
 use Rattle.stack_tableau.specs.EndKinds.{end_at}

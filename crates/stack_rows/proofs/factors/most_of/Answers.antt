@@ -1,5 +1,5 @@
 use Rattle.std.proofs.Common.{ap, unsigned_abs, arith}
-use Rattle.std.proofs.lemmas.Int.{unsigned_abs-mul}
+use Rattle.stack_rational.proofs.Common.{unsigned_abs-mul}
 use Rattle.stack_rows.proofs.factors.most_of.Goals as goal
 
 pub returns : goal.returns

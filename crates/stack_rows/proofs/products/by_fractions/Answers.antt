@@ -1,9 +1,6 @@
 use Rattle.std.proofs.Common.{ap, subst, rules, ◌∙◌, pos, ◌<ℤ◌, SFits, to_z-of_z}
+use Rattle.stack_rational.proofs.Common.{sign_of, less, over, ordered_fractions}
 use Rattle.std.specs.Int.{w128}
-use Rattle.stack_algebra.specs.Ordered.{sign_of}
-use Rattle.stack_algebra.specs.Rows.{less}
-use Rattle.stack_algebra.proofs.Over.{over}
-use Rattle.stack_algebra.proofs.OrderedFractions.{ordered_fractions}
 use Rattle.stack_bland.specs.BySign.{by_sign}
 use Rattle.stack_bland.proofs.OrderBySign.{order_sign}
 use Rattle.stack_rows.proofs.Ratios.{ratio_sign}

@@ -1,6 +1,6 @@
 use Rattle.std.proofs.Common.{sym, subst, rules, ◌∙◌, ◌-ℤ◌, ◌*ℤ◌, SFits, to_z-of_z}
+use Rattle.stack_rational.proofs.Common.{sign_of}
 use Rattle.std.specs.Int.{w128}
-use Rattle.stack_algebra.specs.Ordered.{sign_of}
 use Rattle.stack_bland.specs.BySign.{by_sign}
 use Rattle.stack_rows.proofs.products.by_products.Goals as goal
 

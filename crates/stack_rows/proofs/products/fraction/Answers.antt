@@ -1,10 +1,6 @@
 use Rattle.std.proofs.Common.{◌≡◌, sym, ap, rules, ◌∙◌, true, false, pos, ◌<ℤ◌, arith, SFits, to_z-of_z}
+use Rattle.stack_rational.proofs.Common.{ints, of, mul, inv, of-over, is_zero_whole}
 use Rattle.std.specs.Int.{w128}
-use Rattle.std.proofs.lemmas.Int.{ints}
-use Rattle.stack_algebra.proofs.Fractions.{of, mul}
-use Rattle.stack_algebra.proofs.FractionField.{inv}
-use Rattle.stack_algebra.proofs.Over.{of-over}
-use Rattle.stack_rational.specs.Order.{is_zero_whole}
 use Rattle.stack_rows.proofs.Ratios.{ratio_over}
 use Rattle.stack_rows.proofs.products.fraction.Goals as goal
 

@@ -1,6 +1,5 @@
-use Rattle.std.proofs.Common.{sym, ap, subst, rules, true, false, not, ◌≡◌, ◌∙◌, SFits, to_z-of_z}
+use Rattle.std.proofs.Common.{sym, ap, subst, rules, true, false, not, ◌≡◌, ◌∙◌, SFits, to_z-of_z, T}
 use Rattle.std.specs.Int.{w128}
-use lib.Dec.{T}
 use lib.Signed.{lt_z, lt_z_yes, lt_z_no}
 use Rattle.stack_bland.specs.BySign.{by_sign}
 use Rattle.stack_rows.proofs.Ratios.{sign_less, sign_greater, sign_equal}

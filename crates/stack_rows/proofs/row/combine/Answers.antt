@@ -1,6 +1,5 @@
-use Rattle.std.proofs.Common.{◌≡◌, ◌≢◌, sym, ◌∙◌, ℕ, ◌<◌, pos, length, set, arith}
-use lib.IntN.{ℤ, ◌*ℤ◌, ◌-ℤ◌}
-use native.Mathlib.Decide.{dec_lt}
+use Rattle.std.proofs.Common.{◌≡◌, ◌≢◌, sym, ◌∙◌, ℕ, ◌<◌, pos, length, set, arith, ℤ, ◌*ℤ◌, ◌-ℤ◌}
+use Rattle.stack_rational.proofs.Common.{dec_lt}
 use Rattle.stack_rows.specs.RowForm.{number_at}
 use Rattle.stack_rows.proofs.Numbers.{at-past, at-index, at-set_same, at-set_other, done_more, rest_less}
 use Rattle.stack_rows.proofs.Combined.{combined_past}
@@ -30,15 +29,12 @@ loop-j-preserved g c =
     }
 
 pub returns : goal.returns
-returns g c = λ i. go i (dec_lt i c.loop-j.j)
-  where
-    go : (i : ℕ) → Dec (i < c.loop-j.j) → number_at g.T.RowNumber.value c.loop-j.numbers i
-        ≡ number_at g.T.RowNumber.value c.args.numbers.now i *ℤ g.T.RowNumber.value c.args.k
-        -ℤ g.T.RowNumber.value c.args.t *ℤ number_at g.T.RowNumber.value c.args.pivot.now i
-    go i (yes l) = c.loop-j.invariant.done i l
-    go i (no l) = combined_past _ _ _ _ _
-        (at-past g.T.RowNumber.value (pos 0) c.args.numbers.now i (omega (arith, l, c.loop-j-test.false)))
-        (at-past g.T.RowNumber.value (pos 0) c.args.pivot.now i
-        (omega (arith, l, c.loop-j-test.false, c.requires.width)))
-        (at-past g.T.RowNumber.value (pos 0) c.loop-j.numbers i
-        (omega (arith, l, c.loop-j-test.false, c.loop-j.auto.numbers)))
+returns g c = λ i. elim (dec_lt i c.loop-j.j) [
+  | yes l ↦ c.loop-j.invariant.done i l
+  | no l ↦ combined_past _ _ _ _ _
+      (at-past g.T.RowNumber.value (pos 0) c.args.numbers.now i (omega (arith, l, c.loop-j-test.false)))
+      (at-past g.T.RowNumber.value (pos 0) c.args.pivot.now i
+      (omega (arith, l, c.loop-j-test.false, c.requires.width)))
+      (at-past g.T.RowNumber.value (pos 0) c.loop-j.numbers i
+      (omega (arith, l, c.loop-j-test.false, c.loop-j.auto.numbers)))
+]

@@ -1,6 +1,5 @@
-use Rattle.std.proofs.Common.{◌≡◌, ◌≢◌, refl, sym, ap, ◌∙◌, ℕ, ◌<◌, pos, ◌*ℤ◌, length, set, arith}
-use lib.IntN.{ℤ, zero-*ℤ}
-use native.Mathlib.Decide.{dec_lt}
+use Rattle.std.proofs.Common.{◌≡◌, ◌≢◌, refl, sym, ap, ◌∙◌, ℕ, ◌<◌, pos, ◌*ℤ◌, length, set, arith, ℤ}
+use Rattle.stack_rational.proofs.Common.{dec_lt, zero-*ℤ}
 use Rattle.stack_rows.specs.RowForm.{number_at}
 use Rattle.stack_rows.proofs.Numbers.{at-past, at-index, at-set_same, at-set_other, done_more, rest_less}
 use Rattle.stack_rational.proofs.Fitting.{is_zero_whole-num}
@@ -50,14 +49,11 @@ returns g c h = all
   where
     all : (i : ℕ) → number_at g.T.RowNumber.value c.loop-j.numbers i *ℤ g.T.RowNumber.value c.args.by
         ≡ number_at g.T.RowNumber.value c.args.numbers.now i
-    all i = go (dec_lt i c.loop-j.j)
-      where
-        go : Dec (i < c.loop-j.j) →
-            number_at g.T.RowNumber.value c.loop-j.numbers i *ℤ g.T.RowNumber.value c.args.by
-            ≡ number_at g.T.RowNumber.value c.args.numbers.now i
-        go (yes l) = c.loop-j.invariant.done i l
-        go (no l) = ap (λ z. z *ℤ g.T.RowNumber.value c.args.by)
-            (at-past g.T.RowNumber.value (pos 0) c.loop-j.numbers i
-            (omega (arith, l, c.loop-j-test.false, c.loop-j.auto.numbers)))
-            ∙ zero-*ℤ (g.T.RowNumber.value c.args.by)
-            ∙ sym (at-past g.T.RowNumber.value (pos 0) c.args.numbers.now i (omega (arith, l, c.loop-j-test.false)))
+    all i = elim (dec_lt i c.loop-j.j) [
+      | yes l ↦ c.loop-j.invariant.done i l
+      | no l ↦ ap (λ z. z *ℤ g.T.RowNumber.value c.args.by)
+          (at-past g.T.RowNumber.value (pos 0) c.loop-j.numbers i
+          (omega (arith, l, c.loop-j-test.false, c.loop-j.auto.numbers)))
+          ∙ zero-*ℤ (g.T.RowNumber.value c.args.by)
+          ∙ sym (at-past g.T.RowNumber.value (pos 0) c.args.numbers.now i (omega (arith, l, c.loop-j-test.false)))
+    ]

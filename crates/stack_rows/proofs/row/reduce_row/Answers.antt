@@ -1,5 +1,4 @@
-use Rattle.std.proofs.Common.{ap, ◌∙◌}
-use lib.IntN.{◌*ℤ◌}
+use Rattle.std.proofs.Common.{ap, ◌∙◌, ◌*ℤ◌}
 use Rattle.stack_rows.proofs.row.reduce_row.Goals as goal
 
 pub returns : goal.returns

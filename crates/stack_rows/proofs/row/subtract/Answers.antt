@@ -1,9 +1,8 @@
-use Rattle.std.proofs.Common.{◌≡◌, ◌≢◌, sym, ◌∙◌, ℕ, suc, ◌<◌, pos, length, set, get_or, arith}
-use lib.IntN.{ℤ, ◌*ℤ◌, ◌-ℤ◌}
-use native.Mathlib.Decide.{dec_lt}
+use Rattle.std.proofs.Common.{◌≡◌, ◌≢◌, sym, ◌∙◌, ℕ, suc, ◌<◌, pos, length, set, get_or, arith, ℤ, ◌*ℤ◌, ◌-ℤ◌}
+use Rattle.std.proofs.Common.{length-set}
+use Rattle.stack_rational.proofs.Common.{dec_lt}
 use Rattle.stack_rows.specs.RowForm.{number_at}
 use Rattle.stack_rows.proofs.Numbers.{at-past, at-index, at-set_same, at-set_other, item_same, done_jump, rest_jump}
-use Rattle.std.proofs.lemmas.List.{length-set}
 use Rattle.stack_rows.proofs.Combined.{combined_past, combined_stays}
 use Rattle.stack_rows.proofs.row.subtract.Goals as goal
 
@@ -57,15 +56,12 @@ loop-j-preserved g c =
     }
 
 pub returns : goal.returns
-returns g c = λ i. go i (dec_lt i c.loop-j.j)
-  where
-    go : (i : ℕ) → Dec (i < c.loop-j.j) → number_at g.T.RowNumber.value c.loop-j.numbers i
-        ≡ number_at g.T.RowNumber.value c.args.numbers.now i *ℤ g.T.RowNumber.value c.args.k
-        -ℤ g.T.RowNumber.value c.args.t *ℤ number_at g.T.RowNumber.value c.args.pivot.now i
-    go i (yes l) = c.loop-j.invariant.done i l
-    go i (no l) = combined_past _ _ _ _ _
-        (at-past g.T.RowNumber.value (pos 0) c.args.numbers.now i
-        (omega (arith, l, c.loop-j-test.false, c.loop-j.auto.numbers)))
-        (at-past g.T.RowNumber.value (pos 0) c.args.pivot.now i
-        (omega (arith, l, c.loop-j-test.false, c.requires.width, c.loop-j.auto.numbers)))
-        (at-past g.T.RowNumber.value (pos 0) c.loop-j.numbers i (omega (arith, l, c.loop-j-test.false)))
+returns g c = λ i. elim (dec_lt i c.loop-j.j) [
+  | yes l ↦ c.loop-j.invariant.done i l
+  | no l ↦ combined_past _ _ _ _ _
+      (at-past g.T.RowNumber.value (pos 0) c.args.numbers.now i
+      (omega (arith, l, c.loop-j-test.false, c.loop-j.auto.numbers)))
+      (at-past g.T.RowNumber.value (pos 0) c.args.pivot.now i
+      (omega (arith, l, c.loop-j-test.false, c.requires.width, c.loop-j.auto.numbers)))
+      (at-past g.T.RowNumber.value (pos 0) c.loop-j.numbers i (omega (arith, l, c.loop-j-test.false)))
+]

@@ -1,5 +1,4 @@
-use Rattle.std.proofs.Common.{◌≡◌, ℕ, ◌<◌, ◌≤◌, ◌-◌, length}
-use lib.IntN.{◌*ℤ◌, ◌-ℤ◌}
+use Rattle.std.proofs.Common.{◌≡◌, ℕ, ◌<◌, ◌≤◌, ◌-◌, length, ◌*ℤ◌, ◌-ℤ◌}
 use Rattle.stack_rows.specs.RowForm.{number_at}
 use Rattle.stack_rows.proofs.row.subtract.Given as goal
 

@@ -1,4 +1,4 @@
-use mir.Syntax.{w128}
+use Rattle.stack_rational.proofs.Common.{w128}
 use Rattle.stack_rows.proofs.Casts.{cast_step, cast_step_fits}
 use Rattle.stack_rows.proofs.widening.long_step.Goals as goal
 

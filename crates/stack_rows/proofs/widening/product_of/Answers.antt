@@ -1,4 +1,5 @@
-use mir.Syntax.{w64, w128}
+use Rattle.std.proofs.Common.{w64}
+use Rattle.stack_rational.proofs.Common.{w128}
 use borrow.Author.Numbers.{signed_product}
 use Rattle.stack_rows.proofs.widening.product_of.Goals as goal
 

@@ -1,4 +1,4 @@
-use mir.Syntax.{w64}
+use Rattle.std.proofs.Common.{w64}
 use Rattle.stack_rows.proofs.Casts.{cast_step, cast_step_fits}
 use Rattle.stack_rows.proofs.words.word_step.Goals as goal
 

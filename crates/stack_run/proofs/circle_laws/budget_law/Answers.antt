@@ -1,5 +1,5 @@
 use Rattle.std.proofs.Common.{arith}
-use Rattle.stack_algebra.proofs.OrderedFractions.{ordered_fractions}
+use Rattle.stack_rational.proofs.Common.{ordered_fractions}
 use Rattle.stack_table.specs.Table.{columns}
 use Rattle.stack_table.specs.WrittenTable.{first_row, written_table}
 use Rattle.stack_run.proofs.Begins.{first_table}

@@ -1,4 +1,4 @@
-use Rattle.stack_algebra.proofs.OrderedFractions.{ordered_fractions}
+use Rattle.stack_rational.proofs.Common.{ordered_fractions}
 use Rattle.stack_table.specs.WrittenTable.{first_row, written_table}
 use Rattle.stack_run.proofs.Begins.{first_table}
 use Rattle.stack_run.proofs.Circles.{set_recurs, same_list, each_pivot}

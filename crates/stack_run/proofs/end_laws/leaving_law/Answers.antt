@@ -1,4 +1,4 @@
-use Rattle.stack_algebra.proofs.OrderedFractions.{ordered_fractions}
+use Rattle.stack_rational.proofs.Common.{ordered_fractions}
 use Rattle.stack_bland.specs.Choice.{ratio}
 use Rattle.stack_run.proofs.BestRow.{best-none, best-some}
 use Rattle.stack_run.proofs.end_laws.leaving_law.Goals as goal

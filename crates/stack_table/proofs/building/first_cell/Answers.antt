@@ -1,9 +1,6 @@
-use Rattle.std.proofs.Common.{◌≡◌, ap, subst, ◌∙◌, ℤ, pos, not, true, false, arith, IfOk, IfErr, unsigned_abs}
-use Rattle.std.proofs.lemmas.Bool.{le-leb}
-use Rattle.stack_algebra.proofs.Fractions.{of}
-use Rattle.stack_algebra.specs.Search.{only_if}
+use Rattle.std.proofs.Common.{◌≡◌, ap, subst, ◌∙◌, ℤ, pos, not, true, false, arith, IfOk, IfErr, unsigned_abs, le-leb}
+use Rattle.stack_rational.proofs.Common.{of, only_if, fraction_fits, is_too_wide, is_within}
 use Rattle.stack_rational.specs.declared.exact.Op.TheVariants.{Whole}
-use Rattle.stack_rational.specs.TooWide.{is_within, fraction_fits, is_too_wide}
 use Rattle.stack_rational.proofs.Fitting.{zero_fits, whole_answers}
 use Rattle.stack_rational.proofs.WideWholes.{num_of}
 use Rattle.stack_table.specs.declared.problem.BuildError.TheVariants.{Wide}

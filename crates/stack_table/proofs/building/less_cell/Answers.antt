@@ -1,6 +1,5 @@
 use Rattle.std.proofs.Common.{◌≡◌, sym, ◌∙◌, true, false, arith}
-use Rattle.std.proofs.lemmas.List.{get_or_default}
-use Rattle.stack_rational.specs.Order.{is_zero}
+use Rattle.stack_rational.proofs.Common.{is_zero, get_or_default}
 use Rattle.stack_rational.proofs.Fitting.{zero_is, difference_of_zero}
 use Rattle.stack_table.specs.Block.{item_value}
 use Rattle.stack_table.proofs.building.less_cell.Goals as goal

@@ -1,11 +1,7 @@
 use Rattle.std.proofs.Common.{refl, sym, ap, ◌∙◌, ℕ, ◌+◌, ◌*◌, add-one}
-use Rattle.std.proofs.lemmas.Result.{err_from_is_err_and}
-use Rattle.stack_algebra.specs.Fraction.{Fraction}
-use Rattle.stack_algebra.proofs.Fractions.{add, neg}
-use Rattle.stack_algebra.proofs.OrderedFractions.{ordered_fractions}
-use Rattle.stack_algebra.proofs.Search.{only_if, first_found, first_more}
+use Rattle.stack_rational.proofs.Common.{err_from_is_err_and, Fraction, add, neg, ordered_fractions, only_if}
+use Rattle.stack_rational.proofs.Common.{first_found, first_more, fraction_fits, is_too_wide}
 use Rattle.stack_rational.specs.declared.exact.Op.TheVariants.{Difference}
-use Rattle.stack_rational.specs.TooWide.{fraction_fits, is_too_wide}
 use Rattle.stack_table.specs.declared.problem.BuildError.TheVariants.{Wide}
 use Rattle.stack_table.specs.Block.{cell_of, item_value}
 use Rattle.stack_table.specs.WrittenTable.{less_all, partial_place}

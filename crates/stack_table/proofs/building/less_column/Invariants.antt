@@ -1,7 +1,5 @@
 use Rattle.std.proofs.Common.{◌≡◌, true, None}
-use Rattle.stack_algebra.proofs.OrderedFractions.{ordered_fractions}
-use Rattle.stack_algebra.specs.Search.{first}
-use Rattle.stack_rational.specs.TooWide.{fraction_fits, is_too_wide}
+use Rattle.stack_rational.proofs.Common.{ordered_fractions, first, fraction_fits, is_too_wide}
 use Rattle.stack_table.specs.Block.{cell_of}
 use Rattle.stack_table.specs.WrittenTable.{less_all, partial_place}
 use Rattle.stack_table.specs.declared.problem.BuildError.TheVariants.{Wide}

@@ -1,5 +1,4 @@
-use Rattle.std.proofs.Common.{◌∙◌}
-use lib.IntN.{pos}
+use Rattle.std.proofs.Common.{◌∙◌, pos}
 use Rattle.stack_table.proofs.DueRows.{stops_here}
 use Rattle.stack_table.proofs.building.next_entry.Goals as goal
 

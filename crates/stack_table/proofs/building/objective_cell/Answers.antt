@@ -1,8 +1,5 @@
 use Rattle.std.proofs.Common.{◌≡◌, sym, ap, ◌∙◌, ◌+◌, false, cond, None, arith}
-use Rattle.std.proofs.lemmas.Result.{err_from_is_err_and}
-use Rattle.stack_algebra.proofs.OrderedFractions.{ordered_fractions}
-use Rattle.stack_algebra.specs.Search.{first}
-use Rattle.stack_rational.specs.TooWide.{fraction_fits, is_too_wide}
+use Rattle.stack_rational.proofs.Common.{err_from_is_err_and, ordered_fractions, first, fraction_fits, is_too_wide}
 use Rattle.stack_rational.proofs.Fitting.{zero_fits}
 use Rattle.stack_table.specs.declared.problem.BuildError.TheVariants.{Wide}
 use Rattle.stack_table.specs.Table.{width}

@@ -1,9 +1,5 @@
 use Rattle.std.proofs.Common.{◌≡◌, sym, ap, ◌∙◌, ℕ, ◌<◌, arith}
-use Rattle.stack_algebra.specs.Fraction.{Fraction}
-use Rattle.stack_algebra.proofs.OrderedFractions.{ordered_fractions}
-use Rattle.stack_algebra.proofs.Search.{first_found, first_more}
-use Rattle.stack_algebra.specs.Search.{first}
-use Rattle.stack_rational.specs.TooWide.{is_too_wide}
+use Rattle.stack_rational.proofs.Common.{Fraction, ordered_fractions, first_found, first_more, first, is_too_wide}
 use Rattle.stack_table.specs.Table.{width}
 use Rattle.stack_table.specs.Block.{cell_of}
 use Rattle.stack_table.specs.Lent.{shape_of_problem}

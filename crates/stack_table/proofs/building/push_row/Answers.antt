@@ -1,7 +1,5 @@
 use Rattle.std.proofs.Common.{◌≡◌, ap, ◌∙◌, arith}
-use Rattle.stack_algebra.proofs.OrderedFractions.{ordered_fractions}
-use Rattle.stack_algebra.proofs.Search.{first, first_found, first_more}
-use Rattle.stack_rational.specs.TooWide.{is_too_wide}
+use Rattle.stack_rational.proofs.Common.{ordered_fractions, first, first_found, first_more, is_too_wide}
 use Rattle.stack_table.specs.Table.{width}
 use Rattle.stack_table.specs.Lent.{problem_of}
 use Rattle.stack_table.specs.WrittenTable.{number_place}

@@ -1,7 +1,5 @@
 use Rattle.std.proofs.Common.{◌≡◌, None}
-use Rattle.stack_algebra.proofs.OrderedFractions.{ordered_fractions}
-use Rattle.stack_algebra.specs.Search.{first}
-use Rattle.stack_rational.specs.TooWide.{is_too_wide}
+use Rattle.stack_rational.proofs.Common.{ordered_fractions, first, is_too_wide}
 use Rattle.stack_table.specs.Due.{AreDue}
 use Rattle.stack_table.specs.Block.{IsBlock, Grows}
 use Rattle.stack_table.specs.Lent.{problem_of}

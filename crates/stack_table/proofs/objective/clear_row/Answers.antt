@@ -1,12 +1,8 @@
-use Rattle.std.proofs.Common.{◌≡◌, sym, ap, ◌∙◌, ℕ, ◌<◌, length, set, true, arith}
-use lib.IntN.{pos}
-use Rattle.stack_algebra.proofs.Fractions.{of}
+use Rattle.std.proofs.Common.{sym, ap, ◌∙◌, ◌<◌, length, set, true, arith}
+use Rattle.stack_rational.proofs.Common.{is_zero, fraction_fits, ℕ_discrete, dec_lt}
 use Rattle.stack_table.specs.Block.{item_value}
-use Rattle.stack_rational.specs.Order.{is_zero}
 use Rattle.stack_rational.proofs.Fitting.{is_zero-of, zero_fits}
-use Rattle.stack_rational.specs.TooWide.{fraction_fits}
 use Rattle.stack_table.proofs.Blocks.{value_at-past, value_at-set_same, value_at-set_other, block_set}
-use native.Mathlib.Decide.{ℕ_discrete, dec_lt}
 use Rattle.stack_table.proofs.objective.clear_row.Goals as goal
 
 pub loop-j-preserved : goal.loop-j-preserved
@@ -27,9 +23,8 @@ loop-j-preserved g c =
     }
 
 pub returns-clause-ok : goal.returns-clause-ok
-returns-clause-ok g c = λ k. go k (dec_lt k c.loop-j.j)
-  where
-    go : (k : ℕ) → Dec (k < c.loop-j.j) → item_value g.S.Exact.exact c.loop-j.cells k ≡ of (pos 0)
-    go k (yes l) = c.loop-j.invariant.done k l
-    go k (no l) = value_at-past g.S.Exact.exact c.loop-j.cells k
-        (omega (arith, l, c.loop-j.auto.cells, c.loop-j-test.false))
+returns-clause-ok g c = λ k. elim (dec_lt k c.loop-j.j) [
+  | yes l ↦ c.loop-j.invariant.done k l
+  | no l ↦ value_at-past g.S.Exact.exact c.loop-j.cells k
+      (omega (arith, l, c.loop-j.auto.cells, c.loop-j-test.false))
+]

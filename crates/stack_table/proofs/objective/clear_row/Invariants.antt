@@ -1,6 +1,5 @@
-use Rattle.std.proofs.Common.{◌≡◌, ℕ, ◌<◌}
-use lib.IntN.{pos}
-use Rattle.stack_algebra.proofs.Fractions.{of}
+use Rattle.std.proofs.Common.{◌≡◌, ℕ, ◌<◌, pos}
+use Rattle.stack_rational.proofs.Common.{of}
 use Rattle.stack_table.specs.Block.{item_value, IsBlock}
 use Rattle.stack_table.proofs.objective.clear_row.Given as goal
 

@@ -1,5 +1,5 @@
 use Rattle.std.proofs.Common.{ap, ◌∙◌}
-use Rattle.stack_rational.specs.TooWide.{fraction_fits}
+use Rattle.stack_rational.proofs.Common.{fraction_fits}
 use Rattle.stack_rational.proofs.Fitting.{minus_one-fits, whole_answers}
 use Rattle.stack_table.proofs.objective.minus_one.Goals as goal
 

@@ -1,30 +1,44 @@
-use Rattle.std.proofs.Common.{◌≡◌, ap, subst, ◌∙◌, ℕ, ◌*◌, ◌<◌, length, cond, eqb, arith, IfSome}
+use Rattle.std.proofs.Common.{◌≡◌, ap, subst, ◌∙◌, ℕ, ◌*◌, ◌<◌, length, cond, eqb, arith, IfSome, pos, negsuc}
+use Rattle.stack_rational.proofs.Common.{of, fraction_fits}
 use Rattle.std.proofs.Math.Nat.{suc-mul}
-use lib.IntN.{pos, negsuc}
-use Rattle.stack_algebra.proofs.Fractions.{of}
-use Rattle.stack_rational.specs.TooWide.{fraction_fits}
 use Rattle.stack_rational.proofs.Fitting.{zero_fits}
-use Rattle.stack_table.specs.Block.{item_value, cell_of}
+use Rattle.stack_table.specs.Block.{item_value, cell_of, IsBlock}
 use Rattle.stack_table.proofs.BlockRows.{row_in, block_join, part_block, part_value}
-use Rattle.stack_table.proofs.Parts.{two_parts, last_length, last_changed, first_rows}
+use Rattle.stack_table.proofs.Parts.{EndsIn, two_parts, last_length, last_changed, first_rows}
 use Rattle.stack_table.proofs.objective.set_last.Goals as goal
+use Rattle.stack_table.proofs.objective.set_last.Goals.{After-split_at_mut-above, After-split_at_mut-marks_above}
+use Rattle.stack_table.proofs.objective.set_last.Goals.{In-Some}
+
+-- both parts are blocks, and the last is the last row
+parts : (g : _) (c : After-split_at_mut-marks_above g) →
+    IsBlock g.S.Exact.MAX g.S.Exact.exact c.split_at_mut-above.result.0.now c.split_at_mut-marks_above.result.0.now
+    × IsBlock g.S.Exact.MAX g.S.Exact.exact c.split_at_mut-above.result.1.now c.split_at_mut-marks_above.result.1.now
+parts g c = two_parts g.S.Exact.exact g.S.Exact.MAX c.args.cells.now c.args.marks.now (c.args.rows * c.args.width)
+    (omega (arith, c.requires.whole, suc-mul c.args.rows c.args.width)) c.requires.block
+    c.split_at_mut-above.result.0.now c.split_at_mut-above.result.1.now c.split_at_mut-marks_above.result.0.now
+    c.split_at_mut-marks_above.result.1.now c.split_at_mut-above.ensures.front c.split_at_mut-above.ensures.back
+    c.split_at_mut-marks_above.ensures.front c.split_at_mut-marks_above.ensures.back
+
+ends : (g : _) (c : After-split_at_mut-above g) → EndsIn c.args.width c.args.rows c.args.cells.now
+    c.split_at_mut-above.result.0.now c.split_at_mut-above.result.1.now
+ends g c = record {
+  whole = c.split_at_mut-above.ensures.value;
+  rows_above = c.split_at_mut-above.ensures.front_len;
+  row_length = last_length c.args.rows c.args.width (length c.args.cells.now)
+      (length c.split_at_mut-above.result.1.now) c.requires.whole c.split_at_mut-above.ensures.back_len;
+}
+
+below : (g : _) (c : In-Some g) → c.in-Some.r < c.args.rows
+below g c = subst (λ o. IfSome o (λ r. r < c.args.rows)) c.in-Some.is c.requires.row_in
 
 pub set_cell-requires-clause-block : goal.set_cell-requires-clause-block
 set_cell-requires-clause-block g c =
-    let p = two_parts g.S.Exact.exact g.S.Exact.MAX c.args.cells.now c.args.marks.now
-    (c.args.rows * c.args.width)
-    (omega (arith, c.requires.whole, suc-mul c.args.rows c.args.width)) c.requires.block
-    c.split_at_mut-above.result.0.now c.split_at_mut-above.result.1.now
-    c.split_at_mut-marks_above.result.0.now c.split_at_mut-marks_above.result.1.now
-    c.split_at_mut-above.ensures.front c.split_at_mut-above.ensures.back
-    c.split_at_mut-marks_above.ensures.front c.split_at_mut-marks_above.ensures.back in
-    let l : c.in-Some.r < c.args.rows =
-    subst (λ o. IfSome o (λ r. r < c.args.rows)) c.in-Some.is c.requires.row_in in
+    let p = goal.at.set_cell-requires-clause-block g c in
     rw (c.copy_from_slice.ensures.after, c.copy_from_slice-in-Some.ensures.after)
     (part_block g.S.Exact.exact g.S.Exact.MAX c.args.width c.in-Some.r c.split_at_mut-above.result.0.now
-    c.split_at_mut-marks_above.result.0.now p.0
+    c.split_at_mut-marks_above.result.0.now (parts g p.After-split_at_mut-marks_above).0
     (row_in c.in-Some.r c.args.rows c.args.width
-    (length c.split_at_mut-above.result.0.now) l c.split_at_mut-above.ensures.front_len))
+    (length c.split_at_mut-above.result.0.now) (below g p.In-Some) c.split_at_mut-above.ensures.front_len))
 
 pub set_cell-requires-clause-fits : goal.set_cell-requires-clause-fits
 set_cell-requires-clause-fits g c = ap (fraction_fits g.S.Exact.MAX) c.zero.ensures
@@ -32,78 +46,41 @@ set_cell-requires-clause-fits g c = ap (fraction_fits g.S.Exact.MAX) c.zero.ensu
 
 pub clear_row-requires : goal.clear_row-requires
 clear_row-requires g c = record {
-  block = (two_parts g.S.Exact.exact g.S.Exact.MAX c.args.cells.now c.args.marks.now
-      (c.args.rows * c.args.width)
-      (omega (arith, c.requires.whole, suc-mul c.args.rows c.args.width)) c.requires.block
-      c.split_at_mut-above.result.0.now c.split_at_mut-above.result.1.now
-      c.split_at_mut-marks_above.result.0.now c.split_at_mut-marks_above.result.1.now
-      c.split_at_mut-above.ensures.front c.split_at_mut-above.ensures.back
-      c.split_at_mut-marks_above.ensures.front c.split_at_mut-marks_above.ensures.back).1;
+  block = (parts g (goal.at.clear_row-requires g c).After-split_at_mut-marks_above).1;
 }
 
 pub returns-in-Some-clause-block : goal.returns-in-Some-clause-block
-returns-in-Some-clause-block g c =
-    block_join g.S.Exact.exact g.S.Exact.MAX _ _ _ _
-    (two_parts g.S.Exact.exact g.S.Exact.MAX c.args.cells.now c.args.marks.now (c.args.rows * c.args.width)
-    (omega (arith, c.requires.whole, suc-mul c.args.rows c.args.width)) c.requires.block
-    c.split_at_mut-above.result.0.now c.split_at_mut-above.result.1.now
-    c.split_at_mut-marks_above.result.0.now c.split_at_mut-marks_above.result.1.now
-    c.split_at_mut-above.ensures.front c.split_at_mut-above.ensures.back
-    c.split_at_mut-marks_above.ensures.front c.split_at_mut-marks_above.ensures.back).0
-    c.set_cell.ensures.block
+returns-in-Some-clause-block g c = block_join g.S.Exact.exact g.S.Exact.MAX _ _ _ _
+    (parts g (goal.at.returns-in-Some-clause-block g c).After-split_at_mut-marks_above).0 c.set_cell.ensures.block
 
 pub returns-in-Some-clause-ok : goal.returns-in-Some-clause-ok
 returns-in-Some-clause-ok g c =
     let e = g.S.Exact.exact in
     let w = c.args.width in
     let r = c.in-Some.r in
-    let p = two_parts g.S.Exact.exact g.S.Exact.MAX c.args.cells.now c.args.marks.now
-    (c.args.rows * c.args.width)
-    (omega (arith, c.requires.whole, suc-mul c.args.rows c.args.width)) c.requires.block
-    c.split_at_mut-above.result.0.now c.split_at_mut-above.result.1.now
-    c.split_at_mut-marks_above.result.0.now c.split_at_mut-marks_above.result.1.now
-    c.split_at_mut-above.ensures.front c.split_at_mut-above.ensures.back
-    c.split_at_mut-marks_above.ensures.front c.split_at_mut-marks_above.ensures.back in
-    let l : r < c.args.rows = subst (λ o. IfSome o (λ r. r < c.args.rows)) c.in-Some.is c.requires.row_in in
+    let p = goal.at.returns-in-Some-clause-ok g c in
+    let l = below g p.In-Some in
+    let end = ends g p.After-split_at_mut-above in
     let room = row_in r c.args.rows w
     (length c.split_at_mut-above.result.0.now) l c.split_at_mut-above.ensures.front_len in
     let copied : (j : ℕ) → item_value e c.copy_from_slice.new.self j ≡ cell_of e w c.args.cells.now r j =
     λ j. ap (λ ys. item_value e ys j) c.copy_from_slice.ensures.after
     ∙ part_value e g.S.Exact.MAX w r c.split_at_mut-above.result.0.now c.split_at_mut-marks_above.result.0.now
-    p.0 room j
-    ∙ first_rows g.S.Exact.exact c.args.width c.args.rows c.args.cells.now c.split_at_mut-above.result.0.now
-    c.split_at_mut-above.result.1.now
-    c.split_at_mut-above.ensures.value c.split_at_mut-above.ensures.front_len
-    (last_length c.args.rows c.args.width (length c.args.cells.now)
-    (length c.split_at_mut-above.result.1.now) c.requires.whole c.split_at_mut-above.ensures.back_len) r j
-    l in
-    rw c.in-Some.is (last_changed g.S.Exact.exact c.args.width c.args.rows c.args.cells.now
-    c.split_at_mut-above.result.0.now c.split_at_mut-above.result.1.now
-    c.split_at_mut-above.ensures.value c.split_at_mut-above.ensures.front_len
-    (last_length c.args.rows c.args.width (length c.args.cells.now)
-    (length c.split_at_mut-above.result.1.now) c.requires.whole c.split_at_mut-above.ensures.back_len)
+    (parts g p.After-split_at_mut-marks_above).0 room j ∙ first_rows e end r j l in
+    rw c.in-Some.is (last_changed e end
     c.set_cell.new.cells (λ j. cond (eqb j c.args.column) (of (pos 0)) (cell_of e w c.args.cells.now r j))
     (c.set_cell.auto.cells ∙ c.copy_from_slice.ensures.len)
     (λ j. c.set_cell.ensures.ok j ∙ (λ z. cond (eqb j c.args.column) (c.zero.ensures z) (copied j z))))
 
 pub returns-in-None-clause-block : goal.returns-in-None-clause-block
-returns-in-None-clause-block g c =
-    block_join g.S.Exact.exact g.S.Exact.MAX _ _ _ _
-    (two_parts g.S.Exact.exact g.S.Exact.MAX c.args.cells.now c.args.marks.now (c.args.rows * c.args.width)
-    (omega (arith, c.requires.whole, suc-mul c.args.rows c.args.width)) c.requires.block
-    c.split_at_mut-above.result.0.now c.split_at_mut-above.result.1.now
-    c.split_at_mut-marks_above.result.0.now c.split_at_mut-marks_above.result.1.now
-    c.split_at_mut-above.ensures.front c.split_at_mut-above.ensures.back
-    c.split_at_mut-marks_above.ensures.front c.split_at_mut-marks_above.ensures.back).0
+returns-in-None-clause-block g c = block_join g.S.Exact.exact g.S.Exact.MAX _ _ _ _
+    (parts g (goal.at.returns-in-None-clause-block g c).After-split_at_mut-marks_above).0
     c.set_cell-in-None.ensures.block
 
 pub returns-in-None-clause-ok : goal.returns-in-None-clause-ok
 returns-in-None-clause-ok g c =
-    rw c.in-None.is (last_changed g.S.Exact.exact c.args.width c.args.rows c.args.cells.now
-    c.split_at_mut-above.result.0.now c.split_at_mut-above.result.1.now
-    c.split_at_mut-above.ensures.value c.split_at_mut-above.ensures.front_len
-    (last_length c.args.rows c.args.width (length c.args.cells.now)
-    (length c.split_at_mut-above.result.1.now) c.requires.whole c.split_at_mut-above.ensures.back_len)
+    rw c.in-None.is (last_changed g.S.Exact.exact
+    (ends g (goal.at.returns-in-None-clause-ok g c).After-split_at_mut-above)
     c.set_cell-in-None.new.cells (λ j. cond (eqb j c.args.column) (of (negsuc 0)) (of (pos 0)))
     (c.set_cell-in-None.auto.cells ∙ c.clear_row.auto.cells)
     (λ j. c.set_cell-in-None.ensures.ok j

@@ -1,123 +1,108 @@
-use Rattle.std.proofs.Common.{◌≡◌, sym, ap, subst, ◌∙◌, suc, ◌+◌, ◌-◌, ◌*◌, ◌++◌, length, take, arith}
-use Rattle.std.proofs.lemmas.List.{length-take-le}
-use Rattle.std.proofs.lemmas.Result.{err_from_is_err_and}
+use Rattle.std.proofs.Common.{◌≡◌, sym, ap, subst, ◌∙◌, suc, ◌+◌, ◌-◌, ◌*◌, ◌++◌, length, take, arith, length-take-le}
+use Rattle.stack_rational.proofs.Common.{err_from_is_err_and, Fraction}
 use Rattle.std.proofs.Math.Nat.{add-mul, suc-mul}
-use Rattle.stack_algebra.specs.Fraction.{Fraction}
 use Rattle.stack_table.specs.Columns.{zero_in, ListsNonzero}
 use Rattle.stack_table.proofs.Listed.{listed_take}
 use Rattle.stack_table.proofs.BlockRows.{row_in}
-use Rattle.stack_table.proofs.Parts.{parted, block_three}
-use Rattle.stack_table.proofs.PivotSteps.{divisor_is, spot_dividing, spot_above, spot_below, after}
+use Rattle.stack_table.proofs.Parts.{Parted, parted, block_three}
+use Rattle.stack_table.proofs.PivotSteps.{IsSplit, IsOwnDivided, divisor_is, spot_dividing, spot_above, spot_below}
+use Rattle.stack_table.proofs.PivotSteps.{after}
 use Rattle.stack_table.proofs.pivoting.pivot_block.Goals as goal
+use Rattle.stack_table.proofs.pivoting.pivot_block.Goals.{After-split_at_mut-own_marks, After-index-own-column}
+use Rattle.stack_table.proofs.pivoting.pivot_block.Goals.{In_ok-count}
+
+-- the three parts are blocks
+parts : (g : _) (c : After-split_at_mut-own_marks g) → Parted g.S.Exact.MAX g.S.Exact.exact
+    c.split_at_mut-above.result.0.now c.split_at_mut-own.result.0.now c.split_at_mut-own.result.1.now
+    c.split_at_mut-marks_above.result.0.now c.split_at_mut-own_marks.result.0.now c.split_at_mut-own_marks.result.1.now
+parts g c = parted g.S.Exact.exact g.S.Exact.MAX c.args.cells.now c.args.marks.now
+    (c.args.row * length c.args.columns.now) (length c.args.columns.now)
+    (row_in c.args.row (suc c.args.rows) (length c.args.columns.now) (length c.args.cells.now)
+    (omega (arith, c.requires.row_in)) c.requires.whole) c.requires.block
+    c.split_at_mut-above.result.0.now c.split_at_mut-above.result.1.now c.split_at_mut-own.result.0.now
+    c.split_at_mut-own.result.1.now
+    c.split_at_mut-marks_above.result.0.now c.split_at_mut-marks_above.result.1.now
+    c.split_at_mut-own_marks.result.0.now c.split_at_mut-own_marks.result.1.now
+    c.split_at_mut-above.ensures.front c.split_at_mut-above.ensures.back c.split_at_mut-own.ensures.front
+    c.split_at_mut-own.ensures.back
+    c.split_at_mut-marks_above.ensures.front c.split_at_mut-marks_above.ensures.back
+    c.split_at_mut-own_marks.ensures.front c.split_at_mut-own_marks.ensures.back
+
+-- the block in parts, and the divisor
+split : (g : _) (c : After-index-own-column g) → IsSplit g.S.Exact.exact (length c.args.columns.now) c.args.row
+    c.args.column c.args.cells.now c.split_at_mut-above.result.0.now c.split_at_mut-own.result.0.now
+    c.split_at_mut-own.result.1.now c.index-own-column.result
+split g c = record {
+  whole = c.split_at_mut-above.ensures.value
+      ∙ ap (λ ys. c.split_at_mut-above.result.0.now ++ ys) c.split_at_mut-own.ensures.value;
+  rows_above = c.split_at_mut-above.ensures.front_len;
+  row_length = c.split_at_mut-own.ensures.front_len;
+  column_in = c.requires.column_in;
+  divisor = c.index-own-column.is;
+}
+
+divided : (g : _) (c : In_ok-count g) → IsOwnDivided g.S.Exact.exact g.S.Exact.MAX c.args.row
+    c.split_at_mut-own.result.0.now c.divide_row.new.cells c.index-own-column.result
+divided g c = record {
+  long = c.divide_row.auto.cells;
+  value = c.in_ok-count.ensures.ok;
+  none = c.in_ok-count.ensures.wide;
+}
 
 pub divide_row-requires-clause-divisor : goal.divide_row-requires-clause-divisor
 divide_row-requires-clause-divisor g c =
     λ z. c.requires.cell
     (sym (ap (λ (v : Fraction). v.num)
-    (divisor_is g.S.Exact.exact g.S.Exact.MAX
-    (length c.args.columns.now) c.args.row c.args.column c.args.cells.now
-    c.split_at_mut-above.result.0.now c.split_at_mut-own.result.0.now c.split_at_mut-own.result.1.now
-    (c.split_at_mut-above.ensures.value
-    ∙ ap (λ ys. c.split_at_mut-above.result.0.now ++ ys) c.split_at_mut-own.ensures.value)
-    c.split_at_mut-above.ensures.front_len c.split_at_mut-own.ensures.front_len c.index-own-column.result
-    c.requires.column_in c.index-own-column.is)) ∙ z)
+    (divisor_is g.S.Exact.MAX (split g (goal.at.divide_row-requires-clause-divisor g c).After-index-own-column))) ∙ z)
 
 pub divide_row-requires-clause-block : goal.divide_row-requires-clause-block
 divide_row-requires-clause-block g c =
-    (parted g.S.Exact.exact g.S.Exact.MAX c.args.cells.now c.args.marks.now
-    (c.args.row * length c.args.columns.now) (length c.args.columns.now)
-    (row_in c.args.row (suc c.args.rows) (length c.args.columns.now) (length c.args.cells.now)
-    (omega (arith, c.requires.row_in)) c.requires.whole) c.requires.block
-    c.split_at_mut-above.result.0.now c.split_at_mut-above.result.1.now c.split_at_mut-own.result.0.now
-    c.split_at_mut-own.result.1.now
-    c.split_at_mut-marks_above.result.0.now c.split_at_mut-marks_above.result.1.now
-    c.split_at_mut-own_marks.result.0.now c.split_at_mut-own_marks.result.1.now
-    c.split_at_mut-above.ensures.front c.split_at_mut-above.ensures.back c.split_at_mut-own.ensures.front
-    c.split_at_mut-own.ensures.back
-    c.split_at_mut-marks_above.ensures.front c.split_at_mut-marks_above.ensures.back
-    c.split_at_mut-own_marks.ensures.front c.split_at_mut-own_marks.ensures.back).own_is
+    (parts g (goal.at.divide_row-requires-clause-block g c).After-split_at_mut-own_marks).own_is
 
 pub returns-in_err-count-clause-block : goal.returns-in_err-count-clause-block
-returns-in_err-count-clause-block g c = let p =
-    parted g.S.Exact.exact g.S.Exact.MAX c.args.cells.now c.args.marks.now
-    (c.args.row * length c.args.columns.now) (length c.args.columns.now)
-    (row_in c.args.row (suc c.args.rows) (length c.args.columns.now) (length c.args.cells.now)
-    (omega (arith, c.requires.row_in)) c.requires.whole) c.requires.block
-    c.split_at_mut-above.result.0.now c.split_at_mut-above.result.1.now c.split_at_mut-own.result.0.now
-    c.split_at_mut-own.result.1.now
-    c.split_at_mut-marks_above.result.0.now c.split_at_mut-marks_above.result.1.now
-    c.split_at_mut-own_marks.result.0.now c.split_at_mut-own_marks.result.1.now
-    c.split_at_mut-above.ensures.front c.split_at_mut-above.ensures.back c.split_at_mut-own.ensures.front
-    c.split_at_mut-own.ensures.back
-    c.split_at_mut-marks_above.ensures.front c.split_at_mut-marks_above.ensures.back
-    c.split_at_mut-own_marks.ensures.front c.split_at_mut-own_marks.ensures.back in
+returns-in_err-count-clause-block g c =
+    let at = goal.at.returns-in_err-count-clause-block g c in
+    let p = parts g at.After-split_at_mut-own_marks in
     block_three g.S.Exact.exact g.S.Exact.MAX _ _ _ _ _ _ p.above_is c.in_err-count.ensures.block p.below_is
 
 pub returns-in_err-count-clause-wide : goal.returns-in_err-count-clause-wide
-returns-in_err-count-clause-wide g c = let p =
+returns-in_err-count-clause-wide g c =
+    let at = goal.at.returns-in_err-count-clause-wide g c in
+    let p =
     err_from_is_err_and c.from_residual.result c.from_residual.ensures.1 in
-    rw (p.1, p.2) (spot_dividing g.S.Exact.exact g.S.Exact.MAX
-    (length c.args.columns.now) c.args.row c.args.column c.args.cells.now
-    c.split_at_mut-above.result.0.now c.split_at_mut-own.result.0.now c.split_at_mut-own.result.1.now
-    (c.split_at_mut-above.ensures.value
-    ∙ ap (λ ys. c.split_at_mut-above.result.0.now ++ ys) c.split_at_mut-own.ensures.value)
-    c.split_at_mut-above.ensures.front_len c.split_at_mut-own.ensures.front_len c.index-own-column.result
-    c.requires.column_in c.index-own-column.is
+    rw (p.1, p.2) (spot_dividing g.S.Exact.MAX (split g at.After-index-own-column)
     (suc c.args.rows) _ c.in_err-count.ensures.wide)
 
 pub reduce_rows-requires-clause-block : goal.reduce_rows-requires-clause-block
 reduce_rows-requires-clause-block g c =
-    (parted g.S.Exact.exact g.S.Exact.MAX c.args.cells.now c.args.marks.now
-    (c.args.row * length c.args.columns.now) (length c.args.columns.now)
-    (row_in c.args.row (suc c.args.rows) (length c.args.columns.now) (length c.args.cells.now)
-    (omega (arith, c.requires.row_in)) c.requires.whole) c.requires.block
-    c.split_at_mut-above.result.0.now c.split_at_mut-above.result.1.now c.split_at_mut-own.result.0.now
-    c.split_at_mut-own.result.1.now
-    c.split_at_mut-marks_above.result.0.now c.split_at_mut-marks_above.result.1.now
-    c.split_at_mut-own_marks.result.0.now c.split_at_mut-own_marks.result.1.now
-    c.split_at_mut-above.ensures.front c.split_at_mut-above.ensures.back c.split_at_mut-own.ensures.front
-    c.split_at_mut-own.ensures.back
-    c.split_at_mut-marks_above.ensures.front c.split_at_mut-marks_above.ensures.back
-    c.split_at_mut-own_marks.ensures.front c.split_at_mut-own_marks.ensures.back).above_is
+    (parts g (goal.at.reduce_rows-requires-clause-block g c).After-split_at_mut-own_marks).above_is
 
-pub reduce_rows-requires-clause-listed : goal.reduce_rows-requires-clause-listed
-reduce_rows-requires-clause-listed g c =
-    let l : length (take c.in_ok-count.count c.divide_row.new.columns) ≡ c.in_ok-count.count =
-    length-take-le c.in_ok-count.count c.divide_row.new.columns c.in_ok-count.ensures.listed.0 in
-    subst (λ n. ListsNonzero (zero_in g.S.Exact.exact c.divide_row.new.cells)
-    (take c.in_ok-count.count c.divide_row.new.columns) n (length c.divide_row.new.cells)) (sym l)
+listed : (g : _) (c : In_ok-count g) → ListsNonzero (zero_in g.S.Exact.exact c.divide_row.new.cells)
+    (take c.in_ok-count.count c.divide_row.new.columns)
+    (length (take c.in_ok-count.count c.divide_row.new.columns)) (length c.divide_row.new.cells)
+listed g c = subst (λ n. ListsNonzero (zero_in g.S.Exact.exact c.divide_row.new.cells)
+    (take c.in_ok-count.count c.divide_row.new.columns) n (length c.divide_row.new.cells))
+    (sym (length-take-le c.in_ok-count.count c.divide_row.new.columns c.in_ok-count.ensures.listed.0))
     (listed_take (zero_in g.S.Exact.exact c.divide_row.new.cells) c.divide_row.new.columns c.in_ok-count.count
     (length c.divide_row.new.cells) c.in_ok-count.ensures.listed.1)
 
+pub reduce_rows-requires-clause-listed : goal.reduce_rows-requires-clause-listed
+reduce_rows-requires-clause-listed g c = listed g (goal.at.reduce_rows-requires-clause-listed g c).In_ok-count
+
 pub returns-in_err-reduce_rows-clause-block : goal.returns-in_err-reduce_rows-clause-block
-returns-in_err-reduce_rows-clause-block g c = let p =
-    parted g.S.Exact.exact g.S.Exact.MAX c.args.cells.now c.args.marks.now
-    (c.args.row * length c.args.columns.now) (length c.args.columns.now)
-    (row_in c.args.row (suc c.args.rows) (length c.args.columns.now) (length c.args.cells.now)
-    (omega (arith, c.requires.row_in)) c.requires.whole) c.requires.block
-    c.split_at_mut-above.result.0.now c.split_at_mut-above.result.1.now c.split_at_mut-own.result.0.now
-    c.split_at_mut-own.result.1.now
-    c.split_at_mut-marks_above.result.0.now c.split_at_mut-marks_above.result.1.now
-    c.split_at_mut-own_marks.result.0.now c.split_at_mut-own_marks.result.1.now
-    c.split_at_mut-above.ensures.front c.split_at_mut-above.ensures.back c.split_at_mut-own.ensures.front
-    c.split_at_mut-own.ensures.back
-    c.split_at_mut-marks_above.ensures.front c.split_at_mut-marks_above.ensures.back
-    c.split_at_mut-own_marks.ensures.front c.split_at_mut-own_marks.ensures.back in
+returns-in_err-reduce_rows-clause-block g c =
+    let at = goal.at.returns-in_err-reduce_rows-clause-block g c in
+    let p = parts g at.After-split_at_mut-own_marks in
     block_three g.S.Exact.exact g.S.Exact.MAX _ _ _ _ _ _ c.in_err-reduce_rows.ensures.block
     c.in_ok-count.ensures.block p.below_is
 
 pub returns-in_err-reduce_rows-clause-wide : goal.returns-in_err-reduce_rows-clause-wide
-returns-in_err-reduce_rows-clause-wide g c = let p =
+returns-in_err-reduce_rows-clause-wide g c =
+    let at = goal.at.returns-in_err-reduce_rows-clause-wide g c in
+    let p =
     err_from_is_err_and c.from_residual-in_err-reduce_rows.result c.from_residual-in_err-reduce_rows.ensures.1
     in
-    rw (p.1, p.2) (spot_above g.S.Exact.exact g.S.Exact.MAX
-    (length c.args.columns.now) c.args.row c.args.column c.args.cells.now
-    c.split_at_mut-above.result.0.now c.split_at_mut-own.result.0.now c.split_at_mut-own.result.1.now
-    (c.split_at_mut-above.ensures.value
-    ∙ ap (λ ys. c.split_at_mut-above.result.0.now ++ ys) c.split_at_mut-own.ensures.value)
-    c.split_at_mut-above.ensures.front_len c.split_at_mut-own.ensures.front_len c.index-own-column.result
-    c.requires.column_in c.index-own-column.is
-    c.divide_row.new.cells c.divide_row.auto.cells c.in_ok-count.ensures.ok c.in_ok-count.ensures.wide
+    rw (p.1, p.2) (spot_above g.S.Exact.MAX (split g at.After-index-own-column) (divided g at.In_ok-count)
     (suc c.args.rows) _ (omega (arith, c.requires.row_in)) c.in_err-reduce_rows.ensures.wide)
 
 pub reduce_rows-requires-2-clause-whole : goal.reduce_rows-requires-2-clause-whole
@@ -141,27 +126,10 @@ reduce_rows-requires-2-clause-whole g c = let w = length c.args.columns.now in
 
 pub reduce_rows-requires-2-clause-block : goal.reduce_rows-requires-2-clause-block
 reduce_rows-requires-2-clause-block g c =
-    (parted g.S.Exact.exact g.S.Exact.MAX c.args.cells.now c.args.marks.now
-    (c.args.row * length c.args.columns.now) (length c.args.columns.now)
-    (row_in c.args.row (suc c.args.rows) (length c.args.columns.now) (length c.args.cells.now)
-    (omega (arith, c.requires.row_in)) c.requires.whole) c.requires.block
-    c.split_at_mut-above.result.0.now c.split_at_mut-above.result.1.now c.split_at_mut-own.result.0.now
-    c.split_at_mut-own.result.1.now
-    c.split_at_mut-marks_above.result.0.now c.split_at_mut-marks_above.result.1.now
-    c.split_at_mut-own_marks.result.0.now c.split_at_mut-own_marks.result.1.now
-    c.split_at_mut-above.ensures.front c.split_at_mut-above.ensures.back c.split_at_mut-own.ensures.front
-    c.split_at_mut-own.ensures.back
-    c.split_at_mut-marks_above.ensures.front c.split_at_mut-marks_above.ensures.back
-    c.split_at_mut-own_marks.ensures.front c.split_at_mut-own_marks.ensures.back).below_is
+    (parts g (goal.at.reduce_rows-requires-2-clause-block g c).After-split_at_mut-own_marks).below_is
 
 pub reduce_rows-requires-2-clause-listed : goal.reduce_rows-requires-2-clause-listed
-reduce_rows-requires-2-clause-listed g c =
-    let l : length (take c.in_ok-count.count c.divide_row.new.columns) ≡ c.in_ok-count.count =
-    length-take-le c.in_ok-count.count c.divide_row.new.columns c.in_ok-count.ensures.listed.0 in
-    subst (λ n. ListsNonzero (zero_in g.S.Exact.exact c.divide_row.new.cells)
-    (take c.in_ok-count.count c.divide_row.new.columns) n (length c.divide_row.new.cells)) (sym l)
-    (listed_take (zero_in g.S.Exact.exact c.divide_row.new.cells) c.divide_row.new.columns c.in_ok-count.count
-    (length c.divide_row.new.cells) c.in_ok-count.ensures.listed.1)
+reduce_rows-requires-2-clause-listed g c = listed g (goal.at.reduce_rows-requires-2-clause-listed g c).In_ok-count
 
 pub returns-in_err-reduce_rows-2-clause-block : goal.returns-in_err-reduce_rows-2-clause-block
 returns-in_err-reduce_rows-2-clause-block g c =
@@ -169,17 +137,12 @@ returns-in_err-reduce_rows-2-clause-block g c =
     c.in_ok-count.ensures.block c.in_err-reduce_rows-2.ensures.block
 
 pub returns-in_err-reduce_rows-2-clause-wide : goal.returns-in_err-reduce_rows-2-clause-wide
-returns-in_err-reduce_rows-2-clause-wide g c = let p =
+returns-in_err-reduce_rows-2-clause-wide g c =
+    let at = goal.at.returns-in_err-reduce_rows-2-clause-wide g c in
+    let p =
     err_from_is_err_and c.from_residual-in_err-reduce_rows-2.result
     c.from_residual-in_err-reduce_rows-2.ensures.1 in
-    rw (p.1, p.2) (spot_below g.S.Exact.exact g.S.Exact.MAX
-    (length c.args.columns.now) c.args.row c.args.column c.args.cells.now
-    c.split_at_mut-above.result.0.now c.split_at_mut-own.result.0.now c.split_at_mut-own.result.1.now
-    (c.split_at_mut-above.ensures.value
-    ∙ ap (λ ys. c.split_at_mut-above.result.0.now ++ ys) c.split_at_mut-own.ensures.value)
-    c.split_at_mut-above.ensures.front_len c.split_at_mut-own.ensures.front_len c.index-own-column.result
-    c.requires.column_in c.index-own-column.is
-    c.divide_row.new.cells c.divide_row.auto.cells c.in_ok-count.ensures.ok c.in_ok-count.ensures.wide
+    rw (p.1, p.2) (spot_below g.S.Exact.MAX (split g at.After-index-own-column) (divided g at.In_ok-count)
     c.args.rows _ (omega (arith, c.requires.row_in)) c.in_ok-reduce_rows.ensures.wide
     c.in_err-reduce_rows-2.ensures.wide)
 
@@ -190,25 +153,14 @@ returns-clause-block g c =
 
 pub returns-clause-ok : goal.returns-clause-ok
 returns-clause-ok g c =
-    after g.S.Exact.exact g.S.Exact.MAX (length c.args.columns.now) c.args.row c.args.column c.args.cells.now
-    c.split_at_mut-above.result.0.now c.split_at_mut-own.result.0.now c.split_at_mut-own.result.1.now
-    (c.split_at_mut-above.ensures.value
-    ∙ ap (λ ys. c.split_at_mut-above.result.0.now ++ ys) c.split_at_mut-own.ensures.value)
-    c.split_at_mut-above.ensures.front_len c.split_at_mut-own.ensures.front_len c.index-own-column.result
-    c.requires.column_in c.index-own-column.is
-    c.divide_row.new.cells c.divide_row.auto.cells c.in_ok-count.ensures.ok c.in_ok-count.ensures.wide
+    let at = goal.at.returns-clause-ok g c in
+    after g.S.Exact.MAX (split g at.After-index-own-column) (divided g at.In_ok-count)
     c.reduce_rows.new.cells c.reduce_rows-2.new.cells c.reduce_rows.auto.cells
     c.in_ok-reduce_rows.ensures.ok c.in_ok-reduce_rows-2.ensures.ok
 
 pub returns-clause-wide : goal.returns-clause-wide
 returns-clause-wide g c =
-    spot_below g.S.Exact.exact g.S.Exact.MAX
-    (length c.args.columns.now) c.args.row c.args.column c.args.cells.now
-    c.split_at_mut-above.result.0.now c.split_at_mut-own.result.0.now c.split_at_mut-own.result.1.now
-    (c.split_at_mut-above.ensures.value
-    ∙ ap (λ ys. c.split_at_mut-above.result.0.now ++ ys) c.split_at_mut-own.ensures.value)
-    c.split_at_mut-above.ensures.front_len c.split_at_mut-own.ensures.front_len c.index-own-column.result
-    c.requires.column_in c.index-own-column.is
-    c.divide_row.new.cells c.divide_row.auto.cells c.in_ok-count.ensures.ok c.in_ok-count.ensures.wide
+    let at = goal.at.returns-clause-wide g c in
+    spot_below g.S.Exact.MAX (split g at.After-index-own-column) (divided g at.In_ok-count)
     c.args.rows _ (omega (arith, c.requires.row_in)) c.in_ok-reduce_rows.ensures.wide
     c.in_ok-reduce_rows-2.ensures.wide

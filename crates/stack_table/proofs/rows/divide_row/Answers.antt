@@ -1,20 +1,12 @@
 use Rattle.std.proofs.Common.{◌≡◌, refl, sym, ap, ◌∙◌, ℕ, ◌<◌, ◌≤◌, length, set, true, false, arith}
-use Rattle.std.proofs.lemmas.List.{get_or_default}
-use native.Mathlib.Decide.{dec_lt}
-use Rattle.stack_algebra.specs.Fraction.{Fraction}
-use Rattle.stack_algebra.proofs.Fractions.{mul}
-use Rattle.stack_algebra.proofs.FractionField.{inv}
-use Rattle.stack_algebra.proofs.OrderedFractions.{ordered_fractions}
-use Rattle.stack_algebra.proofs.Search.{first_found, first_more}
+use Rattle.stack_rational.proofs.Common.{dec_lt, Fraction, mul, inv, ordered_fractions, first_found, first_more}
+use Rattle.stack_rational.proofs.Common.{is_too_wide, fraction_fits, is_zero, get_or_default, not-false}
 use Rattle.stack_rational.specs.declared.exact.Op.TheVariants.{Quotient}
-use Rattle.stack_rational.specs.TooWide.{is_too_wide, fraction_fits}
 use Rattle.stack_table.specs.Block.{item_value, mark_at}
-use Rattle.stack_rational.specs.Order.{is_zero}
 use Rattle.stack_table.specs.Spots.{divided, divide_item}
-use Rattle.stack_algebra.proofs.Conjunctions.{not-false}
 use Rattle.stack_rational.proofs.Fitting.{is_zero-of, quotient_not-zero}
-use Rattle.stack_table.proofs.Blocks.{value_at-past, value_at-index, value_at-set_same, value_at-set_other}
-use Rattle.stack_table.proofs.Blocks.{block_kept, written_done, written_rest}
+use Rattle.stack_table.proofs.Blocks.{value_at-past, value_at-index, value_at-set_same, value_at-set_other, block_kept}
+use Rattle.stack_table.proofs.Blocks.{written_done, written_rest}
 use Rattle.stack_table.proofs.Listed.{listed_skip, listed_more}
 use Rattle.stack_table.proofs.RowSteps.{divide_skips, divide_too_wide, divide_goes}
 use Rattle.stack_table.proofs.rows.divide_row.Goals as goal

@@ -1,14 +1,10 @@
-use Rattle.std.proofs.Common.{◌≡◌, refl, sym, ap, ◌∙◌, ℕ, suc, ◌+◌, ◌<◌, ◌≤◌, length, get_or, set, true, None}
-use Rattle.std.proofs.Common.{add-one, arith}
-use native.Mathlib.Decide.{dec_lt}
-use Rattle.stack_algebra.specs.Fraction.{Fraction}
-use Rattle.stack_algebra.proofs.Fractions.{mul}
-use Rattle.stack_algebra.proofs.OrderedFractions.{ordered_fractions}
-use Rattle.stack_algebra.proofs.Search.{first, or_else, first_found, first_over}
+use Rattle.std.proofs.Common.{◌≡◌, refl, sym, ap, ◌∙◌, ℕ, suc, ◌+◌, ◌<◌, ◌≤◌, length, get_or, set, true, None, add-one}
+use Rattle.std.proofs.Common.{arith}
+use Rattle.stack_rational.proofs.Common.{dec_lt, Fraction, mul, ordered_fractions, first, or_else, first_found}
+use Rattle.stack_rational.proofs.Common.{is_too_wide, fraction_fits, is_zero}
+use Rattle.stack_algebra.proofs.Search.{first_over}
 use Rattle.stack_rational.specs.declared.exact.Op.TheVariants.{Product, Difference}
-use Rattle.stack_rational.specs.TooWide.{is_too_wide, fraction_fits}
 use Rattle.stack_table.specs.Block.{item_value}
-use Rattle.stack_rational.specs.Order.{is_zero}
 use Rattle.stack_table.specs.Columns.{reach}
 use Rattle.stack_table.specs.Spots.{reduced, reduce_item}
 use Rattle.stack_rational.proofs.Fitting.{answer_fits, is_zero-of}

@@ -1,14 +1,8 @@
 use Rattle.std.proofs.Common.{◌≡◌, refl, sym, ap, ◌∙◌, ℕ, ◌+◌, ◌*◌, ◌-◌, ◌<◌, length, take, drop, true, false, arith}
-use Rattle.std.proofs.lemmas.List.{get_or_default}
-use Rattle.std.proofs.lemmas.Result.{err_from_is_err_and}
+use Rattle.stack_rational.proofs.Common.{err_from_is_err_and, ℕ_discrete, dec_lt, Fraction, ordered_fractions}
+use Rattle.stack_rational.proofs.Common.{first_found, first_more, is_too_wide, is_zero, get_or_default}
 use borrow.Rule.Slice.PartMut.{put_mid}
-use native.Mathlib.Decide.{ℕ_discrete, dec_lt}
-use Rattle.stack_algebra.specs.Fraction.{Fraction}
-use Rattle.stack_algebra.proofs.OrderedFractions.{ordered_fractions}
-use Rattle.stack_algebra.proofs.Search.{first_found, first_more}
-use Rattle.stack_rational.specs.TooWide.{is_too_wide}
 use Rattle.stack_table.specs.Block.{item_value, mark_at, cell_of}
-use Rattle.stack_rational.specs.Order.{is_zero}
 use Rattle.stack_table.specs.Spots.{reduced, reduce_spot}
 use Rattle.stack_rational.proofs.Fitting.{is_zero-of}
 use Rattle.stack_table.proofs.BlockRows.{row_in, cell_in, cell_outside, fits_cell, part_block, part_length, part_value}

@@ -1,6 +1,5 @@
 use Rattle.std.proofs.Common.{◌≡◌, ℕ, ◌<◌, ◌≤◌, length, None}
-use Rattle.stack_algebra.proofs.OrderedFractions.{ordered_fractions}
-use Rattle.stack_rational.specs.TooWide.{is_too_wide}
+use Rattle.stack_rational.proofs.Common.{ordered_fractions, is_too_wide}
 use Rattle.stack_table.specs.Spots.{reduced, rows_spot}
 use Rattle.stack_table.specs.Block.{item_value, cell_of, IsBlock}
 use Rattle.stack_table.proofs.rows.reduce_rows.Given as goal

@@ -1,5 +1,5 @@
 use Rattle.std.proofs.Common.{subst, ◌<◌}
-use Rattle.stack_algebra.proofs.OrderedFractions.{ordered_fractions}
+use Rattle.stack_rational.proofs.Common.{ordered_fractions}
 use Rattle.stack_bland.specs.Choice.{leaving}
 use Rattle.stack_tableau.proofs.Turns.{row_refused}
 use Rattle.stack_tableau.proofs.choices.leaving.Goals as goal

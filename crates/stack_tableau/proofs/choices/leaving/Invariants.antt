@@ -1,7 +1,5 @@
 use Rattle.std.proofs.Common.{◌≡◌, None}
-use Rattle.stack_algebra.specs.Search.{first}
-use Rattle.stack_algebra.proofs.OrderedFractions.{ordered_fractions}
-use Rattle.stack_rational.specs.TooWide.{is_too_wide}
+use Rattle.stack_rational.proofs.Common.{first, ordered_fractions, is_too_wide}
 use Rattle.stack_bland.specs.Choice.{ratio, ratio_item, best}
 use Rattle.stack_tableau.specs.Best.{HoldsBest}
 use Rattle.stack_tableau.proofs.choices.leaving.Given as goal

@@ -1,6 +1,5 @@
 use Rattle.std.proofs.Common.{sym, ap, subst, ◌∙◌, ◌<◌, not}
-use Rattle.stack_algebra.specs.Search.{only_if}
-use Rattle.stack_algebra.proofs.Search.{first_found}
+use Rattle.stack_rational.proofs.Common.{only_if, first_found}
 use Rattle.stack_table.specs.Table.{plain}
 use Rattle.stack_tableau.proofs.RunPhases.{driven_item, driven_at}
 use Rattle.stack_tableau.proofs.phases.driven_column.Goals as goal

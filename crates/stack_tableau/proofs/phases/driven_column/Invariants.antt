@@ -1,5 +1,5 @@
 use Rattle.std.proofs.Common.{◌≡◌, None}
-use Rattle.stack_algebra.specs.Search.{first}
+use Rattle.stack_rational.proofs.Common.{first}
 use Rattle.stack_tableau.proofs.RunPhases.{driven_item}
 use Rattle.stack_tableau.proofs.phases.driven_column.Given as goal
 

@@ -1,7 +1,5 @@
 use Rattle.std.proofs.Common.{◌≡◌, ◌≢◌, sym, subst, ◌<◌, pos, ℕ, Bool, subst₂, OnOk}
-use Rattle.stack_algebra.specs.Fraction.{Fraction}
-use Rattle.stack_algebra.proofs.OrderedFractions.{ordered_fractions}
-use Rattle.stack_rational.specs.TooWide.{is_too_wide}
+use Rattle.stack_rational.proofs.Common.{Fraction, ordered_fractions, is_too_wide}
 use Rattle.stack_table.specs.Table.{Shape, Tabled, plain, pivoted_at}
 use Rattle.stack_table.specs.Spots.{pivot_spot}
 use Rattle.stack_tableau.specs.Tells.{TellsPivot}

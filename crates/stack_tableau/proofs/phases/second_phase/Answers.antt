@@ -1,5 +1,5 @@
 use Rattle.std.proofs.Common.{ap, ◌∙◌, arith}
-use Rattle.stack_algebra.proofs.OrderedFractions.{ordered_fractions}
+use Rattle.stack_rational.proofs.Common.{ordered_fractions}
 use Rattle.stack_table.specs.Table.{Shape, clear_objective}
 use Rattle.stack_tableau.proofs.RunPhases.{row_stops, row_settles}
 use Rattle.stack_tableau.proofs.phases.second_phase.Goals as goal

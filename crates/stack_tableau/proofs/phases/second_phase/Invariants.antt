@@ -1,6 +1,5 @@
 use Rattle.std.proofs.Common.{◌≡◌}
-use Rattle.stack_algebra.proofs.OrderedFractions.{ordered_fractions}
-use Rattle.stack_rational.specs.TooWide.{is_too_wide}
+use Rattle.stack_rational.proofs.Common.{ordered_fractions, is_too_wide}
 use Rattle.stack_table.specs.Table.{clear_objective}
 use Rattle.stack_run.specs.WrittenRun.{settled, drives}
 use Rattle.stack_tableau.proofs.phases.second_phase.Given as goal

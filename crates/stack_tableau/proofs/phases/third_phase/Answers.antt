@@ -1,6 +1,5 @@
 use Rattle.std.proofs.Common.{ap, subst, ◌∙◌}
-use Rattle.stack_algebra.proofs.OrderedFractions.{ordered_fractions}
-use Rattle.stack_rational.specs.TooWide.{is_too_wide}
+use Rattle.stack_rational.proofs.Common.{ordered_fractions, is_too_wide}
 use Rattle.stack_table.specs.Table.{plain}
 use Rattle.stack_run.specs.WrittenRun.{turns}
 use Rattle.stack_tableau.specs.Tells.{TellsPhase}

@@ -1,6 +1,5 @@
 use Rattle.std.proofs.Common.{sym, ap, subst, ◌∙◌}
-use Rattle.stack_algebra.proofs.OrderedFractions.{ordered_fractions}
-use Rattle.stack_rational.specs.TooWide.{is_too_wide}
+use Rattle.stack_rational.proofs.Common.{ordered_fractions, is_too_wide}
 use Rattle.stack_table.specs.Table.{Shape}
 use Rattle.stack_run.specs.WrittenRun.{choose}
 use Rattle.stack_run.specs.PhaseStops.{phase_from}

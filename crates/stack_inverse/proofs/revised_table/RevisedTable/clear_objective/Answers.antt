@@ -1,7 +1,5 @@
 use Rattle.std.proofs.Common.{◌≡◌, sym, ap, ◌∙◌, suc, length, get_or, List, pos, false, subst₂}
-use Rattle.std.proofs.lemmas.List.{with_items_is}
-use Rattle.std.specs.Vec.{with_items}
-use Rattle.stack_algebra.proofs.Fractions.{of}
+use Rattle.stack_rational.proofs.Common.{with_items_is, with_items, of}
 use Rattle.stack_rows.specs.RowForm.{number_at}
 use Rattle.stack_inverse.specs.declared.row.Row.{Row}
 use Rattle.stack_inverse.specs.Columns.{IsPut, revised_cell}

@@ -1,6 +1,5 @@
 use Rattle.std.proofs.Common.{◌≡◌, sym, ap, ◌∙◌, List, length, subst₂}
-use Rattle.std.proofs.lemmas.List.{with_items_is}
-use Rattle.std.specs.Vec.{with_items}
+use Rattle.stack_rational.proofs.Common.{with_items_is, with_items}
 use Rattle.stack_inverse.specs.declared.row.Row.{Row}
 use Rattle.stack_inverse.specs.Columns.{AreEntered}
 use Rattle.stack_inverse.specs.RowsSeen.{seen_at}

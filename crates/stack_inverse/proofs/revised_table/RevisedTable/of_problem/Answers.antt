@@ -1,10 +1,6 @@
 use Rattle.std.proofs.Common.{◌≡◌, ◌<◌, ◌+◌, sym, ap, subst, ◌∙◌, ℕ, suc, List, length, cond, eqb, false, true, add-one}
-use Rattle.std.proofs.Common.{arith, pos, subst₂}
-use Rattle.std.proofs.lemmas.List.{with_items_is}
-use Rattle.std.specs.Vec.{with_items}
-use lib.IntN.{ℤ}
-use Rattle.stack_algebra.proofs.OrderedFractions.{ordered_fractions}
-use Rattle.stack_algebra.specs.Rows.{changed}
+use Rattle.std.proofs.Common.{arith, pos, subst₂, ℤ}
+use Rattle.stack_rational.proofs.Common.{with_items_is, with_items, ordered_fractions, changed}
 use Rattle.stack_table.specs.Table.{plain}
 use Rattle.stack_table.specs.Block.{shape_of}
 use Rattle.stack_table.specs.Lent.{problem_of}

@@ -1,44 +1,20 @@
-use mathlib.Core.Path.{subst₂}
 use Rattle.std.proofs.Common.{◌≡◌, sym, ap, subst, ◌∙◌, ℕ, suc, ◌+◌, List, length, get_or, set, None, pos, arith}
-use Rattle.std.proofs.lemmas.List.{length-set, with_items_is}
-use Rattle.std.specs.Vec.{with_items}
-use Rattle.stack_algebra.specs.Fraction.{Fraction}
-use Rattle.stack_algebra.specs.Rows.{changed, next}
-use Rattle.stack_algebra.proofs.OrderedFractions.{ordered_fractions}
-use Rattle.stack_rational.specs.TooWide.{is_too_wide}
+use Rattle.std.proofs.Common.{length-set}
+use Rattle.stack_rational.proofs.Common.{with_items_is, with_items, Fraction, changed, next, ordered_fractions}
+use Rattle.stack_rational.proofs.Common.{is_too_wide}
 use Rattle.stack_table.specs.Block.{shape_of}
 use Rattle.stack_table.specs.Table.{Tabled, columns, pivoted_at}
 use Rattle.stack_table.specs.Spots.{cells_spot, pivot_spot}
 use Rattle.stack_inverse.specs.declared.row.Row.{Row}
 use Rattle.stack_inverse.specs.RowBlock.{IsPivotedCells, AreMarked}
-use Rattle.stack_inverse.specs.Columns.{AreWide, AreEntered}
+use Rattle.stack_inverse.specs.Columns.{AreWide}
 use Rattle.stack_inverse.specs.RowsSeen.{seen_at, number_in_row, cells_of_rows, columns_of}
 use Rattle.stack_inverse.specs.Seen.{number_in, under_in, shape_of_revised, table_of_revised}
 use Rattle.stack_inverse.proofs.PutRow.{under_positive}
 use Rattle.stack_inverse.proofs.Steps.{zero_cell}
 use Rattle.stack_inverse.proofs.Kept.{on_ok, err_same}
-use Rattle.stack_inverse.proofs.Basics.{basic_changed, basic_below}
+use Rattle.stack_table.proofs.Basics.{basic_changed, basic_below}
 use Rattle.stack_inverse.proofs.revised_table.RevisedTable.pivot.Goals as goal
-
-pub pivot_rows-requires-clause-wide : goal.pivot_rows-requires-clause-wide
-pivot_rows-requires-clause-wide g c =
-    let s = c.args.self.now in
-    subst (λ (rs : List (Row g.row.T.Denot g.T.RowNumber)). AreWide s.given.first.rows (seen_at rs))
-    (sym c.as_mut_slice.ensures.value) s.wide
-
-pub pivot_rows-requires-clause-marked : goal.pivot_rows-requires-clause-marked
-pivot_rows-requires-clause-marked g c =
-    let s = c.args.self.now in
-    subst (λ (rs : List (Row g.row.T.Denot g.T.RowNumber)). AreMarked g.T.RowNumber.MAX (cells_of_rows s.given rs)
-    (seen_at rs))
-    (sym c.as_mut_slice.ensures.value) s.marked
-
-pub pivot_rows-requires-clause-entered : goal.pivot_rows-requires-clause-entered
-pivot_rows-requires-clause-entered g c =
-    let s = c.args.self.now in
-    subst₂ (λ (rs : List (Row g.row.T.Denot g.T.RowNumber)) (es : List g.row.T.Denot). AreEntered g.T.RowNumber.value
-    s.given.first.rows s.given.first.columns.items s.given.own.items (seen_at rs) c.args.column es)
-    (sym c.as_mut_slice.ensures.value) (sym c.as_slice.ensures.value) c.requires.entered
 
 pub pivot_rows-requires-clause-some : goal.pivot_rows-requires-clause-some
 pivot_rows-requires-clause-some g c =

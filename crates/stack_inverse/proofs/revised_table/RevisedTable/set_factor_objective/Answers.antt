@@ -1,9 +1,6 @@
 use Rattle.std.proofs.Common.{◌≡◌, refl, sym, ap, subst, ◌∙◌, ℕ, ◌<◌, suc, length, get_or, List, Option, pos, false}
 use Rattle.std.proofs.Common.{eqb, cond, arith, subst₂}
-use Rattle.std.proofs.lemmas.List.{with_items_is}
-use Rattle.std.specs.Vec.{with_items}
-use Rattle.stack_algebra.proofs.OrderedFractions.{ordered_fractions}
-use Rattle.stack_algebra.specs.Search.{least}
+use Rattle.stack_rational.proofs.Common.{with_items_is, with_items, ordered_fractions, least}
 use Rattle.stack_table.specs.Table.{factor_row}
 use Rattle.stack_rows.specs.RowForm.{number_at}
 use Rattle.stack_inverse.specs.declared.row.Row.{Row}

@@ -1,4 +1,4 @@
-use mir.Facts.{to_z-of_z}
+use Rattle.std.proofs.Common.{to_z-of_z}
 use Rattle.stack_rational.proofs.WideWholes.{whole_fits, whole_too_wide}
 use Rattle.stack_rational.proofs.exact.FracExact.from_whole.Goals as goal
 

@@ -1,5 +1,5 @@
 use Rattle.std.proofs.Common.{◌∙◌, rules}
-use Rattle.stack_algebra.proofs.Over.{over, over_own}
+use Rattle.stack_rational.proofs.Common.{over, over_own}
 use Rattle.stack_rational.proofs.OverParts.{is_held}
 use Rattle.stack_rational.proofs.exact.FracExact.widened.Goals as goal
 

@@ -1,7 +1,5 @@
-use mathlib.Core.Path.{◌≡◌, ap, subst, ◌∙◌}
-use lib.IntN.{ℤ, pos}
-use mir.Facts.{to_z-of_z}
-use Rattle.stack_rational.specs.Stored.{Within}
+use Rattle.std.proofs.Common.{◌≡◌, ap, subst, ◌∙◌, ℤ, pos, to_z-of_z}
+use Rattle.stack_rational.proofs.Common.{Within}
 use Rattle.stack_rational.proofs.OverOne.{whole-stored, whole-is}
 use Rattle.stack_rational.proofs.frac.Frac.from_whole.Goals as goal
 

@@ -1,4 +1,4 @@
-use mathlib.Core.Path.{◌∙◌}
+use Rattle.std.proofs.Common.{◌∙◌}
 use Rattle.stack_rational.proofs.Crosswise.{stored-fits}
 use Rattle.stack_rational.proofs.Inverses.{inverse-stored, inverse-is, parts-below, parts-above}
 use Rattle.stack_rational.proofs.frac.Frac.inverted.Goals as goal

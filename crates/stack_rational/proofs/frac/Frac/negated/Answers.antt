@@ -1,4 +1,4 @@
-use mathlib.Core.Path.{◌∙◌}
+use Rattle.std.proofs.Common.{◌∙◌}
 use Rattle.stack_rational.proofs.Inverses.{negated-is}
 use Rattle.stack_rational.proofs.frac.Frac.negated.Goals as goal
 

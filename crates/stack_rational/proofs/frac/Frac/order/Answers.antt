@@ -1,7 +1,6 @@
-use mathlib.Core.Path.{sym, ◌∙◌}
-use lib.IntN.{pos}
-use Rattle.stack_rational.proofs.ByWholeParts.{stored-order, opposite-order, sign-less, opposite-low, yes-less}
-use Rattle.stack_rational.proofs.ByWholeParts.{no-less, cmp-less, cmp-greater}
+use Rattle.std.proofs.Common.{sym, ◌∙◌, pos}
+use Rattle.stack_rational.proofs.ByWholeParts.{stored-order, opposite-order, sign-less, opposite-low, yes-less, no-less}
+use Rattle.stack_rational.proofs.ByWholeParts.{cmp-less, cmp-greater}
 use Rattle.stack_rational.proofs.frac.Frac.order.Goals as goal
 
 pub order_of_parts-requires-clause-a : goal.order_of_parts-requires-clause-a
@@ -26,10 +25,7 @@ returns-then-is_minus-2 g c = c.order_of_parts.ensures
     (g.T.Number.value c.other.inside.num) (g.T.Number.value c.other.inside.den)
     (g.T.Number.value c.opposite.result) (g.T.Number.value c.opposite-then-is_minus-2.result)
     c.opposite.ensures.value c.opposite-then-is_minus-2.ensures.value
-    ∙ stored-order g.T.Integer.MAX (g.T.Number.value c.self.inside.num)
-    (g.T.Number.value c.self.inside.den) (g.T.Number.value c.other.inside.num)
-    (g.T.Number.value c.other.inside.den)
-    c.args.self c.args.other c.self.invariant.stored c.other.invariant.stored c.self.view_is c.other.view_is
+    ∙ stored-order c.self.invariant.stored c.other.invariant.stored c.self.view_is c.other.view_is
 
 pub returns-else-is_minus-2 : goal.returns-else-is_minus-2
 returns-else-is_minus-2 g c = sym
@@ -40,10 +36,7 @@ returns-else-is_minus-2 g c = sym
     _ c.is_minus.ensures c.if-is_minus.true)
     (no-less (g.T.Number.value c.other.inside.num) (pos 0)
     _ c.is_minus-then-is_minus.ensures c.if-is_minus-2.false)))
-    ∙ stored-order g.T.Integer.MAX (g.T.Number.value c.self.inside.num)
-    (g.T.Number.value c.self.inside.den) (g.T.Number.value c.other.inside.num)
-    (g.T.Number.value c.other.inside.den)
-    c.args.self c.args.other c.self.invariant.stored c.other.invariant.stored c.self.view_is c.other.view_is
+    ∙ stored-order c.self.invariant.stored c.other.invariant.stored c.self.view_is c.other.view_is
 
 pub returns-then-is_minus-3 : goal.returns-then-is_minus-3
 returns-then-is_minus-3 g c = sym
@@ -54,13 +47,8 @@ returns-then-is_minus-3 g c = sym
     _ c.is_minus-else-is_minus.ensures c.if-is_minus-3.true)
     (no-less (g.T.Number.value c.self.inside.num) (pos 0)
     _ c.is_minus.ensures c.if-is_minus.false)))
-    ∙ stored-order g.T.Integer.MAX (g.T.Number.value c.self.inside.num)
-    (g.T.Number.value c.self.inside.den) (g.T.Number.value c.other.inside.num)
-    (g.T.Number.value c.other.inside.den)
-    c.args.self c.args.other c.self.invariant.stored c.other.invariant.stored c.self.view_is c.other.view_is
+    ∙ stored-order c.self.invariant.stored c.other.invariant.stored c.self.view_is c.other.view_is
 
 pub returns-else-is_minus-3 : goal.returns-else-is_minus-3
 returns-else-is_minus-3 g c = c.order_of_parts-else-is_minus-3.ensures
-    ∙ stored-order g.T.Integer.MAX (g.T.Number.value c.self.inside.num) (g.T.Number.value c.self.inside.den)
-    (g.T.Number.value c.other.inside.num) (g.T.Number.value c.other.inside.den)
-    c.args.self c.args.other c.self.invariant.stored c.other.invariant.stored c.self.view_is c.other.view_is
+    ∙ stored-order c.self.invariant.stored c.other.invariant.stored c.self.view_is c.other.view_is

@@ -1,4 +1,4 @@
-use mathlib.Core.Path.{◌∙◌}
+use Rattle.std.proofs.Common.{◌∙◌}
 use Rattle.stack_rational.proofs.AtWide.{recast}
 use Rattle.stack_rational.proofs.Crosswise.{stored-num, stored-den, stored-fits}
 use Rattle.stack_rational.proofs.frac.Frac.parts.Goals as goal

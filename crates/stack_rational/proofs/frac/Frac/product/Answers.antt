@@ -1,4 +1,4 @@
-use mathlib.Core.Path.{◌∙◌}
+use Rattle.std.proofs.Common.{◌∙◌}
 use Rattle.stack_rational.proofs.ShortCuts.{zero_times, times_zero, zero_fits, stored_zero}
 use Rattle.stack_rational.proofs.frac.Frac.product.Goals as goal
 

@@ -1,4 +1,4 @@
-use mathlib.Core.Path.{◌∙◌}
+use Rattle.std.proofs.Common.{◌∙◌}
 use Rattle.stack_rational.proofs.Crosswise.{product, parts-stored, parts-value, parts-fit, num-too_wide, den-too_wide}
 use Rattle.stack_rational.proofs.frac.Frac.product_crosswise.Goals as goal
 

@@ -1,7 +1,6 @@
-use mathlib.Core.Path.{subst}
-use lib.IntN.{ℤ}
+use Rattle.std.proofs.Common.{subst, ℤ}
+use Rattle.stack_rational.proofs.Common.{Within}
 use Rattle.num_traits.specs.Laws.{Checks}
-use Rattle.stack_rational.specs.Stored.{Within}
 use Rattle.stack_rational.proofs.Crosswise.{stored-num, stored-den}
 use Rattle.stack_rational.proofs.Multiples.{scaled-is}
 use Rattle.stack_rational.proofs.frac.Frac.scaled.Goals as goal

@@ -1,4 +1,4 @@
-use mathlib.Core.Path.{sym, ◌∙◌}
+use Rattle.std.proofs.Common.{sym, ◌∙◌}
 use Rattle.stack_rational.proofs.Crosswise.{stored-fits}
 use Rattle.stack_rational.proofs.ShortCuts.{zero_plus, plus_zero, zero_plus_fits, plus_zero_fits, stored_zero}
 use Rattle.stack_rational.proofs.ShortCuts.{stored_sum, stored_sum_fits, stored_sum_too_wide}

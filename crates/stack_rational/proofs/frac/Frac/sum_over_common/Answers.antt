@@ -1,4 +1,4 @@
-use mathlib.Core.Path.{◌∙◌}
+use Rattle.std.proofs.Common.{◌∙◌}
 use Rattle.stack_rational.proofs.OverCommon.{sum, total-too_wide, sum-fits, sum-value, total-inner, total-outer}
 use Rattle.stack_rational.proofs.frac.Frac.sum_over_common.Goals as goal
 

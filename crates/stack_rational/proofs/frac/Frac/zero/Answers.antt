@@ -1,6 +1,4 @@
-use mathlib.Core.Path.{◌≡◌, ap, ◌∙◌}
-use native.Mathlib.Omega.{arith}
-use lib.IntN.{pos}
+use Rattle.std.proofs.Common.{◌≡◌, ap, ◌∙◌, arith, pos}
 use Rattle.stack_rational.proofs.OverOne.{whole-stored, whole-is}
 use Rattle.stack_rational.proofs.frac.Frac.zero.Goals as goal
 

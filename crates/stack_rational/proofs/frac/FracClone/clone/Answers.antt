@@ -1,4 +1,4 @@
-use mathlib.Core.Path.{◌∙◌}
+use Rattle.std.proofs.Common.{◌∙◌}
 use Rattle.stack_rational.proofs.frac.FracClone.clone.Goals as goal
 
 pub made-requires : goal.made-requires

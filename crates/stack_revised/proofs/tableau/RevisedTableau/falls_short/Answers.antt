@@ -1,5 +1,5 @@
 use Rattle.std.proofs.Common.{sym, ap, ◌∙◌}
-use Rattle.stack_algebra.specs.Ordered.{sign_of}
+use Rattle.stack_rational.proofs.Common.{sign_of}
 use Rattle.stack_table.specs.Table.{columns}
 use Rattle.stack_bland.specs.Choice.{is_negative_sign}
 use Rattle.stack_inverse.specs.Seen.{shape_of_revised, number_in, under_in}

@@ -1,6 +1,6 @@
 use Rattle.std.proofs.Common.{sym, ap, ◌∙◌}
+use Rattle.stack_rational.proofs.Common.{is_zero_whole}
 use Rattle.stack_bland.specs.Choice.{is_nought}
-use Rattle.stack_rational.specs.Order.{is_zero_whole}
 use Rattle.stack_inverse.specs.Seen.{number_in, under_in}
 use Rattle.stack_inverse.proofs.PutRow.{under_positive}
 use Rattle.stack_rows.proofs.Ratios.{cell_sign, nought_of}

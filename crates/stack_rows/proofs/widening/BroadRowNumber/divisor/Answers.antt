@@ -1,5 +1,5 @@
 use Rattle.std.proofs.Common.{ap, sym, ◌∙◌, rules, unsigned_abs, SFits, to_z-of_z}
-use native.Mathlib.Nat.{one-dvd}
+use Rattle.stack_rational.proofs.Common.{one-dvd}
 use Rattle.std.specs.Int.{w128}
 use Rattle.stack_rows.proofs.CommonDivisors.{sized_divisor}
 use Rattle.stack_rows.proofs.widening.BroadRowNumber.divisor.Goals as goal

@@ -1,7 +1,5 @@
-use Rattle.std.proofs.Common.{◌≡◌, ap, ◌∙◌, ◌≤◌, ◌-◌, ◌^◌, arith, to_z, of_z, to_z-of_z}
-use lib.IntN.{ℤ, nat_abs, ◌-ℤ◌, ◌*ℤ◌}
-use mir.Syntax.{w64, w128}
-use Rattle.stack_rational.specs.Widths.{signed-keeps}
+use Rattle.std.proofs.Common.{◌≡◌, ap, ◌∙◌, ◌≤◌, ◌-◌, ◌^◌, arith, to_z, of_z, to_z-of_z, ℤ, nat_abs, ◌-ℤ◌, ◌*ℤ◌, w64}
+use Rattle.stack_rational.proofs.Common.{w128, signed-keeps}
 use Rattle.stack_rows.proofs.widening.BroadRowNumber.short_step.Goals as goal
 
 -- the casts of a number of 64 bits

@@ -1,21 +1,14 @@
 use Rattle.std.proofs.Common.{◌≡◌, refl, sym, ap, subst, ◌∙◌, suc, ◌+◌, ◌*◌, ◌<◌, get_or, Option, Some, None, cond}
-use Rattle.std.proofs.Common.{length, arith, is_some}
-use Rattle.std.proofs.lemmas.List.{get_or_default, length_push, with_items_is}
-use Rattle.std.proofs.lemmas.Result.{err_from_is_err_and}
-use Rattle.std.specs.Vec.{with_items}
+use Rattle.std.proofs.Common.{length, arith, is_some, pos}
+use Rattle.stack_rational.proofs.Common.{length_push, with_items_is, err_from_is_err_and, with_items, ℕ_discrete}
+use Rattle.stack_rational.proofs.Common.{ordered_fractions, first, is_too_wide, first_more, get_or_default}
 use Rattle.std.proofs.Math.Nat.{add-mul, suc-mul}
-use native.Mathlib.Decide.{ℕ_discrete}
-use lib.IntN.{pos}
-use Rattle.stack_algebra.proofs.OrderedFractions.{ordered_fractions}
-use Rattle.stack_algebra.specs.Search.{first}
 use Rattle.stack_table.specs.declared.problem.Column.{Column}
-use Rattle.stack_rational.specs.TooWide.{is_too_wide}
 use Rattle.stack_table.specs.Table.{plain, width}
 use Rattle.stack_table.specs.Block.{cell_of, tabled}
 use Rattle.stack_table.specs.Problem.{flipped}
 use Rattle.stack_table.specs.Lent.{factor_count, shape_of_problem, problem_of}
 use Rattle.stack_table.specs.WrittenTable.{first_row, row_place}
-use Rattle.stack_algebra.proofs.Search.{first_more}
 use Rattle.stack_table.specs.Due.{AreDue}
 use Rattle.stack_table.proofs.DueRows.{none_due}
 use Rattle.stack_table.proofs.Growing.{pushed_all, earlier_cells, next_cells}

@@ -1,9 +1,5 @@
-use Rattle.std.proofs.Common.{◌≡◌, sym, ap, ◌∙◌, ℕ, length, get_or}
-use Rattle.std.proofs.lemmas.List.{with_items_is}
-use Rattle.std.specs.Vec.{with_items}
-use lib.IntN.{pos}
-use Rattle.stack_algebra.proofs.Fractions.{of}
-use Rattle.stack_algebra.specs.Rows.{changed}
+use Rattle.std.proofs.Common.{◌≡◌, sym, ap, ◌∙◌, ℕ, length, get_or, pos}
+use Rattle.stack_rational.proofs.Common.{with_items_is, with_items, of, changed}
 use Rattle.stack_table.specs.Block.{cell_of, shape_of}
 use Rattle.stack_table.specs.Table.{width}
 use Rattle.stack_table.proofs.table.Table.clear_objective.Goals as goal

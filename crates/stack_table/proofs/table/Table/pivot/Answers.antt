@@ -1,35 +1,12 @@
-use Rattle.std.proofs.Common.{◌≡◌, sym, ap, ◌∙◌, ℕ, suc, ◌*◌, ◌<◌, Bool, List, length, get_or, set, arith}
-use Rattle.std.proofs.Common.{get_or-set_same, get_or-set_other, subst₂}
-use Rattle.std.proofs.lemmas.List.{length-set, with_items_is}
-use Rattle.std.proofs.lemmas.Result.{err_from_is_err_and}
-use Rattle.std.specs.Vec.{with_items}
-use native.Mathlib.Decide.{ℕ_discrete}
-use Rattle.stack_algebra.specs.Rows.{changed, next}
-use Rattle.stack_algebra.proofs.Pivots.{changed-same, changed-other}
-use Rattle.stack_algebra.proofs.OrderedFractions.{ordered_fractions}
-use Rattle.stack_rational.specs.TooWide.{is_too_wide}
+use Rattle.std.proofs.Common.{◌≡◌, sym, ap, ◌∙◌, ℕ, suc, ◌*◌, Bool, List, length, get_or, set, arith}
+use Rattle.std.proofs.Common.{subst₂, length-set}
+use Rattle.stack_rational.proofs.Common.{with_items_is, err_from_is_err_and, with_items, changed, next}
+use Rattle.stack_rational.proofs.Common.{ordered_fractions, is_too_wide}
 use Rattle.stack_table.specs.Block.{IsBlock, cell_of, shape_of}
 use Rattle.stack_table.specs.Table.{width, columns}
 use Rattle.stack_table.specs.Spots.{cells_spot}
+use Rattle.stack_table.proofs.Basics.{basic_changed, basic_below}
 use Rattle.stack_table.proofs.table.Table.pivot.Goals as goal
-
-basic_changed : (xs : List ℕ) (r c i : ℕ) → r < length xs →
-    get_or (set xs r c) i 0 ≡ changed (λ k. get_or xs k 0) r c i
-basic_changed xs r c i l = go (ℕ_discrete i r)
-  where
-    go : Dec (i ≡ r) → get_or (set xs r c) i 0 ≡ changed (λ k. get_or xs k 0) r c i
-    go (yes d) = ap (λ k. get_or (set xs r c) k 0) d ∙ get_or-set_same xs r c 0 l
-        ∙ sym (ap (changed (λ k. get_or xs k 0) r c) d ∙ changed-same (λ k. get_or xs k 0) r c)
-    go (no d) = get_or-set_other xs r i c 0 d ∙ sym (changed-other (λ k. get_or xs k 0) r c i d)
-
--- all basic columns stay below a bound
-basic_below : (xs : List ℕ) (r c n w : ℕ) → r < length xs → c < w → ((i : ℕ) → i < n → get_or xs i 0 < w) →
-    (i : ℕ) → i < n → get_or (set xs r c) i 0 < w
-basic_below xs r c n w l h k i d = go (ℕ_discrete i r)
-  where
-    go : Dec (i ≡ r) → get_or (set xs r c) i 0 < w
-    go (yes e) = omega (arith, ap (λ k. get_or (set xs r c) k 0) e, get_or-set_same xs r c 0 l, h)
-    go (no e) = omega (arith, get_or-set_other xs r i c 0 e, k i d)
 
 pub invariant_of-self-2-clause-whole : goal.invariant_of-self-2-clause-whole
 invariant_of-self-2-clause-whole g c =

@@ -1,10 +1,5 @@
-use Rattle.std.proofs.Common.{◌≡◌, sym, ap, ◌∙◌, ℕ, ◌<◌, Bool, Option, Some, None, length, get_or, IfSome}
-use Rattle.std.proofs.lemmas.List.{with_items_is}
-use Rattle.std.specs.Vec.{with_items}
-use lib.Dec.{eqb}
-use Rattle.stack_algebra.specs.Rows.{changed}
-use Rattle.stack_algebra.proofs.OrderedFractions.{ordered_fractions}
-use Rattle.stack_algebra.proofs.Search.{least, least-some}
+use Rattle.std.proofs.Common.{◌≡◌, sym, ap, ◌∙◌, ℕ, ◌<◌, Bool, Option, Some, None, length, get_or, IfSome, eqb}
+use Rattle.stack_rational.proofs.Common.{with_items_is, with_items, changed, ordered_fractions, least, least-some}
 use Rattle.stack_table.specs.Block.{cell_of, shape_of, tabled}
 use Rattle.stack_table.specs.Table.{width, factor_row}
 use Rattle.stack_table.proofs.table.Table.set_factor_objective.Goals as goal
