@@ -4,8 +4,7 @@ ghost use Rattle.std.specs.Prelude.{◌≡◌, IfOk};
 ghost use Rattle.std.specs.Option.{option_map};
 ghost use Rattle.stack_certificate.specs.Certificate.{forces_view, certificate_view};
 ghost use Rattle.stack_certificate.specs.CertificateOf.{no_parts, with_push, with_move, begun, continued};
-ghost use Rattle.stack_certificate.specs.CertificateOf.{progress_after};
-ghost use Rattle.stack_certificate.specs.CertificateOf.{before_motion, before_ray, unended};
+ghost use Rattle.stack_certificate.specs.CertificateOf.{progress_after, before_motion, before_ray, unended};
 ghost use Rattle.stack_certificate.specs.Stages.{stage_view, Finishes};
 
 use crate::line::{CertificateForm, Line};

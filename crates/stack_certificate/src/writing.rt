@@ -4,9 +4,8 @@ ghost use Rattle.std.specs.Prelude.{◌≡◌, ◌++◌, ◌∷◌, [], OnOk, If
 ghost use Rattle.std.specs.Fmt.{signed_decimal};
 ghost use Rattle.stack_certificate.specs.Certificate.{forces_view, motion_view, certificate_view};
 ghost use Rattle.stack_certificate.specs.Lines.{form_text, two_text, three_text, body_text, line_text};
-ghost use Rattle.stack_certificate.specs.CertificateText.{push_line, forces_lines, move_line, motion_lines};
-ghost use Rattle.stack_certificate.specs.CertificateText.{open_lines, text_of};
-ghost use Rattle.stack_certificate.specs.CertificateText.{CertificateFits, IsCertificateText};
+ghost use Rattle.stack_certificate.specs.CertificateText.{push_line, forces_lines, move_line, motion_lines, open_lines};
+ghost use Rattle.stack_certificate.specs.CertificateText.{text_of, CertificateFits, IsCertificateText};
 
 use crate::line::{CertificateForm, Line};
 use crate::types::{Certificate, Forces, Motion};

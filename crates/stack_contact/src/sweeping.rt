@@ -4,8 +4,7 @@ ghost use Rattle.std.specs.Prelude.{◌≡◌, ◌&&◌, ◌<◌, ◌↔◌, suc
 ghost use Rattle.stack_algebra.specs.IntegerOrder.{◌≺◌};
 ghost use Rattle.stack_model.specs.Structure.{body_of};
 ghost use Rattle.stack_model.specs.ModelView.{model_view};
-ghost use Rattle.stack_contact.specs.NearPairs.{AreFromLeft, IsPairOf, IsSwept, AreSwept};
-ghost use Rattle.stack_contact.specs.NearPairs.{AreNearPairs, IsOrdered};
+ghost use Rattle.stack_contact.specs.NearPairs.{AreFromLeft, IsPairOf, IsSwept, AreSwept, AreNearPairs, IsOrdered};
 
 use stack_model::Model;
 use stack_overlap::apart;

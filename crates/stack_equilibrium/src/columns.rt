@@ -8,10 +8,9 @@ ghost use Rattle.stack_statics.specs.Balance.{bearing_side};
 ghost use Rattle.stack_equilibrium.specs.SurveyScene.{bearing_of, scene_bearing_of};
 ghost use Rattle.stack_whole.specs.Whole.{whole};
 ghost use Rattle.stack_equilibrium.specs.LoadSizes.{HasForceLimits, IsForce, IsMoment, IsSmall};
-ghost use Rattle.stack_equilibrium.specs.Columns.{IsRate, IsShare, IsEdgeWrench, lean_of};
-ghost use Rattle.stack_equilibrium.specs.Columns.{edge_force_of};
-ghost use Rattle.stack_statics.specs.Loads.{wrench_times};
+ghost use Rattle.stack_equilibrium.specs.Columns.{IsRate, IsShare, IsEdgeWrench, lean_of, edge_force_of};
 ghost use Rattle.stack_equilibrium.specs.Columns.{edge_wrench_of};
+ghost use Rattle.stack_statics.specs.Loads.{wrench_times};
 ghost use Rattle.stack_equilibrium.specs.Answers.{body_number, column_of};
 
 use crate::force::{Force, arm_of, moment};

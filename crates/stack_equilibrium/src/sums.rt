@@ -4,9 +4,8 @@ ghost use Rattle.std.specs.Prelude.{◌≡◌, ◌≤◌, length, pos};
 ghost use Rattle.stack_algebra.specs.Steps.{steps};
 ghost use Rattle.stack_whole.specs.Whole.{whole};
 ghost use Rattle.stack_equilibrium.specs.WrittenSums.{written_force_x, written_force_y, written_moment};
-ghost use Rattle.stack_equilibrium.specs.WrittenSums.{written_bearing_force};
-ghost use Rattle.stack_equilibrium.specs.WrittenSums.{written_force, with_bearing, bearing_at, written_sum, on_axis};
-ghost use Rattle.stack_equilibrium.specs.WrittenSums.{written_sums};
+ghost use Rattle.stack_equilibrium.specs.WrittenSums.{written_bearing_force, written_force, with_bearing, bearing_at};
+ghost use Rattle.stack_equilibrium.specs.WrittenSums.{written_sum, on_axis, written_sums};
 
 use crate::block::{Block, Lever, Push, lever_of, number_along, push_of};
 use crate::force::Force;

@@ -2,9 +2,8 @@
 
 ghost use Rattle.stack_faults.specs.Outline.{OutlineByMeaning, FewPointsAreTheirOutline};
 ghost use Rattle.stack_faults.specs.AsListed.{StructureAsListed};
-ghost use Rattle.stack_faults.specs.Laws.{FirstContentFault, ContentWhereFaultless, CrookedByMeaning};
-ghost use Rattle.stack_faults.specs.Laws.{FirstShapeFault, ShapeWhereFaultless};
-ghost use Rattle.stack_faults.specs.Laws.{FirstTableFault, StructureWhereFaultless};
+ghost use Rattle.stack_faults.specs.Laws.{FirstContentFault, ContentWhereFaultless, CrookedByMeaning, FirstShapeFault};
+ghost use Rattle.stack_faults.specs.Laws.{ShapeWhereFaultless, FirstTableFault, StructureWhereFaultless};
 ghost use Rattle.stack_faults.specs.Laws.{FirstFileFault, FileWhereFaultless};
 ghost use Rattle.stack_faults.specs.WorkedFaults.{WorkedFaults};
 

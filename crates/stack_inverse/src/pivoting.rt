@@ -1,7 +1,6 @@
 //! A pivot over the rows of a table.
 
-ghost use Rattle.std.specs.Prelude.{◌≡◌, ◌≢◌, ℕ, suc, ◌<◌, pos, unsigned_abs, ◌<ℤ◌, length, OnSome};
-ghost use Rattle.std.specs.Prelude.{OnOk, IfErr};
+ghost use Rattle.std.specs.Prelude.{◌≡◌, ◌≢◌, ℕ, suc, ◌<◌, pos, unsigned_abs, ◌<ℤ◌, length, OnSome, OnOk, IfErr};
 ghost use Rattle.stack_algebra.proofs.OrderedFractions.{ordered_fractions};
 ghost use Rattle.stack_rational.specs.TooWide.{is_too_wide};
 ghost use Rattle.stack_table.specs.Spots.{cells_spot};

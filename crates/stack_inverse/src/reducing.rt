@@ -1,7 +1,6 @@
 //! A row step: the pivot row times a row's cell in the pivot's column is taken from the row.
 
-ghost use Rattle.std.specs.Prelude.{◌≡◌, ◌≢◌, ℕ, suc, ◌*ℤ◌, ◌<ℤ◌, pos, true, false, None, length, OnSome};
-ghost use Rattle.std.specs.Prelude.{OnOk, IfErr};
+ghost use Rattle.std.specs.Prelude.{◌≡◌, ◌≢◌, ℕ, suc, ◌*ℤ◌, ◌<ℤ◌, pos, true, false, None, length, OnSome, OnOk, IfErr};
 ghost use Rattle.stack_algebra.proofs.Over.{over};
 ghost use Rattle.stack_algebra.proofs.OrderedFractions.{ordered_fractions};
 ghost use Rattle.stack_rational.specs.Order.{is_zero_whole};

@@ -8,9 +8,8 @@ ghost use Rattle.stack_model.specs.Raw.{raw_block, numbers_view};
 ghost use Rattle.stack_model.specs.Gives.{Gives};
 ghost use Rattle.stack_model.specs.Kept.{body_view};
 ghost use Rattle.stack_model.specs.Limits.{corner_list_of};
-ghost use Rattle.stack_model.specs.Content.{ranged, found as found_of, has_room as has_room_of, with_body};
-ghost use Rattle.stack_model.specs.Content.{add_block, number_of, body_names, material_names};
-ghost use Rattle.stack_model.specs.Content.{is_free as is_free_of};
+ghost use Rattle.stack_model.specs.Content.{ranged, found as found_of, has_room as has_room_of, with_body, add_block};
+ghost use Rattle.stack_model.specs.Content.{number_of, body_names, material_names, is_free as is_free_of};
 
 use crate::errors::ModelError;
 use crate::kept::KeptBody;

@@ -4,8 +4,7 @@ ghost use Rattle.stack_posing.specs.FreeBodies.{FreeBodiesAreFound, FreeNumbersA
 ghost use Rattle.stack_posing.specs.Edges.{EdgesExertTheirPart, PartsBetweenEdgesAreAdmissible};
 ghost use Rattle.stack_posing.specs.Equations.{SolutionsAreForces};
 ghost use Rattle.stack_posing.specs.MovesByNumber.{PowersAreByNumber, UnopposedMovesAreMotions};
-ghost use Rattle.stack_posing.specs.ByNumber.{StandsBySolution, CollapsesByMoves, GreatestByBoth};
-ghost use Rattle.stack_posing.specs.ByNumber.{UnboundedBySolutions};
+ghost use Rattle.stack_posing.specs.ByNumber.{StandsBySolution, CollapsesByMoves, GreatestByBoth, UnboundedBySolutions};
 
 /// The free body with a number is the free block of a survey with this number, and each free body has one.
 pub fn free_body_laws()

@@ -3,8 +3,7 @@
 ghost use Rattle.std.specs.Prelude.{◌≡◌, ◌+◌, Some};
 ghost use Rattle.stack_model.specs.ModelView.{model_view};
 ghost use Rattle.stack_report.specs.ContactTable.{name_of, pair_text, directions_text, point_and_directions};
-ghost use Rattle.stack_report.specs.ContactTable.{bearing_text};
-ghost use Rattle.stack_report.specs.ContactTable.{touch_text};
+ghost use Rattle.stack_report.specs.ContactTable.{bearing_text, touch_text};
 
 use stack_contact::types::{Bearing, Touch};
 use stack_frame::{Cone, Frame};

@@ -5,8 +5,7 @@ ghost use Rattle.stack_certificate.specs.Certificate.{certificate_view};
 ghost use Rattle.stack_contact.specs.FreeBlocks.{frees_of};
 ghost use Rattle.stack_checker.specs.WrittenCheck.{written_check};
 ghost use Rattle.stack_report.specs.ContactTable.{count_line};
-ghost use Rattle.stack_report.specs.Summary.{form_word, greatest_line, narrow_line, counts_text};
-ghost use Rattle.stack_report.specs.Summary.{verdict_line};
+ghost use Rattle.stack_report.specs.Summary.{form_word, greatest_line, narrow_line, counts_text, verdict_line};
 ghost use Rattle.stack_report.specs.Summary.{summary_text};
 ghost use Rattle.stack_report.specs.Tabling.{IsWhole};
 

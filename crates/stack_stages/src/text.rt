@@ -5,8 +5,7 @@ ghost use Rattle.stack_certificate.specs.Certificate.{motion_view, collapses};
 ghost use Rattle.stack_certificate.specs.CertificateText.{CertificateFits};
 ghost use Rattle.stack_stages.specs.Gives.{stages_view};
 ghost use Rattle.stack_stages.specs.StagesText.{stands_line, stand_lines as lines_of_standing, stages_text};
-ghost use Rattle.stack_stages.specs.StagesText.{CanPrintStages};
-ghost use Rattle.stack_stages.specs.StagesText.{falls_text as text_of_falling};
+ghost use Rattle.stack_stages.specs.StagesText.{CanPrintStages, falls_text as text_of_falling};
 
 use crate::types::Stages;
 use stack_certificate::types::{Certificate, Forces, Motion};
