@@ -30,7 +30,14 @@ fn is_great<T: RowNumber>(known: bool, number: T) -> bool {
 
 /// Takes from a row, whose numbers are made k times as great, t times the pivot row. Gives whether it is great then,
 /// by its numbers or by what is known of it.
-fn combine<T: RowNumber>(numbers: &mut [T], pivot: &[T], k: T, t: T, short: bool, known: bool) -> bool
+fn combine<T: RowNumber>(
+    numbers: &mut [T],
+    pivot: &[T],
+    k: T,
+    t: T,
+    short: bool,
+    known: bool,
+) -> bool
     requires width { length pivot.now ≡ length numbers.old }
     requires ready { RowStepFits T.MAX T.value numbers.old pivot.now (T.value k) (T.value t) short }
     ensures { IsCombined T.value numbers.old pivot.now (T.value k) (T.value t) numbers.new }

@@ -39,6 +39,6 @@ returns g c = λ i. go i (dec_lt i c.loop-j.j)
     go i (no l) = combined_past _ _ _ _ _
         (at-past g.T.RowNumber.value (pos 0) c.args.numbers.now i (omega (arith, l, c.loop-j-test.false)))
         (at-past g.T.RowNumber.value (pos 0) c.args.pivot.now i
-            (omega (arith, l, c.loop-j-test.false, c.requires.width)))
+        (omega (arith, l, c.loop-j-test.false, c.requires.width)))
         (at-past g.T.RowNumber.value (pos 0) c.loop-j.numbers i
         (omega (arith, l, c.loop-j-test.false, c.loop-j.auto.numbers)))
