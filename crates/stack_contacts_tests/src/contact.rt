@@ -1,6 +1,6 @@
 //! Contacts of pairs and surveys of models, worked by hand.
 
-use crate::drawings::{Block, Drawing, GROUND, at, bearing, model_of};
+use crate::drawings::{GROUND, STONE, at, bearing, model_of};
 use stack_contact::types::{Contacts, SurveyError, Touch};
 use stack_contact::{contacts, survey, survey_again};
 use stack_frame::{Cone, frame_of};
@@ -71,44 +71,18 @@ fn blocks_apart_are_free_and_blocks_that_overlap_have_no_contacts(
 
 /// The ground; three fixed blocks, of which the first overlaps it, the second lies beside it, and the third bears on
 /// the second; a post on the ground, and a block that touches it at its corner.
-const SIX: Drawing = Drawing {
-    blocks: &[
-        GROUND,
-        Block {
-            name: "over",
-            fixed: true,
-            low: [5, -1],
-            high: [15, 0],
-        },
-        Block {
-            name: "beside",
-            fixed: true,
-            low: [-12, -1],
-            high: [-10, 0],
-        },
-        Block {
-            name: "above",
-            fixed: true,
-            low: [-12, 0],
-            high: [-10, 1],
-        },
-        Block {
-            name: "post",
-            fixed: false,
-            low: [0, 0],
-            high: [2, 4],
-        },
-        Block {
-            name: "touching",
-            fixed: false,
-            low: [2, 4],
-            high: [4, 6],
-        },
-    ],
-    weights: &[],
-    joint: None,
-    sway: [0, 0],
-};
+const SIX: &[&str] = &[
+    STONE,
+    GROUND,
+    "[[block]]\nname = 'over'\nmaterial = 'stone'\nfixed = true\n\
+    corners = [[5, -1], [15, -1], [15, 0], [5, 0]]\n",
+    "[[block]]\nname = 'beside'\nmaterial = 'stone'\nfixed = true\n\
+    corners = [[-12, -1], [-10, -1], [-10, 0], [-12, 0]]\n",
+    "[[block]]\nname = 'above'\nmaterial = 'stone'\nfixed = true\n\
+    corners = [[-12, 0], [-10, 0], [-10, 1], [-12, 1]]\n",
+    "[[block]]\nname = 'post'\nmaterial = 'stone'\ncorners = [[0, 0], [2, 0], [2, 4], [0, 4]]\n",
+    "[[block]]\nname = 'touching'\nmaterial = 'stone'\ncorners = [[2, 4], [4, 4], [4, 6], [2, 6]]\n",
+];
 
 #[test]
 fn a_survey_lists_bearings_touches_and_free_blocks(rt: HostRuntime) -> Result<(), Fail> {
@@ -133,45 +107,27 @@ fn a_survey_lists_bearings_touches_and_free_blocks(rt: HostRuntime) -> Result<()
     Ok(())
 }
 
-const LEFT: Block = Block {
-    name: "left",
-    fixed: false,
-    low: [0, 0],
-    high: [2, 2],
-};
-/// It overlaps the left one.
-const OVER_LEFT: Block = Block {
-    name: "over_left",
-    fixed: false,
-    low: [1, 1],
-    high: [3, 3],
-};
-/// It overlaps the ground.
-const SUNK: Block = Block {
-    name: "sunk",
-    fixed: false,
-    low: [5, -1],
-    high: [7, 1],
-};
+const LEFT: &str =
+    "[[block]]\nname = 'left'\nmaterial = 'stone'\ncorners = [[0, 0], [2, 0], [2, 2], [0, 2]]\n";
 
-const RIGHT: Block = Block {
-    name: "right",
-    fixed: false,
-    low: [10, 0],
-    high: [12, 2],
-};
+/// It overlaps the left one.
+const OVER_LEFT: &str =
+    "[[block]]\nname = 'over_left'\nmaterial = 'stone'\ncorners = [[1, 1], [3, 1], [3, 3], [1, 3]]\n";
+
+/// It overlaps the ground.
+const SUNK: &str =
+    "[[block]]\nname = 'sunk'\nmaterial = 'stone'\ncorners = [[5, -1], [7, -1], [7, 1], [5, 1]]\n";
+
+const RIGHT: &str =
+    "[[block]]\nname = 'right'\nmaterial = 'stone'\ncorners = [[10, 0], [12, 0], [12, 2], [10, 2]]\n";
+
 /// It overlaps the right one.
-const OVER_RIGHT: Block = Block {
-    name: "over_right",
-    fixed: false,
-    low: [11, 1],
-    high: [13, 3],
-};
+const OVER_RIGHT: &str =
+    "[[block]]\nname = 'over_right'\nmaterial = 'stone'\ncorners = [[11, 1], [13, 1], [13, 3], [11, 3]]\n";
 
 /// Why these blocks have no survey.
-fn refused(alloc: Global, blocks: &'static [Block]) -> Result<Option<SurveyError>, Fail> {
-    let drawing = Drawing { blocks, ..SIX };
-    Ok(survey(alloc, model_of(alloc, drawing)?).err())
+fn refused(alloc: Global, pieces: &[&str]) -> Result<Option<SurveyError>, Fail> {
+    Ok(survey(alloc, model_of(alloc, pieces)?).err())
 }
 
 #[test]
@@ -180,7 +136,7 @@ fn the_first_pair_that_overlaps_is_named(rt: HostRuntime) -> Result<(), Fail> {
         first: 0,
         second: 3,
     };
-    let found = refused(rt.alloc(), &[GROUND, LEFT, OVER_LEFT, SUNK])?;
+    let found = refused(rt.alloc(), &[STONE, GROUND, LEFT, OVER_LEFT, SUNK])?;
     assert_eq!(rt; found, Some(overlap));
     Ok(())
 }
@@ -191,7 +147,7 @@ fn the_first_pair_is_named_where_another_lies_further_left(rt: HostRuntime) -> R
         first: 0,
         second: 1,
     };
-    let found = refused(rt.alloc(), &[RIGHT, OVER_RIGHT, LEFT, OVER_LEFT])?;
+    let found = refused(rt.alloc(), &[STONE, RIGHT, OVER_RIGHT, LEFT, OVER_LEFT])?;
     assert_eq!(rt; found, Some(overlap));
     Ok(())
 }

@@ -1,6 +1,6 @@
 //! Parts of small structures of stones, worked by hand.
 
-use crate::drawings::{Block, Drawing, GROUND, Weight, at, bearing, model_of};
+use crate::drawings::{GROUND, STONE, at, bearing, model_of};
 use stack_contact::survey;
 use stack_contact::types::{Survey, Touch};
 use stack_frame::Cone;
@@ -12,43 +12,17 @@ use std::test::*;
 
 /// The ground, a post `a` on it, a post `b` on `a`, a post `c` beside `b` that touches `a`, and loads on `b` and on
 /// `c`; a joint of stone on stone, and a sway.
-const POSTS: Drawing = Drawing {
-    blocks: &[
-        GROUND,
-        Block {
-            name: "a",
-            fixed: false,
-            low: [0, 0],
-            high: [2, 4],
-        },
-        Block {
-            name: "b",
-            fixed: false,
-            low: [0, 4],
-            high: [2, 6],
-        },
-        Block {
-            name: "c",
-            fixed: false,
-            low: [2, 4],
-            high: [4, 6],
-        },
-    ],
-    weights: &[
-        Weight {
-            on: "b",
-            at: [1, 6],
-            size: 1,
-        },
-        Weight {
-            on: "c",
-            at: [3, 6],
-            size: 2,
-        },
-    ],
-    joint: Some([2, 6]),
-    sway: [1, 0],
-};
+const POSTS: &[&str] = &[
+    "version = 2\nsway = [1, 0]\n",
+    STONE,
+    "[[joint]]\nfirst = 'stone'\nsecond = 'stone'\nfriction = [2, 6]\n",
+    GROUND,
+    "[[block]]\nname = 'a'\nmaterial = 'stone'\ncorners = [[0, 0], [2, 0], [2, 4], [0, 4]]\n",
+    "[[block]]\nname = 'b'\nmaterial = 'stone'\ncorners = [[0, 4], [2, 4], [2, 6], [0, 6]]\n",
+    "[[block]]\nname = 'c'\nmaterial = 'stone'\ncorners = [[2, 4], [4, 4], [4, 6], [2, 6]]\n",
+    "[[load]]\nblock = 'b'\nkind = 'dead'\nat = [1, 6]\nforce = [0, -1]\n",
+    "[[load]]\nblock = 'c'\nkind = 'dead'\nat = [3, 6]\nforce = [0, -2]\n",
+];
 
 /// The part with the bodies that are kept.
 fn kept(alloc: Global, whole: &Model, keeps: &[bool]) -> Result<Model, Fail> {

@@ -1,149 +1,50 @@
-//! Structures of one stone, drawn as constants.
+//! Structures of one stone, as the pieces of their model files.
 
 use stack_contact::survey;
 use stack_contact::types::Survey;
-use stack_model::{Model, Parts, RawBlock, RawLoad, RawMaterial};
+use stack_reader::read_model;
 use std::alloc::Global;
 use std::test::Fail;
 
-/// A block by its corners. The ground alone is fixed.
-#[derive(Clone, Copy)]
-pub struct Block {
-    pub name: &'static str,
-    pub corners: &'static [[i64; 2]],
-}
+pub const SWAY: &str = "version = 2\nsway = [1, -2]\n";
 
-/// A live load on the post.
-#[derive(Clone, Copy)]
-pub struct Live {
-    pub at: [i64; 2],
-    pub force: [i64; 2],
-}
-
-/// Blocks of one stone of weight 1, live loads on the post, and a sway.
-#[derive(Clone, Copy)]
-pub struct Drawing {
-    pub friction: [i64; 2],
-    pub blocks: &'static [Block],
-    pub loads: &'static [Live],
-    pub sway: [i64; 2],
-}
+pub const STONE: &str = "[[material]]\nname = 'stone'\nweight = 1\nfriction = [1, 1]\n";
 
 /// The ground, from (-10, -1) to (10, 0).
-const GROUND: Block = Block {
-    name: "ground",
-    corners: &[[-10, -1], [10, -1], [10, 0], [-10, 0]],
-};
+pub const GROUND: &str = "[[block]]\nname = 'ground'\nmaterial = 'stone'\nfixed = true\n\
+    corners = [[-10, -1], [10, -1], [10, 0], [-10, 0]]\n";
 
-const POST: Block = Block {
-    name: "post",
-    corners: &[[0, 0], [2, 0], [2, 4], [0, 4]],
-};
+/// The ground one unit lower.
+pub const LOW_GROUND: &str = "[[block]]\nname = 'ground'\nmaterial = 'stone'\nfixed = true\n\
+    corners = [[-10, -2], [10, -2], [10, -1], [-10, -1]]\n";
 
-/// A post, 2 wide and 4 high, on the ground.
-pub const STANDING: Drawing = Drawing {
-    friction: [1, 1],
-    blocks: &[GROUND, POST],
-    loads: &[],
-    sway: [0, 0],
-};
-/// It is pushed to the right at its upper left corner.
-pub const PUSHED: Drawing = Drawing {
-    loads: &[PUSH],
-    ..STANDING
-};
+/// A post, 2 wide and 4 high.
+pub const POST: &str = "[[block]]\nname = 'post'\nmaterial = 'stone'\n\
+    corners = [[0, 0], [2, 0], [2, 4], [0, 4]]\n";
 
-pub const PUSH: Live = Live {
-    at: [0, 4],
-    force: [1, 0],
-};
+/// A load to the right at the post's upper left corner.
+pub const PUSH: &str = "[[load]]\nblock = 'post'\nkind = 'live'\nat = [0, 4]\nforce = [1, 0]\n";
+
 /// A load downwards in the middle of the post's head.
-pub const PRESSURE: Live = Live {
-    at: [1, 4],
-    force: [0, -1],
-};
-/// The blocks of a post one unit above the ground.
-pub const HOVERING: &[Block] = &[
-    Block {
-        name: "ground",
-        corners: &[[-10, -2], [10, -2], [10, -1], [-10, -1]],
-    },
-    POST,
-];
+pub const PRESSURE: &str =
+    "[[load]]\nblock = 'post'\nkind = 'live'\nat = [1, 4]\nforce = [0, -1]\n";
+
+pub const STANDING: &[&str] = &[STONE, GROUND, POST];
+
+pub const PUSHED: &[&str] = &[STONE, GROUND, POST, PUSH];
+
 /// On the ground `a` and `b`, side by side, and on them `c` and `d`.
-pub const FOUR: Drawing = Drawing {
-    friction: [1, 2],
-    blocks: &[
-        GROUND,
-        Block {
-            name: "a",
-            corners: &[[0, 0], [2, 0], [2, 1], [0, 1]],
-        },
-        Block {
-            name: "b",
-            corners: &[[2, 0], [4, 0], [4, 1], [2, 1]],
-        },
-        Block {
-            name: "c",
-            corners: &[[0, 1], [2, 1], [2, 2], [0, 2]],
-        },
-        Block {
-            name: "d",
-            corners: &[[2, 1], [4, 1], [4, 2], [2, 2]],
-        },
-    ],
-    ..STANDING
-};
+pub const FOUR: &[&str] = &[
+    "[[material]]\nname = 'stone'\nweight = 1\nfriction = [1, 2]\n",
+    GROUND,
+    "[[block]]\nname = 'a'\nmaterial = 'stone'\ncorners = [[0, 0], [2, 0], [2, 1], [0, 1]]\n",
+    "[[block]]\nname = 'b'\nmaterial = 'stone'\ncorners = [[2, 0], [4, 0], [4, 1], [2, 1]]\n",
+    "[[block]]\nname = 'c'\nmaterial = 'stone'\ncorners = [[0, 1], [2, 1], [2, 2], [0, 2]]\n",
+    "[[block]]\nname = 'd'\nmaterial = 'stone'\ncorners = [[2, 1], [4, 1], [4, 2], [2, 2]]\n",
+];
 
-fn text(alloc: Global, word: &str) -> Result<String, Fail> {
-    Ok(String::from_str(alloc, word)?)
-}
-
-fn raw_block(alloc: Global, block: Block) -> Result<RawBlock, Fail> {
-    let mut corners = Vec::new(alloc);
-    for corner in block.corners {
-        corners.push(corner.to_vec(alloc)?)?;
-    }
-    Ok(RawBlock {
-        name: text(alloc, block.name)?,
-        material: text(alloc, "stone")?,
-        fixed: block.name == "ground",
-        corners,
-    })
-}
-
-fn raw_load(alloc: Global, load: Live) -> Result<RawLoad, Fail> {
-    Ok(RawLoad {
-        block: text(alloc, "post")?,
-        kind: text(alloc, "live")?,
-        at: load.at.to_vec(alloc)?,
-        force: load.force.to_vec(alloc)?,
-    })
-}
-
-/// The survey of a structure.
-pub fn surveyed(alloc: Global, drawing: Drawing) -> Result<Survey, Fail> {
-    let mut materials = Vec::new(alloc);
-    materials.push(RawMaterial {
-        name: text(alloc, "stone")?,
-        weight: 1,
-        friction: drawing.friction.to_vec(alloc)?,
-    })?;
-    let mut blocks = Vec::new(alloc);
-    for block in drawing.blocks {
-        blocks.push(raw_block(alloc, *block)?)?;
-    }
-    let mut loads = Vec::new(alloc);
-    for load in drawing.loads {
-        loads.push(raw_load(alloc, *load)?)?;
-    }
-    let parts = Parts {
-        version: 2,
-        sway: Some(drawing.sway.to_vec(alloc)?),
-        materials,
-        joints: Vec::new(alloc),
-        blocks,
-        loads,
-    };
-    Ok(survey(alloc, Model::new(alloc, parts)?)?)
+/// The survey of the structure whose model file has these pieces.
+pub fn surveyed(alloc: Global, pieces: &[&str]) -> Result<Survey, Fail> {
+    let text = pieces.concat(alloc)?;
+    Ok(survey(alloc, read_model(alloc, text.as_bytes())?)?)
 }

@@ -1,7 +1,9 @@
 //! The range of a post, worked by hand: pushed at its head it tips to either side at two pushes, and a load that
 //! presses it down may be turned round until it lifts the weight of 8.
 
-use crate::drawings::{Drawing, HOVERING, Live, PRESSURE, PUSHED, STANDING, surveyed};
+use crate::drawings::{
+    GROUND, LOW_GROUND, POST, PRESSURE, PUSH, PUSHED, STANDING, STONE, SWAY, surveyed,
+};
 use stack_contact::types::Survey;
 use stack_range::types::{Range, RangeError, Side};
 use stack_range::{other_side, range, write_range};
@@ -26,11 +28,7 @@ fn a_pushed_post_tips_to_either_side_at_two_pushes(rt: HostRuntime) -> Result<()
 #[test]
 fn a_pressed_post_is_lifted_by_its_weight_alone(rt: HostRuntime) -> Result<(), Fail> {
     let alloc = rt.alloc();
-    let pressed = Drawing {
-        loads: &[PRESSURE],
-        ..STANDING
-    };
-    let s = surveyed(alloc, pressed)?;
+    let s = surveyed(alloc, &[STONE, GROUND, POST, PRESSURE])?;
     assert!(rt; begins(alloc, &s, "range -8/1 unlimited\nunbounded\n")?);
     Ok(())
 }
@@ -38,11 +36,7 @@ fn a_pressed_post_is_lifted_by_its_weight_alone(rt: HostRuntime) -> Result<(), F
 #[test]
 fn a_floating_post_falls_whatever_pushes_it(rt: HostRuntime) -> Result<(), Fail> {
     let alloc = rt.alloc();
-    let hovering = Drawing {
-        blocks: HOVERING,
-        ..PUSHED
-    };
-    let s = surveyed(alloc, hovering)?;
+    let s = surveyed(alloc, &[STONE, LOW_GROUND, POST, PUSH])?;
     assert!(rt; matches!(range(alloc, &s, 20_000), Ok(Range::Collapses(_))));
     Ok(())
 }
@@ -65,15 +59,8 @@ fn a_live_load_is_looked_for_and_the_greatest_side_is_judged_first(
 #[test]
 fn the_other_side_is_swayed_and_pushed_the_other_way(rt: HostRuntime) -> Result<(), Fail> {
     let alloc = rt.alloc();
-    let swayed = Drawing {
-        loads: &[Live {
-            at: [0, 4],
-            force: [3, 0],
-        }],
-        sway: [1, -2],
-        ..STANDING
-    };
-    let s = surveyed(alloc, swayed)?;
+    let thrice = "[[load]]\nblock = 'post'\nkind = 'live'\nat = [0, 4]\nforce = [3, 0]\n";
+    let s = surveyed(alloc, &[SWAY, STONE, GROUND, POST, thrice])?;
     let other = other_side(alloc, &s)?;
     assert_eq!(rt; other.model().sway(), (-1, 2));
     assert_eq!(rt; other.bearings().len(), 2);

@@ -4,7 +4,7 @@ ghost use Rattle.std.specs.Prelude.{IfOk};
 ghost use Rattle.stack_yield.specs.Kept.{region_view};
 ghost use Rattle.stack_yield.specs.RegionText.{CanPrintRegion};
 
-use crate::drawings::{Drawing, HOVERING, Live, PRESSURE, PUSH, STANDING, surveyed};
+use crate::drawings::{GROUND, LOW_GROUND, POST, PRESSURE, PUSH, STONE, SWAY, surveyed};
 use stack_contact::types::Survey;
 use stack_yield::types::{Region, RegionError};
 use stack_yield::{DirectionsError, NoPair, directed, pair, read_directions, region, write_region};
@@ -12,10 +12,7 @@ use std::alloc::Global;
 use std::test::*;
 
 /// The post, pushed to the right at its upper left corner and pressed in the middle of its head.
-const TWICE: Drawing = Drawing {
-    loads: &[PUSH, PRESSURE],
-    ..STANDING
-};
+const TWICE: &[&str] = &[STONE, GROUND, POST, PUSH, PRESSURE];
 
 /// The region of the first two loads in the directions of a text.
 fn region_of(
@@ -53,11 +50,7 @@ fn a_post_under_a_push_and_a_weight_has_the_region_worked_by_hand(
 #[test]
 fn a_floating_post_falls_whatever_the_direction(rt: HostRuntime) -> Result<(), Fail> {
     let alloc = rt.alloc();
-    let hovering = Drawing {
-        blocks: HOVERING,
-        ..TWICE
-    };
-    let s = surveyed(alloc, hovering)?;
+    let s = surveyed(alloc, &[STONE, LOW_GROUND, POST, PUSH, PRESSURE])?;
     let found = region_of(alloc, &s, b"dir 0 1\n", 100)??;
     let text = write_region(alloc, found)?;
     assert!(rt; text.as_slice().starts_with(b"collapses\nmotion\n"));
@@ -76,19 +69,8 @@ fn a_budget_is_spent_at_the_first_direction(rt: HostRuntime) -> Result<(), Fail>
 #[test]
 fn a_directed_survey_has_two_live_loads_and_no_sway(rt: HostRuntime) -> Result<(), Fail> {
     let alloc = rt.alloc();
-    let three = Drawing {
-        loads: &[
-            PUSH,
-            Live {
-                at: [2, 4],
-                force: [7, 7],
-            },
-            PRESSURE,
-        ],
-        sway: [1, -2],
-        ..STANDING
-    };
-    let s = surveyed(alloc, three)?;
+    let between = "[[load]]\nblock = 'post'\nkind = 'live'\nat = [2, 4]\nforce = [7, 7]\n";
+    let s = surveyed(alloc, &[SWAY, STONE, GROUND, POST, PUSH, between, PRESSURE])?;
     let (i, j) = pair(s.model(), 1, 3)?;
     let towards = directed(alloc, &s, i, j, 3, -5)?;
     assert_eq!(rt; towards.model().sway(), (0, 0));

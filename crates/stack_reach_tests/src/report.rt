@@ -1,7 +1,8 @@
 //! The contacts of a wall in stack bond, and the forces of a post that tips.
 
 use crate::drawings::{FOUR, PUSHED, STANDING, surveyed};
-use stack_certificate::types::{Certificate, Forces, Motion};
+use stack_certificate::read_certificate;
+use stack_certificate::types::Certificate;
 use stack_checker::check;
 use stack_checker::types::Check;
 use stack_contact::types::Survey;
@@ -36,14 +37,6 @@ fn the_contacts_of_a_wall_in_stack_bond_are_listed(rt: HostRuntime) -> Result<()
     Ok(())
 }
 
-fn forces(alloc: Global, scale: i128, factor: i128, list: &[(i128, i128)]) -> Result<Forces, Fail> {
-    Ok(Forces {
-        scale,
-        factor,
-        parts: list.to_vec(alloc)?,
-    })
-}
-
 /// The table of a certificate that the check accepts.
 fn accepted(
     alloc: Global,
@@ -57,12 +50,7 @@ fn accepted(
 }
 
 /// The certificate of the post, pushed at its upper left corner.
-fn tipping(alloc: Global) -> Result<Certificate, Fail> {
-    let carried = forces(alloc, 1, 2, &[(0, 0), (48, -12)])?;
-    let mut moves = Vec::new(alloc);
-    moves.push((0, 2, -1))?;
-    Ok(Certificate::Greatest(carried, Motion { moves }))
-}
+const TIPPING: &[u8] = b"greatest\nforces 1 2\npush 0 0\npush 48 -12\nmotion\nmove 0 2 -1\nend\n";
 
 const FORCES: &str = "greatest
 factor 2/1
@@ -75,20 +63,21 @@ move post 0 2 -1
 fn the_forces_of_a_post_that_tips_are_told(rt: HostRuntime) -> Result<(), Fail> {
     let alloc = rt.alloc();
     let s = surveyed(alloc, PUSHED)?;
-    let c = tipping(alloc)?;
+    let c = read_certificate(alloc, TIPPING)?;
     let table = accepted(alloc, &s, &c)?.ok().ok_or("no table")?;
     assert_eq!(rt; table.as_slice(), FORCES.as_bytes());
     Ok(())
 }
 
-/// Without live loads any factor is carried, also one of which six times is too wide.
+/// Without live loads any factor is carried, also one of which six times is too wide: 2^125.
+const WIDE: &[u8] = b"unbounded\nforces 1 0\npush 24 0\npush 24 0\n\
+    forces 0 42535295865117307932921825928971026432\npush 0 0\npush 0 0\nend\n";
+
 #[test]
 fn six_times_a_great_factor_is_too_wide(rt: HostRuntime) -> Result<(), Fail> {
     let alloc = rt.alloc();
     let s = surveyed(alloc, STANDING)?;
-    let base = forces(alloc, 1, 0, &[(24, 0), (24, 0)])?;
-    let ray = forces(alloc, 0, 1 << 125, &[(0, 0), (0, 0)])?;
-    let c = Certificate::Unbounded(base, ray);
+    let c = read_certificate(alloc, WIDE)?;
     assert_eq!(rt;
         accepted(alloc, &s, &c)?.err(),
         Some(ReportError::TooWide { index: 3 })
@@ -111,7 +100,8 @@ const SUMMARY: &str =
 fn a_summary_tells_the_greatest_factor(rt: HostRuntime) -> Result<(), Fail> {
     let alloc = rt.alloc();
     let s = surveyed(alloc, PUSHED)?;
-    let summary = summed(alloc, &s, &tipping(alloc)?)?;
+    let c = read_certificate(alloc, TIPPING)?;
+    let summary = summed(alloc, &s, &c)?;
     assert_eq!(rt; summary.as_slice(), SUMMARY.as_bytes());
     Ok(())
 }

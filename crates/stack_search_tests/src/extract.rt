@@ -1,6 +1,6 @@
 //! Ends that were worked by hand, at each width.
 
-use crate::drawings::{Acting, Block, Drawing, POST, PUSHED, surveyed};
+use crate::drawings::{GROUND, POST, PUSHED, STONE, surveyed};
 use crate::problems::ended;
 use stack_certificate::types::Forces;
 use stack_equilibrium::types::Question;
@@ -47,21 +47,13 @@ fn a_pushed_post_tips_about_its_right_foot(rt: HostRuntime) -> Result<(), Fail> 
 }
 
 /// The post above low ground, with a dead load to the right.
-const HOVERING: Drawing = Drawing {
-    blocks: &[
-        Block {
-            fixed: true,
-            corners: &[[-10, -6], [10, -6], [10, -5], [-10, -5]],
-        },
-        POST,
-    ],
-    loads: &[Acting {
-        kind: "dead",
-        at: [0, 4],
-        force: [1, 0],
-    }],
-    ..PUSHED
-};
+const HOVERING: &[&str] = &[
+    STONE,
+    "[[block]]\nname = 'ground'\nmaterial = 'stone'\nfixed = true\n\
+    corners = [[-10, -6], [10, -6], [10, -5], [-10, -5]]\n",
+    POST,
+    "[[load]]\nblock = 'post'\nkind = 'dead'\nat = [0, 4]\nforce = [1, 0]\n",
+];
 
 /// A load to the right makes the right side along x negative, so that row is flipped.
 #[test]
@@ -80,14 +72,12 @@ fn a_hovering_post_goes_the_way_of_its_loads(rt: HostRuntime) -> Result<(), Fail
 }
 
 /// The post, pressed down in the middle of its head.
-const PRESSED: Drawing = Drawing {
-    loads: &[Acting {
-        kind: "live",
-        at: [1, 4],
-        force: [0, -2],
-    }],
-    ..PUSHED
-};
+const PRESSED: &[&str] = &[
+    STONE,
+    GROUND,
+    POST,
+    "[[load]]\nblock = 'post'\nkind = 'live'\nat = [1, 4]\nforce = [0, -2]\n",
+];
 
 /// A live load downwards on the middle of the head is borne however great it is.
 #[test]

@@ -1,6 +1,6 @@
 //! The judgement of a post that is pushed at its head, and of the greatest block, worked by hand.
 
-use crate::drawings::{Block, Drawing, PUSHED, surveyed};
+use crate::drawings::{PUSHED, surveyed};
 use crate::problems::ended;
 use stack_certificate::types::Certificate;
 use stack_equilibrium::types::Question;
@@ -42,19 +42,11 @@ fn a_post_stands_at_the_fourth_pivot(rt: HostRuntime) -> Result<(), Fail> {
 
 /// The greatest and heaviest block, with nothing below it. Six times its weight is 24 million million million, too wide
 /// for 64 bits.
-const GREATEST: Drawing = Drawing {
-    weight: 1_000_000,
-    blocks: &[Block {
-        fixed: false,
-        corners: &[
-            [-1_000_000, -1_000_000],
-            [1_000_000, -1_000_000],
-            [1_000_000, 1_000_000],
-            [-1_000_000, 1_000_000],
-        ],
-    }],
-    loads: &[],
-};
+const GREATEST: &[&str] = &[
+    "[[material]]\nname = 'lead'\nweight = 1_000_000\nfriction = [1, 1]\n",
+    "[[block]]\nname = 'greatest'\nmaterial = 'lead'\ncorners = [[-1_000_000, -1_000_000], \
+    [1_000_000, -1_000_000], [1_000_000, 1_000_000], [-1_000_000, 1_000_000]]\n",
+];
 
 #[test]
 fn a_post_is_narrow_and_the_greatest_block_is_not(rt: HostRuntime) -> Result<(), Fail> {

@@ -14,7 +14,7 @@ use std::alloc::{AllocError, Global};
 use std::test::Fail;
 
 /// A column by its numbers, row by row.
-pub fn column(alloc: Global, numbers: &[i128]) -> Result<Column, AllocError> {
+fn column(alloc: Global, numbers: &[i128]) -> Result<Column, AllocError> {
     let mut entries: Vec<Entry> = Vec::new(alloc);
     for row in 0..numbers.len() {
         if numbers[row] != 0 {
@@ -32,13 +32,17 @@ pub fn column(alloc: Global, numbers: &[i128]) -> Result<Column, AllocError> {
 pub fn problem(
     alloc: Global,
     contact: &[&[i128]],
-    factor: Option<Column>,
+    factor: Option<&[i128]>,
     right: &[i128],
 ) -> Result<Problem, AllocError> {
     let mut columns: Vec<Column> = Vec::new(alloc);
     for numbers in contact {
         columns.push(column(alloc, numbers)?)?;
     }
+    let factor = match factor {
+        Some(numbers) => Some(column(alloc, numbers)?),
+        None => None,
+    };
     Ok(Problem {
         rows: right.len(),
         contact: columns,

@@ -1,6 +1,6 @@
 //! Runs worked by hand.
 
-use crate::problems::{column, problem};
+use crate::problems::problem;
 use stack_revised::ended::RevisedEnd;
 use stack_revised::{RevisedStop, run_revised};
 use stack_run::RunPlace;
@@ -10,44 +10,19 @@ use stack_tableau::EndKind;
 use std::alloc::Global;
 use std::test::Fail;
 
-/// What a run tells, without its table.
-#[derive(Clone, Copy, Debug, PartialEq, Eq)]
-enum Outcome {
-    Infeasible,
-    Feasible,
-    Optimal,
-    Ray(usize),
-    TooWide(RunPlace),
-    Spent,
-    Unsettled,
-    Nothing,
-}
-
-fn kind_of(kind: EndKind) -> Outcome {
-    match kind {
-        EndKind::Infeasible => Outcome::Infeasible,
-        EndKind::Feasible => Outcome::Feasible,
-        EndKind::Optimal => Outcome::Optimal,
-        EndKind::Ray { column } => Outcome::Ray(column),
-    }
-}
-
-/// What the run of a sound problem tells.
-fn told(alloc: Global, p: &Problem, budget: u32) -> Outcome {
+/// How the run of a sound problem ends, or why it has no end.
+fn told(alloc: Global, p: &Problem, budget: u32) -> Result<Result<EndKind, RevisedStop>, Fail> {
     if budget == 0 {
-        return Outcome::Nothing;
+        return Err(Fail::from("some pivots are needed"));
     }
     if !p.is_sound() {
-        return Outcome::Nothing;
+        return Err(Fail::from("not sound"));
     }
-    match run_revised(alloc, p, budget) {
-        Ok(RevisedEnd::AtNarrow(last)) => kind_of(last.kind),
-        Ok(RevisedEnd::AtWide(last)) => kind_of(last.kind),
-        Err(RevisedStop::TooWide(place)) => Outcome::TooWide(place),
-        Err(RevisedStop::Spent) => Outcome::Spent,
-        Err(RevisedStop::Unsettled) => Outcome::Unsettled,
-        Err(RevisedStop::Memory) => Outcome::Nothing,
-    }
+    Ok(match run_revised(alloc, p, budget) {
+        Ok(RevisedEnd::AtNarrow(last)) => Ok(last.kind),
+        Ok(RevisedEnd::AtWide(last)) => Ok(last.kind),
+        Err(stop) => Err(stop),
+    })
 }
 
 /// A post 2 wide and 4 high. A push of one unit at its upper left corner is borne up to the factor 2.
@@ -56,12 +31,11 @@ fn a_post_stands_after_four_pivots_and_is_pushed_for_five(rt: HostRuntime) -> Re
     let alloc = rt.alloc();
     let contact: [&[i128]; 4] = [&[1, 1, 0], &[-1, 1, 0], &[1, 1, 2], &[-1, 1, 2]];
     let post = problem(alloc, &contact, None, &[0, 48, 48])?;
-    assert!(rt; told(alloc, &post, 3) == Outcome::Spent);
-    assert!(rt; told(alloc, &post, 4) == Outcome::Feasible);
-    let push = column(alloc, &[6, 0, -24])?;
-    let pushed = problem(alloc, &contact, Some(push), &[0, 48, 48])?;
-    assert!(rt; told(alloc, &pushed, 4) == Outcome::Spent);
-    assert!(rt; told(alloc, &pushed, 5) == Outcome::Optimal);
+    assert!(rt; told(alloc, &post, 3)? == Err(RevisedStop::Spent));
+    assert!(rt; told(alloc, &post, 4)? == Ok(EndKind::Feasible));
+    let pushed = problem(alloc, &contact, Some(&[6, 0, -24]), &[0, 48, 48])?;
+    assert!(rt; told(alloc, &pushed, 4)? == Err(RevisedStop::Spent));
+    assert!(rt; told(alloc, &pushed, 5)? == Ok(EndKind::Optimal));
     Ok(())
 }
 
@@ -70,15 +44,13 @@ fn a_post_stands_after_four_pivots_and_is_pushed_for_five(rt: HostRuntime) -> Re
 fn the_other_ends_are_told(rt: HostRuntime) -> Result<(), Fail> {
     let alloc = rt.alloc();
     let pulled = problem(alloc, &[&[-1]], None, &[1])?;
-    assert!(rt; told(alloc, &pulled, 1) == Outcome::Infeasible);
-    let push = column(alloc, &[-1])?;
-    let pressed = problem(alloc, &[&[1]], Some(push), &[1])?;
-    assert!(rt; told(alloc, &pressed, 1) == Outcome::Ray(1));
-    let nothing = column(alloc, &[])?;
-    let doubled = problem(alloc, &[&[1, 1]], Some(nothing), &[1, 1])?;
-    assert!(rt; told(alloc, &doubled, 1) == Outcome::Ray(1));
+    assert!(rt; told(alloc, &pulled, 1)? == Ok(EndKind::Infeasible));
+    let pressed = problem(alloc, &[&[1]], Some(&[-1]), &[1])?;
+    assert!(rt; told(alloc, &pressed, 1)? == Ok(EndKind::Ray { column: 1 }));
+    let doubled = problem(alloc, &[&[1, 1]], Some(&[]), &[1, 1])?;
+    assert!(rt; told(alloc, &doubled, 1)? == Ok(EndKind::Ray { column: 1 }));
     let empty = problem(alloc, &[], None, &[])?;
-    assert!(rt; told(alloc, &empty, 1) == Outcome::Feasible);
+    assert!(rt; told(alloc, &empty, 1)? == Ok(EndKind::Feasible));
     Ok(())
 }
 
@@ -95,10 +67,9 @@ fn beales_example_ends(rt: HostRuntime) -> Result<(), Fail> {
         &[-4, -2, -1, -2],
         &[900, 300, 0, 600],
     ];
-    let factor = column(alloc, &[0, 0, 0, 100])?;
-    let example = problem(alloc, &contact, Some(factor), &[0, 0, -1, 0])?;
-    assert!(rt; told(alloc, &example, 9) == Outcome::Spent);
-    assert!(rt; told(alloc, &example, 10) == Outcome::Optimal);
+    let example = problem(alloc, &contact, Some(&[0, 0, 0, 100]), &[0, 0, -1, 0])?;
+    assert!(rt; told(alloc, &example, 9)? == Err(RevisedStop::Spent));
+    assert!(rt; told(alloc, &example, 10)? == Ok(EndKind::Optimal));
     Ok(())
 }
 
@@ -108,7 +79,7 @@ fn wide_entries_are_taken_at_128_bits(rt: HostRuntime) -> Result<(), Fail> {
     let alloc = rt.alloc();
     let large = 1 << 80;
     let wide = problem(alloc, &[&[large, 0], &[0, large]], None, &[large, large])?;
-    assert!(rt; told(alloc, &wide, 2) == Outcome::Feasible);
+    assert!(rt; told(alloc, &wide, 2)? == Ok(EndKind::Feasible));
     Ok(())
 }
 
@@ -130,7 +101,7 @@ fn a_refused_run_has_one_place(rt: HostRuntime) -> Result<(), Fail> {
         column: 1,
         step: Step::Multiply,
     };
-    assert!(rt; told(alloc, &apart, 9) == Outcome::TooWide(place));
+    assert!(rt; told(alloc, &apart, 9)? == Err(RevisedStop::TooWide(place)));
     Ok(())
 }
 
@@ -145,7 +116,7 @@ fn a_row_whose_bound_does_not_fit_goes_on(rt: HostRuntime) -> Result<(), Fail> {
         None,
         &[large, large - 1],
     )?;
-    assert!(rt; told(alloc, &close, 1) == Outcome::Spent);
-    assert!(rt; told(alloc, &close, 2) == Outcome::Feasible);
+    assert!(rt; told(alloc, &close, 1)? == Err(RevisedStop::Spent));
+    assert!(rt; told(alloc, &close, 2)? == Ok(EndKind::Feasible));
     Ok(())
 }

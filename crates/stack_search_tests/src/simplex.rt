@@ -1,6 +1,6 @@
 //! Runs worked by hand, at each width.
 
-use crate::problems::{column, problem};
+use crate::problems::problem;
 use stack_rational::{Exact, Frac};
 use stack_simplex::{Ended, RunError, RunPlace, enough, run};
 use stack_table::Table;
@@ -95,8 +95,7 @@ fn one_body_holds_at_8_64_and_128_bits(rt: HostRuntime) -> Result<(), Fail> {
     let alloc = rt.alloc();
     let contact: [&[i128]; 2] = [&[0, 1], &[1, 1]];
     let dead = problem(alloc, &contact, None, &[1, 1])?;
-    let factor = column(alloc, &[-1, 0])?;
-    let live = problem(alloc, &contact, Some(factor), &[1, 1])?;
+    let live = problem(alloc, &contact, Some(&[-1, 0]), &[1, 1])?;
     assert!(rt; two_rows_hold::<Frac<i8>>(alloc, &dead, &live));
     assert!(rt; two_rows_hold::<Frac<i64>>(alloc, &dead, &live));
     assert!(rt; two_rows_hold::<Frac<i128>>(alloc, &dead, &live));
@@ -112,8 +111,7 @@ fn a_post_stands_after_four_pivots_and_bears_twice_its_push(rt: HostRuntime) -> 
     assert!(rt; told::<Frac<i64>>(alloc, &post, 3) == Outcome::Refused(RunError::Spent));
     assert!(rt; told::<Frac<i64>>(alloc, &post, 4) == Outcome::Feasible);
     assert!(rt; last_rests_on::<Frac<i128>>(alloc, &post, 4, &[2, 1, 3], &[24, 24, 0]));
-    let push = column(alloc, &[6, 0, -24])?;
-    let pushed = problem(alloc, &contact, Some(push), &[0, 48, 48])?;
+    let pushed = problem(alloc, &contact, Some(&[6, 0, -24]), &[0, 48, 48])?;
     assert!(rt; told::<Frac<i64>>(alloc, &pushed, 4) == Outcome::Refused(RunError::Spent));
     assert!(rt; told::<Frac<i64>>(alloc, &pushed, 5) == Outcome::Optimal);
     assert!(rt; last_rests_on::<Frac<i64>>(alloc, &pushed, 5, &[2, 4, 3], &[18, 2, 30]));
@@ -162,11 +160,9 @@ fn the_other_ends_are_told(rt: HostRuntime) -> Result<(), Fail> {
     assert!(rt; told::<Frac<i8>>(alloc, &pulled, 1) == Outcome::Infeasible);
     let bare = problem(alloc, &[], None, &[5])?;
     assert!(rt; told::<Frac<i8>>(alloc, &bare, 1) == Outcome::Infeasible);
-    let push = column(alloc, &[-1])?;
-    let pressed = problem(alloc, &[&[1]], Some(push), &[1])?;
+    let pressed = problem(alloc, &[&[1]], Some(&[-1]), &[1])?;
     assert!(rt; told::<Frac<i64>>(alloc, &pressed, 1) == Outcome::Ray(1));
-    let nothing = column(alloc, &[])?;
-    let doubled = problem(alloc, &[&[1, 1]], Some(nothing), &[1, 1])?;
+    let doubled = problem(alloc, &[&[1, 1]], Some(&[]), &[1, 1])?;
     assert!(rt; told::<Frac<i64>>(alloc, &doubled, 1) == Outcome::Ray(1));
     assert!(rt; last_rests_on::<Frac<i64>>(alloc, &doubled, 1, &[0, 3], &[1, 0]));
     let empty = problem(alloc, &[], None, &[])?;
@@ -188,8 +184,7 @@ fn beales_example_ends(rt: HostRuntime) -> Result<(), Fail> {
         &[-4, -2, 1, -2],
         &[900, 300, 0, 600],
     ];
-    let factor = column(alloc, &[0, 0, 0, 100])?;
-    let example = problem(alloc, &contact, Some(factor), &[0, 0, 1, 0])?;
+    let example = problem(alloc, &contact, Some(&[0, 0, 0, 100]), &[0, 0, 1, 0])?;
     assert!(rt; told::<Frac<i128>>(alloc, &example, 9) == Outcome::Refused(RunError::Spent));
     assert!(rt; last_rests_on::<Frac<i128>>(alloc, &example, 10, &[7, 5, 3, 0], &[1, 1, 1, 3]));
     Ok(())

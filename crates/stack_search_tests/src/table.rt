@@ -1,6 +1,6 @@
 //! Tables worked by hand: built, pivoted and given new objectives at each width, and their refusals.
 
-use crate::problems::{column, problem};
+use crate::problems::problem;
 use stack_rational::{Exact, Frac};
 use stack_table::Table;
 use stack_table::problem::{BuildError, Problem};
@@ -104,8 +104,7 @@ fn take_factor_objective<S: Exact>(t: &mut Table<S>) -> bool {
 #[test]
 fn objectives_are_set_with_the_factor_basic_or_not(rt: HostRuntime) -> Result<(), Fail> {
     let alloc = rt.alloc();
-    let factor = column(alloc, &[-1, 0])?;
-    let p = problem(alloc, &[&[0, 1], &[1, 1]], Some(factor), &[1, 1])?;
+    let p = problem(alloc, &[&[0, 1], &[1, 1]], Some(&[-1, 0]), &[1, 1])?;
     let built = table::<Frac<i8>>(alloc, &p);
     assert!(rt; built.is_ok());
     if let Ok(mut t) = built {

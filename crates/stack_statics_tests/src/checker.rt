@@ -1,76 +1,59 @@
 //! Certificates of structures that were worked by hand: accepted, rejected, and too wide.
 
-use crate::drawings::{Borne, Drawing, GROUND, Moves, PUSHED, STANDING, forces, motion, surveyed};
-use stack_certificate::types::Certificate;
+use crate::drawings::{GROUND, POST, PUSH, STONE, surveyed};
+use stack_certificate::read_certificate;
 use stack_checker::check;
 use stack_checker::types::{Check, CheckAt, CheckPlace, Part, Reason};
 use stack_equilibrium::types::Axis;
 use std::alloc::Global;
 use std::test::Fail;
 
-/// A certificate.
-#[derive(Clone, Copy)]
-enum Claim {
-    Stands(Borne),
-    Collapses(Moves),
-    Greatest(Borne, Moves),
-    Unbounded(Borne, Borne),
-}
+const STANDING: &[&str] = &[STONE, GROUND, POST];
 
-use Claim::{Collapses, Greatest, Stands, Unbounded};
+const PUSHED: &[&str] = &[STONE, GROUND, POST, PUSH];
 
 /// The post is pressed down in its middle.
-const PRESSED: Drawing = Drawing {
-    live: &[[[1, 4], [0, -1]]],
-    ..STANDING
-};
+const PRESSED: &[&str] = &[
+    STONE,
+    GROUND,
+    POST,
+    "[[load]]\nblock = 'post'\nkind = 'live'\nat = [1, 4]\nforce = [0, -1]\n",
+];
 /// A post in the air.
-const FALLING: Drawing = Drawing {
-    bodies: &[GROUND, &[[0, 1], [2, 1], [2, 5], [0, 5]]],
-    ..STANDING
-};
+const FALLING: &[&str] = &[
+    STONE,
+    GROUND,
+    "[[block]]\nname = 'post'\nmaterial = 'stone'\ncorners = [[0, 1], [2, 1], [2, 5], [0, 5]]\n",
+];
 
-const MOST: i128 = 170141183460469231731687303715884105727;
-
-/// The forces that carry the standing post, and those with which the pushed post tips.
-const UPRIGHT: Borne = (1, 0, &[(24, 0), (24, 0)]);
-
-const TIPPING: Borne = (1, 2, &[(0, 0), (48, -12)]);
-
-const TIPS: Moves = &[(0, 2, -1)];
-
-fn certificate(alloc: Global, claim: Claim) -> Result<Certificate, Fail> {
-    Ok(match claim {
-        Stands(borne) => Certificate::Stands(forces(alloc, borne)?),
-        Collapses(moves) => Certificate::Collapses(motion(alloc, moves)?),
-        Greatest(borne, moves) => {
-            Certificate::Greatest(forces(alloc, borne)?, motion(alloc, moves)?)
-        }
-        Unbounded(base, ray) => Certificate::Unbounded(forces(alloc, base)?, forces(alloc, ray)?),
-    })
-}
-
-fn checked(alloc: Global, drawing: Drawing, claim: Claim) -> Result<Check, Fail> {
-    Ok(check(&surveyed(alloc, drawing)?, &certificate(alloc, claim)?))
+fn checked(alloc: Global, pieces: &[&str], certificate: &str) -> Result<Check, Fail> {
+    let certificate = read_certificate(alloc, certificate.as_bytes())?;
+    Ok(check(&surveyed(alloc, pieces)?, &certificate))
 }
 
 #[test]
 fn true_certificates_of_each_form_are_accepted(rt: HostRuntime) -> Result<(), Fail> {
     let rows = [
-        (STANDING, Stands(UPRIGHT)),
-        (FALLING, Collapses(&[(0, -1, 0)])),
-        (PUSHED, Greatest(TIPPING, TIPS)),
-        (PRESSED, Unbounded(UPRIGHT, (0, 1, &[(3, 0), (3, 0)]))),
+        (STANDING, "stands\nforces 1 0\npush 24 0\npush 24 0\nend\n"),
+        (FALLING, "collapses\nmotion\nmove 0 -1 0\nend\n"),
+        (
+            PUSHED,
+            "greatest\nforces 1 2\npush 0 0\npush 48 -12\nmotion\nmove 0 2 -1\nend\n",
+        ),
+        (
+            PRESSED,
+            "unbounded\nforces 1 0\npush 24 0\npush 24 0\nforces 0 1\npush 3 0\npush 3 0\nend\n",
+        ),
     ];
-    for (drawing, claim) in rows {
-        assert_eq!(rt; checked(rt.alloc(), drawing, claim)?, Check::Accepted);
+    for (pieces, certificate) in rows {
+        assert_eq!(rt; checked(rt.alloc(), pieces, certificate)?, Check::Accepted);
     }
     Ok(())
 }
 
 #[test]
 fn changed_copies_are_rejected_by_name(rt: HostRuntime) -> Result<(), Fail> {
-    let heavier = Greatest((1, 2, &[(0, 0), (49, -12)]), TIPS);
+    let heavier = "greatest\nforces 1 2\npush 0 0\npush 49 -12\nmotion\nmove 0 2 -1\nend\n";
     let unbalanced = Reason::Balance {
         block: 0,
         axis: Axis::Y,
@@ -79,7 +62,7 @@ fn changed_copies_are_rejected_by_name(rt: HostRuntime) -> Result<(), Fail> {
         checked(rt.alloc(), PUSHED, heavier)?,
         Check::Rejected(Part::First, unbalanced)
     );
-    let apart = Greatest(UPRIGHT, TIPS);
+    let apart = "greatest\nforces 1 0\npush 24 0\npush 24 0\nmotion\nmove 0 2 -1\nend\n";
     assert_eq!(rt;
         checked(rt.alloc(), PUSHED, apart)?,
         Check::Rejected(Part::Second, Reason::Apart)
@@ -89,7 +72,8 @@ fn changed_copies_are_rejected_by_name(rt: HostRuntime) -> Result<(), Fail> {
 
 #[test]
 fn the_first_number_that_is_too_wide_is_told(rt: HostRuntime) -> Result<(), Fail> {
-    let turned = Greatest(TIPPING, &[(0, 0, MOST)]);
+    let turned = "greatest\nforces 1 2\npush 0 0\npush 48 -12\nmotion\n\
+        move 0 0 170141183460469231731687303715884105727\nend\n";
     let place = CheckPlace {
         part: Part::Second,
         at: CheckAt::Resisted { k: 1 },
