@@ -23,9 +23,8 @@ LOG = f"{TOP}/crates/{PROGRAM}/out/build.log"
 STARTED = time.monotonic()
 # What the proof of a crate takes at most, in bytes of memory.
 MEMORY = 5_000_000_000
-# How many provers work on the crate with the most work behind it, and on another, at most. Each loads what it needs by
-# itself, so that more of them cost more.
-PROVERS, PROVERS_BESIDE = 4, 1
+# How many provers work on the crate with the most work behind it, and on another, at most.
+PROVERS, PROVERS_BESIDE = 4, 2
 # How far a crate without any work behind it stands back behind that with the most, in steps of `nice`.
 STANDS_BACK = 20
 # What any crate takes beside its functions, as bytes of sources.
