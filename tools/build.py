@@ -23,8 +23,11 @@ LOG = f"{TOP}/crates/{PROGRAM}/out/build.log"
 STARTED = time.monotonic()
 # What the proof of a crate takes at most, in bytes of memory.
 MEMORY = 5_000_000_000
-# How many provers work on the crate with the most work behind it, and on another, at most.
-PROVERS, PROVERS_BESIDE = 4, 2
+# How many provers work on the crate with the most work behind it.
+PROVERS = 4
+# Another crate has a prover for each so many bytes of its functions: each prover loads what it needs by itself, so
+# that many of them on a small crate cost more than they spare.
+PROVER_BYTES = 20_000
 # How far a crate without any work behind it stands back behind that with the most, in steps of `nice`.
 STANDS_BACK = 20
 # What any crate takes beside its functions, as bytes of sources.
@@ -124,7 +127,7 @@ def take(name, copy):
 def prove(crates, name, copy, back):
     """Proves a crate in a copy and makes its library. Gives whether it is proved, and what rt said."""
     prepare(crates, name, copy)
-    jobs = min(processors(), PROVERS_BESIDE if back else PROVERS)
+    jobs = min(processors(), PROVERS, work_of(name) // PROVER_BYTES + 1 if back else PROVERS)
     ran = subprocess.run(
         ["nice", "-n", str(back), "rt", "lib", "--jobs", str(jobs)],
         cwd=f"{copy}/crates/{name}",
