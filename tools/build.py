@@ -25,8 +25,8 @@ STARTED = time.monotonic()
 MEMORY = 5_000_000_000
 # How many provers work on the crate with the most work behind it.
 PROVERS = 4
-# Another crate has a prover for each so many bytes of its functions: each prover loads what it needs by itself, so
-# that many of them on a small crate cost more than they spare.
+# Another crate has a prover for each so many bytes of its functions, since several provers on one crate take more
+# processor time than one.
 PROVER_BYTES = 20_000
 # How far a crate without any work behind it stands back behind that with the most, in steps of `nice`.
 STANDS_BACK = 20
