@@ -30,9 +30,14 @@ names all blocks that are still. Only the signs and ratios of a motion matter.
 For an answer of `range` the first line is `range N/D = DECIMAL to N/D = DECIMAL`. Then come the line `greatest` and
 the lines of that end, and the line `least` and the lines of the other one, whose factor is below 0.
 
-A movement counts as none if it is at most this PART of the greatest opening or slide of a joint. PART is a millionth,
-0.000001, if it isn't given. If a block turns at a rate above a million, all rates are divided by the greatest one, so
-that the fastest block turns at 1 or -1. If no block turns, the same holds for the greatest velocity.
+An opening or a slide counts as none, and is printed as 0, if it is at most this PART of the greatest opening or slide
+of a joint. PART is a millionth, 0.000001, if it isn't given. Beside a slide that counts, a small opening counts too,
+since friction demands it. All else follows. A joint stays closed if nothing moves at its bearings. Blocks move as one
+if nothing moves at the bearings between them, of which there are at least two; or if all their corners move alike.
+Blocks are still if they move as one with a fixed body.
+
+If a block turns at a rate above a million, all rates are divided by the greatest one, so that the fastest block turns
+at 1 or -1. If no block turns, the same holds for the greatest velocity.
 
 The exit status is that of the program. It is 70 if a file can't be read or the program can't be run, and 2 if the words
 are no form. Python 3.11 or later. docs/reading.md explains the lines.
@@ -43,6 +48,8 @@ import sys
 import tempfile
 from dataclasses import dataclass
 from fractions import Fraction
+from itertools import chain, combinations
+from math import hypot
 from pathlib import Path
 
 from model import Refused, answer, bearings_of, read, stop, text_of, write
@@ -140,18 +147,25 @@ def velocity(move, corner, at):
 
 
 class Motion:
-    """The motion of a table: the rates of each bearing, and the size below which a movement counts as none."""
+    """The motion of a table. What counts as no movement is decided once, in `settled`: all else follows from `rates`.
+
+    `rates` has the opening and the slide of each bearing, times the tangent's length. `group` has a number for each
+    body: the bodies that move as one have the place of the first of them in the file, and those that are still have 0.
+    """
 
     def __init__(self, table, blocks, part):
         self.bearings, self.moves = table.bearings, shortened(table.moves)
         self.corners = {block.name: block.corners for block in blocks}
-        self.rates = [self.rates_of(bearing) for bearing in self.bearings]
-        sizes = [abs(rate) / bearing.length() for bearing, pair in zip(self.bearings, self.rates) for rate in pair]
+        self.names = [None, *self.corners]
+        rates = [self.rates_of(bearing) for bearing in self.bearings]
+        sizes = [abs(rate) / bearing.length() for bearing, pair in zip(self.bearings, rates) for rate in pair]
         self.least = part * max(sizes, default=0)
+        self.rates = [self.settled(bearing, *pair) for bearing, pair in zip(self.bearings, rates)]
+        self.group = self.grouped()
 
     def at(self, name, place):
         """The velocity of a place as a point of a body. Fixed bodies are still."""
-        return velocity(self.moves.get(name, (0, 0, 0)), self.corners[name][0], place)
+        return velocity(self.moves[name], self.corners[name][0], place) if name in self.moves else (0, 0)
 
     def rates_of(self, bearing):
         """The opening and the slide of a bearing, times the tangent's length."""
@@ -159,58 +173,89 @@ class Motion:
         pair = [self.at(name, bearing.at) for name in (bearing.first, bearing.second)]
         return bearing.parts(pair[1][0] - pair[0][0], pair[1][1] - pair[0][1])
 
-    def small(self, *amounts):
-        return all(abs(amount) <= self.least for amount in amounts)
+    def settled(self, bearing, opening, slide):
+        """These rates, 0 where they count as none. Beside a slide with friction no opening does."""
+        least = self.least * bearing.length()
+        slide = slide if abs(slide) > least else 0
+        return opening if abs(opening) > least or slide and bearing.p else 0, slide
 
-    def number(self, amount):
-        return number(0 if self.small(amount) else amount)
+    def small(self, x, y):
+        """Whether a velocity counts as none."""
+        return hypot(x, y) <= self.least
 
-    def as_one(self, first, second):
-        """Whether two bodies move as one: at all corners of either, or at those of the one that isn't fixed."""
-        places = [at for name in (first, second) if name in self.moves for at in self.corners[name]]
-        pairs = [(self.at(first, at), self.at(second, at)) for at in places]
-        return all(self.small(one[0] - other[0], one[1] - other[1]) for one, other in pairs)
+    # Bodies that move as one
+
+    def grouped(self):
+        """The group of each body. Fixed bodies and those without any motion begin in the group 0."""
+        group = {name: number if any(self.moves.get(name, ())) else 0 for number, name in enumerate(self.corners, 1)}
+        while pair := self.as_one(group):
+            group = {name: pair[0] if number == pair[1] else number for name, number in group.items()}
+        return group
+
+    def as_one(self, group):
+        """Two groups that move as one, the lesser first; None if there are no more."""
+        members, between = {0: []}, {}
+        for name, number in group.items():
+            members.setdefault(number, []).append(name)
+        for bearing, pair in zip(self.bearings, self.rates):
+            numbers = group[bearing.first], group[bearing.second]
+            if numbers[0] != numbers[1]:
+                between.setdefault((min(numbers), max(numbers)), []).append((bearing.at, any(pair)))
+
+        def move_as_one(one, other):
+            ends = between.get((one, other), ())
+            if any(moves for _, moves in ends):
+                return False
+            return len({at for at, _ in ends}) > 1 or self.alike(one, other, members)
+
+        pairs = chain(between, combinations(sorted(members), 2))
+        return next((pair for pair in pairs if move_as_one(*pair)), None)
+
+    def alike(self, one, other, members):
+        """Whether two groups have the same velocities at all corners of either that aren't still."""
+        names = [name for number in (one, other) if number for name in members[number]]
+        pairs = ([self.at(self.names[number], at) for number in (one, other)]
+                 for name in names for at in self.corners[name])
+        return all(self.small(first[0] - second[0], first[1] - second[1]) for first, second in pairs)
+
+    # Lines
 
     def joint(self, first, second, indices):
         """What a joint does: its openings and slides, and a word; None where it stays closed."""
         bearings, rates = ([items[k] for k in indices] for items in (self.bearings, self.rates))
-        if self.as_one(first, second):
+        # A joint with one bearing may turn about it.
+        if not any(map(any, rates)) and (len(rates) > 1 or self.group[first] == self.group[second]):
             return None
         length = bearings[0].length()
-        openings, slides = (" ".join(self.number(rate[axis] / length) for rate in rates) for axis in (0, 1))
+        openings, slides = (" ".join(number(rate[axis] / length) for rate in rates) for axis in (0, 1))
         return f"opening {openings} slide {slides} {self.word(bearings, rates)}"
 
     def word(self, bearings, rates):
-        length = bearings[0].length()
-        for bearing, (opening, slide) in zip(bearings, rates):
-            if self.small(opening / length, slide / length):
+        for bearing, pair in zip(bearings, rates):
+            if not any(pair):
                 return f"hinge {point(bearing.at)}"
         for bearing, (opening, slide) in zip(bearings, rates):
             lift = Fraction(bearing.p, bearing.q) * abs(slide)
-            if not self.small(slide / length) and self.small((opening - lift) / length):
+            if slide and abs(opening - lift) <= self.least * bearing.length():
                 return "slides"
         return "opens"
 
     def groups(self):
         """The blocks that move, those that move as one together, and the blocks that are still."""
-        moving, still = [], []
-        for name, move in self.moves.items():
-            if all(self.small(*self.at(name, at)) for at in self.corners[name]):
-                still.append(name)
-            elif fellows := next((names for names in moving if self.as_one(names[0], name)), None):
-                fellows.append(name)
-            else:
-                moving.append([name])
-        return moving, still
+        groups = {0: []}
+        for name in self.moves:
+            groups.setdefault(self.group[name], []).append(name)
+        still = groups.pop(0)
+        return groups.values(), still
 
     def turning(self, names):
         """How a group of blocks moves."""
         (u, v, turn), corner = self.moves[names[0]], self.corners[names[0]][0]
         alone = len(names) == 1
         head = f"block {names[0]}" if alone else f"together {' '.join(names)}"
-        places = [at for name in names for at in self.corners[name]]
-        if all(self.small(turn * (at[axis] - corner[axis])) for at in places for axis in (0, 1)):
-            return f"{head} {'moves' if alone else 'move'} {self.number(u)} {self.number(v)}"
+        ways = [(at[0] - corner[0], at[1] - corner[1]) for name in names for at in self.corners[name]]
+        if not turn or (u or v) and all(self.small(turn * x, turn * y) for x, y in ways):
+            return f"{head} {'moves' if alone else 'move'} {numbers((u, v))}"
         centre = corner[0] - Fraction(v) / turn, corner[1] + Fraction(u) / turn
         return f"{head} {'turns' if alone else 'turn'} about {point(centre)} at {number(turn)}"
 
