@@ -320,7 +320,7 @@ def main(words):
     if not faultless(words):
         models.stop(__doc__.rstrip(), 2)
     if shutil.which("esolver") is None:
-        models.stop("solve: esolver isn't installed: apt-get install qsopt-ex")
+        models.stop("solve: esolver isn't installed: as root, apt-get update && apt-get install qsopt-ex")
     name, question, cert = words[:3]
     part = Fraction(int(words[3]) if words[3:] else 2, 2 * 10**6)
     progress = Progress()
