@@ -147,7 +147,8 @@ def velocity(move, corner, at):
 
 
 class Motion:
-    """The motion of a table. What counts as no movement is decided once, in `settled`: all else follows from `rates`.
+    """The motion of a table. What counts as no movement is decided once, in `settled`; all else follows from `rates`.
+    Only if bodies share fewer than two bearings, their corners decide whether they move as one.
 
     `rates` has the opening and the slide of each bearing, times the tangent's length. `group` has a number for each
     body: the bodies that move as one have the place of the first of them in the file, and those that are still have 0.
