@@ -34,6 +34,8 @@ STANDS_BACK = 20
 LEAST_WORK = 4_000
 # What rt keeps of a crate.
 PARTS = ("incremental", "rlib")
+# A library then holds what other crates can cite of it, and not its proofs: a check above it loads the less.
+STATEMENTS = ("--statements",)
 
 
 def listed():
@@ -129,7 +131,7 @@ def prove(crates, name, copy, back):
     prepare(crates, name, copy)
     jobs = min(processors(), PROVERS, work_of(name) // PROVER_BYTES + 1 if back else PROVERS)
     ran = subprocess.run(
-        ["nice", "-n", str(back), "rt", "lib", "--jobs", str(jobs)],
+        ["nice", "-n", str(back), "rt", "lib", "--jobs", str(jobs), *STATEMENTS],
         cwd=f"{copy}/crates/{name}",
         stdin=subprocess.DEVNULL,
         stdout=subprocess.PIPE,

@@ -14,7 +14,7 @@ mod number;
 mod reading;
 mod split;
 mod stage;
-pub mod types;
+mod types;
 mod writing;
 
 pub use laws::{one_certificate, one_reading, one_text, short_text, spelled_by_digits};
@@ -22,4 +22,5 @@ pub use line::read_two;
 pub use number::read_number;
 pub use reading::{cut_line, read_certificate};
 pub use split::{after, split_once};
+pub use types::{Certificate, Forces, Motion, TextError};
 pub use writing::write_certificate;

@@ -13,10 +13,9 @@ ghost use Rattle.stack_checker.specs.WrittenForces.{written_balance, balance_at}
 use crate::sign::WantedSign;
 use crate::stop::{Stop, require};
 use crate::types::{CheckAt, Reason};
-use stack_certificate::types::Forces;
-use stack_contact::types::Survey;
-use stack_equilibrium::residue;
-use stack_equilibrium::types::{Axis, SumWide, Wrench};
+use stack_certificate::Forces;
+use stack_contact::Survey;
+use stack_equilibrium::{Axis, SumWide, Wrench, residue};
 use stack_whole::Whole;
 
 /// The three sums of free block number `b`, or their place where one is too wide.

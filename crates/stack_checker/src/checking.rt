@@ -13,8 +13,8 @@ use crate::powers::{check_bound, check_collapse};
 use crate::sign::Signs;
 use crate::stop::{PartStop, answer, in_part};
 use crate::types::{Check, Part};
-use stack_certificate::types::Certificate;
-use stack_contact::types::Survey;
+use stack_certificate::Certificate;
+use stack_contact::Survey;
 use stack_equilibrium::proper;
 
 /// The tests of each form of certificate, in its order.

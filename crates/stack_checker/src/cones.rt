@@ -7,8 +7,8 @@ ghost use Rattle.stack_checker.specs.WrittenForces.{written_cone, cone_at};
 
 use crate::stop::{Stop, require};
 use crate::types::{CheckAt, Reason};
-use stack_contact::types::Bearing;
-use stack_equilibrium::block::{Push, push_of};
+use stack_contact::Bearing;
+use stack_equilibrium::{Push, push_of};
 use stack_frame::Cone;
 use stack_whole::Wide;
 

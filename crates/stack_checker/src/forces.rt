@@ -9,8 +9,8 @@ use crate::cones::check_cones;
 use crate::sign::Signs;
 use crate::stop::{Stop, require};
 use crate::types::Reason;
-use stack_certificate::types::Forces;
-use stack_contact::types::Survey;
+use stack_certificate::Forces;
+use stack_contact::Survey;
 use stack_whole::Whole;
 
 /// A part for each bearing, a scale and a factor with these signs, forces that push within their cones of

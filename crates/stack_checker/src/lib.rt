@@ -15,7 +15,8 @@ mod motions;
 mod powers;
 mod sign;
 mod stop;
-pub mod types;
+mod types;
 
 pub use checking::check;
 pub use laws::check_laws;
+pub use types::{Check, CheckAt, CheckPlace, Part, Reason};

@@ -9,11 +9,9 @@ ghost use Rattle.stack_checker.specs.WrittenMotions.{written_resistance, resista
 
 use crate::stop::{Stop, place, require};
 use crate::types::{CheckAt, Reason};
-use stack_certificate::types::Motion;
-use stack_contact::types::{Bearing, Survey};
-use stack_equilibrium::opening;
-use stack_equilibrium::types::VelocityWide;
-use stack_equilibrium::velocity::Gap;
+use stack_certificate::Motion;
+use stack_contact::{Bearing, Survey};
+use stack_equilibrium::{Gap, VelocityWide, opening};
 use stack_whole::Whole;
 
 /// How bearing `k` opens and slides, or its place where a velocity is too wide.

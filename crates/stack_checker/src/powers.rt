@@ -10,10 +10,9 @@ use crate::motions::check_motion;
 use crate::sign::WantedSign;
 use crate::stop::{Stop, place, require};
 use crate::types::{CheckAt, Reason};
-use stack_certificate::types::{Forces, Motion};
-use stack_contact::types::Survey;
-use stack_equilibrium::power;
-use stack_equilibrium::types::{PowerWide, Question};
+use stack_certificate::{Forces, Motion};
+use stack_contact::Survey;
+use stack_equilibrium::{PowerWide, Question, power};
 use stack_whole::Whole;
 
 /// The work of the live and of the dead loads on a motion, in sixths.

@@ -1,6 +1,6 @@
 //! What a check answers.
 
-use stack_equilibrium::types::Axis;
+use stack_equilibrium::Axis;
 
 /// What a check answers.
 #[derive(Clone, Copy, Debug, PartialEq, Eq)]

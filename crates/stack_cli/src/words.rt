@@ -12,7 +12,7 @@ ghost use Rattle.stack_cli.specs.Words.{form_of_five as form_of_five_words, form
 ghost use Rattle.stack_lines.specs.Forms.{form_view, HasBudget};
 
 use itoa::Buffer;
-use stack_equilibrium::types::Question;
+use stack_equilibrium::Question;
 use stack_forms::{DEFAULT_BUDGET, Form, Kind};
 
 /// The question that a word asks: `stand` about the dead loads, `load` about the live loads.

@@ -9,12 +9,14 @@
 //! ```
 #![tactic(auto)]
 
-pub mod laws;
+mod laws;
 mod lists;
 mod pair;
 mod surveying;
 mod sweeping;
-pub mod types;
+mod types;
 
+pub use laws::{friction_law, one_survey};
 pub use pair::contacts;
 pub use surveying::{survey, survey_again, survey_of};
+pub use types::{Bearing, Contacts, Survey, SurveyError, Touch};

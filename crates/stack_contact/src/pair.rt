@@ -12,8 +12,7 @@ ghost use Rattle.stack_contact.specs.PairContacts.{IsFrameFrom, IsTangentBy, Are
 
 use crate::types::Contacts;
 use stack_frame::{Frame, frame_of};
-use stack_overlap::types::{Common, Edge, Which};
-use stack_overlap::{common, separator};
+use stack_overlap::{Common, Edge, Which, common, separator};
 use stack_polygon::{Point, Polygon, next};
 
 /// The direction from `a` to `b` in lowest terms.

@@ -10,7 +10,7 @@ ghost use Rattle.stack_contact.specs.Surveyed.{Surveys, IsSurvey, surveyed};
 use crate::lists::all_found;
 use crate::types::{Bearing, Survey, SurveyError, Touch};
 use stack_model::Model;
-use stack_whole::limits::MOST_BEARINGS;
+use stack_whole::MOST_BEARINGS;
 use std::alloc::{AllocError, Global};
 
 /// The survey of a model: exactly its bearings and its touches. Pairs of two fixed bodies are left out. Refused

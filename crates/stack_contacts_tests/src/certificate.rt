@@ -1,7 +1,8 @@
 //! Texts of certificates, read and written, and refused.
 
-use stack_certificate::types::{Certificate, Forces, Motion, TextError};
-use stack_certificate::{read_certificate, write_certificate};
+use stack_certificate::{
+    Certificate, Forces, Motion, TextError, read_certificate, write_certificate,
+};
 use std::alloc::{AllocError, Global};
 use std::test::*;
 

@@ -1,8 +1,7 @@
 //! Contacts of pairs and surveys of models, worked by hand.
 
 use crate::drawings::{GROUND, STONE, at, bearing, model_of};
-use stack_contact::types::{Contacts, SurveyError, Touch};
-use stack_contact::{contacts, survey, survey_again};
+use stack_contact::{Contacts, SurveyError, Touch, contacts, survey, survey_again};
 use stack_frame::{Cone, frame_of};
 use stack_polygon::Polygon;
 use std::alloc::Global;

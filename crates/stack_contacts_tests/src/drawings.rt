@@ -1,6 +1,6 @@
 //! Structures of one stone, as the pieces of their model files.
 
-use stack_contact::types::Bearing;
+use stack_contact::Bearing;
 use stack_frame::{Cone, frame_of};
 use stack_model::Model;
 use stack_polygon::Point;

@@ -1,12 +1,10 @@
 //! Parts of small structures of stones, worked by hand.
 
 use crate::drawings::{GROUND, STONE, at, bearing, model_of};
-use stack_contact::survey;
-use stack_contact::types::{Survey, Touch};
+use stack_contact::{Survey, Touch, survey};
 use stack_frame::Cone;
 use stack_model::{Load, Model};
-use stack_part::laws::part_laws;
-use stack_part::{part, survey_part};
+use stack_part::{part, part_laws, survey_part};
 use std::alloc::Global;
 use std::test::*;
 

@@ -6,7 +6,7 @@ ghost use Rattle.stack_equilibrium.specs.WrittenSums.{push_at, lever_at, axis_pa
 
 use crate::force::step;
 use crate::types::{Axis, Wrench};
-use stack_contact::types::Bearing;
+use stack_contact::Bearing;
 use stack_polygon::Point;
 use stack_whole::Whole;
 

@@ -16,7 +16,7 @@ ghost use Rattle.stack_equilibrium.specs.Answers.{body_number, column_of};
 use crate::force::{Force, arm_of, moment};
 use crate::openings::bearing_at;
 use crate::types::Wrench;
-use stack_contact::types::{Bearing, Survey};
+use stack_contact::{Bearing, Survey};
 use stack_frame::Cone;
 use stack_polygon::Point;
 use stack_whole::Whole;
@@ -159,6 +159,7 @@ fn bounded_bearing(s: &Survey, k: usize) -> Bearing
     ensures value { result ≡ bearing_of s.now k }
     ensures at { IsInRange result.at }
 {
+    // all bearings are those of a model, which is sound
     let _all = s.bearings();
     let _bodies = s.model().bodies();
     bearing_at(s, k)
@@ -176,6 +177,7 @@ pub fn column(s: &Survey, k: usize, plus: bool, b: usize) -> Wrench
     let bearing = bounded_bearing(s, k);
     let body = s.free(b);
     let outline = s.model().polygon(body);
+    // an outline is a polygon, with a first corner
     let _corners = outline.len();
     exerted(
         body,

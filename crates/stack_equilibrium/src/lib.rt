@@ -8,9 +8,9 @@
 //! ```
 #![tactic(auto)]
 
-pub mod block;
+mod block;
 mod columns;
-pub mod force;
+mod force;
 mod loads;
 mod openings;
 mod powers;
@@ -18,11 +18,13 @@ mod residues;
 mod sums;
 mod surveys;
 mod sway;
-pub mod types;
-pub mod velocity;
+mod types;
+mod velocity;
 mod weight;
 
+pub use block::{Push, push_of};
 pub use columns::column;
+pub use force::Force;
 pub use loads::{dead, live};
 pub use openings::opening;
 pub use powers::power;
@@ -32,3 +34,5 @@ pub use stack_statics::{
 };
 pub use sums::bearing_force;
 pub use surveys::{proper, written_laws};
+pub use types::{Axis, PowerWide, Question, SumWide, VelocityWide, Wrench};
+pub use velocity::Gap;

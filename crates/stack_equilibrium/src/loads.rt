@@ -16,7 +16,7 @@ use crate::force::{Force, arm_of, moment};
 use crate::sway::sway_on;
 use crate::types::{Question, Wrench};
 use crate::weight::weight_on;
-use stack_contact::types::Survey;
+use stack_contact::Survey;
 use stack_model::{Load, Model};
 use stack_polygon::Point;
 use stack_whole::Whole;
@@ -110,6 +110,7 @@ fn listed_on(question: Question, model: &Model, i: usize) -> Wrench
     ensures size { AreLoads 256 result }
 {
     let outline = model.polygon(i);
+    // an outline is a polygon, with a first corner
     let _corners = outline.len();
     let corner = outline.corner(0);
     let mut total = Wrench { fx: 0, fy: 0, m: 0 };

@@ -12,8 +12,8 @@ ghost use Rattle.stack_equilibrium.specs.Answers.{AreRates};
 use crate::block::lever_of;
 use crate::types::VelocityWide;
 use crate::velocity::{BlockMove, Gap, Velocity, difference, gap_of, rest, velocity_of};
-use stack_certificate::types::Motion;
-use stack_contact::types::{Bearing, Survey};
+use stack_certificate::Motion;
+use stack_contact::{Bearing, Survey};
 use stack_whole::{Whole, Wide};
 
 /// The move of free block `b`, of a list of moves.
@@ -44,6 +44,7 @@ fn velocity_at(
         return Ok(rest());
     }
     let outline = s.model().polygon(i);
+    // an outline is a polygon, with a first corner
     let _corners = outline.len();
     let lever = lever_of(outline.corner(0), *z);
     velocity_of(lever, block_move(moves, s.free_number(i)))

@@ -14,8 +14,8 @@ use crate::loads::loads_on;
 use crate::openings::block_move;
 use crate::types::{PowerWide, Question, Wrench};
 use crate::velocity::BlockMove;
-use stack_certificate::types::Motion;
-use stack_contact::types::Survey;
+use stack_certificate::Motion;
+use stack_contact::Survey;
 use stack_whole::{Whole, Wide};
 
 #[tactic(auto, unfolding(crate::specs::WrittenPowers::with_product))]

@@ -10,8 +10,8 @@ use crate::block::Block;
 use crate::loads::loads_on;
 use crate::sums::sums;
 use crate::types::{Question, SumWide, Wrench};
-use stack_certificate::types::Forces;
-use stack_contact::types::Survey;
+use stack_certificate::Forces;
+use stack_contact::Survey;
 use stack_whole::Whole;
 
 /// Free block `b` with its loads.
@@ -21,6 +21,7 @@ fn block_at(s: &Survey, b: usize) -> Block
 {
     let body = s.free(b);
     let outline = s.model().polygon(body);
+    // an outline is a polygon, with a first corner
     let _corners = outline.len();
     Block {
         body,

@@ -10,7 +10,7 @@ ghost use Rattle.stack_equilibrium.specs.WrittenSums.{written_sum, on_axis, writ
 use crate::block::{Block, Lever, Push, lever_of, number_along, push_of};
 use crate::force::Force;
 use crate::types::{Axis, SumWide, Wrench};
-use stack_contact::types::Bearing;
+use stack_contact::Bearing;
 use stack_whole::{Whole, Wide};
 
 #[tactic(auto, unfolding(crate::specs::WrittenSums::written_force_x))]

@@ -5,13 +5,14 @@ ghost use Rattle.stack_equilibrium.specs.SurveyScene.{scene_of};
 ghost use Rattle.stack_equilibrium.specs.Answers.{SumsAreThoseOfTheScene, RatesAreThoseOfTheScene};
 ghost use Rattle.stack_equilibrium.specs.Answers.{PowersAreThoseOfTheScene};
 
-use stack_contact::types::Survey;
+use stack_contact::Survey;
 
 /// Each survey's scene meets the premise of the laws of certificates: each bearing lies between an earlier and
 /// a later body, and its coefficient has a positive denominator and no negative numerator. Does nothing.
 pub fn proper(s: &Survey)
     ensures { IsProper (scene_of s.now) }
 {
+    // all bearings are those of a model, which is sound
     let _all = s.bearings();
     let _bodies = s.model().bodies();
 }

@@ -1,6 +1,6 @@
 //! What is asked of a survey, and the numbers that are too wide.
 
-pub use stack_statics::wrench::Wrench;
+pub use stack_statics::Wrench;
 
 /// What a block's sum is along, or about.
 #[derive(Clone, Copy, Debug, PartialEq, Eq)]

@@ -6,7 +6,7 @@ ghost use Rattle.stack_equilibrium.specs.WrittenVelocities.{written_velocity, wr
 ghost use Rattle.stack_equilibrium.specs.WrittenVelocities.{written_tangential, written_gap, at_rest};
 
 use crate::block::Lever;
-use stack_contact::types::Bearing;
+use stack_contact::Bearing;
 use stack_whole::{Whole, Wide};
 
 /// How a free block moves: the velocity of its first stored corner to the right and upwards, and its turning

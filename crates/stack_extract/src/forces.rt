@@ -28,8 +28,8 @@ use crate::numbers::{forces_numbers, ray_numbers};
 use crate::parts::force_parts;
 use crate::types::{ExtractError, Numbers};
 use crate::wholes::whole_numbers;
-use stack_certificate::types::Forces;
-use stack_contact::types::Survey;
+use stack_certificate::Forces;
+use stack_contact::Survey;
 use stack_rational::{Exact, Frac};
 use stack_run::run_laws;
 use stack_table::Table;
@@ -109,6 +109,7 @@ pub fn forces_at<L: LastTable>(
         IfErr result (λ x. TellsPlace x (forces_place q s.now (L.table t.now))) }
 {
     certified_laws();
+    // at most 1,024 bearings
     let _bearings = s.bearings();
     let list = forces_numbers(alloc, t)?;
     from_list(alloc, Numbers::Forces, s, &list)
@@ -130,6 +131,7 @@ pub fn ray_at<L: LastTable>(
         IfErr result (λ x. TellsPlace x (ray_place q s.now (L.table t.now) column)) }
 {
     certified_laws();
+    // at most 1,024 bearings
     let _bearings = s.bearings();
     let list = ray_numbers(alloc, t, column)?;
     let forces = from_list(alloc, Numbers::Ray, s, &list)?;

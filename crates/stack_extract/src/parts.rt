@@ -7,8 +7,8 @@ ghost use Rattle.stack_extract.specs.Places.{AreParts, TellsPlace, part_place};
 ghost use Rattle.stack_extract.specs.WrittenPart.{written_part};
 
 use crate::types::{EndStep, ExtractError, Numbers, too_wide};
-use stack_contact::types::Bearing;
-use stack_equilibrium::block::Push;
+use stack_contact::Bearing;
+use stack_equilibrium::Push;
 use stack_frame::Cone;
 use stack_whole::{Whole, Wide};
 use std::alloc::{AllocError, Global};

@@ -8,8 +8,7 @@ ghost use Rattle.stack_lines.specs.Surveying.{structure_names, survey_step, surv
 ghost use Rattle.stack_lines.specs.Progress.{Does, DoesAlone, IsSeenSurvey};
 
 use crate::reading::model_file;
-use stack_contact::survey;
-use stack_contact::types::{Survey, SurveyError};
+use stack_contact::{Survey, SurveyError, survey};
 use stack_lines::Refusal;
 use stack_model::Model;
 use stack_outside::Shelf;

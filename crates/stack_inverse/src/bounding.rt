@@ -8,8 +8,7 @@ use crate::first::First;
 use crate::making::{top_in, top_over, whole_top};
 use crate::plain::Plain;
 use crate::row::{PivotRow, Row};
-use stack_rows::factors::{Factors, is_short, step_under, top_after};
-use stack_rows::whole::RowNumber;
+use stack_rows::{Factors, RowNumber, is_short, step_under, top_after};
 
 /// A top of the own cells of row i.
 pub fn own_top_of<T: RowNumber>(plain: &Plain<T>, i: usize) -> T

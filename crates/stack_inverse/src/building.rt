@@ -14,8 +14,8 @@ use crate::first::First;
 use crate::making::top_of;
 use crate::plain::Plain;
 use crate::stops::NoTable;
-use stack_rows::whole::RowNumber;
-use stack_table::problem::{Entry, Problem};
+use stack_rows::RowNumber;
+use stack_table::{Entry, Problem};
 use std::alloc::Global;
 
 /// A number of a row, flipped as the row is. May give up; no clause says when.

@@ -1,6 +1,6 @@
 //! The first rows of a problem, column by column.
 
-use stack_rows::whole::RowNumber;
+use stack_rows::RowNumber;
 
 /// A number in a row.
 #[derive(Clone, Copy)]

@@ -12,7 +12,7 @@ use crate::objective::set_only;
 use crate::pivoting::put_row;
 use crate::row::{PivotRow, Row};
 use crate::stops::NoTable;
-use stack_rows::whole::RowNumber;
+use stack_rows::RowNumber;
 use std::alloc::Global;
 
 /// Puts the first row i, over 1. Gives its right side.

@@ -4,7 +4,7 @@ ghost use Rattle.std.specs.Prelude.{length};
 ghost use Rattle.stack_inverse.specs.Columns.{AreFirst};
 
 use crate::columns::FirstColumn;
-use stack_rows::whole::RowNumber;
+use stack_rows::RowNumber;
 
 /// The first rows in the plain columns.
 #[derive(Drop)]

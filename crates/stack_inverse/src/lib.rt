@@ -25,8 +25,11 @@ mod pivoting;
 mod plain;
 mod reducing;
 mod remaking;
-pub mod revised_table;
+mod revised_table;
 mod row;
 mod short;
 mod spots;
-pub mod stops;
+mod stops;
+
+pub use revised_table::RevisedTable;
+pub use stops::{NoTable, PivotRefusal};

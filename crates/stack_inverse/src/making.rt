@@ -12,7 +12,7 @@ use crate::columns::Cell;
 use crate::first::First;
 use crate::plain::Plain;
 use crate::row::Row;
-use stack_rows::whole::RowNumber;
+use stack_rows::RowNumber;
 
 /// A sum and the product of two numbers. Most numbers of a row are 0.
 fn added<T: RowNumber>(sum: T, number: T, by: T) -> Option<T>

@@ -8,7 +8,7 @@ ghost use Rattle.stack_inverse.specs.RowsSeen.{seen_at};
 use crate::making::number_of;
 use crate::plain::Plain;
 use crate::row::Row;
-use stack_rows::whole::RowNumber;
+use stack_rows::RowNumber;
 
 pub fn clear_row<T: RowNumber>(row: &mut [T])
     ensures { (j : ℕ) → number_at T.value row.new j ≡ pos 0 }

@@ -16,8 +16,7 @@ use crate::plain::Plain;
 use crate::reducing::reduce;
 use crate::row::{PivotRow, Row};
 use crate::stops::PivotRefusal;
-use stack_rows::row::{find_jumps, settle};
-use stack_rows::whole::RowNumber;
+use stack_rows::{RowNumber, find_jumps, settle};
 
 /// Divides row r, which isn't the objective row, by its cell in a column, whose number is the factor. May give up; no
 /// clause says when.

@@ -4,7 +4,7 @@ ghost use Rattle.std.specs.Prelude.{◌≡◌, length};
 ghost use Rattle.stack_inverse.specs.Columns.{IsOwn};
 
 use crate::first::First;
-use stack_rows::whole::RowNumber;
+use stack_rows::RowNumber;
 
 /// The first rows, and the own cells of the objective row.
 #[derive(Drop)]

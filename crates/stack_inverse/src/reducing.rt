@@ -17,9 +17,7 @@ use crate::remaking::remake_row;
 use crate::row::{PivotRow, Row};
 use crate::spots::{RowStep, is_widest, row_spot};
 use crate::stops::PivotRefusal;
-use stack_rows::factors::{Factors, factors_of};
-use stack_rows::row::reduce_row;
-use stack_rows::whole::RowNumber;
+use stack_rows::{Factors, RowNumber, factors_of, reduce_row};
 
 /// The top of a row after it is reduced: 0, that none is known, where another denominator tells that it was divided.
 fn top_kept<T: RowNumber>(after: T, ready: Ready<T>) -> T

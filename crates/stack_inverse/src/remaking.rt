@@ -6,7 +6,7 @@ ghost use Rattle.stack_rows.specs.RowForm.{number_at, IsTaken};
 use crate::row::Row;
 use crate::spots::{RowStep, reduced_cell};
 use stack_rational::Exact;
-use stack_rows::whole::RowNumber;
+use stack_rows::RowNumber;
 
 /// A common multiple of two numbers, as a hint.
 fn multiple<T: RowNumber>(a: T, b: T) -> Option<T> {

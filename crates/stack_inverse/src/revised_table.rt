@@ -16,9 +16,8 @@ use crate::plain::Plain;
 use crate::row::{PivotRow, Row};
 use crate::short::short_negative;
 use crate::stops::{NoTable, PivotRefusal};
-use stack_rows::whole::RowNumber;
-use stack_table::problem::Problem;
-use stack_table::row_with;
+use stack_rows::RowNumber;
+use stack_table::{Problem, row_with};
 use std::alloc::Global;
 
 /// The exact table of a run. Row `rows` is the objective row.

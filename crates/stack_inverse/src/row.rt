@@ -7,7 +7,7 @@
 ghost use Rattle.std.specs.Prelude.{◌≡◌, ◌≢◌, pos, ◌<ℤ◌, unsigned_abs, length};
 ghost use Rattle.stack_inverse.specs.RowBlock.{IsTopped};
 
-use stack_rows::whole::RowNumber;
+use stack_rows::RowNumber;
 
 /// A row: its numbers over one denominator, by its artificial columns, the right side last.
 #[derive(Drop)]

@@ -12,7 +12,7 @@ use crate::first::First;
 use crate::making::{top_over, whole_top};
 use crate::plain::Plain;
 use crate::row::Row;
-use stack_rows::whole::RowNumber;
+use stack_rows::RowNumber;
 
 /// A number less a product. Most numbers of a row are 0.
 fn less_product<T: RowNumber>(sum: T, number: T, by: T, one: T) -> T

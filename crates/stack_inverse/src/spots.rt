@@ -14,10 +14,8 @@ use crate::making::{number_of, row_number};
 use crate::plain::Plain;
 use crate::row::Row;
 use stack_rational::{Exact, Frac};
-use stack_rows::cells::cell;
-use stack_rows::factors::{Factors, step_under};
-use stack_rows::whole::RowNumber;
-use stack_table::types::{PivotWide, Step};
+use stack_rows::{Factors, RowNumber, cell, step_under};
+use stack_table::{PivotWide, Step};
 
 /// What a row step is made of: the denominators of the row and of the pivot row, and the row's number in the pivot's
 /// column.

@@ -1,6 +1,6 @@
 //! Why there is no table of a problem, and why a pivot isn't done.
 
-use stack_table::types::PivotWide;
+use stack_table::PivotWide;
 use std::alloc::{AllocError, AllocFailed};
 
 /// Why a pivot isn't done.

@@ -10,10 +10,9 @@ ghost use Rattle.stack_judge.specs.Judged.{IsJudged};
 ghost use Rattle.stack_judge.specs.Certifying.{MakesCertificate, GivesChecked};
 
 use crate::types::{JudgeError, JudgePlace};
-use stack_certificate::types::Certificate;
-use stack_checker::check;
-use stack_checker::types::Check;
-use stack_contact::types::Survey;
+use stack_certificate::Certificate;
+use stack_checker::{Check, check};
+use stack_contact::Survey;
 use stack_equilibrium::proper;
 use stack_extract::{
     ExtractError, certified_laws, forces_at, kind_of, last_table, motion_at, ray_at,
@@ -66,6 +65,7 @@ pub fn certify_at<L: LastTable>(
     // laws of surveys, on which the last clause stands
     proper(s);
     certified_laws();
+    // at most 1,024 bearings and 128 free blocks
     let _bearings = s.bearings();
     let _free = s.free_count();
     let certificate = match make(alloc, s, kind, t) {

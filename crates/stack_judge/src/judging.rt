@@ -15,16 +15,14 @@ use crate::laws::columns_law;
 use crate::narrow::judge_narrow;
 use crate::revised::judge_revised;
 use crate::types::{JudgeError, JudgePlace};
-use stack_certificate::types::Certificate;
-use stack_contact::types::Survey;
-use stack_equilibrium::proper;
-use stack_equilibrium::types::Question;
+use stack_certificate::Certificate;
+use stack_contact::Survey;
+use stack_equilibrium::{Question, proper};
 use stack_extract::pose;
 use stack_rational::Frac;
 use stack_run::budget_law;
 use stack_simplex::{RunError, run};
-use stack_table::Table;
-use stack_table::problem::BuildError;
+use stack_table::{BuildError, Table};
 use std::alloc::{AllocError, Global};
 
 /// Whether the question is about live loads and none is listed.

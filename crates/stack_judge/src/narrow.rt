@@ -9,15 +9,14 @@ ghost use Rattle.stack_judge.specs.NarrowWork.{narrow_place, has_no_place, is_na
 
 use crate::certifying::certify;
 use crate::types::JudgeError;
-use stack_certificate::types::Certificate;
-use stack_contact::types::Survey;
-use stack_equilibrium::types::Question;
+use stack_certificate::Certificate;
+use stack_contact::Survey;
+use stack_equilibrium::Question;
 use stack_extract::pose;
 use stack_rational::Frac;
 use stack_run::wider_run_law;
 use stack_simplex::{RunError, run};
-use stack_table::Table;
-use stack_table::problem::BuildError;
+use stack_table::{BuildError, Table};
 use std::alloc::{AllocError, Global};
 
 /// The written table of a survey's problem at 64 bits, where nothing of it is too wide.

@@ -11,12 +11,12 @@ ghost use Rattle.stack_judge.specs.Certifying.{GivesChecked, stopped_answer};
 
 use crate::certifying::certify_at;
 use crate::types::{JudgeError, JudgePlace};
-use stack_certificate::types::Certificate;
-use stack_contact::types::Survey;
-use stack_equilibrium::types::Question;
+use stack_certificate::Certificate;
+use stack_contact::Survey;
+use stack_equilibrium::Question;
 use stack_extract::pose;
 use stack_revised::{Last, RevisedEnd, RevisedStop, run_revised};
-use stack_rows::whole::RowNumber;
+use stack_rows::RowNumber;
 use std::alloc::Global;
 
 /// The certificate of an end of a survey's run over rows: as `certify_at`.

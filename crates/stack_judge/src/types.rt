@@ -3,7 +3,7 @@
 ghost use Rattle.std.specs.Prelude.{◌≡◌};
 ghost use Rattle.stack_judge.specs.declared.types.JudgeError.TheVariants as judge_error;
 
-use stack_checker::types::CheckPlace;
+use stack_checker::CheckPlace;
 use stack_extract::ExtractPlace;
 use stack_run::RunPlace;
 use std::alloc::AllocError;

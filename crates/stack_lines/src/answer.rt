@@ -6,8 +6,8 @@ ghost use Rattle.stack_lines.specs.CheckText.{block_name as name_of_block, rejec
 ghost use Rattle.stack_lines.specs.Refusals.{place_view};
 
 use crate::refusal::{BlockSum, Place, part_text};
-use stack_checker::types::{CheckAt, Part, Reason};
-use stack_contact::types::Survey;
+use stack_checker::{CheckAt, Part, Reason};
+use stack_contact::Survey;
 use stack_report::number;
 use std::alloc::{AllocError, Global};
 

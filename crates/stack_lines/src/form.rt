@@ -1,6 +1,6 @@
 //! The forms of words.
 
-use stack_equilibrium::types::Question;
+use stack_equilibrium::Question;
 
 /// A kind of built-in stack.
 #[derive(Clone, Copy)]

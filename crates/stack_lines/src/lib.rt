@@ -1,5 +1,5 @@
-//! What the program says: its statuses, the lines of its refusals, and the texts of its answers. And the forms of words,
-//! with the order of work on each: definitions and laws, of which no function is made here.
+//! What the program says: its statuses, the lines of its refusals, and the texts of its answers. And the forms of
+//! words, with the order of work on each: definitions and laws, of which no function is made here.
 //!
 //! ```text
 //! Verdict::Denied.status() // 1
@@ -9,7 +9,7 @@
 #![tactic(auto)]
 
 mod answer;
-pub mod form;
+mod form;
 mod model_lines;
 mod refusal;
 

@@ -9,8 +9,8 @@ ghost use Rattle.stack_lines.specs.Errors.{from_read, built_fault, from_order, f
 ghost use Rattle.stack_lines.specs.declared.refusal.Refusal.TheVariants.{Memory};
 
 use crate::model_lines::FaultText;
-use stack_checker::types::Part;
-use stack_equilibrium::types::Axis;
+use stack_checker::Part;
+use stack_equilibrium::Axis;
 use stack_extract::{EndStep, ExtractPlace, Numbers};
 use stack_model::ModelError;
 use stack_overhang::StackError;
@@ -18,7 +18,7 @@ use stack_reader::ReadError;
 use stack_report::number;
 use stack_run::RunPlace;
 use stack_stages::OrderError;
-use stack_table::types::Step;
+use stack_table::Step;
 use stack_yield::{DirectionsError, NoPair};
 use std::alloc::AllocError;
 use std::fmt;

@@ -21,7 +21,7 @@ use crate::places::{Key, Spot, What};
 use crate::raw::RawBlock;
 use crate::types::Body;
 use stack_polygon::Point;
-use stack_whole::limits::MOST_FREE;
+use stack_whole::MOST_FREE;
 use std::alloc::Global;
 
 /// The bodies so far, and their names.

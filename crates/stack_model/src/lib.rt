@@ -14,7 +14,7 @@ mod content;
 mod copying;
 mod errors;
 mod joints;
-pub mod keeping;
+mod keeping;
 mod kept;
 mod laws;
 mod limits;
@@ -30,6 +30,7 @@ mod raw;
 mod types;
 
 pub use errors::ModelError;
+pub use keeping::{among, flag};
 pub use laws::{joint_laws, part_law, taken_law};
 pub use model::{Model, is_still};
 pub use places::{Key, Spot, What};

@@ -14,8 +14,9 @@ mod boxes;
 mod marks;
 mod separating;
 mod shared;
-pub mod types;
+mod types;
 
 pub use boxes::apart;
 pub use separating::separator;
 pub use shared::common;
+pub use types::{Common, Edge, Which};

@@ -4,8 +4,8 @@ ghost use Rattle.std.specs.Prelude.{◌≡◌, [], ◌∷◌, ◌++◌, ◌&&◌
 ghost use Rattle.stack_model.specs.Keeping.{flag_at};
 ghost use Rattle.stack_part.specs.Part.{bearing_among, touch_among, bearings_among, touches_among};
 
-use stack_contact::types::{Bearing, Touch};
-use stack_model::keeping::{among, flag};
+use stack_contact::{Bearing, Touch};
+use stack_model::{among, flag};
 use std::alloc::{AllocError, Global};
 
 /// Whether two bodies are kept, both of them.

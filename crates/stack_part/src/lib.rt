@@ -8,9 +8,10 @@
 #![tactic(auto)]
 
 mod contacts;
-pub mod laws;
+mod laws;
 mod models;
 mod surveys;
 
+pub use laws::part_laws;
 pub use models::part;
 pub use surveys::survey_part;

@@ -6,8 +6,7 @@ ghost use Rattle.stack_part.specs.Part.{surveyed_part};
 
 use crate::contacts::{kept_bearings, kept_touches};
 use crate::models::part;
-use stack_contact::survey_of;
-use stack_contact::types::Survey;
+use stack_contact::{Survey, survey_of};
 use std::alloc::{AllocError, Global};
 
 /// The survey of the bodies that are kept, as `part` has them: its bearings and its touches are those of the whole

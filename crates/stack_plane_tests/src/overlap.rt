@@ -1,8 +1,7 @@
 //! Separating edges and common points, worked by hand.
 
 use crate::outlines::{at, polygon_of};
-use stack_overlap::types::{Common, Edge, Which};
-use stack_overlap::{apart, common, separator};
+use stack_overlap::{Common, Edge, Which, apart, common, separator};
 use stack_polygon::Span;
 use std::alloc::Global;
 use std::test::*;

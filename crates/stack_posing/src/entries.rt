@@ -6,8 +6,8 @@ ghost use Rattle.stack_whole.specs.Whole.{whole};
 ghost use Rattle.stack_equilibrium.specs.LoadSizes.{IsSmall};
 ghost use Rattle.stack_posing.specs.Entries.{with_value, with_wrench as with_wrench_of, opposites};
 
-use stack_equilibrium::types::Wrench;
-use stack_table::problem::Entry;
+use stack_equilibrium::Wrench;
+use stack_table::Entry;
 use stack_whole::Whole;
 use std::alloc::AllocError;
 

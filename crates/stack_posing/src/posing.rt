@@ -15,10 +15,9 @@ ghost use Rattle.stack_posing.specs.Columns.{AreColumns, AreFactorEntries, IsLea
 ghost use Rattle.stack_posing.specs.Entries.{AreEntries};
 
 use crate::entries::{with_right_sides, with_wrench};
-use stack_contact::types::{Bearing, Survey};
-use stack_equilibrium::types::Question;
-use stack_equilibrium::{column, dead, live};
-use stack_table::problem::{Column, Entry, Problem};
+use stack_contact::{Bearing, Survey};
+use stack_equilibrium::{Question, column, dead, live};
+use stack_table::{Column, Entry, Problem};
 use std::alloc::{AllocError, Global};
 
 /// Bearing `k`: of two bodies, the earlier one first.

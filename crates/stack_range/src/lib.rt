@@ -12,9 +12,10 @@ mod laws;
 mod ranging;
 mod reversing;
 mod text;
-pub mod types;
+mod types;
 
 pub use laws::range_laws;
 pub use ranging::range;
 pub use reversing::other_side;
 pub use text::write_range;
+pub use types::{End, Range, RangeError, Side};

@@ -12,10 +12,9 @@ ghost use Rattle.stack_range.specs.RangeJudgement.{JudgesRange};
 use crate::laws::range_laws;
 use crate::reversing::other_side;
 use crate::types::{End, Range, RangeError, Side};
-use stack_certificate::types::{Certificate, Motion};
-use stack_contact::types::Survey;
-use stack_equilibrium::proper;
-use stack_equilibrium::types::Question;
+use stack_certificate::{Certificate, Motion};
+use stack_contact::Survey;
+use stack_equilibrium::{Question, proper};
 use stack_judge::{JudgeError, judge};
 use std::alloc::Global;
 

@@ -7,8 +7,7 @@ ghost use Rattle.stack_model.specs.Structure.{IsSway};
 ghost use Rattle.stack_range.specs.Reversed.{reversed_load as reversed_load_of, reversed_sway as reversed_sway_of};
 ghost use Rattle.stack_range.specs.Reversed.{reversed_structure, reversed_survey};
 
-use stack_contact::survey_again;
-use stack_contact::types::Survey;
+use stack_contact::{Survey, survey_again};
 use stack_model::{Load, Model};
 use std::alloc::{AllocError, Global};
 
@@ -54,6 +53,7 @@ fn reversed_sway(sway: (i64, i64)) -> (i64, i64)
 fn reversed_model(alloc: Global, model: &Model) -> Result<Model, AllocError>
     ensures { IfOk result (λ m. model_view m ≡ reversed_structure (model_view model.now)) }
 {
+    // a model is sound: its loads and its sway are within their limits
     let _bodies = model.bodies();
     let loads = reversed_loads(alloc, model)?;
     model.with_loads(alloc, loads.as_slice(), reversed_sway(model.sway()))

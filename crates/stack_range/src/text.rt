@@ -10,9 +10,8 @@ ghost use Rattle.stack_range.specs.RangeText.{end_factor, range_end_text, range_
 ghost use Rattle.stack_range.specs.RangeText.{IsPrintable, AreEnds, CanPrintRange};
 
 use crate::types::{End, Range, Side};
-use stack_certificate::types::{Certificate, Forces};
-use stack_certificate::write_certificate;
-use stack_report::ratio::{Ratio, lowest_terms};
+use stack_certificate::{Certificate, Forces, write_certificate};
+use stack_report::{Ratio, lowest_terms};
 use stack_whole::Whole;
 use std::alloc::{AllocError, Global};
 use std::fmt::Write;

@@ -3,7 +3,7 @@
 ghost use Rattle.std.specs.Prelude.{◌≡◌};
 ghost use Rattle.stack_range.specs.declared.types.RangeError.TheVariants as range_error;
 
-use stack_certificate::types::{Forces, Motion};
+use stack_certificate::{Forces, Motion};
 use stack_judge::JudgePlace;
 use std::alloc::AllocError;
 

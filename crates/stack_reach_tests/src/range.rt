@@ -4,9 +4,8 @@
 use crate::drawings::{
     GROUND, LOW_GROUND, POST, PRESSURE, PUSH, PUSHED, STANDING, STONE, SWAY, surveyed,
 };
-use stack_contact::types::Survey;
-use stack_range::types::{Range, RangeError, Side};
-use stack_range::{other_side, range, write_range};
+use stack_contact::Survey;
+use stack_range::{Range, RangeError, Side, other_side, range, write_range};
 use std::alloc::Global;
 use std::test::*;
 

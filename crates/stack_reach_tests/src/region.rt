@@ -5,9 +5,11 @@ ghost use Rattle.stack_yield.specs.Kept.{region_view};
 ghost use Rattle.stack_yield.specs.RegionText.{CanPrintRegion};
 
 use crate::drawings::{GROUND, LOW_GROUND, POST, PRESSURE, PUSH, STONE, SWAY, surveyed};
-use stack_contact::types::Survey;
-use stack_yield::types::{Region, RegionError};
-use stack_yield::{DirectionsError, NoPair, directed, pair, read_directions, region, write_region};
+use stack_contact::Survey;
+use stack_yield::{
+    DirectionsError, NoPair, Region, RegionError, directed, pair, read_directions, region,
+    write_region,
+};
 use std::alloc::Global;
 use std::test::*;
 

@@ -1,11 +1,9 @@
 //! The contacts of a wall in stack bond, and the forces of a post that tips.
 
 use crate::drawings::{FOUR, PUSHED, STANDING, surveyed};
-use stack_certificate::read_certificate;
-use stack_certificate::types::Certificate;
-use stack_checker::check;
-use stack_checker::types::Check;
-use stack_contact::types::Survey;
+use stack_certificate::{Certificate, read_certificate};
+use stack_checker::{Check, check};
+use stack_contact::Survey;
 use stack_report::{ReportError, contact_table, force_table, sample_summary};
 use std::alloc::Global;
 use std::test::*;

@@ -1,9 +1,8 @@
 //! Four blocks, two beside one another and two on them: orders of building, and their stages by hand.
 
 use crate::drawings::{FOUR, surveyed};
-use stack_contact::types::Survey;
-use stack_stages::types::StagesError;
-use stack_stages::{OrderError, read_order, stage_of, stages, write_stages};
+use stack_contact::Survey;
+use stack_stages::{OrderError, StagesError, read_order, stage_of, stages, write_stages};
 use std::alloc::Global;
 use std::test::*;
 

@@ -6,7 +6,7 @@ ghost use Rattle.stack_report.specs.ContactTable.{bearing_line, touch_line, line
 ghost use Rattle.stack_report.specs.ContactTable.{bearings_part, touches_part, contacts_text};
 
 use crate::lines::{BearingLine, TouchLine, name};
-use stack_contact::types::{Bearing, Survey, Touch};
+use stack_contact::{Bearing, Survey, Touch};
 use stack_model::Model;
 use std::alloc::{AllocError, Global};
 use std::fmt::Write;

@@ -11,11 +11,12 @@ mod errors;
 mod force_lines;
 mod forces;
 mod lines;
-pub mod ratio;
+mod ratio;
 mod summary;
 
 pub use contacts::contact_table;
 pub use errors::ReportError;
 pub use forces::force_table;
 pub use lines::number;
+pub use ratio::{Ratio, lowest_terms};
 pub use summary::sample_summary;

@@ -5,7 +5,7 @@ ghost use Rattle.stack_model.specs.ModelView.{model_view};
 ghost use Rattle.stack_report.specs.ContactTable.{name_of, pair_text, directions_text, point_and_directions};
 ghost use Rattle.stack_report.specs.ContactTable.{bearing_text, touch_text};
 
-use stack_contact::types::{Bearing, Touch};
+use stack_contact::{Bearing, Touch};
 use stack_frame::{Cone, Frame};
 use stack_model::Model;
 use stack_polygon::Point;

@@ -10,9 +10,9 @@ ghost use Rattle.stack_report.specs.Summary.{summary_text};
 ghost use Rattle.stack_report.specs.Tabling.{IsWhole};
 
 use crate::forces::with_factor;
-use stack_certificate::types::Certificate;
-use stack_checker::types::Check;
-use stack_contact::types::Survey;
+use stack_certificate::Certificate;
+use stack_checker::Check;
+use stack_contact::Survey;
 use std::alloc::{AllocError, Global};
 use std::fmt::Write;
 

@@ -6,8 +6,8 @@ ghost use Rattle.stack_table.specs.Table.{plain};
 ghost use Rattle.stack_bland.specs.Choice.{entering};
 ghost use Rattle.stack_inverse.specs.Seen.{shape_of_revised, table_of_revised};
 
-use stack_inverse::revised_table::RevisedTable;
-use stack_rows::whole::RowNumber;
+use stack_inverse::RevisedTable;
+use stack_rows::RowNumber;
 
 /// The least column below `among` with a negative objective cell, number by number.
 ///

@@ -5,8 +5,8 @@ ghost use Rattle.stack_rows.specs.RowForm.{number_at};
 ghost use Rattle.stack_inverse.specs.Seen.{shape_of_revised, number_in};
 ghost use Rattle.stack_tableau.specs.declared.end_kind.EndKind.TheVariants as end_kind;
 
-use stack_inverse::revised_table::RevisedTable;
-use stack_rows::whole::RowNumber;
+use stack_inverse::RevisedTable;
+use stack_rows::RowNumber;
 use stack_tableau::EndKind;
 
 /// How a run ends, and its last table.

@@ -15,11 +15,11 @@
 #![tactic(auto)]
 
 mod choices;
-pub mod ended;
-pub mod last;
+mod ended;
+mod last;
 mod reading;
 mod running;
-pub mod stops;
+mod stops;
 mod tableau;
 
 pub use ended::RevisedEnd;

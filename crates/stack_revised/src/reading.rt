@@ -6,8 +6,7 @@ ghost use Rattle.stack_revised.specs.Ended.{shape_of_last, flips_of_last, reads_
 
 use crate::last::Last;
 use stack_rational::Frac;
-use stack_rows::cells::cell;
-use stack_rows::whole::RowNumber;
+use stack_rows::{RowNumber, cell};
 use stack_tableau::LastTable;
 
 impl<T: RowNumber> LastTable for Last<T> {

@@ -19,13 +19,10 @@ use crate::ended::RevisedEnd;
 use crate::last::Last;
 use crate::stops::RevisedStop;
 use crate::tableau::Revised;
-use stack_inverse::revised_table::RevisedTable;
-use stack_inverse::stops::NoTable;
-use stack_rows::narrow::Narrow;
-use stack_rows::whole::RowNumber;
-use stack_rows::wide::Broad;
+use stack_inverse::{NoTable, RevisedTable};
+use stack_rows::{Broad, Narrow, RowNumber};
 use stack_run::wider_run_law;
-use stack_table::problem::Problem;
+use stack_table::Problem;
 use stack_tableau::{EndKind, RunStop, run_table};
 use std::alloc::Global;
 

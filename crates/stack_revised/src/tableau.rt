@@ -5,9 +5,9 @@ ghost use Rattle.stack_algebra.proofs.Over.{over};
 ghost use Rattle.stack_inverse.specs.Seen.{shape_of_revised, table_of_revised, IsEntered};
 
 use crate::choices::entering;
-use stack_inverse::revised_table::RevisedTable;
+use stack_inverse::RevisedTable;
 use stack_rational::OpWide;
-use stack_rows::whole::RowNumber;
+use stack_rows::RowNumber;
 use stack_tableau::{Tableau, TurnRefusal};
 use std::alloc::AllocError;
 use std::cmp::Ordering;
@@ -109,10 +109,8 @@ impl<T: RowNumber> Tableau for Revised<T> {
     fn pivot_at(&mut self, row: usize, column: usize) -> Result<(), TurnRefusal> {
         match self.table.pivot(row, column) {
             Ok(()) => Ok(()),
-            Err(stack_inverse::stops::PivotRefusal::TooWide(spot)) => Err(TurnRefusal::TooWide(
-                spot,
-            )),
-            Err(stack_inverse::stops::PivotRefusal::Unsettled) => Err(TurnRefusal::Unsettled),
+            Err(stack_inverse::PivotRefusal::TooWide(spot)) => Err(TurnRefusal::TooWide(spot)),
+            Err(stack_inverse::PivotRefusal::Unsettled) => Err(TurnRefusal::Unsettled),
         }
     }
 

@@ -79,6 +79,7 @@ pub fn step_under<T: RowNumber>(under: T, factors: Factors<T>, own: T, pivot: T)
     ensures { IfSome result (λ r. StepFits T.MAX (T.value under) (T.value factors.times) (T.value factors.less)
         (unsigned_abs (T.value own)) (unsigned_abs (T.value pivot)) (T.value r)) }
 {
+    // gives up where a size after the step is too wide
     let _most = most_of(factors, own, pivot)?;
     let over = under.times(factors.times)?;
     Some(over)

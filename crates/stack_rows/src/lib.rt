@@ -9,13 +9,20 @@
 //! ```
 #![tactic(auto)]
 
-pub mod cells;
-pub mod factors;
-pub mod narrow;
+mod cells;
+mod factors;
+mod narrow;
 mod narrowing;
 mod products;
-pub mod row;
-pub mod whole;
-pub mod wide;
+mod row;
+mod whole;
+mod wide;
 mod widening;
 mod words;
+
+pub use cells::cell;
+pub use factors::{Factors, factors_of, is_short, step_under, top_after};
+pub use narrow::Narrow;
+pub use row::{find_jumps, reduce_row, settle};
+pub use whole::{Divider, RowNumber};
+pub use wide::Broad;

@@ -53,12 +53,22 @@ pub trait RowNumber: Copy {
     /// A number at least as great in size as either.
     fn wider(self, other: Self) -> Self
         ensures own { unsigned_abs (value self) ≤ unsigned_abs (value result) }
-        ensures other { unsigned_abs (value other) ≤ unsigned_abs (value result) };
+        ensures other { unsigned_abs (value other) ≤ unsigned_abs (value result) }
+    {
+        if self.wide().unsigned_abs() < other.wide().unsigned_abs() {
+            other
+        } else {
+            self
+        }
+    }
 
     /// The bits of a size and of its own together, which are no less than either.
     fn joined(self, size: u128) -> u128
         ensures own { unsigned_abs (value self) ≤ result }
-        ensures other { size ≤ result };
+        ensures other { size ≤ result }
+    {
+        size | self.wide().unsigned_abs()
+    }
 
     /// The number of this size that isn't negative.
     fn of_size(size: u128) -> Option<Self>

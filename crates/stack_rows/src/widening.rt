@@ -169,18 +169,6 @@ impl RowNumber for Broad {
         Some(number)
     }
 
-    fn wider(self, other: Self) -> Self {
-        if self.number.unsigned_abs() < other.number.unsigned_abs() {
-            other
-        } else {
-            self
-        }
-    }
-
-    fn joined(self, size: u128) -> u128 {
-        size | self.number.unsigned_abs()
-    }
-
     fn of_size(size: u128) -> Option<Self> {
         if 170141183460469231731687303715884105727 < size {
             return None;

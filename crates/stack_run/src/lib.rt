@@ -17,9 +17,9 @@
 mod circle_laws;
 mod end_laws;
 mod laws;
-pub mod pivots;
-pub mod place;
-pub mod stops;
+mod pivots;
+mod place;
+mod stops;
 
 pub use circle_laws::{budget_law, circles_law};
 pub use end_laws::{leaving_law, run_laws};

@@ -1,6 +1,6 @@
 //! Where a run is too wide.
 
-use stack_table::types::Step;
+use stack_table::Step;
 
 /// The first operation that is too wide: in which phase, in which pivot of the run, counted from 1, and where.
 #[derive(Clone, Copy, Debug, PartialEq, Eq, Drop)]

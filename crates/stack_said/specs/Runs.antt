@@ -1,5 +1,5 @@
--- All that one run promises, of the status with which it ends, the form that its words have, if any, and what is seen of
--- its shelf, its output and its error stream.
+-- All that one run promises, of the status with which it ends, the form that its words have, if any, and what is seen
+-- of its shelf, its output and its error stream.
 use Rattle.std.specs.Prelude.{◌≡◌, ℕ, ◌≤◌, Option}
 use Rattle.stack_outside.specs.Seen.{ShelfSeen, StreamSeen}
 use Rattle.stack_lines.specs.Forms.{Form}

@@ -3,8 +3,7 @@
 use crate::problems::problem;
 use stack_bland::{RatioWide, entering, leaving};
 use stack_rational::{Exact, Frac};
-use stack_table::Table;
-use stack_table::problem::{BuildError, Problem};
+use stack_table::{BuildError, Problem, Table};
 use std::alloc::Global;
 use std::test::Fail;
 

@@ -2,8 +2,8 @@
 
 use crate::drawings::{GROUND, POST, PUSHED, STONE, surveyed};
 use crate::problems::ended;
-use stack_certificate::types::Forces;
-use stack_equilibrium::types::Question;
+use stack_certificate::Forces;
+use stack_equilibrium::Question;
 use stack_extract::{forces_of, motion_of, ray_of};
 use stack_rational::Frac;
 use stack_simplex::Ended;

@@ -2,8 +2,8 @@
 
 use crate::drawings::{PUSHED, surveyed};
 use crate::problems::ended;
-use stack_certificate::types::Certificate;
-use stack_equilibrium::types::Question;
+use stack_certificate::Certificate;
+use stack_equilibrium::Question;
 use stack_judge::{JudgeError, judge, judge_marked};
 use stack_rational::Frac;
 use std::test::*;

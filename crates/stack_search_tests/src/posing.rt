@@ -1,9 +1,9 @@
 //! The problem of a post that is pushed at its head, worked by hand.
 
 use crate::drawings::{PUSHED, surveyed};
-use stack_equilibrium::types::Question;
+use stack_equilibrium::Question;
 use stack_posing::pose;
-use stack_table::problem::Column;
+use stack_table::Column;
 use std::alloc::Global;
 use std::test::*;
 

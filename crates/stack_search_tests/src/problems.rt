@@ -3,13 +3,12 @@
 ghost use Rattle.std.specs.Prelude.{◌≢◌, IfOk};
 ghost use Rattle.stack_extract.specs.Ends.{IsEndOfSurvey};
 
-use stack_contact::types::Survey;
-use stack_equilibrium::types::Question;
+use stack_contact::Survey;
+use stack_equilibrium::Question;
 use stack_posing::pose;
 use stack_rational::Exact;
 use stack_simplex::{Ended, run};
-use stack_table::Table;
-use stack_table::problem::{Column, Entry, Problem};
+use stack_table::{Column, Entry, Problem, Table};
 use std::alloc::{AllocError, Global};
 use std::test::Fail;
 

@@ -1,11 +1,9 @@
 //! Runs worked by hand.
 
 use crate::problems::problem;
-use stack_revised::ended::RevisedEnd;
-use stack_revised::{RevisedStop, run_revised};
+use stack_revised::{RevisedEnd, RevisedStop, run_revised};
 use stack_run::RunPlace;
-use stack_table::problem::Problem;
-use stack_table::types::Step;
+use stack_table::{Problem, Step};
 use stack_tableau::EndKind;
 use std::alloc::Global;
 use std::test::Fail;

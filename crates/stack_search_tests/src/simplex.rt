@@ -3,9 +3,7 @@
 use crate::problems::problem;
 use stack_rational::{Exact, Frac};
 use stack_simplex::{Ended, RunError, RunPlace, enough, run};
-use stack_table::Table;
-use stack_table::problem::Problem;
-use stack_table::types::Step;
+use stack_table::{Problem, Step, Table};
 use std::alloc::Global;
 use std::test::Fail;
 

@@ -2,9 +2,7 @@
 
 use crate::problems::problem;
 use stack_rational::{Exact, Frac};
-use stack_table::Table;
-use stack_table::problem::{BuildError, Problem};
-use stack_table::types::{PivotWide, Step};
+use stack_table::{BuildError, PivotWide, Problem, Step, Table};
 use std::alloc::Global;
 use std::test::Fail;
 

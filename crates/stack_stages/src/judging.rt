@@ -14,9 +14,9 @@ ghost use Rattle.stack_stages.specs.StagesText.{CanPrintStages};
 
 use crate::stage::stage_of;
 use crate::types::{Outcome, Stages, StagesError};
-use stack_certificate::types::Certificate;
-use stack_contact::types::Survey;
-use stack_equilibrium::types::Question;
+use stack_certificate::Certificate;
+use stack_contact::Survey;
+use stack_equilibrium::Question;
 use stack_judge::{JudgeError, judge};
 use std::alloc::Global;
 
@@ -85,6 +85,7 @@ pub fn stages(
     ensures settled { IfOk result (λ r. AreSettled s.now order.now (stages_view r)) }
     ensures printable { IfOk result (λ r. CanPrintStages (stages_view r)) }
 {
+    // all bearings are those of a model, which is sound
     let _known = s.bearings();
     let _sound = s.model().bodies();
     let mut before = Vec::new(alloc);

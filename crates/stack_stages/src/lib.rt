@@ -16,7 +16,7 @@ mod lines;
 mod reading;
 mod stage;
 mod text;
-pub mod types;
+mod types;
 
 pub use errors::OrderError;
 pub use judging::stages;
@@ -24,3 +24,4 @@ pub use laws::stages_laws;
 pub use reading::read_order;
 pub use stage::stage_of;
 pub use text::write_stages;
+pub use types::{Outcome, Stages, StagesError};

@@ -5,7 +5,7 @@ ghost use Rattle.stack_model.specs.ModelView.{model_view};
 ghost use Rattle.stack_model.specs.Keeping.{AreFlags};
 ghost use Rattle.stack_stages.specs.Stage.{is_fixed_or_among as is_fixed_or_among_of, surveyed_stage};
 
-use stack_contact::types::Survey;
+use stack_contact::Survey;
 use stack_model::Model;
 use stack_part::survey_part;
 use std::alloc::{AllocError, Global};

@@ -8,8 +8,7 @@ ghost use Rattle.stack_stages.specs.StagesText.{stands_line, stand_lines as line
 ghost use Rattle.stack_stages.specs.StagesText.{CanPrintStages, falls_text as text_of_falling};
 
 use crate::types::Stages;
-use stack_certificate::types::{Certificate, Forces, Motion};
-use stack_certificate::write_certificate;
+use stack_certificate::{Certificate, Forces, Motion, write_certificate};
 use std::alloc::{AllocError, Global};
 use std::fmt::Write;
 

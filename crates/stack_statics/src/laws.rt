@@ -26,8 +26,8 @@ pub fn certificate_laws()
     ensures all { UnboundedCarriesAll }
 {}
 
-/// A share of the live loads is taken as dead: where it stands, its factor is carried, and where it collapses, it isn't.
-/// What is carried has no gaps, so nothing above such a share is carried. After Livesley (1978).
+/// A share of the live loads is taken as dead: where it stands, its factor is carried, and where it collapses, it
+/// isn't. What is carried has no gaps, so nothing above such a share is carried. After Livesley (1978).
 pub fn share_law()
     ensures carried { StandingShareIsCarried }
     ensures beyond { FallingShareIsNotCarried }

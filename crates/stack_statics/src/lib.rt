@@ -9,6 +9,7 @@
 #![tactic(auto)]
 
 mod laws;
-pub mod wrench;
+mod wrench;
 
 pub use laws::{centroid_law, certificate_laws, share_law, sway_laws, virtual_work, weight_law};
+pub use wrench::Wrench;

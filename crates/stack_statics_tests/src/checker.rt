@@ -2,9 +2,8 @@
 
 use crate::drawings::{GROUND, POST, PUSH, STONE, surveyed};
 use stack_certificate::read_certificate;
-use stack_checker::check;
-use stack_checker::types::{Check, CheckAt, CheckPlace, Part, Reason};
-use stack_equilibrium::types::Axis;
+use stack_checker::{Check, CheckAt, CheckPlace, Part, Reason, check};
+use stack_equilibrium::Axis;
 use std::alloc::Global;
 use std::test::Fail;
 

@@ -1,7 +1,6 @@
 //! Structures of one stone, as the pieces of their model files.
 
-use stack_contact::survey;
-use stack_contact::types::Survey;
+use stack_contact::{Survey, survey};
 use stack_reader::read_model;
 use std::alloc::Global;
 use std::test::Fail;

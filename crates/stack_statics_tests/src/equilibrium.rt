@@ -1,10 +1,9 @@
 //! Small structures worked by hand: their loads, sums, openings, powers and columns.
 
 use crate::drawings::{GROUND, POST, PUSH, STONE, surveyed};
-use stack_certificate::types::{Forces, Motion};
-use stack_contact::types::Survey;
-use stack_equilibrium::types::{Question, SumWide, Wrench};
-use stack_equilibrium::{column, dead, live, opening, power, residue};
+use stack_certificate::{Forces, Motion};
+use stack_contact::Survey;
+use stack_equilibrium::{Question, SumWide, Wrench, column, dead, live, opening, power, residue};
 use std::alloc::Global;
 use std::test::*;
 

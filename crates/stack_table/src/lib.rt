@@ -12,11 +12,13 @@
 mod building;
 mod objective;
 mod pivoting;
-pub mod problem;
+mod problem;
 mod rows;
 mod sound;
-pub mod table;
-pub mod types;
+mod table;
+mod types;
 
 pub use objective::row_with;
+pub use problem::{BuildError, Column, Entry, Problem};
 pub use table::Table;
+pub use types::{PivotWide, Step};

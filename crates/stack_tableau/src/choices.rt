@@ -14,7 +14,7 @@ ghost use Rattle.stack_tableau.specs.Tells.{TellsRow, TellsChoice, IsReady};
 
 use crate::stops::TurnRefusal;
 use crate::tableau::Tableau;
-use stack_table::types::{PivotWide, Step};
+use stack_table::{PivotWide, Step};
 use std::cmp::Ordering;
 
 /// A row that may leave, and its ratio.

@@ -11,16 +11,17 @@
 //! ```
 #![tactic(auto)]
 
-pub mod choices;
+mod choices;
 mod end_kind;
 mod ended;
 mod last_table;
-pub mod phases;
+mod phases;
 mod plain;
-pub mod stops;
-pub mod tableau;
-pub mod turn;
+mod stops;
+mod tableau;
+mod turn;
 
+pub use choices::{Chosen, LeavingRow};
 pub use end_kind::EndKind;
 pub use ended::Ended;
 pub use last_table::LastTable;

@@ -1,7 +1,7 @@
 //! Why a choice or a pivot isn't made, and why a run has no end.
 
 use stack_run::RunPlace;
-use stack_table::types::PivotWide;
+use stack_table::PivotWide;
 
 /// Why a choice or a pivot isn't made.
 #[derive(Clone, Copy, Drop)]

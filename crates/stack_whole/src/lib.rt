@@ -10,8 +10,9 @@
 #![tactic(auto)]
 
 mod laws;
-pub mod limits;
+mod limits;
 mod whole;
 
 pub use laws::fitting_law;
+pub use limits::{MOST_BEARINGS, MOST_FREE};
 pub use whole::{Whole, Wide};

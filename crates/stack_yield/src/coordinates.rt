@@ -7,7 +7,7 @@ ghost use Rattle.stack_whole.specs.Whole.{IsFitting};
 ghost use Rattle.stack_certificate.specs.Certificate.{forces_view};
 ghost use Rattle.stack_yield.specs.Coordinates.{fitting_terms, point_made};
 
-use stack_certificate::types::Forces;
+use stack_certificate::Forces;
 use stack_rational::{Exact, Frac, over, whole};
 use stack_whole::Whole;
 

@@ -7,8 +7,7 @@ ghost use Rattle.stack_pairs.specs.Directed.{times_load, directed_load, directed
 ghost use Rattle.stack_pairs.specs.Directed.{ArePair, AreFactors};
 ghost use Rattle.stack_yield.specs.Directing.{IsSlightForce, IsLimitedFactor, load_or_none};
 
-use stack_contact::survey_again;
-use stack_contact::types::Survey;
+use stack_contact::{Survey, survey_again};
 use stack_model::{Load, Model};
 use std::alloc::{AllocError, Global};
 
@@ -78,6 +77,7 @@ pub fn survey_towards(alloc: Global, s: &Survey, t: Towards) -> Result<Survey, A
     ensures { IfOk result (λ r. r ≡ directed_survey s.now t.i t.j t.m t.n) }
 {
     let own = s.model();
+    // a model is sound: its loads are within their limits
     let _sound = own.bodies();
     let loads = directed_loads(alloc, own, t)?;
     let model = own.with_loads(alloc, loads.as_slice(), (0, 0))?;

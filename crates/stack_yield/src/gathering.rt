@@ -13,7 +13,7 @@ ghost use Rattle.stack_yield.specs.RegionText.{CanPrintRegion};
 use crate::directing::{Towards, directed};
 use crate::judging::{DirectionAnswer, DirectionStop, judge_direction};
 use crate::types::{Region, RegionError};
-use stack_contact::types::Survey;
+use stack_contact::Survey;
 use stack_equilibrium::proper;
 use stack_pairs::reach_laws;
 use std::alloc::Global;

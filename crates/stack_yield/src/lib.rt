@@ -19,7 +19,7 @@ mod judging;
 mod laws;
 mod naming;
 mod text;
-pub mod types;
+mod types;
 
 pub use directing::directed;
 pub use directions::read_directions;
@@ -28,3 +28,4 @@ pub use gathering::region;
 pub use laws::directions_laws;
 pub use naming::pair;
 pub use text::write_region;
+pub use types::{Reach, Region, RegionError, RegionPlace};

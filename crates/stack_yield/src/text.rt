@@ -7,9 +7,8 @@ ghost use Rattle.stack_yield.specs.RegionText.{reach_lines, region_line, region_
 ghost use Rattle.stack_pairs.specs.Reaches.{points};
 
 use crate::types::{Reach, Region};
-use stack_certificate::types::Certificate;
-use stack_certificate::write_certificate;
-use stack_report::ratio::Ratio;
+use stack_certificate::{Certificate, write_certificate};
+use stack_report::Ratio;
 use std::alloc::{AllocError, Global};
 use std::fmt::Write;
 

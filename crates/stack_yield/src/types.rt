@@ -3,7 +3,7 @@
 ghost use Rattle.std.specs.Prelude.{◌≡◌};
 ghost use Rattle.stack_yield.specs.declared.types.RegionError.TheVariants as region_error;
 
-use stack_certificate::types::{Certificate, Motion};
+use stack_certificate::{Certificate, Motion};
 use stack_judge::JudgePlace;
 use std::alloc::{AllocError, AllocFailed};
 

@@ -14,12 +14,11 @@ ghost use Rattle.stack_lines.specs.Progress.{Does, DoesAlone, AnswersDue};
 use crate::forms::judging::wide_refusal;
 use crate::reading::read_file;
 use crate::surveying::survey_file;
-use stack_contact::types::Survey;
+use stack_contact::Survey;
 use stack_judge::JudgePlace;
 use stack_lines::{Answer, Input, Refusal, Verdict, Within};
 use stack_outside::Shelf;
-use stack_stages::types::{Stages, StagesError};
-use stack_stages::{read_order, stage_of, stages, write_stages};
+use stack_stages::{Stages, StagesError, read_order, stage_of, stages, write_stages};
 use std::alloc::Global;
 
 /// Whether all stages stand.

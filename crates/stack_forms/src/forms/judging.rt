@@ -9,10 +9,9 @@ ghost use Rattle.stack_lines.specs.Judging.{wide_within, judged, judge_work};
 ghost use Rattle.stack_lines.specs.Progress.{Does, DoesAlone, AnswersDue};
 
 use crate::surveying::survey_file;
-use stack_certificate::types::Certificate;
-use stack_certificate::write_certificate;
-use stack_contact::types::Survey;
-use stack_equilibrium::types::Question;
+use stack_certificate::{Certificate, write_certificate};
+use stack_contact::Survey;
+use stack_equilibrium::Question;
 use stack_judge::{JudgeError, JudgePlace, judge};
 use stack_lines::{Answer, Refusal, Verdict, Within, wide_place};
 use stack_outside::Shelf;

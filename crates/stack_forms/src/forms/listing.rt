@@ -5,7 +5,7 @@ ghost use Rattle.stack_lines.specs.Listing.{contacts_due, contacts_work};
 ghost use Rattle.stack_lines.specs.Progress.{Does, DoesAlone, AnswersDue};
 
 use crate::surveying::survey_file;
-use stack_contact::types::Survey;
+use stack_contact::Survey;
 use stack_lines::{Answer, Refusal, Verdict};
 use stack_outside::Shelf;
 use std::alloc::Global;

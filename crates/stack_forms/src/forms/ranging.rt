@@ -9,11 +9,10 @@ ghost use Rattle.stack_lines.specs.Progress.{Does, DoesAlone, AnswersDue};
 
 use crate::forms::judging::wide_refusal;
 use crate::surveying::survey_file;
-use stack_contact::types::Survey;
+use stack_contact::Survey;
 use stack_lines::{Answer, Refusal, Verdict, Within};
 use stack_outside::Shelf;
-use stack_range::types::{Range, RangeError, Side};
-use stack_range::{range, write_range};
+use stack_range::{Range, RangeError, Side, range, write_range};
 use std::alloc::Global;
 
 /// Whether the dead loads stand.

@@ -14,9 +14,9 @@ ghost use Rattle.stack_lines.specs.Progress.{DoesAlone, IsModel, AnswersDue};
 
 use crate::forms::judging::wide_refusal;
 use crate::surveying::survey_model;
-use stack_certificate::types::Certificate;
-use stack_contact::types::Survey;
-use stack_equilibrium::types::Question;
+use stack_certificate::Certificate;
+use stack_contact::Survey;
+use stack_equilibrium::Question;
 use stack_judge::{JudgeError, judge_marked};
 use stack_lines::{Answer, DEFAULT_BUDGET, Refusal, Verdict, Within};
 use stack_model::Model;

@@ -7,8 +7,8 @@ ghost use Rattle.stack_checker.specs.declared.types.Check.TheVariants.{Accepted}
 ghost use Rattle.stack_lines.specs.Tables.{table_due};
 ghost use Rattle.stack_lines.specs.Progress.{DoesAlone, AnswersDue};
 
-use stack_certificate::types::Certificate;
-use stack_contact::types::Survey;
+use stack_certificate::Certificate;
+use stack_contact::Survey;
 use stack_lines::{Answer, Refusal, Verdict};
 use stack_report::{ReportError, contact_table, force_table};
 use std::alloc::Global;

@@ -16,11 +16,10 @@ ghost use Rattle.stack_lines.specs.Progress.{Does, DoesAlone, AnswersDue};
 use crate::forms::judging::wide_refusal;
 use crate::reading::read_file;
 use crate::surveying::survey_file;
-use stack_contact::types::Survey;
+use stack_contact::Survey;
 use stack_lines::{Answer, Input, ReachPlace, Refusal, Verdict, Within};
 use stack_outside::Shelf;
-use stack_yield::types::{Region, RegionError, RegionPlace};
-use stack_yield::{pair, read_directions, region, write_region};
+use stack_yield::{Region, RegionError, RegionPlace, pair, read_directions, region, write_region};
 use std::alloc::Global;
 
 /// Whether the dead loads stand.

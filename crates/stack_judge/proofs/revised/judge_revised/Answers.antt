@@ -23,8 +23,8 @@ pub returns-in-Ok-AtWide-clause-judges : goal.returns-in-Ok-AtWide-clause-judges
 returns-in-Ok-AtWide-clause-judges c =
     let last = c.in-Ok-AtWide.last in
     let value = sym (ap value_of_end c.in-Ok-AtWide.field-0-is) ∙ c.in-Ok-AtWide.ensures.value in
-    end_judges c.args.q c.args.s.now c.args.budget last.kind (table_of_revised last.table) c.certify_last-in-Ok-AtWide.result
-    c.requires.live
+    end_judges c.args.q c.args.s.now c.args.budget last.kind (table_of_revised last.table)
+    c.certify_last-in-Ok-AtWide.result c.requires.live
     (ends_survey c.args.q c.args.s.now c.args.budget c.in-Ok.problem c.in-Ok.ensures.problem (value_of_last last) value)
     (c.certify_last-in-Ok-AtWide.ensures.gives c.args.q
     (last_of_revised c.args.q c.args.s.now c.args.budget c.in-Ok.problem c.in-Ok.ensures.problem

@@ -11,7 +11,8 @@ loop-j-preserved c = let h = c.loop-j.invariant in let b = h.1 in elim c.if-flag
     omega (arith, b, w.count-is),
   )
   | else-flag w ↦ (
-    kept_off (flag_at c.args.keeps.now) c.loop-j.j c.loop-j.count _ (sym c.flag.ensures ∙ w.if-flag.false) h.0 w.count-is,
+    kept_off (flag_at c.args.keeps.now) c.loop-j.j c.loop-j.count _ (sym c.flag.ensures ∙ w.if-flag.false) h.0
+        w.count-is,
     omega (arith, b, w.count-is),
   )
 ]

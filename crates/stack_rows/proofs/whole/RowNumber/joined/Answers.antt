@@ -1,17 +1,18 @@
 use Rattle.std.proofs.Common.{ap, rules, unsigned_abs, arith, SFits, to_z-of_z}
-use Rattle.std.specs.Int.{w64}
+use Rattle.std.specs.Int.{w128}
 use Rattle.std.proofs.lemmas.Nat.{le_or_l, le_or_r}
-use Rattle.stack_rows.proofs.narrowing.NarrowRowNumber.joined.Goals as goal
+use Rattle.stack_rows.proofs.whole.RowNumber.joined.Goals as goal
 
 pub returns-clause-own : goal.returns-clause-own
-returns-clause-own c =
-    let fits : SFits w64 c.args.self.number = search rules in
+returns-clause-own g c =
+    let fits : SFits w128 c.wide.result = search rules in
     omega (
       arith,
       c.unsigned_abs.ensures.value,
       ap unsigned_abs (to_z-of_z fits),
+      ap unsigned_abs c.wide.ensures,
       le_or_r c.args.size c.unsigned_abs.result,
     )
 
 pub returns-clause-other : goal.returns-clause-other
-returns-clause-other c = le_or_l c.args.size c.unsigned_abs.result
+returns-clause-other g c = le_or_l c.args.size c.unsigned_abs.result
