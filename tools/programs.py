@@ -96,6 +96,6 @@ def asked(text, way):
         try:
             subprocess.run(["esolver", *way, "-L", "-O", "answer", "problem.lp"], cwd=folder, capture_output=True)
         except OSError:
-            raise NoAnswer("esolver isn't installed: apt-get install qsopt-ex") from None
+            raise NoAnswer("esolver isn't installed: as root, apt-get update && apt-get install qsopt-ex") from None
         answer = Path(folder, "answer")
         return answer.read_text().splitlines() if answer.exists() else ["status nothing"]
