@@ -10,6 +10,7 @@ to standard error; what rt says goes to crates/stack_cli/out/build.log. The exit
 import fcntl
 import glob
 import os
+import re
 import shutil
 import subprocess
 import sys
@@ -25,17 +26,14 @@ STARTED = time.monotonic()
 MEMORY = 5_000_000_000
 # How many provers work on the crate with the most work behind it.
 PROVERS = 4
-# Another crate has a prover for each so many bytes of its functions, since several provers on one crate take more
+# Another crate has a prover for each so many seconds of its work, since several provers on one crate take more
 # processor time than one.
-PROVER_BYTES = 20_000
-# How far a crate without any work behind it stands back behind that with the most, in steps of `nice`.
-STANDS_BACK = 20
-# What any crate takes beside its functions, as bytes of sources.
-LEAST_WORK = 4_000
+PROVER_SECONDS = 60
+# How far a crate without any work behind it stands back behind that with the most, in steps of `nice`, of which there
+# are 19.
+STANDS_BACK = 40
 # What rt keeps of a crate.
 PARTS = ("incremental", "rlib")
-# A library then holds what other crates can cite of it, and not its proofs: a check above it loads the less.
-STATEMENTS = ("--statements",)
 
 
 def listed():
@@ -67,17 +65,24 @@ def below(crates, name):
     return found
 
 
-def work_of(name):
-    """The work on a crate: it goes by the bytes of its functions, and hardly by those of its lemmas."""
-    files = [f for f in glob.glob(f"{TOP}/crates/{name}/src/**/*.rt", recursive=True) if "/src/tests" not in f]
-    return LEAST_WORK + sum(map(os.path.getsize, files))
+def work_on(crates):
+    """The work on each crate, in processor seconds: that of its proofs in the table of docs/gate.md or, of a crate that
+    isn't there, by the bytes of its functions."""
+    with open(f"{TOP}/docs/gate.md") as file:
+        rows = re.findall(r"^\| (stack_\w+) \| ([\d,]+) \|", file.read(), re.MULTILINE)
+    work = {name: int(seconds.replace(",", "")) for name, seconds in rows}
+    for name in crates:
+        if name not in work:
+            files = glob.glob(f"{TOP}/crates/{name}/src/**/*.rt", recursive=True)
+            work[name] = 13 + 3.5 * sum(map(os.path.getsize, files)) / 1_000
+    return work
 
 
-def work_behind(crates):
+def work_behind(crates, work):
     """How much work begins with each crate and goes on with those that wait for it."""
     behind = {}
     for name in reversed([*crates]):
-        behind[name] = work_of(name) + max((behind[it] for it in crates if name in crates[it]), default=0)
+        behind[name] = work[name] + max((behind[it] for it in crates if name in crates[it]), default=0)
     return behind
 
 
@@ -126,12 +131,22 @@ def take(name, copy):
             shutil.move(made, here)
 
 
-def prove(crates, name, copy, back):
+def statements():
+    """The word with which a library holds what other crates can cite of it, and not its proofs: a check above it then
+    has less to load. An older kit doesn't know it."""
+    rattle = os.path.join(os.path.dirname(os.path.realpath(shutil.which("rt") or "rt")), "rattle")
+    try:
+        told = subprocess.run([rattle, "build", "--help"], stdout=subprocess.PIPE, text=True, errors="replace").stdout
+    except OSError:
+        return []
+    return ["--statements"] if "--statements" in told else []
+
+
+def prove(crates, name, copy, back, words):
     """Proves a crate in a copy and makes its library. Gives whether it is proved, and what rt said."""
     prepare(crates, name, copy)
-    jobs = min(processors(), PROVERS, work_of(name) // PROVER_BYTES + 1 if back else PROVERS)
     ran = subprocess.run(
-        ["nice", "-n", str(back), "rt", "lib", "--jobs", str(jobs), *STATEMENTS],
+        ["nice", "-n", str(back), "rt", "lib", *words],
         cwd=f"{copy}/crates/{name}",
         stdin=subprocess.DEVNULL,
         stdout=subprocess.PIPE,
@@ -139,7 +154,6 @@ def prove(crates, name, copy, back):
         errors="replace",
     )
     take(name, copy)
-    shutil.rmtree(copy, ignore_errors=True)
     return ran.returncode == 0, ran.stdout
 
 
@@ -149,9 +163,10 @@ def tell(crates, number, name):
     print(f"{minutes:4.0f} min, proving {number} of {len(crates)}: {name}", file=sys.stderr, flush=True)
 
 
-def prove_all(crates, log, room):
-    """Proves all crates but the program. Gives whether all are proved."""
-    behind, most = work_behind(crates), places()
+def prove_all(crates, log, room, sweeper):
+    """Proves all crates but the program. Gives whether all are proved. No crate waits until a copy is removed."""
+    work, most, words = work_on(crates), places(), statements()
+    behind = work_behind(crates, work)
     left = sorted((it for it in crates if it != PROGRAM), key=lambda it: -behind[it])
     done, running = set(), {}
     with ThreadPoolExecutor(most) as pool:
@@ -161,10 +176,13 @@ def prove_all(crates, log, room):
                 left.remove(name)
                 tell(crates, len(crates) - len(left) - 1, name)
                 most_behind = max(behind[it] for it in (*running.values(), *left, name))
-                back = round(STANDS_BACK * (1 - behind[name] / most_behind))
-                running[pool.submit(prove, crates, name, f"{room}/{name}", back)] = name
+                back = min(19, round(STANDS_BACK * (1 - behind[name] / most_behind)))
+                jobs = min(processors(), PROVERS, int(work[name] / PROVER_SECONDS) + 1 if back else PROVERS)
+                given = ["--jobs", str(jobs), *words]
+                running[pool.submit(prove, crates, name, f"{room}/{name}", back, given)] = name
             for ended in wait(running, return_when=FIRST_COMPLETED).done:
                 name = running.pop(ended)
+                sweeper.submit(shutil.rmtree, f"{room}/{name}", ignore_errors=True)
                 well, said = ended.result()
                 log.write(f"== {name}\n{said}")
                 if not well:
@@ -200,9 +218,9 @@ def main():
         for left in glob.glob(f"{beside}/pungiroe-*") if beside.startswith(TOP) else []:
             shutil.rmtree(left, ignore_errors=True)
         print(f"the program is proved and built first: {len(crates)} crates, {places()} at a time", file=sys.stderr)
-        print("on four idle processors that takes some twenty minutes", file=sys.stderr)
-        with tempfile.TemporaryDirectory(prefix="pungiroe-", dir=beside) as room:
-            return 0 if prove_all(crates, log, room) and make_program(crates, log) else 1
+        print("on four idle processors that takes 15 to 20 minutes", file=sys.stderr)
+        with tempfile.TemporaryDirectory(prefix="pungiroe-", dir=beside) as room, ThreadPoolExecutor(1) as sweeper:
+            return 0 if prove_all(crates, log, room, sweeper) and make_program(crates, log) else 1
 
 
 sys.exit(main())
