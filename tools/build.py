@@ -28,7 +28,7 @@ MEMORY = 5_000_000_000
 PROVERS = 4
 # Another crate has a prover for each so many seconds of its work, since several provers on one crate take more
 # processor time than one.
-PROVER_SECONDS = 60
+PROVER_SECONDS = 50
 # How far a crate without any work behind it stands back behind that with the most, in steps of `nice`, of which there
 # are 19.
 STANDS_BACK = 40
