@@ -10,7 +10,6 @@ to standard error; what rt says goes to crates/stack_cli/out/build.log. The exit
 import fcntl
 import glob
 import os
-import re
 import shutil
 import subprocess
 import sys
@@ -26,12 +25,13 @@ STARTED = time.monotonic()
 MEMORY = 5_000_000_000
 # How many provers work on the crate with the most work behind it.
 PROVERS = 4
-# Another crate has a prover for each so many seconds of its work, since several provers on one crate take more
+# Another crate has a prover for each so many bytes of its functions, since several provers on one crate take more
 # processor time than one.
-PROVER_SECONDS = 50
-# How far a crate without any work behind it stands back behind that with the most, in steps of `nice`, of which there
-# are 19.
-STANDS_BACK = 40
+PROVER_BYTES = 20_000
+# How far a crate without any work behind it stands back behind that with the most, in steps of `nice`.
+STANDS_BACK = 20
+# What any crate takes beside its functions, as bytes of sources.
+LEAST_WORK = 4_000
 # What rt keeps of a crate.
 PARTS = ("incremental", "rlib")
 
@@ -65,24 +65,17 @@ def below(crates, name):
     return found
 
 
-def work_on(crates):
-    """The work on each crate, in processor seconds: that of its proofs in the table of docs/gate.md or, of a crate that
-    isn't there, by the bytes of its functions."""
-    with open(f"{TOP}/docs/gate.md") as file:
-        rows = re.findall(r"^\| (stack_\w+) \| ([\d,]+) \|", file.read(), re.MULTILINE)
-    work = {name: int(seconds.replace(",", "")) for name, seconds in rows}
-    for name in crates:
-        if name not in work:
-            files = glob.glob(f"{TOP}/crates/{name}/src/**/*.rt", recursive=True)
-            work[name] = 13 + 3.5 * sum(map(os.path.getsize, files)) / 1_000
-    return work
+def work_of(name):
+    """The work on a crate: it goes by the bytes of its functions, and hardly by those of its lemmas."""
+    files = [f for f in glob.glob(f"{TOP}/crates/{name}/src/**/*.rt", recursive=True) if "/src/tests" not in f]
+    return LEAST_WORK + sum(map(os.path.getsize, files))
 
 
-def work_behind(crates, work):
+def work_behind(crates):
     """How much work begins with each crate and goes on with those that wait for it."""
     behind = {}
     for name in reversed([*crates]):
-        behind[name] = work[name] + max((behind[it] for it in crates if name in crates[it]), default=0)
+        behind[name] = work_of(name) + max((behind[it] for it in crates if name in crates[it]), default=0)
     return behind
 
 
@@ -145,8 +138,9 @@ def statements():
 def prove(crates, name, copy, back, words):
     """Proves a crate in a copy and makes its library. Gives whether it is proved, and what rt said."""
     prepare(crates, name, copy)
+    jobs = min(processors(), PROVERS, work_of(name) // PROVER_BYTES + 1 if back else PROVERS)
     ran = subprocess.run(
-        ["nice", "-n", str(back), "rt", "lib", *words],
+        ["nice", "-n", str(back), "rt", "lib", "--jobs", str(jobs), *words],
         cwd=f"{copy}/crates/{name}",
         stdin=subprocess.DEVNULL,
         stdout=subprocess.PIPE,
@@ -165,8 +159,7 @@ def tell(crates, number, name):
 
 def prove_all(crates, log, room, sweeper):
     """Proves all crates but the program. Gives whether all are proved. No crate waits until a copy is removed."""
-    work, most, words = work_on(crates), places(), statements()
-    behind = work_behind(crates, work)
+    behind, most, words = work_behind(crates), places(), statements()
     left = sorted((it for it in crates if it != PROGRAM), key=lambda it: -behind[it])
     done, running = set(), {}
     with ThreadPoolExecutor(most) as pool:
@@ -176,10 +169,8 @@ def prove_all(crates, log, room, sweeper):
                 left.remove(name)
                 tell(crates, len(crates) - len(left) - 1, name)
                 most_behind = max(behind[it] for it in (*running.values(), *left, name))
-                back = min(19, round(STANDS_BACK * (1 - behind[name] / most_behind)))
-                jobs = min(processors(), PROVERS, int(work[name] / PROVER_SECONDS) + 1 if back else PROVERS)
-                given = ["--jobs", str(jobs), *words]
-                running[pool.submit(prove, crates, name, f"{room}/{name}", back, given)] = name
+                back = round(STANDS_BACK * (1 - behind[name] / most_behind))
+                running[pool.submit(prove, crates, name, f"{room}/{name}", back, words)] = name
             for ended in wait(running, return_when=FIRST_COMPLETED).done:
                 name = running.pop(ended)
                 sweeper.submit(shutil.rmtree, f"{room}/{name}", ignore_errors=True)
