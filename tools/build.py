@@ -1,41 +1,41 @@
 #!/usr/bin/env python3
 """Proves and builds the program and all crates below it, several crates side by side.
 
-`pungiroe` calls it if the program is missing or older than its sources. rt holds the folders of a crate and of all
-below it while it works. So each crate is proved in a copy of the sources, over the libraries that are made already, and
-its library then goes to its place in this clone. A crate begins once all that it stands on is made. The crate with the
-most work behind it goes first; the less work a crate has behind it, the lower its priority. A line for each crate goes
-to standard error; what rt says goes to crates/stack_cli/out/build.log. The exit status is 0 if the program is built.
+`pungiroe` calls it if the program is missing or older than its sources. Each crate is proved by the prover itself, which
+rt calls too, over the libraries of the crates below it. A library holds what other crates can cite of its crate, and
+not its proofs, so that a check above it has less to load. It stands in out/library of its crate, apart from what rt
+makes, with a sum of all that it is made from: while that stays the same, it isn't made again. Where `rt check` has kept
+what it checked of a crate, in out/incremental, that is used and added to; the library then holds its proofs as well.
+
+A crate begins once all that it stands on is made. The crate with the most work behind it goes first; the less work a
+crate has behind it, the lower its priority. A line for each crate goes to standard error; what the prover says goes to
+crates/stack_cli/out/build.log. The exit status is 0 if the program is built.
 """
 import fcntl
+import functools
 import glob
+import hashlib
 import os
 import shutil
 import subprocess
 import sys
-import tempfile
 import time
 from concurrent.futures import FIRST_COMPLETED, ThreadPoolExecutor, wait
 
 TOP = os.path.dirname(os.path.dirname(os.path.realpath(__file__)))
+KIT = os.path.dirname(os.path.dirname(os.path.realpath(shutil.which("rt") or "/opt/rattle/bin/rt")))
 PROGRAM = "stack_cli"
 LOG = f"{TOP}/crates/{PROGRAM}/out/build.log"
 STARTED = time.monotonic()
 # What the proof of a crate takes at most, in bytes of memory.
-MEMORY = 5_000_000_000
-# How many provers work on the crate with the most work behind it.
-PROVERS = 4
-# Another crate has a prover for each so many bytes of its functions, since several provers on one crate take more
-# processor time than one.
-PROVER_BYTES = 20_000
-# How far a crate without any work behind it stands back behind that with the most, in steps of `nice`.
-STANDS_BACK = 20
+MEMORY = 3_500_000_000
+# How many crates more than processors are under way, so that an urgent one need not wait for a place.
+MORE = 2
 # What any crate takes beside its functions, as bytes of sources.
 LEAST_WORK = 4_000
-# What rt keeps of a crate.
-PARTS = ("incremental", "rlib")
 
 
+@functools.cache
 def listed():
     """What crates.txt says of each crate: the crates that it names, those of the toolchain too."""
     with open(f"{TOP}/crates.txt") as file:
@@ -43,39 +43,54 @@ def listed():
         return {name.strip(): others.split() for name, colon, others in lines if colon}
 
 
-def crates_below(program):
-    """The program and all crates below it, lowest first, each with those of the repository that it names."""
-    named, found = listed(), {}
-
-    def add(name):
-        if name in named and name not in found:
-            for other in named[name]:
-                add(other)
-            found[name] = [other for other in named[name] if other in named]
-
-    add(program)
-    return found
+def named_by(name):
+    """The crates of this repository that a crate names."""
+    return [other for other in listed()[name] if other in listed()]
 
 
-def below(crates, name):
-    """All crates that one stands on."""
-    found = set(crates[name])
-    for other in crates[name]:
-        found |= below(crates, other)
-    return found
+@functools.cache
+def below(name):
+    """All crates of this repository that a crate stands on, lowest first."""
+    return [*dict.fromkeys(it for other in named_by(name) for it in (*below(other), other))]
+
+
+def folder(name):
+    return f"{TOP}/crates/{name}"
+
+
+def library(name):
+    return f"{folder(name)}/out/library/{name}.rlib"
+
+
+@functools.cache
+def files_of(name):
+    """The files of which a crate is made."""
+    parts = (f"{folder(name)}/{part}/**/*.*" for part in ("src", "specs", "proofs"))
+    return sorted(file for part in parts for file in glob.glob(part, recursive=True))
+
+
+@functools.cache
+def sum_of(name):
+    """A sum of all that a crate is made from: its files, the toolchain, and what it stands on."""
+    made_from = hashlib.sha256(repr(listed()[name]).encode())
+    for file in (f"{KIT}/WHAT", *files_of(name)):
+        with open(file, "rb") as it:
+            made_from.update(repr((os.path.relpath(file, TOP), it.read())).encode())
+    for other in named_by(name):
+        made_from.update(sum_of(other).encode())
+    return made_from.hexdigest()
 
 
 def work_of(name):
     """The work on a crate: it goes by the bytes of its functions, and hardly by those of its lemmas."""
-    files = [f for f in glob.glob(f"{TOP}/crates/{name}/src/**/*.rt", recursive=True) if "/src/tests" not in f]
-    return LEAST_WORK + sum(map(os.path.getsize, files))
+    return LEAST_WORK + sum(os.path.getsize(it) for it in files_of(name) if it.endswith(".rt") and "/src/tests" not in it)
 
 
 def work_behind(crates):
     """How much work begins with each crate and goes on with those that wait for it."""
     behind = {}
-    for name in reversed([*crates]):
-        behind[name] = work_of(name) + max((behind[it] for it in crates if name in crates[it]), default=0)
+    for name in reversed(crates):
+        behind[name] = work_of(name) + max((behind[it] for it in behind if name in named_by(it)), default=0)
     return behind
 
 
@@ -84,134 +99,126 @@ def processors():
 
 
 def places():
-    """How many crates are proved side by side: one a processor, as far as there is memory."""
+    """How many crates are proved side by side, as far as there is memory."""
     with open("/proc/meminfo") as file:
         free = next(1024 * int(line.split()[1]) for line in file if line.startswith("MemAvailable:"))
-    return max(1, min(processors(), free // MEMORY))
+    return max(1, min(processors() + MORE, free // MEMORY))
 
 
-def lend(folder, copy):
-    """Gives a copy what stands in a folder, as links where that can be."""
-    if not os.path.isdir(folder):
-        return
-    try:
-        shutil.copytree(folder, copy, copy_function=os.link)
-    except OSError:
-        shutil.rmtree(copy, ignore_errors=True)
-        shutil.copytree(folder, copy)
+@functools.cache
+def knows(word):
+    """Whether the prover has this option."""
+    told = subprocess.run([f"{KIT}/bin/rattle", "build", "--help"], stdout=subprocess.PIPE, text=True, errors="replace")
+    return word in told.stdout
 
 
-def prepare(crates, name, copy):
-    """Makes a copy of a crate and of all below it, with what is kept of them."""
-    named, all_of_them = listed(), (*below(crates, name), name)
-    os.makedirs(copy)
-    shutil.copy(f"{TOP}/HANDLES", copy)
-    with open(f"{copy}/crates.txt", "w") as file:
-        file.writelines(f"{it}: {' '.join(named[it])}\n" for it in all_of_them)
-    for it in all_of_them:
-        shutil.copytree(f"{TOP}/crates/{it}", f"{copy}/crates/{it}", ignore=shutil.ignore_patterns("out"))
-        for part in PARTS if it == name else PARTS[1:]:
-            lend(f"{TOP}/crates/{it}/out/{part}", f"{copy}/crates/{it}/out/{part}")
+def words(name, jobs):
+    """The words with which the prover checks a crate, over the libraries below it."""
+    given = ["--crate-name", name, "src/main.rt" if name == PROGRAM else "src/lib.rt"]
+    for other in ("std", *(it for it in listed()[name] if it not in listed())):
+        given += ["--extern", f"{other}={KIT}/rlibs/{other}.rlib"]
+    for other in named_by(name):
+        given += ["--extern", f"{other}={library(other)}"]
+    for found_in in (f"{KIT}/rlibs", *(os.path.dirname(library(it)) for it in below(name))):
+        given += ["-L", f"dependency={found_in}"]
+    given += ["--antt-project", f"{KIT}/rattle/logic/antt-project.json", "--logic-built", f"{KIT}/logic_built"]
+    return [*given, "--jobs", str(min(processors(), jobs))]
 
 
-def take(name, copy):
-    """Takes what was made of a crate from a copy."""
-    for part in PARTS:
-        made, here = f"{copy}/crates/{name}/out/{part}", f"{TOP}/crates/{name}/out/{part}"
-        if os.path.isdir(made):
-            shutil.rmtree(here, ignore_errors=True)
-            os.makedirs(os.path.dirname(here), exist_ok=True)
-            shutil.move(made, here)
+def run(name, log, *command):
+    """Runs a command in the folder of a crate, while no rt works there. Gives whether it went well."""
+    held = os.open(folder(name), os.O_RDONLY)
+    fcntl.flock(held, fcntl.LOCK_EX)
+    how = {"stdin": subprocess.DEVNULL, "stdout": subprocess.PIPE, "stderr": subprocess.STDOUT}
+    ran = subprocess.run(command, cwd=folder(name), errors="replace", **how)
+    os.close(held)
+    log.write(f"== {name}\n{ran.stdout}")
+    log.flush()
+    return ran.returncode == 0
 
 
-def statements():
-    """The word with which a library holds what other crates can cite of it, and not its proofs: a check above it then
-    has less to load. An older kit doesn't know it."""
-    rattle = os.path.join(os.path.dirname(os.path.realpath(shutil.which("rt") or "rt")), "rattle")
-    try:
-        told = subprocess.run([rattle, "build", "--help"], stdout=subprocess.PIPE, text=True, errors="replace").stdout
-    except OSError:
-        return []
-    return ["--statements"] if "--statements" in told else []
+def is_made(name):
+    """Whether the library of a crate is there, made from what is there now."""
+    mark = f"{os.path.dirname(library(name))}/sum"
+    if not (os.path.isdir(library(name)) and os.path.isfile(mark)):
+        return False
+    with open(mark) as file:
+        return file.read() == sum_of(name)
 
 
-def prove(crates, name, copy, back, words):
-    """Proves a crate in a copy and makes its library. Gives whether it is proved, and what rt said."""
-    prepare(crates, name, copy)
-    jobs = min(processors(), PROVERS, work_of(name) // PROVER_BYTES + 1 if back else PROVERS)
-    ran = subprocess.run(
-        ["nice", "-n", str(back), "rt", "lib", "--jobs", str(jobs), *words],
-        cwd=f"{copy}/crates/{name}",
-        stdin=subprocess.DEVNULL,
-        stdout=subprocess.PIPE,
-        stderr=subprocess.STDOUT,
-        errors="replace",
-    )
-    take(name, copy)
-    return ran.returncode == 0, ran.stdout
+def prove(name, jobs, back, log):
+    """Proves a crate and makes its library. Gives whether it is proved."""
+    made = os.path.dirname(library(name))
+    shutil.rmtree(made, ignore_errors=True)
+    os.makedirs(made)
+    if os.path.isdir(f"{folder(name)}/out/incremental"):
+        kind = ["--incremental", "out/incremental"]
+    else:
+        kind = ["--statements"] if knows("--statements") else []
+    prover = ["nice", "-n", str(back), f"{KIT}/bin/rattle", "build"]
+    if not run(name, log, *prover, *words(name, jobs), *kind, "-o", library(name)):
+        return False
+    with open(f"{made}/sum", "w") as file:
+        file.write(sum_of(name))
+    return True
 
 
 def tell(crates, number, name):
     """Tells which crate is under way, and how long the whole took so far."""
     minutes = (time.monotonic() - STARTED) / 60
-    print(f"{minutes:4.0f} min, proving {number} of {len(crates)}: {name}", file=sys.stderr, flush=True)
+    print(f"{minutes:5.1f} min, proving {number} of {len(crates)}: {name}", file=sys.stderr, flush=True)
 
 
-def prove_all(crates, log, room, sweeper):
-    """Proves all crates but the program. Gives whether all are proved. No crate waits until a copy is removed."""
-    behind, most, words = work_behind(crates), places(), statements()
-    left = sorted((it for it in crates if it != PROGRAM), key=lambda it: -behind[it])
-    done, running = set(), {}
+def provers(urgency):
+    """How many provers work on a crate, by the work behind it against the most of any crate that isn't made yet.
+    Several provers on one crate take more processor time than one."""
+    return 4 if urgency >= 0.9 else 2 if urgency >= 0.75 else 1
+
+
+def prove_all(crates, log):
+    """Proves all crates but the program. Gives whether all are proved."""
+    behind, most = work_behind(crates), places()
+    done = {it for it in crates if it != PROGRAM and is_made(it)}
+    left = sorted(set(crates) - done - {PROGRAM}, key=lambda it: -behind[it])
+    running = {}
     with ThreadPoolExecutor(most) as pool:
         while left or running:
-            ready = [it for it in left if done.issuperset(crates[it])][: most - len(running)]
+            ready = [it for it in left if done.issuperset(named_by(it))][: most - len(running)]
             for name in ready:
+                most_behind = max(behind[it] for it in (*running.values(), *left))
                 left.remove(name)
                 tell(crates, len(crates) - len(left) - 1, name)
-                most_behind = max(behind[it] for it in (*running.values(), *left, name))
-                back = round(STANDS_BACK * (1 - behind[name] / most_behind))
-                running[pool.submit(prove, crates, name, f"{room}/{name}", back, words)] = name
+                back = min(19, round(20 * (1 - behind[name] / max(behind.values()))))
+                running[pool.submit(prove, name, provers(behind[name] / most_behind), back, log)] = name
             for ended in wait(running, return_when=FIRST_COMPLETED).done:
-                name = running.pop(ended)
-                sweeper.submit(shutil.rmtree, f"{room}/{name}", ignore_errors=True)
-                well, said = ended.result()
-                log.write(f"== {name}\n{said}")
-                if not well:
+                done.add(running.pop(ended))
+                if not ended.result():
                     return False
-                done.add(name)
     return True
 
 
 def make_program(crates, log):
-    """Proves and builds the program, and runs it once with no words, which it answers with the status 2."""
+    """Proves and builds the program."""
     tell(crates, len(crates), PROGRAM)
-    ran = subprocess.run(
-        ["rt", "run", "--jobs", str(min(processors(), PROVERS))],
-        cwd=f"{TOP}/crates/{PROGRAM}",
-        stdin=subprocess.DEVNULL,
-        stdout=subprocess.PIPE,
-        stderr=subprocess.STDOUT,
-        errors="replace",
-    )
-    log.write(f"== {PROGRAM}\n{ran.stdout}")
-    return "words" in ran.stdout.splitlines()[-3:]
+    made, toolchain = f"out/{PROGRAM}.o", ["--toolchain", f"{KIT}/toolchain"]
+    backend = ["--backend", "llvm"] if knows("--backend") else []
+    kept = ["--incremental", "out/incremental"] if os.path.isdir(f"{folder(PROGRAM)}/out/incremental") else []
+    build = [f"{KIT}/bin/rattle", "build", *words(PROGRAM, 4), *toolchain, *backend, *kept, "-o", made]
+    link = [f"{KIT}/bin/rattle-link", "--target", "x86_64-unknown-linux-gnu", *toolchain, "-o", f"out/{PROGRAM}", made]
+    c_code = (f"{KIT}/c/libos_c.a", f"{KIT}/c/liblibc_c.a")
+    return run(PROGRAM, log, *build) and run(PROGRAM, log, *link, *c_code)
 
 
 def main():
-    crates = crates_below(PROGRAM)
+    crates = [*below(PROGRAM), PROGRAM]
     os.makedirs(os.path.dirname(LOG), exist_ok=True)
-    # Copies stand beside the clone's own files, so that libraries can be lent as links.
-    beside = f"{TOP}/.git" if os.path.isdir(f"{TOP}/.git") else tempfile.gettempdir()
     with open(LOG, "a") as log:
         # A second build in this clone waits for the first.
         fcntl.flock(log, fcntl.LOCK_EX)
         log.truncate(0)
-        for left in glob.glob(f"{beside}/pungiroe-*") if beside.startswith(TOP) else []:
-            shutil.rmtree(left, ignore_errors=True)
         print(f"the program is proved and built first: {len(crates)} crates, {places()} at a time", file=sys.stderr)
-        print("on four idle processors that takes 15 to 20 minutes", file=sys.stderr)
-        with tempfile.TemporaryDirectory(prefix="pungiroe-", dir=beside) as room, ThreadPoolExecutor(1) as sweeper:
-            return 0 if prove_all(crates, log, room, sweeper) and make_program(crates, log) else 1
+        print("on four idle processors that takes some 12 minutes", file=sys.stderr)
+        return 0 if prove_all(crates, log) and make_program(crates, log) else 1
 
 
 sys.exit(main())

@@ -7,10 +7,10 @@ use Rattle.std.specs.Str.{bytes_eq}
 use Rattle.std.specs.declared.alloc.Global.{Global}
 use Rattle.stack_equilibrium.specs.declared.types.Question.{Question}
 use Rattle.stack_equilibrium.specs.declared.types.Question.TheVariants.{Dead, Live}
-use Rattle.stack_lines.specs.Forms.{Form, check, contacts, judges, tables, stack, sample, ranges, builds, yields}
-use Rattle.stack_lines.specs.Judging.{default_budget}
-use Rattle.stack_lines.specs.declared.form.Kind.{Kind}
-use Rattle.stack_lines.specs.declared.form.Kind.TheVariants.{Harmonic, Triangle, Slab}
+use Rattle.stack_work.specs.Forms.{Form, check, contacts, judges, tables, stack, sample, ranges, builds, yields}
+use Rattle.stack_work.specs.Judging.{default_budget}
+use Rattle.stack_work.specs.declared.form.Kind.{Kind}
+use Rattle.stack_work.specs.declared.form.Kind.TheVariants.{Harmonic, Triangle, Slab}
 use Rattle.stack_cli.specs.declared.given.Given.{Given as CodeGiven}
 use Rattle.stack_cli.specs.declared.given.Given.TheVariants as given
 

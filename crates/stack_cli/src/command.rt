@@ -5,7 +5,7 @@ ghost use Rattle.std.specs.Option.{option_map};
 ghost use Rattle.stack_outside.specs.Faults.{counted};
 ghost use Rattle.stack_outside.specs.Seen.{seen_shelf, seen_stream};
 ghost use Rattle.stack_lines.specs.Refusals.{refusal_view, refusal_line};
-ghost use Rattle.stack_lines.specs.Progress.{Works};
+ghost use Rattle.stack_work.specs.Progress.{Works};
 ghost use Rattle.stack_cli.specs.Words.{form_of, texts};
 ghost use Rattle.stack_said.specs.Delivery.{with_line_feed, TakesMemory, Delivers, SaysLine};
 ghost use Rattle.stack_said.specs.OnePut.{PutsAnswer, PutsLine};

@@ -9,7 +9,7 @@ ghost use Rattle.stack_cli.specs.Words.{form_of_two as form_of_two_words, form_o
 ghost use Rattle.stack_cli.specs.Words.{form_of_four as form_of_four_words, ranging as ranging_of};
 ghost use Rattle.stack_cli.specs.Words.{staging as staging_of, yielding as yielding_of};
 ghost use Rattle.stack_cli.specs.Words.{form_of_five as form_of_five_words, form_of_six as form_of_six_words};
-ghost use Rattle.stack_lines.specs.Forms.{form_view, HasBudget};
+ghost use Rattle.stack_work.specs.Forms.{form_view, HasBudget};
 
 use itoa::Buffer;
 use stack_equilibrium::Question;

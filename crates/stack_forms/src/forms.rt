@@ -1,8 +1,8 @@
 //! The forms of words, and the work on each: a module for each form or family of forms.
 
 ghost use Rattle.stack_outside.specs.Seen.{seen_shelf};
-ghost use Rattle.stack_lines.specs.Forms.{form_view, HasBudget, work_of};
-ghost use Rattle.stack_lines.specs.Progress.{Does, AnswersDue};
+ghost use Rattle.stack_work.specs.Forms.{form_view, HasBudget, work_of};
+ghost use Rattle.stack_work.specs.Progress.{Does, AnswersDue};
 
 pub mod building;
 pub mod checking;
@@ -20,7 +20,8 @@ use judging::judge_form;
 use listing::contacts_form;
 use ranging::range_form;
 use sampling::sample_form;
-use stack_lines::{Answer, Asked, Form, Refusal};
+use stack_lines::{Answer, Refusal};
+use stack_work::{Asked, Form};
 use stack_outside::Shelf;
 use stacking::stack_form;
 use std::alloc::Global;

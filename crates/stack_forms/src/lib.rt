@@ -11,4 +11,4 @@ mod reading;
 mod surveying;
 
 pub use forms::answer_form;
-pub use stack_lines::{DEFAULT_BUDGET, Form, Kind};
+pub use stack_work::{DEFAULT_BUDGET, Form, Kind};

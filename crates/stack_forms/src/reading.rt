@@ -2,8 +2,8 @@
 
 ghost use Rattle.stack_outside.specs.Seen.{seen_shelf};
 ghost use Rattle.stack_reader.specs.Reading.{structure_of};
-ghost use Rattle.stack_lines.specs.Surveying.{read, model_step, modelled};
-ghost use Rattle.stack_lines.specs.Progress.{Does, DoesAlone, AreBytes, IsModel};
+ghost use Rattle.stack_work.specs.Surveying.{read, model_step, modelled};
+ghost use Rattle.stack_work.specs.Progress.{Does, DoesAlone, AreBytes, IsModel};
 
 use stack_lines::{Input, Refusal};
 use stack_model::Model;

@@ -3,9 +3,9 @@
 ghost use Rattle.std.specs.Prelude.{◌≡◌, [], map, get_or, IfOk, string_bytes};
 ghost use Rattle.stack_outside.specs.Seen.{seen_shelf};
 ghost use Rattle.stack_model.specs.ModelView.{model_view};
-ghost use Rattle.stack_lines.specs.Work.{surveys};
-ghost use Rattle.stack_lines.specs.Surveying.{structure_names, survey_step, surveyed_file};
-ghost use Rattle.stack_lines.specs.Progress.{Does, DoesAlone, IsSeenSurvey};
+ghost use Rattle.stack_work.specs.Work.{surveys};
+ghost use Rattle.stack_work.specs.Surveying.{structure_names, survey_step, surveyed_file};
+ghost use Rattle.stack_work.specs.Progress.{Does, DoesAlone, IsSeenSurvey};
 
 use crate::reading::model_file;
 use stack_contact::{Survey, SurveyError, survey};

@@ -5,10 +5,10 @@ use Rattle.stack_reader.specs.declared.errors.ReadError.{ReadError}
 use Rattle.stack_reader.specs.declared.errors.ReadError.TheVariants as reading
 use Rattle.stack_overhang.specs.declared.error.StackError.{StackError}
 use Rattle.stack_overhang.specs.declared.error.StackError.TheVariants as built
-use Rattle.stack_stages.specs.declared.errors.OrderError.{OrderError}
-use Rattle.stack_stages.specs.declared.errors.OrderError.TheVariants as orders
-use Rattle.stack_yield.specs.declared.errors.DirectionsError.{DirectionsError}
-use Rattle.stack_yield.specs.declared.errors.DirectionsError.TheVariants as directions
+use Rattle.stack_orders.specs.declared.errors.OrderError.{OrderError}
+use Rattle.stack_orders.specs.declared.errors.OrderError.TheVariants as orders
+use Rattle.stack_directions.specs.declared.errors.DirectionsError.{DirectionsError}
+use Rattle.stack_directions.specs.declared.errors.DirectionsError.TheVariants as directions
 use Rattle.stack_lines.specs.Refusals.{Fault, content, size, order_line, directions_line, memory}
 
 -- Why a text is read as no model.

@@ -1,7 +1,7 @@
 //! The answers, as text.
 
 ghost use Rattle.std.specs.Prelude.{◌≡◌, IfOk, string_bytes};
-ghost use Rattle.stack_lines.specs.Answers.{verdict_status};
+ghost use Rattle.stack_lines.specs.Verdicts.{verdict_status};
 ghost use Rattle.stack_lines.specs.CheckText.{block_name as name_of_block, rejected_text, place_of};
 ghost use Rattle.stack_lines.specs.Refusals.{place_view};
 

@@ -1,5 +1,4 @@
-//! What the program says: its statuses, the lines of its refusals, and the texts of its answers. And the forms of
-//! words, with the order of work on each: definitions and laws, of which no function is made here.
+//! What the program says: its statuses, the lines of its refusals, and the texts of its answers.
 //!
 //! ```text
 //! Verdict::Denied.status() // 1
@@ -9,10 +8,8 @@
 #![tactic(auto)]
 
 mod answer;
-mod form;
 mod model_lines;
 mod refusal;
 
 pub use answer::{Answer, Verdict, rejection, wide_place};
-pub use form::{Asked, DEFAULT_BUDGET, Form, Kind};
 pub use refusal::{Input, Place, ReachPlace, Refusal, Within};

@@ -17,9 +17,9 @@ use stack_overhang::StackError;
 use stack_reader::ReadError;
 use stack_report::number;
 use stack_run::RunPlace;
-use stack_stages::OrderError;
+use stack_orders::OrderError;
 use stack_table::Step;
-use stack_yield::{DirectionsError, NoPair};
+use stack_directions::{DirectionsError, NoPair};
 use std::alloc::AllocError;
 use std::fmt;
 

@@ -6,10 +6,8 @@ ghost use Rattle.stack_yield.specs.RegionText.{CanPrintRegion};
 
 use crate::drawings::{GROUND, LOW_GROUND, POST, PRESSURE, PUSH, STONE, SWAY, surveyed};
 use stack_contact::Survey;
-use stack_yield::{
-    DirectionsError, NoPair, Region, RegionError, directed, pair, read_directions, region,
-    write_region,
-};
+use stack_directions::{DirectionsError, NoPair, directed, pair, read_directions};
+use stack_yield::{Region, RegionError, region, write_region};
 use std::alloc::Global;
 use std::test::*;
 

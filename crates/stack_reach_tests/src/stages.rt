@@ -2,7 +2,8 @@
 
 use crate::drawings::{FOUR, surveyed};
 use stack_contact::Survey;
-use stack_stages::{OrderError, StagesError, read_order, stage_of, stages, write_stages};
+use stack_orders::{OrderError, read_order};
+use stack_stages::{StagesError, stage_of, stages, write_stages};
 use std::alloc::Global;
 use std::test::*;
 

@@ -13,18 +13,19 @@ use Rattle.stack_checker.proofs.Verdicts.{accepted_is_true, rejected_is_false}
 use Rattle.stack_lines.specs.declared.answer.Verdict.TheVariants.{Denied}
 use Rattle.stack_lines.specs.declared.refusal.Within.TheVariants.{Whole}
 use Rattle.stack_lines.specs.Refusals.{Refusal, faulty, wide_check}
-use Rattle.stack_lines.specs.Forms.{Form, check, work_of}
-use Rattle.stack_lines.specs.Answers.{Due, exactly, verdict_status}
+use Rattle.stack_work.specs.Forms.{Form, check, work_of}
+use Rattle.stack_work.specs.Answers.{Due, exactly}
+use Rattle.stack_lines.specs.Verdicts.{verdict_status}
 use Rattle.stack_lines.specs.CheckText.{rejected_text, place_of}
-use Rattle.stack_lines.specs.Work.{Holds, Ends}
-use Rattle.stack_lines.specs.Surveying.{greatest_file, surveyed_file}
-use Rattle.stack_lines.specs.Checking.{Accepting, certificate_due, checked_file, certificate_work, accepted_due}
-use Rattle.stack_lines.specs.OneEnd.{IsSettled}
+use Rattle.stack_work.specs.Work.{Holds, Ends}
+use Rattle.stack_work.specs.Surveying.{greatest_file, surveyed_file}
+use Rattle.stack_work.specs.Checking.{Accepting, certificate_due, checked_file, certificate_work, accepted_due}
+use Rattle.stack_work.specs.OneEnd.{IsSettled}
 use Rattle.stack_said.specs.MainTheorem.{IsGivenOut, RunMeets}
 use Rattle.stack_said.specs.Printed.{acceptance}
 use Rattle.stack_said.specs.Accepted.{ModelAndCertificate, IsWideCheck}
-use Rattle.stack_lines.proofs.Ways.{goes_on}
-use Rattle.stack_lines.proofs.AcceptedFiles.{all_accepted}
+use Rattle.stack_work.proofs.Ways.{goes_on}
+use Rattle.stack_work.proofs.AcceptedFiles.{all_accepted}
 use Rattle.stack_said.proofs.SettledEnds.{given_or_memory}
 
 -- the way to the check's answer, and to what is made of it

@@ -14,20 +14,20 @@ use Rattle.stack_report.specs.ForceNumbers.{wide_index}
 use Rattle.stack_lines.specs.declared.refusal.Input.TheVariants as inputs
 use Rattle.stack_lines.specs.Refusals.{Refusal, Fault, words, file, faulty, output, memory, long, certificate_line}
 use Rattle.stack_lines.specs.Refusals.{status_of}
-use Rattle.stack_lines.specs.Forms.{Form, work_of}
-use Rattle.stack_lines.specs.Answers.{Due}
-use Rattle.stack_lines.specs.Work.{Work, gives, refuses, ◌>>=◌, Holds, Ends}
-use Rattle.stack_lines.specs.Surveying.{greatest_file, read, surveyed_file}
-use Rattle.stack_lines.specs.Checking.{Accepting, certificate_step, certificate_due, checked_file, certificate_work}
-use Rattle.stack_lines.specs.Checking.{accepted_due}
-use Rattle.stack_lines.specs.Tables.{tabled_by, table_due}
-use Rattle.stack_lines.specs.AcceptedModel.{IsAcceptedModel}
-use Rattle.stack_lines.specs.OneEnd.{IsSettled}
+use Rattle.stack_work.specs.Forms.{Form, work_of}
+use Rattle.stack_work.specs.Answers.{Due}
+use Rattle.stack_work.specs.Work.{Work, gives, refuses, ◌>>=◌, Holds, Ends}
+use Rattle.stack_work.specs.Surveying.{greatest_file, read, surveyed_file}
+use Rattle.stack_work.specs.Checking.{Accepting, certificate_step, certificate_due, checked_file, certificate_work}
+use Rattle.stack_work.specs.Checking.{accepted_due}
+use Rattle.stack_work.specs.Tables.{tabled_by, table_due}
+use Rattle.stack_work.specs.AcceptedModel.{IsAcceptedModel}
+use Rattle.stack_work.specs.OneEnd.{IsSettled}
 use Rattle.stack_said.specs.MainTheorem.{Cause, RunMeets}
 use Rattle.stack_said.specs.ModelSaid.{IsRefused, CertificateSays, FormReadsCertificate}
-use Rattle.stack_lines.proofs.Ways.{goes_on}
-use Rattle.stack_lines.proofs.AcceptedFiles.{told_bytes, all_accepted}
-use Rattle.stack_lines.proofs.RefusedFrom.{CameOf, refused_from, Avoids, avoids_end}
+use Rattle.stack_work.proofs.Ways.{goes_on}
+use Rattle.stack_work.proofs.AcceptedFiles.{told_bytes, all_accepted}
+use Rattle.stack_work.proofs.RefusedFrom.{CameOf, refused_from, Avoids, avoids_end}
 use Rattle.stack_said.proofs.ModelAnswered.{Why, for_memory, for_file, for_length, for_fault, surveyed_why}
 use Rattle.stack_said.proofs.ModelAnswered.{model_status}
 use Rattle.stack_said.proofs.SettledEnds.{given_or_memory}

@@ -13,15 +13,15 @@ use Rattle.stack_checker.specs.declared.types.Check.TheVariants.{Rejected}
 use Rattle.stack_checker.specs.WrittenCheck.{written_check}
 use Rattle.stack_lines.specs.declared.refusal.Input.TheVariants as inputs
 use Rattle.stack_lines.specs.Refusals.{long}
-use Rattle.stack_lines.specs.Answers.{Due}
+use Rattle.stack_work.specs.Answers.{Due}
 use Rattle.stack_lines.specs.CheckText.{rejected_text}
-use Rattle.stack_lines.specs.Work.{gives, refuses, ◌>>=◌, Holds, Ends}
-use Rattle.stack_lines.specs.Surveying.{greatest_file, surveyed_file}
-use Rattle.stack_lines.specs.Checking.{Accepting, certificate_step, certificate_due, checked, checked_file}
-use Rattle.stack_lines.specs.Checking.{certificate_work}
-use Rattle.stack_lines.specs.AcceptedModel.{IsAcceptedModel}
-use Rattle.stack_lines.proofs.Ways.{came_from}
-use Rattle.stack_lines.proofs.AcceptedFiles.{told_bytes, only_accepted}
+use Rattle.stack_work.specs.Work.{gives, refuses, ◌>>=◌, Holds, Ends}
+use Rattle.stack_work.specs.Surveying.{greatest_file, surveyed_file}
+use Rattle.stack_work.specs.Checking.{Accepting, certificate_step, certificate_due, checked, checked_file}
+use Rattle.stack_work.specs.Checking.{certificate_work}
+use Rattle.stack_work.specs.AcceptedModel.{IsAcceptedModel}
+use Rattle.stack_work.proofs.Ways.{came_from}
+use Rattle.stack_work.proofs.AcceptedFiles.{told_bytes, only_accepted}
 use Rattle.stack_said.specs.Accepted.{ModelAndCertificate, HoldTrueCertificate, HoldFalseCertificate}
 use Rattle.stack_said.proofs.ModelProper.{accepted_shows}
 

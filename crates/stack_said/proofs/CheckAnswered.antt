@@ -3,8 +3,9 @@ use Rattle.std.proofs.Common.{◌≡◌, subst, ap, ◌∙◌, ℕ, ◌<◌, Lis
 use Rattle.stack_outside.specs.Seen.{ShelfSeen, StreamSeen, Took}
 use Rattle.stack_lines.specs.declared.answer.Verdict.{Verdict}
 use Rattle.stack_lines.specs.declared.answer.Verdict.TheVariants.{Affirmed, Denied}
-use Rattle.stack_lines.specs.Forms.{Form, check}
-use Rattle.stack_lines.specs.Answers.{Due, exactly, IsAnswer, verdict_status}
+use Rattle.stack_work.specs.Forms.{Form, check}
+use Rattle.stack_work.specs.Answers.{Due, exactly, IsAnswer}
+use Rattle.stack_lines.specs.Verdicts.{verdict_status}
 use Rattle.stack_said.specs.MainTheorem.{Answered, RunMeets}
 use Rattle.stack_lines.specs.CheckText.{accepted_text}
 use Rattle.stack_said.specs.Accepted.{HoldTrueCertificate, HoldFalseCertificate, CheckSays}

@@ -10,13 +10,13 @@ use Rattle.stack_checker.specs.declared.types.Check.TheVariants.{Accepted, Rejec
 use Rattle.stack_checker.specs.WrittenCheck.{written_check}
 use Rattle.stack_checker.proofs.Verdicts.{accepted_is_true, rejected_is_false}
 use Rattle.stack_lines.specs.declared.answer.Verdict.TheVariants.{Affirmed, Denied}
-use Rattle.stack_lines.specs.Answers.{Due, exactly}
+use Rattle.stack_work.specs.Answers.{Due, exactly}
 use Rattle.stack_lines.specs.CheckText.{accepted_text}
-use Rattle.stack_lines.specs.Work.{Found, Holds, Ends}
-use Rattle.stack_lines.specs.Checking.{certificate_due, accepted_due, check_work}
-use Rattle.stack_lines.specs.AcceptedModel.{IsAcceptedModel}
+use Rattle.stack_work.specs.Work.{Found, Holds, Ends}
+use Rattle.stack_work.specs.Checking.{certificate_due, accepted_due, check_work}
+use Rattle.stack_work.specs.AcceptedModel.{IsAcceptedModel}
 use Rattle.stack_said.specs.Accepted.{AcceptedIsTrueOfFiles, RejectedIsFalseOfFiles, FilesHoldOne}
-use Rattle.stack_lines.proofs.OneEnd.{one_found}
+use Rattle.stack_work.proofs.OneEnd.{one_found}
 use Rattle.stack_said.proofs.CertificateSaid.{SaidOf, MeansRejected, hold_true, hold_false, said_from}
 
 -- what an answer says of a survey and a certificate

@@ -5,13 +5,13 @@ use Rattle.stack_outside.specs.Seen.{ShelfSeen, StreamSeen, ShelfFailed, StreamF
 use Rattle.stack_lines.specs.declared.answer.Answer.{Answer}
 use Rattle.stack_lines.specs.declared.refusal.Refusal.{Refusal as CodeRefusal}
 use Rattle.stack_lines.specs.declared.refusal.Refusal.TheVariants as code
-use Rattle.stack_lines.specs.Forms.{Form}
+use Rattle.stack_work.specs.Forms.{Form}
 use Rattle.stack_lines.specs.Refusals.{Refusal, words, file, faulty, output, refusal_view, status_of, memory}
-use Rattle.stack_lines.specs.Answers.{Due}
-use Rattle.stack_lines.specs.Work.{Holds}
-use Rattle.stack_lines.specs.Progress.{IsCausedBy, Way, ReturnsAnswer, Works}
+use Rattle.stack_work.specs.Answers.{Due}
+use Rattle.stack_work.specs.Work.{Holds}
+use Rattle.stack_work.specs.Progress.{IsCausedBy, Way, ReturnsAnswer, Works}
 use Rattle.stack_said.specs.Delivery.{SaysLine, TakesMemory, TellsRefusal, Delivers}
-use Rattle.stack_lines.proofs.FilesNamed.{asked_named}
+use Rattle.stack_work.proofs.FilesNamed.{asked_named}
 use Rattle.stack_said.specs.MainTheorem.{Answered, OutputAfter, Cause, Refused, IsGivenOut, RunMeets}
 use Rattle.stack_said.proofs.Outcomes.{refusal_or, IsWords, not_output, only_none, below_two, fault_above}
 use Rattle.stack_said.proofs.Outcomes.{fault_past_output, from_two}

@@ -9,12 +9,12 @@ use Rattle.stack_yield.specs.declared.types.RegionPlace.TheVariants as region_pl
 use Rattle.stack_lines.specs.declared.refusal.Input.{Input}
 use Rattle.stack_lines.specs.declared.refusal.Within.{Within}
 use Rattle.stack_lines.specs.Refusals.{Refusal, faulty, fault_status}
-use Rattle.stack_lines.specs.Answers.{Due}
-use Rattle.stack_lines.specs.Judging.{wide_within}
-use Rattle.stack_lines.specs.OneEnd.{IsSettledRefusal}
-use Rattle.stack_lines.specs.Surveying.{greatest_file, read}
-use Rattle.stack_lines.specs.Work.{Work, ◌>>=◌, Holds, Ends}
-use Rattle.stack_lines.specs.Yielding.{wide_toward}
+use Rattle.stack_work.specs.Answers.{Due}
+use Rattle.stack_work.specs.Judging.{wide_within}
+use Rattle.stack_work.specs.OneEnd.{IsSettledRefusal}
+use Rattle.stack_work.specs.Surveying.{greatest_file, read}
+use Rattle.stack_work.specs.Work.{Work, ◌>>=◌, Holds, Ends}
+use Rattle.stack_work.specs.Yielding.{wide_toward}
 
 -- a number of a judgement that is too wide has status 7
 pub wide_is_seven : (w : Within) (s : Structure) (p : JudgePlace) → fault_status (wide_within w s p) ≡ 7

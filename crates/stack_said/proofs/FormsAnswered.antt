@@ -17,23 +17,24 @@ use Rattle.stack_judge.specs.Judged.{IsJudged}
 use Rattle.stack_judge.specs.NarrowWork.{is_narrow}
 use Rattle.stack_report.specs.ContactTable.{contacts_text}
 use Rattle.stack_report.specs.Summary.{summary_text}
-use Rattle.stack_lines.specs.declared.form.Kind.{Kind}
+use Rattle.stack_work.specs.declared.form.Kind.{Kind}
 use Rattle.stack_lines.specs.declared.answer.Verdict.TheVariants.{Affirmed}
 use Rattle.stack_lines.specs.Refusals.{Refusal, words, file, faulty, output, memory, size, over_budget, status_of}
 use Rattle.stack_lines.specs.declared.refusal.Within.TheVariants.{Whole}
-use Rattle.stack_lines.specs.Forms.{Form, contacts, stack, sample}
-use Rattle.stack_lines.specs.Judging.{default_budget, wide_fault}
-use Rattle.stack_lines.specs.Answers.{Due, exactly, document, summary, IsAnswer, verdict_status}
-use Rattle.stack_lines.specs.Work.{gives, ◌>>=◌, Found, Holds, MayFind, Ends}
-use Rattle.stack_lines.specs.Surveying.{survey_step, surveyed_file}
-use Rattle.stack_lines.specs.Listing.{contacts_due, contacts_work}
-use Rattle.stack_lines.specs.Stacking.{stack_of, built_step, stack_work}
-use Rattle.stack_lines.specs.Sampling.{sample_of, sample_step, sampled, wall_sampled, sample_work}
-use Rattle.stack_lines.specs.AcceptedModel.{IsAcceptedModel}
+use Rattle.stack_work.specs.Forms.{Form, contacts, stack, sample}
+use Rattle.stack_work.specs.Judging.{default_budget, wide_fault}
+use Rattle.stack_work.specs.Answers.{Due, exactly, document, summary, IsAnswer}
+use Rattle.stack_lines.specs.Verdicts.{verdict_status}
+use Rattle.stack_work.specs.Work.{gives, ◌>>=◌, Found, Holds, MayFind, Ends}
+use Rattle.stack_work.specs.Surveying.{survey_step, surveyed_file}
+use Rattle.stack_work.specs.Listing.{contacts_due, contacts_work}
+use Rattle.stack_work.specs.Stacking.{stack_of, built_step, stack_work}
+use Rattle.stack_work.specs.Sampling.{sample_of, sample_step, sampled, wall_sampled, sample_work}
+use Rattle.stack_work.specs.AcceptedModel.{IsAcceptedModel}
 use Rattle.stack_said.specs.MainTheorem.{Cause, IsGivenOut, RunMeets}
 use Rattle.stack_said.specs.Said.{Writes, ContactsSay, StackSays, SampleSays}
-use Rattle.stack_lines.proofs.Ways.{goes_on, came_from}
-use Rattle.stack_lines.proofs.AcceptedFiles.{only_accepted, all_accepted}
+use Rattle.stack_work.proofs.Ways.{goes_on, came_from}
+use Rattle.stack_work.proofs.AcceptedFiles.{only_accepted, all_accepted}
 use Rattle.stack_said.proofs.Deciding.{wide_is_seven, wide_settled}
 use Rattle.stack_said.proofs.SampleRefused.{wall_surveyed, too_great, has_wide, has_spent}
 use Rattle.stack_said.proofs.SettledEnds.{given_or_memory}

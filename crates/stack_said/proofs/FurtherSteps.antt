@@ -6,12 +6,12 @@ use Rattle.std.proofs.lemmas.Bool.{ltb-false}
 use Rattle.stack_outside.specs.Seen.{ShelfSeen, StreamSeen}
 use Rattle.stack_lines.specs.declared.refusal.Input.{Input}
 use Rattle.stack_lines.specs.declared.refusal.Input.TheVariants as inputs
-use Rattle.stack_lines.specs.Answers.{Due}
+use Rattle.stack_work.specs.Answers.{Due}
 use Rattle.stack_lines.specs.Refusals.{Refusal, Fault, file, faulty, memory, long, fault_status, status_of}
-use Rattle.stack_lines.specs.Forms.{Form, work_of}
-use Rattle.stack_lines.specs.Surveying.{greatest_file, read}
-use Rattle.stack_lines.specs.Work.{Work, gives, refuses, ◌>>=◌, Holds, Ends, EndsRefusing}
-use Rattle.stack_lines.proofs.AcceptedFiles.{told_bytes}
+use Rattle.stack_work.specs.Forms.{Form, work_of}
+use Rattle.stack_work.specs.Surveying.{greatest_file, read}
+use Rattle.stack_work.specs.Work.{Work, gives, refuses, ◌>>=◌, Holds, Ends, EndsRefusing}
+use Rattle.stack_work.proofs.AcceptedFiles.{told_bytes}
 use Rattle.stack_said.specs.Decided.{IsShort, Refuses}
 use Rattle.stack_said.specs.Delivery.{SaysLine}
 use Rattle.stack_said.specs.MainTheorem.{OutputAfter, RunMeets}

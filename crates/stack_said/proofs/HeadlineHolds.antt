@@ -16,20 +16,21 @@ use Rattle.stack_judge.specs.Judgement.{Judgement, certified, too_wide, spent, u
 use Rattle.stack_judge.specs.Judgement.{judgement, survey_run, LacksLive}
 use Rattle.stack_judge.proofs.EachJudged.{each_end_is_judged}
 use Rattle.stack_lines.specs.Refusals.{Refusal, faulty, over_budget, no_live, status_of}
-use Rattle.stack_lines.specs.Forms.{Form, judges}
-use Rattle.stack_lines.specs.Answers.{Due, certificate, verdict_status}
-use Rattle.stack_lines.specs.Work.{Ends}
-use Rattle.stack_lines.specs.Surveying.{surveyed_file}
-use Rattle.stack_lines.specs.Judging.{lacks_live, wide_fault, judged, judge_work}
-use Rattle.stack_lines.specs.AcceptedModel.{IsAcceptedModel}
-use Rattle.stack_lines.specs.OneEnd.{IsSettled, IsSettledRefusal}
+use Rattle.stack_work.specs.Forms.{Form, judges}
+use Rattle.stack_work.specs.Answers.{Due, certificate}
+use Rattle.stack_lines.specs.Verdicts.{verdict_status}
+use Rattle.stack_work.specs.Work.{Ends}
+use Rattle.stack_work.specs.Surveying.{surveyed_file}
+use Rattle.stack_work.specs.Judging.{lacks_live, wide_fault, judged, judge_work}
+use Rattle.stack_work.specs.AcceptedModel.{IsAcceptedModel}
+use Rattle.stack_work.specs.OneEnd.{IsSettled, IsSettledRefusal}
 use Rattle.stack_said.specs.MainTheorem.{IsGivenOut, RunMeets}
 use Rattle.stack_said.specs.Headline.{Prints, Leaves, IsWide, IsOverBudget, Judging}
-use Rattle.stack_lines.proofs.Ways.{goes_on}
+use Rattle.stack_work.proofs.Ways.{goes_on}
 use Rattle.stack_said.proofs.SettledEnds.{kept_at_memory, given_or_memory as settled_given}
-use Rattle.stack_lines.proofs.AcceptedFiles.{all_accepted}
-use Rattle.stack_lines.proofs.JudgementEnds.{lists_some, listed_live, certificate_ends, wide_ends, spent_ends}
-use Rattle.stack_lines.proofs.JudgementEnds.{no_live_ends}
+use Rattle.stack_work.proofs.AcceptedFiles.{all_accepted}
+use Rattle.stack_work.proofs.JudgementEnds.{lists_some, listed_live, certificate_ends, wide_ends, spent_ends}
+use Rattle.stack_work.proofs.JudgementEnds.{no_live_ends}
 
 -- what the test for a live load says
 lists_nothing : (s : Structure) → not (lists_live s) ≡ true → ¬ (HasLive s)

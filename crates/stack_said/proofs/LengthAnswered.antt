@@ -18,40 +18,40 @@ use Rattle.stack_equilibrium.specs.declared.types.Question.TheVariants.{Live}
 use Rattle.stack_checker.specs.WrittenCheck.{written_check}
 use Rattle.stack_judge.specs.Judgement.{Judgement, certified, too_wide, spent, unjudged, judgement}
 use Rattle.stack_report.specs.ForceNumbers.{wide_index}
-use Rattle.stack_stages.specs.OrderRead.{told_order}
+use Rattle.stack_orders.specs.OrderRead.{told_order}
 use Rattle.stack_stages.specs.Staged.{staged}
-use Rattle.stack_yield.specs.Directions.{directions_of}
+use Rattle.stack_directions.specs.Directions.{directions_of}
 use Rattle.stack_yield.specs.Outcomes.{outcomes}
-use Rattle.stack_yield.specs.Pairing.{pair_of}
+use Rattle.stack_directions.specs.Pairing.{pair_of}
 use Rattle.stack_lines.specs.declared.refusal.Input.{Input}
 use Rattle.stack_lines.specs.declared.refusal.Input.TheVariants as inputs
-use Rattle.stack_lines.specs.Answers.{Due}
+use Rattle.stack_work.specs.Answers.{Due}
 use Rattle.stack_lines.specs.Errors.{from_read}
 use Rattle.stack_lines.specs.Refusals.{Refusal, faulty, memory, long, fault_status, status_of}
-use Rattle.stack_lines.specs.AcceptedModel.{IsAcceptedModel}
-use Rattle.stack_lines.specs.Building.{order_step, order_work, ordered_file, stages_work}
-use Rattle.stack_lines.specs.Checking.{Accepting, certificate_step, checked, checked_file}
-use Rattle.stack_lines.specs.Checking.{certificate_work, accepted_due}
-use Rattle.stack_lines.specs.Forms.{Form, files_of, check, contacts, judges, tables, stack, sample, ranges, builds}
-use Rattle.stack_lines.specs.Forms.{yields, work_of}
-use Rattle.stack_lines.specs.Judging.{default_budget, lacks_live, judge_work}
-use Rattle.stack_lines.specs.Listing.{contacts_work}
-use Rattle.stack_lines.specs.OneEnd.{AreTold}
-use Rattle.stack_lines.specs.Ranging.{range_work}
-use Rattle.stack_lines.specs.Sampling.{sample_of, sample_step, sampled, wall_sampled, sample_work}
-use Rattle.stack_lines.specs.Stacking.{stack_of, built_step, stack_work}
-use Rattle.stack_lines.specs.Surveying.{greatest_file, read, model_step, survey_step, modelled, surveyed_file}
-use Rattle.stack_lines.specs.Tables.{table_due}
-use Rattle.stack_lines.specs.Work.{Work, gives, refuses, reads, surveys, ◌>>=◌, Found, Holds, Ends}
-use Rattle.stack_lines.specs.Yielding.{loads_step, directions_step, directions_work, directed_file, paired_file}
-use Rattle.stack_lines.specs.Yielding.{yield_work}
-use Rattle.stack_lines.proofs.AcceptedFiles.{told_bytes, all_accepted}
-use Rattle.stack_lines.proofs.Beginnings.{certificate_avoids, table_avoids, due_avoids, wide_avoids, judged_avoids}
-use Rattle.stack_lines.proofs.Beginnings.{range_avoids, order_avoids, stage_avoids, loads_avoid, directions_avoid}
-use Rattle.stack_lines.proofs.Beginnings.{region_avoids}
-use Rattle.stack_lines.proofs.FilesNamed.{AsksOnly, form_asks}
-use Rattle.stack_lines.proofs.RefusedFrom.{Avoids}
-use Rattle.stack_lines.proofs.Ways.{goes_on}
+use Rattle.stack_work.specs.AcceptedModel.{IsAcceptedModel}
+use Rattle.stack_work.specs.Building.{order_step, order_work, ordered_file, stages_work}
+use Rattle.stack_work.specs.Checking.{Accepting, certificate_step, checked, checked_file}
+use Rattle.stack_work.specs.Checking.{certificate_work, accepted_due}
+use Rattle.stack_work.specs.Forms.{Form, files_of, check, contacts, judges, tables, stack, sample, ranges, builds}
+use Rattle.stack_work.specs.Forms.{yields, work_of}
+use Rattle.stack_work.specs.Judging.{default_budget, lacks_live, judge_work}
+use Rattle.stack_work.specs.Listing.{contacts_work}
+use Rattle.stack_work.specs.OneEnd.{AreTold}
+use Rattle.stack_work.specs.Ranging.{range_work}
+use Rattle.stack_work.specs.Sampling.{sample_of, sample_step, sampled, wall_sampled, sample_work}
+use Rattle.stack_work.specs.Stacking.{stack_of, built_step, stack_work}
+use Rattle.stack_work.specs.Surveying.{greatest_file, read, model_step, survey_step, modelled, surveyed_file}
+use Rattle.stack_work.specs.Tables.{table_due}
+use Rattle.stack_work.specs.Work.{Work, gives, refuses, reads, surveys, ◌>>=◌, Found, Holds, Ends}
+use Rattle.stack_work.specs.Yielding.{loads_step, directions_step, directions_work, directed_file, paired_file}
+use Rattle.stack_work.specs.Yielding.{yield_work}
+use Rattle.stack_work.proofs.AcceptedFiles.{told_bytes, all_accepted}
+use Rattle.stack_work.proofs.Beginnings.{certificate_avoids, table_avoids, due_avoids, wide_avoids, judged_avoids}
+use Rattle.stack_work.proofs.Beginnings.{range_avoids, order_avoids, stage_avoids, loads_avoid, directions_avoid}
+use Rattle.stack_work.proofs.Beginnings.{region_avoids}
+use Rattle.stack_work.proofs.FilesNamed.{AsksOnly, form_asks}
+use Rattle.stack_work.proofs.RefusedFrom.{Avoids}
+use Rattle.stack_work.proofs.Ways.{goes_on}
 use Rattle.stack_said.specs.LengthSaid.{SomeIsLong, ReadsFurther, LengthSays}
 use Rattle.stack_said.specs.MainTheorem.{RunMeets}
 use Rattle.stack_said.proofs.CertificateFile.{caused_by}

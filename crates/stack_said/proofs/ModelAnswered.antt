@@ -14,17 +14,17 @@ use Rattle.stack_contact.specs.declared.types.SurveyError.TheVariants.{Overlap, 
 use Rattle.stack_lines.specs.declared.refusal.Input.TheVariants as inputs
 use Rattle.stack_lines.specs.Refusals.{Refusal, Fault, words, file, faulty, output, memory, long, status_of}
 use Rattle.stack_lines.specs.Refusals.{fault_status}
-use Rattle.stack_lines.specs.Forms.{Form, files_of, work_of}
-use Rattle.stack_lines.specs.Work.{gives, refuses, surveys, ◌>>=◌, Found, Holds, MayFind, Ends}
-use Rattle.stack_lines.specs.Surveying.{greatest_file, model_step, survey_step, modelled, surveyed_file}
+use Rattle.stack_work.specs.Forms.{Form, files_of, work_of}
+use Rattle.stack_work.specs.Work.{gives, refuses, surveys, ◌>>=◌, Found, Holds, MayFind, Ends}
+use Rattle.stack_work.specs.Surveying.{greatest_file, model_step, survey_step, modelled, surveyed_file}
 use Rattle.stack_lines.specs.Errors.{from_read}
-use Rattle.stack_lines.specs.OneEnd.{IsSettledRefusal}
+use Rattle.stack_work.specs.OneEnd.{IsSettledRefusal}
 use Rattle.stack_said.specs.MainTheorem.{Cause, RunMeets}
 use Rattle.stack_said.specs.ModelSaid.{IsRefused, ModelFault, in_text, in_pair, in_count, model_fault, ModelSays}
-use Rattle.stack_lines.proofs.Ways.{stops}
-use Rattle.stack_lines.proofs.AcceptedFiles.{told_bytes}
-use Rattle.stack_lines.proofs.RefusedFrom.{CameOf, refused_from, avoids_end}
-use Rattle.stack_lines.proofs.Beginnings.{Begins, begins}
+use Rattle.stack_work.proofs.Ways.{stops}
+use Rattle.stack_work.proofs.AcceptedFiles.{told_bytes}
+use Rattle.stack_work.proofs.RefusedFrom.{CameOf, refused_from, avoids_end}
+use Rattle.stack_work.proofs.Beginnings.{Begins, begins}
 use Rattle.stack_said.proofs.SettledEnds.{given_or_memory}
 
 -- the ends of the work on a model's file that is told

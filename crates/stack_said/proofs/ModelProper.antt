@@ -20,7 +20,7 @@ use Rattle.stack_equilibrium.proofs.BearingSizes.{survey_proper}
 use Rattle.stack_checker.specs.Shown.{Shows}
 use Rattle.stack_checker.proofs.Consequences.{shows_standing, shows_fall, shows_carried, shows_bound, shows_above}
 use Rattle.stack_checker.proofs.Consequences.{shows_all}
-use Rattle.stack_lines.specs.AcceptedModel.{IsAcceptedModel}
+use Rattle.stack_work.specs.AcceptedModel.{IsAcceptedModel}
 
 -- a step that went well: its first part did, and so did the rest
 went : {A B E : Type 0} (r : Result A E) (k : A → Result B E) (y : B) → r >>= k ≡ Ok y

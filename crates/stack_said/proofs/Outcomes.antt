@@ -12,15 +12,16 @@ use Rattle.stack_lines.specs.declared.answer.Verdict.{Verdict}
 use Rattle.stack_lines.specs.declared.answer.Verdict.TheVariants.{Affirmed, Denied}
 use Rattle.stack_lines.specs.declared.refusal.Refusal.{Refusal as CodeRefusal}
 use Rattle.stack_lines.specs.declared.refusal.Refusal.TheVariants as code
-use Rattle.stack_lines.specs.Forms.{Form, work_of}
+use Rattle.stack_work.specs.Forms.{Form, work_of}
 use Rattle.stack_lines.specs.Refusals.{Refusal, words, file, faulty, output, refusal_view, status_of, Fault, long}
 use Rattle.stack_lines.specs.Refusals.{content, overlap, many_bearings, certificate_line, wide_check, memory, size}
 use Rattle.stack_lines.specs.Refusals.{order_line, directions_line, wide_run, wide_end, wide_reach, wide_table}
 use Rattle.stack_lines.specs.Refusals.{over_budget, no_live, no_pair}
-use Rattle.stack_lines.specs.Answers.{Due, verdict_status}
-use Rattle.stack_lines.specs.Work.{Work, gives, refuses, reads, surveys, Holds, Ends}
-use Rattle.stack_lines.specs.Progress.{Returns, AnswersDue, Way, ReturnsAnswer, Does, Works}
-use Rattle.stack_lines.proofs.Steps.{none_asked}
+use Rattle.stack_work.specs.Answers.{Due}
+use Rattle.stack_lines.specs.Verdicts.{verdict_status}
+use Rattle.stack_work.specs.Work.{Work, gives, refuses, reads, surveys, Holds, Ends}
+use Rattle.stack_work.specs.Progress.{Returns, AnswersDue, Way, ReturnsAnswer, Does, Works}
+use Rattle.stack_work.proofs.Steps.{none_asked}
 use Rattle.stack_said.specs.Delivery.{SaysLine, TakesMemory, Delivers}
 
 -- An error stream that didn't fail took the whole line.

@@ -4,19 +4,19 @@ use Rattle.std.proofs.Common.{Result, Ok, Err, inl, inr, length, arith, if◌the
 use Rattle.std.proofs.Math.Dec.{ltb}
 use Rattle.stack_outside.specs.Seen.{ShelfSeen, StreamSeen}
 use Rattle.stack_contact.specs.Surveyed.{Surveyed}
-use Rattle.stack_yield.specs.Directions.{directions_of}
+use Rattle.stack_directions.specs.Directions.{directions_of}
 use Rattle.stack_yield.specs.Outcomes.{Outcomes, answered, passes_at, spends_at, no_outcomes, outcomes}
-use Rattle.stack_yield.specs.Pairing.{pair_of}
+use Rattle.stack_directions.specs.Pairing.{pair_of}
 use Rattle.stack_lines.specs.declared.refusal.Input.TheVariants as inputs
 use Rattle.stack_lines.specs.Refusals.{Refusal, file, long, status_of}
-use Rattle.stack_lines.specs.AcceptedModel.{IsAcceptedModel}
-use Rattle.stack_lines.specs.Forms.{Form, yields}
-use Rattle.stack_lines.specs.Surveying.{greatest_file, surveyed_file}
-use Rattle.stack_lines.specs.Work.{gives, refuses, ◌>>=◌, Holds, Ends}
-use Rattle.stack_lines.specs.Yielding.{loads_step, directions_step, region_step, directions_work, directed_file}
-use Rattle.stack_lines.specs.Yielding.{paired_file, yield_work}
-use Rattle.stack_lines.proofs.AcceptedFiles.{only_accepted}
-use Rattle.stack_lines.proofs.RefusedFrom.{CameOf, refused_from}
+use Rattle.stack_work.specs.AcceptedModel.{IsAcceptedModel}
+use Rattle.stack_work.specs.Forms.{Form, yields}
+use Rattle.stack_work.specs.Surveying.{greatest_file, surveyed_file}
+use Rattle.stack_work.specs.Work.{gives, refuses, ◌>>=◌, Holds, Ends}
+use Rattle.stack_work.specs.Yielding.{loads_step, directions_step, region_step, directions_work, directed_file}
+use Rattle.stack_work.specs.Yielding.{paired_file, yield_work}
+use Rattle.stack_work.proofs.AcceptedFiles.{only_accepted}
+use Rattle.stack_work.proofs.RefusedFrom.{CameOf, refused_from}
 use Rattle.stack_said.specs.FurtherFaults.{HasNoPair}
 use Rattle.stack_said.specs.MainTheorem.{RunMeets}
 use Rattle.stack_said.proofs.Deciding.{toward_is_seven}

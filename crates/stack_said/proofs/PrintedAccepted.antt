@@ -7,13 +7,13 @@ use Rattle.stack_certificate.specs.CertificateOf.{certificate_of}
 use Rattle.stack_certificate.specs.CertificateText.{IsCertificateText, FewHaveShortTexts, text_bound}
 use Rattle.stack_equilibrium.specs.declared.types.Question.{Question}
 use Rattle.stack_judge.specs.Judged.{IsJudged}
-use Rattle.stack_lines.specs.Work.{Holds, Ends}
-use Rattle.stack_lines.specs.Surveying.{greatest_file, surveyed_file}
-use Rattle.stack_lines.specs.Checking.{checked_file, accepted_due, certificate_work, check_work}
+use Rattle.stack_work.specs.Work.{Holds, Ends}
+use Rattle.stack_work.specs.Surveying.{greatest_file, surveyed_file}
+use Rattle.stack_work.specs.Checking.{checked_file, accepted_due, certificate_work, check_work}
 use Rattle.stack_said.specs.Printed.{acceptance, PrintedIsAccepted, PrintedIsShort}
-use Rattle.stack_lines.proofs.Ways.{goes_on}
-use Rattle.stack_lines.proofs.OneEnd.{one_end}
-use Rattle.stack_lines.proofs.AcceptedFiles.{all_accepted}
+use Rattle.stack_work.proofs.Ways.{goes_on}
+use Rattle.stack_work.proofs.OneEnd.{one_end}
+use Rattle.stack_work.proofs.AcceptedFiles.{all_accepted}
 
 pub printed_short : FewHaveShortTexts → PrintedIsShort
 printed_short short q v c text judged is = subst (λ t. length t < text_bound) (sym is.is)

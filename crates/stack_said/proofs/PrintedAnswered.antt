@@ -11,20 +11,21 @@ use Rattle.stack_judge.specs.Judgement.{Judgement, certified, too_wide, spent, u
 use Rattle.stack_judge.specs.Judged.{IsJudged}
 use Rattle.stack_lines.specs.declared.answer.Verdict.TheVariants.{Affirmed}
 use Rattle.stack_lines.specs.Refusals.{Refusal, words, file, faulty, output, memory, no_live, status_of}
-use Rattle.stack_lines.specs.Forms.{Form, judges, check}
-use Rattle.stack_lines.specs.Answers.{Due, exactly, certificate, IsAnswer, verdict_status}
+use Rattle.stack_work.specs.Forms.{Form, judges, check}
+use Rattle.stack_work.specs.Answers.{Due, exactly, certificate, IsAnswer}
+use Rattle.stack_lines.specs.Verdicts.{verdict_status}
 use Rattle.stack_lines.specs.CheckText.{accepted_text}
-use Rattle.stack_lines.specs.Work.{refuses, Holds, Ends}
-use Rattle.stack_lines.specs.Surveying.{surveyed_file}
-use Rattle.stack_lines.specs.Checking.{check_work}
-use Rattle.stack_lines.specs.Judging.{lacks_live, judged_step, judged, judge_work}
-use Rattle.stack_lines.specs.OneEnd.{IsSettled}
-use Rattle.stack_lines.specs.AcceptedModel.{IsAcceptedModel}
+use Rattle.stack_work.specs.Work.{refuses, Holds, Ends}
+use Rattle.stack_work.specs.Surveying.{surveyed_file}
+use Rattle.stack_work.specs.Checking.{check_work}
+use Rattle.stack_work.specs.Judging.{lacks_live, judged_step, judged, judge_work}
+use Rattle.stack_work.specs.OneEnd.{IsSettled}
+use Rattle.stack_work.specs.AcceptedModel.{IsAcceptedModel}
 use Rattle.stack_said.specs.MainTheorem.{Answered, Refused, Cause, RunMeets}
 use Rattle.stack_said.specs.Headline.{PrintsOfFile}
 use Rattle.stack_said.specs.Printed.{acceptance, PrintedIsAccepted, IsAcceptedAgain}
-use Rattle.stack_lines.proofs.Ways.{came_from}
-use Rattle.stack_lines.proofs.AcceptedFiles.{only_accepted}
+use Rattle.stack_work.proofs.Ways.{came_from}
+use Rattle.stack_work.proofs.AcceptedFiles.{only_accepted}
 
 -- an answer is a certificate of the question
 judged_end : (holds : Holds) (q : Question) (budget : ℕ) (v : Surveyed) (j : Judgement) (names : List (List ℕ))

@@ -6,8 +6,8 @@ use Rattle.stack_lines.specs.declared.answer.Answer.{Answer}
 use Rattle.stack_lines.specs.declared.refusal.Refusal.{Refusal as CodeRefusal}
 use Rattle.stack_lines.specs.declared.refusal.Refusal.TheVariants as code
 use Rattle.stack_lines.specs.Refusals.{Refusal, words, file, faulty, output, refusal_view, status_of}
-use Rattle.stack_lines.specs.Forms.{Form}
-use Rattle.stack_lines.specs.Progress.{ReturnsAnswer, Works}
+use Rattle.stack_work.specs.Forms.{Form}
+use Rattle.stack_work.specs.Progress.{ReturnsAnswer, Works}
 use Rattle.stack_said.specs.Delivery.{TakesMemory}
 use Rattle.stack_said.specs.OnePut.{greatest_start, PutsAnswer}
 use Rattle.stack_said.proofs.Outcomes.{not_output, fault_past_output, from_two}

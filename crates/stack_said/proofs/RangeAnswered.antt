@@ -7,18 +7,19 @@ use Rattle.stack_equilibrium.specs.declared.types.Question.TheVariants.{Live}
 use Rattle.stack_range.specs.Ranged.{RangeValue, collapsing, between}
 use Rattle.stack_range.specs.RangeJudgement.{RangeJudgement, told, wide_on, spent_on, no_range, range_judgement}
 use Rattle.stack_lines.specs.declared.answer.Verdict.{Verdict}
-use Rattle.stack_lines.specs.Forms.{Form, ranges}
+use Rattle.stack_work.specs.Forms.{Form, ranges}
 use Rattle.stack_lines.specs.Refusals.{no_live}
-use Rattle.stack_lines.specs.Answers.{Due, ranged, IsRangeOf, IsAnswer, verdict_status}
-use Rattle.stack_lines.specs.Work.{refuses, Holds, Ends}
-use Rattle.stack_lines.specs.Surveying.{surveyed_file}
-use Rattle.stack_lines.specs.Judging.{lacks_live}
-use Rattle.stack_lines.specs.Ranging.{range_step, range_told, range_work}
-use Rattle.stack_lines.specs.AcceptedModel.{IsAcceptedModel}
+use Rattle.stack_work.specs.Answers.{Due, ranged, IsRangeOf, IsAnswer}
+use Rattle.stack_lines.specs.Verdicts.{verdict_status}
+use Rattle.stack_work.specs.Work.{refuses, Holds, Ends}
+use Rattle.stack_work.specs.Surveying.{surveyed_file}
+use Rattle.stack_work.specs.Judging.{lacks_live}
+use Rattle.stack_work.specs.Ranging.{range_step, range_told, range_work}
+use Rattle.stack_work.specs.AcceptedModel.{IsAcceptedModel}
 use Rattle.stack_said.specs.MainTheorem.{Answered, RunMeets}
 use Rattle.stack_said.specs.RangeSaid.{RangeSays}
-use Rattle.stack_lines.proofs.Ways.{came_from}
-use Rattle.stack_lines.proofs.AcceptedFiles.{only_accepted}
+use Rattle.stack_work.proofs.Ways.{came_from}
+use Rattle.stack_work.proofs.AcceptedFiles.{only_accepted}
 
 -- an answer is the range of the file's survey
 abbrev Said : List ℕ → Due → Type 0

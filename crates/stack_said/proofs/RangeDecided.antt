@@ -14,17 +14,18 @@ use Rattle.stack_range.specs.RangeJudgement.{RangeJudgement, told, wide_on, spen
 use Rattle.stack_range.specs.RangeJudgement.{AreSides}
 use Rattle.stack_range.proofs.BothSides.{ranges_are_by_sides}
 use Rattle.stack_lines.specs.Refusals.{Refusal, Fault, faulty, over_budget, no_live}
-use Rattle.stack_lines.specs.Answers.{Due, ranged, verdict_status}
-use Rattle.stack_lines.specs.AcceptedModel.{IsAcceptedModel}
-use Rattle.stack_lines.specs.Forms.{Form, ranges}
-use Rattle.stack_lines.specs.Judging.{lacks_live, wide_within}
-use Rattle.stack_lines.specs.OneEnd.{IsSettled}
-use Rattle.stack_lines.specs.Ranging.{within_of, range_step, range_told, range_work}
-use Rattle.stack_lines.specs.Surveying.{surveyed_file}
-use Rattle.stack_lines.specs.Work.{refuses, Ends}
-use Rattle.stack_lines.proofs.AcceptedFiles.{all_accepted}
-use Rattle.stack_lines.proofs.JudgementEnds.{lacking, not_lacking}
-use Rattle.stack_lines.proofs.Ways.{goes_on}
+use Rattle.stack_work.specs.Answers.{Due, ranged}
+use Rattle.stack_lines.specs.Verdicts.{verdict_status}
+use Rattle.stack_work.specs.AcceptedModel.{IsAcceptedModel}
+use Rattle.stack_work.specs.Forms.{Form, ranges}
+use Rattle.stack_work.specs.Judging.{lacks_live, wide_within}
+use Rattle.stack_work.specs.OneEnd.{IsSettled}
+use Rattle.stack_work.specs.Ranging.{within_of, range_step, range_told, range_work}
+use Rattle.stack_work.specs.Surveying.{surveyed_file}
+use Rattle.stack_work.specs.Work.{refuses, Ends}
+use Rattle.stack_work.proofs.AcceptedFiles.{all_accepted}
+use Rattle.stack_work.proofs.JudgementEnds.{lacking, not_lacking}
+use Rattle.stack_work.proofs.Ways.{goes_on}
 use Rattle.stack_said.specs.Decided.{Refuses, WritesRange}
 use Rattle.stack_said.specs.Headline.{Leaves}
 use Rattle.stack_said.specs.MainTheorem.{IsGivenOut, RunMeets}

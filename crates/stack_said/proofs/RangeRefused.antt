@@ -9,14 +9,14 @@ use Rattle.stack_range.specs.RangeJudgement.{RangeJudgement, told, wide_on, spen
 use Rattle.stack_range.specs.RangeJudgement.{AreSides}
 use Rattle.stack_range.proofs.BothSides.{ranges_are_by_sides}
 use Rattle.stack_lines.specs.Refusals.{Refusal, faulty, over_budget, no_live, status_of}
-use Rattle.stack_lines.specs.AcceptedModel.{IsAcceptedModel}
-use Rattle.stack_lines.specs.Forms.{Form, ranges}
-use Rattle.stack_lines.specs.Judging.{lacks_live, wide_within}
-use Rattle.stack_lines.specs.Ranging.{within_of, range_step, range_told, range_work}
-use Rattle.stack_lines.specs.Surveying.{surveyed_file}
-use Rattle.stack_lines.specs.Work.{refuses, Holds, Ends}
-use Rattle.stack_lines.proofs.AcceptedFiles.{only_accepted}
-use Rattle.stack_lines.proofs.RefusedFrom.{CameOf, refused_from}
+use Rattle.stack_work.specs.AcceptedModel.{IsAcceptedModel}
+use Rattle.stack_work.specs.Forms.{Form, ranges}
+use Rattle.stack_work.specs.Judging.{lacks_live, wide_within}
+use Rattle.stack_work.specs.Ranging.{within_of, range_step, range_told, range_work}
+use Rattle.stack_work.specs.Surveying.{surveyed_file}
+use Rattle.stack_work.specs.Work.{refuses, Holds, Ends}
+use Rattle.stack_work.proofs.AcceptedFiles.{only_accepted}
+use Rattle.stack_work.proofs.RefusedFrom.{CameOf, refused_from}
 use Rattle.stack_said.specs.FurtherFaults.{HasNoLive, HasWideSide, HasSpentSide}
 use Rattle.stack_said.specs.FurtherRefusals.{RangeRefusals}
 use Rattle.stack_said.specs.MainTheorem.{RunMeets}

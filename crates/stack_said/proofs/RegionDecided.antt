@@ -6,24 +6,25 @@ use Rattle.stack_contact.specs.Surveyed.{Surveyed}
 use Rattle.stack_certificate.specs.Certificate.{MotionValue}
 use Rattle.stack_pairs.specs.Reaches.{ReachValue, RegionValue, collapse, points}
 use Rattle.stack_yield.specs.declared.types.RegionPlace.{RegionPlace}
-use Rattle.stack_yield.specs.Directions.{directions_of}
-use Rattle.stack_yield.specs.Pairing.{pair_of}
+use Rattle.stack_directions.specs.Directions.{directions_of}
+use Rattle.stack_directions.specs.Pairing.{pair_of}
 use Rattle.stack_yield.specs.Outcomes.{falls, passes, spends, Outcomes, answered, passes_at, spends_at, no_outcomes}
 use Rattle.stack_yield.specs.Outcomes.{outcomes}
 use Rattle.stack_yield.specs.ByDirections.{IsFirstDirection, AreByDirections}
 use Rattle.stack_yield.proofs.FirstDirection.{outcomes_are_by_directions, directions_are_decided}
 use Rattle.stack_lines.specs.declared.refusal.Input.TheVariants as inputs
 use Rattle.stack_lines.specs.Refusals.{Refusal, Fault, faulty, no_pair, directions_line, over_budget}
-use Rattle.stack_lines.specs.Answers.{Due, region_due, verdict_status}
-use Rattle.stack_lines.specs.AcceptedModel.{IsAcceptedModel}
-use Rattle.stack_lines.specs.Forms.{Form, yields}
-use Rattle.stack_lines.specs.OneEnd.{IsSettled}
-use Rattle.stack_lines.specs.Surveying.{greatest_file, surveyed_file}
-use Rattle.stack_lines.specs.Work.{◌>>=◌, Ends}
-use Rattle.stack_lines.specs.Yielding.{loads_step, directions_step, wide_toward, region_step, directions_work}
-use Rattle.stack_lines.specs.Yielding.{directed_file, paired_file, yield_work}
-use Rattle.stack_lines.proofs.AcceptedFiles.{all_accepted}
-use Rattle.stack_lines.proofs.Ways.{goes_on}
+use Rattle.stack_work.specs.Answers.{Due, region_due}
+use Rattle.stack_lines.specs.Verdicts.{verdict_status}
+use Rattle.stack_work.specs.AcceptedModel.{IsAcceptedModel}
+use Rattle.stack_work.specs.Forms.{Form, yields}
+use Rattle.stack_work.specs.OneEnd.{IsSettled}
+use Rattle.stack_work.specs.Surveying.{greatest_file, surveyed_file}
+use Rattle.stack_work.specs.Work.{◌>>=◌, Ends}
+use Rattle.stack_work.specs.Yielding.{loads_step, directions_step, wide_toward, region_step, directions_work}
+use Rattle.stack_work.specs.Yielding.{directed_file, paired_file, yield_work}
+use Rattle.stack_work.proofs.AcceptedFiles.{all_accepted}
+use Rattle.stack_work.proofs.Ways.{goes_on}
 use Rattle.stack_said.specs.Decided.{Refuses, WritesRegion}
 use Rattle.stack_said.specs.Headline.{Leaves}
 use Rattle.stack_said.specs.MainTheorem.{IsGivenOut, RunMeets}

@@ -4,20 +4,20 @@ use Rattle.std.proofs.Common.{Ok, Err, inl, inr, arith}
 use Rattle.stack_outside.specs.Seen.{ShelfSeen, StreamSeen}
 use Rattle.stack_contact.specs.Surveyed.{Surveyed}
 use Rattle.stack_yield.specs.ByDirections.{AreByDirections}
-use Rattle.stack_yield.specs.Directions.{directions_of}
+use Rattle.stack_directions.specs.Directions.{directions_of}
 use Rattle.stack_yield.specs.Outcomes.{Outcomes, answered, passes_at, spends_at, no_outcomes, outcomes}
-use Rattle.stack_yield.specs.Pairing.{pair_of}
+use Rattle.stack_directions.specs.Pairing.{pair_of}
 use Rattle.stack_yield.proofs.FirstDirection.{outcomes_are_by_directions}
 use Rattle.stack_lines.specs.declared.refusal.Input.TheVariants as inputs
 use Rattle.stack_lines.specs.Refusals.{Refusal, faulty, no_pair, directions_line, over_budget, status_of}
-use Rattle.stack_lines.specs.AcceptedModel.{IsAcceptedModel}
-use Rattle.stack_lines.specs.Forms.{Form, yields}
-use Rattle.stack_lines.specs.Surveying.{surveyed_file}
-use Rattle.stack_lines.specs.Work.{◌>>=◌, Holds, Ends}
-use Rattle.stack_lines.specs.Yielding.{loads_step, directions_step, region_step, directions_work, directed_file}
-use Rattle.stack_lines.specs.Yielding.{paired_file, wide_toward, yield_work}
-use Rattle.stack_lines.proofs.AcceptedFiles.{only_accepted}
-use Rattle.stack_lines.proofs.RefusedFrom.{CameOf, refused_from}
+use Rattle.stack_work.specs.AcceptedModel.{IsAcceptedModel}
+use Rattle.stack_work.specs.Forms.{Form, yields}
+use Rattle.stack_work.specs.Surveying.{surveyed_file}
+use Rattle.stack_work.specs.Work.{◌>>=◌, Holds, Ends}
+use Rattle.stack_work.specs.Yielding.{loads_step, directions_step, region_step, directions_work, directed_file}
+use Rattle.stack_work.specs.Yielding.{paired_file, wide_toward, yield_work}
+use Rattle.stack_work.proofs.AcceptedFiles.{only_accepted}
+use Rattle.stack_work.proofs.RefusedFrom.{CameOf, refused_from}
 use Rattle.stack_said.specs.Decided.{IsShort}
 use Rattle.stack_said.specs.FurtherFaults.{HasNoPair, HasFaultyDirections, HasWideDirection, HasSpentDirection}
 use Rattle.stack_said.specs.FurtherRefusals.{RegionRefusals}

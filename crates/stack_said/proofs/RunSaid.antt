@@ -2,7 +2,7 @@
 use Rattle.std.proofs.Common.{ℕ, Option}
 use Rattle.stack_outside.specs.Seen.{ShelfSeen, StreamSeen}
 use Rattle.stack_walls.specs.Surveying.{DrawnWallsHaveSurveys}
-use Rattle.stack_lines.specs.Forms.{Form}
+use Rattle.stack_work.specs.Forms.{Form}
 use Rattle.stack_said.specs.MainTheorem.{RunMeets}
 use Rattle.stack_said.specs.Printed.{PrintedIsAccepted}
 use Rattle.stack_said.specs.RunSaid.{RunSays}

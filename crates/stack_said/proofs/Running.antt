@@ -5,8 +5,8 @@ use Rattle.stack_walls.specs.Surveying.{DrawnWallsHaveSurveys}
 use Rattle.stack_lines.specs.declared.answer.Answer.{Answer}
 use Rattle.stack_lines.specs.declared.refusal.Refusal.{Refusal as CodeRefusal}
 use Rattle.stack_lines.specs.declared.refusal.Refusal.TheVariants as code
-use Rattle.stack_lines.specs.Forms.{Form}
-use Rattle.stack_lines.specs.Progress.{Works}
+use Rattle.stack_work.specs.Forms.{Form}
+use Rattle.stack_work.specs.Progress.{Works}
 use Rattle.stack_said.specs.Delivery.{Delivers}
 use Rattle.stack_said.specs.OnePut.{PutsAnswer, PutsLine}
 use Rattle.stack_said.specs.Printed.{PrintedIsAccepted}

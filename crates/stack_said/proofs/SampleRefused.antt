@@ -18,12 +18,12 @@ use Rattle.stack_judge.specs.Judgement.{Judgement, certified, too_wide, spent, u
 use Rattle.stack_judge.specs.declared.types.JudgePlace.{JudgePlace}
 use Rattle.stack_lines.specs.declared.refusal.Within.TheVariants.{Whole}
 use Rattle.stack_lines.specs.Refusals.{Refusal, faulty, memory, size, over_budget, status_of}
-use Rattle.stack_lines.specs.Forms.{sample}
-use Rattle.stack_lines.specs.Judging.{default_budget, wide_fault}
-use Rattle.stack_lines.specs.Sampling.{sample_of, sample_step, sampled, wall_sampled, sample_work}
-use Rattle.stack_lines.specs.Stacking.{built_step}
-use Rattle.stack_lines.specs.Surveying.{survey_step}
-use Rattle.stack_lines.specs.Work.{◌>>=◌, Found, Holds, MayFind, Ends}
+use Rattle.stack_work.specs.Forms.{sample}
+use Rattle.stack_work.specs.Judging.{default_budget, wide_fault}
+use Rattle.stack_work.specs.Sampling.{sample_of, sample_step, sampled, wall_sampled, sample_work}
+use Rattle.stack_work.specs.Stacking.{built_step}
+use Rattle.stack_work.specs.Surveying.{survey_step}
+use Rattle.stack_work.specs.Work.{◌>>=◌, Found, Holds, MayFind, Ends}
 use Rattle.stack_said.specs.MainTheorem.{RunMeets}
 use Rattle.stack_said.proofs.CertificateFile.{caused_by}
 use Rattle.stack_said.proofs.Deciding.{wide_is_seven}

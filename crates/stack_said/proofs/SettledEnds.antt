@@ -3,12 +3,12 @@
 use Rattle.std.proofs.Common.{◌≡◌, sym, subst, ◌∙◌, ℕ, List, Option, Result, Ok, Err, inl, inr, ◌⊎◌, arith}
 use Rattle.stack_outside.specs.Seen.{ShelfSeen, StreamSeen, ShelfFailed, NeitherFailed, TookNothing}
 use Rattle.stack_lines.specs.Refusals.{Refusal, file, faulty, output, memory, status_of}
-use Rattle.stack_lines.specs.Forms.{Form}
-use Rattle.stack_lines.specs.Answers.{Due}
-use Rattle.stack_lines.specs.OneEnd.{AreTold, IsSettled}
-use Rattle.stack_lines.specs.Progress.{Way}
+use Rattle.stack_work.specs.Forms.{Form}
+use Rattle.stack_work.specs.Answers.{Due}
+use Rattle.stack_work.specs.OneEnd.{AreTold, IsSettled}
+use Rattle.stack_work.specs.Progress.{Way}
 use Rattle.stack_said.specs.MainTheorem.{OutputAfter, IsGivenOut, RunMeets}
-use Rattle.stack_lines.proofs.OneEnd.{words_end}
+use Rattle.stack_work.proofs.OneEnd.{words_end}
 
 kept_for_memory : (r : Refusal) (form : Option Form) (shelf : ShelfSeen) (names : List (List ℕ)) (out : StreamSeen)
     → 11 ≡ status_of r → OutputAfter r form shelf names out → TookNothing out

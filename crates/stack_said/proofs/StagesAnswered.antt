@@ -4,21 +4,22 @@ use Rattle.std.proofs.Common.{Result, Ok, Err, inl, inr, length, arith, if◌the
 use Rattle.std.proofs.Math.Dec.{ltb}
 use Rattle.stack_outside.specs.Seen.{ShelfSeen, StreamSeen, Took}
 use Rattle.stack_contact.specs.Surveyed.{Surveyed}
-use Rattle.stack_stages.specs.OrderRead.{told_order}
+use Rattle.stack_orders.specs.OrderRead.{told_order}
 use Rattle.stack_stages.specs.Staged.{Staged, all_stand, falls, too_wide_at, spent_at, no_stages, staged}
 use Rattle.stack_lines.specs.declared.answer.Verdict.{Verdict}
 use Rattle.stack_lines.specs.declared.refusal.Input.TheVariants as inputs
-use Rattle.stack_lines.specs.Forms.{Form, builds}
+use Rattle.stack_work.specs.Forms.{Form, builds}
 use Rattle.stack_lines.specs.Refusals.{long}
-use Rattle.stack_lines.specs.Answers.{Due, stages_due, AreStagesOf, IsAnswer, verdict_status}
-use Rattle.stack_lines.specs.Work.{gives, refuses, ◌>>=◌, Holds, Ends}
-use Rattle.stack_lines.specs.Surveying.{greatest_file, surveyed_file}
-use Rattle.stack_lines.specs.Building.{order_step, stages_step, order_work, ordered_file, stages_work}
-use Rattle.stack_lines.specs.AcceptedModel.{IsAcceptedModel}
+use Rattle.stack_work.specs.Answers.{Due, stages_due, AreStagesOf, IsAnswer}
+use Rattle.stack_lines.specs.Verdicts.{verdict_status}
+use Rattle.stack_work.specs.Work.{gives, refuses, ◌>>=◌, Holds, Ends}
+use Rattle.stack_work.specs.Surveying.{greatest_file, surveyed_file}
+use Rattle.stack_work.specs.Building.{order_step, stages_step, order_work, ordered_file, stages_work}
+use Rattle.stack_work.specs.AcceptedModel.{IsAcceptedModel}
 use Rattle.stack_said.specs.MainTheorem.{Answered, RunMeets}
 use Rattle.stack_said.specs.StagesSaid.{ModelAndOrder, StagesSay}
-use Rattle.stack_lines.proofs.Ways.{came_from}
-use Rattle.stack_lines.proofs.AcceptedFiles.{told_bytes, only_accepted}
+use Rattle.stack_work.proofs.Ways.{came_from}
+use Rattle.stack_work.proofs.AcceptedFiles.{told_bytes, only_accepted}
 
 -- an answer is what comes of the stages of the second file's order
 abbrev Said : List ℕ → List ℕ → Due → Type 0

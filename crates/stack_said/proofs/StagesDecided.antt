@@ -7,23 +7,24 @@ use Rattle.stack_certificate.specs.Certificate.{ForcesValue, MotionValue, collap
 use Rattle.stack_judge.specs.declared.types.JudgePlace.{JudgePlace}
 use Rattle.stack_judge.specs.Judgement.{certified, too_wide, spent}
 use Rattle.stack_stages.specs.Stage.{stage}
-use Rattle.stack_stages.specs.OrderRead.{told_order}
+use Rattle.stack_orders.specs.OrderRead.{told_order}
 use Rattle.stack_stages.specs.Staged.{Staged, all_stand, falls, too_wide_at, spent_at, no_stages, staged, IsFirstStage}
 use Rattle.stack_stages.specs.Staged.{AreByStages}
 use Rattle.stack_stages.proofs.FirstDecides.{stages_are_by_stages, stages_are_decided}
 use Rattle.stack_lines.specs.declared.refusal.Input.TheVariants as inputs
 use Rattle.stack_lines.specs.declared.refusal.Within.TheVariants.{Stage}
 use Rattle.stack_lines.specs.Refusals.{Refusal, Fault, faulty, order_line, over_budget}
-use Rattle.stack_lines.specs.Answers.{Due, stages_due, verdict_status}
-use Rattle.stack_lines.specs.AcceptedModel.{IsAcceptedModel}
-use Rattle.stack_lines.specs.Building.{order_step, stages_step, order_work, ordered_file, stages_work}
-use Rattle.stack_lines.specs.Forms.{Form, builds}
-use Rattle.stack_lines.specs.Judging.{wide_within}
-use Rattle.stack_lines.specs.OneEnd.{IsSettled}
-use Rattle.stack_lines.specs.Surveying.{greatest_file, surveyed_file}
-use Rattle.stack_lines.specs.Work.{◌>>=◌, Ends}
-use Rattle.stack_lines.proofs.AcceptedFiles.{all_accepted}
-use Rattle.stack_lines.proofs.Ways.{goes_on}
+use Rattle.stack_work.specs.Answers.{Due, stages_due}
+use Rattle.stack_lines.specs.Verdicts.{verdict_status}
+use Rattle.stack_work.specs.AcceptedModel.{IsAcceptedModel}
+use Rattle.stack_work.specs.Building.{order_step, stages_step, order_work, ordered_file, stages_work}
+use Rattle.stack_work.specs.Forms.{Form, builds}
+use Rattle.stack_work.specs.Judging.{wide_within}
+use Rattle.stack_work.specs.OneEnd.{IsSettled}
+use Rattle.stack_work.specs.Surveying.{greatest_file, surveyed_file}
+use Rattle.stack_work.specs.Work.{◌>>=◌, Ends}
+use Rattle.stack_work.proofs.AcceptedFiles.{all_accepted}
+use Rattle.stack_work.proofs.Ways.{goes_on}
 use Rattle.stack_said.specs.Decided.{Refuses, WritesStages}
 use Rattle.stack_said.specs.Headline.{Leaves}
 use Rattle.stack_said.specs.MainTheorem.{IsGivenOut, RunMeets}

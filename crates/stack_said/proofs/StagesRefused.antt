@@ -4,20 +4,20 @@ use Rattle.std.proofs.Common.{Option, Result, Ok, Err, inl, inr, arith}
 use Rattle.stack_outside.specs.Seen.{ShelfSeen, StreamSeen}
 use Rattle.stack_contact.specs.Surveyed.{Surveyed}
 use Rattle.stack_stages.specs.Stage.{stage}
-use Rattle.stack_stages.specs.OrderRead.{told_order}
+use Rattle.stack_orders.specs.OrderRead.{told_order}
 use Rattle.stack_stages.specs.Staged.{Staged, all_stand, falls, too_wide_at, spent_at, no_stages, staged, AreByStages}
 use Rattle.stack_stages.proofs.FirstDecides.{stages_are_by_stages}
 use Rattle.stack_lines.specs.declared.refusal.Input.TheVariants as inputs
 use Rattle.stack_lines.specs.declared.refusal.Within.TheVariants.{Stage}
 use Rattle.stack_lines.specs.Refusals.{Refusal, faulty, order_line, over_budget, status_of}
-use Rattle.stack_lines.specs.AcceptedModel.{IsAcceptedModel}
-use Rattle.stack_lines.specs.Building.{order_step, stages_step, order_work, ordered_file, stages_work}
-use Rattle.stack_lines.specs.Forms.{Form, builds}
-use Rattle.stack_lines.specs.Judging.{wide_within}
-use Rattle.stack_lines.specs.Surveying.{surveyed_file}
-use Rattle.stack_lines.specs.Work.{◌>>=◌, Holds, Ends}
-use Rattle.stack_lines.proofs.AcceptedFiles.{only_accepted}
-use Rattle.stack_lines.proofs.RefusedFrom.{CameOf, refused_from}
+use Rattle.stack_work.specs.AcceptedModel.{IsAcceptedModel}
+use Rattle.stack_work.specs.Building.{order_step, stages_step, order_work, ordered_file, stages_work}
+use Rattle.stack_work.specs.Forms.{Form, builds}
+use Rattle.stack_work.specs.Judging.{wide_within}
+use Rattle.stack_work.specs.Surveying.{surveyed_file}
+use Rattle.stack_work.specs.Work.{◌>>=◌, Holds, Ends}
+use Rattle.stack_work.proofs.AcceptedFiles.{only_accepted}
+use Rattle.stack_work.proofs.RefusedFrom.{CameOf, refused_from}
 use Rattle.stack_said.specs.Decided.{IsShort}
 use Rattle.stack_said.specs.FurtherFaults.{HasFaultyOrder, HasWideStage, HasSpentStage}
 use Rattle.stack_said.specs.FurtherRefusals.{StagesRefusals}

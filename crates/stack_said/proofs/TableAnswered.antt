@@ -13,13 +13,14 @@ use Rattle.stack_report.specs.ForceNumbers.{wide_index}
 use Rattle.stack_lines.specs.declared.answer.Verdict.{Verdict}
 use Rattle.stack_lines.specs.declared.answer.Verdict.TheVariants.{Affirmed, Denied}
 use Rattle.stack_lines.specs.Refusals.{Refusal, faulty, wide_table}
-use Rattle.stack_lines.specs.Forms.{Form, tables}
-use Rattle.stack_lines.specs.Answers.{Due, exactly, IsAnswer, verdict_status}
-use Rattle.stack_lines.specs.Work.{Holds, Ends}
-use Rattle.stack_lines.specs.Surveying.{greatest_file}
-use Rattle.stack_lines.specs.Checking.{certificate_due}
-use Rattle.stack_lines.specs.Tables.{tables_text, tabled_by, table_due, table_work}
-use Rattle.stack_lines.specs.OneEnd.{IsSettled}
+use Rattle.stack_work.specs.Forms.{Form, tables}
+use Rattle.stack_work.specs.Answers.{Due, exactly, IsAnswer}
+use Rattle.stack_lines.specs.Verdicts.{verdict_status}
+use Rattle.stack_work.specs.Work.{Holds, Ends}
+use Rattle.stack_work.specs.Surveying.{greatest_file}
+use Rattle.stack_work.specs.Checking.{certificate_due}
+use Rattle.stack_work.specs.Tables.{tables_text, tabled_by, table_due, table_work}
+use Rattle.stack_work.specs.OneEnd.{IsSettled}
 use Rattle.stack_said.specs.MainTheorem.{Answered, IsGivenOut, RunMeets}
 use Rattle.stack_said.specs.Accepted.{ModelAndCertificate, HoldTrueCertificate, HoldFalseCertificate, IsWideCheck}
 use Rattle.stack_said.specs.Said.{Writes, TableSays}

@@ -6,24 +6,25 @@ use Rattle.stack_outside.specs.Seen.{ShelfSeen, StreamSeen, Took}
 use Rattle.stack_model.specs.Structure.{Structure, load_of}
 use Rattle.stack_contact.specs.Surveyed.{Surveyed}
 use Rattle.stack_pairs.specs.Reaches.{RegionValue, collapse, points}
-use Rattle.stack_yield.specs.Directions.{directions_of, AreDirections}
-use Rattle.stack_yield.specs.Pairing.{is_slight_load, slight_number, paired, pair_of}
+use Rattle.stack_directions.specs.Directions.{directions_of, AreDirections}
+use Rattle.stack_directions.specs.Pairing.{is_slight_load, slight_number, paired, pair_of}
 use Rattle.stack_yield.specs.Outcomes.{Outcomes, answered, passes_at, spends_at, no_outcomes, outcomes}
-use Rattle.stack_yield.proofs.DirectionLists.{is_read}
+use Rattle.stack_directions.proofs.DirectionLists.{is_read}
 use Rattle.stack_lines.specs.declared.answer.Verdict.{Verdict}
 use Rattle.stack_lines.specs.declared.refusal.Input.TheVariants as inputs
-use Rattle.stack_lines.specs.Forms.{Form, yields}
+use Rattle.stack_work.specs.Forms.{Form, yields}
 use Rattle.stack_lines.specs.Refusals.{long}
-use Rattle.stack_lines.specs.Answers.{Due, region_due, IsRegionOf, IsAnswer, verdict_status}
-use Rattle.stack_lines.specs.Work.{gives, refuses, ◌>>=◌, Holds, Ends}
-use Rattle.stack_lines.specs.Surveying.{greatest_file, surveyed_file}
-use Rattle.stack_lines.specs.Yielding.{loads_step, directions_step, region_step, directions_work, directed_file}
-use Rattle.stack_lines.specs.Yielding.{paired_file, yield_work}
-use Rattle.stack_lines.specs.AcceptedModel.{IsAcceptedModel}
+use Rattle.stack_work.specs.Answers.{Due, region_due, IsRegionOf, IsAnswer}
+use Rattle.stack_lines.specs.Verdicts.{verdict_status}
+use Rattle.stack_work.specs.Work.{gives, refuses, ◌>>=◌, Holds, Ends}
+use Rattle.stack_work.specs.Surveying.{greatest_file, surveyed_file}
+use Rattle.stack_work.specs.Yielding.{loads_step, directions_step, region_step, directions_work, directed_file}
+use Rattle.stack_work.specs.Yielding.{paired_file, yield_work}
+use Rattle.stack_work.specs.AcceptedModel.{IsAcceptedModel}
 use Rattle.stack_said.specs.MainTheorem.{Answered, RunMeets}
 use Rattle.stack_said.specs.RegionSaid.{ModelAndDirections, RegionSays}
-use Rattle.stack_lines.proofs.Ways.{came_from}
-use Rattle.stack_lines.proofs.AcceptedFiles.{told_bytes, only_accepted}
+use Rattle.stack_work.proofs.Ways.{came_from}
+use Rattle.stack_work.proofs.AcceptedFiles.{told_bytes, only_accepted}
 
 -- the number from 1 of a load that is found
 number_if : (t : Bool) (m k : ℕ) → (if t then Some m else None) ≡ Some k → suc m ≡ k + 1

@@ -13,12 +13,12 @@ use Rattle.stack_checker.specs.declared.types.CheckPlace.{CheckPlace}
 use Rattle.stack_checker.specs.Shown.{Shows}
 use Rattle.stack_checker.specs.WrittenCheck.{written_check}
 use Rattle.stack_lines.specs.declared.answer.Verdict.TheVariants.{Denied}
-use Rattle.stack_lines.specs.Answers.{exactly}
+use Rattle.stack_work.specs.Answers.{exactly}
 use Rattle.stack_lines.specs.CheckText.{accepted_text, rejected_text}
-use Rattle.stack_lines.specs.Work.{Holds, Ends}
-use Rattle.stack_lines.specs.Surveying.{greatest_file}
-use Rattle.stack_lines.specs.Checking.{check_work}
-use Rattle.stack_lines.specs.AcceptedModel.{IsAcceptedModel}
+use Rattle.stack_work.specs.Work.{Holds, Ends}
+use Rattle.stack_work.specs.Surveying.{greatest_file}
+use Rattle.stack_work.specs.Checking.{check_work}
+use Rattle.stack_work.specs.AcceptedModel.{IsAcceptedModel}
 use Rattle.stack_said.specs.Printed.{acceptance}
 
 -- The bytes of two files: the first are an accepted model, with this survey, the second the text of this certificate.

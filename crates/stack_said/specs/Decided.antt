@@ -9,9 +9,10 @@ use Rattle.stack_stages.specs.Staged.{Staged, AreTrue, AreSettled}
 use Rattle.stack_stages.specs.StagesText.{stages_text}
 use Rattle.stack_yield.specs.JudgedReaches.{RegionIsJudged}
 use Rattle.stack_yield.specs.RegionText.{region_text}
-use Rattle.stack_lines.specs.Answers.{range_verdict, stages_verdict, region_verdict, verdict_status}
+use Rattle.stack_work.specs.Answers.{range_verdict, stages_verdict, region_verdict}
+use Rattle.stack_lines.specs.Verdicts.{verdict_status}
 use Rattle.stack_lines.specs.Refusals.{Fault, faulty, fault_status}
-use Rattle.stack_lines.specs.Surveying.{greatest_file}
+use Rattle.stack_work.specs.Surveying.{greatest_file}
 use Rattle.stack_said.specs.Delivery.{SaysLine}
 
 -- A file that isn't too long.

@@ -5,7 +5,7 @@ use Rattle.stack_outside.specs.Seen.{StreamSeen, StreamFailed, Took, TookNothing
 use Rattle.stack_lines.specs.declared.answer.Answer.{Answer}
 use Rattle.stack_lines.specs.declared.refusal.Refusal.{Refusal as CodeRefusal}
 use Rattle.stack_lines.specs.Refusals.{Refusal, refusal_view, words, faulty, memory, output, status_of, refusal_line}
-use Rattle.stack_lines.specs.Answers.{verdict_status}
+use Rattle.stack_lines.specs.Verdicts.{verdict_status}
 
 -- A line ends with a line feed.
 abbrev pub with_line_feed : List ℕ → List ℕ

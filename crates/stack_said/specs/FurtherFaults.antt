@@ -6,14 +6,14 @@ use Rattle.stack_equilibrium.specs.declared.types.Question.TheVariants.{Live}
 use Rattle.stack_judge.specs.declared.types.JudgePlace.{JudgePlace}
 use Rattle.stack_judge.specs.Judgement.{too_wide, spent, LacksLive}
 use Rattle.stack_range.specs.declared.types.Side.{Side}
-use Rattle.stack_stages.specs.OrderRead.{told_order}
+use Rattle.stack_orders.specs.OrderRead.{told_order}
 use Rattle.stack_stages.specs.Staged.{IsFirstStage}
 use Rattle.stack_yield.specs.declared.types.RegionPlace.{RegionPlace}
 use Rattle.stack_yield.specs.ByDirections.{IsFirstDirection}
-use Rattle.stack_yield.specs.Directions.{directions_of}
+use Rattle.stack_directions.specs.Directions.{directions_of}
 use Rattle.stack_yield.specs.Outcomes.{passes, spends}
-use Rattle.stack_yield.specs.Pairing.{pair_of}
-use Rattle.stack_lines.specs.AcceptedModel.{IsAcceptedModel}
+use Rattle.stack_directions.specs.Pairing.{pair_of}
+use Rattle.stack_work.specs.AcceptedModel.{IsAcceptedModel}
 use Rattle.stack_said.specs.Decided.{IsShort}
 use Rattle.stack_said.specs.RangeDecided.{IsWideOn, IsSpentOn}
 use Rattle.stack_said.specs.RegionDecided.{Named}

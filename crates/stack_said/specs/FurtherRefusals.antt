@@ -6,9 +6,9 @@ use Rattle.stack_outside.specs.Seen.{StreamSeen}
 use Rattle.stack_stages.specs.Stage.{stage}
 use Rattle.stack_lines.specs.declared.refusal.Within.TheVariants.{Stage}
 use Rattle.stack_lines.specs.Refusals.{no_live, over_budget, order_line, directions_line}
-use Rattle.stack_lines.specs.Judging.{wide_within}
-use Rattle.stack_lines.specs.Ranging.{within_of}
-use Rattle.stack_lines.specs.Yielding.{wide_toward}
+use Rattle.stack_work.specs.Judging.{wide_within}
+use Rattle.stack_work.specs.Ranging.{within_of}
+use Rattle.stack_work.specs.Yielding.{wide_toward}
 use Rattle.stack_said.specs.Decided.{Refuses}
 use Rattle.stack_said.specs.FurtherFaults.{HasNoLive, HasWideSide, HasSpentSide}
 use Rattle.stack_said.specs.FurtherFaults.{HasFaultyOrder, HasWideStage, HasSpentStage}

@@ -11,8 +11,9 @@ use Rattle.stack_run.specs.WrittenRun.{over}
 use Rattle.stack_judge.specs.declared.types.JudgePlace.{JudgePlace}
 use Rattle.stack_judge.specs.Judgement.{judgement, too_wide, survey_run, LacksLive}
 use Rattle.stack_judge.specs.Judged.{IsJudged}
-use Rattle.stack_lines.specs.Answers.{verdict_of, verdict_status}
-use Rattle.stack_lines.specs.AcceptedModel.{IsAcceptedModel}
+use Rattle.stack_work.specs.Answers.{verdict_of}
+use Rattle.stack_lines.specs.Verdicts.{verdict_status}
+use Rattle.stack_work.specs.AcceptedModel.{IsAcceptedModel}
 
 -- A certificate that is true, of the question and accepted by the check, and tells whether the dead loads stand: the
 -- output grew by exactly its text, and the status is 1 exactly for a collapse.

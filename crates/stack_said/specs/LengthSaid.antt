@@ -2,15 +2,15 @@
 use Rattle.std.specs.Prelude.{◌≡◌, ℕ, ◌<◌, ◌⊎◌, List, [], ◌∷◌, Some, Ok, length}
 use Rattle.stack_outside.specs.Seen.{ShelfSeen, StreamSeen, NeitherFailed}
 use Rattle.stack_contact.specs.Surveyed.{Surveyed}
-use Rattle.stack_yield.specs.Pairing.{pair_of}
+use Rattle.stack_directions.specs.Pairing.{pair_of}
 use Rattle.stack_lines.specs.declared.refusal.Input.{Input}
 use Rattle.stack_lines.specs.declared.refusal.Input.TheVariants as inputs
 use Rattle.stack_lines.specs.Refusals.{long}
-use Rattle.stack_lines.specs.AcceptedModel.{IsAcceptedModel}
-use Rattle.stack_lines.specs.Forms.{Form, files_of, check, tables, builds, yields}
-use Rattle.stack_lines.specs.OneEnd.{AreTold}
-use Rattle.stack_lines.specs.Surveying.{greatest_file}
-use Rattle.stack_lines.specs.Work.{Holds}
+use Rattle.stack_work.specs.AcceptedModel.{IsAcceptedModel}
+use Rattle.stack_work.specs.Forms.{Form, files_of, check, tables, builds, yields}
+use Rattle.stack_work.specs.OneEnd.{AreTold}
+use Rattle.stack_work.specs.Surveying.{greatest_file}
+use Rattle.stack_work.specs.Work.{Holds}
 use Rattle.stack_said.specs.ModelSaid.{IsRefused}
 
 -- One of these files is told, and has more bytes than may be.

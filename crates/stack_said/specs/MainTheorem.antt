@@ -5,10 +5,11 @@ use Rattle.std.specs.Prelude.{◌≡◌, ℕ, ◌<◌, ◌≤◌, ◌⊎◌, Lis
 use Rattle.stack_outside.specs.Seen.{ShelfSeen, StreamSeen, ShelfFailed, StreamFailed, NeitherFailed, Took}
 use Rattle.stack_outside.specs.Seen.{TookNothing}
 use Rattle.stack_lines.specs.declared.answer.Verdict.{Verdict}
-use Rattle.stack_lines.specs.Forms.{Form, files_of}
+use Rattle.stack_work.specs.Forms.{Form, files_of}
 use Rattle.stack_lines.specs.Refusals.{Refusal, file, faulty, memory, output, status_of}
-use Rattle.stack_lines.specs.Answers.{Due, IsAnswer, verdict_status}
-use Rattle.stack_lines.specs.Progress.{AskedFor, Way}
+use Rattle.stack_work.specs.Answers.{Due, IsAnswer}
+use Rattle.stack_lines.specs.Verdicts.{verdict_status}
+use Rattle.stack_work.specs.Progress.{AskedFor, Way}
 use Rattle.stack_said.specs.Delivery.{SaysLine}
 
 -- A way through the work that asks for these files gives what is due, the whole of it was written on the output, and

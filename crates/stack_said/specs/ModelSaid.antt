@@ -10,11 +10,11 @@ use Rattle.stack_certificate.specs.CertificateOf.{certificate_of}
 use Rattle.stack_lines.specs.declared.refusal.Input.TheVariants as inputs
 use Rattle.stack_lines.specs.Refusals.{Fault, faulty, fault_status, memory, long, overlap, many_bearings}
 use Rattle.stack_lines.specs.Refusals.{certificate_line}
-use Rattle.stack_lines.specs.Forms.{Form, check, tables}
-use Rattle.stack_lines.specs.Surveying.{greatest_file}
+use Rattle.stack_work.specs.Forms.{Form, check, tables}
+use Rattle.stack_work.specs.Surveying.{greatest_file}
 use Rattle.stack_lines.specs.Errors.{from_read}
 use Rattle.stack_said.specs.Delivery.{SaysLine}
-use Rattle.stack_lines.specs.AcceptedModel.{IsAcceptedModel}
+use Rattle.stack_work.specs.AcceptedModel.{IsAcceptedModel}
 
 -- The fault's status, nothing on the output, and the fault's line on the error stream unless that failed; or memory is
 -- wanting.

@@ -9,12 +9,12 @@ use Rattle.stack_equilibrium.specs.declared.types.Question.{Question}
 use Rattle.stack_judge.specs.Judged.{IsJudged}
 use Rattle.stack_lines.specs.declared.answer.Verdict.TheVariants.{Affirmed}
 use Rattle.stack_lines.specs.Refusals.{Refusal}
-use Rattle.stack_lines.specs.Answers.{Due, exactly}
+use Rattle.stack_work.specs.Answers.{Due, exactly}
 use Rattle.stack_lines.specs.CheckText.{accepted_text}
-use Rattle.stack_lines.specs.Work.{Holds, Ends}
-use Rattle.stack_lines.specs.Checking.{check_work}
-use Rattle.stack_lines.specs.AcceptedModel.{IsAcceptedModel}
-use Rattle.stack_lines.specs.OneEnd.{IsSettled}
+use Rattle.stack_work.specs.Work.{Holds, Ends}
+use Rattle.stack_work.specs.Checking.{check_work}
+use Rattle.stack_work.specs.AcceptedModel.{IsAcceptedModel}
+use Rattle.stack_work.specs.OneEnd.{IsSettled}
 
 -- How a check ends that accepts: with `accepted`, and status 0.
 abbrev pub acceptance : Result Due Refusal

@@ -12,8 +12,8 @@ use Rattle.stack_range.specs.CarriedFactors.{EndValue, range_end_certificate}
 use Rattle.stack_range.specs.Ranged.{RangeValue, collapsing, between, side_judgement, IsReached}
 use Rattle.stack_range.specs.RangeJudgement.{told, AreSides}
 use Rattle.stack_lines.specs.Refusals.{no_live, over_budget}
-use Rattle.stack_lines.specs.Judging.{wide_within}
-use Rattle.stack_lines.specs.Ranging.{within_of}
+use Rattle.stack_work.specs.Judging.{wide_within}
+use Rattle.stack_work.specs.Ranging.{within_of}
 use Rattle.stack_said.specs.Decided.{Refuses, WritesRange}
 use Rattle.stack_said.specs.Headline.{Leaves}
 use Rattle.stack_said.specs.ModelSaid.{IsRefused}

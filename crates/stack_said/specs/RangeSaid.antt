@@ -10,7 +10,7 @@ use Rattle.stack_judge.specs.Judged.{IsJudged}
 use Rattle.stack_range.specs.CarriedFactors.{EndValue}
 use Rattle.stack_range.specs.Ranged.{between, IsRangeBetween}
 use Rattle.stack_range.specs.RangeText.{range_text}
-use Rattle.stack_lines.specs.AcceptedModel.{IsAcceptedModel}
+use Rattle.stack_work.specs.AcceptedModel.{IsAcceptedModel}
 
 -- The bytes are an accepted model. Each end has a certificate that is true of its side and accepted, and the factors of
 -- any sign that the model carries are exactly those between both. The text is that of the two ends.

@@ -6,12 +6,12 @@ use Rattle.stack_contact.specs.Surveyed.{Surveyed}
 use Rattle.stack_certificate.specs.Certificate.{MotionValue}
 use Rattle.stack_pairs.specs.Reaches.{ReachValue, RegionValue, collapse, points}
 use Rattle.stack_yield.specs.declared.types.RegionPlace.{RegionPlace}
-use Rattle.stack_yield.specs.Directions.{directions_of}
-use Rattle.stack_yield.specs.Pairing.{pair_of}
+use Rattle.stack_directions.specs.Directions.{directions_of}
+use Rattle.stack_directions.specs.Pairing.{pair_of}
 use Rattle.stack_yield.specs.Outcomes.{falls, passes, spends, answered}
 use Rattle.stack_yield.specs.ByDirections.{ReachBefore, IsFirstDirection, AreByDirections}
 use Rattle.stack_lines.specs.Refusals.{no_pair, directions_line, over_budget}
-use Rattle.stack_lines.specs.Yielding.{wide_toward}
+use Rattle.stack_work.specs.Yielding.{wide_toward}
 use Rattle.stack_said.specs.Decided.{Refuses, WritesRegion}
 use Rattle.stack_said.specs.Headline.{Leaves}
 use Rattle.stack_said.specs.ModelSaid.{IsRefused}

@@ -11,10 +11,10 @@ use Rattle.stack_equilibrium.specs.declared.types.Question.TheVariants.{Live}
 use Rattle.stack_judge.specs.Judged.{IsJudged}
 use Rattle.stack_pairs.specs.Directed.{ArePair}
 use Rattle.stack_pairs.specs.Reaches.{ReachValue, points, ArePoints}
-use Rattle.stack_yield.specs.Directions.{AreDirections}
+use Rattle.stack_directions.specs.Directions.{AreDirections}
 use Rattle.stack_yield.specs.JudgedReaches.{ReachIsJudged}
 use Rattle.stack_yield.specs.RegionText.{region_text}
-use Rattle.stack_lines.specs.AcceptedModel.{IsAcceptedModel}
+use Rattle.stack_work.specs.AcceptedModel.{IsAcceptedModel}
 
 -- The first file is an accepted model, with this survey; i and j are the numbers from 1 of two different live loads of
 -- it, whose numbers from 0 are these; and the second file is the lines of these directions.

@@ -7,12 +7,12 @@ use Rattle.stack_certificate.specs.Certificate.{CertificateValue}
 use Rattle.stack_certificate.specs.CertificateText.{IsCertificateText}
 use Rattle.stack_equilibrium.specs.declared.types.Question.{Question}
 use Rattle.stack_judge.specs.Judged.{IsJudged}
-use Rattle.stack_yield.specs.Pairing.{pair_of}
+use Rattle.stack_directions.specs.Pairing.{pair_of}
 use Rattle.stack_lines.specs.Refusals.{no_pair}
-use Rattle.stack_lines.specs.declared.form.Kind.{Kind}
-use Rattle.stack_lines.specs.AcceptedModel.{IsAcceptedModel}
-use Rattle.stack_lines.specs.Forms.{Form, files_of, judges, check, tables, contacts, stack, sample, ranges, builds}
-use Rattle.stack_lines.specs.Forms.{yields}
+use Rattle.stack_work.specs.declared.form.Kind.{Kind}
+use Rattle.stack_work.specs.AcceptedModel.{IsAcceptedModel}
+use Rattle.stack_work.specs.Forms.{Form, files_of, judges, check, tables, contacts, stack, sample, ranges, builds}
+use Rattle.stack_work.specs.Forms.{yields}
 use Rattle.stack_said.specs.Accepted.{CheckSays}
 use Rattle.stack_said.specs.Decided.{IsShort}
 use Rattle.stack_said.specs.FurtherFaults.{HasNoPair}

@@ -2,7 +2,7 @@
 -- of its shelf, its output and its error stream.
 use Rattle.std.specs.Prelude.{◌≡◌, ℕ, ◌≤◌, Option}
 use Rattle.stack_outside.specs.Seen.{ShelfSeen, StreamSeen}
-use Rattle.stack_lines.specs.Forms.{Form}
+use Rattle.stack_work.specs.Forms.{Form}
 use Rattle.stack_said.specs.MainTheorem.{RunMeets}
 use Rattle.stack_said.specs.OnePut.{PutsAnswer, PutsLine}
 use Rattle.stack_said.specs.RunSaid.{RunSays}

@@ -18,13 +18,13 @@ use Rattle.stack_report.specs.ContactTable.{contacts_text}
 use Rattle.stack_report.specs.ForceNumbers.{wide_index}
 use Rattle.stack_report.specs.Summary.{summary_text}
 use Rattle.stack_walls.specs.Surveying.{HasSurvey}
-use Rattle.stack_lines.specs.declared.form.Kind.{Kind}
-use Rattle.stack_lines.specs.Judging.{default_budget}
-use Rattle.stack_lines.specs.Surveying.{greatest_file}
-use Rattle.stack_lines.specs.Stacking.{stack_of}
-use Rattle.stack_lines.specs.Sampling.{sample_of}
-use Rattle.stack_lines.specs.Tables.{tables_text}
-use Rattle.stack_lines.specs.AcceptedModel.{IsAcceptedModel}
+use Rattle.stack_work.specs.declared.form.Kind.{Kind}
+use Rattle.stack_work.specs.Judging.{default_budget}
+use Rattle.stack_work.specs.Surveying.{greatest_file}
+use Rattle.stack_work.specs.Stacking.{stack_of}
+use Rattle.stack_work.specs.Sampling.{sample_of}
+use Rattle.stack_work.specs.Tables.{tables_text}
+use Rattle.stack_work.specs.AcceptedModel.{IsAcceptedModel}
 use Rattle.stack_said.specs.Accepted.{ModelAndCertificate, HoldTrueCertificate, HoldFalseCertificate}
 use Rattle.stack_said.specs.Accepted.{IsWideCheck}
 

@@ -7,11 +7,11 @@ use Rattle.stack_certificate.specs.Certificate.{ForcesValue, MotionValue, collap
 use Rattle.stack_judge.specs.declared.types.JudgePlace.{JudgePlace}
 use Rattle.stack_judge.specs.Judgement.{certified, too_wide, spent}
 use Rattle.stack_stages.specs.Stage.{stage}
-use Rattle.stack_stages.specs.OrderRead.{told_order}
+use Rattle.stack_orders.specs.OrderRead.{told_order}
 use Rattle.stack_stages.specs.Staged.{Staged, all_stand, falls, IsFirstStage, AllAreJudged, AreByStages}
 use Rattle.stack_lines.specs.declared.refusal.Within.TheVariants.{Stage}
 use Rattle.stack_lines.specs.Refusals.{order_line, over_budget}
-use Rattle.stack_lines.specs.Judging.{wide_within}
+use Rattle.stack_work.specs.Judging.{wide_within}
 use Rattle.stack_said.specs.Decided.{Refuses, WritesStages}
 use Rattle.stack_said.specs.Headline.{Leaves}
 use Rattle.stack_said.specs.ModelSaid.{IsRefused}

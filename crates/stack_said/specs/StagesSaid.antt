@@ -5,10 +5,10 @@ use Rattle.std.specs.Prelude.{◌≡◌, ℕ, List, Ok}
 use Rattle.stack_outside.specs.Seen.{StreamSeen, Took}
 use Rattle.stack_contact.specs.Surveyed.{Surveyed}
 use Rattle.stack_certificate.specs.Certificate.{ForcesValue, MotionValue}
-use Rattle.stack_stages.specs.OrderRead.{told_order}
+use Rattle.stack_orders.specs.OrderRead.{told_order}
 use Rattle.stack_stages.specs.Staged.{all_stand, falls, AreTrue, AreSettled}
 use Rattle.stack_stages.specs.StagesText.{stages_text}
-use Rattle.stack_lines.specs.AcceptedModel.{IsAcceptedModel}
+use Rattle.stack_work.specs.AcceptedModel.{IsAcceptedModel}
 
 -- The first file is an accepted model, with this survey, and the second tells an order of building of it.
 pub record ModelAndOrder (bytes text : List ℕ) : Type 0 where

@@ -4,10 +4,10 @@ ghost use Rattle.std.specs.Prelude.{◌≡◌, ℕ, List, [], ◌∷◌, Some, O
 ghost use Rattle.stack_contact.specs.Surveyed.{Surveyed};
 ghost use Rattle.stack_statics.specs.Scene.{IsProper};
 ghost use Rattle.stack_equilibrium.specs.SurveyScene.{scene_of};
-ghost use Rattle.stack_lines.specs.Work.{Holds, Ends};
-ghost use Rattle.stack_lines.specs.Surveying.{surveyed_file};
-ghost use Rattle.stack_lines.specs.OneEnd.{WordsHaveOneEnd};
-ghost use Rattle.stack_lines.specs.AcceptedModel.{IsAcceptedModel};
+ghost use Rattle.stack_work.specs.Work.{Holds, Ends};
+ghost use Rattle.stack_work.specs.Surveying.{surveyed_file};
+ghost use Rattle.stack_work.specs.OneEnd.{WordsHaveOneEnd};
+ghost use Rattle.stack_work.specs.AcceptedModel.{IsAcceptedModel};
 ghost use Rattle.stack_said.specs.Printed.{PrintedIsAccepted, PrintedIsShort};
 ghost use Rattle.stack_said.specs.Accepted.{AcceptedIsTrueOfFiles, RejectedIsFalseOfFiles, FilesHoldOne};
 

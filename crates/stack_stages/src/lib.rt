@@ -9,19 +9,14 @@
 //! ```
 #![tactic(auto)]
 
-mod errors;
 mod judging;
 mod laws;
-mod lines;
-mod reading;
 mod stage;
 mod text;
 mod types;
 
-pub use errors::OrderError;
 pub use judging::stages;
 pub use laws::stages_laws;
-pub use reading::read_order;
 pub use stage::stage_of;
 pub use text::write_stages;
 pub use types::{Outcome, Stages, StagesError};

@@ -6,7 +6,7 @@ use Rattle.stack_algebra.proofs.Integers.{sums}
 use Rattle.stack_algebra.specs.IntegerOrder.{◌≼◌}
 use Rattle.stack_whole.specs.declared.whole.Whole.{Whole}
 use Rattle.stack_whole.specs.Whole.{whole}
-use Rattle.stack_yield.proofs.DirectedBorne.{cast}
+use Rattle.stack_directions.proofs.DirectedBorne.{cast}
 use Rattle.stack_algebra.specs.Fraction.{Fraction}
 use Rattle.stack_algebra.proofs.Over.{over}
 use Rattle.stack_rational.specs.Laws.{widest}
@@ -29,7 +29,7 @@ use Rattle.stack_pairs.proofs.Reached.{directed_dead_power}
 use Rattle.stack_yield.specs.declared.judging.DirectionAnswer.{DirectionAnswer}
 use Rattle.stack_yield.specs.declared.judging.DirectionAnswer.TheVariants.{Reaches, Falls}
 use Rattle.stack_yield.specs.declared.judging.DirectionStop.{DirectionStop}
-use Rattle.stack_yield.specs.Coordinates.{fitting_terms, both_coordinates, coordinate_of, point_made}
+use Rattle.stack_directions.specs.Coordinates.{fitting_terms, both_coordinates, coordinate_of, point_made}
 use Rattle.stack_yield.specs.LessDead.{less_dead}
 use Rattle.stack_yield.specs.Kept.{reach_view}
 use Rattle.stack_yield.specs.Outcomes.{reaches, unless_wide, bounded}

@@ -14,7 +14,7 @@ use Rattle.stack_judge.proofs.JudgedValues.{of_the_question}
 use Rattle.stack_pairs.specs.Directed.{directed_survey}
 use Rattle.stack_pairs.specs.Reaches.{PointValue, ReachValue, collapse, points, reach_of}
 use Rattle.stack_yield.specs.declared.types.RegionPlace.TheVariants as places
-use Rattle.stack_yield.specs.Coordinates.{point_made}
+use Rattle.stack_directions.specs.Coordinates.{point_made}
 use Rattle.stack_yield.specs.Outcomes.{Outcome, reaches, falls, passes, spends, no_outcome, unless_wide}
 use Rattle.stack_yield.specs.Outcomes.{outcome_of, direction_outcome, with_reach, and_then, outcomes_from, outcomes}
 use Rattle.stack_yield.specs.Outcomes.{Outcomes, answered, passes_at, spends_at, no_outcomes}

@@ -9,7 +9,7 @@ use Rattle.stack_rational.specs.TooWide.{fraction_fits}
 use Rattle.stack_rational.proofs.Fitting.{Fits-of}
 use Rattle.stack_certificate.specs.Certificate.{ForcesValue}
 use Rattle.stack_pairs.specs.Reaches.{PointValue, terms_of}
-use Rattle.stack_yield.specs.Coordinates.{fitting_terms, both_coordinates, coordinate_of, point_made}
+use Rattle.stack_directions.specs.Coordinates.{fitting_terms, both_coordinates, coordinate_of, point_made}
 use Rattle.stack_yield.specs.JudgedReaches.{PointFits, HalfFits}
 
 abbrev Both : ℤ × ℤ → Type 0

@@ -15,7 +15,7 @@ use Rattle.stack_pairs.specs.Reaches.{direction_of_reach, reach_of}
 use Rattle.stack_pairs.specs.Laws.{RegionsTell}
 use Rattle.stack_certificate.specs.declared.types.Motion.{Motion}
 use Rattle.stack_certificate.specs.Certificate.{motion_view, stands, collapses, greatest, unbounded}
-use Rattle.stack_yield.specs.declared.directing.Towards.{Towards}
+use Rattle.stack_directions.specs.declared.directing.Towards.{Towards}
 use Rattle.stack_yield.specs.declared.types.RegionError.{RegionError}
 use Rattle.stack_yield.specs.declared.types.RegionError.TheVariants as errors
 use Rattle.stack_equilibrium.specs.declared.types.PowerWide.{PowerWide}

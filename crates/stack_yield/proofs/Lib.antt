@@ -1,7 +1,3 @@
-pub mod DirectionLines
-pub mod DirectionLists
-pub mod DirectedBorne
-pub mod Points
 pub mod Accepted
 mod FittingReaches
 pub mod BoundedReaches

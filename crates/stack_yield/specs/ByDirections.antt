@@ -11,7 +11,7 @@ use Rattle.stack_pairs.specs.Directed.{directed_survey}
 use Rattle.stack_pairs.specs.Reaches.{PointValue, ReachValue, collapse, points}
 use Rattle.stack_yield.specs.declared.types.RegionPlace.{RegionPlace}
 use Rattle.stack_yield.specs.declared.types.RegionPlace.TheVariants as places
-use Rattle.stack_yield.specs.Coordinates.{point_made}
+use Rattle.stack_directions.specs.Coordinates.{point_made}
 use Rattle.stack_yield.specs.Outcomes.{Outcome, reaches, falls, passes, spends, no_outcome}
 use Rattle.stack_yield.specs.Outcomes.{Outcomes, answered, passes_at, spends_at, no_outcomes, outcomes}
 

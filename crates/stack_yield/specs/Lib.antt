@@ -1,8 +1,3 @@
-pub mod Directions
-pub mod Reading
-pub mod Pairing
-pub mod Directing
-pub mod Coordinates
 pub mod Kept
 pub mod LessDead
 pub mod Outcomes

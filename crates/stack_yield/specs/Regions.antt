@@ -5,7 +5,7 @@ use Rattle.stack_certificate.specs.Certificate.{motion_view, collapses}
 use Rattle.stack_equilibrium.specs.declared.types.Question.TheVariants.{Live}
 use Rattle.stack_judge.specs.Judged.{IsJudged}
 use Rattle.stack_pairs.specs.Reaches.{IsReach}
-use Rattle.stack_yield.specs.declared.directing.Towards.{Towards}
+use Rattle.stack_directions.specs.declared.directing.Towards.{Towards}
 use Rattle.stack_yield.specs.declared.judging.DirectionAnswer.{DirectionAnswer}
 use Rattle.stack_yield.specs.declared.judging.DirectionAnswer.TheVariants.{Reaches, Falls}
 use Rattle.stack_yield.specs.declared.judging.DirectionStop.{DirectionStop}

@@ -4,13 +4,13 @@ ghost use Rattle.std.specs.Prelude.{◌≡◌, ◌≢◌, ◌≤◌, IfOk, lengt
 ghost use Rattle.std.specs.List.{All};
 ghost use Rattle.stack_pairs.specs.Directed.{ArePair};
 ghost use Rattle.stack_pairs.specs.Reaches.{RegionTells};
-ghost use Rattle.stack_yield.specs.Directions.{IsDirection, most_directions};
+ghost use Rattle.stack_directions.specs.Directions.{IsDirection, most_directions};
 ghost use Rattle.stack_yield.specs.Kept.{region_view};
 ghost use Rattle.stack_yield.specs.JudgedReaches.{RegionIsJudged};
 ghost use Rattle.stack_yield.specs.Regions.{Regions, RefusesFirstDirection, region_refusal, towards_of};
 ghost use Rattle.stack_yield.specs.RegionText.{CanPrintRegion};
 
-use crate::directing::{Towards, directed};
+use stack_directions::{Towards, directed};
 use crate::judging::{DirectionAnswer, DirectionStop, judge_direction};
 use crate::types::{Region, RegionError};
 use stack_contact::Survey;

@@ -11,8 +11,7 @@ ghost use Rattle.stack_yield.specs.LessDead.{less_dead};
 ghost use Rattle.stack_yield.specs.Outcomes.{bounded, certificate_outcome, direction_outcome};
 ghost use Rattle.stack_yield.specs.Regions.{IsOutcome, AnswerFits, AnswerHolds};
 
-use crate::coordinates::point;
-use crate::directing::{Towards, survey_towards};
+use stack_directions::{Towards, point, survey_towards};
 use crate::types::{Reach, RegionPlace};
 use stack_certificate::{Certificate, Forces, Motion};
 use stack_contact::Survey;

@@ -10,22 +10,13 @@
 //! ```
 #![tactic(auto)]
 
-mod coordinates;
-mod directing;
-mod directions;
-mod errors;
 mod gathering;
 mod judging;
 mod laws;
-mod naming;
 mod text;
 mod types;
 
-pub use directing::directed;
-pub use directions::read_directions;
-pub use errors::{DirectionsError, NoPair};
 pub use gathering::region;
 pub use laws::directions_laws;
-pub use naming::pair;
 pub use text::write_region;
 pub use types::{Reach, Region, RegionError, RegionPlace};

@@ -5,11 +5,11 @@ ghost use Rattle.stack_outside.specs.Seen.{seen_shelf};
 ghost use Rattle.stack_stages.specs.Stage.{stage as stage_structure};
 ghost use Rattle.stack_stages.specs.Staged.{staged};
 ghost use Rattle.stack_stages.specs.Gives.{stages_view};
-ghost use Rattle.stack_lines.specs.Answers.{stages_verdict as stages_verdict_of};
+ghost use Rattle.stack_work.specs.Answers.{stages_verdict as stages_verdict_of};
 ghost use Rattle.stack_lines.specs.Refusals.{refusal_view, faulty};
-ghost use Rattle.stack_lines.specs.Judging.{wide_within};
-ghost use Rattle.stack_lines.specs.Building.{stages_step, order_work, ordered_file, stages_work};
-ghost use Rattle.stack_lines.specs.Progress.{Does, DoesAlone, AnswersDue};
+ghost use Rattle.stack_work.specs.Judging.{wide_within};
+ghost use Rattle.stack_work.specs.Building.{stages_step, order_work, ordered_file, stages_work};
+ghost use Rattle.stack_work.specs.Progress.{Does, DoesAlone, AnswersDue};
 
 use crate::forms::judging::wide_refusal;
 use crate::reading::read_file;
@@ -18,7 +18,8 @@ use stack_contact::Survey;
 use stack_judge::JudgePlace;
 use stack_lines::{Answer, Input, Refusal, Verdict, Within};
 use stack_outside::Shelf;
-use stack_stages::{Stages, StagesError, read_order, stage_of, stages, write_stages};
+use stack_stages::{Stages, StagesError, stage_of, stages, write_stages};
+use stack_orders::read_order;
 use std::alloc::Global;
 
 /// Whether all stages stand.

@@ -5,9 +5,9 @@ ghost use Rattle.stack_outside.specs.Seen.{seen_shelf};
 ghost use Rattle.stack_certificate.specs.Certificate.{certificate_view};
 ghost use Rattle.stack_checker.specs.WrittenCheck.{written_check};
 ghost use Rattle.stack_checker.specs.declared.types.Check.TheVariants.{Accepted};
-ghost use Rattle.stack_lines.specs.Checking.{check_step, certificate_due, checked, checked_file, certificate_work};
-ghost use Rattle.stack_lines.specs.Tables.{due_of};
-ghost use Rattle.stack_lines.specs.Progress.{Does, DoesAlone, AnswersDue};
+ghost use Rattle.stack_work.specs.Checking.{check_step, certificate_due, checked, checked_file, certificate_work};
+ghost use Rattle.stack_work.specs.Tables.{due_of};
+ghost use Rattle.stack_work.specs.Progress.{Does, DoesAlone, AnswersDue};
 
 use crate::forms::tabling::tables;
 use crate::reading::read_file;
@@ -15,7 +15,8 @@ use crate::surveying::survey_file;
 use stack_certificate::{Certificate, TextError};
 use stack_checker::Check;
 use stack_contact::Survey;
-use stack_lines::{Answer, Asked, Input, Refusal, Verdict, Within, rejection, wide_place};
+use stack_lines::{Answer, Input, Refusal, Verdict, Within, rejection, wide_place};
+use stack_work::Asked;
 use stack_outside::Shelf;
 use std::alloc::Global;
 

@@ -3,10 +3,10 @@
 ghost use Rattle.std.specs.Prelude.{◌≡◌, ◌≢◌, ◌⊎◌};
 ghost use Rattle.stack_outside.specs.Seen.{seen_shelf};
 ghost use Rattle.stack_certificate.specs.Certificate.{certificate_view};
-ghost use Rattle.stack_lines.specs.Answers.{verdict_of as verdict_of_value};
+ghost use Rattle.stack_work.specs.Answers.{verdict_of as verdict_of_value};
 ghost use Rattle.stack_lines.specs.Refusals.{refusal_view, faulty};
-ghost use Rattle.stack_lines.specs.Judging.{wide_within, judged, judge_work};
-ghost use Rattle.stack_lines.specs.Progress.{Does, DoesAlone, AnswersDue};
+ghost use Rattle.stack_work.specs.Judging.{wide_within, judged, judge_work};
+ghost use Rattle.stack_work.specs.Progress.{Does, DoesAlone, AnswersDue};
 
 use crate::surveying::survey_file;
 use stack_certificate::{Certificate, write_certificate};

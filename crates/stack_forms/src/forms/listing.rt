@@ -1,8 +1,8 @@
 //! The words `contacts MODEL`.
 
 ghost use Rattle.stack_outside.specs.Seen.{seen_shelf};
-ghost use Rattle.stack_lines.specs.Listing.{contacts_due, contacts_work};
-ghost use Rattle.stack_lines.specs.Progress.{Does, DoesAlone, AnswersDue};
+ghost use Rattle.stack_work.specs.Listing.{contacts_due, contacts_work};
+ghost use Rattle.stack_work.specs.Progress.{Does, DoesAlone, AnswersDue};
 
 use crate::surveying::survey_file;
 use stack_contact::Survey;

@@ -3,9 +3,9 @@
 ghost use Rattle.std.specs.Prelude.{◌≡◌, ◌≢◌};
 ghost use Rattle.stack_outside.specs.Seen.{seen_shelf};
 ghost use Rattle.stack_range.specs.Ranged.{range_view};
-ghost use Rattle.stack_lines.specs.Answers.{range_verdict as range_verdict_of};
-ghost use Rattle.stack_lines.specs.Ranging.{within_of, range_told, range_work};
-ghost use Rattle.stack_lines.specs.Progress.{Does, DoesAlone, AnswersDue};
+ghost use Rattle.stack_work.specs.Answers.{range_verdict as range_verdict_of};
+ghost use Rattle.stack_work.specs.Ranging.{within_of, range_told, range_work};
+ghost use Rattle.stack_work.specs.Progress.{Does, DoesAlone, AnswersDue};
 
 use crate::forms::judging::wide_refusal;
 use crate::surveying::survey_file;

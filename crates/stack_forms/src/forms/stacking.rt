@@ -2,12 +2,13 @@
 
 ghost use Rattle.stack_model.specs.ModelView.{model_view};
 ghost use Rattle.stack_overhang.specs.Gives.{GivesStack};
-ghost use Rattle.stack_lines.specs.Answers.{document};
-ghost use Rattle.stack_lines.specs.Work.{gives};
-ghost use Rattle.stack_lines.specs.Stacking.{stack_of, built_step, stack_work};
-ghost use Rattle.stack_lines.specs.Progress.{DoesAlone, IsModel, AnswersDue};
+ghost use Rattle.stack_work.specs.Answers.{document};
+ghost use Rattle.stack_work.specs.Work.{gives};
+ghost use Rattle.stack_work.specs.Stacking.{stack_of, built_step, stack_work};
+ghost use Rattle.stack_work.specs.Progress.{DoesAlone, IsModel, AnswersDue};
 
-use stack_lines::{Answer, Kind, Refusal, Verdict};
+use stack_lines::{Answer, Refusal, Verdict};
+use stack_work::Kind;
 use stack_model::Model;
 use stack_overhang::{StackError, harmonic, slab, triangle};
 use std::alloc::Global;

@@ -4,8 +4,8 @@ ghost use Rattle.std.specs.Prelude.{◌≡◌};
 ghost use Rattle.stack_certificate.specs.Certificate.{certificate_view};
 ghost use Rattle.stack_checker.specs.WrittenCheck.{written_check};
 ghost use Rattle.stack_checker.specs.declared.types.Check.TheVariants.{Accepted};
-ghost use Rattle.stack_lines.specs.Tables.{table_due};
-ghost use Rattle.stack_lines.specs.Progress.{DoesAlone, AnswersDue};
+ghost use Rattle.stack_work.specs.Tables.{table_due};
+ghost use Rattle.stack_work.specs.Progress.{DoesAlone, AnswersDue};
 
 use stack_certificate::Certificate;
 use stack_contact::Survey;

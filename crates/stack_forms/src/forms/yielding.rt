@@ -4,14 +4,14 @@ ghost use Rattle.std.specs.Prelude.{◌≡◌, ◌≢◌, ◌≤◌, ◌<◌, �
 ghost use Rattle.std.specs.List.{All};
 ghost use Rattle.stack_outside.specs.Seen.{seen_shelf};
 ghost use Rattle.stack_pairs.specs.Directed.{ArePair};
-ghost use Rattle.stack_yield.specs.Directions.{IsDirection, most_directions};
+ghost use Rattle.stack_directions.specs.Directions.{IsDirection, most_directions};
 ghost use Rattle.stack_yield.specs.Kept.{region_view};
 ghost use Rattle.stack_yield.specs.Outcomes.{outcomes};
-ghost use Rattle.stack_lines.specs.Answers.{region_verdict as region_verdict_of};
+ghost use Rattle.stack_work.specs.Answers.{region_verdict as region_verdict_of};
 ghost use Rattle.stack_lines.specs.Refusals.{refusal_view, faulty};
-ghost use Rattle.stack_lines.specs.Yielding.{wide_toward, region_step, directions_work, directed_file, paired_file};
-ghost use Rattle.stack_lines.specs.Yielding.{yield_work};
-ghost use Rattle.stack_lines.specs.Progress.{Does, DoesAlone, AnswersDue};
+ghost use Rattle.stack_work.specs.Yielding.{wide_toward, region_step, directions_work, directed_file, paired_file};
+ghost use Rattle.stack_work.specs.Yielding.{yield_work};
+ghost use Rattle.stack_work.specs.Progress.{Does, DoesAlone, AnswersDue};
 
 use crate::forms::judging::wide_refusal;
 use crate::reading::read_file;
@@ -19,7 +19,8 @@ use crate::surveying::survey_file;
 use stack_contact::Survey;
 use stack_lines::{Answer, Input, ReachPlace, Refusal, Verdict, Within};
 use stack_outside::Shelf;
-use stack_yield::{Region, RegionError, RegionPlace, pair, read_directions, region, write_region};
+use stack_yield::{Region, RegionError, RegionPlace, region, write_region};
+use stack_directions::{pair, read_directions};
 use std::alloc::Global;
 
 /// Whether the dead loads stand.

@@ -1,8 +1,8 @@
 use Rattle.std.proofs.Common.{Err, subst}
 use Rattle.stack_outside.specs.Seen.{seen_shelf}
 use Rattle.stack_lines.specs.declared.refusal.Refusal.TheVariants.{Words}
-use Rattle.stack_lines.specs.Forms.{form_view}
-use Rattle.stack_lines.specs.Progress.{Works}
+use Rattle.stack_work.specs.Forms.{form_view}
+use Rattle.stack_work.specs.Progress.{Works}
 use Rattle.stack_said.proofs.Outcomes.{form_works, none_works}
 use Rattle.stack_cli.proofs.command.answer_words.Goals as goal
 

@@ -1,7 +1,7 @@
-use Rattle.stack_lines.specs.Stacking.{stack_work}
-use Rattle.stack_lines.specs.Sampling.{sample_work}
-use Rattle.stack_lines.specs.Progress.{AnswersDue}
-use Rattle.stack_lines.proofs.Steps.{alone}
+use Rattle.stack_work.specs.Stacking.{stack_work}
+use Rattle.stack_work.specs.Sampling.{sample_work}
+use Rattle.stack_work.specs.Progress.{AnswersDue}
+use Rattle.stack_work.proofs.Steps.{alone}
 use Rattle.stack_forms.proofs.forms.answer_form.Goals as goal
 
 pub returns-in-Stack : goal.returns-in-Stack

@@ -1,5 +1,5 @@
 use Rattle.std.proofs.Common.{refl}
-use Rattle.stack_lines.proofs.FileRead.{gave, failed, was_long, wanted}
+use Rattle.stack_work.proofs.FileRead.{gave, failed, was_long, wanted}
 use Rattle.stack_forms.proofs.reading.read_file.Goals as goal
 
 pub returns-in-Ok : goal.returns-in-Ok

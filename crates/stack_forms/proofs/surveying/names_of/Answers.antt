@@ -1,5 +1,5 @@
 use Rattle.std.proofs.Common.{◌<◌, ◌∙◌, subst}
-use Rattle.stack_lines.proofs.BodyNames.{one_more_name}
+use Rattle.stack_work.proofs.BodyNames.{one_more_name}
 use Rattle.stack_forms.proofs.surveying.names_of.Goals as goal
 
 pub loop-i-preserved : goal.loop-i-preserved

@@ -1,5 +1,5 @@
-use Rattle.stack_lines.specs.Surveying.{surveyed_file}
-use Rattle.stack_lines.proofs.Steps.{then_alone, refused}
+use Rattle.stack_work.specs.Surveying.{surveyed_file}
+use Rattle.stack_work.proofs.Steps.{then_alone, refused}
 use Rattle.stack_forms.proofs.surveying.survey_file.Goals as goal
 
 pub returns-in-Ok : goal.returns-in-Ok

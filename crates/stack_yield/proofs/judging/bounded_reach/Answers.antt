@@ -8,7 +8,7 @@ use Rattle.stack_pairs.specs.Directed.{directed_survey}
 use Rattle.stack_yield.proofs.Accepted.{power_fits}
 use Rattle.stack_yield.proofs.BoundedReaches.{bounded_is, moves_for, less_dead_is, point_told, half_told, factor_cast}
 use Rattle.stack_yield.proofs.FittingReaches.{point_fits, half_fits}
-use Rattle.stack_yield.proofs.Points.{fitting_cast}
+use Rattle.stack_directions.proofs.Points.{fitting_cast}
 use Rattle.stack_yield.proofs.judging.bounded_reach.Goals as goal
 
 pub power-requires : goal.power-requires

@@ -4,7 +4,7 @@ use Rattle.stack_whole.specs.Whole.{IsFitting, made}
 use Rattle.stack_certificate.specs.Certificate.{forces_view, motion_view}
 use Rattle.stack_equilibrium.specs.declared.types.Question.TheVariants.{Dead}
 use Rattle.stack_yield.proofs.Accepted.{moves_counted, not_refused, power_fits, less_fits}
-use Rattle.stack_yield.proofs.Points.{fitting_cast}
+use Rattle.stack_directions.proofs.Points.{fitting_cast}
 use Rattle.stack_yield.proofs.judging.dead_power.Goals as goal
 
 pub power-requires : goal.power-requires

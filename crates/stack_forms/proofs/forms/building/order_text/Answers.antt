@@ -1,4 +1,4 @@
-use Rattle.stack_lines.proofs.StagesEnds.{order_judged, order_refused}
+use Rattle.stack_work.proofs.StagesEnds.{order_judged, order_refused}
 use Rattle.stack_forms.proofs.forms.building.order_text.Goals as goal
 
 pub returns-in-Ok : goal.returns-in-Ok

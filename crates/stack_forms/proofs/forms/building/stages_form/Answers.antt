@@ -1,5 +1,5 @@
-use Rattle.stack_lines.specs.Building.{stages_work}
-use Rattle.stack_lines.proofs.Steps.{then, refused}
+use Rattle.stack_work.specs.Building.{stages_work}
+use Rattle.stack_work.proofs.Steps.{then, refused}
 use Rattle.stack_forms.proofs.forms.building.stages_form.Goals as goal
 
 pub returns-in-Ok : goal.returns-in-Ok

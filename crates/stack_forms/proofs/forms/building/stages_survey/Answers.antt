@@ -1,8 +1,8 @@
 use Rattle.std.proofs.Common.{Err, subst}
 use Rattle.stack_stages.specs.Staged.{staged}
 use Rattle.stack_stages.specs.Gives.{stages_view, GivesStages, RefusesFirstStage}
-use Rattle.stack_lines.specs.Answers.{stages_due}
-use Rattle.stack_lines.proofs.StagesEnds.{is_stage, stages_told, stage_wide, stage_spent}
+use Rattle.stack_work.specs.Answers.{stages_due}
+use Rattle.stack_work.proofs.StagesEnds.{is_stage, stages_told, stage_wide, stage_spent}
 use Rattle.stack_forms.proofs.forms.building.stages_survey.Goals as goal
 
 pub wide_stage-requires : goal.wide_stage-requires

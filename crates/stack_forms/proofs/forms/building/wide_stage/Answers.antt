@@ -3,7 +3,7 @@ use Rattle.stack_contact.specs.Surveyed.{Surveyed}
 use Rattle.stack_lines.specs.declared.refusal.Refusal.TheVariants.{Memory}
 use Rattle.stack_lines.specs.declared.refusal.Within.TheVariants.{Stage}
 use Rattle.stack_lines.specs.Refusals.{refusal_view, faulty}
-use Rattle.stack_lines.specs.Judging.{wide_within}
+use Rattle.stack_work.specs.Judging.{wide_within}
 use Rattle.stack_forms.proofs.forms.building.wide_stage.Goals as goal
 
 pub returns-in-Ok : goal.returns-in-Ok

@@ -1,7 +1,7 @@
 use Rattle.stack_certificate.specs.Certificate.{certificate_view}
 use Rattle.stack_checker.specs.declared.types.Check.TheVariants.{Accepted, Rejected, TooWide}
-use Rattle.stack_lines.specs.Tables.{due_of}
-use Rattle.stack_lines.proofs.CertificateChecked.{by_check}
+use Rattle.stack_work.specs.Tables.{due_of}
+use Rattle.stack_work.proofs.CertificateChecked.{by_check}
 use Rattle.stack_forms.proofs.forms.checking.certificate_answer.Goals as goal
 
 pub returns-in-Accepted : goal.returns-in-Accepted

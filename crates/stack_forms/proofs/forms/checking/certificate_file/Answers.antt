@@ -1,5 +1,5 @@
-use Rattle.stack_lines.specs.Checking.{checked_file}
-use Rattle.stack_lines.proofs.Steps.{then_alone, refused}
+use Rattle.stack_work.specs.Checking.{checked_file}
+use Rattle.stack_work.proofs.Steps.{then_alone, refused}
 use Rattle.stack_forms.proofs.forms.checking.certificate_file.Goals as goal
 
 pub returns-in-Ok : goal.returns-in-Ok

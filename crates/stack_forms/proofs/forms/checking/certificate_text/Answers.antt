@@ -1,5 +1,5 @@
-use Rattle.stack_lines.specs.Tables.{due_of}
-use Rattle.stack_lines.proofs.CertificateChecked.{certificate_checked}
+use Rattle.stack_work.specs.Tables.{due_of}
+use Rattle.stack_work.proofs.CertificateChecked.{certificate_checked}
 use Rattle.stack_forms.proofs.forms.checking.certificate_text.Goals as goal
 
 pub returns-in-Ok : goal.returns-in-Ok

@@ -1,7 +1,7 @@
 use Rattle.std.proofs.Common.{ℕ, Vec, ap, refl, ◌∙◌}
 use Rattle.std.specs.declared.alloc.Global.{Global}
 use Rattle.stack_lines.specs.declared.answer.Verdict.TheVariants.{Affirmed, Denied}
-use Rattle.stack_lines.specs.Answers.{exactly}
+use Rattle.stack_work.specs.Answers.{exactly}
 use Rattle.stack_lines.specs.CheckText.{accepted_text, rejected_text}
 use Rattle.stack_forms.proofs.forms.checking.check_answer.Goals as goal
 

@@ -1,11 +1,11 @@
 use Rattle.std.proofs.Common.{[], Err, sym, subst}
 use Rattle.stack_judge.specs.Judgement.{Judges}
 use Rattle.stack_certificate.specs.Certificate.{certificate_view}
-use Rattle.stack_lines.specs.Answers.{certificate}
-use Rattle.stack_lines.specs.Judging.{judged}
+use Rattle.stack_work.specs.Answers.{certificate}
+use Rattle.stack_work.specs.Judging.{judged}
 use Rattle.stack_lines.specs.Refusals.{faulty, over_budget}
-use Rattle.stack_lines.specs.Work.{Ends}
-use Rattle.stack_lines.proofs.JudgementEnds.{certificate_ends, spent_ends, no_live_ends}
+use Rattle.stack_work.specs.Work.{Ends}
+use Rattle.stack_work.proofs.JudgementEnds.{certificate_ends, spent_ends, no_live_ends}
 use Rattle.stack_forms.proofs.forms.judging.judge_survey.Goals as goal
 
 pub returns-in_ok-write_certificate-in-Ok : goal.returns-in_ok-write_certificate-in-Ok

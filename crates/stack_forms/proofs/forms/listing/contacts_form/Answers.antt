@@ -1,5 +1,5 @@
-use Rattle.stack_lines.specs.Listing.{contacts_work}
-use Rattle.stack_lines.proofs.Steps.{then_alone, refused}
+use Rattle.stack_work.specs.Listing.{contacts_work}
+use Rattle.stack_work.proofs.Steps.{then_alone, refused}
 use Rattle.stack_forms.proofs.forms.listing.contacts_form.Goals as goal
 
 pub returns-in-Ok : goal.returns-in-Ok

@@ -1,5 +1,5 @@
-use Rattle.stack_lines.specs.Ranging.{range_work}
-use Rattle.stack_lines.proofs.Steps.{then_alone, refused}
+use Rattle.stack_work.specs.Ranging.{range_work}
+use Rattle.stack_work.proofs.Steps.{then_alone, refused}
 use Rattle.stack_forms.proofs.forms.ranging.range_form.Goals as goal
 
 pub returns-in-Ok : goal.returns-in-Ok

@@ -1,10 +1,10 @@
 use Rattle.std.proofs.Common.{Err, subst}
 use Rattle.stack_range.specs.Ranged.{range_view}
 use Rattle.stack_range.specs.RangeJudgement.{JudgesRange}
-use Rattle.stack_lines.specs.Answers.{ranged}
-use Rattle.stack_lines.specs.Ranging.{range_told}
-use Rattle.stack_lines.proofs.Ways.{wanting}
-use Rattle.stack_lines.proofs.RangeEnds.{told_ends, side_ends, range_spent, range_lacks}
+use Rattle.stack_work.specs.Answers.{ranged}
+use Rattle.stack_work.specs.Ranging.{range_told}
+use Rattle.stack_work.proofs.Ways.{wanting}
+use Rattle.stack_work.proofs.RangeEnds.{told_ends, side_ends, range_spent, range_lacks}
 use Rattle.stack_forms.proofs.forms.ranging.range_survey.Goals as goal
 
 pub returns-in-Ok-write_range : goal.returns-in-Ok-write_range

@@ -2,8 +2,8 @@ use Rattle.std.proofs.Common.{Err, subst}
 use Rattle.stack_equilibrium.specs.declared.types.Question.TheVariants.{Live}
 use Rattle.stack_certificate.specs.Certificate.{certificate_view}
 use Rattle.stack_judge.specs.Judgement.{Judges}
-use Rattle.stack_lines.specs.Judging.{default_budget}
-use Rattle.stack_lines.proofs.SampleEnds.{summary_ends, too_wide_ends, spent_ends}
+use Rattle.stack_work.specs.Judging.{default_budget}
+use Rattle.stack_work.proofs.SampleEnds.{summary_ends, too_wide_ends, spent_ends}
 use Rattle.stack_forms.proofs.forms.sampling.sample_survey.Goals as goal
 
 pub returns-in-Ok : goal.returns-in-Ok

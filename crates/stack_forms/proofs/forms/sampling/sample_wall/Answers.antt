@@ -3,13 +3,13 @@ use Rattle.stack_model.specs.ModelView.{model_view}
 use Rattle.stack_model.specs.Structure.{HasLive}
 use Rattle.stack_contact.specs.Surveyed.{Surveyed}
 use Rattle.stack_lines.specs.declared.answer.Answer.{Answer}
-use Rattle.stack_lines.specs.Answers.{Due}
-use Rattle.stack_lines.specs.Work.{surveys}
-use Rattle.stack_lines.specs.Surveying.{survey_step}
-use Rattle.stack_lines.specs.Progress.{IsSeenSurvey, AnswersDue}
-use Rattle.stack_lines.specs.Sampling.{sampled}
-use Rattle.stack_lines.proofs.AcceptedFiles.{same_structure}
-use Rattle.stack_lines.proofs.Steps.{alone_then, alone_refused}
+use Rattle.stack_work.specs.Answers.{Due}
+use Rattle.stack_work.specs.Work.{surveys}
+use Rattle.stack_work.specs.Surveying.{survey_step}
+use Rattle.stack_work.specs.Progress.{IsSeenSurvey, AnswersDue}
+use Rattle.stack_work.specs.Sampling.{sampled}
+use Rattle.stack_work.proofs.AcceptedFiles.{same_structure}
+use Rattle.stack_work.proofs.Steps.{alone_then, alone_refused}
 use Rattle.stack_forms.proofs.forms.sampling.sample_wall.Goals as goal
 
 pub sample_survey-requires : goal.sample_survey-requires

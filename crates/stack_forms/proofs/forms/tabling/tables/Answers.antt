@@ -1,9 +1,9 @@
 use Rattle.std.proofs.Common.{refl, sym, subst, ◌∙◌, ◌++◌, [], Ok}
 use Rattle.stack_certificate.specs.Certificate.{certificate_view}
 use Rattle.stack_lines.specs.declared.answer.Verdict.TheVariants.{Affirmed}
-use Rattle.stack_lines.specs.Answers.{exactly}
-use Rattle.stack_lines.specs.Tables.{tables_text, tabled_by}
-use Rattle.stack_lines.specs.Work.{Ends}
+use Rattle.stack_work.specs.Answers.{exactly}
+use Rattle.stack_work.specs.Tables.{tables_text, tabled_by}
+use Rattle.stack_work.specs.Work.{Ends}
 use Rattle.stack_forms.proofs.forms.tabling.tables.Goals as goal
 
 pub returns-in-Ok : goal.returns-in-Ok

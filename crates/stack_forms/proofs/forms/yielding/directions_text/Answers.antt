@@ -1,4 +1,4 @@
-use Rattle.stack_lines.proofs.YieldEnds.{directions_judged, directions_refused}
+use Rattle.stack_work.proofs.YieldEnds.{directions_judged, directions_refused}
 use Rattle.stack_forms.proofs.forms.yielding.directions_text.Goals as goal
 
 pub returns-in-Ok : goal.returns-in-Ok

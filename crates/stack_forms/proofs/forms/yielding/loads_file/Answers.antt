@@ -1,7 +1,7 @@
-use Rattle.stack_lines.specs.Progress.{AnswersDue}
-use Rattle.stack_lines.specs.Yielding.{paired_file}
-use Rattle.stack_lines.proofs.Steps.{alone}
-use Rattle.stack_lines.proofs.YieldEnds.{loads_judged, loads_refused}
+use Rattle.stack_work.specs.Progress.{AnswersDue}
+use Rattle.stack_work.specs.Yielding.{paired_file}
+use Rattle.stack_work.proofs.Steps.{alone}
+use Rattle.stack_work.proofs.YieldEnds.{loads_judged, loads_refused}
 use Rattle.stack_forms.proofs.forms.yielding.loads_file.Goals as goal
 
 pub returns-in-Ok : goal.returns-in-Ok

@@ -2,10 +2,10 @@ use Rattle.std.proofs.Common.{Err, subst, arith}
 use Rattle.stack_yield.specs.Kept.{region_view}
 use Rattle.stack_yield.specs.Regions.{Regions}
 use Rattle.stack_yield.specs.Outcomes.{outcomes}
-use Rattle.stack_lines.specs.Answers.{region_due}
-use Rattle.stack_lines.specs.Yielding.{region_step}
-use Rattle.stack_lines.proofs.Ways.{wanting}
-use Rattle.stack_lines.proofs.YieldEnds.{is_direction, region_told, direction_wide, direction_spent}
+use Rattle.stack_work.specs.Answers.{region_due}
+use Rattle.stack_work.specs.Yielding.{region_step}
+use Rattle.stack_work.proofs.Ways.{wanting}
+use Rattle.stack_work.proofs.YieldEnds.{is_direction, region_told, direction_wide, direction_spent}
 use Rattle.stack_forms.proofs.forms.yielding.region_survey.Goals as goal
 
 pub direction_number-requires : goal.direction_number-requires

@@ -1,5 +1,5 @@
-use Rattle.stack_lines.specs.Yielding.{yield_work}
-use Rattle.stack_lines.proofs.Steps.{then, refused}
+use Rattle.stack_work.specs.Yielding.{yield_work}
+use Rattle.stack_work.proofs.Steps.{then, refused}
 use Rattle.stack_forms.proofs.forms.yielding.yield_form.Goals as goal
 
 pub returns-in-Ok : goal.returns-in-Ok

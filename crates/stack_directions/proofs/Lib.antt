@@ -1,0 +1,4 @@
+pub mod DirectionLines
+pub mod DirectionLists
+pub mod DirectedBorne
+pub mod Points

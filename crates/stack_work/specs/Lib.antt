@@ -1,0 +1,16 @@
+pub mod Answers
+pub mod Work
+pub mod Surveying
+pub mod Checking
+pub mod Listing
+pub mod Judging
+pub mod Tables
+pub mod Stacking
+pub mod Sampling
+pub mod Ranging
+pub mod Building
+pub mod Yielding
+pub mod Forms
+pub mod Progress
+pub mod OneEnd
+pub mod AcceptedModel

@@ -1,0 +1,30 @@
+-- When the work on words has one end only: where its files are told. A structure has one survey, so nothing is chosen
+-- freely.
+use Rattle.std.specs.Prelude.{◌≡◌, ℕ, List, [], ◌∷◌, Option, Some, Result, Ok, Err, ⊤}
+use Rattle.stack_lines.specs.Refusals.{Refusal, file, faulty, memory}
+use Rattle.stack_work.specs.Forms.{Form}
+use Rattle.stack_work.specs.Answers.{Due}
+use Rattle.stack_work.specs.Work.{Holds}
+use Rattle.stack_work.specs.Progress.{Way}
+
+-- The bytes under these names are told.
+abbrev pub AreTold : Holds → List (List ℕ) → Type 0
+AreTold holds [] = ⊤
+AreTold holds (name ∷ names) = ((bytes : List ℕ) × (holds name ≡ Some bytes)) × AreTold holds names
+
+-- The end tells neither of memory nor of a device.
+abbrev pub IsSettledRefusal : Refusal → Type 0
+IsSettledRefusal (file input) = ⊥
+IsSettledRefusal (faulty memory) = ⊥
+IsSettledRefusal _ = ⊤
+
+-- A value is settled, and so is a refusal but for a file that isn't read or memory that is wanting.
+abbrev pub IsSettled : {A : Type 0} → Result A Refusal → Type 0
+IsSettled (Ok a) = ⊤
+IsSettled (Err r) = IsSettledRefusal r
+
+-- Two settled ends of the work on the same words, over the same told files, are the same, and ask for the same files.
+abbrev pub WordsHaveOneEnd : Type 0
+WordsHaveOneEnd = (holds : Holds) (form : Option Form) (names more : List (List ℕ)) (end last : Result Due Refusal)
+    → AreTold holds names → Way holds form names end → Way holds form more last → IsSettled end → IsSettled last
+    → (names ≡ more) × (end ≡ last)
