@@ -10,16 +10,16 @@ ghost use Rattle.stack_lines.specs.declared.refusal.Refusal.TheVariants.{Memory}
 
 use crate::model_lines::FaultText;
 use stack_checker::Part;
+use stack_directions::{DirectionsError, NoPair};
 use stack_equilibrium::Axis;
 use stack_extract::{EndStep, ExtractPlace, Numbers};
 use stack_model::ModelError;
+use stack_orders::OrderError;
 use stack_overhang::StackError;
 use stack_reader::ReadError;
 use stack_report::number;
 use stack_run::RunPlace;
-use stack_orders::OrderError;
 use stack_table::Step;
-use stack_directions::{DirectionsError, NoPair};
 use std::alloc::AllocError;
 use std::fmt;
 

@@ -57,9 +57,8 @@ pub fn material_table(alloc: Global, model: &Model, i: usize) -> Result<Table, A
     ensures { IfOk result (λ t. table_view t ≡ material_data (material_listed (material_of (model_view model.now) i))) }
 {
     let material = model.material(i);
-    let name = Value::string(alloc, model.material_name(i))?;
-    let friction = pair(alloc, material.p, material.q)?;
     let mut table = Table::new(alloc);
+    let name = Value::string(alloc, model.material_name(i))?;
     put(alloc, &mut table, Key::Name, name)?;
     put(
         alloc,
@@ -67,6 +66,7 @@ pub fn material_table(alloc: Global, model: &Model, i: usize) -> Result<Table, A
         Key::Weight,
         Value::Integer(material.weight),
     )?;
+    let friction = pair(alloc, material.p, material.q)?;
     put(alloc, &mut table, Key::Friction, friction)?;
     Ok(table)
 }
@@ -78,12 +78,12 @@ pub fn joint_table(alloc: Global, model: &Model, i: usize) -> Result<Table, Allo
         (joint_of (model_view model.now) i))) }
 {
     let joint = model.joint(i);
-    let first = Value::string(alloc, model.material_name(joint.first))?;
-    let second = Value::string(alloc, model.material_name(joint.second))?;
-    let friction = pair(alloc, joint.p, joint.q)?;
     let mut table = Table::new(alloc);
+    let first = Value::string(alloc, model.material_name(joint.first))?;
     put(alloc, &mut table, Key::First, first)?;
+    let second = Value::string(alloc, model.material_name(joint.second))?;
     put(alloc, &mut table, Key::Second, second)?;
+    let friction = pair(alloc, joint.p, joint.q)?;
     put(alloc, &mut table, Key::Friction, friction)?;
     Ok(table)
 }
@@ -95,13 +95,13 @@ pub fn block_table(alloc: Global, model: &Model, i: usize) -> Result<Table, Allo
         (body_of (model_view model.now) i))) }
 {
     let body = model.body(i);
-    let name = Value::string(alloc, model.name(i))?;
-    let material = Value::string(alloc, model.material_name(body.material))?;
-    let corners = Value::Array(corners(alloc, model.polygon(i))?);
     let mut table = Table::new(alloc);
+    let name = Value::string(alloc, model.name(i))?;
     put(alloc, &mut table, Key::Name, name)?;
+    let material = Value::string(alloc, model.material_name(body.material))?;
     put(alloc, &mut table, Key::Material, material)?;
     put(alloc, &mut table, Key::Fixed, Value::Boolean(body.fixed))?;
+    let corners = Value::Array(corners(alloc, model.polygon(i))?);
     put(alloc, &mut table, Key::Corners, corners)?;
     Ok(table)
 }
@@ -113,14 +113,14 @@ pub fn load_table(alloc: Global, model: &Model, i: usize) -> Result<Table, Alloc
         (load_of (model_view model.now) i))) }
 {
     let load = model.load(i);
-    let block = Value::string(alloc, model.name(load.body))?;
-    let kind = Value::string(alloc, if load.live { "live" } else { "dead" })?;
-    let at = place(alloc, load.at)?;
-    let force = pair(alloc, load.fx, load.fy)?;
     let mut table = Table::new(alloc);
+    let block = Value::string(alloc, model.name(load.body))?;
     put(alloc, &mut table, Key::Block, block)?;
+    let kind = Value::string(alloc, if load.live { "live" } else { "dead" })?;
     put(alloc, &mut table, Key::Kind, kind)?;
+    let at = place(alloc, load.at)?;
     put(alloc, &mut table, Key::At, at)?;
+    let force = pair(alloc, load.fx, load.fy)?;
     put(alloc, &mut table, Key::Force, force)?;
     Ok(table)
 }

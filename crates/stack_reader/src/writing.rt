@@ -75,12 +75,12 @@ fn put_list(alloc: Global, table: &mut Table, key: Key, list: Vec<Value>) -> Res
 fn first_table(alloc: Global, model: &Model) -> Result<Table, AllocError>
     ensures { IfOk result (λ t. table_view t ≡ first_data (relisted (model_view model.now))) }
 {
-    let blocks = blocks(alloc, model)?;
-    let materials = materials(alloc, model)?;
-    let loads = loads(alloc, model)?;
     let mut table = Table::new(alloc);
+    let materials = materials(alloc, model)?;
     put_list(alloc, &mut table, Key::Material, materials)?;
+    let loads = loads(alloc, model)?;
     put_list(alloc, &mut table, Key::Load, loads)?;
+    let blocks = blocks(alloc, model)?;
     put_list(alloc, &mut table, Key::Block, blocks)?;
     Ok(table)
 }
@@ -109,14 +109,14 @@ fn head_table(alloc: Global, model: &Model) -> Result<Table, AllocError>
 fn second_table(alloc: Global, model: &Model) -> Result<Table, AllocError>
     ensures { IfOk result (λ t. table_view t ≡ second_data (relisted (model_view model.now))) }
 {
-    let blocks = blocks(alloc, model)?;
-    let materials = materials(alloc, model)?;
-    let joints = joints(alloc, model)?;
-    let loads = loads(alloc, model)?;
     let mut table = head_table(alloc, model)?;
+    let materials = materials(alloc, model)?;
     put_list(alloc, &mut table, Key::Material, materials)?;
+    let loads = loads(alloc, model)?;
     put_list(alloc, &mut table, Key::Load, loads)?;
+    let joints = joints(alloc, model)?;
     put_list(alloc, &mut table, Key::Joint, joints)?;
+    let blocks = blocks(alloc, model)?;
     put_list(alloc, &mut table, Key::Block, blocks)?;
     Ok(table)
 }

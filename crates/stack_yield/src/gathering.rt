@@ -10,10 +10,10 @@ ghost use Rattle.stack_yield.specs.JudgedReaches.{RegionIsJudged};
 ghost use Rattle.stack_yield.specs.Regions.{Regions, RefusesFirstDirection, region_refusal, towards_of};
 ghost use Rattle.stack_yield.specs.RegionText.{CanPrintRegion};
 
-use stack_directions::{Towards, directed};
 use crate::judging::{DirectionAnswer, DirectionStop, judge_direction};
 use crate::types::{Region, RegionError};
 use stack_contact::Survey;
+use stack_directions::{Towards, directed};
 use stack_equilibrium::proper;
 use stack_pairs::reach_laws;
 use std::alloc::Global;

@@ -11,10 +11,10 @@ ghost use Rattle.stack_yield.specs.LessDead.{less_dead};
 ghost use Rattle.stack_yield.specs.Outcomes.{bounded, certificate_outcome, direction_outcome};
 ghost use Rattle.stack_yield.specs.Regions.{IsOutcome, AnswerFits, AnswerHolds};
 
-use stack_directions::{Towards, point, survey_towards};
 use crate::types::{Reach, RegionPlace};
 use stack_certificate::{Certificate, Forces, Motion};
 use stack_contact::Survey;
+use stack_directions::{Towards, point, survey_towards};
 use stack_equilibrium::{Question, power, proper};
 use stack_judge::{JudgeError, judge};
 use stack_whole::Whole;

@@ -17,9 +17,9 @@ use crate::surveying::survey_file;
 use stack_contact::Survey;
 use stack_judge::JudgePlace;
 use stack_lines::{Answer, Input, Refusal, Verdict, Within};
+use stack_orders::read_order;
 use stack_outside::Shelf;
 use stack_stages::{Stages, StagesError, stage_of, stages, write_stages};
-use stack_orders::read_order;
 use std::alloc::Global;
 
 /// Whether all stages stand.

@@ -16,8 +16,8 @@ use stack_certificate::{Certificate, TextError};
 use stack_checker::Check;
 use stack_contact::Survey;
 use stack_lines::{Answer, Input, Refusal, Verdict, Within, rejection, wide_place};
-use stack_work::Asked;
 use stack_outside::Shelf;
+use stack_work::Asked;
 use std::alloc::Global;
 
 /// The answer to what a check gives, or the refusal of a sum that is too wide.

@@ -19,10 +19,10 @@ use stack_contact::Survey;
 use stack_equilibrium::Question;
 use stack_judge::{JudgeError, judge_marked};
 use stack_lines::{Answer, Refusal, Verdict, Within};
-use stack_work::DEFAULT_BUDGET;
 use stack_model::Model;
 use stack_overhang::wall;
 use stack_report::sample_summary;
+use stack_work::DEFAULT_BUDGET;
 use std::alloc::Global;
 
 /// The wall with this number.

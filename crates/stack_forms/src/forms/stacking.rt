@@ -8,9 +8,9 @@ ghost use Rattle.stack_work.specs.Stacking.{stack_of, built_step, stack_work};
 ghost use Rattle.stack_work.specs.Progress.{DoesAlone, IsModel, AnswersDue};
 
 use stack_lines::{Answer, Refusal, Verdict};
-use stack_work::Kind;
 use stack_model::Model;
 use stack_overhang::{StackError, harmonic, slab, triangle};
+use stack_work::Kind;
 use std::alloc::Global;
 
 /// The built-in stack of this kind and size.

@@ -17,10 +17,10 @@ use crate::forms::judging::wide_refusal;
 use crate::reading::read_file;
 use crate::surveying::survey_file;
 use stack_contact::Survey;
+use stack_directions::{pair, read_directions};
 use stack_lines::{Answer, Input, ReachPlace, Refusal, Verdict, Within};
 use stack_outside::Shelf;
 use stack_yield::{Region, RegionError, RegionPlace, region, write_region};
-use stack_directions::{pair, read_directions};
 use std::alloc::Global;
 
 /// Whether the dead loads stand.
