@@ -16,6 +16,8 @@ use Rattle.stack_pairs.specs.Laws.{RegionsTell}
 use Rattle.stack_certificate.specs.declared.types.Motion.{Motion}
 use Rattle.stack_certificate.specs.Certificate.{motion_view, stands, collapses, greatest, unbounded}
 use Rattle.stack_directions.specs.declared.directing.Towards.{Towards}
+use Rattle.stack_yield.specs.declared.types.Region.{Region}
+use Rattle.stack_yield.specs.declared.types.Region.TheVariants as regions
 use Rattle.stack_yield.specs.declared.types.RegionError.{RegionError}
 use Rattle.stack_yield.specs.declared.types.RegionError.TheVariants as errors
 use Rattle.stack_equilibrium.specs.declared.types.PowerWide.{PowerWide}
@@ -30,11 +32,12 @@ use Rattle.stack_yield.specs.declared.judging.DirectionAnswer.{DirectionAnswer}
 use Rattle.stack_yield.specs.declared.judging.DirectionAnswer.TheVariants.{Reaches, Falls}
 use Rattle.stack_yield.specs.declared.judging.DirectionStop.{DirectionStop}
 use Rattle.stack_yield.specs.declared.judging.DirectionStop.TheVariants as stops
-use Rattle.stack_yield.specs.Kept.{reach_view}
+use Rattle.stack_yield.specs.Kept.{reach_view, region_view}
 use Rattle.stack_yield.specs.Regions.{outcome_of_answer, IsOutcome, AnswerHolds, Regions, RefusesFirstDirection}
 use Rattle.stack_yield.specs.Regions.{region_refusal, towards_of}
 use Rattle.stack_yield.specs.ByDirections.{AreByDirections}
-use Rattle.stack_yield.specs.JudgedReaches.{ReachIsJudged}
+use Rattle.stack_yield.specs.JudgedReaches.{ReachIsJudged, RegionIsJudged}
+use Rattle.stack_yield.specs.RegionText.{CanPrintRegion}
 use Rattle.stack_yield.proofs.FirstDirection.{by_directions}
 
 -- reaches in front of what comes
@@ -179,8 +182,20 @@ module _ (s : Surveyed) (i j budget : ℕ) where
       law s i j ds rs proper pair (omega (arith, some, ended, g.counted)) (g.directions ∙ take_all k ds ended) g.each
 
   -- a direction that is refused is the first that has no reach
-  pub refuses_first : (ds : List (ℤ × ℤ)) (e : RegionError) → Regions (Err e) s i j budget ds →
+  refuses_first : (ds : List (ℤ × ℤ)) (e : RegionError) → Regions (Err e) s i j budget ds →
       RefusesFirstDirection (Err e) s i j budget ds
   refuses_first ds (errors.TooWide k p) g = subst (AreByDirections s i j budget ds) g (by_directions s i j budget ds)
   refuses_first ds (errors.Spent k) g = subst (AreByDirections s i j budget ds) g (by_directions s i j budget ds)
   refuses_first ds errors.Memory g = tt
+
+  pub refuses : (ds : List (ℤ × ℤ)) (r : Result Region RegionError) → Regions r s i j budget ds →
+      RefusesFirstDirection r s i j budget ds
+  refuses ds (Ok r) g = tt
+  refuses ds (Err e) g = refuses_first ds e g
+
+  -- what is judged can be printed
+  pub printable : (r : Result Region RegionError) → IfOk r (λ x. RegionIsJudged s i j (region_view x)) →
+      IfOk r (λ x. CanPrintRegion (region_view x))
+  printable (Ok (regions.Collapses y)) g = g.fits
+  printable (Ok (regions.Points rs)) g = tt
+  printable (Err e) g = tt

@@ -1,8 +1,8 @@
 //! The safe region of two live loads, direction by direction.
 
-ghost use Rattle.std.specs.Prelude.{◌≡◌, ◌≢◌, ◌≤◌, IfOk, length};
+ghost use Rattle.std.specs.Prelude.{◌≡◌, ◌≢◌, ◌≤◌, IfOk, length, pos};
 ghost use Rattle.std.specs.List.{All};
-ghost use Rattle.stack_pairs.specs.Directed.{ArePair};
+ghost use Rattle.stack_pairs.specs.Directed.{ArePair, directed_survey};
 ghost use Rattle.stack_pairs.specs.Reaches.{RegionTells};
 ghost use Rattle.stack_directions.specs.Directions.{IsDirection, most_directions};
 ghost use Rattle.stack_yield.specs.Kept.{region_view};
@@ -44,6 +44,41 @@ fn refused(stop: DirectionStop, k: usize) -> RegionError
     }
 }
 
+/// The region of the loads numbered in `pair`, over the surveys towards the first and towards the second of them alone:
+/// the reach of each direction, up to one where the dead loads fall, or that has none.
+fn gathered(
+    alloc: Global,
+    s: &Survey,
+    first: &Survey,
+    second: &Survey,
+    pair: (usize, usize),
+    dirs: &[(i64, i64)],
+    budget: u32,
+) -> Result<Region, RegionError>
+    requires pair { ArePair s.now.structure pair.0 pair.1 }
+    requires first { first.now ≡ directed_survey s.now pair.0 pair.1 (pos 1) (pos 0) }
+    requires second { second.now ≡ directed_survey s.now pair.0 pair.1 (pos 0) (pos 1) }
+    requires directions { All (λ d. IsDirection d.0 d.1) dirs.now }
+    requires some { 1 ≤ length dirs.now }
+    requires budget { budget ≢ 0 }
+    ensures regions { Regions result s.now pair.0 pair.1 budget dirs.now }
+    ensures judged { IfOk result (λ r. RegionIsJudged s.now pair.0 pair.1 (region_view r)) }
+    ensures tells { IfOk result (λ r. RegionTells s.now pair.0 pair.1 dirs.now (region_view r)) }
+{
+    reach_laws();
+    proper(s);
+    let mut reaches = Vec::new(alloc);
+    for k in 0..dirs.len() {
+        let t = towards(pair.0, pair.1, &dirs[k]);
+        match judge_direction(alloc, s, first, second, t, budget) {
+            Ok(DirectionAnswer::Reaches(reach)) => reaches.push(reach)?,
+            Ok(DirectionAnswer::Falls(motion)) => return Ok(Region::Collapses(motion)),
+            Err(stop) => return Err(refused(stop, k)),
+        }
+    }
+    Ok(Region::Points(reaches))
+}
+
 /// The safe region of two live loads, from `pair`: how far they can be raised together in each direction, from
 /// `read_directions`, and what forbids more. Each direction is judged within the budget of pivots; where the dead loads
 /// fall, that is the answer.
@@ -70,17 +105,7 @@ pub fn region(
     ensures tells { IfOk result (λ r. RegionTells s.now i j dirs.now (region_view r)) }
     ensures printable { IfOk result (λ r. CanPrintRegion (region_view r)) }
 {
-    reach_laws();
-    proper(s);
     let first = directed(alloc, s, i, j, 1, 0)?;
     let second = directed(alloc, s, i, j, 0, 1)?;
-    let mut reaches = Vec::new(alloc);
-    for k in 0..dirs.len() {
-        match judge_direction(alloc, s, &first, &second, towards(i, j, &dirs[k]), budget) {
-            Ok(DirectionAnswer::Reaches(reach)) => reaches.push(reach)?,
-            Ok(DirectionAnswer::Falls(motion)) => return Ok(Region::Collapses(motion)),
-            Err(stop) => return Err(refused(stop, k)),
-        }
-    }
-    Ok(Region::Points(reaches))
+    gathered(alloc, s, &first, &second, (i, j), dirs, budget)
 }

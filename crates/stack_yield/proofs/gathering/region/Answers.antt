@@ -1,68 +1,10 @@
-use Rattle.std.proofs.Common.{◌<◌, length, get_or, arith}
-use Rattle.stack_yield.proofs.Gathered.{one_more, outcome_told, holds_told, reached, reach_holds, fall_holds, fallen}
-use Rattle.stack_yield.proofs.Gathered.{stopped, all_told, refuses_first}
+use Rattle.stack_yield.proofs.Gathered.{refuses, printable}
 use Rattle.stack_yield.proofs.gathering.region.Goals as goal
 
-pub returns-in-Ok-Falls-clause-regions : goal.returns-in-Ok-Falls-clause-regions
-returns-in-Ok-Falls-clause-regions c =
-    let lt : c.loop-k.k < length c.args.dirs.now = omega (arith, c.loop-k-test.true, c.loop-k.auto.k-end) in
-    fallen c.args.s.now c.args.i c.args.j c.args.budget c.args.dirs.now _ c.loop-k.k _ c.judge_direction.result
-    c.in-Ok-Falls.field-0 c.in-Ok-Falls.motion lt c.loop-k.invariant
-    (outcome_told c.args.s.now c.args.i c.args.j c.args.budget _ c.towards.result c.judge_direction.result
-    c.towards.ensures c.judge_direction.ensures.outcome) c.in-Ok-Falls.is c.in-Ok-Falls.field-0-is
+pub returns-clause-refused : goal.returns-clause-refused
+returns-clause-refused c = refuses c.args.s.now c.args.i c.args.j c.args.budget c.args.dirs.now c.gathered.result
+    c.gathered.ensures.regions
 
-pub returns-in-Ok-Falls-clause-tells : goal.returns-in-Ok-Falls-clause-tells
-returns-in-Ok-Falls-clause-tells c = let f = fall_holds c.args.s.now c.args.i c.args.j c.args.budget
-    c.judge_direction.result c.in-Ok-Falls.field-0 c.in-Ok-Falls.motion
-    (holds_told c.args.s.now c.args.i c.args.j c.args.budget (get_or c.args.dirs.now c.loop-k.k _) c.towards.result
-    c.judge_direction.result c.towards.ensures c.judge_direction.ensures.holds) c.in-Ok-Falls.is
-    c.in-Ok-Falls.field-0-is in f.holds
-
-pub returns-in-Ok-Falls-clause-printable : goal.returns-in-Ok-Falls-clause-printable
-returns-in-Ok-Falls-clause-printable c = let f = fall_holds c.args.s.now c.args.i c.args.j c.args.budget
-    c.judge_direction.result c.in-Ok-Falls.field-0 c.in-Ok-Falls.motion
-    (holds_told c.args.s.now c.args.i c.args.j c.args.budget (get_or c.args.dirs.now c.loop-k.k _) c.towards.result
-    c.judge_direction.result c.towards.ensures c.judge_direction.ensures.holds) c.in-Ok-Falls.is
-    c.in-Ok-Falls.field-0-is in f.fits
-
-pub returns-in-Err-clause-regions : goal.returns-in-Err-clause-regions
-returns-in-Err-clause-regions c =
-    let lt : c.loop-k.k < length c.args.dirs.now = omega (arith, c.loop-k-test.true, c.loop-k.auto.k-end) in
-    stopped c.args.s.now c.args.i c.args.j c.args.budget c.args.dirs.now _ c.loop-k.k _ c.judge_direction.result
-    c.in-Err.stop c.refused.result lt c.loop-k.invariant
-    (outcome_told c.args.s.now c.args.i c.args.j c.args.budget _ c.towards.result c.judge_direction.result
-    c.towards.ensures c.judge_direction.ensures.outcome) c.in-Err.is c.refused.ensures
-
-pub returns-in-Err-clause-refused : goal.returns-in-Err-clause-refused
-returns-in-Err-clause-refused c = refuses_first c.args.s.now c.args.i c.args.j c.args.budget c.args.dirs.now
-    c.refused.result (returns-in-Err-clause-regions c)
-
-pub returns-in-Ok-Falls-clause-judged : goal.returns-in-Ok-Falls-clause-judged
-returns-in-Ok-Falls-clause-judged c = fall_holds c.args.s.now c.args.i c.args.j c.args.budget
-    c.judge_direction.result c.in-Ok-Falls.field-0 c.in-Ok-Falls.motion
-    (holds_told c.args.s.now c.args.i c.args.j c.args.budget (get_or c.args.dirs.now c.loop-k.k _) c.towards.result
-    c.judge_direction.result c.towards.ensures c.judge_direction.ensures.holds) c.in-Ok-Falls.is
-    c.in-Ok-Falls.field-0-is
-
-pub loop-k-preserved : goal.loop-k-preserved
-loop-k-preserved c =
-    let lt : c.loop-k.k < length c.args.dirs.now = omega (arith, c.loop-k-test.true, c.loop-k.auto.k-end) in
-    let told = outcome_told c.args.s.now c.args.i c.args.j c.args.budget _ c.towards.result c.judge_direction.result
-    c.towards.ensures c.judge_direction.ensures.outcome in
-    one_more c.args.s.now c.args.i c.args.j c.args.budget c.args.dirs.now c.loop-k.reaches.items c.push.new.self.items
-    c.loop-k.k _ c.in-Ok-Reaches.reach lt c.loop-k.invariant
-    (reached c.args.s.now c.args.i c.args.j c.args.budget _ c.judge_direction.result c.in-Ok-Reaches.field-0
-    c.in-Ok-Reaches.reach told c.in-Ok-Reaches.is c.in-Ok-Reaches.field-0-is)
-    (reach_holds c.args.s.now c.args.i c.args.j c.args.budget c.judge_direction.result c.in-Ok-Reaches.field-0
-    c.in-Ok-Reaches.reach
-    (holds_told c.args.s.now c.args.i c.args.j c.args.budget _ c.towards.result c.judge_direction.result
-    c.towards.ensures c.judge_direction.ensures.holds) c.in-Ok-Reaches.is c.in-Ok-Reaches.field-0-is)
-    c.in_ok-push-in-Ok-Reaches.ensures.items
-
-pub returns-clause-tells : goal.returns-clause-tells
-returns-clause-tells c = all_told c.args.s.now c.args.i c.args.j c.args.budget c.reach_laws.ensures.regions
-    c.proper.ensures c.requires.pair c.args.dirs.now _ c.loop-k.k c.requires.some
-    (omega (arith, c.loop-k-test.false, c.loop-k.auto.k-end)) c.loop-k.invariant
-
-pub returns-clause-judged : goal.returns-clause-judged
-returns-clause-judged c = let h = c.loop-k.invariant in h.judged
+pub returns-clause-printable : goal.returns-clause-printable
+returns-clause-printable c = printable c.args.s.now c.args.i c.args.j c.args.budget c.gathered.result
+    c.gathered.ensures.judged
