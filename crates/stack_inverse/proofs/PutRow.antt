@@ -1,7 +1,7 @@
 -- A row of many that is written.
 use Rattle.std.proofs.Common.{◌≡◌, ◌≢◌, sym, ap, subst, ◌∙◌, ℕ, suc, ◌+◌, ◌<◌, ◌≤◌, Bool, true, false, List, [], ◌∷◌}
 use Rattle.std.proofs.Common.{length, set, slice_index_or, get_or, zero, arith, ℤ, pos}
-use Rattle.stack_rational.proofs.Common.{ℕ_discrete, ints, Fraction, ◌≺◌, fraction_fits}
+use Rattle.stack_rational.proofs.Common.{ℕ_discrete, dec_lt, ints, Fraction, ◌≺◌, fraction_fits}
 use Rattle.stack_rows.specs.declared.whole.RowNumber.{Ghosts}
 use Rattle.stack_rows.proofs.Numbers.{at-index, at-set_same, at-set_other, at-past}
 use Rattle.stack_inverse.specs.declared.row.Row.{Row}
@@ -19,6 +19,14 @@ module _ {V : Type 0} {number : Ghosts V} where
   -- past the last row there is none
   pub seen_past : (rows : List (Row V number)) (n k : ℕ) → length rows ≡ n → n ≤ k → seen_at rows k ≡ no_row
   seen_past rows n k e l = at-past seen_of no_row rows k (omega (arith, e, l))
+
+  -- where no row there is marked, none is
+  pub none_marked : (rows : List (Row V number)) {n : ℕ} → length rows ≡ n →
+      ((i : ℕ) → i < n → (seen_at rows i).fits ≡ false) → (i : ℕ) → (seen_at rows i).fits ≡ false
+  none_marked rows {n} e h i = elim (dec_lt i n) [
+    | yes l ↦ h i l
+    | no l ↦ ap (λ (s : RowSeen V). s.fits) (seen_past rows n i e (omega (arith, l)))
+  ]
 
   -- a row that is lent
   pub seen_index : (rows : List (Row V number)) (i : ℕ) (x : Row V number) → i < length rows →

@@ -1,11 +1,84 @@
-use Rattle.std.proofs.Common.{ap, subst, ◌∙◌, suc, length, true, List, arith}
-use Rattle.stack_inverse.specs.RowBlock.{IsDividedRow, IsPivotedCells, AreMarked}
+use Rattle.std.proofs.Common.{◌≡◌, sym, ap, subst, ◌∙◌, suc, length, true, List, arith, pos, unsigned_abs}
+use Rattle.stack_rows.proofs.Numbers.{at-index}
+use Rattle.stack_inverse.specs.RowBlock.{IsTopped, IsDividedRow, IsPivotedCells, AreMarked}
 use Rattle.stack_inverse.specs.Columns.{RowSeen, IsPut}
-use Rattle.stack_inverse.specs.RowsSeen.{seen_at, cell_in_row, pivot_cell, columns_of, cells_of_rows}
+use Rattle.stack_inverse.specs.RowsSeen.{seen_at, number_in_row, cell_in_row, pivot_cell, columns_of, cells_of_rows}
 use Rattle.stack_inverse.proofs.PutRow.{seen_index, seen_past, wide_put}
 use Rattle.stack_inverse.proofs.PivotedRows.{refused, pivoted}
 use Rattle.stack_inverse.proofs.pivoting.pivot_rows.Goals as goal
 use Rattle.stack_inverse.proofs.pivoting.pivot_rows.Goals.{In-Some, After-put_row}
+
+pub bounds-rows-row : goal.bounds-rows-row
+bounds-rows-row g c = omega (arith, c.requires.row_in, c.requires.height)
+
+pub bounds-entered-row : goal.bounds-entered-row
+bounds-entered-row g c = omega (arith, c.requires.row_in, c.requires.long)
+
+pub divide-requires : goal.divide-requires
+divide-requires g c =
+    let v = g.T.RowNumber.value in
+    let p = c.args.plain.now in
+    let rows = c.args.rows.now in
+    let r = c.args.row in
+    let seen = seen_index rows r c.index-rows-row.result (omega (arith, c.requires.row_in, c.requires.height))
+    c.index-rows-row.is in
+    let factor : v c.index-entered-row.result ≡ number_in_row p (seen_at rows r) r c.args.column =
+    sym (at-index v (pos 0) c.args.entered.now r c.index-entered-row.result
+    (omega (arith, c.requires.row_in, c.requires.long)) c.index-entered-row.is)
+    ∙ c.requires.entered r (omega (arith, c.requires.row_in)) in
+    record {
+      width = ap (λ (s : RowSeen g.row.T.Denot). length s.numbers) seen
+          ∙ c.requires.wide r (omega (arith, c.requires.row_in));
+      room = c.requires.room;
+      row_in = c.requires.row_in;
+      factor = factor ∙ sym (ap (λ (s : RowSeen g.row.T.Denot). number_in_row p s r c.args.column) seen);
+      some = λ e. c.requires.some (sym factor ∙ e);
+    }
+
+pub reduce_others-requires : goal.reduce_others-requires
+reduce_others-requires g c = record {
+  height = c.requires.height;
+  wide = c.requires.wide;
+  pivot = c.in-Some.ensures.pivot;
+  long = c.requires.long;
+  entered = c.requires.entered;
+  marked = c.requires.marked;
+}
+
+pub put_row-requires : goal.put_row-requires
+put_row-requires g c =
+    let v = g.T.RowNumber.value in
+    let top = v c.divide.new.pivot.top in
+    let is = c.in-Some.ensures.pivot in
+    record {
+      row_in = omega (arith, c.requires.row_in, c.reduce_others.auto.rows, c.requires.height);
+      width = c.reduce_others.ensures.wide c.args.row (omega (arith, c.requires.row_in))
+          ∙ sym (ap length c.as_slice.ensures.value ∙ is.width);
+      under = is.positive;
+      topped = λ _. subst (λ (xs : List g.row.T.Denot). IsTopped v xs (unsigned_abs top))
+          (sym c.as_slice.ensures.value) is.topped;
+    }
+
+pub returns-in-None-clause-wide : goal.returns-in-None-clause-wide
+returns-in-None-clause-wide g c = c.requires.wide
+
+pub returns-in-None-clause-room : goal.returns-in-None-clause-room
+returns-in-None-clause-room g c = c.divide.ensures.room
+
+pub returns-in-None-clause-marked : goal.returns-in-None-clause-marked
+returns-in-None-clause-marked g c = c.requires.marked
+
+pub returns-in-Err-clause-wide : goal.returns-in-Err-clause-wide
+returns-in-Err-clause-wide g c = c.reduce_others.ensures.wide
+
+pub returns-in-Err-clause-room : goal.returns-in-Err-clause-room
+returns-in-Err-clause-room g c = c.divide.ensures.room
+
+pub returns-in-Err-clause-marked : goal.returns-in-Err-clause-marked
+returns-in-Err-clause-marked g c = c.reduce_others.ensures.marked
+
+pub returns-in-Ok-clause-room : goal.returns-in-Ok-clause-room
+returns-in-Ok-clause-room g c = c.divide.ensures.room
 
 pub returns-in-Ok-clause-wide : goal.returns-in-Ok-clause-wide
 returns-in-Ok-clause-wide g c =

@@ -10,9 +10,34 @@ use Rattle.stack_inverse.specs.declared.row.Row.{Row}
 use Rattle.stack_inverse.specs.Columns.{AreWide, cells_at, rises, revised_cell}
 use Rattle.stack_inverse.specs.RowsSeen.{seen_at}
 use Rattle.stack_inverse.specs.FirstTable.{load_at, IsFirstRow, less_loads}
-use Rattle.stack_inverse.proofs.PutRow.{seen_past}
+use Rattle.stack_inverse.proofs.PutRow.{seen_past, none_marked}
 use Rattle.stack_inverse.proofs.FirstTables.{first_cell, first_basics, factor_is}
 use Rattle.stack_inverse.proofs.revised_table.RevisedTable.of_problem.Goals as goal
+
+pub fill-requires : goal.fill-requires
+fill-requires g c =
+    let R = c.as_slice.result.now in
+    let long : length R ≡ c.args.p.now.rows = ap length c.as_slice.ensures.value ∙ c.requires.right_long in
+    let tall : c.args.p.now.rows + 1 ≡ suc (length R) = add-one c.args.p.now.rows ∙ ap suc (sym long) in
+    record {
+      width = ap length c.as_mut_slice-2.ensures.value ∙ c.in_ok-pivot.ensures ∙ tall;
+      height = ap length c.as_mut_slice.ensures.value ∙ c.in_ok-rows.ensures.height ∙ tall;
+      wide = λ i l. ap (λ (rs : List (Row g.row.T.Denot g.T.RowNumber)). length (seen_at rs i).numbers)
+          c.as_mut_slice.ensures.value ∙ c.in_ok-rows.ensures.wide i (omega (arith, l, long)) ∙ tall;
+      unmarked = λ i. ap (λ (rs : List (Row g.row.T.Denot g.T.RowNumber)). (seen_at rs i).fits)
+          c.as_mut_slice.ensures.value
+          ∙ none_marked c.in_ok-rows.rows.items c.in_ok-rows.ensures.height c.in_ok-rows.ensures.unmarked i;
+      one = c.in_ok-one.ensures;
+    }
+
+pub invariant_of-pivot : goal.invariant_of-pivot
+invariant_of-pivot g c =
+    let numbers = c.in_ok-pivot.pivot.numbers in
+    let filled = c.fill.auto.numbers ∙ ap length c.as_mut_slice-2.ensures.value in
+    record {
+      long = c.in_ok-pivot.pivot.long
+          ∙ sym (ap length (with_items_is numbers c.fill.new.numbers (filled ∙ sym numbers.ok.0)) ∙ filled);
+    }
 
 pub invariant_of-result : goal.invariant_of-result
 invariant_of-result g c =

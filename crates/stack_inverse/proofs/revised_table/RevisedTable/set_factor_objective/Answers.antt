@@ -4,27 +4,112 @@ use Rattle.stack_rational.proofs.Common.{with_items_is, with_items, ordered_frac
 use Rattle.stack_table.specs.Table.{factor_row}
 use Rattle.stack_rows.specs.RowForm.{number_at}
 use Rattle.stack_inverse.specs.declared.row.Row.{Row}
-use Rattle.stack_inverse.specs.Columns.{IsPut, IsFactorRow, revised_cell}
+use Rattle.stack_inverse.specs.Columns.{IsPut, IsFactorRow, IsOwn, revised_cell}
 use Rattle.stack_inverse.specs.RowsSeen.{seen_at}
+use Rattle.stack_inverse.proofs.Cleared.{none_own, only_own}
 use Rattle.stack_inverse.proofs.PutRow.{wide_put, marked_put, under_positive}
 use Rattle.stack_inverse.proofs.ObjectivePut.{objective_put, others_stay, factor_is, found_below}
 use Rattle.stack_inverse.proofs.revised_table.RevisedTable.set_factor_objective.Goals as goal
 
-pub factor_row-requires-clause-row_in : goal.factor_row-requires-clause-row_in
-factor_row-requires-clause-row_in g c =
+pub factor_row-requires : goal.factor_row-requires
+factor_row-requires g c =
     let s = c.args.self.now in
-    found_below (length c.as_slice.result.now) (λ r. eqb (get_or c.as_slice.result.now r 0) s.contacts)
-    c.row_with-row.result c.row_with-row.ensures (λ r. r < s.given.first.rows)
-    (λ r l. omega (arith, l, ap length c.as_slice.ensures.value, s.basics))
+    record {
+      width = ap length c.as_mut_slice.ensures.value ∙ s.room;
+      wide = λ i l. ap (λ (rs : List (Row g.row.T.Denot g.T.RowNumber)). length (seen_at rs i).numbers)
+          c.as_slice-2.ensures.value ∙ s.wide i l;
+      column_in = omega (arith, s.plain_count, c.requires);
+      row_in = found_below (length c.as_slice.result.now) (λ r. eqb (get_or c.as_slice.result.now r 0) s.contacts)
+          c.row_with-row.result c.row_with-row.ensures (λ r. r < s.given.first.rows)
+          (λ r l. omega (arith, l, ap length c.as_slice.ensures.value, s.basics));
+      height = ap length c.as_slice-2.ensures.value ∙ s.height;
+    }
 
-pub put_row-requires-clause-width : goal.put_row-requires-clause-width
-put_row-requires-clause-width g c =
+pub invariant_of-self : goal.invariant_of-self
+invariant_of-self g c =
+    let s = c.args.self.now in
+    let plong = c.factor_row.auto.numbers ∙ ap length c.as_mut_slice.ensures.value in
+    let piv = with_items_is s.pivot.numbers c.factor_row.new.numbers (plong ∙ sym s.pivot.numbers.ok.0) in
+    (s.pivot.long ∙ sym (ap length piv ∙ plong), tt)
+
+pub invariant_of-self-2 : goal.invariant_of-self-2
+invariant_of-self-2 g c =
+    let s = c.args.self.now.given in
+    let v = g.T.RowNumber.value in
+    let long = c.clear_row.auto.row ∙ ap length c.as_mut_slice-2.ensures.value in
+    let own = with_items_is s.own c.clear_row.new.row (long ∙ sym s.own.ok.0) in (
+      ap length own ∙ long ∙ s.owns,
+      (
+        subst (λ (xs : List g.row.T.Denot). IsOwn v xs (v s.own_top)) (sym own)
+            (none_own v c.clear_row.new.row (v s.own_top) c.clear_row.ensures),
+        tt,
+      ),
+    )
+
+pub invariant_of-self-3 : goal.invariant_of-self-3
+invariant_of-self-3 g c =
+    let s = c.args.self.now.given in
+    let v = g.T.RowNumber.value in
+    let top = v c.in_ok-minus_one.minus_one in
+    let long = c.clear_row.auto.row ∙ ap length c.as_mut_slice-2.ensures.value in
+    let own = with_items_is s.own c.clear_row.new.row (long ∙ sym s.own.ok.0) in
+    record {
+      owns = ap length own ∙ long ∙ s.owns;
+      within = subst (λ (xs : List g.row.T.Denot). IsOwn v xs top) (sym own)
+          (none_own v c.clear_row.new.row top c.clear_row.ensures);
+    }
+
+pub set_only-requires : goal.set_only-requires
+set_only-requires g c =
+    let s = c.args.self.now in
+    let long = c.clear_row.auto.row ∙ ap length c.as_mut_slice-2.ensures.value in
+    let own = with_items_is s.given.own c.clear_row.new.row (long ∙ sym s.given.own.ok.0) in
+    omega (
+      arith,
+      ap length c.as_mut_slice-3.ensures.value ∙ ap length own ∙ long ∙ s.given.owns,
+      s.plain_count,
+      c.requires,
+    )
+
+pub invariant_of-self-4 : goal.invariant_of-self-4
+invariant_of-self-4 g c =
+    let s = c.args.self.now.given in
+    let v = g.T.RowNumber.value in
+    let top = v c.in_ok-minus_one.minus_one in
+    let cleared = with_items s.own c.clear_row.new.row in
+    let long = c.clear_row.auto.row ∙ ap length c.as_mut_slice-2.ensures.value in
+    let was = with_items_is s.own c.clear_row.new.row (long ∙ sym s.own.ok.0) in
+    let same = c.set_only.auto.row ∙ ap length c.as_mut_slice-3.ensures.value in
+    let own = with_items_is cleared c.set_only.new.row (same ∙ sym cleared.ok.0) in (
+      ap length own ∙ same ∙ ap length was ∙ long ∙ s.owns,
+      (
+        subst (λ (xs : List g.row.T.Denot). IsOwn v xs top) (sym own)
+            (only_own v c.set_only.new.row c.args.self.now.contacts top c.set_only.ensures),
+        tt,
+      ),
+    )
+
+pub put_row-requires : goal.put_row-requires
+put_row-requires g c =
     let s = c.args.self.now in
     let M = s.given.first.rows in
     let plong = c.factor_row.auto.numbers ∙ ap length c.as_mut_slice.ensures.value in
     let piv = with_items_is s.pivot.numbers c.factor_row.new.numbers (plong ∙ sym s.pivot.numbers.ok.0) in
-    ap (λ (rs : List (Row g.row.T.Denot g.T.RowNumber)). length (seen_at rs M).numbers) c.as_mut_slice-4.ensures.value
-    ∙ s.wide M (omega arith) ∙ sym (ap length c.as_slice-3.ensures.value ∙ ap length piv ∙ plong ∙ s.room)
+    record {
+      row_in = omega (arith, ap length c.as_mut_slice-4.ensures.value, s.height);
+      width = ap (λ (rs : List (Row g.row.T.Denot g.T.RowNumber)). length (seen_at rs M).numbers)
+          c.as_mut_slice-4.ensures.value ∙ s.wide M (omega arith)
+          ∙ sym (ap length c.as_slice-3.ensures.value ∙ ap length piv ∙ plong ∙ s.room);
+      under = c.in_ok-under.ensures.positive;
+      topped = λ n. absurd (n c.zero.ensures);
+    }
+
+pub invariant_of-self-5 : goal.invariant_of-self-5
+invariant_of-self-5 g c =
+    let s = c.args.self.now in
+    let plong = c.factor_row.auto.numbers ∙ ap length c.as_mut_slice.ensures.value in
+    let piv = with_items_is s.pivot.numbers c.factor_row.new.numbers (plong ∙ sym s.pivot.numbers.ok.0) in
+    (s.pivot.long ∙ sym (ap length piv ∙ plong), tt)
 
 pub invariant_of-self-6 : goal.invariant_of-self-6
 invariant_of-self-6 g c =
@@ -59,6 +144,9 @@ invariant_of-self-6 g c =
       basics = s.basics;
       basics_in = s.basics_in;
     }
+
+pub returns-clause-shape : goal.returns-clause-shape
+returns-clause-shape g c = refl
 
 pub returns-clause-ok : goal.returns-clause-ok
 returns-clause-ok g c =
