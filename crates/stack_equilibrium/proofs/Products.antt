@@ -1,13 +1,15 @@
 -- Products that 128 bits hold.
-use Rattle.std.proofs.Common.{◌≡◌, ◌∙◌, ap, sym, subst, ℕ, ◌<◌, ◌^◌, ℤ, pos, negsuc, ◌+ℤ◌, ◌*ℤ◌, neg_ℤ, to_z, of_z}
+use Rattle.std.proofs.Common.{◌≡◌, ◌∙◌, ap, sym, subst, ℕ, ◌<◌, ◌^◌, ℤ, pos, negsuc, ◌+ℤ◌, ◌-ℤ◌, ◌*ℤ◌, neg_ℤ, to_z, of_z}
 use Rattle.std.proofs.Common.{SFits, lit<, arith}
 use mir.Syntax.{w64, w128}
 use Rattle.std.proofs.lemmas.Int.{ints, to_z-of_z, fits_signed_mul}
 use Rattle.stack_algebra.proofs.Integers.{sums, expand}
-use Rattle.stack_algebra.proofs.Order.{mul-bounds}
+use Rattle.stack_algebra.proofs.Order.{◌≼◌, mul-bounds}
 use Rattle.stack_polygon.specs.Sizes.{IsStep, IsThreeCoordinates, IsWithin}
+use Rattle.stack_statics.specs.Weights.{IsUnitWeight}
 use Rattle.stack_equilibrium.specs.LoadSizes.{IsForce, IsTurn, IsMoment}
 use Rattle.stack_equilibrium.specs.Columns.{IsRate, IsShare}
+use Rattle.stack_equilibrium.proofs.TriangleSums.{product_within}
 
 abbrev pub wide : ℤ → ℤ
 wide z = to_z w128 (of_z w128 z)
@@ -45,6 +47,43 @@ turn_within a b h k =
 pub turn_is_within : (a b : ℤ) → SFits w128 a → SFits w128 b → IsStep a → IsForce b
     → IsTurn (to_z w128 (of_z w128 (to_z w128 (of_z w128 a) *ℤ to_z w128 (of_z w128 b))))
 turn_is_within a b f g h k = subst IsTurn (sym (turn_stored a b f g h k)) (turn_within a b h k)
+
+-- a unit weight times a number
+module _ (w r b : ℤ) (h : IsUnitWeight w) (k : IsWithin 64 24000000000000000000 b) where
+  pub weighed_fits : SFits w128 (w *ℤ b)
+  weighed_fits = fits_signed_mul w128 w b 1000000 1536000000000000000000 (omega (arith, ints, h.least, h.most))
+      (omega (arith, ints, k.low, k.high)) (lit< tt)
+
+  unit_stored : wide w ≡ w
+  unit_stored = omega (arith, ints, h.least, h.most)
+
+  pub weighed_factors : r ≡ w → SFits w128 b → wide r *ℤ wide b ≡ w *ℤ b
+  weighed_factors e g = λ i. (ap wide e ∙ unit_stored) i *ℤ to_z-of_z w128 b g i
+
+  pub weighed_stored : r ≡ w → SFits w128 b → wide (wide r *ℤ wide b) ≡ w *ℤ b
+  weighed_stored e g = ap wide (weighed_factors e g) ∙ to_z-of_z w128 (w *ℤ b) weighed_fits
+
+  weighed_within : (neg_ℤ (pos 1536000000000000000000000000) ≼ w *ℤ b) × (w *ℤ b ≼ pos 1536000000000000000000000000)
+  weighed_within = product_within w b (pos 1536000000000000000000) (pos 1000000) (omega (arith, ints, h.least)) h.most
+      (omega (arith, ints, k.low)) (omega (arith, ints, k.high))
+
+  pub weighed_is_within : r ≡ w → SFits w128 b → IsWithin 64 24000000000000000000000000 (wide (wide r *ℤ wide b))
+  weighed_is_within e g = subst (IsWithin 64 24000000000000000000000000) (sym (weighed_stored e g))
+      (record { low = omega (arith, ints, weighed_within.0); high = omega (arith, ints, weighed_within.1) })
+
+  less_fits : SFits w128 (pos 0 -ℤ w *ℤ b)
+  less_fits = fits (w *ℤ b) weighed_within.0 weighed_within.1
+    where
+      fits : (t : ℤ) → neg_ℤ (pos 1536000000000000000000000000) ≼ t → t ≼ pos 1536000000000000000000000000 →
+          SFits w128 (pos 0 -ℤ t)
+      fits t l m = omega (arith, ints, l, m)
+
+  pub weighed_less_fits : r ≡ w → SFits w128 b → SFits w128 (pos 0 -ℤ wide (wide r *ℤ wide b))
+  weighed_less_fits e g = subst (λ z. SFits w128 (pos 0 -ℤ z)) (sym (weighed_stored e g)) less_fits
+
+  pub weighed_less : r ≡ w → SFits w128 b → wide (pos 0 -ℤ wide (wide r *ℤ wide b)) ≡ neg_ℤ (w *ℤ b)
+  weighed_less e g = ap (λ z. wide (pos 0 -ℤ z)) (weighed_stored e g) ∙ to_z-of_z w128 _ less_fits
+      ∙ omega (arith, ints)
 
 -- six times a number
 pub six_force : (a : ℤ) → IsForce a → wide (pos 6 *ℤ wide a) ≡ pos 6 *ℤ a
