@@ -105,16 +105,22 @@ abbrev pub has_room : Bool → List NamedBody → Result ⊤ ModelError
 has_room true bs = unless (nat_lt (count_by (λ b. b.fixed) bs) most_fixed) (TooMany whats.Fixed)
 has_room false bs = unless (nat_lt (count_by (λ b. not b.fixed) bs) most_free) (TooMany whats.Free)
 
--- one more body, as block i: its name is new, its material is known, its corner list has an outline, there is
+-- one more body, as block i, whose name is new: its material is known, its corner list has an outline, there is
 -- room for it
-unfoldable pub with_body : ℕ → List ℕ → Option ℕ → Bool → List Point → List NamedBody
+abbrev pub with_new_body : ℕ → List ℕ → Option ℕ → Bool → List Point → List NamedBody
     → Result (List NamedBody) ModelError
-with_body i name material fixed corners bs = do
-  new ← unless (is_new name (body_names bs)) (SameName (spots.Block i))
+with_new_body i name material fixed corners bs = do
   number ← found material (NoMaterial i)
   outline ← convex i corners
   room ← has_room fixed bs
   Ok (bs ++ record { name = name; material = number; fixed = fixed; corners = outline } ∷ [])
+
+-- one more body, as block i: its name is new, and all else that is asked of it holds
+unfoldable pub with_body : ℕ → List ℕ → Option ℕ → Bool → List Point → List NamedBody
+    → Result (List NamedBody) ModelError
+with_body i name material fixed corners bs = do
+  new ← unless (is_new name (body_names bs)) (SameName (spots.Block i))
+  with_new_body i name material fixed corners bs
 
 -- block i, after those before it
 unfoldable pub add_block : List NamedMaterial → ℕ → List NamedBody → BlockPart

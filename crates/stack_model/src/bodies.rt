@@ -1,6 +1,6 @@
 //! The blocks of a file, checked one after the other.
 
-ghost use Rattle.std.specs.Prelude.{◌≡◌, [], map, not, true, length, IfOk, count_by};
+ghost use Rattle.std.specs.Prelude.{◌≡◌, [], ◌∷◌, ◌++◌, map, string_bytes, not, true, length, IfOk, count_by};
 ghost use Rattle.stack_algebra.specs.Steps.{steps};
 ghost use Rattle.stack_polygon.specs.Limits.{are_in_range};
 ghost use Rattle.stack_polygon.specs.Admission.{is_count};
@@ -9,7 +9,8 @@ ghost use Rattle.stack_model.specs.Gives.{Gives};
 ghost use Rattle.stack_model.specs.Kept.{body_view};
 ghost use Rattle.stack_model.specs.Limits.{corner_list_of};
 ghost use Rattle.stack_model.specs.Content.{ranged, found as found_of, has_room as has_room_of, with_body, add_block};
-ghost use Rattle.stack_model.specs.Content.{number_of, body_names, material_names, is_free as is_free_of};
+ghost use Rattle.stack_model.specs.Content.{with_new_body, number_of, body_names, material_names};
+ghost use Rattle.stack_model.specs.Content.{is_free as is_free_of};
 
 use crate::errors::ModelError;
 use crate::kept::KeptBody;
@@ -99,6 +100,35 @@ fn has_room(fixed: bool, kept: &[KeptBody]) -> Result<(), ModelError>
     }
 }
 
+/// The body of block `index`, whose name no earlier one has: its material is known, and there is room for it.
+fn new_body(
+    alloc: Global,
+    index: usize,
+    name: &str,
+    material: Option<usize>,
+    fixed: bool,
+    corners: Vec<Point>,
+    kept: &[KeptBody],
+) -> Result<KeptBody, ModelError>
+    requires count { is_count (length corners.items) ≡ true }
+    requires range { are_in_range corners.items ≡ true }
+    ensures name { IfOk result (λ b. string_bytes b.name ≡ name.now) }
+    ensures value { Gives (λ b. map body_view kept.now ++ body_view b ∷ []) result
+        (with_new_body index name.now material fixed corners.items (map body_view kept.now)) }
+{
+    let number = found(material, ModelError::NoMaterial { block: index })?;
+    let outline = outline(index, corners)?;
+    has_room(fixed, kept)?;
+    Ok(KeptBody {
+        name: String::from_str(alloc, name)?,
+        body: Body {
+            material: number,
+            fixed,
+        },
+        outline,
+    })
+}
+
 impl Bodies {
     /// No bodies yet. Takes no memory.
     pub fn new(alloc: Global) -> Bodies
@@ -151,17 +181,15 @@ impl Bodies {
                 spot: Spot::Block(index),
             });
         }
-        let number = found(material, ModelError::NoMaterial { block: index })?;
-        let outline = outline(index, corners)?;
-        has_room(fixed, &kept)?;
-        kept.push(KeptBody {
-            name: String::from_str(alloc, name)?,
-            body: Body {
-                material: number,
-                fixed,
-            },
-            outline,
-        })?;
+        kept.push(new_body(
+            alloc,
+            index,
+            name,
+            material,
+            fixed,
+            corners,
+            kept.as_slice(),
+        )?)?;
         Ok(Bodies { names, kept })
     }
 
