@@ -1,6 +1,8 @@
-use Rattle.std.proofs.Common.{◌≡◌, sym, ap, subst, ◌∙◌, suc, ◌+◌, ◌-◌, ◌*◌, ◌++◌, length, take, arith, length-take-le}
+use Rattle.std.proofs.Common.{◌≡◌, sym, ap, subst, ◌∙◌, ℕ, suc, ◌<◌, ◌≤◌, ◌+◌, ◌-◌, ◌*◌, ◌++◌, length, take, arith}
+use Rattle.std.proofs.Common.{length-take-le}
 use Rattle.stack_rational.proofs.Common.{err_from_is_err_and, Fraction}
 use Rattle.std.proofs.Math.Nat.{add-mul, suc-mul}
+use Rattle.std.proofs.lemmas.Nat.{mul-le}
 use Rattle.stack_table.specs.Columns.{zero_in, ListsNonzero}
 use Rattle.stack_table.proofs.Listed.{listed_take}
 use Rattle.stack_table.proofs.BlockRows.{row_in}
@@ -48,6 +50,39 @@ divided g c = record {
   value = c.in_ok-count.ensures.ok;
   none = c.in_ok-count.ensures.wide;
 }
+
+pub overflow_mul-start : goal.overflow_mul-start
+overflow_mul-start g c =
+    let l = row_in c.args.row (suc c.args.rows) (length c.args.columns.now) (length c.args.cells.now)
+    (omega (arith, c.requires.row_in)) c.requires.whole in
+    omega (arith, l)
+
+-- the column is in the row, before and after the row is divided
+pub bounds-own-column : goal.bounds-own-column
+bounds-own-column g c = subst (λ (n : ℕ). c.args.column < n) (sym c.split_at_mut-own.ensures.front_len)
+    c.requires.column_in
+
+column_in : (g : _) (c : In_ok-count g) → c.args.column < length c.divide_row.new.cells
+column_in g c = subst (λ (n : ℕ). c.args.column < n)
+    (sym (c.divide_row.auto.cells ∙ c.split_at_mut-own.ensures.front_len)) c.requires.column_in
+
+pub divide_row-requires-clause-room : goal.divide_row-requires-clause-room
+divide_row-requires-clause-room g c = sym c.split_at_mut-own.ensures.front_len
+
+pub slice_bounds-listed-end : goal.slice_bounds-listed-end
+slice_bounds-listed-end g c = c.in_ok-count.ensures.listed.0
+
+pub reduce_rows-requires-clause-whole : goal.reduce_rows-requires-clause-whole
+reduce_rows-requires-clause-whole g c = c.split_at_mut-above.ensures.front_len
+    ∙ ap (λ n. c.args.row * n) (sym (c.divide_row.auto.cells ∙ c.split_at_mut-own.ensures.front_len))
+
+pub reduce_rows-requires-clause-column_in : goal.reduce_rows-requires-clause-column_in
+reduce_rows-requires-clause-column_in g c =
+    column_in g (goal.at.reduce_rows-requires-clause-column_in g c).In_ok-count
+
+pub reduce_rows-requires-2-clause-column_in : goal.reduce_rows-requires-2-clause-column_in
+reduce_rows-requires-2-clause-column_in g c =
+    column_in g (goal.at.reduce_rows-requires-2-clause-column_in g c).In_ok-count
 
 pub divide_row-requires-clause-divisor : goal.divide_row-requires-clause-divisor
 divide_row-requires-clause-divisor g c =
@@ -123,6 +158,16 @@ reduce_rows-requires-2-clause-whole g c = let w = length c.args.columns.now in
       c.split_at_mut-own.ensures.back_len,
       c.split_at_mut-above.ensures.back_len,
     )
+
+-- there are no more rows than cells
+rows_in : (n w c size : ℕ) → size ≡ suc n * w → c < w → suc n ≤ size
+rows_in n w c size e l = omega (arith, e, mul-le (suc n) 1 (suc n) w (omega arith) (omega (arith, l)))
+
+pub reduce_rows-requires-2-clause-numbers : goal.reduce_rows-requires-2-clause-numbers
+reduce_rows-requires-2-clause-numbers g c =
+    let l = rows_in c.args.rows (length c.args.columns.now) c.args.column (length c.args.cells.now) c.requires.whole
+    c.requires.column_in in
+    omega (arith, l, c.requires.row_in)
 
 pub reduce_rows-requires-2-clause-block : goal.reduce_rows-requires-2-clause-block
 reduce_rows-requires-2-clause-block g c =
