@@ -1,5 +1,5 @@
 -- A difference of two products, as a goal shows it with its casts.
-use Rattle.std.proofs.Common.{◌≡◌, sym, ap, subst, ◌∙◌, ◌≤◌, ◌+◌, ◌-◌, ◌*◌, ◌^◌, arith, to_z-of_z, ℤ, nat_abs, ◌-ℤ◌}
+use Rattle.std.proofs.Common.{◌≡◌, sym, ap, subst, ◌∙◌, ℕ, ◌≤◌, ◌+◌, ◌-◌, ◌*◌, ◌^◌, arith, to_z-of_z, ℤ, nat_abs, ◌-ℤ◌}
 use Rattle.std.proofs.Common.{◌*ℤ◌, SFits, to_z, of_z}
 use Rattle.stack_rational.proofs.Common.{ints, unsigned_abs-mul, signed-keeps}
 use Rattle.std.specs.Int.{Width}
@@ -9,12 +9,22 @@ use mir.Val.{hbits}
 difference_size : (l r : ℤ) → nat_abs (l -ℤ r) ≤ nat_abs l + nat_abs r
 difference_size l r = omega (arith, ints)
 
+-- a product of numbers that fit
+pub cast_product : {w : Width} {m : ℕ} {a k : ℤ} → SFits w a → SFits w k → nat_abs a * nat_abs k ≤ m →
+    nat_abs (to_z w (of_z w a)) * nat_abs (to_z w (of_z w k)) ≤ m
+cast_product {m = m} fa fk h = subst (λ n. n ≤ m)
+    (λ i. nat_abs (sym (to_z-of_z fa) i) * nat_abs (sym (to_z-of_z fk) i)) h
+
 -- where both sizes together fit
-cast_difference : (w : Width) (l r : ℤ) → nat_abs l + nat_abs r ≤ 2 ^ hbits w - 1 →
-    to_z w (of_z w (to_z w (of_z w l) -ℤ to_z w (of_z w r))) ≡ l -ℤ r
-cast_difference w l r h = ap (λ z. to_z w (of_z w z))
-    (λ i. to_z-of_z (signed-keeps w l (omega (arith, h))) i -ℤ to_z-of_z (signed-keeps w r (omega (arith, h))) i)
-    ∙ to_z-of_z (signed-keeps w (l -ℤ r) (omega (arith, h, difference_size l r)))
+module _ (w : Width) (l r : ℤ) (h : nat_abs l + nat_abs r ≤ 2 ^ hbits w - 1) where
+  kept : to_z w (of_z w l) -ℤ to_z w (of_z w r) ≡ l -ℤ r
+  kept = λ i. to_z-of_z (signed-keeps w l (omega (arith, h))) i -ℤ to_z-of_z (signed-keeps w r (omega (arith, h))) i
+
+  difference_fits : SFits w (l -ℤ r)
+  difference_fits = signed-keeps w (l -ℤ r) (omega (arith, h, difference_size l r))
+
+  cast_difference : to_z w (of_z w (to_z w (of_z w l) -ℤ to_z w (of_z w r))) ≡ l -ℤ r
+  cast_difference = ap (λ z. to_z w (of_z w z)) kept ∙ to_z-of_z difference_fits
 
 module _ (w : Width) (a b k t l r : ℤ) (fa : SFits w a) (fb : SFits w b) (fk : SFits w k) (ft : SFits w t)
     (hl : l ≡ to_z w (of_z w a) *ℤ to_z w (of_z w k)) (hr : r ≡ to_z w (of_z w t) *ℤ to_z w (of_z w b))
@@ -27,6 +37,10 @@ module _ (w : Width) (a b k t l r : ℤ) (fa : SFits w a) (fb : SFits w b) (fk :
 
   sizes : nat_abs l + nat_abs r ≤ 2 ^ hbits w - 1
   sizes = omega (arith, ap nat_abs left, ap nat_abs right, unsigned_abs-mul a k, unsigned_abs-mul t b, fits)
+
+  -- the difference doesn't overflow
+  pub cast_step_held : SFits w (to_z w (of_z w l) -ℤ to_z w (of_z w r))
+  cast_step_held = subst (SFits w) (sym (kept w l r sizes)) (difference_fits w l r sizes)
 
   -- a step on numbers that fit
   pub cast_step : to_z w (of_z w (to_z w (of_z w l) -ℤ to_z w (of_z w r))) ≡ a *ℤ k -ℤ t *ℤ b

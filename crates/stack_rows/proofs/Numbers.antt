@@ -1,8 +1,10 @@
 -- The values of a list that is written item by item.
-use Rattle.std.proofs.Common.{◌≡◌, ◌≢◌, sym, ap, subst, ◌∙◌, ℕ, zero, suc, ◌<◌, ◌≤◌, List, [], ◌∷◌, map, length, get_or}
+use Rattle.std.proofs.Common.{◌≡◌, ◌≢◌, sym, ap, subst, ◌∙◌, ℕ, zero, suc, ◌<◌, ◌≤◌, ◌+◌, ◌*◌, List, [], ◌∷◌, map, length, get_or}
 use Rattle.std.proofs.Common.{set, arith, get_or-set_same, get_or-set_other}
+use Rattle.std.proofs.Common.{ℤ, nat_abs, Bool, true}
 use Rattle.stack_rational.proofs.Common.{length-map, get_or_past, ℕ_discrete, dec_lt, get_or-map}
 use Rattle.std.proofs.lemmas.List.{map-set}
+use Rattle.stack_rows.specs.RowForm.{number_at, StepIsShort, RowStepFits}
 
 module _ {V C : Type 0} (e : V → C) (z : C) where
   -- past the end
@@ -56,3 +58,16 @@ pub item_same : (xs : List ℕ) (j y z : ℕ) → j < length xs → get_or xs j 
 item_same [] j y z l = absurd (omega (arith, l))
 item_same (x ∷ xs) zero y z l = λ i. x
 item_same (x ∷ xs) (suc j) y z l = item_same xs j y z (omega (arith, l))
+
+-- a row step fits in a column whose two numbers are read
+module _ {V : Type 0} {m : ℤ} {value : V → ℤ} {row pivot : List V} {k t : ℤ} {told : Bool}
+    (ready : RowStepFits m value row pivot k t told) (j : ℕ) {x y : ℤ} (own : number_at value row j ≡ x)
+    (other : number_at value pivot j ≡ y) where
+  pub item_fits : nat_abs x * nat_abs k + nat_abs t * nat_abs y ≤ nat_abs m
+  item_fits = subst (λ z. nat_abs z * nat_abs k + nat_abs t * nat_abs y ≤ nat_abs m) own
+      (subst (λ z. nat_abs (number_at value row j) * nat_abs k + nat_abs t * nat_abs z ≤ nat_abs m) other
+      (ready.fits j))
+
+  pub item_short : told ≡ true → StepIsShort k t (nat_abs x) (nat_abs y)
+  item_short s = subst (λ z. StepIsShort k t (nat_abs z) (nat_abs y)) own
+      (subst (λ z. StepIsShort k t (nat_abs (number_at value row j)) (nat_abs z)) other (ready.short s j))

@@ -2,8 +2,22 @@ use Rattle.std.proofs.Common.{◌≡◌, ◌≢◌, sym, ◌∙◌, ℕ, ◌<◌
 use Rattle.stack_rational.proofs.Common.{dec_lt}
 use Rattle.stack_rows.specs.RowForm.{number_at}
 use Rattle.stack_rows.proofs.Numbers.{at-past, at-index, at-set_same, at-set_other, done_more, rest_less}
+use Rattle.stack_rows.proofs.Numbers.{item_fits, item_short}
 use Rattle.stack_rows.proofs.Combined.{combined_past}
 use Rattle.stack_rows.proofs.row.combine.Goals as goal
+
+pub term-number-requires : goal.term-number-requires
+term-number-requires g c =
+    let v = g.T.RowNumber.value in
+    let j = c.loop-j.j in
+    let old = sym (c.loop-j.invariant.rest j (omega arith)) ∙ at-index v (pos 0) c.loop-j.numbers j
+    c.index-numbers-j.result (omega (arith, c.loop-j-test.true, c.loop-j.auto.numbers)) c.index-numbers-j.is in
+    let piv = at-index v (pos 0) c.args.pivot.now j c.index-pivot-j.result
+    (omega (arith, c.loop-j-test.true, c.requires.width)) c.index-pivot-j.is in
+    record {
+      fits = item_fits c.requires.ready j old piv;
+      short = item_short c.requires.ready j old piv;
+    }
 
 pub loop-j-preserved : goal.loop-j-preserved
 loop-j-preserved g c =

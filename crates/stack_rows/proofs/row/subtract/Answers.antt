@@ -3,8 +3,22 @@ use Rattle.std.proofs.Common.{length-set}
 use Rattle.stack_rational.proofs.Common.{dec_lt}
 use Rattle.stack_rows.specs.RowForm.{number_at}
 use Rattle.stack_rows.proofs.Numbers.{at-past, at-index, at-set_same, at-set_other, item_same, done_jump, rest_jump}
+use Rattle.stack_rows.proofs.Numbers.{item_fits, item_short}
 use Rattle.stack_rows.proofs.Combined.{combined_past, combined_stays}
 use Rattle.stack_rows.proofs.row.subtract.Goals as goal
+
+pub term-requires : goal.term-requires
+term-requires g c =
+    let v = g.T.RowNumber.value in
+    let j = c.loop-j.j in
+    let old = sym (c.loop-j.invariant.rest j (omega arith)) ∙ at-index v (pos 0) c.loop-j.numbers j
+    c.index-numbers-j.result (omega (arith, c.loop-j-test.true)) c.index-numbers-j.is in
+    let piv = at-index v (pos 0) c.args.pivot.now j c.index-pivot-j.result
+    (omega (arith, c.loop-j-test.true, c.requires.width, c.loop-j.auto.numbers)) c.index-pivot-j.is in
+    record {
+      fits = item_fits c.requires.ready j old piv;
+      short = item_short c.requires.ready j old piv;
+    }
 
 pub loop-j-smaller : goal.loop-j-smaller
 loop-j-smaller g c = omega (
