@@ -1,6 +1,6 @@
 -- A difference of two products, as a goal shows it with its casts.
 use Rattle.std.proofs.Common.{◌≡◌, sym, ap, subst, ◌∙◌, ℕ, ◌≤◌, ◌+◌, ◌-◌, ◌*◌, ◌^◌, arith, to_z-of_z, ℤ, nat_abs, ◌-ℤ◌}
-use Rattle.std.proofs.Common.{◌*ℤ◌, SFits, to_z, of_z}
+use Rattle.std.proofs.Common.{pos, ◌+ℤ◌, ◌*ℤ◌, ◌≤ℤ◌, SFits, to_z, of_z}
 use Rattle.stack_rational.proofs.Common.{ints, unsigned_abs-mul, signed-keeps}
 use Rattle.std.specs.Int.{Width}
 use mir.Val.{hbits}
@@ -50,3 +50,17 @@ module _ (w : Width) (a b k t l r : ℤ) (fa : SFits w a) (fb : SFits w b) (fk :
   pub cast_step_fits : nat_abs (to_z w (of_z w (to_z w (of_z w l) -ℤ to_z w (of_z w r)))) ≤ 2 ^ hbits w - 1
   cast_step_fits = subst (λ z. nat_abs z ≤ 2 ^ hbits w - 1) (sym (cast_difference w l r sizes))
       (omega (arith, sizes, difference_size l r))
+
+-- the sum of two sizes l and r, as it is stored
+pub cast_sizes : (w : Width) (a b l r s n : ℤ) → nat_abs l ≤ 2 ^ hbits w - 1 → nat_abs r ≤ 2 ^ hbits w - 1 →
+    (nat_abs l ≡ nat_abs a) × (pos 0 ≤ℤ l) → (nat_abs r ≡ nat_abs b) × (pos 0 ≤ℤ r) →
+    SFits w (to_z w (of_z w l) +ℤ to_z w (of_z w r)) × (s ≡ to_z w (of_z w l) +ℤ to_z w (of_z w r)) →
+    n ≡ to_z w (of_z w s) → nat_abs a + nat_abs b ≤ nat_abs n
+cast_sizes w a b l r s n fl fr hl hr hs hn = omega (arith, hl.0, hr.0, ap nat_abs whole, sum l r hl.1 hr.1)
+  where
+    whole : n ≡ l +ℤ r
+    whole = hn ∙ to_z-of_z (subst (SFits w) (sym hs.1) hs.0) ∙ hs.1
+        ∙ (λ i. to_z-of_z (signed-keeps w l fl) i +ℤ to_z-of_z (signed-keeps w r fr) i)
+
+    sum : (l r : ℤ) → pos 0 ≤ℤ l → pos 0 ≤ℤ r → nat_abs (l +ℤ r) ≡ nat_abs l + nat_abs r
+    sum l r pl pr = omega (arith, ints, pl, pr)
