@@ -1,7 +1,7 @@
 -- The values of a list that is written item by item.
-use Rattle.std.proofs.Common.{◌≡◌, ◌≢◌, sym, ap, subst, ◌∙◌, ℕ, zero, suc, ◌<◌, ◌≤◌, ◌+◌, ◌*◌, List, [], ◌∷◌, map, length, get_or}
+use Rattle.std.proofs.Common.{◌≡◌, ◌≢◌, sym, ap, subst, ◌∙◌, ℕ, zero, suc, ◌<◌, ◌≤◌, List, [], ◌∷◌, map, length, get_or}
 use Rattle.std.proofs.Common.{set, arith, get_or-set_same, get_or-set_other}
-use Rattle.std.proofs.Common.{ℤ, nat_abs, Bool, true}
+use Rattle.std.proofs.Common.{◌+◌, ◌*◌, ℤ, nat_abs, Bool, true}
 use Rattle.stack_rational.proofs.Common.{length-map, get_or_past, ℕ_discrete, dec_lt, get_or-map}
 use Rattle.std.proofs.lemmas.List.{map-set}
 use Rattle.stack_rows.specs.RowForm.{number_at, StepIsShort, RowStepFits}
