@@ -23,7 +23,8 @@ use Rattle.stack_certificate.specs.LineOf.{before, behind}
 use Rattle.stack_certificate.proofs.CutLines.{lacks_number}
 use Rattle.stack_certificate.proofs.Spellings.{own}
 use Rattle.stack_pairs.specs.Directed.{AreFactors}
-use Rattle.stack_directions.specs.Directions.{IsDirection, is_direction, direction_body, direction_text, IsDirectionBody}
+use Rattle.stack_directions.specs.Directions.{IsDirection, is_direction, direction_body, direction_text}
+use Rattle.stack_directions.specs.Directions.{IsDirectionBody}
 use Rattle.stack_directions.specs.Directions.{IsDirectionLine, likely_direction, direction_of}
 
 before_cut : (c : ℕ) (xs ys : List ℕ) → lacks c xs ≡ true → before c (xs ++ c ∷ ys) ≡ xs

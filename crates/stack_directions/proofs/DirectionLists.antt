@@ -7,7 +7,8 @@ use Rattle.std.proofs.lemmas.List.Elements.{All-nil, All-cons}
 use Rattle.std.proofs.lemmas.Bool.{lt-ltb, le-ltb, eqb-true}
 use Rattle.std.proofs.lemmas.List.{append-nil}
 use Rattle.stack_certificate.specs.FaultLine.{onto_first, cut}
-use Rattle.stack_directions.specs.Directions.{direction_text, IsDirectionLine, direction_of, with_direction, directions_from}
+use Rattle.stack_directions.specs.Directions.{direction_text, IsDirectionLine, direction_of, with_direction}
+use Rattle.stack_directions.specs.Directions.{directions_from}
 use Rattle.stack_directions.specs.Directions.{directions_of_lines, directions_of, IsDirection, AreDirections, IsGood}
 use Rattle.stack_directions.specs.Directions.{IsFaultyFrom, IsFaulty}
 use Rattle.stack_directions.proofs.DirectionLines.{direction_found, no_direction_found, found_direction}

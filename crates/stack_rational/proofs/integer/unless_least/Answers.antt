@@ -30,7 +30,8 @@ returns-else-eq g c = λ z k.
     let e = g.met.T.Integral.exact_law in
     let y = subst (Checks g.T.Number.value g.T.Number.fits z) c.in_ok-y.was k in (
       g.met.T.Integer.least_law z y.0 (isnt_least (g.T.Number.value c.in_ok-y.y) z (g.T.Number.value c.min_value.result)
-          g.T.Bounded.low y.1 (c.min_value.ensures.value e) c.eq.result (g.T.PartialEq.eq c.in_ok-y.y c.min_value.result)
+          g.T.Bounded.low y.1 (c.min_value.ensures.value e) c.eq.result
+          (g.T.PartialEq.eq c.in_ok-y.y c.min_value.result)
           c.if-eq.false c.eq.ensures (g.met.T.Number.eq_law c.in_ok-y.y c.min_value.result e).1),
       y.1,
     )

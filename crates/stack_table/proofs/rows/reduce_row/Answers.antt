@@ -1,5 +1,5 @@
-use Rattle.std.proofs.Common.{◌≡◌, refl, sym, ap, ◌∙◌, ℕ, suc, ◌+◌, ◌<◌, ◌≤◌, length, get_or, set, true, false, Option, None, add-one}
-use Rattle.std.proofs.Common.{arith}
+use Rattle.std.proofs.Common.{◌≡◌, refl, sym, ap, ◌∙◌, ℕ, suc, ◌+◌, ◌<◌, ◌≤◌, length, get_or, set}
+use Rattle.std.proofs.Common.{true, false, Option, None, add-one, arith}
 use Rattle.stack_rational.proofs.Common.{dec_lt, Fraction, mul, ordered_fractions, first, or_else, first_found}
 use Rattle.stack_rational.proofs.Common.{is_too_wide, fraction_fits, is_zero}
 use Rattle.stack_algebra.proofs.Search.{first_over}
@@ -76,8 +76,8 @@ returns-in-Err-clause-wide g c =
     let y = g.S.Exact.exact c.index-pivot-j.result in
     let k = old g at c.args.column in
     first_found (length c.args.cells.now) (next g at) (item g at) _ (below g at) (before g at)
-    (product_too_wide g.S.Exact.MAX (old g at) (piv g at) k c.args.row (next g at) (old g at (next g at)) y (mul k y) refl
-    (pivot_is g at) (ap (λ z. is_too_wide g.S.Exact.MAX Product z y) (factor_is g at) ∙ c.in-Err.ensures.wide))
+    (product_too_wide g.S.Exact.MAX (old g at) (piv g at) k c.args.row (next g at) (old g at (next g at)) y (mul k y)
+    refl (pivot_is g at) (ap (λ z. is_too_wide g.S.Exact.MAX Product z y) (factor_is g at) ∙ c.in-Err.ensures.wide))
 
 pub returns-in-Err-difference-clause-wide : goal.returns-in-Err-difference-clause-wide
 returns-in-Err-difference-clause-wide g c =
