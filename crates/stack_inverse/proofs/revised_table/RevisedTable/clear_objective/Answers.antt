@@ -1,12 +1,70 @@
-use Rattle.std.proofs.Common.{◌≡◌, sym, ap, ◌∙◌, suc, length, get_or, List, pos, false, subst₂}
-use Rattle.stack_rational.proofs.Common.{with_items_is, with_items, of}
+use Rattle.std.proofs.Common.{◌≡◌, refl, sym, ap, subst, ◌∙◌, suc, length, get_or, List, pos, ◌<ℤ◌, false, arith}
+use Rattle.std.proofs.Common.{subst₂}
+use Rattle.stack_rational.proofs.Common.{with_items_is, with_items, of, ints}
 use Rattle.stack_rows.specs.RowForm.{number_at}
 use Rattle.stack_inverse.specs.declared.row.Row.{Row}
-use Rattle.stack_inverse.specs.Columns.{IsPut, revised_cell}
+use Rattle.stack_inverse.specs.Columns.{IsPut, IsOwn, revised_cell}
 use Rattle.stack_inverse.specs.RowsSeen.{seen_at}
+use Rattle.stack_inverse.proofs.Cleared.{none_own}
 use Rattle.stack_inverse.proofs.PutRow.{wide_put, marked_put}
 use Rattle.stack_inverse.proofs.ObjectivePut.{objective_put, others_stay, zero_row_is}
 use Rattle.stack_inverse.proofs.revised_table.RevisedTable.clear_objective.Goals as goal
+
+pub invariant_of-self : goal.invariant_of-self
+invariant_of-self g c =
+    let s = c.args.self.now in
+    let plong = c.clear_row.auto.row ∙ ap length c.as_mut_slice.ensures.value in
+    let piv = with_items_is s.pivot.numbers c.clear_row.new.row (plong ∙ sym s.pivot.numbers.ok.0) in
+    (s.pivot.long ∙ sym (ap length piv ∙ plong), tt)
+
+pub invariant_of-self-2 : goal.invariant_of-self-2
+invariant_of-self-2 g c =
+    let s = c.args.self.now.given in
+    let v = g.T.RowNumber.value in
+    let long = c.clear_row-2.auto.row ∙ ap length c.as_mut_slice-2.ensures.value in
+    let own = with_items_is s.own c.clear_row-2.new.row (long ∙ sym s.own.ok.0) in (
+      ap length own ∙ long ∙ s.owns,
+      (
+        subst (λ (xs : List g.row.T.Denot). IsOwn v xs (v s.own_top)) (sym own)
+            (none_own v c.clear_row-2.new.row (v s.own_top) c.clear_row-2.ensures),
+        tt,
+      ),
+    )
+
+pub invariant_of-self-3 : goal.invariant_of-self-3
+invariant_of-self-3 g c =
+    let s = c.args.self.now.given in
+    let v = g.T.RowNumber.value in
+    let top = v c.zero-self.result in
+    let long = c.clear_row-2.auto.row ∙ ap length c.as_mut_slice-2.ensures.value in
+    let own = with_items_is s.own c.clear_row-2.new.row (long ∙ sym s.own.ok.0) in
+    record {
+      owns = ap length own ∙ long ∙ s.owns;
+      within = subst (λ (xs : List g.row.T.Denot). IsOwn v xs top) (sym own)
+          (none_own v c.clear_row-2.new.row top c.clear_row-2.ensures);
+    }
+
+pub put_row-requires : goal.put_row-requires
+put_row-requires g c =
+    let s = c.args.self.now in
+    let M = s.given.first.rows in
+    let plong = c.clear_row.auto.row ∙ ap length c.as_mut_slice.ensures.value in
+    let piv = with_items_is s.pivot.numbers c.clear_row.new.row (plong ∙ sym s.pivot.numbers.ok.0) in
+    record {
+      row_in = omega (arith, ap length c.as_mut_slice-3.ensures.value, s.height);
+      width = ap (λ (rs : List (Row g.row.T.Denot g.T.RowNumber)). length (seen_at rs M).numbers)
+          c.as_mut_slice-3.ensures.value ∙ s.wide M (omega arith)
+          ∙ sym (ap length c.as_slice.ensures.value ∙ ap length piv ∙ plong ∙ s.room);
+      under = subst (λ z. pos 0 <ℤ z) (sym c.in_ok-one.ensures) (omega (arith, ints));
+      topped = λ n. absurd (n c.zero.ensures);
+    }
+
+pub invariant_of-self-4 : goal.invariant_of-self-4
+invariant_of-self-4 g c =
+    let s = c.args.self.now in
+    let plong = c.clear_row.auto.row ∙ ap length c.as_mut_slice.ensures.value in
+    let piv = with_items_is s.pivot.numbers c.clear_row.new.row (plong ∙ sym s.pivot.numbers.ok.0) in
+    (s.pivot.long ∙ sym (ap length piv ∙ plong), tt)
 
 pub invariant_of-self-5 : goal.invariant_of-self-5
 invariant_of-self-5 g c =
@@ -39,6 +97,9 @@ invariant_of-self-5 g c =
       basics = s.basics;
       basics_in = s.basics_in;
     }
+
+pub returns-clause-shape : goal.returns-clause-shape
+returns-clause-shape g c = refl
 
 pub returns-clause-ok : goal.returns-clause-ok
 returns-clause-ok g c =

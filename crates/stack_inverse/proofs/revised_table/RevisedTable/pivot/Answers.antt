@@ -1,5 +1,5 @@
-use Rattle.std.proofs.Common.{◌≡◌, sym, ap, subst, ◌∙◌, ℕ, suc, ◌+◌, List, length, get_or, set, None, pos, arith}
-use Rattle.std.proofs.Common.{length-set}
+use Rattle.std.proofs.Common.{◌≡◌, refl, sym, ap, subst, ◌∙◌, ℕ, suc, ◌+◌, List, length, get_or, set, None, pos, arith}
+use Rattle.std.proofs.Common.{length-set, subst₂}
 use Rattle.stack_rational.proofs.Common.{with_items_is, with_items, Fraction, changed, next, ordered_fractions}
 use Rattle.stack_rational.proofs.Common.{is_too_wide}
 use Rattle.stack_table.specs.Block.{shape_of}
@@ -7,7 +7,7 @@ use Rattle.stack_table.specs.Table.{Tabled, columns, pivoted_at}
 use Rattle.stack_table.specs.Spots.{cells_spot, pivot_spot}
 use Rattle.stack_inverse.specs.declared.row.Row.{Row}
 use Rattle.stack_inverse.specs.RowBlock.{IsPivotedCells, AreMarked}
-use Rattle.stack_inverse.specs.Columns.{AreWide}
+use Rattle.stack_inverse.specs.Columns.{AreWide, AreEntered}
 use Rattle.stack_inverse.specs.RowsSeen.{seen_at, number_in_row, cells_of_rows, columns_of}
 use Rattle.stack_inverse.specs.Seen.{number_in, under_in, shape_of_revised, table_of_revised}
 use Rattle.stack_inverse.proofs.PutRow.{under_positive}
@@ -16,48 +16,57 @@ use Rattle.stack_inverse.proofs.Kept.{on_ok, err_same}
 use Rattle.stack_table.proofs.Basics.{basic_changed, basic_below}
 use Rattle.stack_inverse.proofs.revised_table.RevisedTable.pivot.Goals as goal
 
-pub pivot_rows-requires-clause-some : goal.pivot_rows-requires-clause-some
-pivot_rows-requires-clause-some g c =
+pub pivot_rows-requires : goal.pivot_rows-requires
+pivot_rows-requires g c =
     let s = c.args.self.now in
+    let v = g.T.RowNumber.value in
+    let f = s.given.first in
     let r = c.args.row in
-    λ e. c.requires.cell (zero_cell (number_in s r c.args.column) (under_in s r) (under_positive s.rows.items r)
-    (subst (λ (rs : List (Row g.row.T.Denot g.T.RowNumber)). number_in_row s.given (seen_at rs r) r c.args.column
-    ≡ pos 0)
-    c.as_mut_slice.ensures.value e))
+    let k = c.args.column in
+    let kept = sym c.as_mut_slice.ensures.value in
+    record {
+      height = sym (ap length kept) ∙ s.height;
+      wide = subst (λ (rs : List (Row g.row.T.Denot g.T.RowNumber)). AreWide f.rows (seen_at rs)) kept s.wide;
+      room = s.room;
+      marked = subst (λ (rs : List (Row g.row.T.Denot g.T.RowNumber)). AreMarked g.T.RowNumber.MAX
+          (cells_of_rows s.given rs) (seen_at rs)) kept s.marked;
+      long = ap length c.as_slice.ensures.value ∙ s.one_number;
+      entered = subst₂ (λ (rs : List (Row g.row.T.Denot g.T.RowNumber)) (es : List g.row.T.Denot). AreEntered v f.rows
+          f.columns.items s.given.own.items (seen_at rs) k es) kept (sym c.as_slice.ensures.value) c.requires.entered;
+      row_in = c.requires.row_in;
+      some = λ e. c.requires.cell (zero_cell (number_in s r k) (under_in s r) (under_positive s.rows.items r)
+          (subst (λ (rs : List (Row g.row.T.Denot g.T.RowNumber)). number_in_row s.given (seen_at rs r) r k ≡ pos 0)
+          c.as_mut_slice.ensures.value e));
+    }
 
-pub invariant_of-self-clause-wide : goal.invariant_of-self-clause-wide
-invariant_of-self-clause-wide g c =
+pub invariant_of-self : goal.invariant_of-self
+invariant_of-self g c =
     let s = c.args.self.now in
+    let m = s.given.first.rows in
     let new = c.pivot_rows.new.rows in
-    subst (λ (rs : List (Row g.row.T.Denot g.T.RowNumber)). AreWide s.given.first.rows (seen_at rs))
-    (sym (with_items_is s.rows new (c.pivot_rows.auto.rows ∙ ap length c.as_mut_slice.ensures.value ∙ sym s.rows.ok.0)))
-    c.pivot_rows.ensures.wide
+    let tall = c.pivot_rows.auto.rows ∙ ap length c.as_mut_slice.ensures.value in
+    let rows = with_items_is s.rows new (tall ∙ sym s.rows.ok.0) in
+    record {
+      plain_count = s.plain_count;
+      height = ap length rows ∙ tall ∙ s.height;
+      wide = subst (λ (rs : List (Row g.row.T.Denot g.T.RowNumber)). AreWide m (seen_at rs)) (sym rows)
+          c.pivot_rows.ensures.wide;
+      marked = subst (λ (rs : List (Row g.row.T.Denot g.T.RowNumber)). AreMarked g.T.RowNumber.MAX
+          (cells_of_rows s.given rs) (seen_at rs)) (sym rows) c.pivot_rows.ensures.marked;
+      room = c.pivot_rows.ensures.room ∙ s.room;
+      one_number = s.one_number;
+      basics = length-set s.basic.items c.args.row c.args.column ∙ s.basics;
+      basics_in = basic_below s.basic.items c.args.row c.args.column m (columns (shape_of m s.contacts s.has_factor))
+          (omega (arith, s.basics, c.requires.row_in)) (omega (arith, c.requires.column_in)) s.basics_in;
+    }
 
-pub invariant_of-self-clause-marked : goal.invariant_of-self-clause-marked
-invariant_of-self-clause-marked g c =
+pub returns-clause-shape : goal.returns-clause-shape
+returns-clause-shape g c =
     let s = c.args.self.now in
-    let new = c.pivot_rows.new.rows in
-    subst (λ (rs : List (Row g.row.T.Denot g.T.RowNumber)). AreMarked g.T.RowNumber.MAX (cells_of_rows s.given rs)
-    (seen_at rs))
-    (sym (with_items_is s.rows new (c.pivot_rows.auto.rows ∙ ap length c.as_mut_slice.ensures.value ∙ sym s.rows.ok.0)))
-    c.pivot_rows.ensures.marked
-
-pub invariant_of-self-clause-height : goal.invariant_of-self-clause-height
-invariant_of-self-clause-height g c =
-    let s = c.args.self.now in
-    let same = c.pivot_rows.auto.rows ∙ ap length c.as_mut_slice.ensures.value in
-    ap length (with_items_is s.rows c.pivot_rows.new.rows (same ∙ sym s.rows.ok.0)) ∙ same ∙ s.height
-
-pub invariant_of-self-clause-basics : goal.invariant_of-self-clause-basics
-invariant_of-self-clause-basics g c = length-set c.args.self.now.basic.items c.args.row c.args.column
-    ∙ c.args.self.now.basics
-
-pub invariant_of-self-clause-basics_in : goal.invariant_of-self-clause-basics_in
-invariant_of-self-clause-basics_in g c =
-    let s = c.args.self.now in
-    basic_below s.basic.items c.args.row c.args.column s.given.first.rows
-    (columns (shape_of s.given.first.rows s.contacts s.has_factor))
-    (omega (arith, s.basics, c.requires.row_in)) (omega (arith, c.requires.column_in)) s.basics_in
+    let m = s.given.first.rows in
+    on_ok c.pivot_rows.result (IsPivotedCells g.T.RowNumber.MAX (suc m) (columns_of s.given)
+    (cells_of_rows s.given c.as_mut_slice.result.now) c.args.row c.args.column
+    (cells_of_rows s.given c.pivot_rows.new.rows)) _ (λ h. refl) c.pivot_rows.ensures.ok
 
 pub returns-clause-none : goal.returns-clause-none
 returns-clause-none g c =
