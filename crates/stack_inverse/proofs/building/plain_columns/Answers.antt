@@ -1,5 +1,6 @@
 use Rattle.std.proofs.Common.{◌≡◌, refl, sym, ap, subst, ◌∙◌, ℕ, ◌+◌, ◌<◌, List, [], map, length, get_or}
 use Rattle.std.proofs.Common.{cond, eqb, lt-ltb, le-ltb, eq-eqb, ℤ, arith, subst₂}
+use Rattle.std.specs.List.{AllByRecursion}
 use Rattle.stack_rational.proofs.Common.{length_push}
 use Rattle.stack_table.specs.declared.problem.Entry.{Entry}
 use Rattle.stack_table.specs.declared.problem.Column.{Column as Given}
@@ -24,6 +25,16 @@ last_entries P =
     sym (ap (λ b. cond b (get_or (map (λ (c : Given). c.entries.items) P.contact.items) n [])
     (cond (eqb n n) (factor_entries P.factor) [])) (le-ltb n n (omega arith))
     ∙ ap (λ b. cond b (factor_entries P.factor) []) (eq-eqb n n refl))
+
+pub contact_columns-requires : goal.contact_columns-requires
+contact_columns-requires g c = c.requires
+
+pub cells_of-requires : goal.cells_of-requires
+cells_of-requires g c =
+    let P = c.args.p.now in
+    subst₂ (λ (n : ℕ) (es : List Entry). AllByRecursion (λ x. x.row < n) es)
+    (sym (ap length c.as_slice-in-Some.ensures.value ∙ c.requires.right_long))
+    (ap factor_entries c.in-Some.is ∙ sym c.as_slice.ensures.value) c.requires.factor_column.below
 
 pub returns-in_ok-push-in-Some-clause-long : goal.returns-in_ok-push-in-Some-clause-long
 returns-in_ok-push-in-Some-clause-long g c =

@@ -1,4 +1,4 @@
-use Rattle.std.proofs.Common.{◌≡◌, sym, ap, subst, ◌∙◌, ℕ, ◌<◌, ◌<ℤ◌, ◌-ℤ◌, length, Option, ℤ, pos, true, arith}
+use Rattle.std.proofs.Common.{◌≡◌, sym, ap, subst, ◌∙◌, ℕ, ◌<◌, ◌<ℤ◌, ◌-ℤ◌, length, Option, Some, suc, ℤ, pos, true, arith}
 use Rattle.std.proofs.Common.{IfSome, slice_index_or}
 use Rattle.stack_rational.proofs.Common.{is_zero_whole, ints}
 use Rattle.stack_rational.proofs.Fitting.{is_zero_whole-num}
@@ -12,6 +12,12 @@ use Rattle.stack_inverse.proofs.objective.factor_row.Goals as goal
 no_rest : (a b r : ℤ) → r ≡ a -ℤ b → true ≡ is_zero_whole r → a ≡ b
 no_rest a b r e h = omega (arith, ints, e, is_zero_whole-num r (sym h))
 
+-- a row that is found stands among all
+row_within : (o : Option ℕ) (r m n : ℕ) → IfSome o (λ r. r < m) → o ≡ Some r → n ≡ suc m → r < n
+row_within o r m n h e l =
+    let lt : r < m = subst (λ (o : Option ℕ). IfSome o (λ r. r < m)) e h in
+    omega (arith, lt, l)
+
 pub copy_from_slice-requires : goal.copy_from_slice-requires
 copy_from_slice-requires g c =
     let r = c.in-Some.r in
@@ -23,9 +29,29 @@ copy_from_slice-requires g c =
 
 pub bounds-rows-r : goal.bounds-rows-r
 bounds-rows-r g c =
-    let m = c.args.plain.now.first.rows in
-    let lt : c.in-Some.r < m = subst (λ (o : Option ℕ). IfSome o (λ r. r < m)) c.in-Some.is c.requires.row_in in
-    omega (arith, lt, c.requires.height)
+    row_within c.args.row c.in-Some.r c.args.plain.now.first.rows (length c.args.rows.now) c.requires.row_in
+    c.in-Some.is c.requires.height
+
+pub bounds-rows-r-in-Some : goal.bounds-rows-r-in-Some
+bounds-rows-r-in-Some g c =
+    row_within c.args.row c.in-Some.r c.args.plain.now.first.rows (length c.args.rows.now) c.requires.row_in
+    c.in-Some.is c.requires.height
+
+pub bounds-rows-r-in_ok-cell-in-Some : goal.bounds-rows-r-in_ok-cell-in-Some
+bounds-rows-r-in_ok-cell-in-Some g c =
+    row_within c.args.row c.in-Some.r c.args.plain.now.first.rows (length c.args.rows.now) c.requires.row_in
+    c.in-Some.is c.requires.height
+
+pub bounds-rows-r-in_ok-cell-in-Some-2 : goal.bounds-rows-r-in_ok-cell-in-Some-2
+bounds-rows-r-in_ok-cell-in-Some-2 g c x =
+    row_within c.args.row c.in-Some.r c.args.plain.now.first.rows (length c.args.rows.now) c.requires.row_in
+    c.in-Some.is c.requires.height
+
+pub returns-then-not-is_zero-clause-positive : goal.returns-then-not-is_zero-clause-positive
+returns-then-not-is_zero-clause-positive g c = tt
+
+pub returns-then-not-is_zero-clause-ok : goal.returns-then-not-is_zero-clause-ok
+returns-then-not-is_zero-clause-ok g c = tt
 
 pub number_of-requires : goal.number_of-requires
 number_of-requires g c = c.requires.column_in
