@@ -26,3 +26,6 @@ returns-clause-long g c = omega (arith, c.loop-j.invariant.long, c.loop-j-test.f
 
 pub returns-clause-cells : goal.returns-clause-cells
 returns-clause-cells g c = λ k l. c.loop-j.invariant.cells k (omega (arith, l, c.loop-j-test.false))
+
+pub bounds-columns-j : goal.bounds-columns-j
+bounds-columns-j g c = c.loop-j-test.true

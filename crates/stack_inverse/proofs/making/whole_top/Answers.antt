@@ -7,6 +7,9 @@ use Rattle.stack_inverse.proofs.making.whole_top.Goals as goal
 within : (a b c d q w : ℕ) → c ≡ a → d ≡ b → c + d ≤ q → q ≤ w → a + b ≤ w
 within a b c d q w e f h l = omega (arith, e, f, h, l)
 
+pub offset_bounds-numbers-first : goal.offset_bounds-numbers-first
+offset_bounds-numbers-first g c = omega (arith, c.requires.width)
+
 pub bounds-numbers-first : goal.bounds-numbers-first
 bounds-numbers-first g c = omega (arith, c.requires.width)
 

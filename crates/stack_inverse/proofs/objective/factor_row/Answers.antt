@@ -1,4 +1,4 @@
-use Rattle.std.proofs.Common.{◌≡◌, sym, ap, subst, ◌∙◌, ℕ, ◌<◌, ◌<ℤ◌, ◌-ℤ◌, length, Option, Some, suc, ℤ, pos, true, arith}
+use Rattle.std.proofs.Common.{◌≡◌, sym, ap, subst, ◌∙◌, ℕ, ◌<◌, ◌≤◌, ◌<ℤ◌, ◌-ℤ◌, length, Option, Some, suc, ℤ, pos, true, arith}
 use Rattle.std.proofs.Common.{IfSome, slice_index_or}
 use Rattle.stack_rational.proofs.Common.{is_zero_whole, ints}
 use Rattle.stack_rational.proofs.Fitting.{is_zero_whole-num}
@@ -17,6 +17,9 @@ row_within : (o : Option ℕ) (r m n : ℕ) → IfSome o (λ r. r < m) → o ≡
 row_within o r m n h e l =
     let lt : r < m = subst (λ (o : Option ℕ). IfSome o (λ r. r < m)) e h in
     omega (arith, lt, l)
+
+row_before : (o : Option ℕ) (r m n : ℕ) → IfSome o (λ r. r < m) → o ≡ Some r → n ≡ suc m → r ≤ n
+row_before o r m n h e l = omega (arith, row_within o r m n h e l)
 
 pub copy_from_slice-requires : goal.copy_from_slice-requires
 copy_from_slice-requires g c =
@@ -97,3 +100,18 @@ returns-in_ok-one-in-None-clause-ok g c =
     subst (λ (o : Option ℕ). IsFactorRow v p.first.rows p.first.columns.items p.own.items (seen_at c.args.rows.now)
     c.args.column o c.clear_row.new.row (v c.in_ok-one-in-None.one)) (sym c.in-None.is)
     (c.clear_row.ensures, c.in_ok-one-in-None.ensures)
+
+pub offset_bounds-rows-r : goal.offset_bounds-rows-r
+offset_bounds-rows-r g c =
+    row_before c.args.row c.in-Some.r c.args.plain.now.first.rows (length c.args.rows.now) c.requires.row_in
+    c.in-Some.is c.requires.height
+
+pub offset_bounds-rows-r-in-Some : goal.offset_bounds-rows-r-in-Some
+offset_bounds-rows-r-in-Some g c =
+    row_before c.args.row c.in-Some.r c.args.plain.now.first.rows (length c.args.rows.now) c.requires.row_in
+    c.in-Some.is c.requires.height
+
+pub offset_bounds-rows-r-in-Some-2 : goal.offset_bounds-rows-r-in-Some-2
+offset_bounds-rows-r-in-Some-2 g c =
+    row_before c.args.row c.in-Some.r c.args.plain.now.first.rows (length c.args.rows.now) c.requires.row_in
+    c.in-Some.is c.requires.height

@@ -59,3 +59,15 @@ returns g c =
     let v = g.T.RowNumber.value in
     let none = drop_all c.loop-cell.cell-index c.args.cells.now c.loop-cell-test.false in
     less_none (v c.loop-cell.sum) _ (ap (products_in v c.args.row.now) none) ∙ c.loop-cell.invariant.rest
+
+pub offset_bounds-cells-cell-index : goal.offset_bounds-cells-cell-index
+offset_bounds-cells-cell-index g c = c.loop-cell.auto.cell-index-end
+
+pub bounds-cells-cell-index : goal.bounds-cells-cell-index
+bounds-cells-cell-index g c = c.loop-cell-test.true
+
+pub offset_bounds-row-cell : goal.offset_bounds-row-cell
+offset_bounds-row-cell g c =
+    let lt = row_below (length c.args.row.now) c.loop-cell.cell-index c.args.cells.now c.cell-item.result
+    c.requires.rows c.loop-cell-test.true c.cell-item.is in
+    omega (arith, lt)
