@@ -1,5 +1,5 @@
-use Rattle.std.proofs.Common.{◌≡◌, sym, ap, subst, ◌∙◌, ℕ, ◌<◌, ◌≤◌, ◌<ℤ◌, ◌-ℤ◌, length, Option, Some, suc, ℤ, pos, true, arith}
-use Rattle.std.proofs.Common.{IfSome, slice_index_or}
+use Rattle.std.proofs.Common.{◌≡◌, sym, ap, subst, ◌∙◌, ℕ, ◌<◌, ◌≤◌, ◌<ℤ◌, ◌-ℤ◌, length, Option, Some, suc}
+use Rattle.std.proofs.Common.{ℤ, pos, true, arith, IfSome, slice_index_or}
 use Rattle.stack_rational.proofs.Common.{is_zero_whole, ints}
 use Rattle.stack_rational.proofs.Fitting.{is_zero_whole-num}
 use Rattle.stack_inverse.specs.Columns.{RowSeen, IsFactorRow}
