@@ -9,3 +9,4 @@ pub mod Readings
 pub mod ReadSoFar
 pub mod WrittenLists
 pub mod TextSizes
+pub mod Put

@@ -1,6 +1,6 @@
 -- The loads of a directed structure are within the limits.
 use Rattle.std.proofs.Common.{◌≡◌, refl, sym, ◌∙◌, subst, ℕ, suc, ◌+◌, ◌<◌, ◌≤◌, Bool, true, false, arith, List, []}
-use Rattle.std.proofs.Common.{◌∷◌, length, get_or, w64, to_z, of_z, nat_abs, nat_eq, not, if◌then◌else◌}
+use Rattle.std.proofs.Common.{◌∷◌, length, get_or, w64, SFits, to_z, of_z, nat_abs, nat_eq, not, if◌then◌else◌}
 use Rattle.std.specs.List.{All}
 use Rattle.std.proofs.lemmas.Bool.{eqb-true, ne_eqb, eq-eqb}
 use Rattle.std.proofs.lemmas.Int.{ints, to_z-of_z}
@@ -30,19 +30,33 @@ product_limited m z a b c d =
     (omega (arith, sums)) in
     record { least = omega (arith, sums, low); most = omega (arith, sums, simp expand at high) }
 
-pub cast : (z : ℤ) → IsLimited z → to_z w64 (of_z w64 z) ≡ z
-cast z h = to_z-of_z w64 z (signed-keeps w64 z (size z h))
+limited_fits : (z : ℤ) → IsLimited z → SFits w64 z
+limited_fits z h = signed-keeps w64 z (size z h)
   where
     size : (z : ℤ) → IsLimited z → nat_abs z ≤ 9223372036854775807
     size z h = omega (arith, ints, h.least, h.most)
+
+pub cast : (z : ℤ) → IsLimited z → to_z w64 (of_z w64 z) ≡ z
+cast z h = to_z-of_z w64 z (limited_fits z h)
+
+-- the product of what 64 bits hold
+held_product : (m z : ℤ) → negsuc 999 ≼ m → m ≼ pos 1000 → negsuc 999999 ≼ z → z ≼ pos 1000000 →
+    to_z w64 (of_z w64 m) *ℤ to_z w64 (of_z w64 z) ≡ m *ℤ z
+held_product m z a b c d =
+    λ i. cast m (record { least = omega (arith, sums); most = omega (arith, sums) }) i
+    *ℤ cast z (record { least = omega (arith, sums); most = omega (arith, sums) }) i
+
+-- it fits 64 bits
+pub product_fits : (m z : ℤ) → negsuc 999 ≼ m → m ≼ pos 1000 → negsuc 999999 ≼ z → z ≼ pos 1000000 →
+    SFits w64 (to_z w64 (of_z w64 m) *ℤ to_z w64 (of_z w64 z))
+product_fits m z a b c d =
+    subst (SFits w64) (sym (held_product m z a b c d)) (limited_fits (m *ℤ z) (product_limited m z a b c d))
 
 -- a product of 64 bits is the product
 pub product_cast : (m z : ℤ) → negsuc 999 ≼ m → m ≼ pos 1000 → negsuc 999999 ≼ z → z ≼ pos 1000000 →
     to_z w64 (of_z w64 (to_z w64 (of_z w64 m) *ℤ to_z w64 (of_z w64 z))) ≡ m *ℤ z
 product_cast m z a b c d =
-    (λ i. to_z w64 (of_z w64 (cast m (record { least = omega (arith, sums); most = omega (arith, sums) }) i
-    *ℤ cast z (record { least = omega (arith, sums); most = omega (arith, sums) }) i)))
-    ∙ cast (m *ℤ z) (product_limited m z a b c d)
+    (λ i. to_z w64 (of_z w64 (held_product m z a b c d i))) ∙ cast (m *ℤ z) (product_limited m z a b c d)
 
 times_borne : (bs : List NamedBody) (m : ℤ) (l : Load) → negsuc 999 ≼ m → m ≼ pos 1000 → IsSlightForce l →
     IsBorne bs l → IsBorne bs (times_load m l)

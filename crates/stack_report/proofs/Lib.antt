@@ -2,3 +2,4 @@ pub mod LineByLine
 pub mod ForcesMade
 pub mod Accepted
 pub mod Pieces
+pub mod Texts
