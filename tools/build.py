@@ -1,11 +1,11 @@
 #!/usr/bin/env python3
 """Proves and builds the program and all crates below it, several crates side by side.
 
-`pungiroe` calls it if the program is missing or older than its sources. Each crate is proved by the prover itself, which
-rt calls too, over the libraries of the crates below it. A library holds what other crates can cite of its crate, and
-not its proofs, so that a check above it has less to load. It stands in out/library of its crate, apart from what rt
-makes, with a sum of all that it is made from: while that stays the same, it isn't made again. Where `rt check` has kept
-what it checked of a crate, in out/incremental, that is used and added to; the library then holds its proofs as well.
+`pungiroe` calls it if the program is missing or older than its sources. Each crate is proved by the prover that rt
+calls too, over the libraries of the crates below it. A library holds what other crates can cite of its crate, and not
+its proofs, so that a check above it has less to load. It stands in out/library of its crate, apart from what rt makes,
+with a sum of all that it is made from: as long as that stays the same, it isn't made again. If `rt check` has kept what
+it checked of a crate, in out/incremental, that is used and added to; the library then holds the proofs as well.
 
 A crate begins once all that it stands on is made. The crate with the most work behind it goes first; the less work a
 crate has behind it, the lower its priority. A line for each crate goes to standard error; what the prover says goes to
@@ -83,7 +83,8 @@ def sum_of(name):
 
 def work_of(name):
     """The work on a crate: it goes by the bytes of its functions, and hardly by those of its lemmas."""
-    return LEAST_WORK + sum(os.path.getsize(it) for it in files_of(name) if it.endswith(".rt") and "/src/tests" not in it)
+    functions = (it for it in files_of(name) if it.endswith(".rt") and "/src/tests" not in it)
+    return LEAST_WORK + sum(map(os.path.getsize, functions))
 
 
 def work_behind(crates):
