@@ -85,3 +85,34 @@ returns-in-None-clause-ok g c =
     (c.set_cell-in-None.auto.cells ∙ c.clear_row.auto.cells)
     (λ j. c.set_cell-in-None.ensures.ok j
     ∙ (λ z. cond (eqb j c.args.column) (c.minus_one.ensures.value z) (c.clear_row.ensures.ok j z))))
+
+pub overflow_mul-start : goal.overflow_mul-start
+overflow_mul-start g c = omega (arith, c.requires.whole, suc-mul c.args.rows c.args.width)
+
+pub split_at_mut-above-requires : goal.split_at_mut-above-requires
+split_at_mut-above-requires g c = omega (arith, c.requires.whole, suc-mul c.args.rows c.args.width)
+
+pub split_at_mut-marks_above-requires : goal.split_at_mut-marks_above-requires
+split_at_mut-marks_above-requires g c = omega (arith, c.requires.whole, c.requires.block.same, suc-mul c.args.rows c.args.width)
+
+pub overflow_mul-from : goal.overflow_mul-from
+overflow_mul-from g c = omega (arith, row_in c.in-Some.r c.args.rows c.args.width
+    (length c.split_at_mut-above.result.0.now) (below g c) c.split_at_mut-above.ensures.front_len)
+
+pub overflow_add-from : goal.overflow_add-from
+overflow_add-from g c = omega (arith, row_in c.in-Some.r c.args.rows c.args.width
+    (length c.split_at_mut-above.result.0.now) (below g (goal.at.overflow_add-from g c).In-Some) c.split_at_mut-above.ensures.front_len)
+
+pub overflow_add-from-in-Some : goal.overflow_add-from-in-Some
+overflow_add-from-in-Some g c = omega (arith, row_in c.in-Some.r c.args.rows c.args.width
+    (length c.split_at_mut-above.result.0.now) (below g (goal.at.overflow_add-from-in-Some g c).In-Some) c.split_at_mut-above.ensures.front_len)
+
+pub slice_bounds-copy_from_slice-count : goal.slice_bounds-copy_from_slice-count
+slice_bounds-copy_from_slice-count g c = omega arith
+
+pub slice_bounds-copy_from_slice-count-in-Some : goal.slice_bounds-copy_from_slice-count-in-Some
+slice_bounds-copy_from_slice-count-in-Some g c = omega arith
+
+pub copy_from_slice-requires : goal.copy_from_slice-requires
+copy_from_slice-requires g c = omega (arith, (ends g (goal.at.copy_from_slice-requires g c).After-split_at_mut-above).row_length, row_in c.in-Some.r c.args.rows c.args.width
+    (length c.split_at_mut-above.result.0.now) (below g (goal.at.copy_from_slice-requires g c).In-Some) c.split_at_mut-above.ensures.front_len)
