@@ -1,4 +1,4 @@
-use Rattle.std.proofs.Common.{◌≡◌, ap, subst, ◌∙◌, ℕ, ◌*◌, ◌<◌, length, cond, eqb, arith, IfSome, pos, negsuc}
+use Rattle.std.proofs.Common.{◌≡◌, sym, ap, subst, ◌∙◌, ℕ, ◌*◌, ◌<◌, length, cond, eqb, arith, IfSome, pos, negsuc}
 use Rattle.stack_rational.proofs.Common.{of, fraction_fits}
 use Rattle.std.proofs.Math.Nat.{suc-mul}
 use Rattle.stack_rational.proofs.Fitting.{zero_fits}
@@ -116,3 +116,21 @@ slice_bounds-copy_from_slice-count-in-Some g c = omega arith
 pub copy_from_slice-requires : goal.copy_from_slice-requires
 copy_from_slice-requires g c = omega (arith, (ends g (goal.at.copy_from_slice-requires g c).After-split_at_mut-above).row_length, row_in c.in-Some.r c.args.rows c.args.width
     (length c.split_at_mut-above.result.0.now) (below g (goal.at.copy_from_slice-requires g c).In-Some) c.split_at_mut-above.ensures.front_len)
+
+pub copy_from_slice-requires-in-Some : goal.copy_from_slice-requires-in-Some
+copy_from_slice-requires-in-Some g c = omega (arith, last_length c.args.rows c.args.width (length c.args.marks.now)
+    (length c.split_at_mut-marks_above.result.1.now) (c.requires.block.same ∙ c.requires.whole)
+    c.split_at_mut-marks_above.ensures.back_len, row_in c.in-Some.r c.args.rows c.args.width
+    (length c.split_at_mut-marks_above.result.0.now) (below g (goal.at.copy_from_slice-requires-in-Some g c).In-Some) c.split_at_mut-marks_above.ensures.front_len)
+
+pub set_cell-requires-clause-column_in : goal.set_cell-requires-clause-column_in
+set_cell-requires-clause-column_in g c = subst (λ n. c.args.column < n) (sym (c.copy_from_slice.ensures.len ∙ (ends g (goal.at.set_cell-requires-clause-column_in g c).After-split_at_mut-above).row_length)) c.requires.column_in
+
+pub set_cell-requires-in-None-clause-column_in : goal.set_cell-requires-in-None-clause-column_in
+set_cell-requires-in-None-clause-column_in g c = subst (λ n. c.args.column < n) (sym (c.clear_row.auto.cells ∙ (ends g (goal.at.set_cell-requires-in-None-clause-column_in g c).After-split_at_mut-above).row_length)) c.requires.column_in
+
+pub set_cell-requires-in-None-clause-fits : goal.set_cell-requires-in-None-clause-fits
+set_cell-requires-in-None-clause-fits g c = c.minus_one.ensures.fits
+
+pub set_cell-requires-in-None-clause-block : goal.set_cell-requires-in-None-clause-block
+set_cell-requires-in-None-clause-block g c = c.clear_row.ensures.block
