@@ -1,4 +1,4 @@
-use Rattle.std.proofs.Common.{◌≡◌, sym, ap, ◌∙◌, ℕ, suc, ◌*◌, Bool, List, length, get_or, set, arith}
+use Rattle.std.proofs.Common.{◌≡◌, refl, sym, ap, ◌∙◌, ℕ, suc, ◌*◌, Bool, List, length, get_or, set, arith}
 use Rattle.std.proofs.Common.{subst₂, length-set}
 use Rattle.stack_rational.proofs.Common.{with_items_is, err_from_is_err_and, with_items, changed, next}
 use Rattle.stack_rational.proofs.Common.{ordered_fractions, is_too_wide}
@@ -80,3 +80,71 @@ returns-clause-ok g c =
     = λ i. basic_changed s.basic.items c.args.row c.args.column i
     (omega (arith, s.basics, c.requires.row_in)) in
     λ z. record { cell = λ i j. cells i j z; basic = λ i. basics i z }
+
+pub pivot_block-requires-clause-whole : goal.pivot_block-requires-clause-whole
+pivot_block-requires-clause-whole g c = ap length c.as_mut_slice.ensures.value ∙ c.args.self.now.whole
+    ∙ ap (λ n. suc c.args.self.now.rows * n) (sym (ap length c.as_mut_slice-3.ensures.value))
+
+pub pivot_block-requires-clause-row_in : goal.pivot_block-requires-clause-row_in
+pivot_block-requires-clause-row_in g c = c.requires.row_in
+
+pub pivot_block-requires-clause-column_in : goal.pivot_block-requires-clause-column_in
+pivot_block-requires-clause-column_in g c = omega (arith, ap length c.as_mut_slice-3.ensures.value, c.args.self.now.wide, c.requires.column_in)
+
+pub pivot_block-requires-clause-block : goal.pivot_block-requires-clause-block
+pivot_block-requires-clause-block g c = subst₂ (λ (xs : List g.row.S.Denot) (ms : List Bool). IsBlock g.S.Exact.MAX g.S.Exact.exact xs ms)
+    (sym c.as_mut_slice.ensures.value) (sym c.as_mut_slice-2.ensures.value) c.args.self.now.block
+
+pub pivot_block-requires-clause-cell : goal.pivot_block-requires-clause-cell
+pivot_block-requires-clause-cell g c = 
+    let s = c.args.self.now in
+    let q : length c.as_mut_slice-3.result.now ≡ width (shape_of s.rows s.contacts s.has_factor) =
+    ap length c.as_mut_slice-3.ensures.value ∙ s.wide in
+    λ h. c.requires.cell (sym (λ z. (cell_of g.S.Exact.exact (q z) (c.as_mut_slice.ensures.value z) c.args.row
+    c.args.column).num) ∙ h)
+
+pub invariant_of-self-2-clause-wide : goal.invariant_of-self-2-clause-wide
+invariant_of-self-2-clause-wide g c = 
+    let s = c.args.self.now in
+    let listed = c.pivot_block.auto.columns ∙ ap length c.as_mut_slice-3.ensures.value in
+    ap length (with_items_is s.listed c.pivot_block.new.columns (listed ∙ sym s.listed.ok.0)) ∙ listed ∙ s.wide
+
+pub invariant_of-self-2-clause-flips : goal.invariant_of-self-2-clause-flips
+invariant_of-self-2-clause-flips g c = c.args.self.now.flips
+
+pub invariant_of-self : goal.invariant_of-self
+invariant_of-self g c = 
+    let s = c.args.self.now in
+    let cells = c.pivot_block.auto.cells ∙ ap length c.as_mut_slice.ensures.value in
+    let marks = c.pivot_block.auto.marks ∙ ap length c.as_mut_slice-2.ensures.value in
+    let listed = c.pivot_block.auto.columns ∙ ap length c.as_mut_slice-3.ensures.value in
+    let cells_are = with_items_is s.cells c.pivot_block.new.cells (cells ∙ sym s.cells.ok.0) in
+    let marks_are = with_items_is s.marks c.pivot_block.new.marks (marks ∙ sym s.marks.ok.0) in
+    let listed_are = with_items_is s.listed c.pivot_block.new.columns (listed ∙ sym s.listed.ok.0) in
+    record {
+      wide = ap length listed_are ∙ listed ∙ s.wide;
+      whole = ap length cells_are ∙ cells ∙ s.whole ∙ ap (λ n. suc s.rows * n) (sym (ap length listed_are ∙ listed));
+      block = subst₂ (λ (xs : List g.row.S.Denot) (ms : List Bool). IsBlock g.S.Exact.MAX g.S.Exact.exact xs ms)
+          (sym cells_are) (sym marks_are) c.pivot_block.ensures.block;
+      basics = s.basics;
+      basics_in = s.basics_in;
+      flips = s.flips;
+    }
+
+pub returns-in_err-pivot_block-clause-shape : goal.returns-in_err-pivot_block-clause-shape
+returns-in_err-pivot_block-clause-shape g c = 
+    rw ((err_from_is_err_and c.from_residual.result c.from_residual.ensures.1).1) tt
+
+pub returns-in_err-pivot_block-clause-flips : goal.returns-in_err-pivot_block-clause-flips
+returns-in_err-pivot_block-clause-flips g c = 
+    rw ((err_from_is_err_and c.from_residual.result c.from_residual.ensures.1).1) tt
+
+pub returns-in_err-pivot_block-clause-ok : goal.returns-in_err-pivot_block-clause-ok
+returns-in_err-pivot_block-clause-ok g c = 
+    rw ((err_from_is_err_and c.from_residual.result c.from_residual.ensures.1).1) tt
+
+pub returns-clause-shape : goal.returns-clause-shape
+returns-clause-shape g c = refl
+
+pub returns-clause-flips : goal.returns-clause-flips
+returns-clause-flips g c = refl
