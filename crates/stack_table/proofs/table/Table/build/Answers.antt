@@ -189,3 +189,153 @@ returns-clause-fits g c =
     (λ i j l k. v.cells i j (omega (arith, l, end)) k) m
     (ap (λ n. first n (row_place ordered_fractions (is_too_wide m) (problem_of P))) (sym end) ∙ v.none)
     ∙ c.in_ok-push_objective.ensures.fits
+
+pub returns-in_err-cells-clause-shape : goal.returns-in_err-cells-clause-shape
+returns-in_err-cells-clause-shape g c = rw ((err_from_is_err_and c.from_residual.result c.from_residual.ensures.1).1) tt
+
+pub returns-in_err-cells-clause-ok : goal.returns-in_err-cells-clause-ok
+returns-in_err-cells-clause-ok g c = rw ((err_from_is_err_and c.from_residual.result c.from_residual.ensures.1).1) tt
+
+pub returns-in_err-cells-clause-flips : goal.returns-in_err-cells-clause-flips
+returns-in_err-cells-clause-flips g c = rw ((err_from_is_err_and c.from_residual.result c.from_residual.ensures.1).1) tt
+
+pub returns-in_err-cells-clause-fits : goal.returns-in_err-cells-clause-fits
+returns-in_err-cells-clause-fits g c = rw ((err_from_is_err_and c.from_residual.result c.from_residual.ensures.1).1) tt
+
+pub returns-in_err-marks-clause-shape : goal.returns-in_err-marks-clause-shape
+returns-in_err-marks-clause-shape g c = rw ((err_from_is_err_and c.from_residual-in_err-marks.result c.from_residual-in_err-marks.ensures.1).1) tt
+
+pub returns-in_err-marks-clause-ok : goal.returns-in_err-marks-clause-ok
+returns-in_err-marks-clause-ok g c = rw ((err_from_is_err_and c.from_residual-in_err-marks.result c.from_residual-in_err-marks.ensures.1).1) tt
+
+pub returns-in_err-marks-clause-flips : goal.returns-in_err-marks-clause-flips
+returns-in_err-marks-clause-flips g c = rw ((err_from_is_err_and c.from_residual-in_err-marks.result c.from_residual-in_err-marks.ensures.1).1) tt
+
+pub returns-in_err-marks-clause-fits : goal.returns-in_err-marks-clause-fits
+returns-in_err-marks-clause-fits g c = rw ((err_from_is_err_and c.from_residual-in_err-marks.result c.from_residual-in_err-marks.ensures.1).1) tt
+
+pub returns-in_err-listed-clause-shape : goal.returns-in_err-listed-clause-shape
+returns-in_err-listed-clause-shape g c = rw ((err_from_is_err_and c.from_residual-in_err-listed.result c.from_residual-in_err-listed.ensures.1).1) tt
+
+pub returns-in_err-listed-clause-ok : goal.returns-in_err-listed-clause-ok
+returns-in_err-listed-clause-ok g c = rw ((err_from_is_err_and c.from_residual-in_err-listed.result c.from_residual-in_err-listed.ensures.1).1) tt
+
+pub returns-in_err-listed-clause-flips : goal.returns-in_err-listed-clause-flips
+returns-in_err-listed-clause-flips g c = rw ((err_from_is_err_and c.from_residual-in_err-listed.result c.from_residual-in_err-listed.ensures.1).1) tt
+
+pub returns-in_err-listed-clause-fits : goal.returns-in_err-listed-clause-fits
+returns-in_err-listed-clause-fits g c = rw ((err_from_is_err_and c.from_residual-in_err-listed.result c.from_residual-in_err-listed.ensures.1).1) tt
+
+pub returns-in_err-basic-clause-shape : goal.returns-in_err-basic-clause-shape
+returns-in_err-basic-clause-shape g c = rw ((err_from_is_err_and c.from_residual-in_err-basic.result c.from_residual-in_err-basic.ensures.1).1) tt
+
+pub returns-in_err-basic-clause-ok : goal.returns-in_err-basic-clause-ok
+returns-in_err-basic-clause-ok g c = rw ((err_from_is_err_and c.from_residual-in_err-basic.result c.from_residual-in_err-basic.ensures.1).1) tt
+
+pub returns-in_err-basic-clause-flips : goal.returns-in_err-basic-clause-flips
+returns-in_err-basic-clause-flips g c = rw ((err_from_is_err_and c.from_residual-in_err-basic.result c.from_residual-in_err-basic.ensures.1).1) tt
+
+pub returns-in_err-basic-clause-fits : goal.returns-in_err-basic-clause-fits
+returns-in_err-basic-clause-fits g c = rw ((err_from_is_err_and c.from_residual-in_err-basic.result c.from_residual-in_err-basic.ensures.1).1) tt
+
+pub returns-in_err-flipped-clause-shape : goal.returns-in_err-flipped-clause-shape
+returns-in_err-flipped-clause-shape g c = rw ((err_from_is_err_and c.from_residual-in_err-flipped.result c.from_residual-in_err-flipped.ensures.1).1) tt
+
+pub returns-in_err-flipped-clause-ok : goal.returns-in_err-flipped-clause-ok
+returns-in_err-flipped-clause-ok g c = rw ((err_from_is_err_and c.from_residual-in_err-flipped.result c.from_residual-in_err-flipped.ensures.1).1) tt
+
+pub returns-in_err-flipped-clause-flips : goal.returns-in_err-flipped-clause-flips
+returns-in_err-flipped-clause-flips g c = rw ((err_from_is_err_and c.from_residual-in_err-flipped.result c.from_residual-in_err-flipped.ensures.1).1) tt
+
+pub returns-in_err-flipped-clause-fits : goal.returns-in_err-flipped-clause-fits
+returns-in_err-flipped-clause-fits g c = rw ((err_from_is_err_and c.from_residual-in_err-flipped.result c.from_residual-in_err-flipped.ensures.1).1) tt
+
+pub returns-in_err-push_row-clause-shape : goal.returns-in_err-push_row-clause-shape
+returns-in_err-push_row-clause-shape g c = rw ((err_from_is_err_and c.from_residual-in_err-push_row.result c.from_residual-in_err-push_row.ensures.1).1) tt
+
+pub returns-in_err-push_row-clause-ok : goal.returns-in_err-push_row-clause-ok
+returns-in_err-push_row-clause-ok g c = rw ((err_from_is_err_and c.from_residual-in_err-push_row.result c.from_residual-in_err-push_row.ensures.1).1) tt
+
+pub returns-in_err-push_row-clause-flips : goal.returns-in_err-push_row-clause-flips
+returns-in_err-push_row-clause-flips g c = rw ((err_from_is_err_and c.from_residual-in_err-push_row.result c.from_residual-in_err-push_row.ensures.1).1) tt
+
+pub returns-in_err-push_row-clause-fits : goal.returns-in_err-push_row-clause-fits
+returns-in_err-push_row-clause-fits g c = rw ((err_from_is_err_and c.from_residual-in_err-push_row.result c.from_residual-in_err-push_row.ensures.1).1) tt
+
+pub returns-in_err-push-clause-shape : goal.returns-in_err-push-clause-shape
+returns-in_err-push-clause-shape g c = rw ((err_from_is_err_and c.from_residual-in_err-push.result c.from_residual-in_err-push.ensures.1).1) tt
+
+pub returns-in_err-push-clause-ok : goal.returns-in_err-push-clause-ok
+returns-in_err-push-clause-ok g c = rw ((err_from_is_err_and c.from_residual-in_err-push.result c.from_residual-in_err-push.ensures.1).1) tt
+
+pub returns-in_err-push-clause-flips : goal.returns-in_err-push-clause-flips
+returns-in_err-push-clause-flips g c = rw ((err_from_is_err_and c.from_residual-in_err-push.result c.from_residual-in_err-push.ensures.1).1) tt
+
+pub returns-in_err-push-clause-fits : goal.returns-in_err-push-clause-fits
+returns-in_err-push-clause-fits g c = rw ((err_from_is_err_and c.from_residual-in_err-push.result c.from_residual-in_err-push.ensures.1).1) tt
+
+pub returns-in_err-push-2-clause-shape : goal.returns-in_err-push-2-clause-shape
+returns-in_err-push-2-clause-shape g c = rw ((err_from_is_err_and c.from_residual-in_err-push-2.result c.from_residual-in_err-push-2.ensures.1).1) tt
+
+pub returns-in_err-push-2-clause-ok : goal.returns-in_err-push-2-clause-ok
+returns-in_err-push-2-clause-ok g c = rw ((err_from_is_err_and c.from_residual-in_err-push-2.result c.from_residual-in_err-push-2.ensures.1).1) tt
+
+pub returns-in_err-push-2-clause-flips : goal.returns-in_err-push-2-clause-flips
+returns-in_err-push-2-clause-flips g c = rw ((err_from_is_err_and c.from_residual-in_err-push-2.result c.from_residual-in_err-push-2.ensures.1).1) tt
+
+pub returns-in_err-push-2-clause-fits : goal.returns-in_err-push-2-clause-fits
+returns-in_err-push-2-clause-fits g c = rw ((err_from_is_err_and c.from_residual-in_err-push-2.result c.from_residual-in_err-push-2.ensures.1).1) tt
+
+pub returns-in_err-push_objective-clause-shape : goal.returns-in_err-push_objective-clause-shape
+returns-in_err-push_objective-clause-shape g c = rw ((err_from_is_err_and c.from_residual-in_err-push_objective.result c.from_residual-in_err-push_objective.ensures.1).1) tt
+
+pub returns-in_err-push_objective-clause-ok : goal.returns-in_err-push_objective-clause-ok
+returns-in_err-push_objective-clause-ok g c = rw ((err_from_is_err_and c.from_residual-in_err-push_objective.result c.from_residual-in_err-push_objective.ensures.1).1) tt
+
+pub returns-in_err-push_objective-clause-flips : goal.returns-in_err-push_objective-clause-flips
+returns-in_err-push_objective-clause-flips g c = rw ((err_from_is_err_and c.from_residual-in_err-push_objective.result c.from_residual-in_err-push_objective.ensures.1).1) tt
+
+pub returns-in_err-push_objective-clause-fits : goal.returns-in_err-push_objective-clause-fits
+returns-in_err-push_objective-clause-fits g c = rw ((err_from_is_err_and c.from_residual-in_err-push_objective.result c.from_residual-in_err-push_objective.ensures.1).1) tt
+
+pub push_row-requires-clause-problem : goal.push_row-requires-clause-problem
+push_row-requires-clause-problem g c = c.requires
+
+pub push_row-requires-clause-artificial : goal.push_row-requires-clause-artificial
+push_row-requires-clause-artificial g c = c.artificial-artificial.ensures
+
+pub push_row-requires-clause-i_in : goal.push_row-requires-clause-i_in
+push_row-requires-clause-i_in g c = c.loop-i-test.true
+
+pub push_row-requires-clause-block : goal.push_row-requires-clause-block
+push_row-requires-clause-block g c = c.loop-i.invariant.block
+
+pub push_row-requires-clause-long : goal.push_row-requires-clause-long
+push_row-requires-clause-long g c = ap length c.as_mut_slice.ensures.value ∙ c.loop-i.invariant.listed_long
+
+pub push_objective-requires-clause-problem : goal.push_objective-requires-clause-problem
+push_objective-requires-clause-problem g c = c.requires
+
+pub push_objective-requires-clause-artificial : goal.push_objective-requires-clause-artificial
+push_objective-requires-clause-artificial g c = c.artificial-artificial.ensures
+
+pub push_objective-requires-clause-block : goal.push_objective-requires-clause-block
+push_objective-requires-clause-block g c = c.loop-i.invariant.block
+
+pub push_objective-requires-clause-long : goal.push_objective-requires-clause-long
+push_objective-requires-clause-long g c = 
+    let end : c.loop-i.i ≡ c.args.p.now.rows = omega (arith, c.loop-i-test.false, c.loop-i.auto.i-end) in
+    c.loop-i.invariant.long ∙ ap (λ n. n * width (shape_of_problem c.args.p.now)) end
+
+pub invariant_of-result-clause-block : goal.invariant_of-result-clause-block
+invariant_of-result-clause-block g c = c.in_ok-push_objective.ensures.block
+
+pub invariant_of-result-clause-basics : goal.invariant_of-result-clause-basics
+invariant_of-result-clause-basics g c = 
+    let end : c.loop-i.i ≡ c.args.p.now.rows = omega (arith, c.loop-i-test.false, c.loop-i.auto.i-end) in
+    c.loop-i.invariant.basic_long ∙ end
+
+pub invariant_of-result-clause-flips : goal.invariant_of-result-clause-flips
+invariant_of-result-clause-flips g c = 
+    let end : c.loop-i.i ≡ c.args.p.now.rows = omega (arith, c.loop-i-test.false, c.loop-i.auto.i-end) in
+    c.loop-i.invariant.flipped_long ∙ end
