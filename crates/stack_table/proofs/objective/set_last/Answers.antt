@@ -134,3 +134,13 @@ set_cell-requires-in-None-clause-fits g c = c.minus_one.ensures.fits
 
 pub set_cell-requires-in-None-clause-block : goal.set_cell-requires-in-None-clause-block
 set_cell-requires-in-None-clause-block g c = c.clear_row.ensures.block
+
+pub slice_bounds-copy_from_slice-end : goal.slice_bounds-copy_from_slice-end
+slice_bounds-copy_from_slice-end g c = omega (arith, row_in c.in-Some.r c.args.rows c.args.width
+    (length c.split_at_mut-above.result.0.now) (below g (goal.at.slice_bounds-copy_from_slice-end g c).In-Some)
+    c.split_at_mut-above.ensures.front_len)
+
+pub slice_bounds-copy_from_slice-end-in-Some : goal.slice_bounds-copy_from_slice-end-in-Some
+slice_bounds-copy_from_slice-end-in-Some g c = omega (arith, row_in c.in-Some.r c.args.rows c.args.width
+    (length c.split_at_mut-marks_above.result.0.now) (below g (goal.at.slice_bounds-copy_from_slice-end-in-Some g c).In-Some)
+    c.split_at_mut-marks_above.ensures.front_len)

@@ -184,3 +184,11 @@ returns-in_err-reduce_row-clause-ok g c = rw ((err_from_is_err_and c.from_residu
 
 pub returns-clause-block : goal.returns-clause-block
 returns-clause-block g c = c.loop-i.invariant.block
+
+pub slice_bounds-reduce_row-end : goal.slice_bounds-reduce_row-end
+slice_bounds-reduce_row-end g c = omega (arith, row_in c.loop-i.i c.args.count (length c.args.pivot.now) (length c.loop-i.cells) c.loop-i-test.true
+    (c.loop-i.auto.cells ∙ c.requires.whole))
+
+pub slice_bounds-reduce_row-end-then-not-marks-start : goal.slice_bounds-reduce_row-end-then-not-marks-start
+slice_bounds-reduce_row-end-then-not-marks-start g c = omega (arith, c.loop-i.invariant.block.same, row_in c.loop-i.i c.args.count (length c.args.pivot.now) (length c.loop-i.cells) c.loop-i-test.true
+    (c.loop-i.auto.cells ∙ c.requires.whole))
