@@ -96,16 +96,25 @@ pub split_at_mut-marks_above-requires : goal.split_at_mut-marks_above-requires
 split_at_mut-marks_above-requires g c = omega (arith, c.requires.whole, c.requires.block.same, suc-mul c.args.rows c.args.width)
 
 pub overflow_mul-from : goal.overflow_mul-from
-overflow_mul-from g c = omega (arith, row_in c.in-Some.r c.args.rows c.args.width
-    (length c.split_at_mut-above.result.0.now) (below g c) c.split_at_mut-above.ensures.front_len)
+overflow_mul-from g c = omega (
+  arith,
+  row_in c.in-Some.r c.args.rows c.args.width
+      (length c.split_at_mut-above.result.0.now) (below g c) c.split_at_mut-above.ensures.front_len,
+)
 
 pub overflow_add-from : goal.overflow_add-from
-overflow_add-from g c = omega (arith, row_in c.in-Some.r c.args.rows c.args.width
-    (length c.split_at_mut-above.result.0.now) (below g (goal.at.overflow_add-from g c).In-Some) c.split_at_mut-above.ensures.front_len)
+overflow_add-from g c = omega (
+  arith,
+  row_in c.in-Some.r c.args.rows c.args.width
+      (length c.split_at_mut-above.result.0.now) (below g (goal.at.overflow_add-from g c).In-Some) c.split_at_mut-above.ensures.front_len,
+)
 
 pub overflow_add-from-in-Some : goal.overflow_add-from-in-Some
-overflow_add-from-in-Some g c = omega (arith, row_in c.in-Some.r c.args.rows c.args.width
-    (length c.split_at_mut-above.result.0.now) (below g (goal.at.overflow_add-from-in-Some g c).In-Some) c.split_at_mut-above.ensures.front_len)
+overflow_add-from-in-Some g c = omega (
+  arith,
+  row_in c.in-Some.r c.args.rows c.args.width
+      (length c.split_at_mut-above.result.0.now) (below g (goal.at.overflow_add-from-in-Some g c).In-Some) c.split_at_mut-above.ensures.front_len,
+)
 
 pub slice_bounds-copy_from_slice-count : goal.slice_bounds-copy_from_slice-count
 slice_bounds-copy_from_slice-count g c = omega arith
@@ -114,14 +123,22 @@ pub slice_bounds-copy_from_slice-count-in-Some : goal.slice_bounds-copy_from_sli
 slice_bounds-copy_from_slice-count-in-Some g c = omega arith
 
 pub copy_from_slice-requires : goal.copy_from_slice-requires
-copy_from_slice-requires g c = omega (arith, (ends g (goal.at.copy_from_slice-requires g c).After-split_at_mut-above).row_length, row_in c.in-Some.r c.args.rows c.args.width
-    (length c.split_at_mut-above.result.0.now) (below g (goal.at.copy_from_slice-requires g c).In-Some) c.split_at_mut-above.ensures.front_len)
+copy_from_slice-requires g c = omega (
+  arith,
+  (ends g (goal.at.copy_from_slice-requires g c).After-split_at_mut-above).row_length,
+  row_in c.in-Some.r c.args.rows c.args.width
+      (length c.split_at_mut-above.result.0.now) (below g (goal.at.copy_from_slice-requires g c).In-Some) c.split_at_mut-above.ensures.front_len,
+)
 
 pub copy_from_slice-requires-in-Some : goal.copy_from_slice-requires-in-Some
-copy_from_slice-requires-in-Some g c = omega (arith, last_length c.args.rows c.args.width (length c.args.marks.now)
-    (length c.split_at_mut-marks_above.result.1.now) (c.requires.block.same ∙ c.requires.whole)
-    c.split_at_mut-marks_above.ensures.back_len, row_in c.in-Some.r c.args.rows c.args.width
-    (length c.split_at_mut-marks_above.result.0.now) (below g (goal.at.copy_from_slice-requires-in-Some g c).In-Some) c.split_at_mut-marks_above.ensures.front_len)
+copy_from_slice-requires-in-Some g c = omega (
+  arith,
+  last_length c.args.rows c.args.width (length c.args.marks.now)
+      (length c.split_at_mut-marks_above.result.1.now) (c.requires.block.same ∙ c.requires.whole)
+      c.split_at_mut-marks_above.ensures.back_len,
+  row_in c.in-Some.r c.args.rows c.args.width
+      (length c.split_at_mut-marks_above.result.0.now) (below g (goal.at.copy_from_slice-requires-in-Some g c).In-Some) c.split_at_mut-marks_above.ensures.front_len,
+)
 
 pub set_cell-requires-clause-column_in : goal.set_cell-requires-clause-column_in
 set_cell-requires-clause-column_in g c = subst (λ n. c.args.column < n) (sym (c.copy_from_slice.ensures.len ∙ (ends g (goal.at.set_cell-requires-clause-column_in g c).After-split_at_mut-above).row_length)) c.requires.column_in
@@ -136,11 +153,17 @@ pub set_cell-requires-in-None-clause-block : goal.set_cell-requires-in-None-clau
 set_cell-requires-in-None-clause-block g c = c.clear_row.ensures.block
 
 pub slice_bounds-copy_from_slice-end : goal.slice_bounds-copy_from_slice-end
-slice_bounds-copy_from_slice-end g c = omega (arith, row_in c.in-Some.r c.args.rows c.args.width
-    (length c.split_at_mut-above.result.0.now) (below g (goal.at.slice_bounds-copy_from_slice-end g c).In-Some)
-    c.split_at_mut-above.ensures.front_len)
+slice_bounds-copy_from_slice-end g c = omega (
+  arith,
+  row_in c.in-Some.r c.args.rows c.args.width
+      (length c.split_at_mut-above.result.0.now) (below g (goal.at.slice_bounds-copy_from_slice-end g c).In-Some)
+      c.split_at_mut-above.ensures.front_len,
+)
 
 pub slice_bounds-copy_from_slice-end-in-Some : goal.slice_bounds-copy_from_slice-end-in-Some
-slice_bounds-copy_from_slice-end-in-Some g c = omega (arith, row_in c.in-Some.r c.args.rows c.args.width
-    (length c.split_at_mut-marks_above.result.0.now) (below g (goal.at.slice_bounds-copy_from_slice-end-in-Some g c).In-Some)
-    c.split_at_mut-marks_above.ensures.front_len)
+slice_bounds-copy_from_slice-end-in-Some g c = omega (
+  arith,
+  row_in c.in-Some.r c.args.rows c.args.width
+      (length c.split_at_mut-marks_above.result.0.now) (below g (goal.at.slice_bounds-copy_from_slice-end-in-Some g c).In-Some)
+      c.split_at_mut-marks_above.ensures.front_len,
+)

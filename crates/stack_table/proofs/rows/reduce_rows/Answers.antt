@@ -145,20 +145,35 @@ returns-clause-ok g c = λ i j. go i j (dec_lt i c.loop-i.i)
         (omega (arith, l, c.loop-i-test.false))) ∙ is_zero-of)).0
 
 pub overflow_mul-start : goal.overflow_mul-start
-overflow_mul-start g c = omega (arith, row_in c.loop-i.i c.args.count (length c.args.pivot.now) (length c.loop-i.cells) c.loop-i-test.true
-    (c.loop-i.auto.cells ∙ c.requires.whole))
+overflow_mul-start g c = omega (
+  arith,
+  row_in c.loop-i.i c.args.count (length c.args.pivot.now) (length c.loop-i.cells) c.loop-i-test.true
+      (c.loop-i.auto.cells ∙ c.requires.whole),
+)
 
 pub overflow_add-start : goal.overflow_add-start
-overflow_add-start g c = omega (arith, c.requires.column_in, row_in c.loop-i.i c.args.count (length c.args.pivot.now) (length c.loop-i.cells) c.loop-i-test.true
-    (c.loop-i.auto.cells ∙ c.requires.whole))
+overflow_add-start g c = omega (
+  arith,
+  c.requires.column_in,
+  row_in c.loop-i.i c.args.count (length c.args.pivot.now) (length c.loop-i.cells) c.loop-i-test.true
+      (c.loop-i.auto.cells ∙ c.requires.whole),
+)
 
 pub bounds-marks-start : goal.bounds-marks-start
-bounds-marks-start g c = omega (arith, c.requires.column_in, c.loop-i.invariant.block.same, row_in c.loop-i.i c.args.count (length c.args.pivot.now) (length c.loop-i.cells) c.loop-i-test.true
-    (c.loop-i.auto.cells ∙ c.requires.whole))
+bounds-marks-start g c = omega (
+  arith,
+  c.requires.column_in,
+  c.loop-i.invariant.block.same,
+  row_in c.loop-i.i c.args.count (length c.args.pivot.now) (length c.loop-i.cells) c.loop-i-test.true
+      (c.loop-i.auto.cells ∙ c.requires.whole),
+)
 
 pub overflow_add-end : goal.overflow_add-end
-overflow_add-end g c = omega (arith, row_in c.loop-i.i c.args.count (length c.args.pivot.now) (length c.loop-i.cells) c.loop-i-test.true
-    (c.loop-i.auto.cells ∙ c.requires.whole))
+overflow_add-end g c = omega (
+  arith,
+  row_in c.loop-i.i c.args.count (length c.args.pivot.now) (length c.loop-i.cells) c.loop-i-test.true
+      (c.loop-i.auto.cells ∙ c.requires.whole),
+)
 
 pub overflow_add-first : goal.overflow_add-first
 overflow_add-first g c = omega (arith, c.requires.numbers, c.loop-i-test.true)
@@ -186,9 +201,16 @@ pub returns-clause-block : goal.returns-clause-block
 returns-clause-block g c = c.loop-i.invariant.block
 
 pub slice_bounds-reduce_row-end : goal.slice_bounds-reduce_row-end
-slice_bounds-reduce_row-end g c = omega (arith, row_in c.loop-i.i c.args.count (length c.args.pivot.now) (length c.loop-i.cells) c.loop-i-test.true
-    (c.loop-i.auto.cells ∙ c.requires.whole))
+slice_bounds-reduce_row-end g c = omega (
+  arith,
+  row_in c.loop-i.i c.args.count (length c.args.pivot.now) (length c.loop-i.cells) c.loop-i-test.true
+      (c.loop-i.auto.cells ∙ c.requires.whole),
+)
 
 pub slice_bounds-reduce_row-end-then-not-marks-start : goal.slice_bounds-reduce_row-end-then-not-marks-start
-slice_bounds-reduce_row-end-then-not-marks-start g c = omega (arith, c.loop-i.invariant.block.same, row_in c.loop-i.i c.args.count (length c.args.pivot.now) (length c.loop-i.cells) c.loop-i-test.true
-    (c.loop-i.auto.cells ∙ c.requires.whole))
+slice_bounds-reduce_row-end-then-not-marks-start g c = omega (
+  arith,
+  c.loop-i.invariant.block.same,
+  row_in c.loop-i.i c.args.count (length c.args.pivot.now) (length c.loop-i.cells) c.loop-i-test.true
+      (c.loop-i.auto.cells ∙ c.requires.whole),
+)

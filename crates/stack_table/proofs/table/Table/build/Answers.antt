@@ -323,7 +323,7 @@ pub push_objective-requires-clause-block : goal.push_objective-requires-clause-b
 push_objective-requires-clause-block g c = c.loop-i.invariant.block
 
 pub push_objective-requires-clause-long : goal.push_objective-requires-clause-long
-push_objective-requires-clause-long g c = 
+push_objective-requires-clause-long g c =
     let end : c.loop-i.i ≡ c.args.p.now.rows = omega (arith, c.loop-i-test.false, c.loop-i.auto.i-end) in
     c.loop-i.invariant.long ∙ ap (λ n. n * width (shape_of_problem c.args.p.now)) end
 
@@ -331,11 +331,11 @@ pub invariant_of-result-clause-block : goal.invariant_of-result-clause-block
 invariant_of-result-clause-block g c = c.in_ok-push_objective.ensures.block
 
 pub invariant_of-result-clause-basics : goal.invariant_of-result-clause-basics
-invariant_of-result-clause-basics g c = 
+invariant_of-result-clause-basics g c =
     let end : c.loop-i.i ≡ c.args.p.now.rows = omega (arith, c.loop-i-test.false, c.loop-i.auto.i-end) in
     c.loop-i.invariant.basic_long ∙ end
 
 pub invariant_of-result-clause-flips : goal.invariant_of-result-clause-flips
-invariant_of-result-clause-flips g c = 
+invariant_of-result-clause-flips g c =
     let end : c.loop-i.i ≡ c.args.p.now.rows = omega (arith, c.loop-i-test.false, c.loop-i.auto.i-end) in
     c.loop-i.invariant.flipped_long ∙ end

@@ -96,7 +96,7 @@ pivot_block-requires-clause-block g c = subst₂ (λ (xs : List g.row.S.Denot) (
     (sym c.as_mut_slice.ensures.value) (sym c.as_mut_slice-2.ensures.value) c.args.self.now.block
 
 pub pivot_block-requires-clause-cell : goal.pivot_block-requires-clause-cell
-pivot_block-requires-clause-cell g c = 
+pivot_block-requires-clause-cell g c =
     let s = c.args.self.now in
     let q : length c.as_mut_slice-3.result.now ≡ width (shape_of s.rows s.contacts s.has_factor) =
     ap length c.as_mut_slice-3.ensures.value ∙ s.wide in
@@ -104,7 +104,7 @@ pivot_block-requires-clause-cell g c =
     c.args.column).num) ∙ h)
 
 pub invariant_of-self-2-clause-wide : goal.invariant_of-self-2-clause-wide
-invariant_of-self-2-clause-wide g c = 
+invariant_of-self-2-clause-wide g c =
     let s = c.args.self.now in
     let listed = c.pivot_block.auto.columns ∙ ap length c.as_mut_slice-3.ensures.value in
     ap length (with_items_is s.listed c.pivot_block.new.columns (listed ∙ sym s.listed.ok.0)) ∙ listed ∙ s.wide
@@ -113,7 +113,7 @@ pub invariant_of-self-2-clause-flips : goal.invariant_of-self-2-clause-flips
 invariant_of-self-2-clause-flips g c = c.args.self.now.flips
 
 pub invariant_of-self : goal.invariant_of-self
-invariant_of-self g c = 
+invariant_of-self g c =
     let s = c.args.self.now in
     let cells = c.pivot_block.auto.cells ∙ ap length c.as_mut_slice.ensures.value in
     let marks = c.pivot_block.auto.marks ∙ ap length c.as_mut_slice-2.ensures.value in
@@ -132,15 +132,15 @@ invariant_of-self g c =
     }
 
 pub returns-in_err-pivot_block-clause-shape : goal.returns-in_err-pivot_block-clause-shape
-returns-in_err-pivot_block-clause-shape g c = 
+returns-in_err-pivot_block-clause-shape g c =
     rw ((err_from_is_err_and c.from_residual.result c.from_residual.ensures.1).1) tt
 
 pub returns-in_err-pivot_block-clause-flips : goal.returns-in_err-pivot_block-clause-flips
-returns-in_err-pivot_block-clause-flips g c = 
+returns-in_err-pivot_block-clause-flips g c =
     rw ((err_from_is_err_and c.from_residual.result c.from_residual.ensures.1).1) tt
 
 pub returns-in_err-pivot_block-clause-ok : goal.returns-in_err-pivot_block-clause-ok
-returns-in_err-pivot_block-clause-ok g c = 
+returns-in_err-pivot_block-clause-ok g c =
     rw ((err_from_is_err_and c.from_residual.result c.from_residual.ensures.1).1) tt
 
 pub returns-clause-shape : goal.returns-clause-shape
