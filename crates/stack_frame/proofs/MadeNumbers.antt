@@ -107,3 +107,47 @@ size-too_wide c a b h w = go w.is_too_wide
     go (inl p) = inl p
     go (inr (inl p)) = inr (more c.q (abs b) h.q_least p)
     go (inr (inr p)) = inr p
+
+-- what is left of the test once p times a is made, and once the size of b is made too
+abbrev sized : Cone → ℤ → Whole → Result Bool Wide
+sized c b most = made (abs b) >>= λ tangential. (made (c.q *ℤ tangential.value) >>= λ least.
+    Ok (int_le least.value most.value))
+
+abbrev compared : Cone → Whole → Whole → Result Bool Wide
+compared c most tangential = made (c.q *ℤ tangential.value) >>= λ least. Ok (int_le least.value most.value)
+
+-- the errors are one
+the_wide : (r : Result Bool Wide) (e : Wide) → IsErr r → r ≡ Err e
+the_wide (Ok x) e h = absurd cc
+the_wide (Err w) e h = refl
+
+-- a run of the test, up to the number that is too wide or to the end
+module _ (c : Cone) (a b : ℤ) (r : Result Bool Wide) where
+  pub first_wide : (e : Wide) → made (c.p *ℤ a) ≡ Err e → IsErr r → r ≡ written_test c a b
+  unfolding written_test
+  first_wide e h is = the_wide r e is ∙ sym (ap (λ m. m >>= sized c b) h)
+
+  pub second_wide : (most : Whole) (e : Wide) → made (c.p *ℤ a) ≡ Ok most → made (abs b) ≡ Err e → IsErr r →
+      r ≡ written_test c a b
+  unfolding written_test
+  second_wide most e h g is =
+      the_wide r e is ∙ sym (ap (λ m. m >>= sized c b) h ∙ ap (λ m. m >>= compared c most) g)
+
+  pub third_runs : (most tangential : Whole) → made (c.p *ℤ a) ≡ Ok most → made (abs b) ≡ Ok tangential →
+      r ≡ compared c most tangential → r ≡ written_test c a b
+  unfolding written_test
+  third_runs most tangential h g k =
+      k ∙ sym (ap (λ m. m >>= sized c b) h ∙ ap (λ m. m >>= compared c most) g)
+
+  pub third_wide : (most tangential : Whole) (e : Wide) → made (c.p *ℤ a) ≡ Ok most → made (abs b) ≡ Ok tangential →
+      made (c.q *ℤ tangential.value) ≡ Err e → IsErr r → r ≡ written_test c a b
+  third_wide most tangential e h g f is = third_runs most tangential h g
+      (the_wide r e is ∙ sym (ap (λ m. m >>= λ least. Ok (int_le least.value most.value)) f))
+
+-- a test of made numbers, which are read as m and l
+pub went_through : (c : Cone) (a b : ℤ) (most tangential least : Whole) (m l : ℤ) → m ≡ most.value → l ≡ least.value →
+    made (c.p *ℤ a) ≡ Ok most → made (abs b) ≡ Ok tangential → made (c.q *ℤ tangential.value) ≡ Ok least →
+    Ok (int_le l m) ≡ written_test c a b
+went_through c a b most tangential least m l em el h g f = third_runs c a b (Ok (int_le l m)) most tangential h g
+    ((λ i. Ok (int_le (el i) (em i)))
+    ∙ sym (ap (λ m. m >>= λ least. Ok (int_le least.value most.value)) f))
