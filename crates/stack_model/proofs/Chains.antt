@@ -1,10 +1,14 @@
 -- A chain of steps went well: what each of its steps gave. And one goes well where each of its steps does.
-use Rattle.std.proofs.Common.{◌≡◌, ℕ, Bool, true, false, Option, Some, None, Result, Ok, Err, refl, ap, ◌∙◌}
+use Rattle.std.proofs.Common.{◌≡◌, ℕ, Bool, true, false, Option, Some, None, Result, Ok, Err, refl, sym, ap, ◌∙◌}
+use Rattle.std.proofs.Common.{subst}
 use Rattle.std.specs.Bool.{⊤}
+use Rattle.std.specs.Result.{IsErrAnd}
 use Rattle.stack_algebra.specs.Steps.{◌>>=◌}
 use Rattle.stack_model.specs.declared.places.Spot.{Spot}
 use Rattle.stack_model.specs.declared.places.Key.{Key}
 use Rattle.stack_model.specs.declared.errors.ModelError.{ModelError}
+use Rattle.stack_model.specs.declared.errors.ModelError.TheVariants.{Memory}
+use Rattle.stack_model.specs.Gives.{Fails, Gives}
 use Rattle.stack_model.specs.Content.{unless, ranged, found}
 
 -- a test that held
@@ -54,3 +58,24 @@ ranged_runs s j k h g = ap (λ o. ranged s j o >>= k) h ∙ g
 pub found_runs : {B : Type 0} {o : Option ℕ} {n : ℕ} {y : B} (e : ModelError) (k : ℕ → Result B ModelError)
     → o ≡ Some n → k n ≡ Ok y → (found o e >>= k) ≡ Ok y
 found_runs e k h g = ap (λ o. found o e >>= k) h ∙ g
+
+-- a chain that is refused at its first step, or later
+pub any_fails : {A B : Type 0} (e : ModelError) (r : Result A ModelError) (k : A → Result B ModelError) → Fails e r
+    → Fails e (r >>= k)
+any_fails Memory r k h = tt
+any_fails e r k h = ap (λ r. r >>= k) h
+
+pub later_fails : {A B : Type 0} (e : ModelError) {r : Result A ModelError} {x : A} (k : A → Result B ModelError)
+    → r ≡ Ok x → Fails e (k x) → Fails e (r >>= k)
+later_fails e k h f = subst (Fails e) (sym (ap (λ r. r >>= k) h)) f
+
+-- a refusal that is handed on
+pub refused : {X Y : Type 0} (view : X → Y) (e : ModelError) (r : Result X ModelError) (read : Result Y ModelError)
+    → IsErrAnd r (λ f. f ≡ e) → Fails e read → Gives view r read
+refused view e (Ok x) read is h = absurd is
+refused view e (Err f) read is h = subst (λ f. Fails f read) (sym is) h
+
+-- an answer that is what is left of a chain gives
+pub later_gives : {X A B : Type 0} (view : X → B) (r : Result X ModelError) {read : Result A ModelError} {x : A}
+    (k : A → Result B ModelError) → read ≡ Ok x → Gives view r (k x) → Gives view r (read >>= k)
+later_gives view r k h g = subst (Gives view r) (sym (ap (λ r. r >>= k) h)) g
