@@ -1,7 +1,6 @@
 use Rattle.std.proofs.Common.{◌≡◌, ℕ, List, [], map, length, sym, subst, refl, ap, ◌∙◌}
 use Rattle.std.proofs.lemmas.List.{length-map}
 use Rattle.stack_algebra.specs.Steps.{steps}
-use Rattle.stack_model.specs.declared.errors.ModelError.{ModelError}
 use Rattle.stack_model.specs.declared.places.What.TheVariants as whats
 use Rattle.stack_model.specs.Gives.{Fails}
 use Rattle.stack_model.specs.Raw.{raw_material, raw_joint}

@@ -1,4 +1,4 @@
-use Rattle.std.proofs.Common.{◌≡◌, ◌+◌, drop, map, ap, sym, ◌∙◌, Some, None}
+use Rattle.std.proofs.Common.{◌+◌, drop, map, ap, sym, ◌∙◌}
 use Rattle.std.proofs.Math.ListN.{drop_of_length-le}
 use Rattle.stack_model.specs.Raw.{numbers_view}
 use Rattle.stack_model.specs.Limits.{point_of, points_of, with_first}

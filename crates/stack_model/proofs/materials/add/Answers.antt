@@ -1,4 +1,4 @@
-use Rattle.std.proofs.Common.{◌≡◌, rules, SFits, w64, to_z-of_z, pos, sym, subst, ap, ◌∙◌}
+use Rattle.std.proofs.Common.{rules, SFits, w64, to_z-of_z, pos, sym, subst, ap, ◌∙◌}
 use Rattle.stack_model.specs.declared.places.Spot.TheVariants as spots
 use Rattle.stack_model.specs.declared.places.Key.TheVariants as keys
 use Rattle.stack_model.specs.declared.errors.ModelError.TheVariants.{Range}
