@@ -1,42 +1,19 @@
 -- What a loop has collected, followed by what the items that are left give.
-use Rattle.std.proofs.Common.{◌≡◌, ℕ, ◌+◌, ◌<◌, ◌≤◌, List, [], ◌∷◌, ◌++◌, length, get_or, drop, Option, Some, None}
-use Rattle.std.proofs.Common.{Result, Ok, Err, map, option_map, refl, sym, ap, ◌∙◌, append_assoc, add-one, drop-cons}
+use Rattle.std.proofs.Common.{◌≡◌, ℕ, ◌+◌, ◌<◌, ◌≤◌, List, [], ◌∷◌, ◌++◌, length, get_or, drop}
+use Rattle.std.proofs.Common.{Result, Ok, Err, map, refl, sym, ap, ◌∙◌, append_assoc, add-one, drop-cons}
 use Rattle.std.proofs.lemmas.List.{append-nil, map_push}
 use Rattle.std.proofs.Math.ListN.{drop_of_length-le}
 use Rattle.toml.specs.declared.value.Value.{Value}
 use Rattle.toml.specs.Data.{Data, item}
 use Rattle.toml.specs.View.{view, items_view}
 use Rattle.stack_algebra.specs.Steps.{◌>>=◌}
-use Rattle.stack_model.specs.Limits.{with_first}
 use Rattle.stack_reader.specs.declared.errors.ReadError.{ReadError}
 use Rattle.stack_reader.specs.declared.errors.ReadError.TheVariants.{Model, Memory}
 use Rattle.stack_reader.specs.Gives.{FailsRead}
 use Rattle.stack_reader.specs.Shape.{each_of}
 
-abbrev pub after : {A : Type 0} → List A → Option (List A) → Option (List A)
-after front rest = option_map (λ xs. front ++ xs) rest
-
 abbrev pub before : {A : Type 0} → List A → Result (List A) ReadError → Result (List A) ReadError
 before front rest = rest >>= λ xs. Ok (front ++ xs)
-
--- one more is there, and what is left gives the rest
-pub collects : {A : Type 0} (front next : List A) (x : A) (rest read total : Option (List A)) → next ≡ front ++ x ∷ []
-    → read ≡ with_first (Some x) rest → after front read ≡ total → after next rest ≡ total
-collects front next x None read total more is so_far = sym (ap (after front) is) ∙ so_far
-collects {A} front next x (Some ys) read total more is so_far =
-    (λ i. Some (more i ++ ys)) ∙ ap (λ (xs : List A). Some xs) (append_assoc front (x ∷ []) ys)
-    ∙ sym (ap (after front) is) ∙ so_far
-
--- one is missing
-pub stops : {A : Type 0} (front : List A) (read total : Option (List A)) → read ≡ None → after front read ≡ total
-    → None ≡ total
-stops front read total is so_far = sym (ap (after front) is) ∙ so_far
-
--- none is left
-pub collected : {A : Type 0} (front : List A) (read total : Option (List A)) → read ≡ Some [] → after front read ≡ total
-    → Some front ≡ total
-collected {A} front read total is so_far =
-    ap (λ (xs : List A). Some xs) (sym (append-nil front)) ∙ sym (ap (after front) is) ∙ so_far
 
 -- the items from one on
 pub items_from : (vs : List Value) (i : ℕ) (v : Value) → i < length vs → v ≡ get_or vs i v

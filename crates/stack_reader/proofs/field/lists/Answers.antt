@@ -5,7 +5,8 @@ use Rattle.toml.specs.View.{items_view}
 use Rattle.stack_model.specs.Limits.{with_first}
 use Rattle.stack_model.specs.Raw.{lists_view, numbers_view}
 use Rattle.stack_reader.specs.Forms.{lists_of_items}
-use Rattle.stack_reader.proofs.Collected.{items_from, collects, stops, collected}
+use Rattle.stack_model.proofs.Collected.{collects, stops, collected}
+use Rattle.stack_reader.proofs.Collected.{items_from}
 use Rattle.stack_reader.proofs.field.lists.Goals as goal
 
 pub loop-item-preserved : goal.loop-item-preserved

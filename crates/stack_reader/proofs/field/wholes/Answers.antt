@@ -5,7 +5,8 @@ use Rattle.toml.specs.Data.{Data, string, integer, float, boolean, datetime, arr
 use Rattle.toml.specs.View.{view, items_view}
 use Rattle.stack_model.specs.Limits.{with_first}
 use Rattle.stack_reader.specs.Forms.{wholes_of_items}
-use Rattle.stack_reader.proofs.Collected.{items_from, collects, stops, collected}
+use Rattle.stack_model.proofs.Collected.{collects, stops, collected}
+use Rattle.stack_reader.proofs.Collected.{items_from}
 use Rattle.stack_reader.proofs.field.wholes.Goals as goal
 
 -- the numbers of items, by the first of them

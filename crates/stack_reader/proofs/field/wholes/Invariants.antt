@@ -1,7 +1,7 @@
 use Rattle.std.proofs.Common.{◌≡◌, drop}
 use Rattle.toml.specs.View.{items_view}
 use Rattle.stack_reader.specs.Forms.{wholes_of_items}
-use Rattle.stack_reader.proofs.Collected.{after}
+use Rattle.stack_model.proofs.Collected.{after}
 use Rattle.stack_reader.proofs.field.wholes.Given as goal
 
 abbrev pub invariant-loop-item : goal.invariant-loop-item
