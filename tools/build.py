@@ -7,9 +7,10 @@ its proofs, so that a check above it has less to load. It stands in out/library 
 with a sum of all that it is made from: as long as that stays the same, it isn't made again. If `rt check` has kept what
 it checked of a crate, in out/incremental, that is used and added to; the library then holds the proofs as well.
 
-A crate begins once all that it stands on is made. The crate with the most work behind it goes first; the less work a
-crate has behind it, the lower its priority. A line for each crate goes to standard error; what the prover says goes to
-crates/stack_cli/out/build.log. The exit status is 0 if the program is built.
+A crate begins once all that it stands on is made, and as many provers run at once as there are processors, since more
+of them take more processor time for the same work. Crates with the most work behind them go first, with two provers
+each; the less work a crate has behind it, the lower its priority. A line for each crate goes to standard error; what
+the prover says goes to crates/stack_cli/out/build.log. The exit status is 0 if the program is built.
 """
 import fcntl
 import functools
@@ -29,8 +30,10 @@ LOG = f"{TOP}/crates/{PROGRAM}/out/build.log"
 STARTED = time.monotonic()
 # What the proof of a crate takes at most, in bytes of memory.
 MEMORY = 3_500_000_000
-# How many crates more than processors are under way, so that an urgent one need not wait for a place.
-MORE = 2
+# The most provers on one crate, and the least on an urgent one: several on one crate take more processor time than one.
+MOST_PROVERS, URGENT_PROVERS = 4, 2
+# A crate is urgent if it has at least this share of the most work that any crate has behind it that isn't made yet.
+URGENT = 0.9
 # What any crate takes beside its functions, as bytes of sources.
 LEAST_WORK = 4_000
 
@@ -100,10 +103,10 @@ def processors():
 
 
 def places():
-    """How many crates are proved side by side, as far as there is memory."""
+    """How many provers run at once: one a processor, as far as there is memory for as many crates."""
     with open("/proc/meminfo") as file:
         free = next(1024 * int(line.split()[1]) for line in file if line.startswith("MemAvailable:"))
-    return max(1, min(processors() + MORE, free // MEMORY))
+    return max(1, min(processors(), free // MEMORY))
 
 
 @functools.cache
@@ -170,10 +173,16 @@ def tell(crates, number, name):
     print(f"{minutes:5.1f} min, proving {number} of {len(crates)}: {name}", file=sys.stderr, flush=True)
 
 
-def provers(urgency):
-    """How many provers work on a crate, by the work behind it against the most of any crate that isn't made yet.
-    Several provers on one crate take more processor time than one."""
-    return 4 if urgency >= 0.9 else 2 if urgency >= 0.75 else 1
+def shared_out(ready, free, behind, most_behind):
+    """Which of the crates that are ready begin now, the urgent ones first, and with how many provers each."""
+    for number, name in enumerate(ready):
+        is_urgent = behind[name] >= URGENT * most_behind
+        if free <= 0 and not is_urgent:
+            return
+        share = free // (len(ready) - number)
+        jobs = min(MOST_PROVERS, max(URGENT_PROVERS if is_urgent else 1, share))
+        free -= jobs
+        yield name, jobs
 
 
 def prove_all(crates, log):
@@ -182,17 +191,18 @@ def prove_all(crates, log):
     done = {it for it in crates if it != PROGRAM and is_made(it)}
     left = sorted(set(crates) - done - {PROGRAM}, key=lambda it: -behind[it])
     running = {}
-    with ThreadPoolExecutor(most) as pool:
+    with ThreadPoolExecutor(len(crates)) as pool:
         while left or running:
-            ready = [it for it in left if done.issuperset(named_by(it))][: most - len(running)]
-            for name in ready:
-                most_behind = max(behind[it] for it in (*running.values(), *left))
+            ready = [it for it in left if done.issuperset(named_by(it))]
+            free = most - sum(jobs for _, jobs in running.values())
+            most_behind = max(behind[it] for it in (*left, *(name for name, _ in running.values())))
+            for name, jobs in shared_out(ready, free, behind, most_behind):
                 left.remove(name)
                 tell(crates, len(crates) - len(left) - 1, name)
                 back = min(19, round(20 * (1 - behind[name] / max(behind.values()))))
-                running[pool.submit(prove, name, provers(behind[name] / most_behind), back, log)] = name
+                running[pool.submit(prove, name, jobs, back, log)] = name, jobs
             for ended in wait(running, return_when=FIRST_COMPLETED).done:
-                done.add(running.pop(ended))
+                done.add(running.pop(ended)[0])
                 if not ended.result():
                     return False
     return True
@@ -204,7 +214,7 @@ def make_program(crates, log):
     made, toolchain = f"out/{PROGRAM}.o", ["--toolchain", f"{KIT}/toolchain"]
     backend = ["--backend", "llvm"] if knows("--backend") else []
     kept = ["--incremental", "out/incremental"] if os.path.isdir(f"{folder(PROGRAM)}/out/incremental") else []
-    build = [f"{KIT}/bin/rattle", "build", *words(PROGRAM, 4), *toolchain, *backend, *kept, "-o", made]
+    build = [f"{KIT}/bin/rattle", "build", *words(PROGRAM, MOST_PROVERS), *toolchain, *backend, *kept, "-o", made]
     link = [f"{KIT}/bin/rattle-link", "--target", "x86_64-unknown-linux-gnu", *toolchain, "-o", f"out/{PROGRAM}", made]
     c_code = (f"{KIT}/c/libos_c.a", f"{KIT}/c/liblibc_c.a")
     return run(PROGRAM, log, *build) and run(PROGRAM, log, *link, *c_code)
@@ -217,7 +227,7 @@ def main():
         # A second build in this clone waits for the first.
         fcntl.flock(log, fcntl.LOCK_EX)
         log.truncate(0)
-        print(f"the program is proved and built first: {len(crates)} crates, {places()} at a time", file=sys.stderr)
+        print(f"the program is proved and built first: {len(crates)} crates, {places()} provers", file=sys.stderr)
         print("on four idle processors that takes some 12 minutes", file=sys.stderr)
         return 0 if prove_all(crates, log) and make_program(crates, log) else 1
 
