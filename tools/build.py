@@ -228,7 +228,7 @@ def main():
         fcntl.flock(log, fcntl.LOCK_EX)
         log.truncate(0)
         print(f"the program is proved and built first: {len(crates)} crates, {places()} provers", file=sys.stderr)
-        print("on four idle processors that takes some 12 minutes", file=sys.stderr)
+        print("on four idle processors that takes some 11 minutes", file=sys.stderr)
         return 0 if prove_all(crates, log) and make_program(crates, log) else 1
 
 
