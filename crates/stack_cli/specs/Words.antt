@@ -1,10 +1,15 @@
 -- What form each words have. A further form of words is a further case.
 use Rattle.std.specs.Prelude.{ℕ, ◌^◌, List, [], ◌∷◌, map, codes, decimal, ◌&&◌, nat_lt, Option, Some, None}
-use Rattle.std.specs.Prelude.{String, string_bytes, if◌then◌else◌}
+use Rattle.std.specs.Prelude.{◌≡◌, ◌≢◌, ⊤, drop, Result, Ok, Err, String, string_bytes, if◌then◌else◌}
 use Rattle.std.specs.Option.{option_map}
 use Rattle.std.specs.Str.Parse.{digits_value}
 use Rattle.std.specs.Str.{bytes_eq}
+use Rattle.std.specs.Vec.Iter.{into_iter_items}
+use Rattle.std.specs.IoError.{error_kind}
 use Rattle.std.specs.declared.alloc.Global.{Global}
+use Rattle.std.specs.declared.io.Error.{Error}
+use Rattle.std.specs.declared.io.ErrorKind.TheVariants.{OutOfMemory}
+use Rattle.std.specs.declared.vec.IntoIter.{IntoIter}
 use Rattle.stack_equilibrium.specs.declared.types.Question.{Question}
 use Rattle.stack_equilibrium.specs.declared.types.Question.TheVariants.{Dead, Live}
 use Rattle.stack_work.specs.Forms.{Form, check, contacts, judges, tables, stack, sample, ranges, builds, yields}
@@ -107,6 +112,17 @@ form_of (word ∷ next ∷ third ∷ last ∷ []) = form_of_four word next third
 form_of (word ∷ next ∷ third ∷ fourth ∷ last ∷ []) = form_of_five word next third fourth last
 form_of (word ∷ next ∷ third ∷ fourth ∷ fifth ∷ last ∷ []) = form_of_six word next third fourth fifth last
 form_of _ = None
+
+-- What is made of all words that the runtime has: those after the first, which is the program's own name, in their
+-- order, unless memory for them is wanting. Where the runtime has an error in their place, memory was wanting or a word
+-- can't be read.
+abbrev pub AreWordsAfterName : Result (IntoIter (String Global) Global) Error → CodeGiven → Type 0
+AreWordsAfterName (Ok all) (given.Words words) = words.items ≡ drop 1 (into_iter_items all)
+AreWordsAfterName (Ok all) given.Unreadable = ⊥
+AreWordsAfterName (Ok all) given.Memory = ⊤
+AreWordsAfterName (Err e) (given.Words words) = ⊥
+AreWordsAfterName (Err e) given.Unreadable = error_kind e ≢ OutOfMemory
+AreWordsAfterName (Err e) given.Memory = error_kind e ≡ OutOfMemory
 
 -- The words that the runtime gave: where one of them can't be read, or there is no memory for them, they are no form.
 abbrev pub form_of_given : CodeGiven → Option Form

@@ -34,7 +34,7 @@ fn constant_line(refusal: &Refusal) -> Option<&'static str>
 
 /// Puts the refusal's line on `err`, in one put, and gives the refusal: where memory for the line is wanting, that
 /// refusal.
-#[tactic(auto, using(stack_said::proofs::Outcomes::line_put))]
+#[tactic(auto, using(stack_said::proofs::Returned::line_put))]
 fn say<E: Sink>(alloc: Global, refusal: Refusal, err: &mut E) -> Refusal
     ensures which { (result ≡ refusal) ⊎ (TakesMemory (refusal_view refusal) × (result ≡ Refusal.Memory)) }
     ensures line { SaysLine (refusal_view result) (seen_stream E.Sink err.old err.new) }
@@ -55,7 +55,7 @@ fn say<E: Sink>(alloc: Global, refusal: Refusal, err: &mut E) -> Refusal
 
 /// Writes the answer in one put on `out`, or the line of the refusal on `err`, and gives the status. That the output
 /// failed is no refusal of work.
-#[tactic(auto, using(stack_said::proofs::Outcomes::line_put))]
+#[tactic(auto, using(stack_said::proofs::Returned::line_put))]
 pub fn deliver<O: Sink, E: Sink>(
     alloc: Global,
     worked: Result<Answer, Refusal>,

@@ -2,7 +2,7 @@
 
 ghost use Rattle.std.specs.Prelude.{◌≡◌};
 ghost use Rattle.stack_outside.specs.Seen.{seen_shelf, seen_untold};
-ghost use Rattle.stack_cli.specs.Words.{form_of_given};
+ghost use Rattle.stack_cli.specs.Words.{form_of_given, AreWordsAfterName};
 ghost use Rattle.stack_said.specs.Runs.{Runs};
 
 use crate::given::{Given, run_given};
@@ -12,7 +12,9 @@ use std::env::Args;
 use std::io::{self, ErrorKind};
 
 /// The words after the program's own name, of all that the runtime gives.
-pub fn words_given(alloc: Global, args: io::Result<Args>) -> Given {
+pub fn words_given(alloc: Global, args: io::Result<Args>) -> Given
+    ensures { AreWordsAfterName args result }
+{
     match args {
         Ok(args) => match args.skip(1).collect::<Vec<String>>(alloc) {
             Ok(words) => Given::Words(words),

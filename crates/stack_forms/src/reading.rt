@@ -11,7 +11,7 @@ use stack_outside::{Shelf, ShelfError};
 use std::alloc::Global;
 
 /// A file of at most this many bytes is read.
-const GREATEST_FILE: usize = 262_144;
+pub const GREATEST_FILE: usize = 262_144;
 
 /// The bytes of a file. Refuses with `File`, `Long` or `Memory`.
 pub fn read_file<F: Shelf>(shelf: &mut F, name: &str, input: Input) -> Result<Vec<u8>, Refusal>

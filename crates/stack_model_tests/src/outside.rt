@@ -82,6 +82,7 @@ fn a_shelf_over_files_that_give_little_reads_all_or_fails(rt: HostRuntime) -> Re
             bytes,
             step,
             fails: 0,
+            taken: 0,
         };
         let mut shelf = RealShelf::over(files, alloc);
         let read = shelf.read("plan", 14).ok().ok_or("held")?;
@@ -93,6 +94,7 @@ fn a_shelf_over_files_that_give_little_reads_all_or_fails(rt: HostRuntime) -> Re
             bytes,
             step: 2,
             fails,
+            taken: 0,
         };
         let mut shelf = RealShelf::over(files, alloc);
         assert!(rt;

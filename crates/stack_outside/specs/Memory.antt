@@ -40,11 +40,6 @@ Answers (Ok v) wanted = wanted ≡ Ok v.items
 Answers (Err Memory) wanted = ⊤
 Answers (Err e) wanted = wanted ≡ Err e
 
--- The read failed, so that the count rose by one.
-abbrev pub has_failed : Result (Vec ℕ Global) ShelfError → Bool
-has_failed (Err Failed) = true
-has_failed _ = false
-
 -- The bytes written so far.
 abbrev pub sink_written : MemorySink → List ℕ
 sink_written s = s.bytes.items

@@ -1,11 +1,11 @@
 //! A shelf in memory, whose listed reads fail.
 
-ghost use Rattle.std.specs.Prelude.{◌≡◌, ◌≤◌, ◌==◌, Some, [], if◌then◌else◌};
+ghost use Rattle.std.specs.Prelude.{◌≡◌, ◌≤◌, ◌==◌, Some, []};
 ghost use Rattle.std.specs.Option.{option_map};
 ghost use Rattle.std.specs.List.{list_any};
-ghost use Rattle.stack_outside.specs.Faults.{Rose, counted, StaysCounted};
+ghost use Rattle.stack_outside.specs.Faults.{Rose, counted, count_after, StaysCounted};
 ghost use Rattle.stack_outside.specs.Held.{held_of, names_of};
-ghost use Rattle.stack_outside.specs.Shelves.{ReadGives, Records};
+ghost use Rattle.stack_outside.specs.Shelves.{ReadGives, Records, has_failed};
 
 use crate::error::ShelfError;
 use crate::shelf::Shelf;
@@ -86,7 +86,7 @@ fn find<'a>(files: &'a [(String, Vec<u8>)], name: &str) -> Option<&'a [u8]>
 
 impl Shelf for MemoryShelf {
     ghost use Rattle.stack_outside.specs.Memory.{shelf_holds, shelf_asked, shelf_faults, shelf_calls, shelf_fails};
-    ghost use Rattle.stack_outside.specs.Memory.{memory_read, Answers, has_failed};
+    ghost use Rattle.stack_outside.specs.Memory.{memory_read, Answers};
 
     ghost holds = { λ s. held_of s.files.items };
 
@@ -106,8 +106,7 @@ impl Shelf for MemoryShelf {
         // Which answer it is, unless memory ran out.
         ensures exact { let listed = list_any (λ call. call == counted (shelf_calls self.old)) (shelf_fails self.old) in
             Answers result (memory_read (shelf_holds self.old name.now) listed most) }
-        ensures count { shelf_faults self.new ≡
-            (if has_failed result then counted (shelf_faults self.old) else shelf_faults self.old) }
+        ensures count { shelf_faults self.new ≡ count_after (has_failed result) (shelf_faults self.old) }
         ensures call { shelf_calls self.new ≡ counted (shelf_calls self.old) }
         ensures fails { shelf_fails self.new ≡ shelf_fails self.old }
     {

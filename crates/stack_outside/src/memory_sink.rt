@@ -1,9 +1,8 @@
 //! A sink in memory, whose listed calls fail.
 
 ghost use Rattle.std.specs.Prelude.{◌≡◌, ◌≤◌, ◌-◌, ◌++◌, Some, IfOk, OnErr, is_err, [], length, take, vec_capacity};
-ghost use Rattle.std.specs.Prelude.{if◌then◌else◌};
 ghost use Rattle.std.specs.Option.{option_map};
-ghost use Rattle.stack_outside.specs.Faults.{Rose, counted, StaysCounted};
+ghost use Rattle.stack_outside.specs.Faults.{Rose, counted, count_after, StaysCounted};
 ghost use Rattle.stack_outside.specs.Held.{kept_of};
 ghost use Rattle.stack_outside.specs.Sinks.{Puts};
 
@@ -101,8 +100,7 @@ impl Sink for MemorySink {
             let pair = kept_of (sink_fails self.old) (counted (sink_calls self.old)) in
             let kept = memory_put free pair (length piece.now) in
             (sink_written self.new ≡ sink_written self.old ++ take kept.0 piece.now) × (is_err result ≡ kept.1) }
-        ensures count { sink_faults self.new ≡ (if is_err result then counted
-            (sink_faults self.old) else sink_faults self.old) }
+        ensures count { sink_faults self.new ≡ count_after (is_err result) (sink_faults self.old) }
         ensures call { Some (sink_calls self.new) ≡ option_map counted (Some (sink_calls self.old)) }
         ensures fails { sink_fails self.new ≡ sink_fails self.old }
         ensures room { sink_room self.new ≡ sink_room self.old }

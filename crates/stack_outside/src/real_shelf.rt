@@ -1,16 +1,15 @@
 //! The shelf over files that are opened and read by single calls.
 
-ghost use Rattle.std.specs.Prelude.{◌≡◌, ◌≢◌, ◌≤◌, ◌<◌, None, Err, if◌then◌else◌};
-ghost use Rattle.stack_outside.specs.Faults.{Rose, counted, StaysCounted};
-ghost use Rattle.stack_outside.specs.Shelves.{ReadGives, Records};
-ghost use Rattle.stack_outside.specs.Memory.{has_failed};
+ghost use Rattle.std.specs.Prelude.{◌≡◌, ◌≢◌, ◌≤◌, ◌<◌, ◌+◌, ℕ, List, Err};
+ghost use Rattle.stack_outside.specs.Faults.{Rose, counted, count_after, StaysCounted};
+ghost use Rattle.stack_outside.specs.Shelves.{ReadGives, Asks, Records, TakesAtMost, has_failed};
 
 use crate::error::ShelfError;
-use crate::raw::{RawFile, RawFiles};
+use crate::raw::RawFiles;
 use crate::shelf::Shelf;
 use std::alloc::Global;
 
-/// The files that `F` opens. It tells the bytes of a name where `F` does, and no names of reads.
+/// The files that `F` opens. It tells the bytes of a name, and the names of its reads, where `F` does.
 #[derive(Drop)]
 pub struct RealShelf<F: RawFiles + Drop> {
     files: F,
@@ -38,6 +37,7 @@ impl<F: RawFiles + Drop> RealShelf<F> {
     fn fail(&mut self) -> ShelfError
         ensures error { result ≡ ShelfError.Failed }
         ensures faults { self.new.faults ≡ counted self.old.faults }
+        ensures later { self.old.faults ≤ self.new.faults }
         ensures files { self.new.files ≡ self.old.files }
     {
         self.faults = self.faults.saturating_add(1);
@@ -48,24 +48,28 @@ impl<F: RawFiles + Drop> RealShelf<F> {
 impl<F: RawFiles + Drop> Shelf for RealShelf<F> {
     ghost holds = { λ s. F.holds s.files };
 
-    ghost asked = { λ s. None };
+    ghost asked = { λ s. F.asked s.files };
 
     ghost faults = { λ s. s.faults };
 
-    /// Ends at the end of the file or after `most + 1` bytes. Each call that fails is a fault, an interrupted one too.
+    /// Opens one file, the one with the name, and ends at its end or after `most + 1` bytes. Each call that fails is a
+    /// fault, an interrupted one too.
     fn read(&mut self, name: &str, most: usize) -> Result<Vec<u8>, ShelfError>
         requires { most < usize.MAX }
         ensures gives { ReadGives (F.holds self.old.files name.now) most result }
         ensures holds { F.holds self.new.files ≡ F.holds self.old.files }
-        ensures asked { Records None None name.now result }
+        ensures asked { Records (F.asked self.old.files) (F.asked self.new.files) name.now result }
         ensures later { self.old.faults ≤ self.new.faults }
         ensures bounded { StaysCounted self.old.faults self.new.faults }
         ensures cause { result ≡ Err ShelfError.Failed → Rose self.old.faults self.new.faults }
-        // The count rises exactly where the read fails.
-        ensures count { self.new.faults ≡ (if has_failed result then counted self.old.faults else self.old.faults) }
+        ensures count { self.new.faults ≡ count_after (has_failed result) self.old.faults }
+        // Exactly one file is asked for,
+        ensures opens { Asks (F.asked self.old.files) (F.asked self.new.files) name.now }
+        // and nothing is read past the byte that shows that it is too long.
+        ensures taken { TakesAtMost (most + 1) (F.taken self.old.files) (F.taken self.new.files) }
         // The read fails only where a call does.
         ensures sound { F.never_fails self.old.files name.now → result ≢ Err ShelfError.Failed }
-        ensures files { self.new.files ≡ self.old.files }
+        ensures lasts { (other : List ℕ) → F.never_fails self.old.files other → F.never_fails self.new.files other }
     {
         let Ok(mut file) = self.files.open(name) else {
             return Err(self.fail());
@@ -74,7 +78,7 @@ impl<F: RawFiles + Drop> Shelf for RealShelf<F> {
         let mut block = [0u8; BLOCK];
         while bytes.len() <= most {
             let room = (most + 1 - bytes.len()).min(BLOCK);
-            match file.read_some(&mut block[..room]) {
+            match self.files.read_some(&mut file, &mut block[..room]) {
                 Ok(0) => return Ok(bytes),
                 Ok(n) => bytes.extend_from_slice(&block[..n])?,
                 Err(_) => return Err(self.fail()),

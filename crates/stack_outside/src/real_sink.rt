@@ -1,7 +1,7 @@
 //! The sink over a stream that is written by single calls.
 
-ghost use Rattle.std.specs.Prelude.{◌≡◌, ◌≤◌, None, IsOk, OnErr, is_err, if◌then◌else◌};
-ghost use Rattle.stack_outside.specs.Faults.{Rose, counted, StaysCounted};
+ghost use Rattle.std.specs.Prelude.{◌≡◌, ◌≤◌, None, IsOk, OnErr, is_err};
+ghost use Rattle.stack_outside.specs.Faults.{Rose, count_after, StaysCounted};
 ghost use Rattle.stack_outside.specs.Sinks.{Puts};
 
 use crate::error::SinkFailed;
@@ -43,8 +43,7 @@ impl<S: RawStream + Drop> Sink for RealSink<S> {
         ensures later { self.old.faults ≤ self.new.faults }
         ensures bounded { StaysCounted self.old.faults self.new.faults }
         ensures cause { OnErr result (Rose self.old.faults self.new.faults) }
-        // The count rises exactly where the put fails.
-        ensures count { self.new.faults ≡ (if is_err result then counted self.old.faults else self.old.faults) }
+        ensures count { self.new.faults ≡ count_after (is_err result) self.old.faults }
         // The put fails only where a call does, or takes nothing of a piece that isn't empty.
         ensures sound { S.never_fails self.old.stream → IsOk result }
     {

@@ -2,8 +2,8 @@
 
 ghost use Rattle.std.specs.Prelude.{◌≡◌, ◌<◌, ◌≤◌, ℕ, List};
 ghost use Rattle.std.specs.declared.option.Option.{Option};
-ghost use Rattle.stack_outside.specs.Faults.{Rose, StaysCounted};
-ghost use Rattle.stack_outside.specs.Shelves.{ReadGives, Records};
+ghost use Rattle.stack_outside.specs.Faults.{Rose, count_after, StaysCounted};
+ghost use Rattle.stack_outside.specs.Shelves.{ReadGives, Records, has_failed};
 
 use crate::error::ShelfError;
 
@@ -13,7 +13,7 @@ pub trait Shelf {
     ghost holds: { Self → List ℕ → Option (List ℕ) };
     /// The names of all reads so far, in order. A device may not tell them.
     ghost asked: { Self → Option (List (List ℕ)) };
-    /// How often the device has failed, up to the greatest u64, where the count stays.
+    /// How often a read has failed, up to the greatest u64, where the count stays.
     ghost faults: { Self → ℕ };
 
     /// All that the name holds, at most `most` bytes. `Failed` where the device fails or nothing has the
@@ -25,5 +25,7 @@ pub trait Shelf {
         ensures asked { Records (asked self.old) (asked self.new) name.now result }
         ensures later { faults self.old ≤ faults self.new }
         ensures bounded { StaysCounted (faults self.old) (faults self.new) }
-        ensures cause { result ≡ Err ShelfError.Failed → Rose (faults self.old) (faults self.new) };
+        ensures cause { result ≡ Err ShelfError.Failed → Rose (faults self.old) (faults self.new) }
+        // The count goes up by one exactly where the read fails.
+        ensures count { faults self.new ≡ count_after (has_failed result) (faults self.old) };
 }

@@ -1,8 +1,8 @@
-//! The calls of the system, and the whole trusted edge: one line, `fs::open` in `open`. The kit doesn't say what a name
-//! holds, so that nothing shows that this line opens the file asked for and does nothing else. All else here is proved:
-//! that reads and writes are handed on as they are, over any reader and any writer of the kit. Which stream is which is
-//! a matter of types, as each handle writes to its own. Of real files and streams the kit tells no bytes, and so the
-//! real devices tell none.
+//! The calls of the system, and the whole trusted edge: one line, `fs::open` in `open`. The kit doesn't say what a
+//! name holds, so that nothing shows that this line opens the file asked for and does nothing else. Of reads and writes
+//! it is proved, over any reader and any writer of the kit that tells its bytes, that what they give is what the call
+//! gave, or that it failed. That they call at all is tested. Which stream is which is a matter of types, as each handle
+//! writes to its own. Of real files and streams the kit tells no bytes, and so the real devices tell none.
 
 ghost use Rattle.std.specs.Prelude.{◌≡◌, None};
 
@@ -45,13 +45,27 @@ impl<'a, R: Files> RawFiles for SystemFiles<'a, R> {
 
     ghost holds = { λ s name. None };
 
+    // It keeps no list of names, and no count of bytes. What its caller asks for and reads is proved over any files, so
+    // over those that tell it.
+    ghost asked = { λ s. None };
+
+    ghost taken = { λ s. None };
+
     // Of no file is it known that no call fails.
     ghost never_fails = { λ s name. ⊥ };
 
-    fn open(&self, name: &str) -> Result<SystemFile<R::File>, CallFailed> {
+    fn open(&mut self, name: &str) -> Result<SystemFile<R::File>, CallFailed> {
         Ok(SystemFile {
             reader: fs::open(self.rt, name)?,
         })
+    }
+
+    fn read_some(
+        &mut self,
+        file: &mut SystemFile<R::File>,
+        room: &mut [u8],
+    ) -> Result<usize, CallFailed> {
+        Ok(file.reader.read(room)?)
     }
 }
 
@@ -59,10 +73,6 @@ impl<F: Read + Drop> RawFile for SystemFile<F> {
     ghost left = { λ s. F.remaining s.reader };
 
     ghost never_fails = { λ s. ⊥ };
-
-    fn read_some(&mut self, room: &mut [u8]) -> Result<usize, CallFailed> {
-        Ok(self.reader.read(room)?)
-    }
 }
 
 impl<W: Write + Drop> RawStream for SystemStream<W> {

@@ -13,8 +13,8 @@ use Rattle.stack_work.specs.Progress.{IsCausedBy, Way, ReturnsAnswer, Works}
 use Rattle.stack_said.specs.Delivery.{SaysLine, TakesMemory, TellsRefusal, Delivers}
 use Rattle.stack_work.proofs.FilesNamed.{asked_named}
 use Rattle.stack_said.specs.MainTheorem.{Answered, OutputAfter, Cause, Refused, IsGivenOut, RunMeets}
-use Rattle.stack_said.proofs.Outcomes.{refusal_or, IsWords, not_output, only_none, below_two, fault_above}
-use Rattle.stack_said.proofs.Outcomes.{fault_past_output, from_two}
+use Rattle.stack_said.proofs.Returned.{refusal_or, IsWords, not_output, only_none, below_two, fault_above}
+use Rattle.stack_said.proofs.Returned.{fault_past_output, from_two}
 
 -- A run with these words and devices, whose work asked for these names.
 module _ (form : Option Form) (shelf : ShelfSeen) (names : List (List ℕ)) (out err : StreamSeen) where

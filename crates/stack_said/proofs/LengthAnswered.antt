@@ -3,7 +3,7 @@ use Rattle.std.proofs.Common.{◌≡◌, ◌≢◌, refl, sym, subst, ap, ◌∙
 use Rattle.std.proofs.Common.{Option, Result, Ok, Err, inl, inr, ◌⊎◌, length, arith}
 use Rattle.std.specs.Prelude.{if◌then◌else◌, ⊤}
 use Rattle.std.proofs.Math.Dec.{ltb}
-use Rattle.std.proofs.lemmas.Bool.{ltb-true, lt-ltb}
+use Rattle.std.proofs.lemmas.Bool.{ltb-true}
 use Rattle.stack_outside.specs.Seen.{ShelfSeen, StreamSeen}
 use Rattle.stack_model.specs.Structure.{Structure}
 use Rattle.stack_overhang.specs.declared.error.StackError.{StackError}
@@ -25,10 +25,8 @@ use Rattle.stack_yield.specs.Outcomes.{outcomes}
 use Rattle.stack_directions.specs.Pairing.{pair_of}
 use Rattle.stack_lines.specs.declared.refusal.Input.{Input}
 use Rattle.stack_lines.specs.declared.refusal.Input.TheVariants as inputs
-use Rattle.stack_work.specs.Answers.{Due}
 use Rattle.stack_lines.specs.Errors.{from_read}
-use Rattle.stack_lines.specs.Refusals.{Refusal, faulty, memory, long, fault_status, status_of}
-use Rattle.stack_work.specs.AcceptedModel.{IsAcceptedModel}
+use Rattle.stack_lines.specs.Refusals.{Refusal, memory, long, fault_status, status_of}
 use Rattle.stack_work.specs.Building.{order_step, order_work, ordered_file, stages_work}
 use Rattle.stack_work.specs.Checking.{Accepting, certificate_step, checked, checked_file}
 use Rattle.stack_work.specs.Checking.{certificate_work, accepted_due}
@@ -45,18 +43,16 @@ use Rattle.stack_work.specs.Tables.{table_due}
 use Rattle.stack_work.specs.Work.{Work, gives, refuses, reads, surveys, ◌>>=◌, Found, Holds, Ends}
 use Rattle.stack_work.specs.Yielding.{loads_step, directions_step, directions_work, directed_file, paired_file}
 use Rattle.stack_work.specs.Yielding.{yield_work}
-use Rattle.stack_work.proofs.AcceptedFiles.{told_bytes, all_accepted}
+use Rattle.stack_work.proofs.AcceptedFiles.{told_bytes}
 use Rattle.stack_work.proofs.Beginnings.{certificate_avoids, table_avoids, due_avoids, wide_avoids, judged_avoids}
 use Rattle.stack_work.proofs.Beginnings.{range_avoids, order_avoids, stage_avoids, loads_avoid, directions_avoid}
 use Rattle.stack_work.proofs.Beginnings.{region_avoids}
 use Rattle.stack_work.proofs.FilesNamed.{AsksOnly, form_asks}
 use Rattle.stack_work.proofs.RefusedFrom.{Avoids}
-use Rattle.stack_work.proofs.Ways.{goes_on}
-use Rattle.stack_said.specs.LengthSaid.{SomeIsLong, ReadsFurther, LengthSays}
+use Rattle.stack_said.specs.LengthSaid.{SomeIsLong, LengthSays}
 use Rattle.stack_said.specs.MainTheorem.{RunMeets}
-use Rattle.stack_said.proofs.CertificateFile.{caused_by}
+use Rattle.stack_said.proofs.ModelAnswered.{caused_by}
 use Rattle.stack_said.proofs.ModelAnswered.{of_memory, read_status}
-use Rattle.stack_said.proofs.SettledEnds.{given_or_memory}
 
 -- A refusal of this work with status 4 comes of a file with too many bytes.
 abbrev OnlyLong : {A : Type 0} → Work A → Type 0
@@ -212,50 +208,9 @@ long_file holds (surveys s k) all names r o a t (inl p) at = absurd (omega (arit
 long_file holds (surveys s k) all names r o a t (inr p) at =
     long_file holds (k p.0) all names r (o p.0) (a p.0) t p.2 at
 
--- A file that is told and too long.
-read_long : (holds : Holds) (input : Input) (name text : List ℕ) (k : List ℕ → Work Due) → holds name ≡ Some text
-    → greatest_file < length text → Ends holds (read input name >>= k) (name ∷ []) (Err (faulty (long input)))
-read_long holds input name text k held more =
-    (refl, inr (text, rw held refl, rw (lt-ltb greatest_file (length text) more) (refl, inl refl)))
-
-moved : (w : Work Due) {m model n name : List ℕ} {a b : Input} (holds : Holds) → m ≡ model → n ≡ name → a ≡ b
-    → Ends holds w (m ∷ n ∷ []) (Err (faulty (long a))) → Ends holds w (model ∷ name ∷ []) (Err (faulty (long b)))
-moved w {m} {model} {n} {name} {a} {b} holds p q s h =
-    subst (λ x. Ends holds w (x ∷ name ∷ []) (Err (faulty (long b)))) p
-    (subst (λ x. Ends holds w (m ∷ x ∷ []) (Err (faulty (long b)))) q
-    (subst (λ x. Ends holds w (m ∷ n ∷ []) (Err (faulty (long x)))) s h))
-
-further_ends : (holds : Holds) (form : Form) (v : Surveyed) (model name bytes text : List ℕ) (input : Input)
-    → holds model ≡ Some bytes → holds name ≡ Some text → IsAcceptedModel bytes v
-    → ReadsFurther form v model name input → greatest_file < length text
-    → Ends holds (work_of form) (model ∷ name ∷ []) (Err (faulty (long input)))
-unfolding certificate_work checked_file stages_work ordered_file yield_work paired_file directed_file
-further_ends holds (check m n) v model name bytes text input told held is r more = moved _ holds r.0 r.1 r.2
-    (goes_on holds (surveyed_file m) (checked_file accepted_due n) (m ∷ []) (n ∷ []) v
-    (Err (faulty (long inputs.Certificate)))
-    (all_accepted holds m bytes v (ap holds r.0 ∙ told) is)
-    (read_long holds inputs.Certificate n text (checked accepted_due v) (ap holds r.1 ∙ held) more))
-further_ends holds (tables m n) v model name bytes text input told held is r more = moved _ holds r.0 r.1 r.2
-    (goes_on holds (surveyed_file m) (checked_file table_due n) (m ∷ []) (n ∷ []) v
-    (Err (faulty (long inputs.Certificate)))
-    (all_accepted holds m bytes v (ap holds r.0 ∙ told) is)
-    (read_long holds inputs.Certificate n text (checked table_due v) (ap holds r.1 ∙ held) more))
-further_ends holds (builds m n budget) v model name bytes text input told held is r more = moved _ holds r.0 r.1 r.2
-    (goes_on holds (surveyed_file m) (ordered_file n budget) (m ∷ []) (n ∷ []) v (Err (faulty (long inputs.Order)))
-    (all_accepted holds m bytes v (ap holds r.0 ∙ told) is)
-    (read_long holds inputs.Order n text (order_work budget v) (ap holds r.1 ∙ held) more))
-further_ends holds (yields m i j n budget) v model name bytes text input told held is r more = moved _ holds r.0 r.1 r.2
-    (goes_on holds (surveyed_file m) (paired_file i j n budget) (m ∷ []) (n ∷ []) v
-    (Err (faulty (long inputs.Directions))) (all_accepted holds m bytes v (ap holds r.0 ∙ told) is)
-    (rw r.4 (read_long holds inputs.Directions n text (directions_work budget v r.3) (ap holds r.1 ∙ held) more)))
-further_ends holds _ v model name bytes text input told held is r more = absurd r
-
 says : (status : ℕ) (form : Form) (shelf : ShelfSeen) (out err : StreamSeen) → RunMeets status (Some form) shelf out err
     → LengthSays form status shelf out err
 says status form shelf out err m = record {
-  further_one = λ neither v model name bytes text input told held is r more.
-      given_or_memory m neither (model ∷ name ∷ []) ((bytes, told), ((text, held), tt))
-      (Err (faulty (long input))) tt (further_ends shelf.holds form v model name bytes text input told held is r more);
   only_long = λ told is. let r = m.refused (omega (arith, is)) in
       let at = sym r.is_status ∙ is in
       long_file shelf.holds (work_of form) (files_of (Some form)) m.names r.refusal (form_only form)

@@ -3,7 +3,7 @@ use Rattle.std.proofs.Common.{◌≡◌, ◌≢◌, refl, sym, subst, ap, ◌∙
 use Rattle.std.proofs.Common.{Option, Some, Result, Ok, Err, inl, inr, ◌⊎◌, length, arith, if◌then◌else◌}
 use Rattle.std.proofs.Math.Dec.{ltb}
 use Rattle.std.proofs.lemmas.Bool.{ltb-false, ltb-true, le-ltb, lt-ltb}
-use Rattle.stack_outside.specs.Seen.{ShelfSeen, StreamSeen, NeitherFailed}
+use Rattle.stack_outside.specs.Seen.{ShelfSeen, StreamSeen, ShelfFailed, NeitherFailed}
 use Rattle.stack_model.specs.Structure.{Structure}
 use Rattle.stack_reader.specs.Reading.{structure_of}
 use Rattle.stack_model.specs.declared.errors.ModelError.{ModelError}
@@ -18,14 +18,16 @@ use Rattle.stack_work.specs.Forms.{Form, files_of, work_of}
 use Rattle.stack_work.specs.Work.{gives, refuses, surveys, ◌>>=◌, Found, Holds, MayFind, Ends}
 use Rattle.stack_work.specs.Surveying.{greatest_file, model_step, survey_step, modelled, surveyed_file}
 use Rattle.stack_lines.specs.Errors.{from_read}
+use Rattle.stack_work.specs.Answers.{Due}
 use Rattle.stack_work.specs.OneEnd.{IsSettledRefusal}
-use Rattle.stack_said.specs.MainTheorem.{Cause, RunMeets}
+use Rattle.stack_said.specs.MainTheorem.{Cause, IsGivenOut, RunMeets}
 use Rattle.stack_said.specs.ModelSaid.{IsRefused, ModelFault, in_text, in_pair, in_count, model_fault, ModelSays}
-use Rattle.stack_work.proofs.Ways.{stops}
-use Rattle.stack_work.proofs.AcceptedFiles.{told_bytes}
+use Rattle.stack_said.specs.ModelSaid.{IsUnaccepted, UnacceptedCase, is_long, has_fault, wants_memory}
+use Rattle.stack_work.proofs.Ways.{stops, came_from}
+use Rattle.stack_work.proofs.AcceptedFiles.{told_bytes, only_accepted}
 use Rattle.stack_work.proofs.RefusedFrom.{CameOf, refused_from, avoids_end}
 use Rattle.stack_work.proofs.Beginnings.{Begins, begins}
-use Rattle.stack_said.proofs.SettledEnds.{given_or_memory}
+use Rattle.stack_said.proofs.SettledEnds.{kept_at_memory, given_or_memory, refused_or_memory}
 
 -- the ends of the work on a model's file that is told
 module _ (holds : Holds) (model bytes : List ℕ) (told : holds model ≡ Some bytes) where
@@ -181,16 +183,58 @@ caused_because output form shelf names out five cause = absurd (omega (arith, fi
 caused_because (faulty memory) form shelf names out five cause = absurd (omega (arith, five))
 caused_because r form shelf names out five cause = cause
 
+-- a refusal with one of the statuses of the work is one of it
+pub caused_by : (n : ℕ) (r : Refusal) (form : Form) (shelf : ShelfSeen) (names : List (List ℕ)) (out : StreamSeen)
+    → status_of r ≡ n → n ≢ 2 → n ≢ 3 → n ≢ 10 → n ≢ 11 → Cause r (Some form) shelf names out
+    → Ends shelf.holds (work_of form) names (Err r)
+caused_by n words form shelf names out at a b c d cause = absurd (a (sym at))
+caused_by n (file input) form shelf names out at a b c d cause = absurd (b (sym at))
+caused_by n output form shelf names out at a b c d cause = absurd (c (sym at))
+caused_by n (faulty memory) form shelf names out at a b c d cause = absurd (d (sym at))
+caused_by n r form shelf names out at a b c d cause = cause
+
 module _ (status : ℕ) (form : Form) (shelf : ShelfSeen) (out err : StreamSeen)
     (m : RunMeets status (Some form) shelf out err)
     (model bytes : List ℕ) (told : shelf.holds model ≡ Some bytes) (b : Begins form model) where
   refuses_as : NeitherFailed shelf out → (f : Fault) → f ≢ memory
       → Ends shelf.holds (surveyed_file model) (model ∷ []) (Err (faulty f))
       → IsRefused f status out err
-  refuses_as neither f some h =
-      given_or_memory m neither (model ∷ []) ((bytes, told), tt) (Err (faulty f)) (settled_fault f some)
+  refuses_as neither f some h = refused_or_memory m f
+      (given_or_memory m neither (model ∷ []) ((bytes, told), tt) (Err (faulty f)) (settled_fault f some)
       (subst (λ w. Ends shelf.holds w (model ∷ []) (Err (faulty f))) (sym b.1)
-      (stops shelf.holds (surveyed_file model) b.0 (model ∷ []) (faulty f) h))
+      (stops shelf.holds (surveyed_file model) b.0 (model ∷ []) (faulty f) h)))
+
+  -- nothing but a refusal is left by a model that isn't accepted
+  left_so : status ≡ 11 → UnacceptedCase bytes status out err
+  left_so eleven = wants_memory (record { is_status = eleven; is_kept = kept_at_memory m eleven })
+
+  given_why : ¬ (ShelfFailed shelf) → (r : Refusal) → Why bytes r → IsGivenOut (Err r) status out err
+      → UnacceptedCase bytes status out err
+  given_why no_shelf r (for_memory same) g = left_so (g.0 ∙ ap status_of same)
+  given_why no_shelf r (for_file same) g = absurd (no_shelf (m.shelf_failed (g.0 ∙ ap status_of same)))
+  given_why no_shelf r (for_length more same) g =
+      is_long more (subst (λ q. IsGivenOut (Err q) status out err) same g)
+  given_why no_shelf r (for_fault short f same) g =
+      has_fault short f (subst (λ q. IsGivenOut (Err q) status out err) same g)
+
+  end_why : NeitherFailed shelf out → IsUnaccepted bytes → (end : Result Due Refusal)
+      → Ends shelf.holds (surveyed_file model >>= b.0) m.names end → IsGivenOut end status out err
+      → UnacceptedCase bytes status out err
+  end_why neither not (Ok due) way g =
+      let c = came_from shelf.holds (surveyed_file model) b.0 m.names due way in
+      absurd (not c.0 (only_accepted shelf.holds model bytes c.0 c.1 told c.3))
+  end_why neither not (Err r) way g = go (refused_from shelf.holds (surveyed_file model) b.0 m.names r way)
+    where
+      go : CameOf shelf.holds (surveyed_file model) b.0 r → UnacceptedCase bytes status out err
+      go (inl c) = given_why neither.0 r (surveyed_why shelf.holds r model bytes c.0 told c.1) g
+      go (inr c) = absurd (not c.0 (only_accepted shelf.holds model bytes c.0 c.1 told c.3))
+
+  unaccepted_by : NeitherFailed shelf out → IsUnaccepted bytes → (status ≡ 11) ⊎ ((end : Result Due Refusal)
+      × Ends shelf.holds (work_of form) m.names end × IsGivenOut end status out err)
+      → UnacceptedCase bytes status out err
+  unaccepted_by neither not (inl eleven) = left_so eleven
+  unaccepted_by neither not (inr d) =
+      end_why neither not d.0 (subst (λ w. Ends shelf.holds w m.names d.0) b.1 d.1) d.2
 
   says : ModelSays bytes status shelf out err
   says = record {
@@ -202,6 +246,7 @@ module _ (status : ℕ) (form : Form) (shelf : ShelfSeen) (out err : StreamSeen)
         let same = sym r.is_status ∙ five in
         because shelf.holds r.refusal same form model bytes m.names told b
         (caused_because r.refusal form shelf m.names out same r.cause);
+    unaccepted = λ neither not. unaccepted_by neither not (m.decided neither);
   }
 
 pub model_says : {status : ℕ} {form : Option Form} {shelf : ShelfSeen} {out err : StreamSeen}

@@ -1,81 +1,26 @@
 -- What `stand` and `load` print is true whatever the devices do, and is accepted by `check`: out of the theorem on the
 -- top call.
-use Rattle.std.proofs.Common.{◌≡◌, sym, subst, ap, ◌∙◌, ℕ, zero, suc, ◌<◌, ◌≤◌, Bool, true, false, List, Option, Some}
-use Rattle.std.proofs.Common.{Result, Ok, Err, inl, inr, arith, if◌then◌else◌}
+use Rattle.std.proofs.Common.{◌≡◌, subst, ap, ◌∙◌, ℕ, zero, suc, ◌<◌, ◌≤◌, List, Option, Some}
+use Rattle.std.proofs.Common.{Result, Ok, Err, inl, inr, arith}
 use Rattle.stack_outside.specs.Seen.{ShelfSeen, StreamSeen, Took}
 use Rattle.stack_contact.specs.Surveyed.{Surveyed}
 use Rattle.stack_certificate.specs.Certificate.{CertificateValue}
 use Rattle.stack_certificate.specs.CertificateText.{IsCertificateText}
 use Rattle.stack_equilibrium.specs.declared.types.Question.{Question}
-use Rattle.stack_judge.specs.Judgement.{Judgement, certified, too_wide, spent, unjudged, judgement}
 use Rattle.stack_judge.specs.Judged.{IsJudged}
 use Rattle.stack_lines.specs.declared.answer.Verdict.TheVariants.{Affirmed}
-use Rattle.stack_lines.specs.Refusals.{Refusal, words, file, faulty, output, memory, no_live, status_of}
-use Rattle.stack_work.specs.Forms.{Form, judges, check}
-use Rattle.stack_work.specs.Answers.{Due, exactly, certificate, IsAnswer}
+use Rattle.stack_lines.specs.Refusals.{Refusal, words, file, faulty, output, memory, status_of}
+use Rattle.stack_work.specs.Forms.{Form, check}
+use Rattle.stack_work.specs.Answers.{Due, exactly, IsAnswer}
 use Rattle.stack_lines.specs.Verdicts.{verdict_status}
 use Rattle.stack_lines.specs.CheckText.{accepted_text}
-use Rattle.stack_work.specs.Work.{refuses, Holds, Ends}
-use Rattle.stack_work.specs.Surveying.{surveyed_file}
+use Rattle.stack_work.specs.Work.{Ends}
 use Rattle.stack_work.specs.Checking.{check_work}
-use Rattle.stack_work.specs.Judging.{lacks_live, judged_step, judged, judge_work}
+use Rattle.stack_work.specs.Judging.{judged}
 use Rattle.stack_work.specs.OneEnd.{IsSettled}
 use Rattle.stack_work.specs.AcceptedModel.{IsAcceptedModel}
 use Rattle.stack_said.specs.MainTheorem.{Answered, Refused, Cause, RunMeets}
-use Rattle.stack_said.specs.Headline.{PrintsOfFile}
 use Rattle.stack_said.specs.Printed.{acceptance, PrintedIsAccepted, IsAcceptedAgain}
-use Rattle.stack_work.proofs.Ways.{came_from}
-use Rattle.stack_work.proofs.AcceptedFiles.{only_accepted}
-
--- an answer is a certificate of the question
-judged_end : (holds : Holds) (q : Question) (budget : ℕ) (v : Surveyed) (j : Judgement) (names : List (List ℕ))
-    (due : Due) → Ends holds (judged_step q budget v j) names (Ok due)
-    → (c : CertificateValue) × (certificate q v c ≡ due)
-judged_end holds q budget v (certified c) names due p = (c, p.1)
-judged_end holds q budget v _ names due p = absurd p.1
-
-asked_end : (holds : Holds) (q : Question) (budget : ℕ) (v : Surveyed) (b : Bool) (names : List (List ℕ)) (due : Due)
-    → Ends holds (if b then refuses no_live else judged_step q budget v (judgement q v budget)) names (Ok due)
-    → (c : CertificateValue) × (certificate q v c ≡ due)
-asked_end holds q budget v true names due p = absurd p.1
-asked_end holds q budget v false names due p = judged_end holds q budget v (judgement q v budget) names due p
-
-answer_end : (holds : Holds) (q : Question) (model bytes : List ℕ) (budget : ℕ) (names : List (List ℕ)) (due : Due)
-    → holds model ≡ Some bytes → Ends holds (judge_work q model budget) names (Ok due)
-    → (v : Surveyed) × IsAcceptedModel bytes v × (c : CertificateValue) × (certificate q v c ≡ due)
-unfolding judge_work
-answer_end holds q model bytes budget names due told way =
-    let c = came_from holds (surveyed_file model) (judged q budget) names due way in
-    let d = asked_end holds q budget c.0 (lacks_live q c.0.structure) c.2 due c.4 in
-    (c.0, only_accepted holds model bytes c.0 c.1 told c.3, d.0, d.1)
-
-answer_prints : (shelf : ShelfSeen) (q : Question) (model bytes : List ℕ) (budget status : ℕ) (names : List (List ℕ))
-    (out err : StreamSeen) → shelf.holds model ≡ Some bytes
-    → Answered status (Some (judges q model budget)) shelf names out err
-    → PrintsOfFile q bytes status out
-answer_prints shelf q model bytes budget status names out err told a =
-    let c = answer_end shelf.holds q model bytes budget names a.due told a.way in
-    let is = subst (λ d. IsAnswer d a.verdict a.text) (sym c.3) a.is_due in
-    record {
-      survey = c.0;
-      is_accepted = c.1;
-      prints = record {
-        certificate = c.2;
-        judged = is.judged;
-        text = a.text;
-        is_text = is.is_text;
-        is_written = a.is_written;
-        is_status = a.is_status ∙ ap verdict_status is.is_verdict;
-      };
-    }
-
-pub prints_truly : {status : ℕ} {form : Option Form} {shelf : ShelfSeen} {out err : StreamSeen}
-    → RunMeets status form shelf out err
-    → (q : Question) (model : List ℕ) (budget : ℕ) (bytes : List ℕ) → form ≡ Some (judges q model budget)
-    → shelf.holds model ≡ Some bytes → status < 2 → PrintsOfFile q bytes status out
-prints_truly {status} {form} {shelf} {out} {err} m q model budget bytes is told low =
-    answer_prints shelf q model bytes budget status m.names out err told
-    (subst (λ f. Answered status f shelf m.names out err) is (m.answered low))
 
 abbrev given : Due → Result Due Refusal
 given due = Ok due

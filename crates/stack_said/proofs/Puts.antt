@@ -9,8 +9,8 @@ use Rattle.stack_lines.specs.Refusals.{Refusal, words, file, faulty, output, ref
 use Rattle.stack_work.specs.Forms.{Form}
 use Rattle.stack_work.specs.Progress.{ReturnsAnswer, Works}
 use Rattle.stack_said.specs.Delivery.{TakesMemory}
-use Rattle.stack_said.specs.OnePut.{greatest_start, PutsAnswer}
-use Rattle.stack_said.proofs.Outcomes.{not_output, fault_past_output, from_two}
+use Rattle.stack_said.specs.OnePut.{PutsAnswer}
+use Rattle.stack_said.proofs.Returned.{not_output, fault_past_output, from_two}
 
 -- work never refuses since the output failed
 pub work_refuses_otherwise : (form : Option Form) (shelf : ShelfSeen) (worked : Result Answer CodeRefusal)

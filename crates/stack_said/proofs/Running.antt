@@ -12,6 +12,7 @@ use Rattle.stack_said.specs.OnePut.{PutsAnswer, PutsLine}
 use Rattle.stack_said.specs.Printed.{PrintedIsAccepted}
 use Rattle.stack_said.specs.Runs.{Runs}
 use Rattle.stack_said.proofs.Consequences.{run_meets}
+use Rattle.stack_said.proofs.FaultsTold.{told_write, told_read}
 use Rattle.stack_said.proofs.Puts.{work_refuses_otherwise}
 use Rattle.stack_said.proofs.RunSaid.{run_says}
 
@@ -27,6 +28,8 @@ works_run law drawn form shelf out err worked status works delivers one_put one_
       says = run_says law drawn meets;
       one_put = one_put (work_refuses_otherwise form shelf worked works);
       one_line = one_line;
+      write_told = told_write worked status out err delivers;
+      read_told = told_read shelf worked status out err works.counts delivers;
       holds = works.holds;
       shelf_later = works.later;
       out_later = out_later;

@@ -2,12 +2,13 @@
 -- is wanting.
 use Rattle.std.proofs.Common.{◌≡◌, sym, subst, ◌∙◌, ℕ, List, Option, Result, Ok, Err, inl, inr, ◌⊎◌, arith}
 use Rattle.stack_outside.specs.Seen.{ShelfSeen, StreamSeen, ShelfFailed, NeitherFailed, TookNothing}
-use Rattle.stack_lines.specs.Refusals.{Refusal, file, faulty, output, memory, status_of}
+use Rattle.stack_lines.specs.Refusals.{Refusal, Fault, file, faulty, output, memory, status_of}
 use Rattle.stack_work.specs.Forms.{Form}
 use Rattle.stack_work.specs.Answers.{Due}
 use Rattle.stack_work.specs.OneEnd.{AreTold, IsSettled}
 use Rattle.stack_work.specs.Progress.{Way}
 use Rattle.stack_said.specs.MainTheorem.{OutputAfter, IsGivenOut, RunMeets}
+use Rattle.stack_said.specs.ModelSaid.{IsRefused}
 use Rattle.stack_work.proofs.OneEnd.{words_end}
 
 kept_for_memory : (r : Refusal) (form : Option Form) (shelf : ShelfSeen) (names : List (List ℕ)) (out : StreamSeen)
@@ -53,3 +54,10 @@ pub given_or_memory : {status : ℕ} {form : Option Form} {shelf : ShelfSeen} {o
 given_or_memory {status} {form} {shelf} {out} {err} m neither names told known is_known way =
     decided_as status form shelf out err m neither.0 names told known
     is_known way (m.decided neither)
+
+-- So a fault that is known is the one that was told, unless memory is wanting.
+pub refused_or_memory : {status : ℕ} {form : Option Form} {shelf : ShelfSeen} {out err : StreamSeen}
+    → RunMeets status form shelf out err → (f : Fault)
+    → (status ≡ 11) ⊎ IsGivenOut (Err (faulty f)) status out err → IsRefused f status out err
+refused_or_memory m f (inl eleven) = inl (record { is_status = eleven; is_kept = kept_at_memory m eleven })
+refused_or_memory m f (inr given) = inr given

@@ -1,22 +1,19 @@
 -- What the two answers of `check MODEL CERT` mean of the bytes of its files: `accepted`, that the certificate in the
 -- second is true of the model in the first; a rejection, that it isn't.
-use Rattle.std.specs.Prelude.{◌≡◌, ℕ, ◌≤◌, ◌⊎◌, List, Some, Ok, length}
-use Rattle.stack_outside.specs.Seen.{ShelfSeen, StreamSeen, NeitherFailed, Took}
+use Rattle.std.specs.Prelude.{◌≡◌, ℕ, List, Some, Ok}
 use Rattle.stack_contact.specs.Surveyed.{Surveyed}
 use Rattle.stack_certificate.specs.Certificate.{CertificateValue}
 use Rattle.stack_certificate.specs.CertificateOf.{certificate_of}
 use Rattle.stack_equilibrium.specs.Truth.{IsTrueCertificate}
 use Rattle.stack_checker.specs.declared.types.Part.{Part}
 use Rattle.stack_checker.specs.declared.types.Reason.{Reason}
-use Rattle.stack_checker.specs.declared.types.Check.TheVariants.{Rejected, TooWide}
-use Rattle.stack_checker.specs.declared.types.CheckPlace.{CheckPlace}
+use Rattle.stack_checker.specs.declared.types.Check.TheVariants.{Rejected}
 use Rattle.stack_checker.specs.Shown.{Shows}
 use Rattle.stack_checker.specs.WrittenCheck.{written_check}
 use Rattle.stack_lines.specs.declared.answer.Verdict.TheVariants.{Denied}
 use Rattle.stack_work.specs.Answers.{exactly}
-use Rattle.stack_lines.specs.CheckText.{accepted_text, rejected_text}
+use Rattle.stack_lines.specs.CheckText.{rejected_text}
 use Rattle.stack_work.specs.Work.{Holds, Ends}
-use Rattle.stack_work.specs.Surveying.{greatest_file}
 use Rattle.stack_work.specs.Checking.{check_work}
 use Rattle.stack_work.specs.AcceptedModel.{IsAcceptedModel}
 use Rattle.stack_said.specs.Printed.{acceptance}
@@ -59,23 +56,3 @@ RejectedIsFalseOfFiles = (holds : Holds) (model name bytes text line : List ℕ)
 abbrev pub FilesHoldOne : Type 0
 FilesHoldOne = (bytes text : List ℕ) (a b : ModelAndCertificate bytes text)
     → (a.survey ≡ b.survey) × (a.certificate ≡ b.certificate)
-
--- A number of the written check is too wide for 128 bits.
-abbrev pub IsWideCheck : {bytes text : List ℕ} → ModelAndCertificate bytes text → Type 0
-IsWideCheck files = (place : CheckPlace) × (written_check files.survey files.certificate ≡ TooWide place)
-
--- What a run of `check` says by its status: with 0 exactly `accepted` was written, and the certificate is true of the
--- model; with 1 exactly the line of a rejection was written, and it isn't. And where neither the shelf nor the output
--- failed, a true certificate is accepted and a false one rejected, unless a number of the check is too wide or memory
--- is wanting.
-pub record CheckSays (bytes text : List ℕ) (status : ℕ) (shelf : ShelfSeen) (out : StreamSeen)
-    : Type 0 where
-  pub accepted : status ≡ 0 → HoldTrueCertificate bytes text × Took out accepted_text
-  pub rejected : status ≡ 1
-      → (line : List ℕ) × HoldFalseCertificate bytes text line × Took out line
-  pub true_one : NeitherFailed shelf out → length text ≤ greatest_file → (files : ModelAndCertificate bytes text)
-      → IsTrueCertificate files.survey files.certificate
-      → (status ≡ 0) ⊎ ((IsWideCheck files × (status ≡ 7)) ⊎ (status ≡ 11))
-  pub false_one : NeitherFailed shelf out → length text ≤ greatest_file → (files : ModelAndCertificate bytes text)
-      → ¬ (IsTrueCertificate files.survey files.certificate)
-      → (status ≡ 1) ⊎ ((IsWideCheck files × (status ≡ 7)) ⊎ (status ≡ 11))

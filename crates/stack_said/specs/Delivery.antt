@@ -1,6 +1,7 @@
--- What is left by giving out what the work returned: an answer on the output, or the line of a refusal on the error
--- stream.
+-- What giving out the result of the work does to the streams: an answer on the output, or the line of a refusal on the
+-- error stream.
 use Rattle.std.specs.Prelude.{◌≡◌, ℕ, List, [], ◌∷◌, ◌++◌, take, ◌⊎◌, Result, Ok, Err, ⊤}
+use Rattle.stack_outside.specs.Faults.{counted}
 use Rattle.stack_outside.specs.Seen.{StreamSeen, StreamFailed, Took, TookNothing}
 use Rattle.stack_lines.specs.declared.answer.Answer.{Answer}
 use Rattle.stack_lines.specs.declared.refusal.Refusal.{Refusal as CodeRefusal}
@@ -15,16 +16,18 @@ with_line_feed line = line ++ 10 ∷ []
 abbrev pub SaysLine : Refusal → StreamSeen → Type 0
 SaysLine r err = ¬ (StreamFailed err) → Took err (with_line_feed (refusal_line r))
 
--- The answer was written whole, with its status.
+-- The answer was written whole, with its status, and the output's count of faults stays.
 pub record WritesAnswer (a : Answer) (status : ℕ) (out err : StreamSeen) : Type 0 where
   pub is_status : status ≡ verdict_status a.verdict
   pub is_written : Took out a.text.items
   pub is_silent : TookNothing err
+  pub stays : out.faults_after ≡ out.faults
 
--- The output failed: a front of the answer was written.
+-- The output failed, once: a front of the answer was written.
 pub record FailsToWrite (a : Answer) (status : ℕ) (out err : StreamSeen) : Type 0 where
   pub is_status : status ≡ status_of output
   pub cause : StreamFailed out
+  pub counts : out.faults_after ≡ counted out.faults
   pub kept : ℕ
   pub is_written : Took out (take kept a.text.items)
   pub line : SaysLine output err
@@ -37,15 +40,16 @@ TakesMemory output = ⊥
 TakesMemory (faulty memory) = ⊥
 TakesMemory _ = ⊤
 
--- The refusal was told, or its line takes memory, and that was wanting.
+-- The refusal was told, or its line takes memory, and that was wanting. The output's count of faults stays.
 pub record TellsRefusal (r : Refusal) (status : ℕ) (out err : StreamSeen) : Type 0 where
   pub told : Refusal
   pub which : (told ≡ r) ⊎ (TakesMemory r × (told ≡ faulty memory))
   pub is_status : status ≡ status_of told
   pub is_kept : TookNothing out
+  pub stays : out.faults_after ≡ out.faults
   pub line : SaysLine told err
 
--- What is left by giving out what the work returned.
+-- What giving out the result of the work does to the streams.
 abbrev pub Delivers : Result Answer CodeRefusal → (status : ℕ) → (out err : StreamSeen) → Type 0
 Delivers (Ok a) status out err = WritesAnswer a status out err ⊎ FailsToWrite a status out err
 Delivers (Err r) status out err = TellsRefusal (refusal_view r) status out err

@@ -83,7 +83,7 @@ pub record RunMeets (status : ℕ) (form : Option Form) (shelf : ShelfSeen) (out
   -- where neither the shelf nor the output failed, a way through the work decides
   pub decided : NeitherFailed shelf out → (status ≡ 11) ⊎ ((end : Result Due Refusal)
       × Way shelf.holds form names end × IsGivenOut end status out err)
-  -- 2 comes exactly where the words have no form, whatever the devices do
+  -- 2 comes only where the words have no form, and there 2 or 11, whatever the devices do
   pub without_form : form ≡ None → (status ≡ 2) ⊎ (status ≡ 11)
   pub only_without_form : status ≡ 2 → form ≡ None
   -- 3 comes only where the shelf failed, and 10 only where the output did

@@ -1,6 +1,6 @@
 -- All that one run promises, of the status with which it ends, the form that its words have, if any, and what is seen
 -- of its shelf, its output and its error stream.
-use Rattle.std.specs.Prelude.{◌≡◌, ℕ, ◌≤◌, Option}
+use Rattle.std.specs.Prelude.{◌≡◌, ℕ, ◌<◌, ◌≤◌, ◌⊎◌, Option}
 use Rattle.stack_outside.specs.Seen.{ShelfSeen, StreamSeen}
 use Rattle.stack_work.specs.Forms.{Form}
 use Rattle.stack_said.specs.MainTheorem.{RunMeets}
@@ -16,6 +16,12 @@ pub record Runs (status : ℕ) (form : Option Form) (shelf : ShelfSeen) (out err
   pub one_put : PutsAnswer status out
   -- a refusal is one put on the error stream, and an answer none
   pub one_line : PutsLine status err
+  -- a write of the answer that failed is told: where the output's count of faults rose the status is 10. (One of a line
+  -- on the error stream isn't told)
+  pub write_told : out.faults < out.faults_after → status ≡ 10
+  -- so is a read that failed: where the shelf's rose the status is 3, or 11 if memory for the line is wanting. (A count
+  -- that stands at its greatest value can't rise; that of a new device is 0)
+  pub read_told : shelf.faults < shelf.faults_after → (status ≡ 3) ⊎ (status ≡ 11)
   -- no file is changed
   pub holds : shelf.holds_after ≡ shelf.holds
   -- no count of faults falls

@@ -7,6 +7,7 @@ use Rattle.std.proofs.lemmas.Bool.{le-ltb, lt-ltb}
 use Rattle.std.proofs.lemmas.List.{length-replicate}
 use Rattle.stack_outside.specs.declared.error.ShelfError.{ShelfError}
 use Rattle.stack_outside.specs.declared.error.ShelfError.TheVariants as outside
+use Rattle.stack_outside.specs.Faults.{counted}
 use Rattle.stack_outside.specs.Seen.{ShelfSeen, ShelfFailed}
 use Rattle.stack_outside.specs.Shelves.{ReadGives, Records}
 use Rattle.stack_lines.specs.declared.refusal.Input.{Input}
@@ -58,8 +59,9 @@ long_bytes (Some told) h = (told, refl, h)
 module _ (shelf : ShelfSeen) (name : List ℕ) (input : Input) (same : shelf.holds_after ≡ shelf.holds)
     (later : shelf.faults ≤ shelf.faults_after) where
   pub gave : (v : Vec ℕ Global) → ReadGives (shelf.holds name) greatest_file (Ok v)
-      → Records shelf.asked shelf.asked_after name (Ok v) → Does AreBytes (read input name) shelf (Ok v)
-  gave v h asked = record {
+      → Records shelf.asked shelf.asked_after name (Ok v) → shelf.faults_after ≡ shelf.faults
+      → Does AreBytes (read input name) shelf (Ok v)
+  gave v h asked counts = record {
     names = name ∷ [];
     asks = grew shelf.asked shelf.asked_after name (Ok v) tt asked;
     comes = (
@@ -68,31 +70,34 @@ module _ (shelf : ShelfSeen) (name : List ℕ) (input : Input) (same : shelf.hol
       (refl, inr (v.items, may_hold (shelf.holds name) v.items h.1, short shelf.holds input v.items h.0)),
     );
     cause = tt;
+    counts = counts;
     holds = same;
     later = later;
   }
 
   pub failed : Records shelf.asked shelf.asked_after name (Err outside.Failed) → ShelfFailed shelf
-      → Does AreBytes (read input name) shelf (Err (code.File input))
-  failed asked rose = record {
+      → shelf.faults_after ≡ counted shelf.faults → Does AreBytes (read input name) shelf (Err (code.File input))
+  failed asked rose counts = record {
     names = name ∷ [];
     asks = grew shelf.asked shelf.asked_after name (Err outside.Failed) tt asked;
     comes = (refl, inl (refl, refl));
     cause = rose;
+    counts = counts;
     holds = same;
     later = later;
   }
 
   pub was_long : ReadGives (shelf.holds name) greatest_file (Err outside.TooLong)
-      → Records shelf.asked shelf.asked_after name (Err outside.TooLong)
+      → Records shelf.asked shelf.asked_after name (Err outside.TooLong) → shelf.faults_after ≡ shelf.faults
       → Does AreBytes (read input name) shelf (Err (code.Long input))
-  was_long h asked =
+  was_long h asked counts =
       let b = long_bytes (shelf.holds name) h in
       record {
         names = name ∷ [];
         asks = grew shelf.asked shelf.asked_after name (Err outside.TooLong) tt asked;
         comes = (refl, inr (b.0, b.1, too_long shelf.holds input b.0 b.2));
         cause = tt;
+        counts = counts;
         holds = same;
         later = later;
       }
@@ -108,8 +113,8 @@ module _ (shelf : ShelfSeen) (name : List ℕ) (input : Input) (same : shelf.hol
       (name ∷ [], h, (refl, inr (s.0, s.1, wanting shelf.holds (unless_long input s.0))))
   asked_or_not (Some a) (Some b) (inr h) = ([], h.1 ∙ sym (append-nil a), refl)
 
-  pub wanted : Records shelf.asked shelf.asked_after name (Err outside.Memory)
+  pub wanted : Records shelf.asked shelf.asked_after name (Err outside.Memory) → shelf.faults_after ≡ shelf.faults
       → Does AreBytes (read input name) shelf (Err code.Memory)
-  wanted asked =
+  wanted asked counts =
       let a = asked_or_not shelf.asked shelf.asked_after asked in
-      record { names = a.0; asks = a.1; comes = a.2; cause = tt; holds = same; later = later }
+      record { names = a.0; asks = a.1; comes = a.2; cause = tt; counts = counts; holds = same; later = later }

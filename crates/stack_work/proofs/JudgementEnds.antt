@@ -1,18 +1,15 @@
--- The ends of the work on a judgement.
-use Rattle.std.proofs.Common.{◌≡◌, refl, sym, subst, ◌∙◌, ℕ, Bool, true, false, not, [], Result, Ok, Err, inl}
-use Rattle.std.proofs.Common.{if◌then◌else◌}
+-- The work on a judgement comes down to one step.
+use Rattle.std.proofs.Common.{◌≡◌, refl, sym, ap, ◌∙◌, ℕ, Bool, true, false, not, if◌then◌else◌}
 use Rattle.stack_model.specs.Structure.{Structure, HasLive, lists_live}
 use Rattle.stack_model.proofs.Items.{found_live}
 use Rattle.stack_contact.specs.Surveyed.{Surveyed}
-use Rattle.stack_certificate.specs.Certificate.{CertificateValue}
 use Rattle.stack_equilibrium.specs.declared.types.Question.{Question}
 use Rattle.stack_equilibrium.specs.declared.types.Question.TheVariants.{Dead, Live}
-use Rattle.stack_judge.specs.declared.types.JudgePlace.{JudgePlace}
-use Rattle.stack_judge.specs.Judgement.{Judgement, certified, too_wide, spent, judgement, LacksLive}
-use Rattle.stack_lines.specs.Refusals.{Refusal, faulty, over_budget, no_live}
-use Rattle.stack_work.specs.Answers.{Due, certificate}
-use Rattle.stack_work.specs.Work.{refuses, Holds, Ends}
-use Rattle.stack_work.specs.Judging.{lacks_live, wide_fault, judged_step, judged}
+use Rattle.stack_judge.specs.Judgement.{Judgement, judgement, LacksLive}
+use Rattle.stack_lines.specs.Refusals.{no_live}
+use Rattle.stack_work.specs.Answers.{Due}
+use Rattle.stack_work.specs.Work.{Work, refuses}
+use Rattle.stack_work.specs.Judging.{lacks_live, judged_step, judged}
 
 pub lists_some : (s : Structure) → lists_live s ≡ true → HasLive s
 lists_some s = (found_live s (lists_live s) refl).0
@@ -37,27 +34,16 @@ pub not_lacking : (q : Question) (v : Surveyed) → ¬ (LacksLive q v) → lacks
 not_lacking Dead v h = refl
 not_lacking Live v h = lists_one v.structure (lists_live v.structure) refl h
 
-module _ (q : Question) (v : Surveyed) (budget : ℕ) (holds : Holds) where
-  abbrev EndsAt : Bool → Judgement → Result Due Refusal → Type 0
-  EndsAt b j end = Ends holds (if b then refuses no_live else judged_step q budget v j) [] end
+module _ (q : Question) (v : Surveyed) (budget : ℕ) where
+  abbrev judged_at : Bool → Judgement → Work Due
+  judged_at b j = if b then refuses no_live else judged_step q budget v j
 
-  judged_ends : (j : Judgement) (end : Result Due Refusal) → ¬ (LacksLive q v) → judgement q v budget ≡ j
-      → Ends holds (judged_step q budget v j) [] end → Ends holds (judged q budget v) [] end
-  judged_ends j end live is h = subst (λ b. EndsAt b (judgement q v budget) end) (sym (not_lacking q v live))
-      (subst (λ k. EndsAt false k end) (sym is) h)
+  -- unless a live load is lacking, that of the judgement
+  pub judged_is : (j : Judgement) → ¬ (LacksLive q v) → judgement q v budget ≡ j
+      → judged q budget v ≡ judged_step q budget v j
+  judged_is j live is = ap (λ b. judged_at b (judgement q v budget)) (not_lacking q v live)
+      ∙ ap (judged_step q budget v) is
 
-  pub certificate_ends : (c : CertificateValue) → ¬ (LacksLive q v) → judgement q v budget ≡ certified c
-      → Ends holds (judged q budget v) [] (Ok (certificate q v c))
-  certificate_ends c live is = judged_ends (certified c) (Ok (certificate q v c)) live is (refl, refl)
-
-  pub wide_ends : (p : JudgePlace) → ¬ (LacksLive q v) → judgement q v budget ≡ too_wide p
-      → Ends holds (judged q budget v) [] (Err (faulty (wide_fault v.structure p)))
-  wide_ends p live is = judged_ends (too_wide p) (Err (faulty (wide_fault v.structure p))) live is (refl, inl refl)
-
-  pub spent_ends : ¬ (LacksLive q v) → judgement q v budget ≡ spent
-      → Ends holds (judged q budget v) [] (Err (faulty (over_budget budget)))
-  spent_ends live is = judged_ends spent (Err (faulty (over_budget budget))) live is (refl, inl refl)
-
-  pub no_live_ends : LacksLive q v → Ends holds (judged q budget v) [] (Err (faulty no_live))
-  no_live_ends none = subst (λ b. EndsAt b (judgement q v budget) (Err (faulty no_live))) (sym (lacking q v none))
-      (refl, inl refl)
+  -- where it is, that refusal
+  pub judged_lacks : LacksLive q v → judged q budget v ≡ refuses no_live
+  judged_lacks none = ap (λ b. judged_at b (judgement q v budget)) (lacking q v none)

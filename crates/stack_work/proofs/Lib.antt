@@ -1,10 +1,10 @@
 pub mod Ways
+pub mod OneStep
 pub mod Steps
 pub mod FileRead
 pub mod OneEnd
 pub mod FilesNamed
 pub mod CertificateChecked
-pub mod SampleEnds
 pub mod AcceptedFiles
 pub mod BodyNames
 pub mod JudgementEnds

@@ -1,15 +1,15 @@
 -- One function of the order of work after another.
 use Rattle.std.proofs.Common.{◌≡◌, ℕ, ◌≤◌, List, [], ◌++◌, Some, None, Result, Ok, Err, inl, inr, subst, sym, refl, ◌∙◌}
-use Rattle.std.proofs.Common.{ap, append_assoc, append-nil, arith}
+use Rattle.std.proofs.Common.{ap, append_assoc, append-nil, arith, false}
 use Rattle.std.specs.Bool.{⊤}
 use Rattle.stack_outside.specs.declared.shelf.Shelf.{Ghosts}
-use Rattle.stack_outside.specs.Faults.{Rose}
+use Rattle.stack_outside.specs.Faults.{Rose, count_after}
 use Rattle.stack_outside.specs.Seen.{ShelfSeen, ShelfFailed, seen_shelf}
 use Rattle.stack_lines.specs.declared.refusal.Refusal.{Refusal as CodeRefusal}
 use Rattle.stack_lines.specs.declared.refusal.Refusal.TheVariants as code
 use Rattle.stack_lines.specs.Refusals.{Refusal, refusal_view, file}
 use Rattle.stack_work.specs.Work.{Work, gives, refuses, reads, surveys, ◌>>=◌, Holds, Ends}
-use Rattle.stack_work.specs.Progress.{ToldNames, GrewBy, Returns, IsCausedBy, Does, DoesAlone}
+use Rattle.stack_work.specs.Progress.{ToldNames, GrewBy, Returns, IsCausedBy, Does, DoesAlone, refuses_unread}
 use Rattle.stack_work.proofs.Ways.{goes_on, stops}
 
 grew_more : (old mid new : ToldNames) (xs ys : List (List ℕ)) → GrewBy old mid xs → GrewBy mid new ys
@@ -72,6 +72,13 @@ no_file R holds w (Ok x) P h = tt
 no_file R holds w (Err (code.File input)) P h = absurd (reads_first holds w (file input) h)
 no_file R holds w (Err _) P h = tt
 
+-- What a function without a shelf returned isn't the refusal of a file that isn't read.
+never_unread : {A X : Type 0} (R : X → A → Type 0) (holds : Holds) (w : Work A) (result : Result X CodeRefusal)
+    → Returns R holds w [] result → refuses_unread result ≡ false
+never_unread R holds w (Ok x) h = refl
+never_unread R holds w (Err (code.File input)) h = absurd (reads_first holds w (file input) h)
+never_unread R holds w (Err _) h = refl
+
 -- A shelf of any type, by what its trait tells of it.
 module _ {S : Type 0} (shelf : Ghosts S) where
   -- A function went on with a value, and one for the work after it followed.
@@ -87,6 +94,7 @@ module _ {S : Type 0} (shelf : Ghosts S) where
     cause = let sooner = rose_sooner (shelf.faults old) (shelf.faults mid) (shelf.faults new) p.later in
         caused_sooner result (Rose (shelf.faults mid) (shelf.faults new))
         (Rose (shelf.faults old) (shelf.faults new)) sooner q.cause;
+    counts = q.counts ∙ ap (count_after (refuses_unread result)) p.counts;
     holds = q.holds ∙ p.holds;
     later = let a = p.later in let b = q.later in omega (arith, a, b);
   }
@@ -99,6 +107,8 @@ module _ {S : Type 0} (shelf : Ghosts S) where
     asks = none_asked (shelf.asked old);
     comes = p (shelf.holds old);
     cause = no_file R (shelf.holds old) w result (Rose (shelf.faults old) (shelf.faults old)) (p (shelf.holds old));
+    counts = ap (λ failed. count_after failed (shelf.faults old))
+        (sym (never_unread R (shelf.holds old) w result (p (shelf.holds old))));
     holds = refl;
     later = omega arith;
   }
@@ -118,6 +128,7 @@ refused {A} {B} {X} {Y} S R w f shelf r p = record {
   asks = p.asks;
   comes = stops shelf.holds w f p.names (refusal_view r) p.comes;
   cause = same_cause X Y r (ShelfFailed shelf) p.cause;
+  counts = p.counts;
   holds = p.holds;
   later = p.later;
 }

@@ -1,4 +1,4 @@
--- Which files are models that the program takes: the law on them is proved with the function of this name.
+-- Which files are models that the program takes. The law on them is `goes_on_with_accepted_models` of stack_said.
 use Rattle.std.specs.Prelude.{◌≡◌, ℕ, ◌≤◌, List, length, Ok}
 use Rattle.stack_model.specs.Structure.{Structure}
 use Rattle.stack_reader.specs.Reading.{structure_of}

@@ -1,6 +1,6 @@
 -- What is due on standard output, by its meaning, and which bytes are that answer, with which verdict. A further kind
 -- of answer is a further case of both.
-use Rattle.std.specs.Prelude.{◌≡◌, ℕ, ℤ, Bool, List, Ok}
+use Rattle.std.specs.Prelude.{◌≡◌, ℕ, ◌≤◌, ℤ, Bool, List, Ok, length}
 use Rattle.stack_model.specs.Structure.{Structure}
 use Rattle.stack_reader.specs.Reading.{structure_of}
 use Rattle.stack_contact.specs.Surveyed.{Surveyed}
@@ -18,6 +18,7 @@ use Rattle.stack_pairs.specs.Reaches.{RegionValue, collapse, points, RegionTells
 use Rattle.stack_pairs.specs.Directed.{ArePair}
 use Rattle.stack_yield.specs.JudgedReaches.{RegionIsJudged}
 use Rattle.stack_yield.specs.RegionText.{region_text}
+use Rattle.stack_work.specs.Surveying.{greatest_file}
 use Rattle.stack_lines.specs.declared.answer.Verdict.{Verdict}
 use Rattle.stack_lines.specs.declared.answer.Verdict.TheVariants.{Affirmed, Denied}
 
@@ -44,9 +45,10 @@ region_verdict (collapse y) = Denied
 region_verdict (points rs) = Affirmed
 
 -- Exactly these bytes, with this verdict; the certificate of this question of this survey; a document that describes
--- this structure; the summary of the wall with this number, by its survey, its certificate, and whether no
--- number of the table and of the run is too wide for 64 bits; the range of this survey; what comes of the stages of
--- this order of it; the region of these two loads of it, from 0 among all loads, in these directions.
+-- this structure and isn't too long to be read; the summary of the wall with this number, by its survey, its
+-- certificate, and whether no number of the table and of the run is too wide for 64 bits; the range of this survey;
+-- what comes of the stages of this order of it; the region of these two loads of it, from 0 among all loads, in these
+-- directions.
 pub data Due : Type 0 where
   exactly : Verdict → List ℕ → Due
   certificate : Question → Surveyed → CertificateValue → Due
@@ -96,7 +98,8 @@ pub record IsRegionOf (v : Surveyed) (i j : ℕ) (ds : List (ℤ × ℤ)) (r : R
 abbrev pub IsAnswer : Due → Verdict → List ℕ → Type 0
 IsAnswer (exactly v t) verdict text = (verdict ≡ v) × (text ≡ t)
 IsAnswer (certificate q v c) verdict text = IsCertificateOf q v c verdict text
-IsAnswer (document s) verdict text = (verdict ≡ Affirmed) × (structure_of text ≡ Ok s)
+IsAnswer (document s) verdict text =
+    (verdict ≡ Affirmed) × (structure_of text ≡ Ok s) × (length text ≤ greatest_file)
 IsAnswer (summary number v c narrow) verdict text = IsSummaryOf number v c narrow verdict text
 IsAnswer (ranged v r) verdict text = IsRangeOf v r verdict text
 IsAnswer (stages_due v order x) verdict text = AreStagesOf v order x verdict text

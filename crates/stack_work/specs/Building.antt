@@ -19,7 +19,7 @@ order_step (Ok order) = gives order
 order_step (Err number) = refuses (order_line number)
 
 -- That all stand and that one falls are both answers; a number that is too wide and a budget that is spent are refused.
--- The blocks of a stage are told by the stage's own numbers. Nothing else comes.
+-- The blocks of a stage are told by the stage's own numbers. The last case never comes.
 abbrev pub stages_step : (budget : ℕ) → Surveyed → List ℕ → Staged → Work Due
 stages_step budget v order (all_stand fs) = gives (stages_due v order (all_stand fs))
 stages_step budget v order (falls fs m) = gives (stages_due v order (falls fs m))

@@ -17,7 +17,7 @@ use Rattle.stack_lines.specs.CheckText.{place_of, accepted_text, rejected_text}
 use Rattle.stack_work.specs.Work.{Work, gives, refuses, ◌>>=◌}
 use Rattle.stack_work.specs.Surveying.{read, surveyed_file}
 
--- A text is a certificate, or is refused with the line at which it ends to be one.
+-- A text is a certificate, or is refused with the line at which it ceases to be one.
 abbrev pub certificate_step : Result CertificateValue ℕ → Work CertificateValue
 certificate_step (Ok certificate) = gives certificate
 certificate_step (Err number) = refuses (certificate_line number)

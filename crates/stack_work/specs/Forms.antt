@@ -16,18 +16,25 @@ use Rattle.stack_work.specs.Ranging.{range_work}
 use Rattle.stack_work.specs.Building.{stages_work}
 use Rattle.stack_work.specs.Yielding.{yield_work}
 
--- What the words ask for: `check MODEL CERT`, `table MODEL CERT`, `contacts MODEL`, or a judgement of a model, its
--- range, the stages of an order or the region of two loads, which are told by their numbers, within a budget of pivots,
--- with any words as the names of the files; `stack KIND N`, or `sample N`, which read none.
+-- What the words ask for. Names of files are any words, a budget is a number of pivots.
 pub data Form : Type 0 where
+  -- `check MODEL CERT`
   check : List ℕ → List ℕ → Form
+  -- `contacts MODEL`
   contacts : List ℕ → Form
+  -- `stand MODEL [PIVOTS]`, of the dead loads, and `load MODEL [PIVOTS]`, of the live ones
   judges : Question → List ℕ → ℕ → Form
+  -- `table MODEL CERT`
   tables : List ℕ → List ℕ → Form
+  -- `stack KIND N`
   stack : Kind → ℕ → Form
+  -- `sample N`
   sample : ℕ → Form
+  -- `range MODEL [PIVOTS]`
   ranges : List ℕ → ℕ → Form
+  -- `stages MODEL ORDER [PIVOTS]`
   builds : List ℕ → List ℕ → ℕ → Form
+  -- `yield MODEL I J DIRS [PIVOTS]`
   yields : List ℕ → (i j : ℕ) → List ℕ → ℕ → Form
 
 -- The form that the code holds, by bytes.

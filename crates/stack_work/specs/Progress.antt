@@ -1,6 +1,8 @@
 -- What one function of the order of work leaves: what it returned and the files it asked for, against its work.
-use Rattle.std.specs.Prelude.{◌≡◌, ℕ, ◌≤◌, List, [], ◌++◌, Option, Some, None, Result, Ok, Err, Vec, ⊤}
+use Rattle.std.specs.Prelude.{◌≡◌, ℕ, ◌≤◌, Bool, true, false, List, [], ◌++◌, Option, Some, None, Result, Ok, Err}
+use Rattle.std.specs.Prelude.{Vec, ⊤}
 use Rattle.std.specs.declared.alloc.Global.{Global}
+use Rattle.stack_outside.specs.Faults.{count_after}
 use Rattle.stack_outside.specs.Seen.{ShelfSeen, ShelfFailed}
 use Rattle.stack_lines.specs.declared.answer.Answer.{Answer}
 use Rattle.stack_model.specs.Structure.{Structure}
@@ -39,15 +41,31 @@ abbrev pub IsCausedBy : {X : Type 0} → Result X CodeRefusal → Type 0 → Typ
 IsCausedBy (Err (code.File input)) P = P
 IsCausedBy _ P = ⊤
 
+-- A file isn't read: that is the refusal.
+abbrev pub is_unread : CodeRefusal → Bool
+is_unread (code.File input) = true
+is_unread _ = false
+
+-- What was returned is that refusal.
+abbrev pub refuses_unread : {X : Type 0} → Result X CodeRefusal → Bool
+refuses_unread (Ok x) = false
+refuses_unread (Err r) = is_unread r
+
+-- The shelf's count of faults goes up by one exactly where what was returned is the refusal of a file that isn't read.
+-- So a read that failed is never passed over.
+abbrev pub CountsUnread : {X : Type 0} → Result X CodeRefusal → ShelfSeen → Type 0
+CountsUnread result shelf = shelf.faults_after ≡ count_after (refuses_unread result) shelf.faults
+
 -- A function that may read files does this work: it asked for these files, and what it returned is an end of the work
--- that asks for them. Where it refuses since a file isn't read, the shelf failed. It leaves what the shelf holds as it
--- was, and the shelf's count of faults didn't fall.
+-- that asks for them. Where it refuses since a file isn't read, the shelf failed, and only there. It leaves what the
+-- shelf holds as it was, and the shelf's count of faults didn't fall.
 pub record Does {A X : Type 0} (R : X → A → Type 0) (w : Work A) (shelf : ShelfSeen)
     (result : Result X CodeRefusal) : Type 0 where
   pub names : List (List ℕ)
   pub asks : AskedFor shelf names
   pub comes : Returns R shelf.holds w names result
   pub cause : IsCausedBy result (ShelfFailed shelf)
+  pub counts : CountsUnread result shelf
   pub holds : shelf.holds_after ≡ shelf.holds
   pub later : shelf.faults ≤ shelf.faults_after
 
@@ -90,5 +108,6 @@ pub record Works (form : Option Form) (shelf : ShelfSeen) (result : Result Answe
   pub asks : AskedFor shelf names
   pub comes : ReturnsAnswer shelf.holds form names result
   pub cause : IsCausedBy result (ShelfFailed shelf)
+  pub counts : CountsUnread result shelf
   pub holds : shelf.holds_after ≡ shelf.holds
   pub later : shelf.faults ≤ shelf.faults_after

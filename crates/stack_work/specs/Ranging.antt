@@ -18,7 +18,7 @@ abbrev pub within_of : Side → Within
 within_of Greatest = Whole
 within_of Least = LeastSide
 
--- A range is given out; a number that is too wide and a budget that is spent are refused. Nothing else comes.
+-- A range is given out; a number that is too wide and a budget that is spent are refused. The last case never comes.
 abbrev pub range_step : (budget : ℕ) → Surveyed → RangeJudgement → Work Due
 range_step budget v (told r) = gives (ranged v r)
 range_step budget v (wide_on side p) = refuses (wide_within (within_of side) v.structure p)

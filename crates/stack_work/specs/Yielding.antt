@@ -36,7 +36,7 @@ wide_toward number s places.Second = wide_reach (Direction number) Second
 wide_toward number s places.Point = wide_reach (Direction number) Point
 
 -- A region is given out; a number that is too wide and a budget that is spent are refused. Directions are told by their
--- numbers from 1. Nothing else comes.
+-- numbers from 1. The last case never comes.
 abbrev pub region_step : (budget : ℕ) → Surveyed → (i j : ℕ) → List (ℤ × ℤ) → Outcomes → Work Due
 region_step budget v i j ds (answered r) = gives (region_due v i j ds r)
 region_step budget v i j ds (passes_at k p) = refuses (wide_toward (k + 1) v.structure p)

@@ -7,6 +7,7 @@ ghost use Rattle.stack_work.specs.Work.{gives};
 ghost use Rattle.stack_work.specs.Stacking.{stack_of, built_step, stack_work};
 ghost use Rattle.stack_work.specs.Progress.{DoesAlone, IsModel, AnswersDue};
 
+use crate::reading::GREATEST_FILE;
 use stack_lines::{Answer, Refusal, Verdict};
 use stack_model::Model;
 use stack_overhang::{StackError, harmonic, slab, triangle};
@@ -34,13 +35,18 @@ fn build_stack(alloc: Global, kind: Kind, size: u32) -> Result<Model, Refusal>
     }
 }
 
-/// The document of a model.
+/// The document of a model. What lays it out promises no length: one that would be too long to be read isn't given, as
+/// where memory is wanting.
 fn described(alloc: Global, model: &Model) -> Result<Answer, Refusal>
     ensures { DoesAlone AnswersDue (gives (document (model_view model.now))) result }
 {
+    let text = stack_reader::write_model(alloc, model)?;
+    if text.len() > GREATEST_FILE {
+        return Err(Refusal::Memory);
+    }
     Ok(Answer {
         verdict: Verdict::Affirmed,
-        text: stack_reader::write_model(alloc, model)?,
+        text,
     })
 }
 

@@ -1,16 +1,17 @@
 //! Files and streams for tests, which tell their bytes: calls that give little, and one that fails.
 
-ghost use Rattle.std.specs.Prelude.{◌≡◌, ◌<◌, Some};
+ghost use Rattle.std.specs.Prelude.{◌≡◌, ◌<◌, Some, None};
 
 use stack_outside::{CallFailed, RawFile, RawFiles, RawStream};
 
 /// Each name holds these bytes. A read gives at most `step` of them, and the one with the number `fails`, counted from
-/// 1, fails, as one that a signal interrupts.
+/// 1, fails, as one that a signal interrupts. `taken` counts the bytes that were read.
 #[derive(Clone, Copy, Drop)]
 pub struct FakeFiles {
     pub bytes: &'static [u8],
     pub step: usize,
     pub fails: u64,
+    pub taken: usize,
     ghost gives: { 0 < step },
 }
 
@@ -29,9 +30,13 @@ impl RawFiles for FakeFiles {
 
     ghost holds = { λ s name. Some s.bytes.now };
 
+    ghost asked = { λ s. None };
+
+    ghost taken = { λ s. Some s.taken };
+
     ghost never_fails = { λ s name. s.fails ≡ 0 };
 
-    fn open(&self, _name: &str) -> Result<FakeFile, CallFailed> {
+    fn open(&mut self, _name: &str) -> Result<FakeFile, CallFailed> {
         Ok(FakeFile {
             left: self.bytes,
             step: self.step,
@@ -39,23 +44,24 @@ impl RawFiles for FakeFiles {
             fails: self.fails,
         })
     }
+
+    fn read_some(&mut self, file: &mut FakeFile, room: &mut [u8]) -> Result<usize, CallFailed> {
+        file.calls = file.calls.saturating_add(1);
+        if file.calls == file.fails {
+            return Err(CallFailed);
+        }
+        let n = file.left.len().min(room.len()).min(file.step);
+        room[..n].copy_from_slice(&file.left[..n]);
+        file.left = &file.left[n..];
+        self.taken = self.taken.saturating_add(n);
+        Ok(n)
+    }
 }
 
 impl RawFile for FakeFile {
     ghost left = { λ s. Some s.left.now };
 
     ghost never_fails = { λ s. s.fails ≡ 0 };
-
-    fn read_some(&mut self, room: &mut [u8]) -> Result<usize, CallFailed> {
-        self.calls = self.calls.saturating_add(1);
-        if self.calls == self.fails {
-            return Err(CallFailed);
-        }
-        let n = self.left.len().min(room.len()).min(self.step);
-        room[..n].copy_from_slice(&self.left[..n]);
-        self.left = &self.left[n..];
-        Ok(n)
-    }
 }
 
 /// It writes into a list of bytes. A write takes at most `step` of them, and the one with the number `fails`, counted

@@ -3,7 +3,7 @@ use Rattle.stack_outside.specs.Seen.{seen_shelf}
 use Rattle.stack_lines.specs.declared.refusal.Refusal.TheVariants.{Words}
 use Rattle.stack_work.specs.Forms.{form_view}
 use Rattle.stack_work.specs.Progress.{Works}
-use Rattle.stack_said.proofs.Outcomes.{form_works, none_works}
+use Rattle.stack_said.proofs.Returned.{form_works, none_works}
 use Rattle.stack_cli.proofs.command.answer_words.Goals as goal
 
 pub returns-in-Some : goal.returns-in-Some

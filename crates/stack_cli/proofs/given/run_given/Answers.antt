@@ -1,6 +1,6 @@
 use Rattle.std.proofs.Common.{refl}
 use Rattle.stack_said.proofs.Consequences.{words_status, memory_status}
-use Rattle.stack_said.proofs.Outcomes.{none_works, memory_works}
+use Rattle.stack_said.proofs.Returned.{none_works, memory_works}
 use Rattle.stack_said.proofs.Running.{works_run}
 use Rattle.stack_cli.proofs.given.run_given.Goals as goal
 

@@ -1,8 +1,11 @@
-use Rattle.std.proofs.Common.{Err, subst}
+use Rattle.std.proofs.Common.{◌∙◌, Err, subst, ap, inl, refl}
 use Rattle.stack_stages.specs.Staged.{staged}
+use Rattle.stack_lines.specs.declared.refusal.Refusal.TheVariants.{Spent}
 use Rattle.stack_stages.specs.Gives.{stages_view, GivesStages, RefusesFirstStage}
 use Rattle.stack_work.specs.Answers.{stages_due}
-use Rattle.stack_work.proofs.StagesEnds.{is_stage, stages_told, stage_wide, stage_spent}
+use Rattle.stack_work.specs.Building.{stages_step}
+use Rattle.stack_work.proofs.OneStep.{ends_giving, ends_refusing}
+use Rattle.stack_work.proofs.StagesEnds.{is_stage, stages_give}
 use Rattle.stack_forms.proofs.forms.building.stages_survey.Goals as goal
 
 pub wide_stage-requires : goal.wide_stage-requires
@@ -20,19 +23,21 @@ returns-in_ok-write_stages-in-Ok c holds = (
     is_verdict = c.stages_verdict.ensures;
     is_text = c.in_ok-write_stages-in-Ok.ensures;
   },
-  stages_told c.args.survey.now c.args.order.now c.args.budget holds (stages_view c.in-Ok.found)
-      c.in-Ok.ensures.certified c.in-Ok.ensures.gives,
+  ends_giving holds (ap (stages_step c.args.budget c.args.survey.now c.args.order.now) c.in-Ok.ensures.gives
+      ∙ stages_give c.args.survey.now c.args.order.now c.args.budget (stages_view c.in-Ok.found)
+      c.in-Ok.ensures.certified),
 )
 
 pub returns-in-Err-TooWide : goal.returns-in-Err-TooWide
 returns-in-Err-TooWide c holds =
     let h = subst (λ e. GivesStages (Err e) (staged c.args.survey.now c.args.order.now c.args.budget))
     c.in-Err-TooWide.field-0-is c.in-Err-TooWide.ensures.gives in
-    stage_wide c.args.survey.now c.args.order.now c.args.budget holds c.in-Err-TooWide.stage c.in-Err-TooWide.place
-    c.wide_stage.result h c.wide_stage.ensures
+    ends_refusing holds c.wide_stage.result (ap (stages_step c.args.budget c.args.survey.now c.args.order.now) h)
+    c.wide_stage.ensures
 
 pub returns-in-Err-Spent : goal.returns-in-Err-Spent
 returns-in-Err-Spent c holds =
     let h = subst (λ e. GivesStages (Err e) (staged c.args.survey.now c.args.order.now c.args.budget))
     c.in-Err-Spent.field-0-is c.in-Err-Spent.ensures.gives in
-    stage_spent c.args.survey.now c.args.order.now c.args.budget holds c.in-Err-Spent.field-0-0 h
+    ends_refusing holds (Spent c.args.budget) (ap (stages_step c.args.budget c.args.survey.now c.args.order.now) h)
+    (inl refl)

@@ -1,11 +1,11 @@
-use Rattle.std.proofs.Common.{[], Err, sym, subst}
-use Rattle.stack_judge.specs.Judgement.{Judges}
+use Rattle.std.proofs.Common.{Err, subst, ap, inl, refl}
+use Rattle.stack_judge.specs.Judgement.{Judges, certified, spent}
 use Rattle.stack_certificate.specs.Certificate.{certificate_view}
 use Rattle.stack_work.specs.Answers.{certificate}
-use Rattle.stack_work.specs.Judging.{judged}
 use Rattle.stack_lines.specs.Refusals.{faulty, over_budget}
-use Rattle.stack_work.specs.Work.{Ends}
-use Rattle.stack_work.proofs.JudgementEnds.{certificate_ends, spent_ends, no_live_ends}
+use Rattle.stack_lines.specs.declared.refusal.Refusal.TheVariants.{Spent, NoLive}
+use Rattle.stack_work.proofs.OneStep.{ends_giving, ends_refusing}
+use Rattle.stack_work.proofs.JudgementEnds.{judged_is, judged_lacks}
 use Rattle.stack_forms.proofs.forms.judging.judge_survey.Goals as goal
 
 pub returns-in_ok-write_certificate-in-Ok : goal.returns-in_ok-write_certificate-in-Ok
@@ -16,18 +16,20 @@ returns-in_ok-write_certificate-in-Ok c holds = (
     is_verdict = c.verdict_of.ensures;
     is_text = c.in_ok-write_certificate-in-Ok.ensures;
   },
-  certificate_ends c.args.question c.args.survey.now c.args.budget holds (certificate_view c.in-Ok.certificate)
-      c.in-Ok.ensures.judges.0 c.in-Ok.ensures.judges.1,
+  ends_giving holds (judged_is c.args.question c.args.survey.now c.args.budget
+      (certified (certificate_view c.in-Ok.certificate)) c.in-Ok.ensures.judges.0 c.in-Ok.ensures.judges.1),
 )
 
 pub returns-in-Err-Spent : goal.returns-in-Err-Spent
 returns-in-Err-Spent c holds =
     let h = subst (λ e. Judges (Err e) c.args.question c.args.survey.now c.args.budget) c.in-Err-Spent.field-0-is
     c.in-Err-Spent.ensures.judges in
-    subst (λ n. Ends holds (judged c.args.question c.args.budget c.args.survey.now) [] (Err (faulty (over_budget n))))
-    (sym h.2) (spent_ends c.args.question c.args.survey.now c.args.budget holds h.0 h.1)
+    ends_refusing holds (Spent c.in-Err-Spent.budget)
+    (judged_is c.args.question c.args.survey.now c.args.budget spent h.0 h.1)
+    (inl (ap (λ n. faulty (over_budget n)) h.2))
 
 pub returns-in-Err-NoLive : goal.returns-in-Err-NoLive
-returns-in-Err-NoLive c holds = no_live_ends c.args.question c.args.survey.now c.args.budget holds
+returns-in-Err-NoLive c holds = ends_refusing holds NoLive
+    (judged_lacks c.args.question c.args.survey.now c.args.budget
     (subst (λ e. Judges (Err e) c.args.question c.args.survey.now c.args.budget) c.in-Err-NoLive.field-0-is
-    c.in-Err-NoLive.ensures.judges)
+    c.in-Err-NoLive.ensures.judges)) (inl refl)

@@ -1,25 +1,32 @@
-use Rattle.std.proofs.Common.{Err, subst}
+use Rattle.std.proofs.Common.{◌∙◌, sym, ap, subst, inl, Err}
 use Rattle.stack_equilibrium.specs.declared.types.Question.TheVariants.{Live}
 use Rattle.stack_certificate.specs.Certificate.{certificate_view}
 use Rattle.stack_judge.specs.Judgement.{Judges}
+use Rattle.stack_lines.specs.declared.refusal.Refusal.TheVariants.{Spent}
+use Rattle.stack_lines.specs.Refusals.{faulty, over_budget}
+use Rattle.stack_work.specs.Answers.{summary}
 use Rattle.stack_work.specs.Judging.{default_budget}
-use Rattle.stack_work.proofs.SampleEnds.{summary_ends, too_wide_ends, spent_ends}
+use Rattle.stack_work.specs.Progress.{AnswersDue}
+use Rattle.stack_work.specs.Sampling.{sample_step}
+use Rattle.stack_work.specs.Work.{gives}
+use Rattle.stack_work.proofs.OneStep.{done_alone, ends_refusing}
 use Rattle.stack_forms.proofs.forms.sampling.sample_survey.Goals as goal
 
 pub returns-in-Ok : goal.returns-in-Ok
-returns-in-Ok c = summary_ends c.args.number c.args.survey.now
-    (certificate_view c.in-Ok.certificate) c.in-Ok.narrow
-    c.summary_answer.result c.in-Ok.ensures.judges.1 c.in-Ok.ensures.narrow c.summary_answer.ensures
+returns-in-Ok c = done_alone AnswersDue (ap (sample_step c.args.number c.args.survey.now) c.in-Ok.ensures.judges.1
+    ∙ ap (λ b. gives (summary c.args.number c.args.survey.now (certificate_view c.in-Ok.certificate) b))
+    (sym c.in-Ok.ensures.narrow)) c.summary_answer.result c.summary_answer.ensures
 
 pub returns-in-Err-TooWide : goal.returns-in-Err-TooWide
-returns-in-Err-TooWide c =
+returns-in-Err-TooWide c holds =
     let h = subst (λ e. Judges (Err e) Live c.args.survey.now default_budget) c.in-Err-TooWide.field-0-is
     c.in-Err-TooWide.ensures.judges in
-    too_wide_ends c.args.number c.args.survey.now c.in-Err-TooWide.place c.wide_refusal.result h.1
+    ends_refusing holds c.wide_refusal.result (ap (sample_step c.args.number c.args.survey.now) h.1)
     c.wide_refusal.ensures
 
 pub returns-in-Err-Spent : goal.returns-in-Err-Spent
-returns-in-Err-Spent c =
+returns-in-Err-Spent c holds =
     let h = subst (λ e. Judges (Err e) Live c.args.survey.now default_budget) c.in-Err-Spent.field-0-is
     c.in-Err-Spent.ensures.judges in
-    spent_ends c.args.number c.args.survey.now c.in-Err-Spent.budget h.1 h.2
+    ends_refusing holds (Spent c.in-Err-Spent.budget) (ap (sample_step c.args.number c.args.survey.now) h.1)
+    (inl (ap (λ n. faulty (over_budget n)) h.2))

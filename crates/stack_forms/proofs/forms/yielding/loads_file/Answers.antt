@@ -1,17 +1,28 @@
+use Rattle.std.proofs.Common.{◌≡◌, ◌∙◌, ap, sym, inl, ℕ, Result}
+use Rattle.stack_model.specs.Structure.{Structure}
+use Rattle.stack_directions.specs.Pairing.{pair_of}
+use Rattle.stack_outside.specs.Seen.{seen_shelf}
 use Rattle.stack_work.specs.Progress.{AnswersDue}
 use Rattle.stack_work.specs.Yielding.{paired_file}
+use Rattle.stack_work.proofs.OneStep.{done, ends_refusing}
 use Rattle.stack_work.proofs.Steps.{alone}
-use Rattle.stack_work.proofs.YieldEnds.{loads_judged, loads_refused}
+use Rattle.stack_work.proofs.YieldEnds.{loads_are}
 use Rattle.stack_forms.proofs.forms.yielding.loads_file.Goals as goal
 
+-- the numbers name in the survey what they name in its model
+named : {s t : Structure} (i j : ℕ) {p : Result (ℕ × ℕ) ℕ} → s ≡ t → pair_of s i j ≡ p → pair_of t i j ≡ p
+named i j same is = ap (λ u. pair_of u i j) (sym same) ∙ is
+
 pub returns-in-Ok : goal.returns-in-Ok
-returns-in-Ok g c =
-    loads_judged c.args.survey.now c.args.numbers.0 c.args.numbers.1 c.args.directions.now c.args.budget _
-    c.model.ensures c.in-Ok.loads _ c.directions_file.result c.in-Ok.ensures.gives c.directions_file.ensures
+returns-in-Ok g c = done AnswersDue (loads_are c.args.survey.now c.args.numbers.0 c.args.numbers.1
+    c.args.directions.now c.args.budget _
+    (named c.args.numbers.0 c.args.numbers.1 c.model.ensures c.in-Ok.ensures.gives)) c.directions_file.result
+    (seen_shelf g.F.Shelf c.args.shelf.now c.directions_file.new.shelf) c.directions_file.ensures
 
 pub returns-in-Err : goal.returns-in-Err
 returns-in-Err g c = alone g.F.Shelf AnswersDue
     (paired_file c.args.numbers.0 c.args.numbers.1 c.args.directions.now c.args.budget c.args.survey.now)
     c.args.shelf.now _
-    (loads_refused c.args.survey.now c.args.numbers.0 c.args.numbers.1 c.args.directions.now c.args.budget _
-    c.model.ensures c.in-Err.fault c.from.result c.in-Err.ensures.gives c.from.ensures)
+    (λ holds. ends_refusing holds c.from.result (loads_are c.args.survey.now c.args.numbers.0 c.args.numbers.1
+    c.args.directions.now c.args.budget _
+    (named c.args.numbers.0 c.args.numbers.1 c.model.ensures c.in-Err.ensures.gives)) (inl c.from.ensures))

@@ -1,11 +1,14 @@
-use Rattle.std.proofs.Common.{Err, subst, arith}
+use Rattle.std.proofs.Common.{◌≡◌, ◌⊎◌, Err, subst, ap, inl, refl, arith}
 use Rattle.stack_yield.specs.Kept.{region_view}
 use Rattle.stack_yield.specs.Regions.{Regions}
 use Rattle.stack_yield.specs.Outcomes.{outcomes}
 use Rattle.stack_work.specs.Answers.{region_due}
-use Rattle.stack_work.specs.Yielding.{region_step}
+use Rattle.stack_lines.specs.declared.refusal.Refusal.TheVariants.{Spent, Memory}
+use Rattle.stack_lines.specs.Refusals.{refusal_view, faulty}
+use Rattle.stack_work.specs.Yielding.{region_step, wide_toward}
 use Rattle.stack_work.proofs.Ways.{wanting}
-use Rattle.stack_work.proofs.YieldEnds.{is_direction, region_told, direction_wide, direction_spent}
+use Rattle.stack_work.proofs.OneStep.{ends_giving, ends_refusing}
+use Rattle.stack_work.proofs.YieldEnds.{is_direction}
 use Rattle.stack_forms.proofs.forms.yielding.region_survey.Goals as goal
 
 pub direction_number-requires : goal.direction_number-requires
@@ -26,24 +29,26 @@ returns-in-Ok-write_region c holds = (
     is_verdict = c.region_verdict-verdict.ensures;
     is_text = c.in-Ok-write_region.ensures;
   },
-  region_told c.args.survey.now c.args.loads.0 c.args.loads.1 c.args.directions.now c.args.budget holds
-      (region_view c.in-Ok.found) c.in-Ok.ensures.regions,
+  ends_giving holds (ap (region_step c.args.budget c.args.survey.now c.args.loads.0 c.args.loads.1
+      c.args.directions.now) c.in-Ok.ensures.regions),
 )
 
 pub returns-in-Err-TooWide : goal.returns-in-Err-TooWide
 returns-in-Err-TooWide c holds =
     let h = subst (λ e. Regions (Err e) c.args.survey.now c.args.loads.0 c.args.loads.1 c.args.budget
     c.args.directions.now) c.in-Err-TooWide.field-0-is c.in-Err-TooWide.ensures.regions in
-    direction_wide c.args.survey.now c.args.loads.0 c.args.loads.1 c.args.directions.now c.args.budget holds
-    c.in-Err-TooWide.direction c.direction_number.result c.in-Err-TooWide.place c.wide_direction.result
-    c.direction_number.ensures h c.wide_direction.ensures
+    ends_refusing holds c.wide_direction.result (ap (region_step c.args.budget c.args.survey.now c.args.loads.0
+    c.args.loads.1 c.args.directions.now) h)
+    (subst (λ n. (refusal_view c.wide_direction.result ≡ faulty (wide_toward n c.args.survey.now.structure
+    c.in-Err-TooWide.place)) ⊎ (c.wide_direction.result ≡ Memory)) c.direction_number.ensures
+    c.wide_direction.ensures)
 
 pub returns-in-Err-Spent : goal.returns-in-Err-Spent
 returns-in-Err-Spent c holds =
     let h = subst (λ e. Regions (Err e) c.args.survey.now c.args.loads.0 c.args.loads.1 c.args.budget
     c.args.directions.now) c.in-Err-Spent.field-0-is c.in-Err-Spent.ensures.regions in
-    direction_spent c.args.survey.now c.args.loads.0 c.args.loads.1 c.args.directions.now c.args.budget holds
-    c.in-Err-Spent.field-0-0 h
+    ends_refusing holds (Spent c.args.budget) (ap (region_step c.args.budget c.args.survey.now c.args.loads.0
+    c.args.loads.1 c.args.directions.now) h) (inl refl)
 
 pub returns-in-Err : goal.returns-in-Err
 returns-in-Err c holds = wanting holds (region_step c.args.budget c.args.survey.now c.args.loads.0

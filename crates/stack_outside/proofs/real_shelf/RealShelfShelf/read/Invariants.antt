@@ -1,14 +1,20 @@
--- What was read is a front of what the name holds, and the file has the rest.
-use Rattle.std.proofs.Common.{◌≡◌, ◌≤◌, ◌+◌, ◌-◌, vec_len}
+-- What was read is a front of what the name holds, the file has the rest, and no more bytes were read than these.
+use Rattle.std.proofs.Common.{◌≡◌, ◌≤◌, ◌+◌, ◌-◌, ℕ, List, vec_len}
 use Rattle.std.specs.Io.KnownBytes.{Consumes}
+use Rattle.stack_outside.specs.Shelves.{Asks, TakesAtMost}
 use Rattle.stack_outside.proofs.real_shelf.RealShelfShelf.read.Given as goal
 
 abbrev pub invariant-loop-block : goal.invariant-loop-block
-invariant-loop-block g l = (vec_len l.bytes ≤ l.most + 1)
-    × (l.self.faults ≡ l.initial.self.faults)
-    × (l.self.files ≡ l.initial.self.files)
-    × Consumes (g.F.RawFiles.holds l.fn.self.files l.fn.name) (g.F.File.RawFile.left l.file) l.bytes.items
-    × (g.F.RawFiles.never_fails l.fn.self.files l.fn.name → g.F.File.RawFile.never_fails l.file)
+invariant-loop-block g l =
+    let old = l.fn.self.files in
+    (vec_len l.bytes ≤ l.most + 1)
+    × (l.self.faults ≡ l.fn.self.faults)
+    × (g.F.RawFiles.holds l.self.files ≡ g.F.RawFiles.holds old)
+    × Asks (g.F.RawFiles.asked old) (g.F.RawFiles.asked l.self.files) l.fn.name
+    × TakesAtMost (vec_len l.bytes) (g.F.RawFiles.taken old) (g.F.RawFiles.taken l.self.files)
+    × ((other : List ℕ) → g.F.RawFiles.never_fails old other → g.F.RawFiles.never_fails l.self.files other)
+    × Consumes (g.F.RawFiles.holds old l.fn.name) (g.F.File.RawFile.left l.file) l.bytes.items
+    × (g.F.RawFiles.never_fails old l.fn.name → g.F.File.RawFile.never_fails l.file)
 
 abbrev pub decreases-loop-block : goal.decreases-loop-block
 decreases-loop-block g l = l.most + 1 - vec_len l.bytes

@@ -2,7 +2,8 @@ use Rattle.std.proofs.Common.{rules, ◌+◌, ◌-◌, ◌≤◌, length, take}
 use Rattle.std.specs.Io.KnownBytes.{Appends}
 use Rattle.stack_outside.proofs.Putting.{more_taken}
 use Rattle.stack_outside.proofs.real_sink.RealSinkSink.put.Goals as goal
-use Rattle.stack_outside.proofs.real_sink.RealSinkSink.put.Goals.{in_default-via-in-Ok+else-n-gt0, in_default-via-in_default}
+use Rattle.stack_outside.proofs.real_sink.RealSinkSink.put.Goals.{in_default-via-in-Ok+else-n-gt0}
+use Rattle.stack_outside.proofs.real_sink.RealSinkSink.put.Goals.{in_default-via-in_default}
 
 pub loop-done-preserved : goal.loop-done-preserved
 loop-done-preserved g c =

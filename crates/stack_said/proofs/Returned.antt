@@ -13,10 +13,8 @@ use Rattle.stack_lines.specs.declared.answer.Verdict.TheVariants.{Affirmed, Deni
 use Rattle.stack_lines.specs.declared.refusal.Refusal.{Refusal as CodeRefusal}
 use Rattle.stack_lines.specs.declared.refusal.Refusal.TheVariants as code
 use Rattle.stack_work.specs.Forms.{Form, work_of}
-use Rattle.stack_lines.specs.Refusals.{Refusal, words, file, faulty, output, refusal_view, status_of, Fault, long}
-use Rattle.stack_lines.specs.Refusals.{content, overlap, many_bearings, certificate_line, wide_check, memory, size}
-use Rattle.stack_lines.specs.Refusals.{order_line, directions_line, wide_run, wide_end, wide_reach, wide_table}
-use Rattle.stack_lines.specs.Refusals.{over_budget, no_live, no_pair}
+use Rattle.stack_lines.specs.Refusals.{Refusal, words, file, faulty, output, refusal_view, status_of, Fault}
+use Rattle.stack_lines.specs.Refusals.{memory}
 use Rattle.stack_work.specs.Answers.{Due}
 use Rattle.stack_lines.specs.Verdicts.{verdict_status}
 use Rattle.stack_work.specs.Work.{Work, gives, refuses, reads, surveys, Holds, Ends}
@@ -42,14 +40,16 @@ kept_same (Some bytes) = refl
 
 pub refusal_told : (worked : Result Answer CodeRefusal) (r q : CodeRefusal) (status : ℕ) (out err : StreamSeen)
     → worked ≡ Err r → (q ≡ r) ⊎ (TakesMemory (refusal_view r) × (q ≡ code.Memory))
-    → status ≡ status_of (refusal_view q) → TookNothing out → SaysLine (refusal_view q) err
+    → status ≡ status_of (refusal_view q) → TookNothing out → out.faults_after ≡ out.faults
+    → SaysLine (refusal_view q) err
     → Delivers worked status out err
-refusal_told worked r q status out err is which status_is keeps line =
+refusal_told worked r q status out err is which status_is keeps stays line =
     subst (λ w. Delivers w status out err) (sym is) (record {
       told = refusal_view q;
       which = told_as r q which;
       is_status = status_is;
       is_kept = keeps;
+      stays = stays;
       line = line;
     })
 
@@ -119,6 +119,7 @@ form_works form shelf result d = record {
   asks = d.asks;
   comes = returned shelf.holds form d.names result d.comes;
   cause = d.cause;
+  counts = d.counts;
   holds = d.holds;
   later = d.later;
 }
@@ -131,6 +132,7 @@ module _ {S : Type 0} (shelf : Ghosts S) (old : S) where
     asks = none_asked (shelf.asked old);
     comes = (refl, refl);
     cause = tt;
+    counts = refl;
     holds = refl;
     later = omega arith;
   }
@@ -142,6 +144,7 @@ module _ {S : Type 0} (shelf : Ghosts S) (old : S) where
     asks = none_asked (shelf.asked old);
     comes = (Err words, (refl, refl));
     cause = tt;
+    counts = refl;
     holds = refl;
     later = omega arith;
   }
