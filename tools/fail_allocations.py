@@ -9,6 +9,7 @@ be 11, with nothing on standard output and at most the line `memory` on standard
 one. The library fails one allocation only, so a program that tried again would print the usual answer.
 """
 import os
+import shutil
 import subprocess
 import sys
 import tempfile
@@ -52,15 +53,18 @@ CALLS = [
 ]
 
 
-def answer(program, words, environment):
+Answer = tuple[int, bytes, bytes]
+
+
+def answer(program: str, words: list[str], environment: dict[str, str]) -> Answer:
     run = subprocess.run([program, *words], capture_output=True, env={**os.environ, **environment})
     return run.returncode, run.stdout, run.stderr
 
 
-def tried(program, words, library, count_file):
+def tried(program: str, words: list[str], library: str, count_file: str) -> tuple[int, list[int]]:
     """How many failures were tried, and which of them gave another answer."""
     usual = answer(program, words, {})
-    wrong = []
+    wrong: list[int] = []
     number = 0
     while True:
         number += 1
@@ -74,9 +78,12 @@ def tried(program, words, library, count_file):
                 return number - 1, wrong
 
 
-def main():
+def main() -> int:
     top = os.path.dirname(os.path.dirname(os.path.abspath(__file__)))
     program = os.environ.get("PUNGIROE", os.path.join(top, "crates/stack_cli/out/stack_cli"))
+    if len(sys.argv) > 1 or shutil.which("cc") is None or not os.access(program, os.X_OK):
+        print("fail_allocations: it takes no words, and needs a C compiler and the built program", file=sys.stderr)
+        return 2
     os.chdir(os.path.join(top, "examples"))
     failed = False
     with tempfile.TemporaryDirectory() as scratch:
@@ -91,4 +98,5 @@ def main():
     return int(failed)
 
 
-sys.exit(main())
+if __name__ == "__main__":
+    sys.exit(main())

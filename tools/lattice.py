@@ -11,13 +11,18 @@ vectors of signs drawn at random: lengths and angles are measured on it, and so 
 exact. Its unknowns are worked out where they are asked for.
 """
 import random
+from collections.abc import Iterable, Mapping, Sequence
 from heapq import heappop, heappush
 from itertools import count, repeat
 from operator import mul
+from typing import TypeVar
 
 TOGETHER = 24  # so many vectors are reduced together, or a few more where the sums need them
 SHADOW = 64  # the numbers of a shadow
 SURE = 2**46  # multiples below this, found in floating point, are right to a small part of 1
+
+Sums = Mapping[int, int]  # by the rows' numbers, without zeros
+Number = TypeVar("Number", int, float)
 
 
 class NoVector(Exception):
@@ -30,14 +35,15 @@ class Vector:
 
     numbers = count()
 
-    def __init__(self, sums, shadow, made_of=(), unknown=None):
+    def __init__(self, sums: Sums, shadow: list[int], made_of: Sequence[tuple[int, "Vector"]] = (),
+                 unknown: int | None = None) -> None:
         self.sums, self.shadow, self.made_of, self.unknown = sums, shadow, made_of, unknown
         self.number = next(Vector.numbers)
 
-    def at(self, rows):
+    def at(self, rows: Iterable[int]) -> list[int]:
         return [self.sums.get(row, 0) for row in rows]
 
-    def unknowns(self, size):
+    def unknowns(self, size: int) -> list[int]:
         """The amounts of the unknowns: what it was made of is followed back, the latest first."""
         found, times, waiting = [0] * size, {self.number: 1}, [(-self.number, self)]
         while waiting:
@@ -53,19 +59,25 @@ class Vector:
         return found
 
 
-def dot(u, v):
-    return sum(map(mul, u, v))
+def dot(u: Sequence[Number], v: Sequence[Number]) -> Number:
+    total: Number = sum(map(mul, u, v))
+    return total
 
 
-def combined(terms):
+def squared(u: Sequence[int]) -> int:
+    return dot(u, u)
+
+
+def combined(terms: Iterable[tuple[int, Vector]]) -> Vector:
     """The sum of vectors, each a number of times."""
-    terms = [(times, vector) for times, vector in terms if times]
-    sums, shadow = {}, [0] * SHADOW
-    for times, vector in terms:
+    made_of = [(times, vector) for times, vector in terms if times]
+    sums: dict[int, int] = {}
+    shadow = [0] * SHADOW
+    for times, vector in made_of:
         shadow = [x + times * y for x, y in zip(shadow, vector.shadow)]
         for row, amount in vector.sums.items():
             sums[row] = sums.get(row, 0) + times * amount
-    return Vector({row: amount for row, amount in sums.items() if amount}, shadow, terms)
+    return Vector({row: amount for row, amount in sums.items() if amount}, shadow, made_of)
 
 
 # Reduction
@@ -75,7 +87,7 @@ class Reduction:
     """LLL in whole numbers on the products of a basis: algorithm 2.6.7 of Cohen, A Course in Computational Algebraic
     Number Theory. `rows` is the unimodular matrix that makes the reduced basis of the given one."""
 
-    def __init__(self, products):
+    def __init__(self, products: Sequence[Sequence[int]]) -> None:
         self.size, self.products = len(products), products
         self.rows = [[int(i == j) for j in range(self.size)] for i in range(self.size)]
         self.d = [1] + [0] * self.size  # the determinants of the leading products
@@ -83,7 +95,7 @@ class Reduction:
         self.known = -1
         self.run()
 
-    def run(self):
+    def run(self) -> None:
         k = 0
         while k < self.size:
             if k > self.known:
@@ -98,7 +110,7 @@ class Reduction:
                     self.shorten(k, other)
                 k += 1
 
-    def take(self, k):
+    def take(self, k: int) -> None:
         """The first step at a vector: its projections on those before it."""
         d, lam, mine = self.d, self.lam, self.lam[k]
         for j in range(k + 1):
@@ -109,7 +121,7 @@ class Reduction:
         d[k + 1] = mine[k]
         self.known = k
 
-    def shorten(self, k, other):
+    def shorten(self, k: int, other: int) -> None:
         """Takes a multiple of an earlier vector off, so that their projection is at most a half."""
         mine, d = self.lam[k], self.d[other + 1]
         if -d <= 2 * mine[other] < d:
@@ -119,11 +131,11 @@ class Reduction:
         mine[other] -= q * d
         mine[:other] = [x - q * y for x, y in zip(mine[:other], self.lam[other])]
 
-    def out_of_order(self, k):
+    def out_of_order(self, k: int) -> bool:
         """Lovasz's condition, with 3/4, fails."""
         return 4 * self.d[k + 1] * self.d[k - 1] < 3 * self.d[k] ** 2 - 4 * self.lam[k][k - 1] ** 2
 
-    def swap(self, k):
+    def swap(self, k: int) -> None:
         d, lam, rows = self.d, self.lam, self.rows
         rows[k], rows[k - 1] = rows[k - 1], rows[k]
         lam[k][:k - 1], lam[k - 1][:k - 1] = lam[k - 1][:k - 1], lam[k][:k - 1]
@@ -139,18 +151,21 @@ class Reduction:
 # Sums
 
 
-def grows(echelon, sums):
+def grows(echelon: list[list[int] | None], sums: list[int]) -> bool:
     """Takes sums into the lattice of those reached, and says whether it grew. The lattice is held in echelon form, as
     in Hermite's normal form: a row, or None, for each place."""
     grew = False
     for place, row in enumerate(echelon):
-        if sums[place] and row is None:
-            echelon[place] = sums
-            return True
+        if row is None:
+            if sums[place]:
+                echelon[place] = sums
+                return True
+            continue
+        before = abs(row[place])
         while sums[place]:
             q = row[place] // sums[place]
             row, sums = sums, [x - q * y for x, y in zip(row, sums)]
-        grew = grew or row is not None and abs(row[place]) != abs(echelon[place][place])
+        grew = grew or abs(row[place]) != before
         echelon[place] = row
     return grew
 
@@ -162,7 +177,7 @@ class Step:
     clear the sums of other vectors there. Babai's nearest plane then keeps these short.
     """
 
-    def __init__(self, group, vectors, reduction):
+    def __init__(self, group: Sequence[int], vectors: list[Vector], reduction: Reduction) -> None:
         self.group, self.vectors = group, vectors
         ends = [vector.at(group) for vector in vectors]
         self.plain = sum(not any(end) for end in ends)  # how many have no sums in the group
@@ -171,30 +186,31 @@ class Step:
         self.squares = [y / x for x, y in zip(reduction.d, reduction.d[1:])]
         self.shadows = [[*map(float, vector.shadow)] for vector in vectors[:self.plain]]
 
-    def multiples(self, vector):
+    def multiples(self, vector: Vector) -> list[int]:
         """How many times each pivot has a vector's sums in the group."""
         sums, pivots = vector.at(self.group), len(self.vectors) - self.plain
         if not any(sums):
             return [0] * pivots
-        times = [dot(row, sums) for row in self.inverse]
+        times = [dot(row, sums) for row in self.inverse or ()]
         if any(x % self.divisor for x in times) or any(times[pivots:]):
             raise NoVector
         return [x // self.divisor for x in times[:pivots]]
 
-    def cleared(self, vector):
+    def cleared(self, vector: Vector) -> Vector:
         """The vector without its sums in the group, and shortened: what is taken off is whole, but found in floating
         point, so where it's much it is looked for again."""
         for _ in range(20):
             taken = self.nearest(vector, self.multiples(vector))
             if any(taken):
                 vector = combined([(1, vector), *((-x, other) for x, other in zip(taken, self.vectors))])
-            if max(map(abs, taken), default=0) < SURE:
+            if max((abs(x) for x in taken), default=0) < SURE:
                 break
         return vector
 
-    def nearest(self, vector, pivots):
+    def nearest(self, vector: Vector, pivots: list[int]) -> list[int]:
         """The multiples of all vectors to take off, those of the pivots given."""
-        shadow, parts = [*map(float, vector.shadow)], []
+        shadow = [*map(float, vector.shadow)]
+        parts: list[float] = []
         for other, mu in zip(self.shadows, self.mu):
             parts.append(dot(shadow, other) - dot(mu, parts))
         parts = [x / y for x, y in zip(parts, self.squares)]
@@ -209,7 +225,7 @@ class Step:
         return taken
 
 
-def inverted(columns, size):
+def inverted(columns: Sequence[Sequence[int]], size: int) -> tuple[list[list[int]] | None, int]:
     """The inverse of some columns of a size: a matrix of whole numbers, and what to divide by. Multiplied by a sum of
     columns, it gives how many there are of each, and zeros. It is None where the columns aren't independent.
 
@@ -229,14 +245,16 @@ def inverted(columns, size):
     return [row[len(columns):] for row in table], last
 
 
-def parted(group, vectors):
+def parted(group: Sequence[int], vectors: list[Vector]) -> Step:
     """Vectors with sums in a group, reduced together, as a step.
 
     The sums count as a part of a vector's length. Where they weigh enough, the pivots come last.
     """
     products = [[dot(u.shadow, v.shadow) for v in vectors[:k + 1]] for k, u in enumerate(vectors)]
     sums = [vector.at(group) for vector in vectors]
-    for bits in count(40, 40):
+    bits = 0
+    while True:
+        bits += 40
         weighed = [[x + (dot(s, t) << bits) for x, t in zip(row, sums)] for row, s in zip(products, sums)]
         reduction = Reduction(weighed)
         made = [combined(zip(times, vectors)) for times in reduction.rows]
@@ -251,19 +269,23 @@ def parted(group, vectors):
 class Lattice:
     """The whole vectors of unknowns that have no sums. Each row is in one of the groups."""
 
-    def __init__(self, columns, groups, lengths=None):
+    def __init__(self, columns: Sequence[Sums], groups: Sequence[Sequence[int]],
+                 lengths: Iterable[int] | None = None) -> None:
         """A column is a dictionary from rows to amounts. An unknown's length is 1 where none is given."""
         draw = random.Random(0)
-        self.columns, self.groups, self.steps, self.basis = columns, groups, [], []
+        self.columns, self.groups = columns, groups
+        self.steps: list[Step] = []
+        self.basis: list[Vector] = []
         self.group_of = {row: g for g, group in enumerate(groups) for row in group}
         units = []
         for j, (column, length) in enumerate(zip(columns, lengths or repeat(1))):
             units.append(Vector(column, [length * draw.choice((-1, 1)) for _ in range(SHADOW)], unknown=j))
         self.reduce(units)
 
-    def reduce(self, fresh):
+    def reduce(self, fresh: list[Vector]) -> None:
         """Uses up the groups, the one that the fewest vectors touch first."""
-        touching, left = [{} for _ in self.groups], set(range(len(self.groups)))
+        touching: list[dict[int, Vector]] = [{} for _ in self.groups]
+        left = set(range(len(self.groups)))
         while True:
             for vector in fresh:
                 reached = self.reached(vector)
@@ -275,19 +297,21 @@ class Lattice:
                 return
             g = min(left, key=lambda g: (len(touching[g]), g))
             left.remove(g)
-            taken = sorted(touching[g].values(), key=lambda vector: dot(vector.shadow, vector.shadow))
+            taken = sorted(touching[g].values(), key=lambda vector: squared(vector.shadow))
             for vector in taken:
                 for other in self.reached(vector):
                     del touching[other][vector.number]
             fresh = self.cleared(self.groups[g], taken)
 
-    def reached(self, vector):
+    def reached(self, vector: Vector) -> set[int]:
         """The groups in which a vector has sums."""
         return {self.group_of[row] for row in vector.sums}
 
-    def cleared(self, group, taken):
+    def cleared(self, group: Sequence[int], taken: list[Vector]) -> list[Vector]:
         """The vectors that take the place of those taken, without sums in the group."""
-        first, others, reached = [], [], [None] * len(group)
+        first: list[Vector] = []
+        others: list[Vector] = []
+        reached: list[list[int] | None] = [None] * len(group)
         bits = sum(max((abs(vector.sums.get(row, 0)) for vector in taken), default=0).bit_length() for row in group)
         for vector in taken:
             grew = grows(reached, vector.at(group))
@@ -296,9 +320,9 @@ class Lattice:
         self.steps.append(step)
         return step.vectors[:step.plain] + [step.cleared(vector) for vector in others]
 
-    def near(self, whole):
+    def near(self, whole: Sequence[int]) -> list[int]:
         """A vector of the lattice near a whole one: the whole one's sums are cleared group by group."""
-        sums = {}
+        sums: dict[int, int] = {}
         for amount, column in zip(whole, self.columns):
             for row, x in column.items() if amount else ():
                 sums[row] = sums.get(row, 0) + amount * x

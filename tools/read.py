@@ -1,7 +1,7 @@
 #!/usr/bin/env python3
 """Reads a certificate by joints and blocks: thrusts, hinges, slides and turning centres.
 
-    tools/read.py MODEL CERT [PART]
+    tools/read.py MODEL CERT [PART] [kN FORCE] [m LENGTH]
 
 Nothing here is proved. CERT is a certificate that `check` accepts, or an answer of `range`. The program prints `table
 MODEL CERT`; the values that are computed from it here are rounded to six digits. A joint is what two bodies share; it
@@ -36,38 +36,54 @@ since friction demands it. All else follows. A joint stays closed if nothing mov
 if nothing moves at the bearings between them, of which there are at least two; or if all their corners move alike.
 Blocks are still if they move as one with a fixed body.
 
+With `kN FORCE` forces are in kN: FORCE is what a force of 1 of the structure is, as docs/formats.md works it out for a
+slice of some depth. With `m LENGTH` lengths are in metres. The first line says so. The model of a share, and one with
+shorter joints, says in its first line by what all its forces and lengths are multiplied: these numbers are divided by
+it. Without `kN` and `m` they aren't, and the line `multiplied` says what to divide by.
+
 If a block turns at a rate above a million, all rates are divided by the greatest one, so that the fastest block turns
 at 1 or -1. If no block turns, the same holds for the greatest velocity.
 
 The exit status is that of the program. It is 70 if a file can't be read or the program can't be run, and 2 if the words
-are no form. Python 3.11 or later. docs/reading.md explains the lines.
+make no sense. Python 3.11 or later. docs/reading.md explains the lines.
 """
 import re
-import signal
 import sys
 import tempfile
-from dataclasses import dataclass
+from collections.abc import Iterable, Sequence
+from dataclasses import dataclass, field
 from fractions import Fraction
-from itertools import chain, combinations
-from math import hypot
 from pathlib import Path
 
-from model import Refused, answer, bearings_of, read, stop, text_of, write
+from bench import Refused, Words, answer, ran, shown
+from model import Bearing, Block, Model, bearings_of, put, read, text_of, write
+from motion import Motion, Move, joints_of
+from units import Scale, Units, decimal, number, scale_of
+
+PART = "0.000001"
+Force = tuple[Fraction, Fraction]
 
 
 @dataclass
 class Table:
     """What `table` prints: bearings, lists of forces by their word, and moves by block."""
-    bearings: list
-    factor: str | None
-    forces: dict
-    moves: dict
+    bearings: list[Bearing]
+    factor: Fraction | None = None
+    forces: dict[str, list[Force]] = field(default_factory=dict)
+    moves: dict[str, Move] = field(default_factory=dict)
 
 
-def table_of(model, certificate):
-    printed = answer("table", model, certificate)
-    table, word = Table(bearings_of(printed), None, {}, {}), "joint"
-    for line in printed.splitlines():
+@dataclass(frozen=True)
+class Asked:
+    """How a certificate is to be read: which part of the greatest movement counts as none, and in which units."""
+    part: float
+    units: Units
+
+
+def table_of(model: str | Path, certificate: str | Path) -> Table:
+    said = answer("table", model, certificate)
+    table, word = Table(bearings_of(said)), "joint"
+    for line in said.splitlines():
         head, *items = line.split()
         if head == "factor":
             table.factor = Fraction(items[0])
@@ -76,217 +92,48 @@ def table_of(model, certificate):
         elif head == "force":
             table.forces.setdefault(word, []).append((Fraction(items[1]), Fraction(items[2])))
         elif head == "move":
-            table.moves[items[0]] = tuple(map(int, items[1:]))
+            u, v, turn = map(int, items[1:])
+            table.moves[items[0]] = u, v, turn
     return table
 
 
-# Numbers
-
-
-def number(value, least=1e-9):
-    """Six digits of a number; 0 where it is below the least."""
-    return f"{float(value):.6g}" if abs(float(value)) > least else "0"
-
-
-def numbers(pair):
-    return f"{number(pair[0])} {number(pair[1])}"
-
-
-def point(at):
-    """A place, to the ten-thousandth of a unit of the grid where that is more than six digits."""
-    return f"{number(at[0], 1e-4)} {number(at[1], 1e-4)}"
-
-
-def fraction(value):
+def fraction(value: Fraction | str) -> str:
     """A fraction and its decimal, or a word as it is."""
     if value == "unlimited":
-        return value
-    value = Fraction(value)
-    return f"{value.numerator}/{value.denominator} = {number(value)}"
+        return "unlimited"
+    exact = Fraction(value)
+    return f"{exact.numerator}/{exact.denominator} = {number(exact)}"
 
 
-def joints_of(bearings):
-    """The numbers of the bearings of each joint, by its two bodies."""
-    joints = {}
-    for index, bearing in enumerate(bearings):
-        joints.setdefault((bearing.first, bearing.second), []).append(index)
-    return joints
-
-
-# Forces
-
-
-def thrust(bearings, forces):
+def thrust(bearings: Sequence[Bearing], forces: Sequence[Force], units: Units) -> str:
     """What a joint bears: its normal and its tangential force, the place of both, and how far along it that is."""
     parts = [bearing.parts(*force) for bearing, force in zip(bearings, forces)]
-    presses, slides = (sum(part[axis] for part in parts) for axis in (0, 1))
+    presses, slides = (sum((part[axis] for part in parts), Fraction(0)) for axis in (0, 1))
     if presses == 0:
         return "bears nothing"
-    at = [sum(part[0] * bearing.at[axis] for part, bearing in zip(parts, bearings)) / presses for axis in (0, 1)]
+    at = [sum((part[0] * bearing.at[axis] for part, bearing in zip(parts, bearings)), Fraction(0)) / presses
+          for axis in (0, 1)]
     way = f" way {number(parts[1][0] / presses, 1e-6)}" if len(parts) == 2 else ""
-    length, force = bearings[0].length(), [sum(force[axis] for force in forces) for axis in (0, 1)]
-    return f"N {number(presses / length)} T {number(slides / length)} force {numbers(force)} at {point(at)}{way}"
+    length, unit = bearings[0].length(), float(units.force)
+    fx, fy = (number(units.force * sum(force[axis] for force in forces)) for axis in (0, 1))
+    return (f"N {number(unit * float(presses) / length)} T {number(unit * float(slides) / length)} "
+            f"force {fx} {fy} at {units.point(at)}{way}")
 
 
-# Motions
-
-
-def shortened(moves):
-    """A motion in shorter numbers, where it has long ones."""
-    unit = max((abs(move[2]) for move in moves.values()), default=0)
-    unit = unit or max((abs(part) for move in moves.values() for part in move), default=0)
-    if unit <= 10**6:
-        return moves
-    return {name: tuple(Fraction(part, unit) for part in move) for name, move in moves.items()}
-
-
-def velocity(move, corner, at):
-    """The velocity of the point of a block."""
-    (u, v, turn), lx, ly = move, at[0] - corner[0], at[1] - corner[1]
-    return u - turn * ly, v + turn * lx
-
-
-class Motion:
-    """The motion of a table. What counts as no movement is decided once, in `settled`; all else follows from `rates`.
-    Only if bodies share fewer than two bearings, their corners decide whether they move as one.
-
-    `rates` has the opening and the slide of each bearing, times the tangent's length. `group` has a number for each
-    body: the bodies that move as one have the place of the first of them in the file, and those that are still have 0.
-    """
-
-    def __init__(self, table, blocks, part):
-        self.bearings, self.moves = table.bearings, shortened(table.moves)
-        self.corners = {block.name: block.corners for block in blocks}
-        self.names = [None, *self.corners]
-        rates = [self.rates_of(bearing) for bearing in self.bearings]
-        sizes = [abs(rate) / bearing.length() for bearing, pair in zip(self.bearings, rates) for rate in pair]
-        self.least = part * max(sizes, default=0)
-        self.rates = [self.settled(bearing, *pair) for bearing, pair in zip(self.bearings, rates)]
-        self.group = self.grouped()
-
-    def at(self, name, place):
-        """The velocity of a place as a point of a body. Fixed bodies are still."""
-        return velocity(self.moves[name], self.corners[name][0], place) if name in self.moves else (0, 0)
-
-    def rates_of(self, bearing):
-        """The opening and the slide of a bearing, times the tangent's length."""
-        # The later body's velocity less the earlier's.
-        pair = [self.at(name, bearing.at) for name in (bearing.first, bearing.second)]
-        return bearing.parts(pair[1][0] - pair[0][0], pair[1][1] - pair[0][1])
-
-    def settled(self, bearing, opening, slide):
-        """These rates, 0 where they count as none. Beside a slide with friction no opening does."""
-        least = self.least * bearing.length()
-        slide = slide if abs(slide) > least else 0
-        return opening if abs(opening) > least or slide and bearing.p else 0, slide
-
-    def small(self, x, y):
-        """Whether a velocity counts as none."""
-        return hypot(x, y) <= self.least
-
-    # Bodies that move as one
-
-    def grouped(self):
-        """The group of each body. Fixed bodies and those without any motion begin in the group 0."""
-        group = {name: number if any(self.moves.get(name, ())) else 0 for number, name in enumerate(self.corners, 1)}
-        while pair := self.as_one(group):
-            group = {name: pair[0] if number == pair[1] else number for name, number in group.items()}
-        return group
-
-    def as_one(self, group):
-        """Two groups that move as one, the lesser first; None if there are no more."""
-        members, between = {0: []}, {}
-        for name, number in group.items():
-            members.setdefault(number, []).append(name)
-        for bearing, pair in zip(self.bearings, self.rates):
-            numbers = group[bearing.first], group[bearing.second]
-            if numbers[0] != numbers[1]:
-                between.setdefault((min(numbers), max(numbers)), []).append((bearing.at, any(pair)))
-
-        def move_as_one(one, other):
-            ends = between.get((one, other), ())
-            if any(moves for _, moves in ends):
-                return False
-            return len({at for at, _ in ends}) > 1 or self.alike(one, other, members)
-
-        pairs = chain(between, combinations(sorted(members), 2))
-        return next((pair for pair in pairs if move_as_one(*pair)), None)
-
-    def alike(self, one, other, members):
-        """Whether two groups have the same velocities at all corners of either that aren't still."""
-        names = [name for number in (one, other) if number for name in members[number]]
-        pairs = ([self.at(self.names[number], at) for number in (one, other)]
-                 for name in names for at in self.corners[name])
-        return all(self.small(first[0] - second[0], first[1] - second[1]) for first, second in pairs)
-
-    # Lines
-
-    def joint(self, first, second, indices):
-        """What a joint does: its openings and slides, and a word; None where it stays closed."""
-        bearings, rates = ([items[k] for k in indices] for items in (self.bearings, self.rates))
-        # A joint with one bearing may turn about it.
-        if not any(map(any, rates)) and (len(rates) > 1 or self.group[first] == self.group[second]):
-            return None
-        length = bearings[0].length()
-        openings, slides = (" ".join(number(rate[axis] / length) for rate in rates) for axis in (0, 1))
-        return f"opening {openings} slide {slides} {self.word(bearings, rates)}"
-
-    def word(self, bearings, rates):
-        for bearing, pair in zip(bearings, rates):
-            if not any(pair):
-                return f"hinge {point(bearing.at)}"
-        for bearing, (opening, slide) in zip(bearings, rates):
-            lift = Fraction(bearing.p, bearing.q) * abs(slide)
-            if slide and abs(opening - lift) <= self.least * bearing.length():
-                return "slides"
-        return "opens"
-
-    def groups(self):
-        """The blocks that move, those that move as one together, and the blocks that are still."""
-        groups = {0: []}
-        for name in self.moves:
-            groups.setdefault(self.group[name], []).append(name)
-        still = groups.pop(0)
-        return groups.values(), still
-
-    def turning(self, names):
-        """How a group of blocks moves."""
-        (u, v, turn), corner = self.moves[names[0]], self.corners[names[0]][0]
-        alone = len(names) == 1
-        head = f"block {names[0]}" if alone else f"together {' '.join(names)}"
-        ways = [(at[0] - corner[0], at[1] - corner[1]) for name in names for at in self.corners[name]]
-        if not turn or (u or v) and all(self.small(turn * x, turn * y) for x, y in ways):
-            return f"{head} {'moves' if alone else 'move'} {numbers((u, v))}"
-        centre = corner[0] - Fraction(v) / turn, corner[1] + Fraction(u) / turn
-        return f"{head} {'turns' if alone else 'turn'} about {point(centre)} at {number(turn)}"
-
-
-def lines_of(table, blocks, part, sign=1):
+def lines_of(table: Table, blocks: Sequence[Block], asked: Asked, sign: int = 1) -> Iterable[str]:
     """The lines of a certificate. In the reversed model the sign of the factor is -1."""
     joints = joints_of(table.bearings)
     if table.factor is not None:
         yield f"factor {fraction(sign * table.factor)}"
     for word, forces in table.forces.items():
         for (first, second), indices in joints.items():
-            bears = thrust([table.bearings[k] for k in indices], [forces[k] for k in indices])
+            bears = thrust([table.bearings[k] for k in indices], [forces[k] for k in indices], asked.units)
             yield f"{word} {first} {second} {bears}"
-    if not table.moves:
-        return
-    motion, closed = Motion(table, blocks, part), []
-    for (first, second), indices in joints.items():
-        if does := motion.joint(first, second, indices):
-            yield f"joint {first} {second} {does}"
-        else:
-            closed.append(f"{first}/{second}")
-    if closed:
-        yield f"closed {' '.join(closed)}"
-    moving, still = motion.groups()
-    yield from map(motion.turning, moving)
-    if still:
-        yield f"still {' '.join(still)}"
+    if table.moves:
+        yield from Motion(table.bearings, table.moves, blocks, asked.part, asked.units).lines()
 
 
-def range_of(name):
+def range_of(name: str) -> str | None:
     """The text of an answer of `range`, or None."""
     try:
         text = text_of(name)
@@ -295,39 +142,68 @@ def range_of(name):
     return text if re.match(r"range \S+ \S+\n", text) else None
 
 
-def lines_of_range(name, said, part):
+def end_of(value: str, name: str) -> str:
+    """An end of a range, a fraction or `unlimited`."""
+    if value != "unlimited" and not re.fullmatch(r"-?[0-9]+/[1-9][0-9]*", value, re.ASCII):
+        raise Refused(f"{name}: an end of a range can't be {shown(value)}")
+    return fraction(value)
+
+
+def lines_of_range(name: str, model: Model, certificate: str, said: str, asked: Asked) -> Iterable[str]:
     """The lines of an answer of `range`."""
-    model = read(name)
     head, _, ends = said.partition("\n")
     least, greatest = head.split()[1:]
-    yield f"range {fraction(least)} to {fraction(greatest)}"
+    yield f"range {end_of(least, certificate)} to {end_of(greatest, certificate)}"
     for word, text, of, sign in zip(("greatest", "least"), ends.split("reversed\n"), (model, model.turned()), (1, -1)):
         with tempfile.TemporaryDirectory() as folder:
-            certificate, turned = Path(folder, "certificate"), Path(folder, "model.toml")
-            certificate.write_text(text, newline="\n")
+            end, turned = Path(folder, "certificate"), Path(folder, "model.toml")
+            put(end, text)
             write(turned, of)
-            table = table_of(name if sign == 1 else turned, certificate)
+            table = table_of(name if sign == 1 else turned, end)
         yield word
-        yield from lines_of(table, model.blocks, part, sign)
+        yield from lines_of(table, model.blocks, asked, sign)
 
 
-def main(words):
-    signal.signal(signal.SIGPIPE, signal.SIG_DFL)
-    try:
-        name, certificate, part = words if len(words) == 3 else [*words, "0.000001"]
-        part = float(part)
-    except ValueError:
-        stop(__doc__.rstrip(), 2)
-    try:
-        if said := range_of(certificate):
-            lines = lines_of_range(name, said, part)
-        else:
-            lines = lines_of(table_of(name, certificate), read(name).blocks, part)
-        for line in lines:
-            print(line)
-    except Refused as fault:
-        stop(f"read: {fault}")
+# The words
+
+
+def units_of(words: list[str], scale: Scale) -> tuple[Units, list[str]]:
+    """The units that these words ask for, and the lines that say so."""
+    given: dict[str, Fraction] = {}
+    for word, value in zip(words[::2], [*words[1::2], ""]):
+        if word not in ("kN", "m") or word in given:
+            raise Words(f"after MODEL CERT [PART] come `kN FORCE` and `m LENGTH`, and not {shown(word)}")
+        given[word] = decimal(value, f"the value after {word}", Fraction(1, 10**12), 10**12)
+    force, length = given.get("kN", Fraction(0)) / scale.forces, given.get("m", Fraction(0)) / scale.lengths
+    lines = [f"{called} in {unit}" for unit, called in (("kN", "forces"), ("m", "lengths")) if unit in given]
+    if "kN" not in given and scale.forces != 1:
+        lines.append(f"multiplied forces {scale.forces}")
+    if "m" not in given and scale.lengths != 1:
+        lines.append(f"multiplied lengths {scale.lengths}")
+    return Units(force or Fraction(1), length or Fraction(1)), lines
+
+
+def main(words: list[str]) -> int:
+    if len(words) < 2:
+        raise Words("the words are MODEL CERT [PART] [kN FORCE] [m LENGTH]")
+    name, certificate, *rest = words
+    given = rest[:1] if rest and rest[0] not in ("kN", "m") else []
+    part = decimal((given or [PART])[0], "PART", 0)
+    if part >= 1:
+        raise Words(f"PART must be less than 1, and is {shown(given[0])}")
+    text = text_of(name)
+    units, lines = units_of(rest[len(given):], scale_of(text))
+    asked = Asked(float(part), units)
+    if said := range_of(certificate):
+        found = lines_of_range(name, read(name), certificate, said, asked)
+    else:
+        found = lines_of(table_of(name, certificate), read(name).blocks, asked)
+    for line in lines:
+        print(line)
+    for line in found:
+        print(line)
+    return 0
 
 
 if __name__ == "__main__":
-    main(sys.argv[1:])
+    sys.exit(ran(main, "read", __doc__, sys.argv[1:]))

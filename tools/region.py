@@ -1,10 +1,12 @@
 #!/usr/bin/env python3
 """Reads the safe region of two live loads: its points, its bounds, and where to ask next.
 
-    tools/region.py MODEL I J DIRS [csv]
+    tools/region.py MODEL I J DIRS [kN FORCE] [csv]
 
-Nothing here is proved, but the lines `point`, `unlimited` and `half` say what `yield MODEL I J DIRS` answers. The
-factors of the loads I and J are a and b. The script prints these lines, fractions first and then decimals:
+Nothing here is proved, but each point and each half-plane is that of an answer of the program, or has a certificate
+that `check` accepts. The factors of I and J are a and b. I and J are the numbers of live loads, such as 3; or groups of
+them, such as 3,5; or `sway`, also in a group. The other live loads don't act. DIRS is a file of lines `dir M N`. The
+script prints these lines, fractions first and then decimals:
 
     point M N at A B = A B
     unlimited M N
@@ -16,112 +18,84 @@ factors of the loads I and J are a and b. The script prints these lines, fractio
     settled
 
 A `point` is the furthest that the structure carries in the direction (M, N). In an `unlimited` direction there is no
-limit. If the numbers of a direction are too wide for the program, it is `refused`, and the others are asked without it.
-A `half` says that P*a + Q*b is at most R for all that the structure carries. Its numbers are in lowest terms; in
-decimals the greater of P and Q is 1 or -1. Together the half-planes bound a polygon. Its corners are listed
-counter-clockwise, and then the directions in which its sides go on without end, if it has such sides. WORD is `safe` if
-the corner lies in what the points, the unlimited directions and no load at all span, or if the direction is unlimited.
-It is `near` if the structure carries 999/1000 of the corner, or of the side as far as a thousand times the size of the
-greatest corner, and `open` otherwise.
+limit. The program's `yield` answers for two loads; for groups and the sway each direction is a model of its own, which
+`load` judges. If the numbers of a direction are too wide for the program, or above 1,000, tools/solve.py is asked.
+Where it finds two shares, the one that is carried is the point, and the motion of the other one gives the half-plane. A
+direction that this doesn't settle either is `refused`. A `half` says that P*a + Q*b is at most R for all that the
+structure carries. Its numbers are in lowest terms; in decimals the greater of P and Q is 1 or -1. Together the
+half-planes bound a polygon. Its corners are listed counter-clockwise, and then the directions in which its sides go on
+without end, if it has such sides. WORD is `safe` if the corner lies in what the points, the unlimited directions and no
+load at all span, or if the direction is unlimited. It is `near` if the structure carries 999/1000 of the corner, or of
+the side as far as a thousand times the size of the greatest corner, and `open` otherwise.
 
-The lines `dir` are the directions to ask next: towards the corners that aren't safe, and along the sides that go on.
-They have the form of DIRS, so this loop adds them until there are none:
+The lines `dir` are the directions to ask next: towards the corners that aren't safe, and along the sides that go on. So
+this loop adds them until there are none:
 
     while tools/region.py MODEL I J DIRS | grep '^dir ' >>DIRS; do :; done
 
 The last line is `settled` if all is safe: then the polygon is the region. It is `settled to a thousandth` if all is
-safe or near, and no direction meets what is near exactly: a direction has whole numbers of at most 1,000. It is
-`unsettled` if something is open and no new direction comes nearer, or DIRS has its 64 lines.
+safe or near, and no direction meets what is near exactly: a direction towards it has whole numbers of at most 1,000. It
+is `unsettled` if something is open and no new direction of whole numbers up to 1,000,000,000 comes nearer, or DIRS has
+1,000 lines.
 
-With `csv` the same lines have decimals alone, and commas between their words.
+With `kN FORCE` the decimals are in kN, where a force of 1 is FORCE kN: a and b times the size of what I and J come to.
+The factor of a sway stays a share of the weight. With `csv` the lines have decimals alone, and commas between words.
 
 The exit status is that of the program; it is 70 if a file can't be read or the program can't be run, and 2 if the words
 are no form. Python 3.11 or later.
 """
-import signal
 import sys
-import tempfile
-from dataclasses import dataclass, field
+from collections.abc import Iterator, Sequence
+from dataclasses import dataclass
+from enum import Enum
 from fractions import Fraction
-from math import atan2, gcd
-from pathlib import Path
+from math import atan2
 
-from model import Refused, program, stop, text_of
+import bench
+import pairs
+from bench import Progress, Words
+from model import text_of
+from pairs import Direction, Half, Region, lowest, region_of
+from programs import Exact
+from units import decimal, scale_of
 
-MOST, LINES = 1000, 64  # the greatest number of a direction, and the most lines of a file of directions
+MOSTS = 10**3, 10**6, 10**9  # the greatest number of a direction: at first, and where that comes no nearer
+LINES = 1000  # the most lines of a file of directions
 NEAR, FAR = Fraction(999, 1000), 1000
+LEAST = Fraction(1, 10**20)  # what a force of 1 is at least, in kN
+
+Vector = tuple[Exact, Exact]
 
 
-@dataclass
-class Region:
-    """What `yield` says. Directions and half-planes are whole numbers in lowest terms, and points are fractions."""
-    points: dict = field(default_factory=dict)
-    unlimited: list = field(default_factory=list)
-    refused: dict = field(default_factory=dict)
-    halves: list = field(default_factory=list)
-
-    def asked(self):
-        return {*map(lowest, (*self.points, *self.unlimited, *self.refused))}
-
-
-def lowest(numbers):
-    """Whole numbers in lowest terms."""
-    common = gcd(*numbers) or 1
-    return tuple(number // common for number in numbers)
-
-
-def whole(point):
+def whole(point: Vector) -> Direction:
     """The direction of a point, in lowest terms."""
     (x, y) = point
     return lowest((x.numerator * y.denominator, y.numerator * x.denominator))
 
 
-def dot(one, other):
+def dot(one: Sequence[Exact], other: Vector) -> Exact:
     return one[0] * other[0] + one[1] * other[1]
 
 
-def cross(one, other):
+def cross(one: Sequence[Exact], other: Sequence[Exact]) -> Exact:
     return one[0] * other[1] - one[1] * other[0]
-
-
-# The answer of the program
-
-
-def region_of(model, i, j, name):
-    """The region in the directions of a file, without those that are too wide."""
-    region, lines = Region(), text_of(name).splitlines(keepends=True)
-    done = program("yield", model, i, j, name)
-    while done.status == 7 and done.error.startswith("wide dir "):
-        number, reason = int(done.error.split()[2]), " ".join(done.error.split()[3:])
-        direction = tuple(map(int, lines.pop(number - 1).split()[1:]))
-        region.refused[direction] = f"wide {reason}"
-        if not lines:
-            return region
-        with tempfile.TemporaryDirectory() as folder:
-            rest = Path(folder, "directions")
-            rest.write_text("".join(lines), newline="\n")
-            done = program("yield", model, i, j, rest)
-    if done.status != 0:
-        sys.stdout.write(done.output)
-        stop(done.error, done.status)
-    for line in done.output.splitlines():
-        head, *items = line.split()
-        if head == "dir" and items[2] == "unlimited":
-            region.unlimited.append(tuple(map(int, items[:2])))
-        elif head == "dir":
-            region.points[tuple(map(int, items[:2]))] = Fraction(items[3]), Fraction(items[4])
-        elif head == "half" and (half := lowest(tuple(map(int, items)))) not in region.halves:
-            region.halves.append(half)
-    return region
 
 
 # What is safe
 
 
-def hull(points):
+class Word(Enum):
+    """What is known of a corner, or of sides that go on."""
+    SAFE = "safe"
+    NEAR = "near"
+    OPEN = "open"
+
+
+
+def hull(points: Sequence[Vector]) -> list[Vector]:
     """The corners of the convex hull of points, counter-clockwise."""
-    def chain(ordered):
-        kept = []
+    def chain(ordered: Sequence[Vector]) -> list[Vector]:
+        kept: list[Vector] = []
         for x, y in ordered:
             while len(kept) > 1 and cross((kept[-1][0] - kept[-2][0], kept[-1][1] - kept[-2][1]),
                                           (x - kept[-2][0], y - kept[-2][1])) <= 0:
@@ -138,31 +112,33 @@ class Safe:
     Each of its sides is along a side of the hull of the points, or along an unlimited direction.
     """
 
-    def __init__(self, region):
+    def __init__(self, region: Region) -> None:
         self.unlimited = region.unlimited
         corners = hull([(Fraction(0), Fraction(0)), *region.points.values()])
+        along: list[Vector]
         along = [(x - before[0], y - before[1]) for (x, y), before in zip(corners, corners[-1:] + corners)]
         along += [*self.unlimited, (1, 0), (0, 1)]
         normals = [sign for x, y in along for sign in ((x, y), (-x, -y), (-y, x), (y, -x))]
         self.bounds = [(normal, max(dot(normal, corner) for corner in corners)) for normal in normals
                        if all(dot(normal, direction) <= 0 for direction in self.unlimited)]
 
-    def holds(self, at, part=1):
+    def holds(self, at: Vector, part: Exact = 1) -> bool:
         return all(part * dot(normal, at) <= most for normal, most in self.bounds)
 
-    def of_corner(self, at):
-        return "safe" if self.holds(at) else "near" if self.holds(at, NEAR) else "open"
+    def of_corner(self, at: Vector) -> Word:
+        return Word.SAFE if self.holds(at) else Word.NEAR if self.holds(at, NEAR) else Word.OPEN
 
-    def of_side(self, ray, corners):
+    def of_side(self, ray: Direction, corners: Sequence[Vector]) -> Word:
         """Whether the sides that go on in a direction are safe, or near as far out as corners may be looked at."""
         if in_cone(ray, self.unlimited):
-            return "safe"
-        far = FAR * (max(abs(part) for at in corners for part in at) or 1) / Fraction(max(map(abs, ray)))
+            return Word.SAFE
+        size = max(abs(Fraction(part)) for at in corners for part in at) or 1
+        far = FAR * size / Fraction(max(abs(ray[0]), abs(ray[1])))
         ends = [(x + far * ray[0], y + far * ray[1]) for x, y in corners]
-        return "near" if all(self.holds(at, NEAR) for at in ends) else "open"
+        return Word.NEAR if all(self.holds(at, NEAR) for at in ends) else Word.OPEN
 
 
-def in_cone(direction, rays):
+def in_cone(direction: Direction, rays: Sequence[Direction]) -> bool:
     """Whether a direction is a sum of multiples, from 0 up, of two rays."""
     for one in rays:
         if cross(one, direction) == 0 and dot(one, direction) > 0:
@@ -177,9 +153,9 @@ def in_cone(direction, rays):
 # What the half-planes bound
 
 
-def corners_of(halves):
+def corners_of(halves: Sequence[Half]) -> list[Vector]:
     """The corners of the polygon that half-planes bound, counter-clockwise."""
-    found = set()
+    found: set[Vector] = set()
     for k, (p, q, r) in enumerate(halves):
         for s, t, u in halves[:k]:
             if w := p * t - q * s:
@@ -188,17 +164,17 @@ def corners_of(halves):
                     found.add((x, y))
     if not found:
         return []
-    middle = [sum(map(float, axis)) / len(found) for axis in zip(*found)]
+    middle = [sum(float(at[axis]) for at in found) / len(found) for axis in (0, 1)]
     return sorted(found, key=lambda at: atan2(at[1] - middle[1], at[0] - middle[0]))
 
 
-def feet_of(halves):
+def feet_of(halves: Sequence[Half]) -> list[Vector]:
     """The point of each side that is nearest to no load at all, where that belongs to the polygon."""
-    found = [(Fraction(p * r, p * p + q * q), Fraction(q * r, p * p + q * q)) for p, q, r in halves]
+    found: list[Vector] = [(Fraction(p * r, p * p + q * q), Fraction(q * r, p * p + q * q)) for p, q, r in halves]
     return [at for at in found if all(dot(half, at) <= half[2] for half in halves)]
 
 
-def endless(halves):
+def endless(halves: Sequence[Half]) -> list[Direction]:
     """Directions that span those in which the half-planes bound nothing."""
     candidates = [(sign * -q, sign * p) for p, q, _ in halves for sign in (1, -1)]
     if all(cross(half, halves[0]) == 0 for half in halves):
@@ -209,85 +185,124 @@ def endless(halves):
     return list(dict.fromkeys(kept))
 
 
-def askable(direction):
-    """The nearest direction in whole numbers of at most 1,000."""
+def askable(direction: Direction, most: int = MOSTS[0]) -> Direction:
+    """The nearest direction in whole numbers up to a greatest one."""
     m, n = direction
     if abs(m) > abs(n):
-        return askable((n, m))[::-1]
-    ratio = Fraction(m, abs(n)).limit_denominator(MOST)
+        n, m = askable((n, m), most)
+        return m, n
+    ratio = Fraction(m, abs(n)).limit_denominator(most)
     return ratio.numerator, ratio.denominator if n > 0 else -ratio.denominator
 
 
-def next_directions(region, found):
-    """The directions to ask next, from directions and their words: open ones, and near ones that can be met exactly."""
-    asked = region.asked()
-    wanted = [askable(direction) for direction, word in found
-              if word == "open" or word == "near" and askable(direction) == direction]
-    return [one for one in dict.fromkeys(wanted) if one not in asked][:max(0, LINES - len(asked))]
+def next_directions(region: Region, found: Sequence[tuple[Direction, Word]]) -> list[Direction]:
+    """The directions to ask next, from directions and their words: open ones, as near as a direction that wasn't asked
+    yet comes to them, and near ones that can be met exactly."""
+    asked, wanted = region.asked(), []
+    for direction, word in found:
+        tried = [] if word is Word.SAFE else [askable(direction, most) for most in MOSTS]
+        fresh = [one for one in tried if one not in asked]
+        if fresh and (word is Word.OPEN or tried[0] == direction == fresh[0]):
+            wanted.append(fresh[0])
+    return list(dict.fromkeys(wanted))[:max(0, LINES - len(asked))]
 
 
 # Lines
 
 
-def number(value):
-    return f"{float(value):.6g}"
+@dataclass(frozen=True)
+class Line:
+    """A line: its first words, fractions, decimals, and its last words."""
+    first: tuple[object, ...]
+    exact: Sequence[Exact] = ()
+    decimals: Sequence[float] = ()
+    last: tuple[str, ...] = ()
+
+    def laid_out(self) -> str:
+        first = (*self.first, "at") if self.first[0] == "point" else self.first
+        fractions = [fraction(value) if isinstance(value, Fraction) else value for value in self.exact]
+        equals = ("=", *map(number, self.decimals)) if self.exact else ()
+        return " ".join(map(str, (*first, *fractions, *equals, *self.last)))
+
+    def listed(self) -> str:
+        return ",".join(map(str, (*self.first, *map(number, self.decimals), *self.last)))
 
 
-def fraction(value):
+@dataclass(frozen=True)
+class Sizes:
+    """What the factors a and b are multiplied by in decimals."""
+    a: float = 1.0
+    b: float = 1.0
+
+    def of(self, at: Vector) -> list[float]:
+        return [float(at[0]) * self.a, float(at[1]) * self.b]
+
+    def half(self, half: Half) -> list[float]:
+        p, q = half[0] / self.a, half[1] / self.b
+        size = max(abs(p), abs(q)) or 1
+        return [p / size, q / size, half[2] / size]
+
+
+def number(value: float) -> str:
+    return f"{value:.6g}"
+
+
+def fraction(value: Fraction) -> str:
     return f"{value.numerator}/{value.denominator}"
 
 
-def lines_of(region):
-    """Each line: its first words, fractions, decimals, and its last words."""
+def lines_of(region: Region, sizes: Sizes = Sizes()) -> Iterator[Line]:
     for direction, at in region.points.items():
-        yield ("point", *direction), at, at, ()
+        yield Line(("point", *direction), at, sizes.of(at))
     for direction in region.unlimited:
-        yield ("unlimited", *direction), (), (), ()
+        yield Line(("unlimited", *direction))
     for direction, reason in region.refused.items():
-        yield ("refused", *direction), (), (), (reason,)
+        yield Line(("refused", *direction), last=(reason,))
     for half in region.halves:
-        size = max(abs(half[0]), abs(half[1])) or 1
-        yield ("half",), half, [Fraction(part, size) for part in half], ()
+        yield Line(("half",), half, sizes.half(half))
     safe, corners = Safe(region), corners_of(region.halves)
     ends = [(at, safe.of_corner(at)) for at in corners]
     starts = corners or feet_of(region.halves) or [(0, 0)]
     sides = [(ray, safe.of_side(ray, starts)) for ray in endless(region.halves)]
-    for at, word in ends:
-        yield ("corner",), at, at, (word,)
+    for corner, word in ends:
+        yield Line(("corner",), corner, sizes.of(corner), (word.value,))
     for ray, word in sides:
-        size = max(map(abs, ray))
-        yield ("endless",), ray, [Fraction(part, size) for part in ray], (word,)
-    directions = next_directions(region, [(whole(at), word) for at, word in ends] + sides)
+        decimals = sizes.of(ray)
+        size = max(abs(decimals[0]), abs(decimals[1]))
+        yield Line(("endless",), ray, [part / size for part in decimals], (word.value,))
+    directions = next_directions(region, [*((whole(at), word) for at, word in ends), *sides])
     for direction in directions:
-        yield ("dir", *direction), (), (), ()
-    words = {word for _, word in ends + sides}
+        yield Line(("dir", *direction))
     if not directions:
-        said = "unsettled" if "open" in words else "settled to a thousandth" if "near" in words else "settled"
-        yield (said,), (), (), ()
+        words = {word for _, word in (*ends, *sides)}
+        yield Line(("unsettled" if Word.OPEN in words else
+                    "settled to a thousandth" if Word.NEAR in words else "settled",))
 
 
-def laid_out(first, exact, decimals, last):
-    if first[0] == "point":
-        first = (*first, "at")
-    fractions = [fraction(value) if isinstance(value, Fraction) else value for value in exact]
-    equals = ("=", *map(number, decimals)) if exact else ()
-    return " ".join(map(str, (*first, *fractions, *equals, *last)))
+def sizes_of(words: list[str], force: Fraction) -> Sizes:
+    """What the factors are multiplied by, where a force of 1 of the structure has this size."""
+    pair = pairs.pair_of(*words[:3])
+    unit = float(force / scale_of(text_of(words[0])).forces)
+    a, b = (1.0 if group.sways else group.size(pair.model) * unit for group in (pair.one, pair.other))
+    return Sizes(a, b)
 
 
-def main(words):
-    signal.signal(signal.SIGPIPE, signal.SIG_DFL)
-    if len(words) not in (4, 5) or words[4:] not in ([], ["csv"]):
-        stop(__doc__.rstrip(), 2)
-    try:
-        region = region_of(*words[:4])
-    except Refused as fault:
-        stop(f"region: {fault}")
-    for first, exact, decimals, last in lines_of(region):
-        if len(words) == 5:
-            print(",".join(map(str, (*first, *map(number, decimals), *last))))
-        else:
-            print(laid_out(first, exact, decimals, last))
+def asked(words: list[str]) -> int:
+    options, force = words[4:], None
+    if len(words) > 5 and words[4] == "kN":
+        options, force = words[6:], decimal(words[5], "FORCE", LEAST)
+    if len(words) < 4 or options not in ([], ["csv"]):
+        raise Words("the form is MODEL I J DIRS [kN FORCE] [csv]")
+    with Progress("region") as progress:
+        region = region_of(words[0], words[1], words[2], words[3], progress)
+    for line in lines_of(region, sizes_of(words, force) if force else Sizes()):
+        print(line.listed() if options else line.laid_out())
+    return 0
+
+
+def main(words: list[str]) -> int:
+    return bench.ran(asked, "region", __doc__, words)
 
 
 if __name__ == "__main__":
-    main(sys.argv[1:])
+    sys.exit(main(sys.argv[1:]))

@@ -4,6 +4,11 @@
     tools/solve.py MODEL stand CERT
     tools/solve.py MODEL load CERT [MICRO]
     tools/solve.py MODEL range CERT [MICRO]
+    tools/solve.py MODEL between CERT
+    tools/solve.py MODEL between CERT tie A X Y B U V [N D]
+    tools/solve.py MODEL between CERT prop A X Y U V [N D]
+    tools/solve.py MODEL stages CERT ORDER
+    tools/solve.py MODEL slides [N D]
 
 Nothing here is proved: only the `accepted` of `check` counts, and nothing is announced that `check` didn't accept.
 `stand` and `load` ask what the program's own forms ask, and write the certificate to CERT. On standard output stands
@@ -21,6 +26,24 @@ apart, 2 if no number is given and 1,000,000 at most; where nothing so near is f
 `range` settles the model and then the reversed one, CERT-reversed.toml with CERT-reversed.cert; the program's `load`
 answers where it can. What is found behind the line `reversed` is of that model.
 
+`between` asks from which factor to which the live loads are carried, also where the factor 0 isn't. With `tie` it asks
+for the force of a tie, which draws the point (X, Y) of the body A and the point (U, V) of the body B together, and with
+`prop` for that of a prop, which pushes the block A at (X, Y) in the direction (U, V). Then N/D of the live loads and of
+the sway act as dead, none if not given. A force below 0 acts the other way. Both ends come from an exact linear
+program. The script makes a factor between them dead, writes that model to CERT.toml, and certifies its range as `range`
+does. It prints the ends as factors of MODEL itself, and those of a tie or a prop in units of force. Where two shares
+are found for an end, the last line is `carried from A to B`.
+
+`stages` asks which stages of an order of building stand, each by the program where it answers. Stage K of those that it
+refuses, and of one that collapses, has its model in CERT-K.toml and its certificate in CERT-K.cert.
+
+`slides` asks whether any joint can slide at a factor from 0 to N/D, or to the collapse load factor if that is less or
+no N/D is given. It looks at all pressing forces that balance the loads, whatever the friction. A joint can slide if in
+some of them |T| is at least the friction times N, also if both are 0. For each that can, a line says between which
+factors, and with which N and T at the least of these; then come all joints at the least factor of all. Or the line is
+`no joint can slide`. Then the factor is no mere upper bound: docs/scope.md. This has no certificate; the script checks
+in fractions the dual numbers that close each of its linear programs.
+
 The status is 0 where all that was asked is accepted, also for a collapse; 2 for wrong words, 9 without a live load, 70
 where something wasn't found, with the reason on standard error; or that of `contacts`, which refuses the model.
 
@@ -28,312 +51,143 @@ where something wasn't found, with the reason on standard error; or that of `con
 program, which is else the script `pungiroe` in the folder above this one. Python 3.11 or later.
 docs/other_solvers.md explains the method.
 """
+import os
 import shutil
 import sys
-import threading
-import time
+from collections.abc import Callable
+from dataclasses import replace
 from fractions import Fraction
-from math import ceil, floor
-from pathlib import Path
 
+import bench
+import between
 import model as models
-import statics
-from programs import NoAnswer
-from statics import GREATEST, NotFound, Structure, short_forces, short_motion, work
+import ranges
+import settle
+import slides
+import stages
+from bench import Answer, Ended, Progress, Refused, Words
+from model import Model
+from programs import MISSING
+from settle import Case
+from units import scale_of
 
-PATIENCE = 2  # seconds until what is at work is told
-UNLIMITED, COLLAPSES = "unlimited", "collapses"
-
-
-class Progress:
-    """Tells on standard error what is at work, once some time has passed."""
-
-    def __init__(self):
-        self.stage, self.late = "the contacts", False
-        self.start = time.monotonic()
-        self.timer = threading.Timer(PATIENCE, self.begin)
-        self.timer.daemon = True
-        self.timer.start()
-
-    def begin(self):
-        self.late = True
-        self.tell()
-
-    def tell(self):
-        print(f"solve: {time.monotonic() - self.start:.0f} s: {self.stage}", file=sys.stderr, flush=True)
-
-    def __call__(self, stage):
-        self.stage = stage
-        if self.late:
-            self.tell()
+NO_LIVE = Answer(9, "", "no live load")
+MICRO = 2  # how far two shares may be apart, in millionths, if no number is given
 
 
-# Certificates
+def stand(name: str, words: list[str], progress: Progress) -> int:
+    cert, = counted(words, "stand CERT", 1)
+    case = Case(name, cert, progress)
+    case.structure  # so that what the program refuses is its refusal
+    case.stand()
+    return 0
 
 
-def forces_lines(scale, factor, parts):
-    return [f"forces {scale} {factor}", *(f"push {a} {b}" for a, b in parts)]
+def load(name: str, words: list[str], progress: Progress) -> int:
+    case = live_case(name, counted(words, "load CERT [MICRO]", 1, 2), progress)
+    return 0 if settle.whole(case.load()) else 70
 
 
-def motion_lines(motion):
-    moves = zip(motion[::3], motion[1::3], motion[2::3])
-    return ["motion", *("move %d %d %d" % move for move in moves)]
+def wide_range(name: str, words: list[str], progress: Progress) -> int:
+    case = live_case(name, counted(words, "range CERT [MICRO]", 1, 2), progress)
+    return 0 if ranges.ranged(case) else 70
 
 
-def bits(lines):
-    return max((int(word).bit_length() for line in lines for word in line.split()[1:]), default=0)
+def wide_between(name: str, words: list[str], progress: Progress) -> int:
+    cert, rest = words[0] if words else "", words[1:]
+    kind = rest[0] if rest else ""
+    if len(rest) not in {"": (0,), "tie": (7, 9), "prop": (6, 8)}.get(kind, ()):
+        raise Words("the form is MODEL between CERT [tie A X Y B U V [N D]] or [prop A X Y U V [N D]]")
+    bench.answer("contacts", name)
+    model = models.read(name)
+    if kind:
+        question = tie_or_prop(model, kind, rest[1:])
+    elif model.has_live():
+        question = between.Question(model, between.FACTOR)
+    else:
+        raise Ended(NO_LIVE)
+    question = replace(question, scale=scale_of(models.text_of(name)).times(question.scale))
+    return 0 if between.between(question, cert, progress) else 70
 
 
-def simplest(low, high):
-    """The fraction of the least terms from low to high, both from 0 up."""
-    whole = floor(low)
-    return Fraction(ceil(low)) if ceil(low) <= high else whole + 1 / simplest(1 / (high - whole), 1 / (low - whole))
+def tie_or_prop(model: Model, kind: str, words: list[str]) -> between.Question:
+    """The question of the words after `tie` or `prop`."""
+    count = 6 if kind == "tie" else 5
+    share = bench.fraction(words[count], words[count + 1]) if words[count:] else Fraction(0)
+    if kind == "tie":
+        return between.tie(model, (words[0], words[3]), (point(words[1:3], "X Y"), point(words[4:6], "U V")), share)
+    return between.prop(model, words[0], point(words[1:3], "X Y"), point(words[3:5], "U V"), share)
 
 
-def ratio(x):
-    return f"{x.numerator}/{x.denominator}"
+def point(words: list[str], called: str) -> list[int]:
+    return [bench.whole(word, one, -models.COORDINATE, models.COORDINATE)
+            for word, one in zip(words, called.split())]
 
 
-def decimal(x, rounded=round):
-    """About nine digits of a number from 0 up."""
-    places = max(0, 9 - len(str(floor(x))))
-    digits = str(rounded(x * 10**places)).rjust(places + 1, "0")
-    return (digits[:-places] + "." + digits[-places:]).rstrip("0").rstrip(".") if places else digits
+def wide_stages(name: str, words: list[str], progress: Progress) -> int:
+    cert, order = counted(words, "stages CERT ORDER", 2)
+    stages.staged(name, cert, order, progress)
+    return 0
 
 
-# The questions
+def wide_slides(name: str, words: list[str], progress: Progress) -> int:
+    counted(words, "slides [N D]", 0, 2)
+    wanted = bench.fraction(words[0], words[1]) if words else None
+    if wanted is not None and wanted < 0:
+        raise Words("N must be at least 0")
+    slides.slides(name, wanted, progress)
+    return 0
 
 
-class Solver:
-    """A model, where its certificates go, and what is told while they are found."""
-
-    def __init__(self, name, stem, cert, part, progress):
-        """`part` is how far a share may be from the factor, as a part of it."""
-        self.name, self.stem, self.cert, self.part, self.progress = name, stem, cert, part, progress
-        self.table = models.answer("contacts", name)
-        self.model = models.read(name)
-        self.structure = Structure(self.model, self.table)
-        self.opened, self.missing = None, False
-
-    def opening(self):
-        if self.opened is None:
-            self.progress("a motion that opens the joints")
-            self.opened = statics.opening(self.structure)
-        return self.opened
-
-    def accepted(self, model, name, lines):
-        """Writes a certificate, which must be accepted: else it is taken away, and nothing is announced."""
-        lines = [*lines, "end"]
-        if bits(lines) > GREATEST.bit_length():
-            raise NotFound(f"a certificate of {bits(lines)} bits")
-        try:
-            Path(name).write_text("\n".join([*lines, ""]), newline="\n")
-        except OSError as fault:
-            raise models.Refused(f"{name}: {fault.strerror}") from None
-        self.progress("the check")
-        done = models.program("check", model, name)
-        if (done.status, done.output) != (0, "accepted\n"):
-            Path(name).unlink()
-            said = (done.output or done.error).strip()
-            raise NotFound(f"the check of a certificate of {bits(lines)} bits says {said}")
-        print(f"{name}: {bits(lines)} bits", file=sys.stderr, flush=True)
-
-    def collapse(self):
-        self.progress("a collapse")
-        motion = short_motion(self.structure, statics.fall(self.structure), self.opening,
-                              lambda moves: work(self.structure.dead, moves) > 0)
-        self.accepted(self.name, self.cert, ["collapses", *motion_lines(motion)])
-        print("collapses accepted", flush=True)
-
-    def stands(self, amounts):
-        scale, parts = short_forces(self.structure, amounts, self.structure.dead)
-        self.accepted(self.name, self.cert, ["stands", *forces_lines(scale, 0, parts)])
-        print("stands accepted", flush=True)
-
-    def dead_forces(self):
-        self.progress("forces for the dead loads")
-        return statics.inner(self.structure, self.structure.dead)
-
-    def stand(self):
-        found = self.dead_forces()
-        self.stands(found[0]) if found else self.collapse()
-
-    def load(self):
-        """Settles `load`. What is given is a pair of the share carried and the least one known not to be, None where
-        one wasn't found; `UNLIMITED` where factors rise without end, and `COLLAPSES`."""
-        dead = self.dead_forces()
-        if dead is None:
-            self.collapse()
-            return COLLAPSES
-        self.progress("the greatest factor")
-        top = statics.raised(self.structure)
-        if top is None:
-            self.unbounded(dead[0])
-            return UNLIMITED
-        factor, motion, amounts = top
-        try:
-            self.greatest(factor, motion)
-            print(f"greatest {ratio(factor)} accepted, {decimal(factor)}", flush=True)
-            return factor, factor
-        except (NotFound, NoAnswer, ArithmeticError) as fault:
-            print(f"solve: no certificate of the greatest factor, about {decimal(factor)}: {fault}", file=sys.stderr)
-        return self.shares(factor, motion, amounts, dead[0])
-
-    def unbounded(self, dead):
-        self.progress("forces for the live loads alone")
-        structure = self.structure
-        scale, parts = short_forces(structure, dead, structure.dead)
-        factor, ray = short_forces(structure, statics.inner(structure, structure.live)[0], structure.live)
-        lines = ["unbounded", *forces_lines(scale, 0, parts), *forces_lines(0, factor, ray)]
-        self.accepted(self.name, self.cert, lines)
-        print("unbounded accepted", flush=True)
-
-    def greatest(self, factor, motion):
-        """The certificate of the factor itself. No edge on which the motion gains power is in use there, and so all
-        forces without these edges have this factor."""
-        n, d = factor.numerator, factor.denominator
-        if max(n, d, *map(abs, motion)) > GREATEST:
-            raise NotFound("the factor or its motion is longer than 127 bits")
-        structure = self.structure
-        self.progress("forces at the greatest factor")
-        edges = [k for k, edge in enumerate(structure.edges) if not work(edge.column, motion)]
-        amounts, _ = statics.inner(structure, structure.dead, structure.live, None, edges)
-        scale, parts = short_forces(structure, {k: d * x for k, x in amounts.items()}, structure.loads(d, n))
-        lines = ["greatest", *forces_lines(scale * d, scale * n, parts), *motion_lines(motion)]
-        self.accepted(self.name, self.cert, lines)
-
-    # Shares
-
-    def shares(self, factor, motion, amounts, dead):
-        """That the dead loads stand, and a share on each side of the factor."""
-        Path(self.cert).unlink(missing_ok=True)
-        try:
-            self.stands(dead)
-        except (NotFound, ArithmeticError) as fault:
-            self.lacks("a certificate that the dead loads stand", fault)
-        self.progress("forces inside the cones below the factor")
-        inside = statics.inner(self.structure, self.structure.dead, self.structure.live, factor)
-        below = [(Fraction(0), dead), (inside[1], inside[0]), (factor, amounts)]
-        return (self.nearest("carried", factor, lambda gap: self.carried(factor, below, gap)),
-                self.nearest("beyond", factor, lambda gap: self.beyond(factor, motion, gap)))
-
-    def lacks(self, what, fault):
-        print(f"solve: {what} wasn't found: {fault}", file=sys.stderr, flush=True)
-        self.missing = True
-
-    def nearest(self, word, factor, certified):
-        """The share that is accepted at the least distance tried, or None."""
-        part = self.part
-        while True:
-            try:
-                self.progress(f"a share {word}")
-                share = certified(part * (factor or 1))
-                rounded = floor if word == "carried" else ceil
-                print(f"{word} {ratio(share)} accepted, {decimal(share, rounded)}", flush=True)
-                return share
-            except (NotFound, NoAnswer, ArithmeticError, models.Refused) as fault:
-                part *= 8
-                if part >= 1:
-                    self.lacks(f"a share {word}", fault)
-                    for end in "toml", "cert":
-                        Path(f"{self.stem}-{word}.{end}").unlink(missing_ok=True)
-                    return None
-
-    def shared(self, word, share, lines):
-        """Writes the model of a share, and its certificate, which must be accepted."""
-        name = f"{self.stem}-{word}"
-        model = models.share(self.model, share.numerator, share.denominator)
-        models.write(name + ".toml", model)
-        self.accepted(name + ".toml", name + ".cert", lines(model))
-        return share
-
-    def carried(self, factor, below, gap):
-        """A share below the factor, with forces between known ones at factors below it and above."""
-        share = simplest(factor - gap, factor - gap / 2) if factor else factor
-        (low, lower), (high, upper) = next(pair for pair in zip(below, below[1:]) if pair[1][0] >= share)
-        part = (share - low) / (high - low) if high > low else Fraction(0)
-        amounts = {k: (1 - part) * lower.get(k, 0) + part * upper.get(k, 0) for k in {**lower, **upper}}
-        return self.shared("carried", share, lambda model: self.standing(model, share, amounts))
-
-    def standing(self, model, share, amounts):
-        """The lines of forces that carry the dead loads of a share's model, near amounts for the share itself."""
-        load = [amount for dead, _ in models.wrenches(model).values() for amount in dead]
-        own = [x + share * y for x, y in zip(self.structure.dead, self.structure.live)]
-        times = next((x / y for x, y in zip(load, own) if y), 1)
-        wanted = {k: times * x for k, x in amounts.items() if x}
-        scale, parts = short_forces(self.structure, wanted, load)
-        return ["stands", *forces_lines(scale, 0, parts)]
-
-    def beyond(self, factor, motion, gap):
-        """A share above the factor, with a motion near the one that forbids more."""
-        structure, least = self.structure, factor + gap / 2
-        share = simplest(least, factor + gap)
-        moves = short_motion(structure, motion, self.opening,
-                             lambda y: work(structure.dead, y) + least * work(structure.live, y) > 0)
-        return self.shared("beyond", share, lambda model: ["collapses", *motion_lines(moves)])
+def live_case(name: str, words: list[str], progress: Progress) -> Case:
+    """A model with a live load, and where its certificate goes."""
+    micro = bench.whole(words[1], "MICRO", 1, 10**6) if words[1:] else MICRO
+    case = Case(name, words[0], progress, part=Fraction(micro, 2 * 10**6))
+    case.structure
+    if not case.model.has_live():
+        raise Ended(NO_LIVE)
+    return case
 
 
-# A range
+def counted(words: list[str], form: str, *counts: int) -> list[str]:
+    """The words after a question, which must be so many."""
+    if len(words) not in counts:
+        raise Words(f"the form is MODEL {form}")
+    return words
 
 
-def by_program(solver):
-    """What the program's own `load` finds, accepted, as `Solver.load` gives it; None where the program refuses."""
-    solver.progress("the program's load")
-    done = models.program("load", solver.name)
-    if done.status not in (0, 1):
-        return None
-    lines = done.output.splitlines()[:-1]
-    solver.accepted(solver.name, solver.cert, lines)
-    if lines[0] != "greatest":
-        print(f"{lines[0]} accepted", flush=True)
-        return COLLAPSES if lines[0] == "collapses" else UNLIMITED
-    _, scale, factor = lines[1].split()
-    top = Fraction(int(factor), int(scale))
-    print(f"greatest {ratio(top)} accepted, {decimal(top)}", flush=True)
-    return top, top
-
-
-def whole_range(solver):
-    """Both sides in turn, and at last, in factors of the model itself, from where to where is carried."""
-    greatest = by_program(solver) or solver.load()
-    if greatest == COLLAPSES:
-        return
-    stem = f"{solver.stem}-reversed"
-    models.write(stem + ".toml", solver.model.turned())
-    print("reversed", flush=True)
-    other = Solver(stem + ".toml", stem, stem + ".cert", solver.part, solver.progress)
-    least = by_program(other) or other.load()
-    solver.missing = solver.missing or other.missing
-    ends = [end if end == UNLIMITED else end[0] and ratio(sign * end[0]) for sign, end in ((-1, least), (1, greatest))]
-    if None not in ends:
-        exact = all(end == UNLIMITED or end[0] == end[1] for end in (least, greatest))
-        print("range {} {}".format(*ends) if exact else "carried from {} to {}".format(*ends), flush=True)
-
-
-def faultless(words):
-    counts = {"stand": (3,), "load": (3, 4), "range": (3, 4)}
-    return (len(words) > 2 and len(words) in counts.get(words[1], ())
-            and all(word.isdecimal() and 1 <= int(word) <= 10**6 for word in words[3:]))
-
-
-def main(words):
-    if not faultless(words):
-        models.stop(__doc__.rstrip(), 2)
-    if shutil.which("esolver") is None:
-        models.stop("solve: esolver isn't installed: as root, apt-get update && apt-get install qsopt-ex")
-    name, question, cert = words[:3]
-    part = Fraction(int(words[3]) if words[3:] else 2, 2 * 10**6)
-    progress = Progress()
+def spared(name: str, question: str, cert: str) -> None:
+    """Refuses a CERT with which a file that is written would take the place of MODEL."""
+    stem = cert.removesuffix(".cert")
+    written = [cert, *(f"{stem}-{word}.toml" for word in ("carried", "beyond", "reversed"))]
+    if question == "between":
+        written.append(stem + ".toml")
     try:
-        solver = Solver(name, cert.removesuffix(".cert"), cert, part, progress)
-        if question != "stand" and not solver.model.has_live():
-            models.stop("no live load", 9)
-        {"stand": solver.stand, "load": solver.load, "range": lambda: whole_range(solver)}[question]()
-    except (NotFound, NoAnswer, models.Refused, ArithmeticError) as fault:
-        models.stop(f"solve: {fault}")
-    finally:
-        progress.timer.cancel()
-    return 70 if solver.missing else 0
+        taken = os.path.realpath(name) in {os.path.realpath(it) for it in written}
+    except ValueError:  # no name of a file, as is said when it is opened
+        return
+    if taken:
+        raise Words("CERT would take the place of MODEL")
+
+
+QUESTIONS: dict[str, Callable[[str, list[str], Progress], int]]
+QUESTIONS = {"stand": stand, "load": load, "range": wide_range, "between": wide_between, "stages": wide_stages,
+             "slides": wide_slides}
+
+
+def asked(words: list[str]) -> int:
+    if len(words) < 2 or words[1] not in QUESTIONS:
+        raise Words(f"after MODEL stands one of {', '.join(QUESTIONS)}")
+    if words[1] != "slides" and words[2:]:
+        spared(words[0], words[1], words[2])
+    if shutil.which("esolver") is None:
+        raise Refused(MISSING)
+    with Progress("solve") as progress:
+        return QUESTIONS[words[1]](words[0], words[2:], progress)
+
+
+def main(words: list[str]) -> int:
+    return bench.ran(asked, "solve", __doc__, words)
 
 
 if __name__ == "__main__":

@@ -1,12 +1,16 @@
 #!/usr/bin/env python3
-"""Prints the model of a certificate that isn't of the drawing itself, so that `check` and `table` can judge it.
+"""Prints a model that is made from another one: turned round, in part, at a share, with other loads or shorter joints.
 
     tools/variant.py reversed MODEL
     tools/variant.py stage MODEL ORDER K
     tools/variant.py direction MODEL I J M N
     tools/variant.py share MODEL N D
+    tools/variant.py without MODEL NAME ..
+    tools/variant.py with MODEL KIND BLOCK X Y FX FY
+    tools/variant.py inset MODEL D [M]
 
-Nothing here is proved. Each form prints one model:
+Nothing here is proved. Each form prints one model. Those of the first four are models of certificates that aren't of
+the drawing itself, so that `check` and `table` can judge them:
 
 - `reversed`: the force of each live load and the sway have the opposite sign. This is the model of the least side of a
   range.
@@ -15,62 +19,149 @@ Nothing here is proved. Each form prints one model:
 - `direction`: the forces of the live loads I and J, by their numbers from 1 among all loads of the file, are multiplied
   by M and by N. The other live loads and the sway are left out. This is the model of the direction (M, N).
 - `share`: D times the dead loads and N times the live ones, the sway with them, are dead. There are no live loads. If
-  it stands, the structure carries N/D of its live loads. docs/formats.md says how the sway becomes forces.
+  it stands, the structure carries N/D of its live loads. docs/formats.md says how the sway becomes forces. The first
+  line says by what all forces are multiplied; tools/read.py divides by it.
 
-All else stays as it is and in its order. Comments are lost. MODEL must be a model that the program accepts. If the
-words are no form, the exit status is 2. It is 70 if MODEL is not TOML 1.0, if a file can't be read, if a number names
-nothing, or if a share passes a limit of the program. Python 3.11 or later.
+The others are for questions of your own:
+
+- `without`: the blocks and fixed bodies of these names, and the loads on them, are left out: a centring that is struck,
+  a chimney that is taken down.
+- `with`: one more load, `dead` or `live`, on a free block, at (X, Y), with the force (FX, FY).
+- `inset`: each joint is shorter by D at each end, and by a little more where that is needed to end on a point of the
+  grid. D is a decimal number or a fraction, in units of the grid of MODEL. Corners are cut for it, of fixed bodies too.
+  The grid of the new model is finer, M times if you give M. Else the script takes the least M up to 1,000 with which no
+  joint loses more than a twentieth more than D, or the best that the limits of a model allow. The first line says by
+  what forces and lengths are multiplied. Standard error says what was taken. docs/scope.md says what this is for:
+  stones that crush.
+
+All else stays as it is and in its order. Comments are lost, but for such a first line. MODEL must be a model that the
+program accepts. If the words make no sense, the exit status is 2. It is 70 if MODEL is no model, if a file can't be
+read, if a name or a number names nothing, if a limit of the program is passed, or if nothing is left of a joint.
+`inset` asks the program for the contacts; if the program refuses, its status is that of the script. Python 3.11 or
+later.
 """
-import signal
 import sys
+from collections.abc import Callable
+from dataclasses import dataclass, replace
+from fractions import Fraction
 
-from model import Model, Refused, printed, read, share, stop, text_of
+from bench import Refused, Words, answer, ran, shown, whole
+from inset import inset
+from model import COORDINATE, FORCE, LOADS, Load, Model, bearings_of, multiple, printed, read, share, text_of
+from units import Scale, decimal, scale_of
+
+MOST = 10**9  # a number of a share or of a direction
 
 
-def times(load, factor):
-    load.force = [factor * part for part in load.force]
-
-
-def stage(model, order, count):
+def stage(model: Model, order: str, count: int) -> Model:
     lines = text_of(order).splitlines()
     if not 0 <= count <= len(lines) or not set(lines[:count]) <= {block.name for block in model.free_blocks()}:
         raise Refused(f"{order}: no {count} lines of free blocks")
-    kept = lines[:count]
-    model.blocks = [block for block in model.blocks if block.fixed or block.name in kept]
-    model.loads = [load for load in model.loads if load.block in kept]
-    return model
+    return model.built(lines[:count])
 
 
-def direction(model, i, j, m, n):
+def direction(model: Model, i: int, j: int, m: int, n: int) -> Model:
     for number in (i, j):
         if not 1 <= number <= len(model.loads) or model.loads[number - 1].kind != "live" or i == j:
             raise Refused(f"no pair {number}")
-    pair = model.loads[i - 1], model.loads[j - 1]
-    for load, factor in zip(pair, (m, n)):
-        times(load, factor)
-    model.loads = [load for load in model.loads if load.kind != "live" or any(load is one for one in pair)]
-    model.sway = None
-    return model
+    times = {i: m, j: n}
+    loads = [load.times(times.get(number, 1)) for number, load in enumerate(model.loads, 1)
+             if load.kind != "live" or number in times]
+    return replace(model, sway=None, loads=loads)
 
 
-# The change of each form, and how many words follow the model.
-FORMS = {"reversed": (Model.turned, 0), "stage": (stage, 2), "direction": (direction, 4), "share": (share, 2)}
+def without(model: Model, names: list[str]) -> Model:
+    there = {block.name for block in model.blocks}
+    for name in names:
+        if name not in there:
+            raise Refused(f"no block is named {shown(name)}")
+    return replace(model, blocks=[block for block in model.blocks if block.name not in names],
+                   loads=[load for load in model.loads if load.block not in names])
 
 
-def main(words):
-    signal.signal(signal.SIGPIPE, signal.SIG_DFL)
-    if len(words) < 2 or words[0] not in FORMS or len(words) != 2 + FORMS[words[0]][1]:
-        stop(__doc__.rstrip(), 2)
-    form, name, *rest = words
-    try:
-        numbers = [word if form == "stage" and k == 0 else int(word) for k, word in enumerate(rest)]
-    except ValueError:
-        stop(__doc__.rstrip(), 2)
-    try:
-        print(printed(FORMS[form][0](read(name), *numbers)), end="")
-    except Refused as fault:
-        stop(f"variant: {fault}")
+def with_load(name: str, words: list[str]) -> Model:
+    kind, block = words[:2]
+    if kind not in ("dead", "live"):
+        raise Words(f"KIND must be dead or live, and is {shown(kind)}")
+    x, y = (whole(word, called, -COORDINATE, COORDINATE) for word, called in zip(words[2:4], ("X", "Y")))
+    u, v = (whole(word, called, -FORCE, FORCE) for word, called in zip(words[4:], ("FX", "FY")))
+    model = read(name)
+    if block not in (one.name for one in model.free_blocks()):
+        raise Refused(f"no free block is named {shown(block)}")
+    if len(model.loads) == LOADS:
+        raise Refused(f"the model has {LOADS} loads already")
+    return replace(model, loads=[*model.loads, Load(block, kind, [x, y], [u, v])])
+
+
+# The forms. Each reads its words, and then the file.
+
+Made = tuple[Model, Scale | None]
+
+
+def of_stage(name: str, rest: list[str]) -> Made:
+    count = whole(rest[1], "K", 0, MOST)
+    return stage(read(name), rest[0], count), None
+
+
+def of_direction(name: str, rest: list[str]) -> Made:
+    i, j, m, n = (whole(word, called, -MOST, MOST) for word, called in zip(rest, "IJMN"))
+    return direction(read(name), i, j, m, n), None
+
+
+def of_share(name: str, rest: list[str]) -> Made:
+    n, d = whole(rest[0], "N", -MOST, MOST), whole(rest[1], "D", 1, MOST)
+    model = read(name)
+    made = share(model, n, d)
+    return made, Scale(Fraction(multiple(model, made, d)))
+
+
+def of_inset(name: str, rest: list[str]) -> Made:
+    distance = decimal(rest[0], "D", Fraction(1, 10**6), COORDINATE)
+    grid = whole(rest[1], "M", 1, COORDINATE) if len(rest) == 2 else None
+    found = inset(read(name), bearings_of(answer("contacts", name)), distance, grid)
+    for line in found.lines:
+        print(line, file=sys.stderr)
+    return found.model, found.scale
+
+
+@dataclass(frozen=True)
+class Form:
+    """What follows MODEL, `..` where there may be more; and the model that a file and these words make, with what its
+    forces and lengths are multiplied by if it is to say so."""
+    takes: str
+    made: Callable[[str, list[str]], Made]
+
+    def fits(self, count: int) -> bool:
+        """Whether so many words may follow MODEL."""
+        takes = self.takes.split()
+        least = sum(not word.startswith(("[", "..")) for word in takes)
+        return least <= count and (".." in takes or count <= len(takes))
+
+
+FORMS = {"reversed": Form("", lambda name, rest: (read(name).turned(), None)), "stage": Form("ORDER K", of_stage),
+         "direction": Form("I J M N", of_direction), "share": Form("N D", of_share),
+         "without": Form("NAME ..", lambda name, rest: (without(read(name), rest), None)),
+         "with": Form("KIND BLOCK X Y FX FY", lambda name, rest: (with_load(name, rest), None)),
+         "inset": Form("D [M]", of_inset)}
+
+
+def in_form(form: str, words: list[str]) -> str:
+    """The text of the model that these words, from MODEL on, ask for."""
+    name, *rest = words
+    model, more = FORMS[form].made(name, rest)
+    scale = scale_of(text_of(name)).times(more or Scale())
+    return (scale.line() if more or scale != Scale() else "") + printed(model)
+
+
+def main(words: list[str]) -> int:
+    form, *rest = words
+    if form not in FORMS:
+        raise Words(f"no form {shown(form)}; there are {' '.join(FORMS)}")
+    if not rest or not FORMS[form].fits(len(rest) - 1):
+        raise Words(f"{form} takes MODEL {FORMS[form].takes}".rstrip())
+    sys.stdout.write(in_form(form, rest))
+    return 0
 
 
 if __name__ == "__main__":
-    main(sys.argv[1:])
+    sys.exit(ran(main, "variant", __doc__, sys.argv[1:]))

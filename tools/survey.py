@@ -1,0 +1,268 @@
+#!/usr/bin/env python3
+"""Makes a model of corners that were measured in metres.
+
+    tools/survey.py CORNERS GRID TOLERANCE [material NAME WEIGHT P Q] .. [fixed BLOCK] ..
+
+Nothing here is proved. CORNERS is a file with a line `block,material,x,y` for each corner, as a spreadsheet or a CAD
+program writes it (csv): the corners of each block in order, x to the right and y upwards, in metres. The first line may
+be a heading. GRID is the side of a square of the grid, TOLERANCE how far apart two corners may lie that are one, both
+in metres. Each material needs its unit weight and its friction P/Q; bodies of the names after `fixed` are fixed.
+
+What the script does, in this order:
+
+1. Corners of different blocks that lie within TOLERANCE of one another come together, at their mean. So do chains of
+   them. No corner of such a chain may move by more than TOLERANCE.
+2. Each corner moves to the nearest point of the grid, those that came together as one.
+3. A corner that then lies off an edge of another block, but within TOLERANCE of it, moves to the nearest point of the
+   grid on that edge, if there is one within TOLERANCE. On a level or an upright edge there always is, on a slanting one
+   seldom: tools/look.py lists what still doesn't meet.
+
+No block is cut, and none gets another corner. The script refuses, by name, a block that isn't strictly convex then, and
+two that overlap. Standard error says how far the farthest corner moved. Look at the model with tools/look.py and with
+`contacts` before you judge it.
+
+The exit status is 2 if the words make no sense, and 70 if the file can't be read or there is no such model. Python 3.11
+or later.
+"""
+import csv
+import re
+import sys
+from collections.abc import Iterable, Sequence
+from dataclasses import dataclass, field
+from fractions import Fraction
+from itertools import combinations
+from math import gcd, hypot
+
+from bench import Refused, Words, ran, shown, whole
+from model import COORDINATE, WEIGHT, Block, Material, Model, Point, printed, text_of
+from outside import is_convex, overlap
+from units import decimal, number
+
+NAME = re.compile(r"[A-Za-z0-9_-]{1,32}", re.ASCII)
+HEADING = ["block", "material", "x", "y"]
+
+
+@dataclass(frozen=True)
+class Corner:
+    """A corner as it was measured, in metres, and whose it is."""
+    block: str
+    x: Fraction
+    y: Fraction
+
+    def off(self, other: "Corner") -> float:
+        return hypot(self.x - other.x, self.y - other.y)
+
+
+@dataclass
+class Stone:
+    name: str
+    material: str
+    corners: list[Corner] = field(default_factory=list)
+
+
+@dataclass(frozen=True)
+class Whole:
+    """A point of the grid."""
+    x: int
+    y: int
+
+
+@dataclass
+class Drawn:
+    """Blocks on the grid, and the corner that moved farthest, by how many metres."""
+    stones: list[Stone]
+    corners: dict[str, list[Whole]]
+    farthest: Corner
+    moved: float
+
+
+@dataclass
+class Asked:
+    """Materials by name, and the names of fixed bodies."""
+    materials: dict[str, Material] = field(default_factory=dict)
+    fixed: list[str] = field(default_factory=list)
+
+
+# The file
+
+
+def stones_of(text: str) -> list[Stone]:
+    found: dict[str, Stone] = {}
+    try:
+        lines = list(csv.reader(text.splitlines()))
+    except csv.Error as fault:
+        raise Refused(f"no csv: {fault}") from None
+    for row, words in enumerate(lines, 1):
+        words = [word.strip() for word in words]
+        if not any(words) or row == 1 and [word.lower() for word in words] == HEADING:
+            continue
+        if len(words) != 4:
+            raise Refused(f"line {row}: {len(words)} words, and not block,material,x,y")
+        for word in words[:2]:
+            if not NAME.fullmatch(word):
+                raise Refused(f"line {row}: a name is 1 to 32 letters, digits, _ and -, and not {shown(word)}")
+        try:
+            x, y = (decimal(word, called) for word, called in zip(words[2:], "xy"))
+        except Words as fault:
+            raise Refused(f"line {row}: {fault}") from None
+        stone = found.setdefault(words[0], Stone(words[0], words[1]))
+        if stone.material != words[1]:
+            raise Refused(f"line {row}: {stone.name} is of {stone.material} before, and of {words[1]} here")
+        stone.corners.append(Corner(stone.name, x, y))
+    if not found:
+        raise Refused("no corners")
+    return list(found.values())
+
+
+# Corners that come together
+
+
+def together(stones: Sequence[Stone], tolerance: Fraction) -> list[list[Corner]]:
+    """The corners that come together; each corner is in one of the lists."""
+    groups = {id(corner): [corner] for stone in stones for corner in stone.corners}
+    square = tolerance ** 2
+    for one, other in combinations(stones, 2):
+        for a in one.corners:
+            for b in other.corners:
+                if abs(a.x - b.x) <= tolerance and (a.x - b.x) ** 2 + (a.y - b.y) ** 2 <= square:
+                    first, second = groups[id(a)], groups[id(b)]
+                    if first is not second:
+                        first += second
+                        for corner in second:
+                            groups[id(corner)] = first
+    return list({id(group): group for group in groups.values()}.values())
+
+
+def mean(group: Sequence[Corner], tolerance: Fraction) -> tuple[Fraction, Fraction]:
+    x, y = (sum(parts, Fraction(0)) / len(group) for parts in zip(*((corner.x, corner.y) for corner in group)))
+    for corner in group:
+        if hypot(corner.x - x, corner.y - y) > tolerance:
+            names = " ".join(dict.fromkeys(one.block for one in group))
+            raise Refused(f"corners of {names} are a chain that is longer than the tolerance, at {number(corner.x)} "
+                          f"{number(corner.y)}")
+    return x, y
+
+
+def on_grid(stones: Sequence[Stone], grid: Fraction, tolerance: Fraction) -> dict[int, Whole]:
+    """Where each corner comes to lie, by its identity."""
+    found = {}
+    for group in together(stones, tolerance):
+        x, y = mean(group, tolerance)
+        at = Whole(round(x / grid), round(y / grid))
+        if max(abs(at.x), abs(at.y)) > COORDINATE:
+            raise Refused(f"{group[0].block} lies beyond {COORDINATE} squares of the grid: measure from a nearer point")
+        for corner in group:
+            found[id(corner)] = at
+    return found
+
+
+def on_edge(at: Whole, start: Whole, end: Whole, reach: Fraction) -> Whole | None:
+    """The nearest point of the grid on an edge to a point beside it, within reach; none where it is on the edge."""
+    (u, v), (x, y) = (end.x - start.x, end.y - start.y), (at.x - start.x, at.y - start.y)
+    length, count = u * u + v * v, gcd(u, v)
+    if not length or u * y - v * x == 0 or (u * y - v * x) ** 2 > length * reach ** 2:
+        return None
+    step = round(Fraction((x * u + y * v) * count, length))
+    if not 0 <= step <= count:
+        return None
+    moved = Whole(start.x + step * u // count, start.y + step * v // count)
+    return moved if (moved.x - at.x) ** 2 + (moved.y - at.y) ** 2 <= reach ** 2 else None
+
+
+def to_edges(stones: Sequence[Stone], places: dict[int, Whole], reach: Fraction) -> None:
+    """Moves each point of the grid that lies close to an edge of another block onto it, with all its corners."""
+    for one in stones:
+        for corner in one.corners:
+            at = places[id(corner)]
+            sides = [(places[id(a)], places[id(b)]) for other in stones if other is not one
+                     for a, b in zip(other.corners, other.corners[1:] + other.corners[:1])]
+            if all(at not in side for side in sides):
+                found = [moved for a, b in sides if (moved := on_edge(at, a, b, reach))]
+                if found:
+                    nearest = min(found, key=lambda it: (it.x - at.x) ** 2 + (it.y - at.y) ** 2)
+                    for key, place in places.items():
+                        if place == at:
+                            places[key] = nearest
+
+
+# The model
+
+
+def drawn(stones: list[Stone], grid: Fraction, tolerance: Fraction) -> Drawn:
+    """The blocks on the grid."""
+    for stone in stones:
+        if len(stone.corners) < 3:
+            raise Refused(f"{stone.name} has {'two corners' if len(stone.corners) == 2 else 'one corner'}")
+    places = on_grid(stones, grid, tolerance)
+    to_edges(stones, places, tolerance / grid)
+    corners = {stone.name: [places[id(corner)] for corner in stone.corners] for stone in stones}
+    for stone in stones:
+        check(stone.name, [(at.x, at.y) for at in corners[stone.name]])
+    outlines = {name: [(at.x, at.y) for at in of] for name, of in corners.items()}
+    for one, other in combinations(outlines, 2):
+        if overlap(outlines[one], outlines[other]):
+            raise Refused(f"{one} and {other} overlap")
+    moves = [(hypot(places[id(corner)].x * grid - corner.x, places[id(corner)].y * grid - corner.y), corner)
+             for stone in stones for corner in stone.corners]
+    moved, farthest = max(moves, key=lambda it: it[0])
+    return Drawn(stones, corners, farthest, moved)
+
+
+def check(name: str, outline: Sequence[Point]) -> None:
+    if len({(x, y) for x, y in outline}) < len(outline):
+        raise Refused(f"{name}: two of its corners come together")
+    if not is_convex(outline):
+        raise Refused(f"{name} isn't convex, or three of its corners lie in a line")
+
+
+def model_of(found: Drawn, asked: Asked) -> Model:
+    names = list(dict.fromkeys(stone.material for stone in found.stones))
+    for name in names:
+        if name not in asked.materials:
+            raise Refused(f"nothing is said of material {name}: add `material {name} WEIGHT P Q`")
+    blocks = [Block(name=stone.name, material=stone.material, fixed=stone.name in asked.fixed,
+                    corners=[[at.x, at.y] for at in found.corners[stone.name]]) for stone in found.stones]
+    for name in asked.fixed:
+        if name not in found.corners:
+            raise Refused(f"no block is named {shown(name)}")
+    return Model(None, None, [asked.materials[name] for name in names], [], blocks, [])
+
+
+def asked_of(words: Sequence[str]) -> Asked:
+    asked = Asked()
+    rest = list(words)
+    while rest:
+        if rest[0] == "material" and len(rest) > 4:
+            weight, p, q = (whole(word, called, least, most) for word, called, least, most in
+                            zip(rest[2:5], ("WEIGHT", "P", "Q"), (0, 0, 1), (WEIGHT, 1000, 1000)))
+            asked.materials[rest[1]] = Material(rest[1], weight, [p, q])
+            rest = rest[5:]
+        elif rest[0] == "fixed" and len(rest) > 1:
+            asked.fixed.append(rest[1])
+            rest = rest[2:]
+        else:
+            raise Words(f"after TOLERANCE come `material NAME WEIGHT P Q` and `fixed BLOCK`, and not {shown(rest[0])}")
+    return asked
+
+
+def lines_of(found: Drawn) -> Iterable[str]:
+    at = found.farthest
+    yield f"{len(found.stones)} blocks, {sum(map(len, found.corners.values()))} corners"
+    yield f"the farthest corner moved by {number(found.moved)} m: {at.block}, at {number(at.x)} {number(at.y)}"
+
+
+def main(words: list[str]) -> int:
+    if len(words) < 3:
+        raise Words("the words are CORNERS GRID TOLERANCE [material NAME WEIGHT P Q] .. [fixed BLOCK] ..")
+    grid = decimal(words[1], "GRID", Fraction(1, 10**6), 10**6)
+    tolerance = decimal(words[2], "TOLERANCE", 0, 10**6)
+    asked = asked_of(words[3:])
+    found = drawn(stones_of(text_of(words[0])), grid, tolerance)
+    sys.stdout.write(printed(model_of(found, asked)))
+    for line in lines_of(found):
+        print(line, file=sys.stderr)
+    return 0
+
+
+if __name__ == "__main__":
+    sys.exit(ran(main, "survey", __doc__, sys.argv[1:]))

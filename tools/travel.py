@@ -1,0 +1,254 @@
+#!/usr/bin/env python3
+"""Moves live loads along a structure: what it carries at each place where that can be least, and the least of all.
+
+    tools/travel.py MODEL N [X ..]
+    tools/travel.py MODEL N,M[,..] [X ..]
+
+Nothing here is proved, but each factor has a certificate that `check` accepts. N is the number of a live load in the
+file. With commas these loads move together, as axles do, at the distances that they have in the file. At each X the
+load N acts on the free block whose top is uppermost there. All else stays as it is: the other live loads where they are
+drawn, and the sway.
+
+The places are the ends of the tops, each asked twice: with the load on the block to the left and on that to the right.
+Of loads that move together each position counts at which one of them is at an end. A load on a fixed body, or beside
+all bodies, has left the structure: it is left out there. Between two places next to one another each load stays on one
+block, and its moment changes evenly; so forces that carry a factor at both, mixed, carry it between them. Loads that
+slant act on the tops, and then each corner of a top is a place. Their heights there must be whole numbers.
+
+    at X on BLOCK N/D = DECIMAL
+    at X on BLOCK at X on BLOCK .. N/D = DECIMAL
+    at X on BLOCK unlimited
+    at X on BLOCK carried N/D = DECIMAL beyond N/D = DECIMAL
+    least at X on BLOCK N/D = DECIMAL
+
+In place of `on BLOCK` stands `off` for a load that has left the structure. The program's `load` answers where it can,
+and else tools/solve.py, which may find two shares between which the factor lies. `least with all on` is the least with
+all loads on the structure, if that is another one. The last line is the least of all; in `least .. carried A beyond B`
+A is carried at all places, and B isn't at some. It is of the given places alone if there are some. Where a place has no
+answer, the least is `withheld`, and the status is 70; where the dead loads collapse, it is 1.
+"""
+import sys
+import tempfile
+from collections.abc import Iterator, Sequence
+from dataclasses import dataclass, replace
+from fractions import Fraction
+from math import ceil, floor
+from pathlib import Path
+
+import bench
+import model as models
+import settle
+from bench import Progress, Refused, Words
+from model import Block, Load, Model
+from settle import Case, Collapses, Known, Loaded, Silent, Unlimited
+from statics import NotFound
+
+HALF = Fraction(1, 2)  # corners have whole coordinates, so nothing changes within half a unit beside one
+
+
+# Tops
+
+
+def height(block: Block, x: Fraction) -> Fraction | None:
+    """The height of a body's top at x, if x lies within it."""
+    ends = zip(block.corners, [*block.corners[1:], block.corners[0]])
+    return max((b + (d - b) * (x - a) / (c - a) for (a, b), (c, d) in ends if a != c and min(a, c) <= x <= max(a, c)),
+               default=None)
+
+
+def uppermost(model: Model, x: Fraction) -> Block | None:
+    """The body whose top is uppermost at x, which isn't the coordinate of a corner."""
+    tops = [(top, number) for number, block in enumerate(model.blocks) if (top := height(block, x)) is not None]
+    return model.blocks[max(tops)[1]] if tops else None
+
+
+@dataclass(frozen=True)
+class Seat:
+    """Where a load acts: its x, and the block that it acts on, None where it has left the structure."""
+    x: int
+    block: str | None
+
+    def said(self) -> str:
+        return f"at {self.x} " + ("off" if self.block is None else f"on {self.block}")
+
+
+def seat(model: Model, x: int, side: Fraction) -> Seat:
+    """The seat of a load at x that comes from one side or the other."""
+    block = uppermost(model, x + side)
+    return Seat(x, None if block is None or block.fixed else block.name)
+
+
+# Places
+
+
+class Group:
+    """Live loads that move together, by the first of them."""
+
+    def __init__(self, model: Model, numbers: Sequence[int]) -> None:
+        for number in numbers:
+            if not 1 <= number <= len(model.loads) or model.loads[number - 1].kind != "live":
+                raise Refused(f"there is no live load {number}")
+        if len(set(numbers)) < len(numbers):
+            raise Words("a load is named twice")
+        self.model, self.numbers = model, [number - 1 for number in numbers]
+        first = model.loads[self.numbers[0]]
+        self.ways = [model.loads[number].at[0] - first.at[0] for number in self.numbers]
+        self.slants = any(model.loads[number].force[0] for number in self.numbers)
+
+    def ends(self) -> Iterator[int]:
+        """The places at which a load passes from one top to another, and, where loads slant, all corners."""
+        for x in sorted({x for block in self.model.blocks for x, _ in block.corners}):
+            if self.slants or seat(self.model, x, -HALF).block != seat(self.model, x, HALF).block:
+                yield x
+
+    def places(self) -> list[int]:
+        """Where the first load is while one of them is at an end."""
+        return sorted({x - way for x in self.ends() for way in self.ways})
+
+    def seats(self, x: int) -> list[tuple[Seat, ...]]:
+        """Where the loads act with the first at x: coming from the left, and from the right, if that is different."""
+        found = [tuple(seat(self.model, x + way, side) for way in self.ways) for side in (-HALF, HALF)]
+        return list(dict.fromkeys(found))
+
+    def placed(self, seats: Sequence[Seat]) -> Model:
+        """The model with the loads there."""
+        loads: list[Load | None] = [*self.model.loads]
+        for number, where in zip(self.numbers, seats):
+            loads[number] = None if where.block is None else self.moved(self.model.loads[number], where)
+        return replace(self.model, loads=[load for load in loads if load is not None])
+
+    def moved(self, load: Load, where: Seat) -> Load:
+        """A load at its seat. The height of a load that acts straight down doesn't matter."""
+        if not load.force[0]:
+            return replace(load, block=where.block, at=[where.x, load.at[1]])
+        top = next(height(block, Fraction(where.x)) for block in self.model.blocks if block.name == where.block)
+        if top is None or top.denominator > 1:
+            raise Refused(f"a load that slants would act at {where.said()}, at a height that is no whole number")
+        return replace(load, block=where.block, at=[where.x, int(top)])
+
+
+# Answers
+
+
+@dataclass(frozen=True)
+class Place:
+    """Where the loads are, and what is carried there; None where that wasn't found."""
+    seats: tuple[Seat, ...]
+    found: Loaded | None
+
+    def said(self) -> str:
+        where = " ".join(one.said() for one in self.seats)
+        return f"{where} {'no answer' if self.found is None else carries(self.found)}"
+
+    def all_on(self) -> bool:
+        return all(one.block for one in self.seats)
+
+    def settled(self) -> bool:
+        """Whether there are a factor that is carried and one that isn't, or no limit."""
+        if isinstance(self.found, Unlimited):
+            return True
+        return self.found is not None and None not in (settle.lower(self.found), settle.upper(self.found))
+
+
+def number(value: Fraction, rounded: str = "") -> str:
+    """A fraction and six digits of it, rounded down or up where that is asked."""
+    ways = {"carried": floor, "beyond": ceil}
+    return f"{settle.ratio(value)} = {float(value):.6g}" if not rounded else \
+        f"{settle.ratio(value)} = {settle.decimal(value, ways[rounded])}"
+
+
+def carries(found: Loaded) -> str:
+    """What is carried, in words."""
+    if isinstance(found, Unlimited):
+        return "unlimited"
+    if isinstance(found, Collapses):
+        return "collapses"
+    low, high = settle.lower(found), settle.upper(found)
+    if low is not None and low == high:
+        return number(low)
+    parts = [f"{word} {number(value, word)}" for word, value in (("carried", low), ("beyond", high))
+             if value is not None]
+    return " ".join(parts) or "no answer"
+
+
+def least(places: Sequence[Place]) -> Place | None:
+    """The place that carries least. If shares were found, its answer has the least that is carried at all places, and
+    the least that isn't at some. None where all are unlimited."""
+    limited = [one for one in places if one.found and not isinstance(one.found, Unlimited)]
+    lows = [(low, k) for k, one in enumerate(limited) if one.found and (low := settle.lower(one.found)) is not None]
+    highs = [high for one in limited if one.found and (high := settle.upper(one.found)) is not None]
+    if not lows:
+        return None
+    low, k = min(lows)
+    found = limited[k].found
+    if low != min(highs):
+        found = settle.Shares(low, min(highs), None, True)
+    return Place(limited[k].seats, found)
+
+
+def asked_at(group: Group, seats: tuple[Seat, ...], progress: Progress, known: Known) -> Place:
+    with tempfile.TemporaryDirectory() as folder:
+        name, cert = str(Path(folder, "model.toml")), str(Path(folder, "answer.cert"))
+        models.write(name, group.placed(seats))
+        where = " ".join(one.said() for one in seats)
+        case = Case(name, cert, lambda stage: progress(f"{where}: {stage}"), Silent(), known=known)
+        try:
+            found: Loaded | None = case.settled_load()
+        except NotFound:
+            found = None
+    return Place(seats, found)
+
+
+def ends_of(places: Sequence[Place]) -> Iterator[str]:
+    """The last lines: the least of all, if each place has an answer."""
+    unanswered = sum(not one.settled() for one in places)
+    if any(isinstance(one.found, Collapses) for one in places):
+        yield "least withheld: the dead loads collapse"
+    elif unanswered:
+        yield f"least withheld: {unanswered} of {len(places)} places have no answer"
+    else:
+        lines = [said_least(word, of) for word, of in (("with all on ", [one for one in places if one.all_on()]),
+                                                       ("", places)) if of]
+        if len(lines) == 2 and lines[0].removeprefix("least with all on ") == lines[1].removeprefix("least "):
+            lines = lines[1:]
+        yield from lines
+
+
+def said_least(word: str, places: Sequence[Place]) -> str:
+    place = least(places)
+    return f"least {word}{'unlimited' if place is None else place.said()}"
+
+
+def travel(words: list[str]) -> int:
+    if len(words) < 2:
+        raise Words("the form is MODEL N [X ..]")
+    numbers = [bench.whole(word, "N") for word in words[1].split(",")]
+    given = [bench.whole(word, "X", -models.COORDINATE, models.COORDINATE) for word in words[2:]]
+    bench.answer("contacts", words[0])
+    group = Group(models.read(words[0]), numbers)
+    seats = [one for x in given or group.places() for one in group.seats(x)
+             if given or any(where.block for where in one)]
+    if not any(where.block for one in seats for where in one):
+        raise Refused("at no place is a load on the structure")
+    places, known = [], Known()
+    with Progress("travel") as progress:
+        for one in seats:
+            if not any(where.block for where in one):
+                print(*(where.said() for where in one))
+                continue
+            places.append(asked_at(group, one, progress, known))
+            print(places[-1].said(), flush=True)
+            if isinstance(places[-1].found, Collapses):
+                break
+    print(*ends_of(places), sep="\n")
+    if any(isinstance(one.found, Collapses) for one in places):
+        return 1
+    return 0 if all(one.settled() for one in places) else 70
+
+
+def main(words: list[str]) -> int:
+    return bench.ran(travel, "travel", __doc__, words)
+
+
+if __name__ == "__main__":
+    sys.exit(main(sys.argv[1:]))
