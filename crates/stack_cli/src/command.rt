@@ -95,13 +95,14 @@ pub fn answer_words<F: Shelf>(
 /// Does what the words ask for, and gives the status with which the program ends.
 ///
 /// The whole answer is built before it is written, in one put on `out`. A refusal puts one line on `err`, and nothing
-/// on `out` unless `out` failed; where `err` fails the status stays. Where memory is wanting the status is 11.
+/// on `out` unless `out` failed; if `err` fails, the status stays. If memory runs out, the status is 11.
 ///
-/// Its clause has one field a promise (`Runs`). The field `says` has each in plain words (`RunSays`): of `stand` and
-/// `load` the headline, that what is printed is true and is accepted by `check`; what each other form prints means, and
-/// when it comes; and how faulty files and files that are too long are refused. The field `meets` is the theorem on the
-/// order of work, from which they follow. The fields `one_put` and `one_line`: `out` is called once for an answer and
-/// never for a refusal, and `err` once for a refusal and never for an answer.
+/// Its clause has one field for each promise (`Runs`). The field `says` has them in plain words (`RunSays`): of `stand`
+/// and `load` the headline, that what is printed is true and is accepted by `check`; what each other form prints means,
+/// and when it comes; and how faulty files and files that are too long are refused. The field `meets` is about the
+/// order of work, from which they follow. The fields `one_put` and `one_line`: `out` is called once for an answer, also
+/// for one whose write fails, and never for another refusal; `err` is called once for a refusal, and never for an
+/// answer.
 pub fn run<F: Shelf, O: Sink, E: Sink>(
     alloc: Global,
     words: &[String],

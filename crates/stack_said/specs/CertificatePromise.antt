@@ -57,7 +57,8 @@ module _ (asked : Asked) (text : List ℕ) where
   abbrev pub IsCertificate : CertificateValue → Type 0
   IsCertificate c = IsShort text × (certificate_of text ≡ Ok c)
 
-  -- When each comes: each true certificate is accepted, unless a number of its check is too wide.
+  -- When each comes. (So each true certificate is accepted, unless a number of its check, or of the table, is too
+  -- wide: by `some` of FulfilsOn one of these cases comes.)
   abbrev pub CertificateComes : Surveyed → CertificateCase → Type 0
   CertificateComes v (is_accepted c) = IsCertificate c × IsTrueCertificate v c × (written_check v c ≡ Accepted)
       × (answer_wide asked v c ≡ None)

@@ -40,7 +40,7 @@ TakesMemory output = ⊥
 TakesMemory (faulty memory) = ⊥
 TakesMemory _ = ⊤
 
--- The refusal was told, or its line takes memory, and that was wanting. The output's count of faults stays.
+-- The line of the refusal was written, or it takes memory, and that ran out. The output's count of faults stays.
 pub record TellsRefusal (r : Refusal) (status : ℕ) (out err : StreamSeen) : Type 0 where
   pub told : Refusal
   pub which : (told ≡ r) ⊎ (TakesMemory r × (told ≡ faulty memory))

@@ -13,8 +13,9 @@ use Rattle.stack_lines.specs.Verdicts.{verdict_status}
 use Rattle.stack_work.specs.Judging.{wide_fault}
 use Rattle.stack_said.specs.Promise.{Promise}
 
--- There is a certificate; a number of the run, of what is made of its end or of the check of that is too wide; a pivot
--- is due when the budget's are done; live loads are asked about and none is listed.
+-- There is a certificate; a number of the run, of the certificate that is made of its end, or of the check of that
+-- certificate is too wide; a further pivot is due and the budget is spent; the question is about live loads, and the
+-- model has none.
 pub data JudgeCase : Type 0 where
   has_certificate : CertificateValue → JudgeCase
   is_wide : JudgePlace → JudgeCase

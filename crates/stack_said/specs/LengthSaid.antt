@@ -1,4 +1,4 @@
--- That status 4 comes of no other cause than a file that is too long, for every form of words.
+-- For every form of words: if the shelf tells the bytes of its files, only one that is too long causes status 4.
 use Rattle.std.specs.Prelude.{◌≡◌, ℕ, ◌<◌, ◌⊎◌, List, [], ◌∷◌, Some, length}
 use Rattle.stack_outside.specs.Seen.{ShelfSeen, StreamSeen}
 use Rattle.stack_work.specs.Forms.{Form, files_of}
@@ -6,7 +6,7 @@ use Rattle.stack_work.specs.OneEnd.{AreTold}
 use Rattle.stack_work.specs.Surveying.{greatest_file}
 use Rattle.stack_work.specs.Work.{Holds}
 
--- One of these files is told, and has more bytes than may be.
+-- The shelf tells the bytes of one of these files, and they are too many.
 abbrev pub SomeIsLong : Holds → List (List ℕ) → Type 0
 SomeIsLong holds [] = ⊥
 SomeIsLong holds (name ∷ names) =

@@ -1,6 +1,6 @@
--- The theorem on the top call: every status, every byte written and every file asked for, over any devices. It has
--- no premise: it says as much of the files' contents as the shelf tells, and as much of what was written as the
--- streams tell. Want of memory, status 11, is the one free answer.
+-- The theorem on the function that does a whole run: its status, the bytes that it writes and the files that it asks
+-- for, over any devices. It has no premise. What it says of the contents of files, and of what was written, is as much
+-- as the shelf and the streams tell. Status 11, `memory`, is the one answer that is always left open.
 use Rattle.std.specs.Prelude.{◌≡◌, ℕ, ◌<◌, ◌≤◌, ◌⊎◌, List, take, Option, None, Result, Ok, Err, ⊤}
 use Rattle.stack_outside.specs.Seen.{ShelfSeen, StreamSeen, ShelfFailed, StreamFailed, NeitherFailed, Took}
 use Rattle.stack_outside.specs.Seen.{TookNothing}
@@ -41,8 +41,8 @@ abbrev pub OutputAfter : Refusal → Option Form → ShelfSeen → List (List �
 OutputAfter output form shelf names out = WritesFront form shelf names out
 OutputAfter _ form shelf names out = TookNothing out
 
--- Why the run refuses so: the shelf failed at a file that the work reads, the last that was asked for; the output
--- failed; memory was wanting; else a way through the work refuses so.
+-- Why the run refuses so: the shelf failed at a file that the work reads, the last that was asked for; or the output
+-- failed; of `memory` no cause is asked for; else a way through the work refuses so.
 abbrev pub Cause : Refusal → Option Form → ShelfSeen → List (List ℕ) → StreamSeen → Type 0
 Cause (file input) form shelf names out = ShelfFailed shelf × Way shelf.holds form names (Err (file input))
 Cause output form shelf names out = StreamFailed out

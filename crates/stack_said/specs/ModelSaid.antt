@@ -1,5 +1,5 @@
 -- How a run refuses a model, for every form of words that begins with one: by the cause in plain words, with its line;
--- and that status 5 comes of no other cause.
+-- and that nothing else causes status 5.
 use Rattle.std.specs.Prelude.{◌≡◌, ◌≢◌, ℕ, ◌<◌, ◌≤◌, ◌⊎◌, List, Ok, Err, length}
 use Rattle.stack_outside.specs.Seen.{ShelfSeen, StreamSeen, NeitherFailed, TookNothing}
 use Rattle.stack_model.specs.Structure.{Structure, body_of}
@@ -18,7 +18,7 @@ use Rattle.stack_said.specs.Promise.{IsShort, Leaves}
 abbrev pub Refuses : Fault → (status : ℕ) → (out err : StreamSeen) → Type 0
 Refuses f status out err = (status ≡ fault_status f) × TookNothing out × SaysLine (faulty f) err
 
--- The same; or memory is wanting, and nothing is on the output either.
+-- The same; or the status is 11, and nothing is on the output either.
 abbrev pub IsRefused : Fault → (status : ℕ) → (out err : StreamSeen) → Type 0
 IsRefused f status out err = Leaves status 11 out ⊎ Refuses f status out err
 
@@ -41,7 +41,7 @@ model_fault (in_count s count is many) = many_bearings count
 abbrev pub IsUnaccepted : List ℕ → Type 0
 IsUnaccepted bytes = (v : Surveyed) → ¬ (IsAcceptedModel bytes v)
 
--- How such a file is refused: it is too long, or it has a fault, and the line names which; or memory is wanting.
+-- How such a file is refused: it is too long, or it has a fault, and the line names which; or the status is 11.
 pub data UnacceptedCase (bytes : List ℕ) (status : ℕ) (out err : StreamSeen) : Type 0 where
   is_long : greatest_file < length bytes → Refuses (long inputs.Model) status out err
       → UnacceptedCase bytes status out err

@@ -3,7 +3,7 @@
 use Rattle.std.specs.Prelude.{◌≡◌, ◌≢◌, ℕ, ◌+◌, ◌^◌, ◌-◌, ◌<◌, ◌≤◌, ◌⊎◌, Some, nat_lt, if◌then◌else◌}
 use Rattle.stack_outside.specs.Seen.{StreamSeen}
 
--- A count up to here still tells each call of a run.
+-- A count stops at 2^64 - 1. Up to here it has room for the calls of one run.
 abbrev pub greatest_start : ℕ
 greatest_start = 2 ^ 64 - 4
 

@@ -6,7 +6,7 @@ use Rattle.stack_lines.specs.Refusals.{Fault, no_pair, fault_status}
 use Rattle.stack_work.specs.Answers.{Due}
 use Rattle.stack_said.specs.Promise.{Promise}
 
--- The numbers name these two loads, or this one is in the way.
+-- The numbers name these two loads; or this is the first of them that doesn't name one.
 pub data PairCase : Type 0 where
   is_pair : (loads : ℕ × ℕ) → PairCase
   is_in_the_way : (number : ℕ) → PairCase
@@ -16,7 +16,7 @@ abbrev pub IsPairStatus : PairCase → ℕ → Type 0
 IsPairStatus (is_pair loads) status = status ≢ 15
 IsPairStatus (is_in_the_way number) status = status ≡ 15
 
--- What is due: the line with that number; or, if none is in the way, anything but a fault of that status.
+-- What is due: the line with that number; or, if both name loads, anything but a fault with the status 15.
 abbrev pub IsPairDue : PairCase → Result Due Fault → Type 0
 IsPairDue (is_in_the_way number) e = e ≡ Err (no_pair number)
 IsPairDue (is_pair loads) (Ok due) = ⊤

@@ -1,5 +1,5 @@
--- What `stand` and `load` print is accepted: `check` of the printed text with the same model comes to that answer,
--- and to no other but for want of memory and devices that fail. And it is short enough to be read.
+-- What `stand` and `load` print is accepted: `check` of the printed text with the same model ends with that answer, and
+-- with no other unless memory runs out or a device fails. And the text is short enough to be read.
 use Rattle.std.specs.Prelude.{◌≡◌, ℕ, ◌<◌, ◌⊎◌, List, [], ◌∷◌, Some, Result, Ok, length}
 use Rattle.stack_outside.specs.Seen.{ShelfSeen, StreamSeen, ShelfFailed, StreamFailed, Took}
 use Rattle.stack_contact.specs.Surveyed.{Surveyed}
@@ -20,7 +20,7 @@ use Rattle.stack_work.specs.OneEnd.{IsSettled}
 abbrev pub acceptance : Result Due Refusal
 acceptance = Ok (exactly Affirmed accepted_text)
 
--- A printed certificate is accepted with its own model, and no other settled end comes of its check.
+-- A printed certificate is accepted with its own model, and its check has no other settled end.
 abbrev pub PrintedIsAccepted : Type 0
 PrintedIsAccepted = (q : Question) (v : Surveyed) (c : CertificateValue) (holds : Holds)
     (model name bytes text : List ℕ)
@@ -35,7 +35,7 @@ PrintedIsShort = (q : Question) (v : Surveyed) (c : CertificateValue) (text : Li
     → IsCertificateText c text → length text < text_bound
 
 -- What a run of `check` on a printed certificate and its model comes to: `accepted`, with status 0; or the shelf
--- failed, with 3, or the output, with 10; or memory is wanting.
+-- failed, with 3, or the output, with 10; or the status is 11.
 abbrev pub IsAcceptedAgain : (status : ℕ) → ShelfSeen → (out : StreamSeen) → Type 0
 IsAcceptedAgain status shelf out =
     ((status ≡ 0) × Took out accepted_text)

@@ -17,9 +17,9 @@ use Rattle.stack_work.specs.Surveying.{greatest_file}
 use Rattle.stack_work.specs.Yielding.{wide_toward}
 use Rattle.stack_said.specs.Promise.{IsShort, Promise}
 
--- Each direction has a reach; the dead loads collapse in this direction, before which each has a reach; a number is in
--- the way; the directions' file is too long; it has this first faulty line; this direction, counted from 0, is the
--- first that has no reach, and a number of it is too wide, or its budget is spent.
+-- Each direction has a reach; this direction is the first without one, since the dead loads alone collapse; a number
+-- names no such live load; the file of directions is too long; it has this first faulty line; this direction, counted
+-- from 0, is the first without a reach, since a number of its judgement is too wide, or since the budget is spent.
 pub data RegionCase : Type 0 where
   each_reaches : (loads : ℕ × ℕ) → List (ℤ × ℤ) → RegionCase
   one_falls : (loads : ℕ × ℕ) → List (ℤ × ℤ) → (k : ℕ) → MotionValue → RegionCase

@@ -1,5 +1,5 @@
--- What a run says in plain words, by the form of its words and the bytes of its files where the shelf tells them: one
--- field a promise. It follows from the theorem on the order of work, and is read without it.
+-- What a run says in plain words, by the form of its words and by the bytes of its files if the shelf tells them: one
+-- field for each promise. It follows from `RunMeets` (MainTheorem), and can be read without it.
 use Rattle.std.specs.Prelude.{◌≡◌, ℕ, List, ◌∷◌, Option, Some}
 use Rattle.stack_outside.specs.Seen.{ShelfSeen, StreamSeen}
 use Rattle.stack_contact.specs.Surveyed.{Surveyed}
@@ -49,11 +49,11 @@ pub record RunSays (status : ℕ) (form : Option Form) (shelf : ShelfSeen) (out 
   -- `sample`: the summary of a true certificate of the wall's live question
   pub sampled : (number : ℕ) → form ≡ Some (sample number)
       → FulfilsAtOnce (sample_promise number) status shelf out err
-  -- how a faulty model is refused, by each form that names one
+  -- how a faulty model is refused, whichever of the forms that name a model the words have
   pub model : (f : Form) (model : List ℕ) (more : List (List ℕ)) (bytes : List ℕ) → form ≡ Some f
       → files_of (Some f) ≡ model ∷ more → shelf.holds model ≡ Some bytes
       → ModelSays bytes status shelf out err
-  -- that 4 comes of a file that is too long, by each form
+  -- status 4 is caused by a file that is too long alone, whichever form the words have
   pub length : (f : Form) → form ≡ Some f → LengthSays f status shelf out err
   -- `range`: the ends between which lie exactly the factors that are carried
   pub ranged : (model : List ℕ) (budget : ℕ) (bytes : List ℕ) → form ≡ Some (ranges model budget)
@@ -62,11 +62,11 @@ pub record RunSays (status : ℕ) (form : Option Form) (shelf : ShelfSeen) (out 
   pub staged : (model name : List ℕ) (budget : ℕ) (bytes text : List ℕ) → form ≡ Some (builds model name budget)
       → shelf.holds model ≡ Some bytes → shelf.holds name ≡ Some text
       → Fulfils (stages_promise text budget) bytes status shelf out err
-  -- `yield`: points that two live loads may take together, and half-planes that hold every pair that is carried
+  -- `yield`: pairs of factors at which both live loads are carried, and half-planes that hold every such pair
   pub yielded : (model : List ℕ) (i j : ℕ) (name : List ℕ) (budget : ℕ) (bytes text : List ℕ)
       → form ≡ Some (yields model i j name budget) → shelf.holds model ≡ Some bytes → shelf.holds name ≡ Some text
       → Fulfils (region_promise i j text budget) bytes status shelf out err
-  -- and a number of it that is in the way is refused whatever the directions' file holds
+  -- `yield`: a number that names no such live load is refused, whatever the file of directions holds
   pub paired : (model : List ℕ) (i j : ℕ) (name : List ℕ) (budget : ℕ) (bytes : List ℕ)
       → form ≡ Some (yields model i j name budget) → shelf.holds model ≡ Some bytes
       → Fulfils (pair_promise i j) bytes status shelf out err

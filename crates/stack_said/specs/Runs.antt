@@ -8,18 +8,18 @@ use Rattle.stack_said.specs.OnePut.{PutsAnswer, PutsLine}
 use Rattle.stack_said.specs.RunSaid.{RunSays}
 
 pub record Runs (status : ℕ) (form : Option Form) (shelf : ShelfSeen) (out err : StreamSeen) : Type 0 where
-  -- the theorem on the order of work: each step in its turn, and exactly what it ends in is given out
+  -- the order of work: each step in its turn, and exactly what the work ends in is given out
   pub meets : RunMeets status form shelf out err
-  -- what follows from it in plain words, one field a promise
+  -- what follows from it in plain words, one field for each promise
   pub says : RunSays status form shelf out err
-  -- an answer is one put on the output, and a refusal none
+  -- one put on the output for an answer, also for one whose write fails (status 10); none for any other refusal
   pub one_put : PutsAnswer status out
-  -- a refusal is one put on the error stream, and an answer none
+  -- one put on the error stream for a refusal, none for an answer
   pub one_line : PutsLine status err
-  -- a write of the answer that failed is told: where the output's count of faults rose the status is 10. (One of a line
-  -- on the error stream isn't told)
+  -- if the output's count of faults rose, which says that a write of the answer failed, the status is 10. (Of a line on
+  -- the error stream that couldn't be written no status says so)
   pub write_told : out.faults < out.faults_after → status ≡ 10
-  -- so is a read that failed: where the shelf's rose the status is 3, or 11 if memory for the line is wanting. (A count
+  -- if the shelf's count rose, which says that a read failed, the status is 3, or 11 if memory ran out. (A count
   -- that stands at its greatest value can't rise; that of a new device is 0)
   pub read_told : shelf.faults < shelf.faults_after → (status ≡ 3) ⊎ (status ≡ 11)
   -- no file is changed
