@@ -7,9 +7,10 @@ Nothing here is proved. No function but `ran` ends a script or prints what went 
 - `Ended`: the program refused. The script passes on what it printed, and ends with its status.
 
 The environment variable PUNGIROE names the program, which is else the script `pungiroe` in the folder above this one.
-PUNGIROE_PATIENCE says after how many whole seconds a script tells what is at work, 2 if it isn't set. Python 3.11 or
-later.
+If that has to prove and build the program first, the first call says so. PUNGIROE_PATIENCE says after how many whole
+seconds a script tells what is at work, 2 if it isn't set. Python 3.11 or later.
 """
+import functools
 import os
 import signal
 import subprocess
@@ -20,6 +21,8 @@ from collections.abc import Callable
 from dataclasses import dataclass
 from fractions import Fraction
 from pathlib import Path
+
+import due
 
 PROGRAM = os.environ.get("PUNGIROE") or str(Path(__file__).resolve().parent.parent / "pungiroe")
 # Seconds until what is at work is told.
@@ -55,26 +58,32 @@ class Ended(Exception):
 
 
 def program(*words: object) -> Answer:
+    tell_of_build()
     try:
         done = subprocess.run([PROGRAM, *map(str, words)], capture_output=True, encoding="utf-8", errors="replace")
     except (OSError, ValueError) as fault:
         raise Refused(f"{PROGRAM}: {getattr(fault, 'strerror', None) or fault}") from None
     if done.returncode < 0:
         raise Refused(f"{PROGRAM} was ended by the signal {-done.returncode}")
-    return Answer(done.returncode, done.stdout, done.stderr.strip())
+    return Answer(done.returncode, done.stdout, done.stderr.strip().rpartition("\n")[2])  # behind those of a build
+
+
+def why_due() -> due.Why | None:
+    """Why the program is first proved and built, for many minutes, if it is."""
+    top = Path(__file__).resolve().parent.parent
+    return due.why(top) if Path(PROGRAM) == top / "pungiroe" else None
 
 
 def built() -> bool:
-    """Whether the program is there: else its script would first build it, for many minutes."""
-    top = Path(__file__).resolve().parent.parent
-    made = top / "crates/stack_cli/out/stack_cli"
-    if Path(PROGRAM) != top / "pungiroe":
-        return True
-    if not made.exists():
-        return False
-    sources = [top / "crates.txt", *top.glob("crates/**/*.rt"), *top.glob("crates/**/*.antt")]
-    age = made.stat().st_mtime
-    return all(path.stat().st_mtime <= age for path in sources if "out" not in path.parts)
+    return why_due() is None
+
+
+@functools.cache
+def tell_of_build() -> None:
+    """Says at the first call of the program that it is first built, if it is."""
+    if reason := why_due():
+        said(f"pungiroe: the program {reason.value}, so it is proved and built first, in 11 minutes on four idle "
+             "processors; the environment variable PUNGIROE may name a built one", 0)
 
 
 def answer(*words: object) -> str:
@@ -129,8 +138,8 @@ def quiet(stage: str) -> None:
 class Progress:
     """Tells on standard error what is at work, once some time has passed."""
 
-    def __init__(self, name: str) -> None:
-        self.name, self.stage, self.late = name, "the contacts", False
+    def __init__(self, name: str, stage: str = "the contacts") -> None:
+        self.name, self.stage, self.late = name, stage, False
         self.start = time.monotonic()
         self.timer = threading.Timer(PATIENCE, self.begin)
         self.timer.daemon = True
@@ -161,15 +170,20 @@ class Progress:
 NOT_BUILT = "nothing is built: run ./pungiroe, which takes many minutes, or name a built program in PUNGIROE"
 
 
-def ran(asked: Callable[[list[str]], int], name: str, page: str | None, words: list[str]) -> int:
-    """The status of a script: that of `asked` on its words. Without words the script's page is printed."""
+def ran(asked: Callable[[list[str]], int], name: str, page: str | None, words: list[str],
+        stage: str | None = None) -> int:
+    """The status of a script: that of `asked` on its words. Without words the script's page is printed. A script that
+    has no Progress of its own names what is at work."""
     if threading.current_thread() is threading.main_thread():
         signal.signal(signal.SIGPIPE, signal.SIG_DFL)
     if not words:
         print((page or "").rstrip(), file=sys.stderr)
         return 2
     try:
-        return asked(words)
+        if not stage:
+            return asked(words)
+        with Progress(name, stage):
+            return asked(words)
     except Words as fault:
         return said(f"{name}: {fault}", 2)
     except (Refused, ArithmeticError) as fault:

@@ -15,8 +15,8 @@ import ranges
 import settle
 from bench import Refused, Telling
 from model import Block, Load, Model
-from settle import Case, Loaded, Plain, Silent, Unlimited, decimal, motion_lines, ratio, simplest
-from short import short_motion
+from settle import Case, Loaded, Plain, Silent, Unlimited, decimal, ratio, simplest
+from short import motion_lines, short_motion
 from statics import Motion, Structure, work
 from units import Scale
 
@@ -96,7 +96,7 @@ def body(model: Model, name: str, free: bool = False) -> Block:
     for block in model.blocks:
         if block.name == name and not (free and block.fixed):
             return block
-    raise Refused(f"no {'free block' if free else 'body'} is named {name}")
+    raise Refused(f"no {'free block' if free else 'body'} is named {bench.shown(name)}")
 
 
 # The answer

@@ -14,11 +14,14 @@ from dataclasses import dataclass, field
 from functools import cache
 from pathlib import Path
 
+from model import text_of
+
 TOP = Path(__file__).resolve().parent.parent
 # `use Rattle.CRATE.specs.PAGE.{NAMES}`, or `use Rattle.CRATE.specs.PAGE as NAME`.
 USE = re.compile(r"(?:pub )?use ((?:\w+\.)*\w+)(?:\.\{(.*)\}| as (\w+))?$")
-HEAD = re.compile(r"(?:(?:pub|abbrev|unfoldable) )*(?:(?:record|data) )?(?:pub )?([^\s:()]+)")
-BEGINS = re.compile(r"(pub (record|data|unfoldable|abbrev) |abbrev |unfoldable |record |data )")
+HEAD = re.compile(r"(?:(?:pub|abbrev|unfoldable|ruleset) )*(?:(?:record|data) )?(?:pub )?([^\s:()]+)")
+BEGINS = re.compile(r"(pub (record|data|unfoldable|abbrev|ruleset) |abbrev |unfoldable |record |data "
+                    r"|(pub )?[^\s:(){}=]+ :( |$))")
 
 
 @dataclass
@@ -43,35 +46,63 @@ def page_of(used: str) -> Page | None:
     return None
 
 
-def read(path: Path) -> Page:
-    page, comment, name = Page(path), list[str](), ""
-    # The lines `module` that we are in, each with its indent.
-    modules: list[tuple[int, str]] = []
-    for line in path.read_text().splitlines():
-        text = line.strip()
-        indent = len(line) - len(line.lstrip())
-        while text and modules and indent <= modules[-1][0]:
-            modules.pop()
+@dataclass
+class Module:
+    """A line `module` that we are in: its indent, its lines, and the indent of what it holds, once that is known."""
+    indent: int
+    lines: list[str]
+    inner: int | None = None
+
+    def is_open(self) -> bool:
+        """Whether its heading goes on."""
+        return not self.lines[-1].rstrip().endswith("where")
+
+
+class Reader:
+    """Reads a page line by line."""
+
+    def __init__(self, path: Path) -> None:
+        self.page, self.comment, self.name = Page(path), list[str](), ""
+        self.modules: list[Module] = []
+
+    def take(self, line: str) -> None:
+        text, indent = line.strip(), len(line) - len(line.lstrip())
+        while text and self.modules and indent <= self.modules[-1].indent:
+            self.modules.pop()
         if used := USE.match(line):
-            note(page, used)
+            note(self.page, used)
         elif text.startswith("--"):
-            comment.append(line)
+            self.comment.append(line)
+        elif self.modules and self.modules[-1].is_open():
+            self.modules[-1].lines.append(line)
         elif text.startswith("module "):
-            modules.append((indent, line))
-            comment = []
+            self.modules.append(Module(indent, [line]))
+            self.comment = []
         elif not text or text.startswith(("infix", "pub mod ")):
-            comment = []
-        elif indent == 2 * len(modules) and BEGINS.match(text) and (head := HEAD.match(text)):
-            name = head[1]
-            page.lines.setdefault(name, []).extend([*(it for _, it in modules), *comment, line])
-            comment = []
-        elif name:
-            # A further line of the definition: an equation, a field or a case.
-            page.lines[name] += [*comment, line]
-            comment = []
+            self.comment = []
+        else:
+            self.define(line, text, indent)
+            self.comment = []
+
+    def define(self, line: str, text: str, indent: int) -> None:
+        """A line that begins a definition, or is one of it: an equation, a field or a case."""
+        within = self.modules[-1] if self.modules else Module(0, [], 0)
+        within.inner = indent if within.inner is None else within.inner
+        if indent == within.inner and BEGINS.match(text) and (head := HEAD.match(text)):
+            self.name = head[1]
+            above = [it for module in self.modules for it in module.lines]
+            self.page.lines.setdefault(self.name, []).extend([*above, *self.comment, line])
+        elif self.name:
+            self.page.lines[self.name] += [*self.comment, line]
             if of := re.match(r"\s+(?:pub )?(\S+) :", line):
-                page.owner.setdefault(of[1], name)
-    return page
+                self.page.owner.setdefault(of[1], self.name)
+
+
+def read(path: Path) -> Page:
+    reader = Reader(path)
+    for line in text_of(path).splitlines():
+        reader.take(line)
+    return reader.page
 
 
 def note(page: Page, used: re.Match[str]) -> None:

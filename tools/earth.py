@@ -23,9 +23,10 @@ is greater than that on the plane of the edge above, the difference is a load on
 **In an earthquake** the pressure is that of Mononobe and Okabe at N/D times the sway of the model. It is dead, in place
 of the static pressure. `tools/variant.py share` then makes N/D of the sway dead too, and `stand` judges the model that
 it prints. Each share has its own pressure, so try shares one after the other. HEIGHT says how far above the foot the
-increment of the pressure acts, as a part of the height of the back: 1/3, 1/2, or 0.6 if you don't say. It is between
-1/3 and 2/3. The increment of the pressure of a surcharge acts no lower than at a half. The inertia of the wedge of
-earth is in the pressure already. Earth on a step moves with the wall, so it sways with it.
+increment of the pressure acts, as a part of the height of the back. It is between 1/3 and 2/3, and 2/3 if you don't
+say, since there it tips a wall most easily; others take 1/3, 1/2 or 0.6. The increment of the pressure of a surcharge
+acts no lower than at a half. The inertia of the wedge of earth is in the pressure already. Earth on a step moves with
+the wall, so it sways with it.
 
 This holds on these conditions:
 
@@ -47,7 +48,10 @@ of depth, evenly between its edges, and reaches each block by the part that fall
 structure.
 
 Each load is two forces at the ends of an edge, with the same sum and the same moment; only their parts are rounded.
-Standard error says for each part of the back how it leans and its coefficient, and the sums of the loads. Look at them.
+They stand behind the loads of MODEL, which keep their numbers. Standard error says for each part of the back how it
+leans and its coefficient, and in an earthquake at which part of the height the increment acts. For fill it says how
+much pushes to the right, on the left side of an arch, and how much to the left. Then come the sums of the loads, in
+which both pushes cancel. Look at them.
 
 The exit status is 2 if the words make no sense, 70 if the earth can't be reckoned or a file can't be read, and that of
 the program if it refuses the model. Python 3.11 or later.
@@ -65,6 +69,7 @@ from outside import Laid, Piece, Side, between, open_pieces, with_loads
 from units import Scale, decimal, scale_of
 
 NEAR = 1.0  # how far the corners of one back may lie off its line
+HIGHEST = Fraction(2, 3)  # of the height of the back: where the increment of the pressure may act
 
 
 @dataclass(frozen=True)
@@ -77,7 +82,7 @@ class Soil:
     surcharge: float = 0.0
     sideways: float = 0.0
     upwards: float = 0.0
-    height: float = 0.6
+    height: float = float(HIGHEST)
 
     def coefficient(self, lean: float, turned: float = 0.0) -> float:
         """The active coefficient of a back that leans into the earth by so much, its foot further left; after Coulomb,
@@ -291,8 +296,10 @@ class Behind:
         for plane in self.planes:
             names = " ".join(dict.fromkeys(piece.block for piece in plane.pieces))
             still, moving = plane.coefficients
-            more = f", in the earthquake {moving:.4g}" if self.soil.sideways else ""
-            found.append(f"back {names} lean {degrees(plane.lean):.3g} ka {still:.4g}{more}")
+            line = f"back {names} lean {degrees(plane.lean):.3g} ka {still:.4g}"
+            if self.soil.sideways:
+                line += f", in the earthquake {moving:.4g}, increment at {self.soil.height:.4g}"
+            found.append(line)
         return found
 
 
@@ -313,13 +320,13 @@ def shaken(model: Model, words: list[str]) -> tuple[float, float, float]:
     if not words:
         if any(sway):
             raise Words("the model has a sway: say `quake N D`, or leave the sway out")
-        return 0.0, 0.0, 0.6
+        return 0.0, 0.0, float(HIGHEST)
     if len(words) not in (3, 4):
         raise Words("quake takes N D [HEIGHT]")
     if not any(sway):
         raise Words("the model has no sway, so there is no earthquake")
     share = Fraction(whole(words[1], "N", 0), whole(words[2], "D", 1))
-    height = decimal(words[3], "HEIGHT", Fraction(1, 3), Fraction(2, 3)) if len(words) == 4 else Fraction(3, 5)
+    height = decimal(words[3], "HEIGHT", Fraction(1, 3), HIGHEST) if len(words) == 4 else HIGHEST
     if sway[0] <= 0:
         raise Words("the sway isn't away from the earth, to the right")
     sideways, upwards = (float(share * part) for part in sway)
@@ -367,4 +374,4 @@ def main(words: list[str]) -> int:
 
 
 if __name__ == "__main__":
-    sys.exit(ran(main, "earth", __doc__, sys.argv[1:]))
+    sys.exit(ran(main, "earth", __doc__, sys.argv[1:], "the contacts and the earth"))

@@ -9,7 +9,7 @@ from fractions import Fraction
 from bench import Refused, Words, answer
 from model import Model, read
 from outside import Laid, Piece, Side, open_pieces, with_loads
-from units import decimal
+from units import decimal, number
 
 Surface = Callable[[float], float]
 PARTS = 64  # so many steps of a mean
@@ -46,6 +46,14 @@ def weigh(laid: Laid, model: Model, piece: Piece, weight: float, surface: Surfac
     if any(sway):
         whole = weight * wide * (right + left) / 2
         laid.add(part.block, "live", centroid(part, right, left), (whole * sway[0], whole * sway[1]))
+
+
+def pushed(laid: Laid, piece: Piece, unit: float, surface: Surface) -> float:
+    """Lays the push of the fill on the rise of a piece, `unit` times the depth, and gives its sum, to the right."""
+    rise = float(piece.start[1] - piece.end[1])
+    first, last = unit * depth(surface, piece.start), unit * depth(surface, piece.end)
+    laid.pressed(piece, "dead", (first, last), (rise, 0.0))
+    return (first + last) / 2 * rise
 
 
 def centroid(part: Piece, right: float, left: float) -> tuple[Fraction, Fraction]:
@@ -140,11 +148,11 @@ def filled(words: list[str]) -> tuple[Model, list[str]]:
     pieces = [part for piece in open_pieces(model, Side.UP, True) if (part := under(piece, surface))]
     if not pieces:
         raise Refused(f"no free block has an open edge upwards under the height {top:g}")
+    pushes = []
     for piece in pieces:
         weigh(laid, model, piece, weight, surface)
-        rise = float(piece.start[1] - piece.end[1])
-        sides = push * weight * depth(surface, piece.start), push * weight * depth(surface, piece.end)
-        laid.pressed(piece, "dead", sides, (rise, 0.0))
+        pushes.append(pushed(laid, piece, push * weight, surface))
     for load in spreads:
         lay_spread(laid, pieces, top, load)
-    return model, with_loads(model, laid)
+    right, left = (sum(max(way * one, 0.0) for one in pushes) for way in (1, -1))
+    return model, [f"push right {number(right, 1e-6)} left {number(left, 1e-6)}", *with_loads(model, laid)]

@@ -50,6 +50,16 @@ class Inset:
     scale: Scale
     lines: list[str] = field(default_factory=list)
 
+    def loaded(self, loads: Sequence[Load]) -> Model:
+        """The new model with other loads: some of the old model, which may act elsewhere."""
+        return replace(self.model, loads=[scaled(load, self.scale) for load in loads])
+
+
+def scaled(load: Load, scale: Scale) -> Load:
+    """A load of the old model in the new one."""
+    return replace(load, at=[scale.lengths * part for part in load.at],
+                   force=[int(scale.forces * part) for part in load.force])
+
 
 def joints_of(bearings: Sequence[Bearing]) -> list[Joint]:
     found: dict[tuple[str, str], list[Bearing]] = {}
@@ -199,10 +209,9 @@ def inset(model: Model, bearings: Sequence[Bearing], distance: Fraction, grid: i
     blocks = [shortened(block, joints, distance, grid) for block in model.blocks]
     common = divisor(model, grid)
     materials = [Material(one.name, one.weight // common, one.friction) for one in model.materials]
-    loads = [Load(one.block, one.kind, [grid * part for part in one.at],
-                  [grid ** 2 * part // common for part in one.force]) for one in model.loads]
-    made = replace(model, materials=materials, blocks=blocks, loads=loads)
-    return Inset(made, Scale(Fraction(grid ** 2, common), grid), lines_of(model, made, joints, distance, grid))
+    scale = Scale(Fraction(grid ** 2, common), grid)
+    made = replace(model, materials=materials, blocks=blocks, loads=[scaled(load, scale) for load in model.loads])
+    return Inset(made, scale, lines_of(model, made, joints, distance, grid))
 
 
 def lines_of(model: Model, made: Model, joints: Sequence[Joint], distance: Fraction, grid: int) -> list[str]:

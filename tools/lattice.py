@@ -177,11 +177,10 @@ class Step:
     clear the sums of other vectors there. Babai's nearest plane then keeps these short.
     """
 
-    def __init__(self, group: Sequence[int], vectors: list[Vector], reduction: Reduction) -> None:
-        self.group, self.vectors = group, vectors
-        ends = [vector.at(group) for vector in vectors]
-        self.plain = sum(not any(end) for end in ends)  # how many have no sums in the group
-        self.inverse, self.divisor = inverted(ends[self.plain:], len(group))
+    def __init__(self, group: Sequence[int], vectors: list[Vector], reduction: Reduction, inverse: list[list[int]],
+                 divisor: int) -> None:
+        self.group, self.vectors, self.inverse, self.divisor = group, vectors, inverse, divisor
+        self.plain = sum(not any(vector.at(group)) for vector in vectors)  # how many have no sums in the group
         self.mu = [[x / y for x, y in zip(row[:k], reduction.d[1:])] for k, row in enumerate(reduction.lam)]
         self.squares = [y / x for x, y in zip(reduction.d, reduction.d[1:])]
         self.shadows = [[*map(float, vector.shadow)] for vector in vectors[:self.plain]]
@@ -191,7 +190,7 @@ class Step:
         sums, pivots = vector.at(self.group), len(self.vectors) - self.plain
         if not any(sums):
             return [0] * pivots
-        times = [dot(row, sums) for row in self.inverse or ()]
+        times = [dot(row, sums) for row in self.inverse]
         if any(x % self.divisor for x in times) or any(times[pivots:]):
             raise NoVector
         return [x // self.divisor for x in times[:pivots]]
@@ -252,18 +251,30 @@ def parted(group: Sequence[int], vectors: list[Vector]) -> Step:
     """
     products = [[dot(u.shadow, v.shadow) for v in vectors[:k + 1]] for k, u in enumerate(vectors)]
     sums = [vector.at(group) for vector in vectors]
+    columns = [*zip(*sums)]
     bits = 0
     while True:
         bits += 40
         weighed = [[x + (dot(s, t) << bits) for x, t in zip(row, sums)] for row, s in zip(products, sums)]
         reduction = Reduction(weighed)
-        made = [combined(zip(times, vectors)) for times in reduction.rows]
-        step = Step(group, made, reduction)
-        if step.inverse is not None and not any(any(vector.at(group)) for vector in made[:step.plain]):
-            return step
+        ends = [[dot(times, column) for column in columns] for times in reduction.rows]
+        plain = sum(not any(end) for end in ends)
+        inverse, divisor = inverted(ends[plain:], len(group))
+        if inverse is not None and not any(map(any, ends[:plain])):
+            return Step(group, [combined(zip(times, vectors)) for times in reduction.rows], reduction, inverse, divisor)
 
 
 # The lattice
+
+
+DRAWS, SIGNS = random.Random(0), list[list[int]]()
+
+
+def signs(unknown: int) -> list[int]:
+    """The signs drawn for an unknown, the same in all lattices."""
+    while len(SIGNS) <= unknown:
+        SIGNS.append([DRAWS.choice((-1, 1)) for _ in range(SHADOW)])
+    return SIGNS[unknown]
 
 
 class Lattice:
@@ -272,14 +283,13 @@ class Lattice:
     def __init__(self, columns: Sequence[Sums], groups: Sequence[Sequence[int]],
                  lengths: Iterable[int] | None = None) -> None:
         """A column is a dictionary from rows to amounts. An unknown's length is 1 where none is given."""
-        draw = random.Random(0)
         self.columns, self.groups = columns, groups
         self.steps: list[Step] = []
         self.basis: list[Vector] = []
         self.group_of = {row: g for g, group in enumerate(groups) for row in group}
         units = []
         for j, (column, length) in enumerate(zip(columns, lengths or repeat(1))):
-            units.append(Vector(column, [length * draw.choice((-1, 1)) for _ in range(SHADOW)], unknown=j))
+            units.append(Vector(column, [length * sign for sign in signs(j)], unknown=j))
         self.reduce(units)
 
     def reduce(self, fresh: list[Vector]) -> None:

@@ -154,4 +154,4 @@ def main(words: list[str]) -> int:
 
 
 if __name__ == "__main__":
-    sys.exit(ran(main, "look", __doc__, sys.argv[1:]))
+    sys.exit(ran(main, "look", __doc__, sys.argv[1:], "the contacts and what is near"))

@@ -14,7 +14,7 @@ from pathlib import Path
 from typing import TypeVar
 
 import bench
-from bench import Answer as Answer, Refused as Refused
+from bench import Refused
 
 # Limits of a model.
 COORDINATE, WEIGHT, FORCE, LOADS = 10**6, 10**6, 10**9, 256

@@ -10,6 +10,7 @@ from dataclasses import dataclass, field
 from enum import Enum
 from fractions import Fraction
 from pathlib import Path
+from subprocess import DEVNULL
 
 from bench import Refused
 
@@ -172,7 +173,8 @@ def asked(text: str, way: list[str]) -> list[str]:
     with tempfile.TemporaryDirectory() as folder:
         Path(folder, "problem.lp").write_text(text)
         try:
-            subprocess.run(["esolver", *way, "-L", "-O", "answer", "problem.lp"], cwd=folder, capture_output=True)
+            subprocess.run(["esolver", *way, "-L", "-O", "answer", "problem.lp"], cwd=folder, stdout=DEVNULL,
+                           stderr=DEVNULL)
         except OSError:
             raise NoAnswer(MISSING) from None
         answer = Path(folder, "answer")

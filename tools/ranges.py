@@ -3,6 +3,7 @@
 Nothing here is proved.
 """
 import model as models
+from bench import Refused
 from model import Model
 from settle import Case, Collapses, Greatest, Loaded, Unlimited, lower, ratio, whole
 from units import Scale, scale_of
@@ -37,7 +38,7 @@ def ranged(case: Case) -> bool:
     if least is None:
         return True
     if isinstance(least, Collapses):
-        raise models.Refused("the reversed model collapses, and the model doesn't")
+        raise Refused("the reversed model collapses, and the model doesn't")
     ends = [end_of(least, -1), end_of(greatest, 1)]
     exact = all(isinstance(one, (Greatest, Unlimited)) for one in (greatest, least))
     if None not in ends:

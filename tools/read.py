@@ -206,4 +206,4 @@ def main(words: list[str]) -> int:
 
 
 if __name__ == "__main__":
-    sys.exit(ran(main, "read", __doc__, sys.argv[1:]))
+    sys.exit(ran(main, "read", __doc__, sys.argv[1:], "the table and the motion"))

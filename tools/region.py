@@ -39,7 +39,8 @@ is `unsettled` if something is open and no new direction of whole numbers up to 
 1,000 lines.
 
 With `kN FORCE` the decimals are in kN, where a force of 1 is FORCE kN: a and b times the size of what I and J come to.
-The factor of a sway stays a share of the weight. With `csv` the lines have decimals alone, and commas between words.
+The factor of a sway stays a share of the weight. There is no `m LENGTH`: nothing that is printed is a length. With
+`csv` the lines have decimals alone, and commas between words.
 
 The exit status is that of the program; it is 70 if a file can't be read or the program can't be run, and 2 if the words
 are no form. Python 3.11 or later.
@@ -57,6 +58,7 @@ from bench import Progress, Words
 from model import text_of
 from pairs import Direction, Half, Region, lowest, region_of
 from programs import Exact
+from settle import ratio
 from units import decimal, scale_of
 
 MOSTS = 10**3, 10**6, 10**9  # the greatest number of a direction: at first, and where that comes no nearer
@@ -89,7 +91,6 @@ class Word(Enum):
     SAFE = "safe"
     NEAR = "near"
     OPEN = "open"
-
 
 
 def hull(points: Sequence[Vector]) -> list[Vector]:
@@ -220,7 +221,7 @@ class Line:
 
     def laid_out(self) -> str:
         first = (*self.first, "at") if self.first[0] == "point" else self.first
-        fractions = [fraction(value) if isinstance(value, Fraction) else value for value in self.exact]
+        fractions = [ratio(value) if isinstance(value, Fraction) else value for value in self.exact]
         equals = ("=", *map(number, self.decimals)) if self.exact else ()
         return " ".join(map(str, (*first, *fractions, *equals, *self.last)))
 
@@ -245,10 +246,6 @@ class Sizes:
 
 def number(value: float) -> str:
     return f"{value:.6g}"
-
-
-def fraction(value: Fraction) -> str:
-    return f"{value.numerator}/{value.denominator}"
 
 
 def lines_of(region: Region, sizes: Sizes = Sizes()) -> Iterator[Line]:
@@ -292,7 +289,7 @@ def asked(words: list[str]) -> int:
     if len(words) > 5 and words[4] == "kN":
         options, force = words[6:], decimal(words[5], "FORCE", LEAST)
     if len(words) < 4 or options not in ([], ["csv"]):
-        raise Words("the form is MODEL I J DIRS [kN FORCE] [csv]")
+        raise Words("the form is MODEL I J DIRS [kN FORCE] [csv], without m LENGTH: a region has no lengths")
     with Progress("region") as progress:
         region = region_of(words[0], words[1], words[2], words[3], progress)
     for line in lines_of(region, sizes_of(words, force) if force else Sizes()):

@@ -5,7 +5,7 @@ Nothing here is proved: only the `accepted` of `check` counts. Nothing is announ
 """
 import sys
 from collections.abc import Callable, Sequence
-from dataclasses import dataclass
+from dataclasses import dataclass, field
 from fractions import Fraction
 from functools import cached_property
 from math import ceil, floor
@@ -18,8 +18,8 @@ from bench import Refused, quiet
 from linear import Amounts, Inner, Opening, Raised
 from model import Model
 from programs import NoAnswer
-from short import short_forces, short_motion
-from statics import GREATEST, Motion, NotFound, Part, Structure, work
+from short import Forces, Tried, forces_lines, motion_lines, short_forces, short_motion
+from statics import GREATEST, Motion, NotFound, Structure, work
 from units import Scale, scale_of
 
 MISSES = 3  # so many greatest factors without a certificate, and no more are looked for
@@ -104,15 +104,6 @@ def decimal(x: Fraction, rounded: Callable[[Fraction], int] = round) -> str:
     return "-" + text if number < 0 else text
 
 
-def forces_lines(scale: int, factor: int, parts: Sequence[Part]) -> list[str]:
-    return [f"forces {scale} {factor}", *(f"push {a} {b}" for a, b in parts)]
-
-
-def motion_lines(motion: Motion) -> list[str]:
-    moves = zip(motion[::3], motion[1::3], motion[2::3])
-    return ["motion", *("move %d %d %d" % move for move in moves)]
-
-
 def motion_of(lines: Sequence[str]) -> list[int]:
     """The motion of a certificate."""
     return [int(part) for line in lines if line.startswith("move ") for part in line.split()[1:]]
@@ -155,11 +146,16 @@ class Silent(Plain):
 
 @dataclass
 class Known:
-    """What cases with the same bodies and dead loads share: forces for these, whether it is accepted that they stand,
-    and how many greatest factors in a row had no certificate."""
+    """What cases with the same bodies and dead loads share: the table of contacts, forces for these loads and short
+    ones, whether it is accepted that they stand, how many greatest factors in a row had no certificate, motions that no
+    bearing resists, and at which scales forces were found. Where no certificate is kept they needn't be the least."""
+    table: str | None = None
     dead: Inner | None = None
+    short: Forces | None = None
     stands: bool = False
     misses: int = 0
+    motions: list[Motion] = field(default_factory=list)
+    tried: dict[str, Tried] = field(default_factory=dict)
 
 
 class Case:
@@ -175,8 +171,9 @@ class Case:
     @cached_property
     def structure(self) -> Structure:
         self.progress("the contacts")
-        table = bench.answer("contacts", self.name)
-        return Structure(self.model, table)
+        if self.known.table is None:
+            self.known.table = bench.answer("contacts", self.name)
+        return Structure(self.model, self.known.table)
 
     @cached_property
     def model(self) -> Model:
@@ -249,8 +246,13 @@ class Case:
         self.voice.say("collapses accepted")
         return Collapses(motion)
 
+    def short_dead(self, dead: Inner) -> Forces:
+        if self.known.short is None:
+            self.known.short = short_forces(self.structure, dead.amounts, self.structure.dead)
+        return self.known.short
+
     def stands(self, dead: Inner) -> Stands:
-        scale, parts = short_forces(self.structure, dead.amounts, self.structure.dead)
+        scale, parts = self.short_dead(dead)
         self.accepted(self.name, self.cert, ["stands", *forces_lines(scale, 0, parts)])
         self.voice.say("stands accepted")
         return Stands()
@@ -261,6 +263,13 @@ class Case:
             self.known.dead = linear.inner(self.structure, self.structure.dead)
         return self.known.dead
 
+    def live_forces(self) -> Inner | None:
+        """Forces for the live loads alone. There are none if these gain power on a motion that no bearing resists."""
+        if any(work(self.structure.live, motion) > 0 for motion in self.known.motions):
+            return None
+        self.progress("the live loads alone")
+        return linear.inner(self.structure, self.structure.live)
+
     def stand(self) -> Standing:
         dead = self.dead_forces()
         return self.stands(dead) if dead else self.collapse()
@@ -269,12 +278,12 @@ class Case:
         dead = self.dead_forces()
         if dead is None:
             return self.collapse()
-        self.progress("the live loads alone")
-        live = linear.inner(self.structure, self.structure.live)
+        live = self.live_forces()
         if live is not None:
             return self.unbounded(dead, live)
         self.progress("the greatest factor")
         top = linear.raised(self.structure)
+        self.known.motions.append(top.motion)
         if self.known.misses < MISSES:
             try:
                 found, self.known.misses = self.greatest(top), 0
@@ -286,9 +295,8 @@ class Case:
         return self.shares(top, dead)
 
     def unbounded(self, dead: Inner, live: Inner) -> Unlimited:
-        structure = self.structure
-        scale, parts = short_forces(structure, dead.amounts, structure.dead)
-        factor, ray = short_forces(structure, live.amounts, structure.live)
+        scale, parts = self.short_dead(dead)
+        factor, ray = short_forces(self.structure, live.amounts, self.structure.live, self.known.tried.get("ray"))
         lines = ["unbounded", *forces_lines(scale, 0, parts), *forces_lines(0, factor, ray)]
         self.accepted(self.name, self.cert, lines)
         self.voice.say("unbounded accepted")
@@ -305,7 +313,8 @@ class Case:
         found = linear.inner(structure, structure.dead, structure.live, None, edges)
         if found is None:
             raise NotFound("no forces at the greatest factor were found")
-        scale, parts = short_forces(structure, {k: d * x for k, x in found.amounts.items()}, structure.loads(d, n))
+        scale, parts = short_forces(structure, {k: d * x for k, x in found.amounts.items()}, structure.loads(d, n),
+                                    self.known.tried.get("greatest"))
         lines = ["greatest", *forces_lines(scale * d, scale * n, parts), *motion_lines(motion)]
         self.accepted(self.name, self.cert, lines)
         return self.told(Greatest(top.factor, motion))
@@ -376,7 +385,7 @@ class Case:
         own = [x + share * y for x, y in zip(self.structure.dead, self.structure.live)]
         times = next((x / y for x, y in zip(load, own) if y), Fraction(1))
         wanted = {k: times * x for k, x in amounts.items() if x}
-        scale, parts = short_forces(self.structure, wanted, load)
+        scale, parts = short_forces(self.structure, wanted, load, self.known.tried.get("carried"))
         return ["stands", *forces_lines(scale, 0, parts)]
 
     def beyond(self, top: Raised, gap: Fraction) -> tuple[Fraction, Motion]:

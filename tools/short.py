@@ -3,6 +3,7 @@
 Nothing here is proved: `check` judges what is found.
 """
 from collections.abc import Callable, Sequence
+from dataclasses import dataclass
 from fractions import Fraction
 from math import gcd, isqrt
 from typing import TypeVar
@@ -12,7 +13,9 @@ from linear import Amounts, Opening
 from statics import GREATEST, Column, Motion, NotFound, Part, Structure, lowest
 
 SMALL = 60  # so many vectors of a basis can be reduced all together
+MORE = 8  # bits by which other forces may need a greater scale
 Made = TypeVar("Made")
+Forces = tuple[int, list[Part]]  # a scale, and the whole parts of all bearings
 
 
 def least(works: Callable[[int], Made | None], most: int = 127) -> Made | None:
@@ -53,6 +56,7 @@ class Rounding:
         rooms = [self.room(number, parts[number], len(of)) for number, of in used.items()]
         self.base = [round(x) for x in self.amounts]
         self.longest = max((int(abs(x)) for part in parts.values() for x in part), default=0).bit_length()
+        self.bits = 0  # the scale at which forces were found last
         weight = max(1, int(min(rooms, default=1)))
         self.lattice = Lattice(self.columns(load), structure.blocks, [1] * len(self.pieces) + [weight])
 
@@ -70,7 +74,7 @@ class Rounding:
         bearing, (a, b) = self.structure.bearings[number], part
         return (bearing.p * a - bearing.q * abs(b)) / (bearing.p + bearing.q) if edges == 2 else a
 
-    def at(self, bits: int) -> tuple[int, list[Part]] | None:
+    def at(self, bits: int) -> Forces | None:
         """The scale and the parts of all bearings near 2^bits times the given ones, or None where they leave a cone or
         are too long."""
         near = [round((x - y) * 2**bits) for x, y in zip(self.amounts, self.base)]
@@ -84,9 +88,10 @@ class Rounding:
         common = gcd(scale, *(x for part in parts for x in part))
         if max(scale, *(a for a, _ in parts), 0) > common * GREATEST:
             return None
+        self.bits = bits
         return scale // common, [(a // common, b // common) for a, b in parts]
 
-    def least(self) -> tuple[int, list[Part]]:
+    def least(self) -> Forces:
         """The scale and the parts at the least scale that works."""
         found = least(self.at, max(0, 124 - self.longest))
         if found is None:
@@ -119,10 +124,24 @@ class Rounding:
             raise NotFound(f"there are no forces of 127 bits: whole forces that balance need {need} or more")
 
 
-def short_forces(structure: Structure, amounts: Amounts, load: Sequence[int]) -> tuple[int, list[Part]]:
+@dataclass
+class Tried:
+    """A scale that should do, since a little less was enough for other forces; None if there were none. It is tried
+    first, and a lesser one isn't."""
+    bits: int | None = None
+
+
+def short_forces(structure: Structure, amounts: Amounts, load: Sequence[int], tried: Tried | None = None) -> Forces:
     """A scale and whole parts of all bearings, near given amounts, that carry the scale times a whole load."""
     try:
-        return Rounding(structure, amounts, load).least()
+        rounding = Rounding(structure, amounts, load)
+        first = rounding.at(tried.bits) if tried and tried.bits is not None else None
+        if first:
+            return first
+        found = rounding.least()
+        if tried:
+            tried.bits = rounding.bits + MORE
+        return found
     except NoVector:
         raise NotFound("no whole forces balance") from None
 
@@ -151,3 +170,15 @@ def short_motion(structure: Structure, motion: list[int], spread: Callable[[], O
     if found is None:
         raise NotFound("no short motion was found")
     return lowest(found)
+
+
+# Lines of a certificate
+
+
+def forces_lines(scale: int, factor: int, parts: Sequence[Part]) -> list[str]:
+    return [f"forces {scale} {factor}", *(f"push {a} {b}" for a, b in parts)]
+
+
+def motion_lines(motion: Motion) -> list[str]:
+    moves = zip(motion[::3], motion[1::3], motion[2::3])
+    return ["motion", *("move %d %d %d" % move for move in moves)]

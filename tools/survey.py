@@ -265,4 +265,4 @@ def main(words: list[str]) -> int:
 
 
 if __name__ == "__main__":
-    sys.exit(ran(main, "survey", __doc__, sys.argv[1:]))
+    sys.exit(ran(main, "survey", __doc__, sys.argv[1:], "the corners"))

@@ -58,6 +58,13 @@ class Asked(unittest.TestCase):
         return Structure(model, table), exact.Statics(model, models.bearings_of(table))
 
 
+def begin(name: str) -> None:
+    """Runs the tests of a file that call the program, if it is there."""
+    if bench.built():
+        unittest.main()
+    sys.exit(bench.said(f"{name}: {bench.NOT_BUILT}", 70))
+
+
 def example(name: str) -> Model:
     return models.read(EXAMPLES / f"{name}.toml")
 
@@ -332,15 +339,27 @@ class Building(unittest.TestCase):
             with mock.patch.object(bench, "__file__", str(tools / "bench.py")):
                 with mock.patch.object(bench, "PROGRAM", str(Path(folder, "pungiroe"))):
                     self.assertFalse(bench.built())
-                    Path(out, "stack_cli").touch()
+                    Path(out, "stack_cli").touch(0o755)
                     self.assertTrue(bench.built())
                     Path(folder, "crates/later.rt").touch()
                     os.utime(Path(folder, "crates/later.rt"), (2**31, 2**31))
                     self.assertFalse(bench.built())
                 self.assertTrue(bench.built())
 
+    def test_the_first_call_says_that_the_program_is_built(self) -> None:
+        with TemporaryDirectory() as folder:
+            script, err = Path(folder, "pungiroe"), io.StringIO()
+            script.write_text("#!/usr/bin/env bash\necho 'a line of the build' >&2\necho no >&2\nexit 3\n")
+            script.chmod(0o755)
+            bench.tell_of_build.cache_clear()
+            self.addCleanup(bench.tell_of_build.cache_clear)
+            with mock.patch.object(bench, "__file__", f"{folder}/tools/bench.py"), \
+                    mock.patch.object(bench, "PROGRAM", str(script)), contextlib.redirect_stderr(err):
+                answers = [bench.program("stand"), bench.program("stand")]
+        self.assertEqual(answers, [Answer(3, "", "no")] * 2)
+        line, = err.getvalue().splitlines()
+        self.assertTrue(line.startswith("pungiroe: the program isn't built, so it is proved and built first"), line)
+
 
 if __name__ == "__main__":
-    if bench.built():
-        unittest.main()
-    sys.exit(bench.said(f"test_bench: {bench.NOT_BUILT}", 70))
+    begin("test_bench")

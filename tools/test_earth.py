@@ -5,24 +5,21 @@
 
 The program is called where it is built, or PUNGIROE names one.
 """
-import os
 import random
 import unittest
 from collections.abc import Callable
 from fractions import Fraction
 from math import atan2, cos, hypot, pi, radians, sin, tan
-from pathlib import Path
 from tempfile import TemporaryDirectory
 from unittest import mock
 
 import earth
 import fill
-from bench import Refused, Words, program
+from bench import NOT_BUILT, Refused, Words, built, program
 from earth import Behind, Soil
 from model import Block, Load, Material, Model, printed, share
-from outside import Laid, Piece, Side, open_pieces, split
+from outside import Laid, Side, open_pieces, split, with_loads
 
-BUILT = "PUNGIROE" in os.environ or (Path(__file__).parents[1] / "crates/stack_cli/out/stack_cli").exists()
 GROUND = Block(name="ground", material="stone", fixed=True, corners=[[-900, -10], [900, -10], [900, 0], [-900, 0]])
 
 
@@ -277,6 +274,28 @@ class Fills(unittest.TestCase):
         lifted = self.arch(sway=[2, -1])
         self.assertEqual(about(lifted, "live", 0, 0)[:2], (2 * 2400, -2400))
 
+    def test_what_is_said_of_the_push(self) -> None:
+        """Each side's push is a half of 2 * 20 * (10 + 30)/2, as above: both sides, no push, and one side alone."""
+        both = [[[0, 0], [30, 0], [0, 20]], [[0, 0], [0, 20], [-30, 0]]]
+        push = ["push", "1/2"]
+        tried: list[tuple[list[list[list[int]]], list[str], str]]
+        tried = [(both, push, "push right 400 left 400"), (both, [], "push right 0 left 0"),
+                 (both[:1], push, "push right 0 left 400"), (both[1:], push, "push right 400 left 0")]
+        for blocks, words, wanted in tried:
+            model = wall(*blocks)
+            with mock.patch.object(fill, "answer"), mock.patch.object(fill, "read", lambda _: model):
+                _, lines = fill.filled(["model", "2", "30", *words])
+            self.assertEqual(lines[0], wanted)
+        self.assertEqual(lines[1], "sum dead 400 -1200")
+
+    def test_the_loads_of_the_file_keep_their_numbers(self) -> None:
+        own, model = Load("c1", "live", [15, 10], [0, -7]), wall([[0, 0], [30, 0], [0, 20]])
+        model.loads = [own]
+        laid_ = Laid()
+        laid_.add("c1", "live", (Fraction(1), Fraction(2)), (0.0, -5.0))
+        with_loads(model, laid_)
+        self.assertEqual(model.loads, [own, Load("c1", "live", [1, 2], [0, -5])])
+
     def test_a_load_spreads_evenly(self) -> None:
         """Over the crown, 4 wide, by a half to each side: half on either block. 15 to the right, all on one."""
         found = self.arch("spread", "1000", "0", "4", "1/2", "live")
@@ -335,12 +354,24 @@ class Worked(unittest.TestCase):
 
     def test_shares_by_hand(self) -> None:
         self.assertAlmostEqual(self.at(0.6, 0), 0.1132, 4)
-        for height, wanted in (1 / 3, 0.126), (0.5, 0.106), (0.6, 0.097):
+        # At 2/3 both sides of 43.56 = 79.2*k + 27 + (81*KAE - 27)*2 are equal at 0.0915, where KAE is 0.3907.
+        for height, wanted in (1 / 3, 0.126), (0.5, 0.106), (0.6, 0.097), (2 / 3, 0.0915):
             self.assertAlmostEqual(self.at(height, 1), wanted, 3)
         self.assertAlmostEqual(self.at(1 / 3, 0, 300), 0.083, 3)
         self.assertAlmostEqual(self.at(1 / 3, 1, 300), 0.087, 3)
 
-    @unittest.skipUnless(BUILT, "the program isn't built")
+    def test_without_a_height_the_increment_is_at_two_thirds(self) -> None:
+        wanted = {(): "0.6667", ("0.6",): "0.6", ("1/3",): "0.3333"}
+        self.assertEqual(Soil(18, 1, 0, 0).height, 2 / 3)
+        for words, height in wanted.items():
+            with mock.patch.object(earth, "answer"), mock.patch.object(earth, "read", lambda _: courses([1, 0])):
+                made, lines = earth.behind(["m", "18", "30", "0", "0", "0", "300", "quake", "10", "100", *words])
+            self.assertTrue(lines[0].endswith(f"in the earthquake 0.3966, increment at {height}"), lines[0])
+            moment = sum(load.force[0] * load.at[1] - load.force[1] * load.at[0] for load in made.loads)
+            # The static 270000 acts at 100, and 810000*KAE - 270000 = 51209 more at this part of 300.
+            self.assertAlmostEqual(moment / (27e6 + 51209 * float(Fraction(words[0] if words else "2/3")) * 300), 1, 4)
+
+    @unittest.skipUnless(built(), NOT_BUILT)
     def test_the_program(self) -> None:
         with TemporaryDirectory() as folder:
             name = f"{folder}/wall.toml"

@@ -5,7 +5,6 @@
 
 The program is called where it is built, or PUNGIROE names one.
 """
-import os
 import random
 import time
 import unittest
@@ -14,12 +13,11 @@ from pathlib import Path
 
 import look
 import survey
-from bench import Refused, Words, program
+from bench import NOT_BUILT, Refused, Words, built, program
 from model import Block, Load, Material, Model, bearings_of, read
 from survey import Corner, Stone
 
 TOP = Path(__file__).parents[1]
-BUILT = "PUNGIROE" in os.environ or (TOP / "crates/stack_cli/out/stack_cli").exists()
 
 
 def box(name: str, left: int, bottom: int, right: int, top: int, fixed: bool = False) -> Block:
@@ -72,7 +70,7 @@ touch 1 post pier 4 4
         self.assertEqual([look.square(at, (0, 0), (4, 2)) for at in ((2, 1), (-1, 0), (5, 2), (0, 5))],
                          [0, 1, 1, Fraction(20 ** 2, 20)])
 
-    @unittest.skipUnless(BUILT, "the program isn't built")
+    @unittest.skipUnless(built(), NOT_BUILT)
     def test_the_gap_of_three_piers(self) -> None:
         name = TOP / "examples/posts/three-piers-with-a-slip.toml"
         self.assertIn("near left-pier lintel 2 9 1", looked(read(name), program("contacts", name).output))

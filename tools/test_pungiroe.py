@@ -1,5 +1,6 @@
 #!/usr/bin/env python3
-"""Tests of the script pungiroe: that it never starts a program that isn't made from the sources that are there.
+"""Tests of the script pungiroe: that it never starts a program that isn't made from the sources that are there; and of
+due.py, which must say before each call whether the program is built.
 
     python3 tools/test_pungiroe.py
 
@@ -15,6 +16,8 @@ import unittest
 from collections.abc import Callable
 from pathlib import Path
 from tempfile import TemporaryDirectory
+
+import due
 
 SCRIPT = Path(__file__).resolve().parent.parent / "pungiroe"
 SOURCE, PROOF = "crates/stack_cli/src/main.rt", "crates/stack_low/proofs/Sums.antt"
@@ -97,7 +100,10 @@ class Calls(unittest.TestCase):
         self.top = self.clone.top
 
     def then(self, text: str, builds: int) -> None:
-        """The next call runs a program of this text, and so many builds have been made in all."""
+        """The next call runs a program of this text, and so many builds have been made in all. A look before it says
+        whether it builds."""
+        wanted = self.clone.lines("builds") < builds
+        self.assertEqual(due.why(self.top) is not None, wanted)
         status, printed = self.clone.call("word", "two")
         self.assertEqual((status, printed), (3, f"{text} {self.top} word two"))
         self.assertEqual(self.clone.lines("builds"), builds)
@@ -111,6 +117,12 @@ class Calls(unittest.TestCase):
     def test_nothing_is_read_if_nothing_changed(self) -> None:
         self.then("first", 1)
         self.assertEqual(self.clone.lines("sums"), 0)
+
+    def test_why_the_program_is_built(self) -> None:
+        (self.top / SOURCE).write_text("second")
+        self.assertEqual(due.why(self.top), due.Why.OLDER)
+        (self.top / PROGRAM).unlink()
+        self.assertEqual(due.why(self.top), due.Why.MISSING)
 
     def test_the_program_is_missing(self) -> None:
         self.replaced(PROGRAM, Path.unlink)

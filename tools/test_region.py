@@ -7,7 +7,6 @@ They call the program, and `esolver` where the program is made to refuse.
 """
 import contextlib
 import io
-import sys
 import unittest
 from collections.abc import Iterable, Mapping, Sequence
 from fractions import Fraction
@@ -24,6 +23,7 @@ from bench import Answer, Refused, Words, quiet
 from model import Block, Load, Material, Model
 from pairs import Direction, Half, Region
 from region import Word
+from test_bench import begin
 
 Points = Mapping[Direction, tuple[int, int]] | Iterable[tuple[int, int]]
 
@@ -162,6 +162,11 @@ class Groups(unittest.TestCase):
         # Together the two pushes are 2, so a force of 4/3 of them is 4/3 kN.
         self.assertEqual(out.getvalue().splitlines()[0], "point 1 0 at 4/3 0/1 = 1.33333 0")
 
+    def test_a_region_has_no_lengths(self) -> None:
+        with contextlib.redirect_stderr(io.StringIO()) as err:
+            self.assertEqual(region.main([self.name, "1", "4", self.dirs, "kN", "1", "m", "1"]), 2)
+        self.assertIn("no lengths", err.getvalue())
+
     def test_groups_that_make_no_sense(self) -> None:
         for i, j in ("1,1", "4"), ("2", "4"), ("1", "1,3"), ("sway", "1,sway"), ("5", "1"), ("sway,sway", "1"):
             with self.assertRaises(Refused, msg=(i, j)):
@@ -172,6 +177,4 @@ class Groups(unittest.TestCase):
 
 
 if __name__ == "__main__":
-    if bench.built():
-        unittest.main()
-    sys.exit(bench.said(f"test_region: {bench.NOT_BUILT}", 70))
+    begin("test_region")

@@ -10,12 +10,10 @@ import contextlib
 import io
 import math
 import random
-import sys
 import unittest
 from dataclasses import replace
 from fractions import Fraction
 from pathlib import Path
-from tempfile import TemporaryDirectory
 from unittest import mock
 
 import bench
@@ -27,6 +25,7 @@ import programs
 import settle
 import short
 import solve
+import test_bench
 from lattice import Lattice, Reduction, Step, Vector, grows, inverted
 from model import Block, Load, Material, Model
 from programs import Found, Lacking, NoAnswer, Program, Row, Sign
@@ -45,7 +44,7 @@ class Lattices(unittest.TestCase):
     def test_nearest_plane_takes_off_whole_multiples(self) -> None:
         # (2, 0) and (-1, 3). (6, 7) less twice (-1, 3) is (8, 1), less four times (2, 0) is (0, 1).
         basis = [Vector({}, [2, 0], unknown=0), Vector({}, [-1, 3], unknown=1)]
-        short = Step([], basis, Reduction([[4], [-2, 10]])).cleared(Vector({}, [6, 7]))
+        short = Step([], basis, Reduction([[4], [-2, 10]]), [], 1).cleared(Vector({}, [6, 7]))
         self.assertEqual(short.shadow, [0, 1])
         self.assertEqual(short.unknowns(2), [-4, -2])
 
@@ -141,13 +140,8 @@ def rows(said: str) -> list[str]:
     return [line.split(", ")[0] for line in said.splitlines()]
 
 
-class Asked(unittest.TestCase):
+class Asked(test_bench.Asked):
     """Questions about models in a folder of their own."""
-
-    def setUp(self) -> None:
-        folder = TemporaryDirectory()
-        self.addCleanup(folder.cleanup)
-        self.name, self.cert = f"{folder.name}/model.toml", f"{folder.name}/answer.cert"
 
     def asked(self, question: str, *more: str) -> tuple[int, list[str], str]:
         """The status, the lines of the answer and what stands on standard error."""
@@ -180,12 +174,11 @@ def at_random(draws: random.Random) -> Model:
             blocks.append(Block(name=f"s{course}-{number}", material="stone", corners=corners))
             left = right
         foot = head
-    ground = Block(name="ground", material="stone", fixed=True, corners=[[-30, -5], [60, -5], [60, 0], [-30, 0]])
     loads = [Load(draws.choice(blocks).name, draws.choice(("dead", "live", "live")), [pick(-6, 20), pick(0, foot)],
                   [pick(-9, 9), pick(-9, 3)]) for _ in range(pick(0, 3))]
     sway = [pick(-2, 2), pick(-1, 1)] if draws.random() < 0.4 else None
     stone = Material("stone", pick(1, 5), [pick(1, 9), 10])
-    return Model(2 if sway else None, sway, [stone], [], [ground, *blocks], loads)
+    return Model(2 if sway else None, sway, [stone], [], [test_bench.ground(-30, 60), *blocks], loads)
 
 
 class BesideTheProgram(Asked):
@@ -342,6 +335,4 @@ class Refusals(Asked):
 
 
 if __name__ == "__main__":
-    if bench.built():
-        unittest.main()
-    sys.exit(bench.said(f"test_solve: {bench.NOT_BUILT}", 70))
+    test_bench.begin("test_solve")

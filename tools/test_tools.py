@@ -5,14 +5,17 @@
 
 None of them calls the program: examples/run tries the tools with it.
 """
+import os
 import random
+import subprocess
 import unittest
 from collections.abc import Sequence
 from contextlib import redirect_stdout
 from fractions import Fraction
 from io import StringIO
 from math import atan2, gcd, pi
-from tempfile import NamedTemporaryFile
+from pathlib import Path
+from tempfile import NamedTemporaryFile, TemporaryDirectory
 from unittest import mock
 
 import draw
@@ -317,6 +320,28 @@ class Drawings(unittest.TestCase):
             with self.subTest(words), redirect_stdout(StringIO()) as out:
                 self.assertEqual(draw.main(words.split()), 0)
                 model_of(out.getvalue())
+
+
+class Waits(unittest.TestCase):
+    """Scripts with a program that takes a while, and then refuses."""
+    TOOLS = Path(__file__).resolve().parent
+
+    def test_what_is_at_work_is_said(self) -> None:
+        with TemporaryDirectory() as folder:
+            slow, model, dirs = (Path(folder, name) for name in ("slow", "model.toml", "dirs"))
+            slow.write_text("#!/usr/bin/env bash\nsleep 1\necho no >&2\nexit 7\n")
+            slow.chmod(0o755)
+            model.write_text(printed(post(loads=[Load("post", "live", [0, y], [1, 0]) for y in (4, 2)])))
+            dirs.write_text("dir 1 0\n")
+            told = {**os.environ, "PUNGIROE": str(slow), "PUNGIROE_PATIENCE": "0"}
+            for words in ("earth M 18 30 0 0 0 4", "earth fill M 20 9", "look M", "read M D", "variant inset M 1/4",
+                          "travel M 1", "travel M 1 inset 1/4", "region M 1 2 D"):
+                name, *rest = words.split()
+                named = [{"M": str(model), "D": str(dirs)}.get(word, word) for word in rest]
+                with self.subTest(words):
+                    done = subprocess.run([self.TOOLS / f"{name}.py", *named], env=told, capture_output=True, text=True)
+                    first = done.stderr.splitlines()[0]
+                    self.assertRegex(first, f"^{name}: [01] s: the ")
 
 
 if __name__ == "__main__":

@@ -6,7 +6,6 @@
 They call the program and `esolver`.
 """
 import random
-import sys
 import unittest
 from dataclasses import replace
 from fractions import Fraction
@@ -14,11 +13,13 @@ from pathlib import Path
 from unittest import mock
 
 import bench
+import linear
 import model as models
 import travel
 from bench import Answer
 from model import Block, Load, Material, Model
-from test_bench import Asked, at_random, example, post, refusing
+from short import Rounding, Tried, short_forces
+from test_bench import Asked, at_random, begin, example, post, refusing
 
 
 class Travels(Asked):
@@ -58,6 +59,36 @@ class Travels(Asked):
                                                      "least at 0 on beam 165/1 = 165"])
         self.assertEqual(self.travelled(model, "1", "2", "15")[-1], "least at 2 on beam 330/1 = 330")
         self.assertEqual(self.travelled(model, "1", "2", "31")[1:], ["at 31 off", "least at 2 on beam 330/1 = 330"])
+
+    def test_joints_that_are_shorter(self) -> None:
+        # The beam above on posts whose joints lose 1/2 at each end, so that it tips about 4.5: at an end it carries
+        # 60*(15 - 4.5)/4.5, at 2 it carries 60*10.5/2.5. No corner of the beam is cut.
+        blocks = [Block(name=name, material="stone", fixed=True, corners=[[x, 0], [x + 2, 0], [x + 2, 9], [x, 9]])
+                  for name, x in (("left", 4), ("right", 24))]
+        beam = Block(name="beam", material="stone", corners=[[0, 9], [30, 9], [30, 11], [0, 11]])
+        for force in 1, 7:
+            model = Model(None, None, [Material("stone", 7, [1, 1])], [], [*blocks, beam],
+                          [Load("beam", "live", [15, 11], [0, -force])])
+            ends, at_two = 7 * 140 // force, 7 * 252 // force
+            self.assertEqual(self.travelled(model, "1", "inset", "1/2"),
+                             [*(f"at {x} on beam {ends}/1 = {ends}" for x in (0, 30)),
+                              f"least at 0 on beam {ends}/1 = {ends}"])
+            self.assertEqual(self.travelled(model, "1", "inset", "1/2", "2")[-1],
+                             f"least at 2 on beam {at_two}/1 = {at_two}")
+
+    def test_the_footbridge_with_a_centimetre_off(self) -> None:
+        # docs/worked_arch.md, step 8, asks `v5` and `v6` one by one: 44.89 and 45.8251.
+        lines = self.travelled(example("arches/footbridge"), "1", "inset", "1", "-84")
+        self.assertEqual(lines[0], "at -84 on v6 272858964831607/5954353687500 = 45.8251")
+        self.assertTrue(lines[1].startswith("at -84 on v5 carried ") and " = 44.8899" in lines[1], lines[1])
+
+    def test_loads_that_slant_stay_at_their_height(self) -> None:
+        # The post of 8 tips about its foot, now at 1.5: at (0, 4) the push [1, -1] turns it by 4 - 1.5, at (2, 4) by
+        # 4.5. Its weight, less two corners of 1/8, holds it with 7.75 * 0.5.
+        slanting = post([Load("post", "live", [0, 4], [1, -1])])
+        lines = self.travelled(slanting, "1", "inset", "1/2")
+        self.assertEqual([line.split(" = ")[1] for line in lines[:2]],
+                         [f"{7.75 * 0.5 / 2.5:.6g}", f"{7.75 * 0.5 / 4.5:.6g}"])
 
     def test_no_place_is_worse_than_the_least(self) -> None:
         draws, worse = random.Random(3), 0
@@ -103,13 +134,33 @@ class Travels(Asked):
         self.assertEqual(lines[-1], "least withheld: 2 of 3 places have no answer")
 
     def test_where_the_program_refuses_the_script_answers(self) -> None:
-        with mock.patch.object(bench, "program", refusing):
+        asked: list[object] = []
+
+        def counted(*words: object) -> Answer:
+            asked.append(words[0])
+            return refusing(*words)
+
+        with mock.patch.object(bench, "program", counted):
             lines = self.travelled(example("arches/footbridge"), "1", "-84", "0")
+        # All places share the table of contacts.
+        self.assertEqual((asked.count("contacts"), asked.count("load")), (1, 3))
         self.assertEqual(lines, ["at -84 on v6 144233013/2589125 = 55.7072", "at -84 on v5 144233013/2589125 = 55.7072",
                                  "at 0 on v4 unlimited", "least at -84 on v6 144233013/2589125 = 55.7072"])
 
+    def test_a_scale_that_was_enough_is_tried_first(self) -> None:
+        structure, _ = self.structure(post([]))
+        dead, tried = linear.inner(structure, structure.dead), Tried()
+        assert dead is not None
+        short_forces(structure, dead.amounts, structure.dead, tried)
+        self.assertIsNotNone(tried.bits)
+        with mock.patch.object(Rounding, "least", side_effect=AssertionError):
+            scale, parts = short_forces(structure, dead.amounts, structure.dead, tried)
+        sums = [scale * amount for amount in structure.dead]
+        for number, part in enumerate(parts):
+            for row, amount in structure.column(number, part).items():
+                sums[row] += amount
+        self.assertEqual((structure.admits(parts), sums), (True, [0, 0, 0]))
+
 
 if __name__ == "__main__":
-    if bench.built():
-        unittest.main()
-    sys.exit(bench.said(f"test_travel: {bench.NOT_BUILT}", 70))
+    begin("test_travel")

@@ -5,7 +5,6 @@
 
 The program is called where it is built, or PUNGIROE names one.
 """
-import os
 import random
 import unittest
 from contextlib import redirect_stderr
@@ -16,14 +15,13 @@ from tempfile import TemporaryDirectory
 from unittest import mock
 
 import variant
-from bench import Refused, Words, program
+from bench import NOT_BUILT, Refused, Words, built, program
 from inset import inset, steps_off
 from model import Bearing, Block, Load, Material, Model, bearings_of, model_of, printed, share, twice_area, write
 from outside import cross, is_convex, minus
 from units import Scale, decimal, scale_of
 
 TOP = Path(__file__).parents[1]
-BUILT = "PUNGIROE" in os.environ or (TOP / "crates/stack_cli/out/stack_cli").exists()
 
 
 def post(*loads: Load, sway: list[int] | None = None) -> Model:
@@ -129,7 +127,7 @@ class Insets(unittest.TestCase):
         self.assertFalse(is_convex([[0, 0], [1, 0], [2, 0], [2, 2]]))
         self.assertFalse(is_convex([[0, 0], [2, 0], [1, 1], [2, 2], [0, 2]]))
 
-    @unittest.skipUnless(BUILT, "the program isn't built")
+    @unittest.skipUnless(built(), NOT_BUILT)
     def test_bearings_move_along_their_joints(self) -> None:
         """On models of examples/, by the program's own contacts: as many bearings, each between D and 21/20 of it
         further in, on the joint's line, with the same friction."""
@@ -153,7 +151,7 @@ class Insets(unittest.TestCase):
                     way = Fraction(off[0] ** 2 + off[1] ** 2) / (size * grid) ** 2
                     self.assertTrue(1 <= way <= Fraction(21, 20) ** 2)
 
-    @unittest.skipUnless(BUILT, "the program isn't built")
+    @unittest.skipUnless(built(), NOT_BUILT)
     def test_the_footbridge_with_a_centimetre_off(self) -> None:
         """A float linear program with each bearing 1 further in has 70.34. The joints of two hinges are a little
         shorter still, by 0.0028, which costs 0.07 at most."""

@@ -14,7 +14,6 @@ import os
 import random
 import re
 import signal
-import sys
 import unittest
 from pathlib import Path
 from tempfile import TemporaryDirectory
@@ -24,9 +23,11 @@ from unittest import mock
 import bench
 import programs
 from bench import Answer
+from test_bench import begin
 
 EXAMPLES = Path(__file__).resolve().parent.parent / "examples"
-LINES, MODELS = 4000, 1000
+LINES = 4000
+MODELS = 1000
 SECONDS = 30  # that one of them may take
 
 # Words that the scripts take. M, N, A, O, D, S and C are a model, one without a sway, an arch, an order, directions,
@@ -43,6 +44,7 @@ solve M slides
 solve M slides 1 2
 travel M 1
 travel M 1,2 -1 0 1
+travel M 1 inset 1/10 1
 region M 1 2 D
 region M 1 2,sway D kN 0.5 csv
 read M C
@@ -282,6 +284,4 @@ class Mistakes(unittest.TestCase):
 REAL_PROGRAM, REAL_ASKED = bench.program, programs.asked
 
 if __name__ == "__main__":
-    if bench.built():
-        unittest.main()
-    sys.exit(bench.said(f"test_words: {bench.NOT_BUILT}", 70))
+    begin("test_words")

@@ -1,8 +1,8 @@
 #!/usr/bin/env python3
 """Moves live loads along a structure: what it carries at each place where that can be least, and the least of all.
 
-    tools/travel.py MODEL N [X ..]
-    tools/travel.py MODEL N,M[,..] [X ..]
+    tools/travel.py MODEL N [inset D] [X ..]
+    tools/travel.py MODEL N,M[,..] [inset D] [X ..]
 
 Nothing here is proved, but each factor has a certificate that `check` accepts. N is the number of a live load in the
 file. With commas these loads move together, as axles do, at the distances that they have in the file. At each X the
@@ -14,6 +14,9 @@ Of loads that move together each position counts at which one of them is at an e
 all bodies, has left the structure: it is left out there. Between two places next to one another each load stays on one
 block, and its moment changes evenly; so forces that carry a factor at both, mixed, carry it between them. Loads that
 slant act on the tops, and then each corner of a top is a place. Their heights there must be whole numbers.
+
+With `inset D` each joint is shorter by D at each end, as in the model that `tools/variant.py inset MODEL D` prints; its
+lines go to standard error. The loads stay at the places of MODEL, in its units.
 
     at X on BLOCK N/D = DECIMAL
     at X on BLOCK at X on BLOCK .. N/D = DECIMAL
@@ -39,9 +42,12 @@ import bench
 import model as models
 import settle
 from bench import Progress, Refused, Words
+from inset import Inset, inset
 from model import Block, Load, Model
 from settle import Case, Collapses, Known, Loaded, Silent, Unlimited
+from short import Tried
 from statics import NotFound
+from units import decimal
 
 HALF = Fraction(1, 2)  # corners have whole coordinates, so nothing changes within half a unit beside one
 
@@ -82,15 +88,15 @@ def seat(model: Model, x: int, side: Fraction) -> Seat:
 
 
 class Group:
-    """Live loads that move together, by the first of them."""
+    """Live loads that move together, by the first of them; and the model with shorter joints, if it's to be that."""
 
-    def __init__(self, model: Model, numbers: Sequence[int]) -> None:
+    def __init__(self, model: Model, numbers: Sequence[int], made: Inset | None = None) -> None:
         for number in numbers:
             if not 1 <= number <= len(model.loads) or model.loads[number - 1].kind != "live":
                 raise Refused(f"there is no live load {number}")
         if len(set(numbers)) < len(numbers):
             raise Words("a load is named twice")
-        self.model, self.numbers = model, [number - 1 for number in numbers]
+        self.model, self.numbers, self.made = model, [number - 1 for number in numbers], made
         first = model.loads[self.numbers[0]]
         self.ways = [model.loads[number].at[0] - first.at[0] for number in self.numbers]
         self.slants = any(model.loads[number].force[0] for number in self.numbers)
@@ -115,7 +121,8 @@ class Group:
         loads: list[Load | None] = [*self.model.loads]
         for number, where in zip(self.numbers, seats):
             loads[number] = None if where.block is None else self.moved(self.model.loads[number], where)
-        return replace(self.model, loads=[load for load in loads if load is not None])
+        there = [load for load in loads if load is not None]
+        return self.made.loaded(there) if self.made else replace(self.model, loads=there)
 
     def moved(self, load: Load, where: Seat) -> Load:
         """A load at its seat. The height of a load that acts straight down doesn't matter."""
@@ -219,27 +226,48 @@ def said_least(word: str, places: Sequence[Place]) -> str:
     return f"least {word}{'unlimited' if place is None else place.said()}"
 
 
+def group_of(name: str, numbers: Sequence[int], shorter: Fraction | None) -> tuple[Group, str]:
+    """The loads that move, and the table of contacts of the model on which they do."""
+    table, model = bench.answer("contacts", name), models.read(name)
+    if shorter is None:
+        return Group(model, numbers), table
+    made = inset(model, models.bearings_of(table), shorter)
+    for line in made.lines:
+        print(line, file=sys.stderr)
+    with tempfile.TemporaryDirectory() as folder:
+        short = str(Path(folder, "model.toml"))
+        models.write(short, made.model)
+        return Group(model, numbers, made), bench.answer("contacts", short)
+
+
 def travel(words: list[str]) -> int:
-    if len(words) < 2:
-        raise Words("the form is MODEL N [X ..]")
+    is_inset = words[2:3] == ["inset"]
+    if len(words) < (4 if is_inset else 2):
+        raise Words("the form is MODEL N [inset D] [X ..]")
     numbers = [bench.whole(word, "N") for word in words[1].split(",")]
-    given = [bench.whole(word, "X", -models.COORDINATE, models.COORDINATE) for word in words[2:]]
-    bench.answer("contacts", words[0])
-    group = Group(models.read(words[0]), numbers)
+    shorter = decimal(words[3], "D", Fraction(1, 10**6), models.COORDINATE) if is_inset else None
+    given = [bench.whole(word, "X", -models.COORDINATE, models.COORDINATE) for word in words[4 if is_inset else 2:]]
+    with Progress("travel") as progress:
+        group, table = group_of(words[0], numbers, shorter)
+        known = Known(table, tried={of: Tried() for of in ("ray", "greatest", "carried")})
+        return asked_along(group, given, progress, known)
+
+
+def asked_along(group: Group, given: Sequence[int], progress: Progress, known: Known) -> int:
+    """Asks at the places that are given, or else at all, and prints what is found. Gives the status."""
     seats = [one for x in given or group.places() for one in group.seats(x)
              if given or any(where.block for where in one)]
     if not any(where.block for one in seats for where in one):
         raise Refused("at no place is a load on the structure")
-    places, known = [], Known()
-    with Progress("travel") as progress:
-        for one in seats:
-            if not any(where.block for where in one):
-                print(*(where.said() for where in one))
-                continue
-            places.append(asked_at(group, one, progress, known))
-            print(places[-1].said(), flush=True)
-            if isinstance(places[-1].found, Collapses):
-                break
+    places: list[Place] = []
+    for one in seats:
+        if not any(where.block for where in one):
+            print(*(where.said() for where in one))
+            continue
+        places.append(asked_at(group, one, progress, known))
+        print(places[-1].said(), flush=True)
+        if isinstance(places[-1].found, Collapses):
+            break
     print(*ends_of(places), sep="\n")
     if any(isinstance(one.found, Collapses) for one in places):
         return 1

@@ -1,0 +1,166 @@
+#!/usr/bin/env python3
+"""Looks whether the sources keep to three rules of the house.
+
+    tools/house.py
+
+1. No line of a .rt, .antt, .md or .py file has more than 120 characters. In .md files tables, that is lines that begin
+   with `|`, and lines with a link may be longer.
+2. Nothing in crates/ is dead: from the sources, the answers and the invariants each definition, lemma and function is
+   reached by names and imports. tools/reached.py says how.
+3. stack_checker, and each crate below it by crates.txt, names no crate that stands under `# Search` there, neither in
+   crates.txt nor in a line of its sources that isn't a comment.
+
+The script prints a line for each rule. OVER and DEAD list what breaks the first two today, a count for each file: more
+or less than that is wrong. There is no list for the third. A line says what is wrong; then the status is 1. The names
+that nothing reaches are printed by tools/reached.py. Python 3.11 or later.
+"""
+import re
+import sys
+from collections.abc import Iterator, Mapping
+from pathlib import Path
+
+from bench import Refused, Words, ran
+from model import text_of
+from reached import CODE, dead_names
+
+TOP = Path(__file__).resolve().parent.parent
+LONGEST = 120
+CHECKER, SEARCH = "stack_checker", "Search"
+Counts = dict[str, int]
+
+# How many lines of a file are too long today.
+OVER: Counts = {
+    "crates/stack_table/proofs/building/less_cell/Answers.antt": 3,
+    "crates/stack_table/proofs/objective/set_last/Answers.antt": 8,
+    "crates/stack_table/proofs/rows/reduce_rows/Answers.antt": 8,
+    "crates/stack_table/proofs/table/Table/build/Answers.antt": 32,
+    "crates/stack_table/proofs/table/Table/pivot/Answers.antt": 2,
+    "crates/stack_table/src/problem.rt": 2,
+}
+# How many names of a file nothing reaches today.
+DEAD: Counts = {
+    "crates/stack_algebra/specs/Fraction.antt": 1,
+    "crates/stack_algebra/specs/Search.antt": 2,
+    "crates/stack_contact/proofs/LoneBears.antt": 1,
+    "crates/stack_equilibrium/proofs/InOrder.antt": 1,
+    "crates/stack_equilibrium/proofs/Products.antt": 1,
+    "crates/stack_inverse/proofs/Bounds.antt": 1,
+    "crates/stack_inverse/proofs/CellSteps.antt": 4,
+    "crates/stack_inverse/proofs/ProductSums.antt": 1,
+    "crates/stack_inverse/proofs/RevisedRows.antt": 1,
+    "crates/stack_inverse/proofs/ShortNumbers.antt": 3,
+    "crates/stack_run/proofs/OneTurn.antt": 13,
+}
+
+
+# Files
+
+
+def files(top: Path, *ends: str) -> Iterator[Path]:
+    """The files of a clone with these ends, without what is built."""
+    for path in sorted(top.rglob("*")):
+        parts = path.relative_to(top).parts
+        if path.suffix in ends and path.is_file() and "out" not in parts and not parts[0].startswith("."):
+            yield path
+
+
+def differences(found: Mapping[str, int], listed: Mapping[str, int], what: str) -> Iterator[str]:
+    """Where a count isn't the one that is listed."""
+    for name in sorted({*found, *listed}):
+        here, there = found.get(name, 0), listed.get(name, 0)
+        if here != there:
+            yield f"{name}: {here} {what}, and tools/house.py lists {there}"
+
+
+# Lines
+
+
+def is_long(line: str, end: str) -> bool:
+    return len(line) > LONGEST and not (end == ".md" and (line.startswith("|") or "](" in line or "://" in line))
+
+
+def long_lines(top: Path) -> Counts:
+    """How many lines of each file are too long."""
+    found = {str(path.relative_to(top)): sum(is_long(line, path.suffix) for line in text_of(path).splitlines())
+             for path in files(top, ".rt", ".antt", ".md", ".py")}
+    return {name: count for name, count in found.items() if count}
+
+
+# Crates
+
+
+def crates_of(text: str) -> dict[str, dict[str, list[str]]]:
+    """The crates of crates.txt under each heading, each with those that it names. A heading is the first line of a
+    paragraph."""
+    found: dict[str, dict[str, list[str]]] = {}
+    for paragraph in re.split(r"\n\s*\n", text):
+        heading, *lines = paragraph.strip().splitlines() or [""]
+        pairs = [line.split(":") for line in lines if line and not line.startswith("#")]
+        found.setdefault(heading.lstrip("# "), {}).update({name: rest.split() for name, rest in pairs})
+    return found
+
+
+def below(crates: Mapping[str, list[str]], name: str) -> set[str]:
+    """A crate and all below it that are in crates.txt."""
+    found, left = set[str](), [name]
+    while left:
+        if (one := left.pop()) in crates and one not in found:
+            found.add(one)
+            left += crates[one]
+    return found
+
+
+def named(top: Path, crate: str, others: set[str]) -> Iterator[str]:
+    """Where the sources of a crate name one of some others, outside comments."""
+    word = re.compile(rf"\b({'|'.join(sorted(others))})\b")
+    for path in files(top / "crates" / crate, ".rt", ".antt"):
+        for number, line in enumerate(text_of(path).splitlines(), 1):
+            if found := word.search(CODE.sub("", line)):
+                yield f"{path.relative_to(top)}:{number}: {found[1]}, a crate of the search, is above {CHECKER}"
+
+
+def searches(top: Path) -> tuple[int, list[str]]:
+    """How many crates the checker rests on, itself among them, and where they name a crate of the search."""
+    headed = crates_of(text_of(top / "crates.txt"))
+    crates = {name: rest for of in headed.values() for name, rest in of.items()}
+    search = set(headed.get(SEARCH, {}))
+    if not search or CHECKER not in crates:
+        raise Refused(f"crates.txt has no {CHECKER}, or no crates under `# {SEARCH}`")
+    low = below(crates, CHECKER)
+    wrong = [f"crates.txt: {name} names {other}, a crate of the search" for name in sorted(low)
+             for other in crates[name] if other in search]
+    return len(low), wrong + [line for name in sorted(low) for line in named(top, name, search)]
+
+
+# The script
+
+
+def looked(top: Path, over: Mapping[str, int], dead: Mapping[str, int]) -> tuple[list[str], list[str]]:
+    """What a clone is found to have, and what is wrong with it."""
+    long, names = long_lines(top), dead_names(top)
+    unreached = {name: len(of) for name, of in names.items()}
+    count, wrong = searches(top)
+    wrong = [*differences(long, over, f"lines above {LONGEST} characters"),
+             *differences(unreached, dead, "names that nothing reaches"), *wrong]
+    return [f"{sum(long.values())} lines above {LONGEST} characters, in {len(long)} files",
+            f"{sum(unreached.values())} names that nothing reaches, in {len(unreached)} files",
+            f"{CHECKER} rests on {count - 1} crates, and none is of the search"], wrong
+
+
+def house(words: list[str]) -> int:
+    if words:
+        raise Words("there are no words")
+    lines, wrong = looked(TOP, OVER, DEAD)
+    for line in wrong:
+        print(line, file=sys.stderr)
+    if not wrong:
+        print(*lines, sep="\n")
+    return 1 if wrong else 0
+
+
+def main(words: list[str]) -> int:
+    return ran(lambda _: house(words), "house", __doc__, words or [""])
+
+
+if __name__ == "__main__":
+    sys.exit(main(sys.argv[1:]))

@@ -1,0 +1,86 @@
+#!/usr/bin/env python3
+"""Tests of count.py, on a small folder that is made up here.
+
+    python3 tools/test_count.py
+"""
+import unittest
+
+import count
+from test_house import SOURCE, Clones
+
+TEST = '''import random
+
+ALL = 7
+
+
+class Tests:
+    def test_loops(self):
+        draws = random.Random(1)
+        for _ in range(20):
+            for _ in range(3):
+                draws.randint(1, 2)
+        for _ in range(ALL):
+            draws.random()
+
+    def test_none(self):
+        for _ in range(9):
+            pass
+'''
+
+
+class Counts(Clones):
+    def test_crates(self) -> None:
+        # Of the checker `law` and `turning` have contracts, and `helped` none; a test more, and three edits of two.
+        self.put("crates/stack_checker/src/tests.rt", "#[test]\nfn tried() {\n}\n")
+        self.put("crates/stack_checker/src/other.rt", SOURCE.replace("pub fn turning", "fn turning"))
+        for name, of in ("one", "law"), ("two", "law"), ("three", "turning"):
+            self.put(f"crates/stack_checker/must-fail/{name}.edit", f"# function {of}\nfile: src/lib.rt\n")
+        self.assertEqual(list(count.crates(self.top)), [
+            "crate          pub  others  tests  edits  functions of edits",
+            "stack_whole      0       0      0      0                   0",
+            "stack_checker    3       1      1      3                   2",
+            "stack_table      0       0      0      0                   0",
+            "together         3       1      1      3                   2"])
+
+    def examples(self) -> None:
+        lists = {"rows": "# name status words\nposts 0 check a b\nslip 5 check a b\n\nnothing 2\n",
+                 "made": "up 5 stand MADE/a\n",
+                 "judged": "top 1 greatest 2/1 load a\n", "ranged": "ends 0 1/1 2/1 range a\n",
+                 "staged": "all 0 2 stages a b\n", "bounded": "both yield a 1 2 c\n",
+                 "expected/slip.err": "model overlap a b\n", "expected/up.err": "model range block 3 corners\n",
+                 "posts/one.toml": "", "posts/two.toml": ""}
+        for name, text in lists.items():
+            self.put(f"examples/{name}", text)
+
+    def test_rows(self) -> None:
+        self.examples()
+        lines = [line.split() for line in count.rows(self.top)]
+        self.assertEqual(lines[1:3], [["check", "2", "0", "0", "0", "0", "0"], ["load", "0", "0", "1", "0", "0", "0"]])
+        self.assertIn(["no", "words", "1", "0", "0", "0", "0", "0"], lines)
+        self.assertEqual(lines[-3:], [["2", "1", "0", "0", "0", "0", "0"], ["5", "1", "1", "0", "0", "0", "0"],
+                                      ["together", "3", "1", "1", "1", "1", "1"]])
+
+    def test_faults_and_models(self) -> None:
+        self.examples()
+        self.assertEqual(list(count.faults(self.top)), [
+            "line                       rows",
+            "model overlap                 1",
+            "model range block corners     1",
+            "together                      2"])
+        self.assertEqual([line.split()[-1] for line in count.models(self.top)], ["models", "2", "1", "3"])
+
+    def test_lines_without_numbers_and_names(self) -> None:
+        for line, fault in (("wide stage 2 run 1 2 3 4 divide", "wide run"), ("wide dir 3 first", "wide first"),
+                            ("certificate line 12", "certificate line"),
+                            ("words", "words")):
+            self.assertEqual(count.fault_of(line), fault)
+
+    def test_draws(self) -> None:
+        # 20 times and 7 times; the loop within isn't counted, and a test that draws nothing isn't listed.
+        self.put("tools/test_it.py", TEST)
+        self.assertEqual([line.split() for line in count.random_tests(self.top)],
+                         [["test", "draws"], ["test_it.py", "test_loops", "27"], ["together", "27"]])
+
+
+if __name__ == "__main__":
+    unittest.main()
