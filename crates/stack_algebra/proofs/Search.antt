@@ -5,7 +5,7 @@ use Rattle.std.proofs.Common.{cond, Option, Some, None, arith, add-one}
 use mathlib.Core.Logic.{◌⊎◌, inl, inr}
 use native.Mathlib.Decide.{ℕ_discrete, dec_lt}
 use lib.Dec.{T, eqb, eqb→eq, eqb_refl}
-pub use Rattle.stack_algebra.specs.Search.{least, first, or_else, only_if, SomeBelow, AllBelow, next_round}
+pub use Rattle.stack_algebra.specs.Search.{least, first, or_else, only_if, next_round}
 
 pub record IsLeast (n : ℕ) (p : ℕ → Bool) (j : ℕ) : Type 0 where
   pub below : j < n

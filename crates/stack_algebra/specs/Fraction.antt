@@ -17,11 +17,6 @@ pub record IsOver (x : Fraction) (n d : ℤ) : Type 0 where
   pub positive : pos 0 ≺ d
   pub cross : x.num *ℤ d ≡ n *ℤ pos x.den
 
--- x is at most y
-infix 4 ◌≤ᶠ◌
-pub record ◌≤ᶠ◌ (x y : Fraction) : Type 0 where
-  pub le : x.num *ℤ pos y.den ≼ y.num *ℤ pos x.den
-
 -- a number with the sign of z and the size n
 abbrev pub signed : ℤ → ℕ → ℤ
 signed (pos a) n = pos n

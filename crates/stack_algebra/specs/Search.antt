@@ -1,5 +1,5 @@
 -- Searches among the numbers below n, and the indices round a list.
-use Rattle.std.specs.Prelude.{ℕ, zero, suc, ◌<◌, Bool, true, false, cond, Option, Some, None}
+use Rattle.std.specs.Prelude.{ℕ, zero, suc, Bool, true, false, cond, Option, Some, None}
 use lib.Dec.{eqb}
 
 -- the first of two items, or the second where there is no first
@@ -20,16 +20,6 @@ only_if false x = None
 -- the least index below n that has p
 abbrev pub least : ℕ → (ℕ → Bool) → Option ℕ
 least n p = first n (λ j. only_if (p j) j)
-
--- P holds of some number below n
-pub record SomeBelow (n : ℕ) (P : ℕ → Type 0) : Type 0 where
-  pub index : ℕ
-  pub below : index < n
-  pub holds : P index
-
--- P holds of each number below n
-abbrev pub AllBelow : ℕ → (ℕ → Type 0) → Type 0
-AllBelow n P = (i : ℕ) → i < n → P i
 
 -- the index after i, round a list of n items
 abbrev pub next_round : ℕ → ℕ → ℕ

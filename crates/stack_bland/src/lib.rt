@@ -10,8 +10,10 @@
 #![tactic(auto)]
 
 mod entering_column;
+mod found;
 mod leaving_row;
 mod signs;
 
 pub use entering_column::entering;
+pub use found::Found;
 pub use leaving_row::{RatioWide, leaving};

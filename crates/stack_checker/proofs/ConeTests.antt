@@ -3,14 +3,9 @@ use Rattle.std.proofs.Common.{◌≡◌, refl, sym, ap, ◌∙◌, ℕ, Bool, tr
 use lib.IntN.{ℤ, pos, ◌*ℤ◌}
 use Rattle.std.specs.Prelude.{int_le, int_lt, Result, Ok, Err, ⊤, if◌then◌else◌}
 use Rattle.std.proofs.lemmas.Int.{ints}
-use Rattle.stack_algebra.specs.IntegerOrder.{abs}
-use Rattle.stack_algebra.specs.Steps.{◌>>=◌}
-use Rattle.stack_whole.specs.declared.whole.Wide.{Wide}
-use Rattle.stack_whole.specs.declared.whole.Whole.{Whole}
-use Rattle.stack_whole.specs.Whole.{made, whole}
-use Rattle.stack_frame.specs.declared.cone.Cone.{Cone}
-use Rattle.stack_frame.specs.Admitted.{written_test, written_admission}
+use Rattle.stack_equilibrium.proofs.Common.{Cone, Whole, Wide, abs, made, whole, ◌>>=◌}
 use Rattle.stack_equilibrium.specs.declared.block.Push.{Push}
+use Rattle.stack_frame.specs.Admitted.{written_test, written_admission}
 use Rattle.stack_checker.specs.declared.types.Reason.{Reason}
 use Rattle.stack_checker.specs.declared.types.Reason.TheVariants as reasons
 use Rattle.stack_checker.specs.declared.types.CheckAt.TheVariants as places

@@ -1,13 +1,10 @@
 -- What a true certificate of a survey shows of the factors that are carried, one form after the other.
-use Rattle.stack_contact.specs.Surveyed.{Surveyed}
-use Rattle.stack_certificate.specs.Certificate.{CertificateValue, stands, collapses, greatest, unbounded}
-use Rattle.stack_statics.specs.Scene.{IsProper}
-use Rattle.stack_equilibrium.specs.SurveyScene.{scene_of}
-use Rattle.stack_equilibrium.specs.Held.{forces_of, moves_of}
-use Rattle.stack_statics.proofs.CertificateLaws.{stands_is_carried, collapse_excludes_balance}
-use Rattle.stack_statics.proofs.CertificateLaws.{greatest_is_carried, greatest_bounds_every_factor}
+use Rattle.stack_equilibrium.proofs.Common.{CertificateValue, IsProper, IsTrueCertificate, Surveyed}
+use Rattle.stack_equilibrium.proofs.Common.{collapse_excludes_balance, collapses, forces_of, greatest}
+use Rattle.stack_equilibrium.proofs.Common.{greatest_is_carried, moves_of, scene_of, stands, stands_is_carried}
+use Rattle.stack_equilibrium.proofs.Common.{unbounded}
+use Rattle.stack_statics.proofs.CertificateLaws.{greatest_bounds_every_factor}
 use Rattle.stack_statics.proofs.CertificateLaws.{unbounded_carries_above, unbounded_carries_all}
-use Rattle.stack_equilibrium.specs.Truth.{IsTrueCertificate}
 use Rattle.stack_checker.specs.Shown.{DeadLoadsStand, DeadLoadsFall, FactorIsCarried, NoGreaterIsCarried}
 use Rattle.stack_checker.specs.Shown.{AllAboveAreCarried, AllAreCarried}
 

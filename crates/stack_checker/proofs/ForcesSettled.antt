@@ -4,24 +4,20 @@ use Rattle.std.proofs.Common.{◌≡◌, refl, sym, ap, ◌∙◌, ℕ, ◌+◌,
 use Rattle.std.proofs.Common.{length, get_or, subst, arith, int_le}
 use Rattle.std.specs.Bool.{nat_eq}
 use Rattle.std.proofs.lemmas.List.{length-map}
-use Rattle.stack_algebra.specs.Steps.{steps}
-use Rattle.stack_algebra.proofs.Order.{◌≼◌, abs}
+use Rattle.stack_equilibrium.proofs.Common.{ForcesValue, IsBalanced, IsWithinCone, Surveyed, Whole, bearing_of, body_of}
+use Rattle.stack_equilibrium.proofs.Common.{forces_of, frees_of, no_bearing, part_of_pair, push_at, scene_bearing_of}
+use Rattle.stack_equilibrium.proofs.Common.{scene_of, steps, whole, ◌≼◌}
+use Rattle.stack_equilibrium.specs.declared.block.Push.{Push}
+use Rattle.stack_algebra.proofs.Order.{abs}
 use Rattle.stack_frame.specs.Cones.{coefficient}
 use Rattle.stack_frame.specs.Admitted.{IsAdmitted}
-use Rattle.stack_model.specs.Structure.{body_of}
-use Rattle.stack_contact.specs.Surveyed.{Surveyed}
-use Rattle.stack_contact.specs.FreeBlocks.{frees_of, free_of}
+use Rattle.stack_contact.specs.FreeBlocks.{free_of}
 use Rattle.stack_contact.proofs.Frees.{free_is_listed, listed_is_free}
-use Rattle.stack_certificate.specs.Certificate.{ForcesValue}
 use Rattle.stack_equilibrium.specs.declared.types.Axis.TheVariants.{X, Y, M}
-use Rattle.stack_whole.specs.declared.whole.Whole.{Whole}
-use Rattle.stack_equilibrium.specs.declared.block.Push.{Push}
-use Rattle.stack_statics.specs.Balance.{IsWithinCone, IsAdmissible, IsBalancedAt, IsBalanced}
+use Rattle.stack_statics.specs.Balance.{IsAdmissible, IsBalancedAt}
 use Rattle.stack_statics.specs.Certificates.{AreBalanced}
-use Rattle.stack_equilibrium.specs.SurveyScene.{no_bearing, bearing_of, scene_bearing_of, scene_of}
-use Rattle.stack_equilibrium.specs.Held.{part_of_pair, forces_of, part_at}
-use Rattle.stack_whole.specs.Whole.{whole}
-use Rattle.stack_equilibrium.specs.WrittenSums.{push_at, written_sums_at}
+use Rattle.stack_equilibrium.specs.Held.{part_at}
+use Rattle.stack_equilibrium.specs.WrittenSums.{written_sums_at}
 use Rattle.stack_equilibrium.proofs.SceneSums.{part_is, sums_are}
 use Rattle.stack_checker.specs.declared.types.Reason.TheVariants as reasons
 use Rattle.stack_checker.specs.declared.types.CheckAt.TheVariants as places

@@ -4,27 +4,22 @@ use Rattle.std.proofs.Common.{◌≡◌, refl, sym, ap, ◌∙◌, ℕ, ◌<◌,
 use Rattle.std.proofs.Common.{length, Result, Ok, Err, get_or, subst, int_le}
 use Rattle.std.specs.Bool.{⊤, nat_eq}
 use Rattle.std.proofs.lemmas.List.{length-map}
-use Rattle.stack_algebra.specs.Steps.{◌>>=◌, steps}
-use Rattle.stack_algebra.proofs.Order.{◌≼◌, ◌≺◌, abs}
-use Rattle.stack_contact.specs.Surveyed.{Surveyed}
-use Rattle.stack_contact.specs.FreeBlocks.{frees_of}
-use Rattle.stack_certificate.specs.Certificate.{ForcesValue, MotionValue}
+use Rattle.stack_equilibrium.proofs.Common.{ForcesValue, IsTrueCollapse, MotionValue, Surveyed, Whole, bearing_of}
+use Rattle.stack_equilibrium.proofs.Common.{dead_power_of, free_before, frees_of, live_power_of, move_at}
+use Rattle.stack_equilibrium.proofs.Common.{move_of_triple, moves_of, no_bearing, opening_of, scene_of, slide_of, steps}
+use Rattle.stack_equilibrium.proofs.Common.{still, whole, written_power, ◌>>=◌, ◌≺◌, ◌≼◌}
 use Rattle.stack_equilibrium.specs.declared.types.PowerWide.{PowerWide}
+use Rattle.stack_equilibrium.specs.declared.velocity.Gap.{Gap}
+use Rattle.stack_algebra.proofs.Order.{abs}
 use Rattle.stack_equilibrium.specs.declared.types.Question.TheVariants.{Dead, Live}
-use Rattle.stack_whole.specs.declared.whole.Whole.{Whole}
-use Rattle.stack_statics.specs.Motions.{opening_of, slide_of, IsStill, KeepsFixedStill, dead_power_of, live_power_of}
-use Rattle.stack_statics.specs.Certificates.{free_before, still, IsFreeMotion, IsTrueCollapse}
-use Rattle.stack_equilibrium.specs.SurveyScene.{no_bearing, bearing_of, scene_of}
-use Rattle.stack_equilibrium.specs.Held.{move_of_triple, moves_of, move_at}
-use Rattle.stack_whole.specs.Whole.{whole}
+use Rattle.stack_statics.specs.Motions.{IsStill, KeepsFixedStill}
+use Rattle.stack_statics.specs.Certificates.{IsFreeMotion}
 use Rattle.stack_equilibrium.specs.Answers.{AreRates}
 use Rattle.stack_equilibrium.specs.WrittenVelocities.{written_opening}
-use Rattle.stack_equilibrium.specs.WrittenPowers.{written_power}
 use Rattle.stack_checker.specs.declared.types.Reason.TheVariants as reasons
 use Rattle.stack_checker.specs.declared.types.CheckAt.TheVariants as places
 use Rattle.stack_checker.specs.declared.sign.WantedSign.TheVariants.{Zero, Positive}
 use Rattle.stack_checker.specs.declared.stop.Stop.{Stop}
-use Rattle.stack_equilibrium.specs.declared.velocity.Gap.{Gap}
 use Rattle.stack_checker.specs.declared.powers.Powers.{Powers}
 use Rattle.stack_checker.specs.Signs.{has_sign}
 use Rattle.stack_checker.specs.WrittenTests.{demand, power_or_stop}

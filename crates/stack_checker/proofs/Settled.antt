@@ -3,22 +3,16 @@
 use Rattle.std.proofs.Common.{◌≡◌, refl, ℕ, zero, suc, ◌+◌, ◌<◌, ℤ, Bool, true, false, List, []}
 use Rattle.std.proofs.Common.{◌∷◌, length, get_or, Result, Ok, Err, subst, arith}
 use Rattle.std.specs.Bool.{⊤, Decides}
-use Rattle.stack_algebra.specs.Steps.{◌>>=◌, steps}
-use Rattle.stack_contact.specs.Surveyed.{Surveyed}
-use Rattle.stack_contact.specs.FreeBlocks.{frees_of}
-use Rattle.stack_statics.specs.declared.wrench.Wrench.{Wrench}
+use Rattle.stack_equilibrium.proofs.Common.{Surveyed, Whole, Wide, Wrench, frees_of, made, steps, whole, ◌>>=◌}
+use Rattle.stack_equilibrium.specs.declared.types.PowerWide.{PowerWide}
+use Rattle.stack_equilibrium.specs.declared.velocity.Gap.{Gap}
 use Rattle.stack_equilibrium.specs.declared.types.SumWide.{SumWide}
 use Rattle.stack_equilibrium.specs.declared.types.VelocityWide.{VelocityWide}
-use Rattle.stack_equilibrium.specs.declared.types.PowerWide.{PowerWide}
-use Rattle.stack_whole.specs.declared.whole.Wide.{Wide}
-use Rattle.stack_whole.specs.declared.whole.Whole.{Whole}
-use Rattle.stack_whole.specs.Whole.{made, whole}
 use Rattle.stack_equilibrium.proofs.PlainSums.{made_is}
 use Rattle.stack_checker.specs.declared.types.Reason.{Reason}
 use Rattle.stack_checker.specs.declared.types.CheckAt.{CheckAt}
 use Rattle.stack_checker.specs.declared.stop.Stop.{Stop}
 use Rattle.stack_checker.specs.declared.stop.Stop.TheVariants.{Rejected, TooWide}
-use Rattle.stack_equilibrium.specs.declared.velocity.Gap.{Gap}
 use Rattle.stack_checker.specs.WrittenTests.{demand, made_at, sums_at, stopped_gap, power_or_stop}
 use Rattle.stack_checker.specs.Verdict.{IsReasonOf, IsPlaceOf}
 

@@ -1,9 +1,8 @@
 -- An accepted certificate is true, a rejected one isn't, and answers name what the survey has.
 use Rattle.std.proofs.Common.{◌≡◌, refl, sym, ◌⊎◌, inl, inr, Result, Ok, Err, subst}
 use Rattle.std.specs.Bool.{⊤}
-use Rattle.stack_algebra.specs.Steps.{◌>>=◌}
-use Rattle.stack_contact.specs.Surveyed.{Surveyed}
-use Rattle.stack_certificate.specs.Certificate.{CertificateValue, stands, collapses, greatest, unbounded}
+use Rattle.stack_equilibrium.proofs.Common.{CertificateValue, IsTrueCertificate, Surveyed, collapses, greatest, stands}
+use Rattle.stack_equilibrium.proofs.Common.{unbounded, ◌>>=◌}
 use Rattle.stack_checker.specs.declared.types.CheckPlace.{CheckPlace}
 use Rattle.stack_checker.specs.declared.types.Part.{Part}
 use Rattle.stack_checker.specs.declared.types.Part.TheVariants.{First, Second}
@@ -12,7 +11,6 @@ use Rattle.stack_checker.specs.declared.types.Check.TheVariants as answers
 use Rattle.stack_checker.specs.declared.stop.Stop.{Stop}
 use Rattle.stack_checker.specs.declared.stop.Stop.TheVariants.{Rejected, TooWide}
 use Rattle.stack_checker.specs.Signs.{standing, loaded, rising}
-use Rattle.stack_equilibrium.specs.Truth.{IsTrueCertificate}
 use Rattle.stack_checker.specs.WrittenForces.{written_forces}
 use Rattle.stack_checker.specs.WrittenMotions.{written_collapse, written_bound}
 use Rattle.stack_checker.specs.WrittenCheck.{in_part, tests_of, answer_of, written_check}

@@ -1,6 +1,7 @@
--- What a certificate that is accepted shows of the structure: which factors of the live loads are carried. A
--- factor is L over D, with D from 1 up; `Carries scene L D` says that admissible forces carry it. Each
--- statement is about the certificates of one form, and says nothing of the others.
+-- What a certificate that is accepted shows of the structure: which factors of the live loads are carried. A factor is
+-- L over D, with D from 1 up; `Carries scene L D` says that admissible forces carry it. (`NoGreaterIsCarried` is over
+-- all D, which is more than is needed.) Each statement is about the certificates of one form, and says nothing of the
+-- others.
 use Rattle.std.specs.Prelude.{ℤ, pos, ◌*ℤ◌, ⊤}
 use Rattle.stack_algebra.specs.IntegerOrder.{◌≼◌, ◌≺◌}
 use Rattle.stack_contact.specs.Surveyed.{Surveyed}

@@ -1,10 +1,11 @@
 -- The single steps of the written check: a test with the reason that it gives where it fails, and a number
 -- with the place that it gives where it is too wide.
-use Rattle.std.specs.Prelude.{ℕ, ℤ, Bool, true, false, Result, Ok, Err, ⊤}
+use Rattle.std.specs.Prelude.{ℕ, ℤ, Bool, Result, Ok, Err, ⊤}
 use Rattle.stack_statics.specs.declared.wrench.Wrench.{Wrench}
 use Rattle.stack_equilibrium.specs.declared.types.SumWide.{SumWide}
 use Rattle.stack_equilibrium.specs.declared.types.VelocityWide.{VelocityWide}
 use Rattle.stack_equilibrium.specs.declared.types.PowerWide.{PowerWide}
+use Rattle.stack_whole.specs.Demands.{unless}
 use Rattle.stack_whole.specs.declared.whole.Wide.{Wide}
 use Rattle.stack_whole.specs.declared.whole.Whole.{Whole}
 use Rattle.stack_whole.specs.Whole.{whole}
@@ -17,8 +18,7 @@ use Rattle.stack_equilibrium.specs.declared.velocity.Gap.{Gap}
 
 -- a test that is passed or ends the check with its reason
 abbrev pub demand : Bool → Reason → Result ⊤ Stop
-demand true reason = Ok tt
-demand false reason = Err (Rejected reason)
+demand holds reason = unless holds (Rejected reason)
 
 -- a number that is made, or ends the check at its place
 abbrev pub made_at : Result Whole Wide → CheckAt → Result Whole Stop

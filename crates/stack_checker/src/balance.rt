@@ -11,12 +11,12 @@ ghost use Rattle.stack_checker.specs.WrittenTests.{demand, sums_at};
 ghost use Rattle.stack_checker.specs.WrittenForces.{written_balance, balance_at};
 
 use crate::sign::WantedSign;
-use crate::stop::{Stop, require};
+use crate::stop::Stop;
 use crate::types::{CheckAt, Reason};
 use stack_certificate::Forces;
 use stack_contact::Survey;
 use stack_equilibrium::{Axis, SumWide, Wrench, residue};
-use stack_whole::Whole;
+use stack_whole::{Whole, unless};
 
 /// The three sums of free block number `b`, or their place where one is too wide.
 fn placed_sums(b: usize, made: Result<Wrench, SumWide>) -> Result<Wrench, Stop>
@@ -32,9 +32,9 @@ fn placed_sums(b: usize, made: Result<Wrench, SumWide>) -> Result<Wrench, Stop>
 fn require_zero(b: usize, axis: Axis, number: Whole) -> Result<(), Stop>
     ensures { result ≡ demand (has_sign Zero number.value) (reasons.Balance b axis) }
 {
-    require(
+    unless(
         WantedSign::Zero.is_of(number),
-        Reason::Balance { block: b, axis },
+        Stop::Rejected(Reason::Balance { block: b, axis }),
     )
 }
 

@@ -5,20 +5,20 @@ ghost use Rattle.stack_algebra.specs.Steps.{steps};
 ghost use Rattle.stack_whole.specs.Whole.{whole};
 ghost use Rattle.stack_checker.specs.WrittenForces.{written_cone, cone_at};
 
-use crate::stop::{Stop, require};
+use crate::stop::Stop;
 use crate::types::{CheckAt, Reason};
 use stack_contact::Bearing;
 use stack_equilibrium::{Push, push_of};
 use stack_frame::Cone;
-use stack_whole::Wide;
+use stack_whole::{Wide, unless};
 
 /// Bearing `k` pushes, and stays within its cone of friction.
 fn check_cone(k: usize, cone: Cone, push: Push) -> Result<(), Stop>
     ensures { result ≡ written_cone k (whole cone.p) (whole cone.q) push }
 {
-    require(0 <= push.a.value, Reason::Push { k })?;
+    unless(0 <= push.a.value, Stop::Rejected(Reason::Push { k }))?;
     match cone.admits(push.a, push.b) {
-        Ok(within) => require(within, Reason::Cone { k }),
+        Ok(within) => unless(within, Stop::Rejected(Reason::Cone { k })),
         Err(Wide) => Err(Stop::TooWide(CheckAt::Cone { k })),
     }
 }

@@ -7,12 +7,12 @@ ghost use Rattle.stack_certificate.specs.Certificate.{motion_view};
 ghost use Rattle.stack_checker.specs.WrittenTests.{stopped_gap};
 ghost use Rattle.stack_checker.specs.WrittenMotions.{written_resistance, resistance_at, written_motion};
 
-use crate::stop::{Stop, place, require};
+use crate::stop::{Stop, place};
 use crate::types::{CheckAt, Reason};
 use stack_certificate::Motion;
 use stack_contact::{Bearing, Survey};
 use stack_equilibrium::{Gap, VelocityWide, opening};
-use stack_whole::Whole;
+use stack_whole::{Whole, unless};
 
 /// How bearing `k` opens and slides, or its place where a velocity is too wide.
 fn placed_gap(k: usize, made: Result<(i128, i128), VelocityWide>) -> Result<Gap, Stop>
@@ -40,7 +40,10 @@ fn check_resistance(k: usize, p: Whole, q: Whole, gap: Gap) -> Result<(), Stop>
     let opens = place(q.product(gap.opening), CheckAt::Resisted { k })?;
     let size = place(gap.slide.size(), CheckAt::Resisted { k })?;
     let slides = place(p.product(size), CheckAt::Resisted { k })?;
-    require(slides.value <= opens.value, Reason::Resisted { k })
+    unless(
+        slides.value <= opens.value,
+        Stop::Rejected(Reason::Resisted { k }),
+    )
 }
 
 #[tactic(auto, unfolding(crate::specs::WrittenMotions::resistance_at))]
@@ -70,6 +73,9 @@ pub fn check_motion(s: &Survey, motion: &Motion) -> Result<(), Stop>
     ensures written { result ≡ written_motion s.now (motion_view motion.now) }
     ensures counted { result ≡ Ok tt → length (motion_view motion.now) ≡ length (frees_of s.now.structure.bodies) }
 {
-    require(motion.moves.len() == s.free_count(), Reason::Count)?;
+    unless(
+        motion.moves.len() == s.free_count(),
+        Stop::Rejected(Reason::Count),
+    )?;
     check_bearings(s, motion)
 }

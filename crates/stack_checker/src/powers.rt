@@ -8,12 +8,12 @@ ghost use Rattle.stack_checker.specs.WrittenMotions.{written_collapse, written_p
 
 use crate::motions::check_motion;
 use crate::sign::WantedSign;
-use crate::stop::{Stop, place, require};
+use crate::stop::{Stop, place};
 use crate::types::{CheckAt, Reason};
 use stack_certificate::{Forces, Motion};
 use stack_contact::Survey;
 use stack_equilibrium::{PowerWide, Question, power};
-use stack_whole::Whole;
+use stack_whole::{Whole, unless};
 
 /// The work of the live and of the dead loads on a motion, in sixths.
 #[derive(Clone, Copy)]
@@ -39,7 +39,10 @@ pub fn check_collapse(s: &Survey, motion: &Motion) -> Result<(), Stop>
 {
     check_motion(s, motion)?;
     let dead = placed_power(power(s, motion, Question::Dead))?;
-    require(WantedSign::Positive.is_of(dead), Reason::NoWork)
+    unless(
+        WantedSign::Positive.is_of(dead),
+        Stop::Rejected(Reason::NoWork),
+    )
 }
 
 #[tactic(auto, unfolding(crate::specs::WrittenMotions::written_powers))]
@@ -60,7 +63,7 @@ fn check_meeting(scale: Whole, factor: Whole, powers: Powers) -> Result<(), Stop
     let driven = place(factor.product(powers.live), CheckAt::Apart)?;
     let standing = place(scale.product(powers.dead), CheckAt::Apart)?;
     let total = place(driven.sum(standing), CheckAt::Apart)?;
-    require(WantedSign::Zero.is_of(total), Reason::Apart)
+    unless(WantedSign::Zero.is_of(total), Stop::Rejected(Reason::Apart))
 }
 
 /// A motion that no bearing resists, on which the live loads gain power, and which forbids a greater factor
@@ -71,6 +74,9 @@ pub fn check_bound(s: &Survey, forces: &Forces, motion: &Motion) -> Result<(), S
 {
     check_motion(s, motion)?;
     let powers = both_powers(s, motion)?;
-    require(WantedSign::Positive.is_of(powers.live), Reason::NoWork)?;
+    unless(
+        WantedSign::Positive.is_of(powers.live),
+        Stop::Rejected(Reason::NoWork),
+    )?;
     check_meeting(Whole::of(forces.scale), Whole::of(forces.factor), powers)
 }

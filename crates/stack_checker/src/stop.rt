@@ -1,7 +1,7 @@
 //! Why a check ends before its last test.
 
 ghost use Rattle.std.specs.Prelude.{◌≡◌};
-ghost use Rattle.stack_checker.specs.WrittenTests.{demand, made_at};
+ghost use Rattle.stack_checker.specs.WrittenTests.{made_at};
 ghost use Rattle.stack_checker.specs.WrittenCheck.{in_part, answer_of};
 
 use crate::types::{Check, CheckAt, CheckPlace, Part, Reason};
@@ -19,17 +19,6 @@ pub enum Stop {
 pub struct PartStop {
     pub part: Part,
     pub stop: Stop,
-}
-
-/// A test that holds, or else its reason.
-pub fn require(holds: bool, reason: Reason) -> Result<(), Stop>
-    ensures { result ≡ demand holds reason }
-{
-    if holds {
-        Ok(())
-    } else {
-        Err(Stop::Rejected(reason))
-    }
 }
 
 /// A number that isn't too wide, or else its place.

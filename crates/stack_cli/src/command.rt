@@ -95,7 +95,8 @@ pub fn answer_words<F: Shelf>(
 /// Does what the words ask for, and gives the status with which the program ends.
 ///
 /// The whole answer is built before it is written, in one put on `out`. A refusal puts one line on `err`, and nothing
-/// on `out` unless `out` failed; if `err` fails, the status stays. If memory runs out, the status is 11.
+/// on `out` unless `out` failed; if `err` fails, the status is that of the refusal or 11. Status 11, for memory that
+/// ran out, is left open by each promise of an answer.
 ///
 /// Its clause has one field for each promise (`Runs`). The field `says` has them in plain words (`RunSays`): of `stand`
 /// and `load` the headline, that what is printed is true and is accepted by `check`; what each other form prints means,

@@ -5,7 +5,6 @@ use super::command::run;
 use super::given::{Given, run_given};
 use stack_outside::{MemoryShelf, MemorySink};
 use std::alloc::Global;
-use std::process::Abort;
 use std::test::*;
 
 /// A post on level ground.
@@ -61,298 +60,366 @@ factor 120/1
 narrow yes
 ";
 
-const CHECK: [&str; 3] = ["check", "model", "certificate"];
+/// Files by their names, each in pieces.
+type Files = &'static [(&'static str, &'static [&'static str])];
 
-const CONTACTS: [&str; 2] = ["contacts", "model"];
+/// The post and forces that carry it.
+const CARRIED: Files = &[("model", &[POST]), ("certificate", &[FORCES])];
 
-/// A shelf with the post under `model` and this text under `certificate`, whose listed reads fail.
-fn shelf(alloc: Global, certificate: &str, fails: Vec<u64>) -> Result<MemoryShelf, Fail> {
-    let mut files = Vec::new(alloc);
-    files.push((
-        String::from_str(alloc, "model")?,
-        POST.as_bytes().to_vec(alloc)?,
-    ))?;
-    let name = String::from_str(alloc, "certificate")?;
-    files.push((name, certificate.as_bytes().to_vec(alloc)?))?;
-    Ok(MemoryShelf::new(files, fails))
+/// A shelf with these files, whose listed reads fail.
+fn shelf(alloc: Global, files: Files, fails: &[u64]) -> Option<MemoryShelf> {
+    let mut list = Vec::new(alloc);
+    for (name, pieces) in files {
+        let bytes = pieces.concat(alloc).ok()?.into_bytes();
+        let name = String::from_str(alloc, name).ok()?;
+        list.push((name, bytes)).ok()?;
+    }
+    let fails = fails.to_vec(alloc).ok()?;
+    Some(MemoryShelf::new(list, fails))
 }
 
-fn strings(alloc: Global, words: &[&str]) -> Result<Vec<String>, Fail> {
+fn strings(alloc: Global, words: &[&str]) -> Option<Vec<String>> {
     let mut strings = Vec::new(alloc);
     for word in words {
-        strings.push(String::from_str(alloc, word)?)?;
+        let string = String::from_str(alloc, word).ok()?;
+        strings.push(string).ok()?;
     }
-    Ok(strings)
+    Some(strings)
 }
 
-/// Runs the program with these words over the shelf, and compares its status, its output and its error line.
-fn compare(
-    rt: &impl Abort,
-    alloc: Global,
-    shelf: &mut MemoryShelf,
-    words: &[&str],
-    said: (u8, &str, &str),
-) -> Result<(), Fail> {
-    let words = strings(alloc, words)?;
-    let mut out = MemorySink::new(Vec::new(alloc), 1000)?;
-    let mut err = MemorySink::new(Vec::new(alloc), 100)?;
+/// A sink with this room, whose listed puts fail after so many bytes.
+fn sink(alloc: Global, fails: &[(u64, usize)], room: usize) -> Option<MemorySink> {
+    let fails = fails.to_vec(alloc).ok()?;
+    MemorySink::new(fails, room).ok()
+}
+
+/// Words, and what the program answers: its status, its output, or the front of it, and its error line.
+#[derive(Clone, Copy)]
+struct Row {
+    words: &'static [&'static str],
+    status: u8,
+    out: &'static str,
+    is_whole: bool,
+    err: &'static str,
+}
+
+/// An answer on standard output.
+fn says(words: &'static [&'static str], status: u8, out: &'static str) -> Row {
+    Row {
+        words,
+        status,
+        out,
+        is_whole: true,
+        err: "",
+    }
+}
+
+/// An answer of which this is the front.
+fn begins(words: &'static [&'static str], out: &'static str) -> Row {
+    Row {
+        words,
+        status: 0,
+        out,
+        is_whole: false,
+        err: "",
+    }
+}
+
+/// A refusal.
+fn refuses(words: &'static [&'static str], status: u8, err: &'static str) -> Row {
+    Row {
+        words,
+        status,
+        out: "",
+        is_whole: true,
+        err,
+    }
+}
+
+/// Whether the program over the shelf answers so.
+fn holds(alloc: Global, shelf: &mut MemoryShelf, row: Row) -> Option<bool> {
+    let words = strings(alloc, row.words)?;
+    let mut out = sink(alloc, &[], 1000)?;
+    let mut err = sink(alloc, &[], 100)?;
     let status = run(alloc, words.as_slice(), shelf, &mut out, &mut err);
-    assert_eq!(rt; out.written(), said.1.as_bytes());
-    assert_eq!(rt; err.written(), said.2.as_bytes());
-    assert_eq!(rt; status, said.0);
-    Ok(())
+    let written = out.written();
+    let is_told = written.starts_with(row.out.as_bytes())
+        && (written.len() == row.out.len() || !row.is_whole)
+        && err.written() == row.err.as_bytes();
+    Some(is_told && status == row.status)
 }
 
-#[test]
-fn each_form_is_answered(rt: HostRuntime) -> Result<(), Fail> {
-    let alloc = rt.alloc();
-    let mut files = shelf(alloc, FORCES, Vec::new(alloc))?;
-    compare(&rt, alloc, &mut files, &CHECK, (0, "accepted\n", ""))?;
-    assert_eq!(rt; files.asked().len(), 2);
-    compare(&rt, alloc, &mut files, &CONTACTS, (0, TABLE, ""))?;
-    assert_eq!(rt; files.asked().len(), 3);
-    let mut pulled = shelf(
-        alloc,
-        "stands\nforces 1 0\npush -1 0\npush 24 0\nend\n",
-        Vec::new(alloc),
-    )?;
-    compare(
-        &rt,
-        alloc,
-        &mut pulled,
-        &CHECK,
-        (1, "rejected first push 1\n", ""),
-    )
+/// How many rows hold, up to the first that doesn't, over one shelf with these files whose listed reads fail; and how
+/// many reads were asked for.
+fn holding(alloc: Global, files: Files, fails: &[u64], rows: &[Row]) -> Option<(usize, usize)> {
+    let mut shelf = shelf(alloc, files, fails)?;
+    for (k, row) in rows.iter().enumerate() {
+        if holds(alloc, &mut shelf, *row) != Some(true) {
+            return Some((k, shelf.asked().len()));
+        }
+    }
+    Some((rows.len(), shelf.asked().len()))
 }
 
-#[test]
-fn tables_and_built_in_models_are_answered(rt: HostRuntime) -> Result<(), Fail> {
-    let alloc = rt.alloc();
-    let mut files = shelf(alloc, FORCES, Vec::new(alloc))?;
-    let table = ["table", "model", "certificate"];
-    compare(&rt, alloc, &mut files, &table, (0, TABLES, ""))?;
-    compare(&rt, alloc, &mut files, &["sample", "0"], (0, SAMPLE, ""))?;
-    let slab = ["stack", "slab", "7"];
-    compare(&rt, alloc, &mut files, &slab, (5, "", "model size\n"))?;
-    assert_eq!(rt; files.asked().len(), 2);
-    Ok(())
-}
+const CHECK: &[&str] = &["check", "model", "certificate"];
+
+const CONTACTS: &[&str] = &["contacts", "model"];
+
+/// The post, and forces that pull.
+const PULLED: Files = &[
+    ("model", &[POST]),
+    (
+        "certificate",
+        &["stands\nforces 1 0\npush -1 0\npush 24 0\nend\n"],
+    ),
+];
 
 #[test]
-fn the_post_is_judged(rt: HostRuntime) -> Result<(), Fail> {
+fn each_form_is_answered(rt: HostRuntime) {
     let alloc = rt.alloc();
-    let mut files = shelf(alloc, FORCES, Vec::new(alloc))?;
-    let few = ["stand", "model", "3"];
-    compare(&rt, alloc, &mut files, &few, (8, "", "spent 3\n"))?;
-    let live = ["load", "model"];
-    compare(&rt, alloc, &mut files, &live, (9, "", "no live load\n"))?;
-    let words = strings(alloc, &["stand", "model", "4"])?;
-    let mut out = MemorySink::new(Vec::new(alloc), 1000)?;
-    let mut err = MemorySink::new(Vec::new(alloc), 100)?;
-    assert_eq!(rt;
-        run(alloc, words.as_slice(), &mut files, &mut out, &mut err),
-        0
-    );
-    assert!(rt; out.written().starts_with(b"stands\n"));
-    assert_eq!(rt; files.asked().len(), 3);
-    Ok(())
-}
-
-#[test]
-fn the_range_of_a_pushed_post_is_told(rt: HostRuntime) -> Result<(), Fail> {
-    let alloc = rt.alloc();
-    let mut text = String::from_str(alloc, POST)?;
-    text.push_str(PUSH)?;
-    let mut list = Vec::new(alloc);
-    list.push((String::from_str(alloc, "model")?, text.into_bytes()))?;
-    let mut files = MemoryShelf::new(list, Vec::new(alloc));
-    let few = ["range", "model", "1"];
-    compare(&rt, alloc, &mut files, &few, (8, "", "spent 1\n"))?;
-    let words = strings(alloc, &["range", "model"])?;
-    let mut out = MemorySink::new(Vec::new(alloc), 1000)?;
-    let mut err = MemorySink::new(Vec::new(alloc), 100)?;
-    assert_eq!(rt;
-        run(alloc, words.as_slice(), &mut files, &mut out, &mut err),
-        0
-    );
-    assert!(rt; out.written().starts_with(b"range -2/1 2/1\ngreatest\n"));
-    assert_eq!(rt; files.asked().len(), 2);
-    let mut alone = shelf(alloc, FORCES, Vec::new(alloc))?;
-    let range = ["range", "model"];
-    compare(&rt, alloc, &mut alone, &range, (9, "", "no live load\n"))
-}
-
-#[test]
-fn the_stages_of_an_order_are_told(rt: HostRuntime) -> Result<(), Fail> {
-    let alloc = rt.alloc();
-    let mut list = Vec::new(alloc);
-    let told = [
-        ("model", POST),
-        ("order", "post\n"),
-        ("twice", "post\npost\n"),
+    let rows = [
+        says(CHECK, 0, "accepted\n"),
+        says(CONTACTS, 0, TABLE),
+        says(&["table", "model", "certificate"], 0, TABLES),
+        says(&["sample", "0"], 0, SAMPLE),
+        refuses(&["stack", "slab", "7"], 5, "model size\n"),
     ];
-    for (name, text) in told {
-        let bytes = Vec::from_slice(alloc, text.as_bytes())?;
-        list.push((String::from_str(alloc, name)?, bytes))?;
-    }
-    let mut files = MemoryShelf::new(list, Vec::new(alloc));
-    let all = ["stages", "model", "order"];
-    let stands = (0, "stage 1 stands\nall stand\n", "");
-    compare(&rt, alloc, &mut files, &all, stands)?;
-    let few = ["stages", "model", "order", "1"];
-    compare(&rt, alloc, &mut files, &few, (8, "", "spent 1\n"))?;
-    let twice = ["stages", "model", "twice"];
-    compare(&rt, alloc, &mut files, &twice, (13, "", "order line 2\n"))?;
-    let none = ["stages", "model", "none"];
-    compare(&rt, alloc, &mut files, &none, (3, "", "file order\n"))?;
-    assert_eq!(rt; files.asked().len(), 8);
-    Ok(())
-}
-
-/// A shelf with the post under `model`, pushed and pressed, and with files of directions.
-fn directed_shelf(alloc: Global) -> Result<MemoryShelf, Fail> {
-    let mut text = String::from_str(alloc, POST)?;
-    text.push_str(PUSH)?;
-    text.push_str(PRESSURE)?;
-    let mut list = Vec::new(alloc);
-    list.push((String::from_str(alloc, "model")?, text.into_bytes()))?;
-    let told = [
-        ("down", "dir 0 1\n"),
-        ("aside", "dir 1 0\n"),
-        ("nowhere", "dir 0 0\n"),
+    let pulled = [says(CHECK, 1, "rejected first push 1\n")];
+    let found = [
+        holding(alloc, CARRIED, &[], rows.as_slice()),
+        holding(alloc, PULLED, &[], pulled.as_slice()),
     ];
-    for (name, text) in told {
-        let bytes = Vec::from_slice(alloc, text.as_bytes())?;
-        list.push((String::from_str(alloc, name)?, bytes))?;
-    }
-    Ok(MemoryShelf::new(list, Vec::new(alloc)))
+    assert_eq!(rt; found, [Some((5, 5)), Some((1, 2))]);
 }
 
 #[test]
-fn the_region_of_a_push_and_a_pressure_is_told(rt: HostRuntime) -> Result<(), Fail> {
-    let alloc = rt.alloc();
-    let mut files = directed_shelf(alloc)?;
-    let down = ["yield", "model", "1", "2", "down"];
-    let endless = (0, "region 1\ndir 0 1 unlimited\n", "");
-    compare(&rt, alloc, &mut files, &down, endless)?;
-    let few = ["yield", "model", "1", "2", "aside", "1"];
-    compare(&rt, alloc, &mut files, &few, (8, "", "spent 1\n"))?;
-    let nowhere = ["yield", "model", "1", "2", "nowhere"];
-    let line = (14, "", "directions line 1\n");
-    compare(&rt, alloc, &mut files, &nowhere, line)?;
-    let none = ["yield", "model", "1", "2", "none"];
-    compare(&rt, alloc, &mut files, &none, (3, "", "file directions\n"))?;
-    let third = ["yield", "model", "1", "3", "down"];
-    compare(&rt, alloc, &mut files, &third, (15, "", "no pair 3\n"))?;
-    let words = strings(alloc, &["yield", "model", "1", "2", "aside"])?;
-    let mut out = MemorySink::new(Vec::new(alloc), 1000)?;
-    let mut err = MemorySink::new(Vec::new(alloc), 100)?;
+fn the_post_is_judged(rt: HostRuntime) {
+    let rows = [
+        refuses(&["stand", "model", "3"], 8, "spent 3\n"),
+        refuses(&["load", "model"], 9, "no live load\n"),
+        begins(&["stand", "model", "4"], "stands\n"),
+        refuses(&["range", "model"], 9, "no live load\n"),
+    ];
     assert_eq!(rt;
-        run(alloc, words.as_slice(), &mut files, &mut out, &mut err),
-        0
+        holding(rt.alloc(), CARRIED, &[], rows.as_slice()),
+        Some((4, 4))
     );
-    assert!(rt;
-        out.written()
-            .starts_with(b"region 1\ndir 1 0 reach 2/1 0/1\nhalf ")
+}
+
+const TIPPING: Files = &[("model", &[POST, PUSH])];
+
+#[test]
+fn the_range_of_a_pushed_post_is_told(rt: HostRuntime) {
+    let rows = [
+        refuses(&["range", "model", "1"], 8, "spent 1\n"),
+        begins(&["range", "model"], "range -2/1 2/1\ngreatest\n"),
+    ];
+    assert_eq!(rt;
+        holding(rt.alloc(), TIPPING, &[], rows.as_slice()),
+        Some((2, 2))
     );
-    assert_eq!(rt; files.asked().len(), 11);
-    Ok(())
+}
+
+const ORDERED: Files = &[
+    ("model", &[POST]),
+    ("order", &["post\n"]),
+    ("twice", &["post\npost\n"]),
+];
+
+#[test]
+fn the_stages_of_an_order_are_told(rt: HostRuntime) {
+    let rows = [
+        says(
+            &["stages", "model", "order"],
+            0,
+            "stage 1 stands\nall stand\n",
+        ),
+        refuses(&["stages", "model", "order", "1"], 8, "spent 1\n"),
+        refuses(&["stages", "model", "twice"], 13, "order line 2\n"),
+        refuses(&["stages", "model", "none"], 3, "file order\n"),
+    ];
+    assert_eq!(rt;
+        holding(rt.alloc(), ORDERED, &[], rows.as_slice()),
+        Some((4, 8))
+    );
+}
+
+/// The post, pushed and pressed, and directions.
+const DIRECTED: Files = &[
+    ("model", &[POST, PUSH, PRESSURE]),
+    ("down", &["dir 0 1\n"]),
+    ("aside", &["dir 1 0\n"]),
+    ("nowhere", &["dir 0 0\n"]),
+];
+
+#[test]
+fn the_region_of_a_push_and_a_pressure_is_told(rt: HostRuntime) {
+    let rows = [
+        says(
+            &["yield", "model", "1", "2", "down"],
+            0,
+            "region 1\ndir 0 1 unlimited\n",
+        ),
+        refuses(&["yield", "model", "1", "2", "aside", "1"], 8, "spent 1\n"),
+        refuses(
+            &["yield", "model", "1", "2", "nowhere"],
+            14,
+            "directions line 1\n",
+        ),
+        refuses(
+            &["yield", "model", "1", "2", "none"],
+            3,
+            "file directions\n",
+        ),
+        refuses(&["yield", "model", "1", "3", "down"], 15, "no pair 3\n"),
+        begins(
+            &["yield", "model", "1", "2", "aside"],
+            "region 1\ndir 1 0 reach 2/1 0/1\nhalf ",
+        ),
+    ];
+    assert_eq!(rt;
+        holding(rt.alloc(), DIRECTED, &[], rows.as_slice()),
+        Some((6, 11))
+    );
 }
 
 #[test]
-fn a_certificate_that_is_kept_whole_stands(rt: HostRuntime) -> Result<(), Fail> {
-    let alloc = rt.alloc();
-    let words = strings(alloc, &["stand", "model"])?;
-    let mut files = shelf(alloc, FORCES, Vec::new(alloc))?;
-    let mut out = MemorySink::new(vec![in alloc; (1, 1000)]?, 1000)?;
-    let mut err = MemorySink::new(Vec::new(alloc), 100)?;
+fn words_without_a_form_ask_for_no_file(rt: HostRuntime) {
+    let rows = [
+        refuses(&[], 2, "words\n"),
+        refuses(&["check", "model"], 2, "words\n"),
+        refuses(&["check", "model", "certificate", "more"], 2, "words\n"),
+    ];
     assert_eq!(rt;
-        run(alloc, words.as_slice(), &mut files, &mut out, &mut err),
-        10
+        holding(rt.alloc(), CARRIED, &[], rows.as_slice()),
+        Some((3, 0))
     );
-    assert!(rt; out.written().starts_with(b"stands\n"));
-    assert!(rt; out.written().ends_with(b"end\n"));
-    assert_eq!(rt; out.calls(), 1);
-    assert_eq!(rt; err.calls(), 1);
-    assert_eq!(rt; err.written(), b"output\n".as_slice());
-    Ok(())
+}
+
+/// The statuses of words, of words of which one can't be read, and of words for which memory was wanting.
+fn statuses(
+    alloc: Global,
+    words: Vec<String>,
+    shelf: &mut MemoryShelf,
+    out: &mut MemorySink,
+    err: &mut MemorySink,
+) -> [u8; 3] {
+    [
+        run_given(alloc, Given::Words(words), shelf, out, err),
+        run_given(alloc, Given::Unreadable, shelf, out, err),
+        run_given(alloc, Given::Memory, shelf, out, err),
+    ]
+}
+
+fn answers_as_given(alloc: Global) -> Option<([u8; 3], bool, bool)> {
+    let mut files = shelf(alloc, CARRIED, &[])?;
+    let mut out = sink(alloc, &[], 100)?;
+    let mut err = sink(alloc, &[], 100)?;
+    let words = strings(alloc, CHECK)?;
+    let statuses = statuses(alloc, words, &mut files, &mut out, &mut err);
+    Some((
+        statuses,
+        out.written() == b"accepted\n".as_slice(),
+        err.written() == b"words\nmemory\n".as_slice(),
+    ))
 }
 
 #[test]
-fn words_without_a_form_ask_for_no_file(rt: HostRuntime) -> Result<(), Fail> {
-    let alloc = rt.alloc();
-    let mut files = shelf(alloc, FORCES, Vec::new(alloc))?;
-    for words in [
-        &[] as &[&str],
-        &["check", "model"],
-        &["check", "model", "certificate", "more"],
-    ] {
-        compare(&rt, alloc, &mut files, words, (2, "", "words\n"))?;
-    }
-    assert_eq!(rt; files.asked().len(), 0);
-    Ok(())
+fn words_are_taken_as_the_runtime_gives_them(rt: HostRuntime) {
+    assert_eq!(rt;
+        answers_as_given(rt.alloc()),
+        Some(([0, 2, 11], true, true))
+    );
 }
 
-#[test]
-fn words_are_taken_as_the_runtime_gives_them(rt: HostRuntime) -> Result<(), Fail> {
-    let alloc = rt.alloc();
-    let mut files = shelf(alloc, FORCES, Vec::new(alloc))?;
-    let mut out = MemorySink::new(Vec::new(alloc), 100)?;
-    let mut err = MemorySink::new(Vec::new(alloc), 100)?;
-    let words = Given::Words(strings(alloc, &CHECK)?);
-    assert_eq!(rt; run_given(alloc, words, &mut files, &mut out, &mut err), 0);
-    assert_eq!(rt;
-        run_given(alloc, Given::Unreadable, &mut files, &mut out, &mut err),
-        2
-    );
-    assert_eq!(rt;
-        run_given(alloc, Given::Memory, &mut files, &mut out, &mut err),
-        11
-    );
-    assert_eq!(rt; out.written(), b"accepted\n".as_slice());
-    assert_eq!(rt; err.written(), b"words\nmemory\n".as_slice());
-    Ok(())
+/// What fails of the two streams: the puts of each after so many bytes, and the room of the first.
+#[derive(Clone, Copy)]
+struct Faults {
+    out: &'static [(u64, usize)],
+    room: usize,
+    err: &'static [(u64, usize)],
 }
 
+/// The status, whether the output begins and ends so and is no longer than its front, whether the error line is this,
+/// and how often each stream was called.
+type Delivered = (u8, [bool; 4], [u64; 2]);
+
+/// What the program delivers over these files where its streams fail.
+fn delivered(
+    alloc: Global,
+    files: Files,
+    words: &[&str],
+    faults: Faults,
+    said: (&str, &str, &str),
+) -> Option<Delivered> {
+    let mut files = shelf(alloc, files, &[])?;
+    let mut out = sink(alloc, faults.out, faults.room)?;
+    let mut err = sink(alloc, faults.err, 100)?;
+    let words = strings(alloc, words)?;
+    let status = run(alloc, words.as_slice(), &mut files, &mut out, &mut err);
+    let written = out.written();
+    let told = [
+        written.starts_with(said.0.as_bytes()),
+        written.ends_with(said.1.as_bytes()),
+        written.len() == said.0.len(),
+        err.written() == said.2.as_bytes(),
+    ];
+    Some((status, told, [out.calls(), err.calls()]))
+}
+
+/// Whether a first and a second read that fails are refused so, and how many reads were asked for.
+fn reads_fail(alloc: Global) -> [Option<(usize, usize)>; 2] {
+    let model = [refuses(CHECK, 3, "file model\n")];
+    let certificate = [refuses(CHECK, 3, "file certificate\n")];
+    [
+        holding(alloc, CARRIED, &[1], model.as_slice()),
+        holding(alloc, CARRIED, &[2], certificate.as_slice()),
+    ]
+}
+
+/// A certificate that is kept whole stands, though its put fails.
 #[test]
-fn devices_that_fail_are_told_apart(rt: HostRuntime) -> Result<(), Fail> {
+fn devices_that_fail_are_told_apart(rt: HostRuntime) {
     let alloc = rt.alloc();
-    let mut first = shelf(alloc, FORCES, vec![in alloc; 1]?)?;
-    compare(&rt, alloc, &mut first, &CHECK, (3, "", "file model\n"))?;
-    let mut second = shelf(alloc, FORCES, vec![in alloc; 2]?)?;
-    compare(
-        &rt,
-        alloc,
-        &mut second,
-        &CHECK,
-        (3, "", "file certificate\n"),
-    )?;
-    let words = strings(alloc, &CHECK)?;
-    let mut files = shelf(alloc, FORCES, Vec::new(alloc))?;
-    let mut out = MemorySink::new(vec![in alloc; (1, 3)]?, 100)?;
-    let mut err = MemorySink::new(Vec::new(alloc), 100)?;
-    assert_eq!(rt;
-        run(alloc, words.as_slice(), &mut files, &mut out, &mut err),
-        10
-    );
-    assert_eq!(rt; out.written(), b"acc".as_slice());
-    assert_eq!(rt; err.written(), b"output\n".as_slice());
-    let mut none = MemoryShelf::new(Vec::new(alloc), Vec::new(alloc));
-    let mut silent = MemorySink::new(vec![in alloc; (1, 0)]?, 100)?;
-    let mut idle = MemorySink::new(Vec::new(alloc), 100)?;
-    assert_eq!(rt;
-        run(alloc, words.as_slice(), &mut none, &mut idle, &mut silent),
-        3
-    );
-    assert_eq!(rt; idle.written().len() + silent.written().len(), 0);
-    assert_eq!(rt; idle.calls(), 0);
-    assert_eq!(rt; silent.calls(), 1);
-    let words = strings(alloc, &CONTACTS)?;
-    let mut narrow = MemorySink::new(Vec::new(alloc), 10)?;
-    assert_eq!(rt;
-        run(alloc, words.as_slice(), &mut files, &mut narrow, &mut err),
-        10
-    );
-    assert_eq!(rt; narrow.written().len(), 0);
-    Ok(())
+    assert_eq!(rt; reads_fail(alloc), [Some((1, 1)), Some((1, 2))]);
+    let kept = Faults {
+        out: &[(1, 1000)],
+        room: 1000,
+        err: &[],
+    };
+    let cut = Faults {
+        out: &[(1, 3)],
+        room: 100,
+        err: &[],
+    };
+    let narrow = Faults {
+        out: &[],
+        room: 10,
+        err: &[],
+    };
+    let silent = Faults {
+        out: &[],
+        room: 100,
+        err: &[(1, 0)],
+    };
+    let stand = ["stand", "model"];
+    let found = [
+        delivered(
+            alloc,
+            CARRIED,
+            stand.as_slice(),
+            kept,
+            ("stands\n", "end\n", "output\n"),
+        ),
+        delivered(alloc, CARRIED, CHECK, cut, ("acc", "acc", "output\n")),
+        delivered(alloc, CARRIED, CONTACTS, narrow, ("", "", "output\n")),
+        delivered(alloc, &[], CHECK, silent, ("", "", "")),
+    ];
+    let wanted = [
+        Some((10, [true, true, false, true], [1, 1])),
+        Some((10, [true; 4], [1, 1])),
+        Some((10, [true; 4], [1, 1])),
+        Some((3, [true; 4], [0, 1])),
+    ];
+    assert_eq!(rt; found, wanted);
 }

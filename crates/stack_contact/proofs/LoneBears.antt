@@ -13,7 +13,7 @@ use Rattle.stack_polygon.specs.Plane.{Triple, IsAt}
 use Rattle.stack_polygon.specs.Corners.{corner_of, end_of}
 use Rattle.stack_frame.specs.declared.frame.Frame.{Frame}
 use Rattle.stack_overlap.specs.Separation.{IsCommon}
-use Rattle.stack_overlap.specs.Forms.{LinearForm, IsBetween, at_corner, line, along, square}
+use Rattle.stack_overlap.specs.Forms.{IsBetween, at_corner, line, along, square}
 use Rattle.stack_overlap.specs.declared.types.Which.{Which}
 use Rattle.stack_overlap.specs.declared.types.Which.TheVariants.{First, Second}
 use Rattle.stack_overlap.specs.CommonPoints.{IsCornerOf, IsStrictlyBetween, IsWithinEdge, IsOnOther}
@@ -57,9 +57,6 @@ module _ (P Q : List Point) (convex_p : IsConvex P) (three_p : 3 ≤ length P) (
     ]
 
     -- the line of the edge, not negative at the corners of Q
-    right : LinearForm
-    right = opposite (line a b)
-
     right_of : (j : ℕ) → j < length Q → pos 0 ≼ at_corner (opposite (line a b)) (corner_of Q j)
     right_of j hj = flip (at-opposite (line a b) (corner_of Q j)) (h.apart j hj)
       where

@@ -1,5 +1,5 @@
--- The survey of a structure: its contacts, or why it has none. A pair that no edge separates is refused, the
--- least one; then more than 1,024 bearings are.
+-- The survey of a structure: its contacts, or why it has none. The least pair that no edge
+-- separates is refused; if there is none, more than 1,024 bearings are.
 use Rattle.std.specs.Prelude.{◌≡◌, ℕ, ◌<◌, ◌≤◌, ◌⊎◌, List, length, Result, Ok, Err, ⊤}
 use Rattle.stack_whole.specs.Limits.{most_bearings}
 use Rattle.stack_polygon.specs.declared.point.Point.{Point}

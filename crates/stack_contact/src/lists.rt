@@ -140,8 +140,7 @@ fn found_in(alloc: Global, model: &Model, pairs: &[Pair]) -> Result<Lists, Surve
     ensures { MatchResult result (λ r. AreAllFound (model_view model.now) r.bearings.items r.touches.items)
         (λ e. Stops (model_view model.now) e) }
 {
-    // a model is sound: its bodies, materials and joints are within their limits
-    let _count = model.bodies();
+    model.sound();
     let mut lists = Lists {
         bearings: Vec::new(alloc),
         touches: Vec::new(alloc),

@@ -72,9 +72,8 @@ pub fn contacts(p: &Polygon, q: &Polygon) -> Option<Contacts>
     ensures separated { MatchOption result (¬ (AreSeparated p.now q.now)) (λ c. AreSeparated p.now q.now) }
     ensures overlap { MatchOption result (Overlaps p.now q.now) (λ c. ¬ (Overlaps p.now q.now)) }
 {
-    // both outlines are polygons
-    let _first = p.len();
-    let _second = q.len();
+    p.valid();
+    q.valid();
     match separator(p, q) {
         None => None,
         Some(e) => {

@@ -3,6 +3,7 @@
 ghost use Rattle.std.specs.Prelude.{◌≡◌, ◌<◌, ◌≤◌, false, length, slice_index, IfOk};
 ghost use Rattle.stack_model.specs.Structure.{body_of};
 ghost use Rattle.stack_model.specs.ModelView.{model_view};
+ghost use Rattle.stack_model.specs.Sound.{IsSound};
 ghost use Rattle.stack_whole.specs.Limits.{most_free};
 ghost use Rattle.stack_contact.specs.FreeBlocks.{frees_of, free_of, frees_before};
 ghost use Rattle.stack_contact.specs.Surveyed.{Surveys, IsSurvey, surveyed};
@@ -83,7 +84,17 @@ impl Survey {
         self.touches.as_slice()
     }
 
-    /// The number of free blocks: of bodies that aren't fixed. At most 128.
+    /// A survey is that of its model, which is sound: no more bearings and no more free blocks than there may be. Does
+    /// nothing.
+    pub fn within(&self)
+        ensures sound { IsSound self.now.structure }
+        ensures survey { IsSurvey self.now.structure self.now }
+        ensures free { length (frees_of self.now.structure.bodies) ≤ most_free }
+    {
+        self.model.sound();
+    }
+
+    /// The number of free blocks: of bodies that aren't fixed. At most `MOST_FREE`.
     pub fn free_count(&self) -> usize
         ensures value { result ≡ length (frees_of self.now.structure.bodies) }
         ensures few { result ≤ most_free }

@@ -1,96 +1,93 @@
 //! Texts of certificates, read and written, and refused.
 
-use stack_certificate::{
-    Certificate, Forces, Motion, TextError, read_certificate, write_certificate,
-};
-use std::alloc::{AllocError, Global};
+use stack_certificate::{Certificate, Forces, TextError, read_certificate, write_certificate};
+use std::alloc::Global;
 use std::test::*;
-
-const GREATEST: &str = "greatest\nforces 1 2\npush 0 0\npush 48 -12\nmotion\nmove 0 2 -1\nend\n";
-
-const UNBOUNDED: &str = "unbounded\nforces 1 0\npush 24 0\nforces 0 1\npush 3 0\nend\n";
 
 const WIDEST: &str =
     "stands\nforces 170141183460469231731687303715884105727 -170141183460469231731687303715884105727\nend\n";
 
-fn greatest(alloc: Global) -> Result<Certificate, AllocError> {
-    let forces = Forces {
-        scale: 1,
-        factor: 2,
-        parts: vec![in alloc; (0, 0), (48, -12)]?,
-    };
-    let motion = Motion {
-        moves: vec![in alloc; (0, 2, -1)]?,
-    };
-    Ok(Certificate::Greatest(forces, motion))
+fn are(forces: &Forces, scale: i128, factor: i128, parts: &[(i128, i128)]) -> bool {
+    forces.scale == scale && forces.factor == factor && forces.parts.as_slice() == parts
 }
 
-fn unbounded(alloc: Global) -> Result<Certificate, AllocError> {
-    let forces = Forces {
-        scale: 1,
-        factor: 0,
-        parts: vec![in alloc; (24, 0)]?,
+/// The form of a certificate that has the numbers worked by hand.
+fn form(certificate: &Certificate) -> Option<&'static str> {
+    let (is_known, form) = match certificate {
+        Certificate::Greatest(forces, motion) => {
+            let moves = [(0, 2, -1)];
+            let is_known = are(forces, 1, 2, &[(0, 0), (48, -12)])
+                && motion.moves.as_slice() == moves.as_slice();
+            (is_known, "greatest")
+        }
+        Certificate::Unbounded(forces, ray) => {
+            let is_known = are(forces, 1, 0, &[(24, 0)]) && are(ray, 0, 1, &[(3, 0)]);
+            (is_known, "unbounded")
+        }
+        Certificate::Stands(forces) => (are(forces, i128::MAX, -i128::MAX, &[]), "stands"),
+        Certificate::Collapses(motion) => {
+            let moves = [(-61, -2, 0)];
+            (motion.moves.as_slice() == moves.as_slice(), "collapses")
+        }
     };
-    let ray = Forces {
-        scale: 0,
-        factor: 1,
-        parts: vec![in alloc; (3, 0)]?,
-    };
-    Ok(Certificate::Unbounded(forces, ray))
+    if is_known { Some(form) } else { None }
 }
 
-fn widest(alloc: Global) -> Certificate {
-    Certificate::Stands(Forces {
-        scale: i128::MAX,
-        factor: -i128::MAX,
-        parts: Vec::new(alloc),
-    })
-}
-
-fn falling(alloc: Global) -> Result<Certificate, AllocError> {
-    Ok(Certificate::Collapses(Motion {
-        moves: vec![in alloc; (-61, -2, 0)]?,
-    }))
+/// The form of the certificate that a text tells, and whether it is written as that text.
+fn told(alloc: Global, text: &str) -> Option<(Option<&'static str>, bool)> {
+    let Ok(read) = read_certificate(alloc, text.as_bytes()) else {
+        return None;
+    };
+    let written = write_certificate(alloc, &read).ok()?;
+    Some((form(&read), written.as_slice() == text.as_bytes()))
 }
 
 #[test]
-fn texts_are_read_and_written(rt: HostRuntime) -> Result<(), Fail> {
+fn texts_are_read_and_written(rt: HostRuntime) {
     let alloc = rt.alloc();
-    let rows = [
-        (GREATEST, greatest(alloc)?),
-        (UNBOUNDED, unbounded(alloc)?),
-        (WIDEST, widest(alloc)),
-        ("collapses\nmotion\nmove -61 -2 0\nend\n", falling(alloc)?),
+    let found = [
+        told(
+            alloc,
+            "greatest\nforces 1 2\npush 0 0\npush 48 -12\nmotion\nmove 0 2 -1\nend\n",
+        ),
+        told(
+            alloc,
+            "unbounded\nforces 1 0\npush 24 0\nforces 0 1\npush 3 0\nend\n",
+        ),
+        told(alloc, WIDEST),
+        told(alloc, "collapses\nmotion\nmove -61 -2 0\nend\n"),
     ];
-    for (text, certificate) in rows {
-        let read = read_certificate(alloc, text.as_bytes())?;
-        assert_eq!(rt; read, certificate);
-        let written = write_certificate(alloc, &read)?;
-        assert_eq!(rt; written.as_slice(), text.as_bytes());
-    }
-    Ok(())
+    let wanted = [
+        Some((Some("greatest"), true)),
+        Some((Some("unbounded"), true)),
+        Some((Some("stands"), true)),
+        Some((Some("collapses"), true)),
+    ];
+    assert_eq!(rt; found, wanted);
 }
+
+fn refusal(alloc: Global, text: &str) -> Option<TextError> {
+    read_certificate(alloc, text.as_bytes()).err()
+}
+
+const BROKEN: [(&str, usize); 9] = [
+    ("", 1),
+    ("stands\r\nforces 1 0\r\nend\r\n", 1),
+    ("stands\nmotion\nend\n", 2),
+    (
+        "stands\nforces 1 -170141183460469231731687303715884105728\nend\n",
+        2,
+    ),
+    ("stands\nforces 1 0\npush 24 +0\nend\n", 3),
+    ("stands\nforces 1 0\npush 24 -0\nend\n", 3),
+    ("stands\nforces 1 0\nend", 3),
+    ("stands\nforces 1 0\nend\n\n", 4),
+    ("unbounded\nforces 1 0\npush 24 0\n", 4),
+];
 
 #[test]
 fn broken_texts_are_refused_with_their_faulty_line(rt: HostRuntime) {
-    let rows = [
-        ("", 1),
-        ("stands\r\nforces 1 0\r\nend\r\n", 1),
-        ("stands\nmotion\nend\n", 2),
-        (
-            "stands\nforces 1 -170141183460469231731687303715884105728\nend\n",
-            2,
-        ),
-        ("stands\nforces 1 0\npush 24 +0\nend\n", 3),
-        ("stands\nforces 1 0\npush 24 -0\nend\n", 3),
-        ("stands\nforces 1 0\nend", 3),
-        ("stands\nforces 1 0\nend\n\n", 4),
-        ("unbounded\nforces 1 0\npush 24 0\n", 4),
-    ];
-    for (text, number) in rows {
-        assert_eq!(rt;
-            read_certificate(rt.alloc(), text.as_bytes()).err(),
-            Some(TextError::Line { number })
-        );
+    for (text, number) in BROKEN {
+        assert_eq!(rt; refusal(rt.alloc(), text), Some(TextError::Line { number }));
     }
 }

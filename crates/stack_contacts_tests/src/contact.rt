@@ -1,71 +1,57 @@
 //! Contacts of pairs and surveys of models, worked by hand.
 
 use crate::drawings::{GROUND, STONE, at, bearing, model_of};
-use stack_contact::{Contacts, SurveyError, Touch, contacts, survey, survey_again};
+use stack_contact::{Contacts, Survey, SurveyError, Touch, contacts, survey, survey_again};
 use stack_frame::{Cone, frame_of};
 use stack_polygon::Polygon;
 use std::alloc::Global;
 use std::test::*;
 
-fn polygon(alloc: Global, corners: &[(i64, i64)]) -> Result<Polygon, Fail> {
+/// The polygon of four corners.
+fn polygon(alloc: Global, corners: [(i64, i64); 4]) -> Option<Polygon> {
     let mut points = Vec::new(alloc);
     for (x, y) in corners {
-        points.push(at(*x, *y))?;
+        points.push(at(x, y)).ok()?;
     }
-    Ok(Polygon::new(points)?)
+    Polygon::new(points).ok()
 }
 
-fn pair(
-    alloc: Global,
-    first: &[(i64, i64)],
-    second: &[(i64, i64)],
-) -> Result<Option<Contacts>, Fail> {
-    let p = polygon(alloc, first)?;
-    let q = polygon(alloc, second)?;
-    Ok(contacts(&p, &q))
+/// The contacts of a flat block, 10 wide and 2 high, with the block of these corners.
+fn with_base(alloc: Global, corners: [(i64, i64); 4]) -> Option<Option<Contacts>> {
+    let base = polygon(alloc, [(0, 0), (10, 0), (10, 2), (0, 2)])?;
+    let block = polygon(alloc, corners)?;
+    Some(contacts(&base, &block))
 }
 
-const BASE: [(i64, i64); 4] = [(0, 0), (10, 0), (10, 2), (0, 2)];
-
+/// A block on part of its face, a stone on its point, a corner on its corner, a block apart, and one that overlaps.
 #[test]
-fn a_block_on_part_of_a_face_bears_at_two_points(rt: HostRuntime) -> Result<(), Fail> {
-    let found = pair(rt.alloc(), &BASE, &[(4, 2), (14, 2), (14, 4), (4, 4)])?;
-    let bears = Contacts::AtTwo {
+fn two_blocks_bear_touch_or_are_free(rt: HostRuntime) {
+    let alloc = rt.alloc();
+    let found = [
+        with_base(alloc, [(4, 2), (14, 2), (14, 4), (4, 4)]),
+        with_base(alloc, [(4, 2), (5, 3), (4, 4), (3, 3)]),
+        with_base(alloc, [(10, 2), (12, 2), (12, 4), (10, 4)]),
+        with_base(alloc, [(20, 2), (22, 2), (22, 4), (20, 4)]),
+        with_base(alloc, [(4, 1), (14, 1), (14, 4), (4, 4)]),
+    ];
+    let frame = frame_of(1, 0);
+    let at_two = Contacts::AtTwo {
         from: at(4, 2),
         to: at(10, 2),
-        frame: frame_of(1, 0),
+        frame,
     };
-    assert_eq!(rt; found, Some(bears));
-    Ok(())
-}
-
-#[test]
-fn a_stone_on_its_point_bears_there(rt: HostRuntime) -> Result<(), Fail> {
-    let found = pair(rt.alloc(), &BASE, &[(4, 2), (5, 3), (4, 4), (3, 3)])?;
-    let bears = Contacts::AtOne {
+    let at_one = Contacts::AtOne {
         at: at(4, 2),
-        frame: frame_of(1, 0),
+        frame,
     };
-    assert_eq!(rt; found, Some(bears));
-    Ok(())
-}
-
-#[test]
-fn a_corner_on_a_corner_touches(rt: HostRuntime) -> Result<(), Fail> {
-    let found = pair(rt.alloc(), &BASE, &[(10, 2), (12, 2), (12, 4), (10, 4)])?;
-    assert_eq!(rt; found, Some(Contacts::Touching(at(10, 2))));
-    Ok(())
-}
-
-#[test]
-fn blocks_apart_are_free_and_blocks_that_overlap_have_no_contacts(
-    rt: HostRuntime,
-) -> Result<(), Fail> {
-    let far = pair(rt.alloc(), &BASE, &[(20, 2), (22, 2), (22, 4), (20, 4)])?;
-    assert_eq!(rt; far, Some(Contacts::Free));
-    let over = pair(rt.alloc(), &BASE, &[(4, 1), (14, 1), (14, 4), (4, 4)])?;
-    assert_eq!(rt; over, None);
-    Ok(())
+    let wanted = [
+        Some(Some(at_two)),
+        Some(Some(at_one)),
+        Some(Some(Contacts::Touching(at(10, 2)))),
+        Some(Some(Contacts::Free)),
+        Some(None),
+    ];
+    assert_eq!(rt; found, wanted);
 }
 
 /// The ground; three fixed blocks, of which the first overlaps it, the second lies beside it, and the third bears on
@@ -83,10 +69,8 @@ const SIX: &[&str] = &[
     "[[block]]\nname = 'touching'\nmaterial = 'stone'\ncorners = [[2, 4], [4, 4], [4, 6], [2, 6]]\n",
 ];
 
-#[test]
-fn a_survey_lists_bearings_touches_and_free_blocks(rt: HostRuntime) -> Result<(), Fail> {
-    let alloc = rt.alloc();
-    let six = survey(alloc, model_of(alloc, SIX)?)?;
+/// The contacts of the six blocks: the post's two feet, and the corner that is touched.
+fn has_contacts(s: &Survey) -> bool {
     let half = Cone::new(1, 2);
     let bearings = [bearing(0, 4, at(0, 0), half), bearing(0, 4, at(2, 0), half)];
     let touch = Touch {
@@ -94,16 +78,45 @@ fn a_survey_lists_bearings_touches_and_free_blocks(rt: HostRuntime) -> Result<()
         second: 5,
         at: at(2, 4),
     };
-    assert_eq!(rt; six.bearings(), bearings.as_slice());
-    assert_eq!(rt; six.touches(), [touch].as_slice());
-    assert_eq!(rt; six.model().bodies(), 6);
-    assert_eq!(rt; six.free_count(), 2);
-    assert_eq!(rt; six.free(1), 5);
-    assert_eq!(rt; six.free_number(5), 1);
-    let again = survey_again(alloc, &six, six.model().with_loads(alloc, &[], (0, 0))?)?;
-    assert_eq!(rt; again.bearings(), bearings.as_slice());
-    assert_eq!(rt; again.touches(), [touch].as_slice());
-    Ok(())
+    s.bearings() == bearings.as_slice() && s.touches() == [touch].as_slice()
+}
+
+/// The bodies, the free blocks, which body the second free block is, and its number among the free ones.
+fn free_blocks(s: &Survey) -> Option<[usize; 4]> {
+    if s.model().bodies() != 6 {
+        return None;
+    }
+    if s.free_count() != 2 {
+        return None;
+    }
+    let second = s.free(1);
+    Some([6, 2, second, s.free_number(second)])
+}
+
+/// The survey of the same blocks without loads and without a sway.
+fn has_contacts_again(alloc: Global, s: &Survey) -> Option<bool> {
+    let Ok(bare) = s.model().with_loads(alloc, &[], (0, 0)) else {
+        return None;
+    };
+    let again = survey_again(alloc, s, bare).ok()?;
+    Some(has_contacts(&again))
+}
+
+type Told = (bool, Option<[usize; 4]>, Option<bool>);
+
+fn six(alloc: Global) -> Option<Told> {
+    let s = survey(alloc, model_of(alloc, SIX)?).ok()?;
+    Some((
+        has_contacts(&s),
+        free_blocks(&s),
+        has_contacts_again(alloc, &s),
+    ))
+}
+
+#[test]
+fn a_survey_lists_bearings_touches_and_free_blocks(rt: HostRuntime) {
+    let wanted = (true, Some([6, 2, 5, 1]), Some(true));
+    assert_eq!(rt; six(rt.alloc()), Some(wanted));
 }
 
 const LEFT: &str =
@@ -125,28 +138,25 @@ const OVER_RIGHT: &str =
     "[[block]]\nname = 'over_right'\nmaterial = 'stone'\ncorners = [[11, 1], [13, 1], [13, 3], [11, 3]]\n";
 
 /// Why these blocks have no survey.
-fn refused(alloc: Global, pieces: &[&str]) -> Result<Option<SurveyError>, Fail> {
-    Ok(survey(alloc, model_of(alloc, pieces)?).err())
+fn refusal(alloc: Global, pieces: &[&str]) -> Option<SurveyError> {
+    survey(alloc, model_of(alloc, pieces)?).err()
 }
 
+/// Also where another pair lies further left.
 #[test]
-fn the_first_pair_that_overlaps_is_named(rt: HostRuntime) -> Result<(), Fail> {
-    let overlap = SurveyError::Overlap {
+fn the_first_pair_that_overlaps_is_named(rt: HostRuntime) {
+    let alloc = rt.alloc();
+    let found = [
+        refusal(alloc, &[STONE, GROUND, LEFT, OVER_LEFT, SUNK]),
+        refusal(alloc, &[STONE, RIGHT, OVER_RIGHT, LEFT, OVER_LEFT]),
+    ];
+    let sunk = SurveyError::Overlap {
         first: 0,
         second: 3,
     };
-    let found = refused(rt.alloc(), &[STONE, GROUND, LEFT, OVER_LEFT, SUNK])?;
-    assert_eq!(rt; found, Some(overlap));
-    Ok(())
-}
-
-#[test]
-fn the_first_pair_is_named_where_another_lies_further_left(rt: HostRuntime) -> Result<(), Fail> {
-    let overlap = SurveyError::Overlap {
+    let right = SurveyError::Overlap {
         first: 0,
         second: 1,
     };
-    let found = refused(rt.alloc(), &[STONE, RIGHT, OVER_RIGHT, LEFT, OVER_LEFT])?;
-    assert_eq!(rt; found, Some(overlap));
-    Ok(())
+    assert_eq!(rt; found, [Some(sunk), Some(right)]);
 }

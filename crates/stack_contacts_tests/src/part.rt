@@ -5,6 +5,7 @@ use stack_contact::{Survey, Touch, survey};
 use stack_frame::Cone;
 use stack_model::{Load, Model};
 use stack_part::{part, part_laws, survey_part};
+use stack_polygon::Point;
 use std::alloc::Global;
 use std::test::*;
 
@@ -22,35 +23,23 @@ const POSTS: &[&str] = &[
     "[[load]]\nblock = 'c'\nkind = 'dead'\nat = [3, 6]\nforce = [0, -2]\n",
 ];
 
-/// The part with the bodies that are kept.
-fn kept(alloc: Global, whole: &Model, keeps: &[bool]) -> Result<Model, Fail> {
-    if keeps.len() != whole.bodies() {
-        return Err(Fail::from("each body is kept or not"));
+/// Version, sway, materials, joints and bodies, the name of the third body, and the only load.
+type Told<'a> = (i64, (i64, i64), [usize; 3], &'a str, Load);
+
+fn told(model: &Model) -> Option<Told<'_>> {
+    if model.bodies() != 3 {
+        return None;
     }
-    Ok(part(alloc, whole, keeps)?)
+    if model.loads() != 1 {
+        return None;
+    }
+    let counts = [model.materials(), model.joints(), model.bodies()];
+    let (version, sway) = (model.version(), model.sway());
+    Some((version, sway, counts, model.name(2), model.load(0)))
 }
 
-/// The survey of the part with the bodies that are kept.
-fn surveyed(alloc: Global, whole: &Survey, keeps: &[bool]) -> Result<Survey, Fail> {
-    if keeps.len() != whole.model().bodies() {
-        return Err(Fail::from("each body is kept or not"));
-    }
-    Ok(survey_part(alloc, whole, keeps)?)
-}
-
-#[test]
-fn a_part_has_the_kept_bodies_and_the_loads_on_them(rt: HostRuntime) -> Result<(), Fail> {
-    let alloc = rt.alloc();
-    part_laws();
-    let whole = model_of(alloc, POSTS)?;
-    let some = kept(alloc, &whole, &[true, true, false, true])?;
-    assert_eq!(rt; some.version(), 2);
-    assert_eq!(rt; some.sway(), (1, 0));
-    assert_eq!(rt; some.materials(), 1);
-    assert_eq!(rt; some.joints(), 1);
-    assert_eq!(rt; some.bodies(), 3);
-    assert_eq!(rt; some.name(2), "c");
-    assert_eq!(rt; some.loads(), 1);
+/// Whether the part without `b` has the kept bodies and the loads on them.
+fn is_without_b(part: &Model) -> bool {
     let load = Load {
         body: 2,
         live: false,
@@ -58,33 +47,69 @@ fn a_part_has_the_kept_bodies_and_the_loads_on_them(rt: HostRuntime) -> Result<(
         fx: 0,
         fy: -2,
     };
-    assert_eq!(rt; some.load(0), load);
-    Ok(())
+    told(part) == Some((2, (1, 0), [1, 1, 3], "c", load))
+}
+
+/// The part with the bodies that are kept, where each body is kept or not.
+fn kept(alloc: Global, whole: &Model, keeps: &[bool]) -> Option<Model> {
+    if keeps.len() != whole.bodies() {
+        return None;
+    }
+    part(alloc, whole, keeps).ok()
+}
+
+fn part_is_without_b(alloc: Global) -> Option<bool> {
+    let whole = model_of(alloc, POSTS)?;
+    let kept = kept(alloc, &whole, &[true, true, false, true])?;
+    Some(is_without_b(&kept))
 }
 
 #[test]
-fn a_survey_of_a_part_has_the_contacts_between_kept_bodies(rt: HostRuntime) -> Result<(), Fail> {
-    let alloc = rt.alloc();
-    let whole = survey(alloc, model_of(alloc, POSTS)?)?;
-    let without_b = surveyed(alloc, &whole, &[true, true, false, true])?;
+fn a_part_has_the_kept_bodies_and_the_loads_on_them(rt: HostRuntime) {
+    part_laws();
+    assert_eq!(rt; part_is_without_b(rt.alloc()), Some(true));
+}
+
+/// Whether the only bearings are those of the first two bodies at these points, and these are the touches.
+fn has(s: &Survey, feet: [Point; 2], touches: &[Touch]) -> bool {
     let third = Cone::new(1, 3);
-    let feet = [
-        bearing(0, 1, at(0, 0), third),
-        bearing(0, 1, at(2, 0), third),
-    ];
+    let bearings = [bearing(0, 1, feet[0], third), bearing(0, 1, feet[1], third)];
+    s.bearings() == bearings.as_slice() && s.touches() == touches
+}
+
+/// Whether the survey of the part with the bodies that are kept has these feet and touches.
+fn kept_has(
+    alloc: Global,
+    whole: &Survey,
+    keeps: &[bool],
+    feet: [Point; 2],
+    touches: &[Touch],
+) -> Option<bool> {
+    if keeps.len() != whole.model().bodies() {
+        return None;
+    }
+    let kept = survey_part(alloc, whole, keeps).ok()?;
+    Some(has(&kept, feet, touches))
+}
+
+/// The part without `b`, and that of `a` and `b` alone.
+fn parts_have_their_contacts(alloc: Global) -> Option<[Option<bool>; 2]> {
+    let whole = survey(alloc, model_of(alloc, POSTS)?).ok()?;
     let touch = Touch {
         first: 1,
         second: 2,
         at: at(2, 4),
     };
-    assert_eq!(rt; without_b.bearings(), feet.as_slice());
-    assert_eq!(rt; without_b.touches(), [touch].as_slice());
-    let above = surveyed(alloc, &whole, &[false, true, true, false])?;
-    let top = [
-        bearing(0, 1, at(0, 4), third),
-        bearing(0, 1, at(2, 4), third),
-    ];
-    assert_eq!(rt; above.bearings(), top.as_slice());
-    assert_eq!(rt; above.touches().len(), 0);
-    Ok(())
+    let feet = [at(0, 0), at(2, 0)];
+    let top = [at(0, 4), at(2, 4)];
+    Some([
+        kept_has(alloc, &whole, &[true, true, false, true], feet, &[touch]),
+        kept_has(alloc, &whole, &[false, true, true, false], top, &[]),
+    ])
+}
+
+#[test]
+fn a_survey_of_a_part_has_the_contacts_between_kept_bodies(rt: HostRuntime) {
+    let found = parts_have_their_contacts(rt.alloc());
+    assert_eq!(rt; found, Some([Some(true), Some(true)]));
 }

@@ -8,13 +8,15 @@ use Rattle.std.proofs.lemmas.List.{length-append}
 use Rattle.std.proofs.lemmas.List.Elements.{All-append, All-nil, All-cons}
 use lib.IntN.{ℤ, pos, negsuc, ◌*ℤ◌, neg_ℤ}
 use Rattle.stack_algebra.proofs.Integers.{expand, sums}
-use Rattle.stack_algebra.proofs.Order.{◌≼◌, mul-bounds}
-use Rattle.stack_rational.specs.Widths.{signed-keeps}
-use Rattle.stack_polygon.specs.Corners.{origin}
-use Rattle.stack_model.specs.declared.types.Load.{Load}
-use Rattle.stack_model.specs.Structure.{NamedBody, Structure, load_of}
+use Rattle.stack_algebra.proofs.Order.{◌≼◌}
+use Rattle.stack_model.specs.Borne.{MayBear}
 use Rattle.stack_model.specs.Sound.{IsSound}
-use Rattle.stack_model.specs.Borne.{IsBorne, MayBear}
+use Rattle.stack_model.specs.Structure.{NamedBody, Structure, load_of}
+use Rattle.stack_model.specs.declared.types.Load.{Load}
+use Rattle.stack_polygon.specs.Corners.{origin}
+use Rattle.stack_algebra.proofs.Order.{mul-bounds}
+use Rattle.stack_rational.specs.Widths.{signed-keeps}
+use Rattle.stack_model.specs.Borne.{IsBorne}
 use Rattle.stack_pairs.specs.Directed.{times_load, directed_load, directed_from, IsSlightLive, ArePair, AreFactors}
 use Rattle.stack_directions.specs.Directing.{IsSlightForce}
 

@@ -2,14 +2,15 @@
 use Rattle.std.proofs.Common.{◌≡◌, sym, ap, ◌∙◌, Option, None, arith, to_z, of_z, to_z-of_z}
 use lib.IntN.{ℤ, pos, ◌*ℤ◌}
 use mir.Syntax.{w128}
+use Rattle.stack_algebra.proofs.Integers.{expand, sums}
+use Rattle.stack_algebra.proofs.Over.{over}
+use Rattle.stack_algebra.specs.Fraction.{Fraction}
+use Rattle.stack_certificate.specs.Certificate.{ForcesValue}
 use Rattle.stack_whole.specs.Whole.{IsFitting}
 use Rattle.stack_rational.specs.Widths.{signed-keeps}
 use Rattle.stack_algebra.specs.IntegerOrder.{◌≺◌}
-use Rattle.stack_algebra.specs.Fraction.{Fraction}
-use Rattle.stack_algebra.proofs.Integers.{expand, sums}
 use Rattle.stack_algebra.proofs.Fractions.{of, of-is, mul, mul-is, same_values}
-use Rattle.stack_algebra.proofs.Over.{over, over-is}
-use Rattle.stack_certificate.specs.Certificate.{ForcesValue}
+use Rattle.stack_algebra.proofs.Over.{over-is}
 use Rattle.stack_directions.specs.Coordinates.{fitting_terms, both_coordinates, coordinate_of, point_made}
 
 times_over : (m n d : ℤ) → pos 0 ≺ d → mul (of m) (over n d) ≡ over (m *ℤ n) d

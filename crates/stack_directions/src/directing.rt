@@ -77,8 +77,7 @@ pub fn survey_towards(alloc: Global, s: &Survey, t: Towards) -> Result<Survey, A
     ensures { IfOk result (λ r. r ≡ directed_survey s.now t.i t.j t.m t.n) }
 {
     let own = s.model();
-    // a model is sound: its loads are within their limits
-    let _sound = own.bodies();
+    own.sound();
     let loads = directed_loads(alloc, own, t)?;
     let model = own.with_loads(alloc, loads.as_slice(), (0, 0))?;
     survey_again(alloc, s, model)

@@ -1,4 +1,4 @@
--- What steps in one order give where all pass, and where one ends them.
+-- What two steps give where both pass.
 use Rattle.std.proofs.Common.{◌≡◌, refl, Result, Ok, Err}
 use Rattle.stack_algebra.specs.Steps.{◌>>=◌}
 
@@ -11,9 +11,3 @@ pub record FirstGives {A B E : Type 0} (r : Result A E) (f : A → Result B E) (
 pub bind_ok : {A B E : Type 0} (r : Result A E) (f : A → Result B E) (y : B) → (r >>= f) ≡ Ok y → FirstGives r f y
 bind_ok (Ok x) f y h = record { value = x; before = refl; after = h }
 bind_ok (Err e) f y h = absurd (cc)
-
--- a first step gives a value, and what follows it ends with e
-pub record Follows {A B E : Type 0} (r : Result A E) (f : A → Result B E) (e : E) : Type 0 where
-  pub value : A
-  pub before : r ≡ Ok value
-  pub after : f value ≡ Err e

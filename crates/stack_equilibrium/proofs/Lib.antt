@@ -11,3 +11,4 @@ pub mod SceneRates
 pub mod SurveyBearings
 pub mod BearingSizes
 pub mod SwaySizes
+pub mod Common

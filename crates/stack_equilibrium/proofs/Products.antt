@@ -1,7 +1,7 @@
 -- Products that 128 bits hold.
 use Rattle.std.proofs.Common.{◌≡◌, ◌∙◌, ap, sym, subst, ℕ, ◌<◌, ◌^◌, ℤ, pos, negsuc, ◌+ℤ◌, ◌-ℤ◌, ◌*ℤ◌, neg_ℤ}
 use Rattle.std.proofs.Common.{SFits, to_z, of_z, lit<, arith}
-use mir.Syntax.{w64, w128}
+use mir.Syntax.{w128}
 use Rattle.std.proofs.lemmas.Int.{ints, to_z-of_z, fits_signed_mul}
 use Rattle.stack_algebra.proofs.Integers.{sums, expand}
 use Rattle.stack_algebra.proofs.Order.{◌≼◌, mul-bounds}
@@ -139,10 +139,7 @@ pub share_is_within : (a b : ℤ) → SFits w128 a → SFits w128 b → IsRate a
 share_is_within a b f g h k = subst IsShare (sym (stored_product a b f g (share_fits a b h k)))
     (share_within a b h k)
 
--- numbers of these sizes are stored as they are
-pub step_stored : (z : ℤ) → IsStep z → to_z w64 (of_z w64 z) ≡ z
-step_stored z h = omega (arith, ints)
-
+-- a moment is stored as it is
 pub moment_stored : (z : ℤ) → IsMoment z → wide z ≡ z
 moment_stored z h = omega (arith, ints)
 

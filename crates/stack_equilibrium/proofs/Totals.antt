@@ -1,6 +1,7 @@
 -- Sums of wrenches, one after the other.
 use Rattle.std.proofs.Common.{◌≡◌, ap, ◌∙◌, ℕ, suc, ◌+◌, ◌≤◌, arith}
 use Rattle.std.proofs.lemmas.Int.{ints}
+use Rattle.stack_model.specs.Limits.{most_loads}
 use Rattle.stack_statics.specs.declared.wrench.Wrench.{Wrench}
 use Rattle.stack_statics.specs.Loads.{wrench_sum, total_of}
 use Rattle.stack_equilibrium.specs.LoadSizes.{AreLoads}
@@ -12,9 +13,9 @@ one_more n f total one w h k e = e ∙ (λ i. wrench_sum (h i) (k i)) ∙ ap (λ
     next : suc n ≡ n + 1
     next = omega arith
 
--- within the limits a model has at most 256 loads
-pub within_256 : (n : ℕ) (w : Wrench) → n ≤ 256 → AreLoads n w → AreLoads 256 w
-within_256 n w l h = record {
+-- no model has more loads than it may have
+pub within_most : (n : ℕ) (w : Wrench) → n ≤ most_loads → AreLoads n w → AreLoads most_loads w
+within_most n w l h = record {
   fx = record { low = omega (arith, ints, h.fx.low); high = omega (arith, ints, h.fx.high) };
   fy = record { low = omega (arith, ints, h.fy.low); high = omega (arith, ints, h.fy.high) };
   m = record { low = omega (arith, ints, h.m.low); high = omega (arith, ints, h.m.high) };

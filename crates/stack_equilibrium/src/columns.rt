@@ -159,9 +159,7 @@ fn bounded_bearing(s: &Survey, k: usize) -> Bearing
     ensures value { result ≡ bearing_of s.now k }
     ensures at { IsInRange result.at }
 {
-    // all bearings are those of a model, which is sound
-    let _all = s.bearings();
-    let _bodies = s.model().bodies();
+    s.within();
     bearing_at(s, k)
 }
 
@@ -177,8 +175,7 @@ pub fn column(s: &Survey, k: usize, plus: bool, b: usize) -> Wrench
     let bearing = bounded_bearing(s, k);
     let body = s.free(b);
     let outline = s.model().polygon(body);
-    // an outline is a polygon, with a first corner
-    let _corners = outline.len();
+    outline.valid();
     exerted(
         body,
         &bearing,

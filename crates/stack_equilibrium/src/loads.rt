@@ -2,6 +2,7 @@
 
 ghost use Rattle.std.specs.Prelude.{◌≡◌, ◌<◌, ◌+◌, ◌&&◌, length, nat_eq};
 ghost use Rattle.stack_polygon.specs.Limits.{IsInRange};
+ghost use Rattle.stack_model.specs.Limits.{most_loads};
 ghost use Rattle.stack_model.specs.ModelView.{model_view};
 ghost use Rattle.stack_contact.specs.FreeBlocks.{frees_of};
 ghost use Rattle.stack_equilibrium.specs.declared.types.Question.TheVariants as questions;
@@ -107,11 +108,10 @@ fn plus(total: Wrench, one: Wrench, count: usize) -> Wrench
 fn listed_on(question: Question, model: &Model, i: usize) -> Wrench
     requires { i < length (model_view model.now).bodies }
     ensures value { result ≡ listed_on question (model_view model.now) i }
-    ensures size { AreLoads 256 result }
+    ensures size { AreLoads most_loads result }
 {
     let outline = model.polygon(i);
-    // an outline is a polygon, with a first corner
-    let _corners = outline.len();
+    outline.valid();
     let corner = outline.corner(0);
     let mut total = Wrench { fx: 0, fy: 0, m: 0 };
     for n in 0..model.loads() {
@@ -124,7 +124,7 @@ fn listed_on(question: Question, model: &Model, i: usize) -> Wrench
 /// A weight and the dead loads beside it.
 fn with_weight(weight: Wrench, listed: Wrench) -> Wrench
     requires weight { IsWeight weight }
-    requires listed { AreLoads 256 listed }
+    requires listed { AreLoads most_loads listed }
     ensures value { result ≡ wrench_sum weight listed }
     ensures size { IsSmall result }
 {
@@ -150,7 +150,7 @@ fn dead_on(model: &Model, i: usize) -> Wrench
 /// A sway's load and the live loads beside it.
 fn with_sway(sway: Wrench, listed: Wrench) -> Wrench
     requires sway { IsSwayLoad sway }
-    requires listed { AreLoads 256 listed }
+    requires listed { AreLoads most_loads listed }
     ensures value { result ≡ wrench_sum sway listed }
     ensures size { IsSmall result }
 {

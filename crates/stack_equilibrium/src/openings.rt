@@ -44,8 +44,7 @@ fn velocity_at(
         return Ok(rest());
     }
     let outline = s.model().polygon(i);
-    // an outline is a polygon, with a first corner
-    let _corners = outline.len();
+    outline.valid();
     let lever = lever_of(outline.corner(0), *z);
     velocity_of(lever, block_move(moves, s.free_number(i)))
 }

@@ -21,8 +21,7 @@ fn block_at(s: &Survey, b: usize) -> Block
 {
     let body = s.free(b);
     let outline = s.model().polygon(body);
-    // an outline is a polygon, with a first corner
-    let _corners = outline.len();
+    outline.valid();
     Block {
         body,
         corner: outline.corner(0),

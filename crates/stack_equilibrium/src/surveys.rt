@@ -12,9 +12,7 @@ use stack_contact::Survey;
 pub fn proper(s: &Survey)
     ensures { IsProper (scene_of s.now) }
 {
-    // all bearings are those of a model, which is sound
-    let _all = s.bearings();
-    let _bodies = s.model().bodies();
+    s.within();
 }
 
 /// Where no number of the written order is too wide, the sums, the openings and the powers are those of the scene.

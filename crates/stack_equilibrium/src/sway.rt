@@ -84,8 +84,7 @@ pub fn sway_on(x: i64, y: i64, unit: i64, outline: &Polygon) -> Wrench
     ensures value { result ≡ sway_load (x, y) unit outline.now }
     ensures size { IsSwayLoad result }
 {
-    // an outline is a polygon
-    let _len = outline.len();
+    outline.valid();
     let twice_area = Whole::of(outline.twice_area());
     let moments = outline.six_moments();
     let corner = outline.corner(0);

@@ -98,8 +98,7 @@ pub fn weight_on(unit: i64, outline: &Polygon) -> Wrench
     ensures value { result ≡ weight_of unit outline.now }
     ensures size { IsWeight result }
 {
-    // an outline is a polygon
-    let _len = outline.len();
+    outline.valid();
     let twice_area = Whole::of(outline.twice_area());
     let about_y = Whole::of(outline.six_moments().0);
     made_weight(

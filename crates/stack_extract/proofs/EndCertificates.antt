@@ -2,15 +2,11 @@
 -- negative.
 use Rattle.std.proofs.Common.{subst, ◌≤◌, Option, Some, None, List, arith, ℤ, pos}
 use Rattle.stack_rational.proofs.Common.{ints, Fraction}
-use Rattle.stack_contact.specs.Surveyed.{Surveyed}
-use Rattle.stack_certificate.specs.Certificate.{CertificateValue, stands, collapses}
+use Rattle.stack_equilibrium.proofs.Common.{Carries, CertificateValue, IsProper, IsTrueCertificate, Scene, Surveyed}
+use Rattle.stack_equilibrium.proofs.Common.{collapse_excludes_balance, collapses, scene_of, stands, stands_is_carried}
 use Rattle.stack_equilibrium.specs.declared.types.Question.{Question}
 use Rattle.stack_equilibrium.specs.declared.types.Question.TheVariants.{Dead, Live}
-use Rattle.stack_statics.specs.Scene.{Scene, IsProper}
-use Rattle.stack_statics.specs.Balance.{Carries}
-use Rattle.stack_equilibrium.specs.SurveyScene.{scene_of}
-use Rattle.stack_equilibrium.specs.Truth.{IsTrueCertificate, IsOfQuestion}
-use Rattle.stack_statics.proofs.CertificateLaws.{stands_is_carried, collapse_excludes_balance}
+use Rattle.stack_equilibrium.specs.Truth.{IsOfQuestion}
 use Rattle.stack_table.specs.Table.{Tabled}
 use Rattle.stack_run.specs.WrittenRun.{End, infeasible, feasible, optimal, ray, wide, over, never}
 use Rattle.stack_posing.specs.Posed.{posed, posed_shape}

@@ -1,13 +1,11 @@
 -- The end of a run with its table, as an end and a last table.
 use Rattle.std.proofs.Common.{◌≡◌, refl, sym, ap, subst, ◌∙◌, ℕ, ◌<◌, true, arith, Result, IfOk, IfErr, ltb, lt-ltb}
 use Rattle.stack_rational.proofs.Common.{Fraction, ordered_fractions}
+use Rattle.stack_equilibrium.proofs.Common.{Surveyed, forces_view, motion_view, scene_of}
+use Rattle.stack_equilibrium.specs.declared.types.Question.{Question}
 use Rattle.stack_rational.specs.declared.exact.Exact.{Ghosts}
-use Rattle.stack_contact.specs.Surveyed.{Surveyed}
 use Rattle.stack_certificate.specs.declared.types.Forces.{Forces as Pushes}
 use Rattle.stack_certificate.specs.declared.types.Motion.{Motion as Moves}
-use Rattle.stack_certificate.specs.Certificate.{forces_view, motion_view}
-use Rattle.stack_equilibrium.specs.declared.types.Question.{Question}
-use Rattle.stack_equilibrium.specs.SurveyScene.{scene_of}
 use Rattle.stack_table.specs.declared.table.Table.{Table}
 use Rattle.stack_table.specs.Table.{plain, width}
 use Rattle.stack_table.specs.Seen.{shape_of_table, table_of, flips_of}

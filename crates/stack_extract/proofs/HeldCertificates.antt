@@ -2,15 +2,12 @@
 use Rattle.std.proofs.Common.{◌≡◌, sym, ap, subst, ◌∙◌, ℕ, ◌*◌, List, length, arith, ℤ, pos, ◌+ℤ◌, ◌*ℤ◌, neg_ℤ}
 use Rattle.stack_rational.proofs.Common.{◌≺◌, expand, sums}
 use Rattle.stack_algebra.proofs.Listed.{map_listed}
-use Rattle.stack_contact.specs.Surveyed.{Surveyed}
+use Rattle.stack_equilibrium.proofs.Common.{Carries, IsProper, IsTrueCollapse, Move, Scene, SceneForces, Surveyed}
+use Rattle.stack_equilibrium.proofs.Common.{forces_of, move_of_triple, moves_of, part_of_pair, scene_of}
+use Rattle.stack_equilibrium.proofs.Common.{stands_is_carried}
 use Rattle.stack_equilibrium.specs.declared.types.Question.{Question}
 use Rattle.stack_equilibrium.specs.declared.types.Question.TheVariants.{Dead, Live}
-use Rattle.stack_statics.specs.Scene.{Move, Scene, IsProper}
-use Rattle.stack_statics.specs.Balance.{Carries}
-use Rattle.stack_statics.specs.Certificates.{SceneForces, IsTrueStands, IsTrueCollapse, IsTrueGreatest, IsTrueUnbounded}
-use Rattle.stack_equilibrium.specs.Held.{part_of_pair, forces_of, move_of_triple, moves_of}
-use Rattle.stack_equilibrium.specs.SurveyScene.{scene_of}
-use Rattle.stack_statics.proofs.CertificateLaws.{stands_is_carried}
+use Rattle.stack_statics.specs.Certificates.{IsTrueStands, IsTrueGreatest, IsTrueUnbounded}
 use Rattle.stack_posing.specs.FreeBodies.{free_bodies}
 use Rattle.stack_posing.specs.Equations.{IsSolution, forces_from}
 use Rattle.stack_posing.specs.MovesByNumber.{moves_from, power_by}

@@ -3,15 +3,11 @@ use Rattle.std.proofs.Common.{◌≡◌, refl, sym, ap, subst, ◌∙◌, ℕ, s
 use Rattle.std.proofs.Common.{[], map, length, None, Result, Ok, Err, arith, IfOk, ℤ}
 use Rattle.stack_rational.proofs.Common.{Fraction, first, only_if, listed, scale_of, first-none, length_listed}
 use Rattle.stack_rational.proofs.Common.{times_scale}
-use Rattle.stack_algebra.proofs.Search.{or_none}
-use Rattle.stack_whole.specs.Limits.{most_bearings}
-use Rattle.stack_whole.specs.Whole.{fits}
-use Rattle.stack_contact.specs.FreeBlocks.{frees_of}
-use Rattle.stack_contact.specs.Surveyed.{Surveyed}
-use Rattle.stack_certificate.specs.declared.types.Motion.{Motion as Moves}
-use Rattle.stack_certificate.specs.Certificate.{MotionValue, motion_view}
+use Rattle.stack_equilibrium.proofs.Common.{MotionValue, Surveyed, fits, frees_of, most_bearings, motion_view, or_none}
+use Rattle.stack_equilibrium.proofs.Common.{scene_of}
 use Rattle.stack_equilibrium.specs.declared.types.Question.{Question}
-use Rattle.stack_equilibrium.specs.SurveyScene.{scene_of}
+use Rattle.stack_whole.specs.Limits.{most_contact_columns}
+use Rattle.stack_certificate.specs.declared.types.Motion.{Motion as Moves}
 use Rattle.stack_equilibrium.proofs.FreeNumbers.{all_before}
 use Rattle.stack_table.specs.Table.{Shape, Tabled}
 use Rattle.stack_table.specs.Problem.{flipped, turned}
@@ -38,9 +34,9 @@ length_map : {X Y : Type 0} (g : X → Y) (xs : List X) → length (map g xs) �
 length_map g [] = refl
 length_map g (x ∷ xs) = ap suc (length_map g xs)
 
--- the end of a survey's run has at most 2,048 contact columns
+-- the end of a survey's run has two contact columns for each bearing, and so no more than there may be
 pub few_contacts : {q : Question} {v : Surveyed} {S : Shape} {flips : ℕ → Bool} {x : End Fraction}
-    → IsLastOf q v S flips x → length v.bearings ≤ most_bearings → S.contacts ≤ 2048
+    → IsLastOf q v S flips x → length v.bearings ≤ most_bearings → S.contacts ≤ most_contact_columns
 few_contacts {v = v} {S = S} h f =
     let m : S.contacts ≡ 2 * length v.bearings = ap (λ (S : Shape). S.contacts) h.shape in omega (arith, m, f)
 

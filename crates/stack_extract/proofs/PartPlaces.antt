@@ -2,14 +2,9 @@
 use Rattle.std.proofs.Common.{◌≡◌, refl, sym, ap, ◌∙◌, ℕ, ◌+◌, ◌*◌, ◌<◌, Bool, true, false, not, ◌&&◌, List, ◌∷◌, ◌++◌}
 use Rattle.std.proofs.Common.{[], length, get_or, Some, None, Result, Ok, Err, if◌then◌else◌, ℤ, ◌+ℤ◌, ◌-ℤ◌, ◌*ℤ◌}
 use Rattle.stack_rational.proofs.Common.{first, only_if, first_found, first_more, listed}
-use Rattle.stack_algebra.specs.Steps.{◌>>=◌}
-use Rattle.stack_frame.specs.declared.cone.Cone.{Cone}
-use Rattle.stack_whole.specs.declared.whole.Wide.{Wide}
-use Rattle.stack_whole.specs.declared.whole.Whole.{Whole as Number}
-use Rattle.stack_whole.specs.Whole.{fits, made, whole}
-use Rattle.stack_contact.specs.declared.types.Bearing.{Bearing}
+use Rattle.stack_equilibrium.proofs.Common.{Bearing, Cone, Wide, fits, made, no_bearing, whole, ◌>>=◌}
 use Rattle.stack_equilibrium.specs.declared.block.Push.{Push}
-use Rattle.stack_equilibrium.specs.SurveyScene.{no_bearing}
+use Rattle.stack_whole.specs.declared.whole.Whole.{Whole as Number}
 use Rattle.stack_equilibrium.proofs.InOrder.{bind_ok}
 use Rattle.stack_extract.specs.WholeLists.{amount}
 use Rattle.stack_extract.specs.Certified.{pair_between, pair_at}

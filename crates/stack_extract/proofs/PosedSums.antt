@@ -6,12 +6,9 @@ use Rattle.stack_rational.proofs.Common.{◌≼◌, expand, sums, integers, sum_
 use Rattle.stack_algebra.proofs.Sums.{sum_plus, sum_neg}
 use Rattle.stack_algebra.proofs.Indices.{pair_first, pair_second, three_first, three_second, three_third, sum_pairs}
 use Rattle.stack_algebra.proofs.Indices.{sum_threes}
-use Rattle.stack_statics.specs.declared.wrench.Wrench.{Wrench}
+use Rattle.stack_equilibrium.proofs.Common.{Move, Scene, Wrench, move_of_triple, power_of}
 use Rattle.stack_equilibrium.specs.declared.types.Question.{Question}
 use Rattle.stack_equilibrium.specs.declared.types.Question.TheVariants.{Dead, Live}
-use Rattle.stack_statics.specs.Scene.{Move, Scene}
-use Rattle.stack_statics.specs.Motions.{power_of}
-use Rattle.stack_equilibrium.specs.Held.{move_of_triple}
 use Rattle.stack_posing.specs.FreeBodies.{free_at, free_bodies}
 use Rattle.stack_posing.specs.Edges.{Amounts, edge_on, edges_sum}
 use Rattle.stack_posing.specs.Equations.{IsSolution}

@@ -109,8 +109,7 @@ pub fn forces_at<L: LastTable>(
         IfErr result (λ x. TellsPlace x (forces_place q s.now (L.table t.now))) }
 {
     certified_laws();
-    // at most 1,024 bearings
-    let _bearings = s.bearings();
+    s.within();
     let list = forces_numbers(alloc, t)?;
     from_list(alloc, Numbers::Forces, s, &list)
 }
@@ -131,8 +130,7 @@ pub fn ray_at<L: LastTable>(
         IfErr result (λ x. TellsPlace x (ray_place q s.now (L.table t.now) column)) }
 {
     certified_laws();
-    // at most 1,024 bearings
-    let _bearings = s.bearings();
+    s.within();
     let list = ray_numbers(alloc, t, column)?;
     let forces = from_list(alloc, Numbers::Ray, s, &list)?;
     Ok(Forces {

@@ -2,6 +2,7 @@
 
 ghost use Rattle.std.specs.Prelude.{◌≡◌, ◌≤◌, ◌<◌, IfOk, IfErr, IfSome, OnOk, None, ◌++◌, ◌∷◌, [], true};
 ghost use Rattle.stack_algebra.proofs.OrderedFractions.{ordered_fractions};
+ghost use Rattle.stack_whole.specs.Limits.{most_contact_columns};
 ghost use Rattle.stack_run.specs.EndNumbers.{basic_row, column_value, rate};
 ghost use Rattle.stack_extract.specs.WrittenLists.{
   forces_number,
@@ -23,8 +24,8 @@ use std::alloc::{AllocError, Global};
 fn basic_row<L: LastTable>(t: &L, column: usize) -> Option<usize>
     ensures { result ≡ basic_row ordered_fractions (L.shape t.now) (L.table t.now) column }
 {
-    for row in 0..t.row_count() {
-        if t.basic_of(row) == column {
+    for row in 0..t.rows() {
+        if t.basic(row) == column {
             return Some(row);
         }
     }
@@ -36,7 +37,7 @@ fn value<L: LastTable>(t: &L, column: usize) -> Frac<i128>
     ensures { result ≡ column_value ordered_fractions (L.shape t.now) (L.table t.now) column }
 {
     match basic_row(t, column) {
-        Some(row) => t.right_of(row),
+        Some(row) => t.right(row),
         None => Frac::zero(),
     }
 }
@@ -59,7 +60,7 @@ fn rate<L: LastTable>(t: &L, entering: usize, column: usize) -> Frac<i128>
 fn forces_number<L: LastTable>(t: &L, column: usize) -> Frac<i128>
     ensures { result ≡ forces_number (L.shape t.now) (L.table t.now) column }
 {
-    if column < t.plain_count() {
+    if column < t.plain() {
         value(t, column)
     } else {
         Frac::zero()
@@ -71,7 +72,7 @@ fn ray_number<L: LastTable>(t: &L, entering: usize, column: usize) -> Frac<i128>
     requires { L.reads t.now entering ≡ true }
     ensures { result ≡ ray_number (L.shape t.now) (L.table t.now) entering column }
 {
-    if column < t.plain_count() {
+    if column < t.plain() {
         rate(t, entering, column)
     } else {
         Frac::zero()
@@ -83,7 +84,7 @@ fn bound_number<L: LastTable>(t: &L, row: usize) -> Frac<i128>
     requires { row < (L.shape t.now).rows }
     ensures { result ≡ bound_number (L.shape t.now) (L.table t.now) row }
 {
-    t.multiplier_of(row)
+    t.multiplier(row)
 }
 
 /// The values of the contact columns, and then of the factor.
@@ -91,11 +92,11 @@ pub(crate) fn forces_numbers<L: LastTable>(
     alloc: Global,
     t: &L,
 ) -> Result<Vec<Frac<i128>>, AllocError>
-    requires { (L.shape t.now).contacts ≤ 2048 }
+    requires { (L.shape t.now).contacts ≤ most_contact_columns }
     ensures { IfOk result (λ r. r.items ≡ forces_list (L.shape t.now) (L.table t.now)) }
 {
     let mut numbers = Vec::new(alloc);
-    for column in 0..t.contact_count() + 1 {
+    for column in 0..t.contacts() + 1 {
         numbers.push(forces_number(t, column))?;
     }
     Ok(numbers)
@@ -107,12 +108,12 @@ pub(crate) fn ray_numbers<L: LastTable>(
     t: &L,
     entering: usize,
 ) -> Result<Vec<Frac<i128>>, AllocError>
-    requires few { (L.shape t.now).contacts ≤ 2048 }
+    requires few { (L.shape t.now).contacts ≤ most_contact_columns }
     requires column { L.reads t.now entering ≡ true }
     ensures { IfOk result (λ r. r.items ≡ ray_list (L.shape t.now) (L.table t.now) entering) }
 {
     let mut numbers = Vec::new(alloc);
-    for column in 0..t.contact_count() + 1 {
+    for column in 0..t.contacts() + 1 {
         numbers.push(ray_number(t, entering, column))?;
     }
     Ok(numbers)
@@ -126,7 +127,7 @@ pub(crate) fn bound_numbers<L: LastTable>(
     ensures { IfOk result (λ r. r.items ≡ bound_list (L.shape t.now) (L.table t.now)) }
 {
     let mut numbers = Vec::new(alloc);
-    for row in 0..t.row_count() {
+    for row in 0..t.rows() {
         numbers.push(bound_number(t, row))?;
     }
     Ok(numbers)
@@ -150,7 +151,7 @@ pub(crate) fn collapse_numbers<L: LastTable>(
     ensures wide { IfErr result (λ e. TellsPlace e (shift_place (L.shape t.now) (L.table t.now))) }
 {
     let mut numbers = Vec::new(alloc);
-    for row in 0..t.row_count() {
+    for row in 0..t.rows() {
         match bound_number(t, row).difference(Frac::one()) {
             Ok(number) => numbers = longer(numbers, number)?,
             Err(_) => return Err(too_wide(Numbers::Motion, EndStep::Shift, row)),

@@ -17,7 +17,8 @@ use Rattle.stack_model.specs.Structure.{NamedMaterial, NamedBody, body_at}
 use Rattle.stack_model.specs.Parts.{MaterialPart, BlockPart, PartLists}
 use Rattle.stack_model.specs.Limits.{most_fixed, is_name, corner_list_of}
 use Rattle.stack_model.specs.Convex.{at_block, convex}
-use Rattle.stack_model.specs.Content.{unless, is_new, number_of, has_room, material_names, body_names}
+use Rattle.stack_whole.specs.Demands.{unless}
+use Rattle.stack_model.specs.Content.{is_new, number_of, has_room, material_names, body_names}
 use Rattle.stack_model.specs.Content.{with_body, add_block}
 use Rattle.stack_model.specs.Sound.{fixed_among, free_among}
 use Rattle.stack_model.proofs.Apart.{AreApart, HasRoom, no_bodies, one_more_body}

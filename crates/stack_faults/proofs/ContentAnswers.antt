@@ -14,7 +14,8 @@ use Rattle.stack_model.specs.Structure.{NamedMaterial, NamedBody, structure_with
 use Rattle.stack_model.specs.Parts.{PartLists}
 use Rattle.stack_model.specs.Limits.{most_materials, most_joints, most_bodies, most_loads, is_version, sway_of}
 use Rattle.stack_model.specs.Relisted.{joint_listed}
-use Rattle.stack_model.specs.Content.{unless, ranged, at_most, sway_listed, head_of, add_material, add_joint, add_block}
+use Rattle.stack_whole.specs.Demands.{unless}
+use Rattle.stack_model.specs.Content.{ranged, at_most, sway_listed, head_of, add_material, add_joint, add_block}
 use Rattle.stack_model.specs.Content.{add_load, joints_of, bodies_of, loads_of, content_of}
 use Rattle.stack_faults.specs.FaultLists.{faults_where, earliest, answered_fault}
 use Rattle.stack_faults.specs.ContentFaults.{number_faults, faults_by, causes_of_material}

@@ -3,6 +3,7 @@ use Rattle.std.proofs.Common.{arith, sym, ◌≡◌, refl, ap, ◌∙◌, ℕ, �
 use Rattle.std.proofs.Common.{map, length, take}
 use Rattle.std.proofs.lemmas.List.{take_all}
 use Rattle.std.proofs.lemmas.Simd.{map-map}
+use Rattle.stack_whole.specs.Limits.{greatest_weight}
 use Rattle.stack_algebra.specs.Steps.{steps}
 use Rattle.stack_model.specs.Structure.{NamedMaterial}
 use Rattle.stack_model.specs.Parts.{MaterialPart, PartLists}
@@ -34,7 +35,7 @@ one_told : (parts : PartLists) (i : ℕ) (ms : List NamedMaterial) → i < lengt
 unfolding add_material with_material
 one_told parts i ms l h = let m = material_written parts i in
     unless_step (is_name m.name) refl
-    (λ _. unless_step (is_between (pos 0) (pos 1000000) m.weight) refl
+    (λ _. unless_step (is_between (pos 0) greatest_weight m.weight) refl
     (λ _. ranged_step (friction_of m.friction)
     (λ f e. unless_step (is_new m.name (material_names ms)) (seen (λ (m : MaterialPart). m.name) m.name
     (take i parts.materials) (material_names ms) (names_of (take i parts.materials) ms h))

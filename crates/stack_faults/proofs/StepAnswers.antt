@@ -8,7 +8,8 @@ use Rattle.stack_model.specs.declared.places.Spot.{Spot}
 use Rattle.stack_model.specs.declared.places.Key.{Key}
 use Rattle.stack_model.specs.declared.errors.ModelError.{ModelError}
 use Rattle.stack_model.specs.declared.errors.ModelError.TheVariants.{Range}
-use Rattle.stack_model.specs.Content.{unless, ranged, found}
+use Rattle.stack_whole.specs.Demands.{unless}
+use Rattle.stack_model.specs.Content.{ranged, found}
 use Rattle.stack_faults.proofs.Firsts.{Answers, first_cause, last_told}
 
 -- the first of these causes is answered, or a value of which Q holds

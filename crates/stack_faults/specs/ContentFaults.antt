@@ -7,7 +7,7 @@ use Rattle.std.specs.Prelude.{get_or}
 use Rattle.std.specs.Prelude.{take, find, count_by, Option, Some, None, is_none}
 use Rattle.std.specs.Str.{bytes_eq}
 use Rattle.std.specs.List.{list_any}
-use Rattle.stack_whole.specs.Limits.{most_free}
+use Rattle.stack_whole.specs.Limits.{most_free, greatest_weight}
 use Rattle.stack_polygon.specs.declared.point.Point.{Point}
 use Rattle.stack_polygon.specs.Corners.{reversed}
 use Rattle.stack_polygon.specs.Outlines.{is_clear, is_convex, first_failing}
@@ -92,7 +92,7 @@ abbrev pub causes_of_material : PartLists → ℕ → List (Bool × ModelError)
 causes_of_material parts i =
     let m = material_written parts i in
     (not (is_name m.name), Range (spots.Material i) keys.Name)
-    ∷ (not (is_between (pos 0) (pos 1000000) m.weight), Range (spots.Material i) keys.Weight)
+    ∷ (not (is_between (pos 0) greatest_weight m.weight), Range (spots.Material i) keys.Weight)
     ∷ (is_none (friction_of m.friction), Range (spots.Material i) keys.Friction)
     ∷ (lists_material m.name (take i parts.materials), SameName (spots.Material i))
     ∷ []

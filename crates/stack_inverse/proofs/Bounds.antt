@@ -1,12 +1,12 @@
 -- Where bounds of the numbers of two rows fit, nothing that a row step or a division writes is too wide.
 use Rattle.std.proofs.Common.{◌≡◌, ◌≢◌, sym, ap, ◌∙◌, ℕ, ◌+◌, ◌*◌, ◌≤◌, true, false, not, arith, None, mul-le-mul, ℤ}
 use Rattle.std.proofs.Common.{pos, nat_abs, neg_ℤ, ◌+ℤ◌, ◌-ℤ◌, ◌*ℤ◌}
-use Rattle.stack_rational.proofs.Common.{ints, unsigned_abs-mul, or_else, only_if, ◌≺◌, mul_pos, add, mul, neg, over}
+use Rattle.stack_rational.proofs.Common.{ints, unsigned_abs-mul, or_else, only_if, ◌≺◌, mul_pos, mul, neg, over}
 use Rattle.stack_rational.proofs.Common.{ordered_fractions, fraction_fits, is_too_wide, sum_fits, Within}
 use Rattle.stack_rational.specs.declared.exact.Op.TheVariants.{Difference, Product}
 use Rattle.stack_table.specs.declared.types.Step.TheVariants.{Divide, Multiply, Subtract}
-use Rattle.stack_table.specs.Spots.{divided, reduced, divide_item, reduce_item}
-use Rattle.stack_rows.proofs.OverOneDenominator.{over_fits, sum_fits_over, add_over, mul_over, quotient_over}
+use Rattle.stack_table.specs.Spots.{divided, divide_item, reduce_item}
+use Rattle.stack_rows.proofs.OverOneDenominator.{over_fits, sum_fits_over, mul_over, quotient_over}
 use Rattle.stack_inverse.proofs.StepCell.{scaled_cell, taken}
 
 -- of plain numbers
@@ -80,12 +80,6 @@ module _ (m : ℤ) (x p : ℕ → ℤ) (d e f k t : ℤ) (b r : ℕ) (hd : pos 0
       (over f d) row j ≡ None
   step_none row j = λ i. or_else (only_if (product_none j i) (record { row = row; column = j; step = Multiply }))
       (only_if (difference_none j i) (record { row = row; column = j; step = Subtract }))
-
-  -- the row that is written
-  pub step_is : (j : ℕ) → over (x j *ℤ k -ℤ t *ℤ p j) (d *ℤ k)
-      ≡ reduced ordered_fractions (λ j. over (x j) d) (λ j. over (p j) e) (over f d) j
-  step_is j = sym (add_over (x j *ℤ k) (neg_ℤ (t *ℤ p j)) (d *ℤ k) hdk)
-      ∙ (λ i. add (sym (cell_is j) i) (sym (taken_is j) i))
 
   -- and its cells fit
   pub step_fits : (j : ℕ) → fraction_fits m (over (x j *ℤ k -ℤ t *ℤ p j) (d *ℤ k)) ≡ true

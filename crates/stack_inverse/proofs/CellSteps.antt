@@ -1,39 +1,14 @@
 -- A row step at one cell, and over a row.
-use Rattle.std.proofs.Common.{◌≡◌, refl, sym, ap, subst, ◌∙◌, ℕ, ◌≤◌, true, false, Option, Some, None, arith, ℤ, pos}
+use Rattle.std.proofs.Common.{◌≡◌, refl, sym, ap, subst, ◌∙◌, ℕ, ◌≤◌, Option, None, arith, ℤ, pos}
 use Rattle.std.proofs.Common.{nat_abs, ◌*ℤ◌, ◌-ℤ◌}
-use Rattle.stack_rational.proofs.Common.{Fraction, mul, expand, sums, ◌≺◌, mul_pos, over, over-is, ordered_fractions}
+use Rattle.stack_rational.proofs.Common.{Fraction, expand, sums, ◌≺◌, mul_pos, over, over-is, ordered_fractions}
 use Rattle.stack_rational.proofs.Common.{widest, ints, IsWidth, is_too_wide}
-use Rattle.stack_rational.specs.declared.exact.Op.TheVariants.{Difference, Product}
-use Rattle.stack_rational.specs.TooWide.{op_value}
 use Rattle.stack_table.specs.declared.types.Step.{Step}
-use Rattle.stack_table.specs.declared.types.Step.TheVariants.{Multiply, Subtract}
 use Rattle.stack_table.specs.Spots.{reduced, reduce_item}
-use Rattle.stack_table.proofs.RowSteps.{product_too_wide, difference_too_wide, neither_too_wide, reduced_here}
 use Rattle.stack_rows.specs.RowForm.{StepFits}
 use Rattle.stack_inverse.specs.CellSteps.{spot_at, TellsStep}
 use Rattle.stack_inverse.proofs.Bounds.{step_none}
 use Rattle.stack_inverse.proofs.StepCell.{step_cell}
-
--- the cells x and y, and the row's cell k in the pivot's column
-module _ (x y k : Fraction) where
-  -- the product is too wide
-  pub multiplies : is_too_wide widest Product k y ≡ true → (i j : ℕ) →
-      reduce_item ordered_fractions (is_too_wide widest) (λ _. x) (λ _. y) k i j ≡ spot_at i j (Some Multiply)
-  multiplies h i j = product_too_wide widest (λ _. x) (λ _. y) k i j x y y refl refl h
-
-  -- the difference is too wide, or neither
-  module _ (p : Fraction) (e : p ≡ mul k y) (h : is_too_wide widest Product k y ≡ false) where
-    pub subtracts : is_too_wide widest Difference x p ≡ true → (i j : ℕ) →
-        reduce_item ordered_fractions (is_too_wide widest) (λ _. x) (λ _. y) k i j ≡ spot_at i j (Some Subtract)
-    subtracts d i j = difference_too_wide widest (λ _. x) (λ _. y) k i j x y p refl refl h e d
-
-    pub goes : is_too_wide widest Difference x p ≡ false → (i j : ℕ) →
-        reduce_item ordered_fractions (is_too_wide widest) (λ _. x) (λ _. y) k i j ≡ None
-    goes d i j = neither_too_wide widest (λ _. x) (λ _. y) k i j x y p refl refl h e d
-
-    pub rests : (z : Fraction) → z ≡ op_value Difference x p →
-        z ≡ reduced ordered_fractions (λ _. x) (λ _. y) k 0
-    rests z d = reduced_here widest (λ _. x) (λ _. y) k 0 0 x y p refl refl z e d
 
 -- where the numbers of a cell fit, nothing that is written there is too wide
 pub fits_at : (m n d r e f k t w : ℤ) → m ≡ widest → pos 0 ≺ d → pos 0 ≺ e → pos 0 ≺ k → f *ℤ k ≡ t *ℤ e →

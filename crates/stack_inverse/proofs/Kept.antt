@@ -1,7 +1,7 @@
 -- What follows of what holds of an answer.
 use Rattle.std.proofs.Common.{◌≡◌, subst, Option, Some, None, Result, Ok, Err, OnSome, OnOk, IfErr}
 use Rattle.stack_table.specs.declared.types.PivotWide.{PivotWide}
-use Rattle.stack_inverse.specs.declared.stops.PivotRefusal.{PivotRefusal}
+use Rattle.stack_table.specs.declared.types.TurnRefusal.{TurnRefusal}
 use Rattle.stack_inverse.specs.CellSteps.{TellsSpot}
 
 -- of a value that is there
@@ -15,7 +15,7 @@ on_ok (Ok x) P Q h k = h k
 on_ok (Err e) P Q h k = tt
 
 -- a refusal says the same of the same place
-pub err_same : {A : Type 0} (r : Result A PivotRefusal) (s t : Option PivotWide) → s ≡ t →
+pub err_same : {A : Type 0} (r : Result A TurnRefusal) (s t : Option PivotWide) → s ≡ t →
     IfErr r (λ e. TellsSpot e s) → IfErr r (λ e. TellsSpot e t)
 err_same (Ok x) s t h k = tt
 err_same (Err e) s t h k = subst (TellsSpot e) h k

@@ -7,8 +7,8 @@ use Rattle.stack_rational.proofs.Common.{is_too_wide}
 use Rattle.stack_table.specs.declared.types.PivotWide.{PivotWide}
 use Rattle.stack_table.specs.Spots.{divided, reduced, divide_item, reduce_spot, row_spot, cells_spot}
 use Rattle.stack_table.proofs.RowSteps.{row_skips, reduced_same}
-use Rattle.stack_inverse.specs.declared.stops.PivotRefusal.{PivotRefusal}
-use Rattle.stack_inverse.specs.declared.stops.PivotRefusal.TheVariants.{TooWide, Unsettled}
+use Rattle.stack_table.specs.declared.types.TurnRefusal.{TurnRefusal}
+use Rattle.stack_table.specs.declared.types.TurnRefusal.TheVariants.{TooWide, Unsettled}
 use Rattle.stack_inverse.specs.CellSteps.{TellsSpot, PivotIsRefused}
 use Rattle.stack_inverse.specs.RowBlock.{IsReducedRow, IsPivotedCells}
 
@@ -86,7 +86,7 @@ module _ (m : ℤ) (is : IsWidth m) (height width : ℕ) (old : ℕ → ℕ → 
       before k b (no q) = spot_is m width old g r c g_is k q ∙ h k b q
 
   -- what a refusal of a row says of the row it says of the pivot
-  pub tells_refused : (e : PivotRefusal) → PivotIsRefused m height width old g r c e →
+  pub tells_refused : (e : TurnRefusal) → PivotIsRefused m height width old g r c e →
       TellsSpot e (cells_spot ordered_fractions (is_too_wide m) height width old r c)
   tells_refused (TooWide p) x = refused_at x.0 x.1 x.2.apart x.2.before p x.2.here
   tells_refused Unsettled x = tt

@@ -4,7 +4,7 @@ use Rattle.stack_rational.proofs.Common.{ℕ_discrete, dec_lt, Fraction, ordered
 use Rattle.stack_rational.proofs.Common.{fraction_fits, is_too_wide}
 use Rattle.stack_table.specs.Spots.{cells_spot}
 use Rattle.stack_inverse.specs.declared.columns.FirstColumn.{FirstColumn}
-use Rattle.stack_inverse.specs.declared.stops.PivotRefusal.{PivotRefusal}
+use Rattle.stack_table.specs.declared.types.TurnRefusal.{TurnRefusal}
 use Rattle.stack_inverse.specs.CellSteps.{TellsSpot, PivotIsRefused}
 use Rattle.stack_inverse.specs.RowBlock.{IsDividedRow, IsReducedRow, IsPivotedCells, AreMarked}
 use Rattle.stack_inverse.specs.Columns.{RowSeen, no_row, IsPut, revised_own, cell_with, revised_cell, row_cell}
@@ -24,7 +24,7 @@ module _ {V : Type 0} (value : V → ℤ) (m : ℕ) (columns : List (FirstColumn
   outside_fits k l j = cell_outside_fits value m columns own s max is k j (omega (arith, l)) (past k (omega (arith, l)))
 
   -- what is refused of a row is refused of the pivot
-  pub refused : (e : PivotRefusal) →
+  pub refused : (e : TurnRefusal) →
       PivotIsRefused max (suc m) (suc (length columns + m)) (revised_cell value m columns own s)
       (row_cell value m columns numbers under) r c e →
       TellsSpot e (cells_spot ordered_fractions (is_too_wide max) (suc m) (suc (length columns + m))

@@ -1,13 +1,6 @@
--- A product that is added to a sum.
-use Rattle.std.proofs.Common.{◌≡◌, sym, ap, ◌∙◌, arith, ℤ, pos, ◌+ℤ◌, ◌*ℤ◌}
-use Rattle.stack_rational.proofs.Common.{ints, expand, sums, zero-*ℤ}
-
--- a product with 0 adds nothing
-pub nothing_added : (s n b : ℤ) → n ≡ pos 0 → s ≡ s +ℤ n *ℤ b
-nothing_added s n b e = sym (ap (λ z. s +ℤ z) (ap (λ z. z *ℤ b) e ∙ zero-*ℤ b) ∙ nothing s)
-  where
-    nothing : (s : ℤ) → s +ℤ pos 0 ≡ s
-    nothing s = omega (arith, ints)
+-- A product that is added to 0.
+use Rattle.std.proofs.Common.{◌≡◌, ap, ◌∙◌, arith, ℤ, pos, ◌+ℤ◌, ◌*ℤ◌}
+use Rattle.stack_rational.proofs.Common.{expand, sums}
 
 -- a product alone, in the other order
 pub product_alone : (s z o u : ℤ) → s ≡ z +ℤ o *ℤ u → z ≡ pos 0 → s ≡ u *ℤ o

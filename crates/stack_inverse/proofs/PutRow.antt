@@ -6,7 +6,7 @@ use Rattle.stack_rows.specs.declared.whole.RowNumber.{Ghosts}
 use Rattle.stack_rows.proofs.Numbers.{at-index, at-set_same, at-set_other, at-past}
 use Rattle.stack_inverse.specs.declared.row.Row.{Row}
 use Rattle.stack_inverse.specs.RowBlock.{AllNumbersFit, AreMarked}
-use Rattle.stack_inverse.specs.Columns.{RowSeen, no_row, AreWide, IsPut}
+use Rattle.stack_inverse.specs.Columns.{RowSeen, no_row, HaveWidths, IsPut}
 use Rattle.stack_inverse.specs.RowsSeen.{seen_of, seen_at}
 
 module _ {V : Type 0} {number : Ghosts V} where
@@ -39,9 +39,9 @@ module _ {V : Type 0} {number : Ghosts V} where
 
   -- its width
   pub width_get : (m : ℕ) (rows : List (Row V number)) (i : ℕ) (x : Row V number) → length rows ≡ suc m → i ≤ m →
-      AreWide m (seen_at rows) → x ≡ get_or rows i x → length x.numbers.items ≡ suc m
-  width_get m rows i x h l wide e = ap (λ (s : RowSeen V). length s.numbers)
-      (seen_get rows i x (omega (arith, h, l)) e) ∙ wide i l
+      HaveWidths m (seen_at rows) → x ≡ get_or rows i x → length x.numbers.items ≡ suc m
+  width_get m rows i x h l widths e = ap (λ (s : RowSeen V). length s.numbers)
+      (seen_get rows i x (omega (arith, h, l)) e) ∙ widths i l
 
   module _ (rows : List (Row V number)) (i : ℕ) (new : Row V number) (lt : i < length rows) where
     -- it, and the others
@@ -51,10 +51,10 @@ module _ {V : Type 0} {number : Ghosts V} where
     pub other : (k : ℕ) → k ≢ i → seen_at (set rows i new) k ≡ seen_at rows k
     other k n = at-set_other seen_of no_row rows i k new n
 
-    -- all are as wide as before
-    pub wide_set : (m : ℕ) → AreWide m (seen_at rows) → length new.numbers.items ≡ suc m →
-        AreWide m (seen_at (set rows i new))
-    wide_set m h e k l = elim (ℕ_discrete k i) [
+    -- all have their widths
+    pub widths_set : (m : ℕ) → HaveWidths m (seen_at rows) → length new.numbers.items ≡ suc m →
+        HaveWidths m (seen_at (set rows i new))
+    widths_set m h e k l = elim (ℕ_discrete k i) [
       | yes p ↦ ap (λ (s : RowSeen V). length s.numbers) (ap (seen_at (set rows i new)) p ∙ own) ∙ e
       | no n ↦ ap (λ (s : RowSeen V). length s.numbers) (other k n) ∙ h k l
     ]
@@ -95,10 +95,10 @@ module _ {V : Type 0} {number : Ghosts V} where
       other = other;
     }
 
--- where a row is put, all are as wide as before
-pub wide_put : {V : Type 0} (m : ℕ) (s t : ℕ → RowSeen V) (i : ℕ) (numbers : List V) (under : ℤ) (fits : Bool) →
-    IsPut s i numbers under fits t → length numbers ≡ suc m → AreWide m s → AreWide m t
-wide_put {V = V} m s t i numbers under fits p e h k l = elim (ℕ_discrete k i) [
+-- where a row is put, all have their widths
+pub widths_put : {V : Type 0} (m : ℕ) (s t : ℕ → RowSeen V) (i : ℕ) (numbers : List V) (under : ℤ) (fits : Bool) →
+    IsPut s i numbers under fits t → length numbers ≡ suc m → HaveWidths m s → HaveWidths m t
+widths_put {V = V} m s t i numbers under fits p e h k l = elim (ℕ_discrete k i) [
   | yes q ↦ ap (λ n. length (t n).numbers) q ∙ ap (λ (xs : List V). length xs) p.own_numbers ∙ e
   | no n ↦ ap (λ (s : RowSeen V). length s.numbers) (p.other k n) ∙ h k l
 ]

@@ -8,7 +8,7 @@ use Rattle.stack_inverse.proofs.Linear.{combined_step, combined_same, combined_w
 use Rattle.stack_inverse.specs.Columns.{combined, sizes, by_place, plain_own, number}
 use Rattle.stack_rows.proofs.OverOneDenominator.{same_over}
 use Rattle.stack_inverse.proofs.StepCell.{step_cell}
-use Rattle.stack_inverse.proofs.Bounds.{step_none, step_is, step_fits}
+use Rattle.stack_inverse.proofs.Bounds.{step_none, step_fits}
 
 -- the same step at each place
 placed_step : (b c d : Bool) (x y z x' y' z' x'' y'' z'' w k t g : ℤ) → x'' *ℤ w ≡ (x *ℤ k -ℤ t *ℤ x') *ℤ g →
@@ -106,14 +106,6 @@ module _ (m n : ℕ) (F : ℕ → ℕ → ℤ) where
       same j = same_over (number m n F own g b v j) g (number m n F own d a s j *ℤ k -ℤ t *ℤ number m n F
           plain_own e p u j) (d *ℤ k) hg
           (mul_pos d k hd hk) (number_step j)
-
-      -- it is the written row
-      pub row_is : (j : ℕ) → over (number m n F own g b v j) g
-          ≡ reduced ordered_fractions (λ j. over (number m n F own d a s j) d)
-          (λ j. over (number m n F plain_own e p u j) e) (over (number m n F own d a s c) d) j
-      row_is j = same j ∙ step_is w (number m n F own d a s) (number m n F plain_own e p u) d e
-          (number m n F own d a s c) k t x y hd he hk
-          cross hx hy fits under j
 
       -- nothing that is written is too wide
       pub row_none : (row j : ℕ) → reduce_item ordered_fractions (is_too_wide w)

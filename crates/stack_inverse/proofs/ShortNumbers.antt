@@ -35,13 +35,6 @@ less_size x y = omega (arith, ints)
 
 -- one product, by the factor 1
 module _ (s n b k : ℤ) where
-  -- nothing is taken
-  pub nothing_taken : n ≡ pos 0 → s ≡ s -ℤ n *ℤ b
-  nothing_taken e = same s b ∙ ap (λ z. s -ℤ z *ℤ b) (sym e)
-    where
-      same : (s b : ℤ) → s ≡ s -ℤ pos 0 *ℤ b
-      same s b = simp expand (omega (arith, sums))
-
   -- the step of it
   pub taken_by_one : k ≡ pos 1 → s *ℤ k -ℤ b *ℤ n ≡ s -ℤ n *ℤ b
   taken_by_one e = ap (λ z. s *ℤ z -ℤ b *ℤ n) e ∙ turn s n b
@@ -50,21 +43,9 @@ module _ (s n b k : ℤ) where
       turn s n b = simp expand (omega (arith, sums))
 
   module _ (M : ℕ) (fits : nat_abs s + nat_abs n * nat_abs b ≤ M) where
-    -- both terms of the step
-    pub both_fit : k ≡ pos 1 → nat_abs s * nat_abs k + nat_abs b * nat_abs n ≤ M
-    both_fit e = subst (λ (z : ℤ). nat_abs s * nat_abs z + nat_abs b * nat_abs n ≤ M) (sym e)
-        (turn (nat_abs s) (nat_abs n) (nat_abs b) M fits)
-      where
-        turn : (s n b M : ℕ) → s + n * b ≤ M → s * 1 + b * n ≤ M
-        turn s n b M h = omega (arith, h)
-
     -- and the other factor
     pub other_fits : is_zero_whole n ≡ false → nat_abs b ≤ M
     other_fits h = omega (arith, factor_within (nat_abs n) (nat_abs b) (some_size n h), fits)
-
--- 1 fits 64 bits
-pub one_fits : (k : ℤ) → k ≡ pos 1 → nat_abs k ≤ 2 ^ 63 - 1
-one_fits k e = subst (λ (z : ℤ). nat_abs z ≤ 2 ^ 63 - 1) (sym e) (omega arith)
 
 -- one cell more of a column is taken, by the number of its row
 module _ {V : Type 0} (value : V → ℤ) (row : List V) (cells : List (Cell V)) (k : ℕ) (x : Cell V) (l : k < length cells)

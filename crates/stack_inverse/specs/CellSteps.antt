@@ -7,8 +7,8 @@ use Rattle.stack_rational.specs.TooWide.{is_too_wide}
 use Rattle.stack_table.specs.declared.types.Step.{Step}
 use Rattle.stack_table.specs.declared.types.PivotWide.{PivotWide}
 use Rattle.stack_table.specs.Spots.{reduced, reduce_item, reduce_spot}
-use Rattle.stack_inverse.specs.declared.stops.PivotRefusal.{PivotRefusal}
-use Rattle.stack_inverse.specs.declared.stops.PivotRefusal.TheVariants.{TooWide, Unsettled}
+use Rattle.stack_table.specs.declared.types.TurnRefusal.{TurnRefusal}
+use Rattle.stack_table.specs.declared.types.TurnRefusal.TheVariants.{TooWide, Unsettled}
 
 -- the place of a step
 abbrev pub spot_at : (row column : ℕ) → Option Step → Option PivotWide
@@ -28,13 +28,13 @@ TellsStep o x y k = (i j : ℕ) →
     reduce_item ordered_fractions (is_too_wide widest) (λ _. x) (λ _. y) k i j ≡ spot_at i j o
 
 -- what a refusal says of the first place that is too wide
-abbrev pub TellsSpot : PivotRefusal → Option PivotWide → Type 0
+abbrev pub TellsSpot : TurnRefusal → Option PivotWide → Type 0
 TellsSpot (TooWide p) spot = spot ≡ Some p
 TellsSpot Unsettled spot = ⊤
 
 -- what a refusal of a row says of the first place that is too wide, where the rows before it but row r were reduced by
 -- the row g without one
-pub record RefusesAt (m : ℤ) (width : ℕ) (old : ℕ → ℕ → Fraction) (g : ℕ → Fraction) (r c k : ℕ) (e : PivotRefusal)
+pub record RefusesAt (m : ℤ) (width : ℕ) (old : ℕ → ℕ → Fraction) (g : ℕ → Fraction) (r c k : ℕ) (e : TurnRefusal)
     : Type 0 where
   pub apart : k ≢ r
   pub before : (i : ℕ) → i < k → i ≢ r → reduce_spot ordered_fractions (is_too_wide m) width (old i) g (old i c) i
@@ -42,5 +42,5 @@ pub record RefusesAt (m : ℤ) (width : ℕ) (old : ℕ → ℕ → Fraction) (g
   pub here : TellsSpot e (reduce_spot ordered_fractions (is_too_wide m) width (old k) g (old k c) k)
 
 abbrev pub PivotIsRefused : (m : ℤ) → (height width : ℕ) → (old : ℕ → ℕ → Fraction) → (g : ℕ → Fraction) → (r c : ℕ) →
-    PivotRefusal → Type 0
+    TurnRefusal → Type 0
 PivotIsRefused m height width old g r c e = (k : ℕ) × (k < height) × RefusesAt m width old g r c k e

@@ -102,8 +102,8 @@ revised_cell value m columns own s i j = cell_with value m columns (revised_own 
     (s i).under j
 
 -- each of m rows and of the objective row has m artificial numbers and a right side
-abbrev pub AreWide : {V : Type 0} → (m : ℕ) → (ℕ → RowSeen V) → Type 0
-AreWide m s = (i : ℕ) → i ≤ m → length (s i).numbers ≡ suc m
+abbrev pub HaveWidths : {V : Type 0} → (m : ℕ) → (ℕ → RowSeen V) → Type 0
+HaveWidths m s = (i : ℕ) → i ≤ m → length (s i).numbers ≡ suc m
 
 -- row i is put, and the others stay
 pub record IsPut {V : Type 0} (s : ℕ → RowSeen V) (i : ℕ) (numbers : List V) (under : ℤ) (fits : Bool)

@@ -5,17 +5,17 @@ ghost use Rattle.stack_inverse.specs.RowBlock.{IsTopped, AreWithin, IsStepReady}
 ghost use Rattle.stack_inverse.specs.Columns.{own_top_at, row_number};
 
 use crate::first::First;
+use crate::given::Given;
 use crate::making::{top_in, top_over, whole_top};
-use crate::plain::Plain;
 use crate::row::{PivotRow, Row};
 use stack_rows::{Factors, RowNumber, is_short, step_under, top_after};
 
 /// A top of the own cells of row i.
-pub fn own_top_of<T: RowNumber>(plain: &Plain<T>, i: usize) -> T
-    ensures { T.value result ≡ own_top_at plain.now.first.rows (T.value plain.now.own_top) i }
+pub fn own_top_of<T: RowNumber>(given: &Given<T>, i: usize) -> T
+    ensures { T.value result ≡ own_top_at given.now.first.rows (T.value given.now.own_top) i }
 {
-    if i == plain.first.rows {
-        plain.own_top
+    if i == given.first.rows {
+        given.own_top
     } else {
         T::zero()
     }
@@ -30,7 +30,7 @@ pub struct Ready<T> {
     pub top: T,
 }
 
-/// What a step of a row of this top takes. May give up; no clause says when.
+/// What a step of a row of this top takes. Gives up likely where a bound of what the step makes doesn't fit.
 fn ready_by<T: RowNumber>(
     first: &First<T>,
     row: &Row<T>,

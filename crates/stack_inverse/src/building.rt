@@ -11,19 +11,19 @@ ghost use Rattle.stack_inverse.specs.FirstTable.{flips, AreTurned, AreFirstColum
 
 use crate::columns::{Cell, FirstColumn};
 use crate::first::First;
+use crate::given::Given;
 use crate::making::top_of;
-use crate::plain::Plain;
 use crate::stops::NoTable;
 use stack_rows::RowNumber;
 use stack_table::{Entry, Problem};
 use std::alloc::Global;
 
-/// A number of a row, flipped as the row is. May give up; no clause says when.
+/// A number of a row, flipped as the row is. Gives up where it doesn't fit.
 pub fn turned<T: RowNumber>(right: &[i128], row: usize, number: i128) -> Option<T>
     requires { row < length right.now }
     ensures { IfSome result (λ r. T.value r ≡ turned (flips right.now row) number) }
 {
-    let value = T::from_wide(number)?;
+    let value = T::from_broad(number)?;
     if right[row] < 0 {
         let opposite = T::zero().less(value)?;
         return Some(opposite);
@@ -117,11 +117,11 @@ pub fn column_top<T: RowNumber>(columns: &[FirstColumn<T>]) -> Option<T>
     ensures top { IfSome result (λ r. (j : ℕ) → j < length columns.now →
         sizes_in T.value (cells_at columns.now j) ≤ unsigned_abs (T.value r)) }
 {
-    let one = T::from_wide(1)?;
+    let one = T::from_broad(1)?;
     let mut top = one;
     for j in 0..columns.len() {
         let sizes = sizes_of(columns[j].cells.as_slice())?;
-        top = top.wider(sizes);
+        top = top.larger(sizes);
     }
     Some(top)
 }
@@ -175,7 +175,7 @@ pub fn first_of<T: RowNumber>(alloc: Global, p: &Problem) -> Result<First<T>, No
 }
 
 /// The first rows of a problem, and the own cells of the objective row of phase 1.
-pub fn plain_of<T: RowNumber>(alloc: Global, p: &Problem) -> Result<Plain<T>, NoTable>
+pub fn given_of<T: RowNumber>(alloc: Global, p: &Problem) -> Result<Given<T>, NoTable>
     requires { IsProblem p.now }
     ensures rows { IfOk result (λ g. g.first.rows ≡ p.now.rows) }
     ensures long { IfOk result (λ g. length g.first.columns.items ≡ plain (shape_of_problem p.now)) }
@@ -186,7 +186,7 @@ pub fn plain_of<T: RowNumber>(alloc: Global, p: &Problem) -> Result<Plain<T>, No
     let first = first_of(alloc, p)?;
     let own = own_cells(alloc, first.columns.as_slice())?;
     let own_top = top_of(own.as_slice(), own.len());
-    Ok(Plain {
+    Ok(Given {
         first,
         own,
         own_top,

@@ -3,7 +3,7 @@
 ghost use Rattle.std.specs.Prelude.{◌≡◌, ℕ, suc, ◌+◌, ◌<◌, ◌^◌, length, get_or, pos, eqb, cond, ℤ, false};
 ghost use Rattle.std.specs.Prelude.{OnSome, IfSome, IfOk};
 ghost use Rattle.stack_rows.specs.RowForm.{at_value, number_at};
-ghost use Rattle.stack_inverse.specs.Columns.{AreWide, IsPut};
+ghost use Rattle.stack_inverse.specs.Columns.{HaveWidths, IsPut};
 ghost use Rattle.stack_inverse.specs.RowsSeen.{seen_at};
 ghost use Rattle.stack_inverse.specs.FirstTable.{load_at, IsFirstRow, less_loads};
 
@@ -26,7 +26,7 @@ fn put_first_row<T: RowNumber>(
     requires row_in { i < length right.now }
     requires width { length numbers.old ≡ suc (length right.now) }
     requires height { length rows.old ≡ suc (length right.now) }
-    requires wide { AreWide (length right.now) (seen_at rows.old) }
+    requires widths { HaveWidths (length right.now) (seen_at rows.old) }
     requires one { T.value one ≡ pos 1 }
     ensures load { IfSome result (λ s. T.value s ≡ load_at right.now i) }
     ensures put { OnSome result (IsPut (seen_at rows.old) i numbers.new (T.value one) false (seen_at rows.new)) }
@@ -49,10 +49,10 @@ fn put_first_rows<T: RowNumber>(
 ) -> Option<T>
     requires width { length numbers.old ≡ suc (length right.now) }
     requires height { length rows.old ≡ suc (length right.now) }
-    requires wide { AreWide (length right.now) (seen_at rows.old) }
+    requires widths { HaveWidths (length right.now) (seen_at rows.old) }
     requires unmarked { (i : ℕ) → (seen_at rows.old i).fits ≡ false }
     requires one { T.value one ≡ pos 1 }
-    ensures wide { OnSome result (AreWide (length right.now) (seen_at rows.new)) }
+    ensures widths { OnSome result (HaveWidths (length right.now) (seen_at rows.new)) }
     ensures unmarked { OnSome result ((i : ℕ) → (seen_at rows.new i).fits ≡ false) }
     ensures rest { IfSome result (λ s. T.value s ≡ less_loads right.now (length right.now)) }
     ensures rows { OnSome result ((i : ℕ) → i < length right.now →
@@ -67,7 +67,7 @@ fn put_first_rows<T: RowNumber>(
     Some(rest)
 }
 
-/// Puts the first rows and the objective row of phase 1. May give up; no clause says when.
+/// Puts the first rows and the objective row of phase 1. Gives up likely where the sum of the right sides doesn't fit.
 pub fn fill<T: RowNumber>(
     rows: &mut [Row<T>],
     numbers: &mut [T],
@@ -76,10 +76,10 @@ pub fn fill<T: RowNumber>(
 ) -> Option<()>
     requires width { length numbers.old ≡ suc (length right.now) }
     requires height { length rows.old ≡ suc (length right.now) }
-    requires wide { AreWide (length right.now) (seen_at rows.old) }
+    requires widths { HaveWidths (length right.now) (seen_at rows.old) }
     requires unmarked { (i : ℕ) → (seen_at rows.old i).fits ≡ false }
     requires one { T.value one ≡ pos 1 }
-    ensures wide { OnSome result (AreWide (length right.now) (seen_at rows.new)) }
+    ensures widths { OnSome result (HaveWidths (length right.now) (seen_at rows.new)) }
     ensures unmarked { OnSome result ((i : ℕ) → (seen_at rows.new i).fits ≡ false) }
     ensures rows { OnSome result ((i : ℕ) → i < length right.now →
         IsFirstRow T.value (length right.now) (seen_at rows.new) i (load_at right.now i)) }
@@ -93,11 +93,11 @@ pub fn fill<T: RowNumber>(
     Some(())
 }
 
-/// The number 1. May give up; no clause says when.
+/// The number 1. Gives up likely nowhere.
 pub fn one<T: RowNumber>() -> Result<T, NoTable>
     ensures { IfOk result (λ r. T.value r ≡ pos 1) }
 {
-    match T::from_wide(1) {
+    match T::from_broad(1) {
         Some(one) => Ok(one),
         None => Err(NoTable::Unsettled),
     }
@@ -119,7 +119,7 @@ pub fn repeated<T: RowNumber>(alloc: Global, number: T, count: usize) -> Result<
 pub fn rows_of<T: RowNumber>(alloc: Global, one: T, width: usize) -> Result<Vec<Row<T>>, NoTable>
     requires { T.value one ≡ pos 1 }
     ensures height { IfOk result (λ r. length r.items ≡ width) }
-    ensures wide { IfOk result (λ r. (i : ℕ) → i < width → length (seen_at r.items i).numbers ≡ width) }
+    ensures widths { IfOk result (λ r. (i : ℕ) → i < width → length (seen_at r.items i).numbers ≡ width) }
     ensures unmarked { IfOk result (λ r. (i : ℕ) → i < width → (seen_at r.items i).fits ≡ false) }
 {
     let mut rows = Vec::with_capacity(alloc, width)?;

@@ -1,14 +1,14 @@
 //! The table of a revised run: the inverse of its basis in whole numbers, from which the plain columns are made.
 //!
-//! Each row of the table is kept as whole numbers over one denominator: one for each artificial column, which make
-//! the inverse of the basis, and the right side. A number of a plain column is made from these and the first rows
-//! where it is needed. After the revised simplex method of Dantzig and Orchard-Hays (1954).
+//! Each row of the table is kept as whole numbers over one denominator: one for each artificial column, which make the
+//! inverse of the basis, and the right side. A number of a plain column is made from these and the first rows where it
+//! is needed. After the revised simplex method of Dantzig and Orchard-Hays (1954).
 //!
-//! A call may give up, with None or `Unsettled`: mostly since a number doesn't fit, and no clause says when. That says
+//! A call may give up, with None or `Unsettled`. No clause says when, but each call says where that is likely. It says
 //! nothing of the written run. What a call answers else is exact.
 //!
 //! ```text
-//! let mut table = RevisedTable::<Wide>::of_problem(alloc, &problem)?; // the written table
+//! let mut table = RevisedTable::<Broad>::of_problem(alloc, &problem)?; // the written table
 //! table.enter(column) == Some(()); // the numbers of the column are made and kept
 //! table.pivot(row, column)?; // the table after the pivot, or the first operation that is too wide
 //! ```
@@ -19,10 +19,10 @@ mod building;
 mod columns;
 mod filling;
 mod first;
+mod given;
 mod making;
 mod objective;
 mod pivoting;
-mod plain;
 mod reducing;
 mod remaking;
 mod revised_table;
@@ -32,4 +32,4 @@ mod spots;
 mod stops;
 
 pub use revised_table::RevisedTable;
-pub use stops::{NoTable, PivotRefusal};
+pub use stops::NoTable;

@@ -10,7 +10,7 @@ ghost use Rattle.stack_inverse.specs.RowsSeen.{seen_of, seen_at, number_in_row};
 
 use crate::columns::Cell;
 use crate::first::First;
-use crate::plain::Plain;
+use crate::given::Given;
 use crate::row::Row;
 use stack_rows::RowNumber;
 
@@ -43,47 +43,47 @@ fn sum_over<T: RowNumber>(cells: &[Cell<T>], numbers: &[T], start: T) -> Option<
 }
 
 /// The own number of a row: the objective row's, and 0 in the others.
-fn own_of<T: RowNumber>(plain: &Plain<T>, i: usize, j: usize) -> T
-    requires { j < length plain.now.own.items }
-    ensures { T.value result ≡ revised_own T.value plain.now.first.rows plain.now.own.items i j }
+fn own_of<T: RowNumber>(given: &Given<T>, i: usize, j: usize) -> T
+    requires { j < length given.now.own.items }
+    ensures { T.value result ≡ revised_own T.value given.now.first.rows given.now.own.items i j }
 {
-    if i == plain.first.rows {
-        plain.own[j]
+    if i == given.first.rows {
+        given.own[j]
     } else {
         T::zero()
     }
 }
 
-/// The number of row i in a plain column, over its denominator. May give up; no clause says when.
-pub fn number_of<T: RowNumber>(plain: &Plain<T>, row: &Row<T>, i: usize, j: usize) -> Option<T>
-    requires { j < length plain.now.first.columns.items }
-    ensures { IfSome result (λ r. T.value r ≡ number_in_row plain.now (seen_of row.now) i j) }
+/// The number of row i in a plain column, over its denominator. Gives up likely where a sum of products doesn't fit.
+pub fn number_of<T: RowNumber>(given: &Given<T>, row: &Row<T>, i: usize, j: usize) -> Option<T>
+    requires { j < length given.now.first.columns.items }
+    ensures { IfSome result (λ r. T.value r ≡ number_in_row given.now (seen_of row.now) i j) }
 {
-    let own_cell = own_of(plain, i, j);
+    let own_cell = own_of(given, i, j);
     let start = added(T::zero(), own_cell, row.under)?;
     let number = sum_over(
-        plain.first.columns[j].cells.as_slice(),
+        given.first.columns[j].cells.as_slice(),
         row.numbers.as_slice(),
         start,
     )?;
     Some(number)
 }
 
-/// Makes the numbers of a plain column, row by row. May give up; no clause says when.
+/// Makes the numbers of a plain column, row by row. Gives up as `number_of` does.
 pub fn enter_column<T: RowNumber>(
-    plain: &Plain<T>,
+    given: &Given<T>,
     rows: &[Row<T>],
     entered: &mut [T],
     column: usize,
 ) -> Option<()>
-    requires long { length entered.old ≡ suc plain.now.first.rows }
-    requires height { length rows.now ≡ suc plain.now.first.rows }
-    requires column_in { column < length plain.now.first.columns.items }
-    ensures { OnSome result (AreEntered T.value plain.now.first.rows plain.now.first.columns.items plain.now.own.items
+    requires long { length entered.old ≡ suc given.now.first.rows }
+    requires height { length rows.now ≡ suc given.now.first.rows }
+    requires column_in { column < length given.now.first.columns.items }
+    ensures { OnSome result (AreEntered T.value given.now.first.rows given.now.first.columns.items given.now.own.items
         (seen_at rows.now) column entered.new) }
 {
     for i in 0..entered.len() {
-        let number = number_of(plain, &rows[i], i, column)?;
+        let number = number_of(given, &rows[i], i, column)?;
         entered[i] = number;
     }
     Some(())
@@ -97,7 +97,7 @@ fn greater<T: RowNumber>(top: T, number: T) -> T
     if number.is_zero() {
         return top;
     }
-    top.wider(number)
+    top.larger(number)
 }
 
 /// A top of the first numbers: whichever of them is the greatest in size.
@@ -135,8 +135,8 @@ pub fn top_over<T: RowNumber>(numbers: &[T], count: usize) -> T
     }
 }
 
-/// A top of all numbers of a row over this denominator, by that of its artificial numbers. May give up; no clause says
-/// when.
+/// A top of all numbers of a row over this denominator, by that of its artificial numbers. Gives up likely where it
+/// doesn't fit.
 pub fn whole_top<T: RowNumber>(
     first: &First<T>,
     numbers: &[T],
@@ -152,10 +152,11 @@ pub fn whole_top<T: RowNumber>(
     let combined = top.times(first.top)?;
     let own = under.times(own_top)?;
     let both = combined.sizes(own)?;
-    Some(both.wider(numbers[first.rows]))
+    Some(both.larger(numbers[first.rows]))
 }
 
-/// The number of a row without own cells in any column, the right side last. May give up; no clause says when.
+/// The number of a row without own cells in any column, the right side last. Gives up likely where a sum of products
+/// doesn't fit.
 pub fn row_number<T: RowNumber>(first: &First<T>, row: &[T], j: usize) -> Option<T>
     requires width { length row.now ≡ suc first.now.rows }
     requires column_in { j < suc (length first.now.columns.items + first.now.rows) }
@@ -171,7 +172,7 @@ pub fn row_number<T: RowNumber>(first: &First<T>, row: &[T], j: usize) -> Option
     Some(row[k])
 }
 
-/// A top of all numbers of a row without own cells, by each of them. May give up; no clause says when.
+/// A top of all numbers of a row without own cells, by each of them. Gives up likely where one doesn't fit.
 pub fn top_in<T: RowNumber>(first: &First<T>, row: &[T]) -> Option<T>
     requires { length row.now ≡ suc first.now.rows }
     ensures { IfSome result (λ b. (d : ℤ) → AreWithin (row_number T.value first.now.rows first.now.columns.items
@@ -180,7 +181,7 @@ pub fn top_in<T: RowNumber>(first: &First<T>, row: &[T]) -> Option<T>
     let mut top = top_of(row, row.len());
     for j in 0..first.columns.len() {
         let number = row_number(first, row, j)?;
-        top = top.wider(number);
+        top = top.larger(number);
     }
     Some(top)
 }

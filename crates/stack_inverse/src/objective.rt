@@ -2,11 +2,11 @@
 
 ghost use Rattle.std.specs.Prelude.{◌≡◌, ℕ, suc, ◌<◌, length, pos, ◌<ℤ◌, eqb, cond, IfSome};
 ghost use Rattle.stack_rows.specs.RowForm.{number_at};
-ghost use Rattle.stack_inverse.specs.Columns.{IsFactorRow, AreWide};
+ghost use Rattle.stack_inverse.specs.Columns.{IsFactorRow, HaveWidths};
 ghost use Rattle.stack_inverse.specs.RowsSeen.{seen_at};
 
+use crate::given::Given;
 use crate::making::number_of;
-use crate::plain::Plain;
 use crate::row::Row;
 use stack_rows::RowNumber;
 
@@ -28,27 +28,27 @@ pub fn set_only<T: RowNumber>(row: &mut [T], column: usize, number: T)
     row[column] = number;
 }
 
-/// The numbers of a row whose cell in the column has to be 1, and its denominator; without a row, 0 over 1. May give
-/// up; no clause says when.
+/// The numbers of a row whose cell in the column has to be 1, and its denominator; without a row, 0 over 1. Gives up
+/// where that cell isn't 1, and likely nowhere else.
 pub fn factor_row<T: RowNumber>(
-    plain: &Plain<T>,
+    given: &Given<T>,
     rows: &[Row<T>],
     numbers: &mut [T],
     column: usize,
     row: Option<usize>,
 ) -> Option<T>
-    requires width { length numbers.old ≡ suc plain.now.first.rows }
-    requires wide { AreWide plain.now.first.rows (seen_at rows.now) }
-    requires column_in { column < length plain.now.first.columns.items }
-    requires row_in { IfSome row (λ r. r < plain.now.first.rows) }
-    requires height { length rows.now ≡ suc plain.now.first.rows }
+    requires width { length numbers.old ≡ suc given.now.first.rows }
+    requires widths { HaveWidths given.now.first.rows (seen_at rows.now) }
+    requires column_in { column < length given.now.first.columns.items }
+    requires row_in { IfSome row (λ r. r < given.now.first.rows) }
+    requires height { length rows.now ≡ suc given.now.first.rows }
     ensures positive { IfSome result (λ d. pos 0 <ℤ T.value d) }
-    ensures ok { IfSome result (λ d. IsFactorRow T.value plain.now.first.rows plain.now.first.columns.items
-        plain.now.own.items (seen_at rows.now) column row numbers.new (T.value d)) }
+    ensures ok { IfSome result (λ d. IsFactorRow T.value given.now.first.rows given.now.first.columns.items
+        given.now.own.items (seen_at rows.now) column row numbers.new (T.value d)) }
 {
     match row {
         Some(r) => {
-            let cell = number_of(plain, &rows[r], r, column)?;
+            let cell = number_of(given, &rows[r], r, column)?;
             numbers.copy_from_slice(rows[r].numbers.as_slice());
             let under = rows[r].under;
             let rest = cell.less(under)?;
@@ -59,7 +59,7 @@ pub fn factor_row<T: RowNumber>(
         }
         None => {
             clear_row(numbers);
-            let one = T::from_wide(1)?;
+            let one = T::from_broad(1)?;
             Some(one)
         }
     }

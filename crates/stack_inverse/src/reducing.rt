@@ -12,26 +12,28 @@ ghost use Rattle.stack_inverse.specs.CellSteps.{TellsSpot};
 ghost use Rattle.stack_inverse.specs.RowsSeen.{seen_of, number_in_row, cell_in_row, pivot_cell, IsPivotRow, columns_of};
 
 use crate::bounding::{Ready, own_top_of, ready_for};
-use crate::plain::Plain;
+use crate::given::Given;
 use crate::remaking::remake_row;
 use crate::row::{PivotRow, Row};
 use crate::spots::{RowStep, is_widest, row_spot};
-use crate::stops::PivotRefusal;
+use stack_bland::Found;
 use stack_rows::{Factors, RowNumber, factors_of, reduce_row};
+use stack_table::TurnRefusal;
 
 /// The top of a row after it is reduced: 0, that none is known, where another denominator tells that it was divided.
 fn top_kept<T: RowNumber>(after: T, ready: Ready<T>) -> T
     ensures same { T.value result ≢ pos 0 → T.value after ≡ T.value ready.over }
     ensures top { T.value result ≢ pos 0 → T.value result ≡ T.value ready.top }
 {
-    if after.wide() == ready.over.wide() {
+    if after.broad() == ready.over.broad() {
         ready.top
     } else {
         T::zero()
     }
 }
 
-/// Takes a multiple of the pivot row from a row, where it fits by tops of both. May give up; no clause says when.
+/// Takes a multiple of the pivot row from a row, where it fits by tops of both. Gives up as `reduce_row` does, likely
+/// nowhere.
 fn step_by_tops<T: RowNumber>(
     row: &mut Row<T>,
     pivot: &PivotRow<T>,
@@ -63,18 +65,18 @@ fn step_by_tops<T: RowNumber>(
     Some(())
 }
 
-/// The same cell by cell: at 128 bits alone. `TooWide` names the first operation that is too wide; no clause says when
-/// the step is given up.
+/// The same cell by cell: at 128 bits alone. `TooWide` names the first operation that is too wide. Given up at 64 bits
+/// always, and at 128 likely where the reduced cells have no common denominator with which all numbers fit.
 fn step_by_cells<T: RowNumber>(
-    plain: &Plain<T>,
+    given: &Given<T>,
     row: &mut Row<T>,
     pivot: &PivotRow<T>,
     s: RowStep<T>,
     factors: Factors<T>,
     i: usize,
-) -> Result<(), PivotRefusal>
-    requires width { length row.old.numbers.items ≡ suc plain.now.first.rows }
-    requires pivot { IsPivotRow plain.now pivot.now }
+) -> Result<(), TurnRefusal>
+    requires width { length row.old.numbers.items ≡ suc given.now.first.rows }
+    requires pivot { IsPivotRow given.now pivot.now }
     requires under { T.value s.under ≡ T.value row.old.under }
     requires pivot_under { T.value s.pivot_under ≡ T.value pivot.now.under }
     requires some { pos 0 <ℤ T.value factors.times }
@@ -84,53 +86,53 @@ fn step_by_cells<T: RowNumber>(
     ensures ok { OnOk result (IsTaken T.value row.old.numbers.items (T.value s.under *ℤ T.value s.pivot_under)
         pivot.now.numbers.items (T.value s.pivot_under) (T.value s.factor) row.new.numbers.items
         (T.value row.new.under)) }
-    ensures none { OnOk result (reduce_spot ordered_fractions (is_too_wide T.MAX) (columns_of plain.now)
-        (cell_in_row plain.now (seen_of row.old) i) (pivot_cell plain.now pivot.now)
+    ensures none { OnOk result (reduce_spot ordered_fractions (is_too_wide T.MAX) (columns_of given.now)
+        (cell_in_row given.now (seen_of row.old) i) (pivot_cell given.now pivot.now)
         (over (T.value s.factor) (T.value s.under)) i ≡ None) }
-    ensures wide { IfErr result (λ e. TellsSpot e (reduce_spot ordered_fractions (is_too_wide T.MAX)
-        (columns_of plain.now) (cell_in_row plain.now (seen_of row.old) i) (pivot_cell plain.now pivot.now)
+    ensures refused { IfErr result (λ e. TellsSpot e (reduce_spot ordered_fractions (is_too_wide T.MAX)
+        (columns_of given.now) (cell_in_row given.now (seen_of row.old) i) (pivot_cell given.now pivot.now)
         (over (T.value s.factor) (T.value s.under)) i)) }
 {
     if !is_widest::<T>() {
-        return Err(PivotRefusal::Unsettled);
+        return Err(TurnRefusal::Unsettled);
     }
-    match row_spot(plain, row, pivot.numbers.as_slice(), s, factors, i) {
-        Some(None) => {}
-        Some(Some(spot)) => return Err(PivotRefusal::TooWide(spot)),
-        None => return Err(PivotRefusal::Unsettled),
+    match row_spot(given, row, pivot.numbers.as_slice(), s, factors, i) {
+        Found::Nothing => {}
+        Found::This(spot) => return Err(TurnRefusal::TooWide(spot)),
+        Found::GaveUp => return Err(TurnRefusal::Unsettled),
     }
     match remake_row(row, pivot.numbers.as_slice(), s) {
         Some(()) => Ok(()),
-        None => Err(PivotRefusal::Unsettled),
+        None => Err(TurnRefusal::Unsettled),
     }
 }
 
 /// The same by tops, or cell by cell where the step doesn't fit by these.
 fn step<T: RowNumber>(
-    plain: &Plain<T>,
+    given: &Given<T>,
     row: &mut Row<T>,
     pivot: &PivotRow<T>,
     factor: T,
     i: usize,
-) -> Result<(), PivotRefusal>
-    requires width { length row.old.numbers.items ≡ suc plain.now.first.rows }
-    requires pivot { IsPivotRow plain.now pivot.now }
+) -> Result<(), TurnRefusal>
+    requires width { length row.old.numbers.items ≡ suc given.now.first.rows }
+    requires pivot { IsPivotRow given.now pivot.now }
     ensures width { length row.new.numbers.items ≡ length row.old.numbers.items }
     ensures mark { row.new.fits ≡ row.old.fits }
-    ensures ok { OnOk result ((column : ℕ) → T.value factor ≡ number_in_row plain.now (seen_of row.old) i column →
-        IsReducedRow T.MAX (columns_of plain.now) (cell_in_row plain.now (seen_of row.old) i)
-        (pivot_cell plain.now pivot.now) i column (cell_in_row plain.now (seen_of row.new) i)) }
-    ensures wide { IfErr result (λ e. (column : ℕ) → T.value factor
-        ≡ number_in_row plain.now (seen_of row.old) i column →
-        TellsSpot e (reduce_spot ordered_fractions (is_too_wide T.MAX) (columns_of plain.now)
-        (cell_in_row plain.now (seen_of row.old) i) (pivot_cell plain.now pivot.now)
-        (cell_in_row plain.now (seen_of row.old) i column) i)) }
+    ensures ok { OnOk result ((column : ℕ) → T.value factor ≡ number_in_row given.now (seen_of row.old) i column →
+        IsReducedRow T.MAX (columns_of given.now) (cell_in_row given.now (seen_of row.old) i)
+        (pivot_cell given.now pivot.now) i column (cell_in_row given.now (seen_of row.new) i)) }
+    ensures refused { IfErr result (λ e. (column : ℕ) → T.value factor
+        ≡ number_in_row given.now (seen_of row.old) i column →
+        TellsSpot e (reduce_spot ordered_fractions (is_too_wide T.MAX) (columns_of given.now)
+        (cell_in_row given.now (seen_of row.old) i) (pivot_cell given.now pivot.now)
+        (cell_in_row given.now (seen_of row.old) i column) i)) }
 {
     let factors = match factors_of(factor, pivot.under) {
         Some(factors) => factors,
-        None => return Err(PivotRefusal::Unsettled),
+        None => return Err(TurnRefusal::Unsettled),
     };
-    let ready = match ready_for(&plain.first, row, pivot, factors, own_top_of(plain, i)) {
+    let ready = match ready_for(&given.first, row, pivot, factors, own_top_of(given, i)) {
         Some(ready) => ready,
         None => {
             let s = RowStep {
@@ -138,12 +140,12 @@ fn step<T: RowNumber>(
                 pivot_under: pivot.under,
                 factor,
             };
-            return step_by_cells(plain, row, pivot, s, factors, i);
+            return step_by_cells(given, row, pivot, s, factors, i);
         }
     };
     match step_by_tops(row, pivot, factors, ready) {
         Some(()) => Ok(()),
-        None => Err(PivotRefusal::Unsettled),
+        None => Err(TurnRefusal::Unsettled),
     }
 }
 
@@ -161,31 +163,31 @@ fn stays<T: RowNumber>(row: &Row<T>, factor: T) -> bool
 /// Takes from row i its cell in a column, whose number is the factor, times the pivot row. A row that is known to fit
 /// stays where its cell is 0, and one that is reduced fits; one whose step is refused is spent, and isn't known to fit.
 pub fn reduce<T: RowNumber>(
-    plain: &Plain<T>,
+    given: &Given<T>,
     row: &mut Row<T>,
     pivot: &PivotRow<T>,
     factor: T,
     i: usize,
-) -> Result<(), PivotRefusal>
-    requires width { length row.old.numbers.items ≡ suc plain.now.first.rows }
-    requires pivot { IsPivotRow plain.now pivot.now }
+) -> Result<(), TurnRefusal>
+    requires width { length row.old.numbers.items ≡ suc given.now.first.rows }
+    requires pivot { IsPivotRow given.now pivot.now }
     ensures width { length row.new.numbers.items ≡ length row.old.numbers.items }
     ensures unmarked { IfErr result (λ e. row.new.fits ≡ false) }
-    ensures ok { OnOk result ((column : ℕ) → T.value factor ≡ number_in_row plain.now (seen_of row.old) i column →
-        (row.old.fits ≡ true → AllNumbersFit T.MAX (cell_in_row plain.now (seen_of row.old) i)) →
-        IsReducedRow T.MAX (columns_of plain.now) (cell_in_row plain.now (seen_of row.old) i)
-        (pivot_cell plain.now pivot.now) i column (cell_in_row plain.now (seen_of row.new) i)) }
-    ensures wide { IfErr result (λ e. (column : ℕ) → T.value factor
-        ≡ number_in_row plain.now (seen_of row.old) i column →
-        TellsSpot e (reduce_spot ordered_fractions (is_too_wide T.MAX) (columns_of plain.now)
-        (cell_in_row plain.now (seen_of row.old) i) (pivot_cell plain.now pivot.now)
-        (cell_in_row plain.now (seen_of row.old) i column) i)) }
+    ensures ok { OnOk result ((column : ℕ) → T.value factor ≡ number_in_row given.now (seen_of row.old) i column →
+        (row.old.fits ≡ true → AllNumbersFit T.MAX (cell_in_row given.now (seen_of row.old) i)) →
+        IsReducedRow T.MAX (columns_of given.now) (cell_in_row given.now (seen_of row.old) i)
+        (pivot_cell given.now pivot.now) i column (cell_in_row given.now (seen_of row.new) i)) }
+    ensures refused { IfErr result (λ e. (column : ℕ) → T.value factor
+        ≡ number_in_row given.now (seen_of row.old) i column →
+        TellsSpot e (reduce_spot ordered_fractions (is_too_wide T.MAX) (columns_of given.now)
+        (cell_in_row given.now (seen_of row.old) i) (pivot_cell given.now pivot.now)
+        (cell_in_row given.now (seen_of row.old) i column) i)) }
 {
     if stays(row, factor) {
         return Ok(());
     }
     row.fits = false;
-    match step(plain, row, pivot, factor, i) {
+    match step(given, row, pivot, factor, i) {
         Ok(()) => {
             row.fits = true;
             Ok(())

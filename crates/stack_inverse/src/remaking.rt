@@ -22,20 +22,20 @@ fn common_under<T: RowNumber>(numbers: &[T], pivot: &[T], s: RowStep<T>) -> Opti
     requires under { pos 0 <ℤ T.value s.under }
     requires pivot_under { pos 0 <ℤ T.value s.pivot_under }
 {
-    let mut common = T::from_wide(1)?;
+    let mut common = T::from_broad(1)?;
     for j in 0..numbers.len() {
         let reduced = match reduced_cell(s, numbers[j], pivot[j]) {
             Ok(reduced) => reduced,
             Err(_) => return None,
         };
-        let under = T::from_wide(reduced.parts().1)?;
+        let under = T::from_broad(reduced.parts().1)?;
         let next = multiple(common, under)?;
         common = next;
     }
     Some(common)
 }
 
-/// The number of the reduced cell over this denominator. May give up; no clause says when.
+/// The number of the reduced cell over this denominator. Gives up likely where it isn't whole or doesn't fit.
 fn remade<T: RowNumber>(s: RowStep<T>, own: T, pivot: T, common: T) -> Option<T>
     requires under { pos 0 <ℤ T.value s.under }
     requires pivot_under { pos 0 <ℤ T.value s.pivot_under }
@@ -47,8 +47,8 @@ fn remade<T: RowNumber>(s: RowStep<T>, own: T, pivot: T, common: T) -> Option<T>
         Err(_) => return None,
     };
     let parts = reduced.parts();
-    let number = T::from_wide(parts.0)?;
-    let under = T::from_wide(parts.1)?;
+    let number = T::from_broad(parts.0)?;
+    let under = T::from_broad(parts.1)?;
     let part = common.divided(under)?;
     let product = number.times(part)?;
     Some(product)
@@ -73,7 +73,8 @@ fn remake<T: RowNumber>(numbers: &mut [T], pivot: &[T], s: RowStep<T>, common: T
     true
 }
 
-/// Makes a row anew from its reduced cells, over a common denominator. May give up; no clause says when.
+/// Makes a row anew from its reduced cells, over a common denominator. Gives up likely where none fits with all numbers
+/// over it.
 pub fn remake_row<T: RowNumber>(row: &mut Row<T>, pivot: &[T], s: RowStep<T>) -> Option<()>
     requires width { length pivot.now ≡ length row.old.numbers.items }
     requires under { T.value s.under ≡ T.value row.old.under }

@@ -4,26 +4,27 @@ ghost use Rattle.std.specs.Prelude.{◌≡◌, ℕ, suc, ◌+◌, ◌<◌, lengt
 ghost use Rattle.stack_table.specs.Table.{plain, columns};
 ghost use Rattle.stack_table.specs.Block.{shape_of};
 ghost use Rattle.stack_inverse.specs.RowBlock.{AreMarked};
-ghost use Rattle.stack_inverse.specs.Columns.{AreWide};
+ghost use Rattle.stack_inverse.specs.Columns.{HaveWidths};
 ghost use Rattle.stack_inverse.specs.RowsSeen.{seen_at, cells_of_rows};
 
-use crate::building::plain_of;
+use crate::building::given_of;
 use crate::filling::{fill, first_basics, one, pivot_room, repeated, rows_of};
+use crate::given::Given;
 use crate::making::{enter_column, number_of};
 use crate::objective::{clear_row, factor_row, set_only};
 use crate::pivoting::{pivot_rows, put_row};
-use crate::plain::Plain;
 use crate::row::{PivotRow, Row};
 use crate::short::short_negative;
-use crate::stops::{NoTable, PivotRefusal};
+use crate::stops::NoTable;
+use stack_bland::Found;
 use stack_rows::RowNumber;
-use stack_table::{Problem, row_with};
+use stack_table::{Problem, TurnRefusal, row_with};
 use std::alloc::Global;
 
 /// The exact table of a run. Row `rows` is the objective row.
 #[derive(Drop)]
 pub struct RevisedTable<T: RowNumber> {
-    given: Plain<T>,
+    given: Given<T>,
     /// The objective row last.
     rows: Vec<Row<T>>,
     /// The basic column of each row.
@@ -36,7 +37,7 @@ pub struct RevisedTable<T: RowNumber> {
     has_factor: bool,
     ghost plain_count: { length given.first.columns.items ≡ plain (shape_of given.first.rows contacts has_factor) },
     ghost height: { length rows.items ≡ suc given.first.rows },
-    ghost wide: { AreWide given.first.rows (seen_at rows.items) },
+    ghost widths: { HaveWidths given.first.rows (seen_at rows.items) },
     ghost marked: { AreMarked T.MAX (cells_of_rows given rows.items) (seen_at rows.items) },
     ghost room: { length pivot.numbers.items ≡ suc given.first.rows },
     ghost one_number: { length entered.items ≡ suc given.first.rows },
@@ -56,16 +57,18 @@ impl<T: RowNumber> RevisedTable<T> {
     ghost use Rattle.stack_table.specs.Lent.{IsProblem, shape_of_problem, problem_of};
     ghost use Rattle.stack_table.specs.WrittenTable.{written_table};
     ghost use Rattle.stack_inverse.specs.Seen.{shape_of_revised, table_of_revised, number_in, under_in, IsEntered};
+    ghost use Rattle.stack_bland.specs.Found.{TellsFound, IfFound};
     ghost use Rattle.stack_inverse.specs.ShortRow.{least_negative};
 
-    /// The written table of a problem. All memory of a run is taken here. May give up; no clause says when.
+    /// The written table of a problem. All memory of a run is taken here. Given up likely where an entry, or the sum of
+    /// the right sides, doesn't fit.
     pub fn of_problem(alloc: Global, p: &Problem) -> Result<RevisedTable<T>, NoTable>
         requires { IsProblem p.now }
         ensures shape { IfOk result (λ t. shape_of_revised t ≡ shape_of_problem p.now) }
         ensures ok { IfOk result (λ t. table_of_revised t ≡ written_table ordered_fractions (problem_of p.now)) }
     {
         let one = one()?;
-        let given = plain_of(alloc, p)?;
+        let given = given_of(alloc, p)?;
         let width = p.rows + 1;
         let mut rows = rows_of(alloc, one, width)?;
         let mut pivot = pivot_room(alloc, one, width)?;
@@ -125,7 +128,8 @@ impl<T: RowNumber> RevisedTable<T> {
         self.basic[i]
     }
 
-    /// The number in a row and a plain column, over the denominator of the row. May give up; no clause says when.
+    /// The number in a row and a plain column, over the denominator of the row. Gives up likely where a sum of products
+    /// doesn't fit.
     pub fn number(&self, i: usize, j: usize) -> Option<T>
         requires i_in { i ≤ (shape_of_revised self.now).rows }
         requires j_in { j < plain (shape_of_revised self.now) }
@@ -134,7 +138,7 @@ impl<T: RowNumber> RevisedTable<T> {
         number_of(&self.given, &self.rows[i], i, j)
     }
 
-    /// Makes the numbers of a plain column, row by row, and keeps them. May give up; no clause says when.
+    /// Makes the numbers of a plain column, row by row, and keeps them. Gives up as `number` does.
     pub fn enter(&mut self, column: usize) -> Option<()>
         requires { column < plain (shape_of_revised self.old) }
         ensures shape { shape_of_revised self.new ≡ shape_of_revised self.old }
@@ -157,13 +161,13 @@ impl<T: RowNumber> RevisedTable<T> {
         self.entered[i]
     }
 
-    /// The least column below `among` with a negative number in the objective row, by numbers of 64 bits. May give up,
-    /// mostly since a top of the numbers doesn't fit these; no clause says when.
-    pub fn short_entering(&self, among: usize) -> Option<Option<usize>>
+    /// The least column below `among` with a negative number in the objective row, by numbers of 64 bits. Gives up
+    /// likely where a top of the numbers doesn't fit these.
+    pub fn short_entering(&self, among: usize) -> Found<usize>
         requires { among ≤ plain (shape_of_revised self.now) }
-        ensures value { IfSome result (λ r. r
-            ≡ least_negative (number_in self.now (shape_of_revised self.now).rows) among) }
-        ensures below { IfSome result (λ r. IfSome r (λ j. j < among)) }
+        ensures value { TellsFound result
+            (least_negative (number_in self.now (shape_of_revised self.now).rows) among) }
+        ensures below { IfFound result (λ j. j < among) }
     {
         short_negative(&self.given, &self.rows[self.given.first.rows], among)
     }
@@ -195,8 +199,9 @@ impl<T: RowNumber> RevisedTable<T> {
     }
 
     /// A pivot at a row and a column whose numbers are kept, and whose cell in the row isn't 0. `TooWide` names the
-    /// first operation that is too wide. It may also be given up; no clause says when. Both leave the table spent.
-    pub fn pivot(&mut self, row: usize, column: usize) -> Result<(), PivotRefusal>
+    /// first operation that is too wide. It may also be given up: likely at 64 bits where what a row step makes passes
+    /// these, and at 128 where besides no small common denominator is left. Both leave the table spent.
+    pub fn pivot(&mut self, row: usize, column: usize) -> Result<(), TurnRefusal>
         requires row_in { row < (shape_of_revised self.old).rows }
         requires column_in { column < plain (shape_of_revised self.old) }
         requires cell { ((table_of_revised self.old).cell row column).num ≢ pos 0 }
@@ -206,7 +211,7 @@ impl<T: RowNumber> RevisedTable<T> {
             ≡ pivoted_at ordered_fractions (shape_of_revised self.old) (table_of_revised self.old) row column) }
         ensures none { OnOk result (pivot_spot ordered_fractions (is_too_wide T.MAX) (shape_of_revised self.old)
             (table_of_revised self.old) row column ≡ None) }
-        ensures wide { IfErr result (λ e. TellsSpot e (pivot_spot ordered_fractions (is_too_wide T.MAX)
+        ensures refused { IfErr result (λ e. TellsSpot e (pivot_spot ordered_fractions (is_too_wide T.MAX)
             (shape_of_revised self.old) (table_of_revised self.old) row column)) }
     {
         self.basic[row] = column;
@@ -220,13 +225,13 @@ impl<T: RowNumber> RevisedTable<T> {
         )
     }
 
-    /// Sets the objective row to 0, its right side too. May give up; no clause says when.
+    /// Sets the objective row to 0, its right side too. Gives up likely nowhere.
     pub fn clear_objective(&mut self) -> Option<()>
         ensures shape { OnSome result (shape_of_revised self.new ≡ shape_of_revised self.old) }
         ensures ok { OnSome result (table_of_revised self.new
             ≡ clear_objective ordered_fractions (shape_of_revised self.old) (table_of_revised self.old)) }
     {
-        let one = T::from_wide(1)?;
+        let one = T::from_broad(1)?;
         let last = self.given.first.rows;
         clear_row(self.pivot.numbers.as_mut_slice());
         clear_row(self.given.own.as_mut_slice());
@@ -243,14 +248,14 @@ impl<T: RowNumber> RevisedTable<T> {
     }
 
     /// Sets the objective row to that of the factor: the row in which it is basic without its own cell, and where it
-    /// isn't basic -1 in its column alone. May give up; no clause says when.
+    /// isn't basic -1 in its column alone. Gives up likely nowhere.
     pub fn set_factor_objective(&mut self) -> Option<()>
         requires { (shape_of_revised self.old).factors ≡ 1 }
         ensures shape { OnSome result (shape_of_revised self.new ≡ shape_of_revised self.old) }
         ensures ok { OnSome result (table_of_revised self.new
             ≡ set_factor_objective ordered_fractions (shape_of_revised self.old) (table_of_revised self.old)) }
     {
-        let minus_one = T::from_wide(-1)?;
+        let minus_one = T::from_broad(-1)?;
         let last = self.given.first.rows;
         let row = row_with(self.basic.as_slice(), self.contacts);
         let under = factor_row(

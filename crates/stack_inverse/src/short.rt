@@ -1,17 +1,19 @@
 //! The least plain column with a negative number in the objective row, whose numbers are made in 64 bits.
 
 ghost use Rattle.std.specs.Prelude.{◌≡◌, ℕ, suc, ◌+◌, ◌*◌, ◌-◌, ◌^◌, ◌<◌, ◌≤◌, pos, ◌-ℤ◌, ◌*ℤ◌, ◌<ℤ◌, length};
-ghost use Rattle.std.specs.Prelude.{unsigned_abs, IfSome};
+ghost use Rattle.std.specs.Prelude.{unsigned_abs, IfSome, OnSome};
 ghost use Rattle.std.specs.List.{AllByRecursion};
+ghost use Rattle.stack_bland.specs.Found.{TellsFound, IfFound};
 ghost use Rattle.stack_rows.specs.RowForm.{number_at};
 ghost use Rattle.stack_inverse.specs.Columns.{IsOwn};
 ghost use Rattle.stack_inverse.specs.ShortRow.{products_in, product_sizes, own_number, IsShortRow, least_negative};
 
 use crate::columns::Cell;
 use crate::first::First;
+use crate::given::Given;
 use crate::making::{top_over, whole_top};
-use crate::plain::Plain;
 use crate::row::Row;
+use stack_bland::Found;
 use stack_rows::RowNumber;
 
 /// A number less a product. Most numbers of a row are 0.
@@ -92,7 +94,32 @@ fn first_negative<T: RowNumber>(
     None
 }
 
-/// The same where a top of the row's numbers fits 64 bits. May give up; no clause says when.
+/// The number 1, with which the numbers of a row are made in 64 bits, if a top of them fits these. Gives up likely
+/// where it doesn't.
+fn short_one<T: RowNumber>(
+    first: &First<T>,
+    own: &[T],
+    row: &[T],
+    under: T,
+    own_top: T,
+) -> Option<T>
+    requires width { length row.now ≡ suc first.now.rows }
+    requires within { IsOwn T.value own.now (T.value own_top) }
+    requires positive { pos 0 <ℤ T.value under }
+    ensures one { IfSome result (λ r. T.value r ≡ pos 1) }
+    ensures short { OnSome result (IsShortRow T.value first.now.columns.items own.now row.now (T.value under)) }
+{
+    let one = T::from_broad(1)?;
+    let top = top_over(row, first.rows);
+    let whole_top = whole_top(first, row, under, own_top, top)?;
+    if !whole_top.is_short() {
+        return None;
+    }
+    Some(one)
+}
+
+/// The least column below `among` in which a row has a negative number, where a top of its numbers fits 64 bits. Gives
+/// up likely where it doesn't.
 fn negative_in<T: RowNumber>(
     first: &First<T>,
     own: &[T],
@@ -100,44 +127,41 @@ fn negative_in<T: RowNumber>(
     under: T,
     own_top: T,
     among: usize,
-) -> Option<Option<usize>>
+) -> Found<usize>
     requires width { length row.now ≡ suc first.now.rows }
     requires among { among ≤ length first.now.columns.items }
     requires owns { length own.now ≡ length first.now.columns.items }
     requires within { IsOwn T.value own.now (T.value own_top) }
     requires positive { pos 0 <ℤ T.value under }
-    ensures value { IfSome result (λ r. r ≡ least_negative (own_number T.value first.now.rows
+    ensures value { TellsFound result (least_negative (own_number T.value first.now.rows
         first.now.columns.items own.now row.now (T.value under)) among) }
-    ensures below { IfSome result (λ r. IfSome r (λ j. j < among)) }
+    ensures below { IfFound result (λ j. j < among) }
 {
-    let one = T::from_wide(1)?;
-    let top = top_over(row, first.rows);
-    let whole_top = whole_top(first, row, under, own_top, top)?;
-    if !whole_top.is_short() {
-        return None;
+    let one = match short_one(first, own, row, under, own_top) {
+        Some(one) => one,
+        None => return Found::GaveUp,
+    };
+    match first_negative(first, own, row, under, one, among) {
+        Some(column) => Found::This(column),
+        None => Found::Nothing,
     }
-    Some(first_negative(first, own, row, under, one, among))
 }
 
 /// The least column below `among` in which the objective row has a negative number, where a top of its numbers fits 64
-/// bits. May give up; no clause says when.
-pub fn short_negative<T: RowNumber>(
-    plain: &Plain<T>,
-    row: &Row<T>,
-    among: usize,
-) -> Option<Option<usize>>
-    requires width { length row.now.numbers.items ≡ suc plain.now.first.rows }
-    requires among { among ≤ length plain.now.first.columns.items }
-    ensures value { IfSome result (λ r. r ≡ least_negative (own_number T.value plain.now.first.rows
-        plain.now.first.columns.items plain.now.own.items row.now.numbers.items (T.value row.now.under)) among) }
-    ensures below { IfSome result (λ r. IfSome r (λ j. j < among)) }
+/// bits. Gives up likely where it doesn't.
+pub fn short_negative<T: RowNumber>(given: &Given<T>, row: &Row<T>, among: usize) -> Found<usize>
+    requires width { length row.now.numbers.items ≡ suc given.now.first.rows }
+    requires among { among ≤ length given.now.first.columns.items }
+    ensures value { TellsFound result (least_negative (own_number T.value given.now.first.rows
+        given.now.first.columns.items given.now.own.items row.now.numbers.items (T.value row.now.under)) among) }
+    ensures below { IfFound result (λ j. j < among) }
 {
     negative_in(
-        &plain.first,
-        plain.own.as_slice(),
+        &given.first,
+        given.own.as_slice(),
         row.numbers.as_slice(),
         row.under,
-        plain.own_top,
+        given.own_top,
         among,
     )
 }

@@ -6,13 +6,15 @@ ghost use Rattle.stack_algebra.proofs.OrderedFractions.{ordered_fractions};
 ghost use Rattle.stack_rational.specs.Laws.{widest};
 ghost use Rattle.stack_rational.specs.TooWide.{is_too_wide};
 ghost use Rattle.stack_table.specs.Spots.{reduce_spot};
+ghost use Rattle.stack_bland.specs.Found.{TellsFound};
 ghost use Rattle.stack_inverse.specs.Columns.{row_cell};
 ghost use Rattle.stack_inverse.specs.RowsSeen.{seen_of, number_in_row, cell_in_row};
 ghost use Rattle.stack_inverse.specs.CellSteps.{TellsCell, TellsStep};
 
+use crate::given::Given;
 use crate::making::{number_of, row_number};
-use crate::plain::Plain;
 use crate::row::Row;
+use stack_bland::Found;
 use stack_rational::{Exact, Frac};
 use stack_rows::{Factors, RowNumber, cell, step_under};
 use stack_table::{PivotWide, Step};
@@ -82,15 +84,15 @@ fn step_spot<T: RowNumber>(s: RowStep<T>, factors: Factors<T>, own: T, pivot: T)
     }
 }
 
-/// The number of row i in any column, the right side last. May give up; no clause says when.
-fn number_in<T: RowNumber>(plain: &Plain<T>, row: &Row<T>, i: usize, j: usize) -> Option<T>
-    requires width { length row.now.numbers.items ≡ suc plain.now.first.rows }
-    requires column_in { j < suc (length plain.now.first.columns.items + plain.now.first.rows) }
-    ensures { IfSome result (λ r. T.value r ≡ number_in_row plain.now (seen_of row.now) i j) }
+/// The number of row i in any column, the right side last. Gives up likely where a sum of products doesn't fit.
+fn number_in<T: RowNumber>(given: &Given<T>, row: &Row<T>, i: usize, j: usize) -> Option<T>
+    requires width { length row.now.numbers.items ≡ suc given.now.first.rows }
+    requires column_in { j < suc (length given.now.first.columns.items + given.now.first.rows) }
+    ensures { IfSome result (λ r. T.value r ≡ number_in_row given.now (seen_of row.now) i j) }
 {
-    let count = plain.first.columns.len();
+    let count = given.first.columns.len();
     if j < count {
-        let number = number_of(plain, row, i, j)?;
+        let number = number_of(given, row, i, j)?;
         return Some(number);
     }
     Some(row.numbers[j - count])
@@ -100,47 +102,56 @@ fn number_in<T: RowNumber>(plain: &Plain<T>, row: &Row<T>, i: usize, j: usize) -
 pub fn is_widest<T: RowNumber>() -> bool
     ensures { result ≡ true → T.MAX ≡ widest }
 {
-    match T::from_wide(170141183460469231731687303715884105727) {
+    match T::from_broad(i128::MAX) {
         Some(_most) => true,
         None => false,
     }
 }
 
-/// The first step of row i that is too wide, if there is one. May give up; no clause says when.
+/// The first step of row i that is too wide, if there is one. Gives up likely where a number of either row doesn't fit.
 pub fn row_spot<T: RowNumber>(
-    plain: &Plain<T>,
+    given: &Given<T>,
     row: &Row<T>,
     pivot: &[T],
     s: RowStep<T>,
     factors: Factors<T>,
     i: usize,
-) -> Option<Option<PivotWide>>
+) -> Found<PivotWide>
     requires widest { T.MAX ≡ widest }
-    requires width { length row.now.numbers.items ≡ suc plain.now.first.rows }
-    requires pivot_width { length pivot.now ≡ suc plain.now.first.rows }
+    requires width { length row.now.numbers.items ≡ suc given.now.first.rows }
+    requires pivot_width { length pivot.now ≡ suc given.now.first.rows }
     requires under { T.value s.under ≡ T.value row.now.under }
     requires pivot_under { pos 0 <ℤ T.value s.pivot_under }
     requires some { pos 0 <ℤ T.value factors.times }
     requires cross { T.value s.factor *ℤ T.value factors.times ≡ T.value factors.less *ℤ T.value s.pivot_under }
-    ensures { IfSome result (λ r. r ≡ reduce_spot ordered_fractions (is_too_wide widest)
-        (suc (length plain.now.first.columns.items + plain.now.first.rows)) (cell_in_row plain.now (seen_of row.now) i)
-        (row_cell T.value plain.now.first.rows plain.now.first.columns.items pivot.now (T.value s.pivot_under))
+    ensures { TellsFound result (reduce_spot ordered_fractions (is_too_wide widest)
+        (suc (length given.now.first.columns.items + given.now.first.rows)) (cell_in_row given.now (seen_of row.now) i)
+        (row_cell T.value given.now.first.rows given.now.first.columns.items pivot.now (T.value s.pivot_under))
         (over (T.value s.factor) (T.value s.under)) i) }
 {
-    let count = plain.first.columns.len();
+    let count = given.first.columns.len();
     let rest = pivot.len();
-    let columns = count.checked_add(rest)?;
+    let columns = match count.checked_add(rest) {
+        Some(columns) => columns,
+        None => return Found::GaveUp,
+    };
     for j in 0..columns {
-        let number = number_in(plain, row, i, j)?;
-        let other = row_number(&plain.first, pivot, j)?;
+        let number = match number_in(given, row, i, j) {
+            Some(number) => number,
+            None => return Found::GaveUp,
+        };
+        let other = match row_number(&given.first, pivot, j) {
+            Some(other) => other,
+            None => return Found::GaveUp,
+        };
         match step_spot(s, factors, number, other) {
-            Some(step) => return Some(Some(PivotWide {
+            Some(step) => return Found::This(PivotWide {
                 row: i,
                 column: j,
                 step,
-            })),
+            }),
             None => {}
         }
     }
-    Some(None)
+    Found::Nothing
 }

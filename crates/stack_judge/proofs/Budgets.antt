@@ -1,14 +1,10 @@
 -- The columns of the table of a survey's problem, and that a budget which is enough for them is never spent.
 use Rattle.std.proofs.Common.{◌≡◌, refl, ap, subst, ◌∙◌, ℕ, ◌+◌, ◌*◌, ◌≤◌, length, Option, Some, None, Result, Err}
-use Rattle.stack_algebra.specs.Fraction.{Fraction}
-use Rattle.stack_rational.specs.Laws.{widest}
-use Rattle.stack_rational.specs.TooWide.{is_too_wide}
-use Rattle.stack_contact.specs.Surveyed.{Surveyed}
-use Rattle.stack_certificate.specs.declared.types.Certificate.{Certificate}
-use Rattle.stack_certificate.specs.Certificate.{CertificateValue}
+use Rattle.stack_equilibrium.proofs.Common.{Certificate, CertificateValue, Fraction, Surveyed, scene_of}
 use Rattle.stack_equilibrium.specs.declared.types.Question.{Question}
+use Rattle.stack_rational.specs.TooWide.{is_too_wide}
+use Rattle.stack_rational.specs.Laws.{widest}
 use Rattle.stack_equilibrium.specs.declared.types.Question.TheVariants.{Dead, Live}
-use Rattle.stack_equilibrium.specs.SurveyScene.{scene_of}
 use Rattle.stack_posing.specs.FreeBodies.{FreeNumbersAreThoseOfSurveys}
 use Rattle.stack_run.specs.WrittenRun.{End, infeasible, feasible, optimal, ray, wide, over, never}
 use Rattle.stack_run.specs.Enough.{enough_of}

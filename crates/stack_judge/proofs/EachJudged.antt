@@ -1,13 +1,9 @@
 -- No end of the run of a survey's problem is left unjudged.
 use Rattle.std.proofs.Common.{◌≢◌, Option, Some, None}
-use Rattle.stack_algebra.specs.Fraction.{Fraction}
-use Rattle.stack_algebra.proofs.OrderedFractions.{ordered_fractions}
-use Rattle.stack_rational.specs.Laws.{widest}
-use Rattle.stack_rational.specs.TooWide.{is_too_wide}
-use Rattle.stack_contact.specs.Surveyed.{Surveyed}
-use Rattle.stack_certificate.specs.Certificate.{CertificateValue}
+use Rattle.stack_equilibrium.proofs.Common.{CertificateValue, Fraction, Surveyed, ordered_fractions, scene_of}
 use Rattle.stack_equilibrium.specs.declared.types.Question.{Question}
-use Rattle.stack_equilibrium.specs.SurveyScene.{scene_of}
+use Rattle.stack_rational.specs.TooWide.{is_too_wide}
+use Rattle.stack_rational.specs.Laws.{widest}
 use Rattle.stack_table.specs.Problem.{Problem}
 use Rattle.stack_run.specs.WrittenRun.{End, infeasible, feasible, optimal, ray, wide, over, never}
 use Rattle.stack_run.specs.FourEnds.{EndGives}

@@ -1,19 +1,15 @@
 -- A certificate that is the judgement of a survey is judged: true, of its question, of numbers that fit, accepted.
 use Rattle.std.proofs.Common.{◌≡◌, refl, sym, subst, ℕ, ◌≤◌, Option, Some, None}
 use Rattle.std.specs.Bool.{⊤}
-use Rattle.stack_algebra.specs.Fraction.{Fraction}
-use Rattle.stack_algebra.proofs.Search.{or_none}
-use Rattle.stack_rational.specs.Laws.{widest}
-use Rattle.stack_rational.specs.TooWide.{is_too_wide}
-use Rattle.stack_contact.specs.Surveyed.{Surveyed}
-use Rattle.stack_contact.proofs.Frees.{as_many}
-use Rattle.stack_certificate.specs.Certificate.{CertificateValue}
+use Rattle.stack_equilibrium.proofs.Common.{CertificateValue, Fraction, IsProper, IsTrueCertificate, Surveyed}
+use Rattle.stack_equilibrium.proofs.Common.{most_free, or_none, scene_of}
 use Rattle.stack_equilibrium.specs.declared.types.Question.{Question}
+use Rattle.stack_rational.specs.TooWide.{is_too_wide}
+use Rattle.stack_rational.specs.Laws.{widest}
+use Rattle.stack_contact.proofs.Frees.{as_many}
 use Rattle.stack_equilibrium.specs.declared.types.Question.TheVariants.{Dead, Live}
-use Rattle.stack_equilibrium.specs.SurveyScene.{scene_of}
-use Rattle.stack_equilibrium.specs.Truth.{IsTrueCertificate, IsOfQuestion}
+use Rattle.stack_equilibrium.specs.Truth.{IsOfQuestion}
 use Rattle.stack_equilibrium.proofs.BearingSizes.{survey_proper}
-use Rattle.stack_statics.specs.Scene.{IsProper}
 use Rattle.stack_checker.specs.declared.types.Check.{Check}
 use Rattle.stack_checker.specs.declared.types.Check.TheVariants.{Accepted, Rejected, TooWide}
 use Rattle.stack_checker.specs.WrittenCheck.{written_check}
@@ -122,5 +118,5 @@ are_judged q v budget c sound survey h =
     let both = or_none (lists_place q v x) (check_place v (end_certificate q v x)) f.fit in
     let checked : check_place v (Some c) ≡ None = subst (λ o. check_place v o ≡ None) f.is both.1 in
     judged ends_are_certified q v x c proper survey.few
-    (subst (λ n. n ≤ 128) (sym (as_many v.structure.bodies 0)) sound.few_free) (run_ends q v budget) both.0 f.is
+    (subst (λ n. n ≤ most_free) (sym (as_many v.structure.bodies 0)) sound.few_free) (run_ends q v budget) both.0 f.is
     (accepts v c (written_check v c) t.holds refl checked) (shows v c proper t.holds)

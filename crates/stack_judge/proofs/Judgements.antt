@@ -1,10 +1,10 @@
 -- The judgement of a survey by what was made of its run.
 use Rattle.std.proofs.Common.{◌≡◌, refl, sym, ap, ◌∙◌, ℕ, Bool, Result, Ok, Err}
 use lib.IntN.{ℤ}
-use Rattle.stack_algebra.specs.Fraction.{Fraction}
-use Rattle.stack_algebra.proofs.OrderedFractions.{ordered_fractions}
+use Rattle.stack_equilibrium.proofs.Common.{Certificate, Fraction, Surveyed, ordered_fractions, scene_of}
+use Rattle.stack_equilibrium.specs.declared.types.Question.{Question}
+use Rattle.stack_rational.specs.declared.exact.Exact.{Ghosts}
 use Rattle.stack_rational.specs.TooWide.{is_too_wide}
-use Rattle.stack_equilibrium.specs.SurveyScene.{scene_of}
 use Rattle.stack_table.specs.declared.problem.Problem.{Problem as Lent}
 use Rattle.stack_table.specs.declared.table.Table.{Table}
 use Rattle.stack_table.specs.Table.{Shape, Tabled}
@@ -20,13 +20,9 @@ use Rattle.stack_tableau.specs.declared.end_kind.EndKind.{EndKind}
 use Rattle.stack_tableau.specs.declared.end_kind.EndKind.TheVariants as kinds
 use Rattle.stack_tableau.specs.EndKinds.{end_at}
 use Rattle.stack_extract.specs.Ends.{IsEndOfSurvey, IsLastOf}
-use Rattle.stack_contact.specs.Surveyed.{Surveyed}
-use Rattle.stack_certificate.specs.declared.types.Certificate.{Certificate}
-use Rattle.stack_equilibrium.specs.declared.types.Question.{Question}
 use Rattle.stack_run.specs.WrittenRun.{End, written_run}
 use Rattle.stack_run.specs.ProblemRun.{run_at}
 use Rattle.stack_extract.specs.Certified.{end_certificate}
-use Rattle.stack_rational.specs.declared.exact.Exact.{Ghosts}
 use Rattle.stack_tableau.specs.declared.ended.Ended.{Ended}
 use Rattle.stack_tableau.specs.declared.ended.Ended.TheVariants as ends
 use Rattle.stack_tableau.specs.LastTables.{ended_as, last_of}

@@ -1,14 +1,11 @@
 -- A run at 64 bits that is nowhere too wide is the survey's, and what it comes to is the judgement.
 use Rattle.std.proofs.Common.{◌≡◌, refl, sym, ap, subst, ◌∙◌, ℕ, ◌≤◌, Bool, true, false, ◌&&◌, Some, None, Result, Ok}
 use Rattle.std.proofs.Common.{Err, arith, unsigned_abs, IfOk}
-use Rattle.stack_algebra.specs.Fraction.{Fraction}
-use Rattle.stack_algebra.proofs.OrderedFractions.{ordered_fractions}
-use Rattle.stack_rational.specs.Laws.{widest}
-use Rattle.stack_rational.specs.TooWide.{is_too_wide}
-use Rattle.stack_rational.specs.declared.exact.Exact.{Ghosts}
-use Rattle.stack_contact.specs.Surveyed.{Surveyed}
+use Rattle.stack_equilibrium.proofs.Common.{Fraction, Surveyed, ordered_fractions, scene_of}
 use Rattle.stack_equilibrium.specs.declared.types.Question.{Question}
-use Rattle.stack_equilibrium.specs.SurveyScene.{scene_of}
+use Rattle.stack_rational.specs.declared.exact.Exact.{Ghosts}
+use Rattle.stack_rational.specs.TooWide.{is_too_wide}
+use Rattle.stack_rational.specs.Laws.{widest}
 use Rattle.stack_table.specs.declared.problem.BuildError.{BuildError}
 use Rattle.stack_table.specs.Problem.{Problem}
 use Rattle.stack_table.specs.WrittenTable.{wide_place}

@@ -6,22 +6,17 @@ use Rattle.std.specs.List.{All}
 use Rattle.std.specs.Bool.{⊤}
 use Rattle.std.proofs.lemmas.Bool.{ltb-true, ltb-false}
 use Rattle.std.proofs.lemmas.List.{take_all, get_or_past, length-map}
+use Rattle.stack_equilibrium.proofs.Common.{Bearing, CertificateValue, Fraction, IsFitting, Surveyed, fits, frees_of}
+use Rattle.stack_equilibrium.proofs.Common.{left_true, length_listed, listed, listed_item, most_bearings, most_free}
+use Rattle.stack_equilibrium.proofs.Common.{no_bearing, or_none, right_true, scene_of}
+use Rattle.stack_equilibrium.specs.declared.types.Question.{Question}
 use native.Mathlib.Decide.{dec_le}
 use lib.IntN.{ℤ, pos, negsuc, ◌+ℤ◌, ◌-ℤ◌, ◌*ℤ◌}
-use Rattle.stack_algebra.specs.Fraction.{Fraction}
-use Rattle.stack_algebra.specs.Listed.{listed}
-use Rattle.stack_algebra.proofs.Listed.{length_listed, listed_item}
-use Rattle.stack_algebra.proofs.Search.{first-none, or_none, only_if-none}
-use Rattle.stack_whole.specs.Whole.{greatest_number, IsFitting, fits}
+use Rattle.stack_algebra.proofs.Search.{first-none, only_if-none}
+use Rattle.stack_whole.specs.Whole.{greatest_number}
 use Rattle.stack_rational.specs.CommonScale.{scale_of, times_scale}
-use Rattle.stack_contact.specs.declared.types.Bearing.{Bearing}
-use Rattle.stack_contact.specs.FreeBlocks.{frees_of}
-use Rattle.stack_contact.specs.Surveyed.{Surveyed}
-use Rattle.stack_certificate.specs.Certificate.{CertificateValue}
 use Rattle.stack_certificate.specs.CertificateText.{PartFits, MoveFits, ForcesFit, MotionFits, CertificateFits}
 use Rattle.stack_certificate.specs.CertificateText.{ForcesAreFew, MotionIsFew, IsFew}
-use Rattle.stack_equilibrium.specs.declared.types.Question.{Question}
-use Rattle.stack_equilibrium.specs.SurveyScene.{scene_of, no_bearing}
 use Rattle.stack_posing.specs.FreeBodies.{free_bodies}
 use Rattle.stack_posing.proofs.FreeBodies.{free_numbers_are_those_of_surveys}
 use Rattle.stack_table.specs.Table.{Tabled}
@@ -40,7 +35,6 @@ use Rattle.stack_extract.specs.Places.{extract_place, scale_spot, whole_spot, li
 use Rattle.stack_extract.specs.Places.{part_place, push_place, forces_place, ray_place, collapse_place, bound_place}
 use Rattle.stack_extract.specs.Places.{shift_place}
 use Rattle.stack_judge.specs.EndPlace.{in_end, lists_place}
-use Rattle.stack_algebra.proofs.Conjunctions.{left_true, right_true}
 
 -- the test says that the number fits
 pub fitting : (z : ℤ) → fits z ≡ true → IsFitting z
@@ -171,7 +165,8 @@ abbrev FewIf : Option CertificateValue → Type 0
 FewIf None = ⊤
 FewIf (Some c) = IsFew c
 
-module _ (v : Surveyed) (bearings : length v.bearings ≤ 1024) (frees : length (frees_of v.structure.bodies) ≤ 128) where
+module _ (v : Surveyed) (bearings : length v.bearings ≤ most_bearings)
+    (frees : length (frees_of v.structure.bodies) ≤ most_free) where
   few_parts : (scale : ℤ) (zs : List ℤ) → ForcesAreFew (forces_value v.bearings scale zs)
   few_parts scale zs = let n = length_listed (length v.bearings) (pair_at v.bearings zs) in omega (arith, n, bearings)
 

@@ -1,11 +1,9 @@
 -- What the revised run of a survey's problem tells of its judgement.
 use Rattle.std.proofs.Common.{◌≡◌, refl, sym, ap, ◌∙◌, ℕ, Bool, true, eqb}
 use Rattle.std.proofs.lemmas.Bool.{eq-eqb}
-use Rattle.stack_algebra.specs.Fraction.{Fraction}
-use Rattle.stack_rational.specs.Laws.{widest}
-use Rattle.stack_contact.specs.Surveyed.{Surveyed}
+use Rattle.stack_equilibrium.proofs.Common.{Fraction, Surveyed, scene_of}
 use Rattle.stack_equilibrium.specs.declared.types.Question.{Question}
-use Rattle.stack_equilibrium.specs.SurveyScene.{scene_of}
+use Rattle.stack_rational.specs.Laws.{widest}
 use Rattle.stack_table.specs.declared.problem.Problem.{Problem as Lent}
 use Rattle.stack_table.specs.Lent.{problem_of, shape_of_problem}
 use Rattle.stack_table.specs.Problem.{Problem, flipped}

@@ -1,12 +1,8 @@
 -- What is given out of the end of a survey's run is judged: true, of its question, of numbers that fit, accepted.
 use Rattle.std.proofs.Common.{◌≡◌, ◌≤◌, Some, None, length}
-use Rattle.stack_algebra.specs.Fraction.{Fraction}
-use Rattle.stack_contact.specs.FreeBlocks.{frees_of}
-use Rattle.stack_contact.specs.Surveyed.{Surveyed}
-use Rattle.stack_certificate.specs.Certificate.{CertificateValue}
+use Rattle.stack_equilibrium.proofs.Common.{CertificateValue, Fraction, IsProper, Surveyed, frees_of, most_bearings}
+use Rattle.stack_equilibrium.proofs.Common.{most_free, scene_of}
 use Rattle.stack_equilibrium.specs.declared.types.Question.{Question}
-use Rattle.stack_statics.specs.Scene.{IsProper}
-use Rattle.stack_equilibrium.specs.SurveyScene.{scene_of}
 use Rattle.stack_checker.specs.declared.types.Check.TheVariants.{Accepted}
 use Rattle.stack_checker.specs.WrittenCheck.{written_check}
 use Rattle.stack_checker.specs.Shown.{Shows}
@@ -18,7 +14,7 @@ use Rattle.stack_judge.specs.EndPlace.{lists_place}
 use Rattle.stack_judge.proofs.NumbersFit.{certificate_fits, certificate_few, fits_if, few_if}
 
 pub judged : EndsAreCertified → (q : Question) (v : Surveyed) (x : End Fraction) (c : CertificateValue)
-    → IsProper (scene_of v) → length v.bearings ≤ 1024 → length (frees_of v.structure.bodies) ≤ 128
+    → IsProper (scene_of v) → length v.bearings ≤ most_bearings → length (frees_of v.structure.bodies) ≤ most_free
     → IsEndOfRun q v x → lists_place q v x ≡ None → end_certificate q v x ≡ Some c → written_check v c ≡ Accepted
     → Shows v c → IsJudged q v c
 judged certified q v x c proper bearings frees run fit is check shown =

@@ -65,9 +65,7 @@ pub fn certify_at<L: LastTable>(
     // laws of surveys, on which the last clause stands
     proper(s);
     certified_laws();
-    // at most 1,024 bearings and 128 free blocks
-    let _bearings = s.bearings();
-    let _free = s.free_count();
+    s.within();
     let certificate = match make(alloc, s, kind, t) {
         Ok(certificate) => certificate,
         Err(ExtractError::TooWide(place)) => return Err(JudgeError::TooWide(JudgePlace::End(

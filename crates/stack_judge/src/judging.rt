@@ -58,7 +58,7 @@ fn refused(error: RunError, budget: u32) -> JudgeError
 }
 
 /// The judgement by the run at 128 bits.
-pub fn judge_wide(
+pub fn judge_broad(
     alloc: Global,
     s: &Survey,
     q: Question,
@@ -94,7 +94,7 @@ fn judge_by_width(
     match judge_narrow(alloc, s, q, budget) {
         Some(Ok(certificate)) => Ok((certificate, true)),
         Some(Err(error)) => Err(error),
-        None => match judge_wide(alloc, s, q, budget) {
+        None => match judge_broad(alloc, s, q, budget) {
             Ok(certificate) => Ok((certificate, false)),
             Err(error) => Err(error),
         },
@@ -137,7 +137,7 @@ fn judge_by_run(
     }
     match judge_revised(alloc, s, q, budget) {
         Some(judged) => judged,
-        None => judge_wide(alloc, s, q, budget),
+        None => judge_broad(alloc, s, q, budget),
     }
 }
 

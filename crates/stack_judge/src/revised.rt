@@ -64,7 +64,7 @@ pub fn judge_revised(
     };
     match run_revised(alloc, &problem, budget) {
         Ok(RevisedEnd::AtNarrow(last)) => Some(certify_last(alloc, s, &last)),
-        Ok(RevisedEnd::AtWide(last)) => Some(certify_last(alloc, s, &last)),
+        Ok(RevisedEnd::AtBroad(last)) => Some(certify_last(alloc, s, &last)),
         Err(stop) => stopped(stop, budget),
     }
 }

@@ -9,6 +9,7 @@ use Rattle.std.proofs.Math.Seq.{get_or-append_seam}
 use Rattle.std.proofs.lemmas.List.Sums.{sum_by-append}
 use Rattle.std.proofs.lemmas.List.Folds.{list_any_at}
 use Rattle.std.proofs.lemmas.Slice.Eq.{bytes_eq-Decides}
+use Rattle.stack_whole.specs.Limits.{most_free}
 use Rattle.stack_model.specs.Structure.{NamedMaterial, NamedBody}
 use Rattle.stack_model.specs.Content.{is_new, material_names, body_names}
 use Rattle.stack_model.specs.Sound.{AreDifferent, fixed_among, free_among}
@@ -49,7 +50,7 @@ one_more_material ms m new different = subst AreDifferent (sym (map-append (λ m
 -- what the bodies of a file keep, one after the other
 pub record AreApart (bs : List NamedBody) : Type 0 where
   pub different : AreDifferent (body_names bs)
-  pub few_free : free_among bs ≤ 128
+  pub few_free : free_among bs ≤ most_free
   pub few_fixed : fixed_among bs ≤ 64
 
 pub no_bodies : AreApart []
@@ -65,7 +66,7 @@ one_more_counted p bs b = sum_by-append (λ x. cond (p x) 1 0) bs (b ∷ []) ∙
 -- there is room for it
 abbrev pub HasRoom : Bool → List NamedBody → Type 0
 HasRoom true bs = fixed_among bs < 64
-HasRoom false bs = free_among bs < 128
+HasRoom false bs = free_among bs < most_free
 
 pub one_more_body : (bs : List NamedBody) (b : NamedBody) → is_new b.name (body_names bs) ≡ true
     → HasRoom b.fixed bs → AreApart bs → AreApart (bs ++ b ∷ [])
@@ -76,7 +77,7 @@ one_more_body bs b new room h = record {
   few_fixed = rw (one_more_counted (λ b. b.fixed) bs b) (fixeds b.fixed room);
 }
   where
-    frees : (f : Bool) → HasRoom f bs → free_among bs + cond (not f) 1 0 ≤ 128
+    frees : (f : Bool) → HasRoom f bs → free_among bs + cond (not f) 1 0 ≤ most_free
     frees true r = let l = h.few_free in omega arith
     frees false r = omega (arith, r)
 

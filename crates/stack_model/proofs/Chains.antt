@@ -9,7 +9,8 @@ use Rattle.stack_model.specs.declared.places.Key.{Key}
 use Rattle.stack_model.specs.declared.errors.ModelError.{ModelError}
 use Rattle.stack_model.specs.declared.errors.ModelError.TheVariants.{Memory}
 use Rattle.stack_model.specs.Gives.{Fails, Gives}
-use Rattle.stack_model.specs.Content.{unless, ranged, found}
+use Rattle.stack_whole.specs.Demands.{unless}
+use Rattle.stack_model.specs.Content.{ranged, found}
 
 -- a test that held
 pub held : (b : Bool) (e : ModelError) (x : ⊤) → unless b e ≡ Ok x → b ≡ true
@@ -58,6 +59,11 @@ ranged_runs s j k h g = ap (λ o. ranged s j o >>= k) h ∙ g
 pub found_runs : {B : Type 0} {o : Option ℕ} {n : ℕ} {y : B} (e : ModelError) (k : ℕ → Result B ModelError)
     → o ≡ Some n → k n ≡ Ok y → (found o e >>= k) ≡ Ok y
 found_runs e k h g = ap (λ o. found o e >>= k) h ∙ g
+
+-- a refusal that is the defined one
+pub fails_as : {A : Type 0} {r : Result A ModelError} (e : ModelError) → r ≡ Err e → Fails e r
+fails_as Memory h = tt
+fails_as e h = h
 
 -- a chain that is refused at its first step, or later
 pub any_fails : {A B : Type 0} (e : ModelError) (r : Result A ModelError) (k : A → Result B ModelError) → Fails e r

@@ -10,7 +10,8 @@ use Rattle.stack_model.specs.declared.places.Key.TheVariants as keys
 use Rattle.stack_model.specs.Structure.{Structure, IsSway, is_still}
 use Rattle.stack_model.specs.Parts.{PartLists, IsOfVersion}
 use Rattle.stack_model.specs.Limits.{is_version, sway_of}
-use Rattle.stack_model.specs.Content.{unless, ranged, sway_listed, head_of}
+use Rattle.stack_whole.specs.Demands.{unless}
+use Rattle.stack_model.specs.Content.{ranged, sway_listed, head_of}
 use Rattle.stack_model.specs.Relisted.{sway_relisted, relisted}
 use Rattle.stack_model.specs.Sound.{IsOfItsVersion}
 use Rattle.stack_model.proofs.Items.{still}

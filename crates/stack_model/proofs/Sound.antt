@@ -13,7 +13,7 @@ use Rattle.stack_model.specs.declared.errors.ModelError.{ModelError}
 use Rattle.stack_model.specs.Structure.{NamedMaterial, NamedBody, structure_with, IsWithinLimits, HasJointLimits}
 use Rattle.stack_model.specs.Structure.{HasBodyLimits}
 use Rattle.stack_model.specs.Parts.{LoadPart, PartLists, IsOfVersion}
-use Rattle.stack_model.specs.Limits.{point_of, live_of, force_of}
+use Rattle.stack_model.specs.Limits.{point_of, live_of, force_of, most_bodies}
 use Rattle.stack_model.specs.Content.{at_most, is_free, number_of, material_names, body_names, add_material, add_joint}
 use Rattle.stack_model.specs.Content.{add_block, add_load, head_of, joints_of, bodies_of, loads_of}
 use Rattle.stack_polygon.proofs.Ranges.{in_range}
@@ -106,7 +106,7 @@ sound parts sway ms js bs ls of_its_version head lists bodies loads =
     let s = list_steps (at_most 64 (length parts.materials) whats.Materials)
     (at_most 256 (length parts.joints) whats.Joints) (steps add_material 0 [] parts.materials)
     (λ ms. steps (add_joint ms) 0 [] parts.joints) (ms, js) lists in
-    let t = counted (at_most 192 (length parts.blocks) whats.Blocks) (steps (add_block ms) 0 [] parts.blocks) bs
+    let t = counted (at_most most_bodies (length parts.blocks) whats.Blocks) (steps (add_block ms) 0 [] parts.blocks) bs
     bodies in
     let u = counted (at_most 256 (length parts.loads) whats.Loads) (steps (add_load bs) 0 [] parts.loads) ls loads in
     let m = grown add_material IsWithinLimits (λ ms. AreDifferent (material_names ms))
@@ -118,7 +118,7 @@ sound parts sway ms js bs ls of_its_version head lists bodies loads =
     let l = grown (add_load bs) (IsBorne bs) (λ _. ⊤) (load_adds bs) tt parts.loads ls u.1 in
     let few_m = few 64 _ _ whats.Materials tt m.count s.few_materials in
     let few_j = few 256 _ _ whats.Joints tt j.count s.few_joints in
-    let few_b = few 192 _ _ whats.Blocks tt b.count t.0 in
+    let few_b = few most_bodies _ _ whats.Blocks tt b.count t.0 in
     let few_l = few 256 _ _ whats.Loads tt l.count u.0 in
     record {
       materials = λ i lt. m.keeps i _ lt;

@@ -3,13 +3,16 @@ use Rattle.std.proofs.Common.{◌≡◌, ℕ, ◌<◌, ◌≤◌, pos, Bool, tru
 use Rattle.std.proofs.Common.{get_or, Some, Ok, refl, sym, ap, ◌∙◌, subst}
 use Rattle.std.proofs.lemmas.Bool.{le-leb, lt-ltb}
 use Rattle.std.proofs.lemmas.List.{length-map, get_or-map}
+use Rattle.stack_model.specs.Limits.{most_bodies}
+use Rattle.stack_whole.specs.Limits.{most_free, greatest_weight}
 use Rattle.stack_polygon.proofs.Ranges.{to_range}
 use Rattle.stack_model.specs.declared.places.What.{What}
 use Rattle.stack_model.specs.declared.places.What.TheVariants as whats
 use Rattle.stack_model.specs.declared.errors.ModelError.TheVariants.{TooMany}
 use Rattle.stack_model.specs.Structure.{NamedMaterial, NamedBody, Structure, material_of, body_of}
 use Rattle.stack_model.specs.Structure.{IsWithinLimits, HasJointLimits, HasBodyLimits, IsCarried}
-use Rattle.stack_model.specs.Content.{unless, at_most, number_of, has_room, material_names, body_names}
+use Rattle.stack_whole.specs.Demands.{unless}
+use Rattle.stack_model.specs.Content.{at_most, number_of, has_room, material_names, body_names}
 use Rattle.stack_model.specs.Content.{with_material, add_material, with_body, add_joint, add_block, add_load, joints_of}
 use Rattle.stack_model.specs.Content.{bodies_of, loads_of, content_of}
 use Rattle.stack_model.specs.Relisted.{material_listed, joint_listed, body_listed, load_listed}
@@ -30,7 +33,7 @@ module _ (s : Structure) (h : IsSound s) where
       let t = item_at before x after s.materials _ e in
       let m = subst IsWithinLimits t.1 (h.materials (length before) t.0) in
       unless_runs _ (passes_name x.name m.named)
-      (unless_runs _ (is_within (pos 0) (pos 1000000) x.weight m.least_weight m.most_weight)
+      (unless_runs _ (is_within (pos 0) greatest_weight x.weight m.least_weight m.most_weight)
       (ranged_runs _ _ _ (passes_friction x.p x.q m.least_p m.most_p m.least_q m.most_q)
       (unless_runs _ (new_at (material_names before) (material_names after) x.name
       (subst AreDifferent (sym (parts_mapped _ before x after s.materials e)) h.different_materials)) refl)))
@@ -60,9 +63,9 @@ module _ (s : Structure) (h : IsSound s) where
       go : (t : Bool) → x.fixed ≡ t → has_room t before ≡ Ok tt
       go true f = ap (λ t. unless t (TooMany whats.Fixed)) (lt-ltb (fixed_among before) 64
           (room_at (λ b. b.fixed) before after x 64 f (subst (λ bs. fixed_among bs ≤ 64) (sym e) h.few_fixed)))
-      go false f = ap (λ t. unless t (TooMany whats.Free)) (lt-ltb (free_among before) 128
-          (room_at (λ b. not b.fixed) before after x 128 (ap not f)
-          (subst (λ bs. free_among bs ≤ 128) (sym e) h.few_free)))
+      go false f = ap (λ t. unless t (TooMany whats.Free)) (lt-ltb (free_among before) most_free
+          (room_at (λ b. not b.fixed) before after x most_free (ap not f)
+          (subst (λ bs. free_among bs ≤ most_free) (sym e) h.few_free)))
 
   blocks_taken : EachTaken (add_block s.materials) (body_listed s.materials) s.bodies
   unfolding add_block with_body
@@ -105,7 +108,7 @@ taken s h =
     (any_runs _ (all_taken add_material material_listed ms (materials_taken s h))
     (any_runs _ (few 256 _ _ whats.Joints (length-map s.joints (joint_listed ms)) h.few_joints)
     (any_runs _ (all_taken (add_joint ms) (joint_listed ms) s.joints (joints_taken s h)) refl))))
-    (any_runs _ (any_runs _ (few 192 _ _ whats.Blocks (length-map s.bodies (body_listed ms)) h.few_bodies)
+    (any_runs _ (any_runs _ (few most_bodies _ _ whats.Blocks (length-map s.bodies (body_listed ms)) h.few_bodies)
     (all_taken (add_block ms) (body_listed ms) s.bodies (blocks_taken s h)))
     (any_runs _ (any_runs _ (few 256 _ _ whats.Loads (length-map s.loads (load_listed s.bodies)) h.few_loads)
     (all_taken (add_load s.bodies) (load_listed s.bodies) s.loads (loads_taken s h))) refl)))

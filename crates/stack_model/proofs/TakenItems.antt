@@ -3,6 +3,7 @@ use Rattle.std.proofs.Common.{◌≡◌, ℕ, ◌<◌, pos, Bool, true, false, L
 use Rattle.std.proofs.Common.{Ok, subst, arith, nat_lt, is_none}
 use Rattle.std.proofs.lemmas.List.{length-map}
 use Rattle.std.proofs.lemmas.Int.{ints}
+use Rattle.stack_whole.specs.Limits.{most_free, greatest_weight}
 use Rattle.stack_model.specs.declared.types.Joint.{Joint}
 use Rattle.stack_model.specs.Structure.{NamedMaterial, NamedBody, IsWithinLimits, HasJointLimits, HasBodyLimits}
 use Rattle.stack_model.specs.Structure.{joint_terms}
@@ -24,13 +25,13 @@ pub material_adds : (i : ℕ) (ms : List NamedMaterial) (m : MaterialPart) (ns :
 unfolding add_material with_material
 material_adds i ms m ns h =
     unless_went (is_name m.name) _ _ h
-    (λ named h. unless_went (is_between (pos 0) (pos 1000000) m.weight) _ _ h
+    (λ named h. unless_went (is_between (pos 0) greatest_weight m.weight) _ _ h
     (λ weighed h. ranged_went _ _ (friction_of m.friction) _ h
     (λ f taken h. unless_went (is_new m.name (material_names ms)) _ _ h
     (λ new h.
     let made : NamedMaterial = record { name = m.name; weight = m.weight; p = f.0; q = f.1 } in
     let is : ms ++ made ∷ [] ≡ ns = cc in
-    let w = between (pos 0) (pos 1000000) m.weight weighed in
+    let w = between (pos 0) greatest_weight m.weight weighed in
     let c = coefficient m.friction f taken in
     record {
       item = made;
@@ -82,7 +83,7 @@ joint_adds ms i js j ns h =
 -- there was room for one more body
 roomy : (fixed : Bool) (bs : List NamedBody) → has_room fixed bs ≡ Ok tt → HasRoom fixed bs
 roomy true bs h = let t = held (nat_lt (fixed_among bs) 64) _ tt h in grind (arith, ints)
-roomy false bs h = let t = held (nat_lt (free_among bs) 128) _ tt h in grind (arith, ints)
+roomy false bs h = let t = held (nat_lt (free_among bs) most_free) _ tt h in grind (arith, ints)
 
 pub block_adds : (ms : List NamedMaterial) (i : ℕ) (bs : List NamedBody) (b : BlockPart) (cs : List NamedBody)
     → add_block ms i bs b ≡ Ok cs → Adds (HasBodyLimits (length ms)) AreApart bs cs

@@ -2,7 +2,7 @@
 -- version and the sway come first, then materials, joints, blocks and loads, each in the order of the file.
 use Rattle.std.specs.Prelude.{ℕ, ℤ, is_none, pos, Bool, true, false, not, List, [], ◌∷◌, ◌++◌, length, map, Option}
 use Rattle.std.specs.Prelude.{Some, None, Result, Ok, Err, nat_le, nat_lt, position, count_by}
-use Rattle.std.specs.Prelude.{if◌then◌else◌, ⊤}
+use Rattle.std.specs.Prelude.{⊤}
 use Rattle.std.specs.Str.{bytes_eq}
 use Rattle.std.specs.List.{list_any}
 use Rattle.stack_algebra.specs.Steps.{◌>>=◌, steps}
@@ -20,7 +20,8 @@ use Rattle.stack_model.specs.declared.errors.ModelError.TheVariants.{Range, Same
 use Rattle.stack_model.specs.declared.errors.ModelError.TheVariants.{LoadOnFixed, TooMany, NoJointMaterial, SameJoint}
 use Rattle.stack_model.specs.Structure.{NamedMaterial, NamedBody, Structure, structure_with, body_at, joint_terms}
 use Rattle.stack_model.specs.Parts.{MaterialPart, JointPart, BlockPart, LoadPart, PartLists}
-use Rattle.stack_whole.specs.Limits.{most_free}
+use Rattle.stack_whole.specs.Limits.{most_free, greatest_weight}
+use Rattle.stack_whole.specs.Demands.{unless}
 use Rattle.stack_model.specs.Limits.{most_materials, most_joints, most_bodies, most_fixed, most_loads}
 use Rattle.stack_model.specs.Limits.{is_version, sway_of, is_name, is_between, friction_of, point_of}
 use Rattle.stack_model.specs.Limits.{corner_list_of, live_of, force_of}
@@ -30,10 +31,6 @@ use Rattle.stack_model.specs.Convex.{convex}
 abbrev pub ranged : {A : Type 0} → Spot → Key → Option A → Result A ModelError
 ranged spot key None = Err (Range spot key)
 ranged spot key (Some x) = Ok x
-
--- a test that must hold, or else this fault
-abbrev pub unless : Bool → ModelError → Result ⊤ ModelError
-unless holds fault = if holds then Ok tt else Err fault
 
 -- no more are listed than the limit, or else there are too many of this kind
 abbrev pub at_most : ℕ → ℕ → What → Result ⊤ ModelError
@@ -82,7 +79,7 @@ with_material spot m ms = do
 unfoldable pub add_material : ℕ → List NamedMaterial → MaterialPart → Result (List NamedMaterial) ModelError
 add_material i ms m = do
   named ← unless (is_name m.name) (Range (spots.Material i) keys.Name)
-  weighed ← unless (is_between (pos 0) (pos 1000000) m.weight) (Range (spots.Material i) keys.Weight)
+  weighed ← unless (is_between (pos 0) greatest_weight m.weight) (Range (spots.Material i) keys.Weight)
   friction ← ranged (spots.Material i) keys.Friction (friction_of m.friction)
   with_material (spots.Material i) (record {
     name = m.name;

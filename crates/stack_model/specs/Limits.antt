@@ -1,8 +1,9 @@
 -- The limits of names, numbers and lists: what their values mean, where they are within the limits.
-use Rattle.std.specs.Prelude.{◌≡◌, ℕ, ◌≤◌, ℤ, pos, negsuc, Bool, true, false, ◌&&◌, ◌||◌, List, [], ◌∷◌, length}
+use Rattle.std.specs.Prelude.{◌≡◌, ℕ, ◌+◌, ◌≤◌, ℤ, pos, negsuc, Bool, true, false, ◌&&◌, ◌||◌, List, [], ◌∷◌, length}
 use Rattle.std.specs.Prelude.{codes, Option, option_map, Some, None, nat_le, ◌==◌, int_le, if◌then◌else◌}
 use Rattle.std.specs.Str.{bytes_eq}
 use Rattle.std.specs.List.{list_all}
+use Rattle.stack_whole.specs.Limits.{most_free}
 use Rattle.stack_polygon.specs.declared.point.Point.{Point}
 use Rattle.stack_polygon.specs.Limits.{is_near}
 
@@ -14,13 +15,13 @@ most_materials = 64
 abbrev pub most_joints : ℕ
 most_joints = 256
 
--- how many bodies there may be, free and fixed together
-abbrev pub most_bodies : ℕ
-most_bodies = 192
-
 -- how many bodies may be fixed
 abbrev pub most_fixed : ℕ
 most_fixed = 64
+
+-- how many bodies there may be, free and fixed together
+abbrev pub most_bodies : ℕ
+most_bodies = most_free + most_fixed
 
 -- how many loads there may be, of both kinds together
 abbrev pub most_loads : ℕ

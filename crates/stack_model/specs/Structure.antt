@@ -5,6 +5,7 @@ use Rattle.std.specs.Prelude.{[], get_or, length, find, Option, Some, None, opti
 use Rattle.std.specs.List.{list_any}
 use Rattle.std.specs.Ordering.{int_eq}
 use Rattle.stack_algebra.specs.IntegerOrder.{◌≼◌}
+use Rattle.stack_whole.specs.Limits.{greatest_weight}
 use Rattle.stack_polygon.specs.declared.point.Point.{Point}
 use Rattle.stack_polygon.specs.Corners.{origin}
 use Rattle.stack_polygon.specs.Limits.{IsInRange, IsPolygon}
@@ -99,7 +100,7 @@ load_of s i = get_or s.loads i (record { body = 0; live = false; at = origin; fx
 pub record IsWithinLimits (m : NamedMaterial) : Type 0 where
   pub named : IsName m.name
   pub least_weight : pos 0 ≼ m.weight
-  pub most_weight : m.weight ≼ pos 1000000
+  pub most_weight : m.weight ≼ greatest_weight
   pub least_p : pos 0 ≼ m.p
   pub most_p : m.p ≼ pos 1000
   pub least_q : pos 1 ≼ m.q

@@ -15,14 +15,14 @@ ghost use Rattle.stack_model.specs.Content.{is_free as is_free_of};
 use crate::errors::ModelError;
 use crate::kept::KeptBody;
 use crate::limits::{MOST_FIXED, corners, is_name};
-use crate::materials::{Materials, unless};
+use crate::materials::Materials;
 use crate::names::Names;
 use crate::outlines::outline;
 use crate::places::{Key, Spot, What};
 use crate::raw::RawBlock;
 use crate::types::Body;
 use stack_polygon::Point;
-use stack_whole::MOST_FREE;
+use stack_whole::{MOST_FREE, unless};
 use std::alloc::Global;
 
 /// The bodies so far, and their names.

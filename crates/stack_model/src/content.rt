@@ -12,10 +12,11 @@ use crate::joints::all_joints;
 use crate::kept::Head;
 use crate::limits::{MOST_BODIES, MOST_JOINTS, MOST_LOADS, MOST_MATERIALS, is_between, sway};
 use crate::loads::all_loads;
-use crate::materials::{Materials, all_materials, unless};
+use crate::materials::{Materials, all_materials};
 use crate::places::{Key, Spot, What};
 use crate::raw::Parts;
 use crate::types::{Joint, Load};
+use stack_whole::unless;
 use std::alloc::Global;
 
 fn at_most(limit: usize, count: usize, what: What) -> Result<(), ModelError>

@@ -9,10 +9,11 @@ ghost use Rattle.stack_model.specs.Content.{add_joint};
 
 use crate::bodies::found;
 use crate::errors::ModelError;
-use crate::materials::{Materials, friction_at, unless};
+use crate::materials::{Materials, friction_at};
 use crate::places::Spot;
 use crate::raw::RawJoint;
 use crate::types::Joint;
+use stack_whole::unless;
 use std::alloc::Global;
 
 /// Whether the joint is between the materials `a` and `b`, in either order.

@@ -9,6 +9,7 @@ ghost use Rattle.stack_model.specs.Limits.{is_between as is_between_of, friction
 ghost use Rattle.stack_model.specs.Limits.{corner_list_of, live_of, force_of, sway_of};
 
 use stack_polygon::Point;
+use stack_whole::MOST_FREE;
 use std::alloc::{AllocError, Global};
 
 /// A model has at most this many materials.
@@ -17,11 +18,11 @@ pub const MOST_MATERIALS: usize = 64;
 /// A model has at most this many joints between its materials.
 pub const MOST_JOINTS: usize = 256;
 
-/// A model has at most this many bodies, fixed and free together.
-pub const MOST_BODIES: usize = 192;
-
 /// A model has at most this many fixed bodies.
 pub const MOST_FIXED: usize = 64;
+
+/// A model has at most this many bodies, free and fixed together.
+pub const MOST_BODIES: usize = MOST_FREE + MOST_FIXED;
 
 /// A model has at most this many loads, dead and live together.
 pub const MOST_LOADS: usize = 256;

@@ -177,8 +177,7 @@ fn parts_with(
     ensures value { IfOk result (λ p. raw_parts p ≡ relisted (bearing (model_view model.now) loads.now sway)) }
     ensures sound { IsSound (bearing (model_view model.now) loads.now sway) }
 {
-    // a model is sound
-    let _bodies = model.bodies();
+    model.sound();
     Ok(Parts {
         version: model.version(),
         sway: listed_sway(alloc, sway)?,
@@ -196,8 +195,7 @@ impl Model {
         ensures taken { IfOk result (λ p. content_of (raw_parts p) ≡ Ok (model_view self.now)) }
         ensures version { IfOk result (λ p. IsOfVersion (raw_parts p)) }
     {
-        // a model is sound
-        let _bodies = self.bodies();
+        self.sound();
         parts_with(alloc, self, self.all_loads(), self.sway())
     }
 }

@@ -10,11 +10,11 @@ ghost use Rattle.stack_model.specs.Content.{ranged, add_load};
 use crate::bodies::{Bodies, found};
 use crate::errors::ModelError;
 use crate::limits::{force, live, point};
-use crate::materials::unless;
 use crate::places::{Key, Spot};
 use crate::raw::RawLoad;
 use crate::types::Load;
 use stack_polygon::Point;
+use stack_whole::unless;
 use std::alloc::Global;
 
 fn live_at(spot: Spot, kind: &str) -> Result<bool, ModelError>

@@ -6,7 +6,7 @@ ghost use Rattle.stack_model.specs.Raw.{raw_material};
 ghost use Rattle.stack_model.specs.Gives.{Gives};
 ghost use Rattle.stack_model.specs.Limits.{friction_of};
 ghost use Rattle.stack_algebra.specs.Steps.{steps};
-ghost use Rattle.stack_model.specs.Content.{unless as unless_of, ranged, with_material, add_material, number_of};
+ghost use Rattle.stack_model.specs.Content.{ranged, with_material, add_material, number_of};
 ghost use Rattle.stack_model.specs.Content.{material_names};
 
 use crate::errors::ModelError;
@@ -16,6 +16,7 @@ use crate::names::Names;
 use crate::places::{Key, Spot};
 use crate::raw::RawMaterial;
 use crate::types::Material;
+use stack_whole::{GREATEST_WEIGHT, unless};
 use std::alloc::Global;
 
 /// The materials so far, and their names.
@@ -37,13 +38,6 @@ impl std::marker::Model for Materials {
     ghost view = { λ m. map material_view m.kept.items };
 
     ghost invariant = { λ m. m.names ≡ material_names (map material_view m.kept.items) };
-}
-
-/// A test that must hold, or else this fault.
-pub fn unless(holds: bool, fault: ModelError) -> Result<(), ModelError>
-    ensures { Gives (λ x. x) result (unless_of holds fault) }
-{
-    if holds { Ok(()) } else { Err(fault) }
 }
 
 /// A coefficient of friction at its place.
@@ -137,7 +131,7 @@ fn add(
         },
     )?;
     unless(
-        is_between(0, 1_000_000, raw.weight),
+        is_between(0, GREATEST_WEIGHT, raw.weight),
         ModelError::Range {
             spot,
             key: Key::Weight,

@@ -220,7 +220,15 @@ impl Model {
         self.materials[i].name.as_str()
     }
 
-    /// The number of bodies, at most 192.
+    /// A model is sound: its items are within their limits and no more than there may be. Does nothing.
+    pub fn sound(&self)
+        ensures { IsSound (model_view self.now) }
+    {
+        // What the type keeps is known once a field is named.
+        let _ = &self.bodies;
+    }
+
+    /// The number of bodies, at most `MOST_BODIES`.
     pub fn bodies(&self) -> usize
         ensures value { result ≡ length (model_view self.now).bodies }
         ensures few { result ≤ most_bodies }

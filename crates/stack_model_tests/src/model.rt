@@ -1,226 +1,259 @@
 //! Two materials, the ground and a block with a load: a model, and two faults of content.
 
-ghost use Rattle.std.specs.Prelude.{◌≡◌, IfOk, pos};
+ghost use Rattle.std.specs.Prelude.{◌≡◌, IfSome, pos};
 
 use stack_model::{
     Body, Joint, Key, Load, Material, Model, ModelError, Parts, RawBlock, RawJoint, RawLoad,
     RawMaterial, Spot,
 };
 use stack_polygon::Point;
+use std::alloc::Global;
 use std::test::*;
 
-/// The second material, the block beside the ground, and the load.
-#[derive(Clone, Copy)]
-struct Case {
-    material: &'static str,
-    weight: i64,
-    friction: &'static [i64],
-    block: &'static str,
-    of: &'static str,
-    fixed: bool,
-    corners: &'static [[i64; 2]],
-    on: &'static str,
-    kind: &'static str,
-    at: &'static [i64],
-    force: &'static [i64],
-}
-
-const PLAIN: Case = Case {
-    material: "brick",
-    weight: 2,
-    friction: &[3, 4],
-    block: "post",
-    of: "brick",
-    fixed: false,
-    corners: &[[0, 0], [0, 4], [2, 4], [2, 0]],
-    on: "post",
-    kind: "live",
-    at: &[0, 4],
-    force: &[1, -2],
-};
-
-fn numbers(rt: &HostRuntime, list: &[i64]) -> Result<Vec<i64>, Fail> {
-    let mut found = Vec::new(rt.alloc());
-    for number in list {
-        found.push(*number)?;
-    }
-    Ok(found)
-}
-
-fn corners(rt: &HostRuntime, list: &[[i64; 2]]) -> Result<Vec<Vec<i64>>, Fail> {
-    let mut found = Vec::new(rt.alloc());
-    for corner in list {
-        found.push(numbers(rt, corner.as_slice())?)?;
-    }
-    Ok(found)
-}
-
-fn text(rt: &HostRuntime, word: &str) -> Result<String, Fail> {
-    Ok(String::from_str(rt.alloc(), word)?)
-}
-
-fn materials(rt: &HostRuntime, case: Case) -> Result<Vec<RawMaterial>, Fail> {
-    let mut list = Vec::new(rt.alloc());
-    list.push(RawMaterial {
-        name: text(rt, "stone")?,
-        weight: 1,
-        friction: numbers(rt, &[1, 1])?,
-    })?;
-    list.push(RawMaterial {
-        name: text(rt, case.material)?,
-        weight: case.weight,
-        friction: numbers(rt, case.friction)?,
-    })?;
-    Ok(list)
-}
-
-fn blocks(rt: &HostRuntime, case: Case) -> Result<Vec<RawBlock>, Fail> {
-    let mut list = Vec::new(rt.alloc());
-    list.push(RawBlock {
-        name: text(rt, "ground")?,
-        material: text(rt, "stone")?,
-        fixed: true,
-        corners: corners(rt, &[[-10, -1], [10, -1], [10, 0], [-10, 0]])?,
-    })?;
-    list.push(RawBlock {
-        name: text(rt, case.block)?,
-        material: text(rt, case.of)?,
-        fixed: case.fixed,
-        corners: corners(rt, case.corners)?,
-    })?;
-    Ok(list)
-}
-
-fn model(rt: &HostRuntime, case: Case) -> Result<Result<Model, ModelError>, Fail> {
-    let mut loads = Vec::new(rt.alloc());
-    loads.push(RawLoad {
-        block: text(rt, case.on)?,
-        kind: text(rt, case.kind)?,
-        at: numbers(rt, case.at)?,
-        force: numbers(rt, case.force)?,
-    })?;
-    let parts = Parts::first(rt.alloc(), materials(rt, case)?, blocks(rt, case)?, loads);
-    Ok(Model::new(rt.alloc(), parts))
-}
-
-#[test]
-fn parts_without_a_fault_make_a_model(rt: HostRuntime) -> Result<(), Fail> {
-    let model = model(&rt, PLAIN)?
-        .map_err(|_| "refused")
-        .map_err(Fail::from)?;
-    assert_eq!(rt; model.materials(), 2);
-    assert_eq!(rt;
-        model.material(1),
-        Material {
-            weight: 2,
-            p: 3,
-            q: 4
-        }
-    );
-    assert_eq!(rt; model.material_name(1), "brick");
-    assert_eq!(rt; model.bodies(), 2);
-    assert_eq!(rt;
-        model.body(0),
-        Body {
-            material: 0,
-            fixed: true
-        }
-    );
-    assert_eq!(rt;
-        model.body(1),
-        Body {
-            material: 1,
-            fixed: false
-        }
-    );
-    assert_eq!(rt; model.name(1), "post");
-    assert_eq!(rt; model.polygon(1).len(), 4);
-    assert_eq!(rt; model.polygon(1).corner(1), Point { x: 2, y: 0 });
-    assert_eq!(rt; model.loads(), 1);
-    assert!(rt; model.has_live());
-    assert_eq!(rt;
-        model.load(0),
-        Load {
-            body: 1,
-            live: true,
-            at: Point { x: 0, y: 4 },
-            fx: 1,
-            fy: -2
-        }
-    );
-    Ok(())
-}
-
-/// Parts of version 2: a joint of brick on stone and a sway, and no load.
-fn second(rt: &HostRuntime, case: Case) -> Result<Parts, Fail>
-    ensures { IfOk result (λ p. p.version ≡ pos 2) }
-{
-    let mut joints = Vec::new(rt.alloc());
-    joints.push(RawJoint {
-        first: text(rt, "brick")?,
-        second: text(rt, "stone")?,
-        friction: numbers(rt, &[2, 4])?,
-    })?;
-    Ok(Parts {
-        version: 2,
-        sway: Some(numbers(rt, &[1, -2])?),
-        materials: materials(rt, case)?,
-        joints,
-        blocks: blocks(rt, case)?,
-        loads: Vec::new(rt.alloc()),
+fn material(alloc: Global, name: &str, weight: i64, friction: [i64; 2]) -> Option<RawMaterial> {
+    Some(RawMaterial {
+        name: String::from_str(alloc, name).ok()?,
+        weight,
+        friction: friction.to_vec(alloc).ok()?,
     })
 }
 
+fn materials(alloc: Global) -> Option<Vec<RawMaterial>> {
+    let mut list = Vec::new(alloc);
+    list.push(material(alloc, "stone", 1, [1, 1])?).ok()?;
+    list.push(material(alloc, "brick", 2, [3, 4])?).ok()?;
+    Some(list)
+}
+
+fn corners(alloc: Global, list: [[i64; 2]; 4]) -> Option<Vec<Vec<i64>>> {
+    let mut found = Vec::new(alloc);
+    for corner in list {
+        found.push(corner.to_vec(alloc).ok()?).ok()?;
+    }
+    Some(found)
+}
+
+fn block(alloc: Global, name: &str, material: &str, outline: [[i64; 2]; 4]) -> Option<RawBlock> {
+    let corners = corners(alloc, outline)?;
+    Some(RawBlock {
+        name: String::from_str(alloc, name).ok()?,
+        material: String::from_str(alloc, material).ok()?,
+        fixed: name == "ground",
+        corners,
+    })
+}
+
+/// The ground, and a post of brick with these corners.
+fn blocks(alloc: Global, post: [[i64; 2]; 4]) -> Option<Vec<RawBlock>> {
+    let ground = [[-10, -1], [10, -1], [10, 0], [-10, 0]];
+    let mut list = Vec::new(alloc);
+    list.push(block(alloc, "ground", "stone", ground)?).ok()?;
+    list.push(block(alloc, "post", "brick", post)?).ok()?;
+    Some(list)
+}
+
+/// A live load on the post.
+fn load(alloc: Global, at: [i64; 2]) -> Option<RawLoad> {
+    Some(RawLoad {
+        block: String::from_str(alloc, "post").ok()?,
+        kind: String::from_str(alloc, "live").ok()?,
+        at: at.to_vec(alloc).ok()?,
+        force: [1, -2].to_vec(alloc).ok()?,
+    })
+}
+
+fn loads(alloc: Global, at: [i64; 2]) -> Option<Vec<RawLoad>> {
+    let mut list = Vec::new(alloc);
+    list.push(load(alloc, at)?).ok()?;
+    Some(list)
+}
+
+/// The post's corners in a model without a fault.
+const POST: [[i64; 2]; 4] = [[0, 0], [0, 4], [2, 4], [2, 0]];
+
+/// The model with these corners of the post, and a load that acts there.
+fn model(alloc: Global, post: [[i64; 2]; 4], at: [i64; 2]) -> Option<Result<Model, ModelError>> {
+    let loads = loads(alloc, at)?;
+    let materials = materials(alloc)?;
+    let parts = Parts::first(alloc, materials, blocks(alloc, post)?, loads);
+    Some(Model::new(alloc, parts))
+}
+
+/// The second material, both bodies, the corners of the second and one of them, and the only load.
+type Told = (Material, [Body; 2], usize, Point, Load);
+
+fn told(model: &Model) -> Option<Told> {
+    if model.materials() != 2 {
+        return None;
+    }
+    if model.bodies() != 2 {
+        return None;
+    }
+    if model.loads() != 1 {
+        return None;
+    }
+    let outline = model.polygon(1);
+    if outline.len() != 4 {
+        return None;
+    }
+    let bodies = [model.body(0), model.body(1)];
+    Some((
+        model.material(1),
+        bodies,
+        4,
+        outline.corner(1),
+        model.load(0),
+    ))
+}
+
+/// Whether the second material and the second body have these names.
+fn are_named(model: &Model) -> bool {
+    model.materials() == 2
+        && model.material_name(1) == "brick"
+        && model.bodies() == 2
+        && model.name(1) == "post"
+}
+
+/// What is told of the model without a fault, whether its names are right, and whether it has a live load.
+fn faultless(alloc: Global) -> Option<(Option<Told>, bool, bool)> {
+    match model(alloc, POST, [0, 4])? {
+        Ok(model) => Some((told(&model), are_named(&model), model.has_live())),
+        Err(_) => None,
+    }
+}
+
 #[test]
-fn joints_and_a_sway_are_kept_and_listed_again(rt: HostRuntime) -> Result<(), Fail> {
-    let alloc = rt.alloc();
-    let first = Model::new(alloc, second(&rt, PLAIN)?)?;
-    let model = Model::new(alloc, first.parts(alloc)?)?;
-    assert_eq!(rt; model.version(), 2);
-    assert_eq!(rt; model.sway(), (1, -2));
-    assert_eq!(rt; model.materials(), 2);
-    assert_eq!(rt; model.joints(), 1);
+fn parts_without_a_fault_make_a_model(rt: HostRuntime) {
+    let brick = Material {
+        weight: 2,
+        p: 3,
+        q: 4,
+    };
+    let ground = Body {
+        material: 0,
+        fixed: true,
+    };
+    let post = Body {
+        material: 1,
+        fixed: false,
+    };
+    let load = Load {
+        body: 1,
+        live: true,
+        at: Point { x: 0, y: 4 },
+        fx: 1,
+        fy: -2,
+    };
+    let told = (brick, [ground, post], 4, Point { x: 2, y: 0 }, load);
+    assert_eq!(rt; faultless(rt.alloc()), Some((Some(told), true, true)));
+}
+
+fn joints(alloc: Global) -> Option<Vec<RawJoint>> {
+    let joint = RawJoint {
+        first: String::from_str(alloc, "brick").ok()?,
+        second: String::from_str(alloc, "stone").ok()?,
+        friction: [2, 4].to_vec(alloc).ok()?,
+    };
+    let mut list = Vec::new(alloc);
+    list.push(joint).ok()?;
+    Some(list)
+}
+
+/// Parts of version 2: a joint of brick on stone and a sway, and no load.
+fn second(alloc: Global) -> Option<Parts>
+    ensures { IfSome result (λ p. p.version ≡ pos 2) }
+{
+    let blocks = blocks(alloc, POST)?;
+    let materials = materials(alloc)?;
+    let joints = joints(alloc)?;
+    let sway = [1, -2].to_vec(alloc).ok()?;
+    Some(Parts {
+        version: 2,
+        sway: Some(sway),
+        materials,
+        joints,
+        blocks,
+        loads: Vec::new(alloc),
+    })
+}
+
+/// Version, sway, the only joint, the frictions of three pairs of materials, and whether there is a live load.
+type ToldSecond = (i64, (i64, i64), Joint, [Option<(i64, i64)>; 3], bool);
+
+fn told_second(model: &Model) -> Option<ToldSecond> {
+    if model.materials() != 2 {
+        return None;
+    }
+    if model.joints() != 1 {
+        return None;
+    }
+    let frictions = [
+        model.friction(0, 1),
+        model.friction(1, 0),
+        model.friction(0, 0),
+    ];
+    let (version, sway) = (model.version(), model.sway());
+    Some((version, sway, model.joint(0), frictions, model.has_live()))
+}
+
+/// The model of the second parts.
+fn second_model(alloc: Global) -> Option<Model> {
+    let Some(parts) = second(alloc) else {
+        return None;
+    };
+    Model::new(alloc, parts).ok()
+}
+
+/// The model of the parts that a model lists.
+fn listed_again(alloc: Global, model: &Model) -> Option<Model> {
+    let Ok(parts) = model.parts(alloc) else {
+        return None;
+    };
+    Model::new(alloc, parts).ok()
+}
+
+/// The sway of a model whose loads and sway are taken away, and whether it has a live load.
+fn stilled(alloc: Global, model: &Model) -> Option<((i64, i64), bool)> {
+    let still = model.with_loads(alloc, &[], (0, 0)).ok()?;
+    Some((still.sway(), still.has_live()))
+}
+
+fn again(alloc: Global) -> Option<(Option<ToldSecond>, Option<((i64, i64), bool)>)> {
+    let first = second_model(alloc)?;
+    let model = listed_again(alloc, &first)?;
+    Some((told_second(&model), stilled(alloc, &model)))
+}
+
+#[test]
+fn joints_and_a_sway_are_kept_and_listed_again(rt: HostRuntime) {
     let joint = Joint {
         first: 1,
         second: 0,
         p: 2,
         q: 4,
     };
-    assert_eq!(rt; model.joint(0), joint);
-    assert_eq!(rt; model.friction(0, 1), Some((2, 4)));
-    assert_eq!(rt; model.friction(1, 0), Some((2, 4)));
-    assert_eq!(rt; model.friction(0, 0), None);
-    assert!(rt; model.has_live());
-    let still = model.with_loads(alloc, &[], (0, 0))?;
-    assert_eq!(rt; still.sway(), (0, 0));
-    assert!(rt; !still.has_live());
-    Ok(())
+    let frictions = [Some((2, 4)), Some((2, 4)), None];
+    let told = (2, (1, -2), joint, frictions, true);
+    let still = ((0, 0), false);
+    assert_eq!(rt; again(rt.alloc()), Some((Some(told), Some(still))));
+}
+
+/// Why there is no model with these corners of the post, and a load that acts there.
+fn refusal(alloc: Global, post: [[i64; 2]; 4], at: [i64; 2]) -> Option<ModelError> {
+    model(alloc, post, at)?.err()
 }
 
 #[test]
-fn faults_are_named_with_their_place(rt: HostRuntime) -> Result<(), Fail> {
-    let far = model(
-        &rt,
-        Case {
-            at: &[0, 1_000_001],
-            ..PLAIN
-        },
-    )?;
+fn faults_are_named_with_their_place(rt: HostRuntime) {
+    let alloc = rt.alloc();
+    let found = [
+        refusal(alloc, POST, [0, 1_000_001]),
+        refusal(alloc, [[0, 0], [4, 0], [4, 4], [3, 1]], [0, 4]),
+    ];
     let range = ModelError::Range {
         spot: Spot::Load(0),
         key: Key::At,
     };
-    assert_eq!(rt; far.err(), Some(range));
-    let dented = model(
-        &rt,
-        Case {
-            corners: &[[0, 0], [4, 0], [4, 4], [3, 1]],
-            ..PLAIN
-        },
-    )?;
-    assert_eq!(rt;
-        dented.err(),
-        Some(ModelError::NotConvex { block: 1, edge: 2 })
-    );
-    Ok(())
+    let dent = ModelError::NotConvex { block: 1, edge: 2 };
+    assert_eq!(rt; found, [Some(range), Some(dent)]);
 }

@@ -1,8 +1,9 @@
 //! A model's file is read, and written so that it is read back; one fault of each kind is named. The other faults and
 //! spellings are rows of the examples.
 
-use stack_model::{Key, ModelError, Spot};
+use stack_model::{Key, Model, ModelError, Spot};
 use stack_reader::{ReadError, read_model, write_model};
+use std::alloc::Global;
 use std::test::*;
 
 const POST: &str = "[[material]]\nname = \"stone\"\nweight = 1\nfriction = [1, 2]\n\n\
@@ -16,66 +17,105 @@ const HEAD: &str = "version = 2\nsway = [1, -2]\n\n";
 
 const JOINT: &str = "\n[[joint]]\nfirst = \"stone\"\nsecond = \"stone\"\nfriction = [3, 4]\n";
 
-/// What reading gives, as text.
-fn read(rt: &HostRuntime, text: &[u8]) -> Result<String, Fail> {
-    Ok(match read_model(rt.alloc(), text) {
-        Ok(model) => format!(in rt.alloc(); "{model:?}")?,
-        Err(e) => format!(in rt.alloc(); "{e:?}")?,
-    })
+fn model_of(alloc: Global, text: &[u8]) -> Option<Model> {
+    read_model(alloc, text).ok()
+}
+
+/// The model that a text tells, as text.
+fn shown(alloc: Global, text: &[u8]) -> Option<String> {
+    let model = model_of(alloc, text)?;
+    format!(in alloc; "{model:?}").ok()
+}
+
+/// The model that a text tells, as it is written.
+fn written(alloc: Global, text: &[u8]) -> Option<Vec<u8>> {
+    let model = model_of(alloc, text)?;
+    write_model(alloc, &model).ok()
+}
+
+fn are_shown_alike(alloc: Global, text: &[u8], other: &[u8]) -> Option<bool> {
+    let first = shown(alloc, text)?;
+    let second = shown(alloc, other)?;
+    Some(first == second)
+}
+
+fn is_read_back(alloc: Global, text: &[u8]) -> Option<bool> {
+    let written = written(alloc, text)?;
+    are_shown_alike(alloc, text, written.as_slice())
+}
+
+/// Materials, bodies, loads and joints of a model, whether its second body is the post, its version and its sway.
+type Told = ([usize; 4], bool, i64, (i64, i64));
+
+fn told(model: &Model) -> Told {
+    let counts = [
+        model.materials(),
+        model.bodies(),
+        model.loads(),
+        model.joints(),
+    ];
+    let is_post = model.bodies() > 1 && model.name(1) == "post";
+    (counts, is_post, model.version(), model.sway())
+}
+
+fn told_of(alloc: Global, text: &[u8]) -> Option<Told> {
+    let model = model_of(alloc, text)?;
+    Some(told(&model))
+}
+
+/// What is told of the model of a text, and whether it is read back as it was written.
+fn told_and_read_back(alloc: Global, pieces: &[&str]) -> Option<(Option<Told>, Option<bool>)> {
+    let text = pieces.concat(alloc).ok()?;
+    let told = told_of(alloc, text.as_bytes());
+    Some((told, is_read_back(alloc, text.as_bytes())))
+}
+
+/// Also where it has a joint and a sway.
+#[test]
+fn a_written_model_is_read_back(rt: HostRuntime) {
+    let alloc = rt.alloc();
+    let found = [
+        told_and_read_back(alloc, &[POST]),
+        told_and_read_back(alloc, &[HEAD, POST, JOINT]),
+    ];
+    let post = ([1, 2, 1, 0], true, 1, (0, 0));
+    let joint = ([1, 2, 1, 1], true, 2, (1, -2));
+    let wanted = [
+        Some((Some(post), Some(true))),
+        Some((Some(joint), Some(true))),
+    ];
+    assert_eq!(rt; found, wanted);
+}
+
+fn fault(alloc: Global, text: &[u8]) -> Option<ReadError> {
+    read_model(alloc, text).err()
+}
+
+/// The fault of the post's file in which the first of these words is replaced.
+fn fault_with(alloc: Global, from: &str, to: &str) -> Option<ReadError> {
+    let text = POST.replacen(alloc, from, to, 1).ok()?;
+    fault(alloc, text.as_bytes())
 }
 
 #[test]
-fn a_written_model_is_read_back(rt: HostRuntime) -> Result<(), Fail> {
-    let model = read_model(rt.alloc(), POST.as_bytes())
-        .map_err(|_| "refused")
-        .map_err(Fail::from)?;
-    assert_eq!(rt;
-        (model.materials(), model.bodies(), model.loads()),
-        (1, 2, 1)
-    );
-    assert_eq!(rt; model.name(1), "post");
-    let written = write_model(rt.alloc(), &model)?;
-    assert_eq!(rt; read(&rt, written.as_slice())?, read(&rt, POST.as_bytes())?);
-    Ok(())
-}
-
-#[test]
-fn a_joint_and_a_sway_are_read_back(rt: HostRuntime) -> Result<(), Fail> {
-    let text = format!(in rt.alloc(); "{HEAD}{POST}{JOINT}")?;
-    let model = read_model(rt.alloc(), text.as_bytes())
-        .map_err(|_| "refused")
-        .map_err(Fail::from)?;
-    assert_eq!(rt; (model.version(), model.sway()), (2, (1, -2)));
-    assert_eq!(rt; model.joints(), 1);
-    let written = write_model(rt.alloc(), &model)?;
-    assert_eq!(rt; read(&rt, written.as_slice())?, read(&rt, text.as_bytes())?);
-    Ok(())
-}
-
-#[test]
-fn the_first_fault_is_named(rt: HostRuntime) -> Result<(), Fail> {
-    let torn = read_model(rt.alloc(), b"[[material");
-    assert!(rt; matches!(torn, Err(ReadError::NotToml)));
-    let text = POST.replacen(rt.alloc(), "weight = 1", "weight = 1.0", 1)?;
-    let kind = read_model(rt.alloc(), text.as_bytes());
-    assert!(rt;
-        matches!(
-            kind,
-            Err(ReadError::Kind {
-                spot: Spot::Material(0),
-                key: Key::Weight
-            })
-        )
-    );
-    let text = POST.replacen(rt.alloc(), "\"post\"", "\"ground\"", 1)?;
-    let twice = read_model(rt.alloc(), text.as_bytes());
-    assert!(rt;
-        matches!(
-            twice,
-            Err(ReadError::Model(ModelError::SameName {
-                spot: Spot::Block(1)
-            }))
-        )
-    );
-    Ok(())
+fn the_first_fault_is_named(rt: HostRuntime) {
+    let alloc = rt.alloc();
+    let found = [
+        fault(alloc, b"[[material"),
+        fault_with(alloc, "weight = 1", "weight = 1.0"),
+        fault_with(alloc, "\"post\"", "\"ground\""),
+    ];
+    let kind = ReadError::Kind {
+        spot: Spot::Material(0),
+        key: Key::Weight,
+    };
+    let twice = ModelError::SameName {
+        spot: Spot::Block(1),
+    };
+    let wanted = [
+        Some(ReadError::NotToml),
+        Some(kind),
+        Some(ReadError::Model(twice)),
+    ];
+    assert_eq!(rt; found, wanted);
 }

@@ -15,8 +15,7 @@ use std::alloc::Global;
 pub fn read_order(alloc: Global, m: &Model, text: &[u8]) -> Result<Vec<usize>, OrderError>
     ensures { GivesOrder (model_view m.now) result text.now }
 {
-    // a model is sound: no two bodies have one name
-    let _sound = m.bodies();
+    m.sound();
     let mut order = Vec::new(alloc);
     let mut rest = text;
     while !rest.is_empty() {

@@ -4,6 +4,7 @@ use Rattle.std.proofs.Common.{length, refl, ◌∙◌, subst, arith, nat_le, nat
 use Rattle.std.specs.List.{list_all}
 use Rattle.std.proofs.lemmas.Int.{ints}
 use Rattle.std.proofs.lemmas.List.Folds.{list_all-append, list_all_at}
+use Rattle.stack_whole.specs.Limits.{most_free}
 use Rattle.stack_algebra.proofs.Listed.{listed}
 use Rattle.stack_polygon.specs.Outlines.{all_below}
 use Rattle.stack_polygon.specs.Limits.{is_near, is_in_range}
@@ -63,7 +64,7 @@ laid name base rows named apart under h =
       under = taken base under;
       each = λ k lt. taken (brick_at (bricks_of rows) k)
           (placed_at (bricks_of rows) k (all_placed rows parts.0) lt);
-      few = at_most (length (bricks_of rows)) 128 parts.1;
+      few = at_most (length (bricks_of rows)) most_free parts.1;
     }
 
 -- a test that each size from 1 to n passes
@@ -103,7 +104,7 @@ course_row w i least most few near =
 abbrev is_counted : Wall → Bool
 is_counted w =
     let count = length (bricks_of (courses_of w)) in
-    nat_lt (top_number w) count && nat_le count 128
+    nat_lt (top_number w) count && nat_le count most_free
 
 counted : (t s c b : ℕ) → 1 ≤ c → c ≤ 10 → 1 ≤ b → b ≤ 10 → is_counted (shaped c b t s) ≡ true
 counted t s c b least most some few =
@@ -114,7 +115,7 @@ counted t s c b least most some few =
 pub record IsLaid (w : Wall) : Type 0 where
   pub rows : are_laid (courses_of w) ≡ true
   pub top : top_number w < length (bricks_of (courses_of w))
-  pub few : length (bricks_of (courses_of w)) ≤ 128
+  pub few : length (bricks_of (courses_of w)) ≤ most_free
   pub corner : is_in_range (record { x = (top_brick w).left; y = (top_brick w).top }) ≡ true
 
 corner_in_range : (r : Rectangle) → is_placed r ≡ true → is_in_range (record { x = r.left; y = r.top }) ≡ true
@@ -127,7 +128,7 @@ corner_in_range r h =
 pub wall_laid : (w : Wall) → IsWall w → IsLaid w
 wall_laid w h =
     let bricks = bricks_of (courses_of w) in
-    let count : (nat_lt (top_number w) (length bricks) ≡ true) × (nat_le (length bricks) 128 ≡ true) =
+    let count : (nat_lt (top_number w) (length bricks) ≡ true) × (nat_le (length bricks) most_free ≡ true) =
     both_true _ _ (counted w.tenths w.shift w.courses w.bricks (omega (arith, h.least_courses)) h.most_courses
     (omega (arith, h.least_bricks)) h.most_bricks) in
     let row = λ (i : ℕ) (least : 1 ≤ i) (most : i ≤ 10). course_row w i least most h.most_bricks h.most_shift in
@@ -136,7 +137,7 @@ wall_laid w h =
     record {
       rows = λ i. rows i && count.1 i;
       top = below (top_number w) (length bricks) count.0;
-      few = at_most (length bricks) 128 count.1;
+      few = at_most (length bricks) most_free count.1;
       corner = corner_in_range (top_brick w) (is_placed_brick (course_of w w.courses) 0
           (row w.courses (omega (arith, h.least_courses)) h.most_courses) (omega (arith, h.least_bricks)));
     }

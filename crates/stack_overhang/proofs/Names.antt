@@ -9,18 +9,19 @@ use Rattle.std.proofs.lemmas.Fmt.{decimal_injective}
 use Rattle.std.proofs.lemmas.Slice.Eq.{bytes_eq-Decides}
 use Rattle.std.proofs.lemmas.List.Folds.{list_any_none}
 use Rattle.std.proofs.lemmas.List.Sums.{position_or_len_is}
+use Rattle.stack_whole.specs.Limits.{most_free}
 use Rattle.stack_algebra.proofs.Listed.{listed, length_listed, listed_item}
 use Rattle.stack_polygon.proofs.Tested.{each_below}
 use Rattle.stack_model.specs.Limits.{is_name}
 use Rattle.stack_model.specs.Content.{is_new, number_of}
 use Rattle.stack_overhang.specs.Bricks.{brick_name}
 
-pub is_a_brick_name : (k : ℕ) → k < 128 → is_name (brick_name k) ≡ true
+pub is_a_brick_name : (k : ℕ) → k < most_free → is_name (brick_name k) ≡ true
 unfolding digits
-is_a_brick_name k l = each_below (λ k. is_name (brick_name k)) 128 refl k l
+is_a_brick_name k l = each_below (λ k. is_name (brick_name k)) most_free refl k l
 
 -- two bricks have two names
-other_name : (j k : ℕ) → j < 128 → k < 128 → ¬ (j ≡ k) → bytes_eq (brick_name j) (brick_name k) ≡ false
+other_name : (j k : ℕ) → j < most_free → k < most_free → ¬ (j ≡ k) → bytes_eq (brick_name j) (brick_name k) ≡ false
 other_name j k hj hk differ = go (bytes_eq (brick_name j) (brick_name k)) refl
   where
     go : (b : Bool) → bytes_eq (brick_name j) (brick_name k) ≡ b → b ≡ false
@@ -32,7 +33,7 @@ other_name j k hj hk differ = go (bytes_eq (brick_name j) (brick_name k)) refl
         absurd (differ (omega arith))
 
 -- none of the first n names is that of brick k
-none_before : (k n : ℕ) → k < 128 → n ≤ k
+none_before : (k n : ℕ) → k < most_free → n ≤ k
     → All (λ name. bytes_eq (brick_name k) name ≡ false) (listed n brick_name)
 none_before k n hk le i d lt =
     let below : i < n = subst (λ m. i < m) (length_listed n brick_name) lt in
@@ -44,14 +45,14 @@ abbrev pub IsApart : List ℕ → Type 0
 IsApart base = (k : ℕ) → bytes_eq (brick_name k) base ≡ false
 
 -- the name of brick k is new after the base and the bricks before it
-pub fresh : (base : List ℕ) (k : ℕ) → IsApart base → k < 128
+pub fresh : (base : List ℕ) (k : ℕ) → IsApart base → k < most_free
     → is_new (brick_name k) (base ∷ listed k brick_name) ≡ true
 fresh base k apart hk =
     let none = list_any_none (bytes_eq (brick_name k)) (listed k brick_name) (none_before k k hk (omega arith)) in
     λ i. not (apart k i || none i)
 
 -- the name of brick k is found at its number
-pub numbered : (base : List ℕ) (n k : ℕ) → IsApart base → k < n → n ≤ 128
+pub numbered : (base : List ℕ) (n k : ℕ) → IsApart base → k < n → n ≤ most_free
     → number_of (brick_name k) (base ∷ listed n brick_name) ≡ Some (k + 1)
 numbered base n k apart lt few =
     let names = base ∷ listed n brick_name in

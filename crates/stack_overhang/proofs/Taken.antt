@@ -4,6 +4,7 @@ use Rattle.std.proofs.Common.{map, length, Some, Result, Ok, refl, sym, ap, ◌�
 use Rattle.std.proofs.Common.{arith, add-one, nat_le, nat_lt, count_by, cond}
 use Rattle.std.proofs.lemmas.Int.{ints}
 use Rattle.std.proofs.lemmas.List.Sums.{sum_by-append}
+use Rattle.stack_whole.specs.Limits.{most_free}
 use Rattle.stack_algebra.specs.Steps.{◌>>=◌, steps}
 use Rattle.stack_algebra.proofs.Listed.{listed, length_listed, listed_item, listed_more, map_listed}
 use Rattle.stack_polygon.specs.declared.point.Point.{Point}
@@ -15,8 +16,9 @@ use Rattle.stack_model.specs.declared.types.Joint.{Joint}
 use Rattle.stack_model.specs.Structure.{NamedMaterial, NamedBody}
 use Rattle.stack_model.specs.Parts.{MaterialPart, BlockPart, LoadPart, first_parts}
 use Rattle.stack_polygon.specs.Limits.{is_in_range}
-use Rattle.stack_model.specs.Limits.{is_name, friction_of}
-use Rattle.stack_model.specs.Content.{unless, at_most, is_new, is_free, number_of, has_room}
+use Rattle.stack_model.specs.Limits.{most_bodies, is_name, friction_of}
+use Rattle.stack_whole.specs.Demands.{unless}
+use Rattle.stack_model.specs.Content.{at_most, is_new, is_free, number_of, has_room}
 use Rattle.stack_model.specs.Content.{body_names, with_material, add_material, with_body, add_block}
 use Rattle.stack_model.specs.Content.{add_load, head_of, joints_of, bodies_of, loads_of, content_of}
 use Rattle.stack_model.specs.Relisted.{material_listed}
@@ -65,7 +67,7 @@ pub record AreTaken (name : List ℕ) (base : Rectangle) (bricks : List Rectangl
   pub apart : IsApart name
   pub under : IsTaken base
   pub each : (k : ℕ) → k < length bricks → IsTaken (brick_at bricks k)
-  pub few : length bricks ≤ 128
+  pub few : length bricks ≤ most_free
 
 module _ (name : List ℕ) (base : Rectangle) (bricks : List Rectangle) where
   -- the bodies when so many bricks have been taken
@@ -85,9 +87,9 @@ module _ (name : List ℕ) (base : Rectangle) (bricks : List Rectangle) where
       let split = sum_by-append (λ (b : NamedBody). cond (not b.fixed) 1 0) (brick_bodies bricks k) (one ∷ []) in
       omega (arith, more, split, free_bricks k)
 
-  room : (k : ℕ) → k < 128 → has_room false (bodies k) ≡ Ok tt
-  room k lt = ap (λ n. unless (nat_lt n 128) (TooMany whats.Free)) (free_bricks k)
-      ∙ ap (λ b. unless b (TooMany whats.Free)) (is_less k 128 lt)
+  room : (k : ℕ) → k < most_free → has_room false (bodies k) ≡ Ok tt
+  room k lt = ap (λ n. unless (nat_lt n most_free) (TooMany whats.Free)) (free_bricks k)
+      ∙ ap (λ b. unless b (TooMany whats.Free)) (is_less k most_free lt)
     where
       is_less : (i m : ℕ) → i < m → nat_lt i m ≡ true
       is_less i m l = grind (arith, ints)
@@ -119,8 +121,8 @@ pub all_taken : (p q : ℤ) (name : List ℕ) (base : Rectangle) (bricks : List 
     → content_of (first_parts mats blocks loads) ≡ Ok (built p q name base bricks ls)
 unfolding content_of head_of joints_of bodies_of loads_of
 all_taken p q name base bricks mats blocks loads ls rough t ms bs few taken =
-    let some : nat_le (length blocks) 192 ≡ true =
-    at_most_of (length blocks) 192 (omega (
+    let some : nat_le (length blocks) most_bodies ≡ true =
+    at_most_of (length blocks) most_bodies (omega (
       arith,
       ap length bs,
       t.few,
@@ -149,7 +151,7 @@ push_at k r = record {
 }
 
 pub push_taken : (name : List ℕ) (base : Rectangle) (bricks : List Rectangle) (k : ℕ) (r : Rectangle)
-    → IsApart name → k < length bricks → length bricks ≤ 128
+    → IsApart name → k < length bricks → length bricks ≤ most_free
     → is_in_range (record { x = r.left; y = r.top }) ≡ true
     → steps (add_load (built_bodies name base bricks)) 0 [] (push_listed k r ∷ []) ≡ Ok (push_at k r ∷ [])
 unfolding add_load

@@ -1,6 +1,7 @@
 //! The parts of a model, as a file would list them.
 
 ghost use Rattle.std.specs.Prelude.{◌≡◌, ◌<◌, ◌≤◌, ◌∷◌, [], IfOk, map, length, string_bytes};
+ghost use Rattle.stack_whole.specs.Limits.{most_free};
 ghost use Rattle.stack_model.specs.Raw.{raw_material, raw_block, raw_load, lists_view};
 ghost use Rattle.stack_model.specs.Relisted.{coordinates, material_listed};
 ghost use Rattle.stack_overhang.specs.Bricks.{rectangle_corners, brick_name};
@@ -60,7 +61,7 @@ fn block(alloc: Global, name: String, fixed: bool, r: Rectangle) -> Result<RawBl
 
 /// The name of brick `k`, from 0.
 fn name(alloc: Global, k: usize) -> Result<String, AllocError>
-    requires { k < 128 }
+    requires { k < most_free }
     ensures { IfOk result (λ s. string_bytes s ≡ brick_name k) }
 {
     format!(in alloc; "b{}", k + 1)
@@ -73,7 +74,7 @@ pub fn blocks(
     base: Rectangle,
     bricks: &[Rectangle],
 ) -> Result<Vec<RawBlock>, AllocError>
-    requires { length bricks.now ≤ 128 }
+    requires { length bricks.now ≤ most_free }
     ensures { IfOk result (λ v. map raw_block v.items ≡ blocks_of base_name.now base bricks.now) }
 {
     let mut list = Vec::new(alloc);
@@ -86,7 +87,7 @@ pub fn blocks(
 
 /// One live load, of force 1 to the right, on the upper left corner of brick `k`.
 pub fn push_right(alloc: Global, k: usize, brick: Rectangle) -> Result<Vec<RawLoad>, AllocError>
-    requires { k < 128 }
+    requires { k < most_free }
     ensures { IfOk result (λ v. map raw_load v.items ≡ push_listed k brick ∷ []) }
 {
     let mut list = Vec::new(alloc);

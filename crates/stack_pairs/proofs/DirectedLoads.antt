@@ -3,20 +3,16 @@ use Rattle.std.proofs.Common.{◌≡◌, ◌≢◌, refl, sym, ap, ◌∙◌, �
 use Rattle.std.proofs.Common.{[], length, get_or, arith, nat_eq, ◌&&◌, not, if◌then◌else◌}
 use lib.IntN.{ℤ, pos, ◌+ℤ◌, ◌-ℤ◌, ◌*ℤ◌}
 use Rattle.std.proofs.lemmas.Bool.{ne_eqb, eq-eqb, eqb-true}
-use Rattle.stack_algebra.specs.Sums.{sum_to, sum_of}
-use Rattle.stack_algebra.proofs.Integers.{expand, sums}
-use Rattle.stack_algebra.proofs.IntegerRing.{integers}
+use Rattle.stack_equilibrium.proofs.Common.{Load, Structure, Wrench, bearing_of, body_of, expand, first_corner_of}
+use Rattle.stack_equilibrium.proofs.Common.{integers, load_of, loads_on, origin, scene_bearing_of, sum_to, sums}
+use Rattle.stack_equilibrium.proofs.Common.{wrench_sum}
+use Rattle.stack_algebra.specs.Sums.{sum_of}
 use Rattle.stack_algebra.proofs.Sums.{over-index, over-append}
 use Rattle.stack_polygon.specs.declared.point.Point.{Point}
-use Rattle.stack_polygon.specs.Corners.{origin}
-use Rattle.stack_model.specs.declared.types.Load.{Load}
-use Rattle.stack_model.specs.Structure.{Structure, body_of, load_of}
-use Rattle.stack_statics.specs.declared.wrench.Wrench.{Wrench}
 use Rattle.stack_equilibrium.specs.declared.types.Question.TheVariants.{Dead, Live}
-use Rattle.stack_statics.specs.Loads.{no_load, load_wrench, wrench_sum, sum_of_triangles, moment_of_triangle}
+use Rattle.stack_statics.specs.Loads.{no_load, load_wrench, sum_of_triangles, moment_of_triangle}
 use Rattle.stack_statics.specs.Sway.{sway_load, level_moment_of_triangle}
-use Rattle.stack_equilibrium.specs.SurveyScene.{acting, listed_on, loads_on, weight_at, unit_weight_of, first_corner_of}
-use Rattle.stack_equilibrium.specs.SurveyScene.{scene_bearing_of, bearing_of}
+use Rattle.stack_equilibrium.specs.SurveyScene.{acting, listed_on, weight_at, unit_weight_of}
 use Rattle.stack_polygon.specs.Plane.{triangle_of}
 use Rattle.stack_pairs.specs.Pairs.{times_wrench}
 use Rattle.stack_pairs.specs.Directed.{times_load, directed_load, directed_from, directed_structure, wrench_on, ArePair}

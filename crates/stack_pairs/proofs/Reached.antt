@@ -2,24 +2,17 @@
 use Rattle.std.proofs.Common.{◌≡◌, refl, sym, ap, ◌∙◌, subst, subst₂, ℕ, zero, suc, ◌+◌, cond, List, [], ◌∷◌, get_or}
 use native.Mathlib.Omega.{arith}
 use lib.IntN.{ℤ, pos, ◌+ℤ◌, ◌-ℤ◌, ◌*ℤ◌, neg_ℤ}
-use Rattle.stack_algebra.proofs.Over.{over, over-is}
+use Rattle.stack_equilibrium.proofs.Common.{Carries, CertificateValue, ForcesValue, IsProper, IsTrueCertificate}
+use Rattle.stack_equilibrium.proofs.Common.{IsTrueCollapse, MotionValue, Move, Scene, SceneForces, Surveyed, Wrench}
+use Rattle.stack_equilibrium.proofs.Common.{collapses, dead_power_of, expand, forces_of, free_before, greatest}
+use Rattle.stack_equilibrium.proofs.Common.{greatest_is_carried, live_power_of, move_at, move_of, moves_of, mul_nonneg}
+use Rattle.stack_equilibrium.proofs.Common.{mul_pos, over, scene_of, stands, still, sums, unbounded, ◌≺◌, ◌≼◌}
+use Rattle.stack_algebra.proofs.Over.{over-is}
 use Rattle.stack_algebra.proofs.Fractions.{den_pos}
 use Rattle.stack_algebra.proofs.CrossProducts.{cancel}
-use Rattle.stack_algebra.proofs.Integers.{expand, sums}
-use Rattle.stack_algebra.proofs.Order.{◌≼◌, ◌≺◌, mul_pos, mul_nonneg}
-use Rattle.stack_contact.specs.Surveyed.{Surveyed}
-use Rattle.stack_certificate.specs.Certificate.{ForcesValue, MotionValue, CertificateValue}
-use Rattle.stack_certificate.specs.Certificate.{stands, collapses, greatest, unbounded}
-use Rattle.stack_statics.specs.declared.wrench.Wrench.{Wrench}
-use Rattle.stack_statics.specs.Scene.{Move, Scene, IsProper}
-use Rattle.stack_statics.specs.Balance.{Carries}
-use Rattle.stack_statics.specs.Motions.{IsUnresisted, dead_power_of, live_power_of}
-use Rattle.stack_statics.specs.Certificates.{SceneForces, free_before, move_of, still}
-use Rattle.stack_statics.specs.Certificates.{IsTrueCollapse, IsTrueGreatest, IsTrueUnbounded}
-use Rattle.stack_equilibrium.specs.SurveyScene.{scene_of}
-use Rattle.stack_equilibrium.specs.Held.{forces_of, moves_of, move_at}
-use Rattle.stack_equilibrium.specs.Truth.{IsTrueCertificate}
-use Rattle.stack_statics.proofs.CertificateLaws.{greatest_is_carried, unbounded_carries_all}
+use Rattle.stack_statics.specs.Motions.{IsUnresisted}
+use Rattle.stack_statics.specs.Certificates.{IsTrueGreatest, IsTrueUnbounded}
+use Rattle.stack_statics.proofs.CertificateLaws.{unbounded_carries_all}
 use Rattle.stack_equilibrium.proofs.FreeNumbers.{before_is}
 use Rattle.stack_pairs.specs.Pairs.{toward, CarriesLoads, load_power_of}
 use Rattle.stack_pairs.specs.Directed.{ArePair, directed_survey, wrench_on, CarriesPair}

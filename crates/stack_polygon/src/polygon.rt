@@ -73,6 +73,14 @@ impl Polygon {
         Ok(Polygon { corners })
     }
 
+    /// A polygon has 3 to 32 corners in range and is strictly convex. Does nothing.
+    pub fn valid(&self)
+        ensures { IsPolygon self.now }
+    {
+        // What the type keeps is known once a field is named.
+        let _ = &self.corners;
+    }
+
     /// The number of corners, 3 to 32.
     pub fn len(&self) -> usize
         ensures value { result ≡ length self.now }

@@ -1,13 +1,10 @@
 -- Amounts of the edges of a cone exert what the part between them does, and this part lies in the cone.
 use Rattle.std.proofs.Common.{◌≡◌, arith, ℤ, pos, ◌+ℤ◌, ◌-ℤ◌, ◌*ℤ◌, neg_ℤ}
 use Rattle.std.proofs.lemmas.Int.{ints}
-use Rattle.stack_algebra.specs.IntegerOrder.{◌≼◌, ◌≺◌, abs}
-use Rattle.stack_algebra.proofs.Integers.{expand, sums}
-use Rattle.stack_algebra.proofs.Order.{mul_nonneg, nonneg-sub}
-use Rattle.stack_algebra.proofs.IntegerRing.{integers}
-use Rattle.stack_algebra.proofs.Sums.{sum_same}
-use Rattle.stack_statics.specs.Scene.{SceneBearing}
-use Rattle.stack_statics.specs.Balance.{bearing_side, IsWithinCone}
+use Rattle.stack_equilibrium.proofs.Common.{IsWithinCone, SceneBearing, abs, bearing_side, expand, integers, mul_nonneg}
+use Rattle.stack_equilibrium.proofs.Common.{sum_same, sums}
+use Rattle.stack_algebra.specs.IntegerOrder.{◌≼◌, ◌≺◌}
+use Rattle.stack_algebra.proofs.Order.{nonneg-sub}
 use Rattle.stack_posing.specs.Edges.{part_between, EdgesExertTheirPart, PartsBetweenEdgesAreAdmissible}
 
 -- a part between the edges of its cone stays in the cone

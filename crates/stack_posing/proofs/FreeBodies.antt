@@ -2,13 +2,8 @@
 use Rattle.std.proofs.Common.{◌≡◌, refl, sym, ap, ◌∙◌, ℕ, zero, suc, ◌+◌, ◌<◌, Bool, true, false, not, cond, ◌&&◌, eqb}
 use Rattle.std.proofs.Common.{arith, eq-eqb, T, eqb→eq, ℤ, pos, ◌+ℤ◌}
 use native.Mathlib.Decide.{ℕ_discrete}
-use Rattle.stack_algebra.specs.Sums.{sum_to}
-use Rattle.stack_algebra.proofs.Integers.{sums}
-use Rattle.stack_algebra.proofs.IntegerRing.{integers}
-use Rattle.stack_algebra.proofs.Sums.{sum_same, sum_more}
-use Rattle.stack_statics.specs.Scene.{Scene}
-use Rattle.stack_statics.specs.Certificates.{free_before}
-use Rattle.stack_equilibrium.specs.SurveyScene.{scene_of}
+use Rattle.stack_equilibrium.proofs.Common.{Scene, free_before, integers, scene_of, sum_same, sum_to, sums}
+use Rattle.stack_algebra.proofs.Sums.{sum_more}
 use Rattle.stack_equilibrium.proofs.FreeNumbers.{before_is, all_before}
 use Rattle.stack_contact.specs.FreeBlocks.{free_of}
 use Rattle.stack_contact.proofs.Frees.{free_block}

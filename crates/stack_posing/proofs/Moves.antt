@@ -1,17 +1,12 @@
 -- Moves by number are a motion, and the work of edges on them opens and slides bearings.
 use Rattle.std.proofs.Common.{◌≡◌, refl, sym, ap, subst, ◌∙◌, ℕ, ◌<◌, Bool, true, false, cond, get_or, arith}
 use lib.IntN.{ℤ, pos, negsuc, ◌+ℤ◌, ◌*ℤ◌, neg_ℤ}
-use Rattle.stack_algebra.specs.Sums.{sum_to}
-use Rattle.stack_algebra.specs.IntegerOrder.{◌≼◌, abs}
-use Rattle.stack_algebra.proofs.Integers.{expand, sums}
-use Rattle.stack_algebra.proofs.IntegerRing.{integers}
-use Rattle.stack_algebra.proofs.Sums.{sum_same}
-use Rattle.stack_algebra.proofs.Listed.{length_listed, listed_item}
-use Rattle.stack_statics.specs.declared.wrench.Wrench.{Wrench}
-use Rattle.stack_statics.specs.Scene.{Move, Scene, IsProper}
+use Rattle.stack_equilibrium.proofs.Common.{IsProper, Move, Scene, Wrench, abs, expand, free_before, integers}
+use Rattle.stack_equilibrium.proofs.Common.{length_listed, listed_item, move_of, opening_of, power_of, slide_of, still}
+use Rattle.stack_equilibrium.proofs.Common.{sum_same, sum_to, sums}
+use Rattle.stack_algebra.specs.IntegerOrder.{◌≼◌}
 use Rattle.stack_statics.specs.Balance.{edge_of_cone}
-use Rattle.stack_statics.specs.Motions.{opening_of, slide_of, power_of, KeepsFixedStill}
-use Rattle.stack_statics.specs.Certificates.{still, free_before, move_of}
+use Rattle.stack_statics.specs.Motions.{KeepsFixedStill}
 use Rattle.stack_statics.proofs.BearingWork.{exerted_power}
 use Rattle.stack_posing.specs.FreeBodies.{free_bodies}
 use Rattle.stack_posing.specs.Edges.{edge_on}

@@ -5,16 +5,11 @@ use Rattle.std.specs.List.{AllByRecursion}
 use Rattle.std.proofs.lemmas.List.{get_or_append_left, get_or_push, length-append, length-map, map-append}
 use native.Mathlib.Decide.{dec_le}
 use lib.IntN.{ℤ, pos, negsuc}
-use Rattle.stack_algebra.specs.Listed.{listed}
+use Rattle.stack_equilibrium.proofs.Common.{IsBelowBound, IsSmall, Surveyed, Wrench, body_number, frees_of, listed}
+use Rattle.stack_equilibrium.proofs.Common.{scene_of}
 use Rattle.stack_algebra.proofs.Listed.{listed_more}
-use Rattle.stack_whole.specs.Limits.{IsBelowBound}
-use Rattle.stack_contact.specs.FreeBlocks.{frees_of}
-use Rattle.stack_contact.specs.Surveyed.{Surveyed}
-use Rattle.stack_statics.specs.declared.wrench.Wrench.{Wrench}
 use Rattle.stack_equilibrium.specs.declared.types.Question.TheVariants.{Dead}
-use Rattle.stack_equilibrium.specs.LoadSizes.{IsSmall}
-use Rattle.stack_equilibrium.specs.SurveyScene.{scene_of}
-use Rattle.stack_equilibrium.specs.Answers.{body_in, body_number}
+use Rattle.stack_equilibrium.specs.Answers.{body_in}
 use Rattle.stack_posing.specs.Edges.{edge_on}
 use Rattle.stack_posing.specs.ByNumber.{dead_on}
 use Rattle.stack_table.specs.declared.problem.Column.{Column}

@@ -1,13 +1,10 @@
 -- What solves the equations of the free bodies is balanced forces.
 use Rattle.std.proofs.Common.{◌≡◌, sym, ap, subst, ◌∙◌, ℕ, ◌<◌, ℤ, pos, ◌+ℤ◌, ◌*ℤ◌}
-use Rattle.stack_algebra.specs.Sums.{sum_to}
-use Rattle.stack_algebra.proofs.IntegerRing.{integers}
-use Rattle.stack_algebra.proofs.Sums.{sum_same}
-use Rattle.stack_algebra.proofs.Listed.{length_listed, listed_item}
-use Rattle.stack_statics.specs.Scene.{BearingPart, SceneBearing, Scene, IsProper}
-use Rattle.stack_statics.specs.Balance.{force_x_of, force_y_of, moment_of, bearing_side, IsWithinCone, IsAdmissible}
-use Rattle.stack_statics.specs.Balance.{IsBalanced}
-use Rattle.stack_statics.specs.Certificates.{scene_part_at, free_before}
+use Rattle.stack_equilibrium.proofs.Common.{IsBalanced, IsProper, IsWithinCone, Scene, SceneBearing, bearing_side}
+use Rattle.stack_equilibrium.proofs.Common.{force_x_of, force_y_of, free_before, integers, length_listed, listed_item}
+use Rattle.stack_equilibrium.proofs.Common.{moment_of, scene_part_at, sum_same, sum_to}
+use Rattle.stack_statics.specs.Scene.{BearingPart}
+use Rattle.stack_statics.specs.Balance.{IsAdmissible}
 use Rattle.stack_posing.specs.Edges.{Amounts, part_from}
 use Rattle.stack_posing.specs.Equations.{IsSolvedAt, IsSolution, forces_from, SolutionsAreForces}
 use Rattle.stack_posing.proofs.FreeBodies.{before_less, free_found}

@@ -1,13 +1,9 @@
 -- The entries of the problem of a survey are what its columns and loads are.
 use Rattle.std.proofs.Common.{◌≡◌, refl, sym, ap, ◌∙◌, ℕ, ◌+◌, ◌*◌, ◌/◌, ◌%◌, ◌<◌, cond, eqb, ltb, length, arith, neg_ℤ}
 use Rattle.std.proofs.Common.{pos, lt-ltb, le-ltb, eq-eqb}
-use Rattle.stack_contact.specs.FreeBlocks.{frees_of}
-use Rattle.stack_contact.specs.Surveyed.{Surveyed}
-use Rattle.stack_statics.specs.declared.wrench.Wrench.{Wrench}
+use Rattle.stack_equilibrium.proofs.Common.{Surveyed, Wrench, body_number, frees_of, scene_of}
 use Rattle.stack_equilibrium.specs.declared.types.Question.{Question}
 use Rattle.stack_equilibrium.specs.declared.types.Question.TheVariants.{Live}
-use Rattle.stack_equilibrium.specs.SurveyScene.{scene_of}
-use Rattle.stack_equilibrium.specs.Answers.{body_number}
 use Rattle.stack_posing.specs.FreeBodies.{free_at, free_bodies, AreFreeBlocks}
 use Rattle.stack_posing.specs.Edges.{edge_on}
 use Rattle.stack_posing.specs.ByNumber.{dead_on, live_on}

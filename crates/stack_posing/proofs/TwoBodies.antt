@@ -3,19 +3,13 @@ use Rattle.std.proofs.Common.{◌≡◌, refl, sym, ap, subst, ◌∙◌, ℕ, z
 use Rattle.std.proofs.Common.{List, [], length, cond, eqb, not, arith, Result, Ok, Err, Vec, IfOk, ℤ, pos, negsuc, ◌*ℤ◌}
 use Rattle.std.specs.declared.alloc.AllocError.{AllocError}
 use Rattle.std.specs.declared.alloc.Global.{Global}
-use Rattle.stack_algebra.proofs.Integers.{sums, expand}
+use Rattle.stack_equilibrium.proofs.Common.{Bearing, IsPair, IsSmall, SceneBearing, Surveyed, Wrench, bearing_of}
+use Rattle.stack_equilibrium.proofs.Common.{bearing_side, body_number, expand, force_x_of, force_y_of, moment_of}
+use Rattle.stack_equilibrium.proofs.Common.{scene_of, sums}
 use Rattle.stack_model.specs.Structure.{body_at}
-use Rattle.stack_contact.specs.declared.types.Bearing.{Bearing}
 use Rattle.stack_contact.specs.FreeBlocks.{frees_before}
-use Rattle.stack_contact.specs.Surveyed.{Surveyed}
-use Rattle.stack_contact.specs.ContactLists.{IsPair}
 use Rattle.stack_contact.proofs.Frees.{before_is_within, found_again}
-use Rattle.stack_statics.specs.declared.wrench.Wrench.{Wrench}
-use Rattle.stack_equilibrium.specs.LoadSizes.{IsSmall}
-use Rattle.stack_statics.specs.Balance.{bearing_side, force_x_of, force_y_of, moment_of, edge_of_cone}
-use Rattle.stack_statics.specs.Scene.{SceneBearing}
-use Rattle.stack_equilibrium.specs.SurveyScene.{scene_of, bearing_of}
-use Rattle.stack_equilibrium.specs.Answers.{body_number}
+use Rattle.stack_statics.specs.Balance.{edge_of_cone}
 use Rattle.stack_equilibrium.proofs.FreeNumbers.{before_is, all_before}
 use Rattle.stack_posing.specs.Edges.{edge_on}
 use Rattle.stack_table.specs.declared.problem.Entry.{Entry}

@@ -5,15 +5,10 @@ use Rattle.std.proofs.Common.{lt-ltb, le-ltb, eq-eqb, T, eqb→eq, ℤ, pos}
 use Rattle.std.specs.declared.alloc.Global.{Global}
 use Rattle.std.specs.List.{AllByRecursion}
 use native.Mathlib.Decide.{ℕ_discrete, dec_le}
-use Rattle.stack_algebra.specs.Listed.{listed}
-use Rattle.stack_algebra.proofs.Listed.{length_listed}
-use Rattle.stack_whole.specs.Limits.{IsBelowBound}
-use Rattle.stack_contact.specs.FreeBlocks.{frees_of}
-use Rattle.stack_contact.specs.Surveyed.{Surveyed}
-use Rattle.stack_statics.specs.declared.wrench.Wrench.{Wrench}
+use Rattle.stack_equilibrium.proofs.Common.{IsBelowBound, Surveyed, Wrench, frees_of, length_listed, listed}
+use Rattle.stack_equilibrium.proofs.Common.{most_bearings, most_free, scene_of}
 use Rattle.stack_equilibrium.specs.declared.types.Question.{Question}
 use Rattle.stack_equilibrium.specs.declared.types.Question.TheVariants.{Dead, Live}
-use Rattle.stack_equilibrium.specs.SurveyScene.{scene_of}
 use Rattle.stack_posing.specs.FreeBodies.{free_bodies}
 use Rattle.stack_posing.specs.Edges.{edge_on}
 use Rattle.stack_posing.specs.ByNumber.{live_on}
@@ -170,7 +165,7 @@ module _ (v : Surveyed) where
   factor_sound Live (Some c) h = column_is (rows_of v) c.entries.items h.column
 
   pub the_condition : (q : Question) (n : ℕ) (cs : Vec Column Global) (o : Option Column) (rs : Vec ℤ Global)
-      → n ≡ length (frees_of v.structure.bodies) → n ≤ 128 → length v.bearings ≤ 1024
+      → n ≡ length (frees_of v.structure.bodies) → n ≤ most_free → length v.bearings ≤ most_bearings
       → AreColumns v (length v.bearings) cs.items → AreFactorEntries q v o
       → rs.items ≡ listed (rows_of v) (right_share (scene_of v)) → AllByRecursion IsBelowBound rs.items
       → IsProblem (parts n cs o rs)

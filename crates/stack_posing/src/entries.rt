@@ -1,7 +1,7 @@
 //! Columns of entries, and right sides, three rows for each free block.
 
 ghost use Rattle.std.specs.Prelude.{◌≡◌, ◌<◌, ◌++◌, ◌∷◌, [], neg_ℤ, IfOk};
-ghost use Rattle.stack_whole.specs.Limits.{IsBelowBound};
+ghost use Rattle.stack_whole.specs.Limits.{most_free, IsBelowBound};
 ghost use Rattle.stack_whole.specs.Whole.{whole};
 ghost use Rattle.stack_equilibrium.specs.LoadSizes.{IsSmall};
 ghost use Rattle.stack_posing.specs.Entries.{with_value, with_wrench as with_wrench_of, opposites};
@@ -23,7 +23,7 @@ fn with_entry(mut entries: Vec<Entry>, entry: Entry) -> Result<Vec<Entry>, Alloc
 
 /// The entries with those of a wrench on free block `b`: at most three, since those that are 0 are left out.
 pub fn with_wrench(entries: Vec<Entry>, b: usize, wrench: Wrench) -> Result<Vec<Entry>, AllocError>
-    requires { b < 128 }
+    requires { b < most_free }
     ensures { IfOk result (λ v. v.items ≡ with_wrench_of entries.items b wrench) }
 {
     let entries = with_entry(

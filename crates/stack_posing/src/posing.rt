@@ -2,7 +2,7 @@
 
 ghost use Rattle.std.specs.Prelude.{◌≡◌, ◌≤◌, ◌<◌, ◌*◌, ℕ, suc, length, IfOk};
 ghost use Rattle.std.specs.List.{AllByRecursion};
-ghost use Rattle.stack_whole.specs.Limits.{IsBelowBound};
+ghost use Rattle.stack_whole.specs.Limits.{most_free, IsBelowBound};
 ghost use Rattle.stack_contact.specs.FreeBlocks.{frees_of, frees_before};
 ghost use Rattle.stack_contact.specs.ContactLists.{IsPair};
 ghost use Rattle.stack_equilibrium.specs.SurveyScene.{scene_of, bearing_of};
@@ -38,7 +38,7 @@ fn with_body(
     i: usize,
 ) -> Result<Vec<Entry>, AllocError>
     requires bearing { k < length s.now.bearings }
-    requires few { length (frees_of s.now.structure.bodies) ≤ 128 }
+    requires few { length (frees_of s.now.structure.bodies) ≤ most_free }
     requires is_body { i < length s.now.structure.bodies }
     requires before { AreEntries (3 * frees_before s.now.structure.bodies i)
         (row_share (scene_of s.now) (edge_on (scene_of s.now) plus k)) entries.items }
@@ -55,7 +55,7 @@ fn with_body(
 /// The column of an edge of the cone of bearing `k`: the entries of its two bodies.
 fn edge_column(alloc: Global, s: &Survey, k: usize, plus: bool) -> Result<Column, AllocError>
     requires bearing { k < length s.now.bearings }
-    requires few { length (frees_of s.now.structure.bodies) ≤ 128 }
+    requires few { length (frees_of s.now.structure.bodies) ≤ most_free }
     ensures { IfOk result (λ c. AreEntries (3 * length (frees_of s.now.structure.bodies))
         (row_share (scene_of s.now) (edge_on (scene_of s.now) plus k)) c.entries.items) }
 {
@@ -69,8 +69,7 @@ fn edge_column(alloc: Global, s: &Survey, k: usize, plus: bool) -> Result<Column
 fn contact_columns(alloc: Global, s: &Survey) -> Result<Vec<Column>, AllocError>
     ensures { IfOk result (λ v. AreColumns s.now (length s.now.bearings) v.items) }
 {
-    // at most 128 free blocks
-    let _free = s.free_count();
+    s.within();
     let mut columns = Vec::new(alloc);
     for k in 0..s.bearings().len() {
         columns.push(edge_column(alloc, s, k, true)?)?;
@@ -124,8 +123,7 @@ pub fn pose(alloc: Global, s: &Survey, q: Question) -> Result<Problem, AllocErro
     ensures condition { IfOk result (λ p. IsProblem p) }
     ensures lean { IfOk result (λ p. IsLean p) }
 {
-    // at most 1,024 bearings, on which the condition stands
-    let _bearings = s.bearings();
+    s.within();
     Ok(Problem {
         rows: 3 * s.free_count(),
         contact: contact_columns(alloc, s)?,

@@ -3,11 +3,9 @@ use mathlib.Core.Path.{◌≡◌, subst₂}
 use native.Mathlib.Omega.{arith}
 use lib.IntN.{ℤ, pos, ◌+ℤ◌, ◌-ℤ◌, ◌*ℤ◌}
 use Rattle.std.proofs.lemmas.Int.{by_lt_z}
-use Rattle.stack_algebra.proofs.Integers.{expand, sums}
-use Rattle.stack_algebra.proofs.Order.{◌≼◌, ◌≺◌, mul_pos, mul_nonneg}
-use Rattle.stack_statics.specs.Scene.{Scene, IsProper}
-use Rattle.stack_statics.specs.Balance.{IsBalanced, Carries}
-use Rattle.stack_statics.proofs.Mixtures.{mixed, balanced_mixed, admissible_mixed}
+use Rattle.stack_equilibrium.proofs.Common.{Carries, IsBalanced, IsProper, Scene, expand, mixed, mul_nonneg, mul_pos}
+use Rattle.stack_equilibrium.proofs.Common.{sums, ◌≺◌, ◌≼◌}
+use Rattle.stack_statics.proofs.Mixtures.{balanced_mixed, admissible_mixed}
 use Rattle.stack_range.specs.Laws.{WhatLiesBetweenIsCarried}
 
 -- v times one and w times the other

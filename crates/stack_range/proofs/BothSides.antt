@@ -2,11 +2,8 @@
 use mathlib.Core.Path.{◌≡◌, refl, sym, subst, ap, ◌∙◌}
 use Prim.Native.Nat.{ℕ}
 use lib.IntN.{pos}
-use Rattle.stack_contact.specs.Surveyed.{Surveyed}
-use Rattle.stack_certificate.specs.Certificate.{MotionValue, stands, collapses, greatest, unbounded}
-use Rattle.stack_statics.specs.Scene.{IsProper}
-use Rattle.stack_statics.specs.Balance.{Carries}
-use Rattle.stack_equilibrium.specs.SurveyScene.{scene_of}
+use Rattle.stack_equilibrium.proofs.Common.{Carries, IsProper, MotionValue, Surveyed, collapses, greatest, scene_of}
+use Rattle.stack_equilibrium.proofs.Common.{stands, unbounded}
 use Rattle.stack_equilibrium.specs.declared.types.Question.TheVariants.{Live}
 use Rattle.stack_judge.specs.Judgement.{Judgement, certified, too_wide, spent, unjudged}
 use Rattle.stack_judge.proofs.EachJudged.{each_end_is_judged}

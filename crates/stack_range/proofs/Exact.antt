@@ -3,15 +3,11 @@ use mathlib.Core.Path.{◌≡◌, sym, subst, subst₂}
 use native.Mathlib.Omega.{arith}
 use lib.IntN.{ℤ, pos, ◌*ℤ◌, neg_ℤ}
 use Rattle.std.proofs.lemmas.Int.{ints, by_lt_z}
-use Rattle.stack_algebra.proofs.Integers.{expand, sums}
-use Rattle.stack_algebra.proofs.Order.{◌≼◌, ◌≺◌}
-use Rattle.stack_statics.specs.Scene.{Scene, IsProper}
-use Rattle.stack_statics.specs.Balance.{IsBalanced, Carries}
-use Rattle.stack_equilibrium.specs.Held.{forces_of, moves_of}
-use Rattle.stack_equilibrium.specs.SurveyScene.{scene_of}
-use Rattle.stack_statics.specs.Certificates.{SceneForces, scene_part_at, IsTrueLoaded, Certifies}
+use Rattle.stack_equilibrium.proofs.Common.{Carries, Certifies, IsBalanced, IsProper, IsTrueLoaded, Scene, SceneForces}
+use Rattle.stack_equilibrium.proofs.Common.{expand, forces_of, greatest_is_carried, moves_of, scene_of, scene_part_at}
+use Rattle.stack_equilibrium.proofs.Common.{sums, ◌≺◌, ◌≼◌}
 use Rattle.stack_equilibrium.specs.Truth.{held}
-use Rattle.stack_statics.proofs.CertificateLaws.{greatest_is_carried, greatest_bounds_every_factor}
+use Rattle.stack_statics.proofs.CertificateLaws.{greatest_bounds_every_factor}
 use Rattle.stack_statics.proofs.CertificateLaws.{unbounded_carries_above}
 use Rattle.stack_range.specs.Reversed.{reversed_scene}
 use Rattle.stack_range.specs.CarriedFactors.{EndValue, at, unlimited, range_end_certificate, IsWithinEnd}

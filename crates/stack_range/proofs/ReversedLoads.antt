@@ -4,10 +4,9 @@ use Rattle.std.specs.Prelude.{ℤ, pos, negsuc, neg_ℤ, if◌then◌else◌}
 use Rattle.std.proofs.lemmas.Int.{ints}
 use Rattle.std.proofs.lemmas.List.{length-map, get_or-map}
 use Rattle.stack_algebra.specs.IntegerOrder.{◌≼◌}
-use Rattle.stack_model.specs.declared.types.Load.{Load}
-use Rattle.stack_model.specs.Structure.{NamedBody, Structure, IsSway, load_of}
-use Rattle.stack_model.specs.Sound.{IsSound}
-use Rattle.stack_model.specs.Borne.{IsBorne, MayBear}
+use Rattle.stack_equilibrium.proofs.Common.{IsSound, Load, MayBear, NamedBody, Structure, load_of}
+use Rattle.stack_model.specs.Structure.{IsSway}
+use Rattle.stack_model.specs.Borne.{IsBorne}
 use Rattle.stack_range.specs.Reversed.{reversed_load, reversed_sway}
 
 -- a part of a reversed force is no less than the limit

@@ -2,21 +2,19 @@
 use Rattle.std.proofs.Common.{◌≡◌, ℕ, ◌<◌, Bool, true, false, not, ◌&&◌, List, [], ◌∷◌, length, map, refl, sym, subst}
 use Rattle.std.proofs.Common.{ap, ◌∙◌, arith, ◌↔◌, ℤ, pos, neg_ℤ, ◌+ℤ◌, ◌-ℤ◌, ◌*ℤ◌, nat_eq, if◌then◌else◌}
 use Rattle.std.proofs.lemmas.List.{length-map, get_or-map}
-use Rattle.stack_algebra.specs.Sums.{sum_to}
-use Rattle.stack_algebra.proofs.Integers.{expand, sums, mul_neg}
-use Rattle.stack_algebra.proofs.IntegerRing.{integers}
-use Rattle.stack_algebra.proofs.Sums.{sum_same, sum_neg}
+use Rattle.stack_equilibrium.proofs.Common.{Carries, Structure, Wrench, bearing_of, body_of, expand, first_corner_of}
+use Rattle.stack_equilibrium.proofs.Common.{integers, load_of, loads_on, scene_bearing_of, scene_of, sum_same, sum_to}
+use Rattle.stack_equilibrium.proofs.Common.{sums, wrench_sum}
+use Rattle.stack_equilibrium.specs.declared.types.Question.{Question}
+use Rattle.stack_algebra.proofs.Integers.{mul_neg}
+use Rattle.stack_algebra.proofs.Sums.{sum_neg}
 use Rattle.stack_polygon.specs.declared.point.Point.{Point}
 use Rattle.stack_polygon.specs.Plane.{triangle_of}
-use Rattle.stack_model.specs.Structure.{Structure, load_of, body_of}
-use Rattle.stack_statics.specs.declared.wrench.Wrench.{Wrench}
-use Rattle.stack_equilibrium.specs.declared.types.Question.{Question}
 use Rattle.stack_equilibrium.specs.declared.types.Question.TheVariants.{Dead, Live}
-use Rattle.stack_statics.specs.Balance.{Carries}
-use Rattle.stack_statics.specs.Loads.{no_load, load_wrench, wrench_sum, sum_of_triangles, moment_of_triangle}
+use Rattle.stack_statics.specs.Loads.{no_load, load_wrench, sum_of_triangles, moment_of_triangle}
 use Rattle.stack_statics.specs.Sway.{sway_load, level_moment_of_triangle}
-use Rattle.stack_equilibrium.specs.SurveyScene.{acting, listed_on, first_corner_of, unit_weight_of, weight_at}
-use Rattle.stack_equilibrium.specs.SurveyScene.{sway_load_at, loads_on, scene_bearing_of, bearing_of, scene_of}
+use Rattle.stack_equilibrium.specs.SurveyScene.{acting, listed_on, unit_weight_of, weight_at}
+use Rattle.stack_equilibrium.specs.SurveyScene.{sway_load_at}
 use Rattle.stack_range.specs.Reversed.{reversed_load, reversed_sway, reversed_structure, opposite_wrench}
 use Rattle.stack_range.specs.Laws.{ReversedScenesAreTheirs, ReversalTurnsFactors}
 use Rattle.stack_range.proofs.Turned.{scene_turns_factors}

@@ -5,12 +5,8 @@ use Prim.Native.Nat.{ℕ, ◌<◌}
 use lib.IntN.{ℤ, pos, neg_ℤ}
 use Rattle.std.proofs.lemmas.Int.{ints}
 use Rattle.std.proofs.lemmas.List.{length-map, get_or-map}
-use Rattle.stack_model.specs.declared.types.Load.{Load}
-use Rattle.stack_model.specs.Structure.{Structure, HasLive}
-use Rattle.stack_contact.specs.Surveyed.{Surveyed}
+use Rattle.stack_equilibrium.proofs.Common.{Carries, HasLive, Load, Structure, Surveyed, scene_of}
 use Rattle.stack_certificate.specs.declared.types.Motion.{Motion}
-use Rattle.stack_statics.specs.Balance.{Carries}
-use Rattle.stack_equilibrium.specs.SurveyScene.{scene_of}
 use Rattle.stack_extract.specs.EndLaws.{TellsOfDeadLoads}
 use Rattle.stack_range.specs.declared.types.Side.TheVariants.{Greatest, Least}
 use Rattle.stack_range.specs.declared.types.End.{End}

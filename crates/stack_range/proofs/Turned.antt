@@ -2,9 +2,7 @@
 use Rattle.std.proofs.Common.{arith, ◌↔◌}
 use mathlib.Core.Path.{◌≡◌}
 use lib.IntN.{ℤ, ◌*ℤ◌, neg_ℤ}
-use Rattle.stack_algebra.proofs.Integers.{expand, sums}
-use Rattle.stack_statics.specs.Scene.{Scene}
-use Rattle.stack_statics.specs.Balance.{Carries}
+use Rattle.stack_equilibrium.proofs.Common.{Carries, Scene, expand, sums}
 use Rattle.stack_range.specs.Reversed.{reversed_scene}
 
 -- the live loads count the same

@@ -53,8 +53,7 @@ fn reversed_sway(sway: (i64, i64)) -> (i64, i64)
 fn reversed_model(alloc: Global, model: &Model) -> Result<Model, AllocError>
     ensures { IfOk result (λ m. model_view m ≡ reversed_structure (model_view model.now)) }
 {
-    // a model is sound: its loads and its sway are within their limits
-    let _bodies = model.bodies();
+    model.sound();
     let loads = reversed_loads(alloc, model)?;
     model.with_loads(alloc, loads.as_slice(), reversed_sway(model.sway()))
 }

@@ -170,16 +170,16 @@ multiple_of_power (suc k) n h = (λ t. n / pow-suc 2 k t * pow-suc 2 k t)
     doubled : (a b : ℕ) → a % 2 ≡ 0 → a / 2 * (b * 2) ≡ a * b
     doubled a b e = omega (arith, ap (λ z. z * b) (half a e))
 
--- a shift that loses nothing, since it gives a divisor
-pub shifted_divisor : (a b p q i j g : ℕ) → 0 < a → a < 2 ^ 64 → p * 2 ^ i ≡ a → q * 2 ^ j ≡ b → p % 2 ≡ 1 →
+-- a shift that loses nothing, since it gives a divisor, and both numbers are below the bound m of the width
+pub shifted_divisor : (m a b p q i j g : ℕ) → 0 < a → a < m → p * 2 ^ i ≡ a → q * 2 ^ j ≡ b → p % 2 ≡ 1 →
     i ≤ j → IsGcd p q g →
-    IsGcd a b (g * 2 ^ i % 2 ^ 64)
-shifted_divisor a b p q i j g ha fa ea eb o l is = subst (λ n. IsGcd a b n) (sym (mod-eq_of_lt small)) is-gcd
+    IsGcd a b (g * 2 ^ i % m)
+shifted_divisor m a b p q i j g ha fa ea eb o l is = subst (λ n. IsGcd a b n) (sym (mod-eq_of_lt small)) is-gcd
   where
     is-gcd : IsGcd a b (g * 2 ^ i)
     is-gcd = subst₂ (λ m n. IsGcd m n (g * 2 ^ i)) ea eb (with_twos p q i j g o l is)
 
-    small : g * 2 ^ i < 2 ^ 64
+    small : g * 2 ^ i < m
     small = omega (arith, le_of_dvd ha is-gcd.0, fa)
 
 -- a divisor is no greater than the numbers

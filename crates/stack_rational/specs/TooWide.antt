@@ -42,7 +42,7 @@ sum_fits m x y =
     is_within m (common_denominator x y) && is_within m (left_term x y) && is_within m (right_term x y)
     && is_within m (left_term x y +ℤ right_term x y)
 
--- whether an operation is too wide for m. Of a whole number x counts alone, which is whole
+-- whether an operation is too wide for m. For `Whole` x is a whole number, and y isn't used
 abbrev pub is_too_wide : ℤ → Op → Fraction → Fraction → Bool
 is_too_wide m Whole x y = not (is_within m x.num)
 is_too_wide m Sum x y = not (sum_fits m x y)

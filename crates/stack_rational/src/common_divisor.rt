@@ -5,7 +5,7 @@ ghost use Rattle.std.specs.Int.{IsGcd};
 ghost use Rattle.stack_rational.specs.Stored.{Within};
 
 use crate::halves::divisor_of;
-use crate::integer::{Integer, as_wide};
+use crate::integer::{Integer, as_broad};
 
 /// The greatest common divisor of two numbers, of either sign.
 pub fn divisor<T: Integer>(a: T, b: T) -> T
@@ -21,7 +21,7 @@ pub fn divisor<T: Integer>(a: T, b: T) -> T
     if a.is_one() {
         return a;
     }
-    let g = divisor_of(as_wide(a).unsigned_abs(), as_wide(b).unsigned_abs());
+    let g = divisor_of(as_broad(a).unsigned_abs(), as_broad(b).unsigned_abs());
     match T::from_u128(g) {
         Some(d) => d,
         None => a,

@@ -13,7 +13,7 @@ ghost use Rattle.stack_rational.specs.Order.{order_of, is_zero_whole};
 
 use crate::common_divisor::divisor;
 use crate::comparing::order_of_parts;
-use crate::integer::{Integer, as_wide, is_minus, opposite, part, plus, times, unless_least};
+use crate::integer::{Integer, as_broad, is_minus, opposite, part, plus, times, unless_least};
 use std::alloc::AllocError;
 use std::cmp::Ordering;
 use std::marker::Model;
@@ -280,7 +280,7 @@ impl<T: Integer> Frac<T> {
         ensures den { result.1 ≡ pos self.den }
         ensures fits { Fits T.MAX self }
     {
-        (as_wide(self.num), as_wide(self.den))
+        (as_broad(self.num), as_broad(self.den))
     }
 
     /// Whether the number is 0.

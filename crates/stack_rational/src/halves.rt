@@ -1,5 +1,5 @@
-//! The greatest common divisor of numbers without a sign. By remainders until both numbers have 64 bits, and then
-//! by halves: a remainder costs many times what a shift does.
+//! The greatest common divisor of numbers without a sign, by halves: at 128 bits until both numbers have 64, and then
+//! at 64 bits. A remainder costs many times what a shift does.
 
 ghost use Prim.Native.Nat.{min};
 ghost use Rattle.std.specs.Prelude.{◌≡◌, ◌<◌, ◌%◌, ◌*◌, ◌^◌};
@@ -68,19 +68,68 @@ pub fn divisor_of_words(a: u64, b: u64) -> u64
     }
 }
 
-/// The greatest common divisor of two numbers; that of 0 and b is b.
-pub fn divisor_of(a: u128, b: u128) -> u128
-    ensures { IsGcd a b result }
+/// A positive number of 128 bits without its factors of 2, and how many they are.
+#[derive(Clone, Copy)]
+struct WideOddPart {
+    odd: u128,
+    twos: u32,
+}
+
+fn wide_without_twos(n: u128) -> WideOddPart
+    requires { 0 < n }
+    ensures product { result.odd * 2 ^ result.twos ≡ n }
+    ensures odd { result.odd % 2 ≡ 1 }
+    ensures few { result.twos < 128 }
 {
-    let mut x = a;
-    let mut y = b;
+    let twos = n.trailing_zeros();
+    WideOddPart {
+        odd: n >> twos,
+        twos,
+    }
+}
+
+/// The lesser of two numbers of 128 bits.
+fn wide_lesser(x: u128, y: u128) -> u128
+    ensures { result ≡ min x y }
+{
+    if x < y { x } else { y }
+}
+
+/// The greatest common divisor of an odd number and another one of 128 bits, by differences: at 64 bits from where both
+/// numbers have no more.
+fn wide_divisor_of_odd(odd: u128, other: u128) -> u128
+    requires { odd % 2 ≡ 1 }
+    ensures { IsGcd odd other result }
+{
+    let mut x = odd;
+    let mut y = other;
     'steps: while x > u128::from(u64::MAX) || y > u128::from(u64::MAX) {
         if y == 0 {
             return x;
         }
-        let rest = x % y;
-        x = y;
-        y = rest;
+        let part = wide_without_twos(y).odd;
+        y = x.abs_diff(part);
+        x = wide_lesser(x, part);
     }
-    u128::from(divisor_of_words(x as u64, y as u64))
+    u128::from(divisor_of_odd(x as u64, y as u64))
+}
+
+/// The greatest common divisor of two numbers; that of 0 and b is b.
+pub fn divisor_of(a: u128, b: u128) -> u128
+    ensures { IsGcd a b result }
+{
+    if a == 0 {
+        return b;
+    }
+    if b == 0 {
+        return a;
+    }
+    let left = wide_without_twos(a);
+    let right = wide_without_twos(b);
+    let odd = wide_divisor_of_odd(left.odd, right.odd);
+    if left.twos <= right.twos {
+        odd << left.twos
+    } else {
+        odd << right.twos
+    }
 }

@@ -163,7 +163,7 @@ pub fn opposite<T: Integer>(x: T) -> T
 }
 
 /// A number of the type at 128 bits.
-pub fn as_wide<T: Integer>(x: T) -> i128
+pub fn as_broad<T: Integer>(x: T) -> i128
     requires { Within T.MAX (T.value x) }
     ensures { result ≡ T.value x }
 {

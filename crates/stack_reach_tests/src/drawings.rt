@@ -3,7 +3,6 @@
 use stack_contact::{Survey, survey};
 use stack_reader::read_model;
 use std::alloc::Global;
-use std::test::Fail;
 
 pub const SWAY: &str = "version = 2\nsway = [1, -2]\n";
 
@@ -43,7 +42,8 @@ pub const FOUR: &[&str] = &[
 ];
 
 /// The survey of the structure whose model file has these pieces.
-pub fn surveyed(alloc: Global, pieces: &[&str]) -> Result<Survey, Fail> {
-    let text = pieces.concat(alloc)?;
-    Ok(survey(alloc, read_model(alloc, text.as_bytes())?)?)
+pub fn surveyed(alloc: Global, pieces: &[&str]) -> Option<Survey> {
+    let text = pieces.concat(alloc).ok()?;
+    let model = read_model(alloc, text.as_bytes()).ok()?;
+    survey(alloc, model).ok()
 }

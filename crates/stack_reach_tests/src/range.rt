@@ -5,66 +5,78 @@ use crate::drawings::{
     GROUND, LOW_GROUND, POST, PRESSURE, PUSH, PUSHED, STANDING, STONE, SWAY, surveyed,
 };
 use stack_contact::Survey;
-use stack_range::{Range, RangeError, Side, other_side, range, write_range};
+use stack_range::{RangeError, Side, other_side, range, write_range};
 use std::alloc::Global;
 use std::test::*;
 
-/// Whether the text of the range begins with this line.
-fn begins(alloc: Global, s: &Survey, line: &str) -> Result<bool, Fail> {
-    let found = range(alloc, s, 20_000).ok().ok_or("no range")?;
-    let text = write_range(alloc, found)?;
-    Ok(text.as_slice().starts_with(line.as_bytes()))
+/// Whether the text of the range begins with these lines.
+fn begins(alloc: Global, pieces: &[&str], lines: &str) -> Option<bool> {
+    let s = surveyed(alloc, pieces)?;
+    let Ok(found) = range(alloc, &s, 20_000) else {
+        return None;
+    };
+    let text = write_range(alloc, found).ok()?;
+    Some(text.as_slice().starts_with(lines.as_bytes()))
+}
+
+const PRESSED: &[&str] = &[STONE, GROUND, POST, PRESSURE];
+
+const FLOATING: &[&str] = &[STONE, LOW_GROUND, POST, PUSH];
+
+/// The pushed post tips to either side at two pushes, the pressed one is lifted by its weight alone, and a floating one
+/// falls whatever pushes it.
+#[test]
+fn the_ranges_of_posts_are_those_worked_by_hand(rt: HostRuntime) {
+    let alloc = rt.alloc();
+    let found = [
+        begins(alloc, PUSHED, "range -2/1 2/1\ngreatest\n"),
+        begins(alloc, PRESSED, "range -8/1 unlimited\nunbounded\n"),
+        begins(alloc, FLOATING, "collapses\nmotion\n"),
+    ];
+    assert_eq!(rt; found, [Some(true); 3]);
+}
+
+/// Why one pivot gives no range.
+fn refusal(alloc: Global, pieces: &[&str]) -> Option<RangeError> {
+    let s = surveyed(alloc, pieces)?;
+    range(alloc, &s, 1).err()
 }
 
 #[test]
-fn a_pushed_post_tips_to_either_side_at_two_pushes(rt: HostRuntime) -> Result<(), Fail> {
+fn a_live_load_is_looked_for_and_the_greatest_side_is_judged_first(rt: HostRuntime) {
     let alloc = rt.alloc();
-    let s = surveyed(alloc, PUSHED)?;
-    assert!(rt; begins(alloc, &s, "range -2/1 2/1\ngreatest\n")?);
-    Ok(())
-}
-
-#[test]
-fn a_pressed_post_is_lifted_by_its_weight_alone(rt: HostRuntime) -> Result<(), Fail> {
-    let alloc = rt.alloc();
-    let s = surveyed(alloc, &[STONE, GROUND, POST, PRESSURE])?;
-    assert!(rt; begins(alloc, &s, "range -8/1 unlimited\nunbounded\n")?);
-    Ok(())
-}
-
-#[test]
-fn a_floating_post_falls_whatever_pushes_it(rt: HostRuntime) -> Result<(), Fail> {
-    let alloc = rt.alloc();
-    let s = surveyed(alloc, &[STONE, LOW_GROUND, POST, PUSH])?;
-    assert!(rt; matches!(range(alloc, &s, 20_000), Ok(Range::Collapses(_))));
-    Ok(())
-}
-
-#[test]
-fn a_live_load_is_looked_for_and_the_greatest_side_is_judged_first(
-    rt: HostRuntime,
-) -> Result<(), Fail> {
-    let alloc = rt.alloc();
-    let alone = surveyed(alloc, STANDING)?;
-    assert_eq!(rt; range(alloc, &alone, 1).err(), Some(RangeError::NoLive));
-    let pushed = surveyed(alloc, PUSHED)?;
     let spent = RangeError::Spent {
         side: Side::Greatest,
     };
-    assert_eq!(rt; range(alloc, &pushed, 1).err(), Some(spent));
-    Ok(())
+    let found = [refusal(alloc, STANDING), refusal(alloc, PUSHED)];
+    assert_eq!(rt; found, [Some(RangeError::NoLive), Some(spent)]);
+}
+
+/// The sway, the bearings, and the load along x.
+fn told(s: &Survey) -> Option<((i64, i64), usize, i64)> {
+    let model = s.model();
+    if model.loads() == 1 {
+        Some((model.sway(), s.bearings().len(), model.load(0).fx))
+    } else {
+        None
+    }
+}
+
+const THRICE: &[&str] = &[
+    SWAY,
+    STONE,
+    GROUND,
+    POST,
+    "[[load]]\nblock = 'post'\nkind = 'live'\nat = [0, 4]\nforce = [3, 0]\n",
+];
+
+fn other(alloc: Global) -> Option<((i64, i64), usize, i64)> {
+    let s = surveyed(alloc, THRICE)?;
+    let other = other_side(alloc, &s).ok()?;
+    told(&other)
 }
 
 #[test]
-fn the_other_side_is_swayed_and_pushed_the_other_way(rt: HostRuntime) -> Result<(), Fail> {
-    let alloc = rt.alloc();
-    let thrice = "[[load]]\nblock = 'post'\nkind = 'live'\nat = [0, 4]\nforce = [3, 0]\n";
-    let s = surveyed(alloc, &[SWAY, STONE, GROUND, POST, thrice])?;
-    let other = other_side(alloc, &s)?;
-    assert_eq!(rt; other.model().sway(), (-1, 2));
-    assert_eq!(rt; other.bearings().len(), 2);
-    for i in 0..other.model().loads() {
-        assert_eq!(rt; other.model().load(i).fx, -3);
-    }
-    Ok(())
+fn the_other_side_is_swayed_and_pushed_the_other_way(rt: HostRuntime) {
+    assert_eq!(rt; other(rt.alloc()), Some(((-1, 2), 2, -3)));
 }

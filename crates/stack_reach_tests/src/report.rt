@@ -26,25 +26,15 @@ touch 1 a d 2 1
 touch 2 b c 2 1
 ";
 
-#[test]
-fn the_contacts_of_a_wall_in_stack_bond_are_listed(rt: HostRuntime) -> Result<(), Fail> {
-    let alloc = rt.alloc();
-    let survey = surveyed(alloc, FOUR)?;
-    let table = contact_table(alloc, &survey)?;
-    assert_eq!(rt; table.as_slice(), TABLE.as_bytes());
-    Ok(())
+fn has_the_table(alloc: Global) -> Option<bool> {
+    let s = surveyed(alloc, FOUR)?;
+    let table = contact_table(alloc, &s).ok()?;
+    Some(table.as_slice() == TABLE.as_bytes())
 }
 
-/// The table of a certificate that the check accepts.
-fn accepted(
-    alloc: Global,
-    s: &Survey,
-    c: &Certificate,
-) -> Result<Result<Vec<u8>, ReportError>, Fail> {
-    match check(s, c) {
-        Check::Accepted => Ok(force_table(alloc, s, c)),
-        _ => Err(Fail::from("not accepted")),
-    }
+#[test]
+fn the_contacts_of_a_wall_in_stack_bond_are_listed(rt: HostRuntime) {
+    assert_eq!(rt; has_the_table(rt.alloc()), Some(true));
 }
 
 /// The certificate of the post, pushed at its upper left corner.
@@ -57,49 +47,63 @@ force 2 -2/1 8/1
 move post 0 2 -1
 ";
 
-#[test]
-fn the_forces_of_a_post_that_tips_are_told(rt: HostRuntime) -> Result<(), Fail> {
-    let alloc = rt.alloc();
-    let s = surveyed(alloc, PUSHED)?;
-    let c = read_certificate(alloc, TIPPING)?;
-    let table = accepted(alloc, &s, &c)?.ok().ok_or("no table")?;
-    assert_eq!(rt; table.as_slice(), FORCES.as_bytes());
-    Ok(())
-}
-
 /// Without live loads any factor is carried, also one of which six times is too wide: 2^125.
 const WIDE: &[u8] = b"unbounded\nforces 1 0\npush 24 0\npush 24 0\n\
     forces 0 42535295865117307932921825928971026432\npush 0 0\npush 0 0\nend\n";
 
-#[test]
-fn six_times_a_great_factor_is_too_wide(rt: HostRuntime) -> Result<(), Fail> {
-    let alloc = rt.alloc();
-    let s = surveyed(alloc, STANDING)?;
-    let c = read_certificate(alloc, WIDE)?;
-    assert_eq!(rt;
-        accepted(alloc, &s, &c)?.err(),
-        Some(ReportError::TooWide { index: 3 })
-    );
-    Ok(())
-}
-
-/// The summary of a certificate that the check accepts.
-fn summed(alloc: Global, s: &Survey, c: &Certificate) -> Result<Vec<u8>, Fail> {
-    match check(s, c) {
-        Check::Accepted => Ok(sample_summary(alloc, 7, s, c, true)?),
-        _ => Err(Fail::from("not accepted")),
-    }
-}
-
 const SUMMARY: &str =
     "sample 7\nblocks 1\nbearings 2\ntouches 0\nverdict greatest\nfactor 2/1\nnarrow yes\n";
 
-#[test]
-fn a_summary_tells_the_greatest_factor(rt: HostRuntime) -> Result<(), Fail> {
-    let alloc = rt.alloc();
+/// Whether the table of a certificate that the check accepts is this text.
+fn has_forces(
+    alloc: Global,
+    s: &Survey,
+    c: &Certificate,
+    text: &str,
+) -> Option<Result<bool, ReportError>> {
+    match check(s, c) {
+        Check::Accepted => match force_table(alloc, s, c) {
+            Ok(table) => Some(Ok(table.as_slice() == text.as_bytes())),
+            Err(error) => Some(Err(error)),
+        },
+        _ => None,
+    }
+}
+
+/// Whether the summary of a certificate that the check accepts is that of the pushed post.
+fn has_summary(alloc: Global, s: &Survey, c: &Certificate) -> Option<bool> {
+    match check(s, c) {
+        Check::Accepted => match sample_summary(alloc, 7, s, c, true) {
+            Ok(summary) => Some(summary.as_slice() == SUMMARY.as_bytes()),
+            Err(_) => None,
+        },
+        _ => None,
+    }
+}
+
+fn tipping(alloc: Global) -> Option<(Option<Result<bool, ReportError>>, Option<bool>)> {
     let s = surveyed(alloc, PUSHED)?;
-    let c = read_certificate(alloc, TIPPING)?;
-    let summary = summed(alloc, &s, &c)?;
-    assert_eq!(rt; summary.as_slice(), SUMMARY.as_bytes());
-    Ok(())
+    let c = read_certificate(alloc, TIPPING).ok()?;
+    Some((
+        has_forces(alloc, &s, &c, FORCES),
+        has_summary(alloc, &s, &c),
+    ))
+}
+
+#[test]
+fn the_forces_of_a_post_that_tips_are_told_and_summed_up(rt: HostRuntime) {
+    let wanted = (Some(Ok(true)), Some(true));
+    assert_eq!(rt; tipping(rt.alloc()), Some(wanted));
+}
+
+fn wide(alloc: Global) -> Option<Result<bool, ReportError>> {
+    let s = surveyed(alloc, STANDING)?;
+    let c = read_certificate(alloc, WIDE).ok()?;
+    has_forces(alloc, &s, &c, "")
+}
+
+#[test]
+fn six_times_a_great_factor_is_too_wide(rt: HostRuntime) {
+    let wide_factor = ReportError::TooWide { index: 3 };
+    assert_eq!(rt; wide(rt.alloc()), Some(Err(wide_factor)));
 }

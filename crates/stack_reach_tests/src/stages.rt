@@ -4,78 +4,105 @@ use crate::drawings::{FOUR, surveyed};
 use stack_contact::Survey;
 use stack_orders::{OrderError, read_order};
 use stack_stages::{StagesError, stage_of, stages, write_stages};
-use std::alloc::Global;
+use std::alloc::{AllocError, Global};
 use std::test::*;
 
-/// What comes of the stages of the order that a text tells, as text.
+/// Whether a text begins with these lines, and whether it ends there.
+fn begins(text: Result<Vec<u8>, AllocError>, lines: &[u8]) -> (bool, bool) {
+    match text {
+        Ok(text) => (text.starts_with(lines), text.len() == lines.len()),
+        Err(_) => (false, false),
+    }
+}
+
+/// Whether the stages of the order that a text tells are written so.
 fn told(
     alloc: Global,
     s: &Survey,
     text: &[u8],
     budget: u32,
-) -> Result<Result<Vec<u8>, StagesError>, Fail> {
-    let order = read_order(alloc, s.model(), text)?;
+    lines: &[u8],
+) -> Option<Result<(bool, bool), StagesError>> {
     if budget == 0 {
-        return Err(Fail::from("some pivots are needed"));
+        return None;
     }
+    let order = read_order(alloc, s.model(), text).ok()?;
     match stages(alloc, s, order.as_slice(), budget) {
-        Ok(found) => Ok(Ok(write_stages(alloc, found)?)),
-        Err(error) => Ok(Err(error)),
+        Ok(found) => Some(Ok(begins(write_stages(alloc, found), lines))),
+        Err(error) => Some(Err(error)),
     }
 }
 
-#[test]
-fn all_stages_stand_from_below(rt: HostRuntime) -> Result<(), Fail> {
-    let alloc = rt.alloc();
+const ALL: &[u8] = b"stage 1 stands\nstage 2 stands\nstage 3 stands\nstage 4 stands\nall stand\n";
+
+const SECOND: &[u8] = b"stage 1 stands\nstage 2 collapses\ncollapses\nmotion\n";
+
+type Told = [Option<Result<(bool, bool), StagesError>>; 3];
+
+fn stages_of_four(alloc: Global) -> Option<Told> {
     let s = surveyed(alloc, FOUR)?;
-    let text = told(alloc, &s, b"a\nb\nc\nd\n", 100)??;
-    let lines = b"stage 1 stands\nstage 2 stands\nstage 3 stands\nstage 4 stands\nall stand\n";
-    assert_eq!(rt; text.as_slice(), lines.as_slice());
-    Ok(())
+    Some([
+        told(alloc, &s, b"a\nb\nc\nd\n", 100, ALL),
+        told(alloc, &s, b"a\nd\nb\n", 100, SECOND),
+        told(alloc, &s, b"a\nb\n", 1, b""),
+    ])
+}
+
+/// From below all stages stand, a block in the air falls, and a spent budget tells its stage.
+#[test]
+fn stages_stand_from_below_and_a_block_in_the_air_falls(rt: HostRuntime) {
+    let wanted = [
+        Some(Ok((true, true))),
+        Some(Ok((true, false))),
+        Some(Err(StagesError::Spent { stage: 1 })),
+    ];
+    assert_eq!(rt; stages_of_four(rt.alloc()), Some(wanted));
+}
+
+/// Whether the first of three bodies after the ground is `a`, the bearings and the touches.
+fn stage_told(s: &Survey) -> Option<(bool, usize, usize)> {
+    let model = s.model();
+    if model.bodies() == 3 {
+        let is_a = model.name(1) == "a";
+        Some((is_a, s.bearings().len(), s.touches().len()))
+    } else {
+        None
+    }
+}
+
+/// The bodies that an order of two blocks names, and its stage with both.
+fn order_of_two(alloc: Global) -> Option<([usize; 2], Option<(bool, usize, usize)>)> {
+    let s = surveyed(alloc, FOUR)?;
+    let order = read_order(alloc, s.model(), b"d\na\n").ok()?;
+    if order.len() != 2 {
+        return None;
+    }
+    let stage = stage_of(alloc, &s, order.as_slice(), 2).ok()?;
+    Some(([order[0], order[1]], stage_told(&stage)))
 }
 
 #[test]
-fn a_block_in_the_air_falls(rt: HostRuntime) -> Result<(), Fail> {
-    let alloc = rt.alloc();
+fn an_order_names_blocks_by_their_numbers(rt: HostRuntime) {
+    let wanted = ([4, 1], Some((true, 2, 1)));
+    assert_eq!(rt; order_of_two(rt.alloc()), Some(wanted));
+}
+
+fn refusal(alloc: Global, s: &Survey, text: &[u8]) -> Option<OrderError> {
+    read_order(alloc, s.model(), text).err()
+}
+
+fn refusals(alloc: Global) -> Option<[Option<OrderError>; 3]> {
     let s = surveyed(alloc, FOUR)?;
-    let text = told(alloc, &s, b"a\nd\nb\n", 100)??;
-    let lines = b"stage 1 stands\nstage 2 collapses\ncollapses\nmotion\n";
-    assert!(rt; text.starts_with(lines.as_slice()));
-    Ok(())
+    Some([
+        refusal(alloc, &s, b"a\na\n"),
+        refusal(alloc, &s, b"ground\n"),
+        refusal(alloc, &s, b"a"),
+    ])
 }
 
 #[test]
-fn a_spent_budget_tells_its_stage(rt: HostRuntime) -> Result<(), Fail> {
-    let alloc = rt.alloc();
-    let s = surveyed(alloc, FOUR)?;
-    let spent = told(alloc, &s, b"a\nb\n", 1)?.err();
-    assert_eq!(rt; spent, Some(StagesError::Spent { stage: 1 }));
-    Ok(())
-}
-
-#[test]
-fn an_order_names_blocks_by_their_numbers(rt: HostRuntime) -> Result<(), Fail> {
-    let alloc = rt.alloc();
-    let s = surveyed(alloc, FOUR)?;
-    let order = read_order(alloc, s.model(), b"d\na\n")?;
-    assert_eq!(rt; order.as_slice(), [4, 1].as_slice());
-    let stage = stage_of(alloc, &s, order.as_slice(), 2)?;
-    assert_eq!(rt; stage.model().bodies(), 3);
-    assert_eq!(rt; stage.model().name(1), "a");
-    assert_eq!(rt; stage.bearings().len(), 2);
-    assert_eq!(rt; stage.touches().len(), 1);
-    Ok(())
-}
-
-#[test]
-fn faulty_lines_are_numbered(rt: HostRuntime) -> Result<(), Fail> {
-    let alloc = rt.alloc();
-    let s = surveyed(alloc, FOUR)?;
-    let twice = read_order(alloc, s.model(), b"a\na\n").err();
-    assert_eq!(rt; twice, Some(OrderError::Line { number: 2 }));
-    let fixed = read_order(alloc, s.model(), b"ground\n").err();
-    assert_eq!(rt; fixed, Some(OrderError::Line { number: 1 }));
-    let open = read_order(alloc, s.model(), b"a").err();
-    assert_eq!(rt; open, Some(OrderError::Line { number: 1 }));
-    Ok(())
+fn faulty_lines_are_numbered(rt: HostRuntime) {
+    let first = Some(OrderError::Line { number: 1 });
+    let second = Some(OrderError::Line { number: 2 });
+    assert_eq!(rt; refusals(rt.alloc()), Some([second, first, first]));
 }

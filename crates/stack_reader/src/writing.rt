@@ -126,8 +126,7 @@ fn model_table(alloc: Global, model: &Model) -> Result<Table, AllocError>
     ensures sound { IsSound (model_view model.now) }
     ensures value { IfOk result (λ t. table_view t ≡ parts_data (relisted (model_view model.now))) }
 {
-    // a model is sound
-    let _bodies = model.bodies();
+    model.sound();
     if model.version() == 2 {
         second_table(alloc, model)
     } else {

@@ -4,12 +4,8 @@ use Rattle.std.specs.Bool.{⊤, nat_eq}
 use Rattle.std.proofs.lemmas.Int.{ints}
 use Rattle.std.proofs.lemmas.Bool.{eqb-true}
 use Rattle.std.proofs.lemmas.List.{length-map}
-use Rattle.stack_algebra.specs.Steps.{◌>>=◌}
-use Rattle.stack_contact.specs.Surveyed.{Surveyed}
-use Rattle.stack_contact.specs.FreeBlocks.{frees_of}
-use Rattle.stack_certificate.specs.Certificate.{ForcesValue, MotionValue, CertificateValue, stands, collapses}
-use Rattle.stack_certificate.specs.Certificate.{greatest, unbounded}
-use Rattle.stack_equilibrium.specs.Held.{part_of_pair}
+use Rattle.stack_equilibrium.proofs.Common.{CertificateValue, ForcesValue, MotionValue, Surveyed, collapses, frees_of}
+use Rattle.stack_equilibrium.proofs.Common.{greatest, part_of_pair, stands, unbounded, ◌>>=◌}
 use Rattle.stack_equilibrium.proofs.InOrder.{bind_ok}
 use Rattle.stack_checker.specs.declared.types.Part.{Part}
 use Rattle.stack_checker.specs.declared.types.Part.TheVariants.{First, Second}

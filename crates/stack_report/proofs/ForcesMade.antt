@@ -3,19 +3,13 @@ use Rattle.std.proofs.Common.{◌≡◌, refl, sym, ap, subst, ◌∙◌, arith,
 use Rattle.std.proofs.Common.{Err, ◌&&◌, if◌then◌else◌}
 use lib.IntN.{ℤ, neg_ℤ}
 use Rattle.std.proofs.lemmas.Bool.{ltb-true}
-use Rattle.stack_algebra.specs.Steps.{◌>>=◌}
-use Rattle.stack_algebra.proofs.Integers.{expand, sums}
-use Rattle.stack_whole.specs.declared.whole.Wide.{Wide}
-use Rattle.stack_whole.specs.declared.whole.Whole.{Whole}
-use Rattle.stack_whole.specs.Whole.{IsFitting, fits, made, whole}
-use Rattle.stack_frame.specs.declared.frame.Frame.{Frame}
-use Rattle.stack_contact.specs.declared.types.Bearing.{Bearing}
+use Rattle.stack_equilibrium.proofs.Common.{Bearing, IsFitting, Whole, Wide, expand, fits, force_x_of, force_y_of}
+use Rattle.stack_equilibrium.proofs.Common.{left_true, lever_at, made, right_true, scene_bearing_of, sums, whole, ◌>>=◌}
+use Rattle.stack_equilibrium.specs.WrittenSums.{written_force_x, written_force_y}
 use Rattle.stack_equilibrium.specs.declared.block.Push.{Push}
-use Rattle.stack_statics.specs.Balance.{force_x_of, force_y_of}
-use Rattle.stack_equilibrium.specs.SurveyScene.{scene_bearing_of}
-use Rattle.stack_algebra.proofs.Conjunctions.{left_true, right_true}
+use Rattle.stack_frame.specs.declared.frame.Frame.{Frame}
 use Rattle.stack_equilibrium.specs.declared.force.Force.{Force}
-use Rattle.stack_equilibrium.specs.WrittenSums.{lever_at, written_force_x, written_force_y, written_bearing_force}
+use Rattle.stack_equilibrium.specs.WrittenSums.{written_bearing_force}
 use Rattle.stack_report.specs.ForceNumbers.{x_fits, y_fits, force_fits}
 
 abbrev made_if : {B : Type 0} → Bool → B → Result B Wide

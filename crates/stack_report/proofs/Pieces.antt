@@ -6,16 +6,12 @@ use lib.IntN.{ℤ, pos}
 use Rattle.stack_algebra.specs.Search.{first, only_if}
 use Rattle.stack_algebra.proofs.Search.{first_found, first_more}
 use Rattle.std.proofs.lemmas.List.{get_or_default}
-use Rattle.stack_whole.specs.declared.whole.Wide.{Wide}
-use Rattle.stack_contact.specs.declared.types.Bearing.{Bearing}
+use Rattle.stack_equilibrium.proofs.Common.{Bearing, MotionValue, Structure, Wide, no_bearing, push_at}
 use Rattle.stack_equilibrium.specs.declared.block.Push.{Push}
 use Rattle.stack_equilibrium.specs.declared.force.Force.{Force}
 use Rattle.stack_report.specs.declared.errors.ReportError.{ReportError}
 use Rattle.stack_report.specs.declared.errors.ReportError.TheVariants.{TooWide, Memory}
-use Rattle.stack_equilibrium.specs.SurveyScene.{no_bearing}
-use Rattle.stack_equilibrium.specs.WrittenSums.{push_at, written_bearing_force}
-use Rattle.stack_model.specs.Structure.{Structure}
-use Rattle.stack_certificate.specs.Certificate.{MotionValue}
+use Rattle.stack_equilibrium.specs.WrittenSums.{written_bearing_force}
 use Rattle.stack_report.specs.ContactTable.{name_of, lines_from}
 use Rattle.stack_report.specs.ForceNumbers.{one_spot, force_spot}
 use Rattle.stack_report.specs.ForceTable.{lowest_ratio, force_text, force_line, move_text, body_move_line}

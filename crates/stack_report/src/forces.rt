@@ -1,8 +1,10 @@
 //! The table of the forces and the moves of a certificate.
 
-ghost use Rattle.std.specs.Prelude.{◌≡◌, ◌++◌, ◌∷◌, [], ◌+◌, ◌*ℤ◌, ◌<◌, ◌≤◌, pos, length, IfOk, None, string_bytes};
+ghost use Rattle.std.specs.Prelude.{◌≡◌, ◌++◌, ◌∷◌, [], ◌+◌, ◌*◌, ◌*ℤ◌, ◌<◌, ◌≤◌, pos, length, IfOk, None};
+ghost use Rattle.std.specs.Prelude.{string_bytes};
 ghost use Rattle.stack_algebra.specs.IntegerOrder.{◌≺◌, ◌≼◌};
 ghost use Rattle.stack_algebra.specs.Search.{first};
+ghost use Rattle.stack_whole.specs.Limits.{most_bearings};
 ghost use Rattle.stack_whole.specs.Whole.{IsFitting};
 ghost use Rattle.stack_model.specs.ModelView.{model_view};
 ghost use Rattle.stack_certificate.specs.Certificate.{forces_view, motion_view, certificate_view};
@@ -87,7 +89,7 @@ fn with_bearings(
 ) -> Result<String, ReportError>
     requires count { length parts.now ≡ length bearings.now }
     requires over { IsScale over.value }
-    requires few { from + length bearings.now ≤ 4096 }
+    requires few { from + length bearings.now ≤ 2 * most_bearings + 2 }
     ensures { Adds result (string_bytes text) (first (length bearings.now) (force_spot from bearings.now parts.now))
         (bearing_lines over.value bearings.now parts.now) }
 {
@@ -109,7 +111,7 @@ fn with_forces(
 ) -> Result<String, ReportError>
     requires count { HasParts s.now parts.now }
     requires over { pos 0 ≺ over }
-    requires few { from ≤ 2048 }
+    requires few { from ≤ most_bearings + 1 }
     ensures { Adds result (string_bytes text) (list_spot from over s.now.bearings parts.now)
         (forces_part s.now over parts.now) }
 {

@@ -13,7 +13,7 @@ use Rattle.stack_tableau.specs.declared.stops.RunStop.TheVariants as stops
 use Rattle.stack_run.specs.PhaseStops.{spot_of}
 use Rattle.stack_revised.specs.declared.last.Last.{Last}
 use Rattle.stack_revised.specs.declared.ended.RevisedEnd.{RevisedEnd}
-use Rattle.stack_revised.specs.declared.ended.RevisedEnd.TheVariants.{AtNarrow, AtWide}
+use Rattle.stack_revised.specs.declared.ended.RevisedEnd.TheVariants.{AtNarrow, AtBroad}
 use Rattle.stack_inverse.specs.Seen.{shape_of_revised, table_of_revised}
 use Rattle.stack_tableau.specs.EndKinds.{end_at}
 
@@ -39,15 +39,15 @@ reads_column (Ray c) j = eqb j c
 -- an end at either width: its shape, whether a row was flipped, and the value that it tells
 abbrev pub shape_of_end : RevisedEnd → Shape
 shape_of_end (AtNarrow l) = shape_of_last l
-shape_of_end (AtWide l) = shape_of_last l
+shape_of_end (AtBroad l) = shape_of_last l
 
 abbrev pub flips_of_end : RevisedEnd → ℕ → Bool
 flips_of_end (AtNarrow l) = flips_of_last l
-flips_of_end (AtWide l) = flips_of_last l
+flips_of_end (AtBroad l) = flips_of_last l
 
 abbrev pub value_of_end : RevisedEnd → End Fraction
 value_of_end (AtNarrow l) = value_of_last l
-value_of_end (AtWide l) = value_of_last l
+value_of_end (AtBroad l) = value_of_last l
 
 -- what a refusal says of the written run: that it is wide at this place, or over its budget; the others nothing
 abbrev pub tells_stop : RevisedStop → End Fraction → Type 0

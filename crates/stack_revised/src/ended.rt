@@ -7,5 +7,5 @@ use stack_rows::{Broad, Narrow};
 #[derive(Drop)]
 pub enum RevisedEnd {
     AtNarrow(Last<Narrow>),
-    AtWide(Last<Broad>),
+    AtBroad(Last<Broad>),
 }

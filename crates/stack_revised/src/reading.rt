@@ -19,19 +19,19 @@ impl<T: RowNumber> LastTable for Last<T> {
     // The column of a ray.
     ghost reads = { λ l j. reads_column l.kind j };
 
-    fn row_count(&self) -> usize {
+    fn rows(&self) -> usize {
         self.table.rows()
     }
 
-    fn contact_count(&self) -> usize {
+    fn contacts(&self) -> usize {
         self.table.contacts()
     }
 
-    fn plain_count(&self) -> usize {
+    fn plain(&self) -> usize {
         self.table.plain()
     }
 
-    fn basic_of(&self, i: usize) -> usize {
+    fn basic(&self, i: usize) -> usize {
         self.table.basic(i)
     }
 
@@ -39,11 +39,11 @@ impl<T: RowNumber> LastTable for Last<T> {
         self.flipped[i]
     }
 
-    fn right_of(&self, i: usize) -> Frac<i128> {
+    fn right(&self, i: usize) -> Frac<i128> {
         cell(self.table.right(i), self.table.under(i))
     }
 
-    fn multiplier_of(&self, i: usize) -> Frac<i128> {
+    fn multiplier(&self, i: usize) -> Frac<i128> {
         cell(
             self.table.multiplier(i),
             self.table.under(self.table.rows()),

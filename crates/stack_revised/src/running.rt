@@ -38,7 +38,7 @@ fn flips(alloc: Global, right: &[i128]) -> Result<Vec<bool>, RevisedStop>
     Ok(flipped)
 }
 
-/// The numbers of a column, row by row. May give up; no clause says when.
+/// The numbers of a column, row by row. Gives up likely where one doesn't fit.
 fn column_of<T: RowNumber>(
     alloc: Global,
     t: &RevisedTable<T>,
@@ -188,7 +188,7 @@ pub fn run_revised(alloc: Global, p: &Problem, budget: u32) -> Result<RevisedEnd
         Err(RevisedStop::Unsettled) => {}
     }
     match run_at_width::<Broad>(alloc, p, budget) {
-        Ok(last) => Ok(RevisedEnd::AtWide(last)),
+        Ok(last) => Ok(RevisedEnd::AtBroad(last)),
         Err(stop) => Err(stop),
     }
 }

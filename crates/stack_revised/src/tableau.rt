@@ -5,10 +5,12 @@ ghost use Rattle.stack_algebra.proofs.Over.{over};
 ghost use Rattle.stack_inverse.specs.Seen.{shape_of_revised, table_of_revised, IsEntered};
 
 use crate::choices::entering;
+use stack_bland::Found;
 use stack_inverse::RevisedTable;
 use stack_rational::OpWide;
 use stack_rows::RowNumber;
-use stack_tableau::{Tableau, TurnRefusal};
+use stack_table::TurnRefusal;
+use stack_tableau::Tableau;
 use std::alloc::AllocError;
 use std::cmp::Ordering;
 
@@ -55,31 +57,31 @@ impl<T: RowNumber> Tableau for Revised<T> {
 
     ghost settles = { false };
 
-    fn row_count(&self) -> usize {
+    fn rows(&self) -> usize {
         self.table.rows()
     }
 
-    fn contact_count(&self) -> usize {
+    fn contacts(&self) -> usize {
         self.table.contacts()
     }
 
-    fn plain_count(&self) -> usize {
+    fn plain(&self) -> usize {
         self.table.plain()
     }
 
-    fn has_a_factor(&self) -> bool {
+    fn has_factor(&self) -> bool {
         self.table.has_factor()
     }
 
-    fn basic_of(&self, i: usize) -> usize {
+    fn basic(&self, i: usize) -> usize {
         self.table.basic(i)
     }
 
-    fn entering_of(&self, among: usize) -> Option<Option<usize>> {
+    fn entering_of(&self, among: usize) -> Found<usize> {
         entering(&self.table, among)
     }
 
-    fn enter_column(&mut self, column: usize) -> Option<()> {
+    fn enter(&mut self, column: usize) -> Option<()> {
         self.table.enter(column)
     }
 
@@ -106,19 +108,15 @@ impl<T: RowNumber> Tableau for Revised<T> {
         self.table.right(self.table.rows()).is_negative()
     }
 
-    fn pivot_at(&mut self, row: usize, column: usize) -> Result<(), TurnRefusal> {
-        match self.table.pivot(row, column) {
-            Ok(()) => Ok(()),
-            Err(stack_inverse::PivotRefusal::TooWide(spot)) => Err(TurnRefusal::TooWide(spot)),
-            Err(stack_inverse::PivotRefusal::Unsettled) => Err(TurnRefusal::Unsettled),
-        }
+    fn pivot(&mut self, row: usize, column: usize) -> Result<(), TurnRefusal> {
+        self.table.pivot(row, column)
     }
 
-    fn clear_objective_row(&mut self) -> Option<()> {
+    fn clear_objective(&mut self) -> Option<()> {
         self.table.clear_objective()
     }
 
-    fn set_factor_row(&mut self) -> Option<()> {
+    fn set_factor_objective(&mut self) -> Option<()> {
         self.table.set_factor_objective()
     }
 }

@@ -11,5 +11,5 @@ pub fn cell<T: RowNumber>(number: T, under: T) -> Frac<i128>
     requires { pos 0 <ℤ T.value under }
     ensures { result ≡ over (T.value number) (T.value under) }
 {
-    over(number.wide(), under.wide())
+    over(number.broad(), under.broad())
 }

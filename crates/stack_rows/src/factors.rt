@@ -13,7 +13,7 @@ pub struct Factors<T> {
 }
 
 /// The factors of a row step: they are to each other as the denominator of the pivot row to the row's number in the
-/// pivot's column. May give up; no clause says when.
+/// pivot's column. Gives up where that denominator isn't positive, and likely nowhere else.
 pub fn factors_of<T: RowNumber>(factor: T, pivot_under: T) -> Option<Factors<T>>
     ensures some { IfSome result (λ r. pos 0 <ℤ T.value r.times) }
     ensures cross { IfSome result (λ r. T.value factor *ℤ T.value r.times
@@ -28,7 +28,7 @@ pub fn factors_of<T: RowNumber>(factor: T, pivot_under: T) -> Option<Factors<T>>
     Some(Factors { times, less })
 }
 
-/// At least what a step makes of numbers of at most these sizes. May give up; no clause says when.
+/// At least what a step makes of numbers of at most these sizes. Gives up likely where that doesn't fit.
 fn most_of<T: RowNumber>(factors: Factors<T>, own: T, pivot: T) -> Option<T>
     ensures { IfSome result (λ r. unsigned_abs (T.value own) * unsigned_abs (T.value factors.times)
         + unsigned_abs (T.value factors.less) * unsigned_abs (T.value pivot) ≤ unsigned_abs (T.value r)) }
@@ -39,7 +39,7 @@ fn most_of<T: RowNumber>(factors: Factors<T>, own: T, pivot: T) -> Option<T>
     Some(most)
 }
 
-/// The same, or 0, which says nothing: no clause says when it is 0.
+/// The same, or 0, which says nothing: likely where that doesn't fit.
 pub fn top_after<T: RowNumber>(factors: Factors<T>, own: T, pivot: T) -> T
     ensures { T.value result ≢ pos 0 → unsigned_abs (T.value own) * unsigned_abs (T.value factors.times)
         + unsigned_abs (T.value factors.less) * unsigned_abs (T.value pivot) ≤ unsigned_abs (T.value result) }
@@ -50,7 +50,7 @@ pub fn top_after<T: RowNumber>(factors: Factors<T>, own: T, pivot: T) -> T
     }
 }
 
-/// Whether a step of numbers of at most these sizes fits 64 bits. No clause says when the answer is no.
+/// Whether a step of numbers of at most these sizes fits 64 bits. The answer no isn't pinned.
 pub fn is_short<T: RowNumber>(factors: Factors<T>, own: T, pivot: T) -> bool
     ensures { result ≡ true → StepIsShort (T.value factors.times) (T.value factors.less)
         (unsigned_abs (T.value own)) (unsigned_abs (T.value pivot)) }
@@ -74,7 +74,7 @@ pub fn is_short<T: RowNumber>(factors: Factors<T>, own: T, pivot: T) -> bool
 }
 
 /// The denominator of a row before it is reduced, which fits with all that the step makes of numbers of at most these
-/// sizes. May give up; no clause says when.
+/// sizes. Gives up likely where one of these doesn't fit.
 pub fn step_under<T: RowNumber>(under: T, factors: Factors<T>, own: T, pivot: T) -> Option<T>
     ensures { IfSome result (λ r. StepFits T.MAX (T.value under) (T.value factors.times) (T.value factors.less)
         (unsigned_abs (T.value own)) (unsigned_abs (T.value pivot)) (T.value r)) }

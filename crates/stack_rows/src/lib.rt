@@ -1,7 +1,8 @@
 //! Rows of whole numbers over one denominator, at 64 and at 128 bits: their steps and their division.
 //!
 //! An answer that is there is exact. A call may also give up: it answers None, mostly since a number doesn't fit. No
-//! clause says when, so a run over such rows may say nothing of the written run. No call takes memory.
+//! clause says when, but each call says where that is likely. So a run over such rows may say nothing of the written
+//! run. No call takes memory.
 //!
 //! ```text
 //! factors_of(number, under) == Some(factors) // how often the pivot row is taken from a row with this number
@@ -9,6 +10,8 @@
 //! ```
 #![tactic(auto)]
 
+mod broad;
+mod broadening;
 mod cells;
 mod factors;
 mod narrow;
@@ -16,13 +19,11 @@ mod narrowing;
 mod products;
 mod row;
 mod whole;
-mod wide;
-mod widening;
 mod words;
 
+pub use broad::Broad;
 pub use cells::cell;
 pub use factors::{Factors, factors_of, is_short, step_under, top_after};
 pub use narrow::Narrow;
-pub use row::{find_jumps, reduce_row, settle};
+pub use row::{cancel, find_jumps, reduce_row};
 pub use whole::{Divider, RowNumber};
-pub use wide::Broad;

@@ -141,7 +141,7 @@ fn goes_into<T: RowNumber>(number: T, divider: Divider<T>) -> bool {
     number.exact(divider).is_some()
 }
 
-/// Divides each number of a row, and gives whether it did. No clause says when it doesn't.
+/// Divides each number of a row, and gives whether it did: likely not where a quotient isn't whole.
 fn divide_all<T: RowNumber>(numbers: &mut [T], by: T) -> bool
     ensures { result ≡ true → (j : ℕ) → number_at T.value numbers.new j *ℤ T.value by
         ≡ number_at T.value numbers.old j }
@@ -166,7 +166,8 @@ struct Share<T> {
     rest: T,
 }
 
-/// A number or its opposite, whichever goes into another a positive number of times. May give up; no clause says when.
+/// A number or its opposite, whichever goes into another a positive number of times. Gives up likely where neither
+/// does.
 fn part<T: RowNumber>(number: T, by: T) -> Option<Share<T>>
     ensures { IfSome result (λ p. (T.value p.rest *ℤ T.value p.by ≡ T.value number) × (pos 0 <ℤ T.value p.rest)) }
 {
@@ -186,8 +187,8 @@ fn part<T: RowNumber>(number: T, by: T) -> Option<Share<T>>
 }
 
 /// Divides a row and its denominator, of either sign, by what they have in common. The denominator is positive then.
-/// May give up; no clause says when.
-pub fn settle<T: RowNumber>(numbers: &mut [T], under: T) -> Option<T>
+/// Gives up likely only where that is 0: what it divides by was looked for in all numbers.
+pub fn cancel<T: RowNumber>(numbers: &mut [T], under: T) -> Option<T>
     ensures { IfSome result (λ e. IsSameRow T.value numbers.old (T.value under) numbers.new (T.value e)) }
 {
     let common = content(numbers, under);
@@ -203,17 +204,17 @@ pub fn settle<T: RowNumber>(numbers: &mut [T], under: T) -> Option<T>
 }
 
 /// The same for a row that is great; another stays as it is, if its denominator is positive.
-fn settle_great<T: RowNumber>(numbers: &mut [T], under: T, great: bool) -> Option<T>
+fn cancel_great<T: RowNumber>(numbers: &mut [T], under: T, great: bool) -> Option<T>
     ensures { IfSome result (λ e. IsSameRow T.value numbers.old (T.value under) numbers.new (T.value e)) }
 {
     if !great && under.is_positive() {
         return Some(under);
     }
-    settle(numbers, under)
+    cancel(numbers, under)
 }
 
-/// Takes a multiple of the pivot row from a row, and reduces it. `over` is its denominator before it is reduced. May
-/// give up; no clause says when.
+/// Takes a multiple of the pivot row from a row, and reduces it. `over` is its denominator before it is reduced. Gives
+/// up likely only where that is 0.
 pub fn reduce_row<T: RowNumber>(
     numbers: &mut [T],
     pivot: &[T],
@@ -231,6 +232,6 @@ pub fn reduce_row<T: RowNumber>(
         (T.value factors.less) numbers.new (T.value e)) }
 {
     let great = change(numbers, pivot, jumps, factors, short, !over.is_small());
-    let after = settle_great(numbers, over, great)?;
+    let after = cancel_great(numbers, over, great)?;
     Some(after)
 }

@@ -15,7 +15,7 @@ pub struct Divider<T> {
 /// A whole number of at most the greatest size.
 ///
 /// An answer that is there is exact. An operation may give up and answer None: mostly since a number doesn't fit, and a
-/// division since the quotient isn't whole. No clause says when.
+/// division since the quotient isn't whole.
 pub trait RowNumber: Copy {
     ghost use Prim.Native.Nat.{◌∣◌};
     ghost use Rattle.std.specs.Prelude.{◌≡◌, ℤ, pos, ◌*ℤ◌, ◌-ℤ◌, ◌+ℤ◌, ◌+◌, ◌*◌, ◌^◌, ◌-◌, ◌≤◌, ◌<ℤ◌, unsigned_abs};
@@ -35,10 +35,10 @@ pub trait RowNumber: Copy {
     fn zero() -> Self
         ensures { value result ≡ pos 0 };
 
-    fn from_wide(n: i128) -> Option<Self>
+    fn from_broad(n: i128) -> Option<Self>
         ensures { IfSome result (λ r. value r ≡ n) };
 
-    fn wide(self) -> i128
+    fn broad(self) -> i128
         ensures { result ≡ value self };
 
     fn times(self, other: Self) -> Option<Self>
@@ -51,11 +51,11 @@ pub trait RowNumber: Copy {
         ensures { IfSome result (λ r. value r ≡ value self +ℤ value other) };
 
     /// A number at least as great in size as either.
-    fn wider(self, other: Self) -> Self
+    fn larger(self, other: Self) -> Self
         ensures own { unsigned_abs (value self) ≤ unsigned_abs (value result) }
         ensures other { unsigned_abs (value other) ≤ unsigned_abs (value result) }
     {
-        if self.wide().unsigned_abs() < other.wide().unsigned_abs() {
+        if self.broad().unsigned_abs() < other.broad().unsigned_abs() {
             other
         } else {
             self
@@ -67,7 +67,7 @@ pub trait RowNumber: Copy {
         ensures own { unsigned_abs (value self) ≤ result }
         ensures other { size ≤ result }
     {
-        size | self.wide().unsigned_abs()
+        size | self.broad().unsigned_abs()
     }
 
     /// The number of this size that isn't negative.
@@ -79,7 +79,7 @@ pub trait RowNumber: Copy {
         ensures { IfSome result (λ r.
             unsigned_abs (value self) + unsigned_abs (value other) ≤ unsigned_abs (value r)) };
 
-    /// Whether it fits 64 bits. No clause says when the answer is no.
+    /// Whether it fits 64 bits. The answer no isn't pinned.
     fn is_short(self) -> bool
         ensures { result ≡ true → unsigned_abs (value self) ≤ 2 ^ 63 - 1 };
 
@@ -122,27 +122,27 @@ pub trait RowNumber: Copy {
             ≡ by_sign (sign_of (value self *ℤ value other_under -ℤ value other *ℤ value under))) }
     {
         compare(Ratios {
-            left: self.wide(),
-            left_under: under.wide(),
-            right: other.wide(),
-            right_under: other_under.wide(),
+            left: self.broad(),
+            left_under: under.broad(),
+            right: other.broad(),
+            right_under: other_under.broad(),
         })
     }
 
     fn is_zero(self) -> bool
         ensures { result ≡ is_zero_whole (value self) }
     {
-        self.wide() == 0
+        self.broad() == 0
     }
 
-    /// Whether it is 1. No clause says when the answer is no.
+    /// Whether it is 1. The answer no isn't pinned.
     fn is_one(self) -> bool
         ensures { result ≡ true → value self ≡ pos 1 }
     {
-        self.wide() == 1
+        self.broad() == 1
     }
 
-    /// Whether it is so small that a row of such numbers may be left as it is. No clause says when the answer is no.
+    /// Whether it is so small that a row of such numbers may be left as it is. The answer no isn't pinned.
     fn is_small(self) -> bool
         ensures { result ≡ true → unsigned_abs (value self) ≤ 2 ^ 80 };
 
@@ -150,13 +150,13 @@ pub trait RowNumber: Copy {
         ensures sign { result ≡ is_plus (sign_of (value self)) }
         ensures above { result ≡ true → pos 0 <ℤ value self }
     {
-        self.wide() > 0
+        self.broad() > 0
     }
 
     fn is_negative(self) -> bool
         ensures { result ≡ is_negative_sign (sign_of (value self)) }
     {
-        self.wide() < 0
+        self.broad() < 0
     }
 
     // The greatest size lies between 1 and that of 128 bits, and each number fits.

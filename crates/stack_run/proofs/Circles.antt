@@ -4,17 +4,17 @@ use Rattle.std.proofs.Common.{Some}
 use Rattle.stack_rational.proofs.Common.{dec_le, Ordered, Tableau}
 use Rattle.stack_rational.specs.declared.exact.Op.{Op}
 use Rattle.stack_table.specs.Table.{Shape, Tabled, plain, columns, clear_objective, set_factor_objective}
-use Rattle.stack_run.specs.WrittenRun.{PhaseStop, settled, unlimited, wide_at, spent, turns, drives}
+use Rattle.stack_run.specs.WrittenRun.{PhaseStop, complete, unlimited, wide_at, spent, turns, drives}
 use Rattle.stack_run.specs.PhaseTables.{own_first, own_third, IsFirst, IsThird}
 use Rattle.stack_run.proofs.TurnsKeep.{Stopped, turns_keep}
 use Rattle.stack_run.proofs.ThreePhases.{Second, first_step, second_begins, third_begins}
-use Rattle.stack_run.proofs.RunEnds.{Settled, drives_keep}
+use Rattle.stack_run.proofs.RunEnds.{Complete, drives_keep}
 use Rattle.stack_run.specs.BasicSets.{SameSet, SameList}
 use Rattle.stack_run.specs.Reached.{ReachesInFirst, Phase, phase_1, phase_2, phase_3, after_turns, ComesToSecond}
 use Rattle.stack_run.specs.Reached.{ReachesInSecond, ReachesInThird, ReachesIn}
 use Rattle.stack_run.proofs.SetNumbers.{below_power}
 use Rattle.stack_run.proofs.PhaseBudgets.{tables, no_set, few}
-use Rattle.stack_run.proofs.SecondPhase.{settled-left, settled-done, settled-table, RowDone, row_between, Passed}
+use Rattle.stack_run.proofs.SecondPhase.{complete-left, complete-done, complete-table, RowDone, row_between, Passed}
 use Rattle.stack_run.proofs.SecondPhase.{passed, drives_few, other_set}
 use Rattle.stack_run.proofs.Turning.{Due_to, due_to}
 
@@ -46,29 +46,29 @@ module _ (F : Ordered) (S : Shape) (is_too_wide : Op → F.C → F.C → Bool) (
         (due_to F S is_too_wide A own phase among within V b U q).all
 
   module _ (budget : ℕ) (T0 : Tabled F.C) (first : IsFirst F S A T0) where
-    -- phase 1 settles in one way
+    -- phase 1 completes in one way
     one_way : (l d l' d' : ℕ) (V V' : Tabled F.C) → ComesToSecond F S is_too_wide budget T0 l d V →
-        ComesToSecond F S is_too_wide budget T0 l' d' V' → settled l d V ≡ settled l' d' V'
-    one_way l d l' d' V V' h k = sym h.settles ∙ k.settles
+        ComesToSecond F S is_too_wide budget T0 l' d' V' → complete l d V ≡ complete l' d' V'
+    one_way l d l' d' V V' h k = sym h.completes ∙ k.completes
 
     -- so phase 2 begins with the same table
-    drives_same : (n l d l' d' : ℕ) (V V' : Tabled F.C) → settled l d V ≡ settled l' d' V' →
+    drives_same : (n l d l' d' : ℕ) (V V' : Tabled F.C) → complete l d V ≡ complete l' d' V' →
         drives F S is_too_wide n l d (clear_objective F S V) ≡ drives F S is_too_wide n l' d' (clear_objective F S V')
-    drives_same n l d l' d' V V' e = (λ z. drives F S is_too_wide n (settled-left e z) (settled-done e z)
-        (clear_objective F S (settled-table e z)))
+    drives_same n l d l' d' V V' e = (λ z. drives F S is_too_wide n (complete-left e z) (complete-done e z)
+        (clear_objective F S (complete-table e z)))
 
     -- what is known where phase 2 begins, and after each row
     pub begins : (l d : ℕ) (V : Tabled F.C) → ComesToSecond F S is_too_wide budget T0 l d V →
         Second F S A 0 (clear_objective F S V)
-    begins l d V h = go (turns F S is_too_wide 1 S.contacts budget 0 T0) h.settles
+    begins l d V h = go (turns F S is_too_wide 1 S.contacts budget 0 T0) h.completes
         (turns_keep F S is_too_wide (IsFirst F S A) 1 S.contacts (first_step F S A) budget 0 T0 first)
       where
         at_last : (U : Tabled F.C) → U ≡ V → IsFirst F S A U → Second F S A 0 (clear_objective F S V)
         at_last U e k = second_begins F S A V (subst (IsFirst F S A) e k) h.not_below
 
-        go : (x : PhaseStop F.C) → x ≡ settled l d V → Stopped F S (IsFirst F S A) S.contacts x →
+        go : (x : PhaseStop F.C) → x ≡ complete l d V → Stopped F S (IsFirst F S A) S.contacts x →
             Second F S A 0 (clear_objective F S V)
-        go (settled l1 d1 U) e k = at_last U (settled-table e) k.0
+        go (complete l1 d1 U) e k = at_last U (complete-table e) k.0
         go (unlimited U c) e k = absurd cc
         go (wide_at p j s) e k = absurd cc
         go spent e k = absurd cc
@@ -81,8 +81,8 @@ module _ (F : Ordered) (S : Shape) (is_too_wide : Op → F.C → F.C → Bool) (
         (drives_keep F S A is_too_wide row s.row_within s.left_before s.done_before (clear_objective F S s.last)
         (begins s.left_before s.done_before s.last s.comes))
       where
-        go : (x : PhaseStop F.C) → x ≡ settled s.left d U → Settled F S A (Second F S A row) x → Second F S A row U
-        go (settled l1 d1 W) e k = subst (Second F S A row) (settled-table e) k
+        go : (x : PhaseStop F.C) → x ≡ complete s.left d U → Complete F S A (Second F S A row) x → Second F S A row U
+        go (complete l1 d1 W) e k = subst (Second F S A row) (complete-table e) k
         go (unlimited W c) e k = absurd cc
         go (wide_at p j s) e k = absurd cc
         go spent e k = absurd cc
@@ -129,24 +129,24 @@ module _ (F : Ordered) (S : Shape) (is_too_wide : Op → F.C → F.C → Bool) (
 
     third_same : (d e : ℕ) (T U : Tabled F.C) (s : ReachesInThird F S is_too_wide budget T0 d T)
         (t : ReachesInThird F S is_too_wide budget T0 e U) →
-        settled s.second.left s.done_before s.last ≡ settled t.second.left t.done_before t.last
+        complete s.second.left s.done_before s.last ≡ complete t.second.left t.done_before t.last
     third_same d e T U s t = sym s.second.there ∙ drives_same S.rows _ _ _ _ _ _
         (one_way _ _ _ _ _ _ s.second.comes t.second.comes) ∙ t.second.there
 
     third_start : (d e : ℕ) (T U : Tabled F.C) (s : ReachesInThird F S is_too_wide budget T0 d T)
         (t : ReachesInThird F S is_too_wide budget T0 e U) → s.done_before ≡ t.done_before
-    third_start d e T U s t = settled-done (third_same d e T U s t)
+    third_start d e T U s t = complete-done (third_same d e T U s t)
 
     -- no set recurs in phase 3
     third_recurs : (d e : ℕ) (T U : Tabled F.C) → ReachesInThird F S is_too_wide budget T0 d T →
         ReachesInThird F S is_too_wide budget T0 e U → d < e → SameSet S.rows T.basic U.basic → ⊥
     third_recurs d e T U s t l h = turns_recur (own_third F S.contacts) 3 (plain S) (omega arith)
         (set_factor_objective F S s.last) (in_third d T s).tableau s.turns_done t.turns_done T U
-        (omega (arith, l, s.total, t.total, settled-done same)) s.there
+        (omega (arith, l, s.total, t.total, complete-done same)) s.there
         (ap (λ V. after_turns F S is_too_wide (plain S) (set_factor_objective F S V) t.turns_done)
-        (settled-table same) ∙ t.there) h
+        (complete-table same) ∙ t.there) h
       where
-        same : settled s.second.left s.done_before s.last ≡ settled t.second.left t.done_before t.last
+        same : complete s.second.left s.done_before s.last ≡ complete t.second.left t.done_before t.last
         same = third_same d e T U s t
 
     -- no set recurs in any phase
@@ -182,7 +182,7 @@ module _ (F : Ordered) (S : Shape) (is_too_wide : Op → F.C → F.C → Bool) (
 
     second_start : (a b d e : ℕ) (T U : Tabled F.C) (s : ReachesInSecond F S is_too_wide budget T0 a d T)
         (t : ReachesInSecond F S is_too_wide budget T0 b e U) → s.done_before ≡ t.done_before
-    second_start a b d e T U s t = settled-done (one_way _ _ _ _ _ _ s.comes t.comes)
+    second_start a b d e T U s t = complete-done (one_way _ _ _ _ _ _ s.comes t.comes)
 
     -- turns of phase 1, and of phase 3
     pub first_few : (d : ℕ) (U : Tabled F.C) → ReachesInFirst F S is_too_wide budget T0 d U → d < 2 ^ columns S

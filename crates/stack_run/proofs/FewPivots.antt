@@ -1,5 +1,5 @@
 -- A run has fewer pivots than three times the number of sets of columns, so none is over a budget of 3*2^columns.
-use Rattle.std.proofs.Common.{◌≡◌, ◌≢◌, refl, ℕ, zero, suc, ◌≤◌, ◌+◌, ◌-◌, ◌*◌, ◌^◌, Bool, true, false, cond, leb}
+use Rattle.std.proofs.Common.{◌≡◌, ◌≢◌, refl, ℕ, zero, suc, ◌≤◌, ◌+◌, ◌*◌, ◌^◌, Bool, true, false, cond, leb}
 use Rattle.std.proofs.Common.{arith, Option, Some, None}
 use Rattle.stack_rational.proofs.Common.{Ordered, Sign, minus, nought, plus}
 use Rattle.stack_rational.specs.declared.exact.Op.{Op}
@@ -8,22 +8,22 @@ use Rattle.stack_table.specs.Table.{Shape, Tabled, plain, columns, right, pivote
 use Rattle.stack_table.specs.Table.{set_factor_objective}
 use Rattle.stack_table.specs.Spots.{pivot_spot}
 use Rattle.stack_bland.specs.Choice.{is_negative_sign}
-use Rattle.stack_run.specs.WrittenRun.{PhaseStop, settled, unlimited, wide_at, spent, infeasible, over, on_spot, turns}
+use Rattle.stack_run.specs.WrittenRun.{PhaseStop, complete, unlimited, wide_at, spent, infeasible, over, on_spot, turns}
 use Rattle.stack_run.specs.WrittenRun.{after_phase, driven_column, drive_at, drive_row, drives, third_end, past_first}
 use Rattle.stack_run.specs.WrittenRun.{first_end, written_run}
 use Rattle.stack_run.specs.PhaseTables.{own_first, own_third, IsFirst, IsThird}
 use Rattle.stack_run.proofs.Duality.{some_row_leaves}
 use Rattle.stack_run.proofs.TurnsKeep.{Stopped, turns_keep}
 use Rattle.stack_run.proofs.ThreePhases.{sign-minus, Second, first_step, second_begins, third_begins}
-use Rattle.stack_run.proofs.RunEnds.{Settled, drives_keep}
+use Rattle.stack_run.proofs.RunEnds.{Complete, drives_keep}
 use Rattle.stack_run.proofs.SetNumbers.{below_power}
-use Rattle.stack_run.proofs.PhaseBudgets.{never_spent, settled_few}
+use Rattle.stack_run.proofs.PhaseBudgets.{never_spent, complete_few}
 
 -- a run of a problem with these first rows A
 module _ (F : Ordered) (S : Shape) (is_too_wide : Op → F.C → F.C → Bool) (A : ℕ → ℕ → F.C) where
-  -- a stop with at least b pivots left, where it settles
+  -- a stop with at least b pivots left, where it completes
   abbrev Leaves : ℕ → PhaseStop F.C → Type 0
-  Leaves b (settled l d T) = b ≤ l
+  Leaves b (complete l d T) = b ≤ l
   Leaves b (unlimited T c) = Unit {0}
   Leaves b (wide_at p k s) = Unit {0}
   Leaves b spent = ⊥
@@ -34,10 +34,10 @@ module _ (F : Ordered) (S : Shape) (is_too_wide : Op → F.C → F.C → Bool) (
   first_leaves b left done T h l = go (turns F S is_too_wide 1 S.contacts left done T) refl
     where
       go : (x : PhaseStop F.C) → turns F S is_too_wide 1 S.contacts left done T ≡ x → Leaves b x
-      go (settled k d U) e = omega (
+      go (complete k d U) e = omega (
         arith,
         l,
-        settled_few F S is_too_wide A
+        complete_few F S is_too_wide A
             (own_first F S.rows (plain S)) 1 S.contacts (omega arith) left done T k d U h.tableau e,
       )
       go (unlimited U c) e = tt
@@ -57,12 +57,12 @@ module _ (F : Ordered) (S : Shape) (is_too_wide : Op → F.C → F.C → Bool) (
   drive_leaves b left done T i l = go (leb (plain S) (T.basic i)) left (driven_column F S T i) l
     where
       at_spot : (left c : ℕ) (o : Option PivotWide) → b ≤ left →
-          Leaves b (on_spot 2 done (settled left (suc done)) (pivoted_at F S T i c) o)
+          Leaves b (on_spot 2 done (complete left (suc done)) (pivoted_at F S T i c) o)
       at_spot left c (Some s) l = tt
       at_spot left c None l = l
 
       go : (x : Bool) (left : ℕ) (o : Option ℕ) → b + 1 ≤ left →
-          Leaves b (cond x (drive_at F S is_too_wide left done T i o) (settled left done T))
+          Leaves b (cond x (drive_at F S is_too_wide left done T i o) (complete left done T))
       go false left o l = omega arith
       go true left None l = omega arith
       go true zero (Some c) l = absurd (omega arith)
@@ -77,14 +77,14 @@ module _ (F : Ordered) (S : Shape) (is_too_wide : Op → F.C → F.C → Bool) (
     where
       go : (x : PhaseStop F.C) → Leaves (b + 1) x → Leaves b (after_phase x
           (λ l d U. drive_row F S is_too_wide l d U k))
-      go (settled l d U) h = drive_leaves b l d U k h
+      go (complete l d U) h = drive_leaves b l d U k h
       go (unlimited U c) h = tt
       go (wide_at p k s) h = tt
       go spent h = absurd h
 
   -- a run past phase 1 is over only where a phase is spent
   third_over : (x : PhaseStop F.C) → third_end x ≡ over → x ≡ spent
-  third_over (settled l d T) e = absurd cc
+  third_over (complete l d T) e = absurd cc
   third_over (unlimited T c) e = absurd cc
   third_over (wide_at p k s) e = absurd cc
   third_over spent e = refl
@@ -99,9 +99,9 @@ module _ (F : Ordered) (S : Shape) (is_too_wide : Op → F.C → F.C → Bool) (
       (drives_keep F S A is_too_wide S.rows (omega arith) l d (clear_objective F S T) (second_begins F S A T h s))
       (third_over _ e)
     where
-      go : (x : PhaseStop F.C) → Leaves (2 ^ columns S) x → Settled F S A (Second F S A S.rows) x →
+      go : (x : PhaseStop F.C) → Leaves (2 ^ columns S) x → Complete F S A (Second F S A S.rows) x →
           after_phase x (λ l d U. turns F S is_too_wide 3 (plain S) l d (set_factor_objective F S U)) ≡ spent → ⊥
-      go (settled l d U) b h e = third_leaves l d (set_factor_objective F S U)
+      go (complete l d U) b h e = third_leaves l d (set_factor_objective F S U)
           (third_begins F S A U (omega (arith, f)) h) b e
       go (unlimited U c) b h e = cc
       go (wide_at p k s) b h e = cc
@@ -123,7 +123,7 @@ module _ (F : Ordered) (S : Shape) (is_too_wide : Op → F.C → F.C → Bool) (
 
       go : (x : PhaseStop F.C) → Leaves (2 * 2 ^ columns S) x → Stopped F S (IsFirst F S A) S.contacts x →
           first_end F S is_too_wide x ≡ over → ⊥
-      go (settled l d U) b h e = at_sign (F.sign (right F S U S.rows)) l d U refl h.0 b e
+      go (complete l d U) b h e = at_sign (F.sign (right F S U S.rows)) l d U refl h.0 b e
       go (unlimited U c) b h e = some_row_leaves F S.rows (plain S) A U.cell U.basic h.0.tableau c
           (omega (arith, h.1.enters.below)) (sign-minus _ h.1.enters.has) h.1.no_row
       go (wide_at p k s) b h e = cc

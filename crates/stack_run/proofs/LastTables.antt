@@ -8,17 +8,17 @@ use Rattle.stack_table.specs.Table.{Shape, Tabled, plain, columns, right, pivote
 use Rattle.stack_table.specs.Table.{set_factor_objective}
 use Rattle.stack_table.specs.Spots.{pivot_spot}
 use Rattle.stack_bland.specs.Choice.{is_negative_sign}
-use Rattle.stack_run.specs.WrittenRun.{Choice, stays, rises, due, refused, choose, PhaseStop, settled, unlimited}
+use Rattle.stack_run.specs.WrittenRun.{Choice, stays, rises, due, refused, choose, PhaseStop, complete, unlimited}
 use Rattle.stack_run.specs.WrittenRun.{wide_at, spent, End, infeasible, after_phase, on_spot, on_choice, turns, drives}
 use Rattle.stack_run.specs.WrittenRun.{third_end, past_first, first_end, written_run}
 use Rattle.stack_run.specs.PhaseTables.{IsFirst}
 use Rattle.stack_run.proofs.ThreePhases.{Second}
-use Rattle.stack_run.proofs.RunEnds.{Settled, drives_keep}
+use Rattle.stack_run.proofs.RunEnds.{Complete, drives_keep}
 use Rattle.stack_run.specs.Reached.{then_on, unrefused, turned_by, after_turns, ComesToSecond, ReachesInFirst}
 use Rattle.stack_run.specs.Reached.{ReachesInThird, Phase, phase_1, phase_2, phase_3, ReachesIn, SomeDone, LastReached}
 use Rattle.stack_run.proofs.Turning.{Before, before}
 use Rattle.stack_run.proofs.SetNumbers.{below_power}
-use Rattle.stack_run.proofs.SecondPhase.{settled-done}
+use Rattle.stack_run.proofs.SecondPhase.{complete-done}
 use Rattle.stack_run.proofs.Circles.{begins, first_few, second_total, third_few}
 
 module _ (F : Ordered) (S : Shape) (is_too_wide : Op → F.C → F.C → Bool) where
@@ -50,9 +50,9 @@ module _ (F : Ordered) (S : Shape) (is_too_wide : Op → F.C → F.C → Bool) w
     pub done_then : ℕ
     pub turned : Turned among left done T left_then done_then U
 
-  -- how a phase stops: at a table that its turns reach, where it settles
+  -- how a phase stops: at a table that its turns reach, where it completes
   abbrev pub Stopped : (among left done : ℕ) → Tabled F.C → PhaseStop F.C → Type 0
-  Stopped among left done T (settled l d U) = Turned among left done T l d U
+  Stopped among left done T (complete l d U) = Turned among left done T l d U
   Stopped among left done T (unlimited U c) = TurnedTo among left done T U
   Stopped among left done T (wide_at p k s) = Unit {0}
   Stopped among left done T spent = Unit {0}
@@ -82,7 +82,7 @@ module _ (F : Ordered) (S : Shape) (is_too_wide : Op → F.C → F.C → Bool) w
   more : (among left done : ℕ) (T V : Tabled F.C) (x : PhaseStop F.C) →
       turned_by F S is_too_wide T (choose F S is_too_wide T among) ≡ Some V → Stopped among left (suc done) V x →
       Stopped among (suc left) done T x
-  more among left done T V (settled l d U) e h = one_more among left done T V l d U e h
+  more among left done T V (complete l d U) e h = one_more among left done T V l d U e h
   more among left done T V (unlimited U c) e h = record {
     left_then = h.left_then;
     done_then = h.done_then;
@@ -136,7 +136,7 @@ module _ (F : Ordered) (S : Shape) (is_too_wide : Op → F.C → F.C → Bool) w
     -- a table of phase 3
     in_third : (left done l d : ℕ) (V W U : Tabled F.C) (left' done' : ℕ) →
         ComesToSecond F S is_too_wide budget T left done V →
-        drives F S is_too_wide S.rows left done (clear_objective F S V) ≡ settled l d W →
+        drives F S is_too_wide S.rows left done (clear_objective F S V) ≡ complete l d W →
         Turned (plain S) l d (set_factor_objective F S W) left' done' U →
         SomeDone (λ k. ReachesInThird F S is_too_wide budget T k U)
     in_third left done l d V W U left' done' h e t = record {
@@ -164,9 +164,9 @@ module _ (F : Ordered) (S : Shape) (is_too_wide : Op → F.C → F.C → Bool) w
 
     -- the last table is reached, by how phase 3 stops
     at_third : (left done l d : ℕ) (V W : Tabled F.C) → ComesToSecond F S is_too_wide budget T left done V →
-        drives F S is_too_wide S.rows left done (clear_objective F S V) ≡ settled l d W →
+        drives F S is_too_wide S.rows left done (clear_objective F S V) ≡ complete l d W →
         (x : PhaseStop F.C) → Stopped (plain S) l d (set_factor_objective F S W) x → Last (third_end x)
-    at_third left done l d V W h e (settled l' d' U) t = in_third left done l d V W U l' d' h e t
+    at_third left done l d V W h e (complete l' d' U) t = in_third left done l d V W U l' d' h e t
     at_third left done l d V W h e (unlimited U c) t =
         in_third left done l d V W U t.left_then t.done_then h e t.turned
     at_third left done l d V W h e (wide_at p k s) t = tt
@@ -175,9 +175,9 @@ module _ (F : Ordered) (S : Shape) (is_too_wide : Op → F.C → F.C → Bool) w
     -- the last table is reached, by how phase 2 stops
     at_second : (left done : ℕ) (V : Tabled F.C) → ComesToSecond F S is_too_wide budget T left done V →
         (x : PhaseStop F.C) → drives F S is_too_wide S.rows left done (clear_objective F S V) ≡ x →
-        Settled F S A (Second F S A S.rows) x →
+        Complete F S A (Second F S A S.rows) x →
         Last (third_end (after_phase x (λ l d U. turns F S is_too_wide 3 (plain S) l d (set_factor_objective F S U))))
-    at_second left done V h (settled l d W) e k = at_third left done l d V W h e _
+    at_second left done V h (complete l d W) e k = at_third left done l d V W h e _
         (turns_stop 3 (plain S) l d (set_factor_objective F S W))
     at_second left done V h (unlimited W c) e k = absurd k
     at_second left done V h (wide_at p j s) e k = tt
@@ -190,7 +190,7 @@ module _ (F : Ordered) (S : Shape) (is_too_wide : Op → F.C → F.C → Bool) w
 
     -- the last table past phase 1 is reached, by the number of factor columns
     by_factors : (left done : ℕ) (V : Tabled F.C) (k : ℕ) → S.factors ≡ k →
-        turns F S is_too_wide 1 S.contacts budget 0 T ≡ settled left done V →
+        turns F S is_too_wide 1 S.contacts budget 0 T ≡ complete left done V →
         F.sign (right F S V S.rows) ≢ minus → Turned S.contacts budget 0 T left done V →
         Last (past_first F S is_too_wide left done V k)
     by_factors left done V zero f e n t = in_first left done V t
@@ -199,14 +199,14 @@ module _ (F : Ordered) (S : Shape) (is_too_wide : Op → F.C → F.C → Bool) w
         (begins F S is_too_wide A budget T begins_run left done V comes))
       where
         comes : ComesToSecond F S is_too_wide budget T left done V
-        comes = record { settles = e; not_below = n; factor = omega (arith, f) }
+        comes = record { completes = e; not_below = n; factor = omega (arith, f) }
 
     -- the last table is one that the run reaches
     pub last_reached : Last (written_run F S is_too_wide budget T)
     last_reached = go (turns F S is_too_wide 1 S.contacts budget 0 T) refl (turns_stop 1 S.contacts budget 0 T)
       where
         at_sign : (left done : ℕ) (V : Tabled F.C) (s : Sign) → F.sign (right F S V S.rows) ≡ s →
-            turns F S is_too_wide 1 S.contacts budget 0 T ≡ settled left done V →
+            turns F S is_too_wide 1 S.contacts budget 0 T ≡ complete left done V →
             Turned S.contacts budget 0 T left done V →
             Last (cond (is_negative_sign s) (infeasible V) (past_first F S is_too_wide left done V S.factors))
         at_sign left done V minus p e t = in_first left done V t
@@ -215,7 +215,7 @@ module _ (F : Ordered) (S : Shape) (is_too_wide : Op → F.C → F.C → Bool) w
 
         go : (x : PhaseStop F.C) → turns F S is_too_wide 1 S.contacts budget 0 T ≡ x →
             Stopped S.contacts budget 0 T x → Last (first_end F S is_too_wide x)
-        go (settled left done V) e t = at_sign left done V (F.sign (right F S V S.rows)) refl e t
+        go (complete left done V) e t = at_sign left done V (F.sign (right F S V S.rows)) refl e t
         go (unlimited V c) e t = tt
         go (wide_at p k s) e t = tt
         go spent e t = tt
@@ -223,14 +223,14 @@ module _ (F : Ordered) (S : Shape) (is_too_wide : Op → F.C → F.C → Bool) w
     -- the pivots of phase 1, where phase 2 comes
     first_before : (left done : ℕ) (V : Tabled F.C) → ComesToSecond F S is_too_wide budget T left done V →
         done < 2 ^ columns S
-    first_before left done V h = go (turns F S is_too_wide 1 S.contacts budget 0 T) h.settles
+    first_before left done V h = go (turns F S is_too_wide 1 S.contacts budget 0 T) h.completes
         (turns_stop 1 S.contacts budget 0 T)
       where
-        go : (x : PhaseStop F.C) → x ≡ settled left done V → Stopped S.contacts budget 0 T x → done < 2 ^ columns S
-        go (settled l d U) e t = omega (
+        go : (x : PhaseStop F.C) → x ≡ complete left done V → Stopped S.contacts budget 0 T x → done < 2 ^ columns S
+        go (complete l d U) e t = omega (
           arith,
           t.total,
-          settled-done e,
+          complete-done e,
           first_few F S is_too_wide A budget T begins_run
               t.count U (record { within = t.within; there = t.there }),
         )

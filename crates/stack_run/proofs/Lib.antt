@@ -11,7 +11,7 @@ pub mod Begins
 pub mod Unflipped
 pub mod Values
 pub mod FourEnds
-pub mod OneTurn
+pub mod RowsDriven
 pub mod NoBasisRecurs
 pub mod Pigeonhole
 pub mod SetNumbers

@@ -6,7 +6,7 @@ use Rattle.stack_rational.specs.declared.exact.Op.{Op}
 use Rattle.stack_table.specs.declared.types.PivotWide.{PivotWide}
 use Rattle.stack_table.specs.Table.{Shape, Tabled, plain, columns, pivoted_at}
 use Rattle.stack_table.specs.Spots.{pivot_spot}
-use Rattle.stack_run.specs.WrittenRun.{Choice, stays, rises, due, refused, choose, settled, spent, over, on_spot}
+use Rattle.stack_run.specs.WrittenRun.{Choice, stays, rises, due, refused, choose, complete, spent, on_spot}
 use Rattle.stack_run.specs.WrittenRun.{on_choice, turns}
 use Rattle.stack_run.proofs.TurnsKeep.{Due, Chosen, chosen}
 use Rattle.stack_run.proofs.ThreePhases.{due_tableau}
@@ -157,18 +157,18 @@ module _ (F : Ordered) (S : Shape) (is_too_wide : Op → F.C → F.C → Bool) (
   never_spent left done T t l e = let k = few T t (suc left)
       (λ k p. spent_due left done T e k (omega arith)) in omega arith
 
-  -- the pivots of a phase that settles
+  -- the pivots of a phase that completes
   pub record Used (T : Tabled F.C) (left l : ℕ) : Type 0 where
     pub count : ℕ
     pub total : l + count ≡ left
     pub all : (k : ℕ) → k < count → IsDue (choose F S is_too_wide (tables T k) among)
 
-  -- the pivots of a phase that settles were all due
-  settled_used : (left done : ℕ) (T : Tabled F.C) (l d : ℕ) (U : Tabled F.C) →
-      turns F S is_too_wide phase among left done T ≡ settled l d U → Used T left l
-  settled_used zero done T l d U e = go (choose F S is_too_wide T among) e
+  -- the pivots of a phase that completes were all due
+  complete_used : (left done : ℕ) (T : Tabled F.C) (l d : ℕ) (U : Tabled F.C) →
+      turns F S is_too_wide phase among left done T ≡ complete l d U → Used T left l
+  complete_used zero done T l d U e = go (choose F S is_too_wide T among) e
     where
-      go : (x : Choice) → on_choice phase zero done T (λ r c. spent) x ≡ settled l d U → Used T zero l
+      go : (x : Choice) → on_choice phase zero done T (λ r c. spent) x ≡ complete l d U → Used T zero l
       go stays e = record {
         count = 0;
         total = let z : 0 ≡ l = cc in omega arith;
@@ -177,12 +177,12 @@ module _ (F : Ordered) (S : Shape) (is_too_wide : Op → F.C → F.C → Bool) (
       go (rises c) e = absurd cc
       go (due r c) e = absurd cc
       go (refused s) e = absurd cc
-  settled_used (suc left) done T l d U e = go (choose F S is_too_wide T among) refl e
-      (λ V. settled_used left (suc done) V l d U)
+  complete_used (suc left) done T l d U e = go (choose F S is_too_wide T among) refl e
+      (λ V. complete_used left (suc done) V l d U)
     where
       at_spot : (r c : ℕ) (o : Option PivotWide) → on_spot phase done
-          (turns F S is_too_wide phase among left (suc done)) (pivoted_at F S T r c) o ≡ settled l d U →
-          turns F S is_too_wide phase among left (suc done) (pivoted_at F S T r c) ≡ settled l d U
+          (turns F S is_too_wide phase among left (suc done)) (pivoted_at F S T r c) o ≡ complete l d U →
+          turns F S is_too_wide phase among left (suc done) (pivoted_at F S T r c) ≡ complete l d U
       at_spot r c (Some s) e = absurd cc
       at_spot r c None e = e
 
@@ -196,8 +196,8 @@ module _ (F : Ordered) (S : Shape) (is_too_wide : Op → F.C → F.C → Bool) (
 
       go : (x : Choice) → choose F S is_too_wide T among ≡ x → on_choice phase (suc left) done T
           (λ r c. on_spot phase done (turns F S is_too_wide phase among left (suc done)) (pivoted_at F S T r c)
-          (pivot_spot F is_too_wide S T r c)) x ≡ settled l d U →
-          ((V : Tabled F.C) → turns F S is_too_wide phase among left (suc done) V ≡ settled l d U →
+          (pivot_spot F is_too_wide S T r c)) x ≡ complete l d U →
+          ((V : Tabled F.C) → turns F S is_too_wide phase among left (suc done) V ≡ complete l d U →
           Used V left l) → Used T (suc left) l
       go stays p e h = record {
         count = 0;
@@ -208,14 +208,14 @@ module _ (F : Ordered) (S : Shape) (is_too_wide : Op → F.C → F.C → Bool) (
       go (refused s) p e h = absurd cc
       go (due r c) p e h = more (subst IsDue (sym p) tt) (h (moved T)
           (subst (λ x. turns F S is_too_wide phase among left (suc done)
-          (pivoted_at F S T (row_of x) (column_of x)) ≡ settled l d U) (sym p)
+          (pivoted_at F S T (row_of x) (column_of x)) ≡ complete l d U) (sym p)
           (at_spot r c (pivot_spot F is_too_wide S T r c) e)))
 
-  -- so the pivots of a phase that settles are fewer than 2^columns
-  pub settled_few : (left done : ℕ) (T : Tabled F.C) (l d : ℕ) (U : Tabled F.C) →
+  -- so the pivots of a phase that completes are fewer than 2^columns
+  pub complete_few : (left done : ℕ) (T : Tabled F.C) (l d : ℕ) (U : Tabled F.C) →
       Tableau F S.rows (columns S) A own T.cell T.basic →
-      turns F S is_too_wide phase among left done T ≡ settled l d U → left < l + 2 ^ columns S
-  settled_few left done T l d U t e = go (settled_used left done T l d U e)
+      turns F S is_too_wide phase among left done T ≡ complete l d U → left < l + 2 ^ columns S
+  complete_few left done T l d U t e = go (complete_used left done T l d U e)
     where
       go : Used T left l → left < l + 2 ^ columns S
       go u = omega (arith, u.total, few T t u.count u.all)

@@ -8,7 +8,7 @@ use Rattle.stack_table.specs.Table.{Shape, Tabled, plain, columns, right, object
 use Rattle.stack_table.specs.Table.{set_factor_objective}
 use Rattle.stack_table.specs.Spots.{pivot_spot}
 use Rattle.stack_bland.specs.Choice.{is_negative_sign, is_nought}
-use Rattle.stack_run.specs.WrittenRun.{PhaseStop, settled, unlimited, wide_at, spent, End, infeasible, feasible}
+use Rattle.stack_run.specs.WrittenRun.{PhaseStop, complete, unlimited, wide_at, spent, End, infeasible, feasible}
 use Rattle.stack_run.specs.WrittenRun.{optimal, ray, wide, over, never, after_phase, on_spot, turns, driven_column}
 use Rattle.stack_run.specs.WrittenRun.{drive_at, drive_row, drives, third_end, past_first, first_end, written_run}
 use Rattle.stack_run.specs.PhaseTables.{own_first, own_third, IsFirst, IsThird}
@@ -69,25 +69,25 @@ module _ (F : Ordered) (S : Shape) (A : ℕ → ℕ → F.C) where
   EndOverRows never = ⊥
 
   -- how phase 2 stops on tables with P: it is never unlimited
-  abbrev pub Settled : (Tabled F.C → Type 0) → PhaseStop F.C → Type 0
-  Settled P (settled left done T) = P T
-  Settled P (unlimited T c) = ⊥
-  Settled P (wide_at p k s) = Unit {0}
-  Settled P spent = Unit {0}
+  abbrev pub Complete : (Tabled F.C → Type 0) → PhaseStop F.C → Type 0
+  Complete P (complete left done T) = P T
+  Complete P (unlimited T c) = ⊥
+  Complete P (wide_at p k s) = Unit {0}
+  Complete P spent = Unit {0}
 
   module _ (is_too_wide : Op → F.C → F.C → Bool) where
     -- what phase 2 keeps at one row
     pub drive_keeps : (left done : ℕ) (T : Tabled F.C) (r : ℕ) → r < m → Second F S A r T →
-        Settled (Second F S A (suc r)) (drive_row F S is_too_wide left done T r)
+        Complete (Second F S A (suc r)) (drive_row F S is_too_wide left done T r)
     drive_keeps left done T r l h = go (leb w (T.basic r)) refl
       where
         at_spot : (left c : ℕ) (o : Option PivotWide) → Second F S A (suc r) (pivoted_at F S T r c) →
-            Settled (Second F S A (suc r)) (on_spot 2 done (settled left (suc done)) (pivoted_at F S T r c) o)
+            Complete (Second F S A (suc r)) (on_spot 2 done (complete left (suc done)) (pivoted_at F S T r c) o)
         at_spot left c (Some s) k = tt
         at_spot left c None k = k
 
         at_column : w ≤ T.basic r → (left : ℕ) (o : Option ℕ) → driven_column F S T r ≡ o →
-            Settled (Second F S A (suc r)) (drive_at F S is_too_wide left done T r o)
+            Complete (Second F S A (suc r)) (drive_at F S is_too_wide left done T r o)
         at_column b left None e = second_skips F S A T r
             (λ j _ lj. F.zero_by_sign _ (sign-nought _
             (least-none w (λ j. not (is_nought (F.sign (T.cell r j)))) e j lj))) h
@@ -98,22 +98,22 @@ module _ (F : Ordered) (S : Shape) (A : ℕ → ℕ → F.C) where
             (second_pivot F S A T r c l k.below b (sign_not-nought _ k.has) h)
 
         go : (b : Bool) → leb w (T.basic r) ≡ b →
-            Settled (Second F S A (suc r))
+            Complete (Second F S A (suc r))
             (cond b (drive_at F S is_too_wide left done T r (driven_column F S T r))
-            (settled left done T))
+            (complete left done T))
         go true e = at_column (leb-true _ _ e) left (driven_column F S T r) refl
         go false e = second_skips F S A T r (λ j b _. absurd (let p = leb-false _ _ e in omega arith)) h
 
     -- phase 2 over the rows below k
     pub drives_keep : (k : ℕ) → k ≤ m → (left done : ℕ) (T : Tabled F.C) → Second F S A 0 T →
-        Settled (Second F S A k) (drives F S is_too_wide k left done T)
+        Complete (Second F S A k) (drives F S is_too_wide k left done T)
     drives_keep zero l left done T h = h
     drives_keep (suc k) l left done T h =
         go (drives F S is_too_wide k left done T) (drives_keep k (omega arith) left done T h)
       where
-        go : (x : PhaseStop F.C) → Settled (Second F S A k) x →
-            Settled (Second F S A (suc k)) (after_phase x (λ l d U. drive_row F S is_too_wide l d U k))
-        go (settled left done T) h = drive_keeps left done T k l h
+        go : (x : PhaseStop F.C) → Complete (Second F S A k) x →
+            Complete (Second F S A (suc k)) (after_phase x (λ l d U. drive_row F S is_too_wide l d U k))
+        go (complete left done T) h = drive_keeps left done T k l h
         go (unlimited T c) h = absurd h
         go (wide_at p k s) h = tt
         go spent h = tt
@@ -130,7 +130,7 @@ module _ (F : Ordered) (S : Shape) (A : ℕ → ℕ → F.C) where
     -- what is left of the run, by how phase 3, phase 2 and phase 1 stop
     third_gives : FirstRows F m w A → S.contacts < w → StandsAlone F m w n A S.contacts → (x : PhaseStop F.C) →
         Stopped F S (IsThird F S A) w x → EndOverRows (third_end x)
-    third_gives a lg z (settled left done T) h = record {
+    third_gives a lg z (complete left done T) h = record {
       raised = raised_at lg z T h.0;
       bounds = optimal_bounds F m w A T.cell T.basic S.contacts lg h.0.tableau a
           (λ j l. record { fact = sign_not-minus _ (h.1 j l) });
@@ -146,9 +146,9 @@ module _ (F : Ordered) (S : Shape) (A : ℕ → ℕ → F.C) where
     third_gives a lg z spent h = tt
 
     after_second : FirstRows F m w A → S.contacts < w → StandsAlone F m w n A S.contacts → (x : PhaseStop F.C) →
-        Settled (Second F S A m) x → EndOverRows
+        Complete (Second F S A m) x → EndOverRows
         (third_end (after_phase x (λ l d U. turns F S is_too_wide 3 w l d (set_factor_objective F S U))))
-    after_second a lg z (settled left done T) h =
+    after_second a lg z (complete left done T) h =
         third_gives a lg z _ (turns_keep F S is_too_wide (IsThird F S A) 3 w (third_step F S A) left done
         (set_factor_objective F S T)
         (third_begins F S A T lg h))
@@ -176,7 +176,7 @@ module _ (F : Ordered) (S : Shape) (A : ℕ → ℕ → F.C) where
 
     first_gives : FirstRows F m w A → (x : PhaseStop F.C) → Stopped F S (IsFirst F S A) S.contacts x →
         EndOverRows (first_end F S is_too_wide x)
-    first_gives a (settled left done T) h = go (F.sign (right F S T m)) refl
+    first_gives a (complete left done T) h = go (F.sign (right F S T m)) refl
       where
         go : (s : Sign) → F.sign (right F S T m) ≡ s →
             EndOverRows (cond (is_negative_sign s) (infeasible T) (past_first F S is_too_wide left done T S.factors))

@@ -7,21 +7,21 @@ use Rattle.stack_table.specs.declared.types.PivotWide.{PivotWide}
 use Rattle.stack_table.specs.Table.{Shape, Tabled, plain, columns, pivoted_at}
 use Rattle.stack_table.specs.Spots.{pivot_spot}
 use Rattle.stack_bland.specs.Choice.{is_nought}
-use Rattle.stack_run.specs.WrittenRun.{PhaseStop, settled, unlimited, wide_at, spent, after_phase, on_spot}
+use Rattle.stack_run.specs.WrittenRun.{PhaseStop, complete, unlimited, wide_at, spent, after_phase, on_spot}
 use Rattle.stack_run.specs.WrittenRun.{driven_column, drive_at, drive_row, drives}
 use Rattle.stack_run.specs.BasicSets.{IsBasic, SameSet}
 use Rattle.stack_run.specs.Reached.{TakesArtificialOut}
 use Rattle.stack_run.proofs.NoBasisRecurs.{distinct}
 
 -- what two equal stops have in common
-pub settled-left : {C : Type 0} {l d l' d' : ℕ} {T T' : Tabled C} → settled l d T ≡ settled l' d' T' → l ≡ l'
-settled-left e = cc
+pub complete-left : {C : Type 0} {l d l' d' : ℕ} {T T' : Tabled C} → complete l d T ≡ complete l' d' T' → l ≡ l'
+complete-left e = cc
 
-pub settled-done : {C : Type 0} {l d l' d' : ℕ} {T T' : Tabled C} → settled l d T ≡ settled l' d' T' → d ≡ d'
-settled-done e = cc
+pub complete-done : {C : Type 0} {l d l' d' : ℕ} {T T' : Tabled C} → complete l d T ≡ complete l' d' T' → d ≡ d'
+complete-done e = cc
 
-pub settled-table : {C : Type 0} {l d l' d' : ℕ} {T T' : Tabled C} → settled l d T ≡ settled l' d' T' → T ≡ T'
-settled-table e = cc
+pub complete-table : {C : Type 0} {l d l' d' : ℕ} {T T' : Tabled C} → complete l d T ≡ complete l' d' T' → T ≡ T'
+complete-table e = cc
 
 module _ (F : Ordered) (S : Shape) (is_too_wide : Op → F.C → F.C → Bool) where
   -- what phase 2 makes of a row
@@ -30,17 +30,17 @@ module _ (F : Ordered) (S : Shape) (is_too_wide : Op → F.C → F.C → Bool) w
 
   -- phase 2 makes this of a row
   pub row_done : (left done : ℕ) (T : Tabled F.C) (i l d : ℕ) (U : Tabled F.C) →
-      drive_row F S is_too_wide left done T i ≡ settled l d U → RowDone i done T d U
+      drive_row F S is_too_wide left done T i ≡ complete l d U → RowDone i done T d U
   row_done left done T i l d U e = go (leb (plain S) (T.basic i)) refl e
     where
-      stays : (k : ℕ) → settled k done T ≡ settled l d U → RowDone i done T d U
-      stays k e = inl (sym (settled-done e), sym (settled-table e))
+      stays : (k : ℕ) → complete k done T ≡ complete l d U → RowDone i done T d U
+      stays k e = inl (sym (complete-done e), sym (complete-table e))
 
       pivots : (k c : ℕ) → plain S ≤ T.basic i → c < plain S →
-          settled k (suc done) (pivoted_at F S T i c) ≡ settled l d U → RowDone i done T d U
+          complete k (suc done) (pivoted_at F S T i c) ≡ complete l d U → RowDone i done T d U
       pivots k c b lc e = inr (
-        sym (settled-done e),
-        subst (λ V. TakesArtificialOut S i T V) (settled-table e) (record {
+        sym (complete-done e),
+        subst (λ V. TakesArtificialOut S i T V) (complete-table e) (record {
           leaves = b;
           enters = subst (λ z. z < plain S) (sym (changed-same T.basic i c)) lc;
           others = λ k d. changed-other T.basic i c k d;
@@ -48,13 +48,13 @@ module _ (F : Ordered) (S : Shape) (is_too_wide : Op → F.C → F.C → Bool) w
       )
 
       at_spot : (k c : ℕ) → plain S ≤ T.basic i → c < plain S → (o : Option PivotWide) →
-          on_spot 2 done (settled k (suc done)) (pivoted_at F S T i c) o ≡ settled l d U →
+          on_spot 2 done (complete k (suc done)) (pivoted_at F S T i c) o ≡ complete l d U →
           RowDone i done T d U
       at_spot k c b lc (Some s) e = absurd cc
       at_spot k c b lc None e = pivots k c b lc e
 
       at_column : plain S ≤ T.basic i → (k : ℕ) (o : Option ℕ) → driven_column F S T i ≡ o →
-          drive_at F S is_too_wide k done T i o ≡ settled l d U → RowDone i done T d U
+          drive_at F S is_too_wide k done T i o ≡ complete l d U → RowDone i done T d U
       at_column b k None p e = stays k e
       at_column b zero (Some c) p e = absurd cc
       at_column b (suc k) (Some c) p e = at_spot k c b
@@ -62,7 +62,7 @@ module _ (F : Ordered) (S : Shape) (is_too_wide : Op → F.C → F.C → Bool) w
           (pivot_spot F is_too_wide S T i c) e
 
       go : (b : Bool) → leb (plain S) (T.basic i) ≡ b → cond b
-          (drive_at F S is_too_wide left done T i (driven_column F S T i)) (settled left done T) ≡ settled l d U →
+          (drive_at F S is_too_wide left done T i (driven_column F S T i)) (complete left done T) ≡ complete l d U →
           RowDone i done T d U
       go true p e = at_column (leb-true _ _ p) left (driven_column F S T i) refl e
       go false p e = stays left e
@@ -127,47 +127,47 @@ module _ (F : Ordered) (S : Shape) (is_too_wide : Op → F.C → F.C → Bool) w
   module _ (left done : ℕ) (V : Tabled F.C) where
     -- the row between which two tables of phase 2 lie
     pub row_between : (r l d : ℕ) (T : Tabled F.C) (l' e : ℕ) (U : Tabled F.C) →
-        drives F S is_too_wide r left done V ≡ settled l d T →
-        drives F S is_too_wide (suc r) left done V ≡ settled l' e U → RowDone r d T e U
+        drives F S is_too_wide r left done V ≡ complete l d T →
+        drives F S is_too_wide (suc r) left done V ≡ complete l' e U → RowDone r d T e U
     row_between r l d T l' e U p q = row_done l d T r l' e U
         (sym (ap (λ x. after_phase x (λ l d W. drive_row F S is_too_wide l d W r)) p) ∙ q)
 
     -- two tables of phase 2 with some rows between them
     pub passed : (a k l d : ℕ) (T : Tabled F.C) (l' e : ℕ) (U : Tabled F.C) →
-        drives F S is_too_wide a left done V ≡ settled l d T →
-        drives F S is_too_wide (a + k) left done V ≡ settled l' e U → Passed (a + k) d T e U
+        drives F S is_too_wide a left done V ≡ complete l d T →
+        drives F S is_too_wide (a + k) left done V ≡ complete l' e U → Passed (a + k) d T e U
     passed a zero l d T l' e U p q = record {
       kept = λ i. inl (ap (λ (W : Tabled F.C). W.basic i) same);
-      moved = inl (sym (settled-done both), same);
+      moved = inl (sym (complete-done both), same);
     }
       where
         start : a + zero ≡ a
         start = omega arith
 
-        both : settled l d T ≡ settled l' e U
+        both : complete l d T ≡ complete l' e U
         both = sym p ∙ sym (ap (λ z. drives F S is_too_wide z left done V) start) ∙ q
 
         same : U ≡ T
-        same = sym (settled-table both)
+        same = sym (complete-table both)
     passed a (suc k) l d T l' e U p q = let z : suc (a + k) ≡ a + suc k = omega arith in
         subst (λ n. Passed n d T e U) z (go (drives F S is_too_wide (a + k) left done V) refl
         (λ l' e U q. passed a k l d T l' e U p q) (ap (λ n. drives F S is_too_wide n left done V) z ∙ q))
       where
         go : (x : PhaseStop F.C) → drives F S is_too_wide (a + k) left done V ≡ x →
-            ((l' e : ℕ) (U : Tabled F.C) → drives F S is_too_wide (a + k) left done V ≡ settled l' e U →
+            ((l' e : ℕ) (U : Tabled F.C) → drives F S is_too_wide (a + k) left done V ≡ complete l' e U →
             Passed (a + k) d T e U) →
-            after_phase x (λ l d W. drive_row F S is_too_wide l d W (a + k)) ≡ settled l' e U →
+            after_phase x (λ l d W. drive_row F S is_too_wide l d W (a + k)) ≡ complete l' e U →
             Passed (suc (a + k)) d T e U
-        go (settled l1 d1 W) x h q = passed_on (a + k) d T d1 W e U (h l1 d1 W x)
+        go (complete l1 d1 W) x h q = passed_on (a + k) d T d1 W e U (h l1 d1 W x)
             (row_done l1 d1 W (a + k) l' e U q)
         go (unlimited W c) x h q = absurd cc
         go (wide_at p k s) x h q = absurd cc
         go spent x h q = absurd cc
 
     -- at most one pivot a row
-    pub drives_few : (k l e : ℕ) (U : Tabled F.C) → drives F S is_too_wide k left done V ≡ settled l e U →
+    pub drives_few : (k l e : ℕ) (U : Tabled F.C) → drives F S is_too_wide k left done V ≡ complete l e U →
         e ≤ done + k
-    drives_few zero l e U q = let z = settled-done q in omega arith
+    drives_few zero l e U q = let z = complete-done q in omega arith
     drives_few (suc k) l e U q = go (drives F S is_too_wide k left done V) refl (drives_few k) q
       where
         at_row : (d : ℕ) (W : Tabled F.C) → d ≤ done + k → RowDone k d W e U → e ≤ done + suc k
@@ -175,9 +175,9 @@ module _ (F : Ordered) (S : Shape) (is_too_wide : Op → F.C → F.C → Bool) w
         at_row d W h (inr z) = omega (arith, h, z.0)
 
         go : (x : PhaseStop F.C) → drives F S is_too_wide k left done V ≡ x →
-            ((l e : ℕ) (U : Tabled F.C) → drives F S is_too_wide k left done V ≡ settled l e U → e ≤ done + k) →
-            after_phase x (λ l d W. drive_row F S is_too_wide l d W k) ≡ settled l e U → e ≤ done + suc k
-        go (settled l1 d1 W) x h q = at_row d1 W (h l1 d1 W x) (row_done l1 d1 W k l e U q)
+            ((l e : ℕ) (U : Tabled F.C) → drives F S is_too_wide k left done V ≡ complete l e U → e ≤ done + k) →
+            after_phase x (λ l d W. drive_row F S is_too_wide l d W k) ≡ complete l e U → e ≤ done + suc k
+        go (complete l1 d1 W) x h q = at_row d1 W (h l1 d1 W x) (row_done l1 d1 W k l e U q)
         go (unlimited W c) x h q = absurd cc
         go (wide_at p k s) x h q = absurd cc
         go spent x h q = absurd cc

@@ -7,7 +7,7 @@ use Rattle.stack_table.specs.declared.types.PivotWide.{PivotWide}
 use Rattle.stack_table.specs.Table.{Shape, Tabled, plain, pivoted_at, clear_objective, set_factor_objective}
 use Rattle.stack_table.specs.Spots.{pivot_spot}
 use Rattle.stack_bland.specs.Choice.{is_negative_sign}
-use Rattle.stack_run.specs.WrittenRun.{Choice, stays, rises, due, refused, choose, settled, infeasible, after_phase}
+use Rattle.stack_run.specs.WrittenRun.{Choice, stays, rises, due, refused, choose, complete, infeasible, after_phase}
 use Rattle.stack_run.specs.WrittenRun.{on_spot, on_choice, turns, drive_row, drives, third_end, past_first, first_end}
 use Rattle.stack_run.specs.WrittenRun.{written_run}
 use Rattle.stack_run.specs.Reached.{then_on, unrefused, turned_by, after_turns, ComesToSecond, ReachesInSecond}
@@ -97,7 +97,7 @@ module _ (F : Ordered) (S : Shape) (is_too_wide : Op → F.C → F.C → Bool) w
 
   -- what is left of phase 2
   drives_rest : (left done : ℕ) (V : Tabled F.C) (row l d : ℕ) (U : Tabled F.C) →
-      drives F S is_too_wide row left done V ≡ settled l d U → (k : ℕ) →
+      drives F S is_too_wide row left done V ≡ complete l d U → (k : ℕ) →
       drives F S is_too_wide (row + k) left done V ≡ drives_from F S is_too_wide k row l d U
   drives_rest left done V row l d U e zero = let p : row + zero ≡ row = omega arith in
       ap (λ n. drives F S is_too_wide n left done V) p ∙ e
@@ -124,7 +124,7 @@ module _ (F : Ordered) (S : Shape) (is_too_wide : Op → F.C → F.C → Bool) w
     comes_on : (left done : ℕ) (V : Tabled F.C) → ComesToSecond F S is_too_wide budget T left done V →
         written_run F S is_too_wide budget T ≡ third_end (after_phase (drives F S is_too_wide S.rows left done
         (clear_objective F S V)) (λ l d U. turns F S is_too_wide 3 (plain S) l d (set_factor_objective F S U)))
-    comes_on left done V h = ap (first_end F S is_too_wide) h.settles
+    comes_on left done V h = ap (first_end F S is_too_wide) h.completes
         ∙ ap (λ b. cond b (infeasible V) (past_first F S is_too_wide left done V S.factors))
         (sign_not _ h.not_below)
         ∙ some_factor S.factors h.factor left done V

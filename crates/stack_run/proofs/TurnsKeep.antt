@@ -7,7 +7,7 @@ use Rattle.stack_table.specs.declared.types.PivotWide.{PivotWide}
 use Rattle.stack_table.specs.Table.{Shape, Tabled, right, objective, pivoted_at}
 use Rattle.stack_table.specs.Spots.{pivot_spot}
 use Rattle.stack_bland.specs.Choice.{is_negative_sign, entering, leaving, ratio_row}
-use Rattle.stack_run.specs.WrittenRun.{Choice, stays, rises, due, refused, PhaseStop, settled, unlimited, wide_at}
+use Rattle.stack_run.specs.WrittenRun.{Choice, stays, rises, due, refused, PhaseStop, complete, unlimited, wide_at}
 use Rattle.stack_run.specs.WrittenRun.{spent, on_spot, on_choice, chosen_at, chosen_in, choose, turns}
 use Rattle.stack_run.specs.LeavingRow.{IsBest}
 use Rattle.stack_run.proofs.BestRow.{best-none, best-some}
@@ -31,7 +31,7 @@ module _ (F : Ordered) (S : Shape) where
 
   -- how a phase stops on tables with P
   abbrev pub Stopped : (Tabled F.C → Type 0) → ℕ → PhaseStop F.C → Type 0
-  Stopped P among (settled left done T) = P T × Chosen T among stays
+  Stopped P among (complete left done T) = P T × Chosen T among stays
   Stopped P among (unlimited T c) = P T × Chosen T among (rises c)
   Stopped P among (wide_at p k s) = Unit {0}
   Stopped P among spent = Unit {0}

@@ -13,7 +13,7 @@ use Rattle.stack_table.specs.Table.{set_factor_objective}
 use Rattle.stack_table.specs.Spots.{divided, spot_if, pivot_spot}
 use Rattle.stack_table.specs.WrittenTable.{written_table}
 use Rattle.stack_bland.specs.Choice.{is_negative_sign, is_plus, entering, leaving, ratio_row}
-use Rattle.stack_run.specs.WrittenRun.{Choice, stays, rises, due, refused, PhaseStop, settled, unlimited, wide_at}
+use Rattle.stack_run.specs.WrittenRun.{Choice, stays, rises, due, refused, PhaseStop, complete, unlimited, wide_at}
 use Rattle.stack_run.specs.WrittenRun.{spent, End, infeasible, feasible, optimal, ray, wide, over, never, after_phase}
 use Rattle.stack_run.specs.WrittenRun.{on_spot, on_choice, chosen_at, chosen_in, choose, turns, driven_column, drive_at}
 use Rattle.stack_run.specs.WrittenRun.{drive_row, drives, third_end, past_first, first_end, written_run}
@@ -34,7 +34,7 @@ SameChoice (due r c) y = y ≡ due r c
 -- y is x, unless x is refused, for the stops of a phase
 abbrev SameStop : {C : Type 0} → PhaseStop C → PhaseStop C → Type 0
 SameStop (wide_at p k s) y = Unit {0}
-SameStop (settled l d T) y = y ≡ settled l d T
+SameStop (complete l d T) y = y ≡ complete l d T
 SameStop (unlimited T c) y = y ≡ unlimited T c
 SameStop spent y = y ≡ spent
 
@@ -161,8 +161,8 @@ module _ (F : Ordered) (S : Shape) (narrow broad : Op → F.C → F.C → Bool)
       SameStop (drive_at F S narrow left done T i o) (drive_at F S broad left done T i o)
   drive_at-same left done T i None = refl
   drive_at-same zero done T i (Some c) = refl
-  drive_at-same (suc left) done T i (Some c) = on_spot-same 2 done (settled left (suc done))
-      (settled left (suc done))
+  drive_at-same (suc left) done T i (Some c) = on_spot-same 2 done (complete left (suc done))
+      (complete left (suc done))
       (pivoted_at F S T i c) _ _ (pivot_spot-same T i c) refl
 
   -- phase 2 at any row
@@ -171,8 +171,8 @@ module _ (F : Ordered) (S : Shape) (narrow broad : Op → F.C → F.C → Bool)
   drive_row-same left done T i = go (leb (plain S) (T.basic i))
     where
       go : (b : Bool) → SameStop
-          (cond b (drive_at F S narrow left done T i (driven_column F S T i)) (settled left done T))
-          (cond b (drive_at F S broad left done T i (driven_column F S T i)) (settled left done T))
+          (cond b (drive_at F S narrow left done T i (driven_column F S T i)) (complete left done T))
+          (cond b (drive_at F S broad left done T i (driven_column F S T i)) (complete left done T))
       go true = drive_at-same left done T i (driven_column F S T i)
       go false = refl
 
@@ -181,7 +181,7 @@ module _ (F : Ordered) (S : Shape) (narrow broad : Op → F.C → F.C → Bool)
       ((l d : ℕ) (T : Tabled F.C) → SameStop (next l d T) (next' l d T)) →
       SameStop (after_phase x next) (after_phase y next')
   after-same (wide_at p k s) y next next' h g = tt
-  after-same (settled l d T) y next next' h g = by_equal _ (next' l d T) _ (ap (λ z. after_phase z next') h) (g l d T)
+  after-same (complete l d T) y next next' h g = by_equal _ (next' l d T) _ (ap (λ z. after_phase z next') h) (g l d T)
   after-same (unlimited T c) y next next' h g = ap (λ z. after_phase z next') h
   after-same spent y next next' h g = ap (λ z. after_phase z next') h
 
@@ -195,7 +195,7 @@ module _ (F : Ordered) (S : Shape) (narrow broad : Op → F.C → F.C → Bool)
   -- the end of a run that comes to phase 3, under both rules
   third_end-same : (x y : PhaseStop F.C) → SameStop x y → SameEnd (third_end x) (third_end y)
   third_end-same (wide_at p k s) y h = tt
-  third_end-same (settled l d T) y h = ap (third_end) h
+  third_end-same (complete l d T) y h = ap (third_end) h
   third_end-same (unlimited T c) y h = ap (third_end) h
   third_end-same spent y h = ap (third_end) h
 
@@ -213,7 +213,7 @@ module _ (F : Ordered) (S : Shape) (narrow broad : Op → F.C → F.C → Bool)
 
   first_end-same : (x y : PhaseStop F.C) → SameStop x y → SameEnd (first_end F S narrow x) (first_end F S broad y)
   first_end-same (wide_at p k s) y h = tt
-  first_end-same (settled l d T) y h = end_by_equal _ (first_end F S broad (settled l d T)) _
+  first_end-same (complete l d T) y h = end_by_equal _ (first_end F S broad (complete l d T)) _
       (ap (first_end F S broad) h) (go (is_negative_sign (F.sign (right F S T S.rows))))
     where
       go : (b : Bool) → SameEnd (cond b (infeasible T) (past_first F S narrow l d T S.factors))

@@ -9,10 +9,10 @@ use Rattle.stack_table.specs.Table.{Shape, Tabled}
 use Rattle.stack_run.specs.declared.pivots.Pivots.{Pivots}
 use Rattle.stack_run.specs.declared.place.RunPlace.{RunPlace}
 use Rattle.stack_run.specs.declared.stops.PhaseEnd.{PhaseEnd}
-use Rattle.stack_run.specs.declared.stops.PhaseEnd.TheVariants.{Settled, Unlimited}
+use Rattle.stack_run.specs.declared.stops.PhaseEnd.TheVariants.{Complete, Unlimited}
 use Rattle.stack_run.specs.declared.stops.Turn.{Turn}
 use Rattle.stack_run.specs.declared.stops.Turn.TheVariants.{Stops, GoesOn}
-use Rattle.stack_run.specs.WrittenRun.{PhaseStop, settled, unlimited, turns}
+use Rattle.stack_run.specs.WrittenRun.{PhaseStop, complete, unlimited, turns}
 
 -- where in its pivot a place lies
 abbrev pub spot_of : RunPlace → PivotWide
@@ -37,7 +37,7 @@ phase_from max S phase among k T = turns ordered_fractions S (is_too_wide max) p
 
 -- what an end of a phase says, with the table that is left
 abbrev pub stop_of : Tabled Fraction → PhaseEnd → PhaseStop Fraction
-stop_of T (Settled k) = settled k.left k.done T
+stop_of T (Complete k) = complete k.left k.done T
 stop_of T (Unlimited c) = unlimited T c
 
 -- a turn that goes on leaves fewer pivots

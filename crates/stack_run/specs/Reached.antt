@@ -5,7 +5,7 @@ use Rattle.stack_rational.specs.declared.exact.Op.{Op}
 use Rattle.stack_table.specs.declared.types.PivotWide.{PivotWide}
 use Rattle.stack_table.specs.Table.{Shape, Tabled, plain, right, pivoted_at, clear_objective, set_factor_objective}
 use Rattle.stack_table.specs.Spots.{pivot_spot}
-use Rattle.stack_run.specs.WrittenRun.{Choice, stays, rises, due, refused, PhaseStop, settled, End, infeasible}
+use Rattle.stack_run.specs.WrittenRun.{Choice, stays, rises, due, refused, PhaseStop, complete, End, infeasible}
 use Rattle.stack_run.specs.WrittenRun.{feasible, optimal, ray, wide, over, never, after_phase, choose, turns, drive_row}
 use Rattle.stack_run.specs.WrittenRun.{drives, third_end, first_end, written_run}
 
@@ -45,10 +45,10 @@ module _ (F : Ordered) (S : Shape) (is_too_wide : Op → F.C → F.C → Bool) w
   after_turns among T (suc k) = then_on (after_turns among T k)
       (λ U. turned_by U (choose F S is_too_wide U among))
 
-  -- from the first table T a run with a budget comes to phase 2 with V: phase 1 settles, its objective's right
+  -- from the first table T a run with a budget comes to phase 2 with V: phase 1 completes, its objective's right
   -- side isn't negative, and there is a factor
   pub record ComesToSecond (budget : ℕ) (T : Tabled F.C) (left done : ℕ) (V : Tabled F.C) : Type 0 where
-    pub settles : turns F S is_too_wide 1 S.contacts budget 0 T ≡ settled left done V
+    pub completes : turns F S is_too_wide 1 S.contacts budget 0 T ≡ complete left done V
     pub not_below : F.sign (right F S V S.rows) ≢ minus
     pub factor : 0 < S.factors
 
@@ -66,7 +66,7 @@ module _ (F : Ordered) (S : Shape) (is_too_wide : Op → F.C → F.C → Bool) w
       pub comes : ComesToSecond budget T left_before done_before last
       pub row_within : row ≤ S.rows
       pub left : ℕ
-      pub there : drives F S is_too_wide row left_before done_before (clear_objective F S last) ≡ settled left done U
+      pub there : drives F S is_too_wide row left_before done_before (clear_objective F S last) ≡ complete left done U
 
     -- the run reaches U in phase 3
     pub record ReachesInThird (done : ℕ) (U : Tabled F.C) : Type 0 where
@@ -93,7 +93,7 @@ module _ (F : Ordered) (S : Shape) (is_too_wide : Op → F.C → F.C → Bool) w
 
   -- what is left of phase 2: k rows from `row` on
   abbrev pub drives_from : (k row left done : ℕ) → Tabled F.C → PhaseStop F.C
-  drives_from zero row left done U = settled left done U
+  drives_from zero row left done U = complete left done U
   drives_from (suc k) row left done U = after_phase (drives_from k row left done U)
       (λ l d V. drive_row F S is_too_wide l d V (row + k))
 

@@ -19,10 +19,10 @@ pub data Choice : Type 0 where
   due : (r c : ℕ) → Choice
   refused : PivotWide → Choice
 
--- how a phase stops: settled, with pivots left and done; at a column that no row limits; in a pivot, at an
+-- how a phase stops: complete, with pivots left and done; at a column that no row limits; in a pivot, at an
 -- operation that is too wide; over the budget
 pub data PhaseStop (C : Type 0) : Type 0 where
-  settled : (left done : ℕ) → Tabled C → PhaseStop C
+  complete : (left done : ℕ) → Tabled C → PhaseStop C
   unlimited : Tabled C → (c : ℕ) → PhaseStop C
   wide_at : (phase pivot : ℕ) → PivotWide → PhaseStop C
   spent : PhaseStop C
@@ -37,9 +37,9 @@ pub data End (C : Type 0) : Type 0 where
   over : End C
   never : End C
 
--- what comes after a phase that settles
+-- what comes after a phase that completes
 abbrev pub after_phase : {C : Type 0} → PhaseStop C → (ℕ → ℕ → Tabled C → PhaseStop C) → PhaseStop C
-after_phase (settled left done T) next = next left done T
+after_phase (complete left done T) next = next left done T
 after_phase (unlimited T c) next = unlimited T c
 after_phase (wide_at p k s) next = wide_at p k s
 after_phase spent next = spent
@@ -52,7 +52,7 @@ on_spot phase done next T None = next T
 
 -- a turn by its choice
 abbrev pub on_choice : {C : Type 0} → (phase left done : ℕ) → Tabled C → (ℕ → ℕ → PhaseStop C) → Choice → PhaseStop C
-on_choice phase left done T pivot stays = settled left done T
+on_choice phase left done T pivot stays = complete left done T
 on_choice phase left done T pivot (rises c) = unlimited T c
 on_choice phase left done T pivot (due r c) = pivot r c
 on_choice phase left done T pivot (refused s) = wide_at phase (suc done) s
@@ -65,7 +65,7 @@ chosen_at c None (Some r) = due r c
 
 -- the end of a run that comes to phase 3
 abbrev pub third_end : {C : Type 0} → PhaseStop C → End C
-third_end (settled left done T) = optimal T
+third_end (complete left done T) = optimal T
 third_end (unlimited T c) = ray T c
 third_end (wide_at p k s) = wide p k s
 third_end spent = over
@@ -95,19 +95,19 @@ module _ (F : Ordered) (S : Shape) (is_too_wide : Op → F.C → F.C → Bool) w
 
   -- phase 2 at a row whose basic column is artificial
   abbrev pub drive_at : (left done : ℕ) → Tabled F.C → ℕ → Option ℕ → PhaseStop F.C
-  drive_at left done T i None = settled left done T
+  drive_at left done T i None = complete left done T
   drive_at zero done T i (Some c) = spent
-  drive_at (suc left) done T i (Some c) = on_spot 2 done (settled left (suc done)) (pivoted_at F S T i c)
+  drive_at (suc left) done T i (Some c) = on_spot 2 done (complete left (suc done)) (pivoted_at F S T i c)
       (pivot_spot F is_too_wide S T i c)
 
   -- phase 2 at row i
   abbrev pub drive_row : (left done : ℕ) → Tabled F.C → ℕ → PhaseStop F.C
   drive_row left done T i = cond (leb (plain S) (T.basic i)) (drive_at left done T i (driven_column F S T i))
-      (settled left done T)
+      (complete left done T)
 
   -- phase 2 at the rows below n
   abbrev pub drives : ℕ → (left done : ℕ) → Tabled F.C → PhaseStop F.C
-  drives zero left done T = settled left done T
+  drives zero left done T = complete left done T
   drives (suc n) left done T = after_phase (drives n left done T) (λ l d U. drive_row l d U n)
 
   -- phases 2 and 3, from the end of phase 1
@@ -122,7 +122,7 @@ module _ (F : Ordered) (S : Shape) (is_too_wide : Op → F.C → F.C → Bool) w
 
   -- the end of a run by its phase 1, where no column is unlimited
   abbrev pub first_end : PhaseStop F.C → End F.C
-  first_end (settled left done T) = cond (is_negative_sign (F.sign (right F S T S.rows))) (infeasible T)
+  first_end (complete left done T) = cond (is_negative_sign (F.sign (right F S T S.rows))) (infeasible T)
       (past_first left done T S.factors)
   first_end (unlimited T c) = never
   first_end (wide_at p k s) = wide p k s

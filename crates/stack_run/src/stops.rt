@@ -5,7 +5,7 @@ use crate::pivots::Pivots;
 /// How a phase stops where nothing is refused.
 pub enum PhaseEnd {
     /// No column enters.
-    Settled(Pivots),
+    Complete(Pivots),
     /// The column enters, and no row leaves.
     Unlimited(usize),
 }

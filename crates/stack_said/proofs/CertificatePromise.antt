@@ -4,27 +4,23 @@ use Rattle.std.proofs.Common.{Err}
 use Rattle.std.proofs.Common.{length}
 use Rattle.std.proofs.Math.Dec.{ltb}
 use Rattle.std.proofs.lemmas.Bool.{ltb-false, ltb-true}
-use Rattle.stack_outside.specs.Seen.{ShelfSeen, StreamSeen}
+use Rattle.stack_work.proofs.Common.{Check, Due, Fault, Form, Holds, IsAcceptedModel, ShelfSeen, StreamSeen, Work}
+use Rattle.stack_work.proofs.Common.{certificate_due, certificate_step, check, checked, due_of, exactly, greatest_file}
+use Rattle.stack_work.proofs.Common.{verdict_status, written_check}
+use Rattle.stack_work.specs.Checking.{certificate_work, checked_file}
 use Rattle.stack_contact.specs.Surveyed.{Surveyed}
 use Rattle.stack_certificate.specs.Certificate.{CertificateValue}
 use Rattle.stack_certificate.specs.CertificateOf.{certificate_of}
 use Rattle.stack_checker.proofs.Verdicts.{accepted_is_true, rejected_is_false}
-use Rattle.stack_checker.specs.declared.types.Check.{Check}
 use Rattle.stack_checker.specs.declared.types.Check.TheVariants.{Accepted, Rejected, TooWide}
-use Rattle.stack_checker.specs.WrittenCheck.{written_check}
 use Rattle.stack_lines.specs.declared.refusal.Input.TheVariants as inputs
 use Rattle.stack_lines.specs.declared.answer.Verdict.TheVariants.{Affirmed}
-use Rattle.stack_lines.specs.Refusals.{Fault, wide_table}
-use Rattle.stack_lines.specs.Verdicts.{verdict_status}
+use Rattle.stack_lines.specs.Refusals.{wide_table}
 use Rattle.stack_work.specs.declared.form.Asked.{Asked}
 use Rattle.stack_work.specs.declared.form.Asked.TheVariants.{Acceptance, Tables}
-use Rattle.stack_work.specs.AcceptedModel.{IsAcceptedModel}
-use Rattle.stack_work.specs.Answers.{Due, exactly}
-use Rattle.stack_work.specs.Checking.{certificate_step, certificate_due, checked, checked_file, certificate_work}
-use Rattle.stack_work.specs.Forms.{Form, check, tables}
-use Rattle.stack_work.specs.Surveying.{greatest_file}
-use Rattle.stack_work.specs.Tables.{tabled_by, due_of}
-use Rattle.stack_work.specs.Work.{Work, ◌>>=◌, Holds}
+use Rattle.stack_work.specs.Forms.{tables}
+use Rattle.stack_work.specs.Tables.{tabled_by}
+use Rattle.stack_work.specs.Work.{◌>>=◌}
 use Rattle.stack_said.specs.CertificatePromise.{CertificateCase, is_accepted, is_rejected, is_long, is_faulty, is_wide}
 use Rattle.stack_said.specs.CertificatePromise.{has_wide_table, certificate_status, answer_text, answer_wide}
 use Rattle.stack_said.specs.CertificatePromise.{IsCertificate}

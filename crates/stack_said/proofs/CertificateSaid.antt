@@ -2,24 +2,17 @@
 use Rattle.std.proofs.Common.{◌≡◌, refl, subst, ℕ, Bool, true, false, List, [], ◌∷◌, Some, Result, Ok, Err, inl, inr}
 use Rattle.std.proofs.Common.{length, if◌then◌else◌}
 use Rattle.std.proofs.Math.Dec.{ltb}
-use Rattle.stack_contact.specs.Surveyed.{Surveyed}
-use Rattle.stack_certificate.specs.Certificate.{CertificateValue}
-use Rattle.stack_certificate.specs.CertificateOf.{certificate_of}
-use Rattle.stack_equilibrium.specs.Truth.{IsTrueCertificate}
+use Rattle.stack_equilibrium.proofs.Common.{CertificateValue, IsTrueCertificate, Surveyed, certificate_of}
 use Rattle.stack_checker.specs.declared.types.Part.{Part}
 use Rattle.stack_checker.specs.declared.types.Reason.{Reason}
-use Rattle.stack_checker.specs.declared.types.Check.{Check}
+use Rattle.stack_work.proofs.Common.{Check, Due, Ends, Holds, IsAcceptedModel, certificate_due, certificate_step}
+use Rattle.stack_work.proofs.Common.{checked, gives, greatest_file, long, refuses, surveyed_file, written_check}
+use Rattle.stack_work.specs.Checking.{certificate_work, checked_file}
 use Rattle.stack_checker.specs.declared.types.Check.TheVariants.{Rejected}
-use Rattle.stack_checker.specs.WrittenCheck.{written_check}
 use Rattle.stack_lines.specs.declared.refusal.Input.TheVariants as inputs
-use Rattle.stack_lines.specs.Refusals.{long}
-use Rattle.stack_work.specs.Answers.{Due}
 use Rattle.stack_lines.specs.CheckText.{rejected_text}
-use Rattle.stack_work.specs.Work.{gives, refuses, ◌>>=◌, Holds, Ends}
-use Rattle.stack_work.specs.Surveying.{greatest_file, surveyed_file}
-use Rattle.stack_work.specs.Checking.{Accepting, certificate_step, certificate_due, checked, checked_file}
-use Rattle.stack_work.specs.Checking.{certificate_work}
-use Rattle.stack_work.specs.AcceptedModel.{IsAcceptedModel}
+use Rattle.stack_work.specs.Work.{◌>>=◌}
+use Rattle.stack_work.specs.Checking.{Accepting}
 use Rattle.stack_work.proofs.Ways.{came_from}
 use Rattle.stack_work.proofs.AcceptedFiles.{told_bytes, only_accepted}
 use Rattle.stack_said.specs.Accepted.{ModelAndCertificate, HoldTrueCertificate, HoldFalseCertificate}

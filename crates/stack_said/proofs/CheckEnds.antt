@@ -1,20 +1,11 @@
 -- The answers that the work on `check` ends with, and what they say of its two files.
 use Rattle.std.proofs.Common.{◌≡◌, refl, sym, subst, ap, ◌∙◌, ℕ, List, Some, Result, Ok, Err}
-use Rattle.stack_model.specs.Structure.{Structure}
-use Rattle.stack_reader.specs.declared.errors.ReadError.{ReadError}
-use Rattle.stack_contact.specs.Surveyed.{Surveyed, IsSurvey}
-use Rattle.stack_certificate.specs.Certificate.{CertificateValue}
-use Rattle.stack_equilibrium.specs.Truth.{IsTrueCertificate}
-use Rattle.stack_checker.specs.declared.types.Check.{Check}
+use Rattle.stack_equilibrium.proofs.Common.{CertificateValue, IsSurvey, IsTrueCertificate, Structure, Surveyed}
+use Rattle.stack_work.proofs.Common.{Check, Due, Ends, Found, Holds, IsAcceptedModel, ReadError, accepted_due}
+use Rattle.stack_work.proofs.Common.{accepted_text, certificate_due, check_work, exactly, written_check}
 use Rattle.stack_checker.specs.declared.types.Check.TheVariants.{Accepted, Rejected, TooWide}
-use Rattle.stack_checker.specs.WrittenCheck.{written_check}
 use Rattle.stack_checker.proofs.Verdicts.{accepted_is_true, rejected_is_false}
 use Rattle.stack_lines.specs.declared.answer.Verdict.TheVariants.{Affirmed, Denied}
-use Rattle.stack_work.specs.Answers.{Due, exactly}
-use Rattle.stack_lines.specs.CheckText.{accepted_text}
-use Rattle.stack_work.specs.Work.{Found, Holds, Ends}
-use Rattle.stack_work.specs.Checking.{certificate_due, accepted_due, check_work}
-use Rattle.stack_work.specs.AcceptedModel.{IsAcceptedModel}
 use Rattle.stack_said.specs.Accepted.{AcceptedIsTrueOfFiles, RejectedIsFalseOfFiles, FilesHoldOne}
 use Rattle.stack_work.proofs.OneEnd.{one_found}
 use Rattle.stack_said.proofs.CertificateSaid.{SaidOf, MeansRejected, hold_true, hold_false, said_from}

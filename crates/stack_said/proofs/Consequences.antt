@@ -1,15 +1,13 @@
 -- The theorem on the top call, out of what the work leaves and what is given out.
 use Rattle.std.proofs.Common.{◌≡◌, ℕ, zero, suc, ◌<◌, ◌≤◌, ◌⊎◌, inl, inr, List, Option, None, Result}
 use Rattle.std.proofs.Common.{Ok, Err, subst, sym, ap, ◌∙◌, arith}
-use Rattle.stack_outside.specs.Seen.{ShelfSeen, StreamSeen, ShelfFailed, StreamFailed, NeitherFailed, TookNothing}
-use Rattle.stack_lines.specs.declared.answer.Answer.{Answer}
+use Rattle.stack_work.proofs.Common.{Answer, Due, Form, Holds, NeitherFailed, Refusal, ReturnsAnswer, ShelfFailed}
+use Rattle.stack_work.proofs.Common.{ShelfSeen, StreamSeen, TookNothing, Way, Works, faulty, file, memory, output}
+use Rattle.stack_work.proofs.Common.{refusal_view, status_of, words}
+use Rattle.stack_outside.specs.Seen.{StreamFailed}
 use Rattle.stack_lines.specs.declared.refusal.Refusal.{Refusal as CodeRefusal}
 use Rattle.stack_lines.specs.declared.refusal.Refusal.TheVariants as code
-use Rattle.stack_work.specs.Forms.{Form}
-use Rattle.stack_lines.specs.Refusals.{Refusal, words, file, faulty, output, refusal_view, status_of, memory}
-use Rattle.stack_work.specs.Answers.{Due}
-use Rattle.stack_work.specs.Work.{Holds}
-use Rattle.stack_work.specs.Progress.{IsCausedBy, Way, ReturnsAnswer, Works}
+use Rattle.stack_work.specs.Progress.{IsCausedBy}
 use Rattle.stack_said.specs.Delivery.{SaysLine, TakesMemory, TellsRefusal, Delivers}
 use Rattle.stack_work.proofs.FilesNamed.{asked_named}
 use Rattle.stack_said.specs.MainTheorem.{Answered, OutputAfter, Cause, Refused, IsGivenOut, RunMeets}

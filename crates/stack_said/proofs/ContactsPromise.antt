@@ -1,9 +1,9 @@
 -- The promise of `contacts`, by the end of its work.
 use Rattle.std.proofs.Common.{◌≡◌, refl, subst, ap, ◌∙◌, ℕ, List, Option, Some}
-use Rattle.stack_outside.specs.Seen.{ShelfSeen, StreamSeen}
-use Rattle.stack_lines.specs.Verdicts.{verdict_status}
-use Rattle.stack_work.specs.Forms.{Form, contacts}
-use Rattle.stack_work.specs.Listing.{contacts_due, contacts_work}
+use Rattle.stack_work.proofs.Common.{Form, ShelfSeen, StreamSeen, verdict_status}
+use Rattle.stack_work.specs.Listing.{contacts_work}
+use Rattle.stack_work.specs.Forms.{contacts}
+use Rattle.stack_work.specs.Listing.{contacts_due}
 use Rattle.stack_said.specs.ContactsPromise.{has_table, contacts_promise}
 use Rattle.stack_said.specs.MainTheorem.{IsGivenOut, RunMeets}
 use Rattle.stack_said.specs.Promise.{told_as, Fulfils}

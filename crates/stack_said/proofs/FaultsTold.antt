@@ -1,11 +1,8 @@
 -- A call of a device that failed is told by the status.
 use Rattle.std.proofs.Common.{◌≡◌, ℕ, ◌<◌, ◌⊎◌, inl, inr, Result, Ok, Err, ap, ◌∙◌, arith}
-use Rattle.stack_outside.specs.Seen.{ShelfSeen, StreamSeen}
-use Rattle.stack_lines.specs.declared.answer.Answer.{Answer}
-use Rattle.stack_lines.specs.declared.refusal.Input.{Input}
+use Rattle.stack_work.proofs.Common.{Answer, Input, ShelfSeen, StreamSeen, faulty, file, memory, status_of}
 use Rattle.stack_lines.specs.declared.refusal.Refusal.{Refusal as CodeRefusal}
 use Rattle.stack_lines.specs.declared.refusal.Refusal.TheVariants as code
-use Rattle.stack_lines.specs.Refusals.{file, faulty, memory, status_of}
 use Rattle.stack_work.specs.Progress.{CountsUnread}
 use Rattle.stack_said.specs.Delivery.{TakesMemory, TellsRefusal, Delivers}
 

@@ -1,26 +1,23 @@
 -- The promise of `stand` and `load`, by the ends of their work.
 use Rattle.std.proofs.Common.{◌≡◌, refl, sym, subst, ap, ◌∙◌, ℕ, Bool, true, false, not, List, Option, Some, None}
 use Rattle.std.proofs.Common.{Result, Ok, Err}
-use Rattle.stack_algebra.specs.Fraction.{Fraction}
-use Rattle.stack_model.specs.Structure.{Structure, HasLive, lists_live}
-use Rattle.stack_certificate.specs.Certificate.{CertificateValue}
-use Rattle.stack_outside.specs.Seen.{ShelfSeen, StreamSeen}
-use Rattle.stack_contact.specs.Surveyed.{Surveyed}
+use Rattle.stack_equilibrium.proofs.Common.{CertificateValue, Fraction, HasLive, Structure, Surveyed}
 use Rattle.stack_equilibrium.specs.declared.types.Question.{Question}
+use Rattle.stack_model.specs.Structure.{lists_live}
+use Rattle.stack_work.proofs.Common.{Due, Fault, Form, Holds, Judgement, ShelfSeen, StreamSeen, certified, judgement}
+use Rattle.stack_work.proofs.Common.{lacks_live, over_budget, spent, too_wide, unjudged, verdict_status}
+use Rattle.stack_work.specs.Judging.{judge_work}
 use Rattle.stack_equilibrium.specs.declared.types.Question.TheVariants.{Dead, Live}
 use Rattle.stack_run.specs.WrittenRun.{End, wide, over, never}
 use Rattle.stack_judge.specs.declared.types.JudgePlace.{JudgePlace}
 use Rattle.stack_judge.specs.EndPlace.{end_place}
-use Rattle.stack_judge.specs.Judgement.{Judgement, certified, too_wide, spent, unjudged, judged_by, judgement_of}
-use Rattle.stack_judge.specs.Judgement.{judgement}
+use Rattle.stack_judge.specs.Judgement.{judged_by, judgement_of}
 use Rattle.stack_judge.specs.Judgement.{survey_run, LacksLive}
 use Rattle.stack_judge.proofs.EachJudged.{each_end_is_judged}
-use Rattle.stack_lines.specs.Refusals.{Fault, no_live, over_budget}
-use Rattle.stack_lines.specs.Verdicts.{verdict_status}
-use Rattle.stack_work.specs.Answers.{Due, certificate}
-use Rattle.stack_work.specs.Forms.{Form, judges}
-use Rattle.stack_work.specs.Judging.{lacks_live, wide_fault, judged, judge_work}
-use Rattle.stack_work.specs.Work.{Holds}
+use Rattle.stack_lines.specs.Refusals.{no_live}
+use Rattle.stack_work.specs.Answers.{certificate}
+use Rattle.stack_work.specs.Forms.{judges}
+use Rattle.stack_work.specs.Judging.{wide_fault, judged}
 use Rattle.stack_work.proofs.JudgementEnds.{lists_some, listed_live, judged_is, judged_lacks}
 use Rattle.stack_said.specs.MainTheorem.{IsGivenOut, RunMeets}
 use Rattle.stack_said.specs.Promise.{told_as, Fulfils}

@@ -4,45 +4,39 @@ use Rattle.std.proofs.Common.{Option, Result, Ok, Err, inl, inr, ◌⊎◌, leng
 use Rattle.std.specs.Prelude.{if◌then◌else◌, ⊤}
 use Rattle.std.proofs.Math.Dec.{ltb}
 use Rattle.std.proofs.lemmas.Bool.{ltb-true}
-use Rattle.stack_outside.specs.Seen.{ShelfSeen, StreamSeen}
-use Rattle.stack_model.specs.Structure.{Structure}
+use Rattle.stack_work.proofs.Common.{Ends, Form, Found, Holds, Input, Judgement, ReadError, Refusal, ShelfSeen}
+use Rattle.stack_work.proofs.Common.{StreamSeen, Work, accepted_due, built_step, certificate_step, certified, check}
+use Rattle.stack_work.proofs.Common.{checked, default_budget, fault_status, gives, greatest_file, judgement, lacks_live}
+use Rattle.stack_work.proofs.Common.{long, memory, outcomes, pair_of, refuses, sample_of, sample_step, sampled, spent}
+use Rattle.stack_work.proofs.Common.{stack_of, staged, status_of, structure_of, survey_step, surveys, told_order}
+use Rattle.stack_work.proofs.Common.{too_wide, unjudged, wall_sampled, work_of, written_check}
+use Rattle.stack_work.specs.Building.{ordered_file, stages_work}
+use Rattle.stack_work.specs.Checking.{certificate_work, checked_file}
+use Rattle.stack_work.specs.Judging.{judge_work}
+use Rattle.stack_work.specs.Listing.{contacts_work}
+use Rattle.stack_work.specs.Ranging.{range_work}
+use Rattle.stack_work.specs.Sampling.{sample_work}
+use Rattle.stack_work.specs.Stacking.{stack_work}
+use Rattle.stack_work.specs.Surveying.{modelled, surveyed_file}
+use Rattle.stack_work.specs.Yielding.{directed_file, paired_file, yield_work}
+use Rattle.stack_equilibrium.proofs.Common.{CertificateValue, Structure, Surveyed, certificate_of}
 use Rattle.stack_overhang.specs.declared.error.StackError.{StackError}
 use Rattle.stack_overhang.specs.declared.error.StackError.TheVariants as built
-use Rattle.stack_reader.specs.declared.errors.ReadError.{ReadError}
-use Rattle.stack_reader.specs.Reading.{structure_of}
-use Rattle.stack_contact.specs.Surveyed.{Surveyed}
 use Rattle.stack_contact.specs.declared.types.SurveyError.TheVariants.{Overlap, TooManyBearings, Memory}
-use Rattle.stack_certificate.specs.Certificate.{CertificateValue}
-use Rattle.stack_certificate.specs.CertificateOf.{certificate_of}
 use Rattle.stack_equilibrium.specs.declared.types.Question.TheVariants.{Live}
-use Rattle.stack_checker.specs.WrittenCheck.{written_check}
-use Rattle.stack_judge.specs.Judgement.{Judgement, certified, too_wide, spent, unjudged, judgement}
 use Rattle.stack_report.specs.ForceNumbers.{wide_index}
-use Rattle.stack_orders.specs.OrderRead.{told_order}
-use Rattle.stack_stages.specs.Staged.{staged}
 use Rattle.stack_directions.specs.Directions.{directions_of}
-use Rattle.stack_yield.specs.Outcomes.{outcomes}
-use Rattle.stack_directions.specs.Pairing.{pair_of}
-use Rattle.stack_lines.specs.declared.refusal.Input.{Input}
 use Rattle.stack_lines.specs.declared.refusal.Input.TheVariants as inputs
 use Rattle.stack_lines.specs.Errors.{from_read}
-use Rattle.stack_lines.specs.Refusals.{Refusal, memory, long, fault_status, status_of}
-use Rattle.stack_work.specs.Building.{order_step, order_work, ordered_file, stages_work}
-use Rattle.stack_work.specs.Checking.{Accepting, certificate_step, checked, checked_file}
-use Rattle.stack_work.specs.Checking.{certificate_work, accepted_due}
-use Rattle.stack_work.specs.Forms.{Form, files_of, check, contacts, judges, tables, stack, sample, ranges, builds}
-use Rattle.stack_work.specs.Forms.{yields, work_of}
-use Rattle.stack_work.specs.Judging.{default_budget, lacks_live, judge_work}
-use Rattle.stack_work.specs.Listing.{contacts_work}
+use Rattle.stack_work.specs.Building.{order_step, order_work}
+use Rattle.stack_work.specs.Checking.{Accepting}
+use Rattle.stack_work.specs.Forms.{files_of, contacts, judges, tables, stack, sample, ranges, builds}
+use Rattle.stack_work.specs.Forms.{yields}
 use Rattle.stack_work.specs.OneEnd.{AreTold}
-use Rattle.stack_work.specs.Ranging.{range_work}
-use Rattle.stack_work.specs.Sampling.{sample_of, sample_step, sampled, wall_sampled, sample_work}
-use Rattle.stack_work.specs.Stacking.{stack_of, built_step, stack_work}
-use Rattle.stack_work.specs.Surveying.{greatest_file, read, model_step, survey_step, modelled, surveyed_file}
+use Rattle.stack_work.specs.Surveying.{read, model_step}
 use Rattle.stack_work.specs.Tables.{table_due}
-use Rattle.stack_work.specs.Work.{Work, gives, refuses, reads, surveys, ◌>>=◌, Found, Holds, Ends}
-use Rattle.stack_work.specs.Yielding.{loads_step, directions_step, directions_work, directed_file, paired_file}
-use Rattle.stack_work.specs.Yielding.{yield_work}
+use Rattle.stack_work.specs.Work.{reads, ◌>>=◌}
+use Rattle.stack_work.specs.Yielding.{loads_step, directions_step, directions_work}
 use Rattle.stack_work.proofs.AcceptedFiles.{told_bytes}
 use Rattle.stack_work.proofs.Beginnings.{certificate_avoids, table_avoids, due_avoids, wide_avoids, judged_avoids}
 use Rattle.stack_work.proofs.Beginnings.{range_avoids, order_avoids, stage_avoids, loads_avoid, directions_avoid}

@@ -1,4 +1,4 @@
-pub mod SettledEnds
+pub mod DefiniteEnds
 pub mod Returned
 pub mod Consequences
 pub mod Puts

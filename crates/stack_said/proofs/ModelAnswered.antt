@@ -3,23 +3,21 @@ use Rattle.std.proofs.Common.{◌≡◌, ◌≢◌, refl, sym, subst, ap, ◌∙
 use Rattle.std.proofs.Common.{Option, Some, Result, Ok, Err, inl, inr, ◌⊎◌, length, arith, if◌then◌else◌}
 use Rattle.std.proofs.Math.Dec.{ltb}
 use Rattle.std.proofs.lemmas.Bool.{ltb-false, ltb-true, le-ltb, lt-ltb}
-use Rattle.stack_outside.specs.Seen.{ShelfSeen, StreamSeen, ShelfFailed, NeitherFailed}
+use Rattle.stack_work.proofs.Common.{Due, Ends, Fault, Form, Found, Holds, IsDefiniteRefusal, NeitherFailed, ReadError}
+use Rattle.stack_work.proofs.Common.{Refusal, ShelfFailed, ShelfSeen, StreamSeen, fault_status, faulty, file, gives}
+use Rattle.stack_work.proofs.Common.{greatest_file, long, memory, output, refuses, status_of, structure_of, survey_step}
+use Rattle.stack_work.proofs.Common.{surveys, words, work_of}
+use Rattle.stack_work.specs.Surveying.{modelled, surveyed_file}
 use Rattle.stack_model.specs.Structure.{Structure}
-use Rattle.stack_reader.specs.Reading.{structure_of}
 use Rattle.stack_model.specs.declared.errors.ModelError.{ModelError}
 use Rattle.stack_model.specs.declared.errors.ModelError.TheVariants as contents
-use Rattle.stack_reader.specs.declared.errors.ReadError.{ReadError}
 use Rattle.stack_reader.specs.declared.errors.ReadError.TheVariants as reading
 use Rattle.stack_contact.specs.declared.types.SurveyError.TheVariants.{Overlap, TooManyBearings, Memory}
 use Rattle.stack_lines.specs.declared.refusal.Input.TheVariants as inputs
-use Rattle.stack_lines.specs.Refusals.{Refusal, Fault, words, file, faulty, output, memory, long, status_of}
-use Rattle.stack_lines.specs.Refusals.{fault_status}
-use Rattle.stack_work.specs.Forms.{Form, files_of, work_of}
-use Rattle.stack_work.specs.Work.{gives, refuses, surveys, ◌>>=◌, Found, Holds, MayFind, Ends}
-use Rattle.stack_work.specs.Surveying.{greatest_file, model_step, survey_step, modelled, surveyed_file}
+use Rattle.stack_work.specs.Forms.{files_of}
+use Rattle.stack_work.specs.Work.{◌>>=◌, MayFind}
+use Rattle.stack_work.specs.Surveying.{model_step}
 use Rattle.stack_lines.specs.Errors.{from_read}
-use Rattle.stack_work.specs.Answers.{Due}
-use Rattle.stack_work.specs.OneEnd.{IsSettledRefusal}
 use Rattle.stack_said.specs.MainTheorem.{Cause, IsGivenOut, RunMeets}
 use Rattle.stack_said.specs.ModelSaid.{IsRefused, ModelFault, in_text, in_pair, in_count, model_fault, ModelSays}
 use Rattle.stack_said.specs.ModelSaid.{IsUnaccepted, UnacceptedCase, is_long, has_fault, wants_memory}
@@ -27,7 +25,7 @@ use Rattle.stack_work.proofs.Ways.{stops, came_from}
 use Rattle.stack_work.proofs.AcceptedFiles.{told_bytes, only_accepted}
 use Rattle.stack_work.proofs.RefusedFrom.{CameOf, refused_from, avoids_end}
 use Rattle.stack_work.proofs.Beginnings.{Begins, begins}
-use Rattle.stack_said.proofs.SettledEnds.{kept_at_memory, given_or_memory, refused_or_memory}
+use Rattle.stack_said.proofs.DefiniteEnds.{kept_at_memory, given_or_memory, refused_or_memory}
 
 -- the ends of the work on a model's file that is told
 module _ (holds : Holds) (model bytes : List ℕ) (told : holds model ≡ Some bytes) where
@@ -65,9 +63,9 @@ some_fault bytes (in_text e is some) = some
 some_fault bytes (in_pair s i j is pair) = λ same. cc
 some_fault bytes (in_count s count is many) = λ same. cc
 
-settled_fault : (f : Fault) → f ≢ memory → IsSettledRefusal (faulty f)
-settled_fault memory some = absurd (some refl)
-settled_fault _ some = tt
+definite_fault : (f : Fault) → f ≢ memory → IsDefiniteRefusal (faulty f)
+definite_fault memory some = absurd (some refl)
+definite_fault _ some = tt
 
 -- each fault of a model has status 5
 content_status : (e : ModelError) → from_read (reading.Model e) ≢ memory
@@ -200,7 +198,7 @@ module _ (status : ℕ) (form : Form) (shelf : ShelfSeen) (out err : StreamSeen)
       → Ends shelf.holds (surveyed_file model) (model ∷ []) (Err (faulty f))
       → IsRefused f status out err
   refuses_as neither f some h = refused_or_memory m f
-      (given_or_memory m neither (model ∷ []) ((bytes, told), tt) (Err (faulty f)) (settled_fault f some)
+      (given_or_memory m neither (model ∷ []) ((bytes, told), tt) (Err (faulty f)) (definite_fault f some)
       (subst (λ w. Ends shelf.holds w (model ∷ []) (Err (faulty f))) (sym b.1)
       (stops shelf.holds (surveyed_file model) b.0 (model ∷ []) (faulty f) h)))
 

@@ -1,21 +1,15 @@
 -- The structure of an accepted model is within the limits, so its survey's scene is proper, and a certificate that is
 -- true of the model shows what it says of factors.
 use Rattle.std.proofs.Common.{◌≡◌, refl, sym, subst, ℕ, List, Result, Ok, Err}
-use Rattle.stack_algebra.specs.Steps.{◌>>=◌}
+use Rattle.stack_equilibrium.proofs.Common.{CertificateValue, IsProper, IsSound, IsSurvey, IsTrueCertificate, Structure}
+use Rattle.stack_equilibrium.proofs.Common.{Surveyed, scene_of, ◌>>=◌}
 use Rattle.stack_model.specs.declared.errors.ModelError.{ModelError}
-use Rattle.stack_model.specs.Structure.{Structure}
 use Rattle.stack_model.specs.Parts.{PartLists, IsOfVersion}
 use Rattle.stack_model.specs.Content.{head_of, joints_of, bodies_of, loads_of, content_of}
-use Rattle.stack_model.specs.Sound.{IsSound}
 use Rattle.stack_model.proofs.Sound.{sound}
 use Rattle.stack_reader.specs.Shape.{parts_of_document}
 use Rattle.stack_reader.specs.Reading.{document_table, model_of, structure_of, within_file}
 use Rattle.stack_reader.proofs.Versions.{of_version}
-use Rattle.stack_contact.specs.Surveyed.{Surveyed, IsSurvey}
-use Rattle.stack_certificate.specs.Certificate.{CertificateValue}
-use Rattle.stack_statics.specs.Scene.{IsProper}
-use Rattle.stack_equilibrium.specs.SurveyScene.{scene_of}
-use Rattle.stack_equilibrium.specs.Truth.{IsTrueCertificate}
 use Rattle.stack_equilibrium.proofs.BearingSizes.{survey_proper}
 use Rattle.stack_checker.specs.Shown.{Shows}
 use Rattle.stack_checker.proofs.Consequences.{shows_standing, shows_fall, shows_carried, shows_bound, shows_above}

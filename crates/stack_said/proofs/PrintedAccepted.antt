@@ -1,15 +1,12 @@
 -- A printed certificate is accepted by `check` with its own model, and is short enough to be read.
 use Rattle.std.proofs.Common.{◌≡◌, refl, sym, subst, ℕ, ◌≤◌, ◌<◌, List, [], ◌∷◌, Some, Ok, inr, length, arith}
 use Rattle.std.proofs.lemmas.Bool.{le-ltb}
-use Rattle.stack_contact.specs.Surveyed.{Surveyed}
-use Rattle.stack_certificate.specs.Certificate.{CertificateValue}
-use Rattle.stack_certificate.specs.CertificateOf.{certificate_of}
-use Rattle.stack_certificate.specs.CertificateText.{IsCertificateText, FewHaveShortTexts, text_bound}
+use Rattle.stack_equilibrium.proofs.Common.{CertificateValue, Surveyed, certificate_of}
 use Rattle.stack_equilibrium.specs.declared.types.Question.{Question}
+use Rattle.stack_certificate.specs.CertificateText.{IsCertificateText, FewHaveShortTexts, text_bound}
 use Rattle.stack_judge.specs.Judged.{IsJudged}
-use Rattle.stack_work.specs.Work.{Holds, Ends}
-use Rattle.stack_work.specs.Surveying.{greatest_file, surveyed_file}
-use Rattle.stack_work.specs.Checking.{checked_file, accepted_due, certificate_work, check_work}
+use Rattle.stack_work.proofs.Common.{Ends, Holds, accepted_due, check_work, greatest_file, surveyed_file}
+use Rattle.stack_work.specs.Checking.{certificate_work, checked_file}
 use Rattle.stack_said.specs.Printed.{acceptance, PrintedIsAccepted, PrintedIsShort}
 use Rattle.stack_work.proofs.Ways.{goes_on}
 use Rattle.stack_work.proofs.OneEnd.{one_end}
@@ -38,6 +35,6 @@ printed_accepted reads short q v c holds model name bytes text told accepted jud
     (all_accepted holds model bytes v told accepted)
     (checked_ends q v c holds name text (omega (arith, fewer)) (reads c text is) judged held) in (
       way,
-      λ names end other settled. sym (one_end holds (check_work model name) (model ∷ name ∷ []) names acceptance end
-          ((bytes, told), ((text, held), tt)) way other tt settled).1,
+      λ names end other definite. sym (one_end holds (check_work model name) (model ∷ name ∷ []) names acceptance end
+          ((bytes, told), ((text, held), tt)) way other tt definite).1,
     )

@@ -2,23 +2,18 @@
 -- top call.
 use Rattle.std.proofs.Common.{◌≡◌, subst, ap, ◌∙◌, ℕ, zero, suc, ◌<◌, ◌≤◌, List, Option, Some}
 use Rattle.std.proofs.Common.{Result, Ok, Err, inl, inr, arith}
-use Rattle.stack_outside.specs.Seen.{ShelfSeen, StreamSeen, Took}
+use Rattle.stack_work.proofs.Common.{Due, Ends, Form, IsAcceptedModel, IsDefinite, Refusal, ShelfSeen, StreamSeen}
+use Rattle.stack_work.proofs.Common.{accepted_text, check, check_work, exactly, faulty, file, memory, output, status_of}
+use Rattle.stack_work.proofs.Common.{verdict_status, words}
+use Rattle.stack_outside.specs.Seen.{Took}
 use Rattle.stack_contact.specs.Surveyed.{Surveyed}
 use Rattle.stack_certificate.specs.Certificate.{CertificateValue}
 use Rattle.stack_certificate.specs.CertificateText.{IsCertificateText}
 use Rattle.stack_equilibrium.specs.declared.types.Question.{Question}
 use Rattle.stack_judge.specs.Judged.{IsJudged}
 use Rattle.stack_lines.specs.declared.answer.Verdict.TheVariants.{Affirmed}
-use Rattle.stack_lines.specs.Refusals.{Refusal, words, file, faulty, output, memory, status_of}
-use Rattle.stack_work.specs.Forms.{Form, check}
-use Rattle.stack_work.specs.Answers.{Due, exactly, IsAnswer}
-use Rattle.stack_lines.specs.Verdicts.{verdict_status}
-use Rattle.stack_lines.specs.CheckText.{accepted_text}
-use Rattle.stack_work.specs.Work.{Ends}
-use Rattle.stack_work.specs.Checking.{check_work}
+use Rattle.stack_work.specs.Answers.{IsAnswer}
 use Rattle.stack_work.specs.Judging.{judged}
-use Rattle.stack_work.specs.OneEnd.{IsSettled}
-use Rattle.stack_work.specs.AcceptedModel.{IsAcceptedModel}
 use Rattle.stack_said.specs.MainTheorem.{Answered, Refused, Cause, RunMeets}
 use Rattle.stack_said.specs.Printed.{acceptance, PrintedIsAccepted, IsAcceptedAgain}
 
@@ -30,7 +25,7 @@ refusing r = Err r
 
 -- what a check that accepts gives out
 module _ (shelf : ShelfSeen) (out err : StreamSeen) (model name : List ℕ) (names : List (List ℕ))
-    (only : (end : Result Due Refusal) → Ends shelf.holds (check_work model name) names end → IsSettled end
+    (only : (end : Result Due Refusal) → Ends shelf.holds (check_work model name) names end → IsDefinite end
     → end ≡ acceptance) where
   abbrev Again : ℕ → Type 0
   Again status = IsAcceptedAgain status shelf out

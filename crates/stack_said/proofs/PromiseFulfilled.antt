@@ -4,17 +4,13 @@ use Rattle.std.proofs.Common.{inl, inr, Option, Some, Result, Ok, Err, length, a
 use Rattle.std.specs.Prelude.{⊤}
 use Rattle.std.proofs.Math.Dec.{ltb}
 use Rattle.std.proofs.lemmas.Bool.{le-ltb, lt-ltb}
-use Rattle.stack_outside.specs.Seen.{ShelfSeen, StreamSeen, NeitherFailed}
+use Rattle.stack_work.proofs.Common.{Due, Ends, Fault, Form, Holds, Input, IsAcceptedModel, IsDefinite}
+use Rattle.stack_work.proofs.Common.{IsDefiniteRefusal, NeitherFailed, Refusal, ShelfSeen, StreamSeen, Work}
+use Rattle.stack_work.proofs.Common.{fault_status, faulty, file, gives, greatest_file, long, memory, output, refuses}
+use Rattle.stack_work.proofs.Common.{status_of, surveyed_file, words, work_of}
 use Rattle.stack_contact.specs.Surveyed.{Surveyed}
-use Rattle.stack_lines.specs.declared.refusal.Input.{Input}
-use Rattle.stack_lines.specs.Refusals.{Refusal, Fault, words, file, faulty, output, memory, long, status_of}
-use Rattle.stack_lines.specs.Refusals.{fault_status}
-use Rattle.stack_work.specs.AcceptedModel.{IsAcceptedModel}
-use Rattle.stack_work.specs.Answers.{Due}
-use Rattle.stack_work.specs.Forms.{Form, work_of}
-use Rattle.stack_work.specs.OneEnd.{IsSettled, IsSettledRefusal}
-use Rattle.stack_work.specs.Surveying.{greatest_file, read, surveyed_file}
-use Rattle.stack_work.specs.Work.{Work, gives, refuses, ◌>>=◌, Holds, MayHold, Ends}
+use Rattle.stack_work.specs.Surveying.{read}
+use Rattle.stack_work.specs.Work.{◌>>=◌, MayHold}
 use Rattle.stack_work.proofs.AcceptedFiles.{told_bytes, only_accepted, all_accepted}
 use Rattle.stack_work.proofs.OneEnd.{one_end}
 use Rattle.stack_work.proofs.RefusedFrom.{CameOf, refused_from}
@@ -25,11 +21,11 @@ use Rattle.stack_said.specs.Promise.{IsShort, Leaves, Promise, told_as, GivesOut
 use Rattle.stack_said.specs.Promise.{FulfilsOn, Fulfils, FulfilsAtOnce}
 use Rattle.stack_said.proofs.ModelAnswered.{Why, for_memory, for_file, for_length, for_fault, model_status}
 use Rattle.stack_said.proofs.ModelAnswered.{surveyed_why}
-use Rattle.stack_said.proofs.SettledEnds.{kept_at_memory}
+use Rattle.stack_said.proofs.DefiniteEnds.{kept_at_memory}
 
--- Each settled end of this work is one that is due.
+-- Each definite end of this work is one that is due.
 abbrev pub EndsIn : Holds → Work Due → (Result Due Fault → Type 0) → Type 0
-EndsIn holds w IsDue = (names : List (List ℕ)) (end : Result Due Refusal) → Ends holds w names end → IsSettled end
+EndsIn holds w IsDue = (names : List (List ℕ)) (end : Result Due Refusal) → Ends holds w names end → IsDefinite end
     → (e : Result Due Fault) × IsDue e × (end ≡ told_as e)
 
 -- What a form shows of its promise: some case comes; in it its work ends in one of these ends; and if such an end was
@@ -47,17 +43,17 @@ once (Ok due) = gives due
 once (Err f) = refuses f
 
 once_only : (holds : Holds) (e : Result Due Fault) (names : List (List ℕ)) (end : Result Due Refusal)
-    → Ends holds (once e) names end → IsSettled end → end ≡ told_as e
-once_only holds (Ok due) names (Ok other) p settled = ap (λ x. Ok x) (sym p.1)
-once_only holds (Ok due) names (Err r) p settled = absurd (subst IsSettledRefusal p.1 settled)
-once_only holds (Err f) names (Ok other) p settled = absurd p.1
-once_only holds (Err f) names (Err r) (none, inl is) settled = ap (λ x. Err x) is
-once_only holds (Err f) names (Err r) (none, inr is) settled = absurd (subst IsSettledRefusal is settled)
+    → Ends holds (once e) names end → IsDefinite end → end ≡ told_as e
+once_only holds (Ok due) names (Ok other) p definite = ap (λ x. Ok x) (sym p.1)
+once_only holds (Ok due) names (Err r) p definite = absurd (subst IsDefiniteRefusal p.1 definite)
+once_only holds (Err f) names (Ok other) p definite = absurd p.1
+once_only holds (Err f) names (Err r) (none, inl is) definite = ap (λ x. Err x) is
+once_only holds (Err f) names (Err r) (none, inr is) definite = absurd (subst IsDefiniteRefusal is definite)
 
 pub at_once : (holds : Holds) (w : Work Due) {IsDue : Result Due Fault → Type 0} (e : Result Due Fault) → IsDue e
     → w ≡ once e → EndsIn holds w IsDue
-at_once holds w e due is names end p settled =
-    (e, due, once_only holds e names end (subst (λ x. Ends holds x names end) is p) settled)
+at_once holds w e due is names end p definite =
+    (e, due, once_only holds e names end (subst (λ x. Ends holds x names end) is p) definite)
 
 -- A fault that is due was given out with its own status.
 pub fault_is : {f : Fault} {e : Result Due Fault} {n : ℕ} (out err : StreamSeen) → e ≡ Err f
@@ -74,11 +70,11 @@ module _ (holds : Holds) (input : Input) (name : List ℕ) (k : List ℕ → Wor
 
   pub read_any : {IsDue : Result Due Fault → Type 0} → ((text : List ℕ) → MayHold (holds name) text → Goes IsDue text)
       → EndsIn holds (read input name >>= k) IsDue
-  read_any h [] (Ok due) p settled = absurd p
-  read_any h [] (Err r) p settled = absurd (subst IsSettledRefusal p settled)
-  read_any h (a ∷ ns) (Ok due) (same, inl p) settled = absurd p.1
-  read_any h (a ∷ ns) (Err r) (same, inl p) settled = absurd (subst IsSettledRefusal p.1 settled)
-  read_any h (a ∷ ns) end (same, inr p) settled = h p.0 p.1 ns end p.2 settled
+  read_any h [] (Ok due) p definite = absurd p
+  read_any h [] (Err r) p definite = absurd (subst IsDefiniteRefusal p definite)
+  read_any h (a ∷ ns) (Ok due) (same, inl p) definite = absurd p.1
+  read_any h (a ∷ ns) (Err r) (same, inl p) definite = absurd (subst IsDefiniteRefusal p.1 definite)
+  read_any h (a ∷ ns) end (same, inr p) definite = h p.0 p.1 ns end p.2 definite
 
   on_told : {IsDue : Result Due Fault → Type 0} (text : List ℕ) (b : Bool) → holds name ≡ Some text
       → ltb greatest_file (length text) ≡ b → EndsIn holds (after_length b text) IsDue
@@ -104,11 +100,11 @@ same_survey v w e = cc
 
 module _ (status : ℕ) (form : Form) (shelf : ShelfSeen) (out err : StreamSeen)
     (m : RunMeets status (Some form) shelf out err) where
-  -- what was given out is a settled end of a way
+  -- what was given out is a definite end of a way
   record IsGiven : Type 0 where
     pub names : List (List ℕ)
     pub end : Result Due Refusal
-    pub is_settled : IsSettled end
+    pub is_definite : IsDefinite end
     pub way : Ends shelf.holds (work_of form) names end
     pub given : IsGivenOut end status out err
 
@@ -120,13 +116,13 @@ module _ (status : ℕ) (form : Form) (shelf : ShelfSeen) (out err : StreamSeen)
   refusal_given own output at cause kept line = absurd (own.not_output at)
   refusal_given own (faulty memory) at cause kept line = absurd (own.not_memory at)
   refusal_given own (faulty f) at cause kept line =
-      record { names = m.names; end = Err (faulty f); is_settled = tt; way = cause; given = (at, kept, line) }
+      record { names = m.names; end = Err (faulty f); is_definite = tt; way = cause; given = (at, kept, line) }
 
   answer_given : Answered status (Some form) shelf m.names out err → IsGiven
   answer_given a = record {
     names = m.names;
     end = Ok a.due;
-    is_settled = tt;
+    is_definite = tt;
     way = a.way;
     given = (a.verdict, a.text, a.is_due, a.is_status, a.is_written, a.is_silent);
   }
@@ -143,10 +139,10 @@ module _ (status : ℕ) (form : Form) (shelf : ShelfSeen) (out err : StreamSeen)
   end_given neither (Err (file input)) way given = absurd (neither.0 (m.shelf_failed given.0))
   end_given neither (Err (faulty memory)) way given = inl given.0
   end_given neither end way given =
-      inr (record { names = m.names; end = end; is_settled = tt; way = way; given = given })
+      inr (record { names = m.names; end = end; is_definite = tt; way = way; given = given })
 
-  settled_given : NeitherFailed shelf out → (status ≡ 11) ⊎ IsGiven
-  settled_given neither = go (m.decided neither)
+  definite_given : NeitherFailed shelf out → (status ≡ 11) ⊎ IsGiven
+  definite_given neither = go (m.decided neither)
     where
       go : (status ≡ 11) ⊎ ((end : Result Due Refusal) × Ends shelf.holds (work_of form) m.names end
           × IsGivenOut end status out err) → (status ≡ 11) ⊎ IsGiven
@@ -170,7 +166,7 @@ module _ (status : ℕ) (form : Form) (shelf : ShelfSeen) (out err : StreamSeen)
     due_in : (g : IsGiven) → (v : On) → IsOn v → (names : List (List ℕ)) → Ends shelf.holds (f v) names g.end
         → (x : promise.Case) → promise.Comes v x → GivesOut promise v x status out err
     due_in g v is_on names ends x comes =
-        let d = shows.each v is_on x comes names g.end ends g.is_settled in
+        let d = shows.each v is_on x comes names g.end ends g.is_definite in
         let given = subst (λ e. IsGivenOut e status out err) d.2 g.given in
         let t = shows.tells v x d.0 d.1 status out err given in
         record { is_status = t.0; due = d.0; is_due = t.1; is_given = given }
@@ -183,7 +179,7 @@ module _ (status : ℕ) (form : Form) (shelf : ShelfSeen) (out err : StreamSeen)
     fulfils_on : FulfilsOn promise IsOn IsOwnStatus status shelf out err
     fulfils_on = record {
       some = shows.some;
-      each = λ neither v is_on x comes. on_case v is_on x comes (settled_given neither);
+      each = λ neither v is_on x comes. on_case v is_on x comes (definite_given neither);
       only = λ own.
           let g = own_given status refl (of_work own) in
           let w = goes_own own g in
@@ -232,15 +228,15 @@ module _ (status : ℕ) (form : Form) (shelf : ShelfSeen) (out err : StreamSeen)
     own_past own end g r front is p = no_model r own (subst (λ e. IsGivenOut e status out err) is g).0
         (surveyed_why shelf.holds r model bytes front told p)
 
-    -- two settled ends of the work on the model are one
+    -- two definite ends of the work on the model are one
     one_model : (v : Surveyed) (front : List (List ℕ)) (end : Result Surveyed Refusal) → IsAcceptedModel bytes v
-        → Ends shelf.holds (surveyed_file model) front end → IsSettled end → some_survey v ≡ end
-    one_model v front end accepted p settled = (one_end shelf.holds (surveyed_file model) (model ∷ []) front
-        (Ok v) end ((bytes, told), tt) (all_accepted shelf.holds model bytes v told accepted) p tt settled).1
+        → Ends shelf.holds (surveyed_file model) front end → IsDefinite end → some_survey v ≡ end
+    one_model v front end accepted p definite = (one_end shelf.holds (surveyed_file model) (model ∷ []) front
+        (Ok v) end ((bytes, told), tt) (all_accepted shelf.holds model bytes v told accepted) p tt definite).1
 
-    accepted_past : (v : Surveyed) → IsAcceptedModel bytes v → (end : Result Due Refusal) → IsSettled end → IsPast end
-    accepted_past v accepted end settled r front is p =
-        let e = one_model v front (Err r) accepted p (subst IsSettled is settled) in cc
+    accepted_past : (v : Surveyed) → IsAcceptedModel bytes v → (end : Result Due Refusal) → IsDefinite end → IsPast end
+    accepted_past v accepted end definite r front is p =
+        let e = one_model v front (Err r) accepted p (subst IsDefinite is definite) in cc
 
     way_of : (g : IsGiven) → Ends shelf.holds (surveyed_file model >>= f) g.names g.end
     way_of g = subst (λ w. Ends shelf.holds w g.names g.end) begins g.way
@@ -248,7 +244,7 @@ module _ (status : ℕ) (form : Form) (shelf : ShelfSeen) (out err : StreamSeen)
     on_model : (v : Surveyed) → IsAcceptedModel bytes v → (g : IsGiven)
         → (names : List (List ℕ)) × Ends shelf.holds (f v) names g.end
     on_model v accepted g =
-        let w = goes_on g.names g.end (accepted_past v accepted g.end g.is_settled) (way_of g) in
+        let w = goes_on g.names g.end (accepted_past v accepted g.end g.is_definite) (way_of g) in
         let same = same_survey w.on v (one_model w.on (model ∷ []) (Ok v) w.is_on
         (all_accepted shelf.holds model bytes v told accepted) tt) in
         (w.names, subst (λ s. Ends shelf.holds (f s) w.names g.end) same w.ends)

@@ -1,13 +1,10 @@
 -- Nothing is put on the output where the work refuses, and its status isn't that of an output that failed.
 use Rattle.std.proofs.Common.{◌≡◌, ◌≢◌, ℕ, ◌⊎◌, inl, inr, Option, Result, Err, subst, sym, ap, refl, ◌∙◌, arith}
 use Rattle.std.specs.Bool.{⊤}
-use Rattle.stack_outside.specs.Seen.{ShelfSeen, StreamSeen}
-use Rattle.stack_lines.specs.declared.answer.Answer.{Answer}
+use Rattle.stack_work.proofs.Common.{Answer, Form, Refusal, ReturnsAnswer, ShelfSeen, StreamSeen, Works, faulty, file}
+use Rattle.stack_work.proofs.Common.{output, refusal_view, status_of, words}
 use Rattle.stack_lines.specs.declared.refusal.Refusal.{Refusal as CodeRefusal}
 use Rattle.stack_lines.specs.declared.refusal.Refusal.TheVariants as code
-use Rattle.stack_lines.specs.Refusals.{Refusal, words, file, faulty, output, refusal_view, status_of}
-use Rattle.stack_work.specs.Forms.{Form}
-use Rattle.stack_work.specs.Progress.{ReturnsAnswer, Works}
 use Rattle.stack_said.specs.Delivery.{TakesMemory}
 use Rattle.stack_said.specs.OnePut.{PutsAnswer}
 use Rattle.stack_said.proofs.Returned.{not_output, fault_past_output, from_two}

@@ -1,6 +1,8 @@
 -- The promise of `range`, by the ends of its work.
 use Rattle.std.proofs.Common.{◌≡◌, refl, sym, subst, ap, ◌∙◌, ℕ, Bool, true, false, List, Option, Some, Result, Ok, Err}
-use Rattle.stack_outside.specs.Seen.{ShelfSeen, StreamSeen}
+use Rattle.stack_work.proofs.Common.{Due, Fault, Form, Holds, IsAcceptedModel, ShelfSeen, StreamSeen, lacks_live}
+use Rattle.stack_work.proofs.Common.{over_budget, verdict_status, wide_within}
+use Rattle.stack_work.specs.Ranging.{range_work}
 use Rattle.stack_contact.specs.Surveyed.{Surveyed}
 use Rattle.stack_equilibrium.specs.declared.types.Question.TheVariants.{Live}
 use Rattle.stack_judge.specs.Judgement.{LacksLive}
@@ -8,14 +10,10 @@ use Rattle.stack_range.specs.Ranged.{collapsing, between}
 use Rattle.stack_range.specs.RangeJudgement.{RangeJudgement, told, wide_on, spent_on, no_range, range_judgement}
 use Rattle.stack_range.specs.RangeJudgement.{AreSides}
 use Rattle.stack_range.proofs.BothSides.{ranges_are_by_sides}
-use Rattle.stack_lines.specs.Refusals.{Fault, no_live, over_budget}
-use Rattle.stack_lines.specs.Verdicts.{verdict_status}
-use Rattle.stack_work.specs.AcceptedModel.{IsAcceptedModel}
-use Rattle.stack_work.specs.Answers.{Due, ranged}
-use Rattle.stack_work.specs.Forms.{Form, ranges}
-use Rattle.stack_work.specs.Judging.{lacks_live, wide_within}
-use Rattle.stack_work.specs.Ranging.{within_of, range_step, range_told, range_work}
-use Rattle.stack_work.specs.Work.{Holds}
+use Rattle.stack_lines.specs.Refusals.{no_live}
+use Rattle.stack_work.specs.Answers.{ranged}
+use Rattle.stack_work.specs.Forms.{ranges}
+use Rattle.stack_work.specs.Ranging.{within_of, range_step, range_told}
 use Rattle.stack_work.proofs.RangeEnds.{range_is, range_lacks}
 use Rattle.stack_said.specs.MainTheorem.{IsGivenOut, RunMeets}
 use Rattle.stack_said.specs.Promise.{told_as, Fulfils}

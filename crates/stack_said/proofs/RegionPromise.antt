@@ -4,23 +4,21 @@ use Rattle.std.proofs.Common.{Result, Ok, Err}
 use Rattle.std.proofs.Common.{length, arith, if◌then◌else◌}
 use Rattle.std.proofs.Math.Dec.{ltb}
 use Rattle.std.proofs.lemmas.Bool.{ltb-false, ltb-true}
-use Rattle.stack_outside.specs.Seen.{ShelfSeen, StreamSeen}
+use Rattle.stack_work.proofs.Common.{Due, Fault, Form, Holds, ShelfSeen, StreamSeen, gives, greatest_file, long, memory}
+use Rattle.stack_work.proofs.Common.{outcomes, over_budget, pair_of, paired_file, refuses, verdict_status, wide_toward}
+use Rattle.stack_work.specs.Yielding.{directed_file, yield_work}
 use Rattle.stack_contact.specs.Surveyed.{Surveyed}
 use Rattle.stack_pairs.specs.Reaches.{ReachValue, points, collapse}
 use Rattle.stack_directions.specs.Directions.{directions_of}
-use Rattle.stack_directions.specs.Pairing.{pair_of}
-use Rattle.stack_yield.specs.Outcomes.{Outcomes, answered, passes_at, spends_at, no_outcomes, outcomes}
+use Rattle.stack_yield.specs.Outcomes.{Outcomes, answered, passes_at, spends_at, no_outcomes}
 use Rattle.stack_yield.specs.ByDirections.{AreByDirections}
 use Rattle.stack_yield.proofs.FirstDirection.{outcomes_are_by_directions, directions_are_decided}
 use Rattle.stack_lines.specs.declared.refusal.Input.TheVariants as inputs
-use Rattle.stack_lines.specs.Refusals.{Fault, long, no_pair, directions_line, over_budget, memory}
-use Rattle.stack_lines.specs.Verdicts.{verdict_status}
-use Rattle.stack_work.specs.Answers.{Due, region_due}
-use Rattle.stack_work.specs.Forms.{Form, yields}
-use Rattle.stack_work.specs.Surveying.{greatest_file}
-use Rattle.stack_work.specs.Work.{gives, refuses, ◌>>=◌, Holds}
-use Rattle.stack_work.specs.Yielding.{directions_step, wide_toward, region_step, directions_work}
-use Rattle.stack_work.specs.Yielding.{directed_file, paired_file, yield_work}
+use Rattle.stack_lines.specs.Refusals.{no_pair, directions_line}
+use Rattle.stack_work.specs.Answers.{region_due}
+use Rattle.stack_work.specs.Forms.{yields}
+use Rattle.stack_work.specs.Work.{◌>>=◌}
+use Rattle.stack_work.specs.Yielding.{directions_step, region_step, directions_work}
 use Rattle.stack_work.proofs.YieldEnds.{after_text, directions_are, loads_are}
 use Rattle.stack_said.specs.MainTheorem.{IsGivenOut, RunMeets}
 use Rattle.stack_said.specs.Promise.{IsShort, told_as, Fulfils}

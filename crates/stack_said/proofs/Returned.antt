@@ -5,20 +5,17 @@ use Rattle.std.specs.Bool.{⊤}
 use Rattle.std.specs.Io.KnownBytes.{Appends, Keeps}
 use Rattle.stack_outside.specs.declared.error.SinkFailed.{SinkFailed}
 use Rattle.stack_outside.specs.declared.shelf.Shelf.{Ghosts}
-use Rattle.stack_outside.specs.Seen.{ShelfSeen, StreamSeen, TookNothing, seen_shelf}
+use Rattle.stack_work.proofs.Common.{Answer, AnswersDue, Due, Ends, Fault, Form, Holds, Refusal, ReturnsAnswer}
+use Rattle.stack_work.proofs.Common.{ShelfSeen, StreamSeen, TookNothing, Way, Work, Works, faulty, file, gives, memory}
+use Rattle.stack_work.proofs.Common.{output, refusal_view, refuses, seen_shelf, status_of, surveys, verdict_status}
+use Rattle.stack_work.proofs.Common.{words, work_of}
 use Rattle.stack_outside.specs.Sinks.{Puts}
-use Rattle.stack_lines.specs.declared.answer.Answer.{Answer}
 use Rattle.stack_lines.specs.declared.answer.Verdict.{Verdict}
 use Rattle.stack_lines.specs.declared.answer.Verdict.TheVariants.{Affirmed, Denied}
 use Rattle.stack_lines.specs.declared.refusal.Refusal.{Refusal as CodeRefusal}
 use Rattle.stack_lines.specs.declared.refusal.Refusal.TheVariants as code
-use Rattle.stack_work.specs.Forms.{Form, work_of}
-use Rattle.stack_lines.specs.Refusals.{Refusal, words, file, faulty, output, refusal_view, status_of, Fault}
-use Rattle.stack_lines.specs.Refusals.{memory}
-use Rattle.stack_work.specs.Answers.{Due}
-use Rattle.stack_lines.specs.Verdicts.{verdict_status}
-use Rattle.stack_work.specs.Work.{Work, gives, refuses, reads, surveys, Holds, Ends}
-use Rattle.stack_work.specs.Progress.{Returns, AnswersDue, Way, ReturnsAnswer, Does, Works}
+use Rattle.stack_work.specs.Work.{reads}
+use Rattle.stack_work.specs.Progress.{Returns, Does}
 use Rattle.stack_work.proofs.Steps.{none_asked}
 use Rattle.stack_said.specs.Delivery.{SaysLine, TakesMemory, Delivers}
 

@@ -1,12 +1,9 @@
 -- A run keeps its promises, by the work that is done and what is then given out.
 use Rattle.std.specs.Prelude.{◌≢◌, ◌≤◌, ℕ, Option, Result, Err}
-use Rattle.stack_outside.specs.Seen.{ShelfSeen, StreamSeen}
+use Rattle.stack_work.proofs.Common.{Answer, Form, ShelfSeen, StreamSeen, Works}
 use Rattle.stack_walls.specs.Surveying.{DrawnWallsHaveSurveys}
-use Rattle.stack_lines.specs.declared.answer.Answer.{Answer}
 use Rattle.stack_lines.specs.declared.refusal.Refusal.{Refusal as CodeRefusal}
 use Rattle.stack_lines.specs.declared.refusal.Refusal.TheVariants as code
-use Rattle.stack_work.specs.Forms.{Form}
-use Rattle.stack_work.specs.Progress.{Works}
 use Rattle.stack_said.specs.Delivery.{Delivers}
 use Rattle.stack_said.specs.OnePut.{PutsAnswer, PutsLine}
 use Rattle.stack_said.specs.Printed.{PrintedIsAccepted}

@@ -1,24 +1,22 @@
 -- The promise of `sample`, by the ends of its work.
 use Rattle.std.proofs.Common.{◌≡◌, refl, sym, subst, ap, ◌∙◌, ℕ, Option, Some, Result, Ok}
 use Rattle.std.proofs.Common.{Err, inl, inr}
-use Rattle.stack_outside.specs.Seen.{ShelfSeen, StreamSeen}
+use Rattle.stack_work.proofs.Common.{Due, Ends, Fault, Form, Holds, IsDefinite, IsDefiniteRefusal, Judgement, Refusal}
+use Rattle.stack_work.proofs.Common.{ShelfSeen, StreamSeen, built_step, certified, default_budget, judgement}
+use Rattle.stack_work.proofs.Common.{over_budget, sample_of, sample_step, sampled, spent, survey_step, too_wide}
+use Rattle.stack_work.proofs.Common.{unjudged, verdict_status, wall_sampled}
+use Rattle.stack_work.specs.Sampling.{sample_work}
 use Rattle.stack_overhang.specs.Wall.{wall_of}
 use Rattle.stack_contact.specs.Surveyed.{Surveyed}
 use Rattle.stack_walls.specs.Surveying.{DrawnWallsHaveSurveys}
 use Rattle.stack_equilibrium.specs.declared.types.Question.TheVariants.{Live}
-use Rattle.stack_judge.specs.Judgement.{Judgement, certified, too_wide, spent, unjudged, judgement}
 use Rattle.stack_judge.specs.NarrowWork.{is_narrow}
 use Rattle.stack_judge.proofs.EachJudged.{each_end_is_judged}
-use Rattle.stack_lines.specs.Refusals.{Refusal, Fault, size, over_budget}
-use Rattle.stack_lines.specs.Verdicts.{verdict_status}
-use Rattle.stack_work.specs.Answers.{Due, summary}
-use Rattle.stack_work.specs.Forms.{Form, sample}
-use Rattle.stack_work.specs.Judging.{default_budget, wide_fault}
-use Rattle.stack_work.specs.OneEnd.{IsSettled, IsSettledRefusal}
-use Rattle.stack_work.specs.Sampling.{sample_of, sample_step, sampled, wall_sampled, sample_work}
-use Rattle.stack_work.specs.Stacking.{built_step}
-use Rattle.stack_work.specs.Surveying.{survey_step}
-use Rattle.stack_work.specs.Work.{◌>>=◌, Holds, Ends}
+use Rattle.stack_lines.specs.Refusals.{size}
+use Rattle.stack_work.specs.Answers.{summary}
+use Rattle.stack_work.specs.Forms.{sample}
+use Rattle.stack_work.specs.Judging.{wide_fault}
+use Rattle.stack_work.specs.Work.{◌>>=◌}
 use Rattle.stack_work.proofs.OneEnd.{one_found}
 use Rattle.stack_said.specs.MainTheorem.{IsGivenOut, RunMeets}
 use Rattle.stack_said.specs.Promise.{told_as, FulfilsAtOnce}
@@ -43,16 +41,16 @@ module _ (number : ℕ) (holds : Holds) where
   on_survey : (x : SampleCase) (v : Surveyed) → IsWallSurvey number v → (j : Judgement)
       → judgement Live v default_budget ≡ j → sample_step number v j ≡ once (sample_end number x) → Ending x
   unfolding sample_work
-  on_survey x v (s, is, survey) j comes ends names end p settled =
-      go end (subst (λ r. Ends holds (built_step r >>= wall_sampled number) names end) is p) settled
+  on_survey x v (s, is, survey) j comes ends names end p definite =
+      go end (subst (λ r. Ends holds (built_step r >>= wall_sampled number) names end) is p) definite
     where
-      go : (end : Result Due Refusal) → Ends holds (wall_sampled number s) names end → IsSettled end
+      go : (end : Result Due Refusal) → Ends holds (wall_sampled number s) names end → IsDefinite end
           → (e : Result Due Fault) × (e ≡ sample_end number x) × (end ≡ told_as e)
-      go (Ok due) (inl q) settled = absurd q.1
-      go (Err r) (inl q) settled = absurd (subst IsSettledRefusal q.1 settled)
-      go end (inr q) settled = at_once holds (sampled number v) _ refl (ap (sample_step number v) comes ∙ ends) names
+      go (Ok due) (inl q) definite = absurd q.1
+      go (Err r) (inl q) definite = absurd (subst IsDefiniteRefusal q.1 definite)
+      go end (inr q) definite = at_once holds (sampled number v) _ refl (ap (sample_step number v) comes ∙ ends) names
           end (subst (λ f. Ends holds (survey_step s f >>= sampled number) names end)
-          (one_found s q.0 (Ok v) q.1 survey) q.2) settled
+          (one_found s q.0 (Ok v) q.1 survey) q.2) definite
 
   each : (x : SampleCase) → SampleComes number tt x → Ending x
   unfolding sample_work

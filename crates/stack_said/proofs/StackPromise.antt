@@ -1,19 +1,18 @@
 -- The promise of `stack`, by the ends of its work.
 use Rattle.std.proofs.Common.{◌≡◌, refl, subst, ap, ◌∙◌, ℕ, Bool, true, false, Option, Some, Result, Ok, Err}
 use Rattle.std.proofs.Common.{if◌then◌else◌}
-use Rattle.stack_outside.specs.Seen.{ShelfSeen, StreamSeen}
+use Rattle.stack_work.proofs.Common.{Form, Holds, ShelfSeen, StreamSeen, built_step, gives, stack_of, verdict_status}
+use Rattle.stack_work.specs.Stacking.{stack_work}
 use Rattle.stack_model.specs.Structure.{Structure}
 use Rattle.stack_overhang.specs.declared.error.StackError.{StackError}
 use Rattle.stack_overhang.specs.declared.error.StackError.TheVariants.{Size}
 use Rattle.stack_overhang.specs.Gives.{is_size, sized}
 use Rattle.stack_overhang.specs.Stacks.{harmonic_of, triangle_stack, slab_of}
-use Rattle.stack_lines.specs.Verdicts.{verdict_status}
 use Rattle.stack_work.specs.declared.form.Kind.{Kind}
 use Rattle.stack_work.specs.declared.form.Kind.TheVariants.{Harmonic, Triangle, Slab}
 use Rattle.stack_work.specs.Answers.{document}
-use Rattle.stack_work.specs.Forms.{Form, stack}
-use Rattle.stack_work.specs.Stacking.{stack_of, built_step, stack_work}
-use Rattle.stack_work.specs.Work.{gives, ◌>>=◌, Holds}
+use Rattle.stack_work.specs.Forms.{stack}
+use Rattle.stack_work.specs.Work.{◌>>=◌}
 use Rattle.stack_said.specs.MainTheorem.{IsGivenOut, RunMeets}
 use Rattle.stack_said.specs.Promise.{told_as, FulfilsAtOnce}
 use Rattle.stack_said.specs.StackPromise.{StackCase, is_built, has_no_size, stack_status, StackComes, stack_due}

@@ -3,23 +3,19 @@ use Rattle.std.proofs.Common.{◌≡◌, refl, subst, ap, ◌∙◌, ℕ, suc, B
 use Rattle.std.proofs.Common.{Err, length}
 use Rattle.std.proofs.Math.Dec.{ltb}
 use Rattle.std.proofs.lemmas.Bool.{ltb-false, ltb-true}
-use Rattle.stack_outside.specs.Seen.{ShelfSeen, StreamSeen}
+use Rattle.stack_work.proofs.Common.{Due, Fault, Form, Holds, ShelfSeen, StreamSeen, greatest_file, long, over_budget}
+use Rattle.stack_work.proofs.Common.{staged, told_order, verdict_status, wide_within}
+use Rattle.stack_work.specs.Building.{ordered_file, stages_work}
 use Rattle.stack_contact.specs.Surveyed.{Surveyed}
 use Rattle.stack_certificate.specs.Certificate.{ForcesValue}
-use Rattle.stack_orders.specs.OrderRead.{told_order}
 use Rattle.stack_stages.specs.Stage.{stage}
-use Rattle.stack_stages.specs.Staged.{Staged, all_stand, falls, too_wide_at, spent_at, no_stages, staged, AreByStages}
+use Rattle.stack_stages.specs.Staged.{Staged, all_stand, falls, too_wide_at, spent_at, no_stages, AreByStages}
 use Rattle.stack_stages.proofs.FirstDecides.{stages_are_by_stages, stages_are_decided}
 use Rattle.stack_lines.specs.declared.refusal.Input.TheVariants as inputs
 use Rattle.stack_lines.specs.declared.refusal.Within.TheVariants.{Stage}
-use Rattle.stack_lines.specs.Refusals.{Fault, long, order_line, over_budget}
-use Rattle.stack_lines.specs.Verdicts.{verdict_status}
-use Rattle.stack_work.specs.Answers.{Due, stages_due}
-use Rattle.stack_work.specs.Building.{ordered_file, stages_work}
-use Rattle.stack_work.specs.Forms.{Form, builds}
-use Rattle.stack_work.specs.Judging.{wide_within}
-use Rattle.stack_work.specs.Surveying.{greatest_file}
-use Rattle.stack_work.specs.Work.{Holds}
+use Rattle.stack_lines.specs.Refusals.{order_line}
+use Rattle.stack_work.specs.Answers.{stages_due}
+use Rattle.stack_work.specs.Forms.{builds}
 use Rattle.stack_work.proofs.StagesEnds.{after_text, order_is}
 use Rattle.stack_said.specs.MainTheorem.{IsGivenOut, RunMeets}
 use Rattle.stack_said.specs.Promise.{IsShort, told_as, Fulfils}
@@ -82,10 +78,10 @@ tells : (text : List ℕ) (budget : ℕ) (v : Surveyed) (x : StagesCase) (e : Re
     → (n ≡ stages_status x) × IsStagesDue text budget v x e
 tells text budget v (each_stands order) e (fs, is) n out err g =
     let h = subst (λ d. IsGivenOut (told_as d) n out err) is g in
-    (h.3 ∙ ap verdict_status h.2.is_verdict, (fs, h.2.are_settled, is))
+    (h.3 ∙ ap verdict_status h.2.is_verdict, (fs, h.2.stand_and_fall, is))
 tells text budget v (one_falls order k m) e (fs, at, is) n out err g =
     let h = subst (λ d. IsGivenOut (told_as d) n out err) is g in
-    (h.3 ∙ ap verdict_status h.2.is_verdict, (fs, at, h.2.are_settled, is))
+    (h.3 ∙ ap verdict_status h.2.is_verdict, (fs, at, h.2.stand_and_fall, is))
 tells text budget v is_long e is n out err g = (fault_is out err is g, is)
 tells text budget v (is_faulty number) e is n out err g = (fault_is out err is g, is)
 tells text budget v (is_wide order k p) e is n out err g =

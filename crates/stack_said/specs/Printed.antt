@@ -14,20 +14,20 @@ use Rattle.stack_lines.specs.CheckText.{accepted_text}
 use Rattle.stack_work.specs.Work.{Holds, Ends}
 use Rattle.stack_work.specs.Checking.{check_work}
 use Rattle.stack_work.specs.AcceptedModel.{IsAcceptedModel}
-use Rattle.stack_work.specs.OneEnd.{IsSettled}
+use Rattle.stack_work.specs.OneEnd.{IsDefinite}
 
 -- How a check ends that accepts: with `accepted`, and status 0.
 abbrev pub acceptance : Result Due Refusal
 acceptance = Ok (exactly Affirmed accepted_text)
 
--- A printed certificate is accepted with its own model, and its check has no other settled end.
+-- A printed certificate is accepted with its own model, and its check has no other definite end.
 abbrev pub PrintedIsAccepted : Type 0
 PrintedIsAccepted = (q : Question) (v : Surveyed) (c : CertificateValue) (holds : Holds)
     (model name bytes text : List ℕ)
     → holds model ≡ Some bytes → IsAcceptedModel bytes v → IsJudged q v c → IsCertificateText c text
     → holds name ≡ Some text → Ends holds (check_work model name) (model ∷ name ∷ []) acceptance
-    × ((names : List (List ℕ)) (end : Result Due Refusal) → Ends holds (check_work model name) names end → IsSettled end
-    → end ≡ acceptance)
+    × ((names : List (List ℕ)) (end : Result Due Refusal) → Ends holds (check_work model name) names end
+    → IsDefinite end → end ≡ acceptance)
 
 -- A printed certificate has fewer than 180,000 bytes, and so it isn't refused as too long.
 abbrev pub PrintedIsShort : Type 0

@@ -19,7 +19,7 @@ pub record Runs (status : ℕ) (form : Option Form) (shelf : ShelfSeen) (out err
   -- if the output's count of faults rose, which says that a write of the answer failed, the status is 10. (Of a line on
   -- the error stream that couldn't be written no status says so)
   pub write_told : out.faults < out.faults_after → status ≡ 10
-  -- if the shelf's count rose, which says that a read failed, the status is 3, or 11 if memory ran out. (A count
+  -- if the shelf's count rose, which says that a read failed, the status is 3 or 11. (A count
   -- that stands at its greatest value can't rise; that of a new device is 0)
   pub read_told : shelf.faults < shelf.faults_after → (status ≡ 3) ⊎ (status ≡ 11)
   -- no file is changed

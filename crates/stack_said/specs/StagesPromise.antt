@@ -6,7 +6,7 @@ use Rattle.stack_judge.specs.declared.types.JudgePlace.{JudgePlace}
 use Rattle.stack_judge.specs.Judgement.{certified, too_wide, spent}
 use Rattle.stack_orders.specs.OrderRead.{told_order}
 use Rattle.stack_stages.specs.Stage.{stage}
-use Rattle.stack_stages.specs.Staged.{all_stand, falls, IsFirstStage, AllAreJudged, AreSettled}
+use Rattle.stack_stages.specs.Staged.{all_stand, falls, IsFirstStage, AllAreJudged, StandAndFall}
 use Rattle.stack_lines.specs.declared.refusal.Input.TheVariants as inputs
 use Rattle.stack_lines.specs.declared.refusal.Within.TheVariants.{Stage}
 use Rattle.stack_lines.specs.Refusals.{Fault, long, order_line, over_budget}
@@ -51,10 +51,10 @@ module _ (text : List ℕ) (budget : ℕ) where
   -- What is due, and what it means: forces for each stage, and the dead loads of all stages are carried; forces for the
   -- stages before one and its motion, and its own dead loads aren't carried at any scale; or a fault's line.
   abbrev pub IsStagesDue : Surveyed → StagesCase → Result Due Fault → Type 0
-  IsStagesDue v (each_stands order) e = (fs : List ForcesValue) × AreSettled v order (all_stand fs)
+  IsStagesDue v (each_stands order) e = (fs : List ForcesValue) × StandAndFall v order (all_stand fs)
       × (e ≡ Ok (stages_due v order (all_stand fs)))
   IsStagesDue v (one_falls order k m) e =
-      (fs : List ForcesValue) × (k ≡ suc (length fs)) × AreSettled v order (falls fs m)
+      (fs : List ForcesValue) × (k ≡ suc (length fs)) × StandAndFall v order (falls fs m)
       × (e ≡ Ok (stages_due v order (falls fs m)))
   IsStagesDue v is_long e = e ≡ Err (long inputs.Order)
   IsStagesDue v (is_faulty number) e = e ≡ Err (order_line number)

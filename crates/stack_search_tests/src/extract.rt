@@ -2,48 +2,78 @@
 
 use crate::drawings::{GROUND, POST, PUSHED, STONE, surveyed};
 use crate::problems::ended;
-use stack_certificate::Forces;
+use stack_certificate::{Forces, Motion};
+use stack_contact::Survey;
 use stack_equilibrium::Question;
-use stack_extract::{forces_of, motion_of, ray_of};
+use stack_extract::{ExtractError, forces_of, motion_of, ray_of};
 use stack_rational::Frac;
 use stack_simplex::Ended;
+use std::alloc::Global;
 use std::test::*;
 
-/// The scale, the factor and the parts of forces.
-fn is_push(forces: &Forces, scale: i128, factor: i128, parts: &[(i128, i128)]) -> bool {
-    forces.scale == scale && forces.factor == factor && forces.parts.as_slice() == parts
+/// Whether there are forces, with this scale, this factor and these parts.
+fn are_forces(
+    found: Result<Forces, ExtractError>,
+    scale: i128,
+    factor: i128,
+    parts: &[(i128, i128)],
+) -> bool {
+    match found {
+        Ok(forces) => {
+            forces.scale == scale && forces.factor == factor && forces.parts.as_slice() == parts
+        }
+        Err(_) => false,
+    }
 }
 
-#[test]
-fn a_standing_post_pushes_with_both_feet(rt: HostRuntime) -> Result<(), Fail> {
-    let alloc = rt.alloc();
-    let s = surveyed(alloc, PUSHED)?;
-    let e = ended::<Frac<i8>>(alloc, &s, Question::Dead, 4)?;
+/// Whether there is a motion, of one block in this way.
+fn is_motion(found: Result<Motion, ExtractError>, by: (i128, i128, i128)) -> bool {
+    match found {
+        Ok(motion) => motion.moves.as_slice() == [by].as_slice(),
+        Err(_) => false,
+    }
+}
+
+fn post_stands(alloc: Global, s: &Survey) -> Option<bool> {
+    let Some(e) = ended::<Frac<i8>>(alloc, s, Question::Dead, 4) else {
+        return None;
+    };
     match &e {
         Ended::Feasible(_) => {
-            let forces = forces_of(alloc, &s, &e).ok().ok_or("no forces")?;
-            assert!(rt; is_push(&forces, 1, 0, &[(24, -24), (24, 24)]));
-            Ok(())
+            let found = forces_of(alloc, s, &e);
+            Some(are_forces(found, 1, 0, &[(24, -24), (24, 24)]))
         }
-        _ => Err(Fail::from("another end")),
+        _ => None,
     }
 }
 
-#[test]
-fn a_pushed_post_tips_about_its_right_foot(rt: HostRuntime) -> Result<(), Fail> {
-    let alloc = rt.alloc();
-    let s = surveyed(alloc, PUSHED)?;
-    let e = ended::<Frac<i64>>(alloc, &s, Question::Live, 100)?;
+fn post_tips(alloc: Global, s: &Survey) -> Option<[bool; 2]> {
+    let Some(e) = ended::<Frac<i64>>(alloc, s, Question::Live, 100) else {
+        return None;
+    };
     match &e {
         Ended::Optimal(_) => {
-            let forces = forces_of(alloc, &s, &e).ok().ok_or("no forces")?;
-            assert!(rt; is_push(&forces, 1, 2, &[(0, 0), (48, -12)]));
-            let motion = motion_of(alloc, &s, &e).ok().ok_or("no motion")?;
-            assert_eq!(rt; motion.moves.as_slice(), [(0, 2, -1)].as_slice());
-            Ok(())
+            let found = forces_of(alloc, s, &e);
+            let motion = motion_of(alloc, s, &e);
+            Some([
+                are_forces(found, 1, 2, &[(0, 0), (48, -12)]),
+                is_motion(motion, (0, 2, -1)),
+            ])
         }
-        _ => Err(Fail::from("another end")),
+        _ => None,
     }
+}
+
+fn post_stands_and_tips(alloc: Global) -> Option<(Option<bool>, Option<[bool; 2]>)> {
+    let s = surveyed(alloc, PUSHED)?;
+    Some((post_stands(alloc, &s), post_tips(alloc, &s)))
+}
+
+/// It stands on both feet, and pushed it tips about its right foot.
+#[test]
+fn a_post_stands_and_tips(rt: HostRuntime) {
+    let found = post_stands_and_tips(rt.alloc());
+    assert_eq!(rt; found, Some((Some(true), Some([true, true]))));
 }
 
 /// The post above low ground, with a dead load to the right.
@@ -56,19 +86,19 @@ const HOVERING: &[&str] = &[
 ];
 
 /// A load to the right makes the right side along x negative, so that row is flipped.
-#[test]
-fn a_hovering_post_goes_the_way_of_its_loads(rt: HostRuntime) -> Result<(), Fail> {
-    let alloc = rt.alloc();
-    let s = surveyed(alloc, HOVERING)?;
-    let e = ended::<Frac<i64>>(alloc, &s, Question::Dead, 1)?;
+fn goes_the_way_of_its_loads(alloc: Global, s: &Survey) -> Option<bool> {
+    let Some(e) = ended::<Frac<i64>>(alloc, s, Question::Dead, 1) else {
+        return None;
+    };
     match &e {
-        Ended::Infeasible(_) => {
-            let motion = motion_of(alloc, &s, &e).ok().ok_or("no motion")?;
-            assert_eq!(rt; motion.moves.as_slice(), [(1, -1, -1)].as_slice());
-            Ok(())
-        }
-        _ => Err(Fail::from("another end")),
+        Ended::Infeasible(_) => Some(is_motion(motion_of(alloc, s, &e), (1, -1, -1))),
+        _ => None,
     }
+}
+
+fn hovering_post_goes(alloc: Global) -> Option<bool> {
+    let s = surveyed(alloc, HOVERING)?;
+    goes_the_way_of_its_loads(alloc, &s)
 }
 
 /// The post, pressed down in the middle of its head.
@@ -80,17 +110,27 @@ const PRESSED: &[&str] = &[
 ];
 
 /// A live load downwards on the middle of the head is borne however great it is.
-#[test]
-fn a_pressed_post_bears_any_factor(rt: HostRuntime) -> Result<(), Fail> {
-    let alloc = rt.alloc();
-    let s = surveyed(alloc, PRESSED)?;
-    let e = ended::<Frac<i128>>(alloc, &s, Question::Live, 100)?;
+fn bears_any_factor(alloc: Global, s: &Survey) -> Option<bool> {
+    let Some(e) = ended::<Frac<i128>>(alloc, s, Question::Live, 100) else {
+        return None;
+    };
     match &e {
         Ended::Ray { .. } => {
-            let ray = ray_of(alloc, &s, &e).ok().ok_or("no ray")?;
-            assert!(rt; is_push(&ray, 0, 1, &[(6, -6), (6, 6)]));
-            Ok(())
+            let ray = ray_of(alloc, s, &e);
+            Some(are_forces(ray, 0, 1, &[(6, -6), (6, 6)]))
         }
-        _ => Err(Fail::from("another end")),
+        _ => None,
     }
+}
+
+fn pressed_post_bears(alloc: Global) -> Option<bool> {
+    let s = surveyed(alloc, PRESSED)?;
+    bears_any_factor(alloc, &s)
+}
+
+#[test]
+fn a_hovering_post_goes_the_way_of_its_loads_and_a_pressed_one_bears_any_factor(rt: HostRuntime) {
+    let alloc = rt.alloc();
+    let found = [hovering_post_goes(alloc), pressed_post_bears(alloc)];
+    assert_eq!(rt; found, [Some(true), Some(true)]);
 }

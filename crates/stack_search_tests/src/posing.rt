@@ -3,38 +3,62 @@
 use crate::drawings::{PUSHED, surveyed};
 use stack_equilibrium::Question;
 use stack_posing::pose;
-use stack_table::Column;
+use stack_table::{Column, Problem};
 use std::alloc::Global;
 use std::test::*;
 
-/// The rows and values of a column.
-fn entries(alloc: Global, column: &Column) -> Result<Vec<(usize, i128)>, Fail> {
-    let mut found = Vec::new(alloc);
-    for entry in &column.entries {
-        found.push((entry.row, entry.value))?;
+/// Whether a column has these rows and values.
+fn has(column: &Column, wanted: &[(usize, i128)]) -> bool {
+    if column.entries.len() != wanted.len() {
+        return false;
     }
-    Ok(found)
+    for (entry, wanted) in column.entries.iter().zip(wanted) {
+        if (entry.row, entry.value) != *wanted {
+            return false;
+        }
+    }
+    true
+}
+
+const CONTACT: [&[(usize, i128)]; 4] = [
+    &[(0, 1), (1, 1)],
+    &[(0, -1), (1, 1)],
+    &[(0, 1), (1, 1), (2, 2)],
+    &[(0, -1), (1, 1), (2, 2)],
+];
+
+fn has_contact(problem: &Problem) -> bool {
+    if problem.contact.len() != CONTACT.len() {
+        return false;
+    }
+    for (column, wanted) in problem.contact.iter().zip(CONTACT) {
+        if !has(column, wanted) {
+            return false;
+        }
+    }
+    true
+}
+
+fn has_factor(problem: &Problem) -> bool {
+    match &problem.factor {
+        Some(column) => has(column, &[(0, 6), (2, -24)]),
+        None => false,
+    }
+}
+
+/// The rows, whether the columns and the right sides are those worked by hand.
+fn posed(alloc: Global) -> Option<(usize, bool, bool, bool)> {
+    let s = surveyed(alloc, PUSHED)?;
+    let problem = pose(alloc, &s, Question::Live).ok()?;
+    Some((
+        problem.rows,
+        has_contact(&problem),
+        has_factor(&problem),
+        problem.right.as_slice() == [0, 48, 48].as_slice(),
+    ))
 }
 
 #[test]
-fn a_pushed_post_has_four_columns_and_that_of_the_factor(rt: HostRuntime) -> Result<(), Fail> {
-    let alloc = rt.alloc();
-    let posed = pose(alloc, &surveyed(alloc, PUSHED)?, Question::Live)?;
-    assert_eq!(rt; (posed.rows, posed.contact.len()), (3, 4));
-    let wanted: [&[(usize, i128)]; 4] = [
-        &[(0, 1), (1, 1)],
-        &[(0, -1), (1, 1)],
-        &[(0, 1), (1, 1), (2, 2)],
-        &[(0, -1), (1, 1), (2, 2)],
-    ];
-    for (column, wanted) in posed.contact.iter().zip(wanted) {
-        assert_eq!(rt; entries(alloc, column)?.as_slice(), wanted);
-    }
-    let factor = posed.factor.as_ref().ok_or("no factor")?;
-    assert_eq!(rt;
-        entries(alloc, factor)?.as_slice(),
-        [(0, 6), (2, -24)].as_slice()
-    );
-    assert_eq!(rt; posed.right.as_slice(), [0, 48, 48].as_slice());
-    Ok(())
+fn a_pushed_post_has_four_columns_and_that_of_the_factor(rt: HostRuntime) {
+    assert_eq!(rt; posed(rt.alloc()), Some((3, true, true, true)));
 }

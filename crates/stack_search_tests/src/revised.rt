@@ -1,62 +1,57 @@
 //! Runs worked by hand.
 
-use crate::problems::problem;
+use crate::problems::{DOUBLED, EMPTY, Numbers, POST, PRESSED, PULLED, PUSHED_POST, problem};
 use stack_revised::{RevisedEnd, RevisedStop, run_revised};
 use stack_run::RunPlace;
 use stack_table::{Problem, Step};
 use stack_tableau::EndKind;
 use std::alloc::Global;
-use std::test::Fail;
+use std::test::*;
 
-/// How the run of a sound problem ends, or why it has no end.
-fn told(alloc: Global, p: &Problem, budget: u32) -> Result<Result<EndKind, RevisedStop>, Fail> {
+/// How a run ends, or why it has no end.
+type Told = Result<EndKind, RevisedStop>;
+
+fn kind_of(found: Result<RevisedEnd, RevisedStop>) -> Told {
+    match found {
+        Ok(RevisedEnd::AtNarrow(last)) => Ok(last.kind),
+        Ok(RevisedEnd::AtBroad(last)) => Ok(last.kind),
+        Err(stop) => Err(stop),
+    }
+}
+
+/// How the run of a sound problem ends.
+fn told_of(alloc: Global, p: &Problem, budget: u32) -> Option<Told> {
     if budget == 0 {
-        return Err(Fail::from("some pivots are needed"));
+        return None;
     }
     if !p.is_sound() {
-        return Err(Fail::from("not sound"));
+        return None;
     }
-    Ok(match run_revised(alloc, p, budget) {
-        Ok(RevisedEnd::AtNarrow(last)) => Ok(last.kind),
-        Ok(RevisedEnd::AtWide(last)) => Ok(last.kind),
-        Err(stop) => Err(stop),
-    })
+    Some(kind_of(run_revised(alloc, p, budget)))
 }
 
-/// A post 2 wide and 4 high. A push of one unit at its upper left corner is borne up to the factor 2.
-#[test]
-fn a_post_stands_after_four_pivots_and_is_pushed_for_five(rt: HostRuntime) -> Result<(), Fail> {
-    let alloc = rt.alloc();
-    let contact: [&[i128]; 4] = [&[1, 1, 0], &[-1, 1, 0], &[1, 1, 2], &[-1, 1, 2]];
-    let post = problem(alloc, &contact, None, &[0, 48, 48])?;
-    assert!(rt; told(alloc, &post, 3)? == Err(RevisedStop::Spent));
-    assert!(rt; told(alloc, &post, 4)? == Ok(EndKind::Feasible));
-    let pushed = problem(alloc, &contact, Some(&[6, 0, -24]), &[0, 48, 48])?;
-    assert!(rt; told(alloc, &pushed, 4)? == Err(RevisedStop::Spent));
-    assert!(rt; told(alloc, &pushed, 5)? == Ok(EndKind::Optimal));
-    Ok(())
+fn told(alloc: Global, numbers: Numbers, budget: u32) -> Option<Told> {
+    let p = problem(alloc, numbers)?;
+    told_of(alloc, &p, budget)
 }
 
-/// A right side that no column makes, a factor that no row limits, a row that phase 2 leaves as it is, no rows.
 #[test]
-fn the_other_ends_are_told(rt: HostRuntime) -> Result<(), Fail> {
+fn a_post_stands_after_four_pivots_and_is_pushed_for_five(rt: HostRuntime) {
     let alloc = rt.alloc();
-    let pulled = problem(alloc, &[&[-1]], None, &[1])?;
-    assert!(rt; told(alloc, &pulled, 1)? == Ok(EndKind::Infeasible));
-    let pressed = problem(alloc, &[&[1]], Some(&[-1]), &[1])?;
-    assert!(rt; told(alloc, &pressed, 1)? == Ok(EndKind::Ray { column: 1 }));
-    let doubled = problem(alloc, &[&[1, 1]], Some(&[]), &[1, 1])?;
-    assert!(rt; told(alloc, &doubled, 1)? == Ok(EndKind::Ray { column: 1 }));
-    let empty = problem(alloc, &[], None, &[])?;
-    assert!(rt; told(alloc, &empty, 1)? == Ok(EndKind::Feasible));
-    Ok(())
+    let found = [
+        told(alloc, POST, 3),
+        told(alloc, POST, 4),
+        told(alloc, PUSHED_POST, 4),
+        told(alloc, PUSHED_POST, 5),
+    ];
+    let spent = Some(Err(RevisedStop::Spent));
+    let stands = Some(Ok(EndKind::Feasible));
+    assert_eq!(rt; found, [spent, stands, spent, Some(Ok(EndKind::Optimal))]);
 }
 
 /// The example of Beale (1955), its rows in whole numbers, with its objective as the factor; one row is flipped.
-#[test]
-fn beales_example_ends(rt: HostRuntime) -> Result<(), Fail> {
-    let alloc = rt.alloc();
-    let contact: [&[i128]; 7] = [
+const BEALE: Numbers = Numbers {
+    contact: &[
         &[100, 0, 0, 0],
         &[0, 100, 0, 0],
         &[0, 0, -1, 0],
@@ -64,34 +59,69 @@ fn beales_example_ends(rt: HostRuntime) -> Result<(), Fail> {
         &[-6000, -9000, 0, 15000],
         &[-4, -2, -1, -2],
         &[900, 300, 0, 600],
+    ],
+    factor: Some(&[0, 0, 0, 100]),
+    right: &[0, 0, -1, 0],
+};
+
+#[test]
+fn the_other_ends_and_beales_example_are_told(rt: HostRuntime) {
+    let alloc = rt.alloc();
+    let found = [
+        told(alloc, PULLED, 1),
+        told(alloc, PRESSED, 1),
+        told(alloc, DOUBLED, 1),
+        told(alloc, EMPTY, 1),
+        told(alloc, BEALE, 9),
+        told(alloc, BEALE, 10),
     ];
-    let example = problem(alloc, &contact, Some(&[0, 0, 0, 100]), &[0, 0, -1, 0])?;
-    assert!(rt; told(alloc, &example, 9)? == Err(RevisedStop::Spent));
-    assert!(rt; told(alloc, &example, 10)? == Ok(EndKind::Optimal));
-    Ok(())
+    let ray = Some(Ok(EndKind::Ray { column: 1 }));
+    let wanted = [
+        Some(Ok(EndKind::Infeasible)),
+        ray,
+        ray,
+        Some(Ok(EndKind::Feasible)),
+        Some(Err(RevisedStop::Spent)),
+        Some(Ok(EndKind::Optimal)),
+    ];
+    assert_eq!(rt; found, wanted);
 }
+
+const GREAT: i128 = 1 << 80;
 
 /// Entries that don't fit 64 bits, of which the sum is needed.
-#[test]
-fn wide_entries_are_taken_at_128_bits(rt: HostRuntime) -> Result<(), Fail> {
-    let alloc = rt.alloc();
-    let large = 1 << 80;
-    let wide = problem(alloc, &[&[large, 0], &[0, large]], None, &[large, large])?;
-    assert!(rt; told(alloc, &wide, 2)? == Ok(EndKind::Feasible));
-    Ok(())
-}
+const WIDE: Numbers = Numbers {
+    contact: &[&[GREAT, 0], &[0, GREAT]],
+    factor: None,
+    right: &[GREAT, GREAT],
+};
 
 /// Two columns whose first pivot, at a number n in row 0, takes n - 1 times (n - 1)/n from row 1: that doesn't fit.
+const APART: Numbers = Numbers {
+    contact: &[&[GREAT, GREAT - 1], &[GREAT - 1, GREAT]],
+    factor: None,
+    right: &[1, 1],
+};
+
+const LARGE: i128 = 1 << 63;
+
+/// Here it takes n - 1 times 1/n and n - 1 times 1: that fits, though the bound of the two rows doesn't.
+const CLOSE: Numbers = Numbers {
+    contact: &[&[LARGE, LARGE - 1], &[1, 1]],
+    factor: None,
+    right: &[LARGE, LARGE - 1],
+};
+
+/// Wide entries are taken at 128 bits, a refused run has one place, and a row whose bound doesn't fit goes on.
 #[test]
-fn a_refused_run_has_one_place(rt: HostRuntime) -> Result<(), Fail> {
+fn wide_numbers_are_taken_as_far_as_they_fit(rt: HostRuntime) {
     let alloc = rt.alloc();
-    let large = 1 << 80;
-    let apart = problem(
-        alloc,
-        &[&[large, large - 1], &[large - 1, large]],
-        None,
-        &[1, 1],
-    )?;
+    let found = [
+        told(alloc, WIDE, 2),
+        told(alloc, APART, 9),
+        told(alloc, CLOSE, 1),
+        told(alloc, CLOSE, 2),
+    ];
     let place = RunPlace {
         phase: 1,
         pivot: 1,
@@ -99,22 +129,8 @@ fn a_refused_run_has_one_place(rt: HostRuntime) -> Result<(), Fail> {
         column: 1,
         step: Step::Multiply,
     };
-    assert!(rt; told(alloc, &apart, 9)? == Err(RevisedStop::TooWide(place)));
-    Ok(())
-}
-
-/// Here it takes n - 1 times 1/n and n - 1 times 1: that fits, though the bound of the two rows doesn't.
-#[test]
-fn a_row_whose_bound_does_not_fit_goes_on(rt: HostRuntime) -> Result<(), Fail> {
-    let alloc = rt.alloc();
-    let large = 1 << 63;
-    let close = problem(
-        alloc,
-        &[&[large, large - 1], &[1, 1]],
-        None,
-        &[large, large - 1],
-    )?;
-    assert!(rt; told(alloc, &close, 1)? == Err(RevisedStop::Spent));
-    assert!(rt; told(alloc, &close, 2)? == Ok(EndKind::Feasible));
-    Ok(())
+    let ends = Some(Ok(EndKind::Feasible));
+    let wide = Some(Err(RevisedStop::TooWide(place)));
+    let spent = Some(Err(RevisedStop::Spent));
+    assert_eq!(rt; found, [ends, wide, spent, ends]);
 }

@@ -55,7 +55,7 @@ fn run_phases<S: Exact>(t: Table<S>, budget: u32) -> Result<Ended<S>, RunError>
         Ok(EndKind::Ray { column }) => Ok(Ended::Ray { table: t, column }),
         Err(RunStop::TooWide(place)) => Err(RunError::TooWide(place)),
         Err(RunStop::Spent) => Err(RunError::Spent),
-        // The plain table settles all.
+        // The full table settles all.
         Err(RunStop::Unsettled) => unreachable!(),
     }
 }

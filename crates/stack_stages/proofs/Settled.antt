@@ -2,20 +2,15 @@
 use Rattle.std.proofs.Common.{refl, sym, subst, ℕ, suc, ◌<◌, List, [], length, take, ◌≡◌, get_or}
 use lib.IntN.{pos}
 use Rattle.std.proofs.lemmas.Option.{slice_get-get_or}
-use Rattle.stack_model.specs.Sound.{IsSound}
-use Rattle.stack_contact.specs.Surveyed.{Surveyed, IsSurvey}
-use Rattle.stack_certificate.specs.Certificate.{ForcesValue}
-use Rattle.stack_statics.specs.Scene.{IsProper}
-use Rattle.stack_equilibrium.specs.Held.{forces_of, moves_of}
-use Rattle.stack_equilibrium.specs.SurveyScene.{scene_of}
+use Rattle.stack_equilibrium.proofs.Common.{ForcesValue, IsProper, IsSound, IsSurvey, Surveyed}
+use Rattle.stack_equilibrium.proofs.Common.{collapse_excludes_balance, forces_of, moves_of, scene_of, stands_is_carried}
 use Rattle.stack_equilibrium.proofs.BearingSizes.{survey_proper}
-use Rattle.stack_statics.proofs.CertificateLaws.{stands_is_carried, collapse_excludes_balance}
 use Rattle.stack_part.specs.Part.{surveyed_part}
 use Rattle.stack_model.proofs.PartSound.{part_sound}
 use Rattle.stack_part.proofs.PartSurveys.{part_surveyed}
 use Rattle.stack_stages.specs.Stage.{is_built, surveyed_stage}
 use Rattle.stack_stages.specs.Staged.{Staged, all_stand, falls, too_wide_at, spent_at, no_stages, AreStandingStages}
-use Rattle.stack_stages.specs.Staged.{AreTrue, AreCarried, AreSettled}
+use Rattle.stack_stages.specs.Staged.{AreTrue, AreCarried, StandAndFall}
 
 module _ (v : Surveyed) (sound : IsSound v.structure) (survey : IsSurvey v.structure v) (order : List ℕ) where
   -- the scene of a stage is that of a sound structure and its survey
@@ -34,7 +29,7 @@ module _ (v : Surveyed) (sound : IsSound v.structure) (survey : IsSurvey v.struc
       (h k f (slice_get-get_or fs k none (subst (λ m. k < m) (sym e) l))).holds
 
   -- a stage that collapses by a motion isn't carried, at any scale
-  pub settled : (x : Staged) → AreTrue v order x → AreSettled v order x
+  pub settled : (x : Staged) → AreTrue v order x → StandAndFall v order x
   settled (all_stand fs) h = carried fs (length order) h.0 h.1
   settled (falls fs m) h = (
     carried fs (length fs) h.0 refl,

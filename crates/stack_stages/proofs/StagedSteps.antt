@@ -2,9 +2,8 @@
 use Rattle.std.proofs.Common.{◌≡◌, refl, sym, ap, subst, ◌∙◌, ℕ, zero, suc, ◌+◌, ◌<◌, ◌≤◌, List, [], ◌∷◌, ◌++◌, length}
 use Rattle.std.proofs.Common.{Some, Err, arith, length-append, inl, inr, slice_get, ◌⊎◌}
 use Rattle.std.proofs.lemmas.Option.{same_Some}
-use Rattle.stack_contact.specs.Surveyed.{Surveyed}
+use Rattle.stack_equilibrium.proofs.Common.{ForcesValue, MotionValue, Surveyed, collapses, stands}
 use Rattle.stack_contact.proofs.Appended.{get-either}
-use Rattle.stack_certificate.specs.Certificate.{ForcesValue, MotionValue, stands, collapses}
 use Rattle.stack_equilibrium.specs.declared.types.Question.TheVariants.{Dead}
 use Rattle.stack_judge.specs.Judgement.{Judgement, certified, too_wide, spent, judgement}
 use Rattle.stack_judge.specs.Judged.{IsJudged}

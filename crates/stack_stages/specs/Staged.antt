@@ -63,13 +63,13 @@ abbrev pub AreCarried : Surveyed → List ℕ → ℕ → Type 0
 AreCarried v order n = (k : ℕ) → k < n → Carries (scene_of (surveyed_stage v order (suc k))) (pos 0) (pos 1)
 
 -- the dead loads of all stages are carried, or those of the first stages are, and those of the next at no scale
-abbrev pub AreSettled : Surveyed → List ℕ → Staged → Type 0
-AreSettled v order (all_stand fs) = AreCarried v order (length order)
-AreSettled v order (falls fs m) = AreCarried v order (length fs)
+abbrev pub StandAndFall : Surveyed → List ℕ → Staged → Type 0
+StandAndFall v order (all_stand fs) = AreCarried v order (length order)
+StandAndFall v order (falls fs m) = AreCarried v order (length fs)
     × ((D : ℤ) → pos 0 ≺ D → ¬ (Carries (scene_of (surveyed_stage v order (suc (length fs)))) (pos 0) D))
-AreSettled v order (too_wide_at stage p) = ⊥
-AreSettled v order (spent_at stage) = ⊥
-AreSettled v order no_stages = ⊥
+StandAndFall v order (too_wide_at stage p) = ⊥
+StandAndFall v order (spent_at stage) = ⊥
+StandAndFall v order no_stages = ⊥
 
 -- the first n stages are judged to stand
 abbrev pub StandBefore : Surveyed → List ℕ → (budget : ℕ) → ℕ → Type 0

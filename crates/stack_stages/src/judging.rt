@@ -7,7 +7,7 @@ ghost use Rattle.stack_judge.specs.declared.types.JudgeError.TheVariants as judg
 ghost use Rattle.stack_judge.specs.Judgement.{judgement};
 ghost use Rattle.stack_judge.specs.Judged.{IsJudged};
 ghost use Rattle.stack_stages.specs.Stage.{surveyed_stage};
-ghost use Rattle.stack_stages.specs.Staged.{staged, AreTrue, AreSettled};
+ghost use Rattle.stack_stages.specs.Staged.{staged, AreTrue, StandAndFall};
 ghost use Rattle.stack_stages.specs.Gives.{stages_view, outcome_view, unjudged_at, GivesOutcome, GivesStages};
 ghost use Rattle.stack_stages.specs.Gives.{RefusesFirstStage};
 ghost use Rattle.stack_stages.specs.StagesText.{CanPrintStages};
@@ -82,12 +82,10 @@ pub fn stages(
     ensures gives { GivesStages result (staged s.now order.now budget) }
     ensures refused { RefusesFirstStage result s.now order.now budget }
     ensures certified { IfOk result (λ r. AreTrue s.now order.now (stages_view r)) }
-    ensures settled { IfOk result (λ r. AreSettled s.now order.now (stages_view r)) }
+    ensures settled { IfOk result (λ r. StandAndFall s.now order.now (stages_view r)) }
     ensures printable { IfOk result (λ r. CanPrintStages (stages_view r)) }
 {
-    // all bearings are those of a model, which is sound
-    let _known = s.bearings();
-    let _sound = s.model().bodies();
+    s.within();
     let mut before = Vec::new(alloc);
     for k in 0..order.len() {
         match judge_stage(alloc, s, order, k + 1, budget) {

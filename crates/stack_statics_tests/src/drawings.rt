@@ -3,7 +3,6 @@
 use stack_contact::{Survey, survey};
 use stack_reader::read_model;
 use std::alloc::Global;
-use std::test::Fail;
 
 pub const STONE: &str = "[[material]]\nname = 'stone'\nweight = 1\nfriction = [1, 1]\n";
 
@@ -19,7 +18,8 @@ pub const POST: &str = "[[block]]\nname = 'post'\nmaterial = 'stone'\n\
 pub const PUSH: &str = "[[load]]\nblock = 'post'\nkind = 'live'\nat = [0, 4]\nforce = [1, 0]\n";
 
 /// The survey of the structure whose model file has these pieces.
-pub fn surveyed(alloc: Global, pieces: &[&str]) -> Result<Survey, Fail> {
-    let text = pieces.concat(alloc)?;
-    Ok(survey(alloc, read_model(alloc, text.as_bytes())?)?)
+pub fn surveyed(alloc: Global, pieces: &[&str]) -> Option<Survey> {
+    let text = pieces.concat(alloc).ok()?;
+    let model = read_model(alloc, text.as_bytes()).ok()?;
+    survey(alloc, model).ok()
 }

@@ -3,93 +3,137 @@
 use crate::drawings::{GROUND, POST, PUSH, STONE, surveyed};
 use stack_certificate::{Forces, Motion};
 use stack_contact::Survey;
-use stack_equilibrium::{Question, SumWide, Wrench, column, dead, live, opening, power, residue};
+use stack_equilibrium::{
+    PowerWide, Question, SumWide, VelocityWide, Wrench, column, dead, live, opening, power, residue,
+};
 use std::alloc::Global;
 use std::test::*;
-
-/// A sway to the right.
-const SWAY: &str = "version = 2\nsway = [1, 0]\n";
-
-/// The residue of the first free block, at the factor 2 in whole numbers.
-fn residue_of(
-    alloc: Global,
-    s: &Survey,
-    parts: &[(i128, i128)],
-) -> Result<Result<Wrench, SumWide>, Fail> {
-    let forces = Forces {
-        scale: 1,
-        factor: 2,
-        parts: parts.to_vec(alloc)?,
-    };
-    if forces.parts.len() != s.bearings().len() {
-        return Err(Fail::from("another number of parts"));
-    }
-    if s.free_count() == 0 {
-        return Err(Fail::from("no free block"));
-    }
-    Ok(residue(s, &forces, 0))
-}
 
 fn wrench(fx: i128, fy: i128, m: i128) -> Wrench {
     Wrench { fx, fy, m }
 }
 
-#[test]
-fn the_pushed_post_tips_at_twice_the_push(rt: HostRuntime) -> Result<(), Fail> {
-    let alloc = rt.alloc();
-    let s = surveyed(alloc, &[STONE, GROUND, POST, PUSH])?;
-    assert_eq!(rt; s.free_count(), 1);
-    assert_eq!(rt; s.bearings().len(), 2);
-    assert_eq!(rt; dead(&s, 0), wrench(0, -48, -48));
-    assert_eq!(rt; live(&s, 0), wrench(6, 0, -24));
-    let held = residue_of(alloc, &s, &[(0, 0), (48, -12)])?;
-    assert_eq!(rt; held, Ok(wrench(0, 0, 0)));
-    let heavier = residue_of(alloc, &s, &[(0, 0), (49, -12)])?;
-    assert_eq!(rt; heavier, Ok(wrench(0, 1, 2)));
-    let tips = Motion {
-        moves: vec![in alloc; (0, 2, -1)]?,
-    };
-    assert_eq!(rt; tips.moves.len(), 1);
-    assert_eq!(rt; opening(&s, &tips, 0), Ok((2, 0)));
-    assert_eq!(rt; opening(&s, &tips, 1), Ok((0, 0)));
-    assert_eq!(rt; power(&s, &tips, Question::Live), Ok(24));
-    assert_eq!(rt; power(&s, &tips, Question::Dead), Ok(-48));
-    Ok(())
+/// The dead and the live loads of the only free block.
+fn loads(alloc: Global, pieces: &[&str]) -> Option<(Wrench, Wrench)> {
+    let s = surveyed(alloc, pieces)?;
+    if s.free_count() == 1 {
+        Some((dead(&s, 0), live(&s, 0)))
+    } else {
+        None
+    }
 }
 
+const PUSHED: &[&str] = &[STONE, GROUND, POST, PUSH];
+
+/// A sway to the right.
+const RIGHT: &str = "version = 2\nsway = [1, 0]\n";
+
+const SWAYED: &[&str] = &[RIGHT, STONE, GROUND, POST];
+
+/// The post, pushed and with a steep sway.
+const BOTH: &[&str] = &["version = 2\nsway = [1, -2]\n", STONE, GROUND, POST, PUSH];
+
+/// A push acts where it stands, and a sway at the centroid, beside the live loads.
 #[test]
-fn a_sway_acts_at_the_centroid_beside_the_live_loads(rt: HostRuntime) -> Result<(), Fail> {
+fn pushes_and_sways_of_a_post_are_its_live_loads(rt: HostRuntime) {
     let alloc = rt.alloc();
-    let s = surveyed(alloc, &[SWAY, STONE, GROUND, POST])?;
-    assert_eq!(rt; s.free_count(), 1);
-    assert_eq!(rt; dead(&s, 0), wrench(0, -48, -48));
-    assert_eq!(rt; live(&s, 0), wrench(48, 0, -96));
-    let sway = "version = 2\nsway = [1, -2]\n";
-    let pushed = surveyed(alloc, &[sway, STONE, GROUND, POST, PUSH])?;
-    assert_eq!(rt; pushed.free_count(), 1);
-    assert_eq!(rt; live(&pushed, 0), wrench(54, -96, -216));
-    Ok(())
+    let found = [
+        loads(alloc, PUSHED),
+        loads(alloc, SWAYED),
+        loads(alloc, BOTH),
+    ];
+    let dead = wrench(0, -48, -48);
+    let wanted = [
+        Some((dead, wrench(6, 0, -24))),
+        Some((dead, wrench(48, 0, -96))),
+        Some((dead, wrench(54, -96, -216))),
+    ];
+    assert_eq!(rt; found, wanted);
 }
 
 /// A triangle above the ground.
 const GABLE: &str =
     "[[block]]\nname = 'gable'\nmaterial = 'stone'\ncorners = [[1, 2], [7, 2], [3, 5]]\n";
 
+const GABLE_SWAYED: &[&str] = &[RIGHT, STONE, GROUND, GABLE];
+
+const GABLE_ASLANT: &[&str] = &["version = 2\nsway = [2, -1]\n", STONE, GROUND, GABLE];
+
 /// The triangle weighs 9, and its centroid is 8/3 to the right of its first corner and 1 above it. The sway (1, 0) is 9
 /// to the right there, which turns by -9*1. The sway (2, -1) is 18 to the right and 9 downwards, which turn by
 /// -18*1 - 9*8/3 = -42. Six times each are the loads, and -6*9*8/3 = -144 is the moment of the weight.
 #[test]
-fn a_triangle_sways_by_all_three_parts_about_its_first_corner(rt: HostRuntime) -> Result<(), Fail> {
+fn a_triangle_sways_by_all_three_parts_about_its_first_corner(rt: HostRuntime) {
     let alloc = rt.alloc();
-    let pushed = surveyed(alloc, &[SWAY, STONE, GROUND, GABLE])?;
-    assert_eq!(rt; pushed.free_count(), 1);
-    assert_eq!(rt; dead(&pushed, 0), wrench(0, -54, -144));
-    assert_eq!(rt; live(&pushed, 0), wrench(54, 0, -54));
-    let sway = "version = 2\nsway = [2, -1]\n";
-    let aslant = surveyed(alloc, &[sway, STONE, GROUND, GABLE])?;
-    assert_eq!(rt; aslant.free_count(), 1);
-    assert_eq!(rt; live(&aslant, 0), wrench(108, -54, -252));
-    Ok(())
+    let found = [loads(alloc, GABLE_SWAYED), loads(alloc, GABLE_ASLANT)];
+    let dead = wrench(0, -54, -144);
+    let wanted = [
+        Some((dead, wrench(54, 0, -54))),
+        Some((dead, wrench(108, -54, -252))),
+    ];
+    assert_eq!(rt; found, wanted);
+}
+
+/// The residue of the pushed post under the parts of its two bearings, at the factor 2 in whole numbers.
+fn residue_under(alloc: Global, parts: [(i128, i128); 2]) -> Option<Result<Wrench, SumWide>> {
+    let s = surveyed(alloc, PUSHED)?;
+    let forces = Forces {
+        scale: 1,
+        factor: 2,
+        parts: parts.to_vec(alloc).ok()?,
+    };
+    if forces.parts.len() == s.bearings().len() && s.free_count() > 0 {
+        Some(residue(&s, &forces, 0))
+    } else {
+        None
+    }
+}
+
+#[test]
+fn the_pushed_post_is_held_at_twice_the_push(rt: HostRuntime) {
+    let alloc = rt.alloc();
+    let found = [
+        residue_under(alloc, [(0, 0), (48, -12)]),
+        residue_under(alloc, [(0, 0), (49, -12)]),
+    ];
+    let wanted = [Some(Ok(wrench(0, 0, 0))), Some(Ok(wrench(0, 1, 2)))];
+    assert_eq!(rt; found, wanted);
+}
+
+/// How two bearings open in a motion, and the powers of the live and of the dead loads.
+type Moved = (
+    [Result<(i128, i128), VelocityWide>; 2],
+    [Result<i128, PowerWide>; 2],
+);
+
+fn moved(s: &Survey, motion: &Motion) -> Option<Moved> {
+    if motion.moves.len() != s.free_count() {
+        return None;
+    }
+    if s.bearings().len() != 2 {
+        return None;
+    }
+    let openings = [opening(s, motion, 0), opening(s, motion, 1)];
+    let powers = [
+        power(s, motion, Question::Live),
+        power(s, motion, Question::Dead),
+    ];
+    Some((openings, powers))
+}
+
+/// What this motion of its block does to the pushed post.
+fn pushed_moves(alloc: Global, by: (i128, i128, i128)) -> Option<Moved> {
+    let s = surveyed(alloc, PUSHED)?;
+    let motion = Motion {
+        moves: [by].to_vec(alloc).ok()?,
+    };
+    moved(&s, &motion)
+}
+
+#[test]
+fn the_pushed_post_tips_about_its_right_foot(rt: HostRuntime) {
+    let wanted = ([Ok((2, 0)), Ok((0, 0))], [Ok(24), Ok(-48)]);
+    assert_eq!(rt; pushed_moves(rt.alloc(), (0, 2, -1)), Some(wanted));
 }
 
 /// A flat block on the ground, and another on it.
@@ -100,13 +144,22 @@ const TWO: &[&str] = &[
     "[[block]]\nname = 'upper'\nmaterial = 'stone'\ncorners = [[0, 1], [2, 1], [2, 2], [0, 2]]\n",
 ];
 
+/// Columns of the two blocks, which have four bearings.
+fn columns(alloc: Global) -> Option<[Wrench; 3]> {
+    let s = surveyed(alloc, TWO)?;
+    if s.free_count() == 2 && s.bearings().len() == 4 {
+        Some([
+            column(&s, 0, true, 1),
+            column(&s, 2, true, 1),
+            column(&s, 2, true, 0),
+        ])
+    } else {
+        None
+    }
+}
+
 #[test]
-fn a_bearing_acts_on_both_bodies_and_on_no_other(rt: HostRuntime) -> Result<(), Fail> {
-    let s = surveyed(rt.alloc(), TWO)?;
-    assert_eq!(rt; s.free_count(), 2);
-    assert_eq!(rt; s.bearings().len(), 4);
-    assert_eq!(rt; column(&s, 0, true, 1), wrench(0, 0, 0));
-    assert_eq!(rt; column(&s, 2, true, 1), wrench(1, 2, 0));
-    assert_eq!(rt; column(&s, 2, true, 0), wrench(-1, -2, 1));
-    Ok(())
+fn a_bearing_acts_on_both_bodies_and_on_no_other(rt: HostRuntime) {
+    let wanted = [wrench(0, 0, 0), wrench(1, 2, 0), wrench(-1, -2, 1)];
+    assert_eq!(rt; columns(rt.alloc()), Some(wanted));
 }

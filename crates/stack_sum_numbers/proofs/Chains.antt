@@ -5,10 +5,8 @@ use Rattle.std.specs.Prelude.{IsErr, is_err, if◌then◌else◌}
 use Rattle.std.proofs.lemmas.Bool.{cases_lt, lt-ltb, ltb-true, false≢true}
 use Rattle.std.proofs.lemmas.List.Elements.{All-nil, All-cons, All-head, All-tail}
 use lib.IntN.{nat_abs}
-use Rattle.stack_algebra.specs.Steps.{◌>>=◌, steps}
-use Rattle.stack_whole.specs.declared.whole.Wide.{Wide}
-use Rattle.stack_whole.specs.declared.whole.Whole.{Whole}
-use Rattle.stack_whole.specs.Whole.{IsFitting, IsTooWide, fits, made, whole}
+use Rattle.stack_equilibrium.proofs.Common.{IsFitting, Whole, Wide, fits, made, steps, whole, ◌>>=◌}
+use Rattle.stack_whole.specs.Whole.{IsTooWide}
 use Rattle.stack_sum_numbers.specs.InTurn.{AllFit, OneIsTooWide, OneIsTooWideOrAllFit, lists_in_turn, IsMadeOf}
 
 -- a result after a number, which fits or not

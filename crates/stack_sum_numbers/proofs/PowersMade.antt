@@ -2,20 +2,12 @@
 use Rattle.std.proofs.Common.{◌≡◌, refl, ap, subst, ◌∙◌, ℕ, suc, ◌+◌, ℤ, ◌+ℤ◌, ◌*ℤ◌, List, [], ◌∷◌, length, get_or}
 use Rattle.std.proofs.Common.{Result, Ok, Err, arith, IsErr}
 use Rattle.std.proofs.lemmas.Bool.{false≢true}
-use Rattle.stack_algebra.proofs.Integers.{sums}
-use Rattle.stack_contact.specs.Surveyed.{Surveyed}
-use Rattle.stack_contact.specs.FreeBlocks.{frees_of}
-use Rattle.stack_certificate.specs.Certificate.{MotionValue}
-use Rattle.stack_whole.specs.declared.whole.Wide.{Wide}
-use Rattle.stack_whole.specs.declared.whole.Whole.{Whole}
-use Rattle.stack_whole.specs.Whole.{whole}
-use Rattle.stack_statics.specs.declared.wrench.Wrench.{Wrench}
+use Rattle.stack_equilibrium.proofs.Common.{MotionValue, Surveyed, Whole, Wide, Wrench, frees_of, move_at, scene_of}
+use Rattle.stack_equilibrium.proofs.Common.{sums, told_power, whole, written_power}
+use Rattle.stack_equilibrium.specs.WrittenPowers.{with_product, with_work}
 use Rattle.stack_equilibrium.specs.declared.types.Question.{Question}
 use Rattle.stack_equilibrium.specs.declared.velocity.BlockMove.{BlockMove}
-use Rattle.stack_equilibrium.specs.SurveyScene.{scene_of}
-use Rattle.stack_equilibrium.specs.Held.{move_at}
-use Rattle.stack_equilibrium.specs.WrittenPowers.{with_product, with_work, with_block, summed_power, told_power}
-use Rattle.stack_equilibrium.specs.WrittenPowers.{written_power}
+use Rattle.stack_equilibrium.specs.WrittenPowers.{with_block, summed_power}
 use Rattle.stack_equilibrium.specs.Answers.{asked_power_of}
 use Rattle.stack_equilibrium.proofs.ScenePowers.{power_is}
 use Rattle.stack_sum_numbers.specs.InTurn.{IsMadeOf}

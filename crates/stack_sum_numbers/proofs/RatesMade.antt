@@ -3,25 +3,16 @@ use Rattle.std.proofs.Common.{◌≡◌, refl, sym, ap, subst, ◌∙◌, ℕ, �
 use Rattle.std.proofs.Common.{cond, not, List, [], ◌∷◌, get_or, Result, Ok, Err, arith, IsErr, if◌then◌else◌}
 use Rattle.std.proofs.Math.ListN.{get_or-map}
 use Rattle.std.proofs.lemmas.Bool.{false≢true}
-use Rattle.stack_algebra.proofs.Integers.{expand, sums}
-use Rattle.stack_model.specs.Structure.{body_of}
-use Rattle.stack_contact.specs.declared.types.Bearing.{Bearing}
-use Rattle.stack_contact.specs.FreeBlocks.{frees_before}
-use Rattle.stack_contact.specs.Surveyed.{Surveyed}
-use Rattle.stack_certificate.specs.Certificate.{MotionValue}
-use Rattle.stack_whole.specs.declared.whole.Wide.{Wide}
-use Rattle.stack_whole.specs.declared.whole.Whole.{Whole}
-use Rattle.stack_whole.specs.Whole.{whole}
-use Rattle.stack_equilibrium.specs.declared.velocity.Velocity.{Velocity}
+use Rattle.stack_equilibrium.proofs.Common.{Bearing, MotionValue, Move, Surveyed, Whole, Wide, bearing_of}
+use Rattle.stack_equilibrium.proofs.Common.{block_move_at, body_of, expand, first_corner_of, free_before, lever_at}
+use Rattle.stack_equilibrium.proofs.Common.{move_of_triple, moves_of, scene_of, still, sums, whole}
+use Rattle.stack_equilibrium.specs.WrittenVelocities.{gap_at}
 use Rattle.stack_equilibrium.specs.declared.velocity.Gap.{Gap}
-use Rattle.stack_statics.specs.Scene.{Move}
-use Rattle.stack_statics.specs.Certificates.{still, free_before}
-use Rattle.stack_equilibrium.specs.SurveyScene.{first_corner_of, bearing_of, scene_of}
-use Rattle.stack_equilibrium.specs.Held.{move_of_triple, moves_of}
-use Rattle.stack_equilibrium.specs.WrittenSums.{lever_at}
-use Rattle.stack_equilibrium.specs.WrittenVelocities.{block_move_at, at_rest, written_velocity, velocity_at}
+use Rattle.stack_contact.specs.FreeBlocks.{frees_before}
+use Rattle.stack_equilibrium.specs.declared.velocity.Velocity.{Velocity}
+use Rattle.stack_equilibrium.specs.WrittenVelocities.{at_rest, written_velocity, velocity_at}
 use Rattle.stack_equilibrium.specs.WrittenVelocities.{written_difference, written_normal, written_tangential}
-use Rattle.stack_equilibrium.specs.WrittenVelocities.{written_gap, gap_at, told_gap, written_opening}
+use Rattle.stack_equilibrium.specs.WrittenVelocities.{written_gap, told_gap, written_opening}
 use Rattle.stack_equilibrium.proofs.FreeNumbers.{before_is}
 use Rattle.stack_sum_numbers.specs.InTurn.{IsMadeOf}
 use Rattle.stack_sum_numbers.specs.RateNumbers.{x_rate, y_rate, velocity_numbers, x_difference, y_difference}

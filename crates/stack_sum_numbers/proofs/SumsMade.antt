@@ -2,22 +2,17 @@
 use Rattle.std.proofs.Common.{◌≡◌, sym, subst, ℕ, suc, ◌+◌, ℤ, pos, negsuc, ◌+ℤ◌, ◌-ℤ◌, ◌*ℤ◌, neg_ℤ, Bool, true, false}
 use Rattle.std.proofs.Common.{cond, List, [], ◌∷◌, ◌++◌, length, get_or, Result, Ok, arith, append_assoc, nat_eq, ◌||◌}
 use Rattle.std.proofs.Common.{if◌then◌else◌}
-use Rattle.stack_algebra.specs.Steps.{◌>>=◌, steps}
-use Rattle.stack_algebra.proofs.Integers.{expand, sums}
-use Rattle.stack_contact.specs.declared.types.Bearing.{Bearing}
-use Rattle.stack_whole.specs.declared.whole.Wide.{Wide}
-use Rattle.stack_whole.specs.declared.whole.Whole.{Whole}
-use Rattle.stack_whole.specs.Whole.{made, whole}
+use Rattle.stack_equilibrium.proofs.Common.{Bearing, Whole, Wide, expand, force_x_of, force_y_of, lever_at, made}
+use Rattle.stack_equilibrium.proofs.Common.{moment_of, no_bearing, part_of_pair, push_at, scene_bearing_of, steps, sums}
+use Rattle.stack_equilibrium.proofs.Common.{whole, ◌>>=◌}
+use Rattle.stack_equilibrium.specs.WrittenSums.{written_force_x, written_force_y, written_sum}
+use Rattle.stack_equilibrium.specs.declared.block.Push.{Push}
 use Rattle.stack_equilibrium.specs.declared.types.Axis.{Axis}
 use Rattle.stack_equilibrium.specs.declared.types.Axis.TheVariants.{X, Y, M}
-use Rattle.stack_equilibrium.specs.declared.block.Push.{Push}
 use Rattle.stack_equilibrium.specs.declared.block.Block.{Block}
 use Rattle.stack_statics.specs.Scene as scene
-use Rattle.stack_statics.specs.Balance.{force_x_of, force_y_of, moment_of}
-use Rattle.stack_equilibrium.specs.SurveyScene.{scene_bearing_of, no_bearing}
-use Rattle.stack_equilibrium.specs.Held.{part_of_pair}
-use Rattle.stack_equilibrium.specs.WrittenSums.{axis_part, push_at, lever_at, written_force_x, written_force_y}
-use Rattle.stack_equilibrium.specs.WrittenSums.{written_moment, written_force, with_bearing, bearing_at, written_sum}
+use Rattle.stack_equilibrium.specs.WrittenSums.{axis_part}
+use Rattle.stack_equilibrium.specs.WrittenSums.{written_moment, written_force, with_bearing, bearing_at}
 use Rattle.stack_equilibrium.proofs.SceneSums.{part_is}
 use Rattle.stack_sum_numbers.specs.InTurn.{lists_in_turn, EndsIn, IsMadeOf}
 use Rattle.stack_sum_numbers.specs.SumNumbers.{part_in, body_of_block, force_on, x_numbers, y_numbers, moment_numbers}

@@ -1,19 +1,13 @@
 -- The three written sums of a block, of the first axis one of whose numbers is too wide.
 use Rattle.std.proofs.Common.{◌≡◌, refl, ap, subst, ◌∙◌, ◌⊎◌, inl, inr, ℕ, ℤ, List, Result, Ok, Err, IsErr}
 use Rattle.std.proofs.lemmas.Bool.{false≢true}
-use Rattle.stack_algebra.specs.Steps.{◌>>=◌}
-use Rattle.stack_contact.specs.declared.types.Bearing.{Bearing}
-use Rattle.stack_contact.specs.Surveyed.{Surveyed}
-use Rattle.stack_certificate.specs.Certificate.{ForcesValue}
-use Rattle.stack_whole.specs.declared.whole.Wide.{Wide}
-use Rattle.stack_whole.specs.declared.whole.Whole.{Whole}
-use Rattle.stack_whole.specs.Whole.{whole}
-use Rattle.stack_statics.specs.declared.wrench.Wrench.{Wrench}
+use Rattle.stack_equilibrium.proofs.Common.{Bearing, ForcesValue, Surveyed, Whole, Wide, Wrench, whole, written_sum}
+use Rattle.stack_equilibrium.proofs.Common.{◌>>=◌}
 use Rattle.stack_equilibrium.specs.declared.types.SumWide.{SumWide}
 use Rattle.stack_equilibrium.specs.declared.types.Axis.{Axis}
 use Rattle.stack_equilibrium.specs.declared.types.Axis.TheVariants.{X, Y, M}
 use Rattle.stack_equilibrium.specs.declared.block.Block.{Block}
-use Rattle.stack_equilibrium.specs.WrittenSums.{on_axis, block_of, written_sum, written_sums, written_sums_at}
+use Rattle.stack_equilibrium.specs.WrittenSums.{on_axis, block_of, written_sums, written_sums_at}
 use Rattle.stack_sum_numbers.specs.InTurn.{AllFit, OneIsTooWide, IsMadeOf, IsFirstWide, AreMadeOf}
 use Rattle.stack_sum_numbers.specs.SumNumbers.{sum_numbers, exact_sum, exact_sums, sum_numbers_at, scene_sums}
 use Rattle.stack_sum_numbers.proofs.Chains.{not_both, either}

@@ -13,7 +13,7 @@ use Rattle.stack_table.specs.declared.problem.BuildError.TheVariants.{Wide, Memo
 use Rattle.stack_table.specs.declared.problem.Problem.{Problem as Lent}
 use Rattle.stack_table.specs.Table.{width}
 use Rattle.stack_table.specs.Lent.{IsAmple, IsProblem, TellsFirst, shape_of_problem, problem_of}
-use Rattle.stack_whole.specs.Limits.{IsBelowBound}
+use Rattle.stack_whole.specs.Limits.{most_rows, IsBelowBound}
 use Rattle.stack_table.specs.WrittenTable.{less_all, partial_place, is_artificial, objective_place, objective_places}
 use Rattle.stack_table.specs.WrittenTable.{first_row, written_number, number_place, row_place, wide_place}
 use Rattle.stack_rational.proofs.Fitting.{sum_fits-of}
@@ -50,7 +50,7 @@ module _ (m : ℤ) (ample : IsAmple m) where
         omega (arith, den_of z, ample);
   }
 
-  difference : (a b : ℤ) → nat_abs a ≤ 384 * 2 ^ 100 → IsBelowBound b →
+  difference : (a b : ℤ) → nat_abs a ≤ most_rows * 2 ^ 100 → IsBelowBound b →
       is_too_wide m Difference (of a) (of b) ≡ false
   difference a b h k =
       ap not (sum_fits-of m (of a) (neg (of b)) (subst (λ y. SumFits m (of a) y) (sym (neg-of b))

@@ -10,5 +10,6 @@ pub mod Growing
 pub mod FirstObjective
 pub mod RowByRow
 pub mod AtWidest
+mod Refusals
 pub mod SoundProblem
 mod DueRows

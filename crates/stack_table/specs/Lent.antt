@@ -3,7 +3,7 @@ use Rattle.std.specs.Prelude.{◌≡◌, ℕ, ◌^◌, ◌<◌, ◌≤◌, cond,
 use Rattle.std.specs.Prelude.{get_or, ℤ, pos, unsigned_abs}
 use Rattle.std.specs.List.{AllByRecursion}
 use Rattle.std.specs.List.Sorted.{IsStrictlyIncreasing}
-use Rattle.stack_whole.specs.Limits.{IsBelowBound}
+use Rattle.stack_whole.specs.Limits.{most_rows, most_contact_columns, IsBelowBound}
 use Rattle.stack_table.specs.declared.problem.Entry.{Entry}
 use Rattle.stack_table.specs.declared.problem.Column.{Column}
 use Rattle.stack_table.specs.declared.problem.Problem.{Problem as Lent}
@@ -57,8 +57,8 @@ pub record IsColumn (rows : ℕ) (entries : List Entry) : Type 0 where
 
 -- the condition of a table
 pub record IsProblem (P : Lent) : Type 0 where
-  pub rows_few : P.rows ≤ 384
-  pub contacts_few : length P.contact.items ≤ 2048
+  pub rows_few : P.rows ≤ most_rows
+  pub contacts_few : length P.contact.items ≤ most_contact_columns
   pub contact_columns : AllByRecursion (λ c. IsColumn P.rows c.entries.items) P.contact.items
   pub factor_column : IsColumn P.rows (factor_entries P.factor)
   pub right_long : length P.right.items ≡ P.rows

@@ -6,5 +6,6 @@ pub mod Lent
 pub mod Block
 pub mod Columns
 pub mod Seen
+pub mod Built
 pub mod Sound
 pub mod Due

@@ -1,6 +1,6 @@
 -- The condition of a table as a test of the problem that is lent.
 use Rattle.std.specs.Prelude.{ℕ, suc, Bool, true, ◌&&◌, nat_eq, nat_lt, nat_le, List, [], ◌∷◌, length, ℤ, unsigned_abs}
-use Rattle.stack_whole.specs.Limits.{load_bound}
+use Rattle.stack_whole.specs.Limits.{most_rows, most_contact_columns, load_bound}
 use Rattle.stack_table.specs.declared.problem.Entry.{Entry}
 use Rattle.stack_table.specs.declared.problem.Column.{Column}
 use Rattle.stack_table.specs.declared.problem.Problem.{Problem as Lent}
@@ -26,8 +26,8 @@ abbrev pub are_small : List ℤ → Bool
 are_small [] = true
 are_small (z ∷ zs) = is_small z && are_small zs
 
--- at most 384 rows and 2,048 contact columns, a small right side for each row, and such columns only
+-- rows and contact columns within their numbers, a small right side for each row, and such columns only
 abbrev pub is_sound : Lent → Bool
-is_sound P = nat_le P.rows 384 && (nat_le (length P.contact.items) 2048
+is_sound P = nat_le P.rows most_rows && (nat_le (length P.contact.items) most_contact_columns
     && (nat_eq (length P.right.items) P.rows && (are_small P.right.items
     && (are_columns P.rows P.contact.items && is_column P.rows 0 (factor_entries P.factor)))))

@@ -21,4 +21,4 @@ mod types;
 pub use objective::row_with;
 pub use problem::{BuildError, Column, Entry, Problem};
 pub use table::Table;
-pub use types::{PivotWide, Step};
+pub use types::{PivotWide, Step, TurnRefusal};

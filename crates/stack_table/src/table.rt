@@ -41,32 +41,25 @@ pub struct Table<S: Exact> {
 }
 
 impl<S: Exact> Table<S> {
-    ghost use Rattle.std.specs.Prelude.{◌≢◌, ◌+◌, ◌≤◌, pos, cond, OnOk, IfOk, IfErr, MatchResult, Some, None};
+    ghost use Rattle.std.specs.Prelude.{◌≢◌, ◌+◌, ◌≤◌, pos, cond, OnOk, MatchResult, Some, None};
     ghost use Rattle.stack_algebra.proofs.OrderedFractions.{ordered_fractions};
     ghost use Rattle.stack_rational.specs.TooWide.{is_too_wide};
     ghost use Rattle.stack_rational.specs.Order.{is_zero};
     ghost use Rattle.stack_table.specs.Table.{pivoted_at, clear_objective, set_factor_objective};
     ghost use Rattle.stack_table.specs.Block.{mark_at, item_value};
     ghost use Rattle.stack_table.specs.Spots.{pivot_spot};
-    ghost use Rattle.stack_table.specs.Problem.{flipped};
-    ghost use Rattle.stack_table.specs.Lent.{IsProblem, IsAmple, shape_of_problem, problem_of, TellsFirst};
-    ghost use Rattle.stack_table.specs.WrittenTable.{written_table, wide_place};
-    ghost use Rattle.stack_table.specs.declared.problem.BuildError.TheVariants as build_error;
+    ghost use Rattle.stack_table.specs.Lent.{IsProblem};
+    ghost use Rattle.stack_table.specs.Built.{Builds};
     ghost use Rattle.stack_table.specs.Seen.{shape_of_table, table_of, flips_of};
 
     /// The written table of a problem.
     ///
     /// Refused at the first number, or partial difference of the objective row, that is too wide, in the written
     /// order; never at 128 bits. All memory of a run is taken here.
+    #[tactic(auto, using(crate::proofs::Refusals::out_of_memory))]
     pub fn build(alloc: Global, p: &Problem) -> Result<Table<S>, BuildError>
         requires { IsProblem p.now }
-        ensures shape { IfOk result (λ t. shape_of_table t ≡ shape_of_problem p.now) }
-        ensures ok { IfOk result (λ t. table_of t ≡ written_table ordered_fractions (problem_of p.now)) }
-        ensures flips { IfOk result (λ t. flips_of t ≡ flipped (problem_of p.now)) }
-        ensures fits { OnOk result (wide_place ordered_fractions (is_too_wide S.MAX) (problem_of p.now) ≡ None) }
-        ensures wide { IfErr result (λ e.
-            TellsFirst e (wide_place ordered_fractions (is_too_wide S.MAX) (problem_of p.now))) }
-        ensures never_wide { IsAmple S.MAX → IfErr result (λ e. e ≡ build_error.Memory) }
+        ensures { Builds result p.now }
     {
         let artificial = artificial(p);
         let width = artificial + p.rows + 1;
@@ -156,7 +149,7 @@ impl<S: Exact> Table<S> {
     }
 
     /// Whether a row was flipped.
-    pub fn flipped(&self, i: usize) -> bool
+    pub fn is_flipped(&self, i: usize) -> bool
         requires { i < (shape_of_table self.now).rows }
         ensures { result ≡ flips_of self.now i }
     {

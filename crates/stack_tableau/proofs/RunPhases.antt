@@ -5,12 +5,12 @@ use Rattle.stack_rational.proofs.Common.{Fraction, sign_of, only_if, least-some,
 use Rattle.stack_table.specs.Table.{Shape, Tabled, plain, right, clear_objective, set_factor_objective}
 use Rattle.stack_table.specs.Lent.{problem_of}
 use Rattle.stack_bland.specs.Choice.{is_nought, is_negative_sign}
-use Rattle.stack_run.specs.WrittenRun.{PhaseStop, settled, unlimited, turns, driven_column, drive_row, drives}
+use Rattle.stack_run.specs.WrittenRun.{PhaseStop, complete, unlimited, turns, driven_column, drive_row, drives}
 use Rattle.stack_run.specs.WrittenRun.{infeasible, after_phase, raise, third_end, past_first, first_end, written_run}
 use Rattle.stack_run.specs.PhaseStops.{spot_of}
 use Rattle.stack_run.specs.declared.pivots.Pivots.{Pivots}
 use Rattle.stack_run.specs.EndLaws.{SomeRowLeaves}
-use Rattle.stack_run.proofs.OneTurn.{drives_on, drives_too_wide, drives_spent}
+use Rattle.stack_run.proofs.RowsDriven.{drives_on, drives_too_wide, drives_spent}
 use Rattle.stack_tableau.specs.declared.stops.RunStop.{RunStop}
 use Rattle.stack_tableau.specs.declared.stops.RunStop.TheVariants.{TooWide, Spent, Unsettled}
 use Rattle.stack_tableau.specs.Tells.{TellsStop, TellsEnd}
@@ -38,7 +38,7 @@ module _ (S : Shape) (T : Tabled Fraction) (i : ℕ) where
 
 -- the rows of phase 2 after row i, where the rows before it left the table U and the pivots k
 module _ (settles : Bool) (max : ℤ) (S S' : Shape) (T U : Tabled Fraction) (n i : ℕ) (first k : Pivots) (same : S' ≡ S)
-    (before : drives ordered_fractions S (is_too_wide max) i first.left first.done T ≡ settled k.left k.done U) where
+    (before : drives ordered_fractions S (is_too_wide max) i first.left first.done T ≡ complete k.left k.done U) where
   -- row i is next
   up_to_row : drives ordered_fractions S (is_too_wide max) (suc i) first.left first.done T
       ≡ drive_row ordered_fractions S' (is_too_wide max) k.left k.done U i
@@ -61,8 +61,8 @@ module _ (settles : Bool) (max : ℤ) (S S' : Shape) (T U : Tabled Fraction) (n 
 
   -- the row is done
   pub row_settles : (l : Pivots) (V : Tabled Fraction) →
-      settled l.left l.done V ≡ drive_row ordered_fractions S' (is_too_wide max) k.left k.done U i →
-      drives ordered_fractions S (is_too_wide max) (i + 1) first.left first.done T ≡ settled l.left l.done V
+      complete l.left l.done V ≡ drive_row ordered_fractions S' (is_too_wide max) k.left k.done U i →
+      drives ordered_fractions S (is_too_wide max) (i + 1) first.left first.done T ≡ complete l.left l.done V
   row_settles l V h = ap (λ n. drives ordered_fractions S (is_too_wide max) n first.left first.done T) (add-one i)
       ∙ up_to_row ∙ sym h
 
@@ -90,14 +90,14 @@ after_stopped settles Unsettled X next h = h
 -- a run past phase 1, which left the table U and the pivots k
 pub record IsPastFirst (max : ℤ) (S S' : Shape) (T U : Tabled Fraction) (budget : ℕ) (k : Pivots) : Type 0 where
   pub same : S' ≡ S
-  pub first : settled k.left k.done U ≡ turns ordered_fractions S (is_too_wide max) 1 S.contacts budget 0 T
+  pub first : complete k.left k.done U ≡ turns ordered_fractions S (is_too_wide max) 1 S.contacts budget 0 T
   pub enough : is_negative_sign (ordered_fractions.sign (right ordered_fractions S' U S'.rows)) ≡ false
   pub factor : S'.factors ≡ 1
 
 -- and past phase 2, which left the table V and the pivots l
 pub record IsPastSecond (max : ℤ) (S S' : Shape) (U V : Tabled Fraction) (k l : Pivots) : Type 0 where
   pub same : S' ≡ S
-  pub second : settled l.left l.done V ≡ drives ordered_fractions S (is_too_wide max) S.rows k.left k.done
+  pub second : complete l.left l.done V ≡ drives ordered_fractions S (is_too_wide max) S.rows k.left k.done
       (clear_objective ordered_fractions S U)
 
 module _ (settles : Bool) {max : ℤ} {S S' : Shape} {T U : Tabled Fraction} {budget : ℕ} {k : Pivots}

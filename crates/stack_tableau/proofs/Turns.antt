@@ -15,8 +15,8 @@ use Rattle.stack_run.specs.declared.stops.PhaseEnd.{PhaseEnd}
 use Rattle.stack_run.specs.declared.stops.Turn.{Turn}
 use Rattle.stack_run.specs.declared.stops.Turn.TheVariants.{Stops, GoesOn}
 use Rattle.stack_run.proofs.BestRow.{best-some}
-use Rattle.stack_tableau.specs.declared.stops.TurnRefusal.{TurnRefusal}
-use Rattle.stack_tableau.specs.declared.stops.TurnRefusal.TheVariants as refusals
+use Rattle.stack_table.specs.declared.types.TurnRefusal.{TurnRefusal}
+use Rattle.stack_table.specs.declared.types.TurnRefusal.TheVariants as refusals
 use Rattle.stack_tableau.specs.declared.stops.RunStop.{RunStop}
 use Rattle.stack_tableau.specs.declared.stops.RunStop.TheVariants.{TooWide, Spent, Unsettled}
 use Rattle.stack_tableau.specs.Answers.{TellsNoRatio}

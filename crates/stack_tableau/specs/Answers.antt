@@ -8,13 +8,21 @@ use Rattle.stack_table.specs.declared.types.PivotWide.{PivotWide}
 use Rattle.stack_table.specs.declared.types.Step.TheVariants.{Ratio}
 use Rattle.stack_table.specs.Table.{Shape, Tabled}
 use Rattle.stack_bland.specs.Choice.{is_plus, ratio, ratio_item}
-use Rattle.stack_tableau.specs.declared.stops.TurnRefusal.{TurnRefusal}
-use Rattle.stack_tableau.specs.declared.stops.TurnRefusal.TheVariants.{TooWide, Unsettled}
+use Rattle.stack_bland.specs.declared.found.Found.{Found}
+use Rattle.stack_bland.specs.declared.found.Found.TheVariants.{GaveUp, Nothing, This}
+use Rattle.stack_table.specs.declared.types.TurnRefusal.{TurnRefusal}
+use Rattle.stack_table.specs.declared.types.TurnRefusal.TheVariants.{TooWide, Unsettled}
 
 -- nothing is answered only by a table that doesn't settle all
 abbrev pub IsAnswered : {A : Type 0} → Bool → Option A → Type 0
 IsAnswered settles None = settles ≡ false
 IsAnswered settles (Some x) = ⊤
+
+-- and a search isn't
+abbrev pub IsSettled : {A : Type 0} → Bool → Found A → Type 0
+IsSettled settles GaveUp = settles ≡ false
+IsSettled settles Nothing = ⊤
+IsSettled settles (This x) = ⊤
 
 -- a row with a positive cell, its ratio, and that this isn't too wide
 pub record IsRatio (max : ℤ) (S : Shape) (T : Tabled Fraction) (c i : ℕ) (x : Fraction) : Type 0 where

@@ -3,15 +3,15 @@ use Rattle.std.specs.Prelude.{◌≡◌, ◌≢◌, ℕ, ◌<◌, ℤ, pos, ⊤,
 use Rattle.stack_algebra.specs.Fraction.{Fraction}
 use Rattle.stack_table.specs.declared.types.PivotWide.{PivotWide}
 use Rattle.stack_table.specs.Table.{Shape, Tabled, plain}
-use Rattle.stack_run.specs.WrittenRun.{Choice, stays, rises, due, refused, PhaseStop, settled, wide_at, spent, End}
+use Rattle.stack_run.specs.WrittenRun.{Choice, stays, rises, due, refused, PhaseStop, complete, wide_at, spent, End}
 use Rattle.stack_run.specs.WrittenRun.{wide, over}
 use Rattle.stack_run.specs.PhaseStops.{spot_of, IsPivoted, IsTooWideAt, phase_from, stop_of}
 use Rattle.stack_run.specs.declared.pivots.Pivots.{Pivots}
 use Rattle.stack_run.specs.declared.stops.PhaseEnd.{PhaseEnd}
 use Rattle.stack_run.specs.declared.stops.Turn.{Turn}
 use Rattle.stack_run.specs.declared.stops.Turn.TheVariants.{Stops, GoesOn}
-use Rattle.stack_tableau.specs.declared.stops.TurnRefusal.{TurnRefusal}
-use Rattle.stack_tableau.specs.declared.stops.TurnRefusal.TheVariants as refusals
+use Rattle.stack_table.specs.declared.types.TurnRefusal.{TurnRefusal}
+use Rattle.stack_table.specs.declared.types.TurnRefusal.TheVariants as refusals
 use Rattle.stack_tableau.specs.declared.stops.RunStop.{RunStop}
 use Rattle.stack_tableau.specs.declared.stops.RunStop.TheVariants.{TooWide, Spent, Unsettled}
 use Rattle.stack_tableau.specs.declared.end_kind.EndKind.{EndKind}
@@ -90,7 +90,7 @@ TellsTurn settles max S phase among T (Err e) X = TellsStop settles e X
 
 -- and that of phases 1 and 2
 abbrev pub TellsPivots : Bool → Tabled Fraction → Result Pivots RunStop → PhaseStop Fraction → Type 0
-TellsPivots settles T (Ok k) X = settled k.left k.done T ≡ X
+TellsPivots settles T (Ok k) X = complete k.left k.done T ≡ X
 TellsPivots settles T (Err e) X = TellsStop settles e X
 
 -- what a refusal says of the written run

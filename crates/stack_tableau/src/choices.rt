@@ -12,9 +12,9 @@ ghost use Rattle.stack_tableau.specs.Answers.{IsAnswered, TellsNoRatio};
 ghost use Rattle.stack_tableau.specs.Best.{HoldsNext};
 ghost use Rattle.stack_tableau.specs.Tells.{TellsRow, TellsChoice, IsReady};
 
-use crate::stops::TurnRefusal;
 use crate::tableau::Tableau;
-use stack_table::{PivotWide, Step};
+use stack_bland::Found;
+use stack_table::{PivotWide, Step, TurnRefusal};
 use std::cmp::Ordering;
 
 /// A row that may leave, and its ratio.
@@ -53,7 +53,7 @@ fn better<T: Tableau>(
         Some(old) => {
             let first = match T::order_of(next.ratio, old.ratio) {
                 Some(Ordering::Less) => true,
-                Some(Ordering::Equal) => t.basic_of(next.row) < t.basic_of(old.row),
+                Some(Ordering::Equal) => t.basic(next.row) < t.basic(old.row),
                 Some(Ordering::Greater) => false,
                 None => return None,
             };
@@ -108,7 +108,7 @@ pub fn leaving<T: Tableau>(t: &T, column: usize) -> Result<Option<usize>, TurnRe
         (leaving ordered_fractions (T.shape t.now) (T.table t.now) column)) }
 {
     let mut best: Option<LeavingRow<T::Ratio>> = None;
-    for i in 0..t.row_count() {
+    for i in 0..t.rows() {
         match next_best(t, best, i, column) {
             Ok(next) => best = next,
             Err(refusal) => return Err(refusal),
@@ -131,11 +131,11 @@ pub fn choose<T: Tableau>(t: &mut T, among: usize) -> Result<Chosen, TurnRefusal
         (choose ordered_fractions (T.shape t.old) (is_too_wide T.MAX) (T.table t.old) among) }
 {
     let column = match t.entering_of(among) {
-        Some(Some(column)) => column,
-        Some(None) => return Ok(Chosen::Stays),
-        None => return Err(TurnRefusal::Unsettled),
+        Found::This(column) => column,
+        Found::Nothing => return Ok(Chosen::Stays),
+        Found::GaveUp => return Err(TurnRefusal::Unsettled),
     };
-    match t.enter_column(column) {
+    match t.enter(column) {
         Some(()) => {}
         None => return Err(TurnRefusal::Unsettled),
     }

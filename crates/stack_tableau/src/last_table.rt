@@ -25,18 +25,18 @@ pub trait LastTable {
     // Whether a column can be read, beside the right side and the multipliers.
     ghost reads: { Self → ℕ → Bool };
 
-    fn row_count(&self) -> usize
+    fn rows(&self) -> usize
         ensures { result ≡ (shape self.now).rows };
 
-    fn contact_count(&self) -> usize
+    fn contacts(&self) -> usize
         ensures { result ≡ (shape self.now).contacts };
 
     /// How many columns aren't artificial.
-    fn plain_count(&self) -> usize
+    fn plain(&self) -> usize
         ensures { result ≡ plain (shape self.now) };
 
     /// The basic column of a row.
-    fn basic_of(&self, i: usize) -> usize
+    fn basic(&self, i: usize) -> usize
         requires { i < (shape self.now).rows }
         ensures { result ≡ (table self.now).basic i };
 
@@ -46,12 +46,12 @@ pub trait LastTable {
         ensures { result ≡ flips self.now i };
 
     /// The right side of a row.
-    fn right_of(&self, i: usize) -> Frac<i128>
+    fn right(&self, i: usize) -> Frac<i128>
         requires { i < (shape self.now).rows }
         ensures { result ≡ (table self.now).cell i (columns (shape self.now)) };
 
     /// The objective cell of a row's artificial column.
-    fn multiplier_of(&self, i: usize) -> Frac<i128>
+    fn multiplier(&self, i: usize) -> Frac<i128>
         requires { i < (shape self.now).rows }
         ensures { result ≡ (table self.now).cell (shape self.now).rows (plain (shape self.now) + i) };
 
@@ -72,32 +72,32 @@ impl<S: Exact> LastTable for Table<S> {
     // Each column can be read.
     ghost reads = { λ t j. ltb j (width (shape_of_table t)) };
 
-    fn row_count(&self) -> usize {
+    fn rows(&self) -> usize {
         self.rows()
     }
 
-    fn contact_count(&self) -> usize {
+    fn contacts(&self) -> usize {
         self.contacts()
     }
 
-    fn plain_count(&self) -> usize {
+    fn plain(&self) -> usize {
         self.plain()
     }
 
-    fn basic_of(&self, i: usize) -> usize {
+    fn basic(&self, i: usize) -> usize {
         self.basic(i)
     }
 
     fn is_flipped(&self, i: usize) -> bool {
-        self.flipped(i)
+        self.is_flipped(i)
     }
 
-    fn right_of(&self, i: usize) -> Frac<i128> {
+    fn right(&self, i: usize) -> Frac<i128> {
         self.cell(i, self.columns()).widened()
     }
 
-    fn multiplier_of(&self, i: usize) -> Frac<i128> {
-        self.cell(self.rows(), self.plain_count() + i).widened()
+    fn multiplier(&self, i: usize) -> Frac<i128> {
+        self.cell(self.rows(), self.plain() + i).widened()
     }
 
     fn cell_of(&self, i: usize, j: usize) -> Frac<i128> {

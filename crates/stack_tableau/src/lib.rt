@@ -14,9 +14,9 @@
 mod choices;
 mod end_kind;
 mod ended;
+mod full;
 mod last_table;
 mod phases;
-mod plain;
 mod stops;
 mod tableau;
 mod turn;
@@ -26,5 +26,5 @@ pub use end_kind::EndKind;
 pub use ended::Ended;
 pub use last_table::LastTable;
 pub use phases::run_table;
-pub use stops::{RunStop, TurnRefusal};
+pub use stops::RunStop;
 pub use tableau::Tableau;

@@ -1,12 +1,13 @@
 //! The three phases, and the run.
 
-ghost use Rattle.std.specs.Prelude.{◌≡◌, ◌≢◌, ◌<◌, pos, OnOk, IfSome};
+ghost use Rattle.std.specs.Prelude.{◌≡◌, ◌≢◌, ◌<◌, pos, OnOk};
 ghost use Rattle.stack_algebra.proofs.OrderedFractions.{ordered_fractions};
 ghost use Rattle.stack_rational.specs.TooWide.{is_too_wide};
 ghost use Rattle.stack_table.specs.Table.{plain, pivoted_at, clear_objective, set_factor_objective};
 ghost use Rattle.stack_table.specs.Spots.{pivot_spot};
+ghost use Rattle.stack_bland.specs.Found.{TellsFound};
 ghost use Rattle.stack_run.specs.WrittenRun.{turns, driven_column, drive_row, drives, written_run};
-ghost use Rattle.stack_tableau.specs.Answers.{IsAnswered};
+ghost use Rattle.stack_tableau.specs.Answers.{IsSettled};
 ghost use Rattle.stack_tableau.specs.Tells.{TellsPivot, TellsPivots, TellsPhase, TellsRun};
 ghost use Rattle.stack_tableau.specs.Written.{IsWrittenTable};
 
@@ -14,6 +15,7 @@ use crate::EndKind;
 use crate::stops::RunStop;
 use crate::tableau::Tableau;
 use crate::turn::{due_pivot, run_phase};
+use stack_bland::Found;
 use stack_run::{PhaseEnd, Pivots, run_laws};
 
 /// Phase 1 of a written table, within a budget: the artificial columns are driven to 0 as far as the contact columns
@@ -27,9 +29,9 @@ fn first_phase<T: Tableau>(t: &mut T, budget: u32) -> Result<Pivots, RunStop>
         (T.table t.old)) }
 {
     run_laws();
-    let contacts = t.contact_count();
+    let contacts = t.contacts();
     match run_phase(t, 1, contacts, Pivots::within(budget)) {
-        Ok(PhaseEnd::Settled(pivots)) => Ok(pivots),
+        Ok(PhaseEnd::Complete(pivots)) => Ok(pivots),
         // In phase 1 some row leaves wherever a column enters.
         Ok(PhaseEnd::Unlimited(_)) => unreachable!(),
         Err(stop) => Err(stop),
@@ -37,19 +39,19 @@ fn first_phase<T: Tableau>(t: &mut T, budget: u32) -> Result<Pivots, RunStop>
 }
 
 /// The least column before the artificial ones in which the row isn't 0.
-fn driven_column<T: Tableau>(t: &T, row: usize) -> Option<Option<usize>>
+fn driven_column<T: Tableau>(t: &T, row: usize) -> Found<usize>
     requires { row < (T.shape t.now).rows }
-    ensures value { IfSome result (λ r. r ≡ driven_column ordered_fractions (T.shape t.now) (T.table t.now) row) }
-    ensures settled { IsAnswered T.settles result }
+    ensures value { TellsFound result (driven_column ordered_fractions (T.shape t.now) (T.table t.now) row) }
+    ensures settled { IsSettled T.settles result }
 {
-    for j in 0..t.plain_count() {
+    for j in 0..t.plain() {
         match t.is_nothing(row, j) {
             Some(true) => {}
-            Some(false) => return Some(Some(j)),
-            None => return None,
+            Some(false) => return Found::This(j),
+            None => return Found::GaveUp,
         }
     }
-    Some(None)
+    Found::Nothing
 }
 
 /// A pivot of phase 2 that is due, at a column that isn't at hand yet.
@@ -69,7 +71,7 @@ fn driven_pivot<T: Tableau>(
     ensures counted { TellsPivot T.settles result 2 pivots
         (pivot_spot ordered_fractions (is_too_wide T.MAX) (T.shape t.old) (T.table t.old) row column) }
 {
-    match t.enter_column(column) {
+    match t.enter(column) {
         Some(()) => due_pivot(t, 2, pivots, row, column),
         None => Err(RunStop::Unsettled),
     }
@@ -83,13 +85,13 @@ fn drive_row<T: Tableau>(t: &mut T, pivots: Pivots, row: usize) -> Result<Pivots
     ensures answer { TellsPivots T.settles (T.table t.new) result
         (drive_row ordered_fractions (T.shape t.old) (is_too_wide T.MAX) pivots.left pivots.done (T.table t.old) row) }
 {
-    if t.basic_of(row) < t.plain_count() {
+    if t.basic(row) < t.plain() {
         return Ok(pivots);
     }
     match driven_column(t, row) {
-        None => Err(RunStop::Unsettled),
-        Some(None) => Ok(pivots),
-        Some(Some(column)) => driven_pivot(t, pivots, row, column),
+        Found::GaveUp => Err(RunStop::Unsettled),
+        Found::Nothing => Ok(pivots),
+        Found::This(column) => driven_pivot(t, pivots, row, column),
     }
 }
 
@@ -101,12 +103,12 @@ fn second_phase<T: Tableau>(t: &mut T, pivots: Pivots) -> Result<Pivots, RunStop
         (drives ordered_fractions (T.shape t.old) (is_too_wide T.MAX) (T.shape t.old).rows pivots.left
         pivots.done (clear_objective ordered_fractions (T.shape t.old) (T.table t.old))) }
 {
-    match t.clear_objective_row() {
+    match t.clear_objective() {
         Some(()) => {}
         None => return Err(RunStop::Unsettled),
     }
     let mut pivots = pivots;
-    for row in 0..t.row_count() {
+    for row in 0..t.rows() {
         match drive_row(t, pivots, row) {
             Ok(next) => pivots = next,
             Err(stop) => return Err(stop),
@@ -124,11 +126,11 @@ fn third_phase<T: Tableau>(t: &mut T, pivots: Pivots) -> Result<PhaseEnd, RunSto
         (turns ordered_fractions (T.shape t.old) (is_too_wide T.MAX) 3 (plain (T.shape t.old))
         pivots.left pivots.done (set_factor_objective ordered_fractions (T.shape t.old) (T.table t.old))) }
 {
-    match t.set_factor_row() {
+    match t.set_factor_objective() {
         Some(()) => {}
         None => return Err(RunStop::Unsettled),
     }
-    let among = t.plain_count();
+    let among = t.plain();
     run_phase(t, 3, among, pivots)
 }
 
@@ -147,7 +149,7 @@ pub fn run_table<T: Tableau>(t: &mut T, budget: u32) -> Result<EndKind, RunStop>
     if t.falls_short() {
         return Ok(EndKind::Infeasible);
     }
-    if !t.has_a_factor() {
+    if !t.has_factor() {
         return Ok(EndKind::Feasible);
     }
     let pivots = match second_phase(t, pivots) {
@@ -155,7 +157,7 @@ pub fn run_table<T: Tableau>(t: &mut T, budget: u32) -> Result<EndKind, RunStop>
         Err(stop) => return Err(stop),
     };
     match third_phase(t, pivots) {
-        Ok(PhaseEnd::Settled(_)) => Ok(EndKind::Optimal),
+        Ok(PhaseEnd::Complete(_)) => Ok(EndKind::Optimal),
         Ok(PhaseEnd::Unlimited(column)) => Ok(EndKind::Ray { column }),
         Err(stop) => Err(stop),
     }

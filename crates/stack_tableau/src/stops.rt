@@ -1,17 +1,6 @@
-//! Why a choice or a pivot isn't made, and why a run has no end.
+//! Why a run has no end.
 
 use stack_run::RunPlace;
-use stack_table::PivotWide;
-
-/// Why a choice or a pivot isn't made.
-#[derive(Clone, Copy, Drop)]
-pub enum TurnRefusal {
-    /// The first operation that is too wide.
-    TooWide(PivotWide),
-    /// It is given up, mostly since a number that the table makes doesn't fit. No clause says when, and it says nothing
-    /// of the written run.
-    Unsettled,
-}
 
 /// Why a run has no end.
 #[derive(Clone, Copy, Drop)]

@@ -1,7 +1,8 @@
 //! A table of a run, as its phases ask it.
 
-use crate::stops::TurnRefusal;
+use stack_bland::Found;
 use stack_rational::OpWide;
+use stack_table::TurnRefusal;
 use std::cmp::Ordering;
 
 /// The table of a run, whatever stores it. What a call answers is exact. A call may also give up, with None or
@@ -18,7 +19,8 @@ pub trait Tableau {
     ghost use Rattle.stack_table.specs.Spots.{pivot_spot};
     ghost use Rattle.stack_bland.specs.BySign.{by_sign};
     ghost use Rattle.stack_bland.specs.Choice.{entering, is_negative_sign, is_nought};
-    ghost use Rattle.stack_tableau.specs.Answers.{IsAnswered, TellsRatio, TellsPivoted};
+    ghost use Rattle.stack_bland.specs.Found.{TellsFound};
+    ghost use Rattle.stack_tableau.specs.Answers.{IsAnswered, IsSettled, TellsRatio, TellsPivoted};
 
     /// What stands for the ratio of a row.
     type Ratio: Copy;
@@ -44,33 +46,33 @@ pub trait Tableau {
     // Whether it settles all.
     ghost settles: { Bool };
 
-    fn row_count(&self) -> usize
+    fn rows(&self) -> usize
         ensures { result ≡ (shape self.now).rows };
 
-    fn contact_count(&self) -> usize
+    fn contacts(&self) -> usize
         ensures { result ≡ (shape self.now).contacts };
 
     /// How many columns aren't artificial.
-    fn plain_count(&self) -> usize
+    fn plain(&self) -> usize
         ensures { result ≡ plain (shape self.now) };
 
     /// Whether there is a factor column, behind the contact columns.
-    fn has_a_factor(&self) -> bool
+    fn has_factor(&self) -> bool
         ensures { (shape self.now).factors ≡ cond result 1 0 };
 
     /// The basic column of a row.
-    fn basic_of(&self, i: usize) -> usize
+    fn basic(&self, i: usize) -> usize
         requires { i < (shape self.now).rows }
         ensures { result ≡ (table self.now).basic i };
 
     /// The least column below `among` with a negative objective cell.
-    fn entering_of(&self, among: usize) -> Option<Option<usize>>
+    fn entering_of(&self, among: usize) -> Found<usize>
         requires { among ≤ plain (shape self.now) }
-        ensures value { IfSome result (λ r. r ≡ entering ordered_fractions (shape self.now) (table self.now) among) }
-        ensures settled { IsAnswered settles result };
+        ensures value { TellsFound result (entering ordered_fractions (shape self.now) (table self.now) among) }
+        ensures settled { IsSettled settles result };
 
     /// Makes the cells of a column, and has them at hand.
-    fn enter_column(&mut self, column: usize) -> Option<()>
+    fn enter(&mut self, column: usize) -> Option<()>
         requires { column < plain (shape self.old) }
         ensures shape { shape self.new ≡ shape self.old }
         ensures flips { flips self.new ≡ flips self.old }
@@ -105,7 +107,7 @@ pub trait Tableau {
 
     /// A pivot at a row and a column at hand whose cell in the row isn't 0. Refused at the first operation that is too
     /// wide; the table is spent then.
-    fn pivot_at(&mut self, row: usize, column: usize) -> Result<(), TurnRefusal>
+    fn pivot(&mut self, row: usize, column: usize) -> Result<(), TurnRefusal>
         requires row_in { row < (shape self.old).rows }
         requires column_in { column < plain (shape self.old) }
         requires cell { ((table self.old).cell row column).num ≢ pos 0 }
@@ -118,7 +120,7 @@ pub trait Tableau {
             (pivot_spot ordered_fractions (is_too_wide MAX) (shape self.old) (table self.old) row column) };
 
     /// Sets the objective row to 0, its right side too.
-    fn clear_objective_row(&mut self) -> Option<()>
+    fn clear_objective(&mut self) -> Option<()>
         ensures shape { OnSome result (shape self.new ≡ shape self.old) }
         ensures flips { OnSome result (flips self.new ≡ flips self.old) }
         ensures table { OnSome result (table self.new
@@ -126,7 +128,7 @@ pub trait Tableau {
         ensures settled { IsAnswered settles result };
 
     /// Sets the objective row to that of the factor.
-    fn set_factor_row(&mut self) -> Option<()>
+    fn set_factor_objective(&mut self) -> Option<()>
         requires { (shape self.old).factors ≡ 1 }
         ensures shape { OnSome result (shape self.new ≡ shape self.old) }
         ensures flips { OnSome result (flips self.new ≡ flips self.old) }

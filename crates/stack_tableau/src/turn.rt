@@ -9,9 +9,10 @@ ghost use Rattle.stack_run.specs.PhaseStops.{HasFewer, phase_from};
 ghost use Rattle.stack_tableau.specs.Tells.{TellsPivot, TellsTurn, TellsPhase, stop_at, IsDue};
 
 use crate::choices::{Chosen, choose};
-use crate::stops::{RunStop, TurnRefusal};
+use crate::stops::RunStop;
 use crate::tableau::Tableau;
 use stack_run::{PhaseEnd, Pivots, RunPlace, Turn};
+use stack_table::TurnRefusal;
 
 /// Why a phase stops where a choice or a pivot of it isn't made.
 fn stopped_at(refusal: TurnRefusal, phase: u8, pivot: u64) -> RunStop
@@ -49,7 +50,7 @@ pub fn due_pivot<T: Tableau>(
         return Err(RunStop::Spent);
     }
     let pivot = pivots.done + 1;
-    match t.pivot_at(row, column) {
+    match t.pivot(row, column) {
         Ok(()) => Ok(Pivots {
             done: pivot,
             left: pivots.left - 1,
@@ -73,7 +74,7 @@ fn take_turn<T: Tableau>(
         (phase_from T.MAX (T.shape t.old) phase among pivots (T.table t.old)) }
 {
     match choose(t, among) {
-        Ok(Chosen::Stays) => Ok(Turn::Stops(PhaseEnd::Settled(pivots))),
+        Ok(Chosen::Stays) => Ok(Turn::Stops(PhaseEnd::Complete(pivots))),
         Ok(Chosen::Rises(column)) => Ok(Turn::Stops(PhaseEnd::Unlimited(column))),
         Ok(Chosen::Due { row, column }) => match due_pivot(t, phase, pivots, row, column) {
             Ok(next) => Ok(Turn::GoesOn(next)),

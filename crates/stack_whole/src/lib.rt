@@ -1,4 +1,5 @@
-//! Whole numbers of at most 2^127 - 1 in size, their checked operations, and limits that several crates share.
+//! Whole numbers of at most 2^127 - 1 in size, their checked operations, and limits and a test that several crates
+//! share.
 //!
 //! No call takes memory.
 //!
@@ -9,10 +10,12 @@
 //! ```
 #![tactic(auto)]
 
+mod demands;
 mod laws;
 mod limits;
 mod whole;
 
+pub use demands::unless;
 pub use laws::fitting_law;
-pub use limits::{MOST_BEARINGS, MOST_FREE};
+pub use limits::{GREATEST_WEIGHT, MOST_BEARINGS, MOST_CONTACT_COLUMNS, MOST_FREE, MOST_ROWS};
 pub use whole::{Whole, Wide};

@@ -3,10 +3,7 @@
 use Rattle.std.proofs.Common.{◌≡◌, refl, subst, ap, ℕ, ◌+◌, ◌<◌, ℤ, Bool, true, false, List, [], ◌∷◌, Option, Some}
 use Rattle.std.proofs.Common.{None, Result, Ok, Err, length, arith, if◌then◌else◌}
 use Rattle.std.proofs.Math.Dec.{ltb}
-use Rattle.stack_model.specs.Structure.{Structure}
-use Rattle.stack_contact.specs.Surveyed.{Surveyed}
-use Rattle.stack_certificate.specs.Certificate.{CertificateValue}
-use Rattle.stack_certificate.specs.CertificateOf.{certificate_of}
+use Rattle.stack_equilibrium.proofs.Common.{CertificateValue, Structure, Surveyed, certificate_of}
 use Rattle.stack_equilibrium.specs.declared.types.Question.{Question}
 use Rattle.stack_equilibrium.specs.declared.types.Question.TheVariants.{Live}
 use Rattle.stack_checker.specs.declared.types.Check.{Check}

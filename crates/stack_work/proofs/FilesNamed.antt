@@ -2,16 +2,13 @@
 use Rattle.std.proofs.Common.{◌≡◌, ℕ, ℤ, suc, true, false, List, [], ◌∷◌, ◌++◌, take, inl, inr, Option, Some, None}
 use Rattle.std.proofs.Common.{Result, Ok, Err, length, subst, sym, refl, ◌∙◌, ap, nat_lt, if◌then◌else◌}
 use Rattle.std.specs.Bool.{⊤}
-use Rattle.stack_model.specs.Structure.{Structure}
+use Rattle.stack_equilibrium.proofs.Common.{CertificateValue, Structure, Surveyed, certificate_of}
+use Rattle.stack_equilibrium.specs.declared.types.Question.{Question}
 use Rattle.stack_reader.specs.declared.errors.ReadError.{ReadError}
 use Rattle.stack_reader.specs.Reading.{structure_of}
-use Rattle.stack_contact.specs.Surveyed.{Surveyed}
-use Rattle.stack_certificate.specs.Certificate.{CertificateValue}
-use Rattle.stack_certificate.specs.CertificateOf.{certificate_of}
 use Rattle.stack_checker.specs.declared.types.Check.{Check}
 use Rattle.stack_checker.specs.declared.types.Check.TheVariants.{Accepted, Rejected, TooWide}
 use Rattle.stack_checker.specs.WrittenCheck.{written_check}
-use Rattle.stack_equilibrium.specs.declared.types.Question.{Question}
 use Rattle.stack_equilibrium.specs.declared.types.Question.TheVariants.{Live}
 use Rattle.stack_judge.specs.Judgement.{Judgement, certified, too_wide, spent, unjudged, judgement}
 use Rattle.stack_lines.specs.declared.refusal.Input.{Input}

@@ -1,9 +1,9 @@
 -- The work on a judgement comes down to one step.
 use Rattle.std.proofs.Common.{◌≡◌, refl, sym, ap, ◌∙◌, ℕ, Bool, true, false, not, if◌then◌else◌}
-use Rattle.stack_model.specs.Structure.{Structure, HasLive, lists_live}
-use Rattle.stack_model.proofs.Items.{found_live}
-use Rattle.stack_contact.specs.Surveyed.{Surveyed}
+use Rattle.stack_equilibrium.proofs.Common.{HasLive, Structure, Surveyed}
 use Rattle.stack_equilibrium.specs.declared.types.Question.{Question}
+use Rattle.stack_model.specs.Structure.{lists_live}
+use Rattle.stack_model.proofs.Items.{found_live}
 use Rattle.stack_equilibrium.specs.declared.types.Question.TheVariants.{Dead, Live}
 use Rattle.stack_judge.specs.Judgement.{Judgement, judgement, LacksLive}
 use Rattle.stack_lines.specs.Refusals.{no_live}

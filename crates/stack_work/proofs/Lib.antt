@@ -13,3 +13,4 @@ pub mod StagesEnds
 pub mod YieldEnds
 pub mod RefusedFrom
 pub mod Beginnings
+pub mod Common

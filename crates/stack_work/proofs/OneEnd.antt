@@ -1,4 +1,4 @@
--- Two settled ends of the same work, over files that are told, are the same, and ask for the same files.
+-- Two definite ends of the same work, over files that are told, are the same, and ask for the same files.
 use Rattle.std.proofs.Common.{◌≡◌, ℕ, List, [], ◌∷◌, ◌⊎◌, inl, inr, Option, Some, None, Result, Ok, Err, subst, sym}
 use Rattle.std.proofs.Common.{◌∙◌, ap}
 use Rattle.stack_lines.specs.declared.refusal.Input.{Input}
@@ -11,7 +11,7 @@ use Rattle.stack_work.specs.Forms.{work_of}
 use Rattle.stack_lines.specs.Refusals.{Refusal, file, faulty, memory}
 use Rattle.stack_work.specs.Work.{Work, gives, refuses, reads, surveys, Found, Holds, MayHold, MayFind, Ends}
 use Rattle.stack_work.specs.Work.{EndsGiving, EndsWith}
-use Rattle.stack_work.specs.OneEnd.{AreTold, IsSettledRefusal, IsSettled, WordsHaveOneEnd}
+use Rattle.stack_work.specs.OneEnd.{AreTold, IsDefiniteRefusal, IsDefinite, WordsHaveOneEnd}
 
 -- What the survey of a structure comes to is one, where memory isn't wanting.
 abbrev IsKnown : Found → Type 0
@@ -35,22 +35,22 @@ one_found s f g h k =
     let b = known s g k in
     same_known f g a.0 b.0 (one-survey s f g a.1 b.1)
 
-gave : {A : Type 0} (x : A) (end : Result A Refusal) → EndsGiving x end → IsSettled end → end ≡ Ok x
-gave x (Ok a) p settled = ap (λ y. Ok y) (sym p)
-gave x (Err r) p settled = absurd (subst IsSettledRefusal p settled)
+gave : {A : Type 0} (x : A) (end : Result A Refusal) → EndsGiving x end → IsDefinite end → end ≡ Ok x
+gave x (Ok a) p definite = ap (λ y. Ok y) (sym p)
+gave x (Err r) p definite = absurd (subst IsDefiniteRefusal p definite)
 
-refused : (r q : Refusal) → (r ≡ q) ⊎ (r ≡ faulty memory) → IsSettledRefusal r → r ≡ q
-refused r q (inl same) settled = same
-refused r q (inr same) settled = absurd (subst IsSettledRefusal same settled)
+refused : (r q : Refusal) → (r ≡ q) ⊎ (r ≡ faulty memory) → IsDefiniteRefusal r → r ≡ q
+refused r q (inl same) definite = same
+refused r q (inr same) definite = absurd (subst IsDefiniteRefusal same definite)
 
--- A way that gives itself up for memory or a device isn't settled.
-no_memory : {A : Type 0} (end : Result A Refusal) → EndsWith (faulty memory) end → IsSettled end → ⊥
-no_memory (Ok a) p settled = p
-no_memory (Err r) p settled = subst IsSettledRefusal p settled
+-- A way that gives itself up for memory or a device isn't definite.
+no_memory : {A : Type 0} (end : Result A Refusal) → EndsWith (faulty memory) end → IsDefinite end → ⊥
+no_memory (Ok a) p definite = p
+no_memory (Err r) p definite = subst IsDefiniteRefusal p definite
 
-no_device : {A : Type 0} (input : Input) (end : Result A Refusal) → EndsWith (file input) end → IsSettled end → ⊥
-no_device input (Ok a) p settled = p
-no_device input (Err r) p settled = subst IsSettledRefusal p settled
+no_device : {A : Type 0} (input : Input) (end : Result A Refusal) → EndsWith (file input) end → IsDefinite end → ⊥
+no_device input (Ok a) p definite = p
+no_device input (Err r) p definite = subst IsDefiniteRefusal p definite
 
 own_bytes : (held : Option (List ℕ)) (told bytes : List ℕ) → held ≡ Some told → MayHold held bytes → bytes ≡ told
 own_bytes held told bytes e h = subst (λ d. MayHold d bytes) e h
@@ -63,8 +63,8 @@ abbrev Same : {A : Type 0} → List (List ℕ) → List (List ℕ) → Result A 
 Same names more end last = (names ≡ more) × (end ≡ last)
 
 pub one_end : {A : Type 0} (holds : Holds) (w : Work A) (names more : List (List ℕ)) (end last : Result A Refusal)
-    → AreTold holds names → Ends holds w names end → Ends holds w more last → IsSettled end
-    → IsSettled last → Same names more end last
+    → AreTold holds names → Ends holds w names end → Ends holds w more last → IsDefinite end
+    → IsDefinite last → Same names more end last
 one_end holds (gives x) names more end last told p q s t =
     (p.0 ∙ sym q.0, gave x end p.1 s ∙ sym (gave x last q.1 t))
 one_end holds (refuses f) names more (Ok a) last told p q s t = absurd p.1

@@ -12,7 +12,7 @@ use Rattle.stack_judge.specs.Judged.{IsJudged}
 use Rattle.stack_report.specs.Summary.{summary_text}
 use Rattle.stack_range.specs.Ranged.{RangeValue, collapsing, between, IsRange}
 use Rattle.stack_range.specs.RangeText.{range_text}
-use Rattle.stack_stages.specs.Staged.{Staged, falls, AreTrue, AreSettled}
+use Rattle.stack_stages.specs.Staged.{Staged, falls, AreTrue, StandAndFall}
 use Rattle.stack_stages.specs.StagesText.{stages_text}
 use Rattle.stack_pairs.specs.Reaches.{RegionValue, collapse, points, RegionTells}
 use Rattle.stack_pairs.specs.Directed.{ArePair}
@@ -81,7 +81,7 @@ pub record IsRangeOf (v : Surveyed) (r : RangeValue) (verdict : Verdict) (text :
 -- It says truly which stages of the order stand, and the bytes are its text.
 pub record AreStagesOf (v : Surveyed) (order : List ℕ) (x : Staged) (verdict : Verdict) (text : List ℕ) : Type 0 where
   pub are_true : AreTrue v order x
-  pub are_settled : AreSettled v order x
+  pub stand_and_fall : StandAndFall v order x
   pub is_verdict : verdict ≡ stages_verdict x
   pub is_text : text ≡ stages_text x
 

@@ -13,18 +13,18 @@ AreTold holds [] = ⊤
 AreTold holds (name ∷ names) = ((bytes : List ℕ) × (holds name ≡ Some bytes)) × AreTold holds names
 
 -- The end tells neither of memory nor of a device.
-abbrev pub IsSettledRefusal : Refusal → Type 0
-IsSettledRefusal (file input) = ⊥
-IsSettledRefusal (faulty memory) = ⊥
-IsSettledRefusal _ = ⊤
+abbrev pub IsDefiniteRefusal : Refusal → Type 0
+IsDefiniteRefusal (file input) = ⊥
+IsDefiniteRefusal (faulty memory) = ⊥
+IsDefiniteRefusal _ = ⊤
 
--- A value is settled, and so is a refusal but for a file that isn't read or memory that is wanting.
-abbrev pub IsSettled : {A : Type 0} → Result A Refusal → Type 0
-IsSettled (Ok a) = ⊤
-IsSettled (Err r) = IsSettledRefusal r
+-- A value is definite, and so is a refusal but for a file that isn't read or memory that is wanting.
+abbrev pub IsDefinite : {A : Type 0} → Result A Refusal → Type 0
+IsDefinite (Ok a) = ⊤
+IsDefinite (Err r) = IsDefiniteRefusal r
 
--- Two settled ends of the work on the same words, over the same told files, are the same, and ask for the same files.
+-- Two definite ends of the work on the same words, over the same told files, are the same, and ask for the same files.
 abbrev pub WordsHaveOneEnd : Type 0
 WordsHaveOneEnd = (holds : Holds) (form : Option Form) (names more : List (List ℕ)) (end last : Result Due Refusal)
-    → AreTold holds names → Way holds form names end → Way holds form more last → IsSettled end → IsSettled last
+    → AreTold holds names → Way holds form names end → Way holds form more last → IsDefinite end → IsDefinite last
     → (names ≡ more) × (end ≡ last)

@@ -30,8 +30,8 @@ GrewBy (Some old) (Some new) names = new ≡ old ++ names
 abbrev pub AskedFor : ShelfSeen → List (List ℕ) → Type 0
 AskedFor shelf names = GrewBy shelf.asked shelf.asked_after names
 
--- What was returned is an end of the work that asks for these files: a value in this relation to the work's, or its
--- refusal.
+-- What was returned is an end of the work that asks for these files: a value that R relates to the value of the work,
+-- or the work's refusal.
 abbrev pub Returns : {A X : Type 0} → (X → A → Type 0) → Holds → Work A → List (List ℕ) → Result X CodeRefusal → Type 0
 Returns {A} R holds w names (Ok x) = (a : A) × R x a × Ends holds w names (Ok a)
 Returns R holds w names (Err r) = Ends holds w names (Err (refusal_view r))

@@ -37,7 +37,7 @@ abbrev pub MayHold : Option (List ℕ) → List ℕ → Type 0
 MayHold None bytes = ⊤
 MayHold (Some told) bytes = bytes ≡ told
 
--- Ends where a value is given, where the work refuses, where memory is wanting and where a device fails.
+-- The ends of a work that gives this value: the value, or memory ran out.
 abbrev pub EndsGiving : {A : Type 0} → A → Result A Refusal → Type 0
 EndsGiving x (Ok a) = x ≡ a
 EndsGiving x (Err r) = r ≡ faulty memory

@@ -5,15 +5,14 @@ use lib.IntN.{ℤ, pos, ◌+ℤ◌, ◌*ℤ◌}
 use Rattle.std.specs.Ordering.{int_eq}
 use Rattle.std.proofs.lemmas.Int.{ints}
 use Rattle.std.proofs.lemmas.Bool.Decides.{Decides-eqb, Decides-int_eq}
-use Rattle.stack_algebra.specs.IntegerOrder.{◌≼◌, ◌≺◌, abs}
+use Rattle.stack_equilibrium.proofs.Common.{Certifies, IsTrueLoaded, Move, Scene, SceneForces, abs, dead_power_of}
+use Rattle.stack_equilibrium.proofs.Common.{free_before, live_power_of, move_of, opening_of, scene_part_at, slide_of}
+use Rattle.stack_algebra.specs.IntegerOrder.{◌≼◌, ◌≺◌}
 use Rattle.stack_algebra.proofs.Conjunctions.{both_true, all_four}
 use Rattle.stack_polygon.specs.Outlines.{all_below}
 use Rattle.stack_polygon.proofs.Tested.{each_below}
-use Rattle.stack_statics.specs.Scene.{Move, Scene}
 use Rattle.stack_statics.specs.Balance.{sum_x_of, sum_y_of, sum_m_of}
-use Rattle.stack_statics.specs.Motions.{opening_of, slide_of, dead_power_of, live_power_of}
-use Rattle.stack_statics.specs.Certificates.{SceneForces, scene_part_at, move_of, free_before}
-use Rattle.stack_statics.specs.Certificates.{AreBalanced, IsFreeMotion, IsTrueLoaded, Certifies}
+use Rattle.stack_statics.specs.Certificates.{AreBalanced, IsFreeMotion}
 use Rattle.stack_statics.specs.Certificates.{SceneCertificate, stands, collapses, greatest, unbounded}
 
 -- what the tests of numbers tell

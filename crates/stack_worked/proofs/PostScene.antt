@@ -5,10 +5,8 @@ use Prim.Native.Nat.{ℕ, zero, suc}
 use lib.IntN.{pos}
 use Rattle.std.proofs.lemmas.Bool.{ne_eqb}
 use Rattle.std.proofs.lemmas.Int.{ints}
-use Rattle.stack_certificate.specs.Certificate.{CertificateValue, stands, collapses}
-use Rattle.stack_statics.specs.Certificates.{Certifies}
-use Rattle.stack_equilibrium.specs.SurveyScene.{scene_of}
-use Rattle.stack_equilibrium.specs.Truth.{held, IsTrueCertificate}
+use Rattle.stack_equilibrium.proofs.Common.{CertificateValue, Certifies, IsTrueCertificate, collapses, scene_of, stands}
+use Rattle.stack_equilibrium.specs.Truth.{held}
 use Rattle.stack_worked.specs.Scenes.{pushed_post}
 use Rattle.stack_worked.specs.SurveyedPost.{surveyed_post, post_forces, tipping_certificate, tipping_motion}
 use Rattle.stack_worked.specs.SurveyedPost.{PostSceneIsWorked, TheSameIsTrueOfThePost, CertificatesOfPost}

@@ -3,9 +3,8 @@ use Rattle.std.proofs.Common.{◌≡◌, refl, arith}
 use lib.IntN.{ℤ, pos, ◌*ℤ◌}
 use Rattle.std.proofs.lemmas.Int.{ints}
 use Rattle.stack_algebra.specs.IntegerOrder.{◌≼◌, ◌≺◌}
-use Rattle.stack_algebra.proofs.Integers.{sums, expand}
-use Rattle.stack_statics.specs.declared.wrench.Wrench.{Wrench}
-use Rattle.stack_statics.specs.Scene.{SceneBearing, Scene, IsProperBearing, IsProper}
+use Rattle.stack_equilibrium.proofs.Common.{IsProper, Scene, SceneBearing, Wrench, expand, sums}
+use Rattle.stack_statics.specs.Scene.{IsProperBearing}
 use Rattle.stack_statics.specs.Certificates.{IsTrueStands}
 use Rattle.stack_statics.specs.Laws.{StandsIsCarried, CollapseExcludesBalance, GreatestIsCarried}
 use Rattle.stack_statics.specs.Laws.{GreatestBoundsEveryFactor, UnboundedCarriesAll}

@@ -4,24 +4,17 @@ use Rattle.std.specs.Prelude.{⊤}
 use lib.IntN.{ℤ, pos, ◌+ℤ◌, ◌-ℤ◌, ◌*ℤ◌}
 use Rattle.std.proofs.lemmas.Int.{ints}
 use Rattle.std.proofs.lemmas.List.{length-map}
-use Rattle.stack_algebra.specs.Steps.{◌>>=◌, steps}
-use Rattle.stack_whole.specs.declared.whole.Wide.{Wide}
-use Rattle.stack_whole.specs.declared.whole.Whole.{Whole}
-use Rattle.stack_whole.specs.Whole.{IsFitting, Makes, made, whole}
-use Rattle.stack_whole.proofs.Making.{made-is}
-use Rattle.stack_contact.specs.Surveyed.{Surveyed}
-use Rattle.stack_contact.specs.FreeBlocks.{frees_of}
-use Rattle.stack_certificate.specs.Certificate.{ForcesValue, MotionValue, greatest}
+use Rattle.stack_equilibrium.proofs.Common.{ForcesValue, IsFitting, MotionValue, Surveyed, Whole, Wide, Wrench}
+use Rattle.stack_equilibrium.proofs.Common.{block_move_at, frees_of, greatest, loads_on, made, move_of_triple, steps}
+use Rattle.stack_equilibrium.proofs.Common.{told_power, whole, written_power, ◌>>=◌}
+use Rattle.stack_equilibrium.specs.WrittenPowers.{with_product, with_work}
 use Rattle.stack_equilibrium.specs.declared.types.PowerWide.{PowerWide}
-use Rattle.stack_statics.specs.declared.wrench.Wrench.{Wrench}
-use Rattle.stack_equilibrium.specs.declared.velocity.BlockMove.{BlockMove}
 use Rattle.stack_equilibrium.specs.declared.types.Question.{Question}
+use Rattle.stack_whole.specs.Whole.{Makes}
+use Rattle.stack_whole.proofs.Making.{made-is}
+use Rattle.stack_equilibrium.specs.declared.velocity.BlockMove.{BlockMove}
 use Rattle.stack_equilibrium.specs.declared.types.Question.TheVariants.{Dead, Live}
-use Rattle.stack_equilibrium.specs.Held.{move_of_triple}
-use Rattle.stack_equilibrium.specs.WrittenPowers.{with_product, with_work, with_block, summed_power, told_power}
-use Rattle.stack_equilibrium.specs.WrittenPowers.{written_power}
-use Rattle.stack_equilibrium.specs.WrittenVelocities.{block_move_at}
-use Rattle.stack_equilibrium.specs.SurveyScene.{loads_on}
+use Rattle.stack_equilibrium.specs.WrittenPowers.{with_block, summed_power}
 use Rattle.stack_equilibrium.proofs.FreeNumbers.{all_before}
 use Rattle.stack_checker.specs.declared.types.Check.TheVariants.{Accepted}
 use Rattle.stack_checker.specs.declared.types.Part.{Part}

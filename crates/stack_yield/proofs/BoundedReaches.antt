@@ -2,25 +2,15 @@
 use Rattle.std.proofs.Common.{◌≡◌, refl, sym, ap, ◌∙◌, subst, ℕ, Option, Some, None, Result, Ok, Err, Bool, true, false}
 use Rattle.std.proofs.Common.{IfOk, if◌then◌else◌, length, arith, w64, to_z, of_z}
 use lib.IntN.{ℤ, pos, negsuc, neg_ℤ, ◌*ℤ◌}
-use Rattle.stack_algebra.proofs.Integers.{sums}
-use Rattle.stack_algebra.specs.IntegerOrder.{◌≼◌}
-use Rattle.stack_whole.specs.declared.whole.Whole.{Whole}
-use Rattle.stack_whole.specs.Whole.{whole}
-use Rattle.stack_directions.proofs.DirectedBorne.{cast}
-use Rattle.stack_algebra.specs.Fraction.{Fraction}
-use Rattle.stack_algebra.proofs.Over.{over}
-use Rattle.stack_rational.specs.Laws.{widest}
-use Rattle.stack_rational.specs.TooWide.{fraction_fits}
-use Rattle.stack_contact.specs.Surveyed.{Surveyed}
-use Rattle.stack_contact.specs.FreeBlocks.{frees_of}
-use Rattle.stack_certificate.specs.Certificate.{ForcesValue, MotionValue, CertificateValue, stands, collapses, greatest}
-use Rattle.stack_certificate.specs.Certificate.{unbounded}
+use Rattle.stack_equilibrium.proofs.Common.{CertificateValue, ForcesValue, Fraction, MotionValue, Surveyed, Whole}
+use Rattle.stack_equilibrium.proofs.Common.{collapses, frees_of, greatest, live_power_of, move_at, over, scene_of}
+use Rattle.stack_equilibrium.proofs.Common.{stands, sums, unbounded, whole, written_power}
 use Rattle.stack_equilibrium.specs.declared.types.PowerWide.{PowerWide}
+use Rattle.stack_rational.specs.Laws.{widest}
+use Rattle.stack_algebra.specs.IntegerOrder.{◌≼◌}
+use Rattle.stack_directions.proofs.DirectedBorne.{cast}
+use Rattle.stack_rational.specs.TooWide.{fraction_fits}
 use Rattle.stack_equilibrium.specs.declared.types.Question.TheVariants.{Live}
-use Rattle.stack_statics.specs.Motions.{live_power_of}
-use Rattle.stack_equilibrium.specs.SurveyScene.{scene_of}
-use Rattle.stack_equilibrium.specs.Held.{move_at}
-use Rattle.stack_equilibrium.specs.WrittenPowers.{written_power}
 use Rattle.stack_judge.specs.Judged.{IsJudged}
 use Rattle.stack_pairs.specs.Directed.{directed_survey, ArePair}
 use Rattle.stack_pairs.specs.Reaches.{PointValue, ReachValue, terms_of, reached_point, half_of, reach_of, IsReaching}

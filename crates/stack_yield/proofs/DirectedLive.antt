@@ -3,9 +3,7 @@ use Rattle.std.proofs.Common.{◌≡◌, inl, sym, subst, ℕ, zero, suc, ◌+�
 use Rattle.std.proofs.Common.{length, get_or, arith, nat_eq, if◌then◌else◌}
 use Rattle.std.proofs.lemmas.Bool.{eq-eqb}
 use lib.IntN.{ℤ, pos}
-use Rattle.stack_polygon.specs.Corners.{origin}
-use Rattle.stack_model.specs.declared.types.Load.{Load}
-use Rattle.stack_model.specs.Structure.{Structure, HasLive}
+use Rattle.stack_equilibrium.proofs.Common.{HasLive, Load, Structure, origin}
 use Rattle.stack_pairs.specs.Directed.{times_load, directed_from, directed_structure, ArePair}
 
 abbrev stand_in : Load

@@ -2,20 +2,11 @@
 use Rattle.std.proofs.Common.{◌≡◌, refl, sym, ◌∙◌, ℕ, arith}
 use lib.IntN.{ℤ, pos}
 use Rattle.stack_algebra.specs.IntegerOrder.{◌≺◌}
-use Rattle.stack_algebra.proofs.Integers.{sums}
-use Rattle.stack_algebra.specs.Steps.{◌>>=◌, steps}
-use Rattle.stack_whole.specs.Whole.{whole}
-use Rattle.stack_contact.specs.FreeBlocks.{frees_of}
-use Rattle.stack_contact.specs.Surveyed.{Surveyed}
-use Rattle.stack_certificate.specs.Certificate.{MotionValue, collapses}
-use Rattle.stack_statics.specs.Scene.{IsProper}
-use Rattle.stack_statics.specs.Balance.{Carries}
-use Rattle.stack_statics.proofs.CertificateLaws.{collapse_excludes_balance}
-use Rattle.stack_equilibrium.specs.Held.{moves_of}
-use Rattle.stack_equilibrium.specs.SurveyScene.{scene_of}
+use Rattle.stack_equilibrium.proofs.Common.{Carries, IsProper, MotionValue, Surveyed, block_move_at}
+use Rattle.stack_equilibrium.proofs.Common.{collapse_excludes_balance, collapses, frees_of, moves_of, scene_of, steps}
+use Rattle.stack_equilibrium.proofs.Common.{sums, told_power, whole, with_work, written_power, ◌>>=◌}
+use Rattle.stack_equilibrium.specs.WrittenVelocities.{gap_at}
 use Rattle.stack_equilibrium.specs.declared.types.Question.TheVariants.{Dead, Live}
-use Rattle.stack_equilibrium.specs.WrittenVelocities.{block_move_at, gap_at}
-use Rattle.stack_equilibrium.specs.WrittenPowers.{with_work, told_power, written_power}
 use Rattle.stack_checker.specs.declared.types.Part.TheVariants.{First}
 use Rattle.stack_checker.specs.declared.types.Reason.TheVariants as reasons
 use Rattle.stack_checker.specs.declared.sign.WantedSign.TheVariants.{Positive}

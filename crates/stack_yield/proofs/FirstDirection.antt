@@ -3,11 +3,10 @@ use Rattle.std.proofs.Common.{◌≡◌, refl, subst, ap, ◌∙◌, ℕ, zero, 
 use Rattle.std.proofs.Common.{Option, Some, None, Result, Ok, Err, arith, inl, inr}
 use Rattle.std.specs.Bool.{⊤}
 use lib.IntN.{ℤ, pos}
-use Rattle.stack_contact.specs.Surveyed.{Surveyed}
-use Rattle.stack_certificate.specs.Certificate.{ForcesValue, MotionValue, stands, collapses, greatest, unbounded}
+use Rattle.stack_equilibrium.proofs.Common.{ForcesValue, MotionValue, Surveyed, collapses, greatest, stands, unbounded}
+use Rattle.stack_equilibrium.proofs.Common.{written_power}
 use Rattle.stack_equilibrium.specs.declared.types.PowerWide.{PowerWide}
 use Rattle.stack_equilibrium.specs.declared.types.Question.TheVariants.{Live}
-use Rattle.stack_equilibrium.specs.WrittenPowers.{written_power}
 use Rattle.stack_judge.specs.Judgement.{Judgement, certified, too_wide, spent, unjudged}
 use Rattle.stack_judge.proofs.EachJudged.{each_end_is_judged}
 use Rattle.stack_judge.proofs.JudgedValues.{of_the_question}

@@ -1,13 +1,10 @@
 -- The numbers of a point that is made fit, and so do those of a half-plane.
 use Rattle.std.proofs.Common.{◌≡◌, refl, sym, subst, Option, Some, None, Bool, true, false, if◌then◌else◌, arith}
 use lib.IntN.{ℤ, pos, ◌*ℤ◌}
-use Rattle.stack_whole.specs.Whole.{IsFitting}
-use Rattle.stack_algebra.specs.Fraction.{Fraction}
-use Rattle.stack_algebra.proofs.Over.{over}
+use Rattle.stack_equilibrium.proofs.Common.{ForcesValue, Fraction, IsFitting, over}
 use Rattle.stack_rational.specs.Laws.{widest}
 use Rattle.stack_rational.specs.TooWide.{fraction_fits}
 use Rattle.stack_rational.proofs.Fitting.{Fits-of}
-use Rattle.stack_certificate.specs.Certificate.{ForcesValue}
 use Rattle.stack_pairs.specs.Reaches.{PointValue, terms_of}
 use Rattle.stack_directions.specs.Coordinates.{fitting_terms, both_coordinates, coordinate_of, point_made}
 use Rattle.stack_yield.specs.JudgedReaches.{PointFits, HalfFits}

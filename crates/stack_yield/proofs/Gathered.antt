@@ -6,21 +6,19 @@ use Rattle.std.specs.List.{AllByRecursion}
 use Rattle.std.proofs.Math.Seq.{drop-cons}
 use Rattle.std.proofs.lemmas.List.{map-append, take_more, take_all}
 use lib.IntN.{ℤ}
-use Rattle.stack_contact.specs.Surveyed.{Surveyed}
-use Rattle.stack_statics.specs.Scene.{IsProper}
-use Rattle.stack_equilibrium.specs.SurveyScene.{scene_of}
+use Rattle.stack_equilibrium.proofs.Common.{IsProper, Surveyed, collapses, greatest, motion_view, scene_of, stands}
+use Rattle.stack_equilibrium.proofs.Common.{unbounded}
+use Rattle.stack_equilibrium.specs.declared.types.PowerWide.{PowerWide}
 use Rattle.stack_pairs.specs.Directed.{ArePair, directed_survey}
 use Rattle.stack_pairs.specs.Reaches.{ReachValue, collapse, points, IsReach, RegionTells, PointValue}
 use Rattle.stack_pairs.specs.Reaches.{direction_of_reach, reach_of}
 use Rattle.stack_pairs.specs.Laws.{RegionsTell}
 use Rattle.stack_certificate.specs.declared.types.Motion.{Motion}
-use Rattle.stack_certificate.specs.Certificate.{motion_view, stands, collapses, greatest, unbounded}
 use Rattle.stack_directions.specs.declared.directing.Towards.{Towards}
 use Rattle.stack_yield.specs.declared.types.Region.{Region}
 use Rattle.stack_yield.specs.declared.types.Region.TheVariants as regions
 use Rattle.stack_yield.specs.declared.types.RegionError.{RegionError}
 use Rattle.stack_yield.specs.declared.types.RegionError.TheVariants as errors
-use Rattle.stack_equilibrium.specs.declared.types.PowerWide.{PowerWide}
 use Rattle.stack_equilibrium.specs.declared.types.Question.TheVariants.{Live}
 use Rattle.stack_judge.specs.Judged.{IsJudged}
 use Rattle.stack_judge.specs.Judgement.{Judgement, certified, too_wide, spent, unjudged, judgement}

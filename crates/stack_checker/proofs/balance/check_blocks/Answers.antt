@@ -1,8 +1,7 @@
 use Rattle.std.proofs.Common.{sym, ◌∙◌, arith}
 use Rattle.std.proofs.lemmas.Result.{err_from_is_err_and}
-use Rattle.stack_algebra.proofs.Steps.{step_on, step_out, steps_done}
-use Rattle.stack_contact.specs.FreeBlocks.{frees_of}
-use Rattle.stack_certificate.specs.Certificate.{forces_view}
+use Rattle.stack_equilibrium.proofs.Common.{forces_view, frees_of, step_on, step_out}
+use Rattle.stack_algebra.proofs.Steps.{steps_done}
 use Rattle.stack_checker.specs.WrittenForces.{balance_at}
 use Rattle.stack_checker.proofs.balance.check_blocks.Goals as goal
 

@@ -1,8 +1,7 @@
 use Rattle.std.proofs.Common.{sym, ap, ◌∙◌}
 use Rattle.std.proofs.lemmas.Result.{err_from_is_err_and}
-use Rattle.stack_algebra.specs.Steps.{steps}
-use Rattle.stack_algebra.proofs.Steps.{step_on, step_out, steps_done}
-use Rattle.stack_certificate.specs.Certificate.{motion_view}
+use Rattle.stack_equilibrium.proofs.Common.{motion_view, step_on, step_out, steps}
+use Rattle.stack_algebra.proofs.Steps.{steps_done}
 use Rattle.stack_checker.specs.WrittenMotions.{resistance_at}
 use Rattle.stack_checker.proofs.motions.check_bearings.Goals as goal
 

@@ -3,8 +3,8 @@ use Rattle.stack_contact.proofs.OnePair.{are-contacts}
 use Rattle.stack_contact.proofs.pair.contacts.Goals as goal
 
 pub returns-in-Some-clause-found : goal.returns-in-Some-clause-found
-returns-in-Some-clause-found c = are-contacts c.args.p.now c.args.q.now c.len-first.ensures.polygon
-    c.len-second.ensures.polygon c.in-Some.e.which c.in-Some.e.index c.in-Some.ensures.separates
+returns-in-Some-clause-found c = are-contacts c.args.p.now c.args.q.now c.valid.ensures
+    c.valid-2.ensures c.in-Some.e.which c.in-Some.e.index c.in-Some.ensures.separates
     c.common-points.result c.common-points.ensures.points c.tangent_of-tangent.result
     c.tangent_of-tangent.ensures
     c.made.result c.made.ensures

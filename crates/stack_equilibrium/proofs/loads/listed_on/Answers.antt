@@ -4,7 +4,7 @@ use Rattle.stack_model.specs.Structure.{load_of}
 use Rattle.stack_model.specs.ModelView.{model_view}
 use Rattle.stack_statics.specs.Loads.{total_of}
 use Rattle.stack_equilibrium.specs.SurveyScene.{acting, first_corner_of}
-use Rattle.stack_equilibrium.proofs.Totals.{one_more, within_256}
+use Rattle.stack_equilibrium.proofs.Totals.{one_more, within_most}
 use Rattle.stack_equilibrium.proofs.loads.listed_on.Goals as goal
 
 pub loop-n-preserved : goal.loop-n-preserved
@@ -31,7 +31,7 @@ returns c =
       value = c.loop-n.invariant.value
           ∙ ap (λ n. total_of n
           (λ k. acting c.args.question c.args.i (first_corner_of s c.args.i) (load_of s k))) n;
-      size = within_256 c.loop-n.n c.loop-n.total
+      size = within_most c.loop-n.n c.loop-n.total
           (omega (arith, c.loop-n.auto.n-end, c.loads-n-end.ensures.few))
           c.loop-n.invariant.size;
     }

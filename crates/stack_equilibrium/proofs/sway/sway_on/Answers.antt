@@ -44,4 +44,4 @@ returns-clause-value c =
 pub returns-clause-size : goal.returns-clause-size
 returns-clause-size c = subst IsSwayLoad (sym (returns-clause-value c))
     (sway_within (c.args.x, c.args.y) c.args.unit c.args.outline.now c.requires.x c.requires.y c.requires.unit
-    c.len-len.ensures.polygon)
+    c.valid.ensures)

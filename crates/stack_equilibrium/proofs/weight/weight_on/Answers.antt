@@ -32,4 +32,4 @@ returns-clause-value c =
 
 pub returns-clause-size : goal.returns-clause-size
 returns-clause-size c = subst IsWeight (sym (returns-clause-value c))
-    (weight_within c.args.unit c.args.outline.now c.requires c.len-len.ensures.polygon)
+    (weight_within c.args.unit c.args.outline.now c.requires c.valid.ensures)

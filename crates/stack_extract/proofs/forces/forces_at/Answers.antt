@@ -5,7 +5,7 @@ use Rattle.stack_extract.proofs.Made.{few_contacts, forces_list_is, forces_lengt
 use Rattle.stack_extract.proofs.forces.forces_at.Goals as goal
 
 pub forces_numbers-requires : goal.forces_numbers-requires
-forces_numbers-requires g c = few_contacts c.requires.end.1 c.bearings-bearings.ensures.survey.few
+forces_numbers-requires g c = few_contacts c.requires.end.1 c.within.ensures.survey.few
 
 pub from_list-requires-clause-count : goal.from_list-requires-clause-count
 from_list-requires-clause-count g c = forces_length (g.L.LastTable.table c.args.t.now) c.requires.end.1

@@ -5,7 +5,7 @@ use Rattle.stack_extract.proofs.Made.{few_contacts, ray_list_is, ray_length, rat
 use Rattle.stack_extract.proofs.forces.ray_at.Goals as goal
 
 pub ray_numbers-requires-clause-few : goal.ray_numbers-requires-clause-few
-ray_numbers-requires-clause-few g c = few_contacts c.requires.end.1 c.bearings-bearings.ensures.survey.few
+ray_numbers-requires-clause-few g c = few_contacts c.requires.end.1 c.within.ensures.survey.few
 
 pub from_list-requires-clause-count : goal.from_list-requires-clause-count
 from_list-requires-clause-count g c = ray_length (g.L.LastTable.table c.args.t.now) c.args.column c.requires.end.1

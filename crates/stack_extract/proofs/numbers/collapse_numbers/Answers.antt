@@ -21,6 +21,6 @@ pub returns-in-Err-clause-wide : goal.returns-in-Err-clause-wide
 returns-in-Err-clause-wide g c = told c.too_wide.result _ _ c.too_wide.ensures
     (shift_too_wide (g.L.LastTable.shape c.args.t.now) (g.L.LastTable.table c.args.t.now) c.loop-row.row
     c.bound_number.result c.one.result
-    (omega (arith, c.loop-row-test.true, c.row_count-row-end.ensures)) c.bound_number.ensures
+    (omega (arith, c.loop-row-test.true, c.rows-row-end.ensures)) c.bound_number.ensures
     c.one.ensures
     c.in-Err.ensures.wide c.loop-row.invariant.1)

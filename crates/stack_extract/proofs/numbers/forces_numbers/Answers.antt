@@ -15,5 +15,5 @@ returns g c = whole (forces_number (g.L.LastTable.shape c.args.t.now) (g.L.LastT
       arith,
       c.loop-column-test.false,
       c.loop-column.auto,
-      c.contact_count-column-end.ensures,
+      c.contacts-column-end.ensures,
     ))

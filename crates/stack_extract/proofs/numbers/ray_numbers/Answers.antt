@@ -16,5 +16,5 @@ returns g c = whole (ray_number (g.L.LastTable.shape c.args.t.now) (g.L.LastTabl
       arith,
       c.loop-column-test.false,
       c.loop-column.auto,
-      c.contact_count-column-end.ensures,
+      c.contacts-column-end.ensures,
     ))

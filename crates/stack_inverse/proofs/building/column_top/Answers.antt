@@ -11,9 +11,9 @@ loop-j-preserved g c =
     let cells : c.as_slice.result.now ≡ cells_at c.args.columns.now c.loop-j.j = c.as_slice.ensures.value
     ∙ cells_lent c.args.columns.now c.loop-j.j c.index-columns-j.result c.loop-j-test.true in
     record {
-      some = omega (arith, c.loop-j.invariant.some, c.wider-top.ensures.own);
+      some = omega (arith, c.loop-j.invariant.some, c.larger-top.ensures.own);
       top = λ k l. covered_more (λ i. sizes_in v (cells_at c.args.columns.now i)) c.loop-j.j
-          (unsigned_abs (v c.loop-j.top)) (unsigned_abs (v c.in_ok-sizes.sizes)) (unsigned_abs (v c.wider-top.result))
+          (unsigned_abs (v c.loop-j.top)) (unsigned_abs (v c.in_ok-sizes.sizes)) (unsigned_abs (v c.larger-top.result))
           c.loop-j.invariant.top (omega (arith, sym (ap (sizes_in v) cells), c.in_ok-sizes.ensures))
-          c.wider-top.ensures.own c.wider-top.ensures.other k l;
+          c.larger-top.ensures.own c.larger-top.ensures.other k l;
     }

@@ -4,14 +4,14 @@ use Rattle.stack_rows.specs.RowForm.{number_at}
 use Rattle.stack_inverse.specs.RowsSeen.{seen_at}
 use Rattle.stack_inverse.specs.FirstTable.{load_at}
 use Rattle.stack_inverse.proofs.FirstSteps.{rows_kept, unmarked_put}
-use Rattle.stack_inverse.proofs.PutRow.{wide_put}
+use Rattle.stack_inverse.proofs.PutRow.{widths_put}
 use Rattle.stack_inverse.proofs.filling.fill.Goals as goal
 
 pub put_first_rows-requires : goal.put_first_rows-requires
 put_first_rows-requires g c = record {
   width = c.requires.width;
   height = c.requires.height;
-  wide = c.requires.wide;
+  widths = c.requires.widths;
   unmarked = c.requires.unmarked;
   one = c.requires.one;
 }
@@ -22,17 +22,17 @@ set_only-requires g c = omega (arith, c.put_first_rows.auto.numbers, c.requires.
 pub put_row-requires : goal.put_row-requires
 put_row-requires g c = record {
   row_in = omega (arith, c.put_first_rows.auto.rows, c.requires.height);
-  width = c.in_ok-rest.ensures.wide (length c.args.right.now) (omega arith)
+  width = c.in_ok-rest.ensures.widths (length c.args.right.now) (omega arith)
       ∙ sym (c.set_only.auto.row ∙ c.put_first_rows.auto.numbers ∙ c.requires.width);
   under = subst (λ z. pos 0 <ℤ z) (sym c.requires.one) (omega (arith, ints));
   topped = λ n. absurd (n c.zero.ensures);
 }
 
-pub returns-clause-wide : goal.returns-clause-wide
-returns-clause-wide g c =
-    wide_put (length c.args.right.now) (seen_at c.put_first_rows.new.rows) (seen_at c.put_row.new.rows)
+pub returns-clause-widths : goal.returns-clause-widths
+returns-clause-widths g c =
+    widths_put (length c.args.right.now) (seen_at c.put_first_rows.new.rows) (seen_at c.put_row.new.rows)
     (length c.args.right.now) c.set_only.new.row (g.T.RowNumber.value c.args.one) false c.put_row.ensures
-    (c.set_only.auto.row ∙ c.put_first_rows.auto.numbers ∙ c.requires.width) c.in_ok-rest.ensures.wide
+    (c.set_only.auto.row ∙ c.put_first_rows.auto.numbers ∙ c.requires.width) c.in_ok-rest.ensures.widths
 
 pub returns-clause-unmarked : goal.returns-clause-unmarked
 returns-clause-unmarked g c =

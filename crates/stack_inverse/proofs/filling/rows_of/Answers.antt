@@ -9,9 +9,9 @@ pub loop-i-preserved : goal.loop-i-preserved
 loop-i-preserved g c = record {
   height = ap length c.in_ok-push.ensures.items ∙ length_push c.loop-i.rows.items _
       ∙ ap (λ n. n + 1) c.loop-i.invariant.height;
-  wide = λ k l. grown_by seen_of no_row (λ (k : ℕ) (s : RowSeen g.row.T.Denot). length s.numbers ≡ c.args.width)
+  widths = λ k l. grown_by seen_of no_row (λ (k : ℕ) (s : RowSeen g.row.T.Denot). length s.numbers ≡ c.args.width)
       c.loop-i.rows.items c.push.new.self.items _ c.loop-i.i c.in_ok-push.ensures.items c.loop-i.invariant.height
-      c.loop-i.invariant.wide c.in_ok-numbers.ensures.long k l;
+      c.loop-i.invariant.widths c.in_ok-numbers.ensures.long k l;
   unmarked = λ k l. grown_by seen_of no_row (λ (k : ℕ) (s : RowSeen g.row.T.Denot). s.fits ≡ false)
       c.loop-i.rows.items c.push.new.self.items _ c.loop-i.i c.in_ok-push.ensures.items c.loop-i.invariant.height
       c.loop-i.invariant.unmarked refl k l;

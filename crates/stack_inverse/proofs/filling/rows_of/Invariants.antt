@@ -5,6 +5,6 @@ use Rattle.stack_inverse.proofs.filling.rows_of.Given as goal
 abbrev pub invariant-loop-i : goal.invariant-loop-i
 invariant-loop-i g l = record {
   height : length l.rows.items ≡ l.i;
-  wide : (k : ℕ) → k < l.i → length (seen_at l.rows.items k).numbers ≡ l.width;
+  widths : (k : ℕ) → k < l.i → length (seen_at l.rows.items k).numbers ≡ l.width;
   unmarked : (k : ℕ) → k < l.i → (seen_at l.rows.items k).fits ≡ false;
 }

@@ -9,7 +9,7 @@ use Rattle.stack_inverse.proofs.making.enter_column.Goals as goal
 pub loop-i-preserved : goal.loop-i-preserved
 loop-i-preserved g c =
     let v = g.T.RowNumber.value in
-    let p = c.args.plain.now in
+    let p = c.args.given.now in
     let rows = c.args.rows.now in
     let xs = c.loop-i.entered in
     let i = c.loop-i.i in

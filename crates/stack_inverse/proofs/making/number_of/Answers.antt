@@ -9,7 +9,7 @@ use Rattle.stack_inverse.proofs.making.number_of.Goals as goal
 pub returns : goal.returns
 returns g c =
     let v = g.T.RowNumber.value in
-    let p = c.args.plain.now in
+    let p = c.args.given.now in
     let f = p.first in
     let row = c.args.row.now in
     let j = c.args.j in

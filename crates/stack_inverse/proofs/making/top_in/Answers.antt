@@ -9,10 +9,10 @@ loop-j-preserved g c =
     let v = g.T.RowNumber.value in
     let f = c.args.first.now in
     record {
-      cells = λ k l. omega (arith, c.loop-j.invariant.cells k l, c.wider-top.ensures.own);
+      cells = λ k l. omega (arith, c.loop-j.invariant.cells k l, c.larger-top.ensures.own);
       made = λ d. covers_more (row_number v f.rows f.columns.items c.args.row.now d) c.loop-j.j (v c.loop-j.top)
-          (v c.wider-top.result) (c.loop-j.invariant.made d) c.wider-top.ensures.own
-          (omega (arith, c.wider-top.ensures.other, ap unsigned_abs (c.in_ok-number.ensures d)));
+          (v c.larger-top.result) (c.loop-j.invariant.made d) c.larger-top.ensures.own
+          (omega (arith, c.larger-top.ensures.other, ap unsigned_abs (c.in_ok-number.ensures d)));
     }
 
 pub returns : goal.returns

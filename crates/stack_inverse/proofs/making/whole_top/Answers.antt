@@ -23,10 +23,10 @@ returns g c =
     record {
       top = unsigned_abs (v c.args.top);
       each = λ r l. c.requires.topped r (omega (arith, l, c.requires.width));
-      right = subst (λ (z : ℤ). unsigned_abs z ≤ unsigned_abs (v c.wider.result)) (sym read) c.wider.ensures.other;
+      right = subst (λ (z : ℤ). unsigned_abs z ≤ unsigned_abs (v c.larger.result)) (sym read) c.larger.ensures.other;
       sum = within _ _ (unsigned_abs (v c.in_ok-combined.combined)) (unsigned_abs (v c.in_ok-own.own))
-          (unsigned_abs (v c.in_ok-both.both)) (unsigned_abs (v c.wider.result))
+          (unsigned_abs (v c.in_ok-both.both)) (unsigned_abs (v c.larger.result))
           (ap unsigned_abs c.in_ok-combined.ensures ∙ unsigned_abs-mul (v c.args.top) (v f.top))
           (ap unsigned_abs c.in_ok-own.ensures ∙ unsigned_abs-mul (v c.args.under) (v c.args.own_top))
-          c.in_ok-both.ensures c.wider.ensures.own;
+          c.in_ok-both.ensures c.larger.ensures.own;
     }

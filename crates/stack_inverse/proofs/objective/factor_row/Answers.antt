@@ -24,30 +24,30 @@ row_before o r m n h e l = omega (arith, row_within o r m n h e l)
 pub copy_from_slice-requires : goal.copy_from_slice-requires
 copy_from_slice-requires g c =
     let r = c.in-Some.r in
-    let m = c.args.plain.now.first.rows in
+    let m = c.args.given.now.first.rows in
     let lt : r < m = subst (λ (o : Option ℕ). IfSome o (λ r. r < m)) c.in-Some.is c.requires.row_in in
     c.requires.width ∙ sym (ap length c.as_slice.ensures.value
     ∙ ap (λ (s : RowSeen g.row.T.Denot). length s.numbers) (seen_index c.args.rows.now r c.index-rows-r-in-Some.result
-    (omega (arith, lt, c.requires.height)) c.index-rows-r-in-Some.is) ∙ c.requires.wide r (omega (arith, lt)))
+    (omega (arith, lt, c.requires.height)) c.index-rows-r-in-Some.is) ∙ c.requires.widths r (omega (arith, lt)))
 
 pub bounds-rows-r : goal.bounds-rows-r
 bounds-rows-r g c =
-    row_within c.args.row c.in-Some.r c.args.plain.now.first.rows (length c.args.rows.now) c.requires.row_in
+    row_within c.args.row c.in-Some.r c.args.given.now.first.rows (length c.args.rows.now) c.requires.row_in
     c.in-Some.is c.requires.height
 
 pub bounds-rows-r-in-Some : goal.bounds-rows-r-in-Some
 bounds-rows-r-in-Some g c =
-    row_within c.args.row c.in-Some.r c.args.plain.now.first.rows (length c.args.rows.now) c.requires.row_in
+    row_within c.args.row c.in-Some.r c.args.given.now.first.rows (length c.args.rows.now) c.requires.row_in
     c.in-Some.is c.requires.height
 
 pub bounds-rows-r-in_ok-cell-in-Some : goal.bounds-rows-r-in_ok-cell-in-Some
 bounds-rows-r-in_ok-cell-in-Some g c =
-    row_within c.args.row c.in-Some.r c.args.plain.now.first.rows (length c.args.rows.now) c.requires.row_in
+    row_within c.args.row c.in-Some.r c.args.given.now.first.rows (length c.args.rows.now) c.requires.row_in
     c.in-Some.is c.requires.height
 
 pub bounds-rows-r-in_ok-cell-in-Some-2 : goal.bounds-rows-r-in_ok-cell-in-Some-2
 bounds-rows-r-in_ok-cell-in-Some-2 g c x =
-    row_within c.args.row c.in-Some.r c.args.plain.now.first.rows (length c.args.rows.now) c.requires.row_in
+    row_within c.args.row c.in-Some.r c.args.given.now.first.rows (length c.args.rows.now) c.requires.row_in
     c.in-Some.is c.requires.height
 
 pub returns-then-not-is_zero-clause-positive : goal.returns-then-not-is_zero-clause-positive
@@ -67,7 +67,7 @@ returns-else-not-is_zero-clause-positive g c =
 pub returns-else-not-is_zero-clause-ok : goal.returns-else-not-is_zero-clause-ok
 returns-else-not-is_zero-clause-ok g c =
     let v = g.T.RowNumber.value in
-    let p = c.args.plain.now in
+    let p = c.args.given.now in
     let rows = c.args.rows.now in
     let r = c.in-Some.r in
     let k = c.args.column in
@@ -96,22 +96,22 @@ returns-in_ok-one-in-None-clause-positive g c = subst (λ z. pos 0 <ℤ z) (sym 
 pub returns-in_ok-one-in-None-clause-ok : goal.returns-in_ok-one-in-None-clause-ok
 returns-in_ok-one-in-None-clause-ok g c =
     let v = g.T.RowNumber.value in
-    let p = c.args.plain.now in
+    let p = c.args.given.now in
     subst (λ (o : Option ℕ). IsFactorRow v p.first.rows p.first.columns.items p.own.items (seen_at c.args.rows.now)
     c.args.column o c.clear_row.new.row (v c.in_ok-one-in-None.one)) (sym c.in-None.is)
     (c.clear_row.ensures, c.in_ok-one-in-None.ensures)
 
 pub offset_bounds-rows-r : goal.offset_bounds-rows-r
 offset_bounds-rows-r g c =
-    row_before c.args.row c.in-Some.r c.args.plain.now.first.rows (length c.args.rows.now) c.requires.row_in
+    row_before c.args.row c.in-Some.r c.args.given.now.first.rows (length c.args.rows.now) c.requires.row_in
     c.in-Some.is c.requires.height
 
 pub offset_bounds-rows-r-in-Some : goal.offset_bounds-rows-r-in-Some
 offset_bounds-rows-r-in-Some g c =
-    row_before c.args.row c.in-Some.r c.args.plain.now.first.rows (length c.args.rows.now) c.requires.row_in
+    row_before c.args.row c.in-Some.r c.args.given.now.first.rows (length c.args.rows.now) c.requires.row_in
     c.in-Some.is c.requires.height
 
 pub offset_bounds-rows-r-in-Some-2 : goal.offset_bounds-rows-r-in-Some-2
 offset_bounds-rows-r-in-Some-2 g c =
-    row_before c.args.row c.in-Some.r c.args.plain.now.first.rows (length c.args.rows.now) c.requires.row_in
+    row_before c.args.row c.in-Some.r c.args.given.now.first.rows (length c.args.rows.now) c.requires.row_in
     c.in-Some.is c.requires.height

@@ -9,16 +9,16 @@ use Rattle.stack_inverse.proofs.pivoting.divide.Goals as goal
 pub returns-clause-pivot : goal.returns-clause-pivot
 returns-clause-pivot g c =
     let v = g.T.RowNumber.value in
-    let f = c.args.plain.now.first in
+    let f = c.args.given.now.first in
     let q = c.args.pivot.now in
     let under = v c.in_ok-under.under in
     let copied = c.copy_from_slice.auto.self ∙ ap length c.as_mut_slice.ensures.value in
     let first = with_items_is q.numbers c.copy_from_slice.new.self (copied ∙ sym q.numbers.ok.0) in
-    let settled = c.settle.auto.numbers ∙ ap length c.as_mut_slice-2.ensures.value in
-    let new = with_items_is (with_items q.numbers c.copy_from_slice.new.self) c.settle.new.numbers
-    (settled ∙ sym (with_items q.numbers c.copy_from_slice.new.self).ok.0) in
+    let cancelled = c.cancel.auto.numbers ∙ ap length c.as_mut_slice-2.ensures.value in
+    let new = with_items_is (with_items q.numbers c.copy_from_slice.new.self) c.cancel.new.numbers
+    (cancelled ∙ sym (with_items q.numbers c.copy_from_slice.new.self).ok.0) in
     record {
-      width = ap length new ∙ settled ∙ ap length first ∙ copied ∙ c.requires.room;
+      width = ap length new ∙ cancelled ∙ ap length first ∙ copied ∙ c.requires.room;
       positive = c.in_ok-under.ensures.positive;
       jumps = subst₂ (λ (xs : List g.row.T.Denot) (js : List ℕ). AreJumps v xs js) c.as_slice-4.ensures.value
           (sym (with_items_is q.jumps c.find_jumps.new.jumps (c.find_jumps.auto.jumps
@@ -32,20 +32,20 @@ returns-clause-pivot g c =
 pub returns-clause-ok : goal.returns-clause-ok
 returns-clause-ok g c =
     let v = g.T.RowNumber.value in
-    let p = c.args.plain.now in
+    let p = c.args.given.now in
     let f = p.first in
     let q = c.args.pivot.now in
     let r = c.args.row.now in
     let under = c.in_ok-under.under in
     let copied = c.copy_from_slice.auto.self ∙ ap length c.as_mut_slice.ensures.value in
     let first = with_items_is q.numbers c.copy_from_slice.new.self (copied ∙ sym q.numbers.ok.0) in
-    let settled = c.settle.auto.numbers ∙ ap length c.as_mut_slice-2.ensures.value in
-    let new = with_items_is (with_items q.numbers c.copy_from_slice.new.self) c.settle.new.numbers
-    (settled ∙ sym (with_items q.numbers c.copy_from_slice.new.self).ok.0) in
+    let cancelled = c.cancel.auto.numbers ∙ ap length c.as_mut_slice-2.ensures.value in
+    let new = with_items_is (with_items q.numbers c.copy_from_slice.new.self) c.cancel.new.numbers
+    (cancelled ∙ sym (with_items q.numbers c.copy_from_slice.new.self).ok.0) in
     pivot_row v f.rows f.columns.items g.T.RowNumber.MAX g.met.T.RowNumber.fits_law p.own.items r.numbers.items
     (v r.under)
     r.positive c.args.r c.args.column c.requires.row_in
-    (with_items (with_items q.numbers c.copy_from_slice.new.self) c.settle.new.numbers).items c.args.factor under
+    (with_items (with_items q.numbers c.copy_from_slice.new.self) c.cancel.new.numbers).items c.args.factor under
     c.in_ok-whole_top.whole_top c.requires.factor c.requires.some
     (subst₂ (λ (xs ys : List g.row.T.Denot). IsSameRow v xs (v c.args.factor) ys (v under))
     (c.as_mut_slice-2.ensures.value ∙ first ∙ c.copy_from_slice.ensures.after ∙ c.as_slice.ensures.value) (sym new)

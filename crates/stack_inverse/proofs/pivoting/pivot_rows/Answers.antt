@@ -3,7 +3,7 @@ use Rattle.stack_rows.proofs.Numbers.{at-index}
 use Rattle.stack_inverse.specs.RowBlock.{IsTopped, IsDividedRow, IsPivotedCells, AreMarked}
 use Rattle.stack_inverse.specs.Columns.{RowSeen, IsPut}
 use Rattle.stack_inverse.specs.RowsSeen.{seen_at, number_in_row, cell_in_row, pivot_cell, columns_of, cells_of_rows}
-use Rattle.stack_inverse.proofs.PutRow.{seen_index, seen_past, wide_put}
+use Rattle.stack_inverse.proofs.PutRow.{seen_index, seen_past, widths_put}
 use Rattle.stack_inverse.proofs.PivotedRows.{refused, pivoted}
 use Rattle.stack_inverse.proofs.pivoting.pivot_rows.Goals as goal
 use Rattle.stack_inverse.proofs.pivoting.pivot_rows.Goals.{In-Some, After-put_row}
@@ -17,7 +17,7 @@ bounds-entered-row g c = omega (arith, c.requires.row_in, c.requires.long)
 pub divide-requires : goal.divide-requires
 divide-requires g c =
     let v = g.T.RowNumber.value in
-    let p = c.args.plain.now in
+    let p = c.args.given.now in
     let rows = c.args.rows.now in
     let r = c.args.row in
     let seen = seen_index rows r c.index-rows-row.result (omega (arith, c.requires.row_in, c.requires.height))
@@ -28,7 +28,7 @@ divide-requires g c =
     ∙ c.requires.entered r (omega (arith, c.requires.row_in)) in
     record {
       width = ap (λ (s : RowSeen g.row.T.Denot). length s.numbers) seen
-          ∙ c.requires.wide r (omega (arith, c.requires.row_in));
+          ∙ c.requires.widths r (omega (arith, c.requires.row_in));
       room = c.requires.room;
       row_in = c.requires.row_in;
       factor = factor ∙ sym (ap (λ (s : RowSeen g.row.T.Denot). number_in_row p s r c.args.column) seen);
@@ -38,7 +38,7 @@ divide-requires g c =
 pub reduce_others-requires : goal.reduce_others-requires
 reduce_others-requires g c = record {
   height = c.requires.height;
-  wide = c.requires.wide;
+  widths = c.requires.widths;
   pivot = c.in-Some.ensures.pivot;
   long = c.requires.long;
   entered = c.requires.entered;
@@ -52,15 +52,15 @@ put_row-requires g c =
     let is = c.in-Some.ensures.pivot in
     record {
       row_in = omega (arith, c.requires.row_in, c.reduce_others.auto.rows, c.requires.height);
-      width = c.reduce_others.ensures.wide c.args.row (omega (arith, c.requires.row_in))
+      width = c.reduce_others.ensures.widths c.args.row (omega (arith, c.requires.row_in))
           ∙ sym (ap length c.as_slice.ensures.value ∙ is.width);
       under = is.positive;
       topped = λ _. subst (λ (xs : List g.row.T.Denot). IsTopped v xs (unsigned_abs top))
           (sym c.as_slice.ensures.value) is.topped;
     }
 
-pub returns-in-None-clause-wide : goal.returns-in-None-clause-wide
-returns-in-None-clause-wide g c = c.requires.wide
+pub returns-in-None-clause-widths : goal.returns-in-None-clause-widths
+returns-in-None-clause-widths g c = c.requires.widths
 
 pub returns-in-None-clause-room : goal.returns-in-None-clause-room
 returns-in-None-clause-room g c = c.divide.ensures.room
@@ -68,8 +68,8 @@ returns-in-None-clause-room g c = c.divide.ensures.room
 pub returns-in-None-clause-marked : goal.returns-in-None-clause-marked
 returns-in-None-clause-marked g c = c.requires.marked
 
-pub returns-in-Err-clause-wide : goal.returns-in-Err-clause-wide
-returns-in-Err-clause-wide g c = c.reduce_others.ensures.wide
+pub returns-in-Err-clause-widths : goal.returns-in-Err-clause-widths
+returns-in-Err-clause-widths g c = c.reduce_others.ensures.widths
 
 pub returns-in-Err-clause-room : goal.returns-in-Err-clause-room
 returns-in-Err-clause-room g c = c.divide.ensures.room
@@ -80,31 +80,31 @@ returns-in-Err-clause-marked g c = c.reduce_others.ensures.marked
 pub returns-in-Ok-clause-room : goal.returns-in-Ok-clause-room
 returns-in-Ok-clause-room g c = c.divide.ensures.room
 
-pub returns-in-Ok-clause-wide : goal.returns-in-Ok-clause-wide
-returns-in-Ok-clause-wide g c =
-    wide_put c.args.plain.now.first.rows (seen_at c.reduce_others.new.rows) (seen_at c.put_row.new.rows) c.args.row
+pub returns-in-Ok-clause-widths : goal.returns-in-Ok-clause-widths
+returns-in-Ok-clause-widths g c =
+    widths_put c.args.given.now.first.rows (seen_at c.reduce_others.new.rows) (seen_at c.put_row.new.rows) c.args.row
     c.as_slice.result.now (g.T.RowNumber.value c.divide.new.pivot.under) true c.put_row.ensures
-    (ap length c.as_slice.ensures.value ∙ c.in-Some.ensures.pivot.width) c.reduce_others.ensures.wide
+    (ap length c.as_slice.ensures.value ∙ c.in-Some.ensures.pivot.width) c.reduce_others.ensures.widths
 
 -- the pivot row as its cells were divided
 divided : (g : _) (c : In-Some g) → IsDividedRow g.T.RowNumber.MAX
-    (cell_in_row c.args.plain.now (seen_at c.args.rows.now c.args.row) c.args.row) c.args.column
-    (pivot_cell c.args.plain.now c.divide.new.pivot)
+    (cell_in_row c.args.given.now (seen_at c.args.rows.now c.args.row) c.args.row) c.args.column
+    (pivot_cell c.args.given.now c.divide.new.pivot)
 divided g c = subst (λ (x : RowSeen g.row.T.Denot). IsDividedRow g.T.RowNumber.MAX
-    (cell_in_row c.args.plain.now x c.args.row) c.args.column (pivot_cell c.args.plain.now c.divide.new.pivot))
+    (cell_in_row c.args.given.now x c.args.row) c.args.column (pivot_cell c.args.given.now c.divide.new.pivot))
     (seen_index c.args.rows.now c.args.row c.index-rows-row.result (omega (arith, c.requires.row_in, c.requires.height))
     c.index-rows-row.is) c.in-Some.ensures.ok
 
 both : (g : _) (c : After-put_row g) → IsDividedRow g.T.RowNumber.MAX
-    (cell_in_row c.args.plain.now (seen_at c.args.rows.now c.args.row) c.args.row) c.args.column
-    (pivot_cell c.args.plain.now c.divide.new.pivot) →
-    IsPivotedCells g.T.RowNumber.MAX (suc c.args.plain.now.first.rows) (columns_of c.args.plain.now)
-    (cells_of_rows c.args.plain.now c.args.rows.now) c.args.row c.args.column
-    (cells_of_rows c.args.plain.now c.put_row.new.rows)
-    × AreMarked g.T.RowNumber.MAX (cells_of_rows c.args.plain.now c.put_row.new.rows) (seen_at c.put_row.new.rows)
+    (cell_in_row c.args.given.now (seen_at c.args.rows.now c.args.row) c.args.row) c.args.column
+    (pivot_cell c.args.given.now c.divide.new.pivot) →
+    IsPivotedCells g.T.RowNumber.MAX (suc c.args.given.now.first.rows) (columns_of c.args.given.now)
+    (cells_of_rows c.args.given.now c.args.rows.now) c.args.row c.args.column
+    (cells_of_rows c.args.given.now c.put_row.new.rows)
+    × AreMarked g.T.RowNumber.MAX (cells_of_rows c.args.given.now c.put_row.new.rows) (seen_at c.put_row.new.rows)
 both g c d =
     let v = g.T.RowNumber.value in
-    let p = c.args.plain.now in
+    let p = c.args.given.now in
     let f = p.first in
     let q = c.divide.new.pivot in
     pivoted v f.rows f.columns.items p.own.items g.T.RowNumber.MAX g.met.T.RowNumber.max_law (seen_at c.args.rows.now)
@@ -126,7 +126,7 @@ returns-in-Ok-clause-ok g c = let p = goal.at.returns-in-Ok-clause-ok g c in
 pub returns-in-Err-clause-refused : goal.returns-in-Err-clause-refused
 returns-in-Err-clause-refused g c =
     let v = g.T.RowNumber.value in
-    let p = c.args.plain.now in
+    let p = c.args.given.now in
     let f = p.first in
     let q = c.divide.new.pivot in
     refused v f.rows f.columns.items p.own.items g.T.RowNumber.MAX g.met.T.RowNumber.max_law (seen_at c.args.rows.now)

@@ -7,12 +7,12 @@ use Rattle.stack_inverse.specs.CellSteps.{TellsSpot}
 use Rattle.stack_inverse.specs.Columns.{RowSeen}
 use Rattle.stack_inverse.specs.RowsSeen.{seen_of, seen_at, number_in_row, cell_in_row, cells_of_rows, columns_of}
 use Rattle.stack_inverse.specs.RowsSeen.{pivot_cell}
-use Rattle.stack_inverse.proofs.PutRow.{seen_index, wide_set, done_set, left_set, marked_set}
+use Rattle.stack_inverse.proofs.PutRow.{seen_index, widths_set, done_set, left_set, marked_set}
 use Rattle.stack_inverse.proofs.pivoting.reduce_others.Goals as goal
 
 pub loop-i-preserved-then-i-row : goal.loop-i-preserved-then-i-row
 loop-i-preserved-then-i-row g c = record {
-  wide = c.loop-i.invariant.wide;
+  widths = c.loop-i.invariant.widths;
   left = λ k l. c.loop-i.invariant.left k (omega (arith, l));
   marked = c.loop-i.invariant.marked;
   done = λ k l d. c.loop-i.invariant.done k (omega (arith, l, d, c.if-i-row.true)) d;
@@ -24,12 +24,12 @@ reduce-requires-clause-width g c =
     omega (arith, c.loop-i-test.true, c.loop-i.auto.rows, c.loop-i.auto.i-end) in
     ap (λ (s : RowSeen g.row.T.Denot). length s.numbers)
     (seen_index c.loop-i.rows c.loop-i.i c.index-rows-i.result lt c.index-rows-i.is)
-    ∙ c.loop-i.invariant.wide c.loop-i.i (omega (arith, lt, c.loop-i.auto.rows, c.requires.height))
+    ∙ c.loop-i.invariant.widths c.loop-i.i (omega (arith, lt, c.loop-i.auto.rows, c.requires.height))
 
 pub loop-i-preserved : goal.loop-i-preserved
 loop-i-preserved g c =
     let v = g.T.RowNumber.value in
-    let p = c.args.plain.now in
+    let p = c.args.given.now in
     let rows = c.loop-i.rows in
     let i = c.loop-i.i in
     let x = c.index-rows-i.result in
@@ -49,9 +49,9 @@ loop-i-preserved g c =
     (subst (λ (s : RowSeen g.row.T.Denot). s.fits ≡ true → AllNumbersFit m (cell_in_row p s i)) (sym seen)
     (c.loop-i.invariant.marked i)) in
     record {
-      wide = wide_set rows i new lt p.first.rows c.loop-i.invariant.wide (c.reduce.ensures.width
+      widths = widths_set rows i new lt p.first.rows c.loop-i.invariant.widths (c.reduce.ensures.width
           ∙ ap (λ (s : RowSeen g.row.T.Denot). length s.numbers) seen
-          ∙ c.loop-i.invariant.wide i (omega (arith, in_height)));
+          ∙ c.loop-i.invariant.widths i (omega (arith, in_height)));
       left = left_set rows i new lt (seen_at c.args.rows.now) c.loop-i.invariant.left;
       marked = marked_set rows i new lt m (λ (k : ℕ) (s : RowSeen g.row.T.Denot). cell_in_row p s k)
           c.loop-i.invariant.marked (λ _. here.fits);
@@ -62,19 +62,19 @@ loop-i-preserved g c =
           c.args.column (cell_in_row p (seen_of new) i)) e here) k l d;
     }
 
-pub returns-in-Err-clause-wide : goal.returns-in-Err-clause-wide
-returns-in-Err-clause-wide g c =
+pub returns-in-Err-clause-widths : goal.returns-in-Err-clause-widths
+returns-in-Err-clause-widths g c =
     let rows = c.loop-i.rows in
     let i = c.loop-i.i in
-    let m = c.args.plain.now.first.rows in
+    let m = c.args.given.now.first.rows in
     let lt : i < length rows = omega (arith, c.loop-i-test.true, c.loop-i.auto.rows, c.loop-i.auto.i-end) in
-    wide_set rows i c.reduce.new.row lt m c.loop-i.invariant.wide (c.reduce.ensures.width
+    widths_set rows i c.reduce.new.row lt m c.loop-i.invariant.widths (c.reduce.ensures.width
     ∙ ap (λ (s : RowSeen g.row.T.Denot). length s.numbers) (seen_index rows i c.index-rows-i.result lt
-    c.index-rows-i.is) ∙ c.loop-i.invariant.wide i (omega (arith, lt, c.loop-i.auto.rows, c.requires.height)))
+    c.index-rows-i.is) ∙ c.loop-i.invariant.widths i (omega (arith, lt, c.loop-i.auto.rows, c.requires.height)))
 
 pub returns-in-Err-clause-marked : goal.returns-in-Err-clause-marked
 returns-in-Err-clause-marked g c =
-    let p = c.args.plain.now in
+    let p = c.args.given.now in
     let rows = c.loop-i.rows in
     let i = c.loop-i.i in
     let lt : i < length rows = omega (arith, c.loop-i-test.true, c.loop-i.auto.rows, c.loop-i.auto.i-end) in
@@ -84,7 +84,7 @@ returns-in-Err-clause-marked g c =
 pub returns-in-Err-clause-refused : goal.returns-in-Err-clause-refused
 returns-in-Err-clause-refused g c =
     let v = g.T.RowNumber.value in
-    let p = c.args.plain.now in
+    let p = c.args.given.now in
     let rows = c.loop-i.rows in
     let i = c.loop-i.i in
     let x = c.index-rows-i.result in
@@ -104,7 +104,7 @@ returns-in-Err-clause-refused g c =
         before = λ k l d. (c.loop-i.invariant.done k l d).none;
         here = subst (λ (s : RowSeen g.row.T.Denot). TellsSpot c.in-Err.e (reduce_spot ordered_fractions
             (is_too_wide g.T.RowNumber.MAX) (columns_of p) (cell_in_row p s i) (pivot_cell p c.args.pivot.now)
-            (cell_in_row p s i c.args.column) i)) e (c.in-Err.ensures.wide c.args.column factor);
+            (cell_in_row p s i c.args.column) i)) e (c.in-Err.ensures.refused c.args.column factor);
       },
     )
 

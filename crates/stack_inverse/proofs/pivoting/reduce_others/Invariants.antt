@@ -1,16 +1,16 @@
 use Rattle.std.proofs.Common.{◌≡◌, ◌≢◌, ℕ, ◌<◌, ◌≤◌}
 use Rattle.stack_inverse.specs.RowBlock.{IsReducedRow, AreMarked}
-use Rattle.stack_inverse.specs.Columns.{AreWide}
+use Rattle.stack_inverse.specs.Columns.{HaveWidths}
 use Rattle.stack_inverse.specs.RowsSeen.{seen_at, cells_of_rows, cell_in_row, columns_of, pivot_cell}
 use Rattle.stack_inverse.proofs.pivoting.reduce_others.Given as goal
 
 -- the rows before row i are reduced, but for the pivot row; the others are as they were
 abbrev pub invariant-loop-i : goal.invariant-loop-i
 invariant-loop-i g l = record {
-  wide : AreWide l.plain.first.rows (seen_at l.rows);
+  widths : HaveWidths l.given.first.rows (seen_at l.rows);
   left : (k : ℕ) → l.i ≤ k → seen_at l.rows k ≡ seen_at l.fn.rows k;
-  marked : AreMarked g.T.RowNumber.MAX (cells_of_rows l.plain l.rows) (seen_at l.rows);
-  done : (k : ℕ) → k < l.i → (k ≢ l.row) → IsReducedRow g.T.RowNumber.MAX (columns_of l.plain)
-      (cells_of_rows l.plain l.fn.rows k) (pivot_cell l.plain l.pivot) k l.column
-      (cell_in_row l.plain (seen_at l.rows k) k);
+  marked : AreMarked g.T.RowNumber.MAX (cells_of_rows l.given l.rows) (seen_at l.rows);
+  done : (k : ℕ) → k < l.i → (k ≢ l.row) → IsReducedRow g.T.RowNumber.MAX (columns_of l.given)
+      (cells_of_rows l.given l.fn.rows k) (pivot_cell l.given l.pivot) k l.column
+      (cell_in_row l.given (seen_at l.rows k) k);
 }

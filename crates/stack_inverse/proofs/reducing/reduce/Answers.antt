@@ -8,7 +8,7 @@ use Rattle.stack_inverse.proofs.reducing.reduce.Goals as goal
 pub returns-then-stays-clause-ok : goal.returns-then-stays-clause-ok
 returns-then-stays-clause-ok g c = λ column hf hm.
     let v = g.T.RowNumber.value in
-    let p = c.args.plain.now in
+    let p = c.args.given.now in
     let f = p.first in
     let r = c.args.row.now in
     row_stays v f.rows f.columns.items g.T.RowNumber.MAX (revised_own v f.rows p.own.items c.args.i) r.numbers.items

@@ -25,7 +25,7 @@ step_by_tops-requires-clause-step g c = λ n.
 pub step_by_tops-requires-clause-ready : goal.step_by_tops-requires-clause-ready
 step_by_tops-requires-clause-ready g c =
     let v = g.T.RowNumber.value in
-    let f = c.args.plain.now.first in
+    let f = c.args.given.now.first in
     let r = c.args.row.now in
     let q = c.args.pivot.now in
     let s = c.in-Some-ready_for.ready in
@@ -37,7 +37,7 @@ step_by_tops-requires-clause-ready g c =
 pub returns-in-Some-step_by_tops-clause-ok : goal.returns-in-Some-step_by_tops-clause-ok
 returns-in-Some-step_by_tops-clause-ok g c = λ column hf.
     let v = g.T.RowNumber.value in
-    let p = c.args.plain.now in
+    let p = c.args.given.now in
     let f = p.first in
     let r = c.args.row.now in
     let q = c.args.pivot.now in
@@ -58,7 +58,7 @@ pub returns-in-None-ready_for-clause-ok : goal.returns-in-None-ready_for-clause-
 returns-in-None-ready_for-clause-ok g c =
     let v = g.T.RowNumber.value in
     let m = g.T.RowNumber.MAX in
-    let p = c.args.plain.now in
+    let p = c.args.given.now in
     let f = p.first in
     let r = c.args.row.now in
     let q = c.args.pivot.now in
@@ -76,11 +76,11 @@ returns-in-None-ready_for-clause-ok g c =
     c.requires.pivot.positive (g.met.T.RowNumber.fits_law new.under) hf x n)
     c.step_by_cells.ensures.ok c.step_by_cells.ensures.none
 
-pub returns-in-None-ready_for-clause-wide : goal.returns-in-None-ready_for-clause-wide
-returns-in-None-ready_for-clause-wide g c =
+pub returns-in-None-ready_for-clause-refused : goal.returns-in-None-ready_for-clause-refused
+returns-in-None-ready_for-clause-refused g c =
     let v = g.T.RowNumber.value in
     let m = g.T.RowNumber.MAX in
-    let p = c.args.plain.now in
+    let p = c.args.given.now in
     let r = c.args.row.now in
     let q = c.args.pivot.now in
     let i = c.args.i in
@@ -93,4 +93,4 @@ returns-in-None-ready_for-clause-wide g c =
     (cell_in_row p (seen_of r) i column) i))
     (λ e t. λ column hf. subst (λ (x : Fraction). TellsSpot e (reduce_spot ordered_fractions (is_too_wide m)
     (columns_of p) (cell_in_row p (seen_of r) i) (pivot_cell p q) x i)) (ap (λ z. over z (v r.under)) hf) t)
-    c.step_by_cells.ensures.wide
+    c.step_by_cells.ensures.refused

@@ -1,4 +1,4 @@
-use Rattle.std.proofs.Common.{refl, sym, subst, ◌≤◌}
+use Rattle.std.proofs.Common.{refl, sym}
 use Rattle.stack_certificate.specs.Certificate.{certificate_view}
 use Rattle.stack_tableau.specs.EndKinds.{end_at}
 use Rattle.stack_judge.proofs.TrueAnswers.{judged}
@@ -14,8 +14,7 @@ unreachable-requires g c = c.in-Rejected.ensures.rejected tt
 pub returns-in-Accepted-clause-judged : goal.returns-in-Accepted-clause-judged
 returns-in-Accepted-clause-judged g c q h = judged c.certified_laws.ensures.certified q c.args.s.now
     (end_at c.args.kind (g.L.LastTable.table c.args.t.now)) (certificate_view c.in-Ok.certificate) c.proper.ensures
-    c.bearings-bearings.ensures.survey.few (subst (λ n. n ≤ 128) c.free_count-free.ensures.value
-    c.free_count-free.ensures.few) h.run (c.in-Ok.ensures q h).0 (c.in-Ok.ensures q h).1
+    c.within.ensures.survey.few c.within.ensures.free h.run (c.in-Ok.ensures q h).0 (c.in-Ok.ensures q h).1
     (sym c.in-Accepted.ensures.written)
     (record {
       stand = c.in-Accepted.ensures.stand refl;

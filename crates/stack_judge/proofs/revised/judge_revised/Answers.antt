@@ -19,15 +19,15 @@ returns-in-Ok-AtNarrow-clause-judges c =
     (sym (ap shape_of_end c.in-Ok-AtNarrow.field-0-is) ∙ c.in-Ok-AtNarrow.ensures.shape)
     (sym (ap flips_of_end c.in-Ok-AtNarrow.field-0-is) ∙ c.in-Ok-AtNarrow.ensures.flips) value))
 
-pub returns-in-Ok-AtWide-clause-judges : goal.returns-in-Ok-AtWide-clause-judges
-returns-in-Ok-AtWide-clause-judges c =
-    let last = c.in-Ok-AtWide.last in
-    let value = sym (ap value_of_end c.in-Ok-AtWide.field-0-is) ∙ c.in-Ok-AtWide.ensures.value in
+pub returns-in-Ok-AtBroad-clause-judges : goal.returns-in-Ok-AtBroad-clause-judges
+returns-in-Ok-AtBroad-clause-judges c =
+    let last = c.in-Ok-AtBroad.last in
+    let value = sym (ap value_of_end c.in-Ok-AtBroad.field-0-is) ∙ c.in-Ok-AtBroad.ensures.value in
     end_judges c.args.q c.args.s.now c.args.budget last.kind (table_of_revised last.table)
-    c.certify_last-in-Ok-AtWide.result c.requires.live
+    c.certify_last-in-Ok-AtBroad.result c.requires.live
     (ends_survey c.args.q c.args.s.now c.args.budget c.in-Ok.problem c.in-Ok.ensures.problem (value_of_last last) value)
-    (c.certify_last-in-Ok-AtWide.ensures.gives c.args.q
+    (c.certify_last-in-Ok-AtBroad.ensures.gives c.args.q
     (last_of_revised c.args.q c.args.s.now c.args.budget c.in-Ok.problem c.in-Ok.ensures.problem
     (shape_of_last last) (flips_of_last last) (value_of_last last)
-    (sym (ap shape_of_end c.in-Ok-AtWide.field-0-is) ∙ c.in-Ok-AtWide.ensures.shape)
-    (sym (ap flips_of_end c.in-Ok-AtWide.field-0-is) ∙ c.in-Ok-AtWide.ensures.flips) value))
+    (sym (ap shape_of_end c.in-Ok-AtBroad.field-0-is) ∙ c.in-Ok-AtBroad.ensures.shape)
+    (sym (ap flips_of_end c.in-Ok-AtBroad.field-0-is) ∙ c.in-Ok-AtBroad.ensures.flips) value))

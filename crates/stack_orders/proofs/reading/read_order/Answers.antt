@@ -6,7 +6,7 @@ use Rattle.stack_orders.proofs.reading.read_order.Goals as goal
 pub returns-in-None : goal.returns-in-None
 returns-in-None c =
     let s = c.args.m.now in
-    let h = c.bodies-sound.ensures.sound.different_bodies in
+    let h = c.sound.ensures.different_bodies in
     let ns = c.loop-rest.order.items in
     let line = c.cut_line.result.0.now in
     let none = sym c.in-None.ensures in
@@ -18,7 +18,7 @@ returns-in-None c =
 pub returns : goal.returns
 returns c =
     let s = c.args.m.now in
-    let h = c.bodies-sound.ensures.sound.different_bodies in
+    let h = c.sound.ensures.different_bodies in
     let none : length c.loop-rest.rest.now ≡ 0 = search rules in
     answered s h c.args.text.now (Ok c.loop-rest.order.items) (closed s h c.loop-rest.order.items c.args.text.now
     c.loop-rest.rest.now c.loop-rest.invariant.0 none)

@@ -1,5 +1,6 @@
 use Rattle.std.proofs.Common.{◌≡◌, ℕ, ◌≤◌, pos, [], ◌∷◌, map, length, refl, ap, sym, ◌∙◌, subst, arith, w64, to_z}
 use Rattle.std.proofs.lemmas.Int.{to_z_pos}
+use Rattle.stack_whole.specs.Limits.{most_free}
 use Rattle.stack_model.specs.Raw.{raw_material, raw_block, raw_load}
 use Rattle.stack_model.specs.Content.{content_of}
 use Rattle.stack_model.specs.Relisted.{material_listed}
@@ -20,7 +21,7 @@ pub blocks-requires : goal.blocks-requires
 blocks-requires c =
     let bricks : c.deref-2.result.now ≡ bricks_of (courses_of c.args.w) = c.deref-2.ensures.value
     ∙ c.in_ok-bricks.ensures ∙ ap bricks_of (c.deref.ensures.value ∙ c.in_ok-rows.ensures) in
-    subst (λ bricks. length bricks ≤ 128) (sym bricks) (wall_laid c.args.w c.requires).few
+    subst (λ bricks. length bricks ≤ most_free) (sym bricks) (wall_laid c.args.w c.requires).few
 
 -- the friction as it is passed
 friction : (t : ℕ) → t ≤ 7 → material_listed (brick_material (to_z w64 t) (pos 10)) ∷ []

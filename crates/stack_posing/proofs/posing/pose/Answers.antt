@@ -11,7 +11,7 @@ pub returns-clause-condition : goal.returns-clause-condition
 returns-clause-condition c =
     the_condition c.args.s.now c.args.q c.free_count.result c.in_ok-contact_columns.field-0
     c.in_ok-factor_column.field-0 c.in_ok-right_sides.field-0 c.free_count.ensures.value c.free_count.ensures.few
-    c.bearings-bearings.ensures.survey.few c.in_ok-contact_columns.ensures c.in_ok-factor_column.ensures
+    c.within.ensures.survey.few c.in_ok-contact_columns.ensures c.in_ok-factor_column.ensures
     c.in_ok-right_sides.ensures.values c.in_ok-right_sides.ensures.small
 
 pub returns-clause-lean : goal.returns-clause-lean

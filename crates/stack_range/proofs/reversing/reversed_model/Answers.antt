@@ -8,4 +8,4 @@ pub with_loads-requires : goal.with_loads-requires
 with_loads-requires c = subst₂ (MayBear c.args.model.now)
     (sym (c.as_slice.ensures.value ∙ c.in_ok-loads.ensures))
     (sym (c.reversed_sway.ensures ∙ ap reversed_sway c.sway.ensures.value))
-    (may_bear_reversed c.args.model.now c.bodies-bodies.ensures.sound)
+    (may_bear_reversed c.args.model.now c.sound.ensures)

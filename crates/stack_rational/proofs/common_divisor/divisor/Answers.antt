@@ -1,6 +1,6 @@
 use Rattle.std.proofs.Common.{◌≡◌, ap, ◌∙◌, nat_abs}
 use Rattle.std.proofs.lemmas.Nat.Gcd.{IsGcd-swap}
-use Rattle.stack_rational.proofs.AtWide.{recast}
+use Rattle.stack_rational.proofs.AtBroad.{recast}
 use Rattle.stack_rational.proofs.Divisors.{some_size, some_gcd, none_fits, one_gcd}
 use Rattle.stack_rational.proofs.common_divisor.divisor.Goals as goal
 use Rattle.stack_rational.proofs.common_divisor.divisor.Goals.{After-divisor_of-g}
@@ -8,12 +8,12 @@ use Rattle.stack_rational.proofs.common_divisor.divisor.Goals.{After-divisor_of-
 -- the sizes of both numbers at 128 bits
 size_a : (g : _) (c : After-divisor_of-g g) → c.unsigned_abs.result ≡ nat_abs (g.T.Number.value c.args.a)
 size_a g c = c.unsigned_abs.ensures.value
-    ∙ ap nat_abs (recast g.T.Integer.MAX c.as_wide.result _ c.as_wide.ensures c.requires.a
+    ∙ ap nat_abs (recast g.T.Integer.MAX c.as_broad.result _ c.as_broad.ensures c.requires.a
     (g.met.T.Integer.size_law g.met.T.Integral.exact_law).1)
 
 size_b : (g : _) (c : After-divisor_of-g g) → c.unsigned_abs-2.result ≡ nat_abs (g.T.Number.value c.args.b)
 size_b g c = c.unsigned_abs-2.ensures.value
-    ∙ ap nat_abs (recast g.T.Integer.MAX c.as_wide-2.result _ c.as_wide-2.ensures c.requires.b
+    ∙ ap nat_abs (recast g.T.Integer.MAX c.as_broad-2.result _ c.as_broad-2.ensures c.requires.b
     (g.met.T.Integer.size_law g.met.T.Integral.exact_law).1)
 
 pub returns-in-Some-clause-size : goal.returns-in-Some-clause-size

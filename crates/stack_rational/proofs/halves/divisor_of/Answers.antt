@@ -1,14 +1,21 @@
-use Rattle.std.proofs.Common.{subst, sym, ℕ}
-use Rattle.stack_rational.proofs.Common.{IsGcd}
-use Rattle.std.proofs.lemmas.Nat.Gcd.{IsGcd-from_zero, IsGcd-from_mod}
+use Rattle.std.proofs.Common.{◌^◌, arith}
+use Rattle.std.proofs.lemmas.Nat.Gcd.{IsGcd-swap}
+use Rattle.stack_rational.proofs.OddDivisors.{shifted_divisor}
 use Rattle.stack_rational.proofs.halves.divisor_of.Goals as goal
 
-pub returns-then-y-eq0 : goal.returns-then-y-eq0
-returns-then-y-eq0 c = c.steps.invariant c.steps.x (IsGcd-from_zero c.steps.x c.steps.y c.if-y-eq0.true)
+pub returns-then-left-right : goal.returns-then-left-right
+returns-then-left-right c = shifted_divisor (2 ^ 128) c.args.a c.args.b c.wide_without_twos-left.result.odd
+    c.wide_without_twos-right.result.odd c.wide_without_twos-left.result.twos c.wide_without_twos-right.result.twos
+    c.wide_divisor_of_odd-odd.result
+    (omega (arith, c.if-a-eq0.false)) c.ranges.a.fits c.wide_without_twos-left.ensures.product
+    c.wide_without_twos-right.ensures.product c.wide_without_twos-left.ensures.odd c.if-left-right.true
+    c.wide_divisor_of_odd-odd.ensures
 
-pub steps-preserved : goal.steps-preserved
-steps-preserved c = λ n is. c.steps.invariant n (IsGcd-from_mod c.steps.x c.steps.y n is)
-
-pub returns : goal.returns
-returns c = c.steps.invariant c.from-2.result
-    (subst (λ (n : ℕ). IsGcd c.steps.x c.steps.y n) (sym c.from-2.ensures) c.divisor_of_words.ensures)
+pub returns-else-left-right : goal.returns-else-left-right
+returns-else-left-right c = IsGcd-swap c.args.b c.args.a _
+    (shifted_divisor (2 ^ 128) c.args.b c.args.a c.wide_without_twos-right.result.odd
+    c.wide_without_twos-left.result.odd c.wide_without_twos-right.result.twos c.wide_without_twos-left.result.twos
+    c.wide_divisor_of_odd-odd.result
+    (omega (arith, c.if-b-eq0.false)) c.ranges.b.fits c.wide_without_twos-right.ensures.product
+    c.wide_without_twos-left.ensures.product c.wide_without_twos-right.ensures.odd
+    (omega (arith, c.if-left-right.false)) (IsGcd-swap _ _ _ c.wide_divisor_of_odd-odd.ensures))

@@ -12,7 +12,7 @@ returns-then-is_negative-clause-value g c =
     let r = t.given.first.rows in
     let j = c.loop-j.j in
     let sign = cell_sign (number_in t r j) (under_in t r) (under_positive t.rows.items r)
-    ∙ ap sign_of (ap (λ i. number_in t i j) (sym c.rows-objective.ensures) ∙ sym c.in_ok-number.ensures) in
+    ∙ ap sign_of (ap (λ i. number_in t i j) (sym c.rows-objective.ensures) ∙ sym c.in-Some.ensures) in
     sym (first_found c.args.among j (λ j. only_if (is_negative_sign (sign_of ((table_of_revised t).cell r j).num)) j) j
     c.loop-j-test.true c.loop-j.invariant (ap (λ b. only_if b j)
     (ap is_negative_sign sign ∙ sym c.is_negative.ensures ∙ c.if-is_negative.true)))
@@ -23,7 +23,7 @@ loop-j-preserved g c =
     let r = t.given.first.rows in
     let j = c.loop-j.j in
     let sign = cell_sign (number_in t r j) (under_in t r) (under_positive t.rows.items r)
-    ∙ ap sign_of (ap (λ i. number_in t i j) (sym c.rows-objective.ensures) ∙ sym c.in_ok-number.ensures) in
+    ∙ ap sign_of (ap (λ i. number_in t i j) (sym c.rows-objective.ensures) ∙ sym c.in-Some.ensures) in
     first_more j (λ j. only_if (is_negative_sign (sign_of ((table_of_revised t).cell r j).num)) j) c.loop-j.invariant
     (ap (λ b. only_if b j)
     (ap is_negative_sign sign ∙ sym c.is_negative.ensures ∙ c.if-is_negative.false))

@@ -1,6 +1,5 @@
 use Rattle.std.proofs.Common.{sym, ap, subst, ◌∙◌, ◌+◌, ◌<◌, ◌≤◌, length, map, add-one, [], ◌∷◌}
 use Rattle.std.proofs.lemmas.List.{map-append}
-use Rattle.stack_model.specs.Sound.{IsSound}
 use Rattle.stack_certificate.specs.Certificate.{forces_view, motion_view}
 use Rattle.stack_equilibrium.specs.declared.types.Question.TheVariants.{Dead}
 use Rattle.stack_judge.specs.Judgement.{certified}
@@ -48,8 +47,7 @@ returns-in-Ok-Collapses c =
       gives = r.0;
       refused = tt;
       certified = r.1;
-      settled = settled v (subst IsSound c.model.ensures c.bodies-sound.ensures.sound)
-          c.bearings-known.ensures.survey order (falls fs m) r.1;
+      settled = settled v c.within.ensures.sound c.within.ensures.survey order (falls fs m) r.1;
       printable = r.1.2.fits;
     }
 
@@ -77,7 +75,6 @@ returns c =
       gives = r.0;
       refused = tt;
       certified = r.1;
-      settled = settled c.args.s.now (subst IsSound c.model.ensures c.bodies-sound.ensures.sound)
-          c.bearings-known.ensures.survey c.args.order.now (all_stand fs) r.1;
+      settled = settled c.args.s.now c.within.ensures.sound c.within.ensures.survey c.args.order.now (all_stand fs) r.1;
       printable = tt;
     }

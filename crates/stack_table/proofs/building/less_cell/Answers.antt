@@ -34,15 +34,18 @@ returns-then-marks-at-clause-wide g c = tt
 
 pub returns-clause-ok : goal.returns-clause-ok
 returns-clause-ok g c = subst (λ (y : Fraction). IfOk c.difference.result
-    (λ r. g.S.Exact.exact r ≡ op_value op.Difference (g.S.Exact.exact c.args.sum) y)) (sym (value_at-index g.S.Exact.exact c.args.cells.now c.args.at c.index-cells-at.result c.requires.at_in
+    (λ r. g.S.Exact.exact r ≡ op_value op.Difference (g.S.Exact.exact c.args.sum) y))
+    (sym (value_at-index g.S.Exact.exact c.args.cells.now c.args.at c.index-cells-at.result c.requires.at_in
     c.index-cells-at.is)) c.difference.ensures.ok
 
 pub returns-clause-fits : goal.returns-clause-fits
 returns-clause-fits g c = subst (λ (y : Fraction). IfOk c.difference.result
-    (λ _. is_too_wide g.S.Exact.MAX op.Difference (g.S.Exact.exact c.args.sum) y ≡ false)) (sym (value_at-index g.S.Exact.exact c.args.cells.now c.args.at c.index-cells-at.result c.requires.at_in
+    (λ _. is_too_wide g.S.Exact.MAX op.Difference (g.S.Exact.exact c.args.sum) y ≡ false))
+    (sym (value_at-index g.S.Exact.exact c.args.cells.now c.args.at c.index-cells-at.result c.requires.at_in
     c.index-cells-at.is)) c.difference.ensures.fits
 
 pub returns-clause-wide : goal.returns-clause-wide
 returns-clause-wide g c = subst (λ (y : Fraction). IfErr c.difference.result
-    (λ _. is_too_wide g.S.Exact.MAX op.Difference (g.S.Exact.exact c.args.sum) y ≡ true)) (sym (value_at-index g.S.Exact.exact c.args.cells.now c.args.at c.index-cells-at.result c.requires.at_in
+    (λ _. is_too_wide g.S.Exact.MAX op.Difference (g.S.Exact.exact c.args.sum) y ≡ true))
+    (sym (value_at-index g.S.Exact.exact c.args.cells.now c.args.at c.index-cells-at.result c.requires.at_in
     c.index-cells-at.is)) c.difference.ensures.wide

@@ -93,7 +93,12 @@ pub split_at_mut-above-requires : goal.split_at_mut-above-requires
 split_at_mut-above-requires g c = omega (arith, c.requires.whole, suc-mul c.args.rows c.args.width)
 
 pub split_at_mut-marks_above-requires : goal.split_at_mut-marks_above-requires
-split_at_mut-marks_above-requires g c = omega (arith, c.requires.whole, c.requires.block.same, suc-mul c.args.rows c.args.width)
+split_at_mut-marks_above-requires g c = omega (
+  arith,
+  c.requires.whole,
+  c.requires.block.same,
+  suc-mul c.args.rows c.args.width,
+)
 
 pub overflow_mul-from : goal.overflow_mul-from
 overflow_mul-from g c = omega (
@@ -106,14 +111,16 @@ pub overflow_add-from : goal.overflow_add-from
 overflow_add-from g c = omega (
   arith,
   row_in c.in-Some.r c.args.rows c.args.width
-      (length c.split_at_mut-above.result.0.now) (below g (goal.at.overflow_add-from g c).In-Some) c.split_at_mut-above.ensures.front_len,
+      (length c.split_at_mut-above.result.0.now) (below g (goal.at.overflow_add-from g c).In-Some)
+      c.split_at_mut-above.ensures.front_len,
 )
 
 pub overflow_add-from-in-Some : goal.overflow_add-from-in-Some
 overflow_add-from-in-Some g c = omega (
   arith,
   row_in c.in-Some.r c.args.rows c.args.width
-      (length c.split_at_mut-above.result.0.now) (below g (goal.at.overflow_add-from-in-Some g c).In-Some) c.split_at_mut-above.ensures.front_len,
+      (length c.split_at_mut-above.result.0.now) (below g (goal.at.overflow_add-from-in-Some g c).In-Some)
+      c.split_at_mut-above.ensures.front_len,
 )
 
 pub slice_bounds-copy_from_slice-count : goal.slice_bounds-copy_from_slice-count
@@ -127,7 +134,8 @@ copy_from_slice-requires g c = omega (
   arith,
   (ends g (goal.at.copy_from_slice-requires g c).After-split_at_mut-above).row_length,
   row_in c.in-Some.r c.args.rows c.args.width
-      (length c.split_at_mut-above.result.0.now) (below g (goal.at.copy_from_slice-requires g c).In-Some) c.split_at_mut-above.ensures.front_len,
+      (length c.split_at_mut-above.result.0.now) (below g (goal.at.copy_from_slice-requires g c).In-Some)
+      c.split_at_mut-above.ensures.front_len,
 )
 
 pub copy_from_slice-requires-in-Some : goal.copy_from_slice-requires-in-Some
@@ -137,14 +145,19 @@ copy_from_slice-requires-in-Some g c = omega (
       (length c.split_at_mut-marks_above.result.1.now) (c.requires.block.same ∙ c.requires.whole)
       c.split_at_mut-marks_above.ensures.back_len,
   row_in c.in-Some.r c.args.rows c.args.width
-      (length c.split_at_mut-marks_above.result.0.now) (below g (goal.at.copy_from_slice-requires-in-Some g c).In-Some) c.split_at_mut-marks_above.ensures.front_len,
+      (length c.split_at_mut-marks_above.result.0.now)
+      (below g (goal.at.copy_from_slice-requires-in-Some g c).In-Some) c.split_at_mut-marks_above.ensures.front_len,
 )
 
 pub set_cell-requires-clause-column_in : goal.set_cell-requires-clause-column_in
-set_cell-requires-clause-column_in g c = subst (λ n. c.args.column < n) (sym (c.copy_from_slice.ensures.len ∙ (ends g (goal.at.set_cell-requires-clause-column_in g c).After-split_at_mut-above).row_length)) c.requires.column_in
+set_cell-requires-clause-column_in g c =
+    let p = (goal.at.set_cell-requires-clause-column_in g c).After-split_at_mut-above in
+    subst (λ n. c.args.column < n) (sym (c.copy_from_slice.ensures.len ∙ (ends g p).row_length)) c.requires.column_in
 
 pub set_cell-requires-in-None-clause-column_in : goal.set_cell-requires-in-None-clause-column_in
-set_cell-requires-in-None-clause-column_in g c = subst (λ n. c.args.column < n) (sym (c.clear_row.auto.cells ∙ (ends g (goal.at.set_cell-requires-in-None-clause-column_in g c).After-split_at_mut-above).row_length)) c.requires.column_in
+set_cell-requires-in-None-clause-column_in g c =
+    let p = (goal.at.set_cell-requires-in-None-clause-column_in g c).After-split_at_mut-above in
+    subst (λ n. c.args.column < n) (sym (c.clear_row.auto.cells ∙ (ends g p).row_length)) c.requires.column_in
 
 pub set_cell-requires-in-None-clause-fits : goal.set_cell-requires-in-None-clause-fits
 set_cell-requires-in-None-clause-fits g c = c.minus_one.ensures.fits
@@ -164,6 +177,7 @@ pub slice_bounds-copy_from_slice-end-in-Some : goal.slice_bounds-copy_from_slice
 slice_bounds-copy_from_slice-end-in-Some g c = omega (
   arith,
   row_in c.in-Some.r c.args.rows c.args.width
-      (length c.split_at_mut-marks_above.result.0.now) (below g (goal.at.slice_bounds-copy_from_slice-end-in-Some g c).In-Some)
+      (length c.split_at_mut-marks_above.result.0.now)
+      (below g (goal.at.slice_bounds-copy_from_slice-end-in-Some g c).In-Some)
       c.split_at_mut-marks_above.ensures.front_len,
 )

@@ -1,4 +1,5 @@
-use Rattle.std.proofs.Common.{◌≡◌, refl, sym, ap, subst, ◌∙◌, ℕ, ◌+◌, ◌*◌, ◌-◌, ◌<◌, length, take, drop, true, false, arith}
+use Rattle.std.proofs.Common.{◌≡◌, refl, sym, ap, subst, ◌∙◌, ℕ, ◌+◌, ◌*◌, ◌-◌, ◌<◌, length, take, drop, true, false}
+use Rattle.std.proofs.Common.{arith}
 use Rattle.stack_rational.proofs.Common.{err_from_is_err_and, ℕ_discrete, dec_lt, Fraction, ordered_fractions}
 use Rattle.stack_rational.proofs.Common.{first_found, first_more, is_too_wide, is_zero, get_or_default}
 use borrow.Rule.Slice.PartMut.{put_mid}
@@ -179,23 +180,29 @@ pub overflow_add-first : goal.overflow_add-first
 overflow_add-first g c = omega (arith, c.requires.numbers, c.loop-i-test.true)
 
 pub reduce_row-requires-clause-width : goal.reduce_row-requires-clause-width
-reduce_row-requires-clause-width g c = sym (part_length g.S.Exact.exact g.S.Exact.MAX (length c.args.pivot.now) c.loop-i.i c.loop-i.cells c.loop-i.marks
-    c.loop-i.invariant.block (row_in c.loop-i.i c.args.count (length c.args.pivot.now) (length c.loop-i.cells) c.loop-i-test.true
+reduce_row-requires-clause-width g c = sym (part_length g.S.Exact.exact g.S.Exact.MAX (length c.args.pivot.now)
+    c.loop-i.i c.loop-i.cells c.loop-i.marks c.loop-i.invariant.block
+    (row_in c.loop-i.i c.args.count (length c.args.pivot.now) (length c.loop-i.cells) c.loop-i-test.true
     (c.loop-i.auto.cells ∙ c.requires.whole)))
 
 pub reduce_row-requires-clause-column_in : goal.reduce_row-requires-clause-column_in
-reduce_row-requires-clause-column_in g c = subst (λ n. c.args.column < n) (sym (part_length g.S.Exact.exact g.S.Exact.MAX (length c.args.pivot.now) c.loop-i.i c.loop-i.cells c.loop-i.marks
-    c.loop-i.invariant.block (row_in c.loop-i.i c.args.count (length c.args.pivot.now) (length c.loop-i.cells) c.loop-i-test.true
+reduce_row-requires-clause-column_in g c = subst (λ n. c.args.column < n)
+    (sym (part_length g.S.Exact.exact g.S.Exact.MAX (length c.args.pivot.now)
+    c.loop-i.i c.loop-i.cells c.loop-i.marks c.loop-i.invariant.block
+    (row_in c.loop-i.i c.args.count (length c.args.pivot.now) (length c.loop-i.cells) c.loop-i-test.true
     (c.loop-i.auto.cells ∙ c.requires.whole)))) c.requires.column_in
 
 pub reduce_row-requires-clause-listed : goal.reduce_row-requires-clause-listed
-reduce_row-requires-clause-listed g c = subst (ListsNonzero (zero_in g.S.Exact.exact c.args.pivot.now) c.args.columns.now (length c.args.columns.now))
-    (sym (part_length g.S.Exact.exact g.S.Exact.MAX (length c.args.pivot.now) c.loop-i.i c.loop-i.cells c.loop-i.marks
-    c.loop-i.invariant.block (row_in c.loop-i.i c.args.count (length c.args.pivot.now) (length c.loop-i.cells) c.loop-i-test.true
+reduce_row-requires-clause-listed g c = subst
+    (ListsNonzero (zero_in g.S.Exact.exact c.args.pivot.now) c.args.columns.now (length c.args.columns.now))
+    (sym (part_length g.S.Exact.exact g.S.Exact.MAX (length c.args.pivot.now)
+    c.loop-i.i c.loop-i.cells c.loop-i.marks c.loop-i.invariant.block
+    (row_in c.loop-i.i c.args.count (length c.args.pivot.now) (length c.loop-i.cells) c.loop-i-test.true
     (c.loop-i.auto.cells ∙ c.requires.whole)))) c.requires.listed
 
 pub returns-in_err-reduce_row-clause-ok : goal.returns-in_err-reduce_row-clause-ok
-returns-in_err-reduce_row-clause-ok g c = rw ((err_from_is_err_and c.from_residual.result c.from_residual.ensures.1).1) tt
+returns-in_err-reduce_row-clause-ok g c =
+    rw ((err_from_is_err_and c.from_residual.result c.from_residual.ensures.1).1) tt
 
 pub returns-clause-block : goal.returns-clause-block
 returns-clause-block g c = c.loop-i.invariant.block

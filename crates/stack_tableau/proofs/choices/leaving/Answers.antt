@@ -10,5 +10,5 @@ returns-in-Err-clause-tells g c =
     let T = g.T.Tableau.table c.args.t.now in
     let i = c.loop-i.i in
     row_refused g.T.Tableau.settles g.T.Tableau.MAX S T c.args.column i c.in-Err.refusal
-    (leaving ordered_fractions S T c.args.column) (subst (λ n. i < n) c.row_count-i-end.ensures c.loop-i-test.true)
+    (leaving ordered_fractions S T c.args.column) (subst (λ n. i < n) c.rows-i-end.ensures c.loop-i-test.true)
     c.loop-i.invariant.none c.in-Err.ensures.wide

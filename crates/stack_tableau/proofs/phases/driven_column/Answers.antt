@@ -10,6 +10,6 @@ returns-in-Some-false-clause-value g c =
     let T = g.T.Tableau.table c.args.t.now in
     let j = c.loop-j.j in
     sym (first_found (plain S) j (driven_item S T c.args.row) j
-    (subst (λ n. j < n) c.plain_count-j-end.ensures c.loop-j-test.true) c.loop-j.invariant
+    (subst (λ n. j < n) c.plain-j-end.ensures c.loop-j-test.true) c.loop-j.invariant
     (driven_at S T c.args.row j c.in-Some-false.field-0 c.in-Some-false.ensures.value
     ∙ ap (λ b. only_if (not b) j) c.in-Some-false.field-0-test))

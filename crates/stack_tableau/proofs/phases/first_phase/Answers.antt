@@ -15,5 +15,5 @@ unreachable-requires g c =
     never_unlimited m S T c.args.budget c.run_laws.ensures.leaving c.requires U
     c.in-Ok-Unlimited.field-0-0 (ap (λ (x : PhaseEnd). stop_of U x) (sym c.in-Ok-Unlimited.field-0-is)
     ∙ c.in-Ok-Unlimited.ensures.answer
-    ∙ (λ i. turns ordered_fractions S (is_too_wide m) 1 (c.contact_count-contacts.ensures i)
+    ∙ (λ i. turns ordered_fractions S (is_too_wide m) 1 (c.contacts-contacts.ensures i)
     (c.within.ensures.left i) (c.within.ensures.done i) T))

@@ -17,7 +17,7 @@ past_first g c = record {
   same = c.in-Ok.ensures.shape;
   first = c.in-Ok.ensures.answer;
   enough = sym c.falls_short.ensures ∙ c.if-falls_short.false;
-  factor = c.has_a_factor.ensures ∙ ap (λ b. cond b 1 0) c.if-not-has_a_factor.false;
+  factor = c.has_factor.ensures ∙ ap (λ b. cond b 1 0) c.if-not-has_factor.false;
 }
 
 past_second : (g : _) (c : In-Ok-second_phase g) → IsPastSecond g.T.Tableau.MAX
@@ -34,11 +34,11 @@ returns-in-Err-second_phase-clause-value g c = second_stops g.T.Tableau.settles
     (past_first g (goal.at.returns-in-Err-second_phase-clause-value g c).After-second_phase)
     c.in-Err-second_phase.stop c.in-Err-second_phase.ensures.answer
 
-pub returns-in-Ok-Settled-clause-value : goal.returns-in-Ok-Settled-clause-value
-returns-in-Ok-Settled-clause-value g c = let p = goal.at.returns-in-Ok-Settled-clause-value g c in
+pub returns-in-Ok-Complete-clause-value : goal.returns-in-Ok-Complete-clause-value
+returns-in-Ok-Complete-clause-value g c = let p = goal.at.returns-in-Ok-Complete-clause-value g c in
     third_is g.T.Tableau.settles (past_first g p.After-second_phase) (past_second g p.In-Ok-second_phase) _
-    (ap (stop_of (g.T.Tableau.table c.third_phase.new.t)) (sym c.in-Ok-Settled.field-0-is)
-    ∙ c.in-Ok-Settled.ensures.answer)
+    (ap (stop_of (g.T.Tableau.table c.third_phase.new.t)) (sym c.in-Ok-Complete.field-0-is)
+    ∙ c.in-Ok-Complete.ensures.answer)
 
 pub returns-in-Ok-Unlimited-clause-value : goal.returns-in-Ok-Unlimited-clause-value
 returns-in-Ok-Unlimited-clause-value g c = let p = goal.at.returns-in-Ok-Unlimited-clause-value g c in

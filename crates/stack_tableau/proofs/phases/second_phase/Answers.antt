@@ -13,7 +13,7 @@ returns-in-Err-clause-answer g c =
     (g.T.Tableau.table c.args.t.now))
     (g.T.Tableau.table t) S.rows c.loop-row.row c.args.pivots
     c.loop-row.pivots c.loop-row.invariant.shape c.loop-row.invariant.rows c.in-Err.stop
-    (omega (arith, c.loop-row-test.true, c.row_count-row-end.ensures, rows)) c.in-Err.ensures.answer
+    (omega (arith, c.loop-row-test.true, c.rows-row-end.ensures, rows)) c.in-Err.ensures.answer
 
 pub loop-row-preserved : goal.loop-row-preserved
 loop-row-preserved g c =

@@ -8,7 +8,7 @@ use Rattle.stack_tableau.proofs.phases.third_phase.Goals as goal
 pub returns-clause-answer : goal.returns-clause-answer
 returns-clause-answer g c =
     let t = c.in-Some.ensures in
-    let among = c.plain_count-among.ensures ∙ ap plain t.shape in
+    let among = c.plain-among.ensures ∙ ap plain t.shape in
     subst (λ X. TellsPhase g.T.Tableau.settles (g.T.Tableau.table c.run_phase.new.t) c.run_phase.result X)
     (λ i. turns ordered_fractions (t.shape i) (is_too_wide g.T.Tableau.MAX) 3 (among i)
     c.args.pivots.left c.args.pivots.done (t.table i)) c.run_phase.ensures.answer

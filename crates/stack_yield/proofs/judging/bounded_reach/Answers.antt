@@ -1,9 +1,7 @@
 use Rattle.std.proofs.Common.{◌≡◌, sym, ap, ◌∙◌, Ok}
 use lib.IntN.{pos}
-use Rattle.stack_contact.specs.Surveyed.{Surveyed}
-use Rattle.stack_certificate.specs.Certificate.{ForcesValue, MotionValue, forces_view, motion_view}
+use Rattle.stack_equilibrium.proofs.Common.{ForcesValue, MotionValue, Surveyed, forces_view, motion_view, written_power}
 use Rattle.stack_equilibrium.specs.declared.types.Question.TheVariants.{Live}
-use Rattle.stack_equilibrium.specs.WrittenPowers.{written_power}
 use Rattle.stack_pairs.specs.Directed.{directed_survey}
 use Rattle.stack_yield.proofs.Accepted.{power_fits}
 use Rattle.stack_yield.proofs.BoundedReaches.{bounded_is, moves_for, less_dead_is, point_told, half_told, factor_cast}

@@ -1,7 +1,6 @@
 use Rattle.std.proofs.Common.{subst}
-use Rattle.stack_contact.specs.Surveyed.{Surveyed}
-use Rattle.stack_certificate.specs.Certificate.{forces_view, motion_view, certificate_view, collapses}
-use Rattle.stack_certificate.specs.declared.types.Certificate.{Certificate}
+use Rattle.stack_equilibrium.proofs.Common.{Certificate, Surveyed, certificate_view, collapses, forces_view}
+use Rattle.stack_equilibrium.proofs.Common.{motion_view}
 use Rattle.stack_equilibrium.specs.declared.types.Question.TheVariants.{Live}
 use Rattle.stack_judge.specs.Judged.{IsJudged}
 use Rattle.stack_yield.proofs.BoundedReaches.{bounded_holds}

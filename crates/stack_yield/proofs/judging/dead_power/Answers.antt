@@ -1,7 +1,6 @@
 use Rattle.std.proofs.Common.{sym, ap, ◌∙◌}
 use lib.IntN.{pos, ◌-ℤ◌}
-use Rattle.stack_whole.specs.Whole.{IsFitting, made}
-use Rattle.stack_certificate.specs.Certificate.{forces_view, motion_view}
+use Rattle.stack_equilibrium.proofs.Common.{IsFitting, forces_view, made, motion_view}
 use Rattle.stack_equilibrium.specs.declared.types.Question.TheVariants.{Dead}
 use Rattle.stack_yield.proofs.Accepted.{moves_counted, not_refused, power_fits, less_fits}
 use Rattle.stack_directions.proofs.Points.{fitting_cast}

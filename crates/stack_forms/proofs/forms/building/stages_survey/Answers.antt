@@ -19,7 +19,7 @@ returns-in_ok-write_stages-in-Ok c holds = (
   stages_due c.args.survey.now c.args.order.now (stages_view c.in-Ok.found),
   record {
     are_true = c.in-Ok.ensures.certified;
-    are_settled = c.in-Ok.ensures.settled;
+    stand_and_fall = c.in-Ok.ensures.settled;
     is_verdict = c.stages_verdict.ensures;
     is_text = c.in_ok-write_stages-in-Ok.ensures;
   },

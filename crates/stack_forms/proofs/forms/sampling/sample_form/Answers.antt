@@ -1,11 +1,9 @@
 use Rattle.stack_model.specs.Structure.{Structure}
 use Rattle.stack_model.specs.ModelView.{model_view}
 use Rattle.stack_model.specs.declared.model.Model.{Model}
-use Rattle.stack_lines.specs.declared.answer.Answer.{Answer}
-use Rattle.stack_work.specs.Answers.{Due}
-use Rattle.stack_work.specs.Progress.{IsModel, AnswersDue}
-use Rattle.stack_work.specs.Stacking.{built_step}
-use Rattle.stack_work.specs.Sampling.{sample_of, wall_sampled, sample_work}
+use Rattle.stack_work.proofs.Common.{Answer, AnswersDue, Due, built_step, sample_of, wall_sampled}
+use Rattle.stack_work.specs.Sampling.{sample_work}
+use Rattle.stack_work.specs.Progress.{IsModel}
 use Rattle.stack_work.proofs.Steps.{alone_then, alone_refused}
 use Rattle.stack_forms.proofs.forms.sampling.sample_form.Goals as goal
 

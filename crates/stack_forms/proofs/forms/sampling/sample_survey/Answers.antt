@@ -3,12 +3,8 @@ use Rattle.stack_equilibrium.specs.declared.types.Question.TheVariants.{Live}
 use Rattle.stack_certificate.specs.Certificate.{certificate_view}
 use Rattle.stack_judge.specs.Judgement.{Judges}
 use Rattle.stack_lines.specs.declared.refusal.Refusal.TheVariants.{Spent}
-use Rattle.stack_lines.specs.Refusals.{faulty, over_budget}
+use Rattle.stack_work.proofs.Common.{AnswersDue, default_budget, faulty, gives, over_budget, sample_step}
 use Rattle.stack_work.specs.Answers.{summary}
-use Rattle.stack_work.specs.Judging.{default_budget}
-use Rattle.stack_work.specs.Progress.{AnswersDue}
-use Rattle.stack_work.specs.Sampling.{sample_step}
-use Rattle.stack_work.specs.Work.{gives}
 use Rattle.stack_work.proofs.OneStep.{done_alone, ends_refusing}
 use Rattle.stack_forms.proofs.forms.sampling.sample_survey.Goals as goal
 

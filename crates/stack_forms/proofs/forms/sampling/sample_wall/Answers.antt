@@ -2,12 +2,8 @@ use Rattle.std.proofs.Common.{sym, subst}
 use Rattle.stack_model.specs.ModelView.{model_view}
 use Rattle.stack_model.specs.Structure.{HasLive}
 use Rattle.stack_contact.specs.Surveyed.{Surveyed}
-use Rattle.stack_lines.specs.declared.answer.Answer.{Answer}
-use Rattle.stack_work.specs.Answers.{Due}
-use Rattle.stack_work.specs.Work.{surveys}
-use Rattle.stack_work.specs.Surveying.{survey_step}
-use Rattle.stack_work.specs.Progress.{IsSeenSurvey, AnswersDue}
-use Rattle.stack_work.specs.Sampling.{sampled}
+use Rattle.stack_work.proofs.Common.{Answer, AnswersDue, Due, sampled, survey_step, surveys}
+use Rattle.stack_work.specs.Progress.{IsSeenSurvey}
 use Rattle.stack_work.proofs.AcceptedFiles.{same_structure}
 use Rattle.stack_work.proofs.Steps.{alone_then, alone_refused}
 use Rattle.stack_forms.proofs.forms.sampling.sample_wall.Goals as goal

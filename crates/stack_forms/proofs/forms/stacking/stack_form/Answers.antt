@@ -1,11 +1,10 @@
 use Rattle.stack_model.specs.Structure.{Structure}
 use Rattle.stack_model.specs.ModelView.{model_view}
 use Rattle.stack_model.specs.declared.model.Model.{Model}
-use Rattle.stack_lines.specs.declared.answer.Answer.{Answer}
-use Rattle.stack_work.specs.Answers.{Due, document}
-use Rattle.stack_work.specs.Work.{gives}
-use Rattle.stack_work.specs.Progress.{IsModel, AnswersDue}
-use Rattle.stack_work.specs.Stacking.{stack_of, built_step, stack_work}
+use Rattle.stack_work.proofs.Common.{Answer, AnswersDue, Due, built_step, gives, stack_of}
+use Rattle.stack_work.specs.Stacking.{stack_work}
+use Rattle.stack_work.specs.Answers.{document}
+use Rattle.stack_work.specs.Progress.{IsModel}
 use Rattle.stack_work.proofs.Steps.{alone_then, alone_refused}
 use Rattle.stack_forms.proofs.forms.stacking.stack_form.Goals as goal
 

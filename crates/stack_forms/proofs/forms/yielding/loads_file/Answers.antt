@@ -1,9 +1,6 @@
 use Rattle.std.proofs.Common.{◌≡◌, ◌∙◌, ap, sym, inl, ℕ, Result}
 use Rattle.stack_model.specs.Structure.{Structure}
-use Rattle.stack_directions.specs.Pairing.{pair_of}
-use Rattle.stack_outside.specs.Seen.{seen_shelf}
-use Rattle.stack_work.specs.Progress.{AnswersDue}
-use Rattle.stack_work.specs.Yielding.{paired_file}
+use Rattle.stack_work.proofs.Common.{AnswersDue, pair_of, paired_file, seen_shelf}
 use Rattle.stack_work.proofs.OneStep.{done, ends_refusing}
 use Rattle.stack_work.proofs.Steps.{alone}
 use Rattle.stack_work.proofs.YieldEnds.{loads_are}

@@ -1,11 +1,10 @@
 use Rattle.std.proofs.Common.{◌≡◌, ◌⊎◌, Err, subst, ap, inl, refl, arith}
 use Rattle.stack_yield.specs.Kept.{region_view}
 use Rattle.stack_yield.specs.Regions.{Regions}
-use Rattle.stack_yield.specs.Outcomes.{outcomes}
+use Rattle.stack_work.proofs.Common.{faulty, outcomes, refusal_view, wide_toward}
 use Rattle.stack_work.specs.Answers.{region_due}
 use Rattle.stack_lines.specs.declared.refusal.Refusal.TheVariants.{Spent, Memory}
-use Rattle.stack_lines.specs.Refusals.{refusal_view, faulty}
-use Rattle.stack_work.specs.Yielding.{region_step, wide_toward}
+use Rattle.stack_work.specs.Yielding.{region_step}
 use Rattle.stack_work.proofs.Ways.{wanting}
 use Rattle.stack_work.proofs.OneStep.{ends_giving, ends_refusing}
 use Rattle.stack_work.proofs.YieldEnds.{is_direction}

@@ -6,7 +6,7 @@ use Rattle.stack_inverse.specs.declared.row.Row.{Row}
 use Rattle.stack_inverse.specs.Columns.{IsPut, IsOwn, revised_cell}
 use Rattle.stack_inverse.specs.RowsSeen.{seen_at}
 use Rattle.stack_inverse.proofs.Cleared.{none_own}
-use Rattle.stack_inverse.proofs.PutRow.{wide_put, marked_put}
+use Rattle.stack_inverse.proofs.PutRow.{widths_put, marked_put}
 use Rattle.stack_inverse.proofs.ObjectivePut.{objective_put, others_stay, zero_row_is}
 use Rattle.stack_inverse.proofs.revised_table.RevisedTable.clear_objective.Goals as goal
 
@@ -53,7 +53,7 @@ put_row-requires g c =
     record {
       row_in = omega (arith, ap length c.as_mut_slice-3.ensures.value, s.height);
       width = ap (λ (rs : List (Row g.row.T.Denot g.T.RowNumber)). length (seen_at rs M).numbers)
-          c.as_mut_slice-3.ensures.value ∙ s.wide M (omega arith)
+          c.as_mut_slice-3.ensures.value ∙ s.widths M (omega arith)
           ∙ sym (ap length c.as_slice.ensures.value ∙ ap length piv ∙ plong ∙ s.room);
       under = subst (λ z. pos 0 <ℤ z) (sym c.in_ok-one.ensures) (omega (arith, ints));
       topped = λ n. absurd (n c.zero.ensures);
@@ -88,7 +88,8 @@ invariant_of-self-5 g c =
     record {
       plain_count = s.plain_count;
       height = ap length rows ∙ tall ∙ s.height;
-      wide = wide_put M (seen_at s.rows.items) t M row d false put (ap length c.as_slice.ensures.value ∙ long) s.wide;
+      widths = widths_put M (seen_at s.rows.items) t M row d false put (ap length c.as_slice.ensures.value ∙ long)
+          s.widths;
       marked = marked_put g.T.RowNumber.MAX (seen_at s.rows.items) t M row d
           (revised_cell v M C s.given.own.items (seen_at s.rows.items)) (revised_cell v M C own t) put
           (others_stay v M C s.given.own.items own (seen_at s.rows.items) t row d put) s.marked;

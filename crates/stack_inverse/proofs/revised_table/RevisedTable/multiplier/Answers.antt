@@ -14,9 +14,9 @@ index-requires-2 g c =
     let s = c.args.self.now in
     let m = s.given.first.rows in
     let x = c.index.result.now in
-    let wide : length x.numbers.items ≡ suc m = width_get m s.rows.items m x s.height (omega arith) s.wide
+    let widths : length x.numbers.items ≡ suc m = width_get m s.rows.items m x s.height (omega arith) s.widths
     c.index.ensures in
-    omega (arith, wide, c.requires)
+    omega (arith, widths, c.requires)
 
 pub returns : goal.returns
 returns g c =
@@ -26,9 +26,9 @@ returns g c =
     let x = c.index.result.now in
     let y = c.index-2.result.now in
     let i = c.args.i in
-    let wide : length x.numbers.items ≡ suc m = width_get m s.rows.items m x s.height (omega arith) s.wide
+    let widths : length x.numbers.items ≡ suc m = width_get m s.rows.items m x s.height (omega arith) s.widths
     c.index.ensures in
-    sym (at-index v (pos 0) x.numbers.items i y (omega (arith, wide, c.requires)) c.index-2.ensures)
+    sym (at-index v (pos 0) x.numbers.items i y (omega (arith, widths, c.requires)) c.index-2.ensures)
     ∙ ap (λ (r : RowSeen g.row.T.Denot). number_at v r.numbers i)
     (seen_get s.rows.items m x (omega (arith, s.height)) c.index.ensures)
     ∙ sym (artificial_is v m s.given.first.columns.items (revised_own v m s.given.own.items m)

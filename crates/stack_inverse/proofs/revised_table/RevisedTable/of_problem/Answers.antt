@@ -7,7 +7,7 @@ use Rattle.stack_table.specs.Lent.{problem_of}
 use Rattle.stack_table.specs.WrittenTable.{first_row, first_objective}
 use Rattle.stack_rows.specs.RowForm.{number_at}
 use Rattle.stack_inverse.specs.declared.row.Row.{Row}
-use Rattle.stack_inverse.specs.Columns.{AreWide, cells_at, rises, revised_cell}
+use Rattle.stack_inverse.specs.Columns.{HaveWidths, cells_at, rises, revised_cell}
 use Rattle.stack_inverse.specs.RowsSeen.{seen_at}
 use Rattle.stack_inverse.specs.FirstTable.{load_at, IsFirstRow, less_loads}
 use Rattle.stack_inverse.proofs.PutRow.{seen_past, none_marked}
@@ -22,8 +22,8 @@ fill-requires g c =
     record {
       width = ap length c.as_mut_slice-2.ensures.value ∙ c.in_ok-pivot.ensures ∙ tall;
       height = ap length c.as_mut_slice.ensures.value ∙ c.in_ok-rows.ensures.height ∙ tall;
-      wide = λ i l. ap (λ (rs : List (Row g.row.T.Denot g.T.RowNumber)). length (seen_at rs i).numbers)
-          c.as_mut_slice.ensures.value ∙ c.in_ok-rows.ensures.wide i (omega (arith, l, long)) ∙ tall;
+      widths = λ i l. ap (λ (rs : List (Row g.row.T.Denot g.T.RowNumber)). length (seen_at rs i).numbers)
+          c.as_mut_slice.ensures.value ∙ c.in_ok-rows.ensures.widths i (omega (arith, l, long)) ∙ tall;
       unmarked = λ i. ap (λ (rs : List (Row g.row.T.Denot g.T.RowNumber)). (seen_at rs i).fits)
           c.as_mut_slice.ensures.value
           ∙ none_marked c.in_ok-rows.rows.items c.in_ok-rows.ensures.height c.in_ok-rows.ensures.unmarked i;
@@ -58,8 +58,8 @@ invariant_of-result g c =
     record {
       plain_count = count;
       height = ap length is ∙ same ∙ c.in_ok-rows.ensures.height ∙ tall;
-      wide = subst₂ (λ (m : ℕ) (rs : List (Row g.row.T.Denot g.T.RowNumber)). AreWide m (seen_at rs)) long (sym is)
-          c.in-Some.ensures.wide;
+      widths = subst₂ (λ (m : ℕ) (rs : List (Row g.row.T.Denot g.T.RowNumber)). HaveWidths m (seen_at rs)) long (sym is)
+          c.in-Some.ensures.widths;
       marked = λ i e. let b : false ≡ true = sym (subst (λ (rs : List (Row g.row.T.Denot g.T.RowNumber)). (i : ℕ) →
           (seen_at rs i).fits ≡ false) (sym is) c.in-Some.ensures.unmarked i) ∙ e in absurd cc;
       room = ap length (with_items_is numbers c.fill.new.numbers (filled ∙ sym numbers.ok.0)) ∙ filled

@@ -7,7 +7,7 @@ use Rattle.stack_table.specs.Table.{Tabled, columns, pivoted_at}
 use Rattle.stack_table.specs.Spots.{cells_spot, pivot_spot}
 use Rattle.stack_inverse.specs.declared.row.Row.{Row}
 use Rattle.stack_inverse.specs.RowBlock.{IsPivotedCells, AreMarked}
-use Rattle.stack_inverse.specs.Columns.{AreWide, AreEntered}
+use Rattle.stack_inverse.specs.Columns.{HaveWidths, AreEntered}
 use Rattle.stack_inverse.specs.RowsSeen.{seen_at, number_in_row, cells_of_rows, columns_of}
 use Rattle.stack_inverse.specs.Seen.{number_in, under_in, shape_of_revised, table_of_revised}
 use Rattle.stack_inverse.proofs.PutRow.{under_positive}
@@ -26,7 +26,7 @@ pivot_rows-requires g c =
     let kept = sym c.as_mut_slice.ensures.value in
     record {
       height = sym (ap length kept) ∙ s.height;
-      wide = subst (λ (rs : List (Row g.row.T.Denot g.T.RowNumber)). AreWide f.rows (seen_at rs)) kept s.wide;
+      widths = subst (λ (rs : List (Row g.row.T.Denot g.T.RowNumber)). HaveWidths f.rows (seen_at rs)) kept s.widths;
       room = s.room;
       marked = subst (λ (rs : List (Row g.row.T.Denot g.T.RowNumber)). AreMarked g.T.RowNumber.MAX
           (cells_of_rows s.given rs) (seen_at rs)) kept s.marked;
@@ -49,8 +49,8 @@ invariant_of-self g c =
     record {
       plain_count = s.plain_count;
       height = ap length rows ∙ tall ∙ s.height;
-      wide = subst (λ (rs : List (Row g.row.T.Denot g.T.RowNumber)). AreWide m (seen_at rs)) (sym rows)
-          c.pivot_rows.ensures.wide;
+      widths = subst (λ (rs : List (Row g.row.T.Denot g.T.RowNumber)). HaveWidths m (seen_at rs)) (sym rows)
+          c.pivot_rows.ensures.widths;
       marked = subst (λ (rs : List (Row g.row.T.Denot g.T.RowNumber)). AreMarked g.T.RowNumber.MAX
           (cells_of_rows s.given rs) (seen_at rs)) (sym rows) c.pivot_rows.ensures.marked;
       room = c.pivot_rows.ensures.room ∙ s.room;
@@ -80,8 +80,8 @@ returns-clause-none g c =
     (cells_of_rows s.given (c.as_mut_slice.ensures.value z)) c.args.row c.args.column) ∙ h.none)
     c.pivot_rows.ensures.ok
 
-pub returns-clause-wide : goal.returns-clause-wide
-returns-clause-wide g c =
+pub returns-clause-refused : goal.returns-clause-refused
+returns-clause-refused g c =
     let s = c.args.self.now in
     let m = s.given.first.rows in
     err_same c.pivot_rows.result _ _

@@ -7,7 +7,7 @@ use Rattle.stack_inverse.specs.declared.row.Row.{Row}
 use Rattle.stack_inverse.specs.Columns.{IsPut, IsFactorRow, IsOwn, revised_cell}
 use Rattle.stack_inverse.specs.RowsSeen.{seen_at}
 use Rattle.stack_inverse.proofs.Cleared.{none_own, only_own}
-use Rattle.stack_inverse.proofs.PutRow.{wide_put, marked_put, under_positive}
+use Rattle.stack_inverse.proofs.PutRow.{widths_put, marked_put, under_positive}
 use Rattle.stack_inverse.proofs.ObjectivePut.{objective_put, others_stay, factor_is, found_below}
 use Rattle.stack_inverse.proofs.revised_table.RevisedTable.set_factor_objective.Goals as goal
 
@@ -16,8 +16,8 @@ factor_row-requires g c =
     let s = c.args.self.now in
     record {
       width = ap length c.as_mut_slice.ensures.value ∙ s.room;
-      wide = λ i l. ap (λ (rs : List (Row g.row.T.Denot g.T.RowNumber)). length (seen_at rs i).numbers)
-          c.as_slice-2.ensures.value ∙ s.wide i l;
+      widths = λ i l. ap (λ (rs : List (Row g.row.T.Denot g.T.RowNumber)). length (seen_at rs i).numbers)
+          c.as_slice-2.ensures.value ∙ s.widths i l;
       column_in = omega (arith, s.plain_count, c.requires);
       row_in = found_below (length c.as_slice.result.now) (λ r. eqb (get_or c.as_slice.result.now r 0) s.contacts)
           c.row_with-row.result c.row_with-row.ensures (λ r. r < s.given.first.rows)
@@ -98,7 +98,7 @@ put_row-requires g c =
     record {
       row_in = omega (arith, ap length c.as_mut_slice-4.ensures.value, s.height);
       width = ap (λ (rs : List (Row g.row.T.Denot g.T.RowNumber)). length (seen_at rs M).numbers)
-          c.as_mut_slice-4.ensures.value ∙ s.wide M (omega arith)
+          c.as_mut_slice-4.ensures.value ∙ s.widths M (omega arith)
           ∙ sym (ap length c.as_slice-3.ensures.value ∙ ap length piv ∙ plong ∙ s.room);
       under = c.in_ok-under.ensures.positive;
       topped = λ n. absurd (n c.zero.ensures);
@@ -135,7 +135,8 @@ invariant_of-self-6 g c =
     record {
       plain_count = s.plain_count;
       height = ap length rows ∙ tall ∙ s.height;
-      wide = wide_put M (seen_at s.rows.items) t M row d false put (ap length c.as_slice-3.ensures.value ∙ long) s.wide;
+      widths = widths_put M (seen_at s.rows.items) t M row d false put (ap length c.as_slice-3.ensures.value ∙ long)
+          s.widths;
       marked = marked_put g.T.RowNumber.MAX (seen_at s.rows.items) t M row d
           (revised_cell v M C s.given.own.items (seen_at s.rows.items)) (revised_cell v M C own t) put
           (others_stay v M C s.given.own.items own (seen_at s.rows.items) t row d put) s.marked;

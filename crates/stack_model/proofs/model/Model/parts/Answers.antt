@@ -17,7 +17,7 @@ again (Err x) s t e sound h = tt
 
 pub parts_with-requires : goal.parts_with-requires
 parts_with-requires c = rw (c.all_loads.ensures, c.sway.ensures.value)
-    (bears_own c.args.self.now c.bodies-bodies.ensures.sound)
+    (bears_own c.args.self.now c.sound.ensures)
 
 pub returns-clause-taken : goal.returns-clause-taken
 returns-clause-taken c = again _ c.args.self.now (bearing c.args.self.now c.all_loads.result.now c.sway.result)

@@ -5,12 +5,12 @@ use Rattle.stack_rows.proofs.whole.RowNumber.joined.Goals as goal
 
 pub returns-clause-own : goal.returns-clause-own
 returns-clause-own g c =
-    let fits : SFits w128 c.wide.result = search rules in
+    let fits : SFits w128 c.broad.result = search rules in
     omega (
       arith,
       c.unsigned_abs.ensures.value,
       ap unsigned_abs (to_z-of_z fits),
-      ap unsigned_abs c.wide.ensures,
+      ap unsigned_abs c.broad.ensures,
       le_or_r c.args.size c.unsigned_abs.result,
     )
 

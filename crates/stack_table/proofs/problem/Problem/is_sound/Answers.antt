@@ -6,8 +6,8 @@ use Rattle.stack_table.proofs.problem.Problem.is_sound.Goals as goal
 
 pub returns-clause-meaning : goal.returns-clause-meaning
 returns-clause-meaning c = λ h. let P = c.args.self.now in record {
-  rows_few = omega (arith, c.if-self-gt384.false);
-  contacts_few = omega (arith, c.if-len-gt2048.false, c.len.ensures, P.contact.ok.0);
+  rows_few = omega (arith, c.if-self-gt-MOST_ROWS.false);
+  contacts_few = omega (arith, c.if-len-gt-MOST_CONTACT_COLUMNS.false, c.len.ensures, P.contact.ok.0);
   contact_columns = columns_are P.rows P.contact.items
       (ap (are_columns P.rows) (sym c.as_slice-2.ensures.value) ∙ sym c.are_columns.ensures
       ∙ c.if-not-are_columns.false);

@@ -1,11 +1,12 @@
-use Rattle.std.proofs.Common.{◌≡◌, refl, sym, ap, subst, ◌∙◌, suc, ◌+◌, ◌*◌, ◌<◌, get_or, Option, Some, None, cond}
-use Rattle.std.proofs.Common.{length, arith, is_some, pos}
-use Rattle.stack_rational.proofs.Common.{length_push, with_items_is, err_from_is_err_and, with_items, ℕ_discrete}
+use Rattle.std.proofs.Common.{◌≡◌, refl, sym, ap, subst, ◌∙◌, ℕ, suc, ◌+◌, ◌*◌, ◌<◌, get_or, Option, Some, None}
+use Rattle.std.proofs.Common.{cond, false, length, arith, is_some, pos}
+use Rattle.stack_rational.proofs.Common.{length_push, with_items_is, with_items, ℕ_discrete}
 use Rattle.stack_rational.proofs.Common.{ordered_fractions, first, is_too_wide, first_more, get_or_default}
 use Rattle.std.proofs.Math.Nat.{add-mul, suc-mul}
 use Rattle.stack_table.specs.declared.problem.Column.{Column}
+use Rattle.stack_table.specs.declared.problem.Problem.{Problem as Lent}
 use Rattle.stack_table.specs.Table.{plain, width}
-use Rattle.stack_table.specs.Block.{cell_of, tabled}
+use Rattle.stack_table.specs.Block.{cell_of, shape_of, tabled}
 use Rattle.stack_table.specs.Problem.{flipped}
 use Rattle.stack_table.specs.Lent.{factor_count, shape_of_problem, problem_of}
 use Rattle.stack_table.specs.WrittenTable.{first_row, row_place}
@@ -13,10 +14,11 @@ use Rattle.stack_table.specs.Due.{AreDue}
 use Rattle.stack_table.proofs.DueRows.{none_due}
 use Rattle.stack_table.proofs.Growing.{pushed_all, earlier_cells, next_cells}
 use Rattle.stack_table.proofs.RowByRow.{empty_block, flip_is, flips_are, tells_row, tells_objective, place_is, table_is}
-use Rattle.stack_table.proofs.AtWidest.{only_memory}
+use Rattle.stack_table.proofs.Refusals.{refused, out_of_memory}
 use Rattle.stack_table.proofs.table.Table.build.Goals as goal
+use Rattle.stack_table.proofs.table.Table.build.Goals.{After-loop-i, After-is_some}
 
--- the numbers of the table, and all its rows
+-- the number of factor columns is counted as a test counts it
 factor_is : (o : Option Column) → cond (is_some o) 1 0 ≡ factor_count o
 factor_is None = refl
 factor_is (Some c) = refl
@@ -37,24 +39,38 @@ loop-i-init g c = record {
   flips_are = λ k l. absurd (omega (arith, l));
 }
 
+pub push_row-requires-clause-problem : goal.push_row-requires-clause-problem
+push_row-requires-clause-problem g c = c.requires
+
+pub push_row-requires-clause-artificial : goal.push_row-requires-clause-artificial
+push_row-requires-clause-artificial g c = c.artificial-artificial.ensures
+
+pub push_row-requires-clause-i_in : goal.push_row-requires-clause-i_in
+push_row-requires-clause-i_in g c = c.loop-i-test.true
+
+pub push_row-requires-clause-block : goal.push_row-requires-clause-block
+push_row-requires-clause-block g c = c.loop-i.invariant.block
+
+pub push_row-requires-clause-long : goal.push_row-requires-clause-long
+push_row-requires-clause-long g c = ap length c.as_mut_slice.ensures.value ∙ c.loop-i.invariant.listed_long
+
 pub push_row-requires-clause-dues : goal.push_row-requires-clause-dues
 push_row-requires-clause-dues g c = subst (AreDue (problem_of c.args.p.now) c.loop-i.i)
     (sym c.as_mut_slice.ensures.value) c.loop-i.invariant.dues
 
-pub returns-in_err-push_row-clause-wide : goal.returns-in_err-push_row-clause-wide
-returns-in_err-push_row-clause-wide g c =
-    let p = err_from_is_err_and c.from_residual-in_err-push_row.result
-    c.from_residual-in_err-push_row.ensures.1 in
-    rw (p.1, p.2) (tells_row g.S.Exact.MAX (problem_of c.args.p.now) c.loop-i.i c.in_err-push_row.field-0.0
-    c.loop-i-test.true c.loop-i.invariant.none c.in_err-push_row.ensures.wide)
-
-pub returns-in_err-push_row-clause-never_wide : goal.returns-in_err-push_row-clause-never_wide
-returns-in_err-push_row-clause-never_wide g c = λ ample.
-    let p = err_from_is_err_and c.from_residual-in_err-push_row.result
-    c.from_residual-in_err-push_row.ensures.1 in
-    rw (p.1, p.2) (only_memory g.S.Exact.MAX ample c.args.p.now c.requires c.in_err-push_row.field-0.0
+pub returns-in_err-push_row : goal.returns-in_err-push_row
+returns-in_err-push_row g c = refused c.args.p.now c.requires c.in_err-push_row.field-0.0
     (tells_row g.S.Exact.MAX (problem_of c.args.p.now) c.loop-i.i c.in_err-push_row.field-0.0
-    c.loop-i-test.true c.loop-i.invariant.none c.in_err-push_row.ensures.wide))
+    c.loop-i-test.true c.loop-i.invariant.none c.in_err-push_row.ensures.wide)
+    c.from_residual-in_err-push_row.result c.from_residual-in_err-push_row.ensures.1
+
+pub returns-in_err-push : goal.returns-in_err-push
+returns-in_err-push g c = out_of_memory c.args.p.now c.requires
+    c.from_residual-in_err-push.result c.from_residual-in_err-push.ensures.1
+
+pub returns-in_err-push-2 : goal.returns-in_err-push-2
+returns-in_err-push-2 g c = out_of_memory c.args.p.now c.requires
+    c.from_residual-in_err-push-2.result c.from_residual-in_err-push-2.ensures.1
 
 pub loop-i-preserved : goal.loop-i-preserved
 loop-i-preserved g c =
@@ -100,218 +116,40 @@ loop-i-preserved g c =
           (omega (arith, c.loop-i-test.true, c.requires.right_long)))) k l;
     }
 
-pub returns-in_err-push_objective-clause-wide : goal.returns-in_err-push_objective-clause-wide
-returns-in_err-push_objective-clause-wide g c =
-    let P = c.args.p.now in
-    let m = g.S.Exact.MAX in
-    let v = c.loop-i.invariant in
-    let end : c.loop-i.i ≡ P.rows = omega (arith, c.loop-i-test.false, c.loop-i.auto.i-end) in
-    let p = err_from_is_err_and c.from_residual-in_err-push_objective.result
-    c.from_residual-in_err-push_objective.ensures.1 in
-    rw (p.1, p.2) (tells_objective g.S.Exact.exact P c.loop-i.cells.items
-    (v.long ∙ ap (λ n. n * width (shape_of_problem P)) end)
-    (λ i j l k. v.cells i j (omega (arith, l, end)) k) m
-    (ap (λ n. first n (row_place ordered_fractions (is_too_wide m) (problem_of P))) (sym end) ∙ v.none)
-    c.in_err-push_objective.field-0.0 c.in_err-push_objective.ensures.wide)
+-- the loop has ended: all rows are put, and nothing of them is too wide
+module _ (g : _) (c : After-loop-i g) where
+  abbrev P : Lent
+  P = c.args.p.now
 
-pub returns-in_err-push_objective-clause-never_wide : goal.returns-in_err-push_objective-clause-never_wide
-returns-in_err-push_objective-clause-never_wide g c = λ ample.
-    let P = c.args.p.now in
-    let m = g.S.Exact.MAX in
-    let v = c.loop-i.invariant in
-    let end : c.loop-i.i ≡ P.rows = omega (arith, c.loop-i-test.false, c.loop-i.auto.i-end) in
-    let p = err_from_is_err_and c.from_residual-in_err-push_objective.result
-    c.from_residual-in_err-push_objective.ensures.1 in
-    rw (p.1, p.2) (only_memory m ample P c.requires c.in_err-push_objective.field-0.0
-    (tells_objective g.S.Exact.exact P c.loop-i.cells.items
-    (v.long ∙ ap (λ n. n * width (shape_of_problem P)) end)
-    (λ i j l k. v.cells i j (omega (arith, l, end)) k) m
-    (ap (λ n. first n (row_place ordered_fractions (is_too_wide m) (problem_of P))) (sym end) ∙ v.none)
-    c.in_err-push_objective.field-0.0 c.in_err-push_objective.ensures.wide))
+  end : c.loop-i.i ≡ P.rows
+  end = omega (arith, c.loop-i-test.false, c.loop-i.auto.i-end)
 
-pub invariant_of-result-clause-wide : goal.invariant_of-result-clause-wide
-invariant_of-result-clause-wide g c =
-    let P = c.args.p.now in
-    let contacts : c.len.result ≡ length P.contact.items = c.len.ensures ∙ P.contact.ok.0 in
-    let factors = ap (λ b. cond b 1 0) c.is_some.ensures ∙ factor_is P.factor in
-    omega (arith, c.loop-i.invariant.listed_long, contacts, factors)
+  long : length c.loop-i.cells.items ≡ P.rows * width (shape_of_problem P)
+  long = c.loop-i.invariant.long ∙ ap (λ n. n * width (shape_of_problem P)) end
 
-pub invariant_of-result-clause-whole : goal.invariant_of-result-clause-whole
-invariant_of-result-clause-whole g c =
-    let P = c.args.p.now in
-    let v = c.loop-i.invariant in
-    let w = width (shape_of_problem P) in
-    let end : c.loop-i.i ≡ P.rows = omega (arith, c.loop-i-test.false, c.loop-i.auto.i-end) in
-    let long = v.long ∙ ap (λ n. n * w) end in
-    let whole : length c.push_objective.new.cells.items ≡ suc P.rows * w =
-    omega (arith, c.in_ok-push_objective.ensures.grown.longer, long, suc-mul P.rows w) in
-    whole ∙ ap (λ n. suc P.rows * n) (sym v.listed_long)
+  cells : (i j : ℕ) → i < P.rows → j < width (shape_of_problem P) →
+      cell_of g.S.Exact.exact (width (shape_of_problem P)) c.loop-i.cells.items i j
+      ≡ first_row ordered_fractions (problem_of P) i j
+  cells i j l k = c.loop-i.invariant.cells i j (omega (arith, l, end)) k
 
-pub invariant_of-result-clause-basics_in : goal.invariant_of-result-clause-basics_in
-invariant_of-result-clause-basics_in g c = λ i l.
-    let P = c.args.p.now in
-    let end : c.loop-i.i ≡ P.rows = omega (arith, c.loop-i-test.false, c.loop-i.auto.i-end) in
-    let contacts : c.len.result ≡ length P.contact.items = c.len.ensures ∙ P.contact.ok.0 in
-    let factors = ap (λ b. cond b 1 0) c.is_some.ensures ∙ factor_is P.factor in
-    omega (arith, c.loop-i.invariant.basics i (omega (arith, l, end)), contacts, factors, l)
+  none : first P.rows (row_place ordered_fractions (is_too_wide g.S.Exact.MAX) (problem_of P)) ≡ None
+  none = ap (λ n. first n (row_place ordered_fractions (is_too_wide g.S.Exact.MAX) (problem_of P))) (sym end)
+      ∙ c.loop-i.invariant.none
 
-pub returns-clause-ok : goal.returns-clause-ok
-returns-clause-ok g c =
-    let P = c.args.p.now in
-    let e = g.S.Exact.exact in
-    let v = c.loop-i.invariant in
-    let end : c.loop-i.i ≡ P.rows = omega (arith, c.loop-i-test.false, c.loop-i.auto.i-end) in
-    let contacts : c.len.result ≡ length P.contact.items = c.len.ensures ∙ P.contact.ok.0 in
-    let factors = ap (λ b. cond b 1 0) c.is_some.ensures ∙ factor_is P.factor in
-    (λ z. tabled e (record { rows = P.rows; contacts = contacts z; factors = factors z })
-    c.push_objective.new.cells.items
-    c.loop-i.basic.items)
-    ∙ table_is e P c.loop-i.cells.items (v.long ∙ ap (λ n. n * width (shape_of_problem P)) end)
-    (λ i j l k. v.cells i j (omega (arith, l, end)) k) c.requires c.push_objective.new.cells.items
-    c.in_ok-push_objective.ensures.grown c.loop-i.basic.items (v.basic_long ∙ end)
-    (λ i l. v.basics i (omega (arith, l, end)))
+  basics : (i : ℕ) → i < P.rows → get_or c.loop-i.basic.items i 0 ≡ plain (shape_of_problem P) + i
+  basics i l = c.loop-i.invariant.basics i (omega (arith, l, end))
 
-pub returns-clause-flips : goal.returns-clause-flips
-returns-clause-flips g c =
-    let P = c.args.p.now in
-    let v = c.loop-i.invariant in
-    let end : c.loop-i.i ≡ P.rows = omega (arith, c.loop-i-test.false, c.loop-i.auto.i-end) in
-    λ z i. flips_are P c.requires c.loop-i.flipped.items (v.flipped_long ∙ end)
-    (λ k l. v.flips_are k (omega (arith, l, end))) i z
+  flips : (i : ℕ) → get_or c.loop-i.flipped.items i false ≡ flipped (problem_of P) i
+  flips = flips_are P c.requires c.loop-i.flipped.items (c.loop-i.invariant.flipped_long ∙ end)
+      (λ k l. c.loop-i.invariant.flips_are k (omega (arith, l, end)))
 
-pub returns-clause-fits : goal.returns-clause-fits
-returns-clause-fits g c =
-    let P = c.args.p.now in
-    let m = g.S.Exact.MAX in
-    let v = c.loop-i.invariant in
-    let end : c.loop-i.i ≡ P.rows = omega (arith, c.loop-i-test.false, c.loop-i.auto.i-end) in
-    place_is g.S.Exact.exact P c.loop-i.cells.items (v.long ∙ ap (λ n. n * width (shape_of_problem P)) end)
-    (λ i j l k. v.cells i j (omega (arith, l, end)) k) m
-    (ap (λ n. first n (row_place ordered_fractions (is_too_wide m) (problem_of P))) (sym end) ∙ v.none)
-    ∙ c.in_ok-push_objective.ensures.fits
+-- the numbers of the table are those of the problem
+module _ (g : _) (c : After-is_some g) where
+  contacts : c.len.result ≡ length c.args.p.now.contact.items
+  contacts = c.len.ensures ∙ c.args.p.now.contact.ok.0
 
-pub returns-in_err-cells-clause-shape : goal.returns-in_err-cells-clause-shape
-returns-in_err-cells-clause-shape g c = rw ((err_from_is_err_and c.from_residual.result c.from_residual.ensures.1).1) tt
-
-pub returns-in_err-cells-clause-ok : goal.returns-in_err-cells-clause-ok
-returns-in_err-cells-clause-ok g c = rw ((err_from_is_err_and c.from_residual.result c.from_residual.ensures.1).1) tt
-
-pub returns-in_err-cells-clause-flips : goal.returns-in_err-cells-clause-flips
-returns-in_err-cells-clause-flips g c = rw ((err_from_is_err_and c.from_residual.result c.from_residual.ensures.1).1) tt
-
-pub returns-in_err-cells-clause-fits : goal.returns-in_err-cells-clause-fits
-returns-in_err-cells-clause-fits g c = rw ((err_from_is_err_and c.from_residual.result c.from_residual.ensures.1).1) tt
-
-pub returns-in_err-marks-clause-shape : goal.returns-in_err-marks-clause-shape
-returns-in_err-marks-clause-shape g c = rw ((err_from_is_err_and c.from_residual-in_err-marks.result c.from_residual-in_err-marks.ensures.1).1) tt
-
-pub returns-in_err-marks-clause-ok : goal.returns-in_err-marks-clause-ok
-returns-in_err-marks-clause-ok g c = rw ((err_from_is_err_and c.from_residual-in_err-marks.result c.from_residual-in_err-marks.ensures.1).1) tt
-
-pub returns-in_err-marks-clause-flips : goal.returns-in_err-marks-clause-flips
-returns-in_err-marks-clause-flips g c = rw ((err_from_is_err_and c.from_residual-in_err-marks.result c.from_residual-in_err-marks.ensures.1).1) tt
-
-pub returns-in_err-marks-clause-fits : goal.returns-in_err-marks-clause-fits
-returns-in_err-marks-clause-fits g c = rw ((err_from_is_err_and c.from_residual-in_err-marks.result c.from_residual-in_err-marks.ensures.1).1) tt
-
-pub returns-in_err-listed-clause-shape : goal.returns-in_err-listed-clause-shape
-returns-in_err-listed-clause-shape g c = rw ((err_from_is_err_and c.from_residual-in_err-listed.result c.from_residual-in_err-listed.ensures.1).1) tt
-
-pub returns-in_err-listed-clause-ok : goal.returns-in_err-listed-clause-ok
-returns-in_err-listed-clause-ok g c = rw ((err_from_is_err_and c.from_residual-in_err-listed.result c.from_residual-in_err-listed.ensures.1).1) tt
-
-pub returns-in_err-listed-clause-flips : goal.returns-in_err-listed-clause-flips
-returns-in_err-listed-clause-flips g c = rw ((err_from_is_err_and c.from_residual-in_err-listed.result c.from_residual-in_err-listed.ensures.1).1) tt
-
-pub returns-in_err-listed-clause-fits : goal.returns-in_err-listed-clause-fits
-returns-in_err-listed-clause-fits g c = rw ((err_from_is_err_and c.from_residual-in_err-listed.result c.from_residual-in_err-listed.ensures.1).1) tt
-
-pub returns-in_err-basic-clause-shape : goal.returns-in_err-basic-clause-shape
-returns-in_err-basic-clause-shape g c = rw ((err_from_is_err_and c.from_residual-in_err-basic.result c.from_residual-in_err-basic.ensures.1).1) tt
-
-pub returns-in_err-basic-clause-ok : goal.returns-in_err-basic-clause-ok
-returns-in_err-basic-clause-ok g c = rw ((err_from_is_err_and c.from_residual-in_err-basic.result c.from_residual-in_err-basic.ensures.1).1) tt
-
-pub returns-in_err-basic-clause-flips : goal.returns-in_err-basic-clause-flips
-returns-in_err-basic-clause-flips g c = rw ((err_from_is_err_and c.from_residual-in_err-basic.result c.from_residual-in_err-basic.ensures.1).1) tt
-
-pub returns-in_err-basic-clause-fits : goal.returns-in_err-basic-clause-fits
-returns-in_err-basic-clause-fits g c = rw ((err_from_is_err_and c.from_residual-in_err-basic.result c.from_residual-in_err-basic.ensures.1).1) tt
-
-pub returns-in_err-flipped-clause-shape : goal.returns-in_err-flipped-clause-shape
-returns-in_err-flipped-clause-shape g c = rw ((err_from_is_err_and c.from_residual-in_err-flipped.result c.from_residual-in_err-flipped.ensures.1).1) tt
-
-pub returns-in_err-flipped-clause-ok : goal.returns-in_err-flipped-clause-ok
-returns-in_err-flipped-clause-ok g c = rw ((err_from_is_err_and c.from_residual-in_err-flipped.result c.from_residual-in_err-flipped.ensures.1).1) tt
-
-pub returns-in_err-flipped-clause-flips : goal.returns-in_err-flipped-clause-flips
-returns-in_err-flipped-clause-flips g c = rw ((err_from_is_err_and c.from_residual-in_err-flipped.result c.from_residual-in_err-flipped.ensures.1).1) tt
-
-pub returns-in_err-flipped-clause-fits : goal.returns-in_err-flipped-clause-fits
-returns-in_err-flipped-clause-fits g c = rw ((err_from_is_err_and c.from_residual-in_err-flipped.result c.from_residual-in_err-flipped.ensures.1).1) tt
-
-pub returns-in_err-push_row-clause-shape : goal.returns-in_err-push_row-clause-shape
-returns-in_err-push_row-clause-shape g c = rw ((err_from_is_err_and c.from_residual-in_err-push_row.result c.from_residual-in_err-push_row.ensures.1).1) tt
-
-pub returns-in_err-push_row-clause-ok : goal.returns-in_err-push_row-clause-ok
-returns-in_err-push_row-clause-ok g c = rw ((err_from_is_err_and c.from_residual-in_err-push_row.result c.from_residual-in_err-push_row.ensures.1).1) tt
-
-pub returns-in_err-push_row-clause-flips : goal.returns-in_err-push_row-clause-flips
-returns-in_err-push_row-clause-flips g c = rw ((err_from_is_err_and c.from_residual-in_err-push_row.result c.from_residual-in_err-push_row.ensures.1).1) tt
-
-pub returns-in_err-push_row-clause-fits : goal.returns-in_err-push_row-clause-fits
-returns-in_err-push_row-clause-fits g c = rw ((err_from_is_err_and c.from_residual-in_err-push_row.result c.from_residual-in_err-push_row.ensures.1).1) tt
-
-pub returns-in_err-push-clause-shape : goal.returns-in_err-push-clause-shape
-returns-in_err-push-clause-shape g c = rw ((err_from_is_err_and c.from_residual-in_err-push.result c.from_residual-in_err-push.ensures.1).1) tt
-
-pub returns-in_err-push-clause-ok : goal.returns-in_err-push-clause-ok
-returns-in_err-push-clause-ok g c = rw ((err_from_is_err_and c.from_residual-in_err-push.result c.from_residual-in_err-push.ensures.1).1) tt
-
-pub returns-in_err-push-clause-flips : goal.returns-in_err-push-clause-flips
-returns-in_err-push-clause-flips g c = rw ((err_from_is_err_and c.from_residual-in_err-push.result c.from_residual-in_err-push.ensures.1).1) tt
-
-pub returns-in_err-push-clause-fits : goal.returns-in_err-push-clause-fits
-returns-in_err-push-clause-fits g c = rw ((err_from_is_err_and c.from_residual-in_err-push.result c.from_residual-in_err-push.ensures.1).1) tt
-
-pub returns-in_err-push-2-clause-shape : goal.returns-in_err-push-2-clause-shape
-returns-in_err-push-2-clause-shape g c = rw ((err_from_is_err_and c.from_residual-in_err-push-2.result c.from_residual-in_err-push-2.ensures.1).1) tt
-
-pub returns-in_err-push-2-clause-ok : goal.returns-in_err-push-2-clause-ok
-returns-in_err-push-2-clause-ok g c = rw ((err_from_is_err_and c.from_residual-in_err-push-2.result c.from_residual-in_err-push-2.ensures.1).1) tt
-
-pub returns-in_err-push-2-clause-flips : goal.returns-in_err-push-2-clause-flips
-returns-in_err-push-2-clause-flips g c = rw ((err_from_is_err_and c.from_residual-in_err-push-2.result c.from_residual-in_err-push-2.ensures.1).1) tt
-
-pub returns-in_err-push-2-clause-fits : goal.returns-in_err-push-2-clause-fits
-returns-in_err-push-2-clause-fits g c = rw ((err_from_is_err_and c.from_residual-in_err-push-2.result c.from_residual-in_err-push-2.ensures.1).1) tt
-
-pub returns-in_err-push_objective-clause-shape : goal.returns-in_err-push_objective-clause-shape
-returns-in_err-push_objective-clause-shape g c = rw ((err_from_is_err_and c.from_residual-in_err-push_objective.result c.from_residual-in_err-push_objective.ensures.1).1) tt
-
-pub returns-in_err-push_objective-clause-ok : goal.returns-in_err-push_objective-clause-ok
-returns-in_err-push_objective-clause-ok g c = rw ((err_from_is_err_and c.from_residual-in_err-push_objective.result c.from_residual-in_err-push_objective.ensures.1).1) tt
-
-pub returns-in_err-push_objective-clause-flips : goal.returns-in_err-push_objective-clause-flips
-returns-in_err-push_objective-clause-flips g c = rw ((err_from_is_err_and c.from_residual-in_err-push_objective.result c.from_residual-in_err-push_objective.ensures.1).1) tt
-
-pub returns-in_err-push_objective-clause-fits : goal.returns-in_err-push_objective-clause-fits
-returns-in_err-push_objective-clause-fits g c = rw ((err_from_is_err_and c.from_residual-in_err-push_objective.result c.from_residual-in_err-push_objective.ensures.1).1) tt
-
-pub push_row-requires-clause-problem : goal.push_row-requires-clause-problem
-push_row-requires-clause-problem g c = c.requires
-
-pub push_row-requires-clause-artificial : goal.push_row-requires-clause-artificial
-push_row-requires-clause-artificial g c = c.artificial-artificial.ensures
-
-pub push_row-requires-clause-i_in : goal.push_row-requires-clause-i_in
-push_row-requires-clause-i_in g c = c.loop-i-test.true
-
-pub push_row-requires-clause-block : goal.push_row-requires-clause-block
-push_row-requires-clause-block g c = c.loop-i.invariant.block
-
-pub push_row-requires-clause-long : goal.push_row-requires-clause-long
-push_row-requires-clause-long g c = ap length c.as_mut_slice.ensures.value ∙ c.loop-i.invariant.listed_long
+  factors : cond c.is_some.result 1 0 ≡ factor_count c.args.p.now.factor
+  factors = ap (λ b. cond b 1 0) c.is_some.ensures ∙ factor_is c.args.p.now.factor
 
 pub push_objective-requires-clause-problem : goal.push_objective-requires-clause-problem
 push_objective-requires-clause-problem g c = c.requires
@@ -323,19 +161,64 @@ pub push_objective-requires-clause-block : goal.push_objective-requires-clause-b
 push_objective-requires-clause-block g c = c.loop-i.invariant.block
 
 pub push_objective-requires-clause-long : goal.push_objective-requires-clause-long
-push_objective-requires-clause-long g c =
-    let end : c.loop-i.i ≡ c.args.p.now.rows = omega (arith, c.loop-i-test.false, c.loop-i.auto.i-end) in
-    c.loop-i.invariant.long ∙ ap (λ n. n * width (shape_of_problem c.args.p.now)) end
+push_objective-requires-clause-long g c = long g (goal.at.push_objective-requires-clause-long g c).After-loop-i
+
+pub returns-in_err-push_objective : goal.returns-in_err-push_objective
+returns-in_err-push_objective g c =
+    let p = (goal.at.returns-in_err-push_objective g c).After-loop-i in
+    refused c.args.p.now c.requires c.in_err-push_objective.field-0.0
+    (tells_objective g.S.Exact.exact c.args.p.now c.loop-i.cells.items (long g p) (cells g p)
+    g.S.Exact.MAX (none g p) c.in_err-push_objective.field-0.0 c.in_err-push_objective.ensures.wide)
+    c.from_residual-in_err-push_objective.result c.from_residual-in_err-push_objective.ensures.1
+
+pub invariant_of-result-clause-wide : goal.invariant_of-result-clause-wide
+invariant_of-result-clause-wide g c =
+    let p = (goal.at.invariant_of-result-clause-wide g c).After-is_some in
+    omega (arith, c.loop-i.invariant.listed_long, contacts g p, factors g p)
+
+pub invariant_of-result-clause-whole : goal.invariant_of-result-clause-whole
+invariant_of-result-clause-whole g c =
+    let P = c.args.p.now in
+    let w = width (shape_of_problem P) in
+    let p = (goal.at.invariant_of-result-clause-whole g c).After-loop-i in
+    let whole : length c.push_objective.new.cells.items ≡ suc P.rows * w =
+    omega (arith, c.in_ok-push_objective.ensures.grown.longer, long g p, suc-mul P.rows w) in
+    whole ∙ ap (λ n. suc P.rows * n) (sym c.loop-i.invariant.listed_long)
 
 pub invariant_of-result-clause-block : goal.invariant_of-result-clause-block
 invariant_of-result-clause-block g c = c.in_ok-push_objective.ensures.block
 
 pub invariant_of-result-clause-basics : goal.invariant_of-result-clause-basics
-invariant_of-result-clause-basics g c =
-    let end : c.loop-i.i ≡ c.args.p.now.rows = omega (arith, c.loop-i-test.false, c.loop-i.auto.i-end) in
-    c.loop-i.invariant.basic_long ∙ end
+invariant_of-result-clause-basics g c = c.loop-i.invariant.basic_long
+    ∙ end g (goal.at.invariant_of-result-clause-basics g c).After-loop-i
+
+pub invariant_of-result-clause-basics_in : goal.invariant_of-result-clause-basics_in
+invariant_of-result-clause-basics_in g c = λ i l.
+    let p = goal.at.invariant_of-result-clause-basics_in g c in
+    omega (arith, basics g p.After-loop-i i l, contacts g p.After-is_some, factors g p.After-is_some, l)
 
 pub invariant_of-result-clause-flips : goal.invariant_of-result-clause-flips
-invariant_of-result-clause-flips g c =
-    let end : c.loop-i.i ≡ c.args.p.now.rows = omega (arith, c.loop-i-test.false, c.loop-i.auto.i-end) in
-    c.loop-i.invariant.flipped_long ∙ end
+invariant_of-result-clause-flips g c = c.loop-i.invariant.flipped_long
+    ∙ end g (goal.at.invariant_of-result-clause-flips g c).After-loop-i
+
+pub returns : goal.returns
+returns g c =
+    let P = c.args.p.now in
+    let e = g.S.Exact.exact in
+    let v = c.loop-i.invariant in
+    let p = (goal.at.returns g c).After-loop-i in
+    let q = (goal.at.returns g c).After-is_some in
+    let shape : shape_of P.rows c.len.result c.is_some.result ≡ shape_of_problem P =
+    λ z. record { rows = P.rows; contacts = contacts g q z; factors = factors g q z } in
+    let new = c.push_objective.new.cells.items in
+    record {
+      shape = shape;
+      ok = (λ z. tabled e (shape z) new c.loop-i.basic.items)
+          ∙ table_is e P c.loop-i.cells.items (long g p) (cells g p) c.requires new
+          c.in_ok-push_objective.ensures.grown c.loop-i.basic.items (v.basic_long ∙ end g p) (basics g p);
+      flips = λ z i. flips g p i z;
+      fits = place_is e P c.loop-i.cells.items (long g p) (cells g p) g.S.Exact.MAX (none g p)
+          ∙ c.in_ok-push_objective.ensures.fits;
+      wide = tt;
+      never_wide = λ _. tt;
+    }

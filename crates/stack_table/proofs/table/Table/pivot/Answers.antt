@@ -89,10 +89,16 @@ pub pivot_block-requires-clause-row_in : goal.pivot_block-requires-clause-row_in
 pivot_block-requires-clause-row_in g c = c.requires.row_in
 
 pub pivot_block-requires-clause-column_in : goal.pivot_block-requires-clause-column_in
-pivot_block-requires-clause-column_in g c = omega (arith, ap length c.as_mut_slice-3.ensures.value, c.args.self.now.wide, c.requires.column_in)
+pivot_block-requires-clause-column_in g c = omega (
+  arith,
+  ap length c.as_mut_slice-3.ensures.value,
+  c.args.self.now.wide,
+  c.requires.column_in,
+)
 
 pub pivot_block-requires-clause-block : goal.pivot_block-requires-clause-block
-pivot_block-requires-clause-block g c = subst₂ (λ (xs : List g.row.S.Denot) (ms : List Bool). IsBlock g.S.Exact.MAX g.S.Exact.exact xs ms)
+pivot_block-requires-clause-block g c = subst₂
+    (λ (xs : List g.row.S.Denot) (ms : List Bool). IsBlock g.S.Exact.MAX g.S.Exact.exact xs ms)
     (sym c.as_mut_slice.ensures.value) (sym c.as_mut_slice-2.ensures.value) c.args.self.now.block
 
 pub pivot_block-requires-clause-cell : goal.pivot_block-requires-clause-cell
