@@ -10,9 +10,8 @@
 3. stack_checker, and each crate below it by crates.txt, names no crate that stands under `# Search` there, neither in
    crates.txt nor in a line of its sources that isn't a comment.
 
-The script prints a line for each rule. OVER and DEAD list what breaks the first two today, a count for each file: more
-or less than that is wrong. There is no list for the third. A line says what is wrong; then the status is 1. The names
-that nothing reaches are printed by tools/reached.py. Python 3.11 or later.
+The script prints a line for each rule. Or a line for each place that breaks one, and then the status is 1. Python 3.11
+or later.
 """
 import re
 import sys
@@ -26,32 +25,6 @@ from reached import CODE, dead_names
 TOP = Path(__file__).resolve().parent.parent
 LONGEST = 120
 CHECKER, SEARCH = "stack_checker", "Search"
-Counts = dict[str, int]
-
-# How many lines of a file are too long today.
-OVER: Counts = {
-    "crates/stack_table/proofs/building/less_cell/Answers.antt": 3,
-    "crates/stack_table/proofs/objective/set_last/Answers.antt": 8,
-    "crates/stack_table/proofs/rows/reduce_rows/Answers.antt": 8,
-    "crates/stack_table/proofs/table/Table/build/Answers.antt": 32,
-    "crates/stack_table/proofs/table/Table/pivot/Answers.antt": 2,
-    "crates/stack_table/src/problem.rt": 2,
-}
-# How many names of a file nothing reaches today.
-DEAD: Counts = {
-    "crates/stack_algebra/specs/Fraction.antt": 1,
-    "crates/stack_algebra/specs/Search.antt": 2,
-    "crates/stack_contact/proofs/LoneBears.antt": 1,
-    "crates/stack_equilibrium/proofs/InOrder.antt": 1,
-    "crates/stack_equilibrium/proofs/Products.antt": 1,
-    "crates/stack_inverse/proofs/Bounds.antt": 1,
-    "crates/stack_inverse/proofs/CellSteps.antt": 4,
-    "crates/stack_inverse/proofs/ProductSums.antt": 1,
-    "crates/stack_inverse/proofs/RevisedRows.antt": 1,
-    "crates/stack_inverse/proofs/ShortNumbers.antt": 3,
-    "crates/stack_run/proofs/OneTurn.antt": 13,
-}
-
 
 # Files
 
@@ -64,26 +37,15 @@ def files(top: Path, *ends: str) -> Iterator[Path]:
             yield path
 
 
-def differences(found: Mapping[str, int], listed: Mapping[str, int], what: str) -> Iterator[str]:
-    """Where a count isn't the one that is listed."""
-    for name in sorted({*found, *listed}):
-        here, there = found.get(name, 0), listed.get(name, 0)
-        if here != there:
-            yield f"{name}: {here} {what}, and tools/house.py lists {there}"
-
-
-# Lines
-
-
 def is_long(line: str, end: str) -> bool:
     return len(line) > LONGEST and not (end == ".md" and (line.startswith("|") or "](" in line or "://" in line))
 
 
-def long_lines(top: Path) -> Counts:
-    """How many lines of each file are too long."""
-    found = {str(path.relative_to(top)): sum(is_long(line, path.suffix) for line in text_of(path).splitlines())
-             for path in files(top, ".rt", ".antt", ".md", ".py")}
-    return {name: count for name, count in found.items() if count}
+def long_lines(top: Path) -> list[str]:
+    """Where a line is too long."""
+    return [f"{path.relative_to(top)}:{number}: more than {LONGEST} characters"
+            for path in files(top, ".rt", ".antt", ".md", ".py")
+            for number, line in enumerate(text_of(path).splitlines(), 1) if is_long(line, path.suffix)]
 
 
 # Crates
@@ -135,22 +97,19 @@ def searches(top: Path) -> tuple[int, list[str]]:
 # The script
 
 
-def looked(top: Path, over: Mapping[str, int], dead: Mapping[str, int]) -> tuple[list[str], list[str]]:
-    """What a clone is found to have, and what is wrong with it."""
-    long, names = long_lines(top), dead_names(top)
-    unreached = {name: len(of) for name, of in names.items()}
+def looked(top: Path) -> tuple[list[str], list[str]]:
+    """What is said of a clone that keeps to the rules, and where it doesn't."""
     count, wrong = searches(top)
-    wrong = [*differences(long, over, f"lines above {LONGEST} characters"),
-             *differences(unreached, dead, "names that nothing reaches"), *wrong]
-    return [f"{sum(long.values())} lines above {LONGEST} characters, in {len(long)} files",
-            f"{sum(unreached.values())} names that nothing reaches, in {len(unreached)} files",
+    wrong = [*long_lines(top), *(f"{name}: nothing reaches {' '.join(of)}" for name, of in dead_names(top).items()),
+             *wrong]
+    return [f"no line has more than {LONGEST} characters", "each name is reached",
             f"{CHECKER} rests on {count - 1} crates, and none is of the search"], wrong
 
 
 def house(words: list[str]) -> int:
     if words:
         raise Words("there are no words")
-    lines, wrong = looked(TOP, OVER, DEAD)
+    lines, wrong = looked(TOP)
     for line in wrong:
         print(line, file=sys.stderr)
     if not wrong:

@@ -149,12 +149,8 @@ class Lines(Clones):
         self.put("docs/page.md", "| " + "a" * 120 + "\n[link](" + "a" * 120 + ")\n" + "a" * 121 + "\n")
         self.put("crates/a/out/made.rt", "a" * 121)
         self.put("docs/notes.txt", "a" * 121)
-        self.assertEqual(house.long_lines(self.top), {"crates/a/src/lib.rt": 2, "docs/page.md": 1})
-
-    def test_a_count_that_isnt_the_listed_one_is_wrong(self) -> None:
-        self.assertEqual(list(house.differences({"a": 2, "b": 1, "c": 3}, {"b": 1, "c": 4, "d": 1}, "lines")),
-                         [f"{name}: {here} lines, and tools/house.py lists {there}"
-                          for name, here, there in (("a", 2, 0), ("c", 3, 4), ("d", 0, 1))])
+        self.assertEqual(house.long_lines(self.top), [f"{place}: more than 120 characters" for place in (
+            "crates/a/src/lib.rt:2", "crates/a/src/lib.rt:3", "docs/page.md:3")])
 
 
 class Crates(Clones):
@@ -181,13 +177,11 @@ class Crates(Clones):
 
 
 class Looks(Clones):
-    def test_what_is_listed_passes(self) -> None:
-        counts = {name: len(of) for name, of in DEAD.items()}
-        lines, wrong = house.looked(self.top, {}, counts)
-        self.assertEqual((lines, wrong), (["0 lines above 120 characters, in 0 files",
-                                           "6 names that nothing reaches, in 4 files",
-                                           "stack_checker rests on 1 crates, and none is of the search"], []))
-        self.assertEqual(len(house.looked(self.top, {"a": 1}, {})[1]), 5)
+    def test_each_name_that_nothing_reaches_is_told(self) -> None:
+        lines, wrong = house.looked(self.top)
+        self.assertEqual(lines, ["no line has more than 120 characters", "each name is reached",
+                                 "stack_checker rests on 1 crates, and none is of the search"])
+        self.assertCountEqual(wrong, [f"{name}: nothing reaches {' '.join(of)}" for name, of in DEAD.items()])
 
 
 if __name__ == "__main__":
