@@ -6,14 +6,18 @@
     tools/count.py faults
     tools/count.py models
     tools/count.py random
+    tools/count.py refusals LOG
 
 `crates`: the functions with a contract, those that are `pub` and the others; the tests; the edits of must-fail/, and
 how many functions they are of. `rows`: the rows of examples/, by the form of words and by status; those of judged,
 ranged, staged and bounded have their own columns. `faults`: rows and made by the line on standard error, without
 numbers and names. `models`: the files .toml of examples/ by folder. `random`: the tests of tools/test_*.py that draw
-models, walls or words at random, with how many they draw, where that is a number in a loop of the test.
+models, walls or words at random, with how many they draw, where that is a number in a loop of the test. `refusals`:
+the edits that a log of `rt ci` or `rt must-fail` tells of, by where the prover refused them. A refusal at a clause, at
+an invariant or at the condition of a call points to what the edit means. One at a written proof may, or the proof only
+no longer fits.
 
-All is read off the text. Python 3.11 or later.
+All else is read off the text. Python 3.11 or later.
 """
 import ast
 import re
@@ -164,14 +168,37 @@ def random_tests(top: Path) -> Iterator[str]:
     return table(("test", "draws"), sorted(found, key=str))
 
 
+# Refusals
+
+REFUSED = "refused, as it must be"
+KINDS = (("by names alone", r" \(only because"), ("by a limit of the prover", r" \(only by a limit"),
+         ("at a clause", "what the function ensures"), ("at an invariant", "invariant"),
+         ("at the condition of a call", "requires"), ("at a written proof", r": \./proofs/"))
+
+
+def kind_of(reason: str) -> str:
+    """Where the prover refused an edit, by what rt says behind the words that it was refused."""
+    if re.match(r": \./proofs/", reason):
+        return "at a written proof"
+    return next((kind for kind, pattern in KINDS if re.search(pattern, reason)), "elsewhere")
+
+
+def refusals(name: str) -> Iterator[str]:
+    reasons = [line.split(REFUSED, 1)[1] for line in text_of(Path(name)).splitlines()
+               if "must-fail " in line and REFUSED in line]
+    found = Counter(map(kind_of, reasons))
+    return table(("refused", "edits"), [(kind, found[kind]) for kind in (*dict(KINDS), "elsewhere") if found[kind]])
+
+
 TABLES = {"crates": crates, "rows": rows, "faults": faults, "models": models, "random": random_tests}
 
 
 def count(words: list[str]) -> int:
-    if len(words) != 1 or words[0] not in TABLES:
-        raise Words(f"the word is one of {', '.join(TABLES)}")
+    is_log = len(words) == 2 and words[0] == "refusals"
+    if not is_log and (len(words) != 1 or words[0] not in TABLES):
+        raise Words(f"the word is one of {', '.join(TABLES)}, or refusals LOG")
     try:
-        print(*TABLES[words[0]](TOP), sep="\n")
+        print(*(refusals(words[1]) if is_log else TABLES[words[0]](TOP)), sep="\n")
     except (SyntaxError, IndexError) as fault:
         raise Refused(f"a file isn't as it must be: {fault}") from None
     return 0

@@ -75,6 +75,18 @@ class Counts(Clones):
                             ("words", "words")):
             self.assertEqual(count.fault_of(line), fault)
 
+    def test_refusals(self) -> None:
+        # a line of another kind isn't counted; what stands in a written proof comes before the words in it
+        said = "rt: must-fail stack_a/b.edit: refused, as it must be"
+        self.put("log", "\n".join((
+            f"{said}: note: src/a.rt:1:1: it is not proved that what the function ensures holds when it returns (`x`)",
+            f"{said}: ./proofs/f/Answers.antt:5:13: error: `g-requires`: as printed, the two types differ",
+            f"{said}: note: src/a.rt:5:9: it is not proved that the invariant of the loop holds (`loop-i-init`)",
+            f"{said} (only by a limit of the prover, which gave no verdict)", "rt: stack_a proved")))
+        self.assertEqual([line.split() for line in count.refusals(str(self.top / "log"))], [
+            ["refused", "edits"], ["by", "a", "limit", "of", "the", "prover", "1"], ["at", "a", "clause", "1"],
+            ["at", "an", "invariant", "1"], ["at", "a", "written", "proof", "1"], ["together", "4"]])
+
     def test_draws(self) -> None:
         # 20 times and 7 times; the loop within isn't counted, and a test that draws nothing isn't listed.
         self.put("tools/test_it.py", TEST)
