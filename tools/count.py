@@ -7,6 +7,7 @@
     tools/count.py models
     tools/count.py random
     tools/count.py refusals LOG
+    tools/count.py plants LOG..
 
 `crates`: the functions with a contract, those that are `pub` and the others; the tests; the edits of must-fail/, and
 how many functions they are of. `rows`: the rows of examples/, by the form of words and by status; those of judged,
@@ -15,7 +16,9 @@ numbers and names. `models`: the files .toml of examples/ by folder. `random`: t
 models, walls or words at random, with how many they draw, where that is a number in a loop of the test. `refusals`:
 the edits that a log of `rt ci` or `rt must-fail` tells of, by where the prover refused them. A refusal at a clause, at
 an invariant or at the condition of a call points to what the edit means. One at a written proof may, or the proof only
-no longer fits.
+no longer fits. `plants`: the wrong bodies that `rt plant --all` made, crate by crate, and what came of them: refused at
+a clause or an invariant; the same as the right body, by the contract; proved; refused only at the condition of a call;
+not judged. After that, why some weren't judged. A function is untried if none of its bodies could be judged.
 
 All else is read off the text. Python 3.11 or later.
 """
@@ -190,16 +193,52 @@ def refusals(name: str) -> Iterator[str]:
     return table(("refused", "edits"), [(kind, found[kind]) for kind in (*dict(KINDS), "elsewhere") if found[kind]])
 
 
+# Wrong bodies
+
+PLANTS = ("functions", "planted-in"), ("untried", "untested")
+ENDS = ("refused", "refused"), ("the same", "same"), ("proved", "proves"), ("elsewhere", "elsewhere"), (
+    "not judged", "not-judged")
+REASONS = (("the tactics met a limit", r"the tactics met a limit"),
+           ("its own call doesn't prove", r"the unchanged call"),
+           ("which line is its own isn't known", r"rt could not tell"))
+
+
+def planted(line: str) -> Cells | None:
+    """The row of a crate, of the last line that `rt plant` prints of it."""
+    if not line.startswith("plants crate="):
+        return None
+    said = dict(word.split("=", 1) for word in line.split()[1:])
+    ends = [int(said[word]) for _, word in ENDS]
+    return said["crate"], *(int(said[word]) for _, word in PLANTS), sum(ends), *ends
+
+
+def reason_of(line: str) -> str:
+    """Why a body wasn't judged."""
+    return next((reason for reason, pattern in REASONS if re.search(pattern, line)), "another")
+
+
+def plants(names: Sequence[str]) -> Iterator[str]:
+    lines = [line for name in names for line in text_of(Path(name)).splitlines()]
+    heads = "crate", *(head for head, _ in PLANTS), "tried", *(head for head, _ in ENDS)
+    yield from table(heads, [row for row in map(planted, lines) if row])
+    yield ""
+    found = Counter(reason_of(line) for line in lines if line.startswith("not-judged"))
+    yield from table(("not judged, since", "bodies"), sorted(found.items()))
+
+
 TABLES = {"crates": crates, "rows": rows, "faults": faults, "models": models, "random": random_tests}
 
 
+OF_LOGS = {"refusals": lambda names: refusals(names[0]), "plants": plants}
+
+
 def count(words: list[str]) -> int:
-    is_log = len(words) == 2 and words[0] == "refusals"
-    if not is_log and (len(words) != 1 or words[0] not in TABLES):
-        raise Words(f"the word is one of {', '.join(TABLES)}, or refusals LOG")
+    is_of_logs = len(words) > 1 and words[0] in OF_LOGS and (words[0] == "plants" or len(words) == 2)
+    if not is_of_logs and (len(words) != 1 or words[0] not in TABLES):
+        raise Words(f"the word is one of {', '.join(TABLES)}, or refusals LOG, or plants LOG..")
     try:
-        print(*(refusals(words[1]) if is_log else TABLES[words[0]](TOP)), sep="\n")
-    except (SyntaxError, IndexError) as fault:
+        print(*(OF_LOGS[words[0]](words[1:]) if is_of_logs else TABLES[words[0]](TOP)), sep="\n")
+    except (SyntaxError, IndexError, KeyError) as fault:
         raise Refused(f"a file isn't as it must be: {fault}") from None
     return 0
 

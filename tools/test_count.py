@@ -87,6 +87,22 @@ class Counts(Clones):
             ["refused", "edits"], ["by", "a", "limit", "of", "the", "prover", "1"], ["at", "a", "clause", "1"],
             ["at", "an", "invariant", "1"], ["at", "a", "written", "proof", "1"], ["together", "4"]])
 
+    def test_plants(self) -> None:
+        # two crates of one log each; the same body is tried once, and a note isn't counted
+        said = ("planted-in={} untested={} no-ensures=0 proves={} same={} refused={} elsewhere={} not-judged={} "
+                "not-source=3")
+        self.put("a", "\n".join((
+            "not-judged  src/a.rt:5 fn f: { a(1) }  (the tactics met a limit)",
+            "not-judged  src/a.rt:9 fn g: { g() }  (the unchanged call did not prove, so no body that calls ..)",
+            "refused     src/a.rt:5 fn f: { 0 }  (returns)", "note: 2 functions have a proof by hand",
+            f"plants crate=stack_a {said.format(3, 1, 0, 2, 8, 1, 2)} not-run=0")))
+        self.put("b", f"plants crate=stack_b {said.format(1, 0, 1, 0, 4, 0, 0)} not-run=0\n")
+        lines = [line.split() for line in count.plants([str(self.top / name) for name in "ab"])]
+        self.assertEqual(lines[1:4], [["stack_a", "3", "1", "13", "8", "2", "0", "1", "2"],
+                                      ["stack_b", "1", "0", "5", "4", "0", "1", "0", "0"],
+                                      ["together", "4", "1", "18", "12", "2", "1", "1", "2"]])
+        self.assertEqual([line[-1] for line in lines[5:]], ["bodies", "1", "1", "2"])
+
     def test_draws(self) -> None:
         # 20 times and 7 times; the loop within isn't counted, and a test that draws nothing isn't listed.
         self.put("tools/test_it.py", TEST)
