@@ -1,16 +1,23 @@
 -- A new objective row that is put into the block.
 use Rattle.std.proofs.Common.{◌≡◌, ◌≢◌, refl, sym, ap, ◌∙◌, ℕ, ◌<◌, ◌+◌, ◌-◌, List, length, Bool, true, false, cond}
 use Rattle.std.proofs.Common.{eqb, ltb, Option, Some, None, arith, IfSome, ne_eqb, eq-eqb, lt-ltb, ℤ, pos, negsuc, ◌+ℤ◌}
-use Rattle.std.proofs.Common.{◌*ℤ◌}
+use Rattle.std.proofs.Common.{◌*ℤ◌, suc, subst₂}
 use Rattle.stack_rational.proofs.Common.{least, least-some, ℕ_discrete, Fraction, changed, of, over, of-over, ◌≺◌}
-use Rattle.stack_rational.proofs.Common.{ordered_fractions}
+use Rattle.stack_rational.proofs.Common.{ordered_fractions, with_items}
 use Rattle.stack_inverse.specs.declared.columns.FirstColumn.{FirstColumn}
+use Rattle.stack_inverse.specs.declared.row.Row.{Row}
+use Rattle.stack_inverse.specs.declared.revised_table.RevisedTable.{RevisedTable}
+use Rattle.stack_rows.specs.declared.whole.RowNumber.{Ghosts}
 use Rattle.stack_rows.specs.RowForm.{number_at}
+use Rattle.stack_inverse.specs.RowBlock.{AreMarked}
 use Rattle.stack_inverse.specs.Columns.{combined, by_place, number, first_at, revised_own, RowSeen, IsPut, cell_with}
-use Rattle.stack_inverse.specs.Columns.{revised_cell, IsFactorRow}
+use Rattle.stack_inverse.specs.Columns.{revised_cell, IsFactorRow, HaveWidths}
+use Rattle.stack_inverse.specs.RowsSeen.{seen_at}
+use Rattle.stack_inverse.specs.Seen.{shape_of_revised, table_of_revised}
+use Rattle.stack_inverse.proofs.PutRow.{written, written_long, widths_put, marked_put}
 use Rattle.stack_inverse.proofs.FirstRows.{nothing_gives, own_row, factor_cell}
 use Rattle.stack_inverse.proofs.Steps.{over_zero}
-use Rattle.stack_table.specs.Table.{factor_row}
+use Rattle.stack_table.specs.Table.{Tabled, factor_row, with_objective}
 use Rattle.stack_inverse.proofs.Division.{none_there}
 
 -- where all is 0
@@ -158,3 +165,48 @@ pub found_below : (m : ℕ) (p : ℕ → Bool) (o : Option ℕ) → o ≡ least 
     IfSome o P
 found_below m p None e P h = tt
 found_below m p (Some r) e P h = h r (least-some m p r (sym e)).below
+
+-- a table with other own cells and rows
+abbrev pub table_with : {V : Type 0} {ghosts : Ghosts V} → RevisedTable V ghosts → List V → List (Row V ghosts) →
+    Tabled Fraction
+table_with {ghosts = ghosts} t own rows = record {
+  cell = revised_cell ghosts.value t.given.first.rows t.given.first.columns.items own (seen_at rows);
+  basic = (table_of_revised t).basic;
+}
+
+-- rows in place of those of a table: they have its height and widths, those that are marked fit, and in their table
+-- only the objective row is another, that of these own cells and numbers
+pub record HaveObjective {V : Type 0} {ghosts : Ghosts V} (t : RevisedTable V ghosts) (own row : List V) (d : ℤ)
+    (rows : List (Row V ghosts)) : Type 0 where
+  pub height : length rows ≡ suc t.given.first.rows
+  pub widths : HaveWidths t.given.first.rows (seen_at rows)
+  pub marked : AreMarked ghosts.MAX (table_with t own rows).cell (seen_at rows)
+  pub table : (f : ℕ → Fraction) →
+      ((j : ℕ) → own_cell ghosts.value t.given.first.rows t.given.first.columns.items own row d j ≡ f j) →
+      table_with t own rows ≡ with_objective ordered_fractions (shape_of_revised t) (table_of_revised t) f
+
+-- so are its rows once that objective row is put, not marked
+pub objective_written : {V : Type 0} {ghosts : Ghosts V} (t : RevisedTable V ghosts) (own : List V) {row : List V}
+    {d : ℤ} {lent : List (Row V ghosts)} (new : List (Row V ghosts)) → lent ≡ t.rows.items → length new ≡ length lent →
+    length row ≡ suc t.given.first.rows → IsPut (seen_at lent) t.given.first.rows row d false (seen_at new) →
+    HaveObjective t own row d (with_items t.rows new).items
+objective_written {V = V} {ghosts = ghosts} t own {row = row} {d = d} new kept tall long put =
+    let v = ghosts.value in
+    let m = t.given.first.rows in
+    let columns = t.given.first.columns.items in
+    let old = t.given.own.items in
+    let s = seen_at t.rows.items in
+    let after = seen_at (with_items t.rows new).items in
+    let is : IsPut s m row d false after =
+    subst₂ (λ (xs ys : List (Row V ghosts)). IsPut (seen_at xs) m row d false (seen_at ys)) kept
+    (sym (written t.rows new kept tall)) put in
+    record {
+      height = written_long t.rows new kept tall ∙ t.height;
+      widths = widths_put m s after m row d false is long t.widths;
+      marked = marked_put ghosts.MAX s after m row d (revised_cell v m columns old s)
+          (revised_cell v m columns own after) is (others_stay v m columns old own s after row d is) t.marked;
+      table = λ f h z. record {
+        cell = λ i j. objective_put v m columns old own s after row d is f h i j z;
+        basic = (table_of_revised t).basic;
+      };
+    }

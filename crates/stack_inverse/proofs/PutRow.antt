@@ -1,13 +1,26 @@
 -- A row of many that is written.
 use Rattle.std.proofs.Common.{◌≡◌, ◌≢◌, sym, ap, subst, ◌∙◌, ℕ, suc, ◌+◌, ◌<◌, ◌≤◌, Bool, true, false, List, [], ◌∷◌}
 use Rattle.std.proofs.Common.{length, set, slice_index_or, get_or, zero, arith, ℤ, pos}
-use Rattle.stack_rational.proofs.Common.{ℕ_discrete, dec_lt, ints, Fraction, ◌≺◌, fraction_fits}
+use Rattle.std.specs.declared.vec.Vec.{Vec}
+use Rattle.stack_rational.proofs.Common.{ℕ_discrete, dec_lt, ints, Fraction, ◌≺◌, fraction_fits, with_items}
+use Rattle.stack_rational.proofs.Common.{with_items_is}
 use Rattle.stack_rows.specs.declared.whole.RowNumber.{Ghosts}
 use Rattle.stack_rows.proofs.Numbers.{at-index, at-set_same, at-set_other, at-past}
+use Rattle.stack_inverse.specs.declared.given.Given.{Given}
 use Rattle.stack_inverse.specs.declared.row.Row.{Row}
 use Rattle.stack_inverse.specs.RowBlock.{AllNumbersFit, AreMarked}
-use Rattle.stack_inverse.specs.Columns.{RowSeen, no_row, HaveWidths, IsPut}
-use Rattle.stack_inverse.specs.RowsSeen.{seen_of, seen_at}
+use Rattle.stack_inverse.specs.Columns.{RowSeen, no_row, HaveWidths, IsPut, AreEntered}
+use Rattle.stack_inverse.specs.RowsSeen.{seen_of, seen_at, number_in_row}
+
+-- a vector that is written through a slice has what is written
+pub written : {X Z : Type 0} (v : Vec X Z) {lent : List X} (new : List X) → lent ≡ v.items → length new ≡ length lent →
+    (with_items v new).items ≡ new
+written v new kept long = with_items_is v new (long ∙ ap length kept ∙ sym v.ok.0)
+
+-- and is as long as before
+pub written_long : {X Z : Type 0} (v : Vec X Z) {lent : List X} (new : List X) → lent ≡ v.items →
+    length new ≡ length lent → length (with_items v new).items ≡ length v.items
+written_long v new kept long = ap length (written v new kept long) ∙ long ∙ ap length kept
 
 module _ {V : Type 0} {number : Ghosts V} where
   -- each denominator is positive
@@ -36,6 +49,14 @@ module _ {V : Type 0} {number : Ghosts V} where
   pub seen_get : (rows : List (Row V number)) (i : ℕ) (x : Row V number) → i < length rows → x ≡ get_or rows i x →
       seen_of x ≡ seen_at rows i
   seen_get rows i x l e = sym (at-index seen_of no_row rows i x l e)
+
+  -- its number in the column that is kept
+  pub entered_get : (p : Given V number) (rows : List (Row V number)) (column : ℕ) (entered : List V) (i : ℕ) (x : V) →
+      length entered ≡ suc p.first.rows → i ≤ p.first.rows → AreEntered number.value p.first.rows p.first.columns.items
+      p.own.items (seen_at rows) column entered → x ≡ get_or entered i x →
+      number.value x ≡ number_in_row p (seen_at rows i) i column
+  entered_get p rows column entered i x h l are e = sym (at-index number.value (pos 0) entered i x
+      (omega (arith, h, l)) e) ∙ are i l
 
   -- its width
   pub width_get : (m : ℕ) (rows : List (Row V number)) (i : ℕ) (x : Row V number) → length rows ≡ suc m → i ≤ m →

@@ -1,9 +1,8 @@
-use Rattle.std.proofs.Common.{◌≡◌, sym, ap, subst, ◌∙◌, suc, length, true, List, arith, pos, unsigned_abs}
-use Rattle.stack_rows.proofs.Numbers.{at-index}
+use Rattle.std.proofs.Common.{sym, ap, subst, ◌∙◌, suc, length, true, List, arith, unsigned_abs}
 use Rattle.stack_inverse.specs.RowBlock.{IsTopped, IsDividedRow, IsPivotedCells, AreMarked}
 use Rattle.stack_inverse.specs.Columns.{RowSeen, IsPut}
 use Rattle.stack_inverse.specs.RowsSeen.{seen_at, number_in_row, cell_in_row, pivot_cell, columns_of, cells_of_rows}
-use Rattle.stack_inverse.proofs.PutRow.{seen_index, seen_past, widths_put}
+use Rattle.stack_inverse.proofs.PutRow.{seen_index, seen_past, entered_get, widths_put}
 use Rattle.stack_inverse.proofs.PivotedRows.{refused, pivoted}
 use Rattle.stack_inverse.proofs.pivoting.pivot_rows.Goals as goal
 use Rattle.stack_inverse.proofs.pivoting.pivot_rows.Goals.{In-Some, After-put_row}
@@ -16,16 +15,13 @@ bounds-entered-row g c = omega (arith, c.requires.row_in, c.requires.long)
 
 pub divide-requires : goal.divide-requires
 divide-requires g c =
-    let v = g.T.RowNumber.value in
     let p = c.args.given.now in
     let rows = c.args.rows.now in
     let r = c.args.row in
     let seen = seen_index rows r c.index-rows-row.result (omega (arith, c.requires.row_in, c.requires.height))
     c.index-rows-row.is in
-    let factor : v c.index-entered-row.result ≡ number_in_row p (seen_at rows r) r c.args.column =
-    sym (at-index v (pos 0) c.args.entered.now r c.index-entered-row.result
-    (omega (arith, c.requires.row_in, c.requires.long)) c.index-entered-row.is)
-    ∙ c.requires.entered r (omega (arith, c.requires.row_in)) in
+    let factor = entered_get p rows c.args.column c.args.entered.now r c.index-entered-row.result c.requires.long
+    (omega (arith, c.requires.row_in)) c.requires.entered c.index-entered-row.is in
     record {
       width = ap (λ (s : RowSeen g.row.T.Denot). length s.numbers) seen
           ∙ c.requires.widths r (omega (arith, c.requires.row_in));

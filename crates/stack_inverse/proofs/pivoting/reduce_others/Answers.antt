@@ -1,14 +1,44 @@
-use Rattle.std.proofs.Common.{◌≡◌, sym, ap, subst, ◌∙◌, ℕ, ◌<◌, suc, length, pos, true, false, slice_index_or, arith}
+use Rattle.std.proofs.Common.{◌≡◌, sym, ap, subst, ◌∙◌, ℕ, ◌<◌, ◌≤◌, suc, length, true, false, slice_index_or, arith}
 use Rattle.stack_rational.proofs.Common.{ordered_fractions, is_too_wide}
-use Rattle.stack_rows.proofs.Numbers.{at-index}
 use Rattle.stack_table.specs.Spots.{reduce_spot}
 use Rattle.stack_inverse.specs.RowBlock.{AllNumbersFit, IsReducedRow}
 use Rattle.stack_inverse.specs.CellSteps.{TellsSpot}
 use Rattle.stack_inverse.specs.Columns.{RowSeen}
 use Rattle.stack_inverse.specs.RowsSeen.{seen_of, seen_at, number_in_row, cell_in_row, cells_of_rows, columns_of}
 use Rattle.stack_inverse.specs.RowsSeen.{pivot_cell}
-use Rattle.stack_inverse.proofs.PutRow.{seen_index, widths_set, done_set, left_set, marked_set}
+use Rattle.stack_inverse.proofs.PutRow.{seen_index, entered_get, widths_set, done_set, left_set, marked_set}
 use Rattle.stack_inverse.proofs.pivoting.reduce_others.Goals as goal
+use Rattle.stack_inverse.proofs.pivoting.reduce_others.Goals.{After-index-entered-i}
+
+-- the row that is lent
+module _ (g : _) (c : After-index-entered-i g) where
+  abbrev lent : RowSeen g.row.T.Denot
+  lent = seen_of (slice_index_or c.loop-i.rows c.loop-i.i c.index-rows-i.result)
+
+  inside : c.loop-i.i < length c.loop-i.rows
+  inside = omega (arith, c.loop-i-test.true, c.loop-i.auto.rows, c.loop-i.auto.i-end)
+
+  in_height : c.loop-i.i ≤ c.args.given.now.first.rows
+  in_height = omega (arith, inside, c.loop-i.auto.rows, c.requires.height)
+
+  -- is that row of the rows, and still as it was at first
+  is_there : lent ≡ seen_at c.loop-i.rows c.loop-i.i
+  is_there = seen_index c.loop-i.rows c.loop-i.i c.index-rows-i.result inside c.index-rows-i.is
+
+  is_left : lent ≡ seen_at c.args.rows.now c.loop-i.i
+  is_left = is_there ∙ c.loop-i.invariant.left c.loop-i.i (omega arith)
+
+  -- has its width
+  is_wide : length lent.numbers ≡ suc c.args.given.now.first.rows
+  is_wide = ap (λ (s : RowSeen g.row.T.Denot). length s.numbers) is_there
+      ∙ c.loop-i.invariant.widths c.loop-i.i in_height
+
+  -- and its number in the column is the factor
+  factor_is : g.T.RowNumber.value c.index-entered-i.result
+      ≡ number_in_row c.args.given.now lent c.loop-i.i c.args.column
+  factor_is = entered_get c.args.given.now c.args.rows.now c.args.column c.args.entered.now c.loop-i.i
+      c.index-entered-i.result c.requires.long in_height c.requires.entered c.index-entered-i.is
+      ∙ ap (λ (s : RowSeen g.row.T.Denot). number_in_row c.args.given.now s c.loop-i.i c.args.column) (sym is_left)
 
 pub loop-i-preserved-then-i-row : goal.loop-i-preserved-then-i-row
 loop-i-preserved-then-i-row g c = record {
@@ -19,92 +49,60 @@ loop-i-preserved-then-i-row g c = record {
 }
 
 pub reduce-requires-clause-width : goal.reduce-requires-clause-width
-reduce-requires-clause-width g c =
-    let lt : c.loop-i.i < length c.loop-i.rows =
-    omega (arith, c.loop-i-test.true, c.loop-i.auto.rows, c.loop-i.auto.i-end) in
-    ap (λ (s : RowSeen g.row.T.Denot). length s.numbers)
-    (seen_index c.loop-i.rows c.loop-i.i c.index-rows-i.result lt c.index-rows-i.is)
-    ∙ c.loop-i.invariant.widths c.loop-i.i (omega (arith, lt, c.loop-i.auto.rows, c.requires.height))
+reduce-requires-clause-width g c = is_wide g (goal.at.reduce-requires-clause-width g c).After-index-entered-i
 
 pub loop-i-preserved : goal.loop-i-preserved
 loop-i-preserved g c =
-    let v = g.T.RowNumber.value in
+    let at = (goal.at.loop-i-preserved g c).After-index-entered-i in
     let p = c.args.given.now in
     let rows = c.loop-i.rows in
     let i = c.loop-i.i in
-    let x = c.index-rows-i.result in
-    let lt : i < length rows = omega (arith, c.loop-i-test.true, c.loop-i.auto.rows, c.loop-i.auto.i-end) in
-    let in_height : i < suc p.first.rows = omega (arith, lt, c.loop-i.auto.rows, c.requires.height) in
-    let seen : seen_of (slice_index_or rows i x) ≡ seen_at rows i = seen_index rows i x lt c.index-rows-i.is in
-    let e : seen_of (slice_index_or rows i x) ≡ seen_at c.args.rows.now i =
-    seen ∙ c.loop-i.invariant.left i (omega arith) in
-    let factor : v c.index-entered-i.result ≡ number_in_row p (seen_of (slice_index_or rows i x)) i c.args.column =
-    sym (at-index v (pos 0) c.args.entered.now i c.index-entered-i.result
-    (omega (arith, in_height, c.requires.long)) c.index-entered-i.is) ∙ c.requires.entered i (omega (arith, in_height))
-    ∙ ap (λ (s : RowSeen g.row.T.Denot). number_in_row p s i c.args.column) (sym e) in
     let m = g.T.RowNumber.MAX in
     let q = c.args.pivot.now in
     let new = c.reduce.new.row in
-    let here = c.in-Ok.ensures.ok c.args.column factor
-    (subst (λ (s : RowSeen g.row.T.Denot). s.fits ≡ true → AllNumbersFit m (cell_in_row p s i)) (sym seen)
+    let here = c.in-Ok.ensures.ok c.args.column (factor_is g at)
+    (subst (λ (s : RowSeen g.row.T.Denot). s.fits ≡ true → AllNumbersFit m (cell_in_row p s i)) (sym (is_there g at))
     (c.loop-i.invariant.marked i)) in
     record {
-      widths = widths_set rows i new lt p.first.rows c.loop-i.invariant.widths (c.reduce.ensures.width
-          ∙ ap (λ (s : RowSeen g.row.T.Denot). length s.numbers) seen
-          ∙ c.loop-i.invariant.widths i (omega (arith, in_height)));
-      left = left_set rows i new lt (seen_at c.args.rows.now) c.loop-i.invariant.left;
-      marked = marked_set rows i new lt m (λ (k : ℕ) (s : RowSeen g.row.T.Denot). cell_in_row p s k)
+      widths = widths_set rows i new (inside g at) p.first.rows c.loop-i.invariant.widths
+          (c.reduce.ensures.width ∙ is_wide g at);
+      left = left_set rows i new (inside g at) (seen_at c.args.rows.now) c.loop-i.invariant.left;
+      marked = marked_set rows i new (inside g at) m (λ (k : ℕ) (s : RowSeen g.row.T.Denot). cell_in_row p s k)
           c.loop-i.invariant.marked (λ _. here.fits);
-      done = λ k l d. done_set rows i new lt (λ (k : ℕ) (s : RowSeen g.row.T.Denot). IsReducedRow m (columns_of p)
-          (cells_of_rows p c.args.rows.now k) (pivot_cell p q) k c.args.column (cell_in_row p s k)) c.args.row
-          c.loop-i.invariant.done
+      done = λ k l d. done_set rows i new (inside g at) (λ (k : ℕ) (s : RowSeen g.row.T.Denot). IsReducedRow m
+          (columns_of p) (cells_of_rows p c.args.rows.now k) (pivot_cell p q) k c.args.column (cell_in_row p s k))
+          c.args.row c.loop-i.invariant.done
           (subst (λ (s : RowSeen g.row.T.Denot). IsReducedRow m (columns_of p) (cell_in_row p s i) (pivot_cell p q) i
-          c.args.column (cell_in_row p (seen_of new) i)) e here) k l d;
+          c.args.column (cell_in_row p (seen_of new) i)) (is_left g at) here) k l d;
     }
 
 pub returns-in-Err-clause-widths : goal.returns-in-Err-clause-widths
 returns-in-Err-clause-widths g c =
-    let rows = c.loop-i.rows in
-    let i = c.loop-i.i in
-    let m = c.args.given.now.first.rows in
-    let lt : i < length rows = omega (arith, c.loop-i-test.true, c.loop-i.auto.rows, c.loop-i.auto.i-end) in
-    widths_set rows i c.reduce.new.row lt m c.loop-i.invariant.widths (c.reduce.ensures.width
-    ∙ ap (λ (s : RowSeen g.row.T.Denot). length s.numbers) (seen_index rows i c.index-rows-i.result lt
-    c.index-rows-i.is) ∙ c.loop-i.invariant.widths i (omega (arith, lt, c.loop-i.auto.rows, c.requires.height)))
+    let at = (goal.at.returns-in-Err-clause-widths g c).After-index-entered-i in
+    widths_set c.loop-i.rows c.loop-i.i c.reduce.new.row (inside g at) c.args.given.now.first.rows
+    c.loop-i.invariant.widths (c.reduce.ensures.width ∙ is_wide g at)
 
 pub returns-in-Err-clause-marked : goal.returns-in-Err-clause-marked
 returns-in-Err-clause-marked g c =
-    let p = c.args.given.now in
-    let rows = c.loop-i.rows in
-    let i = c.loop-i.i in
-    let lt : i < length rows = omega (arith, c.loop-i-test.true, c.loop-i.auto.rows, c.loop-i.auto.i-end) in
-    marked_set rows i c.reduce.new.row lt g.T.RowNumber.MAX (λ (k : ℕ) (s : RowSeen g.row.T.Denot). cell_in_row p s k)
-    c.loop-i.invariant.marked (λ d. let b : false ≡ true = sym c.in-Err.ensures.unmarked ∙ d in absurd cc)
+    let at = (goal.at.returns-in-Err-clause-marked g c).After-index-entered-i in
+    marked_set c.loop-i.rows c.loop-i.i c.reduce.new.row (inside g at) g.T.RowNumber.MAX
+    (λ (k : ℕ) (s : RowSeen g.row.T.Denot). cell_in_row c.args.given.now s k) c.loop-i.invariant.marked
+    (λ d. let b : false ≡ true = sym c.in-Err.ensures.unmarked ∙ d in absurd cc)
 
 pub returns-in-Err-clause-refused : goal.returns-in-Err-clause-refused
 returns-in-Err-clause-refused g c =
-    let v = g.T.RowNumber.value in
+    let at = (goal.at.returns-in-Err-clause-refused g c).After-index-entered-i in
     let p = c.args.given.now in
-    let rows = c.loop-i.rows in
-    let i = c.loop-i.i in
-    let x = c.index-rows-i.result in
-    let lt : i < length rows = omega (arith, c.loop-i-test.true, c.loop-i.auto.rows, c.loop-i.auto.i-end) in
-    let in_height : i < suc p.first.rows = omega (arith, lt, c.loop-i.auto.rows, c.requires.height) in
-    let seen : seen_of (slice_index_or rows i x) ≡ seen_at rows i = seen_index rows i x lt c.index-rows-i.is in
-    let e : seen_of (slice_index_or rows i x) ≡ seen_at c.args.rows.now i =
-    seen ∙ c.loop-i.invariant.left i (omega arith) in
-    let factor : v c.index-entered-i.result ≡ number_in_row p (seen_of (slice_index_or rows i x)) i c.args.column =
-    sym (at-index v (pos 0) c.args.entered.now i c.index-entered-i.result
-    (omega (arith, in_height, c.requires.long)) c.index-entered-i.is) ∙ c.requires.entered i (omega (arith, in_height))
-    ∙ ap (λ (s : RowSeen g.row.T.Denot). number_in_row p s i c.args.column) (sym e) in (
+    let i = c.loop-i.i in (
       i,
-      in_height,
+      omega (arith, in_height g at),
       record {
         apart = c.if-i-row.false;
         before = λ k l d. (c.loop-i.invariant.done k l d).none;
         here = subst (λ (s : RowSeen g.row.T.Denot). TellsSpot c.in-Err.e (reduce_spot ordered_fractions
             (is_too_wide g.T.RowNumber.MAX) (columns_of p) (cell_in_row p s i) (pivot_cell p c.args.pivot.now)
-            (cell_in_row p s i c.args.column) i)) e (c.in-Err.ensures.refused c.args.column factor);
+            (cell_in_row p s i c.args.column) i)) (is_left g at)
+            (c.in-Err.ensures.refused c.args.column (factor_is g at));
       },
     )
 
