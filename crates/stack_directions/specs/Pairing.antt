@@ -7,6 +7,7 @@ use Rattle.stack_model.specs.declared.types.Load.{Load}
 use Rattle.stack_model.specs.Structure.{Structure, load_of}
 use Rattle.stack_pairs.specs.Directed.{IsSlightLive, ArePair}
 use Rattle.stack_directions.specs.declared.errors.NoPair.{NoPair}
+use Rattle.stack_directions.specs.declared.naming.LoadPair.{LoadPair}
 
 -- a live load with no component of more than 1,000,000 in size
 pub record IsSlightLoad (l : Load) : Type 0 where
@@ -46,16 +47,16 @@ slight_number s zero = None
 slight_number s (suc k) = if is_slight_load (load_of s k) then Some k else None
 
 -- both numbers, or the first that is in the way
-abbrev pub paired : (i j : ℕ) → Option ℕ → Option ℕ → Result (ℕ × ℕ) ℕ
+abbrev pub paired : (i j : ℕ) → Option ℕ → Option ℕ → Result LoadPair ℕ
 paired i j None b = Err i
 paired i j (Some a) None = Err j
-paired i j (Some a) (Some b) = if nat_eq i j then Err j else Ok (a, b)
+paired i j (Some a) (Some b) = if nat_eq i j then Err j else Ok (record { i = a; j = b })
 
 -- the pair of two numbers of a file's loads, as a function of the structure
-abbrev pub pair_of : Structure → (i j : ℕ) → Result (ℕ × ℕ) ℕ
+abbrev pub pair_of : Structure → (i j : ℕ) → Result LoadPair ℕ
 pair_of s i j = paired i j (slight_number s i) (slight_number s j)
 
 -- what is returned are the two loads, or the number that is in the way
-abbrev pub GivesPair : Result (ℕ × ℕ) NoPair → Result (ℕ × ℕ) ℕ → Type 0
-GivesPair (Ok r) p = p ≡ Ok r
+abbrev pub GivesPair : Result (ℕ × ℕ) NoPair → Result LoadPair ℕ → Type 0
+GivesPair (Ok r) p = p ≡ Ok (record { i = r.0; j = r.1 })
 GivesPair (Err e) p = p ≡ Err e.load

@@ -17,4 +17,4 @@ pub use coordinates::point;
 pub use directing::{Towards, directed, survey_towards};
 pub use directions::read_directions;
 pub use errors::{DirectionsError, NoPair};
-pub use naming::pair;
+pub use naming::{LoadPair, pair};

@@ -8,6 +8,13 @@ ghost use Rattle.stack_directions.specs.Pairing.{IsSlight, Pairs, is_slight_load
 use crate::errors::NoPair;
 use stack_model::{Load, Model};
 
+/// The numbers from 0 of two live loads of a model.
+#[derive(Clone, Copy)]
+pub struct LoadPair {
+    pub i: usize,
+    pub j: usize,
+}
+
 /// Whether a load is live, with no component of more than 1,000,000 in size.
 fn slight(load: &Load) -> bool
     ensures means { IsSlight result load.now }

@@ -63,6 +63,6 @@ pub fn answer_form<F: Shelf>(
             second,
             directions,
             budget,
-        } => yield_form(alloc, shelf, model, (first, second), directions, budget),
+        } => yield_form(alloc, shelf, model, first, second, directions, budget),
     }
 }

@@ -25,6 +25,7 @@ use Rattle.stack_overhang.specs.declared.error.StackError.TheVariants as built
 use Rattle.stack_contact.specs.declared.types.SurveyError.TheVariants.{Overlap, TooManyBearings, Memory}
 use Rattle.stack_equilibrium.specs.declared.types.Question.TheVariants.{Live}
 use Rattle.stack_report.specs.ForceNumbers.{wide_index}
+use Rattle.stack_directions.specs.declared.naming.LoadPair.{LoadPair}
 use Rattle.stack_directions.specs.Directions.{directions_of}
 use Rattle.stack_lines.specs.declared.refusal.Input.TheVariants as inputs
 use Rattle.stack_lines.specs.Errors.{from_read}
@@ -135,14 +136,14 @@ ordered_only name budget v = only_then (read inputs.Order name) (order_work budg
     (spared (order_step (told_order v.structure text)) (order_avoids 4 four (told_order v.structure text)))
     (λ order. spared _ (stage_avoids 4 four budget v order (staged v order budget))))
 
-directed_only : (name : List ℕ) (budget : ℕ) (v : Surveyed) (loads : ℕ × ℕ)
+directed_only : (name : List ℕ) (budget : ℕ) (v : Surveyed) (loads : LoadPair)
     → OnlyLong (directed_file name budget v loads)
 unfolding directed_file
 directed_only name budget v loads = only_then (read inputs.Directions name) (directions_work budget v loads)
     (read_only inputs.Directions name)
     (λ text. only_then (directions_step (directions_of text)) _
     (spared (directions_step (directions_of text)) (directions_avoid 4 four (directions_of text)))
-    (λ ds. spared _ (region_avoids 4 four budget v loads.0 loads.1 ds (outcomes v loads.0 loads.1 budget ds))))
+    (λ ds. spared _ (region_avoids 4 four budget v loads.i loads.j ds (outcomes v loads.i loads.j budget ds))))
 
 paired_only : (i j : ℕ) (name : List ℕ) (budget : ℕ) (v : Surveyed) → OnlyLong (paired_file i j name budget v)
 unfolding paired_file

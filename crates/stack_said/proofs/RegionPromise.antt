@@ -9,6 +9,7 @@ use Rattle.stack_work.proofs.Common.{outcomes, over_budget, pair_of, paired_file
 use Rattle.stack_work.specs.Yielding.{directed_file, yield_work}
 use Rattle.stack_contact.specs.Surveyed.{Surveyed}
 use Rattle.stack_pairs.specs.Reaches.{ReachValue, points, collapse}
+use Rattle.stack_directions.specs.declared.naming.LoadPair.{LoadPair}
 use Rattle.stack_directions.specs.Directions.{directions_of}
 use Rattle.stack_yield.specs.Outcomes.{Outcomes, answered, passes_at, spends_at, no_outcomes}
 use Rattle.stack_yield.specs.ByDirections.{AreByDirections}
@@ -36,8 +37,8 @@ use Rattle.stack_said.proofs.PromiseFulfilled.{fulfils}
 -- The end of the work in each case.
 abbrev IsRegionEnd : (budget : ℕ) → Surveyed → RegionCase → Result Due Fault → Type 0
 IsRegionEnd budget v (each_reaches loads ds) e =
-    (rs : List ReachValue) × (e ≡ Ok (region_due v loads.0 loads.1 ds (points rs)))
-IsRegionEnd budget v (one_falls loads ds k y) e = e ≡ Ok (region_due v loads.0 loads.1 ds (collapse y))
+    (rs : List ReachValue) × (e ≡ Ok (region_due v loads.i loads.j ds (points rs)))
+IsRegionEnd budget v (one_falls loads ds k y) e = e ≡ Ok (region_due v loads.i loads.j ds (collapse y))
 IsRegionEnd budget v (is_unpaired number) e = e ≡ Err (no_pair number)
 IsRegionEnd budget v (is_long loads) e = e ≡ Err (long inputs.Directions)
 IsRegionEnd budget v (is_faulty loads number) e = e ≡ Err (directions_line number)
@@ -51,28 +52,28 @@ module _ (i j : ℕ) (name : List ℕ) (budget : ℕ) (holds : Holds) (v : Surve
   unpaired : (number : ℕ) → pair_of v.structure i j ≡ Err number → PairEnds (λ e. e ≡ Err (no_pair number))
   unpaired number is = at_once holds _ _ refl (loads_are v i j name budget (Err number) is)
 
-  paired : {IsDue : Result Due Fault → Type 0} (loads : ℕ × ℕ) → pair_of v.structure i j ≡ Ok loads
+  paired : {IsDue : Result Due Fault → Type 0} (loads : LoadPair) → pair_of v.structure i j ≡ Ok loads
       → EndsIn holds (directed_file name budget v loads) IsDue → PairEnds IsDue
   paired {IsDue} loads is h = subst (λ w. EndsIn holds w IsDue) (sym (loads_are v i j name budget (Ok loads) is)) h
 
   -- no direction and no text of directions is refused as a number that names no load
-  abbrev OtherDue : ℕ × ℕ → Result Due Fault → Type 0
+  abbrev OtherDue : LoadPair → Result Due Fault → Type 0
   OtherDue loads = IsPairDue (is_pair loads)
 
-  outcomes_not : (loads : ℕ × ℕ) (ds : List (ℤ × ℤ)) (o : Outcomes)
-      → EndsIn holds (region_step budget v loads.0 loads.1 ds o) (OtherDue loads)
-  outcomes_not loads ds (answered r) = at_once holds _ (Ok (region_due v loads.0 loads.1 ds r)) tt refl
+  outcomes_not : (loads : LoadPair) (ds : List (ℤ × ℤ)) (o : Outcomes)
+      → EndsIn holds (region_step budget v loads.i loads.j ds o) (OtherDue loads)
+  outcomes_not loads ds (answered r) = at_once holds _ (Ok (region_due v loads.i loads.j ds r)) tt refl
   outcomes_not loads ds (passes_at k p) = at_once holds _ (Err (wide_toward (k + 1) v.structure p)) (λ e.
       let h : 7 ≡ 15 = sym (toward_is_seven (k + 1) v.structure p) ∙ e in absurd (omega (arith, h))) refl
   outcomes_not loads ds (spends_at k) = at_once holds _ (Err (over_budget budget)) (λ e. absurd (omega (arith, e))) refl
   outcomes_not loads ds no_outcomes = at_once holds _ (Err memory) (λ e. absurd (omega (arith, e))) refl
 
-  text_not : (loads : ℕ × ℕ) (r : Result (List (ℤ × ℤ)) ℕ) → EndsIn holds (directions_step r >>= λ ds.
-      region_step budget v loads.0 loads.1 ds (outcomes v loads.0 loads.1 budget ds)) (OtherDue loads)
-  text_not loads (Ok ds) = outcomes_not loads ds (outcomes v loads.0 loads.1 budget ds)
+  text_not : (loads : LoadPair) (r : Result (List (ℤ × ℤ)) ℕ) → EndsIn holds (directions_step r >>= λ ds.
+      region_step budget v loads.i loads.j ds (outcomes v loads.i loads.j budget ds)) (OtherDue loads)
+  text_not loads (Ok ds) = outcomes_not loads ds (outcomes v loads.i loads.j budget ds)
   text_not loads (Err number) = at_once holds _ (Err (directions_line number)) (λ e. absurd (omega (arith, e))) refl
 
-  bytes_not : (loads : ℕ × ℕ) (b : Bool) (text : List ℕ) → EndsIn holds
+  bytes_not : (loads : LoadPair) (b : Bool) (text : List ℕ) → EndsIn holds
       ((if b then refuses (long inputs.Directions) else gives text) >>= directions_work budget v loads) (OtherDue loads)
   bytes_not loads true text = at_once holds _ (Err (long inputs.Directions)) (λ e. absurd (omega (arith, e))) refl
   bytes_not loads false text = text_not loads (directions_of text)
@@ -83,60 +84,60 @@ module _ (i j : ℕ) (name : List ℕ) (budget : ℕ) (holds : Holds) (v : Surve
       (λ text may. bytes_not loads (ltb greatest_file (length text)) text))
   pair_each (is_in_the_way number) is = unpaired number is
 
-  pair_some : (r : Result (ℕ × ℕ) ℕ) → pair_of v.structure i j ≡ r → (x : PairCase) × PairComes i j v x
+  pair_some : (r : Result LoadPair ℕ) → pair_of v.structure i j ≡ r → (x : PairCase) × PairComes i j v x
   pair_some (Ok loads) is = (is_pair loads, is)
   pair_some (Err number) is = (is_in_the_way number, is)
 
   module _ (text : List ℕ) (held : holds name ≡ Some text) where
-    on_short : {IsDue : Result Due Fault → Type 0} (loads : ℕ × ℕ) → pair_of v.structure i j ≡ Ok loads → IsShort text
-        → EndsIn holds (directions_work budget v loads text) IsDue → PairEnds IsDue
+    on_short : {IsDue : Result Due Fault → Type 0} (loads : LoadPair) → pair_of v.structure i j ≡ Ok loads
+        → IsShort text → EndsIn holds (directions_work budget v loads text) IsDue → PairEnds IsDue
     unfolding directed_file
     on_short loads is short h = paired loads is (read_short holds inputs.Directions name _ text held short h)
 
-    on_outcomes : {IsDue : Result Due Fault → Type 0} (e : Result Due Fault) (loads : ℕ × ℕ) (ds : List (ℤ × ℤ))
-        (o : Outcomes) → IsDue e → TellsDirections i j text budget v loads ds → outcomes v loads.0 loads.1 budget ds ≡ o
-        → region_step budget v loads.0 loads.1 ds o ≡ once e → PairEnds IsDue
+    on_outcomes : {IsDue : Result Due Fault → Type 0} (e : Result Due Fault) (loads : LoadPair) (ds : List (ℤ × ℤ))
+        (o : Outcomes) → IsDue e → TellsDirections i j text budget v loads ds → outcomes v loads.i loads.j budget ds ≡ o
+        → region_step budget v loads.i loads.j ds o ≡ once e → PairEnds IsDue
     on_outcomes e loads ds o due told comes ends = on_short loads told.0 told.1 (at_once holds _ e due
         (directions_are v loads text budget ds told.2 o comes ∙ ends))
 
     each : (x : RegionCase) → RegionComes i j text budget v x → PairEnds (IsRegionEnd budget v x)
     unfolding directed_file
-    each (each_reaches loads ds) (told, h) = let d = (directions_are_decided v loads.0 loads.1 budget ds).reach h in
+    each (each_reaches loads ds) (told, h) = let d = (directions_are_decided v loads.i loads.j budget ds).reach h in
         on_outcomes _ loads ds (answered (points d.0)) (d.0, refl) told d.1 refl
     each (one_falls loads ds k y) (told, h) = on_outcomes _ loads ds (answered (collapse y)) refl told
-        ((directions_are_decided v loads.0 loads.1 budget ds).fall k y h) refl
+        ((directions_are_decided v loads.i loads.j budget ds).fall k y h) refl
     each (is_unpaired number) is = unpaired number is
     each (is_long loads) (is, more) = paired loads is (read_long holds inputs.Directions name _ text held more)
     each (is_faulty loads number) (is, short, line) =
         on_short loads is short (at_once holds _ _ refl (ap (after_text v loads text budget) line))
     each (is_wide loads ds k p) (told, h) = on_outcomes _ loads ds (passes_at k p) refl told
-        ((directions_are_decided v loads.0 loads.1 budget ds).wide k p h) refl
+        ((directions_are_decided v loads.i loads.j budget ds).wide k p h) refl
     each (is_spent loads ds k) (told, h) = on_outcomes _ loads ds (spends_at k) refl told
-        ((directions_are_decided v loads.0 loads.1 budget ds).over_budget k h) refl
+        ((directions_are_decided v loads.i loads.j budget ds).over_budget k h) refl
 
     abbrev IsSome : Type 0
     IsSome = (x : RegionCase) × RegionComes i j text budget v x
 
-    by_outcomes : (loads : ℕ × ℕ) (ds : List (ℤ × ℤ)) → TellsDirections i j text budget v loads ds → (o : Outcomes)
-        → AreByDirections v loads.0 loads.1 budget ds o → IsSome
+    by_outcomes : (loads : LoadPair) (ds : List (ℤ × ℤ)) → TellsDirections i j text budget v loads ds → (o : Outcomes)
+        → AreByDirections v loads.i loads.j budget ds o → IsSome
     by_outcomes loads ds told (answered (points rs)) h = (each_reaches loads ds, (told, h))
     by_outcomes loads ds told (answered (collapse y)) h = (one_falls loads ds h.0 y, (told, h.1))
     by_outcomes loads ds told (passes_at k p) h = (is_wide loads ds k p, (told, h))
     by_outcomes loads ds told (spends_at k) h = (is_spent loads ds k, (told, h))
     by_outcomes loads ds told no_outcomes h = absurd h
 
-    by_text : (loads : ℕ × ℕ) → pair_of v.structure i j ≡ Ok loads → IsShort text → (r : Result (List (ℤ × ℤ)) ℕ)
+    by_text : (loads : LoadPair) → pair_of v.structure i j ≡ Ok loads → IsShort text → (r : Result (List (ℤ × ℤ)) ℕ)
         → directions_of text ≡ r → IsSome
-    by_text loads is short (Ok ds) line = by_outcomes loads ds (is, short, line) (outcomes v loads.0 loads.1 budget ds)
-        (outcomes_are_by_directions v loads.0 loads.1 budget ds)
+    by_text loads is short (Ok ds) line = by_outcomes loads ds (is, short, line) (outcomes v loads.i loads.j budget ds)
+        (outcomes_are_by_directions v loads.i loads.j budget ds)
     by_text loads is short (Err number) line = (is_faulty loads number, (is, short, line))
 
-    by_length : (loads : ℕ × ℕ) → pair_of v.structure i j ≡ Ok loads → (b : Bool) → ltb greatest_file (length text) ≡ b
-        → IsSome
+    by_length : (loads : LoadPair) → pair_of v.structure i j ≡ Ok loads → (b : Bool)
+        → ltb greatest_file (length text) ≡ b → IsSome
     by_length loads is true e = (is_long loads, (is, ltb-true _ _ e))
     by_length loads is false e = by_text loads is (ltb-false _ _ e) (directions_of text) refl
 
-    some : (r : Result (ℕ × ℕ) ℕ) → pair_of v.structure i j ≡ r → IsSome
+    some : (r : Result LoadPair ℕ) → pair_of v.structure i j ≡ r → IsSome
     some (Ok loads) is = by_length loads is (ltb greatest_file (length text)) refl
     some (Err number) is = (is_unpaired number, is)
 

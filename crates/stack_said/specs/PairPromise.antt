@@ -1,6 +1,7 @@
 -- What `yield MODEL I J DIRS [PIVOTS]` promises of its two numbers, whatever its directions' file holds.
 use Rattle.std.specs.Prelude.{◌≡◌, ◌≢◌, ℕ, ⊤, Result, Ok, Err}
 use Rattle.stack_contact.specs.Surveyed.{Surveyed}
+use Rattle.stack_directions.specs.declared.naming.LoadPair.{LoadPair}
 use Rattle.stack_directions.specs.Pairing.{pair_of}
 use Rattle.stack_lines.specs.Refusals.{Fault, no_pair, fault_status}
 use Rattle.stack_work.specs.Answers.{Due}
@@ -8,7 +9,7 @@ use Rattle.stack_said.specs.Promise.{Promise}
 
 -- The numbers name these two loads; or this is the first of them that doesn't name one.
 pub data PairCase : Type 0 where
-  is_pair : (loads : ℕ × ℕ) → PairCase
+  is_pair : (loads : LoadPair) → PairCase
   is_in_the_way : (number : ℕ) → PairCase
 
 -- The status is 15 exactly where one is.

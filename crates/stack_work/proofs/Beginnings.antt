@@ -19,6 +19,7 @@ use Rattle.stack_orders.specs.OrderRead.{told_order}
 use Rattle.stack_stages.specs.Staged.{Staged, all_stand, falls, too_wide_at, spent_at, no_stages, staged}
 use Rattle.stack_yield.specs.declared.types.RegionPlace.{RegionPlace}
 use Rattle.stack_yield.specs.declared.types.RegionPlace.TheVariants as region_places
+use Rattle.stack_directions.specs.declared.naming.LoadPair.{LoadPair}
 use Rattle.stack_directions.specs.Directions.{directions_of}
 use Rattle.stack_yield.specs.Outcomes.{Outcomes, answered, passes_at, spends_at, no_outcomes, outcomes}
 use Rattle.stack_directions.specs.Pairing.{pair_of}
@@ -104,7 +105,7 @@ module _ (n : ℕ) (few : n < 6) where
   stage_avoids budget v order (spent_at k) = λ e. absurd (omega (arith, e, few))
   stage_avoids budget v order no_stages = λ e. absurd (omega (arith, e, few))
 
-  pub loads_avoid : (r : Result (ℕ × ℕ) ℕ) → Avoids n (loads_step r)
+  pub loads_avoid : (r : Result LoadPair ℕ) → Avoids n (loads_step r)
   loads_avoid (Ok loads) = tt
   loads_avoid (Err load) = λ e. absurd (omega (arith, e, few))
 
@@ -152,13 +153,13 @@ ordered_avoids name budget v =
     (order_avoids 5 five (told_order v.structure text))
     (λ order. stage_avoids 5 five budget v order (staged v order budget)))
 
-directed_avoids : (name : List ℕ) (budget : ℕ) (v : Surveyed) (loads : ℕ × ℕ)
+directed_avoids : (name : List ℕ) (budget : ℕ) (v : Surveyed) (loads : LoadPair)
     → Avoids 5 (directed_file name budget v loads)
 unfolding directed_file
 directed_avoids name budget v loads = avoids_then 5 (read inputs.Directions name) (directions_work budget v loads)
     (read_avoids inputs.Directions name)
     (λ text. avoids_then 5 (directions_step (directions_of text)) _ (directions_avoid 5 five (directions_of text))
-    (λ ds. region_avoids 5 five budget v loads.0 loads.1 ds (outcomes v loads.0 loads.1 budget ds)))
+    (λ ds. region_avoids 5 five budget v loads.i loads.j ds (outcomes v loads.i loads.j budget ds)))
 
 paired_avoids : (i j : ℕ) (name : List ℕ) (budget : ℕ) (v : Surveyed) → Avoids 5 (paired_file i j name budget v)
 unfolding paired_file

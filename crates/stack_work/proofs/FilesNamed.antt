@@ -33,6 +33,7 @@ use Rattle.stack_range.specs.RangeJudgement.{RangeJudgement, told, wide_on, spen
 use Rattle.stack_orders.specs.OrderRead.{told_order}
 use Rattle.stack_stages.specs.Staged.{Staged, all_stand, falls, too_wide_at, spent_at, no_stages, staged}
 use Rattle.stack_work.specs.Building.{order_step, stages_step, ordered_file, stages_work}
+use Rattle.stack_directions.specs.declared.naming.LoadPair.{LoadPair}
 use Rattle.stack_directions.specs.Directions.{directions_of}
 use Rattle.stack_directions.specs.Pairing.{pair_of}
 use Rattle.stack_yield.specs.Outcomes.{Outcomes, answered, passes_at, spends_at, no_outcomes, outcomes}
@@ -181,7 +182,7 @@ ordered_asks name budget v =
     (λ text. asks_then (order_step (told_order v.structure text)) _ [] [] (order_asks (told_order v.structure text))
     (λ order. stages_asks budget v order (staged v order budget)))
 
-loads_asks : (r : Result (ℕ × ℕ) ℕ) → AsksOnly (loads_step r) []
+loads_asks : (r : Result LoadPair ℕ) → AsksOnly (loads_step r) []
 loads_asks (Ok loads) = refl
 loads_asks (Err load) = tt
 
@@ -196,13 +197,13 @@ region_asks budget v i j ds (passes_at k p) = tt
 region_asks budget v i j ds (spends_at k) = tt
 region_asks budget v i j ds no_outcomes = tt
 
-directed_asks : (name : List ℕ) (budget : ℕ) (v : Surveyed) (loads : ℕ × ℕ)
+directed_asks : (name : List ℕ) (budget : ℕ) (v : Surveyed) (loads : LoadPair)
     → AsksOnly (directed_file name budget v loads) (name ∷ [])
 unfolding directed_file
 directed_asks name budget v loads =
     asks_then (read inputs.Directions name) _ (name ∷ []) [] (read_asks inputs.Directions name)
     (λ text. asks_then (directions_step (directions_of text)) _ [] [] (directions_asks (directions_of text))
-    (λ ds. region_asks budget v loads.0 loads.1 ds (outcomes v loads.0 loads.1 budget ds)))
+    (λ ds. region_asks budget v loads.i loads.j ds (outcomes v loads.i loads.j budget ds)))
 
 paired_asks : (i j : ℕ) (name : List ℕ) (budget : ℕ) (v : Surveyed)
     → AsksOnly (paired_file i j name budget v) (name ∷ [])

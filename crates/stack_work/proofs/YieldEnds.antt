@@ -4,6 +4,7 @@ use Rattle.std.proofs.Common.{inl, arith}
 use Rattle.stack_contact.specs.Surveyed.{Surveyed}
 use Rattle.stack_pairs.specs.Reaches.{ReachValue, collapse, points}
 use Rattle.stack_yield.specs.declared.types.RegionPlace.{RegionPlace}
+use Rattle.stack_directions.specs.declared.naming.LoadPair.{LoadPair}
 use Rattle.stack_directions.specs.declared.errors.DirectionsError.{DirectionsError}
 use Rattle.stack_directions.specs.declared.errors.DirectionsError.TheVariants as reading
 use Rattle.stack_directions.specs.Directions.{directions_of}
@@ -59,16 +60,16 @@ pub is_direction : (v : Surveyed) (i j budget : ℕ) (ds : List (ℤ × ℤ)) (n
     → outcomes v i j budget ds ≡ passes_at n p → n < length ds
 is_direction v i j budget ds n p is = let h = passes_among v i j budget 0 ds n p is in omega (arith, h)
 
-module _ (v : Surveyed) (loads : ℕ × ℕ) (text : List ℕ) (budget : ℕ) where
+module _ (v : Surveyed) (loads : LoadPair) (text : List ℕ) (budget : ℕ) where
   abbrev pub after_text : Result (List (ℤ × ℤ)) ℕ → Work Due
-  after_text r = directions_step r >>= λ ds. region_step budget v loads.0 loads.1 ds
-      (outcomes v loads.0 loads.1 budget ds)
+  after_text r = directions_step r >>= λ ds. region_step budget v loads.i loads.j ds
+      (outcomes v loads.i loads.j budget ds)
 
   -- the step of what comes of the directions, where the text tells these
   pub directions_are : (ds : List (ℤ × ℤ)) → directions_of text ≡ Ok ds → (o : Outcomes)
-      → outcomes v loads.0 loads.1 budget ds ≡ o
-      → directions_work budget v loads text ≡ region_step budget v loads.0 loads.1 ds o
-  directions_are ds is o comes = ap after_text is ∙ ap (region_step budget v loads.0 loads.1 ds) comes
+      → outcomes v loads.i loads.j budget ds ≡ o
+      → directions_work budget v loads text ≡ region_step budget v loads.i loads.j ds o
+  directions_are ds is o comes = ap after_text is ∙ ap (region_step budget v loads.i loads.j ds) comes
 
   -- a text that is read as none, or want of memory
   pub directions_refused : (e : DirectionsError) (r : CodeRefusal) (holds : Holds) → GivesDirections (Err e) text
@@ -80,7 +81,7 @@ module _ (v : Surveyed) (loads : ℕ × ℕ) (text : List ℕ) (budget : ℕ) wh
       (wanting holds (directions_work budget v loads text))
 
 -- the step of the loads that the numbers name
-pub loads_are : (v : Surveyed) (i j : ℕ) (name : List ℕ) (budget : ℕ) (p : Result (ℕ × ℕ) ℕ)
+pub loads_are : (v : Surveyed) (i j : ℕ) (name : List ℕ) (budget : ℕ) (p : Result LoadPair ℕ)
     → pair_of v.structure i j ≡ p
     → paired_file i j name budget v ≡ loads_step p >>= directed_file name budget v
 unfolding paired_file

@@ -5,6 +5,7 @@ use Rattle.stack_model.specs.Structure.{Structure}
 use Rattle.stack_contact.specs.Surveyed.{Surveyed}
 use Rattle.stack_yield.specs.declared.types.RegionPlace.{RegionPlace}
 use Rattle.stack_yield.specs.declared.types.RegionPlace.TheVariants as places
+use Rattle.stack_directions.specs.declared.naming.LoadPair.{LoadPair}
 use Rattle.stack_directions.specs.Directions.{directions_of}
 use Rattle.stack_directions.specs.Pairing.{pair_of}
 use Rattle.stack_yield.specs.Outcomes.{Outcomes, answered, passes_at, spends_at, no_outcomes, outcomes}
@@ -18,7 +19,7 @@ use Rattle.stack_work.specs.Work.{Work, gives, refuses, ◌>>=◌}
 use Rattle.stack_work.specs.Surveying.{read, surveyed_file}
 
 -- Two numbers name two loads, or are refused with the one that is in the way.
-abbrev pub loads_step : Result (ℕ × ℕ) ℕ → Work (ℕ × ℕ)
+abbrev pub loads_step : Result LoadPair ℕ → Work LoadPair
 loads_step (Ok loads) = gives loads
 loads_step (Err load) = refuses (no_pair load)
 
@@ -44,13 +45,13 @@ region_step budget v i j ds (spends_at k) = refuses (over_budget budget)
 region_step budget v i j ds no_outcomes = refuses memory
 
 -- A text of directions, up to the region of two loads in them.
-abbrev pub directions_work : (budget : ℕ) → Surveyed → ℕ × ℕ → List ℕ → Work Due
+abbrev pub directions_work : (budget : ℕ) → Surveyed → LoadPair → List ℕ → Work Due
 directions_work budget v loads text = do
   ds ← directions_step (directions_of text)
-  region_step budget v loads.0 loads.1 ds (outcomes v loads.0 loads.1 budget ds)
+  region_step budget v loads.i loads.j ds (outcomes v loads.i loads.j budget ds)
 
 -- The file of the directions is read, and the region of two loads in them is judged.
-unfoldable pub directed_file : List ℕ → (budget : ℕ) → Surveyed → ℕ × ℕ → Work Due
+unfoldable pub directed_file : List ℕ → (budget : ℕ) → Surveyed → LoadPair → Work Due
 directed_file name budget v loads = do
   text ← read inputs.Directions name
   directions_work budget v loads text

@@ -13,18 +13,18 @@ ghost use Rattle.stack_yield.specs.RegionText.{CanPrintRegion};
 use crate::judging::{DirectionAnswer, DirectionStop, judge_direction};
 use crate::types::{Region, RegionError};
 use stack_contact::Survey;
-use stack_directions::{Towards, directed};
+use stack_directions::{LoadPair, Towards, directed};
 use stack_equilibrium::proper;
 use stack_pairs::reach_laws;
 use std::alloc::Global;
 
 /// Two loads and a direction.
-fn towards(i: usize, j: usize, d: &(i64, i64)) -> Towards
-    ensures { result ≡ towards_of i j d.now }
+fn towards(pair: LoadPair, d: &(i64, i64)) -> Towards
+    ensures { result ≡ towards_of pair.i pair.j d.now }
 {
     Towards {
-        i,
-        j,
+        i: pair.i,
+        j: pair.j,
         m: d.0,
         n: d.1,
     }
@@ -44,33 +44,33 @@ fn refused(stop: DirectionStop, k: usize) -> RegionError
     }
 }
 
-/// The region of the loads numbered in `pair`, over the surveys towards the first and towards the second of them alone:
-/// the reach of each direction, up to one where the dead loads fall, or that has none.
+/// The region of two loads, over the surveys towards the first and towards the second of them alone: the reach of each
+/// direction, up to one where the dead loads fall, or that has none.
 fn gathered(
     alloc: Global,
     s: &Survey,
-    first: &Survey,
-    second: &Survey,
-    pair: (usize, usize),
+    towards_first: &Survey,
+    towards_second: &Survey,
+    pair: LoadPair,
     dirs: &[(i64, i64)],
     budget: u32,
 ) -> Result<Region, RegionError>
-    requires pair { ArePair s.now.structure pair.0 pair.1 }
-    requires first { first.now ≡ directed_survey s.now pair.0 pair.1 (pos 1) (pos 0) }
-    requires second { second.now ≡ directed_survey s.now pair.0 pair.1 (pos 0) (pos 1) }
+    requires pair { ArePair s.now.structure pair.i pair.j }
+    requires first { towards_first.now ≡ directed_survey s.now pair.i pair.j (pos 1) (pos 0) }
+    requires second { towards_second.now ≡ directed_survey s.now pair.i pair.j (pos 0) (pos 1) }
     requires directions { All (λ d. IsDirection d.0 d.1) dirs.now }
     requires some { 1 ≤ length dirs.now }
     requires budget { budget ≢ 0 }
-    ensures regions { Regions result s.now pair.0 pair.1 budget dirs.now }
-    ensures judged { IfOk result (λ r. RegionIsJudged s.now pair.0 pair.1 (region_view r)) }
-    ensures tells { IfOk result (λ r. RegionTells s.now pair.0 pair.1 dirs.now (region_view r)) }
+    ensures regions { Regions result s.now pair.i pair.j budget dirs.now }
+    ensures judged { IfOk result (λ r. RegionIsJudged s.now pair.i pair.j (region_view r)) }
+    ensures tells { IfOk result (λ r. RegionTells s.now pair.i pair.j dirs.now (region_view r)) }
 {
     reach_laws();
     proper(s);
     let mut reaches = Vec::new(alloc);
     for k in 0..dirs.len() {
-        let t = towards(pair.0, pair.1, &dirs[k]);
-        match judge_direction(alloc, s, first, second, t, budget) {
+        let t = towards(pair, &dirs[k]);
+        match judge_direction(alloc, s, towards_first, towards_second, t, budget) {
             Ok(DirectionAnswer::Reaches(reach)) => reaches.push(reach)?,
             Ok(DirectionAnswer::Falls(motion)) => return Ok(Region::Collapses(motion)),
             Err(stop) => return Err(refused(stop, k)),
@@ -105,7 +105,16 @@ pub fn region(
     ensures tells { IfOk result (λ r. RegionTells s.now i j dirs.now (region_view r)) }
     ensures printable { IfOk result (λ r. CanPrintRegion (region_view r)) }
 {
-    let first = directed(alloc, s, i, j, 1, 0)?;
-    let second = directed(alloc, s, i, j, 0, 1)?;
-    gathered(alloc, s, &first, &second, (i, j), dirs, budget)
+    let towards_first = directed(alloc, s, i, j, 1, 0)?;
+    let towards_second = directed(alloc, s, i, j, 0, 1)?;
+    let pair = LoadPair { i, j };
+    gathered(
+        alloc,
+        s,
+        &towards_first,
+        &towards_second,
+        pair,
+        dirs,
+        budget,
+    )
 }

@@ -65,8 +65,8 @@ fn dead_power(judged: &Survey, forces: &Forces, motion: &Motion) -> i128
 fn bounded_reach(
     s: &Survey,
     judged: &Survey,
-    first: &Survey,
-    second: &Survey,
+    towards_first: &Survey,
+    towards_second: &Survey,
     t: Towards,
     forces: Forces,
     motion: Motion,
@@ -74,16 +74,16 @@ fn bounded_reach(
     requires pair { ArePair s.now.structure t.i t.j }
     requires factors { AreFactors t.m t.n }
     requires towards { judged.now ≡ directed_survey s.now t.i t.j t.m t.n }
-    requires first { first.now ≡ directed_survey s.now t.i t.j (pos 1) (pos 0) }
-    requires second { second.now ≡ directed_survey s.now t.i t.j (pos 0) (pos 1) }
+    requires first { towards_first.now ≡ directed_survey s.now t.i t.j (pos 1) (pos 0) }
+    requires second { towards_second.now ≡ directed_survey s.now t.i t.j (pos 0) (pos 1) }
     requires judged { IsJudged questions.Live judged.now (greatest (forces_view forces) (motion_view motion)) }
     ensures outcome { IsOutcome result (bounded s.now t.i t.j t.m t.n (forces_view forces) (motion_view motion)) }
     ensures fits { IfOk result AnswerFits }
 {
-    let Ok(p) = power(first, &motion, Question::Live) else {
+    let Ok(p) = power(towards_first, &motion, Question::Live) else {
         return Err(DirectionStop::TooWide(RegionPlace::First));
     };
-    let Ok(q) = power(second, &motion, Question::Live) else {
+    let Ok(q) = power(towards_second, &motion, Question::Live) else {
         return Err(DirectionStop::TooWide(RegionPlace::Second));
     };
     let r = dead_power(judged, &forces, &motion);
@@ -103,16 +103,16 @@ fn bounded_reach(
 fn certificate_answer(
     s: &Survey,
     judged: &Survey,
-    first: &Survey,
-    second: &Survey,
+    towards_first: &Survey,
+    towards_second: &Survey,
     t: Towards,
     certificate: Certificate,
 ) -> Result<DirectionAnswer, DirectionStop>
     requires pair { ArePair s.now.structure t.i t.j }
     requires factors { AreFactors t.m t.n }
     requires towards { judged.now ≡ directed_survey s.now t.i t.j t.m t.n }
-    requires first { first.now ≡ directed_survey s.now t.i t.j (pos 1) (pos 0) }
-    requires second { second.now ≡ directed_survey s.now t.i t.j (pos 0) (pos 1) }
+    requires first { towards_first.now ≡ directed_survey s.now t.i t.j (pos 1) (pos 0) }
+    requires second { towards_second.now ≡ directed_survey s.now t.i t.j (pos 0) (pos 1) }
     requires judged { IsJudged questions.Live judged.now (certificate_view certificate) }
     ensures outcome { IsOutcome result (certificate_outcome s.now t.i t.j t.m t.n (certificate_view certificate)) }
     ensures holds { IfOk result (λ r. AnswerHolds s.now t.i t.j r) }
@@ -122,7 +122,7 @@ fn certificate_answer(
     match certificate {
         Certificate::Collapses(motion) => Ok(DirectionAnswer::Falls(motion)),
         Certificate::Greatest(forces, motion) => {
-            bounded_reach(s, judged, first, second, t, forces, motion)
+            bounded_reach(s, judged, towards_first, towards_second, t, forces, motion)
         }
         Certificate::Unbounded(base, ray) => Ok(DirectionAnswer::Reaches(Reach {
             m: t.m,
@@ -139,22 +139,29 @@ fn certificate_answer(
 pub fn judge_direction(
     alloc: Global,
     s: &Survey,
-    first: &Survey,
-    second: &Survey,
+    towards_first: &Survey,
+    towards_second: &Survey,
     t: Towards,
     budget: u32,
 ) -> Result<DirectionAnswer, DirectionStop>
     requires budget { budget ≢ 0 }
     requires pair { ArePair s.now.structure t.i t.j }
     requires factors { AreFactors t.m t.n }
-    requires first { first.now ≡ directed_survey s.now t.i t.j (pos 1) (pos 0) }
-    requires second { second.now ≡ directed_survey s.now t.i t.j (pos 0) (pos 1) }
+    requires first { towards_first.now ≡ directed_survey s.now t.i t.j (pos 1) (pos 0) }
+    requires second { towards_second.now ≡ directed_survey s.now t.i t.j (pos 0) (pos 1) }
     ensures outcome { IsOutcome result (direction_outcome s.now t.i t.j budget (t.m, t.n)) }
     ensures holds { IfOk result (λ r. AnswerHolds s.now t.i t.j r) }
 {
     let judged = survey_towards(alloc, s, t)?;
     match judge(alloc, &judged, Question::Live, budget) {
-        Ok(certificate) => certificate_answer(s, &judged, first, second, t, certificate),
+        Ok(certificate) => certificate_answer(
+            s,
+            &judged,
+            towards_first,
+            towards_second,
+            t,
+            certificate,
+        ),
         Err(JudgeError::TooWide(place)) => Err(DirectionStop::TooWide(RegionPlace::Judge(place))),
         Err(JudgeError::Spent { .. }) => Err(DirectionStop::Spent),
         Err(JudgeError::NoLive) => unreachable!(),

@@ -17,7 +17,7 @@ use crate::forms::judging::wide_refusal;
 use crate::reading::read_file;
 use crate::surveying::survey_file;
 use stack_contact::Survey;
-use stack_directions::{pair, read_directions};
+use stack_directions::{LoadPair, pair, read_directions};
 use stack_lines::{Answer, Input, ReachPlace, Refusal, Verdict, Within};
 use stack_outside::Shelf;
 use stack_yield::{Region, RegionError, RegionPlace, region, write_region};
@@ -64,23 +64,23 @@ fn direction_number(direction: usize) -> usize
     direction + 1
 }
 
-/// The region of two loads of a survey, told by their numbers from 0, in some directions.
+/// The region of two loads of a survey in some directions.
 fn region_survey(
     alloc: Global,
     survey: &Survey,
-    loads: (usize, usize),
+    loads: LoadPair,
     directions: &[(i64, i64)],
     budget: u32,
 ) -> Result<Answer, Refusal>
-    requires loads { ArePair survey.now.structure loads.0 loads.1 }
+    requires loads { ArePair survey.now.structure loads.i loads.j }
     requires directions { All (λ d. IsDirection d.0 d.1) directions.now }
     requires some { 1 ≤ length directions.now }
     requires few { length directions.now ≤ most_directions }
     requires budget { budget ≢ 0 }
-    ensures { DoesAlone AnswersDue (region_step budget survey.now loads.0 loads.1 directions.now
-        (outcomes survey.now loads.0 loads.1 budget directions.now)) result }
+    ensures { DoesAlone AnswersDue (region_step budget survey.now loads.i loads.j directions.now
+        (outcomes survey.now loads.i loads.j budget directions.now)) result }
 {
-    match region(alloc, survey, loads.0, loads.1, directions, budget) {
+    match region(alloc, survey, loads.i, loads.j, directions, budget) {
         Ok(found) => {
             let verdict = region_verdict(&found);
             match write_region(alloc, found) {
@@ -101,10 +101,10 @@ fn directions_text(
     alloc: Global,
     text: &[u8],
     survey: &Survey,
-    loads: (usize, usize),
+    loads: LoadPair,
     budget: u32,
 ) -> Result<Answer, Refusal>
-    requires loads { ArePair survey.now.structure loads.0 loads.1 }
+    requires loads { ArePair survey.now.structure loads.i loads.j }
     requires budget { budget ≢ 0 }
     ensures { DoesAlone AnswersDue (directions_work budget survey.now loads text.now) result }
 {
@@ -120,10 +120,10 @@ fn directions_file<F: Shelf>(
     shelf: &mut F,
     name: &str,
     survey: &Survey,
-    loads: (usize, usize),
+    loads: LoadPair,
     budget: u32,
 ) -> Result<Answer, Refusal>
-    requires loads { ArePair survey.now.structure loads.0 loads.1 }
+    requires loads { ArePair survey.now.structure loads.i loads.j }
     requires budget { budget ≢ 0 }
     ensures { Does AnswersDue (directed_file name.now budget survey.now loads)
         (seen_shelf F.Shelf shelf.old shelf.new) result }
@@ -139,16 +139,17 @@ fn loads_file<F: Shelf>(
     alloc: Global,
     shelf: &mut F,
     survey: &Survey,
-    numbers: (u32, u32),
+    first: u32,
+    second: u32,
     directions: &str,
     budget: u32,
 ) -> Result<Answer, Refusal>
     requires { budget ≢ 0 }
-    ensures { Does AnswersDue (paired_file numbers.0 numbers.1 directions.now budget survey.now)
+    ensures { Does AnswersDue (paired_file first second directions.now budget survey.now)
         (seen_shelf F.Shelf shelf.old shelf.new) result }
 {
-    match pair(survey.model(), numbers.0, numbers.1) {
-        Ok(loads) => directions_file(alloc, shelf, directions, survey, loads, budget),
+    match pair(survey.model(), first, second) {
+        Ok((i, j)) => directions_file(alloc, shelf, directions, survey, LoadPair { i, j }, budget),
         Err(fault) => Err(Refusal::from(fault)),
     }
 }
@@ -158,16 +159,17 @@ pub fn yield_form<F: Shelf>(
     alloc: Global,
     shelf: &mut F,
     model: &str,
-    numbers: (u32, u32),
+    first: u32,
+    second: u32,
     directions: &str,
     budget: u32,
 ) -> Result<Answer, Refusal>
     requires { budget ≢ 0 }
-    ensures { Does AnswersDue (yield_work model.now numbers.0 numbers.1 directions.now budget)
+    ensures { Does AnswersDue (yield_work model.now first second directions.now budget)
         (seen_shelf F.Shelf shelf.old shelf.new) result }
 {
     match survey_file(alloc, shelf, model) {
-        Ok(survey) => loads_file(alloc, shelf, &survey, numbers, directions, budget),
+        Ok(survey) => loads_file(alloc, shelf, &survey, first, second, directions, budget),
         Err(refusal) => Err(refusal),
     }
 }

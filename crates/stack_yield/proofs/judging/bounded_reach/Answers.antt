@@ -11,13 +11,13 @@ use Rattle.stack_yield.proofs.judging.bounded_reach.Goals as goal
 
 pub power-requires : goal.power-requires
 power-requires c = moves_for c.args.s.now c.args.t.i c.args.t.j c.args.t.m c.args.t.n (pos 1) (pos 0)
-    c.args.judged.now c.args.first.now (forces_view c.args.forces) (motion_view c.args.motion) c.requires.towards
-    c.requires.first c.requires.judged
+    c.args.judged.now c.args.towards_first.now (forces_view c.args.forces) (motion_view c.args.motion)
+    c.requires.towards c.requires.first c.requires.judged
 
 pub power-requires-2 : goal.power-requires-2
 power-requires-2 c = moves_for c.args.s.now c.args.t.i c.args.t.j c.args.t.m c.args.t.n (pos 0) (pos 1)
-    c.args.judged.now c.args.second.now (forces_view c.args.forces) (motion_view c.args.motion) c.requires.towards
-    c.requires.second c.requires.judged
+    c.args.judged.now c.args.towards_second.now (forces_view c.args.forces) (motion_view c.args.motion)
+    c.requires.towards c.requires.second c.requires.judged
 
 pub returns-clause-outcome : goal.returns-clause-outcome
 returns-clause-outcome c =
@@ -41,8 +41,8 @@ returns-clause-outcome c =
     (fitting_cast c.dead_power-r.result c.dead_power-r.ensures.fits) wp wq
     (point_told c.args.t.m c.args.t.n _ _ f c.widened.result c.widened-2.result c.point.result _ c.widened.ensures em
     c.widened-2.ensures en c.point.ensures c.in-Some.is)
-    (half_told c.args.first.now y c.in-Ok.p _ c.requires.first c.in-Ok.ensures.value)
-    (half_told c.args.second.now y c.in-Ok-power.q _ c.requires.second c.in-Ok-power.ensures.value)
+    (half_told c.args.towards_first.now y c.in-Ok.p _ c.requires.first c.in-Ok.ensures.value)
+    (half_told c.args.towards_second.now y c.in-Ok-power.q _ c.requires.second c.in-Ok-power.ensures.value)
     (c.dead_power-r.ensures.value ∙ less_dead_is c.args.s.now c.args.t.i c.args.t.j c.args.t.m c.args.t.n
     c.args.judged.now y
     c.requires.pair c.requires.towards)
@@ -51,8 +51,8 @@ pub returns-clause-fits : goal.returns-clause-fits
 returns-clause-fits c =
     let y : MotionValue = motion_view c.args.motion in
     let f : ForcesValue = forces_view c.args.forces in
-    let fp = power_fits Live c.args.first.now y c.in-Ok.p (sym c.power.ensures.written ∙ c.in-Ok.is) in
-    let fq = power_fits Live c.args.second.now y c.in-Ok-power.q
+    let fp = power_fits Live c.args.towards_first.now y c.in-Ok.p (sym c.power.ensures.written ∙ c.in-Ok.is) in
+    let fq = power_fits Live c.args.towards_second.now y c.in-Ok-power.q
     (sym c.power-2.ensures.written ∙ c.in-Ok-power.is) in
     let fr = c.dead_power-r.ensures.fits in (
       point_fits c.widened.result.value c.widened-2.result.value f c.in-Some.at (sym c.point.ensures ∙ c.in-Some.is),

@@ -11,7 +11,7 @@ some_directions ds = Ok ds
 pub returns-in-Ok : goal.returns-in-Ok
 returns-in-Ok c = done_alone AnswersDue (directions_are c.args.survey.now c.args.loads c.args.text.now c.args.budget
     c.as_slice.result.now (c.in-Ok.ensures.gives ∙ ap some_directions (sym c.as_slice.ensures.value))
-    (outcomes c.args.survey.now c.args.loads.0 c.args.loads.1 c.args.budget c.as_slice.result.now) refl)
+    (outcomes c.args.survey.now c.args.loads.i c.args.loads.j c.args.budget c.as_slice.result.now) refl)
     c.region_survey.result c.region_survey.ensures
 
 pub returns-in-Err : goal.returns-in-Err
