@@ -116,6 +116,9 @@ def ring(count: int, radius: float, thickness: float, degrees: float = 180) -> D
     inner, outer = radius - thickness / 2, radius + thickness / 2
 
     def at(distance: float, joint: int, back: float = 0) -> Pair:
+        if 2 * joint > count:  # the mirror image, so that rounding makes no difference between the halves
+            x, y = at(distance, count - joint, -back)
+            return -x, y
         angle = start + whole * joint / count
         return (round(distance * math.cos(angle) + back * math.sin(angle)),
                 round(distance * math.sin(angle) - back * math.cos(angle)))

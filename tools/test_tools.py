@@ -304,6 +304,12 @@ class Drawings(unittest.TestCase):
             self.assertEqual(courses[number][0][2][1], courses[number + 1][0][0][1])
         self.assertEqual(load.block, "s4-0")
 
+    def test_a_ring_is_its_own_mirror_image(self) -> None:
+        for count, radius, thickness, degrees in ((6, 260, 34, 120), (5, 300, 70, 100), (7, 202.5, 30, 106.26)):
+            with self.subTest(count):
+                corners = [set(body.corners) for body in shapes.ring(count, radius, thickness, degrees)[1]]
+                self.assertCountEqual(corners, [{(-x, y) for x, y in stone} for stone in corners])
+
     def test_wrong_words_are_told(self) -> None:
         for words in ("ring 0 10 2", "arch 0 100", "wall 0 0", "wall 2", "tower 2", "sway 1", "sway 1 0",
                       "joint 1 0 wall 2 2", "ring 3 nan 2", "wall 2 2 0.5", "arch 8 400 long", "facade x"):
