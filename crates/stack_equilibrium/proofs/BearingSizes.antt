@@ -1,6 +1,6 @@
 -- The bearings of a survey are within the limits: their points lie in polygons, and their friction is that of a
 -- material or of a joint.
-use Rattle.std.proofs.Common.{◌≡◌, refl, sym, subst, ℕ, ◌<◌, ◌≤◌, ℤ, pos, negsuc, ◌+ℤ◌}
+use Rattle.std.proofs.Common.{◌≡◌, refl, sym, subst, ℕ, ◌<◌, ℤ, pos, negsuc, ◌+ℤ◌}
 use Rattle.std.proofs.Common.{◌*ℤ◌, List, length, Bool, true, false, arith, int_le}
 use Rattle.std.proofs.Common.{if◌then◌else◌, Option, Some, None, IfSome}
 use Rattle.std.proofs.lemmas.Int.{ints}

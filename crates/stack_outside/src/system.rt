@@ -1,8 +1,8 @@
-//! The calls of the system, and the whole trusted edge: one line, `fs::open` in `open`. The kit doesn't say what a
-//! name holds, so that nothing shows that this line opens the file asked for and does nothing else. Of reads and writes
-//! it is proved, over any reader and any writer of the kit that tells its bytes, that what they give is what the call
-//! gave, or that it failed. That they call at all is tested. Which stream is which is a matter of types, as each handle
-//! writes to its own. Of real files and streams the kit tells no bytes, and so the real devices tell none.
+//! The calls of the system. One line of it is trusted: `fs::open` in `open`. The kit doesn't say what a name holds, so
+//! that nothing shows that this line opens the file asked for and does nothing else. Of reads and writes it is proved,
+//! over any reader and any writer of the kit that tells its bytes, that what they give is what the call gave, or that
+//! it failed. That they call at all is tested. Which stream is which is a matter of types, as each handle writes to its
+//! own. Of real files and streams the kit tells no bytes, and so the real devices tell none.
 
 ghost use Rattle.std.specs.Prelude.{◌≡◌, None};
 

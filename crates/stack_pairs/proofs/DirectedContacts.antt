@@ -1,6 +1,5 @@
 -- The directed survey is the survey of the directed structure.
-use Rattle.std.proofs.Common.{◌≡◌, refl, sym, subst, ℕ, ℤ}
-use Rattle.stack_model.specs.Structure.{Structure}
+use Rattle.std.proofs.Common.{refl, sym, subst, ℕ, ℤ}
 use Rattle.stack_contact.specs.Surveyed.{Surveyed, IsSurvey}
 use Rattle.stack_contact.proofs.SameContacts.{same_contacts}
 use Rattle.stack_pairs.specs.Directed.{directed_structure, directed_survey}

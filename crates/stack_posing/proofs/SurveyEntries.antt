@@ -1,15 +1,15 @@
 -- The entries of the problem of a survey are what its columns and loads are.
-use Rattle.std.proofs.Common.{◌≡◌, refl, sym, ap, ◌∙◌, ℕ, ◌+◌, ◌*◌, ◌/◌, ◌%◌, ◌<◌, cond, eqb, ltb, length, arith, neg_ℤ}
+use Rattle.std.proofs.Common.{◌≡◌, refl, ap, ◌∙◌, ℕ, ◌+◌, ◌*◌, ◌/◌, ◌%◌, ◌<◌, cond, eqb, ltb, length, arith, neg_ℤ}
 use Rattle.std.proofs.Common.{pos, lt-ltb, le-ltb, eq-eqb}
 use Rattle.stack_equilibrium.proofs.Common.{Surveyed, Wrench, body_number, frees_of, scene_of}
 use Rattle.stack_equilibrium.specs.declared.types.Question.{Question}
 use Rattle.stack_equilibrium.specs.declared.types.Question.TheVariants.{Live}
-use Rattle.stack_posing.specs.FreeBodies.{free_at, free_bodies, AreFreeBlocks}
+use Rattle.stack_posing.specs.FreeBodies.{free_at, free_bodies}
 use Rattle.stack_posing.specs.Edges.{edge_on}
-use Rattle.stack_posing.specs.ByNumber.{dead_on, live_on}
+use Rattle.stack_posing.specs.ByNumber.{dead_on}
 use Rattle.stack_posing.proofs.FreeBodies.{free_numbers_are_those_of_surveys}
 use Rattle.stack_posing.specs.Posed.{share, row_share, column_on, no_wrench, factor_on, posed}
-use Rattle.stack_posing.specs.PosedSurvey.{IsPosedBy, SurveysArePosed}
+use Rattle.stack_posing.specs.PosedSurvey.{SurveysArePosed}
 
 pub three_parts : (b a : ℕ) → a < 3 → ((3 * b + a) / 3 ≡ b) × ((3 * b + a) % 3 ≡ a)
 three_parts b a l = (omega (arith, l), omega (arith, l))

@@ -1,7 +1,7 @@
 -- The parts together are the problem of the survey, and meet the condition of a table.
-use Rattle.std.proofs.Common.{◌≡◌, refl, sym, ap, subst, ◌∙◌, ℕ, zero, suc, ◌+◌, ◌*◌, ◌<◌, ◌≤◌, ◌%◌, Bool, true, false}
+use Rattle.std.proofs.Common.{◌≡◌, refl, sym, ap, subst, ◌∙◌, ℕ, zero, suc, ◌*◌, ◌<◌, ◌≤◌, ◌%◌, Bool, true, false}
 use Rattle.std.proofs.Common.{List, [], ◌∷◌, length, get_or, cond, eqb, ltb, arith, Option, Some, None, Vec, ◌/◌}
-use Rattle.std.proofs.Common.{lt-ltb, le-ltb, eq-eqb, T, eqb→eq, ℤ, pos}
+use Rattle.std.proofs.Common.{lt-ltb, le-ltb, eq-eqb, T, ℤ, pos}
 use Rattle.std.specs.declared.alloc.Global.{Global}
 use Rattle.std.specs.List.{AllByRecursion}
 use native.Mathlib.Decide.{ℕ_discrete, dec_le}

@@ -1,5 +1,5 @@
 -- The problem of a survey's scene by what functions of the survey give: `column`, `live` and `dead`.
-use Rattle.std.specs.Prelude.{◌≡◌, ℕ, ◌+◌, ◌*◌, ◌<◌, Bool, true, false, length, neg_ℤ}
+use Rattle.std.specs.Prelude.{◌≡◌, ℕ, ◌+◌, ◌*◌, ◌<◌, true, false, length, neg_ℤ}
 use Rattle.stack_contact.specs.Surveyed.{Surveyed}
 use Rattle.stack_contact.specs.FreeBlocks.{frees_of}
 use Rattle.stack_equilibrium.specs.declared.types.Question.{Question}

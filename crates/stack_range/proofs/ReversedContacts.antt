@@ -1,6 +1,5 @@
 -- The reversed survey is the survey of the reversed structure.
-use Rattle.std.proofs.Common.{◌≡◌, refl, sym, subst}
-use Rattle.stack_model.specs.Structure.{Structure}
+use Rattle.std.proofs.Common.{refl, sym, subst}
 use Rattle.stack_contact.specs.Surveyed.{Surveyed, IsSurvey}
 use Rattle.stack_contact.proofs.SameContacts.{same_contacts}
 use Rattle.stack_range.specs.Reversed.{reversed_structure, reversed_survey}

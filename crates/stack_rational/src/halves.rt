@@ -70,26 +70,26 @@ pub fn divisor_of_words(a: u64, b: u64) -> u64
 
 /// A positive number of 128 bits without its factors of 2, and how many they are.
 #[derive(Clone, Copy)]
-struct WideOddPart {
+struct BroadOddPart {
     odd: u128,
     twos: u32,
 }
 
-fn wide_without_twos(n: u128) -> WideOddPart
+fn broad_without_twos(n: u128) -> BroadOddPart
     requires { 0 < n }
     ensures product { result.odd * 2 ^ result.twos ≡ n }
     ensures odd { result.odd % 2 ≡ 1 }
     ensures few { result.twos < 128 }
 {
     let twos = n.trailing_zeros();
-    WideOddPart {
+    BroadOddPart {
         odd: n >> twos,
         twos,
     }
 }
 
 /// The lesser of two numbers of 128 bits.
-fn wide_lesser(x: u128, y: u128) -> u128
+fn broad_lesser(x: u128, y: u128) -> u128
     ensures { result ≡ min x y }
 {
     if x < y { x } else { y }
@@ -97,7 +97,7 @@ fn wide_lesser(x: u128, y: u128) -> u128
 
 /// The greatest common divisor of an odd number and another one of 128 bits, by differences: at 64 bits from where both
 /// numbers have no more.
-fn wide_divisor_of_odd(odd: u128, other: u128) -> u128
+fn broad_divisor_of_odd(odd: u128, other: u128) -> u128
     requires { odd % 2 ≡ 1 }
     ensures { IsGcd odd other result }
 {
@@ -107,9 +107,9 @@ fn wide_divisor_of_odd(odd: u128, other: u128) -> u128
         if y == 0 {
             return x;
         }
-        let part = wide_without_twos(y).odd;
+        let part = broad_without_twos(y).odd;
         y = x.abs_diff(part);
-        x = wide_lesser(x, part);
+        x = broad_lesser(x, part);
     }
     u128::from(divisor_of_odd(x as u64, y as u64))
 }
@@ -124,9 +124,9 @@ pub fn divisor_of(a: u128, b: u128) -> u128
     if b == 0 {
         return a;
     }
-    let left = wide_without_twos(a);
-    let right = wide_without_twos(b);
-    let odd = wide_divisor_of_odd(left.odd, right.odd);
+    let left = broad_without_twos(a);
+    let right = broad_without_twos(b);
+    let odd = broad_divisor_of_odd(left.odd, right.odd);
     if left.twos <= right.twos {
         odd << left.twos
     } else {

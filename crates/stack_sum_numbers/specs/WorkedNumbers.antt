@@ -1,6 +1,6 @@
 -- Lists of numbers worked by hand, of a post that is 2 wide and 4 high, weighs 1 for each unit of area, and is pushed
 -- to the right at its upper left corner; and parts and moves of which a number is too wide, or just fits.
-use Rattle.std.specs.Prelude.{◌≡◌, ℕ, ◌^◌, ℤ, pos, List, [], ◌∷◌, Ok, Err, IsErr}
+use Rattle.std.specs.Prelude.{◌≡◌, ◌^◌, ℤ, pos, List, [], ◌∷◌, Ok, Err, IsErr}
 use Rattle.stack_contact.specs.declared.types.Bearing.{Bearing}
 use Rattle.stack_whole.specs.Whole.{greatest_number, whole}
 use Rattle.stack_equilibrium.specs.declared.types.Axis.TheVariants.{X, Y, M}

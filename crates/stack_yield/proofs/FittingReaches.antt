@@ -1,6 +1,6 @@
 -- The numbers of a point that is made fit, and so do those of a half-plane.
 use Rattle.std.proofs.Common.{◌≡◌, refl, sym, subst, Option, Some, None, Bool, true, false, if◌then◌else◌, arith}
-use lib.IntN.{ℤ, pos, ◌*ℤ◌}
+use lib.IntN.{ℤ, ◌*ℤ◌}
 use Rattle.stack_equilibrium.proofs.Common.{ForcesValue, Fraction, IsFitting, over}
 use Rattle.stack_rational.specs.Laws.{widest}
 use Rattle.stack_rational.specs.TooWide.{fraction_fits}

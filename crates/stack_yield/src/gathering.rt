@@ -1,4 +1,4 @@
-//! The safe region of two live loads, direction by direction.
+//! The region of two live loads, direction by direction.
 
 ghost use Rattle.std.specs.Prelude.{◌≡◌, ◌≢◌, ◌≤◌, IfOk, length, pos};
 ghost use Rattle.std.specs.List.{All};
@@ -79,7 +79,7 @@ fn gathered(
     Ok(Region::Points(reaches))
 }
 
-/// The safe region of two live loads, from `pair`: how far they can be raised together in each direction, from
+/// The region of two live loads, from `pair`: how far they can be raised together in each direction, from
 /// `read_directions`, and what forbids more. Each direction is judged within the budget of pivots; where the dead loads
 /// fall, that is the answer.
 ///

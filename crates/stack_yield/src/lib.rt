@@ -1,4 +1,4 @@
-//! The safe region of two live loads: how far they can be raised in given directions, and what forbids more.
+//! The region of two live loads: how far they can be raised in given directions, and what forbids more.
 //!
 //! ```text
 //! let (i, j) = pair(survey.model(), 1, 2)?; // the first two loads of the file

@@ -21,7 +21,7 @@ pub struct Reach {
     pub half: Option<(i128, i128, i128)>,
 }
 
-/// The safe region of two live loads.
+/// The region of two live loads: which multiples of them are carried together.
 #[derive(Debug, Drop)]
 pub enum Region {
     /// The dead loads fall by themselves.

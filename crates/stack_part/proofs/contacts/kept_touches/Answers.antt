@@ -1,4 +1,4 @@
-use Rattle.std.proofs.Common.{◌≡◌, refl, ◌&&◌}
+use Rattle.std.proofs.Common.{refl, ◌&&◌}
 use Rattle.stack_model.specs.Keeping.{flag_at}
 use Rattle.stack_part.specs.Part.{touch_among}
 use Rattle.stack_model.proofs.PickedSoFar.{picked_more}

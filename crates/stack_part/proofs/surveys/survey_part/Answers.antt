@@ -1,5 +1,4 @@
-use Rattle.std.proofs.Common.{◌≡◌, sym, ap, ◌∙◌, subst}
-use Rattle.stack_model.specs.Structure.{Structure}
+use Rattle.std.proofs.Common.{sym, ap, ◌∙◌, subst}
 use Rattle.stack_contact.specs.Surveyed.{Surveyed, surveyed, IsSurvey}
 use Rattle.stack_model.specs.Keeping.{flag_at}
 use Rattle.stack_model.specs.Part.{part_of}

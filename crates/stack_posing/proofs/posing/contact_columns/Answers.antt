@@ -1,4 +1,4 @@
-use Rattle.std.proofs.Common.{◌<◌, length, subst, ap}
+use Rattle.std.proofs.Common.{◌<◌, length, subst}
 use Rattle.stack_posing.proofs.PosedParts.{next_bearing}
 use Rattle.stack_posing.proofs.posing.contact_columns.Goals as goal
 

@@ -1,6 +1,6 @@
 use Rattle.std.proofs.Common.{◌≡◌, ◌%◌, ◌+◌, ℕ}
 use Rattle.stack_rational.proofs.Common.{IsGcd}
-use Rattle.stack_rational.proofs.halves.wide_divisor_of_odd.Given as goal
+use Rattle.stack_rational.proofs.halves.broad_divisor_of_odd.Given as goal
 
 abbrev pub invariant-steps : goal.invariant-steps
 invariant-steps l = (l.x % 2 ≡ 1) × ((n : ℕ) → IsGcd l.x l.y n → IsGcd l.fn.odd l.fn.other n)
