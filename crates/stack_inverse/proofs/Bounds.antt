@@ -18,7 +18,7 @@ right_size : (p k b t r g : ℕ) → p ≤ r → b * k + t * r ≤ g → t * p �
 right_size p k b t r g h w = let q : t * p ≤ t * r = mul-le-mul (omega arith) h in omega (arith, q, w)
 
 -- both terms together
-pub both_sizes : (a p k b t r g : ℕ) → a ≤ b → p ≤ r → b * k + t * r ≤ g → a * k + t * p ≤ g
+both_sizes : (a p k b t r g : ℕ) → a ≤ b → p ≤ r → b * k + t * r ≤ g → a * k + t * p ≤ g
 both_sizes a p k b t r g h l w = let u : a * k ≤ b * k = mul-le-mul h (omega arith) in
     let v : t * p ≤ t * r = mul-le-mul (omega arith) l in omega (arith, u, v, w)
 
@@ -61,10 +61,10 @@ module _ (m : ℤ) (x p : ℕ → ℤ) (d e f k t : ℤ) (b r : ℕ) (hd : pos 0
   )
 
   cell_is : (j : ℕ) → over (x j) d ≡ over (x j *ℤ k) (d *ℤ k)
-  cell_is j = scaled_cell m (x j) f d (p j) e k t hd he hk c
+  cell_is j = scaled_cell (x j) f d (p j) e k t hd he hk c
 
   taken_is : (j : ℕ) → neg (mul (over f d) (over (p j) e)) ≡ over (neg_ℤ (t *ℤ p j)) (d *ℤ k)
-  taken_is j = taken m (x j) f d (p j) e k t hd he hk c
+  taken_is j = taken (x j) f d (p j) e k t hd he hk c
 
   product_none : (j : ℕ) → is_too_wide m Product (over f d) (over (p j) e) ≡ false
   product_none j = ap not (ap (fraction_fits m) (mul_over f d (p j) e k t hd he hk c)

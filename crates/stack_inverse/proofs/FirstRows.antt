@@ -1,6 +1,6 @@
 -- The rows with which phases begin: of the first table, and the objective rows.
-use Rattle.std.proofs.Common.{◌≡◌, ap, ◌∙◌, ℕ, ◌+◌, ◌-◌, ◌<◌, eqb, ltb, arith, ℤ, pos, negsuc, neg_ℤ, ◌+ℤ◌, ◌*ℤ◌}
-use Rattle.stack_rational.proofs.Common.{ints, expand, sums, integers, at, sum_zero, at-other, at-same, zero-*ℤ}
+use Rattle.std.proofs.Common.{◌≡◌, ap, ◌∙◌, ℕ, ◌+◌, ◌-◌, ◌<◌, eqb, ltb, arith, ℤ, pos, negsuc, ◌+ℤ◌, ◌*ℤ◌}
+use Rattle.stack_rational.proofs.Common.{expand, sums, integers, at, sum_zero, at-other, at-same, zero-*ℤ}
 use Rattle.stack_rational.proofs.Common.{sum_one}
 use Rattle.stack_algebra.proofs.Integers.{one_mul}
 use Rattle.stack_inverse.specs.Columns.{combined, by_place, number, plain_own}
@@ -39,14 +39,5 @@ module _ (m n : ℕ) (F : ℕ → ℕ → ℤ) where
       d *ℤ negsuc 0 +ℤ combined m a (λ r. F r c) ≡ pos 0
   factor_cell d a c h = less d (combined m a (λ r. F r c)) h
     where
-      minus_one : (d x : ℤ) → d *ℤ negsuc 0 +ℤ x ≡ x +ℤ neg_ℤ d
-      minus_one d x = simp expand (omega (arith, sums))
-
-      plain : (d x : ℤ) → d *ℤ pos 0 +ℤ x ≡ d → x ≡ d
-      plain d x h = omega (arith, sums, simp expand at h)
-
-      none : (d : ℤ) → d +ℤ neg_ℤ d ≡ pos 0
-      none d = omega (arith, ints)
-
       less : (d x : ℤ) → d *ℤ pos 0 +ℤ x ≡ d → d *ℤ negsuc 0 +ℤ x ≡ pos 0
-      less d x h = minus_one d x ∙ ap (λ z. z +ℤ neg_ℤ d) (plain d x h) ∙ none d
+      less d x h = simp expand (omega (arith, sums, simp expand at h))

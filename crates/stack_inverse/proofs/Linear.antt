@@ -14,11 +14,11 @@ combined_step (suc m) a p f k t = ap (λ z. z +ℤ (a m *ℤ k -ℤ t *ℤ p m) 
     turn s u a p f k t = simp expand (omega (arith, sums))
 
 -- the same row over another denominator
-pub combined_same : (m : ℕ) (a b f : ℕ → ℤ) (d e : ℤ) → ((r : ℕ) → r < m → b r *ℤ d ≡ a r *ℤ e) →
+pub combined_same : (m : ℕ) (a b f : ℕ → ℤ) (d e : ℤ) → ((r : ℕ) → b r *ℤ d ≡ a r *ℤ e) →
     combined m b f *ℤ d ≡ combined m a f *ℤ e
 combined_same zero a b f d e h = simp expand (omega (arith, sums))
 combined_same (suc m) a b f d e h = turn (combined m b f) (b m) (f m) d
-    ∙ (λ i. combined_same m a b f d e (λ r l. h r (omega arith)) i +ℤ h m (omega arith) i *ℤ f m)
+    ∙ (λ i. combined_same m a b f d e h i +ℤ h m i *ℤ f m)
     ∙ sym (turn (combined m a f) (a m) (f m) e)
   where
     turn : (s a f d : ℤ) → (s +ℤ a *ℤ f) *ℤ d ≡ s *ℤ d +ℤ a *ℤ d *ℤ f

@@ -1,36 +1,69 @@
 -- A number that is made over the cells of its column.
-use Rattle.std.proofs.Common.{◌≡◌, sym, ap, ◌∙◌, ℕ, ◌<◌, ◌+◌, ◌-◌, List, length, get_or, [], true, ltb, eqb, lt-ltb, ℤ}
-use Rattle.std.proofs.Common.{◌+ℤ◌, ◌*ℤ◌}
-use Rattle.stack_rational.proofs.Common.{sum_of, get_or-map}
+use Rattle.std.proofs.Common.{◌≡◌, refl, sym, ap, ◌∙◌, ℕ, ◌+◌, ◌<◌, List, length, get_or, [], ◌∷◌, true}
+use Rattle.std.proofs.Common.{arith, ℤ, ◌+ℤ◌, ◌*ℤ◌, pos, drop, drop-cons, add-one, Option, Some, None, OnSome}
+use Rattle.std.specs.List.{AllByRecursion}
+use Rattle.std.proofs.lemmas.Bool.Decides.{nat_tests}
+use Rattle.stack_rational.proofs.Common.{ints, expand, sums, sum_of, get_or-map}
 use Rattle.stack_inverse.specs.declared.columns.Cell.{Cell}
 use Rattle.stack_inverse.specs.declared.columns.FirstColumn.{FirstColumn}
 use Rattle.stack_rows.specs.RowForm.{number_at}
-use Rattle.stack_inverse.specs.Columns.{combined, by_place, entry_of, rises, cells_at, number_with}
-use Rattle.stack_rows.proofs.Numbers.{at-index}
+use Rattle.stack_inverse.specs.Columns.{rises, cells_at, number_with, revised_own}
+use Rattle.stack_rows.proofs.Items.{at-index}
 use Rattle.stack_inverse.proofs.Entered.{rises_of, over_entries}
 
-module _ {V : Type 0} (value : V → ℤ) (m : ℕ) (columns : List (FirstColumn V)) (o : ℕ → ℤ) (row : List V) (d : ℤ)
-    (j : ℕ)
-    (lt : j < length columns) (rising : rises m 0 (cells_at columns j) ≡ true) where
-  -- the sum over the cells of its column makes the number
-  pub number_made : (cells : List (Cell V)) → cells ≡ cells_at columns j → (start y result : ℤ) → start ≡ d *ℤ y →
-      y ≡ o j → result ≡ start +ℤ sum_of (λ x. number_at value row x.row *ℤ value x.value) cells →
-      result ≡ number_with value m columns o row d j
-  number_made cells is start y result hs ho h = h
-      ∙ (λ z. (hs ∙ ap (λ x. d *ℤ x) ho) z +ℤ (ap (sum_of (λ x. number_at value row x.row *ℤ value x.value)) is
-      ∙ sym (over_entries value m 0 (number_at value row) (cells_at columns j)
-      (rises_of m 0 (cells_at columns j) rising))) z)
-      ∙ sym (ap (λ b. by_place b (ltb j (length columns + m)) (eqb j (length columns + m))
-      (d *ℤ o j +ℤ combined m (number_at value row) (entry_of value (cells_at columns j)))
-      (number_at value row (j - length columns)) (number_at value row m)) (lt-ltb j (length columns) lt))
+-- what follows from three clauses
+pub all_three : {X : Type 0} (r : Option X) {P Q R S : Type 0} → OnSome r P → OnSome r Q → OnSome r R →
+    (P → Q → R → S) → OnSome r S
+all_three None p q r f = tt
+all_three (Some x) p q r f = f p q r
+
+-- one cell more
+pub one_more : (f : Cell → ℤ) (cells : List Cell) (k : ℕ) (d : Cell) (sum next total : ℤ) → k < length cells →
+    next ≡ sum +ℤ f (get_or cells k d) → sum +ℤ sum_of f (drop k cells) ≡ total →
+    next +ℤ sum_of f (drop (k + 1) cells) ≡ total
+one_more f cells k d sum next total l e h =
+    rw add-one (omega (arith, ints, ap (sum_of f) (drop-cons cells k d l), e, h))
+
+-- the sum over the cells of its column makes a number
+pub number_made : (m : ℕ) (columns : List FirstColumn) (o : ℕ → ℤ) (row : List ℤ) (d : ℤ) (j : ℕ) →
+    j < length columns → rises m 0 (cells_at columns j) ≡ true → (cells : List Cell) → cells ≡ cells_at columns j →
+    (start : ℤ) → start ≡ d *ℤ o j →
+    start +ℤ sum_of (λ x. number_at row x.row *ℤ x.value) cells ≡ number_with m columns o row d j
+number_made m columns o row d j lt rising cells is start e =
+    let f = λ (x : Cell). number_at row x.row *ℤ x.value in
+    let all = over_entries m 0 (number_at row) (cells_at columns j) (rises_of m 0 (cells_at columns j) rising) in
+    grind (arith, nat_tests, all, ap (sum_of f) is)
+
+-- no own number
+pub no_own : (d : ℤ) → pos 0 ≡ d *ℤ pos 0
+no_own d = simp expand (omega (arith, sums))
+
+-- the sum of products with nothing
+none_of : (row : List ℤ) (cells : List Cell) → AllByRecursion (λ x. number_at row x.row ≡ pos 0) cells →
+    sum_of (λ x. number_at row x.row *ℤ x.value) cells ≡ pos 0
+none_of row [] h = refl
+none_of row (x ∷ xs) h = (λ z. h.0 z *ℤ x.value +ℤ none_of row xs h.1 z) ∙ zero_times x.value
+  where
+    zero_times : (v : ℤ) → pos 0 *ℤ v +ℤ pos 0 ≡ pos 0
+    zero_times v = simp expand (omega (arith, sums))
+
+-- a row but the objective row has nothing in a column if it has nothing at the column's cells
+pub nothing_made : (m : ℕ) (columns : List FirstColumn) (own row : List ℤ) (d : ℤ) (i j : ℕ) → i < m →
+    j < length columns → rises m 0 (cells_at columns j) ≡ true →
+    AllByRecursion (λ x. number_at row x.row ≡ pos 0) (cells_at columns j) →
+    pos 0 ≡ number_with m columns (revised_own m own i) row d j
+nothing_made m columns own row d i j below lt rising h =
+    let bare : revised_own m own i j ≡ pos 0 = grind (arith, nat_tests) in
+    sym (ap (λ z. pos 0 +ℤ z) (none_of row (cells_at columns j) h))
+    ∙ number_made m columns (revised_own m own i) row d j lt rising (cells_at columns j) refl (pos 0)
+    (no_own d ∙ ap (λ z. d *ℤ z) (sym bare))
 
 -- the cells of a column that is lent
-pub cells_of : {V : Type 0} (columns : List (FirstColumn V)) (j : ℕ) (x : FirstColumn V) → j < length columns → x
-    ≡ get_or columns j x →
-    x.cells.items ≡ cells_at columns j
-cells_of {V = V} columns j x l h = sym (at-index (λ (c : FirstColumn V). c.cells.items) [] columns j x l h)
+pub cells_of : (columns : List FirstColumn) (j : ℕ) (x : FirstColumn) → j < length columns →
+    x ≡ get_or columns j x → x.cells.items ≡ cells_at columns j
+cells_of columns j x l h = sym (at-index (λ c. c.cells.items) [] columns j x l h)
 
 -- and by a default
-pub cells_lent : {V : Type 0} (columns : List (FirstColumn V)) (j : ℕ) (d : FirstColumn V) → j < length columns →
+pub cells_lent : (columns : List FirstColumn) (j : ℕ) (d : FirstColumn) → j < length columns →
     (get_or columns j d).cells.items ≡ cells_at columns j
-cells_lent {V = V} columns j d l = sym (get_or-map (λ (c : FirstColumn V). c.cells.items) columns j d [] l)
+cells_lent columns j d l = sym (get_or-map (λ c. c.cells.items) columns j d [] l)

@@ -5,7 +5,7 @@ use Rattle.stack_table.specs.Spots.{reduced}
 use Rattle.stack_rows.proofs.OverOneDenominator.{same_over, neg_over, add_over, mul_over}
 
 -- a row step: f over d is the cell in the pivot's column, r over e the pivot row's
-module _ (m n f d r e k t : ℤ) (hd : pos 0 ≺ d) (he : pos 0 ≺ e) (hk : pos 0 ≺ k) (c : f *ℤ k ≡ t *ℤ e) where
+module _ (n f d r e k t : ℤ) (hd : pos 0 ≺ d) (he : pos 0 ≺ e) (hk : pos 0 ≺ k) (c : f *ℤ k ≡ t *ℤ e) where
   -- a row's cell over the denominator of the step
   pub scaled_cell : over n d ≡ over (n *ℤ k) (d *ℤ k)
   scaled_cell = same_over n d (n *ℤ k) (d *ℤ k) hd (mul_pos d k hd hk) (cross n d k)

@@ -1,14 +1,18 @@
 -- A table whose rows are kept in their artificial columns and their right side alone: the numbers in the plain columns
 -- are made from the first rows.
 use Rattle.std.specs.Prelude.{◌≡◌, ℕ, suc, ◌+◌, ◌-◌, ◌<◌, ◌≤◌, Bool, true, false, leb, ◌&&◌, cond, eqb, ltb, List, []}
-use Rattle.std.specs.Prelude.{◌∷◌, length, ℤ, pos, Option, Some, None}
+use Rattle.std.specs.Prelude.{◌∷◌, length, get_or, map, ℤ, pos, Option, Some, None}
 use Rattle.std.specs.Prelude.{◌*ℤ◌, ◌+ℤ◌, unsigned_abs}
 use Rattle.stack_algebra.specs.Fraction.{Fraction}
 use Rattle.stack_algebra.specs.Sums.{sum_to, sum_below}
 use Rattle.stack_algebra.proofs.Over.{over}
 use Rattle.stack_inverse.specs.declared.columns.Cell.{Cell}
 use Rattle.stack_inverse.specs.declared.columns.FirstColumn.{FirstColumn}
-use Rattle.stack_rows.specs.RowForm.{at_value, number_at}
+use Rattle.stack_rows.specs.RowForm.{number_at}
+
+-- the value of item k, z past the last item
+abbrev pub at_value : {V C : Type 0} → (V → C) → C → List V → ℕ → C
+at_value e z xs k = get_or (map e xs) k z
 
 -- the number of a row in a column f of the first rows
 abbrev pub combined : ℕ → (ℕ → ℤ) → (ℕ → ℤ) → ℤ
@@ -33,104 +37,103 @@ abbrev pub plain_own : ℕ → ℤ
 plain_own j = pos 0
 
 -- the number in a row of a column of cells, 0 where none stands there
-abbrev pub entry_of : {V : Type 0} → (V → ℤ) → List (Cell V) → ℕ → ℤ
-entry_of value [] i = pos 0
-entry_of value (x ∷ xs) i = cond (eqb x.row i) (value x.value) (entry_of value xs i)
+abbrev pub entry_of : List Cell → ℕ → ℤ
+entry_of [] i = pos 0
+entry_of (x ∷ xs) i = cond (eqb x.row i) x.value (entry_of xs i)
 
 -- each cell stands below m, in a row from `from` on that is below those of the cells after it
-abbrev pub rises : {V : Type 0} → (m from : ℕ) → List (Cell V) → Bool
+abbrev pub rises : (m from : ℕ) → List Cell → Bool
 rises m from [] = true
 rises m from (x ∷ xs) = leb from x.row && (ltb x.row m && rises m (suc x.row) xs)
 
 -- the cells of column j
-abbrev pub cells_at : {V : Type 0} → List (FirstColumn V) → ℕ → List (Cell V)
+abbrev pub cells_at : List FirstColumn → ℕ → List Cell
 cells_at columns j = at_value (λ c. c.cells.items) [] columns j
 
 -- the first rows
-abbrev pub first_at : {V : Type 0} → (V → ℤ) → List (FirstColumn V) → ℕ → ℕ → ℤ
-first_at value columns r j = entry_of value (cells_at columns j) r
+abbrev pub first_at : List FirstColumn → ℕ → ℕ → ℤ
+first_at columns r j = entry_of (cells_at columns j) r
 
 -- columns of m rows, none of which has a greater sum of sizes than `column_top`
-pub record AreFirst {V : Type 0} (value : V → ℤ) (m n : ℕ) (columns : List (FirstColumn V)) (column_top : ℤ)
-    : Type 0 where
+pub record AreFirst (m n : ℕ) (columns : List FirstColumn) (column_top : ℕ) : Type 0 where
   pub rising : (j : ℕ) → j < n → rises m 0 (cells_at columns j) ≡ true
-  pub within : (j : ℕ) → j < n → sizes m (λ r. first_at value columns r j) ≤ unsigned_abs column_top
-  pub some : 0 < unsigned_abs column_top
+  pub within : (j : ℕ) → j < n → sizes m (λ r. first_at columns r j) ≤ column_top
+  pub some : 0 < column_top
 
 -- own cells, none greater in size than `own_top`
-abbrev pub IsOwn : {V : Type 0} → (V → ℤ) → List V → ℤ → Type 0
-IsOwn value own own_top = (j : ℕ) → unsigned_abs (number_at value own j) ≤ unsigned_abs own_top
+abbrev pub IsOwn : List ℤ → ℕ → Type 0
+IsOwn own own_top = (j : ℕ) → unsigned_abs (number_at own j) ≤ own_top
 
 -- those of row i, of which only the objective row m has some; and their top
-abbrev pub revised_own : {V : Type 0} → (V → ℤ) → ℕ → List V → ℕ → ℕ → ℤ
-revised_own value m own i j = cond (eqb i m) (number_at value own j) (pos 0)
+abbrev pub revised_own : ℕ → List ℤ → ℕ → ℕ → ℤ
+revised_own m own i j = cond (eqb i m) (number_at own j) (pos 0)
 
-abbrev pub own_top_at : ℕ → ℤ → ℕ → ℤ
-own_top_at m own_top i = cond (eqb i m) own_top (pos 0)
+abbrev pub own_top_at : (m own_top i : ℕ) → ℕ
+own_top_at m own_top i = cond (eqb i m) own_top 0
 
 -- what is seen of a row: its numbers, its denominator, and whether its cells are known to fit
-pub record RowSeen (V : Type 0) : Type 0 where
-  pub numbers : List V
+pub record RowSeen : Type 0 where
+  pub numbers : List ℤ
   pub under : ℤ
   pub fits : Bool
 
 -- where there is no row
-abbrev pub no_row : {V : Type 0} → RowSeen V
+abbrev pub no_row : RowSeen
 no_row = record { numbers = []; under = pos 1; fits = false }
 
 -- the number and the cell of a row with these own cells
-abbrev pub number_with : {V : Type 0} → (V → ℤ) → (m : ℕ) → List (FirstColumn V) → (own : ℕ → ℤ) → (row : List V) → ℤ →
+abbrev pub number_with : (m : ℕ) → List FirstColumn → (own : ℕ → ℤ) → (row : List ℤ) → ℤ →
     ℕ → ℤ
-number_with value m columns own row d j = number m (length columns) (first_at value columns) own d
-    (number_at value row) (number_at value row m) j
+number_with m columns own row d j = number m (length columns) (first_at columns) own d
+    (number_at row) (number_at row m) j
 
-abbrev pub cell_with : {V : Type 0} → (V → ℤ) → (m : ℕ) → List (FirstColumn V) → (own : ℕ → ℤ) → (row : List V) → ℤ →
+abbrev pub cell_with : (m : ℕ) → List FirstColumn → (own : ℕ → ℤ) → (row : List ℤ) → ℤ →
     ℕ →
     Fraction
-cell_with value m columns own row d j = over (number_with value m columns own row d j) d
+cell_with m columns own row d j = over (number_with m columns own row d j) d
 
 -- the number in row i and column j, of rows of m artificial numbers and a right side
-abbrev pub revised_number : {V : Type 0} → (V → ℤ) → (m : ℕ) → List (FirstColumn V) → (own : List V) → (ℕ → RowSeen V) →
+abbrev pub revised_number : (m : ℕ) → List FirstColumn → (own : List ℤ) → (ℕ → RowSeen) →
     ℕ → ℕ → ℤ
-revised_number value m columns own s i j = number_with value m columns (revised_own value m own i) (s i).numbers
+revised_number m columns own s i j = number_with m columns (revised_own m own i) (s i).numbers
     (s i).under j
 
 -- and the cell
-abbrev pub revised_cell : {V : Type 0} → (V → ℤ) → (m : ℕ) → List (FirstColumn V) → (own : List V) → (ℕ → RowSeen V) →
+abbrev pub revised_cell : (m : ℕ) → List FirstColumn → (own : List ℤ) → (ℕ → RowSeen) →
     ℕ → ℕ → Fraction
-revised_cell value m columns own s i j = cell_with value m columns (revised_own value m own i) (s i).numbers
+revised_cell m columns own s i j = cell_with m columns (revised_own m own i) (s i).numbers
     (s i).under j
 
 -- each of m rows and of the objective row has m artificial numbers and a right side
-abbrev pub HaveWidths : {V : Type 0} → (m : ℕ) → (ℕ → RowSeen V) → Type 0
+abbrev pub HaveWidths : (m : ℕ) → (ℕ → RowSeen) → Type 0
 HaveWidths m s = (i : ℕ) → i ≤ m → length (s i).numbers ≡ suc m
 
 -- row i is put, and the others stay
-pub record IsPut {V : Type 0} (s : ℕ → RowSeen V) (i : ℕ) (numbers : List V) (under : ℤ) (fits : Bool)
-    (t : ℕ → RowSeen V) : Type 0 where
+pub record IsPut (s : ℕ → RowSeen) (i : ℕ) (numbers : List ℤ) (under : ℤ) (fits : Bool)
+    (t : ℕ → RowSeen) : Type 0 where
   pub own_numbers : (t i).numbers ≡ numbers
   pub own_under : (t i).under ≡ under
   pub own_fits : (t i).fits ≡ fits
   pub other : (k : ℕ) → (k ≡ i → ⊥) → t k ≡ s k
 
 -- the numbers of a column, row by row
-abbrev pub AreEntered : {V : Type 0} → (V → ℤ) → (m : ℕ) → List (FirstColumn V) → (own : List V) → (ℕ → RowSeen V) →
-    (column : ℕ) → List V → Type 0
-AreEntered value m columns own s column entered = (i : ℕ) → i ≤ m →
-    number_at value entered i ≡ revised_number value m columns own s i column
+abbrev pub AreEntered : (m : ℕ) → List FirstColumn → (own : List ℤ) → (ℕ → RowSeen) →
+    (column : ℕ) → List ℤ → Type 0
+AreEntered m columns own s column entered = (i : ℕ) → i ≤ m →
+    number_at entered i ≡ revised_number m columns own s i column
 
 -- the number and the cell of one row without own cells
-abbrev pub row_number : {V : Type 0} → (V → ℤ) → (m : ℕ) → List (FirstColumn V) → List V → ℤ → ℕ → ℤ
-row_number value m columns row d j = number_with value m columns plain_own row d j
+abbrev pub row_number : (m : ℕ) → List FirstColumn → List ℤ → ℤ → ℕ → ℤ
+row_number m columns row d j = number_with m columns plain_own row d j
 
-abbrev pub row_cell : {V : Type 0} → (V → ℤ) → (m : ℕ) → List (FirstColumn V) → List V → ℤ → ℕ →
+abbrev pub row_cell : (m : ℕ) → List FirstColumn → List ℤ → ℤ → ℕ →
     Fraction
-row_cell value m columns row d j = over (row_number value m columns row d j) d
+row_cell m columns row d j = over (row_number m columns row d j) d
 
 -- the numbers with which phase 3 begins: those of the factor's row, whose cell in the factor's column is 1; 0 over 1
 -- without such a row
-abbrev pub IsFactorRow : {V : Type 0} → (V → ℤ) → (m : ℕ) → List (FirstColumn V) → (own : List V) → (ℕ → RowSeen V) →
-    (column : ℕ) → Option ℕ → (row : List V) → ℤ → Type 0
-IsFactorRow value m columns own s column None row d = ((j : ℕ) → number_at value row j ≡ pos 0) × (d ≡ pos 1)
-IsFactorRow value m columns own s column (Some r) row d = (row ≡ (s r).numbers) × (d ≡ (s r).under)
-    × (revised_number value m columns own s r column ≡ (s r).under)
+abbrev pub IsFactorRow : (m : ℕ) → List FirstColumn → (own : List ℤ) → (ℕ → RowSeen) →
+    (column : ℕ) → Option ℕ → (row : List ℤ) → ℤ → Type 0
+IsFactorRow m columns own s column None row d = ((j : ℕ) → number_at row j ≡ pos 0) × (d ≡ pos 1)
+IsFactorRow m columns own s column (Some r) row d = (row ≡ (s r).numbers) × (d ≡ (s r).under)
+    × (revised_number m columns own s r column ≡ (s r).under)

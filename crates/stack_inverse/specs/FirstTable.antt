@@ -20,31 +20,37 @@ abbrev pub load_at : List ℤ → ℕ → ℤ
 load_at right i = turned (flips right i) (get_or right i (pos 0))
 
 -- cells are the entries of a column, each flipped as its row is
-abbrev pub AreTurned : {V : Type 0} → (V → ℤ) → List ℤ → List Entry → List (Cell V) → Type 0
-AreTurned value right [] [] = ⊤
-AreTurned value right [] (c ∷ cs) = ⊥
-AreTurned value right (x ∷ xs) [] = ⊥
-AreTurned value right (x ∷ xs) (c ∷ cs) =
-    (c.row ≡ x.row) × (value c.value ≡ turned (flips right x.row) x.value) × AreTurned value right xs cs
+abbrev pub AreTurned : List ℤ → List Entry → List Cell → Type 0
+AreTurned right [] [] = ⊤
+AreTurned right [] (c ∷ cs) = ⊥
+AreTurned right (x ∷ xs) [] = ⊥
+AreTurned right (x ∷ xs) (c ∷ cs) =
+    (c.row ≡ x.row) × (c.value ≡ turned (flips right x.row) x.value) × AreTurned right xs cs
 
 -- so in each column
-abbrev pub AreFirstColumns : {V : Type 0} → (V → ℤ) → Lent → List (FirstColumn V) → Type 0
-AreFirstColumns value P columns =
-    (j : ℕ) → j < length columns → AreTurned value P.right.items (entries_at P j) (cells_at columns j)
+abbrev pub AreFirstColumns : Lent → List FirstColumn → Type 0
+AreFirstColumns P columns =
+    (j : ℕ) → j < length columns → AreTurned P.right.items (entries_at P j) (cells_at columns j)
 
 -- the sum of the sizes of cells
-abbrev pub sizes_in : {V : Type 0} → (V → ℤ) → List (Cell V) → ℕ
-sizes_in value cells = sum_among 0 ◌+◌ (λ x. unsigned_abs (value x.value)) cells
+abbrev pub sizes_in : List Cell → ℕ
+sizes_in cells = sum_among 0 ◌+◌ (λ x. unsigned_abs x.value) cells
 
 -- 0 less the values of cells
-abbrev pub less_cells : {V : Type 0} → (V → ℤ) → List (Cell V) → ℤ
-less_cells value cells = pos 0 -ℤ sum_of (λ x. value x.value) cells
+abbrev pub less_cells : List Cell → ℤ
+less_cells cells = pos 0 -ℤ sum_of (λ x. x.value) cells
 
 -- row i, of m artificial numbers and a right side: 1 in its own artificial column, over 1
-pub record IsFirstRow {V : Type 0} (value : V → ℤ) (m : ℕ) (s : ℕ → RowSeen V) (i : ℕ) (load : ℤ) : Type 0 where
-  pub number : (j : ℕ) → number_at value (s i).numbers j ≡ cond (eqb j m) load (cond (eqb j i) (pos 1) (pos 0))
+pub record IsFirstRow (m : ℕ) (s : ℕ → RowSeen) (i : ℕ) (load : ℤ) : Type 0 where
+  pub number : (j : ℕ) → number_at (s i).numbers j ≡ cond (eqb j m) load (cond (eqb j i) (pos 1) (pos 0))
   pub under : (s i).under ≡ pos 1
 
 -- 0 less the right sides of the first n rows
 abbrev pub less_loads : List ℤ → ℕ → ℤ
 less_loads right n = pos 0 -ℤ sum_to n (load_at right)
+
+-- the first m rows, and after them the objective row of phase 1, each over 1
+pub record AreFilled (m : ℕ) (right : List ℤ) (s : ℕ → RowSeen) : Type 0 where
+  pub rows : (i : ℕ) → i < m → IsFirstRow m s i (load_at right i)
+  pub last : (j : ℕ) → number_at (s m).numbers j ≡ cond (eqb j m) (less_loads right m) (pos 0)
+  pub under : (s m).under ≡ pos 1

@@ -8,7 +8,7 @@
 //! nothing of the written run. What a call answers else is exact.
 //!
 //! ```text
-//! let mut table = RevisedTable::<Broad>::of_problem(alloc, &problem)?; // the written table
+//! let mut table = RevisedTable::of_problem(alloc, &problem)?; // the written table
 //! table.enter(column) == Some(()); // the numbers of the column are made and kept
 //! table.pivot(row, column)?; // the table after the pivot, or the first operation that is too wide
 //! ```
@@ -21,15 +21,17 @@ mod filling;
 mod first;
 mod given;
 mod making;
+mod marks;
 mod objective;
 mod pivoting;
 mod reducing;
 mod remaking;
+mod remarking;
 mod revised_table;
 mod row;
-mod short;
 mod spots;
 mod stops;
 
 pub use revised_table::RevisedTable;
+pub use spots::cell;
 pub use stops::NoTable;

@@ -1,187 +1,225 @@
 //! Numbers of the plain columns, made from those of the artificial ones, and their top.
 
-ghost use Rattle.std.specs.Prelude.{◌≡◌, ℕ, suc, ◌+◌, ◌*◌, ◌<◌, ◌≤◌, ◌+ℤ◌, ◌*ℤ◌, length, unsigned_abs, IfSome};
+ghost use Rattle.std.specs.Prelude.{◌≡◌, ℕ, suc, ◌+◌, ◌-◌, ◌^◌, ◌<◌, ◌≤◌, ◌+ℤ◌, ◌*ℤ◌, length, get_or};
+ghost use Rattle.std.specs.Prelude.{unsigned_abs, ℤ, pos, OnSome, IfSome};
+ghost use Rattle.std.specs.Int.{w128, int_wrap};
+ghost use Rattle.std.specs.List.{AllByRecursion};
+ghost use Rattle.stack_rational.specs.Laws.{widest};
 ghost use Rattle.stack_algebra.specs.Sums.{sum_of};
-ghost use Rattle.std.specs.Prelude.{ℤ, OnSome};
-ghost use Rattle.stack_rows.specs.RowForm.{number_at};
-ghost use Rattle.stack_inverse.specs.RowBlock.{AreWithin, IsWholeTop, IsTopped};
-ghost use Rattle.stack_inverse.specs.Columns.{revised_own, row_number, AreEntered};
+ghost use Rattle.stack_rows.specs.RowForm.{number_at, IsTopped};
+ghost use Rattle.stack_inverse.specs.RowBlock.{AreWithin, IsWholeTop};
+ghost use Rattle.stack_inverse.specs.Columns.{revised_own, row_number, cells_at, HaveWidths, AreEntered};
 ghost use Rattle.stack_inverse.specs.RowsSeen.{seen_of, seen_at, number_in_row};
 
 use crate::columns::Cell;
 use crate::first::First;
 use crate::given::Given;
-use crate::row::Row;
-use stack_rows::RowNumber;
+use crate::row::TableRow;
+use stack_rows::{product, product_of, size_product, whole_product};
 
-/// A sum and the product of two numbers. Most numbers of a row are 0.
-fn added<T: RowNumber>(sum: T, number: T, by: T) -> Option<T>
-    ensures { IfSome result (λ r. T.value r ≡ T.value sum +ℤ T.value number *ℤ T.value by) }
+/// A sum and the product of a number and a word.
+fn added(sum: i128, number: i128, by: i64) -> Option<i128>
+    ensures { IfSome result (λ r. r ≡ sum +ℤ number *ℤ by) }
 {
-    if number.is_zero() {
-        return Some(sum);
-    }
-    let product = number.times(by)?;
-    let next = sum.plus(product)?;
-    Some(next)
+    sum.checked_add(product(number, by)?)
+}
+
+/// The product of a number that is a word and a word.
+fn word_product(number: i128, by: i64) -> i128
+    requires { unsigned_abs number ≤ 2 ^ 63 - 1 }
+    ensures { result ≡ number *ℤ by }
+{
+    product_of(number as i64, by)
 }
 
 /// A number and the products of a row with the numbers of a column.
-fn sum_over<T: RowNumber>(cells: &[Cell<T>], numbers: &[T], start: T) -> Option<T>
-    ensures { IfSome result (λ r. T.value r ≡ T.value start
-        +ℤ sum_of (λ x. number_at T.value numbers.now x.row *ℤ T.value x.value) cells.now) }
+fn sum_over(cells: &[Cell], numbers: &[i128], start: i128) -> Option<i128>
+    ensures { IfSome result (λ r. r ≡ start +ℤ sum_of (λ x. number_at numbers.now x.row *ℤ x.value) cells.now) }
 {
     let mut sum = start;
     for cell in cells {
         if cell.row >= numbers.len() {
             return None;
         }
-        let next = added(sum, numbers[cell.row], cell.value)?;
-        sum = next;
+        sum = added(sum, numbers[cell.row], cell.value)?;
     }
     Some(sum)
 }
 
-/// The own number of a row: the objective row's, and 0 in the others.
-fn own_of<T: RowNumber>(given: &Given<T>, i: usize, j: usize) -> T
-    requires { j < length given.now.own.items }
-    ensures { T.value result ≡ revised_own T.value given.now.first.rows given.now.own.items i j }
+/// The greatest size of the numbers of a column together, of which the sum of the products with words fits.
+const NARROW: u128 = 1 << 62;
+
+/// The sum of the products of a row of words with the numbers of a column, as far as it fits.
+fn sum_words(cells: &[Cell], numbers: &[i128]) -> Option<i128>
+    requires { IsTopped numbers.now (2 ^ 63 - 1) }
+    ensures wrapped { IfSome result (λ r.
+        r ≡ int_wrap w128 (sum_of (λ x. number_at numbers.now x.row *ℤ x.value) cells.now)) }
+    ensures below { OnSome result (AllByRecursion (λ x. suc x.row < length numbers.now) cells.now) }
 {
-    if i == given.first.rows {
-        given.own[j]
-    } else {
-        T::zero()
+    let count = numbers.len().checked_sub(1)?;
+    let mut sum: i128 = 0;
+    for cell in cells {
+        if cell.row >= count {
+            return None;
+        }
+        sum = sum.wrapping_add(word_product(numbers[cell.row], cell.value));
     }
+    Some(sum)
+}
+
+/// The own number of a row over its denominator: the objective row's, and 0 in the others.
+fn own_over(given: &Given, i: usize, j: usize, under: i128) -> Option<i128>
+    requires { j < length given.now.own.items }
+    ensures { IfSome result (λ r. r ≡ under *ℤ revised_own given.now.first.rows given.now.own.items i j) }
+{
+    if i != given.first.rows {
+        return Some(0);
+    }
+    if given.own[j] == 0 {
+        return Some(0);
+    }
+    whole_product(under, given.own[j])
 }
 
 /// The number of row i in a plain column, over its denominator. Gives up likely where a sum of products doesn't fit.
-pub fn number_of<T: RowNumber>(given: &Given<T>, row: &Row<T>, i: usize, j: usize) -> Option<T>
+pub fn number_of(given: &Given, row: &TableRow, i: usize, j: usize) -> Option<i128>
     requires { j < length given.now.first.columns.items }
-    ensures { IfSome result (λ r. T.value r ≡ number_in_row given.now (seen_of row.now) i j) }
+    ensures { IfSome result (λ r. r ≡ number_in_row given.now (seen_of row.now) i j) }
 {
-    let own_cell = own_of(given, i, j);
-    let start = added(T::zero(), own_cell, row.under)?;
-    let number = sum_over(
-        given.first.columns[j].cells.as_slice(),
-        row.numbers.as_slice(),
-        start,
-    )?;
+    let own = own_over(given, i, j, row.row.under)?;
+    let cells = given.first.columns[j].cells.as_slice();
+    let numbers = row.row.numbers.as_slice();
+    if row.row.top <= i64::MAX as u128 && given.first.top <= NARROW {
+        own.checked_add(sum_words(cells, numbers)?)
+    } else {
+        sum_over(cells, numbers, own)
+    }
+}
+
+/// The same: 0 in a row without a mark, unless it is the objective row.
+fn entered_number(given: &Given, row: &TableRow, i: usize, j: usize, mark: u8) -> Option<i128>
+    requires column_in { j < length given.now.first.columns.items }
+    requires nothing { i < given.now.first.rows → mark ≡ 0 → AllByRecursion (λ x.
+        number_at row.now.row.numbers.items x.row ≡ pos 0) (cells_at given.now.first.columns.items j) }
+    requires row_in { i ≤ given.now.first.rows }
+    ensures { IfSome result (λ r. r ≡ number_in_row given.now (seen_of row.now) i j) }
+{
+    if mark == 0 && i < given.first.rows {
+        return Some(0);
+    }
+    number_of(given, row, i, j)
+}
+
+/// The same. Gives up also where it or the right side of the row is the least number of all, whose size doesn't fit.
+fn sized_number(given: &Given, row: &TableRow, i: usize, j: usize, mark: u8) -> Option<i128>
+    requires column_in { j < length given.now.first.columns.items }
+    requires nothing { i < given.now.first.rows → mark ≡ 0 → AllByRecursion (λ x.
+        number_at row.now.row.numbers.items x.row ≡ pos 0) (cells_at given.now.first.columns.items j) }
+    requires row_in { i ≤ given.now.first.rows }
+    requires width { length row.now.row.numbers.items ≡ suc given.now.first.rows }
+    ensures number { IfSome result (λ r. r ≡ number_in_row given.now (seen_of row.now) i j) }
+    ensures fit { IfSome result (λ r. unsigned_abs r ≤ unsigned_abs widest) }
+    ensures right_fits { OnSome result (unsigned_abs (number_at row.now.row.numbers.items given.now.first.rows)
+        ≤ unsigned_abs widest) }
+{
+    let number = entered_number(given, row, i, j, mark)?;
+    let right = row.row.numbers[given.first.rows];
+    if number == i128::MIN || right == i128::MIN {
+        return None;
+    }
     Some(number)
 }
 
-/// Makes the numbers of a plain column, row by row. Gives up as `number_of` does.
-pub fn enter_column<T: RowNumber>(
-    given: &Given<T>,
-    rows: &[Row<T>],
-    entered: &mut [T],
+/// Makes the numbers of a plain column, row by row; `marks` has a mark of each row that may have something in one of
+/// the column's rows. Gives up likely where a sum of products doesn't fit.
+pub fn enter_column(
+    given: &Given,
+    rows: &[TableRow],
+    marks: &[u8],
+    entered: &mut [i128],
     column: usize,
 ) -> Option<()>
     requires long { length entered.old ≡ suc given.now.first.rows }
     requires height { length rows.now ≡ suc given.now.first.rows }
+    requires widths { HaveWidths given.now.first.rows (seen_at rows.now) }
     requires column_in { column < length given.now.first.columns.items }
-    ensures { OnSome result (AreEntered T.value given.now.first.rows given.now.first.columns.items given.now.own.items
+    requires marks_long { length marks.now ≡ suc given.now.first.rows }
+    requires nothing { (i : ℕ) → i < given.now.first.rows → get_or marks.now i 0 ≡ 0 → AllByRecursion (λ x.
+        number_at (seen_at rows.now i).numbers x.row ≡ pos 0) (cells_at given.now.first.columns.items column) }
+    ensures numbers { OnSome result (AreEntered given.now.first.rows given.now.first.columns.items given.now.own.items
         (seen_at rows.now) column entered.new) }
+    ensures fit { OnSome result ((i : ℕ) → i ≤ given.now.first.rows →
+        unsigned_abs (number_at entered.new i) ≤ unsigned_abs widest) }
+    ensures right_fits { OnSome result ((i : ℕ) → i ≤ given.now.first.rows →
+        unsigned_abs (number_at (seen_at rows.now i).numbers given.now.first.rows) ≤ unsigned_abs widest) }
 {
     for i in 0..entered.len() {
-        let number = number_of(given, &rows[i], i, column)?;
-        entered[i] = number;
+        entered[i] = sized_number(given, &rows[i], i, column, marks[i])?;
     }
     Some(())
 }
 
-/// Whichever is the greater in size. Most numbers of a row are 0.
-fn greater<T: RowNumber>(top: T, number: T) -> T
-    ensures own { unsigned_abs (T.value top) ≤ unsigned_abs (T.value result) }
-    ensures other { unsigned_abs (T.value number) ≤ unsigned_abs (T.value result) }
-{
-    if number.is_zero() {
-        return top;
-    }
-    top.larger(number)
-}
-
-/// A top of the first numbers: whichever of them is the greatest in size.
-pub fn top_of<T: RowNumber>(numbers: &[T], count: usize) -> T
-    requires { count ≤ length numbers.now }
-    ensures { (k : ℕ) → k < count → unsigned_abs (number_at T.value numbers.now k) ≤ unsigned_abs (T.value result) }
-{
-    let mut top = T::zero();
-    for k in 0..count {
-        top = greater(top, numbers[k]);
-    }
-    top
-}
-
-/// The bits of the sizes of the first numbers together.
-fn joined_in<T: RowNumber>(numbers: &[T], count: usize) -> u128
-    requires { count ≤ length numbers.now }
-    ensures { (k : ℕ) → k < count → unsigned_abs (number_at T.value numbers.now k) ≤ result }
+/// The bits of the sizes of numbers together: a top of them.
+#[tactic(auto, using(std::proofs::lemmas::Nat::le_or_l, std::proofs::lemmas::Nat::le_or_r))]
+pub fn top_of(numbers: &[i128]) -> u128
+    ensures { (k : ℕ) → unsigned_abs (number_at numbers.now k) ≤ result }
 {
     let mut size = 0;
-    for k in 0..count {
-        size = numbers[k].joined(size);
+    for number in numbers {
+        size |= number.unsigned_abs();
     }
     size
 }
 
-/// A top of all numbers but the last: of the bits of their sizes together, or else whichever is the greatest in size.
-pub fn top_over<T: RowNumber>(numbers: &[T], count: usize) -> T
-    requires { length numbers.now ≡ suc count }
-    ensures { IsTopped T.value numbers.now (unsigned_abs (T.value result)) }
+/// The greater of two sizes.
+pub fn larger(a: u128, b: u128) -> u128
+    ensures own { a ≤ result }
+    ensures other { b ≤ result }
 {
-    match T::of_size(joined_in(numbers, count)) {
-        Some(size) => size,
-        None => top_of(numbers, count),
-    }
+    if a < b { b } else { a }
 }
 
 /// A top of all numbers of a row over this denominator, by that of its artificial numbers. Gives up likely where it
 /// doesn't fit.
-pub fn whole_top<T: RowNumber>(
-    first: &First<T>,
-    numbers: &[T],
-    under: T,
-    own_top: T,
-    top: T,
-) -> Option<T>
+pub fn whole_top(
+    first: &First,
+    numbers: &[i128],
+    under: i128,
+    own_top: u128,
+    top: u128,
+) -> Option<u128>
     requires width { length numbers.now ≡ suc first.now.rows }
-    requires topped { IsTopped T.value numbers.now (unsigned_abs (T.value top)) }
-    ensures { IfSome result (λ b. IsWholeTop T.value first.now.rows numbers.now (T.value under) (T.value first.now.top)
-        (T.value own_top) (T.value b)) }
+    requires topped { IsTopped numbers.now top }
+    ensures { IfSome result (λ b. IsWholeTop first.now.rows numbers.now under first.now.top own_top b) }
 {
-    let combined = top.times(first.top)?;
-    let own = under.times(own_top)?;
-    let both = combined.sizes(own)?;
-    Some(both.larger(numbers[first.rows]))
+    let combined = size_product(top, first.top)?;
+    let own = size_product(under.unsigned_abs(), own_top)?;
+    let both = combined.checked_add(own)?;
+    Some(larger(both, numbers[first.rows].unsigned_abs()))
 }
 
 /// The number of a row without own cells in any column, the right side last. Gives up likely where a sum of products
 /// doesn't fit.
-pub fn row_number<T: RowNumber>(first: &First<T>, row: &[T], j: usize) -> Option<T>
+pub fn row_number(first: &First, row: &[i128], j: usize) -> Option<i128>
     requires width { length row.now ≡ suc first.now.rows }
     requires column_in { j < suc (length first.now.columns.items + first.now.rows) }
-    ensures { IfSome result (λ r. (d : ℤ) → T.value r ≡ row_number T.value first.now.rows first.now.columns.items
-        row.now d j) }
+    ensures { IfSome result (λ r. (d : ℤ) → r ≡ row_number first.now.rows first.now.columns.items row.now d j) }
 {
     let plain = first.columns.len();
     if j < plain {
-        let number = sum_over(first.columns[j].cells.as_slice(), row, T::zero())?;
-        return Some(number);
+        return sum_over(first.columns[j].cells.as_slice(), row, 0);
     }
-    let k = j - plain;
-    Some(row[k])
+    Some(row[j - plain])
 }
 
 /// A top of all numbers of a row without own cells, by each of them. Gives up likely where one doesn't fit.
-pub fn top_in<T: RowNumber>(first: &First<T>, row: &[T]) -> Option<T>
+pub fn top_in(first: &First, row: &[i128]) -> Option<u128>
     requires { length row.now ≡ suc first.now.rows }
-    ensures { IfSome result (λ b. (d : ℤ) → AreWithin (row_number T.value first.now.rows first.now.columns.items
-        row.now d) (T.value b)) }
+    ensures { IfSome result (λ b. (d : ℤ) → AreWithin (row_number first.now.rows first.now.columns.items row.now d) b) }
 {
-    let mut top = top_of(row, row.len());
+    let mut top = top_of(row);
     for j in 0..first.columns.len() {
-        let number = row_number(first, row, j)?;
-        top = top.larger(number);
+        top = larger(top, row_number(first, row, j)?.unsigned_abs());
     }
     Some(top)
 }

@@ -7,22 +7,20 @@ ghost use Rattle.stack_inverse.specs.RowsSeen.{seen_at};
 
 use crate::given::Given;
 use crate::making::number_of;
-use crate::row::Row;
-use stack_rows::RowNumber;
+use crate::row::TableRow;
 
-pub fn clear_row<T: RowNumber>(row: &mut [T])
-    ensures { (j : ℕ) → number_at T.value row.new j ≡ pos 0 }
+pub fn clear_row(row: &mut [i128])
+    ensures { (j : ℕ) → number_at row.new j ≡ pos 0 }
 {
-    let zero = T::zero();
     for j in 0..row.len() {
-        row[j] = zero;
+        row[j] = 0;
     }
 }
 
 /// A number in one column, and 0 in the others.
-pub fn set_only<T: RowNumber>(row: &mut [T], column: usize, number: T)
+pub fn set_only(row: &mut [i128], column: usize, number: i128)
     requires { column < length row.old }
-    ensures { (j : ℕ) → number_at T.value row.new j ≡ cond (eqb j column) (T.value number) (pos 0) }
+    ensures { (j : ℕ) → number_at row.new j ≡ cond (eqb j column) number (pos 0) }
 {
     clear_row(row);
     row[column] = number;
@@ -30,37 +28,32 @@ pub fn set_only<T: RowNumber>(row: &mut [T], column: usize, number: T)
 
 /// The numbers of a row whose cell in the column has to be 1, and its denominator; without a row, 0 over 1. Gives up
 /// where that cell isn't 1, and likely nowhere else.
-pub fn factor_row<T: RowNumber>(
-    given: &Given<T>,
-    rows: &[Row<T>],
-    numbers: &mut [T],
+pub fn factor_row(
+    given: &Given,
+    rows: &[TableRow],
+    numbers: &mut [i128],
     column: usize,
     row: Option<usize>,
-) -> Option<T>
+) -> Option<i128>
     requires width { length numbers.old ≡ suc given.now.first.rows }
     requires widths { HaveWidths given.now.first.rows (seen_at rows.now) }
     requires column_in { column < length given.now.first.columns.items }
     requires row_in { IfSome row (λ r. r < given.now.first.rows) }
     requires height { length rows.now ≡ suc given.now.first.rows }
-    ensures positive { IfSome result (λ d. pos 0 <ℤ T.value d) }
-    ensures ok { IfSome result (λ d. IsFactorRow T.value given.now.first.rows given.now.first.columns.items
-        given.now.own.items (seen_at rows.now) column row numbers.new (T.value d)) }
+    ensures positive { IfSome result (λ d. pos 0 <ℤ d) }
+    ensures ok { IfSome result (λ d. IsFactorRow given.now.first.rows given.now.first.columns.items
+        given.now.own.items (seen_at rows.now) column row numbers.new d) }
 {
     match row {
         Some(r) => {
             let cell = number_of(given, &rows[r], r, column)?;
-            numbers.copy_from_slice(rows[r].numbers.as_slice());
-            let under = rows[r].under;
-            let rest = cell.less(under)?;
-            if !rest.is_zero() {
-                return None;
-            }
-            Some(under)
+            numbers.copy_from_slice(rows[r].row.numbers.as_slice());
+            let under = rows[r].row.under;
+            if cell == under { Some(under) } else { None }
         }
         None => {
             clear_row(numbers);
-            let one = T::from_broad(1)?;
-            Some(one)
+            Some(1)
         }
     }
 }

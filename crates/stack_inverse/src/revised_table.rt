@@ -1,52 +1,93 @@
 //! The table of a run by its artificial columns.
 
-ghost use Rattle.std.specs.Prelude.{◌≡◌, ℕ, suc, ◌+◌, ◌<◌, length, get_or};
+ghost use Rattle.std.specs.Prelude.{◌≡◌, ℕ, suc, ◌+◌, ◌<◌, length, get_or, IfOk};
+ghost use Rattle.stack_rational.specs.Laws.{widest};
 ghost use Rattle.stack_table.specs.Table.{plain, columns};
 ghost use Rattle.stack_table.specs.Block.{shape_of};
 ghost use Rattle.stack_inverse.specs.RowBlock.{AreMarked};
 ghost use Rattle.stack_inverse.specs.Columns.{HaveWidths};
-ghost use Rattle.stack_inverse.specs.RowsSeen.{seen_at, cells_of_rows};
+ghost use Rattle.stack_bland.specs.Found.{TellsFound, IfFound};
+ghost use Rattle.stack_inverse.specs.Marks.{IsWide, ArePlaces, AreUses, AreClean, least_negative};
+ghost use Rattle.stack_inverse.specs.RowsSeen.{seen_at, cells_of_rows, number_in_row};
+ghost use Rattle.stack_inverse.specs.FoundProps.{TellsFound-prop, below_prop};
+ghost use Rattle.std.proofs.Props.{props};
 
 use crate::building::given_of;
-use crate::filling::{fill, first_basics, one, pivot_room, repeated, rows_of};
+use crate::filling::{fill, first_basics, rows_of, zeros};
 use crate::given::Given;
 use crate::making::{enter_column, number_of};
+use crate::marks::{least_negative, mark_column, marks_of, set_marks, uses_of};
 use crate::objective::{clear_row, factor_row, set_only};
 use crate::pivoting::{pivot_rows, put_row};
-use crate::row::{PivotRow, Row};
-use crate::short::short_negative;
+use crate::remarking::{first_places, mark_on};
+use crate::row::{PivotRow, TableRow};
 use crate::stops::NoTable;
 use stack_bland::Found;
-use stack_rows::RowNumber;
+use stack_rows::Row;
 use stack_table::{Problem, TurnRefusal, row_with};
 use std::alloc::Global;
 
+/// The greatest number of rows: places in a row are of 16 bits.
+const MOST_ROWS: usize = 65_534;
+
+/// How many numbers a row has, the right side among them. Gives up where the rows are more than 65,534.
+fn width_of(rows: usize) -> Result<u16, NoTable>
+    ensures { IfOk result (λ w. w ≡ suc rows) }
+{
+    if MOST_ROWS < rows {
+        return Err(NoTable::Unsettled);
+    }
+    Ok((rows + 1) as u16)
+}
+
 /// The exact table of a run. Row `rows` is the objective row.
 #[derive(Drop)]
-pub struct RevisedTable<T: RowNumber> {
-    given: Given<T>,
+pub struct RevisedTable {
+    given: Given,
     /// The objective row last.
-    rows: Vec<Row<T>>,
+    rows: Vec<TableRow>,
     /// The basic column of each row.
     basic: Vec<usize>,
     /// Room for the pivot row.
-    pivot: PivotRow<T>,
+    pivot: PivotRow,
     /// Room for the numbers of the entering column, row by row.
-    entered: Vec<T>,
+    entered: Vec<i128>,
+    /// For each artificial column a list of marks: a row without one has nothing there.
+    places: Vec<Vec<u8>>,
+    /// For each row a list of marks: a plain column without one has no number there.
+    uses: Vec<Vec<u8>>,
+    /// Room for a mark of each row.
+    touched: Vec<u8>,
+    /// Marks of plain columns: in one without a mark the objective row isn't negative.
+    open: Vec<u8>,
+    /// The least plain column in which it is.
+    least: Found<usize>,
     contacts: usize,
     has_factor: bool,
     ghost plain_count: { length given.first.columns.items ≡ plain (shape_of given.first.rows contacts has_factor) },
     ghost height: { length rows.items ≡ suc given.first.rows },
     ghost widths: { HaveWidths given.first.rows (seen_at rows.items) },
-    ghost marked: { AreMarked T.MAX (cells_of_rows given rows.items) (seen_at rows.items) },
-    ghost room: { length pivot.numbers.items ≡ suc given.first.rows },
+    ghost marked: { AreMarked widest (cells_of_rows given rows.items) (seen_at rows.items) },
+    ghost room: { length pivot.row.numbers.items ≡ suc given.first.rows },
     ghost one_number: { length entered.items ≡ suc given.first.rows },
+    ghost places_long: { length places.items ≡ given.first.rows },
+    ghost places_wide: { IsWide places.items (suc given.first.rows) },
+    ghost told: { ArePlaces places.items given.first.rows (seen_at rows.items) },
+    ghost uses_long: { length uses.items ≡ given.first.rows },
+    ghost uses_wide: { IsWide uses.items (length given.first.columns.items) },
+    ghost used: { AreUses uses.items given.first.columns.items } by { Prim.hlevel props },
+    ghost touched_long: { length touched.items ≡ suc given.first.rows },
+    ghost open_long: { length open.items ≡ length given.first.columns.items },
+    ghost clean: { AreClean (number_in_row given (seen_at rows.items given.first.rows) given.first.rows) open.items },
+    ghost found: { TellsFound least (least_negative (number_in_row given (seen_at rows.items given.first.rows)
+        given.first.rows) (length given.first.columns.items)) } by { TellsFound-prop _ _ },
+    ghost found_below: { IfFound least (λ j. j < length given.first.columns.items) } by { below_prop _ _ },
     ghost basics: { length basic.items ≡ given.first.rows },
     ghost basics_in: { (i : ℕ) → i < given.first.rows →
         get_or basic.items i 0 < columns (shape_of given.first.rows contacts has_factor) },
 }
 
-impl<T: RowNumber> RevisedTable<T> {
+impl RevisedTable {
     ghost use Rattle.std.specs.Prelude.{◌≢◌, ◌≤◌, ◌<ℤ◌, pos, cond, OnSome, None, IfSome, IfOk, OnOk, IfErr};
     ghost use Rattle.stack_inverse.specs.CellSteps.{TellsSpot};
     ghost use Rattle.stack_rows.specs.RowForm.{number_at};
@@ -57,38 +98,44 @@ impl<T: RowNumber> RevisedTable<T> {
     ghost use Rattle.stack_table.specs.Lent.{IsProblem, shape_of_problem, problem_of};
     ghost use Rattle.stack_table.specs.WrittenTable.{written_table};
     ghost use Rattle.stack_inverse.specs.Seen.{shape_of_revised, table_of_revised, number_in, under_in, IsEntered};
-    ghost use Rattle.stack_bland.specs.Found.{TellsFound, IfFound};
-    ghost use Rattle.stack_inverse.specs.ShortRow.{least_negative};
 
     /// The written table of a problem. All memory of a run is taken here. Given up likely where an entry, or the sum of
     /// the right sides, doesn't fit.
-    pub fn of_problem(alloc: Global, p: &Problem) -> Result<RevisedTable<T>, NoTable>
+    pub fn of_problem(alloc: Global, p: &Problem) -> Result<RevisedTable, NoTable>
         requires { IsProblem p.now }
         ensures shape { IfOk result (λ t. shape_of_revised t ≡ shape_of_problem p.now) }
         ensures ok { IfOk result (λ t. table_of_revised t ≡ written_table ordered_fractions (problem_of p.now)) }
     {
-        let one = one()?;
         let given = given_of(alloc, p)?;
-        let width = p.rows + 1;
-        let mut rows = rows_of(alloc, one, width)?;
-        let mut pivot = pivot_room(alloc, one, width)?;
-        let entered = repeated(alloc, T::zero(), width)?;
+        let width = width_of(p.rows)?;
+        let mut rows = rows_of(alloc, width)?;
+        let pivot = PivotRow {
+            row: Row::zeros(alloc, width)?,
+            whole_top: 0,
+        };
+        let mut entered = zeros(alloc, p.rows + 1)?;
         let basic = first_basics(alloc, given.first.columns.len(), p.rows)?;
-        match fill(
+        fill(
             rows.as_mut_slice(),
-            pivot.numbers.as_mut_slice(),
+            entered.as_mut_slice(),
             p.right.as_slice(),
-            one,
-        ) {
-            Some(()) => {}
-            None => return Err(NoTable::Unsettled),
-        }
+        )?;
+        let places = first_places(alloc, p.rows, p.rows + 1)?;
+        let uses = uses_of(alloc, given.first.columns.as_slice(), p.rows)?;
+        let touched = marks_of(alloc, 0, p.rows + 1)?;
+        let mut open = marks_of(alloc, 1, given.first.columns.len())?;
+        let least = least_negative(&given, &rows[p.rows], open.as_mut_slice());
         Ok(RevisedTable {
             given,
             rows,
             basic,
             pivot,
             entered,
+            places,
+            uses,
+            touched,
+            open,
+            least,
             contacts: p.contact.len(),
             has_factor: p.factor.is_some(),
         })
@@ -130,10 +177,10 @@ impl<T: RowNumber> RevisedTable<T> {
 
     /// The number in a row and a plain column, over the denominator of the row. Gives up likely where a sum of products
     /// doesn't fit.
-    pub fn number(&self, i: usize, j: usize) -> Option<T>
+    pub fn number(&self, i: usize, j: usize) -> Option<i128>
         requires i_in { i ≤ (shape_of_revised self.now).rows }
         requires j_in { j < plain (shape_of_revised self.now) }
-        ensures { IfSome result (λ r. T.value r ≡ number_in self.now i j) }
+        ensures { IfSome result (λ r. r ≡ number_in self.now i j) }
     {
         number_of(&self.given, &self.rows[i], i, j)
     }
@@ -145,62 +192,73 @@ impl<T: RowNumber> RevisedTable<T> {
         ensures table { table_of_revised self.new ≡ table_of_revised self.old }
         ensures entered { OnSome result (IsEntered self.new column) }
     {
+        mark_column(
+            self.places.as_slice(),
+            self.given.first.columns[column].cells.as_slice(),
+            self.touched.as_mut_slice(),
+        );
         enter_column(
             &self.given,
             self.rows.as_slice(),
+            self.touched.as_slice(),
             self.entered.as_mut_slice(),
             column,
         )
     }
 
     /// The number of a row that was kept last.
-    pub fn entered(&self, i: usize) -> T
+    pub fn entered(&self, i: usize) -> i128
         requires { i ≤ (shape_of_revised self.now).rows }
-        ensures { T.value result ≡ number_at T.value self.now.entered.items i }
+        ensures { result ≡ number_at self.now.entered.items i }
     {
         self.entered[i]
     }
 
-    /// The least column below `among` with a negative number in the objective row, by numbers of 64 bits. Gives up
-    /// likely where a top of the numbers doesn't fit these.
-    pub fn short_entering(&self, among: usize) -> Found<usize>
+    /// The least column below `among` with a negative number in the objective row. Gives up likely where a sum of
+    /// products doesn't fit.
+    pub fn entering(&self, among: usize) -> Found<usize>
         requires { among ≤ plain (shape_of_revised self.now) }
         ensures value { TellsFound result
             (least_negative (number_in self.now (shape_of_revised self.now).rows) among) }
         ensures below { IfFound result (λ j. j < among) }
     {
-        short_negative(&self.given, &self.rows[self.given.first.rows], among)
+        match self.least {
+            Found::This(column) if column < among => Found::This(column),
+            Found::This(_) => Found::Nothing,
+            Found::Nothing => Found::Nothing,
+            Found::GaveUp => Found::GaveUp,
+        }
     }
 
     /// The right side of a row, over its denominator.
-    pub fn right(&self, i: usize) -> T
+    pub fn right(&self, i: usize) -> i128
         requires { i ≤ (shape_of_revised self.now).rows }
-        ensures { T.value result ≡ number_in self.now i (columns (shape_of_revised self.now)) }
+        ensures { result ≡ number_in self.now i (columns (shape_of_revised self.now)) }
     {
-        self.rows[i].numbers[self.given.first.rows]
+        self.rows[i].row.numbers[self.given.first.rows]
     }
 
     /// The number of the objective row in a row's artificial column, over the denominator of the objective row.
-    pub fn multiplier(&self, i: usize) -> T
+    pub fn multiplier(&self, i: usize) -> i128
         requires { i < (shape_of_revised self.now).rows }
-        ensures { T.value result ≡ number_in self.now (shape_of_revised self.now).rows
+        ensures { result ≡ number_in self.now (shape_of_revised self.now).rows
             (plain (shape_of_revised self.now) + i) }
     {
-        self.rows[self.given.first.rows].numbers[i]
+        self.rows[self.given.first.rows].row.numbers[i]
     }
 
     /// The denominator of a row.
-    pub fn under(&self, i: usize) -> T
+    pub fn under(&self, i: usize) -> i128
         requires { i ≤ (shape_of_revised self.now).rows }
-        ensures value { T.value result ≡ under_in self.now i }
-        ensures positive { pos 0 <ℤ T.value result }
+        ensures value { result ≡ under_in self.now i }
+        ensures positive { pos 0 <ℤ result }
     {
-        self.rows[i].under
+        self.rows[i].row.under
     }
 
     /// A pivot at a row and a column whose numbers are kept, and whose cell in the row isn't 0. `TooWide` names the
-    /// first operation that is too wide. It may also be given up: likely at 64 bits where what a row step makes passes
-    /// these, and at 128 where besides no small common denominator is left. Both leave the table spent.
+    /// first operation that is too wide. It may also be given up: likely where what a row step makes doesn't fit and
+    /// no small common denominator is left. Both leave the table spent.
     pub fn pivot(&mut self, row: usize, column: usize) -> Result<(), TurnRefusal>
         requires row_in { row < (shape_of_revised self.old).rows }
         requires column_in { column < plain (shape_of_revised self.old) }
@@ -209,42 +267,47 @@ impl<T: RowNumber> RevisedTable<T> {
         ensures shape { OnOk result (shape_of_revised self.new ≡ shape_of_revised self.old) }
         ensures ok { OnOk result (table_of_revised self.new
             ≡ pivoted_at ordered_fractions (shape_of_revised self.old) (table_of_revised self.old) row column) }
-        ensures none { OnOk result (pivot_spot ordered_fractions (is_too_wide T.MAX) (shape_of_revised self.old)
+        ensures none { OnOk result (pivot_spot ordered_fractions (is_too_wide widest) (shape_of_revised self.old)
             (table_of_revised self.old) row column ≡ None) }
-        ensures refused { IfErr result (λ e. TellsSpot e (pivot_spot ordered_fractions (is_too_wide T.MAX)
+        ensures refused { IfErr result (λ e. TellsSpot e (pivot_spot ordered_fractions (is_too_wide widest)
             (shape_of_revised self.old) (table_of_revised self.old) row column)) }
     {
         self.basic[row] = column;
-        pivot_rows(
+        let done = pivot_rows(
             &self.given,
             self.rows.as_mut_slice(),
             &mut self.pivot,
             self.entered.as_slice(),
             row,
             column,
-        )
+        );
+        mark_on(
+            done.is_ok(),
+            self.places.as_mut_slice(),
+            self.uses.as_slice(),
+            self.touched.as_mut_slice(),
+            self.open.as_mut_slice(),
+            self.rows[row].row.numbers.as_slice(),
+            self.entered.as_slice(),
+        );
+        let last = self.given.first.rows;
+        self.least = least_negative(&self.given, &self.rows[last], self.open.as_mut_slice());
+        done
     }
 
-    /// Sets the objective row to 0, its right side too. Gives up likely nowhere.
-    pub fn clear_objective(&mut self) -> Option<()>
-        ensures shape { OnSome result (shape_of_revised self.new ≡ shape_of_revised self.old) }
-        ensures ok { OnSome result (table_of_revised self.new
-            ≡ clear_objective ordered_fractions (shape_of_revised self.old) (table_of_revised self.old)) }
+    /// Sets the objective row to 0, its right side too.
+    pub fn clear_objective(&mut self)
+        ensures shape { shape_of_revised self.new ≡ shape_of_revised self.old }
+        ensures ok { table_of_revised self.new
+            ≡ clear_objective ordered_fractions (shape_of_revised self.old) (table_of_revised self.old) }
     {
-        let one = T::from_broad(1)?;
         let last = self.given.first.rows;
-        clear_row(self.pivot.numbers.as_mut_slice());
+        clear_row(self.entered.as_mut_slice());
         clear_row(self.given.own.as_mut_slice());
-        self.given.own_top = T::zero();
-        put_row(
-            self.rows.as_mut_slice(),
-            last,
-            self.pivot.numbers.as_slice(),
-            one,
-            T::zero(),
-            false,
-        );
-        Some(())
+        self.given.own_top = 0;
+        put_row(self.rows.as_mut_slice(), last, self.entered.as_slice(), 1);
+        set_marks(self.open.as_mut_slice(), 1);
+        self.least = least_negative(&self.given, &self.rows[last], self.open.as_mut_slice());
     }
 
     /// Sets the objective row to that of the factor: the row in which it is basic without its own cell, and where it
@@ -255,27 +318,26 @@ impl<T: RowNumber> RevisedTable<T> {
         ensures ok { OnSome result (table_of_revised self.new
             ≡ set_factor_objective ordered_fractions (shape_of_revised self.old) (table_of_revised self.old)) }
     {
-        let minus_one = T::from_broad(-1)?;
         let last = self.given.first.rows;
         let row = row_with(self.basic.as_slice(), self.contacts);
         let under = factor_row(
             &self.given,
             self.rows.as_slice(),
-            self.pivot.numbers.as_mut_slice(),
+            self.entered.as_mut_slice(),
             self.contacts,
             row,
         )?;
         clear_row(self.given.own.as_mut_slice());
-        self.given.own_top = minus_one;
-        set_only(self.given.own.as_mut_slice(), self.contacts, minus_one);
+        self.given.own_top = 1;
+        set_only(self.given.own.as_mut_slice(), self.contacts, -1);
         put_row(
             self.rows.as_mut_slice(),
             last,
-            self.pivot.numbers.as_slice(),
+            self.entered.as_slice(),
             under,
-            T::zero(),
-            false,
         );
+        set_marks(self.open.as_mut_slice(), 1);
+        self.least = least_negative(&self.given, &self.rows[last], self.open.as_mut_slice());
         Some(())
     }
 }

@@ -15,16 +15,11 @@ use stack_certificate::Certificate;
 use stack_contact::Survey;
 use stack_equilibrium::Question;
 use stack_extract::pose;
-use stack_revised::{Last, RevisedEnd, RevisedStop, run_revised};
-use stack_rows::RowNumber;
+use stack_revised::{Last, RevisedStop, run_revised};
 use std::alloc::Global;
 
 /// The certificate of an end of a survey's run over rows: as `certify_at`.
-fn certify_last<T: RowNumber>(
-    alloc: Global,
-    s: &Survey,
-    last: &Last<T>,
-) -> Result<Certificate, JudgeError>
+fn certify_last(alloc: Global, s: &Survey, last: &Last) -> Result<Certificate, JudgeError>
     requires { IsLastOfSome s.now (shape_of_last last.now) (flips_of_last last.now) (value_of_last last.now) }
     ensures gives { (q : Question) → IsLastOf q s.now (shape_of_last last.now) (flips_of_last last.now)
         (value_of_last last.now) → GivesChecked result q s.now (value_of_last last.now) }
@@ -63,8 +58,7 @@ pub fn judge_revised(
         Err(_) => return Some(Err(JudgeError::Memory)),
     };
     match run_revised(alloc, &problem, budget) {
-        Ok(RevisedEnd::AtNarrow(last)) => Some(certify_last(alloc, s, &last)),
-        Ok(RevisedEnd::AtBroad(last)) => Some(certify_last(alloc, s, &last)),
+        Ok(last) => Some(certify_last(alloc, s, &last)),
         Err(stop) => stopped(stop, budget),
     }
 }

@@ -1,2 +1,3 @@
 mod Ratio
+mod Tests
 pub mod EndedRuns

@@ -3,7 +3,6 @@ use Rattle.std.specs.Prelude.{◌≡◌, ℕ, Bool, false, eqb, get_or, ⊤, Res
 use Rattle.stack_algebra.specs.Fraction.{Fraction}
 use Rattle.stack_table.specs.Table.{Shape}
 use Rattle.stack_run.specs.WrittenRun.{End, wide, over}
-use Rattle.stack_rows.specs.declared.whole.RowNumber.{Ghosts}
 use Rattle.stack_tableau.specs.declared.end_kind.EndKind.{EndKind}
 use Rattle.stack_tableau.specs.declared.end_kind.EndKind.TheVariants.{Infeasible, Feasible, Optimal, Ray}
 use Rattle.stack_revised.specs.declared.stops.RevisedStop.{RevisedStop}
@@ -12,21 +11,19 @@ use Rattle.stack_tableau.specs.declared.stops.RunStop.{RunStop}
 use Rattle.stack_tableau.specs.declared.stops.RunStop.TheVariants as stops
 use Rattle.stack_run.specs.PhaseStops.{spot_of}
 use Rattle.stack_revised.specs.declared.last.Last.{Last}
-use Rattle.stack_revised.specs.declared.ended.RevisedEnd.{RevisedEnd}
-use Rattle.stack_revised.specs.declared.ended.RevisedEnd.TheVariants.{AtNarrow, AtBroad}
 use Rattle.stack_inverse.specs.Seen.{shape_of_revised, table_of_revised}
 use Rattle.stack_tableau.specs.EndKinds.{end_at}
 
 -- the last table's shape
-abbrev pub shape_of_last : {V : Type 0} {number : Ghosts V} → Last V number → Shape
+abbrev pub shape_of_last : Last → Shape
 shape_of_last l = shape_of_revised l.table
 
 -- whether a row was flipped
-abbrev pub flips_of_last : {V : Type 0} {number : Ghosts V} → Last V number → ℕ → Bool
+abbrev pub flips_of_last : Last → ℕ → Bool
 flips_of_last l i = get_or l.flipped.items i false
 
 -- the value of the written run that it tells
-abbrev pub value_of_last : {V : Type 0} {number : Ghosts V} → Last V number → End Fraction
+abbrev pub value_of_last : Last → End Fraction
 value_of_last l = end_at l.kind (table_of_revised l.table)
 
 -- a ray's column can be read
@@ -35,19 +32,6 @@ reads_column Infeasible j = false
 reads_column Feasible j = false
 reads_column Optimal j = false
 reads_column (Ray c) j = eqb j c
-
--- an end at either width: its shape, whether a row was flipped, and the value that it tells
-abbrev pub shape_of_end : RevisedEnd → Shape
-shape_of_end (AtNarrow l) = shape_of_last l
-shape_of_end (AtBroad l) = shape_of_last l
-
-abbrev pub flips_of_end : RevisedEnd → ℕ → Bool
-flips_of_end (AtNarrow l) = flips_of_last l
-flips_of_end (AtBroad l) = flips_of_last l
-
-abbrev pub value_of_end : RevisedEnd → End Fraction
-value_of_end (AtNarrow l) = value_of_last l
-value_of_end (AtBroad l) = value_of_last l
 
 -- what a refusal says of the written run: that it is wide at this place, or over its budget; the others nothing
 abbrev pub tells_stop : RevisedStop → End Fraction → Type 0
@@ -69,12 +53,7 @@ TellsNothing Spent = ⊥
 TellsNothing Unsettled = ⊤
 TellsNothing Memory = ⊤
 
--- what the answer of a run at one width says of the written run there
-abbrev pub TellsLast : {V : Type 0} {number : Ghosts V} → Result (Last V number) RevisedStop → End Fraction → Type 0
-TellsLast (Ok l) X = value_of_last l ≡ X
-TellsLast (Err e) X = tells_stop e X
-
 -- what the answer of a run says of the written run: an end is its end with its last table
-abbrev pub TellsWrittenRun : Result RevisedEnd RevisedStop → End Fraction → Type 0
-TellsWrittenRun (Ok x) X = value_of_end x ≡ X
+abbrev pub TellsWrittenRun : Result Last RevisedStop → End Fraction → Type 0
+TellsWrittenRun (Ok l) X = value_of_last l ≡ X
 TellsWrittenRun (Err e) X = tells_stop e X

@@ -1,1 +1,2 @@
+pub mod NoCell
 pub mod Ended

@@ -14,15 +14,12 @@
 //! ```
 #![tactic(auto)]
 
-mod choices;
-mod ended;
 mod last;
 mod reading;
 mod running;
 mod stops;
 mod tableau;
 
-pub use ended::RevisedEnd;
 pub use last::Last;
 pub use running::run_revised;
 pub use stops::RevisedStop;

@@ -6,10 +6,9 @@ ghost use Rattle.stack_revised.specs.Ended.{shape_of_last, flips_of_last, reads_
 
 use crate::last::Last;
 use stack_rational::Frac;
-use stack_rows::{RowNumber, cell};
 use stack_tableau::LastTable;
 
-impl<T: RowNumber> LastTable for Last<T> {
+impl LastTable for Last {
     ghost shape = { λ l. shape_of_last l };
 
     ghost table = { λ l. table_of_revised l.table };
@@ -40,17 +39,14 @@ impl<T: RowNumber> LastTable for Last<T> {
     }
 
     fn right(&self, i: usize) -> Frac<i128> {
-        cell(self.table.right(i), self.table.under(i))
+        self.right[i]
     }
 
     fn multiplier(&self, i: usize) -> Frac<i128> {
-        cell(
-            self.table.multiplier(i),
-            self.table.under(self.table.rows()),
-        )
+        self.multipliers[i]
     }
 
     fn cell_of(&self, i: usize, _j: usize) -> Frac<i128> {
-        cell(self.column[i], self.table.under(i))
+        self.column[i]
     }
 }

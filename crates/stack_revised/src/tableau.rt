@@ -2,13 +2,13 @@
 
 ghost use Rattle.std.specs.Prelude.{◌≡◌, pos, ◌<ℤ◌, false};
 ghost use Rattle.stack_algebra.proofs.Over.{over};
+ghost use Rattle.stack_rational.specs.Laws.{widest};
 ghost use Rattle.stack_inverse.specs.Seen.{shape_of_revised, table_of_revised, IsEntered};
 
-use crate::choices::entering;
 use stack_bland::Found;
 use stack_inverse::RevisedTable;
 use stack_rational::OpWide;
-use stack_rows::RowNumber;
+use stack_rows::{Ratios, compare};
 use stack_table::TurnRefusal;
 use stack_tableau::Tableau;
 use std::alloc::AllocError;
@@ -16,19 +16,19 @@ use std::cmp::Ordering;
 
 /// The revised table of a run.
 #[derive(Drop)]
-pub struct Revised<T: RowNumber> {
-    pub table: RevisedTable<T>,
+pub struct Revised {
+    pub table: RevisedTable,
 }
 
 /// The right side of a row beside its positive cell.
 #[derive(Copy)]
-pub struct RatioPair<T: RowNumber> {
-    right: T,
-    cell: T,
-    ghost positive: { pos 0 <ℤ T.value cell },
+pub struct RatioPair {
+    right: i128,
+    cell: i128,
+    ghost positive: { pos 0 <ℤ cell },
 }
 
-impl<T: RowNumber> Clone for RatioPair<T> {
+impl Clone for RatioPair {
     ghost use Rattle.std.specs.Prelude.{⊤};
 
     ghost is_clone = { λ v w. w ≡ v };
@@ -40,8 +40,8 @@ impl<T: RowNumber> Clone for RatioPair<T> {
     }
 }
 
-impl<T: RowNumber> Tableau for Revised<T> {
-    type Ratio = RatioPair<T>;
+impl Tableau for Revised {
+    type Ratio = RatioPair;
 
     ghost shape = { λ t. shape_of_revised t.table };
 
@@ -51,9 +51,9 @@ impl<T: RowNumber> Tableau for Revised<T> {
 
     ghost has_at_hand = { λ t j. IsEntered t.table j };
 
-    ghost ratio = { λ x. over (T.value x.right) (T.value x.cell) };
+    ghost ratio = { λ x. over x.right x.cell };
 
-    ghost MAX = { T.MAX };
+    ghost MAX = { widest };
 
     ghost settles = { false };
 
@@ -78,34 +78,38 @@ impl<T: RowNumber> Tableau for Revised<T> {
     }
 
     fn entering_of(&self, among: usize) -> Found<usize> {
-        entering(&self.table, among)
+        self.table.entering(among)
     }
 
     fn enter(&mut self, column: usize) -> Option<()> {
         self.table.enter(column)
     }
 
-    fn ratio_of(&self, i: usize, _column: usize) -> Result<Option<RatioPair<T>>, OpWide> {
+    fn ratio_of(&self, i: usize, _column: usize) -> Result<Option<RatioPair>, OpWide> {
         let cell = self.table.entered(i);
-        if !cell.is_positive() {
+        if cell <= 0 {
             return Ok(None);
         }
         let right = self.table.right(i);
         Ok(Some(RatioPair { right, cell }))
     }
 
-    fn order_of(x: RatioPair<T>, y: RatioPair<T>) -> Option<Ordering> {
-        let order = x.right.order(x.cell, y.right, y.cell)?;
-        Some(order)
+    fn order_of(x: RatioPair, y: RatioPair) -> Option<Ordering> {
+        compare(Ratios {
+            left: x.right,
+            left_under: x.cell,
+            right: y.right,
+            right_under: y.cell,
+        })
     }
 
     fn is_nothing(&self, i: usize, j: usize) -> Option<bool> {
         let number = self.table.number(i, j)?;
-        Some(number.is_zero())
+        Some(number == 0)
     }
 
     fn falls_short(&self) -> bool {
-        self.table.right(self.table.rows()).is_negative()
+        self.table.right(self.table.rows()) < 0
     }
 
     fn pivot(&mut self, row: usize, column: usize) -> Result<(), TurnRefusal> {
@@ -113,7 +117,8 @@ impl<T: RowNumber> Tableau for Revised<T> {
     }
 
     fn clear_objective(&mut self) -> Option<()> {
-        self.table.clear_objective()
+        self.table.clear_objective();
+        Some(())
     }
 
     fn set_factor_objective(&mut self) -> Option<()> {

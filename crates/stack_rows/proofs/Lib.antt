@@ -1,7 +1,10 @@
 pub mod OverOneDenominator
+pub mod RatioSigns
 pub mod Numbers
-pub mod Ratios
-pub mod Combined
-pub mod Jumps
+pub mod Items
 pub mod Casts
-pub mod CommonDivisors
+pub mod Written
+pub mod Skips
+pub mod Combined
+pub mod Divided
+pub mod Taken

@@ -1,51 +1,73 @@
 -- A row as whole numbers over one positive denominator, which needn't be the least.
-use Rattle.std.specs.Prelude.{◌≡◌, ℕ, suc, ◌+◌, ◌-◌, ◌*◌, ◌^◌, ◌<◌, ◌≤◌, Bool, true, List, map, get_or}
+use Rattle.std.specs.Prelude.{◌≡◌, ℕ, suc, ◌+◌, ◌-◌, ◌*◌, ◌^◌, ◌<◌, ◌≤◌, List, get_or, length}
 use Rattle.std.specs.Prelude.{ℤ, pos, ◌*ℤ◌, ◌-ℤ◌, ◌<ℤ◌, unsigned_abs}
 
--- the value of item k, z past the last item
-abbrev pub at_value : {V C : Type 0} → (V → C) → C → List V → ℕ → C
-at_value e z xs k = get_or (map e xs) k z
+-- number k of a row, 0 past its end
+abbrev pub number_at : List ℤ → ℕ → ℤ
+number_at xs k = get_or xs k (pos 0)
 
--- item k of a list, 0 past its end
-abbrev pub number_at : {V : Type 0} → (V → ℤ) → List V → ℕ → ℤ
-number_at value xs k = at_value value (pos 0) xs k
+-- no number of a row but its last one, the right side, is greater in size than its top
+abbrev pub IsTopped : List ℤ → ℕ → Type 0
+IsTopped xs top = (j : ℕ) → suc j < length xs → unsigned_abs (number_at xs j) ≤ top
 
--- a row step with the factors k and t fits 64 bits: with a number of at most b and one of at most p in the pivot row
-pub record StepIsShort (k t : ℤ) (b p : ℕ) : Type 0 where
-  pub own : b ≤ 2 ^ 63 - 1
-  pub pivot : p ≤ 2 ^ 63 - 1
-  pub times : unsigned_abs k ≤ 2 ^ 63 - 1
-  pub less : unsigned_abs t ≤ 2 ^ 63 - 1
-  pub both : b * unsigned_abs k + unsigned_abs t * p ≤ 2 ^ 63 - 1
+-- no number from one place on and before another is greater in size than a top
+abbrev pub IsPartTopped : (from end : ℕ) → List ℤ → ℕ → Type 0
+IsPartTopped from end xs top = (j : ℕ) → from ≤ j → j < end → unsigned_abs (number_at xs j) ≤ top
 
--- a row step isn't too wide for m in any column, and fits 64 bits in each where that is told
-pub record RowStepFits {V : Type 0} (m : ℤ) (value : V → ℤ) (row pivot : List V) (k t : ℤ) (told : Bool) : Type 0 where
-  pub fits : (j : ℕ) → unsigned_abs (number_at value row j) * unsigned_abs k
-      + unsigned_abs t * unsigned_abs (number_at value pivot j) ≤ unsigned_abs m
-  pub short : told ≡ true → (j : ℕ) → StepIsShort k t (unsigned_abs (number_at value row j))
-      (unsigned_abs (number_at value pivot j))
+-- the sizes of a number and of one of another row are of 64 bits
+pub record AreWords (n o : ℕ) : Type 0 where
+  pub own : n ≤ 2 ^ 63 - 1
+  pub other : o ≤ 2 ^ 63 - 1
 
--- numbers times k less t times those of the pivot row
-abbrev pub IsCombined : {V : Type 0} → (V → ℤ) → (old pivot : List V) → (k t : ℤ) → (new : List V) → Type 0
-IsCombined value old pivot k t new = (j : ℕ) → number_at value new j
-    ≡ number_at value old j *ℤ k -ℤ t *ℤ number_at value pivot j
+-- and so are both terms of a row step together
+pub record AreSmall (k t : ℤ) (n o : ℕ) : Type 0 where
+  pub words : AreWords n o
+  pub sum : n * unsigned_abs k + unsigned_abs t * o ≤ 2 ^ 63 - 1
 
--- beside each column of a row a later one, with nothing between the two
-pub record AreJumps {V : Type 0} (value : V → ℤ) (row : List V) (jumps : List ℕ) : Type 0 where
+-- only the numbers from one place on and before another are written: P holds of each of these
+pub record IsWrittenPart (P : ℕ → ℤ → Type 0) (old : ℕ → ℤ) (from end : ℕ) (new : ℕ → ℤ) : Type 0 where
+  pub part : (j : ℕ) → from ≤ j → j < end → P j (new j)
+  pub before : (j : ℕ) → j < from → new j ≡ old j
+  pub after : (j : ℕ) → end ≤ j → new j ≡ old j
+
+-- a row step at one place: k times a number less t times that of the pivot row, divided
+abbrev pub IsQuotient : (by k t old pivot new : ℤ) → Type 0
+IsQuotient by k t old pivot new = new *ℤ by ≡ old *ℤ k -ℤ t *ℤ pivot
+
+-- and from one place on and before another
+abbrev pub IsDividedPart : (old pivot : List ℤ) → (k t by : ℤ) → (from end : ℕ) → (new : List ℤ) → Type 0
+IsDividedPart old pivot k t by from end new = IsWrittenPart (λ j z.
+    IsQuotient by k t (number_at old j) (number_at pivot j) z) (number_at old) from end (number_at new)
+
+-- a step goes on from a place, over another divisor: what is before was made over the first one, and is brought over
+pub record IsDividedOn (old pivot : List ℤ) (k t first by : ℤ) (from end : ℕ) (new : List ℤ) : Type 0 where
+  pub before : (j : ℕ) → j < from → number_at new j *ℤ by ≡ number_at old j *ℤ first
+  pub part : (j : ℕ) → from ≤ j → j < end → IsQuotient by k t (number_at old j) (number_at pivot j) (number_at new j)
+  pub after : (j : ℕ) → end ≤ j → number_at new j ≡ number_at old j
+
+-- the first numbers are multiplied
+abbrev pub IsMultiplied : (old : List ℤ) → (by : ℤ) → (end : ℕ) → (new : List ℤ) → Type 0
+IsMultiplied old by end new = IsWrittenPart (λ j z. z ≡ number_at old j *ℤ by) (number_at old) 0 end (number_at new)
+
+-- beside each place of a row a later one: P holds of each number between the two
+pub record SkipsOnly (P : ℕ → Type 0) (jumps : List ℕ) : Type 0 where
   pub further : (j : ℕ) → j < get_or jumps j (suc j)
-  pub nothing : (j k : ℕ) → j < k → k < get_or jumps j (suc j) → number_at value row k ≡ pos 0
+  pub between : (j x : ℕ) → j < x → x < get_or jumps j (suc j) → P x
+
+-- with nothing between the two
+abbrev pub AreJumps : (row : List ℤ) → (jumps : List ℕ) → Type 0
+AreJumps row jumps = SkipsOnly (λ x. number_at row x ≡ pos 0) jumps
 
 -- the same row over another denominator
-pub record IsSameRow {V : Type 0} (value : V → ℤ) (old : List V) (d : ℤ) (new : List V) (e : ℤ) : Type 0 where
+pub record IsSameRow (old : List ℤ) (d : ℤ) (new : List ℤ) (e : ℤ) : Type 0 where
   pub positive : pos 0 <ℤ e
-  pub cross : (j : ℕ) → number_at value new j *ℤ d ≡ number_at value old j *ℤ e
+  pub cross : (j : ℕ) → number_at new j *ℤ d ≡ number_at old j *ℤ e
 
 -- a row step: the row times k less t times the pivot row, over w, is the new row over another denominator
-pub record IsTaken {V : Type 0} (value : V → ℤ) (old : List V) (w : ℤ) (pivot : List V) (k t : ℤ) (new : List V)
-    (after : ℤ) : Type 0 where
+pub record IsTaken (old : List ℤ) (w : ℤ) (pivot : List ℤ) (k t : ℤ) (new : List ℤ) (after : ℤ) : Type 0 where
   pub positive : pos 0 <ℤ after
-  pub number : (r : ℕ) → number_at value new r *ℤ w
-      ≡ (number_at value old r *ℤ k -ℤ t *ℤ number_at value pivot r) *ℤ after
+  pub number : (r : ℕ) → number_at new r *ℤ w
+      ≡ (number_at old r *ℤ k -ℤ t *ℤ number_at pivot r) *ℤ after
 
 -- what a row step over d makes of numbers of at most b, and of at most p in the pivot row, isn't too wide for m, nor
 -- is its denominator r before it is reduced

@@ -1,29 +1,27 @@
-//! Rows of whole numbers over one denominator, at 64 and at 128 bits: their steps and their division.
+//! Rows of whole numbers of 128 bits over one denominator: what a pivot does to them.
 //!
-//! An answer that is there is exact. A call may also give up: it answers None, mostly since a number doesn't fit. No
-//! clause says when, but each call says where that is likely. So a run over such rows may say nothing of the written
-//! run. No call takes memory.
+//! An answer that is there is exact. A call may also give up, with None: where a number that it makes doesn't fit, and
+//! likely nowhere else. No clause says when, so that a run over such rows may say nothing of the written run.
 //!
 //! ```text
-//! factors_of(number, under) == Some(factors) // how often the pivot row is taken from a row with this number
-//! reduce_row(numbers, pivot, jumps, factors, over, short) == Some(under) // the row, reduced, and its denominator
+//! room.divide(&row, number) == Some(()) // the row of the pivot, over its number in the pivot's column
+//! row.take(&room, factors) == Some(()) // another row, from which a multiple of it is taken
 //! ```
 #![tactic(auto)]
 
-mod broad;
-mod broadening;
-mod cells;
+mod divider;
 mod factors;
-mod narrow;
-mod narrowing;
-mod products;
+mod jumps;
+mod ratios;
 mod row;
-mod whole;
+mod step;
+mod sums;
 mod words;
 
-pub use broad::Broad;
-pub use cells::cell;
-pub use factors::{Factors, factors_of, is_short, step_under, top_after};
-pub use narrow::Narrow;
-pub use row::{cancel, find_jumps, reduce_row};
-pub use whole::{Divider, RowNumber};
+pub use divider::Divider;
+pub use factors::{Factors, factors_of, step_under};
+pub use jumps::find_jumps;
+pub use ratios::{Ratios, compare};
+pub use row::Row;
+pub use sums::CheckSums;
+pub use words::{product, product_of, size_product, whole_product, word};

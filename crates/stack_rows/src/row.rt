@@ -1,237 +1,510 @@
-//! The steps of a pivot on one row.
+//! A row of a table, and what a pivot makes of it.
 
-ghost use Rattle.std.specs.Prelude.{◌≡◌, ℕ, ◌<◌, ◌≤◌, ◌+◌, ◌*◌, pos, ◌*ℤ◌, ◌-ℤ◌, ◌<ℤ◌, unsigned_abs, length, IfSome};
-ghost use Rattle.std.specs.Prelude.{true};
-ghost use Rattle.stack_rows.specs.RowForm.{number_at, AreJumps, StepIsShort, RowStepFits, IsCombined, IsSameRow};
-ghost use Rattle.stack_rows.specs.RowForm.{IsTaken};
+ghost use Rattle.std.specs.Prelude.{◌≡◌, ℕ, suc, ◌<◌, ◌^◌, ℤ, pos, ◌*ℤ◌, ◌-ℤ◌, ◌<ℤ◌, List, length, get_or};
+ghost use Rattle.std.specs.Prelude.{OnSome, IfSome};
+ghost use Rattle.stack_rows.specs.RowForm.{AreJumps, IsTopped, IsPartTopped, IsQuotient, IsDividedPart, IsTaken};
+ghost use Rattle.stack_rows.specs.RowForm.{AreSmall};
 
+use crate::divider::Divider;
 use crate::factors::Factors;
-use crate::whole::{Divider, RowNumber};
+use crate::jumps::{find_jumps, join_jumps};
+use crate::step::{Divided, PlainStep, Reached, Step, Way, divide, divide_from, top_of};
+use crate::sums::{CheckSums, narrowed};
+use crate::words::{is_word, product, size_product, whole_product};
+use std::alloc::{AllocError, Global};
 
-/// A number of a row, times k and less t times that of the pivot row.
-fn term<T: RowNumber>(number: T, other: T, k: T, t: T, short: bool) -> T
-    requires fits { unsigned_abs (T.value number) * unsigned_abs (T.value k)
-        + unsigned_abs (T.value t) * unsigned_abs (T.value other) ≤ unsigned_abs T.MAX }
-    requires short { short ≡ true → StepIsShort (T.value k) (T.value t) (unsigned_abs (T.value number))
-        (unsigned_abs (T.value other)) }
-    ensures { T.value result ≡ T.value number *ℤ T.value k -ℤ T.value t *ℤ T.value other }
-{
-    if short {
-        number.short_step(other, k, t)
+/// Whole numbers over one positive denominator, the right side last.
+#[derive(Drop)]
+pub struct Row {
+    pub numbers: Vec<i128>,
+    /// Beside each place a later one, with nothing between the two.
+    pub jumps: Vec<u16>,
+    pub under: i128,
+    /// A size that no number but the right side passes.
+    pub top: u128,
+    /// A hint at what the numbers have in common.
+    pub sums: CheckSums,
+    /// How often the row was stepped since its jumps were found.
+    pub age: u8,
+    ghost long: { length jumps.items ≡ length numbers.items },
+    ghost few: { length numbers.items < 2 ^ 16 },
+    ghost nothing: { AreJumps numbers.items jumps.items },
+    ghost positive: { pos 0 <ℤ under },
+    ghost topped: { IsTopped numbers.items top },
+}
+
+/// How many steps the jumps of a row are kept for at most.
+const OLD: u8 = 32;
+
+/// Sums of numbers of more than this size may not have fitted on the way.
+const WIDE: u128 = 1 << 118;
+
+/// Whether a step makes numbers of these tops so great that their check sums may not fit on the way.
+fn is_wide(own: u128, other: u128, factors: Factors) -> bool {
+    let left = size_product(own, factors.times.unsigned_abs());
+    let right = size_product(factors.less.unsigned_abs(), other);
+    match (left, right) {
+        (Some(left), Some(right)) => WIDE < (left | right),
+        _ => true,
+    }
+}
+
+/// What a step makes of the right side: a hint.
+fn right_hint(numbers: &[i128], other: &[i128], factors: Factors) -> i128 {
+    let right = match (numbers.last(), other.last()) {
+        (Some(own), Some(right)) => (*own, *right),
+        _ => (0, 0),
+    };
+    let left = right.0.wrapping_mul(factors.times);
+    left.wrapping_sub(factors.less.wrapping_mul(right.1))
+}
+
+/// A number that should go into all numbers of a row after a step, and into a number, as a hint.
+fn guess_of(row: &Row, other: &Row, factors: Factors, into: i128) -> i128 {
+    let right = right_hint(row.numbers.as_slice(), other.numbers.as_slice(), factors);
+    row.sums
+        .stepped(other.sums, factors.times, factors.less)
+        .narrowed(narrowed(right, into))
+}
+
+/// The check sums of a row that is stepped and divided: anew where they may not have fitted on the way.
+fn sums_after(
+    numbers: &[i128],
+    sums: CheckSums,
+    other: &Row,
+    factors: Factors,
+    by: i128,
+    top: u128,
+) -> CheckSums {
+    if is_wide(top, other.top, factors) {
+        CheckSums::of_numbers(numbers)
     } else {
-        number.step(other, k, t)
+        sums.stepped(other.sums, factors.times, factors.less)
+            .divided(by)
     }
 }
 
-/// Whether one of the numbers of a row is great, as far as one is known.
-fn is_great<T: RowNumber>(known: bool, number: T) -> bool {
-    if number.is_small() { known } else { true }
-}
-
-/// Takes from a row, whose numbers are made k times as great, t times the pivot row. Gives whether it is great then,
-/// by its numbers or by what is known of it.
-fn combine<T: RowNumber>(
-    numbers: &mut [T],
-    pivot: &[T],
-    k: T,
-    t: T,
-    short: bool,
-    known: bool,
-) -> bool
-    requires width { length pivot.now ≡ length numbers.old }
-    requires ready { RowStepFits T.MAX T.value numbers.old pivot.now (T.value k) (T.value t) short }
-    ensures { IsCombined T.value numbers.old pivot.now (T.value k) (T.value t) numbers.new }
+/// The step of one number, divided.
+fn number_after(number: i128, other: i128, s: &Step, by: i128) -> Option<i128>
+    ensures { IfSome result (λ r. IsQuotient by s.now.factors.times s.now.factors.less number other r) }
 {
-    let mut great = known;
-    for j in 0..numbers.len() {
-        let number = term(numbers[j], pivot[j], k, t, short);
-        great = is_great(great, number);
-        numbers[j] = number;
-    }
-    great
-}
-
-/// Takes from a row t times the pivot row, in the columns alone in which this has something: k is 1.
-fn subtract<T: RowNumber>(numbers: &mut [T], pivot: &[T], jumps: &[usize], k: T, t: T, short: bool)
-    requires width { length pivot.now ≡ length numbers.old }
-    requires long { length jumps.now ≡ length numbers.old }
-    requires jumps { AreJumps T.value pivot.now jumps.now }
-    requires one { T.value k ≡ pos 1 }
-    requires ready { RowStepFits T.MAX T.value numbers.old pivot.now (T.value k) (T.value t) short }
-    ensures { IsCombined T.value numbers.old pivot.now (T.value k) (T.value t) numbers.new }
-{
-    let mut j = 0;
-    while j < numbers.len() {
-        numbers[j] = term(numbers[j], pivot[j], k, t, short);
-        j = jumps[j];
-    }
-}
-
-/// Beside each column of a row the next one after it in which the row has something.
-pub fn find_jumps<T: RowNumber>(row: &[T], jumps: &mut [usize])
-    requires { length jumps.old ≡ length row.now }
-    ensures { AreJumps T.value row.now jumps.new }
-{
-    let mut next = row.len();
-    let mut j = row.len();
-    while 0 < j {
-        j -= 1;
-        jumps[j] = next;
-        if !row[j].is_zero() {
-            next = j;
-        }
-    }
-}
-
-/// The same by either way. A row that isn't multiplied isn't told to be great: its denominator stays.
-fn change<T: RowNumber>(
-    numbers: &mut [T],
-    pivot: &[T],
-    jumps: &[usize],
-    factors: Factors<T>,
-    short: bool,
-    known: bool,
-) -> bool
-    requires width { length pivot.now ≡ length numbers.old }
-    requires long { length jumps.now ≡ length numbers.old }
-    requires jumps { AreJumps T.value pivot.now jumps.now }
-    requires ready { RowStepFits T.MAX T.value numbers.old pivot.now (T.value factors.times) (T.value factors.less)
-        short }
-    ensures { IsCombined T.value numbers.old pivot.now (T.value factors.times) (T.value factors.less) numbers.new }
-{
-    if factors.times.is_one() {
-        subtract(numbers, pivot, jumps, factors.times, factors.less, short);
-        false
+    if by == s.divider.by {
+        s.quotient(number, other)
     } else {
-        combine(numbers, pivot, factors.times, factors.less, short, known)
+        Step::of(s.factors, by).quotient(number, other)
     }
 }
 
-/// A common divisor of a denominator and the last number of its row, the right side: it has little more than all have.
-fn divisor_with_last<T: RowNumber>(numbers: &[T], under: T) -> T {
-    match numbers.last() {
-        Some(right) => right.divisor(under),
-        None => under,
-    }
-}
-
-/// A number that should divide a denominator and all numbers of its row.
-fn content<T: RowNumber>(numbers: &[T], under: T) -> T {
-    let mut common = divisor_with_last(numbers, under).divider();
-    if common.by.is_one() {
-        return common.by;
-    }
-    for j in 0..numbers.len() {
-        let number = numbers[j];
-        if !goes_into(number, common) {
-            common = number.divisor(common.by).divider();
-            if common.by.is_one() {
-                return common.by;
-            }
-        }
-    }
-    common.by
-}
-
-/// Whether a number goes into another.
-fn goes_into<T: RowNumber>(number: T, divider: Divider<T>) -> bool {
-    if number.is_zero() {
-        return true;
-    }
-    number.exact(divider).is_some()
-}
-
-/// Divides each number of a row, and gives whether it did: likely not where a quotient isn't whole.
-fn divide_all<T: RowNumber>(numbers: &mut [T], by: T) -> bool
-    ensures { result ≡ true → (j : ℕ) → number_at T.value numbers.new j *ℤ T.value by
-        ≡ number_at T.value numbers.old j }
+/// Makes of the jumps of a row such of another row as well.
+fn join_row(jumps: &mut [u16], other: &Row)
+    requires long { length jumps.old ≡ length other.now.numbers.items }
+    requires further { (j : ℕ) → j < get_or jumps.old j (suc j) }
+    ensures long { length jumps.new ≡ length jumps.old }
+    ensures own { (row : List ℤ) → AreJumps row jumps.old → AreJumps row jumps.new }
+    ensures other { AreJumps other.now.numbers.items jumps.new }
 {
-    let divider = by.divider();
-    for j in 0..numbers.len() {
-        let number = numbers[j];
-        if !number.is_zero() {
-            match number.exact(divider) {
-                Some(quotient) => numbers[j] = quotient,
-                None => return false,
-            }
-        }
-    }
-    true
+    join_jumps(jumps, other.jumps.as_slice());
 }
 
-/// A number, and how often it goes into another: a positive whole number.
-#[derive(Clone, Copy)]
-struct Share<T> {
-    by: T,
-    rest: T,
-}
-
-/// A number or its opposite, whichever goes into another a positive number of times. Gives up likely where neither
-/// does.
-fn part<T: RowNumber>(number: T, by: T) -> Option<Share<T>>
-    ensures { IfSome result (λ p. (T.value p.rest *ℤ T.value p.by ≡ T.value number) × (pos 0 <ℤ T.value p.rest)) }
+/// A plain step of the numbers of a row but its right side: at the places of the other row alone, where that is all.
+/// Gives a top of them, by one that they had.
+fn plain_first(
+    numbers: &mut [i128],
+    other: &Row,
+    jumps: &[u16],
+    count: usize,
+    plain: &PlainStep,
+    top: u128,
+) -> Option<u128>
+    requires width { length other.now.numbers.items ≡ length numbers.old }
+    requires long { length jumps.now ≡ length numbers.old }
+    requires count { length numbers.old ≡ suc count }
+    requires jumps { AreJumps numbers.old jumps.now }
+    requires other_jumps { AreJumps other.now.numbers.items jumps.now }
+    requires top { IsTopped numbers.old top }
+    requires small { AreSmall plain.now.times plain.now.less top other.now.top }
+    ensures part { OnSome result (IsDividedPart numbers.old other.now.numbers.items plain.now.times plain.now.less
+        (pos 1) 0 count numbers.new) }
+    ensures top { IfSome result (λ b. IsPartTopped 0 count numbers.new b) }
 {
-    let rest = number.divided(by)?;
-    if rest.is_positive() {
-        return Some(Share { by, rest });
-    }
-    let opposite = T::zero().less(by)?;
-    let turned = number.divided(opposite)?;
-    if !turned.is_positive() {
+    let pivot = other.numbers.as_slice();
+    let reached = if plain.times == 1 {
+        let from = Reached { end: 0, size: top };
+        divide_from(numbers, pivot, other.jumps.as_slice(), count, plain, from)
+    } else {
+        let from = Reached { end: 0, size: 0 };
+        divide_from(numbers, pivot, jumps, count, plain, from)
+    };
+    if reached.end < count {
         return None;
     }
-    Some(Share {
-        by: opposite,
-        rest: turned,
+    Some(reached.size)
+}
+
+/// A plain step of the right side, which may be great.
+fn right_after(number: i128, other: i128, plain: &PlainStep) -> Option<i128>
+    ensures { IfSome result (λ r. r ≡ number *ℤ plain.now.times -ℤ other *ℤ plain.now.less) }
+{
+    let left = product(number, plain.times)?;
+    left.checked_sub(product(other, plain.less)?)
+}
+
+/// A plain step of all numbers of a row.
+fn plain_after(
+    numbers: &mut [i128],
+    other: &Row,
+    jumps: &[u16],
+    plain: &PlainStep,
+    top: u128,
+) -> Option<u128>
+    requires width { length other.now.numbers.items ≡ length numbers.old }
+    requires long { length jumps.now ≡ length numbers.old }
+    requires jumps { AreJumps numbers.old jumps.now }
+    requires other_jumps { AreJumps other.now.numbers.items jumps.now }
+    requires top { IsTopped numbers.old top }
+    requires small { AreSmall plain.now.times plain.now.less top other.now.top }
+    ensures part { OnSome result (IsDividedPart numbers.old other.now.numbers.items plain.now.times plain.now.less
+        (pos 1) 0 (length numbers.old) numbers.new) }
+    ensures top { IfSome result (λ b. IsTopped numbers.new b) }
+{
+    let count = numbers.len().checked_sub(1)?;
+    let pivot = other.numbers.as_slice();
+    let right = right_after(numbers[count], pivot[count], plain)?;
+    let size = plain_first(numbers, other, jumps, count, plain, top)?;
+    numbers[count] = right;
+    Some(size)
+}
+
+/// The same, with jumps of the row that are made such of both rows first, and are found anew where it gives up.
+fn plainly_changed(
+    numbers: &mut [i128],
+    jumps: &mut [u16],
+    other: &Row,
+    plain: &PlainStep,
+    top: u128,
+) -> Option<u128>
+    requires width { length other.now.numbers.items ≡ length numbers.old }
+    requires long { length jumps.old ≡ length numbers.old }
+    requires jumps { AreJumps numbers.old jumps.old }
+    requires top { IsTopped numbers.old top }
+    requires small { AreSmall plain.now.times plain.now.less top other.now.top }
+    ensures part { OnSome result (IsDividedPart numbers.old other.now.numbers.items plain.now.times plain.now.less
+        (pos 1) 0 (length numbers.old) numbers.new) }
+    ensures long { length jumps.new ≡ length jumps.old }
+    ensures jumps { AreJumps numbers.new jumps.new }
+    ensures top { IfSome result (λ b. IsTopped numbers.new b) }
+{
+    join_row(jumps, other);
+    match plain_after(numbers, other, jumps, plain, top) {
+        Some(size) => Some(size),
+        None => {
+            find_jumps(numbers, jumps);
+            None
+        }
+    }
+}
+
+/// A step of all numbers of a row.
+fn numbers_after(
+    numbers: &mut [i128],
+    other: &Row,
+    jumps: &[u16],
+    s: &Step,
+    top: u128,
+) -> Option<Divided>
+    requires width { length other.now.numbers.items ≡ length numbers.old }
+    requires long { length jumps.now ≡ length numbers.old }
+    requires jumps { AreJumps numbers.old jumps.now }
+    requires other_jumps { AreJumps other.now.numbers.items jumps.now }
+    requires top { IsTopped numbers.old top }
+    ensures ok { IfSome result (λ d. IsDividedPart numbers.old other.now.numbers.items s.now.factors.times
+        s.now.factors.less d.by 0 (length numbers.old) numbers.new) }
+    ensures top { IfSome result (λ d. IsTopped numbers.new d.top) }
+{
+    let count = numbers.len().checked_sub(1)?;
+    let pivot = other.numbers.as_slice();
+    let words = is_word(top) && is_word(other.top);
+    let divided = divide(numbers, pivot, jumps, count, s, words)?;
+    numbers[count] = number_after(numbers[count], pivot[count], s, divided.by)?;
+    Some(divided)
+}
+
+/// What a row is divided by, its denominator then, and a top of it.
+#[derive(Clone, Copy)]
+struct Made {
+    by: i128,
+    under: i128,
+    top: u128,
+}
+
+/// The denominator of a row that is divided.
+fn under_of(over: i128, by: i128) -> Option<i128>
+    ensures { IfSome result (λ r. r *ℤ by ≡ over) }
+{
+    if by == 1 {
+        Some(over)
+    } else {
+        Divider::of(by).exact(over)
+    }
+}
+
+/// Such a step, with the denominator that the row then has. Gives up where a number doesn't fit, and where the
+/// denominator isn't positive.
+fn made_after(
+    numbers: &mut [i128],
+    other: &Row,
+    jumps: &[u16],
+    s: &Step,
+    over: i128,
+    top: u128,
+) -> Option<Made>
+    requires width { length other.now.numbers.items ≡ length numbers.old }
+    requires long { length jumps.now ≡ length numbers.old }
+    requires jumps { AreJumps numbers.old jumps.now }
+    requires other_jumps { AreJumps other.now.numbers.items jumps.now }
+    requires top { IsTopped numbers.old top }
+    ensures taken { IfSome result (λ m. IsTaken numbers.old over other.now.numbers.items s.now.factors.times
+        s.now.factors.less numbers.new m.under) }
+    ensures jumps { IfSome result (λ m. AreJumps numbers.new jumps.now) }
+    ensures top { IfSome result (λ m. IsTopped numbers.new m.top) }
+{
+    let divided = numbers_after(numbers, other, jumps, s, top)?;
+    let under = under_of(over, divided.by)?;
+    if under <= 0 {
+        return None;
+    }
+    if divided.by <= 0 {
+        return None;
+    }
+    Some(Made {
+        by: divided.by,
+        under,
+        top: divided.top,
     })
 }
 
-/// Divides a row and its denominator, of either sign, by what they have in common. The denominator is positive then.
-/// Gives up likely only where that is 0: what it divides by was looked for in all numbers.
-pub fn cancel<T: RowNumber>(numbers: &mut [T], under: T) -> Option<T>
-    ensures { IfSome result (λ e. IsSameRow T.value numbers.old (T.value under) numbers.new (T.value e)) }
+/// The same, with jumps of the row that are made such of both rows first, and are found anew where it gives up.
+fn changed(
+    numbers: &mut [i128],
+    jumps: &mut [u16],
+    other: &Row,
+    s: &Step,
+    over: i128,
+    top: u128,
+) -> Option<Made>
+    requires width { length other.now.numbers.items ≡ length numbers.old }
+    requires long { length jumps.old ≡ length numbers.old }
+    requires jumps { AreJumps numbers.old jumps.old }
+    requires top { IsTopped numbers.old top }
+    ensures taken { IfSome result (λ m. IsTaken numbers.old over other.now.numbers.items s.now.factors.times
+        s.now.factors.less numbers.new m.under) }
+    ensures long { length jumps.new ≡ length jumps.old }
+    ensures jumps { AreJumps numbers.new jumps.new }
+    ensures top { IfSome result (λ m. IsTopped numbers.new m.top) }
 {
-    let common = content(numbers, under);
-    if common.is_one() && under.is_positive() {
-        return Some(under);
-    }
-    let shared = part(under, common)?;
-    if divide_all(numbers, shared.by) {
-        Some(shared.rest)
-    } else {
-        None
+    join_row(jumps, other);
+    match made_after(numbers, other, jumps, s, over, top) {
+        Some(made) => Some(made),
+        None => {
+            find_jumps(numbers, jumps);
+            None
+        }
     }
 }
 
-/// The same for a row that is great; another stays as it is, if its denominator is positive.
-fn cancel_great<T: RowNumber>(numbers: &mut [T], under: T, great: bool) -> Option<T>
-    ensures { IfSome result (λ e. IsSameRow T.value numbers.old (T.value under) numbers.new (T.value e)) }
-{
-    if !great && under.is_positive() {
-        return Some(under);
-    }
-    cancel(numbers, under)
-}
+impl Row {
+    ghost use Rattle.std.specs.Prelude.{IfOk};
+    ghost use Rattle.stack_rows.specs.RowForm.{number_at, IsSameRow};
 
-/// Takes a multiple of the pivot row from a row, and reduces it. `over` is its denominator before it is reduced. Gives
-/// up likely only where that is 0.
-pub fn reduce_row<T: RowNumber>(
-    numbers: &mut [T],
-    pivot: &[T],
-    jumps: &[usize],
-    factors: Factors<T>,
-    over: T,
-    short: bool,
-) -> Option<T>
-    requires width { length pivot.now ≡ length numbers.old }
-    requires long { length jumps.now ≡ length numbers.old }
-    requires jumps { AreJumps T.value pivot.now jumps.now }
-    requires ready { RowStepFits T.MAX T.value numbers.old pivot.now (T.value factors.times) (T.value factors.less)
-        short }
-    ensures { IfSome result (λ e. IsTaken T.value numbers.old (T.value over) pivot.now (T.value factors.times)
-        (T.value factors.less) numbers.new (T.value e)) }
-{
-    let great = change(numbers, pivot, jumps, factors, short, !over.is_small());
-    let after = cancel_great(numbers, over, great)?;
-    Some(after)
+    /// Zeros over 1.
+    pub fn zeros(alloc: Global, width: u16) -> Result<Row, AllocError>
+        ensures width { IfOk result (λ r. length r.numbers.items ≡ width) }
+        ensures zeros { IfOk result (λ r. (j : ℕ) → number_at r.numbers.items j ≡ pos 0) }
+        ensures under { IfOk result (λ r. r.under ≡ pos 1) }
+    {
+        let mut numbers = Vec::with_capacity(alloc, usize::from(width))?;
+        let mut jumps = Vec::with_capacity(alloc, usize::from(width))?;
+        for _ in 0..width {
+            numbers.push(0)?;
+            jumps.push(width)?;
+        }
+        Ok(Row {
+            numbers,
+            jumps,
+            under: 1,
+            top: 0,
+            sums: CheckSums::zero(),
+            age: 0,
+        })
+    }
+
+    /// Puts other numbers, over another denominator.
+    pub fn put(&mut self, numbers: &[i128], under: i128)
+        requires width { length numbers.now ≡ length self.old.numbers.items }
+        requires under { pos 0 <ℤ under }
+        ensures numbers { self.new.numbers.items ≡ numbers.now }
+        ensures under { self.new.under ≡ under }
+    {
+        self.numbers.as_mut_slice().copy_from_slice(numbers);
+        find_jumps(numbers, self.jumps.as_mut_slice());
+        self.under = under;
+        self.top = top_of(numbers, numbers.len().saturating_sub(1));
+        self.sums = CheckSums::of_numbers(numbers);
+    }
+
+    /// A top that is no greater than it must be.
+    pub fn tighten(&mut self)
+        ensures numbers { self.new.numbers.items ≡ self.old.numbers.items }
+        ensures under { self.new.under ≡ self.old.under }
+    {
+        self.top = top_of(
+            self.numbers.as_slice(),
+            self.numbers.len().saturating_sub(1),
+        );
+    }
+
+    /// Puts another row.
+    pub fn copy_from(&mut self, other: &Row)
+        requires { length other.now.numbers.items ≡ length self.old.numbers.items }
+        ensures numbers { self.new.numbers.items ≡ other.now.numbers.items }
+        ensures under { self.new.under ≡ other.now.under }
+    {
+        self.numbers
+            .as_mut_slice()
+            .copy_from_slice(other.numbers.as_slice());
+        self.jumps
+            .as_mut_slice()
+            .copy_from_slice(other.jumps.as_slice());
+        self.under = other.under;
+        self.top = other.top;
+        self.sums = other.sums;
+        self.age = other.age;
+    }
+
+    /// Finds the jumps anew where the row was stepped often since they were found: what has become 0 is skipped then.
+    fn grow_old(&mut self)
+        ensures numbers { self.new.numbers.items ≡ self.old.numbers.items }
+        ensures under { self.new.under ≡ self.old.under }
+    {
+        if self.age < OLD {
+            self.age += 1;
+        } else {
+            self.age = 0;
+            find_jumps(self.numbers.as_slice(), self.jumps.as_mut_slice());
+        }
+    }
+
+    /// Makes of the row k times itself less t times another one, over a number, divided by what they go by, or by a
+    /// lesser number.
+    fn change(&mut self, other: &Row, s: &Step, over: i128) -> Option<()>
+        requires { length other.now.numbers.items ≡ length self.old.numbers.items }
+        ensures width { length self.new.numbers.items ≡ length self.old.numbers.items }
+        ensures ok { OnSome result (IsTaken self.old.numbers.items over other.now.numbers.items s.now.factors.times
+            s.now.factors.less self.new.numbers.items self.new.under) }
+    {
+        let top = self.top;
+        let made = changed(
+            self.numbers.as_mut_slice(),
+            self.jumps.as_mut_slice(),
+            other,
+            s,
+            over,
+            top,
+        );
+        match made {
+            Some(made) => {
+                self.sums = sums_after(
+                    self.numbers.as_slice(),
+                    self.sums,
+                    other,
+                    s.factors,
+                    made.by,
+                    top,
+                );
+                self.under = made.under;
+                self.top = made.top;
+                self.grow_old();
+                Some(())
+            }
+            None => {
+                self.top = top_of(
+                    self.numbers.as_slice(),
+                    self.numbers.len().saturating_sub(1),
+                );
+                None
+            }
+        }
+    }
+
+    /// Takes a multiple of the pivot row from the row, where all numbers are small; `over` is its denominator then.
+    fn take_plain(&mut self, pivot: &Row, plain: &PlainStep, over: i128) -> Option<()>
+        requires width { length pivot.now.numbers.items ≡ length self.old.numbers.items }
+        requires small { AreSmall plain.now.times plain.now.less self.old.top pivot.now.top }
+        ensures width { length self.new.numbers.items ≡ length self.old.numbers.items }
+        ensures ok { OnSome result (IsTaken self.old.numbers.items over pivot.now.numbers.items plain.now.times
+            plain.now.less self.new.numbers.items self.new.under) }
+    {
+        if over <= 0 {
+            return None;
+        }
+        let top = self.top;
+        let numbers = self.numbers.as_mut_slice();
+        match plainly_changed(numbers, self.jumps.as_mut_slice(), pivot, plain, top) {
+            Some(top) => {
+                self.under = over;
+                self.top = top;
+                self.sums = self
+                    .sums
+                    .stepped_by_words(pivot.sums, plain.times, plain.less);
+                self.grow_old();
+                Some(())
+            }
+            None => {
+                self.top = top_of(
+                    self.numbers.as_slice(),
+                    self.numbers.len().saturating_sub(1),
+                );
+                None
+            }
+        }
+    }
+
+    /// Takes a multiple of the pivot row from the row, and what all its numbers have in common out. Gives up where a
+    /// number doesn't fit.
+    pub fn take(&mut self, pivot: &Row, factors: Factors) -> Option<()>
+        requires { length pivot.now.numbers.items ≡ length self.old.numbers.items }
+        ensures width { length self.new.numbers.items ≡ length self.old.numbers.items }
+        ensures ok { OnSome result (IsTaken self.old.numbers.items (self.old.under *ℤ factors.times)
+            pivot.now.numbers.items factors.times factors.less self.new.numbers.items self.new.under) }
+    {
+        let over = whole_product(self.under, factors.times)?;
+        match PlainStep::of(factors, self.top, pivot.top, self.under.unsigned_abs()) {
+            Some(plain) => return self.take_plain(pivot, &plain, over),
+            None => {}
+        }
+        let guess = guess_of(self, pivot, factors, self.under);
+        self.change(pivot, &Step::of(factors, guess), over)
+    }
+
+    /// Makes of the row another one, divided by a number: this over it. Gives up where that is 0, and likely nowhere
+    /// else.
+    pub fn divide(&mut self, row: &Row, number: i128) -> Option<()>
+        requires { length row.now.numbers.items ≡ length self.old.numbers.items }
+        ensures width { length self.new.numbers.items ≡ length self.old.numbers.items }
+        ensures ok { OnSome result (IsSameRow row.now.numbers.items number self.new.numbers.items self.new.under) }
+    {
+        self.copy_from(row);
+        if number == 0 {
+            return None;
+        }
+        let over = number.checked_abs()?;
+        let sign = Factors {
+            times: number.signum(),
+            less: 0,
+        };
+        let guess = guess_of(self, self, sign, over);
+        self.change(row, &Step::of(sign, guess), over)?;
+        find_jumps(self.numbers.as_slice(), self.jumps.as_mut_slice());
+        Some(())
+    }
 }

@@ -1,24 +1,74 @@
-//! A step and an inverse of words.
+//! Whole numbers of 64 bits, called words: most numbers of a row are.
 
-ghost use Rattle.std.specs.Prelude.{◌≡◌, ◌≤◌, ◌+◌, ◌*◌, ◌^◌, ◌-◌, ◌*ℤ◌, ◌-ℤ◌, unsigned_abs};
+ghost use Rattle.std.specs.Prelude.{◌≡◌, ◌≤◌, ◌^◌, ◌-◌, ◌*◌, ◌*ℤ◌, true, IfSome};
 
-/// The product of two words that fits.
-fn word_product(a: i64, b: i64) -> i64
-    requires { unsigned_abs a * unsigned_abs b ≤ 2 ^ 63 - 1 }
-    ensures { result ≡ a *ℤ b }
-{
-    a * b
+/// The last 64 bits, each of them on.
+const LAST_BITS: u128 = u64::MAX as u128;
+
+/// The last 64 bits of a number.
+pub fn low(n: i128) -> i64 {
+    ((n.cast_unsigned() & LAST_BITS) as u64).cast_signed()
 }
 
-/// A word times k less t times another, where the sizes of both terms together fit.
-pub fn word_step(number: i64, other: i64, k: i64, t: i64) -> i64
-    requires { unsigned_abs number * unsigned_abs k + unsigned_abs t * unsigned_abs other ≤ 2 ^ 63 - 1 }
-    ensures value { result ≡ number *ℤ k -ℤ t *ℤ other }
-    ensures fits { unsigned_abs result ≤ 2 ^ 63 - 1 }
+/// Whether a size is that of a word.
+pub fn is_word(size: u128) -> bool
+    ensures { result ≡ true → size ≤ 2 ^ 63 - 1 }
 {
-    let left = word_product(number, k);
-    let right = word_product(t, other);
-    left - right
+    size <= i64::MAX as u128
+}
+
+/// A number as a word, if it is one.
+pub fn word(n: i128) -> Option<i64>
+    ensures { IfSome result (λ r. r ≡ n) }
+{
+    let word = low(n);
+    if word as i128 == n { Some(word) } else { None }
+}
+
+/// The product of two words: it fits.
+pub fn product_of(a: i64, b: i64) -> i128
+    ensures { result ≡ a *ℤ b }
+{
+    a as i128 * b as i128
+}
+
+/// The product of a number and a word, quicker where both are words. Gives up where it doesn't fit.
+pub fn product(number: i128, by: i64) -> Option<i128>
+    ensures { IfSome result (λ r. r ≡ number *ℤ by) }
+{
+    let word = low(number);
+    // made before the test: the compiler takes one multiplication then, and else three
+    let product = product_of(word, by);
+    if word as i128 == number {
+        Some(product)
+    } else {
+        number.checked_mul(by as i128)
+    }
+}
+
+/// The product of two numbers, quicker where both are words. Gives up where it doesn't fit.
+pub fn whole_product(a: i128, b: i128) -> Option<i128>
+    ensures { IfSome result (λ r. r ≡ a *ℤ b) }
+{
+    match word(b) {
+        Some(word) => product(a, word),
+        None => a.checked_mul(b),
+    }
+}
+
+/// The product of two sizes, quicker where both are of 64 bits. Gives up where it doesn't fit.
+pub fn size_product(a: u128, b: u128) -> Option<u128>
+    ensures { IfSome result (λ r. r ≡ a * b) }
+{
+    let left = u128::from((a & LAST_BITS) as u64);
+    let right = u128::from((b & LAST_BITS) as u64);
+    // made before the test, as in `product`
+    let product = left * right;
+    if left == a && right == b {
+        Some(product)
+    } else {
+        a.checked_mul(b)
+    }
 }
 
 /// The inverse of an odd word modulo 2^64, by Newton's steps: each doubles the bits that are right. No clause says so:
@@ -29,4 +79,10 @@ pub fn word_inverse(odd: i64) -> i64 {
         inverse = inverse.wrapping_mul(2i64.wrapping_sub(odd.wrapping_mul(inverse)));
     }
     inverse
+}
+
+/// The same of an odd number modulo 2^128, by one step more.
+pub fn inverse(odd: i128) -> i128 {
+    let inverse = word_inverse(low(odd)) as i128;
+    inverse.wrapping_mul(2i128.wrapping_sub(odd.wrapping_mul(inverse)))
 }

@@ -16,6 +16,8 @@ mod problems;
 #[cfg(test)]
 mod revised;
 #[cfg(test)]
+mod settled;
+#[cfg(test)]
 mod simplex;
 #[cfg(test)]
 mod table;

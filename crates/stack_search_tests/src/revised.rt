@@ -1,7 +1,7 @@
 //! Runs worked by hand.
 
 use crate::problems::{DOUBLED, EMPTY, Numbers, POST, PRESSED, PULLED, PUSHED_POST, problem};
-use stack_revised::{RevisedEnd, RevisedStop, run_revised};
+use stack_revised::{Last, RevisedStop, run_revised};
 use stack_run::RunPlace;
 use stack_table::{Problem, Step};
 use stack_tableau::EndKind;
@@ -11,10 +11,9 @@ use std::test::*;
 /// How a run ends, or why it has no end.
 type Told = Result<EndKind, RevisedStop>;
 
-fn kind_of(found: Result<RevisedEnd, RevisedStop>) -> Told {
+fn kind_of(found: Result<Last, RevisedStop>) -> Told {
     match found {
-        Ok(RevisedEnd::AtNarrow(last)) => Ok(last.kind),
-        Ok(RevisedEnd::AtBroad(last)) => Ok(last.kind),
+        Ok(last) => Ok(last.kind),
         Err(stop) => Err(stop),
     }
 }
@@ -87,23 +86,27 @@ fn the_other_ends_and_beales_example_are_told(rt: HostRuntime) {
     assert_eq!(rt; found, wanted);
 }
 
-const GREAT: i128 = 1 << 80;
+const GREAT: i128 = 1 << 62;
 
-/// Entries that don't fit 64 bits, of which the sum is needed.
+/// A number that doesn't fit 64 bits.
+const WIDER: i128 = (1 << 80) + 1;
+
+/// Right sides that don't fit 64 bits, of which the sum is needed.
 const WIDE: Numbers = Numbers {
     contact: &[&[GREAT, 0], &[0, GREAT]],
     factor: None,
-    right: &[GREAT, GREAT],
+    right: &[WIDER, WIDER],
 };
 
-/// Two columns whose first pivot, at a number n in row 0, takes n - 1 times (n - 1)/n from row 1: that doesn't fit.
+/// Two columns whose first pivot, at a number n in row 0, takes n - 1 times an nth part of a right side from row 1:
+/// that doesn't fit.
 const APART: Numbers = Numbers {
     contact: &[&[GREAT, GREAT - 1], &[GREAT - 1, GREAT]],
     factor: None,
-    right: &[1, 1],
+    right: &[WIDER, WIDER],
 };
 
-const LARGE: i128 = 1 << 63;
+const LARGE: i128 = (1 << 63) - 1;
 
 /// Here it takes n - 1 times 1/n and n - 1 times 1: that fits, though the bound of the two rows doesn't.
 const CLOSE: Numbers = Numbers {
@@ -112,7 +115,7 @@ const CLOSE: Numbers = Numbers {
     right: &[LARGE, LARGE - 1],
 };
 
-/// Wide entries are taken at 128 bits, a refused run has one place, and a row whose bound doesn't fit goes on.
+/// Wide numbers are taken at 128 bits, a refused run has one place, and a row whose bound doesn't fit goes on.
 #[test]
 fn wide_numbers_are_taken_as_far_as_they_fit(rt: HostRuntime) {
     let alloc = rt.alloc();
@@ -126,7 +129,7 @@ fn wide_numbers_are_taken_as_far_as_they_fit(rt: HostRuntime) {
         phase: 1,
         pivot: 1,
         row: 1,
-        column: 1,
+        column: 4,
         step: Step::Multiply,
     };
     let ends = Some(Ok(EndKind::Feasible));

@@ -4,4 +4,4 @@ use Rattle.stack_inverse.proofs.building.cells_of.Given as goal
 
 -- the entries so far
 abbrev pub invariant-loop-entry : goal.invariant-loop-entry
-invariant-loop-entry g l = AreTurned g.T.RowNumber.value l.right (take l.entry-index l.entries) l.cells.items
+invariant-loop-entry l = AreTurned l.right (take l.entry-index l.entries) l.cells.items

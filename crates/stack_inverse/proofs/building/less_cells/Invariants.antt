@@ -5,6 +5,4 @@ use Rattle.stack_inverse.proofs.building.less_cells.Given as goal
 
 -- what is left less the values of the cells that are left
 abbrev pub invariant-loop-cell : goal.invariant-loop-cell
-invariant-loop-cell g l = g.T.RowNumber.value l.rest -ℤ sum_of (λ x. g.T.RowNumber.value x.value)
-    (drop l.cell-index l.cells)
-    ≡ less_cells g.T.RowNumber.value l.cells
+invariant-loop-cell l = l.rest -ℤ sum_of (λ x. x.value) (drop l.cell-index l.cells) ≡ less_cells l.cells

@@ -5,8 +5,7 @@ use Rattle.stack_inverse.specs.FirstTable.{less_cells}
 use Rattle.stack_inverse.proofs.building.own_cells.Given as goal
 
 abbrev pub invariant-loop-j : goal.invariant-loop-j
-invariant-loop-j g l = record {
+invariant-loop-j l = record {
   long : length l.own.items ≡ l.j;
-  cells : (k : ℕ) → k < l.j →
-      number_at g.T.RowNumber.value l.own.items k ≡ less_cells g.T.RowNumber.value (cells_at l.columns k);
+  cells : (k : ℕ) → k < l.j → number_at l.own.items k ≡ less_cells (cells_at l.columns k);
 }

@@ -5,14 +5,14 @@ use Rattle.stack_inverse.specs.RowsSeen.{seen_of}
 use Rattle.stack_inverse.proofs.Grown.{grown_by}
 use Rattle.stack_inverse.proofs.filling.rows_of.Goals as goal
 
-pub loop-i-preserved : goal.loop-i-preserved
-loop-i-preserved g c = record {
-  height = ap length c.in_ok-push.ensures.items ∙ length_push c.loop-i.rows.items _
-      ∙ ap (λ n. n + 1) c.loop-i.invariant.height;
-  widths = λ k l. grown_by seen_of no_row (λ (k : ℕ) (s : RowSeen g.row.T.Denot). length s.numbers ≡ c.args.width)
-      c.loop-i.rows.items c.push.new.self.items _ c.loop-i.i c.in_ok-push.ensures.items c.loop-i.invariant.height
-      c.loop-i.invariant.widths c.in_ok-numbers.ensures.long k l;
-  unmarked = λ k l. grown_by seen_of no_row (λ (k : ℕ) (s : RowSeen g.row.T.Denot). s.fits ≡ false)
-      c.loop-i.rows.items c.push.new.self.items _ c.loop-i.i c.in_ok-push.ensures.items c.loop-i.invariant.height
-      c.loop-i.invariant.unmarked refl k l;
-}
+pub loop-preserved : goal.loop-preserved
+loop-preserved c =
+    let i = c.loop.invariant in
+    let grown = c.in_ok-push.ensures.items in
+    record {
+      height = ap length grown ∙ length_push c.loop.rows.items _ ∙ ap (λ n. n + 1) i.height;
+      widths = grown_by seen_of no_row (λ (k : ℕ) (s : RowSeen). length s.numbers ≡ c.args.width) c.loop.rows.items
+          c.push.new.self.items _ c.loop.counter grown i.height i.widths c.in_ok-row.ensures.width;
+      unmarked = grown_by seen_of no_row (λ (k : ℕ) (s : RowSeen). s.fits ≡ false) c.loop.rows.items
+          c.push.new.self.items _ c.loop.counter grown i.height i.unmarked refl;
+    }

@@ -1,23 +1,22 @@
-use Rattle.std.proofs.Common.{ap, unsigned_abs, arith}
+use Rattle.std.proofs.Common.{ap, ◌∙◌, ◌≤◌, unsigned_abs, arith, rules, SFits, to_z-of_z}
+use borrow.Author.Count.{below_more}
+use Rattle.stack_rational.proofs.Common.{w128}
 use Rattle.stack_inverse.specs.Columns.{row_number}
-use Rattle.stack_inverse.proofs.Covered.{covers_more}
-use Rattle.stack_inverse.proofs.RowByCells.{all_within}
 use Rattle.stack_inverse.proofs.making.top_in.Goals as goal
 
 pub loop-j-preserved : goal.loop-j-preserved
-loop-j-preserved g c =
-    let v = g.T.RowNumber.value in
+loop-j-preserved c =
     let f = c.args.first.now in
+    let i = c.loop-j.invariant in
+    let more = c.larger-top.ensures in
+    let fits : SFits w128 c.in_ok-row_number.field-0 = search rules in
     record {
-      cells = λ k l. omega (arith, c.loop-j.invariant.cells k l, c.larger-top.ensures.own);
-      made = λ d. covers_more (row_number v f.rows f.columns.items c.args.row.now d) c.loop-j.j (v c.loop-j.top)
-          (v c.larger-top.result) (c.loop-j.invariant.made d) c.larger-top.ensures.own
-          (omega (arith, c.larger-top.ensures.other, ap unsigned_abs (c.in_ok-number.ensures d)));
+      cells = λ k. omega (arith, i.cells k, more.own);
+      made = λ d. below_more (λ k. unsigned_abs (row_number f.rows f.columns.items c.args.row.now d k)
+          ≤ c.larger-top.result) c.loop-j.j (λ k l. omega (arith, i.made d k l, more.own)) (omega (
+            arith,
+            more.other,
+            c.unsigned_abs.ensures.value,
+            ap unsigned_abs (to_z-of_z fits ∙ c.in_ok-row_number.ensures d),
+          ));
     }
-
-pub returns : goal.returns
-returns g c = λ d.
-    let v = g.T.RowNumber.value in
-    let f = c.args.first.now in
-    all_within v f.rows f.columns.items c.args.row.now d (v c.loop-j.top) c.loop-j.invariant.cells
-    (λ i l. c.loop-j.invariant.made d i (omega (arith, l, c.loop-j-test.false)))

@@ -3,4 +3,4 @@ use Rattle.stack_rows.specs.RowForm.{number_at}
 use Rattle.stack_inverse.proofs.objective.clear_row.Given as goal
 
 abbrev pub invariant-loop-j : goal.invariant-loop-j
-invariant-loop-j g l = (i : ℕ) → i < l.j → number_at g.T.RowNumber.value l.row i ≡ pos 0
+invariant-loop-j l = (i : ℕ) → i < l.j → number_at l.row i ≡ pos 0

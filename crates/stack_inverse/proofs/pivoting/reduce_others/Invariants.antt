@@ -1,4 +1,5 @@
 use Rattle.std.proofs.Common.{◌≡◌, ◌≢◌, ℕ, ◌<◌, ◌≤◌}
+use Rattle.stack_rational.proofs.Common.{widest}
 use Rattle.stack_inverse.specs.RowBlock.{IsReducedRow, AreMarked}
 use Rattle.stack_inverse.specs.Columns.{HaveWidths}
 use Rattle.stack_inverse.specs.RowsSeen.{seen_at, cells_of_rows, cell_in_row, columns_of, pivot_cell}
@@ -6,11 +7,10 @@ use Rattle.stack_inverse.proofs.pivoting.reduce_others.Given as goal
 
 -- the rows before row i are reduced, but for the pivot row; the others are as they were
 abbrev pub invariant-loop-i : goal.invariant-loop-i
-invariant-loop-i g l = record {
+invariant-loop-i l = record {
   widths : HaveWidths l.given.first.rows (seen_at l.rows);
   left : (k : ℕ) → l.i ≤ k → seen_at l.rows k ≡ seen_at l.fn.rows k;
-  marked : AreMarked g.T.RowNumber.MAX (cells_of_rows l.given l.rows) (seen_at l.rows);
-  done : (k : ℕ) → k < l.i → (k ≢ l.row) → IsReducedRow g.T.RowNumber.MAX (columns_of l.given)
-      (cells_of_rows l.given l.fn.rows k) (pivot_cell l.given l.pivot) k l.column
-      (cell_in_row l.given (seen_at l.rows k) k);
+  marked : AreMarked widest (cells_of_rows l.given l.rows) (seen_at l.rows);
+  done : (k : ℕ) → k < l.i → k ≢ l.row → IsReducedRow widest (columns_of l.given) (cells_of_rows l.given l.fn.rows k)
+      (pivot_cell l.given l.pivot) k l.column (cell_in_row l.given (seen_at l.rows k) k);
 }

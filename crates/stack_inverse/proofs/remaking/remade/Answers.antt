@@ -1,15 +1,31 @@
-use Rattle.std.proofs.Common.{◌∙◌, rules, SFits, to_z-of_z}
-use Rattle.std.specs.Int.{w128}
+use Rattle.std.proofs.Common.{◌≡◌, rules, pos, ◌*ℤ◌, SFits, to_z-of_z}
+use Rattle.stack_rational.proofs.Common.{w128}
 use Rattle.stack_inverse.proofs.CellSteps.{remade}
 use Rattle.stack_inverse.proofs.remaking.remade.Goals as goal
 
-pub returns : goal.returns
-returns g c =
-    let v = g.T.RowNumber.value in
-    let n : SFits w128 c.parts-parts.result.0 = search rules in
-    let d : SFits w128 c.parts-parts.result.1 = search rules in
-    remade (v c.args.own) (v c.args.s.under) (v c.args.pivot) (v c.args.s.pivot_under) (v c.args.s.factor)
-    c.requires.under c.requires.pivot_under c.in-Ok.reduced c.in-Ok.ensures.0
-    (v c.in_ok-number.number) (v c.in_ok-under.under) (v c.in_ok-part.part) (v c.args.common)
-    (v c.in_ok-product.product) (c.in_ok-number.ensures ∙ to_z-of_z n ∙ c.parts-parts.ensures.num)
-    (c.in_ok-under.ensures ∙ to_z-of_z d ∙ c.parts-parts.ensures.den) c.in_ok-part.ensures c.in_ok-product.ensures
+pub returns-in_ok-product-in-Ok : goal.returns-in_ok-product-in-Ok
+returns-in_ok-product-in-Ok c =
+    let s = c.args.s.now in
+    let z = c.in-Ok.reduced in
+    let p = c.in_ok-part-in-Ok.part in
+    let told = (rw (c.in-Ok.is, to_z-of_z c.ranges.own, to_z-of_z c.ranges.pivot) at c.in_ok-reduced.ensures).0 in
+    let product : SFits w128 c.in_ok-product-in-Ok.product = search rules in
+    let part : SFits w128 p = search rules in
+    let number : SFits w128 c.parts-number.result.0 = search rules in
+    let under : SFits w128 c.parts-number.result.1 = search rules in
+    let whole : p *ℤ pos z.den ≡ c.args.common = cc (
+      to_z-of_z under,
+      to_z-of_z c.ranges.common,
+      c.in_ok-part-in-Ok.ensures,
+      c.of.ensures,
+      c.parts-number.ensures.den,
+    ) in
+    cc (
+      to_z-of_z product,
+      to_z-of_z part,
+      to_z-of_z number,
+      c.in_ok-product-in-Ok.ensures.1,
+      c.parts-number.ensures.num,
+      remade c.args.own s.under c.args.pivot s.pivot_under s.number s.positive s.pivot_positive z told p c.args.common
+          whole,
+    )

@@ -1,67 +1,53 @@
-use Rattle.std.proofs.Common.{sym, subst, suc, ◌+◌, length, Option, Some, None, arith}
-use Rattle.stack_rational.proofs.Common.{first_found, first_more, first-none, first_all-none, over}
+use Rattle.std.proofs.Common.{◌≡◌, sym, suc, ◌+◌, length, Option, Some, None, arith, rules, SFits, to_z-of_z}
+use Rattle.stack_rational.proofs.Common.{w128, first_found, first_more, first-none, first_all-none, over}
 use Rattle.stack_table.specs.declared.types.Step.{Step}
-use Rattle.stack_inverse.specs.Columns.{revised_own, number_with, row_number}
-use Rattle.stack_inverse.specs.CellSteps.{TellsStep}
+use Rattle.stack_table.specs.Spots.{reduce_item}
+use Rattle.stack_rational.proofs.Common.{ordered_fractions, is_too_wide, widest}
+use Rattle.stack_inverse.specs.Columns.{revised_own, number_with, row_number, row_cell}
+use Rattle.stack_inverse.specs.RowsSeen.{seen_of, cell_in_row}
+use Rattle.stack_inverse.specs.CellSteps.{spot_at}
 use Rattle.stack_inverse.proofs.CellSteps.{step_told}
 use Rattle.stack_inverse.proofs.spots.row_spot.Goals as goal
+use Rattle.stack_inverse.proofs.spots.row_spot.Goals.{After-step_spot-step}
+
+-- what is told of the numbers of the column
+told : (c : After-step_spot-step) → (o : Option Step) → c.step_spot-step.result ≡ Some o →
+    reduce_item ordered_fractions (is_too_wide widest) (cell_in_row c.args.given.now (seen_of c.args.row.now) c.args.i)
+    (row_cell c.args.given.now.first.rows c.args.given.now.first.columns.items c.args.pivot.now
+    c.args.s.now.pivot_under)
+    (over c.args.s.now.number c.args.s.now.under) c.args.i c.loop-j.j ≡ spot_at c.args.i c.loop-j.j o
+told c o e =
+    let f = c.args.given.now.first in
+    let row = c.args.row.now.row in
+    let s = c.args.s.now in
+    let own : SFits w128 c.in-Some-Some.own = search rules in
+    let other : SFits w128 c.in-Some-Some.other = search rules in
+    step_told (number_with f.rows f.columns.items (revised_own f.rows c.args.given.now.own.items c.args.i)
+    row.numbers.items row.under) (row_number f.rows f.columns.items c.args.pivot.now s.pivot_under) row.under
+    s.pivot_under (over s.number s.under) c.args.i c.loop-j.j o (rw c.in-Some-Some.is-0 at c.number_in.ensures)
+    ((rw c.in-Some-Some.is-1 at c.row_number.ensures) s.pivot_under) c.requires.under
+    (rw (e, to_z-of_z own, to_z-of_z other) at c.step_spot-step.ensures)
 
 pub loop-j-preserved : goal.loop-j-preserved
-loop-j-preserved g c =
-    let v = g.T.RowNumber.value in
-    let p = c.args.given.now in
-    let f = p.first in
-    let row = c.args.row.now in
-    first_more c.loop-j.j _ c.loop-j.invariant
-    (step_told (number_with v f.rows f.columns.items (revised_own v f.rows p.own.items c.args.i) row.numbers.items
-    (v row.under))
-    (row_number v f.rows f.columns.items c.args.pivot.now (v c.args.s.pivot_under))
-    (v row.under) (v c.args.s.pivot_under) (over (v c.args.s.factor) (v c.args.s.under)) c.args.i c.loop-j.j None
-    (v c.in-Some-number_in.number) (v c.in-Some-row_number.other) (v c.args.s.under) c.in-Some-number_in.ensures
-    (c.in-Some-row_number.ensures (v c.args.s.pivot_under)) c.requires.under
-    (subst (λ (o : Option Step). TellsStep o (over (v c.in-Some-number_in.number) (v c.args.s.under))
-    (over (v c.in-Some-row_number.other) (v c.args.s.pivot_under)) (over (v c.args.s.factor) (v c.args.s.under)))
-    c.in-None-step_spot.is c.step_spot.ensures))
+loop-j-preserved c = first_more c.loop-j.j _ c.loop-j.invariant (told
+    (goal.at.loop-j-preserved c).After-step_spot-step None (search rules))
 
-pub returns-in-Some-step_spot : goal.returns-in-Some-step_spot
-returns-in-Some-step_spot g c =
-    let v = g.T.RowNumber.value in
-    let p = c.args.given.now in
-    let f = p.first in
-    let row = c.args.row.now in
-    sym (first_found (suc (length f.columns.items + f.rows)) c.loop-j.j _ _
-    (omega (
-      arith,
-      c.loop-j-test.true,
-      c.in-Some.ensures,
-      c.len-count.ensures,
-      f.columns.ok.0,
-      c.requires.pivot_width,
-    )) c.loop-j.invariant
-    (step_told (number_with v f.rows f.columns.items (revised_own v f.rows p.own.items c.args.i) row.numbers.items
-    (v row.under))
-    (row_number v f.rows f.columns.items c.args.pivot.now (v c.args.s.pivot_under))
-    (v row.under) (v c.args.s.pivot_under) (over (v c.args.s.factor) (v c.args.s.under)) c.args.i c.loop-j.j
-    (Some c.in-Some-step_spot.step)
-    (v c.in-Some-number_in.number) (v c.in-Some-row_number.other) (v c.args.s.under) c.in-Some-number_in.ensures
-    (c.in-Some-row_number.ensures (v c.args.s.pivot_under)) c.requires.under
-    (subst (λ (o : Option Step). TellsStep o (over (v c.in-Some-number_in.number) (v c.args.s.under))
-    (over (v c.in-Some-row_number.other) (v c.args.s.pivot_under)) (over (v c.args.s.factor) (v c.args.s.under)))
-    c.in-Some-step_spot.is c.step_spot.ensures)))
+pub returns-in-Some-Some-step : goal.returns-in-Some-Some-step
+returns-in-Some-Some-step c =
+    let f = c.args.given.now.first in
+    sym (first_found (suc (length f.columns.items + f.rows)) c.loop-j.j _ _ (search rules) c.loop-j.invariant
+    (told (goal.at.returns-in-Some-Some-step c).After-step_spot-step (Some c.in-Some-Some-step.step) (search rules)))
 
 pub returns : goal.returns
-returns g c =
-    let v = g.T.RowNumber.value in
-    let p = c.args.given.now in
-    let f = p.first in
-    let row = c.args.row.now in
+returns c =
+    let f = c.args.given.now.first in
     sym (first_all-none (suc (length f.columns.items + f.rows)) _ (λ k l. first-none c.loop-j.j _ c.loop-j.invariant k
     (omega (
       arith,
       l,
       c.loop-j-test.false,
       c.in-Some.ensures,
-      c.len-count.ensures,
+      c.len.ensures,
       f.columns.ok.0,
       c.requires.pivot_width,
     ))))

@@ -7,7 +7,6 @@ use Rattle.stack_inverse.proofs.spots.row_spot.Given as goal
 
 -- no step so far
 abbrev pub invariant-loop-j : goal.invariant-loop-j
-invariant-loop-j g l = let v = g.T.RowNumber.value in first l.j (reduce_item ordered_fractions (is_too_wide widest)
-    (cell_in_row l.given (seen_of l.row) l.i)
-    (row_cell v l.given.first.rows l.given.first.columns.items l.pivot (v l.s.pivot_under))
-    (over (v l.s.factor) (v l.s.under)) l.i) ≡ None
+invariant-loop-j l = first l.j (reduce_item ordered_fractions (is_too_wide widest) (cell_in_row l.given (seen_of l.row)
+    l.i) (row_cell l.given.first.rows l.given.first.columns.items l.pivot l.s.pivot_under)
+    (over l.s.number l.s.under) l.i) ≡ None

@@ -1,9 +1,12 @@
-use Rattle.stack_inverse.proofs.CellSteps.{fits_at}
+use Rattle.std.proofs.Common.{to_z-of_z}
 use Rattle.stack_inverse.proofs.spots.step_spot.Goals as goal
 
-pub returns-in-Some : goal.returns-in-Some
-returns-in-Some g c =
-    let v = g.T.RowNumber.value in
-    fits_at g.T.RowNumber.MAX (v c.args.own) (v c.args.s.under) (v c.args.pivot) (v c.args.s.pivot_under)
-    (v c.args.s.factor) (v c.args.factors.times) (v c.args.factors.less) (v c.in-Some._over) c.requires.widest
-    c.requires.under c.requires.pivot_under c.requires.some c.requires.cross c.in-Some.ensures
+pub returns-then-numbers_fit : goal.returns-then-numbers_fit
+returns-then-numbers_fit c = rw (to_z-of_z c.ranges.own, to_z-of_z c.ranges.pivot)
+    at (c.numbers_fit.ensures c.if-numbers_fit.true)
+
+pub returns-in-Ok : goal.returns-in-Ok
+returns-in-Ok c = (rw (c.in-Ok.is, to_z-of_z c.ranges.own, to_z-of_z c.ranges.pivot) at c.in_ok-reduced_cell.ensures).1
+
+pub returns-in-Err : goal.returns-in-Err
+returns-in-Err c = rw (c.in-Err.is, to_z-of_z c.ranges.own, to_z-of_z c.ranges.pivot) at c.in_ok-reduced_cell.ensures

@@ -1,14 +1,18 @@
-use Rattle.std.proofs.Common.{◌≡◌, ap, ◌∙◌, ◌+◌, length, pos}
-use Rattle.stack_rational.proofs.Common.{length_push}
-use Rattle.stack_inverse.specs.Seen.{number_in}
-use Rattle.stack_inverse.proofs.Grown.{grown_by}
+use Rattle.std.proofs.Common.{◌≡◌, ◌∙◌, rules, SFits, to_z-of_z}
+use Rattle.stack_rational.proofs.Common.{w128, over}
+use Rattle.stack_inverse.specs.Seen.{table_of_revised}
+use Rattle.stack_inverse.proofs.Grown.{grown}
+use Rattle.stack_revised.specs.NoCell.{nothing}
 use Rattle.stack_revised.proofs.running.column_of.Goals as goal
 
 pub loop-i-preserved : goal.loop-i-preserved
-loop-i-preserved g c = record {
-  long = ap length c.in_ok-push.ensures.items ∙ length_push c.loop-i.numbers.items c.in-Some.number
-      ∙ ap (λ n. n + 1) c.loop-i.invariant.long;
-  each = λ k l. grown_by g.T.RowNumber.value (pos 0) (λ k z. z ≡ number_in c.args.t.now k c.args.column)
-      c.loop-i.numbers.items c.push.new.self.items c.in-Some.number c.loop-i.i c.in_ok-push.ensures.items
-      c.loop-i.invariant.long c.loop-i.invariant.each c.in-Some.ensures k l;
-}
+loop-i-preserved c =
+    let number : SFits w128 c.in-Some.number = search rules in
+    let under : SFits w128 c.under.result = search rules in
+    record {
+      long = search rules;
+      each = grown nothing (λ k z. z ≡ (table_of_revised c.args.t.now).cell k c.args.column) c.loop-i.cells.items
+          c.push.new.self.items c.in-Some-cell.cell c.loop-i.i c.in_ok-push-in-Some-cell.ensures.items
+          c.loop-i.invariant.long c.loop-i.invariant.each (c.in-Some-cell.ensures
+          ∙ (λ z. over ((to_z-of_z number ∙ c.in-Some.ensures) z) ((to_z-of_z under ∙ c.under.ensures.value) z)));
+    }

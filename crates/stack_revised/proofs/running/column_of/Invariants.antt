@@ -1,10 +1,10 @@
-use Rattle.std.proofs.Common.{◌≡◌, ℕ, ◌<◌, length}
-use Rattle.stack_rows.specs.RowForm.{number_at}
-use Rattle.stack_inverse.specs.Seen.{number_in}
+use Rattle.std.proofs.Common.{◌≡◌, ℕ, ◌<◌, length, get_or}
+use Rattle.stack_inverse.specs.Seen.{table_of_revised}
+use Rattle.stack_revised.specs.NoCell.{nothing}
 use Rattle.stack_revised.proofs.running.column_of.Given as goal
 
 abbrev pub invariant-loop-i : goal.invariant-loop-i
-invariant-loop-i g l = record {
-  long : length l.numbers.items ≡ l.i;
-  each : (k : ℕ) → k < l.i → number_at g.T.RowNumber.value l.numbers.items k ≡ number_in l.t k l.column;
+invariant-loop-i l = record {
+  long : length l.cells.items ≡ l.i;
+  each : (k : ℕ) → k < l.i → get_or l.cells.items k nothing ≡ (table_of_revised l.t).cell k l.column;
 }

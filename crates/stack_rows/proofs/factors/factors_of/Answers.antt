@@ -1,9 +1,12 @@
-use Rattle.std.proofs.Common.{sym}
+use Rattle.std.proofs.Common.{rules, SFits, to_z-of_z}
+use Rattle.stack_rational.proofs.Common.{w128}
 use Rattle.stack_rows.proofs.Combined.{same_cross}
 use Rattle.stack_rows.proofs.factors.factors_of.Goals as goal
 
 pub returns-clause-cross : goal.returns-clause-cross
-returns-clause-cross g c =
-    let v = g.T.RowNumber.value in
-    sym (same_cross (v c.in_ok-less.less) (v c.args.factor) (v c.divisor-common.result)
-    (v c.in_ok-times.times) (v c.args.pivot_under) c.in_ok-less.ensures c.in_ok-times.ensures)
+returns-clause-cross c =
+    let times : SFits w128 c.in_ok-times.times = search rules in
+    let less : SFits w128 c.in_ok-less.less = search rules in
+    let under : SFits w128 c.args.pivot_under.by = search rules in
+    let e = same_cross _ _ c.of-divider.result.by _ _ c.in_ok-less.ensures c.in_ok-times.ensures in
+    cc (to_z-of_z times, to_z-of_z less, to_z-of_z under, to_z-of_z c.ranges.number)

@@ -1,24 +1,68 @@
-use Rattle.std.proofs.Common.{◌≡◌, sym, ap, ◌∙◌, List, length, subst₂}
-use Rattle.stack_rational.proofs.Common.{with_items_is, with_items}
-use Rattle.stack_inverse.specs.declared.row.Row.{Row}
-use Rattle.stack_inverse.specs.Columns.{AreEntered}
+use Rattle.std.proofs.Common.{◌≡◌, sym, ap, subst, subst₂, ◌∙◌, ℕ, ◌<◌, ◌≤◌, List, Vec, length, get_or, arith, ℤ, pos}
+use Rattle.std.proofs.Common.{unsigned_abs}
+use Rattle.std.specs.declared.alloc.Global.{Global}
+use Rattle.std.specs.List.{AllByRecursion}
+use Rattle.stack_rational.proofs.Common.{widest}
+use Rattle.stack_rows.specs.RowForm.{number_at}
+use Rattle.stack_inverse.specs.declared.columns.Cell.{Cell}
+use Rattle.stack_inverse.specs.declared.row.TableRow.{TableRow}
+use Rattle.stack_inverse.specs.Columns.{cells_at, AreEntered}
 use Rattle.stack_inverse.specs.RowsSeen.{seen_at}
-use Rattle.stack_inverse.proofs.Kept.{on_some}
+use Rattle.stack_inverse.specs.Marks.{mark_at}
+use Rattle.stack_inverse.proofs.Entered.{rises_of, cells_below, cells_have}
+use Rattle.stack_inverse.proofs.Made.{cells_of, all_three}
+use Rattle.stack_inverse.proofs.PutRow.{written}
 use Rattle.stack_inverse.proofs.revised_table.RevisedTable.enter.Goals as goal
+use Rattle.stack_inverse.proofs.revised_table.RevisedTable.enter.Goals.{After-as_mut_slice}
+
+module _ (c : After-as_mut_slice) where
+  lt : c.args.column < length c.args.self.now.given.first.columns.items
+  lt = omega (arith, c.requires, c.args.self.now.plain_count)
+
+  -- the cells of the column that are lent
+  cells : c.as_slice-2.result.now ≡ cells_at c.args.self.now.given.first.columns.items c.args.column
+  cells = c.as_slice-2.ensures.value
+      ∙ cells_of c.args.self.now.given.first.columns.items c.args.column c.index.result.now lt c.index.ensures
+
+pub mark_column-requires-clause-rows : goal.mark_column-requires-clause-rows
+mark_column-requires-clause-rows c =
+    let s = c.args.self.now in
+    let f = s.given.first in
+    let at = (goal.at.mark_column-requires-clause-rows c).After-as_mut_slice in
+    let j = c.args.column in
+    subst₂ (λ (n : ℕ) (xs : List Cell). AllByRecursion (λ x. x.row < n) xs)
+    (sym (ap length c.as_slice.ensures.value ∙ s.places_long)) (sym (cells at))
+    (cells_below f.rows 0 (cells_at f.columns.items j) (rises_of f.rows 0 _ (f.first.rising j (lt at))))
+
+pub enter_column-requires-clause-nothing : goal.enter_column-requires-clause-nothing
+enter_column-requires-clause-nothing c = λ i l z.
+    let s = c.args.self.now in
+    let f = s.given.first in
+    let at = (goal.at.enter_column-requires-clause-nothing c).After-as_mut_slice in
+    let j = c.args.column in
+    let marks = c.as_slice-4.ensures.value
+    ∙ written s.touched c.mark_column.new.marks c.as_mut_slice.ensures.value c.mark_column.auto.marks in
+    let all = c.mark_column.ensures.nothing i (ap (λ (xs : List ℕ). get_or xs i 0) (sym marks) ∙ z) in
+    cells_have f.rows 0 (cells_at f.columns.items j) (λ r. mark_at s.places.items r i ≡ 0)
+    (λ r. number_at (seen_at c.as_slice-3.result.now i).numbers r ≡ pos 0)
+    (rises_of f.rows 0 _ (f.first.rising j (lt at)))
+    (λ r b h. ap (λ (rs : List TableRow). number_at (seen_at rs i).numbers r) c.as_slice-3.ensures.value
+    ∙ s.told i r l b h)
+    (subst₂ (λ (ls : List (Vec ℕ Global)) (xs : List Cell). AllByRecursion (λ x. mark_at ls x.row i ≡ 0) xs)
+    c.as_slice.ensures.value (cells at) all)
 
 pub returns-clause-entered : goal.returns-clause-entered
-returns-clause-entered g c =
+returns-clause-entered c =
     let s = c.args.self.now in
-    let v = g.T.RowNumber.value in
-    let p = s.given in
-    let f = p.first in
-    let new = c.enter_column.new.entered in
-    let k = c.args.column in
-    let kept : (with_items s.entered new).items ≡ new = with_items_is s.entered new
-    (c.enter_column.auto.entered ∙ ap length c.as_mut_slice.ensures.value ∙ sym s.entered.ok.0) in
-    on_some c.enter_column.result
-    (AreEntered v f.rows f.columns.items p.own.items (seen_at c.as_slice.result.now) k new)
-    (AreEntered v f.rows f.columns.items p.own.items (seen_at s.rows.items) k (with_items s.entered new).items)
-    (subst₂ (λ (rs : List (Row g.row.T.Denot g.T.RowNumber)) (es : List g.row.T.Denot). AreEntered v f.rows
-    f.columns.items
-    p.own.items (seen_at rs) k es) c.as_slice.ensures.value (sym kept)) c.enter_column.ensures
+    let f = s.given.first in
+    let told = c.enter_column.ensures in
+    let rows = c.as_slice-3.ensures.value in
+    let is = sym (written s.entered c.enter_column.new.entered c.as_mut_slice-2.ensures.value
+    c.enter_column.auto.entered) in
+    all_three c.enter_column.result told.numbers told.fit told.right_fits (λ numbers fit right_fits. record {
+      numbers = subst₂ (λ (rs : List TableRow) (xs : List ℤ). AreEntered f.rows f.columns.items s.given.own.items
+          (seen_at rs) c.args.column xs) rows is numbers;
+      fit = subst (λ (xs : List ℤ). (i : ℕ) → i ≤ f.rows → unsigned_abs (number_at xs i) ≤ unsigned_abs widest) is fit;
+      right_fits = subst (λ (rs : List TableRow). (i : ℕ) → i ≤ f.rows →
+          unsigned_abs (number_at (seen_at rs i).numbers f.rows) ≤ unsigned_abs widest) rows right_fits;
+    })

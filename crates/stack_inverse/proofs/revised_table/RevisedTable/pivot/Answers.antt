@@ -1,114 +1,247 @@
-use Rattle.std.proofs.Common.{◌≡◌, refl, sym, ap, subst, ◌∙◌, ℕ, suc, ◌+◌, List, length, get_or, set, None, pos, arith}
-use Rattle.std.proofs.Common.{length-set, subst₂}
-use Rattle.stack_rational.proofs.Common.{with_items_is, with_items, Fraction, changed, next, ordered_fractions}
-use Rattle.stack_rational.proofs.Common.{is_too_wide}
+use Rattle.std.proofs.Common.{◌≡◌, sym, ap, subst, subst₂, ◌∙◌, ℕ, suc, ◌+◌, ◌<◌, ◌⊎◌, inl, inr, true, false}
+use Rattle.std.proofs.Common.{List, length, get_or, set, length-set, None, OnOk, IfErr, pos, arith}
+use Rattle.std.proofs.lemmas.Result.{on_ok_weaker}
+use Rattle.stack_rational.proofs.Common.{with_items, Fraction, changed, next, ordered_fractions, is_too_wide, widest}
 use Rattle.stack_table.specs.Block.{shape_of}
 use Rattle.stack_table.specs.Table.{Tabled, columns, pivoted_at}
 use Rattle.stack_table.specs.Spots.{cells_spot, pivot_spot}
-use Rattle.stack_inverse.specs.declared.row.Row.{Row}
+use Rattle.stack_inverse.specs.declared.row.TableRow.{TableRow}
 use Rattle.stack_inverse.specs.RowBlock.{IsPivotedCells, AreMarked}
-use Rattle.stack_inverse.specs.Columns.{HaveWidths, AreEntered}
+use Rattle.stack_inverse.specs.Columns.{RowSeen, HaveWidths}
 use Rattle.stack_inverse.specs.RowsSeen.{seen_at, number_in_row, cells_of_rows, columns_of}
 use Rattle.stack_inverse.specs.Seen.{number_in, under_in, shape_of_revised, table_of_revised}
-use Rattle.stack_inverse.proofs.PutRow.{under_positive}
+use Rattle.stack_inverse.specs.Marks.{IsWide, ArePlaces, AreClean, AreMarkedOn}
+use Rattle.stack_inverse.specs.CellSteps.{TellsSpot}
+use Rattle.stack_inverse.proofs.PutRow.{written, written_long, under_positive, seen_get}
+use Rattle.stack_inverse.proofs.PlacesKept.{places_kept, marked_on_same, full_places, full_columns, done_or_not}
+use Rattle.stack_inverse.proofs.OpenColumns.{columns_kept}
 use Rattle.stack_inverse.proofs.Steps.{zero_cell}
-use Rattle.stack_inverse.proofs.Kept.{on_ok, err_same}
+use Rattle.stack_inverse.proofs.LeastNegative.{clean_written, least_lent}
 use Rattle.stack_table.proofs.Basics.{basic_changed, basic_below}
 use Rattle.stack_inverse.proofs.revised_table.RevisedTable.pivot.Goals as goal
+use Rattle.stack_inverse.proofs.revised_table.RevisedTable.pivot.Goals.{After-pivot_rows-done, After-mark_on}
 
-pub pivot_rows-requires : goal.pivot_rows-requires
-pivot_rows-requires g c =
+pub pivot_rows-done-requires-clause-some : goal.pivot_rows-done-requires-clause-some
+pivot_rows-done-requires-clause-some c =
     let s = c.args.self.now in
-    let v = g.T.RowNumber.value in
-    let f = s.given.first in
     let r = c.args.row in
     let k = c.args.column in
-    let kept = sym c.as_mut_slice.ensures.value in
-    record {
-      height = sym (ap length kept) ∙ s.height;
-      widths = subst (λ (rs : List (Row g.row.T.Denot g.T.RowNumber)). HaveWidths f.rows (seen_at rs)) kept s.widths;
-      room = s.room;
-      marked = subst (λ (rs : List (Row g.row.T.Denot g.T.RowNumber)). AreMarked g.T.RowNumber.MAX
-          (cells_of_rows s.given rs) (seen_at rs)) kept s.marked;
-      long = ap length c.as_slice.ensures.value ∙ s.one_number;
-      entered = subst₂ (λ (rs : List (Row g.row.T.Denot g.T.RowNumber)) (es : List g.row.T.Denot). AreEntered v f.rows
-          f.columns.items s.given.own.items (seen_at rs) k es) kept (sym c.as_slice.ensures.value) c.requires.entered;
-      row_in = c.requires.row_in;
-      some = λ e. c.requires.cell (zero_cell (number_in s r k) (under_in s r) (under_positive s.rows.items r)
-          (subst (λ (rs : List (Row g.row.T.Denot g.T.RowNumber)). number_in_row s.given (seen_at rs r) r k ≡ pos 0)
-          c.as_mut_slice.ensures.value e));
-    }
+    λ e. c.requires.cell (zero_cell (number_in s r k) (under_in s r) (under_positive s.rows.items r)
+    (subst (λ (rs : List TableRow). number_in_row s.given (seen_at rs r) r k ≡ pos 0) c.as_mut_slice.ensures.value e))
 
-pub invariant_of-self : goal.invariant_of-self
-invariant_of-self g c =
+-- the rows after the pivot
+rows_are : (c : After-pivot_rows-done) → (with_items c.args.self.now.rows c.pivot_rows-done.new.rows).items
+    ≡ c.pivot_rows-done.new.rows
+rows_are c = written c.args.self.now.rows c.pivot_rows-done.new.rows c.as_mut_slice.ensures.value
+    c.pivot_rows-done.auto.rows
+
+pub invariant_of-self-clause-height : goal.invariant_of-self-clause-height
+invariant_of-self-clause-height c =
+    let s = c.args.self.now in
+    written_long s.rows c.pivot_rows-done.new.rows c.as_mut_slice.ensures.value c.pivot_rows-done.auto.rows ∙ s.height
+
+pub invariant_of-self-clause-widths : goal.invariant_of-self-clause-widths
+invariant_of-self-clause-widths c =
+    subst (λ (rs : List TableRow). HaveWidths c.args.self.now.given.first.rows (seen_at rs))
+    (sym (rows_are (goal.at.invariant_of-self-clause-widths c).After-pivot_rows-done)) c.pivot_rows-done.ensures.widths
+
+pub invariant_of-self-clause-marked : goal.invariant_of-self-clause-marked
+invariant_of-self-clause-marked c =
+    subst (λ (rs : List TableRow). AreMarked widest (cells_of_rows c.args.self.now.given rs) (seen_at rs))
+    (sym (rows_are (goal.at.invariant_of-self-clause-marked c).After-pivot_rows-done)) c.pivot_rows-done.ensures.marked
+
+pub invariant_of-self-clause-basics : goal.invariant_of-self-clause-basics
+invariant_of-self-clause-basics c = length-set c.args.self.now.basic.items c.args.row c.args.column
+    ∙ c.args.self.now.basics
+
+pub invariant_of-self-clause-basics_in : goal.invariant_of-self-clause-basics_in
+invariant_of-self-clause-basics_in c =
     let s = c.args.self.now in
     let m = s.given.first.rows in
-    let new = c.pivot_rows.new.rows in
-    let tall = c.pivot_rows.auto.rows ∙ ap length c.as_mut_slice.ensures.value in
-    let rows = with_items_is s.rows new (tall ∙ sym s.rows.ok.0) in
-    record {
-      plain_count = s.plain_count;
-      height = ap length rows ∙ tall ∙ s.height;
-      widths = subst (λ (rs : List (Row g.row.T.Denot g.T.RowNumber)). HaveWidths m (seen_at rs)) (sym rows)
-          c.pivot_rows.ensures.widths;
-      marked = subst (λ (rs : List (Row g.row.T.Denot g.T.RowNumber)). AreMarked g.T.RowNumber.MAX
-          (cells_of_rows s.given rs) (seen_at rs)) (sym rows) c.pivot_rows.ensures.marked;
-      room = c.pivot_rows.ensures.room ∙ s.room;
-      one_number = s.one_number;
-      basics = length-set s.basic.items c.args.row c.args.column ∙ s.basics;
-      basics_in = basic_below s.basic.items c.args.row c.args.column m (columns (shape_of m s.contacts s.has_factor))
-          (omega (arith, s.basics, c.requires.row_in)) (omega (arith, c.requires.column_in)) s.basics_in;
-    }
+    basic_below s.basic.items c.args.row c.args.column m (columns (shape_of m s.contacts s.has_factor))
+    (omega (arith, s.basics, c.requires.row_in)) (omega (arith, c.requires.column_in)) s.basics_in
 
-pub returns-clause-shape : goal.returns-clause-shape
-returns-clause-shape g c =
-    let s = c.args.self.now in
-    let m = s.given.first.rows in
-    on_ok c.pivot_rows.result (IsPivotedCells g.T.RowNumber.MAX (suc m) (columns_of s.given)
-    (cells_of_rows s.given c.as_mut_slice.result.now) c.args.row c.args.column
-    (cells_of_rows s.given c.pivot_rows.new.rows)) _ (λ h. refl) c.pivot_rows.ensures.ok
+-- what follows of the pivoted cells, where there is no refusal
+of_cells : (c : After-pivot_rows-done) (Q : Type 0) → (IsPivotedCells widest (suc c.args.self.now.given.first.rows)
+    (columns_of c.args.self.now.given) (cells_of_rows c.args.self.now.given c.as_mut_slice.result.now) c.args.row
+    c.args.column (cells_of_rows c.args.self.now.given c.pivot_rows-done.new.rows) → Q) →
+    OnOk c.pivot_rows-done.result Q
+of_cells c Q h = on_ok_weaker c.pivot_rows-done.result h c.pivot_rows-done.ensures.ok
 
 pub returns-clause-none : goal.returns-clause-none
-returns-clause-none g c =
+returns-clause-none c =
     let s = c.args.self.now in
     let m = s.given.first.rows in
-    on_ok c.pivot_rows.result (IsPivotedCells g.T.RowNumber.MAX (suc m) (columns_of s.given)
-    (cells_of_rows s.given c.as_mut_slice.result.now) c.args.row c.args.column
-    (cells_of_rows s.given c.pivot_rows.new.rows)) (pivot_spot ordered_fractions (is_too_wide g.T.RowNumber.MAX)
+    of_cells (goal.at.returns-clause-none c).After-pivot_rows-done (pivot_spot ordered_fractions (is_too_wide widest)
     (shape_of_revised s) (table_of_revised s) c.args.row c.args.column ≡ None)
-    (λ h. sym (λ z. cells_spot ordered_fractions (is_too_wide g.T.RowNumber.MAX) (suc m) (suc (s.plain_count z + m))
+    (λ h. sym (λ z. cells_spot ordered_fractions (is_too_wide widest) (suc m) (suc (s.plain_count z + m))
     (cells_of_rows s.given (c.as_mut_slice.ensures.value z)) c.args.row c.args.column) ∙ h.none)
-    c.pivot_rows.ensures.ok
-
-pub returns-clause-refused : goal.returns-clause-refused
-returns-clause-refused g c =
-    let s = c.args.self.now in
-    let m = s.given.first.rows in
-    err_same c.pivot_rows.result _ _
-    (λ z. cells_spot ordered_fractions (is_too_wide g.T.RowNumber.MAX) (suc m) (suc (s.plain_count z + m))
-    (cells_of_rows s.given (c.as_mut_slice.ensures.value z)) c.args.row c.args.column)
-    c.pivot_rows.ensures.refused
 
 pub returns-clause-ok : goal.returns-clause-ok
-returns-clause-ok g c =
+returns-clause-ok c =
     let s = c.args.self.now in
-    let m = s.given.first.rows in
     let r = c.args.row in
     let k = c.args.column in
-    let new = c.pivot_rows.new.rows in
-    let rows : (with_items s.rows new).items ≡ new =
-    with_items_is s.rows new (c.pivot_rows.auto.rows ∙ ap length c.as_mut_slice.ensures.value ∙ sym s.rows.ok.0) in
+    let at = (goal.at.returns-clause-ok c).After-pivot_rows-done in
     let basics : (i : ℕ) → get_or (set s.basic.items r k) i 0 ≡ changed (λ n. get_or s.basic.items n 0) r k i =
     λ i. basic_changed s.basic.items r k i (omega (arith, s.basics, c.requires.row_in)) in
     let T : Tabled Fraction = record {
-      cell = cells_of_rows s.given (with_items s.rows new).items;
+      cell = cells_of_rows s.given (with_items s.rows c.pivot_rows-done.new.rows).items;
       basic = λ i. get_or (set s.basic.items r k) i 0;
     } in
-    on_ok c.pivot_rows.result (IsPivotedCells g.T.RowNumber.MAX (suc m) (columns_of s.given)
-    (cells_of_rows s.given c.as_mut_slice.result.now) r k (cells_of_rows s.given new))
-    (T ≡ pivoted_at ordered_fractions (shape_of_revised s) (table_of_revised s) r k)
+    of_cells at (T ≡ pivoted_at ordered_fractions (shape_of_revised s) (table_of_revised s) r k)
     (λ h. λ z. record {
-      cell = λ i j. ((λ z. cells_of_rows s.given (rows z) i j) ∙ h.cell i j
+      cell = λ i j. ((λ z. cells_of_rows s.given (rows_are at z) i j) ∙ h.cell i j
           ∙ (λ z. next ordered_fractions (cells_of_rows s.given (c.as_mut_slice.ensures.value z)) r k i j)) z;
       basic = λ i. basics i z;
-    }) c.pivot_rows.ensures.ok
+    })
+
+-- the lists and the marks after the pivot
+places_are : (c : After-mark_on) → (with_items c.args.self.now.places c.mark_on.new.places).items
+    ≡ c.mark_on.new.places
+places_are c = written c.args.self.now.places c.mark_on.new.places c.as_mut_slice-2.ensures.value
+    c.mark_on.auto.places
+
+marks_are : (c : After-mark_on) → (with_items c.args.self.now.«open» c.mark_on.new.«open»).items ≡ c.mark_on.new.«open»
+marks_are c = written c.args.self.now.«open» c.mark_on.new.«open» c.as_mut_slice-4.ensures.value c.mark_on.auto.«open»
+
+-- the rows after the pivot
+abbrev after : (c : After-mark_on) → ℕ → RowSeen
+after c = seen_at (with_items c.args.self.now.rows c.pivot_rows-done.new.rows).items
+
+rows_long : (c : After-mark_on) → length (with_items c.args.self.now.rows c.pivot_rows-done.new.rows).items
+    ≡ suc c.args.self.now.given.first.rows
+rows_long c =
+    let s = c.args.self.now in
+    written_long s.rows c.pivot_rows-done.new.rows c.as_mut_slice.ensures.value c.pivot_rows-done.auto.rows ∙ s.height
+
+places_long : (c : After-mark_on) → length c.mark_on.new.places ≡ c.args.self.now.given.first.rows
+places_long c = c.mark_on.auto.places ∙ ap length c.as_mut_slice-2.ensures.value ∙ c.args.self.now.places_long
+
+marks_long : (c : After-mark_on) → length c.mark_on.new.«open» ≡ length c.args.self.now.given.first.columns.items
+marks_long c = c.mark_on.auto.«open» ∙ ap length c.as_mut_slice-4.ensures.value ∙ c.args.self.now.open_long
+
+touched_long : (c : After-mark_on) → length c.as_mut_slice-3.result.now ≡ suc c.args.self.now.given.first.rows
+touched_long c = ap length c.as_mut_slice-3.ensures.value ∙ c.args.self.now.touched_long
+
+-- where the pivot was done, marks go on
+marked_on : (c : After-mark_on) → c.is_ok.result ≡ true → AreMarkedOn c.args.self.now.places.items
+    c.args.self.now.uses.items c.args.self.now.«open».items (after c c.args.row).numbers c.args.self.now.entered.items
+    c.mark_on.new.places c.mark_on.new.«open»
+marked_on c e =
+    let rows = (with_items c.args.self.now.rows c.pivot_rows-done.new.rows).items in
+    let lt : c.args.row < length rows = omega (arith, rows_long c, c.requires.row_in) in
+    marked_on_same c.as_mut_slice-2.ensures.value c.as_slice-2.ensures.value c.as_mut_slice-4.ensures.value
+    (c.as_slice-3.ensures.value ∙ ap (λ (x : RowSeen). x.numbers) (seen_get rows c.args.row c.index.result.now lt
+    c.index.ensures)) c.as_slice-4.ensures.value (c.mark_on.ensures.done e)
+
+-- the cells after a pivot that was done
+abbrev Next : (c : After-mark_on) → Type 0
+Next c = (i j : ℕ) → cells_of_rows c.args.self.now.given (with_items c.args.self.now.rows
+    c.pivot_rows-done.new.rows).items i j ≡ next ordered_fractions (cells_of_rows c.args.self.now.given
+    c.args.self.now.rows.items) c.args.row c.args.column i j
+
+done : (c : After-mark_on) → ((c.is_ok.result ≡ true) × Next c) ⊎ (c.is_ok.result ≡ false)
+done c =
+    let s = c.args.self.now in
+    done_or_not c.pivot_rows-done.result c.is_ok.result c.is_ok.ensures.value (on_ok_weaker c.pivot_rows-done.result
+    (λ h i j. (λ z. cells_of_rows s.given (written s.rows c.pivot_rows-done.new.rows c.as_mut_slice.ensures.value
+    c.pivot_rows-done.auto.rows z) i j) ∙ h.cell i j
+    ∙ (λ z. next ordered_fractions (cells_of_rows s.given (c.as_mut_slice.ensures.value z)) c.args.row
+    c.args.column i j)) c.pivot_rows-done.ensures.ok)
+
+told : (c : After-mark_on) → ArePlaces c.mark_on.new.places c.args.self.now.given.first.rows (after c)
+told c =
+    let s = c.args.self.now in
+    let m = s.given.first.rows in
+    elim (done c) [
+      | inl p ↦ places_kept m s.given.first.columns.items s.given.own.items (seen_at s.rows.items) (after c) c.args.row
+          c.args.column (under_positive s.rows.items)
+          (under_positive (with_items s.rows c.pivot_rows-done.new.rows).items) p.1 s.places.items s.uses.items
+          c.mark_on.new.places s.«open».items c.mark_on.new.«open» s.entered.items (marked_on c p.0) s.places_long
+          c.requires.entered.numbers s.told
+      | inr e ↦ full_places m (length c.as_mut_slice-3.result.now) c.mark_on.new.places c.mark_on.new.«open» (after c)
+          (c.mark_on.ensures.full e) (places_long c) (omega (arith, touched_long c))
+    ]
+
+clean : (c : After-mark_on) → AreClean (number_in_row c.args.self.now.given
+    (after c c.args.self.now.given.first.rows) c.args.self.now.given.first.rows) c.mark_on.new.«open»
+clean c =
+    let s = c.args.self.now in
+    let m = s.given.first.rows in
+    elim (done c) [
+      | inl p ↦ columns_kept m s.given.first.columns.items s.given.own.items (seen_at s.rows.items) (after c)
+          c.args.row c.args.column c.requires.row_in (under_positive s.rows.items)
+          (under_positive (with_items s.rows c.pivot_rows-done.new.rows).items) s.given.first.first.rising p.1
+          s.places.items s.uses.items c.mark_on.new.places s.«open».items c.mark_on.new.«open» s.entered.items
+          (marked_on c p.0) s.uses_long s.open_long (marks_long c) s.used s.clean
+      | inr e ↦ full_columns (length c.as_mut_slice-3.result.now) c.mark_on.new.places c.mark_on.new.«open»
+          (number_in_row s.given (after c m) m) (c.mark_on.ensures.full e)
+    ]
+
+pub least_negative-self-requires-clause-clean : goal.least_negative-self-requires-clause-clean
+least_negative-self-requires-clause-clean c =
+    let s = c.args.self.now in
+    let m = s.given.first.rows in
+    let at = (goal.at.least_negative-self-requires-clause-clean c).After-mark_on in
+    subst₂ (λ (x : RowSeen) (ms : List ℕ). AreClean (number_in_row s.given x m) ms)
+    (sym (seen_get (with_items s.rows c.pivot_rows-done.new.rows).items m c.index-2.result.now
+    (omega (arith, rows_long at)) c.index-2.ensures)) (sym (c.as_mut_slice-5.ensures.value ∙ marks_are at)) (clean at)
+
+pub invariant_of-self-clause-told : goal.invariant_of-self-clause-told
+invariant_of-self-clause-told c =
+    let s = c.args.self.now in
+    let at = (goal.at.invariant_of-self-clause-told c).After-mark_on in
+    subst (λ ls. ArePlaces ls s.given.first.rows (after at)) (sym (places_are at)) (told at)
+
+pub invariant_of-self-clause-places_long : goal.invariant_of-self-clause-places_long
+invariant_of-self-clause-places_long c =
+    let at = (goal.at.invariant_of-self-clause-places_long c).After-mark_on in
+    ap length (places_are at) ∙ places_long at
+
+pub invariant_of-self-clause-places_wide : goal.invariant_of-self-clause-places_wide
+invariant_of-self-clause-places_wide c =
+    let at = (goal.at.invariant_of-self-clause-places_wide c).After-mark_on in
+    subst₂ (λ ls w. IsWide ls w) (sym (places_are at)) (touched_long at) c.mark_on.ensures.wide
+
+pub invariant_of-self-clause-uses_wide : goal.invariant_of-self-clause-uses_wide
+invariant_of-self-clause-uses_wide c = c.args.self.now.uses_wide
+
+pub invariant_of-self-clause-used : goal.invariant_of-self-clause-used
+invariant_of-self-clause-used c = c.args.self.now.used
+
+pub invariant_of-self-clause-touched_long : goal.invariant_of-self-clause-touched_long
+invariant_of-self-clause-touched_long c =
+    let s = c.args.self.now in
+    written_long s.touched c.mark_on.new.touched c.as_mut_slice-3.ensures.value c.mark_on.auto.touched ∙ s.touched_long
+
+pub invariant_of-self-clause-open_long : goal.invariant_of-self-clause-open_long
+invariant_of-self-clause-open_long c =
+    let at = (goal.at.invariant_of-self-clause-open_long c).After-mark_on in
+    written_long (with_items c.args.self.now.«open» c.mark_on.new.«open») c.least_negative-self.new.marks
+    c.as_mut_slice-5.ensures.value c.least_negative-self.auto.marks ∙ ap length (marks_are at) ∙ marks_long at
+
+pub invariant_of-self-clause-clean : goal.invariant_of-self-clause-clean
+invariant_of-self-clause-clean c =
+    let s = c.args.self.now in
+    let at = (goal.at.invariant_of-self-clause-clean c).After-mark_on in
+    clean_written s.given.first.rows s.given.first.columns.items s.given.own.items
+    (with_items s.rows c.pivot_rows-done.new.rows).items c.index-2.result.now (rows_long at) c.index-2.ensures
+    (with_items s.«open» c.mark_on.new.«open») c.least_negative-self.new.marks c.as_mut_slice-5.ensures.value
+    c.least_negative-self.auto.marks c.least_negative-self.ensures.clean
+
+pub invariant_of-self-clause-found : goal.invariant_of-self-clause-found
+invariant_of-self-clause-found c =
+    let s = c.args.self.now in
+    let at = (goal.at.invariant_of-self-clause-found c).After-mark_on in
+    least_lent s.given.first.rows s.given.first.columns.items s.given.own.items
+    (with_items s.rows c.pivot_rows-done.new.rows).items c.index-2.result.now (rows_long at) c.index-2.ensures
+    c.least_negative-self.result (length s.given.first.columns.items) c.least_negative-self.ensures.value
+
+pub returns-clause-refused : goal.returns-clause-refused
+returns-clause-refused c =
+    let s = c.args.self.now in
+    let m = s.given.first.rows in
+    subst (λ spot. IfErr c.pivot_rows-done.result (λ e. TellsSpot e spot))
+    (λ z. cells_spot ordered_fractions (is_too_wide widest) (suc m) (suc (s.plain_count z + m))
+    (cells_of_rows s.given (c.as_mut_slice.ensures.value z)) c.args.row c.args.column) c.pivot_rows-done.ensures.refused

@@ -1,0 +1,85 @@
+-- A sum of products with words, made without a test whether it fits on the way.
+use Rattle.std.proofs.Common.{◌≡◌, refl, sym, ap, subst, ◌∙◌, ℕ, suc, ◌+◌, ◌-◌, ◌*◌, ◌^◌, ◌<◌, ◌≤◌, cond, ltb}
+use Rattle.std.proofs.Common.{List, [], ◌∷◌, length, get_or, drop, arith, mul-le-mul, ℤ, pos, nat_abs, ◌+ℤ◌, ◌*ℤ◌}
+use Rattle.std.proofs.Common.{SFits, Option, None, Some, IfSome}
+use Rattle.std.specs.Int.{w128, int_wrap}
+use Rattle.std.specs.List.{AllByRecursion}
+use Rattle.std.specs.Option.{SomeIff}
+use Rattle.std.proofs.lemmas.Bool.Decides.{nat_tests}
+use Rattle.std.proofs.lemmas.Int.{int_wrap_fits, int_wrap-add_left, fits_signed_from_abs}
+use Rattle.std.proofs.lemmas.List.{at_drop_all}
+use Rattle.stack_rational.proofs.Common.{ints, sum_of}
+use Rattle.stack_inverse.specs.declared.columns.Cell.{Cell}
+use Rattle.stack_inverse.specs.declared.columns.FirstColumn.{FirstColumn}
+use Rattle.stack_rows.specs.RowForm.{number_at, IsTopped}
+use Rattle.stack_inverse.specs.Columns.{combined, entry_of, sizes, cells_at, AreFirst}
+use Rattle.stack_inverse.proofs.Entered.{Rises, rises_of, over_entries}
+use Rattle.stack_inverse.proofs.Linear.{combined_within}
+use Rattle.stack_inverse.proofs.Made.{one_more}
+
+-- one cell more
+pub one_wrapped : (f : Cell → ℤ) (cells : List Cell) (k : ℕ) (d : Cell) (sum next total : ℤ) → k < length cells →
+    next ≡ int_wrap w128 (sum +ℤ f (get_or cells k d)) →
+    int_wrap w128 (sum +ℤ sum_of f (drop k cells)) ≡ total →
+    int_wrap w128 (next +ℤ sum_of f (drop (k + 1) cells)) ≡ total
+one_wrapped f cells k d sum next total l e h =
+    let more = sum +ℤ f (get_or cells k d) in
+    ap (λ z. int_wrap w128 (z +ℤ sum_of f (drop (k + 1) cells))) e
+    ∙ int_wrap-add_left w128 more (sum_of f (drop (k + 1) cells))
+    ∙ ap (int_wrap w128) (one_more f cells k d sum more (sum +ℤ sum_of f (drop k cells)) l refl refl)
+    ∙ h
+
+-- no cell is left
+pub all_wrapped : (f : Cell → ℤ) (cells : List Cell) (k : ℕ) (sum : ℤ) → SFits w128 sum → length cells ≤ k →
+    int_wrap w128 (sum +ℤ sum_of f (drop k cells)) ≡ int_wrap w128 (sum_of f cells) →
+    sum ≡ int_wrap w128 (sum_of f cells)
+all_wrapped f cells k sum fits done h = sym (int_wrap_fits w128 sum fits)
+    ∙ ap (int_wrap w128) (omega (arith, ints, at_drop_all (sum_of f) cells k done)) ∙ h
+
+module _ (row : List ℤ) where
+  -- the numbers of a row, and 0 for its last one
+  abbrev but_last : ℕ → ℤ
+  but_last r = cond (ltb (suc r) (length row)) (number_at row r) (pos 0)
+
+  -- over cells none of which is in the last place the sum is the same
+  same_sum : (cells : List Cell) → AllByRecursion (λ x. suc x.row < length row) cells →
+      sum_of (λ x. number_at row x.row *ℤ x.value) cells ≡ sum_of (λ x. but_last x.row *ℤ x.value) cells
+  same_sum [] h = refl
+  same_sum (x ∷ xs) h = let here : number_at row x.row ≡ but_last x.row = grind (arith, nat_tests, h.0) in
+      λ i. here i *ℤ x.value +ℤ same_sum xs h.1 i
+
+  -- what is made of a row of words and a narrow column fits
+  pub unwrapped : (m top column_top : ℕ) (cells : List Cell) → Rises m 0 cells → IsTopped row top →
+      AllByRecursion (λ x. suc x.row < length row) cells → sizes m (entry_of cells) ≤ column_top →
+      top ≤ 2 ^ 63 - 1 → column_top ≤ 2 ^ 62 →
+      int_wrap w128 (sum_of (λ x. number_at row x.row *ℤ x.value) cells)
+      ≡ sum_of (λ x. number_at row x.row *ℤ x.value) cells
+  unwrapped m top column_top cells rises topped below within words narrow =
+      let each : (r : ℕ) → r < m → nat_abs (but_last r) ≤ top = λ r l. grind (arith, nat_tests, topped r) in
+      let made : sum_of (λ x. number_at row x.row *ℤ x.value) cells ≡ combined m but_last (entry_of cells) =
+      same_sum cells below ∙ sym (over_entries m 0 but_last cells rises) in
+      let small : sizes m (entry_of cells) ≤ 2 ^ 62 = omega (arith, within, narrow) in
+      let size : top * sizes m (entry_of cells) ≤ (2 ^ 63 - 1) * 2 ^ 62 = mul-le-mul words small in
+      int_wrap_fits w128 _ (fits_signed_from_abs w128 _ (omega (
+        arith,
+        ap nat_abs made,
+        combined_within m top but_last (entry_of cells) each,
+        size,
+      )))
+
+-- so it is the sum itself, over the cells of a column that are lent
+pub narrow_sum : (m column_top : ℕ) (columns : List FirstColumn) → AreFirst m (length columns) columns column_top →
+    column_top ≤ 2 ^ 62 → (row : List ℤ) (top : ℕ) → IsTopped row top → top ≤ 2 ^ 63 - 1 →
+    (j : ℕ) → j < length columns → (cells : List Cell) → cells ≡ cells_at columns j →
+    AllByRecursion (λ x. suc x.row < length row) cells →
+    int_wrap w128 (sum_of (λ x. number_at row x.row *ℤ x.value) cells)
+    ≡ sum_of (λ x. number_at row x.row *ℤ x.value) cells
+narrow_sum m column_top columns first narrow row top topped words j l cells is below =
+    let at = subst (λ cs. Rises m 0 cs) (sym is) (rises_of m 0 (cells_at columns j) (first.rising j l)) in
+    let within = subst (λ cs. sizes m (entry_of cs) ≤ column_top) (sym is) (first.within j l) in
+    unwrapped row m top column_top cells at topped below within words narrow
+
+-- what is added where it fits
+pub added_is : (r : Option ℤ) (P : Type 0) (v n : ℤ) → SomeIff r P v → v ≡ n → IfSome r (λ x. x ≡ n)
+added_is None P v n h e = tt
+added_is (Some x) P v n h e = h.1 ∙ e

@@ -1,0 +1,12 @@
+use Rattle.std.proofs.Common.{◌≡◌, ℕ, ◌<◌, length, get_or}
+use Rattle.stack_table.specs.Table.{columns}
+use Rattle.stack_inverse.specs.Seen.{shape_of_revised, table_of_revised}
+use Rattle.stack_revised.specs.NoCell.{nothing}
+use Rattle.stack_revised.proofs.running.right_of.Given as goal
+
+abbrev pub invariant-loop-i : goal.invariant-loop-i
+invariant-loop-i l = record {
+  long : length l.cells.items ≡ l.i;
+  each : (k : ℕ) → k < l.i → get_or l.cells.items k nothing
+      ≡ (table_of_revised l.t).cell k (columns (shape_of_revised l.t));
+}

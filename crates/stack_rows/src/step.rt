@@ -1,0 +1,346 @@
+//! The step of a row: k times its numbers less t times those of another row, divided. Where a number shows that the
+//! divisor was too great, those before it are multiplied by what it was too great by.
+
+ghost use Rattle.std.specs.Prelude.{◌≡◌, ℕ, ◌-◌, ◌^◌, ◌<◌, ◌≤◌, pos, unsigned_abs, true, length, OnSome, IfSome};
+ghost use Rattle.std.specs.Option.{ForSome};
+ghost use Rattle.stack_rows.specs.RowForm.{number_at, AreJumps, SkipsOnly, IsQuotient, IsDividedPart, IsMultiplied};
+ghost use Rattle.stack_rows.specs.RowForm.{IsDividedOn, IsPartTopped, AreSmall, AreWords};
+
+use crate::divider::Divider;
+use crate::factors::Factors;
+use crate::sums::narrowed;
+use crate::words::{is_word, low, product, product_of, size_product, word};
+
+/// How many turns a division takes at most: each but one makes its divisor half as great at most.
+const TURNS: usize = 130;
+
+/// A way to make the step of one number.
+pub trait Way {
+    ghost use Rattle.std.specs.Prelude.{ℤ, ℕ};
+
+    // k, t and what is divided by
+    ghost times: { Self → ℤ };
+
+    ghost less: { Self → ℤ };
+
+    ghost by: { Self → ℤ };
+
+    // whether it takes a number and one of the other row of these sizes
+    ghost takes: { Self → ℕ → ℕ → Type 0 };
+
+    /// Gives up where the quotient isn't whole, and where a number doesn't fit.
+    fn quotient(&self, number: i128, other: i128) -> Option<i128>
+        requires { takes self.now (unsigned_abs number) (unsigned_abs other) }
+        ensures { IfSome result (λ r. IsQuotient (by self.now) (times self.now) (less self.now) number other r) };
+}
+
+/// Below this size a row keeps what its numbers have in common.
+const SMALL: u128 = 1 << 62;
+
+/// The step of small numbers, not divided.
+#[derive(Drop)]
+pub struct PlainStep {
+    pub times: i64,
+    pub less: i64,
+}
+
+impl PlainStep {
+    /// Of a step of numbers of at most these sizes, in a row over a denominator. Gives up where one of these, or what
+    /// the step makes of it, isn't small.
+    #[tactic(auto, using(std::proofs::lemmas::Nat::le_or_l, std::proofs::lemmas::Nat::le_or_r))]
+    pub fn of(factors: Factors, own: u128, other: u128, under: u128) -> Option<PlainStep>
+        ensures times { IfSome result (λ p. p.times ≡ factors.times) }
+        ensures less { IfSome result (λ p. p.less ≡ factors.less) }
+        ensures small { OnSome result (AreSmall factors.times factors.less own other) }
+    {
+        let times = word(factors.times)?;
+        let less = word(factors.less)?;
+        let left = size_product(own, u128::from(times.unsigned_abs()))?;
+        let right = size_product(u128::from(less.unsigned_abs()), other)?;
+        let over = size_product(under, u128::from(times.unsigned_abs()))?;
+        let sum = left.checked_add(right)?;
+        if (own | other | under | sum | over) < SMALL {
+            Some(PlainStep { times, less })
+        } else {
+            None
+        }
+    }
+}
+
+impl Way for PlainStep {
+    ghost times = { λ s. s.times };
+
+    ghost less = { λ s. s.less };
+
+    ghost by = { λ s. pos 1 };
+
+    ghost takes = { λ s n o. AreSmall s.times s.less n o };
+
+    fn quotient(&self, number: i128, other: i128) -> Option<i128> {
+        Some((number as i64 * self.times - self.less * other as i64) as i128)
+    }
+}
+
+/// The step of words.
+#[derive(Clone, Copy)]
+pub struct WordStep {
+    times: i64,
+    less: i64,
+    by: i64,
+    twos: u32,
+    inverse: i64,
+}
+
+impl WordStep {
+    /// Gives up where one of the three isn't a word.
+    fn of(factors: Factors, divider: Divider) -> Option<WordStep>
+        ensures times { IfSome result (λ w. w.times ≡ factors.times) }
+        ensures less { IfSome result (λ w. w.less ≡ factors.less) }
+        ensures by { IfSome result (λ w. w.by ≡ divider.by) }
+    {
+        let times = word(factors.times)?;
+        let less = word(factors.less)?;
+        let by = word(divider.by)?;
+        Some(WordStep {
+            times,
+            less,
+            by,
+            twos: divider.twos,
+            inverse: low(divider.inverse),
+        })
+    }
+}
+
+impl Way for WordStep {
+    ghost use Rattle.stack_rows.specs.RowForm.{AreWords};
+
+    ghost times = { λ s. s.times };
+
+    ghost less = { λ s. s.less };
+
+    ghost by = { λ s. s.by };
+
+    ghost takes = { λ s n o. AreWords n o };
+
+    fn quotient(&self, number: i128, other: i128) -> Option<i128> {
+        let left = product_of(number as i64, self.times);
+        let right = product_of(self.less, other as i64);
+        let n = left.checked_sub(right)?;
+        let quotient = low(n).wrapping_mul(self.inverse).wrapping_shr(self.twos);
+        if product_of(quotient, self.by) == n {
+            Some(quotient as i128)
+        } else {
+            None
+        }
+    }
+}
+
+/// The step of any numbers.
+#[derive(Drop)]
+pub struct Step {
+    pub factors: Factors,
+    pub divider: Divider,
+    words: Option<WordStep>,
+    ghost times: { ForSome words (λ w. w.times ≡ factors.times) },
+    ghost less: { ForSome words (λ w. w.less ≡ factors.less) },
+    ghost by: { ForSome words (λ w. w.by ≡ divider.by) },
+}
+
+impl Way for Step {
+    ghost use Rattle.std.specs.Prelude.{⊤};
+
+    ghost times = { λ s. s.factors.times };
+
+    ghost less = { λ s. s.factors.less };
+
+    ghost by = { λ s. s.divider.by };
+
+    ghost takes = { λ s n o. ⊤ };
+
+    fn quotient(&self, number: i128, other: i128) -> Option<i128> {
+        let left = match &self.words {
+            Some(w) => product(number, w.times)?,
+            None => number.checked_mul(self.factors.times)?,
+        };
+        let right = match &self.words {
+            Some(w) => product(other, w.less)?,
+            None => other.checked_mul(self.factors.less)?,
+        };
+        self.divider.exact(left.checked_sub(right)?)
+    }
+}
+
+impl Step {
+    pub fn of(factors: Factors, by: i128) -> Step
+        ensures factors { result.factors ≡ factors }
+        ensures by { result.divider.by ≡ by }
+    {
+        let divider = Divider::of(by);
+        let words = WordStep::of(factors, divider);
+        Step {
+            factors,
+            divider,
+            words,
+        }
+    }
+
+    /// A divisor of a quotient that isn't whole and of what it is divided by: a hint.
+    fn lesser(&self, number: i128, other: i128) -> i128 {
+        let left = number.wrapping_mul(self.factors.times);
+        let right = self.factors.less.wrapping_mul(other);
+        narrowed(left.wrapping_sub(right), self.divider.by)
+    }
+}
+
+/// How far a row is divided, and a top of the numbers that are.
+#[derive(Clone, Copy)]
+pub struct Reached {
+    pub end: usize,
+    pub size: u128,
+}
+
+/// Goes on with a step from the place that is reached to the end of the first `count` numbers, or to the first of which
+/// no quotient is made.
+pub fn divide_from<W: Way>(
+    numbers: &mut [i128],
+    other: &[i128],
+    jumps: &[u16],
+    count: usize,
+    way: &W,
+    from: Reached,
+) -> Reached
+    requires width { length other.now ≡ length numbers.old }
+    requires long { length jumps.now ≡ length numbers.old }
+    requires count { count ≤ length numbers.old }
+    requires skips { SkipsOnly (λ x. from.end ≤ x → IsQuotient (W.by way.now) (W.times way.now) (W.less way.now)
+        (number_at numbers.old x) (number_at other.now x) (number_at numbers.old x)) jumps.now }
+    requires small { SkipsOnly (λ x. from.end ≤ x → x < count → unsigned_abs (number_at numbers.old x) ≤ from.size)
+        jumps.now }
+    requires takes { (j : ℕ) → from.end ≤ j → j < count → W.takes way.now (unsigned_abs (number_at numbers.old j))
+        (unsigned_abs (number_at other.now j)) }
+    requires from { from.end ≤ count }
+    ensures after { from.end ≤ result.end }
+    ensures before { result.end ≤ count }
+    ensures divided { IsDividedPart numbers.old other.now (W.times way.now) (W.less way.now) (W.by way.now) from.end
+        result.end numbers.new }
+    ensures larger { from.size ≤ result.size }
+    ensures size { IsPartTopped from.end result.end numbers.new result.size }
+{
+    let mut size = from.size;
+    let mut j = from.end;
+    while j < count {
+        match way.quotient(numbers[j], other[j]) {
+            Some(number) => {
+                size |= number.unsigned_abs();
+                numbers[j] = number;
+            }
+            None => return Reached { end: j, size },
+        }
+        j = usize::from(jumps[j]);
+    }
+    Reached { end: count, size }
+}
+
+/// Multiplies the first numbers.
+fn multiply_before(numbers: &mut [i128], end: usize, by: i128) -> Option<()>
+    requires { end ≤ length numbers.old }
+    ensures numbers { OnSome result (IsMultiplied numbers.old by end numbers.new) }
+    ensures fits { OnSome result (IsPartTopped 0 end numbers.new (2 ^ 128 - 1)) }
+{
+    for j in 0..end {
+        numbers[j] = numbers[j].checked_mul(by)?;
+    }
+    Some(())
+}
+
+/// What a row is divided by, and a top of its numbers.
+#[derive(Clone, Copy)]
+pub struct Divided {
+    pub by: i128,
+    pub top: u128,
+}
+
+/// The bits of the sizes of the first numbers together.
+#[tactic(auto, using(std::proofs::lemmas::Nat::le_or_l, std::proofs::lemmas::Nat::le_or_r))]
+pub fn top_of(numbers: &[i128], count: usize) -> u128
+    requires { count ≤ length numbers.now }
+    ensures { IsPartTopped 0 count numbers.now result }
+{
+    let mut top = 0;
+    for j in 0..count {
+        top |= numbers[j].unsigned_abs();
+    }
+    top
+}
+
+/// Goes on with a step from a place at which its divisor is too great, divided by lesser numbers. Gives what it is
+/// divided by in the end. Gives up where a number doesn't fit.
+fn divide_on(
+    numbers: &mut [i128],
+    other: &[i128],
+    jumps: &[u16],
+    count: usize,
+    s: &Step,
+    from: usize,
+) -> Option<i128>
+    requires width { length other.now ≡ length numbers.old }
+    requires long { length jumps.now ≡ length numbers.old }
+    requires count { count ≤ length numbers.old }
+    requires from { from < count }
+    requires skips { SkipsOnly (λ x. (from ≤ x → number_at numbers.old x ≡ pos 0) × (number_at other.now x ≡ pos 0))
+        jumps.now }
+    ensures { IfSome result (λ by. IsDividedOn numbers.old other.now s.now.factors.times s.now.factors.less
+        s.now.divider.by by from count numbers.new) }
+{
+    let mut by = s.divider.by;
+    let mut j = from;
+    for _ in 0..TURNS {
+        let lesser = Step::of(s.factors, by).lesser(numbers[j], other[j]);
+        multiply_before(numbers, j, Divider::of(lesser).exact(by)?)?;
+        by = lesser;
+        let step = Step::of(s.factors, by);
+        let from = Reached { end: j, size: 0 };
+        j = divide_from(numbers, other, jumps, count, &step, from).end;
+        if count <= j {
+            return Some(by);
+        }
+    }
+    None
+}
+
+/// Makes of the first numbers of a row k times themselves less t times those of another one, divided by a guess of what
+/// all have in common, or by a lesser number. `words`: both have words. Gives up where a number doesn't fit.
+pub fn divide(
+    numbers: &mut [i128],
+    other: &[i128],
+    jumps: &[u16],
+    count: usize,
+    s: &Step,
+    words: bool,
+) -> Option<Divided>
+    requires width { length other.now ≡ length numbers.old }
+    requires long { length jumps.now ≡ length numbers.old }
+    requires count { count ≤ length numbers.old }
+    requires jumps { AreJumps numbers.old jumps.now }
+    requires other_jumps { AreJumps other.now jumps.now }
+    requires words { words ≡ true → (j : ℕ) → j < count → AreWords (unsigned_abs (number_at numbers.old j))
+        (unsigned_abs (number_at other.now j)) }
+    ensures ok { IfSome result (λ d. IsDividedPart numbers.old other.now s.now.factors.times s.now.factors.less d.by 0
+        count numbers.new) }
+    ensures top { IfSome result (λ d. IsPartTopped 0 count numbers.new d.top) }
+{
+    let from = Reached { end: 0, size: 0 };
+    let reached = match &s.words {
+        Some(w) if words => divide_from(numbers, other, jumps, count, w, from),
+        _ => divide_from(numbers, other, jumps, count, s, from),
+    };
+    if count <= reached.end {
+        return Some(Divided {
+            by: s.divider.by,
+            top: reached.size,
+        });
+    }
+    let by = divide_on(numbers, other, jumps, count, s, reached.end)?;
+    let top = top_of(numbers, count);
+    Some(Divided { by, top })
+}
