@@ -3,7 +3,7 @@
 ghost use Rattle.std.specs.Prelude.{◌≡◌};
 ghost use Rattle.stack_directions.specs.declared.errors.DirectionsError.TheVariants as directions_error;
 
-use std::alloc::{AllocError, AllocFailed};
+use std::alloc::AllocFailed;
 
 /// The first of two numbers of loads that names no live load, or one with a component of more than 1,000,000 in size,
 /// or the load of the other number.
@@ -20,14 +20,6 @@ pub enum DirectionsError {
     Line { number: usize },
     /// Memory ran out.
     Memory,
-}
-
-impl From<AllocError> for DirectionsError {
-    ghost from_gives = { λ _ e. e ≡ directions_error.Memory };
-
-    fn from(_e: AllocError) -> DirectionsError {
-        DirectionsError::Memory
-    }
 }
 
 impl<T: Drop> From<AllocFailed<T>> for DirectionsError {

@@ -102,26 +102,14 @@ pub one_moment : (n : ℕ) (a b : ℤ) → n < 2 ^ 64 → IsWithin n 96000000000
     wide (wide a +ℤ wide b) ≡ a +ℤ b
 one_moment n a b l h k = omega (arith, ints)
 
--- a weight and the loads beside it
-pub no_weight : (a b : ℤ) → a ≡ pos 0 → IsWithin 256 24000000000 b → wide (wide a +ℤ wide b) ≡ a +ℤ b
-no_weight a b h k = omega (arith, ints)
-
-pub weight_force : (a b : ℤ) → IsWithin 31 24000000000000000000 a → IsWithin 256 24000000000 b →
+-- a body's own load and the loads beside it
+pub own_force : (a b : ℤ) → IsWithin 31 12000000000000000000000 a → IsWithin 256 24000000000 b →
     wide (wide a +ℤ wide b) ≡ a +ℤ b
-weight_force a b h k = omega (arith, ints)
+own_force a b h k = omega (arith, ints)
 
-pub weight_moment : (a b : ℤ) → IsWithin 31 32000000000000000000000000 a → IsWithin 256 96000000000000000 b →
+pub own_moment : (a b : ℤ) → IsWithin 31 32000000000000000000000000000 a → IsWithin 256 96000000000000000 b →
     wide (wide a +ℤ wide b) ≡ a +ℤ b
-weight_moment a b h k = omega (arith, ints)
-
--- a sway's load and the loads beside it
-pub sway_force : (a b : ℤ) → IsWithin 31 12000000000000000000000 a → IsWithin 256 24000000000 b →
-    wide (wide a +ℤ wide b) ≡ a +ℤ b
-sway_force a b h k = omega (arith, ints)
-
-pub sway_moment : (a b : ℤ) → IsWithin 31 32000000000000000000000000000 a → IsWithin 256 96000000000000000 b →
-    wide (wide a +ℤ wide b) ≡ a +ℤ b
-sway_moment a b h k = omega (arith, ints)
+own_moment a b h k = omega (arith, ints)
 
 -- a number of a cone times a step
 share_fits : (a b : ℤ) → IsRate a → IsStep b → SFits w128 (a *ℤ b)

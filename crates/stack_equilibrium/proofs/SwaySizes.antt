@@ -15,7 +15,7 @@ use Rattle.stack_statics.specs.Loads.{moment_of_triangle, sum_of_triangles}
 use Rattle.stack_statics.specs.Weights.{IsUnitWeight}
 use Rattle.stack_statics.specs.Sway.{level_moment_of_triangle, sway_load}
 use Rattle.stack_equilibrium.proofs.TriangleSums.{summed, product_within}
-use Rattle.stack_equilibrium.specs.SwaySizes.{IsShareOfWeight, IsSwayLoad}
+use Rattle.stack_equilibrium.specs.SwaySizes.{IsShareOfWeight, IsOwnLoad}
 
 -- a coordinate times a number
 near_times : (x a : ℤ) → IsNear x → nat_abs (x *ℤ a) ≤ 1000000 * nat_abs a
@@ -89,7 +89,7 @@ module _ (w x : ℤ) (hw : IsUnitWeight w) (hx : IsShareOfWeight x) where
 
 -- the sway within its bound
 pub sway_within : (s : ℤ × ℤ) (w : ℤ) (ps : List Point) → IsShareOfWeight s.0 → IsShareOfWeight s.1 →
-    IsUnitWeight w → IsPolygon ps → IsSwayLoad (sway_load s w ps)
+    IsUnitWeight w → IsPolygon ps → IsOwnLoad (sway_load s w ps)
 sway_within s w [] hx hy hw polygon = absurd (omega (arith, polygon.least))
 sway_within s w (o ∷ rest) hx hy hw polygon = record {
   fx = force_within w s.0 hw hx (sum_of_triangles triangle_of o rest) (length rest) few area;

@@ -1,6 +1,6 @@
 -- A body's weight and its moment are small: each triangle of its fan has an area and arms within the limits.
-use Rattle.std.proofs.Common.{refl, ℕ, suc, ◌<◌, ◌≤◌, ℤ, pos, ◌+ℤ◌, ◌-ℤ◌, ◌*ℤ◌, neg_ℤ, List, [], ◌∷◌, length, get_or}
-use Rattle.std.proofs.Common.{arith}
+use Rattle.std.proofs.Common.{◌≡◌, refl, ℕ, suc, ◌<◌, ◌≤◌, ℤ, pos, ◌+ℤ◌, ◌-ℤ◌, ◌*ℤ◌, neg_ℤ, List, [], ◌∷◌, length}
+use Rattle.std.proofs.Common.{get_or, arith}
 use Rattle.std.proofs.lemmas.Int.{ints}
 use Rattle.stack_algebra.proofs.Order.{◌≼◌}
 use Rattle.stack_polygon.specs.declared.point.Point.{Point}
@@ -10,7 +10,9 @@ use Rattle.stack_polygon.specs.Limits.{IsNear, IsInRange, IsPolygon}
 use Rattle.stack_polygon.specs.Sizes.{IsStep, IsSquare, IsWithin}
 use Rattle.stack_polygon.proofs.Stored.{product-square}
 use Rattle.stack_statics.specs.Loads.{distances_of, moment_of_triangle, sum_of_triangles, weight_of}
+use Rattle.stack_statics.specs.declared.wrench.Wrench.{Wrench}
 use Rattle.stack_equilibrium.specs.LoadSizes.{IsWeight}
+use Rattle.stack_equilibrium.specs.SwaySizes.{IsOwnLoad}
 use Rattle.stack_statics.specs.Weights.{IsUnitWeight}
 use Rattle.stack_equilibrium.proofs.TriangleSums.{summed, product_within}
 
@@ -86,3 +88,16 @@ weight_within w (o ∷ rest) h polygon = record {
         go : (t : ℤ) → neg_ℤ (pos 1000000 *ℤ pos 992000000000000000000) ≼ t →
             t ≼ pos 1000000 *ℤ pos 992000000000000000000 → IsWithin 31 32000000000000000000000000 (neg_ℤ t)
         go t l m = record { low = omega (arith, ints); high = omega (arith, ints) }
+
+-- it is within the bound of a body's own load
+pub weight_is_own : {v : Wrench} → IsWeight v → IsOwnLoad v
+weight_is_own {v} h = record { fx = none v.fx h.fx; fy = force v.fy h.fy; m = moment v.m h.m }
+  where
+    none : (z : ℤ) → z ≡ pos 0 → IsWithin 31 12000000000000000000000 z
+    none z e = record { low = omega (arith, ints, e); high = omega (arith, ints, e) }
+
+    force : (z : ℤ) → IsWithin 31 24000000000000000000 z → IsWithin 31 12000000000000000000000 z
+    force z k = record { low = omega (arith, ints, k.low); high = omega (arith, ints, k.high) }
+
+    moment : (z : ℤ) → IsWithin 31 32000000000000000000000000 z → IsWithin 31 32000000000000000000000000000 z
+    moment z k = record { low = omega (arith, ints, k.low); high = omega (arith, ints, k.high) }

@@ -7,9 +7,9 @@ ghost use Rattle.stack_model.specs.ModelView.{model_view};
 ghost use Rattle.stack_contact.specs.FreeBlocks.{frees_of};
 ghost use Rattle.stack_equilibrium.specs.declared.types.Question.TheVariants as questions;
 ghost use Rattle.stack_statics.specs.Loads.{wrench_sum, load_wrench};
-ghost use Rattle.stack_equilibrium.specs.LoadSizes.{IsSmall, HasForceLimits, IsMoment, IsLimited, AreLoads, IsWeight};
+ghost use Rattle.stack_equilibrium.specs.LoadSizes.{IsSmall, HasForceLimits, IsMoment, IsLimited, AreLoads};
 ghost use Rattle.stack_equilibrium.specs.LoadSizes.{force_in, sixfold_of};
-ghost use Rattle.stack_equilibrium.specs.SwaySizes.{IsSwayLoad};
+ghost use Rattle.stack_equilibrium.specs.SwaySizes.{IsOwnLoad};
 ghost use Rattle.stack_equilibrium.specs.SurveyScene.{is_asked, acting, listed_on, loads_on};
 ghost use Rattle.stack_equilibrium.specs.Answers.{body_in, body_number};
 
@@ -121,17 +121,17 @@ fn listed_on(question: Question, model: &Model, i: usize) -> Wrench
     total
 }
 
-/// A weight and the dead loads beside it.
-fn with_weight(weight: Wrench, listed: Wrench) -> Wrench
-    requires weight { IsWeight weight }
+/// The load that a body's own weight makes, and the listed loads beside it.
+fn with_listed(own: Wrench, listed: Wrench) -> Wrench
+    requires own { IsOwnLoad own }
     requires listed { AreLoads most_loads listed }
-    ensures value { result ≡ wrench_sum weight listed }
+    ensures value { result ≡ wrench_sum own listed }
     ensures size { IsSmall result }
 {
     Wrench {
-        fx: weight.fx + listed.fx,
-        fy: weight.fy + listed.fy,
-        m: weight.m + listed.m,
+        fx: own.fx + listed.fx,
+        fy: own.fy + listed.fy,
+        m: own.m + listed.m,
     }
 }
 
@@ -144,21 +144,7 @@ fn dead_on(model: &Model, i: usize) -> Wrench
     let outline = model.polygon(i);
     let unit = model.material(model.body(i).material).weight;
     let listed = listed_on(Question::Dead, model, i);
-    with_weight(weight_on(unit, outline), listed)
-}
-
-/// A sway's load and the live loads beside it.
-fn with_sway(sway: Wrench, listed: Wrench) -> Wrench
-    requires sway { IsSwayLoad sway }
-    requires listed { AreLoads most_loads listed }
-    ensures value { result ≡ wrench_sum sway listed }
-    ensures size { IsSmall result }
-{
-    Wrench {
-        fx: sway.fx + listed.fx,
-        fy: sway.fy + listed.fy,
-        m: sway.m + listed.m,
-    }
+    with_listed(weight_on(unit, outline), listed)
 }
 
 /// The live loads of body `i`.
@@ -171,7 +157,7 @@ fn live_on(model: &Model, i: usize) -> Wrench
     let unit = model.material(model.body(i).material).weight;
     let (x, y) = model.sway();
     let listed = listed_on(Question::Live, model, i);
-    with_sway(sway_on(x, y, unit, outline), listed)
+    with_listed(sway_on(x, y, unit, outline), listed)
 }
 
 /// The dead or the live loads of body `i`.

@@ -5,7 +5,7 @@ ghost use Rattle.stack_polygon.specs.Sizes.{IsWithin};
 ghost use Rattle.stack_whole.specs.Whole.{whole};
 ghost use Rattle.stack_statics.specs.Weights.{IsUnitWeight};
 ghost use Rattle.stack_statics.specs.Sway.{sway_load, sway_by};
-ghost use Rattle.stack_equilibrium.specs.SwaySizes.{IsShareOfWeight, IsSwayLoad};
+ghost use Rattle.stack_equilibrium.specs.SwaySizes.{IsShareOfWeight, IsOwnLoad};
 
 use crate::types::Wrench;
 use crate::weight::about;
@@ -82,7 +82,7 @@ pub fn sway_on(x: i64, y: i64, unit: i64, outline: &Polygon) -> Wrench
     requires y { IsShareOfWeight y }
     requires unit { IsUnitWeight unit }
     ensures value { result ≡ sway_load (x, y) unit outline.now }
-    ensures size { IsSwayLoad result }
+    ensures size { IsOwnLoad result }
 {
     outline.valid();
     let twice_area = Whole::of(outline.twice_area());

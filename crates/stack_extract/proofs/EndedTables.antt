@@ -50,7 +50,22 @@ below q v (wide p k s) g r = absurd r
 below q v over g r = absurd r
 below q v never g r = absurd r
 
-module _ {V : Type 0} {number : Ghosts V} (v : Surveyed) (e : Ended V number) (t : Table V number)
+-- an end by its kind and its last table
+module _ {V : Type 0} {number : Ghosts V} (e : Ended V number) {t : Table V number} (b : t ≡ last_of e) where
+  module _ {k : EndKind} (a : k ≡ kind_of e) where
+    pub same_end : end_at k (table_of t) ≡ ended_as e
+    same_end = (λ i. end_at (a i) (table_of (b i))) ∙ same_kind e
+
+    pub has_forces : HasForces (ended_as e) → HasForces (end_at k (table_of t))
+    has_forces h = subst HasForces (sym same_end) h
+
+    pub has_motion : HasMotion (ended_as e) → HasMotion (end_at k (table_of t))
+    has_motion h = subst HasMotion (sym same_end) h
+
+  is_ray : HasRay (ended_as e) → {c : ℕ} → c ≡ entering_of (ended_as e) → ray (table_of t) c ≡ ended_as e
+  is_ray has m = (λ i. ray (table_of (b i)) (m i)) ∙ same_ray e has
+
+module _ {V : Type 0} {number : Ghosts V} {v : Surveyed} {e : Ended V number} {t : Table V number}
     (b : t ≡ last_of e) where
   -- so the column that rises can be read
   pub can_be_read : EndsGive → IsEndOfSome v e → HasRay (ended_as e) → (c : ℕ) → c ≡ entering_of (ended_as e)
@@ -70,13 +85,10 @@ module _ {V : Type 0} {number : Ghosts V} (v : Surveyed) (e : Ended V number) (t
     flips_are = ap (λ (t : Table V number). flips_of t) b ∙ h.flips;
   }
 
-  module _ (k : EndKind) (a : k ≡ kind_of e) where
-    pub same_end : end_at k (table_of t) ≡ ended_as e
-    same_end = (λ i. end_at (a i) (table_of (b i))) ∙ same_kind e
-
+  module _ {k : EndKind} (a : k ≡ kind_of e) where
     pub is_last : (q : Question) → IsEndOfSurvey q v e → IsLastOf q v (shape_of_table t) (flips_of t)
         (end_at k (table_of t))
-    is_last q h = last_as q (end_at k (table_of t)) same_end h
+    is_last q h = last_as q (end_at k (table_of t)) (same_end e b a) h
 
     pub some_last : IsEndOfSome v e → IsLastOfSome v (shape_of_table t) (flips_of t) (end_at k (table_of t))
     some_last h = (h.0, is_last h.0 h.1)
@@ -89,14 +101,8 @@ module _ {V : Type 0} {number : Ghosts V} (v : Surveyed) (e : Ended V number) (t
         go kinds.Feasible p = tt
         go kinds.Optimal p = tt
         go (kinds.Ray c) p =
-            let same = sym same_end ∙ ap (λ k. end_at k (table_of t)) p in
+            let same = sym (same_end e b a) ∙ ap (λ k. end_at k (table_of t)) p in
             can_be_read law h (subst HasRay (sym same) tt) c (sym (ap entering_of same))
-
-    pub has_forces : HasForces (ended_as e) → HasForces (end_at k (table_of t))
-    has_forces h = subst HasForces (sym same_end) h
-
-    pub has_motion : HasMotion (ended_as e) → HasMotion (end_at k (table_of t))
-    has_motion h = subst HasMotion (sym same_end) h
 
     pub forces_answer : (r : Result Pushes ExtractError)
         → ((q : Question) → IsLastOf q v (shape_of_table t) (flips_of t) (end_at k (table_of t))
@@ -118,21 +124,18 @@ module _ {V : Type 0} {number : Ghosts V} (v : Surveyed) (e : Ended V number) (t
         → IfOk r (λ y. IsMotionOf q v (end_at k (table_of t)) (motion_view y)))
         → (q : Question) → IsEndOfSurvey q v e → IfOk r (λ y. IsMotionOf q v (ended_as e) (motion_view y))
     motion_answer r g q h = subst (λ (x : End Fraction). IfOk r (λ y. IsMotionOf q v x (motion_view y)))
-        same_end (g q (is_last q h))
+        (same_end e b a) (g q (is_last q h))
 
     pub motion_refusal : (r : Result Moves ExtractError)
         → ((q : Question) → IsLastOf q v (shape_of_table t) (flips_of t) (end_at k (table_of t))
         → IfErr r (λ x. TellsPlace x (motion_place q v (end_at k (table_of t)))))
         → (q : Question) → IsEndOfSurvey q v e → IfErr r (λ x. TellsPlace x (motion_place q v (ended_as e)))
     motion_refusal r g q h = subst (λ (x : End Fraction). IfErr r (λ y. TellsPlace y (motion_place q v x)))
-        same_end (g q (is_last q h))
+        (same_end e b a) (g q (is_last q h))
 
-  module _ (has : HasRay (ended_as e)) (c : ℕ) (m : c ≡ entering_of (ended_as e)) where
-    is_ray : ray (table_of t) c ≡ ended_as e
-    is_ray = (λ i. ray (table_of (b i)) (m i)) ∙ same_ray e has
-
+  module _ (has : HasRay (ended_as e)) {c : ℕ} (m : c ≡ entering_of (ended_as e)) where
     pub ray_last : IsEndOfSome v e → IsLastOfSome v (shape_of_table t) (flips_of t) (ray (table_of t) c)
-    ray_last h = (h.0, last_as h.0 (ray (table_of t) c) is_ray h.1)
+    ray_last h = (h.0, last_as h.0 (ray (table_of t) c) (is_ray e b has m) h.1)
 
     pub ray_answer : (r : Result Pushes ExtractError)
         → ((q : Question) → IsLastOf q v (shape_of_table t) (flips_of t) (ray (table_of t) c)
@@ -142,7 +145,7 @@ module _ {V : Type 0} {number : Ghosts V} (v : Surveyed) (e : Ended V number) (t
     ray_answer r g q h = subst (λ (t : Table V number). IfOk r (λ f. IsRayOf q v (table_of t) (entering_of (ended_as e))
         (forces_view f))) b
         (subst (λ n. IfOk r (λ f. IsRayOf q v (table_of t) n (forces_view f))) m
-        (g q (last_as q (ray (table_of t) c) is_ray h)))
+        (g q (last_as q (ray (table_of t) c) (is_ray e b has m) h)))
 
     pub ray_refusal : (r : Result Pushes ExtractError)
         → ((q : Question) → IsLastOf q v (shape_of_table t) (flips_of t) (ray (table_of t) c)
@@ -152,4 +155,4 @@ module _ {V : Type 0} {number : Ghosts V} (v : Surveyed) (e : Ended V number) (t
     ray_refusal r g q h = subst (λ (t : Table V number). IfErr r (λ x. TellsPlace x
         (ray_place q v (table_of t) (entering_of (ended_as e))))) b
         (subst (λ n. IfErr r (λ x. TellsPlace x (ray_place q v (table_of t) n))) m
-        (g q (last_as q (ray (table_of t) c) is_ray h)))
+        (g q (last_as q (ray (table_of t) c) (is_ray e b has m) h)))

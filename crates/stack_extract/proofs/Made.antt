@@ -23,7 +23,7 @@ use Rattle.stack_posing.specs.FreeBodies.{free_bodies}
 use Rattle.stack_extract.specs.Certified.{triple_at, motion_value}
 use Rattle.stack_extract.specs.EndLaws.{EndPushes, EndsPush}
 use Rattle.stack_extract.specs.declared.types.Numbers.{Numbers}
-use Rattle.stack_extract.specs.declared.types.Numbers.TheVariants.{Motion, Ray}
+use Rattle.stack_extract.specs.declared.types.Numbers.TheVariants.{Motion}
 use Rattle.stack_extract.specs.declared.types.EndStep.TheVariants.{Whole}
 use Rattle.stack_extract.specs.declared.types.ExtractPlace.{ExtractPlace}
 use Rattle.stack_extract.specs.declared.types.ExtractError.{ExtractError}

@@ -1,5 +1,8 @@
 //! Why there is no table of a problem.
 
+ghost use Rattle.std.specs.Prelude.{◌≡◌};
+ghost use Rattle.stack_inverse.specs.declared.stops.NoTable.TheVariants as no_table;
+
 use std::alloc::{AllocError, AllocFailed};
 
 /// Why a problem has no table.
@@ -11,9 +14,6 @@ pub enum NoTable {
 }
 
 impl From<AllocError> for NoTable {
-    ghost use Rattle.std.specs.Prelude.{◌≡◌};
-    ghost use Rattle.stack_inverse.specs.declared.stops.NoTable.TheVariants as no_table;
-
     ghost from_gives = { λ _ e. e ≡ no_table.Memory };
 
     fn from(_e: AllocError) -> NoTable {
@@ -22,9 +22,6 @@ impl From<AllocError> for NoTable {
 }
 
 impl<T: Drop> From<AllocFailed<T>> for NoTable {
-    ghost use Rattle.std.specs.Prelude.{◌≡◌};
-    ghost use Rattle.stack_inverse.specs.declared.stops.NoTable.TheVariants as no_table;
-
     ghost from_gives = { λ _ e. e ≡ no_table.Memory };
 
     fn from(_e: AllocFailed<T>) -> NoTable {

@@ -183,73 +183,6 @@ impl Refusal {
     }
 }
 
-/// The word for a part of a certificate.
-pub fn part_text(part: Part) -> &'static str
-    ensures { result.now ≡ part_word part }
-{
-    match part {
-        Part::First => "first",
-        Part::Second => "second",
-    }
-}
-
-/// The word for a sum of a block's balance.
-pub fn axis_text(axis: Axis) -> &'static str
-    ensures { result.now ≡ axis_word axis }
-{
-    match axis {
-        Axis::X => "x",
-        Axis::Y => "y",
-        Axis::M => "m",
-    }
-}
-
-/// The word for an operation of a pivot.
-pub fn step_text(step: Step) -> &'static str
-    ensures { result.now ≡ step_word step }
-{
-    match step {
-        Step::Ratio => "ratio",
-        Step::Divide => "divide",
-        Step::Multiply => "multiply",
-        Step::Subtract => "subtract",
-    }
-}
-
-/// The word for a list of numbers that is made of the end of a run.
-pub fn numbers_text(numbers: Numbers) -> &'static str
-    ensures { result.now ≡ numbers_word numbers }
-{
-    match numbers {
-        Numbers::Forces => "forces",
-        Numbers::Motion => "motion",
-        Numbers::Ray => "ray",
-    }
-}
-
-/// The word for a step from a list to the numbers of a certificate.
-pub fn end_step_text(step: EndStep) -> &'static str
-    ensures { result.now ≡ end_step_word step }
-{
-    match step {
-        EndStep::Shift => "shift",
-        EndStep::Scale => "scale",
-        EndStep::Whole => "whole",
-        EndStep::Part => "part",
-    }
-}
-
-/// The word for a number of a reach.
-pub fn reach_text(place: ReachPlace) -> &'static str
-    ensures { result.now ≡ reach_word place }
-{
-    match place {
-        ReachPlace::First => "first",
-        ReachPlace::Second => "second",
-        ReachPlace::Point => "point",
-    }
-}
-
 impl fmt::Display for Input {
     ghost output = { λ i. Some (input_word i) };
 
@@ -260,6 +193,17 @@ impl fmt::Display for Input {
             Input::Order => "order",
             Input::Directions => "directions",
         })
+    }
+}
+
+/// The word for a sum of a block's balance.
+fn axis_text(axis: Axis) -> &'static str
+    ensures { result.now ≡ axis_word axis }
+{
+    match axis {
+        Axis::X => "x",
+        Axis::Y => "y",
+        Axis::M => "m",
     }
 }
 
@@ -298,6 +242,18 @@ impl fmt::Display for Place {
     }
 }
 
+/// The word for an operation of a pivot.
+fn step_text(step: Step) -> &'static str
+    ensures { result.now ≡ step_word step }
+{
+    match step {
+        Step::Ratio => "ratio",
+        Step::Divide => "divide",
+        Step::Multiply => "multiply",
+        Step::Subtract => "subtract",
+    }
+}
+
 /// The cell of a table at which a run meets a number that is too wide, and the operation.
 #[derive(Clone, Copy)]
 struct RunSpot {
@@ -324,6 +280,16 @@ impl fmt::Display for Within {
             Within::Stage { number } => write!(f, "stage {number} "),
             Within::Direction { number } => write!(f, "dir {number} "),
         }
+    }
+}
+
+/// The word for a part of a certificate.
+pub fn part_text(part: Part) -> &'static str
+    ensures { result.now ≡ part_word part }
+{
+    match part {
+        Part::First => "first",
+        Part::Second => "second",
     }
 }
 
@@ -359,6 +325,29 @@ impl fmt::Display for RunText {
     }
 }
 
+/// The word for a list of numbers that is made of the end of a run.
+fn numbers_text(numbers: Numbers) -> &'static str
+    ensures { result.now ≡ numbers_word numbers }
+{
+    match numbers {
+        Numbers::Forces => "forces",
+        Numbers::Motion => "motion",
+        Numbers::Ray => "ray",
+    }
+}
+
+/// The word for a step from a list to the numbers of a certificate.
+fn end_step_text(step: EndStep) -> &'static str
+    ensures { result.now ≡ end_step_word step }
+{
+    match step {
+        EndStep::Shift => "shift",
+        EndStep::Scale => "scale",
+        EndStep::Whole => "whole",
+        EndStep::Part => "part",
+    }
+}
+
 /// The place of a number that is made of the end of a run.
 #[derive(Clone, Copy)]
 struct EndText {
@@ -373,6 +362,18 @@ impl fmt::Display for EndText {
         let list = numbers_text(place.list);
         let step = end_step_text(place.step);
         write!(f, "end {list} {step} {}", place.index)
+    }
+}
+
+impl fmt::Display for ReachPlace {
+    ghost output = { λ p. Some (reach_word p) };
+
+    fn fmt<W: fmt::Write>(&self, f: &mut fmt::Formatter<W>) -> fmt::Result {
+        f.write_str(match self {
+            ReachPlace::First => "first",
+            ReachPlace::Second => "second",
+            ReachPlace::Point => "point",
+        })
     }
 }
 
@@ -411,9 +412,7 @@ impl fmt::Display for Refusal {
                 let spot = EndText { place: *place };
                 write!(f, "wide {within}{spot}")
             }
-            Refusal::WideReach { within, place } => {
-                write!(f, "wide {within}{}", reach_text(*place))
-            }
+            Refusal::WideReach { within, place } => write!(f, "wide {within}{place}"),
             Refusal::WideTable { index } => write!(f, "wide table {index}"),
             Refusal::Spent { budget } => write!(f, "spent {budget}"),
             Refusal::NoLive => f.write_str("no live load"),

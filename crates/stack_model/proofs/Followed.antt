@@ -2,11 +2,13 @@
 use Rattle.std.proofs.Common.{◌≡◌, ℕ, ◌+◌, ◌<◌, ◌≤◌, List, map, length, get_or, drop, Result, Ok, Err, sym}
 use Rattle.std.proofs.Common.{ap, ◌∙◌, subst}
 use Rattle.std.proofs.lemmas.List.{get_or-map, length-map}
+use Rattle.std.specs.Result.{IsErrAnd}
 use Rattle.stack_algebra.specs.Steps.{steps}
 use Rattle.stack_algebra.proofs.Steps.{step_on, step_out, steps_done}
 use Rattle.stack_model.specs.declared.errors.ModelError.{ModelError}
 use Rattle.stack_model.specs.declared.errors.ModelError.TheVariants.{Memory}
-use Rattle.stack_model.specs.Gives.{Fails}
+use Rattle.stack_model.specs.Gives.{Fails, Gives}
+use Rattle.stack_model.proofs.Chains.{refused}
 
 -- a refusal that is handed on
 handed_on : {Y Z : Type 0} (e : ModelError) (read : Result Y ModelError) (total : Result Z ModelError)
@@ -27,11 +29,13 @@ module _ {A X P : Type 0} (f : ℕ → A → P → Result A ModelError) (view : 
   follows x a b total lt is h so_far = step_on f (map view xs) i a b (view x) total (below lt)
       (ap (f i a) (item x lt is) ∙ h) so_far
 
-  pub stops : (e : ModelError) (x : X) (a : A) (total : Result A ModelError) → i < length xs → x ≡ get_or xs i x
-      → Fails e (f i a (view x))
-      → steps f i a (drop i (map view xs)) ≡ total → Fails e total
-  stops e x a total lt is h so_far = handed_on e (f i a (view x)) total h (λ here.
-      sym (step_out f (map view xs) i a (view x) e total (below lt) (ap (f i a) (item x lt is) ∙ here) so_far))
+  -- what `?` hands on
+  pub stops : {Y : Type 0} (made : Y → A) (e : ModelError) (r : Result Y ModelError) (x : X) (a : A)
+      (total : Result A ModelError) → IsErrAnd r (λ f. f ≡ e) → i < length xs → x ≡ get_or xs i x
+      → Fails e (f i a (view x)) → steps f i a (drop i (map view xs)) ≡ total → Gives made r total
+  stops made e r x a total handed lt is h so_far = refused made e r total handed
+      (handed_on e (f i a (view x)) total h (λ here.
+      sym (step_out f (map view xs) i a (view x) e total (below lt) (ap (f i a) (item x lt is) ∙ here) so_far)))
 
   pub ended : (a : A) (total : Result A ModelError) → length xs ≤ i → steps f i a (drop i (map view xs)) ≡ total
       → total ≡ Ok a

@@ -1,9 +1,10 @@
 //! The blocks of a file, checked one after the other.
 
-ghost use Rattle.std.specs.Prelude.{◌≡◌, [], ◌∷◌, ◌++◌, map, string_bytes, not, true, length, IfOk, count_by};
+ghost use Rattle.std.specs.Prelude.{◌≡◌, List, [], ◌∷◌, ◌++◌, map, string_bytes, not, true, length, IfOk, count_by};
 ghost use Rattle.stack_algebra.specs.Steps.{steps};
 ghost use Rattle.stack_polygon.specs.Limits.{are_in_range};
 ghost use Rattle.stack_polygon.specs.Admission.{is_count};
+ghost use Rattle.stack_model.specs.Structure.{NamedBody};
 ghost use Rattle.stack_model.specs.Raw.{raw_block, numbers_view};
 ghost use Rattle.stack_model.specs.Gives.{Gives};
 ghost use Rattle.stack_model.specs.Kept.{body_view};
@@ -29,17 +30,11 @@ use std::alloc::Global;
 #[derive(Drop)]
 pub struct Bodies {
     names: Names,
-    kept: Vec<KeptBody>,
+    pub(crate) kept: Vec<KeptBody>,
 }
 
 impl std::marker::Model for Bodies {
-    ghost use Rattle.std.specs.Prelude.{◌≡◌, List, map};
-    ghost use Rattle.stack_model.specs.Structure.{NamedBody};
-
     ghost Value = { List NamedBody };
-
-    ghost use Rattle.stack_model.specs.Kept.{body_view};
-    ghost use Rattle.stack_model.specs.Content.{body_names};
 
     ghost view = { λ m. map body_view m.kept.items };
 
@@ -191,17 +186,6 @@ impl Bodies {
             kept.as_slice(),
         )?)?;
         Ok(Bodies { names, kept })
-    }
-
-    /// The bodies, without taking memory.
-    pub fn into_kept(self) -> Vec<KeptBody>
-        ensures { map body_view result.items ≡ self }
-    {
-        let Bodies {
-            names: _names,
-            kept,
-        } = self;
-        kept
     }
 }
 

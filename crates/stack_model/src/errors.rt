@@ -1,5 +1,8 @@
 //! Why parts make no model.
 
+ghost use Rattle.std.specs.Prelude.{◌≡◌};
+ghost use Rattle.stack_model.specs.declared.errors.ModelError.TheVariants.{Memory};
+
 use crate::places::{Key, Spot, What};
 use std::alloc::{AllocError, AllocFailed};
 use thiserror::Error;
@@ -43,9 +46,6 @@ pub enum ModelError {
 }
 
 impl From<AllocError> for ModelError {
-    ghost use Rattle.std.specs.Prelude.{◌≡◌};
-    ghost use Rattle.stack_model.specs.declared.errors.ModelError.TheVariants.{Memory};
-
     ghost from_gives = { λ _ e. e ≡ Memory };
 
     fn from(_e: AllocError) -> ModelError {
@@ -54,9 +54,6 @@ impl From<AllocError> for ModelError {
 }
 
 impl<T: Drop> From<AllocFailed<T>> for ModelError {
-    ghost use Rattle.std.specs.Prelude.{◌≡◌};
-    ghost use Rattle.stack_model.specs.declared.errors.ModelError.TheVariants.{Memory};
-
     ghost from_gives = { λ _ e. e ≡ Memory };
 
     fn from(_e: AllocFailed<T>) -> ModelError {

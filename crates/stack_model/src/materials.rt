@@ -1,6 +1,7 @@
 //! The materials of a file, checked one after the other.
 
-ghost use Rattle.std.specs.Prelude.{◌≡◌, [], map, pos};
+ghost use Rattle.std.specs.Prelude.{◌≡◌, List, [], map, pos};
+ghost use Rattle.stack_model.specs.Structure.{NamedMaterial};
 ghost use Rattle.stack_model.specs.Kept.{material_view};
 ghost use Rattle.stack_model.specs.Raw.{raw_material};
 ghost use Rattle.stack_model.specs.Gives.{Gives};
@@ -23,17 +24,11 @@ use std::alloc::Global;
 #[derive(Drop)]
 pub struct Materials {
     names: Names,
-    kept: Vec<KeptMaterial>,
+    pub(crate) kept: Vec<KeptMaterial>,
 }
 
 impl std::marker::Model for Materials {
-    ghost use Rattle.std.specs.Prelude.{◌≡◌, List, map};
-    ghost use Rattle.stack_model.specs.Structure.{NamedMaterial};
-
     ghost Value = { List NamedMaterial };
-
-    ghost use Rattle.stack_model.specs.Kept.{material_view};
-    ghost use Rattle.stack_model.specs.Content.{material_names};
 
     ghost view = { λ m. map material_view m.kept.items };
 
@@ -99,17 +94,6 @@ impl Materials {
             material,
         })?;
         Ok(Materials { names, kept })
-    }
-
-    /// The materials, without taking memory.
-    pub fn into_kept(self) -> Vec<KeptMaterial>
-        ensures { map material_view result.items ≡ self }
-    {
-        let Materials {
-            names: _names,
-            kept,
-        } = self;
-        kept
     }
 }
 

@@ -84,13 +84,7 @@ impl Model {
         let (materials, joints) = joints(alloc, &parts)?;
         let bodies = bodies(alloc, &materials, &parts)?;
         let loads = loads(alloc, &bodies, &parts)?;
-        Ok(Model::of(
-            head,
-            materials.into_kept(),
-            joints,
-            bodies.into_kept(),
-            loads,
-        ))
+        Ok(Model::of(head, materials.kept, joints, bodies.kept, loads))
     }
 
     /// The model of these lists.

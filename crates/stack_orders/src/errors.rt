@@ -3,7 +3,7 @@
 ghost use Rattle.std.specs.Prelude.{◌≡◌};
 ghost use Rattle.stack_orders.specs.declared.errors.OrderError.TheVariants as order_error;
 
-use std::alloc::{AllocError, AllocFailed};
+use std::alloc::AllocFailed;
 
 /// Why a text tells no order of building.
 #[derive(Clone, Copy, Debug, PartialEq, Eq)]
@@ -13,14 +13,6 @@ pub enum OrderError {
     Line { number: usize },
     /// Memory ran out.
     Memory,
-}
-
-impl From<AllocError> for OrderError {
-    ghost from_gives = { λ _ e. e ≡ order_error.Memory };
-
-    fn from(_e: AllocError) -> OrderError {
-        OrderError::Memory
-    }
 }
 
 impl<T: Drop> From<AllocFailed<T>> for OrderError {

@@ -1,13 +1,16 @@
 -- Divisors of odd numbers, and the greatest common divisor with the factors of 2 taken out.
 use Rattle.std.proofs.Common.{◌≡◌, refl, sym, ap, subst, subst₂, ◌∙◌, ℕ, zero, suc, ◌+◌, ◌-◌, ◌*◌, ◌/◌, ◌%◌, ◌^◌, ◌<◌}
-use Rattle.std.proofs.Common.{◌≤◌, min, mod-eq_of_lt, arith, pow-add}
-use Rattle.stack_rational.proofs.Common.{◌∣◌, dvd_trans, dec_lt, IsGcd, gcd, gcd-left, gcd-right, dvd_refl, dvd-one}
-use Rattle.stack_rational.proofs.Common.{dvd-mul_right, gcd-is, gcd-product}
+use Rattle.std.proofs.Common.{◌≤◌, ◌⊎◌, inl, inr, min, mod-eq_of_lt, arith, pow-add}
+use Rattle.stack_rational.proofs.Common.{◌∣◌, dvd_trans, dec_le, dec_lt, IsGcd, gcd, gcd-left, gcd-right, dvd_refl}
+use Rattle.stack_rational.proofs.Common.{dvd-one, dvd-mul_right, gcd-is, gcd-product}
 use native.Mathlib.Nat.{dvd-mul_right_of_dvd, dvd-add, dvd-add_iff_right, mod-eq-zero_of_dvd, le_of_dvd}
 use native.Mathlib.Nat.{mul-dvd-mul_right, mod-add-div, eq-zero_of_zero-dvd}
 use Rattle.std.proofs.Math.Nat.{pow-suc, pow-succ', div-div-eq-div-mul}
-use Rattle.std.specs.Int.{abs_diff, bit_at}
-use Rattle.std.proofs.lemmas.Nat.Gcd.{same_from_IsGcd}
+use lib.Count.{count_trailing_zeros}
+use mir.Val.{bits}
+use Rattle.std.specs.Int.{Width, w8, w16, w32, w64, w128, abs_diff, bit_at, trailing_zeros}
+use Rattle.std.proofs.lemmas.Nat.Bits.{bit_at-trailing_zeros}
+use Rattle.std.proofs.lemmas.Nat.Gcd.{IsGcd-swap, same_from_IsGcd}
 use Rattle.stack_algebra.proofs.CommonDivisor.{gcd-scaled, dvd_of_gcd-one}
 
 -- a divisor of an odd number is odd
@@ -136,7 +139,7 @@ step_falls x y z k m d o p e em ed = go (dec_lt x z)
     go (no l) = omega (arith, p, em, ed, l, grows)
 
 -- the factors of 2 are put back, where the first number has no more of them
-pub with_twos : (p q i j g : ℕ) → p % 2 ≡ 1 → i ≤ j → IsGcd p q g → IsGcd (p * 2 ^ i) (q * 2 ^ j) (g * 2 ^ i)
+with_twos : (p q i j g : ℕ) → p % 2 ≡ 1 → i ≤ j → IsGcd p q g → IsGcd (p * 2 ^ i) (q * 2 ^ j) (g * 2 ^ i)
 with_twos p q i j g o l is = subst (λ t. IsGcd (p * 2 ^ i) t (g * 2 ^ i)) (parted q i j l) (
   mul-dvd-mul_right g is.0 (2 ^ i),
   mul-dvd-mul_right g (dvd-mul_right_of_dvd g is.1 (2 ^ (j - i))) (2 ^ i),
@@ -158,7 +161,7 @@ with_twos p q i j g o l is = subst (λ t. IsGcd (p * 2 ^ i) t (g * 2 ^ i)) (part
         whole i j l = omega arith
 
 -- a number whose lowest k bits are 0 is a multiple of 2 ^ k
-pub multiple_of_power : (k n : ℕ) → ((i : ℕ) → i < k → bit_at n i ≡ 0) → n / 2 ^ k * 2 ^ k ≡ n
+multiple_of_power : (k n : ℕ) → ((i : ℕ) → i < k → bit_at n i ≡ 0) → n / 2 ^ k * 2 ^ k ≡ n
 multiple_of_power zero n h = omega arith
 multiple_of_power (suc k) n h = (λ t. n / pow-suc 2 k t * pow-suc 2 k t)
     ∙ (λ t. sym (div-div-eq-div-mul n (2 ^ k) 2) t * (2 ^ k * 2))
@@ -170,17 +173,67 @@ multiple_of_power (suc k) n h = (λ t. n / pow-suc 2 k t * pow-suc 2 k t)
     doubled : (a b : ℕ) → a % 2 ≡ 0 → a / 2 * (b * 2) ≡ a * b
     doubled a b e = omega (arith, ap (λ z. z * b) (half a e))
 
--- a shift that loses nothing, since it gives a divisor, and both numbers are below the bound m of the width
-pub shifted_divisor : (m a b p q i j g : ℕ) → 0 < a → a < m → p * 2 ^ i ≡ a → q * 2 ^ j ≡ b → p % 2 ≡ 1 →
-    i ≤ j → IsGcd p q g →
-    IsGcd a b (g * 2 ^ i % m)
-shifted_divisor m a b p q i j g ha fa ea eb o l is = subst (λ n. IsGcd a b n) (sym (mod-eq_of_lt small)) is-gcd
-  where
-    is-gcd : IsGcd a b (g * 2 ^ i)
-    is-gcd = subst₂ (λ m n. IsGcd m n (g * 2 ^ i)) ea eb (with_twos p q i j g o l is)
+-- a positive number below the bound of a width is its odd part with the factors of 2
+pub without_zeros : (w : Width) (n : ℕ) → 0 < n → n < 2 ^ bits w →
+    n / 2 ^ trailing_zeros w n * 2 ^ trailing_zeros w n ≡ n
+without_zeros w n some fits = multiple_of_power (trailing_zeros w n) n (bit_at-trailing_zeros w n some fits).2
 
-    small : g * 2 ^ i < m
-    small = omega (arith, le_of_dvd ha is-gcd.0, fa)
+-- 0 has no other bits than zeros
+zeros_of_zero : (w : Width) → trailing_zeros w 0 ≡ bits w
+unfolding count_trailing_zeros
+zeros_of_zero w8 = refl
+zeros_of_zero w16 = refl
+zeros_of_zero w32 = refl
+zeros_of_zero w64 = refl
+zeros_of_zero w128 = refl
+
+-- the factors of 2 of both numbers are put back, where those of b don't count beside the odd number p
+both_twos : (p q i j k g : ℕ) → p % 2 ≡ 1 → (i ≤ j) ⊎ (q % 2 ≡ 1) → k ≡ min i j → IsGcd p (q * 2 ^ j) g →
+    IsGcd (p * 2 ^ i) (q * 2 ^ j) (g * 2 ^ k)
+both_twos p q i j k g o either e is = go (dec_le i j)
+  where
+    parts : IsGcd p q g
+    parts = (is.0, without_twos p q j g o is.0 is.1, λ d h m. is.2 d h (dvd-mul_right_of_dvd d m (2 ^ j)))
+
+    second : (i ≤ j) ⊎ (q % 2 ≡ 1) → ¬ (i ≤ j) → q % 2 ≡ 1
+    second (inl l) n = absurd (n l)
+    second (inr o) n = o
+
+    go : Dec (i ≤ j) → IsGcd (p * 2 ^ i) (q * 2 ^ j) (g * 2 ^ k)
+    go (yes l) = let least : i ≡ k = omega (arith, l, e) in
+        subst (λ t. IsGcd (p * 2 ^ i) (q * 2 ^ j) (g * 2 ^ t)) least (with_twos p q i j g o l parts)
+    go (no n) = let least : j ≡ k = omega (arith, n, e) in
+        subst (λ t. IsGcd (p * 2 ^ i) (q * 2 ^ j) (g * 2 ^ t)) least (IsGcd-swap (q * 2 ^ j) (p * 2 ^ i) (g * 2 ^ j)
+        (with_twos q p j i g (second either n) (omega (arith, n)) (IsGcd-swap p q g parts)))
+
+-- a shift that loses nothing, since it gives a divisor, and both numbers are below the bound of the width
+pub shifted_divisor : (w : Width) (a b g p k : ℕ) → 0 < a → a < 2 ^ bits w → b < 2 ^ bits w →
+    p * 2 ^ trailing_zeros w a ≡ a → p % 2 ≡ 1 → k ≡ min (trailing_zeros w a) (trailing_zeros w b) → IsGcd p b g →
+    IsGcd a b (g * 2 ^ k % 2 ^ bits w)
+shifted_divisor w a b g p k ha fa fb ea o ek is = subst (λ n. IsGcd a b n) (sym (mod-eq_of_lt small)) whole
+  where
+    put : (q : ℕ) → q * 2 ^ trailing_zeros w b ≡ b → (trailing_zeros w a ≤ trailing_zeros w b) ⊎ (q % 2 ≡ 1) →
+        IsGcd a b (g * 2 ^ k)
+    put q eb either = subst₂ (λ m n. IsGcd m n (g * 2 ^ k)) ea eb
+        (both_twos p q (trailing_zeros w a) (trailing_zeros w b) k g o either ek
+        (subst (λ n. IsGcd p n g) (sym eb) is))
+
+    by : Dec (0 < b) → IsGcd a b (g * 2 ^ k)
+    by (yes some) = put (b / 2 ^ trailing_zeros w b) (without_zeros w b some fb)
+        (inr (bit_at-trailing_zeros w b some fb).1)
+    by (no n) = let none : 0 ≡ b = omega (arith, n) in
+        put 0 (omega (arith, none)) (inl (omega (
+          arith,
+          ap (trailing_zeros w) none,
+          zeros_of_zero w,
+          (bit_at-trailing_zeros w a ha fa).0,
+        )))
+
+    whole : IsGcd a b (g * 2 ^ k)
+    whole = by (dec_lt 0 b)
+
+    small : g * 2 ^ k < 2 ^ bits w
+    small = omega (arith, le_of_dvd ha whole.0, fa)
 
 -- a divisor is no greater than the numbers
 pub divisor_within : (a b n m : ℕ) → IsGcd a b n → a ≤ m → b ≤ m → n ≤ m

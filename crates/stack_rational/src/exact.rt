@@ -121,7 +121,7 @@ impl<T: Integer> Exact for Frac<T> {
 
     ghost MAX = { T.MAX };
 
-    ghost max_law = { width_of T.MAX (T.Integer.size_law T.Integral.exact_law) };
+    ghost max_law = { width_of T.MAX T.Integer.laws.greatest };
 
     const MAX: i128 = T::MAX;
 

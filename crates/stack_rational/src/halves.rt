@@ -1,35 +1,16 @@
 //! The greatest common divisor of numbers without a sign, by halves: at 128 bits until both numbers have 64, and then
 //! at 64 bits. A remainder costs many times what a shift does.
 
-ghost use Prim.Native.Nat.{min};
 ghost use Rattle.std.specs.Prelude.{◌≡◌, ◌<◌, ◌%◌, ◌*◌, ◌^◌};
-ghost use Rattle.std.specs.Int.{IsGcd};
+ghost use Rattle.std.specs.Int.{IsGcd, trailing_zeros, w64, w128};
 
-/// A positive number without its factors of 2, and how many they are.
-#[derive(Clone, Copy)]
-struct OddPart {
-    odd: u64,
-    twos: u32,
-}
-
-fn without_twos(n: u64) -> OddPart
+/// A positive number without its factors of 2.
+fn odd_part(n: u64) -> u64
     requires { 0 < n }
-    ensures product { result.odd * 2 ^ result.twos ≡ n }
-    ensures odd { result.odd % 2 ≡ 1 }
-    ensures few { result.twos < 64 }
+    ensures product { result * 2 ^ trailing_zeros w64 n ≡ n }
+    ensures odd { result % 2 ≡ 1 }
 {
-    let twos = n.trailing_zeros();
-    OddPart {
-        odd: n >> twos,
-        twos,
-    }
-}
-
-/// The lesser of two numbers.
-fn lesser(x: u64, y: u64) -> u64
-    ensures { result ≡ min x y }
-{
-    if x < y { x } else { y }
+    n >> n.trailing_zeros()
 }
 
 /// The greatest common divisor of an odd number and another one, by differences: a choice without a branch is faster
@@ -41,9 +22,9 @@ fn divisor_of_odd(odd: u64, other: u64) -> u64
     let mut x = odd;
     let mut y = other;
     'steps: while y != 0 {
-        let part = without_twos(y).odd;
+        let part = odd_part(y);
         y = x.abs_diff(part);
-        x = lesser(x, part);
+        x = x.min(part);
     }
     x
 }
@@ -55,44 +36,16 @@ pub fn divisor_of_words(a: u64, b: u64) -> u64
     if a == 0 {
         return b;
     }
-    if b == 0 {
-        return a;
-    }
-    let left = without_twos(a);
-    let right = without_twos(b);
-    let odd = divisor_of_odd(left.odd, right.odd);
-    if left.twos <= right.twos {
-        odd << left.twos
-    } else {
-        odd << right.twos
-    }
+    divisor_of_odd(odd_part(a), b) << a.trailing_zeros().min(b.trailing_zeros())
 }
 
-/// A positive number of 128 bits without its factors of 2, and how many they are.
-#[derive(Clone, Copy)]
-struct BroadOddPart {
-    odd: u128,
-    twos: u32,
-}
-
-fn broad_without_twos(n: u128) -> BroadOddPart
+/// A positive number of 128 bits without its factors of 2.
+fn broad_odd_part(n: u128) -> u128
     requires { 0 < n }
-    ensures product { result.odd * 2 ^ result.twos ≡ n }
-    ensures odd { result.odd % 2 ≡ 1 }
-    ensures few { result.twos < 128 }
+    ensures product { result * 2 ^ trailing_zeros w128 n ≡ n }
+    ensures odd { result % 2 ≡ 1 }
 {
-    let twos = n.trailing_zeros();
-    BroadOddPart {
-        odd: n >> twos,
-        twos,
-    }
-}
-
-/// The lesser of two numbers of 128 bits.
-fn broad_lesser(x: u128, y: u128) -> u128
-    ensures { result ≡ min x y }
-{
-    if x < y { x } else { y }
+    n >> n.trailing_zeros()
 }
 
 /// The greatest common divisor of an odd number and another one of 128 bits, by differences: at 64 bits from where both
@@ -107,9 +60,9 @@ fn broad_divisor_of_odd(odd: u128, other: u128) -> u128
         if y == 0 {
             return x;
         }
-        let part = broad_without_twos(y).odd;
+        let part = broad_odd_part(y);
         y = x.abs_diff(part);
-        x = broad_lesser(x, part);
+        x = x.min(part);
     }
     u128::from(divisor_of_odd(x as u64, y as u64))
 }
@@ -121,15 +74,5 @@ pub fn divisor_of(a: u128, b: u128) -> u128
     if a == 0 {
         return b;
     }
-    if b == 0 {
-        return a;
-    }
-    let left = broad_without_twos(a);
-    let right = broad_without_twos(b);
-    let odd = broad_divisor_of_odd(left.odd, right.odd);
-    if left.twos <= right.twos {
-        odd << left.twos
-    } else {
-        odd << right.twos
-    }
+    broad_divisor_of_odd(broad_odd_part(a), b) << a.trailing_zeros().min(b.trailing_zeros())
 }

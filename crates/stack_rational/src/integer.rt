@@ -1,8 +1,10 @@
 //! Signed integers whose least value isn't used, and their exact operations.
 
-ghost use Rattle.std.specs.Prelude.{◌≡◌, ℤ, pos, ◌*ℤ◌, ◌+ℤ◌, ◌<ℤ◌, int_div, int_lt, neg_ℤ};
+ghost use Rattle.std.specs.Prelude.{◌≡◌, ℤ, pos, ◌-◌, ◌^◌, ◌*ℤ◌, ◌+ℤ◌, ◌<ℤ◌, int_div, int_lt, neg_ℤ};
+ghost use Rattle.std.specs.Int.{w8, w64, w128};
 ghost use Rattle.num_traits.specs.Laws.{Checks};
 ghost use Rattle.stack_rational.specs.Stored.{Within};
+ghost use Rattle.stack_rational.specs.Widths.{SignedLaws, signed_laws};
 
 use num_traits::{
     Bounded, CheckedAdd, CheckedMul, CheckedSub, FixedWidth, FromPrimitive, Signed, ToPrimitive,
@@ -18,92 +20,37 @@ pub trait Integer: Copy
     + CheckedMul
     + FromPrimitive
     + ToPrimitive {
-    ghost use Rattle.std.specs.Prelude.{◌≡◌, ℕ, ℤ, pos, ◌<◌, ◌≤◌, ◌^◌, unsigned_abs};
-    ghost use Rattle.stack_rational.specs.Back.{from_integer};
-
     // The greatest value.
     ghost MAX: { ℤ };
 
     const MAX: i128;
 
-    // The type has each integer whose size is at most the greatest value.
-    ghost keeps_law: { (z : ℤ) → unsigned_abs z ≤ unsigned_abs MAX → Self.fits z };
-
-    // Each other integer of the type is the least value.
-    ghost least_law: { (z : ℤ) → Self.fits z → ¬ (z ≡ Self.low) → unsigned_abs z ≤ unsigned_abs MAX };
-
-    // The least value is too wide.
-    ghost lowest_law: { Self.exact → unsigned_abs MAX < unsigned_abs Self.low };
-
-    // A value that is used is the one of its integer.
-    ghost back_law: { (x : Self) → unsigned_abs (Self.value x) ≤ unsigned_abs MAX
-        → from_integer Self.width Self.of_bits (Self.value x) ≡ x };
-
-    ghost size_law: { Self.exact
-        → (0 < unsigned_abs MAX) × (unsigned_abs MAX < 2 ^ 127) × (MAX ≡ pos (unsigned_abs MAX)) };
+    // The type has each integer up to the greatest value in size, and but the least value no other.
+    ghost laws: { SignedLaws Self.width Self.fits Self.value Self.of_bits Self.low MAX };
 }
 
 impl Integer for i8 {
-    ghost use Rattle.std.specs.Int.{w8};
-    ghost use Rattle.std.specs.Prelude.{pos, ◌-◌, ◌^◌};
-    ghost use Rattle.stack_rational.specs.Widths.{signed-keeps, signed-least, signed-back, signed-lowest};
-    ghost use Rattle.std.proofs.Common.{refl, lit<};
-
     ghost MAX = { pos (2 ^ 7 - 1) };
 
     const MAX: i128 = i8::MAX as i128;
 
-    ghost keeps_law = { λ z h. signed-keeps w8 z h };
-
-    ghost least_law = { λ z f n. signed-least w8 z f n };
-
-    ghost lowest_law = { λ e. signed-lowest w8 };
-
-    ghost back_law = { λ x h. signed-back w8 x h };
-
-    ghost size_law = { λ e. (lit< tt, lit< tt, refl) };
+    ghost laws = { signed_laws w8 };
 }
 
 impl Integer for i64 {
-    ghost use Rattle.std.specs.Int.{w64};
-    ghost use Rattle.std.specs.Prelude.{pos, ◌-◌, ◌^◌};
-    ghost use Rattle.stack_rational.specs.Widths.{signed-keeps, signed-least, signed-back, signed-lowest};
-    ghost use Rattle.std.proofs.Common.{refl, lit<};
-
     ghost MAX = { pos (2 ^ 63 - 1) };
 
     const MAX: i128 = i64::MAX as i128;
 
-    ghost keeps_law = { λ z h. signed-keeps w64 z h };
-
-    ghost least_law = { λ z f n. signed-least w64 z f n };
-
-    ghost lowest_law = { λ e. signed-lowest w64 };
-
-    ghost back_law = { λ x h. signed-back w64 x h };
-
-    ghost size_law = { λ e. (lit< tt, lit< tt, refl) };
+    ghost laws = { signed_laws w64 };
 }
 
 impl Integer for i128 {
-    ghost use Rattle.std.specs.Int.{w128};
-    ghost use Rattle.std.specs.Prelude.{pos, ◌-◌, ◌^◌};
-    ghost use Rattle.stack_rational.specs.Widths.{signed-keeps, signed-least, signed-back, signed-lowest};
-    ghost use Rattle.std.proofs.Common.{refl, lit<};
-
     ghost MAX = { pos (2 ^ 127 - 1) };
 
     const MAX: i128 = i128::MAX as i128;
 
-    ghost keeps_law = { λ z h. signed-keeps w128 z h };
-
-    ghost least_law = { λ z f n. signed-least w128 z f n };
-
-    ghost lowest_law = { λ e. signed-lowest w128 };
-
-    ghost back_law = { λ x h. signed-back w128 x h };
-
-    ghost size_law = { λ e. (lit< tt, lit< tt, refl) };
+    ghost laws = { signed_laws w128 };
 }
 
 /// What is left where the least value is not used.

@@ -1,5 +1,8 @@
 //! Why a model file is refused.
 
+ghost use Rattle.std.specs.Prelude.{◌≡◌};
+ghost use Rattle.stack_reader.specs.declared.errors.ReadError.TheVariants.{Memory};
+
 use stack_model::{Key, ModelError, Spot};
 use std::alloc::{AllocError, AllocFailed};
 use thiserror::Error;
@@ -31,9 +34,6 @@ pub enum ReadError {
 }
 
 impl From<AllocError> for ReadError {
-    ghost use Rattle.std.specs.Prelude.{◌≡◌};
-    ghost use Rattle.stack_reader.specs.declared.errors.ReadError.TheVariants.{Memory};
-
     ghost from_gives = { λ _ e. e ≡ Memory };
 
     fn from(_e: AllocError) -> ReadError {
@@ -42,9 +42,6 @@ impl From<AllocError> for ReadError {
 }
 
 impl<T: Drop> From<AllocFailed<T>> for ReadError {
-    ghost use Rattle.std.specs.Prelude.{◌≡◌};
-    ghost use Rattle.stack_reader.specs.declared.errors.ReadError.TheVariants.{Memory};
-
     ghost from_gives = { λ _ e. e ≡ Memory };
 
     fn from(_e: AllocFailed<T>) -> ReadError {

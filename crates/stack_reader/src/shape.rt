@@ -1,7 +1,7 @@
 //! What a table lists, or its first fault of shape.
 
-ghost use Rattle.std.specs.Prelude.{◌≡◌, map, IfOk};
-ghost use Rattle.stack_model.specs.Parts.{IsOfVersion};
+ghost use Rattle.std.specs.Prelude.{map, IfOk};
+ghost use Rattle.stack_model.specs.Parts.{IsOfVersion, MaterialPart, JointPart, BlockPart, LoadPart};
 ghost use Rattle.toml.specs.View.{view, table_view, items_view};
 ghost use Rattle.stack_model.specs.Raw.{raw_material, raw_joint, raw_block, raw_load, raw_parts};
 ghost use Rattle.stack_reader.specs.Gives.{GivesRead};
@@ -16,167 +16,143 @@ use stack_model::{Key, Parts, RawBlock, RawJoint, RawLoad, RawMaterial, Spot};
 use std::alloc::Global;
 use toml::{Table, Value};
 
-#[tactic(auto, unfolding(crate::specs::Shape::material_part))]
-fn material(alloc: Global, index: usize, table: &Table) -> Result<RawMaterial, ReadError>
-    ensures { GivesRead raw_material result (material_part index (table_view table.now)) }
-{
-    let spot = Spot::Material(index);
-    refuse_unknown(table, spot, &[Key::Name, Key::Weight, Key::Friction])?;
-    let name = text_at(alloc, table, spot, Key::Name)?;
-    let weight = whole_at(table, spot, Key::Weight)?;
-    let friction = wholes_at(alloc, table, spot, Key::Friction)?;
-    Ok(RawMaterial {
-        name,
-        weight,
-        friction,
-    })
+/// An item of a list: a material, a joint, a block or a load.
+trait Item: Drop {
+    ghost use Rattle.std.specs.Prelude.{ℕ, Result};
+    ghost use Rattle.toml.specs.Data.{Members};
+    ghost use Rattle.stack_reader.specs.declared.errors.ReadError.{ReadError};
+
+    // What is listed of it.
+    ghost Said: { Type 0 };
+
+    // What was listed of an item that is read.
+    ghost raw: { Self → Said };
+
+    // What the table of the item with a number says, or its first fault of shape.
+    ghost part: { ℕ → Members → Result Said ReadError };
+
+    /// What its table says, or the first fault of shape there.
+    fn of_table(alloc: Global, index: usize, table: &Table) -> Result<Self, ReadError>
+        ensures { GivesRead raw result (part index (table_view table.now)) };
 }
 
-#[tactic(auto, unfolding(crate::specs::Shape::joint_part))]
-fn joint(alloc: Global, index: usize, table: &Table) -> Result<RawJoint, ReadError>
-    ensures { GivesRead raw_joint result (joint_part index (table_view table.now)) }
-{
-    let spot = Spot::Joint(index);
-    refuse_unknown(table, spot, &[Key::First, Key::Second, Key::Friction])?;
-    let first = text_at(alloc, table, spot, Key::First)?;
-    let second = text_at(alloc, table, spot, Key::Second)?;
-    let terms = wholes_at(alloc, table, spot, Key::Friction)?;
-    Ok(RawJoint {
-        first,
-        second,
-        friction: terms,
-    })
-}
+impl Item for RawMaterial {
+    ghost Said = { MaterialPart };
 
-#[tactic(auto, unfolding(crate::specs::Shape::block_part))]
-fn block(alloc: Global, index: usize, table: &Table) -> Result<RawBlock, ReadError>
-    ensures { GivesRead raw_block result (block_part index (table_view table.now)) }
-{
-    let spot = Spot::Block(index);
-    refuse_unknown(
-        table,
-        spot,
-        &[Key::Name, Key::Material, Key::Fixed, Key::Corners],
-    )?;
-    let name = text_at(alloc, table, spot, Key::Name)?;
-    let material = text_at(alloc, table, spot, Key::Material)?;
-    let fixed = truth_at(table, spot, Key::Fixed)?;
-    let corners = lists_at(alloc, table, spot, Key::Corners)?;
-    Ok(RawBlock {
-        name,
-        material,
-        fixed,
-        corners,
-    })
-}
+    ghost raw = { raw_material };
 
-#[tactic(auto, unfolding(crate::specs::Shape::load_part))]
-fn load(alloc: Global, index: usize, table: &Table) -> Result<RawLoad, ReadError>
-    ensures { GivesRead raw_load result (load_part index (table_view table.now)) }
-{
-    let spot = Spot::Load(index);
-    refuse_unknown(table, spot, &[Key::Block, Key::Kind, Key::At, Key::Force])?;
-    let block = text_at(alloc, table, spot, Key::Block)?;
-    let kind = text_at(alloc, table, spot, Key::Kind)?;
-    let at = wholes_at(alloc, table, spot, Key::At)?;
-    let force = wholes_at(alloc, table, spot, Key::Force)?;
-    Ok(RawLoad {
-        block,
-        kind,
-        at,
-        force,
-    })
-}
+    ghost part = { material_part };
 
-fn not_tables(key: Key) -> ReadError
-    ensures { result ≡ ReadError.Kind Spot.Top key }
-{
-    ReadError::Kind {
-        spot: Spot::Top,
-        key,
+    #[tactic(auto, unfolding(crate::specs::Shape::material_part))]
+    fn of_table(alloc: Global, index: usize, table: &Table) -> Result<RawMaterial, ReadError> {
+        let spot = Spot::Material(index);
+        refuse_unknown(table, spot, &[Key::Name, Key::Weight, Key::Friction])?;
+        let name = text_at(alloc, table, spot, Key::Name)?;
+        let weight = whole_at(table, spot, Key::Weight)?;
+        let friction = wholes_at(alloc, table, spot, Key::Friction)?;
+        Ok(RawMaterial {
+            name,
+            weight,
+            friction,
+        })
     }
 }
 
+impl Item for RawJoint {
+    ghost Said = { JointPart };
+
+    ghost raw = { raw_joint };
+
+    ghost part = { joint_part };
+
+    #[tactic(auto, unfolding(crate::specs::Shape::joint_part))]
+    fn of_table(alloc: Global, index: usize, table: &Table) -> Result<RawJoint, ReadError> {
+        let spot = Spot::Joint(index);
+        refuse_unknown(table, spot, &[Key::First, Key::Second, Key::Friction])?;
+        let first = text_at(alloc, table, spot, Key::First)?;
+        let second = text_at(alloc, table, spot, Key::Second)?;
+        let terms = wholes_at(alloc, table, spot, Key::Friction)?;
+        Ok(RawJoint {
+            first,
+            second,
+            friction: terms,
+        })
+    }
+}
+
+impl Item for RawBlock {
+    ghost Said = { BlockPart };
+
+    ghost raw = { raw_block };
+
+    ghost part = { block_part };
+
+    #[tactic(auto, unfolding(crate::specs::Shape::block_part))]
+    fn of_table(alloc: Global, index: usize, table: &Table) -> Result<RawBlock, ReadError> {
+        let spot = Spot::Block(index);
+        refuse_unknown(
+            table,
+            spot,
+            &[Key::Name, Key::Material, Key::Fixed, Key::Corners],
+        )?;
+        let name = text_at(alloc, table, spot, Key::Name)?;
+        let material = text_at(alloc, table, spot, Key::Material)?;
+        let fixed = truth_at(table, spot, Key::Fixed)?;
+        let corners = lists_at(alloc, table, spot, Key::Corners)?;
+        Ok(RawBlock {
+            name,
+            material,
+            fixed,
+            corners,
+        })
+    }
+}
+
+impl Item for RawLoad {
+    ghost Said = { LoadPart };
+
+    ghost raw = { raw_load };
+
+    ghost part = { load_part };
+
+    #[tactic(auto, unfolding(crate::specs::Shape::load_part))]
+    fn of_table(alloc: Global, index: usize, table: &Table) -> Result<RawLoad, ReadError> {
+        let spot = Spot::Load(index);
+        refuse_unknown(table, spot, &[Key::Block, Key::Kind, Key::At, Key::Force])?;
+        let block = text_at(alloc, table, spot, Key::Block)?;
+        let kind = text_at(alloc, table, spot, Key::Kind)?;
+        let at = wholes_at(alloc, table, spot, Key::At)?;
+        let force = wholes_at(alloc, table, spot, Key::Force)?;
+        Ok(RawLoad {
+            block,
+            kind,
+            at,
+            force,
+        })
+    }
+}
+
+/// The item with a number in the list at a key of the top.
 #[tactic(auto, unfolding(crate::specs::Shape::in_table))]
-fn material_item(alloc: Global, index: usize, item: &Value) -> Result<RawMaterial, ReadError>
-    ensures { GivesRead raw_material result (in_table material_part Key.Material index (view item.now)) }
+fn item_of<I: Item>(alloc: Global, key: Key, index: usize, value: &Value) -> Result<I, ReadError>
+    ensures { GivesRead I.raw result (in_table I.part key index (view value.now)) }
 {
-    match item.as_table() {
-        Some(table) => material(alloc, index, table),
-        None => Err(not_tables(Key::Material)),
+    match value.as_table() {
+        Some(table) => I::of_table(alloc, index, table),
+        None => Err(ReadError::Kind {
+            spot: Spot::Top,
+            key,
+        }),
     }
 }
 
-#[tactic(auto, unfolding(crate::specs::Shape::in_table))]
-fn joint_item(alloc: Global, index: usize, item: &Value) -> Result<RawJoint, ReadError>
-    ensures { GivesRead raw_joint result (in_table joint_part Key.Joint index (view item.now)) }
-{
-    match item.as_table() {
-        Some(table) => joint(alloc, index, table),
-        None => Err(not_tables(Key::Joint)),
-    }
-}
-
-#[tactic(auto, unfolding(crate::specs::Shape::in_table))]
-fn block_item(alloc: Global, index: usize, item: &Value) -> Result<RawBlock, ReadError>
-    ensures { GivesRead raw_block result (in_table block_part Key.Block index (view item.now)) }
-{
-    match item.as_table() {
-        Some(table) => block(alloc, index, table),
-        None => Err(not_tables(Key::Block)),
-    }
-}
-
-#[tactic(auto, unfolding(crate::specs::Shape::in_table))]
-fn load_item(alloc: Global, index: usize, item: &Value) -> Result<RawLoad, ReadError>
-    ensures { GivesRead raw_load result (in_table load_part Key.Load index (view item.now)) }
-{
-    match item.as_table() {
-        Some(table) => load(alloc, index, table),
-        None => Err(not_tables(Key::Load)),
-    }
-}
-
-fn materials(alloc: Global, items: &[Value]) -> Result<Vec<RawMaterial>, ReadError>
-    ensures { GivesRead (λ v. map raw_material v.items) result (each_of (in_table material_part Key.Material) 0
-        (items_view items.now)) }
+/// The items of the list at a key of the top.
+fn items<I: Item>(alloc: Global, key: Key, values: &[Value]) -> Result<Vec<I>, ReadError>
+    ensures { GivesRead (λ v. map I.raw v.items) result (each_of (in_table I.part key) 0 (items_view values.now)) }
 {
     let mut found = Vec::new(alloc);
-    for (index, item) in items.iter().enumerate() {
-        found.push(material_item(alloc, index, item)?)?;
-    }
-    Ok(found)
-}
-
-fn joints(alloc: Global, items: &[Value]) -> Result<Vec<RawJoint>, ReadError>
-    ensures { GivesRead (λ v. map raw_joint v.items) result (each_of (in_table joint_part Key.Joint) 0
-        (items_view items.now)) }
-{
-    let mut found = Vec::new(alloc);
-    for (index, item) in items.iter().enumerate() {
-        found.push(joint_item(alloc, index, item)?)?;
-    }
-    Ok(found)
-}
-
-fn blocks(alloc: Global, items: &[Value]) -> Result<Vec<RawBlock>, ReadError>
-    ensures { GivesRead (λ v. map raw_block v.items) result (each_of (in_table block_part Key.Block) 0
-        (items_view items.now)) }
-{
-    let mut found = Vec::new(alloc);
-    for (index, item) in items.iter().enumerate() {
-        found.push(block_item(alloc, index, item)?)?;
-    }
-    Ok(found)
-}
-
-fn loads(alloc: Global, items: &[Value]) -> Result<Vec<RawLoad>, ReadError>
-    ensures { GivesRead (λ v. map raw_load v.items) result (each_of (in_table load_part Key.Load) 0
-        (items_view items.now)) }
-{
-    let mut found = Vec::new(alloc);
-    for (index, item) in items.iter().enumerate() {
-        found.push(load_item(alloc, index, item)?)?;
+    for (index, value) in values.iter().enumerate() {
+        found.push(item_of(alloc, key, index, value)?)?;
     }
     Ok(found)
 }
@@ -190,10 +166,10 @@ fn listed(alloc: Global, table: &Table) -> Result<Parts, ReadError>
     let joint_items = list_at(table, Key::Joint)?;
     let block_items = list_at(table, Key::Block)?;
     let load_items = list_at(table, Key::Load)?;
-    let materials = materials(alloc, material_items)?;
-    let joints = joints(alloc, joint_items)?;
-    let blocks = blocks(alloc, block_items)?;
-    let loads = loads(alloc, load_items)?;
+    let materials = items(alloc, Key::Material, material_items)?;
+    let joints = items(alloc, Key::Joint, joint_items)?;
+    let blocks = items(alloc, Key::Block, block_items)?;
+    let loads = items(alloc, Key::Load, load_items)?;
     Ok(Parts {
         version,
         sway,

@@ -1,6 +1,7 @@
 -- A rectangle's four sides, by its ranges.
 use Rattle.std.proofs.Common.{◌≡◌, ℕ, zero, suc, ◌<◌, ℤ, pos, negsuc, ◌-ℤ◌, ◌*ℤ◌, neg_ℤ, List, [], ◌∷◌, length, true}
 use Rattle.std.proofs.Common.{false, ◌⊎◌, inl, inr, refl, sym, subst, ◌∙◌, arith, int_lt}
+use Rattle.std.specs.Int.{int_min, int_max}
 use Rattle.stack_algebra.proofs.CrossProducts.{positive_cancel}
 use Rattle.std.proofs.lemmas.Int.{ints}
 use Rattle.stack_algebra.specs.IntegerOrder.{◌≺◌}
@@ -102,6 +103,10 @@ rising x u h = let t : int_lt u x ≡ false = grind (arith, ints) in rw t refl
 falling : (x u : ℤ) → u ≺ x → range_between x u ≡ record { low = u; high = x }
 falling x u h = let t : int_lt u x ≡ true = grind (arith, ints) in rw t refl
 
+turned : (x u : ℤ) → range_between x u ≡ range_between u x
+turned x u = let low : int_min x u ≡ int_min u x = grind (arith, ints) in
+    let high : int_max x u ≡ int_max u x = grind (arith, ints) in λ i. record { low = low i; high = high i }
+
 -- two numbers with a positive product are both positive, or both negative
 same_sign : (s t : ℤ) → pos 0 ≺ s *ℤ t → (pos 0 ≺ s × pos 0 ≺ t) ⊎ (s ≺ pos 0 × t ≺ pos 0)
 same_sign (pos zero) (pos m) h = absurd (omega (arith, ints))
@@ -113,52 +118,46 @@ same_sign (negsuc n) t h =
     let m = positive_cancel (pos (suc n)) (neg_ℤ t) (omega (arith, ints)) k in
     inr (omega (arith, ints), omega (arith, sums))
 
+-- a list that goes round the ranges from (x, y) to (u, v), wherever the second point lies: it is told for one that is
+-- greater by both coordinates, and for one that is less by both
+between : (ps : List Point) (x y u v : ℤ) → pos 0 ≺ (u -ℤ x) *ℤ (v -ℤ y)
+    → (x ≺ u → y ≺ v → IsBox ps (extent x u y v)) → (u ≺ x → v ≺ y → IsBox ps (extent u x v y))
+    → IsBox ps (record { x = range_between x u; y = range_between y v })
+between ps x y u v product greater less = go (same_sign (u -ℤ x) (v -ℤ y) product)
+  where
+    go : (pos 0 ≺ u -ℤ x × pos 0 ≺ v -ℤ y) ⊎ (u -ℤ x ≺ pos 0 × v -ℤ y ≺ pos 0)
+        → IsBox ps (record { x = range_between x u; y = range_between y v })
+    go (inl h) =
+        let hx : x ≺ u = omega (arith, sums) in
+        let hy : y ≺ v = omega (arith, sums) in
+        subst (IsBox ps) (λ i. record { x = sym (rising x u hx) i; y = sym (rising y v hy) i }) (greater hx hy)
+    go (inr h) =
+        let hx : u ≺ x = omega (arith, sums) in
+        let hy : v ≺ y = omega (arith, sums) in
+        subst (IsBox ps) (λ i. record { x = sym (falling x u hx) i; y = sym (falling y v hy) i }) (less hx hy)
+
+-- a list that is strictly convex goes round the ranges of its corners
+abbrev Boxed : List Point → Type 0
+Boxed ps = IsStrictlyConvex ps → IsBox ps (extent_of ps)
+
 -- from (x, y) across to (u, y), upright to (u, v), and back
-across : (x y u v : ℤ) → IsStrictlyConvex (pt x y ∷ pt u y ∷ pt u v ∷ pt x v ∷ [])
-    → IsBox (pt x y ∷ pt u y ∷ pt u v ∷ pt x v ∷ []) (extent_of (pt x y ∷ pt u y ∷ pt u v ∷ pt x v ∷ []))
+across : (x y u v : ℤ) → Boxed (pt x y ∷ pt u y ∷ pt u v ∷ pt x v ∷ [])
 across x y u v convex =
     let turn : pos 0 ≺ (u -ℤ x) *ℤ (v -ℤ y) -ℤ (y -ℤ y) *ℤ (u -ℤ x) =
     convex 0 (omega arith) 2 (omega arith) (λ e. omega (arith, e)) (λ e. omega (arith, e)) in
-    let product : pos 0 ≺ (u -ℤ x) *ℤ (v -ℤ y) = simp expand (omega (arith, sums, simp expand at turn)) in
-    go (same_sign (u -ℤ x) (v -ℤ y) product)
-  where
-    go : (pos 0 ≺ u -ℤ x × pos 0 ≺ v -ℤ y) ⊎ (u -ℤ x ≺ pos 0 × v -ℤ y ≺ pos 0)
-        → IsBox (pt x y ∷ pt u y ∷ pt u v ∷ pt x v ∷ []) (extent_of (pt x y ∷ pt u y ∷ pt u v ∷ pt x v ∷ []))
-    go (inl h) =
-        let hx : x ≺ u = omega (arith, sums) in
-        let hy : y ≺ v = omega (arith, sums) in
-        subst (IsBox (pt x y ∷ pt u y ∷ pt u v ∷ pt x v ∷ []))
-        (λ i. record { x = sym (rising x u hx) i; y = sym (rising y v hy) i }) (from_low_left x u y v hx hy)
-    go (inr h) =
-        let hx : u ≺ x = omega (arith, sums) in
-        let hy : v ≺ y = omega (arith, sums) in
-        subst (IsBox (pt x y ∷ pt u y ∷ pt u v ∷ pt x v ∷ []))
-        (λ i. record { x = sym (falling x u hx) i; y = sym (falling y v hy) i })
-        (from_next (from_next (from_low_left u x v y hx hy)))
+    between _ x y u v (simp expand (omega (arith, sums, simp expand at turn)))
+    (from_low_left x u y v)
+    (λ h k. from_next (from_next (from_low_left u x v y h k)))
 
 -- from (x, y) upright to (x, v), across to (u, v), and back
-upright : (x y u v : ℤ) → IsStrictlyConvex (pt x y ∷ pt x v ∷ pt u v ∷ pt u y ∷ [])
-    → IsBox (pt x y ∷ pt x v ∷ pt u v ∷ pt u y ∷ []) (extent_of (pt x y ∷ pt x v ∷ pt u v ∷ pt u y ∷ []))
+upright : (x y u v : ℤ) → Boxed (pt x y ∷ pt x v ∷ pt u v ∷ pt u y ∷ [])
 upright x y u v convex =
     let turn : pos 0 ≺ (x -ℤ x) *ℤ (v -ℤ y) -ℤ (v -ℤ y) *ℤ (u -ℤ x) =
     convex 0 (omega arith) 2 (omega arith) (λ e. omega (arith, e)) (λ e. omega (arith, e)) in
-    let product : pos 0 ≺ (x -ℤ u) *ℤ (v -ℤ y) = simp expand (omega (arith, sums, simp expand at turn)) in
-    go (same_sign (x -ℤ u) (v -ℤ y) product)
-  where
-    go : (pos 0 ≺ x -ℤ u × pos 0 ≺ v -ℤ y) ⊎ (x -ℤ u ≺ pos 0 × v -ℤ y ≺ pos 0)
-        → IsBox (pt x y ∷ pt x v ∷ pt u v ∷ pt u y ∷ []) (extent_of (pt x y ∷ pt x v ∷ pt u v ∷ pt u y ∷ []))
-    go (inl h) =
-        let hx : u ≺ x = omega (arith, sums) in
-        let hy : y ≺ v = omega (arith, sums) in
-        subst (IsBox (pt x y ∷ pt x v ∷ pt u v ∷ pt u y ∷ []))
-        (λ i. record { x = sym (falling x u hx) i; y = sym (rising y v hy) i })
-        (from_next (from_low_left u x y v hx hy))
-    go (inr h) =
-        let hx : x ≺ u = omega (arith, sums) in
-        let hy : v ≺ y = omega (arith, sums) in
-        subst (IsBox (pt x y ∷ pt x v ∷ pt u v ∷ pt u y ∷ []))
-        (λ i. record { x = sym (rising x u hx) i; y = sym (falling y v hy) i })
-        (from_next (from_next (from_next (from_low_left x u v y hx hy))))
+    subst (λ r. IsBox (pt x y ∷ pt x v ∷ pt u v ∷ pt u y ∷ []) (record { x = r; y = range_between y v })) (turned u x)
+    (between _ u y x v (simp expand (omega (arith, sums, simp expand at turn)))
+    (λ h k. from_next (from_low_left u x y v h k))
+    (λ h k. from_next (from_next (from_next (from_low_left x u v y h k)))))
 
 -- two edges in a row aren't both level, nor both upright
 two_level : (a b c : Point) → pos 0 ≺ triangle_of a b c → a.y ≡ b.y → b.y ≡ c.y → ⊥
@@ -187,9 +186,6 @@ then_level a b c h p (inr q) = absurd (two_upright a b c h p q)
 by_two : (P : List Point → Type 0) (a b c d b2 c2 d2 : Point) → b2 ≡ b → c2 ≡ c → d2 ≡ d
     → P (a ∷ b2 ∷ c2 ∷ d2 ∷ []) → P (a ∷ b ∷ c ∷ d ∷ [])
 by_two P a b c d b2 c2 d2 hb hc hd h = subst P (λ i. a ∷ hb i ∷ hc i ∷ hd i ∷ []) h
-
-abbrev Boxed : List Point → Type 0
-Boxed ps = IsStrictlyConvex ps → IsBox ps (extent_of ps)
 
 of_four : (a b c d : Point) → IsStrictlyConvex (a ∷ b ∷ c ∷ d ∷ [])
     → (a.y ≡ b.y) ⊎ (a.x ≡ b.x) → (b.y ≡ c.y) ⊎ (b.x ≡ c.x) → (c.y ≡ d.y) ⊎ (c.x ≡ d.x)

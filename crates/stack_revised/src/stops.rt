@@ -1,5 +1,8 @@
 //! Why a run of a problem has no end.
 
+ghost use Rattle.std.specs.Prelude.{◌≡◌};
+ghost use Rattle.stack_revised.specs.declared.stops.RevisedStop.TheVariants as revised_stop;
+
 use stack_run::RunPlace;
 use std::alloc::{AllocError, AllocFailed};
 
@@ -17,9 +20,6 @@ pub enum RevisedStop {
 }
 
 impl From<AllocError> for RevisedStop {
-    ghost use Rattle.std.specs.Prelude.{◌≡◌};
-    ghost use Rattle.stack_revised.specs.declared.stops.RevisedStop.TheVariants as revised_stop;
-
     ghost from_gives = { λ _ e. e ≡ revised_stop.Memory };
 
     fn from(_e: AllocError) -> RevisedStop {
@@ -28,9 +28,6 @@ impl From<AllocError> for RevisedStop {
 }
 
 impl<T: Drop> From<AllocFailed<T>> for RevisedStop {
-    ghost use Rattle.std.specs.Prelude.{◌≡◌};
-    ghost use Rattle.stack_revised.specs.declared.stops.RevisedStop.TheVariants as revised_stop;
-
     ghost from_gives = { λ _ e. e ≡ revised_stop.Memory };
 
     fn from(_e: AllocFailed<T>) -> RevisedStop {

@@ -58,6 +58,13 @@ pub record SkipsOnly (P : ℕ → Type 0) (jumps : List ℕ) : Type 0 where
 abbrev pub AreJumps : (row : List ℤ) → (jumps : List ℕ) → Type 0
 AreJumps row jumps = SkipsOnly (λ x. number_at row x ≡ pos 0) jumps
 
+-- the numbers of a row, with jumps and a top, beside another row as wide
+pub record AreBeside (numbers other : List ℤ) (jumps : List ℕ) (top : ℕ) : Type 0 where
+  pub width : length other ≡ length numbers
+  pub long : length jumps ≡ length numbers
+  pub skips : AreJumps numbers jumps
+  pub topped : IsTopped numbers top
+
 -- the same row over another denominator
 pub record IsSameRow (old : List ℤ) (d : ℤ) (new : List ℤ) (e : ℤ) : Type 0 where
   pub positive : pos 0 <ℤ e

@@ -3,7 +3,7 @@
 ghost use Rattle.std.specs.Prelude.{◌≡◌, ℕ, suc, ◌<◌, ◌^◌, ℤ, pos, ◌*ℤ◌, ◌-ℤ◌, ◌<ℤ◌, List, length, get_or};
 ghost use Rattle.std.specs.Prelude.{OnSome, IfSome};
 ghost use Rattle.stack_rows.specs.RowForm.{AreJumps, IsTopped, IsPartTopped, IsQuotient, IsDividedPart, IsTaken};
-ghost use Rattle.stack_rows.specs.RowForm.{AreSmall};
+ghost use Rattle.stack_rows.specs.RowForm.{AreSmall, AreBeside};
 
 use crate::divider::Divider;
 use crate::factors::Factors;
@@ -116,12 +116,9 @@ fn plain_first(
     plain: &PlainStep,
     top: u128,
 ) -> Option<u128>
-    requires width { length other.now.numbers.items ≡ length numbers.old }
-    requires long { length jumps.now ≡ length numbers.old }
     requires count { length numbers.old ≡ suc count }
-    requires jumps { AreJumps numbers.old jumps.now }
+    requires beside { AreBeside numbers.old other.now.numbers.items jumps.now top }
     requires other_jumps { AreJumps other.now.numbers.items jumps.now }
-    requires top { IsTopped numbers.old top }
     requires small { AreSmall plain.now.times plain.now.less top other.now.top }
     ensures part { OnSome result (IsDividedPart numbers.old other.now.numbers.items plain.now.times plain.now.less
         (pos 1) 0 count numbers.new) }
@@ -157,11 +154,8 @@ fn plain_after(
     plain: &PlainStep,
     top: u128,
 ) -> Option<u128>
-    requires width { length other.now.numbers.items ≡ length numbers.old }
-    requires long { length jumps.now ≡ length numbers.old }
-    requires jumps { AreJumps numbers.old jumps.now }
+    requires beside { AreBeside numbers.old other.now.numbers.items jumps.now top }
     requires other_jumps { AreJumps other.now.numbers.items jumps.now }
-    requires top { IsTopped numbers.old top }
     requires small { AreSmall plain.now.times plain.now.less top other.now.top }
     ensures part { OnSome result (IsDividedPart numbers.old other.now.numbers.items plain.now.times plain.now.less
         (pos 1) 0 (length numbers.old) numbers.new) }
@@ -183,10 +177,7 @@ fn plainly_changed(
     plain: &PlainStep,
     top: u128,
 ) -> Option<u128>
-    requires width { length other.now.numbers.items ≡ length numbers.old }
-    requires long { length jumps.old ≡ length numbers.old }
-    requires jumps { AreJumps numbers.old jumps.old }
-    requires top { IsTopped numbers.old top }
+    requires beside { AreBeside numbers.old other.now.numbers.items jumps.old top }
     requires small { AreSmall plain.now.times plain.now.less top other.now.top }
     ensures part { OnSome result (IsDividedPart numbers.old other.now.numbers.items plain.now.times plain.now.less
         (pos 1) 0 (length numbers.old) numbers.new) }
@@ -212,11 +203,8 @@ fn numbers_after(
     s: &Step,
     top: u128,
 ) -> Option<Divided>
-    requires width { length other.now.numbers.items ≡ length numbers.old }
-    requires long { length jumps.now ≡ length numbers.old }
-    requires jumps { AreJumps numbers.old jumps.now }
+    requires beside { AreBeside numbers.old other.now.numbers.items jumps.now top }
     requires other_jumps { AreJumps other.now.numbers.items jumps.now }
-    requires top { IsTopped numbers.old top }
     ensures ok { IfSome result (λ d. IsDividedPart numbers.old other.now.numbers.items s.now.factors.times
         s.now.factors.less d.by 0 (length numbers.old) numbers.new) }
     ensures top { IfSome result (λ d. IsTopped numbers.new d.top) }
@@ -258,11 +246,8 @@ fn made_after(
     over: i128,
     top: u128,
 ) -> Option<Made>
-    requires width { length other.now.numbers.items ≡ length numbers.old }
-    requires long { length jumps.now ≡ length numbers.old }
-    requires jumps { AreJumps numbers.old jumps.now }
+    requires beside { AreBeside numbers.old other.now.numbers.items jumps.now top }
     requires other_jumps { AreJumps other.now.numbers.items jumps.now }
-    requires top { IsTopped numbers.old top }
     ensures taken { IfSome result (λ m. IsTaken numbers.old over other.now.numbers.items s.now.factors.times
         s.now.factors.less numbers.new m.under) }
     ensures jumps { IfSome result (λ m. AreJumps numbers.new jumps.now) }
@@ -292,10 +277,7 @@ fn changed(
     over: i128,
     top: u128,
 ) -> Option<Made>
-    requires width { length other.now.numbers.items ≡ length numbers.old }
-    requires long { length jumps.old ≡ length numbers.old }
-    requires jumps { AreJumps numbers.old jumps.old }
-    requires top { IsTopped numbers.old top }
+    requires beside { AreBeside numbers.old other.now.numbers.items jumps.old top }
     ensures taken { IfSome result (λ m. IsTaken numbers.old over other.now.numbers.items s.now.factors.times
         s.now.factors.less numbers.new m.under) }
     ensures long { length jumps.new ≡ length jumps.old }

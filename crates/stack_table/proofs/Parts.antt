@@ -1,6 +1,7 @@
 -- A block in parts, as two splits lend it, and a block of rows above its last row.
 use Rattle.std.proofs.Common.{◌≡◌, refl, sym, ap, ◌∙◌, ℕ, zero, suc, ◌<◌, ◌≤◌, ◌+◌, ◌*◌, List, [], ◌∷◌, ◌++◌, length}
-use Rattle.std.proofs.Common.{take, drop, arith, Bool, true, length-drop, append-nil, subst₂, ℤ}
+use Rattle.std.proofs.Common.{take, drop, arith, Bool, true, length-drop, append-nil, subst₂, ℤ, take-append-drop}
+use Rattle.std.proofs.Common.{length-take-le}
 use Rattle.stack_rational.proofs.Common.{ℕ_discrete, Fraction, changed, changed-same, changed-other, fraction_fits}
 use Rattle.stack_rational.proofs.Common.{is_zero}
 use Rattle.std.proofs.Math.Nat.{suc-mul}
@@ -86,18 +87,32 @@ module _ {V : Type 0} (e : V → Fraction) {w r : ℕ} {cells above last : List 
         ∙ sym (ap (λ (f : ℕ → Fraction). f j) (changed-other (cell_of e w cells) r o i d))
   ]
 
-pub two_parts : {V : Type 0} (e : V → Fraction) (m : ℤ) (cells : List V) (marks : List Bool) (n : ℕ) →
-    n ≤ length cells → IsBlock m e cells marks →
-    (above last : List V) (ms ns : List Bool) → above ≡ take n cells → last ≡ drop n cells →
-    ms ≡ take n marks → ns ≡ drop n marks →
-    IsBlock m e above ms × IsBlock m e last ns
-two_parts e m cells marks n l h above last ms ns ea el fa fl = (
-  subst₂ (λ (xs : List _) (bs : List Bool). IsBlock m e xs bs) (sym ea) (sym fa)
-      (block_take e m n cells marks l h),
-  subst₂ (λ (xs : List _) (bs : List Bool). IsBlock m e xs bs) (sym el) (sym fl)
-      (block_drop e m n cells marks h),
-)
-
 -- the length of the last row
 pub last_length : (r w n last : ℕ) → n ≡ suc r * w → last + r * w ≡ n → last ≡ w
 last_length r w n last e h = omega (arith, e, h, suc-mul r w)
+
+-- a block of rows, split above its last row
+pub record LastSplit {V : Type 0} (m : ℤ) (e : V → Fraction) (w r : ℕ) (cells above last : List V)
+    (ms ns : List Bool) : Type 0 where
+  pub above_is : IsBlock m e above ms
+  pub last_is : IsBlock m e last ns
+  pub ends : EndsIn w r cells above last
+
+-- what two splits above the last row lend of a block and its marks
+pub last_split : {V : Type 0} (e : V → Fraction) (m : ℤ) {w r : ℕ} {cells above last : List V}
+    {marks ms ns : List Bool} → length cells ≡ suc r * w → IsBlock m e cells marks →
+    above ≡ take (r * w) cells → last ≡ drop (r * w) cells → ms ≡ take (r * w) marks → ns ≡ drop (r * w) marks →
+    LastSplit m e w r cells above last ms ns
+last_split {V} e m {w} {r} {cells} {above} {last} {marks} n h ea el fa fl =
+    let k : r * w ≤ length cells = omega (arith, n, suc-mul r w) in record {
+      above_is = subst₂ (λ (xs : List V) (bs : List Bool). IsBlock m e xs bs) (sym ea) (sym fa)
+          (block_take e m (r * w) cells marks k h);
+      last_is = subst₂ (λ (xs : List V) (bs : List Bool). IsBlock m e xs bs) (sym el) (sym fl)
+          (block_drop e m (r * w) cells marks h);
+      ends = record {
+        whole = sym (take-append-drop (r * w) cells) ∙ (λ i. sym ea i ++ sym el i);
+        rows_above = ap length ea ∙ length-take-le (r * w) cells k;
+        row_length = ap length el ∙ last_length r w (length cells) (length (drop (r * w) cells)) n
+            (omega (arith, k, length-drop (r * w) cells));
+      };
+    }

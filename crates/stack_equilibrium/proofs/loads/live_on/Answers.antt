@@ -21,4 +21,4 @@ returns-clause-value c =
     ∙ (λ z. sway_load (to_z-of_z w64 c.sway-x.result.0 fits_x z, to_z-of_z w64 c.sway-x.result.1 fits_y z)
     (to_z-of_z w64 c.material-unit.result.weight fits_w z) c.polygon-outline.result.now)
     ∙ (λ z. sway_load (c.sway-x.ensures.value z) (unit z) (c.polygon-outline.ensures.value z)) in
-    c.with_sway.ensures.value ∙ (λ z. wrench_sum (sway z) (c.listed_on-listed.ensures.value z))
+    c.with_listed.ensures.value ∙ (λ z. wrench_sum (sway z) (c.listed_on-listed.ensures.value z))

@@ -3,7 +3,7 @@ use mir.Syntax.{w64, w128}
 use Rattle.std.proofs.lemmas.Int.{to_z-of_z}
 use Rattle.stack_polygon.specs.Area.{twice_area_of, six_moments_of}
 use Rattle.stack_whole.specs.declared.whole.Whole.{Whole}
-use Rattle.stack_equilibrium.specs.SwaySizes.{IsSwayLoad}
+use Rattle.stack_equilibrium.specs.SwaySizes.{IsOwnLoad}
 use Rattle.stack_statics.specs.Sway.{sway_by}
 use Rattle.stack_statics.proofs.SwaySums.{sways}
 use Rattle.stack_equilibrium.proofs.SwaySizes.{sway_within}
@@ -42,6 +42,6 @@ returns-clause-value c =
     ∙ (λ i. (six_moments_of ps).1 -ℤ pos 3 *ℤ (c.corner-corner.ensures.value i).y *ℤ twice_area_of ps))
 
 pub returns-clause-size : goal.returns-clause-size
-returns-clause-size c = subst IsSwayLoad (sym (returns-clause-value c))
+returns-clause-size c = subst IsOwnLoad (sym (returns-clause-value c))
     (sway_within (c.args.x, c.args.y) c.args.unit c.args.outline.now c.requires.x c.requires.y c.requires.unit
     c.valid.ensures)

@@ -6,21 +6,17 @@ use Rattle.stack_judge.specs.Certifying.{GivesChecked}
 use Rattle.stack_judge.proofs.certifying.certify.Goals as goal
 
 pub certify_at-requires-clause-end : goal.certify_at-requires-clause-end
-certify_at-requires-clause-end g c = some_last c.args.s.now c.args.e.now c.last_table.result.now c.last_table.ensures
-    c.kind_of.result c.kind_of.ensures c.requires
+certify_at-requires-clause-end g c = some_last c.last_table.ensures c.kind_of.ensures c.requires
 
 pub certify_at-requires-clause-reads : goal.certify_at-requires-clause-reads
-certify_at-requires-clause-reads g c = reads_ray c.args.s.now c.args.e.now c.last_table.result.now c.last_table.ensures
-    c.kind_of.result c.kind_of.ensures c.run_laws.ensures.ends c.requires
+certify_at-requires-clause-reads g c =
+    reads_ray c.last_table.ensures c.kind_of.ensures c.run_laws.ensures.ends c.requires
 
 pub returns-clause-gives : goal.returns-clause-gives
 returns-clause-gives g c q h = subst (λ (x : End Fraction). GivesChecked c.certify_at.result q c.args.s.now x)
-    (same_end c.args.s.now c.args.e.now c.last_table.result.now c.last_table.ensures
-    c.kind_of.result c.kind_of.ensures)
-    (c.certify_at.ensures.gives q (is_last c.args.s.now c.args.e.now c.last_table.result.now c.last_table.ensures
-    c.kind_of.result c.kind_of.ensures q h))
+    (same_end c.args.e.now c.last_table.ensures c.kind_of.ensures)
+    (c.certify_at.ensures.gives q (is_last c.last_table.ensures c.kind_of.ensures q h))
 
 pub returns-clause-judged : goal.returns-clause-judged
-returns-clause-judged g c q h = c.certify_at.ensures.judged q
-    (is_last c.args.s.now c.args.e.now c.last_table.result.now c.last_table.ensures c.kind_of.result
-    c.kind_of.ensures q h)
+returns-clause-judged g c q h =
+    c.certify_at.ensures.judged q (is_last c.last_table.ensures c.kind_of.ensures q h)

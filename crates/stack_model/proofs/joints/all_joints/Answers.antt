@@ -1,15 +1,12 @@
-use Rattle.std.proofs.lemmas.Result.{err_from_is_err_and}
 use Rattle.stack_model.specs.Raw.{raw_joint}
 use Rattle.stack_model.specs.Content.{add_joint}
 use Rattle.stack_model.proofs.Followed.{follows, stops, ended}
 use Rattle.stack_model.proofs.joints.all_joints.Goals as goal
 
 pub returns-in_err-so_far : goal.returns-in_err-so_far
-returns-in_err-so_far c =
-    let p = err_from_is_err_and c.from_residual.result c.from_residual.ensures.1 in
-    rw (p.1, p.2) (stops (add_joint c.args.materials.now) raw_joint c.args.raws.now c.loop-index.index
-    c.in_err-so_far.field-0.0 c.index-raws-index.result _ _
-    c.loop-index-test.true c.index-raws-index.is c.in_err-so_far.ensures c.loop-index.invariant)
+returns-in_err-so_far c = stops (add_joint c.args.materials.now) raw_joint c.args.raws.now c.loop-index.index _ _ _
+    c.index-raws-index.result _ _ c.from_residual.ensures.1
+    c.loop-index-test.true c.index-raws-index.is c.in_err-so_far.ensures c.loop-index.invariant
 
 pub loop-index-preserved : goal.loop-index-preserved
 loop-index-preserved c = follows (add_joint c.args.materials.now) raw_joint c.args.raws.now

@@ -9,12 +9,12 @@ use Rattle.stack_rational.proofs.common_divisor.divisor.Goals.{After-divisor_of-
 size_a : (g : _) (c : After-divisor_of-g g) → c.unsigned_abs.result ≡ nat_abs (g.T.Number.value c.args.a)
 size_a g c = c.unsigned_abs.ensures.value
     ∙ ap nat_abs (recast g.T.Integer.MAX c.as_broad.result _ c.as_broad.ensures c.requires.a
-    (g.met.T.Integer.size_law g.met.T.Integral.exact_law).1)
+    g.met.T.Integer.laws.greatest.1)
 
 size_b : (g : _) (c : After-divisor_of-g g) → c.unsigned_abs-2.result ≡ nat_abs (g.T.Number.value c.args.b)
 size_b g c = c.unsigned_abs-2.ensures.value
     ∙ ap nat_abs (recast g.T.Integer.MAX c.as_broad-2.result _ c.as_broad-2.ensures c.requires.b
-    (g.met.T.Integer.size_law g.met.T.Integral.exact_law).1)
+    g.met.T.Integer.laws.greatest.1)
 
 pub returns-in-Some-clause-size : goal.returns-in-Some-clause-size
 returns-in-Some-clause-size g c = let p = (goal.at.returns-in-Some-clause-size g c).After-divisor_of-g in
@@ -29,7 +29,7 @@ returns-in-Some-clause-gcd g c = let p = (goal.at.returns-in-Some-clause-gcd g c
 -- the divisor is there
 never : (g : _) (c : goal.In-None g) → c.unsigned_abs.result ≡ nat_abs (g.T.Number.value c.args.a) →
     c.unsigned_abs-2.result ≡ nat_abs (g.T.Number.value c.args.b) → ⊥
-never g c a b = c.in-None.ensures.value g.met.T.Integral.exact_law (g.met.T.Integer.keeps_law _
+never g c a b = c.in-None.ensures.value g.met.T.Integral.exact_law (g.met.T.Integer.laws.keeps _
     (none_fits g.T.Integer.MAX (g.T.Number.value c.args.a) (g.T.Number.value c.args.b) _ _ _ a b
     c.divisor_of-g.ensures c.requires.a c.requires.b))
 

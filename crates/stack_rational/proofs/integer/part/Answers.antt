@@ -8,9 +8,9 @@ pub div-requires : goal.div-requires
 div-requires g c = g.met.T.Num.can_div_law c.args.a c.args.g
     (λ e. (
       (g.T.Number.nonzero_law (g.T.Number.value c.args.g) e
-          (g.met.T.Integer.keeps_law _ c.requires.divisor)).1
+          (g.met.T.Integer.laws.keeps _ c.requires.divisor)).1
           (λ h. omega (arith, ints, c.requires.positive, h)),
-      g.met.T.Integer.keeps_law _ (omega (
+      g.met.T.Integer.laws.keeps _ (omega (
         arith,
         div-size (g.T.Number.value c.args.a) (g.T.Number.value c.args.g),
         c.requires.size,

@@ -14,7 +14,7 @@ module _ (v z m l : ℤ) (is : v ≡ z) (low : m ≡ l) where
 
 pub returns-in_err-y : goal.returns-in_err-y
 returns-in_err-y g c = λ z k. subst (Checks g.T.Number.value (Within g.T.Integer.MAX) z) (sym c.from_residual.ensures)
-    (λ w. subst (Checks g.T.Number.value g.T.Number.fits z) c.in_err-y.was k (g.met.T.Integer.keeps_law z w))
+    (λ w. subst (Checks g.T.Number.value g.T.Number.fits z) c.in_err-y.was k (g.met.T.Integer.laws.keeps z w))
 
 pub returns-then-eq : goal.returns-then-eq
 returns-then-eq g c = λ z k w.
@@ -23,14 +23,14 @@ returns-then-eq g c = λ z k w.
     let least = is_least (g.T.Number.value c.in_ok-y.y) z (g.T.Number.value c.min_value.result) g.T.Bounded.low y.1
     (c.min_value.ensures.value e) c.eq.result (g.T.PartialEq.eq c.in_ok-y.y c.min_value.result) c.if-eq.true
     c.eq.ensures (g.met.T.Number.eq_law c.in_ok-y.y c.min_value.result e).0 in
-    omega (arith, w, g.met.T.Integer.lowest_law e, least)
+    omega (arith, w, g.met.T.Integer.laws.lowest, least)
 
 pub returns-else-eq : goal.returns-else-eq
 returns-else-eq g c = λ z k.
     let e = g.met.T.Integral.exact_law in
     let y = subst (Checks g.T.Number.value g.T.Number.fits z) c.in_ok-y.was k in (
-      g.met.T.Integer.least_law z y.0 (isnt_least (g.T.Number.value c.in_ok-y.y) z (g.T.Number.value c.min_value.result)
-          g.T.Bounded.low y.1 (c.min_value.ensures.value e) c.eq.result
+      g.met.T.Integer.laws.least z y.0 (isnt_least (g.T.Number.value c.in_ok-y.y) z
+          (g.T.Number.value c.min_value.result) g.T.Bounded.low y.1 (c.min_value.ensures.value e) c.eq.result
           (g.T.PartialEq.eq c.in_ok-y.y c.min_value.result)
           c.if-eq.false c.eq.ensures (g.met.T.Number.eq_law c.in_ok-y.y c.min_value.result e).1),
       y.1,

@@ -17,7 +17,7 @@ returns-clause-taken c =
       c.in_ok-under.ensures,
     ) in
     taken_over c.args.numbers.now c.args.other.now.numbers.items c.numbers_after.new.numbers f.times f.less
-    d.by c.requires.width c.numbers_after.auto.numbers c.in_ok-divided.ensures.ok c.args.over
+    d.by c.requires.beside.width c.numbers_after.auto.numbers c.in_ok-divided.ensures.ok c.args.over
     (to_z w128 (of_z w128 c.in_ok-under.under)) whole positive
 
 pub returns-clause-jumps : goal.returns-clause-jumps
@@ -26,5 +26,5 @@ returns-clause-jumps c =
     let f = c.args.s.now.factors in
     let positive : pos 0 <ℤ d.by = search rules in
     kept_jumps c.args.numbers.now c.args.other.now.numbers.items c.numbers_after.new.numbers f.times f.less
-    d.by c.requires.width c.numbers_after.auto.numbers c.in_ok-divided.ensures.ok positive
-    c.requires.jumps c.requires.other_jumps
+    d.by c.requires.beside.width c.numbers_after.auto.numbers c.in_ok-divided.ensures.ok positive
+    c.requires.beside.skips c.requires.other_jumps

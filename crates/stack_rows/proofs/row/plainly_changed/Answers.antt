@@ -8,5 +8,5 @@ returns-in-Some-clause-jumps c =
     let one : pos 0 <ℤ pos 1 = omega (arith, ints) in
     let j = c.join_row.ensures in
     kept_jumps c.args.numbers.now c.args.other.now.numbers.items c.plain_after.new.numbers c.args.plain.now.times
-    c.args.plain.now.less (pos 1) c.requires.width c.plain_after.auto.numbers c.in-Some.ensures.part one
-    (j.own c.args.numbers.now c.requires.jumps) j.other
+    c.args.plain.now.less (pos 1) c.requires.beside.width c.plain_after.auto.numbers c.in-Some.ensures.part one
+    (j.own c.args.numbers.now c.requires.beside.skips) j.other

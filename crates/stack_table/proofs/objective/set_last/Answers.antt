@@ -1,32 +1,20 @@
-use Rattle.std.proofs.Common.{◌≡◌, sym, ap, subst, ◌∙◌, ℕ, ◌*◌, ◌<◌, length, cond, eqb, arith, IfSome, pos, negsuc}
+use Rattle.std.proofs.Common.{◌≡◌, sym, ap, subst, ◌∙◌, ℕ, ◌<◌, length, cond, eqb, arith, IfSome, pos, negsuc}
 use Rattle.stack_rational.proofs.Common.{of, fraction_fits}
 use Rattle.std.proofs.Math.Nat.{suc-mul}
 use Rattle.stack_rational.proofs.Fitting.{zero_fits}
-use Rattle.stack_table.specs.Block.{item_value, cell_of, IsBlock}
+use Rattle.stack_table.specs.Block.{item_value, cell_of}
 use Rattle.stack_table.proofs.BlockRows.{row_in, block_join, part_block, part_value}
-use Rattle.stack_table.proofs.Parts.{EndsIn, two_parts, last_length, last_changed, first_rows}
+use Rattle.stack_table.proofs.Parts.{LastSplit, last_split, last_length, last_changed, first_rows}
 use Rattle.stack_table.proofs.objective.set_last.Goals as goal
-use Rattle.stack_table.proofs.objective.set_last.Goals.{After-split_at_mut-above, After-split_at_mut-marks_above}
-use Rattle.stack_table.proofs.objective.set_last.Goals.{In-Some}
+use Rattle.stack_table.proofs.objective.set_last.Goals.{After-split_at_mut-marks_above, In-Some}
 
--- both parts are blocks, and the last is the last row
-parts : (g : _) (c : After-split_at_mut-marks_above g) →
-    IsBlock g.S.Exact.MAX g.S.Exact.exact c.split_at_mut-above.result.0.now c.split_at_mut-marks_above.result.0.now
-    × IsBlock g.S.Exact.MAX g.S.Exact.exact c.split_at_mut-above.result.1.now c.split_at_mut-marks_above.result.1.now
-parts g c = two_parts g.S.Exact.exact g.S.Exact.MAX c.args.cells.now c.args.marks.now (c.args.rows * c.args.width)
-    (omega (arith, c.requires.whole, suc-mul c.args.rows c.args.width)) c.requires.block
-    c.split_at_mut-above.result.0.now c.split_at_mut-above.result.1.now c.split_at_mut-marks_above.result.0.now
-    c.split_at_mut-marks_above.result.1.now c.split_at_mut-above.ensures.front c.split_at_mut-above.ensures.back
+split : (g : _) (c : After-split_at_mut-marks_above g) →
+    LastSplit g.S.Exact.MAX g.S.Exact.exact c.args.width c.args.rows
+    c.args.cells.now c.split_at_mut-above.result.0.now c.split_at_mut-above.result.1.now
+    c.split_at_mut-marks_above.result.0.now c.split_at_mut-marks_above.result.1.now
+split g c = last_split g.S.Exact.exact g.S.Exact.MAX c.requires.whole c.requires.block
+    c.split_at_mut-above.ensures.front c.split_at_mut-above.ensures.back
     c.split_at_mut-marks_above.ensures.front c.split_at_mut-marks_above.ensures.back
-
-ends : (g : _) (c : After-split_at_mut-above g) → EndsIn c.args.width c.args.rows c.args.cells.now
-    c.split_at_mut-above.result.0.now c.split_at_mut-above.result.1.now
-ends g c = record {
-  whole = c.split_at_mut-above.ensures.value;
-  rows_above = c.split_at_mut-above.ensures.front_len;
-  row_length = last_length c.args.rows c.args.width (length c.args.cells.now)
-      (length c.split_at_mut-above.result.1.now) c.requires.whole c.split_at_mut-above.ensures.back_len;
-}
 
 below : (g : _) (c : In-Some g) → c.in-Some.r < c.args.rows
 below g c = subst (λ o. IfSome o (λ r. r < c.args.rows)) c.in-Some.is c.requires.row_in
@@ -36,7 +24,7 @@ set_cell-requires-clause-block g c =
     let p = goal.at.set_cell-requires-clause-block g c in
     rw (c.copy_from_slice.ensures.after, c.copy_from_slice-in-Some.ensures.after)
     (part_block g.S.Exact.exact g.S.Exact.MAX c.args.width c.in-Some.r c.split_at_mut-above.result.0.now
-    c.split_at_mut-marks_above.result.0.now (parts g p.After-split_at_mut-marks_above).0
+    c.split_at_mut-marks_above.result.0.now (split g p.After-split_at_mut-marks_above).above_is
     (row_in c.in-Some.r c.args.rows c.args.width
     (length c.split_at_mut-above.result.0.now) (below g p.In-Some) c.split_at_mut-above.ensures.front_len))
 
@@ -46,12 +34,13 @@ set_cell-requires-clause-fits g c = ap (fraction_fits g.S.Exact.MAX) c.zero.ensu
 
 pub clear_row-requires : goal.clear_row-requires
 clear_row-requires g c = record {
-  block = (parts g (goal.at.clear_row-requires g c).After-split_at_mut-marks_above).1;
+  block = (split g (goal.at.clear_row-requires g c).After-split_at_mut-marks_above).last_is;
 }
 
 pub returns-in-Some-clause-block : goal.returns-in-Some-clause-block
 returns-in-Some-clause-block g c = block_join g.S.Exact.exact g.S.Exact.MAX _ _ _ _
-    (parts g (goal.at.returns-in-Some-clause-block g c).After-split_at_mut-marks_above).0 c.set_cell.ensures.block
+    (split g (goal.at.returns-in-Some-clause-block g c).After-split_at_mut-marks_above).above_is
+    c.set_cell.ensures.block
 
 pub returns-in-Some-clause-ok : goal.returns-in-Some-clause-ok
 returns-in-Some-clause-ok g c =
@@ -60,13 +49,13 @@ returns-in-Some-clause-ok g c =
     let r = c.in-Some.r in
     let p = goal.at.returns-in-Some-clause-ok g c in
     let l = below g p.In-Some in
-    let end = ends g p.After-split_at_mut-above in
+    let end = (split g p.After-split_at_mut-marks_above).ends in
     let room = row_in r c.args.rows w
     (length c.split_at_mut-above.result.0.now) l c.split_at_mut-above.ensures.front_len in
     let copied : (j : ℕ) → item_value e c.copy_from_slice.new.self j ≡ cell_of e w c.args.cells.now r j =
     λ j. ap (λ ys. item_value e ys j) c.copy_from_slice.ensures.after
     ∙ part_value e g.S.Exact.MAX w r c.split_at_mut-above.result.0.now c.split_at_mut-marks_above.result.0.now
-    (parts g p.After-split_at_mut-marks_above).0 room j ∙ first_rows e end r j l in
+    (split g p.After-split_at_mut-marks_above).above_is room j ∙ first_rows e end r j l in
     rw c.in-Some.is (last_changed e end
     c.set_cell.new.cells (λ j. cond (eqb j c.args.column) (of (pos 0)) (cell_of e w c.args.cells.now r j))
     (c.set_cell.auto.cells ∙ c.copy_from_slice.ensures.len)
@@ -74,13 +63,13 @@ returns-in-Some-clause-ok g c =
 
 pub returns-in-None-clause-block : goal.returns-in-None-clause-block
 returns-in-None-clause-block g c = block_join g.S.Exact.exact g.S.Exact.MAX _ _ _ _
-    (parts g (goal.at.returns-in-None-clause-block g c).After-split_at_mut-marks_above).0
+    (split g (goal.at.returns-in-None-clause-block g c).After-split_at_mut-marks_above).above_is
     c.set_cell-in-None.ensures.block
 
 pub returns-in-None-clause-ok : goal.returns-in-None-clause-ok
 returns-in-None-clause-ok g c =
     rw c.in-None.is (last_changed g.S.Exact.exact
-    (ends g (goal.at.returns-in-None-clause-ok g c).After-split_at_mut-above)
+    (split g (goal.at.returns-in-None-clause-ok g c).After-split_at_mut-marks_above).ends
     c.set_cell-in-None.new.cells (λ j. cond (eqb j c.args.column) (of (negsuc 0)) (of (pos 0)))
     (c.set_cell-in-None.auto.cells ∙ c.clear_row.auto.cells)
     (λ j. c.set_cell-in-None.ensures.ok j
@@ -132,7 +121,7 @@ slice_bounds-copy_from_slice-count-in-Some g c = omega arith
 pub copy_from_slice-requires : goal.copy_from_slice-requires
 copy_from_slice-requires g c = omega (
   arith,
-  (ends g (goal.at.copy_from_slice-requires g c).After-split_at_mut-above).row_length,
+  (split g (goal.at.copy_from_slice-requires g c).After-split_at_mut-marks_above).ends.row_length,
   row_in c.in-Some.r c.args.rows c.args.width
       (length c.split_at_mut-above.result.0.now) (below g (goal.at.copy_from_slice-requires g c).In-Some)
       c.split_at_mut-above.ensures.front_len,
@@ -151,13 +140,14 @@ copy_from_slice-requires-in-Some g c = omega (
 
 pub set_cell-requires-clause-column_in : goal.set_cell-requires-clause-column_in
 set_cell-requires-clause-column_in g c =
-    let p = (goal.at.set_cell-requires-clause-column_in g c).After-split_at_mut-above in
-    subst (λ n. c.args.column < n) (sym (c.copy_from_slice.ensures.len ∙ (ends g p).row_length)) c.requires.column_in
+    let p = (goal.at.set_cell-requires-clause-column_in g c).After-split_at_mut-marks_above in
+    subst (λ n. c.args.column < n) (sym (c.copy_from_slice.ensures.len ∙ (split g p).ends.row_length))
+    c.requires.column_in
 
 pub set_cell-requires-in-None-clause-column_in : goal.set_cell-requires-in-None-clause-column_in
 set_cell-requires-in-None-clause-column_in g c =
-    let p = (goal.at.set_cell-requires-in-None-clause-column_in g c).After-split_at_mut-above in
-    subst (λ n. c.args.column < n) (sym (c.clear_row.auto.cells ∙ (ends g p).row_length)) c.requires.column_in
+    let p = (goal.at.set_cell-requires-in-None-clause-column_in g c).After-split_at_mut-marks_above in
+    subst (λ n. c.args.column < n) (sym (c.clear_row.auto.cells ∙ (split g p).ends.row_length)) c.requires.column_in
 
 pub set_cell-requires-in-None-clause-fits : goal.set_cell-requires-in-None-clause-fits
 set_cell-requires-in-None-clause-fits g c = c.minus_one.ensures.fits

@@ -6,7 +6,7 @@ use Rattle.stack_model.proofs.Sound.{sound}
 use Rattle.stack_model.proofs.model.Model.new.Goals as goal
 
 pub of-requires : goal.of-requires
-of-requires c = rw (c.into_kept.ensures, c.into_kept-2.ensures)
+of-requires c = rw (c.materials.view_is, c.bodies-2.view_is)
     (subst (λ v. IsSound (structure_with v c.in_ok-head.head.sway c.in_ok-materials.materials
     c.in_ok-materials.joints.items c.in_ok-bodies.bodies c.in_ok-loads.loads.items))
     (sym c.in_ok-head.ensures.version)

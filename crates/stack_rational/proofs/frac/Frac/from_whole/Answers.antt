@@ -13,7 +13,7 @@ one g c = ap g.T.Number.value c.one.ensures ∙ g.met.T.One.one_law g.met.T.Inte
 
 pub made-requires : goal.made-requires
 made-requires g c = whole-stored _ _ _ _ (is g c) (one g c)
-    (g.met.T.Integer.size_law g.met.T.Integral.exact_law).0
+    g.met.T.Integer.laws.greatest.0
 
 pub returns-in-Some-clause-ok : goal.returns-in-Some-clause-ok
 returns-in-Some-clause-ok g c = c.made.ensures ∙ whole-is _ _ _ (is g c.before).1 (one g c.before)

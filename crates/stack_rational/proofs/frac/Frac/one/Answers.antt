@@ -9,7 +9,7 @@ two : (g : _) (c : goal.After-one-2 g) → g.T.Number.value c.one-2.result ≡ p
 two g c = ap g.T.Number.value c.one-2.ensures ∙ g.met.T.One.one_law g.met.T.Integral.exact_law
 
 pub made-requires : goal.made-requires
-made-requires g c = let size = g.met.T.Integer.size_law g.met.T.Integral.exact_law in
+made-requires g c = let size = g.met.T.Integer.laws.greatest in
     whole-stored g.T.Integer.MAX _ _ _ (omega (arith, size.0), one g c) (two g c) size.0
 
 pub returns : goal.returns

@@ -5,12 +5,12 @@ use Rattle.stack_rational.proofs.frac.Frac.parts.Goals as goal
 
 pub returns-clause-num : goal.returns-clause-num
 returns-clause-num g c = recast g.T.Integer.MAX c.as_broad.result (g.T.Number.value c.self.inside.num)
-    c.as_broad.ensures c.self.invariant.stored.num (g.met.T.Integer.size_law g.met.T.Integral.exact_law).1
+    c.as_broad.ensures c.self.invariant.stored.num g.met.T.Integer.laws.greatest.1
     ∙ stored-num _ _ _ _ c.self.invariant.stored c.self.view_is
 
 pub returns-clause-den : goal.returns-clause-den
 returns-clause-den g c = recast g.T.Integer.MAX c.as_broad-2.result (g.T.Number.value c.self.inside.den)
-    c.as_broad-2.ensures c.self.invariant.stored.den (g.met.T.Integer.size_law g.met.T.Integral.exact_law).1
+    c.as_broad-2.ensures c.self.invariant.stored.den g.met.T.Integer.laws.greatest.1
     ∙ stored-den _ _ _ _ c.self.invariant.stored c.self.view_is
 
 pub returns-clause-fits : goal.returns-clause-fits

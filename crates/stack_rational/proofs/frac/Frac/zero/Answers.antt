@@ -10,7 +10,7 @@ zero g c = ap g.T.Number.value c.zero.ensures ∙ g.met.T.Zero.zero_law g.met.T.
 
 pub made-requires : goal.made-requires
 made-requires g c = whole-stored g.T.Integer.MAX _ _ _ (omega arith, zero g c) (one g c)
-    (g.met.T.Integer.size_law g.met.T.Integral.exact_law).0
+    g.met.T.Integer.laws.greatest.0
 
 pub returns : goal.returns
 returns g c = c.made.ensures ∙ whole-is _ _ _ (zero g c.before) (one g c.before)

@@ -1,11 +1,10 @@
 use Rattle.std.specs.Int.{w64}
 use Rattle.std.proofs.lemmas.Nat.Bits.{bit_at-trailing_zeros}
-use Rattle.stack_rational.proofs.OddDivisors.{multiple_of_power}
-use Rattle.stack_rational.proofs.halves.without_twos.Goals as goal
+use Rattle.stack_rational.proofs.OddDivisors.{without_zeros}
+use Rattle.stack_rational.proofs.halves.odd_part.Goals as goal
 
 pub returns-clause-product : goal.returns-clause-product
-returns-clause-product c = multiple_of_power _ c.args.n
-    (bit_at-trailing_zeros w64 c.args.n c.requires c.ranges.n.fits).2
+returns-clause-product c = without_zeros w64 c.args.n c.requires c.ranges.n.fits
 
 pub returns-clause-odd : goal.returns-clause-odd
 returns-clause-odd c = (bit_at-trailing_zeros w64 c.args.n c.requires c.ranges.n.fits).1
