@@ -1,9 +1,11 @@
 //! The blocks of a file, checked one after the other.
 
 ghost use Rattle.std.specs.Prelude.{◌≡◌, List, [], ◌∷◌, ◌++◌, map, string_bytes, not, true, length, IfOk, count_by};
+ghost use Rattle.std.specs.Prelude.{position as position_of};
 ghost use Rattle.stack_algebra.specs.Steps.{steps};
 ghost use Rattle.stack_polygon.specs.Limits.{are_in_range};
 ghost use Rattle.stack_polygon.specs.Admission.{is_count};
+ghost use Rattle.std.specs.Str.{bytes_eq};
 ghost use Rattle.stack_model.specs.Structure.{NamedBody};
 ghost use Rattle.stack_model.specs.Raw.{raw_block, numbers_view};
 ghost use Rattle.stack_model.specs.Gives.{Gives};
@@ -11,13 +13,12 @@ ghost use Rattle.stack_model.specs.Kept.{body_view};
 ghost use Rattle.stack_model.specs.Limits.{corner_list_of};
 ghost use Rattle.stack_model.specs.Content.{ranged, found as found_of, has_room as has_room_of, with_body, add_block};
 ghost use Rattle.stack_model.specs.Content.{with_new_body, number_of, body_names, material_names};
-ghost use Rattle.stack_model.specs.Content.{is_free as is_free_of};
+ghost use Rattle.stack_model.specs.Content.{is_free as is_free_of, is_new as is_new_of};
 
 use crate::errors::ModelError;
 use crate::kept::KeptBody;
 use crate::limits::{MOST_FIXED, corners, is_name};
 use crate::materials::Materials;
-use crate::names::Names;
 use crate::outlines::outline;
 use crate::places::{Key, Spot, What};
 use crate::raw::RawBlock;
@@ -26,10 +27,9 @@ use stack_polygon::Point;
 use stack_whole::{MOST_FREE, unless};
 use std::alloc::Global;
 
-/// The bodies so far, and their names.
+/// The bodies so far.
 #[derive(Drop)]
 pub struct Bodies {
-    names: Names,
     pub(crate) kept: Vec<KeptBody>,
 }
 
@@ -37,8 +37,6 @@ impl std::marker::Model for Bodies {
     ghost Value = { List NamedBody };
 
     ghost view = { λ m. map body_view m.kept.items };
-
-    ghost invariant = { λ m. m.names ≡ body_names (map body_view m.kept.items) };
 }
 
 fn corners_at(alloc: Global, spot: Spot, lists: &[Vec<i64>]) -> Result<Vec<Point>, ModelError>
@@ -124,13 +122,19 @@ fn new_body(
     })
 }
 
+/// The place of the body with a name.
+fn position(kept: &[KeptBody], name: &str) -> Option<usize>
+    ensures { result ≡ position_of (λ b. bytes_eq name.now (string_bytes b.name)) kept.now }
+{
+    kept.iter().position(|b| name == b.name.as_str())
+}
+
 impl Bodies {
     /// No bodies yet. Takes no memory.
     pub fn new(alloc: Global) -> Bodies
         ensures { result ≡ [] }
     {
         Bodies {
-            names: Names::new(alloc),
             kept: Vec::new(alloc),
         }
     }
@@ -139,7 +143,14 @@ impl Bodies {
     pub fn number(&self, name: &str) -> Option<usize>
         ensures { result ≡ number_of name.now (body_names self.now) }
     {
-        self.names.number(name)
+        position(self.kept.as_slice(), name)
+    }
+
+    /// Whether no body has the name.
+    fn is_new(&self, name: &str) -> bool
+        ensures { result ≡ is_new_of name.now (body_names self.now) }
+    {
+        self.number(name).is_none()
     }
 
     /// Whether the body with a number isn't fixed.
@@ -155,7 +166,7 @@ impl Bodies {
     /// One more body, as block `index`.
     #[tactic(auto, unfolding(crate::specs::Content::with_body))]
     fn with(
-        self,
+        mut self,
         alloc: Global,
         index: usize,
         name: &str,
@@ -167,25 +178,21 @@ impl Bodies {
         requires range { are_in_range corners.items ≡ true }
         ensures { Gives (λ m. m) result (with_body index name.now material fixed corners.items self) }
     {
-        let Bodies {
-            mut names,
-            mut kept,
-        } = self;
-        if !names.add(alloc, name)? {
-            return Err(ModelError::SameName {
-                spot: Spot::Block(index),
-            });
-        }
-        kept.push(new_body(
+        let fault = ModelError::SameName {
+            spot: Spot::Block(index),
+        };
+        unless(self.is_new(name), fault)?;
+        let body = new_body(
             alloc,
             index,
             name,
             material,
             fixed,
             corners,
-            kept.as_slice(),
-        )?)?;
-        Ok(Bodies { names, kept })
+            self.kept.as_slice(),
+        )?;
+        self.kept.push(body)?;
+        Ok(self)
     }
 }
 

@@ -22,7 +22,6 @@ mod listing;
 mod loads;
 mod materials;
 mod model;
-mod names;
 mod outlines;
 mod parting;
 mod places;

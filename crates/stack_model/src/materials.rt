@@ -1,6 +1,7 @@
 //! The materials of a file, checked one after the other.
 
-ghost use Rattle.std.specs.Prelude.{◌≡◌, List, [], map, pos};
+ghost use Rattle.std.specs.Prelude.{◌≡◌, List, [], map, pos, string_bytes, position as position_of};
+ghost use Rattle.std.specs.Str.{bytes_eq};
 ghost use Rattle.stack_model.specs.Structure.{NamedMaterial};
 ghost use Rattle.stack_model.specs.Kept.{material_view};
 ghost use Rattle.stack_model.specs.Raw.{raw_material};
@@ -8,22 +9,20 @@ ghost use Rattle.stack_model.specs.Gives.{Gives};
 ghost use Rattle.stack_model.specs.Limits.{friction_of};
 ghost use Rattle.stack_algebra.specs.Steps.{steps};
 ghost use Rattle.stack_model.specs.Content.{ranged, with_material, add_material, number_of};
-ghost use Rattle.stack_model.specs.Content.{material_names};
+ghost use Rattle.stack_model.specs.Content.{material_names, is_new as is_new_of};
 
 use crate::errors::ModelError;
 use crate::kept::KeptMaterial;
 use crate::limits::{friction, is_between, is_name};
-use crate::names::Names;
 use crate::places::{Key, Spot};
 use crate::raw::RawMaterial;
 use crate::types::Material;
 use stack_whole::{GREATEST_WEIGHT, unless};
 use std::alloc::Global;
 
-/// The materials so far, and their names.
+/// The materials so far.
 #[derive(Drop)]
 pub struct Materials {
-    names: Names,
     pub(crate) kept: Vec<KeptMaterial>,
 }
 
@@ -31,8 +30,6 @@ impl std::marker::Model for Materials {
     ghost Value = { List NamedMaterial };
 
     ghost view = { λ m. map material_view m.kept.items };
-
-    ghost invariant = { λ m. m.names ≡ material_names (map material_view m.kept.items) };
 }
 
 /// A coefficient of friction at its place.
@@ -48,13 +45,19 @@ pub fn friction_at(spot: Spot, numbers: &[i64]) -> Result<(i64, i64), ModelError
     }
 }
 
+/// The place of the material with a name.
+fn position(kept: &[KeptMaterial], name: &str) -> Option<usize>
+    ensures { result ≡ position_of (λ m. bytes_eq name.now (string_bytes m.name)) kept.now }
+{
+    kept.iter().position(|m| name == m.name.as_str())
+}
+
 impl Materials {
     /// No materials yet. Takes no memory.
     pub fn new(alloc: Global) -> Materials
         ensures { result ≡ [] }
     {
         Materials {
-            names: Names::new(alloc),
             kept: Vec::new(alloc),
         }
     }
@@ -63,13 +66,20 @@ impl Materials {
     pub fn number(&self, name: &str) -> Option<usize>
         ensures { result ≡ number_of name.now (material_names self.now) }
     {
-        self.names.number(name)
+        position(self.kept.as_slice(), name)
+    }
+
+    /// Whether no material has the name.
+    fn is_new(&self, name: &str) -> bool
+        ensures { result ≡ is_new_of name.now (material_names self.now) }
+    {
+        self.number(name).is_none()
     }
 
     /// One more material, with a name of its own.
     #[tactic(auto, unfolding(crate::specs::Content::with_material))]
     fn with(
-        self,
+        mut self,
         alloc: Global,
         spot: Spot,
         name: &str,
@@ -82,18 +92,12 @@ impl Materials {
           q = material.q;
         }) self) }
     {
-        let Materials {
-            mut names,
-            mut kept,
-        } = self;
-        if !names.add(alloc, name)? {
-            return Err(ModelError::SameName { spot });
-        }
-        kept.push(KeptMaterial {
+        unless(self.is_new(name), ModelError::SameName { spot })?;
+        self.kept.push(KeptMaterial {
             name: String::from_str(alloc, name)?,
             material,
         })?;
-        Ok(Materials { names, kept })
+        Ok(self)
     }
 }
 

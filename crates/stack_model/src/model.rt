@@ -18,11 +18,13 @@ ghost use Rattle.stack_model.specs.Borne.{MayBear, bearing};
 ghost use Rattle.stack_model.specs.Keeping.{flag_at};
 ghost use Rattle.stack_model.specs.Part.{part_of};
 
+use crate::bodies::Bodies;
 use crate::content::{bodies, head, joints, loads};
 use crate::copying::{bodies_again, materials_again};
 use crate::errors::ModelError;
 use crate::joints::terms_between;
 use crate::kept::{Head, KeptBody, KeptMaterial};
+use crate::materials::Materials;
 use crate::parting::{kept_bodies, kept_loads};
 use crate::raw::Parts;
 use crate::types::{Body, Joint, Load, Material};
@@ -75,16 +77,39 @@ pub fn is_still(sway: (i64, i64)) -> bool
 impl Model {
     /// The model of these parts, or the first fault of their content. Joints and a sway are for parts of version 2
     /// alone. The parts are consumed, also by a refusal.
-    #[tactic(auto, unfolding(crate::specs::Content::content_of))]
     pub fn new(alloc: Global, parts: Parts) -> Result<Model, ModelError>
         requires { IsOfVersion (raw_parts parts) }
         ensures { Gives model_view result (content_of (raw_parts parts)) }
     {
-        let head = head(&parts)?;
-        let (materials, joints) = joints(alloc, &parts)?;
-        let bodies = bodies(alloc, &materials, &parts)?;
-        let loads = loads(alloc, &bodies, &parts)?;
-        Ok(Model::of(head, materials.kept, joints, bodies.kept, loads))
+        Model::checked(alloc, &parts)
+    }
+
+    /// The model of these parts, or the first fault of their content.
+    #[tactic(auto, unfolding(crate::specs::Content::content_of))]
+    fn checked(alloc: Global, parts: &Parts) -> Result<Model, ModelError>
+        requires { IsOfVersion (raw_parts parts.now) }
+        ensures { Gives model_view result (content_of (raw_parts parts.now)) }
+    {
+        let head = head(parts)?;
+        let (materials, joints) = joints(alloc, parts)?;
+        let bodies = bodies(alloc, &materials, parts)?;
+        let loads = loads(alloc, &bodies, parts)?;
+        Ok(Model::of_checked(head, materials, joints, bodies, loads))
+    }
+
+    /// The model of the materials and the bodies that were checked.
+    fn of_checked(
+        head: Head,
+        materials: Materials,
+        joints: Vec<Joint>,
+        bodies: Bodies,
+        loads: Vec<Load>,
+    ) -> Model
+        requires { IsSound (structure_with head.version head.sway materials joints.items bodies loads.items) }
+        ensures { model_view result ≡ structure_with head.version head.sway materials joints.items bodies
+            loads.items }
+    {
+        Model::of(head, materials.kept, joints, bodies.kept, loads)
     }
 
     /// The model of these lists.

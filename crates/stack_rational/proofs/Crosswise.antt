@@ -167,3 +167,7 @@ stored-fits m a b x s e = record {
   den = omega
       (arith, s.den, ap nat_abs (stored-den m a b x s e));
 }
+
+-- the size of what is told to be within m
+pub told : (m z n : ℤ) → Within m z × (n ≡ z) → Within m n
+told m z n h = subst (Within m) (sym h.1) h.0

@@ -1,6 +1,6 @@
 -- The divisor of two numbers from that of their sizes.
-use Rattle.std.proofs.Common.{◌≡◌, sym, ap, subst, ℕ, ◌≤◌, arith, ℤ, pos, nat_abs}
-use Rattle.stack_rational.proofs.Common.{◌∣◌, IsGcd, Within, one-dvd, dvd_refl}
+use Rattle.std.proofs.Common.{◌≡◌, sym, ap, subst, ℕ, ◌≤◌, arith, ℤ, pos, nat_abs, ◌≤ℤ◌}
+use Rattle.stack_rational.proofs.Common.{◌∣◌, IsGcd, Within, one-dvd, dvd_refl, ints}
 use Rattle.stack_rational.proofs.OddDivisors.{divisor_within}
 
 -- a divisor of the sizes u and v of a and b, as the value d of a type
@@ -23,3 +23,6 @@ some_gcd a b d u v n eu ev is e = subst (λ (t : ℕ × ℕ × ℕ). IsGcd t.0 t
 -- 1 is the divisor of any number and 1
 pub one_gcd : (a b : ℤ) → b ≡ pos 1 → IsGcd (nat_abs a) (nat_abs b) (nat_abs b)
 one_gcd a b e = (subst (λ z. nat_abs z ∣ nat_abs a) (sym e) (one-dvd (nat_abs a)), dvd_refl (nat_abs b), λ d h k. k)
+
+pub some_positive : (d : ℤ) (n : ℕ) → d ≡ pos n → pos 0 ≤ℤ d
+some_positive d n e = omega (arith, ints, e)

@@ -1,6 +1,6 @@
 -- What isn't too wide fits, and what is 0 is never too wide.
 use Rattle.std.proofs.Common.{arith, ℕ, ◌^◌, true, false, not, nat_le, nat_lt, ◌≡◌, refl, sym, ap, ◌∙◌, ◌≢◌, zero, suc}
-use Rattle.std.proofs.Common.{◌/◌, ◌≤◌, ℤ, pos, negsuc, nat_abs, ◌+ℤ◌, ◌*ℤ◌, le-leb, leb-true}
+use Rattle.std.proofs.Common.{◌/◌, ◌≤◌, ℤ, pos, negsuc, nat_abs, ◌+ℤ◌, ◌*ℤ◌, le-leb, leb-true, Bool}
 use Rattle.stack_rational.proofs.Common.{ints, Sign, minus, nought, plus, sign_of, Fraction, gcd, ◌≺◌, mul_pos, expand}
 use Rattle.stack_rational.proofs.Common.{sums, gcd-left, gcd-right, add, mul, neg, of, inv, ordered_fractions, over}
 use Rattle.stack_rational.proofs.Common.{is_zero_whole, is_zero, IsWidth, fraction_fits, sum_fits, is_too_wide}
@@ -86,6 +86,22 @@ Fits-of m x h = record {
 
 pub fits-of : (m : ℤ) (x : Fraction) → Fits m x → fraction_fits m x ≡ true
 fits-of m x f = and_true _ _ (le-leb (nat_abs x.num) (nat_abs m) f.num) (le-leb x.den (nat_abs m) f.den)
+
+too_wide-of : (b : Bool) → ¬ (b ≡ true) → not b ≡ true
+too_wide-of true h = absurd (h refl)
+too_wide-of false h = refl
+
+-- what does not fit is too wide
+pub wide-of : (m : ℤ) (x : Fraction) → ¬ (Fits m x) → not (fraction_fits m x) ≡ true
+wide-of m x h = too_wide-of _ (λ e. h (Fits-of m x e))
+
+pub sum_wide-of : (m : ℤ) (x y : Fraction) → ¬ (SumFits m x y) → not (sum_fits m x y) ≡ true
+sum_wide-of m x y h = too_wide-of _ (λ e. h (record {
+  den = leb-true _ (nat_abs m) (left_true _ _ (left_true _ _ (left_true _ _ e)));
+  left = leb-true _ (nat_abs m) (right_true _ _ (left_true _ _ (left_true _ _ e)));
+  right = leb-true _ (nat_abs m) (right_true _ _ (left_true _ _ e));
+  total = leb-true _ (nat_abs m) (right_true _ _ e);
+}))
 
 pub sum_fits-of : (m : ℤ) (x y : Fraction) → SumFits m x y → sum_fits m x y ≡ true
 sum_fits-of m x y f = and_true _ _ (and_true _ _ (and_true _ _ (le-leb _ (nat_abs m) f.den)

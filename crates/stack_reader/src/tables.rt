@@ -1,12 +1,14 @@
 //! The items of a model as tables.
 
 ghost use Rattle.std.specs.Prelude.{◌≡◌, ◌<◌, [], ◌∷◌, IfOk, OnOk, length, map};
+ghost use Rattle.toml.specs.Data.{string};
 ghost use Rattle.toml.specs.View.{view, table_view, items_view, items_of};
 ghost use Rattle.stack_model.specs.Structure.{material_of, joint_of, body_of, load_of};
 ghost use Rattle.stack_model.specs.ModelView.{model_view};
 ghost use Rattle.stack_model.specs.Relisted.{coordinates, material_listed, joint_listed, body_listed, load_listed};
 ghost use Rattle.stack_reader.specs.Keys.{word_of};
-ghost use Rattle.stack_reader.specs.Writing.{put_member, wholes_data, material_data, joint_data, block_data, load_data};
+ghost use Rattle.stack_reader.specs.Writing.{put_member, wholes_data, lists_data};
+ghost use Rattle.stack_reader.specs.Writing.{material_data, joint_data, block_data, load_data};
 
 use crate::keys::word;
 use stack_model::{Key, Model};
@@ -23,14 +25,37 @@ pub fn put(alloc: Global, table: &mut Table, key: Key, value: Value) -> Result<(
     Ok(())
 }
 
+/// Puts a text at a key.
+fn put_text(alloc: Global, table: &mut Table, key: Key, text: &str) -> Result<(), AllocError>
+    ensures { OnOk result (table_view table.new ≡ put_member (word_of key) (string text.now) (table_view table.old)) }
+{
+    let value = Value::string(alloc, text)?;
+    put(alloc, table, key, value)
+}
+
 /// An array of two whole numbers.
-pub fn pair(alloc: Global, first: i64, second: i64) -> Result<Value, AllocError>
+fn pair(alloc: Global, first: i64, second: i64) -> Result<Value, AllocError>
     ensures { IfOk result (λ v. view v ≡ wholes_data (first ∷ second ∷ [])) }
 {
     let mut numbers = Vec::new(alloc);
     numbers.push(Value::Integer(first))?;
     numbers.push(Value::Integer(second))?;
     Ok(Value::Array(numbers))
+}
+
+/// Puts two whole numbers at a key.
+pub fn put_pair(
+    alloc: Global,
+    table: &mut Table,
+    key: Key,
+    first: i64,
+    second: i64,
+) -> Result<(), AllocError>
+    ensures { OnOk result (table_view table.new
+        ≡ put_member (word_of key) (wholes_data (first ∷ second ∷ [])) (table_view table.old)) }
+{
+    let value = pair(alloc, first, second)?;
+    put(alloc, table, key, value)
 }
 
 /// The coordinates of a point.
@@ -51,6 +76,20 @@ fn corners(alloc: Global, outline: &Polygon) -> Result<Vec<Value>, AllocError>
     Ok(list)
 }
 
+/// Puts the corners of an outline at a key.
+fn put_corners(
+    alloc: Global,
+    table: &mut Table,
+    key: Key,
+    outline: &Polygon,
+) -> Result<(), AllocError>
+    ensures { OnOk result (table_view table.new
+        ≡ put_member (word_of key) (lists_data (map coordinates outline.now)) (table_view table.old)) }
+{
+    let list = corners(alloc, outline)?;
+    put(alloc, table, key, Value::Array(list))
+}
+
 /// The table of material `i`.
 pub fn material_table(alloc: Global, model: &Model, i: usize) -> Result<Table, AllocError>
     requires { i < length (model_view model.now).materials }
@@ -58,16 +97,14 @@ pub fn material_table(alloc: Global, model: &Model, i: usize) -> Result<Table, A
 {
     let material = model.material(i);
     let mut table = Table::new(alloc);
-    let name = Value::string(alloc, model.material_name(i))?;
-    put(alloc, &mut table, Key::Name, name)?;
+    put_text(alloc, &mut table, Key::Name, model.material_name(i))?;
     put(
         alloc,
         &mut table,
         Key::Weight,
         Value::Integer(material.weight),
     )?;
-    let friction = pair(alloc, material.p, material.q)?;
-    put(alloc, &mut table, Key::Friction, friction)?;
+    put_pair(alloc, &mut table, Key::Friction, material.p, material.q)?;
     Ok(table)
 }
 
@@ -79,12 +116,19 @@ pub fn joint_table(alloc: Global, model: &Model, i: usize) -> Result<Table, Allo
 {
     let joint = model.joint(i);
     let mut table = Table::new(alloc);
-    let first = Value::string(alloc, model.material_name(joint.first))?;
-    put(alloc, &mut table, Key::First, first)?;
-    let second = Value::string(alloc, model.material_name(joint.second))?;
-    put(alloc, &mut table, Key::Second, second)?;
-    let friction = pair(alloc, joint.p, joint.q)?;
-    put(alloc, &mut table, Key::Friction, friction)?;
+    put_text(
+        alloc,
+        &mut table,
+        Key::First,
+        model.material_name(joint.first),
+    )?;
+    put_text(
+        alloc,
+        &mut table,
+        Key::Second,
+        model.material_name(joint.second),
+    )?;
+    put_pair(alloc, &mut table, Key::Friction, joint.p, joint.q)?;
     Ok(table)
 }
 
@@ -96,13 +140,15 @@ pub fn block_table(alloc: Global, model: &Model, i: usize) -> Result<Table, Allo
 {
     let body = model.body(i);
     let mut table = Table::new(alloc);
-    let name = Value::string(alloc, model.name(i))?;
-    put(alloc, &mut table, Key::Name, name)?;
-    let material = Value::string(alloc, model.material_name(body.material))?;
-    put(alloc, &mut table, Key::Material, material)?;
+    put_text(alloc, &mut table, Key::Name, model.name(i))?;
+    put_text(
+        alloc,
+        &mut table,
+        Key::Material,
+        model.material_name(body.material),
+    )?;
     put(alloc, &mut table, Key::Fixed, Value::Boolean(body.fixed))?;
-    let corners = Value::Array(corners(alloc, model.polygon(i))?);
-    put(alloc, &mut table, Key::Corners, corners)?;
+    put_corners(alloc, &mut table, Key::Corners, model.polygon(i))?;
     Ok(table)
 }
 
@@ -114,13 +160,14 @@ pub fn load_table(alloc: Global, model: &Model, i: usize) -> Result<Table, Alloc
 {
     let load = model.load(i);
     let mut table = Table::new(alloc);
-    let block = Value::string(alloc, model.name(load.body))?;
-    put(alloc, &mut table, Key::Block, block)?;
-    let kind = Value::string(alloc, if load.live { "live" } else { "dead" })?;
-    put(alloc, &mut table, Key::Kind, kind)?;
-    let at = place(alloc, load.at)?;
-    put(alloc, &mut table, Key::At, at)?;
-    let force = pair(alloc, load.fx, load.fy)?;
-    put(alloc, &mut table, Key::Force, force)?;
+    put_text(alloc, &mut table, Key::Block, model.name(load.body))?;
+    put_text(
+        alloc,
+        &mut table,
+        Key::Kind,
+        if load.live { "live" } else { "dead" },
+    )?;
+    put_pair(alloc, &mut table, Key::At, load.at.x, load.at.y)?;
+    put_pair(alloc, &mut table, Key::Force, load.fx, load.fy)?;
     Ok(table)
 }

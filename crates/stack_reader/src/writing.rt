@@ -10,7 +10,7 @@ ghost use Rattle.stack_reader.specs.Writing.{material_data, joint_data, block_da
 ghost use Rattle.stack_reader.specs.Writing.{head_data, second_data, parts_data, put_tables};
 ghost use Rattle.stack_reader.specs.Keys.{word_of};
 
-use crate::tables::{block_table, joint_table, load_table, material_table, pair, put};
+use crate::tables::{block_table, joint_table, load_table, material_table, put, put_pair};
 use stack_model::{Key, Model, is_still};
 use std::alloc::{AllocError, Global};
 use toml::{Table, Value};
@@ -100,8 +100,7 @@ fn head_table(alloc: Global, model: &Model) -> Result<Table, AllocError>
     if is_still(sway) {
         return Ok(table);
     }
-    let numbers = pair(alloc, sway.0, sway.1)?;
-    put(alloc, &mut table, Key::Sway, numbers)?;
+    put_pair(alloc, &mut table, Key::Sway, sway.0, sway.1)?;
     Ok(table)
 }
 

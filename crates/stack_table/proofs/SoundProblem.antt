@@ -1,7 +1,11 @@
 -- What the test of a problem tells.
-use Rattle.std.proofs.Common.{◌≡◌, sym, subst, ℕ, zero, suc, ◌<◌, true, List, [], ◌∷◌, map, length, add-one, arith}
-use Rattle.std.proofs.Common.{nat_le, nat_lt, leb-true, ltb-true, ℤ, nat_abs}
-use Rattle.stack_rational.proofs.Common.{length-map, left_true, right_true}
+use Rattle.std.proofs.Common.{◌≡◌, sym, ap, ◌∙◌, subst, ℕ, zero, suc, ◌+◌, ◌<◌, ◌≤◌, Bool, true, false, ◌&&◌, List}
+use Rattle.std.proofs.Common.{[], ◌∷◌, map, length, get_or, drop, drop-cons, add-one, arith, SFits}
+use Rattle.std.proofs.Common.{to_z, of_z, to_z-of_z}
+use Rattle.std.proofs.Common.{nat_le, nat_lt, leb-true, ltb-true, le-leb, lt-ltb, le-ltb, ℤ, nat_abs}
+use Rattle.std.proofs.lemmas.Bool.{lt-leb}
+use Rattle.stack_rational.proofs.Common.{length-map, left_true, right_true, w128}
+use Rattle.std.proofs.Math.ListN.{drop_of_length-le}
 use Rattle.std.specs.List.{slice_index, AllByRecursion}
 use Rattle.std.specs.List.Sorted.{IsStrictlyIncreasing}
 use Rattle.stack_whole.specs.Limits.{load_bound, IsBelowBound}
@@ -65,3 +69,61 @@ pub columns_are : (rows : ℕ) (cs : List Column) → are_columns rows cs ≡ tr
 columns_are rows [] h = tt
 columns_are rows (c ∷ cs) h =
     (column_is rows c.entries.items (left_true _ _ h), columns_are rows cs (right_true _ _ h))
+
+-- a loop over numbers that goes on past a small one, ends at one that isn't, or has none left
+small_at : (xs : List ℤ) (k : ℕ) (d : ℤ) (b : Bool) → k < length xs → SFits w128 (get_or xs k d) →
+    is_small (to_z w128 (of_z w128 (get_or xs k d))) ≡ b →
+    are_small (drop k xs) ≡ b && are_small (drop (suc k) xs)
+small_at xs k d b l f s = ap are_small (drop-cons xs k d l)
+    ∙ ap (λ t. t && are_small (drop (suc k) xs)) (sym (ap is_small (to_z-of_z f)) ∙ s)
+
+pub small_next : (xs : List ℤ) (k : ℕ) (d : ℤ) → k < length xs → SFits w128 (get_or xs k d) →
+    is_small (to_z w128 (of_z w128 (get_or xs k d))) ≡ true → are_small (drop k xs) ≡ are_small xs →
+    are_small (drop (k + 1) xs) ≡ are_small xs
+small_next xs k d l f s h = ap (λ n. are_small (drop n xs)) (add-one k) ∙ sym (small_at xs k d true l f s) ∙ h
+
+pub small_ends : (xs : List ℤ) (k : ℕ) (d : ℤ) → k < length xs → SFits w128 (get_or xs k d) →
+    is_small (to_z w128 (of_z w128 (get_or xs k d))) ≡ false → are_small (drop k xs) ≡ are_small xs →
+    false ≡ are_small xs
+small_ends xs k d l f s h = sym (small_at xs k d false l f s) ∙ h
+
+pub small_done : (xs : List ℤ) (k : ℕ) → length xs ≤ k → are_small (drop k xs) ≡ are_small xs →
+    true ≡ are_small xs
+small_done xs k l h = sym (ap are_small (drop_of_length-le xs l)) ∙ h
+
+-- a loop over the entries of a column that goes on past one, ends at one that is refused, or has none left
+fourth : (a b c d : Bool) → a ≡ true → b ≡ true → c ≡ true → a && (b && (c && d)) ≡ d
+fourth a b c d p q r = (λ i. p i && (q i && (r i && d)))
+
+third : (a b c d : Bool) → a ≡ true → b ≡ true → c ≡ false → a && (b && (c && d)) ≡ false
+third a b c d p q r = (λ i. p i && (q i && (r i && d)))
+
+module _ (rows from k : ℕ) (xs : List Entry) (d : Entry) (l : k < length xs)
+    (h : is_column rows from (drop k xs) ≡ is_column rows 0 xs) where
+  abbrev x : Entry
+  x = get_or xs k d
+
+  here : is_column rows from (x ∷ drop (suc k) xs) ≡ is_column rows 0 xs
+  here = sym (ap (is_column rows from) (drop-cons xs k d l)) ∙ h
+
+  pub column_next : from ≤ x.row → x.row < rows → is_small x.value ≡ true →
+      is_column rows (x.row + 1) (drop (k + 1) xs) ≡ is_column rows 0 xs
+  column_next a b c = (λ i. is_column rows (add-one x.row i) (drop (add-one k i) xs))
+      ∙ sym (fourth _ _ _ (is_column rows (suc x.row) (drop (suc k) xs)) (le-leb from x.row a)
+      (lt-ltb x.row rows b) c) ∙ here
+
+  pub column_back : x.row < from → false ≡ is_column rows 0 xs
+  column_back a = sym (ap (λ t. t && (nat_lt x.row rows && (is_small x.value
+      && is_column rows (suc x.row) (drop (suc k) xs)))) (lt-leb from x.row a)) ∙ here
+
+  pub column_past : from ≤ x.row → rows ≤ x.row → false ≡ is_column rows 0 xs
+  column_past a b = sym (λ i. le-leb from x.row a i && (le-ltb x.row rows b i && (is_small x.value
+      && is_column rows (suc x.row) (drop (suc k) xs)))) ∙ here
+
+  pub column_wide : from ≤ x.row → x.row < rows → is_small x.value ≡ false → false ≡ is_column rows 0 xs
+  column_wide a b c = sym (third _ _ _ (is_column rows (suc x.row) (drop (suc k) xs)) (le-leb from x.row a)
+      (lt-ltb x.row rows b) c) ∙ here
+
+pub column_done : (rows from k : ℕ) (xs : List Entry) → length xs ≤ k →
+    is_column rows from (drop k xs) ≡ is_column rows 0 xs → true ≡ is_column rows 0 xs
+column_done rows from k xs l h = sym (ap (is_column rows from) (drop_of_length-le xs l)) ∙ h

@@ -1,7 +1,7 @@
 use Rattle.std.proofs.Common.{◌≡◌, ap, ◌∙◌, nat_abs}
 use Rattle.std.proofs.lemmas.Nat.Gcd.{IsGcd-swap}
 use Rattle.stack_rational.proofs.AtBroad.{recast}
-use Rattle.stack_rational.proofs.Divisors.{some_size, some_gcd, none_fits, one_gcd}
+use Rattle.stack_rational.proofs.Divisors.{some_size, some_gcd, some_positive, none_fits, one_gcd}
 use Rattle.stack_rational.proofs.common_divisor.divisor.Goals as goal
 use Rattle.stack_rational.proofs.common_divisor.divisor.Goals.{After-divisor_of-g}
 
@@ -50,3 +50,15 @@ returns-then-is_one-2-clause-gcd g c = IsGcd-swap (nat_abs (g.T.Number.value c.a
     (nat_abs (g.T.Number.value c.args.a)) _
     (one_gcd (g.T.Number.value c.args.b) (g.T.Number.value c.args.a)
     ((c.is_one-2.ensures.value g.met.T.Integral.exact_law).0 c.if-is_one-2.true))
+
+-- it isn't negative
+pub returns-in-Some-clause-positive : goal.returns-in-Some-clause-positive
+returns-in-Some-clause-positive g c = some_positive _ _ (c.in-Some.ensures.value g.met.T.Integral.exact_law).1
+
+pub returns-then-is_one-clause-positive : goal.returns-then-is_one-clause-positive
+returns-then-is_one-clause-positive g c = some_positive _ 1
+    ((c.is_one.ensures.value g.met.T.Integral.exact_law).0 c.if-is_one.true)
+
+pub returns-then-is_one-2-clause-positive : goal.returns-then-is_one-2-clause-positive
+returns-then-is_one-2-clause-positive g c = some_positive _ 1
+    ((c.is_one-2.ensures.value g.met.T.Integral.exact_law).0 c.if-is_one-2.true)

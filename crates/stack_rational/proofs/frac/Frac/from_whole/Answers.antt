@@ -17,3 +17,10 @@ made-requires g c = whole-stored _ _ _ _ (is g c) (one g c)
 
 pub returns-in-Some-clause-ok : goal.returns-in-Some-clause-ok
 returns-in-Some-clause-ok g c = c.made.ensures ∙ whole-is _ _ _ (is g c.before).1 (one g c.before)
+
+pub returns-in-Some-clause-fits : goal.returns-in-Some-clause-fits
+returns-in-Some-clause-fits g c = (is g c.before).0
+
+pub returns-in-None-clause-err : goal.returns-in-None-clause-err
+returns-in-None-clause-err g c = subst (λ (z : ℤ). ¬ (Within g.T.Integer.MAX z)) (to_z-of_z c.ranges.n)
+    (c.in-None.ensures _ (c.from_i128.ensures.value g.met.T.Integral.exact_law))

@@ -52,3 +52,22 @@ returns-then-is_minus-3 g c = sym
 pub returns-else-is_minus-3 : goal.returns-else-is_minus-3
 returns-else-is_minus-3 g c = c.order_of_parts-else-is_minus-3.ensures
     ∙ stored-order c.self.invariant.stored c.other.invariant.stored c.self.view_is c.other.view_is
+
+-- the parts that are compared
+pub order_of_parts-requires-clause-b : goal.order_of_parts-requires-clause-b
+order_of_parts-requires-clause-b g c = (c.other.invariant.stored.den, c.other.invariant.stored.lowest.positive)
+
+pub order_of_parts-requires-clause-d : goal.order_of_parts-requires-clause-d
+order_of_parts-requires-clause-d g c = (c.self.invariant.stored.den, c.self.invariant.stored.lowest.positive)
+
+pub order_of_parts-requires-else-is_minus-3-clause-a : goal.order_of_parts-requires-else-is_minus-3-clause-a
+order_of_parts-requires-else-is_minus-3-clause-a g c = (
+  c.self.invariant.stored.num,
+  no-less (g.T.Number.value c.self.inside.num) (pos 0) _ c.is_minus.ensures c.if-is_minus.false,
+)
+
+pub order_of_parts-requires-else-is_minus-3-clause-c : goal.order_of_parts-requires-else-is_minus-3-clause-c
+order_of_parts-requires-else-is_minus-3-clause-c g c = (
+  c.other.invariant.stored.num,
+  no-less (g.T.Number.value c.other.inside.num) (pos 0) _ c.is_minus-else-is_minus.ensures c.if-is_minus-3.false,
+)

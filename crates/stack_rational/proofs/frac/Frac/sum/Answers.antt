@@ -1,5 +1,5 @@
 use Rattle.std.proofs.Common.{sym, ◌∙◌}
-use Rattle.stack_rational.proofs.Crosswise.{stored-fits}
+use Rattle.stack_rational.proofs.Crosswise.{stored-fits, told}
 use Rattle.stack_rational.proofs.ShortCuts.{zero_plus, plus_zero, zero_plus_fits, plus_zero_fits, stored_zero}
 use Rattle.stack_rational.proofs.ShortCuts.{stored_sum, stored_sum_fits, stored_sum_too_wide}
 use Rattle.stack_rational.proofs.frac.Frac.sum.Goals as goal
@@ -46,3 +46,19 @@ returns-in-None-clause-err g c = stored_sum_too_wide g.T.Integer.MAX _ _ _ _ c.a
     c.self.invariant.stored c.other.invariant.stored c.self.view_is c.other.view_is
     ((g.met.T.Number.eq_law _ _ g.met.T.Integral.exact_law).0 (sym c.eq.ensures
     ∙ c.if-eq.true)) c.in-None.ensures
+
+-- what `reduced` asks
+pub reduced-requires-clause-num : goal.reduced-requires-clause-num
+reduced-requires-clause-num g c = told g.T.Integer.MAX _ _ c.in-Some.ensures
+
+pub reduced-requires-clause-den : goal.reduced-requires-clause-den
+reduced-requires-clause-den g c = c.self.invariant.stored.den
+
+pub reduced-requires-clause-positive : goal.reduced-requires-clause-positive
+reduced-requires-clause-positive g c = c.self.invariant.stored.lowest.positive
+
+pub made-requires : goal.made-requires
+made-requires g c = c.other.invariant.stored
+
+pub made-requires-then-is_zero-2 : goal.made-requires-then-is_zero-2
+made-requires-then-is_zero-2 g c = c.self.invariant.stored

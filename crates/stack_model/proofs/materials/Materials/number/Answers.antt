@@ -1,0 +1,14 @@
+use Rattle.std.proofs.Common.{◌∙◌, ap, position, string_bytes}
+use Rattle.std.specs.Str.{bytes_eq}
+use Rattle.stack_model.specs.Kept.{material_view}
+use Rattle.stack_model.specs.Content.{number_of, material_names}
+use Rattle.stack_model.proofs.Numbering.{number-named}
+use Rattle.stack_model.proofs.materials.Materials.number.Goals as goal
+
+pub returns : goal.returns
+returns c =
+    let name = c.args.name.now in
+    c.position.ensures
+    ∙ ap (position (λ x. bytes_eq name (string_bytes x.name))) c.as_slice.ensures.value
+    ∙ number-named material_view (λ v. v.name) name c.self.inside.kept.items
+    ∙ ap (λ vs. number_of name (material_names vs)) c.self.view_is
