@@ -1,5 +1,5 @@
 #!/usr/bin/env python3
-"""Reads the safe region of two live loads: its points, its bounds, and where to ask next.
+"""Reads the region of two live loads: its points, its bounds, and where to ask next.
 
     tools/region.py MODEL I J DIRS [kN FORCE] [csv]
 
@@ -24,19 +24,19 @@ Where it finds two shares, the one that is carried is the point, and the motion 
 direction that this doesn't settle either is `refused`. A `half` says that P*a + Q*b is at most R for all that the
 structure carries. Its numbers are in lowest terms; in decimals the greater of P and Q is 1 or -1. Together the
 half-planes bound a polygon. Its corners are listed counter-clockwise, and then the directions in which its sides go on
-without end, if it has such sides. WORD is `safe` if the corner lies in what the points, the unlimited directions and no
-load at all span, or if the direction is unlimited. It is `near` if the structure carries 999/1000 of the corner, or of
-the side as far as a thousand times the size of the greatest corner, and `open` otherwise.
+without end, if it has such sides. WORD is `carried` if the corner lies in what the points, the unlimited directions
+and no load at all span, or if the direction is unlimited. It is `near` if the structure carries 999/1000 of the corner,
+or of the side as far as a thousand times the size of the greatest corner, and `open` otherwise.
 
-The lines `dir` are the directions to ask next: towards the corners that aren't safe, and along the sides that go on. So
-this loop adds them until there are none:
+The lines `dir` are the directions to ask next: towards the corners that aren't carried, and along the sides that go on.
+So this loop adds them until there are none:
 
     while tools/region.py MODEL I J DIRS | grep '^dir ' >>DIRS; do :; done
 
-The last line is `settled` if all is safe: then the polygon is the region. It is `settled to a thousandth` if all is
-safe or near, and no direction meets what is near exactly: a direction towards it has whole numbers of at most 1,000. It
-is `unsettled` if something is open and no new direction of whole numbers up to 1,000,000,000 comes nearer, or DIRS has
-1,000 lines.
+The last line is `settled` if all is carried: then the polygon is the region. It is `settled to a thousandth` if all is
+carried or near, and no direction meets what is near exactly: a direction towards it has whole numbers of at most 1,000.
+It is `unsettled` if something is open and no new direction of whole numbers up to 1,000,000,000 comes nearer, or DIRS
+has 1,000 lines.
 
 With `kN FORCE` the decimals are in kN, where a force of 1 is FORCE kN: a and b times the size of what I and J come to.
 The factor of a sway stays a share of the weight. There is no `m LENGTH`: nothing that is printed is a length. With
@@ -83,12 +83,12 @@ def cross(one: Sequence[Exact], other: Sequence[Exact]) -> Exact:
     return one[0] * other[1] - one[1] * other[0]
 
 
-# What is safe
+# What is carried
 
 
 class Word(Enum):
     """What is known of a corner, or of sides that go on."""
-    SAFE = "safe"
+    CARRIED = "carried"
     NEAR = "near"
     OPEN = "open"
 
@@ -107,7 +107,7 @@ def hull(points: Sequence[Vector]) -> list[Vector]:
     return chain(ordered) + chain(ordered[::-1]) or ordered
 
 
-class Safe:
+class Carried:
     """What the points, the unlimited directions and no load at all span, by half-planes (normal, most).
 
     Each of its sides is along a side of the hull of the points, or along an unlimited direction.
@@ -127,12 +127,12 @@ class Safe:
         return all(part * dot(normal, at) <= most for normal, most in self.bounds)
 
     def of_corner(self, at: Vector) -> Word:
-        return Word.SAFE if self.holds(at) else Word.NEAR if self.holds(at, NEAR) else Word.OPEN
+        return Word.CARRIED if self.holds(at) else Word.NEAR if self.holds(at, NEAR) else Word.OPEN
 
     def of_side(self, ray: Direction, corners: Sequence[Vector]) -> Word:
-        """Whether the sides that go on in a direction are safe, or near as far out as corners may be looked at."""
+        """Whether the sides that go on in a direction are carried, or near as far out as corners may be looked at."""
         if in_cone(ray, self.unlimited):
-            return Word.SAFE
+            return Word.CARRIED
         size = max(abs(Fraction(part)) for at in corners for part in at) or 1
         far = FAR * size / Fraction(max(abs(ray[0]), abs(ray[1])))
         ends = [(x + far * ray[0], y + far * ray[1]) for x, y in corners]
@@ -201,7 +201,7 @@ def next_directions(region: Region, found: Sequence[tuple[Direction, Word]]) -> 
     yet comes to them, and near ones that can be met exactly."""
     asked, wanted = region.asked(), []
     for direction, word in found:
-        tried = [] if word is Word.SAFE else [askable(direction, most) for most in MOSTS]
+        tried = [] if word is Word.CARRIED else [askable(direction, most) for most in MOSTS]
         fresh = [one for one in tried if one not in asked]
         if fresh and (word is Word.OPEN or tried[0] == direction == fresh[0]):
             wanted.append(fresh[0])
@@ -257,10 +257,10 @@ def lines_of(region: Region, sizes: Sizes = Sizes()) -> Iterator[Line]:
         yield Line(("refused", *direction), last=(reason,))
     for half in region.halves:
         yield Line(("half",), half, sizes.half(half))
-    safe, corners = Safe(region), corners_of(region.halves)
-    ends = [(at, safe.of_corner(at)) for at in corners]
+    carried, corners = Carried(region), corners_of(region.halves)
+    ends = [(at, carried.of_corner(at)) for at in corners]
     starts = corners or feet_of(region.halves) or [(0, 0)]
-    sides = [(ray, safe.of_side(ray, starts)) for ray in endless(region.halves)]
+    sides = [(ray, carried.of_side(ray, starts)) for ray in endless(region.halves)]
     for corner, word in ends:
         yield Line(("corner",), corner, sizes.of(corner), (word.value,))
     for ray, word in sides:

@@ -49,21 +49,21 @@ class Regions(unittest.TestCase):
         self.assertEqual(polygon(axes, halves=self.SIDES),
                          ["corner open"] * 4 + ["dir -1 -1", "dir 1 -1", "dir 1 1", "dir -1 1"])
         self.assertEqual(polygon([*axes, (2, 2), (-2, 2)], halves=self.SIDES),
-                         ["corner open"] * 2 + ["corner safe"] * 2 + ["dir -1 -1", "dir 1 -1"])
+                         ["corner open"] * 2 + ["corner carried"] * 2 + ["dir -1 -1", "dir 1 -1"])
         self.assertEqual(polygon([(2, 2), (-2, 2), (-2, -2), (2, -2)], halves=self.SIDES),
-                         ["corner safe"] * 4 + ["settled"])
+                         ["corner carried"] * 4 + ["settled"])
 
     def test_unlimited_directions_settle_what_nothing_bounds(self) -> None:
         self.assertEqual(polygon([], [], []), ["dir 1 0", "dir 0 1", "dir -1 0", "dir 0 -1"])
-        self.assertIs(region.Safe(Region()).of_side((1, 0), [(0, 0)]), Word.OPEN)
+        self.assertIs(region.Carried(Region()).of_side((1, 0), [(0, 0)]), Word.OPEN)
         self.assertEqual(polygon([], [(1, 0), (-1, 1), (-1, -1)], []), ["settled"])
         # A half-plane, a strip and a wedge.
         self.assertEqual(polygon([(2, 0)], [], self.SIDES[:1]), ["dir 0 1", "dir 0 -1", "dir -1 0"])
         self.assertEqual(polygon([(2, 0), (-2, 0)], [(0, 1)], self.SIDES[::2]), ["dir 0 -1"])
         self.assertEqual(polygon([(2, 0), (-2, 0)], [(0, 1), (0, -1)], self.SIDES[::2]), ["settled"])
         wedge = [(1, -1, 0), (-1, -1, 0)]
-        self.assertEqual(polygon([], [(0, 1)], wedge), ["corner safe", "dir 1 1", "dir -1 1"])
-        self.assertEqual(polygon([], [(1, 1), (-1, 1)], wedge), ["corner safe", "settled"])
+        self.assertEqual(polygon([], [(0, 1)], wedge), ["corner carried", "dir 1 1", "dir -1 1"])
+        self.assertEqual(polygon([], [(1, 1), (-1, 1)], wedge), ["corner carried", "settled"])
 
     def test_a_direction_has_at_most_a_thousand(self) -> None:
         self.assertEqual(region.askable((2001, 2000)), (1, 1))
@@ -75,11 +75,12 @@ class Regions(unittest.TestCase):
         halves = [(1, 0, 2001), (0, 1, 2000), (-1, 0, 1), (0, -1, 1)]
         points = {(1, 1): (1500, 1500), (1, 0): (2001, -1), (0, 1): (-1, 2000), (-1, -1): (-1, -1)}
         self.assertEqual(polygon(points, halves=halves),
-                         ["corner safe", "corner safe", "corner open", "corner safe", "dir 2001 2000"])
+                         ["corner carried", "corner carried", "corner open", "corner carried", "dir 2001 2000"])
         self.assertEqual(polygon({**points, (2001, 2000): (2001, 2000)}, halves=halves),
-                         ["corner safe"] * 4 + ["settled"])
+                         ["corner carried"] * 4 + ["settled"])
         self.assertEqual(polygon({**points, (1, 1): (2000, 2000)}, halves=halves),
-                         ["corner safe", "corner safe", "corner near", "corner safe", "settled to a thousandth"])
+                         ["corner carried", "corner carried", "corner near", "corner carried",
+                          "settled to a thousandth"])
         # It stays unsettled if its direction has numbers above a thousand millions.
         far = [(1, 0, 10**10 + 1), (0, 1, 10**10), (-1, 0, 0), (0, -1, 0)]
         here: Points = {(1, 1): (1, 1), (1, 0): (10**10 + 1, 0), (0, 1): (0, 10**10)}

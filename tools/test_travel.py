@@ -34,7 +34,7 @@ class Travels(Asked):
         self.assertEqual(lines[-1], "least at -84 on v6 144233013/2589125 = 55.7072")
         self.assertEqual(len(lines), 15)
         self.assertEqual(self.travelled(example("arches/footbridge"), "1", "-75")[-1],
-                         "least at -75 on v5 144233013/1496000 = 96.4124")
+                         "least of the given places at -75 on v5 144233013/1496000 = 96.4124")
 
     def test_an_axle_group(self) -> None:
         # With both on it the arch carries 106.4 of each; where one has left it the other alone is the worst.
@@ -44,6 +44,10 @@ class Travels(Asked):
         self.assertEqual(lines[-1], "least at -184 off at -84 on v6 144233013/2589125 = 55.7072")
         self.assertTrue(lines[-2].startswith("least with all on at "), lines[-2])
         self.assertEqual(lines[-2], "least with all on at -174 on v7 at -74 on v5 482209283/4534000 = 106.354")
+        self.assertEqual(self.travelled(axles, "1,2", "-184", "-174")[-2:], [
+            "least with all on of the given places at -174 on v7 at -74 on v5 482209283/4534000 = 106.354",
+            "least of the given places at -184 off at -84 on v6 144233013/2589125 = 55.7072"])
+        self.assertEqual(self.travelled(axles, "1,2", "-75")[1:], ["least of the given places unlimited"])
         moved = [replace(axles.loads[0], block="v7", at=[-174, 90]), replace(axles.loads[1], block="v5", at=[-74, 90])]
         self.assertEqual(self.structure(replace(axles, loads=moved))[1].factor(1), Fraction(482209283, 4534000))
 
@@ -57,8 +61,10 @@ class Travels(Asked):
                       [Load("beam", "live", [15, 11], [0, -1])])
         self.assertEqual(self.travelled(model, "1"), ["at 0 on beam 165/1 = 165", "at 30 on beam 165/1 = 165",
                                                      "least at 0 on beam 165/1 = 165"])
-        self.assertEqual(self.travelled(model, "1", "2", "15")[-1], "least at 2 on beam 330/1 = 330")
-        self.assertEqual(self.travelled(model, "1", "2", "31")[1:], ["at 31 off", "least at 2 on beam 330/1 = 330"])
+        self.assertEqual(self.travelled(model, "1", "2", "15")[-1],
+                         "least of the given places at 2 on beam 330/1 = 330")
+        self.assertEqual(self.travelled(model, "1", "2", "31")[1:],
+                         ["at 31 off", "least of the given places at 2 on beam 330/1 = 330"])
 
     def test_joints_that_are_shorter(self) -> None:
         # The beam above on posts whose joints lose 1/2 at each end, so that it tips about 4.5: at an end it carries
@@ -74,7 +80,7 @@ class Travels(Asked):
                              [*(f"at {x} on beam {ends}/1 = {ends}" for x in (0, 30)),
                               f"least at 0 on beam {ends}/1 = {ends}"])
             self.assertEqual(self.travelled(model, "1", "inset", "1/2", "2")[-1],
-                             f"least at 2 on beam {at_two}/1 = {at_two}")
+                             f"least of the given places at 2 on beam {at_two}/1 = {at_two}")
 
     def test_the_footbridge_with_a_centimetre_off(self) -> None:
         # docs/worked_arch.md, step 8, asks `v5` and `v6` one by one: 44.89 and 45.8251.
@@ -145,7 +151,8 @@ class Travels(Asked):
         # All places share the table of contacts.
         self.assertEqual((asked.count("contacts"), asked.count("load")), (1, 3))
         self.assertEqual(lines, ["at -84 on v6 144233013/2589125 = 55.7072", "at -84 on v5 144233013/2589125 = 55.7072",
-                                 "at 0 on v4 unlimited", "least at -84 on v6 144233013/2589125 = 55.7072"])
+                                 "at 0 on v4 unlimited",
+                                 "least of the given places at -84 on v6 144233013/2589125 = 55.7072"])
 
     def test_a_scale_that_was_enough_is_tried_first(self) -> None:
         structure, _ = self.structure(post([]))

@@ -23,12 +23,14 @@ lines go to standard error. The loads stay at the places of MODEL, in its units.
     at X on BLOCK unlimited
     at X on BLOCK carried N/D = DECIMAL beyond N/D = DECIMAL
     least at X on BLOCK N/D = DECIMAL
+    least of the given places at X on BLOCK N/D = DECIMAL
 
 In place of `on BLOCK` stands `off` for a load that has left the structure. The program's `load` answers where it can,
 and else tools/solve.py, which may find two shares between which the factor lies. `least with all on` is the least with
 all loads on the structure, if that is another one. The last line is the least of all; in `least .. carried A beyond B`
-A is carried at all places, and B isn't at some. It is of the given places alone if there are some. Where a place has no
-answer, the least is `withheld`, and the status is 70; where the dead loads collapse, it is 1.
+A is carried at all places, and B isn't at some. If you give places, it is the least `of the given places`: elsewhere
+the structure may carry less. Where a place has no answer, the least is `withheld`, and the status is 70; where the dead
+loads collapse, it is 1.
 """
 import sys
 import tempfile
@@ -206,16 +208,16 @@ def asked_at(group: Group, seats: tuple[Seat, ...], progress: Progress, known: K
     return Place(seats, found)
 
 
-def ends_of(places: Sequence[Place]) -> Iterator[str]:
-    """The last lines: the least of all, if each place has an answer."""
+def ends_of(places: Sequence[Place], of: str) -> Iterator[str]:
+    """The last lines: the least of these places, if each has an answer. If some were given, `of` says so."""
     unanswered = sum(not one.settled() for one in places)
     if any(isinstance(one.found, Collapses) for one in places):
         yield "least withheld: the dead loads collapse"
     elif unanswered:
         yield f"least withheld: {unanswered} of {len(places)} places have no answer"
     else:
-        lines = [said_least(word, of) for word, of in (("with all on ", [one for one in places if one.all_on()]),
-                                                       ("", places)) if of]
+        all_on = [one for one in places if one.all_on()]
+        lines = [said_least(word + of, some) for word, some in (("with all on ", all_on), ("", places)) if some]
         if len(lines) == 2 and lines[0].removeprefix("least with all on ") == lines[1].removeprefix("least "):
             lines = lines[1:]
         yield from lines
@@ -268,7 +270,7 @@ def asked_along(group: Group, given: Sequence[int], progress: Progress, known: K
         print(places[-1].said(), flush=True)
         if isinstance(places[-1].found, Collapses):
             break
-    print(*ends_of(places), sep="\n")
+    print(*ends_of(places, "of the given places " if given else ""), sep="\n")
     if any(isinstance(one.found, Collapses) for one in places):
         return 1
     return 0 if all(one.settled() for one in places) else 70
