@@ -10,7 +10,7 @@ it checked of a crate, in out/incremental, that is used and added to; the librar
 A crate begins once all that it stands on is made, and as many provers run at once as there are processors, since more
 of them take more processor time for the same work. Crates with the most work behind them go first, with two provers
 each; the less work a crate has behind it, the lower its priority. A line for each crate goes to standard error; what
-the prover says goes to crates/stack_cli/out/build.log. The exit status is 0 if the program is built.
+the prover says goes to crates/pungiroe/out/build.log. The exit status is 0 if the program is built.
 
 If the kit isn't one that this was run with, or lacks a word or a file that is needed, rt's own commands do the work:
 `rt lib` for one crate after the other, and `rt run` for the program. That takes longer. BUILD_BY=rt in the environment
@@ -33,7 +33,7 @@ from concurrent.futures import FIRST_COMPLETED, Future, ThreadPoolExecutor, wait
 from dataclasses import dataclass
 from typing import TextIO
 
-PROGRAM = "stack_cli"
+PROGRAM = "pungiroe"
 # The lines of identity of the kits that this was run with.
 KITS = ("rattle-kit-13f logic dac8208d650f15bf",)
 # What the prover and its kit must have, besides what an option of theirs may add.

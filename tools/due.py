@@ -10,7 +10,7 @@ from enum import Enum
 from hashlib import sha256
 from pathlib import Path
 
-PROGRAM = "crates/stack_cli/out/stack_cli"
+PROGRAM = "crates/pungiroe/out/pungiroe"
 
 
 class Why(Enum):

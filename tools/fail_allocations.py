@@ -80,7 +80,7 @@ def tried(program: str, words: list[str], library: str, count_file: str) -> tupl
 
 def main() -> int:
     top = os.path.dirname(os.path.dirname(os.path.abspath(__file__)))
-    program = os.environ.get("PUNGIROE", os.path.join(top, "crates/stack_cli/out/stack_cli"))
+    program = os.environ.get("PUNGIROE", os.path.join(top, "crates/pungiroe/out/pungiroe"))
     if len(sys.argv) > 1 or shutil.which("cc") is None or not os.access(program, os.X_OK):
         print("fail_allocations: it takes no words, and needs a C compiler and the built program", file=sys.stderr)
         return 2

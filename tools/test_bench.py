@@ -332,14 +332,14 @@ class Places(Asked):
 class Building(unittest.TestCase):
     def test_what_is_not_built_is_said(self) -> None:
         with TemporaryDirectory() as folder:
-            tools, out = Path(folder, "tools"), Path(folder, "crates/stack_cli/out")
+            tools, out = Path(folder, "tools"), Path(folder, "crates/pungiroe/out")
             tools.mkdir()
             out.mkdir(parents=True)
             Path(folder, "crates.txt").touch()
             with mock.patch.object(bench, "__file__", str(tools / "bench.py")):
                 with mock.patch.object(bench, "PROGRAM", str(Path(folder, "pungiroe"))):
                     self.assertFalse(bench.built())
-                    Path(out, "stack_cli").touch(0o755)
+                    Path(out, "pungiroe").touch(0o755)
                     self.assertTrue(bench.built())
                     Path(folder, "crates/later.rt").touch()
                     os.utime(Path(folder, "crates/later.rt"), (2**31, 2**31))

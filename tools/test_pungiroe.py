@@ -20,10 +20,10 @@ from tempfile import TemporaryDirectory
 import due
 
 SCRIPT = Path(__file__).resolve().parent.parent / "pungiroe"
-SOURCE, PROOF = "crates/stack_cli/src/main.rt", "crates/stack_low/proofs/Sums.antt"
-PROGRAM = "crates/stack_cli/out/stack_cli"
+SOURCE, PROOF = "crates/pungiroe/src/main.rt", "crates/stack_low/proofs/Sums.antt"
+PROGRAM = "crates/pungiroe/out/pungiroe"
 FILES = {
-    "crates.txt": "stack_low:\nstack_cli: stack_low\n",
+    "crates.txt": "stack_low:\npungiroe: stack_low\n",
     SOURCE: "first",
     "crates/stack_low/src/lib.rt": "low",
     "crates/stack_low/specs/Lib.antt": "lib",
@@ -33,7 +33,7 @@ FILES = {
 echo built >>builds
 [ ! -e failing ] || exit 1
 [ ! -e during ] || . ./during
-mkdir -p crates/stack_cli/out
+mkdir -p crates/pungiroe/out
 rm -f {PROGRAM}
 printf '#!/usr/bin/env bash\\necho "$(printf %s "{{}}")" "$PWD" "$@"\\nexit 3\\n' >{PROGRAM}.new
 sed "s/{{}}/$(cat {SOURCE})/" {PROGRAM}.new >{PROGRAM}
@@ -161,7 +161,7 @@ class Calls(unittest.TestCase):
         self.replaced(PROOF, lambda path: path.rename(path.with_name("Totals.antt")))
 
     def test_the_list_of_crates_is_changed(self) -> None:
-        self.replaced("crates.txt", lambda path: path.write_text("stack_cli:\n"))
+        self.replaced("crates.txt", lambda path: path.write_text("pungiroe:\n"))
 
     def test_a_crate_is_added(self) -> None:
         def change(path: Path) -> None:

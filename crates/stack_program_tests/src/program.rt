@@ -1,8 +1,7 @@
 //! The program over devices in memory: each form once, the words as the runtime gives them, and devices that fail. All
 //! other rows are run on the real disk by the examples.
 
-use super::command::run;
-use super::given::{Given, run_given};
+use stack_cli::{Given, run, run_given};
 use stack_outside::{MemoryShelf, MemorySink};
 use std::alloc::Global;
 use std::test::*;
