@@ -1,7 +1,7 @@
 //! The program over devices in memory: each form once, the words as the runtime gives them, and devices that fail. All
 //! other rows are run on the real disk by the examples.
 
-use stack_cli::{Given, run, run_given};
+use stack_cli::{Given, run_given};
 use stack_outside::{MemoryShelf, MemorySink};
 use std::alloc::Global;
 use std::test::*;
@@ -65,16 +65,338 @@ type Files = &'static [(&'static str, &'static [&'static str])];
 /// The post and forces that carry it.
 const CARRIED: Files = &[("model", &[POST]), ("certificate", &[FORCES])];
 
+/// The post, and forces that pull.
+const PULLED: Files = &[
+    ("model", &[POST]),
+    (
+        "certificate",
+        &["stands\nforces 1 0\npush -1 0\npush 24 0\nend\n"],
+    ),
+];
+
+const TIPPING: Files = &[("model", &[POST, PUSH])];
+
+const ORDERED: Files = &[
+    ("model", &[POST]),
+    ("order", &["post\n"]),
+    ("twice", &["post\npost\n"]),
+];
+
+/// The post, pushed and pressed, and directions.
+const DIRECTED: Files = &[
+    ("model", &[POST, PUSH, PRESSURE]),
+    ("down", &["dir 0 1\n"]),
+    ("aside", &["dir 1 0\n"]),
+    ("nowhere", &["dir 0 0\n"]),
+];
+
+/// What the program answers where no stream fails.
+#[derive(Clone, Copy)]
+enum Answer {
+    /// This status, and this text on standard output.
+    Says(u8, &'static str),
+    /// A text on standard output of which this is the front.
+    Begins(&'static str),
+    /// This status, and this line on standard error.
+    Refuses(u8, &'static str),
+}
+
+type Words = &'static [&'static str];
+
+/// Rows over one shelf with these files, whose listed reads fail; and how many reads the rows ask for.
+#[derive(Clone, Copy)]
+struct Case {
+    name: &'static str,
+    files: Files,
+    fails: &'static [u64],
+    rows: &'static [(Words, Answer)],
+    asked: usize,
+}
+
+const CHECK: Words = &["check", "model", "certificate"];
+
+const CONTACTS: Words = &["contacts", "model"];
+
+/// Each form, and words without a form, which ask for no file.
+const FORMS: &[Case] = &[
+    Case {
+        name: "a post that is carried",
+        files: CARRIED,
+        fails: &[],
+        rows: &[
+            (CHECK, Answer::Says(0, "accepted\n")),
+            (CONTACTS, Answer::Says(0, TABLE)),
+            (&["table", "model", "certificate"], Answer::Says(0, TABLES)),
+            (&["sample", "0"], Answer::Says(0, SAMPLE)),
+            (&["stack", "slab", "7"], Answer::Refuses(5, "model size\n")),
+        ],
+        asked: 5,
+    },
+    Case {
+        name: "forces that pull",
+        files: PULLED,
+        fails: &[],
+        rows: &[(CHECK, Answer::Says(1, "rejected first push 1\n"))],
+        asked: 2,
+    },
+    Case {
+        name: "a post that is judged",
+        files: CARRIED,
+        fails: &[],
+        rows: &[
+            (&["stand", "model", "3"], Answer::Refuses(8, "spent 3\n")),
+            (&["load", "model"], Answer::Refuses(9, "no live load\n")),
+            (&["stand", "model", "4"], Answer::Begins("stands\n")),
+            (&["range", "model"], Answer::Refuses(9, "no live load\n")),
+        ],
+        asked: 4,
+    },
+    Case {
+        name: "the range of a pushed post",
+        files: TIPPING,
+        fails: &[],
+        rows: &[
+            (&["range", "model", "1"], Answer::Refuses(8, "spent 1\n")),
+            (
+                &["range", "model"],
+                Answer::Begins("range -2/1 2/1\ngreatest\n"),
+            ),
+        ],
+        asked: 2,
+    },
+    Case {
+        name: "the stages of an order",
+        files: ORDERED,
+        fails: &[],
+        rows: &[
+            (
+                &["stages", "model", "order"],
+                Answer::Says(0, "stage 1 stands\nall stand\n"),
+            ),
+            (
+                &["stages", "model", "order", "1"],
+                Answer::Refuses(8, "spent 1\n"),
+            ),
+            (
+                &["stages", "model", "twice"],
+                Answer::Refuses(13, "order line 2\n"),
+            ),
+            (
+                &["stages", "model", "none"],
+                Answer::Refuses(3, "file order\n"),
+            ),
+        ],
+        asked: 8,
+    },
+    Case {
+        name: "the region of a push and a pressure",
+        files: DIRECTED,
+        fails: &[],
+        rows: &[
+            (
+                &["yield", "model", "1", "2", "down"],
+                Answer::Says(0, "region 1\ndir 0 1 unlimited\n"),
+            ),
+            (
+                &["yield", "model", "1", "2", "aside", "1"],
+                Answer::Refuses(8, "spent 1\n"),
+            ),
+            (
+                &["yield", "model", "1", "2", "nowhere"],
+                Answer::Refuses(14, "directions line 1\n"),
+            ),
+            (
+                &["yield", "model", "1", "2", "none"],
+                Answer::Refuses(3, "file directions\n"),
+            ),
+            (
+                &["yield", "model", "1", "3", "down"],
+                Answer::Refuses(15, "no pair 3\n"),
+            ),
+            (
+                &["yield", "model", "1", "2", "aside"],
+                Answer::Begins("region 1\ndir 1 0 reach 2/1 0/1\nhalf "),
+            ),
+        ],
+        asked: 11,
+    },
+    Case {
+        name: "words without a form",
+        files: CARRIED,
+        fails: &[],
+        rows: &[
+            (&[], Answer::Refuses(2, "words\n")),
+            (&["check", "model"], Answer::Refuses(2, "words\n")),
+            (
+                &["check", "model", "certificate", "more"],
+                Answer::Refuses(2, "words\n"),
+            ),
+        ],
+        asked: 0,
+    },
+];
+
+/// Reads that fail.
+const READS: &[Case] = &[
+    Case {
+        name: "a first read that fails",
+        files: CARRIED,
+        fails: &[1],
+        rows: &[(CHECK, Answer::Refuses(3, "file model\n"))],
+        asked: 1,
+    },
+    Case {
+        name: "a second read that fails",
+        files: CARRIED,
+        fails: &[2],
+        rows: &[(CHECK, Answer::Refuses(3, "file certificate\n"))],
+        asked: 2,
+    },
+];
+
+/// What fails of the two streams: the puts of each after so many bytes, and the room of the first.
+#[derive(Clone, Copy)]
+struct Faults {
+    out: &'static [(u64, usize)],
+    room: usize,
+    err: &'static [(u64, usize)],
+}
+
+const NO_FAULTS: Faults = Faults {
+    out: &[],
+    room: 1000,
+    err: &[],
+};
+
+/// A status, what the output begins and ends with, whether the front is all of it, the error line, and how often each
+/// stream is called.
+#[derive(Clone, Copy)]
+struct Told {
+    status: u8,
+    front: &'static str,
+    end: &'static str,
+    is_whole: bool,
+    err: &'static str,
+    calls: (u64, u64),
+}
+
+/// What is told of an answer where no stream fails.
+fn told_of(answer: &Answer) -> Told {
+    let (status, front, is_whole, err, calls) = match *answer {
+        Answer::Says(status, text) => (status, text, true, "", (1, 0)),
+        Answer::Begins(front) => (0, front, false, "", (1, 0)),
+        Answer::Refuses(status, line) => (status, "", true, line, (0, 1)),
+    };
+    Told {
+        status,
+        front,
+        end: "",
+        is_whole,
+        err,
+        calls,
+    }
+}
+
+/// A run over these files whose streams fail.
+#[derive(Clone, Copy)]
+struct Delivery {
+    files: Files,
+    words: Words,
+    faults: Faults,
+    told: Told,
+}
+
+/// A certificate that is kept whole stands, though its put fails; an output that is cut off; one that doesn't fit; and
+/// a refusal whose line fails.
+const DELIVERIES: &[Delivery] = &[
+    Delivery {
+        files: CARRIED,
+        words: &["stand", "model"],
+        faults: Faults {
+            out: &[(1, 1000)],
+            room: 1000,
+            err: &[],
+        },
+        told: Told {
+            status: 10,
+            front: "stands\n",
+            end: "end\n",
+            is_whole: false,
+            err: "output\n",
+            calls: (1, 1),
+        },
+    },
+    Delivery {
+        files: CARRIED,
+        words: CHECK,
+        faults: Faults {
+            out: &[(1, 3)],
+            room: 100,
+            err: &[],
+        },
+        told: Told {
+            status: 10,
+            front: "acc",
+            end: "acc",
+            is_whole: true,
+            err: "output\n",
+            calls: (1, 1),
+        },
+    },
+    Delivery {
+        files: CARRIED,
+        words: CONTACTS,
+        faults: Faults {
+            out: &[],
+            room: 10,
+            err: &[],
+        },
+        told: Told {
+            status: 10,
+            front: "",
+            end: "",
+            is_whole: true,
+            err: "output\n",
+            calls: (1, 1),
+        },
+    },
+    Delivery {
+        files: &[],
+        words: CHECK,
+        faults: Faults {
+            out: &[],
+            room: 100,
+            err: &[(1, 0)],
+        },
+        told: Told {
+            status: 3,
+            front: "",
+            end: "",
+            is_whole: true,
+            err: "",
+            calls: (0, 1),
+        },
+    },
+];
+
+fn file(alloc: Global, name: &str, pieces: &[&str]) -> Option<(String, Vec<u8>)> {
+    let bytes = pieces.concat(alloc).ok()?.into_bytes();
+    let name = String::from_str(alloc, name).ok()?;
+    Some((name, bytes))
+}
+
+fn held(alloc: Global, files: Files) -> Option<Vec<(String, Vec<u8>)>> {
+    let mut held = Vec::new(alloc);
+    for (name, pieces) in files {
+        held.push(file(alloc, name, pieces)?).ok()?;
+    }
+    Some(held)
+}
+
 /// A shelf with these files, whose listed reads fail.
 fn shelf(alloc: Global, files: Files, fails: &[u64]) -> Option<MemoryShelf> {
-    let mut list = Vec::new(alloc);
-    for (name, pieces) in files {
-        let bytes = pieces.concat(alloc).ok()?.into_bytes();
-        let name = String::from_str(alloc, name).ok()?;
-        list.push((name, bytes)).ok()?;
-    }
     let fails = fails.to_vec(alloc).ok()?;
-    Some(MemoryShelf::new(list, fails))
+    Some(MemoryShelf::new(held(alloc, files)?, fails))
 }
 
 fn strings(alloc: Global, words: &[&str]) -> Option<Vec<String>> {
@@ -92,333 +414,146 @@ fn sink(alloc: Global, fails: &[(u64, usize)], room: usize) -> Option<MemorySink
     MemorySink::new(fails, room).ok()
 }
 
-/// Words, and what the program answers: its status, its output, or the front of it, and its error line.
-#[derive(Clone, Copy)]
-struct Row {
-    words: &'static [&'static str],
-    status: u8,
-    out: &'static str,
-    is_whole: bool,
-    err: &'static str,
-}
-
-/// An answer on standard output.
-fn says(words: &'static [&'static str], status: u8, out: &'static str) -> Row {
-    Row {
-        words,
-        status,
-        out,
-        is_whole: true,
-        err: "",
-    }
-}
-
-/// An answer of which this is the front.
-fn begins(words: &'static [&'static str], out: &'static str) -> Row {
-    Row {
-        words,
-        status: 0,
-        out,
-        is_whole: false,
-        err: "",
-    }
-}
-
-/// A refusal.
-fn refuses(words: &'static [&'static str], status: u8, err: &'static str) -> Row {
-    Row {
-        words,
-        status,
-        out: "",
-        is_whole: true,
-        err,
-    }
-}
-
-/// Whether the program over the shelf answers so.
-fn holds(alloc: Global, shelf: &mut MemoryShelf, row: Row) -> Option<bool> {
-    let words = strings(alloc, row.words)?;
-    let mut out = sink(alloc, &[], 1000)?;
-    let mut err = sink(alloc, &[], 100)?;
-    let status = run(alloc, words.as_slice(), shelf, &mut out, &mut err);
+/// Whether this is the status, and the streams took what is told.
+fn is_told(status: u8, out: &MemorySink, err: &MemorySink, told: &Told) -> bool {
     let written = out.written();
-    let is_told = written.starts_with(row.out.as_bytes())
-        && (written.len() == row.out.len() || !row.is_whole)
-        && err.written() == row.err.as_bytes();
-    Some(is_told && status == row.status)
+    status == told.status
+        && written.starts_with(told.front.as_bytes())
+        && written.ends_with(told.end.as_bytes())
+        && (written.len() == told.front.len() || !told.is_whole)
+        && err.written() == told.err.as_bytes()
+        && (out.calls(), err.calls()) == told.calls
 }
 
-/// How many rows hold, up to the first that doesn't, over one shelf with these files whose listed reads fail; and how
-/// many reads were asked for.
-fn holding(alloc: Global, files: Files, fails: &[u64], rows: &[Row]) -> Option<(usize, usize)> {
-    let mut shelf = shelf(alloc, files, fails)?;
-    for (k, row) in rows.iter().enumerate() {
-        if holds(alloc, &mut shelf, *row) != Some(true) {
-            return Some((k, shelf.asked().len()));
+/// Whether the program tells this over the shelf and this output, with an error stream that fails so.
+fn tells_on(
+    alloc: Global,
+    given: Given,
+    shelf: &mut MemoryShelf,
+    out: &mut MemorySink,
+    fails: &[(u64, usize)],
+    told: &Told,
+) -> bool {
+    match sink(alloc, fails, 100) {
+        Some(mut err) => {
+            let status = run_given(alloc, given, shelf, out, &mut err);
+            is_told(status, out, &err, told)
+        }
+        None => false,
+    }
+}
+
+/// Whether the program, given this, tells that over the shelf, with streams that fail so.
+fn tells(
+    alloc: Global,
+    given: Given,
+    shelf: &mut MemoryShelf,
+    faults: &Faults,
+    told: &Told,
+) -> bool {
+    match sink(alloc, faults.out, faults.room) {
+        Some(mut out) => tells_on(alloc, given, shelf, &mut out, faults.err, told),
+        None => false,
+    }
+}
+
+fn tells_words(
+    alloc: Global,
+    words: Words,
+    shelf: &mut MemoryShelf,
+    faults: &Faults,
+    told: &Told,
+) -> bool {
+    match strings(alloc, words) {
+        Some(words) => tells(alloc, Given::Words(words), shelf, faults, told),
+        None => false,
+    }
+}
+
+/// Whether all rows of a case hold over its shelf, and ask for so many reads.
+fn all_hold(alloc: Global, shelf: &mut MemoryShelf, case: &Case) -> bool {
+    for (words, answer) in case.rows {
+        if !tells_words(alloc, *words, shelf, &NO_FAULTS, &told_of(answer)) {
+            return false;
         }
     }
-    Some((rows.len(), shelf.asked().len()))
+    shelf.asked().len() == case.asked
 }
 
-const CHECK: &[&str] = &["check", "model", "certificate"];
+fn holds(alloc: Global, case: &Case) -> bool {
+    match shelf(alloc, case.files, case.fails) {
+        Some(mut shelf) => all_hold(alloc, &mut shelf, case),
+        None => false,
+    }
+}
 
-const CONTACTS: &[&str] = &["contacts", "model"];
-
-/// The post, and forces that pull.
-const PULLED: Files = &[
-    ("model", &[POST]),
-    (
-        "certificate",
-        &["stands\nforces 1 0\npush -1 0\npush 24 0\nend\n"],
-    ),
-];
+/// The first case that doesn't hold.
+fn wrong(alloc: Global, cases: &[Case]) -> Option<&'static str> {
+    for case in cases {
+        if !holds(alloc, case) {
+            return Some(case.name);
+        }
+    }
+    None
+}
 
 #[test]
 fn each_form_is_answered(rt: HostRuntime) {
-    let alloc = rt.alloc();
-    let rows = [
-        says(CHECK, 0, "accepted\n"),
-        says(CONTACTS, 0, TABLE),
-        says(&["table", "model", "certificate"], 0, TABLES),
-        says(&["sample", "0"], 0, SAMPLE),
-        refuses(&["stack", "slab", "7"], 5, "model size\n"),
-    ];
-    let pulled = [says(CHECK, 1, "rejected first push 1\n")];
-    let found = [
-        holding(alloc, CARRIED, &[], rows.as_slice()),
-        holding(alloc, PULLED, &[], pulled.as_slice()),
-    ];
-    assert_eq!(rt; found, [Some((5, 5)), Some((1, 2))]);
+    assert_eq!(rt; wrong(rt.alloc(), FORMS), None);
 }
 
 #[test]
-fn the_post_is_judged(rt: HostRuntime) {
-    let rows = [
-        refuses(&["stand", "model", "3"], 8, "spent 3\n"),
-        refuses(&["load", "model"], 9, "no live load\n"),
-        begins(&["stand", "model", "4"], "stands\n"),
-        refuses(&["range", "model"], 9, "no live load\n"),
-    ];
-    assert_eq!(rt;
-        holding(rt.alloc(), CARRIED, &[], rows.as_slice()),
-        Some((4, 4))
-    );
+fn reads_that_fail_are_refused(rt: HostRuntime) {
+    assert_eq!(rt; wrong(rt.alloc(), READS), None);
 }
 
-const TIPPING: Files = &[("model", &[POST, PUSH])];
-
-#[test]
-fn the_range_of_a_pushed_post_is_told(rt: HostRuntime) {
-    let rows = [
-        refuses(&["range", "model", "1"], 8, "spent 1\n"),
-        begins(&["range", "model"], "range -2/1 2/1\ngreatest\n"),
-    ];
-    assert_eq!(rt;
-        holding(rt.alloc(), TIPPING, &[], rows.as_slice()),
-        Some((2, 2))
-    );
-}
-
-const ORDERED: Files = &[
-    ("model", &[POST]),
-    ("order", &["post\n"]),
-    ("twice", &["post\npost\n"]),
-];
-
-#[test]
-fn the_stages_of_an_order_are_told(rt: HostRuntime) {
-    let rows = [
-        says(
-            &["stages", "model", "order"],
-            0,
-            "stage 1 stands\nall stand\n",
+fn is_delivered(alloc: Global, delivery: &Delivery) -> bool {
+    match shelf(alloc, delivery.files, &[]) {
+        Some(mut shelf) => tells_words(
+            alloc,
+            delivery.words,
+            &mut shelf,
+            &delivery.faults,
+            &delivery.told,
         ),
-        refuses(&["stages", "model", "order", "1"], 8, "spent 1\n"),
-        refuses(&["stages", "model", "twice"], 13, "order line 2\n"),
-        refuses(&["stages", "model", "none"], 3, "file order\n"),
-    ];
-    assert_eq!(rt;
-        holding(rt.alloc(), ORDERED, &[], rows.as_slice()),
-        Some((4, 8))
-    );
+        None => false,
+    }
 }
 
-/// The post, pushed and pressed, and directions.
-const DIRECTED: Files = &[
-    ("model", &[POST, PUSH, PRESSURE]),
-    ("down", &["dir 0 1\n"]),
-    ("aside", &["dir 1 0\n"]),
-    ("nowhere", &["dir 0 0\n"]),
-];
-
-#[test]
-fn the_region_of_a_push_and_a_pressure_is_told(rt: HostRuntime) {
-    let rows = [
-        says(
-            &["yield", "model", "1", "2", "down"],
-            0,
-            "region 1\ndir 0 1 unlimited\n",
-        ),
-        refuses(&["yield", "model", "1", "2", "aside", "1"], 8, "spent 1\n"),
-        refuses(
-            &["yield", "model", "1", "2", "nowhere"],
-            14,
-            "directions line 1\n",
-        ),
-        refuses(
-            &["yield", "model", "1", "2", "none"],
-            3,
-            "file directions\n",
-        ),
-        refuses(&["yield", "model", "1", "3", "down"], 15, "no pair 3\n"),
-        begins(
-            &["yield", "model", "1", "2", "aside"],
-            "region 1\ndir 1 0 reach 2/1 0/1\nhalf ",
-        ),
-    ];
-    assert_eq!(rt;
-        holding(rt.alloc(), DIRECTED, &[], rows.as_slice()),
-        Some((6, 11))
-    );
+/// How many are delivered, up to the first that isn't.
+fn delivered(alloc: Global, deliveries: &[Delivery]) -> usize {
+    for (k, delivery) in deliveries.iter().enumerate() {
+        if !is_delivered(alloc, delivery) {
+            return k;
+        }
+    }
+    deliveries.len()
 }
 
-#[test]
-fn words_without_a_form_ask_for_no_file(rt: HostRuntime) {
-    let rows = [
-        refuses(&[], 2, "words\n"),
-        refuses(&["check", "model"], 2, "words\n"),
-        refuses(&["check", "model", "certificate", "more"], 2, "words\n"),
-    ];
-    assert_eq!(rt;
-        holding(rt.alloc(), CARRIED, &[], rows.as_slice()),
-        Some((3, 0))
-    );
-}
-
-/// The statuses of words, of words of which one can't be read, and of words for which memory was wanting.
-fn statuses(
-    alloc: Global,
-    words: Vec<String>,
-    shelf: &mut MemoryShelf,
-    out: &mut MemorySink,
-    err: &mut MemorySink,
-) -> [u8; 3] {
-    [
-        run_given(alloc, Given::Words(words), shelf, out, err),
-        run_given(alloc, Given::Unreadable, shelf, out, err),
-        run_given(alloc, Given::Memory, shelf, out, err),
-    ]
-}
-
-fn answers_as_given(alloc: Global) -> Option<([u8; 3], bool, bool)> {
-    let mut files = shelf(alloc, CARRIED, &[])?;
-    let mut out = sink(alloc, &[], 100)?;
-    let mut err = sink(alloc, &[], 100)?;
-    let words = strings(alloc, CHECK)?;
-    let statuses = statuses(alloc, words, &mut files, &mut out, &mut err);
-    Some((
-        statuses,
-        out.written() == b"accepted\n".as_slice(),
-        err.written() == b"words\nmemory\n".as_slice(),
-    ))
-}
-
-#[test]
-fn words_are_taken_as_the_runtime_gives_them(rt: HostRuntime) {
-    assert_eq!(rt;
-        answers_as_given(rt.alloc()),
-        Some(([0, 2, 11], true, true))
-    );
-}
-
-/// What fails of the two streams: the puts of each after so many bytes, and the room of the first.
-#[derive(Clone, Copy)]
-struct Faults {
-    out: &'static [(u64, usize)],
-    room: usize,
-    err: &'static [(u64, usize)],
-}
-
-/// The status, whether the output begins and ends so and is no longer than its front, whether the error line is this,
-/// and how often each stream was called.
-type Delivered = (u8, [bool; 4], [u64; 2]);
-
-/// What the program delivers over these files where its streams fail.
-fn delivered(
-    alloc: Global,
-    files: Files,
-    words: &[&str],
-    faults: Faults,
-    said: (&str, &str, &str),
-) -> Option<Delivered> {
-    let mut files = shelf(alloc, files, &[])?;
-    let mut out = sink(alloc, faults.out, faults.room)?;
-    let mut err = sink(alloc, faults.err, 100)?;
-    let words = strings(alloc, words)?;
-    let status = run(alloc, words.as_slice(), &mut files, &mut out, &mut err);
-    let written = out.written();
-    let told = [
-        written.starts_with(said.0.as_bytes()),
-        written.ends_with(said.1.as_bytes()),
-        written.len() == said.0.len(),
-        err.written() == said.2.as_bytes(),
-    ];
-    Some((status, told, [out.calls(), err.calls()]))
-}
-
-/// Whether a first and a second read that fails are refused so, and how many reads were asked for.
-fn reads_fail(alloc: Global) -> [Option<(usize, usize)>; 2] {
-    let model = [refuses(CHECK, 3, "file model\n")];
-    let certificate = [refuses(CHECK, 3, "file certificate\n")];
-    [
-        holding(alloc, CARRIED, &[1], model.as_slice()),
-        holding(alloc, CARRIED, &[2], certificate.as_slice()),
-    ]
-}
-
-/// A certificate that is kept whole stands, though its put fails.
 #[test]
 fn devices_that_fail_are_told_apart(rt: HostRuntime) {
-    let alloc = rt.alloc();
-    assert_eq!(rt; reads_fail(alloc), [Some((1, 1)), Some((1, 2))]);
-    let kept = Faults {
-        out: &[(1, 1000)],
-        room: 1000,
-        err: &[],
-    };
-    let cut = Faults {
-        out: &[(1, 3)],
-        room: 100,
-        err: &[],
-    };
-    let narrow = Faults {
-        out: &[],
-        room: 10,
-        err: &[],
-    };
-    let silent = Faults {
-        out: &[],
-        room: 100,
-        err: &[(1, 0)],
-    };
-    let stand = ["stand", "model"];
-    let found = [
-        delivered(
+    assert_eq!(rt; delivered(rt.alloc(), DELIVERIES), 4);
+}
+
+/// Whether words of which one can't be read, and words for which memory was wanting, are refused so.
+fn are_refused(alloc: Global) -> [bool; 2] {
+    let mut shelf = MemoryShelf::new(Vec::new(alloc), Vec::new(alloc));
+    let unreadable = told_of(&Answer::Refuses(2, "words\n"));
+    let memory = told_of(&Answer::Refuses(11, "memory\n"));
+    [
+        tells(
             alloc,
-            CARRIED,
-            stand.as_slice(),
-            kept,
-            ("stands\n", "end\n", "output\n"),
+            Given::Unreadable,
+            &mut shelf,
+            &NO_FAULTS,
+            &unreadable,
         ),
-        delivered(alloc, CARRIED, CHECK, cut, ("acc", "acc", "output\n")),
-        delivered(alloc, CARRIED, CONTACTS, narrow, ("", "", "output\n")),
-        delivered(alloc, &[], CHECK, silent, ("", "", "")),
-    ];
-    let wanted = [
-        Some((10, [true, true, false, true], [1, 1])),
-        Some((10, [true; 4], [1, 1])),
-        Some((10, [true; 4], [1, 1])),
-        Some((3, [true; 4], [0, 1])),
-    ];
-    assert_eq!(rt; found, wanted);
+        tells(alloc, Given::Memory, &mut shelf, &NO_FAULTS, &memory),
+    ]
+}
+
+/// All words that can be read are given so in the other tests.
+#[test]
+fn words_are_taken_as_the_runtime_gives_them(rt: HostRuntime) {
+    assert_eq!(rt; are_refused(rt.alloc()), [true; 2]);
 }
