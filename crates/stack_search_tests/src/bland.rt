@@ -45,29 +45,12 @@ fn choices_of<S: Exact>(alloc: Global, p: &Problem, row: usize) -> Option<Choice
     }
 }
 
-fn chosen<S: Exact>(alloc: Global, numbers: Numbers, row: usize) -> Option<Choices> {
-    let p = problem(alloc, numbers)?;
-    choices_of::<S>(alloc, &p, row)
-}
-
 /// After the pivot both ratios are equal.
 const EQUAL: Numbers = Numbers {
     contact: &[&[0, 1], &[1, 1]],
     factor: None,
     right: &[1, 1],
 };
-
-/// Equal ratios: the lesser basic column leaves, which isn't that of the first row.
-#[test]
-fn one_body_holds_at_8_64_and_128_bits(rt: HostRuntime) {
-    let alloc = rt.alloc();
-    let found = [
-        chosen::<Frac<i8>>(alloc, EQUAL, 1),
-        chosen::<Frac<i64>>(alloc, EQUAL, 1),
-        chosen::<Frac<i128>>(alloc, EQUAL, 1),
-    ];
-    assert_eq!(rt; found, [Some((Some(1), Ok(Some(1)))); 3]);
-}
 
 /// After the pivot a ratio is too wide for 8 bits.
 const WIDE: Numbers = Numbers {
@@ -76,16 +59,28 @@ const WIDE: Numbers = Numbers {
     right: &[0, 100],
 };
 
+/// Whether the choices of a problem after its pivot are these.
+fn chooses<S: Exact>(alloc: Global, numbers: Numbers, row: usize, wanted: Choices) -> bool {
+    match problem(alloc, numbers) {
+        Some(p) => choices_of::<S>(alloc, &p, row) == Some(wanted),
+        None => false,
+    }
+}
+
+/// Equal ratios: the lesser basic column leaves, which isn't that of the first row.
+fn equal_ratios_hold<S: Exact>(alloc: Global) -> bool {
+    chooses::<S>(alloc, EQUAL, 1, (Some(1), Ok(Some(1))))
+}
+
 #[test]
-fn a_ratio_that_is_too_wide_names_its_row(rt: HostRuntime) {
+fn one_body_holds_at_8_64_and_128_bits_and_a_ratio_too_wide_names_its_row(rt: HostRuntime) {
     let alloc = rt.alloc();
     let found = [
-        chosen::<Frac<i8>>(alloc, WIDE, 0),
-        chosen::<Frac<i64>>(alloc, WIDE, 0),
+        equal_ratios_hold::<Frac<i8>>(alloc),
+        equal_ratios_hold::<Frac<i64>>(alloc),
+        equal_ratios_hold::<Frac<i128>>(alloc),
+        chooses::<Frac<i8>>(alloc, WIDE, 0, (Some(1), Err(RatioWide { row: 1 }))),
+        chooses::<Frac<i64>>(alloc, WIDE, 0, (Some(1), Ok(Some(0)))),
     ];
-    let wide = Err(RatioWide { row: 1 });
-    assert_eq!(rt;
-        found,
-        [Some((Some(1), wide)), Some((Some(1), Ok(Some(0))))]
-    );
+    assert_eq!(rt; found, [true; 5]);
 }

@@ -1,5 +1,7 @@
 //! The judgement of a post that is pushed at its head, and of the greatest block, worked by hand.
 
+ghost use Rattle.std.specs.Prelude.{◌≢◌};
+
 use crate::drawings::{PUSHED, surveyed};
 use crate::problems::ended;
 use stack_certificate::Certificate;
@@ -10,55 +12,61 @@ use stack_rational::Frac;
 use std::alloc::Global;
 use std::test::*;
 
+/// The form of a certificate.
+fn form(certificate: &Certificate) -> &'static str {
+    match certificate {
+        Certificate::Stands(_) => "stands",
+        Certificate::Collapses(_) => "collapses",
+        Certificate::Greatest(..) => "greatest",
+        Certificate::Unbounded(..) => "unbounded",
+    }
+}
+
+/// The form of the certificate of a question, or why there is none.
+fn judged(alloc: Global, s: &Survey, q: Question, budget: u32) -> Result<&'static str, JudgeError>
+    requires { budget ≢ 0 }
+{
+    match judge(alloc, s, q, budget) {
+        Ok(certificate) => Ok(form(&certificate)),
+        Err(error) => Err(error),
+    }
+}
+
 /// Whether the greatest factor is twice the push.
-fn is_twice(found: Result<Certificate, JudgeError>) -> bool {
-    match found {
-        Ok(Certificate::Greatest(forces, _)) => {
+fn is_twice(certificate: &Certificate) -> bool {
+    match certificate {
+        Certificate::Greatest(forces, _) => {
             forces.scale > 0 && forces.scale < 1000 && forces.factor == 2 * forces.scale
         }
         _ => false,
     }
 }
 
-/// The form of a certificate, or why there is none.
-fn form(found: Result<Certificate, JudgeError>) -> Result<&'static str, JudgeError> {
-    match found {
-        Ok(Certificate::Stands(_)) => Ok("stands"),
-        Ok(Certificate::Collapses(_)) => Ok("collapses"),
-        Ok(Certificate::Greatest(..)) => Ok("greatest"),
-        Ok(Certificate::Unbounded(..)) => Ok("unbounded"),
-        Err(error) => Err(error),
+fn bears_twice(alloc: Global, s: &Survey) -> bool {
+    match judge(alloc, s, Question::Live, 100) {
+        Ok(certificate) => is_twice(&certificate),
+        Err(_) => false,
     }
 }
 
-/// The mark of a judgement, where its certificate has this form.
-fn mark(found: Result<(Certificate, bool), JudgeError>, wanted: &str) -> Option<bool> {
-    let Ok((certificate, is_narrow)) = found else {
-        return None;
-    };
-    if form(Ok(certificate)) == Ok(wanted) {
-        Some(is_narrow)
-    } else {
-        None
-    }
+/// Whether the pushed post bears twice its push, is left open by three pivots, and stands by four.
+fn judgements(alloc: Global, s: &Survey) -> [bool; 3] {
+    let spent = JudgeError::Spent { budget: 3 };
+    [
+        bears_twice(alloc, s),
+        judged(alloc, s, Question::Dead, 3) == Err(spent),
+        judged(alloc, s, Question::Dead, 4) == Ok("stands"),
+    ]
 }
 
-/// Whether the pushed post bears twice its push, and what its dead loads come to with three pivots and with four.
-fn judgements(alloc: Global) -> Option<(bool, [Result<&'static str, JudgeError>; 2])> {
+fn post_judgements(alloc: Global) -> Option<[bool; 3]> {
     let s = surveyed(alloc, PUSHED)?;
-    let is_twice = is_twice(judge(alloc, &s, Question::Live, 100));
-    let dead = [
-        form(judge(alloc, &s, Question::Dead, 3)),
-        form(judge(alloc, &s, Question::Dead, 4)),
-    ];
-    Some((is_twice, dead))
+    Some(judgements(alloc, &s))
 }
 
 #[test]
 fn a_post_bears_twice_its_push_and_stands_at_the_fourth_pivot(rt: HostRuntime) {
-    let spent = JudgeError::Spent { budget: 3 };
-    let wanted = (true, [Err(spent), Ok("stands")]);
-    assert_eq!(rt; judgements(rt.alloc()), Some(wanted));
+    assert_eq!(rt; post_judgements(rt.alloc()), Some([true; 3]));
 }
 
 /// The greatest and heaviest block, with nothing below it. Six times its weight is 24 million million million, too wide
@@ -69,30 +77,45 @@ const GREATEST: &[&str] = &[
     [1_000_000, -1_000_000], [1_000_000, 1_000_000], [-1_000_000, 1_000_000]]\n",
 ];
 
-/// The marks of the pushed post's judgements, where a plain run at 64 bits ends: that is what the mark tells.
-fn marks_of_the_post(alloc: Global, s: &Survey) -> [Option<bool>; 2] {
-    match ended::<Frac<i64>>(alloc, s, Question::Live, 20_000) {
-        Some(_) => [
-            mark(judge_marked(alloc, s, Question::Dead, 20_000), "stands"),
-            mark(judge_marked(alloc, s, Question::Live, 20_000), "greatest"),
-        ],
-        None => [None, None],
+/// The mark of a judgement, where its certificate has this form.
+fn mark(alloc: Global, s: &Survey, q: Question, wanted: &str) -> Option<bool> {
+    match judge_marked(alloc, s, q, 20_000) {
+        Ok((certificate, is_narrow)) => {
+            if form(&certificate) == wanted {
+                Some(is_narrow)
+            } else {
+                None
+            }
+        }
+        Err(_) => None,
     }
 }
 
-fn post_marks(alloc: Global) -> Option<[Option<bool>; 2]> {
+/// Whether a plain run at 64 bits ends: that is what the mark tells.
+fn ends_at_64_bits(alloc: Global, s: &Survey) -> bool {
+    ended::<Frac<i64>>(alloc, s, Question::Live, 20_000).is_some()
+}
+
+/// Whether that run of the pushed post ends, and its judgements have marks that say so.
+fn post_is_narrow(alloc: Global, s: &Survey) -> bool {
+    ends_at_64_bits(alloc, s)
+        && mark(alloc, s, Question::Dead, "stands") == Some(true)
+        && mark(alloc, s, Question::Live, "greatest") == Some(true)
+}
+
+fn post_mark(alloc: Global) -> Option<bool> {
     let s = surveyed(alloc, PUSHED)?;
-    Some(marks_of_the_post(alloc, &s))
+    Some(post_is_narrow(alloc, &s))
 }
 
 fn block_mark(alloc: Global) -> Option<bool> {
     let s = surveyed(alloc, GREATEST)?;
-    mark(judge_marked(alloc, &s, Question::Dead, 20_000), "collapses")
+    mark(alloc, &s, Question::Dead, "collapses")
 }
 
 #[test]
 fn a_post_is_narrow_and_the_greatest_block_is_not(rt: HostRuntime) {
     let alloc = rt.alloc();
-    let found = (post_marks(alloc), block_mark(alloc));
-    assert_eq!(rt; found, (Some([Some(true), Some(true)]), Some(false)));
+    let found = [post_mark(alloc), block_mark(alloc)];
+    assert_eq!(rt; found, [Some(true), Some(false)]);
 }

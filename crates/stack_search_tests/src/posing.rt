@@ -12,15 +12,16 @@ fn has(column: &Column, wanted: &[(usize, i128)]) -> bool {
     if column.entries.len() != wanted.len() {
         return false;
     }
-    for (entry, wanted) in column.entries.iter().zip(wanted) {
-        if (entry.row, entry.value) != *wanted {
+    for k in 0..wanted.len() {
+        let (row, value) = wanted[k];
+        if column.entries[k].row != row || column.entries[k].value != value {
             return false;
         }
     }
     true
 }
 
-const CONTACT: [&[(usize, i128)]; 4] = [
+const CONTACT: &[&[(usize, i128)]] = &[
     &[(0, 1), (1, 1)],
     &[(0, -1), (1, 1)],
     &[(0, 1), (1, 1), (2, 2)],
@@ -31,8 +32,8 @@ fn has_contact(problem: &Problem) -> bool {
     if problem.contact.len() != CONTACT.len() {
         return false;
     }
-    for (column, wanted) in problem.contact.iter().zip(CONTACT) {
-        if !has(column, wanted) {
+    for k in 0..CONTACT.len() {
+        if !has(&problem.contact[k], CONTACT[k]) {
             return false;
         }
     }
@@ -47,15 +48,21 @@ fn has_factor(problem: &Problem) -> bool {
 }
 
 /// The rows, whether the columns and the right sides are those worked by hand.
+fn told(problem: &Problem) -> (usize, bool, bool, bool) {
+    (
+        problem.rows,
+        has_contact(problem),
+        has_factor(problem),
+        problem.right.as_slice() == [0, 48, 48].as_slice(),
+    )
+}
+
 fn posed(alloc: Global) -> Option<(usize, bool, bool, bool)> {
     let s = surveyed(alloc, PUSHED)?;
-    let problem = pose(alloc, &s, Question::Live).ok()?;
-    Some((
-        problem.rows,
-        has_contact(&problem),
-        has_factor(&problem),
-        problem.right.as_slice() == [0, 48, 48].as_slice(),
-    ))
+    match pose(alloc, &s, Question::Live) {
+        Ok(problem) => Some(told(&problem)),
+        Err(_) => None,
+    }
 }
 
 #[test]

@@ -9,9 +9,10 @@ use std::alloc::Global;
 use std::test::*;
 
 /// How a run ends, or why it has no end.
-type Told = Result<EndKind, RevisedStop>;
+pub type Told = Result<EndKind, RevisedStop>;
 
-fn kind_of(found: Result<Last, RevisedStop>) -> Told {
+/// How a run ends, without its table.
+pub fn kind_of(found: Result<Last, RevisedStop>) -> Told {
     match found {
         Ok(last) => Ok(last.kind),
         Err(stop) => Err(stop),
@@ -29,25 +30,6 @@ fn told_of(alloc: Global, p: &Problem, budget: u32) -> Option<Told> {
     Some(kind_of(run_revised(alloc, p, budget)))
 }
 
-fn told(alloc: Global, numbers: Numbers, budget: u32) -> Option<Told> {
-    let p = problem(alloc, numbers)?;
-    told_of(alloc, &p, budget)
-}
-
-#[test]
-fn a_post_stands_after_four_pivots_and_is_pushed_for_five(rt: HostRuntime) {
-    let alloc = rt.alloc();
-    let found = [
-        told(alloc, POST, 3),
-        told(alloc, POST, 4),
-        told(alloc, PUSHED_POST, 4),
-        told(alloc, PUSHED_POST, 5),
-    ];
-    let spent = Some(Err(RevisedStop::Spent));
-    let stands = Some(Ok(EndKind::Feasible));
-    assert_eq!(rt; found, [spent, stands, spent, Some(Ok(EndKind::Optimal))]);
-}
-
 /// The example of Beale (1955), its rows in whole numbers, with its objective as the factor; one row is flipped.
 const BEALE: Numbers = Numbers {
     contact: &[
@@ -62,29 +44,6 @@ const BEALE: Numbers = Numbers {
     factor: Some(&[0, 0, 0, 100]),
     right: &[0, 0, -1, 0],
 };
-
-#[test]
-fn the_other_ends_and_beales_example_are_told(rt: HostRuntime) {
-    let alloc = rt.alloc();
-    let found = [
-        told(alloc, PULLED, 1),
-        told(alloc, PRESSED, 1),
-        told(alloc, DOUBLED, 1),
-        told(alloc, EMPTY, 1),
-        told(alloc, BEALE, 9),
-        told(alloc, BEALE, 10),
-    ];
-    let ray = Some(Ok(EndKind::Ray { column: 1 }));
-    let wanted = [
-        Some(Ok(EndKind::Infeasible)),
-        ray,
-        ray,
-        Some(Ok(EndKind::Feasible)),
-        Some(Err(RevisedStop::Spent)),
-        Some(Ok(EndKind::Optimal)),
-    ];
-    assert_eq!(rt; found, wanted);
-}
 
 const GREAT: i128 = 1 << 62;
 
@@ -115,25 +74,127 @@ const CLOSE: Numbers = Numbers {
     right: &[LARGE, LARGE - 1],
 };
 
+/// A problem, how many pivots its run may make, and how it ends.
+#[derive(Clone, Copy)]
+struct Case {
+    numbers: Numbers,
+    budget: u32,
+    told: Told,
+}
+
+/// A post stands after four pivots, and is pushed for five.
+const POSTS: &[Case] = &[
+    Case {
+        numbers: POST,
+        budget: 3,
+        told: Err(RevisedStop::Spent),
+    },
+    Case {
+        numbers: POST,
+        budget: 4,
+        told: Ok(EndKind::Feasible),
+    },
+    Case {
+        numbers: PUSHED_POST,
+        budget: 4,
+        told: Err(RevisedStop::Spent),
+    },
+    Case {
+        numbers: PUSHED_POST,
+        budget: 5,
+        told: Ok(EndKind::Optimal),
+    },
+];
+
+/// The other ends, and Beale's example.
+const ENDS: &[Case] = &[
+    Case {
+        numbers: PULLED,
+        budget: 1,
+        told: Ok(EndKind::Infeasible),
+    },
+    Case {
+        numbers: PRESSED,
+        budget: 1,
+        told: Ok(EndKind::Ray { column: 1 }),
+    },
+    Case {
+        numbers: DOUBLED,
+        budget: 1,
+        told: Ok(EndKind::Ray { column: 1 }),
+    },
+    Case {
+        numbers: EMPTY,
+        budget: 1,
+        told: Ok(EndKind::Feasible),
+    },
+    Case {
+        numbers: BEALE,
+        budget: 9,
+        told: Err(RevisedStop::Spent),
+    },
+    Case {
+        numbers: BEALE,
+        budget: 10,
+        told: Ok(EndKind::Optimal),
+    },
+];
+
 /// Wide numbers are taken at 128 bits, a refused run has one place, and a row whose bound doesn't fit goes on.
+const WIDE_ENDS: &[Case] = &[
+    Case {
+        numbers: WIDE,
+        budget: 2,
+        told: Ok(EndKind::Feasible),
+    },
+    Case {
+        numbers: APART,
+        budget: 9,
+        told: Err(RevisedStop::TooWide(RunPlace {
+            phase: 1,
+            pivot: 1,
+            row: 1,
+            column: 4,
+            step: Step::Multiply,
+        })),
+    },
+    Case {
+        numbers: CLOSE,
+        budget: 1,
+        told: Err(RevisedStop::Spent),
+    },
+    Case {
+        numbers: CLOSE,
+        budget: 2,
+        told: Ok(EndKind::Feasible),
+    },
+];
+
+fn ends_so(alloc: Global, case: &Case) -> bool {
+    match problem(alloc, case.numbers) {
+        Some(p) => told_of(alloc, &p, case.budget) == Some(case.told),
+        None => false,
+    }
+}
+
+/// How many end so, up to the first that doesn't.
+fn held(alloc: Global, cases: &[Case]) -> usize {
+    for (k, case) in cases.iter().enumerate() {
+        if !ends_so(alloc, case) {
+            return k;
+        }
+    }
+    cases.len()
+}
+
+/// A post, the other ends and Beale's example, and wide numbers as far as they fit.
 #[test]
-fn wide_numbers_are_taken_as_far_as_they_fit(rt: HostRuntime) {
+fn runs_end_as_worked_by_hand(rt: HostRuntime) {
     let alloc = rt.alloc();
     let found = [
-        told(alloc, WIDE, 2),
-        told(alloc, APART, 9),
-        told(alloc, CLOSE, 1),
-        told(alloc, CLOSE, 2),
+        held(alloc, POSTS),
+        held(alloc, ENDS),
+        held(alloc, WIDE_ENDS),
     ];
-    let place = RunPlace {
-        phase: 1,
-        pivot: 1,
-        row: 1,
-        column: 4,
-        step: Step::Multiply,
-    };
-    let ends = Some(Ok(EndKind::Feasible));
-    let wide = Some(Err(RevisedStop::TooWide(place)));
-    let spent = Some(Err(RevisedStop::Spent));
-    assert_eq!(rt; found, [ends, wide, spent, ends]);
+    assert_eq!(rt; found, [4, 6, 4]);
 }

@@ -10,7 +10,7 @@ use std::alloc::Global;
 use std::test::*;
 
 /// What a run tells, without its table.
-#[derive(Clone, Copy, Debug, PartialEq)]
+#[derive(Clone, Copy, PartialEq)]
 enum Outcome {
     Infeasible,
     Feasible,
@@ -62,47 +62,60 @@ fn last_rests_on<S: Exact>(
     }
 }
 
-/// What the run of a sound problem tells, and whether its last table has these basic columns and values.
-fn ends_of<S: Exact>(
-    alloc: Global,
-    p: &Problem,
-    budget: u32,
-    basic: &[usize],
-    values: &[i128],
-) -> Option<(Outcome, bool)> {
-    if budget == 0 {
-        return None;
-    }
-    if !p.is_sound() {
-        return None;
-    }
-    let Ok(t) = Table::<S>::build(alloc, p) else {
-        return None;
-    };
-    let found = run(t, budget);
-    Some((outcome_of(&found), last_rests_on(&found, basic, values)))
-}
+/// The basic columns of a last table, and the numerators of their values.
+type Rest = (&'static [usize], &'static [i128]);
 
-fn ends<S: Exact>(
-    alloc: Global,
+/// A problem, how many pivots its run may make, what the run tells, and on what its last table rests, where that is
+/// looked at.
+#[derive(Clone, Copy)]
+struct Case {
     numbers: Numbers,
     budget: u32,
-    basic: &[usize],
-    values: &[i128],
-) -> Option<(Outcome, bool)> {
-    let p = problem(alloc, numbers)?;
-    ends_of::<S>(alloc, &p, budget, basic, values)
+    told: Outcome,
+    last: Option<Rest>,
 }
 
-/// What the run tells.
-fn told<S: Exact>(alloc: Global, numbers: Numbers, budget: u32) -> Option<Outcome> {
-    match ends::<S>(alloc, numbers, budget, &[], &[]) {
-        Some((outcome, _)) => Some(outcome),
-        None => None,
+fn is_ended<S: Exact>(found: &Result<Ended<S>, RunError>, case: &Case) -> bool {
+    outcome_of(found) == case.told
+        && match case.last {
+            Some((basic, values)) => last_rests_on(found, basic, values),
+            None => true,
+        }
+}
+
+/// Whether the run of a sound problem ends so.
+fn ends_of<S: Exact>(alloc: Global, p: &Problem, case: &Case) -> bool {
+    if case.budget == 0 {
+        return false;
+    }
+    if !p.is_sound() {
+        return false;
+    }
+    let Ok(t) = Table::<S>::build(alloc, p) else {
+        return false;
+    };
+    let found = run(t, case.budget);
+    is_ended(&found, case)
+}
+
+fn ends<S: Exact>(alloc: Global, case: &Case) -> bool {
+    match problem(alloc, case.numbers) {
+        Some(p) => ends_of::<S>(alloc, &p, case),
+        None => false,
     }
 }
 
-const SPENT: Option<Outcome> = Some(Outcome::Refused(RunError::Spent));
+/// How many end so, up to the first that doesn't.
+fn held<S: Exact>(alloc: Global, cases: &[Case]) -> usize {
+    for (k, case) in cases.iter().enumerate() {
+        if !ends::<S>(alloc, case) {
+            return k;
+        }
+    }
+    cases.len()
+}
+
+const SPENT: Outcome = Outcome::Refused(RunError::Spent);
 
 /// Two rows whose ratios are equal in pivot 2.
 const DEAD: Numbers = Numbers {
@@ -118,23 +131,145 @@ const LIVE: Numbers = Numbers {
     right: &[1, 1],
 };
 
-fn two_rows_hold<S: Exact>(alloc: Global) -> bool {
-    told::<S>(alloc, DEAD, 1) == SPENT
-        && ends::<S>(alloc, DEAD, 2, &[2, 1], &[0, 1]) == Some((Outcome::Feasible, true))
-        && told::<S>(alloc, LIVE, 3) == SPENT
-        && ends::<S>(alloc, LIVE, 4, &[2, 1], &[0, 1]) == Some((Outcome::Optimal, true))
-}
+const TWO_ROWS: &[Case] = &[
+    Case {
+        numbers: DEAD,
+        budget: 1,
+        told: SPENT,
+        last: None,
+    },
+    Case {
+        numbers: DEAD,
+        budget: 2,
+        told: Outcome::Feasible,
+        last: Some((&[2, 1], &[0, 1])),
+    },
+    Case {
+        numbers: LIVE,
+        budget: 3,
+        told: SPENT,
+        last: None,
+    },
+    Case {
+        numbers: LIVE,
+        budget: 4,
+        told: Outcome::Optimal,
+        last: Some((&[2, 1], &[0, 1])),
+    },
+];
 
-#[test]
-fn one_body_holds_at_8_64_and_128_bits(rt: HostRuntime) {
-    let alloc = rt.alloc();
-    let found = [
-        two_rows_hold::<Frac<i8>>(alloc),
-        two_rows_hold::<Frac<i64>>(alloc),
-        two_rows_hold::<Frac<i128>>(alloc),
-    ];
-    assert_eq!(rt; found, [true; 3]);
-}
+/// After its first pivot a ratio is too wide for 8 bits.
+const RATIO: Numbers = Numbers {
+    contact: &[&[2, 1], &[1, 1]],
+    factor: None,
+    right: &[0, 100],
+};
+
+/// No column at all.
+const BARE: Numbers = Numbers {
+    contact: &[],
+    factor: None,
+    right: &[5],
+};
+
+/// Where the slender post is too wide for 8 bits.
+const SLENDER_PLACE: RunPlace = RunPlace {
+    phase: 1,
+    pivot: 1,
+    row: 3,
+    column: 3,
+    step: Step::Subtract,
+};
+
+/// Where the ratio is, which comes before the budget is looked at.
+const RATIO_PLACE: RunPlace = RunPlace {
+    phase: 1,
+    pivot: 2,
+    row: 1,
+    column: 1,
+    step: Step::Ratio,
+};
+
+/// A step that is too wide, a ratio that is too wide, and problems that nothing solves.
+const AT_8: &[Case] = &[
+    Case {
+        numbers: SLENDER,
+        budget: 9,
+        told: Outcome::Refused(RunError::TooWide(SLENDER_PLACE)),
+        last: None,
+    },
+    Case {
+        numbers: RATIO,
+        budget: 1,
+        told: Outcome::Refused(RunError::TooWide(RATIO_PLACE)),
+        last: None,
+    },
+    Case {
+        numbers: PULLED,
+        budget: 1,
+        told: Outcome::Infeasible,
+        last: Some((&[1], &[1])),
+    },
+    Case {
+        numbers: BARE,
+        budget: 1,
+        told: Outcome::Infeasible,
+        last: Some((&[0], &[5])),
+    },
+];
+
+/// The post stands after four pivots, and bears twice its push after five; what is too wide for 8 bits isn't here; and
+/// factors that no row limits.
+const AT_64: &[Case] = &[
+    Case {
+        numbers: POST,
+        budget: 3,
+        told: SPENT,
+        last: None,
+    },
+    Case {
+        numbers: POST,
+        budget: 4,
+        told: Outcome::Feasible,
+        last: Some((&[2, 1, 3], &[24, 24, 0])),
+    },
+    Case {
+        numbers: PUSHED_POST,
+        budget: 4,
+        told: SPENT,
+        last: None,
+    },
+    Case {
+        numbers: PUSHED_POST,
+        budget: 5,
+        told: Outcome::Optimal,
+        last: Some((&[2, 4, 3], &[18, 2, 30])),
+    },
+    Case {
+        numbers: SLENDER,
+        budget: 9,
+        told: Outcome::Feasible,
+        last: None,
+    },
+    Case {
+        numbers: RATIO,
+        budget: 1,
+        told: SPENT,
+        last: None,
+    },
+    Case {
+        numbers: DOUBLED,
+        budget: 1,
+        told: Outcome::Ray(1),
+        last: Some((&[0, 3], &[1, 0])),
+    },
+    Case {
+        numbers: PRESSED,
+        budget: 1,
+        told: Outcome::Ray(1),
+        last: Some((&[0], &[1])),
+    },
+];
 
 /// The example of Beale (1955), its rows in whole numbers, with its objective as the factor: Dantzig's rule of the
 /// most negative objective cell comes back to the same basic columns every six pivots.
@@ -152,94 +287,44 @@ const BEALE: Numbers = Numbers {
     right: &[0, 0, 1, 0],
 };
 
-/// The post stands after four pivots, and bears twice its push after five.
-#[test]
-fn the_posts_and_beales_example_end_at_their_tables(rt: HostRuntime) {
-    let alloc = rt.alloc();
-    let spent = [
-        told::<Frac<i64>>(alloc, POST, 3),
-        told::<Frac<i64>>(alloc, PUSHED_POST, 4),
-        told::<Frac<i128>>(alloc, BEALE, 9),
-    ];
-    assert_eq!(rt; spent, [SPENT; 3]);
-    let found = [
-        ends::<Frac<i64>>(alloc, POST, 4, &[2, 1, 3], &[24, 24, 0]),
-        ends::<Frac<i64>>(alloc, PUSHED_POST, 5, &[2, 4, 3], &[18, 2, 30]),
-        ends::<Frac<i128>>(alloc, BEALE, 10, &[7, 5, 3, 0], &[1, 1, 1, 3]),
-    ];
-    let wanted = [
-        Some((Outcome::Feasible, true)),
-        Some((Outcome::Optimal, true)),
-        Some((Outcome::Optimal, true)),
-    ];
-    assert_eq!(rt; found, wanted);
+/// Beale's example, and no rows.
+const AT_128: &[Case] = &[
+    Case {
+        numbers: BEALE,
+        budget: 9,
+        told: SPENT,
+        last: None,
+    },
+    Case {
+        numbers: BEALE,
+        budget: 10,
+        told: Outcome::Optimal,
+        last: Some((&[7, 5, 3, 0], &[1, 1, 1, 3])),
+    },
+    Case {
+        numbers: EMPTY,
+        budget: 1,
+        told: Outcome::Feasible,
+        last: Some((&[], &[])),
+    },
+];
+
+/// How many of the two rows and of these cases end so.
+fn held_at<S: Exact>(alloc: Global, cases: &[Case]) -> [usize; 2] {
+    [held::<S>(alloc, TWO_ROWS), held::<S>(alloc, cases)]
 }
 
-/// After its first pivot a ratio is too wide for 8 bits.
-const RATIO: Numbers = Numbers {
-    contact: &[&[2, 1], &[1, 1]],
-    factor: None,
-    right: &[0, 100],
-};
-
-/// A step that is too wide, and a ratio that is too wide, before the budget is looked at.
+/// The two rows at each width, the posts, Beale's example and the other ends, and what is too wide at 8 bits, with its
+/// place.
 #[test]
-fn what_is_too_wide_at_8_bits_has_a_place(rt: HostRuntime) {
+fn one_body_holds_at_8_64_and_128_bits(rt: HostRuntime) {
     let alloc = rt.alloc();
     let found = [
-        told::<Frac<i8>>(alloc, SLENDER, 9),
-        told::<Frac<i64>>(alloc, SLENDER, 9),
-        told::<Frac<i8>>(alloc, RATIO, 1),
-        told::<Frac<i64>>(alloc, RATIO, 1),
+        held_at::<Frac<i8>>(alloc, AT_8),
+        held_at::<Frac<i64>>(alloc, AT_64),
+        held_at::<Frac<i128>>(alloc, AT_128),
     ];
-    let step = RunPlace {
-        phase: 1,
-        pivot: 1,
-        row: 3,
-        column: 3,
-        step: Step::Subtract,
-    };
-    let ratio = RunPlace {
-        phase: 1,
-        pivot: 2,
-        row: 1,
-        column: 1,
-        step: Step::Ratio,
-    };
-    let wanted = [
-        Some(Outcome::Refused(RunError::TooWide(step))),
-        Some(Outcome::Feasible),
-        Some(Outcome::Refused(RunError::TooWide(ratio))),
-        SPENT,
-    ];
-    assert_eq!(rt; found, wanted);
-}
-
-/// No column at all.
-const BARE: Numbers = Numbers {
-    contact: &[],
-    factor: None,
-    right: &[5],
-};
-
-#[test]
-fn the_other_ends_are_told(rt: HostRuntime) {
-    let alloc = rt.alloc();
-    let found = [
-        ends::<Frac<i64>>(alloc, DOUBLED, 1, &[0, 3], &[1, 0]),
-        ends::<Frac<i64>>(alloc, PRESSED, 1, &[], &[]),
-        ends::<Frac<i8>>(alloc, PULLED, 1, &[], &[]),
-        ends::<Frac<i8>>(alloc, BARE, 1, &[], &[]),
-        ends::<Frac<i128>>(alloc, EMPTY, 1, &[], &[]),
-    ];
-    let wanted = [
-        Some((Outcome::Ray(1), true)),
-        Some((Outcome::Ray(1), false)),
-        Some((Outcome::Infeasible, false)),
-        Some((Outcome::Infeasible, false)),
-        Some((Outcome::Feasible, true)),
-    ];
-    assert_eq!(rt; found, wanted);
+    assert_eq!(rt; found, [[4, 4], [4, 8], [4, 3]]);
 }
 
 #[test]

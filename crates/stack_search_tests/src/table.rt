@@ -93,17 +93,6 @@ fn two_rows_hold<S: Exact>(alloc: Global) -> bool {
     }
 }
 
-#[test]
-fn one_body_holds_at_8_64_and_128_bits(rt: HostRuntime) {
-    let alloc = rt.alloc();
-    let found = [
-        two_rows_hold::<Frac<i8>>(alloc),
-        two_rows_hold::<Frac<i64>>(alloc),
-        two_rows_hold::<Frac<i128>>(alloc),
-    ];
-    assert_eq!(rt; found, [true; 3]);
-}
-
 /// A new objective row, where there is a factor.
 fn take_factor_objective<S: Exact>(t: &mut Table<S>) -> bool {
     if t.has_factor() {
@@ -142,16 +131,16 @@ fn keeps_the_objective<S: Exact>(t: &mut Table<S>) -> [bool; 4] {
     [is_basic, is_set, is_taken, is_kept]
 }
 
-fn objectives(alloc: Global) -> Option<[[bool; 4]; 2]> {
-    match table::<Frac<i8>>(alloc, FACTOR) {
-        Ok(mut t) => Some([takes_objectives(&mut t), keeps_the_objective(&mut t)]),
-        Err(_) => None,
-    }
+/// The objective is set with the factor basic or not.
+fn objectives_hold<S: Exact>(t: &mut Table<S>) -> bool {
+    takes_objectives(t) == [true; 4] && keeps_the_objective(t) == [true; 4]
 }
 
-#[test]
-fn objectives_are_set_with_the_factor_basic_or_not(rt: HostRuntime) {
-    assert_eq!(rt; objectives(rt.alloc()), Some([[true; 4]; 2]));
+fn two_rows_with_a_factor_hold<S: Exact>(alloc: Global) -> bool {
+    match table::<S>(alloc, FACTOR) {
+        Ok(mut t) => objectives_hold(&mut t),
+        Err(_) => false,
+    }
 }
 
 /// A post of half width 1 and height 1 whose weight is 2.
@@ -172,39 +161,41 @@ const BLOCK: Numbers = Numbers {
     ],
 };
 
-fn refusal<S: Exact>(alloc: Global, numbers: Numbers) -> Option<BuildError> {
-    table::<S>(alloc, numbers).err()
+/// Whether a table is refused so, or isn't refused.
+fn is_refused<S: Exact>(alloc: Global, numbers: Numbers, wanted: Option<BuildError>) -> bool {
+    table::<S>(alloc, numbers).err() == wanted
 }
 
-#[test]
-fn a_table_that_is_too_wide_names_its_first_place(rt: HostRuntime) {
-    let alloc = rt.alloc();
-    let found = [
-        refusal::<Frac<i8>>(alloc, HEAVY),
-        refusal::<Frac<i128>>(alloc, HEAVY),
-        refusal::<Frac<i64>>(alloc, BLOCK),
-    ];
-    let post = BuildError::Wide { row: 3, column: 7 };
-    let block = BuildError::Wide { row: 1, column: 3 };
-    assert_eq!(rt; found, [Some(post), None, Some(block)]);
+/// Whether a table has so many cells, and its first pivot is too wide there.
+fn is_wide_there<S: Exact>(t: &mut Table<S>, cells: usize, place: PivotWide) -> bool {
+    t.block().len() == cells && pivot(t, 0, 0) == Some(Err(place))
 }
 
-/// The cells of the slender post's table, and what its first pivot says.
-fn first_pivot(alloc: Global) -> Option<(usize, Option<Result<(), PivotWide>>)> {
-    match table::<Frac<i8>>(alloc, SLENDER) {
-        Ok(mut t) => Some((t.block().len(), pivot(&mut t, 0, 0))),
-        Err(_) => None,
+fn slender_is_wide_there<S: Exact>(alloc: Global, place: PivotWide) -> bool {
+    match table::<S>(alloc, SLENDER) {
+        Ok(mut t) => is_wide_there(&mut t, 32, place),
+        Err(_) => false,
     }
 }
 
+/// A table names the first place that is too wide, and a pivot the place and the step.
 #[test]
-fn a_pivot_that_is_too_wide_names_place_and_step(rt: HostRuntime) {
-    let wide = PivotWide {
+fn what_is_too_wide_names_its_place(rt: HostRuntime) {
+    let alloc = rt.alloc();
+    let post = BuildError::Wide { row: 3, column: 7 };
+    let block = BuildError::Wide { row: 1, column: 3 };
+    let pivot = PivotWide {
         row: 3,
         column: 3,
         step: Step::Subtract,
     };
-    assert_eq!(rt; first_pivot(rt.alloc()), Some((32, Some(Err(wide)))));
+    let found = [
+        is_refused::<Frac<i8>>(alloc, HEAVY, Some(post)),
+        is_refused::<Frac<i128>>(alloc, HEAVY, None),
+        is_refused::<Frac<i64>>(alloc, BLOCK, Some(block)),
+        slender_is_wide_there::<Frac<i8>>(alloc, pivot),
+    ];
+    assert_eq!(rt; found, [true; 4]);
 }
 
 /// One column and no rows.
@@ -228,25 +219,32 @@ const GREAT: Numbers = Numbers {
     right: &[1 << 100],
 };
 
-fn no_rows_hold(alloc: Global) -> bool {
-    match table::<Frac<i8>>(alloc, NO_ROWS) {
+fn no_rows_hold<S: Exact>(alloc: Global) -> bool {
+    match table::<S>(alloc, NO_ROWS) {
         Ok(t) => holds(&t, &[0, 0]),
         Err(_) => false,
     }
 }
 
-fn is_sound(alloc: Global, numbers: Numbers) -> Option<bool> {
-    let p = problem(alloc, numbers)?;
-    Some(p.is_sound())
+fn is_unsound(alloc: Global, numbers: Numbers) -> bool {
+    match problem(alloc, numbers) {
+        Some(p) => !p.is_sound(),
+        None => false,
+    }
 }
 
+/// Two rows, and at 8 bits new objectives and a problem with no rows; and problems that aren't sound.
 #[test]
-fn a_problem_may_have_no_rows_and_must_be_sound(rt: HostRuntime) {
+fn one_body_holds_at_8_64_and_128_bits(rt: HostRuntime) {
     let alloc = rt.alloc();
-    let found = (
-        no_rows_hold(alloc),
-        is_sound(alloc, OUTSIDE),
-        is_sound(alloc, GREAT),
-    );
-    assert_eq!(rt; found, (true, Some(false), Some(false)));
+    let found = [
+        two_rows_hold::<Frac<i8>>(alloc),
+        two_rows_hold::<Frac<i64>>(alloc),
+        two_rows_hold::<Frac<i128>>(alloc),
+        two_rows_with_a_factor_hold::<Frac<i8>>(alloc),
+        no_rows_hold::<Frac<i8>>(alloc),
+        is_unsound(alloc, OUTSIDE),
+        is_unsound(alloc, GREAT),
+    ];
+    assert_eq!(rt; found, [true; 7]);
 }
