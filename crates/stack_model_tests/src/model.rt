@@ -114,38 +114,53 @@ fn are_named(model: &Model) -> bool {
         && model.name(1) == "post"
 }
 
-/// What is told of the model without a fault, whether its names are right, and whether it has a live load.
-fn faultless(alloc: Global) -> Option<(Option<Told>, bool, bool)> {
+/// What is told of the model without a fault.
+const FAULTLESS: Told = (
+    Material {
+        weight: 2,
+        p: 3,
+        q: 4,
+    },
+    [
+        Body {
+            material: 0,
+            fixed: true,
+        },
+        Body {
+            material: 1,
+            fixed: false,
+        },
+    ],
+    4,
+    Point { x: 2, y: 0 },
+    Load {
+        body: 1,
+        live: true,
+        at: Point { x: 0, y: 4 },
+        fx: 1,
+        fy: -2,
+    },
+);
+
+/// Whether that is told, the names are right, and there is a live load.
+fn is_faultless(model: &Model) -> [bool; 3] {
+    [
+        told(model) == Some(FAULTLESS),
+        are_named(model),
+        model.has_live(),
+    ]
+}
+
+fn faultless(alloc: Global) -> Option<[bool; 3]> {
     match model(alloc, POST, [0, 4])? {
-        Ok(model) => Some((told(&model), are_named(&model), model.has_live())),
+        Ok(model) => Some(is_faultless(&model)),
         Err(_) => None,
     }
 }
 
 #[test]
 fn parts_without_a_fault_make_a_model(rt: HostRuntime) {
-    let brick = Material {
-        weight: 2,
-        p: 3,
-        q: 4,
-    };
-    let ground = Body {
-        material: 0,
-        fixed: true,
-    };
-    let post = Body {
-        material: 1,
-        fixed: false,
-    };
-    let load = Load {
-        body: 1,
-        live: true,
-        at: Point { x: 0, y: 4 },
-        fx: 1,
-        fy: -2,
-    };
-    let told = (brick, [ground, post], 4, Point { x: 2, y: 0 }, load);
-    assert_eq!(rt; faultless(rt.alloc()), Some((Some(told), true, true)));
+    assert_eq!(rt; faultless(rt.alloc()), Some([true; 3]));
 }
 
 fn joints(alloc: Global) -> Option<Vec<RawJoint>> {
@@ -212,30 +227,40 @@ fn listed_again(alloc: Global, model: &Model) -> Option<Model> {
     Model::new(alloc, parts).ok()
 }
 
-/// The sway of a model whose loads and sway are taken away, and whether it has a live load.
-fn stilled(alloc: Global, model: &Model) -> Option<((i64, i64), bool)> {
-    let still = model.with_loads(alloc, &[], (0, 0)).ok()?;
-    Some((still.sway(), still.has_live()))
+/// Whether a model whose loads and sway are taken away has no sway and no live load.
+fn is_stilled(alloc: Global, model: &Model) -> bool {
+    match model.with_loads(alloc, &[], (0, 0)) {
+        Ok(still) => still.sway() == (0, 0) && !still.has_live(),
+        Err(_) => false,
+    }
 }
 
-fn again(alloc: Global) -> Option<(Option<ToldSecond>, Option<((i64, i64), bool)>)> {
-    let first = second_model(alloc)?;
-    let model = listed_again(alloc, &first)?;
-    Some((told_second(&model), stilled(alloc, &model)))
-}
-
-#[test]
-fn joints_and_a_sway_are_kept_and_listed_again(rt: HostRuntime) {
-    let joint = Joint {
+/// What is told of the model of the second parts.
+const SECOND: ToldSecond = (
+    2,
+    (1, -2),
+    Joint {
         first: 1,
         second: 0,
         p: 2,
         q: 4,
-    };
-    let frictions = [Some((2, 4)), Some((2, 4)), None];
-    let told = (2, (1, -2), joint, frictions, true);
-    let still = ((0, 0), false);
-    assert_eq!(rt; again(rt.alloc()), Some((Some(told), Some(still))));
+    },
+    [Some((2, 4)), Some((2, 4)), None],
+    true,
+);
+
+fn again(alloc: Global) -> Option<[bool; 2]> {
+    let first = second_model(alloc)?;
+    let model = listed_again(alloc, &first)?;
+    Some([
+        told_second(&model) == Some(SECOND),
+        is_stilled(alloc, &model),
+    ])
+}
+
+#[test]
+fn joints_and_a_sway_are_kept_and_listed_again(rt: HostRuntime) {
+    assert_eq!(rt; again(rt.alloc()), Some([true; 2]));
 }
 
 /// Why there is no model with these corners of the post, and a load that acts there.
@@ -243,17 +268,23 @@ fn refusal(alloc: Global, post: [[i64; 2]; 4], at: [i64; 2]) -> Option<ModelErro
     model(alloc, post, at)?.err()
 }
 
+/// The fault of a load past the greatest coordinate, and of a post with a dent.
+const RANGE: ModelError = ModelError::Range {
+    spot: Spot::Load(0),
+    key: Key::At,
+};
+
+const DENT: ModelError = ModelError::NotConvex { block: 1, edge: 2 };
+
+fn faults_are_named(alloc: Global) -> [bool; 2] {
+    let dented = [[0, 0], [4, 0], [4, 4], [3, 1]];
+    [
+        refusal(alloc, POST, [0, 1_000_001]) == Some(RANGE),
+        refusal(alloc, dented, [0, 4]) == Some(DENT),
+    ]
+}
+
 #[test]
 fn faults_are_named_with_their_place(rt: HostRuntime) {
-    let alloc = rt.alloc();
-    let found = [
-        refusal(alloc, POST, [0, 1_000_001]),
-        refusal(alloc, [[0, 0], [4, 0], [4, 4], [3, 1]], [0, 4]),
-    ];
-    let range = ModelError::Range {
-        spot: Spot::Load(0),
-        key: Key::At,
-    };
-    let dent = ModelError::NotConvex { block: 1, edge: 2 };
-    assert_eq!(rt; found, [Some(range), Some(dent)]);
+    assert_eq!(rt; faults_are_named(rt.alloc()), [true; 2]);
 }

@@ -136,17 +136,31 @@ fn reads_over(alloc: Global, step: usize, fails: u64) -> [Result<bool, ShelfErro
     ]
 }
 
+/// Whether all is read at each step, and what is too long is refused.
+fn reads_all(alloc: Global) -> bool {
+    let wanted = [Ok(true), Err(ShelfError::TooLong)];
+    for step in 1..16 {
+        if reads_over(alloc, step, 0) != wanted {
+            return false;
+        }
+    }
+    true
+}
+
+/// Whether the first read fails at each call that does.
+fn read_fails(alloc: Global) -> bool {
+    for fails in 1..9 {
+        if reads_over(alloc, 2, fails)[0] != Err(ShelfError::Failed) {
+            return false;
+        }
+    }
+    true
+}
+
 #[test]
 fn a_shelf_over_files_that_give_little_reads_all_or_fails(rt: HostRuntime) {
     let alloc = rt.alloc();
-    for step in 1..16 {
-        let wanted = [Ok(true), Err(ShelfError::TooLong)];
-        assert_eq!(rt; reads_over(alloc, step, 0), wanted, "at {step}");
-    }
-    for fails in 1..9 {
-        let first = reads_over(alloc, 2, fails)[0];
-        assert_eq!(rt; first, Err(ShelfError::Failed), "at {fails}");
-    }
+    assert_eq!(rt; [reads_all(alloc), read_fails(alloc)], [true; 2]);
 }
 
 /// Whether a put of five bytes over such a stream goes well, whether what was taken is their front, and how long it is.
@@ -163,17 +177,27 @@ fn put_over(alloc: Global, step: usize, fails: u64) -> (bool, bool, usize) {
     (is_put, b"stone".starts_with(bytes.as_slice()), bytes.len())
 }
 
+/// The step of a stream, its call that fails, and how many of the five bytes it takes.
+const STREAMS: &[(usize, u64, usize)] = &[
+    (1, 0, 5),
+    (2, 0, 5),
+    (9, 0, 5),
+    (2, 1, 0),
+    (2, 3, 4),
+    (0, 0, 0),
+];
+
+/// How many streams take so many, up to the first that doesn't.
+fn taking(alloc: Global) -> usize {
+    for (k, (step, fails, want)) in STREAMS.iter().enumerate() {
+        if put_over(alloc, *step, *fails) != (*want == 5, true, *want) {
+            return k;
+        }
+    }
+    STREAMS.len()
+}
+
 #[test]
 fn a_sink_over_streams_that_take_little_writes_all_or_a_front(rt: HostRuntime) {
-    for (step, fails, want) in [
-        (1, 0, 5),
-        (2, 0, 5),
-        (9, 0, 5),
-        (2, 1, 0),
-        (2, 3, 4),
-        (0, 0, 0),
-    ] {
-        let found = put_over(rt.alloc(), step, fails);
-        assert_eq!(rt; found, (want == 5, true, want), "at {step} and {fails}");
-    }
+    assert_eq!(rt; taking(rt.alloc()), 6);
 }

@@ -6,145 +6,176 @@ use stack_polygon::Point;
 use std::alloc::Global;
 use std::test::*;
 
+/// A body, and the two corners of the rectangle that it is.
+type Brick = (usize, Point, Point);
+
+/// How many bodies a model has, some of them, and the name of one.
+#[derive(Clone, Copy)]
+struct Built {
+    bodies: usize,
+    bricks: &'static [Brick],
+    named: usize,
+    name: &'static str,
+}
+
+/// Three bricks reach eleven twelfths of a length.
+const HARMONIC: Built = Built {
+    bodies: 4,
+    bricks: &[
+        (
+            0,
+            Point {
+                x: -10080,
+                y: -1000,
+            },
+            Point { x: 0, y: 0 },
+        ),
+        (1, Point { x: -4200, y: 0 }, Point { x: 840, y: 1000 }),
+        (2, Point { x: -2940, y: 1000 }, Point { x: 2100, y: 2000 }),
+        (3, Point { x: -420, y: 2000 }, Point { x: 4620, y: 3000 }),
+    ],
+    named: 0,
+    name: "table",
+};
+
+/// It stands on its point.
+const TRIANGLE: Built = Built {
+    bodies: 4,
+    bricks: &[
+        (0, Point { x: -20, y: -1 }, Point { x: 0, y: 0 }),
+        (1, Point { x: -1, y: 0 }, Point { x: 1, y: 1 }),
+        (2, Point { x: -2, y: 1 }, Point { x: 0, y: 2 }),
+        (3, Point { x: 0, y: 1 }, Point { x: 2, y: 2 }),
+    ],
+    named: 0,
+    name: "table",
+};
+
+/// A slab of depth three has eleven bricks.
+const SLAB: Built = Built {
+    bodies: 12,
+    bricks: &[
+        (6, Point { x: 1, y: 2 }, Point { x: 3, y: 3 }),
+        (7, Point { x: -2, y: 3 }, Point { x: 0, y: 4 }),
+        (9, Point { x: -3, y: 4 }, Point { x: -1, y: 5 }),
+    ],
+    named: 11,
+    name: "b11",
+};
+
+/// The first wall has two courses of two bricks.
+const WALL: Built = Built {
+    bodies: 5,
+    bricks: &[
+        (0, Point { x: -1000, y: -10 }, Point { x: 1000, y: 0 }),
+        (2, Point { x: 20, y: 0 }, Point { x: 40, y: 10 }),
+        (3, Point { x: 10, y: 10 }, Point { x: 30, y: 20 }),
+    ],
+    named: 0,
+    name: "ground",
+};
+
 /// Body `i` is the rectangle from one corner to the other.
 fn spans(model: &Model, i: usize, low: Point, high: Point) -> bool {
     if i >= model.bodies() {
         return false;
     }
     let outline = model.polygon(i);
-    outline.len() == 4
-        && outline.corner(0) == low
-        && outline.corner(1)
-            == (Point {
-                x: high.x,
-                y: low.y,
-            })
+    if outline.len() != 4 {
+        return false;
+    }
+    let right = Point {
+        x: high.x,
+        y: low.y,
+    };
+    let left = Point {
+        x: low.x,
+        y: high.y,
+    };
+    outline.corner(0) == low
+        && outline.corner(1) == right
         && outline.corner(2) == high
-        && outline.corner(3)
-            == (Point {
-                x: low.x,
-                y: high.y,
-            })
+        && outline.corner(3) == left
 }
 
-fn at(x: i64, y: i64) -> Point {
-    Point { x, y }
-}
-
-/// There are so many bodies, of which these are rectangles from one corner to the other, and this one has the name.
-fn has(
-    model: &Model,
-    bodies: usize,
-    rectangles: &[(usize, Point, Point)],
-    named: usize,
-    name: &str,
-) -> bool {
-    for (i, low, high) in rectangles {
+fn has(model: &Model, built: &Built) -> bool {
+    for (i, low, high) in built.bricks {
         if !spans(model, *i, *low, *high) {
             return false;
         }
     }
-    model.bodies() == bodies && named < bodies && model.name(named) == name
+    model.bodies() == built.bodies
+        && built.named < built.bodies
+        && model.name(built.named) == built.name
 }
 
-/// Three bricks reach eleven twelfths of a length.
-fn harmonic_reaches(alloc: Global) -> Result<bool, StackError> {
-    let model = harmonic(alloc, 3)?;
-    let rectangles = [
-        (0, at(-10_080, -1000), at(0, 0)),
-        (1, at(840 - 5040, 0), at(840, 1000)),
-        (2, at(2100 - 5040, 1000), at(2100, 2000)),
-        (3, at(4620 - 5040, 2000), at(4620, 3000)),
-    ];
-    Ok(has(&model, 4, rectangles.as_slice(), 0, "table"))
-}
-
-fn triangle_stands_on_its_point(alloc: Global) -> Result<bool, StackError> {
-    let model = triangle(alloc, 2)?;
-    let rectangles = [
-        (0, at(-20, -1), at(0, 0)),
-        (1, at(-1, 0), at(1, 1)),
-        (2, at(-2, 1), at(0, 2)),
-        (3, at(0, 1), at(2, 2)),
-    ];
-    Ok(has(&model, 4, rectangles.as_slice(), 0, "table"))
-}
-
-/// A slab of depth three has eleven bricks.
-fn slab_has_eleven_bricks(alloc: Global) -> Result<bool, StackError> {
-    let model = slab(alloc, 3)?;
-    let rectangles = [
-        (6, at(1, 2), at(3, 3)),
-        (7, at(-2, 3), at(0, 4)),
-        (9, at(-3, 4), at(-1, 5)),
-    ];
-    Ok(has(&model, 12, rectangles.as_slice(), 11, "b11"))
-}
-
-#[test]
-fn stacks_have_the_bricks_worked_by_hand(rt: HostRuntime) -> Result<(), Fail> {
-    let alloc = rt.alloc();
-    let found = [
-        harmonic_reaches(alloc)?,
-        triangle_stands_on_its_point(alloc)?,
-        slab_has_eleven_bricks(alloc)?,
-    ];
-    assert_eq!(rt; found, [true; 3]);
-    Ok(())
-}
-
-/// The material and the load of a model with one load.
-fn material_and_load(model: &Model) -> Option<(Material, Load)> {
-    if model.materials() > 0 && model.loads() == 1 {
-        Some((model.material(0), model.load(0)))
-    } else {
-        None
+fn is_built(found: Result<Model, StackError>, built: &Built) -> bool {
+    match found {
+        Ok(model) => has(&model, built),
+        Err(_) => false,
     }
 }
 
-/// Whether the first wall has two courses of two bricks, its material and its load.
-fn first_wall(alloc: Global) -> Result<(bool, Option<(Material, Load)>), StackError> {
-    let model = wall(alloc, 0)?;
-    let rectangles = [
-        (0, at(-1000, -10), at(1000, 0)),
-        (2, at(20, 0), at(40, 10)),
-        (3, at(10, 10), at(30, 20)),
+#[test]
+fn stacks_have_the_bricks_worked_by_hand(rt: HostRuntime) {
+    let alloc = rt.alloc();
+    let found = [
+        is_built(harmonic(alloc, 3), &HARMONIC),
+        is_built(triangle(alloc, 2), &TRIANGLE),
+        is_built(slab(alloc, 3), &SLAB),
     ];
-    let is_built = has(&model, 5, rectangles.as_slice(), 0, "ground");
-    Ok((is_built, material_and_load(&model)))
+    assert_eq!(rt; found, [true; 3]);
+}
+
+const STONE: Material = Material {
+    weight: 1,
+    p: 3,
+    q: 10,
+};
+
+/// The load at the upper course.
+const PUSH: Load = Load {
+    body: 3,
+    live: true,
+    at: Point { x: 10, y: 20 },
+    fx: 1,
+    fy: 0,
+};
+
+/// Whether a model has this material, and this load alone.
+fn is_pushed(model: &Model) -> bool {
+    model.materials() > 0
+        && model.loads() == 1
+        && model.material(0) == STONE
+        && model.load(0) == PUSH
+}
+
+fn first_wall(alloc: Global) -> [bool; 2] {
+    match wall(alloc, 0) {
+        Ok(model) => [has(&model, &WALL), is_pushed(&model)],
+        Err(_) => [false; 2],
+    }
 }
 
 #[test]
-fn the_first_wall_is_pushed_at_its_upper_course(rt: HostRuntime) -> Result<(), Fail> {
-    let stone = Material {
-        weight: 1,
-        p: 3,
-        q: 10,
-    };
-    let push = Load {
-        body: 3,
-        live: true,
-        at: at(10, 20),
-        fx: 1,
-        fy: 0,
-    };
-    assert_eq!(rt; first_wall(rt.alloc())?, (true, Some((stone, push))));
-    Ok(())
+fn the_first_wall_is_pushed_at_its_upper_course(rt: HostRuntime) {
+    assert_eq!(rt; first_wall(rt.alloc()), [true; 2]);
 }
 
-fn refusal(found: Result<Model, StackError>) -> Option<StackError> {
-    found.err()
+/// Whether there is no model of this size.
+fn is_refused(found: Result<Model, StackError>) -> bool {
+    found.err() == Some(StackError::Size)
 }
 
 #[test]
 fn sizes_past_the_limits_are_refused(rt: HostRuntime) {
     let alloc = rt.alloc();
     let refusals = [
-        refusal(harmonic(alloc, 0)),
-        refusal(harmonic(alloc, 11)),
-        refusal(triangle(alloc, 11)),
-        refusal(slab(alloc, 7)),
-        refusal(wall(alloc, 1_000_000)),
+        is_refused(harmonic(alloc, 0)),
+        is_refused(harmonic(alloc, 11)),
+        is_refused(triangle(alloc, 11)),
+        is_refused(slab(alloc, 7)),
+        is_refused(wall(alloc, 1_000_000)),
     ];
-    assert_eq!(rt; refusals, [Some(StackError::Size); 5]);
+    assert_eq!(rt; refusals, [true; 5]);
 }
