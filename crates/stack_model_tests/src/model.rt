@@ -160,7 +160,7 @@ fn faultless(alloc: Global) -> Option<[bool; 3]> {
 
 #[test]
 fn parts_without_a_fault_make_a_model(rt: HostRuntime) {
-    assert_eq!(rt; faultless(rt.alloc()), Some([true; 3]));
+    assert!(rt; faultless(rt.alloc()) == Some([true; 3]));
 }
 
 fn joints(alloc: Global) -> Option<Vec<RawJoint>> {
@@ -260,7 +260,7 @@ fn again(alloc: Global) -> Option<[bool; 2]> {
 
 #[test]
 fn joints_and_a_sway_are_kept_and_listed_again(rt: HostRuntime) {
-    assert_eq!(rt; again(rt.alloc()), Some([true; 2]));
+    assert!(rt; again(rt.alloc()) == Some([true; 2]));
 }
 
 /// Why there is no model with these corners of the post, and a load that acts there.
@@ -286,5 +286,5 @@ fn faults_are_named(alloc: Global) -> [bool; 2] {
 
 #[test]
 fn faults_are_named_with_their_place(rt: HostRuntime) {
-    assert_eq!(rt; faults_are_named(rt.alloc()), [true; 2]);
+    assert!(rt; faults_are_named(rt.alloc()) == [true; 2]);
 }

@@ -57,7 +57,7 @@ fn reads_of_plans(alloc: Global) -> Option<Reads> {
 fn a_shelf_in_memory_fails_at_listed_reads_and_absent_names(rt: HostRuntime) {
     let failed = Err(ShelfError::Failed);
     let found = [Ok(true), failed, Err(ShelfError::TooLong), failed];
-    assert_eq!(rt; reads_of_plans(rt.alloc()), Some((found, 2, true)));
+    assert!(rt; reads_of_plans(rt.alloc()) == Some((found, 2, true)));
 }
 
 /// Whether two puts went well, and are what is written; the same of three more; how many failed, and how many there
@@ -85,7 +85,7 @@ fn puts_of(alloc: Global) -> Option<Puts> {
 #[test]
 fn a_sink_in_memory_fails_at_listed_calls_and_where_room_is_wanting(rt: HostRuntime) {
     let wanted = ([true, false], true, [false, false, true], true, 3, 5);
-    assert_eq!(rt; puts_of(rt.alloc()), Some(wanted));
+    assert!(rt; puts_of(rt.alloc()) == Some(wanted));
 }
 
 #[test]
@@ -100,7 +100,7 @@ fn the_real_shelf_reads_a_file(rt: HostRuntime) -> Result<(), Fail> {
     fs::remove_file(&rt, name)?;
     let gone = gave(shelf.read(name, 3), b"");
     let wanted = [Ok(true), Err(ShelfError::TooLong)];
-    assert_eq!(rt; (found, gone), (wanted, Err(ShelfError::Failed)));
+    assert!(rt; (found, gone) == (wanted, Err(ShelfError::Failed)));
     Ok(())
 }
 
@@ -116,7 +116,7 @@ fn the_real_sink_writes_both_streams(rt: HostRuntime) {
         output.put(b"another on standard output\n").is_ok(),
         fault.put(b"another on standard error\n").is_ok(),
     ];
-    assert_eq!(rt; puts, [true; 4]);
+    assert!(rt; puts == [true; 4]);
 }
 
 /// Two reads of 14 bytes, of which at most 14 and at most 13 are allowed.
@@ -160,7 +160,7 @@ fn read_fails(alloc: Global) -> bool {
 #[test]
 fn a_shelf_over_files_that_give_little_reads_all_or_fails(rt: HostRuntime) {
     let alloc = rt.alloc();
-    assert_eq!(rt; [reads_all(alloc), read_fails(alloc)], [true; 2]);
+    assert!(rt; [reads_all(alloc), read_fails(alloc)] == [true; 2]);
 }
 
 /// Whether a put of five bytes over such a stream goes well, whether what was taken is their front, and how long it is.
@@ -199,5 +199,5 @@ fn taking(alloc: Global) -> usize {
 
 #[test]
 fn a_sink_over_streams_that_take_little_writes_all_or_a_front(rt: HostRuntime) {
-    assert_eq!(rt; taking(rt.alloc()), 6);
+    assert!(rt; taking(rt.alloc()) == 6);
 }

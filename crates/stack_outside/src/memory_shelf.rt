@@ -1,14 +1,15 @@
 //! A shelf in memory, whose listed reads fail.
 
-ghost use Rattle.std.specs.Prelude.{◌≡◌, ◌≤◌, ◌==◌, Some, []};
+ghost use Rattle.std.specs.Prelude.{◌≡◌, ◌≢◌, ◌≤◌, ◌==◌, ◌++◌, ◌∷◌, Some, Ok, Err, []};
 ghost use Rattle.std.specs.Option.{option_map};
 ghost use Rattle.std.specs.List.{list_any};
 ghost use Rattle.stack_outside.specs.Faults.{Rose, counted, count_after, StaysCounted};
 ghost use Rattle.stack_outside.specs.Held.{held_of, names_of};
+ghost use Rattle.stack_outside.specs.Memory.{memory_read, Answers};
 ghost use Rattle.stack_outside.specs.Shelves.{ReadGives, Records, has_failed};
 
 use crate::error::ShelfError;
-use crate::shelf::Shelf;
+use crate::shelf::{Shelf, faults_after};
 use std::alloc::Global;
 
 /// Files in memory. It tells their bytes and the names of its reads.
@@ -56,20 +57,6 @@ impl MemoryShelf {
     {
         self.asked.as_slice()
     }
-
-    /// Counts a failure.
-    fn fail(&mut self) -> ShelfError
-        ensures error { result ≡ ShelfError.Failed }
-        ensures faults { self.new.faults ≡ counted self.old.faults }
-        ensures later { self.old.faults ≤ self.new.faults }
-        ensures calls { self.new.calls ≡ self.old.calls }
-        ensures files { self.new.files ≡ self.old.files }
-        ensures fails { self.new.fails ≡ self.old.fails }
-        ensures asked { self.new.asked ≡ self.old.asked }
-    {
-        self.faults = self.faults.saturating_add(1);
-        ShelfError::Failed
-    }
 }
 
 /// The bytes of the first file with the name.
@@ -84,9 +71,43 @@ fn find<'a>(files: &'a [(String, Vec<u8>)], name: &str) -> Option<&'a [u8]>
     None
 }
 
+/// Notes the name of a read.
+fn note(asked: &mut Vec<String>, name: &str) -> Result<(), ShelfError>
+    ensures done { result ≡ Ok tt → names_of asked.new.items ≡ names_of asked.old.items ++ name.now ∷ [] }
+    ensures error { result ≢ Ok tt → result ≡ Err ShelfError.Memory }
+    ensures kept { result ≢ Ok tt → names_of asked.new.items ≡ names_of asked.old.items }
+{
+    let alloc = *asked.allocator();
+    let copy = String::from_str(alloc, name)?;
+    asked.push(copy)?;
+    Ok(())
+}
+
+/// What a read gives in a call that is listed to fail or not.
+fn answer(
+    files: &[(String, Vec<u8>)],
+    alloc: Global,
+    name: &str,
+    is_listed: bool,
+    most: usize,
+) -> Result<Vec<u8>, ShelfError>
+    ensures gives { ReadGives (held_of files.now name.now) most result }
+    ensures exact { Answers result (memory_read (held_of files.now name.now) is_listed most) }
+{
+    if is_listed {
+        return Err(ShelfError::Failed);
+    }
+    let Some(bytes) = find(files, name) else {
+        return Err(ShelfError::Failed);
+    };
+    if bytes.len() > most {
+        return Err(ShelfError::TooLong);
+    }
+    Ok(Vec::from_slice(alloc, bytes)?)
+}
+
 impl Shelf for MemoryShelf {
     ghost use Rattle.stack_outside.specs.Memory.{shelf_holds, shelf_asked, shelf_faults, shelf_calls, shelf_fails};
-    ghost use Rattle.stack_outside.specs.Memory.{memory_read, Answers};
 
     ghost holds = { λ s. held_of s.files.items };
 
@@ -112,17 +133,12 @@ impl Shelf for MemoryShelf {
     {
         self.calls = self.calls.saturating_add(1);
         let alloc = *self.asked.allocator();
-        let copy = String::from_str(alloc, name)?;
-        self.asked.push(copy)?;
-        if self.fails.contains(&self.calls) {
-            return Err(self.fail());
-        }
-        let Some(bytes) = find(&self.files, name) else {
-            return Err(self.fail());
+        let is_listed = self.fails.contains(&self.calls);
+        let read = match note(&mut self.asked, name) {
+            Ok(()) => answer(&self.files, alloc, name, is_listed, most),
+            Err(error) => Err(error),
         };
-        if bytes.len() > most {
-            return Err(ShelfError::TooLong);
-        }
-        Ok(Vec::from_slice(alloc, bytes)?)
+        self.faults = faults_after(self.faults, &read);
+        read
     }
 }

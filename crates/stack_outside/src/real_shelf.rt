@@ -1,12 +1,12 @@
 //! The shelf over files that are opened and read by single calls.
 
 ghost use Rattle.std.specs.Prelude.{◌≡◌, ◌≢◌, ◌≤◌, ◌<◌, ◌+◌, ℕ, List, Err};
-ghost use Rattle.stack_outside.specs.Faults.{Rose, counted, count_after, StaysCounted};
+ghost use Rattle.stack_outside.specs.Faults.{Rose, count_after, StaysCounted};
 ghost use Rattle.stack_outside.specs.Shelves.{ReadGives, Asks, Records, TakesAtMost, has_failed};
 
 use crate::error::ShelfError;
 use crate::raw::RawFiles;
-use crate::shelf::Shelf;
+use crate::shelf::{Shelf, faults_after};
 use std::alloc::Global;
 
 /// The files that `F` opens. It tells the bytes of a name, and the names of its reads, where `F` does.
@@ -32,17 +32,37 @@ impl<F: RawFiles + Drop> RealShelf<F> {
             faults: 0,
         }
     }
+}
 
-    /// Counts a failure.
-    fn fail(&mut self) -> ShelfError
-        ensures error { result ≡ ShelfError.Failed }
-        ensures faults { self.new.faults ≡ counted self.old.faults }
-        ensures later { self.old.faults ≤ self.new.faults }
-        ensures files { self.new.files ≡ self.old.files }
-    {
-        self.faults = self.faults.saturating_add(1);
-        ShelfError::Failed
+/// Opens one file, the one with the name, and reads it to its end, or to `most + 1` bytes.
+fn take<F: RawFiles + Drop>(
+    files: &mut F,
+    alloc: Global,
+    name: &str,
+    most: usize,
+) -> Result<Vec<u8>, ShelfError>
+    requires { most < usize.MAX }
+    ensures gives { ReadGives (F.holds files.old name.now) most result }
+    ensures holds { F.holds files.new ≡ F.holds files.old }
+    ensures opens { Asks (F.asked files.old) (F.asked files.new) name.now }
+    ensures taken { TakesAtMost (most + 1) (F.taken files.old) (F.taken files.new) }
+    ensures sound { F.never_fails files.old name.now → result ≢ Err ShelfError.Failed }
+    ensures lasts { (other : List ℕ) → F.never_fails files.old other → F.never_fails files.new other }
+{
+    let Ok(mut file) = files.open(name) else {
+        return Err(ShelfError::Failed);
+    };
+    let mut bytes = Vec::new(alloc);
+    let mut block = [0u8; BLOCK];
+    while bytes.len() <= most {
+        let room = (most + 1 - bytes.len()).min(BLOCK);
+        match files.read_some(&mut file, &mut block[..room]) {
+            Ok(0) => return Ok(bytes),
+            Ok(n) => bytes.extend_from_slice(&block[..n])?,
+            Err(_) => return Err(ShelfError::Failed),
+        }
     }
+    Err(ShelfError::TooLong)
 }
 
 impl<F: RawFiles + Drop> Shelf for RealShelf<F> {
@@ -71,19 +91,8 @@ impl<F: RawFiles + Drop> Shelf for RealShelf<F> {
         ensures sound { F.never_fails self.old.files name.now → result ≢ Err ShelfError.Failed }
         ensures lasts { (other : List ℕ) → F.never_fails self.old.files other → F.never_fails self.new.files other }
     {
-        let Ok(mut file) = self.files.open(name) else {
-            return Err(self.fail());
-        };
-        let mut bytes = Vec::new(self.alloc);
-        let mut block = [0u8; BLOCK];
-        while bytes.len() <= most {
-            let room = (most + 1 - bytes.len()).min(BLOCK);
-            match self.files.read_some(&mut file, &mut block[..room]) {
-                Ok(0) => return Ok(bytes),
-                Ok(n) => bytes.extend_from_slice(&block[..n])?,
-                Err(_) => return Err(self.fail()),
-            }
-        }
-        Err(ShelfError::TooLong)
+        let read = take(&mut self.files, self.alloc, name, most);
+        self.faults = faults_after(self.faults, &read);
+        read
     }
 }

@@ -29,3 +29,13 @@ pub trait Shelf {
         // The count goes up by one exactly where the read fails.
         ensures count { faults self.new ≡ count_after (has_failed result) (faults self.old) };
 }
+
+/// The count of faults after a read: one more where it failed, up to the greatest u64.
+pub fn faults_after(faults: u64, read: &Result<Vec<u8>, ShelfError>) -> u64
+    ensures { result ≡ count_after (has_failed read.now) faults }
+{
+    match read {
+        Err(ShelfError::Failed) => faults.saturating_add(1),
+        _ => faults,
+    }
+}

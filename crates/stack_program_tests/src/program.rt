@@ -499,12 +499,12 @@ fn wrong(alloc: Global, cases: &[Case]) -> Option<&'static str> {
 
 #[test]
 fn each_form_is_answered(rt: HostRuntime) {
-    assert_eq!(rt; wrong(rt.alloc(), FORMS), None);
+    assert!(rt; wrong(rt.alloc(), FORMS).is_none());
 }
 
 #[test]
 fn reads_that_fail_are_refused(rt: HostRuntime) {
-    assert_eq!(rt; wrong(rt.alloc(), READS), None);
+    assert!(rt; wrong(rt.alloc(), READS).is_none());
 }
 
 fn is_delivered(alloc: Global, delivery: &Delivery) -> bool {
@@ -532,7 +532,7 @@ fn delivered(alloc: Global, deliveries: &[Delivery]) -> usize {
 
 #[test]
 fn devices_that_fail_are_told_apart(rt: HostRuntime) {
-    assert_eq!(rt; delivered(rt.alloc(), DELIVERIES), 4);
+    assert!(rt; delivered(rt.alloc(), DELIVERIES) == 4);
 }
 
 /// Whether words of which one can't be read, and words for which memory was wanting, are refused so.
@@ -555,5 +555,5 @@ fn are_refused(alloc: Global) -> [bool; 2] {
 /// All words that can be read are given so in the other tests.
 #[test]
 fn words_are_taken_as_the_runtime_gives_them(rt: HostRuntime) {
-    assert_eq!(rt; are_refused(rt.alloc()), [true; 2]);
+    assert!(rt; are_refused(rt.alloc()) == [true; 2]);
 }

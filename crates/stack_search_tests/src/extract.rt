@@ -147,5 +147,5 @@ fn a_post_stands_and_tips_hovering_it_goes_and_pressed_it_bears_any_factor(rt: H
         holds::<Frac<i64>>(alloc, &HOVERING),
         holds::<Frac<i128>>(alloc, &PRESSED),
     ];
-    assert_eq!(rt; found, [true; 4]);
+    assert!(rt; found == [true; 4]);
 }

@@ -66,7 +66,7 @@ fn post_judgements(alloc: Global) -> Option<[bool; 3]> {
 
 #[test]
 fn a_post_bears_twice_its_push_and_stands_at_the_fourth_pivot(rt: HostRuntime) {
-    assert_eq!(rt; post_judgements(rt.alloc()), Some([true; 3]));
+    assert!(rt; post_judgements(rt.alloc()) == Some([true; 3]));
 }
 
 /// The greatest and heaviest block, with nothing below it. Six times its weight is 24 million million million, too wide
@@ -117,5 +117,5 @@ fn block_mark(alloc: Global) -> Option<bool> {
 fn a_post_is_narrow_and_the_greatest_block_is_not(rt: HostRuntime) {
     let alloc = rt.alloc();
     let found = [post_mark(alloc), block_mark(alloc)];
-    assert_eq!(rt; found, [Some(true), Some(false)]);
+    assert!(rt; found == [Some(true), Some(false)]);
 }

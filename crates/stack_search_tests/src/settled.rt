@@ -77,5 +77,5 @@ fn is_settled(alloc: Global, pieces: Pieces) -> bool {
 fn the_revised_run_settles_a_wall_and_a_buttress(rt: HostRuntime) {
     let alloc = rt.alloc();
     let found = [is_settled(alloc, WALL), is_settled(alloc, BUTTRESS)];
-    assert_eq!(rt; found, [true; 2]);
+    assert!(rt; found == [true; 2]);
 }

@@ -324,11 +324,11 @@ fn one_body_holds_at_8_64_and_128_bits(rt: HostRuntime) {
         held_at::<Frac<i64>>(alloc, AT_64),
         held_at::<Frac<i128>>(alloc, AT_128),
     ];
-    assert_eq!(rt; found, [[4, 4], [4, 8], [4, 3]]);
+    assert!(rt; found == [[4, 4], [4, 8], [4, 3]]);
 }
 
 #[test]
 fn a_budget_suffices_by_its_columns(rt: HostRuntime) {
     let budgets = [enough(7), enough(8), enough(30), enough(31)];
-    assert_eq!(rt; budgets, [Some(384), Some(768), Some(3221225472), None]);
+    assert!(rt; budgets == [Some(384), Some(768), Some(3221225472), None]);
 }

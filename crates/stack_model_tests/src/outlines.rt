@@ -4,7 +4,6 @@ ghost use Rattle.std.specs.Prelude.{◌≡◌};
 
 use stack_polygon::{Point, Polygon, PolygonError};
 use std::alloc::Global;
-use std::test::Fail;
 
 pub fn at(x: i64, y: i64) -> Point
     ensures x { result.x ≡ x }
@@ -14,18 +13,15 @@ pub fn at(x: i64, y: i64) -> Point
 }
 
 /// What becomes of a list of corners.
-pub fn outline(
-    alloc: Global,
-    corners: &[(i64, i64)],
-) -> Result<Result<Polygon, PolygonError>, Fail> {
+pub fn outline(alloc: Global, corners: &[(i64, i64)]) -> Option<Result<Polygon, PolygonError>> {
     let mut points = Vec::new(alloc);
     for (x, y) in corners {
-        points.push(at(*x, *y))?;
+        points.push(at(*x, *y)).ok()?;
     }
-    Ok(Polygon::new(points))
+    Some(Polygon::new(points))
 }
 
 /// The polygon with these corners.
-pub fn polygon_of(alloc: Global, corners: &[(i64, i64)]) -> Result<Polygon, Fail> {
-    Ok(outline(alloc, corners)??)
+pub fn polygon_of(alloc: Global, corners: &[(i64, i64)]) -> Option<Polygon> {
+    outline(alloc, corners)?.ok()
 }

@@ -72,19 +72,33 @@ fn holds_at_a_width<E: Exact>() -> bool {
 
 #[test]
 fn one_body_holds_at_8_64_and_128_bits(rt: HostRuntime) {
-    assert!(rt; holds_at_a_width::<Frac<i8>>());
-    assert!(rt; holds_at_a_width::<Frac<i64>>());
-    assert!(rt; holds_at_a_width::<Frac<i128>>());
+    let found = [
+        holds_at_a_width::<Frac<i8>>(),
+        holds_at_a_width::<Frac<i64>>(),
+        holds_at_a_width::<Frac<i128>>(),
+    ];
+    assert!(rt; found == [true; 3]);
 }
 
 #[test]
 fn rows_at_8_bits(rt: HostRuntime) {
-    assert!(rt; answer::<Frac<i8>>(Op::Whole, -128, 1, 1, 1) == Err(OpWide { op: Op::Whole }));
-    assert!(rt; answer::<Frac<i8>>(Op::Sum, 1, 127, 1, 126) == Err(OpWide { op: Op::Sum }));
-    assert!(rt; answer::<Frac<i8>>(Op::Sum, 65, 2, 65, 2) == Err(OpWide { op: Op::Sum }));
-    assert!(rt; answer::<Frac<i8>>(Op::Sum, 1, 6, 1, 10) == Ok((4, 15)));
-    assert!(rt; answer::<Frac<i8>>(Op::Product, 12, 1, 12, 1) == Err(OpWide { op: Op::Product }));
-    assert!(rt; answer::<Frac<i8>>(Op::Quotient, 12, 1, 1, 12) == Err(OpWide { op: Op::Quotient }));
+    let found = [
+        answer::<Frac<i8>>(Op::Whole, -128, 1, 1, 1),
+        answer::<Frac<i8>>(Op::Sum, 1, 127, 1, 126),
+        answer::<Frac<i8>>(Op::Sum, 65, 2, 65, 2),
+        answer::<Frac<i8>>(Op::Sum, 1, 6, 1, 10),
+        answer::<Frac<i8>>(Op::Product, 12, 1, 12, 1),
+        answer::<Frac<i8>>(Op::Quotient, 12, 1, 1, 12),
+    ];
+    let wanted = [
+        Err(OpWide { op: Op::Whole }),
+        Err(OpWide { op: Op::Sum }),
+        Err(OpWide { op: Op::Sum }),
+        Ok((4, 15)),
+        Err(OpWide { op: Op::Product }),
+        Err(OpWide { op: Op::Quotient }),
+    ];
+    assert!(rt; found == wanted);
 }
 
 /// The common scale of two fractions, and the first of them at a scale.
@@ -102,9 +116,17 @@ fn scaled(
 #[test]
 fn a_list_has_a_common_scale(rt: HostRuntime) {
     let wide = Err(ScaleWide { index: 1 });
-    assert!(rt; scaled((3, 4), (5, 6), 12) == Some((Ok(12), Some(9))));
-    assert!(rt; scaled((1, i128::MAX), (1, 2), i128::MAX) == Some((wide, Some(1))));
+    let found = [
+        scaled((3, 4), (5, 6), 12),
+        scaled((1, i128::MAX), (1, 2), i128::MAX),
+    ];
+    assert!(rt; found == [Some((Ok(12), Some(9))), Some((wide, Some(1)))]);
     assert!(rt; common_scale(&[]) == Ok(1));
+}
+
+/// A number's parts, its sign, and whether it is 0.
+fn told(x: Frac<i64>) -> ((i128, i128), i32, bool) {
+    (x.parts(), x.sign(), x.is_zero())
 }
 
 #[test]
@@ -113,9 +135,6 @@ fn signs_and_the_numbers_0_and_1(rt: HostRuntime) {
         Some(x) => x.sign(),
         None => 0,
     };
-    assert!(rt; sign == -1);
-    let zero: Frac<i64> = Exact::zero();
-    let one: Frac<i64> = Exact::one();
-    assert!(rt; zero.is_zero() && zero.sign() == 0 && zero.parts() == (0, 1));
-    assert!(rt; !one.is_zero() && one.sign() == 1 && one.parts() == (1, 1));
+    let found = [told(Exact::zero()), told(Exact::one())];
+    assert!(rt; sign == -1 && found == [((0, 1), 0, true), ((1, 1), 1, false)]);
 }

@@ -47,7 +47,7 @@ fn a_post_under_a_push_and_a_weight_has_the_region_worked_by_hand(rt: HostRuntim
         ),
         begins_of(alloc, FLOATING, b"dir 0 1\n", b"collapses\nmotion\n"),
     ];
-    assert_eq!(rt; found, [Some((true, true)), Some((true, false))]);
+    assert!(rt; found == [Some((true, true)), Some((true, false))]);
 }
 
 /// Why one pivot gives no region to the right.
@@ -86,7 +86,7 @@ fn budgets_and_pairs_are_refused_at_the_first_fault(rt: HostRuntime) {
         Err(NoPair { load: 0 }),
         Ok((1, 0)),
     ];
-    assert_eq!(rt; refusal_and_pairs(rt.alloc()), Some((Some(spent), pairs)));
+    assert!(rt; refusal_and_pairs(rt.alloc()) == Some((Some(spent), pairs)));
 }
 
 /// The sway, the bearings, and both loads.
@@ -123,7 +123,7 @@ fn towards(alloc: Global) -> Option<((i64, i64), usize, [(i64, i64); 2])> {
 #[test]
 fn a_directed_survey_has_two_live_loads_and_no_sway(rt: HostRuntime) {
     let wanted = ((0, 0), 2, [(3, 0), (0, 5)]);
-    assert_eq!(rt; towards(rt.alloc()), Some(wanted));
+    assert!(rt; towards(rt.alloc()) == Some(wanted));
 }
 
 /// The line that is told as faulty.
@@ -147,5 +147,5 @@ fn faulty_lines_are_numbered(rt: HostRuntime) {
         line(alloc, b"dir -1000 1000\n"),
     ];
     let (one, two) = (Some(1), Some(2));
-    assert_eq!(rt; lines, [one, one, one, one, two, two, None]);
+    assert!(rt; lines == [one, one, one, one, two, two, None]);
 }

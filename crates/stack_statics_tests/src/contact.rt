@@ -1,6 +1,6 @@
 //! Contacts of pairs and surveys of models, worked by hand.
 
-use crate::drawings::{GROUND, STONE, at, bearing, model_of};
+use crate::drawings::{GROUND, SMOOTH, at, bearing, model_of};
 use stack_contact::{Contacts, Survey, SurveyError, Touch, contacts, survey, survey_again};
 use stack_frame::{Cone, frame_of};
 use stack_polygon::Polygon;
@@ -51,13 +51,13 @@ fn two_blocks_bear_touch_or_are_free(rt: HostRuntime) {
         Some(Some(Contacts::Free)),
         Some(None),
     ];
-    assert_eq!(rt; found, wanted);
+    assert!(rt; found == wanted);
 }
 
 /// The ground; three fixed blocks, of which the first overlaps it, the second lies beside it, and the third bears on
 /// the second; a post on the ground, and a block that touches it at its corner.
 const SIX: &[&str] = &[
-    STONE,
+    SMOOTH,
     GROUND,
     "[[block]]\nname = 'over'\nmaterial = 'stone'\nfixed = true\n\
     corners = [[5, -1], [15, -1], [15, 0], [5, 0]]\n",
@@ -116,7 +116,7 @@ fn six(alloc: Global) -> Option<Told> {
 #[test]
 fn a_survey_lists_bearings_touches_and_free_blocks(rt: HostRuntime) {
     let wanted = (true, Some([6, 2, 5, 1]), Some(true));
-    assert_eq!(rt; six(rt.alloc()), Some(wanted));
+    assert!(rt; six(rt.alloc()) == Some(wanted));
 }
 
 const LEFT: &str =
@@ -147,8 +147,8 @@ fn refusal(alloc: Global, pieces: &[&str]) -> Option<SurveyError> {
 fn the_first_pair_that_overlaps_is_named(rt: HostRuntime) {
     let alloc = rt.alloc();
     let found = [
-        refusal(alloc, &[STONE, GROUND, LEFT, OVER_LEFT, SUNK]),
-        refusal(alloc, &[STONE, RIGHT, OVER_RIGHT, LEFT, OVER_LEFT]),
+        refusal(alloc, &[SMOOTH, GROUND, LEFT, OVER_LEFT, SUNK]),
+        refusal(alloc, &[SMOOTH, RIGHT, OVER_RIGHT, LEFT, OVER_LEFT]),
     ];
     let sunk = SurveyError::Overlap {
         first: 0,
@@ -158,5 +158,5 @@ fn the_first_pair_that_overlaps_is_named(rt: HostRuntime) {
         first: 0,
         second: 1,
     };
-    assert_eq!(rt; found, [Some(sunk), Some(right)]);
+    assert!(rt; found == [Some(sunk), Some(right)]);
 }

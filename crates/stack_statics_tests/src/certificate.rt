@@ -63,7 +63,7 @@ fn texts_are_read_and_written(rt: HostRuntime) {
         Some((Some("stands"), true)),
         Some((Some("collapses"), true)),
     ];
-    assert_eq!(rt; found, wanted);
+    assert!(rt; found == wanted);
 }
 
 fn refusal(alloc: Global, text: &str) -> Option<TextError> {
@@ -85,9 +85,16 @@ const BROKEN: [(&str, usize); 9] = [
     ("unbounded\nforces 1 0\npush 24 0\n", 4),
 ];
 
+fn all_are_refused(alloc: Global) -> bool {
+    for (text, number) in BROKEN {
+        if refusal(alloc, text) != Some(TextError::Line { number }) {
+            return false;
+        }
+    }
+    true
+}
+
 #[test]
 fn broken_texts_are_refused_with_their_faulty_line(rt: HostRuntime) {
-    for (text, number) in BROKEN {
-        assert_eq!(rt; refusal(rt.alloc(), text), Some(TextError::Line { number }));
-    }
+    assert!(rt; all_are_refused(rt.alloc()));
 }
