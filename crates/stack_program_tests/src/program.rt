@@ -117,8 +117,8 @@ const CHECK: Words = &["check", "model", "certificate"];
 
 const CONTACTS: Words = &["contacts", "model"];
 
-/// Each form, and words without a form, which ask for no file.
-const FORMS: &[Case] = &[
+/// Forms that judge nothing, and words without a form, which ask for no file.
+const PLAIN: &[Case] = &[
     Case {
         name: "a post that is carried",
         files: CARRIED,
@@ -139,6 +139,24 @@ const FORMS: &[Case] = &[
         rows: &[(CHECK, Answer::Says(1, "rejected first push 1\n"))],
         asked: 2,
     },
+    Case {
+        name: "words without a form",
+        files: CARRIED,
+        fails: &[],
+        rows: &[
+            (&[], Answer::Refuses(2, "words\n")),
+            (&["check", "model"], Answer::Refuses(2, "words\n")),
+            (
+                &["check", "model", "certificate", "more"],
+                Answer::Refuses(2, "words\n"),
+            ),
+        ],
+        asked: 0,
+    },
+];
+
+/// Verdicts, ranges and stages.
+const JUDGED: &[Case] = &[
     Case {
         name: "a post that is judged",
         files: CARRIED,
@@ -188,53 +206,41 @@ const FORMS: &[Case] = &[
         ],
         asked: 8,
     },
-    Case {
-        name: "the region of a push and a pressure",
-        files: DIRECTED,
-        fails: &[],
-        rows: &[
-            (
-                &["yield", "model", "1", "2", "down"],
-                Answer::Says(0, "region 1\ndir 0 1 unlimited\n"),
-            ),
-            (
-                &["yield", "model", "1", "2", "aside", "1"],
-                Answer::Refuses(8, "spent 1\n"),
-            ),
-            (
-                &["yield", "model", "1", "2", "nowhere"],
-                Answer::Refuses(14, "directions line 1\n"),
-            ),
-            (
-                &["yield", "model", "1", "2", "none"],
-                Answer::Refuses(3, "file directions\n"),
-            ),
-            (
-                &["yield", "model", "1", "3", "down"],
-                Answer::Refuses(15, "no pair 3\n"),
-            ),
-            (
-                &["yield", "model", "1", "2", "aside"],
-                Answer::Begins("region 1\ndir 1 0 reach 2/1 0/1\nhalf "),
-            ),
-        ],
-        asked: 11,
-    },
-    Case {
-        name: "words without a form",
-        files: CARRIED,
-        fails: &[],
-        rows: &[
-            (&[], Answer::Refuses(2, "words\n")),
-            (&["check", "model"], Answer::Refuses(2, "words\n")),
-            (
-                &["check", "model", "certificate", "more"],
-                Answer::Refuses(2, "words\n"),
-            ),
-        ],
-        asked: 0,
-    },
 ];
+
+/// Regions.
+const BOUNDED: &[Case] = &[Case {
+    name: "the region of a push and a pressure",
+    files: DIRECTED,
+    fails: &[],
+    rows: &[
+        (
+            &["yield", "model", "1", "2", "down"],
+            Answer::Says(0, "region 1\ndir 0 1 unlimited\n"),
+        ),
+        (
+            &["yield", "model", "1", "2", "aside", "1"],
+            Answer::Refuses(8, "spent 1\n"),
+        ),
+        (
+            &["yield", "model", "1", "2", "nowhere"],
+            Answer::Refuses(14, "directions line 1\n"),
+        ),
+        (
+            &["yield", "model", "1", "2", "none"],
+            Answer::Refuses(3, "file directions\n"),
+        ),
+        (
+            &["yield", "model", "1", "3", "down"],
+            Answer::Refuses(15, "no pair 3\n"),
+        ),
+        (
+            &["yield", "model", "1", "2", "aside"],
+            Answer::Begins("region 1\ndir 1 0 reach 2/1 0/1\nhalf "),
+        ),
+    ],
+    asked: 11,
+}];
 
 /// Reads that fail.
 const READS: &[Case] = &[
@@ -498,12 +504,18 @@ fn wrong(alloc: Global, cases: &[Case]) -> Option<&'static str> {
 }
 
 #[test]
-fn each_form_is_answered(rt: HostRuntime) {
-    assert!(rt; wrong(rt.alloc(), FORMS).is_none());
+fn forms_that_judge_nothing_are_answered(rt: HostRuntime) {
+    assert!(rt; wrong(rt.alloc(), PLAIN).is_none());
 }
 
 #[test]
-fn reads_that_fail_are_refused(rt: HostRuntime) {
+fn verdicts_ranges_and_stages_are_answered(rt: HostRuntime) {
+    assert!(rt; wrong(rt.alloc(), JUDGED).is_none());
+}
+
+#[test]
+fn regions_are_answered_and_reads_that_fail_are_refused(rt: HostRuntime) {
+    assert!(rt; wrong(rt.alloc(), BOUNDED).is_none());
     assert!(rt; wrong(rt.alloc(), READS).is_none());
 }
 

@@ -111,13 +111,22 @@ const BETWEEN: &[&str] = &[
     PRESSURE,
 ];
 
-fn towards(alloc: Global) -> Option<((i64, i64), usize, [(i64, i64); 2])> {
-    let s = surveyed(alloc, BETWEEN)?;
+type Towards = ((i64, i64), usize, [(i64, i64); 2]);
+
+/// What the survey towards (3, -5) has.
+fn towards_of(alloc: Global, s: &Survey) -> Option<Towards> {
     let Ok((i, j)) = pair(s.model(), 1, 3) else {
         return None;
     };
-    let towards = directed(alloc, &s, i, j, 3, -5).ok()?;
-    told(&towards)
+    match directed(alloc, s, i, j, 3, -5) {
+        Ok(towards) => told(&towards),
+        Err(_) => None,
+    }
+}
+
+fn towards(alloc: Global) -> Option<Towards> {
+    let s = surveyed(alloc, BETWEEN)?;
+    towards_of(alloc, &s)
 }
 
 #[test]

@@ -26,10 +26,16 @@ touch 1 a d 2 1
 touch 2 b c 2 1
 ";
 
+fn is_listed(alloc: Global, s: &Survey) -> bool {
+    match contact_table(alloc, s) {
+        Ok(table) => table.as_slice() == TABLE.as_bytes(),
+        Err(_) => false,
+    }
+}
+
 fn has_the_table(alloc: Global) -> Option<bool> {
     let s = surveyed(alloc, FOUR)?;
-    let table = contact_table(alloc, &s).ok()?;
-    Some(table.as_slice() == TABLE.as_bytes())
+    Some(is_listed(alloc, &s))
 }
 
 #[test]
@@ -81,13 +87,18 @@ fn has_summary(alloc: Global, s: &Survey, c: &Certificate) -> Option<bool> {
     }
 }
 
-fn tipping(alloc: Global) -> Option<(Option<Result<bool, ReportError>>, Option<bool>)> {
+type Tipping = (Option<Result<bool, ReportError>>, Option<bool>);
+
+fn tipping_of(alloc: Global, s: &Survey) -> Option<Tipping> {
+    match read_certificate(alloc, TIPPING) {
+        Ok(c) => Some((has_forces(alloc, s, &c, FORCES), has_summary(alloc, s, &c))),
+        Err(_) => None,
+    }
+}
+
+fn tipping(alloc: Global) -> Option<Tipping> {
     let s = surveyed(alloc, PUSHED)?;
-    let c = read_certificate(alloc, TIPPING).ok()?;
-    Some((
-        has_forces(alloc, &s, &c, FORCES),
-        has_summary(alloc, &s, &c),
-    ))
+    tipping_of(alloc, &s)
 }
 
 #[test]
@@ -96,10 +107,16 @@ fn the_forces_of_a_post_that_tips_are_told_and_summed_up(rt: HostRuntime) {
     assert!(rt; tipping(rt.alloc()) == Some(wanted));
 }
 
+fn wide_of(alloc: Global, s: &Survey) -> Option<Result<bool, ReportError>> {
+    match read_certificate(alloc, WIDE) {
+        Ok(c) => has_forces(alloc, s, &c, ""),
+        Err(_) => None,
+    }
+}
+
 fn wide(alloc: Global) -> Option<Result<bool, ReportError>> {
     let s = surveyed(alloc, STANDING)?;
-    let c = read_certificate(alloc, WIDE).ok()?;
-    has_forces(alloc, &s, &c, "")
+    wide_of(alloc, &s)
 }
 
 #[test]

@@ -70,15 +70,27 @@ fn stage_told(s: &Survey) -> Option<(bool, usize, usize)> {
     }
 }
 
+type Order = ([usize; 2], Option<(bool, usize, usize)>);
+
 /// The bodies that an order of two blocks names, and its stage with both.
-fn order_of_two(alloc: Global) -> Option<([usize; 2], Option<(bool, usize, usize)>)> {
-    let s = surveyed(alloc, FOUR)?;
-    let order = read_order(alloc, s.model(), b"d\na\n").ok()?;
+fn two_of(alloc: Global, s: &Survey) -> Option<Order> {
+    let Ok(order) = read_order(alloc, s.model(), b"d\na\n") else {
+        return None;
+    };
     if order.len() != 2 {
         return None;
     }
-    let stage = stage_of(alloc, &s, order.as_slice(), 2).ok()?;
-    Some(([order[0], order[1]], stage_told(&stage)))
+    let names = [order[0], order[1]];
+    let told = match stage_of(alloc, s, order.as_slice(), 2) {
+        Ok(stage) => stage_told(&stage),
+        Err(_) => None,
+    };
+    Some((names, told))
+}
+
+fn order_of_two(alloc: Global) -> Option<Order> {
+    let s = surveyed(alloc, FOUR)?;
+    two_of(alloc, &s)
 }
 
 #[test]
