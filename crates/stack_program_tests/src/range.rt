@@ -10,13 +10,19 @@ use std::alloc::Global;
 use std::test::*;
 
 /// Whether the text of the range begins with these lines.
-fn begins(alloc: Global, pieces: &[&str], lines: &str) -> Option<bool> {
-    let s = surveyed(alloc, pieces)?;
-    let Ok(found) = range(alloc, &s, 20_000) else {
+fn begins_over(alloc: Global, s: &Survey, lines: &str) -> Option<bool> {
+    let Ok(found) = range(alloc, s, 20_000) else {
         return None;
     };
-    let text = write_range(alloc, found).ok()?;
-    Some(text.as_slice().starts_with(lines.as_bytes()))
+    match write_range(alloc, found) {
+        Ok(text) => Some(text.as_slice().starts_with(lines.as_bytes())),
+        Err(_) => None,
+    }
+}
+
+fn begins(alloc: Global, pieces: &[&str], lines: &str) -> Option<bool> {
+    let s = surveyed(alloc, pieces)?;
+    begins_over(alloc, &s, lines)
 }
 
 const PRESSED: &[&str] = &[STONE, GROUND, POST, PRESSURE];
@@ -70,10 +76,16 @@ const THRICE: &[&str] = &[
     "[[load]]\nblock = 'post'\nkind = 'live'\nat = [0, 4]\nforce = [3, 0]\n",
 ];
 
+fn other_told(alloc: Global, s: &Survey) -> Option<((i64, i64), usize, i64)> {
+    match other_side(alloc, s) {
+        Ok(other) => told(&other),
+        Err(_) => None,
+    }
+}
+
 fn other(alloc: Global) -> Option<((i64, i64), usize, i64)> {
     let s = surveyed(alloc, THRICE)?;
-    let other = other_side(alloc, &s).ok()?;
-    told(&other)
+    other_told(alloc, &s)
 }
 
 #[test]

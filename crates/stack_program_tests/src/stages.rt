@@ -39,13 +39,17 @@ const SECOND: &[u8] = b"stage 1 stands\nstage 2 collapses\ncollapses\nmotion\n";
 
 type Told = [Option<Result<(bool, bool), StagesError>>; 3];
 
+fn told_of_three(alloc: Global, s: &Survey) -> Told {
+    [
+        told(alloc, s, b"a\nb\nc\nd\n", 100, ALL),
+        told(alloc, s, b"a\nd\nb\n", 100, SECOND),
+        told(alloc, s, b"a\nb\n", 1, b""),
+    ]
+}
+
 fn stages_of_four(alloc: Global) -> Option<Told> {
     let s = surveyed(alloc, FOUR)?;
-    Some([
-        told(alloc, &s, b"a\nb\nc\nd\n", 100, ALL),
-        told(alloc, &s, b"a\nd\nb\n", 100, SECOND),
-        told(alloc, &s, b"a\nb\n", 1, b""),
-    ])
+    Some(told_of_three(alloc, &s))
 }
 
 /// From below all stages stand, a block in the air falls, and a spent budget tells its stage.

@@ -3,6 +3,7 @@
 use crate::drawings::{GROUND, POST, PUSH, STONE, surveyed};
 use stack_certificate::read_certificate;
 use stack_checker::{Check, CheckAt, CheckPlace, Part, Reason, check};
+use stack_contact::Survey;
 use stack_equilibrium::Axis;
 use std::alloc::Global;
 use std::test::*;
@@ -26,10 +27,16 @@ const FALLING: &[&str] = &[
 ];
 
 /// What the check says of the certificate that a text tells.
+fn checked_over(alloc: Global, s: &Survey, text: &str) -> Option<Check> {
+    match read_certificate(alloc, text.as_bytes()) {
+        Ok(certificate) => Some(check(s, &certificate)),
+        Err(_) => None,
+    }
+}
+
 fn checked(alloc: Global, pieces: &[&str], text: &str) -> Option<Check> {
     let s = surveyed(alloc, pieces)?;
-    let certificate = read_certificate(alloc, text.as_bytes()).ok()?;
-    Some(check(&s, &certificate))
+    checked_over(alloc, &s, text)
 }
 
 #[test]

@@ -98,19 +98,25 @@ fn has_contacts_again(alloc: Global, s: &Survey) -> Option<bool> {
     let Ok(bare) = s.model().with_loads(alloc, &[], (0, 0)) else {
         return None;
     };
-    let again = survey_again(alloc, s, bare).ok()?;
-    Some(has_contacts(&again))
+    match survey_again(alloc, s, bare) {
+        Ok(again) => Some(has_contacts(&again)),
+        Err(_) => None,
+    }
 }
 
 type Told = (bool, Option<[usize; 4]>, Option<bool>);
 
+fn told(alloc: Global, s: &Survey) -> Told {
+    (
+        has_contacts(s),
+        free_blocks(s),
+        has_contacts_again(alloc, s),
+    )
+}
+
 fn six(alloc: Global) -> Option<Told> {
     let s = survey(alloc, model_of(alloc, SIX)?).ok()?;
-    Some((
-        has_contacts(&s),
-        free_blocks(&s),
-        has_contacts_again(alloc, &s),
-    ))
+    Some(told(alloc, &s))
 }
 
 #[test]

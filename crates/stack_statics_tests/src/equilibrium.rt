@@ -74,19 +74,31 @@ fn a_triangle_sways_by_all_three_parts_about_its_first_corner(rt: HostRuntime) {
     assert!(rt; found == wanted);
 }
 
-/// The residue of the pushed post under the parts of its two bearings, at the factor 2 in whole numbers.
-fn residue_under(alloc: Global, parts: [(i128, i128); 2]) -> Option<Result<Wrench, SumWide>> {
-    let s = surveyed(alloc, PUSHED)?;
+fn first_residue(s: &Survey, forces: &Forces) -> Option<Result<Wrench, SumWide>> {
+    if forces.parts.len() == s.bearings().len() && s.free_count() > 0 {
+        Some(residue(s, forces, 0))
+    } else {
+        None
+    }
+}
+
+/// The residue of a post under the parts of its bearings, at the factor 2 in whole numbers.
+fn residue_over(
+    alloc: Global,
+    s: &Survey,
+    parts: [(i128, i128); 2],
+) -> Option<Result<Wrench, SumWide>> {
     let forces = Forces {
         scale: 1,
         factor: 2,
         parts: parts.to_vec(alloc).ok()?,
     };
-    if forces.parts.len() == s.bearings().len() && s.free_count() > 0 {
-        Some(residue(&s, &forces, 0))
-    } else {
-        None
-    }
+    first_residue(s, &forces)
+}
+
+fn residue_under(alloc: Global, parts: [(i128, i128); 2]) -> Option<Result<Wrench, SumWide>> {
+    let s = surveyed(alloc, PUSHED)?;
+    residue_over(alloc, &s, parts)
 }
 
 #[test]
@@ -121,13 +133,17 @@ fn moved(s: &Survey, motion: &Motion) -> Option<Moved> {
     Some((openings, powers))
 }
 
-/// What this motion of its block does to the pushed post.
-fn pushed_moves(alloc: Global, by: (i128, i128, i128)) -> Option<Moved> {
-    let s = surveyed(alloc, PUSHED)?;
+fn moved_by(alloc: Global, s: &Survey, by: (i128, i128, i128)) -> Option<Moved> {
     let motion = Motion {
         moves: [by].to_vec(alloc).ok()?,
     };
-    moved(&s, &motion)
+    moved(s, &motion)
+}
+
+/// What this motion of its block does to the pushed post.
+fn pushed_moves(alloc: Global, by: (i128, i128, i128)) -> Option<Moved> {
+    let s = surveyed(alloc, PUSHED)?;
+    moved_by(alloc, &s, by)
 }
 
 #[test]
@@ -144,18 +160,22 @@ const TWO: &[&str] = &[
     "[[block]]\nname = 'upper'\nmaterial = 'stone'\ncorners = [[0, 1], [2, 1], [2, 2], [0, 2]]\n",
 ];
 
-/// Columns of the two blocks, which have four bearings.
-fn columns(alloc: Global) -> Option<[Wrench; 3]> {
-    let s = surveyed(alloc, TWO)?;
+fn columns_of(s: &Survey) -> Option<[Wrench; 3]> {
     if s.free_count() == 2 && s.bearings().len() == 4 {
         Some([
-            column(&s, 0, true, 1),
-            column(&s, 2, true, 1),
-            column(&s, 2, true, 0),
+            column(s, 0, true, 1),
+            column(s, 2, true, 1),
+            column(s, 2, true, 0),
         ])
     } else {
         None
     }
+}
+
+/// Columns of the two blocks, which have four bearings.
+fn columns(alloc: Global) -> Option<[Wrench; 3]> {
+    let s = surveyed(alloc, TWO)?;
+    columns_of(&s)
 }
 
 #[test]

@@ -93,8 +93,7 @@ fn kept_has(
 }
 
 /// The part without `b`, and that of `a` and `b` alone.
-fn parts_have_their_contacts(alloc: Global) -> Option<[Option<bool>; 2]> {
-    let whole = survey(alloc, model_of(alloc, POSTS)?).ok()?;
+fn have_their_contacts(alloc: Global, whole: &Survey) -> [Option<bool>; 2] {
     let touch = Touch {
         first: 1,
         second: 2,
@@ -102,10 +101,15 @@ fn parts_have_their_contacts(alloc: Global) -> Option<[Option<bool>; 2]> {
     };
     let feet = [at(0, 0), at(2, 0)];
     let top = [at(0, 4), at(2, 4)];
-    Some([
-        kept_has(alloc, &whole, &[true, true, false, true], feet, &[touch]),
-        kept_has(alloc, &whole, &[false, true, true, false], top, &[]),
-    ])
+    [
+        kept_has(alloc, whole, &[true, true, false, true], feet, &[touch]),
+        kept_has(alloc, whole, &[false, true, true, false], top, &[]),
+    ]
+}
+
+fn parts_have_their_contacts(alloc: Global) -> Option<[Option<bool>; 2]> {
+    let whole = survey(alloc, model_of(alloc, POSTS)?).ok()?;
+    Some(have_their_contacts(alloc, &whole))
 }
 
 #[test]
