@@ -67,20 +67,18 @@ fn force(axis: Axis, lever: Lever, push: Push) -> Result<Whole, Wide>
 #[tactic(auto, unfolding(crate::specs::WrittenSums::with_bearing))]
 fn add_bearing(
     axis: Axis,
-    block: Block,
+    block: &Block,
     push: Push,
     so_far: Whole,
-    z: Bearing,
+    z: &Bearing,
 ) -> Result<Whole, Wide>
-    ensures { result ≡ with_bearing axis block push so_far z }
+    ensures { result ≡ with_bearing axis block.now push so_far z.now }
 {
-    let (first, second) = (z.first, z.second);
-    let lever = lever_of(block.corner, z);
-    if block.body == second {
-        let acting = force(axis, lever, push)?;
+    if block.body == z.second {
+        let acting = force(axis, lever_of(block.corner, *z), push)?;
         so_far.sum(acting)
-    } else if block.body == first {
-        let acting = force(axis, lever, push)?;
+    } else if block.body == z.first {
+        let acting = force(axis, lever_of(block.corner, *z), push)?;
         so_far.difference(acting)
     } else {
         Ok(so_far)
@@ -98,7 +96,7 @@ fn add_bearings(
 {
     let mut so_far = Whole { value: 0 };
     for (k, bearing) in bearings.iter().enumerate() {
-        so_far = add_bearing(axis, block, push_of(parts, k), so_far, *bearing)?;
+        so_far = add_bearing(axis, &block, push_of(parts, k), so_far, bearing)?;
     }
     Ok(so_far)
 }
