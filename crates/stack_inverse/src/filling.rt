@@ -80,10 +80,7 @@ pub fn fill(rows: &mut [TableRow], numbers: &mut [i128], right: &[i128]) -> Resu
 pub fn zeros(alloc: Global, count: usize) -> Result<Vec<i128>, NoTable>
     ensures { IfOk result (λ r. length r.items ≡ count) }
 {
-    let mut list = Vec::with_capacity(alloc, count)?;
-    for _ in 0..count {
-        list.push(0)?;
-    }
+    let list = Vec::from_elem(alloc, 0, count)?;
     Ok(list)
 }
 

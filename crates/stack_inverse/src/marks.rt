@@ -29,10 +29,7 @@ pub fn marks_of(alloc: Global, mark: u8, count: usize) -> Result<Vec<u8>, NoTabl
     ensures long { IfOk result (λ m. length m.items ≡ count) }
     ensures each { IfOk result (λ m. (i : ℕ) → i < count → get_or m.items i 0 ≡ mark) }
 {
-    let mut marks = Vec::with_capacity(alloc, count)?;
-    for _ in 0..count {
-        marks.push(mark)?;
-    }
+    let marks = Vec::from_elem(alloc, mark, count)?;
     Ok(marks)
 }
 

@@ -1,7 +1,8 @@
 -- The numbers of a list that is written number by number.
 use Rattle.std.proofs.Common.{◌≡◌, ◌≢◌, sym, subst, ◌∙◌, ℕ, zero, suc, ◌<◌, ◌≤◌, List, [], ◌∷◌, length, get_or, set}
-use Rattle.std.proofs.Common.{arith, get_or-set_same, get_or-set_other, ℤ, pos}
-use Rattle.stack_rational.proofs.Common.{get_or_past, ℕ_discrete}
+use Rattle.std.proofs.Common.{arith, replicate, get_or-set_same, get_or-set_other, ℤ, pos}
+use Rattle.std.proofs.lemmas.List.{get_or-replicate, length-replicate}
+use Rattle.stack_rational.proofs.Common.{get_or_past, ℕ_discrete, dec_lt}
 use Rattle.stack_rows.specs.RowForm.{number_at}
 
 -- an item of a list is the same with any default
@@ -13,6 +14,13 @@ item_same (x ∷ xs) (suc j) y z l = item_same xs j y z (omega (arith, l))
 -- past the end
 pub at-past : (xs : List ℤ) (j : ℕ) → length xs ≤ j → number_at xs j ≡ pos 0
 at-past xs j l = get_or_past xs j (pos 0) l
+
+-- of zeros each is 0
+pub of_zeros : (n j : ℕ) → number_at (replicate n (pos 0)) j ≡ pos 0
+of_zeros n j = elim (dec_lt j n) [
+  | yes l ↦ get_or-replicate n j (pos 0) (pos 0) l
+  | no d ↦ at-past (replicate n (pos 0)) j (omega (arith, d, length-replicate {A = ℤ} n (pos 0)))
+]
 
 -- a number that is read
 pub at-index : (xs : List ℤ) (j : ℕ) (x : ℤ) → j < length xs → x ≡ get_or xs j x → number_at xs j ≡ x

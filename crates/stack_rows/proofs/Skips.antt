@@ -1,5 +1,6 @@
 -- Jumps of two rows that are made such of both.
-use Rattle.std.proofs.Common.{◌≡◌, ℕ, suc, ◌<◌, List, length, get_or, arith}
+use Rattle.std.proofs.Common.{◌≡◌, ℕ, suc, ◌<◌, List, length, get_or, replicate, arith}
+use Rattle.std.proofs.lemmas.List.{get_or-replicate, length-replicate}
 use Prim.Native.Nat.{min}
 use Rattle.stack_rational.proofs.Common.{dec_lt, get_or_past}
 use Rattle.stack_rows.specs.RowForm.{SkipsOnly}
@@ -42,3 +43,10 @@ module _ (own other new : List ℕ) (other_long : length other ≡ length own) (
       further = further;
       between = λ j x a b. first.between j x a (omega (arith, next j, b));
     }
+
+-- beside each place the end of a row
+pub to_end : (n end j : ℕ) → n ≡ end → j < get_or (replicate n end) j (suc j)
+to_end n end j e = elim (dec_lt j n) [
+  | yes l ↦ omega (arith, e, l, get_or-replicate n j end (suc j) l)
+  | no d ↦ omega (arith, get_or_past (replicate n end) j (suc j) (omega (arith, d, length-replicate {A = ℕ} n end)))
+]

@@ -304,12 +304,8 @@ impl Row {
         ensures zeros { IfOk result (λ r. (j : ℕ) → number_at r.numbers.items j ≡ pos 0) }
         ensures under { IfOk result (λ r. r.under ≡ pos 1) }
     {
-        let mut numbers = Vec::with_capacity(alloc, usize::from(width))?;
-        let mut jumps = Vec::with_capacity(alloc, usize::from(width))?;
-        for _ in 0..width {
-            numbers.push(0)?;
-            jumps.push(width)?;
-        }
+        let numbers = Vec::from_elem(alloc, 0, usize::from(width))?;
+        let jumps = Vec::from_elem(alloc, width, usize::from(width))?;
         Ok(Row {
             numbers,
             jumps,

@@ -24,16 +24,9 @@ fn weight(j: usize, rule: u64) -> i128 {
     (bits.wrapping_shr(61) as i128).wrapping_sub(3)
 }
 
-/// The sum of the numbers but the last with the weights of a rule.
-fn sum_by(numbers: &[i128], rule: u64) -> i128 {
-    let mut sum: i128 = 0;
-    for j in 1..numbers.len() {
-        let number = numbers[j - 1];
-        if number != 0 {
-            sum = sum.wrapping_add(number.wrapping_mul(weight(j, rule)));
-        }
-    }
-    sum
+/// A sum with a number more, by its weight.
+fn weighed(sum: i128, number: i128, j: usize, rule: u64) -> i128 {
+    sum.wrapping_add(number.wrapping_mul(weight(j, rule)))
 }
 
 /// A sum after a row step.
@@ -92,14 +85,26 @@ impl CheckSums {
         }
     }
 
+    /// The sums with one number more, in column j.
+    fn with(self, number: i128, j: usize) -> CheckSums {
+        CheckSums {
+            first: weighed(self.first, number, j, 0x9E37_79B9_7F4A_7C15),
+            second: weighed(self.second, number, j, 0xBF58_476D_1CE4_E5B9),
+            third: weighed(self.third, number, j, 0x94D0_49BB_1331_11EB),
+            fourth: weighed(self.fourth, number, j, 0xC2B2_AE3D_27D4_EB4F),
+        }
+    }
+
     /// The sums of the artificial numbers of a row.
     pub fn of_numbers(numbers: &[i128]) -> CheckSums {
-        CheckSums {
-            first: sum_by(numbers, 0x9E37_79B9_7F4A_7C15),
-            second: sum_by(numbers, 0xBF58_476D_1CE4_E5B9),
-            third: sum_by(numbers, 0x94D0_49BB_1331_11EB),
-            fourth: sum_by(numbers, 0xC2B2_AE3D_27D4_EB4F),
+        let mut sums = CheckSums::zero();
+        for j in 1..numbers.len() {
+            let number = numbers[j - 1];
+            if number != 0 {
+                sums = sums.with(number, j);
+            }
         }
+        sums
     }
 
     /// The sums of a row, k times as great, less t times those of the pivot row.
