@@ -3,14 +3,14 @@ use Rattle.std.proofs.Common.{inl, inr, arith, Ok, Err, if◌then◌else◌}
 use mathlib.Core.Path.{◌≡◌, refl, sym, ap, ◌∙◌, subst}
 use mathlib.Core.Bool.{Bool, true, false}
 use mathlib.Core.List.{List}
-use Prim.Native.Nat.{ℕ, zero, suc, ◌<◌}
+use Prim.Native.Nat.{ℕ, zero, suc, ◌<◌, ◌≤◌}
 use lib.ListN.{length}
 use Rattle.std.proofs.lemmas.Int.{ints}
 use Rattle.stack_polygon.specs.declared.point.Point.{Point}
 use Rattle.stack_polygon.specs.declared.errors.PolygonError.{PolygonError}
 use Rattle.stack_polygon.specs.declared.errors.PolygonError.TheVariants.{Corners, Range, NotConvex}
 use Rattle.stack_polygon.specs.Corners.{corner_of, reversed, IsStrictlyConvex}
-use Rattle.stack_polygon.specs.Limits.{AreInRange, is_in_range, are_in_range}
+use Rattle.stack_polygon.specs.Limits.{IsPolygon, AreInRange, is_in_range, are_in_range}
 use Rattle.stack_polygon.specs.Outlines.{all_below, first_failing, is_clear, is_convex, outline_of}
 use Rattle.stack_polygon.specs.Admission.{IsCount, IsFirstUnclear, IsAdmittedAs, IsRefusedAs, is_count, first_far_of}
 use Rattle.stack_polygon.specs.Admission.{polygon_of, with_edge}
@@ -107,3 +107,41 @@ range-held old held new seen e f g h = subst AreInRange (sym (f ∙ g)) (range-r
 
 pub count-kept : (old new : List Point) → new ≡ reversed old → IsCount (length old) → IsCount (length new)
 count-kept old new g h = subst IsCount (sym (ap length g ∙ length-reversed old)) h
+
+-- the number of corners, as two tests of it tell
+pub count-read : (n m k l : ℕ) → m ≡ n → 3 ≤ m → k ≡ n → k ≤ 32 → n ≡ l → IsCount l
+count-read n m k l em lm ek lk el = record { least = omega arith; most = omega arith }
+
+-- a list is a polygon, where both searches found nothing
+pub kept-polygon : (ps far clear : List Point) → IsCount (length ps) → far ≡ ps → AreInRange far → clear ≡ ps
+    → IsStrictlyConvex clear → IsPolygon ps
+kept-polygon ps far clear n ef r ec k = record {
+  least = n.least;
+  most = n.most;
+  in_range = subst AreInRange ef r;
+  convex = subst IsStrictlyConvex ec k;
+}
+
+-- an unclear edge shows that a list isn't strictly convex
+pub no-turn : (ps held seen : List Point) (e : ℕ) → seen ≡ held → held ≡ reversed ps → IsFirstUnclear seen e
+    → ¬ (IsStrictlyConvex (reversed ps))
+no-turn ps held seen e es eh h k = h.unclear (subst IsStrictlyConvex (sym (es ∙ eh)) k e h.is_edge)
+
+-- a list that is a polygon is admitted as it is
+pub admitted-straight : (ps : List Point) → IsPolygon ps → IsAdmittedAs ps ps
+admitted-straight ps h = record {
+  count = record { least = h.least; most = h.most };
+  in_range = h.in_range;
+  stands = inl (h.convex, refl);
+  convex = h.convex;
+}
+
+-- a list with an unclear edge is admitted as its reversal, where that is strictly convex
+pub admitted-turned : (ps qs seen : List Point) (e : ℕ) → IsCount (length ps) → AreInRange ps → seen ≡ ps
+    → IsFirstUnclear seen e → qs ≡ reversed ps → IsStrictlyConvex qs → IsAdmittedAs ps qs
+admitted-turned ps qs seen e n r es h eq k = record {
+  count = n;
+  in_range = r;
+  stands = inr (λ c. h.unclear (subst IsStrictlyConvex (sym es) c e h.is_edge), eq);
+  convex = k;
+}
