@@ -3,6 +3,7 @@ use Rattle.std.proofs.Common.{arith, SFits, to_z, of_z}
 use mathlib.Core.Path.{◌≡◌, sym, ◌∙◌, subst}
 use lib.IntN.{ℤ, pos, negsuc, ◌+ℤ◌, ◌-ℤ◌, ◌*ℤ◌, neg_ℤ}
 use mir.Syntax.{w64, w128}
+use Rattle.std.specs.Int.{int_min, int_max}
 use Rattle.std.proofs.lemmas.Int.{ints, to_z-of_z}
 use Rattle.stack_algebra.proofs.Integers.{sums, expand}
 use Rattle.stack_algebra.proofs.Order.{◌≼◌, mul-bounds}
@@ -119,18 +120,46 @@ moment-stored x y a b ea eb hx hy = subst (IsWithin 1 24000000000000000000) (sym
     whole = (λ i. wide (wide (ea i) *ℤ wide (eb i))) ∙ (λ i. wide (area x hx i *ℤ three y hy i))
         ∙ product (x *ℤ y) (moment-within x y hx hy)
 
+-- twice an area fits 64 bits
+pub twice-stored : (z : ℤ) → IsTwiceArea z → stored z ≡ z
+twice-stored z h = omega (arith, ints)
+
+-- the sum of three coordinates fits 64 bits
+few-stored : (z : ℤ) → IsThreeCoordinates z → stored z ≡ z
+few-stored z h = omega (arith, ints)
+
 -- the moment of a triangle, from its two factors
 pub moment-is : (m t s area sum : ℤ) → SFits w128 m → m ≡ stored t *ℤ stored s → IsTwiceArea t → IsThreeCoordinates s
     → t ≡ area → s ≡ sum → wide m ≡ area *ℤ sum
-moment-is m t s area sum f h kt ks ht hs = to_z-of_z w128 m f ∙ h ∙ (λ i. small t kt i *ℤ few s ks i)
+moment-is m t s area sum f h kt ks ht hs = to_z-of_z w128 m f ∙ h ∙ (λ i. twice-stored t kt i *ℤ few-stored s ks i)
     ∙ (λ i. ht i *ℤ hs i)
-  where
-    small : (z : ℤ) → IsTwiceArea z → stored z ≡ z
-    small z k = omega (arith, ints)
-
-    few : (z : ℤ) → IsThreeCoordinates z → stored z ≡ z
-    few z k = omega (arith, ints)
 
 pub three-stored : (x y z s : ℤ) → IsNear x → IsNear y → IsNear z → s ≡ stored x +ℤ stored y +ℤ stored z
     → s ≡ x +ℤ y +ℤ z
 three-stored x y z s hx hy hz h = omega (arith, ints)
+
+-- the lesser of two numbers of 64 bits, as 64 bits hold it
+pub least-stored : (r x y : ℤ) → SFits w64 r → SFits w64 x → SFits w64 y → r ≡ int_min (stored x) (stored y)
+    → stored r ≡ int_min x y
+least-stored r x y fr fx fy h = to_z-of_z w64 r fr ∙ h ∙ (λ i. int_min (to_z-of_z w64 x fx i) (to_z-of_z w64 y fy i))
+
+-- the greater of two numbers of 64 bits, as 64 bits hold it
+pub greatest-stored : (r x y : ℤ) → SFits w64 r → SFits w64 x → SFits w64 y → r ≡ int_max (stored x) (stored y)
+    → stored r ≡ int_max x y
+greatest-stored r x y fr fx fy h = to_z-of_z w64 r fr ∙ h
+    ∙ (λ i. int_max (to_z-of_z w64 x fx i) (to_z-of_z w64 y fy i))
+
+-- a coordinate in range stays so as 64 bits hold it
+pub near-kept : (z : ℤ) → IsNear z → IsNear (stored z)
+near-kept z h = subst IsNear (sym same) h
+  where
+    same : stored z ≡ z
+    same = omega (arith, ints)
+
+-- so does twice an area
+pub twice-kept : (z : ℤ) → IsTwiceArea z → IsTwiceArea (stored z)
+twice-kept z h = subst IsTwiceArea (sym (twice-stored z h)) h
+
+-- so does the sum of three coordinates
+pub three-kept : (z : ℤ) → IsThreeCoordinates z → IsThreeCoordinates (stored z)
+three-kept z h = subst IsThreeCoordinates (sym (few-stored z h)) h
