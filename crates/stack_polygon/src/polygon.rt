@@ -14,7 +14,7 @@ use crate::fan::fan;
 use crate::lists::{first_far, first_unclear, reverse};
 use crate::point::{Point, Span};
 use crate::spans::span_of;
-use crate::turns::{next, triangle};
+use crate::turns::{next, sign, triangle};
 use std::alloc::{AllocError, Global};
 use std::marker::Model;
 
@@ -105,15 +105,8 @@ impl Polygon {
         requires range { IsInRange at }
         ensures { result ≡ signum (side_of self.now i at) }
     {
-        let end = next(self.corners.len(), i);
-        let turn = triangle(self.corners[i], self.corners[end], at);
-        if turn > 0 {
-            1
-        } else if turn < 0 {
-            -1
-        } else {
-            0
-        }
+        let end = next(self.len(), i);
+        sign(triangle(self.corner(i), self.corner(end), at))
     }
 
     /// The least and the greatest coordinates: each corner lies within, and each bound is a corner's. Takes no

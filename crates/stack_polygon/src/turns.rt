@@ -2,6 +2,7 @@
 
 ghost use Rattle.std.specs.Prelude.{◌≡◌, ◌*ℤ◌, ◌<◌};
 ghost use Rattle.stack_polygon.specs.Plane.{triangle_of, advance_of};
+ghost use Rattle.stack_algebra.specs.IntegerOrder.{signum};
 ghost use Rattle.stack_algebra.specs.Search.{next_round};
 ghost use Rattle.stack_polygon.specs.Limits.{IsInRange};
 ghost use Rattle.stack_polygon.specs.Sizes.{IsStep, IsSquare, IsTwiceArea};
@@ -37,6 +38,19 @@ pub fn advance(o: Point, p: Point, q: Point) -> i64
     ensures { result ≡ advance_of o p q }
 {
     product(p.x - o.x, q.x - o.x) + product(p.y - o.y, q.y - o.y)
+}
+
+/// 1 for a positive number, 0 for 0, -1 for a negative one.
+pub fn sign(turn: i64) -> i32
+    ensures { result ≡ signum turn }
+{
+    if turn > 0 {
+        1
+    } else if turn < 0 {
+        -1
+    } else {
+        0
+    }
 }
 
 /// The number after `i`, of `n` in a circle.
