@@ -2,6 +2,7 @@
 use lib.IntN.{◌-ℤ◌}
 use mathlib.Core.List.{List}
 use mathlib.Core.Path.{◌≡◌, sym, subst}
+use mathlib.Core.Logic.{inl, inr}
 use Prim.Native.Nat.{ℕ}
 use Rattle.std.specs.Prelude.{◌↔◌}
 use Rattle.stack_polygon.specs.declared.point.Point.{Point}
@@ -20,12 +21,18 @@ use Rattle.stack_frame.proofs.Senses.{frames-by-parallels}
 use Rattle.stack_frame.proofs.FramesOfDirections.{one-frame}
 use Rattle.stack_polygon.specs.Limits.{IsPolygon}
 use Rattle.stack_overlap.specs.Separation.{IsSeparatedBy}
+use Rattle.stack_contact.specs.Surveyed.{AreSeparated}
 use Rattle.stack_contact.specs.declared.types.Contacts.{Contacts}
 use Rattle.stack_contact.proofs.EarlierEdge.{BearsBy, earlier-edge}
 use Rattle.stack_contact.proofs.LaterEdge.{later-edge}
 use Rattle.stack_contact.proofs.PairTouches.{touches-by}
 use Rattle.stack_contact.specs.PairContacts.{IsFrameFrom, IsTangentBy, IsBearingAt, IsInOrder}
 use Rattle.stack_contact.specs.PairContacts.{AreContacts, contacts_by}
+
+-- an edge of one of the two that separates them is one of the first's or one of the second's
+pub separated-by : (P Q : List Point) (w : Which) (i : ℕ) → IsSeparatedBy P Q w i → AreSeparated P Q
+separated-by P Q First i h = inl (i, h)
+separated-by P Q Second i h = inr (i, h)
 
 joined : {A B C : Type 0} → A ↔ B → B ↔ C → A ↔ C
 joined f g = (λ a. g.0 (f.0 a), λ c. f.1 (g.1 c))
