@@ -40,6 +40,12 @@ module _ (s : Structure) (ps : List Pair) where
   abbrev pub AreFoundTo : ℕ → List Bearing → List Touch → Type 0
   AreFoundTo n zs ts = AreFound s (place_at n).first (place_at n).second zs ts
 
+  -- the same, where pair n is read with any default
+  pub found-at : (n : ℕ) (d : Pair) → n < length ps → (zs : List Bearing) (ts : List Touch) → AreFoundTo n zs ts
+      → AreFound s (get_or ps n d).first (get_or ps n d).second zs ts
+  found-at n d l zs ts h = subst (λ (p : Pair). AreFound s p.first p.second zs ts)
+      (get_or_default ps n (record { first = length s.bodies; second = 0 }) d l) h
+
   module _ (polygons : (i : ℕ) → i < length s.bodies → IsPolygon (corners_of s i)) (near : AreNearPairs s ps)
       (ordered : IsOrdered ps) where
     -- a pair before the n-th one stands earlier in the list, or has nothing in common
