@@ -170,3 +170,44 @@ returns-clause-wide g c =
     (reduce_item ordered_fractions (is_too_wide m) old piv k c.args.row) c.loop-k.invariant.none
     (λ i a b. (column_skips m old piv k c.args.row i g.met.S.Exact.max_law (c.requires.block.fitting i)
     (c.requires.listed.after i (omega (arith, ap (reach c.args.columns.now) end, a)) b)).1)
+
+pub loop-k-init : goal.loop-k-init
+loop-k-init g c = record {
+  block = c.requires.block;
+  done = λ i l. absurd (omega (arith, l));
+  rest = λ i l. refl;
+  none = refl;
+}
+
+pub bounds-pivot-j : goal.bounds-pivot-j
+bounds-pivot-j g c = omega (arith, c.requires.listed.below c.loop-k.k c.loop-k-test.true, c.requires.width)
+
+pub bounds-cells-j : goal.bounds-cells-j
+bounds-cells-j g c = omega (arith, c.requires.listed.below c.loop-k.k c.loop-k-test.true, c.loop-k.auto.cells)
+
+pub bounds-cells-j-in-Ok-difference : goal.bounds-cells-j-in-Ok-difference
+bounds-cells-j-in-Ok-difference g c =
+    omega (arith, c.requires.listed.below c.loop-k.k c.loop-k-test.true, c.loop-k.auto.cells)
+
+pub bounds-marks-j : goal.bounds-marks-j
+bounds-marks-j g c = omega (
+  arith,
+  c.requires.listed.below c.loop-k.k c.loop-k-test.true,
+  c.loop-k.auto.cells,
+  c.loop-k.invariant.block.same,
+)
+
+pub returns-in-Err-clause-block : goal.returns-in-Err-clause-block
+returns-in-Err-clause-block g c = c.loop-k.invariant.block
+
+pub returns-in-Err-clause-ok : goal.returns-in-Err-clause-ok
+returns-in-Err-clause-ok g c = tt
+
+pub returns-in-Err-difference-clause-block : goal.returns-in-Err-difference-clause-block
+returns-in-Err-difference-clause-block g c = c.loop-k.invariant.block
+
+pub returns-in-Err-difference-clause-ok : goal.returns-in-Err-difference-clause-ok
+returns-in-Err-difference-clause-ok g c = tt
+
+pub returns-clause-block : goal.returns-clause-block
+returns-clause-block g c = c.loop-k.invariant.block
