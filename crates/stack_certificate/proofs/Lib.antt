@@ -10,3 +10,4 @@ pub mod ReadSoFar
 pub mod WrittenLists
 pub mod TextSizes
 pub mod Put
+pub mod Pushed

@@ -16,31 +16,30 @@ pub record IsRead (text : List ℕ) (p : Progress) (rest : List ℕ) (number : �
   pub counts : suc (accepted start (cut text)) ≡ number + accepted p (cut rest)
 
 -- after a line that may come
-pub read_on : (text : List ℕ) (p q : Progress) (rest bytes after : List ℕ) (line : Line) (number : ℕ)
-    → IsRead text p rest number → cut rest ≡ bytes ∷ cut after → IsLine line bytes → Some q ≡ progress_after p line
-    → IsRead text q after (number + 1)
-read_on text p q rest bytes after line number is head found may =
-    let s : step p bytes ≡ Some q = ap (option_and_then (progress_after p)) (line_found line bytes found) ∙ sym may in
+pub read_on : (text : List ℕ) (p q : Progress) (rest bytes after : List ℕ) (number : ℕ) → IsRead text p rest number
+    → cut rest ≡ bytes ∷ cut after → Some q ≡ step p bytes → IsRead text q after (number + 1)
+read_on text p q rest bytes after number is head may =
+    let s : step p bytes ≡ Some q = sym may in
     let count : accepted p (cut rest) ≡ suc (accepted q (cut after)) = rw (head, s) refl in
     record { runs = is.runs ∙ rw (head, s) refl; counts = omega (arith, count, is.counts) }
 
 -- at a line that may not come
 pub stopped : (text : List ℕ) (p : Progress) (rest bytes after : List ℕ) (number : ℕ)
-    → IsRead text p rest number → cut rest ≡ bytes ∷ cut after → step p bytes ≡ None
+    → IsRead text p rest number → cut rest ≡ bytes ∷ cut after → None ≡ step p bytes
     → certificate_of text ≡ Err number
 unfolding certificate_of
-stopped text p rest bytes after number is head none =
+stopped text p rest bytes after number is head may =
+    let none : step p bytes ≡ None = sym may in
     let runs : progress_over start (cut text) ≡ None = is.runs ∙ rw (head, none) refl in
     let count : accepted p (cut rest) ≡ 0 = rw (head, none) refl in
     let line : suc (accepted start (cut text)) ≡ number = omega (arith, count, is.counts) in
     rw (runs, line) refl
 
-pub no_line : (p : Progress) (bytes : List ℕ) → ((line : Line) → ¬ IsLine line bytes) → step p bytes ≡ None
-no_line p bytes none = ap (option_and_then (progress_after p)) (no_line_found bytes none)
+pub no_line : (p : Progress) (bytes : List ℕ) → ((line : Line) → ¬ IsLine line bytes) → None ≡ step p bytes
+no_line p bytes none = sym (ap (option_and_then (progress_after p)) (no_line_found bytes none))
 
-pub other_line : (p : Progress) (bytes : List ℕ) (line : Line) → IsLine line bytes → None ≡ progress_after p line
-    → step p bytes ≡ None
-other_line p bytes line found not = ap (option_and_then (progress_after p)) (line_found line bytes found) ∙ sym not
+pub own_line : (p : Progress) (bytes : List ℕ) (line : Line) → IsLine line bytes → progress_after p line ≡ step p bytes
+own_line p bytes line found = sym (ap (option_and_then (progress_after p)) (line_found line bytes found))
 
 -- at the end of the text
 pub closed : (text : List ℕ) (p : Progress) (rest : List ℕ) (number : ℕ) → (length rest == 0) ≡ true

@@ -1,14 +1,17 @@
 //! Reading the text of a certificate.
 
-ghost use Rattle.std.specs.Prelude.{◌≡◌, ◌<◌, ◌∷◌, length};
+ghost use Rattle.std.specs.Prelude.{◌≡◌, ◌<◌, ◌∷◌, length, IfOk};
+ghost use Rattle.std.specs.Option.{option_map};
+ghost use Rattle.stack_certificate.specs.CertificateOf.{step};
 ghost use Rattle.stack_certificate.specs.FaultLine.{cut};
 ghost use Rattle.stack_certificate.specs.CertificateRead.{ReadsCertificate, GivesCertificate};
+ghost use Rattle.stack_certificate.specs.Stages.{stage_view};
 
 use crate::line::parse_line;
 use crate::split::split_once;
 use crate::stage::{Stage, accept, finish};
 use crate::types::{Certificate, TextError};
-use std::alloc::Global;
+use std::alloc::{AllocError, Global};
 
 /// The first line with its line feed, where it has one, and the rest.
 pub fn cut_line(bytes: &[u8]) -> (&[u8], &[u8])
@@ -19,6 +22,16 @@ pub fn cut_line(bytes: &[u8]) -> (&[u8], &[u8])
     match split_once(bytes, b'\n') {
         Some((line, rest)) => (&bytes[..line.len() + 1], rest),
         None => (bytes, &[]),
+    }
+}
+
+/// The stage after the line that the bytes are, if that line may come there.
+fn advance(alloc: Global, stage: Stage, bytes: &[u8]) -> Result<Option<Stage>, AllocError>
+    ensures { IfOk result (λ s. option_map stage_view s ≡ step (stage_view stage) bytes.now) }
+{
+    match parse_line(bytes) {
+        Some(line) => accept(alloc, stage, line),
+        None => Ok(None),
     }
 }
 
@@ -33,10 +46,7 @@ pub fn read_certificate(alloc: Global, text: &[u8]) -> Result<Certificate, TextE
     let mut number = 1;
     while !rest.is_empty() {
         let (bytes, after) = cut_line(rest);
-        let Some(line) = parse_line(bytes) else {
-            return Err(TextError::Line { number });
-        };
-        match accept(alloc, stage, line)? {
+        match advance(alloc, stage, bytes)? {
             Some(next) => stage = next,
             None => return Err(TextError::Line { number }),
         }

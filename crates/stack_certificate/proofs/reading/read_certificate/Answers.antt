@@ -1,28 +1,18 @@
 use Rattle.std.proofs.Common.{refl, sym, ◌∙◌, arith}
-use Rattle.stack_certificate.specs.Stages.{stage_view}
 use Rattle.stack_certificate.proofs.Readings.{is_read, faulty}
-use Rattle.stack_certificate.proofs.ReadSoFar.{read_on, stopped, no_line, other_line, closed}
+use Rattle.stack_certificate.proofs.ReadSoFar.{read_on, stopped, closed}
 use Rattle.stack_certificate.proofs.reading.read_certificate.Goals as goal
 
 pub loop-rest-preserved : goal.loop-rest-preserved
 loop-rest-preserved c =
-    let accepted = rw c.in-Some-2.is at c.in_ok-next.ensures in
-    let read = read_on _ _ _ _ _ _ c.in-Some.line _ c.loop-rest.invariant.0
-    c.cut_line.ensures.cut c.in-Some.ensures.some accepted in
+    let accepted = rw c.in-Some.is at c.in_ok-next.ensures in
+    let read = read_on _ _ _ _ _ _ _ c.loop-rest.invariant.0 c.cut_line.ensures.cut accepted in
     (read, omega (arith, c.loop-rest.invariant.1, c.cut_line.ensures.shorter))
-
-pub returns-in_default-clause-gives : goal.returns-in_default-clause-gives
-returns-in_default-clause-gives c =
-    stopped _ _ _ _ _ _ c.loop-rest.invariant.0 c.cut_line.ensures.cut (no_line _ _ c.in_default.ensures.none)
-
-pub returns-in_default-clause-reads : goal.returns-in_default-clause-reads
-returns-in_default-clause-reads c = faulty _ _ (returns-in_default-clause-gives c)
 
 pub returns-in-None-clause-gives : goal.returns-in-None-clause-gives
 returns-in-None-clause-gives c =
     let barred = rw c.in-None.is at c.in_ok-next.ensures in
-    let none = other_line (stage_view c.loop-rest.stage) _ c.in-Some.line c.in-Some.ensures.some barred in
-    stopped _ _ _ _ _ _ c.loop-rest.invariant.0 c.cut_line.ensures.cut none
+    stopped _ _ _ _ _ _ c.loop-rest.invariant.0 c.cut_line.ensures.cut barred
 
 pub returns-in-None-clause-reads : goal.returns-in-None-clause-reads
 returns-in-None-clause-reads c = faulty _ _ (returns-in-None-clause-gives c)
