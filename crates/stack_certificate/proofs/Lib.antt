@@ -11,3 +11,4 @@ pub mod WrittenLists
 pub mod TextSizes
 pub mod Put
 pub mod Pushed
+pub mod OtherLines
