@@ -1,5 +1,5 @@
 -- What reading one more line of a list comes to.
-use Rattle.std.proofs.Common.{◌≡◌, ◌≢◌, ℤ, List, [], ◌∷◌, ◌++◌, refl, ◌∙◌, to_z, of_z, to_z-of_z, SFits, Some, None}
+use Rattle.std.proofs.Common.{◌≡◌, ◌≢◌, ℤ, List, [], ◌∷◌, ◌++◌, refl, ◌∙◌, to_z, of_z, to_z-of_z, SFits, None}
 use Rattle.std.specs.Int.{w128}
 use Rattle.std.specs.Option.{option_map}
 use Rattle.stack_certificate.specs.declared.types.Certificate.{Certificate}
@@ -9,7 +9,8 @@ use Rattle.stack_certificate.specs.declared.types.Motion.{Motion}
 use Rattle.stack_certificate.specs.declared.line.Line.{Line}
 use Rattle.stack_certificate.specs.declared.line.Line.TheVariants as lines
 use Rattle.stack_certificate.specs.Certificate.{ForcesValue, certificate_view}
-use Rattle.stack_certificate.specs.CertificateOf.{unended, with_push, with_move, progress_after, before_motion, before_ray}
+use Rattle.stack_certificate.specs.CertificateOf.{unended, with_push, with_move, progress_after, before_motion}
+use Rattle.stack_certificate.specs.CertificateOf.{before_ray}
 
 -- a part that was pushed, whose numbers went through their casts
 pub part_pushed : (ps : List (ℤ × ℤ)) {qs : List (ℤ × ℤ)} {a b : ℤ} → SFits w128 a → SFits w128 b
