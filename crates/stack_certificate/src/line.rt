@@ -9,7 +9,7 @@ use crate::number::read_number;
 use crate::split::{after, split_once};
 
 /// The forms of a certificate.
-#[derive(Clone, Copy, Debug, PartialEq, Eq)]
+#[derive(Clone, Copy)]
 pub enum CertificateForm {
     Stands,
     Collapses,
@@ -18,7 +18,7 @@ pub enum CertificateForm {
 }
 
 /// A line of a certificate's text.
-#[derive(Clone, Copy, Debug, PartialEq, Eq)]
+#[derive(Clone, Copy)]
 pub enum Line {
     Form(CertificateForm),
     Forces { scale: i128, factor: i128 },
