@@ -1,6 +1,6 @@
 //! The later objective rows, written over the last row of a block.
 
-ghost use Rattle.std.specs.Prelude.{◌≡◌, ℕ, suc, ◌*◌, ◌<◌, length, pos, negsuc, cond, eqb, get_or, true, IfSome};
+ghost use Rattle.std.specs.Prelude.{◌≡◌, ℕ, suc, ◌+◌, ◌*◌, ◌<◌, ◌≤◌, length, pos, negsuc, cond, eqb, get_or, true, IfSome};
 ghost use Rattle.stack_algebra.proofs.Fractions.{of};
 ghost use Rattle.stack_algebra.proofs.OrderedFractions.{ordered_fractions};
 ghost use Rattle.stack_algebra.specs.Rows.{changed};
@@ -74,6 +74,39 @@ pub fn clear_last<S: Exact>(cells: &mut [S], marks: &mut [bool], rows: usize, wi
     clear_row(last, last_marks);
 }
 
+/// Writes a row without its cell in the column over the last row; without a row, -1 in the column alone.
+fn write_last<S: Exact>(
+    above: &[S],
+    marks_above: &[bool],
+    last: &mut [S],
+    last_marks: &mut [bool],
+    column: usize,
+    row: Option<usize>,
+)
+    requires above { IsBlock S.MAX S.exact above.now marks_above.now }
+    requires last { IsBlock S.MAX S.exact last.old last_marks.old }
+    requires column_in { column < length last.old }
+    requires row_in { IfSome row (λ r. r * length last.old + length last.old ≤ length above.now) }
+    ensures block { IsBlock S.MAX S.exact last.new last_marks.new }
+    ensures ok { (j : ℕ) → item_value S.exact last.new j
+        ≡ factor_row ordered_fractions (cell_of S.exact (length last.old) above.now) column row j }
+{
+    match row {
+        Some(r) => {
+            let width = last.len();
+            let from = r * width;
+            let end = from + width;
+            last.copy_from_slice(&above[from..end]);
+            last_marks.copy_from_slice(&marks_above[from..end]);
+            set_cell(last, last_marks, column, S::zero());
+        }
+        None => {
+            clear_row(last, last_marks);
+            set_cell(last, last_marks, column, minus_one());
+        }
+    }
+}
+
 /// Sets the objective row to a row without its cell in the column; without a row, to -1 in the column alone.
 pub fn set_last<S: Exact>(
     cells: &mut [S],
@@ -95,16 +128,5 @@ pub fn set_last<S: Exact>(
     let start = rows * width;
     let (above, last) = cells.split_at_mut(start);
     let (marks_above, last_marks) = marks.split_at_mut(start);
-    match row {
-        Some(r) => {
-            let from = r * width;
-            last.copy_from_slice(&above[from..from + width]);
-            last_marks.copy_from_slice(&marks_above[from..from + width]);
-            set_cell(last, last_marks, column, S::zero());
-        }
-        None => {
-            clear_row(last, last_marks);
-            set_cell(last, last_marks, column, minus_one());
-        }
-    }
+    write_last(above, marks_above, last, last_marks, column, row);
 }
