@@ -1,4 +1,4 @@
-use Rattle.std.proofs.Common.{refl, sym, ap, ◌∙◌, ℕ, ◌+◌, ◌*◌, add-one}
+use Rattle.std.proofs.Common.{refl, sym, ap, ◌∙◌, ℕ, ◌+◌, ◌*◌, add-one, arith}
 use Rattle.stack_rational.proofs.Common.{err_from_is_err_and, Fraction, add, neg, ordered_fractions, only_if}
 use Rattle.stack_rational.proofs.Common.{first_found, first_more, fraction_fits, is_too_wide}
 use Rattle.stack_rational.specs.declared.exact.Op.TheVariants.{Difference}
@@ -6,7 +6,7 @@ use Rattle.stack_table.specs.declared.problem.BuildError.TheVariants.{Wide}
 use Rattle.stack_table.specs.Block.{cell_of, item_value}
 use Rattle.stack_table.specs.WrittenTable.{less_all, partial_place}
 use Rattle.stack_rational.proofs.Fitting.{answer_fits, zero_fits}
-use Rattle.stack_table.proofs.BlockRows.{cell_in}
+use Rattle.stack_table.proofs.BlockRows.{row_in, cell_in}
 use Rattle.stack_table.proofs.building.less_column.Goals as goal
 
 pub loop-i-init : goal.loop-i-init
@@ -46,3 +46,27 @@ loop-i-preserved g c =
           c.loop-i.invariant.none (ap (λ b. only_if b (Wide a.rows a.column))
           ((λ z. is_too_wide m Difference (sym c.loop-i.invariant.value z) (x z)) ∙ c.in_ok-sum.ensures.fits));
     }
+
+pub overflow_mul-i : goal.overflow_mul-i
+overflow_mul-i g c = omega (
+  arith,
+  row_in c.loop-i.i c.args.rows c.args.width (c.args.rows * c.args.width) c.loop-i-test.true refl,
+  c.requires.room,
+  c.requires.column_in,
+)
+
+pub overflow_add-i : goal.overflow_add-i
+overflow_add-i g c = omega (
+  arith,
+  row_in c.loop-i.i c.args.rows c.args.width (c.args.rows * c.args.width) c.loop-i-test.true refl,
+  c.requires.room,
+  c.requires.column_in,
+)
+
+pub less_cell-requires-clause-at_in : goal.less_cell-requires-clause-at_in
+less_cell-requires-clause-at_in g c = omega (
+  arith,
+  row_in c.loop-i.i c.args.rows c.args.width (c.args.rows * c.args.width) c.loop-i-test.true refl,
+  c.requires.room,
+  c.requires.column_in,
+)

@@ -1,8 +1,9 @@
-use Rattle.std.proofs.Common.{◌≡◌, ap, ◌∙◌, arith}
+use Rattle.std.proofs.Common.{◌≡◌, refl, ap, subst, ◌∙◌, arith}
 use Rattle.stack_rational.proofs.Common.{ordered_fractions, first, first_found, first_more, is_too_wide}
 use Rattle.stack_table.specs.Table.{width}
+use Rattle.stack_table.specs.Block.{Grows}
 use Rattle.stack_table.specs.Lent.{problem_of}
-use Rattle.stack_table.specs.WrittenTable.{number_place}
+use Rattle.stack_table.specs.WrittenTable.{first_row, number_place}
 use Rattle.stack_table.proofs.Growing.{grown_more}
 use Rattle.stack_table.proofs.DueRows.{due_set}
 use Rattle.stack_table.proofs.building.push_row.Goals as goal
@@ -53,3 +54,35 @@ returns-clause-fits g c =
     omega (arith, c.loop-j-test.false, c.loop-j.auto.j-end, c.requires.artificial) in
     ap (λ n. first n (number_place ordered_fractions (is_too_wide g.S.Exact.MAX) P c.args.i)) end
     ∙ c.loop-j.invariant.none
+
+pub loop-j-init : goal.loop-j-init
+loop-j-init g c = record {
+  block = c.requires.block;
+  grown = record { longer = omega arith; kept = λ k l. refl; put = λ k l. absurd (omega (arith, l)) };
+  dues = c.requires.dues;
+  none = refl;
+}
+
+pub bounds-dues-j : goal.bounds-dues-j
+bounds-dues-j g c = omega (arith, c.loop-j-test.true, c.requires.artificial, c.requires.long, c.loop-j.auto.dues)
+
+pub bounds-dues-j-in-loop-j : goal.bounds-dues-j-in-loop-j
+bounds-dues-j-in-loop-j g c =
+    omega (arith, c.loop-j-test.true, c.requires.artificial, c.requires.long, c.loop-j.auto.dues)
+
+pub first_cell-requires-clause-j_in : goal.first_cell-requires-clause-j_in
+first_cell-requires-clause-j_in g c = omega (arith, c.loop-j-test.true, c.requires.artificial)
+
+pub first_cell-requires-clause-due : goal.first_cell-requires-clause-due
+first_cell-requires-clause-due g c = c.next_due-due.ensures
+
+pub push_cell-requires-clause-fits : goal.push_cell-requires-clause-fits
+push_cell-requires-clause-fits g c = c.in-Ok.ensures.small
+
+pub returns-clause-grown : goal.returns-clause-grown
+returns-clause-grown g c =
+    let P = problem_of c.args.p.now in
+    let end : c.loop-j.j ≡ width P.shape =
+    omega (arith, c.loop-j-test.false, c.loop-j.auto.j-end, c.requires.artificial) in
+    subst (λ n. Grows g.S.Exact.exact c.args.cells.now.items c.loop-j.cells.items n
+    (first_row ordered_fractions P c.args.i)) end c.loop-j.invariant.grown
