@@ -1,5 +1,5 @@
-use Rattle.std.proofs.Common.{◌≡◌, sym, ap, subst, ◌∙◌, ℕ, ◌<◌, Bool, true, false, cond, None, ℤ}
-use Rattle.stack_rational.proofs.Common.{Fraction, sign_of, ordered_fractions, only_if, first_found, first_more}
+use Rattle.std.proofs.Common.{◌≡◌, sym, ap, subst, ◌∙◌, ℕ, ◌<◌, Bool, true, false, cond, None, ℤ, arith}
+use Rattle.stack_rational.proofs.Common.{Fraction, sign_of, ordered_fractions, only_if, first, first_found, first_more}
 use Rattle.stack_rational.proofs.Common.{is_too_wide, quotient}
 use Rattle.stack_rational.specs.declared.exact.Op.TheVariants.{Quotient}
 use Rattle.stack_table.specs.Table.{Shape, Tabled, columns}
@@ -8,6 +8,7 @@ use Rattle.stack_bland.specs.Choice.{is_plus, ratio, ratio_item}
 use Rattle.stack_bland.proofs.BestSoFar.{held_positive, held_other}
 use Rattle.stack_bland.proofs.leaving_row.leaving.Goals as goal
 use Rattle.stack_bland.proofs.leaving_row.leaving.Goals.{then-is_positive+in-Ok, else-is_positive}
+use Rattle.stack_bland.proofs.leaving_row.leaving.Goals.{After-loop-i}
 
 -- a row with a positive cell, and another
 item : (m : ℤ) (S : Shape) (T : Tabled Fraction) (c i : ℕ) (x y : Fraction) (b : Bool) → T.cell i c ≡ x →
@@ -77,3 +78,19 @@ loop-i-preserved g c = elim c.if-is_positive.branch [
             c.loop-i.invariant.held p;
       })
 ]
+
+-- all rows have been looked at
+module _ (g : _) (c : After-loop-i g) where
+  end : c.loop-i.i ≡ (shape_of_table c.args.t.now).rows
+  end = omega (arith, c.loop-i-test.false, c.loop-i.auto.i-end, c.rows-i-end.ensures)
+
+  none : first (shape_of_table c.args.t.now).rows (ratio_item ordered_fractions (shape_of_table c.args.t.now)
+      (is_too_wide g.S.Exact.MAX) (table_of c.args.t.now) c.args.column) ≡ None
+  none = ap (λ n. first n (ratio_item ordered_fractions (shape_of_table c.args.t.now) (is_too_wide g.S.Exact.MAX)
+      (table_of c.args.t.now) c.args.column)) (sym end) ∙ c.loop-i.invariant.none
+
+pub returns-in-None-clause-fits : goal.returns-in-None-clause-fits
+returns-in-None-clause-fits g c = none g (goal.at.returns-in-None-clause-fits g c).After-loop-i
+
+pub returns-in-Some-clause-fits : goal.returns-in-Some-clause-fits
+returns-in-Some-clause-fits g c = none g (goal.at.returns-in-Some-clause-fits g c).After-loop-i
