@@ -1,6 +1,6 @@
-use Rattle.std.proofs.Common.{refl, sym, ap, ◌∙◌, ℕ, ◌+◌, ◌*◌, add-one, arith}
+use Rattle.std.proofs.Common.{◌≡◌, refl, sym, ap, ◌∙◌, ℕ, ◌+◌, ◌*◌, add-one, arith}
 use Rattle.stack_rational.proofs.Common.{err_from_is_err_and, Fraction, add, neg, ordered_fractions, only_if}
-use Rattle.stack_rational.proofs.Common.{first_found, first_more, fraction_fits, is_too_wide}
+use Rattle.stack_rational.proofs.Common.{first, first_found, first_more, fraction_fits, is_too_wide}
 use Rattle.stack_rational.specs.declared.exact.Op.TheVariants.{Difference}
 use Rattle.stack_table.specs.declared.problem.BuildError.TheVariants.{Wide}
 use Rattle.stack_table.specs.Block.{cell_of, item_value}
@@ -70,3 +70,10 @@ less_cell-requires-clause-at_in g c = omega (
   c.requires.room,
   c.requires.column_in,
 )
+
+pub returns-clause-none : goal.returns-clause-none
+returns-clause-none g c =
+    let a = c.args in
+    let end : c.loop-i.i ≡ a.rows = omega (arith, c.loop-i-test.false, c.loop-i.auto.i-end) in
+    ap (λ n. first n (partial_place ordered_fractions (is_too_wide g.S.Exact.MAX) (Wide a.rows a.column)
+    (λ i. cell_of g.S.Exact.exact a.width a.cells.now i a.column))) (sym end) ∙ c.loop-i.invariant.none

@@ -3,7 +3,7 @@ use Rattle.stack_rational.proofs.Common.{dec_lt, Fraction, mul, inv, ordered_fra
 use Rattle.stack_rational.proofs.Common.{is_too_wide, fraction_fits, is_zero, get_or_default, not-false}
 use Rattle.stack_rational.specs.declared.exact.Op.TheVariants.{Quotient}
 use Rattle.stack_table.specs.Block.{item_value, mark_at}
-use Rattle.stack_table.specs.Spots.{divided, divide_item}
+use Rattle.stack_table.specs.Spots.{divided, divide_item, divide_spot}
 use Rattle.stack_rational.proofs.Fitting.{is_zero-of, quotient_not-zero}
 use Rattle.stack_table.proofs.Blocks.{value_at-past, value_at-index, value_at-set_same, value_at-set_other, block_kept}
 use Rattle.stack_table.proofs.Blocks.{written_done, written_rest}
@@ -110,3 +110,10 @@ returns-clause-ok g c = λ j. go j (dec_lt j c.loop-j.j)
     go j (no l) = c.loop-j.invariant.rest j (omega (arith, l))
         ∙ sym (divide_skips g.S.Exact.MAX old
         (g.S.Exact.exact c.args.divisor) c.args.row j g.met.S.Exact.max_law (past j (omega (arith, l)))).0
+
+pub returns-clause-wide : goal.returns-clause-wide
+returns-clause-wide g c =
+    let e = g.S.Exact.exact in
+    let end : c.loop-j.j ≡ length c.args.cells.now = omega (arith, c.loop-j-test.false, c.loop-j.auto.j-end) in
+    ap (λ n. divide_spot ordered_fractions (is_too_wide g.S.Exact.MAX) n (item_value e c.args.cells.now)
+    (e c.args.divisor) c.args.row) (sym end) ∙ c.loop-j.invariant.none

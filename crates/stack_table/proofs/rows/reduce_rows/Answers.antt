@@ -4,7 +4,7 @@ use Rattle.stack_rational.proofs.Common.{err_from_is_err_and, ℕ_discrete, dec_
 use Rattle.stack_rational.proofs.Common.{first_found, first_more, is_too_wide, is_zero, get_or_default}
 use borrow.Rule.Slice.PartMut.{put_mid}
 use Rattle.stack_table.specs.Block.{item_value, mark_at, cell_of}
-use Rattle.stack_table.specs.Spots.{reduced, reduce_spot}
+use Rattle.stack_table.specs.Spots.{reduced, reduce_spot, rows_spot}
 use Rattle.stack_table.specs.Columns.{ListsNonzero, zero_in}
 use Rattle.stack_rational.proofs.Fitting.{is_zero-of}
 use Rattle.stack_table.proofs.BlockRows.{row_in, cell_in, cell_outside, fits_cell, part_block, part_length, part_value}
@@ -221,3 +221,19 @@ slice_bounds-reduce_row-end-then-not-marks-start g c = omega (
   row_in c.loop-i.i c.args.count (length c.args.pivot.now) (length c.loop-i.cells) c.loop-i-test.true
       (c.loop-i.auto.cells ∙ c.requires.whole),
 )
+
+pub loop-i-init : goal.loop-i-init
+loop-i-init g c = record {
+  block = c.requires.block;
+  done = λ k j l. absurd (omega (arith, l));
+  rest = λ k j l. refl;
+  none = refl;
+}
+
+pub returns-clause-wide : goal.returns-clause-wide
+returns-clause-wide g c =
+    let e = g.S.Exact.exact in
+    let w = length c.args.pivot.now in
+    let end : c.loop-i.i ≡ c.args.count = omega (arith, c.loop-i-test.false, c.loop-i.auto.i-end) in
+    ap (λ n. rows_spot ordered_fractions (is_too_wide g.S.Exact.MAX) n w (cell_of e w c.args.cells.now)
+    (item_value e c.args.pivot.now) c.args.column c.args.first) (sym end) ∙ c.loop-i.invariant.none
