@@ -59,6 +59,8 @@ stored z = to_z w64 (of_z w64 z)
 
 -- what the sums of a brick's ends are
 pub record Begins (r : BrickRow) (j : ℕ) : Type 0 where
+  pub on_fits : FitsSigned w64 (stored r.long *ℤ to_z w64 j)
+  pub top_fits : FitsSigned w64 (stored r.bottom +ℤ stored r.high)
   pub fits : FitsSigned w64 (stored r.left +ℤ stored (stored r.long *ℤ to_z w64 j))
   pub end_fits : FitsSigned w64 (stored (stored r.left +ℤ stored (stored r.long *ℤ to_z w64 j)) +ℤ stored r.long)
   pub left : stored (stored r.left +ℤ stored (stored r.long *ℤ to_z w64 j)) ≡ r.left +ℤ r.long *ℤ pos j
@@ -69,6 +71,7 @@ pub record Begins (r : BrickRow) (j : ℕ) : Type 0 where
 
 -- what the sums of a brick's ends are, over plain numbers
 record SumsOf (l g n : ℤ) : Type 0 where
+  pub on_fits : FitsSigned w64 g
   pub fits : FitsSigned w64 (stored l +ℤ stored g)
   pub end_fits : FitsSigned w64 (stored (stored l +ℤ stored g) +ℤ stored n)
   pub left : stored (stored l +ℤ stored g) ≡ l +ℤ g
@@ -77,6 +80,7 @@ record SumsOf (l g n : ℤ) : Type 0 where
 sums_of : (l g n : ℤ) → negsuc 999999 ≼ l → l ≼ pos 1000000 → pos 0 ≼ g → l +ℤ g +ℤ n ≼ pos 1000000 → pos 0 ≺ n
     → SumsOf l g n
 sums_of l g n a b c d e = record {
+  on_fits = omega (arith, ints);
   fits = omega (arith, ints);
   end_fits = omega (arith, ints);
   left = omega (arith, ints);
@@ -94,6 +98,8 @@ begins r j small laid lt =
     let inner : r.long *ℤ pos j ≡ stored r.long *ℤ to_z w64 j = λ i. sym cl i *ℤ sym cj i in
     let s = sums_of r.left g r.long low high on end some in
     record {
+      on_fits = subst (λ z. FitsSigned w64 z) inner s.on_fits;
+      top_fits = omega (arith, ints);
       fits = subst (λ z. FitsSigned w64 (stored r.left +ℤ stored z)) inner s.fits;
       end_fits = subst (λ z. FitsSigned w64 (stored (stored r.left +ℤ stored z) +ℤ stored r.long)) inner
           s.end_fits;
