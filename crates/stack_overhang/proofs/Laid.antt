@@ -91,7 +91,7 @@ shaped courses bricks tenths shift =
     record { courses = courses; bricks = bricks; tenths = tenths; shift = shift }
 
 -- the row of each course, whatever the number of courses is
-course_row : (w : Wall) (i : ℕ) → 1 ≤ i → i ≤ 10 → w.bricks ≤ 10 → w.shift ≤ 10 → is_row (course_of w i) ≡ true
+pub course_row : (w : Wall) (i : ℕ) → 1 ≤ i → i ≤ 10 → w.bricks ≤ 10 → w.shift ≤ 10 → is_row (course_of w i) ≡ true
 course_row w i least most few near =
     let tests = λ (i b s : ℕ). is_row (course_of (shaped 0 b 0 s) i) in
     let all : all_below (λ k. all_below (λ b. all_below (tests (k + 1) b) 11) 11) 10 ≡ true = refl in
