@@ -26,7 +26,8 @@ returns-then-len-lt3-clause-value c = refused c.args.corners.items _ (returns-th
 
 pub returns-in-Some-clause-meaning : goal.returns-in-Some-clause-meaning
 returns-in-Some-clause-meaning c = (
-  count-read _ _ _ _ c.len.ensures c.if-len-lt3.false c.len-else-len-lt3.ensures c.if-len-gt32.false c.args.corners.ok.0,
+  count-read _ _ _ _ c.len.ensures c.if-len-lt3.false c.len-else-len-lt3.ensures
+      c.if-len-gt32.false c.args.corners.ok.0,
   subst (λ ps. IsFirstFar ps c.in-Some.corner) c.deref.ensures.value c.in-Some.ensures,
 )
 
@@ -35,7 +36,8 @@ returns-in-Some-clause-value c = refused c.args.corners.items _ (returns-in-Some
 
 pub first_unclear-requires-clause-most : goal.first_unclear-requires-clause-most
 first_unclear-requires-clause-most c = subst (λ ps. length ps ≤ 32) (sym c.deref-2.ensures.value)
-    (count-read _ _ _ _ c.len.ensures c.if-len-lt3.false c.len-else-len-lt3.ensures c.if-len-gt32.false c.args.corners.ok.0).most
+    (count-read _ _ _ _ c.len.ensures c.if-len-lt3.false c.len-else-len-lt3.ensures
+    c.if-len-gt32.false c.args.corners.ok.0).most
 
 pub first_unclear-requires-clause-range : goal.first_unclear-requires-clause-range
 first_unclear-requires-clause-range c = subst AreInRange (sym c.deref-2.ensures.value)
@@ -43,7 +45,8 @@ first_unclear-requires-clause-range c = subst AreInRange (sym c.deref-2.ensures.
 
 pub invariant_of-result : goal.invariant_of-result
 invariant_of-result c = kept-polygon _ _ _
-    (count-read _ _ _ _ c.len.ensures c.if-len-lt3.false c.len-else-len-lt3.ensures c.if-len-gt32.false c.args.corners.ok.0)
+    (count-read _ _ _ _ c.len.ensures c.if-len-lt3.false c.len-else-len-lt3.ensures
+    c.if-len-gt32.false c.args.corners.ok.0)
     c.deref.ensures.value c.in_default.ensures c.deref-2.ensures.value c.in-None.ensures
 
 pub returns-in-None-clause-polygon : goal.returns-in-None-clause-polygon
@@ -59,7 +62,8 @@ pub first_unclear-requires-in-Some-first_unclear-clause-most :
     goal.first_unclear-requires-in-Some-first_unclear-clause-most
 first_unclear-requires-in-Some-first_unclear-clause-most c =
     subst (λ ps. length ps ≤ 32) (sym c.deref-in-Some-first_unclear.ensures.value) (count-kept _ _ c.reverse.ensures
-    (count-read _ _ _ _ c.len.ensures c.if-len-lt3.false c.len-else-len-lt3.ensures c.if-len-gt32.false c.args.corners.ok.0)).most
+    (count-read _ _ _ _ c.len.ensures c.if-len-lt3.false c.len-else-len-lt3.ensures
+    c.if-len-gt32.false c.args.corners.ok.0)).most
 
 pub first_unclear-requires-in-Some-first_unclear-clause-range :
     goal.first_unclear-requires-in-Some-first_unclear-clause-range
@@ -69,7 +73,8 @@ first_unclear-requires-in-Some-first_unclear-clause-range c =
 
 pub invariant_of-result-in-None-first_unclear : goal.invariant_of-result-in-None-first_unclear
 invariant_of-result-in-None-first_unclear c = kept-polygon _ _ _ (count-kept _ _ c.reverse.ensures
-    (count-read _ _ _ _ c.len.ensures c.if-len-lt3.false c.len-else-len-lt3.ensures c.if-len-gt32.false c.args.corners.ok.0)) refl
+    (count-read _ _ _ _ c.len.ensures c.if-len-lt3.false c.len-else-len-lt3.ensures
+    c.if-len-gt32.false c.args.corners.ok.0)) refl
     (range-held _ _ _ _ c.deref.ensures.value refl c.reverse.ensures c.in_default.ensures)
     c.deref-in-Some-first_unclear.ensures.value c.in-None-first_unclear.ensures
 
@@ -78,7 +83,8 @@ returns-in-None-first_unclear-clause-polygon c = invariant_of-result-in-None-fir
 
 pub returns-in-None-first_unclear-clause-meaning : goal.returns-in-None-first_unclear-clause-meaning
 returns-in-None-first_unclear-clause-meaning c = admitted-turned _ _ _ _
-    (count-read _ _ _ _ c.len.ensures c.if-len-lt3.false c.len-else-len-lt3.ensures c.if-len-gt32.false c.args.corners.ok.0)
+    (count-read _ _ _ _ c.len.ensures c.if-len-lt3.false c.len-else-len-lt3.ensures
+    c.if-len-gt32.false c.args.corners.ok.0)
     (subst AreInRange c.deref.ensures.value c.in_default.ensures) c.deref-2.ensures.value
     c.in-Some-first_unclear.ensures c.reverse.ensures
     (subst IsStrictlyConvex c.deref-in-Some-first_unclear.ensures.value c.in-None-first_unclear.ensures)
@@ -89,7 +95,8 @@ returns-in-None-first_unclear-clause-value c = admitted c.args.corners.items _
 
 pub returns-in-Some-first_unclear-2-clause-meaning : goal.returns-in-Some-first_unclear-2-clause-meaning
 returns-in-Some-first_unclear-2-clause-meaning c = (
-  count-read _ _ _ _ c.len.ensures c.if-len-lt3.false c.len-else-len-lt3.ensures c.if-len-gt32.false c.args.corners.ok.0,
+  count-read _ _ _ _ c.len.ensures c.if-len-lt3.false c.len-else-len-lt3.ensures
+      c.if-len-gt32.false c.args.corners.ok.0,
   subst AreInRange c.deref.ensures.value c.in_default.ensures,
   subst (λ ps. IsFirstUnclear ps c.in-Some-first_unclear.edge) c.deref-2.ensures.value
       c.in-Some-first_unclear.ensures,
