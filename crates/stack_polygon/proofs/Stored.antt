@@ -26,12 +26,25 @@ stored z = to_z w64 (of_z w64 z)
 square-stored : (z : ℤ) → IsSquare z → stored z ≡ z
 square-stored z h = omega (arith, ints)
 
+-- a step fits 64 bits
+step-stored : (z : ℤ) → IsStep z → stored z ≡ z
+step-stored z h = omega (arith, ints)
+
 pub stored-product : (x y : ℤ) → IsStep x → IsStep y → stored (stored x *ℤ stored y) ≡ x *ℤ y
-stored-product x y hx hy = (λ i. stored (same x hx i *ℤ same y hy i))
+stored-product x y hx hy = (λ i. stored (step-stored x hx i *ℤ step-stored y hy i))
     ∙ square-stored (x *ℤ y) (product-square x y hx hy)
-  where
-    same : (z : ℤ) → IsStep z → stored z ≡ z
-    same z h = omega (arith, ints)
+
+-- a number of at most 8 * 10^12 in size fits 64 bits
+fits : (z : ℤ) → negsuc 7999999999999 ≼ z → z ≼ pos 8000000000000 → SFits w64 z
+fits (pos n) l m = record { sfits = omega (arith, ints, m) }
+fits (negsuc n) l m = record { sfits = omega (arith, ints, l) }
+
+-- the product of two steps
+pub product-fits : (x y : ℤ) → IsStep x → IsStep y → SFits w64 (stored x *ℤ stored y)
+product-fits x y hx hy =
+    let square = product-square x y hx hy in
+    subst (λ z. SFits w64 z) (sym (λ i. step-stored x hx i *ℤ step-stored y hy i))
+    (fits (x *ℤ y) (omega (arith, ints, square.low)) (omega (arith, ints, square.high)))
 
 -- the difference of two coordinates
 pub near-stored : (x y : ℤ) → IsNear x → IsNear y → stored (stored x -ℤ stored y) ≡ x -ℤ y
@@ -46,10 +59,6 @@ pub less-fits : (r s : ℤ) → IsSquare r → IsSquare s → SFits w64 (stored 
 less-fits r s hr hs = subst (λ z. SFits w64 z) (sym (λ i. square-stored r hr i -ℤ square-stored s hs i))
     (plain r s hr hs)
   where
-    fits : (z : ℤ) → negsuc 7999999999999 ≼ z → z ≼ pos 8000000000000 → SFits w64 z
-    fits (pos n) l m = record { sfits = omega (arith, ints, m) }
-    fits (negsuc n) l m = record { sfits = omega (arith, ints, l) }
-
     plain : (r s : ℤ) → IsSquare r → IsSquare s → SFits w64 (r -ℤ s)
     plain r s hr hs = fits (r -ℤ s) (omega (arith, ints)) (omega (arith, ints))
 
@@ -75,10 +84,6 @@ triangle-stored o p q r s ho hp hq hr hs er es = stored-less r s hr hs
 pub sum-fits : (r s : ℤ) → IsSquare r → IsSquare s → SFits w64 (stored r +ℤ stored s)
 sum-fits r s hr hs = subst (λ z. SFits w64 z) (sym (λ i. square-stored r hr i +ℤ square-stored s hs i))
     (fits (r +ℤ s) (omega (arith, ints)) (omega (arith, ints)))
-  where
-    fits : (z : ℤ) → negsuc 7999999999999 ≼ z → z ≼ pos 8000000000000 → SFits w64 z
-    fits (pos n) l m = record { sfits = omega (arith, ints, m) }
-    fits (negsuc n) l m = record { sfits = omega (arith, ints, l) }
 
 stored-sum : (r s : ℤ) → IsSquare r → IsSquare s → stored (stored r +ℤ stored s) ≡ r +ℤ s
 stored-sum r s hr hs = omega (arith, ints)

@@ -1,6 +1,12 @@
 use Rattle.stack_polygon.proofs.Stored.{is_step, less-fits, less-twice, triangle-stored}
 use Rattle.stack_polygon.proofs.turns.triangle.Goals as goal
 
+pub product-requires-clause-x : goal.product-requires-clause-x
+product-requires-clause-x c = is_step c.args.p.x c.args.o.x c.requires.p.x c.requires.o.x
+
+pub product-requires-clause-y : goal.product-requires-clause-y
+product-requires-clause-y c = is_step c.args.q.y c.args.o.y c.requires.q.y c.requires.o.y
+
 pub product-requires-2-clause-x : goal.product-requires-2-clause-x
 product-requires-2-clause-x c = is_step c.args.p.y c.args.o.y c.requires.p.y c.requires.o.y
 
