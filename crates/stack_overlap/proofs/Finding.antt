@@ -3,6 +3,8 @@ use mathlib.Core.Path.{◌≡◌, refl, sym, ap, ◌∙◌, subst}
 use mathlib.Core.Logic.{◌⊎◌, inl, inr}
 use Prim.Native.Nat.{ℕ, zero, suc}
 use native.Mathlib.Omega.{arith}
+use Rattle.std.proofs.Common.{Bool, false, IsTrue, ◌↔◌}
+use Rattle.std.proofs.lemmas.Bool.{false≢true}
 use lib.IntN.{ℤ, pos, negsuc, ◌-ℤ◌}
 use Rattle.stack_algebra.proofs.Integers.{sums}
 use Rattle.stack_algebra.proofs.Order.{◌≺◌}
@@ -24,6 +26,10 @@ use Rattle.stack_overlap.proofs.ByForms.{convex-form, outer-form, shared-form}
 use Rattle.stack_overlap.proofs.Identities.{along-end}
 use Rattle.stack_overlap.proofs.CommonPoints.{nothing-common}
 use Rattle.stack_overlap.proofs.Cases.{nothing, corner, on_edge, segment, segment_back}
+
+-- what a test decides isn't so where the test is false
+pub untrue : {P : Type 0} (b : Bool) → IsTrue b ↔ P → b ≡ false → ¬ P
+untrue b h e p = false≢true (sym e ∙ h.1 p)
 
 three-ways : (x y : ℤ) → (x ≺ y) ⊎ ((x ≡ y) ⊎ (y ≺ x))
 three-ways x y = go (x -ℤ y) refl

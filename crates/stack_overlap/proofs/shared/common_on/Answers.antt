@@ -1,6 +1,6 @@
-use Rattle.std.proofs.Common.{IsTrue, sym, ◌∙◌, inl, inr}
+use Rattle.std.proofs.Common.{sym, ◌∙◌, inl, inr}
 use Rattle.stack_overlap.proofs.Finding.{none-answer, past-answer, segment-answer, back-answer, corner-answer}
-use Rattle.stack_overlap.proofs.Finding.{on-answer}
+use Rattle.stack_overlap.proofs.Finding.{on-answer, untrue}
 use Rattle.stack_overlap.proofs.shared.common_on.Goals as goal
 
 pub returns-in-None : goal.returns-in-None
@@ -29,16 +29,15 @@ returns-else-is_before c =
     c.corner-a.result c.corner-b.result c.corner-a.ensures.value c.corner-b.ensures.value c.next.ensures
     c.len.ensures.value c.in-Some.r c.clipped-s.result c.in-Some.ensures.reach c.clipped-s.ensures
     (c.precedes-else-precedes.ensures.0 c.if-precedes-2.true)
-    (λ l. let t : IsTrue c.is_before.result = c.is_before.ensures.1 l in absurd (cc (t, c.if-is_before.false)))
+    (untrue _ c.is_before.ensures c.if-is_before.false)
 
 pub returns-then-is_at_either : goal.returns-then-is_at_either
 returns-then-is_at_either c =
     corner-answer c.args.p.now c.args.q.now c.len.ensures.polygon c.stretch_along.ensures.polygon c.args.i c.requires
     c.corner-a.result c.corner-b.result c.corner-a.ensures.value c.corner-b.ensures.value c.next.ensures
     c.len.ensures.value c.in-Some.r c.clipped-s.result c.in-Some.ensures.reach c.clipped-s.ensures
-    (λ l. let t : IsTrue c.precedes.result = c.precedes.ensures.1 l in absurd (cc (t, c.if-precedes.false)))
-    (λ l. let t : IsTrue c.precedes-else-precedes.result = c.precedes-else-precedes.ensures.1 l in
-    absurd (cc (t, c.if-precedes-2.false)))
+    (untrue _ c.precedes.ensures c.if-precedes.false)
+    (untrue _ c.precedes-else-precedes.ensures c.if-precedes-2.false)
     (elim (c.is_at_either.ensures.0 c.if-is_at_either.true) [
       | inl e ↦ inl e
       | inr e ↦ inr
@@ -50,10 +49,7 @@ returns-else-is_at_either c =
     on-answer c.args.p.now c.args.q.now c.len.ensures.polygon c.stretch_along.ensures.polygon c.args.i c.requires
     c.corner-a.result c.corner-b.result c.corner-a.ensures.value c.corner-b.ensures.value c.next.ensures
     c.len.ensures.value c.in-Some.r c.clipped-s.result c.in-Some.ensures.reach c.clipped-s.ensures
-    (λ l. let t : IsTrue c.precedes.result = c.precedes.ensures.1 l in absurd (cc (t, c.if-precedes.false)))
-    (λ l. let t : IsTrue c.precedes-else-precedes.result = c.precedes-else-precedes.ensures.1 l in
-    absurd (cc (t, c.if-precedes-2.false)))
-    (λ e. let t : IsTrue c.is_at_either.result = c.is_at_either.ensures.1 (inl e) in
-    absurd (cc (t, c.if-is_at_either.false)))
-    (λ e. let t : IsTrue c.is_at_either.result = c.is_at_either.ensures.1
-    (inr (e ∙ sym c.mark_of-end.ensures.place)) in absurd (cc (t, c.if-is_at_either.false)))
+    (untrue _ c.precedes.ensures c.if-precedes.false)
+    (untrue _ c.precedes-else-precedes.ensures c.if-precedes-2.false)
+    (λ e. untrue _ c.is_at_either.ensures c.if-is_at_either.false (inl e))
+    (λ e. untrue _ c.is_at_either.ensures c.if-is_at_either.false (inr (e ∙ sym c.mark_of-end.ensures.place)))

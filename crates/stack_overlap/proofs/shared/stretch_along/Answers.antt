@@ -1,9 +1,10 @@
-use Rattle.std.proofs.Common.{rules, IsTrue}
+use Rattle.std.proofs.Common.{rules}
 use mathlib.Core.Path.{◌≡◌, sym, ap, ◌∙◌, subst}
 use Prim.Native.Nat.{◌<◌, ◌+◌}
 use lib.ListN.{length}
 use Rattle.stack_overlap.specs.Forms.{at_corner, line, along}
 use Rattle.stack_overlap.proofs.Reaches.{IsReached, reached-past, reached-more}
+use Rattle.stack_overlap.proofs.Finding.{untrue}
 use Rattle.stack_overlap.proofs.shared.stretch_along.Goals as goal
 use Rattle.stack_overlap.proofs.shared.stretch_along.Goals.{then-is_on_line, else-is_on_line}
 
@@ -23,9 +24,8 @@ loop-j-preserved c = elim c.if-is_on_line.branch [
   | else-is_on_line w ↦
       subst (IsReached c.args.a c.args.b c.args.q.now (c.loop-j.j + 1)) (sym w.best-is)
       (reached-past c.args.a c.args.b c.args.q.now c.loop-j.j c.loop-j.best
-      (λ z. let t : IsTrue c.is_on_line.result = c.is_on_line.ensures.1
-      (ap (λ d. at_corner (line c.args.a c.args.b) d) c.corner-at.ensures.value ∙ z) in
-      absurd (cc (t, w.if-is_on_line.false))) c.loop-j.invariant)
+      (λ z. untrue _ c.is_on_line.ensures w.if-is_on_line.false
+      (ap (λ d. at_corner (line c.args.a c.args.b) d) c.corner-at.ensures.value ∙ z)) c.loop-j.invariant)
 ]
 
 pub returns-clause-reach : goal.returns-clause-reach
