@@ -1,7 +1,7 @@
 -- Lists that are written line by line.
-use Rattle.std.proofs.Common.{◌≡◌, ℕ, ◌+◌, ◌<◌, List, [], ◌∷◌, ◌++◌, length, get_or, take, map, refl, sym, ap}
+use Rattle.std.proofs.Common.{◌≡◌, ℕ, ◌+◌, ◌<◌, ◌≤◌, List, [], ◌∷◌, ◌++◌, length, get_or, take, map, refl, sym, ap}
 use Rattle.std.proofs.Common.{◌∙◌, append_assoc}
-use Rattle.std.proofs.lemmas.List.{map-append, append-nil, take_more}
+use Rattle.std.proofs.lemmas.List.{map-append, append-nil, take_more, take_all}
 use Rattle.stack_certificate.specs.declared.line.Line.{Line}
 use Rattle.stack_certificate.specs.Lines.{line_text}
 use Rattle.stack_certificate.specs.CertificateText.{text_of}
@@ -32,6 +32,13 @@ one_more first line items i d item done out after lt is before put =
     put
     ∙ ((λ k. before k ++ line_text (line (is k)))
     ∙ (append_assoc done (text_of (front first line items i)) (line_text l) ∙ ap (λ bs. done ++ bs) (sym text)))
+
+-- all lines, once no item is left
+pub all_put : {A : Type 0} (first : Line) (line : A → Line) (items : List A) (i : ℕ) (out after : List ℕ)
+    → length items ≤ i → after ≡ out ++ text_of (front first line items i)
+    → after ≡ out ++ text_of (first ∷ map line items)
+all_put first line items i out after over put =
+    put ∙ ap (λ xs. out ++ text_of (first ∷ map line xs)) (take_all i items over)
 
 -- a form and two lists, one after the other
 pub two_put : (first : Line) (xs ys : List Line) (out begun further after : List ℕ)
