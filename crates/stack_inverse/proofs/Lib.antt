@@ -17,6 +17,7 @@ pub mod TurnedColumns
 pub mod FirstSteps
 pub mod FirstTables
 pub mod KeptNumbers
+pub mod SmallSteps
 pub mod RowByCells
 pub mod CellSteps
 pub mod LeastNegative

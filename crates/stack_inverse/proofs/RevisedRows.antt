@@ -37,7 +37,7 @@ plain_within o x d a c p f s hx hf ho h = let u : a * f ≤ a * c = mul-le-mul (
     size y z = omega (arith, ints)
 
 -- in an artificial one
-artificial_within : (y : ℤ) (a c r s : ℕ) → nat_abs y ≤ a → 0 < c → a * c + r ≤ s → nat_abs y ≤ s
+pub artificial_within : (y : ℤ) (a c r s : ℕ) → nat_abs y ≤ a → 0 < c → a * c + r ≤ s → nat_abs y ≤ s
 artificial_within y a c r s hy hc h = let u : a * 1 ≤ a * c = mul-le-mul (omega arith) hc in omega (arith, hy, u, h)
 
 module _ (m : ℕ) (columns : List FirstColumn) where

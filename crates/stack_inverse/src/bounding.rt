@@ -1,7 +1,8 @@
 //! Whether a row step fits, by tops: as one that is kept, or as one of its numbers.
 
-ghost use Rattle.std.specs.Prelude.{◌≡◌, suc, ◌≤◌, length, unsigned_abs, IfSome};
+ghost use Rattle.std.specs.Prelude.{◌≡◌, suc, ◌≤◌, ◌*ℤ◌, length, unsigned_abs, OnSome, IfSome};
 ghost use Rattle.stack_rational.specs.Laws.{widest};
+ghost use Rattle.stack_rows.specs.RowForm.{AreSmallBelow};
 ghost use Rattle.stack_inverse.specs.RowBlock.{AreWithin, FitsByTop};
 ghost use Rattle.stack_inverse.specs.Columns.{own_top_at, row_number};
 
@@ -9,7 +10,7 @@ use crate::first::First;
 use crate::given::Given;
 use crate::making::{top_in, whole_top};
 use crate::row::PivotRow;
-use stack_rows::{Factors, Row, step_under};
+use stack_rows::{Factors, PlainStep, Row, step_under};
 
 /// A top of the own cells of row i.
 pub fn own_top_of(given: &Given, i: usize) -> u128
@@ -39,7 +40,30 @@ fn over_by(
     step_under(row.under, factors, own, pivot.whole_top)
 }
 
-/// The same, with a lesser top where it doesn't fit by the one that is kept.
+/// The step of a row in which all is small, in each column: then it fits. Gives up where something may not be.
+pub fn small_step(
+    first: &First,
+    row: &Row,
+    pivot: &PivotRow,
+    factors: Factors,
+    own_top: u128,
+) -> Option<PlainStep>
+    requires width { length row.now.numbers.items ≡ suc first.now.rows }
+    requires within { AreWithin (row_number first.now.rows first.now.columns.items pivot.now.row.numbers.items
+        pivot.now.row.under) pivot.now.whole_top }
+    ensures times { IfSome result (λ s. s.times ≡ factors.times) }
+    ensures less { IfSome result (λ s. s.less ≡ factors.less) }
+    ensures fits { OnSome result (FitsByTop widest first.now.rows row.now.numbers.items row.now.under first.now.top
+        own_top factors.times factors.less pivot.now.whole_top (row.now.under *ℤ factors.times)) }
+    ensures small { OnSome result (AreSmallBelow first.now.rows factors.times factors.less row.now.numbers.items
+        pivot.now.row.numbers.items) }
+{
+    let own = whole_top(first, row.numbers.as_slice(), row.under, own_top, row.top)?;
+    let step = PlainStep::of(factors, own, pivot.whole_top, row.under.unsigned_abs())?;
+    Some(step)
+}
+
+/// The same as `over_by`, with a lesser top where it doesn't fit by the one that is kept.
 pub fn over_for(
     first: &First,
     row: &mut Row,

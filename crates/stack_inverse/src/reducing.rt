@@ -12,7 +12,7 @@ ghost use Rattle.stack_inverse.specs.RowBlock.{IsReducedRow, AllNumbersFit};
 ghost use Rattle.stack_inverse.specs.CellSteps.{TellsSpot};
 ghost use Rattle.stack_inverse.specs.RowsSeen.{seen_of, number_in_row, cell_in_row, pivot_cell, IsPivotRow, columns_of};
 
-use crate::bounding::{over_for, own_top_of, under_fits};
+use crate::bounding::{over_for, own_top_of, small_step, under_fits};
 use crate::given::Given;
 use crate::remaking::remake_row;
 use crate::row::{PivotRow, TableRow};
@@ -112,6 +112,13 @@ fn step(
         None => return Err(TurnRefusal::Unsettled),
     };
     let own_top = own_top_of(given, i);
+    match small_step(&given.first, &row.row, pivot, factors, own_top) {
+        Some(plain) => return match row.row.take_small(&pivot.row, &plain) {
+            Some(()) => Ok(()),
+            None => Err(TurnRefusal::Unsettled),
+        },
+        None => {}
+    }
     match over_for(&given.first, &mut row.row, pivot, factors, own_top) {
         Some(_over) => match row.row.take(&pivot.row, factors) {
             Some(()) => Ok(()),

@@ -1,5 +1,5 @@
 -- What a number is after its casts between 64 and 128 bits.
-use Rattle.std.proofs.Common.{◌≡◌, ap, ◌∙◌, ◌+◌, ◌≤◌, ◌-◌, ◌^◌, arith, ℤ, nat_abs, ◌*ℤ◌, ◌-ℤ◌, SFits, w64}
+use Rattle.std.proofs.Common.{◌≡◌, ap, ◌∙◌, ℕ, ◌+◌, ◌*◌, ◌≤◌, mul-le-mul, ◌-◌, ◌^◌, arith, ℤ, nat_abs, ◌*ℤ◌, ◌-ℤ◌, SFits, w64}
 use Rattle.std.proofs.Common.{to_z, of_z, to_z-of_z}
 use Rattle.stack_rational.proofs.Common.{ints, unsigned_abs-mul, signed-keeps, w128}
 use Rattle.stack_rows.specs.RowForm.{AreSmall}
@@ -15,6 +15,15 @@ wide_cast x f = ap (λ z. to_z w128 (of_z w128 z)) (to_z-of_z f) ∙ to_z-of_z w
   where
     wide : SFits w128 x
     wide = record { sfits = omega (arith, f.sfits) }
+
+-- the step of lesser numbers is small too
+pub lesser_small : (k t : ℤ) {n o a b : ℕ} → a ≤ n → b ≤ o → AreSmall k t n o → AreSmall k t a b
+lesser_small k t {n = n} {o = o} {a = a} {b = b} h l s = record {
+  words = record { own = omega (arith, h, s.words.own); other = omega (arith, l, s.words.other) };
+  sum = let u : a * nat_abs k ≤ n * nat_abs k = mul-le-mul h (omega arith) in
+      let v : nat_abs t * b ≤ nat_abs t * o = mul-le-mul (omega arith) l in
+      omega (arith, u, v, s.sum);
+}
 
 -- the step of small numbers, as a goal shows it with its casts
 module _ (a b k t : ℤ) (fk : SFits w64 k) (ft : SFits w64 t) (small : AreSmall k t (nat_abs a) (nat_abs b)) where

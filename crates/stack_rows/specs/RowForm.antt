@@ -24,6 +24,11 @@ pub record AreSmall (k t : ℤ) (n o : ℕ) : Type 0 where
   pub words : AreWords n o
   pub sum : n * unsigned_abs k + unsigned_abs t * o ≤ 2 ^ 63 - 1
 
+-- the steps of the numbers of a row before a place are small
+abbrev pub AreSmallBelow : (end : ℕ) → (k t : ℤ) → (own other : List ℤ) → Type 0
+AreSmallBelow end k t own other = (j : ℕ) → j < end →
+    AreSmall k t (unsigned_abs (number_at own j)) (unsigned_abs (number_at other j))
+
 -- only the numbers from one place on and before another are written: P holds of each of these
 pub record IsWrittenPart (P : ℕ → ℤ → Type 0) (old : ℕ → ℤ) (from end : ℕ) (new : ℕ → ℤ) : Type 0 where
   pub part : (j : ℕ) → from ≤ j → j < end → P j (new j)
@@ -34,7 +39,7 @@ pub record IsWrittenPart (P : ℕ → ℤ → Type 0) (old : ℕ → ℤ) (from 
 abbrev pub IsQuotient : (by k t old pivot new : ℤ) → Type 0
 IsQuotient by k t old pivot new = new *ℤ by ≡ old *ℤ k -ℤ t *ℤ pivot
 
--- and from one place on and before another
+-- a row step from one place on and before another
 abbrev pub IsDividedPart : (old pivot : List ℤ) → (k t by : ℤ) → (from end : ℕ) → (new : List ℤ) → Type 0
 IsDividedPart old pivot k t by from end new = IsWrittenPart (λ j z.
     IsQuotient by k t (number_at old j) (number_at pivot j) z) (number_at old) from end (number_at new)

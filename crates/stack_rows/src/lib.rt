@@ -23,5 +23,6 @@ pub use factors::{Factors, factors_of, step_under};
 pub use jumps::find_jumps;
 pub use ratios::{Ratios, compare};
 pub use row::Row;
+pub use step::PlainStep;
 pub use sums::CheckSums;
 pub use words::{product, product_of, size_product, whole_product, word};

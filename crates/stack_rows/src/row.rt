@@ -1,9 +1,9 @@
 //! A row of a table, and what a pivot makes of it.
 
-ghost use Rattle.std.specs.Prelude.{◌≡◌, ℕ, suc, ◌<◌, ◌^◌, ℤ, pos, ◌*ℤ◌, ◌-ℤ◌, ◌<ℤ◌, List, length, get_or};
+ghost use Rattle.std.specs.Prelude.{◌≡◌, ℕ, suc, ◌-◌, ◌<◌, ◌^◌, ℤ, pos, ◌*ℤ◌, ◌-ℤ◌, ◌<ℤ◌, List, length, get_or};
 ghost use Rattle.std.specs.Prelude.{OnSome, IfSome};
 ghost use Rattle.stack_rows.specs.RowForm.{AreJumps, IsTopped, IsPartTopped, IsQuotient, IsDividedPart, IsTaken};
-ghost use Rattle.stack_rows.specs.RowForm.{AreSmall, AreBeside};
+ghost use Rattle.stack_rows.specs.RowForm.{AreSmallBelow, AreBeside};
 
 use crate::divider::Divider;
 use crate::factors::Factors;
@@ -119,7 +119,7 @@ fn plain_first(
     requires count { length numbers.old ≡ suc count }
     requires beside { AreBeside numbers.old other.now.numbers.items jumps.now top }
     requires other_jumps { AreJumps other.now.numbers.items jumps.now }
-    requires small { AreSmall plain.now.times plain.now.less top other.now.top }
+    requires small { AreSmallBelow count plain.now.times plain.now.less numbers.old other.now.numbers.items }
     ensures part { OnSome result (IsDividedPart numbers.old other.now.numbers.items plain.now.times plain.now.less
         (pos 1) 0 count numbers.new) }
     ensures top { IfSome result (λ b. IsPartTopped 0 count numbers.new b) }
@@ -156,7 +156,8 @@ fn plain_after(
 ) -> Option<u128>
     requires beside { AreBeside numbers.old other.now.numbers.items jumps.now top }
     requires other_jumps { AreJumps other.now.numbers.items jumps.now }
-    requires small { AreSmall plain.now.times plain.now.less top other.now.top }
+    requires small { AreSmallBelow (length numbers.old - 1) plain.now.times plain.now.less numbers.old
+        other.now.numbers.items }
     ensures part { OnSome result (IsDividedPart numbers.old other.now.numbers.items plain.now.times plain.now.less
         (pos 1) 0 (length numbers.old) numbers.new) }
     ensures top { IfSome result (λ b. IsTopped numbers.new b) }
@@ -178,7 +179,8 @@ fn plainly_changed(
     top: u128,
 ) -> Option<u128>
     requires beside { AreBeside numbers.old other.now.numbers.items jumps.old top }
-    requires small { AreSmall plain.now.times plain.now.less top other.now.top }
+    requires small { AreSmallBelow (length numbers.old - 1) plain.now.times plain.now.less numbers.old
+        other.now.numbers.items }
     ensures part { OnSome result (IsDividedPart numbers.old other.now.numbers.items plain.now.times plain.now.less
         (pos 1) 0 (length numbers.old) numbers.new) }
     ensures long { length jumps.new ≡ length jumps.old }
@@ -414,10 +416,12 @@ impl Row {
         }
     }
 
-    /// Takes a multiple of the pivot row from the row, where all numbers are small; `over` is its denominator then.
+    /// Takes a multiple of the pivot row from the row, where all numbers but the right side are small; `over` is its
+    /// denominator then. Gives up where the right side doesn't fit, or the denominator isn't positive.
     fn take_plain(&mut self, pivot: &Row, plain: &PlainStep, over: i128) -> Option<()>
         requires width { length pivot.now.numbers.items ≡ length self.old.numbers.items }
-        requires small { AreSmall plain.now.times plain.now.less self.old.top pivot.now.top }
+        requires small { AreSmallBelow (length self.old.numbers.items - 1) plain.now.times plain.now.less
+            self.old.numbers.items pivot.now.numbers.items }
         ensures width { length self.new.numbers.items ≡ length self.old.numbers.items }
         ensures ok { OnSome result (IsTaken self.old.numbers.items over pivot.now.numbers.items plain.now.times
             plain.now.less self.new.numbers.items self.new.under) }
@@ -462,6 +466,20 @@ impl Row {
         }
         let guess = guess_of(self, pivot, factors, self.under);
         self.change(pivot, &Step::of(factors, guess), over)
+    }
+
+    /// The same where all numbers but the right side are known to be small. Gives up where the right side or the
+    /// denominator doesn't fit.
+    pub fn take_small(&mut self, pivot: &Row, plain: &PlainStep) -> Option<()>
+        requires width { length pivot.now.numbers.items ≡ length self.old.numbers.items }
+        requires small { AreSmallBelow (length self.old.numbers.items - 1) plain.now.times plain.now.less
+            self.old.numbers.items pivot.now.numbers.items }
+        ensures width { length self.new.numbers.items ≡ length self.old.numbers.items }
+        ensures ok { OnSome result (IsTaken self.old.numbers.items (self.old.under *ℤ plain.now.times)
+            pivot.now.numbers.items plain.now.times plain.now.less self.new.numbers.items self.new.under) }
+    {
+        let over = product(self.under, plain.times)?;
+        self.take_plain(pivot, plain, over)
     }
 
     /// Makes of the row another one, divided by a number: this over it. Gives up where that is 0, and likely nowhere

@@ -1,7 +1,7 @@
 //! The step of a row: k times its numbers less t times those of another row, divided. Where a number shows that the
 //! divisor was too great, those before it are multiplied by what it was too great by.
 
-ghost use Rattle.std.specs.Prelude.{◌≡◌, ℕ, ◌-◌, ◌^◌, ◌<◌, ◌≤◌, pos, unsigned_abs, true, length, OnSome, IfSome};
+ghost use Rattle.std.specs.Prelude.{◌≡◌, ℕ, ◌-◌, ◌*◌, ◌^◌, ◌<◌, ◌≤◌, pos, unsigned_abs, true, length, OnSome, IfSome};
 ghost use Rattle.std.specs.Option.{ForSome};
 ghost use Rattle.stack_rows.specs.RowForm.{number_at, AreJumps, SkipsOnly, IsQuotient, IsDividedPart, IsMultiplied};
 ghost use Rattle.stack_rows.specs.RowForm.{IsDividedOn, IsPartTopped, AreSmall, AreWords};
@@ -9,7 +9,7 @@ ghost use Rattle.stack_rows.specs.RowForm.{IsDividedOn, IsPartTopped, AreSmall, 
 use crate::divider::Divider;
 use crate::factors::Factors;
 use crate::sums::narrowed;
-use crate::words::{is_word, low, product, product_of, size_product, word};
+use crate::words::{is_word, low, product, product_of, word};
 
 /// How many turns a division takes at most: each but one makes its divisor half as great at most.
 const TURNS: usize = 130;
@@ -37,6 +37,13 @@ pub trait Way {
 /// Below this size a row keeps what its numbers have in common.
 const SMALL: u128 = 1 << 62;
 
+/// The product of two sizes of 64 bits: it fits.
+fn word_product(a: u64, b: u64) -> u128
+    ensures { result ≡ a * b }
+{
+    u128::from(a) * u128::from(b)
+}
+
 /// The step of small numbers, not divided.
 #[derive(Drop)]
 pub struct PlainStep {
@@ -52,14 +59,17 @@ impl PlainStep {
         ensures times { IfSome result (λ p. p.times ≡ factors.times) }
         ensures less { IfSome result (λ p. p.less ≡ factors.less) }
         ensures small { OnSome result (AreSmall factors.times factors.less own other) }
+        ensures over { OnSome result (under * unsigned_abs factors.times ≤ 2 ^ 62 - 1) }
     {
         let times = word(factors.times)?;
         let less = word(factors.less)?;
-        let left = size_product(own, u128::from(times.unsigned_abs()))?;
-        let right = size_product(u128::from(less.unsigned_abs()), other)?;
-        let over = size_product(under, u128::from(times.unsigned_abs()))?;
-        let sum = left.checked_add(right)?;
-        if (own | other | under | sum | over) < SMALL {
+        if SMALL <= (own | other | under) {
+            return None;
+        }
+        let left = word_product(own as u64, times.unsigned_abs());
+        let right = word_product(less.unsigned_abs(), other as u64);
+        let over = word_product(under as u64, times.unsigned_abs());
+        if (left | right | over) < SMALL {
             Some(PlainStep { times, less })
         } else {
             None

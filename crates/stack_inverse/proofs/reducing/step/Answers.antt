@@ -1,10 +1,32 @@
-use Rattle.std.proofs.Common.{rules, SFits, to_z-of_z}
+use Rattle.std.proofs.Common.{arith, rules, SFits, to_z-of_z}
 use Rattle.stack_rational.proofs.Common.{w128}
 use Rattle.stack_inverse.specs.Columns.{revised_own}
 use Rattle.stack_inverse.specs.RowsSeen.{columns_of}
 use Rattle.stack_inverse.proofs.Steps.{own_below, row_by_tops}
 use Rattle.stack_inverse.proofs.RowByCells.{row_by_cells}
 use Rattle.stack_inverse.proofs.reducing.step.Goals as goal
+
+pub take_small-requires-clause-small : goal.take_small-requires-clause-small
+take_small-requires-clause-small c =
+    let step = c.in-Some-small_step.ensures in
+    λ j l. rw (step.times, step.less) (step.small j (omega (arith, l, c.requires.width)))
+
+pub returns-in-Some-take_small-clause-ok : goal.returns-in-Some-take_small-clause-ok
+returns-in-Some-take_small-clause-ok c = λ column hf.
+    let p = c.args.given.now in
+    let f = p.first in
+    let r = c.args.row.now.row in
+    let q = c.args.pivot.now.row in
+    let k = c.in-Some.factors in
+    let step = c.in-Some-small_step.ensures in
+    let new = c.take_small.new.self in
+    let own = c.own_top_of-own_top in
+    row_by_tops f.rows f.columns.items (revised_own f.rows p.own.items c.args.i) r.numbers.items r.under r.positive
+    new.numbers.items q.numbers.items new.under q.under k.times k.less c.args.number column q.positive
+    c.in-Some.ensures.some hf (rw (to_z-of_z c.ranges.number, c.requires.divider) at c.in-Some.ensures.cross)
+    (rw (step.times, step.less) at c.in-Some-take_small.ensures.ok) f.top own.result c.args.pivot.now.whole_top f.first
+    (rw own.ensures (own_below f.rows p.own.items p.own_top p.within c.args.i)) c.args.i (columns_of p) step.fits
+    c.requires.pivot.within
 
 pub returns-in-Some-take-clause-ok : goal.returns-in-Some-take-clause-ok
 returns-in-Some-take-clause-ok c = λ column hf.
