@@ -20,6 +20,7 @@ pub mod KeptNumbers
 pub mod RowByCells
 pub mod CellSteps
 pub mod LeastNegative
+pub mod Bits
 pub mod Marked
 pub mod PivotedZeros
 pub mod PlacesKept

@@ -1,9 +1,9 @@
-use Rattle.std.proofs.Common.{◌≢◌, ℕ, ◌<◌}
+use Rattle.std.proofs.Common.{◌≢◌, ℕ, suc, ◌/◌, ◌<◌}
 use Rattle.stack_inverse.specs.Marks.{mark_at, IsWide}
 use Rattle.stack_inverse.proofs.marks.mark_diagonal.Given as goal
 
 abbrev pub invariant-loop-r : goal.invariant-loop-r
 invariant-loop-r l = record {
-  wide : (w : ℕ) → IsWide l.fn.lists w → IsWide l.lists w;
-  diagonal : (w r : ℕ) → IsWide l.fn.lists w → r < l.r → r < w → mark_at l.lists r r ≢ 0;
+  wide : IsWide l.lists (suc (l.width / 64));
+  diagonal : (r : ℕ) → r < l.r → mark_at l.lists r r ≢ 0;
 }
