@@ -141,7 +141,7 @@ impl Marks {
 }
 
 /// As many lists without marks.
-pub fn lists_of(alloc: Global, count: usize, width: usize) -> Result<Vec<Marks>, NoTable>
+fn lists_of(alloc: Global, count: usize, width: usize) -> Result<Vec<Marks>, NoTable>
     ensures long { IfOk result (λ l. length l.items ≡ count) }
     ensures wide { IfOk result (λ l. IsWide l.items (suc (width / 64))) }
 {
@@ -162,19 +162,6 @@ fn mark_place(lists: &mut [Marks], r: usize, j: usize)
     ensures marked { mark_at lists.new r j ≢ 0 }
 {
     lists[r].put(j);
-}
-
-/// Marks place r in list r.
-pub fn mark_diagonal(lists: &mut [Marks], width: usize)
-    requires wide { IsWide lists.old (suc (width / 64)) }
-    requires room { length lists.old ≤ width }
-    ensures long { length lists.new ≡ length lists.old }
-    ensures wide { IsWide lists.new (suc (width / 64)) }
-    ensures diagonal { (r : ℕ) → r < length lists.old → mark_at lists.new r r ≢ 0 }
-{
-    for r in 0..lists.len() {
-        mark_place(lists, r, r);
-    }
 }
 
 /// Marks all places of each list.

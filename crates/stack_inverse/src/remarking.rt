@@ -3,7 +3,7 @@
 ghost use Rattle.std.specs.Prelude.{◌≡◌, ◌≢◌, ℕ, suc, ◌<◌, ◌≤◌, ◌/◌, length, true, false, IfOk};
 ghost use Rattle.stack_inverse.specs.Marks.{mark_at, IsWide, AreMarkedOn, AreFull};
 
-use crate::marks::{Marks, fill_lists, lists_of, mark_diagonal, mark_pivot};
+use crate::marks::{Marks, fill_lists, mark_pivot};
 use crate::stops::NoTable;
 use std::alloc::Global;
 
@@ -14,8 +14,12 @@ pub fn first_places(alloc: Global, rows: usize, width: usize) -> Result<Vec<Mark
     ensures wide { IfOk result (λ l. IsWide l.items (suc (width / 64))) }
     ensures diagonal { IfOk result (λ l. (r : ℕ) → r < rows → mark_at l.items r r ≢ 0) }
 {
-    let mut places = lists_of(alloc, rows, width)?;
-    mark_diagonal(places.as_mut_slice(), width);
+    let mut places = Vec::with_capacity(alloc, rows)?;
+    for r in 0..rows {
+        let mut marks = Marks::none(alloc, width)?;
+        marks.put(r);
+        places.push(marks)?;
+    }
     Ok(places)
 }
 
