@@ -189,37 +189,6 @@ pub fn mark_column(lists: &[Marks], cells: &[Cell], marks: &mut Marks)
     }
 }
 
-/// Marks after a pivot whose row has something: in the lists of those places what was touched, and what the lists of
-/// those rows mark.
-pub fn mark_pivot(
-    places: &mut [Marks],
-    uses: &[Marks],
-    row: &[i128],
-    touched: &Marks,
-    open: &mut Marks,
-)
-    requires wide { IsWide places.old (length touched.now.words.items) }
-    requires uses_wide { IsWide uses.now (length «open».old.words.items) }
-    requires width { length places.old ≤ length row.now }
-    requires uses_long { length uses.now ≡ length places.old }
-    ensures long { length places.new ≡ length places.old }
-    ensures wide { IsWide places.new (length touched.now.words.items) }
-    ensures marks { length «open».new.words.items ≡ length «open».old.words.items }
-    ensures places_kept { (r i : ℕ) → mark_at places.new r i ≡ 0 → mark_at places.old r i ≡ 0 }
-    ensures joined { (r i : ℕ) → r < length places.old → number_at row.now r ≢ pos 0 →
-        mark_at places.new r i ≡ 0 → mark_in touched.now.words.items i ≡ 0 }
-    ensures marks_kept { (j : ℕ) → mark_in «open».new.words.items j ≡ 0 → mark_in «open».old.words.items j ≡ 0 }
-    ensures unused { (r j : ℕ) → r < length uses.now → number_at row.now r ≢ pos 0 →
-        mark_in «open».new.words.items j ≡ 0 → mark_at uses.now r j ≡ 0 }
-{
-    for r in 0..places.len() {
-        if row[r] != 0 {
-            places[r].join(touched);
-            open.join(&uses[r]);
-        }
-    }
-}
-
 /// Marks a column in the lists of its rows.
 fn mark_use(uses: &mut [Marks], cells: &[Cell], j: usize, width: usize)
     requires wide { IsWide uses.old (suc (width / 64)) }

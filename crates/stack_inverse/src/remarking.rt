@@ -3,7 +3,7 @@
 ghost use Rattle.std.specs.Prelude.{◌≡◌, ◌≢◌, ℕ, suc, ◌<◌, ◌≤◌, ◌/◌, length, true, false, IfOk};
 ghost use Rattle.stack_inverse.specs.Marks.{mark_at, IsWide, AreMarkedOn, AreFull};
 
-use crate::marks::{Marks, fill_lists, mark_pivot};
+use crate::marks::{Marks, fill_lists};
 use crate::stops::NoTable;
 use std::alloc::Global;
 
@@ -47,11 +47,16 @@ pub fn mark_on(
         «open».new.words.items }
     ensures full { done ≡ false → AreFull places.new (length touched.old.words.items) «open».new.words.items }
 {
-    if done {
-        touched.find(entered);
-        mark_pivot(places, uses, row, touched, open);
-    } else {
+    if !done {
         fill_lists(places);
         open.fill();
+        return;
+    }
+    touched.find(entered);
+    for r in 0..places.len() {
+        if row[r] != 0 {
+            places[r].join(touched);
+            open.join(&uses[r]);
+        }
     }
 }

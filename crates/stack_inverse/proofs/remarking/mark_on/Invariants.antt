@@ -1,7 +1,7 @@
 use Rattle.std.proofs.Common.{◌≡◌, ◌≢◌, ℕ, ◌<◌, length, pos}
 use Rattle.stack_rows.specs.RowForm.{number_at}
 use Rattle.stack_inverse.specs.Marks.{mark_in, mark_at, IsWide}
-use Rattle.stack_inverse.proofs.marks.mark_pivot.Given as goal
+use Rattle.stack_inverse.proofs.remarking.mark_on.Given as goal
 
 abbrev pub invariant-loop-r : goal.invariant-loop-r
 invariant-loop-r l = record {
