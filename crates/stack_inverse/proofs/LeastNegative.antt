@@ -1,9 +1,8 @@
 -- The least column in which a row is negative.
-use Rattle.std.proofs.Common.{◌≡◌, refl, sym, ap, subst, subst₂, ℕ, suc, ◌<◌, ◌≤◌, Bool, true, false, None, Some}
+use Rattle.std.proofs.Common.{◌≡◌, refl, sym, ap, subst, ℕ, suc, ◌<◌, ◌≤◌, Bool, true, false, None, Some}
 use Rattle.std.proofs.Common.{arith, ℤ, pos, negsuc, ◌<ℤ◌, List, length, get_or}
-use Rattle.std.specs.declared.vec.Vec.{Vec}
 use Rattle.stack_rational.proofs.Common.{ints, least, only_if, first_all-none, first_found, least-none, least-some}
-use Rattle.stack_rational.proofs.Common.{sign_of, with_items}
+use Rattle.stack_rational.proofs.Common.{sign_of}
 use Rattle.stack_bland.specs.declared.found.Found.{Found}
 use Rattle.stack_bland.specs.Choice.{is_negative_sign}
 use Rattle.stack_bland.specs.Found.{TellsFound}
@@ -12,7 +11,7 @@ use Rattle.stack_inverse.specs.declared.row.TableRow.{TableRow}
 use Rattle.stack_inverse.specs.Columns.{RowSeen, revised_own, number_with}
 use Rattle.stack_inverse.specs.RowsSeen.{seen_of, seen_at}
 use Rattle.stack_inverse.specs.Marks.{AreClean, least_negative}
-use Rattle.stack_inverse.proofs.PutRow.{seen_get, written}
+use Rattle.stack_inverse.proofs.PutRow.{seen_get}
 
 -- a negative number has the sign of one
 pub negative_is : (x : ℤ) → x <ℤ pos 0 → is_negative_sign (sign_of x) ≡ true
@@ -51,12 +50,10 @@ module _ (m : ℕ) (columns : List FirstColumn) (own : List ℤ) (rows : List Ta
   is_it : seen_of x ≡ seen_at rows m
   is_it = seen_get rows m x (omega (arith, height)) e
 
-  -- its marks, once they are written
-  pub clean_written : {X : Type 0} (marks : Vec ℕ X) {lent : List ℕ} (new : List ℕ) → lent ≡ marks.items →
-      length new ≡ length lent → AreClean (its (seen_of x)) new →
-      AreClean (its (seen_at rows m)) (with_items marks new).items
-  clean_written marks new kept long h = subst₂ (λ (s : RowSeen) (ms : List ℕ). AreClean (its s) ms) is_it
-      (sym (written marks new kept long)) h
+  -- its marks
+  pub clean_lent : (n : ℕ) (words : List ℕ) → AreClean (its (seen_of x)) n words →
+      AreClean (its (seen_at rows m)) n words
+  clean_lent n words h = subst (λ (s : RowSeen). AreClean (its s) n words) is_it h
 
   -- and its least column
   pub least_lent : (r : Found ℕ) (n : ℕ) → TellsFound r (least_negative (its (seen_of x)) n) →

@@ -1,39 +1,45 @@
 -- Lists of marks, one of which is read or written.
-use Rattle.std.proofs.Common.{◌≡◌, ◌≢◌, sym, ap, subst, ◌∙◌, ℕ, ◌<◌, List, [], length, length-set, get_or, set}
-use Rattle.std.proofs.Common.{Vec, arith}
-use Rattle.std.specs.declared.alloc.Global.{Global}
-use Rattle.stack_rational.proofs.Common.{ℕ_discrete, get_or-map, with_items, with_items_is}
+use Rattle.std.proofs.Common.{◌≡◌, ◌≢◌, sym, ap, subst, ◌∙◌, ℕ, ◌<◌, List, [], ◌∷◌, length, length-set}
+use Rattle.std.proofs.Common.{get_or, set, arith}
+use Rattle.std.specs.List.{AllByRecursion}
+use Rattle.stack_rational.proofs.Common.{ℕ_discrete, get_or-map}
 use Rattle.stack_rows.proofs.Items.{at-set_same, at-set_other}
+use Rattle.stack_inverse.specs.declared.columns.Cell.{Cell}
+use Rattle.stack_inverse.specs.declared.marks.Marks.{Marks}
 use Rattle.stack_inverse.specs.Marks.{list_at, IsWide}
 
--- the marks of a list
-abbrev items : Vec ℕ Global → List ℕ
-items v = v.items
+-- the words of a list
+abbrev words_of : Marks → List ℕ
+words_of marks = marks.words.items
 
 -- a list that is lent
-pub list_lent : (lists : List (Vec ℕ Global)) (r : ℕ) (d : Vec ℕ Global) → r < length lists →
-    (get_or lists r d).items ≡ list_at lists r
-list_lent lists r d lt = sym (get_or-map items lists r d [] lt)
+pub list_lent : (lists : List Marks) (r : ℕ) (d : Marks) → r < length lists →
+    (get_or lists r d).words.items ≡ list_at lists r
+list_lent lists r d lt = sym (get_or-map words_of lists r d [] lt)
 
-module _ (lists : List (Vec ℕ Global)) (r : ℕ) (d : Vec ℕ Global) (new : List ℕ) {now : List (Vec ℕ Global)}
-    (lt : r < length lists) (long : length new ≡ length (get_or lists r d).items)
-    (put : now ≡ set lists r (with_items (get_or lists r d) new)) where
+pub list_read : (lists : List Marks) (r : ℕ) (x : Marks) → r < length lists → x ≡ get_or lists r x →
+    x.words.items ≡ list_at lists r
+list_read lists r x lt is = ap words_of is ∙ list_lent lists r x lt
+
+-- what follows of a row follows at all cells
+pub all_have : (P Q : ℕ → Type 0) (xs : List Cell) → ((r : ℕ) → P r → Q r) → AllByRecursion (λ x. P x.row) xs →
+    AllByRecursion (λ x. Q x.row) xs
+all_have P Q [] h all = tt
+all_have P Q (x ∷ xs) h all = (h x.row all.0, all_have P Q xs h all.1)
+
+module _ (lists : List Marks) (r : ℕ) (d new : Marks) {now : List Marks} (lt : r < length lists)
+    (long : length new.words.items ≡ length (get_or lists r d).words.items) (put : now ≡ set lists r new) where
   -- what holds of list r, which is written, and of another
-  pub list_put : (P : ℕ → List ℕ → Type 0) (k : ℕ) → (k ≢ r → P k (list_at lists k)) → P r new → P k (list_at now k)
+  pub list_put : (P : ℕ → List ℕ → Type 0) (k : ℕ) → (k ≢ r → P k (list_at lists k)) → P r new.words.items →
+      P k (list_at now k)
   list_put P k other own = subst (λ ls. P k (list_at ls k)) (sym put) (elim (ℕ_discrete k r) [
-    | yes e ↦ subst (λ j. P j (list_at after j)) (sym e) (subst (P r) (sym here) own)
-    | no n ↦ subst (P k) (sym (at-set_other items [] lists r k v n)) (other n)
+    | yes e ↦ subst (λ j. P j (list_at after j)) (sym e)
+        (subst (P r) (sym (at-set_same words_of [] lists r new lt)) own)
+    | no n ↦ subst (P k) (sym (at-set_other words_of [] lists r k new n)) (other n)
   ])
     where
-      v : Vec ℕ Global
-      v = with_items (get_or lists r d) new
-
-      after : List (Vec ℕ Global)
-      after = set lists r v
-
-      here : list_at after r ≡ new
-      here = at-set_same items [] lists r v lt
-          ∙ with_items_is (get_or lists r d) new (long ∙ sym (get_or lists r d).ok.0)
+      after : List Marks
+      after = set lists r new
 
   -- all are as long as before
   pub wide_put : (w : ℕ) → IsWide lists w → IsWide now w

@@ -1,8 +1,7 @@
 -- The columns in which the objective row may be negative after a pivot.
 use Rattle.std.proofs.Common.{◌≡◌, ◌≢◌, sym, ap, ◌∙◌, ℕ, suc, ◌<◌, List, [], ◌∷◌, length, arith, ℤ, pos}
-use Rattle.std.proofs.Common.{Vec, refl, true, ◌*ℤ◌, ◌+ℤ◌}
+use Rattle.std.proofs.Common.{refl, true, ◌*ℤ◌, ◌+ℤ◌}
 use lib.IntN.{ℤ_discrete}
-use Rattle.std.specs.declared.alloc.Global.{Global}
 use Rattle.std.specs.List.{AllByRecursion}
 use Rattle.std.proofs.lemmas.Bool.Decides.{nat_tests}
 use Rattle.stack_rational.proofs.Common.{◌≺◌, next, ordered_fractions, sum_of, expand, sums}
@@ -10,6 +9,7 @@ use Rattle.stack_rational.proofs.Common.{zero-*ℤ}
 use Rattle.stack_bland.specs.Choice.{is_negative_sign}
 use Rattle.stack_inverse.specs.declared.columns.FirstColumn.{FirstColumn}
 use Rattle.stack_inverse.specs.declared.columns.Cell.{Cell}
+use Rattle.stack_inverse.specs.declared.marks.Marks.{Marks}
 use Rattle.stack_rows.specs.RowForm.{number_at}
 use Rattle.stack_inverse.specs.Columns.{RowSeen, revised_own, revised_cell, revised_number}
 use Rattle.stack_inverse.specs.Columns.{cells_at, rises}
@@ -51,18 +51,15 @@ module _ (m : ℕ) (columns : List FirstColumn) (own : List ℤ) (s t : ℕ → 
       start = times (t r).under ∙ ap (λ z. (t r).under *ℤ z) (sym bare)
 
   -- the objective row isn't negative in a column without a mark
-  pub columns_kept : (places uses new_places : List (Vec ℕ Global)) (marks new_marks : List ℕ) (entered : List ℤ) →
+  pub columns_kept : (places uses new_places : List Marks) (marks new_marks : List ℕ) (entered : List ℤ) →
       AreMarkedOn places uses marks (t r).numbers entered new_places new_marks → length uses ≡ m →
-      length marks ≡ length columns → length new_marks ≡ length columns → AreUses uses columns →
-      AreClean (revised_number m columns own s m) marks → AreClean (revised_number m columns own t m) new_marks
-  columns_kept places uses new_places marks new_marks entered k few long new_long used was j lj z =
+      AreUses uses columns → AreClean (revised_number m columns own s m) (length columns) marks →
+      AreClean (revised_number m columns own t m) (length columns) new_marks
+  columns_kept places uses new_places marks new_marks entered k few used was j lt z =
       ap is_negative_sign (same_sign (revised_number m columns own t m j) (t m).under
       (revised_number m columns own s m j) (s m).under (pt m) (ps m) stays)
-      ∙ was j (omega (arith, lj, long, new_long)) (k.marks_kept j z)
+      ∙ was j lt (k.marks_kept j z)
     where
-      lt : j < length columns
-      lt = omega (arith, lj, new_long)
-
       none : (q : ℕ) → q < m → mark_at uses q j ≢ 0 → number_at (t r).numbers q ≡ pos 0
       none q lq n = elim (ℤ_discrete (number_at (t r).numbers q) (pos 0)) [
         | yes p ↦ p

@@ -1,11 +1,11 @@
 -- The marks of places after a pivot.
-use Rattle.std.proofs.Common.{◌≡◌, ◌≢◌, refl, sym, ap, subst, ◌∙◌, ℕ, ◌+◌, ◌<◌, ◌≤◌, Bool, true, false, cond, eqb}
-use Rattle.std.proofs.Common.{List, length, Vec, arith, ℤ, pos, Result, Ok, Err, OnOk, is_ok, ◌⊎◌, inl, inr}
+use Rattle.std.proofs.Common.{◌≡◌, ◌≢◌, refl, sym, ap, subst, ◌∙◌, ℕ, ◌+◌, ◌<◌, Bool, true, false, cond, eqb}
+use Rattle.std.proofs.Common.{List, length, ◌/◌, arith, ℤ, pos, Result, Ok, Err, OnOk, is_ok, ◌⊎◌, inl, inr}
 use Rattle.std.proofs.lemmas.Bool.Decides.{nat_tests}
 use lib.IntN.{ℤ_discrete}
-use Rattle.std.specs.declared.alloc.Global.{Global}
 use Rattle.stack_rational.proofs.Common.{ℕ_discrete, ◌≺◌, of, next, ordered_fractions}
 use Rattle.stack_inverse.specs.declared.columns.FirstColumn.{FirstColumn}
+use Rattle.stack_inverse.specs.declared.marks.Marks.{Marks}
 use Rattle.stack_rows.specs.RowForm.{number_at}
 use Rattle.stack_inverse.specs.Columns.{RowSeen, AreEntered, revised_own, revised_cell, revised_number}
 use Rattle.stack_inverse.specs.FirstTable.{AreFilled, load_at}
@@ -34,7 +34,7 @@ module _ (m : ℕ) (columns : List FirstColumn) (own : List ℤ) (s t : ℕ → 
       ∙ zero_number (revised_number m columns own u i (length columns + q)) (u i).under (pu i) e
 
   -- a place without a mark has nothing
-  pub places_kept : (places uses new_places : List (Vec ℕ Global)) (marks new_marks : List ℕ) (entered : List ℤ) →
+  pub places_kept : (places uses new_places : List Marks) (marks new_marks : List ℕ) (entered : List ℤ) →
       AreMarkedOn places uses marks (t r).numbers entered new_places new_marks → length places ≡ m →
       AreEntered m columns own s c entered → ArePlaces places m s → ArePlaces new_places m t
   places_kept places uses new_places marks new_marks entered k few e was i q li lq z =
@@ -57,7 +57,7 @@ module _ (m : ℕ) (columns : List FirstColumn) (own : List ℤ) (s t : ℕ → 
           (sym (e i (omega (arith, li))) ∙ k.joined q i (omega (arith, lq, few)) d z)) ∙ before
 
 -- the marks after a pivot, told of equal lists
-pub marked_on_same : {p p' u u' new_places : List (Vec ℕ Global)} {o o' new_marks : List ℕ} {w w' e e' : List ℤ} →
+pub marked_on_same : {p p' u u' new_places : List Marks} {o o' new_marks : List ℕ} {w w' e e' : List ℤ} →
     p ≡ p' → u ≡ u' → o ≡ o' → w ≡ w' → e ≡ e' → AreMarkedOn p u o w e new_places new_marks →
     AreMarkedOn p' u' o' w' e' new_places new_marks
 marked_on_same {p} {p'} {u} {u'} {new_places} {o} {o'} {new_marks} {w} {w'} {e} {e'} hp hu ho hw he h =
@@ -68,14 +68,15 @@ marked_on_same {p} {p'} {u} {u'} {new_places} {o} {o'} {new_marks} {w} {w'} {e} 
     (subst (λ x. AreMarkedOn p u o w x new_places new_marks) he h))))
 
 -- where all is marked nothing is told
-pub full_places : (m w : ℕ) (places : List (Vec ℕ Global)) (marks : List ℕ) (t : ℕ → RowSeen) →
-    AreFull places w marks → length places ≡ m → m ≤ w → ArePlaces places m t
+pub full_places : (m w : ℕ) (places : List Marks) (marks : List ℕ) (t : ℕ → RowSeen) →
+    AreFull places w marks → length places ≡ m → m / 64 < w → ArePlaces places m t
 full_places m w places marks t f few wide i q li lq z =
     absurd (omega (arith, f.each_place q i (omega (arith, lq, few)) (omega (arith, li, wide)), z))
 
-pub full_columns : (w : ℕ) (places : List (Vec ℕ Global)) (marks : List ℕ) (f : ℕ → ℤ) → AreFull places w marks →
-    AreClean f marks
-full_columns w places marks f h j l z = absurd (omega (arith, h.each_mark j l, z))
+pub full_columns : (n w : ℕ) (places : List Marks) (marks : List ℕ) (f : ℕ → ℤ) → AreFull places w marks →
+    n / 64 < length marks → AreClean f n marks
+full_columns n w places marks f h room j l z =
+    absurd (omega (arith, h.each_mark j (omega (arith, l, room)), z))
 
 -- a pivot is done, and then this holds; or it isn't
 pub done_or_not : {T E P : Type 0} (r : Result T E) (b : Bool) → b ≡ is_ok r → OnOk r P →
@@ -84,7 +85,7 @@ done_or_not (Ok x) b e h = inl (e, h)
 done_or_not (Err x) b e h = inr e
 
 -- a first row has something in its own artificial column alone
-pub first_told : (m : ℕ) (right : List ℤ) (s : ℕ → RowSeen) (places : List (Vec ℕ Global)) → AreFilled m right s →
+pub first_told : (m : ℕ) (right : List ℤ) (s : ℕ → RowSeen) (places : List Marks) → AreFilled m right s →
     ((r : ℕ) → r < m → mark_at places r r ≢ 0) → ArePlaces places m s
 first_told m right s places f d i r li lr z = (f.rows i li).number r ∙ bare
   where

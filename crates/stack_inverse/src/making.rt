@@ -1,7 +1,7 @@
 //! Numbers of the plain columns, made from those of the artificial ones, and their top.
 
 ghost use Rattle.std.specs.Prelude.{◌≡◌, ℕ, suc, ◌+◌, ◌-◌, ◌^◌, ◌<◌, ◌≤◌, ◌+ℤ◌, ◌*ℤ◌, length, get_or};
-ghost use Rattle.std.specs.Prelude.{unsigned_abs, ℤ, pos, OnSome, IfSome};
+ghost use Rattle.std.specs.Prelude.{unsigned_abs, false, ◌/◌, ℤ, pos, OnSome, IfSome};
 ghost use Rattle.std.specs.Int.{w128, int_wrap};
 ghost use Rattle.std.specs.List.{AllByRecursion};
 ghost use Rattle.stack_rational.specs.Laws.{widest};
@@ -10,10 +10,12 @@ ghost use Rattle.stack_rows.specs.RowForm.{number_at, IsTopped};
 ghost use Rattle.stack_inverse.specs.RowBlock.{AreWithin, IsWholeTop};
 ghost use Rattle.stack_inverse.specs.Columns.{revised_own, row_number, cells_at, HaveWidths, AreEntered};
 ghost use Rattle.stack_inverse.specs.RowsSeen.{seen_of, seen_at, number_in_row};
+ghost use Rattle.stack_inverse.specs.Marks.{mark_in};
 
 use crate::columns::Cell;
 use crate::first::First;
 use crate::given::Given;
+use crate::marks::Marks;
 use crate::row::TableRow;
 use stack_rows::{product, product_of, size_product, whole_product};
 
@@ -97,23 +99,23 @@ pub fn number_of(given: &Given, row: &TableRow, i: usize, j: usize) -> Option<i1
 }
 
 /// The same: 0 in a row without a mark, unless it is the objective row.
-fn entered_number(given: &Given, row: &TableRow, i: usize, j: usize, mark: u8) -> Option<i128>
+fn entered_number(given: &Given, row: &TableRow, i: usize, j: usize, mark: bool) -> Option<i128>
     requires column_in { j < length given.now.first.columns.items }
-    requires nothing { i < given.now.first.rows → mark ≡ 0 → AllByRecursion (λ x.
+    requires nothing { i < given.now.first.rows → mark ≡ false → AllByRecursion (λ x.
         number_at row.now.row.numbers.items x.row ≡ pos 0) (cells_at given.now.first.columns.items j) }
     requires row_in { i ≤ given.now.first.rows }
     ensures { IfSome result (λ r. r ≡ number_in_row given.now (seen_of row.now) i j) }
 {
-    if mark == 0 && i < given.first.rows {
+    if !mark && i < given.first.rows {
         return Some(0);
     }
     number_of(given, row, i, j)
 }
 
 /// The same. Gives up also where it or the right side of the row is the least number of all, whose size doesn't fit.
-fn sized_number(given: &Given, row: &TableRow, i: usize, j: usize, mark: u8) -> Option<i128>
+fn sized_number(given: &Given, row: &TableRow, i: usize, j: usize, mark: bool) -> Option<i128>
     requires column_in { j < length given.now.first.columns.items }
-    requires nothing { i < given.now.first.rows → mark ≡ 0 → AllByRecursion (λ x.
+    requires nothing { i < given.now.first.rows → mark ≡ false → AllByRecursion (λ x.
         number_at row.now.row.numbers.items x.row ≡ pos 0) (cells_at given.now.first.columns.items j) }
     requires row_in { i ≤ given.now.first.rows }
     requires width { length row.now.row.numbers.items ≡ suc given.now.first.rows }
@@ -135,7 +137,7 @@ fn sized_number(given: &Given, row: &TableRow, i: usize, j: usize, mark: u8) -> 
 pub fn enter_column(
     given: &Given,
     rows: &[TableRow],
-    marks: &[u8],
+    marks: &Marks,
     entered: &mut [i128],
     column: usize,
 ) -> Option<()>
@@ -143,8 +145,8 @@ pub fn enter_column(
     requires height { length rows.now ≡ suc given.now.first.rows }
     requires widths { HaveWidths given.now.first.rows (seen_at rows.now) }
     requires column_in { column < length given.now.first.columns.items }
-    requires marks_long { length marks.now ≡ suc given.now.first.rows }
-    requires nothing { (i : ℕ) → i < given.now.first.rows → get_or marks.now i 0 ≡ 0 → AllByRecursion (λ x.
+    requires marks_long { given.now.first.rows / 64 < length marks.now.words.items }
+    requires nothing { (i : ℕ) → i < given.now.first.rows → mark_in marks.now.words.items i ≡ 0 → AllByRecursion (λ x.
         number_at (seen_at rows.now i).numbers x.row ≡ pos 0) (cells_at given.now.first.columns.items column) }
     ensures numbers { OnSome result (AreEntered given.now.first.rows given.now.first.columns.items given.now.own.items
         (seen_at rows.now) column entered.new) }
@@ -154,7 +156,7 @@ pub fn enter_column(
         unsigned_abs (number_at (seen_at rows.now i).numbers given.now.first.rows) ≤ unsigned_abs widest) }
 {
     for i in 0..entered.len() {
-        entered[i] = sized_number(given, &rows[i], i, column, marks[i])?;
+        entered[i] = sized_number(given, &rows[i], i, column, marks.has(i))?;
     }
     Some(())
 }

@@ -1,13 +1,15 @@
-//! Marks, a byte each: a place without a mark has nothing. They spare products with numbers that are 0.
+//! Marks, a bit each: a place without a mark has nothing. They spare products with numbers that are 0.
 
-ghost use Rattle.std.specs.Prelude.{◌≡◌, ◌≢◌, ℕ, ◌<◌, ◌≤◌, length, get_or, pos, true, IfOk};
+ghost use Rattle.std.specs.Prelude.{◌≡◌, ◌≢◌, ℕ, suc, ◌+◌, ◌<◌, ◌≤◌, ◌/◌, length, pos, min, max, false, IfOk};
 ghost use Rattle.std.specs.List.{AllByRecursion};
 ghost use Rattle.stack_rows.specs.RowForm.{number_at};
 ghost use Rattle.stack_bland.specs.Found.{TellsFound, IfFound};
+ghost use Rattle.stack_inverse.specs.Columns.{cells_at};
 ghost use Rattle.stack_inverse.specs.RowsSeen.{seen_of, number_in_row};
-ghost use Rattle.stack_inverse.specs.Marks.{mark_at, IsWide, AreUses, AreClean, least_negative};
+ghost use Rattle.stack_inverse.specs.Marks.{mark_in, list_at, mark_at, IsWide, AreUses, AreClean, least_negative};
 
 use crate::columns::{Cell, FirstColumn};
+use crate::first::First;
 use crate::given::Given;
 use crate::making::number_of;
 use crate::row::TableRow;
@@ -15,242 +17,242 @@ use crate::stops::NoTable;
 use stack_bland::Found;
 use std::alloc::Global;
 
-/// One of two marks: none only where neither is one.
-fn either(a: u8, b: u8) -> u8
-    ensures own { result ≡ 0 → a ≡ 0 }
-    ensures other { result ≡ 0 → b ≡ 0 }
-    ensures none { a ≡ 0 → b ≡ 0 → result ≡ 0 }
+/// A place some places after a first one, but none before `from` and none past the end.
+fn place_within(first: usize, after: usize, from: usize, end: usize) -> usize
+    requires { first ≤ end }
+    ensures { result ≡ max from (min (first + after) end) }
 {
-    if a < b { b } else { a }
+    let place = if after < end - first {
+        first + after
+    } else {
+        end
+    };
+    if place < from { from } else { place }
 }
 
-/// As many times the same mark.
-pub fn marks_of(alloc: Global, mark: u8, count: usize) -> Result<Vec<u8>, NoTable>
-    ensures long { IfOk result (λ m. length m.items ≡ count) }
-    ensures each { IfOk result (λ m. (i : ℕ) → i < count → get_or m.items i 0 ≡ mark) }
-{
-    let marks = Vec::from_elem(alloc, mark, count)?;
-    Ok(marks)
+/// Marks of places, a bit each.
+#[derive(Drop)]
+pub struct Marks {
+    words: Vec<u64>,
 }
 
-/// As many lists of the same mark.
-pub fn lists_of(
-    alloc: Global,
-    mark: u8,
-    count: usize,
-    width: usize,
-) -> Result<Vec<Vec<u8>>, NoTable>
+impl Marks {
+    ghost use Rattle.std.specs.Prelude.{◌≡◌, ◌≢◌, ℕ, suc, ◌<◌, ◌≤◌, ◌/◌, length, pos, min, max, false, IfOk};
+
+    /// No marks yet, with room for as many.
+    pub fn none(alloc: Global, width: usize) -> Result<Marks, NoTable>
+        ensures { IfOk result (λ m. length m.words.items ≡ suc (width / 64)) }
+    {
+        let words = Vec::from_elem(alloc, 0, width / 64 + 1)?;
+        Ok(Marks { words })
+    }
+
+    /// Whether a place is marked.
+    pub fn has(&self, j: usize) -> bool
+        requires { j / 64 < length self.now.words.items }
+        ensures { result ≡ false → mark_in self.now.words.items j ≡ 0 }
+    {
+        let words = self.words.as_slice();
+        (words[j / 64] >> (j % 64)) & 1 == 1
+    }
+
+    /// Marks a place.
+    pub fn put(&mut self, j: usize)
+        requires { j / 64 < length self.old.words.items }
+        ensures long { length self.new.words.items ≡ length self.old.words.items }
+        ensures here { mark_in self.new.words.items j ≡ 1 }
+        ensures others { (i : ℕ) → i ≢ j → mark_in self.new.words.items i ≡ mark_in self.old.words.items i }
+    {
+        self.words[j / 64] = self.words[j / 64] | (1u64 << (j % 64));
+    }
+
+    /// Takes the mark of a place away.
+    pub fn remove(&mut self, j: usize)
+        requires { j / 64 < length self.old.words.items }
+        ensures long { length self.new.words.items ≡ length self.old.words.items }
+        ensures others { (i : ℕ) → i ≢ j → mark_in self.new.words.items i ≡ mark_in self.old.words.items i }
+    {
+        self.words[j / 64] = self.words[j / 64] & !(1u64 << (j % 64));
+    }
+
+    /// Takes all marks away.
+    pub fn clear(&mut self)
+        ensures { length self.new.words.items ≡ length self.old.words.items }
+    {
+        for w in 0..self.words.len() {
+            self.words[w] = 0;
+        }
+    }
+
+    /// Marks all places.
+    pub fn fill(&mut self)
+        ensures long { length self.new.words.items ≡ length self.old.words.items }
+        ensures each { (j : ℕ) → j / 64 < length self.old.words.items → mark_in self.new.words.items j ≡ 1 }
+    {
+        for w in 0..self.words.len() {
+            self.words[w] = u64::MAX;
+        }
+    }
+
+    /// Marks also what others mark.
+    pub fn join(&mut self, other: &Marks)
+        requires { length other.now.words.items ≡ length self.old.words.items }
+        ensures long { length self.new.words.items ≡ length self.old.words.items }
+        ensures joined { (j : ℕ) → mark_in self.new.words.items j
+            ≡ max (mark_in self.old.words.items j) (mark_in other.now.words.items j) }
+    {
+        let others = other.words.as_slice();
+        for w in 0..self.words.len() {
+            self.words[w] = self.words[w] | others[w];
+        }
+    }
+
+    /// Marks the places at which numbers aren't 0, and no others.
+    pub fn find(&mut self, numbers: &[i128])
+        requires { length numbers.now / 64 < length self.old.words.items }
+        ensures long { length self.new.words.items ≡ length self.old.words.items }
+        ensures told { (i : ℕ) → mark_in self.new.words.items i ≡ 0 → number_at numbers.now i ≡ pos 0 }
+    {
+        self.clear();
+        for i in 0..numbers.len() {
+            if numbers[i] != 0 {
+                self.put(i);
+            }
+        }
+    }
+
+    /// The next place with a mark, where none before `from` has one; the end where none has.
+    pub fn next(&self, from: usize, end: usize) -> usize
+        requires long { length self.now.words.items ≡ suc (end / 64) }
+        requires within { from ≤ end }
+        ensures later { from ≤ result }
+        ensures within { result ≤ end }
+        ensures none { (j : ℕ) → from ≤ j → j < result → mark_in self.now.words.items j ≡ 0 }
+    {
+        let words = self.words.as_slice();
+        for w in from / 64..words.len() {
+            let word = words[w];
+            if word != 0 {
+                return place_within(w * 64, word.trailing_zeros() as usize, from, end);
+            }
+        }
+        end
+    }
+}
+
+/// As many lists without marks.
+fn lists_of(alloc: Global, count: usize, width: usize) -> Result<Vec<Marks>, NoTable>
     ensures long { IfOk result (λ l. length l.items ≡ count) }
-    ensures wide { IfOk result (λ l. IsWide l.items width) }
-    ensures each { IfOk result (λ l. (r i : ℕ) → r < count → i < width → mark_at l.items r i ≡ mark) }
+    ensures wide { IfOk result (λ l. IsWide l.items (suc (width / 64))) }
 {
     let mut lists = Vec::with_capacity(alloc, count)?;
     for _ in 0..count {
-        lists.push(marks_of(alloc, mark, width)?)?;
+        lists.push(Marks::none(alloc, width)?)?;
     }
     Ok(lists)
 }
 
-/// Marks place r in list r.
-pub fn mark_diagonal(lists: &mut [Vec<u8>])
+/// Marks a place in a list.
+fn mark_place(lists: &mut [Marks], r: usize, j: usize)
+    requires list { r < length lists.old }
+    requires place { j / 64 < length (list_at lists.old r) }
     ensures long { length lists.new ≡ length lists.old }
     ensures wide { (w : ℕ) → IsWide lists.old w → IsWide lists.new w }
-    ensures diagonal { (w r : ℕ) → IsWide lists.old w → r < length lists.old → r < w → mark_at lists.new r r ≢ 0 }
+    ensures kept { (k i : ℕ) → mark_at lists.old k i ≢ 0 → mark_at lists.new k i ≢ 0 }
+    ensures marked { mark_at lists.new r j ≢ 0 }
 {
-    for r in 0..lists.len() {
-        let marks = lists[r].as_mut_slice();
-        if r < marks.len() {
-            marks[r] = 1;
-        }
-    }
+    lists[r].put(j);
 }
 
-/// Sets each mark.
-pub fn set_marks(marks: &mut [u8], mark: u8)
-    ensures long { length marks.new ≡ length marks.old }
-    ensures each { (i : ℕ) → i < length marks.old → get_or marks.new i 0 ≡ mark }
-{
-    for i in 0..marks.len() {
-        marks[i] = mark;
-    }
-}
-
-/// Sets each mark of each list.
-pub fn set_lists(lists: &mut [Vec<u8>], mark: u8)
+/// Marks all places of each list.
+pub fn fill_lists(lists: &mut [Marks])
     ensures long { length lists.new ≡ length lists.old }
     ensures wide { (w : ℕ) → IsWide lists.old w → IsWide lists.new w }
-    ensures each { (w r i : ℕ) → IsWide lists.old w → r < length lists.old → i < w → mark_at lists.new r i ≡ mark }
+    ensures each { (w r i : ℕ) → IsWide lists.old w → r < length lists.old → i / 64 < w → mark_at lists.new r i ≡ 1 }
 {
     for r in 0..lists.len() {
-        set_marks(lists[r].as_mut_slice(), mark);
-    }
-}
-
-/// Marks also what another list marks.
-fn join_marks(marks: &mut [u8], other: &[u8])
-    requires { length other.now ≡ length marks.old }
-    ensures long { length marks.new ≡ length marks.old }
-    ensures own { (i : ℕ) → get_or marks.new i 0 ≡ 0 → get_or marks.old i 0 ≡ 0 }
-    ensures other { (i : ℕ) → get_or marks.new i 0 ≡ 0 → get_or other.now i 0 ≡ 0 }
-{
-    for i in 0..marks.len() {
-        marks[i] = either(marks[i], other[i]);
+        lists[r].fill();
     }
 }
 
 /// Marks what the list of one of the rows of a column marks, and nothing else.
-#[tactic(auto, using(crate::proofs::Marked::list_lent))]
-pub fn mark_column(lists: &[Vec<u8>], cells: &[Cell], marks: &mut [u8])
-    requires wide { IsWide lists.now (length marks.old) }
+pub fn mark_column(lists: &[Marks], cells: &[Cell], marks: &mut Marks)
+    requires wide { IsWide lists.now (length marks.old.words.items) }
     requires rows { AllByRecursion (λ x. x.row < length lists.now) cells.now }
-    ensures long { length marks.new ≡ length marks.old }
-    ensures nothing { (i : ℕ) → get_or marks.new i 0 ≡ 0 →
+    ensures long { length marks.new.words.items ≡ length marks.old.words.items }
+    ensures nothing { (i : ℕ) → mark_in marks.new.words.items i ≡ 0 →
         AllByRecursion (λ x. mark_at lists.now x.row i ≡ 0) cells.now }
 {
-    set_marks(marks, 0);
+    marks.clear();
     for cell in cells {
-        join_marks(marks, lists[cell.row].as_slice());
+        marks.join(&lists[cell.row]);
     }
 }
 
-/// Marks also what the lists mark at which a row has something.
-#[tactic(auto, using(crate::proofs::Marked::list_lent))]
-pub fn mark_row(lists: &[Vec<u8>], row: &[i128], marks: &mut [u8])
-    requires wide { IsWide lists.now (length marks.old) }
-    requires width { length lists.now ≤ length row.now }
-    ensures long { length marks.new ≡ length marks.old }
-    ensures own { (i : ℕ) → get_or marks.new i 0 ≡ 0 → get_or marks.old i 0 ≡ 0 }
-    ensures nothing { (r i : ℕ) → r < length lists.now → number_at row.now r ≢ pos 0 → get_or marks.new i 0 ≡ 0 →
-        mark_at lists.now r i ≡ 0 }
-{
-    for r in 0..lists.len() {
-        if row[r] != 0 {
-            join_marks(marks, lists[r].as_slice());
-        }
-    }
-}
-
-/// Marks in the lists at which a row has something all that a list marks.
-#[tactic(auto, using(crate::proofs::Marked::list_lent))]
-pub fn mark_lists(lists: &mut [Vec<u8>], row: &[i128], marks: &[u8])
-    requires wide { IsWide lists.old (length marks.now) }
-    requires width { length lists.old ≤ length row.now }
-    ensures long { length lists.new ≡ length lists.old }
-    ensures wide { IsWide lists.new (length marks.now) }
-    ensures own { (r i : ℕ) → mark_at lists.new r i ≡ 0 → mark_at lists.old r i ≡ 0 }
-    ensures joined { (r i : ℕ) → r < length lists.old → number_at row.now r ≢ pos 0 →
-        mark_at lists.new r i ≡ 0 → get_or marks.now i 0 ≡ 0 }
-{
-    for r in 0..lists.len() {
-        if row[r] != 0 {
-            join_marks(lists[r].as_mut_slice(), marks);
-        }
-    }
-}
-
-/// The mark of a number: none only where it is 0.
-fn mark_of(number: i128) -> u8
-    ensures { result ≡ 0 → number ≡ pos 0 }
-{
-    if number == 0 { 0 } else { 1 }
-}
-
-/// Marks where numbers aren't 0.
-pub fn mark_numbers(numbers: &[i128], marks: &mut [u8])
-    requires { length numbers.now ≡ length marks.old }
-    ensures long { length marks.new ≡ length marks.old }
-    ensures told { (i : ℕ) → get_or marks.new i 0 ≡ 0 → number_at numbers.now i ≡ pos 0 }
-{
-    for i in 0..marks.len() {
-        marks[i] = mark_of(numbers[i]);
-    }
-}
-
-/// Marks a column in the lists of its rows, up to the first that has none there.
-fn mark_use(uses: &mut [Vec<u8>], cells: &[Cell], j: usize)
+/// Marks a column in the lists of its rows.
+fn mark_use(uses: &mut [Marks], cells: &[Cell], j: usize, width: usize)
+    requires wide { IsWide uses.old (suc (width / 64)) }
+    requires rows { AllByRecursion (λ x. x.row < length uses.old) cells.now }
+    requires within { j ≤ width }
     ensures long { length uses.new ≡ length uses.old }
-    ensures wide { (w : ℕ) → IsWide uses.old w → IsWide uses.new w }
+    ensures wide { IsWide uses.new (suc (width / 64)) }
+    ensures kept { (r i : ℕ) → mark_at uses.old r i ≢ 0 → mark_at uses.new r i ≢ 0 }
+    ensures marked { AllByRecursion (λ x. mark_at uses.new x.row j ≢ 0) cells.now }
 {
     for cell in cells {
-        if cell.row >= uses.len() || j >= uses[cell.row].len() {
-            return;
-        }
-        let list = uses[cell.row].as_mut_slice();
-        list[j] = 1;
+        mark_place(uses, cell.row, j);
     }
-}
-
-/// Whether a column is marked in the lists of all its rows.
-fn is_marked(uses: &[Vec<u8>], cells: &[Cell], j: usize) -> bool
-    ensures { result ≡ true → AllByRecursion (λ x. mark_at uses.now x.row j ≢ 0) cells.now }
-{
-    for cell in cells {
-        if cell.row >= uses.len() || j >= uses[cell.row].len() || uses[cell.row][j] == 0 {
-            return false;
-        }
-    }
-    true
 }
 
 /// Marks all columns in the lists of their rows.
-fn mark_uses(uses: &mut [Vec<u8>], columns: &[FirstColumn])
+fn mark_uses(uses: &mut [Marks], columns: &[FirstColumn])
+    requires wide { IsWide uses.old (suc (length columns.now / 64)) }
+    requires rows { (j : ℕ) → j < length columns.now → AllByRecursion (λ x. x.row < length uses.old)
+        (cells_at columns.now j) }
     ensures long { length uses.new ≡ length uses.old }
-    ensures wide { (w : ℕ) → IsWide uses.old w → IsWide uses.new w }
+    ensures wide { IsWide uses.new (suc (length columns.now / 64)) }
+    ensures uses { AreUses uses.new columns.now }
 {
     for j in 0..columns.len() {
-        mark_use(uses, columns[j].cells.as_slice(), j);
+        mark_use(uses, columns[j].cells.as_slice(), j, columns.len());
     }
 }
 
-/// Whether all columns are marked in the lists of their rows.
-fn are_marked(uses: &[Vec<u8>], columns: &[FirstColumn]) -> bool
-    ensures { result ≡ true → AreUses uses.now columns.now }
+/// For each row a list that marks the columns with a number there.
+pub fn uses_of(alloc: Global, first: &First) -> Result<Vec<Marks>, NoTable>
+    ensures long { IfOk result (λ u. length u.items ≡ first.now.rows) }
+    ensures wide { IfOk result (λ u. IsWide u.items (suc (length first.now.columns.items / 64))) }
+    ensures uses { IfOk result (λ u. AreUses u.items first.now.columns.items) }
 {
-    for j in 0..columns.len() {
-        if !is_marked(uses, columns[j].cells.as_slice(), j) {
-            return false;
-        }
-    }
-    true
-}
-
-/// For each row a list that marks the columns with a number there. Gives up nowhere, likely: what it makes is tested.
-pub fn uses_of(alloc: Global, columns: &[FirstColumn], rows: usize) -> Result<Vec<Vec<u8>>, NoTable>
-    ensures long { IfOk result (λ u. length u.items ≡ rows) }
-    ensures wide { IfOk result (λ u. IsWide u.items (length columns.now)) }
-    ensures uses { IfOk result (λ u. AreUses u.items columns.now) }
-{
-    let mut uses = lists_of(alloc, 0, rows, columns.len())?;
-    mark_uses(uses.as_mut_slice(), columns);
-    if are_marked(uses.as_slice(), columns) {
-        Ok(uses)
-    } else {
-        Err(NoTable::Unsettled)
-    }
+    let mut uses = lists_of(alloc, first.rows, first.columns.len())?;
+    mark_uses(uses.as_mut_slice(), first.columns.as_slice());
+    Ok(uses)
 }
 
 /// The least plain column in which the objective row is negative, looked for among those with a mark. Takes the marks
 /// of those before it away. Gives up likely where a sum of products doesn't fit.
-pub fn least_negative(given: &Given, row: &TableRow, marks: &mut [u8]) -> Found<usize>
-    requires long { length marks.old ≡ length given.now.first.columns.items }
-    requires clean { AreClean (number_in_row given.now (seen_of row.now) given.now.first.rows) marks.old }
-    ensures long { length marks.new ≡ length marks.old }
-    ensures clean { AreClean (number_in_row given.now (seen_of row.now) given.now.first.rows) marks.new }
+pub fn least_negative(given: &Given, row: &TableRow, marks: &mut Marks) -> Found<usize>
+    requires long { length marks.old.words.items ≡ suc (length given.now.first.columns.items / 64) }
+    requires clean { AreClean (number_in_row given.now (seen_of row.now) given.now.first.rows)
+        (length given.now.first.columns.items) marks.old.words.items }
+    ensures long { length marks.new.words.items ≡ length marks.old.words.items }
+    ensures clean { AreClean (number_in_row given.now (seen_of row.now) given.now.first.rows)
+        (length given.now.first.columns.items) marks.new.words.items }
     ensures value { TellsFound result (least_negative (number_in_row given.now (seen_of row.now) given.now.first.rows)
         (length given.now.first.columns.items)) }
     ensures below { IfFound result (λ j. j < length given.now.first.columns.items) }
 {
-    for j in 0..marks.len() {
-        if marks[j] == 0 {
-            continue;
-        }
+    let end = given.first.columns.len();
+    let mut j = marks.next(0, end);
+    while j < end {
         match number_of(given, row, given.first.rows, j) {
             Some(number) => if number < 0 {
                 return Found::This(j);
             },
             None => return Found::GaveUp,
         }
-        marks[j] = 0;
+        marks.remove(j);
+        j = marks.next(j + 1, end);
     }
     Found::Nothing
 }

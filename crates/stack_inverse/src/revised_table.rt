@@ -1,6 +1,6 @@
 //! The table of a run by its artificial columns.
 
-ghost use Rattle.std.specs.Prelude.{◌≡◌, ℕ, suc, ◌+◌, ◌<◌, length, get_or, IfOk};
+ghost use Rattle.std.specs.Prelude.{◌≡◌, ℕ, suc, ◌+◌, ◌<◌, ◌/◌, length, get_or, IfOk};
 ghost use Rattle.stack_rational.specs.Laws.{widest};
 ghost use Rattle.stack_table.specs.Table.{plain, columns};
 ghost use Rattle.stack_table.specs.Block.{shape_of};
@@ -16,7 +16,7 @@ use crate::building::given_of;
 use crate::filling::{fill, first_basics, rows_of, zeros};
 use crate::given::Given;
 use crate::making::{enter_column, number_of};
-use crate::marks::{least_negative, mark_column, marks_of, set_marks, uses_of};
+use crate::marks::{Marks, least_negative, mark_column, uses_of};
 use crate::objective::{clear_row, factor_row, set_only};
 use crate::pivoting::{pivot_rows, put_row};
 use crate::remarking::{first_places, mark_on};
@@ -53,13 +53,13 @@ pub struct RevisedTable {
     /// Room for the numbers of the entering column, row by row.
     entered: Vec<i128>,
     /// For each artificial column a list of marks: a row without one has nothing there.
-    places: Vec<Vec<u8>>,
+    places: Vec<Marks>,
     /// For each row a list of marks: a plain column without one has no number there.
-    uses: Vec<Vec<u8>>,
+    uses: Vec<Marks>,
     /// Room for a mark of each row.
-    touched: Vec<u8>,
+    touched: Marks,
     /// Marks of plain columns: in one without a mark the objective row isn't negative.
-    open: Vec<u8>,
+    open: Marks,
     /// The least plain column in which it is.
     least: Found<usize>,
     contacts: usize,
@@ -71,14 +71,15 @@ pub struct RevisedTable {
     ghost room: { length pivot.row.numbers.items ≡ suc given.first.rows },
     ghost one_number: { length entered.items ≡ suc given.first.rows },
     ghost places_long: { length places.items ≡ given.first.rows },
-    ghost places_wide: { IsWide places.items (suc given.first.rows) },
+    ghost places_wide: { IsWide places.items (suc (suc given.first.rows / 64)) },
     ghost told: { ArePlaces places.items given.first.rows (seen_at rows.items) },
     ghost uses_long: { length uses.items ≡ given.first.rows },
-    ghost uses_wide: { IsWide uses.items (length given.first.columns.items) },
+    ghost uses_wide: { IsWide uses.items (suc (length given.first.columns.items / 64)) },
     ghost used: { AreUses uses.items given.first.columns.items } by { Prim.hlevel props },
-    ghost touched_long: { length touched.items ≡ suc given.first.rows },
-    ghost open_long: { length open.items ≡ length given.first.columns.items },
-    ghost clean: { AreClean (number_in_row given (seen_at rows.items given.first.rows) given.first.rows) open.items },
+    ghost touched_long: { length touched.words.items ≡ suc (suc given.first.rows / 64) },
+    ghost open_long: { length open.words.items ≡ suc (length given.first.columns.items / 64) },
+    ghost clean: { AreClean (number_in_row given (seen_at rows.items given.first.rows) given.first.rows)
+        (length given.first.columns.items) open.words.items },
     ghost found: { TellsFound least (least_negative (number_in_row given (seen_at rows.items given.first.rows)
         given.first.rows) (length given.first.columns.items)) } by { TellsFound-prop _ _ },
     ghost found_below: { IfFound least (λ j. j < length given.first.columns.items) } by { below_prop _ _ },
@@ -121,10 +122,11 @@ impl RevisedTable {
             p.right.as_slice(),
         )?;
         let places = first_places(alloc, p.rows, p.rows + 1)?;
-        let uses = uses_of(alloc, given.first.columns.as_slice(), p.rows)?;
-        let touched = marks_of(alloc, 0, p.rows + 1)?;
-        let mut open = marks_of(alloc, 1, given.first.columns.len())?;
-        let least = least_negative(&given, &rows[p.rows], open.as_mut_slice());
+        let uses = uses_of(alloc, &given.first)?;
+        let touched = Marks::none(alloc, p.rows + 1)?;
+        let mut open = Marks::none(alloc, given.first.columns.len())?;
+        open.fill();
+        let least = least_negative(&given, &rows[p.rows], &mut open);
         Ok(RevisedTable {
             given,
             rows,
@@ -195,12 +197,12 @@ impl RevisedTable {
         mark_column(
             self.places.as_slice(),
             self.given.first.columns[column].cells.as_slice(),
-            self.touched.as_mut_slice(),
+            &mut self.touched,
         );
         enter_column(
             &self.given,
             self.rows.as_slice(),
-            self.touched.as_slice(),
+            &self.touched,
             self.entered.as_mut_slice(),
             column,
         )
@@ -285,13 +287,13 @@ impl RevisedTable {
             done.is_ok(),
             self.places.as_mut_slice(),
             self.uses.as_slice(),
-            self.touched.as_mut_slice(),
-            self.open.as_mut_slice(),
+            &mut self.touched,
+            &mut self.open,
             self.rows[row].row.numbers.as_slice(),
             self.entered.as_slice(),
         );
         let last = self.given.first.rows;
-        self.least = least_negative(&self.given, &self.rows[last], self.open.as_mut_slice());
+        self.least = least_negative(&self.given, &self.rows[last], &mut self.open);
         done
     }
 
@@ -306,8 +308,8 @@ impl RevisedTable {
         clear_row(self.given.own.as_mut_slice());
         self.given.own_top = 0;
         put_row(self.rows.as_mut_slice(), last, self.entered.as_slice(), 1);
-        set_marks(self.open.as_mut_slice(), 1);
-        self.least = least_negative(&self.given, &self.rows[last], self.open.as_mut_slice());
+        self.open.fill();
+        self.least = least_negative(&self.given, &self.rows[last], &mut self.open);
     }
 
     /// Sets the objective row to that of the factor: the row in which it is basic without its own cell, and where it
@@ -336,8 +338,8 @@ impl RevisedTable {
             self.entered.as_slice(),
             under,
         );
-        set_marks(self.open.as_mut_slice(), 1);
-        self.least = least_negative(&self.given, &self.rows[last], self.open.as_mut_slice());
+        self.open.fill();
+        self.least = least_negative(&self.given, &self.rows[last], &mut self.open);
         Some(())
     }
 }

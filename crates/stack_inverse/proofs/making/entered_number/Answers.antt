@@ -7,4 +7,4 @@ returns-then-i-given c =
     let row = c.args.row.now.row in
     nothing_made f.rows f.columns.items c.args.given.now.own.items row.numbers.items row.under c.args.i c.args.j
     c.if-i-given.true c.requires.column_in (f.first.rising c.args.j c.requires.column_in)
-    (c.requires.nothing c.if-i-given.true c.if-mark-eq0.true)
+    (c.requires.nothing c.if-i-given.true c.if-not-mark.true)

@@ -1,4 +1,4 @@
-use Rattle.std.proofs.Common.{◌≡◌, ℕ, ◌<◌, false}
+use Rattle.std.proofs.Common.{◌≡◌, ℕ, ◌-◌, ◌<◌, ◌≤◌, length, false}
 use Rattle.stack_algebra.specs.Ordered.{sign_of}
 use Rattle.stack_bland.specs.Choice.{is_negative_sign}
 use Rattle.stack_inverse.specs.RowsSeen.{seen_of, number_in_row}
@@ -7,7 +7,13 @@ use Rattle.stack_inverse.proofs.marks.least_negative.Given as goal
 
 abbrev pub invariant-loop-j : goal.invariant-loop-j
 invariant-loop-j l = record {
-  clean : AreClean (number_in_row l.given (seen_of l.row) l.given.first.rows) l.marks;
+  long : length l.marks.words.items ≡ length l.fn.marks.words.items;
+  clean : AreClean (number_in_row l.given (seen_of l.row) l.given.first.rows) (length l.given.first.columns.items)
+      l.marks.words.items;
+  within : l.j ≤ l.end;
   none : (k : ℕ) → k < l.j →
       is_negative_sign (sign_of (number_in_row l.given (seen_of l.row) l.given.first.rows k)) ≡ false;
 }
+
+abbrev pub decreases-loop-j : goal.decreases-loop-j
+decreases-loop-j l = l.end - l.j

@@ -1,13 +1,15 @@
-use Rattle.std.proofs.Common.{sym, subst, ◌∙◌, ℕ, List, Vec, length}
-use Rattle.std.specs.declared.alloc.Global.{Global}
-use Rattle.stack_rational.proofs.Common.{with_items_is}
-use Rattle.stack_inverse.specs.Marks.{IsWide}
+use Rattle.std.proofs.Common.{◌<◌, sym, ap, subst₂, ◌∙◌, ℕ, List, length, arith}
+use Rattle.std.specs.List.{AllByRecursion}
+use Rattle.stack_inverse.specs.declared.columns.FirstColumn.{FirstColumn}
+use Rattle.stack_inverse.specs.Columns.{cells_at}
+use Rattle.stack_inverse.proofs.Entered.{rises_of, cells_below}
 use Rattle.stack_inverse.proofs.marks.uses_of.Goals as goal
 
-pub returns-then-are_marked-clause-wide : goal.returns-then-are_marked-clause-wide
-returns-then-are_marked-clause-wide c =
-    let lent = c.as_mut_slice.ensures in
-    let w = length c.args.columns.now in
-    let IsAll = λ (us : List (Vec ℕ Global)). IsWide us w in
-    subst IsAll (sym (with_items_is c.in_ok-uses.uses c.mark_uses.new.uses (c.mark_uses.ensures.long ∙ lent.len)))
-    (c.mark_uses.ensures.wide w (subst IsAll (sym lent.value) c.in_ok-uses.ensures.wide))
+pub mark_uses-requires-clause-rows : goal.mark_uses-requires-clause-rows
+mark_uses-requires-clause-rows c = λ j l.
+    let f = c.args.first.now in
+    let columns = c.as_slice.ensures.value in
+    subst₂ (λ (n : ℕ) (cs : List FirstColumn). AllByRecursion (λ x. x.row < n) (cells_at cs j))
+    (sym (ap length c.as_mut_slice.ensures.value ∙ c.in_ok-uses.ensures.long)) (sym columns)
+    (cells_below f.rows 0 (cells_at f.columns.items j)
+    (rises_of f.rows 0 _ (f.first.rising j (omega (arith, l, ap length columns)))))

@@ -3,7 +3,7 @@ use Rattle.stack_rational.proofs.Common.{with_items, of}
 use Rattle.stack_rows.specs.RowForm.{number_at}
 use Rattle.stack_inverse.specs.Columns.{RowSeen}
 use Rattle.stack_inverse.proofs.PutRow.{written, written_long}
-use Rattle.stack_inverse.proofs.LeastNegative.{clean_written, least_lent}
+use Rattle.stack_inverse.proofs.LeastNegative.{clean_lent, least_lent}
 use Rattle.stack_inverse.proofs.ObjectivePut.{HaveObjective, objective_written, zero_row_is}
 use Rattle.stack_inverse.proofs.revised_table.RevisedTable.clear_objective.Goals as goal
 use Rattle.stack_inverse.proofs.revised_table.RevisedTable.clear_objective.Goals.{After-put_row}
@@ -49,11 +49,11 @@ invariant_of-self-3-clause-told c = λ i r l b z.
 pub invariant_of-self-3-clause-clean : goal.invariant_of-self-3-clause-clean
 invariant_of-self-3-clause-clean c =
     let s = c.args.self.now in
-    clean_written s.given.first.rows s.given.first.columns.items (with_items s.given.own c.clear_row-2.new.row).items
+    clean_lent s.given.first.rows s.given.first.columns.items (with_items s.given.own c.clear_row-2.new.row).items
     (with_items s.rows c.put_row.new.rows).items c.index.result.now
     (put (goal.at.invariant_of-self-3-clause-clean c).After-put_row).height c.index.ensures
-    (with_items s.«open» c.set_marks.new.marks) c.least_negative-self.new.marks c.as_mut_slice-5.ensures.value
-    c.least_negative-self.auto.marks c.least_negative-self.ensures.clean
+    (length s.given.first.columns.items) c.least_negative-self.new.marks.words.items
+    c.least_negative-self.ensures.clean
 
 pub invariant_of-self-3-clause-found : goal.invariant_of-self-3-clause-found
 invariant_of-self-3-clause-found c =
@@ -64,8 +64,5 @@ invariant_of-self-3-clause-found c =
     (length s.given.first.columns.items) c.least_negative-self.ensures.value
 
 pub invariant_of-self-3-clause-open_long : goal.invariant_of-self-3-clause-open_long
-invariant_of-self-3-clause-open_long c =
-    let s = c.args.self.now in
-    written_long (with_items s.«open» c.set_marks.new.marks) c.least_negative-self.new.marks
-    c.as_mut_slice-5.ensures.value c.least_negative-self.auto.marks
-    ∙ written_long s.«open» c.set_marks.new.marks c.as_mut_slice-4.ensures.value c.set_marks.auto.marks ∙ s.open_long
+invariant_of-self-3-clause-open_long c = c.least_negative-self.ensures.long ∙ c.fill.ensures.long
+    ∙ c.args.self.now.open_long

@@ -1,10 +1,10 @@
-use Rattle.std.proofs.Common.{◌≡◌, sym, ap, subst, subst₂, ◌∙◌, ℕ, ◌<◌, ◌≤◌, List, Vec, length, get_or, arith, ℤ, pos}
+use Rattle.std.proofs.Common.{◌≡◌, sym, ap, subst, subst₂, ◌∙◌, ℕ, ◌<◌, ◌≤◌, List, length, arith, ℤ, pos}
 use Rattle.std.proofs.Common.{unsigned_abs}
-use Rattle.std.specs.declared.alloc.Global.{Global}
 use Rattle.std.specs.List.{AllByRecursion}
 use Rattle.stack_rational.proofs.Common.{widest}
 use Rattle.stack_rows.specs.RowForm.{number_at}
 use Rattle.stack_inverse.specs.declared.columns.Cell.{Cell}
+use Rattle.stack_inverse.specs.declared.marks.Marks.{Marks}
 use Rattle.stack_inverse.specs.declared.row.TableRow.{TableRow}
 use Rattle.stack_inverse.specs.Columns.{cells_at, AreEntered}
 use Rattle.stack_inverse.specs.RowsSeen.{seen_at}
@@ -13,43 +13,33 @@ use Rattle.stack_inverse.proofs.Entered.{rises_of, cells_below, cells_have}
 use Rattle.stack_inverse.proofs.Made.{cells_of, all_three}
 use Rattle.stack_inverse.proofs.PutRow.{written}
 use Rattle.stack_inverse.proofs.revised_table.RevisedTable.enter.Goals as goal
-use Rattle.stack_inverse.proofs.revised_table.RevisedTable.enter.Goals.{After-as_mut_slice}
-
-module _ (c : After-as_mut_slice) where
-  lt : c.args.column < length c.args.self.now.given.first.columns.items
-  lt = omega (arith, c.requires, c.args.self.now.plain_count)
-
-  -- the cells of the column that are lent
-  cells : c.as_slice-2.result.now ≡ cells_at c.args.self.now.given.first.columns.items c.args.column
-  cells = c.as_slice-2.ensures.value
-      ∙ cells_of c.args.self.now.given.first.columns.items c.args.column c.index.result.now lt c.index.ensures
 
 pub mark_column-requires-clause-rows : goal.mark_column-requires-clause-rows
 mark_column-requires-clause-rows c =
     let s = c.args.self.now in
     let f = s.given.first in
-    let at = (goal.at.mark_column-requires-clause-rows c).After-as_mut_slice in
     let j = c.args.column in
+    let lt : j < length f.columns.items = omega (arith, c.requires, s.plain_count) in
+    let cells = c.as_slice-2.ensures.value ∙ cells_of f.columns.items j c.index.result.now lt c.index.ensures in
     subst₂ (λ (n : ℕ) (xs : List Cell). AllByRecursion (λ x. x.row < n) xs)
-    (sym (ap length c.as_slice.ensures.value ∙ s.places_long)) (sym (cells at))
-    (cells_below f.rows 0 (cells_at f.columns.items j) (rises_of f.rows 0 _ (f.first.rising j (lt at))))
+    (sym (ap length c.as_slice.ensures.value ∙ s.places_long)) (sym cells)
+    (cells_below f.rows 0 (cells_at f.columns.items j) (rises_of f.rows 0 _ (f.first.rising j lt)))
 
 pub enter_column-requires-clause-nothing : goal.enter_column-requires-clause-nothing
 enter_column-requires-clause-nothing c = λ i l z.
     let s = c.args.self.now in
     let f = s.given.first in
-    let at = (goal.at.enter_column-requires-clause-nothing c).After-as_mut_slice in
     let j = c.args.column in
-    let marks = c.as_slice-4.ensures.value
-    ∙ written s.touched c.mark_column.new.marks c.as_mut_slice.ensures.value c.mark_column.auto.marks in
-    let all = c.mark_column.ensures.nothing i (ap (λ (xs : List ℕ). get_or xs i 0) (sym marks) ∙ z) in
+    let lt : j < length f.columns.items = omega (arith, c.requires, s.plain_count) in
+    let cells = c.as_slice-2.ensures.value ∙ cells_of f.columns.items j c.index.result.now lt c.index.ensures in
+    let all = c.mark_column.ensures.nothing i z in
     cells_have f.rows 0 (cells_at f.columns.items j) (λ r. mark_at s.places.items r i ≡ 0)
     (λ r. number_at (seen_at c.as_slice-3.result.now i).numbers r ≡ pos 0)
-    (rises_of f.rows 0 _ (f.first.rising j (lt at)))
+    (rises_of f.rows 0 _ (f.first.rising j lt))
     (λ r b h. ap (λ (rs : List TableRow). number_at (seen_at rs i).numbers r) c.as_slice-3.ensures.value
     ∙ s.told i r l b h)
-    (subst₂ (λ (ls : List (Vec ℕ Global)) (xs : List Cell). AllByRecursion (λ x. mark_at ls x.row i ≡ 0) xs)
-    c.as_slice.ensures.value (cells at) all)
+    (subst₂ (λ (ls : List Marks) (xs : List Cell). AllByRecursion (λ x. mark_at ls x.row i ≡ 0) xs)
+    c.as_slice.ensures.value cells all)
 
 pub returns-clause-entered : goal.returns-clause-entered
 returns-clause-entered c =
@@ -57,7 +47,7 @@ returns-clause-entered c =
     let f = s.given.first in
     let told = c.enter_column.ensures in
     let rows = c.as_slice-3.ensures.value in
-    let is = sym (written s.entered c.enter_column.new.entered c.as_mut_slice-2.ensures.value
+    let is = sym (written s.entered c.enter_column.new.entered c.as_mut_slice.ensures.value
     c.enter_column.auto.entered) in
     all_three c.enter_column.result told.numbers told.fit told.right_fits (λ numbers fit right_fits. record {
       numbers = subst₂ (λ (rs : List TableRow) (xs : List ℤ). AreEntered f.rows f.columns.items s.given.own.items

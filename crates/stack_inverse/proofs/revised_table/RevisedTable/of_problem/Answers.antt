@@ -1,4 +1,4 @@
-use Rattle.std.proofs.Common.{◌≡◌, ◌<◌, ◌+◌, sym, ap, subst, ◌∙◌, ℕ, suc, List, length, cond, false, true, arith, ℤ}
+use Rattle.std.proofs.Common.{◌≡◌, ◌<◌, ◌+◌, sym, ap, subst, ◌∙◌, ℕ, suc, ◌/◌, List, length, cond, false, true, arith, ℤ}
 use Rattle.std.proofs.Common.{subst₂}
 use Rattle.stack_rational.proofs.Common.{with_items, ordered_fractions, changed}
 use Rattle.stack_table.specs.Table.{plain}
@@ -9,10 +9,9 @@ use Rattle.stack_inverse.specs.declared.row.TableRow.{TableRow}
 use Rattle.stack_inverse.specs.Columns.{HaveWidths, cells_at, rises, revised_cell}
 use Rattle.stack_inverse.specs.RowsSeen.{seen_at}
 use Rattle.stack_inverse.specs.FirstTable.{AreFilled}
-use Rattle.stack_inverse.specs.declared.columns.FirstColumn.{FirstColumn}
 use Rattle.stack_inverse.specs.Columns.{RowSeen}
 use Rattle.stack_inverse.specs.RowsSeen.{seen_of, number_in_row}
-use Rattle.stack_inverse.specs.Marks.{IsWide, ArePlaces, AreUses, AreClean, least_negative}
+use Rattle.stack_inverse.specs.Marks.{IsWide, ArePlaces, AreClean, least_negative}
 use Rattle.stack_bland.specs.Found.{TellsFound}
 use Rattle.stack_inverse.proofs.PutRow.{written, written_long, seen_past, seen_get}
 use Rattle.stack_inverse.proofs.PlacesKept.{first_told}
@@ -52,20 +51,18 @@ invariant_of-result c =
       one_number = written_long c.in_ok-entered.entered c.fill.new.numbers c.as_mut_slice-2.ensures.value
           c.fill.auto.numbers ∙ c.in_ok-entered.ensures ∙ tall;
       places_long = c.in_ok-places.ensures.long ∙ sym few;
-      places_wide = subst (λ w. IsWide c.in_ok-places.places.items w) tall c.in_ok-places.ensures.wide;
+      places_wide = subst (λ w. IsWide c.in_ok-places.places.items (suc (w / 64))) tall c.in_ok-places.ensures.wide;
       told = subst₂ (λ (m : ℕ) (rs : List TableRow). ArePlaces c.in_ok-places.places.items m (seen_at rs)) (sym few) is
           (first_told P.rows P.right.items (seen_at new) c.in_ok-places.places.items filled
-          (λ r l. c.in_ok-places.ensures.diagonal r l (omega (arith, l))));
-      uses_long = c.in_ok-uses.ensures.long ∙ sym few;
-      uses_wide = subst (λ (cs : List FirstColumn). IsWide c.in_ok-uses.uses.items (length cs))
-          c.as_slice-2.ensures.value c.in_ok-uses.ensures.wide;
-      used = subst (λ cs. AreUses c.in_ok-uses.uses.items cs) c.as_slice-2.ensures.value c.in_ok-uses.ensures.uses;
-      touched_long = c.in_ok-touched.ensures.long ∙ tall;
-      open_long = written_long c.in_ok-open.«open» c.least_negative-least.new.marks c.as_mut_slice-3.ensures.value
-          c.least_negative-least.auto.marks ∙ c.in_ok-open.ensures.long ∙ c.len-2.ensures ∙ G.first.columns.ok.0;
-      clean = subst₂ (λ (x : RowSeen) (ms : List ℕ). AreClean (number_in_row G x G.first.rows) ms) last
-          (sym (written c.in_ok-open.«open» c.least_negative-least.new.marks c.as_mut_slice-3.ensures.value
-          c.least_negative-least.auto.marks)) c.least_negative-least.ensures.clean;
+          c.in_ok-places.ensures.diagonal);
+      uses_long = c.in_ok-uses.ensures.long;
+      uses_wide = c.in_ok-uses.ensures.wide;
+      used = c.in_ok-uses.ensures.uses;
+      touched_long = c.in_ok-touched.ensures ∙ ap (λ w. suc (w / 64)) tall;
+      open_long = c.least_negative-least.ensures.long ∙ c.fill-2.ensures.long ∙ c.in_ok-open.ensures
+          ∙ ap (λ w. suc (w / 64)) (c.len-2.ensures ∙ G.first.columns.ok.0);
+      clean = subst (λ (x : RowSeen). AreClean (number_in_row G x G.first.rows) (length G.first.columns.items)
+          c.least_negative-least.new.marks.words.items) last c.least_negative-least.ensures.clean;
       found = subst (λ (x : RowSeen). TellsFound c.least_negative-least.result (least_negative (number_in_row G x
           G.first.rows) (length G.first.columns.items))) last c.least_negative-least.ensures.value;
       found_below = c.least_negative-least.ensures.below;

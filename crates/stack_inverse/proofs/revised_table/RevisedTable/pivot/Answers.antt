@@ -1,4 +1,4 @@
-use Rattle.std.proofs.Common.{◌≡◌, sym, ap, subst, subst₂, ◌∙◌, ℕ, suc, ◌+◌, ◌<◌, ◌⊎◌, inl, inr, true, false}
+use Rattle.std.proofs.Common.{◌≡◌, refl, sym, ap, subst, subst₂, ◌∙◌, ℕ, suc, ◌+◌, ◌<◌, ◌⊎◌, inl, inr, true, false}
 use Rattle.std.proofs.Common.{List, length, get_or, set, length-set, None, OnOk, IfErr, pos, arith}
 use Rattle.std.proofs.lemmas.Result.{on_ok_weaker}
 use Rattle.stack_rational.proofs.Common.{with_items, Fraction, changed, next, ordered_fractions, is_too_wide, widest}
@@ -16,7 +16,7 @@ use Rattle.stack_inverse.proofs.PutRow.{written, written_long, under_positive, s
 use Rattle.stack_inverse.proofs.PlacesKept.{places_kept, marked_on_same, full_places, full_columns, done_or_not}
 use Rattle.stack_inverse.proofs.OpenColumns.{columns_kept}
 use Rattle.stack_inverse.proofs.Steps.{zero_cell}
-use Rattle.stack_inverse.proofs.LeastNegative.{clean_written, least_lent}
+use Rattle.stack_inverse.proofs.LeastNegative.{clean_lent, least_lent}
 use Rattle.stack_table.proofs.Basics.{basic_changed, basic_below}
 use Rattle.stack_inverse.proofs.revised_table.RevisedTable.pivot.Goals as goal
 use Rattle.stack_inverse.proofs.revised_table.RevisedTable.pivot.Goals.{After-pivot_rows-done, After-mark_on}
@@ -96,14 +96,11 @@ returns-clause-ok c =
       basic = λ i. basics i z;
     })
 
--- the lists and the marks after the pivot
+-- the lists after the pivot
 places_are : (c : After-mark_on) → (with_items c.args.self.now.places c.mark_on.new.places).items
     ≡ c.mark_on.new.places
 places_are c = written c.args.self.now.places c.mark_on.new.places c.as_mut_slice-2.ensures.value
     c.mark_on.auto.places
-
-marks_are : (c : After-mark_on) → (with_items c.args.self.now.«open» c.mark_on.new.«open»).items ≡ c.mark_on.new.«open»
-marks_are c = written c.args.self.now.«open» c.mark_on.new.«open» c.as_mut_slice-4.ensures.value c.mark_on.auto.«open»
 
 -- the rows after the pivot
 abbrev after : (c : After-mark_on) → ℕ → RowSeen
@@ -118,20 +115,14 @@ rows_long c =
 places_long : (c : After-mark_on) → length c.mark_on.new.places ≡ c.args.self.now.given.first.rows
 places_long c = c.mark_on.auto.places ∙ ap length c.as_mut_slice-2.ensures.value ∙ c.args.self.now.places_long
 
-marks_long : (c : After-mark_on) → length c.mark_on.new.«open» ≡ length c.args.self.now.given.first.columns.items
-marks_long c = c.mark_on.auto.«open» ∙ ap length c.as_mut_slice-4.ensures.value ∙ c.args.self.now.open_long
-
-touched_long : (c : After-mark_on) → length c.as_mut_slice-3.result.now ≡ suc c.args.self.now.given.first.rows
-touched_long c = ap length c.as_mut_slice-3.ensures.value ∙ c.args.self.now.touched_long
-
 -- where the pivot was done, marks go on
 marked_on : (c : After-mark_on) → c.is_ok.result ≡ true → AreMarkedOn c.args.self.now.places.items
-    c.args.self.now.uses.items c.args.self.now.«open».items (after c c.args.row).numbers c.args.self.now.entered.items
-    c.mark_on.new.places c.mark_on.new.«open»
+    c.args.self.now.uses.items c.args.self.now.«open».words.items (after c c.args.row).numbers c.args.self.now.entered.items
+    c.mark_on.new.places c.mark_on.new.«open».words.items
 marked_on c e =
     let rows = (with_items c.args.self.now.rows c.pivot_rows-done.new.rows).items in
     let lt : c.args.row < length rows = omega (arith, rows_long c, c.requires.row_in) in
-    marked_on_same c.as_mut_slice-2.ensures.value c.as_slice-2.ensures.value c.as_mut_slice-4.ensures.value
+    marked_on_same c.as_mut_slice-2.ensures.value c.as_slice-2.ensures.value refl
     (c.as_slice-3.ensures.value ∙ ap (λ (x : RowSeen). x.numbers) (seen_get rows c.args.row c.index.result.now lt
     c.index.ensures)) c.as_slice-4.ensures.value (c.mark_on.ensures.done e)
 
@@ -158,14 +149,15 @@ told c =
       | inl p ↦ places_kept m s.given.first.columns.items s.given.own.items (seen_at s.rows.items) (after c) c.args.row
           c.args.column (under_positive s.rows.items)
           (under_positive (with_items s.rows c.pivot_rows-done.new.rows).items) p.1 s.places.items s.uses.items
-          c.mark_on.new.places s.«open».items c.mark_on.new.«open» s.entered.items (marked_on c p.0) s.places_long
+          c.mark_on.new.places s.«open».words.items c.mark_on.new.«open».words.items s.entered.items (marked_on c p.0) s.places_long
           c.requires.entered.numbers s.told
-      | inr e ↦ full_places m (length c.as_mut_slice-3.result.now) c.mark_on.new.places c.mark_on.new.«open» (after c)
-          (c.mark_on.ensures.full e) (places_long c) (omega (arith, touched_long c))
+      | inr e ↦ full_places m (length s.touched.words.items) c.mark_on.new.places c.mark_on.new.«open».words.items
+          (after c) (c.mark_on.ensures.full e) (places_long c) (omega (arith, s.touched_long))
     ]
 
 clean : (c : After-mark_on) → AreClean (number_in_row c.args.self.now.given
-    (after c c.args.self.now.given.first.rows) c.args.self.now.given.first.rows) c.mark_on.new.«open»
+    (after c c.args.self.now.given.first.rows) c.args.self.now.given.first.rows)
+    (length c.args.self.now.given.first.columns.items) c.mark_on.new.«open».words.items
 clean c =
     let s = c.args.self.now in
     let m = s.given.first.rows in
@@ -173,10 +165,11 @@ clean c =
       | inl p ↦ columns_kept m s.given.first.columns.items s.given.own.items (seen_at s.rows.items) (after c)
           c.args.row c.args.column c.requires.row_in (under_positive s.rows.items)
           (under_positive (with_items s.rows c.pivot_rows-done.new.rows).items) s.given.first.first.rising p.1
-          s.places.items s.uses.items c.mark_on.new.places s.«open».items c.mark_on.new.«open» s.entered.items
-          (marked_on c p.0) s.uses_long s.open_long (marks_long c) s.used s.clean
-      | inr e ↦ full_columns (length c.as_mut_slice-3.result.now) c.mark_on.new.places c.mark_on.new.«open»
-          (number_in_row s.given (after c m) m) (c.mark_on.ensures.full e)
+          s.places.items s.uses.items c.mark_on.new.places s.«open».words.items c.mark_on.new.«open».words.items s.entered.items
+          (marked_on c p.0) s.uses_long s.used s.clean
+      | inr e ↦ full_columns (length s.given.first.columns.items) (length s.touched.words.items) c.mark_on.new.places
+          c.mark_on.new.«open».words.items (number_in_row s.given (after c m) m) (c.mark_on.ensures.full e)
+          (omega (arith, c.mark_on.ensures.marks, s.open_long))
     ]
 
 pub least_negative-self-requires-clause-clean : goal.least_negative-self-requires-clause-clean
@@ -184,9 +177,10 @@ least_negative-self-requires-clause-clean c =
     let s = c.args.self.now in
     let m = s.given.first.rows in
     let at = (goal.at.least_negative-self-requires-clause-clean c).After-mark_on in
-    subst₂ (λ (x : RowSeen) (ms : List ℕ). AreClean (number_in_row s.given x m) ms)
+    subst (λ (x : RowSeen). AreClean (number_in_row s.given x m) (length s.given.first.columns.items)
+    c.mark_on.new.«open».words.items)
     (sym (seen_get (with_items s.rows c.pivot_rows-done.new.rows).items m c.index-2.result.now
-    (omega (arith, rows_long at)) c.index-2.ensures)) (sym (c.as_mut_slice-5.ensures.value ∙ marks_are at)) (clean at)
+    (omega (arith, rows_long at)) c.index-2.ensures)) (clean at)
 
 pub invariant_of-self-clause-told : goal.invariant_of-self-clause-told
 invariant_of-self-clause-told c =
@@ -202,7 +196,7 @@ invariant_of-self-clause-places_long c =
 pub invariant_of-self-clause-places_wide : goal.invariant_of-self-clause-places_wide
 invariant_of-self-clause-places_wide c =
     let at = (goal.at.invariant_of-self-clause-places_wide c).After-mark_on in
-    subst₂ (λ ls w. IsWide ls w) (sym (places_are at)) (touched_long at) c.mark_on.ensures.wide
+    subst₂ (λ ls w. IsWide ls w) (sym (places_are at)) c.args.self.now.touched_long c.mark_on.ensures.wide
 
 pub invariant_of-self-clause-uses_wide : goal.invariant_of-self-clause-uses_wide
 invariant_of-self-clause-uses_wide c = c.args.self.now.uses_wide
@@ -211,24 +205,20 @@ pub invariant_of-self-clause-used : goal.invariant_of-self-clause-used
 invariant_of-self-clause-used c = c.args.self.now.used
 
 pub invariant_of-self-clause-touched_long : goal.invariant_of-self-clause-touched_long
-invariant_of-self-clause-touched_long c =
-    let s = c.args.self.now in
-    written_long s.touched c.mark_on.new.touched c.as_mut_slice-3.ensures.value c.mark_on.auto.touched ∙ s.touched_long
+invariant_of-self-clause-touched_long c = c.mark_on.ensures.touched ∙ c.args.self.now.touched_long
 
 pub invariant_of-self-clause-open_long : goal.invariant_of-self-clause-open_long
-invariant_of-self-clause-open_long c =
-    let at = (goal.at.invariant_of-self-clause-open_long c).After-mark_on in
-    written_long (with_items c.args.self.now.«open» c.mark_on.new.«open») c.least_negative-self.new.marks
-    c.as_mut_slice-5.ensures.value c.least_negative-self.auto.marks ∙ ap length (marks_are at) ∙ marks_long at
+invariant_of-self-clause-open_long c = c.least_negative-self.ensures.long ∙ c.mark_on.ensures.marks
+    ∙ c.args.self.now.open_long
 
 pub invariant_of-self-clause-clean : goal.invariant_of-self-clause-clean
 invariant_of-self-clause-clean c =
     let s = c.args.self.now in
     let at = (goal.at.invariant_of-self-clause-clean c).After-mark_on in
-    clean_written s.given.first.rows s.given.first.columns.items s.given.own.items
+    clean_lent s.given.first.rows s.given.first.columns.items s.given.own.items
     (with_items s.rows c.pivot_rows-done.new.rows).items c.index-2.result.now (rows_long at) c.index-2.ensures
-    (with_items s.«open» c.mark_on.new.«open») c.least_negative-self.new.marks c.as_mut_slice-5.ensures.value
-    c.least_negative-self.auto.marks c.least_negative-self.ensures.clean
+    (length s.given.first.columns.items) c.least_negative-self.new.marks.words.items
+    c.least_negative-self.ensures.clean
 
 pub invariant_of-self-clause-found : goal.invariant_of-self-clause-found
 invariant_of-self-clause-found c =

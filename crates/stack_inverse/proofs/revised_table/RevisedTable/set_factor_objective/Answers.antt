@@ -8,7 +8,7 @@ use Rattle.stack_inverse.specs.declared.row.TableRow.{TableRow}
 use Rattle.stack_inverse.specs.Columns.{IsFactorRow, RowSeen, revised_cell}
 use Rattle.stack_inverse.specs.RowsSeen.{seen_at}
 use Rattle.stack_inverse.proofs.PutRow.{written, written_long, under_positive}
-use Rattle.stack_inverse.proofs.LeastNegative.{clean_written, least_lent}
+use Rattle.stack_inverse.proofs.LeastNegative.{clean_lent, least_lent}
 use Rattle.stack_inverse.proofs.ObjectivePut.{HaveObjective, objective_written, factor_is, found_below}
 use Rattle.stack_inverse.proofs.revised_table.RevisedTable.set_factor_objective.Goals as goal
 use Rattle.stack_inverse.proofs.revised_table.RevisedTable.set_factor_objective.Goals.{After-put_row}
@@ -80,20 +80,17 @@ invariant_of-self-5-clause-told c = λ i r l b z.
     ap (λ (s : RowSeen). number_at s.numbers r) ((put at).same i l) ∙ c.args.self.now.told i r l b z
 
 pub invariant_of-self-5-clause-open_long : goal.invariant_of-self-5-clause-open_long
-invariant_of-self-5-clause-open_long c =
-    let s = c.args.self.now in
-    written_long (with_items s.«open» c.set_marks.new.marks) c.least_negative-self.new.marks
-    c.as_mut_slice-6.ensures.value c.least_negative-self.auto.marks
-    ∙ written_long s.«open» c.set_marks.new.marks c.as_mut_slice-5.ensures.value c.set_marks.auto.marks ∙ s.open_long
+invariant_of-self-5-clause-open_long c = c.least_negative-self.ensures.long ∙ c.fill.ensures.long
+    ∙ c.args.self.now.open_long
 
 pub invariant_of-self-5-clause-clean : goal.invariant_of-self-5-clause-clean
 invariant_of-self-5-clause-clean c =
     let s = c.args.self.now in
     let at = (goal.at.invariant_of-self-5-clause-clean c).After-put_row in
-    clean_written s.given.first.rows s.given.first.columns.items (own at)
+    clean_lent s.given.first.rows s.given.first.columns.items (own at)
     (with_items s.rows c.put_row.new.rows).items c.index.result.now (put at).height c.index.ensures
-    (with_items s.«open» c.set_marks.new.marks) c.least_negative-self.new.marks c.as_mut_slice-6.ensures.value
-    c.least_negative-self.auto.marks c.least_negative-self.ensures.clean
+    (length s.given.first.columns.items) c.least_negative-self.new.marks.words.items
+    c.least_negative-self.ensures.clean
 
 pub invariant_of-self-5-clause-found : goal.invariant_of-self-5-clause-found
 invariant_of-self-5-clause-found c =

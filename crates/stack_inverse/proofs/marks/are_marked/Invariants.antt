@@ -1,9 +1,0 @@
-use Rattle.std.proofs.Common.{◌≢◌, ℕ, ◌<◌}
-use Rattle.std.specs.List.{AllByRecursion}
-use Rattle.stack_inverse.specs.Columns.{cells_at}
-use Rattle.stack_inverse.specs.Marks.{mark_at}
-use Rattle.stack_inverse.proofs.marks.are_marked.Given as goal
-
-abbrev pub invariant-loop-j : goal.invariant-loop-j
-invariant-loop-j l = (k : ℕ) → k < l.j →
-    AllByRecursion (λ x. mark_at l.uses x.row k ≢ 0) (cells_at l.columns k)

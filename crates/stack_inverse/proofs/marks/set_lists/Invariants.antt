@@ -1,9 +1,0 @@
-use Rattle.std.proofs.Common.{◌≡◌, ℕ, ◌<◌}
-use Rattle.stack_inverse.specs.Marks.{mark_at, IsWide}
-use Rattle.stack_inverse.proofs.marks.set_lists.Given as goal
-
-abbrev pub invariant-loop-r : goal.invariant-loop-r
-invariant-loop-r l = record {
-  wide : (w : ℕ) → IsWide l.fn.lists w → IsWide l.lists w;
-  each : (w r i : ℕ) → IsWide l.fn.lists w → r < l.r → i < w → mark_at l.lists r i ≡ l.mark;
-}
