@@ -58,6 +58,7 @@ module _ (words : List ℕ) (j : ℕ) (lt : j / 64 < length words) (word : ℕ) 
   put_here = ap (λ w. bit_at w (j % 64)) (get_or-set_same words (j / 64) _ 0 lt)
       ∙ bit_at_set_same w64 word (j % 64) (omega arith)
 
+  -- and the others stay
   pub put_others : (i : ℕ) → i ≢ j →
       mark_in (set words (j / 64) (bit_or word (1 * 2 ^ (j % 64) % 2 ^ 64))) i ≡ mark_in words i
   put_others i n = others (bit_or word (1 * 2 ^ (j % 64) % 2 ^ 64)) i
