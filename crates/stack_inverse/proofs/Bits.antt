@@ -1,6 +1,6 @@
 -- Marks in words, a bit each.
-use Rattle.std.proofs.Common.{◌≡◌, ◌≢◌, refl, sym, ap, ◌∙◌, ℕ, ◌+◌, ◌-◌, ◌*◌, ◌/◌, ◌%◌, ◌^◌, ◌<◌, ◌≤◌, max, List, length, eqb, false}
-use Rattle.std.proofs.Common.{get_or, set, get_or-set_same, get_or-set_other, inl, inr, arith, w64}
+use Rattle.std.proofs.Common.{◌≡◌, ◌≢◌, refl, sym, ap, ◌∙◌, ℕ, ◌+◌, ◌-◌, ◌*◌, ◌/◌, ◌%◌, ◌^◌, ◌<◌, ◌≤◌, max, List}
+use Rattle.std.proofs.Common.{length, eqb, false, get_or, set, get_or-set_same, get_or-set_other, inl, inr, arith, w64}
 use Rattle.std.specs.Prelude.{bit_and, bit_or}
 use Rattle.std.specs.Int.{bit_at, bit_not}
 use Rattle.std.proofs.lemmas.Bool.{cases_lt, eqb-false}
@@ -58,6 +58,7 @@ module _ (words : List ℕ) (j : ℕ) (lt : j / 64 < length words) (word : ℕ) 
   put_here = ap (λ w. bit_at w (j % 64)) (get_or-set_same words (j / 64) _ 0 lt)
       ∙ bit_at_set_same w64 word (j % 64) (omega arith)
 
+  -- and the others stay
   pub put_others : (i : ℕ) → i ≢ j →
       mark_in (set words (j / 64) (bit_or word (1 * 2 ^ (j % 64) % 2 ^ 64))) i ≡ mark_in words i
   put_others i n = others (bit_or word (1 * 2 ^ (j % 64) % 2 ^ 64)) i

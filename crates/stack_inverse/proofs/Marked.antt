@@ -17,6 +17,7 @@ pub list_lent : (lists : List Marks) (r : ℕ) (d : Marks) → r < length lists 
     (get_or lists r d).words.items ≡ list_at lists r
 list_lent lists r d lt = sym (get_or-map words_of lists r d [] lt)
 
+-- and one that is read
 pub list_read : (lists : List Marks) (r : ℕ) (x : Marks) → r < length lists → x ≡ get_or lists r x →
     x.words.items ≡ list_at lists r
 list_read lists r x lt is = ap words_of is ∙ list_lent lists r x lt

@@ -57,15 +57,14 @@ module _ (m : ℕ) (columns : List FirstColumn) (own : List ℤ) (s t : ℕ → 
           (sym (e i (omega (arith, li))) ∙ k.joined q i (omega (arith, lq, few)) d z)) ∙ before
 
 -- the marks after a pivot, told of equal lists
-pub marked_on_same : {p p' u u' new_places : List Marks} {o o' new_marks : List ℕ} {w w' e e' : List ℤ} →
-    p ≡ p' → u ≡ u' → o ≡ o' → w ≡ w' → e ≡ e' → AreMarkedOn p u o w e new_places new_marks →
-    AreMarkedOn p' u' o' w' e' new_places new_marks
-marked_on_same {p} {p'} {u} {u'} {new_places} {o} {o'} {new_marks} {w} {w'} {e} {e'} hp hu ho hw he h =
-    subst (λ x. AreMarkedOn x u' o' w' e' new_places new_marks) hp
-    (subst (λ x. AreMarkedOn p x o' w' e' new_places new_marks) hu
-    (subst (λ x. AreMarkedOn p u x w' e' new_places new_marks) ho
+pub marked_on_same : {p p' u u' new_places : List Marks} {o new_marks : List ℕ} {w w' e e' : List ℤ} →
+    p ≡ p' → u ≡ u' → w ≡ w' → e ≡ e' → AreMarkedOn p u o w e new_places new_marks →
+    AreMarkedOn p' u' o w' e' new_places new_marks
+marked_on_same {p} {p'} {u} {u'} {new_places} {o} {new_marks} {w} {w'} {e} {e'} hp hu hw he h =
+    subst (λ x. AreMarkedOn x u' o w' e' new_places new_marks) hp
+    (subst (λ x. AreMarkedOn p x o w' e' new_places new_marks) hu
     (subst (λ x. AreMarkedOn p u o x e' new_places new_marks) hw
-    (subst (λ x. AreMarkedOn p u o w x new_places new_marks) he h))))
+    (subst (λ x. AreMarkedOn p u o w x new_places new_marks) he h)))
 
 -- where all is marked nothing is told
 pub full_places : (m w : ℕ) (places : List Marks) (marks : List ℕ) (t : ℕ → RowSeen) →

@@ -1,6 +1,6 @@
 //! Marks, a bit each: a place without a mark has nothing. They spare products with numbers that are 0.
 
-ghost use Rattle.std.specs.Prelude.{◌≡◌, ◌≢◌, ℕ, suc, ◌+◌, ◌<◌, ◌≤◌, ◌/◌, length, pos, min, max, false, IfOk};
+ghost use Rattle.std.specs.Prelude.{◌≡◌, ◌≢◌, ℕ, suc, ◌<◌, ◌≤◌, ◌/◌, length, IfOk};
 ghost use Rattle.std.specs.List.{AllByRecursion};
 ghost use Rattle.stack_rows.specs.RowForm.{number_at};
 ghost use Rattle.stack_bland.specs.Found.{TellsFound, IfFound};
@@ -17,19 +17,6 @@ use crate::stops::NoTable;
 use stack_bland::Found;
 use std::alloc::Global;
 
-/// A place some places after a first one, but none before `from` and none past the end.
-fn place_within(first: usize, after: usize, from: usize, end: usize) -> usize
-    requires { first ≤ end }
-    ensures { result ≡ max from (min (first + after) end) }
-{
-    let place = if after < end - first {
-        first + after
-    } else {
-        end
-    };
-    if place < from { from } else { place }
-}
-
 /// Marks of places, a bit each.
 #[derive(Drop)]
 pub struct Marks {
@@ -37,7 +24,7 @@ pub struct Marks {
 }
 
 impl Marks {
-    ghost use Rattle.std.specs.Prelude.{◌≡◌, ◌≢◌, ℕ, suc, ◌<◌, ◌≤◌, ◌/◌, length, pos, min, max, false, IfOk};
+    ghost use Rattle.std.specs.Prelude.{pos, max, false};
 
     /// No marks yet, with room for as many.
     pub fn none(alloc: Global, width: usize) -> Result<Marks, NoTable>
@@ -133,23 +120,11 @@ impl Marks {
         for w in from / 64..words.len() {
             let word = words[w];
             if word != 0 {
-                return place_within(w * 64, word.trailing_zeros() as usize, from, end);
+                return from.max(w * 64 + (word.trailing_zeros() as usize).min(end - w * 64));
             }
         }
         end
     }
-}
-
-/// As many lists without marks.
-fn lists_of(alloc: Global, count: usize, width: usize) -> Result<Vec<Marks>, NoTable>
-    ensures long { IfOk result (λ l. length l.items ≡ count) }
-    ensures wide { IfOk result (λ l. IsWide l.items (suc (width / 64))) }
-{
-    let mut lists = Vec::with_capacity(alloc, count)?;
-    for _ in 0..count {
-        lists.push(Marks::none(alloc, width)?)?;
-    }
-    Ok(lists)
 }
 
 /// Marks a place in a list.
@@ -224,7 +199,10 @@ pub fn uses_of(alloc: Global, first: &First) -> Result<Vec<Marks>, NoTable>
     ensures wide { IfOk result (λ u. IsWide u.items (suc (length first.now.columns.items / 64))) }
     ensures uses { IfOk result (λ u. AreUses u.items first.now.columns.items) }
 {
-    let mut uses = lists_of(alloc, first.rows, first.columns.len())?;
+    let mut uses = Vec::with_capacity(alloc, first.rows)?;
+    for _ in 0..first.rows {
+        uses.push(Marks::none(alloc, first.columns.len())?)?;
+    }
     mark_uses(uses.as_mut_slice(), first.columns.as_slice());
     Ok(uses)
 }

@@ -1,4 +1,4 @@
-use Rattle.std.proofs.Common.{◌<◌, sym, ap, subst₂, ◌∙◌, ℕ, List, length, arith}
+use Rattle.std.proofs.Common.{◌<◌, sym, ap, subst₂, ℕ, List, length, arith}
 use Rattle.std.specs.List.{AllByRecursion}
 use Rattle.stack_inverse.specs.declared.columns.FirstColumn.{FirstColumn}
 use Rattle.stack_inverse.specs.Columns.{cells_at}
@@ -10,6 +10,13 @@ mark_uses-requires-clause-rows c = λ j l.
     let f = c.args.first.now in
     let columns = c.as_slice.ensures.value in
     subst₂ (λ (n : ℕ) (cs : List FirstColumn). AllByRecursion (λ x. x.row < n) (cells_at cs j))
-    (sym (ap length c.as_mut_slice.ensures.value ∙ c.in_ok-uses.ensures.long)) (sym columns)
+    (omega (
+      arith,
+      ap length c.as_mut_slice.ensures.value,
+      c.loop.invariant.long,
+      c.loop-test.false,
+      c.loop.auto.counter-end,
+    ))
+    (sym columns)
     (cells_below f.rows 0 (cells_at f.columns.items j)
     (rises_of f.rows 0 _ (f.first.rising j (omega (arith, l, ap length columns)))))

@@ -11,7 +11,7 @@ returns-then-word-ne0-clause-none c = λ j f l.
     none_more c.args.self.now.words.items c.args.from c.loop-w.w (trailing_zeros w64 word) (omega (arith, lowest.0))
     c.loop-w.invariant
     (λ i b. ap (λ (ws : List ℕ). bit_at (get_or ws c.loop-w.w 0) i) (sym c.as_slice-words.ensures.value) ∙ lowest.2 i b)
-    j f (omega (arith, l, f, c.place_within.ensures))
+    j f (omega (arith, l, f, c.min.ensures, c.max.ensures))
 
 pub loop-w-preserved : goal.loop-w-preserved
 loop-w-preserved c = λ j f l. none_more c.args.self.now.words.items c.args.from c.loop-w.w 64 (omega arith)

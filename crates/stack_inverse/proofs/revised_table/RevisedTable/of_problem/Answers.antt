@@ -1,5 +1,5 @@
-use Rattle.std.proofs.Common.{◌≡◌, ◌<◌, ◌+◌, sym, ap, subst, ◌∙◌, ℕ, suc, ◌/◌, List, length, cond, false, true, arith, ℤ}
-use Rattle.std.proofs.Common.{subst₂}
+use Rattle.std.proofs.Common.{◌≡◌, ◌<◌, ◌+◌, sym, ap, subst, ◌∙◌, ℕ, suc, ◌/◌, List, length, cond, false, true, arith}
+use Rattle.std.proofs.Common.{ℤ, subst₂}
 use Rattle.stack_rational.proofs.Common.{with_items, ordered_fractions, changed}
 use Rattle.stack_table.specs.Table.{plain}
 use Rattle.stack_table.specs.Block.{shape_of}

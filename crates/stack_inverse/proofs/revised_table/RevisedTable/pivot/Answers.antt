@@ -1,4 +1,4 @@
-use Rattle.std.proofs.Common.{◌≡◌, refl, sym, ap, subst, subst₂, ◌∙◌, ℕ, suc, ◌+◌, ◌<◌, ◌⊎◌, inl, inr, true, false}
+use Rattle.std.proofs.Common.{◌≡◌, sym, ap, subst, subst₂, ◌∙◌, ℕ, suc, ◌+◌, ◌<◌, ◌⊎◌, inl, inr, true, false}
 use Rattle.std.proofs.Common.{List, length, get_or, set, length-set, None, OnOk, IfErr, pos, arith}
 use Rattle.std.proofs.lemmas.Result.{on_ok_weaker}
 use Rattle.stack_rational.proofs.Common.{with_items, Fraction, changed, next, ordered_fractions, is_too_wide, widest}
@@ -117,12 +117,12 @@ places_long c = c.mark_on.auto.places ∙ ap length c.as_mut_slice-2.ensures.val
 
 -- where the pivot was done, marks go on
 marked_on : (c : After-mark_on) → c.is_ok.result ≡ true → AreMarkedOn c.args.self.now.places.items
-    c.args.self.now.uses.items c.args.self.now.«open».words.items (after c c.args.row).numbers c.args.self.now.entered.items
-    c.mark_on.new.places c.mark_on.new.«open».words.items
+    c.args.self.now.uses.items c.args.self.now.«open».words.items (after c c.args.row).numbers
+    c.args.self.now.entered.items c.mark_on.new.places c.mark_on.new.«open».words.items
 marked_on c e =
     let rows = (with_items c.args.self.now.rows c.pivot_rows-done.new.rows).items in
     let lt : c.args.row < length rows = omega (arith, rows_long c, c.requires.row_in) in
-    marked_on_same c.as_mut_slice-2.ensures.value c.as_slice-2.ensures.value refl
+    marked_on_same c.as_mut_slice-2.ensures.value c.as_slice-2.ensures.value
     (c.as_slice-3.ensures.value ∙ ap (λ (x : RowSeen). x.numbers) (seen_get rows c.args.row c.index.result.now lt
     c.index.ensures)) c.as_slice-4.ensures.value (c.mark_on.ensures.done e)
 
@@ -149,8 +149,8 @@ told c =
       | inl p ↦ places_kept m s.given.first.columns.items s.given.own.items (seen_at s.rows.items) (after c) c.args.row
           c.args.column (under_positive s.rows.items)
           (under_positive (with_items s.rows c.pivot_rows-done.new.rows).items) p.1 s.places.items s.uses.items
-          c.mark_on.new.places s.«open».words.items c.mark_on.new.«open».words.items s.entered.items (marked_on c p.0) s.places_long
-          c.requires.entered.numbers s.told
+          c.mark_on.new.places s.«open».words.items c.mark_on.new.«open».words.items s.entered.items
+          (marked_on c p.0) s.places_long c.requires.entered.numbers s.told
       | inr e ↦ full_places m (length s.touched.words.items) c.mark_on.new.places c.mark_on.new.«open».words.items
           (after c) (c.mark_on.ensures.full e) (places_long c) (omega (arith, s.touched_long))
     ]
@@ -165,8 +165,8 @@ clean c =
       | inl p ↦ columns_kept m s.given.first.columns.items s.given.own.items (seen_at s.rows.items) (after c)
           c.args.row c.args.column c.requires.row_in (under_positive s.rows.items)
           (under_positive (with_items s.rows c.pivot_rows-done.new.rows).items) s.given.first.first.rising p.1
-          s.places.items s.uses.items c.mark_on.new.places s.«open».words.items c.mark_on.new.«open».words.items s.entered.items
-          (marked_on c p.0) s.uses_long s.used s.clean
+          s.places.items s.uses.items c.mark_on.new.places s.«open».words.items c.mark_on.new.«open».words.items
+          s.entered.items (marked_on c p.0) s.uses_long s.used s.clean
       | inr e ↦ full_columns (length s.given.first.columns.items) (length s.touched.words.items) c.mark_on.new.places
           c.mark_on.new.«open».words.items (number_in_row s.given (after c m) m) (c.mark_on.ensures.full e)
           (omega (arith, c.mark_on.ensures.marks, s.open_long))
