@@ -170,14 +170,15 @@ impl<T: Integer> Frac<T> {
         ensures fits { IfOk result (λ r. SumFits T.MAX self other) }
         ensures err { OnErr result (¬ (SumFits T.MAX self other)) }
     {
-        if self.num.is_zero() {
-            return Ok(made(other.num, other.den));
+        let (left, right) = (self.num, other.num);
+        if left.is_zero() {
+            return Ok(other);
         }
-        if other.num.is_zero() {
-            return Ok(made(self.num, self.den));
+        if right.is_zero() {
+            return Ok(self);
         }
         if self.den == other.den {
-            return match plus(self.num, other.num) {
+            return match plus(left, right) {
                 Some(num) => Ok(reduced_by(num, self.den, self.den)),
                 None => Err(PartWide),
             };

@@ -6,8 +6,7 @@ use Rattle.stack_rational.proofs.ShortCuts.{stored_sum, stored_sum_fits, stored_
 use Rattle.stack_rational.proofs.frac.Frac.sum.Goals as goal
 
 pub returns-then-is_zero-clause-ok : goal.returns-then-is_zero-clause-ok
-returns-then-is_zero-clause-ok g c = c.made.ensures ∙ c.other.view_is
-    ∙ zero_plus c.args.self c.args.other
+returns-then-is_zero-clause-ok g c = zero_plus c.args.self c.args.other
     (stored_zero _ _ _ _ c.self.invariant.stored c.self.view_is
     ((c.is_zero.ensures.value g.met.T.Integral.exact_law).0 c.if-is_zero.true))
 
@@ -18,8 +17,7 @@ returns-then-is_zero-clause-fits g c = zero_plus_fits g.T.Integer.MAX c.args.sel
     ((c.is_zero.ensures.value g.met.T.Integral.exact_law).0 c.if-is_zero.true))
 
 pub returns-then-is_zero-2-clause-ok : goal.returns-then-is_zero-2-clause-ok
-returns-then-is_zero-2-clause-ok g c = c.made-then-is_zero-2.ensures ∙ c.self.view_is
-    ∙ plus_zero c.args.self c.args.other
+returns-then-is_zero-2-clause-ok g c = plus_zero c.args.self c.args.other
     (stored_zero _ _ _ _ c.other.invariant.stored c.other.view_is
     ((c.is_zero-2.ensures.value g.met.T.Integral.exact_law).0 c.if-is_zero-2.true))
 
@@ -63,9 +61,3 @@ reduced_by-requires-clause-inner g c = (c.self.invariant.stored.lowest.positive,
 
 pub reduced_by-requires-clause-outer : goal.reduced_by-requires-clause-outer
 reduced_by-requires-clause-outer g c = λ e h k. k
-
-pub made-requires : goal.made-requires
-made-requires g c = c.other.invariant.stored
-
-pub made-requires-then-is_zero-2 : goal.made-requires-then-is_zero-2
-made-requires-then-is_zero-2 g c = c.self.invariant.stored
