@@ -34,6 +34,42 @@ impl<F: RawFiles + Drop> RealShelf<F> {
     }
 }
 
+/// How many bytes to read after so many: at most a block, and up to `most + 1` together.
+fn room_after(read: usize, most: usize) -> usize
+    requires { (read ≤ most) × (most < usize.MAX) }
+    ensures { (0 < result) × (result ≤ 4096) × (read + result ≤ most + 1) }
+{
+    (most + 1 - read).min(BLOCK)
+}
+
+/// Reads an open file to its end, or to `most + 1` bytes.
+fn read_on<F: RawFiles + Drop>(
+    files: &mut F,
+    file: &mut F::File,
+    alloc: Global,
+    most: usize,
+) -> Result<Vec<u8>, ShelfError>
+    requires { most < usize.MAX }
+    ensures gives { ReadGives (F.File.left file.old) most result }
+    ensures holds { F.holds files.new ≡ F.holds files.old }
+    ensures asked { F.asked files.new ≡ F.asked files.old }
+    ensures taken { TakesAtMost (most + 1) (F.taken files.old) (F.taken files.new) }
+    ensures sound { F.File.never_fails file.old → result ≢ Err ShelfError.Failed }
+    ensures lasts { (other : List ℕ) → F.never_fails files.old other → F.never_fails files.new other }
+{
+    let mut bytes = Vec::new(alloc);
+    let mut block = [0u8; BLOCK];
+    while bytes.len() <= most {
+        let room = room_after(bytes.len(), most);
+        match files.read_some(file, &mut block[..room]) {
+            Ok(0) => return Ok(bytes),
+            Ok(n) => bytes.extend_from_slice(&block[..n])?,
+            Err(_) => return Err(ShelfError::Failed),
+        }
+    }
+    Err(ShelfError::TooLong)
+}
+
 /// Opens one file, the one with the name, and reads it to its end, or to `most + 1` bytes.
 fn take<F: RawFiles + Drop>(
     files: &mut F,
@@ -52,17 +88,7 @@ fn take<F: RawFiles + Drop>(
     let Ok(mut file) = files.open(name) else {
         return Err(ShelfError::Failed);
     };
-    let mut bytes = Vec::new(alloc);
-    let mut block = [0u8; BLOCK];
-    while bytes.len() <= most {
-        let room = (most + 1 - bytes.len()).min(BLOCK);
-        match files.read_some(&mut file, &mut block[..room]) {
-            Ok(0) => return Ok(bytes),
-            Ok(n) => bytes.extend_from_slice(&block[..n])?,
-            Err(_) => return Err(ShelfError::Failed),
-        }
-    }
-    Err(ShelfError::TooLong)
+    read_on(files, &mut file, alloc, most)
 }
 
 impl<F: RawFiles + Drop> Shelf for RealShelf<F> {

@@ -148,7 +148,7 @@ impl<T: Integer> Exact for Frac<T> {
     }
 
     fn difference(self, other: Self) -> Result<Self, OpWide> {
-        match self.difference(other) {
+        match self.sum(other.negated()) {
             Ok(x) => Ok(x),
             Err(_) => Err(OpWide { op: Op::Difference }),
         }

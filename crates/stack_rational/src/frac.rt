@@ -86,17 +86,6 @@ fn shared<T: Integer>(a: T, d: T) -> (T, T, T)
     (g, part(a, g), part(d, g))
 }
 
-/// A numerator over a positive denominator, in lowest terms.
-fn reduced<T: Integer>(num: T, den: T) -> Frac<T>
-    requires num { Within T.MAX (T.value num) }
-    requires den { Within T.MAX (T.value den) }
-    requires positive { pos 0 <ℤ T.value den }
-    ensures { result ≡ over (T.value num) (T.value den) }
-{
-    let (_, n, d) = shared(num, den);
-    made(n, d)
-}
-
 /// A numerator over a positive denominator, in lowest terms, where the denominator is a multiple of g and each common
 /// divisor divides g: a divisor with g is found sooner.
 fn reduced_by<T: Integer>(num: T, den: T, g: T) -> Frac<T>
@@ -181,15 +170,16 @@ impl<T: Integer> Frac<T> {
         ensures fits { IfOk result (λ r. SumFits T.MAX self other) }
         ensures err { OnErr result (¬ (SumFits T.MAX self other)) }
     {
-        if self.num.is_zero() {
-            return Ok(made(other.num, other.den));
+        let (left, right) = (self.num, other.num);
+        if left.is_zero() {
+            return Ok(other);
         }
-        if other.num.is_zero() {
-            return Ok(made(self.num, self.den));
+        if right.is_zero() {
+            return Ok(self);
         }
         if self.den == other.den {
-            return match plus(self.num, other.num) {
-                Some(num) => Ok(reduced(num, self.den)),
+            return match plus(left, right) {
+                Some(num) => Ok(reduced_by(num, self.den, self.den)),
                 None => Err(PartWide),
             };
         }
@@ -236,15 +226,6 @@ impl<T: Integer> Frac<T> {
         } else {
             made(self.den, self.num)
         }
-    }
-
-    /// The difference, refused as the sum with the other sign.
-    pub(crate) fn difference(self, other: Self) -> Result<Self, PartWide>
-        ensures ok { IfOk result (λ r. r ≡ add self (neg other)) }
-        ensures fits { IfOk result (λ r. SumFits T.MAX self (neg other)) }
-        ensures err { OnErr result (¬ (SumFits T.MAX self (neg other))) }
-    {
-        self.sum(other.negated())
     }
 
     /// The quotient by a number that isn't 0, refused exactly where its lowest terms are more than the greatest value.

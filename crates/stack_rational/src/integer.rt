@@ -65,7 +65,8 @@ pub fn unless_least<T: Integer>(x: Option<T>) -> Option<T>
 pub fn times<T: Integer>(a: T, b: T) -> Option<T>
     ensures { Checks T.value (Within T.MAX) (T.value a *ℤ T.value b) result }
 {
-    unless_least(a.checked_mul(&b))
+    let product = a.checked_mul(&b);
+    unless_least(product)
 }
 
 /// A sum, or none where its size is more than the greatest value.

@@ -1,12 +1,12 @@
 use Rattle.std.proofs.Common.{sym, ◌∙◌}
+use Rattle.stack_rational.proofs.Common.{dvd_refl}
 use Rattle.stack_rational.proofs.Crosswise.{stored-fits, told}
 use Rattle.stack_rational.proofs.ShortCuts.{zero_plus, plus_zero, zero_plus_fits, plus_zero_fits, stored_zero}
 use Rattle.stack_rational.proofs.ShortCuts.{stored_sum, stored_sum_fits, stored_sum_too_wide}
 use Rattle.stack_rational.proofs.frac.Frac.sum.Goals as goal
 
 pub returns-then-is_zero-clause-ok : goal.returns-then-is_zero-clause-ok
-returns-then-is_zero-clause-ok g c = c.made.ensures ∙ c.other.view_is
-    ∙ zero_plus c.args.self c.args.other
+returns-then-is_zero-clause-ok g c = zero_plus c.args.self c.args.other
     (stored_zero _ _ _ _ c.self.invariant.stored c.self.view_is
     ((c.is_zero.ensures.value g.met.T.Integral.exact_law).0 c.if-is_zero.true))
 
@@ -17,8 +17,7 @@ returns-then-is_zero-clause-fits g c = zero_plus_fits g.T.Integer.MAX c.args.sel
     ((c.is_zero.ensures.value g.met.T.Integral.exact_law).0 c.if-is_zero.true))
 
 pub returns-then-is_zero-2-clause-ok : goal.returns-then-is_zero-2-clause-ok
-returns-then-is_zero-2-clause-ok g c = c.made-then-is_zero-2.ensures ∙ c.self.view_is
-    ∙ plus_zero c.args.self c.args.other
+returns-then-is_zero-2-clause-ok g c = plus_zero c.args.self c.args.other
     (stored_zero _ _ _ _ c.other.invariant.stored c.other.view_is
     ((c.is_zero-2.ensures.value g.met.T.Integral.exact_law).0 c.if-is_zero-2.true))
 
@@ -29,7 +28,7 @@ returns-then-is_zero-2-clause-fits g c = plus_zero_fits g.T.Integer.MAX c.args.s
     ((c.is_zero-2.ensures.value g.met.T.Integral.exact_law).0 c.if-is_zero-2.true))
 
 pub returns-in-Some-clause-ok : goal.returns-in-Some-clause-ok
-returns-in-Some-clause-ok g c = c.reduced.ensures
+returns-in-Some-clause-ok g c = c.reduced_by.ensures
     ∙ stored_sum g.T.Integer.MAX _ _ _ _ _ c.args.self c.args.other c.self.invariant.stored
     c.other.invariant.stored c.self.view_is c.other.view_is
     ((g.met.T.Number.eq_law _ _ g.met.T.Integral.exact_law).0 (sym c.eq.ensures
@@ -47,18 +46,18 @@ returns-in-None-clause-err g c = stored_sum_too_wide g.T.Integer.MAX _ _ _ _ c.a
     ((g.met.T.Number.eq_law _ _ g.met.T.Integral.exact_law).0 (sym c.eq.ensures
     ∙ c.if-eq.true)) c.in-None.ensures
 
--- what `reduced` asks
-pub reduced-requires-clause-num : goal.reduced-requires-clause-num
-reduced-requires-clause-num g c = told g.T.Integer.MAX _ _ c.in-Some.ensures
+-- what `reduced_by` asks
+pub reduced_by-requires-clause-num : goal.reduced_by-requires-clause-num
+reduced_by-requires-clause-num g c = told g.T.Integer.MAX _ _ c.in-Some.ensures
 
-pub reduced-requires-clause-den : goal.reduced-requires-clause-den
-reduced-requires-clause-den g c = c.self.invariant.stored.den
+pub reduced_by-requires-clause-den : goal.reduced_by-requires-clause-den
+reduced_by-requires-clause-den g c = c.self.invariant.stored.den
 
-pub reduced-requires-clause-positive : goal.reduced-requires-clause-positive
-reduced-requires-clause-positive g c = c.self.invariant.stored.lowest.positive
+pub reduced_by-requires-clause-by : goal.reduced_by-requires-clause-by
+reduced_by-requires-clause-by g c = (c.self.invariant.stored.den, c.self.invariant.stored.lowest.positive)
 
-pub made-requires : goal.made-requires
-made-requires g c = c.other.invariant.stored
+pub reduced_by-requires-clause-inner : goal.reduced_by-requires-clause-inner
+reduced_by-requires-clause-inner g c = (c.self.invariant.stored.lowest.positive, dvd_refl _)
 
-pub made-requires-then-is_zero-2 : goal.made-requires-then-is_zero-2
-made-requires-then-is_zero-2 g c = c.self.invariant.stored
+pub reduced_by-requires-clause-outer : goal.reduced_by-requires-clause-outer
+reduced_by-requires-clause-outer g c = λ e h k. k
