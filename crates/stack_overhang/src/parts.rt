@@ -85,6 +85,13 @@ pub fn blocks(
     Ok(list)
 }
 
+/// The upper left corner of a brick.
+fn upper_left(alloc: Global, brick: Rectangle) -> Result<Vec<i64>, AllocError>
+    ensures { IfOk result (λ v. v.items ≡ brick.left ∷ brick.top ∷ []) }
+{
+    pair(alloc, brick.left, brick.top)
+}
+
 /// One live load, of force 1 to the right, on the upper left corner of brick `k`.
 pub fn push_right(alloc: Global, k: usize, brick: Rectangle) -> Result<Vec<RawLoad>, AllocError>
     requires { k < most_free }
@@ -94,7 +101,7 @@ pub fn push_right(alloc: Global, k: usize, brick: Rectangle) -> Result<Vec<RawLo
     list.push(RawLoad {
         block: name(alloc, k)?,
         kind: String::from_str(alloc, "live")?,
-        at: pair(alloc, brick.left, brick.top)?,
+        at: upper_left(alloc, brick)?,
         force: pair(alloc, 1, 0)?,
     })?;
     Ok(list)
