@@ -304,13 +304,6 @@ impl Model {
         self.loads.len()
     }
 
-    /// The loads, in their order.
-    pub(crate) fn all_loads(&self) -> &[Load]
-        ensures { result.now ≡ (model_view self.now).loads }
-    {
-        self.loads.as_slice()
-    }
-
     /// Whether a live load is listed: one of kind `live`, or a sway that isn't (0, 0).
     pub fn has_live(&self) -> bool
         ensures value { result ≡ lists_live (model_view self.now) }
