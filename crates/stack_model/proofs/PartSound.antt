@@ -1,5 +1,5 @@
 -- The part of a sound structure is sound.
-use Rattle.std.proofs.Common.{◌≡◌, sym, ap, subst, ◌∙◌, ℕ, ◌<◌, ◌≤◌, Bool, true, false, not}
+use Rattle.std.proofs.Common.{ℤ, ◌≡◌, sym, ap, subst, ◌∙◌, ℕ, ◌<◌, ◌≤◌, Bool, true, false, not}
 use Rattle.std.proofs.Common.{List, [], length, get_or, arith}
 use Rattle.std.proofs.lemmas.List.{length-map, get_or-map}
 use Rattle.std.proofs.lemmas.Option.{slice_get-get_or, get_or_from_slice_get, slice_get_within}
@@ -119,9 +119,8 @@ module _ (keeps : ℕ → Bool) (s : Structure) (h : IsSound s) where
     different_pairs = h.different_pairs;
   }
 
--- a structure of these lists is the part
-pub of_lists : (keeps : ℕ → Bool) (s : Structure) (ms : List NamedMaterial) (js : List Joint) (bs : List NamedBody)
-    (ls : List Load) → ms ≡ s.materials → js ≡ s.joints → bs ≡ kept keeps s.bodies
-    → ls ≡ picked (λ l. keeps l.body) (load_among keeps) s.loads
-    → structure_with s.version s.sway ms js bs ls ≡ part_of keeps s
-of_lists keeps s ms js bs ls m j b l = λ i. structure_with s.version s.sway (m i) (j i) (b i) (l i)
+-- structures of the same lists are the same
+pub of_lists : {v w : ℤ} {sway way : ℤ × ℤ} {ms ns : List NamedMaterial} {js ks : List Joint} {bs cs : List NamedBody}
+    {ls us : List Load} → v ≡ w → sway ≡ way → ms ≡ ns → js ≡ ks → bs ≡ cs → ls ≡ us
+    → structure_with v sway ms js bs ls ≡ structure_with w way ns ks cs us
+of_lists v y m j b l = λ i. structure_with (v i) (y i) (m i) (j i) (b i) (l i)

@@ -36,11 +36,12 @@ pub fn terms_between(joints: &[Joint], a: usize, b: usize) -> Option<(i64, i64)>
 #[tactic(auto, unfolding(crate::specs::Content::add_joint))]
 fn add(
     index: usize,
-    mut so_far: Vec<Joint>,
+    so_far: &mut Vec<Joint>,
     materials: &Materials,
     raw: &RawJoint,
-) -> Result<Vec<Joint>, ModelError>
-    ensures { Gives (λ v. v.items) result (add_joint materials.now index so_far.items (raw_joint raw.now)) }
+) -> Result<(), ModelError>
+    ensures { Gives (λ _. so_far.new.items) result (add_joint materials.now index so_far.old.items
+        (raw_joint raw.now)) }
 {
     let (p, q) = friction_at(Spot::Joint(index), raw.friction.as_slice())?;
     let unknown = ModelError::NoJointMaterial { joint: index };
@@ -56,7 +57,7 @@ fn add(
         p,
         q,
     })?;
-    Ok(so_far)
+    Ok(())
 }
 
 /// The joints, or the first fault of their content.
@@ -69,7 +70,7 @@ pub fn all_joints(
 {
     let mut so_far = Vec::new(alloc);
     for (index, raw) in raws.iter().enumerate() {
-        so_far = add(index, so_far, materials, raw)?;
+        add(index, &mut so_far, materials, raw)?;
     }
     Ok(so_far)
 }

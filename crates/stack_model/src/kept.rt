@@ -4,7 +4,7 @@ use crate::types::{Body, Material};
 use stack_polygon::Polygon;
 
 /// The version of a file, and its sway.
-#[derive(Clone, Copy, Debug, PartialEq, Eq)]
+#[derive(Clone, Copy, Debug)]
 pub struct Head {
     pub version: i64,
     pub sway: (i64, i64),

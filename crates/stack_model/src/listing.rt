@@ -1,13 +1,10 @@
 //! The parts of a model, as a file lists them.
 
-ghost use Rattle.std.specs.Prelude.{◌≡◌, ◌<◌, ◌∷◌, [], IfOk, IsOk, Ok, map, option_map, length};
-ghost use Rattle.std.specs.List.{All};
-ghost use Rattle.stack_model.specs.Structure.{material_of, joint_of, body_of, is_still as is_still_of};
+ghost use Rattle.std.specs.Prelude.{◌≡◌, ◌<◌, ◌∷◌, [], IfOk, Ok, map, option_map, length};
+ghost use Rattle.stack_model.specs.Structure.{material_of, joint_of, body_of, load_of};
 ghost use Rattle.stack_model.specs.ModelView.{model_view};
-ghost use Rattle.stack_model.specs.Sound.{IsSound};
 ghost use Rattle.stack_model.specs.Content.{content_of};
 ghost use Rattle.stack_model.specs.Parts.{IsOfVersion};
-ghost use Rattle.stack_model.specs.Borne.{IsBorne, MayBear, bearing};
 ghost use Rattle.stack_model.specs.Raw.{raw_material, raw_joint, raw_block, raw_load, raw_parts, numbers_view};
 ghost use Rattle.stack_model.specs.Raw.{lists_view};
 ghost use Rattle.stack_model.specs.Relisted.{coordinates, kind_word, material_listed, joint_listed, body_listed};
@@ -15,7 +12,6 @@ ghost use Rattle.stack_model.specs.Relisted.{load_listed, sway_relisted, reliste
 
 use crate::model::{Model, is_still};
 use crate::raw::{Parts, RawBlock, RawJoint, RawLoad, RawMaterial};
-use crate::types::Load;
 use stack_polygon::{Point, Polygon};
 use std::alloc::{AllocError, Global};
 
@@ -106,11 +102,13 @@ fn kind(live: bool) -> &'static str
     if live { "live" } else { "dead" }
 }
 
-/// A load on one of the model's bodies, with the name of its block.
-fn load(alloc: Global, model: &Model, load: Load) -> Result<RawLoad, AllocError>
-    requires { load.body < length (model_view model.now).bodies }
-    ensures { IfOk result (λ l. raw_load l ≡ load_listed (model_view model.now).bodies load) }
+/// Load `i`, with the name of its block.
+fn load(alloc: Global, model: &Model, i: usize) -> Result<RawLoad, AllocError>
+    requires { i < length (model_view model.now).loads }
+    ensures { IfOk result (λ l. raw_load l ≡ load_listed (model_view model.now).bodies
+        (load_of (model_view model.now) i)) }
 {
+    let load = model.load(i);
     Ok(RawLoad {
         block: String::from_str(alloc, model.name(load.body))?,
         kind: String::from_str(alloc, kind(load.live))?,
@@ -154,37 +152,29 @@ fn blocks(alloc: Global, model: &Model) -> Result<Vec<RawBlock>, AllocError>
     Ok(list)
 }
 
-/// These loads, each on one of the model's bodies.
-fn loads(alloc: Global, model: &Model, loads: &[Load]) -> Result<Vec<RawLoad>, AllocError>
-    requires { All (IsBorne (model_view model.now).bodies) loads.now }
-    ensures { IfOk result (λ v. map raw_load v.items ≡ map (load_listed (model_view model.now).bodies) loads.now) }
+/// All loads.
+fn loads(alloc: Global, model: &Model) -> Result<Vec<RawLoad>, AllocError>
+    ensures { IfOk result (λ v. map raw_load v.items ≡ map (load_listed (model_view model.now).bodies)
+        (model_view model.now).loads) }
 {
     let mut list = Vec::new(alloc);
-    for i in 0..loads.len() {
-        list.push(load(alloc, model, loads[i])?)?;
+    for i in 0..model.loads() {
+        list.push(load(alloc, model, i)?)?;
     }
     Ok(list)
 }
 
-/// The parts of the model with these loads and this sway, which `Model::new` takes.
-fn parts_with(
-    alloc: Global,
-    model: &Model,
-    loads: &[Load],
-    sway: (i64, i64),
-) -> Result<Parts, AllocError>
-    requires { MayBear (model_view model.now) loads.now sway }
-    ensures value { IfOk result (λ p. raw_parts p ≡ relisted (bearing (model_view model.now) loads.now sway)) }
-    ensures sound { IsSound (bearing (model_view model.now) loads.now sway) }
+/// The parts of a model.
+fn listed_parts(alloc: Global, model: &Model) -> Result<Parts, AllocError>
+    ensures { IfOk result (λ p. raw_parts p ≡ relisted (model_view model.now)) }
 {
-    model.sound();
     Ok(Parts {
         version: model.version(),
-        sway: listed_sway(alloc, sway)?,
+        sway: listed_sway(alloc, model.sway())?,
         materials: materials(alloc, model)?,
         joints: joints(alloc, model)?,
         blocks: blocks(alloc, model)?,
-        loads: self::loads(alloc, model, loads)?,
+        loads: loads(alloc, model)?,
     })
 }
 
@@ -196,6 +186,6 @@ impl Model {
         ensures version { IfOk result (λ p. IsOfVersion (raw_parts p)) }
     {
         self.sound();
-        parts_with(alloc, self, self.all_loads(), self.sway())
+        listed_parts(alloc, self)
     }
 }

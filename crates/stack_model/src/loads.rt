@@ -53,11 +53,11 @@ fn force_at(spot: Spot, numbers: &[i64]) -> Result<(i64, i64), ModelError>
 #[tactic(auto, unfolding(crate::specs::Content::add_load))]
 fn add(
     index: usize,
-    mut so_far: Vec<Load>,
+    so_far: &mut Vec<Load>,
     bodies: &Bodies,
     raw: &RawLoad,
-) -> Result<Vec<Load>, ModelError>
-    ensures { Gives (λ v. v.items) result (add_load bodies.now index so_far.items (raw_load raw.now)) }
+) -> Result<(), ModelError>
+    ensures { Gives (λ _. so_far.new.items) result (add_load bodies.now index so_far.old.items (raw_load raw.now)) }
 {
     let spot = Spot::Load(index);
     let live = live_at(spot, raw.kind.as_str())?;
@@ -78,7 +78,7 @@ fn add(
         fx,
         fy,
     })?;
-    Ok(so_far)
+    Ok(())
 }
 
 /// The loads, or the first fault of their content.
@@ -87,7 +87,7 @@ pub fn all_loads(alloc: Global, bodies: &Bodies, raws: &[RawLoad]) -> Result<Vec
 {
     let mut so_far = Vec::new(alloc);
     for (index, raw) in raws.iter().enumerate() {
-        so_far = add(index, so_far, bodies, raw)?;
+        add(index, &mut so_far, bodies, raw)?;
     }
     Ok(so_far)
 }

@@ -146,15 +146,9 @@ impl Model {
         requires { MayBear (model_view self.now) loads.now sway }
         ensures { IfOk result (λ m. model_view m ≡ bearing (model_view self.now) loads.now sway) }
     {
-        let head = Head {
-            version: self.head.version,
-            sway,
-        };
-        let materials = materials_again(alloc, self.materials.as_slice())?;
-        let joints = Vec::from_slice(alloc, self.joints.as_slice())?;
         let bodies = bodies_again(alloc, self.bodies.as_slice())?;
         let loads = Vec::from_slice(alloc, loads)?;
-        Ok(Model::of(head, materials, joints, bodies, loads))
+        self.over(alloc, sway, bodies, loads)
     }
 
     /// The model of the bodies that are kept, in their order, with the loads on them, and with all materials, all
@@ -163,11 +157,31 @@ impl Model {
     pub fn part(&self, alloc: Global, keeps: &[bool]) -> Result<Model, AllocError>
         ensures { IfOk result (λ m. model_view m ≡ part_of (flag_at keeps.now) (model_view self.now)) }
     {
-        let materials = materials_again(alloc, self.materials.as_slice())?;
-        let joints = Vec::from_slice(alloc, self.joints.as_slice())?;
         let bodies = kept_bodies(alloc, self.bodies.as_slice(), keeps)?;
         let loads = kept_loads(alloc, self.loads.as_slice(), keeps)?;
-        Ok(Model::of(self.head, materials, joints, bodies, loads))
+        self.over(alloc, self.head.sway, bodies, loads)
+    }
+
+    /// The model with the same version, materials and joints, and with this sway, these bodies and these loads.
+    fn over(
+        &self,
+        alloc: Global,
+        sway: (i64, i64),
+        bodies: Vec<KeptBody>,
+        loads: Vec<Load>,
+    ) -> Result<Model, AllocError>
+        requires { IsSound (structure_with (model_view self.now).version sway (model_view self.now).materials
+            (model_view self.now).joints (map body_view bodies.items) loads.items) }
+        ensures { IfOk result (λ m. model_view m ≡ structure_with (model_view self.now).version sway
+            (model_view self.now).materials (model_view self.now).joints (map body_view bodies.items) loads.items) }
+    {
+        let head = Head {
+            version: self.head.version,
+            sway,
+        };
+        let materials = materials_again(alloc, self.materials.as_slice())?;
+        let joints = Vec::from_slice(alloc, self.joints.as_slice())?;
+        Ok(Model::of(head, materials, joints, bodies, loads))
     }
 
     /// The version of its file, 1 or 2.
@@ -288,13 +302,6 @@ impl Model {
         ensures few { result ≤ most_loads }
     {
         self.loads.len()
-    }
-
-    /// The loads, in their order.
-    pub(crate) fn all_loads(&self) -> &[Load]
-        ensures { result.now ≡ (model_view self.now).loads }
-    {
-        self.loads.as_slice()
     }
 
     /// Whether a live load is listed: one of kind `live`, or a sway that isn't (0, 0).

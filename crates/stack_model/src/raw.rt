@@ -7,7 +7,7 @@ ghost use Rattle.stack_model.specs.Raw.{raw_material, raw_block, raw_load, raw_p
 use std::alloc::Global;
 
 /// A material: its name, its weight per unit of area, and the two terms of its coefficient of friction.
-#[derive(Debug, Drop)]
+#[derive(Drop)]
 pub struct RawMaterial {
     pub name: String,
     pub weight: i64,
@@ -15,7 +15,7 @@ pub struct RawMaterial {
 }
 
 /// A joint: the names of its two materials, and the two terms of the coefficient of friction between them.
-#[derive(Debug, Drop)]
+#[derive(Drop)]
 pub struct RawJoint {
     pub first: String,
     pub second: String,
@@ -23,7 +23,7 @@ pub struct RawJoint {
 }
 
 /// A block: its name, the name of its material, whether it is fixed, and its corners, two numbers each.
-#[derive(Debug, Drop)]
+#[derive(Drop)]
 pub struct RawBlock {
     pub name: String,
     pub material: String,
@@ -32,7 +32,7 @@ pub struct RawBlock {
 }
 
 /// A load: the name of its block, `dead` or `live`, its point, and its force.
-#[derive(Debug, Drop)]
+#[derive(Drop)]
 pub struct RawLoad {
     pub block: String,
     pub kind: String,
@@ -41,7 +41,7 @@ pub struct RawLoad {
 }
 
 /// The version, the sway where one is listed, and materials, joints, blocks and loads, each in its order.
-#[derive(Debug, Drop)]
+#[derive(Drop)]
 pub struct Parts {
     pub version: i64,
     pub sway: Option<Vec<i64>>,

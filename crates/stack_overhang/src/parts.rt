@@ -1,6 +1,6 @@
 //! The parts of a model, as a file would list them.
 
-ghost use Rattle.std.specs.Prelude.{◌≡◌, ◌<◌, ◌≤◌, ◌∷◌, [], IfOk, map, length, string_bytes};
+ghost use Rattle.std.specs.Prelude.{◌≡◌, ◌<◌, ◌≤◌, ◌∷◌, ◌++◌, [], IfOk, OnOk, map, length, string_bytes};
 ghost use Rattle.stack_whole.specs.Limits.{most_free};
 ghost use Rattle.stack_model.specs.Raw.{raw_material, raw_block, raw_load, lists_view};
 ghost use Rattle.stack_model.specs.Relisted.{coordinates, material_listed};
@@ -22,15 +22,25 @@ fn pair(alloc: Global, first: i64, second: i64) -> Result<Vec<i64>, AllocError>
     Ok(numbers)
 }
 
+/// Adds a corner to a list.
+#[tactic(auto, using(std::proofs::lemmas::List::map_push))]
+fn push_corner(alloc: Global, list: &mut Vec<Vec<i64>>, x: i64, y: i64) -> Result<(), AllocError>
+    ensures { OnOk result (lists_view list.new ≡ lists_view list.old ++ (x ∷ y ∷ []) ∷ []) }
+{
+    let corner = pair(alloc, x, y)?;
+    list.push(corner)?;
+    Ok(())
+}
+
 /// The corners of a rectangle.
 fn corners(alloc: Global, r: Rectangle) -> Result<Vec<Vec<i64>>, AllocError>
     ensures { IfOk result (λ v. lists_view v ≡ map coordinates (rectangle_corners r)) }
 {
     let mut list = Vec::new(alloc);
-    list.push(pair(alloc, r.left, r.bottom)?)?;
-    list.push(pair(alloc, r.right, r.bottom)?)?;
-    list.push(pair(alloc, r.right, r.top)?)?;
-    list.push(pair(alloc, r.left, r.top)?)?;
+    push_corner(alloc, &mut list, r.left, r.bottom)?;
+    push_corner(alloc, &mut list, r.right, r.bottom)?;
+    push_corner(alloc, &mut list, r.right, r.top)?;
+    push_corner(alloc, &mut list, r.left, r.top)?;
     Ok(list)
 }
 
@@ -85,6 +95,13 @@ pub fn blocks(
     Ok(list)
 }
 
+/// The upper left corner of a brick.
+fn upper_left(alloc: Global, brick: Rectangle) -> Result<Vec<i64>, AllocError>
+    ensures { IfOk result (λ v. v.items ≡ brick.left ∷ brick.top ∷ []) }
+{
+    pair(alloc, brick.left, brick.top)
+}
+
 /// One live load, of force 1 to the right, on the upper left corner of brick `k`.
 pub fn push_right(alloc: Global, k: usize, brick: Rectangle) -> Result<Vec<RawLoad>, AllocError>
     requires { k < most_free }
@@ -94,7 +111,7 @@ pub fn push_right(alloc: Global, k: usize, brick: Rectangle) -> Result<Vec<RawLo
     list.push(RawLoad {
         block: name(alloc, k)?,
         kind: String::from_str(alloc, "live")?,
-        at: pair(alloc, brick.left, brick.top)?,
+        at: upper_left(alloc, brick)?,
         force: pair(alloc, 1, 0)?,
     })?;
     Ok(list)

@@ -1,31 +1,33 @@
-use Rattle.std.proofs.Common.{sym, ap, subst, ◌∙◌, map, List}
+use Rattle.std.proofs.Common.{◌≡◌, refl, sym, ap, subst, ◌∙◌, map, List}
+use Rattle.std.specs.Result.{IfOk}
 use Rattle.stack_model.specs.declared.types.Load.{Load}
 use Rattle.stack_model.specs.declared.kept.KeptBody.{KeptBody}
+use Rattle.stack_model.specs.Structure.{Structure}
+use Rattle.stack_model.specs.ModelView.{model_view}
 use Rattle.stack_model.specs.Sound.{IsSound}
-use Rattle.stack_model.specs.Kept.{material_view, body_view, inside_view}
+use Rattle.stack_model.specs.Kept.{body_view}
 use Rattle.stack_model.specs.Keeping.{flag_at, kept, picked}
-use Rattle.stack_model.specs.Part.{load_among, part_of}
+use Rattle.stack_model.specs.Part.{load_among}
 use Rattle.stack_model.proofs.PartSound.{part_sound, of_lists}
 use Rattle.stack_model.proofs.model.Model.part.Goals as goal
 
-pub of-requires : goal.of-requires
-of-requires c =
+pub over-requires : goal.over-requires
+over-requires c =
     let keeps = flag_at c.args.keeps.now in
-    subst IsSound (sym (of_lists keeps (inside_view c.self.inside) _ _ _ _
-    (c.in_ok-materials.ensures ∙ ap (map material_view) c.as_slice.ensures.value)
-    (c.in_ok-joints.ensures.items ∙ c.as_slice-2.ensures.value)
-    (c.in_ok-bodies.ensures ∙ ap (λ (bs : List KeptBody). kept keeps (map body_view bs)) c.as_slice-3.ensures.value)
-    (c.in_ok-loads.ensures
-    ∙ ap (picked (λ (l : Load). keeps l.body) (load_among keeps)) c.as_slice-4.ensures.value)))
-    (part_sound keeps (inside_view c.self.inside) c.self.invariant)
+    subst IsSound (sym (of_lists refl (ap (λ (s : Structure). s.sway) c.self.view_is) refl refl
+    (c.in_ok-bodies.ensures ∙ ap (λ (bs : List KeptBody). kept keeps (map body_view bs)) c.as_slice.ensures.value
+    ∙ ap (λ (s : Structure). kept keeps s.bodies) c.self.view_is)
+    (c.in_ok-loads.ensures ∙ ap (picked (λ (l : Load). keeps l.body) (load_among keeps)) c.as_slice-2.ensures.value
+    ∙ ap (λ (s : Structure). picked (λ (l : Load). keeps l.body) (load_among keeps) s.loads) c.self.view_is)))
+    (part_sound keeps c.args.self.now (subst IsSound c.self.view_is c.self.invariant))
 
 pub returns : goal.returns
 returns c =
     let keeps = flag_at c.args.keeps.now in
-    c.of.ensures ∙ of_lists keeps (inside_view c.self.inside) _ _ _ _
-    (c.in_ok-materials.ensures ∙ ap (map material_view) c.as_slice.ensures.value)
-    (c.in_ok-joints.ensures.items ∙ c.as_slice-2.ensures.value)
-    (c.in_ok-bodies.ensures ∙ ap (λ (bs : List KeptBody). kept keeps (map body_view bs)) c.as_slice-3.ensures.value)
-    (c.in_ok-loads.ensures
-    ∙ ap (picked (λ (l : Load). keeps l.body) (load_among keeps)) c.as_slice-4.ensures.value)
-    ∙ ap (part_of keeps) c.self.view_is
+    subst (λ (s : Structure). IfOk c.over.result (λ m. model_view m ≡ s))
+    (of_lists refl (ap (λ (s : Structure). s.sway) c.self.view_is) refl refl
+    (c.in_ok-bodies.ensures ∙ ap (λ (bs : List KeptBody). kept keeps (map body_view bs)) c.as_slice.ensures.value
+    ∙ ap (λ (s : Structure). kept keeps s.bodies) c.self.view_is)
+    (c.in_ok-loads.ensures ∙ ap (picked (λ (l : Load). keeps l.body) (load_among keeps)) c.as_slice-2.ensures.value
+    ∙ ap (λ (s : Structure). picked (λ (l : Load). keeps l.body) (load_among keeps) s.loads) c.self.view_is))
+    c.over.ensures
