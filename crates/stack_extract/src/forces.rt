@@ -116,11 +116,7 @@ pub fn forces_at<L: LastTable>(
 
 /// The same forces at no scale, so that they balance no dead loads.
 fn without_scale(forces: Forces) -> Forces
-    ensures { forces_view result ≡ record {
-      scale = pos 0;
-      factor = (forces_view forces).factor;
-      parts = (forces_view forces).parts;
-    } }
+    ensures { forces_view result ≡ record { scale = pos 0; factor = forces.factor; parts = forces.parts.items } }
 {
     Forces {
         scale: 0,
