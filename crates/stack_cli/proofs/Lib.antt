@@ -1,1 +1,2 @@
 mod WordNumbers
+mod ManyWords

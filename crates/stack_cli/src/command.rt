@@ -1,6 +1,6 @@
 //! The top call.
 
-ghost use Rattle.std.specs.Prelude.{◌≡◌, ◌≢◌, ◌≤◌, ◌⊎◌, Err, IfSome, IfNone};
+ghost use Rattle.std.specs.Prelude.{◌≡◌, ◌≢◌, ◌≤◌, ◌⊎◌, Ok, Err, IfSome, IfNone};
 ghost use Rattle.std.specs.Option.{option_map};
 ghost use Rattle.stack_outside.specs.Faults.{counted};
 ghost use Rattle.stack_outside.specs.Seen.{seen_shelf, seen_stream};
@@ -53,9 +53,24 @@ fn say<E: Sink>(alloc: Global, refusal: Refusal, err: &mut E) -> Refusal
     Refusal::Memory
 }
 
+/// Writes the answer in one put on `out`, or the line of the failed output on `err`, and gives the status.
+#[tactic(auto, using(stack_said::proofs::Returned::line_put))]
+fn write_answer<O: Sink, E: Sink>(alloc: Global, answer: &Answer, out: &mut O, err: &mut E) -> u8
+    ensures delivers { Delivers (Ok answer.now) result (seen_stream O.Sink out.old out.new)
+        (seen_stream E.Sink err.old err.new) }
+    ensures one_put { PutsAnswer result (seen_stream O.Sink out.old out.new) }
+    ensures one_line { PutsLine result (seen_stream E.Sink err.old err.new) }
+    ensures out_later { O.faults out.old ≤ O.faults out.new }
+    ensures err_later { E.faults err.old ≤ E.faults err.new }
+{
+    match out.put(answer.text.as_slice()) {
+        Ok(()) => answer.verdict.status(),
+        Err(SinkFailed) => say(alloc, Refusal::Output, err).status(),
+    }
+}
+
 /// Writes the answer in one put on `out`, or the line of the refusal on `err`, and gives the status. That the output
 /// failed is no refusal of work.
-#[tactic(auto, using(stack_said::proofs::Returned::line_put))]
 pub fn deliver<O: Sink, E: Sink>(
     alloc: Global,
     worked: Result<Answer, Refusal>,
@@ -70,10 +85,7 @@ pub fn deliver<O: Sink, E: Sink>(
     ensures err_later { E.faults err.old ≤ E.faults err.new }
 {
     match worked {
-        Ok(answer) => match out.put(answer.text.as_slice()) {
-            Ok(()) => answer.verdict.status(),
-            Err(SinkFailed) => say(alloc, Refusal::Output, err).status(),
-        },
+        Ok(answer) => write_answer(alloc, &answer, out, err),
         Err(refusal) => say(alloc, refusal, err).status(),
     }
 }

@@ -1,6 +1,6 @@
 //! Forces from the last table of a run.
 
-ghost use Rattle.std.specs.Prelude.{◌≡◌, suc, ◌*◌, length, IfOk, IfErr, true};
+ghost use Rattle.std.specs.Prelude.{◌≡◌, suc, ◌*◌, pos, length, IfOk, IfErr, true};
 ghost use Rattle.stack_certificate.specs.Certificate.{forces_view};
 ghost use Rattle.stack_equilibrium.specs.declared.types.Question.{Question};
 ghost use Rattle.stack_extract.specs.WholeLists.{whole_list, NonePulls};
@@ -114,6 +114,17 @@ pub fn forces_at<L: LastTable>(
     from_list(alloc, Numbers::Forces, s, &list)
 }
 
+/// The same forces at no scale, so that they balance no dead loads.
+fn without_scale(forces: Forces) -> Forces
+    ensures { forces_view result ≡ record { scale = pos 0; factor = forces.factor; parts = forces.parts.items } }
+{
+    Forces {
+        scale: 0,
+        factor: forces.factor,
+        parts: forces.parts,
+    }
+}
+
 /// The forces that an end of a survey's run with this last table adds without end, along a column that can be read: as
 /// `ray_of`.
 pub fn ray_at<L: LastTable>(
@@ -132,12 +143,7 @@ pub fn ray_at<L: LastTable>(
     certified_laws();
     s.within();
     let list = ray_numbers(alloc, t, column)?;
-    let forces = from_list(alloc, Numbers::Ray, s, &list)?;
-    Ok(Forces {
-        scale: 0,
-        factor: forces.factor,
-        parts: forces.parts,
-    })
+    Ok(without_scale(from_list(alloc, Numbers::Ray, s, &list)?))
 }
 
 /// The forces of the end of a survey's run, in whole numbers of 128 bits whatever the width of the run: the

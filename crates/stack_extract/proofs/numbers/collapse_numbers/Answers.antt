@@ -1,9 +1,13 @@
-use Rattle.std.proofs.Common.{◌∙◌, arith}
-use Rattle.stack_rational.proofs.Common.{add, neg}
+use Rattle.std.proofs.Common.{◌≡◌, ◌∙◌, ap, arith}
+use Rattle.stack_rational.proofs.Common.{add, first, neg}
 use Rattle.stack_extract.specs.WrittenLists.{collapse_number}
-use Rattle.stack_extract.proofs.TableReads.{grown}
+use Rattle.stack_extract.specs.Places.{shift_spot}
+use Rattle.stack_extract.proofs.TableReads.{grown, whole}
 use Rattle.stack_extract.proofs.WrittenPlaces.{told, shift_too_wide, shift_fits}
 use Rattle.stack_extract.proofs.numbers.collapse_numbers.Goals as goal
+
+pub bound_number-requires : goal.bound_number-requires
+bound_number-requires g c = omega (arith, c.loop-row-test.true, c.rows-row-end.ensures)
 
 pub loop-row-preserved : goal.loop-row-preserved
 loop-row-preserved g c = (
@@ -24,3 +28,15 @@ returns-in-Err-clause-wide g c = told c.too_wide.result _ _ c.too_wide.ensures
     (omega (arith, c.loop-row-test.true, c.rows-row-end.ensures)) c.bound_number.ensures
     c.one.ensures
     c.in-Err.ensures.wide c.loop-row.invariant.1)
+
+pub returns-clause-ok : goal.returns-clause-ok
+returns-clause-ok g c = whole (collapse_number (g.L.LastTable.shape c.args.t.now) (g.L.LastTable.table c.args.t.now))
+    c.loop-row.row (g.L.LastTable.shape c.args.t.now).rows c.loop-row.numbers.items c.loop-row.invariant.0
+    (omega (arith, c.loop-row-test.false, c.loop-row.auto, c.rows-row-end.ensures))
+
+pub returns-clause-fits : goal.returns-clause-fits
+returns-clause-fits g c =
+    let at_end : (g.L.LastTable.shape c.args.t.now).rows ≡ c.loop-row.row =
+    omega (arith, c.loop-row-test.false, c.loop-row.auto, c.rows-row-end.ensures) in
+    ap (λ n. first n (shift_spot (g.L.LastTable.shape c.args.t.now) (g.L.LastTable.table c.args.t.now))) at_end
+    ∙ c.loop-row.invariant.1
