@@ -1,5 +1,6 @@
 -- What a number is after its casts between 64 and 128 bits.
-use Rattle.std.proofs.Common.{◌≡◌, ap, ◌∙◌, ℕ, ◌+◌, ◌*◌, ◌≤◌, mul-le-mul, ◌-◌, ◌^◌, arith, ℤ, nat_abs, ◌*ℤ◌, ◌-ℤ◌, SFits, w64}
+use Rattle.std.proofs.Common.{◌≡◌, ap, ◌∙◌, ℕ, ◌+◌, ◌*◌, ◌≤◌, mul-le-mul, ◌-◌, ◌^◌, arith, ℤ, nat_abs, ◌*ℤ◌, ◌-ℤ◌}
+use Rattle.std.proofs.Common.{SFits, w64}
 use Rattle.std.proofs.Common.{to_z, of_z, to_z-of_z}
 use Rattle.stack_rational.proofs.Common.{ints, unsigned_abs-mul, signed-keeps, w128}
 use Rattle.stack_rows.specs.RowForm.{AreSmall}
