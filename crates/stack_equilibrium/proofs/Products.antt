@@ -23,6 +23,12 @@ times_fits : (a b : ℤ) → IsThreeCoordinates a → IsWithin 32 8000000000000 
 times_fits a b h k = fits_signed_mul w128 a b 3000000 256000000000000 (omega (arith, ints))
     (omega (arith, ints)) (lit< tt)
 
+-- three coordinates times twice an area, as they are stored, fit
+pub times_product : (a b : ℤ) → SFits w128 a → SFits w128 b → IsThreeCoordinates a → IsWithin 32 8000000000000 b
+    → SFits w128 (to_z w128 (of_z w128 a) *ℤ to_z w128 (of_z w128 b))
+times_product a b f g h k = subst (SFits w128) (λ i. sym (to_z-of_z w128 a f) i *ℤ sym (to_z-of_z w128 b g) i)
+    (times_fits a b h k)
+
 pub times_stored : (a b : ℤ) → SFits w128 a → SFits w128 b → IsThreeCoordinates a → IsWithin 32 8000000000000 b
     → to_z w128 (of_z w128 (to_z w128 (of_z w128 a) *ℤ to_z w128 (of_z w128 b))) ≡ a *ℤ b
 times_stored a b f g h k = stored_product a b f g (times_fits a b h k)

@@ -123,20 +123,25 @@ sway_within s w (o ∷ rest) hx hy hw polygon = record {
 abbrev wide : ℤ → ℤ
 wide z = to_z w128 (of_z w128 z)
 
-pub swayed_is_within : (a b : ℤ) → SFits w128 a → SFits w128 b → IsWithin 64 24000000000000000000000000 a →
-    IsShareOfWeight b → IsWithin 64 24000000000000000000000000000 (wide (wide a *ℤ wide b))
-swayed_is_within a b f g h k = subst (IsWithin 64 24000000000000000000000000000)
-    (sym (stored ∙ to_z-of_z w128 (a *ℤ b) fits))
-    (record { low = omega (arith, ints, p.0); high = omega (arith, ints, p.1) })
-  where
-    p : (neg_ℤ (pos 1536000000000000000000000000 *ℤ pos 1000) ≼ a *ℤ b)
-        × (a *ℤ b ≼ pos 1536000000000000000000000000 *ℤ pos 1000)
-    p = product_within a b (pos 1000) (pos 1536000000000000000000000000) (omega (arith, ints, h.low))
-        (omega (arith, ints, h.high)) (omega (arith, ints, k.least)) k.most
+-- the product fits, is what it says, and lies within its bound
+module _ (a b : ℤ) (h : IsWithin 64 24000000000000000000000000 a) (k : IsShareOfWeight b) where
+  swayed_product : SFits w128 (a *ℤ b)
+  swayed_product = fits_signed_mul w128 a b 1536000000000000000000000000 1000 (omega (arith, ints, h.low, h.high))
+      (omega (arith, ints, k.least, k.most)) (lit< tt)
 
-    fits : SFits w128 (a *ℤ b)
-    fits = fits_signed_mul w128 a b 1536000000000000000000000000 1000 (omega (arith, ints, h.low, h.high))
-        (omega (arith, ints, k.least, k.most)) (lit< tt)
+  pub swayed_fits : SFits w128 a → SFits w128 b → SFits w128 (wide a *ℤ wide b)
+  swayed_fits f g = subst (SFits w128) (λ i. sym (to_z-of_z w128 a f) i *ℤ sym (to_z-of_z w128 b g) i) swayed_product
 
-    stored : wide (wide a *ℤ wide b) ≡ wide (a *ℤ b)
-    stored = λ i. wide (to_z-of_z w128 a f i *ℤ to_z-of_z w128 b g i)
+  pub swayed_stored : SFits w128 a → SFits w128 b → wide (wide a *ℤ wide b) ≡ a *ℤ b
+  swayed_stored f g = (λ i. wide (to_z-of_z w128 a f i *ℤ to_z-of_z w128 b g i))
+      ∙ to_z-of_z w128 (a *ℤ b) swayed_product
+
+  pub swayed_is_within : SFits w128 a → SFits w128 b
+      → IsWithin 64 24000000000000000000000000000 (wide (wide a *ℤ wide b))
+  swayed_is_within f g = subst (IsWithin 64 24000000000000000000000000000) (sym (swayed_stored f g))
+      (record { low = omega (arith, ints, p.0); high = omega (arith, ints, p.1) })
+    where
+      p : (neg_ℤ (pos 1536000000000000000000000000 *ℤ pos 1000) ≼ a *ℤ b)
+          × (a *ℤ b ≼ pos 1536000000000000000000000000 *ℤ pos 1000)
+      p = product_within a b (pos 1000) (pos 1536000000000000000000000000) (omega (arith, ints, h.low))
+          (omega (arith, ints, h.high)) (omega (arith, ints, k.least)) k.most

@@ -1,8 +1,14 @@
 use Rattle.std.proofs.Common.{rules, ap, SFits}
 use mir.Syntax.{w128}
 use Rattle.stack_whole.specs.Whole.{whole}
-use Rattle.stack_equilibrium.proofs.Products.{times_stored}
+use Rattle.stack_equilibrium.proofs.Products.{times_product, times_stored}
 use Rattle.stack_equilibrium.proofs.weight.times.Goals as goal
+
+pub overflow_mul-result : goal.overflow_mul-result
+overflow_mul-result c =
+    let f : SFits w128 c.args.factor.value = search rules in
+    let g : SFits w128 c.args.twice_area.value = search rules in
+    times_product c.args.factor.value c.args.twice_area.value f g c.requires.factor c.requires.area
 
 pub returns : goal.returns
 returns c =
