@@ -2,9 +2,11 @@
 
 ghost use Rattle.std.specs.Prelude.{◌≡◌, [], map, get_or, IfOk, string_bytes};
 ghost use Rattle.stack_outside.specs.Seen.{seen_shelf};
+ghost use Rattle.stack_model.specs.Structure.{Structure};
 ghost use Rattle.stack_model.specs.ModelView.{model_view};
+ghost use Rattle.stack_lines.specs.Refusals.{refusal_view, faulty};
 ghost use Rattle.stack_work.specs.Work.{surveys};
-ghost use Rattle.stack_work.specs.Surveying.{structure_names, survey_step, surveyed_file};
+ghost use Rattle.stack_work.specs.Surveying.{structure_names, from_survey, survey_step, surveyed_file};
 ghost use Rattle.stack_work.specs.Progress.{Does, DoesAlone, IsSeenSurvey};
 
 use crate::reading::model_file;
@@ -35,6 +37,21 @@ fn name_at(names: &[String], i: usize) -> &str
     }
 }
 
+/// Why a model with these names has no survey.
+fn unsurveyed(alloc: Global, names: &[String], error: SurveyError) -> Result<Refusal, AllocError>
+    ensures { (s : Structure) → map string_bytes names.now ≡ structure_names s →
+        IfOk result (λ r. refusal_view r ≡ faulty (from_survey s error)) }
+{
+    match error {
+        SurveyError::Overlap { first, second } => Ok(Refusal::Overlap {
+            first: String::from_str(alloc, name_at(names, first))?,
+            second: String::from_str(alloc, name_at(names, second))?,
+        }),
+        SurveyError::TooManyBearings { count } => Ok(Refusal::ManyBearings { count }),
+        SurveyError::Memory => Ok(Refusal::Memory),
+    }
+}
+
 /// The survey of a model. The model is consumed, so its names are read before.
 pub fn survey_model(alloc: Global, model: Model) -> Result<Survey, Refusal>
     ensures { DoesAlone IsSeenSurvey (surveys (model_view model) (survey_step (model_view model))) result }
@@ -42,12 +59,7 @@ pub fn survey_model(alloc: Global, model: Model) -> Result<Survey, Refusal>
     let names = names_of(alloc, &model)?;
     match survey(alloc, model) {
         Ok(survey) => Ok(survey),
-        Err(SurveyError::Overlap { first, second }) => Err(Refusal::Overlap {
-            first: String::from_str(alloc, name_at(names.as_slice(), first))?,
-            second: String::from_str(alloc, name_at(names.as_slice(), second))?,
-        }),
-        Err(SurveyError::TooManyBearings { count }) => Err(Refusal::ManyBearings { count }),
-        Err(SurveyError::Memory) => Err(Refusal::Memory),
+        Err(error) => Err(unsurveyed(alloc, names.as_slice(), error)?),
     }
 }
 

@@ -1,9 +1,8 @@
 //! The certificate of the end of a run.
 
-ghost use Rattle.std.specs.Prelude.{◌≡◌, IfOk, true};
+ghost use Rattle.std.specs.Prelude.{IfOk};
 ghost use Rattle.stack_certificate.specs.Certificate.{certificate_view};
 ghost use Rattle.stack_equilibrium.specs.declared.types.Question.{Question};
-ghost use Rattle.stack_run.specs.WrittenRun.{optimal, ray};
 ghost use Rattle.stack_tableau.specs.LastTables.{ended_as};
 ghost use Rattle.stack_tableau.specs.EndKinds.{end_at};
 ghost use Rattle.stack_extract.specs.Ends.{IsEndOfSurvey, IsEndOfSome, IsLastOf, IsLastOfSome, ReadsRay};
@@ -23,34 +22,6 @@ use stack_run::run_laws;
 use stack_tableau::{EndKind, Ended, LastTable};
 use std::alloc::Global;
 
-/// The certificate of a greatest factor, where the run found one.
-fn greatest<L: LastTable>(alloc: Global, s: &Survey, t: &L) -> Result<Certificate, ExtractError>
-    requires { IsLastOfSome s.now (L.shape t.now) (L.flips t.now) (optimal (L.table t.now)) }
-    ensures { (q : Question) → IsLastOf q s.now (L.shape t.now) (L.flips t.now) (optimal (L.table t.now)) →
-        MakesCertificate result q s.now (optimal (L.table t.now)) }
-{
-    let forces = forces_at(alloc, s, EndKind::Optimal, t)?;
-    let motion = motion_at(alloc, s, EndKind::Optimal, t)?;
-    Ok(Certificate::Greatest(forces, motion))
-}
-
-/// The certificate of a factor that rises without limit along a column.
-fn unbounded<L: LastTable>(
-    alloc: Global,
-    s: &Survey,
-    t: &L,
-    column: usize,
-) -> Result<Certificate, ExtractError>
-    requires end { IsLastOfSome s.now (L.shape t.now) (L.flips t.now) (ray (L.table t.now) column) }
-    requires reads { L.reads t.now column ≡ true }
-    ensures { (q : Question) → IsLastOf q s.now (L.shape t.now) (L.flips t.now) (ray (L.table t.now) column) →
-        MakesCertificate result q s.now (ray (L.table t.now) column) }
-{
-    let forces = forces_at(alloc, s, EndKind::Ray { column }, t)?;
-    let ray = ray_at(alloc, s, t, column)?;
-    Ok(Certificate::Unbounded(forces, ray))
-}
-
 /// The certificate that an end of a survey's run is.
 fn make<L: LastTable>(
     alloc: Global,
@@ -66,8 +37,14 @@ fn make<L: LastTable>(
     match kind {
         EndKind::Infeasible => Ok(Certificate::Collapses(motion_at(alloc, s, kind, t)?)),
         EndKind::Feasible => Ok(Certificate::Stands(forces_at(alloc, s, kind, t)?)),
-        EndKind::Optimal => greatest(alloc, s, t),
-        EndKind::Ray { column } => unbounded(alloc, s, t, column),
+        EndKind::Optimal => {
+            let forces = forces_at(alloc, s, kind, t)?;
+            Ok(Certificate::Greatest(forces, motion_at(alloc, s, kind, t)?))
+        }
+        EndKind::Ray { column } => {
+            let forces = forces_at(alloc, s, kind, t)?;
+            Ok(Certificate::Unbounded(forces, ray_at(alloc, s, t, column)?))
+        }
     }
 }
 

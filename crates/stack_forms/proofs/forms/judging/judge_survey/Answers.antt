@@ -1,9 +1,11 @@
 use Rattle.std.proofs.Common.{Err, subst, ap, inl, refl}
-use Rattle.stack_judge.specs.Judgement.{Judges, certified, spent}
+use Rattle.stack_judge.specs.Judgement.{Judges, certified, too_wide, spent}
 use Rattle.stack_certificate.specs.Certificate.{certificate_view}
 use Rattle.stack_work.specs.Answers.{certificate}
 use Rattle.stack_lines.specs.Refusals.{faulty, over_budget}
 use Rattle.stack_lines.specs.declared.refusal.Refusal.TheVariants.{Spent, NoLive}
+use Rattle.stack_work.specs.Judging.{judged}
+use Rattle.stack_work.proofs.Ways.{wanting}
 use Rattle.stack_work.proofs.OneStep.{ends_giving, ends_refusing}
 use Rattle.stack_work.proofs.JudgementEnds.{judged_is, judged_lacks}
 use Rattle.stack_forms.proofs.forms.judging.judge_survey.Goals as goal
@@ -20,6 +22,14 @@ returns-in_ok-write_certificate-in-Ok c holds = (
       (certified (certificate_view c.in-Ok.certificate)) c.in-Ok.ensures.judges.0 c.in-Ok.ensures.judges.1),
 )
 
+pub returns-in-Err-TooWide : goal.returns-in-Err-TooWide
+returns-in-Err-TooWide c holds =
+    let h = subst (λ e. Judges (Err e) c.args.question c.args.survey.now c.args.budget) c.in-Err-TooWide.field-0-is
+    c.in-Err-TooWide.ensures.judges in
+    ends_refusing holds c.wide_refusal.result
+    (judged_is c.args.question c.args.survey.now c.args.budget (too_wide c.in-Err-TooWide.place) h.0 h.1)
+    c.wide_refusal.ensures
+
 pub returns-in-Err-Spent : goal.returns-in-Err-Spent
 returns-in-Err-Spent c holds =
     let h = subst (λ e. Judges (Err e) c.args.question c.args.survey.now c.args.budget) c.in-Err-Spent.field-0-is
@@ -33,3 +43,6 @@ returns-in-Err-NoLive c holds = ends_refusing holds NoLive
     (judged_lacks c.args.question c.args.survey.now c.args.budget
     (subst (λ e. Judges (Err e) c.args.question c.args.survey.now c.args.budget) c.in-Err-NoLive.field-0-is
     c.in-Err-NoLive.ensures.judges)) (inl refl)
+
+pub returns-in-Err-Memory : goal.returns-in-Err-Memory
+returns-in-Err-Memory c holds = wanting holds (judged c.args.question c.args.budget c.args.survey.now)
