@@ -9,16 +9,17 @@
     tools/count.py refusals LOG
     tools/count.py plants LOG..
 
-`crates`: the functions with a contract, those that are `pub` and the others; the tests; the edits of must-fail/, and
-how many functions they are of. `rows`: the rows of examples/, by the form of words and by status; those of judged,
-ranged, staged and bounded have their own columns. `faults`: rows and made by the line on standard error, without
-numbers and names. `models`: the files .toml of examples/ by folder. `random`: the tests of tools/test_*.py that draw
-models, walls or words at random, with how many they draw, where that is a number in a loop of the test. `refusals`:
-the edits that a log of `rt ci` or `rt must-fail` tells of, by where the prover refused them. A refusal at a clause, at
-an invariant or at the condition of a call points to what the edit means. One at a written proof may, or the proof only
-no longer fits. `plants`: the wrong bodies that `rt plant --all` made, crate by crate, and what came of them: refused at
-a clause or an invariant; the same as the right body, by the contract; proved; refused only at the condition of a call;
-not judged. After that, why some weren't judged. A function is untried if none of its bodies could be judged.
+`crates`: the functions with a contract, those that are `pub` and the others; the tests; the edits of must-fail/, how
+many functions they are of, and how many of the edits turn a function that is `pub` or a method of a trait. `rows`: the
+rows of examples/, by the form of words and by status; those of judged, ranged, staged and bounded have their own
+columns. `faults`: rows and made by the line on standard error, without numbers and names. `models`: the files .toml of
+examples/ by folder. `random`: the tests of tools/test_*.py that draw models, walls or words at random, with how many
+they draw, where that is a number in a loop of the test. `refusals`: the edits that a log of `rt ci` or `rt must-fail`
+tells of, by where the prover refused them. A refusal at a clause, at an invariant or at the condition of a call points
+to what the edit means. One at a written proof may, or the proof only no longer fits. `plants`: the wrong bodies that
+`rt plant --all` made, crate by crate, and what came of them: refused at a clause or an invariant; the same as the right
+body, by the contract; proved; refused only at the condition of a call; not judged. After that, why some weren't judged.
+A function is untried if none of its bodies could be judged.
 
 All else is read off the text. Python 3.11 or later.
 """
@@ -57,19 +58,30 @@ def has_contract(function: Function) -> bool:
     return any(line.strip().startswith(("requires", "ensures")) for line in function.head)
 
 
+def turns_an_open_one(folder: Path, edit: str) -> bool:
+    """Whether the function that an edit turns is `pub` in its module, or a method of a trait."""
+    named = re.match(r"# function (?:.*::)?(\w+)\nfile: (\S+)\n", edit)
+    found = [one for one in functions_of(folder / named[2])[0] if one.name == named[1]] if named else []
+    if not found:
+        raise Refused(f"an edit of {folder.name} doesn't begin with its function and its file")
+    return any(one.public or one.root for one in found)
+
+
 def crate_row(folder: Path) -> Cells:
     sources = sorted(folder.glob("src/**/*.rt"))
     functions = [one for path in sources for one in functions_of(path)[0] if has_contract(one)]
     public = sum(one.public for one in functions)
     tests = sum(text_of(path).count("#[test]") for path in sources)
-    edits = [text_of(path).split("\n", 1)[0] for path in sorted(folder.glob("must-fail/*.edit"))]
-    return folder.name, public, len(functions) - public, tests, len(edits), len(set(edits))
+    edits = [text_of(path) for path in sorted(folder.glob("must-fail/*.edit"))]
+    of = {tuple(edit.split("\n", 2)[:2]) for edit in edits}
+    opened = sum(turns_an_open_one(folder, edit) for edit in edits)
+    return folder.name, public, len(functions) - public, tests, len(edits), len(of), opened
 
 
 def crates(top: Path) -> Iterator[str]:
     order = re.findall(r"^(\w+):", text_of(top / "crates.txt"), re.MULTILINE)
     rows = [crate_row(top / "crates" / name) for name in order]
-    return table(("crate", "pub", "others", "tests", "edits", "functions of edits"), rows)
+    return table(("crate", "pub", "others", "tests", "edits", "functions of edits", "edits of pub"), rows)
 
 
 # Rows

@@ -149,7 +149,7 @@ def functions_of(path: Path) -> tuple[list[Function], set[str]]:
         if name:
             body.append(text)
         elif begins := FUNCTION.match(text):
-            name, indent, body, public = begins[1], here, [text[begins.end():]], "pub " in begins[0]
+            name, indent, body, public = begins[1], here, [text[begins.end():]], begins[0].lstrip().startswith("pub")
         elif text.strip():
             marks = marks + text if text.strip().startswith("#[") else ""
             block = text if here == 0 and re.match(r"(pub )?(impl|trait)\b", text) else "" if text == "}" else block

@@ -30,17 +30,19 @@ class Tests:
 
 class Counts(Clones):
     def test_crates(self) -> None:
-        # Of the checker `law` and `turning` have contracts, and `helped` none; a test more, and three edits of two.
+        # Of the checker `law` and two functions `turning` have contracts, one of them private, and `helped` has none; a
+        # test more, and four edits of three functions.
         self.put("crates/stack_checker/src/tests.rt", "#[test]\nfn tried() {\n}\n")
         self.put("crates/stack_checker/src/other.rt", SOURCE.replace("pub fn turning", "fn turning"))
-        for name, of in ("one", "law"), ("two", "law"), ("three", "turning"):
-            self.put(f"crates/stack_checker/must-fail/{name}.edit", f"# function {of}\nfile: src/lib.rt\n")
+        for name, of in ("1", "law.lib"), ("2", "law.lib"), ("3", "turning.lib"), ("4", "turning.other"):
+            function, page = of.split(".")
+            self.put(f"crates/stack_checker/must-fail/{name}.edit", f"# function {function}\nfile: src/{page}.rt\n")
         self.assertEqual(list(count.crates(self.top)), [
-            "crate          pub  others  tests  edits  functions of edits",
-            "stack_whole      0       0      0      0                   0",
-            "stack_checker    3       1      1      3                   2",
-            "stack_table      0       0      0      0                   0",
-            "together         3       1      1      3                   2"])
+            "crate          pub  others  tests  edits  functions of edits  edits of pub",
+            "stack_whole      0       0      0      0                   0             0",
+            "stack_checker    3       1      1      4                   3             3",
+            "stack_table      0       0      0      0                   0             0",
+            "together         3       1      1      4                   3             3"])
 
     def examples(self) -> None:
         lists = {"rows": "# name status words\nposts 0 check a b\nslip 5 check a b\n\nnothing 2\n",
